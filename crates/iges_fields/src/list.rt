@@ -7,7 +7,7 @@ use std::alloc::Global;
 use std::marker::Model;
 
 /// A list.
-#[derive(Drop)]
+#[derive(Debug, Drop)]
 pub struct ItemList<T> {
     items: Vec<T>,
 }
