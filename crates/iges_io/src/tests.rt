@@ -57,7 +57,10 @@ fn the_limit_is_taken(rt: HostRuntime) -> Result<(), Fail> {
 #[test]
 fn each_read_may_fail(rt: HostRuntime) -> Result<(), Fail> {
     for call in 1..=12 {
-        assert_eq!(rt; fault(rt.alloc(), &[1], &[call], 100)?, Some(ReadAll::ReadFault));
+        assert_eq!(rt;
+            fault(rt.alloc(), &[1], &[call], 100)?,
+            Some(ReadAll::ReadFault)
+        );
     }
     Ok(())
 }
@@ -100,7 +103,10 @@ fn a_file_is_read(rt: HostRuntime) -> Result<(), Fail> {
 #[test]
 fn a_file_that_is_not_there_fails(rt: HostRuntime) {
     let mut file = open_source(&rt, "no/such/file.igs");
-    assert_eq!(rt; read_all(rt.alloc(), &mut file, 100).err(), Some(ReadAll::ReadFault));
+    assert_eq!(rt;
+        read_all(rt.alloc(), &mut file, 100).err(),
+        Some(ReadAll::ReadFault)
+    );
 }
 
 #[test]
@@ -113,5 +119,8 @@ fn no_file_ends_at_once(rt: HostRuntime) {
 #[test]
 fn standard_output_takes_a_text(rt: HostRuntime) {
     let mut out = std_sink(io::writer(&rt));
-    assert_eq!(rt; write_all(&mut out, b"written to standard output\n"), Ok(()));
+    assert_eq!(rt;
+        write_all(&mut out, b"written to standard output\n"),
+        Ok(())
+    );
 }
