@@ -1,12 +1,10 @@
-//! A list whose length alone and whose items callers see.
-
 ghost use Rattle.std.specs.Prelude.{◌≡◌, ◌<◌, ◌^◌, ◌↔◌, ◌∷◌, ◌++◌, [], length, IsSome, IfSome, OnOk, OnErr, option_copied, slice_get};
 
 use crate::no_memory::NoMemory;
 use std::alloc::Global;
 use std::marker::Model;
 
-/// A list.
+/// A list that grows at its end, seen as the list of its items.
 #[derive(Debug, Drop)]
 pub struct ItemList<T> {
     items: Vec<T>,
@@ -21,6 +19,7 @@ impl<T> Model for ItemList<T> {
 }
 
 impl<T: Drop> ItemList<T> {
+    /// No items.
     pub fn new(alloc: Global) -> ItemList<T>
         ensures { result ≡ [] }
     {
@@ -29,7 +28,7 @@ impl<T: Drop> ItemList<T> {
         }
     }
 
-    /// Puts an item at the end.
+    /// Puts an item at the end. Where memory runs out, the item is dropped and the list is as it was.
     pub fn push(&mut self, item: T) -> Result<(), NoMemory>
         ensures ok { OnOk result (self.new ≡ self.old ++ item ∷ []) }
         ensures err { OnErr result (self.new ≡ self.old) }
@@ -38,19 +37,21 @@ impl<T: Drop> ItemList<T> {
         Ok(())
     }
 
+    /// How many items there are.
     pub fn len(&self) -> usize
         ensures { result ≡ length self.now }
     {
         self.items.len()
     }
 
+    /// The items in their order.
     pub fn as_slice(&self) -> &[T]
         ensures { result.now ≡ self.now }
     {
         self.items.as_slice()
     }
 
-    /// The i-th item, from 0.
+    /// The i-th item, counted from 0; None past the end.
     pub fn get(&self, i: usize) -> Option<&T>
         ensures item { option_copied result ≡ slice_get self.now i }
         ensures within { IsSome result ↔ (i < length self.now) }

@@ -1,58 +1,75 @@
-ghost use Rattle.std.specs.Prelude.{◌≡◌, [], ◌∷◌, ◌++◌, ◌<◌, ◌^◌, ◌↔◌, IfOk, IfErr, IfSome, IsSome, length, slice_get, option_copied};
+ghost use Rattle.iges_fields.specs.InLine.{is_value, stays_in_line};
+ghost use Rattle.std.specs.List.{list_all};
+ghost use Rattle.std.specs.Prelude.{◌≡◌, [], ◌∷◌, ◌++◌, ◌<◌, ◌^◌, ◌↔◌, IfSome, IsSome, IsTrue, OnOk, OnErr, length, slice_get, option_copied};
 
+use crate::list::ItemList;
 use crate::no_memory::NoMemory;
 use crate::value::Value;
 use std::alloc::Global;
 use std::marker::Model;
 
-/// A list of values.
+/// The values of a free text in their order, of which no text holds an LF: a free text stands in lines
+/// (IGES 5.3, 2.2.3).
 #[derive(Debug, Drop)]
 pub struct Values {
-    values: Vec<Value>,
+    values: ItemList<Value>,
 }
 
 impl Model for Values {
-    ghost use Rattle.std.specs.Prelude.{List};
+    ghost use Rattle.std.specs.List.{list_all};
+    ghost use Rattle.std.specs.Prelude.{List, IsTrue};
+    ghost use Rattle.iges_fields.specs.InLine.{is_value};
     ghost use Rattle.iges_fields.specs.declared.value.Value.{Value as OneValue};
 
     ghost Value = { List OneValue };
 
-    ghost view = { λ v. v.values.items };
+    ghost view = { λ v. v.values };
+
+    ghost invariant = { λ v. IsTrue (list_all is_value v.values) };
 }
 
 impl Values {
+    /// No values.
     pub fn new(alloc: Global) -> Values
         ensures { result ≡ [] }
     {
         Values {
-            values: Vec::new(alloc),
+            values: ItemList::new(alloc),
         }
     }
 
-    /// Puts the value at the end.
+    /// Puts the value at the end. Where memory runs out, the value is dropped and the list is as it was.
     pub fn push(&mut self, value: Value) -> Result<(), NoMemory>
-        ensures ok { IfOk result (λ _. self.new ≡ self.old ++ value ∷ []) }
-        ensures err { IfErr result (λ _. self.new ≡ self.old) }
+        requires { IsTrue (stays_in_line value) }
+        ensures ok { OnOk result (self.new ≡ self.old ++ value ∷ []) }
+        ensures err { OnErr result (self.new ≡ self.old) }
     {
-        self.values.push(value)?;
-        Ok(())
+        self.values.push(value)
     }
 
+    /// How many values there are.
     pub fn len(&self) -> usize
-        ensures { result ≡ length self.now }
+        ensures is { result ≡ length self.now }
+        ensures values { IsTrue (list_all is_value self.now) }
     {
         self.values.len()
     }
 
-    /// The value at a place, from 0.
+    /// The values in their order.
+    pub fn as_slice(&self) -> &[Value]
+        ensures is { result.now ≡ self.now }
+        ensures values { IsTrue (list_all is_value self.now) }
+    {
+        self.values.as_slice()
+    }
+
+    /// The i-th value, counted from 0; None past the end.
     pub fn get(&self, i: usize) -> Option<&Value>
         ensures value { option_copied result ≡ slice_get self.now i }
         ensures within { IsSome result ↔ (i < length self.now) }
         ensures few { IfSome result (λ _. length self.now < 2 ^ 64) }
+        ensures is_value { IfSome result (λ v. IsTrue (is_value v.now)) }
     {
-        if i >= self.values.len() {
-            return None;
-        }
-        Some(&self.values[i])
+        self.values.get(i)
     }
 }

@@ -1,0 +1,9 @@
+pub mod Contents
+pub mod Named
+pub mod Limits
+pub mod Global
+pub mod Made
+pub mod Records
+pub mod IsFile
+pub mod Refusal
+pub mod Reading

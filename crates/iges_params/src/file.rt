@@ -1,0 +1,175 @@
+ghost use Rattle.iges_directory.specs.Bounds.{IsBounded};
+ghost use Rattle.iges_fields.specs.declared.TheConstants.{FILE_LIMIT};
+ghost use Rattle.iges_params.specs.Contents.{value_count};
+ghost use Rattle.iges_params.specs.Global.{have_kinds};
+ghost use Rattle.iges_params.specs.Made.{is_start_line};
+ghost use Rattle.iges_params.specs.Named.{named};
+ghost use Rattle.std.specs.Ordering.{int_eq};
+ghost use Rattle.std.specs.Prelude.{◌≡◌, ◌+◌, ◌<◌, ◌≤◌, [], ◌∷◌, ◌++◌, ◌↔◌, pos, IsSome, IsTrue, IfOk, IfSome, OnOk, OnErr, length, slice_get, option_copied, option_map};
+
+use crate::global::Global26;
+use iges_directory::Entry;
+use iges_fields::{EntryNo, FILE_LIMIT, NoMemory, Values};
+use std::alloc::Global;
+use std::marker::Model;
+
+/// The bytes of a start line without its section's letter and its number.
+const WIDTH: usize = 72;
+
+/// A file: the start lines, columns 1 to 72 of each, the global, and the entries of the directory in order, each with
+/// the values of its record without the type number. An entry of type 0 has no record (own).
+#[derive(Drop)]
+pub struct File {
+    start: Vec<[u8; WIDTH]>,
+    global: Global26,
+    entries: Vec<(Entry, Values)>,
+}
+
+impl Model for File {
+    ghost use Rattle.iges_params.specs.Contents.{Contents};
+
+    ghost Value = { Contents };
+
+    ghost use Rattle.iges_params.specs.Made.{IsMade};
+
+    ghost view = { λ f. record { start = f.start.items; global = f.global; entries = f.entries.items } };
+
+    ghost invariant = { λ f. IsMade (record { start = f.start.items; global = f.global; entries = f.entries.items }) };
+}
+
+// A copy of a start line.
+fn start_line(line: &[u8]) -> [u8; WIDTH]
+    requires { length line.now ≡ 72 }
+    ensures { result ≡ line.now }
+{
+    let mut copy = [0; WIDTH];
+    copy.copy_from_slice(line);
+    copy
+}
+
+impl File {
+    /// A file with one start line and no entry.
+    pub fn new(alloc: Global, start: &[u8], global: Global26) -> Result<File, NoMemory>
+        requires start { IsTrue (is_start_line start.now) }
+        requires kinds { IsTrue (have_kinds global.values) }
+        ensures { IfOk result (λ f. f ≡ record { start = start.now ∷ []; global = global; entries = [] }) }
+    {
+        let mut lines = Vec::new(alloc);
+        lines.push(start_line(start))?;
+        Ok(File {
+            start: lines,
+            global,
+            entries: Vec::new(alloc),
+        })
+    }
+
+    /// Puts a start line at the end of the start section.
+    pub fn push_start(&mut self, line: &[u8]) -> Result<(), NoMemory>
+        requires { IsTrue (is_start_line line.now) }
+        ensures ok { OnOk result (self.new ≡ record self.old { start = self.old.start ++ line.now ∷ [] }) }
+        ensures err { OnErr result (self.new ≡ self.old) }
+    {
+        self.start.push(start_line(line))?;
+        Ok(())
+    }
+
+    /// Puts an entry with the values of its record, without the type number, at the end. Where memory runs out, the
+    /// values are dropped.
+    pub fn push(&mut self, entry: Entry, values: Values) -> Result<(), NoMemory>
+        requires bounded { IsBounded entry }
+        requires unused { IsTrue (int_eq entry.kind (pos 0)) → values ≡ [] }
+        requires entries { length self.old.entries < 4_999_999 }
+        requires few { value_count self.old.entries + length values ≤ FILE_LIMIT }
+        ensures ok { OnOk result (self.new ≡ record self.old { entries = self.old.entries ++ (entry, values) ∷ [] }) }
+        ensures err { OnErr result (self.new ≡ self.old) }
+    {
+        self.entries.push((entry, values))?;
+        Ok(())
+    }
+
+    /// How many start lines there are.
+    pub fn start_count(&self) -> usize
+        ensures is { result ≡ length self.now.start }
+        ensures some { 0 < result }
+    {
+        self.start.len()
+    }
+
+    /// The 72 bytes of the i-th start line, from 0; None past the end.
+    pub fn start(&self, i: usize) -> Option<&[u8]>
+        ensures line { option_copied result ≡ slice_get self.now.start i }
+        ensures within { IsSome result ↔ (i < length self.now.start) }
+        ensures made { IfSome result (λ line. IsTrue (is_start_line line.now)) }
+    {
+        if i >= self.start.len() {
+            return None;
+        }
+        Some(&self.start[i])
+    }
+
+    pub fn global(&self) -> &Global26
+        ensures is { result.now ≡ self.now.global }
+        ensures kinds { IsTrue (have_kinds self.now.global.values) }
+    {
+        &self.global
+    }
+
+    /// How many entries there are, with those of type 0.
+    pub fn entry_count(&self) -> usize
+        ensures is { result ≡ length self.now.entries }
+        ensures few { result ≤ 4_999_999 }
+    {
+        self.entries.len()
+    }
+
+    /// The i-th entry, from 0 and with those of type 0; None past the end.
+    pub fn entry_at(&self, i: usize) -> Option<&Entry>
+        ensures entry { option_copied result ≡ option_map (λ e. e.0) (slice_get self.now.entries i) }
+        ensures within { IsSome result ↔ (i < length self.now.entries) }
+        ensures bounded { IfSome result (λ entry. IsBounded entry.now) }
+    {
+        if i >= self.entries.len() {
+            return None;
+        }
+        Some(&self.entries[i].0)
+    }
+
+    // The entry that a number names, with its values.
+    fn record(&self, no: EntryNo) -> Option<&(Entry, Values)>
+        ensures named { option_copied result ≡ named self.now (pos no.0) }
+        ensures bounded { IfSome result (λ e. IsBounded e.now.0) }
+    {
+        let place = (no.0 / 2) as usize;
+        if no.0 % 2 == 0 || place >= self.entries.len() {
+            return None;
+        }
+        let record = &self.entries[place];
+        if record.0.kind == 0 {
+            None
+        } else {
+            Some(record)
+        }
+    }
+
+    /// The entry that a number names: an odd one of a line of the directory, from 1, whose entry isn't of type 0. None
+    /// where it names none (IGES 5.3, 2.2.4.4; type 0 own).
+    pub fn entry(&self, no: EntryNo) -> Option<&Entry>
+        ensures named { option_copied result ≡ option_map (λ e. e.0) (named self.now (pos no.0)) }
+        ensures bounded { IfSome result (λ entry. IsBounded entry.now) }
+    {
+        match self.record(no) {
+            Some(record) => Some(&record.0),
+            None => None,
+        }
+    }
+
+    /// The values of the record of the entry that a number names, without the type number. None where it names none.
+    pub fn values(&self, no: EntryNo) -> Option<&Values>
+        ensures { option_copied result ≡ option_map (λ e. e.1) (named self.now (pos no.0)) }
+    {
+        match self.record(no) {
+            Some(record) => Some(&record.1),
+            None => None,
+        }
+    }
+}

@@ -1,0 +1,14 @@
+//! A file: its start lines, its global and its entries with their values.
+#![tactic(auto)]
+
+mod fault;
+mod file;
+mod global;
+mod law;
+mod reading;
+
+pub use fault::ReadFileFault;
+pub use file::File;
+pub use global::Global26;
+pub use law::every_text_has_one_reading;
+pub use reading::read_file;

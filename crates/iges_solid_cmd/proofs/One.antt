@@ -1,0 +1,47 @@
+-- What is owed is one answer with one text.
+use Rattle.std.proofs.Common.{◌≡◌, inl, inr, ℕ, List, Option, Some, None, sym, ap, subst, ◌∙◌, arith}
+use Rattle.std.specs.Prelude.{MatchOption}
+use Rattle.iges_params.specs.Contents.{Contents}
+use Rattle.iges_params.proofs.Answers.{clash, ok_is, err_is}
+use Rattle.iges_params.proofs.FileExact.{IsFile-read_file, Refusal-read_file}
+use Rattle.iges_solid_cmd.specs.declared.form.Command.{Command}
+use Rattle.iges_solid_cmd.specs.declared.form.Command.TheVariants as command
+use Rattle.iges_solid_cmd.specs.declared.answer.Answer.{Answer}
+use Rattle.iges_solid_cmd.specs.declared.answer.Answer.TheVariants as answer
+use Rattle.iges_solid_cmd.specs.Forms.{command_of, usage_line}
+use Rattle.iges_solid_cmd.specs.Texts.{bad_file_line, solids_text}
+use Rattle.iges_solid_cmd.specs.Due.{Owed, Exactly, OfFile, OfSolids, DueOf}
+use Rattle.iges_solid_cmd.specs.OneAnswer.{OneAnswerIsOwed}
+
+-- at most one answer and text are owed
+abbrev pub IsOne : Owed → Type 0
+IsOne owed = (a b : Answer) (t u : List ℕ) → owed a t → owed b u → (a ≡ b) × (t ≡ u)
+
+exactly_one : (a : Answer) (text : List ℕ) → IsOne (Exactly a text)
+exactly_one a text b c t u p q = (p.0 ∙ sym q.0, p.1 ∙ sym q.1)
+
+file_one : (bytes : List ℕ) (owed : Contents → Owed) → ((f : Contents) → IsOne (owed f)) → IsOne (OfFile bytes owed)
+file_one bytes owed one a b t u (inl p) (inl q) = (p.1.0 ∙ sym q.1.0, p.1.1 ∙ sym q.1.1)
+file_one bytes owed one a b t u (inl p) (inr (inl q)) = absurd (omega (arith, p.0, q.0))
+file_one bytes owed one a b t u (inl p) (inr (inr q)) = absurd (omega (arith, p.0, q.0))
+file_one bytes owed one a b t u (inr (inl p)) (inl q) = absurd (omega (arith, p.0, q.0))
+file_one bytes owed one a b t u (inr (inr p)) (inl q) = absurd (omega (arith, p.0, q.0))
+file_one bytes owed one a b t u (inr (inl p)) (inr (inl q)) =
+    let same : p.1 ≡ q.1 = err_is {X = Contents} p.1 q.1 (sym (Refusal-read_file bytes p.1 p.2) ∙ Refusal-read_file bytes q.1 q.2) in
+    (p.3.0 ∙ sym q.3.0, p.3.1 ∙ ap bad_file_line same ∙ sym q.3.1)
+file_one bytes owed one a b t u (inr (inl p)) (inr (inr q)) = absurd (clash p.1 q.1 (sym (Refusal-read_file bytes p.1 p.2) ∙ IsFile-read_file bytes q.1 q.2))
+file_one bytes owed one a b t u (inr (inr p)) (inr (inl q)) = absurd (clash q.1 p.1 (sym (Refusal-read_file bytes q.1 q.2) ∙ IsFile-read_file bytes p.1 p.2))
+file_one bytes owed one a b t u (inr (inr p)) (inr (inr q)) =
+    let same : p.1 ≡ q.1 = ok_is p.1 q.1 (sym (IsFile-read_file bytes p.1 p.2) ∙ IsFile-read_file bytes q.1 q.2) in
+    one q.1 a b t u (subst (λ (f : Contents). owed f a t) same p.3) q.3
+
+due_of_one : (c : Command) (file certificate : List ℕ) → IsOne (DueOf c file certificate)
+due_of_one command.Solids file certificate = file_one file OfSolids (λ f. exactly_one answer.Done (solids_text f))
+
+pub due_one : OneAnswerIsOwed
+due_one words file certificate a b t u p q = by_command (command_of words) p q
+  where
+    by_command : (o : Option Command) → MatchOption o (Exactly answer.Usage usage_line a t) (λ c. DueOf c file certificate a t) → MatchOption o (Exactly answer.Usage usage_line b u) (λ c. DueOf c file certificate b u)
+        → (a ≡ b) × (t ≡ u)
+    by_command None p q = (p.0 ∙ sym q.0, p.1 ∙ sym q.1)
+    by_command (Some c) p q = due_of_one c file certificate a b t u p q

@@ -1,0 +1,9 @@
+-- What is owed is one answer.
+use Rattle.std.specs.Prelude.{◌≡◌, ℕ, List}
+use Rattle.iges_solid_cmd.specs.declared.answer.Answer.{Answer}
+use Rattle.iges_solid_cmd.specs.Due.{Due}
+
+-- two that are owed have one answer and one text
+abbrev pub OneAnswerIsOwed : Type 0
+OneAnswerIsOwed =
+    (words : List (List ℕ)) (file certificate : List ℕ) (a b : Answer) (t u : List ℕ) → Due words file certificate a t → Due words file certificate b u → (a ≡ b) × (t ≡ u)
