@@ -1,0 +1,9 @@
+use Rattle.std.proofs.Common.{length, ◌-◌}
+use Rattle.iges_fields.proofs.Mantissas.{IsSoFar}
+use Rattle.iges_fields.proofs.mantissa.mantissa_of.Given as goal
+
+abbrev pub invariant-bytes : goal.invariant-bytes
+invariant-bytes l = IsSoFar l.text l.len l.points l.value
+
+abbrev pub decreases-bytes : goal.decreases-bytes
+decreases-bytes l = length l.text - l.len
