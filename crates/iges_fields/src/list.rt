@@ -1,4 +1,4 @@
-ghost use Rattle.std.specs.Prelude.{◌≡◌, ◌<◌, ◌^◌, ◌↔◌, ◌∷◌, ◌++◌, [], length, IsSome, IfSome, OnOk, OnErr, option_copied, slice_get};
+ghost use Rattle.std.specs.Prelude.{◌≡◌, ◌<◌, ◌^◌, ◌↔◌, ◌∷◌, ◌++◌, [], length, IsSome, IfSome, MatchOption, OnOk, OnErr, option_copied, slice_get};
 
 use crate::no_memory::NoMemory;
 use std::alloc::Global;
@@ -35,6 +35,23 @@ impl<T: Drop> ItemList<T> {
     {
         self.items.push(item)?;
         Ok(())
+    }
+
+    /// Takes the first item off, in time linear in the length; None where there is none.
+    pub fn take_first(&mut self) -> Option<T>
+        ensures { MatchOption result ((self.old ≡ []) × (self.new ≡ [])) (λ item. self.old ≡ item ∷ self.new) }
+    {
+        if self.items.is_empty() {
+            return None;
+        }
+        Some(self.items.remove(0))
+    }
+
+    /// Gives back the memory that was taken for more items than there are.
+    pub fn shrink_to_fit(&mut self)
+        ensures { self.new ≡ self.old }
+    {
+        self.items.shrink_to_fit();
     }
 
     /// How many items there are.

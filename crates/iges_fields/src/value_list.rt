@@ -1,6 +1,6 @@
 ghost use Rattle.iges_fields.specs.InLine.{is_value, stays_in_line};
 ghost use Rattle.std.specs.List.{list_all};
-ghost use Rattle.std.specs.Prelude.{◌≡◌, [], ◌∷◌, ◌++◌, ◌<◌, ◌^◌, ◌↔◌, IfSome, IsSome, IsTrue, OnOk, OnErr, length, slice_get, option_copied};
+ghost use Rattle.std.specs.Prelude.{◌≡◌, [], ◌∷◌, ◌++◌, ◌<◌, ◌^◌, ◌↔◌, IfSome, IsSome, IsTrue, MatchOption, OnOk, OnErr, length, slice_get, option_copied};
 
 use crate::list::ItemList;
 use crate::no_memory::NoMemory;
@@ -45,6 +45,20 @@ impl Values {
         ensures err { OnErr result (self.new ≡ self.old) }
     {
         self.values.push(value)
+    }
+
+    /// Takes the first value off, in time linear in the length; None where there is none.
+    pub fn take_first(&mut self) -> Option<Value>
+        ensures { MatchOption result ((self.old ≡ []) × (self.new ≡ [])) (λ value. self.old ≡ value ∷ self.new) }
+    {
+        self.values.take_first()
+    }
+
+    /// Gives back the memory that was taken for more values than there are.
+    pub fn shrink_to_fit(&mut self)
+        ensures { self.new ≡ self.old }
+    {
+        self.values.shrink_to_fit();
     }
 
     /// How many values there are.
