@@ -6,9 +6,9 @@ use Rattle.std.proofs.lemmas.Bool.Decides.{Decides-eqb, Decides-int_eq, Decides-
 use Rattle.std.proofs.lemmas.Slice.Eq.{bytes_eq-Decides}
 use Rattle.iges_fields.specs.declared.value.Value.{Value}
 use Rattle.iges_fields.specs.declared.value.Value.TheVariants.{Default, Int, Real, Text}
-use Rattle.brep_lists.specs.Layout.{Due, pointer, number, flag, at_least_one, count, coordinate, IsCoordinate, IsFiller, Meets, MayBeMissing, Spells}
+use Rattle.brep_lists.specs.DueValues.{DueValue, pointer, number, flag, at_least_one, count, coordinate, IsCoordinate, IsFiller, Meets, MayBeMissing, MeetsAll}
 use Rattle.brep_lists.specs.Record.{due, items_of}
-use Rattle.brep_lists.specs.OwnValues.{is_int, is_default, is_filler, is_same_coordinate, meets, may_be_missing, spells, RecordsAreDecided}
+use Rattle.brep_lists.specs.OwnValues.{is_int, is_default, is_filler, is_same_coordinate, meets, may_be_missing, meets_all, RecordsAreDecided}
 
 both : (a b : Bool) (P Q : Type 0) → Decides a P → Decides b Q → Decides (a && b) (P × Q)
 both true true P Q h k = (λ e. (h.0 refl, k.0 refl), λ p. refl)
@@ -72,7 +72,7 @@ coordinate_test (Text a) (Int n) = never ((Text a ≡ Int n) × IsCoordinate (In
 coordinate_test (Text a) (Real b) = never ((Text a ≡ Real b) × IsCoordinate (Real b)) (λ h. let e = h.0 in absurd cc)
 coordinate_test (Text a) (Text b) = never ((Text a ≡ Text b) × IsCoordinate (Text b)) (λ h. h.1)
 
-meets_test : (d : Due) (v : Value) → Decides (meets d v) (Meets d v)
+meets_test : (d : DueValue) (v : Value) → Decides (meets d v) (Meets d v)
 meets_test (pointer z) v = int_test z v
 meets_test (number z) v = int_test z v
 meets_test (flag b) v = int_test (if b then pos 1 else pos 0) v
@@ -82,7 +82,7 @@ meets_test (count n) v =
     (both (is_default v) (n == 0) (v ≡ Default) (n ≡ 0) (default_test v) (Decides-eqb n 0))
 meets_test (coordinate w) v = coordinate_test v w
 
-missing_test : (d : Due) (ds : List Due) → Decides (may_be_missing (d ∷ ds)) (MayBeMissing (d ∷ ds))
+missing_test : (d : DueValue) (ds : List DueValue) → Decides (may_be_missing (d ∷ ds)) (MayBeMissing (d ∷ ds))
 missing_test (pointer z) ds = never (MayBeMissing (pointer z ∷ ds)) (λ h. h)
 missing_test (number z) ds = never (MayBeMissing (number z ∷ ds)) (λ h. h)
 missing_test (flag b) ds = never (MayBeMissing (flag b ∷ ds)) (λ h. h)
@@ -91,11 +91,11 @@ missing_test (count n) [] = Decides-eqb n 0
 missing_test (count n) (d ∷ ds) = never (MayBeMissing (count n ∷ d ∷ ds)) (λ h. h)
 missing_test (coordinate w) ds = never (MayBeMissing (coordinate w ∷ ds)) (λ h. h)
 
-spells_test : (ds : List Due) (vs : List Value) → Decides (spells ds vs) (Spells ds vs)
-spells_test [] [] = always (Spells [] []) tt
-spells_test [] (v ∷ vs) = both (is_filler v) (spells [] vs) (IsFiller v) (Spells [] vs) (filler_test v) (spells_test [] vs)
+spells_test : (ds : List DueValue) (vs : List Value) → Decides (meets_all ds vs) (MeetsAll ds vs)
+spells_test [] [] = always (MeetsAll [] []) tt
+spells_test [] (v ∷ vs) = both (is_filler v) (meets_all [] vs) (IsFiller v) (MeetsAll [] vs) (filler_test v) (spells_test [] vs)
 spells_test (d ∷ ds) [] = missing_test d ds
-spells_test (d ∷ ds) (v ∷ vs) = both (meets d v) (spells ds vs) (Meets d v) (Spells ds vs) (meets_test d v) (spells_test ds vs)
+spells_test (d ∷ ds) (v ∷ vs) = both (meets d v) (meets_all ds vs) (Meets d v) (MeetsAll ds vs) (meets_test d v) (spells_test ds vs)
 
 pub decided : RecordsAreDecided
 decided kind values = spells_test (due kind (items_of kind values)) values

@@ -3,9 +3,9 @@ use Rattle.std.specs.Prelude.{◌≡◌, ℕ, suc, ◌+◌, ◌*◌, Bool, true,
 use Rattle.std.proofs.Common.{refl, sym, ◌∙◌, ap, subst, arith, ⊎_elim}
 use Rattle.iges_fields.specs.declared.value.Value.{Value}
 use Rattle.iges_fields.specs.declared.value.Value.TheVariants.{Int}
-use Rattle.brep_lists.specs.Layout.{Due, pointer, at_least_one, count, Meets, MayBeMissing, Spells}
-use Rattle.brep_lists.specs.Record.{solid, shell, face, «loop», edges, vertices, SolidItems, FaceItems, LoopTuple, pair_due, curve_due, tuple_due, edge_due, vertex_due, due, int_of, flag_of, count_of, value_at, int_at, groups, pair_read, curve_read, edge_read, tuples_read, items_of, FitsOnlyRead}
-use Rattle.brep_lists.specs.declared.EdgeTuple.{EdgeTuple}
+use Rattle.brep_lists.specs.DueValues.{DueValue, pointer, at_least_one, count, Meets, MayBeMissing, MeetsAll}
+use Rattle.brep_lists.specs.Record.{solid, shell, face, «loop», edges, vertices, SolidItems, FaceItems, LoopTuple, pair_due, curve_due, tuple_due, edge_due, vertex_due, due, int_of, flag_of, count_of, value_or_default, int_at, groups, pair_read, curve_read, edge_read, tuples_read, items_of, FitsOnlyRead}
+use Rattle.brep_lists.specs.declared.edge_list.EdgeTuple.{EdgeTuple}
 
 int_read : (z : ℤ) (v : Value) → v ≡ Int z → int_of v ≡ z
 int_read z v e = ap int_of e
@@ -26,18 +26,18 @@ cons_pair {A} {B} {a} {a'} {b} {b'} {xs} {ys} e f g = ap (λ x. (x, b) ∷ xs) e
 cons_one : {A : Type 0} {a a' : A} {xs ys : List A} → a ≡ a' → xs ≡ ys → a ∷ xs ≡ a' ∷ ys
 cons_one {A} {a} {a'} {xs} {ys} e g = ap (λ x. x ∷ xs) e ∙ ap (λ zs. a' ∷ zs) g
 
-pairs_only : (ps : List (ℤ × Bool)) (vs : List Value) → Spells (flat_map pair_due ps) vs → map pair_read (groups 2 (length ps) vs) ≡ ps
+pairs_only : (ps : List (ℤ × Bool)) (vs : List Value) → MeetsAll (flat_map pair_due ps) vs → map pair_read (groups 2 (length ps) vs) ≡ ps
 pairs_only [] vs h = refl
 pairs_only (p ∷ ps) [] h = absurd h
 pairs_only (p ∷ ps) (v ∷ []) h = absurd h.1
 pairs_only (p ∷ ps) (v ∷ w ∷ vs) h = cons_pair (int_read p.0 v h.0) (flag_read p.1 w h.1.0) (pairs_only ps vs h.1.1)
 
-pointers_only : (zs : List ℤ) (vs : List Value) → Spells (map pointer zs) vs → map (λ g. int_at g 0) (groups 1 (length zs) vs) ≡ zs
+pointers_only : (zs : List ℤ) (vs : List Value) → MeetsAll (map pointer zs) vs → map (λ g. int_at g 0) (groups 1 (length zs) vs) ≡ zs
 pointers_only [] vs h = refl
 pointers_only (z ∷ zs) [] h = absurd h
 pointers_only (z ∷ zs) (v ∷ vs) h = cons_one (int_read z v h.0) (pointers_only zs vs h.1)
 
-edges_only : (es : List EdgeTuple) (vs : List Value) → Spells (flat_map edge_due es) vs → map edge_read (groups 5 (length es) vs) ≡ es
+edges_only : (es : List EdgeTuple) (vs : List Value) → MeetsAll (flat_map edge_due es) vs → map edge_read (groups 5 (length es) vs) ≡ es
 edges_only [] vs h = refl
 edges_only (e ∷ es) [] h = absurd h
 edges_only (e ∷ es) (a ∷ []) h = absurd h.1
@@ -54,7 +54,7 @@ edges_only (e ∷ es) (a ∷ b ∷ c ∷ d ∷ x ∷ vs) h =
     ∙ ap (λ z. record k { curve = e.curve; start_list = e.start_list; start_index = e.start_index; end_list = e.end_list; end_index = z }) (int_read e.end_index x h.1.1.1.1.0)))))
     (edges_only es vs h.1.1.1.1.1)
 
-vertices_only : (xs : List (Value × Value × Value)) (vs : List Value) → Spells (flat_map vertex_due xs) vs → map (λ g. (value_at g 0, value_at g 1, value_at g 2)) (groups 3 (length xs) vs) ≡ xs
+vertices_only : (xs : List (Value × Value × Value)) (vs : List Value) → MeetsAll (flat_map vertex_due xs) vs → map (λ g. (value_or_default g 0, value_or_default g 1, value_or_default g 2)) (groups 3 (length xs) vs) ≡ xs
 vertices_only [] vs h = refl
 vertices_only (x ∷ xs) [] h = absurd h
 vertices_only (x ∷ xs) (a ∷ []) h = absurd h.1
@@ -65,14 +65,14 @@ vertices_only (x ∷ xs) (a ∷ b ∷ c ∷ vs) h =
 twice-suc : (n : ℕ) → 2 * suc n ≡ suc (suc (2 * n))
 twice-suc n = omega arith
 
-pub curves_only : (cs : List (Bool × ℤ)) (ds : List Due) (vs : List Value) → Spells (flat_map curve_due cs ++ ds) vs → (map curve_read (groups 2 (length cs) vs) ≡ cs) × Spells ds (drop (2 * length cs) vs)
+pub curves_only : (cs : List (Bool × ℤ)) (ds : List DueValue) (vs : List Value) → MeetsAll (flat_map curve_due cs ++ ds) vs → (map curve_read (groups 2 (length cs) vs) ≡ cs) × MeetsAll ds (drop (2 * length cs) vs)
 curves_only [] ds vs h = (refl, h)
 curves_only (c ∷ cs) ds [] h = absurd h
 curves_only (c ∷ cs) ds (v ∷ []) h = absurd h.1
 curves_only (c ∷ cs) ds (v ∷ w ∷ vs) h =
     let rest = curves_only cs ds vs h.1.1 in (
       cons_pair (flag_read c.0 v h.0) (int_read c.1 w h.1.0) rest.0,
-      subst (λ m. Spells ds (drop m (v ∷ w ∷ vs))) (sym (twice-suc (length cs))) rest.1,
+      subst (λ m. MeetsAll ds (drop m (v ∷ w ∷ vs))) (sym (twice-suc (length cs))) rest.1,
     )
 
 -- where the count is missing, no curve and no tuple follows
@@ -99,7 +99,7 @@ same_tuple {v} {f} {l} {i} {cs} {us} t ts ev el ei ef ec et =
     ∙ (ap (λ x. tuple t.is_vertex t.«list» t.index t.flag x ∷ us) ec
     ∙ ap (λ x. t ∷ x) et))))
 
-tuples_only : (ts : List LoopTuple) (vs : List Value) → Spells (flat_map tuple_due ts) vs → tuples_read (length ts) vs ≡ ts
+tuples_only : (ts : List LoopTuple) (vs : List Value) → MeetsAll (flat_map tuple_due ts) vs → tuples_read (length ts) vs ≡ ts
 tuples_only [] vs h = refl
 tuples_only (t ∷ ts) [] h = absurd h
 tuples_only (t ∷ ts) (a ∷ []) h = absurd h.1
@@ -135,7 +135,7 @@ same_solid {z} {b} {vs} s ez eb ev = ap (λ x. solid_items x b vs) ez ∙ (ap (�
 same_face : {z : ℤ} {b : Bool} {ls : List ℤ} (f : FaceItems) → z ≡ f.surface → b ≡ f.outer → ls ≡ f.loops → face_items z b ls ≡ f
 same_face {z} {b} {ls} f ez eb el = ap (λ x. face_items x b ls) ez ∙ (ap (λ x. face_items f.surface x ls) eb ∙ ap (λ x. face_items f.surface f.outer x) el)
 
-solid_only : (s : SolidItems) (vs : List Value) → Spells (due solid s) vs → items_of solid vs ≡ s
+solid_only : (s : SolidItems) (vs : List Value) → MeetsAll (due solid s) vs → items_of solid vs ≡ s
 solid_only s [] h = absurd h
 solid_only s (a ∷ []) h = absurd h.1
 solid_only s (a ∷ b ∷ []) h = same_solid s (int_read s.outer.0 a h.0) (flag_read s.outer.1 b h.1.0) (no_voids s.voids h.1.1)
@@ -147,7 +147,7 @@ solid_only s (a ∷ b ∷ k ∷ vs) h =
     same_solid s (int_read s.outer.0 a h.0) (flag_read s.outer.1 b h.1.0)
     (ap (λ m. map pair_read (groups 2 m vs)) (count_read (length s.voids) k h.1.1.0) ∙ pairs_only s.voids vs h.1.1.1)
 
-face_only : (f : FaceItems) (vs : List Value) → Spells (due face f) vs → items_of face vs ≡ f
+face_only : (f : FaceItems) (vs : List Value) → MeetsAll (due face f) vs → items_of face vs ≡ f
 face_only f [] h = absurd h
 face_only f (a ∷ []) h = absurd h.1
 face_only f (a ∷ b ∷ []) h = absurd h.1.1
@@ -166,4 +166,4 @@ only_read «loop» (v ∷ vs) items h = sym (ap (λ m. tuples_read m vs) (counte
 only_read edges [] items h = absurd h
 only_read edges (v ∷ vs) items h = sym (ap (λ m. map edge_read (groups 5 m vs)) (counted_only (length items) v h.0) ∙ edges_only items vs h.1)
 only_read vertices [] items h = absurd h
-only_read vertices (v ∷ vs) items h = sym (ap (λ m. map (λ g. (value_at g 0, value_at g 1, value_at g 2)) (groups 3 m vs)) (counted_only (length items) v h.0) ∙ vertices_only items vs h.1)
+only_read vertices (v ∷ vs) items h = sym (ap (λ m. map (λ g. (value_or_default g 0, value_or_default g 1, value_or_default g 2)) (groups 3 m vs)) (counted_only (length items) v h.0) ∙ vertices_only items vs h.1)

@@ -3,11 +3,11 @@ use Rattle.std.specs.Prelude.{◌≡◌, ℕ, zero, suc, ◌+◌, ◌-◌, ◌*�
 use Rattle.std.proofs.Common.{refl, sym, ◌∙◌, ap, arith, suc-mul}
 use Rattle.std.proofs.lemmas.Option.{slice_get_within}
 use Rattle.std.proofs.lemmas.List.{drop-drop}
-use Rattle.brep_lists.specs.Layout.{at_least_one, count}
+use Rattle.brep_lists.specs.DueValues.{at_least_one, count}
 use Rattle.iges_fields.specs.declared.value.Value.{Value}
 use Rattle.iges_fields.specs.declared.value.Value.TheVariants.{Default}
-use Rattle.brep_lists.specs.Record.{count_of, value_at, count_at}
-use Rattle.brep_lists.specs.OwnValues.{is_filler, meets, spells}
+use Rattle.brep_lists.specs.Record.{count_of, value_or_default, count_at}
+use Rattle.brep_lists.specs.OwnValues.{is_filler, meets, meets_all}
 use Rattle.brep_lists.specs.Groups.{passes, group_passes, groups_pass}
 use Rattle.brep_lists.specs.declared.groups.Slot.{Slot}
 
@@ -15,7 +15,7 @@ abbrev pub value_or : Option Value → Value
 value_or None = Default
 value_or (Some v) = v
 
-pub value_got : (vs : List Value) (i : ℕ) → value_at vs i ≡ value_or (slice_get vs i)
+pub value_got : (vs : List Value) (i : ℕ) → value_or_default vs i ≡ value_or (slice_get vs i)
 value_got [] i = refl
 value_got (v ∷ vs) zero = refl
 value_got (v ∷ vs) (suc i) = value_got vs i
@@ -31,7 +31,7 @@ none_at {A} [] (suc i) e = refl
 none_at {A} (y ∷ ys) zero e = absurd cc
 none_at {A} (y ∷ ys) (suc i) e = none_at ys i e
 
-pub got : (vs : List Value) (i : ℕ) (o : Option Value) → o ≡ slice_get vs i → value_at vs i ≡ value_or o
+pub got : (vs : List Value) (i : ℕ) (o : Option Value) → o ≡ slice_get vs i → value_or_default vs i ≡ value_or o
 got vs i o e = value_got vs i ∙ ap value_or (sym e)
 
 pub slot_failed : (ss : List Slot) (vs : List Value) (k i : ℕ) (s : Slot) (v : Value) → drop k ss ≡ s ∷ drop (k + 1) ss → slice_get vs i ≡ Some v → passes s v ≡ false → group_passes (drop k ss) (drop i vs) ≡ false
@@ -48,14 +48,14 @@ pub slot_missing : (ss : List Slot) (vs : List Value) (k i : ℕ) (s : Slot) →
 slot_missing ss vs k i s es ev =
     ap (λ xs. group_passes xs (drop i vs)) es ∙ ap (λ ys. group_passes (s ∷ drop (k + 1) ss) ys) (none_at vs i ev)
 
-pub filler_failed : (vs : List Value) (i : ℕ) (v : Value) → slice_get vs i ≡ Some v → is_filler v ≡ false → spells [] (drop i vs) ≡ false
-filler_failed vs i v e f = ap (spells []) (open_at vs i v e) ∙ ap (λ b. b && spells [] (drop (i + 1) vs)) f
+pub filler_failed : (vs : List Value) (i : ℕ) (v : Value) → slice_get vs i ≡ Some v → is_filler v ≡ false → meets_all [] (drop i vs) ≡ false
+filler_failed vs i v e f = ap (meets_all []) (open_at vs i v e) ∙ ap (λ b. b && meets_all [] (drop (i + 1) vs)) f
 
-pub filler_passed : (vs : List Value) (i : ℕ) (v : Value) → slice_get vs i ≡ Some v → is_filler v ≡ true → spells [] (drop i vs) ≡ spells [] (drop (i + 1) vs)
-filler_passed vs i v e f = ap (spells []) (open_at vs i v e) ∙ ap (λ b. b && spells [] (drop (i + 1) vs)) f
+pub filler_passed : (vs : List Value) (i : ℕ) (v : Value) → slice_get vs i ≡ Some v → is_filler v ≡ true → meets_all [] (drop i vs) ≡ meets_all [] (drop (i + 1) vs)
+filler_passed vs i v e f = ap (meets_all []) (open_at vs i v e) ∙ ap (λ b. b && meets_all [] (drop (i + 1) vs)) f
 
-pub fillers_end : (vs : List Value) (i : ℕ) → slice_get vs i ≡ None → spells [] (drop i vs) ≡ true
-fillers_end vs i e = ap (spells []) (none_at vs i e)
+pub fillers_end : (vs : List Value) (i : ℕ) → slice_get vs i ≡ None → meets_all [] (drop i vs) ≡ true
+fillers_end vs i e = ap (meets_all []) (none_at vs i e)
 
 -- a count that may start so many items
 abbrev pub starts : Value → Bool
@@ -63,7 +63,7 @@ starts v = meets (at_least_one (count_of v)) v
 
 pub item_counted : (vs : List Value) (i : ℕ) (v : Value) (r : Option ℕ) → Some v ≡ slice_get vs i
     → MatchOption r (starts v ≡ false) (λ n. (starts v ≡ true) × (n ≡ count_of v))
-    → MatchOption r (starts (value_at vs i) ≡ false) (λ n. (starts (value_at vs i) ≡ true) × (n ≡ count_at vs i) × (i < length vs))
+    → MatchOption r (starts (value_or_default vs i) ≡ false) (λ n. (starts (value_or_default vs i) ≡ true) × (n ≡ count_at vs i) × (i < length vs))
 item_counted vs i v None e h = ap starts (got vs i (Some v) e) ∙ h
 item_counted vs i v (Some n) e h = (ap starts (got vs i (Some v) e) ∙ h.0, h.1 ∙ sym (ap count_of (got vs i (Some v) e)), slice_get_within vs i v (sym e))
 
@@ -95,6 +95,6 @@ may_count v = meets (count (count_of v)) v
 
 pub optional_counted : (vs : List Value) (i : ℕ) (v : Value) (r : Option ℕ) → Some v ≡ slice_get vs i
     → MatchOption r (may_count v ≡ false) (λ n. (may_count v ≡ true) × (n ≡ count_of v))
-    → MatchOption r (may_count (value_at vs i) ≡ false) (λ n. (may_count (value_at vs i) ≡ true) × (n ≡ count_at vs i))
+    → MatchOption r (may_count (value_or_default vs i) ≡ false) (λ n. (may_count (value_or_default vs i) ≡ true) × (n ≡ count_at vs i))
 optional_counted vs i v None e h = ap may_count (got vs i (Some v) e) ∙ h
 optional_counted vs i v (Some n) e h = (ap may_count (got vs i (Some v) e) ∙ h.0, h.1 ∙ sym (ap count_of (got vs i (Some v) e)))

@@ -1,31 +1,31 @@
 -- What a test of a record tells, and its items by number.
 use Rattle.std.specs.Prelude.{◌≡◌, ℕ, zero, suc, ◌+◌, ◌*◌, ◌<◌, ◌≤◌, true, false, ℤ, List, [], ◌∷◌, length, map, take, drop, Option, Some, None, slice_get}
 use Rattle.std.proofs.Common.{refl, sym, ◌∙◌, ap, subst, arith, suc-mul, option_map, lit<}
-use Rattle.brep_lists.specs.declared.EdgeTuple.{EdgeTuple}
+use Rattle.brep_lists.specs.declared.edge_list.EdgeTuple.{EdgeTuple}
 use Rattle.std.proofs.lemmas.List.{length-map, drop-drop}
 use Rattle.std.proofs.lemmas.Option.{slice_get-map, slice_get_past}
 use Rattle.iges_fields.specs.declared.value.Value.{Value}
-use Rattle.brep_lists.specs.Record.{Kind, Items, Fits, items_of, int_of, value_at, int_at, groups, edge_read, IsRecord}
-use Rattle.brep_lists.specs.OwnValues.{is_record}
+use Rattle.brep_lists.specs.Record.{EntityKind, Items, Fits, items_of, int_of, value_or_default, int_at, groups, edge_read, IsRecordOf}
+use Rattle.brep_lists.specs.OwnValues.{is_record_of}
 use Rattle.brep_lists.proofs.OnlyRead.{only_read}
 use Rattle.brep_lists.proofs.Decided.{decided}
 use Rattle.brep_lists.proofs.Stride.{length_groups}
 
-pub fits : (kind : Kind) (vs : List Value) → is_record kind vs ≡ true → Fits kind vs (items_of kind vs)
+pub fits : (kind : EntityKind) (vs : List Value) → is_record_of kind vs ≡ true → Fits kind vs (items_of kind vs)
 fits kind vs e = (decided kind vs).0 e
 
-no_items : (kind : Kind) (vs : List Value) → is_record kind vs ≡ false → IsRecord kind vs → ⊥
-no_items kind vs e h = let t : is_record kind vs ≡ true = (decided kind vs).1 h in let g : false ≡ true = sym e ∙ t in absurd cc
+no_items : (kind : EntityKind) (vs : List Value) → is_record_of kind vs ≡ false → IsRecordOf kind vs → ⊥
+no_items kind vs e h = let t : is_record_of kind vs ≡ true = (decided kind vs).1 h in let g : false ≡ true = sym e ∙ t in absurd cc
 
-pub fits_none : (kind : Kind) (vs : List Value) → is_record kind vs ≡ false → (items : Items kind) → Fits kind vs items → ⊥
+pub fits_none : (kind : EntityKind) (vs : List Value) → is_record_of kind vs ≡ false → (items : Items kind) → Fits kind vs items → ⊥
 fits_none kind vs e items h = no_items kind vs e (subst (λ (i : Items kind). Fits kind vs i) (only_read kind vs items h) h)
 
-pub value_after : (n k : ℕ) (vs : List Value) → value_at (drop n vs) k ≡ value_at vs (n + k)
-value_after zero k vs = let e : k ≡ 0 + k = omega arith in ap (value_at vs) e
+pub value_after : (n k : ℕ) (vs : List Value) → value_or_default (drop n vs) k ≡ value_or_default vs (n + k)
+value_after zero k vs = let e : k ≡ 0 + k = omega arith in ap (value_or_default vs) e
 value_after (suc n) k [] = refl
-value_after (suc n) k (v ∷ vs) = value_after n k vs ∙ (let e : suc (n + k) ≡ suc n + k = omega arith in ap (value_at (v ∷ vs)) e)
+value_after (suc n) k (v ∷ vs) = value_after n k vs ∙ (let e : suc (n + k) ≡ suc n + k = omega arith in ap (value_or_default (v ∷ vs)) e)
 
-pub value_among : (n k : ℕ) (vs : List Value) → k < n → value_at (take n vs) k ≡ value_at vs k
+pub value_among : (n k : ℕ) (vs : List Value) → k < n → value_or_default (take n vs) k ≡ value_or_default vs k
 value_among zero k vs h = absurd (omega (arith, h))
 value_among (suc n) k [] h = refl
 value_among (suc n) zero (v ∷ vs) h = refl
@@ -53,7 +53,7 @@ items_past {X} read size n i vs h =
     slice_get_past (map read (groups size n vs)) i (omega (arith, all))
 
 -- the k-th value of a group
-pub read_at : (size at k : ℕ) (vs : List Value) → k < size → value_at (take size (drop at vs)) k ≡ value_at vs (at + k)
+pub read_at : (size at k : ℕ) (vs : List Value) → k < size → value_or_default (take size (drop at vs)) k ≡ value_or_default vs (at + k)
 read_at size at k vs h = value_among size k (drop at vs) h ∙ value_after at k vs
 
 pub int_read_at : (size at k : ℕ) (vs : List Value) (z : ℤ) → k < size → z ≡ int_at vs (at + k) → z ≡ int_at (take size (drop at vs)) k

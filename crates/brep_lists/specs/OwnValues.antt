@@ -5,8 +5,8 @@ use Rattle.std.specs.Ordering.{int_eq}
 use Rattle.std.specs.Str.{bytes_eq}
 use Rattle.iges_fields.specs.declared.value.Value.{Value}
 use Rattle.iges_fields.specs.declared.value.Value.TheVariants.{Default, Int, Real}
-use Rattle.brep_lists.specs.Layout.{Due, pointer, number, flag, at_least_one, count, coordinate}
-use Rattle.brep_lists.specs.Record.{Kind, due, items_of, IsRecord}
+use Rattle.brep_lists.specs.DueValues.{DueValue, pointer, number, flag, at_least_one, count, coordinate}
+use Rattle.brep_lists.specs.Record.{EntityKind, due, items_of, IsRecordOf}
 
 abbrev pub is_int : ℤ → Value → Bool
 is_int z (Int n) = int_eq n z
@@ -29,7 +29,7 @@ is_same_coordinate (Int m) (Int n) = int_eq m n
 is_same_coordinate (Real a) (Real b) = bytes_eq a b
 is_same_coordinate _ _ = false
 
-abbrev pub meets : Due → Value → Bool
+abbrev pub meets : DueValue → Value → Bool
 meets (pointer z) v = is_int z v
 meets (number z) v = is_int z v
 meets (flag b) v = is_int (if b then pos 1 else pos 0) v
@@ -37,37 +37,37 @@ meets (at_least_one n) v = is_int (pos n) v && nat_lt 0 n
 meets (count n) v = is_int (pos n) v || (is_default v && n == 0)
 meets (coordinate w) v = is_same_coordinate v w
 
-abbrev pub may_be_missing : List Due → Bool
+abbrev pub may_be_missing : List DueValue → Bool
 may_be_missing (count n ∷ []) = n == 0
 may_be_missing _ = false
 
-abbrev pub spells : List Due → List Value → Bool
-spells [] [] = true
-spells [] (v ∷ vs) = is_filler v && spells [] vs
-spells (d ∷ ds) [] = may_be_missing (d ∷ ds)
-spells (d ∷ ds) (v ∷ vs) = meets d v && spells ds vs
+abbrev pub meets_all : List DueValue → List Value → Bool
+meets_all [] [] = true
+meets_all [] (v ∷ vs) = is_filler v && meets_all [] vs
+meets_all (d ∷ ds) [] = may_be_missing (d ∷ ds)
+meets_all (d ∷ ds) (v ∷ vs) = meets d v && meets_all ds vs
 
 -- what is due for the items that are read in a record
-abbrev pub due_in : Kind → List Value → List Due
+abbrev pub due_in : EntityKind → List Value → List DueValue
 due_in kind values = due kind (items_of kind values)
 
-abbrev pub is_record : Kind → List Value → Bool
-is_record kind values = spells (due_in kind values) values
+abbrev pub is_record_of : EntityKind → List Value → Bool
+is_record_of kind values = meets_all (due_in kind values) values
 
 -- the test is right
 abbrev pub RecordsAreDecided : Type 0
-RecordsAreDecided = (kind : Kind) (values : List Value) → IsTrue (is_record kind values) ↔ IsRecord kind values
+RecordsAreDecided = (kind : EntityKind) (values : List Value) → IsTrue (is_record_of kind values) ↔ IsRecordOf kind values
 
 -- ---- own values, where the record is of the kind
 
 -- A count of 0 that is missing at the end counts too.
-abbrev pub own_count : Kind → List Value → ℕ
+abbrev pub own_count : EntityKind → List Value → ℕ
 own_count kind values = length (due_in kind values)
 
-abbrev pub if_pointer : ℕ × Due → Option ℕ
+abbrev pub if_pointer : ℕ × DueValue → Option ℕ
 if_pointer (k, pointer z) = Some k
 if_pointer (k, _) = None
 
 -- the places of the pointers, from 1
-abbrev pub pointer_places : Kind → List Value → List ℕ
+abbrev pub pointer_places : EntityKind → List Value → List ℕ
 pointer_places kind values = filter_map if_pointer (enumerate_from 1 (due_in kind values))

@@ -3,18 +3,18 @@ use Rattle.std.specs.Prelude.{◌≡◌, ℕ, zero, suc, ◌+◌, ◌*◌, ◌==
 use Rattle.std.specs.Ordering.{int_eq}
 use Rattle.iges_fields.specs.declared.value.Value.{Value}
 use Rattle.iges_fields.specs.declared.value.Value.TheVariants.{Default, Int}
-use Rattle.brep_lists.specs.Layout.{Due, pointer, number, flag, at_least_one, count, coordinate, Spells}
-use Rattle.brep_lists.specs.declared.EdgeTuple.{EdgeTuple}
+use Rattle.brep_lists.specs.DueValues.{DueValue, pointer, number, flag, at_least_one, count, coordinate, MeetsAll}
+use Rattle.brep_lists.specs.declared.edge_list.EdgeTuple.{EdgeTuple}
 
-pub data Kind : Type 0 where
-  solid : Kind
-  shell : Kind
-  face : Kind
-  «loop» : Kind
-  edges : Kind
-  vertices : Kind
+pub data EntityKind : Type 0 where
+  solid : EntityKind
+  shell : EntityKind
+  face : EntityKind
+  «loop» : EntityKind
+  edges : EntityKind
+  vertices : EntityKind
 
-abbrev pub type_number : Kind → ℤ
+abbrev pub type_number : EntityKind → ℤ
 type_number solid = pos 186
 type_number shell = pos 514
 type_number face = pos 510
@@ -23,11 +23,11 @@ type_number edges = pos 504
 type_number vertices = pos 502
 
 -- the kind of a type, where it is one of the six
-abbrev pub kind_of_type : ℤ → Option Kind
+abbrev pub kind_of_type : ℤ → Option EntityKind
 kind_of_type z = find (λ kind. int_eq z (type_number kind)) (solid ∷ shell ∷ face ∷ «loop» ∷ edges ∷ vertices ∷ [])
 
 -- a closed shell has form 1, and elsewhere form 0 is read as 1
-abbrev pub HasForm : Kind → ℤ → Type 0
+abbrev pub HasForm : EntityKind → ℤ → Type 0
 HasForm solid form = form ≡ pos 0
 HasForm shell form = form ≡ pos 1
 HasForm _ form = (form ≡ pos 0) ⊎ (form ≡ pos 1)
@@ -51,7 +51,7 @@ pub record LoopTuple : Type 0 where
   pub curves : List (Bool × ℤ)
 
 -- what the record of an entity tells
-abbrev pub Items : Kind → Type 0
+abbrev pub Items : EntityKind → Type 0
 Items solid = SolidItems
 Items shell = List (ℤ × Bool)
 Items face = FaceItems
@@ -59,23 +59,23 @@ Items «loop» = List LoopTuple
 Items edges = List EdgeTuple
 Items vertices = List (Value × Value × Value)
 
-abbrev pub pair_due : ℤ × Bool → List Due
+abbrev pub pair_due : ℤ × Bool → List DueValue
 pair_due p = pointer p.0 ∷ flag p.1 ∷ []
 
-abbrev pub curve_due : Bool × ℤ → List Due
+abbrev pub curve_due : Bool × ℤ → List DueValue
 curve_due c = flag c.0 ∷ pointer c.1 ∷ []
 
-abbrev pub tuple_due : LoopTuple → List Due
+abbrev pub tuple_due : LoopTuple → List DueValue
 tuple_due t = flag t.is_vertex ∷ pointer t.list ∷ number t.index ∷ flag t.flag ∷ count (length t.curves) ∷ flat_map curve_due t.curves
 
-abbrev pub edge_due : EdgeTuple → List Due
+abbrev pub edge_due : EdgeTuple → List DueValue
 edge_due e = pointer e.curve ∷ pointer e.start_list ∷ number e.start_index ∷ pointer e.end_list ∷ number e.end_index ∷ []
 
-abbrev pub vertex_due : Value × Value × Value → List Due
+abbrev pub vertex_due : Value × Value × Value → List DueValue
 vertex_due v = coordinate v.0 ∷ coordinate v.1 ∷ coordinate v.2 ∷ []
 
 -- what is due, value by value
-abbrev pub due : (kind : Kind) → Items kind → List Due
+abbrev pub due : (kind : EntityKind) → Items kind → List DueValue
 due solid s = pair_due s.outer ++ (count (length s.voids) ∷ flat_map pair_due s.voids)
 due shell faces = at_least_one (length faces) ∷ flat_map pair_due faces
 due face f = pointer f.surface ∷ at_least_one (length f.loops) ∷ flag f.outer ∷ map pointer f.loops
@@ -84,8 +84,8 @@ due edges tuples = at_least_one (length tuples) ∷ flat_map edge_due tuples
 due vertices triples = at_least_one (length triples) ∷ flat_map vertex_due triples
 
 -- the record tells these items
-abbrev pub Fits : (kind : Kind) → List Value → Items kind → Type 0
-Fits kind values items = Spells (due kind items) values
+abbrev pub Fits : (kind : EntityKind) → List Value → Items kind → Type 0
+Fits kind values items = MeetsAll (due kind items) values
 
 -- The reading: the items that stand in the places of the layout, whatever the values are.
 
@@ -108,19 +108,19 @@ abbrev pub count_of : Value → ℕ
 count_of v = natural (int_of v)
 
 -- a value of the record, or a left-out one past its end
-abbrev pub value_at : List Value → ℕ → Value
-value_at [] i = Default
-value_at (v ∷ vs) zero = v
-value_at (v ∷ vs) (suc i) = value_at vs i
+abbrev pub value_or_default : List Value → ℕ → Value
+value_or_default [] i = Default
+value_or_default (v ∷ vs) zero = v
+value_or_default (v ∷ vs) (suc i) = value_or_default vs i
 
 abbrev pub int_at : List Value → ℕ → ℤ
-int_at vs i = int_of (value_at vs i)
+int_at vs i = int_of (value_or_default vs i)
 
 abbrev pub flag_at : List Value → ℕ → Bool
-flag_at vs i = flag_of (value_at vs i)
+flag_at vs i = flag_of (value_or_default vs i)
 
 abbrev pub count_at : List Value → ℕ → ℕ
-count_at vs i = count_of (value_at vs i)
+count_at vs i = count_of (value_or_default vs i)
 
 -- n groups of size values each
 abbrev pub groups : ℕ → ℕ → List Value → List (List Value)
@@ -144,18 +144,18 @@ abbrev pub tuples_read : ℕ → List Value → List LoopTuple
 tuples_read zero vs = []
 tuples_read (suc n) vs = tuple_read vs ∷ tuples_read n (drop (5 + 2 * count_at vs 4) vs)
 
-abbrev pub items_of : (kind : Kind) → List Value → Items kind
+abbrev pub items_of : (kind : EntityKind) → List Value → Items kind
 items_of solid vs = record { outer = pair_read vs; voids = map pair_read (groups 2 (count_at vs 2) (drop 3 vs)) }
 items_of shell vs = map pair_read (groups 2 (count_at vs 0) (drop 1 vs))
 items_of face vs = record { surface = int_at vs 0; outer = flag_at vs 2; loops = map (λ g. int_at g 0) (groups 1 (count_at vs 1) (drop 3 vs)) }
 items_of «loop» vs = tuples_read (count_at vs 0) (drop 1 vs)
 items_of edges vs = map edge_read (groups 5 (count_at vs 0) (drop 1 vs))
-items_of vertices vs = map (λ g. (value_at g 0, value_at g 1, value_at g 2)) (groups 3 (count_at vs 0) (drop 1 vs))
+items_of vertices vs = map (λ g. (value_or_default g 0, value_or_default g 1, value_or_default g 2)) (groups 3 (count_at vs 0) (drop 1 vs))
 
 -- a record of that kind
-abbrev pub IsRecord : Kind → List Value → Type 0
-IsRecord kind values = Fits kind values (items_of kind values)
+abbrev pub IsRecordOf : EntityKind → List Value → Type 0
+IsRecordOf kind values = Fits kind values (items_of kind values)
 
 -- a record tells no other items than those read
 abbrev pub FitsOnlyRead : Type 0
-FitsOnlyRead = (kind : Kind) (values : List Value) (items : Items kind) → Fits kind values items → items ≡ items_of kind values
+FitsOnlyRead = (kind : EntityKind) (values : List Value) (items : Items kind) → Fits kind values items → items ≡ items_of kind values

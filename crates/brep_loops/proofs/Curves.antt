@@ -1,11 +1,11 @@
 -- Tuples of a loop's record, and their curves.
-use Rattle.std.specs.Prelude.{◌≡◌, ◌≢◌, ℕ, zero, suc, ◌+◌, ◌-◌, ◌*◌, ◌^◌, ◌<◌, ◌≤◌, ◌&&◌, Bool, true, false, ℤ, List, [], ◌∷◌, length, map, take, drop, Option, Some, None, slice_get, option_map, MatchOption, IsSome}
+use Rattle.std.specs.Prelude.{◌≡◌, ◌≢◌, ℕ, zero, suc, ◌+◌, ◌-◌, ◌*◌, ◌^◌, ◌<◌, ◌≤◌, ◌&&◌, Bool, true, false, ℤ, List, [], ◌∷◌, length, map, take, drop, Option, Some, None, slice_get, option_map}
 use Rattle.std.proofs.Common.{refl, sym, ◌∙◌, ap, subst, arith, lit<}
-use Rattle.std.proofs.lemmas.List.{drop-drop}
+use Rattle.std.proofs.lemmas.List.{drop-drop, length-drop}
 use Rattle.iges_fields.specs.declared.value.Value.{Value}
 use Rattle.iges_fields.specs.declared.value.Value.TheVariants.{Default}
-use Rattle.brep_lists.specs.Record.{int_of, flag_of, count_of, value_at, int_at, flag_at, count_at, groups, curve_read, tuple_read, tuples_read}
-use Rattle.brep_lists.specs.Groups.{group_passes, groups_pass, tuple_passes, tuples_pass}
+use Rattle.brep_lists.specs.Record.{int_of, flag_of, count_of, value_or_default, int_at, flag_at, count_at, groups, curve_read, tuple_read, tuples_read}
+use Rattle.brep_lists.specs.Groups.{passes, group_passes, groups_pass, tuple_passes, tuples_pass}
 use Rattle.brep_lists.specs.Views.{AreEnds}
 use Rattle.brep_lists.specs.declared.groups.Slot.{Slot}
 use Rattle.brep_lists.specs.declared.groups.Slot.TheVariants.{Whole, Flag}
@@ -13,7 +13,7 @@ use Rattle.brep_lists.proofs.Places.{may_count}
 use Rattle.brep_lists.proofs.Tuples.{curve_shape}
 use Rattle.brep_lists.proofs.Views.{value_after, item_at, items_past, read_at}
 
-past_value : (vs : List Value) (i : ℕ) → length vs ≤ i → value_at vs i ≡ Default
+past_value : (vs : List Value) (i : ℕ) → length vs ≤ i → value_or_default vs i ≡ Default
 past_value [] i h = refl
 past_value (v ∷ vs) zero h = absurd (omega (arith, h))
 past_value (v ∷ vs) (suc i) h = past_value vs i (omega (arith, h))
@@ -33,22 +33,22 @@ no_count vs place curves h e =
 abbrev tuple_shape : List Slot
 tuple_shape = Flag ∷ Whole ∷ Whole ∷ Flag ∷ []
 
-count_place : (vs : List Value) (at place : ℕ) → place ≡ at + 4 → value_at (drop at vs) 4 ≡ value_at vs place
-count_place vs at place e = value_after at 4 vs ∙ ap (value_at vs) (sym e)
+count_place : (vs : List Value) (at place : ℕ) → place ≡ at + 4 → value_or_default (drop at vs) 4 ≡ value_or_default vs place
+count_place vs at place e = value_after at 4 vs ∙ ap (value_or_default vs) (sym e)
 
 tuple_is : (vs : List Value) (at place curves : ℕ) → group_passes tuple_shape (drop at vs) ≡ true → place ≡ at + 4 → curves ≡ count_at vs place
-    → tuple_passes (drop at vs) ≡ (may_count (value_at vs place) && groups_pass curve_shape curves (drop (place + 1) vs))
+    → tuple_passes (drop at vs) ≡ (may_count (value_or_default vs place) && groups_pass curve_shape curves (drop (place + 1) vs))
 tuple_is vs at place curves g e h =
     let next : at + 5 ≡ place + 1 = omega (arith, e) in
-    ap (λ b. b && (may_count (value_at (drop at vs) 4) && groups_pass curve_shape (count_of (value_at (drop at vs) 4)) (drop 5 (drop at vs)))) g
+    ap (λ b. b && (may_count (value_or_default (drop at vs) 4) && groups_pass curve_shape (count_of (value_or_default (drop at vs) 4)) (drop 5 (drop at vs)))) g
     ∙ ap (λ w. may_count w && groups_pass curve_shape (count_of w) (drop 5 (drop at vs))) (count_place vs at place e)
-    ∙ ap (λ n. may_count (value_at vs place) && groups_pass curve_shape n (drop 5 (drop at vs))) (sym h)
-    ∙ ap (λ ws. may_count (value_at vs place) && groups_pass curve_shape curves ws) (drop-drop 5 at vs ∙ ap (λ k. drop k vs) next)
+    ∙ ap (λ n. may_count (value_or_default vs place) && groups_pass curve_shape n (drop 5 (drop at vs))) (sym h)
+    ∙ ap (λ ws. may_count (value_or_default vs place) && groups_pass curve_shape curves ws) (drop-drop 5 at vs ∙ ap (λ k. drop k vs) next)
 
-pub bad_count : (vs : List Value) (at place : ℕ) → group_passes tuple_shape (drop at vs) ≡ true → place ≡ at + 4 → may_count (value_at vs place) ≡ false → tuple_passes (drop at vs) ≡ false
+pub bad_count : (vs : List Value) (at place : ℕ) → group_passes tuple_shape (drop at vs) ≡ true → place ≡ at + 4 → may_count (value_or_default vs place) ≡ false → tuple_passes (drop at vs) ≡ false
 bad_count vs at place g e f = tuple_is vs at place (count_at vs place) g e refl ∙ ap (λ b. b && groups_pass curve_shape (count_at vs place) (drop (place + 1) vs)) f
 
-pub with_curves : (vs : List Value) (at place curves : ℕ) (b : Bool) → group_passes tuple_shape (drop at vs) ≡ true → place ≡ at + 4 → may_count (value_at vs place) ≡ true → curves ≡ count_at vs place
+pub with_curves : (vs : List Value) (at place curves : ℕ) (b : Bool) → group_passes tuple_shape (drop at vs) ≡ true → place ≡ at + 4 → may_count (value_or_default vs place) ≡ true → curves ≡ count_at vs place
     → groups_pass curve_shape curves (drop (place + 1) vs) ≡ b → tuple_passes (drop at vs) ≡ b
 with_curves vs at place curves b g e t h f = tuple_is vs at place curves g e h ∙ ap (λ x. x && groups_pass curve_shape curves (drop (place + 1) vs)) t ∙ f
 
@@ -81,13 +81,6 @@ first_tuple vs (suc n) at end curves some a =
     ∙ ap (λ k. tuple_read (drop at vs) ∷ tuples_read n (drop (5 + k * 2) (drop at vs))) (sym a.counted)
     ∙ ap (λ ws. tuple_read (drop at vs) ∷ tuples_read n ws) (sym a.after) ∙ ap (λ k. tuple_read (drop at vs) ∷ tuples_read k (drop end vs)) less
 
-pub passes_first : (vs : List Value) (left at : ℕ) → left ≢ 0 → tuples_pass left (drop at vs) ≡ true → tuple_passes (drop at vs) ≡ false → ⊥
-passes_first vs zero at some t f = some refl
-passes_first vs (suc n) at some t f =
-    let g : tuples_pass (suc n) (drop at vs) ≡ false = ap (λ b. b && tuples_pass n (drop (5 + count_at (drop at vs) 4 * 2) (drop at vs))) f in
-    let h : false ≡ true = sym g ∙ t in
-    absurd cc
-
 pub positive : (n : ℕ) → n ≢ 0 → 0 < n
 positive zero h = absurd (h refl)
 positive (suc n) h = omega arith
@@ -98,8 +91,8 @@ curve_of c = c.1
 pub curve_item : (vs : List Value) (at n i : ℕ) (z : ℤ) → i < n → z ≡ int_at vs (at + 5 + i * 2 + 1) → Some z ≡ option_map curve_of (slice_get (map curve_read (groups 2 n (drop 5 (drop at vs)))) i)
 curve_item vs at n i z h e =
     let place : at + (5 + i * 2 + 1) ≡ at + 5 + i * 2 + 1 = omega arith in
-    let there : value_at (take 2 (drop (5 + i * 2) (drop at vs))) 1 ≡ value_at vs (at + 5 + i * 2 + 1)
-    = read_at 2 (5 + i * 2) 1 (drop at vs) (lit< tt) ∙ value_after at (5 + i * 2 + 1) vs ∙ ap (value_at vs) place in
+    let there : value_or_default (take 2 (drop (5 + i * 2) (drop at vs))) 1 ≡ value_or_default vs (at + 5 + i * 2 + 1)
+    = read_at 2 (5 + i * 2) 1 (drop at vs) (lit< tt) ∙ value_after at (5 + i * 2 + 1) vs ∙ ap (value_or_default vs) place in
     ap Some (e ∙ sym (ap int_of there)) ∙ sym (ap (λ (o : Option (Bool × ℤ)). option_map curve_of o) (item_at curve_read 2 n i 5 (drop at vs) h))
 
 pub curve_past : (vs : List Value) (at n i : ℕ) → n ≤ i → None ≡ option_map curve_of (slice_get (map curve_read (groups 2 n (drop 5 (drop at vs)))) i)
@@ -114,9 +107,51 @@ flag_in vs at k = sym (ap flag_of (value_after at k vs))
 pub first_flag_in : (vs : List Value) (at : ℕ) → flag_at vs at ≡ flag_at (drop at vs) 0
 first_flag_in vs at = let e : at ≡ at + 0 = omega arith in ap (flag_at vs) e ∙ flag_in vs at 0
 
-pub is_some : {A : Type 0} (r : Option A) (P : Type 0) (Q : A → Type 0) → MatchOption r P Q → (P → ⊥) → IsSome r
-is_some {A} None P Q h no_p = absurd (no_p h)
-is_some {A} (Some x) P Q h no_p = refl
+-- ---- a tuple that was checked stands within the record
 
-pub of_some : {A : Type 0} (r : Option A) (x : A) (P : Type 0) (Q : A → Type 0) → r ≡ Some x → MatchOption r P Q → Q x
-of_some {A} r x P Q e h = subst (λ (o : Option A). MatchOption o P Q) e h
+and_left : (a b : Bool) → (a && b) ≡ true → a ≡ true
+and_left true b e = refl
+and_left false b e = e
+
+and_right : (a b : Bool) → (a && b) ≡ true → b ≡ true
+and_right true b e = e
+and_right false b e = absurd cc
+
+curves_fit : (n : ℕ) (vs : List Value) → groups_pass curve_shape n vs ≡ true → n * 2 ≤ length vs
+curves_fit zero vs e = omega arith
+curves_fit (suc n) [] e = absurd cc
+curves_fit (suc n) (v ∷ []) e = let h = and_right (passes Flag v) false (and_left (passes Flag v && false) (groups_pass curve_shape n []) e) in absurd cc
+curves_fit (suc n) (v ∷ w ∷ vs) e = omega (arith, curves_fit n vs (and_right (passes Flag v && (passes Whole w && true)) (groups_pass curve_shape n vs) e))
+
+four_fit : (vs : List Value) (r : Bool) → (group_passes tuple_shape vs && r) ≡ true → 4 ≤ length vs
+four_fit [] r e = absurd cc
+four_fit (a ∷ []) r e = let h = and_right (passes Flag a) false (and_left _ r e) in absurd cc
+four_fit (a ∷ b ∷ []) r e = let h = and_right (passes Whole b) false (and_right (passes Flag a) _ (and_left _ r e)) in absurd cc
+four_fit (a ∷ b ∷ c ∷ []) r e = let h = and_right (passes Whole c) false (and_right (passes Whole b) _ (and_right (passes Flag a) _ (and_left _ r e))) in absurd cc
+four_fit (a ∷ b ∷ c ∷ d ∷ vs) r e = omega arith
+
+pub count_within : (vs : List Value) (at : ℕ) → tuple_passes (drop at vs) ≡ true → at + 4 ≤ length vs
+count_within vs at e = omega (arith, four_fit (drop at vs) _ e, length-drop at vs)
+
+pub curves_within : (vs : List Value) (at curves : ℕ) → tuple_passes (drop at vs) ≡ true → curves ≡ count_at vs (at + 4) → at + 4 < length vs → at + 5 + curves * 2 ≤ length vs
+curves_within vs at curves e h within =
+    let there : curves ≡ count_at (drop at vs) 4 = h ∙ sym (ap count_of (value_after at 4 vs)) in
+    let pass : groups_pass curve_shape (count_at (drop at vs) 4) (drop 5 (drop at vs)) ≡ true
+    = and_right (may_count (value_or_default (drop at vs) 4)) _ (and_right (group_passes tuple_shape (drop at vs)) _ e) in
+    let room : curves * 2 ≤ length (drop 5 (drop at vs)) = curves_fit curves (drop 5 (drop at vs)) (subst (λ n. groups_pass curve_shape n (drop 5 (drop at vs)) ≡ true) (sym there) pass) in
+    omega (arith, room, length-drop 5 (drop at vs), length-drop at vs, within)
+
+pub no_curves : (vs : List Value) (at : ℕ) → length vs ≤ at + 4 → at + 4 < 2 ^ 64 → AreEnds at vs 0 (at + 4)
+no_curves vs at past small =
+    let none : 0 ≡ count_at vs (at + 4) = sym (ap count_of (past_value vs (at + 4) past)) in
+    let missing = no_count vs (at + 4) 0 past none in
+    ends vs at (at + 4) 0 (at + 4) refl none missing.1 small missing.2
+
+pub counted_ends : (vs : List Value) (at curves : ℕ) → curves ≡ count_at vs (at + 4) → at + 4 + 1 + curves * 2 < 2 ^ 64 → AreEnds at vs curves (at + 4 + 1 + curves * 2)
+counted_ends vs at curves h small =
+    let same : at + 4 + 1 + curves * 2 ≡ at + 4 + (1 + curves * 2) = omega arith in
+    ends vs at (at + 4) curves (at + 4 + 1 + curves * 2) refl h (ap (λ k. drop k vs) same) (omega (arith, small)) (λ some. omega (arith, small))
+
+pub passes_now : (vs : List Value) (left at : ℕ) → left ≢ 0 → tuples_pass left (drop at vs) ≡ true → tuple_passes (drop at vs) ≡ true
+passes_now vs zero at some t = absurd (some refl)
+passes_now vs (suc n) at some t = and_left _ _ t

@@ -30,10 +30,10 @@ holds_some k line e = by_option (column_number (field k line)) e
     by_option None e = absurd cc
     by_option (Some z) e = refl
 
-number_held : (k : ℕ) (line : List ℕ) (z : ℤ) → Holds k line z → number_in k line ≡ z
+pub number_held : (k : ℕ) (line : List ℕ) (z : ℤ) → Holds k line z → number_in k line ≡ z
 number_held k line z h = ap (λ (o : Option ℤ). unwrap_or o (pos 0)) h
 
-some_held : (k : ℕ) (line : List ℕ) (z : ℤ) → Holds k line z → is_some (column_number (field k line)) ≡ true
+pub some_held : (k : ℕ) (line : List ℕ) (z : ℤ) → Holds k line z → is_some (column_number (field k line)) ≡ true
 some_held k line z h = ap (λ (o : Option ℤ). is_some o) h
 
 -- ---- an entry by its numbers
@@ -50,7 +50,7 @@ same_placed : {a b c d e f g h i j k a' b' c' d' e' f' g' h' i' j' k' m n m' n' 
     → placed_of a b c d e f g h i j k s l m n ≡ placed_of a' b' c' d' e' f' g' h' i' j' k' s' l' m' n'
 same_placed p1 p2 p3 p4 p5 p6 p7 p8 p9 p10 p11 p12 p13 p14 p15 = cc
 
-entry-IsEntry : (first second : List ℕ) (p : Placed) → IsEntry first second p → entry_of first second ≡ p
+pub entry-IsEntry : (first second : List ℕ) (p : Placed) → IsEntry first second p → entry_of first second ≡ p
 unfolding placed_of
 entry-IsEntry first second p h = same_placed
     (number_held 1 first _ h.kind) (number_held 3 first _ h.structure) (number_held 4 first _ h.font) (number_held 5 first _ h.level) (number_held 6 first _ h.view) (number_held 7 first _ h.matrix) (number_held 8 first _ h.display)
@@ -103,7 +103,7 @@ module _ (n : ℕ) (first second : List ℕ) where
         u.1.1.0,
       )
 
-  entry_two : (p : Placed) → IsEntry first second p → IsTrue (has_record n p.entry.kind p.first p.count)
+  pub entry_two : (p : Placed) → IsEntry first second p → IsTrue (has_record n p.entry.kind p.first p.count)
       → (first_failing (first_tests false first) ≡ None) × (first_failing (second_tests n first second) ≡ None)
   entry_two p h range =
       let f = λ (k : ℕ) (z : ℤ) (e : Holds k first z). some_held k first z e in

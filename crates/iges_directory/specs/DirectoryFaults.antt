@@ -18,16 +18,22 @@ number_in k line = unwrap_or (column_number (field k line)) (pos 0)
 abbrev pub are_numbers : List ℕ → List ℕ → Bool
 are_numbers ks line = list_all (λ k. is_some (column_number (field k line))) ks
 
+-- the fields of an entry's first line are right
+abbrev pub first_fields : List ℕ → Bool
+first_fields line = are_numbers (1 ∷ 2 ∷ 3 ∷ 4 ∷ 5 ∷ 6 ∷ 7 ∷ 8 ∷ []) line && list_all is_ascii_digit (status_of (field 9 line))
+
+-- the fields of its second line are right; the reserved ones and the label may be any
+abbrev pub second_fields : List ℕ → Bool
+second_fields line = are_numbers (1 ∷ 2 ∷ 3 ∷ 4 ∷ 5 ∷ 9 ∷ []) line
+
 -- the tests of an entry's first line; only the last line of a directory has none behind it
 abbrev pub first_tests : Bool → List ℕ → List (Bool × Reason)
-first_tests is_last line =
-    (not is_last, Unpaired) ∷
-    (are_numbers (1 ∷ 2 ∷ 3 ∷ 4 ∷ 5 ∷ 6 ∷ 7 ∷ 8 ∷ []) line && list_all is_ascii_digit (status_of (field 9 line)), Field) ∷ []
+first_tests is_last line = (not is_last, Unpaired) ∷ (first_fields line, Field) ∷ []
 
 -- the tests of its second line, among n P lines
 abbrev pub second_tests : ℕ → List ℕ → List ℕ → List (Bool × Reason)
 second_tests n first second =
-    (are_numbers (1 ∷ 2 ∷ 3 ∷ 4 ∷ 5 ∷ 9 ∷ []) second, Field) ∷
+    (second_fields second, Field) ∷
     (int_eq (number_in 1 first) (number_in 1 second), TypesDiffer) ∷
     (has_record n (number_in 1 first) (number_in 2 first) (number_in 4 second), Range) ∷ []
 

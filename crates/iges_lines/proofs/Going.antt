@@ -1,27 +1,31 @@
 -- One line after the other is the reading of the sections.
-use Rattle.std.proofs.Common.{◌≡◌, inl, inr, ℕ, IfOk, ◌+◌, ◌*◌, ◌<◌, ◌≤◌, Bool, true, false, cond, ◌||◌, List, [], ◌∷◌, ◌++◌, length, Some, None, Result, Ok, Err, refl, sym, ap, subst, ◌∙◌, append_assoc, arith, length-append}
-use Rattle.std.specs.Prelude.{◌==◌}
-use Rattle.std.proofs.lemmas.Bool.{cases_Bool, cond-true, cond-false, cases_order, ne_eqb, eqb-true}
+use Rattle.std.proofs.Common.{◌≡◌, inl, inr, ℕ, suc, ◌+◌, ◌<◌, ◌≤◌, Bool, true, false, cond, ◌||◌, List, [], ◌∷◌, ◌++◌, length, drop, Some, None, Result, Ok, Err, refl, sym, ap, subst, ◌∙◌, append_assoc, arith, length-append}
+use Rattle.std.specs.Prelude.{◌==◌, nat_lt}
+use Rattle.std.specs.List.{list_all}
+use Rattle.std.proofs.lemmas.Bool.{and_parts, cases_order, ne_eqb, eqb-true}
 use Rattle.std.proofs.lemmas.List.{append-nil}
 use Rattle.std.proofs.lemmas.List.Elements.{filter-append}
 use Rattle.std.proofs.lemmas.List.Folds.{list_any-append}
+use Rattle.iges_fields.specs.Word.{is_empty}
 use Rattle.iges_fields.specs.First.{first_failing}
 use Rattle.iges_fields.proofs.Items.{passes}
 use Rattle.iges_lines.specs.declared.reason.Reason.{Reason}
 use Rattle.iges_lines.specs.declared.reason.Reason.TheVariants.{Missing, After}
+use Rattle.iges_lines.specs.declared.fault.LineFault.{LineFault}
 use Rattle.iges_lines.specs.declared.fault.PassFault.TheVariants as faults
 use Rattle.iges_lines.specs.declared.fault.PassFault.{PassFault}
 use Rattle.iges_lines.specs.declared.kind.Kind.{Kind}
 use Rattle.iges_lines.specs.declared.kind.Kind.TheVariants as kind
-use Rattle.iges_lines.specs.Judged.{tests_behind, IsAdded}
-use Rattle.iges_lines.specs.Gives.{Gives, IfBad}
+use Rattle.iges_lines.specs.Judged.{tests_behind, IsAdded, MayBeAdded}
+use Rattle.iges_lines.specs.Gives.{Fails, Gives, IfBad}
 use Rattle.iges_lines.specs.Kinds.{IsKind, added, is_last}
-use Rattle.iges_lines.specs.Lines.{SectionLines, lines, letter}
-use Rattle.iges_lines.specs.LineFaults.{of_letter, sections_of, line_tests, is_terminated, fault_behind, line_fault, IsLineFault}
+use Rattle.iges_lines.specs.Lines.{SectionLines, sections, lines, letter}
+use Rattle.iges_lines.specs.LineFaults.{section_place, of_letter, sections_of, line_tests, is_terminated, fault_behind, line_fault, IsLineFault}
 use Rattle.iges_lines.specs.Reading.{sections_unless, read_sections}
-use Rattle.iges_lines.specs.Sectioned.{is_blank, IsSectioned}
-use Rattle.iges_lines.proofs.Exact.{read_sections-IsSectioned, read_sections-IsLineFault}
+use Rattle.iges_lines.specs.Sectioned.{is_blank}
+use Rattle.iges_lines.proofs.Exact.{read_sections-IsLineFault}
 use Rattle.iges_lines.proofs.First.{first_from-faultless, first_from-at}
+use Rattle.iges_lines.proofs.SixTests.{place_is}
 use Rattle.iges_lines.proofs.Walk.{blank_letter, fault_at_line, fault_past}
 
 abbrev Lines : Type 0
@@ -73,16 +77,6 @@ blank_line before l e =
     let no = λ (x : ℕ) (a : (x == 32) ≡ false) (b : (x == 13) ≡ false) (c : (x == 0) ≡ false). not_more x (letter l) before l refl (blank_letter x l e a b c) in
     all_four (no 83 refl refl refl) (no 71 refl refl refl) (no 68 refl refl refl) (no 80 refl refl refl)
 
--- a section has no more lines than there are
-few_lines : (x : ℕ) (ls : Lines) → length (of_letter x ls) ≤ length ls
-few_lines x [] = omega arith
-few_lines x (l ∷ ls) =
-    let more = few_lines x ls in
-    elim (cases_Bool (letter l == x)) [
-      | inl e ↦ omega (arith, more, ap length (cond-true (letter l == x) (l ∷ of_letter x ls) (of_letter x ls) e))
-      | inr e ↦ omega (arith, more, ap length (cond-false (letter l == x) (l ∷ of_letter x ls) (of_letter x ls) e))
-    ]
-
 -- ---- the loop
 
 -- these lines have gone, n is the number of the next, and this is what is known of them
@@ -98,11 +92,6 @@ pub gone_none : (bytes : List ℕ) (s : SectionLines) → s ≡ record_of [] [] 
 gone_none bytes s is = record { before = []; whole = refl; count = refl; passed = λ j h. absurd (omega arith); sections_are = is; terminated = refl }
 
 module _ (bytes rest : List ℕ) (n : ℕ) (s : SectionLines) (t : Bool) (gone : IsGone bytes rest n s t) where
-  pub gone_few : length s.start + length s.global + length s.directory + length s.param ≤ 4 * n
-  gone_few =
-      subst (λ (x : SectionLines). length x.start + length x.global + length x.directory + length x.param ≤ 4 * n) (sym gone.sections_are)
-      (let c = gone.count in omega (arith, few_lines 83 gone.before, few_lines 71 gone.before, few_lines 68 gone.before, few_lines 80 gone.before, c))
-
   tests_are : (line : List ℕ) → first_failing (tests_behind t s line) ≡ fault_behind gone.before (Some line)
   tests_are line =
       ap (λ (x : SectionLines). first_failing (tests_behind t x line)) gone.sections_are ∙ ap (λ (u : Bool). first_failing (tests_behind u (sections_of gone.before) line)) gone.terminated
@@ -120,10 +109,13 @@ module _ (bytes rest : List ℕ) (n : ℕ) (s : SectionLines) (t : Bool) (gone :
       (here line more is ∙ sym e) (λ j low h. gone.passed j h))
       ∙ ap (λ (k : ℕ). Err (record { line = k; reason = r })) (sym gone.count)
 
-  pub gone_long : (line : List ℕ) → None ≡ first_failing (tests_behind t s line) → t ≡ false → length line ≡ 80
-  gone_long line none open_still =
-      let p = passes (line_tests s line) (ap (λ (u : Bool). first_failing (tests_behind u s line)) (sym open_still) ∙ sym none) in
-      eqb-true (length line) 80 p.1.0
+  pub gone_may : (line : List ℕ) → None ≡ first_failing (tests_behind t s line) → t ≡ false → MayBeAdded s line
+  gone_may line none open_still =
+      let p = passes (line_tests s line) (ap (λ (u : Bool). first_failing (tests_behind u s line)) (sym open_still) ∙ sym none) in (
+        eqb-true (length line) 80 p.1.0,
+        λ k is. ap (λ (n : ℕ). list_all is_empty (drop (suc n) (sections s))) (place_is k (letter line) is)
+            ∙ (and_parts (nat_lt (section_place (letter line)) 5) (list_all is_empty (drop (suc (section_place (letter line))) (sections s))) p.1.1.0).1,
+      )
 
   added_by : (line : List ℕ) (new : SectionLines) (now u : Bool) → t ≡ u → None ≡ first_failing (tests_behind t s line) → IsAdded s u line new now
       → (new ≡ sections_of (gone.before ++ line ∷ [])) × (now ≡ is_terminated (gone.before ++ line ∷ []))
@@ -197,14 +189,9 @@ module _ (bytes rest : List ℕ) (n : ℕ) (s : SectionLines) (t : Bool) (gone :
 
 -- ---- the public clauses
 
-abbrev Answered : Type 0
-Answered = Result SectionLines PassFault
+pub left_fault : (bytes : List ℕ) (e : PassFault) → Fails e (read_sections bytes) → IfBad {X = SectionLines} (Err e) (IsLineFault bytes)
+left_fault bytes (faults.Bad f) h = read_sections-IsLineFault bytes f h
+left_fault bytes faults.NoMemory h = tt
 
-pub found_from : (bytes : List ℕ) (r : Answered) → Gives r (read_sections bytes) → IfOk r (IsSectioned bytes)
-found_from bytes (Ok s) g = read_sections-IsSectioned bytes s g
-found_from bytes (Err e) g = tt
-
-pub fault_from : (bytes : List ℕ) (r : Answered) → Gives r (read_sections bytes) → IfBad r (IsLineFault bytes)
-fault_from bytes (Ok s) g = tt
-fault_from bytes (Err (faults.Bad f)) g = read_sections-IsLineFault bytes f g
-fault_from bytes (Err faults.NoMemory) g = tt
+pub left_as : (bytes : List ℕ) (e : PassFault) (r : Result SectionLines LineFault) → read_sections bytes ≡ r → Fails e (read_sections bytes) → Gives {Y = SectionLines} (Err e) r
+left_as bytes e r is h = subst (Fails e) is h

@@ -1,9 +1,7 @@
 -- Lines of one width, one behind the other.
 use Rattle.std.proofs.Common.{◌≡◌, ℕ, zero, suc, ◌+◌, ◌*◌, ◌<◌, ◌≤◌, List, [], ◌∷◌, ◌++◌, length, take, drop, Some, None, refl, sym, ap, subst, ◌∙◌, arith, length-drop}
-use Rattle.std.specs.Prelude.{slice_get, ◌==◌}
-use Rattle.std.proofs.lemmas.Bool.{eq-eqb, ne_eqb}
+use Rattle.std.specs.Prelude.{slice_get}
 use Rattle.std.proofs.lemmas.Option.{slice_get_past}
-use Rattle.iges_fields.specs.Word.{is_empty}
 use Rattle.std.proofs.lemmas.List.{take-append-le, drop-append-le, take_all, nil_from_length}
 use Rattle.std.proofs.Math.Nat.{suc-mul}
 use Rattle.iges_lines.specs.Rows.{rows}
@@ -54,13 +52,6 @@ row_from w n i text view is h from size from-is size-is =
 
 pub row_past : (w n i : ℕ) (text : List ℕ) (view : List (List ℕ)) → rows w n text ≡ view → n ≤ i → None ≡ slice_get view i
 row_past w n i text view is h = sym (slice_get_past view i (omega (arith, length-rows w n text, ap length is)))
-
-pub rows-empty : (w n : ℕ) (text : List ℕ) (view : List (List ℕ)) → rows w n text ≡ view → (n == 0) ≡ is_empty view
-rows-empty w n text view is = by_view view (sym (length-rows w n text) ∙ ap length is)
-  where
-    by_view : (v : List (List ℕ)) → n ≡ length v → (n == 0) ≡ is_empty v
-    by_view [] e = eq-eqb n 0 e
-    by_view (x ∷ v) e = ne_eqb n 0 (λ z. absurd (omega (arith, e, z)))
 
 pub rows-none : (w : ℕ) (text : List ℕ) → rows w 0 text ≡ []
 unfolding rows

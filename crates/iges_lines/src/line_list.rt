@@ -1,6 +1,5 @@
-ghost use Rattle.iges_fields.specs.Word.{is_empty};
 ghost use Rattle.iges_lines.specs.Rows.{rows};
-ghost use Rattle.std.specs.Prelude.{◌≡◌, ◌↔◌, ◌<◌, [], ◌∷◌, ◌++◌, OnOk, OnErr, length, slice_get, option_copied, IsSome, IfSome};
+ghost use Rattle.std.specs.Prelude.{◌≡◌, ◌↔◌, ◌<◌, ◌^◌, [], ◌∷◌, ◌++◌, IfOk, OnOk, OnErr, length, slice_get, option_copied, IsSome, IfSome};
 
 use iges_fields::NoMemory;
 use std::alloc::Global;
@@ -29,36 +28,26 @@ impl Model for LineList {
 }
 
 impl LineList {
-    pub fn new(alloc: Global) -> LineList
-        ensures { result ≡ [] }
+    /// No lines, with room for those that so many bytes can hold.
+    pub fn with_room(alloc: Global, bytes: usize) -> Result<LineList, NoMemory>
+        ensures { IfOk result (λ lines. lines ≡ []) }
     {
-        LineList {
-            text: Vec::new(alloc),
+        Ok(LineList {
+            text: Vec::with_capacity(alloc, bytes)?,
             count: 0,
-        }
+        })
     }
 
     /// Puts the line at the end.
     pub fn push(&mut self, line: &[u8]) -> Result<(), NoMemory>
         requires { length line.now ≡ 80 }
         ensures ok { OnOk result (self.new ≡ self.old ++ line.now ∷ []) }
+        ensures few { OnOk result (length self.new < 2 ^ 60) }
         ensures err { OnErr result (self.new ≡ self.old) }
     {
         self.text.extend_from_slice(line)?;
         self.count += 1;
         Ok(())
-    }
-
-    pub fn len(&self) -> usize
-        ensures { result ≡ length self.now }
-    {
-        self.count
-    }
-
-    pub fn is_empty(&self) -> bool
-        ensures { result ≡ is_empty self.now }
-    {
-        self.count == 0
     }
 
     /// The line at a place, from 0.

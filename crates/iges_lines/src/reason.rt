@@ -5,7 +5,7 @@ ghost use Rattle.std.specs.Prelude.{◌≡◌};
 /// the directory, 12 to 14 of that over the global section, and 15 to 17 of that over the records.
 #[derive(Clone, Copy, Debug, PartialEq, Eq)]
 pub enum Reason {
-    /// The file is of the binary or of the compressed form (IGES 5.3, 2.1).
+    /// The file is of the binary or of the compressed form.
     NotFixed = 1,
     /// The line doesn't have 80 columns.
     Length = 2,

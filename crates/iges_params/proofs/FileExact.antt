@@ -24,22 +24,22 @@ use Rattle.iges_params.proofs.RecordsExact.{read_records-AreRecords, AreRecords-
 global_permitted : (s : SectionLines) (g : Global26) → GlobalText (global_text s) g → are_permitted g.delims ≡ true
 global_permitted s g t = ap are_permitted t.delims ∙ permitted (global_text s) t.start t.head_is
 
-abbrev above : SectionLines → ℕ
+abbrev pub above : SectionLines → ℕ
 above s = length s.start + length s.global + length s.directory
 
-abbrev Records : Type 0
+abbrev pub Records : Type 0
 Records = List (Entry × List Value)
 
-made : SectionLines → Global26 → Records → Read Contents
+unfoldable pub made : SectionLines → Global26 → Records → Read Contents
 made s g es = Ok (record { start = map (columns 1 72) s.start; global = g; entries = es })
 
-after_directory : SectionLines → Global26 → List Placed → Read Contents
+unfoldable pub after_directory : SectionLines → Global26 → List Placed → Read Contents
 after_directory s g ps = read_records (above s) s.param g.delims 1 ps >>= made s g
 
-after_global : SectionLines → Global26 → Read Contents
+unfoldable pub after_global : SectionLines → Global26 → Read Contents
 after_global s g = read_directory s >>= after_directory s g
 
-after_sections : SectionLines → Read Contents
+unfoldable pub after_sections : SectionLines → Read Contents
 after_sections s = read_global s >>= after_global s
 
 pub read_file-IsFile : (bytes : List ℕ) (f : Contents) → read_file bytes ≡ Ok f → IsFile bytes f

@@ -11,6 +11,8 @@ use Rattle.iges_lines.specs.declared.reason.Reason.{Reason}
 use Rattle.iges_lines.specs.declared.reason.Reason.TheVariants.{Delimiter, GlobalValue, GlobalKind}
 use Rattle.iges_lines.specs.Lines.{SectionLines, columns}
 use Rattle.iges_params.specs.declared.global.Global26.{Global26}
+use Rattle.iges_params.specs.declared.kinds.Kind.{Kind}
+use Rattle.iges_params.specs.declared.kinds.Kind.TheVariants.{Text, Integer, Real}
 
 -- ---- the delimiters
 
@@ -57,22 +59,19 @@ head text = if_permitted (any_head text)
 
 -- ---- the kinds
 
-pub data Kind : Type 0 where
-  string integer real : Kind
-
 -- the kinds of the parameters 3 to 26
 abbrev pub kinds : List Kind
 kinds =
-    string ∷ string ∷ string ∷ string ∷ integer ∷ integer ∷ integer ∷ integer ∷ integer ∷ string ∷ real ∷ integer ∷
-    string ∷ integer ∷ real ∷ string ∷ real ∷ real ∷ string ∷ string ∷ integer ∷ integer ∷ string ∷ string ∷ []
+    Text ∷ Text ∷ Text ∷ Text ∷ Integer ∷ Integer ∷ Integer ∷ Integer ∷ Integer ∷ Text ∷ Real ∷ Integer ∷
+    Text ∷ Integer ∷ Real ∷ Text ∷ Real ∷ Real ∷ Text ∷ Text ∷ Integer ∷ Integer ∷ Text ∷ Text ∷ []
 
 -- A value that is left out has any kind, and an integer stands for a real too.
 abbrev pub has_kind : Kind → Value → Bool
 has_kind kind value.Default = true
-has_kind string (value.Text t) = true
-has_kind integer (value.Int n) = true
-has_kind real (value.Int n) = true
-has_kind real (value.Real spelling) = true
+has_kind Text (value.Text t) = true
+has_kind Integer (value.Int n) = true
+has_kind Real (value.Int n) = true
+has_kind Real (value.Real spelling) = true
 has_kind _ _ = false
 
 abbrev pub have_kinds : List Value → Bool

@@ -7,3 +7,5 @@ pub mod Records
 pub mod IsFile
 pub mod Refusal
 pub mod Reading
+pub mod Heads
+pub mod Parts

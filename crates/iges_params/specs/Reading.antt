@@ -27,6 +27,10 @@ abbrev pub at_line : {X : Type 0} → ℕ → ℕ → List ℕ → ℕ → Reaso
 at_line first width text before reason (Ok x) = Ok x
 at_line first width text before reason (Err fault) = fault_at (first + line_of_byte width text (before + fault.at)) reason
 
+-- the values of a text that stands at the end of these columns, in lines of this width, the first of which has this number
+unfoldable pub read_passage : ℕ → ℕ → List ℕ → Reason → Delims → List ℕ → Result (List Value) LineFault
+read_passage first width columns reason d text = at_line first width columns (length columns - length text) reason (read_values d text) >>= λ x. Ok x.0
+
 abbrev pub with_kinds : ℕ → Delims → List Value → Result Global26 LineFault
 with_kinds first d values = if have_kinds values then Ok (record { delims = d; values = values }) else fault_at first GlobalKind
 
@@ -34,6 +38,11 @@ with_kinds first d values = if have_kinds values then Ok (record { delims = d; v
 abbrev pub global_with : ℕ → List ℕ → Delims → Option (List ℕ) → Result Global26 LineFault
 global_with first text d None = with_kinds first d []
 global_with first text d (Some rest) = at_line first 72 text (length text - length rest) GlobalValue (read_values d rest) >>= λ x. with_kinds first d x.0
+
+-- the values behind a head
+abbrev pub head_values : ℕ → List ℕ → Delims → Option (List ℕ) → Result (List Value) LineFault
+head_values first text d None = Ok []
+head_values first text d (Some rest) = read_passage first 72 text GlobalValue d rest
 
 abbrev pub global_of_head : ℕ → List ℕ → Option Head → Result Global26 LineFault
 global_of_head first text None = fault_at first Delimiter
@@ -57,12 +66,28 @@ read_record above params d number p =
     if int_eq p.entry.kind (pos 0) then Ok []
     else values_unless params d (above + unsigned_abs p.first) p (position_from (λ l. not (points_back number l)) 0 (record_lines params p))
 
+-- how many lines stand before the P lines
+abbrev pub above : SectionLines → ℕ
+above s = length s.start + length s.global + length s.directory
+
+-- the same, for an entry that isn't of type 0
+unfoldable pub used_values : SectionLines → Delims → ℕ → Placed → Result (List Value) LineFault
+used_values s d number p = values_unless s.param d (above s + unsigned_abs p.first) p (position_from (λ l. not (points_back number l)) 0 (record_lines s.param p))
+
 unfoldable pub read_records : ℕ → List (List ℕ) → Delims → ℕ → List Placed → Result (List (Entry × List Value)) LineFault
 read_records above params d number [] = Ok []
 read_records above params d number (p ∷ ps) = do
   values ← read_record above params d number p
   others ← read_records above params d (number + 2) ps
   Ok ((p.entry, values) ∷ others)
+
+-- the file with these entries
+abbrev pub with_entries : Contents → List (Entry × List Value) → Result Contents LineFault
+with_entries f entries = Ok (record { start = f.start; global = f.global; entries = entries })
+
+-- the file with the entries and the values of their records
+abbrev pub read_entries : SectionLines → Contents → List Placed → Result Contents LineFault
+read_entries s f placed = read_records (above s) s.param f.global.delims 1 placed >>= with_entries f
 
 unfoldable pub read_file : List ℕ → Result Contents LineFault
 read_file bytes = do

@@ -87,6 +87,14 @@ impl File {
         Ok(())
     }
 
+    // Takes the room for so many entries more.
+    pub(crate) fn reserve(&mut self, entries: usize) -> Result<(), NoMemory>
+        ensures { self.new ≡ self.old }
+    {
+        self.entries.reserve_exact(entries)?;
+        Ok(())
+    }
+
     /// How many start lines there are.
     pub fn start_count(&self) -> usize
         ensures is { result ≡ length self.now.start }

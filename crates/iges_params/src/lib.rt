@@ -4,11 +4,20 @@
 mod fault;
 mod file;
 mod global;
+mod global_pass;
+mod head;
+mod kinds;
 mod law;
+mod part;
+mod passage;
 mod reading;
+mod record;
 
 pub use fault::ReadFileFault;
 pub use file::File;
 pub use global::Global26;
 pub use law::every_text_has_one_reading;
 pub use reading::read_file;
+
+#[cfg(test)]
+mod tests;

@@ -1,17 +1,80 @@
+ghost use Rattle.iges_directory.specs.Entries.{AreEntries};
+ghost use Rattle.iges_fields.specs.Delims.{are_permitted};
 ghost use Rattle.iges_fields.specs.declared.TheConstants.{FILE_LIMIT};
 ghost use Rattle.iges_lines.specs.declared.fault.LineFault.{LineFault};
-ghost use Rattle.iges_params.specs.Contents.{Contents};
-ghost use Rattle.iges_params.specs.IsFile.{IsFile};
 ghost use Rattle.iges_lines.specs.Gives.{Gives, IfBad};
+ghost use Rattle.iges_lines.specs.Lines.{columns};
+ghost use Rattle.iges_lines.specs.Sectioned.{AreSections};
+ghost use Rattle.iges_params.specs.Contents.{Contents};
+ghost use Rattle.iges_params.specs.Global.{have_kinds};
+ghost use Rattle.iges_params.specs.IsFile.{IsFile};
+ghost use Rattle.iges_params.specs.Reading.{read_entries, read_file};
 ghost use Rattle.iges_params.specs.Refusal.{Refusal};
-ghost use Rattle.std.specs.Prelude.{◌≤◌, IfOk, length};
+ghost use Rattle.std.specs.Prelude.{◌≡◌, ◌≤◌, [], IfOk, IsTrue, length, map};
 
 use crate::fault::ReadFileFault;
 use crate::file::File;
-use iges_fields::FILE_LIMIT;
+use crate::global::Global26;
+use crate::global_pass::read_global;
+use crate::record::read_record;
+use iges_directory::{Directory, directory};
+use iges_fields::{FILE_LIMIT, NoMemory};
+use iges_lines::{Sections, columns, sections};
 use std::alloc::Global;
 
-/// The file that the bytes are.
+// A file of the start lines and the global.
+fn begun(alloc: Global, lines: &Sections, global: Global26) -> Result<File, NoMemory>
+    requires { IsTrue (have_kinds global.values) }
+    ensures { IfOk result (λ f. f ≡ record { start = map (columns 1 72) lines.now.start; global = global; entries = [] }) }
+{
+    let count = lines.start_count();
+    let first = lines.start(0).unwrap();
+    let mut file = File::new(alloc, columns(first, 1, 72), global)?;
+    'lines: for i in 1..count {
+        let line = lines.start(i).unwrap();
+        file.push_start(columns(line, 1, 72))?;
+    }
+    Ok(file)
+}
+
+// The file with the entries and the values of their records. The text of each record is put in place of `text`.
+fn filled(
+    alloc: Global,
+    lines: &Sections,
+    entries: &Directory,
+    mut file: File,
+    text: &mut Vec<u8>,
+) -> Result<File, ReadFileFault>
+    requires sections { AreSections lines.now }
+    requires entries { AreEntries (length lines.now.param) lines.now.directory entries.now }
+    requires permitted { IsTrue (are_permitted file.global.delims) }
+    requires empty { file.entries ≡ [] }
+    ensures { Gives result (read_entries lines.now file entries.now) }
+{
+    let delims = file.global().delims;
+    file.reserve(entries.count())?;
+    'entries: for i in 0..entries.count() {
+        let placed = entries.placed_at(i).unwrap();
+        let values = read_record(alloc, lines, delims, 2 * i + 1, placed, text)?;
+        file.push(placed.entry, values)?;
+    }
+    Ok(file)
+}
+
+fn read(alloc: Global, bytes: &[u8]) -> Result<File, ReadFileFault>
+    requires { length bytes.now ≤ FILE_LIMIT }
+    ensures { Gives result (read_file bytes.now) }
+{
+    let lines = sections(alloc, bytes)?;
+    let mut text = Vec::new(alloc);
+    let global = read_global(alloc, &lines, &mut text)?;
+    let entries = directory(alloc, &lines)?;
+    let file = begun(alloc, &lines, global)?;
+    filled(alloc, &lines, &entries, file, &mut text)
+}
+
+/// The file that the bytes are: the lines by section, the global, the directory and the records are read in this order
+/// (own), and the first fault of the first pass that fails is told, with its line in the file.
 pub fn read_file(alloc: Global, bytes: &[u8]) -> Result<File, ReadFileFault>
     requires { length bytes.now ≤ FILE_LIMIT }
     ensures found { IfOk result (IsFile bytes.now) }
@@ -19,5 +82,5 @@ pub fn read_file(alloc: Global, bytes: &[u8]) -> Result<File, ReadFileFault>
     ensures fault { IfBad result (Refusal bytes.now) }
     ensures only_fault { (fault : LineFault) → Refusal bytes.now fault → Gives {Y = Contents} result (Err fault) }
 {
-    Err(ReadFileFault::NoMemory)
+    read(alloc, bytes)
 }

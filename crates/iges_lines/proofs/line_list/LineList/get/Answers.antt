@@ -1,4 +1,4 @@
-use Rattle.std.proofs.Common.{◌≡◌, length, arith, refl}
+use Rattle.std.proofs.Common.{arith, refl}
 use Rattle.iges_lines.proofs.RowLists.{row_from, row_past, rows-count}
 use Rattle.iges_lines.proofs.line_list.LineList.get.Goals as goal
 

@@ -1,8 +1,5 @@
-use Rattle.std.proofs.Common.{◌≡◌, ◌∙◌, sym, ap, pos, arith, subst, length, Some, ℤ, List}
+use Rattle.std.proofs.Common.{◌≡◌, ap, pos, arith, ℤ}
 use Rattle.std.proofs.lemmas.Option.{slice_get_read}
-use Rattle.iges_fields.specs.declared.value.Value.{Value}
-use Rattle.iges_directory.specs.declared.entry.Entry.{Entry}
-use Rattle.iges_directory.specs.Named.{named_in}
 use Rattle.iges_params.specs.Named.{kind_of}
 use Rattle.iges_params.proofs.NamedEntries.{named_used}
 use Rattle.iges_params.proofs.file.File.record.Goals as goal

@@ -1,0 +1,14 @@
+//! Laws of records.
+
+ghost use Rattle.brep_lists.specs.OwnValues.{RecordsAreDecided};
+ghost use Rattle.brep_lists.specs.Record.{FitsOnlyRead};
+
+/// A record tells no other items than those that stand in the places of its layout.
+pub fn items_are_one()
+    ensures { FitsOnlyRead }
+{}
+
+/// Whether a record fits a kind of entity can be tested.
+pub fn records_are_decided()
+    ensures { RecordsAreDecided }
+{}

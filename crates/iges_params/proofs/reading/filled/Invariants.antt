@@ -1,0 +1,5 @@
+use Rattle.iges_params.proofs.EntryPass.{ArePut}
+use Rattle.iges_params.proofs.reading.filled.Given as goal
+
+abbrev pub invariant-entries : goal.invariant-entries
+invariant-entries l = ArePut l.lines l.entries l.fn.file l.file l.i

@@ -1,0 +1,62 @@
+ghost use Rattle.iges_fields.specs.Delims.{are_permitted};
+ghost use Rattle.iges_fields.specs.InLine.{is_in_line};
+ghost use Rattle.iges_lines.specs.Gives.{Gives};
+ghost use Rattle.iges_params.specs.Global.{line_of_byte};
+ghost use Rattle.iges_params.specs.Reading.{read_passage};
+ghost use Rattle.std.specs.Prelude.{◌≡◌, ◌+◌, ◌-◌, ◌<◌, ◌≤◌, ◌^◌, IsTrue, length};
+
+use iges_fields::{Delimiters, Values, ValuesFault, values};
+use iges_lines::{LineFault, PassFault, Reason};
+use std::alloc::Global;
+
+/// A free text at the end of the columns that it stands in, which are joined line by line.
+#[derive(Clone, Copy, Debug)]
+pub struct Passage<'t> {
+    pub columns: &'t [u8],
+    pub text: &'t [u8],
+    /// The number of the first line in the file, from 1.
+    pub first: u64,
+    /// The bytes of each line.
+    pub width: usize,
+}
+
+/// A line's fault.
+pub fn bad(line: u64, reason: Reason) -> PassFault
+    ensures { result ≡ PassFault.Bad (record { line = line; reason = reason }) }
+{
+    PassFault::Bad(LineFault { line, reason })
+}
+
+// The number of the line in the file that holds a byte of the text, and that of the last line for the text's end.
+fn line_of(passage: &Passage<'_>, at: usize) -> u64
+    requires width { 0 < passage.now.width }
+    requires end { length passage.now.text.now ≤ length passage.now.columns.now }
+    requires within { at ≤ length passage.now.text.now }
+    requires few { passage.now.first + length passage.now.columns.now < 2 ^ 64 }
+    ensures { result ≡ passage.now.first + line_of_byte passage.now.width passage.now.columns.now (length passage.now.columns.now - length passage.now.text.now + at) }
+{
+    let place = passage.columns.len() - passage.text.len() + at;
+    let last = (passage.columns.len() / passage.width).saturating_sub(1);
+    passage.first + (place / passage.width).min(last) as u64
+}
+
+/// The values that the text begins with, or the line of its fault, for this reason.
+pub fn passage_values(
+    alloc: Global,
+    passage: &Passage<'_>,
+    delims: Delimiters,
+    reason: Reason,
+) -> Result<Values, PassFault>
+    requires permitted { IsTrue (are_permitted delims) }
+    requires in_line { IsTrue (is_in_line passage.now.text.now) }
+    requires width { 0 < passage.now.width }
+    requires end { length passage.now.text.now ≤ length passage.now.columns.now }
+    requires few { passage.now.first + length passage.now.columns.now < 2 ^ 64 }
+    ensures { Gives result (read_passage passage.now.first passage.now.width passage.now.columns.now reason delims passage.now.text.now) }
+{
+    match values(alloc, passage.text, delims) {
+        Ok((values, _)) => Ok(values),
+        Err(ValuesFault::Field(fault)) => Err(bad(line_of(passage, fault.at), reason)),
+        Err(ValuesFault::NoMemory) => Err(PassFault::NoMemory),
+    }
+}

@@ -1,0 +1,135 @@
+ghost use Rattle.iges_directory.specs.Entries.{has_record};
+ghost use Rattle.iges_fields.specs.Delims.{are_permitted};
+ghost use Rattle.iges_fields.specs.declared.TheConstants.{FILE_LIMIT};
+ghost use Rattle.iges_lines.specs.Gives.{Gives};
+ghost use Rattle.iges_params.specs.Reading.{above, read_record, used_values, without_type};
+ghost use Rattle.iges_params.specs.Records.{is_number, points_back, record_lines};
+ghost use Rattle.std.specs.List.{position_from};
+ghost use Rattle.std.specs.Ordering.{int_eq};
+ghost use Rattle.std.specs.Prelude.{◌≡◌, ◌+◌, ◌-◌, ◌*◌, ◌<◌, ◌≤◌, ◌^◌, IfSome, IsTrue, length, not, pos, slice_range, unsigned_abs};
+
+use crate::part::{Part, put_text};
+use crate::passage::{Passage, bad, passage_values};
+use iges_directory::{Entry, Placed};
+use iges_fields::{Delimiters, FILE_LIMIT, Value, Values};
+use iges_lines::{PassFault, Reason, Sections, columns, holds_number};
+use std::alloc::Global;
+
+// The first of so many parameter lines, from a place on, that doesn't carry the number of the entry, counted from 0.
+fn first_foreign(sections: &Sections, from: usize, count: usize, number: usize) -> Option<usize>
+    requires within { from + count ≤ length sections.now.param }
+    requires few { from + count < 2 ^ 64 }
+    requires number { number < 2 ^ 63 }
+    ensures place { result ≡ position_from (λ l. not (points_back number l)) 0 (slice_range sections.now.param from (from + count)) }
+    ensures within { IfSome result (λ i. i < count) }
+{
+    'lines: for i in 0..count {
+        let Some(line) = sections.param(from + i) else {
+            unreachable!();
+        };
+        if !holds_number(columns(line, 66, 72), number) {
+            return Some(i);
+        }
+    }
+    None
+}
+
+// Whether the value is this integer.
+fn is_number(n: &i64, value: &Value) -> bool
+    ensures { result ≡ is_number n.now value.now }
+{
+    match value {
+        Value::Int(m) => m == n,
+        _ => false,
+    }
+}
+
+// A record's values without the type number, which must come first.
+fn without_type(first: u64, kind: &i64, mut values: Values) -> Result<Values, PassFault>
+    ensures { Gives result (without_type first kind.now values) }
+{
+    let Some(number) = values.take_first() else {
+        return Err(bad(first, Reason::RecordType));
+    };
+    if !is_number(kind, &number) {
+        return Err(bad(first, Reason::RecordType));
+    }
+    values.shrink_to_fit();
+    Ok(values)
+}
+
+// How many lines stand above the parameter lines.
+fn lines_above(sections: &Sections) -> u64
+    ensures is { result ≡ length sections.now.start + length sections.now.global + length sections.now.directory }
+    ensures few { 80 * (result + length sections.now.param) ≤ FILE_LIMIT }
+{
+    (sections.start_count() + sections.global_count() + sections.directory_count()) as u64
+}
+
+// The magnitude of a number.
+fn magnitude(n: &i64) -> usize
+    ensures { result ≡ unsigned_abs n.now }
+{
+    n.unsigned_abs() as usize
+}
+
+// Whether the entry is of type 0.
+fn is_unused(entry: &Entry) -> bool
+    ensures { result ≡ int_eq entry.now.kind (pos 0) }
+{
+    entry.kind == 0
+}
+
+// The values of the record of an entry that isn't of type 0.
+fn used_values(
+    alloc: Global,
+    sections: &Sections,
+    delims: Delimiters,
+    number: usize,
+    placed: &Placed,
+    text: &mut Vec<u8>,
+) -> Result<Values, PassFault>
+    requires permitted { IsTrue (are_permitted delims) }
+    requires number { number < 2 ^ 63 }
+    requires first { 0 < unsigned_abs placed.now.first }
+    requires within { unsigned_abs placed.now.first - 1 + unsigned_abs placed.now.count ≤ length sections.now.param }
+    ensures { Gives result (used_values sections.now delims number placed.now) }
+{
+    let place = magnitude(&placed.first);
+    let count = magnitude(&placed.count);
+    let first = lines_above(sections) + place as u64;
+    if let Some(i) = first_foreign(sections, place - 1, count, number) {
+        return Err(bad(first + i as u64, Reason::BackPointer));
+    }
+    put_text(text, sections, Part::Param, 64, place - 1, count)?;
+    let columns = text.as_slice();
+    let passage = Passage {
+        columns,
+        text: columns,
+        first,
+        width: 64,
+    };
+    let values = passage_values(alloc, &passage, delims, Reason::RecordValue)?;
+    without_type(first, &placed.entry.kind, values)
+}
+
+/// The values of the record of the entry with this number, none for type 0. The record's text, columns 1 to 64 of its
+/// lines (IGES 5.3, 2.2.4.5), is put in place of `text`.
+pub fn read_record(
+    alloc: Global,
+    sections: &Sections,
+    delims: Delimiters,
+    number: usize,
+    placed: &Placed,
+    text: &mut Vec<u8>,
+) -> Result<Values, PassFault>
+    requires permitted { IsTrue (are_permitted delims) }
+    requires number { number < 2 ^ 63 }
+    requires record { IsTrue (has_record (length sections.now.param) placed.now.entry.kind placed.now.first placed.now.count) }
+    ensures { Gives result (read_record (above sections.now) sections.now.param delims number placed.now) }
+{
+    if is_unused(&placed.entry) {
+        return Ok(Values::new(alloc));
+    }
+    used_values(alloc, sections, delims, number, placed, text)
+}
