@@ -6,7 +6,8 @@ use std::test::Fail;
 
 // The sections of a file of one entry, whose second line has this type.
 fn one_entry(alloc: Global, kind: &[u8; 8]) -> Result<Sections, DirectoryFault> {
-    let mut text = *b"tiny                                                                    S      1\n1H,,1H;;                                                                G      1\n     186       1       0       0       0       0       0       000000000D      1\n     186       0       0       1       0                               0D      2\n186,0,1,0;                                                             1P      1\nS      1G      1D      2P      1                                        T      1\n";
+    let mut text =
+        *b"tiny                                                                    S      1\n1H,,1H;;                                                                G      1\n     186       1       0       0       0       0       0       000000000D      1\n     186       0       0       1       0                               0D      2\n186,0,1,0;                                                             1P      1\nS      1G      1D      2P      1                                        T      1\n";
     text[243..251].copy_from_slice(kind);
     sections(alloc, &text)
 }

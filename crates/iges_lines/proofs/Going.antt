@@ -187,6 +187,9 @@ module _ (bytes rest : List ℕ) (n : ℕ) (s : SectionLines) (t : Bool) (gone :
       ap (sections_unless ls) (first_from-faultless (line_fault ls) (length ls + 1) 0 (λ j low high. faultless h e j (omega arith)))
       ∙ ap (λ (x : Lines). Ok (sections_of x)) (lines_are h) ∙ ap (λ (x : SectionLines). Ok x) (sym gone.sections_are)
 
+pub none_left : (rest : List ℕ) (b : Bool) → b ≡ (length rest == 0) → b ≡ true → length rest ≤ 0
+none_left rest b is e = omega (arith, eqb-true (length rest) 0 (sym is ∙ e))
+
 -- ---- the public clauses
 
 pub left_fault : (bytes : List ℕ) (e : PassFault) → Fails e (read_sections bytes) → IfBad {X = SectionLines} (Err e) (IsLineFault bytes)

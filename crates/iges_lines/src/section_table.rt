@@ -159,8 +159,7 @@ impl SectionTable {
             Kind::Start => self.has_no_global() && self.has_no_directory() && self.has_no_param(),
             Kind::Global => self.has_no_directory() && self.has_no_param(),
             Kind::Directory => self.has_no_param(),
-            Kind::Param => true,
-            Kind::Terminate => true,
+            Kind::Param | Kind::Terminate => true,
             Kind::Other => false,
         }
     }
@@ -211,8 +210,7 @@ impl SectionTable {
             && has_count 68 self.now.directory (columns 17 24 line.now) && has_count 80 self.now.param (columns 25 32 line.now))) }
     {
         match kind {
-            Kind::Terminate => self.has_counts(line),
-            Kind::Other => self.has_counts(line),
+            Kind::Terminate | Kind::Other => self.has_counts(line),
             _ => true,
         }
     }

@@ -2,7 +2,7 @@ ghost use Rattle.iges_directory.specs.Bounds.{IsBounded};
 ghost use Rattle.iges_fields.specs.declared.TheConstants.{FILE_LIMIT};
 ghost use Rattle.iges_params.specs.Contents.{value_count};
 ghost use Rattle.iges_params.specs.Global.{have_kinds};
-ghost use Rattle.iges_params.specs.Made.{is_start_line};
+ghost use Rattle.iges_params.specs.Made.{IsMade, is_start_line};
 ghost use Rattle.iges_params.specs.Named.{named};
 ghost use Rattle.std.specs.Ordering.{int_eq};
 ghost use Rattle.std.specs.Prelude.{◌≡◌, ◌+◌, ◌<◌, ◌≤◌, [], ◌∷◌, ◌++◌, ◌↔◌, pos, IsSome, IsTrue, IfOk, IfSome, OnOk, OnErr, length, slice_get, option_copied, option_map};
@@ -48,7 +48,8 @@ fn start_line(line: &[u8]) -> [u8; WIDTH]
 }
 
 impl File {
-    /// A file with one start line and no entry.
+    /// A file with one start line, 72 bytes without LF, and no entry. The values of the global must be of their kinds
+    /// (IGES 5.3, 2.2.4.1 and 2.2.4.3). Where memory runs out, the global is dropped.
     pub fn new(alloc: Global, start: &[u8], global: Global26) -> Result<File, NoMemory>
         requires start { IsTrue (is_start_line start.now) }
         requires kinds { IsTrue (have_kinds global.values) }
@@ -63,7 +64,8 @@ impl File {
         })
     }
 
-    /// Puts a start line at the end of the start section.
+    /// Puts a start line, 72 bytes without LF, at the end of the start section (IGES 5.3, 2.2.4.1). Where memory runs
+    /// out, the file is as it was.
     pub fn push_start(&mut self, line: &[u8]) -> Result<(), NoMemory>
         requires { IsTrue (is_start_line line.now) }
         ensures ok { OnOk result (self.new ≡ record self.old { start = self.old.start ++ line.now ∷ [] }) }
@@ -73,8 +75,10 @@ impl File {
         Ok(())
     }
 
-    /// Puts an entry with the values of its record, without the type number, at the end. Where memory runs out, the
-    /// values are dropped.
+    /// Puts an entry with the values of its record, without the type number, at the end (IGES 5.3, 2.2.4.4 and
+    /// 2.2.4.5). The entry's fields must fit their columns; type 0 has no values; a file has at most 4,999,999 entries
+    /// and at most `FILE_LIMIT` values in all records together (own). Where memory runs out, the values are dropped and
+    /// the file is as it was.
     pub fn push(&mut self, entry: Entry, values: Values) -> Result<(), NoMemory>
         requires bounded { IsBounded entry }
         requires unused { IsTrue (int_eq entry.kind (pos 0)) → values ≡ [] }
@@ -99,6 +103,7 @@ impl File {
     pub fn start_count(&self) -> usize
         ensures is { result ≡ length self.now.start }
         ensures some { 0 < result }
+        ensures made { IsMade self.now }
     {
         self.start.len()
     }
@@ -115,6 +120,7 @@ impl File {
         Some(&self.start[i])
     }
 
+    /// The global, of which the values are of their kinds (IGES 5.3, 2.2.4.3).
     pub fn global(&self) -> &Global26
         ensures is { result.now ≡ self.now.global }
         ensures kinds { IsTrue (have_kinds self.now.global.values) }
@@ -126,6 +132,7 @@ impl File {
     pub fn entry_count(&self) -> usize
         ensures is { result ≡ length self.now.entries }
         ensures few { result ≤ 4_999_999 }
+        ensures made { IsMade self.now }
     {
         self.entries.len()
     }
@@ -159,8 +166,8 @@ impl File {
         }
     }
 
-    /// The entry that a number names: an odd one of a line of the directory, from 1, whose entry isn't of type 0. None
-    /// where it names none (IGES 5.3, 2.2.4.4; type 0 own).
+    /// The entry that a number names, which is that of its first line in the directory section, from 1 (IGES 5.3,
+    /// 2.2.4.4). None where it names none; an entry of type 0 has no name (own).
     pub fn entry(&self, no: EntryNo) -> Option<&Entry>
         ensures named { option_copied result ≡ option_map (λ e. e.0) (named self.now (pos no.0)) }
         ensures bounded { IfSome result (λ entry. IsBounded entry.now) }

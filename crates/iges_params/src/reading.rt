@@ -73,8 +73,9 @@ fn read(alloc: Global, bytes: &[u8]) -> Result<File, ReadFileFault>
     filled(alloc, &lines, &entries, file, &mut text)
 }
 
-/// The file that the bytes are: the lines by section, the global, the directory and the records are read in this order
-/// (own), and the first fault of the first pass that fails is told, with its line in the file.
+/// The file that the bytes are (IGES 5.3, 2.2.4). Lines, global, directory and records are read in this order, and the
+/// first fault of the first pass that fails is told, with its line in the file, from 1 (own). Parameter lines that no
+/// entry claims aren't read, and a value may cross a line (own).
 pub fn read_file(alloc: Global, bytes: &[u8]) -> Result<File, ReadFileFault>
     requires { length bytes.now ≤ FILE_LIMIT }
     ensures found { IfOk result (IsFile bytes.now) }
