@@ -1,0 +1,10 @@
+use Rattle.edge_uses.specs.ShellObligations.{solid_obligations}
+use Rattle.solid_data.proofs.ObligationLemmas.{FirstFalse-one}
+use Rattle.edge_uses.proofs.ClosedLemmas.{closed_is_all_hold}
+use Rattle.edge_uses.proofs.law.shells_are_definite.Goals as goal
+
+pub returns-clause-closed : goal.returns-clause-closed
+returns-clause-closed c = closed_is_all_hold
+
+pub returns-clause-one : goal.returns-clause-one
+returns-clause-one c s x y = FirstFalse-one (solid_obligations s) x y

@@ -1,0 +1,11 @@
+pub mod ShellRows
+pub mod Closed
+pub mod ShellObligations
+pub mod Ranges
+pub mod Before
+pub mod Joining
+pub mod Building
+pub mod Mates
+pub mod Tally
+pub mod Faults
+pub mod Balls

@@ -1,0 +1,32 @@
+//! The edge uses of a shell: which follow one another, which are mates, and what shells share.
+#![tactic(auto)]
+
+mod apart;
+mod before;
+mod building;
+mod fault;
+mod joining;
+mod law;
+mod occurring;
+mod paired;
+mod pairing;
+mod reading;
+mod row;
+mod spanning;
+mod table;
+mod tally;
+
+pub use apart::{first_shared, vertices_before};
+pub use before::VerticesBefore;
+pub use fault::PairFault;
+pub use joining::{Unjoined, first_unjoined};
+pub use law::shells_are_definite;
+pub use paired::Paired;
+pub use pairing::pair;
+pub use reading::rows;
+pub use row::Row;
+pub use spanning::Span;
+pub use table::Rows;
+
+#[cfg(test)]
+mod tests;

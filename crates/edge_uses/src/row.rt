@@ -1,0 +1,19 @@
+//! An edge use of a shell.
+
+use solid_data::{EdgeId, LoopAt, VertexId};
+use std::mem::size_of;
+
+/// An edge use of a shell. `along` is its direction after the flags of the loop's tuple, of the
+/// face in the shell, and of the shell in the solid: along the edge where an even number of them
+/// are false. `from` and `to` are the edge's vertices by that direction (IGES 5.3, 4.147, 4.149,
+/// 4.49).
+#[derive(Clone, Copy, Debug, PartialEq, Eq)]
+pub struct Row {
+    pub at: LoopAt,
+    pub edge: EdgeId,
+    pub along: bool,
+    pub from: VertexId,
+    pub to: VertexId,
+}
+
+const _: () = prove!(size_of::<Row>() == 24);

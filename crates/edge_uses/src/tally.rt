@@ -1,0 +1,83 @@
+//! How often each edge of a shell is run along and against.
+
+ghost use Rattle.std.specs.Prelude.{◌≡◌, ◌-◌, ◌<◌, ◌^◌, length, vec_len, IfOk};
+ghost use Rattle.std.specs.List.{AllByRecursion};
+ghost use Rattle.std.proofs.Common.{get_or};
+ghost use Rattle.edge_uses.specs.Ranges.{IsWithin};
+ghost use Rattle.edge_uses.specs.Tally.{unseen, seen_once_more, IsTally};
+
+use crate::row::Row;
+use crate::spanning::Span;
+use crate::table::Rows;
+use iges_fields::NoMemory;
+use std::alloc::Global;
+
+/// How often an edge was run along and against, and by which row last.
+#[derive(Clone, Copy)]
+pub struct Seen {
+    pub along: u32,
+    pub along_row: u32,
+    pub against: u32,
+    pub against_row: u32,
+}
+
+const UNSEEN: Seen = Seen {
+    along: 0,
+    along_row: 0,
+    against: 0,
+    against_row: 0,
+};
+
+/// What was seen of each edge of a range.
+#[derive(Drop)]
+pub struct Tally {
+    pub span: Span,
+    pub seen: Vec<Seen>,
+    ghost long: { length seen.items ≡ span.count },
+}
+
+fn once_more(seen: Seen, r: u32, along: bool) -> Seen
+    requires along { seen.along < 2 ^ 29 }
+    requires against { seen.against < 2 ^ 29 }
+    ensures { result ≡ seen_once_more seen r along }
+{
+    if along {
+        Seen {
+            along: seen.along + 1,
+            along_row: r,
+            ..seen
+        }
+    } else {
+        Seen {
+            against: seen.against + 1,
+            against_row: r,
+            ..seen
+        }
+    }
+}
+
+/// What the rows of a shell are seen to do to the edges of a range that has the edges of all of them.
+pub fn tally_of(alloc: Global, rows: &Rows, span: Span) -> Result<Tally, NoMemory>
+    requires { AllByRecursion (λ (r : Row). IsWithin span r.edge.0) rows.now.rows }
+    ensures span { IfOk result (λ tally. tally.span ≡ span) }
+    ensures tally { IfOk result (λ tally. IsTally rows.now tally.span tally.seen.items) }
+{
+    let mut seen = vec![in alloc; UNSEEN; span.count]?;
+    let count = rows.len();
+    let rows = rows.row_slice();
+    'rows: for i in 0..count {
+        let row = rows[i];
+        let e = (row.edge.0 - span.least) as usize;
+        seen[e] = once_more(seen[e], i as u32, row.along);
+    }
+    Ok(Tally { span, seen })
+}
+
+impl Tally {
+    pub fn of(&self, e: u32) -> Seen
+        requires { IsWithin self.now.span e }
+        ensures { result ≡ get_or self.now.seen.items (e - self.now.span.least) unseen }
+    {
+        self.seen[(e - self.span.least) as usize]
+    }
+}
