@@ -4,13 +4,15 @@ use Rattle.std.specs.Prelude.{MatchOption}
 use Rattle.iges_params.specs.Contents.{Contents}
 use Rattle.iges_params.proofs.Answers.{clash, ok_is, err_is}
 use Rattle.iges_params.proofs.FileExact.{IsFile-read_file, Refusal-read_file}
+use Rattle.solid_data.proofs.ObligationLemmas.{FirstFalse-one, FirstFalse-not_all}
+use Rattle.brep_walk.specs.Places.{places}
 use Rattle.iges_solid_cmd.specs.declared.form.Command.{Command}
 use Rattle.iges_solid_cmd.specs.declared.form.Command.TheVariants as command
 use Rattle.iges_solid_cmd.specs.declared.answer.Answer.{Answer}
 use Rattle.iges_solid_cmd.specs.declared.answer.Answer.TheVariants as answer
 use Rattle.iges_solid_cmd.specs.Forms.{command_of, usage_line}
-use Rattle.iges_solid_cmd.specs.Texts.{bad_file_line, solids_text}
-use Rattle.iges_solid_cmd.specs.Due.{Owed, Exactly, OfFile, OfSolids, DueOf}
+use Rattle.iges_solid_cmd.specs.Texts.{bad_file_line, fail_line, solids_text}
+use Rattle.iges_solid_cmd.specs.Due.{Owed, Exactly, OfFile, OfSolids, OfShow, DueOf}
 use Rattle.iges_solid_cmd.specs.OneAnswer.{OneAnswerIsOwed}
 
 -- at most one answer and text are owed
@@ -35,8 +37,15 @@ file_one bytes owed one a b t u (inr (inr p)) (inr (inr q)) =
     let same : p.1 ≡ q.1 = ok_is p.1 q.1 (sym (IsFile-read_file bytes p.1 p.2) ∙ IsFile-read_file bytes q.1 q.2) in
     one q.1 a b t u (subst (λ (f : Contents). owed f a t) same p.3) q.3
 
+show_one : (n : ℕ) (f : Contents) → IsOne (OfShow n f)
+show_one n f a b t u (inl (x, p, e)) (inl (y, q, d)) = (e.0 ∙ sym d.0, e.1 ∙ ap fail_line (FirstFalse-one (places f n) x y p q) ∙ sym d.1)
+show_one n f a b t u (inl (x, p, e)) (inr (all, d)) = absurd (FirstFalse-not_all (places f n) x p all)
+show_one n f a b t u (inr (all, e)) (inl (y, q, d)) = absurd (FirstFalse-not_all (places f n) y q all)
+show_one n f a b t u (inr (all, e)) (inr (every, d)) = (e.0 ∙ sym d.0, e.1 ∙ sym d.1)
+
 due_of_one : (c : Command) (file certificate : List ℕ) → IsOne (DueOf c file certificate)
 due_of_one command.Solids file certificate = file_one file OfSolids (λ f. exactly_one answer.Done (solids_text f))
+due_of_one (command.Show n) file certificate = file_one file (OfShow n) (show_one n)
 
 pub due_one : OneAnswerIsOwed
 due_one words file certificate a b t u p q = by_command (command_of words) p q

@@ -1,40 +1,57 @@
 -- The forms that the words of a command line may have.
-use Rattle.std.specs.Prelude.{ℕ, Bool, true, false, ◌&&◌, nat_eq, List, [], ◌∷◌, ◌++◌, map, Option, Some, None, option_map, find, codes}
+use Rattle.std.specs.Prelude.{ℕ, Bool, true, false, ◌&&◌, nat_eq, nat_le, List, [], ◌∷◌, ◌++◌, length, map, Option, Some, None, option_map, find, codes}
 use Rattle.std.specs.Cmp.Lexicographic.{pointwise}
 use Rattle.std.specs.List.{list_any}
+use Rattle.std.specs.Str.Parse.{digits_value}
+use Rattle.iges_fields.specs.Word.{are_digits}
 use Rattle.iges_solid_cmd.specs.declared.form.Command.{Command}
 use Rattle.iges_solid_cmd.specs.declared.form.Command.TheVariants as command
 
--- a fixed word, or the name of a file
+-- a fixed word, the name of a file, or a number with its most digits, its least and its greatest value
 pub data Slot : Type 0 where
   word : List ℕ → Slot
   file : Slot
+  number : ℕ → ℕ → ℕ → Slot
 
+-- what the words of a form are, and the command for the number among them
 pub record Form : Type 0 where
   pub slots : List Slot
-  pub command : Command
+  pub command : ℕ → Command
+
+abbrev pub entry_number : Slot
+entry_number = number 7 1 9999999
 
 -- the listed forms, in the order of the usage line
 abbrev pub forms : List Form
-forms = record { slots = word (codes "solids") ∷ file ∷ []; command = command.Solids } ∷ []
+forms =
+    record { slots = word (codes "solids") ∷ file ∷ []; command = λ _. command.Solids } ∷
+    record { slots = word (codes "show") ∷ file ∷ entry_number ∷ []; command = λ n. command.Show n } ∷ []
 
 -- ---- reading words
 
 abbrev pub fits : Slot → List ℕ → Bool
 fits (word text) w = pointwise nat_eq w text
 fits file w = true
+fits (number digits least greatest) w =
+    are_digits w && nat_le (length w) digits && nat_le least (digits_value 10 w) && nat_le (digits_value 10 w) greatest
 
 abbrev pub all_fit : List Slot → List (List ℕ) → Bool
 all_fit [] [] = true
 all_fit (slot ∷ slots) (w ∷ ws) = fits slot w && all_fit slots ws
 all_fit _ _ = false
 
+-- the number among the words, and 0 where there is none
+abbrev pub number_among : List Slot → List (List ℕ) → ℕ
+number_among (number digits least greatest ∷ slots) (w ∷ ws) = digits_value 10 w
+number_among (_ ∷ slots) (w ∷ ws) = number_among slots ws
+number_among _ _ = 0
+
 abbrev pub form_of : List (List ℕ) → Option Form
 form_of words = find (λ (form : Form). all_fit form.slots words) forms
 
 -- the command of the first form that the words have
 abbrev pub command_of : List (List ℕ) → Option Command
-command_of words = option_map (λ (form : Form). form.command) (form_of words)
+command_of words = option_map (λ (form : Form). form.command (number_among form.slots words)) (form_of words)
 
 -- ---- which sources a form reads
 
@@ -51,6 +68,7 @@ reads_file words = elim (form_of words) [ Some form ↦ list_any is_file form.sl
 abbrev pub slot_text : Slot → List ℕ
 slot_text (word text) = text
 slot_text file = codes "FILE"
+slot_text (number digits least greatest) = codes "N"
 
 abbrev pub join_with : List ℕ → List (List ℕ) → List ℕ
 join_with between [] = []

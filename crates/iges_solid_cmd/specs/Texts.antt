@@ -1,5 +1,5 @@
 -- The printed lines.
-use Rattle.std.specs.Prelude.{ℕ, ◌+◌, ◌*◌, List, [], ◌∷◌, ◌++◌, pos, flat_map, filter, codes, decimal}
+use Rattle.std.specs.Prelude.{ℕ, ◌+◌, ◌*◌, Bool, List, [], ◌∷◌, ◌++◌, pos, flat_map, filter, codes, decimal, if◌then◌else◌, length, sum_by}
 use Rattle.std.specs.List.{enumerate_from}
 use Rattle.std.specs.Ordering.{int_eq}
 use Rattle.iges_fields.specs.declared.value.Value.{Value}
@@ -7,6 +7,12 @@ use Rattle.iges_directory.specs.declared.entry.Entry.{Entry}
 use Rattle.iges_lines.specs.declared.fault.LineFault.{LineFault}
 use Rattle.iges_lines.specs.Reasons.{reason_word}
 use Rattle.iges_params.specs.Contents.{Contents}
+use Rattle.solid_data.specs.RuleNames.{rule_name}
+use Rattle.solid_data.specs.SolidData.{SolidData}
+use Rattle.solid_data.specs.declared.solid.FaceUse.{FaceUse}
+use Rattle.solid_data.specs.declared.solid.Shell.{Shell}
+use Rattle.solid_data.specs.declared.verdict.Failing.{Failing}
+use Rattle.edge_uses.specs.ShellRows.{ShellRows, shell_rows}
 
 abbrev pub bad_file_line : LineFault → List ℕ
 bad_file_line fault = codes "bad file line " ++ decimal fault.line ++ codes " " ++ reason_word fault.reason ++ codes "\n"
@@ -19,3 +25,31 @@ solid_lines_from i entries =
 
 abbrev pub solids_text : Contents → List ℕ
 solids_text f = solid_lines_from 0 f.entries
+
+abbrev pub fail_line : Failing → List ℕ
+fail_line x = codes "fail " ++ rule_name x.rule ++ codes " " ++ decimal x.entity.0 ++ codes " " ++ decimal x.place ++ codes "\n"
+
+-- a word and a number, each behind a space
+abbrev pub counted : List ℕ → ℕ → List ℕ
+counted word n = codes " " ++ word ++ codes " " ++ decimal n
+
+abbrev pub flag_number : Bool → ℕ
+flag_number flag = if flag then 1 else 0
+
+abbrev pub loop_count : List FaceUse → ℕ
+loop_count faces = sum_by (λ (f : FaceUse). length f.loops) faces
+
+-- A line for the shell with this number: uses counts its rows, and edges and vertices those that occur in it.
+abbrev pub shell_line : ℕ → Shell → ShellRows → List ℕ
+shell_line k shell d =
+    codes "shell " ++ decimal k ++ counted (codes "entity") shell.entity.0 ++ counted (codes "flag") (flag_number shell.flag)
+    ++ counted (codes "faces") (length shell.faces) ++ counted (codes "loops") (loop_count shell.faces) ++ counted (codes "uses") (length d.rows)
+    ++ counted (codes "edges") (length d.edges) ++ counted (codes "vertices") (length d.vertices) ++ codes "\n"
+
+-- a line for each shell from the k-th on, numbered from 1
+abbrev pub shell_lines_from : ℕ → SolidData → List Shell → List ℕ
+shell_lines_from k s shells = flat_map (λ (h : ℕ × Shell). shell_line (h.0 + 1) h.1 (shell_rows s h.1)) (enumerate_from k shells)
+
+-- the solid's number, and a line for each shell
+abbrev pub show_text : SolidData → List ℕ
+show_text s = codes "solid " ++ decimal s.entity.0 ++ codes "\n" ++ shell_lines_from 0 s s.shells

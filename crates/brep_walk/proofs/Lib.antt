@@ -1,0 +1,17 @@
+pub mod KnownVertices
+pub mod Numbered
+pub mod Found
+pub mod Fresh
+pub mod Few
+pub mod NamedEntry
+pub mod Opened
+pub mod LoopSteps
+pub mod Exactly
+pub mod ItemSteps
+pub mod WalkSteps
+pub mod Used
+pub mod Faults
+pub mod EdgeEnds
+pub mod KeptLists
+pub mod NamedOnce
+pub mod KeyPlaces

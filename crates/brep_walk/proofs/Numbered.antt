@@ -1,0 +1,357 @@
+-- The ids of a file's solid are numbered by first appearance.
+use Rattle.std.specs.Prelude.{◌≡◌, ◌≢◌, ℕ, zero, suc, ◌+◌, ◌==◌, ◌&&◌, ◌⊎◌, Bool, true, false, not, cond, ℤ, pos, negsuc, List, [], ◌∷◌, ◌++◌, length, map, flat_map, filter, Some, None, slice_get, if◌then◌else◌}
+use Rattle.std.specs.List.{enumerate_from}
+use Rattle.std.proofs.Common.{refl, sym, ◌∙◌, ap, subst, arith, inl, inr, length-append}
+use Rattle.std.proofs.lemmas.Bool.{eq-eqb, eqb-true}
+use Rattle.std.proofs.lemmas.Bool.Decides.{eqb_tells}
+use Rattle.std.proofs.lemmas.List.{map-append}
+use Rattle.std.proofs.lemmas.Grind.{flat_map-append}
+use Rattle.iges_params.specs.Contents.{Contents}
+use Rattle.brep_lists.specs.Record.{LoopTuple}
+use Rattle.brep_lists.specs.declared.edge_list.EdgeTuple.{EdgeTuple}
+use Rattle.brep_walk.specs.Places.{shells, faces, loops, tuples, edge_at, numbers}
+use Rattle.brep_walk.specs.SolidOf.{edge_key, vertex_key, all_tuples, edge_named, ends_named, vertices_named, edge_keys, vertex_keys, use_of, loop_of, face_of, shell_of, numbered_edge, edge_of, solid_of}
+use Rattle.solid_data.specs.Ring.{distinct, place_of, numbers_from}
+use Rattle.solid_data.specs.Obligations.{entry_number}
+use Rattle.solid_data.specs.Numbering.{InOrderOfAppearance}
+use Rattle.solid_data.specs.SolidData.{PlacedLoop, placed_in_face, shell_uses, shell_edges, shell_vertices, edge_used, ends_of, vertices_used, same_edge, same_vertex}
+use Rattle.solid_data.specs.declared.solid.Edge.{Edge}
+use Rattle.solid_data.specs.declared.solid.EdgeKey.{EdgeKey}
+use Rattle.solid_data.specs.declared.solid.VertexKey.{VertexKey}
+use Rattle.solid_data.specs.declared.solid.Loop.{Loop}
+use Rattle.solid_data.specs.declared.solid.LoopUse.{LoopUse}
+use Rattle.solid_data.specs.declared.solid.LoopUse.TheVariants.{EdgeUse, VertexUse}
+use Rattle.solid_data.proofs.Members.{from_flat_map, Has, some_inj, has_flat_map}
+use Rattle.brep_walk.proofs.KnownVertices.{vertex_sound, vertex_itself, both_true, from_distinct, to_distinct, from_filter}
+
+-- Places in the list of keys, without repeats, are 0, 1, 2 and so on.
+
+module _ {A : Type 0} (same : A → A → Bool) (sound : (a b : A) → same a b ≡ true → a ≡ b) (itself : (a : A) → same a a ≡ true) where
+  -- the key stands at its place
+  at_place : (keys : List A) (k : A) → Has keys k → slice_get keys (place_of same keys k) ≡ Some k
+  at_place [] k h = absurd h
+  at_place (y ∷ keys) k h = by_test (same k y) refl h (λ m. at_place keys k m)
+    where
+      by_test : (b : Bool) → same k y ≡ b → Has (y ∷ keys) k → (Has keys k → slice_get keys (place_of same keys k) ≡ Some k) → slice_get (y ∷ keys) (if b then 0 else suc (place_of same keys k)) ≡ Some k
+      by_test true e m on = ap Some (sym (sound k y e))
+      by_test false e (inl is) on = absurd (true_is_false (sym (ap (same k) is ∙ itself k) ∙ e))
+        where
+          true_is_false : true ≡ false → ⊥
+          true_is_false w = cc
+      by_test false e (inr m) on = on m
+
+  place_tells : (keys : List A) (a b : A) → Has keys a → Has keys b → (place_of same keys a == place_of same keys b) ≡ same a b
+  place_tells keys a b h k = by_test (same a b) refl (eqb_tells (place_of same keys a) (place_of same keys b))
+    where
+      by_test : (t : Bool) → same a b ≡ t
+          → (((place_of same keys a == place_of same keys b) ≡ true) × (place_of same keys a ≡ place_of same keys b)) ⊎ (((place_of same keys a == place_of same keys b) ≡ false) × (place_of same keys a ≢ place_of same keys b))
+          → (place_of same keys a == place_of same keys b) ≡ t
+      by_test true e tells = eq-eqb (place_of same keys a) (place_of same keys b) (ap (place_of same keys) (sound a b e))
+      by_test false e (inl p) =
+          let one : a ≡ b = some_inj a b (sym (at_place keys a h) ∙ (ap (slice_get keys) p.1 ∙ at_place keys b k)) in
+          absurd (true_is_false (sym (ap (same a) (sym one) ∙ itself a) ∙ e))
+        where
+          true_is_false : true ≡ false → ⊥
+          true_is_false w = cc
+      by_test false e (inr p) = p.0
+
+  filter_of_map : (g : A → ℕ) (n : ℕ) (x : A) (xs : List A) → ((a : A) → Has xs a → (n == g a) ≡ same x a) → filter (λ y. not (n == y)) (map g xs) ≡ map g (filter (λ y. not (same x y)) xs)
+  filter_of_map g n x [] agree = refl
+  filter_of_map g n x (y ∷ xs) agree =
+      let rest = filter_of_map g n x xs (λ a m. agree a (inr m)) in
+      ap (λ b. cond (not b) (g y ∷ filter (λ z. not (n == z)) (map g xs)) (filter (λ z. not (n == z)) (map g xs))) (agree y (inl refl))
+      ∙ (ap (λ zs. cond (not (same x y)) (g y ∷ zs) zs) rest ∙ sym (map_cond g (not (same x y)) y (filter (λ z. not (same x z)) xs)))
+    where
+      map_cond : (g : A → ℕ) (b : Bool) (y : A) (zs : List A) → map g (cond b (y ∷ zs) zs) ≡ cond b (g y ∷ map g zs) (map g zs)
+      map_cond g true y zs = refl
+      map_cond g false y zs = refl
+
+  distinct_of_map : (g : A → ℕ) (xs : List A) → ((a b : A) → Has xs a → Has xs b → (g a == g b) ≡ same a b) → distinct ◌==◌ (map g xs) ≡ map g (distinct same xs)
+  distinct_of_map g [] agree = refl
+  distinct_of_map g (x ∷ xs) agree =
+      let rest = distinct_of_map g xs (λ a b m k. agree a b (inr m) (inr k)) in
+      ap (λ zs. g x ∷ zs)
+      (ap (filter (λ y. not (g x == y))) rest
+      ∙ filter_of_map g (g x) x (distinct same xs) (λ a m. agree x a (inl refl) (inr (from_distinct same xs a m))))
+
+  map_suc : (base n : ℕ) → map suc (numbers_from base n) ≡ numbers_from (base + 1) n
+  map_suc base zero = refl
+  map_suc base (suc n) = let e : suc base ≡ base + 1 = omega arith in ap (λ z. z ∷ map suc (numbers_from (base + 1) n)) e ∙ ap (λ zs. (base + 1) ∷ zs) (map_suc (base + 1) n)
+
+  not_same : (x y : A) (xs : List A) → Has (filter (λ z. not (same x z)) xs) y → same x y ≡ false
+  not_same x y [] h = absurd h
+  not_same x y (z ∷ xs) h = by_test (same x z) refl h (λ m. not_same x y xs m)
+    where
+      by_test : (b : Bool) → same x z ≡ b → Has (cond (not b) (z ∷ filter (λ w. not (same x w)) xs) (filter (λ w. not (same x w)) xs)) y → (Has (filter (λ w. not (same x w)) xs) y → same x y ≡ false) → same x y ≡ false
+      by_test true e m on = on m
+      by_test false e (inl is) on = ap (same x) (sym is) ∙ e
+      by_test false e (inr m) on = on m
+
+  map_same : (g h : A → ℕ) (xs : List A) → ((a : A) → Has xs a → g a ≡ h a) → map g xs ≡ map h xs
+  map_same g h [] e = refl
+  map_same g h (x ∷ xs) e = ap (λ z. z ∷ map g xs) (e x (inl refl)) ∙ ap (λ zs. h x ∷ zs) (map_same g h xs (λ a m. e a (inr m)))
+
+  map_map_suc : (g : A → ℕ) (xs : List A) → map (λ a. suc (g a)) xs ≡ map suc (map g xs)
+  map_map_suc g [] = refl
+  map_map_suc g (x ∷ xs) = ap (λ zs. suc (g x) ∷ zs) (map_map_suc g xs)
+
+  abbrev AreApart : List A → Type 0
+  AreApart [] = Unit {0}
+  AreApart (x ∷ xs) = ((a : A) → Has xs a → same a x ≡ false) × AreApart xs
+
+  places_of_apart : (keys : List A) → AreApart keys → map (place_of same keys) keys ≡ numbers_from 0 (length keys)
+  places_of_apart [] h = refl
+  places_of_apart (k ∷ keys) h =
+      let first : place_of same (k ∷ keys) k ≡ 0 = ap (λ b. if b then 0 else suc (place_of same keys k)) (itself k) in
+      let later : map (place_of same (k ∷ keys)) keys ≡ map (λ a. suc (place_of same keys a)) keys =
+      map_same (place_of same (k ∷ keys)) (λ a. suc (place_of same keys a)) keys (λ a m. ap (λ b. if b then 0 else suc (place_of same keys a)) (h.0 a m)) in
+      ap (λ z. z ∷ map (place_of same (k ∷ keys)) keys) first
+      ∙ ap (λ zs. 0 ∷ zs) (later ∙ (map_map_suc (place_of same keys) keys ∙ (ap (map suc) (places_of_apart keys h.1) ∙ map_suc 0 (length keys))))
+
+  filter_apart : (p : A → Bool) (xs : List A) → AreApart xs → AreApart (filter p xs)
+  filter_apart p [] h = tt
+  filter_apart p (x ∷ xs) h = by_test (p x) (filter_apart p xs h.1)
+    where
+      by_test : (b : Bool) → AreApart (filter p xs) → AreApart (cond b (x ∷ filter p xs) (filter p xs))
+      by_test true k = ((λ a m. h.0 a (from_filter p xs a m)), k)
+      by_test false k = k
+
+  symmetric : (a b : A) → same a b ≡ false → same b a ≡ false
+  symmetric a b e = by_test (same b a) refl
+    where
+      by_test : (t : Bool) → same b a ≡ t → same b a ≡ false
+      by_test false k = k
+      by_test true k = absurd (true_is_false (sym (ap (same a) (sound b a k) ∙ itself a) ∙ e))
+        where
+          true_is_false : true ≡ false → ⊥
+          true_is_false w = cc
+
+  distinct_apart : (xs : List A) → AreApart (distinct same xs)
+  distinct_apart [] = tt
+  distinct_apart (x ∷ xs) = ((λ a m. symmetric x a (not_same x a (distinct same xs) m)), filter_apart (λ y. not (same x y)) (distinct same xs) (distinct_apart xs))
+
+  -- The places of the keys of a list, in the list of keys without repeats, are in order of appearance.
+  pub places_in_order : (xs : List A) → InOrderOfAppearance (map (place_of same (distinct same xs)) xs) (length (distinct same xs))
+  places_in_order xs =
+      let keys : List A = distinct same xs in
+      distinct_of_map (place_of same keys) xs (λ a b h k. place_tells keys a b (to_distinct same sound xs a h) (to_distinct same sound xs b k))
+      ∙ places_of_apart keys (distinct_apart xs)
+
+pub edge_sound : (a b : EdgeKey) → same_edge a b ≡ true → a ≡ b
+edge_sound a b h =
+    let parts = both_true (a.«list».0 == b.«list».0) (a.index == b.index) h in
+    ap (λ n. record a { «list» = record { 0 = n } }) (eqb-true a.«list».0 b.«list».0 parts.0)
+    ∙ ap (λ n. record b { index = n }) (eqb-true a.index b.index parts.1)
+
+pub edge_itself : (a : EdgeKey) → same_edge a a ≡ true
+edge_itself a = ap (λ t. t && (a.index == a.index)) (eq-eqb a.«list».0 a.«list».0 refl) ∙ eq-eqb a.index a.index refl
+
+-- The uses of all shells are those of all tuples.
+
+uses_of_loops : (f : Contents) (n : ℤ) (mk : ℕ × Loop → PlacedLoop) → ((l : ℕ × Loop) → (mk l).loop ≡ l.1) → (base : ℕ) (ls : List ℤ)
+    → flat_map (λ (p : PlacedLoop). p.loop.uses) (map mk (enumerate_from base (map (loop_of f n) ls))) ≡ map (use_of f n) (flat_map (tuples f) ls)
+uses_of_loops f n mk same base [] = refl
+uses_of_loops f n mk same base (l ∷ ls) =
+    let here : (mk (base, loop_of f n l)).loop.uses ≡ map (use_of f n) (tuples f l) = ap (λ (x : Loop). x.uses) (same (base, loop_of f n l)) in
+    ap (λ us. us ++ flat_map (λ (p : PlacedLoop). p.loop.uses) (map mk (enumerate_from (base + 1) (map (loop_of f n) ls)))) here
+    ∙ (ap (λ us. map (use_of f n) (tuples f l) ++ us) (uses_of_loops f n mk same (base + 1) ls)
+    ∙ sym (map-append (use_of f n) (tuples f l) (flat_map (tuples f) ls)))
+
+uses_of_faces : (f : Contents) (n : ℤ) (flag : Bool) (base : ℕ) (items : List (ℤ × Bool))
+    → flat_map (λ (p : PlacedLoop). p.loop.uses) (flat_map (placed_in_face flag) (enumerate_from base (map (face_of f n) items))) ≡ map (use_of f n) (flat_map (tuples f) (flat_map (loops f) (numbers items)))
+uses_of_faces f n flag base [] = refl
+uses_of_faces f n flag base (item ∷ items) =
+    let rest : List PlacedLoop = flat_map (placed_in_face flag) (enumerate_from (base + 1) (map (face_of f n) items)) in
+    let mine : List PlacedLoop = placed_in_face flag (base, face_of f n item) in
+    flat_map-append (λ (p : PlacedLoop). p.loop.uses) mine rest
+    ∙ (ap (λ us. us ++ flat_map (λ (p : PlacedLoop). p.loop.uses) rest) (uses_of_loops f n _ (λ l. refl) 0 (loops f item.0))
+    ∙ (ap (λ us. map (use_of f n) (flat_map (tuples f) (loops f item.0)) ++ us) (uses_of_faces f n flag (base + 1) items)
+    ∙ (sym (map-append (use_of f n) (flat_map (tuples f) (loops f item.0)) (flat_map (tuples f) (flat_map (loops f) (numbers items))))
+    ∙ ap (map (use_of f n)) (sym (flat_map-append (tuples f) (loops f item.0) (flat_map (loops f) (numbers items)))))))
+
+uses_of_shells : (f : Contents) (n : ℤ) (items : List (ℤ × Bool))
+    → flat_map shell_uses (map (shell_of f n) items) ≡ map (use_of f n) (flat_map (tuples f) (flat_map (loops f) (flat_map (λ s. numbers (faces f s)) (numbers items))))
+uses_of_shells f n [] = refl
+uses_of_shells f n (item ∷ items) =
+    let mine : List ℤ = numbers (faces f item.0) in
+    let rest : List ℤ = flat_map (λ s. numbers (faces f s)) (numbers items) in
+    ap (λ us. us ++ flat_map shell_uses (map (shell_of f n) items)) (uses_of_faces f n item.1 0 (faces f item.0))
+    ∙ (ap (λ us. map (use_of f n) (flat_map (tuples f) (flat_map (loops f) mine)) ++ us) (uses_of_shells f n items)
+    ∙ (sym (map-append (use_of f n) (flat_map (tuples f) (flat_map (loops f) mine)) (flat_map (tuples f) (flat_map (loops f) rest)))
+    ∙ ap (map (use_of f n)) (sym (ap (flat_map (tuples f)) (flat_map-append (loops f) mine rest) ∙ flat_map-append (tuples f) (flat_map (loops f) mine) (flat_map (loops f) rest)))))
+
+pub all_uses : (f : Contents) (n : ℕ) → flat_map shell_uses (solid_of f n).shells ≡ map (use_of f (pos n)) (all_tuples f (pos n))
+unfolding solid_of
+all_uses f n = uses_of_shells f (pos n) (shells f (pos n))
+
+pub flat_flat : {A B C : Type 0} (g : A → List B) (h : B → List C) (xs : List A) → flat_map (λ x. flat_map h (g x)) xs ≡ flat_map h (flat_map g xs)
+flat_flat g h [] = refl
+flat_flat g h (x ∷ xs) = ap (λ zs. flat_map h (g x) ++ zs) (flat_flat g h xs) ∙ sym (flat_map-append h (g x) (flat_map g xs))
+
+-- The edges.
+
+edges_used : (f : Contents) (n : ℤ) (ts : List LoopTuple) → flat_map edge_used (map (use_of f n) ts) ≡ map (place_of same_edge (edge_keys f n)) (flat_map edge_named ts)
+edges_used f n [] = refl
+edges_used f n (t ∷ ts) =
+    ap (λ zs. edge_used (use_of f n t) ++ zs) (edges_used f n ts)
+    ∙ (ap (λ zs. zs ++ map (place_of same_edge (edge_keys f n)) (flat_map edge_named ts)) (one t.is_vertex)
+    ∙ sym (map-append (place_of same_edge (edge_keys f n)) (edge_named t) (flat_map edge_named ts)))
+  where
+    one : (b : Bool) → edge_used (if b then VertexUse (record { 0 = place_of same_vertex (vertex_keys f n) (vertex_key t.«list» t.index) }) else EdgeUse (record { 0 = place_of same_edge (edge_keys f n) (edge_key t.«list» t.index) }) t.flag)
+        ≡ map (place_of same_edge (edge_keys f n)) (if b then [] else edge_key t.«list» t.index ∷ [])
+    one true = refl
+    one false = refl
+
+-- each edge that is used is there
+abbrev pub EdgesFound : Contents → ℤ → Type 0
+EdgesFound f n = (t : LoopTuple) → Has (all_tuples f n) t → t.is_vertex ≡ false → (e : EdgeTuple) × (edge_at f t.«list» (entry_number t.index) ≡ Some e)
+
+pub by_key : (f : Contents) (e : ℤ) (j : ℕ) (t : EdgeTuple) → edge_at f e j ≡ Some t → edge_at f (pos (entry_number e)) j ≡ Some t
+by_key f (pos n) j t h = h
+by_key f (negsuc n) j t h = absurd (none_there h)
+  where
+    none_there : None ≡ Some t → ⊥
+    none_there w = cc
+
+key_found : (f : Contents) (n : ℤ) → EdgesFound f n → (key : EdgeKey) → Has (edge_keys f n) key → (e : EdgeTuple) × (edge_at f (pos key.«list».0) key.index ≡ Some e)
+key_found f n found key h =
+    let t = from_flat_map edge_named (all_tuples f n) key (from_distinct same_edge (flat_map edge_named (all_tuples f n)) key h) in
+    of_tuple t.0 t.1 t.0.is_vertex refl t.2
+  where
+    of_tuple : (t : LoopTuple) → Has (all_tuples f n) t → (b : Bool) → t.is_vertex ≡ b → Has (if b then [] else edge_key t.«list» t.index ∷ []) key → (e : EdgeTuple) × (edge_at f (pos key.«list».0) key.index ≡ Some e)
+    of_tuple t here true v m = absurd m
+    of_tuple t here false v (inr m) = absurd m
+    of_tuple t here false v (inl same) =
+        let e = found t here v in
+        (e.0, ap (λ (q : EdgeKey). edge_at f (pos q.«list».0) q.index) (sym same) ∙ by_key f t.«list» (entry_number t.index) e.0 e.1)
+
+length-singles : {A B : Type 0} (g : A → List B) (xs : List A) → ((x : A) → Has xs x → length (g x) ≡ 1) → length (flat_map g xs) ≡ length xs
+length-singles g [] h = refl
+length-singles g (x ∷ xs) h = omega (arith, length-append (g x) (flat_map g xs), h x (inl refl), length-singles g xs (λ y m. h y (inr m)))
+
+edges_counted : (f : Contents) (n : ℤ) → EdgesFound f n → length (flat_map (edge_of f n) (edge_keys f n)) ≡ length (edge_keys f n)
+edges_counted f n found = length-singles (edge_of f n) (edge_keys f n) (λ key m. let e = key_found f n found key m in ap (λ o. length (numbered_edge f n key o)) e.1)
+
+edge_count : (f : Contents) (n : ℕ) → length (solid_of f n).edges ≡ length (flat_map (edge_of f (pos n)) (edge_keys f (pos n)))
+unfolding solid_of
+edge_count f n = refl
+
+-- The edges of a file's solid are numbered by first appearance.
+pub edges_in_order : (f : Contents) (n : ℕ) → EdgesFound f (pos n) → InOrderOfAppearance (flat_map shell_edges (solid_of f n).shells) (length (solid_of f n).edges)
+edges_in_order f n found =
+    let ids : flat_map shell_edges (solid_of f n).shells ≡ map (place_of same_edge (edge_keys f (pos n))) (flat_map edge_named (all_tuples f (pos n))) =
+    flat_flat shell_uses edge_used (solid_of f n).shells ∙ (ap (flat_map edge_used) (all_uses f n) ∙ edges_used f (pos n) (all_tuples f (pos n))) in
+    ap (distinct ◌==◌) ids
+    ∙ (places_in_order same_edge edge_sound edge_itself (flat_map edge_named (all_tuples f (pos n)))
+    ∙ ap (numbers_from 0) (sym (edge_count f n ∙ edges_counted f (pos n) found)))
+
+-- The vertices.
+
+-- the edge of a key, where it is there
+abbrev numbered : Contents → ℤ → EdgeKey → EdgeTuple → Edge
+numbered f n key e = record {
+  key = key;
+  from = record { 0 = place_of same_vertex (vertex_keys f n) (vertex_key e.start_list e.start_index) };
+  to = record { 0 = place_of same_vertex (vertex_keys f n) (vertex_key e.end_list e.end_index) };
+}
+
+get_single : {A B : Type 0} (g : A → List B) (xs : List A) → ((x : A) → Has xs x → length (g x) ≡ 1) → (k : ℕ) (x : A) (y : B) → slice_get xs k ≡ Some x → g x ≡ y ∷ [] → slice_get (flat_map g xs) k ≡ Some y
+get_single g [] one k x y at is = absurd (none_there at)
+  where
+    none_there : None ≡ Some x → ⊥
+    none_there w = cc
+get_single g (z ∷ xs) one zero x y at is =
+    let here : g z ≡ y ∷ [] = ap g (some_inj z x at) ∙ is in
+    ap (λ ys. slice_get (ys ++ flat_map g xs) 0) here
+get_single {B = B} g (z ∷ xs) one (suc k) x y at is = by_list (g z) (one z (inl refl)) (get_single g xs (λ w m. one w (inr m)) k x y at is)
+  where
+    by_list : (ys : List B) → length ys ≡ 1 → slice_get (flat_map g xs) k ≡ Some y → slice_get (ys ++ flat_map g xs) (suc k) ≡ Some y
+    by_list [] e h = absurd (omega (arith, e))
+    by_list (w ∷ []) e h = h
+    by_list (w ∷ v ∷ ys) e h = absurd (omega (arith, e))
+
+edges_of_solid : (f : Contents) (n : ℕ) → (solid_of f n).edges ≡ flat_map (edge_of f (pos n)) (edge_keys f (pos n))
+unfolding solid_of
+edges_of_solid f n = refl
+
+vertices_one : (f : Contents) (n : ℕ) → EdgesFound f (pos n) → (t : LoopTuple) → Has (all_tuples f (pos n)) t
+    → vertices_used (solid_of f n) (use_of f (pos n) t) ≡ map (place_of same_vertex (vertex_keys f (pos n))) (vertices_named f t)
+vertices_one f n found t here = by_case t.is_vertex refl
+  where
+    pick : Bool → LoopUse
+    pick b = if b then VertexUse (record { 0 = place_of same_vertex (vertex_keys f (pos n)) (vertex_key t.«list» t.index) }) else EdgeUse (record { 0 = place_of same_edge (edge_keys f (pos n)) (edge_key t.«list» t.index) }) t.flag
+
+    names : Bool → List VertexKey
+    names b = if b then vertex_key t.«list» t.index ∷ [] else ends_named (edge_at f t.«list» (entry_number t.index))
+
+    of_case : (b : Bool) → t.is_vertex ≡ b → vertices_used (solid_of f n) (pick b) ≡ map (place_of same_vertex (vertex_keys f (pos n))) (names b)
+    of_case true v = refl
+    of_case false v =
+        let e = found t here v in
+        let key : EdgeKey = edge_key t.«list» t.index in
+        let listed : Has (edge_keys f (pos n)) key = to_distinct same_edge edge_sound (flat_map edge_named (all_tuples f (pos n))) key
+        (has_flat_map edge_named (all_tuples f (pos n)) t key here (subst (λ c. Has (if c then [] else key ∷ []) key) (sym v) (inl refl))) in
+        let there : edge_of f (pos n) key ≡ numbered f (pos n) key e.0 ∷ [] = ap (numbered_edge f (pos n) key) (by_key f t.«list» (entry_number t.index) e.0 e.1) in
+        let got : slice_get (solid_of f n).edges (place_of same_edge (edge_keys f (pos n)) key) ≡ Some (numbered f (pos n) key e.0) =
+        ap (λ es. slice_get es (place_of same_edge (edge_keys f (pos n)) key)) (edges_of_solid f n)
+        ∙ get_single (edge_of f (pos n)) (edge_keys f (pos n)) (λ k m. let d = key_found f (pos n) found k m in ap (λ o. length (numbered_edge f (pos n) k o)) d.1)
+        (place_of same_edge (edge_keys f (pos n)) key) key (numbered f (pos n) key e.0) (at_place same_edge edge_sound edge_itself (edge_keys f (pos n)) key listed) there in
+        ap ends_of got ∙ sym (ap (λ o. map (place_of same_vertex (vertex_keys f (pos n))) (ends_named o)) e.1)
+
+    by_case : (b : Bool) → t.is_vertex ≡ b → vertices_used (solid_of f n) (pick t.is_vertex) ≡ map (place_of same_vertex (vertex_keys f (pos n))) (names t.is_vertex)
+    by_case b v = of_case t.is_vertex refl
+
+all_vertices : (f : Contents) (n : ℕ) (ts : List LoopTuple)
+    → ((t : LoopTuple) → Has ts t → vertices_used (solid_of f n) (use_of f (pos n) t) ≡ map (place_of same_vertex (vertex_keys f (pos n))) (vertices_named f t))
+    → flat_map (vertices_used (solid_of f n)) (map (use_of f (pos n)) ts) ≡ map (place_of same_vertex (vertex_keys f (pos n))) (flat_map (vertices_named f) ts)
+all_vertices f n [] each = refl
+all_vertices f n (t ∷ ts) each =
+    ap (λ zs. zs ++ flat_map (vertices_used (solid_of f n)) (map (use_of f (pos n)) ts)) (each t (inl refl))
+    ∙ (ap (λ zs. map (place_of same_vertex (vertex_keys f (pos n))) (vertices_named f t) ++ zs) (all_vertices f n ts (λ u m. each u (inr m)))
+    ∙ sym (map-append (place_of same_vertex (vertex_keys f (pos n))) (vertices_named f t) (flat_map (vertices_named f) ts)))
+
+vertices_of_solid : (f : Contents) (n : ℕ) → (solid_of f n).vertices ≡ vertex_keys f (pos n)
+unfolding solid_of
+vertices_of_solid f n = refl
+
+-- The vertices of a file's solid are numbered by first appearance.
+pub vertices_in_order : (f : Contents) (n : ℕ) → EdgesFound f (pos n) → InOrderOfAppearance (flat_map (shell_vertices (solid_of f n)) (solid_of f n).shells) (length (solid_of f n).vertices)
+vertices_in_order f n found =
+    let ids : flat_map (shell_vertices (solid_of f n)) (solid_of f n).shells ≡ map (place_of same_vertex (vertex_keys f (pos n))) (flat_map (vertices_named f) (all_tuples f (pos n))) =
+    flat_flat shell_uses (vertices_used (solid_of f n)) (solid_of f n).shells
+    ∙ (ap (flat_map (vertices_used (solid_of f n))) (all_uses f n) ∙ all_vertices f n (all_tuples f (pos n)) (vertices_one f n found)) in
+    ap (distinct ◌==◌) ids
+    ∙ (places_in_order same_vertex vertex_sound vertex_itself (flat_map (vertices_named f) (all_tuples f (pos n)))
+    ∙ ap (λ vs. numbers_from 0 (length vs)) (sym (vertices_of_solid f n)))
+
+-- Keys without repeats.
+
+keep_all : {A : Type 0} (p : A → Bool) (xs : List A) → ((a : A) → Has xs a → p a ≡ true) → filter p xs ≡ xs
+keep_all p [] h = refl
+keep_all p (x ∷ xs) h = ap (λ b. cond b (x ∷ filter p xs) (filter p xs)) (h x (inl refl)) ∙ ap (λ zs. x ∷ zs) (keep_all p xs (λ a m. h a (inr m)))
+
+apart_distinct : {A : Type 0} (same : A → A → Bool) (sound : (a b : A) → same a b ≡ true → a ≡ b) (itself : (a : A) → same a a ≡ true) (xs : List A) → AreApart same sound itself xs → distinct same xs ≡ xs
+apart_distinct same sound itself [] h = refl
+apart_distinct same sound itself (x ∷ xs) h =
+    let rest = apart_distinct same sound itself xs h.1 in
+    ap (λ zs. x ∷ filter (λ y. not (same x y)) zs) rest
+    ∙ ap (λ zs. x ∷ zs) (keep_all (λ y. not (same x y)) xs (λ a m. ap not (symmetric same sound itself a x (h.0 a m))))
+
+keys_of_edges : (f : Contents) (n : ℤ) (keys : List EdgeKey) → ((key : EdgeKey) → Has keys key → (e : EdgeTuple) × (edge_at f (pos key.«list».0) key.index ≡ Some e)) → map (λ (e : Edge). e.key) (flat_map (edge_of f n) keys) ≡ keys
+keys_of_edges f n [] h = refl
+keys_of_edges f n (key ∷ keys) h =
+    let e = h key (inl refl) in
+    ap (λ o. map (λ (x : Edge). x.key) (numbered_edge f n key o ++ flat_map (edge_of f n) keys)) e.1
+    ∙ ap (λ zs. key ∷ zs) (keys_of_edges f n keys (λ k m. h k (inr m)))
+
+pub edge_keys_differ : (f : Contents) (n : ℕ) → EdgesFound f (pos n) → distinct same_edge (map (λ (e : Edge). e.key) (solid_of f n).edges) ≡ map (λ (e : Edge). e.key) (solid_of f n).edges
+edge_keys_differ f n found =
+    let keys : map (λ (e : Edge). e.key) (solid_of f n).edges ≡ edge_keys f (pos n) =
+    ap (map (λ (e : Edge). e.key)) (edges_of_solid f n) ∙ keys_of_edges f (pos n) (edge_keys f (pos n)) (key_found f (pos n) found) in
+    ap (distinct same_edge) keys
+    ∙ (apart_distinct same_edge edge_sound edge_itself (edge_keys f (pos n)) (distinct_apart same_edge edge_sound edge_itself (flat_map edge_named (all_tuples f (pos n)))) ∙ sym keys)
+
+pub vertex_keys_differ : (f : Contents) (n : ℕ) → distinct same_vertex (solid_of f n).vertices ≡ (solid_of f n).vertices
+vertex_keys_differ f n =
+    ap (distinct same_vertex) (vertices_of_solid f n)
+    ∙ (apart_distinct same_vertex vertex_sound vertex_itself (vertex_keys f (pos n)) (distinct_apart same_vertex vertex_sound vertex_itself (flat_map (vertices_named f) (all_tuples f (pos n)))) ∙ sym (vertices_of_solid f n))

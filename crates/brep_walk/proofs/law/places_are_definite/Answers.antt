@@ -1,0 +1,9 @@
+use Rattle.brep_walk.specs.Places.{places}
+use Rattle.solid_data.proofs.ObligationLemmas.{FirstFalse-one, FirstFalse-not_all}
+use Rattle.brep_walk.proofs.law.places_are_definite.Goals as goal
+
+pub returns-clause-one : goal.returns-clause-one
+returns-clause-one c f n x y = FirstFalse-one (places f n) x y
+
+pub returns-clause-none : goal.returns-clause-none
+returns-clause-none c f n x = FirstFalse-not_all (places f n) x

@@ -1,0 +1,42 @@
+use Rattle.std.proofs.Common.{◌≡◌, ◌∙◌, ◌+◌, ◌++◌, ◌∷◌, [], sym, ap, pos, arith, subst, length, length-append}
+use Rattle.solid_data.specs.Obligations.{AllHold, after_each}
+use Rattle.brep_walk.specs.Places.{tuple_at, tuple_places}
+use Rattle.brep_walk.specs.Numbered.{IsMadeBy}
+use Rattle.brep_walk.specs.SolidOf.{use_by}
+use Rattle.brep_walk.specs.Stands.{Stands}
+use Rattle.brep_walk.specs.Walked.{IsFault}
+use Rattle.brep_walk.proofs.Faults.{handed}
+use Rattle.brep_walk.proofs.WalkSteps.{tuple_in_place, tuple_fault, keys_step, keys_grow, made_step, made_last, left_step, remains_next, fault_next}
+use Rattle.brep_walk.proofs.tuples.TupleWalk.walk_all.Goals as goal
+
+pub tuples-preserved : goal.tuples-preserved
+tuples-preserved c =
+    let f = c.args.self.now.lists.file in
+    let i = c.tuples.invariant in
+    let e = c.in_ok-made.ensures in
+    let place : c.tuples.item + 1 ≡ length c.tuples.yielded + 1 = ap (λ n. n + 1) i.count in
+    record {
+      count = omega (arith, i.count, length-append c.tuples.yielded (c.in-Some.tuple ∷ []));
+      left = left_step c.tuples.yielded c.tuples.tuple-iterator c.next.new.self c.args.listed.now c.in-Some.tuple i.left c.in-Some.ensures.steps;
+      stands = subst (λ g. Stands g c.walk.new.self.lists c.walk.new.self.numbering) i.stands.file e.stands;
+      keys = keys_step f c.tuples.self.lists.file i.stands.file c.args.self.now.numbering.keys c.tuples.self.numbering.keys c.walk.new.self.numbering.keys (c.in-Some.tuple ∷ []) c.next.new.self
+          c.tuples.tuple-iterator c.args.listed.now c.in-Some.ensures.steps i.keys e.keys;
+      made = made_last use_by c.tuples.self.numbering.keys c.walk.new.self.numbering.keys (keys_grow c.tuples.self.lists.file c.tuples.self.numbering.keys c.walk.new.self.numbering.keys (c.in-Some.tuple ∷ []) e.keys)
+          c.tuples.yielded c.in-Some.tuple c.tuples.uses c.in_ok-made.made c.push.new.self i.made e.made c.in_ok-push.ensures.ok;
+      remains = remains_next (tuple_places f (pos c.args.no.0)) c.tuples.yielded c.tuples.tuple-iterator c.next.new.self c.in-Some.tuple
+          (after_each (tuple_places f (pos c.args.no.0)) [] c.args.listed.now) c.in-Some.ensures.steps i.remains
+          (tuple_in_place f (pos c.args.no.0) c.tuples.yielded c.in-Some.tuple (c.tuples.item + 1) place
+          (subst (λ g. AllHold (tuple_at g (pos c.args.no.0) (c.tuples.item + 1) c.in-Some.tuple)) i.stands.file e.holds));
+    }
+
+pub returns-in_err-made-clause-fault : goal.returns-in_err-made-clause-fault
+returns-in_err-made-clause-fault c =
+    let f = c.args.self.now.lists.file in
+    let i = c.tuples.invariant in
+    let place : c.tuples.item + 1 ≡ length c.tuples.yielded + 1 = ap (λ n. n + 1) i.count in
+    handed (after_each (tuple_places f (pos c.args.no.0)) [] c.args.listed.now) c.from_residual.result _
+    (fault_next (tuple_places f (pos c.args.no.0)) c.tuples.yielded c.tuples.tuple-iterator c.next.new.self c.in-Some.tuple
+    (after_each (tuple_places f (pos c.args.no.0)) [] c.args.listed.now) _ c.in-Some.ensures.steps i.remains
+    (tuple_fault f (pos c.args.no.0) c.tuples.yielded c.in-Some.tuple (c.tuples.item + 1) _ place
+    (subst (λ g. IsFault (tuple_at g (pos c.args.no.0) (c.tuples.item + 1) c.in-Some.tuple) c.in_err-made.field-0.0) i.stands.file c.in_err-made.ensures.fault)))
+    c.from_residual.ensures.1

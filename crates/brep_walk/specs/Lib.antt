@@ -1,0 +1,7 @@
+pub mod Places
+pub mod SolidOf
+pub mod Walked
+pub mod Numbered
+pub mod Kept
+pub mod Stands
+pub mod Kinds

@@ -1,0 +1,56 @@
+//! Why a walk ended without a solid.
+
+use iges_fields::NoMemory;
+use solid_data::Failing;
+use std::alloc::{AllocError, AllocFailed};
+
+/// Why a walk ended without a solid: the first place that fails, or want of memory.
+#[derive(Clone, Copy, Debug, PartialEq, Eq)]
+pub enum WalkFault {
+    Fails(Failing),
+    NoMemory,
+}
+
+impl From<Failing> for WalkFault {
+    ghost use Rattle.std.specs.Prelude.{◌≡◌};
+    ghost use Rattle.brep_walk.specs.declared.fault.WalkFault.TheVariants.{Fails};
+
+    ghost from_gives = { λ x e. e ≡ Fails x };
+
+    fn from(failing: Failing) -> WalkFault {
+        WalkFault::Fails(failing)
+    }
+}
+
+impl From<NoMemory> for WalkFault {
+    ghost use Rattle.std.specs.Prelude.{◌≡◌};
+    ghost use Rattle.brep_walk.specs.declared.fault.WalkFault.TheVariants.{NoMemory as OutOfMemory};
+
+    ghost from_gives = { λ _ e. e ≡ OutOfMemory };
+
+    fn from(_: NoMemory) -> WalkFault {
+        WalkFault::NoMemory
+    }
+}
+
+impl From<AllocError> for WalkFault {
+    ghost use Rattle.std.specs.Prelude.{◌≡◌};
+    ghost use Rattle.brep_walk.specs.declared.fault.WalkFault.TheVariants.{NoMemory as OutOfMemory};
+
+    ghost from_gives = { λ _ e. e ≡ OutOfMemory };
+
+    fn from(_: AllocError) -> WalkFault {
+        WalkFault::NoMemory
+    }
+}
+
+impl<T: Drop> From<AllocFailed<T>> for WalkFault {
+    ghost use Rattle.std.specs.Prelude.{◌≡◌};
+    ghost use Rattle.brep_walk.specs.declared.fault.WalkFault.TheVariants.{NoMemory as OutOfMemory};
+
+    ghost from_gives = { λ _ e. e ≡ OutOfMemory };
+
+    fn from(_: AllocFailed<T>) -> WalkFault {
+        WalkFault::NoMemory
+    }
+}

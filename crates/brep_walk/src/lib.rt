@@ -1,0 +1,22 @@
+//! The walk through the records of a solid: what their places must name, and the solid that they tell.
+#![tactic(auto)]
+
+mod faces;
+mod fault;
+mod index;
+mod kind;
+mod law;
+mod lists;
+mod loops;
+mod naming;
+mod numbering;
+mod once;
+mod place;
+mod records;
+mod shells;
+mod tuples;
+mod walking;
+
+pub use fault::WalkFault;
+pub use law::{places_are_definite, solid_is_numbered};
+pub use walking::walk;

@@ -1,0 +1,71 @@
+//! What the numbers in records name.
+
+ghost use Rattle.std.specs.Prelude.{◌≡◌, ◌↔◌, IsTrue, ◌∷◌, [], pos, MatchOption, IfOk, IfErr, OnOk};
+ghost use Rattle.brep_walk.specs.Kinds.{entity_kind};
+ghost use Rattle.brep_walk.specs.Places.{Names, NamesGeometry, entry_places};
+ghost use Rattle.iges_params.specs.Named.{values_of};
+ghost use Rattle.iges_params.specs.Limits.{FitsLimits};
+ghost use Rattle.solid_data.specs.Obligations.{AllHold, FirstFalse, obligation};
+ghost use Rattle.solid_data.specs.declared.verdict.Rule.TheVariants.{BadGeometry};
+
+use crate::kind::{RecordKind, is_geometry};
+use crate::place::Place;
+use iges_fields::{EntryNo, Values};
+use iges_params::File;
+use solid_data::{Failing, Rule};
+
+// The number as an entry's, unless it lies outside the directory.
+fn entry_no(file: &File, number: i64) -> Option<EntryNo>
+    ensures named { MatchOption result (¬ Names file.now number) (λ no. number ≡ pos no.0) }
+    ensures limits { FitsLimits file.now }
+{
+    let lines = 2 * file.entry_count();
+    match u32::try_from(number) {
+        Ok(no) if (no as usize) < lines => Some(EntryNo(no)),
+        _ => None,
+    }
+}
+
+/// An entry that a number names, and the values of its record.
+#[derive(Clone, Copy, Debug)]
+pub struct Named<'a> {
+    pub no: EntryNo,
+    pub values: &'a Values,
+}
+
+/// The entry of a kind that the number at a place names.
+pub fn entry_at(
+    file: &File,
+    at: Place,
+    kind: RecordKind,
+    number: i64,
+) -> Result<Named<'_>, Failing>
+    ensures holds { OnOk result (AllHold (entry_places file.now (pos at.entity.0) at.item (entity_kind kind) number)) }
+    ensures named { IfOk result (λ named. (number ≡ pos named.no.0) × (named.values.now ≡ values_of file.now number)) }
+    ensures fails { IfErr result (FirstFalse (entry_places file.now (pos at.entity.0) at.item (entity_kind kind) number)) }
+    ensures limits { FitsLimits file.now }
+{
+    let Some(no) = entry_no(file, number) else {
+        return Err(at.fails(Rule::NoEntry));
+    };
+    let (Some(entry), Some(values)) = (file.entry(no), file.values(no)) else {
+        return Err(at.fails(Rule::NoEntry));
+    };
+    if !kind.is_of(entry) {
+        return Err(at.fails(Rule::WrongKind));
+    }
+    Ok(Named { no, values })
+}
+
+/// That the number names a surface or a curve: an entry of none of the six types of topology.
+pub fn names_geometry(file: &File, number: i64) -> bool
+    ensures { IsTrue result ↔ NamesGeometry file.now number }
+{
+    match entry_no(file, number) {
+        Some(no) => match file.entry(no) {
+            Some(entry) => is_geometry(entry),
+            None => false,
+        },
+        None => false,
+    }
+}

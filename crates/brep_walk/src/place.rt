@@ -1,0 +1,26 @@
+//! Places of records.
+
+ghost use Rattle.std.specs.Prelude.{◌≡◌};
+
+use iges_fields::EntryNo;
+use solid_data::{Failing, Rule};
+
+/// A place that may name an entry: an item of an entity's record, from 1, or 0 for the entity itself (own).
+#[derive(Clone, Copy, Debug, PartialEq, Eq)]
+pub struct Place {
+    pub entity: EntryNo,
+    pub item: u32,
+}
+
+impl Place {
+    /// That a rule fails here.
+    pub fn fails(self, rule: Rule) -> Failing
+        ensures { result ≡ record { rule = rule; entity = self.entity; place = self.item } }
+    {
+        Failing {
+            rule,
+            entity: self.entity,
+            place: self.item,
+        }
+    }
+}

@@ -1,0 +1,157 @@
+//! The tuples of loops.
+
+ghost use Rattle.std.specs.Prelude.{◌≡◌, ◌∷◌, ◌<◌, ◌^◌, [], map, length, ℤ, Bool, pos, true, false, All, IsTrue, ◌↔◌, slice_get, IfSome, IfOk, IfErr, OnOk};
+ghost use Rattle.brep_walk.specs.Kept.{AreKept};
+ghost use Rattle.brep_walk.specs.Numbered.{IsMadeBy, keys_after};
+ghost use Rattle.brep_walk.specs.Places.{NamesGeometry, used_places, tuple_at, tuple_places};
+ghost use Rattle.brep_walk.specs.SolidOf.{use_by};
+ghost use Rattle.brep_walk.specs.Stands.{Stands};
+ghost use Rattle.brep_walk.specs.Walked.{IsFault};
+ghost use Rattle.solid_data.specs.Obligations.{AllHold, after_each};
+
+use crate::fault::WalkFault;
+use crate::lists::Lists;
+use crate::naming::names_geometry;
+use crate::numbering::Numbering;
+use crate::place::Place;
+use brep_loops::{LoopRecord, LoopTuple};
+use iges_fields::EntryNo;
+use iges_params::File;
+use solid_data::{LoopUse, Rule, Uses};
+use std::alloc::Global;
+
+/// Walks tuples: what their lists, indices and curves name, and the uses that they are.
+#[derive(Drop)]
+pub struct TupleWalk<'a> {
+    pub lists: Lists<'a>,
+    pub numbering: Numbering,
+}
+
+// Whether the i-th parameter curve of the tuple, from 0, names geometry where there is one.
+fn curve_names_geometry(file: &File, tuple: &LoopTuple<'_>, i: usize) -> bool
+    ensures { IsTrue result ↔ IfSome (slice_get tuple.now.curves i) (λ curve. NamesGeometry file.now curve.1) }
+{
+    match tuple.curve(i) {
+        Some(curve) => names_geometry(file, curve),
+        None => true,
+    }
+}
+
+// Whether each parameter curve of the tuple names geometry.
+fn curves_name_geometry(file: &File, tuple: &LoopTuple<'_>) -> bool
+    ensures { IsTrue result ↔ All (λ (curve : Bool × ℤ). NamesGeometry file.now curve.1) tuple.now.curves }
+{
+    'curves: for i in 0..tuple.curve_count() {
+        if !curve_names_geometry(file, tuple, i) {
+            return false;
+        }
+    }
+    true
+}
+
+impl<'a> TupleWalk<'a> {
+    pub fn new(alloc: Global, file: &'a File) -> TupleWalk<'a>
+        ensures stands { Stands file.now result.lists result.numbering }
+        ensures keys { result.numbering.keys ≡ record { edges = []; vertices = [] } }
+    {
+        TupleWalk {
+            lists: Lists::new(alloc, file),
+            numbering: Numbering::new(alloc),
+        }
+    }
+
+    // The use that a tuple of a vertex is.
+    fn vertex_use(&mut self, at: Place, tuple: &LoopTuple<'_>) -> Result<LoopUse, WalkFault>
+        requires vertex { tuple.now.is_vertex ≡ true }
+        requires stands { Stands self.old.lists.file self.old.lists self.old.numbering }
+        ensures stands { OnOk result (Stands self.old.lists.file self.new.lists self.new.numbering) }
+        ensures keys { OnOk result (self.new.numbering.keys ≡ keys_after self.old.lists.file self.old.numbering.keys (tuple.now ∷ [])) }
+        ensures made { IfOk result (IsMadeBy self.new.numbering.keys (λ keys. use_by keys tuple.now)) }
+        ensures holds { OnOk result (AllHold (used_places self.old.lists.file (pos at.entity.0) at.item tuple.now.list tuple.now.index true)) }
+        ensures fault { IfErr result (IsFault (used_places self.old.lists.file (pos at.entity.0) at.item tuple.now.list tuple.now.index true)) }
+    {
+        let key = self.lists.vertex(at, tuple.list(), tuple.index())?;
+        let vertex = self.numbering.vertex(key)?;
+        Ok(LoopUse::VertexUse { vertex })
+    }
+
+    // The use that a tuple of an edge is.
+    fn edge_use(&mut self, at: Place, tuple: &LoopTuple<'_>) -> Result<LoopUse, WalkFault>
+        requires edge { tuple.now.is_vertex ≡ false }
+        requires stands { Stands self.old.lists.file self.old.lists self.old.numbering }
+        ensures stands { OnOk result (Stands self.old.lists.file self.new.lists self.new.numbering) }
+        ensures keys { OnOk result (self.new.numbering.keys ≡ keys_after self.old.lists.file self.old.numbering.keys (tuple.now ∷ [])) }
+        ensures made { IfOk result (IsMadeBy self.new.numbering.keys (λ keys. use_by keys tuple.now)) }
+        ensures holds { OnOk result (AllHold (used_places self.old.lists.file (pos at.entity.0) at.item tuple.now.list tuple.now.index false)) }
+        ensures fault { IfErr result (IsFault (used_places self.old.lists.file (pos at.entity.0) at.item tuple.now.list tuple.now.index false)) }
+    {
+        let (key, ends) = self.lists.edge(at, tuple.list(), tuple.index())?;
+        let place = Place {
+            entity: key.list,
+            item: key.index,
+        };
+        let (from, to) = self.lists.ends(place, ends)?;
+        let edge = self.numbering.edge(key, from, to)?;
+        Ok(LoopUse::EdgeUse {
+            edge,
+            along: tuple.flag(),
+        })
+    }
+
+    // The use that a tuple is.
+    fn tuple_use(&mut self, at: Place, tuple: &LoopTuple<'_>) -> Result<LoopUse, WalkFault>
+        requires { Stands self.old.lists.file self.old.lists self.old.numbering }
+        ensures stands { OnOk result (Stands self.old.lists.file self.new.lists self.new.numbering) }
+        ensures keys { OnOk result (self.new.numbering.keys ≡ keys_after self.old.lists.file self.old.numbering.keys (tuple.now ∷ [])) }
+        ensures made { IfOk result (IsMadeBy self.new.numbering.keys (λ keys. use_by keys tuple.now)) }
+        ensures holds { OnOk result (AllHold (used_places self.old.lists.file (pos at.entity.0) at.item tuple.now.list tuple.now.index tuple.now.is_vertex)) }
+        ensures fault { IfErr result (IsFault (used_places self.old.lists.file (pos at.entity.0) at.item tuple.now.list tuple.now.index tuple.now.is_vertex)) }
+    {
+        if tuple.is_vertex() {
+            self.vertex_use(at, tuple)
+        } else {
+            self.edge_use(at, tuple)
+        }
+    }
+
+    /// The use that the tuple at a place is, where all that it names is there.
+    pub fn walk(&mut self, at: Place, tuple: &LoopTuple<'_>) -> Result<LoopUse, WalkFault>
+        requires { Stands self.old.lists.file self.old.lists self.old.numbering }
+        ensures stands { OnOk result (Stands self.old.lists.file self.new.lists self.new.numbering) }
+        ensures keys { OnOk result (self.new.numbering.keys ≡ keys_after self.old.lists.file self.old.numbering.keys (tuple.now ∷ [])) }
+        ensures made { IfOk result (IsMadeBy self.new.numbering.keys (λ keys. use_by keys tuple.now)) }
+        ensures holds { OnOk result (AllHold (tuple_at self.old.lists.file (pos at.entity.0) at.item tuple.now)) }
+        ensures fault { IfErr result (IsFault (tuple_at self.old.lists.file (pos at.entity.0) at.item tuple.now)) }
+    {
+        let made = self.tuple_use(at, tuple)?;
+        if !curves_name_geometry(self.lists.file(), tuple) {
+            return Err(WalkFault::Fails(at.fails(Rule::BadGeometry)));
+        }
+        Ok(made)
+    }
+
+    /// The uses that the tuples of a loop are.
+    pub fn walk_all(
+        &mut self,
+        alloc: Global,
+        no: EntryNo,
+        listed: &LoopRecord<'_>,
+    ) -> Result<Uses, WalkFault>
+        requires few { length listed.now < 2 ^ 31 }
+        requires stands { Stands self.old.lists.file self.old.lists self.old.numbering }
+        ensures stands { OnOk result (Stands self.old.lists.file self.new.lists self.new.numbering) }
+        ensures keys { OnOk result (self.new.numbering.keys ≡ keys_after self.old.lists.file self.old.numbering.keys listed.now) }
+        ensures made { IfOk result (IsMadeBy self.new.numbering.keys (λ keys. map (use_by keys) listed.now)) }
+        ensures holds { OnOk result (AllHold (after_each (tuple_places self.old.lists.file (pos no.0)) [] listed.now)) }
+        ensures fault { IfErr result (IsFault (after_each (tuple_places self.old.lists.file (pos no.0)) [] listed.now)) }
+    {
+        let mut uses = Uses::new(alloc);
+        let mut item = 0;
+        'tuples: for tuple in listed.tuples() {
+            item += 1;
+            let made = self.walk(Place { entity: no, item }, &tuple)?;
+            uses.push(made)?;
+        }
+        Ok(uses)
+    }
+}

@@ -1,0 +1,6 @@
+use Rattle.std.proofs.Common.{arith, Fits, w32}
+use Rattle.iges_solid_cmd.proofs.ShellLines.{few_shells}
+use Rattle.iges_solid_cmd.proofs.showing.shell_list.Goals as goal
+
+pub overflow_cast-k-end : goal.overflow_cast-k-end
+overflow_cast-k-end c = omega (arith, few_shells c.args.solid.now c.entity.ensures.numbered, c.shell_count-k-end.ensures.count)

@@ -1,0 +1,110 @@
+ghost use Rattle.iges_solid_cmd.specs.Due.{OfShow};
+ghost use Rattle.iges_solid_cmd.specs.Texts.{counted, fail_line, loop_count as loops_of, shell_line, shell_lines_from, show_text};
+ghost use Rattle.std.specs.Prelude.{◌≡◌, ◌+◌, ◌<◌, ◌^◌, ◌++◌, drop, length, IfOk, OnOk};
+
+use crate::answer::Answer;
+use crate::reply::Reply;
+use brep_walk::{WalkFault, walk};
+use edge_uses::{Rows, rows};
+use iges_fields::{Bytes, EntryNo, NoMemory, Out, write_number};
+use iges_params::File;
+use solid_data::{Failing, FaceUse, Shell, ShellAt, Solid};
+use std::alloc::Global;
+
+// The reply for a rule that fails.
+fn failed(alloc: Global, failing: Failing) -> Result<Reply, NoMemory>
+    ensures { IfOk result (λ reply. (reply.answer ≡ Answer.No) × (reply.text ≡ fail_line failing)) }
+{
+    let mut out = Out::new(alloc);
+    out.put(b"fail ")?;
+    out.put(failing.rule.name().as_bytes())?;
+    out.put(b" ")?;
+    write_number(&mut out, u64::from(failing.entity.0))?;
+    out.put(b" ")?;
+    write_number(&mut out, u64::from(failing.place))?;
+    out.put(b"\n")?;
+    Ok(Reply {
+        answer: Answer::No,
+        text: out.into_bytes(),
+    })
+}
+
+// A word and a number, each behind a space.
+fn put_count(out: &mut Out, word: &str, n: u64) -> Result<(), NoMemory>
+    ensures { OnOk result (out.new ≡ out.old ++ counted word.now n) }
+{
+    out.put(b" ")?;
+    out.put(word.as_bytes())?;
+    out.put(b" ")?;
+    write_number(out, n)
+}
+
+// How many loops the faces have.
+fn loop_count(faces: &[FaceUse]) -> u64
+    requires { loops_of faces.now < 2 ^ 64 }
+    ensures { result ≡ loops_of faces.now }
+{
+    let mut count = 0;
+    'faces: for face in faces {
+        count += face.loops.len() as u64;
+    }
+    count
+}
+
+// The line of a shell, whose number counts from 1.
+fn put_shell(out: &mut Out, k: u64, shell: &Shell, rows: &Rows) -> Result<(), NoMemory>
+    requires { loops_of shell.now.faces < 2 ^ 64 }
+    ensures { OnOk result (out.new ≡ out.old ++ shell_line k shell.now rows.now) }
+{
+    out.put(b"shell ")?;
+    write_number(out, k)?;
+    put_count(out, "entity", u64::from(shell.entity.0))?;
+    put_count(out, "flag", u64::from(shell.flag))?;
+    put_count(out, "faces", shell.faces.len() as u64)?;
+    put_count(out, "loops", loop_count(shell.faces.as_slice()))?;
+    put_count(out, "uses", rows.len() as u64)?;
+    put_count(out, "edges", rows.edge_count() as u64)?;
+    put_count(out, "vertices", rows.vertex_count() as u64)?;
+    out.put(b"\n")
+}
+
+// The line of the k-th shell, from 0.
+fn put_shell_at(alloc: Global, out: &mut Out, solid: &Solid, k: u32) -> Result<(), NoMemory>
+    requires { k < length solid.now.shells }
+    ensures { OnOk result (out.new ++ shell_lines_from (k + 1) solid.now (drop (k + 1) solid.now.shells) ≡ out.old ++ shell_lines_from k solid.now (drop k solid.now.shells)) }
+{
+    let rows = rows(alloc, solid, ShellAt(k))?;
+    let Some(shell) = solid.shell(ShellAt(k)) else {
+        return Ok(());
+    };
+    put_shell(out, u64::from(k) + 1, shell, &rows)
+}
+
+// The solid's number, and a line for each shell.
+fn shell_list(alloc: Global, solid: &Solid) -> Result<Bytes, NoMemory>
+    ensures { IfOk result (λ text. text ≡ show_text solid.now) }
+{
+    let mut out = Out::new(alloc);
+    out.put(b"solid ")?;
+    write_number(&mut out, u64::from(solid.entity().0))?;
+    out.put(b"\n")?;
+    'shells: for k in 0..solid.shell_count() as u32 {
+        put_shell_at(alloc, &mut out, solid, k)?;
+    }
+    Ok(out.into_bytes())
+}
+
+/// What the shells of a solid are made of, or the first rule on its records that fails.
+pub fn show_solid(alloc: Global, file: &File, no: u32) -> Result<Reply, NoMemory>
+    ensures { IfOk result (λ reply. OfShow no file.now reply.answer reply.text) }
+{
+    let solid = match walk(alloc, file, EntryNo(no)) {
+        Ok(solid) => solid,
+        Err(WalkFault::Fails(failing)) => return failed(alloc, failing),
+        Err(WalkFault::NoMemory) => return Err(NoMemory),
+    };
+    Ok(Reply {
+        answer: Answer::Done,
+        text: shell_list(alloc, &solid)?,
+    })
+}
