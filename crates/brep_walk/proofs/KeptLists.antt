@@ -72,20 +72,21 @@ still_vertices k all was same new z y at v updates put =
 pub vertex_list_kept : (f g : Contents) → f ≡ g → (z y : ℤ) → y ≡ z → (entry : EntryNo) (n : ℕ) → NamesRecord vertices f y → y ≡ pos entry.0 → (list : Items vertices) → list ≡ told vertices f y → n ≡ length list
     → IsVertexList g z (entry, n)
 vertex_list_kept f g file z y at entry n holds number list is count = subst (λ h. IsVertexList h z (entry, n)) file (subst (λ x. IsVertexList f x (entry, n)) at
-        (record { number = number; holds = holds; count = count ∙ ap (λ (l : Items vertices). length l) is }))
+    (record { number = number; holds = holds; count = count ∙ ap (λ (l : Items vertices). length l) is }))
 
 pub edge_list_kept : (f g : Contents) → f ≡ g → (z y : ℤ) → y ≡ z → (entry : EntryNo) (list : Items edges) → NamesRecord edges f y → y ≡ pos entry.0 → list ≡ told edges f y → length list < 2 ^ 31
     → IsEdgeList g z (entry, list)
 edge_list_kept f g file z y at entry list holds number is few = subst (λ h. IsEdgeList h z (entry, list)) file (subst (λ x. IsEdgeList f x (entry, list)) at
-        (record { number = number; holds = holds; items = is; few = few }))
+    (record { number = number; holds = holds; items = is; few = few }))
 
 -- An index in a kept list. k is the index as a call was given it.
 module _ (f : Contents) (z : ℤ) (v : EntryNo × List EdgeTuple) (kept : IsEdgeList f z v) (entity : ℤ) (place : ℕ) (j k : ℤ) (same : k ≡ j) where
   counted : (IsIndex k (length v.1) → IsIndex j (length (told edges f z))) × (IsIndex j (length (told edges f z)) → IsIndex k (length v.1))
   counted =
-      let items : length v.1 ≡ length (told edges f z) = ap (λ (l : List EdgeTuple). length l) kept.items in
-      ((λ h. subst (λ n. IsIndex j n) items (subst (λ x. IsIndex x (length v.1)) same h)),
-      (λ h. subst (λ n. IsIndex k n) (sym items) (subst (λ x. IsIndex x (length (told edges f z))) (sym same) h)))
+      let items : length v.1 ≡ length (told edges f z) = ap (λ (l : List EdgeTuple). length l) kept.items in (
+        (λ h. subst (λ n. IsIndex j n) items (subst (λ x. IsIndex x (length v.1)) same h)),
+        (λ h. subst (λ n. IsIndex k n) (sym items) (subst (λ x. IsIndex x (length (told edges f z))) (sym same) h)),
+      )
 
   pub kept_holds : IsIndex k (length v.1) → AllHold (item_places f entity place edges z j (length (told edges f z)))
   kept_holds h = AllHold-append (record_places f entity place edges z) (obligation BadIndex (entry_number entity) place (IsIndex j (length (told edges f z))) ∷ []) kept.holds (counted.0 h, tt)

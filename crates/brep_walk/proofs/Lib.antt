@@ -6,6 +6,8 @@ pub mod Few
 pub mod NamedEntry
 pub mod Opened
 pub mod LoopSteps
+pub mod Distinct
+pub mod WholeSolid
 pub mod Exactly
 pub mod ItemSteps
 pub mod WalkSteps

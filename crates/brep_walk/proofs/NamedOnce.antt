@@ -8,7 +8,6 @@ use Rattle.indexmap.proofs.CallerLemmas.{Contains-list_any}
 use Rattle.solid_data.specs.Obligations.{FirstFalse, obligation}
 use Rattle.solid_data.specs.declared.verdict.Failing.{Failing}
 use Rattle.solid_data.specs.declared.verdict.Rule.TheVariants.{Twice}
-
 use Rattle.std.specs.Prelude.{ℕ}
 
 -- y is the number as the set was given it

@@ -41,8 +41,16 @@ module _ (kind : EntityKind) (f : Contents) (entity : ℤ) (place : ℕ) (z y : 
   pub not_opened : (n : ℕ) (vs : List Value) (x : Failing) → AllHold (entry_places f entity place kind y) → y ≡ pos n → vs ≡ values_of f y
       → ((items : Items kind) → ¬ Fits kind vs items) → x ≡ record { rule = BadLayout; entity = record { 0 = n }; place = 0 } → FirstFalse (record_places f entity place kind z) x
   not_opened n vs x all is at none made = subst (λ w. FirstFalse (record_places f entity place kind w) x) same
-      (inr (all.0, inr (all.1.0, inl (no_record kind (named f y) (λ items fits. none items (subst (λ ws. Fits kind ws items) (sym at) fits)),
-      made ∙ ap (λ w. record { rule = BadLayout; entity = record { 0 = entry_number w }; place = 0 }) (sym is)))))
+      (inr (
+        all.0,
+        inr (
+          all.1.0,
+          inl (
+            no_record kind (named f y) (λ items fits. none items (subst (λ ws. Fits kind ws items) (sym at) fits)),
+            made ∙ ap (λ w. record { rule = BadLayout; entity = record { 0 = entry_number w }; place = 0 }) (sym is),
+          ),
+        ),
+      ))
 
   front_false : (x : Failing) → FirstFalse (entry_places f entity place kind y) x → FirstFalse (record_places f entity place kind z) x
   front_false x h = subst (λ w. FirstFalse (record_places f entity place kind w) x) same

@@ -54,7 +54,7 @@ pub vertex_made : (t : LoopTuple) → t.is_vertex ≡ true → (old : List Verte
 vertex_made t is old new later key v named put id more =
     ap (λ n. VertexUse (record { 0 = n })) (id ∙ (vertex_place old new later key put more ∙ ap (place_of same_vertex later.vertices) named))
     ∙ sym (ap (λ b. if b then VertexUse (record { 0 = place_of same_vertex later.vertices (vertex_key t.«list» t.index) })
-            else EdgeUse (record { 0 = place_of same_edge later.edges (edge_key t.«list» t.index) }) t.flag) is)
+    else EdgeUse (record { 0 = place_of same_edge later.edges (edge_key t.«list» t.index) }) t.flag) is)
 
 pub edge_made : (t : LoopTuple) → t.is_vertex ≡ false → (old : List EdgeKey) (new later : Keys) (key : EdgeKey) (e : EdgeId) (along : Bool) → key ≡ edge_key t.«list» t.index
     → new.edges ≡ insert_key same_edge old key → e.0 ≡ place_of same_edge new.edges key → along ≡ t.flag → Extends new later → EdgeUse e along ≡ use_by later t
@@ -62,7 +62,7 @@ edge_made t is old new later key e along named put id flag more =
     ap (λ n. EdgeUse (record { 0 = n }) along) (id ∙ (edge_place old new later key put more ∙ ap (place_of same_edge later.edges) named))
     ∙ (ap (EdgeUse (record { 0 = place_of same_edge later.edges (edge_key t.«list» t.index) })) flag
     ∙ sym (ap (λ b. if b then VertexUse (record { 0 = place_of same_vertex later.vertices (vertex_key t.«list» t.index) })
-            else EdgeUse (record { 0 = place_of same_edge later.edges (edge_key t.«list» t.index) }) t.flag) is))
+    else EdgeUse (record { 0 = place_of same_edge later.edges (edge_key t.«list» t.index) }) t.flag) is))
 
 -- The edges after one more was put in.
 

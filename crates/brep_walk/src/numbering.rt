@@ -52,8 +52,8 @@ impl Numbering {
     /// The number of a vertex, which is the next one where the vertex didn't appear before.
     pub fn vertex(&mut self, key: VertexKey) -> Result<VertexId, NoMemory>
         ensures keys { OnOk result (self.new ≡ record {
-            keys = record { edges = self.old.keys.edges; vertices = insert_key same_vertex self.old.keys.vertices key };
-            edges = self.old.edges;
+          keys = record { edges = self.old.keys.edges; vertices = insert_key same_vertex self.old.keys.vertices key };
+          edges = self.old.edges;
         }) }
         ensures id { IfOk result (λ id. id.0 ≡ place_of same_vertex self.new.keys.vertices key) }
     {
@@ -63,20 +63,15 @@ impl Numbering {
 
     /// The number of an edge. Where it didn't appear before it is the next one, and the edge goes from the one vertex to
     /// the other.
-    pub fn edge(
-        &mut self,
-        key: EdgeKey,
-        from: VertexKey,
-        to: VertexKey,
-    ) -> Result<EdgeId, NoMemory>
+    pub fn edge(&mut self, key: EdgeKey, from: VertexKey, to: VertexKey) -> Result<EdgeId, NoMemory>
         ensures keys { OnOk result (self.new.keys ≡ record {
-            edges = insert_key same_edge self.old.keys.edges key;
-            vertices = insert_key same_vertex (insert_key same_vertex self.old.keys.vertices from) to;
+          edges = insert_key same_edge self.old.keys.edges key;
+          vertices = insert_key same_vertex (insert_key same_vertex self.old.keys.vertices from) to;
         }) }
         ensures edges { OnOk result (self.new.edges ≡ (if list_any (same_edge key) self.old.keys.edges then self.old.edges else self.old.edges ++ record {
-            key = key;
-            from = record { 0 = place_of same_vertex self.new.keys.vertices from };
-            to = record { 0 = place_of same_vertex self.new.keys.vertices to };
+          key = key;
+          from = record { 0 = place_of same_vertex self.new.keys.vertices from };
+          to = record { 0 = place_of same_vertex self.new.keys.vertices to };
         } ∷ [])) }
         ensures id { IfOk result (λ id. id.0 ≡ place_of same_edge self.new.keys.edges key) }
     {

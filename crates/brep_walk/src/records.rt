@@ -28,11 +28,7 @@ fn bad_layout(named: &Named<'_>) -> Failing
 }
 
 /// The solid that the number at a place names, by its entry and what its record tells.
-pub fn solid_at(
-    file: &File,
-    at: Place,
-    number: i64,
-) -> Result<(EntryNo, SolidRecord<'_>), Failing>
+pub fn solid_at(file: &File, at: Place, number: i64) -> Result<(EntryNo, SolidRecord<'_>), Failing>
     ensures holds { OnOk result (AllHold (record_places file.now (pos at.entity.0) at.item solid number)) }
     ensures named { IfOk result (λ r. (number ≡ pos r.0.0) × (r.1 ≡ told solid file.now number)) }
     ensures few { IfOk result (λ r. length r.1.voids < 2 ^ 31) }
@@ -47,11 +43,7 @@ pub fn solid_at(
 }
 
 /// The shell that the number at a place names.
-pub fn shell_at(
-    file: &File,
-    at: Place,
-    number: i64,
-) -> Result<(EntryNo, ShellRecord<'_>), Failing>
+pub fn shell_at(file: &File, at: Place, number: i64) -> Result<(EntryNo, ShellRecord<'_>), Failing>
     ensures holds { OnOk result (AllHold (record_places file.now (pos at.entity.0) at.item shell number)) }
     ensures named { IfOk result (λ r. (number ≡ pos r.0.0) × (r.1 ≡ told shell file.now number)) }
     ensures few { IfOk result (λ r. length r.1 < 2 ^ 31) }
@@ -93,11 +85,7 @@ pub fn loop_at(file: &File, at: Place, number: i64) -> Result<(EntryNo, LoopReco
 }
 
 /// The edge list that the number at a place names.
-pub fn edge_list_at(
-    file: &File,
-    at: Place,
-    number: i64,
-) -> Result<(EntryNo, EdgeList<'_>), Failing>
+pub fn edge_list_at(file: &File, at: Place, number: i64) -> Result<(EntryNo, EdgeList<'_>), Failing>
     ensures holds { OnOk result (AllHold (record_places file.now (pos at.entity.0) at.item edges number)) }
     ensures named { IfOk result (λ r. (number ≡ pos r.0.0) × (r.1 ≡ told edges file.now number)) }
     ensures few { IfOk result (λ r. length r.1 < 2 ^ 31) }

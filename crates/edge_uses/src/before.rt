@@ -47,10 +47,8 @@ impl VerticesBefore {
 
     /// The least vertex of the next shell, whose rows are given, that is one of these.
     pub fn first_shared(self, rows: &Rows) -> Option<VertexId>
-        ensures {
-            (s : SolidData) (k : ℕ) → AreBelow s k self → rows.now ≡ rows_of s (slice_get s.shells k) →
-            MatchOption result (AllByRecursion (IsApart s k) rows.now.vertices) (λ v. FirstNot (IsApart s k) rows.now.vertices v.0)
-        }
+        ensures { (s : SolidData) (k : ℕ) → AreBelow s k self → rows.now ≡ rows_of s (slice_get s.shells k) →
+            MatchOption result (AllByRecursion (IsApart s k) rows.now.vertices) (λ v. FirstNot (IsApart s k) rows.now.vertices v.0) }
     {
         let least = *rows.vertex_slice().first()?;
         if (least as usize) < self.below {
@@ -62,10 +60,8 @@ impl VerticesBefore {
 
     /// These, and those of the next shell, whose rows are given.
     pub fn with(self, rows: &Rows) -> VerticesBefore
-        ensures {
-            (s : SolidData) (k : ℕ) → IsNumberedSolid s → k < length s.shells → AreBelow s k self → rows.now ≡ rows_of s (slice_get s.shells k) →
-            AreBelow s (k + 1) result
-        }
+        ensures { (s : SolidData) (k : ℕ) → IsNumberedSolid s → k < length s.shells → AreBelow s k self → rows.now ≡ rows_of s (slice_get s.shells k) →
+            AreBelow s (k + 1) result }
     {
         match rows.vertex_slice().last() {
             Some(last) => VerticesBefore {

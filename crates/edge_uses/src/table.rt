@@ -1,8 +1,8 @@
 //! The rows of a shell.
 
-use crate::row::Row;
 use crate::building::Built;
 use crate::occurring::occurring_numbers;
+use crate::row::Row;
 use crate::spanning::{Span, span_of};
 use iges_fields::NoMemory;
 use solid_data::{EdgeId, LoopAt, RowId, Shell, Solid, VertexId};

@@ -77,10 +77,13 @@ tops_step d i f was last before new whole on is_was is_new h = record {
     length_set [] k v = refl
     length_set (x ∷ xs) zero v = refl
     length_set (x ∷ xs) (suc k) v = ap suc (length_set xs k v)
+
     f_low : f < length last
     f_low = omega (arith, face_low d f i whole on, h.faces)
+
     known : was ≡ get_or last f 0
     known = is_was ∙ default_apart last f was 0 f_low
+
     by_face : (face : ℕ) → face < d.face_count → (((f == face) ≡ true) × (f ≡ face)) ⊎ (((f == face) ≡ false) × (f ≢ face)) → IsTop d face (i + 1) (get_or (slice_set last f (i + 1)) face 0)
     by_face face low (inl y) =
         let there : get_or (slice_set last f (i + 1)) face 0 ≡ i + 1 = subst (λ k. get_or (slice_set last f (i + 1)) k 0 ≡ i + 1) y.1 (set_same last f (i + 1) 0 f_low) in
@@ -96,14 +99,16 @@ tops_step d i f was last before new whole on is_was is_new h = record {
           here = t.here;
           all = λ x on_x lt. ⊎_elim (λ a. t.all x on_x a) (λ b. absurd (n.1 (one_face d f face i on (subst (λ k. OnFace d face k) b on_x)))) (last_or x i lt);
         })
+
     tops : (face : ℕ) → face < d.face_count → IsTop d face (i + 1) (get_or (slice_set last f (i + 1)) face 0)
     tops face low = by_face face low (eqb_tells f face)
+
     nexts : (r face : ℕ) → r < i + 1 → OnFace d face r → IsTop d face r (get_or new r 0)
     nexts r face lt on_r = ⊎_elim
         (λ a. subst (IsTop d face r) (sym (ap (λ xs. get_or xs r 0) is_new ∙ pushed_front before was r 0 (omega (arith, a, h.rows)))) (h.nexts r face a on_r))
         (λ b.
-            let here : get_or new r 0 ≡ get_or last f 0 = ap (λ xs. get_or xs r 0) is_new ∙ (ap (λ k. get_or (before ++ was ∷ []) k 0) (b ∙ sym h.rows) ∙ (pushed_last before was 0 ∙ known)) in
-            let same : f ≡ face = one_face d f face i on (subst (λ k. OnFace d face k) b on_r) in
-            let top : IsTop d f i (get_or last f 0) = h.tops f (face_low d f i whole on) in
-            subst (IsTop d face r) (sym here) (subst (λ k. IsTop d face k (get_or last f 0)) (sym b) (subst (λ k. IsTop d k i (get_or last f 0)) same top)))
+        let here : get_or new r 0 ≡ get_or last f 0 = ap (λ xs. get_or xs r 0) is_new ∙ (ap (λ k. get_or (before ++ was ∷ []) k 0) (b ∙ sym h.rows) ∙ (pushed_last before was 0 ∙ known)) in
+        let same : f ≡ face = one_face d f face i on (subst (λ k. OnFace d face k) b on_r) in
+        let top : IsTop d f i (get_or last f 0) = h.tops f (face_low d f i whole on) in
+        subst (IsTop d face r) (sym here) (subst (λ k. IsTop d face k (get_or last f 0)) (sym b) (subst (λ k. IsTop d k i (get_or last f 0)) same top)))
         (last_or r i lt)

@@ -102,17 +102,22 @@ flood_more d marks order rows face r mate other whole flood known on mates on_ot
   where
     low : other < length marks
     low = omega (arith, face_low d other mate whole.rows on_other, flood.faces)
+
     new : Has order other → ⊥
     new h = let e : true ≡ false = sym (flood.marked other h) ∙ unmarked in absurd (cc)
+
     here : IsReached d other
     here = leads_last (AreNeighbours d) 0 face other (flood.reached face known) (r, mate, mates, on, on_other)
+
     listed : (f : ℕ) → (((other == f) ≡ true) × (other ≡ f)) ⊎ (((other == f) ≡ false) × (other ≢ f)) → get_or (slice_set marks other true) f false ≡ true → Has (order ++ other ∷ []) f
     listed f (inl y) h = has_right order (other ∷ []) f (inl y.1)
     listed f (inr n) h = has_left order (other ∷ []) f (flood.listed f (sym (set_other marks other f true false n.1) ∙ h))
+
     marked : (f : ℕ) → (((other == f) ≡ true) × (other ≡ f)) ⊎ (((other == f) ≡ false) × (other ≢ f)) → Has order f ⊎ (other ≡ f) → get_or (slice_set marks other true) f false ≡ true
     marked f (inl y) h = subst (λ k. get_or (slice_set marks other true) k false ≡ true) y.1 (set_same marks other true false low)
     marked f (inr n) (inl h) = set_other marks other f true false n.1 ∙ flood.marked f h
     marked f (inr n) (inr e) = absurd (n.1 e)
+
     done : (rest : List ℕ) → ReachFrom d (reverse (order ++ other ∷ [])) rest → ReachFrom d (0 ∷ []) ((rows ++ mate ∷ []) ++ rest)
     done rest h =
         let k : ReachFrom d (other ∷ reverse order) rest = subst (λ known. ReachFrom d known rest) (reverse-append order (other ∷ [])) h in
@@ -165,6 +170,7 @@ left_more d face r top order new left on t grows there = record {
     three zero (suc r) = inl (omega arith)
     three (suc x) zero = inr (inr (omega arith))
     three (suc x) (suc r) = ⊎_elim (λ a. inl (omega (arith, a))) (λ b. ⊎_elim (λ e. inr (inl (ap suc e))) (λ k. inr (inr (omega (arith, k)))) b) (three x r)
+
     by_row : (x m g : ℕ) → OnFace d face x → top ≤ x → AreMates d x m → OnFace d g m → (x < r) ⊎ ((x ≡ r) ⊎ (suc r ≤ x)) → Has new g
     by_row x m g on_x above mates on_g (inl lt) = absurd (omega (arith, above, t.all x on_x lt))
     by_row x m g on_x above mates on_g (inr (inl e)) = there m g (subst (λ k. AreMates d k m) e mates) on_g
@@ -255,11 +261,13 @@ place_done d old new q grows same here before j f lt at = by_place (below_or j q
   where
     back : j < length old → slice_get old j ≡ Some f
     back low = front_same old grows.0 j f low (ap (λ xs. slice_get xs j) (sym grows.1) ∙ at)
+
     earlier : j < q → (j < length old) ⊎ (length old ≤ j) → IsDone d new f
     earlier before_q (inl low) = λ other n. still_has old new other grows (before j f before_q (back low) other n)
     earlier before_q (inr high) =
         let k : new ≡ old = same (omega (arith, high, before_q)) in
         subst (λ xs. IsDone d xs f) (sym k) (before j f before_q (ap (λ xs. slice_get xs j) (sym k) ∙ at))
+
     by_place : (j < q) ⊎ (q ≤ j) → IsDone d new f
     by_place (inl a) = earlier a (below_or j (length old))
     by_place (inr b) = let e : j ≡ q = omega (arith, b, lt) in here f (ap (λ k. slice_get new k) (sym e) ∙ at)
@@ -294,8 +302,14 @@ unmarked_not d marks order rows f h done no_mark chain = let e : true ≡ false 
 pub flood_reaches : (d : ShellRows) (marks : List Bool) (order rows : List ℕ) → IsFlood d marks order rows → ((g : ℕ) → Has order g → IsDone d order g) → AllByRecursion (IsReached d) (numbers_from 0 d.face_count) → ReachesAll d rows
 flood_reaches d marks order rows h done all = record {
   order = subst (ReachFrom d (0 ∷ [])) (nil rows) (h.done [] tt);
-  count = omega (arith, h.count, order_few d marks order rows h, length-numbers 0 d.face_count, no_longer (numbers_from 0 d.face_count) order (rises_none (numbers_from 0 d.face_count) (numbers_rise 0 d.face_count))
-      (λ f m. let chain = All-at (IsReached d) (numbers_from 0 d.face_count) all f m in all_listed d order done chain.0 0 f h.first chain.1));
+  count = omega (
+    arith,
+    h.count,
+    order_few d marks order rows h,
+    length-numbers 0 d.face_count,
+    no_longer (numbers_from 0 d.face_count) order (rises_none (numbers_from 0 d.face_count) (numbers_rise 0 d.face_count))
+        (λ f m. let chain = All-at (IsReached d) (numbers_from 0 d.face_count) all f m in all_listed d order done chain.0 0 f h.first chain.1),
+  );
   reached = all;
 }
   where

@@ -91,7 +91,12 @@ impl Flood {
         })
     }
 
-    fn leave_next(&mut self, paired: &Paired<'_>, faces: &FaceRows, q: usize) -> Result<(), NoMemory>
+    fn leave_next(
+        &mut self,
+        paired: &Paired<'_>,
+        faces: &FaceRows,
+        q: usize,
+    ) -> Result<(), NoMemory>
         requires whole { ArePaired paired.now }
         requires table { AreFaceRows paired.now faces.now.last.items faces.now.before.items }
         requires flood { IsFlood paired.now self.old.marks.items self.old.order.items (row_numbers self.old.rows) }
@@ -108,7 +113,12 @@ impl Flood {
     }
 
     /// Goes on until no face is left.
-    pub fn run(&mut self, paired: &Paired<'_>, faces: &FaceRows, count: usize) -> Result<(), NoMemory>
+    pub fn run(
+        &mut self,
+        paired: &Paired<'_>,
+        faces: &FaceRows,
+        count: usize,
+    ) -> Result<(), NoMemory>
         requires whole { ArePaired paired.now }
         requires table { AreFaceRows paired.now faces.now.last.items faces.now.before.items }
         requires count { count ≡ paired.now.face_count }

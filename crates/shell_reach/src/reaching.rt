@@ -26,10 +26,8 @@ fn first_unreached(paired: &Paired<'_>, flood: &Flood, count: usize) -> Option<u
     requires few { count < 2 ^ 29 }
     requires flood { IsFlood paired.now flood.now.marks.items flood.now.order.items (row_numbers flood.now.rows) }
     requires done { (f : ℕ) → Has flood.now.order.items f → IsDone paired.now flood.now.order.items f }
-    ensures {
-        MatchOption result (AllByRecursion (IsReached paired.now) (numbers_from 0 paired.now.face_count))
-        (λ f. FirstNot (IsReached paired.now) (numbers_from 0 paired.now.face_count) f)
-    }
+    ensures { MatchOption result (AllByRecursion (IsReached paired.now) (numbers_from 0 paired.now.face_count))
+        (λ f. FirstNot (IsReached paired.now) (numbers_from 0 paired.now.face_count) f) }
 {
     'faces: for f in 0..count {
         if !flood.marks[f] {

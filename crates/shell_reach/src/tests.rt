@@ -65,7 +65,6 @@ fn vertex(index: u32) -> VertexKey
     }
 }
 
-
 // A ball of one face, whose loop runs along a seam from pole to pole and back.
 fn seamed_ball(alloc: Global) -> Result<Solid, NoMemory>
     ensures { IfOk result (λ s. length s.shells ≡ 1) }
@@ -129,12 +128,7 @@ fn two_faces(alloc: Global) -> Result<Solid, NoMemory>
         },
     )?;
     let vertices = one(alloc, vertex(1))?;
-    Ok(Solid::new(
-        EntryNo(13),
-        shells,
-        ItemList::new(alloc),
-        vertices,
-    ))
+    Ok(Solid::new(EntryNo(13), shells, ItemList::new(alloc), vertices))
 }
 
 // Rows that reach the faces of a solid's one shell, whose loops join and whose edges are paired.

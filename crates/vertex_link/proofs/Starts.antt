@@ -83,10 +83,13 @@ starts_this d i v m row at alike same h = by_count (eqb_tells m.count 0)
   where
     counted : m.count + 1 + times from_of v (drop (i + 1) d.rows) ≡ times from_of v d.rows
     counted = omega (arith, h.count, split_times from_of v d.rows i row at, ap one_if alike)
+
     before : (x : ℕ) → x < i → StartsAt d v x → m.count ≡ 0 → ⊥
     before x lt s e = omega (arith, (h.least x lt s).0, e)
+
     old_first : (x : ℕ) → x < i + 1 → StartsAt d v x → 0 < m.count → m.first ≤ x
     old_first x lt s p = ⊎_elim (λ low. (h.least x low s).1) (λ high. omega (arith, (h.first p).1, high)) (below_or x i)
+
     by_count : (((m.count == 0) ≡ true) × (m.count ≡ 0)) ⊎ (((m.count == 0) ≡ false) × (m.count ≢ 0)) → StartsBefore d (i + 1) v (one_start_more m i)
     by_count (inl y) = subst (λ b. StartsBefore d (i + 1) v (record { count = m.count + 1; first = (if b then i else m.first) })) (sym y.0) (record {
       count = counted;
@@ -107,12 +110,16 @@ starts_step d i span row old was new at long below each is_was is_new v low = by
   where
     in_span : IsWithin span row.from.0
     in_span = All-at (λ (r : Row). IsWithin span r.from.0) d.rows below row (has_get d.rows i row at)
+
     k : ℕ
     k = row.from.0 - span.least
+
     in_old : k < length old
     in_old = omega (arith, long, in_span.0, in_span.1)
+
     known : was ≡ get_or old k no_starts
     known = is_was ∙ default_apart old k was no_starts in_old
+
     by_vertex : (((row.from.0 == v) ≡ true) × (row.from.0 ≡ v)) ⊎ (((row.from.0 == v) ≡ false) × (row.from.0 ≢ v)) → StartsBefore d (i + 1) v (get_or (slice_set old (row.from.0 - span.least) new) (v - span.least) no_starts)
     by_vertex (inl y) =
         let place : k ≡ v - span.least = ap (λ n. n - span.least) y.1 in
@@ -153,14 +160,19 @@ points_step d i span vertex at old was new here long below each is_was is_new v 
   where
     has : Has d.points (at, vertex)
     has = has_get d.points i (at, vertex) here
+
     in_span : IsWithin span vertex
     in_span = All-at (λ (p : LoopAt × ℕ). IsWithin span p.1) d.points below (at, vertex) has
+
     k : ℕ
     k = vertex - span.least
+
     in_old : k < length old
     in_old = omega (arith, long, in_span.0, in_span.1)
+
     known : was ≡ get_or old k no_points
     known = is_was ∙ default_apart old k was no_points in_old
+
     by_vertex : (((vertex == v) ≡ true) × (vertex ≡ v)) ⊎ (((vertex == v) ≡ false) × (vertex ≢ v)) → PointsBefore d (i + 1) v (get_or (slice_set old (vertex - span.least) new) (v - span.least) no_points)
     by_vertex (inl y) =
         let place : k ≡ v - span.least = ap (λ n. n - span.least) y.1 in

@@ -136,15 +136,20 @@ back_in_time d v m (x ∷ xs) at whole starts some long back w none = subst (λ 
   where
     turn : AreTurning d
     turn = turning d whole
+
     first : StartsAt d v m.first
     first = starts.first some
+
     t : Trail (Turns d) m.first xs m.first
     t = subst (λ y. Trail (Turns d) m.first xs y) back w.1
+
     each : (y : ℕ) → Has (m.first ∷ xs) y → StartsAt d v y
     each y (inl e) = subst (StartsAt d v) e first
     each y (inr h) = trail_keeps (Turns d) (StartsAt d v) (λ a b. turn.same v a b) m.first xs m.first t first y h
+
     apart : NoRepeat (m.first ∷ xs)
     apart = no_repeat (Turns d) turn.one m.first xs m.first t w.2
+
     cycle : IsCycle d v m.first xs
     cycle = record {
       starts = All-from (StartsAt d v) (m.first ∷ xs) each;

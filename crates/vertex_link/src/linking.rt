@@ -25,7 +25,13 @@ fn push_corner(corners: &mut Vec<Corner>, corner: Corner) -> Result<(), NoMemory
     Ok(())
 }
 
-fn corners_of(alloc: Global, paired: &Paired<'_>, span: Span, starts: &[Starts], points: &[Points]) -> Result<Vec<Corner>, LinkFault>
+fn corners_of(
+    alloc: Global,
+    paired: &Paired<'_>,
+    span: Span,
+    starts: &[Starts],
+    points: &[Points],
+) -> Result<Vec<Corner>, LinkFault>
     requires whole { ArePaired paired.now }
     requires starts { AreAllStarts paired.now span starts.now }
     requires points { AreAllPoints paired.now span points.now }

@@ -65,7 +65,6 @@ fn vertex(index: u32) -> VertexKey
     }
 }
 
-
 // A ball of one face, whose loop runs along a seam from pole to pole and back.
 fn seamed_ball(alloc: Global) -> Result<Solid, NoMemory>
     ensures { IfOk result (λ s. length s.shells ≡ 1) }
@@ -103,12 +102,7 @@ fn pole_ball(alloc: Global) -> Result<Solid, NoMemory>
     let uses = one(alloc, pole)?;
     let shells = shell_of(alloc, uses)?;
     let vertices = one(alloc, vertex(1))?;
-    Ok(Solid::new(
-        EntryNo(13),
-        shells,
-        ItemList::new(alloc),
-        vertices,
-    ))
+    Ok(Solid::new(EntryNo(13), shells, ItemList::new(alloc), vertices))
 }
 
 fn links_of(alloc: Global, solid: &Solid) -> Result<Links, Fail>

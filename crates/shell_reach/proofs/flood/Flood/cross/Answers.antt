@@ -26,7 +26,7 @@ returns-clause-flood c =
     let on : OnFace c.args.paired.now c.face_of-other.result c.mate_of-mate.result = subst (λ (d : ShellRows). OnFace d c.face_of-other.result c.mate_of-mate.result) c.rows-rows.ensures.rows c.face_of-other.ensures in
     let low = face_low c.args.paired.now c.face_of-other.result c.mate_of-mate.result c.requires.whole.rows on in
     let more = flood_more c.args.paired.now c.args.self.now.marks.items c.args.self.now.order.items (row_numbers c.args.self.now.rows) c.args.face c.args.r c.mate_of-mate.result c.face_of-other.result c.requires.whole c.requires.flood c.requires.known c.requires.row c.mate_of-mate.ensures on
-        (default_apart c.args.self.now.marks.items c.face_of-other.result false c.index.result.now (omega (arith, low, c.requires.flood.faces)) ∙ (sym c.index.ensures ∙ c.if-index.false)) in
+    (default_apart c.args.self.now.marks.items c.face_of-other.result false c.index.result.now (omega (arith, low, c.requires.flood.faces)) ∙ (sym c.index.ensures ∙ c.if-index.false)) in
     ok_three c.add.result _ _ _ _
     (λ x m o r. flood_as c.args.paired.now _ c.add.new.self.marks.items _ c.add.new.self.order.items _ (row_numbers c.add.new.self.rows) more m o (numbers_pushed c.args.self.now.rows c.add.new.self.rows c.mate_of-mate.result r))
     c.add.ensures.marks c.add.ensures.order c.add.ensures.rows

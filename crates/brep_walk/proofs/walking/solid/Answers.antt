@@ -1,0 +1,23 @@
+use Rattle.std.proofs.Common.{sym, subst, pos}
+use Rattle.solid_data.specs.Numbering.{IsNumberedSolid}
+use Rattle.brep_walk.specs.SolidOf.{solid_of}
+use Rattle.brep_walk.proofs.Few.{has_few_parts}
+use Rattle.brep_walk.proofs.Found.{solid_is_numbered}
+use Rattle.brep_walk.proofs.WholeSolid.{solid_is}
+use Rattle.std.proofs.Common.{◌∙◌}
+use Rattle.brep_walk.proofs.walking.solid.Goals as goal
+
+pub new-requires : goal.new-requires
+new-requires c =
+    let f = c.args.file.now in
+    let e = c.in_ok-shells.ensures in
+    subst IsNumberedSolid
+    (sym (solid_is f c.args.no c.in_ok-shells.shells c.into_edges.result c.in_ok-vertices.vertices c.in_ok-shells.numbering e.shells c.into_edges.ensures e.edges c.in_ok-vertices.ensures e.keys))
+    (solid_is_numbered f c.args.no.0 e.holds (has_few_parts f c.args.no.0 e.limits e.holds))
+
+pub returns-clause-solid : goal.returns-clause-solid
+returns-clause-solid c =
+    let f = c.args.file.now in
+    let e = c.in_ok-shells.ensures in
+    c.new.ensures
+    ∙ solid_is f c.args.no c.in_ok-shells.shells c.into_edges.result c.in_ok-vertices.vertices c.in_ok-shells.numbering e.shells c.into_edges.ensures e.edges c.in_ok-vertices.ensures e.keys
