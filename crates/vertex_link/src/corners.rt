@@ -50,4 +50,11 @@ impl Links {
     {
         self.corners.get(i)
     }
+
+    /// What lies round each vertex, by rising number.
+    pub fn into_corners(self) -> Vec<Corner>
+        ensures { result.items ≡ self }
+    {
+        self.corners
+    }
 }
