@@ -52,15 +52,15 @@ pub fn entry_at(file: &File, at: Place, kind: RecordKind, number: i64) -> Result
     Ok(Named { no, values })
 }
 
-/// That the number names a surface or a curve: an entry of none of the six types of topology.
+/// Whether the number names a surface or a curve: an entry of none of the six types of topology.
 pub fn names_geometry(file: &File, number: i64) -> bool
     ensures { IsTrue result ↔ NamesGeometry file.now number }
 {
-    match entry_no(file, number) {
-        Some(no) => match file.entry(no) {
-            Some(entry) => is_geometry(entry),
-            None => false,
-        },
+    let Some(no) = entry_no(file, number) else {
+        return false;
+    };
+    match file.entry(no) {
+        Some(entry) => is_geometry(entry),
         None => false,
     }
 }
