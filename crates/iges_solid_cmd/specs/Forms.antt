@@ -1,5 +1,5 @@
 -- The forms that the words of a command line may have.
-use Rattle.std.specs.Prelude.{ℕ, Bool, true, false, ◌&&◌, nat_eq, nat_le, List, [], ◌∷◌, ◌++◌, length, map, Option, Some, None, option_map, find, codes}
+use Rattle.std.specs.Prelude.{ℕ, Bool, true, false, ◌&&◌, nat_eq, nat_le, List, [], ◌∷◌, ◌++◌, length, map, Option, Some, None, option_map, find, codes, if◌then◌else◌}
 use Rattle.std.specs.Cmp.Lexicographic.{pointwise}
 use Rattle.std.specs.List.{list_any}
 use Rattle.std.specs.Str.Parse.{digits_value}
@@ -25,7 +25,8 @@ entry_number = number 7 1 9999999
 abbrev pub forms : List Form
 forms =
     record { slots = word (codes "solids") ∷ file ∷ []; command = λ _. command.Solids } ∷
-    record { slots = word (codes "show") ∷ file ∷ entry_number ∷ []; command = λ n. command.Show n } ∷ []
+    record { slots = word (codes "show") ∷ file ∷ entry_number ∷ []; command = λ n. command.Show n } ∷
+    record { slots = word (codes "certify") ∷ file ∷ entry_number ∷ []; command = λ n. command.Certify n } ∷ []
 
 -- ---- reading words
 
@@ -52,6 +53,11 @@ form_of words = find (λ (form : Form). all_fit form.slots words) forms
 -- the command of the first form that the words have
 abbrev pub command_of : List (List ℕ) → Option Command
 command_of words = option_map (λ (form : Form). form.command (number_among form.slots words)) (form_of words)
+
+-- the command that a word asks for, for the entry of this number
+abbrev pub entry_command : List ℕ → ℕ → Option Command
+entry_command name n =
+    if pointwise nat_eq name (codes "show") then Some (command.Show n) else (if pointwise nat_eq name (codes "certify") then Some (command.Certify n) else None)
 
 -- ---- which sources a form reads
 

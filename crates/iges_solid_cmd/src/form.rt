@@ -1,4 +1,4 @@
-ghost use Rattle.iges_solid_cmd.specs.Forms.{command_of, entry_number as entry_slot, fits};
+ghost use Rattle.iges_solid_cmd.specs.Forms.{command_of, entry_command, entry_number as entry_slot, fits};
 ghost use Rattle.iges_fields.specs.Word.{are_digits};
 ghost use Rattle.std.specs.Char.{is_ascii_digit};
 ghost use Rattle.std.specs.Cmp.Lexicographic.{pointwise};
@@ -13,6 +13,8 @@ pub enum Command {
     Solids,
     /// What the shells of a solid, named by its directory number, are made of.
     Show(u32),
+    /// A certificate that a solid, named by its directory number, is closed.
+    Certify(u32),
 }
 
 // The command that a word and the name of a file ask for.
@@ -54,17 +56,27 @@ fn entry_number(word: &str) -> Option<u32>
     Some(n)
 }
 
-// The command that a word, the name of a file and a number ask for.
-fn of_entry(name: &str, number: &str) -> Option<Command>
-    ensures { result ≡ (if pointwise nat_eq name.now (codes "show") && fits entry_slot number.now then Some (Command.Show (digits_value 10 number.now)) else None) }
+// The command that a word asks for, for the entry of this number.
+fn of_entry(name: &str, no: u32) -> Option<Command>
+    ensures { result ≡ entry_command name.now no }
 {
-    if name != "show" {
-        return None;
+    if name == "show" {
+        return Some(Command::Show(no));
     }
+    if name == "certify" {
+        return Some(Command::Certify(no));
+    }
+    None
+}
+
+// The command that a word, the name of a file and a number ask for.
+fn of_number(name: &str, number: &str) -> Option<Command>
+    ensures { result ≡ (if fits entry_slot number.now then entry_command name.now (digits_value 10 number.now) else None) }
+{
     let Some(no) = entry_number(number) else {
         return None;
     };
-    Some(Command::Show(no))
+    of_entry(name, no)
 }
 
 /// The command of the first listed form that the words have (own).
@@ -73,7 +85,7 @@ pub fn command_in(words: &[String]) -> Option<Command>
 {
     match words {
         [name, _] => of_file(name.as_str()),
-        [name, _, number] => of_entry(name.as_str(), number.as_str()),
+        [name, _, number] => of_number(name.as_str(), number.as_str()),
         _ => None,
     }
 }

@@ -8,11 +8,11 @@ use brep_walk::{WalkFault, walk};
 use edge_uses::{Rows, rows};
 use iges_fields::{Bytes, EntryNo, NoMemory, Out, write_number};
 use iges_params::File;
-use solid_data::{FaceUse, Failing, Shell, ShellAt, Solid};
+use solid_data::{Failing, FaceUse, Shell, ShellAt, Solid};
 use std::alloc::Global;
 
-// The reply for a rule that fails.
-fn failed(alloc: Global, failing: Failing) -> Result<Reply, NoMemory>
+/// The reply for a rule that fails.
+pub fn failed(alloc: Global, failing: Failing) -> Result<Reply, NoMemory>
     ensures { IfOk result (λ reply. (reply.answer ≡ Answer.No) × (reply.text ≡ fail_line failing)) }
 {
     let mut out = Out::new(alloc);

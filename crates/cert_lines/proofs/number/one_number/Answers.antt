@@ -1,0 +1,14 @@
+use Rattle.std.proofs.Common.{rules, arith, ◌≡◌, ◌≢◌, ℕ, List, [], ◌∷◌, ◌≤◌, ◌<◌, ◌↔◌, IsTrue, length, take, drop, decimal, MatchOption, SomeIff, ap, subst, sym, get_or}
+use Rattle.std.specs.Str.Parse.{IsNumeral, digits_value}
+use Rattle.cert_lines.specs.Line.{IsShort}
+use Rattle.cert_lines.specs.Numbers.{IsWord, Stops, Begins, AreNumbers, IsSpaced}
+use Rattle.cert_lines.proofs.Digits.{begins_tail, begins_cons, empty_spaced}
+use Rattle.cert_lines.proofs.number.one_number.Goals as goal
+
+pub returns-in_default : goal.returns-in_default
+returns-in_default c = λ a h. c.in_default.ensures a [] h
+
+pub returns-else-is_empty : goal.returns-else-is_empty
+returns-else-is_empty c = λ a h.
+    let tail = (begins_tail c.args.text.now c.in-Some.rest.now [] c.in-Some.a a (search rules) h).1.text_is in
+    search (rules, tail)

@@ -1,0 +1,7 @@
+pub mod Line
+pub mod Opening
+pub mod Numbers
+pub mod Said
+pub mod Misfits
+pub mod Written
+pub mod Cutting

@@ -1,0 +1,39 @@
+-- The first two lines of a certificate: the head, and the solid that it names.
+use Rattle.std.specs.Prelude.{◌≡◌, ℕ, ◌⊎◌, List, [], ◌∷◌}
+use Rattle.cert_lines.specs.Line.{CertLine, head, solid, cut_lines, IsLine, IsLong, IsMisspelt, first_limit}
+use Rattle.cert_lines.specs.declared.fault.Illegal.{Illegal}
+use Rattle.cert_lines.specs.declared.fault.Illegal.TheVariants.{Misspelt, Unfit, Missing}
+
+-- The certificate begins with the head and names solid n, and these are the lines from line 3 on.
+pub record Opens (certificate : List ℕ) (n : ℕ) (rest : List (List ℕ)) : Type 0 where
+  pub first : List ℕ
+  pub second : List ℕ
+  pub cut : cut_lines certificate ≡ first ∷ second ∷ rest
+  pub is_head : IsLine first_limit first head
+  pub names : IsLine first_limit second (solid n)
+
+abbrev pub IsHead : CertLine → Type 0
+IsHead line = line ≡ head
+
+abbrev pub IsSolid : CertLine → Type 0
+IsSolid line = (n : ℕ) × (line ≡ solid n)
+
+-- The line is too long, or it is spelled and not as it should be here.
+abbrev pub IsOther : (CertLine → Type 0) → List ℕ → Type 0
+IsOther Wanted bytes = IsLong first_limit bytes ⊎ ((line : CertLine) × IsLine first_limit bytes line × ¬ Wanted line)
+
+-- what is wrong with the line of this number
+abbrev pub IsWrong : (CertLine → Type 0) → ℕ → List ℕ → Illegal → Type 0
+IsWrong Wanted number bytes bad = (IsMisspelt first_limit bytes × (bad ≡ Misspelt number)) ⊎ (IsOther Wanted bytes × (bad ≡ Unfit number))
+
+abbrev pub IsSecondWrong : List (List ℕ) → Illegal → Type 0
+IsSecondWrong [] bad = bad ≡ Missing 2
+IsSecondWrong (second ∷ rest) bad = IsWrong IsSolid 2 second bad
+
+abbrev pub IsFirstWrong : List (List ℕ) → Illegal → Type 0
+IsFirstWrong [] bad = bad ≡ Missing 1
+IsFirstWrong (first ∷ lines) bad = IsWrong IsHead 1 first bad ⊎ (IsLine first_limit first head × IsSecondWrong lines bad)
+
+-- the first of the two that is missing, misspelt or unfit
+abbrev pub IsBadOpening : List ℕ → Illegal → Type 0
+IsBadOpening certificate bad = IsFirstWrong (cut_lines certificate) bad

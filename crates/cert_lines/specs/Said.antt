@@ -1,0 +1,31 @@
+-- What the code says of a line, in the words of lines.
+use Rattle.std.specs.Prelude.{◌≡◌, ℕ, ◌≤◌, List, ⊤}
+use Rattle.cert_lines.specs.Line.{CertLine, head, solid, shell, edge, corner, point, reach, end, spaced, IsSpelled, IsLine, IsLong, IsMisspelt}
+use Rattle.cert_lines.specs.declared.words.Words.{Words}
+use Rattle.cert_lines.specs.declared.words.Words.TheVariants.{Head, Solid, Shell, Edge, Corner, Point, Reach, End}
+use Rattle.cert_lines.specs.declared.words.Judged.{Judged}
+use Rattle.cert_lines.specs.declared.words.Judged.TheVariants.{Spelled, Misspelt, Long}
+
+abbrev pub Means : Words → CertLine → Type 0
+Means Head line = line ≡ head
+Means (Solid n) line = line ≡ solid n
+Means (Shell w) line = line ≡ shell w.shell w.rows w.edges w.corners w.faces
+Means (Edge a b) line = line ≡ edge a b
+Means (Corner text) line = (rs : List ℕ) × (line ≡ corner rs) × (text.now ≡ spaced rs)
+Means (Point face l) line = line ≡ point face l
+Means (Reach r) line = line ≡ reach r
+Means End line = line ≡ end
+
+-- a line of rows or of a loop without an edge
+abbrev pub IsRowLine : CertLine → Type 0
+IsRowLine (edge a b) = ⊤
+IsRowLine (corner rs) = ⊤
+IsRowLine (point face l) = ⊤
+IsRowLine (reach r) = ⊤
+IsRowLine _ = ⊥
+
+-- what is told of bytes that may be so many
+abbrev pub IsJudged : ℕ → List ℕ → Judged → Type 0
+IsJudged limit bytes (Spelled w) = (line : CertLine) × Means w line × IsLine limit bytes line
+IsJudged limit bytes Misspelt = IsMisspelt limit bytes
+IsJudged limit bytes Long = IsLong limit bytes

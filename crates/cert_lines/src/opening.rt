@@ -1,0 +1,66 @@
+//! The first two lines of a certificate.
+
+ghost use Rattle.std.specs.Prelude.{◌≡◌, MatchResult};
+ghost use Rattle.cert_lines.specs.Line.{head, solid, cut_lines, IsLine, first_limit};
+ghost use Rattle.cert_lines.specs.Opening.{IsHead, IsSolid, Opens, IsBadOpening};
+ghost use Rattle.cert_lines.specs.Misfits.{IsMisfit, illegal_at};
+
+use crate::cutting::first_line;
+use crate::fault::{Illegal, Misfit};
+use crate::words::{Judged, Words, judge};
+use iges_fields::EntryNo;
+
+/// The most bytes that line 1 or 2 may have.
+const FIRST_LIMIT: usize = 64;
+
+/// Whether these bytes are line 1 of a certificate, with its LF, without which they are misspelt (own). Takes no memory.
+pub fn head_line(line: &[u8]) -> Result<(), Misfit>
+    ensures { MatchResult result (λ _. IsLine first_limit line.now head) (λ misfit. IsMisfit IsHead line.now misfit) }
+{
+    match judge(line, FIRST_LIMIT) {
+        Judged::Spelled(Words::Head) => Ok(()),
+        Judged::Spelled(_) | Judged::Long => Err(Misfit::Unfit),
+        Judged::Misspelt => Err(Misfit::Misspelt),
+    }
+}
+
+/// The solid that line 2 of a certificate names; the line is given with its LF, without which it is misspelt (own).
+/// Takes no memory.
+pub fn solid_line(line: &[u8]) -> Result<EntryNo, Misfit>
+    ensures { MatchResult result (λ n. IsLine first_limit line.now (solid n.0)) (λ misfit. IsMisfit IsSolid line.now misfit) }
+{
+    match judge(line, FIRST_LIMIT) {
+        Judged::Spelled(Words::Solid(number)) => Ok(EntryNo(number)),
+        Judged::Spelled(_) | Judged::Long => Err(Misfit::Unfit),
+        Judged::Misspelt => Err(Misfit::Misspelt),
+    }
+}
+
+fn at_line(misfit: Misfit, line: u64) -> Illegal
+    ensures { result ≡ illegal_at misfit line }
+{
+    match misfit {
+        Misfit::Misspelt => Illegal::Misspelt { line },
+        Misfit::Unfit => Illegal::Unfit { line },
+    }
+}
+
+/// The solid that a certificate names in its first two lines, and the text behind them; or the first of the two that is
+/// missing, misspelt or unfit (own).
+pub fn read_opening(text: &[u8]) -> Result<(EntryNo, &[u8]), Illegal>
+    ensures { MatchResult result (λ p. Opens text.now p.0.0 (cut_lines p.1.now)) (λ bad. IsBadOpening text.now bad) }
+{
+    let Some((first, rest)) = first_line(text) else {
+        return Err(Illegal::Missing { line: 1 });
+    };
+    if let Err(misfit) = head_line(first) {
+        return Err(at_line(misfit, 1));
+    }
+    let Some((second, rest)) = first_line(rest) else {
+        return Err(Illegal::Missing { line: 2 });
+    };
+    match solid_line(second) {
+        Ok(solid) => Ok((solid, rest)),
+        Err(misfit) => Err(at_line(misfit, 2)),
+    }
+}

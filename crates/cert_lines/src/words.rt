@@ -1,0 +1,201 @@
+//! One line of a certificate, read from its bytes.
+
+ghost use Rattle.std.specs.Prelude.{◌≡◌, ◌≢◌, ℕ, List, [], ◌∷◌, ◌++◌, ◌≤◌, ◌↔◌, IsTrue, IfSome, IfNone, codes, length, MatchOption};
+ghost use Rattle.cert_lines.specs.Line.{CertLine, head, solid, shell, edge, corner, point, reach, end, IsSpelled, spaced};
+ghost use Rattle.cert_lines.specs.Numbers.{AreNumbers, IsSpaced, Spells};
+ghost use Rattle.cert_lines.specs.Said.{Means, IsRowLine, IsJudged};
+
+use crate::number::{are_numbers, next_number, one_number, two_numbers};
+
+/// What a line says. The numbers of a corner stand in its text.
+#[derive(Clone, Copy)]
+pub enum Words<'a> {
+    Head,
+    Solid(u32),
+    Shell(ShellWords),
+    Edge(u32, u32),
+    Corner(&'a [u8]),
+    Point(u32, u32),
+    Reach(u32),
+    End,
+}
+
+/// The numbers of a SHELL line.
+#[derive(Clone, Copy)]
+pub struct ShellWords {
+    pub shell: u32,
+    pub rows: u32,
+    pub edges: u32,
+    pub corners: u32,
+    pub faces: u32,
+}
+
+/// What follows a word at the start of a text.
+fn after_word<'a>(text: &'a [u8], word: &[u8]) -> Option<&'a [u8]>
+    ensures { MatchOption result ((rest : List ℕ) → text.now ≢ word.now ++ rest) (λ rest. text.now ≡ word.now ++ rest.now) }
+{
+    text.strip_prefix(word)
+}
+
+fn shell_numbers(text: &[u8]) -> Option<ShellWords>
+    ensures { MatchOption result ((a b c d e : ℕ) → ¬ AreNumbers text.now (a ∷ b ∷ c ∷ d ∷ e ∷ [])) (λ w. AreNumbers text.now (w.shell ∷ w.rows ∷ w.edges ∷ w.corners ∷ w.faces ∷ [])) }
+{
+    let Some((shell, rest)) = next_number(text) else {
+        return None;
+    };
+    let Some((rows, rest)) = next_number(rest) else {
+        return None;
+    };
+    let Some((edges, rest)) = next_number(rest) else {
+        return None;
+    };
+    let Some((corners, faces)) = two_numbers(rest) else {
+        return None;
+    };
+    Some(ShellWords {
+        shell,
+        rows,
+        edges,
+        corners,
+        faces,
+    })
+}
+
+fn solid_words(text: &[u8]) -> Option<u32>
+    ensures { MatchOption result ((n : ℕ) → ¬ Spells text.now (solid n)) (λ n. Spells text.now (solid n)) }
+{
+    match after_word(text, b"SOLID") {
+        Some(rest) => one_number(rest),
+        None => None,
+    }
+}
+
+fn shell_words(text: &[u8]) -> Option<ShellWords>
+    ensures { MatchOption result ((a b c d e : ℕ) → ¬ Spells text.now (shell a b c d e)) (λ w. Spells text.now (shell w.shell w.rows w.edges w.corners w.faces)) }
+{
+    match after_word(text, b"SHELL") {
+        Some(rest) => shell_numbers(rest),
+        None => None,
+    }
+}
+
+fn edge_words(text: &[u8]) -> Option<(u32, u32)>
+    ensures { MatchOption result ((a b : ℕ) → ¬ Spells text.now (edge a b)) (λ p. Spells text.now (edge p.0 p.1)) }
+{
+    match after_word(text, b"E") {
+        Some(rest) => two_numbers(rest),
+        None => None,
+    }
+}
+
+fn point_words(text: &[u8]) -> Option<(u32, u32)>
+    ensures { MatchOption result ((a b : ℕ) → ¬ Spells text.now (point a b)) (λ p. Spells text.now (point p.0 p.1)) }
+{
+    match after_word(text, b"I") {
+        Some(rest) => two_numbers(rest),
+        None => None,
+    }
+}
+
+fn reach_words(text: &[u8]) -> Option<u32>
+    ensures { MatchOption result ((a : ℕ) → ¬ Spells text.now (reach a)) (λ a. Spells text.now (reach a)) }
+{
+    match after_word(text, b"R") {
+        Some(rest) => one_number(rest),
+        None => None,
+    }
+}
+
+fn corner_words(text: &[u8]) -> Option<&[u8]>
+    ensures { MatchOption result ((rs : List ℕ) → ¬ Spells text.now (corner rs)) (λ rest. (rs : List ℕ) × (rest.now ≡ spaced rs) × Spells text.now (corner rs)) }
+{
+    let Some(rest) = after_word(text, b"C") else {
+        return None;
+    };
+    if rest.is_empty() {
+        return None;
+    }
+    if are_numbers(rest) { Some(rest) } else { None }
+}
+
+/// Whether a text is this word.
+fn is_word(text: &[u8], word: &[u8]) -> bool
+    ensures { IsTrue result ↔ (text.now ≡ word.now) }
+{
+    text == word
+}
+
+/// The line that a text without its LF spells.
+fn read_words(text: &[u8]) -> Option<Words<'_>>
+    ensures { MatchOption result ((line : CertLine) → ¬ Spells text.now line) (λ w. (line : CertLine) × Means w line × Spells text.now line) }
+{
+    if is_word(text, b"IGESCERT 1") {
+        return Some(Words::Head);
+    }
+    if let Some(number) = solid_words(text) {
+        return Some(Words::Solid(number));
+    }
+    if let Some(counts) = shell_words(text) {
+        return Some(Words::Shell(counts));
+    }
+    if is_word(text, b"END") {
+        return Some(Words::End);
+    }
+    read_row_words(text)
+}
+
+/// The edge, corner, point or reach line that a text without its LF spells.
+fn read_row_words(text: &[u8]) -> Option<Words<'_>>
+    ensures { MatchOption result ((line : CertLine) → IsRowLine line → ¬ Spells text.now line) (λ w. (line : CertLine) × Means w line × Spells text.now line) }
+{
+    if let Some((along, against)) = edge_words(text) {
+        return Some(Words::Edge(along, against));
+    }
+    if let Some(rows) = corner_words(text) {
+        return Some(Words::Corner(rows));
+    }
+    if let Some((face, place)) = point_words(text) {
+        return Some(Words::Point(face, place));
+    }
+    match reach_words(text) {
+        Some(row) => Some(Words::Reach(row)),
+        None => None,
+    }
+}
+
+/// The line that bytes spell with their LF.
+fn read_line(line: &[u8]) -> Option<Words<'_>>
+    ensures { MatchOption result ((l : CertLine) → ¬ IsSpelled line.now l) (λ w. (l : CertLine) × Means w l × IsSpelled line.now l) }
+{
+    let Some((last, text)) = line.split_last() else {
+        return None;
+    };
+    if *last != b'\n' {
+        return None;
+    }
+    read_words(text)
+}
+
+/// A line, as far as its bytes and its length tell.
+#[derive(Clone, Copy)]
+pub enum Judged<'a> {
+    Spelled(Words<'a>),
+    Misspelt,
+    Long,
+}
+
+/// Reads a line that may have so many bytes.
+pub fn judge(line: &[u8], limit: usize) -> Judged<'_>
+    ensures { IsJudged limit line.now result }
+{
+    if line.len() > limit {
+        if line.contains(&b'\n') {
+            return Judged::Long;
+        }
+        return Judged::Misspelt;
+    }
+    match read_line(line) {
+        Some(words) => Judged::Spelled(words),
+        None => Judged::Misspelt,
+    }
+}

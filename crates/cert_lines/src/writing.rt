@@ -1,0 +1,141 @@
+//! The text of a certificate.
+
+ghost use Rattle.std.specs.Prelude.{◌≡◌, ℕ, ◌+◌, ◌<◌, ◌^◌, ◌++◌, ◌∷◌, [], decimal, length, map, flat_map, IfOk};
+ghost use Rattle.std.specs.List.{AllByRecursion, enumerate_from};
+ghost use Rattle.cert_lines.specs.Line.{HasSpelling, cut_lines, spaced, spelling};
+ghost use Rattle.cert_lines.specs.Written.{row_number, edge_line, corner_line, reach_line, shell_line, shell_lines, certificate_lines, text_of};
+
+use crate::parts::{Certificate, CornerLine, ShellPart};
+use iges_fields::{Bytes, NoMemory, Out, write_number};
+use solid_data::RowId;
+use std::alloc::Global;
+
+/// A row, a face or a loop counts from 1 in a line.
+pub fn from_one(number: u32) -> u64
+    ensures { result ≡ number + 1 }
+{
+    u64::from(number) + 1
+}
+
+fn put_number(out: &mut Out, number: u64) -> Result<(), NoMemory>
+    ensures { IfOk result (λ _. out.new ≡ out.old ++ 32 ∷ decimal number) }
+{
+    out.put(b" ")?;
+    write_number(out, number)
+}
+
+fn put_numbers(out: &mut Out, numbers: &[u64]) -> Result<(), NoMemory>
+    ensures { IfOk result (λ _. out.new ≡ out.old ++ spaced numbers.now) }
+{
+    'numbers: for i in 0..numbers.len() {
+        put_number(out, numbers[i])?;
+    }
+    Ok(())
+}
+
+fn put_rows(out: &mut Out, rows: &[RowId]) -> Result<(), NoMemory>
+    ensures { IfOk result (λ _. out.new ≡ out.old ++ spaced (map row_number rows.now)) }
+{
+    'rows: for i in 0..rows.len() {
+        put_number(out, from_one(rows[i].0))?;
+    }
+    Ok(())
+}
+
+fn put_line(out: &mut Out, word: &[u8], numbers: &[u64]) -> Result<(), NoMemory>
+    ensures { IfOk result (λ _. out.new ≡ out.old ++ ((word.now ++ spaced numbers.now) ++ 10 ∷ [])) }
+{
+    out.put(word)?;
+    put_numbers(out, numbers)?;
+    out.put(b"\n")
+}
+
+fn put_edges(out: &mut Out, edges: &[(RowId, RowId)]) -> Result<(), NoMemory>
+    ensures { IfOk result (λ _. out.new ≡ out.old ++ flat_map (λ p. spelling (edge_line p)) edges.now) }
+{
+    'edges: for i in 0..edges.len() {
+        let (along, against) = edges[i];
+        put_line(out, b"E", &[from_one(along.0), from_one(against.0)])?;
+    }
+    Ok(())
+}
+
+fn put_corner(out: &mut Out, corner: &CornerLine) -> Result<(), NoMemory>
+    ensures { IfOk result (λ _. out.new ≡ out.old ++ spelling (corner_line corner.now)) }
+{
+    match corner {
+        CornerLine::Cycle(rows) => {
+            out.put(b"C")?;
+            put_rows(out, rows.as_slice())?;
+            out.put(b"\n")
+        }
+        CornerLine::Point(at) => { put_line(out, b"I", &[from_one(at.face.0), from_one(at.place)]) }
+    }
+}
+
+fn put_corners(out: &mut Out, corners: &[CornerLine]) -> Result<(), NoMemory>
+    ensures { IfOk result (λ _. out.new ≡ out.old ++ flat_map (λ l. spelling (corner_line l)) corners.now) }
+{
+    'corners: for i in 0..corners.len() {
+        put_corner(out, &corners[i])?;
+    }
+    Ok(())
+}
+
+fn put_reach(out: &mut Out, rows: &[RowId]) -> Result<(), NoMemory>
+    ensures { IfOk result (λ _. out.new ≡ out.old ++ flat_map (λ r. spelling (reach_line r)) rows.now) }
+{
+    'rows: for i in 0..rows.len() {
+        put_line(out, b"R", &[from_one(rows[i].0)])?;
+    }
+    Ok(())
+}
+
+fn put_shell_line(out: &mut Out, number: u64, part: &ShellPart) -> Result<(), NoMemory>
+    ensures { IfOk result (λ _. out.new ≡ out.old ++ spelling (shell_line number part.now)) }
+{
+    let edges = part.edges.as_slice().len() as u64;
+    let corners = part.corners.as_slice().len() as u64;
+    let numbers = [
+        number,
+        u64::from(part.rows),
+        edges,
+        corners,
+        u64::from(part.faces),
+    ];
+    put_line(out, b"SHELL", &numbers)
+}
+
+fn put_shell(out: &mut Out, number: u64, part: &ShellPart) -> Result<(), NoMemory>
+    ensures { IfOk result (λ _. out.new ≡ out.old ++ text_of (shell_lines (number, part.now))) }
+{
+    put_shell_line(out, number, part)?;
+    put_edges(out, part.edges.as_slice())?;
+    put_corners(out, part.corners.as_slice())?;
+    put_reach(out, part.reach.as_slice())?;
+    Ok(())
+}
+
+fn put_shells(out: &mut Out, parts: &[ShellPart]) -> Result<(), NoMemory>
+    ensures { IfOk result (λ _. out.new ≡ out.old ++ flat_map (λ h. text_of (shell_lines h)) (enumerate_from 1 parts.now)) }
+{
+    'shells: for i in 0..parts.len() {
+        put_shell(out, i as u64 + 1, &parts[i])?;
+    }
+    Ok(())
+}
+
+/// The text of a certificate: the lines of its parts in order, behind the head and the line of its solid (own). The counts
+/// of edges and of corners in a shell line are the lengths of the two lists. Where every number has at most nine digits and
+/// no cycle is empty, each line is spelled.
+pub fn write_certificate(alloc: Global, c: &Certificate) -> Result<Bytes, NoMemory>
+    ensures text { IfOk result (λ text. text ≡ text_of (certificate_lines c.now)) }
+    ensures lines { AllByRecursion HasSpelling (certificate_lines c.now) → IfOk result (λ text. cut_lines text ≡ map spelling (certificate_lines c.now)) }
+{
+    let mut out = Out::new(alloc);
+    out.put(b"IGESCERT 1\n")?;
+    put_line(&mut out, b"SOLID", &[u64::from(c.solid.0)])?;
+    put_shells(&mut out, c.shells.as_slice())?;
+    out.put(b"END\n")?;
+    Ok(out.into_bytes())
+}

@@ -1,0 +1,70 @@
+//! The certificate of a solid.
+
+ghost use Rattle.std.specs.Prelude.{◌≡◌, ℕ, ◌<◌, ◌∷◌, ◌++◌, [], Some, length, slice_get, IfOk, IfErr, OnOk};
+ghost use Rattle.iges_params.specs.Contents.{Contents};
+ghost use Rattle.brep_walk.specs.Places.{places};
+ghost use Rattle.brep_walk.specs.SolidOf.{solid_of};
+ghost use Rattle.solid_data.specs.Obligations.{AllHold, FirstFalse};
+ghost use Rattle.solid_data.specs.declared.verdict.Failing.{Failing as Named};
+ghost use Rattle.edge_uses.specs.ShellObligations.{solid_obligations};
+ghost use Rattle.cert_lines.specs.Written.{certificate_lines, text_of};
+ghost use Rattle.cert_maker.specs.Accepted.{IsAccepted};
+ghost use Rattle.cert_maker.specs.Certified.{IsCertificate, IsMakeFault, IsNoMemory, FailsSo};
+ghost use Rattle.cert_maker.specs.Parts.{AreParts};
+
+use crate::fault::MakeFault;
+use crate::shell_part::shell_part;
+use edge_uses::VerticesBefore;
+use iges_fields::NoMemory;
+use solid_data::{Shell, ShellAt, Solid};
+use std::alloc::Global;
+use topo_certificate::{Certificate, ShellPart, ShellParts};
+
+fn shell_at(solid: &Solid, at: ShellAt) -> &Shell
+    requires { at.0 < length solid.now.shells }
+    ensures { slice_get solid.now.shells at.0 ≡ Some result.now }
+{
+    solid.shell(at).unwrap()
+}
+
+fn push_part(parts: &mut ShellParts, part: ShellPart) -> Result<(), NoMemory>
+    ensures { OnOk result (parts.new ≡ parts.old ++ part ∷ []) }
+{
+    parts.push(part)
+}
+
+/// The parts of the shells of a closed solid, in order.
+fn shell_parts(alloc: Global, solid: &Solid) -> Result<ShellParts, MakeFault>
+    ensures parts { IfOk result (AreParts solid.now solid.now.shells) }
+    ensures holds { OnOk result (AllHold (solid_obligations solid.now)) }
+    ensures fails { IfErr result (IsMakeFault (solid_obligations solid.now)) }
+{
+    let mut parts = ShellParts::new(alloc);
+    let mut before = VerticesBefore::none();
+    'shells: for k in 0..solid.shell_count() {
+        let at = ShellAt(k as u32);
+        let shell = shell_at(solid, at);
+        let (part, with) = shell_part(alloc, solid, at, shell, before)?;
+        push_part(&mut parts, part)?;
+        before = with;
+    }
+    Ok(parts)
+}
+
+/// The certificate of a closed solid, or the first rule on its shells that fails, with the entity and its item that
+/// break it: shell by shell JOIN of the loops, PAIR of the edges, REACH of the faces, LINK and then APART of the
+/// vertices, by rising number. Its text is accepted for each file whose solid this is. (own)
+pub fn certify(alloc: Global, solid: &Solid) -> Result<Certificate, MakeFault>
+    ensures certificate { IfOk result (IsCertificate solid.now) }
+    ensures accepted { IfOk result (λ c. (f : Contents) (n : ℕ) → AllHold (places f n) → solid.now ≡ solid_of f n → IsAccepted f n (text_of (certificate_lines c))) }
+    ensures holds { OnOk result (AllHold (solid_obligations solid.now)) }
+    ensures fault { IfErr result (IsMakeFault (solid_obligations solid.now)) }
+    ensures only { AllHold (solid_obligations solid.now) → IfErr result IsNoMemory }
+    ensures only_fault { (x : Named) → FirstFalse (solid_obligations solid.now) x → FailsSo x result }
+{
+    let shells = shell_parts(alloc, solid)?;
+    Ok(Certificate {
+        solid: solid.entity(),
+        shells,
+    })
+}

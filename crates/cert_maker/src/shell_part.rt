@@ -1,0 +1,74 @@
+//! A shell's part of a certificate.
+
+ghost use Rattle.std.specs.Prelude.{◌≡◌, ◌+◌, Some, IfOk, IfErr, OnOk, slice_get};
+ghost use Rattle.solid_data.specs.Obligations.{AllHold};
+ghost use Rattle.edge_uses.specs.Before.{AreBelow};
+ghost use Rattle.edge_uses.specs.ShellRows.{shell_rows};
+ghost use Rattle.edge_uses.specs.ShellObligations.{shell_obligations};
+ghost use Rattle.vertex_link.specs.Corners.{AreLinks};
+ghost use Rattle.shell_reach.specs.Reaching.{ReachesAll, row_numbers};
+ghost use Rattle.cert_maker.specs.Certified.{IsMakeFault};
+ghost use Rattle.cert_maker.specs.Parts.{IsPart};
+
+use crate::corners::corner_lines;
+use crate::fault::MakeFault;
+use crate::judging::{apart, join, linked, mated, reached};
+use crate::pairs::edge_pairs;
+use edge_uses::{Paired, VerticesBefore, rows};
+use iges_fields::NoMemory;
+use shell_reach::ReachList;
+use solid_data::{Shell, ShellAt, Solid};
+use std::alloc::Global;
+use topo_certificate::ShellPart;
+use vertex_link::Links;
+
+/// The part of a shell whose faces are reached by these rows and whose vertices have these corners.
+fn part_of(
+    alloc: Global,
+    paired: &Paired<'_>,
+    reach: ReachList,
+    links: Links,
+) -> Result<ShellPart, NoMemory>
+    requires reach { ReachesAll paired.now (row_numbers reach) }
+    requires links { AreLinks paired.now links }
+    ensures { IfOk result (IsPart paired.now) }
+{
+    let rows = paired.rows();
+    let edges = edge_pairs(alloc, paired)?;
+    let corners = corner_lines(alloc, links)?;
+    Ok(ShellPart {
+        rows: rows.len() as u32,
+        edges,
+        corners,
+        faces: rows.face_count() as u32,
+        reach,
+    })
+}
+
+/// The part of a closed shell, and the vertices of the shells up to it. The rules come in order: JOIN, PAIR, REACH,
+/// LINK, APART.
+pub(crate) fn shell_part(
+    alloc: Global,
+    solid: &Solid,
+    at: ShellAt,
+    shell: &Shell,
+    before: VerticesBefore,
+) -> Result<(ShellPart, VerticesBefore), MakeFault>
+    requires at { slice_get solid.now.shells at.0 ≡ Some shell.now }
+    requires before { AreBelow solid.now at.0 before }
+    ensures part { IfOk result (λ p. IsPart (shell_rows solid.now shell.now) p.0) }
+    ensures before { IfOk result (λ p. AreBelow solid.now (at.0 + 1) p.1) }
+    ensures holds { OnOk result (AllHold (shell_obligations solid.now (at.0, shell.now))) }
+    ensures fails { IfErr result (IsMakeFault (shell_obligations solid.now (at.0, shell.now))) }
+{
+    // Its clause says that the solid's vertices are numbered by first appearance.
+    let _entity = solid.entity();
+    join(solid, at, shell)?;
+    let rows = rows(alloc, solid, at)?;
+    let paired = mated(alloc, solid, &rows)?;
+    let reach = reached(alloc, shell, &paired)?;
+    let links = linked(alloc, solid, &paired)?;
+    apart(solid, at, before, &rows)?;
+    let part = part_of(alloc, &paired, reach, links)?;
+    Ok((part, before.with(&rows)))
+}

@@ -1,0 +1,34 @@
+-- What is owed of certifying a solid, by what the walk and the maker answer.
+use Rattle.std.proofs.Common.{◌≡◌, inl, inr, ℕ, List, sym, subst, ap}
+use Rattle.solid_data.specs.Obligations.{AllHold, FirstFalse}
+use Rattle.solid_data.specs.SolidData.{SolidData}
+use Rattle.solid_data.specs.declared.verdict.Failing.{Failing}
+use Rattle.solid_data.proofs.ObligationLemmas.{AllHold-append, FirstFalse-append_front, FirstFalse-append_rest}
+use Rattle.edge_uses.specs.ShellObligations.{solid_obligations}
+use Rattle.brep_walk.specs.Places.{places}
+use Rattle.brep_walk.specs.SolidOf.{solid_of}
+use Rattle.iges_params.specs.Contents.{Contents}
+use Rattle.cert_maker.specs.Closed.{obligations}
+use Rattle.cert_maker.specs.Accepted.{IsAccepted}
+use Rattle.iges_solid_cmd.specs.declared.answer.Answer.{Answer}
+use Rattle.iges_solid_cmd.specs.declared.answer.Answer.TheVariants.{Done, No}
+use Rattle.iges_solid_cmd.specs.Texts.{fail_line}
+use Rattle.iges_solid_cmd.specs.Due.{OfCertify}
+
+module _ (f : Contents) (n : ℕ) (a : Answer) (t : List ℕ) where
+  -- a place is false
+  unfolding obligations
+  pub misplaced : (x : Failing) → FirstFalse (places f n) x → (a ≡ No) × (t ≡ fail_line x) → OfCertify n f a t
+  misplaced x first exact = inl (x, FirstFalse-append_front (places f n) (solid_obligations (solid_of f n)) x first, exact)
+
+  -- a rule on the shells fails
+  unfolding obligations
+  pub unclosed : (x : Failing) (s : SolidData) → AllHold (places f n) → s ≡ solid_of f n → FirstFalse (solid_obligations s) x → (a ≡ No) × (t ≡ fail_line x) → OfCertify n f a t
+  unclosed x s placed is first exact =
+      inl (x, FirstFalse-append_rest (places f n) (solid_obligations (solid_of f n)) x placed (subst (λ (d : SolidData). FirstFalse (solid_obligations d) x) is first), exact)
+
+  -- a certificate was made
+  unfolding obligations
+  pub certified : (s : SolidData) → AllHold (places f n) → s ≡ solid_of f n → AllHold (solid_obligations s) → a ≡ Done → IsAccepted f n t → OfCertify n f a t
+  certified s placed is closed done accepted =
+      inr (AllHold-append (places f n) (solid_obligations (solid_of f n)) placed (subst (λ (d : SolidData). AllHold (solid_obligations d)) is closed), done, accepted)

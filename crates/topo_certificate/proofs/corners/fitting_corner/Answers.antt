@@ -1,0 +1,33 @@
+use Rattle.std.proofs.Common.{rules, sym, ap, ◌∙◌, ◌≡◌, true, false, List, ℕ}
+use Rattle.std.specs.Prelude.{Some, None}
+use Rattle.topo_certificate.proofs.CornerFits.{corner_of, corner_no_row, corner_low, corner_ring, corner_fits, corner_other_size, size_there, size_below}
+use Rattle.topo_certificate.proofs.corners.fitting_corner.Goals as goal
+
+pub returns-in_default-named_row : goal.returns-in_default-named_row
+returns-in_default-named_row c = λ at rs hm same h fits.
+    let k = corner_of c.args.rows.now at c.args.numbers.now c.in-Some.others.now c.in-Some.first rs c.in-Some.ensures h fits in
+    corner_no_row c.args.rows.now at c.in-Some.first k.0 (search rules) k.2
+
+pub returns-then-not-is_above : goal.returns-then-not-is_above
+returns-then-not-is_above c = λ at rs hm same h fits.
+    let k = corner_of c.args.rows.now at c.args.numbers.now c.in-Some.others.now c.in-Some.first rs c.in-Some.ensures h fits in
+    corner_low c.args.rows.now at c.in-Some.first k.0 c.in-Some-named_row.row c.args.last (search rules) same (λ above. let e : false ≡ true = sym c.if-not-is_above.true ∙ c.is_above.ensures.1 above in cc) k.2
+
+pub returns-in_default-ring_len : goal.returns-in_default-ring_len
+returns-in_default-ring_len c = λ at rs hm same h fits.
+    let k = corner_of c.args.rows.now at c.args.numbers.now c.in-Some.others.now c.in-Some.first rs c.in-Some.ensures h fits in
+    c.in_default-ring_len.ensures at.mates k.0 hm k.1 (corner_ring c.args.rows.now at c.in-Some.first k.0 k.2)
+
+pub bounds-sizes-first : goal.bounds-sizes-first
+bounds-sizes-first c = size_below c.args.rows.now c.args.sizes.now c.in-Some.first c.in-Some-named_row.row c.requires (search rules)
+
+pub returns-then-sizes-first : goal.returns-then-sizes-first
+returns-then-sizes-first c = λ at rs hm same h.
+    corner_fits c.args.rows.now at c.args.numbers.now c.in-Some.others.now c.in-Some.first rs c.in-Some-named_row.row c.args.last c.in-Some-ring_len.len c.in-Some.ensures h (search rules) same (c.is_above.ensures.0 c.if-not-is_above.false)
+    (λ ms k. c.in-Some-ring_len.ensures at.mates ms hm k) (sym (size_there c.args.rows.now c.args.sizes.now c.in-Some.first _ c.in-Some-named_row.row c.requires (search rules)) ∙ c.if-sizes-first.true)
+
+pub returns-else-sizes-first : goal.returns-else-sizes-first
+returns-else-sizes-first c = λ at rs hm same h fits.
+    let k = corner_of c.args.rows.now at c.args.numbers.now c.in-Some.others.now c.in-Some.first rs c.in-Some.ensures h fits in
+    corner_other_size c.args.rows.now at c.in-Some.first k.0 c.in-Some-named_row.row c.in-Some-ring_len.len (search rules)
+    (λ e. c.if-sizes-first.false (size_there c.args.rows.now c.args.sizes.now c.in-Some.first _ c.in-Some-named_row.row c.requires (search rules) ∙ e)) (c.in-Some-ring_len.ensures at.mates k.0 hm k.1).1 k.2

@@ -1,0 +1,15 @@
+use Rattle.std.proofs.Common.{rules, arith, subst, refl, sym, ◌≡◌, ◌<◌, ◌-◌, true, false}
+use Rattle.cert_lines.specs.Line.{point}
+use Rattle.topo_certificate.specs.Told.{Takes}
+use Rattle.topo_certificate.specs.contracts.shell_state.ShellState.{the_view}
+use Rattle.topo_certificate.proofs.Telling.{with_vertex, point_takes, point_unfit}
+use Rattle.topo_certificate.proofs.shell_state.ShellState.take_point.Goals as goal
+
+pub returns-in_default-clause-line : goal.returns-in_default-clause-line
+returns-in_default-clause-line c =
+    subst (λ k. Takes k k (point c.args.face c.args.place) false) c.self.view_is (point_unfit (the_view c.self.inside) (the_view c.self.inside) c.args.face c.args.place (λ at same. c.in_default.ensures at same))
+
+pub returns-clause-line : goal.returns-clause-line
+returns-clause-line c =
+    subst (λ k. Takes k (with_vertex (the_view c.self.inside) c.in-Some.vertex.0 (c.self.inside.corners_due - 1)) (point c.args.face c.args.place) true) c.self.view_is
+    (point_takes (the_view c.self.inside) c.args.face c.args.place c.in-Some.vertex.0 (c.self.inside.corners_due - 1) (omega (arith, c.if-self-ne0.false)) (omega (arith, c.if-self-eq0.false)) refl (λ at same. c.in-Some.ensures at same))

@@ -1,0 +1,13 @@
+use Rattle.std.proofs.Common.{arith, ap, ◌∙◌, ◌≡◌, ◌++◌, ◌∷◌, [], refl, ℕ}
+use Rattle.solid_data.specs.declared.solid.LoopAt.{LoopAt}
+use Rattle.topo_certificate.specs.Kept.{is_alone}
+use Rattle.topo_certificate.proofs.VertexTallies.{point_within, mapped_more}
+use Rattle.topo_certificate.proofs.tallies.alone_points.Goals as goal
+
+pub alone_at-requires-clause-within : goal.alone_at-requires-clause-within
+alone_at-requires-clause-within c = point_within c.args.rows.now c.args.span c.points.i (c.point_at.result.0, c.point_at.result.1.0) c.requires.within c.point_at.ensures
+
+pub points-preserved : goal.points-preserved
+points-preserved c =
+    mapped_more (λ (p : LoopAt × ℕ). is_alone c.args.rows.now p.1) c.args.rows.now.points c.points.i (c.point_at.result.0, c.point_at.result.1.0) c.points.alone.items _ _ c.point_at.ensures c.points.invariant
+    (c.in_ok-push.ensures.items ∙ ap (λ b. c.points.alone.items ++ b ∷ []) (c.alone_at.ensures c.args.rows.now c.requires.starts c.requires.points))

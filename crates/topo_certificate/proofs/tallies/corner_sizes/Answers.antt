@@ -1,0 +1,13 @@
+use Rattle.std.proofs.Common.{arith, ap, ◌∙◌, ◌≡◌, ◌++◌, ◌∷◌, [], refl}
+use Rattle.edge_uses.specs.declared.row.Row.{Row}
+use Rattle.topo_certificate.specs.Kept.{corner_size}
+use Rattle.topo_certificate.proofs.VertexTallies.{row_within, mapped_more}
+use Rattle.topo_certificate.proofs.tallies.corner_sizes.Goals as goal
+
+pub size_at-requires-clause-within : goal.size_at-requires-clause-within
+size_at-requires-clause-within c = row_within c.args.rows.now c.args.span c.rows.i c.row_at.result c.requires.within c.row_at.ensures
+
+pub rows-preserved : goal.rows-preserved
+rows-preserved c =
+    mapped_more (λ (r : Row). corner_size c.args.rows.now r.from.0) c.args.rows.now.rows c.rows.i c.row_at.result c.rows.sizes.items _ _ c.row_at.ensures c.rows.invariant
+    (c.in_ok-push.ensures.items ∙ ap (λ n. c.rows.sizes.items ++ n ∷ []) (c.size_at.ensures c.args.rows.now c.requires.starts c.requires.points))

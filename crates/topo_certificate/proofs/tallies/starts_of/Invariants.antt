@@ -1,0 +1,8 @@
+use Rattle.std.proofs.Common.{ℕ}
+use Rattle.solid_data.specs.declared.solid.LoopAt.{LoopAt}
+use Rattle.edge_uses.specs.declared.row.Row.{Row}
+use Rattle.topo_certificate.proofs.VertexTallies.{CountsBefore, from_of}
+use Rattle.topo_certificate.proofs.tallies.starts_of.Given as goal
+
+abbrev pub invariant-rows : goal.invariant-rows
+invariant-rows l = CountsBefore Row from_of l.rows.rows l.i l.span l.starts.items

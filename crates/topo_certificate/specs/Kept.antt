@@ -1,0 +1,87 @@
+-- What a checker keeps of a shell, in arrays.
+use Rattle.std.specs.Prelude.{◌≡◌, ℕ, zero, suc, ◌+◌, ◌-◌, ◌*◌, ◌≤◌, ◌<◌, ◌^◌, ◌==◌, ◌&&◌, ◌↔◌, Bool, true, List, [], ◌∷◌, length, map, Contains, Option, Some, None, IsSomeAnd, slice_get, if◌then◌else◌}
+use Rattle.solid_data.specs.declared.solid.LoopAt.{LoopAt}
+use Rattle.edge_uses.specs.declared.row.Row.{Row}
+use Rattle.edge_uses.specs.ShellRows.{ShellRows}
+use Rattle.edge_uses.specs.Closed.{point_count}
+use Rattle.topo_certificate.specs.Stand.{IsMate, row_named, start_count}
+
+-- 0 stands for none
+abbrev pub above_zero : Option ℕ → Option ℕ
+above_zero (Some (suc n)) = Some (suc n)
+above_zero _ = None
+
+-- the mate of a row, both from 1, in an array by row from 0
+abbrev pub mate_in : List ℕ → ℕ → Option ℕ
+mate_in mates zero = None
+mate_in mates (suc r) = above_zero (slice_get mates r)
+
+-- the array tells the mates of these pairs
+abbrev pub HoldsMates : List ℕ → List (ℕ × ℕ) → Type 0
+HoldsMates mates pairs = (r m : ℕ) → IsMate pairs r m ↔ (mate_in mates r ≡ Some m)
+
+-- the array tells these faces
+abbrev pub HoldsFaces : List Bool → List ℕ → Type 0
+HoldsFaces reached faces = (f : ℕ) → Contains faces f ↔ (slice_get reached f ≡ Some true)
+
+-- the counts of a SHELL line are those of the shell
+pub record AreCounts (d : ShellRows) (rows edges corners faces : ℕ) : Type 0 where
+  pub rows_counted : rows ≡ length d.rows
+  pub edges_counted : edges ≡ length d.edges
+  pub corners_counted : corners ≡ length d.vertices
+  pub faces_counted : faces ≡ d.face_count
+  pub two_rows_each : 2 * edges ≡ rows
+
+-- how many rows a corner line at a vertex has, or 0 where none fits there
+abbrev pub corner_size : ShellRows → ℕ → ℕ
+corner_size d v = if point_count d v == 0 then start_count d v else 0
+
+-- No row starts at the vertex, and one loop without an edge lies there.
+abbrev pub is_alone : ShellRows → ℕ → Bool
+is_alone d v = (start_count d v == 0) && (point_count d v == 1)
+
+-- p stands before q: in an earlier face, or earlier in the same face
+abbrev pub Precedes : LoopAt → LoopAt → Type 0
+Precedes p q = (p.face.0 ≤ q.face.0) × (p.face.0 ≡ q.face.0 → p.place < q.place)
+
+-- each stands before all behind it
+abbrev pub InFileOrder : List (LoopAt × ℕ) → Type 0
+InFileOrder points = (i j : ℕ) (p q : LoopAt × ℕ) → i < j → slice_get points i ≡ Some p → slice_get points j ≡ Some q → Precedes p.0 q.0
+
+-- Of a shell: its rows; how many rows a corner line has that starts with a row; which loops without an edge are alone at their vertex; the mate of each row; which faces are reached; how many lines of each kind are due; the last edge and the last vertex.
+pub record KeptShell : Type 0 where
+  pub rows : ShellRows
+  pub sizes : List ℕ
+  pub alone : List Bool
+  pub mates : List ℕ
+  pub reached : List Bool
+  pub edges_due : ℕ
+  pub corners_due : ℕ
+  pub reach_due : ℕ
+  pub last_edge : Option ℕ
+  pub last_vertex : Option ℕ
+
+abbrev pub dues : KeptShell → ℕ
+dues k = k.edges_due + k.corners_due + k.reach_due
+
+-- what is kept of a shell whatever the lines are
+pub record IsKept (k : KeptShell) : Type 0 where
+  pub sizes : k.sizes ≡ map (λ (r : Row). corner_size k.rows r.from.0) k.rows.rows
+  pub alone : k.alone ≡ map (λ (p : LoopAt × ℕ). is_alone k.rows p.1) k.rows.points
+  pub in_order : InFileOrder k.rows.points
+  pub each_row : length k.mates ≡ length k.rows.rows
+  pub each_face : length k.reached ≡ k.rows.face_count
+  pub few : dues k < 2 ^ 34
+  -- a row that has a mate has no greater edge than the last one
+  pub passed : (r m : ℕ) → mate_in k.mates r ≡ Some m → (row : Row) × (row_named k.rows r ≡ Some row) × IsSomeAnd k.last_edge (λ e. row.edge.0 ≤ e)
+
+-- no line of the shell was read
+pub record IsFresh (d : ShellRows) (k : KeptShell) : Type 0 where
+  pub rows : k.rows ≡ d
+  pub edges_due : k.edges_due ≡ length d.edges
+  pub corners_due : k.corners_due ≡ length d.vertices
+  pub reach_due : k.reach_due ≡ d.face_count - 1
+  pub last_edge : k.last_edge ≡ None
+  pub last_vertex : k.last_vertex ≡ None
+  pub mates : HoldsMates k.mates []
+  pub reached : HoldsFaces k.reached (0 ∷ [])

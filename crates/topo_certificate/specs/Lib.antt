@@ -1,0 +1,15 @@
+pub mod Stand
+pub mod Legal
+pub mod Kept
+pub mod Told
+pub mod Room
+pub mod Ring
+pub mod Places
+pub mod Uses
+pub mod Tallied
+pub use Rattle.cert_lines.specs.Line
+pub use Rattle.cert_lines.specs.Opening
+pub use Rattle.cert_lines.specs.Numbers
+pub use Rattle.cert_lines.specs.Said
+pub use Rattle.cert_lines.specs.Misfits
+pub use Rattle.cert_lines.specs.Written

@@ -1,0 +1,14 @@
+-- Rows that turn to one another in a ring.
+use Rattle.std.specs.Prelude.{ℕ, ◌<◌, List, [], ◌∷◌, ◌++◌}
+use Rattle.std.specs.List.{AllByRecursion, AllZip}
+use Rattle.edge_uses.specs.ShellRows.{ShellRows}
+use Rattle.topo_certificate.specs.Stand.{Stand, TurnsTo, FitsCorner}
+
+-- From r on each row turns to the next, and the last to the first; all behind r are greater than the first.
+abbrev pub IsRing : ShellRows → List (ℕ × ℕ) → ℕ → ℕ → List ℕ → Type 0
+IsRing d pairs first r rs = AllZip (TurnsTo d pairs) (r ∷ rs) (rs ++ first ∷ []) × AllByRecursion (λ x. first < x) rs
+
+-- A corner line of these rows fits.
+abbrev pub FitsCornerLine : ShellRows → Stand → List ℕ → Type 0
+FitsCornerLine d at [] = ⊥
+FitsCornerLine d at (r ∷ rs) = FitsCorner d at r rs

@@ -1,0 +1,193 @@
+//! How far the lines of a shell have come.
+
+use crate::corners::{fitting_corner, fitting_point};
+use crate::fitting::{fits_counts, fitting_edge, fitting_face};
+use crate::tallies::sizes_of;
+use cert_lines::{ShellWords, Words};
+use edge_uses::Rows;
+use iges_fields::NoMemory;
+use std::alloc::Global;
+use std::marker::Model;
+
+/// What is kept of a shell: its rows, what its lines are compared with, and what the lines so far said.
+#[derive(Drop)]
+pub(crate) struct ShellState {
+    rows: Rows,
+    sizes: Vec<u32>,
+    alone: Vec<bool>,
+    mates: Vec<u32>,
+    reached: Vec<bool>,
+    edges_due: u32,
+    corners_due: u32,
+    reach_due: u32,
+    last_edge: Option<u32>,
+    last_vertex: Option<u32>,
+}
+
+impl Model for ShellState {
+    ghost use Rattle.topo_certificate.specs.Kept.{KeptShell, IsKept};
+
+    ghost Value = { KeptShell };
+
+    ghost view = { λ k. record { rows = k.rows; sizes = k.sizes.items; alone = k.alone.items; mates = k.mates.items; reached = k.reached.items; edges_due = k.edges_due; corners_due = k.corners_due; reach_due = k.reach_due; last_edge = k.last_edge; last_vertex = k.last_vertex } };
+
+    ghost invariant = { λ k. IsKept (record { rows = k.rows; sizes = k.sizes.items; alone = k.alone.items; mates = k.mates.items; reached = k.reached.items; edges_due = k.edges_due; corners_due = k.corners_due; reach_due = k.reach_due; last_edge = k.last_edge; last_vertex = k.last_vertex }) };
+}
+
+ghost use Rattle.std.specs.Prelude.{◌≡◌, ◌<◌, IfOk, length, replicate, ◌∷◌, []};
+ghost use Rattle.topo_certificate.specs.Kept.{HoldsFaces};
+
+fn no_mates(alloc: Global, rows: usize) -> Result<Vec<u32>, NoMemory>
+    ensures { IfOk result (λ mates. mates.items ≡ replicate rows 0) }
+{
+    Ok(vec![in alloc; 0u32; rows]?)
+}
+
+fn first_reached(alloc: Global, faces: usize) -> Result<Vec<bool>, NoMemory>
+    requires { 0 < faces }
+    ensures len { IfOk result (λ reached. length reached.items ≡ faces) }
+    ensures first { IfOk result (λ reached. HoldsFaces reached.items (0 ∷ [])) }
+{
+    let mut reached = vec![in alloc; false; faces]?;
+    reached[0] = true;
+    Ok(reached)
+}
+
+impl ShellState {
+    ghost use Rattle.std.specs.Prelude.{◌≡◌, ◌↔◌, ℕ, ◌+◌, ◌<◌, ◌^◌, List, IsTrue, IfOk, false, length};
+    ghost use Rattle.cert_lines.specs.Line.{CertLine, HasSpelling, edge, corner, point, reach};
+    ghost use Rattle.cert_lines.specs.Numbers.{AreNumbers};
+    ghost use Rattle.cert_lines.specs.Said.{Means, IsRowLine};
+    ghost use Rattle.topo_certificate.specs.Kept.{KeptShell, IsFresh, InFileOrder, AreCounts, dues};
+    ghost use Rattle.topo_certificate.specs.Told.{Takes};
+
+    /// A shell of which no line was read.
+    pub(crate) fn of(alloc: Global, rows: Rows) -> Result<ShellState, NoMemory>
+        requires order { InFileOrder rows.points }
+        requires some { 0 < rows.face_count }
+        requires few_edges { length rows.edges < 2 ^ 30 }
+        requires few_vertices { length rows.vertices < 2 ^ 30 }
+        ensures { IfOk result (λ k. IsFresh rows k) }
+    {
+        let sizes = sizes_of(alloc, &rows)?;
+        let mates = no_mates(alloc, rows.len())?;
+        let reached = first_reached(alloc, rows.face_count())?;
+        let edges_due = rows.edge_count() as u32;
+        let corners_due = rows.vertex_count() as u32;
+        let reach_due = rows.face_count() as u32 - 1;
+        Ok(ShellState {
+            rows,
+            sizes: sizes.rows,
+            alone: sizes.alone,
+            mates,
+            reached,
+            edges_due,
+            corners_due,
+            reach_due,
+            last_edge: None,
+            last_vertex: None,
+        })
+    }
+
+    /// Whether these are the shell's counts.
+    pub(crate) fn has_counts(&self, words: &ShellWords) -> bool
+        ensures { IsTrue result ↔ AreCounts self.now.rows words.now.rows words.now.edges words.now.corners words.now.faces }
+    {
+        fits_counts(&self.rows, words)
+    }
+
+    /// Whether no line of the shell is due.
+    pub(crate) fn is_done(&self) -> bool
+        ensures { IsTrue result ↔ (dues self.now ≡ 0) }
+    {
+        self.edges_due == 0 && self.corners_due == 0 && self.reach_due == 0
+    }
+
+    fn take_edge(&mut self, along: u32, against: u32) -> bool
+        ensures line { Takes self.old self.new (edge along against) result }
+        ensures due { IsTrue result → dues self.new + 1 ≡ dues self.old }
+        ensures refused { result ≡ false → self.new ≡ self.old }
+    {
+        if self.edges_due == 0 {
+            return false;
+        }
+        let Some(edge) = fitting_edge(&self.rows, self.last_edge, along, against) else {
+            return false;
+        };
+        self.mates[along as usize - 1] = against;
+        self.mates[against as usize - 1] = along;
+        self.edges_due -= 1;
+        self.last_edge = Some(edge.0);
+        true
+    }
+
+    fn take_corner(&mut self, numbers: &[u8]) -> bool
+        ensures line { (rs : List ℕ) → AreNumbers numbers.now rs → Takes self.old self.new (corner rs) result }
+        ensures due { IsTrue result → dues self.new + 1 ≡ dues self.old }
+        ensures refused { result ≡ false → self.new ≡ self.old }
+    {
+        if self.edges_due != 0 || self.corners_due == 0 {
+            return false;
+        }
+        let Some(vertex) = fitting_corner(
+            &self.rows,
+            &self.sizes,
+            &self.mates,
+            self.last_vertex,
+            numbers,
+        ) else {
+            return false;
+        };
+        self.corners_due -= 1;
+        self.last_vertex = Some(vertex.0);
+        true
+    }
+
+    fn take_point(&mut self, face: u32, place: u32) -> bool
+        ensures line { Takes self.old self.new (point face place) result }
+        ensures due { IsTrue result → dues self.new + 1 ≡ dues self.old }
+        ensures refused { result ≡ false → self.new ≡ self.old }
+    {
+        if self.edges_due != 0 || self.corners_due == 0 {
+            return false;
+        }
+        let Some(vertex) = fitting_point(&self.rows, &self.alone, self.last_vertex, face, place)
+        else {
+            return false;
+        };
+        self.corners_due -= 1;
+        self.last_vertex = Some(vertex.0);
+        true
+    }
+
+    fn take_reach(&mut self, row: u32) -> bool
+        ensures line { Takes self.old self.new (reach row) result }
+        ensures due { IsTrue result → dues self.new + 1 ≡ dues self.old }
+        ensures refused { result ≡ false → self.new ≡ self.old }
+    {
+        if self.edges_due != 0 || self.corners_due != 0 || self.reach_due == 0 {
+            return false;
+        }
+        let Some(face) = fitting_face(&self.rows, &self.mates, &self.reached, row) else {
+            return false;
+        };
+        self.reached[face.0 as usize] = true;
+        self.reach_due -= 1;
+        true
+    }
+
+    /// Takes an edge, corner, point or reach line, exactly where it fits.
+    pub(crate) fn take(&mut self, words: Words<'_>) -> bool
+        ensures line { (line : CertLine) → Means words.entry line → HasSpelling line → IsRowLine line → Takes self.old self.new line result }
+        ensures due { IsTrue result → dues self.new + 1 ≡ dues self.old }
+        ensures refused { result ≡ false → self.new ≡ self.old }
+    {
+        match words {
+            Words::Edge(along, against) => self.take_edge(along, against),
+            Words::Corner(numbers) => self.take_corner(numbers),
+            Words::Point(face, place) => self.take_point(face, place),
+            Words::Reach(row) => self.take_reach(row),
+            Words::Head | Words::Solid(_) | Words::Shell(_) | Words::End => false,
+        }
+    }
+}

@@ -1,0 +1,30 @@
+//! Whether the lines of a text are legal.
+
+ghost use Rattle.std.specs.Prelude.{◌≡◌, List, [], IfSome, MatchResult, Err};
+ghost use Rattle.cert_lines.specs.Line.{CertLine, cut_lines};
+ghost use Rattle.topo_certificate.specs.Legal.{IsLegal, IsFirstBad, IsLegalBehind, IsFirstBadBehind};
+ghost use Rattle.topo_certificate.specs.Told.{IsAt};
+
+use crate::checker::Checker;
+use cert_lines::{Illegal, first_line};
+
+/// Judges all further lines of a certificate, whose text is given, and whether END is the last of them. Where the
+/// checker has judged no line yet, that is whether the lines are legal for its solid, or which is the first bad one
+/// (own). A rest without LF is misspelt.
+pub fn check(checker: &mut Checker<'_>, text: &[u8]) -> Result<(), Illegal>
+    ensures whole { IsAt checker.old [] → MatchResult result
+        (λ _. IsLegal checker.old.solid (cut_lines text.now))
+        (λ bad. IsFirstBad checker.old.solid (cut_lines text.now) bad) }
+    ensures judged { (lines : List CertLine) → IsAt checker.old lines → MatchResult result
+        (λ _. IsLegalBehind checker.old.solid lines (cut_lines text.now))
+        (λ bad. IsFirstBadBehind checker.old.solid lines (cut_lines text.now) bad) }
+    ensures stays { IfSome checker.old.failed (λ bad. (result ≡ Err bad) × (checker.new ≡ checker.old)) }
+    ensures solid { checker.new.solid ≡ checker.old.solid }
+{
+    let mut rest = text;
+    'lines: while let Some((line, after)) = first_line(rest) {
+        checker.line(line)?;
+        rest = after;
+    }
+    checker.finish()
+}

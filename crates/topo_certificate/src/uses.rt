@@ -1,0 +1,50 @@
+//! How many uses the loops of a solid have.
+
+ghost use Rattle.std.specs.Prelude.{◌≡◌, ◌+◌, ◌*◌, ◌<◌, ◌^◌, length, flat_map};
+ghost use Rattle.solid_data.specs.SolidData.{shell_uses};
+ghost use Rattle.cert_lines.specs.Line.{line_limit};
+ghost use Rattle.topo_certificate.specs.Uses.{loops_size, faces_size};
+
+use solid_data::{FaceUse, Shell, ShellAt, Solid};
+
+fn uses_of_face(face: &FaceUse) -> usize
+    requires { loops_size face.now.loops < 2 ^ 29 }
+    ensures { result ≡ loops_size face.now.loops }
+{
+    let mut count = 0;
+    let loops = face.loops.as_slice();
+    'loops: for i in 0..loops.len() {
+        count += loops[i].uses.len();
+    }
+    count
+}
+
+fn uses_of_shell(shell: &Shell) -> usize
+    requires { faces_size shell.now.faces < 2 ^ 29 }
+    ensures { result ≡ faces_size shell.now.faces }
+{
+    let mut count = 0;
+    let faces = shell.faces.as_slice();
+    'faces: for i in 0..faces.len() {
+        count += uses_of_face(&faces[i]);
+    }
+    count
+}
+
+fn use_count(solid: &Solid) -> usize
+    ensures { result ≡ length (flat_map shell_uses solid.now.shells) }
+{
+    let mut count = 0;
+    'shells: for k in 0..solid.shell_count() {
+        count += uses_of_shell(solid.shell(ShellAt(k as u32)).unwrap());
+    }
+    count
+}
+
+/// The most bytes that a line behind the first two may have, with its LF.
+pub(crate) fn limit_of(solid: &Solid) -> usize
+    ensures { result ≡ line_limit solid.now }
+{
+    let _entity = solid.entity();
+    64 + 10 * use_count(solid)
+}
