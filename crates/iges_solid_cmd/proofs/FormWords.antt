@@ -1,19 +1,25 @@
 -- Words and the forms that they have.
 use Rattle.std.proofs.Common.{◌≡◌, ℕ, ◌<◌, ◌≤◌, ◌&&◌, Bool, true, false, cond, List, [], ◌∷◌, length, map, get_or, Option, Some, None, refl, sym, ap, ◌∙◌, arith, nat_eq, codes, String, string_bytes, Global, if◌then◌else◌}
 use Rattle.std.specs.Cmp.Lexicographic.{pointwise}
+use Rattle.std.specs.List.{list_any}
 use Rattle.std.specs.Option.{option_map}
 use Rattle.iges_solid_cmd.specs.declared.form.Command.{Command}
 use Rattle.iges_solid_cmd.specs.declared.form.Command.TheVariants.{Solids, Show, Certify}
-use Rattle.iges_solid_cmd.specs.Forms.{Form, command_of, entry_command, entry_number, fits, file, word, number_among}
+use Rattle.iges_solid_cmd.specs.Forms.{Form, all_fit, command_of, entry_command, entry_number, fits, file, is_file, number_among, reads_file, word}
 use Rattle.std.specs.Str.Parse.{digits_value}
 
--- the command of the first form whose test holds
-abbrev by_tests : List (List ℕ) → Bool → Bool → Bool → Option Command
-by_tests words solids show certify =
-    option_map (λ (form : Form). form.command (number_among form.slots words))
-    (cond solids (Some (record { slots = word (codes "solids") ∷ file ∷ []; command = λ _. Solids }))
+-- the first form whose test holds, and its command
+abbrev form_by : Bool → Bool → Bool → Option Form
+form_by solids show certify =
+    cond solids (Some (record { slots = word (codes "solids") ∷ file ∷ []; command = λ _. Solids }))
     (cond show (Some (record { slots = word (codes "show") ∷ file ∷ entry_number ∷ []; command = λ n. Show n }))
-    (cond certify (Some (record { slots = word (codes "certify") ∷ file ∷ entry_number ∷ []; command = λ n. Certify n })) None)))
+    (cond certify (Some (record { slots = word (codes "certify") ∷ file ∷ entry_number ∷ []; command = λ n. Certify n })) None))
+
+abbrev by_tests : List (List ℕ) → Bool → Bool → Bool → Option Command
+by_tests words solids show certify = option_map (λ (form : Form). form.command (number_among form.slots words)) (form_by solids show certify)
+
+abbrev reads_form : Option Form → Bool
+reads_form o = elim o [ Some form ↦ list_any is_file form.slots | None ↦ false ]
 
 is_solids : (words : List (List ℕ)) (x y z : Bool) → by_tests words (x && (true && true)) (y && (true && false)) (z && (true && false)) ≡ (if x then Some Solids else None)
 is_solids words true y z = refl
@@ -110,3 +116,13 @@ many (x ∷ y ∷ []) least = absurd (omega (arith, least))
 many (x ∷ y ∷ z ∷ []) least = absurd (omega (arith, least))
 many (x ∷ y ∷ z ∷ u ∷ ws) least =
     sym (many_words (bytes_of (x ∷ y ∷ z ∷ u ∷ ws)) (named (string_bytes x) (codes "solids")) (named (string_bytes x) (codes "show")) (named (string_bytes x) (codes "certify")) (fits entry_number (string_bytes z)))
+
+-- each form names a file
+reads_by : (words : List (List ℕ)) (solids show certify : Bool) (c : Command) → by_tests words solids show certify ≡ Some c → reads_form (form_by solids show certify) ≡ true
+reads_by words true show certify c e = refl
+reads_by words false true certify c e = refl
+reads_by words false false true c e = refl
+reads_by words false false false c e = absurd cc
+
+pub reads : (words : List (List ℕ)) (c : Command) → command_of words ≡ Some c → reads_file words ≡ true
+reads words c e = reads_by words (all_fit (word (codes "solids") ∷ file ∷ []) words) (all_fit (word (codes "show") ∷ file ∷ entry_number ∷ []) words) (all_fit (word (codes "certify") ∷ file ∷ entry_number ∷ []) words) c e

@@ -17,18 +17,18 @@ use Rattle.iges_solid_cmd.specs.Due.{OfCertify}
 
 module _ (f : Contents) (n : ℕ) (a : Answer) (t : List ℕ) where
   -- a place is false
-  unfolding obligations
   pub misplaced : (x : Failing) → FirstFalse (places f n) x → (a ≡ No) × (t ≡ fail_line x) → OfCertify n f a t
+  unfolding obligations
   misplaced x first exact = inl (x, FirstFalse-append_front (places f n) (solid_obligations (solid_of f n)) x first, exact)
 
   -- a rule on the shells fails
-  unfolding obligations
   pub unclosed : (x : Failing) (s : SolidData) → AllHold (places f n) → s ≡ solid_of f n → FirstFalse (solid_obligations s) x → (a ≡ No) × (t ≡ fail_line x) → OfCertify n f a t
+  unfolding obligations
   unclosed x s placed is first exact =
       inl (x, FirstFalse-append_rest (places f n) (solid_obligations (solid_of f n)) x placed (subst (λ (d : SolidData). FirstFalse (solid_obligations d) x) is first), exact)
 
   -- a certificate was made
-  unfolding obligations
   pub certified : (s : SolidData) → AllHold (places f n) → s ≡ solid_of f n → AllHold (solid_obligations s) → a ≡ Done → IsAccepted f n t → OfCertify n f a t
+  unfolding obligations
   certified s placed is closed done accepted =
       inr (AllHold-append (places f n) (solid_obligations (solid_of f n)) placed (subst (λ (d : SolidData). AllHold (solid_obligations d)) is closed), done, accepted)

@@ -8,7 +8,7 @@ use brep_walk::{WalkFault, walk};
 use edge_uses::{Rows, rows};
 use iges_fields::{Bytes, EntryNo, NoMemory, Out, write_number};
 use iges_params::File;
-use solid_data::{Failing, FaceUse, Shell, ShellAt, Solid};
+use solid_data::{FaceUse, Failing, Shell, ShellAt, Solid};
 use std::alloc::Global;
 
 /// The reply for a rule that fails.
