@@ -1,14 +1,13 @@
 -- One face more is reached, or it was before.
-use Rattle.std.specs.Prelude.{◌≡◌, ◌≢◌, ◌<◌, ◌≤◌, ◌+◌, ◌-◌, ◌==◌, ◌⊎◌, ℕ, zero, suc, Bool, true, false, not, List, [], ◌∷◌, ◌++◌, length, map, reverse, slice_set, slice_get, Some, None, Contains, Option, MatchOption, Result, Ok, Err, IfOk}
+use Rattle.std.specs.Prelude.{◌≡◌, ◌≢◌, ◌<◌, ◌≤◌, ◌+◌, ◌==◌, ◌⊎◌, ℕ, zero, suc, Bool, true, false, not, List, [], ◌∷◌, ◌++◌, length, reverse, slice_set, slice_get, Some, None, Option, MatchOption, Result, Ok, Err, IfOk}
 use Rattle.std.specs.List.{AllByRecursion}
 use Rattle.std.proofs.Common.{refl, sym, ◌∙◌, ap, subst, arith, inl, inr, ⊎_elim, get_or, drop, append_assoc}
 use Rattle.std.proofs.lemmas.Bool.Decides.{eqb_tells}
 use Rattle.std.proofs.lemmas.List.{reverse-append, reverse-reverse}
-use Rattle.solid_data.specs.Chain.{Steps, LeadsTo}
+use Rattle.solid_data.specs.Chain.{Steps}
 use Rattle.solid_data.specs.Ring.{numbers_from}
 use Rattle.solid_data.specs.declared.solid.RowId.{RowId}
-use Rattle.edge_uses.specs.declared.row.Row.{Row}
-use Rattle.edge_uses.specs.ShellRows.{ShellRows, AreRows}
+use Rattle.edge_uses.specs.ShellRows.{ShellRows}
 use Rattle.edge_uses.specs.Closed.{AreMates, OnFace, AreNeighbours, IsReached}
 use Rattle.edge_uses.specs.Mates.{ArePaired}
 use Rattle.solid_data.proofs.Members.{some_inj, Has, NoRepeat, Contains-from_Has, Has-from_Contains, no_longer, All-at, has_left, has_right, rises_none}
@@ -21,9 +20,9 @@ use Rattle.solid_data.proofs.Trail.{leads_last}
 use Rattle.edge_uses.proofs.Turn.{one_mate, paired_rows}
 use Rattle.edge_uses.proofs.Tallies.{set_same, set_other}
 use Rattle.shell_reach.specs.Reaching.{ReachesOne, ReachFrom, ReachesAll, row_numbers}
-use Rattle.shell_reach.specs.FaceRows.{IsTop, AreFaceRows}
+use Rattle.shell_reach.specs.FaceRows.{IsHead, AreFaceRows}
 use Rattle.shell_reach.specs.Flood.{IsFlood, IsDone, Grows}
-use Rattle.shell_reach.proofs.FaceTops.{one_face, face_low}
+use Rattle.shell_reach.proofs.FaceHeads.{one_face, face_low, row_low}
 
 length_set : (xs : List Bool) (k : ℕ) (v : Bool) → length (slice_set xs k v) ≡ length xs
 length_set [] k v = refl
@@ -140,44 +139,36 @@ numbers_pushed rows new at e = ap row_numbers e ∙ pushed rows
     pushed [] = refl
     pushed (r ∷ rs) = ap (λ xs. r.0 ∷ xs) (pushed rs)
 
--- Leaving a face: of its rows all from top on are crossed.
-pub record LeftFrom (d : ShellRows) (face top : ℕ) (order : List ℕ) : Type 0 where
-  pub low : top ≤ length d.rows
-  pub here : (x : ℕ) → top ≡ suc x → OnFace d face x
-  pub all : (x m g : ℕ) → OnFace d face x → top ≤ x → AreMates d x m → OnFace d g m → Has order g
+-- Leaving a face: of its rows all below this one are crossed.
+pub record LeftTo (d : ShellRows) (face at : ℕ) (order : List ℕ) : Type 0 where
+  pub here : at < length d.rows → OnFace d face at
+  pub all : (x m g : ℕ) → OnFace d face x → x < at → AreMates d x m → OnFace d g m → Has order g
 
-row_low : (rows : List Row) (r : ℕ) (a : Row) → slice_get rows r ≡ Some a → r < length rows
-row_low [] r a h = absurd cc
-row_low (x ∷ xs) zero a h = omega arith
-row_low (x ∷ xs) (suc r) a h = omega (arith, row_low xs r a h)
-
-pub left_none : (d : ShellRows) (face top : ℕ) (order : List ℕ) → IsTop d face (length d.rows) top → LeftFrom d face top order
-left_none d face top order t = record {
-  low = t.low;
+pub left_none : (d : ShellRows) (face at : ℕ) (order : List ℕ) → IsHead d face 0 at → LeftTo d face at order
+left_none d face at order t = record {
   here = t.here;
-  all = λ x m g on above mates on_g. absurd (omega (arith, above, t.all x on (row_low d.rows x on.0 on.1)));
+  all = λ x m g on below mates on_g. absurd (omega (arith, below, t.all x on (omega arith)));
 }
 
-pub left_more : (d : ShellRows) (face r top : ℕ) (order new : List ℕ) → LeftFrom d face (suc r) order → OnFace d face r → IsTop d face r top → Grows order new → ((m g : ℕ) → AreMates d r m → OnFace d g m → Has new g) → LeftFrom d face top new
-left_more d face r top order new left on t grows there = record {
-  low = omega (arith, t.low, left.low);
+pub left_more : (d : ShellRows) (face r at : ℕ) (order new : List ℕ) → LeftTo d face r order → OnFace d face r → IsHead d face (r + 1) at → Grows order new → ((m g : ℕ) → AreMates d r m → OnFace d g m → Has new g) → LeftTo d face at new
+left_more d face r at order new left on t grows there = record {
   here = t.here;
-  all = λ x m g on_x above mates on_g. by_row x m g on_x above mates on_g (three x r);
+  all = λ x m g on_x below mates on_g. by_row x m g on_x below mates on_g (three x r);
 }
   where
-    three : (x r : ℕ) → (x < r) ⊎ ((x ≡ r) ⊎ (suc r ≤ x))
+    three : (x r : ℕ) → (x < r) ⊎ ((x ≡ r) ⊎ (r + 1 ≤ x))
     three zero zero = inr (inl refl)
     three zero (suc r) = inl (omega arith)
     three (suc x) zero = inr (inr (omega arith))
     three (suc x) (suc r) = ⊎_elim (λ a. inl (omega (arith, a))) (λ b. ⊎_elim (λ e. inr (inl (ap suc e))) (λ k. inr (inr (omega (arith, k)))) b) (three x r)
 
-    by_row : (x m g : ℕ) → OnFace d face x → top ≤ x → AreMates d x m → OnFace d g m → (x < r) ⊎ ((x ≡ r) ⊎ (suc r ≤ x)) → Has new g
-    by_row x m g on_x above mates on_g (inl lt) = absurd (omega (arith, above, t.all x on_x lt))
-    by_row x m g on_x above mates on_g (inr (inl e)) = there m g (subst (λ k. AreMates d k m) e mates) on_g
-    by_row x m g on_x above mates on_g (inr (inr high)) = still_has order new g grows (left.all x m g on_x high mates on_g)
+    by_row : (x m g : ℕ) → OnFace d face x → x < at → AreMates d x m → OnFace d g m → (x < r) ⊎ ((x ≡ r) ⊎ (r + 1 ≤ x)) → Has new g
+    by_row x m g on_x below mates on_g (inl lt) = still_has order new g grows (left.all x m g on_x lt mates on_g)
+    by_row x m g on_x below mates on_g (inr (inl e)) = there m g (subst (λ k. AreMates d k m) e mates) on_g
+    by_row x m g on_x below mates on_g (inr (inr high)) = absurd (omega (arith, below, t.all x on_x high))
 
-pub left_all : (d : ShellRows) (face : ℕ) (order : List ℕ) → LeftFrom d face 0 order → IsDone d order face
-left_all d face order left other (x, m, mates, on, on_other) = left.all x m other on (omega arith) mates on_other
+pub left_all : (d : ShellRows) (face at : ℕ) (order : List ℕ) → length d.rows ≤ at → LeftTo d face at order → IsDone d order face
+left_all d face at order end left other (x, m, mates, on, on_other) = left.all x m other on (omega (arith, end, row_low d.rows x on.0 on.1)) mates on_other
 
 pub ok_three : {T E : Type 0} (r : Result T E) (P Q R S : T → Type 0) → ((x : T) → P x → Q x → R x → S x) → IfOk r P → IfOk r Q → IfOk r R → IfOk r S
 ok_three (Ok x) P Q R S f p q r = f x p q r
@@ -187,11 +178,11 @@ pub flood_as : (d : ShellRows) (marks ms : List Bool) (order os rows rs : List �
 flood_as d marks ms order os rows rs h a b c =
     subst (λ x. IsFlood d ms os x) (sym c) (subst (λ x. IsFlood d ms x rows) (sym b) (subst (λ x. IsFlood d x order rows) (sym a) h))
 
-pub first_top : (d : ShellRows) (face a : ℕ) (last before : List ℕ) → AreFaceRows d last before → face < d.face_count → a ≡ get_or last face a → IsTop d face (length d.rows) a
-first_top d face a last before t low e = subst (IsTop d face (length d.rows)) (sym (e ∙ default_apart last face a 0 (omega (arith, low, t.faces)))) (t.tops face low)
+pub first_head : (d : ShellRows) (face a : ℕ) (first next : List ℕ) → AreFaceRows d first next → face < d.face_count → a ≡ get_or first face a → IsHead d face 0 a
+first_head d face a first next t low e = subst (IsHead d face 0) (sym (e ∙ default_apart first face a 0 (omega (arith, low, t.faces)))) (t.heads face low)
 
-pub next_top : (d : ShellRows) (face r a : ℕ) (last before : List ℕ) → AreFaceRows d last before → OnFace d face r → a ≡ get_or before r a → IsTop d face r a
-next_top d face r a last before t on e = subst (IsTop d face r) (sym (e ∙ default_apart before r a 0 (omega (arith, row_low d.rows r on.0 on.1, t.rows)))) (t.nexts r face on)
+pub next_head : (d : ShellRows) (face r a : ℕ) (first next : List ℕ) → AreFaceRows d first next → OnFace d face r → a ≡ get_or next r a → IsHead d face (r + 1) a
+next_head d face r a first next t on e = subst (IsHead d face (r + 1)) (sym (e ∙ default_apart next r a 0 (omega (arith, row_low d.rows r on.0 on.1, t.rows)))) (t.nexts r face on)
 
 pub marked_low : (marks : List Bool) (f : ℕ) → get_or marks f false ≡ true → f < length marks
 marked_low [] f h = absurd cc

@@ -54,10 +54,10 @@ impl Flood {
         self.add(other, mate)
     }
 
-    /// Goes on from each row of a reached face.
+    /// Goes on from each row of a reached face, by rising number.
     fn leave(&mut self, paired: &Paired<'_>, faces: &FaceRows, face: u32) -> Result<(), NoMemory>
         requires whole { ArePaired paired.now }
-        requires table { AreFaceRows paired.now faces.now.last.items faces.now.before.items }
+        requires table { AreFaceRows paired.now faces.now.first.items faces.now.next.items }
         requires known { Has self.old.order.items face }
         requires low { face < paired.now.face_count }
         requires flood { IsFlood paired.now self.old.marks.items self.old.order.items (row_numbers self.old.rows) }
@@ -65,11 +65,10 @@ impl Flood {
         ensures grows { IfOk result (λ _. Grows self.old.order.items self.new.order.items) }
         ensures done { IfOk result (λ _. IsDone paired.now self.new.order.items face) }
     {
-        let mut top = faces.last[face as usize];
-        'rows: while top > 0 {
-            let r = top - 1;
+        let mut r = faces.first[face as usize];
+        'rows: while (r as usize) < faces.next.len() {
             self.cross(paired, face, r)?;
-            top = faces.before[r as usize];
+            r = faces.next[r as usize];
         }
         Ok(())
     }
@@ -98,7 +97,7 @@ impl Flood {
         q: usize,
     ) -> Result<(), NoMemory>
         requires whole { ArePaired paired.now }
-        requires table { AreFaceRows paired.now faces.now.last.items faces.now.before.items }
+        requires table { AreFaceRows paired.now faces.now.first.items faces.now.next.items }
         requires flood { IsFlood paired.now self.old.marks.items self.old.order.items (row_numbers self.old.rows) }
         ensures flood { IfOk result (λ _. IsFlood paired.now self.new.marks.items self.new.order.items (row_numbers self.new.rows)) }
         ensures grows { IfOk result (λ _. Grows self.old.order.items self.new.order.items) }
@@ -120,7 +119,7 @@ impl Flood {
         count: usize,
     ) -> Result<(), NoMemory>
         requires whole { ArePaired paired.now }
-        requires table { AreFaceRows paired.now faces.now.last.items faces.now.before.items }
+        requires table { AreFaceRows paired.now faces.now.first.items faces.now.next.items }
         requires count { count ≡ paired.now.face_count }
         requires flood { IsFlood paired.now self.old.marks.items self.old.order.items (row_numbers self.old.rows) }
         ensures flood { IfOk result (λ _. IsFlood paired.now self.new.marks.items self.new.order.items (row_numbers self.new.rows)) }
