@@ -11,6 +11,7 @@ pub mod WorkedPlaces
 pub mod WorkedLegal
 pub mod WorkedFailures
 pub mod Checking
+pub mod CheckedShell
 pub mod PartLines
 pub mod Placed
 pub mod Rules

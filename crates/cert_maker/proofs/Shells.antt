@@ -8,7 +8,7 @@ use Rattle.solid_data.specs.Obligations.{Obligation, AllHold, FirstFalse, of_eac
 use Rattle.solid_data.specs.declared.solid.Shell.{Shell}
 use Rattle.solid_data.specs.declared.verdict.Failing.{Failing}
 use Rattle.solid_data.proofs.ObligationLemmas.{Remains, Remains-all, Remains-less, Remains-fails, FirstFalse-not_all, FirstFalse-one}
-use Rattle.edge_uses.specs.ShellObligations.{shell_obligations, solid_obligations}
+use Rattle.edge_uses.specs.ShellObligations.{shell_obligations, solid_obligations, checked_of_shell, checked_obligations}
 use Rattle.edge_uses.proofs.Joins.{drop_past}
 use Rattle.vertex_link.proofs.Starts.{split_at}
 use Rattle.cert_maker.specs.Certified.{IsMakeFault, IsNoMemory, FailsSo}
@@ -16,29 +16,34 @@ use Rattle.cert_maker.specs.declared.fault.MakeFault.{MakeFault}
 use Rattle.cert_maker.specs.declared.fault.MakeFault.TheVariants.{Fails, NoMemory}
 
 -- the obligations on the shells from the k-th on
-abbrev pub left_from : SolidData → ℕ → List Obligation
-left_from s k = of_each (shell_obligations s) (enumerate_from k (drop k s.shells))
+abbrev pub left_from : (ℕ × Shell → List Obligation) → List Shell → ℕ → List Obligation
+left_from g hs k = of_each g (enumerate_from k (drop k hs))
 
 -- what is shown of those is shown of all
-abbrev pub RemainFrom : SolidData → ℕ → Type 0
-RemainFrom s k = Remains (left_from s k) (solid_obligations s)
+abbrev pub RemainFrom : (ℕ × Shell → List Obligation) → List Obligation → List Shell → ℕ → Type 0
+RemainFrom g all hs k = Remains (left_from g hs k) all
 
-pub from_first : (s : SolidData) → RemainFrom s 0
+pub from_first : (s : SolidData) → RemainFrom (shell_obligations s) (solid_obligations s) s.shells 0
 unfolding solid_obligations
-from_first s = Remains-all (of_each (shell_obligations s) (enumerate_from 0 s.shells))
+from_first s = Remains-all (left_from (shell_obligations s) s.shells 0)
 
-split : (s : SolidData) (k : ℕ) (h : Shell) → slice_get s.shells k ≡ Some h → RemainFrom s k → Remains (shell_obligations s (k, h) ++ left_from s (k + 1)) (solid_obligations s)
-split s k h at r = subst (λ hs. Remains (of_each (shell_obligations s) (enumerate_from k hs)) (solid_obligations s)) (split_at s.shells k h at) r
+pub checked_from_first : (s : SolidData) → RemainFrom (checked_of_shell s) (checked_obligations s) s.shells 0
+unfolding checked_obligations
+checked_from_first s = Remains-all (left_from (checked_of_shell s) s.shells 0)
 
-pub one_shell : (s : SolidData) (k : ℕ) (h : Shell) → slice_get s.shells k ≡ Some h → RemainFrom s k → AllHold (shell_obligations s (k, h)) → RemainFrom s (k + 1)
-one_shell s k h at r holds = Remains-less (shell_obligations s (k, h)) (left_from s (k + 1)) (solid_obligations s) (split s k h at r) holds
+module _ (g : ℕ × Shell → List Obligation) (all : List Obligation) (hs : List Shell) (k : ℕ) where
+  split : (h : Shell) → slice_get hs k ≡ Some h → RemainFrom g all hs k → Remains (g (k, h) ++ left_from g hs (k + 1)) all
+  split h at r = subst (λ xs. Remains (of_each g (enumerate_from k xs)) all) (split_at hs k h at) r
 
-pub shell_fails : (s : SolidData) (k : ℕ) (h : Shell) (e : MakeFault) → slice_get s.shells k ≡ Some h → RemainFrom s k → IsMakeFault (shell_obligations s (k, h)) e → IsMakeFault (solid_obligations s) e
-shell_fails s k h (Fails x) at r bad = Remains-fails (shell_obligations s (k, h)) (left_from s (k + 1)) (solid_obligations s) x (split s k h at r) bad
-shell_fails s k h NoMemory at r bad = tt
+  pub one_shell : (h : Shell) → slice_get hs k ≡ Some h → RemainFrom g all hs k → AllHold (g (k, h)) → RemainFrom g all hs (k + 1)
+  one_shell h at r holds = Remains-less (g (k, h)) (left_from g hs (k + 1)) all (split h at r) holds
 
-pub all_shells : (s : SolidData) (k : ℕ) → length s.shells ≤ k → RemainFrom s k → AllHold (solid_obligations s)
-all_shells s k past r = r.holds (subst (λ hs. AllHold (of_each (shell_obligations s) (enumerate_from k hs))) (sym (drop_past k s.shells past)) tt)
+  pub shell_fails : (h : Shell) (e : MakeFault) → slice_get hs k ≡ Some h → RemainFrom g all hs k → IsMakeFault (g (k, h)) e → IsMakeFault all e
+  shell_fails h (Fails x) at r bad = Remains-fails (g (k, h)) (left_from g hs (k + 1)) all x (split h at r) bad
+  shell_fails h NoMemory at r bad = tt
+
+  pub all_shells : length hs ≤ k → RemainFrom g all hs k → AllHold all
+  all_shells past r = r.holds (subst (λ xs. AllHold (of_each g (enumerate_from k xs))) (sym (drop_past k hs past)) tt)
 
 -- A fault where all holds is want of memory.
 pub only_memory : (os : List Obligation) (e : MakeFault) → IsMakeFault os e → AllHold os → IsNoMemory e

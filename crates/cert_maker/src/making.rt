@@ -20,7 +20,7 @@ use solid_data::{Shell, ShellAt, Solid};
 use std::alloc::Global;
 use topo_certificate::{Certificate, ShellPart, ShellParts};
 
-fn shell_at(solid: &Solid, at: ShellAt) -> &Shell
+pub(crate) fn shell_at(solid: &Solid, at: ShellAt) -> &Shell
     requires { at.0 < length solid.now.shells }
     ensures { slice_get solid.now.shells at.0 ≡ Some result.now }
 {

@@ -2,6 +2,7 @@ use Rattle.std.proofs.Common.{◌≡◌, ◌<◌, sym, ◌∙◌, ap, arith, len
 use Rattle.std.proofs.lemmas.Result.{err_from_is_err_and}
 use Rattle.solid_data.specs.declared.solid.Shell.{Shell}
 use Rattle.edge_uses.specs.ShellRows.{shell_rows}
+use Rattle.edge_uses.specs.ShellObligations.{shell_obligations, solid_obligations}
 use Rattle.cert_lines.specs.declared.parts.ShellPart.{ShellPart}
 use Rattle.cert_maker.specs.Parts.{IsPart}
 use Rattle.cert_maker.proofs.Certifying.{few_parts}
@@ -24,11 +25,11 @@ overflow_cast-at c =
 pub returns-in_err-part-clause-fails : goal.returns-in_err-part-clause-fails
 returns-in_err-part-clause-fails c =
     let p = err_from_is_err_and c.from_residual.result c.from_residual.ensures.1 in
-    rw (p.1, p.2) (shell_fails c.args.solid.now c.shells.k c.shell_at-shell.result.now c.in_err-part.field-0.0 c.shell_at-shell.ensures c.shells.invariant.left c.in_err-part.ensures.fails)
+    rw (p.1, p.2) (shell_fails (shell_obligations c.args.solid.now) (solid_obligations c.args.solid.now) c.args.solid.now.shells c.shells.k c.shell_at-shell.result.now c.in_err-part.field-0.0 c.shell_at-shell.ensures c.shells.invariant.left c.in_err-part.ensures.fails)
 
 pub shells-preserved : goal.shells-preserved
 shells-preserved c = record {
-  left = one_shell c.args.solid.now c.shells.k c.shell_at-shell.result.now c.shell_at-shell.ensures c.shells.invariant.left c.in_ok-part.ensures.holds;
+  left = one_shell (shell_obligations c.args.solid.now) (solid_obligations c.args.solid.now) c.args.solid.now.shells c.shells.k c.shell_at-shell.result.now c.shell_at-shell.ensures c.shells.invariant.left c.in_ok-part.ensures.holds;
   parts = agree_more (λ (h : Shell) (part : ShellPart). IsPart (shell_rows c.args.solid.now h) part) c.args.solid.now.shells c.shells.k c.shell_at-shell.result.now c.in_ok-part.part c.shells.parts c.push_part.new.parts c.shell_at-shell.ensures
       c.in_ok-part.ensures.part c.in_ok-push_part.ensures c.shells.invariant.parts;
   before = c.in_ok-part.ensures.before;

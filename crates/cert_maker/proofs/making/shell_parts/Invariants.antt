@@ -2,6 +2,7 @@ use Rattle.std.proofs.Common.{◌≡◌, ℕ}
 use Rattle.solid_data.specs.declared.solid.Shell.{Shell}
 use Rattle.edge_uses.specs.Before.{AreBelow}
 use Rattle.edge_uses.specs.ShellRows.{shell_rows}
+use Rattle.edge_uses.specs.ShellObligations.{shell_obligations, solid_obligations}
 use Rattle.cert_lines.specs.declared.parts.ShellPart.{ShellPart}
 use Rattle.cert_maker.specs.Parts.{IsPart}
 use Rattle.cert_maker.proofs.Shells.{RemainFrom}
@@ -10,7 +11,7 @@ use Rattle.cert_maker.proofs.making.shell_parts.Given as goal
 
 abbrev pub invariant-shells : goal.invariant-shells
 invariant-shells l = record {
-  left : RemainFrom l.solid l.k;
+  left : RemainFrom (shell_obligations l.solid) (solid_obligations l.solid) l.solid.shells l.k;
   parts : AgreeUpTo (λ (h : Shell) (part : ShellPart). IsPart (shell_rows l.solid h) part) l.solid.shells l.k l.parts;
   before : AreBelow l.solid l.k l.before;
 }

@@ -1,0 +1,11 @@
+use Rattle.std.proofs.Common.{ℕ}
+use Rattle.edge_uses.specs.Before.{AreBelow}
+use Rattle.edge_uses.specs.ShellObligations.{checked_of_shell, checked_obligations}
+use Rattle.cert_maker.proofs.Shells.{RemainFrom}
+use Rattle.cert_maker.proofs.checks.check_shells.Given as goal
+
+abbrev pub invariant-shells : goal.invariant-shells
+invariant-shells l = record {
+  left : RemainFrom (checked_of_shell l.solid) (checked_obligations l.solid) l.solid.shells l.k;
+  before : AreBelow l.solid l.k l.before;
+}
