@@ -1,5 +1,5 @@
 -- What is owed of certifying a solid, by what the walk and the maker answer.
-use Rattle.std.proofs.Common.{◌≡◌, inl, inr, ℕ, List, sym, subst, ap}
+use Rattle.std.proofs.Common.{◌≡◌, inl, inr, ℕ, List, subst}
 use Rattle.solid_data.specs.Obligations.{AllHold, FirstFalse}
 use Rattle.solid_data.specs.SolidData.{SolidData}
 use Rattle.solid_data.specs.declared.verdict.Failing.{Failing}

@@ -1,19 +1,26 @@
 -- What is owed is one answer with one text.
-use Rattle.std.proofs.Common.{◌≡◌, ◌⊎◌, inl, inr, ℕ, List, Option, Some, None, refl, sym, ap, subst, ◌∙◌, arith}
+use Rattle.std.proofs.Common.{◌≡◌, ◌≤◌, ◌⊎◌, length, inl, inr, ℕ, List, Option, Some, None, refl, sym, ap, subst, ◌∙◌, arith}
 use Rattle.std.specs.Prelude.{MatchOption, IsTrue}
+use Rattle.iges_fields.specs.declared.TheConstants.{FILE_LIMIT}
 use Rattle.iges_params.specs.Contents.{Contents}
+use Rattle.iges_params.specs.IsFile.{IsFile}
 use Rattle.iges_params.proofs.Answers.{clash, ok_is, err_is}
 use Rattle.iges_params.proofs.FileExact.{IsFile-read_file, Refusal-read_file}
 use Rattle.solid_data.proofs.ObligationLemmas.{FirstFalse-one, FirstFalse-not_all}
 use Rattle.brep_walk.specs.Places.{places}
+use Rattle.brep_walk.specs.SolidOf.{solid_of}
+use Rattle.cert_lines.proofs.Openings.{one_bad_opening, one_opening, opens_or_bad}
+use Rattle.topo_certificate.proofs.LegalLemmas.{legal_has_no_bad_lem, one_first_bad}
+use Rattle.cert_maker.specs.Checked.{checked}
 use Rattle.cert_maker.specs.Closed.{obligations}
 use Rattle.iges_solid_cmd.specs.declared.form.Command.{Command}
 use Rattle.iges_solid_cmd.specs.declared.form.Command.TheVariants as command
 use Rattle.iges_solid_cmd.specs.declared.answer.Answer.{Answer}
 use Rattle.iges_solid_cmd.specs.declared.answer.Answer.TheVariants as answer
 use Rattle.iges_solid_cmd.specs.Forms.{command_of, usage_line}
-use Rattle.iges_solid_cmd.specs.Texts.{bad_file_line, fail_line, solids_text}
-use Rattle.iges_solid_cmd.specs.Due.{Owed, Exactly, OfFile, OfSolids, OfShow, OfCertify, DueOf}
+use Rattle.iges_solid_cmd.specs.Texts.{bad_file_line, fail_line, illegal_line, solids_text}
+use Rattle.iges_solid_cmd.specs.Outcome.{IsNoFile}
+use Rattle.iges_solid_cmd.specs.Due.{Owed, Exactly, OfNoFile, OfFile, OfSolids, OfShow, OfCertify, OfLines, OfVerify, OfContents, DueOf}
 use Rattle.iges_solid_cmd.specs.OneAnswer.{chooses, OneAnswerIsOwed}
 
 -- at most one answer and text are owed
@@ -30,18 +37,28 @@ one_but Free owed one a b t u p q = let s = one a b t u p q in (s.0, inl s.1)
 exactly_one : (a : Answer) (text : List ℕ) → IsOne (Exactly a text)
 exactly_one a text b c t u p q = (p.0 ∙ sym q.0, p.1 ∙ sym q.1)
 
-file_one : (Free : Type 0) (bytes : List ℕ) (owed : Contents → Owed) → ((f : Contents) → IsOneBut Free (owed f)) → IsOneBut Free (OfFile bytes owed)
-file_one Free bytes owed one a b t u (inl p) (inl q) = (p.1.0 ∙ sym q.1.0, inl (p.1.1 ∙ sym q.1.1))
-file_one Free bytes owed one a b t u (inl p) (inr (inl q)) = absurd (omega (arith, p.0, q.0))
-file_one Free bytes owed one a b t u (inl p) (inr (inr q)) = absurd (omega (arith, p.0, q.0))
-file_one Free bytes owed one a b t u (inr (inl p)) (inl q) = absurd (omega (arith, p.0, q.0))
-file_one Free bytes owed one a b t u (inr (inr p)) (inl q) = absurd (omega (arith, p.0, q.0))
-file_one Free bytes owed one a b t u (inr (inl p)) (inr (inl q)) =
+no_file_one : (bytes : List ℕ) → IsOne (OfNoFile bytes)
+no_file_one bytes a b t u (inl p) (inl q) = (p.1.0 ∙ sym q.1.0, p.1.1 ∙ sym q.1.1)
+no_file_one bytes a b t u (inl p) (inr q) = absurd (omega (arith, p.0, q.0))
+no_file_one bytes a b t u (inr p) (inl q) = absurd (omega (arith, p.0, q.0))
+no_file_one bytes a b t u (inr p) (inr q) =
     let same : p.1 ≡ q.1 = err_is {X = Contents} p.1 q.1 (sym (Refusal-read_file bytes p.1 p.2) ∙ Refusal-read_file bytes q.1 q.2) in
-    (p.3.0 ∙ sym q.3.0, inl (p.3.1 ∙ ap bad_file_line same ∙ sym q.3.1))
-file_one Free bytes owed one a b t u (inr (inl p)) (inr (inr q)) = absurd (clash p.1 q.1 (sym (Refusal-read_file bytes p.1 p.2) ∙ IsFile-read_file bytes q.1 q.2))
-file_one Free bytes owed one a b t u (inr (inr p)) (inr (inl q)) = absurd (clash q.1 p.1 (sym (Refusal-read_file bytes q.1 q.2) ∙ IsFile-read_file bytes p.1 p.2))
-file_one Free bytes owed one a b t u (inr (inr p)) (inr (inr q)) =
+    (p.3.0 ∙ sym q.3.0, p.3.1 ∙ ap bad_file_line same ∙ sym q.3.1)
+
+-- what is no file is none
+pub no_file : (bytes : List ℕ) (f : Contents) → IsNoFile bytes → length bytes ≤ FILE_LIMIT → IsFile bytes f → ⊥
+no_file bytes f (inl p) few is = absurd (omega (arith, p, few))
+no_file bytes f (inr p) few is = clash p.1 f (sym (Refusal-read_file bytes p.1 p.2) ∙ IsFile-read_file bytes f is)
+
+owed_none : (bytes : List ℕ) (a : Answer) (t : List ℕ) → OfNoFile bytes a t → IsNoFile bytes
+owed_none bytes a t (inl p) = inl p.0
+owed_none bytes a t (inr p) = inr (p.0, p.1, p.2)
+
+file_one : (Free : Type 0) (bytes : List ℕ) (owed : Contents → Owed) → ((f : Contents) → IsOneBut Free (owed f)) → IsOneBut Free (OfFile bytes owed)
+file_one Free bytes owed one a b t u (inl p) (inl q) = one_but Free (OfNoFile bytes) (no_file_one bytes) a b t u p q
+file_one Free bytes owed one a b t u (inl p) (inr q) = absurd (no_file bytes q.1 (owed_none bytes a t p) q.0 q.2)
+file_one Free bytes owed one a b t u (inr p) (inl q) = absurd (no_file bytes p.1 (owed_none bytes b u q) p.0 p.2)
+file_one Free bytes owed one a b t u (inr p) (inr q) =
     let same : p.1 ≡ q.1 = ok_is p.1 q.1 (sym (IsFile-read_file bytes p.1 p.2) ∙ IsFile-read_file bytes q.1 q.2) in
     one q.1 a b t u (subst (λ (f : Contents). owed f a t) same p.3) q.3
 
@@ -57,10 +74,38 @@ certify_one Free free n f a b t u (inl (x, p, e)) (inr (all, done, made)) = absu
 certify_one Free free n f a b t u (inr (all, done, made)) (inl (y, q, d)) = absurd (FirstFalse-not_all (obligations f n) y q all)
 certify_one Free free n f a b t u (inr (all, done, made)) (inr (every, finished, other)) = (done ∙ sym finished, inr (done, free))
 
+lines_one : (n : ℕ) (lines : List (List ℕ)) (f : Contents) → IsOne (OfLines n lines f)
+lines_one n lines f a b t u (inl (x, p, e)) (inl (y, q, d)) = (e.0 ∙ sym d.0, e.1 ∙ ap fail_line (FirstFalse-one (checked f n) x y p q) ∙ sym d.1)
+lines_one n lines f a b t u (inl (x, p, e)) (inr (inl q)) = absurd (FirstFalse-not_all (checked f n) x p q.0)
+lines_one n lines f a b t u (inl (x, p, e)) (inr (inr q)) = absurd (FirstFalse-not_all (checked f n) x p q.0)
+lines_one n lines f a b t u (inr (inl p)) (inl (y, q, d)) = absurd (FirstFalse-not_all (checked f n) y q p.0)
+lines_one n lines f a b t u (inr (inr p)) (inl (y, q, d)) = absurd (FirstFalse-not_all (checked f n) y q p.0)
+lines_one n lines f a b t u (inr (inl p)) (inr (inl q)) = (p.3.0 ∙ sym q.3.0, p.3.1 ∙ ap illegal_line (one_first_bad (solid_of f n) lines p.1 q.1 p.2 q.2) ∙ sym q.3.1)
+lines_one n lines f a b t u (inr (inl p)) (inr (inr q)) = absurd (legal_has_no_bad_lem (solid_of f n) lines p.1 q.1 p.2)
+lines_one n lines f a b t u (inr (inr p)) (inr (inl q)) = absurd (legal_has_no_bad_lem (solid_of f n) lines q.1 p.1 q.2)
+lines_one n lines f a b t u (inr (inr p)) (inr (inr q)) = (p.2.0 ∙ sym q.2.0, p.2.1 ∙ sym q.2.1)
+
+verify_one : (certificate : List ℕ) (f : Contents) → IsOne (OfVerify certificate f)
+verify_one c f a b t u (inl p) (inl q) = (p.1.0 ∙ sym q.1.0, p.1.1 ∙ sym q.1.1)
+verify_one c f a b t u (inl p) (inr (inl q)) = absurd (omega (arith, p.0, q.0))
+verify_one c f a b t u (inl p) (inr (inr q)) = absurd (omega (arith, p.0, q.0))
+verify_one c f a b t u (inr (inl p)) (inl q) = absurd (omega (arith, p.0, q.0))
+verify_one c f a b t u (inr (inr p)) (inl q) = absurd (omega (arith, p.0, q.0))
+verify_one c f a b t u (inr (inl p)) (inr (inl q)) = (p.3.0 ∙ sym q.3.0, p.3.1 ∙ ap illegal_line (one_bad_opening c p.1 q.1 p.2 q.2) ∙ sym q.3.1)
+verify_one c f a b t u (inr (inl p)) (inr (inr q)) = absurd (opens_or_bad c q.1 q.2 p.1 q.3 p.2)
+verify_one c f a b t u (inr (inr p)) (inr (inl q)) = absurd (opens_or_bad c p.1 p.2 q.1 p.3 q.2)
+verify_one c f a b t u (inr (inr (few, n, lines, opens, owed))) (inr (inr (fewer, m, others, opened, due))) =
+    let same = one_opening c n m lines others opens opened in
+    lines_one m others f a b t u (subst (λ (k : ℕ). OfLines k others f a t) same.0 (subst (λ (xs : List (List ℕ)). OfLines n xs f a t) same.1 owed)) due
+
+contents_one : (c : Command) (certificate : List ℕ) (f : Contents) → IsOneBut (IsTrue (chooses (Some c))) (OfContents c certificate f)
+contents_one command.Solids certificate f = one_but _ (OfSolids f) (exactly_one answer.Done (solids_text f))
+contents_one (command.Show n) certificate f = one_but _ (OfShow n f) (show_one n f)
+contents_one (command.Certify n) certificate f = certify_one _ refl n f
+contents_one command.Verify certificate f = one_but _ (OfVerify certificate f) (verify_one certificate f)
+
 due_of_one : (c : Command) (file certificate : List ℕ) → IsOneBut (IsTrue (chooses (Some c))) (DueOf c file certificate)
-due_of_one command.Solids file certificate = file_one _ file OfSolids (λ f. one_but _ (OfSolids f) (exactly_one answer.Done (solids_text f)))
-due_of_one (command.Show n) file certificate = file_one _ file (OfShow n) (λ f. one_but _ (OfShow n f) (show_one n f))
-due_of_one (command.Certify n) file certificate = file_one _ file (OfCertify n) (λ f. certify_one _ refl n f)
+due_of_one c file certificate = file_one _ file (OfContents c certificate) (contents_one c certificate)
 
 pub due_one : OneAnswerIsOwed
 due_one words file certificate a b t u p q = by_command (command_of words) p q

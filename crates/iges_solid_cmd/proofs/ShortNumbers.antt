@@ -1,5 +1,5 @@
 -- Words of few digits are numbers of 32 bits.
-use Rattle.std.proofs.Common.{◌≡◌, ℕ, ◌&&◌, ◌<◌, not, true, List, [], ◌∷◌, length, Result, Err, refl, arith}
+use Rattle.std.proofs.Common.{◌≡◌, ℕ, ◌&&◌, ◌<◌, not, true, List, [], ◌∷◌, length, Err, refl, arith}
 use Rattle.std.specs.Prelude.{nat_le}
 use Rattle.std.specs.Char.{is_ascii_digit}
 use Rattle.std.specs.List.{list_all}

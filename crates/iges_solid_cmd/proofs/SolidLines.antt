@@ -1,5 +1,5 @@
 -- The lines of a listing, one entry after another.
-use Rattle.std.proofs.Common.{◌≡◌, ℕ, ℤ, pos, ◌+◌, ◌*◌, List, [], ◌∷◌, ◌++◌, drop, refl, sym, ap, ◌∙◌, append_assoc, Option, Some, None, slice_get, get_or, unwrap_or, Bool, true, false, cond, filter, flat_map, Decides, codes, decimal}
+use Rattle.std.proofs.Common.{◌≡◌, ℕ, pos, ◌+◌, ◌*◌, List, [], ◌∷◌, ◌++◌, drop, refl, sym, ap, ◌∙◌, append_assoc, Option, Some, None, slice_get, get_or, unwrap_or, Bool, true, false, cond, filter, flat_map, Decides, codes, decimal}
 use Rattle.std.specs.Option.{option_map}
 use Rattle.std.proofs.lemmas.List.{drop_more}
 use Rattle.std.proofs.lemmas.Option.{slice_get_within, unwrap_or-slice_get}

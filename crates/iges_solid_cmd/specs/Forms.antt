@@ -7,10 +7,10 @@ use Rattle.iges_fields.specs.Word.{are_digits}
 use Rattle.iges_solid_cmd.specs.declared.form.Command.{Command}
 use Rattle.iges_solid_cmd.specs.declared.form.Command.TheVariants as command
 
--- a fixed word, the name of a file, or a number with its most digits, its least and its greatest value
+-- a fixed word, the name of a file or of a certificate, or a number with its most digits, its least and its greatest value
 pub data Slot : Type 0 where
   word : List ℕ → Slot
-  file : Slot
+  file certificate : Slot
   number : ℕ → ℕ → ℕ → Slot
 
 -- what the words of a form are, and the command for the number among them
@@ -26,13 +26,15 @@ abbrev pub forms : List Form
 forms =
     record { slots = word (codes "solids") ∷ file ∷ []; command = λ _. command.Solids } ∷
     record { slots = word (codes "show") ∷ file ∷ entry_number ∷ []; command = λ n. command.Show n } ∷
-    record { slots = word (codes "certify") ∷ file ∷ entry_number ∷ []; command = λ n. command.Certify n } ∷ []
+    record { slots = word (codes "certify") ∷ file ∷ entry_number ∷ []; command = λ n. command.Certify n } ∷
+    record { slots = word (codes "verify") ∷ file ∷ certificate ∷ []; command = λ _. command.Verify } ∷ []
 
 -- ---- reading words
 
 abbrev pub fits : Slot → List ℕ → Bool
 fits (word text) w = pointwise nat_eq w text
 fits file w = true
+fits certificate w = true
 fits (number digits least greatest) w =
     are_digits w && nat_le (length w) digits && nat_le least (digits_value 10 w) && nat_le (digits_value 10 w) greatest
 
@@ -69,11 +71,25 @@ is_file _ = false
 abbrev pub reads_file : List (List ℕ) → Bool
 reads_file words = elim (form_of words) [ Some form ↦ list_any is_file form.slots | None ↦ false ]
 
+abbrev pub is_certificate : Slot → Bool
+is_certificate certificate = true
+is_certificate _ = false
+
+-- the words have a form that names a certificate
+abbrev pub reads_certificate : List (List ℕ) → Bool
+reads_certificate words = elim (form_of words) [ Some form ↦ list_any is_certificate form.slots | None ↦ false ]
+
+-- the command is for a file and a certificate
+abbrev pub takes_certificate : Command → Bool
+takes_certificate command.Verify = true
+takes_certificate _ = false
+
 -- ---- the usage line
 
 abbrev pub slot_text : Slot → List ℕ
 slot_text (word text) = text
 slot_text file = codes "FILE"
+slot_text certificate = codes "CERT"
 slot_text (number digits least greatest) = codes "N"
 
 abbrev pub join_with : List ℕ → List (List ℕ) → List ℕ

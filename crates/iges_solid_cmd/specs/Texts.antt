@@ -1,5 +1,5 @@
 -- The printed lines.
-use Rattle.std.specs.Prelude.{ℕ, ◌+◌, ◌*◌, Bool, List, [], ◌∷◌, ◌++◌, pos, flat_map, filter, codes, decimal, if◌then◌else◌, length, sum_by}
+use Rattle.std.specs.Prelude.{ℕ, ◌+◌, ◌*◌, Bool, List, ◌++◌, pos, flat_map, filter, codes, decimal, if◌then◌else◌, length, sum_by}
 use Rattle.std.specs.List.{enumerate_from}
 use Rattle.std.specs.Ordering.{int_eq}
 use Rattle.iges_fields.specs.declared.value.Value.{Value}
@@ -13,6 +13,8 @@ use Rattle.solid_data.specs.declared.solid.FaceUse.{FaceUse}
 use Rattle.solid_data.specs.declared.solid.Shell.{Shell}
 use Rattle.solid_data.specs.declared.verdict.Failing.{Failing}
 use Rattle.edge_uses.specs.ShellRows.{ShellRows, shell_rows}
+use Rattle.cert_lines.specs.declared.fault.Illegal.{Illegal}
+use Rattle.cert_lines.specs.declared.fault.Illegal.TheVariants.{Misspelt, Unfit, Missing}
 
 abbrev pub bad_file_line : LineFault → List ℕ
 bad_file_line fault = codes "bad file line " ++ decimal fault.line ++ codes " " ++ reason_word fault.reason ++ codes "\n"
@@ -28,6 +30,23 @@ solids_text f = solid_lines_from 0 f.entries
 
 abbrev pub fail_line : Failing → List ℕ
 fail_line x = codes "fail " ++ rule_name x.rule ++ codes " " ++ decimal x.entity.0 ++ codes " " ++ decimal x.place ++ codes "\n"
+
+abbrev pub illegal_word : Illegal → List ℕ
+illegal_word (Misspelt n) = codes "misspelt"
+illegal_word (Unfit n) = codes "unfit"
+illegal_word (Missing n) = codes "missing"
+
+abbrev pub illegal_number : Illegal → ℕ
+illegal_number (Misspelt n) = n
+illegal_number (Unfit n) = n
+illegal_number (Missing n) = n
+
+-- what is wrong with a line of a certificate
+abbrev pub illegal_line : Illegal → List ℕ
+illegal_line bad = codes "line " ++ decimal (illegal_number bad) ++ codes " " ++ illegal_word bad ++ codes "\n"
+
+abbrev pub accepted_line : ℕ → List ℕ
+accepted_line n = codes "accepted " ++ decimal n ++ codes "\n"
 
 -- a word and a number, each behind a space
 abbrev pub counted : List ℕ → ℕ → List ℕ

@@ -15,6 +15,8 @@ pub enum Command {
     Show(u32),
     /// A certificate that a solid, named by its directory number, is closed.
     Certify(u32),
+    /// Whether a certificate is accepted for a file.
+    Verify,
 }
 
 // The command that a word and the name of a file ask for.
@@ -79,13 +81,23 @@ fn of_number(name: &str, number: &str) -> Option<Command>
     of_entry(name, no)
 }
 
+// The command that a word, the name of a file, and the name of a certificate or a number ask for.
+fn of_three(name: &str, last: &str) -> Option<Command>
+    ensures { result ≡ (if pointwise nat_eq name.now (codes "verify") then Some Command.Verify else (if fits entry_slot last.now then entry_command name.now (digits_value 10 last.now) else None)) }
+{
+    if name == "verify" {
+        return Some(Command::Verify);
+    }
+    of_number(name, last)
+}
+
 /// The command of the first listed form that the words have (own).
 pub fn command_in(words: &[String]) -> Option<Command>
     ensures { result ≡ command_of (map string_bytes words.now) }
 {
     match words {
         [name, _] => of_file(name.as_str()),
-        [name, _, number] => of_number(name.as_str(), number.as_str()),
+        [name, _, last] => of_three(name.as_str(), last.as_str()),
         _ => None,
     }
 }

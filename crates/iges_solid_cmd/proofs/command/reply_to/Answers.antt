@@ -1,14 +1,17 @@
 use Rattle.std.proofs.Common.{sym, ◌∙◌}
 use Rattle.std.proofs.lemmas.Result.{IfOk-weaker}
 use Rattle.iges_solid_cmd.proofs.FormWords.{reads}
-use Rattle.iges_solid_cmd.proofs.Outcomes.{file_owed, usage_owed}
+use Rattle.iges_solid_cmd.proofs.Outcomes.{command_owed, usage_owed}
 use Rattle.iges_solid_cmd.proofs.command.reply_to.Goals as goal
 
 pub returns-in-Some-clause-found : goal.returns-in-Some-clause-found
-returns-in-Some-clause-found g c = IfOk-weaker c.command_reply.result _ _ (λ reply owed certificate. file_owed _ _ certificate reply _ (sym c.command.ensures ∙ c.in-Some.is) owed) c.command_reply.ensures.found
+returns-in-Some-clause-found g c = IfOk-weaker c.command_reply.result _ _ (λ reply owed. command_owed _ _ _ reply _ (sym c.command.ensures ∙ c.in-Some.is) owed) c.command_reply.ensures.found
 
 pub returns-in-None-clause-found : goal.returns-in-None-clause-found
-returns-in-None-clause-found g c = IfOk-weaker c.usage_reply.result _ _ (λ reply usage certificate. usage_owed _ _ certificate reply (sym c.command.ensures ∙ c.in-None.is) usage) c.usage_reply.ensures.found
+returns-in-None-clause-found g c = IfOk-weaker c.usage_reply.result _ _ (λ reply usage. usage_owed _ _ _ reply (sym c.command.ensures ∙ c.in-None.is) usage) c.usage_reply.ensures.found
 
 pub returns-in-Some-clause-reads : goal.returns-in-Some-clause-reads
 returns-in-Some-clause-reads g c = λ _. reads c.args.words.now _ (sym c.command.ensures ∙ c.in-Some.is)
+
+pub returns-in-Some-clause-unread : goal.returns-in-Some-clause-unread
+returns-in-Some-clause-unread g c unread = absurd (let read = reads c.args.words.now _ (sym c.command.ensures ∙ c.in-Some.is) in cc)

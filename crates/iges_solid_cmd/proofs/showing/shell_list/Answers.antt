@@ -1,4 +1,4 @@
-use Rattle.std.proofs.Common.{arith, Fits, w32}
+use Rattle.std.proofs.Common.{arith}
 use Rattle.iges_solid_cmd.proofs.ShellLines.{few_shells}
 use Rattle.iges_solid_cmd.proofs.showing.shell_list.Goals as goal
 

@@ -1,0 +1,11 @@
+use Rattle.iges_solid_cmd.proofs.Outcomes.{alone_owed}
+use Rattle.iges_solid_cmd.proofs.command.file_reply.Goals as goal
+
+pub returns-in_ok-list_solids-in-Solids-clause-found : goal.returns-in_ok-list_solids-in-Solids-clause-found
+returns-in_ok-list_solids-in-Solids-clause-found g c = rw c.in-Solids.is (alone_owed _ _ c.in_ok-list_solids-in-Solids.field-0 c.in_ok-list_solids-in-Solids.ensures)
+
+pub returns-in_ok-show_solid-in-Show-clause-found : goal.returns-in_ok-show_solid-in-Show-clause-found
+returns-in_ok-show_solid-in-Show-clause-found g c = rw c.in-Show.is (alone_owed _ _ c.in_ok-show_solid-in-Show.field-0 c.in_ok-show_solid-in-Show.ensures)
+
+pub returns-in_ok-certify_solid-in-Certify-clause-found : goal.returns-in_ok-certify_solid-in-Certify-clause-found
+returns-in_ok-certify_solid-in-Certify-clause-found g c = rw c.in-Certify.is (alone_owed _ _ c.in_ok-certify_solid-in-Certify.field-0 c.in_ok-certify_solid-in-Certify.ensures)
