@@ -1,4 +1,4 @@
-ghost use Rattle.std.specs.Prelude.{◌≡◌, ◌<◌, ◌^◌, ◌↔◌, ◌∷◌, ◌++◌, [], length, IsSome, IfSome, MatchOption, OnOk, OnErr, option_copied, slice_get};
+ghost use Rattle.std.specs.Prelude.{◌≡◌, ◌<◌, ◌^◌, ◌↔◌, ◌∷◌, ◌++◌, [], length, IfOk, IsSome, IfSome, MatchOption, OnOk, OnErr, option_copied, slice_get};
 
 use crate::no_memory::NoMemory;
 use std::alloc::Global;
@@ -28,12 +28,31 @@ impl<T: Drop> ItemList<T> {
         }
     }
 
+    /// No items, with room for so many.
+    pub fn with_room(alloc: Global, count: usize) -> Result<ItemList<T>, NoMemory>
+        ensures { IfOk result (λ list. list ≡ []) }
+    {
+        Ok(ItemList {
+            items: Vec::with_capacity(alloc, count)?,
+        })
+    }
+
     /// Puts an item at the end. Where memory runs out, the item is dropped and the list is as it was.
     pub fn push(&mut self, item: T) -> Result<(), NoMemory>
         ensures ok { OnOk result (self.new ≡ self.old ++ item ∷ []) }
         ensures err { OnErr result (self.new ≡ self.old) }
     {
         self.items.push(item)?;
+        Ok(())
+    }
+
+    /// Moves the items of another list to the end. Where memory runs out, both lists are as they were.
+    pub fn append(&mut self, other: &mut ItemList<T>) -> Result<(), NoMemory>
+        ensures ok { OnOk result (self.new ≡ self.old ++ other.old) }
+        ensures moved { OnOk result (other.new ≡ []) }
+        ensures err { OnErr result ((self.new ≡ self.old) × (other.new ≡ other.old)) }
+    {
+        self.items.append(&mut other.items)?;
         Ok(())
     }
 
@@ -45,13 +64,6 @@ impl<T: Drop> ItemList<T> {
             return None;
         }
         Some(self.items.remove(0))
-    }
-
-    /// Gives back the memory that was taken for more items than there are.
-    pub fn shrink_to_fit(&mut self)
-        ensures { self.new ≡ self.old }
-    {
-        self.items.shrink_to_fit();
     }
 
     /// How many items there are.

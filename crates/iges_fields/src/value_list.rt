@@ -1,6 +1,6 @@
 ghost use Rattle.iges_fields.specs.InLine.{is_value, stays_in_line};
 ghost use Rattle.std.specs.List.{list_all};
-ghost use Rattle.std.specs.Prelude.{◌≡◌, [], ◌∷◌, ◌++◌, ◌<◌, ◌^◌, ◌↔◌, IfSome, IsSome, IsTrue, MatchOption, OnOk, OnErr, length, slice_get, option_copied};
+ghost use Rattle.std.specs.Prelude.{◌≡◌, [], ◌∷◌, ◌++◌, ◌<◌, ◌^◌, ◌↔◌, IfOk, IfSome, IsSome, IsTrue, MatchOption, OnOk, OnErr, length, slice_get, option_copied};
 
 use crate::list::ItemList;
 use crate::no_memory::NoMemory;
@@ -38,6 +38,15 @@ impl Values {
         }
     }
 
+    /// No values, with room for so many.
+    pub fn with_room(alloc: Global, count: usize) -> Result<Values, NoMemory>
+        ensures { IfOk result (λ values. values ≡ []) }
+    {
+        Ok(Values {
+            values: ItemList::with_room(alloc, count)?,
+        })
+    }
+
     /// Puts the value at the end. Where memory runs out, the value is dropped and the list is as it was.
     pub fn push(&mut self, value: Value) -> Result<(), NoMemory>
         requires { IsTrue (stays_in_line value) }
@@ -54,11 +63,13 @@ impl Values {
         self.values.take_first()
     }
 
-    /// Gives back the memory that was taken for more values than there are.
-    pub fn shrink_to_fit(&mut self)
-        ensures { self.new ≡ self.old }
+    /// Moves the values of another list to the end. Where memory runs out, both lists are as they were.
+    pub fn append(&mut self, other: &mut Values) -> Result<(), NoMemory>
+        ensures ok { OnOk result (self.new ≡ self.old ++ other.old) }
+        ensures moved { OnOk result (other.new ≡ []) }
+        ensures err { OnErr result ((self.new ≡ self.old) × (other.new ≡ other.old)) }
     {
-        self.values.shrink_to_fit();
+        self.values.append(&mut other.values)
     }
 
     /// How many values there are.

@@ -1,12 +1,10 @@
 -- One line after the other is the reading of the sections.
-use Rattle.std.proofs.Common.{◌≡◌, inl, inr, ℕ, suc, ◌+◌, ◌<◌, ◌≤◌, Bool, true, false, cond, ◌||◌, List, [], ◌∷◌, ◌++◌, length, drop, Some, None, Result, Ok, Err, refl, sym, ap, subst, ◌∙◌, append_assoc, arith, length-append}
-use Rattle.std.specs.Prelude.{◌==◌, nat_lt}
-use Rattle.std.specs.List.{list_all}
-use Rattle.std.proofs.lemmas.Bool.{and_parts, cases_order, ne_eqb, eqb-true}
+use Rattle.std.proofs.Common.{◌≡◌, inl, inr, ℕ, ◌+◌, ◌<◌, ◌≤◌, Bool, true, false, cond, ◌||◌, List, [], ◌∷◌, ◌++◌, length, Some, None, Result, Ok, Err, refl, sym, ap, subst, ◌∙◌, append_assoc, arith, length-append}
+use Rattle.std.specs.Prelude.{◌==◌}
+use Rattle.std.proofs.lemmas.Bool.{cases_order, ne_eqb, eqb-true}
 use Rattle.std.proofs.lemmas.List.{append-nil}
 use Rattle.std.proofs.lemmas.List.Elements.{filter-append}
 use Rattle.std.proofs.lemmas.List.Folds.{list_any-append}
-use Rattle.iges_fields.specs.Word.{is_empty}
 use Rattle.iges_fields.specs.First.{first_failing}
 use Rattle.iges_fields.proofs.Items.{passes}
 use Rattle.iges_lines.specs.declared.reason.Reason.{Reason}
@@ -16,16 +14,15 @@ use Rattle.iges_lines.specs.declared.fault.PassFault.TheVariants as faults
 use Rattle.iges_lines.specs.declared.fault.PassFault.{PassFault}
 use Rattle.iges_lines.specs.declared.kind.Kind.{Kind}
 use Rattle.iges_lines.specs.declared.kind.Kind.TheVariants as kind
-use Rattle.iges_lines.specs.Judged.{tests_behind, IsAdded, MayBeAdded}
+use Rattle.iges_lines.specs.Judged.{tests_behind, IsAdded}
 use Rattle.iges_lines.specs.Gives.{Fails, Gives, IfBad}
 use Rattle.iges_lines.specs.Kinds.{IsKind, added, is_last}
-use Rattle.iges_lines.specs.Lines.{SectionLines, sections, lines, letter}
-use Rattle.iges_lines.specs.LineFaults.{section_place, of_letter, sections_of, line_tests, is_terminated, fault_behind, line_fault, IsLineFault}
+use Rattle.iges_lines.specs.Lines.{SectionLines, lines, letter}
+use Rattle.iges_lines.specs.LineFaults.{of_letter, sections_of, line_tests, is_terminated, fault_behind, line_fault, IsLineFault}
 use Rattle.iges_lines.specs.Reading.{sections_unless, read_sections}
 use Rattle.iges_lines.specs.Sectioned.{is_blank}
 use Rattle.iges_lines.proofs.Exact.{read_sections-IsLineFault}
 use Rattle.iges_lines.proofs.First.{first_from-faultless, first_from-at}
-use Rattle.iges_lines.proofs.SixTests.{place_is}
 use Rattle.iges_lines.proofs.Walk.{blank_letter, fault_at_line, fault_past}
 
 abbrev Lines : Type 0
@@ -109,13 +106,10 @@ module _ (bytes rest : List ℕ) (n : ℕ) (s : SectionLines) (t : Bool) (gone :
       (here line more is ∙ sym e) (λ j low h. gone.passed j h))
       ∙ ap (λ (k : ℕ). Err (record { line = k; reason = r })) (sym gone.count)
 
-  pub gone_may : (line : List ℕ) → None ≡ first_failing (tests_behind t s line) → t ≡ false → MayBeAdded s line
+  pub gone_may : (line : List ℕ) → None ≡ first_failing (tests_behind t s line) → t ≡ false → length line ≡ 80
   gone_may line none open_still =
-      let p = passes (line_tests s line) (ap (λ (u : Bool). first_failing (tests_behind u s line)) (sym open_still) ∙ sym none) in (
-        eqb-true (length line) 80 p.1.0,
-        λ k is. ap (λ (n : ℕ). list_all is_empty (drop (suc n) (sections s))) (place_is k (letter line) is)
-            ∙ (and_parts (nat_lt (section_place (letter line)) 5) (list_all is_empty (drop (suc (section_place (letter line))) (sections s))) p.1.1.0).1,
-      )
+      let p = passes (line_tests s line) (ap (λ (u : Bool). first_failing (tests_behind u s line)) (sym open_still) ∙ sym none) in
+      eqb-true (length line) 80 p.1.0
 
   added_by : (line : List ℕ) (new : SectionLines) (now u : Bool) → t ≡ u → None ≡ first_failing (tests_behind t s line) → IsAdded s u line new now
       → (new ≡ sections_of (gone.before ++ line ∷ [])) × (now ≡ is_terminated (gone.before ++ line ∷ []))

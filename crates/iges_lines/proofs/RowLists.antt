@@ -1,9 +1,11 @@
 -- Lines of one width, one behind the other.
 use Rattle.std.proofs.Common.{◌≡◌, ℕ, zero, suc, ◌+◌, ◌*◌, ◌<◌, ◌≤◌, List, [], ◌∷◌, ◌++◌, length, take, drop, Some, None, refl, sym, ap, subst, ◌∙◌, arith, length-drop}
-use Rattle.std.specs.Prelude.{slice_get}
+use Rattle.std.specs.Prelude.{◌==◌, slice_get}
+use Rattle.std.proofs.lemmas.Bool.{eq-eqb, ne_eqb}
 use Rattle.std.proofs.lemmas.Option.{slice_get_past}
 use Rattle.std.proofs.lemmas.List.{take-append-le, drop-append-le, take_all, nil_from_length}
 use Rattle.std.proofs.Math.Nat.{suc-mul}
+use Rattle.iges_fields.specs.Word.{is_empty}
 use Rattle.iges_lines.specs.Rows.{rows}
 
 pub length-rows : (w n : ℕ) (text : List ℕ) → length (rows w n text) ≡ n
@@ -59,3 +61,7 @@ rows-none w text = refl
 
 pub rows-count : (w n : ℕ) (text : List ℕ) (view : List (List ℕ)) → rows w n text ≡ view → n ≡ length view
 rows-count w n text view is = sym (length-rows w n text) ∙ ap length is
+
+pub empty_is : (n : ℕ) (xs : List (List ℕ)) → n ≡ length xs → (n == 0) ≡ is_empty xs
+empty_is n [] e = eq-eqb n 0 e
+empty_is n (x ∷ xs) e = ne_eqb n 0 (λ z. absurd (omega (arith, e, z)))

@@ -1,12 +1,10 @@
 -- The tests of a line, and the sections with it.
-use Rattle.std.specs.Prelude.{◌≡◌, ℕ, suc, Bool, true, false, List, [], ◌∷◌, length, drop, IsTrue, if◌then◌else◌}
-use Rattle.std.specs.List.{list_all}
-use Rattle.iges_fields.specs.Word.{is_empty}
+use Rattle.std.specs.Prelude.{◌≡◌, ℕ, Bool, true, false, List, [], ◌∷◌, if◌then◌else◌}
 use Rattle.iges_lines.specs.declared.reason.Reason.{Reason}
 use Rattle.iges_lines.specs.declared.reason.Reason.TheVariants.{After}
 use Rattle.iges_lines.specs.declared.kind.Kind.{Kind}
-use Rattle.iges_lines.specs.Kinds.{IsKind, added, is_last, place_of}
-use Rattle.iges_lines.specs.Lines.{SectionLines, letter, sections}
+use Rattle.iges_lines.specs.Kinds.{IsKind, added, is_last}
+use Rattle.iges_lines.specs.Lines.{SectionLines, letter}
 use Rattle.iges_lines.specs.LineFaults.{line_tests}
 use Rattle.iges_lines.specs.Sectioned.{is_blank}
 
@@ -18,7 +16,3 @@ tests_behind terminated s line = if terminated then (is_blank line, After) ∷ [
 abbrev pub IsAdded : SectionLines → Bool → List ℕ → SectionLines → Bool → Type 0
 IsAdded old true line new now = (new ≡ old) × (now ≡ true)
 IsAdded old false line new now = (k : Kind) × IsKind k (letter line) × (new ≡ added old k line) × (now ≡ is_last k)
-
--- a line of 80 bytes, whose section is the last one that has begun, or a new one
-abbrev pub MayBeAdded : SectionLines → List ℕ → Type 0
-MayBeAdded s line = (length line ≡ 80) × ((k : Kind) → IsKind k (letter line) → IsTrue (list_all is_empty (drop (suc (place_of k)) (sections s))))

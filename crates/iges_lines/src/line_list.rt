@@ -1,5 +1,5 @@
-ghost use Rattle.iges_lines.specs.Rows.{rows};
-ghost use Rattle.std.specs.Prelude.{◌≡◌, ◌↔◌, ◌<◌, ◌^◌, [], ◌∷◌, ◌++◌, IfOk, OnOk, OnErr, length, slice_get, option_copied, IsSome, IfSome};
+ghost use Rattle.iges_fields.specs.Word.{is_empty};
+ghost use Rattle.std.specs.Prelude.{◌≡◌, ◌↔◌, ◌<◌, ◌^◌, [], ◌∷◌, ◌++◌, OnOk, OnErr, length, slice_get, option_copied, IsSome, IfSome};
 
 use iges_fields::NoMemory;
 use std::alloc::Global;
@@ -28,26 +28,49 @@ impl Model for LineList {
 }
 
 impl LineList {
-    /// No lines, with room for those that so many bytes can hold.
-    pub fn with_room(alloc: Global, bytes: usize) -> Result<LineList, NoMemory>
-        ensures { IfOk result (λ lines. lines ≡ []) }
+    /// No lines.
+    pub fn new(alloc: Global) -> LineList
+        ensures { result ≡ [] }
     {
-        Ok(LineList {
-            text: Vec::with_capacity(alloc, bytes)?,
+        LineList {
+            text: Vec::new(alloc),
             count: 0,
-        })
+        }
+    }
+
+    /// How many lines there are.
+    pub fn count(&self) -> usize
+        ensures count { result ≡ length self.now }
+        ensures few { result < 2 ^ 60 }
+    {
+        self.count
+    }
+
+    /// Whether there is no line.
+    pub fn is_empty(&self) -> bool
+        ensures { result ≡ is_empty self.now }
+    {
+        self.count == 0
     }
 
     /// Puts the line at the end.
     pub fn push(&mut self, line: &[u8]) -> Result<(), NoMemory>
         requires { length line.now ≡ 80 }
         ensures ok { OnOk result (self.new ≡ self.old ++ line.now ∷ []) }
-        ensures few { OnOk result (length self.new < 2 ^ 60) }
         ensures err { OnErr result (self.new ≡ self.old) }
     {
         self.text.extend_from_slice(line)?;
         self.count += 1;
         Ok(())
+    }
+
+    /// Takes all lines off, and gives their memory back.
+    pub fn clear(&mut self)
+        ensures { self.new ≡ [] }
+    {
+        self.text.clear();
+        self.text.shrink_to_fit();
+        self.count = 0;
     }
 
     /// The line at a place, from 0.

@@ -2,9 +2,8 @@ ghost use Rattle.iges_fields.specs.Word.{is_empty};
 ghost use Rattle.iges_lines.specs.Kinds.{added, place_of};
 ghost use Rattle.iges_lines.specs.LineFaults.{has_count};
 ghost use Rattle.iges_lines.specs.Lines.{columns, sections};
-ghost use Rattle.iges_lines.specs.Parted.{span};
 ghost use Rattle.std.specs.List.{list_all};
-ghost use Rattle.std.specs.Prelude.{◌≡◌, ◌↔◌, ◌+◌, ◌<◌, ◌≤◌, ◌^◌, ◌||◌, ◌&&◌, ◌==◌, [], ◌∷◌, ◌++◌, suc, not, nat_le, nat_lt, drop, length, slice_get, slice_index_or, option_copied, IsTrue, IfOk, OnOk, OnErr, IsSome, IfSome};
+ghost use Rattle.std.specs.Prelude.{◌≡◌, ◌↔◌, ◌+◌, ◌<◌, ◌≤◌, ◌^◌, ◌||◌, ◌&&◌, ◌==◌, [], suc, not, nat_le, nat_lt, drop, length, slice_get, slice_index_or, option_copied, OnOk, OnErr, IsSome, IfSome};
 
 use crate::kind::Kind;
 use crate::line::{columns, holds_count};
@@ -13,67 +12,62 @@ use iges_fields::NoMemory;
 use std::alloc::Global;
 use std::marker::Model;
 
-/// Lines by section, one section behind the other.
+/// Lines by section.
 #[derive(Drop)]
 pub struct SectionTable {
-    lines: LineList,
-    start: usize,
-    global: usize,
-    directory: usize,
-    param: usize,
+    start: LineList,
+    global: LineList,
+    directory: LineList,
+    param: LineList,
 }
 
 impl Model for SectionTable {
     ghost use Rattle.iges_lines.specs.Lines.{SectionLines};
-    ghost use Rattle.iges_lines.specs.Parted.{parted, AreParted};
 
     ghost Value = { SectionLines };
 
-    ghost view = { λ t. parted t.lines t.start t.global t.directory t.param };
-
-    ghost invariant = { λ t. AreParted t.lines t.start t.global t.directory t.param };
+    ghost view = { λ t. record { start = t.start; global = t.global; directory = t.directory; param = t.param } };
 }
 
 impl SectionTable {
-    /// No lines, with room for those that so many bytes can hold.
-    pub fn with_room(alloc: Global, bytes: usize) -> Result<SectionTable, NoMemory>
-        ensures { IfOk result (λ table. table ≡ record { start = []; global = []; directory = []; param = [] }) }
+    /// No lines.
+    pub fn new(alloc: Global) -> SectionTable
+        ensures { result ≡ record { start = []; global = []; directory = []; param = [] } }
     {
-        Ok(SectionTable {
-            lines: LineList::with_room(alloc, bytes)?,
-            start: 0,
-            global: 0,
-            directory: 0,
-            param: 0,
-        })
+        SectionTable {
+            start: LineList::new(alloc),
+            global: LineList::new(alloc),
+            directory: LineList::new(alloc),
+            param: LineList::new(alloc),
+        }
     }
 
     pub fn start_count(&self) -> usize
         ensures count { result ≡ length self.now.start }
         ensures few { result < 2 ^ 60 }
     {
-        self.start
+        self.start.count()
     }
 
     pub fn global_count(&self) -> usize
         ensures count { result ≡ length self.now.global }
         ensures few { result < 2 ^ 60 }
     {
-        self.global
+        self.global.count()
     }
 
     pub fn directory_count(&self) -> usize
         ensures count { result ≡ length self.now.directory }
         ensures few { result < 2 ^ 60 }
     {
-        self.directory
+        self.directory.count()
     }
 
     pub fn param_count(&self) -> usize
         ensures count { result ≡ length self.now.param }
         ensures few { result < 2 ^ 60 }
     {
-        self.param
+        self.param.count()
     }
 
     /// The start line at a place, from 0.
@@ -82,7 +76,7 @@ impl SectionTable {
         ensures within { IsSome result ↔ (i < length self.now.start) }
         ensures long { IfSome result (λ line. length line.now ≡ 80) }
     {
-        line_in(&self.lines, 0, self.start, i)
+        self.start.get(i)
     }
 
     /// The global line at a place, from 0.
@@ -91,7 +85,7 @@ impl SectionTable {
         ensures within { IsSome result ↔ (i < length self.now.global) }
         ensures long { IfSome result (λ line. length line.now ≡ 80) }
     {
-        line_in(&self.lines, self.start, self.global, i)
+        self.global.get(i)
     }
 
     /// The directory line at a place, from 0.
@@ -100,7 +94,7 @@ impl SectionTable {
         ensures within { IsSome result ↔ (i < length self.now.directory) }
         ensures long { IfSome result (λ line. length line.now ≡ 80) }
     {
-        line_in(&self.lines, self.start + self.global, self.directory, i)
+        self.directory.get(i)
     }
 
     /// The parameter line at a place, from 0.
@@ -109,46 +103,17 @@ impl SectionTable {
         ensures within { IsSome result ↔ (i < length self.now.param) }
         ensures long { IfSome result (λ line. length line.now ≡ 80) }
     {
-        line_in(
-            &self.lines,
-            self.start + self.global + self.directory,
-            self.param,
-            i,
-        )
-    }
-
-    fn has_no_start(&self) -> bool
-        ensures { result ≡ is_empty self.now.start }
-    {
-        self.start == 0
-    }
-
-    fn has_no_global(&self) -> bool
-        ensures { result ≡ is_empty self.now.global }
-    {
-        self.global == 0
-    }
-
-    fn has_no_directory(&self) -> bool
-        ensures { result ≡ is_empty self.now.directory }
-    {
-        self.directory == 0
-    }
-
-    fn has_no_param(&self) -> bool
-        ensures { result ≡ is_empty self.now.param }
-    {
-        self.param == 0
+        self.param.get(i)
     }
 
     /// Whether no line has come.
     pub fn is_first(&self) -> bool
         ensures { result ≡ list_all is_empty (sections self.now) }
     {
-        self.has_no_start()
-            && self.has_no_global()
-            && self.has_no_directory()
-            && self.has_no_param()
+        self.start.is_empty()
+            && self.global.is_empty()
+            && self.directory.is_empty()
+            && self.param.is_empty()
     }
 
     /// Whether a line of this section may come, by the order of the sections.
@@ -156,9 +121,11 @@ impl SectionTable {
         ensures { result ≡ (nat_lt (place_of kind) 5 && list_all is_empty (drop (suc (place_of kind)) (sections self.now))) }
     {
         match kind {
-            Kind::Start => self.has_no_global() && self.has_no_directory() && self.has_no_param(),
-            Kind::Global => self.has_no_directory() && self.has_no_param(),
-            Kind::Directory => self.has_no_param(),
+            Kind::Start => self.global.is_empty()
+                && self.directory.is_empty()
+                && self.param.is_empty(),
+            Kind::Global => self.directory.is_empty() && self.param.is_empty(),
+            Kind::Directory => self.param.is_empty(),
             Kind::Param | Kind::Terminate => true,
             Kind::Other => false,
         }
@@ -171,7 +138,7 @@ impl SectionTable {
         match kind {
             Kind::Start => true,
             Kind::Global => !self.is_first(),
-            _ => !self.has_no_global(),
+            _ => !self.global.is_empty(),
         }
     }
 
@@ -215,73 +182,25 @@ impl SectionTable {
         }
     }
 
-    fn add_start(&mut self, line: &[u8]) -> Result<(), NoMemory>
-        requires long { length line.now ≡ 80 }
-        requires order { IsTrue (list_all is_empty (drop 1 (sections self.old))) }
-        ensures ok { OnOk result (self.new ≡ record self.old { start = self.old.start ++ line.now ∷ [] }) }
-        ensures err { OnErr result (self.new ≡ self.old) }
+    /// Takes all directory lines off, and gives their memory back.
+    pub fn clear_directory(&mut self)
+        ensures { self.new ≡ record self.old { directory = [] } }
     {
-        self.lines.push(line)?;
-        self.start += 1;
-        Ok(())
+        self.directory.clear();
     }
 
-    fn add_global(&mut self, line: &[u8]) -> Result<(), NoMemory>
-        requires long { length line.now ≡ 80 }
-        requires order { IsTrue (list_all is_empty (drop 2 (sections self.old))) }
-        ensures ok { OnOk result (self.new ≡ record self.old { global = self.old.global ++ line.now ∷ [] }) }
-        ensures err { OnErr result (self.new ≡ self.old) }
-    {
-        self.lines.push(line)?;
-        self.global += 1;
-        Ok(())
-    }
-
-    fn add_directory(&mut self, line: &[u8]) -> Result<(), NoMemory>
-        requires long { length line.now ≡ 80 }
-        requires order { IsTrue (list_all is_empty (drop 3 (sections self.old))) }
-        ensures ok { OnOk result (self.new ≡ record self.old { directory = self.old.directory ++ line.now ∷ [] }) }
-        ensures err { OnErr result (self.new ≡ self.old) }
-    {
-        self.lines.push(line)?;
-        self.directory += 1;
-        Ok(())
-    }
-
-    fn add_param(&mut self, line: &[u8]) -> Result<(), NoMemory>
-        requires { length line.now ≡ 80 }
-        ensures ok { OnOk result (self.new ≡ record self.old { param = self.old.param ++ line.now ∷ [] }) }
-        ensures err { OnErr result (self.new ≡ self.old) }
-    {
-        self.lines.push(line)?;
-        self.param += 1;
-        Ok(())
-    }
-
-    /// Puts the line at the end of its section, behind which no other has begun.
+    /// Puts the line at the end of its section.
     pub fn add(&mut self, kind: Kind, line: &[u8]) -> Result<(), NoMemory>
-        requires long { length line.now ≡ 80 }
-        requires order { IsTrue (list_all is_empty (drop (suc (place_of kind)) (sections self.old))) }
+        requires { length line.now ≡ 80 }
         ensures ok { OnOk result (self.new ≡ added self.old kind line.now) }
         ensures err { OnErr result (self.new ≡ self.old) }
     {
         match kind {
-            Kind::Start => self.add_start(line),
-            Kind::Global => self.add_global(line),
-            Kind::Directory => self.add_directory(line),
-            Kind::Param => self.add_param(line),
+            Kind::Start => self.start.push(line),
+            Kind::Global => self.global.push(line),
+            Kind::Directory => self.directory.push(line),
+            Kind::Param => self.param.push(line),
             Kind::Terminate | Kind::Other => Ok(()),
         }
     }
-}
-
-// The i-th of so many lines from a place on.
-fn line_in(lines: &LineList, from: usize, count: usize, i: usize) -> Option<&[u8]>
-    requires within { from + count ≤ length lines.now }
-    requires few { length lines.now < 2 ^ 60 }
-    ensures line { option_copied result ≡ slice_get (span lines.now from count) i }
-    ensures within { IsSome result ↔ (i < count) }
-    ensures long { IfSome result (λ line. length line.now ≡ 80) }
-{
-    if i < count { lines.get(from + i) } else { None }
 }

@@ -11,14 +11,12 @@ use Rattle.iges_fields.specs.Reading.{◌>>=◌}
 use Rattle.iges_lines.specs.declared.fault.LineFault.{LineFault}
 use Rattle.iges_lines.specs.declared.fault.PassFault.{PassFault}
 use Rattle.iges_lines.specs.Gives.{Fails}
-use Rattle.iges_lines.specs.Lines.{SectionLines, joined}
-use Rattle.iges_lines.specs.Sectioned.{AreSections}
 use Rattle.iges_directory.specs.declared.entry.Entry.{Entry}
 use Rattle.iges_directory.specs.declared.entry.Placed.{Placed}
 use Rattle.iges_directory.specs.Entries.{has_record, AreEntries}
 use Rattle.iges_params.specs.Contents.{Contents, value_count}
 use Rattle.iges_params.specs.Records.{HasRecord}
-use Rattle.iges_params.specs.Reading.{above, read_record, read_records, with_entries}
+use Rattle.iges_params.specs.Reading.{read_record, read_records, with_entries}
 use Rattle.iges_params.proofs.Passes.{fault_passes}
 use Rattle.iges_params.proofs.Owned.{owned, all_owned, all_owned-last, all_owned-few, record_few}
 use Rattle.iges_params.proofs.RecordsExact.{read_record-HasRecord}
@@ -39,18 +37,12 @@ entry_record n (first ∷ second ∷ lines) [] i p h is = absurd h
 entry_record n (first ∷ second ∷ lines) (q ∷ ps) zero p h is = let same : q ≡ p = cc in subst (λ (x : Placed). IsTrue (has_record n x.entry.kind x.first x.count)) same h.1
 entry_record n (first ∷ second ∷ lines) (q ∷ ps) (suc i) p h is = entry_record n lines ps i p h.2 is
 
--- the P lines are within a file's limit
-pub params_few : (s : SectionLines) → AreSections s → 80 * length s.param ≤ 164000000
-params_few s h =
-    let all : 80 * length (joined s) ≤ 164000000 = h.within in
-    omega (arith, all, length-append (s.start ++ s.global ++ s.directory) s.param)
-
-module _ (s : SectionLines) (ps : List Placed) (start : Contents) where
+module _ (above : ℕ) (params : List (List ℕ)) (ps : List Placed) (start : Contents) where
   abbrev d : Delims
   d = start.global.delims
 
   abbrev reading : ℕ → List Placed → Result Entries LineFault
-  reading number rest = read_records (above s) s.param d number rest
+  reading number rest = read_records above params d number rest
 
   -- so many entries have been put into the file
   pub record ArePut (now : Contents) (i : ℕ) : Type 0 where
@@ -58,7 +50,7 @@ module _ (s : SectionLines) (ps : List Placed) (start : Contents) where
     pub global_is : now.global ≡ start.global
     pub read : with_front now.entries (reading (2 * i + 1) (drop i ps)) ≡ reading 1 ps
     pub count : length now.entries ≡ i
-    pub few : value_count now.entries ≤ 64 * all_owned 1 i s.param
+    pub few : value_count now.entries ≤ 64 * all_owned 1 i params
 
   front_none : (r : Result Entries LineFault) → with_front [] r ≡ r
   front_none (Ok es) = refl
@@ -85,27 +77,27 @@ module _ (s : SectionLines) (ps : List Placed) (start : Contents) where
         drop-cons ps i p (slice_get_within ps i p is) ∙ ap (λ (x : Placed). x ∷ drop (suc i) ps) (get_or_from_slice_get ps i p p is)
         ∙ ap (λ (k : ℕ). p ∷ drop k ps) (let k : suc i ≡ i + 1 = omega arith in k)
 
-    step : reading number (drop i ps) ≡ (read_record (above s) s.param d number p >>= more)
+    step : reading number (drop i ps) ≡ (read_record above params d number p >>= more)
     unfolding read_records
     step = ap (reading number) next_is
 
-    pub record_fails : (e : PassFault) → Fails e (read_record (above s) s.param d number p) → Fails e (reading 1 ps >>= with_entries start)
+    pub record_fails : (e : PassFault) → Fails e (read_record above params d number p) → Fails e (reading 1 ps >>= with_entries start)
     record_fails e f =
         subst (λ (r : Result Entries LineFault). Fails e (r >>= with_entries start)) h.read
         (fault_passes e (with_front now.entries (reading number (drop i ps))) (with_entries start)
-        (fault_passes e (reading number (drop i ps)) (λ es. Ok (now.entries ++ es)) (subst (Fails e) (sym step) (fault_passes e (read_record (above s) s.param d number p) more f))))
+        (fault_passes e (reading number (drop i ps)) (λ es. Ok (now.entries ++ es)) (subst (Fails e) (sym step) (fault_passes e (read_record above params d number p) more f))))
 
-    module _ (ok : are_permitted d ≡ true) (values : List Value) (read : read_record (above s) s.param d number p ≡ Ok values) where
-      has : HasRecord s.param d number p values
-      has = read_record-HasRecord (above s) s.param d ok number p values read
+    module _ (ok : are_permitted d ≡ true) (values : List Value) (read : read_record above params d number p ≡ Ok values) where
+      has : HasRecord params d number p values
+      has = read_record-HasRecord above params d ok number p values read
 
-      last_few : value_count now.entries + length values ≤ 64 * all_owned 1 (suc i) s.param
+      last_few : value_count now.entries + length values ≤ 64 * all_owned 1 (suc i) params
       last_few =
-          let same : owned (1 + 2 * i) s.param ≡ owned number s.param = ap (λ (k : ℕ). owned k s.param) (let k : 1 + 2 * i ≡ number = omega arith in k) in
-          omega (arith, h.few, record_few s.param d number p values has, all_owned-last 1 i s.param, same)
+          let same : owned (1 + 2 * i) params ≡ owned number params = ap (λ (k : ℕ). owned k params) (let k : 1 + 2 * i ≡ number = omega arith in k) in
+          omega (arith, h.few, record_few params d number p values has, all_owned-last 1 i params, same)
 
-      pub values_few : 80 * length s.param ≤ 164000000 → value_count now.entries + length values ≤ 164000000
-      values_few few = omega (arith, few, last_few, all_owned-few 1 (suc i) s.param)
+      pub values_few : 80 * length params ≤ 164000000 → value_count now.entries + length values ≤ 164000000
+      values_few few = omega (arith, few, last_few, all_owned-few 1 (suc i) params)
 
       front_more : (r : Result Entries LineFault) → with_front now.entries (r >>= λ others. Ok ((p.entry, values) ∷ others)) ≡ with_front (now.entries ++ (p.entry, values) ∷ []) r
       front_more (Ok es) = ap (λ (x : Entries). Ok x) (sym (append_assoc now.entries ((p.entry, values) ∷ []) es))
@@ -127,7 +119,7 @@ module _ (s : SectionLines) (ps : List Placed) (start : Contents) where
                 let sum : value_count (now.entries ++ (p.entry, values) ∷ []) ≡ value_count now.entries + value_count ((p.entry, values) ∷ []) = sum_by-append (λ (x : Entry × List Value). length x.1) now.entries ((p.entry, values) ∷ []) in
                 let one : value_count ((p.entry, values) ∷ []) ≡ length values = omega arith in
                 let k : i + 1 ≡ suc i = omega arith in
-                let same : all_owned 1 (i + 1) s.param ≡ all_owned 1 (suc i) s.param = ap (λ (n : ℕ). all_owned 1 n s.param) k in
+                let same : all_owned 1 (i + 1) params ≡ all_owned 1 (suc i) params = ap (λ (n : ℕ). all_owned 1 n params) k in
                 omega (arith, sum, one, same, last_few);
           })
 

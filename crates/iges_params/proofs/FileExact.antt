@@ -16,7 +16,7 @@ use Rattle.iges_params.specs.Contents.{Contents}
 use Rattle.iges_params.specs.Global.{global_text, GlobalText}
 use Rattle.iges_params.specs.IsFile.{IsFile}
 use Rattle.iges_params.specs.Refusal.{Refusal, in_lines, in_global, in_directory, in_records, HasOneReading}
-use Rattle.iges_params.specs.Reading.{read_global, read_records, read_file}
+use Rattle.iges_params.specs.Reading.{read_global, read_records, read_lines, read_file}
 use Rattle.iges_params.proofs.Answers.{Read, done, ok_is, err_is, clash, bind_ok, bind_err}
 use Rattle.iges_params.proofs.GlobalExact.{permitted, read_global-GlobalText, GlobalText-read_global, read_global-GlobalFault, GlobalFault-read_global}
 use Rattle.iges_params.proofs.RecordsExact.{read_records-AreRecords, AreRecords-read_records, read_records-FirstFaulty, FirstFaulty-read_records}
@@ -43,7 +43,7 @@ unfoldable pub after_sections : SectionLines → Read Contents
 after_sections s = read_global s >>= after_global s
 
 pub read_file-IsFile : (bytes : List ℕ) (f : Contents) → read_file bytes ≡ Ok f → IsFile bytes f
-unfolding read_file made after_directory after_global after_sections
+unfolding read_file read_lines made after_directory after_global after_sections
 read_file-IsFile bytes f e =
     let a = bind_ok (read_sections bytes) after_sections f e in
     let b = bind_ok (read_global a.0) (after_global a.0) f a.2 in
@@ -62,7 +62,7 @@ read_file-IsFile bytes f e =
     })
 
 pub IsFile-read_file : (bytes : List ℕ) (f : Contents) → IsFile bytes f → read_file bytes ≡ Ok f
-unfolding read_file made after_directory after_global after_sections
+unfolding read_file read_lines made after_directory after_global after_sections
 IsFile-read_file bytes f h =
     let s = h.sections in
     ap (λ (r : Read SectionLines). r >>= after_sections) (IsSectioned-read_sections bytes s h.sectioned)
@@ -72,7 +72,7 @@ IsFile-read_file bytes f h =
     ∙ ap (λ (x : List (List ℕ)). done {X = Contents} (record { start = x; global = f.global; entries = f.entries })) (sym h.start)
 
 pub read_file-Refusal : (bytes : List ℕ) (f : LineFault) → read_file bytes ≡ Err f → Refusal bytes f
-unfolding read_file made after_directory after_global after_sections
+unfolding read_file read_lines made after_directory after_global after_sections
 read_file-Refusal bytes f e =
     elim (bind_err (read_sections bytes) after_sections f e) [
       | inl a ↦ in_lines (read_sections-IsLineFault bytes f a)
@@ -97,7 +97,7 @@ read_file-Refusal bytes f e =
     ]
 
 pub Refusal-read_file : (bytes : List ℕ) (f : LineFault) → Refusal bytes f → read_file bytes ≡ Err f
-unfolding read_file made after_directory after_global after_sections
+unfolding read_file read_lines made after_directory after_global after_sections
 Refusal-read_file bytes f (in_lines h) = ap (λ (r : Read SectionLines). r >>= after_sections) (IsLineFault-read_sections bytes f h)
 Refusal-read_file bytes f (in_global s a h) =
     ap (λ (r : Read SectionLines). r >>= after_sections) (IsSectioned-read_sections bytes s a) ∙ ap (λ (r : Read Global26). r >>= after_global s) (GlobalFault-read_global s f h)

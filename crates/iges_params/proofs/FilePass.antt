@@ -21,51 +21,52 @@ use Rattle.iges_params.specs.Contents.{Contents}
 use Rattle.iges_params.specs.Global.{have_kinds}
 use Rattle.iges_params.specs.IsFile.{IsFile}
 use Rattle.iges_params.specs.Refusal.{Refusal}
-use Rattle.iges_params.specs.Reading.{read_global, read_entries, read_file}
+use Rattle.iges_params.specs.Reading.{read_global, read_entries, read_lines, read_file}
 use Rattle.iges_params.proofs.Passes.{fault_passes}
 use Rattle.iges_params.proofs.GlobalExact.{read_global-GlobalText}
-use Rattle.iges_params.proofs.FileExact.{made, after_directory, after_global, after_sections, read_file-IsFile, read_file-Refusal}
+use Rattle.iges_params.proofs.FileExact.{above, made, after_directory, after_global, read_file-IsFile, read_file-Refusal}
 
 pub kinds_fit : (s : SectionLines) (g : Global26) → read_global s ≡ Ok g → have_kinds g.values ≡ true
 kinds_fit s g e = (read_global-GlobalText s g e).kinds_fit
 
+module _ (s : SectionLines) where
+  pub global_fails : (e : PassFault) → Fails e (read_global s) → Fails e (read_lines s)
+  unfolding read_lines after_global after_directory made
+  global_fails e f = fault_passes e (read_global s) (after_global s) f
+
+  module _ (g : Global26) (global : read_global s ≡ Ok g) where
+    behind_global : read_lines s ≡ after_global s g
+    unfolding read_lines after_global after_directory made
+    behind_global = ap (λ (r : Result Global26 LineFault). r >>= after_global s) global
+
+    from_directory : (e : PassFault) → Fails e (read_directory s) → Fails e (read_lines s)
+    unfolding after_global
+    from_directory e f = subst (Fails e) (sym behind_global) (fault_passes e (read_directory s) (after_directory s g) f)
+
+    pub directory_fails : (e : PassFault) → IfBad {X = List Placed} (Err e) (IsDirectoryFault s) → Fails e (read_lines s)
+    directory_fails faults.NoMemory h = tt
+    directory_fails (faults.Bad f) h = from_directory (faults.Bad f) (IsDirectoryFault-read_directory s f h)
+
+    pub entries_go_on : (ps : List Placed) → AreEntries (length s.param) s.directory ps → (file : Contents) → file ≡ record { start = map (columns 1 72) s.start; global = g; entries = [] }
+        → (above_is : ℕ) → above_is ≡ above s → (params : List (List ℕ)) → params ≡ s.param → (r : Result Contents PassFault) → Gives r (read_entries above_is params file ps) → Gives r (read_lines s)
+    unfolding after_global after_directory made
+    entries_go_on ps h file is n n-is params params-is r gives =
+        subst (Gives r) (sym (behind_global ∙ ap (λ (x : Result (List Placed) LineFault). x >>= after_directory s g) (AreEntries-read_directory s ps h)))
+        (subst (λ (f : Contents). Gives r (read_entries (above s) s.param f ps)) is
+        (subst (λ (k : ℕ). Gives r (read_entries k s.param file ps)) n-is (subst (λ (ls : List (List ℕ)). Gives r (read_entries n ls file ps)) params-is gives)))
+
 module _ (bytes : List ℕ) where
   from_lines : (e : PassFault) → Fails e (read_sections bytes) → Fails e (read_file bytes)
-  unfolding read_file after_directory after_global after_sections made
-  from_lines e f = fault_passes e (read_sections bytes) after_sections f
+  unfolding read_file
+  from_lines e f = fault_passes e (read_sections bytes) read_lines f
 
   pub lines_fail : (e : PassFault) → IfBad {X = SectionLines} (Err e) (IsLineFault bytes) → Fails e (read_file bytes)
   lines_fail faults.NoMemory h = tt
   lines_fail (faults.Bad f) h = from_lines (faults.Bad f) (IsLineFault-read_sections bytes f h)
 
-  module _ (s : SectionLines) (sectioned : IsSectioned bytes s) where
-    behind_lines : read_file bytes ≡ after_sections s
-    unfolding read_file after_directory after_global after_sections made
-    behind_lines = ap (λ (r : Result SectionLines LineFault). r >>= after_sections) (IsSectioned-read_sections bytes s sectioned)
-
-    pub global_fails : (e : PassFault) → Fails e (read_global s) → Fails e (read_file bytes)
-    unfolding after_sections
-    global_fails e f = subst (Fails e) (sym behind_lines) (fault_passes e (read_global s) (after_global s) f)
-
-    module _ (g : Global26) (global : read_global s ≡ Ok g) where
-      behind_global : read_file bytes ≡ after_global s g
-      unfolding after_sections
-      behind_global = behind_lines ∙ ap (λ (r : Result Global26 LineFault). r >>= after_global s) global
-
-      from_directory : (e : PassFault) → Fails e (read_directory s) → Fails e (read_file bytes)
-      unfolding after_global
-      from_directory e f = subst (Fails e) (sym behind_global) (fault_passes e (read_directory s) (after_directory s g) f)
-
-      pub directory_fails : (e : PassFault) → IfBad {X = List Placed} (Err e) (IsDirectoryFault s) → Fails e (read_file bytes)
-      directory_fails faults.NoMemory h = tt
-      directory_fails (faults.Bad f) h = from_directory (faults.Bad f) (IsDirectoryFault-read_directory s f h)
-
-      pub entries_go_on : (ps : List Placed) → AreEntries (length s.param) s.directory ps → (file : Contents) → file ≡ record { start = map (columns 1 72) s.start; global = g; entries = [] } → (r : Result Contents PassFault)
-          → Gives r (read_entries s file ps) → Gives r (read_file bytes)
-      unfolding after_global after_directory made
-      entries_go_on ps h file is r gives =
-          subst (Gives r) (sym (behind_global ∙ ap (λ (x : Result (List Placed) LineFault). x >>= after_directory s g) (AreEntries-read_directory s ps h)))
-          (subst (λ (f : Contents). Gives r (read_entries s f ps)) is gives)
+  pub lines_go_on : (s : SectionLines) → IsSectioned bytes s → (r : Result Contents PassFault) → Gives r (read_lines s) → Gives r (read_file bytes)
+  unfolding read_file
+  lines_go_on s sectioned r gives = subst (Gives r) (sym (ap (λ (x : Result SectionLines LineFault). x >>= read_lines) (IsSectioned-read_sections bytes s sectioned))) gives
 
   pub found_from : (r : Result Contents PassFault) → Gives r (read_file bytes) → IfOk r (IsFile bytes)
   found_from (Ok f) e = read_file-IsFile bytes f e

@@ -12,11 +12,11 @@ use Rattle.iges_lines.specs.declared.fault.PassFault.{PassFault}
 use Rattle.iges_lines.specs.declared.fault.PassFault.TheVariants as faults
 use Rattle.iges_lines.specs.declared.reason.Reason.TheVariants.{BackPointer, RecordValue}
 use Rattle.iges_lines.specs.Gives.{Fails, Gives}
-use Rattle.iges_lines.specs.Lines.{SectionLines, columns}
+use Rattle.iges_lines.specs.Lines.{columns}
 use Rattle.iges_directory.specs.declared.entry.Placed.{Placed}
 use Rattle.iges_directory.specs.Entries.{has_record}
 use Rattle.iges_params.specs.Records.{record_lines, record_text, points_back}
-use Rattle.iges_params.specs.Reading.{at_line, read_passage, without_type, values_unless, above, used_values, read_record}
+use Rattle.iges_params.specs.Reading.{at_line, read_passage, without_type, values_unless, used_values, read_record}
 use Rattle.iges_params.proofs.Passes.{fault_passes, goes_on}
 
 -- the values of the text, and then the type number
@@ -30,46 +30,46 @@ with_type first text d kind =
     by_read (Ok x) = refl
     by_read (Err f) = refl
 
-module _ (s : SectionLines) (d : Delims) (number : ℕ) (p : Placed) (place count first : ℕ) (place_is : place ≡ unsigned_abs p.first) (count_is : count ≡ unsigned_abs p.count) (first_is : first ≡ above s + place) where
+module _ (above : ℕ) (params : List (List ℕ)) (d : Delims) (number : ℕ) (p : Placed) (place count first : ℕ) (place_is : place ≡ unsigned_abs p.first) (count_is : count ≡ unsigned_abs p.count) (first_is : first ≡ above + place) where
   abbrev range : List (List ℕ)
-  range = slice_range s.param (place - 1) (place - 1 + count)
+  range = slice_range params (place - 1) (place - 1 + count)
 
-  range_is : range ≡ record_lines s.param p
-  range_is = ap (λ (k : ℕ). slice_range s.param (k - 1) (k - 1 + count)) place_is ∙ ap (λ (k : ℕ). slice_range s.param (unsigned_abs p.first - 1) (unsigned_abs p.first - 1 + k)) count_is
+  range_is : range ≡ record_lines params p
+  range_is = ap (λ (k : ℕ). slice_range params (k - 1) (k - 1 + count)) place_is ∙ ap (λ (k : ℕ). slice_range params (unsigned_abs p.first - 1) (unsigned_abs p.first - 1 + k)) count_is
 
   abbrev foreign : List (List ℕ) → Option ℕ
   foreign lines = position_from (λ l. not (points_back number l)) 0 lines
 
-  used_at : (o : Option ℕ) → o ≡ foreign range → used_values s d number p ≡ values_unless s.param d first p o
+  used_at : (o : Option ℕ) → o ≡ foreign range → used_values above params d number p ≡ values_unless params d first p o
   unfolding used_values
   used_at o is =
-      ap (values_unless s.param d (above s + unsigned_abs p.first) p) (sym (is ∙ ap foreign range_is))
-      ∙ ap (λ (n : ℕ). values_unless s.param d n p o) (sym (first_is ∙ ap (λ (k : ℕ). above s + k) place_is))
+      ap (values_unless params d (above + unsigned_abs p.first) p) (sym (is ∙ ap foreign range_is))
+      ∙ ap (λ (n : ℕ). values_unless params d n p o) (sym (first_is ∙ ap (λ (k : ℕ). above + k) place_is))
 
-  pub foreign_fails : (i : ℕ) → Some i ≡ foreign range → Fails (faults.Bad (record { line = first + i; reason = BackPointer })) (used_values s d number p)
+  pub foreign_fails : (i : ℕ) → Some i ≡ foreign range → Fails (faults.Bad (record { line = first + i; reason = BackPointer })) (used_values above params d number p)
   foreign_fails i is = used_at (Some i) is
 
   module _ (none : None ≡ foreign range) (text : List ℕ) (text_is : text ≡ flat_map (columns 1 64) range) where
-    used_is : used_values s d number p ≡ (read_passage first 64 text RecordValue d text >>= without_type first p.entry.kind)
+    used_is : used_values above params d number p ≡ (read_passage first 64 text RecordValue d text >>= without_type first p.entry.kind)
     used_is =
-        used_at None none ∙ sym (with_type first (record_text s.param p) d p.entry.kind)
+        used_at None none ∙ sym (with_type first (record_text params p) d p.entry.kind)
         ∙ ap (λ (t : List ℕ). read_passage first 64 t RecordValue d t >>= without_type first p.entry.kind) (sym (text_is ∙ ap (flat_map (columns 1 64)) range_is))
 
-    pub text_fails : (e : PassFault) → Fails e (read_passage first 64 text RecordValue d text) → Fails e (used_values s d number p)
+    pub text_fails : (e : PassFault) → Fails e (read_passage first 64 text RecordValue d text) → Fails e (used_values above params d number p)
     text_fails e f = subst (Fails e) (sym used_is) (fault_passes e (read_passage first 64 text RecordValue d text) (without_type first p.entry.kind) f)
 
-    pub text_goes_on : (values : List Value) (r : Result (List Value) PassFault) → read_passage first 64 text RecordValue d text ≡ Ok values → Gives r (without_type first p.entry.kind values) → Gives r (used_values s d number p)
+    pub text_goes_on : (values : List Value) (r : Result (List Value) PassFault) → read_passage first 64 text RecordValue d text ≡ Ok values → Gives r (without_type first p.entry.kind values) → Gives r (used_values above params d number p)
     text_goes_on values r read g = subst (Gives r) (sym used_is) (goes_on values (read_passage first 64 text RecordValue d text) (without_type first p.entry.kind) r read g)
 
 -- ---- an entry
 
-pub unused_is : (s : SectionLines) (d : Delims) (number : ℕ) (p : Placed) → int_eq p.entry.kind (pos 0) ≡ true → read_record (above s) s.param d number p ≡ Ok []
+pub unused_is : (above : ℕ) (params : List (List ℕ)) (d : Delims) (number : ℕ) (p : Placed) → int_eq p.entry.kind (pos 0) ≡ true → read_record above params d number p ≡ Ok []
 unfolding read_record
-unused_is s d number p e = cond-true (int_eq p.entry.kind (pos 0)) _ _ e
+unused_is above params d number p e = cond-true (int_eq p.entry.kind (pos 0)) _ _ e
 
-pub used_record : (s : SectionLines) (d : Delims) (number : ℕ) (p : Placed) (r : Result (List Value) PassFault) → int_eq p.entry.kind (pos 0) ≡ false → Gives r (used_values s d number p) → Gives r (read_record (above s) s.param d number p)
+pub used_record : (above : ℕ) (params : List (List ℕ)) (d : Delims) (number : ℕ) (p : Placed) (r : Result (List Value) PassFault) → int_eq p.entry.kind (pos 0) ≡ false → Gives r (used_values above params d number p) → Gives r (read_record above params d number p)
 unfolding read_record used_values
-used_record s d number p r used g = subst (Gives r) (sym (cond-false (int_eq p.entry.kind (pos 0)) _ _ used)) g
+used_record above params d number p r used g = subst (Gives r) (sym (cond-false (int_eq p.entry.kind (pos 0)) _ _ used)) g
 
 -- a record lies among the P lines
 pub record_within : (n : ℕ) (kind first count : ℤ) → int_eq kind (pos 0) ≡ false → has_record n kind first count ≡ true → (0 < unsigned_abs first) × (unsigned_abs first - 1 + unsigned_abs count ≤ n)

@@ -71,8 +71,8 @@ abbrev pub above : SectionLines → ℕ
 above s = length s.start + length s.global + length s.directory
 
 -- the same, for an entry that isn't of type 0
-unfoldable pub used_values : SectionLines → Delims → ℕ → Placed → Result (List Value) LineFault
-used_values s d number p = values_unless s.param d (above s + unsigned_abs p.first) p (position_from (λ l. not (points_back number l)) 0 (record_lines s.param p))
+unfoldable pub used_values : ℕ → List (List ℕ) → Delims → ℕ → Placed → Result (List Value) LineFault
+used_values above params d number p = values_unless params d (above + unsigned_abs p.first) p (position_from (λ l. not (points_back number l)) 0 (record_lines params p))
 
 unfoldable pub read_records : ℕ → List (List ℕ) → Delims → ℕ → List Placed → Result (List (Entry × List Value)) LineFault
 read_records above params d number [] = Ok []
@@ -86,13 +86,16 @@ abbrev pub with_entries : Contents → List (Entry × List Value) → Result Con
 with_entries f entries = Ok (record { start = f.start; global = f.global; entries = entries })
 
 -- the file with the entries and the values of their records
-abbrev pub read_entries : SectionLines → Contents → List Placed → Result Contents LineFault
-read_entries s f placed = read_records (above s) s.param f.global.delims 1 placed >>= with_entries f
+abbrev pub read_entries : ℕ → List (List ℕ) → Contents → List Placed → Result Contents LineFault
+read_entries above params f placed = read_records above params f.global.delims 1 placed >>= with_entries f
 
-unfoldable pub read_file : List ℕ → Result Contents LineFault
-read_file bytes = do
-  s ← read_sections bytes
+-- the file of the lines
+unfoldable pub read_lines : SectionLines → Result Contents LineFault
+read_lines s = do
   global ← read_global s
   placed ← read_directory s
   entries ← read_records (length s.start + length s.global + length s.directory) s.param global.delims 1 placed
   Ok (record { start = map (columns 1 72) s.start; global = global; entries = entries })
+
+unfoldable pub read_file : List ℕ → Result Contents LineFault
+read_file bytes = read_sections bytes >>= read_lines

@@ -26,6 +26,9 @@ fn line(sections: &Sections, part: Part, i: usize) -> Option<&[u8]>
     }
 }
 
+// The most bytes of room that are kept from one text to the next.
+const ROOM: usize = 65_536;
+
 /// Puts columns 1 to `width` of so many lines of a part, from a place on, in place of the text.
 pub fn put_text(
     text: &mut Vec<u8>,
@@ -43,6 +46,7 @@ pub fn put_text(
     ensures in_line { OnOk result (IsTrue (is_in_line text.new.items)) }
 {
     text.clear();
+    text.shrink_to(ROOM);
     'lines: for i in 0..count {
         let Some(line) = line(sections, part, from + i) else {
             unreachable!();

@@ -44,8 +44,13 @@ fn is_number(n: &i64, value: &Value) -> bool
     }
 }
 
-// A record's values without the type number, which must come first.
-fn without_type(first: u64, kind: &i64, mut values: Values) -> Result<Values, PassFault>
+// A record's values without the type number, which must come first, in as much memory as they need.
+fn without_type(
+    alloc: Global,
+    first: u64,
+    kind: &i64,
+    mut values: Values,
+) -> Result<Values, PassFault>
     ensures { Gives result (without_type first kind.now values) }
 {
     let Some(number) = values.take_first() else {
@@ -54,13 +59,14 @@ fn without_type(first: u64, kind: &i64, mut values: Values) -> Result<Values, Pa
     if !is_number(kind, &number) {
         return Err(bad(first, Reason::RecordType));
     }
-    values.shrink_to_fit();
-    Ok(values)
+    let mut others = Values::with_room(alloc, values.len())?;
+    others.append(&mut values)?;
+    Ok(others)
 }
 
-// How many lines stand above the parameter lines.
-fn lines_above(sections: &Sections) -> u64
-    ensures is { result ≡ length sections.now.start + length sections.now.global + length sections.now.directory }
+/// How many lines stand above the parameter lines.
+pub fn lines_above(sections: &Sections) -> u64
+    ensures is { result ≡ above sections.now }
     ensures few { 80 * (result + length sections.now.param) ≤ FILE_LIMIT }
 {
     (sections.start_count() + sections.global_count() + sections.directory_count()) as u64
@@ -84,6 +90,7 @@ fn is_unused(entry: &Entry) -> bool
 fn used_values(
     alloc: Global,
     sections: &Sections,
+    above: u64,
     delims: Delimiters,
     number: usize,
     placed: &Placed,
@@ -91,13 +98,14 @@ fn used_values(
 ) -> Result<Values, PassFault>
     requires permitted { IsTrue (are_permitted delims) }
     requires number { number < 2 ^ 63 }
+    requires few { 80 * (above + length sections.now.param) ≤ FILE_LIMIT }
     requires first { 0 < unsigned_abs placed.now.first }
     requires within { unsigned_abs placed.now.first - 1 + unsigned_abs placed.now.count ≤ length sections.now.param }
-    ensures { Gives result (used_values sections.now delims number placed.now) }
+    ensures { Gives result (used_values above sections.now.param delims number placed.now) }
 {
     let place = magnitude(&placed.first);
     let count = magnitude(&placed.count);
-    let first = lines_above(sections) + place as u64;
+    let first = above + place as u64;
     if let Some(i) = first_foreign(sections, place - 1, count, number) {
         return Err(bad(first + i as u64, Reason::BackPointer));
     }
@@ -110,14 +118,15 @@ fn used_values(
         width: 64,
     };
     let values = passage_values(alloc, &passage, delims, Reason::RecordValue)?;
-    without_type(first, &placed.entry.kind, values)
+    without_type(alloc, first, &placed.entry.kind, values)
 }
 
-/// The values of the record of the entry with this number, none for type 0. The record's text, columns 1 to 64 of its
-/// lines (IGES 5.3, 2.2.4.5), is put in place of `text`.
+/// The values of the record of the entry with this number, none for type 0, where so many lines stand above the
+/// parameter lines. The record's text, columns 1 to 64 of its lines (IGES 5.3, 2.2.4.5), is put in place of `text`.
 pub fn read_record(
     alloc: Global,
     sections: &Sections,
+    above: u64,
     delims: Delimiters,
     number: usize,
     placed: &Placed,
@@ -125,11 +134,12 @@ pub fn read_record(
 ) -> Result<Values, PassFault>
     requires permitted { IsTrue (are_permitted delims) }
     requires number { number < 2 ^ 63 }
+    requires few { 80 * (above + length sections.now.param) ≤ FILE_LIMIT }
     requires record { IsTrue (has_record (length sections.now.param) placed.now.entry.kind placed.now.first placed.now.count) }
-    ensures { Gives result (read_record (above sections.now) sections.now.param delims number placed.now) }
+    ensures { Gives result (read_record above sections.now.param delims number placed.now) }
 {
     if is_unused(&placed.entry) {
         return Ok(Values::new(alloc));
     }
-    used_values(alloc, sections, delims, number, placed, text)
+    used_values(alloc, sections, above, delims, number, placed, text)
 }

@@ -12,7 +12,7 @@ use crate::reply::{Reply, Stop};
 use iges_fields::{Bytes, FILE_LIMIT, NoMemory, Out, write_number};
 use iges_io::{ReadAll, Source, read_all};
 use iges_lines::LineFault;
-use iges_params::{File, ReadFileFault, read_file};
+use iges_params::{File, ReadFileFault, read_bytes};
 use std::alloc::Global;
 
 // The reply for a bad file.
@@ -53,12 +53,12 @@ pub fn bytes_in<S: Source>(
 }
 
 // The file that these bytes are, or the reply where they are none.
-fn file_of(alloc: Global, bytes: &[u8]) -> Result<Result<File, Reply>, NoMemory>
-    requires { length bytes.now ≤ FILE_LIMIT }
-    ensures found { IfOk result (λ r. MatchResult r (IsFile bytes.now) (λ reply. OfNoFile bytes.now reply.answer reply.text)) }
+fn file_of(alloc: Global, bytes: Bytes) -> Result<Result<File, Reply>, NoMemory>
+    requires { length bytes ≤ FILE_LIMIT }
+    ensures found { IfOk result (λ r. MatchResult r (IsFile bytes) (λ reply. OfNoFile bytes reply.answer reply.text)) }
     ensures bad { IfOk result (λ r. MatchResult r (λ _. Unit {0}) (λ reply. reply.answer ≡ Answer.BadFile)) }
 {
-    match read_file(alloc, bytes) {
+    match read_bytes(alloc, bytes) {
         Ok(file) => Ok(Ok(file)),
         Err(ReadFileFault::Bad(fault)) => Ok(Err(bad_file(alloc, fault)?)),
         Err(ReadFileFault::NoMemory) => Err(NoMemory),
@@ -72,7 +72,7 @@ pub fn file_in<F: Source>(alloc: Global, source: &mut F) -> Result<Result<File, 
     ensures count { CountAfterCall (F.faults source.old) (F.faults source.new) result }
 {
     match bytes_in(alloc, source, FILE_LIMIT)? {
-        Ok(bytes) => Ok(file_of(alloc, bytes.as_slice())?),
+        Ok(bytes) => Ok(file_of(alloc, bytes)?),
         Err(reply) => Ok(Err(reply)),
     }
 }

@@ -1,4 +1,4 @@
-use Rattle.std.proofs.Common.{◌+◌, ◌∙◌, ℕ, sym, ap}
+use Rattle.std.proofs.Common.{◌∙◌, refl, sym}
 use Rattle.std.proofs.lemmas.Result.{err_from_is_err_and}
 use Rattle.iges_params.proofs.RecordPass.{foreign_fails, text_fails, text_goes_on}
 use Rattle.iges_params.proofs.record.used_values.Goals as goal
@@ -6,24 +6,21 @@ use Rattle.iges_params.proofs.record.used_values.Goals as goal
 pub returns-in-Some : goal.returns-in-Some
 returns-in-Some c =
     let found = c.in-Some.ensures {u = tt} in
-    let first = ap (λ (n : ℕ). n + c.magnitude-place.result) c.lines_above.ensures.is in
-    rw c.bad.ensures (foreign_fails c.args.sections.now c.args.delims c.args.number c.args.placed.now _ _ _ c.magnitude-place.ensures c.magnitude-count.ensures first c.in-Some.i found.place)
+    rw c.bad.ensures (foreign_fails c.args.above c.args.sections.now.param c.args.delims c.args.number c.args.placed.now _ _ _ c.magnitude-place.ensures c.magnitude-count.ensures refl c.in-Some.i found.place)
 
 pub returns-in_err-values : goal.returns-in_err-values
 returns-in_err-values c =
     let p = err_from_is_err_and c.from_residual-in_err-values.result c.from_residual-in_err-values.ensures.1 in
     let put = c.in_ok-put_text.ensures {u = tt} in
-    let first = ap (λ (n : ℕ). n + c.magnitude-place.result) c.lines_above.ensures.is in
     let none = sym c.in_default.is ∙ c.first_foreign.ensures.place in
     rw (p.1, p.2) (
-    text_fails c.args.sections.now c.args.delims c.args.number c.args.placed.now _ _ _ c.magnitude-place.ensures c.magnitude-count.ensures first none c.as_slice-columns.result.now (c.as_slice-columns.ensures.value ∙ put.text) _
+    text_fails c.args.above c.args.sections.now.param c.args.delims c.args.number c.args.placed.now _ _ _ c.magnitude-place.ensures c.magnitude-count.ensures refl none c.as_slice-columns.result.now (c.as_slice-columns.ensures.value ∙ put.text) _
     (c.in_err-values.ensures {u = tt})
     )
 
 pub returns : goal.returns
 returns c =
     let put = c.in_ok-put_text.ensures {u = tt} in
-    let first = ap (λ (n : ℕ). n + c.magnitude-place.result) c.lines_above.ensures.is in
     let none = sym c.in_default.is ∙ c.first_foreign.ensures.place in
-    text_goes_on c.args.sections.now c.args.delims c.args.number c.args.placed.now _ _ _ c.magnitude-place.ensures c.magnitude-count.ensures first none c.as_slice-columns.result.now (c.as_slice-columns.ensures.value ∙ put.text) _ _
+    text_goes_on c.args.above c.args.sections.now.param c.args.delims c.args.number c.args.placed.now _ _ _ c.magnitude-place.ensures c.magnitude-count.ensures refl none c.as_slice-columns.result.now (c.as_slice-columns.ensures.value ∙ put.text) _ _
     (c.in_ok-values.ensures {u = tt}) c.without_type.ensures

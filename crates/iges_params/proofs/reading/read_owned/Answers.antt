@@ -1,0 +1,13 @@
+use Rattle.std.proofs.Common.{sym}
+use Rattle.std.proofs.lemmas.Result.{err_from_is_err_and}
+use Rattle.iges_params.proofs.FilePass.{lines_fail, lines_go_on}
+use Rattle.iges_params.proofs.reading.read_owned.Goals as goal
+
+pub returns-in_err-lines : goal.returns-in_err-lines
+returns-in_err-lines c =
+    let p = err_from_is_err_and c.from_residual.result c.from_residual.ensures.1 in
+    let failed = c.in_err-lines.ensures {u = tt} in
+    rw (p.1, p.2, sym c.as_slice.ensures) (lines_fail c.as_slice.result.now _ failed.fault)
+
+pub returns : goal.returns
+returns c = let lines = c.in_ok-lines.ensures {u = tt} in rw (sym c.as_slice.ensures) (lines_go_on c.as_slice.result.now c.in_ok-lines.lines lines.found _ c.read_lines.ensures)
