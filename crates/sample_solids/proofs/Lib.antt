@@ -1,3 +1,5 @@
 pub mod Squares
 pub mod Sizes
 pub mod Growing
+pub mod Round
+pub mod Mesh
