@@ -3,3 +3,4 @@ pub mod Sizes
 pub mod Growing
 pub mod Round
 pub mod Mesh
+pub mod Records
