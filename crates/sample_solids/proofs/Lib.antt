@@ -4,3 +4,4 @@ pub mod Growing
 pub mod Round
 pub mod Mesh
 pub mod Records
+pub mod Made
