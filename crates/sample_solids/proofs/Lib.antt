@@ -5,3 +5,4 @@ pub mod Round
 pub mod Mesh
 pub mod Records
 pub mod Made
+pub mod Tuples
