@@ -6,3 +6,4 @@ pub mod Mesh
 pub mod Records
 pub mod Made
 pub mod Tuples
+pub mod Keys
