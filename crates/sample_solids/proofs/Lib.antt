@@ -7,3 +7,4 @@ pub mod Records
 pub mod Made
 pub mod Tuples
 pub mod Keys
+pub mod Rows
