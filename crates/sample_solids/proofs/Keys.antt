@@ -81,7 +81,7 @@ pub tuple_listed : (n i j : ℕ) (s : Side) → i < n → j < n → Has (all_tup
 tuple_listed n i j s li lj =
     subst (λ ts. Has ts (side_tuple n i j s)) (sym (all_tuples_are n)) (has_flat_map (square_tuples n) (squares n) (i, j) (side_tuple n i j s) (square_in n i j li lj) (side_in n i j s))
 
-side_of : (n : ℕ) (p : ℕ × ℕ) (t : LoopTuple) → Has (square_tuples n p) t → (s : Side) × (side_tuple n p.0 p.1 s ≡ t)
+pub side_of : (n : ℕ) (p : ℕ × ℕ) (t : LoopTuple) → Has (square_tuples n p) t → (s : Side) × (side_tuple n p.0 p.1 s ≡ t)
 side_of n p t (inl e) = (near, e)
 side_of n p t (inr (inl e)) = (right, e)
 side_of n p t (inr (inr (inl e))) = (far, e)
@@ -119,7 +119,7 @@ key_is n k h =
     only a (inr m) = absurd m
 
 -- each number of an edge is one of a square
-number_listed : (n a k : ℕ) → 0 < n → a < n * n → 1 ≤ k → k ≤ 2 → Has (edge_keys (sample n) (pos 1)) (key_of (2 * a + k))
+pub number_listed : (n a k : ℕ) → 0 < n → a < n * n → 1 ≤ k → k ≤ 2 → Has (edge_keys (sample n) (pos 1)) (key_of (2 * a + k))
 number_listed n a zero some lt low high = absurd (omega (arith, low))
 number_listed n a (suc zero) some lt low high =
     let e : (a / n) * n + a % n ≡ a = div-add-mod' a n in

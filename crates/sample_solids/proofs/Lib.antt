@@ -8,3 +8,5 @@ pub mod Made
 pub mod Tuples
 pub mod Keys
 pub mod Rows
+pub mod Counts
+pub mod Placed
