@@ -10,3 +10,4 @@ pub mod Keys
 pub mod Rows
 pub mod Counts
 pub mod Placed
+pub mod Closed

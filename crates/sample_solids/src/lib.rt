@@ -3,9 +3,11 @@
 
 mod file;
 mod index;
+mod law;
 mod values;
 
 pub use file::sample_file;
+pub use law::samples_are_closed;
 
 #[cfg(test)]
 mod tests;
