@@ -1,5 +1,5 @@
 -- Samples are closed.
-use Rattle.std.specs.Prelude.{ℕ, ◌<◌, ◌≤◌}
+use Rattle.std.specs.Prelude.{ℕ, ◌<◌}
 use Rattle.std.proofs.Common.{arith}
 use Rattle.cert_maker.specs.Closed.{IsClosed}
 use Rattle.cert_maker.proofs.Exactly.{closed_exactly}

@@ -1,7 +1,7 @@
 -- How many edges and vertices the solid of a sample has.
 use Rattle.std.specs.Prelude.{◌≡◌, ℕ, zero, suc, ◌+◌, ◌-◌, ◌*◌, ◌/◌, ◌%◌, ◌<◌, ◌≤◌, Bool, true, false, not, cond, pos, List, [], ◌∷◌, length, map, flat_map, filter}
 use Rattle.std.proofs.Common.{refl, sym, ◌∙◌, ap, subst, arith, inl, inr}
-use Rattle.std.proofs.Math.Nat.{mod-lt, mul_assoc}
+use Rattle.std.proofs.Math.Nat.{mul_assoc}
 use Rattle.std.proofs.lemmas.Nat.{mul-add-lt}
 use Rattle.std.proofs.lemmas.List.{length-map, append-nil}
 use Rattle.brep_walk.specs.SolidOf.{all_tuples, edge_named, vertices_named, edge_keys, vertex_keys, solid_of}
@@ -62,13 +62,13 @@ apart same itself g (x ∷ xs) tell = (
 counted : {A : Type 0} (g : A → ℕ) (keys : List A) (m : ℕ) → NoRepeat (map g keys) → ((a : A) → Has keys a → (1 ≤ g a) × (g a ≤ m)) → ((k : ℕ) → 1 ≤ k → k ≤ m → Has (map g keys) k) → length keys ≡ m
 counted g keys m none within all =
     let low : length (map g keys) ≤ length (numbers_from 1 m) = no_longer (map g keys) (numbers_from 1 m) none (λ k h.
-        let a = has_map g keys k h in
-        let b = within a.0 a.1 in
-        let e : 1 + (k - 1) ≡ k = omega (arith, b, a.2) in
-        subst (Has (numbers_from 1 m)) e (numbers_have 1 m (k - 1) (omega (arith, b, a.2)))) in
+    let a = has_map g keys k h in
+    let b = within a.0 a.1 in
+    let e : 1 + (k - 1) ≡ k = omega (arith, b, a.2) in
+    subst (Has (numbers_from 1 m)) e (numbers_have 1 m (k - 1) (omega (arith, b, a.2)))) in
     let high : length (numbers_from 1 m) ≤ length (map g keys) = no_longer (numbers_from 1 m) (map g keys) (rises_none (numbers_from 1 m) (numbers_rise 1 m)) (λ k h.
-        let b : k < 1 + m = numbers_below 1 m k h in
-        all k (at_least 1 m k h) (omega (arith, b))) in
+    let b : k < 1 + m = numbers_below 1 m k h in
+    all k (at_least 1 m k h) (omega (arith, b))) in
     omega (arith, low, high, length_numbers 1 m, length-map keys g)
   where
     at_least : (base m k : ℕ) → Has (numbers_from base m) k → base ≤ k
@@ -97,11 +97,11 @@ edge_keys_many : (n : ℕ) → 0 < n → length (edge_keys (sample n) (pos 1)) �
 edge_keys_many n some = counted (λ (k : EdgeKey). k.index) (edge_keys (sample n) (pos 1)) (2 * (n * n)) (edges_apart n)
     (λ k h. let s = key_is n k h in let r = edge_range n s.0 s.1 s.2 s.3 s.4 in let e : edge_of n s.0 s.1 s.2 ≡ k.index = ap (λ (q : EdgeKey). q.index) s.5 in (omega (arith, r, e), omega (arith, r, e)))
     (λ k low high.
-        let a : ℕ = (k - 1) / 2 in
-        let b : ℕ = 1 + (k - 1) % 2 in
-        let e : 2 * a + b ≡ k = omega (arith, low) in
-        subst (Has (map (λ (q : EdgeKey). q.index) (edge_keys (sample n) (pos 1)))) e
-        (map_has (λ (q : EdgeKey). q.index) (edge_keys (sample n) (pos 1)) (key_of (2 * a + b)) (number_listed n a b some (omega (arith, low, high)) (omega arith) (omega arith))))
+    let a : ℕ = (k - 1) / 2 in
+    let b : ℕ = 1 + (k - 1) % 2 in
+    let e : 2 * a + b ≡ k = omega (arith, low) in
+    subst (Has (map (λ (q : EdgeKey). q.index) (edge_keys (sample n) (pos 1)))) e
+    (map_has (λ (q : EdgeKey). q.index) (edge_keys (sample n) (pos 1)) (key_of (2 * a + b)) (number_listed n a b some (omega (arith, low, high)) (omega arith) (omega arith))))
 
 -- The solid has two edges for each square,
 pub edge_number : (n : ℕ) → 0 < n → length (the_solid n).edges ≡ 2 * n * n
@@ -122,9 +122,9 @@ vertex_keys_many : (n : ℕ) → 0 < n → length (vertex_keys (sample n) (pos 1
 vertex_keys_many n some = counted (λ (k : VertexKey). k.index) (vertex_keys (sample n) (pos 1)) (n * n) (points_apart n)
     (λ k h. let s = point_is n k h in let r = mul-add-lt s.0 n s.1 n s.2 s.3 in let e : vertex n s.0 s.1 ≡ k.index = ap (λ (q : VertexKey). q.index) s.4 in (omega (arith, r, e), omega (arith, r, e)))
     (λ k low high.
-        let e : k - 1 + 1 ≡ k = omega (arith, low) in
-        subst (Has (map (λ (q : VertexKey). q.index) (vertex_keys (sample n) (pos 1)))) e
-        (map_has (λ (q : VertexKey). q.index) (vertex_keys (sample n) (pos 1)) (point_key (k - 1 + 1)) (place_listed n (k - 1) some (omega (arith, low, high)))))
+    let e : k - 1 + 1 ≡ k = omega (arith, low) in
+    subst (Has (map (λ (q : VertexKey). q.index) (vertex_keys (sample n) (pos 1)))) e
+    (map_has (λ (q : VertexKey). q.index) (vertex_keys (sample n) (pos 1)) (point_key (k - 1 + 1)) (place_listed n (k - 1) some (omega (arith, low, high)))))
 
 -- a vertex for each square,
 pub vertex_number : (n : ℕ) → 0 < n → length (the_solid n).vertices ≡ n * n

@@ -1,29 +1,24 @@
 -- The ids of a sample's edges and vertices.
-use Rattle.std.specs.Prelude.{◌≡◌, ℕ, zero, suc, ◌+◌, ◌-◌, ◌*◌, ◌/◌, ◌%◌, ◌<◌, ◌≤◌, Bool, true, false, not, cond, ℤ, pos, List, [], ◌∷◌, ◌++◌, length, map, flat_map, filter, Option, Some, None, slice_get, if◌then◌else◌}
-use Rattle.std.proofs.Common.{refl, sym, ◌∙◌, ap, subst, arith, inl, inr, ⊎_elim, length-append}
+use Rattle.std.specs.Prelude.{◌≡◌, ℕ, zero, suc, ◌+◌, ◌*◌, ◌/◌, ◌%◌, ◌<◌, ◌≤◌, Bool, true, false, pos, List, [], ◌∷◌, ◌++◌, length, flat_map, Some, None, slice_get, if◌then◌else◌}
+use Rattle.std.proofs.Common.{refl, sym, ◌∙◌, ap, subst, arith, inl, inr, length-append}
 use Rattle.std.proofs.Math.Nat.{mod-lt}
-use Rattle.std.proofs.lemmas.Nat.{mul-add-lt, div-add-mod', div_below}
-use Rattle.std.proofs.lemmas.List.{length-map}
-use Rattle.iges_params.specs.Contents.{Contents}
+use Rattle.std.proofs.lemmas.Nat.{div-add-mod', div_below}
 use Rattle.brep_lists.specs.Record.{LoopTuple}
-use Rattle.brep_lists.specs.declared.edge_list.EdgeTuple.{EdgeTuple}
 use Rattle.brep_walk.specs.Places.{edge_at}
-use Rattle.brep_walk.specs.SolidOf.{Keys, edge_key, vertex_key, all_tuples, edge_named, ends_named, vertices_named, edge_keys, vertex_keys, keys_of, numbered_by, edge_by, edge_of as edge_of_key, solid_of}
-use Rattle.brep_walk.proofs.KnownVertices.{to_distinct, from_distinct, from_filter, vertex_sound, vertex_itself}
+use Rattle.brep_walk.specs.SolidOf.{edge_key, vertex_key, all_tuples, edge_named, ends_named, vertices_named, edge_keys, vertex_keys, keys_of, numbered_by, edge_of as edge_of_key, solid_of}
+use Rattle.brep_walk.proofs.KnownVertices.{to_distinct, from_distinct, vertex_sound, vertex_itself}
 use Rattle.brep_walk.proofs.Numbered.{edge_sound, edge_itself}
 use Rattle.edge_uses.proofs.Few.{has_get}
-use Rattle.solid_data.specs.Ring.{distinct, place_of, numbers_from}
+use Rattle.solid_data.specs.Ring.{place_of}
 use Rattle.solid_data.specs.SolidData.{same_edge, same_vertex}
 use Rattle.solid_data.specs.declared.solid.Edge.{Edge}
 use Rattle.solid_data.specs.declared.solid.EdgeKey.{EdgeKey}
 use Rattle.solid_data.specs.declared.solid.VertexKey.{VertexKey}
-use Rattle.solid_data.proofs.Members.{Has, NoRepeat, no_longer, some_inj, has_flat_map, from_flat_map, has_map, map_has}
-use Rattle.solid_data.proofs.Occurring.{numbers_have, numbers_rise}
-use Rattle.solid_data.proofs.Members as members
+use Rattle.solid_data.proofs.Members.{Has, some_inj, has_flat_map, from_flat_map}
 use Rattle.sample_solids.specs.Sample.{squares, sample}
-use Rattle.sample_solids.proofs.Squares.{squares_get, squares_below, length_numbers, numbers_below}
+use Rattle.sample_solids.proofs.Squares.{squares_get, squares_below}
 use Rattle.sample_solids.proofs.Round.{next, next_below}
-use Rattle.sample_solids.proofs.Mesh.{Side, near, right, far, left, after, is_along, vertex, across, up, edge_of, start_of}
+use Rattle.sample_solids.proofs.Mesh.{Side, near, right, far, left, vertex, edge_of}
 use Rattle.sample_solids.proofs.Records.{edge_tuple}
 use Rattle.sample_solids.proofs.Tuples.{side_tuple, square_tuples, all_tuples_are, across_at, up_at}
 

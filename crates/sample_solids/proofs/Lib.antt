@@ -11,3 +11,4 @@ pub mod Rows
 pub mod Counts
 pub mod Placed
 pub mod Closed
+pub mod Smallest

@@ -1,12 +1,12 @@
 -- A sample is a file that can be made.
-use Rattle.std.specs.Prelude.{◌≡◌, ℕ, ◌≤◌, true, false, List, [], ◌∷◌, ◌++◌, flat_map, pos, IsTrue}
+use Rattle.std.specs.Prelude.{◌≡◌, ℕ, ◌≤◌, true, false, List, [], ◌∷◌, flat_map, pos, IsTrue}
 use Rattle.std.specs.List.{AllByRecursion}
 use Rattle.std.specs.Ordering.{int_eq}
 use Rattle.std.proofs.Common.{refl, sym, ◌∙◌, arith}
 use Rattle.iges_params.specs.Made.{IsMadeEntry, IsMade}
-use Rattle.iges_directory.specs.Bounds.{fits_columns, IsBounded}
+use Rattle.iges_directory.specs.Bounds.{fits_columns}
 use Rattle.solid_data.proofs.Members.{all_append, all_flat_map}
-use Rattle.sample_solids.specs.Sample.{squares, plain, start_line, shell_record, vertex_record, edge_record, face_record, loop_record, entry, first_entries, face_entries, sample}
+use Rattle.sample_solids.specs.Sample.{squares, start_line, shell_record, vertex_record, edge_record, face_record, loop_record, entry, first_entries, face_entries, sample}
 use Rattle.sample_solids.proofs.Sizes.{fits}
 
 made_entry : (kind form : ℕ) (ns : List ℕ) → IsTrue (fits_columns (pos kind)) → IsTrue (fits_columns (pos form)) → int_eq (pos kind) (pos 0) ≡ false → IsMadeEntry (entry kind form ns)
@@ -35,11 +35,19 @@ made_entry kind form ns high fits_too used = record {
 first_made : (n : ℕ) → AllByRecursion IsMadeEntry (first_entries n)
 first_made n = (
   made_entry 186 0 (3 ∷ 1 ∷ 0 ∷ []) refl refl refl,
-  (made_entry 514 1 (shell_record n) refl refl refl,
-  (made_entry 502 1 (vertex_record n) refl refl refl,
-  (made_entry 504 1 (edge_record n) refl refl refl,
-  (made_entry 110 0 (0 ∷ 0 ∷ 0 ∷ 1 ∷ 0 ∷ 0 ∷ []) refl refl refl,
-  (made_entry 108 0 (0 ∷ 0 ∷ 1 ∷ 0 ∷ 0 ∷ 0 ∷ 0 ∷ 0 ∷ 0 ∷ []) refl refl refl, tt))))),
+  (
+    made_entry 514 1 (shell_record n) refl refl refl,
+    (
+      made_entry 502 1 (vertex_record n) refl refl refl,
+      (
+        made_entry 504 1 (edge_record n) refl refl refl,
+        (
+          made_entry 110 0 (0 ∷ 0 ∷ 0 ∷ 1 ∷ 0 ∷ 0 ∷ []) refl refl refl,
+          (made_entry 108 0 (0 ∷ 0 ∷ 1 ∷ 0 ∷ 0 ∷ 0 ∷ 0 ∷ 0 ∷ 0 ∷ []) refl refl refl, tt),
+        ),
+      ),
+    ),
+  ),
 )
 
 -- A sample keeps what each file keeps.

@@ -1,17 +1,16 @@
 -- A shell whose rows go round the squares of a mesh is closed.
-use Rattle.std.specs.Prelude.{◌≡◌, ℕ, zero, suc, ◌+◌, ◌-◌, ◌*◌, ◌/◌, ◌%◌, ◌<◌, ◌≤◌, ◌==◌, ◌&&◌, ◌⊎◌, Bool, true, false, not, cond, List, [], ◌∷◌, length, count_by, Some, None, slice_get}
+use Rattle.std.specs.Prelude.{◌≡◌, ℕ, zero, suc, ◌+◌, ◌*◌, ◌/◌, ◌%◌, ◌<◌, ◌≤◌, ◌==◌, ◌&&◌, Bool, true, false, not, cond, List, [], ◌∷◌, count_by, Some, slice_get}
 use Rattle.std.specs.List.{AllByRecursion}
-use Rattle.std.proofs.Common.{refl, sym, ◌∙◌, ap, subst, arith, inl, inr, ⊎_elim}
+use Rattle.std.proofs.Common.{refl, sym, ◌∙◌, ap, subst, arith, inl}
 use Rattle.std.proofs.Math.Nat.{mod-lt}
 use Rattle.std.proofs.lemmas.Bool.{eq-eqb, eqb-true}
 use Rattle.std.proofs.lemmas.Nat.{mul-add-lt, same_from_place, div-add-mod', div_below}
 use Rattle.solid_data.specs.Chain.{LeadsTo}
 use Rattle.solid_data.specs.Ring.{numbers_from}
 use Rattle.solid_data.specs.declared.solid.LoopAt.{LoopAt}
-use Rattle.solid_data.specs.declared.solid.EdgeId.{EdgeId}
 use Rattle.edge_uses.specs.declared.row.Row.{Row}
 use Rattle.edge_uses.specs.ShellRows.{ShellRows}
-use Rattle.edge_uses.specs.Closed.{row_count, IsPaired, AreMates, Follows, Turns, StartsAt, OnFace, AreNeighbours, IsReached, IsCorner, IsLinked, point_count}
+use Rattle.edge_uses.specs.Closed.{row_count, IsPaired, AreMates, Turns, StartsAt, OnFace, AreNeighbours, IsReached, IsLinked}
 use Rattle.solid_data.proofs.Members.{some_inj, Has, All-from, total, count_by-total}
 use Rattle.solid_data.proofs.Trail.{leads_trans, leads_here, leads_one, leads_last}
 use Rattle.sample_solids.proofs.Squares.{numbers_below}

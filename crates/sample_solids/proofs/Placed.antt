@@ -1,5 +1,5 @@
 -- The places of a sample's solid hold.
-use Rattle.std.specs.Prelude.{◌≡◌, ℕ, zero, suc, ◌+◌, ◌-◌, ◌*◌, ◌/◌, ◌%◌, ◌<◌, ◌≤◌, Bool, true, false, ℤ, pos, nat_abs, List, [], ◌∷◌, ◌++◌, length, map, flat_map, take, Contains, All, Option, Some, None, IsSome, IsSomeAnd, slice_get}
+use Rattle.std.specs.Prelude.{◌≡◌, ℕ, zero, suc, ◌+◌, ◌*◌, ◌/◌, ◌%◌, ◌<◌, Bool, true, false, ℤ, pos, nat_abs, List, [], ◌∷◌, ◌++◌, length, map, flat_map, take, Contains, All, Option, Some, None, IsSome, IsSomeAnd, slice_get}
 use Rattle.std.proofs.Common.{refl, sym, ◌∙◌, ap, subst, arith, inl, inr, append_assoc}
 use Rattle.std.proofs.lemmas.Nat.{mul-add-lt, div-add-mod', div_below}
 use Rattle.std.proofs.Math.Nat.{mod-lt}
@@ -8,18 +8,16 @@ use Rattle.std.proofs.lemmas.List.Elements.{All-nil}
 use Rattle.iges_params.specs.Contents.{Contents}
 use Rattle.iges_params.specs.Named.{named}
 use Rattle.brep_lists.specs.Record.{EntityKind, solid, shell, face, «loop», edges, vertices, type_number, HasForm, FaceItems, LoopTuple, IsRecordOf}
-use Rattle.brep_lists.specs.declared.edge_list.EdgeTuple.{EdgeTuple}
-use Rattle.brep_walk.specs.Places.{told, shells, faces, loops, tuples, edge_at, numbers, NamesKind, HasRecordOf, NamesGeometry, IsIndex, record_places, item_places, edge_places, used_places, tuple_at, tuple_places, loop_at, loop_places, face_at, face_places, shell_at, shell_places, places}
+use Rattle.brep_walk.specs.Places.{told, shells, faces, loops, tuples, edge_at, numbers, NamesGeometry, IsIndex, record_places, item_places, edge_places, used_places, tuple_places, loop_places, face_places, shell_places, places}
 use Rattle.solid_data.specs.Obligations.{Obligation, obligation, entry_number, AllHold, after_each}
 use Rattle.solid_data.specs.declared.verdict.Rule.TheVariants.{BadIndex, BadGeometry, Twice}
 use Rattle.solid_data.proofs.Members.{Has, Has-from_Contains, some_inj, from_flat_map, has_map, get_below}
 use Rattle.solid_data.proofs.ObligationLemmas.{AllHold-append}
-use Rattle.sample_solids.specs.Sample.{squares, square, face_number, whole, entry, shell_record, vertex_record, edge_record, face_record, loop_record, sample}
+use Rattle.sample_solids.specs.Sample.{squares, face_number, entry, shell_record, vertex_record, edge_record, face_record, loop_record, sample}
 use Rattle.sample_solids.proofs.Squares.{length_squares, squares_at, square_small}
 use Rattle.sample_solids.proofs.Growing.{AnEntry}
-use Rattle.sample_solids.proofs.Round.{next, next_below}
-use Rattle.sample_solids.proofs.Mesh.{Side, near, right, far, left, is_along, vertex, edge_of}
-use Rattle.sample_solids.proofs.Records.{solid_named, shell_named, vertices_named, edges_named, line_named, plane_named, face_named, loop_named, solid_fits, shell_fits, vertices_fit, edges_fit, face_fits, loop_fits, face_item, vertex_item, edge_tuple, edge_count}
+use Rattle.sample_solids.proofs.Mesh.{Side, vertex, edge_of}
+use Rattle.sample_solids.proofs.Records.{solid_named, shell_named, vertices_named, edges_named, line_named, plane_named, face_named, loop_named, solid_fits, shell_fits, vertices_fit, edges_fit, face_fits, loop_fits, face_item, vertex_item, edge_count}
 use Rattle.sample_solids.proofs.Tuples.{side_tuple, square_tuples, shells_are, faces_are, face_told, loops_are, tuples_are, vertices_told, edges_told}
 use Rattle.sample_solids.proofs.Keys.{edge_from, edge_to, side_at, end_is, side_of}
 use Rattle.sample_solids.proofs.Counts.{edge_range}
@@ -121,10 +119,11 @@ edge_holds n i j s li lj m =
     let from : ℕ = edge_from n i j s in
     let to : ℕ = edge_to n i j s in
     let count : ℕ = length (told vertices f (pos 5)) in
-    subst (λ o. AllHold (edge_places f (pos 7) m o)) (sym (side_at n i j s li lj))
-    (line_is n,
-    AllHold-append (item_places f (pos 7) m vertices (pos 5) (pos from) count) (item_places f (pos 7) m vertices (pos 5) (pos to) count)
-    (end_holds n i j s li lj (pos 7) m from (inl refl)) (end_holds n i j s li lj (pos 7) m to (inr (inl refl))))
+    subst (λ o. AllHold (edge_places f (pos 7) m o)) (sym (side_at n i j s li lj)) (
+      line_is n,
+      AllHold-append (item_places f (pos 7) m vertices (pos 5) (pos from) count) (item_places f (pos 7) m vertices (pos 5) (pos to) count)
+          (end_holds n i j s li lj (pos 7) m from (inl refl)) (end_holds n i j s li lj (pos 7) m to (inr (inl refl))),
+    )
 
 side_holds : (n i j : ℕ) (s : Side) → i < n → j < n → (l : ℤ) (before : List LoopTuple) → AllHold (tuple_places (sample n) l before (side_tuple n i j s))
 unfolding tuple_places
@@ -149,12 +148,13 @@ loop_holds n i j li lj used before fresh =
     let l : ℤ = pos (face_number n i j + 2) in
     let k : ℕ = length before + 1 in
     AllHold-append (record_places f c k «loop» l) (obligation Twice (entry_number c) k (¬ Contains (used ++ before) l) ∷ after_each (tuple_places f l) [] (tuples f l))
-    (record_holds f c k «loop» l (entry 508 1 (loop_record n (i, j))) (loop_named n i j li lj) refl (inr refl) (loop_fits n (i, j)))
-    (fresh,
-    subst (λ ts. AllHold (after_each (tuple_places f l) [] ts)) (sym (tuples_are n i j li lj))
-    (each_holds (tuple_places f l) [] (square_tuples n (i, j)) (λ m t at.
-        let s = side_of n (i, j) t (has_at (square_tuples n (i, j)) m t at) in
-        subst (λ u. AllHold (tuple_places f l (take m (square_tuples n (i, j))) u)) s.1 (side_holds n i j s.0 li lj l (take m (square_tuples n (i, j)))))))
+    (record_holds f c k «loop» l (entry 508 1 (loop_record n (i, j))) (loop_named n i j li lj) refl (inr refl) (loop_fits n (i, j))) (
+      fresh,
+      subst (λ ts. AllHold (after_each (tuple_places f l) [] ts)) (sym (tuples_are n i j li lj))
+          (each_holds (tuple_places f l) [] (square_tuples n (i, j)) (λ m t at.
+          let s = side_of n (i, j) t (has_at (square_tuples n (i, j)) m t at) in
+          subst (λ u. AllHold (tuple_places f l (take m (square_tuples n (i, j))) u)) s.1 (side_holds n i j s.0 li lj l (take m (square_tuples n (i, j)))))),
+    )
   where
     has_at : (xs : List LoopTuple) (m : ℕ) (t : LoopTuple) → slice_get xs m ≡ Some t → Has xs t
     has_at [] m t at = absurd cc
@@ -220,11 +220,14 @@ face_holds n k i j li lj at =
     let used : List ℤ = flat_map (loops f) (numbers before) in
     AllHold-append (record_places f (pos 3) m face c)
     (obligation Twice 3 m (¬ Contains (numbers before) c) ∷ obligation BadGeometry (entry_number c) 0 (let items = told face f c in NamesGeometry f items.surface) ∷ after_each (loop_places f c used) [] (loops f c))
-    (record_holds f (pos 3) m face c (entry 510 1 (face_record n (i, j))) (face_named n i j li lj) refl (inr refl) (face_fits n (i, j)))
-    (face_fresh n k i j some at,
-    (subst (λ (items : FaceItems). NamesGeometry f items.surface) (sym (face_told n i j li lj)) (plane_is n),
-    subst (λ ls. AllHold (after_each (loop_places f c used) [] ls)) (sym (loops_are n i j li lj))
-    (AllHold-append (loop_places f c used [] (pos (face_number n i j + 2))) [] (loop_holds n i j li lj used [] (loop_fresh n k i j some at)) tt)))
+    (record_holds f (pos 3) m face c (entry 510 1 (face_record n (i, j))) (face_named n i j li lj) refl (inr refl) (face_fits n (i, j))) (
+      face_fresh n k i j some at,
+      (
+        subst (λ (items : FaceItems). NamesGeometry f items.surface) (sym (face_told n i j li lj)) (plane_is n),
+        subst (λ ls. AllHold (after_each (loop_places f c used) [] ls)) (sym (loops_are n i j li lj))
+            (AllHold-append (loop_places f c used [] (pos (face_number n i j + 2))) [] (loop_holds n i j li lj used [] (loop_fresh n k i j some at)) tt),
+      ),
+    )
 
 -- ---- the shell and the solid
 
@@ -236,12 +239,13 @@ unfolding shell_places
 shell_holds n some =
     let f : Contents = sample n in
     AllHold-append (record_places f (pos 1) 1 shell (pos 3)) (obligation Twice 1 1 (¬ Contains [] (pos 3)) ∷ after_each (face_places f (pos 3) []) [] (faces f (pos 3)))
-    (record_holds f (pos 1) 1 shell (pos 3) (entry 514 1 (shell_record n)) (shell_named n) refl refl (shell_fits n some))
-    (none_in_nothing (pos 3),
-    subst (λ cs. AllHold (after_each (face_places f (pos 3) []) [] cs)) (sym (faces_are n))
-    (each_holds (face_places f (pos 3) []) [] (map (face_item n) (squares n)) (λ k item at.
-        let x = face_at_place n k item some at in
-        subst (λ c. AllHold (face_places f (pos 3) [] (take k (map (face_item n) (squares n))) c)) x.4 (face_holds n k x.0 x.1 x.2 x.3 x.5))))
+    (record_holds f (pos 1) 1 shell (pos 3) (entry 514 1 (shell_record n)) (shell_named n) refl refl (shell_fits n some)) (
+      none_in_nothing (pos 3),
+      subst (λ cs. AllHold (after_each (face_places f (pos 3) []) [] cs)) (sym (faces_are n))
+          (each_holds (face_places f (pos 3) []) [] (map (face_item n) (squares n)) (λ k item at.
+          let x = face_at_place n k item some at in
+          subst (λ c. AllHold (face_places f (pos 3) [] (take k (map (face_item n) (squares n))) c)) x.4 (face_holds n k x.0 x.1 x.2 x.3 x.5))),
+    )
 
 -- The places of the solid of a sample hold.
 pub places_hold : (n : ℕ) → 0 < n → AllHold (places (sample n) 1)

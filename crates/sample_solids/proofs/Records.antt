@@ -1,7 +1,7 @@
 -- What the records of a sample tell.
-use Rattle.std.specs.Prelude.{◌≡◌, ℕ, zero, suc, ◌+◌, ◌-◌, ◌*◌, ◌/◌, ◌%◌, ◌<◌, ◌≤◌, ◌==◌, Bool, true, false, ℤ, pos, List, [], ◌∷◌, ◌++◌, length, map, flat_map, Option, Some, None, slice_get, if◌then◌else◌}
+use Rattle.std.specs.Prelude.{◌≡◌, ℕ, suc, ◌+◌, ◌*◌, ◌/◌, ◌%◌, ◌<◌, ◌==◌, Bool, true, false, ℤ, pos, List, [], ◌∷◌, ◌++◌, length, map, flat_map, Some, None, slice_get, if◌then◌else◌}
 use Rattle.std.specs.Ordering.{int_eq}
-use Rattle.std.proofs.Common.{refl, sym, ◌∙◌, ap, subst, arith, inl, inr}
+use Rattle.std.proofs.Common.{refl, sym, ◌∙◌, ap, subst, arith, inl}
 use Rattle.std.proofs.Math.Nat.{mul_assoc}
 use Rattle.std.proofs.lemmas.Nat.{mul-lt}
 use Rattle.std.proofs.lemmas.List.{length-map}
@@ -9,10 +9,9 @@ use Rattle.iges_fields.specs.declared.value.Value.{Value}
 use Rattle.iges_directory.specs.Named.{unless_unused}
 use Rattle.iges_params.specs.Named.{kind_of, named}
 use Rattle.brep_lists.specs.DueValues.{MeetsAll}
-use Rattle.brep_lists.specs.Record.{EntityKind, solid, shell, face, «loop», edges, vertices, Items, LoopTuple, pair_due, edge_due, vertex_due, due, items_of, IsRecordOf, groups, pair_read, edge_read, value_or_default}
+use Rattle.brep_lists.specs.Record.{solid, shell, face, «loop», edges, vertices, LoopTuple, pair_due, edge_due, vertex_due, due, items_of, IsRecordOf, groups, pair_read, edge_read, value_or_default}
 use Rattle.brep_lists.specs.declared.edge_list.EdgeTuple.{EdgeTuple}
-use Rattle.solid_data.proofs.Members.{Has}
-use Rattle.sample_solids.specs.Sample.{squares, square, vertex_index, across_index, up_index, face_number, whole, entry, face_listed, vertex_listed, edges_listed, shell_record, vertex_record, edge_record, face_record, loop_record, first_entries, face_entries, sample}
+use Rattle.sample_solids.specs.Sample.{squares, vertex_index, across_index, up_index, face_number, whole, entry, face_listed, vertex_listed, edges_listed, shell_record, vertex_record, edge_record, face_record, loop_record, first_entries, face_entries, sample}
 use Rattle.sample_solids.proofs.Squares.{get_right, get_chunk, length_squares, squares_get, square_small, length_chunks}
 use Rattle.sample_solids.proofs.Growing.{AnEntry}
 

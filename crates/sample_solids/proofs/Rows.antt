@@ -1,37 +1,34 @@
 -- The rows of a sample's shell go round the squares of a mesh.
-use Rattle.std.specs.Prelude.{◌≡◌, ℕ, zero, suc, ◌+◌, ◌-◌, ◌*◌, ◌/◌, ◌%◌, ◌<◌, ◌≤◌, ◌==◌, ◌||◌, Bool, true, false, not, ℤ, pos, List, [], ◌∷◌, ◌++◌, length, map, flat_map, take, Contains, Option, Some, None, slice_get, if◌then◌else◌}
-use Rattle.std.specs.List.{AllByRecursion, enumerate_from, list_any, cons_option}
-use Rattle.std.proofs.Common.{refl, sym, ◌∙◌, ap, subst, arith, inl, inr, ⊎_elim, length-append}
+use Rattle.std.specs.Prelude.{◌≡◌, ℕ, zero, suc, ◌+◌, ◌*◌, ◌/◌, ◌%◌, ◌<◌, Bool, true, false, ℤ, pos, List, [], ◌∷◌, ◌++◌, length, map, flat_map, Option, Some, slice_get, if◌then◌else◌}
+use Rattle.std.specs.List.{AllByRecursion, enumerate_from, cons_option}
+use Rattle.std.proofs.Common.{refl, sym, ◌∙◌, ap, subst, arith, inl, inr}
 use Rattle.std.proofs.Math.Nat.{mod-lt}
-use Rattle.std.proofs.lemmas.Bool.{eqb-true}
-use Rattle.std.proofs.lemmas.List.{length-map, append-nil}
+use Rattle.std.proofs.lemmas.List.{length-map}
 use Rattle.std.proofs.lemmas.List.FromFn.{length-enumerate_from}
 use Rattle.std.proofs.lemmas.Nat.{div-add-mod', div_below}
 use Rattle.iges_params.specs.Contents.{Contents}
 use Rattle.brep_lists.specs.Record.{LoopTuple}
-use Rattle.brep_walk.specs.Places.{shells, faces, loops, tuples}
+use Rattle.brep_walk.specs.Places.{faces}
 use Rattle.brep_walk.specs.SolidOf.{entry_no, use_of, loop_of, face_of, shell_of, solid_of}
 use Rattle.solid_data.specs.Ring.{next_of_each, previous_of_each, numbers_from}
-use Rattle.solid_data.specs.SolidData.{SolidData, PlacedLoop, same_flag, placed_in_face, placed_loops, shell_uses, shell_edges, shell_vertices, edge_used, ends_of, vertices_used, occurring}
+use Rattle.solid_data.specs.SolidData.{SolidData, PlacedLoop, placed_in_face, placed_loops, shell_uses, shell_edges, shell_vertices, edge_used, ends_of, vertices_used}
 use Rattle.solid_data.specs.declared.solid.Edge.{Edge}
 use Rattle.solid_data.specs.declared.solid.EdgeId.{EdgeId}
-use Rattle.solid_data.specs.declared.solid.FaceUse.{FaceUse}
-use Rattle.solid_data.specs.declared.solid.Loop.{Loop}
 use Rattle.solid_data.specs.declared.solid.LoopAt.{LoopAt}
 use Rattle.solid_data.specs.declared.solid.LoopUse.{LoopUse}
-use Rattle.solid_data.specs.declared.solid.LoopUse.TheVariants.{EdgeUse, VertexUse}
+use Rattle.solid_data.specs.declared.solid.LoopUse.TheVariants.{EdgeUse}
 use Rattle.solid_data.specs.declared.solid.Shell.{Shell}
 use Rattle.edge_uses.specs.declared.row.Row.{Row}
-use Rattle.edge_uses.specs.ShellRows.{ShellRows, row_of_edge, row_of, loop_rows, follows_from, point_of, shell_rows}
+use Rattle.edge_uses.specs.ShellRows.{ShellRows, row_of_edge, loop_rows, follows_from, point_of, shell_rows}
 use Rattle.edge_uses.specs.Closed.{begin_of, start_of as starts_at, end_of as ends_at, IsJoined, IsReached, IsApart, IsClosedShell, IsClosedSolid}
-use Rattle.solid_data.proofs.Members.{Has, All-from, from_flat_map, has_map, map_has, has_append, from_enumerated, get_below, some_inj}
+use Rattle.solid_data.proofs.Members.{Has, All-from, from_flat_map, has_map, from_enumerated, get_below, some_inj}
 use Rattle.edge_uses.proofs.Occurs.{from_occurring}
 use Rattle.sample_solids.specs.Sample.{squares, face_number, sample}
-use Rattle.sample_solids.proofs.Squares.{get_left, get_right, get_chunk, get_map, length_chunks, length_squares, squares_get, squares_below}
+use Rattle.sample_solids.proofs.Squares.{get_right, get_chunk, get_map, length_chunks, length_squares, squares_get, squares_below}
 use Rattle.sample_solids.proofs.Mesh.{Side, near, right, far, left, place, after, is_along, vertex, edge_of, start_of, number, side_row, IsMesh, mesh_paired, mesh_linked, mesh_reached}
 use Rattle.sample_solids.proofs.Records.{face_item}
-use Rattle.sample_solids.proofs.Tuples.{square_tuples, shells_are, faces_are, loops_are, tuples_are}
-use Rattle.sample_solids.proofs.Keys.{edge_id, point_id, edge_from, edge_to, side_edge, edge_found, end_is, one_edge, one_point}
+use Rattle.sample_solids.proofs.Tuples.{shells_are, faces_are, loops_are, tuples_are}
+use Rattle.sample_solids.proofs.Keys.{edge_id, point_id, edge_found, end_is, one_edge, one_point}
 
 -- ---- the loops
 
@@ -246,10 +243,10 @@ unfolding shell_rows
 no_points n =
     ap (λ ps. flat_map (points_of n) ps) (placed_are n)
     ∙ none_in (points_of n) (the_loops n) (λ p h.
-        let q = loop_is n p h in
-        subst (λ x. points_of n x ≡ []) q.3
-        (edge_first (placed n q.0) (record { 0 = edge_id n (edge_of n q.0.1.0 q.0.1.1 near) }) true
-        (side_use n q.0.1.0 q.0.1.1 right ∷ side_use n q.0.1.0 q.0.1.1 far ∷ side_use n q.0.1.0 q.0.1.1 left ∷ []) (map (λ (r : Row). r.edge.0) (loop_rows (the_solid n) (placed n q.0)))))
+    let q = loop_is n p h in
+    subst (λ x. points_of n x ≡ []) q.3
+    (edge_first (placed n q.0) (record { 0 = edge_id n (edge_of n q.0.1.0 q.0.1.1 near) }) true
+    (side_use n q.0.1.0 q.0.1.1 right ∷ side_use n q.0.1.0 q.0.1.1 far ∷ side_use n q.0.1.0 q.0.1.1 left ∷ []) (map (λ (r : Row). r.edge.0) (loop_rows (the_solid n) (placed n q.0)))))
 
 -- ---- which edges and vertices occur
 

@@ -1,14 +1,14 @@
 -- How large a sample is.
-use Rattle.std.specs.Prelude.{◌≡◌, ℕ, zero, suc, ◌+◌, ◌*◌, ◌/◌, ◌%◌, ◌<◌, ◌≤◌, List, [], ◌∷◌, ◌++◌, length, map, flat_map, take, drop}
-use Rattle.std.proofs.Common.{refl, sym, ◌∙◌, ap, subst, arith, inl, inr, length-append}
+use Rattle.std.specs.Prelude.{◌≡◌, ℕ, ◌+◌, ◌*◌, ◌<◌, ◌≤◌, List, [], ◌∷◌, ◌++◌, length, map, flat_map}
+use Rattle.std.proofs.Common.{refl, ◌∙◌, ap, arith, length-append}
 use Rattle.std.proofs.lemmas.Nat.{mul-le}
 use Rattle.std.proofs.lemmas.List.{length-map}
 use Rattle.iges_fields.specs.declared.TheConstants.{FILE_LIMIT}
 use Rattle.iges_fields.specs.declared.value.Value.{Value}
 use Rattle.iges_directory.specs.declared.entry.Entry.{Entry}
-use Rattle.iges_params.specs.Contents.{Contents, value_count}
+use Rattle.iges_params.specs.Contents.{value_count}
 use Rattle.iges_params.specs.Limits.{FitsLimits}
-use Rattle.solid_data.proofs.Members.{Has, total, fold-total}
+use Rattle.solid_data.proofs.Members.{total, fold-total}
 use Rattle.sample_solids.specs.Sample.{squares, whole, face_listed, vertex_listed, edges_listed, shell_record, vertex_record, edge_record, first_entries, face_entries, sample}
 use Rattle.sample_solids.proofs.Squares.{length_squares, length_chunks}
 

@@ -1,13 +1,13 @@
 -- The squares of a mesh, by their places.
-use Rattle.std.specs.Prelude.{◌≡◌, ℕ, zero, suc, ◌+◌, ◌*◌, ◌/◌, ◌%◌, ◌<◌, ◌≤◌, List, [], ◌∷◌, ◌++◌, length, map, flat_map, take, Some, None, slice_get}
-use Rattle.std.proofs.Common.{refl, sym, ◌∙◌, ap, subst, arith, inl, inr, ⊎_elim, get_or, length-append}
+use Rattle.std.specs.Prelude.{◌≡◌, ℕ, zero, suc, ◌+◌, ◌*◌, ◌/◌, ◌%◌, ◌<◌, ◌≤◌, List, [], ◌∷◌, ◌++◌, length, map, flat_map, take, Some, slice_get}
+use Rattle.std.proofs.Common.{refl, sym, ◌∙◌, ap, arith, inl, inr, get_or, length-append}
 use Rattle.std.proofs.Math.Nat.{mod-eq_of_lt, mod-lt, mul_comm}
-use Rattle.std.proofs.lemmas.Nat.{mul-add-lt, div-mul-add, mod-mul-add, same_from_place, div-add-mod', div_below}
+use Rattle.std.proofs.lemmas.Nat.{div-add-mod', div_below}
 use Rattle.std.proofs.lemmas.List.{take_more, length-map, map-append, append-nil, take_all}
 use Rattle.std.proofs.lemmas.List.Concat.{flat_map-append}
 use Rattle.std.proofs.lemmas.Option.{get_or_from_slice_get}
 use Rattle.solid_data.specs.Ring.{numbers_from}
-use Rattle.solid_data.proofs.Members.{Has, from_flat_map, has_map, has_flat_map, map_has, get_below, some_inj, total, fold-total}
+use Rattle.solid_data.proofs.Members.{Has, from_flat_map, has_map, some_inj}
 use Rattle.iges_fields.specs.declared.value.Value.{Value}
 use Rattle.sample_solids.specs.Sample.{squares, square, whole}
 

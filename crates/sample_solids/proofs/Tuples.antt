@@ -1,20 +1,19 @@
 -- The edges and the uses that a sample's records tell.
-use Rattle.std.specs.Prelude.{◌≡◌, ℕ, zero, suc, ◌+◌, ◌-◌, ◌*◌, ◌%◌, ◌<◌, ◌≤◌, Bool, true, false, ℤ, pos, List, [], ◌∷◌, ◌++◌, length, map, flat_map, Option, Some, None, slice_get}
-use Rattle.std.proofs.Common.{refl, sym, ◌∙◌, ap, subst, arith, inl, inr}
+use Rattle.std.specs.Prelude.{◌≡◌, ℕ, ◌+◌, ◌-◌, ◌*◌, ◌%◌, ◌<◌, true, false, ℤ, pos, List, [], ◌∷◌, ◌++◌, map, flat_map, Some, slice_get}
+use Rattle.std.proofs.Common.{refl, ◌∙◌, ap, arith, inl, inr}
 use Rattle.std.proofs.Math.Nat.{mod-eq_of_lt}
 use Rattle.std.proofs.lemmas.List.{append-nil}
 use Rattle.iges_params.specs.Contents.{Contents}
 use Rattle.iges_params.specs.Named.{named, record_values}
 use Rattle.brep_lists.specs.Record.{EntityKind, solid, shell, face, «loop», edges, vertices, SolidItems, FaceItems, LoopTuple, items_of}
-use Rattle.brep_lists.specs.declared.edge_list.EdgeTuple.{EdgeTuple}
 use Rattle.brep_walk.specs.Places.{told, shells, faces, loops, tuples, edge_at, numbers}
 use Rattle.brep_walk.specs.SolidOf.{all_tuples}
 use Rattle.solid_data.proofs.Members.{Has}
-use Rattle.sample_solids.specs.Sample.{squares, square, vertex_index, across_index, up_index, face_number, whole, entry, shell_record, vertex_record, edge_record, face_record, loop_record, sample}
+use Rattle.sample_solids.specs.Sample.{squares, square, vertex_index, across_index, up_index, face_number, entry, shell_record, vertex_record, edge_record, face_record, loop_record, sample}
 use Rattle.sample_solids.proofs.Squares.{get_chunk, squares_get, squares_below, square_small}
 use Rattle.sample_solids.proofs.Growing.{AnEntry}
 use Rattle.sample_solids.proofs.Round.{next}
-use Rattle.sample_solids.proofs.Mesh.{Side, near, right, far, left, is_along, vertex, across, up, edge_of, start_of}
+use Rattle.sample_solids.proofs.Mesh.{Side, near, right, far, left, is_along, vertex, across, up, edge_of}
 use Rattle.sample_solids.proofs.Records.{solid_named, shell_named, vertices_named, edges_named, face_named, loop_named, face_item, shell_items, vertex_item, vertex_items, edge_tuple, edge_items_of, edge_items, use_tuple, loop_tuples}
 
 -- ---- indices, where i and j are below n

@@ -106,7 +106,7 @@ fn put_square(alloc: Global, file: &mut File, n: u32, k: u32) -> Result<(), NoMe
 pub fn sample_file(alloc: Global, n: u32) -> Result<File, NoMemory>
     requires low { 3 ≤ n }
     requires high { n ≤ 200 }
-    ensures { IfOk result (λ f. f ≡ sample n) }
+    ensures found { IfOk result (λ f. f ≡ sample n) }
 {
     let mut file = first_entries(alloc, n)?;
     'squares: for k in 0..n * n {
