@@ -3,8 +3,8 @@
 ghost use Rattle.iges_directory.specs.Bounds.{IsBounded};
 ghost use Rattle.iges_fields.specs.declared.TheConstants.{FILE_LIMIT};
 ghost use Rattle.iges_params.specs.Contents.{value_count};
-ghost use Rattle.std.specs.Prelude.{◌≡◌, ◌≢◌, ◌∷◌, ◌++◌, [], ◌+◌, ◌*◌, ◌<◌, ◌≤◌, IfOk, OnOk, IsTrue, map, length, pos};
-ghost use Rattle.sample_solids.specs.Sample.{plain, whole, sample, no_values, start_line, face_record, loop_record};
+ghost use Rattle.std.specs.Prelude.{◌≡◌, ◌∷◌, ◌++◌, [], ◌+◌, ◌*◌, ◌<◌, ◌≤◌, IfOk, OnOk, length};
+ghost use Rattle.sample_solids.specs.Sample.{plain, sample, no_values, start_line};
 ghost use Rattle.sample_solids.specs.Stages.{stage};
 
 use crate::values::{
@@ -101,8 +101,8 @@ fn put_square(alloc: Global, file: &mut File, n: u32, k: u32) -> Result<(), NoMe
     put(file, 508, 1, loop_values(alloc, n, i, j)?)
 }
 
-/// The sample of n: a solid, entry 1, whose n times n faces are squares that close a torus, with 2 n n edges and n n
-/// vertices. All its values are integers. (own)
+/// The sample of n, from 3 to 200: a file whose solid, entry 1, is a mesh of n times n squares that closes to a torus,
+/// with 2 n n edges and n n vertices. All its values are integers. It errs only where memory runs out. (own)
 pub fn sample_file(alloc: Global, n: u32) -> Result<File, NoMemory>
     requires low { 3 ≤ n }
     requires high { n ≤ 200 }

@@ -1,6 +1,6 @@
 //! The values of the records.
 
-ghost use Rattle.std.specs.Prelude.{◌≡◌, ◌∷◌, ◌++◌, [], ◌<◌, ◌≤◌, IfOk, OnOk, map, length};
+ghost use Rattle.std.specs.Prelude.{◌≡◌, ◌++◌, ◌<◌, ◌≤◌, IfOk, OnOk, map};
 ghost use Rattle.sample_solids.specs.Sample.{whole, shell_record, vertex_record, edge_record, face_record, loop_record, edges_listed, use_record};
 
 use crate::index::{across_index, face_number, up_index, vertex_index};
