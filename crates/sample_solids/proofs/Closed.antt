@@ -1,0 +1,23 @@
+-- Samples are closed.
+use Rattle.std.specs.Prelude.{ℕ, ◌<◌}
+use Rattle.std.proofs.Common.{arith}
+use Rattle.cert_maker.specs.Closed.{IsClosed}
+use Rattle.cert_maker.proofs.Exactly.{closed_exactly}
+use Rattle.sample_solids.specs.Sample.{sample}
+use Rattle.sample_solids.specs.Laws.{SamplesAreClosed, SamplesAreAccepted}
+use Rattle.sample_solids.proofs.Sizes.{fits}
+use Rattle.sample_solids.proofs.Made.{made}
+use Rattle.sample_solids.proofs.Placed.{places_hold}
+use Rattle.sample_solids.proofs.Rows.{solid_closed}
+use Rattle.sample_solids.proofs.Counts.{face_number, edge_number, vertex_number}
+
+is_closed : (n : ℕ) → 0 < n → IsClosed (sample n) 1
+is_closed n some = record { placed = places_hold n some; closed = solid_closed n some }
+
+pub closed : SamplesAreClosed
+closed n low high =
+    let some : 0 < n = omega (arith, low) in
+    record { made = made n high; closed = is_closed n some; faces = face_number n; edges = edge_number n some; vertices = vertex_number n some }
+
+pub accepted : SamplesAreAccepted
+accepted n low high = (closed_exactly (sample n) 1 (fits n high)).0 (is_closed n (omega (arith, low)))

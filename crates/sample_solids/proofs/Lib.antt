@@ -1,0 +1,14 @@
+pub mod Squares
+pub mod Sizes
+pub mod Growing
+pub mod Round
+pub mod Mesh
+pub mod Records
+pub mod Made
+pub mod Tuples
+pub mod Keys
+pub mod Rows
+pub mod Counts
+pub mod Placed
+pub mod Closed
+pub mod Smallest

@@ -1,0 +1,6 @@
+use Rattle.std.proofs.Common.{◌≡◌, ◌∷◌, map, flat_map, take, ◌*◌}
+use Rattle.sample_solids.specs.Sample.{squares, whole, face_listed}
+use Rattle.sample_solids.proofs.values.shell_values.Given as goal
+
+abbrev pub invariant-squares : goal.invariant-squares
+invariant-squares l = l.values ≡ map whole (l.n * l.n ∷ flat_map (face_listed l.n) (take l.k (squares l.n)))

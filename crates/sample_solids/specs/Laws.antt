@@ -1,0 +1,28 @@
+-- What holds of each sample.
+use Rattle.std.specs.Prelude.{◌≡◌, ℕ, ◌*◌, ◌≤◌, List, length, flat_map}
+use Rattle.iges_params.specs.Contents.{Contents}
+use Rattle.iges_params.specs.Made.{IsMade}
+use Rattle.brep_walk.specs.SolidOf.{solid_of}
+use Rattle.solid_data.specs.declared.solid.FaceUse.{FaceUse}
+use Rattle.solid_data.specs.declared.solid.Shell.{Shell}
+use Rattle.cert_maker.specs.Closed.{IsClosed}
+use Rattle.cert_maker.specs.Accepted.{IsAccepted}
+use Rattle.sample_solids.specs.Sample.{sample}
+
+abbrev pub faces_in : List Shell → List FaceUse
+faces_in shells = flat_map (λ (h : Shell). h.faces) shells
+
+-- The file can be made, its solid 1 is closed, and that has a face and a vertex for each of the n times n squares, and two edges.
+pub record IsClosedMesh (f : Contents) (n : ℕ) : Type 0 where
+  pub made : IsMade f
+  pub closed : IsClosed f 1
+  pub faces : length (faces_in (solid_of f 1).shells) ≡ n * n
+  pub edges : length (solid_of f 1).edges ≡ 2 * n * n
+  pub vertices : length (solid_of f 1).vertices ≡ n * n
+
+abbrev pub SamplesAreClosed : Type 0
+SamplesAreClosed = (n : ℕ) → 3 ≤ n → n ≤ 200 → IsClosedMesh (sample n) n
+
+-- Some certificate is accepted for each.
+abbrev pub SamplesAreAccepted : Type 0
+SamplesAreAccepted = (n : ℕ) → 3 ≤ n → n ≤ 200 → (certificate : List ℕ) × IsAccepted (sample n) 1 certificate

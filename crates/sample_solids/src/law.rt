@@ -1,0 +1,10 @@
+//! What holds of the samples by their definition.
+
+ghost use Rattle.sample_solids.specs.Laws.{SamplesAreClosed, SamplesAreAccepted};
+
+/// Each sample is a file that can be made, and its solid 1 is closed: a mesh of n n faces, 2 n n edges and n n
+/// vertices, for which some certificate is accepted. (own)
+pub fn samples_are_closed()
+    ensures closed { SamplesAreClosed }
+    ensures accepted { SamplesAreAccepted }
+{}
