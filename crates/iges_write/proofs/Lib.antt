@@ -13,3 +13,6 @@ pub mod Made
 pub mod Sheets
 pub mod EntryLines
 pub mod Pages
+pub mod Places
+pub mod BothPages
+pub mod WholeFile

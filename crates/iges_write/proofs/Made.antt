@@ -12,7 +12,7 @@ use Rattle.iges_fields.specs.Delims.{Delims, are_permitted}
 use Rattle.iges_fields.specs.InLine.{is_in_line, is_value}
 use Rattle.iges_fields.proofs.InLines.{free_text_values}
 use Rattle.iges_lines.specs.Lines.{columns, SectionLines, joined}
-use Rattle.iges_lines.specs.Sectioned.{IsNumbered, AreSections}
+use Rattle.iges_lines.specs.Sectioned.{IsNumbered}
 use Rattle.iges_lines.proofs.InLines.{columns_in_line}
 use Rattle.iges_lines.proofs.Kept.{sections_kept}
 use Rattle.iges_directory.specs.declared.entry.Entry.{Entry}

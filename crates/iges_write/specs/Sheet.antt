@@ -98,3 +98,24 @@ Steps (Err f) new next = Fails f next
 abbrev pub next_delimiter : Delims → List Value → ℕ
 next_delimiter d [] = d.end
 next_delimiter d (v ∷ values) = d.param
+
+-- ---- the sheets of the directory and of the records
+
+-- a sheet of the directory and one of records, with no line begun
+pub record Both (page params : Sheet) : Type 0 where
+  pub page_line : page.line ≡ []
+  pub page_width : page.width ≡ 72
+  pub params_line : params.line ≡ []
+  pub params_tail : params.tail ≡ []
+  pub params_width : params.width ≡ 64
+  pub limit : page.limit ≡ params.limit
+
+-- why two sheets are not made: their texts together are too large
+abbrev pub FailsBoth : WriteFileFault → Sheet → Sheet → Type 0
+FailsBoth fault.TooLarge page params = page.limit < length page.text + length params.text
+FailsBoth fault.NoMemory page params = Unit {0}
+
+-- the next two sheets, or together they are too large
+abbrev pub StepsBoth : {A : Type 0} → Result A WriteFileFault → Sheet → Sheet → Sheet → Sheet → Type 0
+StepsBoth (Ok x) page next_page params next_params = (page ≡ next_page) × (params ≡ next_params)
+StepsBoth (Err f) page next_page params next_params = FailsBoth f next_page next_params

@@ -40,18 +40,27 @@ entry_lines e first count = first_line e first ∷ second_line e count ∷ []
 abbrev pub has_no_record : Entry → Bool
 has_no_record e = int_eq e.kind (pos 0)
 
--- the directory of entries with the lines of their records, the first of which begins at this P line; an entry of type 0 has first line 0
+-- the first line of an entry's record, 0 where it has none
+abbrev pub first_of : Entry → ℕ → ℕ
+first_of e first = if has_no_record e then 0 else first
+
+-- the directory of entries with the lines of their records, the first of which begins at this P line
 abbrev pub directory_lines : ℕ → List (Entry × List Value) → List (List (List ℕ)) → List (List ℕ)
 directory_lines first (e ∷ es) (record_lines ∷ records) =
-    entry_lines e.0 (if has_no_record e.0 then 0 else first) (length record_lines) ++ directory_lines (first + length record_lines) es records
+    entry_lines e.0 (first_of e.0 first) (length record_lines) ++ directory_lines (first + length record_lines) es records
 directory_lines first _ _ = []
 
 -- the records, each line with its entry's number
 abbrev pub param_lines : List (List (List ℕ)) → List (List ℕ)
 param_lines records = flat_map (λ (r : ℕ × List (List ℕ)). map (λ l. l ++ 32 ∷ right 7 (decimal (2 * r.0 + 1))) r.1) (enumerate_from 0 records)
 
+-- a section's letter and the number of its lines
 abbrev pub count_field : ℕ → ℕ → List ℕ
 count_field section n = section ∷ right 7 (decimal n)
+
+-- the columns 1 to 72 of the terminate line, with the number of lines of each section
+abbrev pub counts_columns : ℕ → ℕ → ℕ → ℕ → List ℕ
+counts_columns start global directory params = count_field 83 start ++ count_field 71 global ++ count_field 68 directory ++ count_field 80 params ++ spaces 40
 
 -- the global names its delimiters as two texts before its values
 abbrev pub global_values : Global26 → List Value
@@ -67,7 +76,7 @@ text_lines f global records =
     let directory = directory_lines 1 f.entries records in
     let params = param_lines records in
     numbered 83 f.start ++ numbered 71 global ++ numbered 68 directory ++ numbered 80 params
-    ++ numbered 84 ((count_field 83 (length f.start) ++ count_field 71 (length global) ++ count_field 68 (length directory) ++ count_field 80 (length params) ++ spaces 40) ∷ [])
+    ++ numbered 84 (counts_columns (length f.start) (length global) (length directory) (length params) ∷ [])
 
 -- the canonical text of the file
 pub record IsText (f : Contents) (bytes : List ℕ) : Type 0 where

@@ -1,5 +1,6 @@
 ghost use Rattle.iges_fields.specs.declared.TheConstants.{FILE_LIMIT};
 ghost use Rattle.iges_fields.specs.declared.value.Value.TheVariants as value;
+ghost use Rattle.iges_write.specs.FileSheet.{blank};
 ghost use Rattle.iges_write.specs.Filling.{fill};
 ghost use Rattle.iges_write.specs.Parts.{parts, single_parts, value_parts, word_parts};
 ghost use Rattle.iges_write.specs.Sheet.{Steps, add, append_text, begin, end_line, make_room, next_delimiter, put_lines, put_part, put_parts, record_tail, with_tail};
@@ -45,7 +46,7 @@ impl Model for Page {
 impl Page {
     pub fn new(alloc: Global, limit: u64, letter: u8, width: usize) -> Page
         requires { limit ≤ FILE_LIMIT }
-        ensures { result ≡ record { text = []; line = []; tail = []; letter = letter; number = 1; width = width; limit = limit } }
+        ensures { result ≡ blank limit letter width }
     {
         Page {
             text: Vec::new(alloc),
