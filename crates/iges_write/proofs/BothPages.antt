@@ -1,18 +1,20 @@
 -- The sheets of the directory and of the records, side by side.
-use Rattle.std.proofs.Common.{◌≡◌, ℕ, ◌+◌, List, [], ◌++◌, length, drop, map, Some, refl, sym, ap, subst, ◌∙◌, arith, Result, Ok, Err}
+use Rattle.std.proofs.Common.{◌≡◌, ℕ, zero, suc, ◌+◌, ◌≤◌, true, false, List, [], ◌∷◌, ◌++◌, length, take, drop, map, Some, None, refl, sym, ap, subst, ◌∙◌, arith, Result, Ok, Err}
 use Rattle.std.specs.Prelude.{slice_get}
+use Rattle.std.specs.List.{AllByRecursion}
 use Rattle.std.specs.Result.{IsErrAnd}
+use Rattle.std.proofs.lemmas.Bool.{cond-true, cond-false}
+use Rattle.std.proofs.lemmas.List.{take_all}
 use Rattle.std.proofs.lemmas.Result.{err_from_is_err_and}
 use Rattle.iges_fields.specs.declared.value.Value.{Value}
 use Rattle.iges_fields.specs.Delims.{Delims}
 use Rattle.iges_directory.specs.declared.entry.Entry.{Entry}
 use Rattle.iges_write.specs.declared.fault.WriteFileFault.{WriteFileFault}
 use Rattle.iges_write.specs.declared.fault.WriteFileFault.TheVariants as fault
-use Rattle.std.proofs.Common.{true, false}
-use Rattle.std.proofs.lemmas.Bool.{cond-true, cond-false}
 use Rattle.iges_write.specs.Filling.{record_text_lines, used_lines}
 use Rattle.iges_write.specs.Sheet.{Sheet, Both, Fails, FailsBoth, Steps, StepsBoth, put_lines, record_tail}
 use Rattle.iges_write.specs.Text.{entry_lines, first_of, has_no_record, directory_lines}
+use Rattle.iges_write.specs.Writable.{IsHeld}
 use Rattle.iges_write.proofs.Places.{drop_at_place}
 use Rattle.iges_write.proofs.RecordsBack.{lines_from, owned, length-owned}
 use Rattle.iges_write.proofs.Sheets.{Grows, lines_next, lines_fail, lines_last, no_lines}
@@ -46,6 +48,11 @@ both_fail_on fault.NoMemory s t s2 t2 g g2 h = tt
 abbrev Entries : Type 0
 Entries = List (Entry × List Value)
 
+held_more : (xs : Entries) (i : ℕ) (e : Entry × List Value) → slice_get xs i ≡ Some e → AllByRecursion IsHeld (take i xs) → IsHeld e → AllByRecursion IsHeld (take (i + 1) xs)
+held_more [] i e at h k = absurd (let no : None ≡ Some e = at in cc)
+held_more (x ∷ xs) zero e at h k = (subst IsHeld (let same : e ≡ x = cc in same) k, tt)
+held_more (x ∷ xs) (suc i) e at h k = let n : suc i + 1 ≡ suc (i + 1) = omega arith in subst (λ (m : ℕ). AllByRecursion IsHeld (take m (x ∷ xs))) (sym n) (h.0, held_more xs i e at h.1 k)
+
 module _ (d : Delims) (es : Entries) where
   abbrev lines_of : Entries → List (List (List ℕ))
   lines_of xs = map (record_text_lines d) xs
@@ -55,9 +62,10 @@ module _ (d : Delims) (es : Entries) where
     pub directory : put_lines page (directory_lines params.number (drop i es) (lines_of (drop i es))) ≡ put_lines page_start (directory_lines params_start.number es (lines_of es))
     pub records : put_lines params (lines_from i (lines_of (drop i es))) ≡ put_lines params_start (lines_from 0 (lines_of es))
     pub both : Both page params
+    pub held : AllByRecursion IsHeld (take i es)
 
   pub put_none : (page params : Sheet) → Both page params → ArePut page params page params 0
-  put_none page params both = record { directory = refl; records = refl; both = both }
+  put_none page params both = record { directory = refl; records = refl; both = both; held = tt }
 
   module _ (page params page_start params_start : Sheet) (i : ℕ) (h : ArePut page params page_start params_start i) (e : Entry × List Value) (at : slice_get es i ≡ Some e) where
     abbrev lines : List (List ℕ)
@@ -82,8 +90,8 @@ module _ (d : Delims) (es : Entries) where
         (lines_fail page _ two (directory_lines (params.number + length lines) rest (lines_of rest)) _ directory_is h.directory)
         (lines_fail params _ (owned i lines) (lines_from (i + 1) (lines_of rest)) _ records_are h.records) fails
 
-    pub put_more : (new new_params : Sheet) → new ≡ put_lines page two → new_params ≡ put_lines params (owned i lines) → ArePut new new_params page_start params_start (i + 1)
-    put_more new new_params is params_is =
+    pub put_more : (new new_params : Sheet) → new ≡ put_lines page two → new_params ≡ put_lines params (owned i lines) → IsHeld e → ArePut new new_params page_start params_start (i + 1)
+    put_more new new_params is params_is held =
         let number_is : new_params.number ≡ params.number + length lines = ap (λ (x : Sheet). x.number) params_is ∙ ap (λ (k : ℕ). params.number + k) (length-owned i lines) in
         record {
           directory = ap (λ (k : ℕ). put_lines new (directory_lines k rest (lines_of rest))) number_is
@@ -97,6 +105,7 @@ module _ (d : Delims) (es : Entries) where
             params_width = ap (λ (x : Sheet). x.width) params_is ∙ h.both.params_width;
             limit = ap (λ (x : Sheet). x.limit) is ∙ h.both.limit ∙ sym (ap (λ (x : Sheet). x.limit) params_is);
           };
+          held = held_more es i e at h.held held;
         }
 
   pub put_all : (page params page_start params_start : Sheet) (i : ℕ) → ArePut page params page_start params_start i → drop i es ≡ []
@@ -105,6 +114,9 @@ module _ (d : Delims) (es : Entries) where
     lines_last page _ h.both.page_line (ap (λ (xs : Entries). put_lines page (directory_lines params.number xs (lines_of xs))) (sym none) ∙ h.directory),
     lines_last params _ h.both.params_line (ap (λ (xs : Entries). put_lines params (lines_from i (lines_of xs))) (sym none) ∙ h.records),
   )
+
+  pub all_held : (page params page_start params_start : Sheet) (i : ℕ) → ArePut page params page_start params_start i → length es ≤ i → AllByRecursion IsHeld es
+  all_held page params page_start params_start i h past = subst (AllByRecursion IsHeld) (take_all i es past) h.held
 
 -- ---- one entry
 

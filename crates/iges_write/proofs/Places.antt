@@ -1,5 +1,6 @@
 -- The entry at a place of a file, and lists from a place on.
-use Rattle.std.proofs.Common.{◌≡◌, ℕ, zero, suc, ◌+◌, ◌*◌, ◌/◌, ◌%◌, ◌<◌, Bool, true, false, List, [], ◌∷◌, length, drop, pos, Some, None, refl, ap, ◌∙◌, arith}
+use Rattle.std.proofs.Common.{◌≡◌, ℕ, zero, suc, ◌+◌, ◌*◌, ◌/◌, ◌%◌, ◌<◌, Bool, true, false, List, [], ◌∷◌, length, drop, pos, Some, None, refl, ap, ◌∙◌, arith, subst, sym}
+use Rattle.std.specs.List.{AllByRecursion, list_all}
 use Rattle.std.specs.Prelude.{slice_get, option_map}
 use Rattle.std.specs.Ordering.{int_eq}
 use Rattle.std.proofs.Math.Seq.{drop-cons}
@@ -10,7 +11,10 @@ use Rattle.iges_directory.specs.declared.entry.Entry.{Entry}
 use Rattle.iges_directory.specs.Named.{unless_unused}
 use Rattle.iges_params.specs.Contents.{Contents}
 use Rattle.iges_params.specs.Named.{kind_of, named}
+use Rattle.iges_fields.specs.InLine.{is_value}
+use Rattle.iges_params.specs.Made.{IsMadeEntry}
 use Rattle.iges_write.specs.Text.{has_no_record}
+use Rattle.iges_write.specs.Writable.{IsHeld}
 
 -- the items from a place on begin with the one there
 pub drop_at_place : {X : Type 0} (xs : List X) (i : ℕ) (x : X) → slice_get xs i ≡ Some x → drop i xs ≡ x ∷ drop (i + 1) xs
@@ -58,3 +62,17 @@ pub some_at : {X : Type 0} (xs : List X) (i : ℕ) → i < length xs → (x : X)
 some_at [] i h = absurd (omega (arith, h))
 some_at (x ∷ xs) zero h = (x, refl)
 some_at (x ∷ xs) (suc i) h = some_at xs i (omega (arith, h))
+
+-- ---- what is known of the entry at a place
+
+pub made_at : (es : List Record) (i : ℕ) (e : Record) → AllByRecursion IsMadeEntry es → slice_get es i ≡ Some e → IsMadeEntry e
+made_at [] i e h at = absurd (let no : None ≡ Some e = at in cc)
+made_at (x ∷ es) zero e h at = subst IsMadeEntry (let same : x ≡ e = cc in same) h.0
+made_at (x ∷ es) (suc i) e h at = made_at es i e h.1 at
+
+pub held_at : (e : Record) (entry : Entry) (values : List Value) → entry ≡ e.0 → values ≡ e.1 → list_all is_value values ≡ true → (length entry.status ≡ 8) × (length entry.label ≡ 8) → IsHeld e
+held_at e entry values is values_is ok eight = record {
+  status = ap (λ (x : Entry). length x.status) (sym is) ∙ eight.0;
+  label = ap (λ (x : Entry). length x.label) (sym is) ∙ eight.1;
+  values = ap (list_all is_value) (sym values_is) ∙ ok;
+}

@@ -1,6 +1,9 @@
 -- The sections of a file one after the other are its text.
 use Rattle.std.proofs.Common.{◌≡◌, ℕ, ◌-◌, ◌<◌, ◌≤◌, List, [], ◌∷◌, ◌++◌, length, refl, sym, ap, subst, ◌∙◌, arith, length-append, Result, Ok, Err}
-use Rattle.std.specs.Prelude.{IfOk}
+use Rattle.std.specs.Prelude.{IfOk, OnOk}
+use Rattle.iges_fields.specs.declared.TheConstants.{FILE_LIMIT}
+use Rattle.iges_params.specs.IsFile.{IsFile}
+use Rattle.iges_write.specs.Writable.{IsWritable}
 use Rattle.iges_params.specs.Contents.{Contents}
 use Rattle.iges_write.specs.declared.counts.Counts.{Counts}
 use Rattle.iges_write.specs.declared.fault.WriteFileFault.{WriteFileFault}
@@ -9,7 +12,7 @@ use Rattle.iges_write.specs.FileSheet.{blank, with_front, with_directory, params
 use Rattle.iges_write.specs.Filling.{global_lines, records_lines, text_of}
 use Rattle.iges_write.specs.Sheet.{Sheet, Fails, page_lines}
 use Rattle.iges_write.specs.Text.{counts_columns, directory_lines, param_lines, IsText}
-use Rattle.iges_write.proofs.FileBack.{IsText-text_of, text_of-IsText}
+use Rattle.iges_write.proofs.FileBack.{reads_back, IsText-text_of, text_of-IsText}
 use Rattle.iges_write.proofs.Pages.{text_pages}
 
 -- what is too large stays it, as the text grows
@@ -94,3 +97,9 @@ module _ (limit : ℕ) (f : Contents) where
   only_large_text (Ok got) h bytes t lt = absurd (let e = ap length (IsText-text_of f bytes t) in omega (arith, h.1, e, lt))
   only_large_text (Err fault.TooLarge) h bytes t lt = refl
   only_large_text (Err fault.NoMemory) h bytes t lt = tt
+
+  pub text_back : limit ≤ FILE_LIMIT → (r : Answer) → Writes limit r (text_of f) → OnOk r (IsWritable f) → IfOk r (λ bytes. IsFile bytes f)
+  text_back most (Ok bytes) h w =
+      let long : length bytes ≤ limit = omega (arith, h.1, ap length h.0) in
+      reads_back f bytes w (subst (IsText f) (sym h.0) (text_of-IsText f)) (omega (arith, long, most))
+  text_back most (Err fault) h w = tt

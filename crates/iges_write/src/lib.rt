@@ -1,4 +1,4 @@
-//! The canonical text of a file.
+//! The canonical text of a file, and the laws that it is one and reads back.
 #![tactic(auto)]
 
 mod column;

@@ -1,10 +1,11 @@
+ghost use Rattle.iges_fields.specs.Delims.{are_permitted};
 ghost use Rattle.iges_fields.specs.declared.TheConstants.{FILE_LIMIT};
 ghost use Rattle.iges_fields.specs.declared.value.Value.TheVariants as value;
 ghost use Rattle.iges_write.specs.FileSheet.{blank};
 ghost use Rattle.iges_write.specs.Filling.{fill};
 ghost use Rattle.iges_write.specs.Parts.{parts, single_parts, value_parts, word_parts};
 ghost use Rattle.iges_write.specs.Sheet.{Steps, add, append_text, begin, end_line, make_room, next_delimiter, put_lines, put_part, put_parts, record_tail, with_tail};
-ghost use Rattle.std.specs.Prelude.{◌≡◌, ◌+◌, ◌<◌, ◌≤◌, ◌^◌, [], ◌∷◌, ◌++◌, length, map, IfOk};
+ghost use Rattle.std.specs.Prelude.{◌≡◌, ◌+◌, ◌<◌, ◌≤◌, ◌^◌, [], ◌∷◌, ◌++◌, length, map, IfOk, IsTrue};
 
 use crate::column::{finish_line, put_right};
 use crate::fault::WriteFileFault;
@@ -257,8 +258,9 @@ impl Page {
     }
 
     fn put_delimiters(&mut self, delims: &Delimiters, behind: u8) -> Result<(), WriteFileFault>
-        ensures { Steps result self.new (put_parts self.old (value_parts self.old.width (value.Text (delims.now.param ∷ [])) delims.now.param
+        ensures steps { Steps result self.new (put_parts self.old (value_parts self.old.width (value.Text (delims.now.param ∷ [])) delims.now.param
             ++ value_parts self.old.width (value.Text (delims.now.end ∷ [])) behind)) }
+        ensures permitted { IsTrue (are_permitted delims.now) }
     {
         let param = delims.param();
         self.put_text(&[param], param)?;
@@ -272,8 +274,9 @@ impl Page {
         delims: &Delimiters,
     ) -> Result<(), WriteFileFault>
         requires { self.old.line ≡ [] }
-        ensures { Steps result self.new (put_lines self.old (fill self.old.width [] (parts self.old.width delims.now
+        ensures steps { Steps result self.new (put_lines self.old (fill self.old.width [] (parts self.old.width delims.now
             (value.Text (delims.now.param ∷ []) ∷ value.Text (delims.now.end ∷ []) ∷ values.now)))) }
+        ensures permitted { IsTrue (are_permitted delims.now) }
     {
         self.put_delimiters(delims, delimiter_before(values, delims))?;
         self.put_values(values, delims)?;

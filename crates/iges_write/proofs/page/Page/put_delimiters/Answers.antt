@@ -5,16 +5,16 @@ use Rattle.iges_write.specs.Sheet.{Sheet, Steps, put_parts}
 use Rattle.iges_write.proofs.Sheets.{failed, two_fails, two_both, parts_width}
 use Rattle.iges_write.proofs.page.Page.put_delimiters.Goals as goal
 
-pub returns-in_err-put_text : goal.returns-in_err-put_text
-returns-in_err-put_text c =
+pub returns-in_err-put_text-clause-steps : goal.returns-in_err-put_text-clause-steps
+returns-in_err-put_text-clause-steps c =
     let s = c.args.self.now in
     let part = λ (b : ℕ). value_parts s.width (value.Text (b ∷ [])) b in
     failed c.from_residual.result _ (put_parts s (part c.param-param.result)) _ _
     (two_fails s (part c.args.delims.now.param) (value_parts s.width (value.Text (c.args.delims.now.end ∷ [])) c.args.behind) (part c.param-param.result) (ap part c.param-param.ensures.is))
     (c.in_err-put_text.ensures {u = tt}) c.from_residual.ensures.1
 
-pub returns : goal.returns
-returns c =
+pub returns-clause-steps : goal.returns-clause-steps
+returns-clause-steps c =
     let s = c.args.self.now in
     let t = c.put_text.new.self in
     let part = λ (b : ℕ). value_parts s.width (value.Text (b ∷ [])) b in
