@@ -1,5 +1,5 @@
 -- The fields of the terminate line and of the directory's lines.
-use Rattle.std.proofs.Common.{◌≡◌, inl, inr, ℕ, zero, suc, ◌+◌, ◌*◌, ◌<◌, true, false, cond, List, [], ◌∷◌, ◌++◌, length, take, drop, get_or, ℤ, pos, Some, refl, sym, ap, subst, ◌∙◌, append_assoc, arith, length-append, lit<}
+use Rattle.std.proofs.Common.{◌≡◌, inl, inr, ℕ, zero, suc, ◌+◌, ◌*◌, ◌<◌, true, false, List, [], ◌∷◌, ◌++◌, length, take, drop, get_or, ℤ, pos, Some, refl, sym, ap, subst, ◌∙◌, append_assoc, arith, length-append, lit<}
 use Rattle.std.specs.Prelude.{◌==◌}
 use Rattle.std.specs.Char.{is_ascii_digit}
 use Rattle.std.specs.Fmt.{decimal, signed_decimal}
@@ -14,7 +14,7 @@ use Rattle.iges_lines.specs.Sectioned.{IsCount, IsTerminate}
 use Rattle.iges_directory.specs.declared.entry.Entry.{Entry}
 use Rattle.iges_directory.specs.declared.entry.Placed.{Placed}
 use Rattle.iges_directory.specs.Entries.{status_of, IsEntry, has_record, AreEntries}
-use Rattle.iges_write.specs.Text.{right, column, has_no_record, directory_lines, count_field}
+use Rattle.iges_write.specs.Text.{right, column, has_no_record, first_of, directory_lines, count_field, counts_columns}
 use Rattle.iges_directory.specs.Bounds.{fits_columns}
 use Rattle.iges_write.proofs.WritableEntry.{IsWritableEntry}
 use Rattle.iges_write.proofs.Columns.{length-right, right_7, right_8, line_numbered, numbered_from}
@@ -47,10 +47,7 @@ length-count x n = ap suc (length-right 7 (decimal n))
 count_holds : (x n : ℕ) → n < 10000000 → IsCount x n (count_field x n)
 count_holds x n lt = (refl, right_7 n lt)
 
-abbrev pub counts_line : ℕ → ℕ → ℕ → ℕ → List ℕ
-counts_line s g d p = count_field 83 s ++ count_field 71 g ++ count_field 68 d ++ count_field 80 p ++ spaces 40
-
-counts_chunks : (s g d p : ℕ) → counts_line s g d p ≡ concat (count_field 83 s ∷ count_field 71 g ∷ count_field 68 d ∷ count_field 80 p ∷ []) ++ spaces 40
+counts_chunks : (s g d p : ℕ) → counts_columns s g d p ≡ concat (count_field 83 s ∷ count_field 71 g ∷ count_field 68 d ∷ count_field 80 p ∷ []) ++ spaces 40
 counts_chunks s g d p =
     let a = count_field 83 s in
     let b = count_field 71 g in
@@ -58,8 +55,8 @@ counts_chunks s g d p =
     let e = count_field 80 p in
     ap (λ (x : List ℕ). x ++ spaces 40) (append_assoc (a ++ b) c e ∙ append_assoc a b (c ++ e) ∙ ap (λ (x : List ℕ). a ++ (b ++ (c ++ x))) (sym (append-nil e)))
 
-pub length-counts_line : (s g d p : ℕ) → length (counts_line s g d p) ≡ 72
-length-counts_line s g d p =
+pub length-counts_columns : (s g d p : ℕ) → length (counts_columns s g d p) ≡ 72
+length-counts_columns s g d p =
     let a = count_field 83 s in
     let b = count_field 71 g in
     let c = count_field 68 d in
@@ -67,14 +64,14 @@ length-counts_line s g d p =
     omega (arith, length-count 83 s, length-count 71 g, length-count 68 d, length-count 80 p, length-append (a ++ b ++ c ++ e) (spaces 40), length-append (a ++ b ++ c) e, length-append (a ++ b) c, length-append a b)
 
 pub terminates : (t : SectionLines) (s g d p : ℕ) → length t.start ≡ s → length t.global ≡ g → length t.directory ≡ d → length t.param ≡ p
-    → s < 10000000 → g < 10000000 → d < 10000000 → p < 10000000 → IsTerminate t (counts_line s g d p ++ 84 ∷ right 7 (decimal 1))
+    → s < 10000000 → g < 10000000 → d < 10000000 → p < 10000000 → IsTerminate t (counts_columns s g d p ++ 84 ∷ right 7 (decimal 1))
 terminates t s g d p es eg ed ep ls lg ld lp =
     let tail = spaces 40 ++ 84 ∷ right 7 (decimal 1) in
     let cs = count_field 83 s ∷ count_field 71 g ∷ count_field 68 d ∷ count_field 80 p ∷ [] in
     let eight : Are8 cs = (length-count 83 s, (length-count 71 g, (length-count 68 d, (length-count 80 p, tt)))) in
-    let whole : counts_line s g d p ++ 84 ∷ right 7 (decimal 1) ≡ concat cs ++ tail = ap (λ (x : List ℕ). x ++ 84 ∷ right 7 (decimal 1)) (counts_chunks s g d p) ∙ append_assoc (concat cs) (spaces 40) (84 ∷ right 7 (decimal 1)) in
+    let whole : counts_columns s g d p ++ 84 ∷ right 7 (decimal 1) ≡ concat cs ++ tail = ap (λ (x : List ℕ). x ++ 84 ∷ right 7 (decimal 1)) (counts_chunks s g d p) ∙ append_assoc (concat cs) (spaces 40) (84 ∷ right 7 (decimal 1)) in
     record {
-      numbered = line_numbered 84 1 (counts_line s g d p) (length-counts_line s g d p) (lit< tt);
+      numbered = line_numbered 84 1 (counts_columns s g d p) (length-counts_columns s g d p) (lit< tt);
       start = held 83 (length t.start) s _ es (ap (λ (x : List ℕ). take 8 (drop 0 x)) whole ∙ chunk 0 cs tail eight (lit< tt)) ls;
       global = held 71 (length t.global) g _ eg (ap (λ (x : List ℕ). take 8 (drop 8 x)) whole ∙ chunk 1 cs tail eight (lit< tt)) lg;
       directory = held 68 (length t.directory) d _ ed (ap (λ (x : List ℕ). take 8 (drop 16 x)) whole ∙ chunk 2 cs tail eight (lit< tt)) ld;
@@ -143,14 +140,10 @@ module _ (e : Entry) (vs : List Value) (w : IsWritableEntry (e, vs)) (first coun
 
 -- ---- the whole directory
 
--- the first P line that an entry's directory line has
-abbrev pub first_line : Entry → ℕ → ℕ
-first_line e first = cond (has_no_record e) 0 first
-
 abbrev pub placed_of : ℕ → List (Entry × List Value) → List (List (List ℕ)) → List Placed
 placed_of first [] rs = []
 placed_of first (e ∷ es) [] = []
-placed_of first (e ∷ es) (r ∷ rs) = record { entry = e.0; first = pos (first_line e.0 first); count = pos (length r) } ∷ placed_of (first + length r) es rs
+placed_of first (e ∷ es) (r ∷ rs) = record { entry = e.0; first = pos (first_of e.0 first); count = pos (length r) } ∷ placed_of (first + length r) es rs
 
 abbrev pub total : List (List (List ℕ)) → ℕ
 total [] = 0
@@ -160,7 +153,7 @@ total (r ∷ rs) = length r + total rs
 abbrev pub Lined : Entry × List Value → List (List ℕ) → Type 0
 Lined e r = has_no_record e.0 ≡ false → 0 < length r
 
-pub small_first : (e : Entry) (first : ℕ) → first < 10000000 → first_line e first < 10000000
+pub small_first : (e : Entry) (first : ℕ) → first < 10000000 → first_of e first < 10000000
 small_first e first lt = elim (cases_Bool (has_no_record e)) [
   | inl t ↦ subst (λ (n : ℕ). n < 10000000) (sym (cond-true (has_no_record e) 0 first t)) (lit< tt)
   | inr t ↦ subst (λ (n : ℕ). n < 10000000) (sym (cond-false (has_no_record e) 0 first t)) lt
@@ -172,15 +165,15 @@ entries_are n k first [] [] w l some is small = tt
 entries_are n k first [] (r ∷ rs) w l some is small = absurd l
 entries_are n k first (e ∷ es) [] w l some is small = absurd l
 entries_are n k first (e ∷ es) (r ∷ rs) w l some is small = (
-  entry_held e.0 e.1 w.0 (first_line e.0 first) (length r) (small_first e.0 first (omega (arith, is, small))) (omega (arith, is, small)) (68 ∷ right 7 (decimal k)) (68 ∷ right 7 (decimal (k + 1))),
+  entry_held e.0 e.1 w.0 (first_of e.0 first) (length r) (small_first e.0 first (omega (arith, is, small))) (omega (arith, is, small)) (68 ∷ right 7 (decimal k)) (68 ∷ right 7 (decimal (k + 1))),
   range,
   entries_are n (k + 1 + 1) (first + length r) es rs w.1 l.1 (omega arith) (omega (arith, is)) small,
 )
   where
-    range : has_record n e.0.kind (pos (first_line e.0 first)) (pos (length r)) ≡ true
+    range : has_record n e.0.kind (pos (first_of e.0 first)) (pos (length r)) ≡ true
     range = elim (cases_Bool (has_no_record e.0)) [
       | inl t ↦ or_left (int_eq e.0.kind (pos 0)) _ t
       | inr t ↦
-          let f : first_line e.0 first ≡ first = cond-false (has_no_record e.0) 0 first t in
-          or_right (int_eq e.0.kind (pos 0)) _ (and_from _ _ (and_from _ _ (le-leb 1 (first_line e.0 first) (omega (arith, f))) (le-leb 1 (length r) (l.0 t))) (le-leb (first_line e.0 first + length r) (n + 1) (omega (arith, f, is))))
+          let f : first_of e.0 first ≡ first = cond-false (has_no_record e.0) 0 first t in
+          or_right (int_eq e.0.kind (pos 0)) _ (and_from _ _ (and_from _ _ (le-leb 1 (first_of e.0 first) (omega (arith, f))) (le-leb 1 (length r) (l.0 t))) (le-leb (first_of e.0 first + length r) (n + 1) (omega (arith, f, is))))
     ]

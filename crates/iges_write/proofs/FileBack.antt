@@ -21,7 +21,7 @@ use Rattle.iges_params.specs.IsFile.{IsFile}
 use Rattle.iges_write.specs.Parts.{parts}
 use Rattle.iges_write.specs.Filled.{IsFilled}
 use Rattle.iges_write.specs.Filling.{fill, record_text_lines, text_of}
-use Rattle.iges_write.specs.Text.{right, column, numbered, entry_lines, has_no_record, directory_lines, count_field, global_values, IsRecordText, text_lines, IsText}
+use Rattle.iges_write.specs.Text.{first_of, counts_columns, right, column, numbered, entry_lines, has_no_record, directory_lines, count_field, global_values, IsRecordText, text_lines, IsText}
 use Rattle.iges_fields.specs.InLine.{is_in_line, is_value}
 use Rattle.iges_directory.specs.Bounds.{fits_columns}
 use Rattle.iges_params.specs.Made.{is_start_line}
@@ -31,7 +31,7 @@ use Rattle.iges_write.proofs.Filling.{IsFilled-fill, fill-is}
 use Rattle.iges_write.proofs.Back.{values_spelled, parts_fit}
 use Rattle.iges_write.proofs.Columns.{no_LF, IsLine, Are72, length-right, numbered_from, numbered-AreNumbered, columns-numbered, text-numbered, length-numbered, lines-text}
 use Rattle.iges_write.proofs.Clean.{both_no_LF, spaces_no_LF, number_no_LF, in_line_no_LF, decimal_no_LF, right_no_LF, IsClean, value_lines_clean, numbered_line, numbered_lines, clean_72}
-use Rattle.iges_write.proofs.Fields.{Are8, length-column, small_column, small_first, counts_line, length-counts_line, terminates, first_line, placed_of, total, Lined, entries_are}
+use Rattle.iges_write.proofs.Fields.{Are8, length-column, small_column, small_first, length-counts_columns, terminates, placed_of, total, Lined, entries_are}
 use Rattle.iges_write.proofs.GlobalBack.{filled_global}
 use Rattle.iges_write.proofs.RecordsBack.{kind_value, lines_from, owned, length-owned, IsMade, records_are}
 
@@ -122,14 +122,14 @@ directory_72 : (first : ℕ) (es : List (Entry × List Value)) (rs : List Lines)
 directory_72 first [] rs w = tt
 directory_72 first (e ∷ es) [] w = tt
 directory_72 first (e ∷ es) (r ∷ rs) w =
-    append_72 (entry_lines e.0 (first_line e.0 first) (length r)) (directory_lines (first + length r) es rs) (long_lines e.0 e.1 w.0 (first_line e.0 first) (length r)) (directory_72 (first + length r) es rs w.1)
+    append_72 (entry_lines e.0 (first_of e.0 first) (length r)) (directory_lines (first + length r) es rs) (long_lines e.0 e.1 w.0 (first_of e.0 first) (length r)) (directory_72 (first + length r) es rs w.1)
 
 directory_clean : (first : ℕ) (es : List (Entry × List Value)) (rs : List Lines) → AllByRecursion IsWritableEntry es → first + total rs < 10000000 → AllByRecursion (IsClean 72) (directory_lines first es rs)
 directory_clean first [] rs w lt = tt
 directory_clean first (e ∷ es) [] w lt = tt
 directory_clean first (e ∷ es) (r ∷ rs) w lt =
-    append_clean (entry_lines e.0 (first_line e.0 first) (length r)) (directory_lines (first + length r) es rs)
-    (clean_lines e.0 e.1 w.0 (first_line e.0 first) (length r) (small_first e.0 first (omega (arith, lt))) (omega (arith, lt))) (directory_clean (first + length r) es rs w.1 (omega (arith, lt)))
+    append_clean (entry_lines e.0 (first_of e.0 first) (length r)) (directory_lines (first + length r) es rs)
+    (clean_lines e.0 e.1 w.0 (first_of e.0 first) (length r) (small_first e.0 first (omega (arith, lt))) (omega (arith, lt))) (directory_clean (first + length r) es rs w.1 (omega (arith, lt)))
 
 -- ---- the records' lines
 
@@ -213,7 +213,7 @@ module _ (f : Contents) (w : IsWritable f) (bytes : List ℕ) (t : IsText f byte
   P = lines_from 0 t.records
 
   abbrev counts : List ℕ
-  counts = counts_line (length f.start) (length t.global) (length D) (length P)
+  counts = counts_columns (length f.start) (length t.global) (length D) (length P)
 
   abbrev secs : SectionLines
   secs = record { start = numbered 83 f.start; global = numbered 71 t.global; directory = numbered 68 D; param = numbered 80 P }
@@ -248,7 +248,7 @@ module _ (f : Contents) (w : IsWritable f) (bytes : List ℕ) (t : IsText f byte
       let b = size-numbered 71 1 t.global (clean_72 t.global global_ok) in
       let c = size-numbered 68 1 D (directory_72 1 f.entries t.records entries_ok) in
       let e = size-numbered 80 1 P (params_72 d 0 f.entries t.records made) in
-      let l = size-numbered 84 1 (counts ∷ []) (length-counts_line (length f.start) (length t.global) (length D) (length P), tt) in
+      let l = size-numbered 84 1 (counts ∷ []) (length-counts_columns (length f.start) (length t.global) (length D) (length P), tt) in
       let all : length bytes ≡ size (joined secs ++ last ∷ []) = ap length t.bytes_are ∙ ap size whole_lines in
       omega (arith, all, a, b, c, e, l, size-append (joined secs) (last ∷ []), size-append (secs.start ++ secs.global ++ secs.directory) secs.param, size-append (secs.start ++ secs.global) secs.directory, size-append secs.start secs.global)
 

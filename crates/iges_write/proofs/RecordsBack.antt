@@ -16,13 +16,13 @@ use Rattle.iges_directory.specs.declared.entry.Entry.{Entry}
 use Rattle.iges_params.specs.Records.{record_lines, points_back, IsRecord, HasRecord, AreRecords}
 use Rattle.iges_write.specs.Parts.{parts}
 use Rattle.iges_write.specs.Filled.{IsFilled}
-use Rattle.iges_write.specs.Text.{right, has_no_record, IsRecordText}
+use Rattle.iges_write.specs.Text.{first_of, right, has_no_record, IsRecordText}
 use Rattle.iges_directory.specs.Bounds.{fits_columns}
 use Rattle.iges_write.proofs.WritableEntry.{IsWritableEntry}
 use Rattle.iges_write.proofs.Back.{AreSpelled, values_spelled, parts_fit, IsFilled-FreeText}
 use Rattle.iges_write.proofs.Columns.{length-right, right_7, numbered_from}
 use Rattle.iges_write.proofs.Clean.{IsClean}
-use Rattle.iges_write.proofs.Fields.{first_line, placed_of}
+use Rattle.iges_write.proofs.Fields.{placed_of}
 
 abbrev Lines : Type 0
 Lines = List (List ℕ)
@@ -89,20 +89,20 @@ kind_value (negsuc m) h = and_from (nat_le m 9223372036854775807) true (le-leb m
 
 module _ (d : Delims) where
   one_record : (i first : ℕ) (before : Lines) (e : Entry × List Value) (r rest : Lines) → IsWritableEntry e → IsMade d e r → length before + 1 ≡ first → 2 * i + 1 < 10000000
-      → HasRecord (before ++ (numbered_from 80 first (owned i r) ++ rest)) d (2 * i + 1) (record { entry = e.0; first = pos (first_line e.0 first); count = pos (length r) }) e.1
+      → HasRecord (before ++ (numbered_from 80 first (owned i r) ++ rest)) d (2 * i + 1) (record { entry = e.0; first = pos (first_of e.0 first); count = pos (length r) }) e.1
   one_record i first before e r rest w m is lt = by_type (has_no_record e.0) refl
     where
-      by_type : (b : Bool) → has_no_record e.0 ≡ b → HasRecord (before ++ (numbered_from 80 first (owned i r) ++ rest)) d (2 * i + 1) (record { entry = e.0; first = pos (first_line e.0 first); count = pos (length r) }) e.1
-      by_type true t = subst (λ (b : Bool). MatchBool b (e.1 ≡ []) (IsRecord (before ++ (numbered_from 80 first (owned i r) ++ rest)) d (2 * i + 1) (record { entry = e.0; first = pos (first_line e.0 first); count = pos (length r) }) e.1)) (sym t) (w.unused t)
+      by_type : (b : Bool) → has_no_record e.0 ≡ b → HasRecord (before ++ (numbered_from 80 first (owned i r) ++ rest)) d (2 * i + 1) (record { entry = e.0; first = pos (first_of e.0 first); count = pos (length r) }) e.1
+      by_type true t = subst (λ (b : Bool). MatchBool b (e.1 ≡ []) (IsRecord (before ++ (numbered_from 80 first (owned i r) ++ rest)) d (2 * i + 1) (record { entry = e.0; first = pos (first_of e.0 first); count = pos (length r) }) e.1)) (sym t) (w.unused t)
       by_type false t =
-          let f : first_line e.0 first ≡ first = cond-false (has_no_record e.0) 0 first t in
-          let lines : record_lines (before ++ (numbered_from 80 first (owned i r) ++ rest)) (record { entry = e.0; first = pos (first_line e.0 first); count = pos (length r) }) ≡ numbered_from 80 first (owned i r) =
+          let f : first_of e.0 first ≡ first = cond-false (has_no_record e.0) 0 first t in
+          let lines : record_lines (before ++ (numbered_from 80 first (owned i r) ++ rest)) (record { entry = e.0; first = pos (first_of e.0 first); count = pos (length r) }) ≡ numbered_from 80 first (owned i r) =
           ap (λ (n : ℕ). slice_range (before ++ (numbered_from 80 first (owned i r) ++ rest)) (n - 1) (n - 1 + length r)) f
           ∙ mine_lines before (numbered_from 80 first (owned i r)) rest first (length r) is (length-numbered_from first (owned i r) ∙ length-owned i r) in
           let filled : IsFilled 64 (parts 64 d (value.Int e.0.kind ∷ e.1)) r = subst (λ (b : Bool). MatchBool b (r ≡ []) (IsFilled 64 (parts 64 d (value.Int e.0.kind ∷ e.1)) r)) t m.text in
           let spelled : AreSpelled (value.Int e.0.kind ∷ e.1) = values_spelled (value.Int e.0.kind ∷ e.1) (and_from _ _ (kind_value e.0.kind w.bounded.kind) w.values) in
           let free = IsFilled-FreeText 64 d (value.Int e.0.kind) e.1 r (lit< tt) spelled (parts_fit 64 d (value.Int e.0.kind ∷ e.1) (lit< tt)) filled in
-          subst (λ (b : Bool). MatchBool b (e.1 ≡ []) (IsRecord (before ++ (numbered_from 80 first (owned i r) ++ rest)) d (2 * i + 1) (record { entry = e.0; first = pos (first_line e.0 first); count = pos (length r) }) e.1)) (sym t)
+          subst (λ (b : Bool). MatchBool b (e.1 ≡ []) (IsRecord (before ++ (numbered_from 80 first (owned i r) ++ rest)) d (2 * i + 1) (record { entry = e.0; first = pos (first_of e.0 first); count = pos (length r) }) e.1)) (sym t)
           (record {
             pointers = ap (list_all (points_back (2 * i + 1))) lines ∙ mine_points i first r m.clean lt;
             used = free.0;

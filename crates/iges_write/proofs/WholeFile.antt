@@ -8,7 +8,8 @@ use Rattle.iges_params.specs.Contents.{Contents}
 use Rattle.iges_write.specs.declared.counts.Counts.{Counts}
 use Rattle.iges_write.specs.declared.fault.WriteFileFault.{WriteFileFault}
 use Rattle.iges_write.specs.declared.fault.WriteFileFault.TheVariants as fault
-use Rattle.iges_write.specs.FileSheet.{blank, with_front, with_directory, params_sheet, with_records, with_counts, file_sheet, Writes, Gives}
+use Rattle.iges_write.specs.FileSheet.{blank, with_front, with_directory, params_sheet, with_records, with_counts, file_sheet, Writes}
+use Rattle.iges_write.specs.Gives.{Gives}
 use Rattle.iges_write.specs.Filling.{global_lines, records_lines, text_of}
 use Rattle.iges_write.specs.Sheet.{Sheet, Fails, page_lines}
 use Rattle.iges_write.specs.Text.{counts_columns, directory_lines, param_lines, IsText}
@@ -40,6 +41,9 @@ module _ (limit : ℕ) (f : Contents) where
   abbrev last : List (List ℕ)
   last = counts_columns (length f.start) (length (global_lines f.global)) (length directory) (length params) ∷ []
 
+  abbrev finished : List ℕ → Sheet
+  finished text = record { text = text; line = []; tail = []; letter = 84; number = 2; width = 72; limit = limit }
+
   text_is : records.text ++ page_lines [] 84 1 last ≡ text_of f
   text_is = sym (text_pages f (global_lines f.global) (records_lines f))
 
@@ -68,10 +72,11 @@ module _ (limit : ℕ) (f : Contents) where
         let g : counts.global ≡ length (global_lines f.global) = omega (arith, global_count, ap (λ (x : Sheet). x.number) both_is) in
         let d : counts.directory ≡ length directory = omega (arith, directory_count, ap (λ (x : Sheet). x.number) t_whole) in
         let p : counts.params ≡ length params = omega (arith, params_count, ap (λ (x : Sheet). x.number) u_whole) in
-        ap (λ (x : Sheet). with_counts x counts) t_whole
-        ∙ ap (λ (columns : List ℕ). record { text = records.text ++ page_lines [] 84 1 (columns ∷ []); line = []; tail = []; letter = 84; number = 2; width = 72; limit = limit })
-        (same_columns counts.start counts.global counts.directory counts.params _ _ _ _ start_count g d p)
-        ∙ ap (λ (text : List ℕ). record { text = text; line = []; tail = []; letter = 84; number = 2; width = 72; limit = limit }) text_is
+        let put : with_counts t counts ≡ with_counts records counts = ap (λ (x : Sheet). with_counts x counts) t_whole in
+        let counted : finished (records.text ++ page_lines [] 84 1 (counts_columns counts.start counts.global counts.directory counts.params ∷ [])) ≡ finished (records.text ++ page_lines [] 84 1 last) =
+        ap (λ (columns : List ℕ). finished (records.text ++ page_lines [] 84 1 (columns ∷ [])))
+        (same_columns counts.start counts.global counts.directory counts.params _ _ _ _ start_count g d p) in
+        put ∙ counted ∙ ap finished text_is
 
 -- ---- what a file's text within a limit is, by its definition
 

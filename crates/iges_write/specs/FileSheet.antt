@@ -41,9 +41,3 @@ abbrev pub Writes : ℕ → Result (List ℕ) WriteFileFault → List ℕ → Ty
 Writes limit (Ok bytes) text = (bytes ≡ text) × (length text ≤ limit)
 Writes limit (Err fault.TooLarge) text = limit < length text
 Writes limit (Err fault.NoMemory) text = Unit {0}
-
--- the answer that is due, unless memory runs out
-abbrev pub Gives : Result (List ℕ) WriteFileFault → Result (List ℕ) WriteFileFault → Type 0
-Gives (Ok bytes) due = Ok bytes ≡ due
-Gives (Err fault.TooLarge) due = Err fault.TooLarge ≡ due
-Gives (Err fault.NoMemory) due = Unit {0}
