@@ -18,6 +18,7 @@ pub struct Counts {
     pub params: u64,
 }
 
+// A section's letter, and the number of its lines in seven columns.
 fn put_count(line: &mut Vec<u8>, letter: u8, count: u64) -> Result<(), NoMemory>
     ensures { IfOk result (λ _. line.new.items ≡ line.old.items ++ count_field letter count) }
 {
@@ -25,6 +26,7 @@ fn put_count(line: &mut Vec<u8>, letter: u8, count: u64) -> Result<(), NoMemory>
     put_right(line, 7, Buffer::new().format(count).as_bytes())
 }
 
+// The columns 1 to 72 of the terminate line, in place of `line`.
 fn put_columns(line: &mut Vec<u8>, counts: &Counts) -> Result<(), NoMemory>
     ensures { IfOk result (λ _. (line.new.items ≡ counts_columns counts.now.start counts.now.global counts.now.directory counts.now.params) × (length line.new.items ≡ 72)) }
 {
@@ -37,7 +39,7 @@ fn put_columns(line: &mut Vec<u8>, counts: &Counts) -> Result<(), NoMemory>
     Ok(())
 }
 
-/// The terminate line.
+/// Puts the terminate line. `line` is a scratch buffer.
 pub fn put_terminate(
     page: &mut Page,
     line: &mut Vec<u8>,

@@ -69,7 +69,7 @@ fn put_at(
     }
 }
 
-/// The two lines of each entry, and beside them the records, which stand in the same order. One pass makes both, since an
+/// Puts the two lines of each entry, and beside them the records, which stand in the same order. One pass makes both, since an
 /// entry's lines say where its record stands. `line` is a scratch buffer.
 pub fn put_entries(
     page: &mut Page,

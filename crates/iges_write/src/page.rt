@@ -14,7 +14,8 @@ use itoa::Buffer;
 use std::alloc::Global;
 use std::marker::Model;
 
-/// Lines that are written one after the other.
+/// Lines that are written one after the other: those that stand, each with its section's letter and its number, and the
+/// line being made. A section has lines of `width` free columns, 72, or 64 where `tail` stands behind them.
 #[derive(Drop)]
 pub struct Page {
     text: Vec<u8>,
@@ -45,6 +46,7 @@ impl Model for Page {
 }
 
 impl Page {
+    /// No lines yet. The text grows to at most `limit` bytes.
     pub fn new(alloc: Global, limit: u64, letter: u8, width: usize) -> Page
         requires { limit ≤ FILE_LIMIT }
         ensures { result ≡ blank limit letter width }
@@ -60,8 +62,8 @@ impl Page {
         }
     }
 
-    /// Ends the line being made.
-    pub fn end_line(&mut self) -> Result<(), WriteFileFault>
+    // Ends the line being made.
+    fn end_line(&mut self) -> Result<(), WriteFileFault>
         ensures { Steps result self.new (end_line self.old) }
     {
         finish_line(
@@ -80,14 +82,15 @@ impl Page {
         Ok(())
     }
 
-    /// Appends to the line being made.
-    pub fn add(&mut self, bytes: &[u8]) -> Result<(), WriteFileFault>
+    // Appends to the line being made.
+    fn add(&mut self, bytes: &[u8]) -> Result<(), WriteFileFault>
         ensures { Steps result self.new (add self.old bytes.now) }
     {
         self.line.extend_from_slice(bytes)?;
         Ok(())
     }
 
+    // Ends the line being made where it has no room for so many bytes.
     fn make_room(&mut self, size: usize) -> Result<(), WriteFileFault>
         requires { size ≤ 2 ^ 63 }
         ensures { Steps result self.new (make_room self.old size) }
@@ -98,6 +101,7 @@ impl Page {
         self.end_line()
     }
 
+    // Puts bytes that may not be cut.
     fn put_part(&mut self, part: &[u8]) -> Result<(), WriteFileFault>
         ensures { Steps result self.new (put_part self.old part.now) }
     {
@@ -105,7 +109,7 @@ impl Page {
         self.add(part)
     }
 
-    /// Each byte is a part.
+    // Each byte is a part.
     fn put_singles(&mut self, bytes: &[u8]) -> Result<(), WriteFileFault>
         ensures { Steps result self.new (put_parts self.old (single_parts bytes.now)) }
     {
@@ -117,6 +121,7 @@ impl Page {
         Ok(())
     }
 
+    // A word and the delimiter behind it, which no line holds.
     fn put_long_word(&mut self, word: &[u8], end: u8) -> Result<(), WriteFileFault>
         requires { self.old.width ≤ length word.now }
         ensures { Steps result self.new (put_parts self.old (word_parts self.old.width (word.now ++ end ∷ []))) }
@@ -127,6 +132,7 @@ impl Page {
         self.put_part(&[end])
     }
 
+    // A word and the delimiter behind it, which a line holds.
     fn put_short_word(&mut self, word: &[u8], end: u8) -> Result<(), WriteFileFault>
         requires { length word.now < self.old.width }
         ensures { Steps result self.new (put_parts self.old (word_parts self.old.width (word.now ++ end ∷ []))) }
@@ -136,6 +142,7 @@ impl Page {
         self.add(&[end])
     }
 
+    // A word and the byte behind it.
     fn put_word(&mut self, word: &[u8], end: u8) -> Result<(), WriteFileFault>
         ensures { Steps result self.new (put_parts self.old (word_parts self.old.width (word.now ++ end ∷ []))) }
     {
@@ -146,8 +153,8 @@ impl Page {
         }
     }
 
-    /// A text and the delimiter behind it.
-    pub fn put_text(&mut self, text: &[u8], delimiter: u8) -> Result<(), WriteFileFault>
+    // A text and the delimiter behind it.
+    fn put_text(&mut self, text: &[u8], delimiter: u8) -> Result<(), WriteFileFault>
         ensures { Steps result self.new (put_parts self.old (value_parts self.old.width (value.Text text.now) delimiter)) }
     {
         self.put_word(Buffer::new().format(text.len()).as_bytes(), b'H')?;
@@ -155,13 +162,14 @@ impl Page {
         self.put_part(&[delimiter])
     }
 
-    /// An integer and the delimiter behind it.
-    pub fn put_integer(&mut self, n: &i64, delimiter: u8) -> Result<(), WriteFileFault>
+    // An integer and the delimiter behind it.
+    fn put_integer(&mut self, n: &i64, delimiter: u8) -> Result<(), WriteFileFault>
         ensures { Steps result self.new (put_parts self.old (value_parts self.old.width (value.Int n.now) delimiter)) }
     {
         self.put_word(Buffer::new().format(*n).as_bytes(), delimiter)
     }
 
+    // A value and the delimiter behind it.
     fn put_value(&mut self, value: &Value, delimiter: u8) -> Result<(), WriteFileFault>
         ensures { Steps result self.new (put_parts self.old (value_parts self.old.width value.now delimiter)) }
     {
@@ -173,12 +181,8 @@ impl Page {
         }
     }
 
-    /// Values parted by the parameter delimiter and ended by the record delimiter.
-    pub fn put_values(
-        &mut self,
-        values: &[Value],
-        delims: &Delimiters,
-    ) -> Result<(), WriteFileFault>
+    // Values parted by the parameter delimiter and ended by the record delimiter.
+    fn put_values(&mut self, values: &[Value], delims: &Delimiters) -> Result<(), WriteFileFault>
         ensures { Steps result self.new (put_parts self.old (parts self.old.width delims.now values.now)) }
     {
         let mut rest = values;
@@ -189,7 +193,7 @@ impl Page {
         Ok(())
     }
 
-    /// Begins a section.
+    /// Begins a section: its lines have this letter, so many free columns, and are numbered from 1.
     pub fn begin(&mut self, letter: u8, width: usize)
         ensures { self.new ≡ begin self.old letter width }
     {
@@ -200,7 +204,7 @@ impl Page {
         self.width = width;
     }
 
-    /// A line of which all columns are given.
+    /// Puts a line of which all free columns are given.
     pub fn put_line(&mut self, columns: &[u8]) -> Result<(), WriteFileFault>
         requires long { length columns.now ≡ self.old.width }
         requires empty { self.old.line ≡ [] }
@@ -210,6 +214,7 @@ impl Page {
         self.end_line()
     }
 
+    // The type number and the values of a record.
     fn fill_record(
         &mut self,
         kind: &i64,
@@ -224,6 +229,7 @@ impl Page {
         self.end_line()
     }
 
+    // From here on an entry's number stands behind the free columns.
     fn set_tail(&mut self, number: u64) -> Result<(), NoMemory>
         ensures { IfOk result (λ _. self.new ≡ with_tail self.old (record_tail number)) }
     {
@@ -232,13 +238,14 @@ impl Page {
         put_right(&mut self.tail, 7, Buffer::new().format(number).as_bytes())
     }
 
+    // From here on nothing stands behind the free columns.
     fn clear_tail(&mut self)
         ensures { self.new ≡ with_tail self.old [] }
     {
         self.tail.clear();
     }
 
-    /// The record of an entry with this number.
+    /// Puts the record of the entry with this number, on lines of its own.
     pub fn put_record(
         &mut self,
         number: u64,
@@ -257,6 +264,7 @@ impl Page {
         Ok(())
     }
 
+    // The two delimiters as texts, and a byte behind them.
     fn put_delimiters(&mut self, delims: &Delimiters, behind: u8) -> Result<(), WriteFileFault>
         ensures steps { Steps result self.new (put_parts self.old (value_parts self.old.width (value.Text (delims.now.param ∷ [])) delims.now.param
             ++ value_parts self.old.width (value.Text (delims.now.end ∷ [])) behind)) }
@@ -267,7 +275,7 @@ impl Page {
         self.put_text(&[delims.end()], behind)
     }
 
-    /// The global: its delimiters as two texts, and its values.
+    /// Puts the global: its delimiters as two texts, and its values.
     pub fn put_global(
         &mut self,
         values: &[Value],
@@ -311,8 +319,8 @@ impl Page {
     }
 }
 
-/// The delimiter before these values.
-pub fn delimiter_before(values: &[Value], delims: &Delimiters) -> u8
+// The delimiter before these values.
+fn delimiter_before(values: &[Value], delims: &Delimiters) -> u8
     ensures { result ≡ next_delimiter delims.now values.now }
 {
     if values.is_empty() {

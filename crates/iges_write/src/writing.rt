@@ -70,6 +70,7 @@ fn put_file(alloc: Global, page: &mut Page, limit: u64, file: &File) -> Result<(
     put_terminate(page, &mut line, &counts)
 }
 
+// The text, within the limit.
 fn write(alloc: Global, file: &File, limit: u64) -> Result<Bytes, WriteFileFault>
     requires { limit ≤ FILE_LIMIT }
     ensures text { Writes limit result (text_of file.now) }
