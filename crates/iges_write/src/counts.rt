@@ -1,0 +1,53 @@
+ghost use Rattle.iges_write.specs.FileSheet.{with_counts};
+ghost use Rattle.iges_write.specs.Sheet.{Steps};
+ghost use Rattle.iges_write.specs.Text.{count_field, counts_columns};
+ghost use Rattle.std.specs.Prelude.{◌≡◌, ◌++◌, IfOk, length};
+
+use crate::column::{put_right, put_spaces};
+use crate::fault::WriteFileFault;
+use crate::page::Page;
+use iges_fields::NoMemory;
+use itoa::Buffer;
+
+/// How many lines each section has.
+#[derive(Clone, Copy, Debug)]
+pub struct Counts {
+    pub start: u64,
+    pub global: u64,
+    pub directory: u64,
+    pub params: u64,
+}
+
+// A section's letter, and the number of its lines in seven columns.
+fn put_count(line: &mut Vec<u8>, letter: u8, count: u64) -> Result<(), NoMemory>
+    ensures { IfOk result (λ _. line.new.items ≡ line.old.items ++ count_field letter count) }
+{
+    line.push(letter)?;
+    put_right(line, 7, Buffer::new().format(count).as_bytes())
+}
+
+// The columns 1 to 72 of the terminate line, in place of `line`.
+fn put_columns(line: &mut Vec<u8>, counts: &Counts) -> Result<(), NoMemory>
+    ensures { IfOk result (λ _. (line.new.items ≡ counts_columns counts.now.start counts.now.global counts.now.directory counts.now.params) × (length line.new.items ≡ 72)) }
+{
+    line.clear();
+    put_count(line, b'S', counts.start)?;
+    put_count(line, b'G', counts.global)?;
+    put_count(line, b'D', counts.directory)?;
+    put_count(line, b'P', counts.params)?;
+    put_spaces(line, 40)?;
+    Ok(())
+}
+
+/// Puts the terminate line. `line` is a scratch buffer.
+pub fn put_terminate(
+    page: &mut Page,
+    line: &mut Vec<u8>,
+    counts: &Counts,
+) -> Result<(), WriteFileFault>
+    ensures { Steps result page.new (with_counts page.old counts.now) }
+{
+    put_columns(line, counts)?;
+    page.begin(b'T', 72);
+    page.put_line(line.as_slice())
+}

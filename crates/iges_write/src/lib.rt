@@ -1,0 +1,19 @@
+//! The canonical text of a file, and the laws that it is one and reads back.
+#![tactic(auto)]
+
+mod column;
+mod counts;
+mod entries;
+mod entry;
+mod fault;
+mod law;
+mod page;
+mod start;
+mod writing;
+
+pub use fault::WriteFileFault;
+pub use law::{every_file_has_one_text, every_read_file_can_be_made, every_text_reads_back};
+pub use writing::write_file;
+
+#[cfg(test)]
+mod tests;

@@ -1,0 +1,331 @@
+ghost use Rattle.iges_fields.specs.Delims.{are_permitted};
+ghost use Rattle.iges_fields.specs.declared.TheConstants.{FILE_LIMIT};
+ghost use Rattle.iges_fields.specs.declared.value.Value.TheVariants as value;
+ghost use Rattle.iges_write.specs.FileSheet.{blank};
+ghost use Rattle.iges_write.specs.Filling.{fill};
+ghost use Rattle.iges_write.specs.Parts.{parts, single_parts, value_parts, word_parts};
+ghost use Rattle.iges_write.specs.Sheet.{Steps, add, append_text, begin, end_line, make_room, next_delimiter, put_lines, put_part, put_parts, record_tail, with_tail};
+ghost use Rattle.std.specs.Prelude.{◌≡◌, ◌+◌, ◌<◌, ◌≤◌, ◌^◌, [], ◌∷◌, ◌++◌, length, map, IfOk, IsTrue};
+
+use crate::column::{finish_line, put_right};
+use crate::fault::WriteFileFault;
+use iges_fields::{Bytes, Delimiters, NoMemory, Value};
+use itoa::Buffer;
+use std::alloc::Global;
+use std::marker::Model;
+
+/// Lines that are written one after the other: those that stand, each with its section's letter and its number, and the
+/// line being made. A section has lines of `width` free columns, 72, or 64 where `tail` stands behind them.
+#[derive(Drop)]
+pub struct Page {
+    text: Vec<u8>,
+    line: Vec<u8>,
+    tail: Vec<u8>,
+    letter: u8,
+    number: u64,
+    width: usize,
+    limit: u64,
+}
+
+impl Model for Page {
+    ghost use Rattle.iges_write.specs.Sheet.{IsSheet, Sheet};
+
+    ghost Value = { Sheet };
+
+    ghost view = { λ p. record {
+      text = p.text.items;
+      line = p.line.items;
+      tail = p.tail.items;
+      letter = p.letter;
+      number = p.number;
+      width = p.width;
+      limit = p.limit;
+    } };
+
+    ghost invariant = { λ p. IsSheet p.text.items p.number p.limit };
+}
+
+impl Page {
+    /// No lines yet. The text grows to at most `limit` bytes.
+    pub fn new(alloc: Global, limit: u64, letter: u8, width: usize) -> Page
+        requires { limit ≤ FILE_LIMIT }
+        ensures { result ≡ blank limit letter width }
+    {
+        Page {
+            text: Vec::new(alloc),
+            line: Vec::new(alloc),
+            tail: Vec::new(alloc),
+            letter,
+            number: 1,
+            width,
+            limit,
+        }
+    }
+
+    // Ends the line being made.
+    fn end_line(&mut self) -> Result<(), WriteFileFault>
+        ensures { Steps result self.new (end_line self.old) }
+    {
+        finish_line(
+            &mut self.line,
+            self.width,
+            self.tail.as_slice(),
+            self.letter,
+            self.number,
+        )?;
+        if self.line.len() as u64 > self.limit - self.text.len() as u64 {
+            return Err(WriteFileFault::TooLarge);
+        }
+        self.text.extend_from_slice(self.line.as_slice())?;
+        self.line.clear();
+        self.number += 1;
+        Ok(())
+    }
+
+    // Appends to the line being made.
+    fn add(&mut self, bytes: &[u8]) -> Result<(), WriteFileFault>
+        ensures { Steps result self.new (add self.old bytes.now) }
+    {
+        self.line.extend_from_slice(bytes)?;
+        Ok(())
+    }
+
+    // Ends the line being made where it has no room for so many bytes.
+    fn make_room(&mut self, size: usize) -> Result<(), WriteFileFault>
+        requires { size ≤ 2 ^ 63 }
+        ensures { Steps result self.new (make_room self.old size) }
+    {
+        if self.line.len() + size <= self.width {
+            return Ok(());
+        }
+        self.end_line()
+    }
+
+    // Puts bytes that may not be cut.
+    fn put_part(&mut self, part: &[u8]) -> Result<(), WriteFileFault>
+        ensures { Steps result self.new (put_part self.old part.now) }
+    {
+        self.make_room(part.len())?;
+        self.add(part)
+    }
+
+    // Each byte is a part.
+    fn put_singles(&mut self, bytes: &[u8]) -> Result<(), WriteFileFault>
+        ensures { Steps result self.new (put_parts self.old (single_parts bytes.now)) }
+    {
+        let mut rest = bytes;
+        'bytes: while let Some((byte, others)) = rest.split_first() {
+            self.put_part(&[*byte])?;
+            rest = others;
+        }
+        Ok(())
+    }
+
+    // A word and the delimiter behind it, which no line holds.
+    fn put_long_word(&mut self, word: &[u8], end: u8) -> Result<(), WriteFileFault>
+        requires { self.old.width ≤ length word.now }
+        ensures { Steps result self.new (put_parts self.old (word_parts self.old.width (word.now ++ end ∷ []))) }
+    {
+        let (front, behind) = word.split_at(self.width);
+        self.put_part(front)?;
+        self.put_singles(behind)?;
+        self.put_part(&[end])
+    }
+
+    // A word and the delimiter behind it, which a line holds.
+    fn put_short_word(&mut self, word: &[u8], end: u8) -> Result<(), WriteFileFault>
+        requires { length word.now < self.old.width }
+        ensures { Steps result self.new (put_parts self.old (word_parts self.old.width (word.now ++ end ∷ []))) }
+    {
+        self.make_room(word.len() + 1)?;
+        self.add(word)?;
+        self.add(&[end])
+    }
+
+    // A word and the byte behind it.
+    fn put_word(&mut self, word: &[u8], end: u8) -> Result<(), WriteFileFault>
+        ensures { Steps result self.new (put_parts self.old (word_parts self.old.width (word.now ++ end ∷ []))) }
+    {
+        if word.len() < self.width {
+            self.put_short_word(word, end)
+        } else {
+            self.put_long_word(word, end)
+        }
+    }
+
+    // A text and the delimiter behind it.
+    fn put_text(&mut self, text: &[u8], delimiter: u8) -> Result<(), WriteFileFault>
+        ensures { Steps result self.new (put_parts self.old (value_parts self.old.width (value.Text text.now) delimiter)) }
+    {
+        self.put_word(Buffer::new().format(text.len()).as_bytes(), b'H')?;
+        self.put_singles(text)?;
+        self.put_part(&[delimiter])
+    }
+
+    // An integer and the delimiter behind it.
+    fn put_integer(&mut self, n: &i64, delimiter: u8) -> Result<(), WriteFileFault>
+        ensures { Steps result self.new (put_parts self.old (value_parts self.old.width (value.Int n.now) delimiter)) }
+    {
+        self.put_word(Buffer::new().format(*n).as_bytes(), delimiter)
+    }
+
+    // A value and the delimiter behind it.
+    fn put_value(&mut self, value: &Value, delimiter: u8) -> Result<(), WriteFileFault>
+        ensures { Steps result self.new (put_parts self.old (value_parts self.old.width value.now delimiter)) }
+    {
+        match value {
+            Value::Default => self.put_word(b"", delimiter),
+            Value::Int(n) => self.put_integer(n, delimiter),
+            Value::Real(word) => self.put_word(word.as_slice(), delimiter),
+            Value::Text(text) => self.put_text(text.as_slice(), delimiter),
+        }
+    }
+
+    // Values parted by the parameter delimiter and ended by the record delimiter.
+    fn put_values(&mut self, values: &[Value], delims: &Delimiters) -> Result<(), WriteFileFault>
+        ensures { Steps result self.new (put_parts self.old (parts self.old.width delims.now values.now)) }
+    {
+        let mut rest = values;
+        'values: while let Some((value, others)) = rest.split_first() {
+            self.put_value(value, delimiter_before(others, delims))?;
+            rest = others;
+        }
+        Ok(())
+    }
+
+    /// Begins a section: its lines have this letter, so many free columns, and are numbered from 1.
+    pub fn begin(&mut self, letter: u8, width: usize)
+        ensures { self.new ≡ begin self.old letter width }
+    {
+        self.line.clear();
+        self.tail.clear();
+        self.letter = letter;
+        self.number = 1;
+        self.width = width;
+    }
+
+    /// Puts a line of which all free columns are given.
+    pub fn put_line(&mut self, columns: &[u8]) -> Result<(), WriteFileFault>
+        requires long { length columns.now ≡ self.old.width }
+        requires empty { self.old.line ≡ [] }
+        ensures { Steps result self.new (put_lines self.old (columns.now ∷ [])) }
+    {
+        self.add(columns)?;
+        self.end_line()
+    }
+
+    // The type number and the values of a record.
+    fn fill_record(
+        &mut self,
+        kind: &i64,
+        values: &[Value],
+        delims: &Delimiters,
+    ) -> Result<(), WriteFileFault>
+        requires { self.old.line ≡ [] }
+        ensures { Steps result self.new (put_lines self.old (fill self.old.width [] (parts self.old.width delims.now (value.Int kind.now ∷ values.now)))) }
+    {
+        self.put_integer(kind, delimiter_before(values, delims))?;
+        self.put_values(values, delims)?;
+        self.end_line()
+    }
+
+    // From here on an entry's number stands behind the free columns.
+    fn set_tail(&mut self, number: u64) -> Result<(), NoMemory>
+        ensures { IfOk result (λ _. self.new ≡ with_tail self.old (record_tail number)) }
+    {
+        self.tail.clear();
+        self.tail.push(b' ')?;
+        put_right(&mut self.tail, 7, Buffer::new().format(number).as_bytes())
+    }
+
+    // From here on nothing stands behind the free columns.
+    fn clear_tail(&mut self)
+        ensures { self.new ≡ with_tail self.old [] }
+    {
+        self.tail.clear();
+    }
+
+    /// Puts the record of the entry with this number, on lines of its own.
+    pub fn put_record(
+        &mut self,
+        number: u64,
+        kind: &i64,
+        values: &[Value],
+        delims: &Delimiters,
+    ) -> Result<(), WriteFileFault>
+        requires empty { self.old.line ≡ [] }
+        requires no_tail { self.old.tail ≡ [] }
+        ensures { Steps result self.new (put_lines self.old (map (λ l. l ++ record_tail number)
+            (fill self.old.width [] (parts self.old.width delims.now (value.Int kind.now ∷ values.now))))) }
+    {
+        self.set_tail(number)?;
+        self.fill_record(kind, values, delims)?;
+        self.clear_tail();
+        Ok(())
+    }
+
+    // The two delimiters as texts, and a byte behind them.
+    fn put_delimiters(&mut self, delims: &Delimiters, behind: u8) -> Result<(), WriteFileFault>
+        ensures steps { Steps result self.new (put_parts self.old (value_parts self.old.width (value.Text (delims.now.param ∷ [])) delims.now.param
+            ++ value_parts self.old.width (value.Text (delims.now.end ∷ [])) behind)) }
+        ensures permitted { IsTrue (are_permitted delims.now) }
+    {
+        let param = delims.param();
+        self.put_text(&[param], param)?;
+        self.put_text(&[delims.end()], behind)
+    }
+
+    /// Puts the global: its delimiters as two texts, and its values.
+    pub fn put_global(
+        &mut self,
+        values: &[Value],
+        delims: &Delimiters,
+    ) -> Result<(), WriteFileFault>
+        requires { self.old.line ≡ [] }
+        ensures steps { Steps result self.new (put_lines self.old (fill self.old.width [] (parts self.old.width delims.now
+            (value.Text (delims.now.param ∷ []) ∷ value.Text (delims.now.end ∷ []) ∷ values.now)))) }
+        ensures permitted { IsTrue (are_permitted delims.now) }
+    {
+        self.put_delimiters(delims, delimiter_before(values, delims))?;
+        self.put_values(values, delims)?;
+        self.end_line()
+    }
+
+    /// The number of the line being made.
+    pub fn number(&self) -> u64
+        ensures { result ≡ self.now.number }
+    {
+        self.number
+    }
+
+    /// Appends the finished lines of another page.
+    pub fn append(&mut self, other: &Page) -> Result<(), WriteFileFault>
+        ensures { Steps result self.new (append_text self.old other.now.text) }
+    {
+        let more = other.text.as_slice();
+        if more.len() as u64 > self.limit - self.text.len() as u64 {
+            return Err(WriteFileFault::TooLarge);
+        }
+        self.text.extend_from_slice(more)?;
+        Ok(())
+    }
+
+    /// The finished lines. It takes no memory.
+    pub fn into_bytes(self) -> Bytes
+        ensures is { result ≡ self.text }
+        ensures within { length self.text ≤ self.limit }
+    {
+        Bytes::from_vec(self.text)
+    }
+}
+
+// The delimiter before these values.
+fn delimiter_before(values: &[Value], delims: &Delimiters) -> u8
+    ensures { result ≡ next_delimiter delims.now values.now }
+{
+    if values.is_empty() {
+        delims.end()
+    } else {
+        delims.param()
+    }
+}
