@@ -1,0 +1,3 @@
+pub mod AlikeLists
+pub mod Zips
+pub mod RelabelledSolids
