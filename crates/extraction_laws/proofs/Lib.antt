@@ -1,3 +1,11 @@
 pub mod AlikeLists
 pub mod Zips
+pub mod Renames
+pub mod Pointers
+pub mod KeptPlaces
 pub mod RelabelledSolids
+pub mod RenamedLists
+pub mod KeptSolid
+pub mod ExtractedEntries
+pub mod KeptVerdicts
+pub mod ExtractedSolid

@@ -3,4 +3,4 @@
 
 mod law;
 
-pub use law::relabelled_solids_fail_alike;
+pub use law::{places_are_kept, relabelled_solids_fail_alike, solid_is_kept};
