@@ -9,3 +9,4 @@ pub mod KeptSolid
 pub mod ExtractedEntries
 pub mod KeptVerdicts
 pub mod ExtractedSolid
+pub mod WholeVerdict

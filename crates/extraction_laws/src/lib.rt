@@ -3,4 +3,4 @@
 
 mod law;
 
-pub use law::{places_are_kept, relabelled_solids_fail_alike, solid_is_kept};
+pub use law::{places_are_kept, relabelled_solids_fail_alike, solid_is_kept, verdict_is_kept};
