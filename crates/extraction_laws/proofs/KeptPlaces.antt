@@ -189,9 +189,6 @@ module _ (f q : Contents) (K : ℕ → Type 0) (new : ℕ → ℕ) (g : ℤ → 
   unfolding face_places
   face_item_known s used before i p all = face_known s (length before + 1) (used ++ numbers before) i.0 p all
 
-  abbrev faces_of : ℤ → List ℤ
-  faces_of b = numbers (faces f b)
-
   abbrev shell_front : ℤ → ℕ → List ℤ → ℤ → List Obligation
   shell_front n place known s = record_places f n place shell s ++ (obligation Twice (entry_number n) place (¬ Contains known s) ∷ [])
 

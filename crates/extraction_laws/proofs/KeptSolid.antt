@@ -13,7 +13,7 @@ use Rattle.solid_data.specs.declared.solid.VertexKey.{VertexKey}
 use Rattle.solid_data.specs.declared.solid.LoopUse.TheVariants.{EdgeUse, VertexUse}
 use Rattle.solid_data.proofs.Members.{All-at, all_flat_map}
 use Rattle.brep_walk.specs.Places.{shells, faces, loops, tuples, edge_at, numbers, NamesKind, places}
-use Rattle.brep_walk.specs.SolidOf.{Keys, entry_no, edge_key, vertex_key, all_tuples, edge_named, ends_named, vertices_named, edge_keys, vertex_keys, use_by, loop_by, face_by, shell_by, numbered_by, edge_by, keys_of, solid_of}
+use Rattle.brep_walk.specs.SolidOf.{Keys, edge_key, vertex_key, all_tuples, edge_named, ends_named, vertices_named, edge_keys, vertex_keys, use_by, loop_by, face_by, shell_by, numbered_by, edge_by, keys_of, solid_of}
 use Rattle.solid_extract.specs.Kept.{renamed_pair, renamed_tuple, renamed_edge}
 use Rattle.extraction_laws.specs.Relabelled.{IsRelabelledLoop, IsRelabelledFace, IsRelabelledShell, IsRelabelledVertex, IsRelabelledEdge, IsRelabelled}
 use Rattle.extraction_laws.proofs.Zips.{zip_append}
@@ -45,9 +45,6 @@ module _ (f q : Contents) (K : ℕ → Type 0) (new : ℕ → ℕ) (g : ℤ → 
   N = IsNew K new
 
   -- ---- keys
-
-  entry_new : (z : ℤ) → IsEntity K z → entry_no (g z) ≡ record { 0 = new (entry_number z) }
-  entry_new z e = ap (λ n. record { 0 = n }) (number_new f q K new g h z e).1
 
   edge_key_new : (z j : ℤ) → IsEntity K z → edge_key (g z) j ≡ new_edge_key new (edge_key z j)
   edge_key_new z j e = ap (λ n. let key : EdgeKey = record { «list» = record { 0 = n }; index = entry_number j } in key) (number_new f q K new g h z e).1

@@ -10,3 +10,4 @@ pub mod ExtractedEntries
 pub mod KeptVerdicts
 pub mod ExtractedSolid
 pub mod WholeVerdict
+mod Worked

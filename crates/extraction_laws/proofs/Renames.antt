@@ -85,13 +85,6 @@ module _ (f q : Contents) (K : ℕ → Type 0) (new : ℕ → ℕ) (g : ℤ → 
   is_entity z (inl e) n = let no : false ≡ true = subst (Names f) e n in absurd cc
   is_entity z (inr k) n = k
 
-  pub of_names : (kind : EntityKind) (z : ℤ) → NamesKind kind f z → Names f z
-  of_names kind z n = by_entry (named f z) n
-    where
-      by_entry : (o : Option Record) → IsSomeAnd o (λ e. (e.0.kind ≡ type_number kind) × HasForm kind e.0.form) → IsSome o
-      by_entry None k = absurd k
-      by_entry (Some r) k = refl
-
   own_kind : (kind : EntityKind) → kind_of_type (type_number kind) ≡ Some kind
   own_kind solid = refl
   own_kind shell = refl
