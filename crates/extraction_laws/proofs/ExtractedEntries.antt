@@ -1,0 +1,188 @@
+-- Extraction keeps the entries that a chain of references reaches, and with each of them its pointers.
+use Rattle.std.specs.Prelude.{◌≡◌, ◌⊎◌, ℕ, suc, ◌+◌, ◌-◌, ◌≤◌, ◌==◌, Bool, true, false, not, cond, ℤ, pos, negsuc, neg_ℤ, int_lt, List, [], ◌∷◌, ◌++◌, filter_map, Contains, Option, Some, None, Result, Ok, Err, is_some, slice_get, slice_index_or, if◌then◌else◌}
+use Rattle.std.specs.List.{AllByRecursion, AllZip, cons_option, enumerate_from, list_all, position_or_len}
+use Rattle.std.specs.Ordering.{int_eq}
+use Rattle.std.proofs.Common.{refl, sym, ◌∙◌, ap, subst, arith, inl, inr}
+use Rattle.std.proofs.lemmas.Bool.{cond-true, cond-false, and_parts, eqb-true, eq-eqb}
+use Rattle.std.proofs.lemmas.Bool.Decides.{Decides-int_eq}
+use Rattle.std.proofs.lemmas.List.Elements.{recursion_from_All}
+use Rattle.iges_fields.proofs.Items.{passes}
+use Rattle.iges_fields.specs.declared.value.Value.{Value}
+use Rattle.iges_fields.specs.declared.value.Value.TheVariants as value
+use Rattle.iges_params.specs.Contents.{Contents}
+use Rattle.iges_params.specs.Named.{named}
+use Rattle.brep_lists.specs.DueValues.{DueValue, pointer, number, flag, at_least_one, count, coordinate, MeetsAll}
+use Rattle.brep_lists.specs.Record.{EntityKind, kind_of_type, due, items_of, IsRecordOf}
+use Rattle.brep_lists.specs.OwnValues.{due_in, is_record_of, own_count, if_pointer, pointer_places}
+use Rattle.brep_lists.proofs.Decided.{decided}
+use Rattle.solid_data.proofs.Members.{Has, Has-from_Contains, Contains-from_Has, has_left, All-from}
+use Rattle.brep_walk.specs.Places.{Names}
+use Rattle.solid_extract.specs.declared.fault.ExtractReason.{ExtractReason}
+use Rattle.solid_extract.specs.declared.fault.ExtractReason.TheVariants.{Unlisted, Layout, Dangling}
+use Rattle.solid_extract.specs.Layout.{Own, layout_of, own_in, value_at}
+use Rattle.solid_extract.specs.Refs.{Record, own_of_kind, own_of, is_listed, has_layout, names_entry, number_of, pointers_of, names_of, entry_fault, refs}
+use Rattle.solid_extract.specs.Extracted.{new_number, renamed, RefersTo, here, further, IsExtracted}
+use Rattle.solid_extract.proofs.KeptItems.{items_kept}
+use Rattle.solid_extract.proofs.NewNumbers.{new_named}
+use Rattle.extraction_laws.proofs.Zips.{OptionZip}
+use Rattle.extraction_laws.proofs.Renames.{AllPointers, IsEntity, IsPointer, IsSameKind, Renames}
+
+-- ---- the values of a record by their places
+
+-- v gives these values from place k on
+abbrev Agrees : (ℕ → Value) → ℕ → List Value → Type 0
+Agrees v k [] = Unit {0}
+Agrees v k (x ∷ xs) = (v k ≡ x) × Agrees v (k + 1) xs
+
+agrees_later : (v w : ℕ → Value) (k : ℕ) (xs : List Value) → 1 ≤ k → ((i : ℕ) → 1 ≤ i → v (i + 1) ≡ w i) → Agrees w k xs → Agrees v (k + 1) xs
+agrees_later v w k [] low same h = tt
+agrees_later v w k (x ∷ xs) low same h = (same k low ∙ h.0, agrees_later v w (k + 1) xs (omega (arith, low)) same h.1)
+
+agrees_itself : (xs : List Value) → Agrees (value_at xs) 1 xs
+agrees_itself [] = tt
+agrees_itself (x ∷ xs) = (refl, agrees_later (value_at (x ∷ xs)) (value_at xs) 1 xs (omega arith) next (agrees_itself xs))
+  where
+    next : (i : ℕ) → 1 ≤ i → value_at (x ∷ xs) (i + 1) ≡ value_at xs i
+    next i low = let e : i + 1 - 1 ≡ suc (i - 1) = omega (arith, low) in ap (λ j. slice_index_or (x ∷ xs) j value.Default) e
+
+module _ (P : ℤ → Type 0) (v : ℕ → Value) where
+  -- the pointers other than 0 at the places of a record's pointers
+  abbrev followed : ℕ → List DueValue → List ℤ
+  followed k ds = filter_map (λ j. number_of (v j)) (filter_map if_pointer (enumerate_from k ds))
+
+  one_met : (z : ℤ) (rest : List ℤ) (b : Bool) → int_eq z (pos 0) ≡ b → AllByRecursion P (cons_option (if b then None else Some z) rest) → ((z ≡ pos 0) ⊎ P z) × AllByRecursion P rest
+  one_met z rest true e h = (inl ((Decides-int_eq z (pos 0)).0 e), h)
+  one_met z rest false e h = (inr h.0, h.1)
+
+  pointers_met : (k : ℕ) (ds : List DueValue) (vs : List Value) → MeetsAll ds vs → Agrees v k vs → AllByRecursion P (followed k ds) → AllPointers (λ z. (z ≡ pos 0) ⊎ P z) ds
+  pointers_met k [] vs m a h = tt
+  pointers_met k (pointer z ∷ ds) [] m a h = absurd m
+  pointers_met k (pointer z ∷ ds) (x ∷ vs) m a h =
+      let at : number_of (v k) ≡ (if int_eq z (pos 0) then None else Some z) = ap number_of (a.0 ∙ m.0) in
+      let one = one_met z (followed (k + 1) ds) (int_eq z (pos 0)) refl (subst (λ o. AllByRecursion P (cons_option o (followed (k + 1) ds))) at h) in
+      (one.0, pointers_met (k + 1) ds vs m.1 a.1 one.1)
+  pointers_met k (number z ∷ ds) [] m a h = absurd m
+  pointers_met k (number z ∷ ds) (x ∷ vs) m a h = pointers_met (k + 1) ds vs m.1 a.1 h
+  pointers_met k (flag b ∷ ds) [] m a h = absurd m
+  pointers_met k (flag b ∷ ds) (x ∷ vs) m a h = pointers_met (k + 1) ds vs m.1 a.1 h
+  pointers_met k (at_least_one n ∷ ds) [] m a h = absurd m
+  pointers_met k (at_least_one n ∷ ds) (x ∷ vs) m a h = pointers_met (k + 1) ds vs m.1 a.1 h
+  pointers_met k (count n ∷ []) [] m a h = tt
+  pointers_met k (count n ∷ d ∷ ds) [] m a h = absurd m
+  pointers_met k (count n ∷ ds) (x ∷ vs) m a h = pointers_met (k + 1) ds vs m.1 a.1 h
+  pointers_met k (coordinate w ∷ ds) [] m a h = absurd m
+  pointers_met k (coordinate w ∷ ds) (x ∷ vs) m a h = pointers_met (k + 1) ds vs m.1 a.1 h
+
+-- ---- what is kept
+
+list_all_has : {A : Type 0} (p : A → Bool) (xs : List A) (x : A) → list_all p xs ≡ true → Has xs x → p x ≡ true
+list_all_has p [] x h m = absurd m
+list_all_has p (y ∷ xs) x h (inl e) = ap p (sym e) ∙ (and_parts (p y) (list_all p xs) h).0
+list_all_has p (y ∷ xs) x h (inr m) = list_all_has p xs x (and_parts (p y) (list_all p xs) h).1 m
+
+record Kept (f : Contents) (m : ℕ) : Type 0 where
+  record_at : Record
+  at : named f (pos m) ≡ Some record_at
+  good : entry_fault f record_at ≡ None
+
+kept_entry : (f : Contents) (ms : List ℕ) (rs : List Record) → AllZip (λ m r. named f (pos m) ≡ Some r) ms rs → AllByRecursion (λ r. entry_fault f r ≡ None) rs → (m : ℕ) → Has ms m → Kept f m
+kept_entry f [] rs z g m h = absurd h
+kept_entry f (k ∷ ms) [] z g m h = absurd z
+kept_entry f (k ∷ ms) (r ∷ rs) z g m (inl e) = record { record_at = r; at = subst (λ j. named f (pos j) ≡ Some r) e z.0; good = g.0 }
+kept_entry f (k ∷ ms) (r ∷ rs) z g m (inr h) = kept_entry f ms rs z.1 g.1 m h
+
+pub place_found : (ms : List ℕ) (m : ℕ) → Has ms m → slice_get ms (position_or_len (λ k. k == m) ms) ≡ Some m
+place_found [] m h = absurd h
+place_found (x ∷ ms) m h = by_test (x == m) refl h (λ j. place_found ms m j)
+  where
+    place : (b : Bool) → (x == m) ≡ b → position_or_len (λ k. k == m) (x ∷ ms) ≡ cond (not b) (1 + position_or_len (λ k. k == m) ms) 0
+    place b t = ap (λ (c : Bool). cond (not c) (1 + position_or_len (λ k. k == m) ms) 0) t
+
+    next : 1 + position_or_len (λ k. k == m) ms ≡ suc (position_or_len (λ k. k == m) ms)
+    next = omega arith
+
+    later : Has (x ∷ ms) m → (x == m) ≡ false → Has ms m
+    later (inl same) t = let no : true ≡ false = sym (eq-eqb x m same) ∙ t in absurd cc
+    later (inr j) t = j
+
+    by_test : (b : Bool) → (x == m) ≡ b → Has (x ∷ ms) m → (Has ms m → slice_get ms (position_or_len (λ k. k == m) ms) ≡ Some m) → slice_get (x ∷ ms) (position_or_len (λ k. k == m) (x ∷ ms)) ≡ Some m
+    by_test true t j on = ap (slice_get (x ∷ ms)) (place true t) ∙ ap (λ n. Some n) (eqb-true x m t)
+    by_test false t j on = ap (slice_get (x ∷ ms)) (place false t ∙ next) ∙ on (later j t)
+
+own_is : (r : Record) (kind : EntityKind) → kind_of_type r.0.kind ≡ Some kind → IsRecordOf kind r.1 → own_of r ≡ Some (record { count = own_count kind r.1; pointers = pointer_places kind r.1; cut = [] })
+own_is r kind e h =
+    ap (λ (o : Option EntityKind). elim o as (λ _. Option Own) [ Some k ↦ own_of_kind k r.1 | None ↦ elim (layout_of r.0) as (λ _. Option Own) [ Some layout ↦ own_in layout r.1 | None ↦ None ] ]) e
+    ∙ cond-true (is_record_of kind r.1) (Some (record { count = own_count kind r.1; pointers = pointer_places kind r.1; cut = [] })) None ((decided kind r.1).1 h)
+
+module _ (f q : Contents) (n : ℕ) (x : IsExtracted f n q) where
+  abbrev pub IsKept : ℕ → Type 0
+  IsKept m = Contains x.kept m
+
+  kept : (m : ℕ) → IsKept m → Kept f m
+  kept m c = kept_entry f x.kept x.records x.each_named (recursion_from_All (λ r. entry_fault f r ≡ None) x.records x.faultless) m (Has-from_Contains x.kept m c)
+
+  there : (m : ℕ) → IsKept m → Names f (pos m)
+  there m c = let k = kept m c in ap is_some k.at
+
+  not_zero : (m : ℕ) → IsKept m → int_eq (pos m) (pos 0) ≡ false
+  not_zero m c = by_test (int_eq (pos m) (pos 0)) refl
+    where
+      by_test : (b : Bool) → int_eq (pos m) (pos 0) ≡ b → int_eq (pos m) (pos 0) ≡ false
+      by_test true e = let no : false ≡ true = subst (λ z. is_some (named f z) ≡ true) ((Decides-int_eq (pos m) (pos 0)).0 e) (there m c) in absurd cc
+      by_test false e = e
+
+  same_place : (m k : ℕ) → IsKept m → IsKept k → new_number x.kept m ≡ new_number x.kept k → m ≡ k
+  same_place m k a b e =
+      let places : position_or_len (λ j. j == m) x.kept ≡ position_or_len (λ j. j == k) x.kept = omega (arith, e) in
+      let both : Some m ≡ Some k = sym (place_found x.kept m (Has-from_Contains x.kept m a)) ∙ (ap (slice_get x.kept) places ∙ place_found x.kept k (Has-from_Contains x.kept k b)) in
+      ap (λ (o : Option ℕ). elim o as (λ _. ℕ) [ Some j ↦ j | None ↦ m ]) both
+
+  entry_new : (m : ℕ) → IsKept m → OptionZip IsSameKind (named f (pos m)) (named q (pos (new_number x.kept m)))
+  entry_new m c =
+      let k = kept m c in
+      subst (λ o. OptionZip IsSameKind o (named q (pos (new_number x.kept m)))) (sym k.at)
+      (subst (λ o. OptionZip IsSameKind (Some k.record_at) o) (sym (new_named f q n x m k.record_at c k.at)) (refl, refl))
+
+  -- what a kept entry refers to is kept
+  pointer_kept : (m : ℕ) (r : Record) → IsKept m → named f (pos m) ≡ Some r → entry_fault f r ≡ None → (z : ℤ) → Has (pointers_of r) z → IsEntity IsKept z
+  pointer_kept m r c at good z h = by_sign z h (list_all_has (names_entry f) (pointers_of r) z (passes ((is_listed r, Unlisted) ∷ (has_layout r, Layout) ∷ (list_all (names_entry f) (pointers_of r), Dangling) ∷ []) good).1.1.0 h)
+    where
+      read : refs f r ≡ Ok (pointers_of r ++ names_of f r)
+      read = ap (λ (o : Option ExtractReason). elim o as (λ _. Result (List ℤ) ExtractReason) [ Some reason ↦ Err reason | None ↦ Ok (pointers_of r ++ names_of f r) ]) good
+
+      by_sign : (w : ℤ) → Has (pointers_of r) w → names_entry f w ≡ true → IsEntity IsKept w
+      by_sign (negsuc k) i e = absurd cc
+      by_sign (pos k) i e =
+          let refers : RefersTo f m k = (r, pointers_of r ++ names_of f r, at, read, Contains-from_Has (pointers_of r ++ names_of f r) (pos k) (has_left (pointers_of r) (names_of f r) (pos k) i)) in
+          (k, refl, (x.reached k).1 (further ((x.reached m).0 c) refers))
+
+  pointers_kept : (m : ℕ) (r : Record) (kind : EntityKind) → IsKept m → named f (pos m) ≡ Some r → kind_of_type r.0.kind ≡ Some kind → AllPointers (IsPointer IsKept) (due kind (items_of kind r.1))
+  pointers_kept m r kind c at e =
+      let k = kept m c in
+      let same : k.record_at ≡ r = ap (λ (o : Option Record). elim o as (λ _. Record) [ Some y ↦ y | None ↦ r ]) (sym k.at ∙ at) in
+      let good : entry_fault f r ≡ None = subst (λ y. entry_fault f y ≡ None) same k.good in
+      let is : IsRecordOf kind r.1 = (items_kept f q n x m r kind c at e).0 in
+      pointers_met (IsEntity IsKept) (value_at r.1) 1 (due_in kind r.1) r.1 is (agrees_itself r.1)
+      (All-from (IsEntity IsKept) (followed (IsEntity IsKept) (value_at r.1) 1 (due_in kind r.1)) (λ z h. pointer_kept m r c at good z (among z (own_is r kind e is) h)))
+    where
+      among : (z : ℤ) → own_of r ≡ Some (record { count = own_count kind r.1; pointers = pointer_places kind r.1; cut = [] }) → Has (followed (IsEntity IsKept) (value_at r.1) 1 (due_in kind r.1)) z → Has (pointers_of r) z
+      among z own h =
+          let own_pointers : List ℤ = followed (IsEntity IsKept) (value_at r.1) 1 (due_in kind r.1) in
+          let matrix : List ℤ = if int_eq r.0.matrix (pos 0) then [] else r.0.matrix ∷ [] in
+          let colour : List ℤ = if int_lt r.0.colour (pos 0) then neg_ℤ r.0.colour ∷ [] else [] in
+          subst (λ (o : Option Own). Has (elim o as (λ _. List ℤ) [ Some w ↦ filter_map (λ j. number_of (value_at r.1 j)) w.pointers | None ↦ [] ] ++ matrix ++ colour) z) (sym own)
+          (has_left (own_pointers ++ matrix) colour z (has_left own_pointers matrix z h))
+
+  pub extraction_renames : Renames f q IsKept (new_number x.kept) (renamed x.kept)
+  extraction_renames = record {
+    nothing = refl;
+    something = λ m c. cond-false (int_eq (pos m) (pos 0)) (pos m) (pos (new_number x.kept m)) (not_zero m c);
+    apart = same_place;
+    entry = entry_new;
+    there = there;
+    records = λ m r kind c at e. items_kept f q n x m r kind c at e;
+    pointers = pointers_kept;
+  }
+
+  pub solid_kept : IsKept n
+  solid_kept = (x.reached n).1 here

@@ -1,0 +1,56 @@
+-- Lists that fail alike under new numbers keep the verdict.
+use Rattle.std.specs.Prelude.{◌≡◌, ℕ, suc, ◌+◌, ◌==◌, Bool, true, false, not, cond, List, [], ◌∷◌, Contains, Some, slice_get}
+use Rattle.std.specs.List.{position_or_len}
+use Rattle.std.proofs.Common.{refl, sym, ◌∙◌, ap, subst, arith}
+use Rattle.std.proofs.lemmas.Bool.{eqb-true}
+use Rattle.solid_data.specs.Obligations.{Obligation, FirstFalse}
+use Rattle.solid_data.specs.declared.verdict.Failing.{Failing}
+use Rattle.solid_data.proofs.Members.{Has-from_Contains, some_inj}
+use Rattle.solid_extract.specs.Extracted.{new_number}
+use Rattle.extraction_laws.specs.Alike.{AreNamedAlike, FailAlike, HaveOneVerdict}
+use Rattle.extraction_laws.specs.Kept.{IsNewNumber, renamed_failing, KeepsVerdict}
+use Rattle.extraction_laws.proofs.AlikeLists.{one_verdict}
+use Rattle.extraction_laws.proofs.ExtractedEntries.{place_found}
+
+-- what stands at the place of a number is that number
+place_is : (ms : List ℕ) (m j : ℕ) → slice_get ms (position_or_len (λ k. k == m) ms) ≡ Some j → j ≡ m
+place_is [] m j e = absurd cc
+place_is (x ∷ ms) m j e = by_test (x == m) refl e (λ h. place_is ms m j h)
+  where
+    place : (b : Bool) → (x == m) ≡ b → position_or_len (λ k. k == m) (x ∷ ms) ≡ cond (not b) (1 + position_or_len (λ k. k == m) ms) 0
+    place b t = ap (λ (c : Bool). cond (not c) (1 + position_or_len (λ k. k == m) ms) 0) t
+
+    next : 1 + position_or_len (λ k. k == m) ms ≡ suc (position_or_len (λ k. k == m) ms)
+    next = omega arith
+
+    by_test : (b : Bool) → (x == m) ≡ b → slice_get (x ∷ ms) (position_or_len (λ k. k == m) (x ∷ ms)) ≡ Some j → (slice_get ms (position_or_len (λ k. k == m) ms) ≡ Some j → j ≡ m) → j ≡ m
+    by_test true t h on = sym (some_inj x j (sym (ap (slice_get (x ∷ ms)) (place true t)) ∙ h)) ∙ eqb-true x m t
+    by_test false t h on = on (sym (ap (slice_get (x ∷ ms)) (place false t ∙ next)) ∙ h)
+
+-- no other number becomes that of a kept entry
+new_apart : (kept : List ℕ) (m k : ℕ) → Contains kept m → new_number kept k ≡ new_number kept m → m ≡ k
+new_apart kept m k c e =
+    let places : position_or_len (λ j. j == k) kept ≡ position_or_len (λ j. j == m) kept = omega (arith, e) in
+    place_is kept k m (ap (slice_get kept) places ∙ place_found kept m (Has-from_Contains kept m c))
+
+failing_is : (x y : Failing) → x.rule ≡ y.rule → x.entity.0 ≡ y.entity.0 → x.place ≡ y.place → x ≡ y
+failing_is x y r e p =
+    ap (λ w. let z : Failing = record { rule = w; entity = x.entity; place = x.place } in z) r
+    ∙ (ap (λ w. let z : Failing = record { rule = y.rule; entity = record { 0 = w }; place = x.place } in z) e
+    ∙ ap (λ w. let z : Failing = record { rule = y.rule; entity = y.entity; place = w } in z) p)
+
+pub keeps_verdict : (kept : List ℕ) (ps qs : List Obligation) → FailAlike (IsNewNumber kept) ps qs → KeepsVerdict kept ps qs
+keeps_verdict kept ps qs h = record {
+  all = one.all;
+  fails = λ x. (
+    λ bad. let k = one.fails x bad in subst (FirstFalse qs) (is_renamed x k.0 k.1) k.2,
+    λ bad. let k = one.only (renamed_failing kept x) bad in subst (FirstFalse ps) (failing_is k.0 x k.1.rule (new_apart kept k.0.entity.0 x.entity.0 k.1.entity.0 k.1.entity.1) k.1.place) k.2,
+  );
+  only = λ y bad. let k = one.only y bad in (k.0, is_renamed k.0 y k.1, k.2);
+}
+  where
+    one : HaveOneVerdict (IsNewNumber kept) ps qs
+    one = one_verdict (IsNewNumber kept) ps qs h
+
+    is_renamed : (x y : Failing) → AreNamedAlike (IsNewNumber kept) x y → y ≡ renamed_failing kept x
+    is_renamed x y k = failing_is y (renamed_failing kept x) (sym k.rule) k.entity.1 (sym k.place)

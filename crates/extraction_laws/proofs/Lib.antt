@@ -1,0 +1,13 @@
+pub mod AlikeLists
+pub mod Zips
+pub mod Renames
+pub mod Pointers
+pub mod KeptPlaces
+pub mod RelabelledSolids
+pub mod RenamedLists
+pub mod KeptSolid
+pub mod ExtractedEntries
+pub mod KeptVerdicts
+pub mod ExtractedSolid
+pub mod WholeVerdict
+mod Worked

@@ -1,0 +1,35 @@
+//! Laws of extracted solids.
+
+ghost use Rattle.std.specs.Prelude.{ℕ};
+ghost use Rattle.solid_data.specs.SolidData.{SolidData};
+ghost use Rattle.edge_uses.specs.ShellObligations.{solid_obligations};
+ghost use Rattle.extraction_laws.specs.Alike.{FailAlike, HaveOneVerdict};
+ghost use Rattle.extraction_laws.specs.Kept.{PlacesAreAlike, PlacesAreKept, SolidIsKept};
+ghost use Rattle.extraction_laws.specs.KeptVerdict.{VerdictIsKept, NoOtherVerdict, ClosedIsKept};
+ghost use Rattle.extraction_laws.specs.Relabelled.{IsImage, IsRelabelled};
+
+/// Solids that differ only in directory numbers fail the rules of a closed shell at the same loops, edges, faces and
+/// vertices. (own)
+pub fn relabelled_solids_fail_alike()
+    ensures items { (g : ℕ → ℕ) (s t : SolidData) → IsRelabelled (IsImage g) s t → FailAlike (IsImage g) (solid_obligations s) (solid_obligations t) }
+    ensures verdict { (g : ℕ → ℕ) (s t : SolidData) → IsRelabelled (IsImage g) s t → HaveOneVerdict (IsImage g) (solid_obligations s) (solid_obligations t) }
+{}
+
+/// The places of a solid in its extracted file are those that it had, with entities renamed, up to the first false one.
+/// (own)
+pub fn places_are_kept()
+    ensures items { PlacesAreAlike }
+    ensures verdict { PlacesAreKept }
+{}
+
+/// Where the places of a solid hold, its extracted file tells the same solid, with directory numbers renamed. (own)
+pub fn solid_is_kept()
+    ensures { SolidIsKept }
+{}
+
+/// An extracted solid has the verdict that it had in its file, with the entity renamed. (own)
+pub fn verdict_is_kept()
+    ensures verdict { VerdictIsKept }
+    ensures only { NoOtherVerdict }
+    ensures closed { ClosedIsKept }
+{}

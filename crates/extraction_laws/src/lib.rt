@@ -1,0 +1,6 @@
+//! The law that an extracted solid has the verdict that it had in its file.
+#![tactic(auto)]
+
+mod law;
+
+pub use law::{places_are_kept, relabelled_solids_fail_alike, solid_is_kept, verdict_is_kept};

@@ -1,0 +1,24 @@
+//! Laws of extraction.
+
+ghost use Rattle.solid_extract.specs.Kept.{RecordsAreKept, KeptAreNamed, ItemsAreKept};
+ghost use Rattle.solid_extract.specs.OneExtraction.{OneFile, OneRefusal, NotBoth};
+
+/// A solid is extracted to one file, or refused for one entity and reason, and not both.
+pub fn one_extraction()
+    ensures file { OneFile }
+    ensures refusal { OneRefusal }
+    ensures not_both { NotBoth }
+{}
+
+/// A record of one of a solid's six kinds stays one of that kind in the extracted file, with the same items but for
+/// renamed pointers.
+pub fn records_are_kept()
+    ensures { RecordsAreKept }
+{}
+
+/// A kept entry is named by its new number, and where it is of one of a solid's six kinds it tells the same items,
+/// with pointers renamed.
+pub fn items_are_kept()
+    ensures named { KeptAreNamed }
+    ensures items { ItemsAreKept }
+{}

@@ -1,0 +1,8 @@
+//! What an entry refers to, and the file of one solid.
+#![tactic(auto)]
+
+mod fault;
+mod law;
+
+pub use fault::ExtractReason;
+pub use law::{items_are_kept, one_extraction, records_are_kept};
