@@ -1,13 +1,16 @@
 -- Words and the forms that they have.
-use Rattle.std.proofs.Common.{◌≡◌, ◌⊎◌, ℕ, ◌<◌, ◌≤◌, ◌&&◌, Bool, true, false, cond, List, [], ◌∷◌, length, map, get_or, Option, Some, None, refl, sym, ap, subst, ◌∙◌, arith, inl, inr, ⊎_elim, nat_eq, codes, String, string_bytes, Global, if◌then◌else◌}
+use Rattle.std.proofs.Common.{◌≡◌, ◌⊎◌, ℕ, zero, suc, ◌<◌, ◌≤◌, ◌&&◌, Bool, true, false, cond, List, [], ◌∷◌, length, map, get_or, Option, Some, None, refl, sym, ap, subst, ◌∙◌, arith, inl, inr, ⊎_elim, nat_eq, nat_le, codes, String, string_bytes, Global, if◌then◌else◌}
 use Rattle.std.specs.Cmp.Lexicographic.{pointwise}
 use Rattle.std.specs.List.{list_any}
 use Rattle.std.specs.Option.{option_map}
 use Rattle.std.specs.Str.Parse.{digits_value}
-use Rattle.std.proofs.lemmas.Bool.{eqb-true}
+use Rattle.std.proofs.lemmas.Bool.{eqb-true, and_parts, leb-true}
+use Rattle.iges_fields.specs.Word.{are_digits}
 use Rattle.iges_solid_cmd.specs.declared.form.Command.{Command}
-use Rattle.iges_solid_cmd.specs.declared.form.Command.TheVariants.{Solids, Show, Certify, Verify}
-use Rattle.iges_solid_cmd.specs.Forms.{Form, all_fit, certificate, command_of, entry_command, entry_number, fits, file, is_certificate, is_file, number_among, reads_certificate, reads_file, takes_certificate, word}
+use Rattle.iges_solid_cmd.specs.declared.form.Command.TheVariants.{File, Sample}
+use Rattle.iges_solid_cmd.specs.declared.form.FileCommand.{FileCommand}
+use Rattle.iges_solid_cmd.specs.declared.form.FileCommand.TheVariants.{Solids, Show, Certify, Verify, Extract}
+use Rattle.iges_solid_cmd.specs.Forms.{Form, all_fit, certificate, command_of, entry_command, entry_number, sample_number, fits, file, is_certificate, is_file, number_among, reads_certificate, reads_file, takes_certificate, takes_file, IsSized, word}
 
 abbrev named : List ℕ → List ℕ → Bool
 named name text = pointwise nat_eq name text
@@ -25,22 +28,26 @@ same_or (b ∷ a) (x ∷ text) = by_first (nat_eq b x) refl (same_or a text)
     by_first false e rest = inr (ap (λ y. y && named a text) e)
 
 -- the first form whose test holds
-abbrev form_by : Bool → Bool → Bool → Bool → Option Form
-form_by solids show certify verify =
-    cond solids (Some (record { slots = word (codes "solids") ∷ file ∷ []; command = λ _. Solids }))
-    (cond show (Some (record { slots = word (codes "show") ∷ file ∷ entry_number ∷ []; command = λ n. Show n }))
-    (cond certify (Some (record { slots = word (codes "certify") ∷ file ∷ entry_number ∷ []; command = λ n. Certify n }))
-    (cond verify (Some (record { slots = word (codes "verify") ∷ file ∷ certificate ∷ []; command = λ _. Verify })) None)))
+abbrev form_by : Bool → Bool → Bool → Bool → Bool → Bool → Option Form
+form_by solids show certify verify extract sample =
+    cond solids (Some (record { slots = word (codes "solids") ∷ file ∷ []; command = λ _. File Solids }))
+    (cond show (Some (record { slots = word (codes "show") ∷ file ∷ entry_number ∷ []; command = λ n. File (Show n) }))
+    (cond certify (Some (record { slots = word (codes "certify") ∷ file ∷ entry_number ∷ []; command = λ n. File (Certify n) }))
+    (cond verify (Some (record { slots = word (codes "verify") ∷ file ∷ certificate ∷ []; command = λ _. File Verify }))
+    (cond extract (Some (record { slots = word (codes "extract") ∷ file ∷ entry_number ∷ []; command = λ n. File (Extract n) }))
+    (cond sample (Some (record { slots = word (codes "sample") ∷ sample_number ∷ []; command = λ n. Sample n })) None)))))
 
-abbrev by_tests : List (List ℕ) → Bool → Bool → Bool → Bool → Option Command
-by_tests words solids show certify verify = option_map (λ (form : Form). form.command (number_among form.slots words)) (form_by solids show certify verify)
+abbrev by_tests : List (List ℕ) → Bool → Bool → Bool → Bool → Bool → Bool → Option Command
+by_tests words solids show certify verify extract sample = option_map (λ (form : Form). form.command (number_among form.slots words)) (form_by solids show certify verify extract sample)
 
-no_test : (words : List (List ℕ)) (solids show certify verify : Bool) → solids ≡ false → show ≡ false → certify ≡ false → verify ≡ false → by_tests words solids show certify verify ≡ None
-no_test words true show certify verify a b c d = absurd cc
-no_test words false true certify verify a b c d = absurd cc
-no_test words false false true verify a b c d = absurd cc
-no_test words false false false true a b c d = absurd cc
-no_test words false false false false a b c d = refl
+no_test : (words : List (List ℕ)) (solids show certify verify extract sample : Bool) → solids ≡ false → show ≡ false → certify ≡ false → verify ≡ false → extract ≡ false → sample ≡ false → by_tests words solids show certify verify extract sample ≡ None
+no_test words true show certify verify extract sample e0 e1 e2 e3 e4 e5 = absurd cc
+no_test words false true certify verify extract sample e0 e1 e2 e3 e4 e5 = absurd cc
+no_test words false false true verify extract sample e0 e1 e2 e3 e4 e5 = absurd cc
+no_test words false false false true extract sample e0 e1 e2 e3 e4 e5 = absurd cc
+no_test words false false false false true sample e0 e1 e2 e3 e4 e5 = absurd cc
+no_test words false false false false false true e0 e1 e2 e3 e4 e5 = absurd cc
+no_test words false false false false false false e0 e1 e2 e3 e4 e5 = refl
 
 first_false : (x y : Bool) → x ≡ false → (x && y) ≡ false
 first_false true y e = absurd cc
@@ -55,6 +62,11 @@ third_false true true = refl
 third_false true false = refl
 third_false false y = refl
 
+later_false : (x y : Bool) → (x && (y && false)) ≡ false
+later_false true true = refl
+later_false true false = refl
+later_false false y = refl
+
 abbrev Given : Type 0
 Given = List (String Global)
 
@@ -63,26 +75,46 @@ bytes_of ws = map string_bytes ws
 
 -- ---- two words
 
-abbrev of_two : List ℕ → Option Command
-of_two a = if named a (codes "solids") then Some Solids else None
+abbrev of_two : List ℕ → List ℕ → Option Command
+of_two a b = if named a (codes "solids") then Some (File Solids) else (if named a (codes "sample") then (if fits sample_number b then Some (Sample (digits_value 10 b)) else None) else None)
 
-two_words : (a b : List ℕ) → of_two a ≡ command_of (a ∷ b ∷ [])
-two_words a b = ⊎_elim (λ is. subst (λ w. of_two w ≡ command_of (w ∷ b ∷ [])) (sym is) refl) (λ other. none other) (same_or a (codes "solids"))
+abbrev by_fit_two : List ℕ → List ℕ → Bool → Type 0
+by_fit_two a b fit = (if named a (codes "solids") then Some (File Solids) else (if named a (codes "sample") then (if fit then Some (Sample (digits_value 10 b)) else None) else None))
+    ≡ by_tests (a ∷ b ∷ []) (named a (codes "solids") && (true && true)) (named a (codes "show") && (true && false)) (named a (codes "certify") && (true && false)) (named a (codes "verify") && (true && false)) (named a (codes "extract") && (true && false)) (named a (codes "sample") && (fit && true))
+
+solids_words : (b : List ℕ) (fit : Bool) → by_fit_two (codes "solids") b fit
+solids_words b true = refl
+solids_words b false = refl
+
+sample_words : (b : List ℕ) (fit : Bool) → by_fit_two (codes "sample") b fit
+sample_words b true = refl
+sample_words b false = refl
+
+no_two : (x y fit : Bool) (command : Option Command) → x ≡ false → y ≡ false → (if x then Some (File Solids) else (if y then (if fit then command else None) else None)) ≡ None
+no_two true y fit command a b = absurd cc
+no_two false true fit command a b = absurd cc
+no_two false false fit command a b = refl
+
+two_words : (a b : List ℕ) → of_two a b ≡ command_of (a ∷ b ∷ [])
+two_words a b =
+    ⊎_elim (λ is. subst (λ w. of_two w b ≡ command_of (w ∷ b ∷ [])) (sym is) (solids_words b (fits sample_number b)))
+    (λ x. ⊎_elim (λ is. subst (λ w. of_two w b ≡ command_of (w ∷ b ∷ [])) (sym is) (sample_words b (fits sample_number b)))
+    (λ y. none x y) (same_or a (codes "sample"))) (same_or a (codes "solids"))
   where
-    none : named a (codes "solids") ≡ false → of_two a ≡ command_of (a ∷ b ∷ [])
-    none other = ap (λ t. if t then Some Solids else None) other
-        ∙ sym (no_test (a ∷ b ∷ []) (all_fit (word (codes "solids") ∷ file ∷ []) (a ∷ b ∷ [])) (all_fit (word (codes "show") ∷ file ∷ entry_number ∷ []) (a ∷ b ∷ [])) (all_fit (word (codes "certify") ∷ file ∷ entry_number ∷ []) (a ∷ b ∷ [])) (all_fit (word (codes "verify") ∷ file ∷ certificate ∷ []) (a ∷ b ∷ []))
-        (first_false (named a (codes "solids")) true other) (second_false (named a (codes "show"))) (second_false (named a (codes "certify"))) (second_false (named a (codes "verify"))))
+    none : named a (codes "solids") ≡ false → named a (codes "sample") ≡ false → of_two a b ≡ command_of (a ∷ b ∷ [])
+    none x y = no_two (named a (codes "solids")) (named a (codes "sample")) (fits sample_number b) (Some (Sample (digits_value 10 b))) x y
+        ∙ sym (no_test (a ∷ b ∷ []) (all_fit (word (codes "solids") ∷ file ∷ []) (a ∷ b ∷ [])) (all_fit (word (codes "show") ∷ file ∷ entry_number ∷ []) (a ∷ b ∷ [])) (all_fit (word (codes "certify") ∷ file ∷ entry_number ∷ []) (a ∷ b ∷ [])) (all_fit (word (codes "verify") ∷ file ∷ certificate ∷ []) (a ∷ b ∷ [])) (all_fit (word (codes "extract") ∷ file ∷ entry_number ∷ []) (a ∷ b ∷ [])) (all_fit (word (codes "sample") ∷ sample_number ∷ []) (a ∷ b ∷ []))
+        (first_false (named a (codes "solids")) true x) (second_false (named a (codes "show"))) (second_false (named a (codes "certify"))) (second_false (named a (codes "verify"))) (second_false (named a (codes "extract"))) (first_false (named a (codes "sample")) (fits sample_number b && true) y))
 
 -- ---- three words
 
 abbrev of_three : List ℕ → List ℕ → Option Command
-of_three a n = if named a (codes "verify") then Some Verify else (if fits entry_number n then entry_command a (digits_value 10 n) else None)
+of_three a n = if named a (codes "verify") then Some (File Verify) else (if fits entry_number n then entry_command a (digits_value 10 n) else None)
 
--- what the last word is makes no difference but for its test
+-- what the other words are makes no difference but for their tests
 abbrev by_fit : List ℕ → List ℕ → List ℕ → Bool → Type 0
-by_fit a b n fit = (if named a (codes "verify") then Some Verify else (if fit then entry_command a (digits_value 10 n) else None))
-    ≡ by_tests (a ∷ b ∷ n ∷ []) (named a (codes "solids") && (true && false)) (named a (codes "show") && (true && (fit && true))) (named a (codes "certify") && (true && (fit && true))) (named a (codes "verify") && (true && (true && true)))
+by_fit a b n fit = (if named a (codes "verify") then Some (File Verify) else (if fit then entry_command a (digits_value 10 n) else None))
+    ≡ by_tests (a ∷ b ∷ n ∷ []) (named a (codes "solids") && (true && false)) (named a (codes "show") && (true && (fit && true))) (named a (codes "certify") && (true && (fit && true))) (named a (codes "verify") && (true && (true && true))) (named a (codes "extract") && (true && (fit && true))) (named a (codes "sample") && (fits sample_number b && false))
 
 show_words : (b n : List ℕ) (fit : Bool) → by_fit (codes "show") b n fit
 show_words b n true = refl
@@ -92,44 +124,51 @@ certify_words : (b n : List ℕ) (fit : Bool) → by_fit (codes "certify") b n f
 certify_words b n true = refl
 certify_words b n false = refl
 
+extract_words : (b n : List ℕ) (fit : Bool) → by_fit (codes "extract") b n fit
+extract_words b n true = refl
+extract_words b n false = refl
+
 verify_words : (b n : List ℕ) (fit : Bool) → by_fit (codes "verify") b n fit
 verify_words b n true = refl
 verify_words b n false = refl
 
-no_command : (x y z fit : Bool) (show certify : Option Command) → x ≡ false → y ≡ false → z ≡ false → (if z then Some Verify else (if fit then (if x then show else (if y then certify else None)) else None)) ≡ None
-no_command true y z fit show certify a b c = absurd cc
-no_command false true z fit show certify a b c = absurd cc
-no_command false false true fit show certify a b c = absurd cc
-no_command false false false true show certify a b c = refl
-no_command false false false false show certify a b c = refl
+no_command : (x0 x1 x2 z fit : Bool) (show certify extract : Option Command) → x0 ≡ false → x1 ≡ false → x2 ≡ false → z ≡ false → (if z then Some (File Verify) else (if fit then (if x0 then show else (if x1 then certify else (if x2 then extract else None))) else None)) ≡ None
+no_command true x1 x2 z fit show certify extract c0 c1 c2 d = absurd cc
+no_command false true x2 z fit show certify extract c0 c1 c2 d = absurd cc
+no_command false false true z fit show certify extract c0 c1 c2 d = absurd cc
+no_command false false false true fit show certify extract c0 c1 c2 d = absurd cc
+no_command false false false false true show certify extract c0 c1 c2 d = refl
+no_command false false false false false show certify extract c0 c1 c2 d = refl
 
 three_words : (a b n : List ℕ) → of_three a n ≡ command_of (a ∷ b ∷ n ∷ [])
 three_words a b n =
     ⊎_elim (λ is. subst (λ w. of_three w n ≡ command_of (w ∷ b ∷ n ∷ [])) (sym is) (show_words b n (fits entry_number n)))
-    (λ x. ⊎_elim (λ is. subst (λ w. of_three w n ≡ command_of (w ∷ b ∷ n ∷ [])) (sym is) (certify_words b n (fits entry_number n)))
-    (λ y. ⊎_elim (λ is. subst (λ w. of_three w n ≡ command_of (w ∷ b ∷ n ∷ [])) (sym is) (verify_words b n (fits entry_number n)))
-    (λ z. none x y z) (same_or a (codes "verify"))) (same_or a (codes "certify"))) (same_or a (codes "show"))
+    (λ y0. ⊎_elim (λ is. subst (λ w. of_three w n ≡ command_of (w ∷ b ∷ n ∷ [])) (sym is) (certify_words b n (fits entry_number n)))
+    (λ y1. ⊎_elim (λ is. subst (λ w. of_three w n ≡ command_of (w ∷ b ∷ n ∷ [])) (sym is) (extract_words b n (fits entry_number n)))
+    (λ y2. ⊎_elim (λ is. subst (λ w. of_three w n ≡ command_of (w ∷ b ∷ n ∷ [])) (sym is) (verify_words b n (fits entry_number n)))
+    (λ y3. none y0 y1 y2 y3) (same_or a (codes "verify"))) (same_or a (codes "extract"))) (same_or a (codes "certify"))) (same_or a (codes "show"))
   where
-    none : named a (codes "show") ≡ false → named a (codes "certify") ≡ false → named a (codes "verify") ≡ false → of_three a n ≡ command_of (a ∷ b ∷ n ∷ [])
-    none x y z = no_command (named a (codes "show")) (named a (codes "certify")) (named a (codes "verify")) (fits entry_number n) (Some (Show (digits_value 10 n))) (Some (Certify (digits_value 10 n))) x y z
-        ∙ sym (no_test (a ∷ b ∷ n ∷ []) (all_fit (word (codes "solids") ∷ file ∷ []) (a ∷ b ∷ n ∷ [])) (all_fit (word (codes "show") ∷ file ∷ entry_number ∷ []) (a ∷ b ∷ n ∷ [])) (all_fit (word (codes "certify") ∷ file ∷ entry_number ∷ []) (a ∷ b ∷ n ∷ [])) (all_fit (word (codes "verify") ∷ file ∷ certificate ∷ []) (a ∷ b ∷ n ∷ []))
-        (second_false (named a (codes "solids"))) (first_false (named a (codes "show")) (true && (fits entry_number n && true)) x) (first_false (named a (codes "certify")) (true && (fits entry_number n && true)) y) (first_false (named a (codes "verify")) true z))
+    none : named a (codes "show") ≡ false → named a (codes "certify") ≡ false → named a (codes "extract") ≡ false → named a (codes "verify") ≡ false → of_three a n ≡ command_of (a ∷ b ∷ n ∷ [])
+    none y0 y1 y2 y3 = no_command (named a (codes "show")) (named a (codes "certify")) (named a (codes "extract")) (named a (codes "verify")) (fits entry_number n) (Some (File (Show (digits_value 10 n)))) (Some (File (Certify (digits_value 10 n)))) (Some (File (Extract (digits_value 10 n)))) y0 y1 y2 y3
+        ∙ sym (no_test (a ∷ b ∷ n ∷ []) (all_fit (word (codes "solids") ∷ file ∷ []) (a ∷ b ∷ n ∷ [])) (all_fit (word (codes "show") ∷ file ∷ entry_number ∷ []) (a ∷ b ∷ n ∷ [])) (all_fit (word (codes "certify") ∷ file ∷ entry_number ∷ []) (a ∷ b ∷ n ∷ [])) (all_fit (word (codes "verify") ∷ file ∷ certificate ∷ []) (a ∷ b ∷ n ∷ [])) (all_fit (word (codes "extract") ∷ file ∷ entry_number ∷ []) (a ∷ b ∷ n ∷ [])) (all_fit (word (codes "sample") ∷ sample_number ∷ []) (a ∷ b ∷ n ∷ []))
+        (second_false (named a (codes "solids"))) (first_false (named a (codes "show")) (true && (fits entry_number n && true)) y0) (first_false (named a (codes "certify")) (true && (fits entry_number n && true)) y1) (first_false (named a (codes "verify")) true y3) (first_false (named a (codes "extract")) (true && (fits entry_number n && true)) y2) (later_false (named a (codes "sample")) (fits sample_number b)))
 
 -- ---- other numbers of words
 
 one_word : (a : List ℕ) → None ≡ command_of (a ∷ [])
-one_word a = sym (no_test (a ∷ []) (named a (codes "solids") && false) (named a (codes "show") && false) (named a (codes "certify") && false) (named a (codes "verify") && false)
-    (second_false (named a (codes "solids"))) (second_false (named a (codes "show"))) (second_false (named a (codes "certify"))) (second_false (named a (codes "verify"))))
+one_word a = sym (no_test (a ∷ []) (named a (codes "solids") && false) (named a (codes "show") && false) (named a (codes "certify") && false) (named a (codes "verify") && false) (named a (codes "extract") && false) (named a (codes "sample") && false)
+    (second_false (named a (codes "solids"))) (second_false (named a (codes "show"))) (second_false (named a (codes "certify"))) (second_false (named a (codes "verify"))) (second_false (named a (codes "extract"))) (second_false (named a (codes "sample"))))
 
 many_words : (a b c d : List ℕ) (ws : List (List ℕ)) → None ≡ command_of (a ∷ b ∷ c ∷ d ∷ ws)
-many_words a b c d ws = sym (no_test (a ∷ b ∷ c ∷ d ∷ ws) (named a (codes "solids") && (true && false)) (named a (codes "show") && (true && (fits entry_number c && false))) (named a (codes "certify") && (true && (fits entry_number c && false))) (named a (codes "verify") && (true && (true && false)))
-    (second_false (named a (codes "solids"))) (third_false (named a (codes "show")) (fits entry_number c)) (third_false (named a (codes "certify")) (fits entry_number c)) (second_false (named a (codes "verify"))))
+many_words a b c d ws = sym (no_test (a ∷ b ∷ c ∷ d ∷ ws) (named a (codes "solids") && (true && false)) (named a (codes "show") && (true && (fits entry_number c && false))) (named a (codes "certify") && (true && (fits entry_number c && false))) (named a (codes "verify") && (true && (true && false))) (named a (codes "extract") && (true && (fits entry_number c && false))) (named a (codes "sample") && (fits sample_number b && false))
+    (second_false (named a (codes "solids"))) (third_false (named a (codes "show")) (fits entry_number c)) (third_false (named a (codes "certify")) (fits entry_number c)) (second_false (named a (codes "verify"))) (third_false (named a (codes "extract")) (fits entry_number c)) (later_false (named a (codes "sample")) (fits sample_number b)))
 
-pub two : (ws : Given) (name : String Global) (a : List ℕ) → 2 ≤ length ws → length ws < 3 → name ≡ get_or ws 0 name → a ≡ string_bytes name → of_two a ≡ command_of (bytes_of ws)
-two [] name a least most is bytes = absurd (omega (arith, least))
-two (x ∷ []) name a least most is bytes = absurd (omega (arith, least))
-two (x ∷ y ∷ []) name a least most is bytes = ap of_two (bytes ∙ ap string_bytes is) ∙ two_words (string_bytes x) (string_bytes y)
-two (x ∷ y ∷ z ∷ ws) name a least most is bytes = absurd (omega (arith, most))
+pub two : (ws : Given) (name last : String Global) (a b : List ℕ) → 2 ≤ length ws → length ws < 3 → name ≡ get_or ws 0 name → last ≡ get_or ws 1 last → a ≡ string_bytes name → b ≡ string_bytes last → of_two a b ≡ command_of (bytes_of ws)
+two [] name last a b least most is is' bytes bytes' = absurd (omega (arith, least))
+two (x ∷ []) name last a b least most is is' bytes bytes' = absurd (omega (arith, least))
+two (x ∷ y ∷ []) name last a b least most is is' bytes bytes' =
+    ap (λ w. of_two w b) (bytes ∙ ap string_bytes is) ∙ ap (of_two (string_bytes x)) (bytes' ∙ ap string_bytes is') ∙ two_words (string_bytes x) (string_bytes y)
+two (x ∷ y ∷ z ∷ ws) name last a b least most is is' bytes bytes' = absurd (omega (arith, most))
 
 pub three : (ws : Given) (name last : String Global) (a n : List ℕ) → 3 ≤ length ws → length ws < 4 → name ≡ get_or ws 0 name → last ≡ get_or ws 2 last → a ≡ string_bytes name → n ≡ string_bytes last → of_three a n ≡ command_of (bytes_of ws)
 three [] name last a n least most is is' bytes bytes' = absurd (omega (arith, least))
@@ -159,44 +198,56 @@ reads_form o = elim o [ Some form ↦ list_any is_file form.slots | None ↦ fal
 abbrev certificate_form : Option Form → Bool
 certificate_form o = elim o [ Some form ↦ list_any is_certificate form.slots | None ↦ false ]
 
--- each form names a file, and that of a command for a certificate one
-reads_by : (words : List (List ℕ)) (solids show certify verify : Bool) (c : Command) → by_tests words solids show certify verify ≡ Some c
-    → (reads_form (form_by solids show certify verify) ≡ true) × (certificate_form (form_by solids show certify verify) ≡ takes_certificate c)
-reads_by words true show certify verify c e = (refl, takes c e)
-  where
-    takes : (c : Command) → Some Solids ≡ Some c → false ≡ takes_certificate c
-    takes Solids e = refl
-    takes (Show n) e = absurd cc
-    takes (Certify n) e = absurd cc
-    takes Verify e = absurd cc
-reads_by words false true certify verify c e = (refl, takes c e)
-  where
-    takes : (c : Command) → Some (Show (number_among (word (codes "show") ∷ file ∷ entry_number ∷ []) words)) ≡ Some c → false ≡ takes_certificate c
-    takes Solids e = absurd cc
-    takes (Show n) e = refl
-    takes (Certify n) e = absurd cc
-    takes Verify e = absurd cc
-reads_by words false false true verify c e = (refl, takes c e)
-  where
-    takes : (c : Command) → Some (Certify (number_among (word (codes "certify") ∷ file ∷ entry_number ∷ []) words)) ≡ Some c → false ≡ takes_certificate c
-    takes Solids e = absurd cc
-    takes (Show n) e = absurd cc
-    takes (Certify n) e = refl
-    takes Verify e = absurd cc
-reads_by words false false false true c e = (refl, takes c e)
-  where
-    takes : (c : Command) → Some Verify ≡ Some c → true ≡ takes_certificate c
-    takes Solids e = absurd cc
-    takes (Show n) e = absurd cc
-    takes (Certify n) e = absurd cc
-    takes Verify e = refl
-reads_by words false false false false c e = absurd cc
+-- A form reads the sources that its command is for.
+abbrev ReadsAs : Bool → Bool → Command → Type 0
+ReadsAs file certificate c = (file ≡ takes_file c) × (certificate ≡ takes_certificate c)
 
-reads_both : (words : List (List ℕ)) (c : Command) → command_of words ≡ Some c → (reads_file words ≡ true) × (reads_certificate words ≡ takes_certificate c)
-reads_both words c e = reads_by words (all_fit (word (codes "solids") ∷ file ∷ []) words) (all_fit (word (codes "show") ∷ file ∷ entry_number ∷ []) words) (all_fit (word (codes "certify") ∷ file ∷ entry_number ∷ []) words) (all_fit (word (codes "verify") ∷ file ∷ certificate ∷ []) words) c e
+some_is : (c d : Command) → Some c ≡ Some d → c ≡ d
+some_is c d e = cc
 
-pub reads : (words : List (List ℕ)) (c : Command) → command_of words ≡ Some c → reads_file words ≡ true
+reads_by : (words : List (List ℕ)) (solids show certify verify extract sample : Bool) (c : Command) → by_tests words solids show certify verify extract sample ≡ Some c → ReadsAs (reads_form (form_by solids show certify verify extract sample)) (certificate_form (form_by solids show certify verify extract sample)) c
+reads_by words true show certify verify extract sample c e = subst (ReadsAs true false) (some_is (File Solids) c e) (refl, refl)
+reads_by words false true certify verify extract sample c e = subst (ReadsAs true false) (some_is (File (Show (number_among (word (codes "show") ∷ file ∷ entry_number ∷ []) words))) c e) (refl, refl)
+reads_by words false false true verify extract sample c e = subst (ReadsAs true false) (some_is (File (Certify (number_among (word (codes "certify") ∷ file ∷ entry_number ∷ []) words))) c e) (refl, refl)
+reads_by words false false false true extract sample c e = subst (ReadsAs true true) (some_is (File Verify) c e) (refl, refl)
+reads_by words false false false false true sample c e = subst (ReadsAs true false) (some_is (File (Extract (number_among (word (codes "extract") ∷ file ∷ entry_number ∷ []) words))) c e) (refl, refl)
+reads_by words false false false false false true c e = subst (ReadsAs false false) (some_is (Sample (number_among (word (codes "sample") ∷ sample_number ∷ []) words)) c e) (refl, refl)
+reads_by words false false false false false false c e = absurd cc
+
+reads_both : (words : List (List ℕ)) (c : Command) → command_of words ≡ Some c → ReadsAs (reads_file words) (reads_certificate words) c
+reads_both words c e = reads_by words (all_fit (word (codes "solids") ∷ file ∷ []) words) (all_fit (word (codes "show") ∷ file ∷ entry_number ∷ []) words) (all_fit (word (codes "certify") ∷ file ∷ entry_number ∷ []) words) (all_fit (word (codes "verify") ∷ file ∷ certificate ∷ []) words) (all_fit (word (codes "extract") ∷ file ∷ entry_number ∷ []) words) (all_fit (word (codes "sample") ∷ sample_number ∷ []) words) c e
+
+pub reads : (words : List (List ℕ)) (c : Command) → command_of words ≡ Some c → reads_file words ≡ takes_file c
 reads words c e = (reads_both words c e).0
 
 pub reads_too : (words : List (List ℕ)) (c : Command) → command_of words ≡ Some c → reads_certificate words ≡ takes_certificate c
 reads_too words c e = (reads_both words c e).1
+
+-- ---- the size of a sample
+
+in_range : (w : List ℕ) → fits sample_number w ≡ true → (3 ≤ digits_value 10 w) × (digits_value 10 w ≤ 200)
+in_range w fit =
+    let outer = and_parts (are_digits w && nat_le (length w) 3 && nat_le 3 (digits_value 10 w)) (nat_le (digits_value 10 w) 200) fit in
+    let inner = and_parts (are_digits w && nat_le (length w) 3) (nat_le 3 (digits_value 10 w)) outer.0 in
+    (leb-true 3 (digits_value 10 w) inner.1, leb-true (digits_value 10 w) 200 outer.1)
+
+-- the words of a sample are two, of which the second fits
+sized_words : (words : List (List ℕ)) → all_fit (word (codes "sample") ∷ sample_number ∷ []) words ≡ true → (3 ≤ number_among (word (codes "sample") ∷ sample_number ∷ []) words) × (number_among (word (codes "sample") ∷ sample_number ∷ []) words ≤ 200)
+sized_words [] fit = absurd cc
+sized_words (a ∷ []) fit = absurd (let no_more = second_false (named a (codes "sample")) in cc)
+sized_words (a ∷ w ∷ []) fit =
+    let parts = and_parts (named a (codes "sample")) (fits sample_number w && true) fit in
+    in_range w (and_parts (fits sample_number w) true parts.1).0
+sized_words (a ∷ w ∷ x ∷ ws) fit = absurd (let no_more = later_false (named a (codes "sample")) (fits sample_number w) in cc)
+
+sized_by : (words : List (List ℕ)) (solids show certify verify extract sample : Bool) (c : Command) → (sample ≡ true → (3 ≤ number_among (word (codes "sample") ∷ sample_number ∷ []) words) × (number_among (word (codes "sample") ∷ sample_number ∷ []) words ≤ 200)) → by_tests words solids show certify verify extract sample ≡ Some c → IsSized c
+sized_by words true show certify verify extract sample c sized e = subst IsSized (some_is (File Solids) c e) tt
+sized_by words false true certify verify extract sample c sized e = subst IsSized (some_is (File (Show (number_among (word (codes "show") ∷ file ∷ entry_number ∷ []) words))) c e) tt
+sized_by words false false true verify extract sample c sized e = subst IsSized (some_is (File (Certify (number_among (word (codes "certify") ∷ file ∷ entry_number ∷ []) words))) c e) tt
+sized_by words false false false true extract sample c sized e = subst IsSized (some_is (File Verify) c e) tt
+sized_by words false false false false true sample c sized e = subst IsSized (some_is (File (Extract (number_among (word (codes "extract") ∷ file ∷ entry_number ∷ []) words))) c e) tt
+sized_by words false false false false false true c sized e = subst IsSized (some_is (Sample (number_among (word (codes "sample") ∷ sample_number ∷ []) words)) c e) (sized refl)
+sized_by words false false false false false false c sized e = absurd cc
+
+pub sized : (words : List (List ℕ)) (c : Command) → command_of words ≡ Some c → IsSized c
+sized words c e = sized_by words (all_fit (word (codes "solids") ∷ file ∷ []) words) (all_fit (word (codes "show") ∷ file ∷ entry_number ∷ []) words) (all_fit (word (codes "certify") ∷ file ∷ entry_number ∷ []) words) (all_fit (word (codes "verify") ∷ file ∷ certificate ∷ []) words) (all_fit (word (codes "extract") ∷ file ∷ entry_number ∷ []) words) (all_fit (word (codes "sample") ∷ sample_number ∷ []) words) c (sized_words words) e

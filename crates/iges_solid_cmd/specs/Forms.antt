@@ -1,11 +1,12 @@
 -- The forms that the words of a command line may have.
-use Rattle.std.specs.Prelude.{ℕ, Bool, true, false, ◌&&◌, nat_eq, nat_le, List, [], ◌∷◌, ◌++◌, length, map, Option, Some, None, option_map, find, codes, if◌then◌else◌}
+use Rattle.std.specs.Prelude.{ℕ, ◌≤◌, Bool, true, false, ◌&&◌, nat_eq, nat_le, List, [], ◌∷◌, ◌++◌, length, map, Option, Some, None, option_map, find, codes, if◌then◌else◌}
 use Rattle.std.specs.Cmp.Lexicographic.{pointwise}
 use Rattle.std.specs.List.{list_any}
 use Rattle.std.specs.Str.Parse.{digits_value}
 use Rattle.iges_fields.specs.Word.{are_digits}
 use Rattle.iges_solid_cmd.specs.declared.form.Command.{Command}
 use Rattle.iges_solid_cmd.specs.declared.form.Command.TheVariants as command
+use Rattle.iges_solid_cmd.specs.declared.form.FileCommand.TheVariants as of_file
 
 -- a fixed word, the name of a file or of a certificate, or a number with its most digits, its least and its greatest value
 pub data Slot : Type 0 where
@@ -21,13 +22,18 @@ pub record Form : Type 0 where
 abbrev pub entry_number : Slot
 entry_number = number 7 1 9999999
 
+abbrev pub sample_number : Slot
+sample_number = number 3 3 200
+
 -- the listed forms, in the order of the usage line
 abbrev pub forms : List Form
 forms =
-    record { slots = word (codes "solids") ∷ file ∷ []; command = λ _. command.Solids } ∷
-    record { slots = word (codes "show") ∷ file ∷ entry_number ∷ []; command = λ n. command.Show n } ∷
-    record { slots = word (codes "certify") ∷ file ∷ entry_number ∷ []; command = λ n. command.Certify n } ∷
-    record { slots = word (codes "verify") ∷ file ∷ certificate ∷ []; command = λ _. command.Verify } ∷ []
+    record { slots = word (codes "solids") ∷ file ∷ []; command = λ _. command.File of_file.Solids } ∷
+    record { slots = word (codes "show") ∷ file ∷ entry_number ∷ []; command = λ n. command.File (of_file.Show n) } ∷
+    record { slots = word (codes "certify") ∷ file ∷ entry_number ∷ []; command = λ n. command.File (of_file.Certify n) } ∷
+    record { slots = word (codes "verify") ∷ file ∷ certificate ∷ []; command = λ _. command.File of_file.Verify } ∷
+    record { slots = word (codes "extract") ∷ file ∷ entry_number ∷ []; command = λ n. command.File (of_file.Extract n) } ∷
+    record { slots = word (codes "sample") ∷ sample_number ∷ []; command = λ n. command.Sample n } ∷ []
 
 -- ---- reading words
 
@@ -59,7 +65,9 @@ command_of words = option_map (λ (form : Form). form.command (number_among form
 -- the command that a word asks for, for the entry of this number
 abbrev pub entry_command : List ℕ → ℕ → Option Command
 entry_command name n =
-    if pointwise nat_eq name (codes "show") then Some (command.Show n) else (if pointwise nat_eq name (codes "certify") then Some (command.Certify n) else None)
+    if pointwise nat_eq name (codes "show") then Some (command.File (of_file.Show n))
+    else (if pointwise nat_eq name (codes "certify") then Some (command.File (of_file.Certify n))
+    else (if pointwise nat_eq name (codes "extract") then Some (command.File (of_file.Extract n)) else None))
 
 -- ---- which sources a form reads
 
@@ -79,10 +87,24 @@ is_certificate _ = false
 abbrev pub reads_certificate : List (List ℕ) → Bool
 reads_certificate words = elim (form_of words) [ Some form ↦ list_any is_certificate form.slots | None ↦ false ]
 
+-- the command is for a file
+abbrev pub takes_file : Command → Bool
+takes_file (command.File c) = true
+takes_file (command.Sample n) = false
+
 -- the command is for a file and a certificate
 abbrev pub takes_certificate : Command → Bool
-takes_certificate command.Verify = true
+takes_certificate (command.File of_file.Verify) = true
 takes_certificate _ = false
+
+-- the sizes of samples
+abbrev pub IsSize : ℕ → Type 0
+IsSize n = (3 ≤ n) × (n ≤ 200)
+
+-- of a sample the size is one
+abbrev pub IsSized : Command → Type 0
+IsSized (command.File c) = Unit {0}
+IsSized (command.Sample n) = IsSize n
 
 -- ---- the usage line
 

@@ -2,6 +2,7 @@
 use Rattle.std.specs.Prelude.{◌≡◌, ◌⊎◌, ℕ, Bool, true, false, IsTrue, List, Option, Some}
 use Rattle.iges_solid_cmd.specs.declared.form.Command.{Command}
 use Rattle.iges_solid_cmd.specs.declared.form.Command.TheVariants as command
+use Rattle.iges_solid_cmd.specs.declared.form.FileCommand.TheVariants as of_file
 use Rattle.iges_solid_cmd.specs.declared.answer.Answer.{Answer}
 use Rattle.iges_solid_cmd.specs.declared.answer.Answer.TheVariants as answer
 use Rattle.iges_solid_cmd.specs.Forms.{command_of}
@@ -9,7 +10,8 @@ use Rattle.iges_solid_cmd.specs.Due.{Due}
 
 -- the commands whose text depends on the certificate that is made
 abbrev pub chooses : Option Command → Bool
-chooses (Some (command.Certify n)) = true
+chooses (Some (command.File (of_file.Certify n))) = true
+chooses (Some (command.Sample n)) = true
 chooses _ = false
 
 -- Two that are owed have one answer, and one text but where the work is done and a certificate was chosen.

@@ -13,6 +13,8 @@ use Rattle.solid_data.specs.declared.solid.FaceUse.{FaceUse}
 use Rattle.solid_data.specs.declared.solid.Shell.{Shell}
 use Rattle.solid_data.specs.declared.verdict.Failing.{Failing}
 use Rattle.edge_uses.specs.ShellRows.{ShellRows, shell_rows}
+use Rattle.solid_extract.specs.declared.fault.ExtractReason.{ExtractReason}
+use Rattle.solid_extract.specs.declared.fault.ExtractReason.TheVariants as extracting
 use Rattle.cert_lines.specs.declared.fault.Illegal.{Illegal}
 use Rattle.cert_lines.specs.declared.fault.Illegal.TheVariants.{Misspelt, Unfit, Missing}
 
@@ -48,6 +50,15 @@ illegal_line bad = codes "line " ++ decimal (illegal_number bad) ++ codes " " ++
 abbrev pub accepted_line : ℕ → List ℕ
 accepted_line n = codes "accepted " ++ decimal n ++ codes "\n"
 
+abbrev pub extract_word : ExtractReason → List ℕ
+extract_word extracting.NotSolid = codes "not-solid"
+extract_word extracting.Unlisted = codes "unlisted"
+extract_word extracting.Layout = codes "layout"
+extract_word extracting.Dangling = codes "dangling"
+
+abbrev pub no_extract_line : ℕ → ExtractReason → List ℕ
+no_extract_line entity why = codes "no extract " ++ decimal entity ++ codes " " ++ extract_word why ++ codes "\n"
+
 -- a word and a number, each behind a space
 abbrev pub counted : List ℕ → ℕ → List ℕ
 counted word n = codes " " ++ word ++ codes " " ++ decimal n
@@ -72,3 +83,9 @@ shell_lines_from k s shells = flat_map (λ (h : ℕ × Shell). shell_line (h.0 +
 -- the solid's number, and a line for each shell
 abbrev pub show_text : SolidData → List ℕ
 show_text s = codes "solid " ++ decimal s.entity.0 ++ codes "\n" ++ shell_lines_from 0 s s.shells
+
+-- of a sample its size, the counts of its solid, and the lengths in bytes of its text and of a certificate
+abbrev pub sample_line : ℕ → ℕ → ℕ → ℕ → ℕ → ℕ → List ℕ
+sample_line n faces edges vertices file certificate =
+    codes "sample " ++ decimal n ++ counted (codes "faces") faces ++ counted (codes "edges") edges ++ counted (codes "vertices") vertices
+    ++ counted (codes "file") file ++ counted (codes "certificate") certificate ++ codes " accepted\n"

@@ -29,8 +29,8 @@ pub fn failed(alloc: Global, failing: Failing) -> Result<Reply, NoMemory>
     })
 }
 
-// A word and a number, each behind a space.
-fn put_count(out: &mut Out, word: &str, n: u64) -> Result<(), NoMemory>
+/// A word and a number, each behind a space.
+pub fn put_count(out: &mut Out, word: &str, n: u64) -> Result<(), NoMemory>
     ensures { OnOk result (out.new ≡ out.old ++ counted word.now n) }
 {
     out.put(b" ")?;
