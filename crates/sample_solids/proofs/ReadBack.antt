@@ -7,10 +7,10 @@ use Rattle.iges_fields.specs.Delims.{Delims}
 use Rattle.iges_write.specs.Parts.{parts}
 use Rattle.iges_write.specs.Text.{global_values}
 use Rattle.iges_write.specs.Writable.{IsWritable}
-use Rattle.iges_write.proofs.FileBack.{reads_back}
+use Rattle.iges_write.proofs.FileBack.{reads_back, one_text}
 use Rattle.solid_data.proofs.Members.{all_append, all_flat_map}
 use Rattle.sample_solids.specs.Sample.{squares, whole, start_line, no_values, shell_record, vertex_record, edge_record, face_record, loop_record, entry, first_entries, face_entries, sample}
-use Rattle.sample_solids.specs.Laws.{SamplesAreWithin, SamplesReadBack}
+use Rattle.sample_solids.specs.Laws.{SamplesAreWithin, SamplesHaveTexts, SamplesReadBack}
 use Rattle.sample_solids.proofs.Sizes.{sample_total, sample_length, few_squares}
 use Rattle.sample_solids.proofs.Made.{made}
 use Rattle.sample_solids.proofs.Small.{IsSmall, AreSmall, shell_small, vertices_small, edges_small, face_small, loop_small}
@@ -83,3 +83,6 @@ within n low high text t =
 
 pub back : SamplesReadBack
 back n low high text t = reads_back (sample n) text (writable n (omega (arith, low)) high) t (within n low high text t)
+
+pub has_text : SamplesHaveTexts
+has_text n low high = let one = one_text (sample n) in (one.0, one.1, within n low high one.0 one.1)

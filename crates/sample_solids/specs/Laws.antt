@@ -37,3 +37,7 @@ SamplesAreWithin = (n : ℕ) → 3 ≤ n → n ≤ 200 → (text : List ℕ) →
 -- And it is read as that sample.
 abbrev pub SamplesReadBack : Type 0
 SamplesReadBack = (n : ℕ) → 3 ≤ n → n ≤ 200 → (text : List ℕ) → IsText (sample n) text → IsFile text (sample n)
+
+-- And there is one.
+abbrev pub SamplesHaveTexts : Type 0
+SamplesHaveTexts = (n : ℕ) → 3 ≤ n → n ≤ 200 → (text : List ℕ) × IsText (sample n) text × (length text ≤ FILE_LIMIT)
