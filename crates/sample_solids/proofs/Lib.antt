@@ -12,3 +12,7 @@ pub mod Counts
 pub mod Placed
 pub mod Closed
 pub mod Smallest
+pub mod Small
+pub mod Filling
+pub mod Lengths
+pub mod ReadBack

@@ -1,7 +1,10 @@
 -- What holds of each sample.
 use Rattle.std.specs.Prelude.{◌≡◌, ℕ, ◌*◌, ◌≤◌, List, length, flat_map}
+use Rattle.iges_fields.specs.declared.TheConstants.{FILE_LIMIT}
 use Rattle.iges_params.specs.Contents.{Contents}
+use Rattle.iges_params.specs.IsFile.{IsFile}
 use Rattle.iges_params.specs.Made.{IsMade}
+use Rattle.iges_write.specs.Text.{IsText}
 use Rattle.brep_walk.specs.SolidOf.{solid_of}
 use Rattle.solid_data.specs.declared.solid.FaceUse.{FaceUse}
 use Rattle.solid_data.specs.declared.solid.Shell.{Shell}
@@ -26,3 +29,15 @@ SamplesAreClosed = (n : ℕ) → 3 ≤ n → n ≤ 200 → IsClosedMesh (sample 
 -- Some certificate is accepted for each.
 abbrev pub SamplesAreAccepted : Type 0
 SamplesAreAccepted = (n : ℕ) → 3 ≤ n → n ≤ 200 → (certificate : List ℕ) × IsAccepted (sample n) 1 certificate
+
+-- The canonical text of each has at most so many bytes as a file may have.
+abbrev pub SamplesAreWithin : Type 0
+SamplesAreWithin = (n : ℕ) → 3 ≤ n → n ≤ 200 → (text : List ℕ) → IsText (sample n) text → length text ≤ FILE_LIMIT
+
+-- And it is read as that sample.
+abbrev pub SamplesReadBack : Type 0
+SamplesReadBack = (n : ℕ) → 3 ≤ n → n ≤ 200 → (text : List ℕ) → IsText (sample n) text → IsFile text (sample n)
+
+-- And there is one.
+abbrev pub SamplesHaveTexts : Type 0
+SamplesHaveTexts = (n : ℕ) → 3 ≤ n → n ≤ 200 → (text : List ℕ) × IsText (sample n) text × (length text ≤ FILE_LIMIT)

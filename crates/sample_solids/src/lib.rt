@@ -7,7 +7,7 @@ mod law;
 mod values;
 
 pub use file::sample_file;
-pub use law::samples_are_closed;
+pub use law::{samples_are_closed, samples_read_back};
 
 #[cfg(test)]
 mod tests;
