@@ -192,7 +192,7 @@ certificate_form o = elim o [ Some form ↦ list_any is_certificate form.slots |
 
 -- A form reads the sources that its command is for.
 abbrev ReadsAs : Bool → Bool → Command → Type 0
-ReadsAs file certificate c = (file ≡ takes_file c) × (certificate ≡ takes_certificate c)
+ReadsAs reads takes c = (reads ≡ takes_file c) × (takes ≡ takes_certificate c)
 
 some_is : (c d : Command) → Some c ≡ Some d → c ≡ d
 some_is c d e = cc

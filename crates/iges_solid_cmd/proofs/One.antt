@@ -22,7 +22,7 @@ use Rattle.iges_solid_cmd.specs.declared.answer.Answer.TheVariants as answer
 use Rattle.iges_solid_cmd.specs.Forms.{command_of, usage_line}
 use Rattle.iges_solid_cmd.specs.Texts.{bad_file_line, fail_line, illegal_line, solids_text}
 use Rattle.iges_solid_cmd.specs.Outcome.{IsNoFile}
-use Rattle.iges_solid_cmd.specs.Due.{Owed, Exactly, OfNoFile, OfFile, OfSolids, OfShow, OfCertify, OfLines, OfVerify, OfContents, DueOf}
+use Rattle.iges_solid_cmd.specs.Due.{Owed, Exactly, OfNoFile, OfFile, OfSolids, OfShow, OfCertify, OfLines, OfVerify, OfContents, OfSample, DueOf}
 use Rattle.iges_solid_cmd.specs.OneAnswer.{chooses, OneAnswerIsOwed}
 
 -- at most one answer and text are owed
@@ -106,9 +106,12 @@ contents_one (of_file.Show n) certificate f = one_but _ (OfShow n f) (show_one n
 contents_one (of_file.Certify n) certificate f = certify_one _ refl n f
 contents_one of_file.Verify certificate f = one_but _ (OfVerify certificate f) (verify_one certificate f)
 
+sample_one : (n : ℕ) → IsOneBut (IsTrue (chooses (Some (command.Sample n)))) (OfSample n)
+sample_one n a b t u p q = (p.4.0 ∙ sym q.4.0, inr (p.4.0, refl))
+
 due_of_one : (c : Command) (file certificate : List ℕ) → IsOneBut (IsTrue (chooses (Some c))) (DueOf c file certificate)
 due_of_one (command.File c) file certificate = file_one _ file (OfContents c certificate) (contents_one c certificate)
-due_of_one (command.Sample n) file certificate a b t u p q = (p.4.0 ∙ sym q.4.0, inr (p.4.0, refl))
+due_of_one (command.Sample n) file certificate = sample_one n
 
 pub due_one : OneAnswerIsOwed
 due_one words file certificate a b t u p q = by_command (command_of words) p q

@@ -1,5 +1,5 @@
 -- Words of few digits are numbers of 32 bits.
-use Rattle.std.proofs.Common.{◌≡◌, ℕ, ◌&&◌, ◌<◌, not, true, List, [], ◌∷◌, length, Err, refl, arith}
+use Rattle.std.proofs.Common.{◌≡◌, ℕ, ◌&&◌, ◌<◌, ◌≤◌, not, true, List, [], ◌∷◌, length, Err, refl, arith}
 use Rattle.std.specs.Prelude.{nat_le}
 use Rattle.std.specs.Char.{is_ascii_digit}
 use Rattle.std.specs.List.{list_all}
@@ -26,9 +26,10 @@ some_digits : (w : List ℕ) → not (is_empty w) ≡ true → 0 < length w
 some_digits [] some = absurd cc
 some_digits (x ∷ w) some = omega arith
 
-pub short_parses : {E : Type 0} (w : List ℕ) (e : E) → (are_digits w && nat_le (length w) 7) ≡ true → ParsesUnsigned 32 10 w (Err e) → ⊥
-short_parses w e short parses =
-    let parts = and_parts (are_digits w) (nat_le (length w) 7) short in
-    let digits = and_parts (not (is_empty w)) (list_all is_ascii_digit w) parts.0 in
-    let small = digits_value_short own w 7 digits.1 (leb-true (length w) 7 parts.1) in
-    parse_digits own 32 w (Err e) parses digits.1 (some_digits w digits.0, omega (arith, small))
+pub short_parses : {E : Type 0} (w : List ℕ) (digits : ℕ) (e : E) → digits ≤ 7 → (are_digits w && nat_le (length w) digits) ≡ true → ParsesUnsigned 32 10 w (Err e) → ⊥
+short_parses w digits e few short parses =
+    let parts = and_parts (are_digits w) (nat_le (length w) digits) short in
+    let all = and_parts (not (is_empty w)) (list_all is_ascii_digit w) parts.0 in
+    let most : length w ≤ 7 = omega (arith, leb-true (length w) digits parts.1, few) in
+    let small = digits_value_short own w 7 all.1 most in
+    parse_digits own 32 w (Err e) parses all.1 (some_digits w all.0, omega (arith, small))

@@ -7,7 +7,7 @@ ghost use Rattle.iges_solid_cmd.specs.Texts.{sample_line};
 ghost use Rattle.iges_write.specs.Text.{IsText};
 ghost use Rattle.sample_solids.specs.Laws.{faces_in};
 ghost use Rattle.sample_solids.specs.Sample.{sample};
-ghost use Rattle.std.specs.Prelude.{◌≡◌, ◌≤◌, length, IfOk};
+ghost use Rattle.std.specs.Prelude.{◌≡◌, ◌+◌, ◌<◌, ◌≤◌, drop, length, IfOk};
 
 use crate::answer::Answer;
 use crate::reply::Reply;
@@ -92,13 +92,21 @@ fn check_text(alloc: Global, solid: &Solid, text: &[u8], n: u32) -> Result<(), N
     Ok(())
 }
 
+// How many faces the k-th shell has, from 0.
+fn shell_faces(solid: &Solid, k: u32) -> u64
+    requires { k < length solid.now.shells }
+    ensures { result + length (faces_in (drop (k + 1) solid.now.shells)) ≡ length (faces_in (drop k solid.now.shells)) }
+{
+    solid.shell(ShellAt(k)).unwrap().faces.len() as u64
+}
+
 // How many faces the shells have.
 fn face_count(solid: &Solid) -> u64
     ensures { result ≡ length (faces_in solid.now.shells) }
 {
     let mut count = 0;
-    'shells: for k in 0..solid.shell_count() {
-        count += solid.shell(ShellAt(k as u32)).unwrap().faces.len() as u64;
+    'shells: for k in 0..solid.shell_count() as u32 {
+        count += shell_faces(solid, k);
     }
     count
 }

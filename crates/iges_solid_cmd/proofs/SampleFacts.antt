@@ -1,0 +1,81 @@
+-- What holds of each sample.
+use Rattle.std.proofs.Common.{◌≡◌, ◌≤◌, ◌<◌, ◌*◌, ◌+◌, ◌^◌, ◌++◌, ℕ, List, [], ◌∷◌, length, flat_map, drop, refl, sym, ap, subst, ◌∙◌, Some, slice_get, get_or, unwrap_or, arith, length-append}
+use Rattle.std.proofs.lemmas.List.{drop_more}
+use Rattle.std.proofs.lemmas.Option.{slice_get_within, unwrap_or-slice_get}
+use Rattle.solid_data.specs.Numbering.{IsNumberedSolid}
+use Rattle.solid_data.specs.declared.solid.Shell.{Shell}
+use Rattle.solid_data.specs.Obligations.{AllHold, FirstFalse}
+use Rattle.solid_data.specs.SolidData.{SolidData}
+use Rattle.solid_data.specs.declared.verdict.Failing.{Failing}
+use Rattle.solid_data.proofs.ObligationLemmas.{FirstFalse-not_all}
+use Rattle.edge_uses.specs.ShellObligations.{solid_obligations}
+use Rattle.edge_uses.proofs.ClosedLemmas.{closed_is_all_hold}
+use Rattle.brep_walk.specs.Places.{places}
+use Rattle.brep_walk.specs.SolidOf.{solid_of}
+use Rattle.iges_params.specs.Contents.{Contents}
+use Rattle.cert_lines.specs.Opening.{Opens, IsBadOpening}
+use Rattle.cert_lines.specs.declared.fault.Illegal.{Illegal}
+use Rattle.cert_lines.proofs.Openings.{one_opening, opens_or_bad}
+use Rattle.topo_certificate.specs.Legal.{IsFirstBad}
+use Rattle.topo_certificate.proofs.LegalLemmas.{legal_has_no_bad_lem}
+use Rattle.cert_maker.specs.Accepted.{IsAccepted}
+use Rattle.iges_write.specs.Text.{IsText}
+use Rattle.sample_solids.specs.Laws.{IsClosedMesh, faces_in}
+use Rattle.sample_solids.specs.Sample.{sample}
+use Rattle.sample_solids.proofs.Closed.{closed}
+use Rattle.iges_solid_cmd.specs.declared.answer.Answer.{Answer}
+use Rattle.iges_solid_cmd.specs.declared.answer.Answer.TheVariants.{Done}
+use Rattle.iges_solid_cmd.specs.Forms.{IsSize}
+use Rattle.iges_solid_cmd.specs.Texts.{sample_line}
+use Rattle.iges_solid_cmd.specs.Due.{OfSample}
+
+module _ (n : ℕ) (size : IsSize n) where
+  mesh : IsClosedMesh (sample n) n
+  mesh = closed n size.0 size.1
+
+  -- no place is false
+  pub no_place_fails : (f : Contents) (x : Failing) → f ≡ sample n → FirstFalse (places f 1) x → ⊥
+  no_place_fails f x is first = FirstFalse-not_all (places (sample n) 1) x (subst (λ (g : Contents). FirstFalse (places g 1) x) is first) mesh.closed.placed
+
+  -- no rule on the shells fails
+  pub no_rule_fails : (s : SolidData) (x : Failing) → s ≡ solid_of (sample n) 1 → FirstFalse (solid_obligations s) x → ⊥
+  no_rule_fails s x is first =
+      let d = solid_of (sample n) 1 in
+      FirstFalse-not_all (solid_obligations d) x (subst (λ (e : SolidData). FirstFalse (solid_obligations e) x) is first) ((closed_is_all_hold d).0 mesh.closed.closed)
+
+  -- the certificate that was made is accepted
+  pub made_accepted : (s : SolidData) (text made : List ℕ) → s ≡ solid_of (sample n) 1 → text ≡ made → ((f : Contents) (k : ℕ) → AllHold (places f k) → s ≡ solid_of f k → IsAccepted f k made) → IsAccepted (sample n) 1 text
+  made_accepted s text made is same accepted = subst (IsAccepted (sample n) 1) (sym same) (accepted (sample n) 1 mesh.closed.placed is)
+
+  -- the line tells the counts of n times n squares
+  pub sample_told : (s : SolidData) (text certificate t : List ℕ) (a : Answer) → s ≡ solid_of (sample n) 1 → IsText (sample n) text → IsAccepted (sample n) 1 certificate → a ≡ Done
+      → t ≡ sample_line n (length (faces_in s.shells)) (length s.edges) (length s.vertices) (length text) (length certificate) → OfSample n a t
+  sample_told s text certificate t a is canonical accepted done told =
+      let counts : sample_line n (length (faces_in s.shells)) (length s.edges) (length s.vertices) (length text) (length certificate) ≡ sample_line n (n * n) (2 * n * n) (n * n) (length text) (length certificate) =
+          ap (λ (d : SolidData). sample_line n (length (faces_in d.shells)) (length d.edges) (length d.vertices) (length text) (length certificate)) is
+          ∙ ap (λ k. sample_line n k (length (solid_of (sample n) 1).edges) (length (solid_of (sample n) 1).vertices) (length text) (length certificate)) mesh.faces
+          ∙ ap (λ k. sample_line n (n * n) k (length (solid_of (sample n) 1).vertices) (length text) (length certificate)) mesh.edges
+          ∙ ap (λ k. sample_line n (n * n) (2 * n * n) k (length text) (length certificate)) mesh.vertices in
+      (text, certificate, canonical, accepted, (done, told ∙ counts))
+
+-- an accepted certificate opens
+pub opens_well : (f : Contents) (k : ℕ) (certificate : List ℕ) (bad : Illegal) → IsAccepted f k certificate → IsBadOpening certificate bad → ⊥
+opens_well f k certificate bad accepted wrong = opens_or_bad certificate k accepted.rest bad accepted.opens wrong
+
+-- and its further lines are legal
+pub no_bad_line : (f : Contents) (k m : ℕ) (s d : SolidData) (certificate : List ℕ) (lines : List (List ℕ)) (bad : Illegal) → IsAccepted f k certificate → s ≡ solid_of f k → d ≡ s → Opens certificate m lines → IsFirstBad d lines bad → ⊥
+no_bad_line f k m s d certificate lines bad accepted is same opens first =
+    let one = one_opening certificate m k lines accepted.rest opens accepted.opens in
+    legal_has_no_bad_lem (solid_of f k) accepted.rest bad accepted.legal
+    (subst (λ (e : SolidData). IsFirstBad e accepted.rest bad) (same ∙ is) (subst (λ (ls : List (List ℕ)). IsFirstBad d ls bad) one.1 first))
+
+-- the faces of a shell, and those of the shells behind it
+pub faces_next : (shells : List Shell) (k : ℕ) (h : Shell) → slice_get shells k ≡ Some h → length h.faces + length (faces_in (drop (k + 1) shells)) ≡ length (faces_in (drop k shells))
+faces_next shells k h there =
+    let is : get_or shells k h ≡ h = sym (unwrap_or-slice_get shells k h) ∙ ap (λ o. unwrap_or o h) there in
+    let front : drop k shells ≡ h ∷ drop (k + 1) shells = drop_more shells k h (slice_get_within shells k h there) ∙ ap (λ x. x ∷ drop (k + 1) shells) is in
+    sym (ap (λ hs. length (faces_in hs)) front ∙ length-append h.faces (faces_in (drop (k + 1) shells)))
+
+-- a solid has few faces
+pub few_left : (s : SolidData) (count k : ℕ) → IsNumberedSolid s → count + length (faces_in (drop k s.shells)) ≡ length (faces_in s.shells) → count + length (faces_in (drop k s.shells)) < 2 ^ 29
+few_left s count k numbered all = omega (arith, numbered.few_faces, all)

@@ -1,0 +1,12 @@
+use Rattle.cert_lines.specs.Line.{cut_lines}
+use Rattle.sample_solids.specs.Sample.{sample}
+use Rattle.iges_solid_cmd.proofs.SampleFacts.{opens_well, no_bad_line}
+use Rattle.iges_solid_cmd.proofs.sampling.check_text.Goals as goal
+
+pub unreachable-requires : goal.unreachable-requires
+unreachable-requires c = opens_well (sample c.args.n) 1 c.args.text.now c.in_default.field-0 c.requires.accepted (c.in_default.ensures {u = tt})
+
+pub unreachable-requires-in_default-check : goal.unreachable-requires-in_default-check
+unreachable-requires-in_default-check c =
+    no_bad_line (sample c.args.n) 1 _ c.args.solid.now c.in_ok-checker.checker.solid c.args.text.now _ c.in_default-check.field-0 c.requires.accepted c.requires.sample c.in_ok-checker.ensures.solid c.in-Ok.ensures
+    ((c.in_default-check.ensures {u = tt}).whole c.in_ok-checker.ensures.begun)
