@@ -1,5 +1,5 @@
 -- Words and the forms that they have.
-use Rattle.std.proofs.Common.{◌≡◌, ◌⊎◌, ℕ, zero, suc, ◌<◌, ◌≤◌, ◌&&◌, Bool, true, false, cond, List, [], ◌∷◌, length, map, get_or, Option, Some, None, refl, sym, ap, subst, ◌∙◌, arith, inl, inr, ⊎_elim, nat_eq, nat_le, codes, String, string_bytes, Global, if◌then◌else◌}
+use Rattle.std.proofs.Common.{◌≡◌, ◌⊎◌, ℕ, ◌<◌, ◌≤◌, ◌&&◌, Bool, true, false, cond, List, [], ◌∷◌, length, map, get_or, Option, Some, None, refl, sym, ap, subst, ◌∙◌, arith, inl, inr, ⊎_elim, nat_eq, nat_le, codes, String, string_bytes, Global, if◌then◌else◌}
 use Rattle.std.specs.Cmp.Lexicographic.{pointwise}
 use Rattle.std.specs.List.{list_any}
 use Rattle.std.specs.Option.{option_map}
@@ -8,7 +8,6 @@ use Rattle.std.proofs.lemmas.Bool.{eqb-true, and_parts, leb-true}
 use Rattle.iges_fields.specs.Word.{are_digits}
 use Rattle.iges_solid_cmd.specs.declared.form.Command.{Command}
 use Rattle.iges_solid_cmd.specs.declared.form.Command.TheVariants.{File, Sample}
-use Rattle.iges_solid_cmd.specs.declared.form.FileCommand.{FileCommand}
 use Rattle.iges_solid_cmd.specs.declared.form.FileCommand.TheVariants.{Solids, Show, Certify, Verify}
 use Rattle.iges_solid_cmd.specs.Forms.{Form, all_fit, certificate, command_of, entry_command, entry_number, sample_number, fits, file, is_certificate, is_file, number_among, reads_certificate, reads_file, takes_certificate, takes_file, IsSized, word}
 

@@ -1,5 +1,5 @@
 -- What holds of each sample.
-use Rattle.std.proofs.Common.{◌≡◌, ◌≤◌, ◌<◌, ◌*◌, ◌+◌, ◌^◌, ◌++◌, ℕ, List, [], ◌∷◌, length, flat_map, drop, refl, sym, ap, subst, ◌∙◌, Some, slice_get, get_or, unwrap_or, arith, length-append}
+use Rattle.std.proofs.Common.{◌≡◌, ◌<◌, ◌*◌, ◌+◌, ◌^◌, ℕ, List, ◌∷◌, length, drop, sym, ap, subst, ◌∙◌, Some, slice_get, get_or, unwrap_or, arith, length-append}
 use Rattle.std.proofs.lemmas.List.{drop_more}
 use Rattle.std.proofs.lemmas.Option.{slice_get_within, unwrap_or-slice_get}
 use Rattle.solid_data.specs.Numbering.{IsNumberedSolid}
@@ -52,10 +52,10 @@ module _ (n : ℕ) (size : IsSize n) where
       → t ≡ sample_line n (length (faces_in s.shells)) (length s.edges) (length s.vertices) (length text) (length certificate) → OfSample n a t
   sample_told s text certificate t a is canonical accepted done told =
       let counts : sample_line n (length (faces_in s.shells)) (length s.edges) (length s.vertices) (length text) (length certificate) ≡ sample_line n (n * n) (2 * n * n) (n * n) (length text) (length certificate) =
-          ap (λ (d : SolidData). sample_line n (length (faces_in d.shells)) (length d.edges) (length d.vertices) (length text) (length certificate)) is
-          ∙ ap (λ k. sample_line n k (length (solid_of (sample n) 1).edges) (length (solid_of (sample n) 1).vertices) (length text) (length certificate)) mesh.faces
-          ∙ ap (λ k. sample_line n (n * n) k (length (solid_of (sample n) 1).vertices) (length text) (length certificate)) mesh.edges
-          ∙ ap (λ k. sample_line n (n * n) (2 * n * n) k (length text) (length certificate)) mesh.vertices in
+      ap (λ (d : SolidData). sample_line n (length (faces_in d.shells)) (length d.edges) (length d.vertices) (length text) (length certificate)) is
+      ∙ ap (λ k. sample_line n k (length (solid_of (sample n) 1).edges) (length (solid_of (sample n) 1).vertices) (length text) (length certificate)) mesh.faces
+      ∙ ap (λ k. sample_line n (n * n) k (length (solid_of (sample n) 1).vertices) (length text) (length certificate)) mesh.edges
+      ∙ ap (λ k. sample_line n (n * n) (2 * n * n) k (length text) (length certificate)) mesh.vertices in
       (text, certificate, canonical, accepted, (done, told ∙ counts))
 
 -- an accepted certificate opens

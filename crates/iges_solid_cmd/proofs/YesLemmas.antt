@@ -1,7 +1,6 @@
 -- When verifying answers yes.
-use Rattle.std.proofs.Common.{◌≡◌, ◌≤◌, ◌↔◌, inl, inr, ℕ, List, refl, sym, ◌∙◌, length}
+use Rattle.std.proofs.Common.{◌≡◌, inl, inr, ℕ, List, refl}
 use Rattle.iges_params.specs.Contents.{Contents}
-use Rattle.topo_certificate.specs.declared.TheConstants.{CERT_LIMIT}
 use Rattle.cert_maker.specs.Accepted.{IsAccepted}
 use Rattle.cert_maker.proofs.Checking.{accepted_is_checked}
 use Rattle.cert_maker.proofs.Sound.{accepted_is_closed}

@@ -13,6 +13,7 @@ use crate::answer::Answer;
 use crate::reply::Reply;
 use crate::showing::put_count;
 use brep_walk::{WalkFault, walk};
+use cert_lines::read_opening;
 use cert_maker::{MakeFault, certify};
 use iges_fields::{Bytes, EntryNo, FILE_LIMIT, NoMemory, Out, write_number};
 use iges_params::{File, ReadFileFault, read_file};
@@ -20,7 +21,6 @@ use iges_write::{WriteFileFault, write_file};
 use sample_solids::sample_file;
 use solid_data::{ShellAt, Solid};
 use std::alloc::Global;
-use cert_lines::read_opening;
 use topo_certificate::{Checker, check, write_certificate};
 
 // The canonical text of the sample of so many times so many faces.

@@ -1,8 +1,5 @@
-use Rattle.std.proofs.Common.{◌≡◌, refl, sym, subst, rules, length}
-use Rattle.cert_maker.specs.Accepted.{IsAccepted}
-use Rattle.iges_write.specs.Text.{IsText}
+use Rattle.std.proofs.Common.{◌≡◌, refl, rules, length}
 use Rattle.sample_solids.specs.Laws.{faces_in}
-use Rattle.sample_solids.specs.Sample.{sample}
 use Rattle.iges_solid_cmd.specs.Texts.{sample_line}
 use Rattle.iges_solid_cmd.proofs.SampleFacts.{sample_told}
 use Rattle.iges_solid_cmd.proofs.sampling.certify_sample.Goals as goal

@@ -1,4 +1,3 @@
-use Rattle.cert_lines.specs.Line.{cut_lines}
 use Rattle.sample_solids.specs.Sample.{sample}
 use Rattle.iges_solid_cmd.proofs.SampleFacts.{opens_well, no_bad_line}
 use Rattle.iges_solid_cmd.proofs.sampling.check_text.Goals as goal

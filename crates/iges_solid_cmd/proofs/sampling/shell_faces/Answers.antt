@@ -1,5 +1,4 @@
-use Rattle.std.proofs.Common.{◌≡◌, Some, length, slice_get, rules, sym, ◌∙◌, ap, ◌+◌, drop}
-use Rattle.solid_data.specs.declared.solid.Shell.{Shell}
+use Rattle.std.proofs.Common.{◌≡◌, Some, length, slice_get, rules, ◌∙◌, ap, ◌+◌, drop}
 use Rattle.sample_solids.specs.Laws.{faces_in}
 use Rattle.iges_solid_cmd.proofs.SampleFacts.{faces_next}
 use Rattle.iges_solid_cmd.proofs.sampling.shell_faces.Goals as goal
