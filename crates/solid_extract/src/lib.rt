@@ -3,6 +3,8 @@
 
 mod fault;
 mod law;
+mod layout;
+mod place;
 
 pub use fault::ExtractReason;
 pub use law::{items_are_kept, one_extraction, records_are_kept};
