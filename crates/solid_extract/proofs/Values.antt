@@ -1,6 +1,7 @@
 -- Values in their places.
-use Rattle.std.specs.Prelude.{◌≡◌, IfSome, IfNone, option_copied, ℕ, ◌-◌, List, Option, Some, None, slice_get, slice_index_or}
-use Rattle.std.proofs.Common.{Bor, sym, ◌∙◌, ap}
+use Rattle.std.specs.List.{range_with_len}
+use Rattle.std.specs.Prelude.{◌≡◌, zero, suc, ◌+◌, [], ◌∷◌, ◌++◌, IfSome, IfNone, option_copied, ℕ, ◌-◌, List, Option, Some, None, slice_get, slice_index_or}
+use Rattle.std.proofs.Common.{Bor, arith, sym, ◌∙◌, ap}
 use Rattle.std.specs.Option.{unwrap_or}
 use Rattle.std.proofs.lemmas.Option.{unwrap_or-slice_get}
 use Rattle.iges_fields.specs.declared.value.Value.{Value}
@@ -20,3 +21,10 @@ got_some vs i k (Some v) at e = got vs k v.now (e ∙ ap (slice_get vs) at)
 pub got_none : (vs : List Value) (i k : ℕ) (o : Option (Bor Value)) → i ≡ k - 1 → option_copied o ≡ slice_get vs i → IfNone o (value_at vs k ≡ value.Default)
 got_none vs i k None at e = past vs k (e ∙ ap (slice_get vs) at)
 got_none vs i k (Some v) at e = tt
+
+pub range_more : (a n : ℕ) → range_with_len a (n + 1) ≡ range_with_len a n ++ (a + n) ∷ []
+range_more a zero = ap (λ (x : ℕ). x ∷ []) (let e : a ≡ a + 0 = omega arith in e)
+range_more a (suc n) =
+    let one : suc n + 1 ≡ suc (n + 1) = omega arith in
+    let last : (a + 1) + n ≡ a + suc n = omega arith in
+    ap (range_with_len a) one ∙ ap (λ (xs : List ℕ). a ∷ xs) (range_more (a + 1) n ∙ ap (λ (x : ℕ). range_with_len (a + 1) n ++ x ∷ []) last)

@@ -4,6 +4,8 @@
 mod fault;
 mod law;
 mod layout;
+mod own;
+mod own_table;
 mod place;
 
 pub use fault::ExtractReason;
