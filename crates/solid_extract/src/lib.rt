@@ -3,10 +3,14 @@
 
 mod fault;
 mod law;
+mod group;
+mod group_places;
 mod layout;
 mod own;
+mod own_kinds;
 mod own_table;
 mod place;
+mod record_kind;
 
 pub use fault::ExtractReason;
 pub use law::{items_are_kept, one_extraction, records_are_kept};
