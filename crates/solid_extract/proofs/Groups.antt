@@ -69,8 +69,8 @@ first_value vs i =
     let one : i ≡ (i + 1) - 1 = omega arith in
     index_drop vs i value.Default ∙ ap (λ (k : ℕ). slice_index_or vs k value.Default) one
 
-same_group : (c d : Value) (n m i j : ℕ) (vs ws : List Value) → c ≡ d → vs ≡ ws → n ≡ m → drop n vs ≡ drop j ws → (let g : Group = record { count = c; pointers = take n vs; rest = drop n vs } in g) ≡ record { count = d; pointers = take m ws; rest = drop j ws }
-same_group c d n m i j vs ws ec ev en er =
+same_group : (c d : Value) (n m : ℕ) (vs ws rest : List Value) → c ≡ d → vs ≡ ws → n ≡ m → drop n vs ≡ rest → (let g : Group = record { count = c; pointers = take n vs; rest = drop n vs } in g) ≡ record { count = d; pointers = take m ws; rest = rest }
+same_group c d n m vs ws rest ec ev en er =
     ap (λ (x : Value). let g : Group = record { count = x; pointers = take n vs; rest = drop n vs } in g) ec
     ∙ (ap (λ (xs : List Value). let g : Group = record { count = d; pointers = xs; rest = drop n vs } in g) (ap (λ (k : ℕ). take k vs) en ∙ ap (take m) ev)
     ∙ ap (λ (xs : List Value). let g : Group = record { count = d; pointers = take m ws; rest = xs } in g) er)
@@ -83,7 +83,7 @@ group_is vs i place n ep en =
     let opened : drop 1 (drop i vs) ≡ drop place vs = drop-drop 1 i vs ∙ ap (λ (j : ℕ). drop j vs) k in
     let rest : drop (unwrap_or (count_of (value_at (drop i vs) 1)) 0) (drop 1 (drop i vs)) ≡ drop (place + n) vs =
     ap (λ (j : ℕ). drop j (drop 1 (drop i vs))) m ∙ (ap (drop n) opened ∙ drop-drop n place vs) in
-    same_group (value_at (drop i vs) 1) (value_at vs place) (unwrap_or (count_of (value_at (drop i vs) 1)) 0) n i (place + n) (drop 1 (drop i vs)) (drop place vs) count opened m rest
+    same_group (value_at (drop i vs) 1) (value_at vs place) (unwrap_or (count_of (value_at (drop i vs) 1)) 0) n (drop 1 (drop i vs)) (drop place vs) (drop (place + n) vs) count opened m rest
 
 pub group_stands : (vs : List Value) (i place n : ℕ) → place ≡ i + 1 → is_count vs (value_at vs place) ≡ true → n ≡ unwrap_or (count_of (value_at vs place)) 0 → list_all is_pointer (take n (drop place vs)) ≡ true
     → is_group vs (group_at (drop i vs)) ≡ true
@@ -120,14 +120,13 @@ module _ (own : Own) (vs : List Value) (i : ℕ) (ei : i ≡ min own.count (leng
   pub no_first : is_group vs (group_at (drop i vs)) ≡ false → are_groups own vs ≡ false
   no_first f =
       let bad : is_group vs (first_group own vs) ≡ false = ap (is_group vs) (sym (first_at own vs i ei)) ∙ f in
-      not_first (is_group vs (first_group own vs)) (is_group vs (second_group own vs) && list_all is_left_out (second_group own vs).rest) bad
+      not_first (is_group vs (first_group own vs) && is_group vs (second_group own vs)) (list_all is_left_out (second_group own vs).rest) (not_first (is_group vs (first_group own vs)) (is_group vs (second_group own vs)) bad)
 
   module _ (before count j : ℕ) (eg : group_at (drop i vs) ≡ group_between vs before count) (ej : j ≡ before + count) where
     pub no_second : is_group vs (group_at (drop j vs)) ≡ false → are_groups own vs ≡ false
     no_second f =
         let bad : is_group vs (second_group own vs) ≡ false = ap (is_group vs) (sym (second_at own vs i before count j ei eg ej)) ∙ f in
-        and_false (is_group vs (first_group own vs)) (is_group vs (second_group own vs) && list_all is_left_out (second_group own vs).rest)
-        (not_first (is_group vs (second_group own vs)) (list_all is_left_out (second_group own vs).rest) bad)
+        not_first (is_group vs (first_group own vs) && is_group vs (second_group own vs)) (list_all is_left_out (second_group own vs).rest) (and_false (is_group vs (first_group own vs)) (is_group vs (second_group own vs)) bad)
 
     module _ (place n k : ℕ) (es : group_at (drop j vs) ≡ group_between vs place n) (ek : k ≡ place + n) where
       pub second_is : second_group own vs ≡ group_between vs place n
@@ -138,10 +137,10 @@ module _ (own : Own) (vs : List Value) (i : ℕ) (ei : i ≡ min own.count (leng
 
       pub no_end : list_all is_left_out (drop k vs) ≡ false → are_groups own vs ≡ false
       no_end f =
-          and_false (is_group vs (first_group own vs)) (is_group vs (second_group own vs) && list_all is_left_out (second_group own vs).rest)
-          (and_false (is_group vs (second_group own vs)) (list_all is_left_out (second_group own vs).rest) (rest_is ∙ f))
+          and_false (is_group vs (first_group own vs) && is_group vs (second_group own vs)) (list_all is_left_out (second_group own vs).rest) (rest_is ∙ f)
 
       pub both_groups : is_group vs (group_at (drop i vs)) ≡ true → is_group vs (group_at (drop j vs)) ≡ true → list_all is_left_out (drop k vs) ≡ true → are_groups own vs ≡ true
       both_groups f s r =
-          and_true (is_group vs (first_group own vs)) (is_group vs (second_group own vs) && list_all is_left_out (second_group own vs).rest) (ap (is_group vs) (sym (first_at own vs i ei)) ∙ f)
-          (and_true (is_group vs (second_group own vs)) (list_all is_left_out (second_group own vs).rest) (ap (is_group vs) (sym (second_at own vs i before count j ei eg ej)) ∙ s) (rest_is ∙ r))
+          and_true (is_group vs (first_group own vs) && is_group vs (second_group own vs)) (list_all is_left_out (second_group own vs).rest)
+          (and_true (is_group vs (first_group own vs)) (is_group vs (second_group own vs)) (ap (is_group vs) (sym (first_at own vs i ei)) ∙ f) (ap (is_group vs) (sym (second_at own vs i before count j ei eg ej)) ∙ s))
+          (rest_is ∙ r)

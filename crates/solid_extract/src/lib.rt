@@ -6,11 +6,14 @@ mod law;
 mod group;
 mod group_places;
 mod layout;
+mod listed;
+mod numbers;
 mod own;
 mod own_kinds;
 mod own_table;
 mod place;
 mod record_kind;
+mod refs;
 
-pub use fault::ExtractReason;
+pub use fault::{ExtractReason, RefFault};
 pub use law::{items_are_kept, one_extraction, records_are_kept};
