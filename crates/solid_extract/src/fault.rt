@@ -1,6 +1,6 @@
 //! Why references aren't told, and why a solid isn't extracted.
 
-use iges_fields::NoMemory;
+use iges_fields::{EntryNo, NoMemory};
 use std::alloc::{AllocError, AllocFailed};
 
 /// Why the references of an entry aren't told (own). Of the first three the first that holds is told.
@@ -27,6 +27,13 @@ pub enum ExtractReason {
     Layout,
     /// A pointer of the entity names no entry.
     Dangling,
+}
+
+/// The entity for which a solid isn't extracted, and why.
+#[derive(Clone, Copy, Debug, PartialEq, Eq)]
+pub struct Refusal {
+    pub entity: EntryNo,
+    pub reason: ExtractReason,
 }
 
 impl From<NoMemory> for RefFault {

@@ -12,7 +12,7 @@ use crate::place::{count_in, is_pointer};
 use iges_fields::{Value, Values};
 
 /// A group of pointers (IGES 5.3, 2.2.4.5.2).
-#[derive(Clone, Copy, Debug, PartialEq, Eq)]
+#[derive(Clone, Copy)]
 pub struct Group {
     /// How many values stand before the first pointer.
     pub before: usize,

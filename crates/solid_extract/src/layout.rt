@@ -10,7 +10,7 @@ use iges_directory::Entry;
 
 /// How many values of a record are its own, and which of them are pointers, in places counted from 1 without the
 /// type number (IGES 5.3, 4).
-#[derive(Clone, Copy, Debug, PartialEq, Eq)]
+#[derive(Clone, Copy)]
 pub enum Layout {
     /// So many values, with pointers in these places.
     Fixed(usize, &'static [usize]),
@@ -23,7 +23,7 @@ pub enum Layout {
 }
 
 /// The layouts of a type by its forms (own).
-#[derive(Clone, Copy, Debug, PartialEq, Eq)]
+#[derive(Clone, Copy)]
 pub enum Forms {
     /// One layout in each form.
     Every(Layout),
@@ -32,7 +32,7 @@ pub enum Forms {
 }
 
 /// A type, by its number, and its layouts.
-#[derive(Clone, Copy, Debug, PartialEq, Eq)]
+#[derive(Clone, Copy)]
 pub struct Row {
     kind: i64,
     forms: Forms,

@@ -1,8 +1,11 @@
 //! What an entry refers to, and the file of one solid.
 #![tactic(auto)]
 
+mod adding;
+mod entry_set;
 mod fault;
 mod law;
+mod reaching;
 mod group;
 mod group_places;
 mod layout;
@@ -12,8 +15,12 @@ mod own;
 mod own_kinds;
 mod own_table;
 mod place;
+mod record;
 mod record_kind;
+mod referring;
 mod refs;
 
 pub use fault::{ExtractReason, RefFault};
+pub use entry_set::EntryList;
 pub use law::{items_are_kept, one_extraction, records_are_kept};
+pub use referring::references;

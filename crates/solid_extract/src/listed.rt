@@ -15,7 +15,7 @@ use iges_fields::{NoMemory, Values};
 use std::alloc::Global;
 
 /// A type that extraction follows.
-#[derive(Clone, Copy, Debug, PartialEq, Eq)]
+#[derive(Clone, Copy)]
 pub enum ListedType {
     /// One of a solid's own records.
     Solid(RecordKind),

@@ -11,7 +11,7 @@ use std::marker::Model;
 
 /// How many values of a record are its own, and the places of pointers among them, from 1: of those that are followed,
 /// and of those that are cut.
-#[derive(Debug, Drop)]
+#[derive(Drop)]
 pub struct Own {
     pub count: usize,
     pub pointers: ItemList<usize>,

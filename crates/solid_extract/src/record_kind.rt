@@ -5,7 +5,7 @@ ghost use Rattle.solid_extract.specs.KindNames.{entity_kind};
 ghost use Rattle.std.specs.Prelude.{◌≡◌, option_map};
 
 /// A kind of record that tells a part of a solid (IGES 5.3, 4.49 and 4.145 to 4.149).
-#[derive(Clone, Copy, Debug, PartialEq, Eq)]
+#[derive(Clone, Copy)]
 pub enum RecordKind {
     Solid,
     Shell,

@@ -18,7 +18,7 @@ use iges_params::File;
 use std::alloc::Global;
 
 /// How the values of a record stand.
-#[derive(Debug, Drop)]
+#[derive(Drop)]
 pub struct Shape {
     /// The own values.
     pub own: Own,
