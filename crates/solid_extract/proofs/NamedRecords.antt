@@ -1,5 +1,5 @@
 -- What a number names.
-use Rattle.std.specs.Prelude.{◌≡◌, ℕ, zero, suc, ◌+◌, ◌/◌, ◌%◌, ◌<◌, ◌≤◌, ◌==◌, Bool, true, false, ℤ, pos, List, [], ◌∷◌, length, Option, Some, None, slice_get, option_map, if◌then◌else◌, sum_by}
+use Rattle.std.specs.Prelude.{◌≡◌, ℕ, zero, suc, ◌+◌, ◌/◌, ◌%◌, ◌<◌, ◌≤◌, ◌==◌, Bool, true, false, ℤ, pos, List, [], ◌∷◌, length, Option, Some, None, slice_get, option_map, IsSome, if◌then◌else◌, sum_by}
 use Rattle.std.specs.Ordering.{int_eq}
 use Rattle.std.proofs.Common.{refl, sym, ap, ◌∙◌, arith, subst}
 use Rattle.std.proofs.lemmas.Bool.{eqb-true}
@@ -69,3 +69,10 @@ none_past f m past = by_option (named f (pos m)) refl
     by_option : (o : Option Record) → named f (pos m) ≡ o → named f (pos m) ≡ None
     by_option None e = e
     by_option (Some r) e = absurd (omega (arith, past, (named_within f m r e).1))
+
+pub is_within : (f : Contents) (m : ℕ) → IsSome (named f (pos m)) → IsWithin (length f.entries) m
+is_within f m h = by_option (named f (pos m)) refl h
+  where
+    by_option : (o : Option Record) → named f (pos m) ≡ o → IsSome o → IsWithin (length f.entries) m
+    by_option None e k = absurd (let g : false ≡ true = k in cc)
+    by_option (Some r) e k = named_within f m r e
