@@ -15,7 +15,7 @@ use Rattle.solid_extract.specs.Refs.{own_of_kind}
 use Rattle.solid_extract.proofs.OwnIn.{and_true}
 use Rattle.solid_extract.specs.PlacesDue.{places_due, group_places}
 
-enumerate_append : {A : Type 0} (k : ℕ) (xs ys : List A) → enumerate_from k (xs ++ ys) ≡ enumerate_from k xs ++ enumerate_from (k + length xs) ys
+pub enumerate_append : {A : Type 0} (k : ℕ) (xs ys : List A) → enumerate_from k (xs ++ ys) ≡ enumerate_from k xs ++ enumerate_from (k + length xs) ys
 enumerate_append k [] ys = ap (λ (n : ℕ). enumerate_from n ys) (let e : k ≡ k + 0 = omega arith in e)
 enumerate_append k (x ∷ xs) ys =
     let e : (k + 1) + length xs ≡ k + suc (length xs) = omega arith in

@@ -2,7 +2,9 @@
 #![tactic(auto)]
 
 mod adding;
+mod copying;
 mod entry_set;
+mod extraction;
 mod fault;
 mod law;
 mod reaching;
@@ -10,6 +12,7 @@ mod group;
 mod group_places;
 mod layout;
 mod listed;
+mod new_values;
 mod numbers;
 mod own;
 mod own_kinds;
@@ -19,8 +22,10 @@ mod record;
 mod record_kind;
 mod referring;
 mod refs;
+mod renaming;
 
-pub use fault::{ExtractReason, RefFault};
+pub use extraction::extract;
+pub use fault::{ExtractFault, ExtractReason, RefFault};
 pub use entry_set::EntryList;
 pub use law::{items_are_kept, one_extraction, records_are_kept};
 pub use referring::references;
