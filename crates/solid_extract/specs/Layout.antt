@@ -67,9 +67,12 @@ listed form =
     (406, fixed 2 []) ∷ []
 
 -- the layout of a type in a form, which is none of the six; of 406 only form 15 is listed
+abbrev pub is_other_property : Entry → Bool
+is_other_property e = int_eq e.kind (pos 406) && not (int_eq e.form (pos 15))
+
 abbrev pub layout_of : Entry → Option Layout
 layout_of e =
-    if int_eq e.kind (pos 406) && not (int_eq e.form (pos 15)) then None
+    if is_other_property e then None
     else option_map (λ (row : ℕ × Layout). row.1) (find (λ (row : ℕ × Layout). int_eq e.kind (pos row.0)) (listed e.form))
 
 -- ---- the own values of a record

@@ -1,3 +1,21 @@
+//! Why references aren't told, and why a solid isn't extracted.
+
+use iges_fields::{EntryNo, NoMemory};
+use std::alloc::{AllocError, AllocFailed};
+
+/// Why the references of an entry aren't told (own). Of the first three the first that holds is told.
+#[derive(Clone, Copy, Debug, PartialEq, Eq)]
+pub enum RefFault {
+    /// The type of the entry isn't one that extraction follows.
+    Unlisted,
+    /// The values of the record don't stand as its type has them.
+    Layout,
+    /// A pointer of the entry names no entry.
+    Dangling,
+    /// Memory ran out.
+    NoMemory,
+}
+
 /// Why a solid isn't extracted (own).
 #[derive(Clone, Copy, Debug, PartialEq, Eq)]
 pub enum ExtractReason {
@@ -5,8 +23,72 @@ pub enum ExtractReason {
     NotSolid,
     /// The type of the entity isn't one that extraction follows.
     Unlisted,
-    /// The values of the record don't stand as its type has them.
+    /// The values of the entity's record don't stand as its type has them.
     Layout,
     /// A pointer of the entity names no entry.
     Dangling,
+}
+
+/// An entity that has a fault, and its fault.
+#[derive(Clone, Copy)]
+pub struct Refusal {
+    pub entity: EntryNo,
+    pub reason: ExtractReason,
+}
+
+/// Why a solid isn't extracted.
+#[derive(Clone, Copy, Debug, PartialEq, Eq)]
+pub enum ExtractFault {
+    /// The entity for which it isn't, and why: of the entities that are reached and have a fault the one with the least
+    /// number (own).
+    Refused {
+        entity: EntryNo,
+        reason: ExtractReason,
+    },
+    /// Memory ran out.
+    NoMemory,
+}
+
+impl From<NoMemory> for ExtractFault {
+    ghost use Rattle.std.specs.Prelude.{◌≡◌};
+    ghost use Rattle.solid_extract.specs.declared.fault.ExtractFault.TheVariants.{NoMemory as OutOfMemory};
+
+    ghost from_gives = { λ _ e. e ≡ OutOfMemory };
+
+    fn from(_: NoMemory) -> ExtractFault {
+        ExtractFault::NoMemory
+    }
+}
+
+impl From<NoMemory> for RefFault {
+    ghost use Rattle.std.specs.Prelude.{◌≡◌};
+    ghost use Rattle.solid_extract.specs.declared.fault.RefFault.TheVariants.{NoMemory as OutOfMemory};
+
+    ghost from_gives = { λ _ e. e ≡ OutOfMemory };
+
+    fn from(_: NoMemory) -> RefFault {
+        RefFault::NoMemory
+    }
+}
+
+impl From<AllocError> for RefFault {
+    ghost use Rattle.std.specs.Prelude.{◌≡◌};
+    ghost use Rattle.solid_extract.specs.declared.fault.RefFault.TheVariants.{NoMemory as OutOfMemory};
+
+    ghost from_gives = { λ _ e. e ≡ OutOfMemory };
+
+    fn from(_: AllocError) -> RefFault {
+        RefFault::NoMemory
+    }
+}
+
+impl<T: Drop> From<AllocFailed<T>> for RefFault {
+    ghost use Rattle.std.specs.Prelude.{◌≡◌};
+    ghost use Rattle.solid_extract.specs.declared.fault.RefFault.TheVariants.{NoMemory as OutOfMemory};
+
+    ghost from_gives = { λ _ e. e ≡ OutOfMemory };
+
+    fn from(_: AllocFailed<T>) -> RefFault {
+        RefFault::NoMemory
+    }
 }

@@ -1,0 +1,49 @@
+-- The entries that are kept.
+use Rattle.std.specs.Prelude.{◌≡◌, ℕ, ◌≤◌, Bool, true, false, ◌&&◌, ℤ, pos, negsuc, neg_ℤ, int_lt, int_le, List, IsTrue, if◌then◌else◌}
+use Rattle.std.proofs.Common.{refl, sym, ap, subst, ◌∙◌, arith}
+use Rattle.std.proofs.lemmas.Bool.{le-leb}
+use Rattle.iges_directory.specs.declared.entry.Entry.{Entry}
+use Rattle.iges_directory.specs.Bounds.{IsBounded, fits_columns}
+use Rattle.solid_extract.specs.Extracted.{if_number, new_entry, renamed}
+use Rattle.solid_extract.proofs.OwnIn.{and_true}
+
+abbrev pub new_colour : List ℕ → ℤ → ℤ
+new_colour kept z = if int_lt z (pos 0) then neg_ℤ (renamed kept (neg_ℤ z)) else z
+
+pub fits_pos : (n : ℕ) → n ≤ 9999999 → IsTrue (fits_columns (pos n))
+fits_pos n few = and_true (int_le (negsuc 9999998) (pos n)) (int_le (pos n) (pos 99999999)) refl (le-leb n 99999999 (omega (arith, few)))
+
+pub fits_number : (z : ℤ) → IsTrue (fits_columns z) → IsTrue (fits_columns (if_number z))
+fits_number z h = by_test (int_lt z (pos 0))
+  where
+    by_test : (b : Bool) → IsTrue (fits_columns (if b then pos 0 else z))
+    by_test true = refl
+    by_test false = h
+
+module _ (e : Entry) (kept : List ℕ) (kind font level matrix weight colour form subscript : ℤ) (k : kind ≡ e.kind) (f : font ≡ if_number e.font) (l : level ≡ if_number e.level) (m : matrix ≡ renamed kept e.matrix)
+  (w : weight ≡ e.weight) (c : colour ≡ new_colour kept e.colour) (o : form ≡ e.form) (s : subscript ≡ e.subscript) where
+  pub entry_is : (let x : Entry = record {
+    kind = kind; structure = pos 0; font = font; level = level; view = pos 0; matrix = matrix; display = pos 0; weight = weight; colour = colour; form = form; subscript = subscript; status = e.status; label = e.label;
+  } in x) ≡ new_entry kept e
+  entry_is = λ j. record {
+    kind = k j; structure = pos 0; font = f j; level = l j; view = pos 0; matrix = m j; display = pos 0; weight = w j; colour = c j; form = o j; subscript = s j; status = e.status; label = e.label;
+  }
+
+  pub entry_bounded : IsBounded e → (x : ℕ) × (matrix ≡ pos x) × (x ≤ 9999999) → IsTrue (fits_columns colour) → IsBounded (record {
+    kind = kind; structure = pos 0; font = font; level = level; view = pos 0; matrix = matrix; display = pos 0; weight = weight; colour = colour; form = form; subscript = subscript; status = e.status; label = e.label;
+  })
+  entry_bounded h n q = record {
+    kind = subst (λ (z : ℤ). IsTrue (fits_columns z)) (sym k) h.kind;
+    structure = refl;
+    font = subst (λ (z : ℤ). IsTrue (fits_columns z)) (sym f) (fits_number e.font h.font);
+    level = subst (λ (z : ℤ). IsTrue (fits_columns z)) (sym l) (fits_number e.level h.level);
+    view = refl;
+    matrix = subst (λ (z : ℤ). IsTrue (fits_columns z)) (sym n.1) (fits_pos n.0 n.2);
+    display = refl;
+    weight = subst (λ (z : ℤ). IsTrue (fits_columns z)) (sym w) h.weight;
+    colour = q;
+    form = subst (λ (z : ℤ). IsTrue (fits_columns z)) (sym o) h.form;
+    subscript = subst (λ (z : ℤ). IsTrue (fits_columns z)) (sym s) h.subscript;
+    status = h.status;
+    label = h.label;
+  }

@@ -1,0 +1,261 @@
+-- The file of the entries that are kept.
+use Rattle.std.specs.Prelude.{◌≡◌, ◌⊎◌, ◌↔◌, ℕ, zero, suc, ◌+◌, ◌-◌, ◌*◌, ◌/◌, ◌%◌, ◌<◌, ◌≤◌, Bool, true, false, ℤ, pos, List, [], ◌∷◌, ◌++◌, length, map, take, drop, Option, Some, None, Result, Ok, Err, IsSome, IfOk, IfErr, is_some, filter_map, slice_get, slice_index, All, Contains}
+use Rattle.std.specs.List.{AllByRecursion, AllZip, cons_option, enumerate_from, list_all}
+use Rattle.std.specs.List.Sorted.{IsStrictlyIncreasing}
+use Rattle.std.specs.Ordering.{int_eq}
+use Rattle.std.proofs.Common.{refl, sym, ap, subst, ◌∙◌, arith, inl, inr, append_assoc, length-append, length-take}
+use Rattle.std.proofs.Math.Nat.{div-add-mod, mod-lt}
+use Rattle.std.proofs.lemmas.List.{map-append}
+use Rattle.std.proofs.lemmas.List.Sums.{sum_by-cons, sum_by-append}
+use Rattle.std.proofs.lemmas.List.Elements.{filter_map-append, All-from_recursion}
+use Rattle.iges_fields.specs.declared.entry_no.EntryNo.{EntryNo}
+use Rattle.iges_fields.specs.declared.value.Value.{Value}
+use Rattle.iges_params.specs.Contents.{Contents, value_count}
+use Rattle.iges_params.specs.Named.{named}
+use Rattle.iges_params.specs.Made.{IsMade}
+use Rattle.solid_extract.specs.declared.fault.ExtractFault.{ExtractFault}
+use Rattle.solid_extract.specs.declared.fault.ExtractFault.TheVariants as fault
+use Rattle.solid_extract.specs.declared.fault.ExtractReason.{ExtractReason}
+use Rattle.solid_extract.specs.declared.fault.Refusal.{Refusal}
+use Rattle.solid_extract.specs.declared.group.Group.{Group as Between}
+use Rattle.solid_extract.specs.EntrySets.{AreRising, numbers_of}
+use Rattle.solid_extract.specs.Extracted.{is_solid, RefersTo, Reaches, here, further, IsExtracted, IsRefused, new_record, new_values, new_value}
+use Rattle.solid_extract.specs.Flooding.{fault_at, IsFlooded, IsLeastFault}
+use Rattle.solid_extract.specs.Layout.{Own}
+use Rattle.solid_extract.specs.Making.{records_of, IsFaultless, IsExtractFault, GivesFile, GivesRefusal}
+use Rattle.solid_extract.specs.NewValues.{names_behind, new_numbers}
+use Rattle.solid_extract.specs.Refs.{Record, names_entry, entry_fault}
+use Rattle.solid_extract.specs.Shapes.{HasShape}
+use Rattle.solid_extract.proofs.Copies.{one_more}
+use Rattle.solid_extract.proofs.KeptValues.{values_few}
+use Rattle.solid_extract.proofs.NamedRecords.{named_place}
+use Rattle.solid_extract.proofs.One.{In, in_from, contains_at, tail_rises, contains_pass, IsExtracted-unique, IsRefused-unique, IsExtracted-IsRefused}
+use Rattle.solid_extract.proofs.RefLists.{refs_named}
+
+some_inj : {A : Type 0} (x y : A) → Some x ≡ Some y → x ≡ y
+some_inj {A} x y e = ap (λ (o : Option A). elim o as (λ _. A) [ Some z ↦ z | None ↦ x ]) e
+
+-- ---- how many values there are
+
+module _ (f : Contents) (kept : List ℕ) where
+  one_record : (m : ℕ) (r : Record) → named f (pos m) ≡ Some r → value_count (records_of f (m ∷ [])) ≡ length r.1
+  one_record m r e =
+      let only : value_count (r ∷ []) ≡ length r.1 + value_count [] = sum_by-cons (λ (q : Record). length q.1) r [] in
+      let none : value_count [] ≡ 0 = refl in
+      ap (λ (o : Option Record). value_count (cons_option o [])) e ∙ (omega (arith, only, none))
+
+  pub push_room : (m : ℕ) (r : Record) (old : List Record) (vs : List Value) → named f (pos m) ≡ Some r → vs ≡ new_values f kept r → value_count old + value_count (records_of f (m ∷ [])) ≤ 164000000 → value_count old + length vs ≤ 164000000
+  push_room m r old vs en ev room = omega (arith, one_record m r en, ap length ev, values_few f kept r, room)
+
+  mapped_few : (rs : List Record) → value_count (map (new_record f kept) rs) ≤ value_count rs
+  mapped_few [] = omega arith
+  mapped_few (r ∷ rs) =
+      let on : value_count (map (new_record f kept) rs) ≤ value_count rs = mapped_few rs in
+      omega (arith, on, values_few f kept r, sum_by-cons (λ (q : Record). length q.1) (new_record f kept r) (map (new_record f kept) rs), sum_by-cons (λ (q : Record). length q.1) r rs)
+
+  records_append : (ms ns : List ℕ) → records_of f (ms ++ ns) ≡ records_of f ms ++ records_of f ns
+  records_append ms ns = filter_map-append (λ m. named f (pos m)) ms ns
+
+  next_records : (ms : List ℕ) (i m : ℕ) → slice_get ms i ≡ Some m → records_of f (take (i + 1) ms) ≡ records_of f (take i ms) ++ records_of f (m ∷ [])
+  next_records ms i m at = ap (records_of f) (one_more ms i m at) ∙ records_append (take i ms) (m ∷ [])
+
+  part_few : (ms : List ℕ) (k : ℕ) → value_count (records_of f (take k ms)) ≤ value_count (records_of f ms)
+  part_few ms k =
+      let whole : records_of f ms ≡ records_of f (take k ms) ++ records_of f (drop k ms) = ap (records_of f) (sym (take_and_drop ms k)) ∙ records_append (take k ms) (drop k ms) in
+      omega (arith, ap value_count whole, sum_by-append (λ (q : Record). length q.1) (records_of f (take k ms)) (records_of f (drop k ms)))
+    where
+      take_and_drop : (xs : List ℕ) (n : ℕ) → take n xs ++ drop n xs ≡ xs
+      take_and_drop [] zero = refl
+      take_and_drop [] (suc n) = refl
+      take_and_drop (x ∷ xs) zero = refl
+      take_and_drop (x ∷ xs) (suc n) = ap (λ (ys : List ℕ). x ∷ ys) (take_and_drop xs n)
+
+  pub next_room : (ms : List ℕ) (i m : ℕ) (es : List Record) → slice_get ms i ≡ Some m → es ≡ map (new_record f kept) (records_of f (take i ms)) → value_count (records_of f ms) ≤ 164000000
+      → value_count es + value_count (records_of f (m ∷ [])) ≤ 164000000
+  next_room ms i m es at e few =
+      let sum : value_count (records_of f (take (i + 1) ms)) ≡ value_count (records_of f (take i ms)) + value_count (records_of f (m ∷ [])) =
+      ap value_count (next_records ms i m at) ∙ sum_by-append (λ (q : Record). length q.1) (records_of f (take i ms)) (records_of f (m ∷ [])) in
+      omega (arith, ap value_count e, mapped_few (records_of f (take i ms)), sum, part_few ms (i + 1), few)
+
+  records_few : (ms : List ℕ) → length (records_of f ms) ≤ length ms
+  records_few [] = omega arith
+  records_few (m ∷ ms) = by_option (named f (pos m)) (records_few ms)
+    where
+      by_option : (o : Option Record) → length (records_of f ms) ≤ length ms → length (cons_option o (records_of f ms)) ≤ suc (length ms)
+      by_option None on = omega (arith, on)
+      by_option (Some r) on = omega (arith, on)
+
+  mapped_long : (rs : List Record) → length (map (new_record f kept) rs) ≡ length rs
+  mapped_long [] = refl
+  mapped_long (r ∷ rs) = ap suc (mapped_long rs)
+
+  pub next_few : (ms : List ℕ) (i : ℕ) (es : List Record) → es ≡ map (new_record f kept) (records_of f (take i ms)) → i < length ms → length ms ≤ 4999999 → length es < 4999999
+  next_few ms i es e lt few = omega (arith, ap length e, mapped_long (records_of f (take i ms)), records_few (take i ms), length-take i ms, lt, few)
+
+  pub next_entries : (ms : List ℕ) (i m : ℕ) (es new : List Record) → slice_get ms i ≡ Some m → es ≡ map (new_record f kept) (records_of f (take i ms)) → new ≡ es ++ map (new_record f kept) (records_of f (m ∷ []))
+      → new ≡ map (new_record f kept) (records_of f (take (i + 1) ms))
+  next_entries ms i m es new at e en =
+      en ∙ (ap (λ (xs : List Record). xs ++ map (new_record f kept) (records_of f (m ∷ []))) e
+      ∙ sym (ap (map (new_record f kept)) (next_records ms i m at) ∙ map-append (new_record f kept) (records_of f (take i ms)) (records_of f (m ∷ []))))
+
+-- ---- rising numbers name different entries
+
+Rises : ℕ → List ℕ → Type 0
+Rises k [] = Unit {0}
+Rises k (m ∷ ms) = (k ≤ m) × Rises (m + 1) ms
+
+rises_behind : (m : ℕ) (ms : List ℕ) → IsStrictlyIncreasing (m ∷ ms) → Rises (m + 1) ms
+unfolding Rises
+rises_behind m [] h = tt
+rises_behind m (x ∷ ms) h = let lt : m < x = h 0 (omega arith) in (omega (arith, lt), rises_behind x ms (tail_rises m (x ∷ ms) h))
+
+rises_all : (ms : List ℕ) → IsStrictlyIncreasing ms → Rises 0 ms
+unfolding Rises
+rises_all [] h = tt
+rises_all (m ∷ ms) h = (omega arith, rises_behind m ms h)
+
+abbrev IsNamed : Contents → ℕ → Type 0
+IsNamed f m = IsSome (named f (pos m))
+
+the_record : (f : Contents) (m : ℕ) → IsNamed f m → (r : Record) × (named f (pos m) ≡ Some r)
+the_record f m h = by_option (named f (pos m)) refl h
+  where
+    by_option : (o : Option Record) → named f (pos m) ≡ o → IsSome o → (r : Record) × (named f (pos m) ≡ Some r)
+    by_option None e k = absurd (let g : false ≡ true = k in cc)
+    by_option (Some r) e k = (r, e)
+
+module _ (f : Contents) where
+  Stand : List Record → ℕ → Type 0
+  Stand es j = (m : ℕ) (r : Record) → named f (pos m) ≡ Some r → j ≤ m / 2 → slice_get es (m / 2 - j) ≡ Some r
+
+  stand_on : (e : Record) (es : List Record) (j : ℕ) → Stand (e ∷ es) j → Stand es (j + 1)
+  unfolding Stand
+  stand_on e es j h m r en le =
+      let next : m / 2 - j ≡ suc (m / 2 - (j + 1)) = omega (arith, le) in
+      sym (ap (slice_get (e ∷ es)) next) ∙ h m r en (omega (arith, le))
+
+  rising_few : (es : List Record) (j : ℕ) (ms : List ℕ) → Stand es j → Rises (2 * j) ms → AllByRecursion (IsNamed f) ms → value_count (records_of f ms) ≤ value_count es
+  unfolding Rises Stand
+  rising_few es j [] h rises all = omega arith
+  rising_few [] j (m ∷ ms) h rises all =
+      let q = the_record f m all.0 in
+      let d = div-add-mod m 2 in
+      let le : j ≤ m / 2 = omega (arith, rises.0, d, mod-lt m {m = 2} (omega arith)) in
+      absurd (let none : None ≡ Some q.0 = h m q.0 q.1 le in cc)
+  rising_few (e ∷ es) j (m ∷ ms) h rises all =
+      let q = the_record f m all.0 in
+      let odd = (named_place f m q.0 q.1).0 in
+      let d = div-add-mod m 2 in
+      let le : j ≤ m / 2 = omega (arith, rises.0, d, odd) in
+      by_order q odd d le (cases_le (m / 2) j) (λ r. rising_few es (j + 1) ms (stand_on e es j h) r all.1) (λ r. rising_few es (j + 1) (m ∷ ms) (stand_on e es j h) r all)
+    where
+      cases_le : (a b : ℕ) → (a ≤ b) ⊎ (b < a)
+      cases_le a b = grind arith
+
+      by_order : (q : (r : Record) × (named f (pos m) ≡ Some r)) → m % 2 ≡ 1 → 2 * (m / 2) + m % 2 ≡ m → j ≤ m / 2 → (m / 2 ≤ j) ⊎ (j < m / 2)
+          → (Rises (2 * (j + 1)) ms → value_count (records_of f ms) ≤ value_count es) → (Rises (2 * (j + 1)) (m ∷ ms) → value_count (records_of f (m ∷ ms)) ≤ value_count es) → value_count (records_of f (m ∷ ms)) ≤ value_count (e ∷ es)
+      by_order q odd d le (inl low) on past =
+          let at : m / 2 - j ≡ 0 = omega (arith, low) in
+          let same : e ≡ q.0 = some_inj e q.0 (sym (ap (slice_get (e ∷ es)) at) ∙ h m q.0 q.1 le) in
+          let number : m + 1 ≡ 2 * (j + 1) = omega (arith, odd, d, le, low) in
+          let rest : value_count (records_of f ms) ≤ value_count es = on (subst (λ (k : ℕ). Rises k ms) number rises.1) in
+          let whole : value_count (records_of f (m ∷ ms)) ≡ value_count (q.0 ∷ records_of f ms) = ap (λ (o : Option Record). value_count (cons_option o (records_of f ms))) q.1 in
+          omega (arith, rest, whole, ap (λ (r : Record). length r.1) same, sum_by-cons (λ (r : Record). length r.1) q.0 (records_of f ms), sum_by-cons (λ (r : Record). length r.1) e es)
+      by_order q odd d le (inr further_on) on past =
+          let rest : value_count (records_of f (m ∷ ms)) ≤ value_count es = past (omega (arith, d, odd, further_on), rises.1) in
+          omega (arith, rest, sum_by-cons (λ (r : Record). length r.1) e es)
+
+  all_stand : Stand f.entries 0
+  unfolding Stand
+  all_stand m r en le = let same : m / 2 - 0 ≡ m / 2 = omega arith in ap (slice_get f.entries) same ∙ (named_place f m r en).1
+
+  pub kept_few : (ms : List ℕ) → IsStrictlyIncreasing ms → AllByRecursion (IsNamed f) ms → value_count (records_of f ms) ≤ value_count f.entries
+  kept_few ms rising all = rising_few f.entries 0 ms all_stand (subst (λ (k : ℕ). Rises k ms) (let e : 0 ≡ 2 * 0 = omega arith in e) (rises_all ms rising)) all
+
+-- ---- what is reached
+
+solid_named : (f : Contents) (n : ℕ) → is_solid f n ≡ true → IsNamed f n
+solid_named f n h = by_option (named f (pos n)) h
+  where
+    by_option : (o : Option Record) → elim o as (λ _. Bool) [ Some r ↦ int_eq r.0.kind (pos 186) | None ↦ false ] ≡ true → IsSome o
+    by_option None k = absurd (let g : false ≡ true = k in cc)
+    by_option (Some r) k = refl
+
+reaches_named : (f : Contents) (n : ℕ) {m : ℕ} → IsNamed f n → Reaches f n m → IsNamed f m
+reaches_named f n h here = h
+reaches_named f n {m} h (further r t) = contains_pass (names_entry f) t.1 (pos m) t.4 (refs_named f t.0 t.1 t.3)
+
+all_by : {P : ℕ → Type 0} (ms : List ℕ) → ((m : ℕ) → In ms m → P m) → AllByRecursion P ms
+all_by [] h = tt
+all_by (m ∷ ms) h = (h m (inl refl), all_by ms (λ k i. h k (inr i)))
+
+fault_of : (f : Contents) (m : ℕ) (r : Record) → named f (pos m) ≡ Some r → fault_at f m ≡ entry_fault f r
+fault_of f m r e = ap (λ (o : Option Record). elim o as (λ _. Option ExtractReason) [ Some r ↦ entry_fault f r | None ↦ None ]) e
+
+faulty_record : (f : Contents) (m : ℕ) (x : ExtractReason) → fault_at f m ≡ Some x → (r : Record) × (named f (pos m) ≡ Some r) × (entry_fault f r ≡ Some x)
+faulty_record f m x e = by_option (named f (pos m)) refl e
+  where
+    by_option : (o : Option Record) → named f (pos m) ≡ o → elim o as (λ _. Option ExtractReason) [ Some r ↦ entry_fault f r | None ↦ None ] ≡ Some x → (r : Record) × (named f (pos m) ≡ Some r) × (entry_fault f r ≡ Some x)
+    by_option None n k = absurd (let g : None ≡ Some x = k in cc)
+    by_option (Some r) n k = (r, n, k)
+
+pub refused_is : (f : Contents) (n : ℕ) (ns : List ℕ) (refusal : Option Refusal) (x : Refusal) → is_solid f n ≡ true → IsFlooded f n ns refusal → refusal ≡ Some x → IsRefused f n x.entity.0 x.reason
+refused_is f n ns refusal x solid h e =
+    let least : IsLeastFault f ns (Some x) = subst (IsLeastFault f ns) e h.least in
+    let found = faulty_record f x.entity.0 x.reason least.1 in
+    inr (solid, found.0, (h.reached x.entity.0).0 least.0, found.1, found.2, λ m q lt r en. sym (fault_of f m q en) ∙ least.2 m lt ((h.reached m).1 r))
+
+module _ (f : Contents) (n : ℕ) (ns : List ℕ) (refusal : Option Refusal) (nos : List EntryNo) (solid : is_solid f n ≡ true) (h : IsFlooded f n ns refusal) (none : refusal ≡ None) (rising : AreRising nos ns) where
+  least : IsLeastFault f ns None
+  least = subst (IsLeastFault f ns) none h.least
+
+  reached_by : (m : ℕ) → Contains (numbers_of nos) m ↔ Reaches f n m
+  reached_by m = ((λ c. (h.reached m).0 ((rising.same m).0 c)), (λ r. (rising.same m).1 ((h.reached m).1 r)))
+
+  pub all_faultless : AllByRecursion (IsFaultless f) (numbers_of nos)
+  all_faultless = all_by (numbers_of nos) (λ m i.
+    (reaches_named f n (solid_named f n solid) ((reached_by m).0 (contains_at (numbers_of nos) m i)), least m ((rising.same m).0 (contains_at (numbers_of nos) m i))))
+
+  pub values_fit : IsMade f → value_count (records_of f (numbers_of nos)) ≤ 164000000
+  values_fit made =
+      let most : value_count f.entries ≤ 164000000 = made.limits.values in
+      let few : value_count (records_of f (numbers_of nos)) ≤ value_count f.entries = kept_few f (numbers_of nos) rising.rising (all_by (numbers_of nos) (λ m i. reaches_named f n (solid_named f n solid) ((reached_by m).0 (contains_at (numbers_of nos) m i)))) in
+      omega (arith, most, few)
+
+  zipped : (ms : List ℕ) → AllByRecursion (IsFaultless f) ms → AllZip (λ m r. named f (pos m) ≡ Some r) ms (records_of f ms)
+  zipped [] all = tt
+  zipped (m ∷ ms) all =
+      let q = the_record f m all.0.0 in
+      subst (λ (o : Option Record). AllZip (λ m r. named f (pos m) ≡ Some r) (m ∷ ms) (cons_option o (records_of f ms))) (sym q.1) (q.1, zipped ms all.1)
+
+  none_faulty : (ms : List ℕ) → AllByRecursion (IsFaultless f) ms → AllByRecursion (λ r. entry_fault f r ≡ None) (records_of f ms)
+  none_faulty [] all = tt
+  none_faulty (m ∷ ms) all =
+      let q = the_record f m all.0.0 in
+      subst (λ (o : Option Record). AllByRecursion (λ r. entry_fault f r ≡ None) (cons_option o (records_of f ms))) (sym q.1) (sym (fault_of f m q.0 q.1) ∙ all.0.1, none_faulty ms all.1)
+
+  pub extracted_is : (new : Contents) → new.start ≡ f.start → new.global ≡ f.global → new.entries ≡ map (new_record f (numbers_of nos)) (records_of f (numbers_of nos)) → IsExtracted f n new
+  extracted_is new es eg ee = record {
+    solid = solid;
+    kept = numbers_of nos;
+    rising = rising.rising;
+    reached = reached_by;
+    records = records_of f (numbers_of nos);
+    each_named = zipped (numbers_of nos) all_faultless;
+    faultless = All-from_recursion (λ r. entry_fault f r ≡ None) (records_of f (numbers_of nos)) (none_faulty (numbers_of nos) all_faultless);
+    start = es;
+    global = eg;
+    entries = ee;
+  }
+
+-- ---- one answer
+
+pub only_file : (f : Contents) (n : ℕ) (result : Result Contents ExtractFault) (new : Contents) → IfOk result (IsExtracted f n) → IfErr result (IsExtractFault f n) → IsExtracted f n new → GivesFile result new
+only_file f n (Ok given) new found bad h = IsExtracted-unique f n given new found h
+only_file f n (Err (fault.Refused entity reason)) new found bad h = IsExtracted-IsRefused f n new entity.0 reason h bad
+only_file f n (Err fault.NoMemory) new found bad h = tt
+
+pub only_refusal : (f : Contents) (n : ℕ) (result : Result Contents ExtractFault) (entity : ℕ) (reason : ExtractReason) → IfOk result (IsExtracted f n) → IfErr result (IsExtractFault f n) → IsRefused f n entity reason → GivesRefusal result entity reason
+only_refusal f n (Ok given) entity reason found bad h = IsExtracted-IsRefused f n given entity reason found h
+only_refusal f n (Err (fault.Refused e r)) entity reason found bad h = IsRefused-unique f n e.0 entity r reason bad h
+only_refusal f n (Err fault.NoMemory) entity reason found bad h = tt

@@ -1,0 +1,165 @@
+-- The values of a kept record.
+use Rattle.std.specs.Prelude.{◌≡◌, ◌⊎◌, ℕ, zero, suc, ◌+◌, ◌-◌, ◌<◌, ◌≤◌, ◌==◌, Bool, true, false, ◌||◌, ℤ, pos, List, [], ◌∷◌, ◌++◌, length, map, take, drop, set, Option, Some, None, if◌then◌else◌, slice_get, slice_index_or, unwrap_or, filter, filter_map}
+use Rattle.std.specs.List.{enumerate_from, cons_option}
+use Rattle.std.proofs.Common.{refl, sym, ap, subst, ◌∙◌, arith, get_or, append_assoc, length-append, length-take, length-drop, inl, inr}
+use Rattle.std.proofs.lemmas.Bool.{ne_eqb, cond-true, cond-false}
+use Rattle.std.proofs.lemmas.List.{take_more, map-append, length-map}
+use Rattle.std.proofs.lemmas.List.FromFn.{length-enumerate_from}
+use Rattle.std.proofs.lemmas.Option.{get_or_from_slice_get, slice_get_within}
+use Rattle.iges_fields.specs.declared.value.Value.{Value}
+use Rattle.iges_fields.specs.declared.value.Value.TheVariants as value
+use Rattle.iges_params.specs.Contents.{Contents}
+use Rattle.solid_extract.specs.Extracted.{is_among, new_value, new_values, renamed}
+use Rattle.solid_extract.specs.GroupPlaces.{group_between}
+use Rattle.solid_extract.specs.Layout.{Own, count_of}
+use Rattle.solid_extract.specs.NewValues.{AreMarkedPlaces, with_mark, value_as, new_numbers, names_behind}
+use Rattle.solid_extract.specs.Refs.{Record, Group, first_group, own_of, names_of, is_name, number_of, second_group}
+use Rattle.solid_extract.specs.Shapes.{HasShape}
+use Rattle.solid_extract.specs.declared.group.Group.{Group as Between}
+use Rattle.solid_extract.proofs.KindPlaces.{enumerate_append}
+use Rattle.solid_extract.proofs.Marks.{get_set, length_set, both_next, zero_other, or_false, among_push}
+
+-- ---- marks of places
+
+set_past : (ms : List Bool) (k : ℕ) → length ms ≤ k → set ms k true ≡ ms
+set_past [] k past = refl
+set_past (m ∷ ms) zero past = absurd (omega (arith, past))
+set_past (m ∷ ms) (suc k) past = ap (λ (xs : List Bool). m ∷ xs) (set_past ms k (omega (arith, past)))
+
+marked_one : (ms : List Bool) (place i : ℕ) → i < length ms → slice_index_or (with_mark ms place) i false ≡ (slice_index_or ms i false || (place == i + 1))
+marked_one ms zero i lt =
+    let one : suc i ≡ i + 1 = omega arith in
+    sym (ap (λ (b : Bool). slice_index_or ms i false || b) (ap (λ (k : ℕ). 0 == k) (sym one) ∙ zero_other i) ∙ or_false (slice_index_or ms i false))
+marked_one ms (suc k) i lt = by_order (cases_le (length ms) k)
+  where
+    cases_le : (a b : ℕ) → (a ≤ b) ⊎ (b < a)
+    cases_le a b = grind arith
+
+    same : (suc k == i + 1) ≡ (k == i)
+    same = let one : i + 1 ≡ suc i = omega arith in ap (λ (j : ℕ). suc k == j) one ∙ both_next k i
+
+    by_order : (length ms ≤ k) ⊎ (k < length ms) → slice_index_or (set ms k true) i false ≡ (slice_index_or ms i false || (suc k == i + 1))
+    by_order (inl past) =
+        let far : (k == i) ≡ false = ne_eqb k i (λ e. omega (arith, e, past, lt)) in
+        ap (λ (xs : List Bool). slice_index_or xs i false) (set_past ms k past)
+        ∙ sym (ap (λ (b : Bool). slice_index_or ms i false || b) (same ∙ far) ∙ or_false (slice_index_or ms i false))
+    by_order (inr below) = get_set ms k i below ∙ ap (λ (b : Bool). slice_index_or ms i false || b) (sym same)
+
+mark_long : (ms : List Bool) (place : ℕ) → length (with_mark ms place) ≡ length ms
+mark_long ms zero = refl
+mark_long ms (suc k) = length_set ms k
+
+pub mark_next : (ms new : List Bool) (ps : List ℕ) (i count place : ℕ) → i < length ps → place ≡ get_or ps i 0 → new ≡ with_mark ms place → AreMarkedPlaces ms (take i ps) count → AreMarkedPlaces new (take (i + 1) ps) count
+mark_next ms new ps i count place lt read en h = record {
+  long = ap length en ∙ (mark_long ms place ∙ h.long);
+  marked = λ j below.
+      ap (λ (xs : List Bool). slice_index_or xs j false) en
+      ∙ (marked_one ms place j (omega (arith, below, h.long))
+      ∙ (ap (λ (b : Bool). b || (place == j + 1)) (h.marked j below)
+      ∙ (ap (λ (x : ℕ). is_among (take i ps) (j + 1) || (x == j + 1)) read
+      ∙ (sym (among_push (take i ps) (get_or ps i 0) (j + 1)) ∙ ap (λ (xs : List ℕ). is_among xs (j + 1)) (sym (take_more ps i 0 lt))))));
+}
+
+-- ---- own values
+
+value_is : (kept : List ℕ) (own : Own) (k : ℕ) (p c : Bool) (v : Value) → p ≡ is_among own.pointers k → c ≡ is_among own.cut k → value_as kept p c v ≡ new_value kept own k v
+value_is kept own k p c value.Default ep ec = refl
+value_is kept own k p c (value.Int n) ep ec =
+    ap (λ (b : Bool). value.Int (if b then renamed kept n else (if c then pos 0 else n))) ep
+    ∙ ap (λ (b : Bool). value.Int (if is_among own.pointers k then renamed kept n else (if b then pos 0 else n))) ec
+value_is kept own k p c (value.Real w) ep ec = refl
+value_is kept own k p c (value.Text t) ep ec = refl
+
+abbrev as_kept : List ℕ → Own → ℕ × Value → Value
+as_kept kept own v = new_value kept own v.0 v.1
+
+pub next_value : (kept : List ℕ) (own : Own) (vs : List Value) (i : ℕ) (v : Value) (p c : Bool) (list new : List Value) → slice_get vs i ≡ Some v → p ≡ is_among own.pointers (i + 1) → c ≡ is_among own.cut (i + 1)
+    → list ≡ map (as_kept kept own) (enumerate_from 1 (take i vs)) → new ≡ list ++ value_as kept p c v ∷ [] → new ≡ map (as_kept kept own) (enumerate_from 1 (take (i + 1) vs))
+next_value kept own vs i v p c list new at ep ec inv en =
+    let lt : i < length vs = slice_get_within vs i v at in
+    let got : get_or vs i value.Default ≡ v = get_or_from_slice_get vs i v value.Default at in
+    let long : 1 + length (take i vs) ≡ i + 1 = omega (arith, length-take i vs, lt) in
+    en ∙ (ap (λ (xs : List Value). xs ++ value_as kept p c v ∷ []) inv
+    ∙ (ap (λ (x : Value). map (as_kept kept own) (enumerate_from 1 (take i vs)) ++ x ∷ []) (value_is kept own (i + 1) p c v ep ec)
+    ∙ sym (ap (λ (xs : List Value). map (as_kept kept own) (enumerate_from 1 xs)) (take_more vs i value.Default lt)
+    ∙ (ap (map (as_kept kept own)) (enumerate_append 1 (take i vs) (get_or vs i value.Default ∷ []))
+    ∙ (map-append (as_kept kept own) (enumerate_from 1 (take i vs)) ((1 + length (take i vs), get_or vs i value.Default) ∷ [])
+    ∙ (ap (λ (x : Value). map (as_kept kept own) (enumerate_from 1 (take i vs)) ++ new_value kept own (1 + length (take i vs)) x ∷ []) got
+    ∙ ap (λ (n : ℕ). map (as_kept kept own) (enumerate_from 1 (take i vs)) ++ new_value kept own n v ∷ []) long))))))
+
+-- ---- how many they are
+
+filter_few : (p : ℤ → Bool) (zs : List ℤ) → length (filter p zs) ≤ length zs
+filter_few p [] = omega arith
+filter_few p (z ∷ zs) = by_test (p z) (filter_few p zs)
+  where
+    by_test : (b : Bool) → length (filter p zs) ≤ length zs → length (if b then z ∷ filter p zs else filter p zs) ≤ suc (length zs)
+    by_test true on = omega (arith, on)
+    by_test false on = omega (arith, on)
+
+found_few : (vs : List Value) → length (filter_map number_of vs) ≤ length vs
+found_few [] = omega arith
+found_few (v ∷ vs) = by_option (number_of v) (found_few vs)
+  where
+    by_option : (o : Option ℤ) → length (filter_map number_of vs) ≤ length vs → length (cons_option o (filter_map number_of vs)) ≤ suc (length vs)
+    by_option None on = omega (arith, on)
+    by_option (Some z) on = omega (arith, on)
+
+pub names_few : (f : Contents) (vs : List Value) → length (filter (is_name f) (filter_map number_of vs)) ≤ length vs
+names_few f vs = omega (arith, filter_few (is_name f) (filter_map number_of vs), found_few vs)
+
+pub names_within : (f : Contents) (vs : List Value) (n b : ℕ) → length vs ≤ 164000000 → length (filter (is_name f) (filter_map number_of (take n (drop b vs)))) ≤ 164000000
+names_within f vs n b few = omega (arith, names_few f (take n (drop b vs)), length-take n (drop b vs), length-drop b vs, few)
+
+behind_few : (names : List Value) (room : ℕ) → (0 < length names → length names + 2 ≤ room) → length (names_behind names) ≤ room
+behind_few [] room h = omega arith
+behind_few (v ∷ names) room h =
+    let some : (length (v ∷ names) == 0) ≡ false = ne_eqb (suc (length names)) 0 (λ e. omega (arith, e)) in
+    let is : names_behind (v ∷ names) ≡ value.Int (pos 0) ∷ value.Int (pos (length (v ∷ names))) ∷ v ∷ names = cond-false (length (v ∷ names) == 0) [] (value.Int (pos 0) ∷ value.Int (pos (length (v ∷ names))) ∷ v ∷ names) some in
+    let room_for : length (v ∷ names) + 2 ≤ room = h (omega arith) in
+    omega (arith, ap length is, room_for)
+
+pointers_few : (vs : List Value) (own n k : ℕ) → 0 < length (take k (drop 1 (drop n (drop 1 (drop own vs))))) → length (take k (drop 1 (drop n (drop 1 (drop own vs))))) + 2 + own ≤ length vs
+pointers_few vs own n k some =
+    omega (arith, some, length-take k (drop 1 (drop n (drop 1 (drop own vs)))), length-drop 1 (drop n (drop 1 (drop own vs))), length-drop n (drop 1 (drop own vs)), length-drop 1 (drop own vs), length-drop own vs)
+
+second_few : (own : Own) (vs : List Value) → 0 < length (second_group own vs).pointers → length (second_group own vs).pointers + 2 + own.count ≤ length vs
+second_few own vs some = pointers_few vs own.count (unwrap_or (count_of (first_group own vs).count) 0) (unwrap_or (count_of (second_group own vs).count) 0) some
+
+module _ (f : Contents) (kept : List ℕ) (r : Record) where
+  abbrev values_of_own : Option Own → List Value
+  values_of_own o =
+      elim o as (λ _. List Value) [ Some own ↦ map (λ (v : ℕ × Value). new_value kept own v.0 v.1) (enumerate_from 1 (take own.count r.1)) | None ↦ [] ]
+      ++ names_behind (new_numbers kept (elim o as (λ _. List ℤ) [ Some own ↦ filter (is_name f) (filter_map number_of (second_group own r.1).pointers) | None ↦ [] ]))
+
+  few_of_own : (o : Option Own) → length (values_of_own o) ≤ length r.1
+  few_of_own None = omega arith
+  few_of_own (Some own) =
+      let zs : List ℤ = filter (is_name f) (filter_map number_of (second_group own r.1).pointers) in
+      let olds : List Value = map (λ (v : ℕ × Value). new_value kept own v.0 v.1) (enumerate_from 1 (take own.count r.1)) in
+      let long : length (map (λ (v : ℕ × Value). new_value kept own v.0 v.1) (enumerate_from 1 (take own.count r.1))) ≡ length (take own.count r.1) =
+      length-map (enumerate_from 1 (take own.count r.1)) (λ (v : ℕ × Value). new_value kept own v.0 v.1) ∙ length-enumerate_from 1 (take own.count r.1) in
+      let tail : length (names_behind (new_numbers kept (filter (is_name f) (filter_map number_of (second_group own r.1).pointers)))) ≤ length r.1 - length (take own.count r.1) =
+      behind_few (new_numbers kept (filter (is_name f) (filter_map number_of (second_group own r.1).pointers))) (length r.1 - length (take own.count r.1))
+      (λ some. room own (length-map (filter (is_name f) (filter_map number_of (second_group own r.1).pointers)) (λ (z : ℤ). value.Int (renamed kept z))) some) in
+      omega (arith, long, tail, length-take own.count r.1,
+        length-append (map (λ (v : ℕ × Value). new_value kept own v.0 v.1) (enumerate_from 1 (take own.count r.1))) (names_behind (new_numbers kept (filter (is_name f) (filter_map number_of (second_group own r.1).pointers)))))
+    where
+      room : (own : Own) {n : ℕ} → n ≡ length (filter (is_name f) (filter_map number_of (second_group own r.1).pointers)) → 0 < n → n + 2 ≤ length r.1 - length (take own.count r.1)
+      room own e some =
+          let few : length (filter (is_name f) (filter_map number_of (second_group own r.1).pointers)) ≤ length (second_group own r.1).pointers = names_few f (second_group own r.1).pointers in
+          omega (arith, e, some, few, second_few own r.1 (omega (arith, e, some, few)), length-take own.count r.1)
+
+  pub values_few : length (new_values f kept r) ≤ length r.1
+  values_few = few_of_own (own_of r)
+
+-- ---- by the shape of the record
+
+pub values_are : (f : Contents) (kept : List ℕ) (r : Record) (own : Own) (g : Between) → HasShape r own g
+    → map (λ (v : ℕ × Value). new_value kept own v.0 v.1) (enumerate_from 1 (take own.count r.1)) ++ names_behind (new_numbers kept (filter (is_name f) (filter_map number_of (take g.count (drop g.before r.1))))) ≡ new_values f kept r
+values_are f kept r own g h =
+    let names : filter (is_name f) (filter_map number_of (take g.count (drop g.before r.1))) ≡ names_of f r =
+    sym (ap (λ (o : Option Own). elim o as (λ _. List ℤ) [ Some own ↦ filter (is_name f) (filter_map number_of (second_group own r.1).pointers) | None ↦ [] ]) h.own_values
+    ∙ ap (λ (s : Group). filter (is_name f) (filter_map number_of s.pointers)) h.second) in
+    ap (λ (zs : List ℤ). map (λ (v : ℕ × Value). new_value kept own v.0 v.1) (enumerate_from 1 (take own.count r.1)) ++ names_behind (new_numbers kept zs)) names
+    ∙ sym (ap (λ (o : Option Own). elim o as (λ _. List Value) [ Some own ↦ map (λ (v : ℕ × Value). new_value kept own v.0 v.1) (enumerate_from 1 (take own.count r.1)) | None ↦ [] ] ++ names_behind (new_numbers kept (names_of f r))) h.own_values)

@@ -1,0 +1,10 @@
+use Rattle.std.proofs.Common.{◌≡◌, ◌<◌, take, []}
+use Rattle.iges_params.specs.Contents.{Contents}
+use Rattle.solid_extract.proofs.copying.begun.Given as goal
+
+abbrev pub invariant-lines : goal.invariant-lines
+invariant-lines l = record {
+  start : l.new.start ≡ take l.i l.file.start;
+  global : l.new.global ≡ l.file.global;
+  entries : l.new.entries ≡ [];
+}

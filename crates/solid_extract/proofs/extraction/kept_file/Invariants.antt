@@ -1,0 +1,12 @@
+use Rattle.std.proofs.Common.{◌≡◌, map, take}
+use Rattle.solid_extract.specs.EntrySets.{numbers_of}
+use Rattle.solid_extract.specs.Extracted.{new_record}
+use Rattle.solid_extract.specs.Making.{records_of}
+use Rattle.solid_extract.proofs.extraction.kept_file.Given as goal
+
+abbrev pub invariant-entries : goal.invariant-entries
+invariant-entries l = record {
+  start : l.new.start ≡ l.file.start;
+  global : l.new.global ≡ l.file.global;
+  entries : l.new.entries ≡ map (new_record l.file l.renaming) (records_of l.file (take l.i (numbers_of l.kept)));
+}

@@ -1,0 +1,26 @@
+-- The values of a kept record.
+use Rattle.std.specs.Prelude.{◌≡◌, ℕ, zero, suc, ◌+◌, ◌<◌, ◌==◌, Bool, false, true, ℤ, pos, List, [], ◌∷◌, length, map, set, if◌then◌else◌, slice_index_or}
+use Rattle.iges_fields.specs.declared.value.Value.{Value}
+use Rattle.iges_fields.specs.declared.value.Value.TheVariants as value
+use Rattle.solid_extract.specs.Extracted.{is_among, renamed}
+
+-- a mark for each of so many places, from 1, says whether it is among them
+pub record AreMarkedPlaces (marks : List Bool) (places : List ℕ) (count : ℕ) : Type 0 where
+  pub long : length marks ≡ count
+  pub marked : (i : ℕ) → i < count → slice_index_or marks i false ≡ is_among places (i + 1)
+
+abbrev pub with_mark : List Bool → ℕ → List Bool
+with_mark marks zero = marks
+with_mark marks (suc k) = set marks k true
+
+-- a pointer is renamed, and one that isn't followed becomes 0
+abbrev pub value_as : List ℕ → Bool → Bool → Value → Value
+value_as kept is_pointer is_cut (value.Int n) = value.Int (if is_pointer then renamed kept n else (if is_cut then pos 0 else n))
+value_as kept is_pointer is_cut v = v
+
+abbrev pub new_numbers : List ℕ → List ℤ → List Value
+new_numbers kept zs = map (λ z. value.Int (renamed kept z)) zs
+
+-- a group of none and one of these names, where there are any
+abbrev pub names_behind : List Value → List Value
+names_behind names = if length names == 0 then [] else value.Int (pos 0) ∷ value.Int (pos (length names)) ∷ names

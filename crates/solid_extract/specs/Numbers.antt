@@ -1,0 +1,10 @@
+-- The numbers in the fields of an entry that are followed.
+use Rattle.std.specs.Prelude.{ℤ, pos, neg_ℤ, int_lt, List, [], ◌∷◌, if◌then◌else◌}
+use Rattle.std.specs.Ordering.{int_eq}
+use Rattle.iges_directory.specs.declared.entry.Entry.{Entry}
+
+abbrev pub matrix_of : Entry → List ℤ
+matrix_of e = if int_eq e.matrix (pos 0) then [] else e.matrix ∷ []
+
+abbrev pub colour_of : Entry → List ℤ
+colour_of e = if int_lt e.colour (pos 0) then neg_ℤ e.colour ∷ [] else []

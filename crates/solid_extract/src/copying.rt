@@ -1,0 +1,49 @@
+//! Copies of a file's parts.
+
+ghost use Rattle.iges_fields.specs.InLine.{is_value};
+ghost use Rattle.iges_params.specs.Global.{have_kinds};
+ghost use Rattle.std.specs.Prelude.{◌≡◌, ◌∷◌, ◌++◌, [], IfOk, IsTrue, OnOk};
+
+use iges_fields::{NoMemory, Value, Values};
+use iges_params::{File, Global26};
+use std::alloc::Global;
+
+fn push_copy(list: &mut Values, alloc: Global, value: &Value) -> Result<(), NoMemory>
+    requires { IsTrue (is_value value.now) }
+    ensures { OnOk result (list.new ≡ list.old ++ value.now ∷ []) }
+{
+    let copy = value.copy(alloc)?;
+    list.push(copy)
+}
+
+fn copied_values(alloc: Global, values: &Values) -> Result<Values, NoMemory>
+    ensures { IfOk result (λ list. list ≡ values.now) }
+{
+    let mut list = Values::new(alloc);
+    'values: for i in 0..values.len() {
+        push_copy(&mut list, alloc, values.get(i).unwrap())?;
+    }
+    Ok(list)
+}
+
+fn copied_global(alloc: Global, global: &Global26) -> Result<Global26, NoMemory>
+    ensures { IfOk result (λ copy. copy ≡ global.now) }
+{
+    Ok(Global26 {
+        delims: global.delims,
+        values: copied_values(alloc, &global.values)?,
+    })
+}
+
+/// A file with the start lines and the global of another, and no entry.
+pub fn begun(alloc: Global, file: &File) -> Result<File, NoMemory>
+    ensures { IfOk result (λ new. new ≡ record file.now { entries = [] }) }
+{
+    let count = file.start_count();
+    let global = copied_global(alloc, file.global())?;
+    let mut new = File::new(alloc, file.start(0).unwrap(), global)?;
+    'lines: for i in 1..count {
+        new.push_start(file.start(i).unwrap())?;
+    }
+    Ok(new)
+}

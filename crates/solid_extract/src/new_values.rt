@@ -1,0 +1,151 @@
+//! The values that a kept entry has.
+
+ghost use Rattle.iges_fields.specs.InLine.{is_value, stays_in_line};
+ghost use Rattle.iges_fields.specs.declared.TheConstants.{FILE_LIMIT};
+ghost use Rattle.solid_extract.specs.Extracted.{new_value};
+ghost use Rattle.solid_extract.specs.NewValues.{AreMarkedPlaces, names_behind, new_numbers, value_as, with_mark};
+ghost use Rattle.solid_extract.specs.Refs.{is_name, number_of};
+ghost use Rattle.std.specs.List.{enumerate_from};
+ghost use Rattle.std.specs.Prelude.{◌≡◌, ◌+◌, ◌∷◌, ◌++◌, ◌<◌, ◌≤◌, ◌^◌, [], IfOk, IsTrue, OnOk, drop, filter, filter_map, length, map, take};
+
+use crate::entry_set::mark_at;
+use crate::group::Group;
+use crate::numbers::push_names;
+use crate::own::Own;
+use crate::refs::Shape;
+use crate::renaming::Renaming;
+use iges_fields::{ItemList, NoMemory, Value, Values};
+use iges_params::File;
+use std::alloc::Global;
+
+fn set_mark(marks: &mut Vec<bool>, place: usize)
+    ensures { marks.new.items ≡ with_mark marks.old.items place }
+{
+    if place > 0 && place <= marks.len() {
+        marks[place - 1] = true;
+    }
+}
+
+// A mark for each of so many places, from 1: whether it is one of these.
+fn marked(alloc: Global, places: &[usize], count: usize) -> Result<Vec<bool>, NoMemory>
+    ensures { IfOk result (λ marks. AreMarkedPlaces marks.items places.now count) }
+{
+    let mut marks = vec![in alloc; false; count]?;
+    'places: for place in places {
+        set_mark(&mut marks, *place);
+    }
+    Ok(marks)
+}
+
+// A value as it is kept: a pointer is renamed, and one that isn't followed is cut.
+fn new_value(
+    alloc: Global,
+    renaming: &Renaming,
+    value: &Value,
+    is_pointer: bool,
+    is_cut: bool,
+) -> Result<Value, NoMemory>
+    requires { IsTrue (is_value value.now) }
+    ensures is { IfOk result (λ v. v ≡ value_as renaming.now is_pointer is_cut value.now) }
+    ensures in_line { IfOk result (λ v. IsTrue (stays_in_line v)) }
+{
+    match value {
+        Value::Int(n) if is_pointer => Ok(Value::Int(renaming.renamed(*n))),
+        Value::Int(_) if is_cut => Ok(Value::Int(0)),
+        _ => value.copy(alloc),
+    }
+}
+
+fn push_value(
+    list: &mut Values,
+    alloc: Global,
+    renaming: &Renaming,
+    value: &Value,
+    is_pointer: bool,
+    is_cut: bool,
+) -> Result<(), NoMemory>
+    requires { IsTrue (is_value value.now) }
+    ensures { OnOk result (list.new ≡ list.old ++ value_as renaming.now is_pointer is_cut value.now ∷ []) }
+{
+    let kept = new_value(alloc, renaming, value, is_pointer, is_cut)?;
+    list.push(kept)
+}
+
+// The own values as they are kept.
+fn own_values(
+    alloc: Global,
+    renaming: &Renaming,
+    own: &Own,
+    values: &Values,
+) -> Result<Values, NoMemory>
+    ensures { IfOk result (λ list. list ≡ map (λ v. new_value renaming.now own.now v.0 v.1) (enumerate_from 1 (take own.now.count values.now))) }
+{
+    let count = own.count.min(values.len());
+    let pointers = marked(alloc, own.pointers.as_slice(), count)?;
+    let marks = pointers.as_slice();
+    let cut = own.cut.as_slice();
+    let mut list = Values::new(alloc);
+    'values: for i in 0..count {
+        let value = values.get(i).unwrap();
+        let is_pointer = mark_at(marks, i);
+        let is_cut = cut.contains(&(i + 1));
+        push_value(&mut list, alloc, renaming, value, is_pointer, is_cut)?;
+    }
+    Ok(list)
+}
+
+fn push_renamed(list: &mut Values, renaming: &Renaming, numbers: &ItemList<i64>) -> Result<(), NoMemory>
+    ensures { OnOk result (list.new ≡ list.old ++ new_numbers renaming.now numbers.now) }
+{
+    'numbers: for number in numbers.as_slice() {
+        list.push(Value::Int(renaming.renamed(*number)))?;
+    }
+    Ok(())
+}
+
+// Puts a group of none and one of the names, where there are any.
+fn push_groups(list: &mut Values, renaming: &Renaming, names: &ItemList<i64>) -> Result<(), NoMemory>
+    requires { length names.now ≤ FILE_LIMIT }
+    ensures { OnOk result (list.new ≡ list.old ++ names_behind (new_numbers renaming.now names.now)) }
+{
+    let count = names.len();
+    if count == 0 {
+        return Ok(());
+    }
+    list.push(Value::Int(0))?;
+    list.push(Value::Int(count as i64))?;
+    push_renamed(list, renaming, names)
+}
+
+fn names_in(
+    alloc: Global,
+    file: &File,
+    values: &Values,
+    group: Group,
+) -> Result<ItemList<i64>, NoMemory>
+    requires { group.before + group.count < 2 ^ 32 }
+    ensures is { IfOk result (λ names. names ≡ filter (is_name file.now) (filter_map number_of (take group.count (drop group.before values.now)))) }
+{
+    let mut names = ItemList::new(alloc);
+    push_names(&mut names, file, values, group)?;
+    Ok(names)
+}
+
+/// The values that a record has where it is kept: its own values, and behind them the names, where there are any (own).
+pub fn new_values(
+    alloc: Global,
+    file: &File,
+    renaming: &Renaming,
+    values: &Values,
+    shape: &Shape,
+) -> Result<Values, NoMemory>
+    requires few { length values.now ≤ FILE_LIMIT }
+    requires small { shape.now.names.before + shape.now.names.count < 2 ^ 32 }
+    ensures { IfOk result (λ list. list ≡ map (λ v. new_value renaming.now shape.now.own v.0 v.1) (enumerate_from 1 (take shape.now.own.count values.now))
+        ++ names_behind (new_numbers renaming.now (filter (is_name file.now) (filter_map number_of (take shape.now.names.count (drop shape.now.names.before values.now)))))) }
+{
+    let mut list = own_values(alloc, renaming, &shape.own, values)?;
+    let names = names_in(alloc, file, values, shape.names)?;
+    push_groups(&mut list, renaming, &names)?;
+    Ok(list)
+}
