@@ -8,7 +8,7 @@ use Rattle.std.proofs.lemmas.Bool.{eqb-true, and_parts, leb-true}
 use Rattle.iges_fields.specs.Word.{are_digits}
 use Rattle.iges_solid_cmd.specs.declared.form.Command.{Command}
 use Rattle.iges_solid_cmd.specs.declared.form.Command.TheVariants.{File, Sample}
-use Rattle.iges_solid_cmd.specs.declared.form.FileCommand.TheVariants.{Solids, Show, Certify, Verify}
+use Rattle.iges_solid_cmd.specs.declared.form.FileCommand.TheVariants.{Solids, Show, Certify, Verify, Extract}
 use Rattle.iges_solid_cmd.specs.Forms.{Form, all_fit, certificate, command_of, entry_command, entry_number, sample_number, fits, file, is_certificate, is_file, number_among, reads_certificate, reads_file, takes_certificate, takes_file, IsSized, word}
 
 abbrev named : List ℕ → List ℕ → Bool
@@ -27,24 +27,26 @@ same_or (b ∷ a) (x ∷ text) = by_first (nat_eq b x) refl (same_or a text)
     by_first false e rest = inr (ap (λ y. y && named a text) e)
 
 -- the first form whose test holds
-abbrev form_by : Bool → Bool → Bool → Bool → Bool → Option Form
-form_by solids show certify verify sample =
+abbrev form_by : Bool → Bool → Bool → Bool → Bool → Bool → Option Form
+form_by solids show certify verify extract sample =
     cond solids (Some (record { slots = word (codes "solids") ∷ file ∷ []; command = λ _. File Solids }))
     (cond show (Some (record { slots = word (codes "show") ∷ file ∷ entry_number ∷ []; command = λ n. File (Show n) }))
     (cond certify (Some (record { slots = word (codes "certify") ∷ file ∷ entry_number ∷ []; command = λ n. File (Certify n) }))
     (cond verify (Some (record { slots = word (codes "verify") ∷ file ∷ certificate ∷ []; command = λ _. File Verify }))
-    (cond sample (Some (record { slots = word (codes "sample") ∷ sample_number ∷ []; command = λ n. Sample n })) None))))
+    (cond extract (Some (record { slots = word (codes "extract") ∷ file ∷ entry_number ∷ []; command = λ n. File (Extract n) }))
+    (cond sample (Some (record { slots = word (codes "sample") ∷ sample_number ∷ []; command = λ n. Sample n })) None)))))
 
-abbrev by_tests : List (List ℕ) → Bool → Bool → Bool → Bool → Bool → Option Command
-by_tests words solids show certify verify sample = option_map (λ (form : Form). form.command (number_among form.slots words)) (form_by solids show certify verify sample)
+abbrev by_tests : List (List ℕ) → Bool → Bool → Bool → Bool → Bool → Bool → Option Command
+by_tests words solids show certify verify extract sample = option_map (λ (form : Form). form.command (number_among form.slots words)) (form_by solids show certify verify extract sample)
 
-no_test : (words : List (List ℕ)) (solids show certify verify sample : Bool) → solids ≡ false → show ≡ false → certify ≡ false → verify ≡ false → sample ≡ false → by_tests words solids show certify verify sample ≡ None
-no_test words true show certify verify sample e0 e1 e2 e3 e4 = absurd cc
-no_test words false true certify verify sample e0 e1 e2 e3 e4 = absurd cc
-no_test words false false true verify sample e0 e1 e2 e3 e4 = absurd cc
-no_test words false false false true sample e0 e1 e2 e3 e4 = absurd cc
-no_test words false false false false true e0 e1 e2 e3 e4 = absurd cc
-no_test words false false false false false e0 e1 e2 e3 e4 = refl
+no_test : (words : List (List ℕ)) (solids show certify verify extract sample : Bool) → solids ≡ false → show ≡ false → certify ≡ false → verify ≡ false → extract ≡ false → sample ≡ false → by_tests words solids show certify verify extract sample ≡ None
+no_test words true show certify verify extract sample e0 e1 e2 e3 e4 e5 = absurd cc
+no_test words false true certify verify extract sample e0 e1 e2 e3 e4 e5 = absurd cc
+no_test words false false true verify extract sample e0 e1 e2 e3 e4 e5 = absurd cc
+no_test words false false false true extract sample e0 e1 e2 e3 e4 e5 = absurd cc
+no_test words false false false false true sample e0 e1 e2 e3 e4 e5 = absurd cc
+no_test words false false false false false true e0 e1 e2 e3 e4 e5 = absurd cc
+no_test words false false false false false false e0 e1 e2 e3 e4 e5 = refl
 
 first_false : (x y : Bool) → x ≡ false → (x && y) ≡ false
 first_false true y e = absurd cc
@@ -77,7 +79,7 @@ of_two a b = if named a (codes "solids") then Some (File Solids) else (if named 
 
 abbrev by_fit_two : List ℕ → List ℕ → Bool → Type 0
 by_fit_two a b fit = (if named a (codes "solids") then Some (File Solids) else (if named a (codes "sample") then (if fit then Some (Sample (digits_value 10 b)) else None) else None))
-    ≡ by_tests (a ∷ b ∷ []) (named a (codes "solids") && (true && true)) (named a (codes "show") && (true && false)) (named a (codes "certify") && (true && false)) (named a (codes "verify") && (true && false)) (named a (codes "sample") && (fit && true))
+    ≡ by_tests (a ∷ b ∷ []) (named a (codes "solids") && (true && true)) (named a (codes "show") && (true && false)) (named a (codes "certify") && (true && false)) (named a (codes "verify") && (true && false)) (named a (codes "extract") && (true && false)) (named a (codes "sample") && (fit && true))
 
 solids_words : (b : List ℕ) (fit : Bool) → by_fit_two (codes "solids") b fit
 solids_words b true = refl
@@ -100,8 +102,8 @@ two_words a b =
   where
     none : named a (codes "solids") ≡ false → named a (codes "sample") ≡ false → of_two a b ≡ command_of (a ∷ b ∷ [])
     none x y = no_two (named a (codes "solids")) (named a (codes "sample")) (fits sample_number b) (Some (Sample (digits_value 10 b))) x y
-        ∙ sym (no_test (a ∷ b ∷ []) (all_fit (word (codes "solids") ∷ file ∷ []) (a ∷ b ∷ [])) (all_fit (word (codes "show") ∷ file ∷ entry_number ∷ []) (a ∷ b ∷ [])) (all_fit (word (codes "certify") ∷ file ∷ entry_number ∷ []) (a ∷ b ∷ [])) (all_fit (word (codes "verify") ∷ file ∷ certificate ∷ []) (a ∷ b ∷ [])) (all_fit (word (codes "sample") ∷ sample_number ∷ []) (a ∷ b ∷ []))
-        (first_false (named a (codes "solids")) true x) (second_false (named a (codes "show"))) (second_false (named a (codes "certify"))) (second_false (named a (codes "verify"))) (first_false (named a (codes "sample")) (fits sample_number b && true) y))
+        ∙ sym (no_test (a ∷ b ∷ []) (all_fit (word (codes "solids") ∷ file ∷ []) (a ∷ b ∷ [])) (all_fit (word (codes "show") ∷ file ∷ entry_number ∷ []) (a ∷ b ∷ [])) (all_fit (word (codes "certify") ∷ file ∷ entry_number ∷ []) (a ∷ b ∷ [])) (all_fit (word (codes "verify") ∷ file ∷ certificate ∷ []) (a ∷ b ∷ [])) (all_fit (word (codes "extract") ∷ file ∷ entry_number ∷ []) (a ∷ b ∷ [])) (all_fit (word (codes "sample") ∷ sample_number ∷ []) (a ∷ b ∷ []))
+        (first_false (named a (codes "solids")) true x) (second_false (named a (codes "show"))) (second_false (named a (codes "certify"))) (second_false (named a (codes "verify"))) (second_false (named a (codes "extract"))) (first_false (named a (codes "sample")) (fits sample_number b && true) y))
 
 -- ---- three words
 
@@ -111,7 +113,7 @@ of_three a n = if named a (codes "verify") then Some (File Verify) else (if fits
 -- what the other words are makes no difference but for their tests
 abbrev by_fit : List ℕ → List ℕ → List ℕ → Bool → Type 0
 by_fit a b n fit = (if named a (codes "verify") then Some (File Verify) else (if fit then entry_command a (digits_value 10 n) else None))
-    ≡ by_tests (a ∷ b ∷ n ∷ []) (named a (codes "solids") && (true && false)) (named a (codes "show") && (true && (fit && true))) (named a (codes "certify") && (true && (fit && true))) (named a (codes "verify") && (true && (true && true))) (named a (codes "sample") && (fits sample_number b && false))
+    ≡ by_tests (a ∷ b ∷ n ∷ []) (named a (codes "solids") && (true && false)) (named a (codes "show") && (true && (fit && true))) (named a (codes "certify") && (true && (fit && true))) (named a (codes "verify") && (true && (true && true))) (named a (codes "extract") && (true && (fit && true))) (named a (codes "sample") && (fits sample_number b && false))
 
 show_words : (b n : List ℕ) (fit : Bool) → by_fit (codes "show") b n fit
 show_words b n true = refl
@@ -121,38 +123,44 @@ certify_words : (b n : List ℕ) (fit : Bool) → by_fit (codes "certify") b n f
 certify_words b n true = refl
 certify_words b n false = refl
 
+extract_words : (b n : List ℕ) (fit : Bool) → by_fit (codes "extract") b n fit
+extract_words b n true = refl
+extract_words b n false = refl
+
 verify_words : (b n : List ℕ) (fit : Bool) → by_fit (codes "verify") b n fit
 verify_words b n true = refl
 verify_words b n false = refl
 
-no_command : (x0 x1 z fit : Bool) (show certify : Option Command) → x0 ≡ false → x1 ≡ false → z ≡ false → (if z then Some (File Verify) else (if fit then (if x0 then show else (if x1 then certify else None)) else None)) ≡ None
-no_command true x1 z fit show certify c0 c1 d = absurd cc
-no_command false true z fit show certify c0 c1 d = absurd cc
-no_command false false true fit show certify c0 c1 d = absurd cc
-no_command false false false true show certify c0 c1 d = refl
-no_command false false false false show certify c0 c1 d = refl
+no_command : (x0 x1 x2 z fit : Bool) (show certify extract : Option Command) → x0 ≡ false → x1 ≡ false → x2 ≡ false → z ≡ false → (if z then Some (File Verify) else (if fit then (if x0 then show else (if x1 then certify else (if x2 then extract else None))) else None)) ≡ None
+no_command true x1 x2 z fit show certify extract c0 c1 c2 d = absurd cc
+no_command false true x2 z fit show certify extract c0 c1 c2 d = absurd cc
+no_command false false true z fit show certify extract c0 c1 c2 d = absurd cc
+no_command false false false true fit show certify extract c0 c1 c2 d = absurd cc
+no_command false false false false true show certify extract c0 c1 c2 d = refl
+no_command false false false false false show certify extract c0 c1 c2 d = refl
 
 three_words : (a b n : List ℕ) → of_three a n ≡ command_of (a ∷ b ∷ n ∷ [])
 three_words a b n =
     ⊎_elim (λ is. subst (λ w. of_three w n ≡ command_of (w ∷ b ∷ n ∷ [])) (sym is) (show_words b n (fits entry_number n)))
     (λ y0. ⊎_elim (λ is. subst (λ w. of_three w n ≡ command_of (w ∷ b ∷ n ∷ [])) (sym is) (certify_words b n (fits entry_number n)))
-    (λ y1. ⊎_elim (λ is. subst (λ w. of_three w n ≡ command_of (w ∷ b ∷ n ∷ [])) (sym is) (verify_words b n (fits entry_number n)))
-    (λ y2. none y0 y1 y2) (same_or a (codes "verify"))) (same_or a (codes "certify"))) (same_or a (codes "show"))
+    (λ y1. ⊎_elim (λ is. subst (λ w. of_three w n ≡ command_of (w ∷ b ∷ n ∷ [])) (sym is) (extract_words b n (fits entry_number n)))
+    (λ y2. ⊎_elim (λ is. subst (λ w. of_three w n ≡ command_of (w ∷ b ∷ n ∷ [])) (sym is) (verify_words b n (fits entry_number n)))
+    (λ y3. none y0 y1 y2 y3) (same_or a (codes "verify"))) (same_or a (codes "extract"))) (same_or a (codes "certify"))) (same_or a (codes "show"))
   where
-    none : named a (codes "show") ≡ false → named a (codes "certify") ≡ false → named a (codes "verify") ≡ false → of_three a n ≡ command_of (a ∷ b ∷ n ∷ [])
-    none y0 y1 y2 = no_command (named a (codes "show")) (named a (codes "certify")) (named a (codes "verify")) (fits entry_number n) (Some (File (Show (digits_value 10 n)))) (Some (File (Certify (digits_value 10 n)))) y0 y1 y2
-        ∙ sym (no_test (a ∷ b ∷ n ∷ []) (all_fit (word (codes "solids") ∷ file ∷ []) (a ∷ b ∷ n ∷ [])) (all_fit (word (codes "show") ∷ file ∷ entry_number ∷ []) (a ∷ b ∷ n ∷ [])) (all_fit (word (codes "certify") ∷ file ∷ entry_number ∷ []) (a ∷ b ∷ n ∷ [])) (all_fit (word (codes "verify") ∷ file ∷ certificate ∷ []) (a ∷ b ∷ n ∷ [])) (all_fit (word (codes "sample") ∷ sample_number ∷ []) (a ∷ b ∷ n ∷ []))
-        (second_false (named a (codes "solids"))) (first_false (named a (codes "show")) (true && (fits entry_number n && true)) y0) (first_false (named a (codes "certify")) (true && (fits entry_number n && true)) y1) (first_false (named a (codes "verify")) true y2) (later_false (named a (codes "sample")) (fits sample_number b)))
+    none : named a (codes "show") ≡ false → named a (codes "certify") ≡ false → named a (codes "extract") ≡ false → named a (codes "verify") ≡ false → of_three a n ≡ command_of (a ∷ b ∷ n ∷ [])
+    none y0 y1 y2 y3 = no_command (named a (codes "show")) (named a (codes "certify")) (named a (codes "extract")) (named a (codes "verify")) (fits entry_number n) (Some (File (Show (digits_value 10 n)))) (Some (File (Certify (digits_value 10 n)))) (Some (File (Extract (digits_value 10 n)))) y0 y1 y2 y3
+        ∙ sym (no_test (a ∷ b ∷ n ∷ []) (all_fit (word (codes "solids") ∷ file ∷ []) (a ∷ b ∷ n ∷ [])) (all_fit (word (codes "show") ∷ file ∷ entry_number ∷ []) (a ∷ b ∷ n ∷ [])) (all_fit (word (codes "certify") ∷ file ∷ entry_number ∷ []) (a ∷ b ∷ n ∷ [])) (all_fit (word (codes "verify") ∷ file ∷ certificate ∷ []) (a ∷ b ∷ n ∷ [])) (all_fit (word (codes "extract") ∷ file ∷ entry_number ∷ []) (a ∷ b ∷ n ∷ [])) (all_fit (word (codes "sample") ∷ sample_number ∷ []) (a ∷ b ∷ n ∷ []))
+        (second_false (named a (codes "solids"))) (first_false (named a (codes "show")) (true && (fits entry_number n && true)) y0) (first_false (named a (codes "certify")) (true && (fits entry_number n && true)) y1) (first_false (named a (codes "verify")) true y3) (first_false (named a (codes "extract")) (true && (fits entry_number n && true)) y2) (later_false (named a (codes "sample")) (fits sample_number b)))
 
 -- ---- other numbers of words
 
 one_word : (a : List ℕ) → None ≡ command_of (a ∷ [])
-one_word a = sym (no_test (a ∷ []) (named a (codes "solids") && false) (named a (codes "show") && false) (named a (codes "certify") && false) (named a (codes "verify") && false) (named a (codes "sample") && false)
-    (second_false (named a (codes "solids"))) (second_false (named a (codes "show"))) (second_false (named a (codes "certify"))) (second_false (named a (codes "verify"))) (second_false (named a (codes "sample"))))
+one_word a = sym (no_test (a ∷ []) (named a (codes "solids") && false) (named a (codes "show") && false) (named a (codes "certify") && false) (named a (codes "verify") && false) (named a (codes "extract") && false) (named a (codes "sample") && false)
+    (second_false (named a (codes "solids"))) (second_false (named a (codes "show"))) (second_false (named a (codes "certify"))) (second_false (named a (codes "verify"))) (second_false (named a (codes "extract"))) (second_false (named a (codes "sample"))))
 
 many_words : (a b c d : List ℕ) (ws : List (List ℕ)) → None ≡ command_of (a ∷ b ∷ c ∷ d ∷ ws)
-many_words a b c d ws = sym (no_test (a ∷ b ∷ c ∷ d ∷ ws) (named a (codes "solids") && (true && false)) (named a (codes "show") && (true && (fits entry_number c && false))) (named a (codes "certify") && (true && (fits entry_number c && false))) (named a (codes "verify") && (true && (true && false))) (named a (codes "sample") && (fits sample_number b && false))
-    (second_false (named a (codes "solids"))) (third_false (named a (codes "show")) (fits entry_number c)) (third_false (named a (codes "certify")) (fits entry_number c)) (second_false (named a (codes "verify"))) (later_false (named a (codes "sample")) (fits sample_number b)))
+many_words a b c d ws = sym (no_test (a ∷ b ∷ c ∷ d ∷ ws) (named a (codes "solids") && (true && false)) (named a (codes "show") && (true && (fits entry_number c && false))) (named a (codes "certify") && (true && (fits entry_number c && false))) (named a (codes "verify") && (true && (true && false))) (named a (codes "extract") && (true && (fits entry_number c && false))) (named a (codes "sample") && (fits sample_number b && false))
+    (second_false (named a (codes "solids"))) (third_false (named a (codes "show")) (fits entry_number c)) (third_false (named a (codes "certify")) (fits entry_number c)) (second_false (named a (codes "verify"))) (third_false (named a (codes "extract")) (fits entry_number c)) (later_false (named a (codes "sample")) (fits sample_number b)))
 
 pub two : (ws : Given) (name last : String Global) (a b : List ℕ) → 2 ≤ length ws → length ws < 3 → name ≡ get_or ws 0 name → last ≡ get_or ws 1 last → a ≡ string_bytes name → b ≡ string_bytes last → of_two a b ≡ command_of (bytes_of ws)
 two [] name last a b least most is is' bytes bytes' = absurd (omega (arith, least))
@@ -196,16 +204,17 @@ ReadsAs reads takes c = (reads ≡ takes_file c) × (takes ≡ takes_certificate
 some_is : (c d : Command) → Some c ≡ Some d → c ≡ d
 some_is c d e = cc
 
-reads_by : (words : List (List ℕ)) (solids show certify verify sample : Bool) (c : Command) → by_tests words solids show certify verify sample ≡ Some c → ReadsAs (reads_form (form_by solids show certify verify sample)) (certificate_form (form_by solids show certify verify sample)) c
-reads_by words true show certify verify sample c e = subst (ReadsAs true false) (some_is (File Solids) c e) (refl, refl)
-reads_by words false true certify verify sample c e = subst (ReadsAs true false) (some_is (File (Show (number_among (word (codes "show") ∷ file ∷ entry_number ∷ []) words))) c e) (refl, refl)
-reads_by words false false true verify sample c e = subst (ReadsAs true false) (some_is (File (Certify (number_among (word (codes "certify") ∷ file ∷ entry_number ∷ []) words))) c e) (refl, refl)
-reads_by words false false false true sample c e = subst (ReadsAs true true) (some_is (File Verify) c e) (refl, refl)
-reads_by words false false false false true c e = subst (ReadsAs false false) (some_is (Sample (number_among (word (codes "sample") ∷ sample_number ∷ []) words)) c e) (refl, refl)
-reads_by words false false false false false c e = absurd cc
+reads_by : (words : List (List ℕ)) (solids show certify verify extract sample : Bool) (c : Command) → by_tests words solids show certify verify extract sample ≡ Some c → ReadsAs (reads_form (form_by solids show certify verify extract sample)) (certificate_form (form_by solids show certify verify extract sample)) c
+reads_by words true show certify verify extract sample c e = subst (ReadsAs true false) (some_is (File Solids) c e) (refl, refl)
+reads_by words false true certify verify extract sample c e = subst (ReadsAs true false) (some_is (File (Show (number_among (word (codes "show") ∷ file ∷ entry_number ∷ []) words))) c e) (refl, refl)
+reads_by words false false true verify extract sample c e = subst (ReadsAs true false) (some_is (File (Certify (number_among (word (codes "certify") ∷ file ∷ entry_number ∷ []) words))) c e) (refl, refl)
+reads_by words false false false true extract sample c e = subst (ReadsAs true true) (some_is (File Verify) c e) (refl, refl)
+reads_by words false false false false true sample c e = subst (ReadsAs true false) (some_is (File (Extract (number_among (word (codes "extract") ∷ file ∷ entry_number ∷ []) words))) c e) (refl, refl)
+reads_by words false false false false false true c e = subst (ReadsAs false false) (some_is (Sample (number_among (word (codes "sample") ∷ sample_number ∷ []) words)) c e) (refl, refl)
+reads_by words false false false false false false c e = absurd cc
 
 reads_both : (words : List (List ℕ)) (c : Command) → command_of words ≡ Some c → ReadsAs (reads_file words) (reads_certificate words) c
-reads_both words c e = reads_by words (all_fit (word (codes "solids") ∷ file ∷ []) words) (all_fit (word (codes "show") ∷ file ∷ entry_number ∷ []) words) (all_fit (word (codes "certify") ∷ file ∷ entry_number ∷ []) words) (all_fit (word (codes "verify") ∷ file ∷ certificate ∷ []) words) (all_fit (word (codes "sample") ∷ sample_number ∷ []) words) c e
+reads_both words c e = reads_by words (all_fit (word (codes "solids") ∷ file ∷ []) words) (all_fit (word (codes "show") ∷ file ∷ entry_number ∷ []) words) (all_fit (word (codes "certify") ∷ file ∷ entry_number ∷ []) words) (all_fit (word (codes "verify") ∷ file ∷ certificate ∷ []) words) (all_fit (word (codes "extract") ∷ file ∷ entry_number ∷ []) words) (all_fit (word (codes "sample") ∷ sample_number ∷ []) words) c e
 
 pub reads : (words : List (List ℕ)) (c : Command) → command_of words ≡ Some c → reads_file words ≡ takes_file c
 reads words c e = (reads_both words c e).0
@@ -230,13 +239,14 @@ sized_words (a ∷ w ∷ []) fit =
     in_range w (and_parts (fits sample_number w) true parts.1).0
 sized_words (a ∷ w ∷ x ∷ ws) fit = absurd (let no_more = later_false (named a (codes "sample")) (fits sample_number w) in cc)
 
-sized_by : (words : List (List ℕ)) (solids show certify verify sample : Bool) (c : Command) → (sample ≡ true → (3 ≤ number_among (word (codes "sample") ∷ sample_number ∷ []) words) × (number_among (word (codes "sample") ∷ sample_number ∷ []) words ≤ 200)) → by_tests words solids show certify verify sample ≡ Some c → IsSized c
-sized_by words true show certify verify sample c sized e = subst IsSized (some_is (File Solids) c e) tt
-sized_by words false true certify verify sample c sized e = subst IsSized (some_is (File (Show (number_among (word (codes "show") ∷ file ∷ entry_number ∷ []) words))) c e) tt
-sized_by words false false true verify sample c sized e = subst IsSized (some_is (File (Certify (number_among (word (codes "certify") ∷ file ∷ entry_number ∷ []) words))) c e) tt
-sized_by words false false false true sample c sized e = subst IsSized (some_is (File Verify) c e) tt
-sized_by words false false false false true c sized e = subst IsSized (some_is (Sample (number_among (word (codes "sample") ∷ sample_number ∷ []) words)) c e) (sized refl)
-sized_by words false false false false false c sized e = absurd cc
+sized_by : (words : List (List ℕ)) (solids show certify verify extract sample : Bool) (c : Command) → (sample ≡ true → (3 ≤ number_among (word (codes "sample") ∷ sample_number ∷ []) words) × (number_among (word (codes "sample") ∷ sample_number ∷ []) words ≤ 200)) → by_tests words solids show certify verify extract sample ≡ Some c → IsSized c
+sized_by words true show certify verify extract sample c sized e = subst IsSized (some_is (File Solids) c e) tt
+sized_by words false true certify verify extract sample c sized e = subst IsSized (some_is (File (Show (number_among (word (codes "show") ∷ file ∷ entry_number ∷ []) words))) c e) tt
+sized_by words false false true verify extract sample c sized e = subst IsSized (some_is (File (Certify (number_among (word (codes "certify") ∷ file ∷ entry_number ∷ []) words))) c e) tt
+sized_by words false false false true extract sample c sized e = subst IsSized (some_is (File Verify) c e) tt
+sized_by words false false false false true sample c sized e = subst IsSized (some_is (File (Extract (number_among (word (codes "extract") ∷ file ∷ entry_number ∷ []) words))) c e) tt
+sized_by words false false false false false true c sized e = subst IsSized (some_is (Sample (number_among (word (codes "sample") ∷ sample_number ∷ []) words)) c e) (sized refl)
+sized_by words false false false false false false c sized e = absurd cc
 
 pub sized : (words : List (List ℕ)) (c : Command) → command_of words ≡ Some c → IsSized c
-sized words c e = sized_by words (all_fit (word (codes "solids") ∷ file ∷ []) words) (all_fit (word (codes "show") ∷ file ∷ entry_number ∷ []) words) (all_fit (word (codes "certify") ∷ file ∷ entry_number ∷ []) words) (all_fit (word (codes "verify") ∷ file ∷ certificate ∷ []) words) (all_fit (word (codes "sample") ∷ sample_number ∷ []) words) c (sized_words words) e
+sized words c e = sized_by words (all_fit (word (codes "solids") ∷ file ∷ []) words) (all_fit (word (codes "show") ∷ file ∷ entry_number ∷ []) words) (all_fit (word (codes "certify") ∷ file ∷ entry_number ∷ []) words) (all_fit (word (codes "verify") ∷ file ∷ certificate ∷ []) words) (all_fit (word (codes "extract") ∷ file ∷ entry_number ∷ []) words) (all_fit (word (codes "sample") ∷ sample_number ∷ []) words) c (sized_words words) e

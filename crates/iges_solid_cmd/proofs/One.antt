@@ -12,6 +12,10 @@ use Rattle.brep_walk.specs.SolidOf.{solid_of}
 use Rattle.cert_lines.proofs.Openings.{one_bad_opening, one_opening, opens_or_bad}
 use Rattle.topo_certificate.proofs.LegalLemmas.{legal_has_no_bad_lem, one_first_bad}
 use Rattle.cert_maker.specs.Checked.{checked}
+use Rattle.iges_write.specs.Text.{IsText}
+use Rattle.iges_write.proofs.FileBack.{one_text}
+use Rattle.solid_extract.specs.Extracted.{IsExtracted}
+use Rattle.solid_extract.proofs.One.{IsExtracted-unique, IsRefused-unique, IsExtracted-IsRefused}
 use Rattle.cert_maker.specs.Closed.{obligations}
 use Rattle.iges_solid_cmd.specs.declared.form.Command.{Command}
 use Rattle.iges_solid_cmd.specs.declared.form.Command.TheVariants as command
@@ -20,9 +24,9 @@ use Rattle.iges_solid_cmd.specs.declared.form.FileCommand.TheVariants as of_file
 use Rattle.iges_solid_cmd.specs.declared.answer.Answer.{Answer}
 use Rattle.iges_solid_cmd.specs.declared.answer.Answer.TheVariants as answer
 use Rattle.iges_solid_cmd.specs.Forms.{command_of, usage_line}
-use Rattle.iges_solid_cmd.specs.Texts.{bad_file_line, fail_line, illegal_line, solids_text}
+use Rattle.iges_solid_cmd.specs.Texts.{bad_file_line, fail_line, illegal_line, no_extract_line, solids_text}
 use Rattle.iges_solid_cmd.specs.Outcome.{IsNoFile}
-use Rattle.iges_solid_cmd.specs.Due.{Owed, Exactly, OfNoFile, OfFile, OfSolids, OfShow, OfCertify, OfLines, OfVerify, OfContents, OfSample, DueOf}
+use Rattle.iges_solid_cmd.specs.Due.{Owed, Exactly, OfNoFile, OfFile, OfSolids, OfShow, OfCertify, OfLines, OfVerify, OfExtract, OfContents, OfSample, DueOf}
 use Rattle.iges_solid_cmd.specs.OneAnswer.{chooses, OneAnswerIsOwed}
 
 -- at most one answer and text are owed
@@ -100,11 +104,37 @@ verify_one c f a b t u (inr (inr (few, n, lines, opens, owed))) (inr (inr (fewer
     let same = one_opening c n m lines others opens opened in
     lines_one m others f a b t u (subst (λ (k : ℕ). OfLines k others f a t) same.0 (subst (λ (xs : List (List ℕ)). OfLines n xs f a t) same.1 owed)) due
 
+-- a file has one text
+text_is : (f : Contents) (t u : List ℕ) → IsText f t → IsText f u → t ≡ u
+text_is f t u p q = let one = one_text f in one.2 t p ∙ sym (one.2 u q)
+
+-- the texts of the two extracted files are one
+extracted_is : (f : Contents) (n : ℕ) (a b : Contents) (t u : List ℕ) → IsExtracted f n a → IsText a t → IsExtracted f n b → IsText b u → t ≡ u
+extracted_is f n a b t u x p y q = text_is b t u (subst (λ (g : Contents). IsText g t) (IsExtracted-unique f n a b x y) p) q
+
+extract_one : (n : ℕ) (f : Contents) → IsOne (OfExtract n f)
+extract_one n f a b t u (inl (e, r, p, x)) (inl (k, s, q, y)) =
+    let same = IsRefused-unique f n e k r s p q in
+    (x.0 ∙ sym y.0, x.1 ∙ ap (λ i. no_extract_line i r) same.0 ∙ ap (no_extract_line k) same.1 ∙ sym y.1)
+extract_one n f a b t u (inl (e, r, p, x)) (inr (inl q)) = absurd (IsExtracted-IsRefused f n q.0 e r q.2 p)
+extract_one n f a b t u (inl (e, r, p, x)) (inr (inr q)) = absurd (IsExtracted-IsRefused f n q.0 e r q.2 p)
+extract_one n f a b t u (inr (inl p)) (inl (k, s, q, y)) = absurd (IsExtracted-IsRefused f n p.0 k s p.2 q)
+extract_one n f a b t u (inr (inr p)) (inl (k, s, q, y)) = absurd (IsExtracted-IsRefused f n p.0 k s p.2 q)
+extract_one n f a b t u (inr (inl p)) (inr (inl q)) = (p.5.0 ∙ sym q.5.0, p.5.1 ∙ sym q.5.1)
+extract_one n f a b t u (inr (inl p)) (inr (inr q)) =
+    let same = ap (λ (xs : List ℕ). length xs) (extracted_is f n p.0 q.0 p.1 q.1 p.2 p.3 q.2 q.3) in
+    absurd (omega (arith, p.4, q.4, same))
+extract_one n f a b t u (inr (inr p)) (inr (inl q)) =
+    let same = ap (λ (xs : List ℕ). length xs) (extracted_is f n p.0 q.0 p.1 q.1 p.2 p.3 q.2 q.3) in
+    absurd (omega (arith, p.4, q.4, same))
+extract_one n f a b t u (inr (inr p)) (inr (inr q)) = (p.5.0 ∙ sym q.5.0, p.5.1 ∙ extracted_is f n p.0 q.0 p.1 q.1 p.2 p.3 q.2 q.3 ∙ sym q.5.1)
+
 contents_one : (c : FileCommand) (certificate : List ℕ) (f : Contents) → IsOneBut (IsTrue (chooses (Some (command.File c)))) (OfContents c certificate f)
 contents_one of_file.Solids certificate f = one_but _ (OfSolids f) (exactly_one answer.Done (solids_text f))
 contents_one (of_file.Show n) certificate f = one_but _ (OfShow n f) (show_one n f)
 contents_one (of_file.Certify n) certificate f = certify_one _ refl n f
 contents_one of_file.Verify certificate f = one_but _ (OfVerify certificate f) (verify_one certificate f)
+contents_one (of_file.Extract n) certificate f = one_but _ (OfExtract n f) (extract_one n f)
 
 sample_one : (n : ℕ) → IsOneBut (IsTrue (chooses (Some (command.Sample n)))) (OfSample n)
 sample_one n a b t u p q = (p.4.0 ∙ sym q.4.0, inr (p.4.0, refl))

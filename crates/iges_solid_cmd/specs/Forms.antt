@@ -32,6 +32,7 @@ forms =
     record { slots = word (codes "show") ∷ file ∷ entry_number ∷ []; command = λ n. command.File (of_file.Show n) } ∷
     record { slots = word (codes "certify") ∷ file ∷ entry_number ∷ []; command = λ n. command.File (of_file.Certify n) } ∷
     record { slots = word (codes "verify") ∷ file ∷ certificate ∷ []; command = λ _. command.File of_file.Verify } ∷
+    record { slots = word (codes "extract") ∷ file ∷ entry_number ∷ []; command = λ n. command.File (of_file.Extract n) } ∷
     record { slots = word (codes "sample") ∷ sample_number ∷ []; command = λ n. command.Sample n } ∷ []
 
 -- ---- reading words
@@ -65,7 +66,8 @@ command_of words = option_map (λ (form : Form). form.command (number_among form
 abbrev pub entry_command : List ℕ → ℕ → Option Command
 entry_command name n =
     if pointwise nat_eq name (codes "show") then Some (command.File (of_file.Show n))
-    else (if pointwise nat_eq name (codes "certify") then Some (command.File (of_file.Certify n)) else None)
+    else (if pointwise nat_eq name (codes "certify") then Some (command.File (of_file.Certify n))
+    else (if pointwise nat_eq name (codes "extract") then Some (command.File (of_file.Extract n)) else None))
 
 -- ---- which sources a form reads
 

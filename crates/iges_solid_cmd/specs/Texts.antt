@@ -13,6 +13,8 @@ use Rattle.solid_data.specs.declared.solid.FaceUse.{FaceUse}
 use Rattle.solid_data.specs.declared.solid.Shell.{Shell}
 use Rattle.solid_data.specs.declared.verdict.Failing.{Failing}
 use Rattle.edge_uses.specs.ShellRows.{ShellRows, shell_rows}
+use Rattle.solid_extract.specs.declared.fault.ExtractReason.{ExtractReason}
+use Rattle.solid_extract.specs.declared.fault.ExtractReason.TheVariants as extracting
 use Rattle.cert_lines.specs.declared.fault.Illegal.{Illegal}
 use Rattle.cert_lines.specs.declared.fault.Illegal.TheVariants.{Misspelt, Unfit, Missing}
 
@@ -47,6 +49,15 @@ illegal_line bad = codes "line " ++ decimal (illegal_number bad) ++ codes " " ++
 
 abbrev pub accepted_line : ℕ → List ℕ
 accepted_line n = codes "accepted " ++ decimal n ++ codes "\n"
+
+abbrev pub extract_word : ExtractReason → List ℕ
+extract_word extracting.NotSolid = codes "not-solid"
+extract_word extracting.Unlisted = codes "unlisted"
+extract_word extracting.Layout = codes "layout"
+extract_word extracting.Dangling = codes "dangling"
+
+abbrev pub no_extract_line : ℕ → ExtractReason → List ℕ
+no_extract_line entity why = codes "no extract " ++ decimal entity ++ codes " " ++ extract_word why ++ codes "\n"
 
 -- a word and a number, each behind a space
 abbrev pub counted : List ℕ → ℕ → List ℕ

@@ -17,6 +17,8 @@ pub enum FileCommand {
     Certify(u32),
     /// Whether a certificate is accepted for a file.
     Verify,
+    /// A file of a solid alone, named by its directory number, with all that it refers to.
+    Extract(u32),
 }
 
 /// A command that the words ask for (own).
@@ -90,6 +92,9 @@ fn of_entry(name: &str, no: u32) -> Option<Command>
     }
     if name == "certify" {
         return Some(Command::File(FileCommand::Certify(no)));
+    }
+    if name == "extract" {
+        return Some(Command::File(FileCommand::Extract(no)));
     }
     None
 }

@@ -9,3 +9,6 @@ returns-in_ok-show_solid-in-Show-clause-found g c = rw c.in-Show.is (alone_owed 
 
 pub returns-in_ok-certify_solid-in-Certify-clause-found : goal.returns-in_ok-certify_solid-in-Certify-clause-found
 returns-in_ok-certify_solid-in-Certify-clause-found g c = rw c.in-Certify.is (alone_owed _ _ c.in_ok-certify_solid-in-Certify.field-0 c.in_ok-certify_solid-in-Certify.ensures)
+
+pub returns-in_ok-extract_solid-in-Extract-clause-found : goal.returns-in_ok-extract_solid-in-Extract-clause-found
+returns-in_ok-extract_solid-in-Extract-clause-found g c = rw c.in-Extract.is (alone_owed _ _ c.in_ok-extract_solid-in-Extract.field-0 c.in_ok-extract_solid-in-Extract.ensures)

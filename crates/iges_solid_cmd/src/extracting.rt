@@ -1,0 +1,60 @@
+ghost use Rattle.iges_solid_cmd.specs.Due.{OfExtract};
+ghost use Rattle.iges_solid_cmd.specs.Texts.{extract_word, no_extract_line};
+ghost use Rattle.std.specs.Prelude.{◌≡◌, IfOk};
+
+use crate::answer::Answer;
+use crate::reply::Reply;
+use iges_fields::{Bytes, EntryNo, FILE_LIMIT, NoMemory, Out, write_number};
+use iges_params::File;
+use iges_write::{WriteFileFault, write_file};
+use solid_extract::{ExtractFault, ExtractReason, extract};
+use std::alloc::Global;
+
+fn word_of(reason: ExtractReason) -> &'static str
+    ensures { result.now ≡ extract_word reason }
+{
+    match reason {
+        ExtractReason::NotSolid => "not-solid",
+        ExtractReason::Unlisted => "unlisted",
+        ExtractReason::Layout => "layout",
+        ExtractReason::Dangling => "dangling",
+    }
+}
+
+// The reply for a solid that can't be extracted.
+fn refused(alloc: Global, entity: EntryNo, reason: ExtractReason) -> Result<Reply, NoMemory>
+    ensures { IfOk result (λ reply. (reply.answer ≡ Answer.NoExtract) × (reply.text ≡ no_extract_line entity.0 reason)) }
+{
+    let mut out = Out::new(alloc);
+    out.put(b"no extract ")?;
+    write_number(&mut out, u64::from(entity.0))?;
+    out.put(b" ")?;
+    out.put(word_of(reason).as_bytes())?;
+    out.put(b"\n")?;
+    Ok(Reply {
+        answer: Answer::NoExtract,
+        text: out.into_bytes(),
+    })
+}
+
+/// The file of a solid alone, with all that it refers to, or why there is none.
+pub fn extract_solid(alloc: Global, file: &File, no: u32) -> Result<Reply, NoMemory>
+    ensures { IfOk result (λ reply. OfExtract no file.now reply.answer reply.text) }
+{
+    let extracted = match extract(alloc, file, EntryNo(no)) {
+        Ok(extracted) => extracted,
+        Err(ExtractFault::Refused { entity, reason }) => return refused(alloc, entity, reason),
+        Err(ExtractFault::NoMemory) => return Err(NoMemory),
+    };
+    match write_file(alloc, &extracted, FILE_LIMIT) {
+        Ok(text) => Ok(Reply {
+            answer: Answer::Done,
+            text,
+        }),
+        Err(WriteFileFault::TooLarge) => Ok(Reply {
+            answer: Answer::TooLarge,
+            text: Bytes::from_vec(Vec::new(alloc)),
+        }),
+        Err(WriteFileFault::NoMemory) => Err(NoMemory),
+    }
+}
