@@ -214,7 +214,7 @@ module _ (f : Contents) (n : ℕ) (ns : List ℕ) (refusal : Option Refusal) (no
 
   pub all_faultless : AllByRecursion (IsFaultless f) (numbers_of nos)
   all_faultless = all_by (numbers_of nos) (λ m i.
-      (reaches_named f n (solid_named f n solid) ((reached_by m).0 (contains_at (numbers_of nos) m i)), least m ((rising.same m).0 (contains_at (numbers_of nos) m i))))
+    (reaches_named f n (solid_named f n solid) ((reached_by m).0 (contains_at (numbers_of nos) m i)), least m ((rising.same m).0 (contains_at (numbers_of nos) m i))))
 
   pub values_fit : IsMade f → value_count (records_of f (numbers_of nos)) ≤ 164000000
   values_fit made =

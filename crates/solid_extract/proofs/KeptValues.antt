@@ -142,13 +142,8 @@ module _ (f : Contents) (kept : List ℕ) (r : Record) where
       let tail : length (names_behind (new_numbers kept (filter (is_name f) (filter_map number_of (second_group own r.1).pointers)))) ≤ length r.1 - length (take own.count r.1) =
       behind_few (new_numbers kept (filter (is_name f) (filter_map number_of (second_group own r.1).pointers))) (length r.1 - length (take own.count r.1))
       (λ some. room own (length-map (filter (is_name f) (filter_map number_of (second_group own r.1).pointers)) (λ (z : ℤ). value.Int (renamed kept z))) some) in
-      omega (
-        arith,
-        long,
-        tail,
-        length-take own.count r.1,
-        length-append (map (λ (v : ℕ × Value). new_value kept own v.0 v.1) (enumerate_from 1 (take own.count r.1))) (names_behind (new_numbers kept (filter (is_name f) (filter_map number_of (second_group own r.1).pointers)))),
-      )
+      omega (arith, long, tail, length-take own.count r.1,
+        length-append (map (λ (v : ℕ × Value). new_value kept own v.0 v.1) (enumerate_from 1 (take own.count r.1))) (names_behind (new_numbers kept (filter (is_name f) (filter_map number_of (second_group own r.1).pointers)))))
     where
       room : (own : Own) {n : ℕ} → n ≡ length (filter (is_name f) (filter_map number_of (second_group own r.1).pointers)) → 0 < n → n + 2 ≤ length r.1 - length (take own.count r.1)
       room own e some =

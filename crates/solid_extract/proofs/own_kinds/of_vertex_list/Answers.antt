@@ -20,4 +20,4 @@ overflow_add-len c =
 
 pub returns : goal.returns
 returns c =
-    ap (λ o. Some o) c.plain.ensures ∙ vertices_own c.args.values.now c.in-Some.list c.len.result c.in-Some.ensures.some c.in-Some.ensures.read c.len.ensures
+    ap (λ o. Some o) c.plain.ensures ∙ vertices_own c.args.values.now c.in-Some.list c.len.result  c.in-Some.ensures.some c.in-Some.ensures.read c.len.ensures
