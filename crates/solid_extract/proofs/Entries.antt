@@ -1,6 +1,6 @@
 -- The entries that are kept.
-use Rattle.std.specs.Prelude.{◌≡◌, ℕ, ◌≤◌, Bool, true, false, ◌&&◌, ℤ, pos, negsuc, neg_ℤ, int_lt, int_le, List, IsTrue, if◌then◌else◌}
-use Rattle.std.proofs.Common.{refl, sym, ap, subst, ◌∙◌, arith}
+use Rattle.std.specs.Prelude.{◌≡◌, ℕ, ◌≤◌, Bool, true, false, ℤ, pos, negsuc, neg_ℤ, int_lt, int_le, List, IsTrue, if◌then◌else◌}
+use Rattle.std.proofs.Common.{refl, sym, subst, arith}
 use Rattle.std.proofs.lemmas.Bool.{le-leb}
 use Rattle.iges_directory.specs.declared.entry.Entry.{Entry}
 use Rattle.iges_directory.specs.Bounds.{IsBounded, fits_columns}
@@ -21,16 +21,52 @@ fits_number z h = by_test (int_lt z (pos 0))
     by_test false = h
 
 module _ (e : Entry) (kept : List ℕ) (kind font level matrix weight colour form subscript : ℤ) (k : kind ≡ e.kind) (f : font ≡ if_number e.font) (l : level ≡ if_number e.level) (m : matrix ≡ renamed kept e.matrix)
-  (w : weight ≡ e.weight) (c : colour ≡ new_colour kept e.colour) (o : form ≡ e.form) (s : subscript ≡ e.subscript) where
+    (w : weight ≡ e.weight) (c : colour ≡ new_colour kept e.colour) (o : form ≡ e.form) (s : subscript ≡ e.subscript) where
   pub entry_is : (let x : Entry = record {
-    kind = kind; structure = pos 0; font = font; level = level; view = pos 0; matrix = matrix; display = pos 0; weight = weight; colour = colour; form = form; subscript = subscript; status = e.status; label = e.label;
+    kind = kind;
+    structure = pos 0;
+    font = font;
+    level = level;
+    view = pos 0;
+    matrix = matrix;
+    display = pos 0;
+    weight = weight;
+    colour = colour;
+    form = form;
+    subscript = subscript;
+    status = e.status;
+    label = e.label;
   } in x) ≡ new_entry kept e
   entry_is = λ j. record {
-    kind = k j; structure = pos 0; font = f j; level = l j; view = pos 0; matrix = m j; display = pos 0; weight = w j; colour = c j; form = o j; subscript = s j; status = e.status; label = e.label;
+    kind = k j;
+    structure = pos 0;
+    font = f j;
+    level = l j;
+    view = pos 0;
+    matrix = m j;
+    display = pos 0;
+    weight = w j;
+    colour = c j;
+    form = o j;
+    subscript = s j;
+    status = e.status;
+    label = e.label;
   }
 
   pub entry_bounded : IsBounded e → (x : ℕ) × (matrix ≡ pos x) × (x ≤ 9999999) → IsTrue (fits_columns colour) → IsBounded (record {
-    kind = kind; structure = pos 0; font = font; level = level; view = pos 0; matrix = matrix; display = pos 0; weight = weight; colour = colour; form = form; subscript = subscript; status = e.status; label = e.label;
+    kind = kind;
+    structure = pos 0;
+    font = font;
+    level = level;
+    view = pos 0;
+    matrix = matrix;
+    display = pos 0;
+    weight = weight;
+    colour = colour;
+    form = form;
+    subscript = subscript;
+    status = e.status;
+    label = e.label;
   })
   entry_bounded h n q = record {
     kind = subst (λ (z : ℤ). IsTrue (fits_columns z)) (sym k) h.kind;

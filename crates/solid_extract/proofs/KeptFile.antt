@@ -1,9 +1,9 @@
 -- The file of the entries that are kept.
-use Rattle.std.specs.Prelude.{◌≡◌, ◌⊎◌, ◌↔◌, ℕ, zero, suc, ◌+◌, ◌-◌, ◌*◌, ◌/◌, ◌%◌, ◌<◌, ◌≤◌, Bool, true, false, ℤ, pos, List, [], ◌∷◌, ◌++◌, length, map, take, drop, Option, Some, None, Result, Ok, Err, IsSome, IfOk, IfErr, is_some, filter_map, slice_get, slice_index, All, Contains}
-use Rattle.std.specs.List.{AllByRecursion, AllZip, cons_option, enumerate_from, list_all}
+use Rattle.std.specs.Prelude.{◌≡◌, ◌⊎◌, ◌↔◌, ℕ, zero, suc, ◌+◌, ◌-◌, ◌*◌, ◌/◌, ◌%◌, ◌<◌, ◌≤◌, Bool, true, false, pos, List, [], ◌∷◌, ◌++◌, length, map, take, drop, Option, Some, None, Result, Ok, Err, IsSome, IfOk, IfErr, slice_get, Contains}
+use Rattle.std.specs.List.{AllByRecursion, AllZip, cons_option}
 use Rattle.std.specs.List.Sorted.{IsStrictlyIncreasing}
 use Rattle.std.specs.Ordering.{int_eq}
-use Rattle.std.proofs.Common.{refl, sym, ap, subst, ◌∙◌, arith, inl, inr, append_assoc, length-append, length-take}
+use Rattle.std.proofs.Common.{refl, sym, ap, subst, ◌∙◌, arith, inl, inr, length-take}
 use Rattle.std.proofs.Math.Nat.{div-add-mod, mod-lt}
 use Rattle.std.proofs.lemmas.List.{map-append}
 use Rattle.std.proofs.lemmas.List.Sums.{sum_by-cons, sum_by-append}
@@ -17,19 +17,15 @@ use Rattle.solid_extract.specs.declared.fault.ExtractFault.{ExtractFault}
 use Rattle.solid_extract.specs.declared.fault.ExtractFault.TheVariants as fault
 use Rattle.solid_extract.specs.declared.fault.ExtractReason.{ExtractReason}
 use Rattle.solid_extract.specs.declared.fault.Refusal.{Refusal}
-use Rattle.solid_extract.specs.declared.group.Group.{Group as Between}
 use Rattle.solid_extract.specs.EntrySets.{AreRising, numbers_of}
-use Rattle.solid_extract.specs.Extracted.{is_solid, RefersTo, Reaches, here, further, IsExtracted, IsRefused, new_record, new_values, new_value}
+use Rattle.solid_extract.specs.Extracted.{is_solid, Reaches, here, further, IsExtracted, IsRefused, new_record, new_values}
 use Rattle.solid_extract.specs.Flooding.{fault_at, IsFlooded, IsLeastFault}
-use Rattle.solid_extract.specs.Layout.{Own}
 use Rattle.solid_extract.specs.Making.{records_of, IsFaultless, IsExtractFault, GivesFile, GivesRefusal}
-use Rattle.solid_extract.specs.NewValues.{names_behind, new_numbers}
 use Rattle.solid_extract.specs.Refs.{Record, names_entry, entry_fault}
-use Rattle.solid_extract.specs.Shapes.{HasShape}
 use Rattle.solid_extract.proofs.Copies.{one_more}
 use Rattle.solid_extract.proofs.KeptValues.{values_few}
 use Rattle.solid_extract.proofs.NamedRecords.{named_place}
-use Rattle.solid_extract.proofs.One.{In, in_from, contains_at, tail_rises, contains_pass, IsExtracted-unique, IsRefused-unique, IsExtracted-IsRefused}
+use Rattle.solid_extract.proofs.One.{In, contains_at, tail_rises, contains_pass, IsExtracted-unique, IsRefused-unique, IsExtracted-IsRefused}
 use Rattle.solid_extract.proofs.RefLists.{refs_named}
 
 some_inj : {A : Type 0} (x y : A) → Some x ≡ Some y → x ≡ y
@@ -214,7 +210,7 @@ module _ (f : Contents) (n : ℕ) (ns : List ℕ) (refusal : Option Refusal) (no
 
   pub all_faultless : AllByRecursion (IsFaultless f) (numbers_of nos)
   all_faultless = all_by (numbers_of nos) (λ m i.
-    (reaches_named f n (solid_named f n solid) ((reached_by m).0 (contains_at (numbers_of nos) m i)), least m ((rising.same m).0 (contains_at (numbers_of nos) m i))))
+      (reaches_named f n (solid_named f n solid) ((reached_by m).0 (contains_at (numbers_of nos) m i)), least m ((rising.same m).0 (contains_at (numbers_of nos) m i))))
 
   pub values_fit : IsMade f → value_count (records_of f (numbers_of nos)) ≤ 164000000
   values_fit made =

@@ -1,11 +1,11 @@
 -- Places of pointers among the values that are due.
-use Rattle.std.specs.Prelude.{◌≡◌, ℕ, zero, suc, ◌+◌, ◌-◌, ◌*◌, ◌<◌, ◌≤◌, ◌^◌, Bool, true, false, ◌&&◌, nat_lt, ℤ, List, [], ◌∷◌, ◌++◌, length, map, flat_map, filter_map, Option, Some, None, IsTrue}
+use Rattle.std.specs.Prelude.{◌≡◌, ℕ, zero, suc, ◌+◌, ◌-◌, ◌*◌, ◌<◌, ◌≤◌, ◌^◌, Bool, true, false, nat_lt, ℤ, List, [], ◌∷◌, ◌++◌, length, map, flat_map, filter_map, Some, None}
 use Rattle.std.specs.List.{enumerate_from, list_all}
 use Rattle.std.proofs.Common.{refl, subst, sym, ap, ◌∙◌, arith, append_assoc, length-append, suc-mul}
 use Rattle.std.proofs.lemmas.Bool.{cond-true, cond-false, ltb-true, lt-ltb, and_parts}
 use Rattle.std.proofs.lemmas.List.Elements.{filter_map-append}
 use Rattle.iges_fields.specs.declared.value.Value.{Value}
-use Rattle.brep_lists.specs.DueValues.{DueValue, pointer, number, flag, at_least_one, count, coordinate, MayBeMissing, MeetsAll}
+use Rattle.brep_lists.specs.DueValues.{DueValue, pointer, number, flag, at_least_one, count, coordinate, MeetsAll}
 use Rattle.brep_lists.specs.Record.{EntityKind, solid, shell, face, «loop», edges, vertices, LoopTuple, Items, SolidItems, FaceItems, pair_due, curve_due, tuple_due, edge_due, vertex_due, due, items_of, Fits}
 use Rattle.brep_lists.specs.OwnValues.{if_pointer, is_record_of, own_count, pointer_places}
 use Rattle.brep_lists.specs.declared.edge_list.EdgeTuple.{EdgeTuple}

@@ -1,9 +1,9 @@
 -- The own values by a layout.
-use Rattle.std.specs.Prelude.{◌≡◌, ℕ, Bool, true, false, ◌&&◌, List, [], ◌∷◌, ◌++◌, Option, Some, None, if◌then◌else◌, unwrap_or}
+use Rattle.std.specs.Prelude.{◌≡◌, ℕ, Bool, true, false, ◌&&◌, List, ◌++◌, Option, Some, None, if◌then◌else◌}
 use Rattle.std.specs.List.{list_all}
 use Rattle.std.proofs.Common.{refl, sym, ap, ◌∙◌}
 use Rattle.iges_fields.specs.declared.value.Value.{Value}
-use Rattle.solid_extract.specs.Layout.{Layout, Own, value_at, count_of, is_count, is_choice, is_pointer, counts_at, own_in}
+use Rattle.solid_extract.specs.Layout.{Layout, Own, value_at, is_count, is_choice, is_pointer, counts_at, own_in}
 
 abbrev pub own_by : Layout → List ℕ → Own
 own_by l numbers = record { count = l.own numbers; pointers = l.pointers numbers; cut = l.cut }

@@ -38,31 +38,99 @@ pub struct Row {
     forms: Forms,
 }
 
-
 const TABLE: [Row; 23] = [
-    Row { kind: 100, forms: Forms::Every(Layout::Fixed(7, &[])) },
-    Row { kind: 102, forms: Forms::Every(Layout::CompositeCurve) },
-    Row { kind: 104, forms: Forms::Every(Layout::Fixed(11, &[])) },
-    Row { kind: 106, forms: Forms::Every(Layout::CopiousData) },
-    Row { kind: 108, forms: Forms::Every(Layout::Fixed(9, &[5])) },
-    Row { kind: 110, forms: Forms::Every(Layout::Fixed(6, &[])) },
-    Row { kind: 112, forms: Forms::Every(Layout::SplineCurve) },
-    Row { kind: 116, forms: Forms::Every(Layout::Point) },
-    Row { kind: 118, forms: Forms::Every(Layout::Fixed(4, &[1, 2])) },
-    Row { kind: 120, forms: Forms::Every(Layout::Fixed(4, &[1, 2])) },
-    Row { kind: 122, forms: Forms::Every(Layout::Fixed(4, &[1])) },
-    Row { kind: 123, forms: Forms::Every(Layout::Fixed(3, &[])) },
-    Row { kind: 124, forms: Forms::Every(Layout::Fixed(12, &[])) },
-    Row { kind: 126, forms: Forms::Every(Layout::RationalCurve) },
-    Row { kind: 128, forms: Forms::Every(Layout::RationalSurface) },
-    Row { kind: 140, forms: Forms::Every(Layout::Fixed(5, &[5])) },
-    Row { kind: 190, forms: Forms::First(Layout::Fixed(3, &[1, 2, 3]), Layout::Fixed(2, &[1, 2])) },
-    Row { kind: 192, forms: Forms::First(Layout::Fixed(4, &[1, 2, 4]), Layout::Fixed(3, &[1, 2])) },
-    Row { kind: 194, forms: Forms::First(Layout::Fixed(5, &[1, 2, 5]), Layout::Fixed(4, &[1, 2])) },
-    Row { kind: 196, forms: Forms::First(Layout::Fixed(4, &[1, 3, 4]), Layout::Fixed(2, &[1])) },
-    Row { kind: 198, forms: Forms::First(Layout::Fixed(5, &[1, 2, 5]), Layout::Fixed(4, &[1, 2])) },
-    Row { kind: 314, forms: Forms::Every(Layout::Fixed(4, &[])) },
-    Row { kind: 406, forms: Forms::Every(Layout::Fixed(2, &[])) },
+    Row {
+        kind: 100,
+        forms: Forms::Every(Layout::Fixed(7, &[])),
+    },
+    Row {
+        kind: 102,
+        forms: Forms::Every(Layout::CompositeCurve),
+    },
+    Row {
+        kind: 104,
+        forms: Forms::Every(Layout::Fixed(11, &[])),
+    },
+    Row {
+        kind: 106,
+        forms: Forms::Every(Layout::CopiousData),
+    },
+    Row {
+        kind: 108,
+        forms: Forms::Every(Layout::Fixed(9, &[5])),
+    },
+    Row {
+        kind: 110,
+        forms: Forms::Every(Layout::Fixed(6, &[])),
+    },
+    Row {
+        kind: 112,
+        forms: Forms::Every(Layout::SplineCurve),
+    },
+    Row {
+        kind: 116,
+        forms: Forms::Every(Layout::Point),
+    },
+    Row {
+        kind: 118,
+        forms: Forms::Every(Layout::Fixed(4, &[1, 2])),
+    },
+    Row {
+        kind: 120,
+        forms: Forms::Every(Layout::Fixed(4, &[1, 2])),
+    },
+    Row {
+        kind: 122,
+        forms: Forms::Every(Layout::Fixed(4, &[1])),
+    },
+    Row {
+        kind: 123,
+        forms: Forms::Every(Layout::Fixed(3, &[])),
+    },
+    Row {
+        kind: 124,
+        forms: Forms::Every(Layout::Fixed(12, &[])),
+    },
+    Row {
+        kind: 126,
+        forms: Forms::Every(Layout::RationalCurve),
+    },
+    Row {
+        kind: 128,
+        forms: Forms::Every(Layout::RationalSurface),
+    },
+    Row {
+        kind: 140,
+        forms: Forms::Every(Layout::Fixed(5, &[5])),
+    },
+    Row {
+        kind: 190,
+        forms: Forms::First(Layout::Fixed(3, &[1, 2, 3]), Layout::Fixed(2, &[1, 2])),
+    },
+    Row {
+        kind: 192,
+        forms: Forms::First(Layout::Fixed(4, &[1, 2, 4]), Layout::Fixed(3, &[1, 2])),
+    },
+    Row {
+        kind: 194,
+        forms: Forms::First(Layout::Fixed(5, &[1, 2, 5]), Layout::Fixed(4, &[1, 2])),
+    },
+    Row {
+        kind: 196,
+        forms: Forms::First(Layout::Fixed(4, &[1, 3, 4]), Layout::Fixed(2, &[1])),
+    },
+    Row {
+        kind: 198,
+        forms: Forms::First(Layout::Fixed(5, &[1, 2, 5]), Layout::Fixed(4, &[1, 2])),
+    },
+    Row {
+        kind: 314,
+        forms: Forms::Every(Layout::Fixed(4, &[])),
+    },
+    Row {
+        kind: 406,
+        forms: Forms::Every(Layout::Fixed(2, &[])),
+    },
 ];
 
 fn row_of(rows: &[Row], kind: i64) -> Option<Row>
