@@ -9,7 +9,7 @@ use Rattle.brep_lists.proofs.Places.{open_at, none_at}
 use Rattle.solid_extract.specs.Layout.{Own, value_at, count_of, is_count, is_pointer}
 use Rattle.solid_extract.specs.Refs.{Group, group_at, first_group, second_group, is_group, is_left_out, are_groups}
 use Rattle.solid_extract.specs.GroupPlaces.{group_between}
-use Rattle.solid_extract.proofs.OwnIn.{and_true, and_false, not_first}
+use Rattle.solid_extract.proofs.Joined.{and_true, and_false, not_first}
 
 -- ---- tests along a record
 

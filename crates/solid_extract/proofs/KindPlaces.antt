@@ -12,7 +12,7 @@ use Rattle.brep_lists.specs.declared.edge_list.EdgeTuple.{EdgeTuple}
 use Rattle.brep_lists.proofs.Decided.{decided}
 use Rattle.solid_extract.specs.Layout.{Own}
 use Rattle.solid_extract.specs.Refs.{own_of_kind}
-use Rattle.solid_extract.proofs.OwnIn.{and_true}
+use Rattle.solid_extract.proofs.Joined.{and_true}
 use Rattle.solid_extract.specs.PlacesDue.{places_due, group_places}
 
 pub enumerate_append : {A : Type 0} (k : ℕ) (xs ys : List A) → enumerate_from k (xs ++ ys) ≡ enumerate_from k xs ++ enumerate_from (k + length xs) ys

@@ -24,7 +24,7 @@ use Rattle.solid_extract.specs.Refs.{Record, is_listed, has_layout, names_entry,
 use Rattle.solid_extract.specs.References.{AreReferences, HasFault, IsRefFault, Gives}
 use Rattle.solid_extract.proofs.NamedRecords.{named_within}
 use Rattle.solid_extract.proofs.One.{In, in_from, contains_at, among_in, same_increasing}
-use Rattle.solid_extract.proofs.OwnIn.{and_true}
+use Rattle.solid_extract.proofs.Joined.{and_true}
 
 -- ---- each number that an entry refers to names an entry
 

@@ -27,7 +27,7 @@ mod renaming;
 pub use entry_set::EntryList;
 pub use extraction::extract;
 pub use fault::{ExtractFault, ExtractReason, RefFault};
-pub use law::{items_are_kept, one_extraction, records_are_kept};
+pub use law::{extracted_is_made, items_are_kept, one_extraction, records_are_kept};
 pub use referring::references;
 
 #[cfg(test)]
