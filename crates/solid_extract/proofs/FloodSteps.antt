@@ -1,7 +1,6 @@
 -- The steps of a flood.
-use Rattle.std.specs.Prelude.{◌≡◌, ◌⊎◌, ◌↔◌, ℕ, zero, suc, ◌+◌, ◌<◌, ◌≤◌, nat_le, Bool, true, false, ℤ, pos, unsigned_abs, List, [], ◌∷◌, ◌++◌, length, Option, Some, None, Result, Ok, Err, if◌then◌else◌, is_some, slice_get, IfOk, Contains}
-use Rattle.std.specs.List.{list_all}
-use Rattle.std.proofs.Common.{refl, sym, ap, subst, ◌∙◌, arith, inl, inr, append_assoc, length-append}
+use Rattle.std.specs.Prelude.{◌≡◌, ◌⊎◌, ℕ, zero, suc, ◌+◌, ◌<◌, ◌≤◌, nat_le, Bool, true, false, ℤ, pos, unsigned_abs, List, [], ◌∷◌, ◌++◌, length, Option, Some, None, Result, Ok, Err, if◌then◌else◌, slice_get, IfOk}
+use Rattle.std.proofs.Common.{refl, sym, ap, subst, ◌∙◌, arith, inl, inr, append_assoc}
 use Rattle.std.proofs.lemmas.Bool.{leb-true, leb-false}
 use Rattle.std.proofs.lemmas.Option.{slice_get_within}
 use Rattle.iges_fields.specs.declared.entry_no.EntryNo.{EntryNo}
@@ -17,7 +16,7 @@ use Rattle.solid_extract.specs.declared.fault.Refusal.{Refusal}
 use Rattle.solid_extract.specs.EntrySets.{with_number, with_numbers}
 use Rattle.solid_extract.specs.Extracted.{is_among, RefersTo, Reaches, here, further}
 use Rattle.solid_extract.specs.Flooding.{fault_at, with_refs, IsToldAs, least_of, IsLeastFault, IsFlooded}
-use Rattle.solid_extract.specs.Refs.{Record, names_entry, entry_fault, refs}
+use Rattle.solid_extract.specs.Refs.{Record, entry_fault, refs}
 use Rattle.solid_extract.proofs.One.{In, in_from, contains_at}
 use Rattle.solid_extract.proofs.RefLists.{refs_named, refs_faultless, refs_fault, into_all, from_all}
 

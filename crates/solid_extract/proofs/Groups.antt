@@ -1,16 +1,15 @@
 -- Groups of pointers by their places.
-use Rattle.std.specs.Prelude.{◌≡◌, ℕ, zero, suc, ◌+◌, ◌-◌, ◌<◌, ◌≤◌, min, Bool, true, false, ◌&&◌, List, [], ◌∷◌, length, take, drop, Option, Some, None, slice_get, slice_index_or, unwrap_or, MatchOption}
+use Rattle.std.specs.Prelude.{◌≡◌, ℕ, zero, suc, ◌+◌, ◌-◌, ◌<◌, min, Bool, true, false, ◌&&◌, List, [], ◌∷◌, length, take, drop, Some, None, slice_get, slice_index_or, unwrap_or}
 use Rattle.std.specs.List.{list_all}
-use Rattle.std.proofs.Common.{refl, sym, ap, ◌∙◌, arith, subst}
-use Rattle.std.proofs.lemmas.List.{drop-drop, drop_all}
-use Rattle.std.proofs.lemmas.Bool.{and_parts}
+use Rattle.std.proofs.Common.{refl, sym, ap, ◌∙◌, arith}
+use Rattle.std.proofs.lemmas.List.{drop-drop}
 use Rattle.iges_fields.specs.declared.value.Value.{Value}
 use Rattle.iges_fields.specs.declared.value.Value.TheVariants as value
 use Rattle.brep_lists.proofs.Places.{open_at, none_at}
 use Rattle.solid_extract.specs.Layout.{Own, value_at, count_of, is_count, is_pointer}
 use Rattle.solid_extract.specs.Refs.{Group, group_at, first_group, second_group, is_group, is_left_out, are_groups}
 use Rattle.solid_extract.specs.GroupPlaces.{group_between}
-use Rattle.solid_extract.proofs.OwnIn.{and_true, and_false, not_first}
+use Rattle.solid_extract.proofs.Joined.{and_true, and_false, not_first}
 
 -- ---- tests along a record
 

@@ -1,9 +1,9 @@
 -- The file of the entries that are kept.
-use Rattle.std.specs.Prelude.{◌≡◌, ◌⊎◌, ◌↔◌, ℕ, zero, suc, ◌+◌, ◌-◌, ◌*◌, ◌/◌, ◌%◌, ◌<◌, ◌≤◌, Bool, true, false, ℤ, pos, List, [], ◌∷◌, ◌++◌, length, map, take, drop, Option, Some, None, Result, Ok, Err, IsSome, IfOk, IfErr, is_some, filter_map, slice_get, slice_index, All, Contains}
-use Rattle.std.specs.List.{AllByRecursion, AllZip, cons_option, enumerate_from, list_all}
+use Rattle.std.specs.Prelude.{◌≡◌, ◌⊎◌, ◌↔◌, ℕ, zero, suc, ◌+◌, ◌-◌, ◌*◌, ◌/◌, ◌%◌, ◌<◌, ◌≤◌, Bool, true, false, pos, List, [], ◌∷◌, ◌++◌, length, map, take, drop, Option, Some, None, Result, Ok, Err, IsSome, IsTrue, is_some, IfOk, IfErr, sum_by, slice_get, Contains}
+use Rattle.std.specs.List.{AllByRecursion, AllZip, cons_option, list_all}
 use Rattle.std.specs.List.Sorted.{IsStrictlyIncreasing}
 use Rattle.std.specs.Ordering.{int_eq}
-use Rattle.std.proofs.Common.{refl, sym, ap, subst, ◌∙◌, arith, inl, inr, append_assoc, length-append, length-take}
+use Rattle.std.proofs.Common.{refl, sym, ap, subst, ◌∙◌, arith, inl, inr, length-take}
 use Rattle.std.proofs.Math.Nat.{div-add-mod, mod-lt}
 use Rattle.std.proofs.lemmas.List.{map-append}
 use Rattle.std.proofs.lemmas.List.Sums.{sum_by-cons, sum_by-append}
@@ -12,24 +12,25 @@ use Rattle.iges_fields.specs.declared.entry_no.EntryNo.{EntryNo}
 use Rattle.iges_fields.specs.declared.value.Value.{Value}
 use Rattle.iges_params.specs.Contents.{Contents, value_count}
 use Rattle.iges_params.specs.Named.{named}
-use Rattle.iges_params.specs.Made.{IsMade}
+use Rattle.iges_params.specs.declared.global.Global26.{Global26}
+use Rattle.iges_params.specs.Global.{have_kinds}
+use Rattle.iges_params.specs.Made.{IsMade, IsMadeEntry, is_start_line}
+use Rattle.solid_extract.specs.MadeAgain.{ExtractedIsMade}
+use Rattle.solid_extract.proofs.Entries.{kept_bounded}
+use Rattle.solid_extract.proofs.NewNumbers.{has_kind}
 use Rattle.solid_extract.specs.declared.fault.ExtractFault.{ExtractFault}
 use Rattle.solid_extract.specs.declared.fault.ExtractFault.TheVariants as fault
 use Rattle.solid_extract.specs.declared.fault.ExtractReason.{ExtractReason}
 use Rattle.solid_extract.specs.declared.fault.Refusal.{Refusal}
-use Rattle.solid_extract.specs.declared.group.Group.{Group as Between}
 use Rattle.solid_extract.specs.EntrySets.{AreRising, numbers_of}
-use Rattle.solid_extract.specs.Extracted.{is_solid, RefersTo, Reaches, here, further, IsExtracted, IsRefused, new_record, new_values, new_value}
+use Rattle.solid_extract.specs.Extracted.{is_solid, Reaches, here, further, IsExtracted, IsRefused, new_record, new_values}
 use Rattle.solid_extract.specs.Flooding.{fault_at, IsFlooded, IsLeastFault}
-use Rattle.solid_extract.specs.Layout.{Own}
 use Rattle.solid_extract.specs.Making.{records_of, IsFaultless, IsExtractFault, GivesFile, GivesRefusal}
-use Rattle.solid_extract.specs.NewValues.{names_behind, new_numbers}
 use Rattle.solid_extract.specs.Refs.{Record, names_entry, entry_fault}
-use Rattle.solid_extract.specs.Shapes.{HasShape}
 use Rattle.solid_extract.proofs.Copies.{one_more}
 use Rattle.solid_extract.proofs.KeptValues.{values_few}
 use Rattle.solid_extract.proofs.NamedRecords.{named_place}
-use Rattle.solid_extract.proofs.One.{In, in_from, contains_at, tail_rises, contains_pass, IsExtracted-unique, IsRefused-unique, IsExtracted-IsRefused}
+use Rattle.solid_extract.proofs.One.{In, contains_at, tail_rises, contains_pass, IsExtracted-unique, IsRefused-unique, IsExtracted-IsRefused}
 use Rattle.solid_extract.proofs.RefLists.{refs_named}
 
 some_inj : {A : Type 0} (x y : A) → Some x ≡ Some y → x ≡ y
@@ -47,7 +48,7 @@ module _ (f : Contents) (kept : List ℕ) where
   pub push_room : (m : ℕ) (r : Record) (old : List Record) (vs : List Value) → named f (pos m) ≡ Some r → vs ≡ new_values f kept r → value_count old + value_count (records_of f (m ∷ [])) ≤ 164000000 → value_count old + length vs ≤ 164000000
   push_room m r old vs en ev room = omega (arith, one_record m r en, ap length ev, values_few f kept r, room)
 
-  mapped_few : (rs : List Record) → value_count (map (new_record f kept) rs) ≤ value_count rs
+  pub mapped_few : (rs : List Record) → value_count (map (new_record f kept) rs) ≤ value_count rs
   mapped_few [] = omega arith
   mapped_few (r ∷ rs) =
       let on : value_count (map (new_record f kept) rs) ≤ value_count rs = mapped_few rs in
@@ -85,7 +86,7 @@ module _ (f : Contents) (kept : List ℕ) where
       by_option None on = omega (arith, on)
       by_option (Some r) on = omega (arith, on)
 
-  mapped_long : (rs : List Record) → length (map (new_record f kept) rs) ≡ length rs
+  pub mapped_long : (rs : List Record) → length (map (new_record f kept) rs) ≡ length rs
   mapped_long [] = refl
   mapped_long (r ∷ rs) = ap suc (mapped_long rs)
 
@@ -114,7 +115,7 @@ unfolding Rises
 rises_all [] h = tt
 rises_all (m ∷ ms) h = (omega arith, rises_behind m ms h)
 
-abbrev IsNamed : Contents → ℕ → Type 0
+abbrev pub IsNamed : Contents → ℕ → Type 0
 IsNamed f m = IsSome (named f (pos m))
 
 the_record : (f : Contents) (m : ℕ) → IsNamed f m → (r : Record) × (named f (pos m) ≡ Some r)
@@ -134,43 +135,48 @@ module _ (f : Contents) where
       let next : m / 2 - j ≡ suc (m / 2 - (j + 1)) = omega (arith, le) in
       sym (ap (slice_get (e ∷ es)) next) ∙ h m r en (omega (arith, le))
 
-  rising_few : (es : List Record) (j : ℕ) (ms : List ℕ) → Stand es j → Rises (2 * j) ms → AllByRecursion (IsNamed f) ms → value_count (records_of f ms) ≤ value_count es
-  unfolding Rises Stand
-  rising_few es j [] h rises all = omega arith
-  rising_few [] j (m ∷ ms) h rises all =
-      let q = the_record f m all.0 in
-      let d = div-add-mod m 2 in
-      let le : j ≤ m / 2 = omega (arith, rises.0, d, mod-lt m {m = 2} (omega arith)) in
-      absurd (let none : None ≡ Some q.0 = h m q.0 q.1 le in cc)
-  rising_few (e ∷ es) j (m ∷ ms) h rises all =
-      let q = the_record f m all.0 in
-      let odd = (named_place f m q.0 q.1).0 in
-      let d = div-add-mod m 2 in
-      let le : j ≤ m / 2 = omega (arith, rises.0, d, odd) in
-      by_order q odd d le (cases_le (m / 2) j) (λ r. rising_few es (j + 1) ms (stand_on e es j h) r all.1) (λ r. rising_few es (j + 1) (m ∷ ms) (stand_on e es j h) r all)
-    where
-      cases_le : (a b : ℕ) → (a ≤ b) ⊎ (b < a)
-      cases_le a b = grind arith
+  -- each has a weight
+  module _ (w : Record → ℕ) where
+    rising_few : (es : List Record) (j : ℕ) (ms : List ℕ) → Stand es j → Rises (2 * j) ms → AllByRecursion (IsNamed f) ms → sum_by w (records_of f ms) ≤ sum_by w es
+    unfolding Rises Stand
+    rising_few es j [] h rises all = omega arith
+    rising_few [] j (m ∷ ms) h rises all =
+        let q = the_record f m all.0 in
+        let d = div-add-mod m 2 in
+        let le : j ≤ m / 2 = omega (arith, rises.0, d, mod-lt m {m = 2} (omega arith)) in
+        absurd (let none : None ≡ Some q.0 = h m q.0 q.1 le in cc)
+    rising_few (e ∷ es) j (m ∷ ms) h rises all =
+        let q = the_record f m all.0 in
+        let odd = (named_place f m q.0 q.1).0 in
+        let d = div-add-mod m 2 in
+        let le : j ≤ m / 2 = omega (arith, rises.0, d, odd) in
+        by_order q odd d le (cases_le (m / 2) j) (λ r. rising_few es (j + 1) ms (stand_on e es j h) r all.1) (λ r. rising_few es (j + 1) (m ∷ ms) (stand_on e es j h) r all)
+      where
+        cases_le : (a b : ℕ) → (a ≤ b) ⊎ (b < a)
+        cases_le a b = grind arith
 
-      by_order : (q : (r : Record) × (named f (pos m) ≡ Some r)) → m % 2 ≡ 1 → 2 * (m / 2) + m % 2 ≡ m → j ≤ m / 2 → (m / 2 ≤ j) ⊎ (j < m / 2)
-          → (Rises (2 * (j + 1)) ms → value_count (records_of f ms) ≤ value_count es) → (Rises (2 * (j + 1)) (m ∷ ms) → value_count (records_of f (m ∷ ms)) ≤ value_count es) → value_count (records_of f (m ∷ ms)) ≤ value_count (e ∷ es)
-      by_order q odd d le (inl low) on past =
-          let at : m / 2 - j ≡ 0 = omega (arith, low) in
-          let same : e ≡ q.0 = some_inj e q.0 (sym (ap (slice_get (e ∷ es)) at) ∙ h m q.0 q.1 le) in
-          let number : m + 1 ≡ 2 * (j + 1) = omega (arith, odd, d, le, low) in
-          let rest : value_count (records_of f ms) ≤ value_count es = on (subst (λ (k : ℕ). Rises k ms) number rises.1) in
-          let whole : value_count (records_of f (m ∷ ms)) ≡ value_count (q.0 ∷ records_of f ms) = ap (λ (o : Option Record). value_count (cons_option o (records_of f ms))) q.1 in
-          omega (arith, rest, whole, ap (λ (r : Record). length r.1) same, sum_by-cons (λ (r : Record). length r.1) q.0 (records_of f ms), sum_by-cons (λ (r : Record). length r.1) e es)
-      by_order q odd d le (inr further_on) on past =
-          let rest : value_count (records_of f (m ∷ ms)) ≤ value_count es = past (omega (arith, d, odd, further_on), rises.1) in
-          omega (arith, rest, sum_by-cons (λ (r : Record). length r.1) e es)
+        by_order : (q : (r : Record) × (named f (pos m) ≡ Some r)) → m % 2 ≡ 1 → 2 * (m / 2) + m % 2 ≡ m → j ≤ m / 2 → (m / 2 ≤ j) ⊎ (j < m / 2)
+            → (Rises (2 * (j + 1)) ms → sum_by w (records_of f ms) ≤ sum_by w es) → (Rises (2 * (j + 1)) (m ∷ ms) → sum_by w (records_of f (m ∷ ms)) ≤ sum_by w es) → sum_by w (records_of f (m ∷ ms)) ≤ sum_by w (e ∷ es)
+        by_order q odd d le (inl low) on past =
+            let at : m / 2 - j ≡ 0 = omega (arith, low) in
+            let same : e ≡ q.0 = some_inj e q.0 (sym (ap (slice_get (e ∷ es)) at) ∙ h m q.0 q.1 le) in
+            let number : m + 1 ≡ 2 * (j + 1) = omega (arith, odd, d, le, low) in
+            let rest : sum_by w (records_of f ms) ≤ sum_by w es = on (subst (λ (k : ℕ). Rises k ms) number rises.1) in
+            let whole : sum_by w (records_of f (m ∷ ms)) ≡ sum_by w (q.0 ∷ records_of f ms) = ap (λ (o : Option Record). sum_by w (cons_option o (records_of f ms))) q.1 in
+            omega (arith, rest, whole, ap w same, sum_by-cons w q.0 (records_of f ms), sum_by-cons w e es)
+        by_order q odd d le (inr further_on) on past =
+            let rest : sum_by w (records_of f (m ∷ ms)) ≤ sum_by w es = past (omega (arith, d, odd, further_on), rises.1) in
+            omega (arith, rest, sum_by-cons w e es)
 
   all_stand : Stand f.entries 0
   unfolding Stand
   all_stand m r en le = let same : m / 2 - 0 ≡ m / 2 = omega arith in ap (slice_get f.entries) same ∙ (named_place f m r en).1
 
+  pub kept_weigh : (w : Record → ℕ) (ms : List ℕ) → IsStrictlyIncreasing ms → AllByRecursion (IsNamed f) ms → sum_by w (records_of f ms) ≤ sum_by w f.entries
+  kept_weigh w ms rising all = rising_few w f.entries 0 ms all_stand (subst (λ (k : ℕ). Rises k ms) (let e : 0 ≡ 2 * 0 = omega arith in e) (rises_all ms rising)) all
+
   pub kept_few : (ms : List ℕ) → IsStrictlyIncreasing ms → AllByRecursion (IsNamed f) ms → value_count (records_of f ms) ≤ value_count f.entries
-  kept_few ms rising all = rising_few f.entries 0 ms all_stand (subst (λ (k : ℕ). Rises k ms) (let e : 0 ≡ 2 * 0 = omega arith in e) (rises_all ms rising)) all
+  kept_few ms rising all = kept_weigh (λ (r : Record). length r.1) ms rising all
 
 -- ---- what is reached
 
@@ -214,7 +220,7 @@ module _ (f : Contents) (n : ℕ) (ns : List ℕ) (refusal : Option Refusal) (no
 
   pub all_faultless : AllByRecursion (IsFaultless f) (numbers_of nos)
   all_faultless = all_by (numbers_of nos) (λ m i.
-    (reaches_named f n (solid_named f n solid) ((reached_by m).0 (contains_at (numbers_of nos) m i)), least m ((rising.same m).0 (contains_at (numbers_of nos) m i))))
+      (reaches_named f n (solid_named f n solid) ((reached_by m).0 (contains_at (numbers_of nos) m i)), least m ((rising.same m).0 (contains_at (numbers_of nos) m i))))
 
   pub values_fit : IsMade f → value_count (records_of f (numbers_of nos)) ≤ 164000000
   values_fit made =
@@ -259,3 +265,58 @@ pub only_refusal : (f : Contents) (n : ℕ) (result : Result Contents ExtractFau
 only_refusal f n (Ok given) entity reason found bad h = IsExtracted-IsRefused f n given entity reason found h
 only_refusal f n (Err (fault.Refused e r)) entity reason found bad h = IsRefused-unique f n e.0 entity r reason bad h
 only_refusal f n (Err fault.NoMemory) entity reason found bad h = tt
+
+-- ---- the extracted file is one that can be made
+
+records_are : (f : Contents) (ms : List ℕ) (rs : List Record) → AllZip (λ m r. named f (pos m) ≡ Some r) ms rs → (rs ≡ records_of f ms) × AllByRecursion (IsNamed f) ms
+records_are f [] [] h = (refl, tt)
+records_are f [] (r ∷ rs) h = absurd h
+records_are f (m ∷ ms) [] h = absurd h
+records_are f (m ∷ ms) (r ∷ rs) h =
+    let on = records_are f ms rs h.1 in (
+      ap (λ (xs : List Record). r ∷ xs) on.0 ∙ sym (ap (λ (o : Option Record). cons_option o (records_of f ms)) h.0),
+      (ap (λ (o : Option Record). is_some o) h.0, on.1),
+    )
+
+ones : (rs : List Record) → sum_by (λ (r : Record). 1) rs ≡ length rs
+ones [] = refl
+ones (r ∷ rs) = let on : sum_by (λ (q : Record). 1) rs ≡ length rs = ones rs in omega (arith, on, sum_by-cons (λ (q : Record). 1) r rs)
+
+zip_long : (f : Contents) (ms : List ℕ) (rs : List Record) → AllZip (λ m r. named f (pos m) ≡ Some r) ms rs → length ms ≡ length rs
+zip_long f [] [] h = refl
+zip_long f [] (r ∷ rs) h = absurd h
+zip_long f (m ∷ ms) [] h = absurd h
+zip_long f (m ∷ ms) (r ∷ rs) h = ap suc (zip_long f ms rs h.1)
+
+all_at : (P : Record → Type 0) (rs : List Record) (k : ℕ) (r : Record) → AllByRecursion P rs → slice_get rs k ≡ Some r → P r
+all_at P [] k r h e = absurd (let none : None ≡ Some r = e in cc)
+all_at P (q ∷ rs) zero r h e = subst P (some_inj q r e) h.0
+all_at P (q ∷ rs) (suc k) r h e = all_at P rs k r h.1 e
+
+made_entries : (f : Contents) (kept ms : List ℕ) (rs : List Record) → length kept ≤ 4999999 → AllByRecursion IsMadeEntry f.entries → AllZip (λ m r. named f (pos m) ≡ Some r) ms rs → AllByRecursion IsMadeEntry (map (new_record f kept) rs)
+made_entries f kept [] [] few all h = tt
+made_entries f kept [] (r ∷ rs) few all h = absurd h
+made_entries f kept (m ∷ ms) [] few all h = absurd h
+made_entries f kept (m ∷ ms) (r ∷ rs) few all h =
+    let made : IsMadeEntry r = all_at IsMadeEntry f.entries (m / 2) r all (named_place f m r h.0).1 in
+    (record { bounded = kept_bounded r.0 kept few made.bounded; unused = λ zero_kind. absurd (let g : true ≡ false = sym zero_kind ∙ has_kind f m r h.0 in cc) }, made_entries f kept ms rs few all h.1)
+
+pub extracted_is_made : ExtractedIsMade
+extracted_is_made f new n made x =
+    let are = records_are f x.kept x.records x.each_named in
+    let count : sum_by (λ (r : Record). 1) (records_of f x.kept) ≤ sum_by (λ (r : Record). 1) f.entries = kept_weigh f (λ (r : Record). 1) x.kept x.rising are.1 in
+    let long : length x.records ≤ length f.entries = omega (arith, ap length are.0, count, ones (records_of f x.kept), ones f.entries) in
+    let most : length f.entries ≤ 4999999 = made.limits.entries in
+    let few : length x.kept ≤ 4999999 = omega (arith, zip_long f x.kept x.records x.each_named, long, most) in
+    let values : value_count x.records ≤ value_count f.entries = subst (λ (rs : List Record). value_count rs ≤ value_count f.entries) (sym are.0) (kept_few f x.kept x.rising are.1) in
+    let limit : value_count f.entries ≤ 164000000 = made.limits.values in
+    record {
+      some_start = subst (λ (s : List (List ℕ)). 0 < length s) (sym x.start) made.some_start;
+      start = subst (λ (s : List (List ℕ)). IsTrue (list_all is_start_line s)) (sym x.start) made.start;
+      kinds = subst (λ (g : Global26). IsTrue (have_kinds g.values)) (sym x.global) made.kinds;
+      entries = subst (AllByRecursion IsMadeEntry) (sym x.entries) (made_entries f x.kept x.kept x.records few made.entries x.each_named);
+      limits = record {
+        entries = omega (arith, ap length x.entries, mapped_long f x.kept x.records, long, most);
+        values = omega (arith, ap value_count x.entries, mapped_few f x.kept x.records, values, limit);
+      };
+    }

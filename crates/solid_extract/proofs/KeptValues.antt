@@ -1,8 +1,8 @@
 -- The values of a kept record.
 use Rattle.std.specs.Prelude.{◌≡◌, ◌⊎◌, ℕ, zero, suc, ◌+◌, ◌-◌, ◌<◌, ◌≤◌, ◌==◌, Bool, true, false, ◌||◌, ℤ, pos, List, [], ◌∷◌, ◌++◌, length, map, take, drop, set, Option, Some, None, if◌then◌else◌, slice_get, slice_index_or, unwrap_or, filter, filter_map}
 use Rattle.std.specs.List.{enumerate_from, cons_option}
-use Rattle.std.proofs.Common.{refl, sym, ap, subst, ◌∙◌, arith, get_or, append_assoc, length-append, length-take, length-drop, inl, inr}
-use Rattle.std.proofs.lemmas.Bool.{ne_eqb, cond-true, cond-false}
+use Rattle.std.proofs.Common.{refl, sym, ap, ◌∙◌, arith, get_or, length-append, length-take, length-drop, inl, inr}
+use Rattle.std.proofs.lemmas.Bool.{ne_eqb, cond-false}
 use Rattle.std.proofs.lemmas.List.{take_more, map-append, length-map}
 use Rattle.std.proofs.lemmas.List.FromFn.{length-enumerate_from}
 use Rattle.std.proofs.lemmas.Option.{get_or_from_slice_get, slice_get_within}
@@ -10,7 +10,6 @@ use Rattle.iges_fields.specs.declared.value.Value.{Value}
 use Rattle.iges_fields.specs.declared.value.Value.TheVariants as value
 use Rattle.iges_params.specs.Contents.{Contents}
 use Rattle.solid_extract.specs.Extracted.{is_among, new_value, new_values, renamed}
-use Rattle.solid_extract.specs.GroupPlaces.{group_between}
 use Rattle.solid_extract.specs.Layout.{Own, count_of}
 use Rattle.solid_extract.specs.NewValues.{AreMarkedPlaces, with_mark, value_as, new_numbers, names_behind}
 use Rattle.solid_extract.specs.Refs.{Record, Group, first_group, own_of, names_of, is_name, number_of, second_group}
@@ -142,8 +141,13 @@ module _ (f : Contents) (kept : List ℕ) (r : Record) where
       let tail : length (names_behind (new_numbers kept (filter (is_name f) (filter_map number_of (second_group own r.1).pointers)))) ≤ length r.1 - length (take own.count r.1) =
       behind_few (new_numbers kept (filter (is_name f) (filter_map number_of (second_group own r.1).pointers))) (length r.1 - length (take own.count r.1))
       (λ some. room own (length-map (filter (is_name f) (filter_map number_of (second_group own r.1).pointers)) (λ (z : ℤ). value.Int (renamed kept z))) some) in
-      omega (arith, long, tail, length-take own.count r.1,
-        length-append (map (λ (v : ℕ × Value). new_value kept own v.0 v.1) (enumerate_from 1 (take own.count r.1))) (names_behind (new_numbers kept (filter (is_name f) (filter_map number_of (second_group own r.1).pointers)))))
+      omega (
+        arith,
+        long,
+        tail,
+        length-take own.count r.1,
+        length-append (map (λ (v : ℕ × Value). new_value kept own v.0 v.1) (enumerate_from 1 (take own.count r.1))) (names_behind (new_numbers kept (filter (is_name f) (filter_map number_of (second_group own r.1).pointers)))),
+      )
     where
       room : (own : Own) {n : ℕ} → n ≡ length (filter (is_name f) (filter_map number_of (second_group own r.1).pointers)) → 0 < n → n + 2 ≤ length r.1 - length (take own.count r.1)
       room own e some =

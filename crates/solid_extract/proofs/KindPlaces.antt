@@ -1,18 +1,18 @@
 -- Places of pointers among the values that are due.
-use Rattle.std.specs.Prelude.{◌≡◌, ℕ, zero, suc, ◌+◌, ◌-◌, ◌*◌, ◌<◌, ◌≤◌, ◌^◌, Bool, true, false, ◌&&◌, nat_lt, ℤ, List, [], ◌∷◌, ◌++◌, length, map, flat_map, filter_map, Option, Some, None, IsTrue}
+use Rattle.std.specs.Prelude.{◌≡◌, ℕ, zero, suc, ◌+◌, ◌-◌, ◌*◌, ◌<◌, ◌≤◌, ◌^◌, Bool, true, false, nat_lt, ℤ, List, [], ◌∷◌, ◌++◌, length, map, flat_map, filter_map, Some, None}
 use Rattle.std.specs.List.{enumerate_from, list_all}
 use Rattle.std.proofs.Common.{refl, subst, sym, ap, ◌∙◌, arith, append_assoc, length-append, suc-mul}
 use Rattle.std.proofs.lemmas.Bool.{cond-true, cond-false, ltb-true, lt-ltb, and_parts}
 use Rattle.std.proofs.lemmas.List.Elements.{filter_map-append}
 use Rattle.iges_fields.specs.declared.value.Value.{Value}
-use Rattle.brep_lists.specs.DueValues.{DueValue, pointer, number, flag, at_least_one, count, coordinate, MayBeMissing, MeetsAll}
+use Rattle.brep_lists.specs.DueValues.{DueValue, pointer, number, flag, at_least_one, count, coordinate, MeetsAll}
 use Rattle.brep_lists.specs.Record.{EntityKind, solid, shell, face, «loop», edges, vertices, LoopTuple, Items, SolidItems, FaceItems, pair_due, curve_due, tuple_due, edge_due, vertex_due, due, items_of, Fits}
 use Rattle.brep_lists.specs.OwnValues.{if_pointer, is_record_of, own_count, pointer_places}
 use Rattle.brep_lists.specs.declared.edge_list.EdgeTuple.{EdgeTuple}
 use Rattle.brep_lists.proofs.Decided.{decided}
 use Rattle.solid_extract.specs.Layout.{Own}
 use Rattle.solid_extract.specs.Refs.{own_of_kind}
-use Rattle.solid_extract.proofs.OwnIn.{and_true}
+use Rattle.solid_extract.proofs.Joined.{and_true}
 use Rattle.solid_extract.specs.PlacesDue.{places_due, group_places}
 
 pub enumerate_append : {A : Type 0} (k : ℕ) (xs ys : List A) → enumerate_from k (xs ++ ys) ≡ enumerate_from k xs ++ enumerate_from (k + length xs) ys

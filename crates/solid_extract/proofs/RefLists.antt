@@ -1,10 +1,9 @@
 -- Numbers that an entry refers to, and entries that are put into a set.
-use Rattle.std.specs.Prelude.{◌≡◌, ◌⊎◌, ◌↔◌, ℕ, zero, suc, ◌+◌, ◌<◌, Bool, true, false, ◌&&◌, ◌||◌, ◌==◌, ℤ, pos, negsuc, unsigned_abs, List, [], ◌∷◌, ◌++◌, length, map, drop, Option, Some, None, Result, Ok, Err, if◌then◌else◌, IsErrAnd, IfErr, IfOk, MatchOption, ◌≤◌, is_some, filter, filter_map, Contains, slice_index_or}
+use Rattle.std.specs.Prelude.{◌≡◌, ◌⊎◌, ℕ, zero, suc, Bool, true, false, ◌&&◌, ℤ, pos, negsuc, unsigned_abs, List, [], ◌∷◌, ◌++◌, length, Option, Some, None, Result, Ok, Err, if◌then◌else◌, IsErrAnd, IfErr, IfOk, MatchOption, ◌≤◌, is_some, filter, filter_map, Contains}
 use Rattle.std.specs.List.{list_all}
-use Rattle.std.specs.List.Sorted.{IsStrictlyIncreasing}
 use Rattle.std.specs.Ordering.{int_eq}
 use Rattle.std.proofs.Common.{refl, sym, ap, subst, ◌∙◌, arith, inl, inr}
-use Rattle.std.proofs.lemmas.Bool.{and_parts, cond-true, cond-false, eq-eqb, eqb-true}
+use Rattle.std.proofs.lemmas.Bool.{and_parts}
 use Rattle.std.proofs.lemmas.List.Folds.{list_all-append}
 use Rattle.iges_fields.proofs.Items.{passes}
 use Rattle.iges_fields.specs.declared.entry_no.EntryNo.{EntryNo}
@@ -22,11 +21,10 @@ use Rattle.solid_extract.specs.EntrySets.{IsWithin, with_number, with_numbers, A
 use Rattle.solid_extract.specs.Extracted.{is_among, RefersTo}
 use Rattle.solid_extract.specs.Layout.{Own}
 use Rattle.solid_extract.specs.Refs.{Record, is_listed, has_layout, names_entry, pointers_of, names_of, is_name, number_of, own_of, second_group, entry_fault, refs}
-use Rattle.solid_extract.specs.References.{AreReferences, HasFault, IsRefFault, Gives, IsReason}
-use Rattle.solid_extract.proofs.Marks.{among_push, in_among}
+use Rattle.solid_extract.specs.References.{AreReferences, HasFault, IsRefFault, Gives}
 use Rattle.solid_extract.proofs.NamedRecords.{named_within}
 use Rattle.solid_extract.proofs.One.{In, in_from, contains_at, among_in, same_increasing}
-use Rattle.solid_extract.proofs.OwnIn.{and_true}
+use Rattle.solid_extract.proofs.Joined.{and_true}
 
 -- ---- each number that an entry refers to names an entry
 

@@ -11,32 +11,32 @@ use Rattle.solid_extract.specs.declared.layout.Row.{Row}
 use Rattle.solid_extract.specs.declared.layout.Forms.{Forms}
 
 abbrev pub forms_in : Option Row → Option Forms
-forms_in o = option_map (λ (r : Row). r.forms) o
+forms_in o = option_map (λ (r : Row). r.1) o
 
 pub shown : (form kind : ℤ) (rs : List Row) (xs : List (ℕ × Layout)) → Shows form rs xs
-    → option_map (layout_in_form form) (forms_in (find (λ (r : Row). int_eq kind r.kind) rs)) ≡ option_map (λ (x : ℕ × Layout). x.1) (find (λ (x : ℕ × Layout). int_eq kind (pos x.0)) xs)
+    → option_map (layout_in_form form) (forms_in (find (λ (r : Row). int_eq kind r.0) rs)) ≡ option_map (λ (x : ℕ × Layout). x.1) (find (λ (x : ℕ × Layout). int_eq kind (pos x.0)) xs)
 shown form kind [] [] h = refl
 shown form kind [] (x ∷ xs) h = absurd h
 shown form kind (r ∷ rs) [] h = absurd h
 shown form kind (r ∷ rs) (x ∷ xs) h = by_test (int_eq kind (pos x.0)) refl (shown form kind rs xs h.1.1)
   where
     by_test : (b : Bool) → int_eq kind (pos x.0) ≡ b
-        → option_map (layout_in_form form) (forms_in (find (λ (r : Row). int_eq kind r.kind) rs)) ≡ option_map (λ (x : ℕ × Layout). x.1) (find (λ (x : ℕ × Layout). int_eq kind (pos x.0)) xs)
-        → option_map (layout_in_form form) (forms_in (find (λ (r : Row). int_eq kind r.kind) (r ∷ rs))) ≡ option_map (λ (x : ℕ × Layout). x.1) (find (λ (x : ℕ × Layout). int_eq kind (pos x.0)) (x ∷ xs))
+        → option_map (layout_in_form form) (forms_in (find (λ (r : Row). int_eq kind r.0) rs)) ≡ option_map (λ (x : ℕ × Layout). x.1) (find (λ (x : ℕ × Layout). int_eq kind (pos x.0)) xs)
+        → option_map (layout_in_form form) (forms_in (find (λ (r : Row). int_eq kind r.0) (r ∷ rs))) ≡ option_map (λ (x : ℕ × Layout). x.1) (find (λ (x : ℕ × Layout). int_eq kind (pos x.0)) (x ∷ xs))
     by_test true t on =
-        ap (λ (o : Option Row). option_map (layout_in_form form) (forms_in o)) (cond-true (int_eq kind r.kind) (Some r) (find (λ (r : Row). int_eq kind r.kind) rs) (ap (int_eq kind) h.0 ∙ t))
+        ap (λ (o : Option Row). option_map (layout_in_form form) (forms_in o)) (cond-true (int_eq kind r.0) (Some r) (find (λ (r : Row). int_eq kind r.0) rs) (ap (int_eq kind) h.0 ∙ t))
         ∙ ap (λ (l : Layout). Some l) h.1.0
         ∙ sym (ap (λ (o : Option (ℕ × Layout)). option_map (λ (x : ℕ × Layout). x.1) o) (cond-true (int_eq kind (pos x.0)) (Some x) (find (λ (x : ℕ × Layout). int_eq kind (pos x.0)) xs) t))
     by_test false t on =
-        ap (λ (o : Option Row). option_map (layout_in_form form) (forms_in o)) (cond-false (int_eq kind r.kind) (Some r) (find (λ (r : Row). int_eq kind r.kind) rs) (ap (int_eq kind) h.0 ∙ t))
+        ap (λ (o : Option Row). option_map (layout_in_form form) (forms_in o)) (cond-false (int_eq kind r.0) (Some r) (find (λ (r : Row). int_eq kind r.0) rs) (ap (int_eq kind) h.0 ∙ t))
         ∙ on
         ∙ sym (ap (λ (o : Option (ℕ × Layout)). option_map (λ (x : ℕ × Layout). x.1) o) (cond-false (int_eq kind (pos x.0)) (Some x) (find (λ (x : ℕ × Layout). int_eq kind (pos x.0)) xs) t))
 
-pub shown_some : (form k kind : ℤ) (rs : List Row) (xs : List (ℕ × Layout)) (r : Row) → k ≡ kind → Some r ≡ find (λ (r : Row). int_eq k r.kind) rs → Shows form rs xs
-    → Some (layout_in_form form r.forms) ≡ option_map (λ (x : ℕ × Layout). x.1) (find (λ (x : ℕ × Layout). int_eq kind (pos x.0)) xs)
+pub shown_some : (form k kind : ℤ) (rs : List Row) (xs : List (ℕ × Layout)) (r : Row) → k ≡ kind → Some r ≡ find (λ (r : Row). int_eq k r.0) rs → Shows form rs xs
+    → Some (layout_in_form form r.1) ≡ option_map (λ (x : ℕ × Layout). x.1) (find (λ (x : ℕ × Layout). int_eq kind (pos x.0)) xs)
 shown_some form k kind rs xs r is e h = ap (λ (o : Option Row). option_map (layout_in_form form) (forms_in o)) e ∙ (shown form k rs xs h ∙ ap (λ (z : ℤ). option_map (λ (x : ℕ × Layout). x.1) (find (λ (x : ℕ × Layout). int_eq z (pos x.0)) xs)) is)
 
-pub shown_none : (form k kind : ℤ) (rs : List Row) (xs : List (ℕ × Layout)) → k ≡ kind → None ≡ find (λ (r : Row). int_eq k r.kind) rs → Shows form rs xs
+pub shown_none : (form k kind : ℤ) (rs : List Row) (xs : List (ℕ × Layout)) → k ≡ kind → None ≡ find (λ (r : Row). int_eq k r.0) rs → Shows form rs xs
     → None ≡ option_map (λ (x : ℕ × Layout). x.1) (find (λ (x : ℕ × Layout). int_eq kind (pos x.0)) xs)
 shown_none form k kind rs xs is e h = ap (λ (o : Option Row). option_map (layout_in_form form) (forms_in o)) e ∙ (shown form k rs xs h ∙ ap (λ (z : ℤ). option_map (λ (x : ℕ × Layout). x.1) (find (λ (x : ℕ × Layout). int_eq z (pos x.0)) xs)) is)
 

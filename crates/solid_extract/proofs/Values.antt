@@ -1,6 +1,6 @@
 -- Values in their places.
 use Rattle.std.specs.List.{range_with_len}
-use Rattle.std.specs.Prelude.{◌≡◌, zero, suc, ◌+◌, [], ◌∷◌, ◌++◌, IfSome, IfNone, option_copied, ℕ, ◌-◌, List, Option, Some, None, slice_get, slice_index_or}
+use Rattle.std.specs.Prelude.{◌≡◌, zero, suc, ◌+◌, [], ◌∷◌, ◌++◌, IfSome, IfNone, option_copied, ℕ, ◌-◌, List, Option, Some, None, slice_get}
 use Rattle.std.proofs.Common.{Bor, arith, sym, ◌∙◌, ap}
 use Rattle.std.specs.Option.{unwrap_or}
 use Rattle.std.proofs.lemmas.Option.{unwrap_or-slice_get}

@@ -6,12 +6,6 @@ use Rattle.solid_extract.specs.declared.fault.RefFault.{RefFault}
 use Rattle.solid_extract.specs.declared.fault.RefFault.TheVariants as fault
 
 -- the fault is this one, unless memory ran out
-abbrev pub Tells : RefFault → ExtractReason → Type 0
-Tells fault.Unlisted due = due ≡ reason.Unlisted
-Tells fault.Layout due = due ≡ reason.Layout
-Tells fault.Dangling due = due ≡ reason.Dangling
-Tells fault.NoMemory due = Unit {0}
-
 abbrev pub TellsFault : {T : Type 0} → RefFault → Result T ExtractReason → Type 0
 TellsFault fault.Unlisted due = due ≡ Err reason.Unlisted
 TellsFault fault.Layout due = due ≡ Err reason.Layout

@@ -66,10 +66,11 @@ listed form =
     (314, fixed 4 []) ∷
     (406, fixed 2 []) ∷ []
 
--- the layout of a type in a form, which is none of the six; of 406 only form 15 is listed
+-- of the properties only the name, form 15, is listed
 abbrev pub is_other_property : Entry → Bool
 is_other_property e = int_eq e.kind (pos 406) && not (int_eq e.form (pos 15))
 
+-- the layout of a type in a form, which is none of the six
 abbrev pub layout_of : Entry → Option Layout
 layout_of e =
     if is_other_property e then None

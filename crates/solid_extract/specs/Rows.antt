@@ -30,6 +30,6 @@ layout_in_form form (forms.First first other) = by_form form (layout_of_row firs
 -- row by row the type and its layout in a form
 abbrev pub Shows : ℤ → List Row → List (ℕ × Layout) → Type 0
 Shows form [] [] = Unit {0}
-Shows form (r ∷ rs) (x ∷ xs) = (r.kind ≡ pos x.0) × ((layout_in_form form r.forms ≡ x.1) × Shows form rs xs)
+Shows form (r ∷ rs) (x ∷ xs) = (r.0 ≡ pos x.0) × ((layout_in_form form r.1 ≡ x.1) × Shows form rs xs)
 Shows form [] (x ∷ xs) = ⊥
 Shows form (r ∷ rs) [] = ⊥

@@ -1,5 +1,5 @@
 -- How the values of a record stand.
-use Rattle.std.specs.Prelude.{◌≡◌, ℕ, ◌+◌, ◌^◌, ◌<◌, true, false, Some}
+use Rattle.std.specs.Prelude.{◌≡◌, ◌+◌, ◌^◌, ◌<◌, true, false, Some}
 use Rattle.solid_extract.specs.declared.fault.RefFault.{RefFault}
 use Rattle.solid_extract.specs.declared.fault.RefFault.TheVariants as fault
 use Rattle.solid_extract.specs.declared.group.Group.{Group as Between}

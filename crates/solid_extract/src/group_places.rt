@@ -8,7 +8,11 @@ ghost use Rattle.std.specs.Prelude.{◌≡◌, ◌+◌, ◌*◌, ◌<◌, ◌^�
 use brep_loops::{LoopRecord, LoopTuple};
 use iges_fields::{ItemList, NoMemory};
 
-fn push_group(places: &mut ItemList<usize>, first: usize, pointers: &[usize]) -> Result<(), NoMemory>
+fn push_group(
+    places: &mut ItemList<usize>,
+    first: usize,
+    pointers: &[usize],
+) -> Result<(), NoMemory>
     requires { IsTrue (list_all (λ k. nat_lt (first + k) (2 ^ 64)) pointers.now) }
     ensures { OnOk result (places.new ≡ places.old ++ map (λ k. first + k) pointers.now) }
 {
@@ -42,7 +46,11 @@ pub fn push_groups(
 }
 
 // Puts the places of pointers in a tuple of a loop that stands from a place on, and gives the place behind it.
-fn push_tuple(places: &mut ItemList<usize>, first: usize, tuple: &LoopTuple<'_>) -> Result<usize, NoMemory>
+fn push_tuple(
+    places: &mut ItemList<usize>,
+    first: usize,
+    tuple: &LoopTuple<'_>,
+) -> Result<usize, NoMemory>
     requires { first + length (tuple_due tuple.now) < 2 ^ 64 }
     ensures places { OnOk result (places.new ≡ places.old ++ places_due first (tuple_due tuple.now)) }
     ensures end { IfOk result (λ end. end ≡ first + length (tuple_due tuple.now)) }
@@ -54,7 +62,11 @@ fn push_tuple(places: &mut ItemList<usize>, first: usize, tuple: &LoopTuple<'_>)
 }
 
 /// Puts the places of pointers in the tuples of a loop that stand from a place on, and gives the place behind them.
-pub fn push_tuples(places: &mut ItemList<usize>, first: usize, listed: &LoopRecord<'_>) -> Result<usize, NoMemory>
+pub fn push_tuples(
+    places: &mut ItemList<usize>,
+    first: usize,
+    listed: &LoopRecord<'_>,
+) -> Result<usize, NoMemory>
     requires { first + length (flat_map tuple_due listed.now) < 2 ^ 64 }
     ensures places { OnOk result (places.new ≡ places.old ++ places_due first (flat_map tuple_due listed.now)) }
     ensures end { IfOk result (λ end. end ≡ first + length (flat_map tuple_due listed.now)) }

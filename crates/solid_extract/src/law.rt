@@ -1,6 +1,7 @@
 //! Laws of extraction.
 
 ghost use Rattle.solid_extract.specs.Kept.{RecordsAreKept, KeptAreNamed, ItemsAreKept};
+ghost use Rattle.solid_extract.specs.MadeAgain.{ExtractedIsMade};
 ghost use Rattle.solid_extract.specs.OneExtraction.{OneFile, OneRefusal, NotBoth};
 
 /// A solid is extracted to one file, or refused for one entity and reason, and not both.
@@ -21,4 +22,10 @@ pub fn records_are_kept()
 pub fn items_are_kept()
     ensures named { KeptAreNamed }
     ensures items { ItemsAreKept }
+{}
+
+/// What is extracted from a file that can be made can be made too: its entries fit their columns, and it is within the
+/// limits of a file.
+pub fn extracted_is_made()
+    ensures { ExtractedIsMade }
 {}

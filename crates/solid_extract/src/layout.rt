@@ -33,43 +33,54 @@ pub enum Forms {
 
 /// A type, by its number, and its layouts.
 #[derive(Clone, Copy)]
-pub struct Row {
-    kind: i64,
-    forms: Forms,
-}
-
+pub struct Row(i64, Forms);
 
 const TABLE: [Row; 23] = [
-    Row { kind: 100, forms: Forms::Every(Layout::Fixed(7, &[])) },
-    Row { kind: 102, forms: Forms::Every(Layout::CompositeCurve) },
-    Row { kind: 104, forms: Forms::Every(Layout::Fixed(11, &[])) },
-    Row { kind: 106, forms: Forms::Every(Layout::CopiousData) },
-    Row { kind: 108, forms: Forms::Every(Layout::Fixed(9, &[5])) },
-    Row { kind: 110, forms: Forms::Every(Layout::Fixed(6, &[])) },
-    Row { kind: 112, forms: Forms::Every(Layout::SplineCurve) },
-    Row { kind: 116, forms: Forms::Every(Layout::Point) },
-    Row { kind: 118, forms: Forms::Every(Layout::Fixed(4, &[1, 2])) },
-    Row { kind: 120, forms: Forms::Every(Layout::Fixed(4, &[1, 2])) },
-    Row { kind: 122, forms: Forms::Every(Layout::Fixed(4, &[1])) },
-    Row { kind: 123, forms: Forms::Every(Layout::Fixed(3, &[])) },
-    Row { kind: 124, forms: Forms::Every(Layout::Fixed(12, &[])) },
-    Row { kind: 126, forms: Forms::Every(Layout::RationalCurve) },
-    Row { kind: 128, forms: Forms::Every(Layout::RationalSurface) },
-    Row { kind: 140, forms: Forms::Every(Layout::Fixed(5, &[5])) },
-    Row { kind: 190, forms: Forms::First(Layout::Fixed(3, &[1, 2, 3]), Layout::Fixed(2, &[1, 2])) },
-    Row { kind: 192, forms: Forms::First(Layout::Fixed(4, &[1, 2, 4]), Layout::Fixed(3, &[1, 2])) },
-    Row { kind: 194, forms: Forms::First(Layout::Fixed(5, &[1, 2, 5]), Layout::Fixed(4, &[1, 2])) },
-    Row { kind: 196, forms: Forms::First(Layout::Fixed(4, &[1, 3, 4]), Layout::Fixed(2, &[1])) },
-    Row { kind: 198, forms: Forms::First(Layout::Fixed(5, &[1, 2, 5]), Layout::Fixed(4, &[1, 2])) },
-    Row { kind: 314, forms: Forms::Every(Layout::Fixed(4, &[])) },
-    Row { kind: 406, forms: Forms::Every(Layout::Fixed(2, &[])) },
+    Row(100, Forms::Every(Layout::Fixed(7, &[]))),
+    Row(102, Forms::Every(Layout::CompositeCurve)),
+    Row(104, Forms::Every(Layout::Fixed(11, &[]))),
+    Row(106, Forms::Every(Layout::CopiousData)),
+    Row(108, Forms::Every(Layout::Fixed(9, &[5]))),
+    Row(110, Forms::Every(Layout::Fixed(6, &[]))),
+    Row(112, Forms::Every(Layout::SplineCurve)),
+    Row(116, Forms::Every(Layout::Point)),
+    Row(118, Forms::Every(Layout::Fixed(4, &[1, 2]))),
+    Row(120, Forms::Every(Layout::Fixed(4, &[1, 2]))),
+    Row(122, Forms::Every(Layout::Fixed(4, &[1]))),
+    Row(123, Forms::Every(Layout::Fixed(3, &[]))),
+    Row(124, Forms::Every(Layout::Fixed(12, &[]))),
+    Row(126, Forms::Every(Layout::RationalCurve)),
+    Row(128, Forms::Every(Layout::RationalSurface)),
+    Row(140, Forms::Every(Layout::Fixed(5, &[5]))),
+    Row(
+        190,
+        Forms::First(Layout::Fixed(3, &[1, 2, 3]), Layout::Fixed(2, &[1, 2])),
+    ),
+    Row(
+        192,
+        Forms::First(Layout::Fixed(4, &[1, 2, 4]), Layout::Fixed(3, &[1, 2])),
+    ),
+    Row(
+        194,
+        Forms::First(Layout::Fixed(5, &[1, 2, 5]), Layout::Fixed(4, &[1, 2])),
+    ),
+    Row(
+        196,
+        Forms::First(Layout::Fixed(4, &[1, 3, 4]), Layout::Fixed(2, &[1])),
+    ),
+    Row(
+        198,
+        Forms::First(Layout::Fixed(5, &[1, 2, 5]), Layout::Fixed(4, &[1, 2])),
+    ),
+    Row(314, Forms::Every(Layout::Fixed(4, &[]))),
+    Row(406, Forms::Every(Layout::Fixed(2, &[]))),
 ];
 
 fn row_of(rows: &[Row], kind: i64) -> Option<Row>
-    ensures { result ≡ find (λ r. int_eq kind r.kind) rows.now }
+    ensures { result ≡ find (λ r. int_eq kind r.0) rows.now }
 {
     'rows: for row in rows {
-        if kind == row.kind {
+        if kind == row.0 {
             return Some(*row);
         }
     }
@@ -82,7 +93,7 @@ fn forms_of(rows: &[Row], kind: i64) -> Option<Forms>
     ensures { (form : ℤ) → option_map (layout_in_form form) result ≡ option_map (λ row. row.1) (find (λ row. int_eq kind (pos row.0)) (listed form)) }
 {
     match row_of(rows, kind) {
-        Some(row) => Some(row.forms),
+        Some(row) => Some(row.1),
         None => None,
     }
 }

@@ -94,7 +94,11 @@ fn own_values(
     Ok(list)
 }
 
-fn push_renamed(list: &mut Values, renaming: &Renaming, numbers: &ItemList<i64>) -> Result<(), NoMemory>
+fn push_renamed(
+    list: &mut Values,
+    renaming: &Renaming,
+    numbers: &ItemList<i64>,
+) -> Result<(), NoMemory>
     ensures { OnOk result (list.new ≡ list.old ++ new_numbers renaming.now numbers.now) }
 {
     'numbers: for number in numbers.as_slice() {
@@ -104,7 +108,11 @@ fn push_renamed(list: &mut Values, renaming: &Renaming, numbers: &ItemList<i64>)
 }
 
 // Puts a group of none and one of the names, where there are any.
-fn push_groups(list: &mut Values, renaming: &Renaming, names: &ItemList<i64>) -> Result<(), NoMemory>
+fn push_groups(
+    list: &mut Values,
+    renaming: &Renaming,
+    names: &ItemList<i64>,
+) -> Result<(), NoMemory>
     requires { length names.now ≤ FILE_LIMIT }
     ensures { OnOk result (list.new ≡ list.old ++ names_behind (new_numbers renaming.now names.now)) }
 {

@@ -90,7 +90,11 @@ fn of_vertex_list(alloc: Global, values: &Values) -> Option<Own>
 }
 
 /// The own values of a record of a kind; None where the record doesn't fit it (IGES 5.3, 4.49 and 4.145 to 4.149).
-pub fn own_of_kind(alloc: Global, kind: RecordKind, values: &Values) -> Result<Option<Own>, NoMemory>
+pub fn own_of_kind(
+    alloc: Global,
+    kind: RecordKind,
+    values: &Values,
+) -> Result<Option<Own>, NoMemory>
     requires { length values.now ≤ FILE_LIMIT }
     ensures { IfOk result (λ own. own ≡ own_of_kind (entity_kind kind) values.now) }
 {

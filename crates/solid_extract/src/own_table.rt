@@ -101,7 +101,10 @@ fn of_rational_surface(alloc: Global, values: &Values) -> Option<Own>
     let second = count_in(values, 2)?;
     let first_degree = count_in(values, 3)?;
     let second_degree = count_in(values, 4)?;
-    Some(Own::plain(alloc, surface_values((first, second), (first_degree, second_degree))))
+    Some(Own::plain(
+        alloc,
+        surface_values((first, second), (first_degree, second_degree)),
+    ))
 }
 
 /// The own values by a layout; None where the record doesn't stand by it (own). Each count is at most the number of

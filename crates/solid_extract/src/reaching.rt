@@ -55,7 +55,11 @@ fn visit(
 }
 
 // Of the least fault so far and that of an entity the lesser one.
-fn least_of(refusal: Option<Refusal>, entity: EntryNo, fault: Option<ExtractReason>) -> Option<Refusal>
+fn least_of(
+    refusal: Option<Refusal>,
+    entity: EntryNo,
+    fault: Option<ExtractReason>,
+) -> Option<Refusal>
     ensures { result ≡ least_of refusal entity fault }
 {
     let Some(reason) = fault else {

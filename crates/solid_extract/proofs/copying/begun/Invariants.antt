@@ -1,5 +1,4 @@
-use Rattle.std.proofs.Common.{◌≡◌, ◌<◌, take, []}
-use Rattle.iges_params.specs.Contents.{Contents}
+use Rattle.std.proofs.Common.{◌≡◌, take, []}
 use Rattle.solid_extract.proofs.copying.begun.Given as goal
 
 abbrev pub invariant-lines : goal.invariant-lines

@@ -1,5 +1,4 @@
-use Rattle.std.proofs.Common.{◌≡◌, ◌∙◌, Some, pos}
-use Rattle.iges_params.specs.Named.{named}
+use Rattle.std.proofs.Common.{◌∙◌}
 use Rattle.solid_extract.specs.Refs.{Record}
 use Rattle.solid_extract.proofs.KeptFile.{push_room}
 use Rattle.solid_extract.proofs.KeptValues.{values_are}

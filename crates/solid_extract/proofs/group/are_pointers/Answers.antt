@@ -1,6 +1,6 @@
 use Rattle.std.proofs.Common.{sym, ◌∙◌}
 use Rattle.solid_extract.specs.Layout.{is_pointer}
-use Rattle.solid_extract.proofs.Groups.{at_failed, at_passed, at_end}
+use Rattle.solid_extract.proofs.Groups.{at_failed, at_passed}
 use Rattle.solid_extract.proofs.group.are_pointers.Goals as goal
 
 pub returns-then-not-is_pointer : goal.returns-then-not-is_pointer

@@ -1,4 +1,4 @@
-use Rattle.std.proofs.Common.{sym, ◌∙◌, ap, arith, refl, ◌≡◌, ◌≤◌, ◌+◌, length, min}
+use Rattle.std.proofs.Common.{sym, ◌∙◌, ap, arith, refl, ◌≡◌, ◌≤◌, length, min}
 use Rattle.solid_extract.specs.Layout.{Own}
 use Rattle.solid_extract.proofs.Groups.{no_end, second_is, both_groups}
 use Rattle.solid_extract.proofs.group.second_group.Goals as goal

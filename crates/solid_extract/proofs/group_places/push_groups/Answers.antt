@@ -1,4 +1,4 @@
-use Rattle.std.proofs.Common.{◌≡◌, ◌<◌, ◌+◌, ◌^◌, []}
+use Rattle.std.proofs.Common.{◌<◌, ◌+◌, ◌^◌, []}
 use Rattle.brep_lists.proofs.Places.{one_less}
 use Rattle.std.proofs.Common.{refl}
 use Rattle.solid_extract.proofs.KindPlaces.{next_group, group_room, all_fit}

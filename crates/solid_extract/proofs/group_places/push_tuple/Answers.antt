@@ -1,4 +1,4 @@
-use Rattle.std.proofs.Common.{◌≡◌, ◌+◌, ◌*◌, arith, length, sym}
+use Rattle.std.proofs.Common.{◌≡◌, ◌+◌, ◌*◌, arith, length}
 use Rattle.brep_lists.specs.Record.{tuple_due}
 use Rattle.solid_extract.proofs.KindPlaces.{tuple_length, tuple_placed}
 use Rattle.solid_extract.proofs.group_places.push_tuple.Goals as goal

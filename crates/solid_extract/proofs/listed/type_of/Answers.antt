@@ -1,4 +1,4 @@
-use Rattle.std.proofs.Common.{◌≡◌, None, rules, to_z, of_z, w64, subst, ◌∙◌, ap}
+use Rattle.std.proofs.Common.{◌≡◌, rules, to_z, of_z, w64, ◌∙◌, ap}
 use Rattle.brep_lists.specs.Record.{kind_of_type}
 use Rattle.solid_extract.proofs.NumberLists.{kind_none, layout_known, layout_unknown, unlisted}
 use Rattle.solid_extract.proofs.listed.type_of.Goals as goal

@@ -1,4 +1,4 @@
-use Rattle.std.proofs.Common.{◌≡◌, ◌+◌, ◌<◌, ◌∙◌, ap, sym, Bool, false, List, ℕ}
+use Rattle.std.proofs.Common.{◌+◌, ◌∙◌, ap, sym, Bool, false, List, ℕ}
 use Rattle.std.specs.Prelude.{option_copied, slice_index_or}
 use Rattle.solid_extract.specs.Extracted.{is_among}
 use Rattle.solid_extract.specs.Layout.{Own}

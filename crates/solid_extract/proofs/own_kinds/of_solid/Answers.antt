@@ -1,4 +1,4 @@
-use Rattle.std.proofs.Common.{◌≡◌, ◌≤◌, length, arith, ap, Some, sym, ◌∙◌}
+use Rattle.std.proofs.Common.{◌≤◌, length, arith, ap, Some, ◌∙◌}
 use Rattle.brep_lists.specs.Record.{solid}
 use Rattle.solid_extract.proofs.KindPlaces.{no_record, solid_room, solid_own}
 use Rattle.solid_extract.proofs.own_kinds.of_solid.Goals as goal

@@ -1,4 +1,4 @@
-use Rattle.std.proofs.Common.{◌≡◌, ◌≤◌, length, arith, ap, Some, sym, ◌∙◌}
+use Rattle.std.proofs.Common.{◌≤◌, length, arith, ap, Some, ◌∙◌}
 use Rattle.brep_lists.specs.Record.{vertices}
 use Rattle.solid_extract.proofs.KindPlaces.{no_record, vertices_room, vertices_own}
 use Rattle.solid_extract.proofs.own_kinds.of_vertex_list.Goals as goal
@@ -20,4 +20,4 @@ overflow_add-len c =
 
 pub returns : goal.returns
 returns c =
-    ap (λ o. Some o) c.plain.ensures ∙ vertices_own c.args.values.now c.in-Some.list c.len.result  c.in-Some.ensures.some c.in-Some.ensures.read c.len.ensures
+    ap (λ o. Some o) c.plain.ensures ∙ vertices_own c.args.values.now c.in-Some.list c.len.result c.in-Some.ensures.some c.in-Some.ensures.read c.len.ensures

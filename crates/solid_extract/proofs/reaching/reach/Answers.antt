@@ -1,4 +1,4 @@
-use Rattle.std.proofs.Common.{◌≡◌, ◌+◌, ◌∙◌, ap, sym, subst, length, None, Option, ℕ, List, [], refl, option_map}
+use Rattle.std.proofs.Common.{◌≡◌, ◌+◌, ◌∙◌, ap, sym, subst, length, None, Option, ℕ, List, [], option_map}
 use Rattle.iges_fields.specs.declared.entry_no.EntryNo.{EntryNo}
 use Rattle.solid_extract.specs.declared.fault.Refusal.{Refusal}
 use Rattle.solid_extract.specs.EntrySets.{Entries, IsWithin, with_number}

@@ -1,5 +1,4 @@
-use Rattle.std.proofs.Common.{◌≡◌, ◌∙◌, ap, Some, pos}
-use Rattle.iges_params.specs.Named.{named}
+use Rattle.std.proofs.Common.{◌∙◌, ap}
 use Rattle.solid_extract.specs.EntrySets.{Entries, with_numbers}
 use Rattle.solid_extract.specs.Refs.{Record}
 use Rattle.solid_extract.proofs.RefLists.{handed, found_record, ref_fault, refs_named, references_are}

@@ -1,4 +1,4 @@
-use Rattle.std.proofs.Common.{◌≡◌, ◌∙◌, rules, to_z, of_z, w64, ap, subst, sym, ℤ, pos}
+use Rattle.std.proofs.Common.{◌≡◌, ◌∙◌, rules, to_z, of_z, w64, ap, subst, sym, ℤ}
 use Rattle.std.specs.Prelude.{IsTrue}
 use Rattle.iges_directory.specs.Bounds.{fits_columns}
 use Rattle.solid_extract.specs.Extracted.{if_number, renamed}
