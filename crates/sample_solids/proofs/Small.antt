@@ -67,8 +67,8 @@ module _ (n : ℕ) (some : 0 < n) (few : n ≤ 200) where
       let d = use_record (up_index n s.0 s.1) 0 in (
         omega arith,
         all_append IsSmall ((a ++ b) ++ c) d
-        (all_append IsSmall (a ++ b) c
-        (all_append IsSmall a b (use_small (across_index n s.0 s.1) 1 (across_few s.0 s.1) (omega arith)) (use_small (up_index n s.0 (s.1 + 1)) 1 (up_few s.0 (s.1 + 1)) (omega arith)))
-        (use_small (across_index n (s.0 + 1) s.1) 0 (across_few (s.0 + 1) s.1) (omega arith)))
-        (use_small (up_index n s.0 s.1) 0 (up_few s.0 s.1) (omega arith)),
+            (all_append IsSmall (a ++ b) c
+            (all_append IsSmall a b (use_small (across_index n s.0 s.1) 1 (across_few s.0 s.1) (omega arith)) (use_small (up_index n s.0 (s.1 + 1)) 1 (up_few s.0 (s.1 + 1)) (omega arith)))
+            (use_small (across_index n (s.0 + 1) s.1) 0 (across_few (s.0 + 1) s.1) (omega arith)))
+            (use_small (up_index n s.0 s.1) 0 (up_few s.0 s.1) (omega arith)),
       )

@@ -38,7 +38,7 @@ fn names_entry(file: &File, number: i64) -> bool
     }
 }
 
-// Whether the number names a name, which is a property of form 15 (IGES 5.3, 4.96).
+// Whether the number names a name, which is a property of form 15 (IGES 5.3, type 406).
 fn is_name(file: &File, number: i64) -> bool
     ensures { result ≡ is_name file.now number }
 {
