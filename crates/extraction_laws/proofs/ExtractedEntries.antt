@@ -1,9 +1,9 @@
 -- Extraction keeps the entries that a chain of references reaches, and with each of them its pointers.
-use Rattle.std.specs.Prelude.{◌≡◌, ◌⊎◌, ℕ, suc, ◌+◌, ◌-◌, ◌≤◌, ◌==◌, Bool, true, false, not, cond, ℤ, pos, negsuc, neg_ℤ, int_lt, List, [], ◌∷◌, ◌++◌, filter_map, Contains, Option, Some, None, Result, Ok, Err, is_some, slice_get, slice_index_or, if◌then◌else◌}
+use Rattle.std.specs.Prelude.{◌≡◌, ◌⊎◌, ℕ, suc, ◌+◌, ◌-◌, ◌≤◌, ◌==◌, Bool, true, false, ℤ, pos, negsuc, neg_ℤ, int_lt, List, [], ◌∷◌, ◌++◌, filter_map, Contains, Option, Some, None, Result, Ok, Err, is_some, slice_get, slice_index_or, if◌then◌else◌}
 use Rattle.std.specs.List.{AllByRecursion, AllZip, cons_option, enumerate_from, list_all, position_or_len}
 use Rattle.std.specs.Ordering.{int_eq}
 use Rattle.std.proofs.Common.{refl, sym, ◌∙◌, ap, subst, arith, inl, inr}
-use Rattle.std.proofs.lemmas.Bool.{cond-true, cond-false, and_parts, eqb-true, eq-eqb}
+use Rattle.std.proofs.lemmas.Bool.{cond-false, and_parts, eqb-true, eq-eqb}
 use Rattle.std.proofs.lemmas.Bool.Decides.{Decides-int_eq}
 use Rattle.std.proofs.lemmas.List.Elements.{recursion_from_All}
 use Rattle.iges_fields.proofs.Items.{passes}
@@ -13,17 +13,19 @@ use Rattle.iges_params.specs.Contents.{Contents}
 use Rattle.iges_params.specs.Named.{named}
 use Rattle.brep_lists.specs.DueValues.{DueValue, pointer, number, flag, at_least_one, count, coordinate, MeetsAll}
 use Rattle.brep_lists.specs.Record.{EntityKind, kind_of_type, due, items_of, IsRecordOf}
-use Rattle.brep_lists.specs.OwnValues.{due_in, is_record_of, own_count, if_pointer, pointer_places}
-use Rattle.brep_lists.proofs.Decided.{decided}
+use Rattle.brep_lists.specs.OwnValues.{due_in, own_count, if_pointer, pointer_places}
 use Rattle.solid_data.proofs.Members.{Has, Has-from_Contains, Contains-from_Has, has_left, All-from}
 use Rattle.brep_walk.specs.Places.{Names}
-use Rattle.solid_extract.specs.declared.fault.ExtractReason.{ExtractReason}
-use Rattle.solid_extract.specs.declared.fault.ExtractReason.TheVariants.{Unlisted, Layout, Dangling}
-use Rattle.solid_extract.specs.Layout.{Own, layout_of, own_in, value_at}
-use Rattle.solid_extract.specs.Refs.{Record, own_of_kind, own_of, is_listed, has_layout, names_entry, number_of, pointers_of, names_of, entry_fault, refs}
-use Rattle.solid_extract.specs.Extracted.{new_number, renamed, RefersTo, here, further, IsExtracted}
+use Rattle.entry_references.specs.declared.fault.ExtractReason.{ExtractReason}
+use Rattle.entry_references.specs.declared.fault.ExtractReason.TheVariants.{Unlisted, Layout, Dangling}
+use Rattle.entry_references.specs.Layout.{Own, value_at}
+use Rattle.entry_references.specs.References.{RefersTo}
+use Rattle.entry_references.specs.Refs.{Record, own_of, is_listed, has_layout, names_entry, number_of, pointers_of, names_of, entry_fault, refs}
+use Rattle.entry_references.proofs.KindPlaces.{own_is}
+use Rattle.solid_extract.specs.Extracted.{new_number, renamed, here, further, IsExtracted}
 use Rattle.solid_extract.proofs.KeptItems.{items_kept}
 use Rattle.solid_extract.proofs.NewNumbers.{new_named}
+use Rattle.solid_extract.proofs.Places.{place_step}
 use Rattle.extraction_laws.proofs.Zips.{OptionZip}
 use Rattle.extraction_laws.proofs.Renames.{AllPointers, IsEntity, IsPointer, IsSameKind, Renames}
 
@@ -95,24 +97,13 @@ pub place_found : (ms : List ℕ) (m : ℕ) → Has ms m → slice_get ms (posit
 place_found [] m h = absurd h
 place_found (x ∷ ms) m h = by_test (x == m) refl h (λ j. place_found ms m j)
   where
-    place : (b : Bool) → (x == m) ≡ b → position_or_len (λ k. k == m) (x ∷ ms) ≡ cond (not b) (1 + position_or_len (λ k. k == m) ms) 0
-    place b t = ap (λ (c : Bool). cond (not c) (1 + position_or_len (λ k. k == m) ms) 0) t
-
-    next : 1 + position_or_len (λ k. k == m) ms ≡ suc (position_or_len (λ k. k == m) ms)
-    next = omega arith
-
     later : Has (x ∷ ms) m → (x == m) ≡ false → Has ms m
     later (inl same) t = let no : true ≡ false = sym (eq-eqb x m same) ∙ t in absurd cc
     later (inr j) t = j
 
     by_test : (b : Bool) → (x == m) ≡ b → Has (x ∷ ms) m → (Has ms m → slice_get ms (position_or_len (λ k. k == m) ms) ≡ Some m) → slice_get (x ∷ ms) (position_or_len (λ k. k == m) (x ∷ ms)) ≡ Some m
-    by_test true t j on = ap (slice_get (x ∷ ms)) (place true t) ∙ ap (λ n. Some n) (eqb-true x m t)
-    by_test false t j on = ap (slice_get (x ∷ ms)) (place false t ∙ next) ∙ on (later j t)
-
-own_is : (r : Record) (kind : EntityKind) → kind_of_type r.0.kind ≡ Some kind → IsRecordOf kind r.1 → own_of r ≡ Some (record { count = own_count kind r.1; pointers = pointer_places kind r.1; cut = [] })
-own_is r kind e h =
-    ap (λ (o : Option EntityKind). elim o as (λ _. Option Own) [ Some k ↦ own_of_kind k r.1 | None ↦ elim (layout_of r.0) as (λ _. Option Own) [ Some layout ↦ own_in layout r.1 | None ↦ None ] ]) e
-    ∙ cond-true (is_record_of kind r.1) (Some (record { count = own_count kind r.1; pointers = pointer_places kind r.1; cut = [] })) None ((decided kind r.1).1 h)
+    by_test true t j on = ap (slice_get (x ∷ ms)) (place_step x m ms true t) ∙ ap (λ n. Some n) (eqb-true x m t)
+    by_test false t j on = ap (slice_get (x ∷ ms)) (place_step x m ms false t) ∙ on (later j t)
 
 module _ (f q : Contents) (n : ℕ) (x : IsExtracted f n q) where
   abbrev pub IsKept : ℕ → Type 0

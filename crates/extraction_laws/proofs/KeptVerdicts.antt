@@ -1,5 +1,5 @@
 -- Lists that fail alike under new numbers keep the verdict.
-use Rattle.std.specs.Prelude.{◌≡◌, ℕ, suc, ◌+◌, ◌==◌, Bool, true, false, not, cond, List, [], ◌∷◌, Contains, Some, slice_get}
+use Rattle.std.specs.Prelude.{◌≡◌, ℕ, ◌==◌, Bool, true, false, List, [], ◌∷◌, Contains, Some, slice_get}
 use Rattle.std.specs.List.{position_or_len}
 use Rattle.std.proofs.Common.{refl, sym, ◌∙◌, ap, subst, arith}
 use Rattle.std.proofs.lemmas.Bool.{eqb-true}
@@ -7,6 +7,7 @@ use Rattle.solid_data.specs.Obligations.{Obligation, FirstFalse}
 use Rattle.solid_data.specs.declared.verdict.Failing.{Failing}
 use Rattle.solid_data.proofs.Members.{Has-from_Contains, some_inj}
 use Rattle.solid_extract.specs.Extracted.{new_number}
+use Rattle.solid_extract.proofs.Places.{place_step}
 use Rattle.extraction_laws.specs.Alike.{AreNamedAlike, FailAlike, HaveOneVerdict}
 use Rattle.extraction_laws.specs.Kept.{IsNewNumber, renamed_failing, KeepsVerdict}
 use Rattle.extraction_laws.proofs.AlikeLists.{one_verdict}
@@ -17,15 +18,9 @@ place_is : (ms : List ℕ) (m j : ℕ) → slice_get ms (position_or_len (λ k. 
 place_is [] m j e = absurd cc
 place_is (x ∷ ms) m j e = by_test (x == m) refl e (λ h. place_is ms m j h)
   where
-    place : (b : Bool) → (x == m) ≡ b → position_or_len (λ k. k == m) (x ∷ ms) ≡ cond (not b) (1 + position_or_len (λ k. k == m) ms) 0
-    place b t = ap (λ (c : Bool). cond (not c) (1 + position_or_len (λ k. k == m) ms) 0) t
-
-    next : 1 + position_or_len (λ k. k == m) ms ≡ suc (position_or_len (λ k. k == m) ms)
-    next = omega arith
-
     by_test : (b : Bool) → (x == m) ≡ b → slice_get (x ∷ ms) (position_or_len (λ k. k == m) (x ∷ ms)) ≡ Some j → (slice_get ms (position_or_len (λ k. k == m) ms) ≡ Some j → j ≡ m) → j ≡ m
-    by_test true t h on = sym (some_inj x j (sym (ap (slice_get (x ∷ ms)) (place true t)) ∙ h)) ∙ eqb-true x m t
-    by_test false t h on = on (sym (ap (slice_get (x ∷ ms)) (place false t ∙ next)) ∙ h)
+    by_test true t h on = sym (some_inj x j (sym (ap (slice_get (x ∷ ms)) (place_step x m ms true t)) ∙ h)) ∙ eqb-true x m t
+    by_test false t h on = on (sym (ap (slice_get (x ∷ ms)) (place_step x m ms false t)) ∙ h)
 
 -- no other number becomes that of a kept entry
 new_apart : (kept : List ℕ) (m k : ℕ) → Contains kept m → new_number kept k ≡ new_number kept m → m ≡ k

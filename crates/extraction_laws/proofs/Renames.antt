@@ -7,7 +7,7 @@ use Rattle.brep_lists.specs.DueValues.{DueValue, pointer, number, flag, at_least
 use Rattle.brep_lists.specs.Record.{EntityKind, solid, shell, face, «loop», edges, vertices, type_number, kind_of_type, HasForm, due, items_of, IsRecordOf}
 use Rattle.brep_walk.specs.Places.{told, Names, NamesKind, HasRecordOf, NamesGeometry}
 use Rattle.solid_data.specs.Obligations.{entry_number}
-use Rattle.solid_extract.specs.Refs.{Record}
+use Rattle.entry_references.specs.Refs.{Record}
 use Rattle.solid_extract.specs.Kept.{renamed_items}
 use Rattle.extraction_laws.proofs.Zips.{OptionZip}
 

@@ -4,10 +4,11 @@ ghost use Rattle.std.specs.Prelude.{◌≡◌, IfOk};
 
 use crate::answer::Answer;
 use crate::reply::Reply;
+use entry_references::ExtractReason;
 use iges_fields::{Bytes, EntryNo, FILE_LIMIT, NoMemory, Out, write_number};
 use iges_params::File;
 use iges_write::{WriteFileFault, write_file};
-use solid_extract::{ExtractFault, ExtractReason, extract};
+use solid_extract::{ExtractFault, extract};
 use std::alloc::Global;
 
 fn word_of(reason: ExtractReason) -> &'static str

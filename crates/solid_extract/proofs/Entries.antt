@@ -2,19 +2,18 @@
 use Rattle.std.specs.Ordering.{int_eq}
 use Rattle.std.specs.Prelude.{zero, suc, unsigned_abs, length, ◌≡◌, ℕ, ◌≤◌, Bool, true, false, ℤ, pos, negsuc, neg_ℤ, int_lt, int_le, List, IsTrue, if◌then◌else◌}
 use Rattle.std.proofs.Common.{refl, sym, subst, arith}
-use Rattle.std.proofs.lemmas.Bool.{le-leb}
+use Rattle.std.proofs.lemmas.Bool.{and_from, le-leb}
 use Rattle.std.proofs.lemmas.Bool.Decides.{Decides-int_eq}
 use Rattle.iges_directory.specs.declared.entry.Entry.{Entry}
 use Rattle.iges_directory.specs.Bounds.{IsBounded, fits_columns}
 use Rattle.solid_extract.specs.Extracted.{if_number, new_entry, new_number, renamed}
-use Rattle.solid_extract.proofs.Joined.{and_true}
 use Rattle.solid_extract.proofs.Places.{place_few}
 
 abbrev pub new_colour : List ℕ → ℤ → ℤ
 new_colour kept z = if int_lt z (pos 0) then neg_ℤ (renamed kept (neg_ℤ z)) else z
 
 pub fits_pos : (n : ℕ) → n ≤ 9999999 → IsTrue (fits_columns (pos n))
-fits_pos n few = and_true (int_le (negsuc 9999998) (pos n)) (int_le (pos n) (pos 99999999)) refl (le-leb n 99999999 (omega (arith, few)))
+fits_pos n few = and_from (int_le (negsuc 9999998) (pos n)) (int_le (pos n) (pos 99999999)) refl (le-leb n 99999999 (omega (arith, few)))
 
 pub fits_number : (z : ℤ) → IsTrue (fits_columns z) → IsTrue (fits_columns (if_number z))
 fits_number z h = by_test (int_lt z (pos 0))
@@ -98,7 +97,7 @@ renamed_few kept z few = by_test (int_eq z (pos 0)) refl
 
 fits_negated : (x : ℕ) → x ≤ 9999999 → IsTrue (fits_columns (neg_ℤ (pos x)))
 fits_negated zero few = refl
-fits_negated (suc n) few = and_true (int_le (negsuc 9999998) (negsuc n)) (int_le (negsuc n) (pos 99999999)) (le-leb n 9999998 (omega (arith, few))) refl
+fits_negated (suc n) few = and_from (int_le (negsuc 9999998) (negsuc n)) (int_le (negsuc n) (pos 99999999)) (le-leb n 9999998 (omega (arith, few))) refl
 
 colour_fits : (kept : List ℕ) (z : ℤ) → length kept ≤ 4999999 → IsTrue (fits_columns z) → IsTrue (fits_columns (new_colour kept z))
 colour_fits kept z few h = by_test (int_lt z (pos 0))

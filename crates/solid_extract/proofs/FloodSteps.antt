@@ -1,24 +1,26 @@
 -- The steps of a flood.
 use Rattle.std.specs.Prelude.{◌≡◌, ◌⊎◌, ℕ, zero, suc, ◌+◌, ◌<◌, ◌≤◌, nat_le, Bool, true, false, ℤ, pos, unsigned_abs, List, [], ◌∷◌, ◌++◌, length, Option, Some, None, Result, Ok, Err, if◌then◌else◌, slice_get, IfOk}
 use Rattle.std.proofs.Common.{refl, sym, ap, subst, ◌∙◌, arith, inl, inr, append_assoc}
-use Rattle.std.proofs.lemmas.Bool.{leb-true, leb-false}
-use Rattle.std.proofs.lemmas.Option.{slice_get_within}
+use Rattle.std.proofs.lemmas.Bool.{cases_lt, leb-true, leb-false}
+use Rattle.std.proofs.lemmas.List.{append-nil}
+use Rattle.std.proofs.lemmas.Option.{same_Some, slice_get_within}
 use Rattle.iges_fields.specs.declared.entry_no.EntryNo.{EntryNo}
 use Rattle.iges_params.specs.Contents.{Contents}
 use Rattle.iges_params.specs.Named.{named}
 use Rattle.iges_fields.specs.declared.no_memory.NoMemory.{NoMemory}
-use Rattle.solid_extract.specs.Answered.{TellsFault}
-use Rattle.solid_extract.specs.declared.fault.ExtractReason.{ExtractReason}
-use Rattle.solid_extract.specs.declared.fault.ExtractReason.TheVariants as reason
-use Rattle.solid_extract.specs.declared.fault.RefFault.{RefFault}
-use Rattle.solid_extract.specs.declared.fault.RefFault.TheVariants as fault
+use Rattle.entry_references.specs.Answered.{TellsFault}
+use Rattle.entry_references.specs.declared.fault.ExtractReason.{ExtractReason}
+use Rattle.entry_references.specs.declared.fault.ExtractReason.TheVariants as reason
+use Rattle.entry_references.specs.declared.fault.RefFault.{RefFault}
+use Rattle.entry_references.specs.declared.fault.RefFault.TheVariants as fault
+use Rattle.entry_references.specs.EntrySets.{is_among, with_number, with_numbers}
+use Rattle.entry_references.specs.References.{RefersTo}
+use Rattle.entry_references.specs.Refs.{Record, entry_fault, refs}
+use Rattle.entry_references.proofs.RisingLists.{In, in_from, contains_at}
+use Rattle.entry_references.proofs.RefLists.{refs_named, refs_faultless, refs_fault, into_all, from_all}
 use Rattle.solid_extract.specs.declared.fault.Refusal.{Refusal}
-use Rattle.solid_extract.specs.EntrySets.{with_number, with_numbers}
-use Rattle.solid_extract.specs.Extracted.{is_among, RefersTo, Reaches, here, further}
+use Rattle.solid_extract.specs.Extracted.{Reaches, here, further}
 use Rattle.solid_extract.specs.Flooding.{fault_at, with_refs, IsToldAs, least_of, IsLeastFault, IsFlooded}
-use Rattle.solid_extract.specs.Refs.{Record, entry_fault, refs}
-use Rattle.solid_extract.proofs.One.{In, in_from, contains_at}
-use Rattle.solid_extract.proofs.RefLists.{refs_named, refs_faultless, refs_fault, into_all, from_all}
 
 abbrev pub Above : Contents → Option Refusal → ℕ → Type 0
 Above f None m = fault_at f m ≡ None
@@ -41,19 +43,15 @@ pub record IsFlooding (f : Contents) (n next : ℕ) (ns : List ℕ) (refusal : O
 abbrev Grows : List ℕ → List ℕ → Type 0
 Grows ns ms = (xs : List ℕ) × (ms ≡ ns ++ xs)
 
-append_none : (ns : List ℕ) → ns ≡ ns ++ []
-append_none [] = refl
-append_none (n ∷ ns) = ap (λ (xs : List ℕ). n ∷ xs) (append_none ns)
-
 one_grows : (ns : List ℕ) (a : ℕ) → Grows ns (with_number ns a)
 one_grows ns a = by_test (is_among ns a)
   where
     by_test : (b : Bool) → Grows ns (if b then ns else ns ++ a ∷ [])
-    by_test true = ([], append_none ns)
+    by_test true = ([], sym (append-nil ns))
     by_test false = (a ∷ [], refl)
 
 all_grow : (zs : List ℤ) (ns : List ℕ) → Grows ns (with_numbers ns zs)
-all_grow [] ns = ([], append_none ns)
+all_grow [] ns = ([], sym (append-nil ns))
 all_grow (z ∷ zs) ns =
     let one = one_grows ns (unsigned_abs z) in
     let rest = all_grow zs (with_number ns (unsigned_abs z)) in
@@ -64,11 +62,11 @@ refs_grow f ns m = by_named (named f (pos m))
   where
     by_refs : (o : Result (List ℤ) ExtractReason) → Grows ns (elim o as (λ _. List ℕ) [ Ok ks ↦ with_numbers ns ks | Err reason ↦ ns ])
     by_refs (Ok ks) = all_grow ks ns
-    by_refs (Err reason) = ([], append_none ns)
+    by_refs (Err reason) = ([], sym (append-nil ns))
 
     by_named : (o : Option Record) → Grows ns (elim o as (λ _. List ℕ) [ Some r ↦ elim (refs f r) as (λ _. List ℕ) [ Ok ks ↦ with_numbers ns ks | Err reason ↦ ns ] | None ↦ ns ])
     by_named (Some r) = by_refs (refs f r)
-    by_named None = ([], append_none ns)
+    by_named None = ([], sym (append-nil ns))
 
 get_front : (ns xs : List ℕ) (i : ℕ) → i < length ns → slice_get (ns ++ xs) i ≡ slice_get ns i
 get_front [] xs i lt = absurd (omega (arith, lt))
@@ -89,9 +87,6 @@ get_in : (ns : List ℕ) (m : ℕ) → In ns m → (i : ℕ) × (i < length ns) 
 get_in [] m h = absurd h
 get_in (n ∷ ns) m (inl e) = (0, omega arith, ap (λ (x : ℕ). Some x) e)
 get_in (n ∷ ns) m (inr h) = let p = get_in ns m h in (suc p.0, omega (arith, p.1), p.2)
-
-some_inj : {A : Type 0} (x y : A) → Some x ≡ Some y → x ≡ y
-some_inj {A} x y e = ap (λ (o : Option A). elim o as (λ _. A) [ Some z ↦ z | None ↦ x ]) e
 
 -- ---- a visit
 
@@ -172,14 +167,11 @@ module _ (f : Contents) (n next : ℕ) (ns : List ℕ) (refusal : Option Refusal
       let old : slice_get ns i ≡ Some m = sym (same_get i below) ∙ g in
       by_order old (cases_lt i next)
     where
-      cases_lt : (a b : ℕ) → (a < b) ⊎ (b ≤ a)
-      cases_lt a b = grind arith
-
       by_order : slice_get ns i ≡ Some m → (i < next) ⊎ (next ≤ i) → ((i < next) × (slice_get ns i ≡ Some m)) ⊎ (e.0 ≡ m)
       by_order old (inl less) = inl (less, old)
       by_order old (inr ge) =
           let same : i ≡ next = omega (arith, lt, ge) in
-          inr (some_inj e.0 m (sym at ∙ (ap (slice_get ns) (sym same) ∙ old)))
+          inr (same_Some e.0 m (sym at ∙ (ap (slice_get ns) (sym same) ∙ old)))
 
   pub flood_goes : IsFlooding f n (next + 1) (with_refs f ns e.0) (least_of refusal e fault)
   flood_goes = record {

@@ -1,18 +1,20 @@
 -- The own values of a record of the six kinds, with the pointers renamed, are a record of that kind.
 use Rattle.std.proofs.Common.{◌≡◌, inl, inr, ℕ, suc, ◌+◌, ◌<◌, Bool, true, false, List, [], ◌∷◌, ◌++◌, length, map, take, ℤ, pos, Option, Some, None, refl, sym, ap, subst, ◌∙◌, arith}
-use Rattle.std.specs.Prelude.{◌==◌, ◌||◌, flat_map, filter_map, if◌then◌else◌}
+use Rattle.std.specs.Prelude.{◌==◌, ◌||◌, flat_map, if◌then◌else◌}
 use Rattle.std.specs.List.{enumerate_from}
-use Rattle.std.proofs.lemmas.Bool.{cond-true, cond-false, ne_eqb, eq-eqb}
+use Rattle.std.proofs.lemmas.Bool.{cond-false, ne_eqb, eq-eqb}
 use Rattle.std.proofs.lemmas.List.{map-append, length-map}
 use Rattle.iges_fields.specs.declared.value.Value.{Value}
 use Rattle.iges_fields.specs.declared.value.Value.TheVariants as value
 use Rattle.brep_lists.specs.DueValues.{DueValue, pointer, number, flag, at_least_one, count, coordinate, IsFiller, Meets, MayBeMissing, MeetsAll}
-use Rattle.brep_lists.specs.Record.{EntityKind, solid, shell, face, «loop», edges, vertices, LoopTuple, Items, kind_of_type, pair_due, curve_due, tuple_due, edge_due, vertex_due, due, items_of, IsRecordOf}
-use Rattle.brep_lists.specs.OwnValues.{is_record_of, due_in, own_count, if_pointer, pointer_places}
-use Rattle.brep_lists.proofs.Decided.{decided}
-use Rattle.solid_extract.specs.Layout.{Own, layout_of, own_in}
-use Rattle.solid_extract.specs.Refs.{Record, own_of_kind, own_of, names_of}
-use Rattle.solid_extract.specs.Extracted.{is_among, renamed, new_value, new_values}
+use Rattle.brep_lists.specs.Record.{EntityKind, solid, shell, face, «loop», edges, vertices, LoopTuple, Items, pair_due, curve_due, tuple_due, edge_due, vertex_due, due, items_of}
+use Rattle.brep_lists.specs.OwnValues.{due_in, own_count, pointer_places}
+use Rattle.entry_references.specs.Layout.{Own}
+use Rattle.entry_references.specs.EntrySets.{is_among}
+use Rattle.entry_references.specs.PlacesDue.{places_due}
+use Rattle.entry_references.specs.Refs.{names_of}
+use Rattle.entry_references.proofs.KindPlaces.{own_is}
+use Rattle.solid_extract.specs.Extracted.{renamed, new_value, new_values}
 use Rattle.solid_extract.specs.Kept.{renamed_pair, renamed_curve, renamed_tuple, renamed_edge, renamed_items, RecordsAreKept}
 
 -- ---- what is due for renamed items
@@ -70,12 +72,9 @@ abbrev is_pointer_due : DueValue → Bool
 is_pointer_due (pointer z) = true
 is_pointer_due _ = false
 
-abbrev places_from : ℕ → List DueValue → List ℕ
-places_from k ds = filter_map if_pointer (enumerate_from k ds)
-
-below_none : (k m : ℕ) (ds : List DueValue) → m < k → is_among (places_from k ds) m ≡ false
+below_none : (k m : ℕ) (ds : List DueValue) → m < k → is_among (places_due k ds) m ≡ false
 below_none k m [] lt = refl
-below_none k m (pointer z ∷ ds) lt = ap (λ b. b || is_among (places_from (k + 1) ds) m) (ne_eqb k m (λ e. omega (arith, lt, e))) ∙ below_none (k + 1) m ds (omega (arith, lt))
+below_none k m (pointer z ∷ ds) lt = ap (λ b. b || is_among (places_due (k + 1) ds) m) (ne_eqb k m (λ e. omega (arith, lt, e))) ∙ below_none (k + 1) m ds (omega (arith, lt))
 below_none k m (number z ∷ ds) lt = below_none (k + 1) m ds (omega (arith, lt))
 below_none k m (flag b ∷ ds) lt = below_none (k + 1) m ds (omega (arith, lt))
 below_none k m (at_least_one n ∷ ds) lt = below_none (k + 1) m ds (omega (arith, lt))
@@ -91,9 +90,9 @@ says_more : (x k : ℕ) (ps : List ℕ) (ds : List DueValue) → x < k → Says 
 says_more x k ps [] lt h = tt
 says_more x k ps (d ∷ ds) lt h = (ap (λ b. b || is_among ps k) (ne_eqb x k (λ e. omega (arith, lt, e))) ∙ h.0, says_more x (k + 1) ps ds (omega (arith, lt)) h.1)
 
-says_places : (k : ℕ) (ds : List DueValue) → Says (places_from k ds) k ds
+says_places : (k : ℕ) (ds : List DueValue) → Says (places_due k ds) k ds
 says_places k [] = tt
-says_places k (pointer z ∷ ds) = (ap (λ b. b || is_among (places_from (k + 1) ds) k) (eq-eqb k k refl), says_more k (k + 1) (places_from (k + 1) ds) ds (omega arith) (says_places (k + 1) ds))
+says_places k (pointer z ∷ ds) = (ap (λ b. b || is_among (places_due (k + 1) ds) k) (eq-eqb k k refl), says_more k (k + 1) (places_due (k + 1) ds) ds (omega arith) (says_places (k + 1) ds))
 says_places k (number z ∷ ds) = (below_none (k + 1) k ds (omega arith), says_places (k + 1) ds)
 says_places k (flag b ∷ ds) = (below_none (k + 1) k ds (omega arith), says_places (k + 1) ds)
 says_places k (at_least_one n ∷ ds) = (below_none (k + 1) k ds (omega arith), says_places (k + 1) ds)
@@ -163,11 +162,6 @@ module _ (kept : List ℕ) (own : Own) (no_cut : own.cut ≡ []) where
 ints_spell : (g : ℤ → ℤ) (zs : List ℤ) → MeetsAll [] (map (λ z. value.Int (g z)) zs)
 ints_spell g [] = tt
 ints_spell g (z ∷ zs) = (tt, ints_spell g zs)
-
-own_is : (r : Record) (kind : EntityKind) → kind_of_type r.0.kind ≡ Some kind → IsRecordOf kind r.1 → own_of r ≡ Some (record { count = own_count kind r.1; pointers = pointer_places kind r.1; cut = [] })
-own_is r kind e h =
-    ap (λ (o : Option EntityKind). elim o as (λ _. Option Own) [ Some k ↦ own_of_kind k r.1 | None ↦ elim (layout_of r.0) as (λ _. Option Own) [ Some layout ↦ own_in layout r.1 | None ↦ None ] ]) e
-    ∙ cond-true (is_record_of kind r.1) (Some (record { count = own_count kind r.1; pointers = pointer_places kind r.1; cut = [] })) None ((decided kind r.1).1 h)
 
 -- the names behind the own values
 abbrev names_tail : List Value → List Value

@@ -5,9 +5,11 @@ use Rattle.std.specs.List.Sorted.{IsStrictlyIncreasing}
 use Rattle.std.specs.Ordering.{int_eq}
 use Rattle.std.proofs.Common.{refl, sym, ap, subst, ◌∙◌, arith, inl, inr, length-take}
 use Rattle.std.proofs.Math.Nat.{div-add-mod, mod-lt}
+use Rattle.std.proofs.lemmas.Bool.{cases_lt}
 use Rattle.std.proofs.lemmas.List.{map-append}
 use Rattle.std.proofs.lemmas.List.Sums.{sum_by-cons, sum_by-append}
 use Rattle.std.proofs.lemmas.List.Elements.{filter_map-append, All-from_recursion}
+use Rattle.std.proofs.lemmas.Option.{same_Some}
 use Rattle.iges_fields.specs.declared.entry_no.EntryNo.{EntryNo}
 use Rattle.iges_fields.specs.declared.value.Value.{Value}
 use Rattle.iges_params.specs.Contents.{Contents, value_count}
@@ -15,26 +17,24 @@ use Rattle.iges_params.specs.Named.{named}
 use Rattle.iges_params.specs.declared.global.Global26.{Global26}
 use Rattle.iges_params.specs.Global.{have_kinds}
 use Rattle.iges_params.specs.Made.{IsMade, IsMadeEntry, is_start_line}
+use Rattle.entry_references.specs.declared.fault.ExtractReason.{ExtractReason}
+use Rattle.entry_references.specs.EntrySets.{AreRising, numbers_of}
+use Rattle.entry_references.specs.Refs.{Record, names_entry, entry_fault}
+use Rattle.entry_references.proofs.NamedRecords.{named_place}
+use Rattle.entry_references.proofs.RisingLists.{In, contains_at, tail_rises, contains_pass}
+use Rattle.entry_references.proofs.RefLists.{refs_named}
 use Rattle.solid_extract.specs.MadeAgain.{ExtractedIsMade}
 use Rattle.solid_extract.proofs.Entries.{kept_bounded}
 use Rattle.solid_extract.proofs.NewNumbers.{has_kind}
 use Rattle.solid_extract.specs.declared.fault.ExtractFault.{ExtractFault}
 use Rattle.solid_extract.specs.declared.fault.ExtractFault.TheVariants as fault
-use Rattle.solid_extract.specs.declared.fault.ExtractReason.{ExtractReason}
 use Rattle.solid_extract.specs.declared.fault.Refusal.{Refusal}
-use Rattle.solid_extract.specs.EntrySets.{AreRising, numbers_of}
 use Rattle.solid_extract.specs.Extracted.{is_solid, Reaches, here, further, IsExtracted, IsRefused, new_record, new_values}
 use Rattle.solid_extract.specs.Flooding.{fault_at, IsFlooded, IsLeastFault}
 use Rattle.solid_extract.specs.Making.{records_of, IsFaultless, IsExtractFault, GivesFile, GivesRefusal}
-use Rattle.solid_extract.specs.Refs.{Record, names_entry, entry_fault}
 use Rattle.solid_extract.proofs.Copies.{one_more}
 use Rattle.solid_extract.proofs.KeptValues.{values_few}
-use Rattle.solid_extract.proofs.NamedRecords.{named_place}
-use Rattle.solid_extract.proofs.One.{In, contains_at, tail_rises, contains_pass, IsExtracted-unique, IsRefused-unique, IsExtracted-IsRefused}
-use Rattle.solid_extract.proofs.RefLists.{refs_named}
-
-some_inj : {A : Type 0} (x y : A) → Some x ≡ Some y → x ≡ y
-some_inj {A} x y e = ap (λ (o : Option A). elim o as (λ _. A) [ Some z ↦ z | None ↦ x ]) e
+use Rattle.solid_extract.proofs.One.{IsExtracted-unique, IsRefused-unique, IsExtracted-IsRefused}
 
 -- ---- how many values there are
 
@@ -150,21 +150,18 @@ module _ (f : Contents) where
         let odd = (named_place f m q.0 q.1).0 in
         let d = div-add-mod m 2 in
         let le : j ≤ m / 2 = omega (arith, rises.0, d, odd) in
-        by_order q odd d le (cases_le (m / 2) j) (λ r. rising_few es (j + 1) ms (stand_on e es j h) r all.1) (λ r. rising_few es (j + 1) (m ∷ ms) (stand_on e es j h) r all)
+        by_order q odd d le (cases_lt j (m / 2)) (λ r. rising_few es (j + 1) ms (stand_on e es j h) r all.1) (λ r. rising_few es (j + 1) (m ∷ ms) (stand_on e es j h) r all)
       where
-        cases_le : (a b : ℕ) → (a ≤ b) ⊎ (b < a)
-        cases_le a b = grind arith
-
-        by_order : (q : (r : Record) × (named f (pos m) ≡ Some r)) → m % 2 ≡ 1 → 2 * (m / 2) + m % 2 ≡ m → j ≤ m / 2 → (m / 2 ≤ j) ⊎ (j < m / 2)
+        by_order : (q : (r : Record) × (named f (pos m) ≡ Some r)) → m % 2 ≡ 1 → 2 * (m / 2) + m % 2 ≡ m → j ≤ m / 2 → (j < m / 2) ⊎ (m / 2 ≤ j)
             → (Rises (2 * (j + 1)) ms → sum_by w (records_of f ms) ≤ sum_by w es) → (Rises (2 * (j + 1)) (m ∷ ms) → sum_by w (records_of f (m ∷ ms)) ≤ sum_by w es) → sum_by w (records_of f (m ∷ ms)) ≤ sum_by w (e ∷ es)
-        by_order q odd d le (inl low) on past =
+        by_order q odd d le (inr low) on past =
             let at : m / 2 - j ≡ 0 = omega (arith, low) in
-            let same : e ≡ q.0 = some_inj e q.0 (sym (ap (slice_get (e ∷ es)) at) ∙ h m q.0 q.1 le) in
+            let same : e ≡ q.0 = same_Some e q.0 (sym (ap (slice_get (e ∷ es)) at) ∙ h m q.0 q.1 le) in
             let number : m + 1 ≡ 2 * (j + 1) = omega (arith, odd, d, le, low) in
             let rest : sum_by w (records_of f ms) ≤ sum_by w es = on (subst (λ (k : ℕ). Rises k ms) number rises.1) in
             let whole : sum_by w (records_of f (m ∷ ms)) ≡ sum_by w (q.0 ∷ records_of f ms) = ap (λ (o : Option Record). sum_by w (cons_option o (records_of f ms))) q.1 in
             omega (arith, rest, whole, ap w same, sum_by-cons w q.0 (records_of f ms), sum_by-cons w e es)
-        by_order q odd d le (inr further_on) on past =
+        by_order q odd d le (inl further_on) on past =
             let rest : sum_by w (records_of f (m ∷ ms)) ≤ sum_by w es = past (omega (arith, d, odd, further_on), rises.1) in
             omega (arith, rest, sum_by-cons w e es)
 
@@ -290,7 +287,7 @@ zip_long f (m ∷ ms) (r ∷ rs) h = ap suc (zip_long f ms rs h.1)
 
 all_at : (P : Record → Type 0) (rs : List Record) (k : ℕ) (r : Record) → AllByRecursion P rs → slice_get rs k ≡ Some r → P r
 all_at P [] k r h e = absurd (let none : None ≡ Some r = e in cc)
-all_at P (q ∷ rs) zero r h e = subst P (some_inj q r e) h.0
+all_at P (q ∷ rs) zero r h e = subst P (same_Some q r e) h.0
 all_at P (q ∷ rs) (suc k) r h e = all_at P rs k r h.1 e
 
 made_entries : (f : Contents) (kept ms : List ℕ) (rs : List Record) → length kept ≤ 4999999 → AllByRecursion IsMadeEntry f.entries → AllZip (λ m r. named f (pos m) ≡ Some r) ms rs → AllByRecursion IsMadeEntry (map (new_record f kept) rs)

@@ -4,6 +4,7 @@ use Rattle.std.specs.Prelude.{◌==◌, slice_get}
 use Rattle.std.specs.List.{AllByRecursion, list_all, position_or_len}
 use Rattle.std.proofs.lemmas.Bool.{cond-false}
 use Rattle.std.proofs.lemmas.List.Elements.{recursion_from_All}
+use Rattle.std.proofs.lemmas.Option.{same_Some}
 use Rattle.iges_fields.proofs.Items.{passes}
 use Rattle.iges_params.specs.Contents.{Contents}
 use Rattle.iges_params.specs.Named.{record_values, values_of}
@@ -11,18 +12,18 @@ use Rattle.brep_lists.specs.Record.{EntityKind, kind_of_type, items_of, Fits, Is
 use Rattle.brep_lists.specs.OwnValues.{is_record_of, own_count, pointer_places}
 use Rattle.brep_lists.proofs.Decided.{decided}
 use Rattle.brep_lists.proofs.OnlyRead.{only_read}
-use Rattle.solid_extract.specs.declared.fault.ExtractReason.TheVariants.{Unlisted, Layout, Dangling}
-use Rattle.solid_extract.specs.Layout.{Own, layout_of, own_in}
-use Rattle.solid_extract.specs.Refs.{Record, own_of_kind, own_of, are_groups, has_layout, is_listed, names_entry, pointers_of, entry_fault}
+use Rattle.entry_references.specs.declared.fault.ExtractReason.TheVariants.{Unlisted, Layout, Dangling}
+use Rattle.entry_references.specs.Layout.{Own, layout_of, own_in}
+use Rattle.entry_references.specs.Refs.{Record, own_of_kind, own_of, are_groups, has_layout, is_listed, names_entry, pointers_of, entry_fault}
+use Rattle.entry_references.proofs.RisingLists.{in_from}
 use Rattle.solid_extract.specs.Extracted.{renamed, new_values, new_number}
 use Rattle.solid_extract.specs.Kept.{renamed_items, ItemsAreKept}
-use Rattle.solid_extract.proofs.One.{in_from}
 use Rattle.solid_extract.proofs.Keeping.{keeps}
 use Rattle.solid_extract.proofs.NewNumbers.{found_at, new_named}
 
 at_all : {A : Type 0} (P : A → Type 0) (xs : List A) (k : ℕ) (x : A) → AllByRecursion P xs → slice_get xs k ≡ Some x → P x
 at_all P [] k x h e = absurd (let no : None ≡ Some x = e in cc)
-at_all {A} P (y ∷ xs) zero x h e = subst P (ap (λ (o : Option A). elim o as (λ _. A) [ Some z ↦ z | None ↦ y ]) e) h.0
+at_all {A} P (y ∷ xs) zero x h e = subst P (same_Some y x e) h.0
 at_all P (y ∷ xs) (suc k) x h e = at_all P xs k x h.1 e
 
 -- a faultless entry of one of the six kinds has a record of that kind

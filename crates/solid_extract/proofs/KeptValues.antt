@@ -2,21 +2,22 @@
 use Rattle.std.specs.Prelude.{◌≡◌, ◌⊎◌, ℕ, zero, suc, ◌+◌, ◌-◌, ◌<◌, ◌≤◌, ◌==◌, Bool, true, false, ◌||◌, ℤ, pos, List, [], ◌∷◌, ◌++◌, length, map, take, drop, set, Option, Some, None, if◌then◌else◌, slice_get, slice_index_or, unwrap_or, filter, filter_map}
 use Rattle.std.specs.List.{enumerate_from, cons_option}
 use Rattle.std.proofs.Common.{refl, sym, ap, ◌∙◌, arith, get_or, length-append, length-take, length-drop, inl, inr}
-use Rattle.std.proofs.lemmas.Bool.{ne_eqb, cond-false}
+use Rattle.std.proofs.lemmas.Bool.{cases_lt, ne_eqb, cond-false}
 use Rattle.std.proofs.lemmas.List.{take_more, map-append, length-map}
 use Rattle.std.proofs.lemmas.List.FromFn.{length-enumerate_from}
 use Rattle.std.proofs.lemmas.Option.{get_or_from_slice_get, slice_get_within}
 use Rattle.iges_fields.specs.declared.value.Value.{Value}
 use Rattle.iges_fields.specs.declared.value.Value.TheVariants as value
 use Rattle.iges_params.specs.Contents.{Contents}
-use Rattle.solid_extract.specs.Extracted.{is_among, new_value, new_values, renamed}
-use Rattle.solid_extract.specs.Layout.{Own, count_of}
+use Rattle.entry_references.specs.EntrySets.{is_among}
+use Rattle.entry_references.specs.Layout.{Own, count_of}
+use Rattle.entry_references.specs.Refs.{Record, Group, first_group, own_of, names_of, is_name, number_of, second_group}
+use Rattle.entry_references.specs.Shapes.{HasShape}
+use Rattle.entry_references.specs.declared.group.Group.{Group as Between}
+use Rattle.entry_references.proofs.KindPlaces.{enumerate_append}
+use Rattle.entry_references.proofs.Marks.{get_set, length_set, both_next, zero_other, or_false, among_push}
+use Rattle.solid_extract.specs.Extracted.{new_value, new_values, renamed}
 use Rattle.solid_extract.specs.NewValues.{AreMarkedPlaces, with_mark, value_as, new_numbers, names_behind}
-use Rattle.solid_extract.specs.Refs.{Record, Group, first_group, own_of, names_of, is_name, number_of, second_group}
-use Rattle.solid_extract.specs.Shapes.{HasShape}
-use Rattle.solid_extract.specs.declared.group.Group.{Group as Between}
-use Rattle.solid_extract.proofs.KindPlaces.{enumerate_append}
-use Rattle.solid_extract.proofs.Marks.{get_set, length_set, both_next, zero_other, or_false, among_push}
 
 -- ---- marks of places
 
@@ -29,20 +30,17 @@ marked_one : (ms : List Bool) (place i : ℕ) → i < length ms → slice_index_
 marked_one ms zero i lt =
     let one : suc i ≡ i + 1 = omega arith in
     sym (ap (λ (b : Bool). slice_index_or ms i false || b) (ap (λ (k : ℕ). 0 == k) (sym one) ∙ zero_other i) ∙ or_false (slice_index_or ms i false))
-marked_one ms (suc k) i lt = by_order (cases_le (length ms) k)
+marked_one ms (suc k) i lt = by_order (cases_lt k (length ms))
   where
-    cases_le : (a b : ℕ) → (a ≤ b) ⊎ (b < a)
-    cases_le a b = grind arith
-
     same : (suc k == i + 1) ≡ (k == i)
     same = let one : i + 1 ≡ suc i = omega arith in ap (λ (j : ℕ). suc k == j) one ∙ both_next k i
 
-    by_order : (length ms ≤ k) ⊎ (k < length ms) → slice_index_or (set ms k true) i false ≡ (slice_index_or ms i false || (suc k == i + 1))
-    by_order (inl past) =
+    by_order : (k < length ms) ⊎ (length ms ≤ k) → slice_index_or (set ms k true) i false ≡ (slice_index_or ms i false || (suc k == i + 1))
+    by_order (inr past) =
         let far : (k == i) ≡ false = ne_eqb k i (λ e. omega (arith, e, past, lt)) in
         ap (λ (xs : List Bool). slice_index_or xs i false) (set_past ms k past)
         ∙ sym (ap (λ (b : Bool). slice_index_or ms i false || b) (same ∙ far) ∙ or_false (slice_index_or ms i false))
-    by_order (inr below) = get_set ms k i below ∙ ap (λ (b : Bool). slice_index_or ms i false || b) (sym same)
+    by_order (inl below) = get_set ms k i below ∙ ap (λ (b : Bool). slice_index_or ms i false || b) (sym same)
 
 mark_long : (ms : List Bool) (place : ℕ) → length (with_mark ms place) ≡ length ms
 mark_long ms zero = refl

@@ -1,14 +1,14 @@
 -- Places of kept entries.
-use Rattle.std.specs.Prelude.{◌≡◌, ℕ, zero, suc, ◌+◌, ◌-◌, ◌*◌, ◌/◌, ◌%◌, ◌<◌, ◌≤◌, ◌==◌, cond, not, Bool, true, false, List, [], ◌∷◌, length, drop, replicate, set, Option, Some, None, slice_get, slice_index_or}
+use Rattle.std.specs.Prelude.{◌≡◌, ℕ, zero, suc, ◌+◌, ◌-◌, ◌*◌, ◌/◌, ◌%◌, ◌<◌, ◌≤◌, ◌==◌, cond, not, Bool, true, false, List, [], ◌∷◌, length, drop, replicate, set, Option, Some, None, slice_get, slice_index_or, if◌then◌else◌}
 use Rattle.std.specs.List.{AllByRecursion}
 use Rattle.std.proofs.Common.{refl, sym, ap, subst, ◌∙◌, arith}
 use Rattle.std.proofs.lemmas.Bool.{eqb-true, eq-eqb, ne_eqb}
 use Rattle.std.proofs.lemmas.List.{drop_all}
 use Rattle.iges_fields.specs.declared.entry_no.EntryNo.{EntryNo}
 use Rattle.brep_lists.proofs.Places.{open_at}
-use Rattle.solid_extract.specs.EntrySets.{IsWithin, numbers_of}
+use Rattle.entry_references.specs.EntrySets.{IsWithin, numbers_of}
+use Rattle.entry_references.proofs.Marks.{number_is, place_is}
 use Rattle.solid_extract.specs.Renaming.{place_of, ArePlaces}
-use Rattle.solid_extract.proofs.Marks.{number_is, place_is}
 
 -- ---- a value set
 
@@ -40,11 +40,17 @@ filled_long (suc n) k = ap suc (filled_long n k)
 
 -- ---- places behind a first one
 
-place_here : (x m : ℕ) (xs : List ℕ) → x ≡ m → place_of (x ∷ xs) m ≡ 0
-place_here x m xs e = ap (λ (b : Bool). cond (not b) (1 + place_of xs m) 0) (eq-eqb x m e)
+pub place_step : (x m : ℕ) (xs : List ℕ) (b : Bool) → (x == m) ≡ b → place_of (x ∷ xs) m ≡ (if b then 0 else suc (place_of xs m))
+place_step x m xs true t = ap (λ (b : Bool). cond (not b) (1 + place_of xs m) 0) t
+place_step x m xs false t =
+    let next : 1 + place_of xs m ≡ suc (place_of xs m) = omega arith in
+    ap (λ (b : Bool). cond (not b) (1 + place_of xs m) 0) t ∙ next
 
-place_later : (x m : ℕ) (xs : List ℕ) → (x ≡ m → ⊥) → place_of (x ∷ xs) m ≡ 1 + place_of xs m
-place_later x m xs ne = ap (λ (b : Bool). cond (not b) (1 + place_of xs m) 0) (ne_eqb x m ne)
+place_here : (x m : ℕ) (xs : List ℕ) → x ≡ m → place_of (x ∷ xs) m ≡ 0
+place_here x m xs e = place_step x m xs true (eq-eqb x m e)
+
+place_later : (x m : ℕ) (xs : List ℕ) → (x ≡ m → ⊥) → place_of (x ∷ xs) m ≡ suc (place_of xs m)
+place_later x m xs ne = place_step x m xs false (ne_eqb x m ne)
 
 pub place_few : (xs : List ℕ) (m : ℕ) → place_of xs m ≤ length xs
 place_few [] m = omega arith
@@ -94,7 +100,7 @@ places_next kept ps new size left before m long some eb at within en h j lt = by
     by_test false t =
         let ne : m / 2 ≡ j → ⊥ = λ e. apart e t in
         let far : m ≡ 2 * j + 1 → ⊥ = λ e. ne (ap (λ (k : ℕ). k / 2) e ∙ place_is j) in
-        let later : place_of (drop before kept) (2 * j + 1) ≡ 1 + place_of (drop left kept) (2 * j + 1) = ap (λ (xs : List ℕ). place_of xs (2 * j + 1)) opened ∙ place_later m (2 * j + 1) (drop left kept) far in
+        let later : place_of (drop before kept) (2 * j + 1) ≡ suc (place_of (drop left kept) (2 * j + 1)) = ap (λ (xs : List ℕ). place_of xs (2 * j + 1)) opened ∙ place_later m (2 * j + 1) (drop left kept) far in
         let got : slice_index_or new j 0 ≡ left + place_of (drop left kept) (2 * j + 1) = ap (λ (xs : List ℕ). slice_index_or xs j 0) en ∙ (set_other ps (m / 2) j before ne ∙ h j lt) in
         omega (arith, later, got, one)
       where

@@ -6,11 +6,12 @@ use Rattle.iges_fields.specs.declared.value.Value.TheVariants as value
 use Rattle.iges_directory.specs.declared.entry.Entry.{Entry}
 use Rattle.iges_params.specs.Contents.{Contents}
 use Rattle.iges_params.specs.Named.{named}
-use Rattle.solid_extract.specs.declared.fault.ExtractReason.TheVariants.{Unlisted, Layout, Dangling}
-use Rattle.solid_extract.specs.Refs.{Record, refs, entry_fault}
+use Rattle.entry_references.specs.declared.fault.ExtractReason.TheVariants.{Unlisted, Layout, Dangling}
+use Rattle.entry_references.specs.Refs.{Record, refs, entry_fault}
+use Rattle.entry_references.proofs.RisingLists.{In, in_from, rises_by_test}
 use Rattle.solid_extract.specs.Extracted.{is_solid, new_record, Reaches, here, further, IsExtracted}
 use Rattle.std.proofs.lemmas.List.Elements.{All-from_recursion}
-use Rattle.solid_extract.proofs.One.{In, in_from, Reaches-kept, rises_by_test}
+use Rattle.solid_extract.proofs.One.{Reaches-kept}
 
 abbrev ints : List ℕ → List Value
 ints ns = map (λ n. value.Int (pos n)) ns

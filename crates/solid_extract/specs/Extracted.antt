@@ -1,6 +1,6 @@
 -- The file of one solid.
-use Rattle.std.specs.Prelude.{◌≡◌, ◌↔◌, ◌<◌, ◌⊎◌, ℕ, ◌+◌, ◌*◌, Bool, false, ◌==◌, List, [], ◌∷◌, ◌++◌, length, take, map, ℤ, pos, neg_ℤ, int_lt, unsigned_abs, Some, None, Ok, if◌then◌else◌, IsTrue, IsFalse, Contains, All}
-use Rattle.std.specs.List.{list_any, position_or_len, enumerate_from, AllZip}
+use Rattle.std.specs.Prelude.{◌≡◌, ◌↔◌, ◌<◌, ◌⊎◌, ℕ, ◌+◌, ◌*◌, Bool, false, ◌==◌, List, [], ◌∷◌, ◌++◌, length, take, map, ℤ, pos, neg_ℤ, int_lt, unsigned_abs, Some, None, if◌then◌else◌, IsTrue, IsFalse, Contains, All}
+use Rattle.std.specs.List.{position_or_len, enumerate_from, AllZip}
 use Rattle.std.specs.List.Sorted.{IsStrictlyIncreasing}
 use Rattle.std.specs.Ordering.{int_eq}
 use Rattle.iges_fields.specs.declared.value.Value.{Value}
@@ -8,10 +8,12 @@ use Rattle.iges_fields.specs.declared.value.Value.TheVariants as value
 use Rattle.iges_directory.specs.declared.entry.Entry.{Entry}
 use Rattle.iges_params.specs.Contents.{Contents}
 use Rattle.iges_params.specs.Named.{named}
-use Rattle.solid_extract.specs.declared.fault.ExtractReason.{ExtractReason}
-use Rattle.solid_extract.specs.declared.fault.ExtractReason.TheVariants.{NotSolid}
-use Rattle.solid_extract.specs.Layout.{Own}
-use Rattle.solid_extract.specs.Refs.{Record, own_of, names_of, entry_fault, refs}
+use Rattle.entry_references.specs.declared.fault.ExtractReason.{ExtractReason}
+use Rattle.entry_references.specs.declared.fault.ExtractReason.TheVariants.{NotSolid}
+use Rattle.entry_references.specs.EntrySets.{is_among}
+use Rattle.entry_references.specs.Layout.{Own}
+use Rattle.entry_references.specs.References.{RefersTo}
+use Rattle.entry_references.specs.Refs.{Record, own_of, names_of, entry_fault}
 
 abbrev pub is_solid : Contents → ℕ → Bool
 is_solid f n = elim (named f (pos n)) [ Some r ↦ int_eq r.0.kind (pos 186) | None ↦ false ]
@@ -40,19 +42,12 @@ new_entry kept e = record e {
   colour = if int_lt e.colour (pos 0) then neg_ℤ (renamed kept (neg_ℤ e.colour)) else e.colour;
 }
 
-abbrev pub is_among : List ℕ → ℕ → Bool
-is_among places k = list_any (λ x. x == k) places
-
 -- a pointer is renamed, and one that isn't followed becomes 0
 abbrev pub new_value : List ℕ → Own → ℕ → Value → Value
 new_value kept own k (value.Int n) = value.Int (if is_among own.pointers k then renamed kept n else (if is_among own.cut k then pos 0 else n))
 new_value kept own k v = v
 
 -- ---- what is reached
-
--- the entry m refers to the entry k
-abbrev pub RefersTo : Contents → ℕ → ℕ → Type 0
-RefersTo f m k = (r : Record) × (ks : List ℤ) × (named f (pos m) ≡ Some r) × (refs f r ≡ Ok ks) × Contains ks (pos k)
 
 -- a chain of references leads from n to m
 pub data Reaches (f : Contents) (n : ℕ) : ℕ → Type 0 where

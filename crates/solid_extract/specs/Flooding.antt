@@ -3,14 +3,14 @@ use Rattle.std.specs.Prelude.{◌≡◌, ◌↔◌, ℕ, ◌<◌, nat_le, List, 
 use Rattle.iges_fields.specs.declared.entry_no.EntryNo.{EntryNo}
 use Rattle.iges_params.specs.Contents.{Contents}
 use Rattle.iges_params.specs.Named.{named}
-use Rattle.solid_extract.specs.declared.fault.ExtractReason.{ExtractReason}
-use Rattle.solid_extract.specs.declared.fault.ExtractReason.TheVariants as reason
-use Rattle.solid_extract.specs.declared.fault.RefFault.{RefFault}
-use Rattle.solid_extract.specs.declared.fault.RefFault.TheVariants as fault
+use Rattle.entry_references.specs.declared.fault.ExtractReason.{ExtractReason}
+use Rattle.entry_references.specs.declared.fault.ExtractReason.TheVariants as reason
+use Rattle.entry_references.specs.declared.fault.RefFault.{RefFault}
+use Rattle.entry_references.specs.declared.fault.RefFault.TheVariants as fault
+use Rattle.entry_references.specs.EntrySets.{with_numbers}
+use Rattle.entry_references.specs.Refs.{entry_fault, refs}
 use Rattle.solid_extract.specs.declared.fault.Refusal.{Refusal}
-use Rattle.solid_extract.specs.EntrySets.{with_numbers}
 use Rattle.solid_extract.specs.Extracted.{Reaches}
-use Rattle.solid_extract.specs.Refs.{entry_fault, refs}
 
 -- the fault of what a number names
 abbrev pub fault_at : Contents → ℕ → Option ExtractReason

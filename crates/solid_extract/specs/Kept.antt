@@ -4,7 +4,7 @@ use Rattle.iges_params.specs.Contents.{Contents}
 use Rattle.iges_params.specs.Named.{named, values_of}
 use Rattle.brep_lists.specs.Record.{EntityKind, solid, shell, face, «loop», edges, vertices, LoopTuple, Items, kind_of_type, items_of, Fits, IsRecordOf}
 use Rattle.brep_lists.specs.declared.edge_list.EdgeTuple.{EdgeTuple}
-use Rattle.solid_extract.specs.Refs.{Record}
+use Rattle.entry_references.specs.Refs.{Record}
 use Rattle.solid_extract.specs.Extracted.{renamed, new_values, new_number, new_record, IsExtracted}
 
 abbrev pub renamed_pair : (ℤ → ℤ) → ℤ × Bool → ℤ × Bool

@@ -2,12 +2,12 @@
 use Rattle.std.specs.Prelude.{◌≡◌, ℕ, List, pos, None, Result, Ok, Err, IsSome, filter_map}
 use Rattle.iges_params.specs.Contents.{Contents}
 use Rattle.iges_params.specs.Named.{named}
-use Rattle.solid_extract.specs.declared.fault.ExtractReason.{ExtractReason}
+use Rattle.entry_references.specs.declared.fault.ExtractReason.{ExtractReason}
+use Rattle.entry_references.specs.Refs.{Record}
 use Rattle.solid_extract.specs.declared.fault.ExtractFault.{ExtractFault}
 use Rattle.solid_extract.specs.declared.fault.ExtractFault.TheVariants as fault
 use Rattle.solid_extract.specs.Extracted.{IsRefused}
 use Rattle.solid_extract.specs.Flooding.{fault_at}
-use Rattle.solid_extract.specs.Refs.{Record}
 
 -- what the numbers name
 abbrev pub records_of : Contents → List ℕ → List Record

@@ -2,7 +2,8 @@
 use Rattle.std.specs.Prelude.{◌≡◌, ℕ, zero, suc, ◌+◌, ◌<◌, ◌==◌, Bool, false, true, ℤ, pos, List, [], ◌∷◌, length, map, set, if◌then◌else◌, slice_index_or}
 use Rattle.iges_fields.specs.declared.value.Value.{Value}
 use Rattle.iges_fields.specs.declared.value.Value.TheVariants as value
-use Rattle.solid_extract.specs.Extracted.{is_among, renamed}
+use Rattle.entry_references.specs.EntrySets.{is_among}
+use Rattle.solid_extract.specs.Extracted.{renamed}
 
 -- a mark for each of so many places, from 1, says whether it is among them
 pub record AreMarkedPlaces (marks : List Bool) (places : List ℕ) (count : ℕ) : Type 0 where

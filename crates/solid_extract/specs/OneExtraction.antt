@@ -1,7 +1,7 @@
 -- A solid is extracted in one way, or refused in one.
 use Rattle.std.specs.Prelude.{◌≡◌, ℕ}
 use Rattle.iges_params.specs.Contents.{Contents}
-use Rattle.solid_extract.specs.declared.fault.ExtractReason.{ExtractReason}
+use Rattle.entry_references.specs.declared.fault.ExtractReason.{ExtractReason}
 use Rattle.solid_extract.specs.Extracted.{IsRefused, IsExtracted}
 
 abbrev pub OneFile : Type 0

@@ -1,7 +1,7 @@
 -- The places of kept entries.
 use Rattle.std.specs.Prelude.{◌≡◌, ℕ, ◌+◌, ◌*◌, ◌<◌, ◌≤◌, ◌==◌, List, length, slice_index_or}
 use Rattle.std.specs.List.{AllByRecursion, position_or_len}
-use Rattle.solid_extract.specs.EntrySets.{IsWithin}
+use Rattle.entry_references.specs.EntrySets.{IsWithin}
 
 -- where the number stands among those that are kept, or how many these are
 abbrev pub place_of : List ℕ → ℕ → ℕ

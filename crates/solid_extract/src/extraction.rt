@@ -1,21 +1,20 @@
 //! The file of one solid.
 
+ghost use Rattle.entry_references.specs.declared.fault.ExtractReason.{ExtractReason as Reason};
 ghost use Rattle.iges_fields.specs.declared.TheConstants.{FILE_LIMIT};
 ghost use Rattle.iges_params.specs.Contents.{Contents, value_count};
 ghost use Rattle.iges_params.specs.Made.{IsMade};
 ghost use Rattle.solid_extract.specs.Extracted.{IsExtracted, IsRefused, is_solid, new_record};
 ghost use Rattle.solid_extract.specs.Making.{GivesFile, GivesRefusal, IsExtractFault, IsFaultless, records_of};
-ghost use Rattle.solid_extract.specs.declared.fault.ExtractReason.{ExtractReason as Reason};
 ghost use Rattle.std.specs.List.{AllByRecursion};
 ghost use Rattle.std.specs.Prelude.{◌≡◌, ◌+◌, ◌∷◌, ◌++◌, ◌<◌, ◌≤◌, ℕ, [], IfErr, IfOk, OnOk, length, map};
 
 use crate::copying::begun;
-use crate::fault::{ExtractFault, ExtractReason};
+use crate::fault::ExtractFault;
 use crate::new_values::new_values;
 use crate::reaching::reach;
-use crate::record::record_of;
-use crate::refs::shape_of;
 use crate::renaming::Renaming;
+use entry_references::{ExtractReason, record_of, shape_of};
 use iges_fields::{EntryNo, NoMemory};
 use iges_params::File;
 use std::alloc::Global;

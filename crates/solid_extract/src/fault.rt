@@ -1,33 +1,7 @@
-//! Why references aren't told, and why a solid isn't extracted.
+//! Why a solid isn't extracted.
 
+use entry_references::ExtractReason;
 use iges_fields::{EntryNo, NoMemory};
-use std::alloc::{AllocError, AllocFailed};
-
-/// Why the references of an entry aren't told (own). Of the first three the first that holds is told.
-#[derive(Clone, Copy, Debug, PartialEq, Eq)]
-pub enum RefFault {
-    /// The type of the entry isn't one that extraction follows.
-    Unlisted,
-    /// The values of the record don't stand as its type has them.
-    Layout,
-    /// A pointer of the entry names no entry.
-    Dangling,
-    /// Memory ran out.
-    NoMemory,
-}
-
-/// Why a solid isn't extracted (own).
-#[derive(Clone, Copy, Debug, PartialEq, Eq)]
-pub enum ExtractReason {
-    /// The number names no solid.
-    NotSolid,
-    /// The type of the entity isn't one that extraction follows.
-    Unlisted,
-    /// The values of the entity's record don't stand as its type has them.
-    Layout,
-    /// A pointer of the entity names no entry.
-    Dangling,
-}
 
 /// An entity that has a fault, and its fault.
 #[derive(Clone, Copy)]
@@ -57,38 +31,5 @@ impl From<NoMemory> for ExtractFault {
 
     fn from(_: NoMemory) -> ExtractFault {
         ExtractFault::NoMemory
-    }
-}
-
-impl From<NoMemory> for RefFault {
-    ghost use Rattle.std.specs.Prelude.{◌≡◌};
-    ghost use Rattle.solid_extract.specs.declared.fault.RefFault.TheVariants.{NoMemory as OutOfMemory};
-
-    ghost from_gives = { λ _ e. e ≡ OutOfMemory };
-
-    fn from(_: NoMemory) -> RefFault {
-        RefFault::NoMemory
-    }
-}
-
-impl From<AllocError> for RefFault {
-    ghost use Rattle.std.specs.Prelude.{◌≡◌};
-    ghost use Rattle.solid_extract.specs.declared.fault.RefFault.TheVariants.{NoMemory as OutOfMemory};
-
-    ghost from_gives = { λ _ e. e ≡ OutOfMemory };
-
-    fn from(_: AllocError) -> RefFault {
-        RefFault::NoMemory
-    }
-}
-
-impl<T: Drop> From<AllocFailed<T>> for RefFault {
-    ghost use Rattle.std.specs.Prelude.{◌≡◌};
-    ghost use Rattle.solid_extract.specs.declared.fault.RefFault.TheVariants.{NoMemory as OutOfMemory};
-
-    ghost from_gives = { λ _ e. e ≡ OutOfMemory };
-
-    fn from(_: AllocFailed<T>) -> RefFault {
-        RefFault::NoMemory
     }
 }

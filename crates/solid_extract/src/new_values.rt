@@ -1,19 +1,15 @@
 //! The values that a kept entry has.
 
+ghost use Rattle.entry_references.specs.Refs.{is_name, number_of};
 ghost use Rattle.iges_fields.specs.InLine.{is_value, stays_in_line};
 ghost use Rattle.iges_fields.specs.declared.TheConstants.{FILE_LIMIT};
 ghost use Rattle.solid_extract.specs.Extracted.{new_value};
 ghost use Rattle.solid_extract.specs.NewValues.{AreMarkedPlaces, names_behind, new_numbers, value_as, with_mark};
-ghost use Rattle.solid_extract.specs.Refs.{is_name, number_of};
 ghost use Rattle.std.specs.List.{enumerate_from};
 ghost use Rattle.std.specs.Prelude.{◌≡◌, ◌+◌, ◌∷◌, ◌++◌, ◌<◌, ◌≤◌, ◌^◌, [], IfOk, IsTrue, OnOk, drop, filter, filter_map, length, map, take};
 
-use crate::entry_set::mark_at;
-use crate::group::Group;
-use crate::numbers::push_names;
-use crate::own::Own;
-use crate::refs::Shape;
 use crate::renaming::Renaming;
+use entry_references::{Group, Own, Shape, mark_at, push_names};
 use iges_fields::{ItemList, NoMemory, Value, Values};
 use iges_params::File;
 use std::alloc::Global;

@@ -4,11 +4,8 @@ ghost use Rattle.iges_params.specs.Named.{named};
 ghost use Rattle.solid_extract.specs.Flooding.{IsFlooded, IsToldAs, fault_at, least_of, with_refs};
 ghost use Rattle.std.specs.Prelude.{◌≡◌, IfOk, IsSome, OnOk, length, pos};
 
-use crate::adding::add_numbers;
-use crate::entry_set::EntrySet;
-use crate::fault::{ExtractReason, RefFault, Refusal};
-use crate::record::record_of;
-use crate::refs::refs;
+use crate::fault::Refusal;
+use entry_references::{EntrySet, ExtractReason, RefFault, add_numbers, record_of, refs};
 use iges_fields::{EntryNo, NoMemory};
 use iges_params::File;
 use std::alloc::Global;

@@ -1,13 +1,13 @@
 //! The new numbers of the entries that are kept.
 
+ghost use Rattle.entry_references.specs.EntrySets.{IsWithin, numbers_of};
 ghost use Rattle.iges_directory.specs.Bounds.{IsBounded, fits_columns};
-ghost use Rattle.solid_extract.specs.EntrySets.{IsWithin, numbers_of};
 ghost use Rattle.solid_extract.specs.Extracted.{if_number, new_entry, renamed};
 ghost use Rattle.solid_extract.specs.Renaming.{place_of};
 ghost use Rattle.std.specs.List.{AllByRecursion};
 ghost use Rattle.std.specs.Prelude.{◌≡◌, ◌+◌, ◌*◌, ◌≤◌, ℕ, IfOk, IsTrue, if◌then◌else◌, int_lt, length, neg_ℤ, pos};
 
-use crate::entry_set::EntryList;
+use entry_references::EntryList;
 use iges_directory::Entry;
 use iges_fields::NoMemory;
 use std::alloc::Global;
@@ -22,7 +22,7 @@ pub struct Renaming {
 
 impl Model for Renaming {
     ghost use Rattle.std.specs.Prelude.{List, ℕ};
-    ghost use Rattle.solid_extract.specs.EntrySets.{numbers_of};
+    ghost use Rattle.entry_references.specs.EntrySets.{numbers_of};
     ghost use Rattle.solid_extract.specs.Renaming.{ArePlaces};
 
     ghost Value = { List ℕ };

@@ -1,6 +1,7 @@
 ghost use Rattle.std.specs.Prelude.{◌≤◌, length};
 
-use crate::{EntryList, ExtractFault, ExtractReason, RefFault, extract, references};
+use crate::{ExtractFault, extract};
+use entry_references::ExtractReason;
 use iges_fields::{EntryNo, Value};
 use iges_params::{File, ReadFileFault, read_file};
 use std::alloc::Global;
@@ -81,20 +82,6 @@ fn refusal(entity: u32, reason: ExtractReason) -> Option<ExtractFault> {
     })
 }
 
-fn listed(alloc: Global, file: &File, no: u32) -> Result<EntryList, RefFault> {
-    match file.entry(EntryNo(no)) {
-        Some(_) => references(alloc, file, EntryNo(no)),
-        None => Err(RefFault::Dangling),
-    }
-}
-
-fn reference(list: &EntryList, i: usize) -> Option<u32> {
-    match list.get(i) {
-        Some(no) => Some(no.0),
-        None => None,
-    }
-}
-
 fn int(file: &File, no: u32, i: usize) -> Option<i64> {
     match file.values(EntryNo(no))?.get(i)? {
         Value::Int(n) => Some(*n),
@@ -116,32 +103,6 @@ fn matrix(file: &File, no: u32) -> Option<i64> {
 
 fn colour(file: &File, no: u32) -> Option<i64> {
     Some(file.entry(EntryNo(no))?.colour)
-}
-
-#[test]
-fn a_solid_refers_to_its_shell_its_name_its_colour_and_its_matrix(
-    rt: HostRuntime,
-) -> Result<(), Fail> {
-    let file = two_solids(rt.alloc())?;
-    let Ok(list) = listed(rt.alloc(), &file, 11) else {
-        return Err(Fail::from("no references"));
-    };
-    assert_eq!(rt; reference(&list, 0), Some(13));
-    assert_eq!(rt; reference(&list, 1), Some(25));
-    assert_eq!(rt; reference(&list, 2), Some(27));
-    assert_eq!(rt; reference(&list, 3), Some(29));
-    assert_eq!(rt; reference(&list, 4), None);
-    Ok(())
-}
-
-#[test]
-fn a_type_that_is_not_listed_has_no_references(rt: HostRuntime) -> Result<(), Fail> {
-    let file = two_solids(rt.alloc())?;
-    assert_eq!(rt;
-        listed(rt.alloc(), &file, 23).err(),
-        Some(RefFault::Unlisted)
-    );
-    Ok(())
 }
 
 // The second solid of the file, extracted.

@@ -1,7 +1,7 @@
 use Rattle.std.proofs.Common.{◌≡◌, ◌∙◌, ◌≤◌, sym, ap, subst, List, ℕ, map}
 use Rattle.std.specs.List.{AllByRecursion}
 use Rattle.iges_params.specs.Contents.{Contents, value_count}
-use Rattle.solid_extract.specs.EntrySets.{numbers_of}
+use Rattle.entry_references.specs.EntrySets.{numbers_of}
 use Rattle.solid_extract.specs.Extracted.{new_record}
 use Rattle.solid_extract.specs.Making.{IsFaultless, records_of}
 use Rattle.solid_extract.proofs.KeptFile.{refused_is, all_faultless, values_fit, extracted_is}

@@ -4,7 +4,7 @@ use Rattle.std.specs.Prelude.{option_copied}
 use Rattle.std.proofs.lemmas.List.{length-map}
 use Rattle.iges_fields.specs.declared.entry_no.EntryNo.{EntryNo}
 use Rattle.iges_params.specs.Contents.{Contents, value_count}
-use Rattle.solid_extract.specs.EntrySets.{numbers_of}
+use Rattle.entry_references.specs.EntrySets.{numbers_of}
 use Rattle.solid_extract.specs.Making.{IsFaultless, records_of}
 use Rattle.solid_extract.proofs.KeptFile.{next_room, next_few, next_entries}
 use Rattle.solid_extract.proofs.Places.{within_at, number_at}

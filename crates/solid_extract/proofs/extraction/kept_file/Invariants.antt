@@ -1,5 +1,5 @@
 use Rattle.std.proofs.Common.{◌≡◌, map, take}
-use Rattle.solid_extract.specs.EntrySets.{numbers_of}
+use Rattle.entry_references.specs.EntrySets.{numbers_of}
 use Rattle.solid_extract.specs.Extracted.{new_record}
 use Rattle.solid_extract.specs.Making.{records_of}
 use Rattle.solid_extract.proofs.extraction.kept_file.Given as goal

@@ -1,8 +1,8 @@
 use Rattle.std.proofs.Common.{◌∙◌}
-use Rattle.solid_extract.specs.Refs.{Record}
+use Rattle.entry_references.specs.Refs.{Record}
+use Rattle.entry_references.proofs.RefLists.{found_record}
 use Rattle.solid_extract.proofs.KeptFile.{push_room}
 use Rattle.solid_extract.proofs.KeptValues.{values_are}
-use Rattle.solid_extract.proofs.RefLists.{found_record}
 use Rattle.solid_extract.proofs.extraction.push_kept.Goals as goal
 
 pub push-requires-clause-few : goal.push-requires-clause-few

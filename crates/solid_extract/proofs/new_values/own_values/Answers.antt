@@ -1,7 +1,7 @@
 use Rattle.std.proofs.Common.{◌+◌, ◌∙◌, ap, sym, Bool, false, List, ℕ}
 use Rattle.std.specs.Prelude.{option_copied, slice_index_or}
-use Rattle.solid_extract.specs.Extracted.{is_among}
-use Rattle.solid_extract.specs.Layout.{Own}
+use Rattle.entry_references.specs.EntrySets.{is_among}
+use Rattle.entry_references.specs.Layout.{Own}
 use Rattle.solid_extract.proofs.KeptValues.{next_value}
 use Rattle.solid_extract.proofs.new_values.own_values.Goals as goal
 

@@ -1,10 +1,10 @@
 use Rattle.std.proofs.Common.{◌≡◌, ◌+◌, ◌∙◌, ap, sym, subst, length, None, Option, ℕ, List, [], option_map}
 use Rattle.iges_fields.specs.declared.entry_no.EntryNo.{EntryNo}
+use Rattle.entry_references.specs.EntrySets.{Entries, IsWithin, with_number}
+use Rattle.entry_references.proofs.NamedRecords.{is_within}
 use Rattle.solid_extract.specs.declared.fault.Refusal.{Refusal}
-use Rattle.solid_extract.specs.EntrySets.{Entries, IsWithin, with_number}
 use Rattle.solid_extract.specs.Flooding.{with_refs, least_of}
 use Rattle.solid_extract.proofs.FloodSteps.{IsFlooding, flood_starts, flood_goes, flood_ends}
-use Rattle.solid_extract.proofs.NamedRecords.{is_within}
 use Rattle.solid_extract.proofs.reaching.reach.Goals as goal
 
 pub add-requires : goal.add-requires

@@ -1,5 +1,5 @@
-use Rattle.solid_extract.specs.Refs.{Record}
-use Rattle.solid_extract.proofs.RefLists.{found_record, refs_named}
+use Rattle.entry_references.specs.Refs.{Record}
+use Rattle.entry_references.proofs.RefLists.{found_record, refs_named}
 use Rattle.solid_extract.proofs.FloodSteps.{no_fault, a_fault}
 use Rattle.solid_extract.proofs.reaching.visit.Goals as goal
 

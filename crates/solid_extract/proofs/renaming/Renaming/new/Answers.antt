@@ -1,6 +1,6 @@
 use Rattle.std.proofs.Common.{◌≡◌, ◌∙◌, ◌/◌, Some, ap, sym, arith, refl}
 use Rattle.std.specs.Prelude.{slice_get, option_copied, ◌-◌}
-use Rattle.solid_extract.specs.EntrySets.{IsWithin, numbers_of}
+use Rattle.entry_references.specs.EntrySets.{IsWithin, numbers_of}
 use Rattle.solid_extract.proofs.Places.{within_at, number_at, places_next, set_long}
 use Rattle.solid_extract.proofs.renaming.Renaming.new.Goals as goal
 

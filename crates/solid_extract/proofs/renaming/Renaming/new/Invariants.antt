@@ -1,5 +1,5 @@
 use Rattle.std.proofs.Common.{◌≡◌, ℕ, ◌+◌, ◌*◌, ◌<◌, ◌≤◌, length, drop, slice_index_or}
-use Rattle.solid_extract.specs.EntrySets.{numbers_of}
+use Rattle.entry_references.specs.EntrySets.{numbers_of}
 use Rattle.solid_extract.specs.Renaming.{place_of}
 use Rattle.solid_extract.proofs.renaming.Renaming.new.Given as goal
 

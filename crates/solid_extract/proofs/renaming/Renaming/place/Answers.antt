@@ -1,7 +1,7 @@
 use Rattle.std.proofs.Common.{◌≡◌, ◌<◌, ◌/◌, ◌∙◌, sym, ap, List, ℕ, length, arith, refl}
 use Rattle.std.proofs.lemmas.List.{length-map}
 use Rattle.iges_fields.specs.declared.entry_no.EntryNo.{EntryNo}
-use Rattle.solid_extract.specs.EntrySets.{numbers_of}
+use Rattle.entry_references.specs.EntrySets.{numbers_of}
 use Rattle.solid_extract.specs.Renaming.{place_of}
 use Rattle.solid_extract.proofs.Places.{place_read, place_few, no_place}
 use Rattle.solid_extract.proofs.renaming.Renaming.place.Goals.{else-number-eq1-via-then-number-eq1+else-at-len, else-number-eq1-via-else-number-eq1}

@@ -1,0 +1,9 @@
+pub mod Values
+pub mod TableRows
+pub mod KindPlaces
+pub mod Groups
+pub mod NumberLists
+pub mod NamedRecords
+pub mod RisingLists
+pub mod Marks
+pub mod RefLists

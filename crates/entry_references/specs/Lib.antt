@@ -1,0 +1,12 @@
+pub mod Layout
+pub mod Rows
+pub mod KindNames
+pub mod Refs
+pub mod ListedTypes
+pub mod PlacesDue
+pub mod GroupPlaces
+pub mod Shapes
+pub mod Numbers
+pub mod Answered
+pub mod EntrySets
+pub mod References

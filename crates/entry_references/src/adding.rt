@@ -1,0 +1,34 @@
+//! Entries that numbers name, put into a set.
+
+ghost use Rattle.entry_references.specs.EntrySets.{with_number, with_numbers};
+ghost use Rattle.entry_references.specs.Refs.{names_entry};
+ghost use Rattle.std.specs.List.{list_all};
+ghost use Rattle.std.specs.Prelude.{◌≡◌, true, OnOk, length, unsigned_abs};
+
+use crate::entry_set::EntrySet;
+use crate::numbers::entry_no;
+use iges_fields::{ItemList, NoMemory};
+use iges_params::File;
+
+fn add_number(set: &mut EntrySet, file: &File, number: i64) -> Result<(), NoMemory>
+    requires size { set.old.size ≡ length file.now.entries }
+    requires names { names_entry file.now number ≡ true }
+    ensures { OnOk result (set.new ≡ record set.old { numbers = with_number set.old.numbers (unsigned_abs number) }) }
+{
+    match entry_no(file, number) {
+        Some(no) => set.add(no),
+        None => Ok(()),
+    }
+}
+
+/// Puts the entries that the numbers name (own).
+pub fn add_numbers(set: &mut EntrySet, file: &File, numbers: &ItemList<i64>) -> Result<(), NoMemory>
+    requires size { set.old.size ≡ length file.now.entries }
+    requires name { list_all (names_entry file.now) numbers.now ≡ true }
+    ensures { OnOk result (set.new ≡ record set.old { numbers = with_numbers set.old.numbers numbers.now }) }
+{
+    'numbers: for number in numbers.as_slice() {
+        add_number(set, file, *number)?;
+    }
+    Ok(())
+}

@@ -1,0 +1,130 @@
+//! The types that extraction follows, but for those of a solid's own records.
+
+ghost use Rattle.entry_references.specs.Layout.{layout_of, listed, is_other_property};
+ghost use Rattle.entry_references.specs.Rows.{layout_of_row, layout_in_form, Shows};
+ghost use Rattle.std.specs.Prelude.{find};
+ghost use Rattle.std.specs.Ordering.{int_eq};
+ghost use Rattle.std.specs.Prelude.{◌≡◌, ℤ, pos, option_map};
+
+use iges_directory::Entry;
+
+/// How many values of a record are its own, and which of them are pointers, in places counted from 1 without the
+/// type number (IGES 5.3, 4).
+#[derive(Clone, Copy)]
+pub enum Layout {
+    /// So many values, with pointers in these places.
+    Fixed(usize, &'static [usize]),
+    CompositeCurve,
+    CopiousData,
+    SplineCurve,
+    Point,
+    RationalCurve,
+    RationalSurface,
+}
+
+/// The layouts of a type by its forms (own).
+#[derive(Clone, Copy)]
+pub enum Forms {
+    /// One layout in each form.
+    Every(Layout),
+    /// One layout in form 1, and another in each other form.
+    First(Layout, Layout),
+}
+
+/// A type, by its number, and its layouts.
+#[derive(Clone, Copy)]
+pub struct Row(i64, Forms);
+
+const TABLE: [Row; 23] = [
+    Row(100, Forms::Every(Layout::Fixed(7, &[]))),
+    Row(102, Forms::Every(Layout::CompositeCurve)),
+    Row(104, Forms::Every(Layout::Fixed(11, &[]))),
+    Row(106, Forms::Every(Layout::CopiousData)),
+    Row(108, Forms::Every(Layout::Fixed(9, &[5]))),
+    Row(110, Forms::Every(Layout::Fixed(6, &[]))),
+    Row(112, Forms::Every(Layout::SplineCurve)),
+    Row(116, Forms::Every(Layout::Point)),
+    Row(118, Forms::Every(Layout::Fixed(4, &[1, 2]))),
+    Row(120, Forms::Every(Layout::Fixed(4, &[1, 2]))),
+    Row(122, Forms::Every(Layout::Fixed(4, &[1]))),
+    Row(123, Forms::Every(Layout::Fixed(3, &[]))),
+    Row(124, Forms::Every(Layout::Fixed(12, &[]))),
+    Row(126, Forms::Every(Layout::RationalCurve)),
+    Row(128, Forms::Every(Layout::RationalSurface)),
+    Row(140, Forms::Every(Layout::Fixed(5, &[5]))),
+    Row(
+        190,
+        Forms::First(Layout::Fixed(3, &[1, 2, 3]), Layout::Fixed(2, &[1, 2])),
+    ),
+    Row(
+        192,
+        Forms::First(Layout::Fixed(4, &[1, 2, 4]), Layout::Fixed(3, &[1, 2])),
+    ),
+    Row(
+        194,
+        Forms::First(Layout::Fixed(5, &[1, 2, 5]), Layout::Fixed(4, &[1, 2])),
+    ),
+    Row(
+        196,
+        Forms::First(Layout::Fixed(4, &[1, 3, 4]), Layout::Fixed(2, &[1])),
+    ),
+    Row(
+        198,
+        Forms::First(Layout::Fixed(5, &[1, 2, 5]), Layout::Fixed(4, &[1, 2])),
+    ),
+    Row(314, Forms::Every(Layout::Fixed(4, &[]))),
+    Row(406, Forms::Every(Layout::Fixed(2, &[]))),
+];
+
+fn row_of(rows: &[Row], kind: i64) -> Option<Row>
+    ensures { result ≡ find (λ r. int_eq kind r.0) rows.now }
+{
+    'rows: for row in rows {
+        if kind == row.0 {
+            return Some(*row);
+        }
+    }
+    None
+}
+
+// The layouts of a type that the rows list.
+fn forms_of(rows: &[Row], kind: i64) -> Option<Forms>
+    requires { (form : ℤ) → Shows form rows.now (listed form) }
+    ensures { (form : ℤ) → option_map (layout_in_form form) result ≡ option_map (λ row. row.1) (find (λ row. int_eq kind (pos row.0)) (listed form)) }
+{
+    match row_of(rows, kind) {
+        Some(row) => Some(row.1),
+        None => None,
+    }
+}
+
+fn in_form(forms: Forms, form: i64) -> Layout
+    ensures { layout_of_row result ≡ layout_in_form form forms }
+{
+    match forms {
+        Forms::Every(layout) => layout,
+        Forms::First(layout, _) if form == 1 => layout,
+        Forms::First(_, layout) => layout,
+    }
+}
+
+// Whether the entry is a property that isn't a name.
+fn is_other_property(entry: &Entry) -> bool
+    ensures { result ≡ is_other_property entry.now }
+{
+    entry.kind == 406 && entry.form != 15
+}
+
+/// The layout of a type in a form; None where the type isn't listed (own). Of the analytic surfaces each form but 1 is
+/// read as 0, and of the properties only the name is listed (own).
+pub fn layout_of(entry: &Entry) -> Option<Layout>
+    ensures { option_map layout_of_row result ≡ layout_of entry.now }
+{
+    if is_other_property(entry) {
+        return None;
+    }
+    match forms_of(&TABLE, entry.kind) {
+        Some(forms) => Some(in_form(forms, entry.form)),
+        None => None,
+    }
+}

@@ -1,0 +1,48 @@
+//! What the type of an entry says of its own values.
+
+ghost use Rattle.entry_references.specs.ListedTypes.{IsTypeOf, own_by_type};
+ghost use Rattle.entry_references.specs.Refs.{is_listed};
+ghost use Rattle.iges_fields.specs.declared.TheConstants.{FILE_LIMIT};
+ghost use Rattle.std.specs.Prelude.{◌≡◌, ◌≤◌, [], false, IfOk, MatchOption, length};
+
+use crate::layout::{Layout, layout_of};
+use crate::own::Own;
+use crate::own_kinds::own_of_kind;
+use crate::own_table::own_in;
+use crate::record_kind::{RecordKind, kind_of_type};
+use iges_directory::Entry;
+use iges_fields::{NoMemory, Values};
+use std::alloc::Global;
+
+/// A type that extraction follows.
+#[derive(Clone, Copy)]
+pub enum ListedType {
+    /// One of a solid's own records.
+    Solid(RecordKind),
+    /// A type of the table.
+    Other(Layout),
+}
+
+/// The type of an entry, where extraction follows it.
+pub fn type_of(entry: &Entry) -> Option<ListedType>
+    ensures { MatchOption result (is_listed (entry.now, []) ≡ false) (IsTypeOf entry.now) }
+{
+    if let Some(kind) = kind_of_type(entry.kind) {
+        return Some(ListedType::Solid(kind));
+    }
+    match layout_of(entry) {
+        Some(layout) => Some(ListedType::Other(layout)),
+        None => None,
+    }
+}
+
+/// The own values of a record of a type; None where the record doesn't stand by it.
+pub fn own_of(alloc: Global, listed: ListedType, values: &Values) -> Result<Option<Own>, NoMemory>
+    requires { length values.now ≤ FILE_LIMIT }
+    ensures { IfOk result (λ own. own ≡ own_by_type listed values.now) }
+{
+    match listed {
+        ListedType::Solid(kind) => own_of_kind(alloc, kind, values),
+        ListedType::Other(layout) => own_in(alloc, layout, values),
+    }
+}

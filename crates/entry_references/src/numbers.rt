@@ -1,0 +1,151 @@
+//! What the numbers in an entry name.
+
+ghost use Rattle.entry_references.specs.Layout.{value_at};
+ghost use Rattle.entry_references.specs.Numbers.{matrix_of, colour_of};
+ghost use Rattle.entry_references.specs.Refs.{names_entry, is_name, number_of};
+ghost use Rattle.iges_directory.specs.Bounds.{IsBounded};
+ghost use Rattle.iges_params.specs.Limits.{FitsLimits};
+ghost use Rattle.iges_params.specs.Named.{named};
+ghost use Rattle.std.specs.List.{list_all};
+ghost use Rattle.std.specs.Option.{option_to_list};
+ghost use Rattle.std.specs.Prelude.{◌≡◌, ◌+◌, ◌++◌, ◌<◌, ◌^◌, [], None, IfOk, MatchOption, OnOk, drop, filter, filter_map, length, pos, take};
+
+use crate::group::Group;
+use crate::own::Own;
+use crate::place::{number_in, number_of};
+use iges_directory::Entry;
+use iges_fields::{EntryNo, ItemList, NoMemory, Values};
+use iges_params::File;
+use std::alloc::Global;
+
+/// The number as an entry's, unless it lies outside the directory.
+pub fn entry_no(file: &File, number: i64) -> Option<EntryNo>
+    ensures { MatchOption result (named file.now number ≡ None) (λ no. number ≡ pos no.0) }
+{
+    let lines = 2 * file.entry_count();
+    match u32::try_from(number) {
+        Ok(no) if (no as usize) < lines => Some(EntryNo(no)),
+        _ => None,
+    }
+}
+
+fn names_entry(file: &File, number: i64) -> bool
+    ensures { result ≡ names_entry file.now number }
+{
+    match entry_no(file, number) {
+        Some(no) => file.entry(no).is_some(),
+        None => false,
+    }
+}
+
+// Whether the number names a name, which is a property of form 15 (IGES 5.3, type 406).
+fn is_name(file: &File, number: i64) -> bool
+    ensures { result ≡ is_name file.now number }
+{
+    let Some(no) = entry_no(file, number) else {
+        return false;
+    };
+    match file.entry(no) {
+        Some(entry) => entry.kind == 406 && entry.form == 15,
+        None => false,
+    }
+}
+
+/// Whether each number names an entry.
+pub fn name_entries(file: &File, numbers: &ItemList<i64>) -> bool
+    ensures { result ≡ list_all (names_entry file.now) numbers.now }
+{
+    'numbers: for number in numbers.as_slice() {
+        if !names_entry(file, *number) {
+            return false;
+        }
+    }
+    true
+}
+
+fn push_some(numbers: &mut ItemList<i64>, number: Option<i64>) -> Result<(), NoMemory>
+    ensures { OnOk result (numbers.new ≡ numbers.old ++ option_to_list number) }
+{
+    match number {
+        Some(number) => numbers.push(number),
+        None => Ok(()),
+    }
+}
+
+// The pointers among the own values.
+fn own_pointers(alloc: Global, own: &Own, values: &Values) -> Result<ItemList<i64>, NoMemory>
+    ensures { IfOk result (λ numbers. numbers ≡ filter_map (λ k. number_of (value_at values.now k)) own.now.pointers) }
+{
+    let mut numbers = ItemList::new(alloc);
+    'places: for place in own.pointers.as_slice() {
+        push_some(&mut numbers, number_in(values, *place))?;
+    }
+    Ok(numbers)
+}
+
+// The transformation matrix of an entry, where there is one.
+fn matrix_of(entry: &Entry) -> Option<i64>
+    ensures { option_to_list result ≡ matrix_of entry.now }
+{
+    if entry.matrix == 0 {
+        return None;
+    }
+    Some(entry.matrix)
+}
+
+// The entry that tells the colour, where one does: its number stands there negated (IGES 5.3, 2.2.4.4.13).
+fn colour_of(entry: &Entry) -> Option<i64>
+    requires { IsBounded entry.now }
+    ensures { option_to_list result ≡ colour_of entry.now }
+{
+    if entry.colour >= 0 {
+        return None;
+    }
+    Some(-entry.colour)
+}
+
+/// The numbers of an entry that are followed: the pointers among its own values, its matrix and its colour.
+pub fn followed(
+    alloc: Global,
+    entry: &Entry,
+    own: &Own,
+    values: &Values,
+) -> Result<ItemList<i64>, NoMemory>
+    requires { IsBounded entry.now }
+    ensures { IfOk result (λ numbers. numbers ≡ filter_map (λ k. number_of (value_at values.now k)) own.now.pointers ++ matrix_of entry.now ++ colour_of entry.now) }
+{
+    let mut numbers = own_pointers(alloc, own, values)?;
+    push_some(&mut numbers, matrix_of(entry))?;
+    push_some(&mut numbers, colour_of(entry))?;
+    Ok(numbers)
+}
+
+fn if_name(file: &File, number: Option<i64>) -> Option<i64>
+    ensures { option_to_list result ≡ filter (is_name file.now) (option_to_list number) }
+{
+    match number {
+        Some(number) if is_name(file, number) => Some(number),
+        _ => None,
+    }
+}
+
+/// Puts the pointers of a group that name a name, which is a property of form 15 (IGES 5.3, type 406).
+pub fn push_names(
+    numbers: &mut ItemList<i64>,
+    file: &File,
+    values: &Values,
+    group: Group,
+) -> Result<(), NoMemory>
+    requires { group.before + group.count < 2 ^ 64 }
+    ensures { OnOk result (numbers.new ≡ numbers.old ++ filter (is_name file.now) (filter_map number_of (take group.count (drop group.before values.now)))) }
+{
+    let mut i = 0;
+    'pointers: while i < group.count {
+        let Some(value) = values.get(group.before + i) else {
+            return Ok(());
+        };
+        push_some(numbers, if_name(file, number_of(value)))?;
+        i += 1;
+    }
+    Ok(())
+}

@@ -1,0 +1,87 @@
+//! The own values of a record.
+
+ghost use Rattle.entry_references.specs.Layout.{value_at, is_pointer};
+ghost use Rattle.std.specs.List.{list_all, range_with_len};
+ghost use Rattle.std.specs.Prelude.{◌≡◌, ◌+◌, ◌<◌, ◌^◌, ◌++◌, [], Some, None, IfOk, if◌then◌else◌};
+
+use crate::place::are_pointers;
+use iges_fields::{ItemList, NoMemory, Values};
+use std::alloc::Global;
+use std::marker::Model;
+
+/// How many values of a record are its own, which stand before the groups of pointers (IGES 5.3, 2.2.4.5.2), and the
+/// places of pointers among them, from 1: of those that are followed, and of those that are cut (own).
+#[derive(Drop)]
+pub struct Own {
+    pub count: usize,
+    pub pointers: ItemList<usize>,
+    pub cut: ItemList<usize>,
+}
+
+impl Model for Own {
+    ghost use Rattle.entry_references.specs.Layout.{Own as OwnValues};
+
+    ghost Value = { OwnValues };
+
+    ghost view = { λ own. record { count = own.count; pointers = own.pointers; cut = own.cut } };
+}
+
+impl Own {
+    /// So many own values without a pointer.
+    pub fn plain(alloc: Global, count: usize) -> Own
+        ensures { result ≡ record { count = count; pointers = []; cut = [] } }
+    {
+        Own {
+            count,
+            pointers: ItemList::new(alloc),
+            cut: ItemList::new(alloc),
+        }
+    }
+
+    /// So many own values with pointers in these places.
+    pub fn with_pointers(alloc: Global, count: usize, pointers: ItemList<usize>) -> Own
+        ensures { result ≡ record { count = count; pointers = pointers; cut = [] } }
+    {
+        Own {
+            count,
+            pointers,
+            cut: ItemList::new(alloc),
+        }
+    }
+
+    /// The own values, where pointers may stand in all places of pointers.
+    pub fn checked(self, values: &Values) -> Option<Own>
+        ensures { result ≡ if list_all (λ k. is_pointer (value_at values.now k)) (self.pointers ++ self.cut) then Some self else None }
+    {
+        if !are_pointers(values, self.pointers.as_slice()) {
+            return None;
+        }
+        if !are_pointers(values, self.cut.as_slice()) {
+            return None;
+        }
+        Some(self)
+    }
+}
+
+/// These places.
+pub fn places(alloc: Global, listed: &[usize]) -> Result<ItemList<usize>, NoMemory>
+    ensures { IfOk result (λ list. list ≡ listed.now) }
+{
+    let mut list = ItemList::new(alloc);
+    'listed: for place in listed {
+        list.push(*place)?;
+    }
+    Ok(list)
+}
+
+/// So many places, one behind the other.
+pub fn places_from(alloc: Global, first: usize, count: usize) -> Result<ItemList<usize>, NoMemory>
+    requires { first + count < 2 ^ 64 }
+    ensures { IfOk result (λ list. list ≡ range_with_len first count) }
+{
+    let mut list = ItemList::new(alloc);
+    'count: for i in 0..count {
+        list.push(first + i)?;
+    }
+    Ok(list)
+}

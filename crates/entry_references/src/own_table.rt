@@ -1,0 +1,125 @@
+//! The own values of a record whose type is in the table.
+
+ghost use Rattle.entry_references.specs.Layout.{own_in, fixed};
+ghost use Rattle.entry_references.specs.Rows.{layout_of_row};
+ghost use Rattle.entry_references.specs.declared.layout.Layout.TheVariants.{CompositeCurve, CopiousData, SplineCurve, Point, RationalCurve, RationalSurface};
+ghost use Rattle.iges_fields.specs.declared.TheConstants.{FILE_LIMIT};
+ghost use Rattle.std.specs.Prelude.{◌≡◌, ◌+◌, ◌*◌, ◌≤◌, ◌==◌, IfOk, length, if◌then◌else◌};
+
+use crate::layout::Layout;
+use crate::own::{Own, places, places_from};
+use crate::place::{choice_in, count_in};
+use iges_fields::{NoMemory, Values};
+use std::alloc::Global;
+
+fn with_fixed(
+    alloc: Global,
+    values: &Values,
+    count: usize,
+    pointers: &[usize],
+) -> Result<Option<Own>, NoMemory>
+    ensures { IfOk result (λ own. own ≡ own_in (fixed count pointers.now) values.now) }
+{
+    let own = Own::with_pointers(alloc, count, places(alloc, pointers)?);
+    Ok(own.checked(values))
+}
+
+fn of_composite_curve(alloc: Global, values: &Values) -> Result<Option<Own>, NoMemory>
+    requires { length values.now ≤ FILE_LIMIT }
+    ensures { IfOk result (λ own. own ≡ own_in (layout_of_row CompositeCurve) values.now) }
+{
+    let Some(curves) = count_in(values, 1) else {
+        return Ok(None);
+    };
+    let own = Own::with_pointers(alloc, 1 + curves, places_from(alloc, 2, curves)?);
+    Ok(own.checked(values))
+}
+
+// How many values tell so many points: those of a choice of 1 share a coordinate, and those of 3 have a direction each.
+fn point_values(choice: usize, points: usize) -> usize
+    requires { points ≤ FILE_LIMIT }
+    ensures is { result ≡ if choice == 1 then 1 + 2 * points else (if choice == 2 then 3 * points else 6 * points) }
+    ensures few { result ≤ 1 + 6 * points }
+{
+    match choice {
+        1 => 1 + 2 * points,
+        2 => 3 * points,
+        _ => 6 * points,
+    }
+}
+
+fn of_copious_data(alloc: Global, values: &Values) -> Option<Own>
+    requires { length values.now ≤ FILE_LIMIT }
+    ensures { result ≡ own_in (layout_of_row CopiousData) values.now }
+{
+    let choice = choice_in(values, 1)?;
+    let points = count_in(values, 2)?;
+    Some(Own::plain(alloc, 2 + point_values(choice, points)))
+}
+
+fn of_spline_curve(alloc: Global, values: &Values) -> Option<Own>
+    requires { length values.now ≤ FILE_LIMIT }
+    ensures { result ≡ own_in (layout_of_row SplineCurve) values.now }
+{
+    let segments = count_in(values, 4)?;
+    Some(Own::plain(alloc, 4 + (segments + 1) + 12 * segments + 12))
+}
+
+fn of_point(alloc: Global, values: &Values) -> Result<Option<Own>, NoMemory>
+    ensures { IfOk result (λ own. own ≡ own_in (layout_of_row Point) values.now) }
+{
+    let mut own = Own::plain(alloc, 4);
+    own.cut.push(4)?;
+    Ok(own.checked(values))
+}
+
+fn of_rational_curve(alloc: Global, values: &Values) -> Option<Own>
+    requires { length values.now ≤ FILE_LIMIT }
+    ensures { result ≡ own_in (layout_of_row RationalCurve) values.now }
+{
+    let upper = count_in(values, 1)?;
+    let degree = count_in(values, 2)?;
+    Some(Own::plain(alloc, 6 + (upper + degree + 2) + 4 * (upper + 1) + 5))
+}
+
+fn surface_values(uppers: (usize, usize), degrees: (usize, usize)) -> usize
+    requires first { uppers.0 ≤ FILE_LIMIT }
+    requires second { uppers.1 ≤ FILE_LIMIT }
+    requires first_degree { degrees.0 ≤ FILE_LIMIT }
+    requires second_degree { degrees.1 ≤ FILE_LIMIT }
+    ensures { result ≡ 9 + (uppers.0 + degrees.0 + 2) + (uppers.1 + degrees.1 + 2) + 4 * (uppers.0 + 1) * (uppers.1 + 1) + 4 }
+{
+    let knots = (uppers.0 + degrees.0 + 2) + (uppers.1 + degrees.1 + 2);
+    9 + knots + 4 * (uppers.0 + 1) * (uppers.1 + 1) + 4
+}
+
+fn of_rational_surface(alloc: Global, values: &Values) -> Option<Own>
+    requires { length values.now ≤ FILE_LIMIT }
+    ensures { result ≡ own_in (layout_of_row RationalSurface) values.now }
+{
+    let first = count_in(values, 1)?;
+    let second = count_in(values, 2)?;
+    let first_degree = count_in(values, 3)?;
+    let second_degree = count_in(values, 4)?;
+    Some(Own::plain(
+        alloc,
+        surface_values((first, second), (first_degree, second_degree)),
+    ))
+}
+
+/// The own values by a layout; None where the record doesn't stand by it (own). Each count is at most the number of
+/// values, so that no product passes 64 bits.
+pub fn own_in(alloc: Global, layout: Layout, values: &Values) -> Result<Option<Own>, NoMemory>
+    requires { length values.now ≤ FILE_LIMIT }
+    ensures { IfOk result (λ own. own ≡ own_in (layout_of_row layout) values.now) }
+{
+    match layout {
+        Layout::Fixed(count, pointers) => with_fixed(alloc, values, count, pointers),
+        Layout::CompositeCurve => of_composite_curve(alloc, values),
+        Layout::CopiousData => Ok(of_copious_data(alloc, values)),
+        Layout::SplineCurve => Ok(of_spline_curve(alloc, values)),
+        Layout::Point => of_point(alloc, values),
+        Layout::RationalCurve => Ok(of_rational_curve(alloc, values)),
+        Layout::RationalSurface => Ok(of_rational_surface(alloc, values)),
+    }
+}

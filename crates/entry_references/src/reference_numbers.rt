@@ -1,0 +1,65 @@
+//! How the values of a record stand, and the numbers that its entry refers to.
+
+ghost use Rattle.entry_references.specs.Answered.{GivesRefs};
+ghost use Rattle.entry_references.specs.Refs.{refs};
+ghost use Rattle.entry_references.specs.Shapes.{HasShape, IsShapeFault};
+ghost use Rattle.iges_directory.specs.Bounds.{IsBounded};
+ghost use Rattle.iges_fields.specs.declared.TheConstants.{FILE_LIMIT};
+ghost use Rattle.std.specs.Prelude.{◌≤◌, IfErr, IfOk, length};
+
+use crate::fault::RefFault;
+use crate::group::{Group, second_group};
+use crate::listed::{own_of, type_of};
+use crate::numbers::{followed, name_entries, push_names};
+use crate::own::Own;
+use iges_directory::Entry;
+use iges_fields::{ItemList, Values};
+use iges_params::File;
+use std::alloc::Global;
+
+/// How the values of a record stand (own).
+#[derive(Drop)]
+pub struct Shape {
+    /// The own values.
+    pub own: Own,
+    /// The second of the groups behind them, in which names stand.
+    pub names: Group,
+}
+
+/// How the values of a record stand, or the first of the faults that they have (own).
+pub fn shape_of(alloc: Global, entry: &Entry, values: &Values) -> Result<Shape, RefFault>
+    requires { length values.now ≤ FILE_LIMIT }
+    ensures ok { IfOk result (λ shape. HasShape (entry.now, values.now) shape.own shape.names) }
+    ensures err { IfErr result (IsShapeFault (entry.now, values.now)) }
+{
+    let Some(listed) = type_of(entry) else {
+        return Err(RefFault::Unlisted);
+    };
+    let Some(own) = own_of(alloc, listed, values)? else {
+        return Err(RefFault::Layout);
+    };
+    let Some(names) = second_group(&own, values) else {
+        return Err(RefFault::Layout);
+    };
+    Ok(Shape { own, names })
+}
+
+/// The numbers that an entry refers to, as its values and fields list them, or the first of its faults (own).
+pub fn refs(
+    alloc: Global,
+    file: &File,
+    entry: &Entry,
+    values: &Values,
+) -> Result<ItemList<i64>, RefFault>
+    requires bounded { IsBounded entry.now }
+    requires few { length values.now ≤ FILE_LIMIT }
+    ensures { GivesRefs result (refs file.now (entry.now, values.now)) }
+{
+    let shape = shape_of(alloc, entry, values)?;
+    let mut numbers = followed(alloc, entry, &shape.own, values)?;
+    if !name_entries(file, &numbers) {
+        return Err(RefFault::Dangling);
+    }
+    push_names(&mut numbers, file, values, shape.names)?;
+    Ok(numbers)
+}

@@ -1,5 +1,0 @@
-use Rattle.std.proofs.Common.{◌≡◌, ◌+◌, ◌++◌, map, take}
-use Rattle.solid_extract.proofs.group_places.push_group.Given as goal
-
-abbrev pub invariant-pointers : goal.invariant-pointers
-invariant-pointers l = l.places ≡ l.fn.places ++ map (λ k. l.first + k) (take l.pointer-index l.pointers)

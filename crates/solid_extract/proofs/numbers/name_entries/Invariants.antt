@@ -1,7 +1,0 @@
-use Rattle.std.proofs.Common.{◌≡◌, drop}
-use Rattle.std.specs.List.{list_all}
-use Rattle.solid_extract.specs.Refs.{names_entry}
-use Rattle.solid_extract.proofs.numbers.name_entries.Given as goal
-
-abbrev pub invariant-numbers : goal.invariant-numbers
-invariant-numbers l = list_all (names_entry l.file) (drop l.number-index l.numbers) ≡ list_all (names_entry l.file) l.numbers

@@ -1,8 +1,0 @@
-use Rattle.solid_extract.specs.Refs.{is_name, number_of}
-use Rattle.solid_extract.proofs.NumberLists.{next_name}
-use Rattle.solid_extract.proofs.numbers.push_names.Goals as goal
-
-pub pointers-preserved : goal.pointers-preserved
-pointers-preserved c =
-    next_name (is_name c.args.file.now) number_of c.args.values.now c.args.group.before c.args.group.count c.pointers.i c.in-Some.value.now c.pointers.numbers c.push_some.new.numbers _ c.number_of.result c.if_name.result
-    c.pointers-test.true c.in-Some.ensures.value c.number_of.ensures c.if_name.ensures c.in_ok-push_some.ensures c.pointers.invariant

@@ -1,6 +1,0 @@
-use Rattle.std.proofs.Common.{◌≡◌}
-use Rattle.std.specs.List.{range_with_len}
-use Rattle.solid_extract.proofs.own.places_from.Given as goal
-
-abbrev pub invariant-count : goal.invariant-count
-invariant-count l = l.list ≡ range_with_len l.first l.i

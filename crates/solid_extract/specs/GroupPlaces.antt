@@ -1,9 +1,0 @@
--- Groups by their places.
-use Rattle.std.specs.Prelude.{ℕ, ◌+◌, List, take, drop}
-use Rattle.iges_fields.specs.declared.value.Value.{Value}
-use Rattle.solid_extract.specs.Layout.{value_at}
-use Rattle.solid_extract.specs.Refs.{Group}
-
--- a group whose count stands in a place, from 1, before so many pointers
-abbrev pub group_between : List Value → ℕ → ℕ → Group
-group_between values place count = record { count = value_at values place; pointers = take count (drop place values); rest = drop (place + count) values }
