@@ -4,6 +4,7 @@ use Rattle.std.proofs.Common.{refl, sym, ◌∙◌, ap, arith, suc-mul}
 use Rattle.std.proofs.lemmas.Option.{slice_get_within}
 use Rattle.std.proofs.lemmas.List.{drop-drop}
 use Rattle.brep_lists.specs.DueValues.{at_least_one, count}
+pub use Rattle.iges_fields.proofs.Lists.{open_at}
 use Rattle.iges_fields.specs.declared.value.Value.{Value}
 use Rattle.iges_fields.specs.declared.value.Value.TheVariants.{Default}
 use Rattle.brep_lists.specs.Record.{count_of, value_or_default, count_at}
@@ -19,11 +20,6 @@ pub value_got : (vs : List Value) (i : ℕ) → value_or_default vs i ≡ value_
 value_got [] i = refl
 value_got (v ∷ vs) zero = refl
 value_got (v ∷ vs) (suc i) = value_got vs i
-
-pub open_at : {A : Type 0} (xs : List A) (i : ℕ) (x : A) → slice_get xs i ≡ Some x → drop i xs ≡ x ∷ drop (i + 1) xs
-open_at {A} [] i x e = absurd cc
-open_at {A} (y ∷ ys) zero x e = let same : y ≡ x = cc in ap (λ z. z ∷ ys) same
-open_at {A} (y ∷ ys) (suc i) x e = open_at ys i x e ∙ (let next : suc (i + 1) ≡ suc i + 1 = omega arith in ap (λ k. x ∷ drop k (y ∷ ys)) next)
 
 pub none_at : {A : Type 0} (xs : List A) (i : ℕ) → slice_get xs i ≡ None → drop i xs ≡ []
 none_at {A} [] zero e = refl

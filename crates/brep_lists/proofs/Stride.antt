@@ -1,6 +1,7 @@
 -- Records whose items have so many values each.
 use Rattle.std.specs.Prelude.{◌≡◌, ℕ, zero, suc, ◌+◌, ◌*◌, ◌&&◌, Bool, true, false, ℤ, List, [], ◌∷◌, ◌++◌, length, map, flat_map, drop}
 use Rattle.std.proofs.Common.{refl, sym, ◌∙◌, ap, arith, append-nil}
+use Rattle.std.proofs.Math.Bool.{and-false}
 use Rattle.std.proofs.lemmas.List.{length-map}
 use Rattle.iges_fields.specs.declared.value.Value.{Value}
 use Rattle.brep_lists.specs.DueValues.{DueValue, pointer, at_least_one, count}
@@ -136,10 +137,6 @@ solid_tested (a ∷ b ∷ k ∷ vs) =
 
 -- ---- a face
 
-none_after : (a : Bool) → (a && false) ≡ false
-none_after true = refl
-none_after false = refl
-
 middle_last : (a m r : Bool) → (a && (m && false)) ≡ (m && ((a && true) && false))
 middle_last true true r = refl
 middle_last true false r = refl
@@ -155,7 +152,7 @@ middle_first false false f r s e = refl
 
 pub face_tested : (vs : List Value) → is_record_of face vs ≡ is_face vs
 face_tested [] = refl
-face_tested (a ∷ []) = none_after (passes Whole a)
+face_tested (a ∷ []) = and-false (passes Whole a)
 face_tested (a ∷ k ∷ []) =
     ap (λ m. passes Whole a && (meets (at_least_one m) k && false)) (items_length loop_read 1 (count_of k) [])
     ∙ middle_last (passes Whole a) (meets (at_least_one (count_of k)) k) true

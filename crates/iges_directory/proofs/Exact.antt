@@ -1,5 +1,5 @@
 -- The directory is read as it is defined, and so is its first fault.
-use Rattle.std.proofs.Common.{◌≡◌, inl, inr, ℕ, zero, suc, ◌+◌, ◌<◌, ◌≤◌, true, false, List, [], ◌∷◌, length, ℤ, pos, Option, Some, None, Result, Ok, Err, refl, sym, ap, subst, ◌∙◌, arith}
+use Rattle.std.proofs.Common.{◌≡◌, inl, inr, ℕ, zero, suc, ◌+◌, ◌<◌, ◌≤◌, true, false, List, [], ◌∷◌, length, ℤ, pos, Option, Some, None, Ok, Err, refl, sym, ap, subst, ◌∙◌, arith}
 use Rattle.std.specs.Prelude.{is_some, unwrap_or, IsTrue}
 use Rattle.std.specs.Char.{is_ascii_digit}
 use Rattle.std.specs.List.{list_all}
@@ -7,6 +7,7 @@ use Rattle.std.specs.Cmp.{signed_Decides}
 use Rattle.std.proofs.lemmas.Bool.{and_parts, and_from, cases_lt}
 use Rattle.iges_fields.specs.Word.{column_number}
 use Rattle.iges_fields.specs.First.{first_failing}
+use Rattle.iges_fields.proofs.Answers.{ok_is, err_is, clash}
 use Rattle.iges_fields.proofs.Items.{passes, passed}
 use Rattle.iges_lines.specs.declared.reason.Reason.{Reason}
 use Rattle.iges_lines.specs.declared.fault.LineFault.{LineFault}
@@ -168,33 +169,11 @@ past_end n (first ∷ second ∷ ds) (suc (suc j)) h = past_end n ds j (omega ar
 
 -- ---- the two laws
 
-abbrev Read : Type 0
-Read = Result (List Placed) LineFault
-
-done : List Placed → Read
-done s = Ok s
-
-failed : LineFault → Read
-failed f = Err f
-
-ok_is : (u v : List Placed) → done u ≡ done v → u ≡ v
-unfolding done
-ok_is u v e = ap (λ (r : Read). elim r as (λ _. List Placed) [ Ok x ↦ x | Err f ↦ u ]) e
-
-err_is : (f g : LineFault) → failed f ≡ failed g → f ≡ g
-unfolding failed
-err_is f g e = ap (λ (r : Read). elim r as (λ _. LineFault) [ Ok x ↦ f | Err h ↦ h ]) e
-
-clash : (f : LineFault) (s : List Placed) → failed f ≡ done s → ⊥
-unfolding failed done
-clash f s e = absurd cc
-
 module _ (s : SectionLines) where
   abbrev fault : ℕ → Option Reason
   fault = directory_fault (length s.param) s.directory
 
   by_found_ok : (o : Option (ℕ × Reason)) → first_from fault (length s.directory) 0 ≡ o → (ps : List Placed) → entries_unless s o ≡ Ok ps → AreEntries (length s.param) s.directory ps
-  unfolding done failed
   by_found_ok None e ps h =
       subst (λ (es : List Placed). AreEntries (length s.param) s.directory es) (ok_is (entries_of s.directory) ps h)
       (entries_sound (length s.param) s.directory (λ j lt. first_from-none fault (length s.directory) 0 e j (omega arith) (omega arith)))
@@ -211,7 +190,6 @@ module _ (s : SectionLines) where
       ap (entries_unless s) (first_from-faultless fault (length s.directory) 0 (λ j low high. c.1 j)) ∙ ap (λ (es : List Placed). Ok es) c.0
 
   by_found_err : (o : Option (ℕ × Reason)) → first_from fault (length s.directory) 0 ≡ o → (f : LineFault) → entries_unless s o ≡ Err f → IsDirectoryFault s f
-  unfolding done failed
   by_found_err None e f h = absurd (clash f (entries_of s.directory) (sym h))
   by_found_err (Some x) e f h =
       let t = first_from-some fault (length s.directory) 0 x e in

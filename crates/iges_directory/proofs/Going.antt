@@ -3,8 +3,10 @@ use Rattle.std.proofs.Common.{◌≡◌, inl, inr, ℕ, zero, suc, ◌+◌, ◌-
 use Rattle.std.specs.Prelude.{slice_get, IfOk}
 use Rattle.std.proofs.lemmas.Bool.{cases_order}
 use Rattle.std.proofs.lemmas.List.{append-nil, drop_all}
+use Rattle.std.proofs.lemmas.Option.{none-some}
 use Rattle.iges_fields.specs.InLine.{is_in_line}
 use Rattle.iges_fields.specs.First.{first_failing}
+use Rattle.iges_fields.proofs.Lists.{open_at}
 use Rattle.iges_lines.specs.declared.reason.Reason.TheVariants.{Unpaired}
 use Rattle.iges_lines.specs.declared.fault.PassFault.{PassFault}
 use Rattle.iges_lines.specs.declared.fault.PassFault.TheVariants as faults
@@ -28,18 +30,10 @@ Lines = List (List ℕ)
 
 -- ---- two lines of many
 
-drop_at_place : {X : Type 0} (xs : List X) (i : ℕ) (x : X) → Some x ≡ slice_get xs i → drop i xs ≡ x ∷ drop (i + 1) xs
-drop_at_place [] i x e = absurd (none x e)
-  where
-    none : {Y : Type 0} (y : Y) → Some y ≡ None → ⊥
-    none y e = absurd cc
-drop_at_place (y ∷ xs) zero x e = cc
-drop_at_place (y ∷ xs) (suc i) x e = let n : suc (i + 1) ≡ suc i + 1 = omega arith in drop_at_place xs i x e ∙ ap (λ (k : ℕ). x ∷ drop k (y ∷ xs)) n
-
 two_lines : (ds : Lines) (i : ℕ) (first second : List ℕ) → Some first ≡ slice_get ds (2 * i) → Some second ≡ slice_get ds (2 * i + 1) → drop (2 * i) ds ≡ first ∷ second ∷ drop (2 * (i + 1)) ds
 two_lines ds i first second e f =
     let n : 2 * i + 1 + 1 ≡ 2 * (i + 1) = omega arith in
-    drop_at_place ds (2 * i) first e ∙ ap (λ (xs : Lines). first ∷ xs) (drop_at_place ds (2 * i + 1) second f ∙ ap (λ (k : ℕ). second ∷ drop k ds) n)
+    open_at ds (2 * i) first (sym e) ∙ ap (λ (xs : Lines). first ∷ xs) (open_at ds (2 * i + 1) second (sym f) ∙ ap (λ (k : ℕ). second ∷ drop k ds) n)
 
 fault_behind : (n i j : ℕ) (ds : Lines) → 2 * i ≤ length ds → directory_fault n ds (2 * i + j) ≡ directory_fault n (drop (2 * i) ds) j
 fault_behind n zero j ds h = ap (directory_fault n ds) (omega arith)
@@ -63,18 +57,12 @@ pub record IsRead (s : SectionLines) (i : ℕ) (es : List Placed) : Type 0 where
 pub read_none : (s : SectionLines) (es : List Placed) → es ≡ [] → IsRead s 0 es
 read_none s es e =
     subst (λ (xs : List Placed). IsRead s 0 xs) (sym e)
-    (record { within = omega arith; passed = λ j h. absurd (omega arith); entries_are = refl; count = refl; bounded = λ k p h. absurd (no_item p h) })
-  where
-    no_item : (p : Placed) → None ≡ Some p → ⊥
-    no_item p h = absurd cc
+    (record { within = omega arith; passed = λ j h. absurd (omega arith); entries_are = refl; count = refl; bounded = λ k p h. absurd (none-some p h) })
 
 all_bounded : (es : List Placed) (p : Placed) → ((k : ℕ) (q : Placed) → slice_get es k ≡ Some q → IsBounded q.entry) → IsBounded p.entry
     → (k : ℕ) (q : Placed) → slice_get (es ++ p ∷ []) k ≡ Some q → IsBounded q.entry
 all_bounded [] p h b zero q e = let same : p ≡ q = cc in subst (λ (x : Placed). IsBounded x.entry) same b
-all_bounded [] p h b (suc k) q e = absurd (no_item q e)
-  where
-    no_item : (q : Placed) → None ≡ Some q → ⊥
-    no_item q e = absurd cc
+all_bounded [] p h b (suc k) q e = absurd (none-some q e)
 all_bounded (x ∷ es) p h b zero q e = h 0 q e
 all_bounded (x ∷ es) p h b (suc k) q e = all_bounded es p (λ j r f. h (suc j) r f) b k q e
 

@@ -1,48 +1,31 @@
 -- A number in columns is no longer than they are.
-use Rattle.std.proofs.Common.{◌≡◌, ℕ, zero, suc, ◌-◌, ◌*◌, ◌^◌, ◌<◌, ◌≤◌, Bool, true, false, cond, not, List, [], ◌∷◌, ◌++◌, length, take, drop, ℤ, pos, negsuc, Option, Some, None, refl, sym, ap, subst, ◌∙◌, arith, length-append}
+use Rattle.std.proofs.Common.{◌≡◌, ℕ, zero, suc, ◌-◌, ◌*◌, ◌^◌, ◌<◌, ◌≤◌, Bool, true, false, cond, not, List, [], ◌∷◌, length, drop, ℤ, pos, negsuc, Option, Some, None, refl, sym, ap, subst, ◌∙◌, arith}
 use Rattle.std.specs.Prelude.{◌==◌, nat_le, slice_index, neg_ℤ, IsTrue, IfSome}
-use Rattle.std.specs.Char.{is_ascii_digit, digit_value}
+use Rattle.std.specs.Char.{is_ascii_digit}
 use Rattle.std.specs.List.{list_all}
-use Rattle.std.specs.Str.Parse.{AllDigits, digits_value, signed_digits_value, without_leading_plus, without_leading_sign, starts_with_minus}
-use Rattle.std.proofs.lemmas.Bool.{and_parts, and_from, cond-true, cond-false, le-leb, leb-true}
+use Rattle.std.specs.Str.Parse.{digits_value, signed_digits_value, without_leading_plus, without_leading_sign, starts_with_minus}
+use Rattle.std.proofs.lemmas.Bool.{and_parts, and_from, cond-true, cond-false, le-leb}
 use Rattle.std.proofs.lemmas.Int.{to_z-of_z}
+use Rattle.std.proofs.lemmas.List.{length-drop}
+use Rattle.std.proofs.lemmas.Option.{same_Some}
 use mir.Val.{SFits, of_z, to_z}
 use mir.Syntax.{w64}
 use Rattle.std.proofs.lemmas.Int.Digits.{digits_value-lt}
-use Rattle.std.proofs.lemmas.Str.{digit_value_digit}
 use Rattle.std.proofs.Math.Nat.{one-le-pow, pow-le-pow_right}
-use Rattle.iges_fields.specs.Word.{is_empty, spaces, trim, are_digits, is_integer, integer, column_number}
-use Rattle.iges_fields.proofs.Lists.{trim-is}
+use Rattle.iges_fields.specs.Word.{is_empty, trim, are_digits, is_integer, integer, column_number}
+use Rattle.iges_fields.proofs.Eight.{all_digits}
+use Rattle.iges_fields.proofs.Lists.{trim_shorter}
+use Rattle.iges_fields.proofs.Words.{integer_is}
 use Rattle.iges_directory.specs.Bounds.{fits_columns, IsBounded}
 use Rattle.iges_directory.specs.declared.entry.Placed.{Placed}
 use Rattle.iges_directory.specs.Entries.{field, Holds, IsEntry}
 use Rattle.iges_fields.specs.InLine.{is_in_line}
-use Rattle.iges_lines.proofs.InLines.{columns_in_line}
-
-number_word : (word : List ℕ) (z : ℤ) → integer word ≡ Some z → is_integer word ≡ true
-number_word word z e = by_test (is_integer word) refl
-  where
-    by_test : (b : Bool) → is_integer word ≡ b → is_integer word ≡ true
-    by_test true t = t
-    by_test false t = let no : None ≡ Some z = sym (cond-false (is_integer word) _ _ t) ∙ e in absurd cc
+use Rattle.iges_lines.proofs.InLines.{columns_in_line, columns_short}
 
 -- ---- numbers in columns
 
-digit_small : (c : ℕ) → is_ascii_digit c ≡ true → digit_value c < 10
-digit_small c h = let p = and_parts (nat_le 48 c) (nat_le c 57) h in omega (arith, digit_value_digit c (leb-true 48 c p.0, leb-true c 57 p.1), leb-true c 57 p.1)
-
 pow_pos_10 : (k : ℕ) → 0 < 10 ^ k
 pow_pos_10 k = one-le-pow k 10 (omega arith)
-
-all_digits : (w : List ℕ) → list_all is_ascii_digit w ≡ true → AllDigits 10 w
-all_digits [] h = tt
-all_digits (c ∷ w) h = let p = and_parts (is_ascii_digit c) (list_all is_ascii_digit w) h in (digit_small c p.0, all_digits w p.1)
-
-trim_shorter : (text : List ℕ) → length (trim text) ≤ length text
-trim_shorter text =
-    let t = trim-is text in
-    let l : length text ≡ length (spaces t.0 ++ trim text ++ spaces t.1) = ap length t.2 in
-    omega (arith, l, length-append (spaces t.0 ++ trim text) (spaces t.1), length-append (spaces t.0) (trim text))
 
 -- a number of at most this many digits, one fewer behind a minus
 abbrev Within : ℕ → ℤ → Type 0
@@ -52,11 +35,6 @@ Within k (negsuc n) = suc n < 10 ^ k
 negative_within : (k m : ℕ) → m < 10 ^ k → Within k (neg_ℤ (pos m))
 negative_within k zero h = pow_pos_10 (suc k)
 negative_within k (suc m) h = h
-
-drop_shorter : (n : ℕ) (l : List ℕ) → length (drop n l) ≤ length l
-drop_shorter zero l = omega arith
-drop_shorter (suc n) [] = omega arith
-drop_shorter (suc n) (b ∷ l) = omega (arith, drop_shorter n l)
 
 digits_short : (w : List ℕ) (k : ℕ) → are_digits w ≡ true → length w ≤ k → digits_value 10 w < 10 ^ k
 digits_short w k h le =
@@ -77,24 +55,20 @@ word_within k w h le = by_sign (starts_with_minus w) refl
         one_less (b ∷ x) a = omega (arith, a)
     by_sign false e =
         let r : (without_leading_sign w) ≡ without_leading_plus w = cond-false (starts_with_minus w) (drop 1 w) (without_leading_plus w) e in
-        let l : length (without_leading_sign w) ≤ suc k = subst (λ (x : List ℕ). length x ≤ suc k) (sym r) (omega (arith, le, drop_shorter (cond (slice_index w 0 == 43) 1 0) w)) in
+        let l : length (without_leading_sign w) ≤ suc k = subst (λ (x : List ℕ). length x ≤ suc k) (sym r) (omega (arith, le, length-drop (cond (slice_index w 0 == 43) 1 0) w)) in
         subst (Within k) (sym (cond-false (starts_with_minus w) (neg_ℤ (pos (digits_value 10 (without_leading_sign w)))) (pos (digits_value 10 (without_leading_sign w))) e)) (digits_short (without_leading_sign w) (suc k) h l)
-
-some_is : (y z : ℤ) → Some y ≡ Some z → y ≡ z
-some_is y z e = ap (λ (o : Option ℤ). elim o as (λ _. ℤ) [ Some x ↦ x | None ↦ y ]) e
 
 pub number_within : (k : ℕ) (field : List ℕ) (z : ℤ) → length field ≤ suc k → column_number field ≡ Some z → Within k z
 number_within k field z le e = by_empty (is_empty (trim field)) refl
   where
     by_empty : (b : Bool) → is_empty (trim field) ≡ b → Within k z
     by_empty true t =
-        let same : pos 0 ≡ z = some_is (pos 0) z (sym (cond-true (is_empty (trim field)) (Some (pos 0)) (integer (trim field)) t) ∙ e) in
+        let same : pos 0 ≡ z = same_Some (pos 0) z (sym (cond-true (is_empty (trim field)) (Some (pos 0)) (integer (trim field)) t) ∙ e) in
         subst (Within k) same (pow_pos_10 (suc k))
     by_empty false t =
         let is : integer (trim field) ≡ Some z = sym (cond-false (is_empty (trim field)) (Some (pos 0)) (integer (trim field)) t) ∙ e in
-        let i : is_integer (trim field) ≡ true = number_word (trim field) z is in
-        let same : signed_digits_value 10 (trim field) ≡ z = some_is (signed_digits_value 10 (trim field)) z (sym (cond-true (is_integer (trim field)) (Some (signed_digits_value 10 (trim field))) None i) ∙ is) in
-        subst (Within k) same (word_within k (trim field) i (omega (arith, le, trim_shorter field)))
+        let i = integer_is (trim field) z is in
+        subst (Within k) i.1 (word_within k (trim field) i.0 (omega (arith, le, trim_shorter field)))
 
 within_fits : (z : ℤ) → Within 7 z → fits_columns z ≡ true
 within_fits (pos n) h = let low : n < 100000000 = h in le-leb n 99999999 (omega (arith, low))
@@ -104,14 +78,9 @@ within_fits (negsuc n) h = let low : suc n < 10000000 = h in and_from (nat_le n 
 pub column_fits : (field : List ℕ) (z : ℤ) → length field ≤ 8 → column_number field ≡ Some z → fits_columns z ≡ true
 column_fits field z le e = within_fits z (number_within 7 field z le e)
 
-take_short : (n : ℕ) (l : List ℕ) → length (take n l) ≤ n
-take_short zero l = omega arith
-take_short (suc n) [] = omega arith
-take_short (suc n) (b ∷ l) = omega (arith, take_short n l)
-
 -- a field has at most eight bytes
 pub field_short : (k : ℕ) (line : List ℕ) → length (field k line) ≤ 8
-field_short k line = omega (arith, take_short (8 * k - (8 * k - 7 - 1)) (drop (8 * k - 7 - 1) line))
+field_short k line = omega (arith, columns_short (8 * k - 7) (8 * k) line)
 
 pub some_fits : (field : List ℕ) (o : Option ℤ) → length field ≤ 8 → o ≡ column_number field → IfSome o (λ z. IsTrue (fits_columns z))
 some_fits field None le e = tt

@@ -4,7 +4,6 @@ use Rattle.std.specs.Prelude.{IfSome, IsTrue, slice_get, option_copied, nat_lt, 
 use Rattle.std.specs.List.{list_all, AllZip}
 use Rattle.std.proofs.lemmas.Bool.{and_from, and_parts, lt-ltb}
 use Rattle.std.proofs.lemmas.List.Elements.{All-get_or}
-use Rattle.std.proofs.lemmas.List.Folds.{list_all-append}
 use Rattle.std.proofs.lemmas.List.Sums.{AllPass-from_list_all}
 use Rattle.std.proofs.lemmas.Option.{get_or_from_slice_get, slice_get_within}
 use Rattle.iges_fields.specs.declared.value.Value.{Value}
@@ -13,10 +12,11 @@ use Rattle.iges_fields.specs.Delims.{Delims}
 use Rattle.iges_fields.specs.FreeText.{Spells, IsItem, FreeText, delimited}
 use Rattle.iges_fields.specs.InLine.{is_in_line, stays_in_line, is_value}
 use Rattle.iges_fields.specs.Word.{is_real, spaces}
+use Rattle.iges_fields.proofs.Lists.{list_all-parts, list_all-both}
 
 -- ---- what is got of a list
 
-slice_get-all : {X : Type 0} (p : X → Bool) (xs : List X) (i : ℕ) (x : X) → slice_get xs i ≡ Some x → list_all p xs ≡ true → p x ≡ true
+pub slice_get-all : {X : Type 0} (p : X → Bool) (xs : List X) (i : ℕ) (x : X) → slice_get xs i ≡ Some x → list_all p xs ≡ true → p x ≡ true
 slice_get-all {X} p xs i x is all =
     subst (λ (y : X). p y ≡ true) (get_or_from_slice_get xs i x x is) (All-get_or (λ (y : X). p y ≡ true) xs i x (slice_get_within xs i x is) (AllPass-from_list_all p xs all))
 
@@ -27,7 +27,10 @@ got_value values i (Some v) is all = slice_get-all is_value values i v.now (sym 
 -- ---- parts of a text
 
 pub front_in_line : (front rest : List ℕ) → is_in_line (front ++ rest) ≡ true → (is_in_line front ≡ true) × (is_in_line rest ≡ true)
-front_in_line front rest h = and_parts (is_in_line front) (is_in_line rest) (sym (list_all-append _ front rest) ∙ h)
+front_in_line front rest h = list_all-parts (λ b. not (b == 10)) front rest h
+
+pub both_in_line : (front rest : List ℕ) → is_in_line front ≡ true → is_in_line rest ≡ true → is_in_line (front ++ rest) ≡ true
+both_in_line front rest h k = list_all-both (λ b. not (b == 10)) front rest h k
 
 spelled_in_line : (v : Value) (word : List ℕ) → Spells v word → is_in_line word ≡ true → stays_in_line v ≡ true
 spelled_in_line value.Default word s h = refl

@@ -4,7 +4,7 @@ use Rattle.std.specs.Prelude.{count_by, ◌==◌}
 use Rattle.std.specs.Char.{is_ascii_digit}
 use Rattle.std.specs.List.{list_all, prefix_len}
 use Rattle.std.specs.Str.Parse.{digits_value, without_leading_sign, without_leading_plus}
-use Rattle.std.proofs.lemmas.Bool.{and_parts, or_cases, or_left, cases_Bool, cond-false, both_ways, ne_eqb, not-true, and_right}
+use Rattle.std.proofs.lemmas.Bool.{and_parts, or_cases, cases_Bool, cond-false, both_ways, ne_eqb, not-true, and_right}
 use Rattle.std.proofs.lemmas.List.{append-nil, take_all, take-append-drop, take-take}
 use Rattle.std.proofs.lemmas.List.Folds.{length-prefix_len}
 use Rattle.iges_fields.specs.declared.mantissa.Mantissa.{Mantissa}
@@ -16,7 +16,7 @@ use Rattle.iges_fields.proofs.Lists.{prefix_len-pass, prefix_len-stop, trim-word
 use Rattle.iges_fields.proofs.Mantissas.{count_point, mantissa_bytes, point_no_digit}
 use Rattle.iges_fields.proofs.Steps.{begins_is, no_digits, no_byte_behind, no_H_behind, text_front_from}
 use Rattle.iges_fields.proofs.Words.{digit_is_not, list_all-implies, mantissa_byte, number_byte_no_space, number_byte_no_stop}
-use Rattle.iges_fields.proofs.WordKinds.{only_digits}
+use Rattle.iges_fields.proofs.WordKinds.{digit_mantissa, only_digits}
 
 -- ---- fronts
 
@@ -101,9 +101,6 @@ module _ (body : List ℕ) (m : Mantissa) (is : IsMantissa body m) where
   behind_none : prefix_len is_mantissa_byte (drop m.len body) ≡ 0
   behind_none =
       omega (arith, is.len, long, prefix_len-over is_mantissa_byte (take m.len body) (drop m.len body) (mantissa_bytes body m is), ap (prefix_len is_mantissa_byte) (take-append-drop m.len body))
-
-  digit_mantissa : (b : ℕ) → is_ascii_digit b ≡ true → is_mantissa_byte b ≡ true
-  digit_mantissa b e = or_left (is_ascii_digit b) (is_point b) e
 
   digits_front : m.points ≡ 0 → m.len ≡ prefix_len is_ascii_digit body
   digits_front none =

@@ -5,6 +5,7 @@ use Rattle.std.specs.Char.{is_ascii_digit}
 use Rattle.std.specs.List.{list_all, list_any}
 use Rattle.std.specs.Str.Parse.{digits_value, without_leading_sign}
 use Rattle.std.proofs.lemmas.Bool.{and_parts, and_from, and_left, and_right, or_left, or_right, or_cases, cases_Bool, both_ways, eqb-true, false_from_ne_true, not-true, not_from_true, not_from_false, cond-true, cond-false, le-leb}
+use Rattle.std.proofs.Math.Seq.{drop-cons}
 use Rattle.std.proofs.lemmas.List.{drop_all, drop_at, take_all, take-append-drop, take_rest}
 use Rattle.std.proofs.lemmas.List.Folds.{length-prefix_len, list_all-append}
 use Rattle.iges_fields.specs.declared.mantissa.Mantissa.{Mantissa}
@@ -25,7 +26,7 @@ no_exponent b = not (is_exponent_letter b)
 mantissa_no_letter : (b : ℕ) → is_mantissa_byte b ≡ true → no_exponent b ≡ true
 mantissa_no_letter b e = elim (or_cases (is_ascii_digit b) (is_point b) e) [ inl h ↦ no_letter b h | inr h ↦ subst (λ (x : ℕ). no_exponent x ≡ true) (sym (eqb-true b 46 h)) refl ]
 
-digit_mantissa : (b : ℕ) → is_ascii_digit b ≡ true → is_mantissa_byte b ≡ true
+pub digit_mantissa : (b : ℕ) → is_ascii_digit b ≡ true → is_mantissa_byte b ≡ true
 digit_mantissa b e = or_left (is_ascii_digit b) (is_point b) e
 
 no_points : (ds : List ℕ) → list_all is_ascii_digit ds ≡ true → count_by is_point ds ≡ 0
@@ -153,12 +154,8 @@ module _ (word : List ℕ) where
     abbrev power : List ℕ
     power = take (length behind - 1) (drop 1 behind)
 
-    cons : (xs : List ℕ) → 1 ≤ length xs → xs ≡ get_or xs 0 0 ∷ drop 1 xs
-    cons [] h = absurd (omega arith)
-    cons (x ∷ xs) h = refl
-
     behind-cons : behind ≡ first ∷ power
-    behind-cons = cons behind some ∙ ap (λ (t : List ℕ). first ∷ t) (sym (take_rest behind 1))
+    behind-cons = drop-cons behind 0 0 (omega (arith, some)) ∙ ap (λ (t : List ℕ). first ∷ t) (sym (take_rest behind 1))
 
     split : v ≡ take m.len v ++ first ∷ power
     split = sym (take-append-drop m.len v) ∙ ap (λ (t : List ℕ). take m.len v ++ t) (sym behind-is ∙ behind-cons)

@@ -1,6 +1,7 @@
 -- Sections are read as they are defined, and so is the first fault.
-use Rattle.std.proofs.Common.{◌≡◌, inl, inr, ℕ, ◌+◌, ◌≤◌, List, length, Option, Some, None, Result, Ok, Err, refl, sym, ap, subst, ◌∙◌, arith}
+use Rattle.std.proofs.Common.{◌≡◌, inl, inr, ℕ, ◌+◌, ◌≤◌, List, length, Option, Some, None, Ok, Err, refl, sym, ap, subst, ◌∙◌, arith}
 use Rattle.std.proofs.lemmas.Bool.{cases_lt}
+use Rattle.iges_fields.proofs.Answers.{ok_is, err_is, clash}
 use Rattle.iges_lines.specs.declared.reason.Reason.{Reason}
 use Rattle.iges_lines.specs.declared.fault.LineFault.{LineFault}
 use Rattle.iges_lines.specs.Lines.{SectionLines, lines}
@@ -10,27 +11,6 @@ use Rattle.iges_lines.specs.Reading.{first_from, sections_unless, read_sections}
 use Rattle.iges_lines.proofs.First.{first_from-none, first_from-some, first_from-faultless, first_from-at}
 use Rattle.iges_lines.proofs.Walk.{faultless_sectioned, sectioned_faultless, fault_of_end, sections_of-AreSectioned}
 
-abbrev Read : Type 0
-Read = Result SectionLines LineFault
-
-done : SectionLines → Read
-done s = Ok s
-
-failed : LineFault → Read
-failed f = Err f
-
-ok_is : (u v : SectionLines) → done u ≡ done v → u ≡ v
-unfolding done
-ok_is u v e = ap (λ (r : Read). elim r as (λ _. SectionLines) [ Ok x ↦ x | Err f ↦ u ]) e
-
-err_is : (f g : LineFault) → failed f ≡ failed g → f ≡ g
-unfolding failed
-err_is f g e = ap (λ (r : Read). elim r as (λ _. LineFault) [ Ok x ↦ f | Err h ↦ h ]) e
-
-clash : (f : LineFault) (s : SectionLines) → failed f ≡ done s → ⊥
-unfolding failed done
-clash f s e = absurd cc
-
 module _ (bytes : List ℕ) where
   abbrev ls : List (List ℕ)
   ls = lines bytes
@@ -39,7 +19,6 @@ module _ (bytes : List ℕ) where
   found = first_from (line_fault (lines bytes)) (length (lines bytes) + 1) 0
 
   by_found_ok : (o : Option (ℕ × Reason)) → found ≡ o → (s : SectionLines) → sections_unless ls o ≡ Ok s → IsSectioned bytes s
-  unfolding done failed
   by_found_ok None e s h =
       let all = faultless_sectioned ls (λ j le. first_from-none (line_fault ls) (length ls + 1) 0 e j (omega arith) (omega arith)) in
       subst (λ (t : SectionLines). AreSectioned ls t) (ok_is (sections_of ls) s h) all
@@ -56,7 +35,6 @@ module _ (bytes : List ℕ) where
       ∙ ap (λ (t : SectionLines). Ok t) (sections_of-AreSectioned ls s h)
 
   by_found_err : (o : Option (ℕ × Reason)) → found ≡ o → (f : LineFault) → sections_unless ls o ≡ Err f → IsLineFault bytes f
-  unfolding done failed
   by_found_err None e f h = absurd (clash f (sections_of ls) (sym h))
   by_found_err (Some x) e f h =
       let t = first_from-some (line_fault ls) (length ls + 1) 0 x e in

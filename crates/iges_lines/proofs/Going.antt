@@ -1,6 +1,7 @@
 -- One line after the other is the reading of the sections.
 use Rattle.std.proofs.Common.{◌≡◌, inl, inr, ℕ, ◌+◌, ◌<◌, ◌≤◌, Bool, true, false, cond, ◌||◌, List, [], ◌∷◌, ◌++◌, length, Some, None, Result, Ok, Err, refl, sym, ap, subst, ◌∙◌, append_assoc, arith, length-append}
 use Rattle.std.specs.Prelude.{◌==◌}
+use Rattle.std.proofs.Math.Bool.{or-false}
 use Rattle.std.proofs.lemmas.Bool.{cases_order, ne_eqb, eqb-true}
 use Rattle.std.proofs.lemmas.List.{append-nil}
 use Rattle.std.proofs.lemmas.List.Elements.{filter-append}
@@ -23,7 +24,7 @@ use Rattle.iges_lines.specs.Reading.{sections_unless, read_sections}
 use Rattle.iges_lines.specs.Sectioned.{is_blank}
 use Rattle.iges_lines.proofs.Exact.{read_sections-IsLineFault}
 use Rattle.iges_lines.proofs.First.{first_from-faultless, first_from-at}
-use Rattle.iges_lines.proofs.Walk.{blank_letter, fault_at_line, fault_past}
+use Rattle.iges_lines.proofs.Walk.{record_of, all_four, blank_letter, fault_at_line, fault_past}
 
 abbrev Lines : Type 0
 Lines = List (List ℕ)
@@ -36,12 +37,6 @@ one_more x b t before l is e =
 
 not_more : (x b : ℕ) (before : Lines) (l : List ℕ) → letter l ≡ b → (b == x) ≡ false → of_letter x (before ++ l ∷ []) ≡ of_letter x before
 not_more x b before l is e = one_more x b false before l is e ∙ append-nil (of_letter x before)
-
-abbrev record_of : Lines → Lines → Lines → Lines → SectionLines
-record_of a b c d = record { start = a; global = b; directory = c; param = d }
-
-all_four : {a b c d a' b' c' d' : Lines} → a ≡ a' → b ≡ b' → c ≡ c' → d ≡ d' → record_of a b c d ≡ record_of a' b' c' d'
-all_four {a} {b} {c} {d} {a'} {b'} {c'} {d'} p q r t = ap (λ (x : Lines). record_of x b c d) p ∙ ap (λ (x : Lines). record_of a' x c d) q ∙ ap (λ (x : Lines). record_of a' b' x d) r ∙ ap (λ (x : Lines). record_of a' b' c' x) t
 
 with_line : (k : Kind) (before : Lines) (l : List ℕ) → IsKind k (letter l) → sections_of (before ++ l ∷ []) ≡ added (sections_of before) k l
 with_line kind.Start before l e = all_four (one_more 83 83 true before l e refl) (not_more 71 83 before l e refl) (not_more 68 83 before l e refl) (not_more 80 83 before l e refl)
@@ -63,10 +58,6 @@ last_is kind.Other b e = ne_eqb b 84 e.4
 
 ended_with : (before : Lines) (l : List ℕ) (t : Bool) → is_terminated before ≡ t → is_terminated (before ++ l ∷ []) ≡ (t || (letter l == 84 || false))
 ended_with before l t e = list_any-append (λ y. letter y == 84) before (l ∷ []) ∙ ap (λ (u : Bool). u || (letter l == 84 || false)) e
-
-or_none : (a : Bool) → (a || false) ≡ a
-or_none true = refl
-or_none false = refl
 
 -- a blank line is of no section
 blank_line : (before : Lines) (l : List ℕ) → is_blank l ≡ true → sections_of (before ++ l ∷ []) ≡ sections_of before
@@ -120,7 +111,7 @@ module _ (bytes rest : List ℕ) (n : ℕ) (s : SectionLines) (t : Bool) (gone :
       )
   added_by line new now false e none h = (
     h.2 ∙ ap (λ (x : SectionLines). added x h.0 line) gone.sections_are ∙ sym (with_line h.0 gone.before line h.1),
-    h.3 ∙ sym (last_is h.0 (letter line) h.1) ∙ sym (or_none (letter line == 84)) ∙ sym (ended_with gone.before line false (sym gone.terminated ∙ e)),
+    h.3 ∙ sym (last_is h.0 (letter line) h.1) ∙ sym (or-false (letter line == 84)) ∙ sym (ended_with gone.before line false (sym gone.terminated ∙ e)),
   )
 
   passed_more : (line : List ℕ) (more : Lines) → lines rest ≡ line ∷ more → None ≡ first_failing (tests_behind t s line) → (j : ℕ) → j < length (gone.before ++ line ∷ []) → line_fault (lines bytes) j ≡ None

@@ -1,10 +1,12 @@
 -- Lines hold no LF, and all of them together no more bytes than the text has.
-use Rattle.std.proofs.Common.{◌≡◌, ℕ, zero, suc, ◌+◌, ◌-◌, ◌≤◌, Bool, true, false, not, List, [], ◌∷◌, ◌++◌, length, take, drop, map, refl, sym, ap, subst, ◌∙◌, arith}
+use Rattle.std.proofs.Common.{◌≡◌, ℕ, suc, ◌+◌, ◌-◌, ◌≤◌, Bool, true, false, not, List, [], ◌∷◌, length, take, drop, map, refl, sym, ap, subst, ◌∙◌, arith}
 use Rattle.std.specs.Prelude.{◌==◌, slice_index}
 use Rattle.std.specs.List.{AllByRecursion}
 use Rattle.std.specs.Str.Lines.{strip_carriage_return}
-use Rattle.std.proofs.lemmas.Bool.{and_parts, and_from, cond-true, cond-false}
+use Rattle.std.proofs.lemmas.Bool.{and_from, cond-true, cond-false}
+use Rattle.std.proofs.lemmas.List.{length-take}
 use Rattle.iges_fields.specs.InLine.{is_in_line}
+use Rattle.iges_fields.proofs.Lists.{list_all-take, list_all-drop}
 use Rattle.iges_lines.specs.Lines.{columns, pieces, cut, before_pieces, lines}
 
 -- ---- the pieces have no LF
@@ -27,24 +29,17 @@ pieces_in_line : (bytes : List ℕ) → InLines (pieces bytes)
 pieces_in_line [] = tt
 pieces_in_line (b ∷ bytes) = cut_in_line b (pieces bytes) (pieces_in_line bytes)
 
-pub take_in_line : (n : ℕ) (l : List ℕ) → is_in_line l ≡ true → is_in_line (take n l) ≡ true
-take_in_line zero l h = refl
-take_in_line (suc n) [] h = refl
-take_in_line (suc n) (b ∷ l) h = let p = and_parts (not (b == 10)) (is_in_line l) h in and_from (not (b == 10)) (is_in_line (take n l)) p.0 (take_in_line n l p.1)
-
-pub drop_in_line : (n : ℕ) (l : List ℕ) → is_in_line l ≡ true → is_in_line (drop n l) ≡ true
-drop_in_line zero l h = h
-drop_in_line (suc n) [] h = refl
-drop_in_line (suc n) (b ∷ l) h = drop_in_line n l (and_parts (not (b == 10)) (is_in_line l) h).1
-
 pub columns_in_line : (a b : ℕ) (l : List ℕ) → is_in_line l ≡ true → is_in_line (columns a b l) ≡ true
-columns_in_line a b l h = take_in_line (b - (a - 1)) (drop (a - 1) l) (drop_in_line (a - 1) l h)
+columns_in_line a b l h = list_all-take (λ c. not (c == 10)) (b - (a - 1)) (drop (a - 1) l) (list_all-drop (λ c. not (c == 10)) (a - 1) l h)
+
+pub columns_short : (a b : ℕ) (l : List ℕ) → length (columns a b l) ≤ b - (a - 1)
+columns_short a b l = omega (arith, length-take (b - (a - 1)) (drop (a - 1) l))
 
 strip_in_line : (l : List ℕ) → is_in_line l ≡ true → is_in_line (strip_carriage_return l) ≡ true
 strip_in_line l h = by_test (slice_index l (length l - 1) == 13) refl
   where
     by_test : (t : Bool) → (slice_index l (length l - 1) == 13) ≡ t → is_in_line (strip_carriage_return l) ≡ true
-    by_test true e = ap is_in_line (cond-true (slice_index l (length l - 1) == 13) (take (length l - 1) l) l e) ∙ take_in_line (length l - 1) l h
+    by_test true e = ap is_in_line (cond-true (slice_index l (length l - 1) == 13) (take (length l - 1) l) l e) ∙ list_all-take (λ c. not (c == 10)) (length l - 1) l h
     by_test false e = ap is_in_line (cond-false (slice_index l (length l - 1) == 13) (take (length l - 1) l) l e) ∙ h
 
 strips_in_line : (ls : List (List ℕ)) → InLines ls → InLines (map strip_carriage_return ls)
@@ -53,13 +48,6 @@ strips_in_line (l ∷ ls) h = (strip_in_line l h.0, strips_in_line ls h.1)
 
 pub lines_in_line : (bytes : List ℕ) → InLines (lines bytes)
 lines_in_line bytes = strips_in_line (pieces bytes) (pieces_in_line bytes)
-
-pub in_line_append : (xs ys : List ℕ) → is_in_line (xs ++ ys) ≡ true → (is_in_line xs ≡ true) × (is_in_line ys ≡ true)
-in_line_append [] ys h = (refl, h)
-in_line_append (b ∷ xs) ys h =
-    let p = and_parts (not (b == 10)) (is_in_line (xs ++ ys)) h in
-    let q = in_line_append xs ys p.1 in
-    (and_from (not (b == 10)) (is_in_line xs) p.0 q.0, q.1)
 
 -- ---- how long the lines are together
 
@@ -82,21 +70,11 @@ pieces_size : (bytes : List ℕ) → size (pieces bytes) ≤ length bytes
 pieces_size [] = omega arith
 pieces_size (b ∷ bytes) = omega (arith, cut_size b (pieces bytes), pieces_size bytes)
 
-take_shorter : (n : ℕ) (l : List ℕ) → length (take n l) ≤ length l
-take_shorter zero l = omega arith
-take_shorter (suc n) [] = omega arith
-take_shorter (suc n) (b ∷ l) = omega (arith, take_shorter n l)
-
-take_short : (n : ℕ) (l : List ℕ) → length (take n l) ≤ n
-take_short zero l = omega arith
-take_short (suc n) [] = omega arith
-take_short (suc n) (b ∷ l) = omega (arith, take_short n l)
-
 strip_shorter : (l : List ℕ) → length (strip_carriage_return l) ≤ length l
 strip_shorter l = by_test (slice_index l (length l - 1) == 13) refl
   where
     by_test : (t : Bool) → (slice_index l (length l - 1) == 13) ≡ t → length (strip_carriage_return l) ≤ length l
-    by_test true e = let s : length (strip_carriage_return l) ≡ length (take (length l - 1) l) = ap length (cond-true (slice_index l (length l - 1) == 13) (take (length l - 1) l) l e) in omega (arith, s, take_shorter (length l - 1) l)
+    by_test true e = let s : length (strip_carriage_return l) ≡ length (take (length l - 1) l) = ap length (cond-true (slice_index l (length l - 1) == 13) (take (length l - 1) l) l e) in omega (arith, s, length-take (length l - 1) l)
     by_test false e = let s : length (strip_carriage_return l) ≡ length l = ap length (cond-false (slice_index l (length l - 1) == 13) (take (length l - 1) l) l e) in omega (arith, s)
 
 strips_size : (ls : List (List ℕ)) → size (map strip_carriage_return ls) ≤ size ls

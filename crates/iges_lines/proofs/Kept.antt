@@ -1,11 +1,12 @@
 -- What is known of the sections of a file, and of each of their lines.
-use Rattle.std.proofs.Common.{◌≡◌, ℕ, zero, suc, ◌+◌, ◌*◌, ◌≤◌, true, List, [], ◌∷◌, ◌++◌, length, Option, Some, None, refl, sym, ap, ◌∙◌, arith, length-append, Bor}
+use Rattle.std.proofs.Common.{◌≡◌, ℕ, ◌+◌, ◌*◌, ◌≤◌, true, List, [], ◌∷◌, ◌++◌, length, Option, Some, None, refl, sym, ap, ◌∙◌, arith, length-append, Bor}
 use Rattle.std.specs.Prelude.{slice_get, option_copied, IfSome, IsTrue}
 use Rattle.std.specs.List.{AllByRecursion, enumerate_from, list_all}
-use Rattle.std.proofs.lemmas.Bool.{and_parts, and_from}
-use Rattle.std.proofs.lemmas.List.Folds.{list_all-append}
+use Rattle.std.proofs.lemmas.Bool.{and_from}
 use Rattle.iges_fields.specs.InLine.{is_in_line}
 use Rattle.iges_fields.specs.declared.TheConstants.{FILE_LIMIT}
+use Rattle.iges_fields.proofs.InLines.{slice_get-all}
+use Rattle.iges_fields.proofs.Lists.{list_all-parts}
 use Rattle.iges_lines.specs.Lines.{SectionLines, joined, lines}
 use Rattle.iges_lines.specs.Sectioned.{IsNumbered, IsSectioned, AreSections}
 use Rattle.iges_lines.proofs.InLines.{size, lines_in_line, lines_size}
@@ -29,9 +30,6 @@ all_in_line : (ls : Lines) → AllByRecursion (λ l. is_in_line l ≡ true) ls �
 all_in_line [] h = refl
 all_in_line (l ∷ ls) h = and_from (is_in_line l) (list_all is_in_line ls) h.0 (all_in_line ls h.1)
 
-both_in_line : (xs ys : Lines) → list_all is_in_line (xs ++ ys) ≡ true → (list_all is_in_line xs ≡ true) × (list_all is_in_line ys ≡ true)
-both_in_line xs ys h = and_parts (list_all is_in_line xs) (list_all is_in_line ys) (sym (list_all-append is_in_line xs ys) ∙ h)
-
 -- ---- the sections
 
 pub sections_kept : (bytes : List ℕ) (s : SectionLines) → length bytes ≤ FILE_LIMIT → IsSectioned bytes s → AreSections s
@@ -44,7 +42,7 @@ sections_kept bytes s limit h =
       global = h.global;
       directory = h.directory;
       param = h.param;
-      in_line = (both_in_line (joined s) (h.last ∷ h.after) (ap (list_all is_in_line) (sym h.whole) ∙ all_in_line (lines bytes) (lines_in_line bytes))).0;
+      in_line = (list_all-parts is_in_line (joined s) (h.last ∷ h.after) (ap (list_all is_in_line) (sym h.whole) ∙ all_in_line (lines bytes) (lines_in_line bytes))).0;
       within = omega (
         arith,
         limit,
@@ -65,27 +63,22 @@ sections_kept bytes s limit h =
 
 -- ---- a line of a section
 
-at_in_line : (xs : Lines) (i : ℕ) (l : List ℕ) → Some l ≡ slice_get xs i → list_all is_in_line xs ≡ true → is_in_line l ≡ true
-at_in_line [] i l e h = absurd cc
-at_in_line (x ∷ xs) zero l e h = let same : l ≡ x = cc in ap is_in_line same ∙ (and_parts (is_in_line x) (list_all is_in_line xs) h).0
-at_in_line (x ∷ xs) (suc i) l e h = at_in_line xs i l e (and_parts (is_in_line x) (list_all is_in_line xs) h).1
-
 some_in_line : (o : Option (Bor (List ℕ))) (xs : Lines) (i : ℕ) → option_copied o ≡ slice_get xs i → list_all is_in_line xs ≡ true → IfSome o (λ line. IsTrue (is_in_line line.now))
 some_in_line None xs i e h = tt
-some_in_line (Some line) xs i e h = at_in_line xs i line.now e h
+some_in_line (Some line) xs i e h = slice_get-all is_in_line xs i line.now (sym e) h
 
 module _ (s : SectionLines) (kept : AreSections s) (o : Option (Bor (List ℕ))) (i : ℕ) where
   upper : list_all is_in_line (s.start ++ s.global ++ s.directory) ≡ true
-  upper = (both_in_line (s.start ++ s.global ++ s.directory) s.param kept.in_line).0
+  upper = (list_all-parts is_in_line (s.start ++ s.global ++ s.directory) s.param kept.in_line).0
 
   pub start_in_line : option_copied o ≡ slice_get s.start i → IfSome o (λ line. IsTrue (is_in_line line.now))
-  start_in_line e = some_in_line o s.start i e (both_in_line s.start s.global (both_in_line (s.start ++ s.global) s.directory upper).0).0
+  start_in_line e = some_in_line o s.start i e (list_all-parts is_in_line s.start s.global (list_all-parts is_in_line (s.start ++ s.global) s.directory upper).0).0
 
   pub global_in_line : option_copied o ≡ slice_get s.global i → IfSome o (λ line. IsTrue (is_in_line line.now))
-  global_in_line e = some_in_line o s.global i e (both_in_line s.start s.global (both_in_line (s.start ++ s.global) s.directory upper).0).1
+  global_in_line e = some_in_line o s.global i e (list_all-parts is_in_line s.start s.global (list_all-parts is_in_line (s.start ++ s.global) s.directory upper).0).1
 
   pub directory_in_line : option_copied o ≡ slice_get s.directory i → IfSome o (λ line. IsTrue (is_in_line line.now))
-  directory_in_line e = some_in_line o s.directory i e (both_in_line (s.start ++ s.global) s.directory upper).1
+  directory_in_line e = some_in_line o s.directory i e (list_all-parts is_in_line (s.start ++ s.global) s.directory upper).1
 
   pub param_in_line : option_copied o ≡ slice_get s.param i → IfSome o (λ line. IsTrue (is_in_line line.now))
-  param_in_line e = some_in_line o s.param i e (both_in_line (s.start ++ s.global ++ s.directory) s.param kept.in_line).1
+  param_in_line e = some_in_line o s.param i e (list_all-parts is_in_line (s.start ++ s.global ++ s.directory) s.param kept.in_line).1

@@ -52,8 +52,11 @@ push : (x k n : ℕ) (ls : Lines) (l : List ℕ) → Numbered x k ls → n ≡ k
 push x k n [] l h is new = (subst (λ (m : ℕ). IsNumbered x m l) (is ∙ omega arith) new, tt)
 push x k n (a ∷ ls) l h is new = (h.0, push x (k + 1) n ls l h.1 (omega (arith, is)) new)
 
-abbrev record_of : Lines → Lines → Lines → Lines → SectionLines
+abbrev pub record_of : Lines → Lines → Lines → Lines → SectionLines
 record_of a b c d = record { start = a; global = b; directory = c; param = d }
+
+pub all_four : {a b c d a' b' c' d' : Lines} → a ≡ a' → b ≡ b' → c ≡ c' → d ≡ d' → record_of a b c d ≡ record_of a' b' c' d'
+all_four {a} {b} {c} {d} {a'} {b'} {c'} {d'} p q r t = ap (λ (x : Lines). record_of x b c d) p ∙ ap (λ (x : Lines). record_of a' x c d) q ∙ ap (λ (x : Lines). record_of a' b' x d) r ∙ ap (λ (x : Lines). record_of a' b' c' x) t
 
 -- four numbered sections
 record Sections (s : SectionLines) : Type 0 where
@@ -80,10 +83,7 @@ sections_of-joined s h =
     let c : of_letter 68 (joined s) ≡ s.directory = of_joined 68 s ∙ four _ _ _ _ [] [] s.directory [] (of_other 83 68 1 s.start refl h.start) (of_other 71 68 1 s.global refl h.global) (of_same 68 1 s.directory h.directory) (of_other 80 68 1 s.param refl h.param)
     ∙ append-nil s.directory in
     let d : of_letter 80 (joined s) ≡ s.param = of_joined 80 s ∙ four _ _ _ _ [] [] [] s.param (of_other 83 80 1 s.start refl h.start) (of_other 71 80 1 s.global refl h.global) (of_other 68 80 1 s.directory refl h.directory) (of_same 80 1 s.param h.param) in
-    made a b c d
-  where
-    made : {a b c d : Lines} → a ≡ s.start → b ≡ s.global → c ≡ s.directory → d ≡ s.param → record_of a b c d ≡ s
-    made {a} {b} {c} {d} p q r t = ap (λ (x : Lines). record_of x b c d) p ∙ ap (λ (x : Lines). record_of s.start x c d) q ∙ ap (λ (x : Lines). record_of s.start s.global x d) r ∙ ap (λ (x : Lines). record_of s.start s.global s.directory x) t
+    all_four a b c d
 
 no_T : (x k : ℕ) (ls : Lines) → (x == 84) ≡ false → Numbered x k ls → is_terminated ls ≡ false
 no_T x k [] ne h = refl
@@ -529,9 +529,6 @@ sections_of-AreSectioned ls s h =
     ap sections_of h.whole
     ∙ all_four (behind 83 refl refl refl refl) (behind 71 refl refl refl refl) (behind 68 refl refl refl refl) (behind 80 refl refl refl refl)
     ∙ sections_of-joined s sec
-  where
-    all_four : {a b c d a' b' c' d' : Lines} → a ≡ a' → b ≡ b' → c ≡ c' → d ≡ d' → record_of a b c d ≡ record_of a' b' c' d'
-    all_four {a} {b} {c} {d} {a'} {b'} {c'} {d'} p q r t = ap (λ (x : Lines). record_of x b c d) p ∙ ap (λ (x : Lines). record_of a' x c d) q ∙ ap (λ (x : Lines). record_of a' b' x d) r ∙ ap (λ (x : Lines). record_of a' b' c' x) t
 
 -- ---- faults by place
 

@@ -2,16 +2,14 @@
 use Rattle.std.proofs.Common.{◌≡◌, ℕ, zero, suc, ◌≤◌, Bool, true, false, List, [], ◌∷◌, ◌++◌, length, drop, Option, Some, None, refl, sym, ap, subst, ◌∙◌, arith, append_assoc, length-append}
 use Rattle.std.specs.Prelude.{codes, nat_eq, nat_lt, if◌then◌else◌, ◌&&◌, slice_index}
 use Rattle.std.specs.List.{starts_with}
+use Rattle.std.proofs.lemmas.Option.{same_Some}
 use Rattle.iges_fields.specs.Delims.{are_permitted}
 use Rattle.iges_fields.specs.FreeText.{begins_with}
 use Rattle.iges_fields.specs.InLine.{is_in_line}
 use Rattle.iges_fields.specs.Word.{spaces, after_spaces}
+use Rattle.iges_fields.proofs.InLines.{front_in_line}
 use Rattle.iges_fields.proofs.Lists.{after_spaces-is}
-use Rattle.iges_lines.proofs.InLines.{in_line_append}
 use Rattle.iges_params.specs.Global.{Head, delimiter_at, behind_byte, head_end, head_with, head_start, any_head, if_permitted, head}
-
-text_is : (a b : List ℕ) → Some a ≡ Some b → a ≡ b
-text_is a b e = cc
 
 -- a text without some bytes at its front
 abbrev Behind : List ℕ → List ℕ → Type 0
@@ -42,7 +40,7 @@ byte_behind : (b : ℕ) (text rest : List ℕ) → behind_byte b text ≡ Some r
 byte_behind b text rest e = by_test (begins_with (nat_eq b) (after_spaces text)) e
   where
     by_test : (t : Bool) → (if t then Some (drop 1 (after_spaces text)) else None) ≡ Some rest → Behind text rest
-    by_test true k = behind_trans text (after_spaces text) rest (behind_spaces text) (subst (Behind (after_spaces text)) (text_is (drop 1 (after_spaces text)) rest k) (behind_drop 1 (after_spaces text)))
+    by_test true k = behind_trans text (after_spaces text) rest (behind_spaces text) (subst (Behind (after_spaces text)) (same_Some (drop 1 (after_spaces text)) rest k) (behind_drop 1 (after_spaces text)))
     by_test false k = absurd cc
 
 abbrev ValuesBehind : List ℕ → Option Head → Type 0
@@ -60,7 +58,7 @@ with_behind p text = by_two (behind_byte p r.1) (behind_byte r.0 r.1) refl
     r = delimiter_at 59 text
 
     by_two : (a b : Option (List ℕ)) → behind_byte p (delimiter_at 59 text).1 ≡ a → ValuesBehind text (head_end p (delimiter_at 59 text).0 a b)
-    by_two (Some vs) b e = λ rest same. behind_trans text (delimiter_at 59 text).1 rest (delimiter_behind 59 text) (subst (Behind (delimiter_at 59 text).1) (text_is vs rest same) (byte_behind p (delimiter_at 59 text).1 vs e))
+    by_two (Some vs) b e = λ rest same. behind_trans text (delimiter_at 59 text).1 rest (delimiter_behind 59 text) (subst (Behind (delimiter_at 59 text).1) (same_Some vs rest same) (byte_behind p (delimiter_at 59 text).1 vs e))
     by_two None (Some comment) e = λ rest same. absurd (let no : None ≡ Some rest = same in cc)
     by_two None None e = tt
 
@@ -87,7 +85,7 @@ pub head_behind : (text : List ℕ) (h : Head) (rest : List ℕ) → head text �
 head_behind text h rest e v = let all : ValuesBehind text (Some h) = subst (ValuesBehind text) (permitted_is (any_head text) h e) (start_behind text) in all rest v
 
 pub behind_in_line : (text rest : List ℕ) → Behind text rest → is_in_line text ≡ true → is_in_line rest ≡ true
-behind_in_line text rest (front, is) h = (in_line_append front rest (subst (λ x. is_in_line x ≡ true) is h)).1
+behind_in_line text rest (front, is) h = (front_in_line front rest (subst (λ x. is_in_line x ≡ true) is h)).1
 
 pub behind_length : (text rest : List ℕ) → Behind text rest → length rest ≤ length text
 behind_length text rest (front, is) = let l : length text ≡ length (front ++ rest) = ap length is in omega (arith, l, length-append front rest)

@@ -1,6 +1,7 @@
 -- The global is read as it is defined, and so is its fault.
 use Rattle.std.proofs.Common.{◌≡◌, ◌⊎◌, inl, inr, ℕ, ◌+◌, ◌-◌, true, false, List, [], length, Option, Some, None, Result, Ok, Err, refl, sym, ap, subst, ◌∙◌}
 use Rattle.std.proofs.lemmas.Bool.{cases_Bool, cond-true, cond-false}
+use Rattle.std.proofs.lemmas.Option.{same_Some}
 use Rattle.iges_fields.specs.declared.value.Value.{Value}
 use Rattle.iges_fields.specs.declared.fault.FieldFault.{FieldFault}
 use Rattle.iges_fields.specs.Delims.{Delims, are_permitted}
@@ -20,12 +21,9 @@ if_permitted-is : (o : Option Head) (h : Head) → if_permitted o ≡ Some h →
 if_permitted-is None h e = absurd cc
 if_permitted-is (Some x) h e =
     elim (cases_Bool (are_permitted x.delims)) [
-      | inl t ↦ let same : Some x ≡ Some h = sym (cond-true (are_permitted x.delims) (Some x) None t) ∙ e in subst (λ (y : Head). are_permitted y.delims ≡ true) (some_is x h same) t
+      | inl t ↦ let same : Some x ≡ Some h = sym (cond-true (are_permitted x.delims) (Some x) None t) ∙ e in subst (λ (y : Head). are_permitted y.delims ≡ true) (same_Some x h same) t
       | inr t ↦ let no : None ≡ Some h = sym (cond-false (are_permitted x.delims) (Some x) None t) ∙ e in absurd cc
     ]
-  where
-    some_is : (u v : Head) → Some u ≡ Some v → u ≡ v
-    some_is u v e = ap (λ (o : Option Head). elim o as (λ _. Head) [ Some y ↦ y | None ↦ u ]) e
 
 pub permitted : (text : List ℕ) (h : Head) → head text ≡ Some h → are_permitted h.delims ≡ true
 permitted text h e = if_permitted-is (any_head text) h e

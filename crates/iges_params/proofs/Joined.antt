@@ -1,11 +1,9 @@
 -- Columns of lines that follow each other, joined.
-use Rattle.std.proofs.Common.{◌≡◌, ℕ, ◌+◌, ◌-◌, ◌<◌, true, not, List, [], ◌∷◌, ◌++◌, length, take, drop, Some, sym, ap, ◌∙◌, arith, length-drop, get_or, get_or-drop}
-use Rattle.std.specs.Prelude.{◌==◌, slice_get, slice_range, flat_map}
-use Rattle.std.proofs.lemmas.Bool.{and_parts, and_from}
+use Rattle.std.proofs.Common.{◌≡◌, ℕ, ◌+◌, ◌-◌, ◌<◌, List, [], ◌∷◌, ◌++◌, length, take, drop, Some, sym, ap, ◌∙◌, arith, length-drop, get_or, get_or-drop}
+use Rattle.std.specs.Prelude.{slice_get, slice_range, flat_map}
 use Rattle.std.proofs.lemmas.List.{take_more, append-nil}
 use Rattle.std.proofs.lemmas.Grind.{flat_map-append}
 use Rattle.std.proofs.lemmas.Option.{slice_get_within, get_or_from_slice_get}
-use Rattle.iges_fields.specs.InLine.{is_in_line}
 use Rattle.iges_lines.specs.Lines.{columns}
 
 -- one more of a range of a list
@@ -27,7 +25,3 @@ joined_more w from i ls line text e is =
     ap (flat_map (columns 1 w)) (range_more ls from i line is) ∙ flat_map-append (columns 1 w) (slice_range ls from (from + i)) (line ∷ [])
     ∙ ap (λ (t : List ℕ). flat_map (columns 1 w) (slice_range ls from (from + i)) ++ t) (append-nil (columns 1 w line))
     )
-
-pub both_in_line : (xs ys : List ℕ) → is_in_line xs ≡ true → is_in_line ys ≡ true → is_in_line (xs ++ ys) ≡ true
-both_in_line [] ys h k = k
-both_in_line (b ∷ xs) ys h k = let p = and_parts (not (b == 10)) (is_in_line xs) h in and_from (not (b == 10)) (is_in_line (xs ++ ys)) p.0 (both_in_line xs ys p.1 k)

@@ -12,6 +12,7 @@ use Rattle.iges_fields.specs.Delims.{Delims}
 use Rattle.iges_fields.specs.FreeText.{IsItem, delimited, FreeText}
 use Rattle.iges_fields.specs.Word.{column_number}
 use Rattle.iges_lines.specs.Lines.{columns}
+use Rattle.iges_lines.proofs.InLines.{columns_short}
 use Rattle.iges_directory.specs.declared.entry.Placed.{Placed}
 use Rattle.iges_params.specs.Records.{record_lines, record_text, points_back, IsRecord, HasRecord}
 
@@ -106,14 +107,6 @@ pub all_owned-last : (number n : ℕ) (ls : List (List ℕ)) → all_owned numbe
 all_owned-last number zero ls = omega (arith, ap (λ (k : ℕ). owned k ls) (let k : number + 2 * 0 ≡ number = omega arith in k))
 all_owned-last number (suc n) ls =
     omega (arith, all_owned-last (number + 2) n ls, ap (λ (k : ℕ). owned k ls) (let k : number + 2 + 2 * n ≡ number + 2 * suc n = omega arith in k))
-
-take_short : (n : ℕ) (l : List ℕ) → length (take n l) ≤ n
-take_short zero l = omega arith
-take_short (suc n) [] = omega arith
-take_short (suc n) (b ∷ l) = omega (arith, take_short n l)
-
-columns_short : (a b : ℕ) (l : List ℕ) → length (columns a b l) ≤ b - (a - 1)
-columns_short a b l = take_short (b - (a - 1)) (drop (a - 1) l)
 
 text_64 : (ls : List (List ℕ)) → length (flat_map (columns 1 64) ls) ≤ 64 * length ls
 text_64 [] = omega arith

@@ -5,6 +5,7 @@ use Rattle.std.specs.List.{AllZip, list_all, position_from}
 use Rattle.std.specs.Ordering.{int_eq}
 use Rattle.std.specs.Cmp.{signed_Decides}
 use Rattle.std.proofs.lemmas.Bool.{cases_Bool, cond-true, cond-false, and_parts, and_from, not-false, not_from_true}
+use Rattle.std.proofs.lemmas.Option.{same_Some}
 use Rattle.iges_fields.specs.declared.value.Value.{Value}
 use Rattle.iges_fields.specs.declared.value.Value.TheVariants as value
 use Rattle.iges_fields.specs.declared.fault.FieldFault.{FieldFault}
@@ -251,10 +252,7 @@ module _ (above : ℕ) (params : List (List ℕ)) (d : Delims) (ok : are_permitt
           → ((i : ℕ) (q : Placed) → i < place → slice_get ps i ≡ Some q → (vs : List Value) × HasRecord params d (2 * i + (number + 2)) q vs)
           → (i : ℕ) (q : Placed) → i < suc place → slice_get (p ∷ ps) i ≡ Some q → (vs : List Value) × HasRecord params d (2 * i + number) q vs
       earlier p ps number values h place more zero q lt is =
-          (values, subst (λ (x : Placed). HasRecord params d (2 * 0 + number) x values) (some_is p q is) (subst (λ (n : ℕ). HasRecord params d n p values) (omega arith) h))
-        where
-          some_is : (u v : Placed) → Some u ≡ Some v → u ≡ v
-          some_is u v e = ap (λ (o : Option Placed). elim o as (λ _. Placed) [ Some y ↦ y | None ↦ u ]) e
+          (values, subst (λ (x : Placed). HasRecord params d (2 * 0 + number) x values) (same_Some p q is) (subst (λ (n : ℕ). HasRecord params d n p values) (omega arith) h))
       earlier p ps number values h place more (suc i) q lt is =
           let m = more i q (omega arith) is in (m.0, subst (λ (n : ℕ). HasRecord params d n q m.0) (omega arith) m.1)
 
@@ -265,14 +263,11 @@ module _ (above : ℕ) (params : List (List ℕ)) (d : Delims) (ok : are_permitt
   unfolding read_records
   fault_read [] number place entry line f is type here line_is before = absurd cc
   fault_read (p ∷ ps) number zero entry line f is type here line_is before =
-      let same : entry ≡ p = some_is entry p (sym is) in
+      let same : entry ≡ p = same_Some entry p (sym is) in
       let t : int_eq p.entry.kind (pos 0) ≡ false = subst (λ (x : Placed). int_eq x.entry.kind (pos 0) ≡ false) same type in
       let h : RecordFault params d number p f.reason line = subst (λ (x : Placed). RecordFault params d number x f.reason line) same (subst (λ (n : ℕ). RecordFault params d n entry f.reason line) (omega arith) here) in
       let l : f.line ≡ above + unsigned_abs p.first + line = subst (λ (x : Placed). f.line ≡ above + unsigned_abs x.first + line) same line_is in
       ap (λ (r : Read (List Value)). r >>= λ values. read_records above params d (number + 2) ps >>= λ others. Ok ((p.entry, values) ∷ others)) (Faulty-read_record above params d ok number p f t (line, h, l))
-    where
-      some_is : (u v : Placed) → Some u ≡ Some v → u ≡ v
-      some_is u v e = ap (λ (o : Option Placed). elim o as (λ _. Placed) [ Some y ↦ y | None ↦ u ]) e
   fault_read (p ∷ ps) number (suc place) entry line f is type here line_is before =
       let first = before 0 p (omega arith) refl in
       let read : read_record above params d number p ≡ Ok first.0 = HasRecord-read_record above params d ok number p first.0 (subst (λ (n : ℕ). HasRecord params d n p first.0) (omega arith) first.1) in

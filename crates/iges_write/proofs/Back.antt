@@ -12,6 +12,8 @@ use Rattle.iges_fields.specs.Delims.{Delims}
 use Rattle.iges_fields.specs.Word.{spaces}
 use Rattle.iges_fields.specs.FreeText.{Spells, IsItem, delimited, FreeText}
 use Rattle.iges_fields.specs.Spelled.{spelling}
+use Rattle.iges_fields.proofs.Lists.{all_append}
+use Rattle.iges_fields.proofs.Whole.{few_items}
 use Rattle.iges_write.specs.Parts.{single_parts, word_parts, value_parts, parts}
 use Rattle.iges_write.specs.Filled.{padded, IsFilled}
 use Rattle.iges_write.specs.Filling.{fill}
@@ -182,12 +184,8 @@ pub fill-FreeText : (n : ℕ) (d : Delims) (v : Value) (values : List Value) →
 fill-FreeText n d v values some h =
     let w = written n [] d v values some (omega arith) in (
       length (delimited d (w.first ∷ w.others)),
-      record { items = w.first ∷ w.others; rest = spaces w.behind; each = items_of (w.first ∷ w.others) (v ∷ values) w.each h; parts = w.whole; length_is = refl; some = positive w.first w.others },
+      record { items = w.first ∷ w.others; rest = spaces w.behind; each = items_of (w.first ∷ w.others) (v ∷ values) w.each h; parts = w.whole; length_is = refl; some = omega (arith, few_items d (w.first ∷ w.others)) },
     )
-  where
-    positive : (item : List ℕ) (items : List (List ℕ)) → 0 < length (delimited d (item ∷ items))
-    positive item [] = omega (arith, length-append item (d.end ∷ []))
-    positive item (next ∷ items) = omega (arith, length-append item (d.param ∷ delimited d (next ∷ items)))
 
 -- and so do lines that are filled
 pub IsFilled-FreeText : (n : ℕ) (d : Delims) (v : Value) (values : List Value) (lines : List (List ℕ)) → 0 < n → AreSpelled (v ∷ values) → FitLines n (parts n d (v ∷ values))
@@ -201,10 +199,6 @@ singles_fit : (n : ℕ) (bytes : List ℕ) → 0 < n → FitLines n (single_part
 singles_fit n [] some = tt
 singles_fit n (b ∷ bytes) some = (omega arith, singles_fit n bytes some)
 
-fit_both : (n : ℕ) (ps qs : List (List ℕ)) → FitLines n ps → FitLines n qs → FitLines n (ps ++ qs)
-fit_both n [] qs h k = k
-fit_both n (p ∷ ps) qs h k = (h.0, fit_both n ps qs h.1 k)
-
 word_fits : (n : ℕ) (word : List ℕ) → 0 < n → FitLines n (word_parts n word)
 word_fits n word some =
     elim (leb_tells (length word) n) [
@@ -216,12 +210,12 @@ value_fits : (n : ℕ) (v : Value) (delimiter : ℕ) → 0 < n → FitLines n (v
 value_fits n value.Default delimiter some = word_fits n (delimiter ∷ []) some
 value_fits n (value.Int z) delimiter some = word_fits n (spelling (value.Int z) ++ delimiter ∷ []) some
 value_fits n (value.Real word) delimiter some = word_fits n (word ++ delimiter ∷ []) some
-value_fits n (value.Text text) delimiter some = fit_both n _ _ (word_fits n (decimal (length text) ++ 72 ∷ []) some) (singles_fit n (text ++ delimiter ∷ []) some)
+value_fits n (value.Text text) delimiter some = all_append (λ (p : List ℕ). length p ≤ n) _ _ (word_fits n (decimal (length text) ++ 72 ∷ []) some) (singles_fit n (text ++ delimiter ∷ []) some)
 
 pub parts_fit : (n : ℕ) (d : Delims) (values : List Value) → 0 < n → FitLines n (parts n d values)
 parts_fit n d [] some = tt
 parts_fit n d (v ∷ []) some = value_fits n v d.end some
-parts_fit n d (v ∷ w ∷ values) some = fit_both n (value_parts n v d.param) (parts n d (w ∷ values)) (value_fits n v d.param some) (parts_fit n d (w ∷ values) some)
+parts_fit n d (v ∷ w ∷ values) some = all_append (λ (p : List ℕ). length p ≤ n) (value_parts n v d.param) (parts n d (w ∷ values)) (value_fits n v d.param some) (parts_fit n d (w ∷ values) some)
 
 pub values_spelled : (values : List Value) → list_all is_value values ≡ true → AreSpelled values
 values_spelled [] h = tt

@@ -15,7 +15,7 @@ use Rattle.iges_write.specs.Filling.{record_text_lines, used_lines}
 use Rattle.iges_write.specs.Sheet.{Sheet, Both, Fails, FailsBoth, Steps, StepsBoth, put_lines, record_tail}
 use Rattle.iges_write.specs.Text.{entry_lines, first_of, has_no_record, directory_lines}
 use Rattle.iges_write.specs.Writable.{IsHeld}
-use Rattle.iges_write.proofs.Places.{drop_at_place}
+use Rattle.iges_fields.proofs.Lists.{open_at}
 use Rattle.iges_write.proofs.RecordsBack.{lines_from, owned, length-owned}
 use Rattle.iges_write.proofs.Sheets.{Grows, lines_next, lines_fail, lines_last, no_lines}
 
@@ -78,10 +78,10 @@ module _ (d : Delims) (es : Entries) where
     rest = drop (i + 1) es
 
     directory_is : directory_lines params.number (drop i es) (lines_of (drop i es)) ≡ two ++ directory_lines (params.number + length lines) rest (lines_of rest)
-    directory_is = ap (λ (xs : Entries). directory_lines params.number xs (lines_of xs)) (drop_at_place es i e at)
+    directory_is = ap (λ (xs : Entries). directory_lines params.number xs (lines_of xs)) (open_at es i e at)
 
     records_are : lines_from i (lines_of (drop i es)) ≡ owned i lines ++ lines_from (i + 1) (lines_of rest)
-    records_are = ap (λ (xs : Entries). lines_from i (lines_of xs)) (drop_at_place es i e at)
+    records_are = ap (λ (xs : Entries). lines_from i (lines_of xs)) (open_at es i e at)
 
     pub put_fails : (f : WriteFileFault) → FailsBoth f (put_lines page two) (put_lines params (owned i lines))
         → FailsBoth f (put_lines page_start (directory_lines params_start.number es (lines_of es))) (put_lines params_start (lines_from 0 (lines_of es)))

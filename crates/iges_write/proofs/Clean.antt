@@ -4,7 +4,7 @@ use Rattle.std.specs.Prelude.{◌==◌, nat_le, nat_lt}
 use Rattle.std.specs.Char.{is_ascii_digit}
 use Rattle.std.specs.Fmt.{decimal, signed_decimal}
 use Rattle.std.specs.List.{AllByRecursion, enumerate_from, list_all, concat}
-use Rattle.std.proofs.lemmas.Bool.{and_parts, and_from, cond-true, cond-false, ne_eqb, both_ways, not-true, not_from_false, ltb-true, or_left, or_right, eq-eqb}
+use Rattle.std.proofs.lemmas.Bool.{and_parts, and_from, cond-true, cond-false, ne_eqb, both_ways, not-true, not_from_false, ltb-true}
 use Rattle.std.proofs.lemmas.Bool.Decides.{leb_tells}
 use Rattle.std.proofs.lemmas.Fmt.{length-decimal-le}
 use Rattle.std.proofs.lemmas.List.{append-nil, take-append-drop, length-replicate}
@@ -14,14 +14,15 @@ use Rattle.iges_fields.specs.declared.value.Value.TheVariants as value
 use Rattle.iges_fields.specs.Word.{is_empty, spaces}
 use Rattle.iges_fields.specs.Delims.{Delims, is_delimiter, are_permitted}
 use Rattle.iges_fields.specs.FreeText.{is_delimiter_of, fits_64_bits}
-use Rattle.iges_fields.proofs.Words.{list_all-implies, is_number_byte, number_byte-passes, digit_is_not, digits_number_bytes, integer_number_bytes, real_number_bytes, stop_is_delimiter}
+use Rattle.iges_fields.proofs.Words.{list_all-implies, is_number_byte, number_byte-passes, digit_is_not, digits_number_bytes, integer_is, integer_number_bytes, real_number_bytes, stop_is_delimiter, end_stops, param_stops}
+use Rattle.iges_fields.proofs.InLines.{both_in_line}
 use Rattle.iges_fields.specs.Spelled.{spelling}
 use Rattle.iges_write.specs.Parts.{single_parts, word_parts, value_parts, parts}
 use Rattle.iges_write.specs.Filled.{padded, IsFilled}
 use Rattle.iges_write.specs.Text.{right, numbered}
 use Rattle.iges_fields.specs.InLine.{is_in_line, is_value}
 use Rattle.iges_write.proofs.Spelled.{integer-signed_decimal, decimal_digits}
-use Rattle.iges_write.proofs.Columns.{no_LF, IsLine, number_word, right-is, Are72}
+use Rattle.iges_write.proofs.Columns.{no_LF, IsLine, right-is, AreWide}
 
 -- ---- no LF
 
@@ -32,26 +33,23 @@ pub spaces_no_LF : (n : ℕ) → no_LF (spaces n) ≡ true
 spaces_no_LF zero = refl
 spaces_no_LF (suc n) = spaces_no_LF n
 
-pub both_no_LF : (xs ys : List ℕ) → no_LF xs ≡ true → no_LF ys ≡ true → no_LF (xs ++ ys) ≡ true
-both_no_LF xs ys h k = list_all-append (λ b. not (b == 10)) xs ys ∙ and_from _ _ h k
-
 pub in_line_no_LF : (xs : List ℕ) → is_in_line xs ≡ true → no_LF xs ≡ true
 in_line_no_LF xs h = h
 
 pub signed_no_LF : (z : ℤ) → fits_64_bits z ≡ true → no_LF (signed_decimal z) ≡ true
-signed_no_LF z fits = number_no_LF (signed_decimal z) (integer_number_bytes (signed_decimal z) (number_word (signed_decimal z) z (integer-signed_decimal z fits)))
+signed_no_LF z fits = number_no_LF (signed_decimal z) (integer_number_bytes (signed_decimal z) (integer_is (signed_decimal z) z (integer-signed_decimal z fits)).0)
 
 pub decimal_no_LF : (n : ℕ) → n < 2 ^ 64 → no_LF (decimal n) ≡ true
 decimal_no_LF n lt = number_no_LF (decimal n) (digits_number_bytes (decimal n) (decimal_digits n lt).0)
 
 pub right_no_LF : (n : ℕ) (text : List ℕ) → length text ≤ n → no_LF text ≡ true → no_LF (right n text) ≡ true
-right_no_LF n text le h = ap no_LF (right-is n text le) ∙ both_no_LF (spaces (n - length text)) text (spaces_no_LF (n - length text)) h
+right_no_LF n text le h = ap no_LF (right-is n text le) ∙ both_in_line (spaces (n - length text)) text (spaces_no_LF (n - length text)) h
 
 spelling_no_LF : (v : Value) → is_value v ≡ true → no_LF (spelling v) ≡ true
 spelling_no_LF value.Default ok = refl
 spelling_no_LF (value.Int z) ok = signed_no_LF z ok
 spelling_no_LF (value.Real word) ok = number_no_LF word (real_number_bytes word ok)
-spelling_no_LF (value.Text text) ok = both_no_LF (decimal (length text)) (72 ∷ text) (decimal_no_LF (length text) (ltb-true _ _ (and_parts (is_in_line text) (nat_lt (length text) (2 ^ 64)) ok).1)) (in_line_no_LF text (and_parts (is_in_line text) (nat_lt (length text) (2 ^ 64)) ok).0)
+spelling_no_LF (value.Text text) ok = both_in_line (decimal (length text)) (72 ∷ text) (decimal_no_LF (length text) (ltb-true _ _ (and_parts (is_in_line text) (nat_lt (length text) (2 ^ 64)) ok).1)) (in_line_no_LF text (and_parts (is_in_line text) (nat_lt (length text) (2 ^ 64)) ok).0)
 
 stop_no_LF : (d : Delims) → are_permitted d ≡ true → (b : ℕ) → is_delimiter_of d b ≡ true → no_LF (b ∷ []) ≡ true
 stop_no_LF d ok b e = and_from (not (b == 10)) true (not_from_false _ (ne_eqb b 10 (λ is. both_ways (is_delimiter 10) refl (subst (λ (x : ℕ). is_delimiter x ≡ true) is (stop_is_delimiter d ok b e))))) refl
@@ -85,16 +83,21 @@ AreValues values = list_all is_value values ≡ true
 
 parts_no_LF : (n : ℕ) (d : Delims) (values : List Value) → are_permitted d ≡ true → AreValues values → no_LF (concat (parts n d values)) ≡ true
 parts_no_LF n d [] ok h = refl
-parts_no_LF n d (v ∷ []) ok h = ap no_LF (concat-value n v d.end) ∙ both_no_LF (spelling v) (d.end ∷ []) (spelling_no_LF v (and_parts (is_value v) true h).0) (stop_no_LF d ok d.end (or_right (d.end == d.param) _ (eq-eqb d.end d.end refl)))
+parts_no_LF n d (v ∷ []) ok h = ap no_LF (concat-value n v d.end) ∙ both_in_line (spelling v) (d.end ∷ []) (spelling_no_LF v (and_parts (is_value v) true h).0) (stop_no_LF d ok d.end (end_stops d ok))
 parts_no_LF n d (v ∷ w ∷ values) ok h =
     ap no_LF (concat-append (value_parts n v d.param) (parts n d (w ∷ values)))
-    ∙ both_no_LF (concat (value_parts n v d.param)) (concat (parts n d (w ∷ values))) (ap no_LF (concat-value n v d.param) ∙ both_no_LF (spelling v) (d.param ∷ []) (spelling_no_LF v (and_parts (is_value v) (list_all is_value (w ∷ values)) h).0) (stop_no_LF d ok d.param (or_left (d.param == d.param) _ (eq-eqb d.param d.param refl))))
+    ∙ both_in_line (concat (value_parts n v d.param)) (concat (parts n d (w ∷ values))) (ap no_LF (concat-value n v d.param) ∙ both_in_line (spelling v) (d.param ∷ []) (spelling_no_LF v (and_parts (is_value v) (list_all is_value (w ∷ values)) h).0) (stop_no_LF d ok d.param (param_stops d ok)))
     (parts_no_LF n d (w ∷ values) ok (and_parts (is_value v) (list_all is_value (w ∷ values)) h).1)
 
 -- ---- filled lines
 
 length-padded : (n : ℕ) (text : List ℕ) → length text ≤ n → length (padded n text) ≡ n
 length-padded n text le = omega (arith, length-append text (spaces (n - length text)), length-replicate {A = ℕ} (n - length text) 32)
+
+pub filled_wide : (n : ℕ) (ps ls : List (List ℕ)) → IsFilled n ps ls → AreWide n ls
+filled_wide n ps [] f = absurd f
+filled_wide n ps (line ∷ []) f = (ap length f.1 ∙ length-padded n (concat ps) f.0, tt)
+filled_wide n ps (line ∷ next ∷ lines) f = (ap length f.6 ∙ length-padded n (concat f.0) f.4, filled_wide n (f.1 ∷ f.2) (next ∷ lines) f.7)
 
 -- a line of this width without LF
 pub record IsClean (n : ℕ) (l : List ℕ) : Type 0 where
@@ -104,12 +107,12 @@ pub record IsClean (n : ℕ) (l : List ℕ) : Type 0 where
 pub filled_clean : (n : ℕ) (ps : List (List ℕ)) (ls : List (List ℕ)) → no_LF (concat ps) ≡ true → IsFilled n ps ls → AllByRecursion (IsClean n) ls
 filled_clean n ps [] h f = absurd f
 filled_clean n ps (line ∷ []) h f =
-    (record { long = ap length f.1 ∙ length-padded n (concat ps) f.0; no_end = ap no_LF f.1 ∙ both_no_LF (concat ps) (spaces (n - length (concat ps))) h (spaces_no_LF (n - length (concat ps))) }, tt)
+    (record { long = ap length f.1 ∙ length-padded n (concat ps) f.0; no_end = ap no_LF f.1 ∙ both_in_line (concat ps) (spaces (n - length (concat ps))) h (spaces_no_LF (n - length (concat ps))) }, tt)
 filled_clean n ps (line ∷ next ∷ lines) h f =
     let run = f.0 in
     let all : no_LF (concat run ++ concat (f.1 ∷ f.2)) ≡ true = ap no_LF (sym (ap concat f.3 ∙ concat-append run (f.1 ∷ f.2))) ∙ h in
     let p = and_parts (no_LF (concat run)) (no_LF (concat (f.1 ∷ f.2))) (sym (list_all-append (λ b. not (b == 10)) (concat run) (concat (f.1 ∷ f.2))) ∙ all) in (
-      record { long = ap length f.6 ∙ length-padded n (concat run) f.4; no_end = ap no_LF f.6 ∙ both_no_LF (concat run) (spaces (n - length (concat run))) p.0 (spaces_no_LF (n - length (concat run))) },
+      record { long = ap length f.6 ∙ length-padded n (concat run) f.4; no_end = ap no_LF f.6 ∙ both_in_line (concat run) (spaces (n - length (concat run))) p.0 (spaces_no_LF (n - length (concat run))) },
       filled_clean n (f.1 ∷ f.2) (next ∷ lines) p.1 f.7,
     )
 
@@ -134,7 +137,7 @@ numbered_line section n l clean letter small =
     let field : right 7 (decimal n) ≡ (spaces (7 - length (decimal n)) ++ e.0) ++ e.1 ∷ [] =
     right-is 7 (decimal n) few ∙ ap (λ (x : List ℕ). spaces (7 - length (decimal n)) ++ x) e.2 ∙ sym (append_assoc (spaces (7 - length (decimal n))) e.0 (e.1 ∷ [])) in
     record {
-      no_end = both_no_LF l (section ∷ right 7 (decimal n)) clean (and_from (not (section == 10)) (no_LF (right 7 (decimal n))) letter (right_no_LF 7 (decimal n) few (decimal_no_LF n (omega (arith, small)))));
+      no_end = both_in_line l (section ∷ right 7 (decimal n)) clean (and_from (not (section == 10)) (no_LF (right 7 (decimal n))) letter (right_no_LF 7 (decimal n) few (decimal_no_LF n (omega (arith, small)))));
       front = l ++ section ∷ (spaces (7 - length (decimal n)) ++ e.0);
       last = e.1;
       parts = ap (λ (x : List ℕ). l ++ section ∷ x) field ∙ sym (append_assoc l (section ∷ (spaces (7 - length (decimal n)) ++ e.0)) (e.1 ∷ []));
@@ -149,6 +152,6 @@ numbered_lines section ls letter h few = from 1 ls h (omega (arith, few))
     from k [] h few = tt
     from k (x ∷ xs) h few = (numbered_line section k x h.0.no_end letter (omega (arith, few)), from (k + 1) xs h.1 (omega (arith, few)))
 
-pub clean_72 : (ls : List (List ℕ)) → AllByRecursion (IsClean 72) ls → Are72 ls
-clean_72 [] h = tt
-clean_72 (l ∷ ls) h = (h.0.long, clean_72 ls h.1)
+pub clean_wide : (n : ℕ) (ls : List (List ℕ)) → AllByRecursion (IsClean n) ls → AreWide n ls
+clean_wide n [] h = tt
+clean_wide n (l ∷ ls) h = (h.0.long, clean_wide n ls h.1)

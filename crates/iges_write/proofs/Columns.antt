@@ -1,5 +1,5 @@
 -- What stands in columns is read from them.
-use Rattle.std.proofs.Common.{◌≡◌, ℕ, zero, suc, ◌+◌, ◌-◌, ◌<◌, ◌≤◌, Bool, true, false, cond, not, List, [], ◌∷◌, ◌++◌, length, take, drop, map, ℤ, pos, negsuc, Some, None, refl, sym, ap, subst, ◌∙◌, append_assoc, arith, length-append, lit<}
+use Rattle.std.proofs.Common.{◌≡◌, ℕ, zero, suc, ◌+◌, ◌-◌, ◌<◌, ◌≤◌, Bool, true, false, cond, not, List, [], ◌∷◌, ◌++◌, length, take, drop, map, ℤ, pos, negsuc, Some, refl, sym, ap, subst, ◌∙◌, append_assoc, arith, length-append, lit<}
 use Rattle.std.specs.Prelude.{◌==◌, nat_le, slice_index, flat_map}
 use Rattle.std.specs.Fmt.{decimal, signed_decimal}
 use Rattle.std.specs.List.{AllByRecursion, enumerate_from, list_all, concat}
@@ -10,7 +10,8 @@ use Rattle.std.proofs.lemmas.List.{append-nil, take_at, drop_at, take_all, lengt
 use Rattle.iges_fields.specs.Word.{is_empty, is_space, spaces, trim, is_integer, integer, column_number}
 use Rattle.iges_fields.specs.FreeText.{fits_64_bits}
 use Rattle.iges_fields.proofs.Lists.{trim-word, has_no_space}
-use Rattle.iges_fields.proofs.Words.{list_all-implies, is_number_byte, number_byte_no_space, integer_number_bytes}
+use Rattle.iges_fields.proofs.Words.{list_all-implies, is_number_byte, number_byte_no_space, integer_is, integer_number_bytes}
+use Rattle.iges_fields.proofs.Steps.{nonempty}
 use Rattle.iges_lines.specs.Lines.{columns, pieces, cut, lines}
 use Rattle.iges_lines.specs.Sectioned.{IsNumbered, AreNumbered}
 use Rattle.iges_write.specs.Text.{right, numbered}
@@ -36,21 +37,10 @@ right_integer : (n : ℕ) (word : List ℕ) (z : ℤ) → length word ≤ n → 
 right_integer n word z le e i =
     let none : has_no_space word ≡ true = list_all-implies is_number_byte (λ b. not (is_space b)) number_byte_no_space word (integer_number_bytes word i) in
     let trimmed : trim (right n word) ≡ word = ap trim (right-is n word le ∙ sym (append-nil (spaces (n - length word) ++ word))) ∙ trim-word (n - length word) 0 word none in
-    ap (λ (w : List ℕ). cond (is_empty w) (Some (pos 0)) (integer w)) trimmed ∙ cond-false (is_empty word) _ _ (some_word word i) ∙ e
-  where
-    some_word : (w : List ℕ) → is_integer w ≡ true → is_empty w ≡ false
-    some_word [] i = absurd cc
-    some_word (b ∷ w) i = refl
-
-pub number_word : (word : List ℕ) (z : ℤ) → integer word ≡ Some z → is_integer word ≡ true
-number_word word z e = by_test (is_integer word) refl
-  where
-    by_test : (b : Bool) → is_integer word ≡ b → is_integer word ≡ true
-    by_test true t = t
-    by_test false t = let no : None ≡ Some z = sym (cond-false (is_integer word) _ _ t) ∙ e in absurd cc
+    ap (λ (w : List ℕ). cond (is_empty w) (Some (pos 0)) (integer w)) trimmed ∙ cond-false (is_empty word) _ _ (nonempty is_integer refl word i) ∙ e
 
 pub right_signed : (n : ℕ) (z : ℤ) → length (signed_decimal z) ≤ n → fits_64_bits z ≡ true → column_number (right n (signed_decimal z)) ≡ Some z
-right_signed n z le fits = let e = integer-signed_decimal z fits in right_integer n (signed_decimal z) z le e (number_word (signed_decimal z) z e)
+right_signed n z le fits = let e = integer-signed_decimal z fits in right_integer n (signed_decimal z) z le e (integer_is (signed_decimal z) z e).0
 
 small_fits : (m : ℕ) → m < 9223372036854775807 → fits_64_bits (pos m) ≡ true
 small_fits m lt = le-leb m 9223372036854775807 (omega (arith, lt))
@@ -96,9 +86,12 @@ line_numbered section n l long small =
 pub columns-front : (l rest : List ℕ) → length l ≡ 72 → columns 1 72 (l ++ rest) ≡ l
 columns-front l rest long = take_at l rest 72 long
 
--- all lines of 72 columns
+-- all lines of n columns
+abbrev pub AreWide : ℕ → List (List ℕ) → Type 0
+AreWide n ls = AllByRecursion (λ (l : List ℕ). length l ≡ n) ls
+
 abbrev pub Are72 : List (List ℕ) → Type 0
-Are72 ls = AllByRecursion (λ (l : List ℕ). length l ≡ 72) ls
+Are72 ls = AreWide 72 ls
 
 abbrev pub numbered_from : ℕ → ℕ → List (List ℕ) → List (List ℕ)
 numbered_from section k ls = map (λ (l : ℕ × List ℕ). l.1 ++ section ∷ right 7 (decimal l.0)) (enumerate_from k ls)
@@ -125,12 +118,12 @@ flat-map (l ∷ ls) = ap (λ (x : List ℕ). columns 1 72 l ++ x) (flat-map ls)
 pub text-numbered : (section : ℕ) (ls : List (List ℕ)) → Are72 ls → flat_map (columns 1 72) (numbered section ls) ≡ concat ls
 text-numbered section ls h = flat-map (numbered section ls) ∙ ap concat (columns-numbered section ls h)
 
-length-map' : (f : ℕ × List ℕ → List ℕ) (k : ℕ) (ls : List (List ℕ)) → length (map f (enumerate_from k ls)) ≡ length ls
-length-map' f k [] = refl
-length-map' f k (l ∷ ls) = ap suc (length-map' f (k + 1) ls)
+pub length-numbered_from : (section k : ℕ) (ls : List (List ℕ)) → length (numbered_from section k ls) ≡ length ls
+length-numbered_from section k [] = refl
+length-numbered_from section k (l ∷ ls) = ap suc (length-numbered_from section (k + 1) ls)
 
 pub length-numbered : (section : ℕ) (ls : List (List ℕ)) → length (numbered section ls) ≡ length ls
-length-numbered section ls = length-map' _ 1 ls
+length-numbered section ls = length-numbered_from section 1 ls
 
 -- ---- lines ended by LF
 

@@ -17,12 +17,12 @@ use Rattle.iges_directory.specs.Entries.{status_of, IsEntry, has_record, AreEntr
 use Rattle.iges_write.specs.Text.{right, column, has_no_record, first_of, directory_lines, count_field, counts_columns}
 use Rattle.iges_directory.specs.Bounds.{fits_columns}
 use Rattle.iges_write.proofs.WritableEntry.{IsWritableEntry}
-use Rattle.iges_write.proofs.Columns.{length-right, right_7, right_8, line_numbered, numbered_from}
+use Rattle.iges_write.proofs.Columns.{AreWide, length-right, right_7, right_8, line_numbered, numbered_from}
 
 -- ---- chunks of eight
 
 abbrev pub Are8 : List (List ℕ) → Type 0
-Are8 cs = AllByRecursion (λ (c : List ℕ). length c ≡ 8) cs
+Are8 cs = AreWide 8 cs
 
 drop-8 : (c rest : List ℕ) (m : ℕ) → length c ≡ 8 → drop (8 + m) (c ++ rest) ≡ drop m rest
 drop-8 c rest m is = subst (λ (k : ℕ). drop (k + m) (c ++ rest) ≡ drop m rest) is (past c)
@@ -98,18 +98,31 @@ digits_status (b ∷ s) h =
 pub small_column : (n : ℕ) → n < 10000000 → fits_columns (pos n) ≡ true
 small_column n lt = le-leb n 99999999 (omega (arith, lt))
 
+-- the nine fields of an entry's first line
+abbrev pub first_fields : Entry → ℕ → List (List ℕ)
+first_fields e first = column e.kind ∷ column (pos first) ∷ column e.structure ∷ column e.font ∷ column e.level ∷ column e.view ∷ column e.matrix ∷ column e.display ∷ e.status ∷ []
+
+abbrev pub second_fields : Entry → ℕ → List (List ℕ)
+second_fields e count = column e.kind ∷ column e.weight ∷ column e.colour ∷ column (pos count) ∷ column e.form ∷ spaces 8 ∷ spaces 8 ∷ e.label ∷ column e.subscript ∷ []
+
+pub first_eight : (e : Entry) (first : ℕ) → length e.status ≡ 8 → Are8 (first_fields e first)
+first_eight e first status = (length-column e.kind, (length-column (pos first), (length-column e.structure, (length-column e.font, (length-column e.level, (length-column e.view, (length-column e.matrix, (length-column e.display, (status, tt)))))))))
+
+pub second_eight : (e : Entry) (count : ℕ) → length e.label ≡ 8 → Are8 (second_fields e count)
+second_eight e count label = (length-column e.kind, (length-column e.weight, (length-column e.colour, (length-column (pos count), (length-column e.form, (refl, (refl, (label, (length-column e.subscript, tt)))))))))
+
 module _ (e : Entry) (vs : List Value) (w : IsWritableEntry (e, vs)) (first count : ℕ) (lf : first < 10000000) (lc : count < 10000000) (tail1 tail2 : List ℕ) where
   abbrev cs1 : List (List ℕ)
-  cs1 = column e.kind ∷ column (pos first) ∷ column e.structure ∷ column e.font ∷ column e.level ∷ column e.view ∷ column e.matrix ∷ column e.display ∷ e.status ∷ []
+  cs1 = first_fields e first
 
   abbrev cs2 : List (List ℕ)
-  cs2 = column e.kind ∷ column e.weight ∷ column e.colour ∷ column (pos count) ∷ column e.form ∷ spaces 8 ∷ spaces 8 ∷ e.label ∷ column e.subscript ∷ []
+  cs2 = second_fields e count
 
   eight1 : Are8 cs1
-  eight1 = (length-column e.kind, (length-column (pos first), (length-column e.structure, (length-column e.font, (length-column e.level, (length-column e.view, (length-column e.matrix, (length-column e.display, (w.status, tt)))))))))
+  eight1 = first_eight e first w.status
 
   eight2 : Are8 cs2
-  eight2 = (length-column e.kind, (length-column e.weight, (length-column e.colour, (length-column (pos count), (length-column e.form, (refl, (refl, (w.label, (length-column e.subscript, tt)))))))))
+  eight2 = second_eight e count w.label
 
   one : (i : ℕ) (lt : i < 9) (z : ℤ) → get_or cs1 i [] ≡ column z → fits_columns z ≡ true → column_number (take 8 (drop (8 * i) (concat cs1 ++ tail1))) ≡ Some z
   one i lt z is fits = ap column_number (chunk i cs1 tail1 eight1 lt ∙ is) ∙ right_8 z fits

@@ -11,6 +11,8 @@ use Rattle.iges_fields.specs.declared.value.Value.{Value}
 use Rattle.iges_fields.specs.declared.value.Value.TheVariants as value
 use Rattle.iges_fields.specs.Word.{spaces}
 use Rattle.iges_fields.specs.Delims.{Delims, is_delimiter, are_permitted}
+use Rattle.iges_fields.proofs.InLines.{both_in_line}
+use Rattle.iges_fields.proofs.Lists.{all_append}
 use Rattle.iges_fields.proofs.Words.{list_all-implies, digit_number_byte}
 use Rattle.iges_lines.specs.Lines.{SectionLines, joined, lines}
 use Rattle.iges_lines.specs.Sectioned.{AreSectioned}
@@ -29,53 +31,21 @@ use Rattle.iges_write.specs.Writable.{IsWritable, ReadsBack, OneText}
 use Rattle.iges_write.proofs.WritableEntry.{IsWritableEntry, writable_entries}
 use Rattle.iges_write.proofs.Filling.{IsFilled-fill, fill-is}
 use Rattle.iges_write.proofs.Back.{values_spelled, parts_fit}
-use Rattle.iges_write.proofs.Columns.{no_LF, IsLine, Are72, length-right, numbered_from, numbered-AreNumbered, columns-numbered, text-numbered, length-numbered, lines-text}
-use Rattle.iges_write.proofs.Clean.{both_no_LF, spaces_no_LF, number_no_LF, in_line_no_LF, decimal_no_LF, right_no_LF, IsClean, value_lines_clean, numbered_line, numbered_lines, clean_72}
-use Rattle.iges_write.proofs.Fields.{Are8, length-column, small_column, small_first, length-counts_columns, terminates, placed_of, total, Lined, entries_are}
+use Rattle.iges_write.proofs.Columns.{no_LF, IsLine, Are72, numbered-AreNumbered, columns-numbered, text-numbered, length-numbered, lines-text}
+use Rattle.iges_write.proofs.Clean.{spaces_no_LF, number_no_LF, in_line_no_LF, decimal_no_LF, right_no_LF, IsClean, value_lines_clean, numbered_line, numbered_lines, clean_wide}
+use Rattle.iges_write.proofs.Fields.{first_fields, second_fields, small_column, small_first, terminates, placed_of, total, Lined, entries_are}
 use Rattle.iges_write.proofs.GlobalBack.{filled_global}
+use Rattle.iges_write.proofs.Widths.{entry_72, owned_72, length-text}
 use Rattle.iges_write.proofs.RecordsBack.{kind_value, lines_from, owned, length-owned, IsMade, records_are}
 
 abbrev Lines : Type 0
 Lines = List (List ℕ)
 
--- ---- lengths
-
-append_72 : (xs ys : Lines) → Are72 xs → Are72 ys → Are72 (xs ++ ys)
-append_72 [] ys h k = k
-append_72 (x ∷ xs) ys h k = (h.0, append_72 xs ys h.1 k)
-
-append_lines : (xs ys : Lines) → AllByRecursion IsLine xs → AllByRecursion IsLine ys → AllByRecursion IsLine (xs ++ ys)
-append_lines [] ys h k = k
-append_lines (x ∷ xs) ys h k = (h.0, append_lines xs ys h.1 k)
-
-append_clean : (xs ys : Lines) → AllByRecursion (IsClean 72) xs → AllByRecursion (IsClean 72) ys → AllByRecursion (IsClean 72) (xs ++ ys)
-append_clean [] ys h k = k
-append_clean (x ∷ xs) ys h k = (h.0, append_clean xs ys h.1 k)
-
-size : Lines → ℕ
-size ls = length (flat_map (λ (l : List ℕ). l ++ 10 ∷ []) ls)
-
-size-append : (xs ys : Lines) → size (xs ++ ys) ≡ size xs + size ys
-unfolding size
-size-append [] ys = omega arith
-size-append (x ∷ xs) ys = omega (arith, size-append xs ys, length-append (x ++ 10 ∷ []) (flat_map (λ (l : List ℕ). l ++ 10 ∷ []) (xs ++ ys)), length-append (x ++ 10 ∷ []) (flat_map (λ (l : List ℕ). l ++ 10 ∷ []) xs))
-
-size-numbered : (section k : ℕ) (ls : Lines) → Are72 ls → size (numbered_from section k ls) ≡ 81 * length ls
-unfolding size
-size-numbered section k [] h = refl
-size-numbered section k (l ∷ ls) h =
-    let line = l ++ section ∷ right 7 (decimal k) in
-    omega (arith, size-numbered section (k + 1) ls h.1, length-append (line ++ 10 ∷ []) (flat_map (λ (x : List ℕ). x ++ 10 ∷ []) (numbered_from section (k + 1) ls)), length-append line (10 ∷ []), length-append l (section ∷ right 7 (decimal k)), length-right 7 (decimal k), h.0)
-
-length-concat8 : (cs : Lines) → Are8 cs → length (concat cs) ≡ 8 * length cs
-length-concat8 [] h = refl
-length-concat8 (c ∷ cs) h = omega (arith, length-concat8 cs h.1, length-append c (concat cs), h.0)
-
 -- ---- the directory's lines
 
 concat_clean : (cs : Lines) → AllByRecursion (λ (c : List ℕ). no_LF c ≡ true) cs → no_LF (concat cs) ≡ true
 concat_clean [] h = refl
-concat_clean (c ∷ cs) h = both_no_LF c (concat cs) h.0 (concat_clean cs h.1)
+concat_clean (c ∷ cs) h = both_in_line c (concat cs) h.0 (concat_clean cs h.1)
 
 column_clean : (z : ℤ) → fits_columns z ≡ true → no_LF (column z) ≡ true
 column_clean (pos m) h =
@@ -90,75 +60,51 @@ digits_clean : (s : List ℕ) → list_all is_ascii_digit s ≡ true → no_LF s
 digits_clean s h = number_no_LF s (list_all-implies is_ascii_digit _ digit_number_byte s h)
 
 module _ (e : Entry) (vs : List Value) (w : IsWritableEntry (e, vs)) (first count : ℕ) where
-  long_lines : Are72 (entry_lines e first count)
-  long_lines = (
-    length-concat8 (column e.kind ∷ column (pos first) ∷ column e.structure ∷ column e.font ∷ column e.level ∷ column e.view ∷ column e.matrix ∷ column e.display ∷ e.status ∷ [])
-        (length-column e.kind, (length-column (pos first), (length-column e.structure, (length-column e.font, (length-column e.level, (length-column e.view, (length-column e.matrix, (length-column e.display, (w.status, tt))))))))),
-    (
-      length-concat8 (column e.kind ∷ column e.weight ∷ column e.colour ∷ column (pos count) ∷ column e.form ∷ spaces 8 ∷ spaces 8 ∷ e.label ∷ column e.subscript ∷ [])
-          (length-column e.kind, (length-column e.weight, (length-column e.colour, (length-column (pos count), (length-column e.form, (refl, (refl, (w.label, (length-column e.subscript, tt))))))))),
-      tt,
-    ),
-  )
+  abbrev long_lines : Are72 (entry_lines e first count)
+  long_lines = entry_72 e first count w.status w.label
 
   clean_lines : first < 10000000 → count < 10000000 → AllByRecursion (IsClean 72) (entry_lines e first count)
   clean_lines lf lc = (
     record {
       long = long_lines.0;
-      no_end = concat_clean (column e.kind ∷ column (pos first) ∷ column e.structure ∷ column e.font ∷ column e.level ∷ column e.view ∷ column e.matrix ∷ column e.display ∷ e.status ∷ [])
+      no_end = concat_clean (first_fields e first)
           (column_clean e.kind w.bounded.kind, (column_clean (pos first) (small_column first lf), (column_clean e.structure w.bounded.structure, (column_clean e.font w.bounded.font, (column_clean e.level w.bounded.level, (column_clean e.view w.bounded.view, (column_clean e.matrix w.bounded.matrix, (column_clean e.display w.bounded.display, (digits_clean e.status w.bounded.status, tt)))))))));
     },
     (
       record {
         long = long_lines.1.0;
-        no_end = concat_clean (column e.kind ∷ column e.weight ∷ column e.colour ∷ column (pos count) ∷ column e.form ∷ spaces 8 ∷ spaces 8 ∷ e.label ∷ column e.subscript ∷ [])
+        no_end = concat_clean (second_fields e count)
             (column_clean e.kind w.bounded.kind, (column_clean e.weight w.bounded.weight, (column_clean e.colour w.bounded.colour, (column_clean (pos count) (small_column count lc), (column_clean e.form w.bounded.form, (refl, (refl, (in_line_no_LF e.label w.bounded.label, (column_clean e.subscript w.bounded.subscript, tt)))))))));
       },
       tt,
     ),
   )
 
-directory_72 : (first : ℕ) (es : List (Entry × List Value)) (rs : List Lines) → AllByRecursion IsWritableEntry es → Are72 (directory_lines first es rs)
-directory_72 first [] rs w = tt
-directory_72 first (e ∷ es) [] w = tt
-directory_72 first (e ∷ es) (r ∷ rs) w =
-    append_72 (entry_lines e.0 (first_of e.0 first) (length r)) (directory_lines (first + length r) es rs) (long_lines e.0 e.1 w.0 (first_of e.0 first) (length r)) (directory_72 (first + length r) es rs w.1)
-
 directory_clean : (first : ℕ) (es : List (Entry × List Value)) (rs : List Lines) → AllByRecursion IsWritableEntry es → first + total rs < 10000000 → AllByRecursion (IsClean 72) (directory_lines first es rs)
 directory_clean first [] rs w lt = tt
 directory_clean first (e ∷ es) [] w lt = tt
 directory_clean first (e ∷ es) (r ∷ rs) w lt =
-    append_clean (entry_lines e.0 (first_of e.0 first) (length r)) (directory_lines (first + length r) es rs)
+    all_append (IsClean 72) (entry_lines e.0 (first_of e.0 first) (length r)) (directory_lines (first + length r) es rs)
     (clean_lines e.0 e.1 w.0 (first_of e.0 first) (length r) (small_first e.0 first (omega (arith, lt))) (omega (arith, lt))) (directory_clean (first + length r) es rs w.1 (omega (arith, lt)))
 
 -- ---- the records' lines
-
-owned_72 : (i : ℕ) (r : Lines) → AllByRecursion (IsClean 64) r → Are72 (owned i r)
-owned_72 i [] h = tt
-owned_72 i (l ∷ r) h = (omega (arith, length-append l (32 ∷ right 7 (decimal (2 * i + 1))), length-right 7 (decimal (2 * i + 1)), h.0.long), owned_72 i r h.1)
 
 owned_clean : (i : ℕ) (r : Lines) → AllByRecursion (IsClean 64) r → 2 * i + 1 < 10000000 → AllByRecursion (IsClean 72) (owned i r)
 owned_clean i [] h lt = tt
 owned_clean i (l ∷ r) h lt = (
   record {
-    long = (owned_72 i (l ∷ r) h).0;
-    no_end = both_no_LF l (32 ∷ right 7 (decimal (2 * i + 1))) h.0.no_end (right_no_LF 7 (decimal (2 * i + 1)) (length-decimal-le 7 (2 * i + 1) (lit< tt) lt (omega (arith, lt))) (decimal_no_LF (2 * i + 1) (omega (arith, lt))));
+    long = (owned_72 i (l ∷ []) (h.0.long, tt)).0;
+    no_end = both_in_line l (32 ∷ right 7 (decimal (2 * i + 1))) h.0.no_end (right_no_LF 7 (decimal (2 * i + 1)) (length-decimal-le 7 (2 * i + 1) (lit< tt) lt (omega (arith, lt))) (decimal_no_LF (2 * i + 1) (omega (arith, lt))));
   },
   owned_clean i r h.1 lt,
 )
-
-params_72 : (d : Delims) (i : ℕ) (es : List (Entry × List Value)) (rs : List Lines) → AllZip (IsMade d) es rs → Are72 (lines_from i rs)
-params_72 d i [] [] m = tt
-params_72 d i [] (r ∷ rs) m = absurd m
-params_72 d i (e ∷ es) [] m = absurd m
-params_72 d i (e ∷ es) (r ∷ rs) m = append_72 (owned i r) (lines_from (i + 1) rs) (owned_72 i r m.0.clean) (params_72 d (i + 1) es rs m.1)
 
 params_clean : (d : Delims) (i : ℕ) (es : List (Entry × List Value)) (rs : List Lines) → AllZip (IsMade d) es rs → 2 * (i + length es) < 10000000 → AllByRecursion (IsClean 72) (lines_from i rs)
 params_clean d i [] [] m lt = tt
 params_clean d i [] (r ∷ rs) m lt = absurd m
 params_clean d i (e ∷ es) [] m lt = absurd m
 params_clean d i (e ∷ es) (r ∷ rs) m lt =
-    append_clean (owned i r) (lines_from (i + 1) rs) (owned_clean i r m.0.clean (omega (arith, lt))) (params_clean d (i + 1) es rs m.1 (omega (arith, lt)))
+    all_append (IsClean 72) (owned i r) (lines_from (i + 1) rs) (owned_clean i r m.0.clean (omega (arith, lt))) (params_clean d (i + 1) es rs m.1 (omega (arith, lt)))
 
 length-lines_from : (i : ℕ) (rs : List Lines) → length (lines_from i rs) ≡ total rs
 length-lines_from i [] = refl
@@ -242,15 +188,7 @@ module _ (f : Contents) (w : IsWritable f) (bytes : List ℕ) (t : IsText f byte
 
   -- the sizes
   sizes : length bytes ≡ 81 * length f.start + 81 * length t.global + 81 * length D + 81 * length P + 81
-  unfolding size
-  sizes =
-      let a = size-numbered 83 1 f.start (clean_72 f.start start_72) in
-      let b = size-numbered 71 1 t.global (clean_72 t.global global_ok) in
-      let c = size-numbered 68 1 D (directory_72 1 f.entries t.records entries_ok) in
-      let e = size-numbered 80 1 P (params_72 d 0 f.entries t.records made) in
-      let l = size-numbered 84 1 (counts ∷ []) (length-counts_columns (length f.start) (length t.global) (length D) (length P), tt) in
-      let all : length bytes ≡ size (joined secs ++ last ∷ []) = ap length t.bytes_are ∙ ap size whole_lines in
-      omega (arith, all, a, b, c, e, l, size-append (joined secs) (last ∷ []), size-append (secs.start ++ secs.global ++ secs.directory) secs.param, size-append (secs.start ++ secs.global) secs.directory, size-append secs.start secs.global)
+  sizes = length-text f bytes t (clean_wide 72 f.start start_72) w.held
 
   few : (length f.start < 9999999) × (length t.global < 9999999) × (length D < 9999999) × (length P < 9999999)
   few = let big : length bytes ≤ 164000000 = limit in (omega (arith, sizes, big), omega (arith, sizes, big), omega (arith, sizes, big), omega (arith, sizes, big))
@@ -266,10 +204,10 @@ module _ (f : Contents) (w : IsWritable f) (bytes : List ℕ) (t : IsText f byte
 
   are_lines : AllByRecursion IsLine (joined secs ++ last ∷ [])
   are_lines =
-      append_lines (joined secs) (last ∷ [])
-      (append_lines (secs.start ++ secs.global ++ secs.directory) secs.param
-      (append_lines (secs.start ++ secs.global) secs.directory
-      (append_lines secs.start secs.global (numbered_lines 83 f.start refl start_72 (omega (arith, few.0))) (numbered_lines 71 t.global refl global_ok (omega (arith, few.1))))
+      all_append IsLine (joined secs) (last ∷ [])
+      (all_append IsLine (secs.start ++ secs.global ++ secs.directory) secs.param
+      (all_append IsLine (secs.start ++ secs.global) secs.directory
+      (all_append IsLine secs.start secs.global (numbered_lines 83 f.start refl start_72 (omega (arith, few.0))) (numbered_lines 71 t.global refl global_ok (omega (arith, few.1))))
       (numbered_lines 68 D refl D_clean (omega (arith, few.2))))
       (numbered_lines 80 P refl P_clean (omega (arith, few.3))))
       (numbered_line 84 1 counts counts_clean refl (lit< tt), tt)
@@ -279,10 +217,10 @@ module _ (f : Contents) (w : IsWritable f) (bytes : List ℕ) (t : IsText f byte
 
       counts_clean : no_LF counts ≡ true
       counts_clean =
-          both_no_LF (count_field 83 (length f.start) ++ count_field 71 (length t.global) ++ count_field 68 (length D) ++ count_field 80 (length P)) (spaces 40)
-          (both_no_LF (count_field 83 (length f.start) ++ count_field 71 (length t.global) ++ count_field 68 (length D)) (count_field 80 (length P))
-          (both_no_LF (count_field 83 (length f.start) ++ count_field 71 (length t.global)) (count_field 68 (length D))
-          (both_no_LF (count_field 83 (length f.start)) (count_field 71 (length t.global)) (count_clean 83 (length f.start) refl few.0) (count_clean 71 (length t.global) refl few.1))
+          both_in_line (count_field 83 (length f.start) ++ count_field 71 (length t.global) ++ count_field 68 (length D) ++ count_field 80 (length P)) (spaces 40)
+          (both_in_line (count_field 83 (length f.start) ++ count_field 71 (length t.global) ++ count_field 68 (length D)) (count_field 80 (length P))
+          (both_in_line (count_field 83 (length f.start) ++ count_field 71 (length t.global)) (count_field 68 (length D))
+          (both_in_line (count_field 83 (length f.start)) (count_field 71 (length t.global)) (count_clean 83 (length f.start) refl few.0) (count_clean 71 (length t.global) refl few.1))
           (count_clean 68 (length D) refl few.2))
           (count_clean 80 (length P) refl few.3))
           (spaces_no_LF 40)
@@ -294,10 +232,10 @@ module _ (f : Contents) (w : IsWritable f) (bytes : List ℕ) (t : IsText f byte
     whole = ap lines t.bytes_are ∙ ap (λ (ls : Lines). lines (flat_map (λ (l : List ℕ). l ++ 10 ∷ []) ls)) whole_lines ∙ lines-text (joined secs ++ last ∷ []) are_lines;
     some_start = omega (arith, length-numbered 83 f.start, w.made.some_start);
     some_global = omega (arith, length-numbered 71 t.global, some_filled 72 (parts 72 d (global_values f.global)) t.global t.global_is);
-    start = numbered-AreNumbered 83 f.start (clean_72 f.start start_72) (omega (arith, few.0));
-    global = numbered-AreNumbered 71 t.global (clean_72 t.global global_ok) (omega (arith, few.1));
-    directory = numbered-AreNumbered 68 D (clean_72 D D_clean) (omega (arith, few.2));
-    param = numbered-AreNumbered 80 P (clean_72 P P_clean) (omega (arith, few.3));
+    start = numbered-AreNumbered 83 f.start (clean_wide 72 f.start start_72) (omega (arith, few.0));
+    global = numbered-AreNumbered 71 t.global (clean_wide 72 t.global global_ok) (omega (arith, few.1));
+    directory = numbered-AreNumbered 68 D (clean_wide 72 D D_clean) (omega (arith, few.2));
+    param = numbered-AreNumbered 80 P (clean_wide 72 P P_clean) (omega (arith, few.3));
     terminate = terminates secs (length f.start) (length t.global) (length D) (length P) (length-numbered 83 f.start) (length-numbered 71 t.global) (length-numbered 68 D) (length-numbered 80 P)
         (omega (arith, few.0)) (omega (arith, few.1)) (omega (arith, few.2)) (omega (arith, few.3));
     blank = refl;
@@ -306,7 +244,7 @@ module _ (f : Contents) (w : IsWritable f) (bytes : List ℕ) (t : IsText f byte
   global_back : GlobalText (global_text secs) f.global
   global_back =
       let lines_are : t.global ≡ fill 72 [] (parts 72 d (global_values f.global)) = IsFilled-fill 72 (parts 72 d (global_values f.global)) t.global (parts_fit 72 d (global_values f.global) (lit< tt)) t.global_is in
-      subst (λ (x : List ℕ). GlobalText x f.global) (sym (text-numbered 71 t.global (clean_72 t.global global_ok) ∙ ap concat lines_are))
+      subst (λ (x : List ℕ). GlobalText x f.global) (sym (text-numbered 71 t.global (clean_wide 72 t.global global_ok) ∙ ap concat lines_are))
       (filled_global f.global w.delims (values_spelled f.global.values w.global_values) w.made.kinds)
 
   pub file_back : IsFile bytes f
@@ -314,7 +252,7 @@ module _ (f : Contents) (w : IsWritable f) (bytes : List ℕ) (t : IsText f byte
     sections = secs;
     placed = placed_of 1 f.entries t.records;
     sectioned = sectioned;
-    start = sym (columns-numbered 83 f.start (clean_72 f.start start_72));
+    start = sym (columns-numbered 83 f.start (clean_wide 72 f.start start_72));
     global = global_back;
     directory = entries_are (length (numbered 80 P)) 1 1 f.entries t.records entries_ok (lined_of d f.entries t.records t.records_are) (lit< tt)
         (omega (arith, length-numbered 80 P, length-lines_from 0 t.records)) (omega (arith, length-numbered 80 P, few.3));

@@ -1,16 +1,17 @@
 -- The text of a global names its delimiters and has its values.
-use Rattle.std.proofs.Common.{◌≡◌, ℕ, suc, ◌<◌, true, false, cond, ◌&&◌, List, [], ◌∷◌, ◌++◌, length, drop, Option, Some, None, refl, ap, ◌∙◌, append_assoc, arith, length-append, lit<}
+use Rattle.std.proofs.Common.{◌≡◌, ℕ, suc, true, false, cond, ◌&&◌, List, [], ◌∷◌, ◌++◌, length, drop, Option, Some, None, refl, ap, ◌∙◌, append_assoc, arith, lit<}
 use Rattle.std.specs.Prelude.{nat_eq, nat_lt, codes, slice_index, ◌==◌}
 use Rattle.std.specs.Fmt.{digits}
 use Rattle.std.specs.List.{AllZip, starts_with}
-use Rattle.std.proofs.lemmas.Bool.{and_parts, cond-true, cond-false, eq-eqb, lt-ltb, not-true, or_left, or_right}
+use Rattle.std.proofs.lemmas.Bool.{cond-true, cond-false, eq-eqb, lt-ltb}
 use Rattle.iges_fields.specs.declared.value.Value.{Value}
 use Rattle.iges_fields.specs.declared.value.Value.TheVariants as value
 use Rattle.iges_fields.specs.Word.{spaces, after_spaces}
-use Rattle.iges_fields.specs.Delims.{Delims, is_delimiter, are_permitted}
+use Rattle.iges_fields.specs.Delims.{Delims, are_permitted}
 use Rattle.iges_fields.specs.FreeText.{is_delimiter_of, begins_with, delimited}
 use Rattle.iges_fields.proofs.Lists.{after_spaces-spaces, after_spaces-other}
-use Rattle.iges_fields.proofs.Words.{stop_no_space}
+use Rattle.iges_fields.proofs.Whole.{few_items}
+use Rattle.iges_fields.proofs.Words.{stop_no_space, end_stops, param_stops, param_is_no_end}
 use Rattle.iges_params.specs.declared.global.Global26.{Global26}
 use Rattle.iges_params.specs.Global.{Head, delimiter_at, behind_byte, head_end, head_with, head_start, any_head, if_permitted, head, have_kinds, GlobalText}
 use Rattle.iges_fields.specs.Spelled.{spelling}
@@ -32,15 +33,6 @@ names default g b rest =
     ∙ cond-true (nat_lt 2 (length (49 ∷ 72 ∷ b ∷ rest))) _ _ (lt-ltb 2 (suc (suc (suc (length rest)))) (omega arith))
 
 module _ (d : Delims) (ok : are_permitted d ≡ true) where
-  param_stop : is_delimiter_of d d.param ≡ true
-  param_stop = or_left (d.param == d.param) _ (eq-eqb d.param d.param refl)
-
-  end_stop : is_delimiter_of d d.end ≡ true
-  end_stop = or_right (d.end == d.param) _ (eq-eqb d.end d.end refl)
-
-  apart : (d.param == d.end) ≡ false
-  apart = not-true _ (and_parts (is_delimiter d.param && is_delimiter d.end) _ ok).1
-
   -- a delimiter stands there, or another byte
   behind_yes : (b : ℕ) (rest : List ℕ) → is_delimiter_of d b ≡ true → behind_byte b (b ∷ rest) ≡ Some rest
   behind_yes b rest stop =
@@ -60,18 +52,18 @@ module _ (d : Delims) (ok : are_permitted d ≡ true) where
   start_is : (g : ℕ) (rest : List ℕ) → any_head (spaces g ++ 49 ∷ 72 ∷ d.param ∷ d.param ∷ rest) ≡ head_with d.param rest
   start_is g rest =
       ap (λ (p : ℕ × List ℕ). head_start p.0 (behind_byte p.0 p.1) (behind_byte 59 p.1)) (names 44 g d.param (d.param ∷ rest))
-      ∙ ap (λ (o : Option (List ℕ)). head_start d.param o (behind_byte 59 (d.param ∷ rest))) (behind_yes d.param rest param_stop)
+      ∙ ap (λ (o : Option (List ℕ)). head_start d.param o (behind_byte 59 (d.param ∷ rest))) (behind_yes d.param rest (param_stops d ok))
 
   with_values : (h : ℕ) (more : List ℕ) → head_with d.param (spaces h ++ 49 ∷ 72 ∷ d.end ∷ d.param ∷ more) ≡ Some (head_of (Some more))
   with_values h more =
       ap (λ (r : ℕ × List ℕ). head_end d.param r.0 (behind_byte d.param r.1) (behind_byte r.0 r.1)) (names 59 h d.end (d.param ∷ more))
-      ∙ ap (λ (o : Option (List ℕ)). head_end d.param d.end o (behind_byte d.end (d.param ∷ more))) (behind_yes d.param more param_stop)
+      ∙ ap (λ (o : Option (List ℕ)). head_end d.param d.end o (behind_byte d.end (d.param ∷ more))) (behind_yes d.param more (param_stops d ok))
 
   without_values : (h : ℕ) (more : List ℕ) → head_with d.param (spaces h ++ 49 ∷ 72 ∷ d.end ∷ d.end ∷ more) ≡ Some (head_of None)
   without_values h more =
       ap (λ (r : ℕ × List ℕ). head_end d.param r.0 (behind_byte d.param r.1) (behind_byte r.0 r.1)) (names 59 h d.end (d.end ∷ more))
-      ∙ ap (λ (o : Option (List ℕ)). head_end d.param d.end o (behind_byte d.end (d.end ∷ more))) (behind_no d.param d.end more end_stop apart)
-      ∙ ap (λ (o : Option (List ℕ)). head_end d.param d.end None o) (behind_yes d.end more end_stop)
+      ∙ ap (λ (o : Option (List ℕ)). head_end d.param d.end o (behind_byte d.end (d.end ∷ more))) (behind_no d.param d.end more (end_stops d ok) (param_is_no_end d ok))
+      ∙ ap (λ (o : Option (List ℕ)). head_end d.param d.end None o) (behind_yes d.end more (end_stops d ok))
 
   -- an item of a delimiter, behind its spaces
   item_is : (item : List ℕ) (b : ℕ) (i : IsSpaced item (value.Text (b ∷ []))) (rest : List ℕ) → item ++ rest ≡ spaces i.0 ++ 49 ∷ 72 ∷ b ∷ rest
@@ -102,13 +94,9 @@ module _ (d : Delims) (ok : are_permitted d ≡ true) where
         start = head_of (Some more);
         head_is = ap head flat ∙ ap if_permitted (start_is i.0 (spaces j.0 ++ 49 ∷ 72 ∷ d.end ∷ d.param ∷ more) ∙ with_values j.0 more) ∙ permitted_head (Some more);
         delims = refl;
-        values = (length (delimited d (item ∷ items)), record { items = item ∷ items; rest = spaces behind; each = items_of (item ∷ items) (v ∷ values) each spelled; parts = refl; length_is = refl; some = positive item items });
+        values = (length (delimited d (item ∷ items)), record { items = item ∷ items; rest = spaces behind; each = items_of (item ∷ items) (v ∷ values) each spelled; parts = refl; length_is = refl; some = omega (arith, few_items d (item ∷ items)) });
         kinds_fit = kinds;
       }
-    where
-      positive : (x : List ℕ) (xs : List (List ℕ)) → 0 < length (delimited d (x ∷ xs))
-      positive x [] = omega (arith, length-append x (d.end ∷ []))
-      positive x (y ∷ xs) = omega (arith, length-append x (d.param ∷ delimited d (y ∷ xs)))
 
 -- the filled global is the global's text
 pub filled_global : (g : Global26) → are_permitted g.delims ≡ true → AreSpelled g.values → have_kinds g.values ≡ true → GlobalText (concat (fill 72 [] (parts 72 g.delims (global_values g)))) g

@@ -8,6 +8,7 @@ pub mod GlobalBack
 pub mod WritableEntry
 pub mod Fields
 pub mod RecordsBack
+pub mod Widths
 pub mod FileBack
 pub mod Made
 pub mod Sheets

@@ -1,19 +1,19 @@
 -- What is read from a text within the limit can be made.
-use Rattle.std.proofs.Common.{◌≡◌, ℕ, zero, suc, ◌+◌, ◌-◌, ◌*◌, ◌^◌, ◌<◌, ◌≤◌, Bool, true, false, List, [], ◌∷◌, ◌++◌, length, take, drop, map, pos, Option, Some, None, refl, sym, ap, subst, ◌∙◌, arith, length-append, lit<, lit≤}
+use Rattle.std.proofs.Common.{◌≡◌, ℕ, ◌+◌, ◌-◌, ◌*◌, ◌^◌, ◌<◌, ◌≤◌, Bool, true, false, List, [], ◌∷◌, ◌++◌, length, drop, map, pos, Option, Some, None, refl, sym, ap, subst, ◌∙◌, arith, length-append, lit<, lit≤}
 use Rattle.std.specs.Prelude.{◌==◌, flat_map, IsTrue, MatchBool, unsigned_abs, fold}
 use Rattle.std.specs.List.{AllByRecursion, list_all, enumerate_from}
 use Rattle.std.specs.Ordering.{int_eq}
 use Rattle.std.proofs.lemmas.Bool.{and_parts, and_from, eq-eqb}
 use Rattle.std.proofs.lemmas.List.{length-take, length-drop, length-map}
-use Rattle.std.proofs.lemmas.List.Folds.{list_all-append}
 use Rattle.iges_fields.specs.declared.value.Value.{Value}
 use Rattle.iges_fields.specs.declared.value.Value.TheVariants as value
 use Rattle.iges_fields.specs.Delims.{Delims, are_permitted}
 use Rattle.iges_fields.specs.InLine.{is_in_line, is_value}
-use Rattle.iges_fields.proofs.InLines.{free_text_values}
+use Rattle.iges_fields.proofs.InLines.{both_in_line, free_text_values}
+use Rattle.iges_fields.proofs.Lists.{list_all-parts, list_all-take, list_all-drop}
 use Rattle.iges_lines.specs.Lines.{columns, SectionLines, joined}
 use Rattle.iges_lines.specs.Sectioned.{IsNumbered}
-use Rattle.iges_lines.proofs.InLines.{columns_in_line}
+use Rattle.iges_lines.proofs.InLines.{columns_in_line, columns_short}
 use Rattle.iges_lines.proofs.Kept.{sections_kept}
 use Rattle.iges_directory.specs.declared.entry.Entry.{Entry}
 use Rattle.iges_directory.specs.declared.entry.Placed.{Placed}
@@ -26,9 +26,9 @@ use Rattle.iges_params.specs.Made.{is_start_line, IsMadeEntry}
 use Rattle.iges_params.specs.Records.{record_lines, record_text, IsRecord, HasRecord, AreRecords}
 use Rattle.iges_params.proofs.Behind.{head_behind, behind_in_line, behind_length}
 use Rattle.iges_params.proofs.GlobalExact.{permitted}
-use Rattle.iges_params.proofs.Joined.{both_in_line}
 use Rattle.iges_params.proofs.Owned.{all_owned, all_owned-few, record_few}
 use Rattle.iges_write.specs.Writable.{IsHeld, CanBeMade}
+use Rattle.iges_write.proofs.Columns.{AreWide}
 
 abbrev Lines : Type 0
 Lines = List (List ℕ)
@@ -41,19 +41,6 @@ Entries = List (Entry × List Value)
 abbrev InLine : Lines → Type 0
 InLine ls = list_all is_in_line ls ≡ true
 
-halves : (xs ys : Lines) → InLine (xs ++ ys) → InLine xs × InLine ys
-halves xs ys h = and_parts (list_all is_in_line xs) (list_all is_in_line ys) (sym (list_all-append is_in_line xs ys) ∙ h)
-
-take_lines : (n : ℕ) (ls : Lines) → InLine ls → InLine (take n ls)
-take_lines zero ls h = refl
-take_lines (suc n) [] h = refl
-take_lines (suc n) (l ∷ ls) h = let p = and_parts (is_in_line l) (list_all is_in_line ls) h in and_from (is_in_line l) (list_all is_in_line (take n ls)) p.0 (take_lines n ls p.1)
-
-drop_lines : (n : ℕ) (ls : Lines) → InLine ls → InLine (drop n ls)
-drop_lines zero ls h = h
-drop_lines (suc n) [] h = refl
-drop_lines (suc n) (l ∷ ls) h = drop_lines n ls (and_parts (is_in_line l) (list_all is_in_line ls) h).1
-
 -- the text in columns 1 to n of lines
 text_in_line : (n : ℕ) (ls : Lines) → InLine ls → is_in_line (flat_map (columns 1 n) ls) ≡ true
 text_in_line n [] h = refl
@@ -61,23 +48,17 @@ text_in_line n (l ∷ ls) h =
     let p = and_parts (is_in_line l) (list_all is_in_line ls) h in
     both_in_line (columns 1 n l) (flat_map (columns 1 n) ls) (columns_in_line 1 n l p.0) (text_in_line n ls p.1)
 
-columns_short : (n : ℕ) (l : List ℕ) → length (columns 1 n l) ≤ n
-columns_short n l = omega (arith, length-take (n - (1 - 1)) (drop (1 - 1) l))
-
 text_short : (n : ℕ) (ls : Lines) → n ≤ 72 → length (flat_map (columns 1 n) ls) ≤ 72 * length ls
 text_short n [] h = omega arith
-text_short n (l ∷ ls) h = omega (arith, h, length-append (columns 1 n l) (flat_map (columns 1 n) ls), columns_short n l, text_short n ls h)
+text_short n (l ∷ ls) h = omega (arith, h, length-append (columns 1 n l) (flat_map (columns 1 n) ls), columns_short 1 n l, text_short n ls h)
 
 -- ---- the start lines and the global
 
-abbrev All80 : Lines → Type 0
-All80 ls = AllByRecursion (λ l. length l ≡ 80) ls
-
-numbered_80 : (section k : ℕ) (ls : Lines) → AllByRecursion (λ (l : ℕ × List ℕ). IsNumbered section l.0 l.1) (enumerate_from k ls) → All80 ls
+numbered_80 : (section k : ℕ) (ls : Lines) → AllByRecursion (λ (l : ℕ × List ℕ). IsNumbered section l.0 l.1) (enumerate_from k ls) → AreWide 80 ls
 numbered_80 section k [] h = tt
 numbered_80 section k (l ∷ ls) h = (h.0.long, numbered_80 section (k + 1) ls h.1)
 
-starts_made : (ls : Lines) → All80 ls → InLine ls → list_all is_start_line (map (columns 1 72) ls) ≡ true
+starts_made : (ls : Lines) → AreWide 80 ls → InLine ls → list_all is_start_line (map (columns 1 72) ls) ≡ true
 starts_made [] h k = refl
 starts_made (l ∷ ls) h k =
     let p = and_parts (is_in_line l) (list_all is_in_line ls) k in
@@ -124,7 +105,7 @@ record_made params d number p values h clean few = by_kind (int_eq p.entry.kind 
     first = unsigned_abs p.first - 1
 
     in_line : is_in_line (record_text params p) ≡ true
-    in_line = text_in_line 64 (record_lines params p) (take_lines _ (drop (unsigned_abs p.first - 1) params) (drop_lines (unsigned_abs p.first - 1) params clean))
+    in_line = text_in_line 64 (record_lines params p) (list_all-take is_in_line _ (drop (unsigned_abs p.first - 1) params) (list_all-drop is_in_line (unsigned_abs p.first - 1) params clean))
 
     by_kind : (b : Bool) → int_eq p.entry.kind (pos 0) ≡ b → MatchBool b (values ≡ []) (IsRecord params d number p values) → (list_all is_value values ≡ true) × (IsTrue (int_eq p.entry.kind (pos 0)) → values ≡ [])
     by_kind true e none = (ap (list_all is_value) none, λ t. none)
@@ -133,7 +114,7 @@ record_made params d number p values h clean few = by_kind (int_eq p.entry.kind 
         ((and_parts (is_value (value.Int p.entry.kind)) (list_all is_value values) all).1, λ t. absurd (let no : false ≡ true = sym e ∙ t in cc))
 
 module _ (n : ℕ) (params : Lines) (d : Delims) (clean : InLine params) (few : 72 * length params < 2 ^ 64) where
-  entries_made : (number : ℕ) (dl : Lines) (ps : List Placed) (es : Entries) → AreEntries n dl ps → AreRecords params d number ps es → All80 dl → InLine dl → AllByRecursion IsMadeEntry es × AllByRecursion IsHeld es
+  entries_made : (number : ℕ) (dl : Lines) (ps : List Placed) (es : Entries) → AreEntries n dl ps → AreRecords params d number ps es → AreWide 80 dl → InLine dl → AllByRecursion IsMadeEntry es × AllByRecursion IsHeld es
   entries_made number [] [] [] a r long c = (tt, tt)
   entries_made number [] [] (e ∷ es) a r long c = absurd r
   entries_made number [] (p ∷ ps) es a r long c = absurd a
@@ -179,9 +160,9 @@ can_be_made bytes f limit is =
     let s : SectionLines = is.sections in
     let kept = sections_kept bytes s limit is.sectioned in
     let within : 80 * length (joined s) ≤ 164000000 = kept.within in
-    let clean_upper = halves (s.start ++ s.global ++ s.directory) s.param kept.in_line in
-    let clean_front = halves (s.start ++ s.global) s.directory clean_upper.0 in
-    let clean = halves s.start s.global clean_front.0 in
+    let clean_upper = list_all-parts is_in_line (s.start ++ s.global ++ s.directory) s.param kept.in_line in
+    let clean_front = list_all-parts is_in_line (s.start ++ s.global) s.directory clean_upper.0 in
+    let clean = list_all-parts is_in_line s.start s.global clean_front.0 in
     let upper = length-append (s.start ++ s.global ++ s.directory) s.param in
     let front = length-append (s.start ++ s.global) s.directory in
     let both = length-append s.start s.global in

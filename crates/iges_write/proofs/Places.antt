@@ -1,11 +1,9 @@
--- The entry at a place of a file, and lists from a place on.
-use Rattle.std.proofs.Common.{◌≡◌, ℕ, zero, suc, ◌+◌, ◌*◌, ◌/◌, ◌%◌, ◌<◌, Bool, true, false, List, [], ◌∷◌, length, drop, pos, Some, None, refl, ap, ◌∙◌, arith, subst, sym}
+-- The entry at a place of a file.
+use Rattle.std.proofs.Common.{◌≡◌, ℕ, zero, suc, ◌+◌, ◌*◌, ◌/◌, ◌%◌, Bool, true, false, List, [], ◌∷◌, length, pos, Some, None, refl, ap, ◌∙◌, arith, subst, sym}
 use Rattle.std.specs.List.{AllByRecursion, list_all}
 use Rattle.std.specs.Prelude.{slice_get, option_map}
 use Rattle.std.specs.Ordering.{int_eq}
-use Rattle.std.proofs.Math.Seq.{drop-cons}
 use Rattle.std.proofs.lemmas.Bool.{cond-true, cond-false, eq-eqb}
-use Rattle.std.proofs.lemmas.Option.{get_or_from_slice_get, slice_get_within}
 use Rattle.iges_fields.specs.declared.value.Value.{Value}
 use Rattle.iges_directory.specs.declared.entry.Entry.{Entry}
 use Rattle.iges_directory.specs.Named.{unless_unused}
@@ -15,12 +13,6 @@ use Rattle.iges_fields.specs.InLine.{is_value}
 use Rattle.iges_params.specs.Made.{IsMadeEntry}
 use Rattle.iges_write.specs.Text.{has_no_record}
 use Rattle.iges_write.specs.Writable.{IsHeld}
-
--- the items from a place on begin with the one there
-pub drop_at_place : {X : Type 0} (xs : List X) (i : ℕ) (x : X) → slice_get xs i ≡ Some x → drop i xs ≡ x ∷ drop (i + 1) xs
-drop_at_place {X} xs i x is =
-    drop-cons xs i x (slice_get_within xs i x is) ∙ ap (λ (y : X). y ∷ drop (suc i) xs) (get_or_from_slice_get xs i x x is)
-    ∙ ap (λ (k : ℕ). x ∷ drop k xs) (let k : suc i ≡ i + 1 = omega arith in k)
 
 abbrev Record : Type 0
 Record = Entry × List Value
@@ -57,11 +49,6 @@ unused_at f i e at named_is = by_type (int_eq e.0.kind (pos 0)) refl
 -- the entry that was read there
 pub entry_is : (f : Contents) (i : ℕ) (entry : Entry) (e : Record) → Some entry ≡ option_map (λ (x : Record). x.0) (slice_get f.entries i) → slice_get f.entries i ≡ Some e → entry ≡ e.0
 entry_is f i entry e read at = let same : Some entry ≡ Some e.0 = read ∙ ap (option_map (λ (x : Record). x.0)) at in cc
-
-pub some_at : {X : Type 0} (xs : List X) (i : ℕ) → i < length xs → (x : X) × (slice_get xs i ≡ Some x)
-some_at [] i h = absurd (omega (arith, h))
-some_at (x ∷ xs) zero h = (x, refl)
-some_at (x ∷ xs) (suc i) h = some_at xs i (omega (arith, h))
 
 -- ---- what is known of the entry at a place
 

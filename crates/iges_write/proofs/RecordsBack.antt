@@ -20,7 +20,7 @@ use Rattle.iges_write.specs.Text.{first_of, right, has_no_record, IsRecordText}
 use Rattle.iges_directory.specs.Bounds.{fits_columns}
 use Rattle.iges_write.proofs.WritableEntry.{IsWritableEntry}
 use Rattle.iges_write.proofs.Back.{AreSpelled, values_spelled, parts_fit, IsFilled-FreeText}
-use Rattle.iges_write.proofs.Columns.{length-right, right_7, numbered_from}
+use Rattle.iges_write.proofs.Columns.{length-right, right_7, numbered_from, length-numbered_from}
 use Rattle.iges_write.proofs.Clean.{IsClean}
 use Rattle.iges_write.proofs.Fields.{placed_of}
 
@@ -42,10 +42,6 @@ numbered-append k [] ys = ap (λ (n : ℕ). numbered_from 80 n ys) zero_behind
 numbered-append k (x ∷ xs) ys =
     let e : k + 1 + length xs ≡ k + suc (length xs) = omega arith in
     ap (λ (t : Lines). (x ++ 80 ∷ right 7 (decimal k)) ∷ t) (numbered-append (k + 1) xs ys ∙ ap (λ (n : ℕ). numbered_from 80 (k + 1) xs ++ numbered_from 80 n ys) e)
-
-length-numbered_from : (k : ℕ) (xs : Lines) → length (numbered_from 80 k xs) ≡ length xs
-length-numbered_from k [] = refl
-length-numbered_from k (x ∷ xs) = ap suc (length-numbered_from (k + 1) xs)
 
 pub length-owned : (i : ℕ) (ls : Lines) → length (owned i ls) ≡ length ls
 length-owned i [] = refl
@@ -98,7 +94,7 @@ module _ (d : Delims) where
           let f : first_of e.0 first ≡ first = cond-false (has_no_record e.0) 0 first t in
           let lines : record_lines (before ++ (numbered_from 80 first (owned i r) ++ rest)) (record { entry = e.0; first = pos (first_of e.0 first); count = pos (length r) }) ≡ numbered_from 80 first (owned i r) =
           ap (λ (n : ℕ). slice_range (before ++ (numbered_from 80 first (owned i r) ++ rest)) (n - 1) (n - 1 + length r)) f
-          ∙ mine_lines before (numbered_from 80 first (owned i r)) rest first (length r) is (length-numbered_from first (owned i r) ∙ length-owned i r) in
+          ∙ mine_lines before (numbered_from 80 first (owned i r)) rest first (length r) is (length-numbered_from 80 first (owned i r) ∙ length-owned i r) in
           let filled : IsFilled 64 (parts 64 d (value.Int e.0.kind ∷ e.1)) r = subst (λ (b : Bool). MatchBool b (r ≡ []) (IsFilled 64 (parts 64 d (value.Int e.0.kind ∷ e.1)) r)) t m.text in
           let spelled : AreSpelled (value.Int e.0.kind ∷ e.1) = values_spelled (value.Int e.0.kind ∷ e.1) (and_from _ _ (kind_value e.0.kind w.bounded.kind) w.values) in
           let free = IsFilled-FreeText 64 d (value.Int e.0.kind) e.1 r (lit< tt) spelled (parts_fit 64 d (value.Int e.0.kind ∷ e.1) (lit< tt)) filled in
@@ -120,7 +116,7 @@ module _ (d : Delims) where
       let split : before ++ numbered_from 80 first (owned i r ++ lines_from (i + 1) rs) ≡ before ++ (mine ++ more) =
       ap (λ (x : Lines). before ++ x) (numbered-append first (owned i r) (lines_from (i + 1) rs) ∙ ap (λ (n : ℕ). mine ++ numbered_from 80 (first + n) (lines_from (i + 1) rs)) (length-owned i r)) in
       let first_record = one_record i first before e r more w.0 m.0 is (omega (arith, lt)) in
-      let others = records_are (i + 1) (first + length r) (before ++ mine) es rs w.1 m.1 (omega (arith, is, length-append before mine, length-numbered_from first (owned i r), length-owned i r)) (omega (arith, lt)) in
+      let others = records_are (i + 1) (first + length r) (before ++ mine) es rs w.1 m.1 (omega (arith, is, length-append before mine, length-numbered_from 80 first (owned i r), length-owned i r)) (omega (arith, lt)) in
       subst (λ (x : Lines). AreRecords x d (2 * i + 1) (placed_of first (e ∷ es) (r ∷ rs)) (e ∷ es)) (sym split) (
         refl,
         first_record,
