@@ -1,10 +1,12 @@
 -- The vertices that appear in the first shells are the ones below a number.
-use Rattle.std.specs.Prelude.{◌≡◌, ◌<◌, ◌≤◌, ◌+◌, ◌-◌, ◌==◌, ◌⊎◌, ℕ, zero, suc, Bool, true, false, not, cond, List, [], ◌∷◌, ◌++◌, length, map, flat_map, filter, max, take, drop, slice_get, slice_index, Option, Some, None, Contains, MatchOption}
+use Rattle.std.specs.Prelude.{◌≡◌, ◌<◌, ◌≤◌, ◌+◌, ◌-◌, ◌==◌, ◌⊎◌, ℕ, zero, suc, Bool, not, List, [], ◌∷◌, ◌++◌, length, map, flat_map, filter, max, take, drop, slice_get, slice_index, Some, None}
 use Rattle.std.specs.List.{AllByRecursion, enumerate_from}
 use Rattle.std.specs.List.Sorted.{IsStrictlyIncreasing}
 use Rattle.std.proofs.Common.{refl, sym, ◌∙◌, ap, subst, arith, inl, inr, ⊎_elim, append_assoc, get_or}
 use Rattle.std.proofs.lemmas.Grind.{flat_map-append}
 use Rattle.std.proofs.lemmas.List.Elements.{filter-append}
+use Rattle.std.proofs.lemmas.List.{drop_all, append-nil}
+use Rattle.std.proofs.lemmas.Bool.{eqb-true}
 use Rattle.solid_data.specs.Ring.{numbers_from, distinct}
 use Rattle.solid_data.specs.Numbering.{IsNumberedSolid}
 use Rattle.solid_data.specs.Obligations.{FirstNot}
@@ -13,15 +15,15 @@ use Rattle.solid_data.specs.declared.solid.FaceUse.{FaceUse}
 use Rattle.solid_data.specs.declared.solid.Loop.{Loop}
 use Rattle.solid_data.specs.declared.solid.LoopUse.{LoopUse}
 use Rattle.solid_data.specs.declared.solid.Shell.{Shell}
-use Rattle.solid_data.proofs.Members.{some_inj, Has, Has-from_Contains, Contains-from_Has, Rises, all_has}
-use Rattle.solid_data.proofs.Occurring.{occurs}
+use Rattle.solid_data.proofs.Members.{some_inj, Has, Has-from_Contains, Contains-from_Has, Rises, all_has, has_get, All-from, get_some}
+use Rattle.solid_data.proofs.Occurring.{occurs, number_below, number_within}
+use Rattle.solid_data.proofs.Keys.{to_distinct, from_distinct}
 use Rattle.edge_uses.specs.Before.{AreBelow, above_of, loop_vertices, face_vertices, faces_vertices}
 use Rattle.edge_uses.specs.Building.{uses_in}
 use Rattle.edge_uses.specs.Closed.{IsApart}
 use Rattle.edge_uses.specs.ShellRows.{ShellRows, shell_rows, rows_of}
-use Rattle.edge_uses.proofs.Joins.{split_drop, drop_past}
-use Rattle.edge_uses.proofs.Whole.{to_distinct, number_below, vertices_known}
-use Rattle.edge_uses.proofs.Few.{has_get}
+use Rattle.edge_uses.proofs.Joins.{split_drop}
+use Rattle.edge_uses.proofs.Whole.{vertices_known}
 use Rattle.edge_uses.proofs.Occurs.{from_occurring}
 
 -- The greatest of two lists.
@@ -39,7 +41,7 @@ above_more f xs x i old new all lt at h n =
 
 pub above_done : {A : Type 0} (f : A → List ℕ) (xs : List A) (i now all : ℕ) → length xs ≤ i → max now (above_of (flat_map f (drop i xs))) ≡ all → now ≡ all
 above_done f xs i now all past h =
-    let e : above_of (flat_map f (drop i xs)) ≡ 0 = ap (λ ys. above_of (flat_map f ys)) (drop_past i xs past) in
+    let e : above_of (flat_map f (drop i xs)) ≡ 0 = ap (λ ys. above_of (flat_map f ys)) (drop_all i xs past) in
     omega (arith, h, e)
 
 -- The vertices of a shell, face by face.
@@ -64,16 +66,9 @@ faces_flat s flag i (f ∷ fs) =
 pub shell_flat : (s : SolidData) (h : Shell) → shell_vertices s h ≡ faces_vertices s h
 shell_flat s h = faces_flat s h.flag 0 h.faces
 
-append_nil : (xs : List ℕ) → xs ++ [] ≡ xs
-append_nil [] = refl
-append_nil (x ∷ xs) = ap (λ ys. x ∷ ys) (append_nil xs)
-
 pub shells_more : (s : SolidData) (hs : List Shell) (k : ℕ) (h : Shell) → slice_get hs k ≡ Some h → flat_map (shell_vertices s) (take (k + 1) hs) ≡ flat_map (shell_vertices s) (take k hs) ++ shell_vertices s h
 shells_more s [] k h at = absurd cc
-shells_more s (x ∷ hs) zero h at = append_nil (shell_vertices s x) ∙ ap (λ y. shell_vertices s y) (some_shell x h at)
-  where
-    some_shell : (a b : Shell) → Some a ≡ Some b → a ≡ b
-    some_shell a b e = cc
+shells_more s (x ∷ hs) zero h at = append-nil (shell_vertices s x) ∙ ap (λ y. shell_vertices s y) (some_inj x h at)
 shells_more s (x ∷ hs) (suc k) h at =
     let e : suc k + 1 ≡ suc (k + 1) = omega arith in
     ap (λ n. flat_map (shell_vertices s) (take n (x ∷ hs))) e
@@ -102,20 +97,6 @@ pub greatest_has : (xs : List ℕ) (g : ℕ) → above_of xs ≡ g + 1 → Has x
 greatest_has [] g h = absurd (omega (arith, h))
 greatest_has (x ∷ xs) g h = ⊎_elim (λ e. inl (omega (arith, h, e))) (λ e. inr (greatest_has xs g (sym e ∙ h))) (which (x + 1) (above_of xs))
 
-from_filter : (p : ℕ → Bool) (xs : List ℕ) (v : ℕ) → Has (filter p xs) v → Has xs v
-from_filter p [] v h = h
-from_filter p (x ∷ xs) v h = by_test (p x) h (λ m. from_filter p xs v m)
-  where
-    by_test : (b : Bool) → Has (cond b (x ∷ filter p xs) (filter p xs)) v → (Has (filter p xs) v → Has xs v) → (x ≡ v) ⊎ Has xs v
-    by_test true (inl e) more = inl e
-    by_test true (inr m) more = inr (more m)
-    by_test false m more = inr (more m)
-
-from_distinct : (xs : List ℕ) (v : ℕ) → Has (distinct ◌==◌ xs) v → Has xs v
-from_distinct [] v h = h
-from_distinct (x ∷ xs) v (inl e) = inl e
-from_distinct (x ∷ xs) v (inr m) = inr (from_distinct xs v (from_filter (λ y. not (x == y)) (distinct ◌==◌ xs) v m))
-
 distinct_first : (xs ys : List ℕ) → (zs : List ℕ) × (distinct ◌==◌ (xs ++ ys) ≡ distinct ◌==◌ xs ++ zs)
 distinct_first [] ys = (distinct ◌==◌ ys, refl)
 distinct_first (x ∷ xs) ys =
@@ -131,23 +112,13 @@ numbers_first base (suc n) (x ∷ xs) ys h =
     let rest : numbers_from (base + 1) n ≡ xs ++ ys = cc in
     ap (λ y. y ∷ xs) (sym at_head) ∙ ap (λ us. base ∷ us) (numbers_first (base + 1) n xs ys rest)
 
-same_or_above : (a b : ℕ) → a ≤ b → (a ≡ b) ⊎ (a + 1 ≤ b)
-same_or_above zero zero h = inl refl
-same_or_above zero (suc b) h = inr (omega arith)
-same_or_above (suc a) zero h = absurd (omega (arith, h))
-same_or_above (suc a) (suc b) h = ⊎_elim (λ e. inl (ap suc e)) (λ p. inr (omega (arith, p))) (same_or_above a b (omega (arith, h)))
-
-number_has : (base n k : ℕ) → base ≤ k → k < base + n → Has (numbers_from base n) k
-number_has base zero k low high = absurd (omega (arith, low, high))
-number_has base (suc n) k low high = ⊎_elim (λ e. inl e) (λ p. inr (number_has (base + 1) n k p (omega (arith, high)))) (same_or_above base k low)
-
 -- of numbers that go by first appearance, a first part has all that are below one that it has
 appear_below : (xs ys : List ℕ) (n g v : ℕ) → distinct ◌==◌ (xs ++ ys) ≡ numbers_from 0 n → Has xs g → v ≤ g → Has xs v
 appear_below xs ys n g v h m le =
     let split = distinct_first xs ys in
     let first : distinct ◌==◌ xs ≡ numbers_from 0 (length (distinct ◌==◌ xs)) = numbers_first 0 n (distinct ◌==◌ xs) split.0 (sym h ∙ split.1) in
-    let g_low = number_below 0 (length (distinct ◌==◌ xs)) g (subst (λ us. Has us g) first (to_distinct xs g m)) in
-    from_distinct xs v (subst (λ us. Has us v) (sym first) (number_has 0 (length (distinct ◌==◌ xs)) v (omega arith) (omega (arith, g_low.1, le))))
+    let g_low = number_below 0 (length (distinct ◌==◌ xs)) g (subst (λ us. Has us g) first (to_distinct ◌==◌ eqb-true xs g m)) in
+    from_distinct ◌==◌ xs v (subst (λ us. Has us v) (sym first) (number_within 0 (length (distinct ◌==◌ xs)) v (omega arith) (omega (arith, g_low.1, le))))
 
 take_part : {A : Type 0} (f : A → List ℕ) (k : ℕ) (xs : List A) → (ys : List ℕ) × (flat_map f xs ≡ flat_map f (take k xs) ++ ys)
 take_part f zero xs = (flat_map f xs, refl)
@@ -197,11 +168,6 @@ above_within xs ys f (suc g) e =
 above_same : (xs ys : List ℕ) → ((v : ℕ) → Has xs v → Has ys v) → ((v : ℕ) → Has ys v → Has xs v) → above_of xs ≡ above_of ys
 above_same xs ys f g = let p = above_within xs ys f (above_of xs) refl in let q = above_within ys xs g (above_of ys) refl in omega (arith, p, q)
 
-some_at : {A : Type 0} (xs : List A) (k : ℕ) → k < length xs → (x : A) × (slice_get xs k ≡ Some x)
-some_at [] k lt = absurd (omega (arith, lt))
-some_at (x ∷ xs) zero lt = (x, refl)
-some_at (x ∷ xs) (suc k) lt = some_at xs k (omega (arith, lt))
-
 rows_above : (s : SolidData) (h : Shell) → IsNumberedSolid s → Has s.shells h → above_of (shell_rows s h).vertices ≡ above_of (shell_vertices s h)
 unfolding shell_rows
 rows_above s h numbered has =
@@ -211,7 +177,7 @@ rows_above s h numbered has =
 
 pub next_below : (s : SolidData) (k n new : ℕ) (d : ShellRows) → IsNumberedSolid s → k < length s.shells → AreBelow s k n → d ≡ rows_of s (slice_get s.shells k) → new ≡ max n (above_of d.vertices) → AreBelow s (k + 1) new
 next_below s k n new d numbered lt below rows is =
-    let at = some_at s.shells k lt in
+    let at = get_some s.shells k lt in
     let same : above_of d.vertices ≡ above_of (shell_vertices s at.0) =
     ap (λ (r : ShellRows). above_of r.vertices) (rows ∙ ap (rows_of s) at.1) ∙ rows_above s at.0 numbered (has_get s.shells k at.0 at.1) in
     first_below s (k + 1) new numbered (above_next s k n new at.0 at.1 (above_is s k n below) (omega (arith, is, same)))
@@ -256,7 +222,7 @@ pub none_above : (vs : List ℕ) → slice_get vs (length vs - 1) ≡ None → a
 none_above [] e = refl
 none_above (x ∷ xs) e =
     let n : suc (length xs) - 1 ≡ length xs = omega arith in
-    let there = some_at (x ∷ xs) (length xs) (omega arith) in
+    let there = get_some (x ∷ xs) (length xs) (omega arith) in
     let gone : slice_get (x ∷ xs) (length xs) ≡ None = subst (λ k. slice_get (x ∷ xs) k ≡ None) n e in
     absurd (some_none there.0 (sym there.1 ∙ gone))
   where
@@ -264,10 +230,6 @@ none_above (x ∷ xs) e =
     some_none y h = cc
 
 -- Whether the next shell shares one.
-
-all_from : (P : ℕ → Type 0) (xs : List ℕ) → ((x : ℕ) → Has xs x → P x) → AllByRecursion P xs
-all_from P [] f = tt
-all_from P (x ∷ xs) f = (f x (inl refl), all_from P xs (λ y m. f y (inr m)))
 
 pub apart_below : (s : SolidData) (k n v : ℕ) → AreBelow s k n → n ≤ v → IsApart s k v
 apart_below s k n v h le c = let lt : v < n = (h v).0 c in omega (arith, lt, le)
@@ -277,7 +239,7 @@ none_shared s k n least [] rise h e le = tt
 none_shared s k n least (v ∷ vs) rise h e le =
     let same : v ≡ least = some_inj v least e in
     let r = rises (v ∷ vs) rise in
-    (apart_below s k n v h (omega (arith, same, le)), all_from (IsApart s k) vs (λ x m. let lt : v < x = all_has (λ z. v < z) vs x r.0 m in apart_below s k n x h (omega (arith, same, le, lt))))
+    (apart_below s k n v h (omega (arith, same, le)), All-from (IsApart s k) vs (λ x m. let lt : v < x = all_has (λ z. v < z) vs x r.0 m in apart_below s k n x h (omega (arith, same, le, lt))))
 
 pub least_shared : (s : SolidData) (k n least : ℕ) (vs : List ℕ) → AreBelow s k n → slice_get vs 0 ≡ Some least → least < n → FirstNot (IsApart s k) vs least
 least_shared s k n least [] h e lt = absurd cc

@@ -1,24 +1,19 @@
 -- Loops are added one after another.
-use Rattle.std.specs.Prelude.{◌≡◌, ◌<◌, ◌≤◌, ◌+◌, ◌-◌, ◌^◌, ℕ, zero, suc, Bool, List, [], ◌∷◌, ◌++◌, length, map, flat_map, filter_map, Option, Some, None}
+use Rattle.std.specs.Prelude.{◌≡◌, ◌<◌, ◌≤◌, ◌+◌, ◌-◌, ℕ, suc, Bool, List, [], ◌∷◌, ◌++◌, length, map, flat_map, filter_map, Option, Some, None}
 use Rattle.std.specs.List.{enumerate_from, cons_option}
-use Rattle.std.specs.Option.{option_to_list}
-use Rattle.std.proofs.Common.{refl, sym, ◌∙◌, ap, subst, arith, length-append, append_assoc, get_or, drop}
+use Rattle.std.proofs.Common.{sym, ◌∙◌, ap, subst, arith, length-append, append_assoc, get_or}
 use Rattle.std.proofs.lemmas.Grind.{flat_map-append}
-use Rattle.solid_data.specs.SolidData.{SolidData, PlacedLoop, edge_used, vertices_used, placed_in_face, placed_loops}
+use Rattle.std.proofs.lemmas.List.{append-nil, drop_all}
+use Rattle.solid_data.specs.SolidData.{SolidData, PlacedLoop, edge_used, vertices_used, placed_in_face}
 use Rattle.solid_data.specs.declared.solid.Loop.{Loop}
-use Rattle.solid_data.specs.declared.solid.LoopAt.{LoopAt}
 use Rattle.solid_data.specs.declared.solid.LoopUse.{LoopUse}
 use Rattle.solid_data.specs.declared.solid.FaceUse.{FaceUse}
 use Rattle.edge_uses.specs.declared.row.Row.{Row}
 use Rattle.edge_uses.specs.declared.building.Built.{Built}
-use Rattle.edge_uses.specs.ShellRows.{row_of, loop_rows, follows_from, point_of}
-use Rattle.edge_uses.specs.Building.{uses_in, uses_of, point_in, Added, HasRoom, ring_from}
+use Rattle.edge_uses.specs.ShellRows.{row_of, loop_rows, follows_from}
+use Rattle.edge_uses.specs.Building.{uses_in, uses_of, point_in, Added, ring_from}
 use Rattle.edge_uses.specs.Joining.{placed_at}
-use Rattle.edge_uses.proofs.Joins.{loops_left, faces_left, split_loops, split_faces, drop_past}
-
-append_nil : {A : Type 0} (xs : List A) → xs ++ [] ≡ xs
-append_nil [] = refl
-append_nil (x ∷ xs) = ap (λ ys. x ∷ ys) (append_nil xs)
+use Rattle.edge_uses.proofs.Joins.{loops_left, faces_left, split_loops, split_faces}
 
 follows-append : (s : SolidData) (base : ℕ) (ps qs : List PlacedLoop) → follows_from s base (ps ++ qs) ≡ follows_from s base ps ++ follows_from s (base + length (flat_map (loop_rows s) ps)) qs
 follows-append s base [] qs = let e : base ≡ base + 0 = omega arith in ap (λ n. follows_from s n qs) e
@@ -34,7 +29,7 @@ shorter_option : {A : Type 0} (o : Option A) (xs : List A) (n : ℕ) → length 
 shorter_option None xs n h = omega (arith, h)
 shorter_option (Some x) xs n h = omega (arith, h)
 
-rows_shorter : (s : SolidData) (p : PlacedLoop) (us : List LoopUse) → length (filter_map (row_of s p) us) ≤ length us
+pub rows_shorter : (s : SolidData) (p : PlacedLoop) (us : List LoopUse) → length (filter_map (row_of s p) us) ≤ length us
 rows_shorter s p [] = omega arith
 rows_shorter s p (u ∷ us) = shorter_option (row_of s p u) (filter_map (row_of s p) us) (length us) (rows_shorter s p us)
 
@@ -88,11 +83,11 @@ adds_room s old now ps left all n h lt =
 
 pub added_none : (s : SolidData) (now : Built) → Added s now now []
 added_none s now = record {
-  rows = sym (append_nil now.rows.items);
-  next = sym (append_nil now.next.items);
-  points = sym (append_nil now.points.items);
-  edges = sym (append_nil now.edges.items);
-  vertices = sym (append_nil now.vertices.items);
+  rows = sym (append-nil now.rows.items);
+  next = sym (append-nil now.next.items);
+  points = sym (append-nil now.points.items);
+  edges = sym (append-nil now.edges.items);
+  vertices = sym (append-nil now.vertices.items);
 }
 
 pub adds_done : (s : SolidData) (old now : Built) (left all : List PlacedLoop) → left ≡ [] → Adds s old now left all → Added s old now all
@@ -109,11 +104,11 @@ added_loop s old new p rows next points edges vertices =
     let grown : length new.rows.items ≡ length old.rows.items + length (loop_rows s p) = ap (λ ys. length ys) rows ∙ length-append old.rows.items (loop_rows s p) in
     let n : length new.rows.items - length old.rows.items ≡ length (loop_rows s p) = omega (arith, grown) in
     record {
-      rows = rows ∙ ap (λ ys. old.rows.items ++ ys) (sym (append_nil (loop_rows s p)));
-      next = next ∙ ap (λ ys. old.next.items ++ ys) (ap (λ k. ring_from p.forwards (length old.rows.items) k) n ∙ sym (append_nil (ring_from p.forwards (length old.rows.items) (length (loop_rows s p)))));
-      points = points ∙ ap (λ ys. old.points.items ++ ys) (sym (append_nil (point_in s p)));
-      edges = edges ∙ ap (λ us. old.edges.items ++ flat_map edge_used us) (sym (append_nil p.loop.uses));
-      vertices = vertices ∙ ap (λ us. old.vertices.items ++ flat_map (vertices_used s) us) (sym (append_nil p.loop.uses));
+      rows = rows ∙ ap (λ ys. old.rows.items ++ ys) (sym (append-nil (loop_rows s p)));
+      next = next ∙ ap (λ ys. old.next.items ++ ys) (ap (λ k. ring_from p.forwards (length old.rows.items) k) n ∙ sym (append-nil (ring_from p.forwards (length old.rows.items) (length (loop_rows s p)))));
+      points = points ∙ ap (λ ys. old.points.items ++ ys) (sym (append-nil (point_in s p)));
+      edges = edges ∙ ap (λ us. old.edges.items ++ flat_map edge_used us) (sym (append-nil p.loop.uses));
+      vertices = vertices ∙ ap (λ us. old.vertices.items ++ flat_map (vertices_used s) us) (sym (append-nil p.loop.uses));
     }
 
 pub rows_few : (s : SolidData) (p : PlacedLoop) (old new : List Row) (n : ℕ) → new ≡ old ++ loop_rows s p → length old + length (uses_of (p ∷ [])) < n → length new < n
@@ -133,7 +128,7 @@ loop_added s old now new face forwards f ls l i all lt e same h a =
     (subst (λ b. Added s now new (placed_at face b (i, l) ∷ [])) same a)
 
 pub loops_added : (s : SolidData) (old now : Built) (face : ℕ) (forwards : Bool) (ls : List Loop) (i : ℕ) (all : List PlacedLoop) → length ls ≤ i → Adds s old now (loops_left face forwards ls i) all → Added s old now all
-loops_added s old now face forwards ls i all past h = adds_done s old now (loops_left face forwards ls i) all (ap (λ us. map (placed_at face forwards) (enumerate_from i us)) (drop_past i ls past)) h
+loops_added s old now face forwards ls i all past h = adds_done s old now (loops_left face forwards ls i) all (ap (λ us. map (placed_at face forwards) (enumerate_from i us)) (drop_all i ls past)) h
 
 pub face_room : (s : SolidData) (old now : Built) (flag : Bool) (fs : List FaceUse) (f : FaceUse) (i n : ℕ) (all : List PlacedLoop) → i < length fs → get_or fs i f ≡ f
     → Adds s old now (faces_left flag fs i) all → length old.rows.items + length (uses_of all) < n → length now.rows.items + length (uses_of (placed_in_face flag (i, f))) < n
@@ -145,4 +140,4 @@ pub face_added : (s : SolidData) (old now new : Built) (flag : Bool) (fs : List 
 face_added s old now new flag fs f i all lt e h a = adds_more s old now new (placed_in_face flag (i, f)) (faces_left flag fs (i + 1)) all (subst (λ ps. Adds s old now ps all) (split_faces flag fs f i lt e) h) a
 
 pub faces_added : (s : SolidData) (old now : Built) (flag : Bool) (fs : List FaceUse) (i : ℕ) (all : List PlacedLoop) → length fs ≤ i → Adds s old now (faces_left flag fs i) all → Added s old now all
-faces_added s old now flag fs i all past h = adds_done s old now (faces_left flag fs i) all (ap (λ us. flat_map (placed_in_face flag) (enumerate_from i us)) (drop_past i fs past)) h
+faces_added s old now flag fs i all past h = adds_done s old now (faces_left flag fs i) all (ap (λ us. flat_map (placed_in_face flag) (enumerate_from i us)) (drop_all i fs past)) h

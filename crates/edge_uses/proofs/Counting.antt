@@ -123,3 +123,15 @@ pub two_rows_each : (d : ShellRows) → NoRepeat d.edges → AllByRecursion (λ 
 two_rows_each d none known paired =
     let two : (e : ℕ) → Has d.edges e → uses_of_edge d.rows e ≡ 2 = λ e m. let p = paired e m in omega (arith, p.0, p.1, counts_of_edge d e) in
     omega (arith, all_of_two (uses_of_edge d.rows) d.edges two, uses-all d.rows d.edges none known)
+
+-- how many of a list have this number
+abbrev pub times : {A : Type 0} → (A → ℕ) → ℕ → List A → ℕ
+times f v xs = total (λ x. cond (f x == v) 1 0) xs
+
+pub times_few : {A : Type 0} (f : A → ℕ) (v : ℕ) (xs : List A) → times f v xs ≤ length xs
+times_few f v [] = omega arith
+times_few f v (x ∷ xs) = by_test (f x == v) (times_few f v xs)
+  where
+    by_test : (b : Bool) → times f v xs ≤ length xs → cond b 1 0 + times f v xs ≤ suc (length xs)
+    by_test true h = omega (arith, h)
+    by_test false h = omega (arith, h)

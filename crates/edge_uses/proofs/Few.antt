@@ -1,31 +1,24 @@
 -- A shell of a solid has few faces, loops and uses.
-use Rattle.std.specs.Prelude.{◌≡◌, ◌<◌, ◌≤◌, ◌+◌, ◌^◌, ℕ, zero, suc, Bool, List, [], ◌∷◌, ◌++◌, length, map, flat_map, slice_get, Some, None}
+use Rattle.std.specs.Prelude.{◌≡◌, ◌<◌, ◌≤◌, ◌+◌, ◌^◌, ℕ, Bool, List, [], ◌∷◌, ◌++◌, length, map, flat_map, slice_get, Some}
 use Rattle.std.specs.List.{AllByRecursion, enumerate_from}
-use Rattle.std.proofs.Common.{refl, sym, ◌∙◌, ap, subst, arith, inl, inr, length-append}
+use Rattle.std.proofs.Common.{◌∙◌, ap, subst, arith, inl, inr, length-append}
 use Rattle.std.proofs.lemmas.List.FromFn.{length-enumerate_from}
 use Rattle.std.proofs.lemmas.List.{length-map}
 use Rattle.std.proofs.lemmas.Grind.{flat_map-append}
 use Rattle.solid_data.specs.SolidData.{SolidData, PlacedLoop, same_flag, placed_in_face, placed_loops, shell_uses}
 use Rattle.solid_data.specs.Numbering.{IsNumberedSolid}
 use Rattle.solid_data.specs.declared.solid.Loop.{Loop}
-use Rattle.solid_data.specs.declared.solid.LoopUse.{LoopUse}
 use Rattle.solid_data.specs.declared.solid.FaceUse.{FaceUse}
 use Rattle.solid_data.specs.declared.solid.Shell.{Shell}
-use Rattle.edge_uses.specs.Joining.{placed_at, IsFewFace, IsFewShell}
-use Rattle.solid_data.proofs.Members.{Has, some_inj}
-
-pub has_get : {A : Type 0} (xs : List A) (k : ℕ) (x : A) → slice_get xs k ≡ Some x → Has xs x
-has_get [] k x h = absurd cc
-has_get (y ∷ ys) zero x h = inl (some_inj y x h)
-has_get (y ∷ ys) (suc k) x h = inr (has_get ys k x h)
+use Rattle.edge_uses.specs.Joining.{placed_at, IsFewShell}
+use Rattle.edge_uses.specs.Building.{uses_in}
+use Rattle.solid_data.proofs.Members.{Has}
+pub use Rattle.solid_data.proofs.Members.{has_get}
 
 pub part_shorter : {A B : Type 0} (f : A → List B) (xs : List A) (x : A) → Has xs x → length (f x) ≤ length (flat_map f xs)
 part_shorter f [] x h = absurd h
 part_shorter f (y ∷ ys) x (inl e) = subst (λ z. length (f z) ≤ length (f y ++ flat_map f ys)) e (omega (arith, length-append (f y) (flat_map f ys)))
 part_shorter f (y ∷ ys) x (inr h) = omega (arith, part_shorter f ys x h, length-append (f y) (flat_map f ys))
-
-abbrev uses_in : PlacedLoop → List LoopUse
-uses_in p = p.loop.uses
 
 uses_of_loops : (n face : ℕ) (forwards : Bool) (base : ℕ) (ls : List Loop) → length (flat_map uses_in (map (placed_at face forwards) (enumerate_from base ls))) < n
     → AllByRecursion (λ (l : Loop). length l.uses < n) ls

@@ -1,43 +1,28 @@
 -- Each row is followed by a row.
-use Rattle.std.specs.Prelude.{◌≡◌, ℕ, zero, suc, ◌+◌, ◌<◌, Bool, true, false, List, [], ◌∷◌, length, flat_map, reverse, Some, slice_get, if◌then◌else◌}
-use Rattle.std.proofs.Common.{refl, ◌∙◌, ap, subst, arith, inl, inr, ⊎_elim, length-append}
-use Rattle.std.proofs.lemmas.List.{reverse-append, length-reverse}
+use Rattle.std.specs.Prelude.{◌≡◌, ℕ, ◌+◌, ◌<◌, Bool, true, false, List, [], ◌∷◌, length, flat_map, reverse, Some, slice_get, if◌then◌else◌}
+use Rattle.std.proofs.Common.{refl, ◌∙◌, arith, inl, inr, ⊎_elim, length-append}
+use Rattle.std.proofs.lemmas.List.{length-reverse}
+use Rattle.edge_uses.proofs.ClosedLemmas.{length-next}
 use Rattle.solid_data.specs.Ring.{next_of_each, previous_of_each, numbers_from}
 use Rattle.solid_data.specs.SolidData.{SolidData, PlacedLoop, placed_loops}
 use Rattle.solid_data.specs.declared.solid.Shell.{Shell}
 use Rattle.edge_uses.specs.declared.row.Row.{Row}
 use Rattle.edge_uses.specs.ShellRows.{ShellRows, loop_rows, follows_from, shell_rows}
 use Rattle.edge_uses.specs.Closed.{Follows}
-use Rattle.solid_data.proofs.Members.{has_append, get_below, Has}
+use Rattle.solid_data.proofs.Members.{has_append, get_below, Has, has_get, get_some, has_reverse}
+use Rattle.solid_data.proofs.Occurring.{number_below, length-numbers}
 
 has_next : (xs : List ℕ) (z : ℕ) → Has (next_of_each xs) z → Has xs z
 has_next [] z h = h
 has_next (x ∷ xs) z h = ⊎_elim (λ k. inr k) (λ k. ⊎_elim (λ e. inl e) (λ m. absurd m) k) (has_append xs (x ∷ []) z h)
 
-has_reverse : (xs : List ℕ) (z : ℕ) → Has (reverse xs) z → Has xs z
-has_reverse [] z h = h
-has_reverse (x ∷ xs) z h = ⊎_elim (λ k. inr (has_reverse xs z k)) (λ k. ⊎_elim (λ e. inl e) (λ m. absurd m) k) (has_append (reverse xs) (x ∷ []) z (subst (λ ys. Has ys z) (reverse-append (x ∷ []) xs) h))
-
 ordered_has : (b : Bool) (xs : List ℕ) (z : ℕ) → Has (if b then next_of_each xs else previous_of_each xs) z → Has xs z
 ordered_has true xs z h = has_next xs z h
 ordered_has false xs z h = has_reverse xs z (has_next (reverse xs) z (has_reverse (next_of_each (reverse xs)) z h))
 
-length-next : (xs : List ℕ) → length (next_of_each xs) ≡ length xs
-length-next [] = refl
-length-next (x ∷ xs) = length-append xs (x ∷ []) ∙ omega arith
-
 length-ordered : (b : Bool) (xs : List ℕ) → length (if b then next_of_each xs else previous_of_each xs) ≡ length xs
 length-ordered true xs = length-next xs
 length-ordered false xs = length-reverse (next_of_each (reverse xs)) ∙ (length-next (reverse xs) ∙ length-reverse xs)
-
-number_below : (base n k : ℕ) → Has (numbers_from base n) k → k < base + n
-number_below base zero k m = absurd m
-number_below base (suc n) k (inl e) = omega (arith, e)
-number_below base (suc n) k (inr m) = let h = number_below (base + 1) n k m in omega (arith, h)
-
-length-numbers : (base n : ℕ) → length (numbers_from base n) ≡ n
-length-numbers base zero = refl
-length-numbers base (suc n) = ap suc (length-numbers (base + 1) n)
 
 length-follows : (s : SolidData) (base : ℕ) (ps : List PlacedLoop) → length (follows_from s base ps) ≡ length (flat_map (loop_rows s) ps)
 length-follows s base [] = refl
@@ -58,14 +43,9 @@ follows_below s base (p ∷ ps) x h =
     let ring : List ℕ = numbers_from base n in
     let e = length-append (loop_rows s p) (flat_map (loop_rows s) ps) in
     ⊎_elim
-    (λ m. let k = number_below base n x (ordered_has p.forwards ring x m) in omega (arith, k, e))
+    (λ m. let k = number_below base n x (ordered_has p.forwards ring x m) in omega (arith, k.1, e))
     (λ m. let k = follows_below s (base + n) ps x m in omega (arith, k, e))
     (has_append (if p.forwards then next_of_each ring else previous_of_each ring) (follows_from s (base + n) ps) x h)
-
-get_some : {A : Type 0} (xs : List A) (k : ℕ) → k < length xs → (x : A) × (slice_get xs k ≡ Some x) × Has xs x
-get_some [] k lt = absurd (omega (arith, lt))
-get_some (y ∷ xs) zero lt = (y, refl, inl refl)
-get_some (y ∷ xs) (suc k) lt = let h = get_some xs k (omega (arith, lt)) in (h.0, h.1, inr h.2)
 
 -- each row is followed by a row
 abbrev pub EachIsFollowed : ShellRows → Type 0
@@ -79,6 +59,6 @@ each_is_followed s shell m a at =
     let long = length-follows s 0 (placed_loops shell) in
     let low = get_below rows m a at in
     let t = get_some follows m (omega (arith, long, low)) in
-    let below = follows_below s 0 (placed_loops shell) t.0 t.2 in
+    let below = follows_below s 0 (placed_loops shell) t.0 (has_get follows m t.0 t.1) in
     let b = get_some rows t.0 (omega (arith, below)) in
     (t.0, b.0, t.1, b.1)

@@ -1,13 +1,14 @@
 -- What is left of the loops and uses of a shell.
-use Rattle.std.specs.Prelude.{◌≡◌, ◌<◌, ◌≤◌, ◌+◌, ◌^◌, ℕ, zero, suc, Bool, List, [], ◌∷◌, ◌++◌, ◌⊎◌, length, map, flat_map, slice_get, Option, Some, None, MatchOption, IfSome, IfNone}
+use Rattle.std.specs.Prelude.{◌≡◌, ◌<◌, ◌≤◌, ◌+◌, ℕ, zero, suc, Bool, List, [], ◌∷◌, ◌++◌, ◌⊎◌, length, map, flat_map, slice_get, Option, Some, None, MatchOption, IfSome, IfNone}
 use Rattle.std.specs.List.{AllByRecursion, enumerate_from}
-use Rattle.std.proofs.Common.{refl, sym, ◌∙◌, ap, subst, arith, inl, inr, ⊎_elim, get_or, drop, length-append}
-use Rattle.std.proofs.lemmas.List.{get_or-append-add, map-append}
+use Rattle.std.proofs.Common.{refl, sym, ◌∙◌, ap, subst, arith, inl, inr, ⊎_elim, get_or, drop}
+use Rattle.std.proofs.lemmas.List.{get_or-append-add, length-map, drop_all}
 use Rattle.std.proofs.Math.ListN.{get_or-append}
 use Rattle.std.proofs.Math.Seq.{drop-cons}
+use Rattle.std.proofs.lemmas.Bool.{cases_lt}
 use Rattle.solid_data.specs.Ring.{next_of_each}
 use Rattle.solid_data.specs.Obligations.{Obligation, obligation, FirstFalse, FirstNot, AllHold}
-use Rattle.solid_data.specs.SolidData.{SolidData, PlacedLoop, same_flag, placed_in_face, placed_loops}
+use Rattle.solid_data.specs.SolidData.{SolidData, PlacedLoop, placed_in_face, placed_loops}
 use Rattle.solid_data.specs.declared.solid.Loop.{Loop}
 use Rattle.solid_data.specs.declared.solid.LoopAt.{LoopAt}
 use Rattle.solid_data.specs.declared.solid.LoopUse.{LoopUse}
@@ -21,8 +22,8 @@ use Rattle.edge_uses.specs.ShellRows.{EndsMeet, rows_of}
 use Rattle.edge_uses.proofs.RowLemmas.{ends_meet}
 use Rattle.edge_uses.specs.ShellObligations.{ends_and_starts, loop_obligations, join_obligations, IsFirstUnjoined}
 use Rattle.edge_uses.specs.Joining.{placed_at, AllJoined, IsFirstOpen, LeftOf}
-use Rattle.edge_uses.proofs.ClosedLemmas.{joined_from_hold, hold_from_joined}
-use Rattle.solid_data.proofs.Members.{Has, Has-from_place, All-at}
+use Rattle.edge_uses.proofs.ClosedLemmas.{joined_from_hold, hold_from_joined, length-next}
+use Rattle.solid_data.proofs.Members.{Has-from_place, All-at}
 
 abbrev pub ends_of_uses : SolidData → Loop → List ℕ
 ends_of_uses s l = map (end_of s) l.uses
@@ -36,14 +37,6 @@ use_obligation l u = obligation RuleUnjoined l.entity.0 u.0 (u.1 ≡ u.2)
 -- the obligations of the uses from i on
 abbrev pub uses_left : SolidData → Loop → ℕ → List Obligation
 uses_left s l i = map (use_obligation l) (ends_and_starts (i + 1) (drop i (ends_of_uses s l)) (drop i (starts_of_next s l)))
-
-pub length-map_any : {A : Type 0} (f : A → ℕ) (us : List A) → length (map f us) ≡ length us
-length-map_any f [] = refl
-length-map_any f (u ∷ us) = ap suc (length-map_any f us)
-
-pub length-next : (xs : List ℕ) → length (next_of_each xs) ≡ length xs
-length-next [] = refl
-length-next (x ∷ xs) = length-append xs (x ∷ []) ∙ omega arith
 
 pub next_get : (xs : List ℕ) (i : ℕ) → i + 1 < length xs → get_or (next_of_each xs) i 0 ≡ get_or xs (i + 1) 0
 next_get [] i h = absurd (omega (arith, h))
@@ -59,8 +52,8 @@ split_uses : (s : SolidData) (l : Loop) (i : ℕ) → i < length l.uses → (P :
 split_uses s l i lt P h =
     let xs : List ℕ = ends_of_uses s l in
     let ys : List ℕ = starts_of_next s l in
-    let in_xs : i < length xs = omega (arith, lt, length-map_any (end_of s) l.uses) in
-    let in_ys : i < length ys = omega (arith, lt, length-map_any (start_of s) l.uses, length-next (map (start_of s) l.uses)) in
+    let in_xs : i < length xs = omega (arith, lt, length-map l.uses (end_of s)) in
+    let in_ys : i < length ys = omega (arith, lt, length-map l.uses (start_of s), length-next (map (start_of s) l.uses)) in
     let more : suc i ≡ i + 1 = omega arith in
     subst (λ n. P (use_obligation l (i + 1, get_or xs i 0, get_or ys i 0) ∷ map (use_obligation l) (ends_and_starts (i + 1 + 1) (drop n xs) (drop n ys)))) more
     (subst (λ us. P (map (use_obligation l) (ends_and_starts (i + 1) (get_or xs i 0 ∷ drop (suc i) xs) us))) (drop-cons ys i 0 in_ys)
@@ -76,15 +69,9 @@ pub use_opens : (s : SolidData) (l : Loop) (i : ℕ) (all : List Obligation) →
     → (get_or (ends_of_uses s l) i 0 ≡ get_or (starts_of_next s l) i 0 → ⊥) → FirstFalse all (record { rule = RuleUnjoined; entity = l.entity; place = i + 1 })
 use_opens s l i all lt r ne = (split_uses s l i lt (λ os. Remains os all) r).fails _ (inl (ne, refl))
 
-pub drop_past : {A : Type 0} (n : ℕ) (xs : List A) → length xs ≤ n → drop n xs ≡ []
-drop_past zero [] h = refl
-drop_past (suc n) [] h = refl
-drop_past zero (x ∷ xs) h = absurd (omega (arith, h))
-drop_past (suc n) (x ∷ xs) h = drop_past n xs (omega (arith, h))
-
 pub uses_done : (s : SolidData) (l : Loop) (i : ℕ) → length l.uses ≤ i → Remains (uses_left s l i) (loop_obligations s l) → IsJoined s l
 uses_done s l i h r =
-    let none : drop i (ends_of_uses s l) ≡ [] = drop_past i (ends_of_uses s l) (omega (arith, h, length-map_any (end_of s) l.uses)) in
+    let none : drop i (ends_of_uses s l) ≡ [] = drop_all i (ends_of_uses s l) (omega (arith, h, length-map l.uses (end_of s))) in
     joined_from_hold s l (r.holds (subst (λ us. AllHold (map (use_obligation l) (ends_and_starts (i + 1) us (drop i (starts_of_next s l))))) (sym none) tt))
 
 -- Loops.
@@ -156,23 +143,17 @@ map_get f [] i d h = absurd (omega (arith, h))
 map_get f (u ∷ us) zero d h = refl
 map_get f (u ∷ us) (suc i) d h = map_get f us i d (omega (arith, h))
 
-pub below_or : (a b : ℕ) → (a < b) ⊎ (b ≤ a)
-below_or zero zero = inr (omega arith)
-below_or zero (suc b) = inl (omega arith)
-below_or (suc a) zero = inr (omega arith)
-below_or (suc a) (suc b) = ⊎_elim (λ h. inl (omega (arith, h))) (λ h. inr (omega (arith, h))) (below_or a b)
-
 -- the start of the use that comes next
 next_start : (s : SolidData) (us : List LoopUse) (i next : ℕ) (d : LoopUse) → i < length us → next < length us → (i + 1 < length us → next ≡ i + 1) → (length us ≤ i + 1 → next ≡ 0)
     → get_or (next_of_each (map (start_of s) us)) i 0 ≡ start_of s (get_or us next d)
-next_start s us i next d lt low more last = by_place (below_or (i + 1) (length us))
+next_start s us i next d lt low more last = by_place (cases_lt (i + 1) (length us))
   where
     by_place : (i + 1 < length us) ⊎ (length us ≤ i + 1) → get_or (next_of_each (map (start_of s) us)) i 0 ≡ start_of s (get_or us next d)
     by_place (inl h) =
-        next_get (map (start_of s) us) i (omega (arith, h, length-map_any (start_of s) us))
+        next_get (map (start_of s) us) i (omega (arith, h, length-map us (start_of s)))
         ∙ (ap (λ n. get_or (map (start_of s) us) n 0) (sym (more h)) ∙ map_get (start_of s) us next d low)
     by_place (inr h) =
-        next_last (map (start_of s) us) i (omega (arith, lt, length-map_any (start_of s) us)) (omega (arith, h, length-map_any (start_of s) us))
+        next_last (map (start_of s) us) i (omega (arith, lt, length-map us (start_of s))) (omega (arith, h, length-map us (start_of s)))
         ∙ (ap (λ n. get_or (map (start_of s) us) n 0) (sym (last h)) ∙ map_get (start_of s) us next d low)
 
 pub ends_next : (s : SolidData) (us : List LoopUse) (i next : ℕ) (d : LoopUse) (a b : ℕ) → i < length us → next < length us → (i + 1 < length us → next ≡ i + 1) → (length us ≤ i + 1 → next ≡ 0)

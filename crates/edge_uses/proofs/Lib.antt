@@ -19,3 +19,4 @@ pub mod FirstOf
 pub mod Mating
 pub mod Turn
 pub mod Turns
+pub mod RowNumbers

@@ -1,16 +1,16 @@
 -- What was read is the rows of the shell.
-use Rattle.std.specs.Prelude.{◌≡◌, ◌<◌, ◌^◌, ℕ, List, [], ◌∷◌, ◌++◌, All, length, flat_map, Option, Some, slice_get}
-use Rattle.std.proofs.Common.{refl, sym, ◌∙◌, ap, subst, arith}
+use Rattle.std.specs.Prelude.{◌≡◌, ◌<◌, ◌^◌, ℕ, List, [], ◌++◌, All, length, flat_map, Some, slice_get}
+use Rattle.std.proofs.Common.{sym, ◌∙◌, ap, subst, arith}
+use Rattle.solid_data.proofs.Members.{has_get}
 use Rattle.solid_data.specs.Ring.{numbers_from}
 use Rattle.solid_data.specs.Numbering.{IsNumberedSolid}
-use Rattle.solid_data.specs.SolidData.{SolidData, placed_loops, shell_edges, shell_vertices, shell_uses, occurring, edge_used, vertices_used}
-use Rattle.solid_data.specs.declared.solid.LoopAt.{LoopAt}
+use Rattle.solid_data.specs.SolidData.{SolidData, placed_loops, shell_edges, shell_vertices, shell_uses, occurring}
 use Rattle.solid_data.specs.declared.solid.Shell.{Shell}
 use Rattle.edge_uses.specs.declared.row.Row.{Row}
 use Rattle.edge_uses.specs.declared.building.Built.{Built}
-use Rattle.edge_uses.specs.ShellRows.{ShellRows, shell_rows, loop_rows, follows_from, AreRows}
+use Rattle.edge_uses.specs.ShellRows.{shell_rows, loop_rows, follows_from, AreRows}
 use Rattle.edge_uses.specs.Building.{uses_of, point_in, Added, HasKnownParts}
-use Rattle.edge_uses.proofs.Few.{part_shorter, has_get}
+use Rattle.edge_uses.proofs.Few.{part_shorter}
 use Rattle.edge_uses.proofs.Whole.{are_rows, known_parts}
 
 pub rows_made : (s : SolidData) (shell : Shell) (old new : Built) (edges vertices : List ℕ) (faces : ℕ) → old.rows.items ≡ [] → old.next.items ≡ [] → old.points.items ≡ [] → old.edges.items ≡ [] → old.vertices.items ≡ []

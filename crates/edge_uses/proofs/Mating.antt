@@ -1,9 +1,8 @@
 -- The mate of each row.
-use Rattle.std.specs.Prelude.{◌≡◌, ◌<◌, ◌≤◌, ◌+◌, ◌⊎◌, ℕ, zero, suc, Bool, true, false, not, List, [], ◌∷◌, ◌++◌, length, Option, Some, None, slice_get, Contains, if◌then◌else◌, All}
+use Rattle.std.specs.Prelude.{◌≡◌, ◌<◌, ◌⊎◌, ℕ, zero, suc, Bool, true, false, not, List, [], ◌∷◌, ◌++◌, length, Some, slice_get, Contains, if◌then◌else◌, All}
 use Rattle.std.specs.List.{AllByRecursion}
 use Rattle.std.proofs.Common.{refl, sym, ◌∙◌, ap, subst, arith, inl, inr, ⊎_elim, get_or}
 use Rattle.std.proofs.lemmas.Option.{slice_get-get_or}
-use Rattle.solid_data.specs.declared.solid.EdgeId.{EdgeId}
 use Rattle.edge_uses.specs.declared.row.Row.{Row}
 use Rattle.edge_uses.specs.declared.tally.Seen.{Seen}
 use Rattle.edge_uses.specs.ShellRows.{ShellRows}
@@ -12,18 +11,16 @@ use Rattle.edge_uses.specs.Mates.{ArePaired, RunsOn}
 use Rattle.edge_uses.specs.Tally.{seen_of, IsSeen, IsTally}
 use Rattle.edge_uses.specs.Ranges.{IsWithin}
 use Rattle.edge_uses.specs.declared.spanning.Span.{Span}
-use Rattle.solid_data.proofs.Members.{some_inj, Has, Has-from_Contains, All-at}
+use Rattle.solid_data.proofs.Members.{some_inj, Has-from_Contains, All-at}
 use Rattle.edge_uses.proofs.Joins.{at_place}
 use Rattle.edge_uses.proofs.Steps.{default_apart}
+use Rattle.edge_uses.proofs.Turn.{edge_id}
 
 pub get_pushed : (xs : List ℕ) (m r k : ℕ) → slice_get (xs ++ m ∷ []) r ≡ Some k → (slice_get xs r ≡ Some k) ⊎ ((r ≡ length xs) × (m ≡ k))
 get_pushed [] m zero k h = inr (refl, some_inj m k h)
 get_pushed [] m (suc r) k h = absurd cc
 get_pushed (x ∷ xs) m zero k h = inl h
 get_pushed (x ∷ xs) m (suc r) k h = ⊎_elim (λ a. inl a) (λ b. inr (ap suc b.0, b.1)) (get_pushed xs m r k h)
-
-edge_id : (a b : EdgeId) → a.0 ≡ b.0 → a ≡ b
-edge_id a b h = ap (λ n. record { 0 = n }) h
 
 -- the edge of a row is paired
 pub row_paired : (d : ShellRows) → ArePaired d → (i : ℕ) (row : Row) → i < length d.rows → get_or d.rows i row ≡ row → IsPaired d row.edge.0

@@ -13,6 +13,7 @@ use Rattle.solid_data.specs.declared.solid.LoopUse.{LoopUse}
 use Rattle.solid_data.specs.declared.solid.LoopUse.TheVariants.{EdgeUse, VertexUse}
 use Rattle.solid_data.specs.declared.solid.Shell.{Shell}
 use Rattle.solid_data.proofs.Members.{OptionAll, all_filter_map}
+use Rattle.solid_data.proofs.ObligationLemmas.{AllByRecursion-weaker}
 use Rattle.edge_uses.specs.declared.row.Row.{Row}
 use Rattle.edge_uses.specs.ShellRows.{row_of_edge, row_of, loop_rows, follows_from, shell_rows}
 use Rattle.edge_uses.proofs.RowLemmas.{EachFollows, follows_tell}
@@ -93,17 +94,13 @@ of_use : (s : SolidData) (p : PlacedLoop) (u : LoopUse) → OptionAll (λ (r : R
 of_use s p (EdgeUse edge along) = of_edge p.at edge (same_flag along p.forwards) (slice_get s.edges edge.0)
 of_use s p (VertexUse vertex) = tt
 
-weaker : (P Q : Row → Type 0) (rows : List Row) → ((r : Row) → P r → Q r) → AllByRecursion P rows → AllByRecursion Q rows
-weaker P Q [] f h = tt
-weaker P Q (r ∷ rows) f h = (f r h.0, weaker P Q rows f h.1)
-
 -- what tells of the loop alone is told of the next row too
 one_loop : (s : SolidData) (f : Row → ℕ) (g : LoopAt → ℕ) → ((r : Row) → f r ≡ g r.at) → (ps : List PlacedLoop) → AllByRecursion (EachFollows s f f) ps
 one_loop s f g tells [] = tt
 one_loop s f g tells (p ∷ ps) =
     let rows = loop_rows s p in
     let named : AllByRecursion (λ (r : Row). r.at ≡ p.at) rows = all_filter_map (λ (r : Row). r.at ≡ p.at) (row_of s p) p.loop.uses (λ u m. of_use s p u) in
-    let same : map f rows ≡ alike (g p.at) (length rows) = all_alike f (g p.at) rows (weaker (λ (r : Row). r.at ≡ p.at) (λ (r : Row). f r ≡ g p.at) rows (λ r e. tells r ∙ ap g e) named) in
+    let same : map f rows ≡ alike (g p.at) (length rows) = all_alike f (g p.at) rows (AllByRecursion-weaker (λ (r : Row). r.at ≡ p.at) (λ (r : Row). f r ≡ g p.at) rows (λ r e. tells r ∙ ap g e) named) in
     (subst (λ xs. xs ≡ (if p.forwards then next_of_each xs else previous_of_each xs)) (sym same) (alike_ring (g p.at) (length rows) p.forwards), one_loop s f g tells ps)
 
 loop_at : (a b : LoopAt) → a.face.0 ≡ b.face.0 → a.place ≡ b.place → a ≡ b

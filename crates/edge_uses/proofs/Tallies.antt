@@ -1,20 +1,20 @@
 -- What has been seen of each edge, row by row.
 use Rattle.std.specs.Prelude.{◌≡◌, ◌≢◌, ◌<◌, ◌≤◌, ◌+◌, ◌-◌, ◌==◌, ◌&&◌, ◌⊎◌, ℕ, zero, suc, Bool, true, false, not, cond, List, [], ◌∷◌, length, slice_set, slice_get, Some}
-use Rattle.std.proofs.Common.{refl, sym, ◌∙◌, ap, subst, arith, inl, inr, ⊎_elim, get_or, drop}
+use Rattle.std.proofs.Common.{refl, sym, ◌∙◌, ap, subst, arith, inl, inr, get_or, drop}
 use Rattle.std.proofs.lemmas.Bool.Decides.{eqb_tells}
-use Rattle.std.proofs.lemmas.Bool.{eq-eqb, eqb-true}
+use Rattle.std.proofs.lemmas.Bool.{eq-eqb}
 use Rattle.std.proofs.lemmas.Option.{slice_get-get_or}
+use Rattle.std.proofs.lemmas.List.{drop_all}
 use Rattle.edge_uses.specs.declared.row.Row.{Row}
 use Rattle.edge_uses.specs.declared.tally.Seen.{Seen}
 use Rattle.edge_uses.specs.ShellRows.{ShellRows}
-use Rattle.edge_uses.specs.Closed.{row_count}
 use Rattle.edge_uses.specs.Mates.{RunsOn}
 use Rattle.edge_uses.specs.Tally.{unseen, seen_once_more, seen_of, IsSeen}
 use Rattle.edge_uses.specs.Ranges.{IsWithin}
 use Rattle.edge_uses.specs.declared.spanning.Span.{Span}
 use Rattle.solid_data.proofs.Members.{total, count_by-total}
 use Rattle.std.specs.List.{AllByRecursion}
-use Rattle.edge_uses.proofs.Joins.{split_drop, drop_past, at_place}
+use Rattle.edge_uses.proofs.Joins.{split_drop, at_place}
 use Rattle.edge_uses.proofs.Steps.{default_apart}
 
 abbrev pub runs : ℕ → Bool → Row → Bool
@@ -51,7 +51,7 @@ seen_none d e = record { along = omega arith; against = omega arith; along_row =
 
 pub seen_done : (d : ShellRows) (i e : ℕ) (seen : Seen) → length d.rows ≤ i → SeenBefore d i e seen → IsSeen d e seen
 seen_done d i e seen past h =
-    let none : drop i d.rows ≡ [] = drop_past i d.rows past in
+    let none : drop i d.rows ≡ [] = drop_all i d.rows past in
     let a : seen.along + 0 ≡ times e true d.rows = subst (λ rs. seen.along + times e true rs ≡ times e true d.rows) none h.along in
     let b : seen.against + 0 ≡ times e false d.rows = subst (λ rs. seen.against + times e false rs ≡ times e false d.rows) none h.against in
     record {

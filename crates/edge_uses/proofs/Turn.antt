@@ -1,20 +1,18 @@
 -- Where edges are paired, a row has one mate and turns to one row, which starts where it does.
-use Rattle.std.specs.Prelude.{◌≡◌, ℕ, zero, suc, ◌+◌, ◌<◌, ◌≤◌, ◌==◌, ◌&&◌, Bool, true, false, not, cond, List, [], ◌∷◌, length, Contains, Option, Some, None, slice_get}
-use Rattle.std.specs.List.{AllByRecursion}
-use Rattle.std.proofs.Common.{refl, sym, ◌∙◌, ap, subst, arith, inl, inr, ⊎_elim}
-use Rattle.std.proofs.lemmas.Bool.{eq-eqb, eqb-true}
+use Rattle.std.specs.Prelude.{◌≡◌, ℕ, ◌==◌, ◌&&◌, Bool, true, false, not, Contains, Some, slice_get}
+use Rattle.std.proofs.Common.{refl, sym, ◌∙◌, ap, arith}
+use Rattle.std.proofs.lemmas.Bool.{eq-eqb, eqb-true, and_from, and_parts, not-true}
 use Rattle.solid_data.specs.declared.solid.EdgeId.{EdgeId}
 use Rattle.solid_data.specs.declared.solid.VertexId.{VertexId}
 use Rattle.edge_uses.specs.declared.row.Row.{Row}
-use Rattle.edge_uses.specs.ShellRows.{ShellRows, EndsMeet, AreRows}
-use Rattle.edge_uses.specs.Closed.{AreMates, Turns, StartsAt, IsPaired, row_count}
+use Rattle.edge_uses.specs.ShellRows.{ShellRows}
+use Rattle.edge_uses.specs.Closed.{AreMates, Turns, IsPaired, row_count}
 use Rattle.edge_uses.specs.Mates.{ArePaired}
-use Rattle.solid_data.proofs.Members.{some_inj, Has, Has-from_Contains, All-at, total, count_by-total}
+use Rattle.solid_data.proofs.Members.{some_inj, Has-from_Contains, All-at, count_by-total, has_get}
 use Rattle.edge_uses.proofs.Counting.{found_row, one_place}
 use Rattle.edge_uses.proofs.Cycle.{AreTurning}
-use Rattle.edge_uses.proofs.Few.{has_get}
 
-not-not : (b c : Bool) → b ≡ not c → c ≡ not b
+pub not-not : (b c : Bool) → b ≡ not c → c ≡ not b
 not-not true true h = absurd cc
 not-not true false h = refl
 not-not false true h = refl
@@ -28,27 +26,13 @@ pub pair_counts : (d : ShellRows) (e : ℕ) (b : Bool) → IsPaired d e → row_
 pair_counts d e true h = h.0
 pair_counts d e false h = h.1
 
-passes_edge : (e : ℕ) (b : Bool) → Row → Bool
-passes_edge e true r = (r.edge.0 == e) && r.along
-passes_edge e false r = (r.edge.0 == e) && not r.along
-
 pub one_of_edge : (d : ShellRows) (e : ℕ) (b : Bool) (n m : ℕ) (x y : Row) → row_count d e b ≡ 1 → slice_get d.rows n ≡ Some x → slice_get d.rows m ≡ Some y → x.edge.0 ≡ e → y.edge.0 ≡ e → x.along ≡ b → y.along ≡ b → n ≡ m
 one_of_edge d e true n m x y one at_n at_m ex ey bx by =
     let p : Row → Bool = λ r. (r.edge.0 == e) && r.along in
-    one_place p d.rows (sym (count_by-total p d.rows) ∙ one) n m x y at_n at_m (both (x.edge.0 == e) x.along (eq-eqb x.edge.0 e ex) bx) (both (y.edge.0 == e) y.along (eq-eqb y.edge.0 e ey) by)
-  where
-    both : (s t : Bool) → s ≡ true → t ≡ true → (s && t) ≡ true
-    both true true h k = refl
-    both true false h k = k
-    both false t h k = h
+    one_place p d.rows (sym (count_by-total p d.rows) ∙ one) n m x y at_n at_m (and_from (x.edge.0 == e) x.along (eq-eqb x.edge.0 e ex) bx) (and_from (y.edge.0 == e) y.along (eq-eqb y.edge.0 e ey) by)
 one_of_edge d e false n m x y one at_n at_m ex ey bx by =
     let p : Row → Bool = λ r. (r.edge.0 == e) && not r.along in
-    one_place p d.rows (sym (count_by-total p d.rows) ∙ one) n m x y at_n at_m (both (x.edge.0 == e) x.along (eq-eqb x.edge.0 e ex) bx) (both (y.edge.0 == e) y.along (eq-eqb y.edge.0 e ey) by)
-  where
-    both : (s t : Bool) → s ≡ true → t ≡ false → (s && not t) ≡ true
-    both true true h k = sym k
-    both true false h k = refl
-    both false t h k = h
+    one_place p d.rows (sym (count_by-total p d.rows) ∙ one) n m x y at_n at_m (and_from (x.edge.0 == e) (not x.along) (eq-eqb x.edge.0 e ex) (ap not bx)) (and_from (y.edge.0 == e) (not y.along) (eq-eqb y.edge.0 e ey) (ap not by))
 
 -- a row has one mate
 pub one_mate : (d : ShellRows) → PairedRows d → (r m k : ℕ) → AreMates d r m → AreMates d r k → m ≡ k
@@ -61,11 +45,7 @@ one_mate d paired n m k a b =
     let way_b : b.mate.along ≡ not a.row.along = not-not b.row.along b.mate.along b.opposite ∙ ap not (sym (ap (λ (r : Row). r.along) same)) in
     one_of_edge d a.row.edge.0 (not a.row.along) m k a.mate b.mate (pair_counts d a.row.edge.0 (not a.row.along) pair) a.at_m b.at_m edge_a edge_b way_a way_b
 
-both_true : (s t : Bool) → (s && t) ≡ true → (s ≡ true) × (t ≡ true)
-both_true true t h = (refl, h)
-both_true false t h = absurd cc
-
-edge_id : (a b : EdgeId) → a.0 ≡ b.0 → a ≡ b
+pub edge_id : (a b : EdgeId) → a.0 ≡ b.0 → a ≡ b
 edge_id a b h = ap (λ n. record { 0 = n }) h
 
 -- an edge that is paired has a row in each direction
@@ -73,19 +53,15 @@ pub row_of_edge_along : (d : ShellRows) (e : ℕ) → IsPaired d e → (n : ℕ)
 row_of_edge_along d e h =
     let p : Row → Bool = λ r. (r.edge.0 == e) && r.along in
     let f = found_row p d.rows (omega (arith, h.0, count_by-total p d.rows)) in
-    let k = both_true (f.1.edge.0 == e) f.1.along f.3 in
+    let k = and_parts (f.1.edge.0 == e) f.1.along f.3 in
     (f.0, f.1, f.2, eqb-true f.1.edge.0 e k.0, k.1)
 
 pub row_of_edge_against : (d : ShellRows) (e : ℕ) → IsPaired d e → (n : ℕ) × (r : Row) × (slice_get d.rows n ≡ Some r) × (r.edge.0 ≡ e) × (r.along ≡ false)
 row_of_edge_against d e h =
     let p : Row → Bool = λ r. (r.edge.0 == e) && not r.along in
     let f = found_row p d.rows (omega (arith, h.1, count_by-total p d.rows)) in
-    let k = both_true (f.1.edge.0 == e) (not f.1.along) f.3 in
+    let k = and_parts (f.1.edge.0 == e) (not f.1.along) f.3 in
     (f.0, f.1, f.2, eqb-true f.1.edge.0 e k.0, not-true f.1.along k.1)
-  where
-    not-true : (b : Bool) → not b ≡ true → b ≡ false
-    not-true true h = sym h
-    not-true false h = refl
 
 -- each row has a mate
 pub has_mate : (d : ShellRows) → PairedRows d → (r : ℕ) (row : Row) → slice_get d.rows r ≡ Some row → (m : ℕ) × AreMates d r m
@@ -105,7 +81,7 @@ paired_rows d whole n a at =
     let has : Contains d.edges a.edge.0 = All-at (λ (r : Row). Contains d.edges r.edge.0) d.rows whole.rows.edges_hold a (has_get d.rows n a at) in
     All-at (IsPaired d) d.edges whole.paired a.edge.0 (Has-from_Contains d.edges a.edge.0 has)
 
-turns_to_one : (d : ShellRows) → PairedRows d → (x y z : ℕ) → Turns d x y → Turns d x z → y ≡ z
+pub turns_to_one : (d : ShellRows) → PairedRows d → (x y z : ℕ) → Turns d x y → Turns d x z → y ≡ z
 turns_to_one d paired x y z (m, a, f) (k, b, g) =
     let same : m ≡ k = one_mate d paired x m k a b in
     some_inj y z (sym f ∙ (ap (λ n. slice_get d.follows n) same ∙ g))

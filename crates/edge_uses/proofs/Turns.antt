@@ -1,29 +1,22 @@
 -- Where rows are paired, mates are an involution, and turning permutes the rows of a vertex.
-use Rattle.std.specs.Prelude.{◌≡◌, ℕ, zero, suc, ◌+◌, ◌<◌, ◌≤◌, ◌==◌, ◌⊎◌, Bool, true, false, not, List, [], ◌∷◌, length, Contains, Option, Some, None, slice_get}
-use Rattle.std.specs.List.{AllByRecursion, IsDistinct}
-use Rattle.std.proofs.Common.{refl, sym, ◌∙◌, ap, subst, arith, inl, inr, ⊎_elim, get_or}
-use Rattle.std.proofs.lemmas.Bool.{eq-eqb, eqb-true}
+use Rattle.std.specs.Prelude.{◌≡◌, ℕ, zero, suc, ◌+◌, ◌<◌, ◌≤◌, ◌==◌, Bool, true, false, not, List, length, Contains, Some, slice_get}
+use Rattle.std.specs.List.{IsDistinct}
+use Rattle.std.proofs.Common.{refl, sym, ◌∙◌, ap, subst, arith, ⊎_elim, get_or}
+use Rattle.std.proofs.lemmas.Bool.{eq-eqb, eqb-true, cases_lt}
 use Rattle.std.proofs.lemmas.Bool.Decides.{eqb_tells}
 use Rattle.std.proofs.lemmas.List.Sorted.{length_permutation, Contains-permutation}
-use Rattle.std.proofs.lemmas.Map.Keys.{IsDistinct-cons, IsDistinct-IsPermutation, apart_from_distinct}
+use Rattle.std.proofs.lemmas.Map.Keys.{IsDistinct-IsPermutation, apart_from_distinct}
 use Rattle.std.proofs.lemmas.Option.{slice_get-get_or, get_or_from_slice_get}
 use Rattle.solid_data.specs.Ring.{numbers_from}
 use Rattle.solid_data.specs.declared.solid.VertexId.{VertexId}
 use Rattle.solid_data.proofs.Members.{some_inj, Has, get_below, Contains-from_Has}
-use Rattle.solid_data.proofs.Occurring.{numbers_have, numbers_above}
+use Rattle.solid_data.proofs.Occurring.{numbers_have, numbers_above, length-numbers}
 use Rattle.solid_data.proofs.ObligationLemmas.{AllByRecursion-weaker}
 use Rattle.edge_uses.specs.declared.row.Row.{Row}
 use Rattle.edge_uses.specs.ShellRows.{ShellRows, AreRows}
-use Rattle.edge_uses.specs.Closed.{AreMates, Follows, Turns, StartsAt}
+use Rattle.edge_uses.specs.Closed.{AreMates, Follows}
 use Rattle.edge_uses.specs.Mates.{ArePaired, AreInvolution, TurnsPermute}
-use Rattle.edge_uses.proofs.Joins.{below_or}
-use Rattle.edge_uses.proofs.Turn.{one_mate, has_mate, paired_rows, turning}
-
-not-not : (b c : Bool) → b ≡ not c → c ≡ not b
-not-not true true h = absurd cc
-not-not true false h = refl
-not-not false true h = refl
-not-not false false h = absurd cc
+use Rattle.edge_uses.proofs.Turn.{one_mate, has_mate, paired_rows, turning, not-not}
 
 pub mates_back : (d : ShellRows) (r m : ℕ) → AreMates d r m → AreMates d m r
 mates_back d r m h = record { row = h.mate; mate = h.row; at_r = h.at_m; at_m = h.at_r; one_edge = sym h.one_edge; opposite = not-not h.row.along h.mate.along h.opposite }
@@ -65,13 +58,9 @@ not_before xs q r t distinct at_q at_r lt =
 pub follows_apart : (d : ShellRows) → AreRows d → (q r t : ℕ) → Follows d q t → Follows d r t → q ≡ r
 follows_apart d rows q r t f g =
     let distinct : IsDistinct ◌==◌ d.follows = IsDistinct-IsPermutation ◌==◌ flips (numbers_from 0 (length d.rows)) d.follows rows.permuted (numbers_distinct 0 (length d.rows)) in
-    let a : r ≤ q = ⊎_elim (λ lt. absurd (not_before d.follows q r t distinct f g lt)) (λ le. le) (below_or q r) in
-    let b : q ≤ r = ⊎_elim (λ lt. absurd (not_before d.follows r q t distinct g f lt)) (λ le. le) (below_or r q) in
+    let a : r ≤ q = ⊎_elim (λ lt. absurd (not_before d.follows q r t distinct f g lt)) (λ le. le) (cases_lt q r) in
+    let b : q ≤ r = ⊎_elim (λ lt. absurd (not_before d.follows r q t distinct g f lt)) (λ le. le) (cases_lt r q) in
     omega (arith, a, b)
-
-length-numbers : (base n : ℕ) → length (numbers_from base n) ≡ n
-length-numbers base zero = refl
-length-numbers base (suc n) = ap suc (length-numbers (base + 1) n)
 
 -- each row follows one
 pub follows_onto : (d : ShellRows) → AreRows d → (t : ℕ) (b : Row) → slice_get d.rows t ≡ Some b → (m : ℕ) × (a : Row) × Follows d m t × (slice_get d.rows m ≡ Some a)

@@ -1,10 +1,10 @@
 -- What the rows of a shell of a solid keep.
-use Rattle.std.specs.Prelude.{◌≡◌, ◌<◌, ◌≤◌, ◌+◌, ◌-◌, ◌*◌, ◌^◌, ◌==◌, ℕ, zero, suc, Bool, true, false, not, cond, List, [], ◌∷◌, ◌++◌, length, map, flat_map, filter, All, Contains, Option, Some, None, slice_get, slice_index}
+use Rattle.std.specs.Prelude.{◌≡◌, ◌<◌, ◌≤◌, ◌+◌, ◌*◌, ◌^◌, ◌==◌, ℕ, zero, suc, Bool, true, false, not, cond, List, [], ◌∷◌, length, map, flat_map, filter, All, Contains, Option, Some, None, slice_get, slice_index}
 use Rattle.std.specs.List.{AllByRecursion}
 use Rattle.std.specs.List.Sorted.{IsStrictlyIncreasing}
-use Rattle.std.proofs.Common.{refl, sym, ◌∙◌, ap, subst, arith, inl, inr, length-append, get_or}
+use Rattle.std.proofs.Common.{sym, ◌∙◌, ap, subst, arith, length-append, get_or}
 use Rattle.std.proofs.lemmas.Bool.{eqb-true}
-use Rattle.solid_data.specs.Ring.{numbers_from, distinct}
+use Rattle.solid_data.specs.Ring.{distinct}
 use Rattle.solid_data.specs.Numbering.{IsNumberedSolid}
 use Rattle.solid_data.specs.SolidData.{SolidData, PlacedLoop, placed_loops, shell_uses, shell_edges, shell_vertices, edge_used, ends_of, vertices_used}
 use Rattle.solid_data.specs.declared.solid.Edge.{Edge}
@@ -17,10 +17,11 @@ use Rattle.solid_data.specs.declared.solid.Shell.{Shell}
 use Rattle.solid_data.proofs.ObligationLemmas.{AllByRecursion-weaker}
 use Rattle.edge_uses.specs.declared.row.Row.{Row}
 use Rattle.edge_uses.specs.ShellRows.{ShellRows, shell_rows, loop_rows, point_of, AreRows}
-use Rattle.edge_uses.specs.Building.{uses_of, point_in, HasKnownParts}
+use Rattle.edge_uses.specs.Building.{point_in, HasKnownParts}
 use Rattle.edge_uses.specs.Closed.{begin_of}
 use Rattle.solid_data.proofs.Members.{some_inj, Has, Has-from_place, Contains-from_Has, has_flat_map, all_flat_map, all_has, Rises}
-use Rattle.solid_data.proofs.Occurring.{VerticesKnown}
+use Rattle.solid_data.proofs.Occurring.{VerticesKnown, number_below, length-numbers}
+use Rattle.solid_data.proofs.Keys.{to_distinct}
 use Rattle.edge_uses.proofs.RowFacts.{loops_below, faces_known, edges_known, starts_known, stops_known, points_known, edges_rise, vertices_rise}
 use Rattle.edge_uses.proofs.RowShape.{HasShape, all_shapes, shape_at}
 use Rattle.edge_uses.proofs.FollowRows.{each_is_followed}
@@ -28,26 +29,6 @@ use Rattle.edge_uses.proofs.Permuted.{rows_permuted, follows_in_loop}
 use Rattle.edge_uses.proofs.Few.{part_shorter}
 use Rattle.edge_uses.proofs.Steps.{default_apart}
 use Rattle.edge_uses.proofs.Adding.{all_rows_shorter}
-
-to_filter : (p : ℕ → Bool) (xs : List ℕ) (k : ℕ) → Has xs k → p k ≡ true → Has (filter p xs) k
-to_filter p [] k h e = h
-to_filter p (x ∷ xs) k (inl same) e =
-    let yes : p x ≡ true = ap p same ∙ e in
-    subst (λ b. Has (cond b (x ∷ filter p xs) (filter p xs)) k) (sym yes) (inl same)
-to_filter p (x ∷ xs) k (inr h) e = by_test (p x) (to_filter p xs k h e)
-  where
-    by_test : (b : Bool) → Has (filter p xs) k → Has (cond b (x ∷ filter p xs) (filter p xs)) k
-    by_test true m = inr m
-    by_test false m = m
-
-pub to_distinct : (xs : List ℕ) (k : ℕ) → Has xs k → Has (distinct ◌==◌ xs) k
-to_distinct [] k h = h
-to_distinct (x ∷ xs) k (inl e) = inl e
-to_distinct (x ∷ xs) k (inr h) = by_test (x == k) refl (to_distinct xs k h)
-  where
-    by_test : (b : Bool) → (x == k) ≡ b → Has (distinct ◌==◌ xs) k → Has (x ∷ filter (λ y. not (x == y)) (distinct ◌==◌ xs)) k
-    by_test true e m = inl (eqb-true x k e)
-    by_test false e m = inr (to_filter (λ y. not (x == y)) (distinct ◌==◌ xs) k m (ap not e))
 
 filter_shorter : (p : ℕ → Bool) (xs : List ℕ) → length (filter p xs) ≤ length xs
 filter_shorter p [] = omega arith
@@ -60,15 +41,6 @@ filter_shorter p (x ∷ xs) = by_test (p x) (filter_shorter p xs)
 distinct_shorter : (xs : List ℕ) → length (distinct ◌==◌ xs) ≤ length xs
 distinct_shorter [] = omega arith
 distinct_shorter (x ∷ xs) = omega (arith, distinct_shorter xs, filter_shorter (λ y. not (x == y)) (distinct ◌==◌ xs))
-
-pub number_below : (base n k : ℕ) → Has (numbers_from base n) k → (base ≤ k) × (k < base + n)
-number_below base zero k h = absurd h
-number_below base (suc n) k (inl e) = (omega (arith, e), omega (arith, e))
-number_below base (suc n) k (inr h) = let b = number_below (base + 1) n k h in (omega (arith, b.0), omega (arith, b.1))
-
-length-numbers : (base n : ℕ) → length (numbers_from base n) ≡ n
-length-numbers base zero = refl
-length-numbers base (suc n) = ap suc (length-numbers (base + 1) n)
 
 edges_shorter : (us : List LoopUse) → length (flat_map edge_used us) ≤ length us
 edges_shorter [] = omega arith
@@ -110,7 +82,7 @@ all_from P xs f i d lt = f (get_or xs i d) (Has-from_place xs (get_or xs i d) i 
 
 pub vertices_known : (s : SolidData) (shell : Shell) → IsNumberedSolid s → Has s.shells shell → VerticesKnown s shell
 vertices_known s shell numbered has v m =
-    let all : Has (distinct ◌==◌ (flat_map (shell_vertices s) s.shells)) v = to_distinct (flat_map (shell_vertices s) s.shells) v (has_flat_map (shell_vertices s) s.shells shell v has m) in
+    let all : Has (distinct ◌==◌ (flat_map (shell_vertices s) s.shells)) v = to_distinct ◌==◌ eqb-true (flat_map (shell_vertices s) s.shells) v (has_flat_map (shell_vertices s) s.shells shell v has m) in
     let b = number_below 0 (length s.vertices) v (subst (λ xs. Has xs v) numbered.vertices all) in
     omega (arith, b.1)
 
@@ -118,7 +90,7 @@ vertices_known s shell numbered has v m =
 pub known_parts : (s : SolidData) (shell : Shell) → IsNumberedSolid s → Has s.shells shell → HasKnownParts s shell
 known_parts s shell numbered has = record {
   edges = all_from (λ e. e < length s.edges) (shell_edges shell) (λ e m.
-      let all : Has (distinct ◌==◌ (flat_map shell_edges s.shells)) e = to_distinct (flat_map shell_edges s.shells) e (has_flat_map shell_edges s.shells shell e has m) in
+      let all : Has (distinct ◌==◌ (flat_map shell_edges s.shells)) e = to_distinct ◌==◌ eqb-true (flat_map shell_edges s.shells) e (has_flat_map shell_edges s.shells shell e has m) in
       let b = number_below 0 (length s.edges) e (subst (λ xs. Has xs e) numbered.edges all) in
       omega (arith, b.1));
   vertices = all_from (λ v. v < length s.vertices) (shell_vertices s shell) (vertices_known s shell numbered has);

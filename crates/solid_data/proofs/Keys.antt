@@ -1,5 +1,5 @@
 -- Lists of keys without repeats, and the place of a key in such a list.
-use Rattle.std.specs.Prelude.{◌≡◌, ℕ, suc, ◌<◌, Bool, true, false, not, cond, List, [], ◌∷◌, length, filter, Some, slice_get, if◌then◌else◌}
+use Rattle.std.specs.Prelude.{◌≡◌, suc, ◌<◌, Bool, true, false, not, cond, List, [], ◌∷◌, length, filter, Some, slice_get, if◌then◌else◌}
 use Rattle.std.proofs.Common.{refl, sym, ◌∙◌, ap, subst, arith, inl, inr}
 use Rattle.solid_data.specs.Ring.{distinct, place_of}
 use Rattle.solid_data.proofs.Members.{some_inj, Has}

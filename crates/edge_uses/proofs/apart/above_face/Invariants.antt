@@ -1,6 +1,5 @@
 use Rattle.std.proofs.Common.{◌≡◌, drop, flat_map, max}
-use Rattle.solid_data.specs.SolidData.{vertices_used}
-use Rattle.edge_uses.specs.Before.{above_of, loop_vertices, face_vertices}
+use Rattle.edge_uses.specs.Before.{above_of, loop_vertices}
 use Rattle.edge_uses.proofs.apart.above_face.Given as goal
 
 abbrev pub invariant-loops : goal.invariant-loops

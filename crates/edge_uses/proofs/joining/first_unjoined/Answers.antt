@@ -1,4 +1,4 @@
-use Rattle.std.proofs.Common.{sym, ap, ◌∙◌, ◌≡◌, Some, slice_get, option_copied}
+use Rattle.std.proofs.Common.{sym, ap, ◌∙◌, option_copied}
 use Rattle.edge_uses.proofs.Few.{few_shell}
 use Rattle.edge_uses.proofs.Joins.{first_at_shell, meet_at_shell}
 use Rattle.edge_uses.proofs.joining.first_unjoined.Goals as goal

@@ -1,4 +1,4 @@
-use Rattle.std.proofs.Common.{sym, ap, ◌∙◌, ◌≡◌, Some, slice_get, option_copied}
+use Rattle.std.proofs.Common.{sym, ap, ◌∙◌, option_copied}
 use Rattle.edge_uses.proofs.Few.{few_shell}
 use Rattle.edge_uses.proofs.Made.{rows_known, rows_room, rows_whole}
 use Rattle.edge_uses.proofs.reading.rows.Goals as goal

@@ -1,4 +1,4 @@
-use Rattle.std.proofs.Common.{arith, ◌≤◌, length, ap}
+use Rattle.std.proofs.Common.{arith, length, ap}
 use Rattle.edge_uses.proofs.Tallies.{tally_step, tally_few, seen_done}
 use Rattle.edge_uses.proofs.tally.tally_of.Goals as goal
 

@@ -1,4 +1,4 @@
-use Rattle.std.proofs.Common.{◌≡◌, sym, ap, subst, length}
+use Rattle.std.proofs.Common.{sym, ap, subst, length}
 use Rattle.solid_data.specs.declared.solid.FaceUse.{FaceUse}
 use Rattle.edge_uses.specs.declared.building.Built.{Built}
 use Rattle.edge_uses.specs.ShellRows.{AreRows}
