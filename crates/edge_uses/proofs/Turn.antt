@@ -5,12 +5,14 @@ use Rattle.std.proofs.lemmas.Bool.{eq-eqb, eqb-true, and_from, and_parts, not-tr
 use Rattle.solid_data.specs.declared.solid.EdgeId.{EdgeId}
 use Rattle.solid_data.specs.declared.solid.VertexId.{VertexId}
 use Rattle.edge_uses.specs.declared.row.Row.{Row}
-use Rattle.edge_uses.specs.ShellRows.{ShellRows}
+use Rattle.edge_uses.specs.ShellRows.{ShellRows, EndsMeet}
 use Rattle.edge_uses.specs.Closed.{AreMates, Turns, IsPaired, row_count}
 use Rattle.edge_uses.specs.Mates.{ArePaired}
 use Rattle.solid_data.proofs.Members.{some_inj, Has-from_Contains, All-at, count_by-total, has_get}
 use Rattle.edge_uses.proofs.Counting.{found_row, one_place}
 use Rattle.edge_uses.proofs.Cycle.{AreTurning}
+use Rattle.edge_uses.proofs.FollowRows.{EachIsFollowed}
+use Rattle.edge_uses.proofs.RowShape.{EndsExchanged}
 
 pub not-not : (b c : Bool) → b ≡ not c → c ≡ not b
 not-not true true h = absurd cc
@@ -86,20 +88,25 @@ turns_to_one d paired x y z (m, a, f) (k, b, g) =
     let same : m ≡ k = one_mate d paired x m k a b in
     some_inj y z (sym f ∙ (ap (λ n. slice_get d.follows n) same ∙ g))
 
-pub turning : (d : ShellRows) → ArePaired d → AreTurning d
-turning d whole = record {
-  one = turns_to_one d (paired_rows d whole);
+pub are_turning : (d : ShellRows) → PairedRows d → EndsMeet d → EndsExchanged d → EachIsFollowed d → AreTurning d
+are_turning d paired meet exchanged followed = record {
+  one = turns_to_one d paired;
   some = λ v x (row, at, e).
-      let m = has_mate d (paired_rows d whole) x row at in
-      let f = whole.rows.followed m.0 m.1.mate m.1.at_m in
+      let m = has_mate d paired x row at in
+      let f = followed m.0 m.1.mate m.1.at_m in
       (f.0, (m.0, m.1, f.2));
   same = λ v x y (m, a, f) (row, at, e).
-      let g = whole.rows.followed m a.mate a.at_m in
+      let g = followed m a.mate a.at_m in
       let there : y ≡ g.0 = some_inj y g.0 (sym f ∙ g.2) in
       let at_y : slice_get d.rows y ≡ Some g.1 = ap (λ n. slice_get d.rows n) there ∙ g.3 in
-      let met : a.mate.to.0 ≡ g.1.from.0 = ap (λ (w : VertexId). w.0) (whole.meet m y a.mate g.1 f a.at_m at_y) in
-      let ends = whole.rows.exchanged_ends x m a.row a.mate a.at_r a.at_m a.one_edge a.opposite in
-      let swapped : a.row.from.0 ≡ a.mate.to.0 = ap (λ (w : VertexId). w.0) ends.0 in
+      let met : a.mate.to.0 ≡ g.1.from.0 = ap (λ (w : VertexId). w.0) (meet m y a.mate g.1 f a.at_m at_y) in
+      let swapped : a.row.from.0 ≡ a.mate.to.0 = exchanged x m a.row a.mate a.at_r a.at_m a.one_edge a.opposite in
       let starts : a.row.from.0 ≡ v = ap (λ (r : Row). r.from.0) (some_inj a.row row (sym a.at_r ∙ at)) ∙ e in
       (g.1, at_y, sym met ∙ (sym swapped ∙ starts));
 }
+
+pub turning : (d : ShellRows) → ArePaired d → AreTurning d
+turning d whole =
+    are_turning d (paired_rows d whole) whole.meet
+    (λ n m a b at_n at_m one opposite. ap (λ (w : VertexId). w.0) (whole.rows.exchanged_ends n m a b at_n at_m one opposite).0)
+    whole.rows.followed

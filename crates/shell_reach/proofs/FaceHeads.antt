@@ -1,12 +1,13 @@
 -- The first row of each face among the last rows.
-use Rattle.std.specs.Prelude.{◌≡◌, ◌≢◌, ◌<◌, ◌≤◌, ◌+◌, ◌==◌, ◌⊎◌, ℕ, zero, suc, true, false, List, [], ◌∷◌, length, slice_set, slice_get, Some}
+use Rattle.std.specs.Prelude.{◌≡◌, ◌≢◌, ◌<◌, ◌≤◌, ◌+◌, ◌==◌, ◌⊎◌, ℕ, zero, suc, true, false, List, length, slice_set}
 use Rattle.std.proofs.Common.{refl, sym, ◌∙◌, ap, subst, arith, inl, inr, ⊎_elim, get_or}
 use Rattle.std.proofs.lemmas.Bool.Decides.{eqb_tells}
+use Rattle.std.proofs.lemmas.List.{length-set}
+use Rattle.std.proofs.lemmas.Option.{slice_get_within}
 use Rattle.edge_uses.specs.declared.row.Row.{Row}
 use Rattle.edge_uses.specs.ShellRows.{ShellRows, AreRows}
 use Rattle.edge_uses.specs.Closed.{OnFace}
-use Rattle.solid_data.proofs.Members.{some_inj, All-at}
-use Rattle.edge_uses.proofs.Few.{has_get}
+use Rattle.solid_data.proofs.Members.{some_inj, All-at, has_get}
 use Rattle.edge_uses.proofs.Steps.{default_apart}
 use Rattle.edge_uses.proofs.Tallies.{set_same, set_other}
 use Rattle.shell_reach.specs.FaceRows.{IsHead, AreFaceRows}
@@ -16,11 +17,6 @@ one_face d f g r (a, at_a, e) (b, at_b, k) = sym e ∙ (ap (λ (x : Row). x.at.f
 
 pub face_low : (d : ShellRows) (f r : ℕ) → AreRows d → OnFace d f r → f < d.face_count
 face_low d f r rows (a, at, e) = subst (λ x. x < d.face_count) e (All-at (λ (x : Row). x.at.face.0 < d.face_count) d.rows rows.on_faces a (has_get d.rows r a at))
-
-pub row_low : (rows : List Row) (r : ℕ) (a : Row) → slice_get rows r ≡ Some a → r < length rows
-row_low [] r a h = absurd cc
-row_low (x ∷ xs) zero a h = omega arith
-row_low (x ∷ xs) (suc r) a h = omega (arith, row_low xs r a h)
 
 -- the rows from row i on are linked
 pub record HeadsFrom (d : ShellRows) (i : ℕ) (first next : List ℕ) : Type 0 where
@@ -36,9 +32,9 @@ no_heads d i first next end faces rows all_end = record {
   heads = λ face low. record {
     low = omega (arith, all_end face low);
     here = λ lt. absurd (omega (arith, lt, end, all_end face low));
-    all = λ x on le. absurd (omega (arith, row_low d.rows x on.0 on.1, le, end));
+    all = λ x on le. absurd (omega (arith, slice_get_within d.rows x on.0 on.1, le, end));
   };
-  nexts = λ r face le on. absurd (omega (arith, row_low d.rows r on.0 on.1, le, end));
+  nexts = λ r face le on. absurd (omega (arith, slice_get_within d.rows r on.0 on.1, le, end));
 }
 
 pub heads_done : (d : ShellRows) (i : ℕ) (first next : List ℕ) → i ≡ 0 → HeadsFrom d i first next → AreFaceRows d first next
@@ -55,16 +51,11 @@ later_or zero (suc x) h = inr (omega arith)
 later_or (suc i) zero h = absurd (omega (arith, h))
 later_or (suc i) (suc x) h = ⊎_elim (λ a. inl (ap suc a)) (λ b. inr (omega (arith, b))) (later_or i x (omega (arith, h)))
 
-length_set : (xs : List ℕ) (k v : ℕ) → length (slice_set xs k v) ≡ length xs
-length_set [] k v = refl
-length_set (x ∷ xs) zero v = refl
-length_set (x ∷ xs) (suc k) v = ap suc (length_set xs k v)
-
 -- the row before the linked ones is linked
 pub heads_step : (d : ShellRows) (j i f was : ℕ) (first next : List ℕ) → AreRows d → j ≡ i + 1 → OnFace d f i → was ≡ get_or first f was → HeadsFrom d j first next → HeadsFrom d i (slice_set first f i) (slice_set next i was)
 heads_step d j i f was first next whole after on is_was h = record {
-  faces = length_set first f i ∙ h.faces;
-  rows = length_set next i was ∙ h.rows;
+  faces = length-set first f i ∙ h.faces;
+  rows = length-set next i was ∙ h.rows;
   heads = λ face low. by_face face low (eqb_tells f face);
   nexts = λ r face le on_r. by_row r face on_r (later_or i r le);
 }
@@ -73,7 +64,7 @@ heads_step d j i f was first next whole after on is_was h = record {
     f_low = omega (arith, face_low d f i whole on, h.faces)
 
     i_low : i < length next
-    i_low = omega (arith, row_low d.rows i on.0 on.1, h.rows)
+    i_low = omega (arith, slice_get_within d.rows i on.0 on.1, h.rows)
 
     known : was ≡ get_or first f 0
     known = is_was ∙ default_apart first f was 0 f_low

@@ -1,71 +1,41 @@
 -- One face more is reached, or it was before.
-use Rattle.std.specs.Prelude.{◌≡◌, ◌≢◌, ◌<◌, ◌≤◌, ◌+◌, ◌==◌, ◌⊎◌, ℕ, zero, suc, Bool, true, false, not, List, [], ◌∷◌, ◌++◌, length, reverse, slice_set, slice_get, Some, None, Option, MatchOption, Result, Ok, Err, IfOk}
+use Rattle.std.specs.Prelude.{◌≡◌, ◌≢◌, ◌<◌, ◌≤◌, ◌+◌, ◌==◌, ◌⊎◌, ℕ, zero, suc, Bool, true, false, List, [], ◌∷◌, ◌++◌, length, reverse, slice_set, slice_get, Some, Result, Ok, Err, IfOk}
 use Rattle.std.specs.List.{AllByRecursion}
-use Rattle.std.proofs.Common.{refl, sym, ◌∙◌, ap, subst, arith, inl, inr, ⊎_elim, get_or, drop, append_assoc}
+use Rattle.std.proofs.Common.{refl, sym, ◌∙◌, ap, subst, arith, inl, inr, ⊎_elim, get_or, drop, append_assoc, length-append}
 use Rattle.std.proofs.lemmas.Bool.Decides.{eqb_tells}
-use Rattle.std.proofs.lemmas.List.{reverse-append, reverse-reverse}
+use Rattle.std.proofs.lemmas.List.{reverse-append, append-nil, length-set}
+use Rattle.std.proofs.lemmas.Bool.{cases_lt}
+use Rattle.std.proofs.lemmas.Option.{slice_get_within}
 use Rattle.solid_data.specs.Chain.{Steps}
 use Rattle.solid_data.specs.Ring.{numbers_from}
-use Rattle.solid_data.specs.declared.solid.RowId.{RowId}
 use Rattle.edge_uses.specs.ShellRows.{ShellRows}
 use Rattle.edge_uses.specs.Closed.{AreMates, OnFace, AreNeighbours, IsReached}
 use Rattle.edge_uses.specs.Mates.{ArePaired}
-use Rattle.solid_data.proofs.Members.{some_inj, Has, NoRepeat, Contains-from_Has, Has-from_Contains, no_longer, All-at, has_left, has_right, rises_none}
+use Rattle.solid_data.proofs.Members.{some_inj, Has, NoRepeat, Contains-from_Has, Has-from_Contains, no_longer, All-at, has_left, has_right, rises_none, has_last, has_reverse}
 use Rattle.solid_data.specs.Obligations.{FirstNot}
 use Rattle.edge_uses.proofs.FirstOf.{LeftIn, left_in_less, left_in_fails, left_in_done}
-use Rattle.edge_uses.proofs.Joins.{below_or}
 use Rattle.edge_uses.proofs.Steps.{default_apart}
-use Rattle.solid_data.proofs.Occurring.{numbers_rise}
+use Rattle.solid_data.proofs.Occurring.{numbers_rise, length-numbers, number_get, number_within}
 use Rattle.solid_data.proofs.Trail.{leads_last}
 use Rattle.edge_uses.proofs.Turn.{one_mate, paired_rows}
 use Rattle.edge_uses.proofs.Tallies.{set_same, set_other}
-use Rattle.shell_reach.specs.Reaching.{ReachesOne, ReachFrom, ReachesAll, row_numbers}
+use Rattle.edge_uses.proofs.Turns.{mates_back}
+use Rattle.shell_reach.specs.Reaching.{ReachesOne, ReachFrom, ReachesAll}
 use Rattle.shell_reach.specs.FaceRows.{IsHead, AreFaceRows}
 use Rattle.shell_reach.specs.Flood.{IsFlood, IsDone, Grows}
-use Rattle.shell_reach.proofs.FaceHeads.{one_face, face_low, row_low}
-
-length_set : (xs : List Bool) (k : ℕ) (v : Bool) → length (slice_set xs k v) ≡ length xs
-length_set [] k v = refl
-length_set (x ∷ xs) zero v = refl
-length_set (x ∷ xs) (suc k) v = ap suc (length_set xs k v)
-
-has_last : (xs : List ℕ) (y z : ℕ) → Has (xs ++ y ∷ []) z → Has xs z ⊎ (y ≡ z)
-has_last [] y z (inl e) = inr e
-has_last [] y z (inr h) = absurd h
-has_last (x ∷ xs) y z (inl e) = inl (inl e)
-has_last (x ∷ xs) y z (inr h) = ⊎_elim (λ a. inl (inr a)) (λ b. inr b) (has_last xs y z h)
+use Rattle.shell_reach.proofs.FaceHeads.{one_face, face_low}
 
 to_reverse : (xs : List ℕ) (y : ℕ) → Has xs y → Has (reverse xs) y
 to_reverse [] y h = absurd h
 to_reverse (x ∷ xs) y (inl e) = subst (λ ys. Has ys y) (sym (reverse-append (x ∷ []) xs)) (has_right (reverse xs) (x ∷ []) y (inl e))
 to_reverse (x ∷ xs) y (inr h) = subst (λ ys. Has ys y) (sym (reverse-append (x ∷ []) xs)) (has_left (reverse xs) (x ∷ []) y (to_reverse xs y h))
 
-from_reverse : (xs : List ℕ) (y : ℕ) → Has (reverse xs) y → Has xs y
-from_reverse xs y h = subst (λ ys. Has ys y) (reverse-reverse xs) (to_reverse (reverse xs) y h)
-
 none_last : (xs : List ℕ) (y : ℕ) → NoRepeat xs → (Has xs y → ⊥) → NoRepeat (xs ++ y ∷ [])
 none_last [] y none new = ((λ h. h), tt)
 none_last (x ∷ xs) y none new = ((λ h. ⊎_elim none.0 (λ e. new (inl (sym e))) (has_last xs y x h)), none_last xs y none.1 (λ h. new (inr h)))
 
-one_longer : (xs : List ℕ) (y : ℕ) → length (xs ++ y ∷ []) ≡ length xs + 1
-one_longer [] y = refl
-one_longer (x ∷ xs) y = omega (arith, one_longer xs y)
-
-not-not : (b c : Bool) → b ≡ not c → c ≡ not b
-not-not true true h = absurd cc
-not-not true false h = refl
-not-not false true h = refl
-not-not false false h = absurd cc
-
-mates_back : (d : ShellRows) (r m : ℕ) → AreMates d r m → AreMates d m r
-mates_back d r m h = record { row = h.mate; mate = h.row; at_r = h.at_m; at_m = h.at_r; one_edge = sym h.one_edge; opposite = not-not h.row.along h.mate.along h.opposite }
-
 pub grows_none : (xs : List ℕ) → Grows xs xs
-grows_none xs = ([], nil xs)
-  where
-    nil : (ys : List ℕ) → ys ≡ ys ++ []
-    nil [] = refl
-    nil (y ∷ ys) = ap (λ zs. y ∷ zs) (nil ys)
+grows_none xs = ([], sym (append-nil xs))
 
 pub grows_more : (xs ys zs : List ℕ) → Grows xs ys → Grows ys zs → Grows xs zs
 grows_more xs ys zs (a, e) (b, k) = (a ++ b, k ∙ (ap (λ ws. ws ++ b) e ∙ append_assoc xs a b))
@@ -89,13 +59,13 @@ crossed_now d order r mate other whole mates on m g is_mate on_g =
 pub flood_more : (d : ShellRows) (marks : List Bool) (order rows : List ℕ) (face r mate other : ℕ) → ArePaired d → IsFlood d marks order rows → Has order face → OnFace d face r → AreMates d r mate → OnFace d other mate → get_or marks other false ≡ false
     → IsFlood d (slice_set marks other true) (order ++ other ∷ []) (rows ++ mate ∷ [])
 flood_more d marks order rows face r mate other whole flood known on mates on_other unmarked = record {
-  faces = length_set marks other true ∙ flood.faces;
+  faces = length-set marks other true ∙ flood.faces;
   listed = λ f h. listed f (eqb_tells other f) h;
   marked = λ f h. marked f (eqb_tells other f) (has_last order other f h);
   first = has_left order (other ∷ []) 0 flood.first;
   reached = λ f h. ⊎_elim (λ a. flood.reached f a) (λ e. subst (IsReached d) e here) (has_last order other f h);
   apart = none_last order other flood.apart new;
-  count = omega (arith, one_longer order other, one_longer rows mate, flood.count);
+  count = omega (arith, length-append order (other ∷ []), length-append rows (mate ∷ []), flood.count);
   done = done;
 }
   where
@@ -127,17 +97,10 @@ flood_more d marks order rows face r mate other whole flood known on mates on_ot
           mates = mates_back d r mate mates;
           on_face = on_other;
           on_known = on;
-          new = λ c. new (from_reverse order other (Has-from_Contains (reverse order) other c));
+          new = λ c. new (has_reverse order other (Has-from_Contains (reverse order) other c));
           old = Contains-from_Has (reverse order) face (to_reverse order face known);
         } in
         subst (ReachFrom d (0 ∷ [])) (sym (append_assoc rows (mate ∷ []) rest)) (flood.done (mate ∷ rest) (other, one, k))
-
-pub numbers_pushed : (rows new : List RowId) (at : ℕ) → new ≡ rows ++ record { 0 = at } ∷ [] → row_numbers new ≡ row_numbers rows ++ at ∷ []
-numbers_pushed rows new at e = ap row_numbers e ∙ pushed rows
-  where
-    pushed : (rs : List RowId) → row_numbers (rs ++ record { 0 = at } ∷ []) ≡ row_numbers rs ++ at ∷ []
-    pushed [] = refl
-    pushed (r ∷ rs) = ap (λ xs. r.0 ∷ xs) (pushed rs)
 
 -- Leaving a face: of its rows all below this one are crossed.
 pub record LeftTo (d : ShellRows) (face at : ℕ) (order : List ℕ) : Type 0 where
@@ -168,7 +131,7 @@ left_more d face r at order new left on t grows there = record {
     by_row x m g on_x below mates on_g (inr (inr high)) = absurd (omega (arith, below, t.all x on_x high))
 
 pub left_all : (d : ShellRows) (face at : ℕ) (order : List ℕ) → length d.rows ≤ at → LeftTo d face at order → IsDone d order face
-left_all d face at order end left other (x, m, mates, on, on_other) = left.all x m other on (omega (arith, end, row_low d.rows x on.0 on.1)) mates on_other
+left_all d face at order end left other (x, m, mates, on, on_other) = left.all x m other on (omega (arith, end, slice_get_within d.rows x on.0 on.1)) mates on_other
 
 pub ok_three : {T E : Type 0} (r : Result T E) (P Q R S : T → Type 0) → ((x : T) → P x → Q x → R x → S x) → IfOk r P → IfOk r Q → IfOk r R → IfOk r S
 ok_three (Ok x) P Q R S f p q r = f x p q r
@@ -182,7 +145,7 @@ pub first_head : (d : ShellRows) (face a : ℕ) (first next : List ℕ) → AreF
 first_head d face a first next t low e = subst (IsHead d face 0) (sym (e ∙ default_apart first face a 0 (omega (arith, low, t.faces)))) (t.heads face low)
 
 pub next_head : (d : ShellRows) (face r a : ℕ) (first next : List ℕ) → AreFaceRows d first next → OnFace d face r → a ≡ get_or next r a → IsHead d face (r + 1) a
-next_head d face r a first next t on e = subst (IsHead d face (r + 1)) (sym (e ∙ default_apart next r a 0 (omega (arith, row_low d.rows r on.0 on.1, t.rows)))) (t.nexts r face on)
+next_head d face r a first next t on e = subst (IsHead d face (r + 1)) (sym (e ∙ default_apart next r a 0 (omega (arith, slice_get_within d.rows r on.0 on.1, t.rows)))) (t.nexts r face on)
 
 pub marked_low : (marks : List Bool) (f : ℕ) → get_or marks f false ≡ true → f < length marks
 marked_low [] f h = absurd cc
@@ -195,7 +158,7 @@ listed_low d marks order rows f h m = omega (arith, marked_low marks f (h.marked
 -- the first face
 pub flood_first : (d : ShellRows) (marks : List Bool) → length marks ≡ d.face_count → 0 < length marks → ((f : ℕ) → get_or marks f false ≡ false) → IsFlood d (slice_set marks 0 true) (0 ∷ []) []
 flood_first d marks long some clear = record {
-  faces = length_set marks 0 true ∙ long;
+  faces = length-set marks 0 true ∙ long;
   listed = λ f h. listed f (eqb_tells 0 f) h;
   marked = λ f h. ⊎_elim (λ e. subst (λ k. get_or (slice_set marks 0 true) k false ≡ true) e (set_same marks 0 true false some)) (λ n. absurd n) h;
   first = inl refl;
@@ -219,19 +182,8 @@ has_at [] x h = absurd h
 has_at (y ∷ ys) x (inl e) = (zero, omega arith, ap Some e)
 has_at (y ∷ ys) x (inr h) = let k = has_at ys x h in (suc k.0, omega (arith, k.1), k.2)
 
-length-numbers : (base n : ℕ) → length (numbers_from base n) ≡ n
-length-numbers base zero = refl
-length-numbers base (suc n) = ap suc (length-numbers (base + 1) n)
-
-numbers_have : (base n k : ℕ) → k < n → Has (numbers_from base n) (base + k)
-numbers_have base zero k lt = absurd (omega (arith, lt))
-numbers_have base (suc n) zero lt = let e : base ≡ base + 0 = omega arith in inl e
-numbers_have base (suc n) (suc k) lt =
-    let e : base + 1 + k ≡ base + suc k = omega arith in
-    inr (subst (Has (numbers_from (base + 1) n)) e (numbers_have (base + 1) n k (omega (arith, lt))))
-
 in_numbers : (n f : ℕ) → f < n → Has (numbers_from 0 n) f
-in_numbers n f lt = let e : 0 + f ≡ f = omega arith in subst (Has (numbers_from 0 n)) e (numbers_have 0 n f lt)
+in_numbers n f lt = number_within 0 n f (omega arith) (omega (arith, lt))
 
 pub order_few : (d : ShellRows) (marks : List Bool) (order rows : List ℕ) → IsFlood d marks order rows → length order ≤ d.face_count
 order_few d marks order rows h = omega (arith, no_longer order (numbers_from 0 d.face_count) h.apart (λ f m. in_numbers d.face_count f (listed_low d marks order rows f h m)), length-numbers 0 d.face_count)
@@ -248,7 +200,7 @@ front_same (x ∷ xs) more (suc j) f lt h = front_same xs more j f (omega (arith
 -- one place more is done
 pub place_done : (d : ShellRows) (old new : List ℕ) (q : ℕ) → Grows old new → (length old ≤ q → new ≡ old) → ((f : ℕ) → slice_get new q ≡ Some f → IsDone d new f)
     → ((j f : ℕ) → j < q → slice_get old j ≡ Some f → IsDone d old f) → (j f : ℕ) → j < q + 1 → slice_get new j ≡ Some f → IsDone d new f
-place_done d old new q grows same here before j f lt at = by_place (below_or j q)
+place_done d old new q grows same here before j f lt at = by_place (cases_lt j q)
   where
     back : j < length old → slice_get old j ≡ Some f
     back low = front_same old grows.0 j f low (ap (λ xs. slice_get xs j) (sym grows.1) ∙ at)
@@ -260,16 +212,11 @@ place_done d old new q grows same here before j f lt at = by_place (below_or j q
         subst (λ xs. IsDone d xs f) (sym k) (before j f before_q (ap (λ xs. slice_get xs j) (sym k) ∙ at))
 
     by_place : (j < q) ⊎ (q ≤ j) → IsDone d new f
-    by_place (inl a) = earlier a (below_or j (length old))
+    by_place (inl a) = earlier a (cases_lt j (length old))
     by_place (inr b) = let e : j ≡ q = omega (arith, b, lt) in here f (ap (λ k. slice_get new k) (sym e) ∙ at)
 
-numbers_get : (base n i e : ℕ) → i < n → get_or (numbers_from base n) i e ≡ base + i
-numbers_get base zero i e lt = absurd (omega (arith, lt))
-numbers_get base (suc n) zero e lt = omega arith
-numbers_get base (suc n) (suc i) e lt = let k : base + 1 + i ≡ base + suc i = omega arith in numbers_get (base + 1) n i e (omega (arith, lt)) ∙ k
-
 number_at : (n i : ℕ) → i < n → get_or (numbers_from 0 n) i 0 ≡ i
-number_at n i lt = numbers_get 0 n i 0 lt ∙ omega arith
+number_at n i lt = number_get 0 n i 0 lt ∙ omega arith
 
 number_in : (n i : ℕ) → i < n → i < length (numbers_from 0 n)
 number_in n i lt = omega (arith, lt, length-numbers 0 n)
@@ -292,7 +239,7 @@ unmarked_not d marks order rows f h done no_mark chain = let e : true ≡ false 
 -- the rows reach all faces
 pub flood_reaches : (d : ShellRows) (marks : List Bool) (order rows : List ℕ) → IsFlood d marks order rows → ((g : ℕ) → Has order g → IsDone d order g) → AllByRecursion (IsReached d) (numbers_from 0 d.face_count) → ReachesAll d rows
 flood_reaches d marks order rows h done all = record {
-  order = subst (ReachFrom d (0 ∷ [])) (nil rows) (h.done [] tt);
+  order = subst (ReachFrom d (0 ∷ [])) (append-nil rows) (h.done [] tt);
   count = omega (
     arith,
     h.count,
@@ -303,10 +250,6 @@ flood_reaches d marks order rows h done all = record {
   );
   reached = all;
 }
-  where
-    nil : (xs : List ℕ) → xs ++ [] ≡ xs
-    nil [] = refl
-    nil (x ∷ xs) = ap (λ ys. x ∷ ys) (nil xs)
 
 pub place_is : (old new : List ℕ) (q face f : ℕ) → Grows old new → q < length old → slice_get old q ≡ Some face → slice_get new q ≡ Some f → face ≡ f
 place_is old new q face f grows low at there = some_inj face f (sym at ∙ front_same old grows.0 q f low (ap (λ xs. slice_get xs q) (sym grows.1) ∙ there))
@@ -317,7 +260,3 @@ none_reach d none = record {
   count = omega (arith, none);
   reached = subst (λ n. AllByRecursion (IsReached d) (numbers_from 0 n)) (sym none) tt;
 }
-
-pub none_of : {A : Type 0} (o : Option A) (N : Type 0) (P : A → Type 0) → ((x : A) → o ≡ Some x → ⊥) → MatchOption o N P → N
-none_of None N P e h = h
-none_of (Some y) N P e h = absurd (e y refl)

@@ -1,43 +1,24 @@
 -- What has been seen of each vertex, row by row and point by point.
-use Rattle.std.specs.Prelude.{◌≡◌, ◌≢◌, ◌<◌, ◌≤◌, ◌+◌, ◌-◌, ◌==◌, ◌⊎◌, ℕ, zero, suc, Bool, true, false, cond, List, [], ◌∷◌, length, slice_set, slice_get, Option, Some, None, Contains, if◌then◌else◌}
+use Rattle.std.specs.Prelude.{◌≡◌, ◌≢◌, ◌<◌, ◌≤◌, ◌+◌, ◌-◌, ◌==◌, ◌⊎◌, ℕ, true, false, List, length, slice_set, slice_get, Some, Contains, if◌then◌else◌}
 use Rattle.std.specs.List.{AllByRecursion}
-use Rattle.std.proofs.Common.{refl, sym, ◌∙◌, ap, subst, arith, inl, inr, ⊎_elim, get_or, drop}
+use Rattle.std.proofs.Common.{sym, ◌∙◌, ap, subst, arith, inl, inr, ⊎_elim, get_or, drop}
 use Rattle.std.proofs.lemmas.Bool.Decides.{eqb_tells}
-use Rattle.std.proofs.lemmas.Option.{get_or_from_slice_get}
+use Rattle.std.proofs.lemmas.Option.{slice_get_within}
+use Rattle.std.proofs.lemmas.List.{drop_all}
+use Rattle.std.proofs.lemmas.Bool.{cases_lt}
 use Rattle.solid_data.specs.declared.solid.LoopAt.{LoopAt}
 use Rattle.edge_uses.specs.declared.row.Row.{Row}
 use Rattle.edge_uses.specs.declared.spanning.Span.{Span}
 use Rattle.edge_uses.specs.Ranges.{IsWithin}
 use Rattle.edge_uses.specs.ShellRows.{ShellRows}
-use Rattle.edge_uses.specs.Closed.{StartsAt, point_count}
-use Rattle.solid_data.proofs.Members.{some_inj, Has, Contains-from_Has, All-at, total, count_by-total}
-use Rattle.edge_uses.proofs.Few.{has_get}
-use Rattle.edge_uses.proofs.Joins.{split_drop, drop_past, below_or}
+use Rattle.edge_uses.specs.Closed.{StartsAt}
+use Rattle.solid_data.proofs.Members.{some_inj, Has, Contains-from_Has, All-at, count_by-total, split_at, has_get}
 use Rattle.edge_uses.proofs.Steps.{default_apart}
 use Rattle.edge_uses.proofs.Tallies.{one_if, set_same, set_other}
+use Rattle.edge_uses.proofs.Counting.{times, times_few}
 use Rattle.vertex_link.specs.declared.starting.Starts.{Starts}
 use Rattle.vertex_link.specs.declared.starting.Points.{Points}
-use Rattle.vertex_link.specs.Starting.{no_starts, one_start_more, AreStarts, AreAllStarts, no_points, one_point_more, ArePoints, AreAllPoints}
-
--- how many of a list have this number
-abbrev pub times : {A : Type 0} → (A → ℕ) → ℕ → List A → ℕ
-times f v xs = total (λ x. one_if (f x == v)) xs
-
-pub times_few : {A : Type 0} (f : A → ℕ) (v : ℕ) (xs : List A) → times f v xs ≤ length xs
-times_few f v [] = omega arith
-times_few f v (x ∷ xs) = by_test (f x == v) (times_few f v xs)
-  where
-    by_test : (b : Bool) → times f v xs ≤ length xs → one_if b + times f v xs ≤ suc (length xs)
-    by_test true h = omega (arith, h)
-    by_test false h = omega (arith, h)
-
-pub get_low : {A : Type 0} (xs : List A) (i : ℕ) (x : A) → slice_get xs i ≡ Some x → i < length xs
-get_low [] i x h = absurd cc
-get_low (y ∷ ys) zero x h = omega arith
-get_low (y ∷ ys) (suc i) x h = omega (arith, get_low ys i x h)
-
-pub split_at : {A : Type 0} (xs : List A) (i : ℕ) (x : A) → slice_get xs i ≡ Some x → drop i xs ≡ x ∷ drop (i + 1) xs
-split_at xs i x h = split_drop xs x i (get_low xs i x h) (get_or_from_slice_get xs i x x h)
+use Rattle.vertex_link.specs.Starting.{no_starts, one_start_more, AreStarts, no_points, one_point_more, ArePoints}
 
 split_times : {A : Type 0} (f : A → ℕ) (v : ℕ) (xs : List A) (i : ℕ) (x : A) → slice_get xs i ≡ Some x → times f v (drop i xs) ≡ one_if (f x == v) + times f v (drop (i + 1) xs)
 split_times f v xs i x h = ap (times f v) (split_at xs i x h)
@@ -58,25 +39,19 @@ starts_few d i v n m h few = omega (arith, h.count, few, times_few from_of v d.r
 
 pub starts_done : (d : ShellRows) (i v : ℕ) (m : Starts) → length d.rows ≤ i → StartsBefore d i v m → AreStarts d v m
 starts_done d i v m past h =
-    let k : m.count + 0 ≡ times from_of v d.rows = subst (λ rs. m.count + times from_of v rs ≡ times from_of v d.rows) (drop_past i d.rows past) h.count in
+    let k : m.count + 0 ≡ times from_of v d.rows = subst (λ rs. m.count + times from_of v rs ≡ times from_of v d.rows) (drop_all i d.rows past) h.count in
     record {
       count = omega (arith, k, count_by-total (λ (r : Row). r.from.0 == v) d.rows);
       first = λ p. (h.first p).0;
-      least = λ x at. h.least x (omega (arith, past, get_low d.rows x at.0 at.1)) at;
+      least = λ x at. h.least x (omega (arith, past, slice_get_within d.rows x at.0 at.1)) at;
     }
 
 starts_other : (d : ShellRows) (i v : ℕ) (m : Starts) (row : Row) → slice_get d.rows i ≡ Some row → (row.from.0 == v) ≡ false → row.from.0 ≢ v → StartsBefore d i v m → StartsBefore d (i + 1) v m
 starts_other d i v m row at differ ne h = record {
   count = omega (arith, h.count, split_times from_of v d.rows i row at, ap one_if differ);
   first = λ p. ((h.first p).0, omega (arith, (h.first p).1));
-  least = λ x lt s. ⊎_elim (λ low. h.least x low s) (λ e. absurd (ne (ap (λ (r : Row). r.from.0) (some_inj row s.0 (sym at ∙ (ap (λ k. slice_get d.rows k) (sym e) ∙ s.1))) ∙ s.2))) (last_or x i lt);
+  least = λ x lt s. ⊎_elim (λ low. h.least x low s) (λ le. let e : x ≡ i = omega (arith, le, lt) in absurd (ne (ap (λ (r : Row). r.from.0) (some_inj row s.0 (sym at ∙ (ap (λ k. slice_get d.rows k) (sym e) ∙ s.1))) ∙ s.2))) (cases_lt x i);
 }
-  where
-    last_or : (x i : ℕ) → x < i + 1 → (x < i) ⊎ (x ≡ i)
-    last_or zero zero h = inr refl
-    last_or zero (suc i) h = inl (omega arith)
-    last_or (suc x) zero h = absurd (omega (arith, h))
-    last_or (suc x) (suc i) h = ⊎_elim (λ a. inl (omega (arith, a))) (λ b. inr (ap suc b)) (last_or x i (omega (arith, h)))
 
 starts_this : (d : ShellRows) (i v : ℕ) (m : Starts) (row : Row) → slice_get d.rows i ≡ Some row → (row.from.0 == v) ≡ true → row.from.0 ≡ v → StartsBefore d i v m → StartsBefore d (i + 1) v (one_start_more m i)
 starts_this d i v m row at alike same h = by_count (eqb_tells m.count 0)
@@ -88,13 +63,13 @@ starts_this d i v m row at alike same h = by_count (eqb_tells m.count 0)
     before x lt s e = omega (arith, (h.least x lt s).0, e)
 
     old_first : (x : ℕ) → x < i + 1 → StartsAt d v x → 0 < m.count → m.first ≤ x
-    old_first x lt s p = ⊎_elim (λ low. (h.least x low s).1) (λ high. omega (arith, (h.first p).1, high)) (below_or x i)
+    old_first x lt s p = ⊎_elim (λ low. (h.least x low s).1) (λ high. omega (arith, (h.first p).1, high)) (cases_lt x i)
 
     by_count : (((m.count == 0) ≡ true) × (m.count ≡ 0)) ⊎ (((m.count == 0) ≡ false) × (m.count ≢ 0)) → StartsBefore d (i + 1) v (one_start_more m i)
     by_count (inl y) = subst (λ b. StartsBefore d (i + 1) v (record { count = m.count + 1; first = (if b then i else m.first) })) (sym y.0) (record {
       count = counted;
       first = λ p. ((row, at, same), omega arith);
-      least = λ x lt s. (omega arith, ⊎_elim (λ low. absurd (before x low s y.1)) (λ high. high) (below_or x i));
+      least = λ x lt s. (omega arith, ⊎_elim (λ low. absurd (before x low s y.1)) (λ high. high) (cases_lt x i));
     })
     by_count (inr n) = let p : 0 < m.count = omega (arith, n.1) in subst (λ b. StartsBefore d (i + 1) v (record { count = m.count + 1; first = (if b then i else m.first) })) (sym n.0) (record {
       count = counted;
@@ -150,7 +125,7 @@ points_none d v = record { count = omega arith; last = λ h. absurd (omega (arit
 
 pub points_done : (d : ShellRows) (i v : ℕ) (m : Points) → length d.points ≤ i → PointsBefore d i v m → ArePoints d v m
 points_done d i v m past h =
-    let k : m.count + 0 ≡ times vertex_of v d.points = subst (λ ps. m.count + times vertex_of v ps ≡ times vertex_of v d.points) (drop_past i d.points past) h.count in
+    let k : m.count + 0 ≡ times vertex_of v d.points = subst (λ ps. m.count + times vertex_of v ps ≡ times vertex_of v d.points) (drop_all i d.points past) h.count in
     record { count = omega (arith, k, count_by-total (λ (p : LoopAt × ℕ). p.1 == v) d.points); last = h.last }
 
 pub points_step : (d : ShellRows) (i : ℕ) (span : Span) (vertex : ℕ) (at : LoopAt) (old : List Points) (was new : Points) → slice_get d.points i ≡ Some (at, vertex) → length old ≡ span.count

@@ -1,89 +1,26 @@
 -- The walk from the least row of a vertex comes back after as many turns as rows start there, or the vertex is no corner.
-use Rattle.std.specs.Prelude.{◌≡◌, ◌≢◌, ◌<◌, ◌≤◌, ◌+◌, ◌==◌, ◌⊎◌, ℕ, zero, suc, Bool, true, false, cond, List, [], ◌∷◌, ◌++◌, length, map, slice_get, Option, Some, None, Contains, count_by, IsTrue, MatchOption}
-use Rattle.std.specs.List.{AllByRecursion, AllZip}
+use Rattle.std.specs.Prelude.{◌≡◌, ◌≢◌, ◌<◌, ◌≤◌, ◌+◌, ◌==◌, ℕ, Bool, true, false, List, [], ◌∷◌, ◌++◌, length, slice_get, Option, Some, None, count_by, IsTrue, MatchOption}
+use Rattle.std.specs.List.{AllZip}
 use Rattle.std.proofs.Common.{refl, sym, ◌∙◌, ap, subst, arith, inl, inr, ⊎_elim}
-use Rattle.std.proofs.lemmas.Bool.{eq-eqb}
-use Rattle.std.proofs.lemmas.Bool.Decides.{eqb_tells}
 use Rattle.std.proofs.Common.{append_assoc, drop}
+use Rattle.std.proofs.lemmas.List.{append-nil, drop_all}
 use Rattle.solid_data.specs.Obligations.{FirstNot}
-use Rattle.solid_data.specs.declared.solid.RowId.{RowId}
-use Rattle.edge_uses.proofs.Joins.{drop_past}
 use Rattle.edge_uses.proofs.FirstOf.{LeftIn}
 use Rattle.vertex_link.specs.declared.corners.Corner.{Corner}
-use Rattle.vertex_link.specs.Corners.{row_numbers, LiesAt, AreLinks}
-use Rattle.vertex_link.proofs.Starts.{split_at}
-use Rattle.solid_data.specs.Chain.{LeadsTo}
+use Rattle.vertex_link.specs.Corners.{LiesAt, AreLinks}
 use Rattle.edge_uses.specs.declared.row.Row.{Row}
 use Rattle.edge_uses.specs.ShellRows.{ShellRows}
 use Rattle.edge_uses.specs.Closed.{StartsAt, Turns, IsCorner, IsPoint, IsLinked, point_count}
 use Rattle.edge_uses.specs.Mates.{ArePaired}
-use Rattle.solid_data.proofs.Members.{some_inj, Has, NoRepeat, covers, no_longer, total, count_by-total, All-at, All-from, Has-from_Contains, Contains-from_Has}
+use Rattle.solid_data.proofs.Members.{some_inj, Has, NoRepeat, covers, no_longer, count_by-total, All-at, All-from, Has-from_Contains, Contains-from_Has, has_last, split_at}
 use Rattle.solid_data.proofs.Trail.{Trail, trail_from_zip, trail_keeps, no_repeat, leads_to, leads_on, leads_trans}
 use Rattle.edge_uses.proofs.Cycle.{AreTurning, on_trail, cycle_of_corner, zip_from_trail}
 use Rattle.edge_uses.proofs.Turn.{turning}
+use Rattle.edge_uses.proofs.RowNumbers.{starting, length-starting, starting_has, starting_none, starting_is}
 use Rattle.vertex_link.specs.declared.starting.Starts.{Starts}
 use Rattle.vertex_link.specs.declared.starting.Points.{Points}
 use Rattle.vertex_link.specs.Cycles.{IsCycle, IsCycleOf}
 use Rattle.vertex_link.specs.Starting.{AreStarts, ArePoints}
-
--- the numbers of the rows that start at a vertex
-abbrev starting : ℕ → ℕ → List Row → List ℕ
-starting v n [] = []
-starting v n (r ∷ rows) = cond (r.from.0 == v) (n ∷ starting v (n + 1) rows) (starting v (n + 1) rows)
-
-length-starting : (v n : ℕ) (rows : List Row) → length (starting v n rows) ≡ total (λ (r : Row). cond (r.from.0 == v) 1 0) rows
-length-starting v n [] = refl
-length-starting v n (r ∷ rows) = by_test (r.from.0 == v) (length-starting v (n + 1) rows)
-  where
-    by_test : (b : Bool) → length (starting v (n + 1) rows) ≡ total (λ (x : Row). cond (x.from.0 == v) 1 0) rows
-        → length (cond b (n ∷ starting v (n + 1) rows) (starting v (n + 1) rows)) ≡ cond b 1 0 + total (λ (x : Row). cond (x.from.0 == v) 1 0) rows
-    by_test true h = omega (arith, h)
-    by_test false h = omega (arith, h)
-
-starting_has : (v n k : ℕ) (rows : List Row) (r : Row) → slice_get rows k ≡ Some r → r.from.0 ≡ v → Has (starting v n rows) (n + k)
-starting_has v n k [] r at e = absurd (let h : None ≡ Some r = at in cc)
-starting_has v n zero (x ∷ rows) r at e =
-    let same : (x.from.0 == v) ≡ true = eq-eqb x.from.0 v (ap (λ (y : Row). y.from.0) (some_inj x r at) ∙ e) in
-    let here : n ≡ n + 0 = omega arith in
-    subst (λ b. Has (cond b (n ∷ starting v (n + 1) rows) (starting v (n + 1) rows)) (n + 0)) (sym same) (inl here)
-starting_has v n (suc k) (x ∷ rows) r at e =
-    let later : Has (starting v (n + 1) rows) (n + 1 + k) = starting_has v (n + 1) k rows r at e in
-    let number : n + 1 + k ≡ n + suc k = omega arith in
-    by_test (x.from.0 == v) (subst (Has (starting v (n + 1) rows)) number later)
-  where
-    by_test : (b : Bool) → Has (starting v (n + 1) rows) (n + suc k) → Has (cond b (n ∷ starting v (n + 1) rows) (starting v (n + 1) rows)) (n + suc k)
-    by_test true h = inr h
-    by_test false h = h
-
-starting_above : (v n x : ℕ) (rows : List Row) → Has (starting v n rows) x → n ≤ x
-starting_above v n x [] h = absurd h
-starting_above v n x (r ∷ rows) h = by_test (r.from.0 == v) h (starting_above v (n + 1) x rows)
-  where
-    by_test : (b : Bool) → Has (cond b (n ∷ starting v (n + 1) rows) (starting v (n + 1) rows)) x → (Has (starting v (n + 1) rows) x → n + 1 ≤ x) → n ≤ x
-    by_test true (inl e) later = omega (arith, e)
-    by_test true (inr m) later = omega (arith, later m)
-    by_test false m later = omega (arith, later m)
-
-starting_none : (v n : ℕ) (rows : List Row) → NoRepeat (starting v n rows)
-starting_none v n [] = tt
-starting_none v n (r ∷ rows) = by_test (r.from.0 == v) (starting_none v (n + 1) rows)
-  where
-    by_test : (b : Bool) → NoRepeat (starting v (n + 1) rows) → NoRepeat (cond b (n ∷ starting v (n + 1) rows) (starting v (n + 1) rows))
-    by_test true h = ((λ m. let low : n + 1 ≤ n = starting_above v (n + 1) n rows m in omega (arith, low)), h)
-    by_test false h = h
-
-starting_is : (v n x : ℕ) (rows : List Row) → Has (starting v n rows) x → (k : ℕ) × (r : Row) × (x ≡ n + k) × (slice_get rows k ≡ Some r) × (r.from.0 ≡ v)
-starting_is v n x [] h = absurd h
-starting_is v n x (r ∷ rows) h = by_test (r.from.0 == v) (eqb_tells r.from.0 v) refl h (λ m. let t = starting_is v (n + 1) x rows m in (suc t.0, t.1, omega (arith, t.2), t.3, t.4))
-  where
-    by_test : (b : Bool) → (((r.from.0 == v) ≡ true) × (r.from.0 ≡ v)) ⊎ (((r.from.0 == v) ≡ false) × (r.from.0 ≢ v)) → (r.from.0 == v) ≡ b
-        → Has (cond b (n ∷ starting v (n + 1) rows) (starting v (n + 1) rows)) x
-        → (Has (starting v (n + 1) rows) x → (k : ℕ) × (q : Row) × (x ≡ n + k) × (slice_get (r ∷ rows) k ≡ Some q) × (q.from.0 ≡ v))
-        → (k : ℕ) × (q : Row) × (x ≡ n + k) × (slice_get (r ∷ rows) k ≡ Some q) × (q.from.0 ≡ v)
-    by_test true (inl y) e (inl m) later = (zero, r, omega (arith, m), refl, y.1)
-    by_test true (inr z) e (inl m) later = absurd (let f : true ≡ false = sym e ∙ z.0 in cc)
-    by_test true w e (inr m) later = later m
-    by_test false w e m later = later m
 
 abbrev rows_at : ShellRows → ℕ → List ℕ
 rows_at d v = starting v 0 d.rows
@@ -108,12 +45,6 @@ Walked d first (x ∷ xs) at = (x ≡ first) × Trail (Turns d) first xs at × (
 trail_more : (R : ℕ → ℕ → Type 0) (x : ℕ) (xs : List ℕ) (y z : ℕ) → Trail R x xs y → R y z → Trail R x (xs ++ y ∷ []) z
 trail_more R x [] y z t r = (t, r)
 trail_more R x (w ∷ ws) y z t r = (t.0, trail_more R w ws y z t.1 r)
-
-has_last : (xs : List ℕ) (y z : ℕ) → Has (xs ++ y ∷ []) z → Has xs z ⊎ (y ≡ z)
-has_last [] y z (inl e) = inr e
-has_last [] y z (inr h) = absurd h
-has_last (x ∷ xs) y z (inl e) = inl (inl e)
-has_last (x ∷ xs) y z (inr h) = ⊎_elim (λ a. inl (inr a)) (λ b. inr b) (has_last xs y z h)
 
 pub walked_more : (d : ShellRows) (first : ℕ) (rs : List ℕ) (at y : ℕ) → Walked d first rs at → (0 < length rs → at ≡ first → ⊥) → Turns d at y → Walked d first (rs ++ at ∷ []) y
 walked_more d first [] at y w ne t = (w, subst (λ x. Turns d x y) w t, (λ h. h))
@@ -219,17 +150,6 @@ pub not_corner : (d : ShellRows) (v : ℕ) (m : Starts) → AreStarts d v m → 
 not_corner d v m starts some no_cycle (inl corner) = no_cycle corner
 not_corner d v m starts some no_cycle (inr point) = point.no_row m.first (starts.first some)
 
-pub numbers_pushed : (rows new : List RowId) (at : ℕ) → new ≡ rows ++ record { 0 = at } ∷ [] → row_numbers new ≡ row_numbers rows ++ at ∷ []
-numbers_pushed rows new at e = ap row_numbers e ∙ pushed rows
-  where
-    pushed : (rs : List RowId) → row_numbers (rs ++ record { 0 = at } ∷ []) ≡ row_numbers rs ++ at ∷ []
-    pushed [] = refl
-    pushed (r ∷ rs) = ap (λ xs. r.0 ∷ xs) (pushed rs)
-
-pub one_longer : (rs : List ℕ) (at : ℕ) → length (rs ++ at ∷ []) ≡ length rs + 1
-one_longer [] at = refl
-one_longer (r ∷ rs) at = omega (arith, one_longer rs at)
-
 pub not_both : (b : Bool) → b ≡ false → IsTrue b → ⊥
 not_both true e h = absurd cc
 not_both false e h = absurd cc
@@ -250,16 +170,8 @@ one_corner d i v corner old new at lies e all rest h =
     subst (AreLinks d) (sym (ap (λ cs. cs ++ rest) e ∙ append_assoc old (corner ∷ []) rest)) there
 
 pub corners_done : (d : ShellRows) (i : ℕ) (corners : List Corner) → length d.vertices ≤ i → ((rest : List Corner) → AllZip (LiesAt d) (drop i d.vertices) rest → AreLinks d (corners ++ rest)) → AreLinks d corners
-corners_done d i corners past all = subst (AreLinks d) (nil corners) (all [] (subst (λ vs. AllZip (LiesAt d) vs []) (sym (drop_past i d.vertices past)) tt))
-  where
-    nil : (cs : List Corner) → cs ++ [] ≡ cs
-    nil [] = refl
-    nil (c ∷ cs) = ap (λ xs. c ∷ xs) (nil cs)
+corners_done d i corners past all = subst (AreLinks d) (append-nil corners) (all [] (subst (λ vs. AllZip (LiesAt d) vs []) (sym (drop_all i d.vertices past)) tt))
 
 pub some_of : {A : Type 0} (o : Option A) (x : A) (N : Type 0) (P : A → Type 0) → o ≡ Some x → MatchOption o N P → P x
 some_of None x N P e h = absurd cc
 some_of (Some y) x N P e h = subst P (some_inj y x e) h
-
-pub none_of : {A : Type 0} (o : Option A) (N : Type 0) (P : A → Type 0) → ((x : A) → o ≡ Some x → ⊥) → MatchOption o N P → N
-none_of None N P e h = h
-none_of (Some y) N P e h = absurd (e y refl)
