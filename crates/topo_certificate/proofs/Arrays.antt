@@ -1,13 +1,11 @@
 -- Arrays of mates and of faces, after a write.
-use Rattle.std.specs.Prelude.{◌≡◌, ℕ, zero, suc, ◌+◌, ◌-◌, ◌<◌, ◌≤◌, ◌==◌, ◌≢◌, ◌⊎◌, ◌↔◌, Bool, true, false, List, [], ◌∷◌, length, Contains, Option, Some, None, IsSomeAnd, IfSome, slice_get, slice_set, replicate}
-use Rattle.std.proofs.Common.{refl, sym, ◌∙◌, ap, subst, arith, inl, inr, ⊎_elim, get_or}
+use Rattle.std.specs.Prelude.{◌≡◌, ℕ, zero, suc, ◌-◌, ◌<◌, ◌≤◌, ◌==◌, ◌≢◌, ◌⊎◌, Bool, true, false, List, [], ◌∷◌, length, Contains, Some, slice_get, slice_set, replicate}
+use Rattle.std.proofs.Common.{refl, sym, ◌∙◌, ap, arith, inl, inr, ⊎_elim, get_or}
 use Rattle.std.proofs.lemmas.Bool.Decides.{eqb_tells}
 use Rattle.std.proofs.lemmas.Bool.{cases_lt}
-use Rattle.std.proofs.lemmas.List.{get_or-replicate, get_or_past, length-replicate}
+use Rattle.std.proofs.lemmas.List.{get_or-replicate, get_or_past, length-replicate, length-set}
 use Rattle.solid_data.proofs.Members.{some_inj, Has, Has-from_Contains, Contains-from_Has}
-use Rattle.edge_uses.specs.declared.row.Row.{Row}
-use Rattle.edge_uses.specs.ShellRows.{ShellRows}
-use Rattle.topo_certificate.specs.Stand.{IsMate, IsAbove, row_named}
+use Rattle.topo_certificate.specs.Stand.{IsMate}
 use Rattle.topo_certificate.specs.Kept.{above_zero, mate_in, HoldsMates, HoldsFaces}
 
 pub get_set_same : {A : Type 0} (xs : List A) (k : ℕ) (v : A) → k < length xs → slice_get (slice_set xs k v) k ≡ Some v
@@ -21,16 +19,6 @@ get_set_other (x ∷ xs) zero zero v ne = absurd (ne refl)
 get_set_other (x ∷ xs) zero (suc j) v ne = refl
 get_set_other (x ∷ xs) (suc k) zero v ne = refl
 get_set_other (x ∷ xs) (suc k) (suc j) v ne = get_set_other xs k j v (λ e. ne (ap suc e))
-
-pub length_set : {A : Type 0} (xs : List A) (k : ℕ) (v : A) → length (slice_set xs k v) ≡ length xs
-length_set [] k v = refl
-length_set (x ∷ xs) zero v = refl
-length_set (x ∷ xs) (suc k) v = ap suc (length_set xs k v)
-
-pub get_some : {A : Type 0} (xs : List A) (k : ℕ) → k < length xs → (x : A) × (slice_get xs k ≡ Some x)
-get_some [] k h = absurd (omega (arith, h))
-get_some (x ∷ xs) zero h = (x, refl)
-get_some (x ∷ xs) (suc k) h = get_some xs k (omega (arith, h))
 
 above_is : (v : ℕ) → 0 < v → above_zero (Some v) ≡ Some v
 above_is zero h = absurd (omega (arith, h))
@@ -68,7 +56,7 @@ mate_cases ms a b r m can h = by_b (eqb_tells r b) (eqb_tells r a)
   where
     by_b : (((r == b) ≡ true) × (r ≡ b)) ⊎ (((r == b) ≡ false) × (r ≢ b)) → (((r == a) ≡ true) × (r ≡ a)) ⊎ (((r == a) ≡ false) × (r ≢ a)) → MateCases ms a b r m
     by_b (inl y) other =
-        let w : b ≤ length (slice_set ms (a - 1) b) = omega (arith, can.within_b, length_set ms (a - 1) b) in
+        let w : b ≤ length (slice_set ms (a - 1) b) = omega (arith, can.within_b, length-set ms (a - 1) b) in
         let e : mate_in (with_mates ms a b) b ≡ Some a = mate_same (slice_set ms (a - 1) b) b a can.pos_b w can.pos_a in
         inr (inl (y.1, some_inj m a (sym h ∙ (ap (mate_in (with_mates ms a b)) y.1 ∙ e))))
     by_b (inr n) (inl y) =
@@ -84,7 +72,7 @@ mate_first : (ms : List ℕ) (a b : ℕ) → CanMate ms a b → mate_in (with_ma
 mate_first ms a b can = mate_other (slice_set ms (a - 1) b) b a a can.pos_b can.differ ∙ mate_same ms a b can.pos_a can.within_a can.pos_b
 
 mate_second : (ms : List ℕ) (a b : ℕ) → CanMate ms a b → mate_in (with_mates ms a b) b ≡ Some a
-mate_second ms a b can = mate_same (slice_set ms (a - 1) b) b a can.pos_b (omega (arith, can.within_b, length_set ms (a - 1) b)) can.pos_a
+mate_second ms a b can = mate_same (slice_set ms (a - 1) b) b a can.pos_b (omega (arith, can.within_b, length-set ms (a - 1) b)) can.pos_a
 
 mate_kept : (ms : List ℕ) (a b r m : ℕ) → CanMate ms a b → mate_in ms r ≡ Some m → mate_in (with_mates ms a b) r ≡ Some m
 mate_kept ms a b r m can h =

@@ -2,7 +2,7 @@
 use Rattle.std.specs.Prelude.{◌≡◌, ℕ, zero, suc, ◌+◌, ◌-◌, ◌<◌, ◌≤◌, ◌==◌, ◌&&◌, cond, ◌⊎◌, Bool, true, false, not, List, [], ◌∷◌, ◌++◌, length, map, filter_map, find, Contains, Some, slice_get, option_map}
 use Rattle.std.specs.List.{AllByRecursion, AllZip, cons_option, list_any}
 use Rattle.std.proofs.Common.{refl, sym, ◌∙◌, ap, subst, arith, inl, inr, ⊎_elim}
-use Rattle.std.proofs.lemmas.Bool.{eq-eqb, eqb-true, cases_lt}
+use Rattle.std.proofs.lemmas.Bool.{eq-eqb, eqb-true, cases_lt, and_parts}
 use Rattle.solid_data.specs.Ring.{next_of_each, numbers_from}
 use Rattle.solid_data.specs.Chain.{Steps}
 use Rattle.solid_data.specs.SolidData.{SolidData}
@@ -15,13 +15,14 @@ use Rattle.solid_data.proofs.Members.{Has, NoRepeat, no_longer, Has-from_Contain
 use Rattle.edge_uses.proofs.Counting.{found_row}
 use Rattle.cert_lines.specs.Line.{CertLine, edge, corner, point, reach, IsShort}
 use Rattle.topo_certificate.specs.Stand.{Stand, stand_behind, FitsEdge, FitsCorner, FitsPoint, FitsReach, NoneDue, IsAbove, first_of, row_named, row_edge, row_start, row_face, point_named, mates_of, edge_of, vertex_of, face_of, is_shell, is_edge, is_corner_or_point, is_reach, is_last, number_of, since_shell, asked, rows_of_shell, start_count, IsMate, TurnsTo}
-use Rattle.solid_data.proofs.Occurring.{numbers_rise}
-use Rattle.topo_certificate.proofs.Segment.{AreGoodRows, row_has, number_below, length-numbers}
+use Rattle.solid_data.proofs.Occurring.{numbers_rise, number_below, length-numbers}
+use Rattle.topo_certificate.proofs.Segment.{AreGoodRows, row_has}
 use Rattle.topo_certificate.proofs.Shells.{AllFit}
 use Rattle.topo_certificate.proofs.Short.{IsSmall, IsReadable, readable_edge, readable_corner, readable_point, readable_reach, row_short, starts_few}
-use Rattle.topo_certificate.proofs.Corner.{one_of_edge, starting, length-starting, starts_listed}
+use Rattle.topo_certificate.proofs.Corner.{starts_listed}
 use Rattle.edge_uses.proofs.Cycle.{same_or_not, zip_from_trail, IsCycle, AreTurning, cycle_of_corner}
-use Rattle.topo_certificate.proofs.Turning.{row_of_edge_along, row_of_edge_against}
+use Rattle.edge_uses.proofs.Turn.{edge_id, one_of_edge, row_of_edge_along, row_of_edge_against}
+use Rattle.edge_uses.proofs.RowNumbers.{starting, length-starting, starting_none, starting_is}
 
 -- how far the lines of a shell have come
 pub record Stage (s : SolidData) (lines : List CertLine) (k : ℕ) (d : ShellRows) (es vs fs : List ℕ) (ms : List (ℕ × ℕ)) : Type 0 where
@@ -185,9 +186,6 @@ module _ (s : SolidData) (lines : List CertLine) (k : ℕ) (d : ShellRows) (es v
 abbrev pub MatedAt : ShellRows → List (ℕ × ℕ) → ℕ → Type 0
 MatedAt d ms e = (a : ℕ) × (b : ℕ) × (x : Row) × (y : Row) × Has ms (suc a, suc b) × (slice_get d.rows a ≡ Some x) × (slice_get d.rows b ≡ Some y) × (x.edge.0 ≡ e) × (y.edge.0 ≡ e) × (x.along ≡ true) × (y.along ≡ false)
 
-edge_id : (a b : EdgeId) → a.0 ≡ b.0 → a ≡ b
-edge_id a b h = ap (λ n. record { 0 = n }) h
-
 pub record EdgesBuilt (s : SolidData) (k : ℕ) (d : ShellRows) : Type 0 where
   pub lines : List CertLine
   pub es : List ℕ
@@ -251,34 +249,6 @@ mates_listed d ms good paired mated r m h =
 abbrev pub PointsDiffer : ShellRows → Type 0
 PointsDiffer d = (p q : LoopAt × ℕ) → Has d.points p → Has d.points q → p.0.face.0 ≡ q.0.face.0 → p.0.place ≡ q.0.place → p.1 ≡ q.1
 
-starting_low : (v n : ℕ) (rows : List Row) (x : ℕ) → Has (starting v n rows) x → n ≤ x
-starting_low v n [] x h = absurd h
-starting_low v n (r ∷ rows) x h = by_test (r.from.0 == v) h (λ k. starting_low v (n + 1) rows x k)
-  where
-    by_test : (b : Bool) → Has (cond b (n ∷ starting v (n + 1) rows) (starting v (n + 1) rows)) x → (Has (starting v (n + 1) rows) x → n + 1 ≤ x) → n ≤ x
-    by_test true (inl e) k = omega (arith, e)
-    by_test true (inr m) k = omega (arith, k m)
-    by_test false m k = omega (arith, k m)
-
-starting_none : (v n : ℕ) (rows : List Row) → NoRepeat (starting v n rows)
-starting_none v n [] = tt
-starting_none v n (r ∷ rows) = by_test (r.from.0 == v) (starting_none v (n + 1) rows)
-  where
-    by_test : (b : Bool) → NoRepeat (starting v (n + 1) rows) → NoRepeat (cond b (n ∷ starting v (n + 1) rows) (starting v (n + 1) rows))
-    by_test true k = ((λ m. let low = starting_low v (n + 1) rows n m in omega (arith, low)), k)
-    by_test false k = k
-
-starting_back : (v n : ℕ) (rows : List Row) (x : ℕ) → Has (starting v n rows) x → (k : ℕ) × (row : Row) × (x ≡ n + k) × (slice_get rows k ≡ Some row) × (row.from.0 ≡ v)
-starting_back v n [] x h = absurd h
-starting_back v n (r ∷ rows) x h = by_test (r.from.0 == v) refl h (λ m. starting_back v (n + 1) rows x m)
-  where
-    by_test : (b : Bool) → (r.from.0 == v) ≡ b → Has (cond b (n ∷ starting v (n + 1) rows) (starting v (n + 1) rows)) x
-        → (Has (starting v (n + 1) rows) x → (k : ℕ) × (row : Row) × (x ≡ n + 1 + k) × (slice_get rows k ≡ Some row) × (row.from.0 ≡ v))
-        → (k : ℕ) × (row : Row) × (x ≡ n + k) × (slice_get (r ∷ rows) k ≡ Some row) × (row.from.0 ≡ v)
-    by_test true e (inl same) on = (zero, r, omega (arith, same), refl, eqb-true r.from.0 v e)
-    by_test true e (inr m) on = let f = on m in (suc f.0, f.1, omega (arith, f.2), f.3, f.4)
-    by_test false e m on = let f = on m in (suc f.0, f.1, omega (arith, f.2), f.3, f.4)
-
 has_suc : (xs : List ℕ) (x : ℕ) → Has xs x → Has (map suc xs) (suc x)
 has_suc [] x h = absurd h
 has_suc (y ∷ xs) x (inl e) = inl (ap suc e)
@@ -316,7 +286,7 @@ cycle_whole d v r rs c =
     let at = c.each k.0 k.2 in
     subst (Has (starting v 1 d.rows)) (sym k.1) (starts_listed d v (suc k.0) (ap row_start at.1 ∙ ap Some at.2)) in
     let back : (x : ℕ) → Has (starting v 1 d.rows) x → Has names x =
-    λ x m. let f = starting_back v 1 d.rows x m in
+    λ x m. let f = starting_is v 1 x d.rows m in
     let e : x ≡ suc f.0 = omega (arith, f.2) in
     subst (Has names) (sym e) (has_suc (r ∷ rs) f.0 (c.all f.0 (f.1, f.3, f.4))) in
     let few = no_longer names (starting v 1 d.rows) (none_suc (r ∷ rs) c.none) into in
@@ -344,10 +314,6 @@ find_some p (x ∷ ps) q h e = by_test (p x) refl h (λ m. find_some p ps q m e)
         false_true : false ≡ true → ⊥
         false_true w = cc
     by_test false t (inr m) on = let f = on m in (f.0, f.1, inr f.2, f.3)
-
-pub and_parts : (s t : Bool) → (s && t) ≡ true → (s ≡ true) × (t ≡ true)
-and_parts true t h = (refl, h)
-and_parts false t h = absurd cc
 
 named_point : (s : SolidData) (d : ShellRows) (v : ℕ) → IsSmall s d → PointsDiffer d → IsPoint d v → (face : ℕ) × (l : ℕ) × (option_map (λ (p : LoopAt × ℕ). p.1) (point_named d face l) ≡ Some v) × IsShort face × IsShort l
 named_point s d v small differ h =

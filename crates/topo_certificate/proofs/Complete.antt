@@ -2,6 +2,7 @@
 use Rattle.std.specs.Prelude.{◌≡◌, ◌++◌, map, ℕ, zero, suc, ◌-◌, ◌<◌, ◌≤◌, true, false, List, [], ◌∷◌, length}
 use Rattle.std.specs.List.{AllByRecursion, list_any}
 use Rattle.std.proofs.Common.{refl, ap, subst, arith, inl}
+use Rattle.std.proofs.lemmas.List.{append-nil}
 use Rattle.solid_data.specs.SolidData.{SolidData}
 use Rattle.edge_uses.specs.ShellRows.{ShellRows}
 use Rattle.edge_uses.specs.Closed.{AreMates}
@@ -140,8 +141,4 @@ unfolding IsLegal
 closed_has_legal s ready =
     let h = closed_has_lines s ready in
     let k = legal_from_fit s h.0 h.1 h.3 [] h.2 in
-    (k.0, subst (IsLegalBehind s []) (nothing_more (map spelling k.0)) k.1, k.2)
-  where
-    nothing_more : (xs : List (List ℕ)) → xs ++ [] ≡ xs
-    nothing_more [] = refl
-    nothing_more (x ∷ xs) = ap (λ ys. x ∷ ys) (nothing_more xs)
+    (k.0, subst (IsLegalBehind s []) (append-nil (map spelling k.0)) k.1, k.2)

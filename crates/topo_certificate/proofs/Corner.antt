@@ -1,19 +1,19 @@
 -- A fitting corner line lists the rows of one cycle of turns, and these are all rows that start at its vertex.
-use Rattle.std.specs.Prelude.{◌≡◌, ℕ, zero, suc, ◌+◌, ◌<◌, ◌≤◌, ◌==◌, ◌&&◌, Bool, true, false, not, cond, List, [], ◌∷◌, length, Contains, Option, Some, None, slice_get}
+use Rattle.std.specs.Prelude.{◌≡◌, ℕ, zero, suc, ◌+◌, ◌<◌, ◌≤◌, ◌==◌, not, List, [], ◌∷◌, length, Contains, Option, Some, None, slice_get}
 use Rattle.std.specs.List.{AllByRecursion}
 use Rattle.std.proofs.Common.{refl, sym, ◌∙◌, ap, subst, arith, inl, inr, ⊎_elim}
-use Rattle.std.proofs.lemmas.Bool.{eq-eqb}
 use Rattle.solid_data.specs.Chain.{Steps}
 use Rattle.solid_data.specs.declared.solid.EdgeId.{EdgeId}
 use Rattle.solid_data.specs.declared.solid.VertexId.{VertexId}
 use Rattle.edge_uses.specs.declared.row.Row.{Row}
 use Rattle.edge_uses.specs.ShellRows.{ShellRows, EndsMeet}
-use Rattle.edge_uses.specs.Closed.{AreMates, Turns, StartsAt, IsCorner, IsPaired, row_count}
-use Rattle.solid_data.proofs.Members.{some_inj, Has, NoRepeat, covers, total, count_by-total}
-use Rattle.edge_uses.proofs.Counting.{one_place}
+use Rattle.edge_uses.specs.Closed.{AreMates, Turns, StartsAt, IsCorner, IsPaired}
+use Rattle.solid_data.proofs.Members.{some_inj, Has, NoRepeat, covers, count_by-total}
 use Rattle.topo_certificate.specs.Stand.{Stand, row_named, row_start, FollowsAsNamed, IsMate, TurnsTo, FitsCorner}
 use Rattle.solid_data.proofs.Trail.{Trail, trail_from_zip, leads_trans, leads_to, leads_on, no_repeat}
 use Rattle.edge_uses.proofs.RowShape.{EndsExchanged}
+use Rattle.edge_uses.proofs.Turn.{not-not, PairedRows, pair_counts, one_of_edge}
+use Rattle.edge_uses.proofs.RowNumbers.{starting, length-starting, starting_has}
 
 -- mates by their numbers in a line
 pub record AreNamedMates (d : ShellRows) (r m : ℕ) : Type 0 where
@@ -23,12 +23,6 @@ pub record AreNamedMates (d : ShellRows) (r m : ℕ) : Type 0 where
   pub at_m : row_named d m ≡ Some mate
   pub one_edge : row.edge ≡ mate.edge
   pub opposite : row.along ≡ not mate.along
-
-pub not-not : (b c : Bool) → b ≡ not c → c ≡ not b
-not-not true true h = absurd cc
-not-not true false h = refl
-not-not false true h = refl
-not-not false false h = absurd cc
 
 pub mates_back : (d : ShellRows) (r m : ℕ) → AreNamedMates d r m → AreNamedMates d m r
 mates_back d r m h = record { row = h.mate; mate = h.row; at_r = h.at_m; at_m = h.at_r; one_edge = sym h.one_edge; opposite = not-not h.row.along h.mate.along h.opposite }
@@ -101,36 +95,6 @@ corner_starts d mates meet exchanged hold v r (w ∷ ws) z t start x (inr h) =
     first_turn w [] z t = t
     first_turn w (y ∷ ys) z t = t.0
 
--- Where each edge of a row is paired, a row turns to one row at most.
-abbrev pub PairedRows : ShellRows → Type 0
-PairedRows d = (n : ℕ) (a : Row) → slice_get d.rows n ≡ Some a → IsPaired d a.edge.0
-
-pub pair_counts : (d : ShellRows) (e : ℕ) (b : Bool) → IsPaired d e → row_count d e b ≡ 1
-pair_counts d e true h = h.0
-pair_counts d e false h = h.1
-
-passes_edge : (e : ℕ) (b : Bool) → Row → Bool
-passes_edge e true r = (r.edge.0 == e) && r.along
-passes_edge e false r = (r.edge.0 == e) && not r.along
-
-pub one_of_edge : (d : ShellRows) (e : ℕ) (b : Bool) (n m : ℕ) (x y : Row) → row_count d e b ≡ 1 → slice_get d.rows n ≡ Some x → slice_get d.rows m ≡ Some y → x.edge.0 ≡ e → y.edge.0 ≡ e → x.along ≡ b → y.along ≡ b → n ≡ m
-one_of_edge d e true n m x y one at_n at_m ex ey bx by =
-    let p : Row → Bool = λ r. (r.edge.0 == e) && r.along in
-    one_place p d.rows (sym (count_by-total p d.rows) ∙ one) n m x y at_n at_m (both (x.edge.0 == e) x.along (eq-eqb x.edge.0 e ex) bx) (both (y.edge.0 == e) y.along (eq-eqb y.edge.0 e ey) by)
-  where
-    both : (s t : Bool) → s ≡ true → t ≡ true → (s && t) ≡ true
-    both true true h k = refl
-    both true false h k = k
-    both false t h k = h
-one_of_edge d e false n m x y one at_n at_m ex ey bx by =
-    let p : Row → Bool = λ r. (r.edge.0 == e) && not r.along in
-    one_place p d.rows (sym (count_by-total p d.rows) ∙ one) n m x y at_n at_m (both (x.edge.0 == e) x.along (eq-eqb x.edge.0 e ex) bx) (both (y.edge.0 == e) y.along (eq-eqb y.edge.0 e ey) by)
-  where
-    both : (s t : Bool) → s ≡ true → t ≡ false → (s && not t) ≡ true
-    both true true h k = sym k
-    both true false h k = refl
-    both false t h k = h
-
 -- a row has one mate
 pub one_mate : (d : ShellRows) → PairedRows d → (r m k : ℕ) → AreNamedMates d r m → AreNamedMates d r k → m ≡ k
 one_mate d paired zero m k a b = absurd (let h : None ≡ Some a.row = a.at_r in cc)
@@ -155,35 +119,6 @@ pub turns_one : (d : ShellRows) (mates : List (ℕ × ℕ)) → MatesHold d mate
 turns_one d mates hold paired r x y (m, is_m, f) (k, is_k, g) =
     let same : m ≡ k = one_mate d paired r m k (mates_named d mates r m hold is_m) (mates_named d mates r k hold is_k) in
     follows_one d m x y f (subst (λ z. FollowsAsNamed d z y) (sym same) g)
-
--- the numbers, in a line, of the rows that start at a vertex
-abbrev pub starting : ℕ → ℕ → List Row → List ℕ
-starting v n [] = []
-starting v n (r ∷ rows) = cond (r.from.0 == v) (n ∷ starting v (n + 1) rows) (starting v (n + 1) rows)
-
-pub length-starting : (v n : ℕ) (rows : List Row) → length (starting v n rows) ≡ total (λ (r : Row). cond (r.from.0 == v) 1 0) rows
-length-starting v n [] = refl
-length-starting v n (r ∷ rows) = by_test (r.from.0 == v) (length-starting v (n + 1) rows)
-  where
-    by_test : (b : Bool) → length (starting v (n + 1) rows) ≡ total (λ (x : Row). cond (x.from.0 == v) 1 0) rows
-        → length (cond b (n ∷ starting v (n + 1) rows) (starting v (n + 1) rows)) ≡ cond b 1 0 + total (λ (x : Row). cond (x.from.0 == v) 1 0) rows
-    by_test true h = omega (arith, h)
-    by_test false h = omega (arith, h)
-
-pub starting_has : (v n k : ℕ) (rows : List Row) (r : Row) → slice_get rows k ≡ Some r → r.from.0 ≡ v → Has (starting v n rows) (n + k)
-starting_has v n k [] r at e = absurd (let h : None ≡ Some r = at in cc)
-starting_has v n zero (x ∷ rows) r at e =
-    let same : (x.from.0 == v) ≡ true = eq-eqb x.from.0 v (ap (λ (y : Row). y.from.0) (some_inj x r at) ∙ e) in
-    let here : n ≡ n + 0 = omega arith in
-    subst (λ b. Has (cond b (n ∷ starting v (n + 1) rows) (starting v (n + 1) rows)) (n + 0)) (sym same) (inl here)
-starting_has v n (suc k) (x ∷ rows) r at e =
-    let later : Has (starting v (n + 1) rows) (n + 1 + k) = starting_has v (n + 1) k rows r at e in
-    let number : n + 1 + k ≡ n + suc k = omega arith in
-    by_test (x.from.0 == v) (subst (Has (starting v (n + 1) rows)) number later)
-  where
-    by_test : (b : Bool) → Has (starting v (n + 1) rows) (n + suc k) → Has (cond b (n ∷ starting v (n + 1) rows) (starting v (n + 1) rows)) (n + suc k)
-    by_test true h = inr h
-    by_test false h = h
 
 pub starts_listed : (d : ShellRows) (v x : ℕ) → StartsNamed d v x → Has (starting v 1 d.rows) x
 starts_listed d v zero h = absurd (let e : None ≡ Some v = h in cc)

@@ -1,8 +1,8 @@
 -- When a corner line or a point line fits.
-use Rattle.std.specs.Prelude.{◌≡◌, ◌≢◌, ℕ, zero, suc, ◌+◌, ◌-◌, ◌<◌, ◌≤◌, ◌==◌, ◌&&◌, ◌⊎◌, Bool, true, false, cond, List, [], ◌∷◌, ◌++◌, length, map, Option, Some, None, slice_get, option_map, if◌then◌else◌}
-use Rattle.std.proofs.Common.{refl, sym, ◌∙◌, ap, subst, arith, inl, inr, ⊎_elim, get_or}
+use Rattle.std.specs.Prelude.{◌≡◌, ◌≢◌, ℕ, zero, suc, ◌-◌, ◌<◌, ◌≤◌, ◌==◌, ◌&&◌, ◌⊎◌, Bool, true, false, List, ◌∷◌, length, map, Option, Some, None, slice_get, option_map, if◌then◌else◌}
+use Rattle.std.proofs.Common.{refl, sym, ◌∙◌, ap, subst, arith, inl, inr, get_or}
 use Rattle.std.proofs.lemmas.Bool.Decides.{eqb_tells}
-use Rattle.std.proofs.lemmas.Bool.{eq-eqb, eqb-true}
+use Rattle.std.proofs.lemmas.Bool.{eq-eqb, eqb-true, and_from}
 use Rattle.std.proofs.lemmas.Option.{get_or_from_slice_get, slice_get-map}
 use Rattle.std.proofs.lemmas.List.{length-map}
 use Rattle.solid_data.specs.declared.solid.LoopAt.{LoopAt}
@@ -95,12 +95,7 @@ alone_tells d v h = by_tests (start_count d v == 0) (point_count d v == 1) refl 
     by_tests false b x y h = absurd cc
 
 alone_is : (d : ShellRows) (v : ℕ) → start_count d v ≡ 0 → point_count d v ≡ 1 → is_alone d v ≡ true
-alone_is d v a b = both (start_count d v == 0) (point_count d v == 1) (eq-eqb (start_count d v) 0 a) (eq-eqb (point_count d v) 1 b)
-  where
-    both : (a b : Bool) → a ≡ true → b ≡ true → (a && b) ≡ true
-    both true true x y = refl
-    both true false x y = y
-    both false b x y = x
+alone_is d v a b = and_from (start_count d v == 0) (point_count d v == 1) (eq-eqb (start_count d v) 0 a) (eq-eqb (point_count d v) 1 b)
 
 pub alone_there : (d : ShellRows) (alone : List Bool) (i : ℕ) (p : LoopAt × ℕ) (z : Bool) → alone ≡ map (λ (p : LoopAt × ℕ). is_alone d p.1) d.points → slice_get d.points i ≡ Some p → get_or alone i z ≡ is_alone d p.1
 alone_there d alone i p z is h =

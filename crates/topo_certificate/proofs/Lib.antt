@@ -1,7 +1,6 @@
 pub mod Corner
 pub mod Segment
 pub mod Shells
-pub mod Turning
 pub mod Build
 pub mod Complete
 pub mod Short

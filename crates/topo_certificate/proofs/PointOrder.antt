@@ -1,16 +1,14 @@
 -- Which loop without an edge a line names, where they stand in file order.
-use Rattle.std.specs.Prelude.{◌≡◌, ◌≢◌, ◌<◌, ◌≤◌, ◌+◌, ◌==◌, ◌&&◌, ◌⊎◌, ℕ, zero, suc, Bool, true, false, cond, List, [], ◌∷◌, ◌++◌, length, map, flat_map, find, slice_get, Option, Some, None, ◌^◌, if◌then◌else◌}
+use Rattle.std.specs.Prelude.{◌≡◌, ◌<◌, ◌≤◌, ◌+◌, ◌==◌, ◌&&◌, ◌⊎◌, ℕ, zero, suc, Bool, true, false, cond, List, [], ◌∷◌, ◌++◌, length, map, flat_map, find, slice_get, Some, None, ◌^◌, if◌then◌else◌}
 use Rattle.std.specs.List.{AllByRecursion, enumerate_from, list_any}
 use Rattle.std.proofs.Common.{refl, sym, ◌∙◌, ap, subst, arith, inl, inr, ⊎_elim}
 use Rattle.std.proofs.lemmas.Bool.{eq-eqb, eqb-true}
-use Rattle.solid_data.proofs.Members.{some_inj, Has, get_below, all_append, all_has, has_append, from_flat_map}
-use Rattle.edge_uses.proofs.Few.{has_get}
+use Rattle.solid_data.proofs.Members.{some_inj, Has, all_append, all_has, has_append, from_flat_map, All-from, get_some, has_get}
+use Rattle.solid_data.proofs.Occurring.{length-numbers}
 use Rattle.edge_uses.proofs.Whole.{few_edges, few_vertices}
 use Rattle.solid_data.specs.Numbering.{IsNumberedSolid}
 use Rattle.solid_data.specs.Ring.{numbers_from}
-use Rattle.topo_certificate.proofs.Segment.{length-numbers}
 use Rattle.topo_certificate.proofs.UseSizes.{some_faces}
-use Rattle.topo_certificate.proofs.Arrays.{get_some}
 use Rattle.solid_data.specs.SolidData.{SolidData, PlacedLoop, same_flag, placed_in_face, placed_loops, shell_edges, shell_vertices, occurring}
 use Rattle.solid_data.specs.declared.solid.LoopAt.{LoopAt}
 use Rattle.solid_data.specs.declared.solid.Loop.{Loop}
@@ -125,14 +123,10 @@ abbrev Follow : {A : Type 0} → (A → LoopAt) → List A → Type 0
 Follow f [] = Unit {0}
 Follow f (x ∷ xs) = AllByRecursion (λ y. Precedes (f x) (f y)) xs × Follow f xs
 
-every : {A : Type 0} (P : A → Type 0) (ys : List A) → ((y : A) → Has ys y → P y) → AllByRecursion P ys
-every P [] h = tt
-every P (y ∷ ys) h = (h y (inl refl), every P ys (λ z m. h z (inr m)))
-
 follow_append : {A : Type 0} (f : A → LoopAt) (xs ys : List A) → Follow f xs → Follow f ys → ((x y : A) → Has xs x → Has ys y → Precedes (f x) (f y)) → Follow f (xs ++ ys)
 follow_append f [] ys a b all = b
 follow_append f (x ∷ xs) ys a b all =
-    (all_append (λ y. Precedes (f x) (f y)) xs ys a.0 (every (λ y. Precedes (f x) (f y)) ys (λ y m. all x y (inl refl) m)), follow_append f xs ys a.1 b (λ z y m k. all z y (inr m) k))
+    (all_append (λ y. Precedes (f x) (f y)) xs ys a.0 (All-from (λ y. Precedes (f x) (f y)) ys (λ y m. all x y (inl refl) m)), follow_append f xs ys a.1 b (λ z y m k. all z y (inr m) k))
 
 follow_at : {A : Type 0} (f : A → LoopAt) (xs : List A) (i j : ℕ) (x y : A) → Follow f xs → i < j → slice_get xs i ≡ Some x → slice_get xs j ≡ Some y → Precedes (f x) (f y)
 follow_at f [] i j x y h lt at_i at_j = absurd cc
@@ -151,7 +145,7 @@ in_face face forwards base (l ∷ ls) p (inr h) = let k = in_face face forwards 
 loops_follow : (face : ℕ) (forwards : Bool) (base : ℕ) (ls : List Loop) → Follow at_of (map (placed_at face forwards) (enumerate_from base ls))
 loops_follow face forwards base [] = tt
 loops_follow face forwards base (l ∷ ls) = (
-  every (λ q. Precedes (placed_at face forwards (base, l)).at q.at) (map (placed_at face forwards) (enumerate_from (base + 1) ls)) (λ q m. let k = in_face face forwards (base + 1) ls q m in (omega (arith, k.0), λ same. omega (arith, k.1))),
+  All-from (λ q. Precedes (placed_at face forwards (base, l)).at q.at) (map (placed_at face forwards) (enumerate_from (base + 1) ls)) (λ q m. let k = in_face face forwards (base + 1) ls q m in (omega (arith, k.0), λ same. omega (arith, k.1))),
   loops_follow face forwards (base + 1) ls,
 )
 

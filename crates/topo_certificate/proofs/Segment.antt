@@ -2,7 +2,7 @@
 use Rattle.std.specs.Prelude.{◌≡◌, ℕ, zero, suc, ◌+◌, ◌-◌, ◌*◌, ◌<◌, ◌≤◌, ◌==◌, ◌&&◌, Bool, true, false, not, cond, option_map, List, [], ◌∷◌, length, find, count_by, Option, Some, None, slice_get}
 use Rattle.std.specs.List.{AllByRecursion, cons_option}
 use Rattle.std.proofs.Common.{refl, sym, ◌∙◌, ap, subst, arith, inl, inr, ⊎_elim}
-use Rattle.std.proofs.lemmas.Bool.{eq-eqb}
+use Rattle.std.proofs.lemmas.Bool.{eq-eqb, and_from}
 use Rattle.solid_data.specs.Ring.{numbers_from}
 use Rattle.solid_data.specs.declared.solid.EdgeId.{EdgeId}
 use Rattle.solid_data.specs.declared.solid.LoopAt.{LoopAt}
@@ -13,8 +13,10 @@ use Rattle.solid_data.proofs.Members.{some_inj, Has, NoRepeat, Has-from_Contains
 use Rattle.edge_uses.proofs.Counting.{counted, paired_by_count}
 use Rattle.topo_certificate.specs.Stand.{Stand, FitsEdge, FitsCorner, FitsPoint, FitsReach, IsAbove, first_of, row_named, row_edge, row_start, row_face, point_named}
 use Rattle.solid_data.proofs.Trail.{leads_last}
+use Rattle.solid_data.proofs.Occurring.{numbers_have, length-numbers}
 use Rattle.edge_uses.proofs.RowShape.{EndsExchanged}
-use Rattle.topo_certificate.proofs.Corner.{AreNamedMates, MatesHold, PairedRows, mates_named, mates_back, corner_from_line}
+use Rattle.edge_uses.proofs.Turn.{PairedRows}
+use Rattle.topo_certificate.proofs.Corner.{AreNamedMates, MatesHold, mates_named, mates_back, corner_from_line}
 
 -- what rows of a shell whose loops join keep
 pub record AreGoodRows (d : ShellRows) : Type 0 where
@@ -57,11 +59,6 @@ pub record EdgeFacts (d : ShellRows) (mates : List (ℕ × ℕ)) (es : List ℕ)
 mates_of_line : (d : ShellRows) (at : Stand) (a b : ℕ) → FitsEdge d at a b → AreNamedMates d a b
 mates_of_line d at a b h = record { row = h.along_row; mate = h.against_row; at_r = h.at_a; at_m = h.at_b; one_edge = h.one_edge; opposite = h.along ∙ sym (ap not h.against) }
 
-and_true : (s t : Bool) → s ≡ true → t ≡ true → (s && t) ≡ true
-and_true true true h k = refl
-and_true true false h k = k
-and_true false t h k = h
-
 counted_named : (p : Row → Bool) (d : ShellRows) (n : ℕ) (r : Row) → row_named d n ≡ Some r → p r ≡ true → 1 ≤ count_by p d.rows
 counted_named p d zero r h passes = absurd cc
 counted_named p d (suc n) r h passes = omega (arith, counted p d.rows n r h passes, count_by-total p d.rows)
@@ -73,9 +70,9 @@ edge_step d at mates es n a b good facts more last h =
     let listed : row_edge (row_named d a) ≡ Some e = ap row_edge h.at_a in
     let here : Has d.edges e × (1 ≤ row_count d e true) × (1 ≤ row_count d e false) = (
       named_has (λ (r : Row). Has d.edges r.edge.0) d a h.along_row good.edges h.at_a,
-      counted_named (λ (r : Row). (r.edge.0 == e) && r.along) d a h.along_row h.at_a (and_true (e == e) h.along_row.along (eq-eqb e e refl) h.along),
+      counted_named (λ (r : Row). (r.edge.0 == e) && r.along) d a h.along_row h.at_a (and_from (e == e) h.along_row.along (eq-eqb e e refl) h.along),
       counted_named (λ (r : Row). (r.edge.0 == e) && not r.along) d b h.against_row h.at_b
-          (and_true (h.against_row.edge.0 == e) (not h.against_row.along) (eq-eqb h.against_row.edge.0 e (ap (λ (x : EdgeId). x.0) (sym h.one_edge))) (ap not h.against)),
+          (and_from (h.against_row.edge.0 == e) (not h.against_row.along) (eq-eqb h.against_row.edge.0 e (ap (λ (x : EdgeId). x.0) (sym h.one_edge))) (ap not h.against)),
     ) in
     subst (λ o. EdgeFacts d ((a, b) ∷ mates) (cons_option o es) (suc n)) (sym listed) (record {
       falls = (falls_more es e (subst (λ o. IsAbove o e) last h.rises) facts.falls, facts.falls);
@@ -194,20 +191,6 @@ reach_step d at fs n r good hold facts reached h =
       number = ap suc facts.number;
       each = λ f m. ⊎_elim (λ e. subst (λ x. (x < d.face_count) × IsReached d x) e (face_below d good r h.face h.on_face, now)) (λ k. facts.each f k) m;
     })
-
-pub numbers_have : (base n k : ℕ) → k < n → Has (numbers_from base n) (base + k)
-numbers_have base zero k lt = absurd (omega (arith, lt))
-numbers_have base (suc n) zero lt = let e : base ≡ base + 0 = omega arith in inl e
-numbers_have base (suc n) (suc k) lt = let e : base + 1 + k ≡ base + suc k = omega arith in inr (subst (Has (numbers_from (base + 1) n)) e (numbers_have (base + 1) n k (omega (arith, lt))))
-
-pub number_below : (base n k : ℕ) → Has (numbers_from base n) k → (base ≤ k) × (k < base + n)
-number_below base zero k m = absurd m
-number_below base (suc n) k (inl e) = (omega (arith, e), omega (arith, e))
-number_below base (suc n) k (inr m) = let h = number_below (base + 1) n k m in (omega (arith, h.0), omega (arith, h.1))
-
-pub length-numbers : (base n : ℕ) → length (numbers_from base n) ≡ n
-length-numbers base zero = refl
-length-numbers base (suc n) = ap suc (length-numbers (base + 1) n)
 
 pub faces_reached : (d : ShellRows) (fs : List ℕ) (n : ℕ) → ReachFacts d fs n → d.face_count - 1 ≤ n → (f : ℕ) → f < d.face_count → IsReached d f
 faces_reached d fs n facts all f lt =

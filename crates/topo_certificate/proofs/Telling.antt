@@ -1,17 +1,17 @@
 -- What is kept of a shell, behind one more of its lines.
-use Rattle.std.specs.Prelude.{◌≡◌, ℕ, zero, suc, ◌+◌, ◌-◌, ◌<◌, ◌≤◌, ◌^◌, ◌⊎◌, Bool, true, false, List, [], ◌∷◌, length, Option, Some, None, IfSome, IsSomeAnd, slice_get, slice_set}
-use Rattle.std.proofs.Common.{refl, sym, ◌∙◌, ap, subst, arith, inl, inr, ⊎_elim}
+use Rattle.std.specs.Prelude.{◌≡◌, ℕ, ◌+◌, ◌-◌, ◌<◌, ◌≤◌, true, false, List, [], ◌∷◌, length, Option, Some, None, IsSomeAnd, slice_set}
+use Rattle.std.proofs.Common.{refl, sym, ◌∙◌, ap, subst, arith, ⊎_elim}
+use Rattle.std.proofs.lemmas.List.{length-set}
 use Rattle.solid_data.specs.SolidData.{SolidData}
 use Rattle.solid_data.proofs.Members.{some_inj}
 use Rattle.edge_uses.specs.declared.row.Row.{Row}
-use Rattle.edge_uses.specs.ShellRows.{ShellRows}
-use Rattle.cert_lines.specs.Line.{CertLine, edge, corner, point, reach}
-use Rattle.topo_certificate.specs.Stand.{Stand, stand_behind, rows_of_shell, row_named, edge_of, vertex_of, face_of, IsAbove, CornerDue, FitsOpen, FitsEdge, FitsCorner, FitsPoint, FitsReach}
-use Rattle.topo_certificate.specs.Kept.{KeptShell, IsKept, HoldsMates, HoldsFaces, mate_in, dues}
+use Rattle.cert_lines.specs.Line.{edge, corner, point, reach}
+use Rattle.topo_certificate.specs.Stand.{Stand, stand_behind, rows_of_shell, row_named, edge_of, vertex_of, face_of, IsAbove, CornerDue, FitsOpen, FitsEdge, FitsPoint, FitsReach}
+use Rattle.topo_certificate.specs.Kept.{KeptShell, IsKept, HoldsMates, HoldsFaces}
 use Rattle.topo_certificate.specs.Ring.{FitsCornerLine}
 use Rattle.topo_certificate.specs.Told.{TellsShell, Takes}
 use Rattle.topo_certificate.proofs.Standing.{stand_of, edge_stand, corner_stand, point_stand, reach_stand, reached_is, others_reached}
-use Rattle.topo_certificate.proofs.Arrays.{CanMate, MateCases, with_mates, mate_cases, mates_more, faces_more, length_set}
+use Rattle.topo_certificate.proofs.Arrays.{CanMate, MateCases, with_mates, mate_cases, mates_more, faces_more}
 use Rattle.topo_certificate.proofs.CornerFits.{named_below}
 
 -- Edge lines.
@@ -67,7 +67,7 @@ edge_kept k a b e n kept h less = record {
   sizes = kept.sizes;
   alone = kept.alone;
   in_order = kept.in_order;
-  each_row = length_set (slice_set k.mates (a - 1) b) (b - 1) a ∙ (length_set k.mates (a - 1) b ∙ kept.each_row);
+  each_row = length-set (slice_set k.mates (a - 1) b) (b - 1) a ∙ (length-set k.mates (a - 1) b ∙ kept.each_row);
   each_face = kept.each_face;
   few = omega (arith, kept.few, less);
   passed = λ r m is. by_case r m (h.fits (stand_at k.last_edge) (stand_at_last k.last_edge)) (mate_cases k.mates a b r m (can_mate k a b e kept h) is);

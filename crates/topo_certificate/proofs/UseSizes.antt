@@ -1,23 +1,20 @@
 -- How many uses there are, part by part.
-use Rattle.std.specs.Prelude.{◌≡◌, ◌<◌, ◌≤◌, ◌+◌, ◌^◌, ℕ, zero, suc, Bool, All, List, [], ◌∷◌, ◌++◌, length, map, flat_map, slice_get, Some}
+use Rattle.std.specs.Prelude.{◌≡◌, ◌<◌, ◌≤◌, ◌+◌, ◌^◌, ℕ, suc, Bool, List, [], ◌∷◌, ◌++◌, length, map, flat_map, slice_get, Some}
 use Rattle.std.specs.List.{enumerate_from}
-use Rattle.std.proofs.Common.{refl, sym, ◌∙◌, ap, subst, arith, get_or, drop, length-append}
+use Rattle.std.proofs.Common.{refl, ◌∙◌, ap, subst, arith, get_or, drop, length-append}
 use Rattle.std.proofs.lemmas.Grind.{flat_map-append}
 use Rattle.std.proofs.lemmas.Option.{get_or_from_slice_get}
-use Rattle.solid_data.proofs.Members.{get_below}
-use Rattle.solid_data.specs.SolidData.{SolidData, PlacedLoop, placed_in_face, placed_loops, shell_uses}
+use Rattle.std.proofs.lemmas.List.{drop_all}
+use Rattle.solid_data.proofs.Members.{get_below, split_at}
+use Rattle.solid_data.specs.SolidData.{SolidData, PlacedLoop, placed_in_face, shell_uses}
 use Rattle.solid_data.specs.Numbering.{IsNumberedSolid}
 use Rattle.solid_data.specs.declared.solid.Loop.{Loop}
-use Rattle.solid_data.specs.declared.solid.LoopUse.{LoopUse}
 use Rattle.solid_data.specs.declared.solid.FaceUse.{FaceUse}
 use Rattle.solid_data.specs.declared.solid.Shell.{Shell}
 use Rattle.edge_uses.specs.Joining.{placed_at}
-use Rattle.edge_uses.proofs.Joins.{split_drop, drop_past}
+use Rattle.edge_uses.specs.Building.{uses_in}
+use Rattle.edge_uses.proofs.Joins.{split_drop}
 use Rattle.topo_certificate.specs.Uses.{loops_size, faces_size, shells_size}
-use Rattle.topo_certificate.proofs.VertexTallies.{split_at}
-
-abbrev uses_in : PlacedLoop → List LoopUse
-uses_in p = p.loop.uses
 
 loops_counted : (face : ℕ) (forwards : Bool) (base : ℕ) (ls : List Loop) → length (flat_map uses_in (map (placed_at face forwards) (enumerate_from base ls))) ≡ loops_size ls
 loops_counted face forwards base [] = refl
@@ -63,4 +60,4 @@ pub uses_few : (s : SolidData) → IsNumberedSolid s → shells_size s.shells < 
 uses_few s numbered = omega (arith, numbered.few_uses, shells_counted s.shells)
 
 pub shells_past : (hs : List Shell) (k : ℕ) → length hs ≤ k → shells_size (drop k hs) ≡ 0
-shells_past hs k past = ap shells_size (drop_past k hs past)
+shells_past hs k past = ap shells_size (drop_all k hs past)

@@ -1,40 +1,19 @@
 -- Counting up by vertex, item by item.
-use Rattle.std.specs.Prelude.{◌≡◌, ◌≢◌, ℕ, zero, suc, ◌+◌, ◌-◌, ◌<◌, ◌≤◌, ◌==◌, ◌&&◌, ◌⊎◌, Bool, true, false, cond, List, [], ◌∷◌, ◌++◌, length, map, count_by, Contains, Some, slice_get, slice_set, slice_index, replicate}
-use Rattle.std.specs.List.{AllByRecursion}
-use Rattle.std.proofs.Common.{refl, sym, ◌∙◌, ap, subst, arith, inl, inr, ⊎_elim, get_or, drop, append_assoc}
+use Rattle.std.specs.Prelude.{◌≡◌, ◌≢◌, ℕ, ◌+◌, ◌-◌, ◌<◌, ◌≤◌, ◌==◌, ◌⊎◌, true, false, List, [], ◌∷◌, ◌++◌, length, map, Contains, Some, slice_get, slice_set, replicate}
+use Rattle.std.proofs.Common.{sym, ◌∙◌, ap, subst, arith, inl, inr, get_or, drop, append_assoc}
 use Rattle.std.proofs.lemmas.Bool.Decides.{eqb_tells}
-use Rattle.std.proofs.lemmas.List.{get_or-replicate}
-use Rattle.std.proofs.lemmas.Option.{get_or_from_slice_get}
+use Rattle.std.proofs.lemmas.List.{get_or-replicate, append-nil, drop_all, length-set}
 use Rattle.solid_data.specs.declared.solid.LoopAt.{LoopAt}
-use Rattle.solid_data.proofs.Members.{Has, total, count_by-total, get_below, All-at, All-from, Has-from_Contains}
+use Rattle.solid_data.proofs.Members.{count_by-total, All-at, split_at, has_get}
 use Rattle.solid_data.proofs.ObligationLemmas.{AllByRecursion-weaker}
 use Rattle.edge_uses.specs.declared.row.Row.{Row}
 use Rattle.edge_uses.specs.declared.spanning.Span.{Span}
 use Rattle.edge_uses.specs.Ranges.{IsWithin, IsSpanOf}
 use Rattle.edge_uses.specs.ShellRows.{ShellRows, AreRows}
-use Rattle.edge_uses.proofs.Few.{has_get}
-use Rattle.edge_uses.proofs.Joins.{split_drop, drop_past}
 use Rattle.edge_uses.proofs.Steps.{default_apart}
 use Rattle.edge_uses.proofs.Tallies.{one_if, set_same, set_other}
-use Rattle.topo_certificate.specs.Stand.{start_count}
-use Rattle.edge_uses.specs.Closed.{point_count}
-use Rattle.topo_certificate.specs.Kept.{corner_size, is_alone}
-use Rattle.topo_certificate.specs.Tallied.{HoldsAll, AreCountsOf, AreStarts, ArePoints}
-
--- how many of a list have this number
-abbrev pub times : {A : Type 0} → (A → ℕ) → ℕ → List A → ℕ
-times f v xs = total (λ x. one_if (f x == v)) xs
-
-times_few : {A : Type 0} (f : A → ℕ) (v : ℕ) (xs : List A) → times f v xs ≤ length xs
-times_few f v [] = omega arith
-times_few f v (x ∷ xs) = by_test (f x == v) (times_few f v xs)
-  where
-    by_test : (b : Bool) → times f v xs ≤ length xs → one_if b + times f v xs ≤ suc (length xs)
-    by_test true h = omega (arith, h)
-    by_test false h = omega (arith, h)
-
-pub split_at : {A : Type 0} (xs : List A) (i : ℕ) (x : A) → slice_get xs i ≡ Some x → drop i xs ≡ x ∷ drop (i + 1) xs
-split_at xs i x h = split_drop xs x i (get_below xs i x h) (get_or_from_slice_get xs i x x h)
+use Rattle.edge_uses.proofs.Counting.{times, times_few}
+use Rattle.topo_certificate.specs.Tallied.{HoldsAll, AreStarts, ArePoints}
 
 -- the counts of the items before the i-th
 pub record CountsBefore (A : Type 0) (f : A → ℕ) (xs : List A) (i : ℕ) (span : Span) (tally : List ℕ) : Type 0 where
@@ -54,12 +33,7 @@ pub counts_step : (A : Type 0) (f : A → ℕ) (xs : List A) (i : ℕ) (x : A) (
 counts_step A f xs i x span tally seen k at within is_k is_seen h = record { long = long; each = λ v w. by_vertex v w (eqb_tells (f x) v) }
   where
     long : length (slice_set tally k (seen + 1)) ≡ span.count
-    long = length_set tally k (seen + 1) ∙ h.long
-      where
-        length_set : (xs : List ℕ) (k v : ℕ) → length (slice_set xs k v) ≡ length xs
-        length_set [] k v = refl
-        length_set (x ∷ xs) zero v = refl
-        length_set (x ∷ xs) (suc k) v = ap suc (length_set xs k v)
+    long = length-set tally k (seen + 1) ∙ h.long
 
     in_tally : k < length tally
     in_tally = omega (arith, h.long, is_k, within.0, within.1)
@@ -92,7 +66,7 @@ counts_few A f xs i x span tally seen k n within is_k is_seen h few =
 
 counts_done : (A : Type 0) (f : A → ℕ) (xs : List A) (i : ℕ) (span : Span) (tally : List ℕ) (v : ℕ) → length xs ≤ i → CountsBefore A f xs i span tally → IsWithin span v → get_or tally (v - span.least) 0 ≡ times f v xs
 counts_done A f xs i span tally v past h within =
-    let none : times f v (drop i xs) ≡ 0 = ap (times f v) (drop_past i xs past) in
+    let none : times f v (drop i xs) ≡ 0 = ap (times f v) (drop_all i xs past) in
     omega (arith, none, h.each v within)
 
 abbrev pub from_of : Row → ℕ
@@ -132,9 +106,5 @@ mapped_more g xs i x out new all at h e =
     ap (λ ys. ys ++ map g (drop (i + 1) xs)) e
     ∙ (append_assoc out (g x ∷ []) (map g (drop (i + 1) xs)) ∙ (ap (λ ys. out ++ map g ys) (sym (split_at xs i x at)) ∙ h))
 
-append_nil : {B : Type 0} (xs : List B) → xs ++ [] ≡ xs
-append_nil [] = refl
-append_nil (x ∷ xs) = ap (λ ys. x ∷ ys) (append_nil xs)
-
 pub mapped_done : {A B : Type 0} (g : A → B) (xs : List A) (i : ℕ) (out all : List B) → length xs ≤ i → out ++ map g (drop i xs) ≡ all → out ≡ all
-mapped_done g xs i out all past h = sym (append_nil out) ∙ (ap (λ ys. out ++ map g ys) (sym (drop_past i xs past)) ∙ h)
+mapped_done g xs i out all past h = sym (append-nil out) ∙ (ap (λ ys. out ++ map g ys) (sym (drop_all i xs past)) ∙ h)

@@ -1,6 +1,5 @@
-use Rattle.std.proofs.Common.{rules, arith, sym, ◌∙◌, ◌≡◌, ℕ, ◌≤◌, ◌<◌, ⊎_elim, true, false}
-use Rattle.std.specs.Prelude.{Some, slice_get}
-use Rattle.edge_uses.proofs.Joins.{below_or}
+use Rattle.std.proofs.Common.{rules, arith, sym, ◌∙◌, ◌≡◌, ⊎_elim, true, false}
+use Rattle.std.proofs.lemmas.Bool.{cases_lt}
 use Rattle.topo_certificate.proofs.PointOrder.{not_low, not_high, none_named, one_named}
 use Rattle.topo_certificate.proofs.points.point_place.Goals as goal
 
@@ -10,7 +9,7 @@ returns-then-is_named c = one_named c.args.rows.now c.args.face c.args.place _ (
 pub returns : goal.returns
 returns c =
     none_named c.args.rows.now c.args.face c.args.place
-    (λ i p at named. ⊎_elim (λ low. c.halves.invariant.below i p low at named) (λ high. c.halves.invariant.above i p (omega (arith, high, c.halves-test.false)) at named) (below_or i c.halves.low))
+    (λ i p at named. ⊎_elim (λ low. c.halves.invariant.below i p low at named) (λ high. c.halves.invariant.above i p (omega (arith, high, c.halves-test.false)) at named) (cases_lt i c.halves.low))
 
 pub halves-preserved : goal.halves-preserved
 halves-preserved c = record {
