@@ -6,6 +6,7 @@ use Rattle.std.proofs.Common.{refl, sym, ◌∙◌, ap, subst, arith, inl, inr, 
 use Rattle.std.proofs.lemmas.List.{length-map}
 use Rattle.std.proofs.lemmas.Bool.{eqb-true}
 use Rattle.std.proofs.Math.Nat.{div-add-mod}
+use Rattle.std.proofs.lemmas.List.FromFn.{length-enumerate_from}
 use Rattle.iges_fields.specs.declared.value.Value.{Value}
 use Rattle.iges_directory.specs.declared.entry.Entry.{Entry}
 use Rattle.iges_params.specs.Contents.{Contents}
@@ -208,12 +209,8 @@ each_some g (x ∷ xs) h = omega (arith, length-append (g x) (flat_map g xs), h 
 placed_some : (flag : Bool) (base : ℕ) (fs : List FaceUse) → ((c : FaceUse) → Has fs c → 0 < length c.loops) → length fs ≤ length (flat_map (placed_in_face flag) (enumerate_from base fs))
 placed_some flag base [] h = omega arith
 placed_some flag base (c ∷ fs) h =
-    let mine : length (placed_in_face flag (base, c)) ≡ length c.loops = length-map (enumerate_from 0 c.loops) _ ∙ length-enumerate 0 c.loops in
+    let mine : length (placed_in_face flag (base, c)) ≡ length c.loops = length-map (enumerate_from 0 c.loops) _ ∙ length-enumerate_from 0 c.loops in
     omega (arith, length-append (placed_in_face flag (base, c)) (flat_map (placed_in_face flag) (enumerate_from (base + 1) fs)), mine, h c (inl refl), placed_some flag (base + 1) fs (λ d m. h d (inr m)))
-  where
-    length-enumerate : {A : Type 0} (b : ℕ) (xs : List A) → length (enumerate_from b xs) ≡ length xs
-    length-enumerate b [] = refl
-    length-enumerate b (y ∷ xs) = ap suc (length-enumerate (b + 1) xs)
 
 more_each : {A B C : Type 0} (g : A → List B) (h : A → List C) (xs : List A) → ((x : A) → Has xs x → length (g x) ≤ length (h x)) → length (flat_map g xs) ≤ length (flat_map h xs)
 more_each g h [] e = omega arith

@@ -1,5 +1,5 @@
 -- Where the places hold, each edge that is used is there.
-use Rattle.std.specs.Prelude.{◌≡◌, ℕ, zero, suc, ◌+◌, ◌-◌, ◌<◌, ◌^◌, IsSomeAnd, Bool, false, ℤ, pos, List, [], ◌∷◌, ◌++◌, length, map, flat_map, Option, Some, None, slice_get, Contains}
+use Rattle.std.specs.Prelude.{◌≡◌, ℕ, ◌+◌, ◌-◌, ◌<◌, ◌^◌, IsSomeAnd, Bool, false, ℤ, pos, List, [], ◌∷◌, ◌++◌, length, map, flat_map, Option, Some, None, slice_get, Contains}
 use Rattle.std.specs.List.{enumerate_from}
 use Rattle.std.proofs.Common.{refl, sym, ◌∙◌, ap, subst, arith, inl, inr}
 use Rattle.std.proofs.lemmas.List.{length-map}
@@ -20,7 +20,7 @@ use Rattle.solid_data.specs.Numbering.{IsNumberedSolid, HasFewParts}
 use Rattle.solid_data.specs.declared.solid.FaceUse.{FaceUse}
 use Rattle.solid_data.specs.declared.solid.Loop.{Loop}
 use Rattle.solid_data.specs.declared.solid.Shell.{Shell}
-use Rattle.solid_data.proofs.Members.{from_enumerated, from_flat_map, has_map, Has, All-from}
+use Rattle.solid_data.proofs.Members.{from_enumerated, from_flat_map, has_map, Has, All-from, get_some}
 use Rattle.brep_walk.proofs.Numbered.{EdgesFound, edges_in_order, vertices_in_order, edge_keys_differ, vertex_keys_differ}
 
 -- the obligations of one item
@@ -48,11 +48,6 @@ loops_hold f s u b c all l h =
 tuples_hold : (f : Contents) (c : ℤ) (v d : List ℤ) (l : ℤ) → AllHold (loop_places f c v d l) → (t : LoopTuple) → Has (tuples f l) t → (b : List LoopTuple) × AllHold (tuple_places f l b t)
 unfolding loop_places
 tuples_hold f c v d l all t h = of_item (tuple_places f l) [] (tuples f l) t (AllHold-append_right (record_places f c (length d + 1) «loop» l ++ (obligation Twice (entry_number c) (length d + 1) (¬ Contains (v ++ d) l) ∷ [])) (after_each (tuple_places f l) [] (tuples f l)) all) h
-
-get_some : {A : Type 0} (xs : List A) (k : ℕ) → k < length xs → (x : A) × (slice_get xs k ≡ Some x)
-get_some [] k lt = absurd (omega (arith, lt))
-get_some (y ∷ xs) zero lt = (y, refl)
-get_some (y ∷ xs) (suc k) lt = get_some xs k (omega (arith, lt))
 
 -- an index that holds finds its item
 index_found : (f : Contents) (e j : ℤ) → IsIndex j (length (told edges f e)) → (t : EdgeTuple) × (edge_at f e (entry_number j) ≡ Some t)

@@ -1,14 +1,14 @@
 -- The vertices that the shells of a file's solid use are vertices of that solid.
-use Rattle.std.specs.Prelude.{◌≡◌, ℕ, zero, suc, ◌<◌, ◌==◌, ◌&&◌, Bool, true, false, not, cond, ℤ, pos, negsuc, List, [], ◌∷◌, length, map, flat_map, filter, Option, Some, None, slice_get, if◌then◌else◌}
+use Rattle.std.specs.Prelude.{◌≡◌, ℕ, ◌<◌, ◌==◌, ◌&&◌, Bool, true, false, ℤ, pos, negsuc, [], ◌∷◌, length, map, flat_map, Option, Some, None, slice_get, if◌then◌else◌}
 use Rattle.std.specs.List.{enumerate_from}
-use Rattle.std.proofs.Common.{refl, sym, ◌∙◌, ap, subst, arith, inl, inr}
-use Rattle.std.proofs.lemmas.Bool.{eq-eqb, eqb-true}
+use Rattle.std.proofs.Common.{refl, sym, ◌∙◌, ap, subst, inl, inr}
+use Rattle.std.proofs.lemmas.Bool.{eq-eqb, eqb-true, and_parts}
 use Rattle.iges_params.specs.Contents.{Contents}
 use Rattle.brep_lists.specs.Record.{LoopTuple}
 use Rattle.brep_lists.specs.declared.edge_list.EdgeTuple.{EdgeTuple}
 use Rattle.brep_walk.specs.Places.{shells, faces, loops, tuples, edge_at, numbers}
 use Rattle.brep_walk.specs.SolidOf.{edge_key, vertex_key, all_tuples, edge_named, ends_named, vertices_named, edge_keys, vertex_keys, use_of, loop_of, face_of, shell_of, numbered_edge, edge_of, solid_of}
-use Rattle.solid_data.specs.Ring.{distinct, place_of}
+use Rattle.solid_data.specs.Ring.{place_of}
 use Rattle.solid_data.specs.Obligations.{entry_number}
 use Rattle.solid_data.specs.SolidData.{PlacedLoop, placed_in_face, placed_loops, shell_uses, ends_of, vertices_used, same_edge, same_vertex}
 use Rattle.solid_data.specs.declared.solid.Edge.{Edge}
@@ -19,62 +19,14 @@ use Rattle.solid_data.specs.declared.solid.Loop.{Loop}
 use Rattle.solid_data.specs.declared.solid.LoopUse.{LoopUse}
 use Rattle.solid_data.specs.declared.solid.LoopUse.TheVariants.{EdgeUse, VertexUse}
 use Rattle.solid_data.specs.declared.solid.Shell.{Shell}
-use Rattle.solid_data.proofs.Members.{from_enumerated, map_has, from_flat_map, has_map, Has, some_inj, has_flat_map}
+use Rattle.solid_data.proofs.Members.{from_enumerated, map_has, from_flat_map, has_map, Has, has_flat_map, has_get}
 use Rattle.solid_data.proofs.Occurring.{VerticesKnown}
-
-has_get : {A : Type 0} (xs : List A) (k : ℕ) (x : A) → slice_get xs k ≡ Some x → Has xs x
-has_get [] k x h = absurd cc
-has_get (y ∷ xs) zero x h = inl (some_inj y x h)
-has_get (y ∷ xs) (suc k) x h = inr (has_get xs k x h)
-
-pub to_filter : {A : Type 0} (p : A → Bool) (xs : List A) (k : A) → Has xs k → p k ≡ true → Has (filter p xs) k
-to_filter p [] k h e = absurd h
-to_filter p (x ∷ xs) k (inl same) e = subst (λ b. Has (cond b (x ∷ filter p xs) (filter p xs)) k) (sym (ap p same ∙ e)) (inl same)
-to_filter p (x ∷ xs) k (inr h) e = by_test (p x) (to_filter p xs k h e)
-  where
-    by_test : (b : Bool) → Has (filter p xs) k → Has (cond b (x ∷ filter p xs) (filter p xs)) k
-    by_test true m = inr m
-    by_test false m = m
-
-pub from_filter : {A : Type 0} (p : A → Bool) (xs : List A) (k : A) → Has (filter p xs) k → Has xs k
-from_filter p [] k h = h
-from_filter p (x ∷ xs) k h = by_test (p x) h (λ m. from_filter p xs k m)
-  where
-    by_test : (b : Bool) → Has (cond b (x ∷ filter p xs) (filter p xs)) k → (Has (filter p xs) k → Has xs k) → Has (x ∷ xs) k
-    by_test true (inl e) m = inl e
-    by_test true (inr g) m = inr (m g)
-    by_test false g m = inr (m g)
-
-pub to_distinct : {A : Type 0} (same : A → A → Bool) → ((a b : A) → same a b ≡ true → a ≡ b) → (xs : List A) (k : A) → Has xs k → Has (distinct same xs) k
-to_distinct same sound [] k h = h
-to_distinct same sound (x ∷ xs) k (inl e) = inl e
-to_distinct same sound (x ∷ xs) k (inr h) = by_test (same x k) refl (to_distinct same sound xs k h)
-  where
-    by_test : (b : Bool) → same x k ≡ b → Has (distinct same xs) k → Has (x ∷ filter (λ y. not (same x y)) (distinct same xs)) k
-    by_test true e m = inl (sound x k e)
-    by_test false e m = inr (to_filter (λ y. not (same x y)) (distinct same xs) k m (ap not e))
-
-pub from_distinct : {A : Type 0} (same : A → A → Bool) (xs : List A) (k : A) → Has (distinct same xs) k → Has xs k
-from_distinct same [] k h = h
-from_distinct same (x ∷ xs) k (inl e) = inl e
-from_distinct same (x ∷ xs) k (inr h) = inr (from_distinct same xs k (from_filter (λ y. not (same x y)) (distinct same xs) k h))
-
-pub place_below : {A : Type 0} (same : A → A → Bool) → ((a : A) → same a a ≡ true) → (xs : List A) (k : A) → Has xs k → place_of same xs k < length xs
-place_below same reflexive [] k h = absurd h
-place_below same reflexive (y ∷ xs) k (inl e) = subst (λ b. (if b then 0 else suc (place_of same xs k)) < length (y ∷ xs)) (sym (ap (same k) e ∙ reflexive k)) (omega arith)
-place_below same reflexive (y ∷ xs) k (inr h) = by_test (same k y) (place_below same reflexive xs k h)
-  where
-    by_test : (b : Bool) → place_of same xs k < length xs → (if b then 0 else suc (place_of same xs k)) < length (y ∷ xs)
-    by_test true lt = omega arith
-    by_test false lt = omega (arith, lt)
-
-pub both_true : (s t : Bool) → (s && t) ≡ true → (s ≡ true) × (t ≡ true)
-both_true true t h = (refl, h)
-both_true false t h = absurd cc
+pub use Rattle.solid_data.proofs.Keys.{to_distinct, from_distinct, from_filter}
+use Rattle.solid_data.proofs.Keys.{place_below}
 
 pub vertex_sound : (a b : VertexKey) → same_vertex a b ≡ true → a ≡ b
 vertex_sound a b h =
-    let parts = both_true (a.«list».0 == b.«list».0) (a.index == b.index) h in
+    let parts = and_parts (a.«list».0 == b.«list».0) (a.index == b.index) h in
     ap (λ n. record a { «list» = record { 0 = n } }) (eqb-true a.«list».0 b.«list».0 parts.0)
     ∙ ap (λ n. record b { index = n }) (eqb-true a.index b.index parts.1)
 

@@ -1,8 +1,8 @@
 -- The ids of a file's solid are numbered by first appearance.
 use Rattle.std.specs.Prelude.{◌≡◌, ◌≢◌, ℕ, zero, suc, ◌+◌, ◌==◌, ◌&&◌, ◌⊎◌, Bool, true, false, not, cond, ℤ, pos, negsuc, List, [], ◌∷◌, ◌++◌, length, map, flat_map, filter, Some, None, slice_get, if◌then◌else◌}
 use Rattle.std.specs.List.{enumerate_from}
-use Rattle.std.proofs.Common.{refl, sym, ◌∙◌, ap, subst, arith, inl, inr, length-append}
-use Rattle.std.proofs.lemmas.Bool.{eq-eqb, eqb-true}
+use Rattle.std.proofs.Common.{refl, sym, ◌∙◌, ap, subst, arith, inl, inr}
+use Rattle.std.proofs.lemmas.Bool.{eq-eqb, eqb-true, and_parts}
 use Rattle.std.proofs.lemmas.Bool.Decides.{eqb_tells}
 use Rattle.std.proofs.lemmas.List.{map-append}
 use Rattle.std.proofs.lemmas.Grind.{flat_map-append}
@@ -21,25 +21,13 @@ use Rattle.solid_data.specs.declared.solid.VertexKey.{VertexKey}
 use Rattle.solid_data.specs.declared.solid.Loop.{Loop}
 use Rattle.solid_data.specs.declared.solid.LoopUse.{LoopUse}
 use Rattle.solid_data.specs.declared.solid.LoopUse.TheVariants.{EdgeUse, VertexUse}
-use Rattle.solid_data.proofs.Members.{from_flat_map, Has, some_inj, has_flat_map}
-use Rattle.brep_walk.proofs.KnownVertices.{vertex_sound, vertex_itself, both_true, from_distinct, to_distinct, from_filter}
+use Rattle.solid_data.proofs.Members.{from_flat_map, Has, some_inj, has_flat_map, length-singles, get_single}
+use Rattle.solid_data.proofs.Keys.{from_filter, to_distinct, from_distinct, at_place}
+use Rattle.brep_walk.proofs.KnownVertices.{vertex_sound, vertex_itself}
 
 -- Places in the list of keys, without repeats, are 0, 1, 2 and so on.
 
 module _ {A : Type 0} (same : A → A → Bool) (sound : (a b : A) → same a b ≡ true → a ≡ b) (itself : (a : A) → same a a ≡ true) where
-  -- the key stands at its place
-  at_place : (keys : List A) (k : A) → Has keys k → slice_get keys (place_of same keys k) ≡ Some k
-  at_place [] k h = absurd h
-  at_place (y ∷ keys) k h = by_test (same k y) refl h (λ m. at_place keys k m)
-    where
-      by_test : (b : Bool) → same k y ≡ b → Has (y ∷ keys) k → (Has keys k → slice_get keys (place_of same keys k) ≡ Some k) → slice_get (y ∷ keys) (if b then 0 else suc (place_of same keys k)) ≡ Some k
-      by_test true e m on = ap Some (sym (sound k y e))
-      by_test false e (inl is) on = absurd (true_is_false (sym (ap (same k) is ∙ itself k) ∙ e))
-        where
-          true_is_false : true ≡ false → ⊥
-          true_is_false w = cc
-      by_test false e (inr m) on = on m
-
   place_tells : (keys : List A) (a b : A) → Has keys a → Has keys b → (place_of same keys a == place_of same keys b) ≡ same a b
   place_tells keys a b h k = by_test (same a b) refl (eqb_tells (place_of same keys a) (place_of same keys b))
     where
@@ -48,7 +36,7 @@ module _ {A : Type 0} (same : A → A → Bool) (sound : (a b : A) → same a b 
           → (place_of same keys a == place_of same keys b) ≡ t
       by_test true e tells = eq-eqb (place_of same keys a) (place_of same keys b) (ap (place_of same keys) (sound a b e))
       by_test false e (inl p) =
-          let one : a ≡ b = some_inj a b (sym (at_place keys a h) ∙ (ap (slice_get keys) p.1 ∙ at_place keys b k)) in
+          let one : a ≡ b = some_inj a b (sym (at_place same sound itself keys a h) ∙ (ap (slice_get keys) p.1 ∙ at_place same sound itself keys b k)) in
           absurd (true_is_false (sym (ap (same a) (sym one) ∙ itself a) ∙ e))
         where
           true_is_false : true ≡ false → ⊥
@@ -139,7 +127,7 @@ module _ {A : Type 0} (same : A → A → Bool) (sound : (a b : A) → same a b 
 
 pub edge_sound : (a b : EdgeKey) → same_edge a b ≡ true → a ≡ b
 edge_sound a b h =
-    let parts = both_true (a.«list».0 == b.«list».0) (a.index == b.index) h in
+    let parts = and_parts (a.«list».0 == b.«list».0) (a.index == b.index) h in
     ap (λ n. record a { «list» = record { 0 = n } }) (eqb-true a.«list».0 b.«list».0 parts.0)
     ∙ ap (λ n. record b { index = n }) (eqb-true a.index b.index parts.1)
 
@@ -225,10 +213,6 @@ key_found f n found key h =
         let e = found t here v in
         (e.0, ap (λ (q : EdgeKey). edge_at f (pos q.«list».0) q.index) (sym same) ∙ by_key f t.«list» (entry_number t.index) e.0 e.1)
 
-length-singles : {A B : Type 0} (g : A → List B) (xs : List A) → ((x : A) → Has xs x → length (g x) ≡ 1) → length (flat_map g xs) ≡ length xs
-length-singles g [] h = refl
-length-singles g (x ∷ xs) h = omega (arith, length-append (g x) (flat_map g xs), h x (inl refl), length-singles g xs (λ y m. h y (inr m)))
-
 edges_counted : (f : Contents) (n : ℤ) → EdgesFound f n → length (flat_map (edge_of f n) (edge_keys f n)) ≡ length (edge_keys f n)
 edges_counted f n found = length-singles (edge_of f n) (edge_keys f n) (λ key m. let e = key_found f n found key m in ap (λ o. length (numbered_edge f n key o)) e.1)
 
@@ -254,21 +238,6 @@ numbered f n key e = record {
   from = record { 0 = place_of same_vertex (vertex_keys f n) (vertex_key e.start_list e.start_index) };
   to = record { 0 = place_of same_vertex (vertex_keys f n) (vertex_key e.end_list e.end_index) };
 }
-
-get_single : {A B : Type 0} (g : A → List B) (xs : List A) → ((x : A) → Has xs x → length (g x) ≡ 1) → (k : ℕ) (x : A) (y : B) → slice_get xs k ≡ Some x → g x ≡ y ∷ [] → slice_get (flat_map g xs) k ≡ Some y
-get_single g [] one k x y at is = absurd (none_there at)
-  where
-    none_there : None ≡ Some x → ⊥
-    none_there w = cc
-get_single g (z ∷ xs) one zero x y at is =
-    let here : g z ≡ y ∷ [] = ap g (some_inj z x at) ∙ is in
-    ap (λ ys. slice_get (ys ++ flat_map g xs) 0) here
-get_single {B = B} g (z ∷ xs) one (suc k) x y at is = by_list (g z) (one z (inl refl)) (get_single g xs (λ w m. one w (inr m)) k x y at is)
-  where
-    by_list : (ys : List B) → length ys ≡ 1 → slice_get (flat_map g xs) k ≡ Some y → slice_get (ys ++ flat_map g xs) (suc k) ≡ Some y
-    by_list [] e h = absurd (omega (arith, e))
-    by_list (w ∷ []) e h = h
-    by_list (w ∷ v ∷ ys) e h = absurd (omega (arith, e))
 
 edges_of_solid : (f : Contents) (n : ℕ) → (solid_of f n).edges ≡ flat_map (edge_of f (pos n)) (edge_keys f (pos n))
 unfolding solid_of

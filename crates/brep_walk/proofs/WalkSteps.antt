@@ -1,14 +1,14 @@
 -- One step of a walk over a list.
-use Rattle.std.specs.Prelude.{◌≡◌, ◌+◌, ◌≤◌, ℕ, zero, suc, ℤ, pos, Bool, List, [], ◌∷◌, ◌++◌, map, flat_map, length, take, drop, slice_get, Option, Some, None}
+use Rattle.std.specs.Prelude.{◌≡◌, ◌+◌, ◌≤◌, ℕ, zero, suc, ℤ, List, [], ◌∷◌, ◌++◌, map, flat_map, length, take, drop, slice_get, Some, None}
 use Rattle.std.proofs.Common.{refl, sym, ◌∙◌, ap, subst, arith, append_assoc}
-use Rattle.std.proofs.lemmas.List.{append-nil, map-append}
+use Rattle.std.proofs.lemmas.List.{map-append}
 use Rattle.std.proofs.lemmas.Grind.{flat_map-append}
 use Rattle.iges_params.specs.Contents.{Contents}
 use Rattle.brep_lists.specs.Record.{LoopTuple}
 use Rattle.solid_data.specs.Obligations.{Obligation, AllHold, after_each}
 use Rattle.solid_data.specs.SolidData.{same_edge, same_vertex}
 use Rattle.solid_data.proofs.ObligationLemmas.{Remains, Remains-less}
-use Rattle.solid_data.proofs.Members.{some_inj}
+use Rattle.solid_data.proofs.Members.{some_inj, split_at}
 use Rattle.brep_walk.specs.declared.fault.WalkFault.{WalkFault}
 use Rattle.brep_walk.specs.Numbered.{Extends, IsMadeBy, keys_after}
 use Rattle.brep_walk.specs.Places.{tuple_at, tuple_places}
@@ -90,14 +90,6 @@ made_last F old new grown xs x out b pushed before here is later more = is ∙ m
 
 -- A walk by places: the i-th item comes next.
 
-pub drop_next : {A : Type 0} (xs : List A) (i : ℕ) (x : A) → slice_get xs i ≡ Some x → drop i xs ≡ x ∷ drop (i + 1) xs
-drop_next [] i x h = absurd (none_some h)
-  where
-    none_some : None ≡ Some x → ⊥
-    none_some w = cc
-drop_next (y ∷ xs) zero x h = ap (λ z. z ∷ xs) (some_inj y x h)
-drop_next (y ∷ xs) (suc i) x h = let e : suc i + 1 ≡ suc (i + 1) = omega arith in drop_next xs i x h ∙ ap (λ n. x ∷ drop n (y ∷ xs)) (sym e)
-
 pub take_next : {A : Type 0} (xs : List A) (i : ℕ) (x : A) → slice_get xs i ≡ Some x → take (i + 1) xs ≡ take i xs ++ x ∷ []
 take_next [] i x h = absurd (none_some h)
   where
@@ -120,7 +112,7 @@ pub keys_next : (f g : Contents) → g ≡ f → {A : Type 0} (T : Contents → 
     → keys_after f new (flat_map (T f) (drop (i + 1) all)) ≡ keys_after f start (flat_map (T f) all)
 keys_next f g same T start old new all i x y at is before step =
     keys_step f f refl start old new (T f x) (flat_map (T f) (drop (i + 1) all)) (flat_map (T f) (drop i all)) (flat_map (T f) all)
-    (ap (flat_map (T f)) (drop_next all i x at)) before (step ∙ (ap (λ h. keys_after h old (T h y)) same ∙ ap (λ z. keys_after f old (T f z)) is))
+    (ap (flat_map (T f)) (split_at all i x at)) before (step ∙ (ap (λ h. keys_after h old (T h y)) same ∙ ap (λ z. keys_after f old (T f z)) is))
 
 pub made_next : (f g : Contents) → g ≡ f → {A B : Type 0} (F : Contents → Keys → A → B) (old new : Keys) (ts : List LoopTuple) → new ≡ keys_after g old ts → (all : List A) (i : ℕ) (x y : A) → slice_get all i ≡ Some x → y ≡ x
     → (out : List B) (b : B) (pushed : List B) → IsMadeBy old (λ k. map (F f k) (take i all)) out → IsMadeBy new (λ k. F g k y) b → pushed ≡ out ++ b ∷ [] → IsMadeBy new (λ k. map (F f k) (take (i + 1) all)) pushed
@@ -133,11 +125,11 @@ pub remains_at : {A : Type 0} (g : List A → A → List Obligation) (items : Li
     → AllHold (g (take i items) x) → Remains (after_each g (take (i + 1) items) (drop (i + 1) items)) all
 remains_at g items i x all at r h =
     subst (λ b. Remains (after_each g b (drop (i + 1) items)) all) (sym (take_next items i x at))
-    (remains_next g (take i items) (drop i items) (drop (i + 1) items) x all (drop_next items i x at) r h)
+    (remains_next g (take i items) (drop i items) (drop (i + 1) items) x all (split_at items i x at) r h)
 
 pub fault_at : {A : Type 0} (g : List A → A → List Obligation) (items : List A) (i : ℕ) (x : A) (all : List Obligation) (w : WalkFault) → slice_get items i ≡ Some x → Remains (after_each g (take i items) (drop i items)) all
     → IsFault (g (take i items) x) w → IsFault all w
-fault_at g items i x all w at r h = fault_next g (take i items) (drop i items) (drop (i + 1) items) x all w (drop_next items i x at) r h
+fault_at g items i x all w at r h = fault_next g (take i items) (drop i items) (drop (i + 1) items) x all w (split_at items i x at) r h
 
 -- numbers that were named, and one more
 pub named_next : {A : Type 0} (number : A → ℤ) (used old new : List ℤ) (all : List A) (i : ℕ) (x : A) (y : ℤ) → slice_get all i ≡ Some x → y ≡ number x → old ≡ used ++ map number (take i all) → new ≡ old ++ y ∷ []
