@@ -37,7 +37,8 @@ impl<'a> Model for EdgeList<'a> {
 }
 
 impl<'a> EdgeList<'a> {
-    /// The list that a record tells. The record is borrowed; no memory is taken.
+    /// The list that a record tells; None where the record doesn't fit (IGES 5.3, 4.146). The record is borrowed; no
+    /// memory is taken.
     pub fn of(values: &'a Values) -> Option<EdgeList<'a>>
         ensures some { IfSome result (λ list. Fits edges values.now list) }
         ensures read { IfSome result (λ list. list ≡ items_of edges values.now) }
@@ -56,14 +57,14 @@ impl<'a> EdgeList<'a> {
         Some(EdgeList { values, count })
     }
 
-    /// How many edges there are, which is at least one.
+    /// How many edges there are, which is at least one (IGES 5.3, 4.146).
     pub fn len(&self) -> usize
         ensures { result ≡ length self.now }
     {
         self.count
     }
 
-    /// The i-th edge, from 0; none past the end.
+    /// The i-th edge, i from 0; None past the end (IGES 5.3, 4.146).
     pub fn tuple(&self, i: usize) -> Option<EdgeTuple>
         ensures { result ≡ slice_get self.now i }
     {

@@ -27,7 +27,8 @@ impl<'a> Model for VertexList<'a> {
 }
 
 impl<'a> VertexList<'a> {
-    /// The list that a record tells. The record is borrowed; no memory is taken.
+    /// The list that a record tells; None where the record doesn't fit (IGES 5.3, 4.145). The record is borrowed; no
+    /// memory is taken.
     pub fn of(values: &'a Values) -> Option<VertexList<'a>>
         ensures some { IfSome result (λ list. Fits vertices values.now list) }
         ensures read { IfSome result (λ list. list ≡ items_of vertices values.now) }
@@ -40,7 +41,7 @@ impl<'a> VertexList<'a> {
         Some(VertexList { values, count })
     }
 
-    /// How many vertices there are, which is at least one.
+    /// How many vertices there are, which is at least one (IGES 5.3, 4.145).
     pub fn len(&self) -> usize
         ensures { result ≡ length self.now }
     {
