@@ -52,8 +52,8 @@ fn tuple_count(values: &Values) -> Option<usize>
 }
 
 impl<'a> LoopRecord<'a> {
-    /// The loop that a record tells. The record is borrowed; no memory is taken.
-    /// It goes once over the values, and no further than the record's end, however large the count is.
+    /// The loop that a record tells; None where the record doesn't fit (IGES 5.3, 4.147). The record is borrowed; no
+    /// memory is taken. It goes once over the values, and no further than the record's end, however large the count is.
     pub fn of(values: &'a Values) -> Option<LoopRecord<'a>>
         ensures some { IfSome result (λ tuples. Fits «loop» values.now tuples) }
         ensures read { IfSome result (λ tuples. tuples ≡ items_of «loop» values.now) }
@@ -65,7 +65,7 @@ impl<'a> LoopRecord<'a> {
         Some(LoopRecord { values, count })
     }
 
-    /// The tuples, in order.
+    /// The tuples, in order (IGES 5.3, 4.147).
     pub fn tuples(&self) -> LoopTuples<'a>
         ensures is { result ≡ self.now }
         ensures few { length result < 2 ^ 64 }

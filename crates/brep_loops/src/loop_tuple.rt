@@ -28,28 +28,28 @@ impl<'a> Model for LoopTuple<'a> {
 }
 
 impl<'a> LoopTuple<'a> {
-    /// Whether the tuple is a vertex; otherwise it is an edge.
+    /// Whether the tuple is a vertex; otherwise it is an edge (IGES 5.3, 4.147).
     pub fn is_vertex(&self) -> bool
         ensures { result ≡ self.now.is_vertex }
     {
         flag_at(self.values, self.at)
     }
 
-    /// The entry of the vertex list or of the edge list.
+    /// The entry of the vertex list or of the edge list (IGES 5.3, 4.147).
     pub fn list(&self) -> i64
         ensures { result ≡ self.now.list }
     {
         int_at(self.values, self.at + 1)
     }
 
-    /// The index in the list, from 1.
+    /// The index in the list, from 1 (IGES 5.3, 4.147).
     pub fn index(&self) -> i64
         ensures { result ≡ self.now.index }
     {
         int_at(self.values, self.at + 2)
     }
 
-    /// Whether the loop goes along the edge.
+    /// Whether the loop goes along the edge (IGES 5.3, 4.147).
     pub fn flag(&self) -> bool
         ensures { result ≡ self.now.flag }
     {
@@ -63,7 +63,7 @@ impl<'a> LoopTuple<'a> {
         self.curves
     }
 
-    /// The entry of the i-th parameter curve, from 0; none past the end.
+    /// The entry of the i-th parameter curve, i from 0; None past the end (IGES 5.3, 4.147).
     pub fn curve(&self, i: usize) -> Option<i64>
         ensures { result ≡ option_map (λ (curve : Bool × ℤ). curve.1) (slice_get self.now.curves i) }
     {

@@ -7,7 +7,7 @@ use crate::loop_tuple::LoopTuple;
 use iges_fields::Values;
 use std::marker::Model;
 
-/// The tuples of a loop that are left. A tuple is taken in constant time.
+/// The tuples of a loop that are left (IGES 5.3, 4.147). A tuple is taken in constant time.
 #[derive(Drop)]
 pub struct LoopTuples<'a> {
     pub(crate) values: &'a Values,
