@@ -28,6 +28,7 @@ pub struct FaceWalk<'a> {
 }
 
 impl<'a> FaceWalk<'a> {
+    /// A walk through a file in which no face and no loop was named yet.
     pub fn new(alloc: Global, file: &'a File) -> FaceWalk<'a>
         ensures stands { Stands file.now result.loops.tuples.lists result.loops.tuples.numbering }
         ensures keys { result.loops.tuples.numbering.keys ≡ record { edges = []; vertices = [] } }
@@ -74,7 +75,7 @@ impl<'a> FaceWalk<'a> {
         })
     }
 
-    /// The faces of a shell.
+    /// The faces that a shell's record lists, in its order, where all that they name is there.
     pub fn walk_all(
         &mut self,
         alloc: Global,

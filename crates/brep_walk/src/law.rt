@@ -9,14 +9,14 @@ ghost use Rattle.solid_data.specs.Numbering.{IsNumberedSolid};
 ghost use Rattle.solid_data.specs.Obligations.{AllHold, FirstFalse};
 ghost use Rattle.solid_data.specs.declared.verdict.Failing.{Failing as Named};
 
-/// The places of a solid have at most one first false obligation, and then not all of them hold.
+/// The places of a solid have at most one first false obligation, and then not all of them hold (own).
 pub fn places_are_definite()
     ensures one { (f : Contents) (n : ℕ) (x y : Named) → FirstFalse (places f n) x → FirstFalse (places f n) y → x ≡ y }
     ensures none { (f : Contents) (n : ℕ) (x : Named) → FirstFalse (places f n) x → AllHold (places f n) → ⊥ }
 {}
 
 /// The solid of a file within its limits, whose places hold, is numbered by first appearance, and keeps what every
-/// solid keeps.
+/// solid keeps (own).
 pub fn solid_is_numbered()
     ensures { (f : Contents) (n : ℕ) → FitsLimits f → AllHold (places f n) → IsNumberedSolid (solid_of f n) }
 {}

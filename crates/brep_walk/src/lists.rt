@@ -57,6 +57,7 @@ fn edge_of(
 }
 
 impl<'a> Lists<'a> {
+    /// The lists of a file, none of which was looked at yet.
     pub fn new(alloc: Global, file: &'a File) -> Lists<'a>
         ensures file { result.file ≡ file.now }
         ensures kept { AreKept result }

@@ -27,6 +27,7 @@ pub struct LoopWalk<'a> {
 }
 
 impl<'a> LoopWalk<'a> {
+    /// A walk through a file in which no loop was named yet.
     pub fn new(alloc: Global, file: &'a File) -> LoopWalk<'a>
         ensures stands { Stands file.now result.tuples.lists result.tuples.numbering }
         ensures keys { result.tuples.numbering.keys ≡ record { edges = []; vertices = [] } }
@@ -54,7 +55,7 @@ impl<'a> LoopWalk<'a> {
         Ok(Loop { entity, uses })
     }
 
-    /// The loops of a face.
+    /// The loops that a face's record lists, in its order, where all that they name is there.
     pub fn walk_all(
         &mut self,
         alloc: Global,

@@ -39,6 +39,7 @@ fn id_of(index: usize) -> Result<u32, NoMemory>
 }
 
 impl Numbering {
+    /// The numbers where no edge and no vertex was used yet.
     pub fn new(alloc: Global) -> Numbering
         ensures { result ≡ record { keys = record { edges = []; vertices = [] }; edges = [] } }
     {

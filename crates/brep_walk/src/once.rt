@@ -27,6 +27,7 @@ impl Model for Once {
 }
 
 impl Once {
+    /// The numbers where no place has named one yet.
     pub fn new(alloc: Global) -> Once
         ensures { result ≡ [] }
     {

@@ -27,6 +27,7 @@ pub struct ShellWalk<'a> {
 }
 
 impl<'a> ShellWalk<'a> {
+    /// A walk through a file in which no shell, no face and no loop was named yet.
     pub fn new(alloc: Global, file: &'a File) -> ShellWalk<'a>
         ensures stands { Stands file.now result.faces.loops.tuples.lists result.faces.loops.tuples.numbering }
         ensures keys { result.faces.loops.tuples.numbering.keys ≡ record { edges = []; vertices = [] } }

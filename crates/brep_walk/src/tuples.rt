@@ -50,6 +50,7 @@ fn curves_name_geometry(file: &File, tuple: &LoopTuple<'_>) -> bool
 }
 
 impl<'a> TupleWalk<'a> {
+    /// A walk through a file in which no edge and no vertex was used yet.
     pub fn new(alloc: Global, file: &'a File) -> TupleWalk<'a>
         ensures stands { Stands file.now result.lists result.numbering }
         ensures keys { result.numbering.keys ≡ record { edges = []; vertices = [] } }
