@@ -52,7 +52,8 @@ fn word_number(word: &[u8]) -> Option<u32>
     Some(number)
 }
 
-/// The number at the start of a text, behind a space, and what follows it.
+/// The number at the start of a text, behind a space, and what follows it; None where none of one to nine digits stands
+/// there (own).
 pub fn next_number(text: &[u8]) -> Option<(u32, &[u8])>
     ensures { MatchOption result ((n : ℕ) (ns : List ℕ) → ¬ AreNumbers text.now (n ∷ ns)) (λ p. Begins text.now p.0 p.1.now) }
 {
@@ -69,7 +70,7 @@ pub fn next_number(text: &[u8]) -> Option<(u32, &[u8])>
     Some((number, &after[end..]))
 }
 
-/// Whether the text is numbers.
+/// Whether the text is numbers alone, each behind a space; none at all will do.
 pub(crate) fn are_numbers(text: &[u8]) -> bool
     ensures { IsTrue result ↔ IsSpaced text.now }
 {

@@ -9,7 +9,9 @@ pub type EdgePairs = ItemList<(RowId, RowId)>;
 /// The rows round a vertex, from the least one on by turns, or its one loop without an edge (own).
 #[derive(Drop)]
 pub enum CornerLine {
+    /// The rows that start at the vertex.
     Cycle(RowList),
+    /// The loop without an edge that lies at the vertex.
     Point(LoopAt),
 }
 

@@ -7,20 +7,28 @@ ghost use Rattle.cert_lines.specs.Said.{Means, IsRowLine, IsJudged};
 
 use crate::number::{are_numbers, next_number, one_number, two_numbers};
 
-/// What a line says. The numbers of a corner stand in its text.
+/// What a line says (own). Rows, faces and loops count from 1 here, as in the text.
 #[derive(Clone, Copy)]
 pub enum Words<'a> {
+    /// `IGESCERT 1`.
     Head,
+    /// `SOLID`, and the directory number of the solid.
     Solid(u32),
+    /// `SHELL`, and its numbers.
     Shell(ShellWords),
+    /// `E`, the row along an edge, and the one against it.
     Edge(u32, u32),
+    /// `C`. The rows stand in this text, each behind a space.
     Corner(&'a [u8]),
+    /// `I`, a face of the shell, and a loop of that face.
     Point(u32, u32),
+    /// `R`, and a row.
     Reach(u32),
+    /// `END`.
     End,
 }
 
-/// The numbers of a SHELL line.
+/// The numbers of a SHELL line (own): the shell, from 1, and how many rows, edges, corners and faces it has.
 #[derive(Clone, Copy)]
 pub struct ShellWords {
     pub shell: u32,
@@ -176,15 +184,18 @@ fn read_line(line: &[u8]) -> Option<Words<'_>>
     read_words(text)
 }
 
-/// A line, as far as its bytes and its length tell.
+/// A line, as far as its bytes and its length tell (own).
 #[derive(Clone, Copy)]
 pub enum Judged<'a> {
+    /// The line is one of the eight kinds, and isn't long.
     Spelled(Words<'a>),
+    /// The line is none of the eight kinds and isn't long, or it has no LF.
     Misspelt,
+    /// The line has an LF, and more bytes than it may have.
     Long,
 }
 
-/// Reads a line that may have so many bytes.
+/// Reads a line that may have at most so many bytes, its LF among them (own).
 pub fn judge(line: &[u8], limit: usize) -> Judged<'_>
     ensures { IsJudged limit line.now result }
 {

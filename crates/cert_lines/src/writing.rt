@@ -10,7 +10,7 @@ use iges_fields::{Bytes, NoMemory, Out, write_number};
 use solid_data::RowId;
 use std::alloc::Global;
 
-/// A row, a face or a loop counts from 1 in a line.
+/// The number in a line of a row, a face or a loop: they count from 1 there, and from 0 in the types (own).
 pub fn from_one(number: u32) -> u64
     ensures { result ≡ number + 1 }
 {
