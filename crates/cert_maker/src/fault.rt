@@ -3,7 +3,7 @@
 use iges_fields::NoMemory;
 use solid_data::Failing;
 
-/// Why no certificate of a solid was made.
+/// Why no certificate of a solid was made (own).
 #[derive(Clone, Copy, Debug, PartialEq, Eq)]
 pub enum MakeFault {
     /// The solid isn't closed: the first rule on its shells that fails, and where.

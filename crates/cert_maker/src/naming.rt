@@ -11,7 +11,7 @@ use edge_uses::Unjoined;
 use iges_fields::EntryNo;
 use solid_data::{EdgeId, EdgeKey, FaceAt, Failing, Rule, Shell, Solid, VertexId, VertexKey};
 
-/// The loop, and the tuple whose use doesn't end where the next one starts.
+/// JOIN names the loop, and its first tuple, from 1, whose use doesn't end where the next one starts.
 pub(crate) fn unjoined(shell: &Shell, gap: Unjoined) -> Failing
     requires { (p : PlacedLoop) × Contains (placed_loops shell.now) p × (gap.at ≡ p.at) }
     ensures { (p : PlacedLoop) → Contains (placed_loops shell.now) p → gap.at ≡ p.at → result ≡ failing Rule.Unjoined p.loop.entity.0 gap.place }
@@ -25,7 +25,7 @@ pub(crate) fn unjoined(shell: &Shell, gap: Unjoined) -> Failing
     }
 }
 
-/// The edge in its list.
+/// PAIR names the edge list, and the index of the edge in it, from 1.
 pub(crate) fn unpaired(solid: &Solid, edge: EdgeId) -> Failing
     ensures { let key = edge_name (slice_get solid.now.edges edge.0) in result ≡ failing Rule.Unpaired key.list.0 key.index }
 {
@@ -43,7 +43,7 @@ pub(crate) fn unpaired(solid: &Solid, edge: EdgeId) -> Failing
     }
 }
 
-/// The face.
+/// REACH names the face itself.
 pub(crate) fn unreached(shell: &Shell, at: FaceAt) -> Failing
     requires { (f : AnyFace) × (slice_get shell.now.faces at.0 ≡ Some f) }
     ensures { (f : AnyFace) → slice_get shell.now.faces at.0 ≡ Some f → result ≡ failing Rule.Unreached f.entity.0 0 }
@@ -56,7 +56,7 @@ pub(crate) fn unreached(shell: &Shell, at: FaceAt) -> Failing
     }
 }
 
-/// The vertex in its list.
+/// LINK and APART name the vertex list, and the index of the vertex in it, from 1.
 pub(crate) fn at_vertex(solid: &Solid, rule: Rule, vertex: VertexId) -> Failing
     ensures { let key = vertex_name (slice_get solid.now.vertices vertex.0) in result ≡ failing rule key.list.0 key.index }
 {
