@@ -78,7 +78,8 @@ fn above_shells(solid: &Solid, shell: ShellAt) -> usize
     above
 }
 
-/// The vertices of the shells before a shell.
+/// The vertices of the shells before a shell (own). It takes no memory, and goes over all uses
+/// before the shell.
 pub fn vertices_before(solid: &Solid, shell: ShellAt) -> VerticesBefore
     requires { shell.0 ≤ length solid.now.shells }
     ensures { AreBelow solid.now shell.0 result }

@@ -15,7 +15,8 @@ use iges_fields::NoMemory;
 use solid_data::{Edge, EdgeId, FaceAt, FaceUse, Loop, LoopAt, LoopUse, Shell, Solid};
 use std::alloc::Global;
 
-/// What has been read so far.
+/// What has been read of a shell, column by column as in `Rows`, but that each edge and each vertex
+/// stands there once for each use.
 #[derive(Drop)]
 pub struct Built {
     pub rows: Vec<Row>,
@@ -238,6 +239,7 @@ impl Built {
         Ok(())
     }
 
+    /// Reads the uses of a shell. Where memory runs out, a part of them may have been read.
     pub fn add_shell(&mut self, solid: &Solid, shell: &Shell) -> Result<(), NoMemory>
         requires few { IsFewShell shell.now }
         requires room { HasRoom self.old (placed_loops shell.now) }

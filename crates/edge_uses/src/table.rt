@@ -45,7 +45,7 @@ impl Rows {
     ghost use Rattle.edge_uses.specs.ShellRows.{AreRows, shell_rows, rows_of};
     ghost use Rattle.edge_uses.specs.Building.{uses_of, HasKnownParts};
 
-    /// How many rows there are.
+    /// How many rows there are (own).
     pub fn len(&self) -> usize
         ensures count { result ≡ length self.now.rows }
         ensures kept { AreRows self.now }
@@ -53,15 +53,15 @@ impl Rows {
         self.rows.len()
     }
 
-    /// A row, from 0 in file order; none past the end.
+    /// A row, from 0 in file order; none past the end (own).
     pub fn row(&self, r: RowId) -> Option<Row>
         ensures { result ≡ slice_get self.now.rows r.0 }
     {
         self.rows.get(r.0 as usize).copied()
     }
 
-    /// The row that follows a row: the next of its loop, cyclically, vertex uses passed over, or the
-    /// one before in a loop that is walked backwards. None past the end.
+    /// The row that follows a row: the next of its loop, cyclically, vertex uses passed over, or
+    /// the one before in a loop that is walked backwards (own). None past the end.
     pub fn follows(&self, r: RowId) -> Option<RowId>
         ensures { option_map (λ (t : AnyRowId). t.0) result ≡ slice_get self.now.follows r.0 }
     {
@@ -71,28 +71,29 @@ impl Rows {
         }
     }
 
-    /// How many edges occur in the shell.
+    /// How many edges occur in the shell (own).
     pub fn edge_count(&self) -> usize
         ensures { result ≡ length self.now.edges }
     {
         self.edges.len()
     }
 
-    /// How many vertices occur in the shell, those of vertex uses among them.
+    /// How many vertices occur in the shell, those of vertex uses among them (own).
     pub fn vertex_count(&self) -> usize
         ensures { result ≡ length self.now.vertices }
     {
         self.vertices.len()
     }
 
-    /// How many faces the shell has.
+    /// How many faces the shell has (own).
     pub fn face_count(&self) -> usize
         ensures { result ≡ self.now.face_count }
     {
         self.faces as usize
     }
 
-    /// The i-th vertex that occurs in the shell, by rising number, from 0; none past the end.
+    /// The i-th vertex that occurs in the shell, by rising number, i from 0; None past the end
+    /// (own).
     pub fn vertex_at(&self, i: usize) -> Option<VertexId>
         ensures { option_map (λ (v : AnyVertexId). v.0) result ≡ slice_get self.now.vertices i }
     {
@@ -102,7 +103,7 @@ impl Rows {
         }
     }
 
-    /// The i-th edge that occurs in the shell, by rising number, from 0; none past the end.
+    /// The i-th edge that occurs in the shell, by rising number, i from 0; None past the end (own).
     pub fn edge_at(&self, i: usize) -> Option<EdgeId>
         ensures { option_map (λ (e : AnyEdgeId). e.0) result ≡ slice_get self.now.edges i }
     {
@@ -112,7 +113,7 @@ impl Rows {
         }
     }
 
-    /// The shortest range that holds the edges that occur in the shell.
+    /// The shortest range that holds the edges that occur in the shell (own).
     pub fn edge_span(&self) -> Span
         ensures span { IsSpanOf result self.now.edges }
         ensures kept { AreRows self.now }
@@ -120,22 +121,22 @@ impl Rows {
         span_of(self.edge_slice())
     }
 
-    /// The shortest range that holds the vertices that occur in the shell.
+    /// The shortest range that holds the vertices that occur in the shell (own).
     pub fn vertex_span(&self) -> Span
         ensures { IsSpanOf result self.now.vertices }
     {
         span_of(self.vertex_slice())
     }
 
-    /// How many loops have no edge, but vertex uses alone.
+    /// How many loops have no edge, but vertex uses alone (own).
     pub fn isolated_count(&self) -> usize
         ensures { result ≡ length self.now.points }
     {
         self.points.len()
     }
 
-    /// The i-th loop without an edge, in file order, from 0, and the vertex of its first use; none past
-    /// the end.
+    /// The i-th loop without an edge, in file order, i from 0, and the vertex of its first use;
+    /// None past the end (own).
     pub fn isolated(&self, i: usize) -> Option<(LoopAt, VertexId)>
         ensures { option_map (λ (p : LoopPlace × AnyVertexId). (p.0, p.1.0)) result ≡ slice_get self.now.points i }
     {

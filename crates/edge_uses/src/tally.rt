@@ -12,7 +12,8 @@ use crate::table::Rows;
 use iges_fields::NoMemory;
 use std::alloc::Global;
 
-/// How often an edge was run along and against, and by which row last.
+/// How often an edge was run along and against, and by which row last, from 0; where none did, that
+/// row is 0 too.
 #[derive(Clone, Copy)]
 pub struct Seen {
     pub along: u32,
@@ -74,6 +75,7 @@ pub fn tally_of(alloc: Global, rows: &Rows, span: Span) -> Result<Tally, NoMemor
 }
 
 impl Tally {
+    /// What was seen of an edge of the range.
     pub fn of(&self, e: u32) -> Seen
         requires { IsWithin self.now.span e }
         ensures { result ≡ get_or self.now.seen.items (e - self.now.span.least) unseen }
