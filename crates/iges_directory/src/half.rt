@@ -1,4 +1,4 @@
-/// What the first line of an entry holds: fields 1 to 9 (IGES 5.3, 2.2.4.4).
+/// What the first line of an entry holds: fields 1 to 9, in this order (IGES 5.3, 2.2.4.4).
 #[derive(Clone, Copy)]
 pub struct FirstHalf {
     pub kind: i64,
@@ -12,7 +12,7 @@ pub struct FirstHalf {
     pub status: [u8; 8],
 }
 
-/// What the second line of an entry holds: fields 11 to 15, 18 and 19 (IGES 5.3, 2.2.4.4).
+/// What the second line of an entry holds: fields 11 to 15, 18 and 19, in this order (IGES 5.3, 2.2.4.4).
 #[derive(Clone, Copy)]
 pub struct SecondHalf {
     pub kind: i64,
