@@ -7,14 +7,14 @@ ghost use Rattle.std.specs.Str.Parse.{digits_value, without_leading_sign};
 use crate::digits::{is_digits, unsigned};
 use crate::mantissa::{Mantissa, mantissa_of};
 
-/// What a word is.
+/// What a word of free text is (IGES 5.3, 2.2.2.1 and 2.2.2.2).
 #[derive(Clone, Copy, Debug)]
 pub enum WordKind {
     /// An integer of 64 signed bits.
     Whole(i64),
     /// An integer that 64 signed bits don't hold.
     TooLarge,
-    /// A real.
+    /// A real, which is kept as it is spelled.
     Real,
     /// Neither an integer nor a real.
     Neither,
@@ -73,7 +73,7 @@ fn is_exponent(letter: u8, power: &[u8]) -> bool
     matches!(letter, b'E' | b'D' | b'e' | b'd') && is_digits(unsigned(power))
 }
 
-/// The kind of a word.
+/// Whether a word is an integer within 64 signed bits, one outside them, a real, or neither.
 pub fn kind_of(word: &[u8]) -> WordKind
     ensures { IsKindOf word.now result }
 {

@@ -4,7 +4,7 @@ use crate::no_memory::NoMemory;
 use std::alloc::Global;
 use std::marker::Model;
 
-/// A list that grows at its end, seen as the list of its items.
+/// A list that grows at its end, seen as the list of its items (own).
 #[derive(Debug, Drop)]
 pub struct ItemList<T> {
     items: Vec<T>,
@@ -19,7 +19,7 @@ impl<T> Model for ItemList<T> {
 }
 
 impl<T: Drop> ItemList<T> {
-    /// No items.
+    /// A list of no items, which takes no memory yet (own).
     pub fn new(alloc: Global) -> ItemList<T>
         ensures { result ≡ [] }
     {
@@ -28,7 +28,7 @@ impl<T: Drop> ItemList<T> {
         }
     }
 
-    /// No items, with room for so many.
+    /// A list of no items, with room for so many (own). It errs only where memory runs out.
     pub fn with_room(alloc: Global, count: usize) -> Result<ItemList<T>, NoMemory>
         ensures { IfOk result (λ list. list ≡ []) }
     {
@@ -37,7 +37,7 @@ impl<T: Drop> ItemList<T> {
         })
     }
 
-    /// Puts an item at the end. Where memory runs out, the item is dropped and the list is as it was.
+    /// Puts an item at the end (own). Where memory runs out, the item is dropped and the list is as it was.
     pub fn push(&mut self, item: T) -> Result<(), NoMemory>
         ensures ok { OnOk result (self.new ≡ self.old ++ item ∷ []) }
         ensures err { OnErr result (self.new ≡ self.old) }
@@ -46,7 +46,7 @@ impl<T: Drop> ItemList<T> {
         Ok(())
     }
 
-    /// Moves the items of another list to the end. Where memory runs out, both lists are as they were.
+    /// Moves the items of another list to the end (own). Where memory runs out, both lists are as they were.
     pub fn append(&mut self, other: &mut ItemList<T>) -> Result<(), NoMemory>
         ensures ok { OnOk result (self.new ≡ self.old ++ other.old) }
         ensures moved { OnOk result (other.new ≡ []) }
@@ -56,7 +56,7 @@ impl<T: Drop> ItemList<T> {
         Ok(())
     }
 
-    /// Takes the first item off, in time linear in the length; None where there is none.
+    /// Takes the first item off, in time linear in the length; None where there is none (own).
     pub fn take_first(&mut self) -> Option<T>
         ensures { MatchOption result ((self.old ≡ []) × (self.new ≡ [])) (λ item. self.old ≡ item ∷ self.new) }
     {
@@ -66,21 +66,21 @@ impl<T: Drop> ItemList<T> {
         Some(self.items.remove(0))
     }
 
-    /// How many items there are.
+    /// How many items there are (own).
     pub fn len(&self) -> usize
         ensures { result ≡ length self.now }
     {
         self.items.len()
     }
 
-    /// The items in their order.
+    /// The items in their order (own).
     pub fn as_slice(&self) -> &[T]
         ensures { result.now ≡ self.now }
     {
         self.items.as_slice()
     }
 
-    /// The i-th item, counted from 0; None past the end.
+    /// The i-th item, counted from 0; None past the end (own).
     pub fn get(&self, i: usize) -> Option<&T>
         ensures item { option_copied result ≡ slice_get self.now i }
         ensures within { IsSome result ↔ (i < length self.now) }

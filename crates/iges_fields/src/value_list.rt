@@ -29,7 +29,7 @@ impl Model for Values {
 }
 
 impl Values {
-    /// No values.
+    /// A list of no values, which takes no memory yet (own).
     pub fn new(alloc: Global) -> Values
         ensures { result ≡ [] }
     {
@@ -38,7 +38,7 @@ impl Values {
         }
     }
 
-    /// No values, with room for so many.
+    /// A list of no values, with room for so many (own). It errs only where memory runs out.
     pub fn with_room(alloc: Global, count: usize) -> Result<Values, NoMemory>
         ensures { IfOk result (λ values. values ≡ []) }
     {
@@ -47,7 +47,7 @@ impl Values {
         })
     }
 
-    /// Puts the value at the end. Where memory runs out, the value is dropped and the list is as it was.
+    /// Puts the value at the end (own). Where memory runs out, the value is dropped and the list is as it was.
     pub fn push(&mut self, value: Value) -> Result<(), NoMemory>
         requires { IsTrue (stays_in_line value) }
         ensures ok { OnOk result (self.new ≡ self.old ++ value ∷ []) }
@@ -56,14 +56,14 @@ impl Values {
         self.values.push(value)
     }
 
-    /// Takes the first value off, in time linear in the length; None where there is none.
+    /// Takes the first value off, in time linear in the length; None where there is none (own).
     pub fn take_first(&mut self) -> Option<Value>
         ensures { MatchOption result ((self.old ≡ []) × (self.new ≡ [])) (λ value. self.old ≡ value ∷ self.new) }
     {
         self.values.take_first()
     }
 
-    /// Moves the values of another list to the end. Where memory runs out, both lists are as they were.
+    /// Moves the values of another list to the end (own). Where memory runs out, both lists are as they were.
     pub fn append(&mut self, other: &mut Values) -> Result<(), NoMemory>
         ensures ok { OnOk result (self.new ≡ self.old ++ other.old) }
         ensures moved { OnOk result (other.new ≡ []) }
@@ -72,7 +72,7 @@ impl Values {
         self.values.append(&mut other.values)
     }
 
-    /// How many values there are.
+    /// How many values there are (own).
     pub fn len(&self) -> usize
         ensures is { result ≡ length self.now }
         ensures values { IsTrue (list_all is_value self.now) }
@@ -80,7 +80,7 @@ impl Values {
         self.values.len()
     }
 
-    /// The values in their order.
+    /// The values in their order (own).
     pub fn as_slice(&self) -> &[Value]
         ensures is { result.now ≡ self.now }
         ensures values { IsTrue (list_all is_value self.now) }
@@ -88,7 +88,7 @@ impl Values {
         self.values.as_slice()
     }
 
-    /// The i-th value, counted from 0; None past the end.
+    /// The i-th value, counted from 0; None past the end (own).
     pub fn get(&self, i: usize) -> Option<&Value>
         ensures value { option_copied result ≡ slice_get self.now i }
         ensures within { IsSome result ↔ (i < length self.now) }
