@@ -42,14 +42,14 @@ pub enum Reason {
 }
 
 impl Reason {
-    /// The number that the format's description gives the reason, from 1.
+    /// The number that the format's description gives the reason, from 1 (own).
     pub fn number(self) -> u8
         ensures { result ≡ reason_number self }
     {
         self as u8
     }
 
-    /// The word that is printed for the reason.
+    /// The word that is printed for the reason (own).
     pub fn word(self) -> &'static [u8]
         ensures { result.now ≡ reason_word self }
     {

@@ -12,7 +12,7 @@ use iges_fields::NoMemory;
 use std::alloc::Global;
 use std::marker::Model;
 
-/// Lines by section.
+/// The lines of each section that have come so far, but for the terminate line.
 #[derive(Drop)]
 pub struct SectionTable {
     start: LineList,
@@ -42,6 +42,7 @@ impl SectionTable {
         }
     }
 
+    /// The number of start lines so far (IGES 5.3, 2.2.4.1).
     pub fn start_count(&self) -> usize
         ensures count { result ≡ length self.now.start }
         ensures few { result < 2 ^ 60 }
@@ -49,6 +50,7 @@ impl SectionTable {
         self.start.count()
     }
 
+    /// The number of global lines so far (IGES 5.3, 2.2.4.3).
     pub fn global_count(&self) -> usize
         ensures count { result ≡ length self.now.global }
         ensures few { result < 2 ^ 60 }
@@ -56,6 +58,7 @@ impl SectionTable {
         self.global.count()
     }
 
+    /// The number of directory lines so far (IGES 5.3, 2.2.4.4).
     pub fn directory_count(&self) -> usize
         ensures count { result ≡ length self.now.directory }
         ensures few { result < 2 ^ 60 }
@@ -63,6 +66,7 @@ impl SectionTable {
         self.directory.count()
     }
 
+    /// The number of parameter lines so far (IGES 5.3, 2.2.4.5).
     pub fn param_count(&self) -> usize
         ensures count { result ≡ length self.now.param }
         ensures few { result < 2 ^ 60 }
@@ -70,7 +74,7 @@ impl SectionTable {
         self.param.count()
     }
 
-    /// The start line at a place, from 0.
+    /// The 80 bytes of the start line at a place, from 0; None past the end (IGES 5.3, 2.2.4.1).
     pub fn start(&self, i: usize) -> Option<&[u8]>
         ensures line { option_copied result ≡ slice_get self.now.start i }
         ensures within { IsSome result ↔ (i < length self.now.start) }
@@ -79,7 +83,7 @@ impl SectionTable {
         self.start.get(i)
     }
 
-    /// The global line at a place, from 0.
+    /// The 80 bytes of the global line at a place, from 0; None past the end (IGES 5.3, 2.2.4.3).
     pub fn global(&self, i: usize) -> Option<&[u8]>
         ensures line { option_copied result ≡ slice_get self.now.global i }
         ensures within { IsSome result ↔ (i < length self.now.global) }
@@ -88,7 +92,7 @@ impl SectionTable {
         self.global.get(i)
     }
 
-    /// The directory line at a place, from 0.
+    /// The 80 bytes of the directory line at a place, from 0; None past the end (IGES 5.3, 2.2.4.4).
     pub fn directory(&self, i: usize) -> Option<&[u8]>
         ensures line { option_copied result ≡ slice_get self.now.directory i }
         ensures within { IsSome result ↔ (i < length self.now.directory) }
@@ -97,7 +101,7 @@ impl SectionTable {
         self.directory.get(i)
     }
 
-    /// The parameter line at a place, from 0.
+    /// The 80 bytes of the parameter line at a place, from 0; None past the end (IGES 5.3, 2.2.4.5).
     pub fn param(&self, i: usize) -> Option<&[u8]>
         ensures line { option_copied result ≡ slice_get self.now.param i }
         ensures within { IsSome result ↔ (i < length self.now.param) }
@@ -142,7 +146,7 @@ impl SectionTable {
         }
     }
 
-    /// The number of the next line of this section.
+    /// The number of the next line of this section, from 1.
     pub fn next_number(&self, kind: Kind) -> usize
         ensures number { result ≡ length (slice_index_or (sections self.now) (place_of kind) []) + 1 }
         ensures few { result ≤ 2 ^ 60 }
