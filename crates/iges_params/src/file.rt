@@ -99,7 +99,7 @@ impl File {
         Ok(())
     }
 
-    /// How many start lines there are.
+    /// How many start lines there are (IGES 5.3, 2.2.4.1).
     pub fn start_count(&self) -> usize
         ensures is { result ≡ length self.now.start }
         ensures some { 0 < result }
@@ -108,7 +108,7 @@ impl File {
         self.start.len()
     }
 
-    /// The 72 bytes of the i-th start line, from 0; None past the end.
+    /// Columns 1 to 72 of the i-th start line, i from 0; None past the end (IGES 5.3, 2.2.4.1).
     pub fn start(&self, i: usize) -> Option<&[u8]>
         ensures line { option_copied result ≡ slice_get self.now.start i }
         ensures within { IsSome result ↔ (i < length self.now.start) }
@@ -128,7 +128,7 @@ impl File {
         &self.global
     }
 
-    /// How many entries there are, with those of type 0.
+    /// How many entries there are, those of type 0 among them (own).
     pub fn entry_count(&self) -> usize
         ensures is { result ≡ length self.now.entries }
         ensures few { result ≤ 4_999_999 }
@@ -137,7 +137,7 @@ impl File {
         self.entries.len()
     }
 
-    /// The i-th entry, from 0 and with those of type 0; None past the end.
+    /// The i-th entry, i from 0 and those of type 0 among them; None past the end (own).
     pub fn entry_at(&self, i: usize) -> Option<&Entry>
         ensures entry { option_copied result ≡ option_map (λ e. e.0) (slice_get self.now.entries i) }
         ensures within { IsSome result ↔ (i < length self.now.entries) }
@@ -178,7 +178,8 @@ impl File {
         }
     }
 
-    /// The values of the record of the entry that a number names, without the type number. None where it names none.
+    /// The values of the record of the entry that a number names, without the type number (IGES 5.3, 2.2.4.5). None
+    /// where it names none.
     pub fn values(&self, no: EntryNo) -> Option<&Values>
         ensures { option_copied result ≡ option_map (λ e. e.1) (named self.now (pos no.0)) }
     {

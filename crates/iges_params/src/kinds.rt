@@ -11,7 +11,7 @@ pub enum Kind {
     Real,
 }
 
-/// The kinds of the parameters from the third on.
+/// The kinds of the parameters 3 to 26 (IGES 5.3, 2.2.4.3.3 to 2.2.4.3.26).
 const KINDS: [Kind; 24] = [
     Kind::Text,
     Kind::Text,

@@ -20,7 +20,7 @@ pub struct Passage<'t> {
     pub width: usize,
 }
 
-/// A line's fault.
+/// The fault of a line, by its number in the file, from 1.
 pub fn bad(line: u64, reason: Reason) -> PassFault
     ensures { result ≡ PassFault.Bad (record { line = line; reason = reason }) }
 {

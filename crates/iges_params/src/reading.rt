@@ -107,7 +107,8 @@ pub fn read_file(alloc: Global, bytes: &[u8]) -> Result<File, ReadFileFault>
     read(alloc, bytes)
 }
 
-/// The file that the bytes are, as `read_file` reads it. Their memory is given back as soon as the lines are read.
+/// The file that the bytes are, as `read_file` reads it (own). Their memory is given back as soon as the lines are
+/// read.
 pub fn read_bytes(alloc: Global, bytes: Bytes) -> Result<File, ReadFileFault>
     requires { length bytes ≤ FILE_LIMIT }
     ensures found { IfOk result (IsFile bytes) }

@@ -72,7 +72,6 @@ pub fn lines_above(sections: &Sections) -> u64
     (sections.start_count() + sections.global_count() + sections.directory_count()) as u64
 }
 
-// The magnitude of a number.
 fn magnitude(n: &i64) -> usize
     ensures { result ≡ unsigned_abs n.now }
 {
