@@ -87,7 +87,7 @@ fn judge_lines(alloc: Global, file: &File, no: EntryNo, rest: &[u8]) -> Result<R
     }
 }
 
-// Judges a certificate.
+// The reply for a certificate of these bytes: what its first two lines say comes first.
 fn judge(alloc: Global, file: &File, certificate: &[u8]) -> Result<Reply, NoMemory>
     requires { length certificate.now ≤ CERT_LIMIT }
     ensures { IfOk result (λ reply. OfVerify certificate.now file.now reply.answer reply.text) }
