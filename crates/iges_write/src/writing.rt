@@ -49,7 +49,8 @@ fn put_records(
     page.append(params)
 }
 
-// All sections.
+// The directory says where the records stand, so that both are made side by side, and the terminate line counts the
+// lines of all sections.
 fn put_file(alloc: Global, page: &mut Page, limit: u64, file: &File) -> Result<(), WriteFileFault>
     requires page { page.old ≡ blank limit 83 72 }
     requires limit { limit ≤ FILE_LIMIT }
@@ -70,7 +71,7 @@ fn put_file(alloc: Global, page: &mut Page, limit: u64, file: &File) -> Result<(
     put_terminate(page, &mut line, &counts)
 }
 
-// The text, within the limit.
+// The canonical text, where it has at most `limit` bytes.
 fn write(alloc: Global, file: &File, limit: u64) -> Result<Bytes, WriteFileFault>
     requires { limit ≤ FILE_LIMIT }
     ensures text { Writes limit result (text_of file.now) }
