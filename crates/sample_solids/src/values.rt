@@ -17,7 +17,7 @@ fn put(values: &mut Values, numbers: &[u32]) -> Result<(), NoMemory>
     Ok(())
 }
 
-/// These integers.
+/// The values of a record that are these integers.
 pub(crate) fn values_of(alloc: Global, numbers: &[u32]) -> Result<Values, NoMemory>
     ensures { IfOk result (λ values. values ≡ map whole numbers.now) }
 {
