@@ -1,4 +1,7 @@
 //! Which faces of a shell are reached from its first, by edges alone.
+//!
+//! A row is a use of an edge by a loop (a coedge or half-edge), and its mate the opposite one. A
+//! face is a neighbour of another where a row of the one has its mate on the other.
 #![tactic(auto)]
 
 mod faces;

@@ -18,7 +18,8 @@ use iges_fields::NoMemory;
 use solid_data::{FaceAt, RowList};
 use std::alloc::Global;
 
-/// Rows that reach the faces of a shell, in order.
+/// Rows that reach the faces of a shell but the first, each on a face that isn't reached before it
+/// (own).
 pub type ReachList = RowList;
 
 fn first_unreached(paired: &Paired<'_>, flood: &Flood, count: usize) -> Option<u32>
