@@ -22,8 +22,8 @@ fn push_group(
     Ok(())
 }
 
-/// Puts the places of pointers in so many groups of a size that stand from a place on. In each group the pointers have
-/// these places, from 0.
+/// Puts the places, from 1, of pointers in so many groups of a size that stand from a place on. In each group the
+/// pointers have these places, from 0.
 pub fn push_groups(
     places: &mut ItemList<usize>,
     first: usize,
@@ -61,7 +61,8 @@ fn push_tuple(
     Ok(first + 5 + curves * 2)
 }
 
-/// Puts the places of pointers in the tuples of a loop that stand from a place on, and gives the place behind them.
+/// Puts the places, from 1, of pointers in the tuples of a loop that stand from a place on, and gives the place behind
+/// them.
 pub fn push_tuples(
     places: &mut ItemList<usize>,
     first: usize,

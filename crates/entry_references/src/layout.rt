@@ -8,26 +8,33 @@ ghost use Rattle.std.specs.Prelude.{◌≡◌, ℤ, pos, option_map};
 
 use iges_directory::Entry;
 
-/// How many values of a record are its own, and which of them are pointers, in places counted from 1 without the
-/// type number (IGES 5.3, 4).
+/// How many values of a record are its own, and which of them are pointers, in places counted from 1 without the type
+/// number (IGES 5.3, chapter 4).
 #[derive(Clone, Copy)]
 pub enum Layout {
     /// So many values, with pointers in these places.
     Fixed(usize, &'static [usize]),
+    /// N, and then N pointers (type 102).
     CompositeCurve,
+    /// IP and N, and then 1 + 2N, 3N or 6N values for IP 1, 2, 3 (type 106).
     CopiousData,
+    /// 4 values, of which N is the last, and then N + 1, 12N and 12 (type 112).
     SplineCurve,
+    /// 4 values, of which the last is cut (type 116; the cut is own).
     Point,
+    /// 6 values, of which K and M are the first, and then K + M + 2, 4(K + 1) and 5 (type 126).
     RationalCurve,
+    /// 9 values, of which K1, K2, M1 and M2 are the first, and then K1 + M1 + 2, K2 + M2 + 2, 4(K1 + 1)(K2 + 1) and 4
+    /// (type 128).
     RationalSurface,
 }
 
-/// The layouts of a type by its forms (own).
+/// The layouts of a type by its forms (IGES 5.3, chapter 4).
 #[derive(Clone, Copy)]
 pub enum Forms {
     /// One layout in each form.
     Every(Layout),
-    /// One layout in form 1, and another in each other form.
+    /// One layout in form 1, and another in form 0, as which each other form is read (own).
     First(Layout, Layout),
 }
 
@@ -35,45 +42,51 @@ pub enum Forms {
 #[derive(Clone, Copy)]
 pub struct Row(i64, Forms);
 
+// Each type by its name and its section (IGES 5.3, chapter 4).
 const TABLE: [Row; 23] = [
-    Row(100, Forms::Every(Layout::Fixed(7, &[]))),
-    Row(102, Forms::Every(Layout::CompositeCurve)),
-    Row(104, Forms::Every(Layout::Fixed(11, &[]))),
-    Row(106, Forms::Every(Layout::CopiousData)),
-    Row(108, Forms::Every(Layout::Fixed(9, &[5]))),
-    Row(110, Forms::Every(Layout::Fixed(6, &[]))),
-    Row(112, Forms::Every(Layout::SplineCurve)),
-    Row(116, Forms::Every(Layout::Point)),
-    Row(118, Forms::Every(Layout::Fixed(4, &[1, 2]))),
-    Row(120, Forms::Every(Layout::Fixed(4, &[1, 2]))),
-    Row(122, Forms::Every(Layout::Fixed(4, &[1]))),
-    Row(123, Forms::Every(Layout::Fixed(3, &[]))),
-    Row(124, Forms::Every(Layout::Fixed(12, &[]))),
-    Row(126, Forms::Every(Layout::RationalCurve)),
-    Row(128, Forms::Every(Layout::RationalSurface)),
-    Row(140, Forms::Every(Layout::Fixed(5, &[5]))),
+    Row(100, Forms::Every(Layout::Fixed(7, &[]))), // circular arc, 4.3
+    Row(102, Forms::Every(Layout::CompositeCurve)), // composite curve, 4.4
+    Row(104, Forms::Every(Layout::Fixed(11, &[]))), // conic arc, 4.5
+    Row(106, Forms::Every(Layout::CopiousData)), // copious data, 4.6
+    Row(108, Forms::Every(Layout::Fixed(9, &[5]))), // plane, 4.12
+    Row(110, Forms::Every(Layout::Fixed(6, &[]))), // line, 4.13
+    Row(112, Forms::Every(Layout::SplineCurve)), // parametric spline curve, 4.14
+    Row(116, Forms::Every(Layout::Point)), // point, 4.16
+    Row(118, Forms::Every(Layout::Fixed(4, &[1, 2]))), // ruled surface, 4.17
+    Row(120, Forms::Every(Layout::Fixed(4, &[1, 2]))), // surface of revolution, 4.18
+    Row(122, Forms::Every(Layout::Fixed(4, &[1]))), // tabulated cylinder, 4.19
+    Row(123, Forms::Every(Layout::Fixed(3, &[]))), // direction, 4.20
+    Row(124, Forms::Every(Layout::Fixed(12, &[]))), // transformation matrix, 4.21
+    Row(126, Forms::Every(Layout::RationalCurve)), // rational B-spline curve, 4.23
+    Row(128, Forms::Every(Layout::RationalSurface)), // rational B-spline surface, 4.24
+    Row(140, Forms::Every(Layout::Fixed(5, &[5]))), // offset surface, 4.30
+    // plane surface, 4.50
     Row(
         190,
         Forms::First(Layout::Fixed(3, &[1, 2, 3]), Layout::Fixed(2, &[1, 2])),
     ),
+    // right circular cylindrical surface, 4.51
     Row(
         192,
         Forms::First(Layout::Fixed(4, &[1, 2, 4]), Layout::Fixed(3, &[1, 2])),
     ),
+    // right circular conical surface, 4.52
     Row(
         194,
         Forms::First(Layout::Fixed(5, &[1, 2, 5]), Layout::Fixed(4, &[1, 2])),
     ),
+    // spherical surface, 4.53
     Row(
         196,
         Forms::First(Layout::Fixed(4, &[1, 3, 4]), Layout::Fixed(2, &[1])),
     ),
+    // toroidal surface, 4.54
     Row(
         198,
         Forms::First(Layout::Fixed(5, &[1, 2, 5]), Layout::Fixed(4, &[1, 2])),
     ),
-    Row(314, Forms::Every(Layout::Fixed(4, &[]))),
-    Row(406, Forms::Every(Layout::Fixed(2, &[]))),
+    Row(314, Forms::Every(Layout::Fixed(4, &[]))), // colour definition, in chapter 4
+    Row(406, Forms::Every(Layout::Fixed(2, &[]))), // property, in chapter 4; form 15 is the name
 ];
 
 fn row_of(rows: &[Row], kind: i64) -> Option<Row>
@@ -115,8 +128,8 @@ fn is_other_property(entry: &Entry) -> bool
     entry.kind == 406 && entry.form != 15
 }
 
-/// The layout of a type in a form; None where the type isn't listed (own). Of the analytic surfaces each form but 1 is
-/// read as 0, and of the properties only the name is listed (own).
+/// The layout of a type in a form (IGES 5.3, chapter 4); None where the type isn't listed (own). Of the analytic
+/// surfaces each form but 1 is read as 0, and of the properties only the name is listed (own).
 pub fn layout_of(entry: &Entry) -> Option<Layout>
     ensures { option_map layout_of_row result ≡ layout_of entry.now }
 {

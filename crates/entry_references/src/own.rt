@@ -63,7 +63,7 @@ impl Own {
     }
 }
 
-/// These places.
+/// A list of these places, from 1.
 pub fn places(alloc: Global, listed: &[usize]) -> Result<ItemList<usize>, NoMemory>
     ensures { IfOk result (λ list. list ≡ listed.now) }
 {
@@ -74,7 +74,7 @@ pub fn places(alloc: Global, listed: &[usize]) -> Result<ItemList<usize>, NoMemo
     Ok(list)
 }
 
-/// So many places, one behind the other.
+/// So many places from the first on, one behind the other.
 pub fn places_from(alloc: Global, first: usize, count: usize) -> Result<ItemList<usize>, NoMemory>
     requires { first + count < 2 ^ 64 }
     ensures { IfOk result (λ list. list ≡ range_with_len first count) }

@@ -12,6 +12,7 @@ use crate::place::{choice_in, count_in};
 use iges_fields::{NoMemory, Values};
 use std::alloc::Global;
 
+// A row with so many values (IGES 5.3, chapter 4; the section of each type stands in the table).
 fn with_fixed(
     alloc: Global,
     values: &Values,
@@ -24,6 +25,7 @@ fn with_fixed(
     Ok(own.checked(values))
 }
 
+// Composite curve (type 102; IGES 5.3, 4.4): N, and N curves.
 fn of_composite_curve(alloc: Global, values: &Values) -> Result<Option<Own>, NoMemory>
     requires { length values.now ≤ FILE_LIMIT }
     ensures { IfOk result (λ own. own ≡ own_in (layout_of_row CompositeCurve) values.now) }
@@ -48,6 +50,7 @@ fn point_values(choice: usize, points: usize) -> usize
     }
 }
 
+// Copious data (type 106; IGES 5.3, 4.6): IP, N, and N points by IP.
 fn of_copious_data(alloc: Global, values: &Values) -> Option<Own>
     requires { length values.now ≤ FILE_LIMIT }
     ensures { result ≡ own_in (layout_of_row CopiousData) values.now }
@@ -57,6 +60,8 @@ fn of_copious_data(alloc: Global, values: &Values) -> Option<Own>
     Some(Own::plain(alloc, 2 + point_values(choice, points)))
 }
 
+// Parametric spline curve (type 112; IGES 5.3, 4.14): 4 values, the last of which is N; N + 1 break points; 12
+// coefficients for each of N segments; 12 values at the end.
 fn of_spline_curve(alloc: Global, values: &Values) -> Option<Own>
     requires { length values.now ≤ FILE_LIMIT }
     ensures { result ≡ own_in (layout_of_row SplineCurve) values.now }
@@ -65,6 +70,7 @@ fn of_spline_curve(alloc: Global, values: &Values) -> Option<Own>
     Some(Own::plain(alloc, 4 + (segments + 1) + 12 * segments + 12))
 }
 
+// Point (type 116; IGES 5.3, 4.16): 3 coordinates, and a display symbol, which is cut (own).
 fn of_point(alloc: Global, values: &Values) -> Result<Option<Own>, NoMemory>
     ensures { IfOk result (λ own. own ≡ own_in (layout_of_row Point) values.now) }
 {
@@ -73,6 +79,8 @@ fn of_point(alloc: Global, values: &Values) -> Result<Option<Own>, NoMemory>
     Ok(own.checked(values))
 }
 
+// Rational B-spline curve (type 126; IGES 5.3, 4.23): K, M and 4 properties; K + M + 2 knots; K + 1 weights, and as
+// many points of 3 values; the range of 2 values, and the normal of 3.
 fn of_rational_curve(alloc: Global, values: &Values) -> Option<Own>
     requires { length values.now ≤ FILE_LIMIT }
     ensures { result ≡ own_in (layout_of_row RationalCurve) values.now }
@@ -93,6 +101,8 @@ fn surface_values(uppers: (usize, usize), degrees: (usize, usize)) -> usize
     9 + knots + 4 * (uppers.0 + 1) * (uppers.1 + 1) + 4
 }
 
+// Rational B-spline surface (type 128; IGES 5.3, 4.24): K1, K2, M1, M2 and 5 properties; the knots of both directions;
+// (K1 + 1)(K2 + 1) weights, and as many points of 3 values; the ranges of 2 values each.
 fn of_rational_surface(alloc: Global, values: &Values) -> Option<Own>
     requires { length values.now ≤ FILE_LIMIT }
     ensures { result ≡ own_in (layout_of_row RationalSurface) values.now }
@@ -107,8 +117,8 @@ fn of_rational_surface(alloc: Global, values: &Values) -> Option<Own>
     ))
 }
 
-/// The own values by a layout; None where the record doesn't stand by it (own). Each count is at most the number of
-/// values, so that no product passes 64 bits.
+/// The own values by a layout (IGES 5.3, chapter 4); None where the record doesn't stand by it (own). Each count is at
+/// most the number of values, so that no product passes 64 bits.
 pub fn own_in(alloc: Global, layout: Layout, values: &Values) -> Result<Option<Own>, NoMemory>
     requires { length values.now ≤ FILE_LIMIT }
     ensures { IfOk result (λ own. own ≡ own_in (layout_of_row layout) values.now) }

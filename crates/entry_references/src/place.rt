@@ -1,4 +1,4 @@
-//! Values of a record by their places, counted from 1 (own).
+//! Values of a record by their places, counted from 1 without the type number (own); `brep_lists` counts them from 0.
 
 ghost use Rattle.entry_references.specs.Layout.{value_at, count_of, is_count, is_choice, is_pointer};
 ghost use Rattle.entry_references.specs.Refs.{number_of};
@@ -26,8 +26,8 @@ fn count_of(value: &Value) -> Option<usize>
     }
 }
 
-/// The count in a place, where it may stand there: one that is left out or missing is 0, and none is greater than the
-/// number of values.
+/// The count in a place, from 1, where it may stand there: one that is left out or missing is 0, and none is greater
+/// than the number of values.
 pub fn count_in(values: &Values, place: usize) -> Option<usize>
     ensures { MatchOption result (is_count values.now (value_at values.now place) ≡ false)
         (λ n. (is_count values.now (value_at values.now place) ≡ true) × (n ≡ unwrap_or (count_of (value_at values.now place)) 0) × (n ≤ length values.now)) }
@@ -53,7 +53,7 @@ fn choice_of(value: &Value) -> Option<usize>
     }
 }
 
-/// The number in a place, where it is 1, 2 or 3.
+/// The number in a place, from 1, where it is 1, 2 or 3.
 pub fn choice_in(values: &Values, place: usize) -> Option<usize>
     ensures { MatchOption result (is_choice (value_at values.now place) ≡ false)
         (λ n. (is_choice (value_at values.now place) ≡ true) × (n ≡ unwrap_or (count_of (value_at values.now place)) 0)) }
@@ -77,7 +77,7 @@ fn is_pointer_in(values: &Values, place: usize) -> bool
     }
 }
 
-/// Whether pointers may stand in all these places.
+/// Whether pointers may stand in all these places, from 1.
 pub fn are_pointers(values: &Values, places: &[usize]) -> bool
     ensures { result ≡ list_all (λ k. is_pointer (value_at values.now k)) places.now }
 {
@@ -99,7 +99,7 @@ pub fn number_of(value: &Value) -> Option<i64>
     }
 }
 
-/// The integer in a place, but for 0.
+/// The integer in a place, from 1, but for 0.
 pub fn number_in(values: &Values, place: usize) -> Option<i64>
     ensures { result ≡ number_of (value_at values.now place) }
 {

@@ -4,7 +4,7 @@ ghost use Rattle.solid_extract.specs.Kept.{RecordsAreKept, KeptAreNamed, ItemsAr
 ghost use Rattle.solid_extract.specs.MadeAgain.{ExtractedIsMade};
 ghost use Rattle.solid_extract.specs.OneExtraction.{OneFile, OneRefusal, NotBoth};
 
-/// A solid is extracted to one file, or refused for one entity and reason, and not both.
+/// A solid is extracted to at most one file, or refused for at most one entity and reason, and never both (own).
 pub fn one_extraction()
     ensures file { OneFile }
     ensures refusal { OneRefusal }
@@ -12,20 +12,20 @@ pub fn one_extraction()
 {}
 
 /// A record of one of a solid's six kinds stays one of that kind in the extracted file, with the same items but for
-/// renamed pointers.
+/// renamed pointers (own).
 pub fn records_are_kept()
     ensures { RecordsAreKept }
 {}
 
-/// A kept entry is named by its new number, and where it is of one of a solid's six kinds it tells the same items,
-/// with pointers renamed.
+/// A kept entry is named by its new number, and where it is of one of a solid's six kinds it tells the same items, with
+/// pointers renamed (own).
 pub fn items_are_kept()
     ensures named { KeptAreNamed }
     ensures items { ItemsAreKept }
 {}
 
 /// What is extracted from a file that can be made can be made too: its entries fit their columns, and it is within the
-/// limits of a file.
+/// limits of a file (own).
 pub fn extracted_is_made()
     ensures { ExtractedIsMade }
 {}

@@ -63,7 +63,7 @@ impl Renaming {
         Ok(Renaming { kept, places })
     }
 
-    /// The entries that are kept.
+    /// The entries that are kept, by the numbers that they had, in the order of the new ones.
     pub fn kept(&self) -> &EntryList
         ensures is { numbers_of result.now ≡ self.now }
         ensures few { length self.now ≤ 4_999_999 }
