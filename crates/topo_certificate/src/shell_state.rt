@@ -9,18 +9,28 @@ use iges_fields::NoMemory;
 use std::alloc::Global;
 use std::marker::Model;
 
-/// What is kept of a shell: its rows, what its lines are compared with, and what the lines so far said.
+/// What is kept of a shell: its rows, what its lines are compared with, and what the lines so far said. Places in the
+/// lists count from 0; rows that stand in them count from 1, as in the lines.
 #[derive(Drop)]
 pub(crate) struct ShellState {
     rows: Rows,
+    /// For each row how many rows a corner line has that starts with it; 0 where none fits.
     sizes: Vec<u32>,
+    /// For each loop without an edge, in file order, whether it is all that lies at its vertex.
     alone: Vec<bool>,
+    /// For each row its mate, from 1; 0 for none, as long as no edge line has named the row.
     mates: Vec<u32>,
+    /// For each face whether it is reached.
     reached: Vec<bool>,
+    /// How many edge lines are due.
     edges_due: u32,
+    /// How many corner and point lines are due.
     corners_due: u32,
+    /// How many reach lines are due.
     reach_due: u32,
+    /// The edge of the last edge line, from 0; None before the first.
     last_edge: Option<u32>,
+    /// The vertex of the last corner or point line, from 0; None before the first.
     last_vertex: Option<u32>,
 }
 
