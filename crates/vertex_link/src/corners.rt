@@ -13,7 +13,7 @@ pub enum Corner {
     Point(LoopAt),
 }
 
-/// A corner for each vertex of a shell, by rising number.
+/// A corner for each vertex of a shell, by rising number (own).
 #[derive(Drop)]
 pub struct Links {
     corners: Vec<Corner>,
@@ -37,21 +37,22 @@ impl Links {
         Links { corners }
     }
 
-    /// How many vertices there are.
+    /// How many vertices occur in the shell (own).
     pub fn len(&self) -> usize
         ensures { result ≡ length self.now }
     {
         self.corners.len()
     }
 
-    /// What lies round the i-th vertex of the shell, by rising number, from 0; none past the end.
+    /// What lies round the i-th vertex of the shell, by rising number, i from 0; None past the end
+    /// (own).
     pub fn corner(&self, i: usize) -> Option<&Corner>
         ensures { option_copied result ≡ slice_get self.now i }
     {
         self.corners.get(i)
     }
 
-    /// What lies round each vertex, by rising number.
+    /// What lies round each vertex, by rising number (own).
     pub fn into_corners(self) -> Vec<Corner>
         ensures { result.items ≡ self }
     {

@@ -1,4 +1,8 @@
 //! One cycle of rows round each vertex of a shell.
+//!
+//! A row is a use of an edge by a loop (a coedge or half-edge), and its mate the opposite one. A
+//! turn leads from a row to the next one about the vertex where it starts: the row that follows its
+//! mate.
 #![tactic(auto)]
 
 mod corners;

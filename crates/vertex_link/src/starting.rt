@@ -12,7 +12,7 @@ use iges_fields::NoMemory;
 use solid_data::{FaceAt, LoopAt, RowId, VertexId};
 use std::alloc::Global;
 
-/// How many rows start at a vertex, and the first of them.
+/// How many rows start at a vertex, and the first of them, from 0; 0 too where none does.
 #[derive(Clone, Copy)]
 pub struct Starts {
     pub count: u32,
@@ -56,6 +56,7 @@ fn one_point(points: Points, at: LoopAt) -> Points
     }
 }
 
+/// The i-th row, i from 0, which there must be.
 pub fn row_at(rows: &Rows, i: usize) -> Row
     requires row { i < length rows.now.rows }
     requires few { i < 2 ^ 29 }
@@ -64,6 +65,7 @@ pub fn row_at(rows: &Rows, i: usize) -> Row
     rows.row(RowId(i as u32)).unwrap()
 }
 
+/// The number of the i-th vertex that occurs in the shell, i from 0, which there must be.
 pub fn vertex_at(rows: &Rows, i: usize) -> u32
     requires { i < length rows.now.vertices }
     ensures { slice_get rows.now.vertices i ≡ Some result }
@@ -71,6 +73,7 @@ pub fn vertex_at(rows: &Rows, i: usize) -> u32
     rows.vertex_at(i).unwrap().0
 }
 
+/// The i-th loop without an edge, i from 0, which there must be, and its vertex.
 pub fn point_at(rows: &Rows, i: usize) -> (LoopAt, VertexId)
     requires { i < length rows.now.points }
     ensures { slice_get rows.now.points i ≡ Some (result.0, result.1.0) }
