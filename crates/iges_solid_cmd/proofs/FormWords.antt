@@ -1,5 +1,5 @@
 -- Words and the forms that they have.
-use Rattle.std.proofs.Common.{◌≡◌, ◌⊎◌, ℕ, ◌<◌, ◌≤◌, ◌&&◌, Bool, true, false, cond, List, [], ◌∷◌, length, map, get_or, Option, Some, None, refl, sym, ap, subst, ◌∙◌, arith, inl, inr, ⊎_elim, nat_eq, nat_le, codes, String, string_bytes, Global, if◌then◌else◌}
+use Rattle.std.proofs.Common.{◌≡◌, ◌⊎◌, ℕ, ◌<◌, ◌≤◌, ◌&&◌, Bool, true, false, cond, List, [], ◌∷◌, length, map, get_or, Option, Some, None, slice_get, refl, sym, ap, subst, ◌∙◌, arith, inl, inr, ⊎_elim, nat_eq, nat_le, codes, String, string_bytes, Global, if◌then◌else◌}
 use Rattle.std.specs.Cmp.Lexicographic.{pointwise}
 use Rattle.std.specs.List.{list_any}
 use Rattle.std.specs.Option.{option_map}
@@ -9,7 +9,7 @@ use Rattle.iges_fields.specs.Word.{are_digits}
 use Rattle.iges_solid_cmd.specs.declared.form.Command.{Command}
 use Rattle.iges_solid_cmd.specs.declared.form.Command.TheVariants.{File, Sample}
 use Rattle.iges_solid_cmd.specs.declared.form.FileCommand.TheVariants.{Solids, Show, Certify, Verify, Extract}
-use Rattle.iges_solid_cmd.specs.Forms.{Form, all_fit, certificate, command_of, entry_command, entry_number, sample_number, fits, file, is_certificate, is_file, number_among, reads_certificate, reads_file, takes_certificate, takes_file, IsSized, word}
+use Rattle.iges_solid_cmd.specs.Forms.{Form, Slot, all_fit, certificate, certificate_named, command_of, file_named, form_of, word_in, entry_command, entry_number, sample_number, fits, file, is_certificate, is_file, number_among, reads_certificate, reads_file, takes_certificate, takes_file, IsSized, word}
 
 abbrev named : List ℕ → List ℕ → Bool
 named name text = pointwise nat_eq name text
@@ -221,6 +221,64 @@ reads words c e = (reads_both words c e).0
 
 pub reads_too : (words : List (List ℕ)) (c : Command) → command_of words ≡ Some c → reads_certificate words ≡ takes_certificate c
 reads_too words c e = (reads_both words c e).1
+
+-- ---- the words that a form names
+
+-- A form's file is its second word, and its certificate the third.
+second_word : (text : List ℕ) (rest : List Slot) (words : List (List ℕ)) → word_in is_file (word text ∷ file ∷ rest) words ≡ slice_get words 1
+second_word text rest [] = refl
+second_word text rest (a ∷ []) = refl
+second_word text rest (a ∷ b ∷ words) = refl
+
+third_word : (text : List ℕ) (words : List (List ℕ)) → word_in is_certificate (word text ∷ file ∷ certificate ∷ []) words ≡ slice_get words 2
+third_word text [] = refl
+third_word text (a ∷ []) = refl
+third_word text (a ∷ b ∷ []) = refl
+third_word text (a ∷ b ∷ c ∷ words) = refl
+
+-- no slot of these is such
+abbrev HasNone : (Slot → Bool) → List Slot → Type 0
+HasNone such [] = Unit {0}
+HasNone such (slot ∷ slots) = (such slot ≡ false) × HasNone such slots
+
+no_word : (such : Slot → Bool) (slots : List Slot) (words : List (List ℕ)) → HasNone such slots → word_in such slots words ≡ None
+no_word such [] words none = refl
+no_word such (slot ∷ slots) [] none = refl
+no_word such (slot ∷ slots) (w ∷ words) none = ap (λ b. if b then Some w else word_in such slots words) none.0 ∙ no_word such slots words none.1
+
+abbrev word_of_form : (Slot → Bool) → List (List ℕ) → Option Form → Option (List ℕ)
+word_of_form such words o = elim o [ Some form ↦ word_in such form.slots words | None ↦ None ]
+
+-- the file and the certificate of a command
+abbrev file_due : Option Command → List (List ℕ) → Option (List ℕ)
+file_due None words = None
+file_due (Some (File c)) words = slice_get words 1
+file_due (Some (Sample n)) words = None
+
+abbrev certificate_due : Option Command → List (List ℕ) → Option (List ℕ)
+certificate_due (Some (File Verify)) words = slice_get words 2
+certificate_due _ words = None
+
+abbrev NamesAs : List (List ℕ) → Option Form → Option Command → Type 0
+NamesAs words form command = (word_of_form is_file words form ≡ file_due command words) × (word_of_form is_certificate words form ≡ certificate_due command words)
+
+named_by : (words : List (List ℕ)) (solids show certify verify extract sample : Bool) → NamesAs words (form_by solids show certify verify extract sample) (by_tests words solids show certify verify extract sample)
+named_by words true show certify verify extract sample = (second_word (codes "solids") [] words, no_word is_certificate (word (codes "solids") ∷ file ∷ []) words (refl, (refl, tt)))
+named_by words false true certify verify extract sample = (second_word (codes "show") (entry_number ∷ []) words, no_word is_certificate (word (codes "show") ∷ file ∷ entry_number ∷ []) words (refl, (refl, (refl, tt))))
+named_by words false false true verify extract sample = (second_word (codes "certify") (entry_number ∷ []) words, no_word is_certificate (word (codes "certify") ∷ file ∷ entry_number ∷ []) words (refl, (refl, (refl, tt))))
+named_by words false false false true extract sample = (second_word (codes "verify") (certificate ∷ []) words, third_word (codes "verify") words)
+named_by words false false false false true sample = (second_word (codes "extract") (entry_number ∷ []) words, no_word is_certificate (word (codes "extract") ∷ file ∷ entry_number ∷ []) words (refl, (refl, (refl, tt))))
+named_by words false false false false false true = (no_word is_file (word (codes "sample") ∷ sample_number ∷ []) words (refl, (refl, tt)), no_word is_certificate (word (codes "sample") ∷ sample_number ∷ []) words (refl, (refl, tt)))
+named_by words false false false false false false = (refl, refl)
+
+named_both : (words : List (List ℕ)) → NamesAs words (form_of words) (command_of words)
+named_both words = named_by words (all_fit (word (codes "solids") ∷ file ∷ []) words) (all_fit (word (codes "show") ∷ file ∷ entry_number ∷ []) words) (all_fit (word (codes "certify") ∷ file ∷ entry_number ∷ []) words) (all_fit (word (codes "verify") ∷ file ∷ certificate ∷ []) words) (all_fit (word (codes "extract") ∷ file ∷ entry_number ∷ []) words) (all_fit (word (codes "sample") ∷ sample_number ∷ []) words)
+
+pub file_is : (words : List (List ℕ)) (command : Option Command) → command ≡ command_of words → file_named words ≡ file_due command words
+file_is words command is = (named_both words).0 ∙ ap (λ c. file_due c words) (sym is)
+
+pub certificate_is : (words : List (List ℕ)) (command : Option Command) → command ≡ command_of words → certificate_named words ≡ certificate_due command words
+certificate_is words command is = (named_both words).1 ∙ ap (λ c. certificate_due c words) (sym is)
 
 -- ---- the size of a sample
 

@@ -87,6 +87,20 @@ is_certificate _ = false
 abbrev pub reads_certificate : List (List ℕ) → Bool
 reads_certificate words = elim (form_of words) [ Some form ↦ list_any is_certificate form.slots | None ↦ false ]
 
+-- the first word that stands in such a slot
+abbrev pub word_in : (Slot → Bool) → List Slot → List (List ℕ) → Option (List ℕ)
+word_in such [] words = None
+word_in such (slot ∷ slots) [] = None
+word_in such (slot ∷ slots) (w ∷ ws) = if such slot then Some w else word_in such slots ws
+
+-- the file that the words name
+abbrev pub file_named : List (List ℕ) → Option (List ℕ)
+file_named words = elim (form_of words) [ Some form ↦ word_in is_file form.slots words | None ↦ None ]
+
+-- the certificate that the words name
+abbrev pub certificate_named : List (List ℕ) → Option (List ℕ)
+certificate_named words = elim (form_of words) [ Some form ↦ word_in is_certificate form.slots words | None ↦ None ]
+
 -- the command is for a file
 abbrev pub takes_file : Command → Bool
 takes_file (command.File c) = true

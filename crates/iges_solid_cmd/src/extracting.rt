@@ -39,14 +39,16 @@ fn refused(alloc: Global, entity: EntryNo, reason: ExtractReason) -> Result<Repl
 }
 
 /// The file of a solid alone, with all that it refers to, or why there is none.
-pub fn extract_solid(alloc: Global, file: &File, no: u32) -> Result<Reply, NoMemory>
-    ensures { IfOk result (λ reply. OfExtract no file.now reply.answer reply.text) }
+pub fn extract_solid(alloc: Global, file: File, no: u32) -> Result<Reply, NoMemory>
+    ensures { IfOk result (λ reply. OfExtract no file reply.answer reply.text) }
 {
-    let extracted = match extract(alloc, file, EntryNo(no)) {
+    let extracted = match extract(alloc, &file, EntryNo(no)) {
         Ok(extracted) => extracted,
         Err(ExtractFault::Refused { entity, reason }) => return refused(alloc, entity, reason),
         Err(ExtractFault::NoMemory) => return Err(NoMemory),
     };
+    // The text needs the room that the file takes.
+    drop(file);
     match write_file(alloc, &extracted, FILE_LIMIT) {
         Ok(text) => Ok(Reply {
             answer: Answer::Done,

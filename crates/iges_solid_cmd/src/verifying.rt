@@ -67,14 +67,15 @@ fn accepted(alloc: Global, no: EntryNo) -> Result<Reply, NoMemory>
 }
 
 // Judges the solid that a certificate names, and then the lines behind the first two.
-fn judge_lines(alloc: Global, file: &File, no: EntryNo, rest: &[u8]) -> Result<Reply, NoMemory>
-    ensures { IfOk result (λ reply. OfLines no.0 (cut_lines rest.now) file.now reply.answer reply.text) }
+fn judge_lines(alloc: Global, file: File, no: EntryNo, rest: &[u8]) -> Result<Reply, NoMemory>
+    ensures { IfOk result (λ reply. OfLines no.0 (cut_lines rest.now) file reply.answer reply.text) }
 {
-    let solid = match walk(alloc, file, no) {
+    let solid = match walk(alloc, &file, no) {
         Ok(solid) => solid,
         Err(WalkFault::Fails(failing)) => return failed(alloc, failing),
         Err(WalkFault::NoMemory) => return Err(NoMemory),
     };
+    drop(file);
     match check_shells(alloc, &solid) {
         Ok(()) => {}
         Err(MakeFault::Fails(failing)) => return failed(alloc, failing),
@@ -88,9 +89,9 @@ fn judge_lines(alloc: Global, file: &File, no: EntryNo, rest: &[u8]) -> Result<R
 }
 
 // The reply for a certificate of these bytes: what its first two lines say comes first.
-fn judge(alloc: Global, file: &File, certificate: &[u8]) -> Result<Reply, NoMemory>
+fn judge(alloc: Global, file: File, certificate: &[u8]) -> Result<Reply, NoMemory>
     requires { length certificate.now ≤ CERT_LIMIT }
-    ensures { IfOk result (λ reply. OfVerify certificate.now file.now reply.answer reply.text) }
+    ensures { IfOk result (λ reply. OfVerify certificate.now file reply.answer reply.text) }
 {
     match read_opening(certificate) {
         Ok((no, rest)) => judge_lines(alloc, file, no, rest),
@@ -101,10 +102,10 @@ fn judge(alloc: Global, file: &File, certificate: &[u8]) -> Result<Reply, NoMemo
 /// Whether the certificate of a source is accepted for the file; else the first that keeps it from being so.
 pub fn verify_certificate<C: Source>(
     alloc: Global,
-    file: &File,
+    file: File,
     cert: &mut C,
 ) -> Result<Reply, Stop>
-    ensures found { IfOk result (IsReply (λ certificate. OfVerify certificate file.now) (C.left cert.old)) }
+    ensures found { IfOk result (IsReply (λ certificate. OfVerify certificate file) (C.left cert.old)) }
     ensures whole { IfOk result (λ reply. ReadsCertificate (C.left cert.new) reply.answer) }
     ensures count { CountAfterCall (C.faults cert.old) (C.faults cert.new) result }
 {
