@@ -252,12 +252,11 @@ word_of_form such words o = elim o [ Some form ↦ word_in such form.slots words
 -- the file and the certificate of a command
 abbrev file_due : Option Command → List (List ℕ) → Option (List ℕ)
 file_due None words = None
-file_due (Some (File c)) words = slice_get words 1
-file_due (Some (Sample n)) words = None
+file_due (Some c) words = if takes_file c then slice_get words 1 else None
 
 abbrev certificate_due : Option Command → List (List ℕ) → Option (List ℕ)
-certificate_due (Some (File Verify)) words = slice_get words 2
-certificate_due _ words = None
+certificate_due None words = None
+certificate_due (Some c) words = if takes_certificate c then slice_get words 2 else None
 
 abbrev NamesAs : List (List ℕ) → Option Form → Option Command → Type 0
 NamesAs words form command = (word_of_form is_file words form ≡ file_due command words) × (word_of_form is_certificate words form ≡ certificate_due command words)
@@ -279,6 +278,10 @@ file_is words command is = (named_both words).0 ∙ ap (λ c. file_due c words) 
 
 pub certificate_is : (words : List (List ℕ)) (command : Option Command) → command ≡ command_of words → certificate_named words ≡ certificate_due command words
 certificate_is words command is = (named_both words).1 ∙ ap (λ c. certificate_due c words) (sym is)
+
+-- where the command takes such, the word in its place, and else none
+pub by_test : {A : Type 0} (takes t : Bool) (there : Option A) → takes ≡ t → (if takes then there else None) ≡ (if t then there else None)
+by_test takes t there is = ap (λ b. if b then there else None) is
 
 -- ---- the size of a sample
 

@@ -1,4 +1,4 @@
-ghost use Rattle.iges_solid_cmd.specs.Forms.{command_of, entry_command, entry_number as entry_slot, fits, number, sample_number as sample_slot};
+ghost use Rattle.iges_solid_cmd.specs.Forms.{command_of, entry_command, entry_number as entry_slot, fits, number, sample_number as sample_slot, takes_certificate, takes_file};
 ghost use Rattle.iges_fields.specs.Word.{are_digits};
 ghost use Rattle.std.specs.Char.{is_ascii_digit};
 ghost use Rattle.std.specs.Cmp.Lexicographic.{pointwise};
@@ -28,6 +28,28 @@ pub enum Command {
     File(FileCommand),
     /// The sample solid of so many times so many faces, from 3 to 200.
     Sample(u32),
+}
+
+impl Command {
+    /// Whether the command is for a file (own).
+    pub fn takes_file(self) -> bool
+        ensures { result ≡ takes_file self }
+    {
+        match self {
+            Command::File(_) => true,
+            Command::Sample(_) => false,
+        }
+    }
+
+    /// Whether the command is for a file and a certificate (own).
+    pub fn takes_certificate(self) -> bool
+        ensures { result ≡ takes_certificate self }
+    {
+        match self {
+            Command::File(command) => command == FileCommand::Verify,
+            Command::Sample(_) => false,
+        }
+    }
 }
 
 fn all_digits(word: &[u8]) -> bool

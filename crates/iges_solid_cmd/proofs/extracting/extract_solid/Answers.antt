@@ -1,7 +1,13 @@
 use Rattle.std.proofs.Common.{◌≡◌, refl, inl, inr, [], rules}
+use Rattle.std.proofs.lemmas.Result.{IfOk-weaker}
 use Rattle.iges_write.proofs.FileBack.{one_text}
-use Rattle.solid_extract.specs.Extracted.{IsExtracted}
+use Rattle.solid_extract.specs.Extracted.{IsExtracted, IsRefused}
 use Rattle.iges_solid_cmd.proofs.extracting.extract_solid.Goals as goal
+
+pub returns-in-Err-Refused : goal.returns-in-Err-Refused
+returns-in-Err-Refused c =
+    let fault : IsRefused c.args.file c.args.no c.in-Err-Refused.entity.0 c.in-Err-Refused.reason = search rules in
+    IfOk-weaker c.refused.result _ _ (λ reply exact. inl (c.in-Err-Refused.entity.0, c.in-Err-Refused.reason, fault, exact)) c.refused.ensures
 
 pub returns-in-Err-TooLarge : goal.returns-in-Err-TooLarge
 returns-in-Err-TooLarge c =
