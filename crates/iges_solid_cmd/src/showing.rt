@@ -74,9 +74,7 @@ fn put_shell_at(alloc: Global, out: &mut Out, solid: &Solid, k: u32) -> Result<(
     ensures { OnOk result (out.new ++ shell_lines_from (k + 1) solid.now (drop (k + 1) solid.now.shells) ≡ out.old ++ shell_lines_from k solid.now (drop k solid.now.shells)) }
 {
     let rows = rows(alloc, solid, ShellAt(k))?;
-    let Some(shell) = solid.shell(ShellAt(k)) else {
-        return Ok(());
-    };
+    let shell = solid.shell(ShellAt(k)).unwrap();
     put_shell(out, u64::from(k) + 1, shell, &rows)
 }
 

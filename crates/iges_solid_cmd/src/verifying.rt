@@ -100,11 +100,7 @@ fn judge(alloc: Global, file: File, certificate: &[u8]) -> Result<Reply, NoMemor
 }
 
 /// Whether the certificate of a source is accepted for the file; else the first that keeps it from being so.
-pub fn verify_certificate<C: Source>(
-    alloc: Global,
-    file: File,
-    cert: &mut C,
-) -> Result<Reply, Stop>
+pub fn verify_certificate<C: Source>(alloc: Global, file: File, cert: &mut C) -> Result<Reply, Stop>
     ensures found { IfOk result (IsReply (λ certificate. OfVerify certificate file) (C.left cert.old)) }
     ensures whole { IfOk result (λ reply. ReadsCertificate (C.left cert.new) reply.answer) }
     ensures count { CountAfterCall (C.faults cert.old) (C.faults cert.new) result }
