@@ -1,15 +1,16 @@
 -- Keys that are put at the end where they are new, and their places.
-use Rattle.std.specs.Prelude.{◌≡◌, ℕ, suc, ◌+◌, ◌||◌, Bool, true, false, not, cond, List, [], ◌∷◌, ◌++◌, length, filter, if◌then◌else◌}
+use Rattle.std.specs.Prelude.{◌≡◌, ℕ, suc, ◌+◌, ◌||◌, Bool, true, false, not, cond, List, [], ◌∷◌, ◌++◌, Some, None, if◌then◌else◌}
 use Rattle.std.specs.List.{list_any, position_or_len, prefix_len}
-use Rattle.std.proofs.Common.{refl, sym, ◌∙◌, ap, subst, arith, append_assoc}
+use Rattle.std.proofs.Common.{refl, sym, ◌∙◌, ap, arith, append_assoc}
 use Rattle.std.proofs.lemmas.List.{append-nil}
 use Rattle.indexmap.specs.IndexSet.{insert_key, insert_all}
-use Rattle.solid_data.specs.Ring.{distinct, place_of}
+use Rattle.solid_data.specs.Ring.{place_of}
 use Rattle.solid_data.specs.declared.solid.Edge.{Edge}
 use Rattle.solid_data.specs.declared.solid.EdgeKey.{EdgeKey}
 use Rattle.solid_data.specs.declared.solid.VertexId.{VertexId}
 use Rattle.solid_data.specs.declared.solid.VertexKey.{VertexKey}
 use Rattle.solid_data.specs.SolidData.{same_edge, same_vertex}
+use Rattle.solid_data.proofs.Members.{some_inj}
 use Rattle.brep_walk.specs.Numbered.{Numbered}
 use Rattle.brep_walk.proofs.KnownVertices.{vertex_itself}
 
@@ -29,6 +30,14 @@ module _ {A : Type 0} (same : A → A → Bool) where
       by_test : (b : Bool) → place_of same ys k ≡ position_or_len (same k) ys → (if b then 0 else suc (place_of same ys k)) ≡ cond (not b) (1 + prefix_len (λ x. not (same k x)) ys) 0
       by_test true e = refl
       by_test false e = ap suc e ∙ omega arith
+
+  -- an index that is found is the key's place
+  pub found_at : (ks : List A) (k : A) (i : ℕ) (found : Bool) → Some i ≡ cond found (Some (position_or_len (same k) ks)) None → i ≡ place_of same ks k
+  found_at ks k i true h = some_inj i (position_or_len (same k) ks) h ∙ sym (place_is ks k)
+  found_at ks k i false h = absurd (some_none h)
+    where
+      some_none : Some i ≡ None → ⊥
+      some_none w = cc
 
   -- a key that is there keeps its place
   pub place_stays : (ks more : List A) (k : A) → list_any (same k) ks ≡ true → place_of same (ks ++ more) k ≡ place_of same ks k

@@ -17,3 +17,4 @@ pub mod EdgeEnds
 pub mod KeptLists
 pub mod NamedOnce
 pub mod KeyPlaces
+pub mod KnownEdges

@@ -1,14 +1,16 @@
 -- Edges and vertices as a walk numbers them.
-use Rattle.std.specs.Prelude.{◌≡◌, ℤ, Bool, List, [], ◌∷◌, ◌++◌, flat_map}
+use Rattle.std.specs.Prelude.{◌≡◌, ℤ, pos, Bool, true, List, ◌++◌, flat_map}
+use Rattle.std.specs.List.{list_any, AllByRecursion}
 use Rattle.indexmap.specs.IndexSet.{insert_all}
 use Rattle.iges_params.specs.Contents.{Contents}
 use Rattle.brep_lists.specs.Record.{LoopTuple}
+use Rattle.solid_data.specs.Obligations.{AllHold}
 use Rattle.solid_data.specs.SolidData.{same_edge, same_vertex}
 use Rattle.solid_data.specs.declared.solid.Edge.{Edge}
 use Rattle.solid_data.specs.declared.solid.EdgeKey.{EdgeKey}
 use Rattle.solid_data.specs.declared.solid.VertexKey.{VertexKey}
-use Rattle.brep_walk.specs.Places.{faces, loops, tuples}
-use Rattle.brep_walk.specs.SolidOf.{Keys, edge_named, vertices_named, edge_by}
+use Rattle.brep_walk.specs.Places.{faces, loops, tuples, edge_at, edge_places}
+use Rattle.brep_walk.specs.SolidOf.{Keys, edge_named, ends_named, vertices_named, edge_by}
 
 -- the keys so far, and the edges of those that are edges
 pub record Numbered : Type 0 where
@@ -43,6 +45,19 @@ IsMadeBy keys make x = (later : Keys) → Extends keys later → x ≡ make late
 -- the edges are those of their keys
 abbrev pub AreEdges : Contents → Numbered → Type 0
 AreEdges f n = IsMadeBy n.keys (λ later. flat_map (edge_by f later) n.keys.edges) n.edges
+
+-- these vertices are among those numbered
+abbrev pub AreNumbered : List VertexKey → List VertexKey → Type 0
+AreNumbered numbered keys = AllByRecursion (λ key. list_any (same_vertex key) numbered ≡ true) keys
+
+-- The places of the key's edge hold, and its vertices are numbered.
+pub record IsKnownEdge (f : Contents) (keys : Keys) (key : EdgeKey) : Type 0 where
+  pub holds : AllHold (edge_places f (pos key.«list».0) key.index (edge_at f (pos key.«list».0) key.index))
+  pub vertices : AreNumbered keys.vertices (ends_named (edge_at f (pos key.«list».0) key.index))
+
+-- each edge that is numbered is known
+abbrev pub AreKnownEdges : Contents → Keys → Type 0
+AreKnownEdges f keys = (key : EdgeKey) → list_any (same_edge key) keys.edges ≡ true → IsKnownEdge f keys key
 
 -- The keys that the tuples name have appeared.
 pub record Advances (f : Contents) (ts : List LoopTuple) (old new : Numbered) : Type 0 where

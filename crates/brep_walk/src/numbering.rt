@@ -1,6 +1,6 @@
 //! Edges and vertices by number.
 
-ghost use Rattle.std.specs.Prelude.{◌≡◌, ◌∷◌, ◌++◌, [], IfOk, OnOk, if◌then◌else◌};
+ghost use Rattle.std.specs.Prelude.{◌≡◌, ◌∷◌, ◌++◌, [], IfSome, IfOk, OnOk, is_some, if◌then◌else◌};
 ghost use Rattle.std.specs.List.{list_any};
 ghost use Rattle.indexmap.specs.IndexSet.{insert_key};
 ghost use Rattle.solid_data.specs.Ring.{place_of};
@@ -60,6 +60,17 @@ impl Numbering {
     {
         let (index, _) = self.vertex_keys.insert_full(key)?;
         Ok(VertexId(id_of(index)?))
+    }
+
+    /// The number of an edge, where it appeared before.
+    pub fn known_edge(&self, key: EdgeKey) -> Result<Option<EdgeId>, NoMemory>
+        ensures found { IfOk result (λ known. is_some known ≡ list_any (same_edge key) self.now.keys.edges) }
+        ensures id { IfOk result (λ known. IfSome known (λ id. id.0 ≡ place_of same_edge self.now.keys.edges key)) }
+    {
+        match self.edge_keys.get_index_of(&key) {
+            Some(index) => Ok(Some(EdgeId(id_of(index)?))),
+            None => Ok(None),
+        }
     }
 
     /// The number of an edge. Where it didn't appear before it is the next one, and the edge goes from the one vertex to

@@ -1,23 +1,27 @@
 //! The tuples of loops.
 
-ghost use Rattle.std.specs.Prelude.{◌≡◌, ◌∷◌, ◌<◌, ◌^◌, [], map, length, ℤ, Bool, pos, true, false, All, IsTrue, ◌↔◌, slice_get, IfSome, IfOk, IfErr, OnOk};
+ghost use Rattle.std.specs.Prelude.{◌≡◌, ◌∷◌, ◌<◌, ◌^◌, [], map, length, ℤ, Bool, pos, true, false, Some, All, IsTrue, ◌↔◌, slice_get, IfSome, IfOk, IfErr, OnOk};
+ghost use Rattle.indexmap.specs.IndexSet.{insert_key, insert_all};
 ghost use Rattle.brep_walk.specs.Kept.{AreKept};
 ghost use Rattle.brep_walk.specs.Numbered.{IsMadeBy, keys_after};
-ghost use Rattle.brep_walk.specs.Places.{NamesGeometry, used_places, tuple_at, tuple_places};
-ghost use Rattle.brep_walk.specs.SolidOf.{use_by};
+ghost use Rattle.brep_walk.specs.Places.{NamesGeometry, edge_at, edge_places, used_places, tuple_at, tuple_places};
+ghost use Rattle.brep_walk.specs.SolidOf.{use_by, ends_named};
 ghost use Rattle.brep_walk.specs.Stands.{Stands};
 ghost use Rattle.brep_walk.specs.Walked.{IsFault};
 ghost use Rattle.solid_data.specs.Obligations.{AllHold, after_each};
+ghost use Rattle.solid_data.specs.Ring.{place_of};
+ghost use Rattle.solid_data.specs.SolidData.{same_edge, same_vertex};
 
 use crate::fault::WalkFault;
 use crate::lists::Lists;
 use crate::naming::names_geometry;
 use crate::numbering::Numbering;
 use crate::place::Place;
+use brep_lists::EdgeTuple;
 use brep_loops::{LoopRecord, LoopTuple};
 use iges_fields::EntryNo;
 use iges_params::File;
-use solid_data::{LoopUse, Rule, Uses};
+use solid_data::{EdgeId, EdgeKey, LoopUse, Rule, Uses};
 use std::alloc::Global;
 
 /// Walks tuples: what their lists, indices and curves name, and the uses that they are.
@@ -76,6 +80,30 @@ impl<'a> TupleWalk<'a> {
         Ok(LoopUse::VertexUse { vertex })
     }
 
+    // The number of an edge. Where it is numbered, its curve and its vertices were looked at before.
+    fn edge_number(&mut self, key: EdgeKey, ends: EdgeTuple) -> Result<EdgeId, WalkFault>
+        requires ends { edge_at self.old.lists.file (pos key.«list».0) key.index ≡ Some ends }
+        requires stands { Stands self.old.lists.file self.old.lists self.old.numbering }
+        ensures stands { OnOk result (Stands self.old.lists.file self.new.lists self.new.numbering) }
+        ensures keys { OnOk result (self.new.numbering.keys ≡ record {
+          edges = insert_key same_edge self.old.numbering.keys.edges key;
+          vertices = insert_all same_vertex self.old.numbering.keys.vertices (ends_named (Some ends));
+        }) }
+        ensures id { IfOk result (λ id. id.0 ≡ place_of same_edge self.new.numbering.keys.edges key) }
+        ensures holds { OnOk result (AllHold (edge_places self.old.lists.file (pos key.«list».0) key.index (Some ends))) }
+        ensures fault { IfErr result (IsFault (edge_places self.old.lists.file (pos key.«list».0) key.index (Some ends))) }
+    {
+        if let Some(edge) = self.numbering.known_edge(key)? {
+            return Ok(edge);
+        }
+        let place = Place {
+            entity: key.list,
+            item: key.index,
+        };
+        let (from, to) = self.lists.ends(place, ends)?;
+        Ok(self.numbering.edge(key, from, to)?)
+    }
+
     // The use that a tuple of an edge is.
     fn edge_use(&mut self, at: Place, tuple: &LoopTuple<'_>) -> Result<LoopUse, WalkFault>
         requires edge { tuple.now.is_vertex ≡ false }
@@ -87,12 +115,7 @@ impl<'a> TupleWalk<'a> {
         ensures fault { IfErr result (IsFault (used_places self.old.lists.file (pos at.entity.0) at.item tuple.now.list tuple.now.index false)) }
     {
         let (key, ends) = self.lists.edge(at, tuple.list(), tuple.index())?;
-        let place = Place {
-            entity: key.list,
-            item: key.index,
-        };
-        let (from, to) = self.lists.ends(place, ends)?;
-        let edge = self.numbering.edge(key, from, to)?;
+        let edge = self.edge_number(key, ends)?;
         Ok(LoopUse::EdgeUse {
             edge,
             along: tuple.flag(),

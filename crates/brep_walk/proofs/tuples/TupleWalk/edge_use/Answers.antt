@@ -1,30 +1,20 @@
-use Rattle.std.proofs.Common.{◌≡◌, ◌∙◌, ap, pos, rules, sym}
+use Rattle.std.proofs.Common.{◌≡◌, ◌∙◌, ap, pos, rules}
 use mir.Syntax.{w64}
 use mir.Val.{to_z, of_z}
-use Rattle.solid_data.specs.Obligations.{entry_number}
-use Rattle.brep_walk.specs.SolidOf.{edge_key}
-use Rattle.brep_walk.specs.Places.{edge_at}
-use Rattle.brep_walk.proofs.Used.{edge_made, edges_put, ends_fault}
+use Rattle.brep_walk.specs.SolidOf.{Keys, edge_key}
+use Rattle.brep_walk.proofs.Used.{edge_made, ends_fault}
 use Rattle.brep_walk.proofs.tuples.TupleWalk.edge_use.Goals as goal
 
 pub returns-clause-made : goal.returns-clause-made
 returns-clause-made c later more =
     let a : to_z w64 (of_z w64 c.list.result) ≡ c.args.tuple.now.list = search rules in
     let b : to_z w64 (of_z w64 c.index.result) ≡ c.args.tuple.now.index = search rules in
-    edge_made c.args.tuple.now c.requires.edge _ c.edge-2.new.self.keys later c.in_ok-key.key c.in_ok-edge.edge c.flag.result (c.in_ok-key.ensures.edge.0 ∙ (λ j. edge_key (a j) (b j)))
-    (ap (λ n. n.edges) c.in_ok-edge.ensures.keys) c.in_ok-edge.ensures.id c.flag.ensures more
+    edge_made c.args.tuple.now c.requires.edge _ c.edge_number.new.self.numbering.keys later c.in_ok-key.key c.in_ok-edge.edge c.flag.result (c.in_ok-key.ensures.edge.0 ∙ (λ j. edge_key (a j) (b j)))
+    (ap (λ (k : Keys). k.edges) c.in_ok-edge.ensures.keys) c.in_ok-edge.ensures.id c.flag.ensures more
 
-pub returns-clause-stands : goal.returns-clause-stands
-returns-clause-stands c = record {
-  file = c.in_ok-from.ensures.file ∙ c.in_ok-key.ensures.file;
-  kept = c.in_ok-from.ensures.kept;
-  edges = edges_put c.args.self.now.lists.file (to_z w64 (of_z w64 c.list.result)) (to_z w64 (of_z w64 c.index.result)) c.args.self.now.numbering c.edge-2.new.self c.in_ok-key.key c.in_ok-key.ends c.in_ok-from.from c.in_ok-from.to c.requires.stands.edges
-      c.in_ok-key.ensures.edge.0 c.in_ok-key.ensures.edge.1 c.in_ok-from.ensures.ends.0 c.in_ok-from.ensures.ends.1 c.in_ok-edge.ensures.keys c.in_ok-edge.ensures.edges;
-}
-
-pub returns-in_err-from-clause-fault : goal.returns-in_err-from-clause-fault
-returns-in_err-from-clause-fault c =
+pub returns-in_err-edge-clause-fault : goal.returns-in_err-edge-clause-fault
+returns-in_err-edge-clause-fault c =
     let a : to_z w64 (of_z w64 c.list.result) ≡ c.args.tuple.now.list = search rules in
     let b : to_z w64 (of_z w64 c.index.result) ≡ c.args.tuple.now.index = search rules in
-    ends_fault c.from_residual-in_err-from.result _ c.args.self.now.lists.file _ c.in_ok-key.ensures.file (pos c.args.at.entity.0) c.args.at.item c.args.tuple.now.list c.args.tuple.now.index _ _ a b
-    c.in_ok-key.key c.in_ok-key.ends c.in_ok-key.ensures.edge.0 c.in_ok-key.ensures.edge.1 c.in_ok-key.ensures.holds c.in_err-from.ensures.fault c.from_residual-in_err-from.ensures.1
+    ends_fault c.from_residual-in_err-edge.result _ c.args.self.now.lists.file _ c.in_ok-key.ensures.file (pos c.args.at.entity.0) c.args.at.item c.args.tuple.now.list c.args.tuple.now.index _ _ a b
+    c.in_ok-key.key c.in_ok-key.ends c.in_ok-key.ensures.edge.0 c.in_ok-key.ensures.edge.1 c.in_ok-key.ensures.holds c.in_err-edge.ensures.fault c.from_residual-in_err-edge.ensures.1

@@ -1,0 +1,71 @@
+-- Edges that are numbered were looked at.
+use Rattle.std.specs.Prelude.{◌≡◌, ◌||◌, ◌⊎◌, pos, Bool, true, false, List, [], ◌∷◌, ◌++◌, Some, if◌then◌else◌}
+use Rattle.std.specs.List.{list_any}
+use Rattle.std.proofs.Common.{refl, sym, ◌∙◌, ap, subst, inl, inr}
+use Rattle.std.proofs.lemmas.List.Folds.{list_any-append}
+use Rattle.indexmap.specs.IndexSet.{insert_key, insert_all}
+use Rattle.iges_params.specs.Contents.{Contents}
+use Rattle.brep_lists.specs.declared.edge_list.EdgeTuple.{EdgeTuple}
+use Rattle.solid_data.specs.Obligations.{AllHold}
+use Rattle.solid_data.specs.SolidData.{same_edge, same_vertex}
+use Rattle.solid_data.specs.declared.solid.EdgeKey.{EdgeKey}
+use Rattle.solid_data.specs.declared.solid.VertexKey.{VertexKey}
+use Rattle.brep_walk.specs.Numbered.{AreNumbered, IsKnownEdge, AreKnownEdges}
+use Rattle.brep_walk.specs.Places.{edge_at, edge_places}
+use Rattle.brep_walk.specs.SolidOf.{Keys, ends_named}
+use Rattle.brep_walk.proofs.KeyPlaces.{any_append, inserted, insert_all_more}
+use Rattle.brep_walk.proofs.KnownVertices.{vertex_itself}
+use Rattle.brep_walk.proofs.Numbered.{edge_sound}
+
+-- a key among those with one more
+among : {A : Type 0} (same : A → A → Bool) (ks : List A) (k x : A) → list_any (same x) (insert_key same ks k) ≡ true → (list_any (same x) ks ≡ true) ⊎ (same x k ≡ true)
+among {A} same ks k x = by_test (list_any (same k) ks)
+  where
+    one : (a b : Bool) → (a || (b || false)) ≡ true → (a ≡ true) ⊎ (b ≡ true)
+    one true b h = inl refl
+    one false true h = inr refl
+    one false false h = absurd (let g : false ≡ true = h in cc)
+
+    by_test : (t : Bool) → list_any (same x) (if t then ks else ks ++ k ∷ []) ≡ true → (list_any (same x) ks ≡ true) ⊎ (same x k ≡ true)
+    by_test true h = inl h
+    by_test false h = one (list_any (same x) ks) (same x k) (sym (list_any-append (same x) ks (k ∷ [])) ∙ h)
+
+-- Vertices that are numbered stay so.
+
+still_vertices : (ks more vs : List VertexKey) → AreNumbered ks vs → AreNumbered (ks ++ more) vs
+still_vertices ks more [] h = tt
+still_vertices ks more (v ∷ vs) h = (any_append (same_vertex v) ks more h.0, still_vertices ks more vs h.1)
+
+put_vertices : (ks vs : List VertexKey) → AreNumbered (insert_all same_vertex ks vs) vs
+put_vertices ks [] = tt
+put_vertices ks (v ∷ vs) =
+    let more = insert_all_more same_vertex (insert_key same_vertex ks v) vs in (
+      ap (list_any (same_vertex v)) more.1 ∙ any_append (same_vertex v) (insert_key same_vertex ks v) more.0 (inserted same_vertex vertex_itself ks v),
+      put_vertices (insert_key same_vertex ks v) vs,
+    )
+
+still_known : (f : Contents) (old new : Keys) (more : List VertexKey) → new.vertices ≡ old.vertices ++ more → (key : EdgeKey) → IsKnownEdge f old key → IsKnownEdge f new key
+still_known f old new more grown key h = record {
+  holds = h.holds;
+  vertices = subst (λ ks. AreNumbered ks (ends_named (edge_at f (pos key.«list».0) key.index))) (sym grown) (still_vertices old.vertices more (ends_named (edge_at f (pos key.«list».0) key.index)) h.vertices);
+}
+
+-- one more edge
+pub put_edge : (f : Contents) (old new : Keys) (key : EdgeKey) (ends : EdgeTuple) → AreKnownEdges f old → edge_at f (pos key.«list».0) key.index ≡ Some ends
+    → AllHold (edge_places f (pos key.«list».0) key.index (Some ends))
+    → new ≡ record { edges = insert_key same_edge old.edges key; vertices = insert_all same_vertex old.vertices (ends_named (Some ends)) } → AreKnownEdges f new
+put_edge f old new key ends before at holds is other there =
+    by_case (among same_edge old.edges key other (sym (ap (λ (k : Keys). list_any (same_edge other) k.edges) is) ∙ there))
+  where
+    here : IsKnownEdge f new key
+    here = record {
+      holds = subst (λ o. AllHold (edge_places f (pos key.«list».0) key.index o)) (sym at) holds;
+      vertices = subst (λ o. AreNumbered new.vertices (ends_named o)) (sym at)
+          (subst (λ (k : Keys). AreNumbered k.vertices (ends_named (Some ends))) (sym is) (put_vertices old.vertices (ends_named (Some ends))));
+    }
+
+    by_case : (list_any (same_edge other) old.edges ≡ true) ⊎ (same_edge other key ≡ true) → IsKnownEdge f new other
+    by_case (inl h) =
+        let more = insert_all_more same_vertex old.vertices (ends_named (Some ends)) in
+        still_known f old new more.0 (ap (λ (k : Keys). k.vertices) is ∙ more.1) other (before other h)
+    by_case (inr h) = subst (IsKnownEdge f new) (sym (edge_sound other key h)) here
