@@ -1,4 +1,4 @@
-ghost use Rattle.std.specs.Prelude.{◌≡◌, ◌<◌, ◌^◌, ◌↔◌, ◌∷◌, ◌++◌, [], length, IfOk, IsSome, IfSome, MatchOption, OnOk, OnErr, option_copied, slice_get};
+ghost use Rattle.std.specs.Prelude.{◌≡◌, ◌<◌, ◌≤◌, ◌^◌, ◌↔◌, ◌∷◌, ◌++◌, [], drop, length, IfOk, IsSome, IfSome, OnOk, OnErr, option_copied, slice_get};
 
 use crate::no_memory::NoMemory;
 use std::alloc::Global;
@@ -46,24 +46,15 @@ impl<T: Drop> ItemList<T> {
         Ok(())
     }
 
-    /// Moves the items of another list to the end (own). Where memory runs out, both lists are as they were.
-    pub fn append(&mut self, other: &mut ItemList<T>) -> Result<(), NoMemory>
-        ensures ok { OnOk result (self.new ≡ self.old ++ other.old) }
-        ensures moved { OnOk result (other.new ≡ []) }
-        ensures err { OnErr result ((self.new ≡ self.old) × (other.new ≡ other.old)) }
+    /// The items from a place on, in as much memory as they need; those before them are dropped (own). It errs only where
+    /// memory runs out.
+    pub fn into_rest(mut self, at: usize) -> Result<ItemList<T>, NoMemory>
+        requires { at ≤ length self }
+        ensures { IfOk result (λ rest. rest ≡ drop at self) }
     {
-        self.items.append(&mut other.items)?;
-        Ok(())
-    }
-
-    /// Takes the first item off, in time linear in the length; None where there is none (own).
-    pub fn take_first(&mut self) -> Option<T>
-        ensures { MatchOption result ((self.old ≡ []) × (self.new ≡ [])) (λ item. self.old ≡ item ∷ self.new) }
-    {
-        if self.items.is_empty() {
-            return None;
-        }
-        Some(self.items.remove(0))
+        Ok(ItemList {
+            items: self.items.split_off(at)?,
+        })
     }
 
     /// How many items there are (own).

@@ -1,6 +1,6 @@
 ghost use Rattle.iges_fields.specs.InLine.{is_value, stays_in_line};
 ghost use Rattle.std.specs.List.{list_all};
-ghost use Rattle.std.specs.Prelude.{◌≡◌, [], ◌∷◌, ◌++◌, ◌<◌, ◌^◌, ◌↔◌, IfOk, IfSome, IsSome, IsTrue, MatchOption, OnOk, OnErr, length, slice_get, option_copied};
+ghost use Rattle.std.specs.Prelude.{◌≡◌, [], ◌∷◌, ◌++◌, ◌<◌, ◌≤◌, ◌^◌, ◌↔◌, IfOk, IfSome, IsSome, IsTrue, OnOk, OnErr, drop, length, slice_get, option_copied};
 
 use crate::list::ItemList;
 use crate::no_memory::NoMemory;
@@ -56,20 +56,15 @@ impl Values {
         self.values.push(value)
     }
 
-    /// Takes the first value off, in time linear in the length; None where there is none (own).
-    pub fn take_first(&mut self) -> Option<Value>
-        ensures { MatchOption result ((self.old ≡ []) × (self.new ≡ [])) (λ value. self.old ≡ value ∷ self.new) }
+    /// The values from a place on, in as much memory as they need; those before them are dropped (own). It errs only where
+    /// memory runs out.
+    pub fn into_rest(self, at: usize) -> Result<Values, NoMemory>
+        requires { at ≤ length self }
+        ensures { IfOk result (λ rest. rest ≡ drop at self) }
     {
-        self.values.take_first()
-    }
-
-    /// Moves the values of another list to the end (own). Where memory runs out, both lists are as they were.
-    pub fn append(&mut self, other: &mut Values) -> Result<(), NoMemory>
-        ensures ok { OnOk result (self.new ≡ self.old ++ other.old) }
-        ensures moved { OnOk result (other.new ≡ []) }
-        ensures err { OnErr result ((self.new ≡ self.old) × (other.new ≡ other.old)) }
-    {
-        self.values.append(&mut other.values)
+        Ok(Values {
+            values: self.values.into_rest(at)?,
+        })
     }
 
     /// How many values there are (own).

@@ -45,23 +45,16 @@ fn is_number(n: &i64, value: &Value) -> bool
 }
 
 // A record's values without the type number, which must come first, in as much memory as they need.
-fn without_type(
-    alloc: Global,
-    first: u64,
-    kind: &i64,
-    mut values: Values,
-) -> Result<Values, PassFault>
+fn without_type(first: u64, kind: &i64, values: Values) -> Result<Values, PassFault>
     ensures { Gives result (without_type first kind.now values) }
 {
-    let Some(number) = values.take_first() else {
+    let Some(number) = values.get(0) else {
         return Err(bad(first, Reason::RecordType));
     };
-    if !is_number(kind, &number) {
+    if !is_number(kind, number) {
         return Err(bad(first, Reason::RecordType));
     }
-    let mut others = Values::with_room(alloc, values.len())?;
-    others.append(&mut values)?;
-    Ok(others)
+    Ok(values.into_rest(1)?)
 }
 
 /// How many lines stand above the parameter lines.
@@ -117,7 +110,7 @@ fn used_values(
         width: 64,
     };
     let values = passage_values(alloc, &passage, delims, Reason::RecordValue)?;
-    without_type(alloc, first, &placed.entry.kind, values)
+    without_type(first, &placed.entry.kind, values)
 }
 
 /// The values of the record of the entry with this number, none for type 0, where so many lines stand above the
