@@ -1,8 +1,9 @@
 -- Parts of closed shells make a certificate, whose text is accepted.
-use Rattle.std.specs.Prelude.{◌≡◌, ℕ, ◌+◌, ◌<◌, ◌≤◌, ◌^◌, List, [], ◌∷◌, ◌++◌, length, map, flat_map, All}
-use Rattle.std.specs.List.{AllByRecursion, enumerate_from}
+use Rattle.std.specs.Prelude.{◌≡◌, ℕ, ◌<◌, ◌≤◌, ◌^◌, List, [], ◌∷◌, length, map, flat_map}
+use Rattle.std.specs.List.{enumerate_from}
 use Rattle.std.proofs.Common.{refl, sym, ◌∙◌, ap, subst, arith, length-append, inl, inr}
 use Rattle.std.proofs.lemmas.List.Elements.{All-contains}
+use Rattle.cert_lines.proofs.CutLines.{cut_spelled}
 use Rattle.iges_fields.specs.declared.entry_no.EntryNo.{EntryNo}
 use Rattle.iges_params.specs.Contents.{Contents}
 use Rattle.brep_walk.specs.Places.{places}
@@ -16,7 +17,7 @@ use Rattle.edge_uses.specs.Closed.{IsClosedSolid}
 use Rattle.edge_uses.specs.ShellObligations.{solid_obligations}
 use Rattle.edge_uses.proofs.ClosedLemmas.{closed_is_all_hold}
 use Rattle.edge_uses.proofs.Whole.{vertices_known}
-use Rattle.cert_lines.specs.Line.{CertLine, head, solid, spaced, spelling}
+use Rattle.cert_lines.specs.Line.{head, solid, spaced, spelling}
 use Rattle.cert_lines.specs.Written.{certificate_lines, text_of}
 use Rattle.cert_lines.specs.declared.parts.Certificate.{Certificate}
 use Rattle.topo_certificate.proofs.Short.{length-spaced}
@@ -24,7 +25,7 @@ use Rattle.cert_maker.specs.Accepted.{IsAccepted}
 use Rattle.cert_maker.specs.Parts.{AreParts}
 use Rattle.cert_maker.specs.Certified.{IsCertificate, further_lines}
 use Rattle.cert_maker.proofs.Ready.{closed_is_ready, closed_joins, apart_all}
-use Rattle.cert_maker.proofs.Complete.{shell_small, cut_spelled}
+use Rattle.cert_maker.proofs.Complete.{shell_small}
 use Rattle.cert_maker.proofs.PartLines.{parts_legal}
 
 each_has_one : (shells : List Shell) → ((h : Shell) → Has shells h → 0 < length h.faces) → length shells ≤ length (flat_map (λ (h : Shell). h.faces) shells)

@@ -1,11 +1,7 @@
 -- What is closed has an accepted certificate.
-use Rattle.std.specs.Prelude.{◌≡◌, ◌≢◌, ℕ, zero, suc, ◌+◌, ◌<◌, ◌≤◌, ◌==◌, ◌^◌, List, [], ◌∷◌, ◌++◌, length, map, flat_map, filter_map, decimal, Option, Some, None, slice_get, if◌then◌else◌}
-use Rattle.std.specs.List.{AllByRecursion, cons_option, enumerate_from}
-use Rattle.std.proofs.Common.{refl, sym, ◌∙◌, ap, subst, arith, inl, inr, ⊎_elim, length-append, append_assoc}
-use Rattle.std.proofs.lemmas.Bool.Decides.{eqb_tells}
-use Rattle.std.proofs.lemmas.Fmt.{decimal-digits_of}
-use Rattle.std.specs.Fmt.{digits}
-use Rattle.std.specs.Int.Digits.{digits_of}
+use Rattle.std.specs.Prelude.{◌≡◌, ℕ, zero, suc, ◌+◌, ◌<◌, ◌≤◌, ◌==◌, ◌^◌, List, [], ◌∷◌, ◌++◌, length, map, flat_map, filter_map, Some, slice_get}
+use Rattle.std.specs.List.{AllByRecursion, enumerate_from}
+use Rattle.std.proofs.Common.{refl, sym, ◌∙◌, ap, subst, arith, inl, inr, ⊎_elim, length-append}
 use Rattle.solid_data.specs.SolidData.{SolidData, PlacedLoop, placed_in_face, placed_loops, shell_uses}
 use Rattle.solid_data.specs.declared.solid.LoopAt.{LoopAt}
 use Rattle.solid_data.specs.declared.solid.LoopUse.{LoopUse}
@@ -15,90 +11,37 @@ use Rattle.edge_uses.specs.declared.row.Row.{Row}
 use Rattle.edge_uses.specs.ShellRows.{ShellRows, row_of, loop_rows, point_of, shell_rows}
 use Rattle.std.proofs.lemmas.List.{length-map}
 use Rattle.std.proofs.lemmas.Bool.{eqb-true}
+use Rattle.std.proofs.lemmas.List.FromFn.{length-enumerate_from}
+use Rattle.cert_lines.proofs.CutLines.{cut_spelled}
 use Rattle.edge_uses.specs.Closed.{IsLinked, IsPaired, IsClosedShell, IsClosedSolid, point_count}
-use Rattle.solid_data.proofs.Members.{map_has, get_below, from_flat_map, has_map, Has, All-at, no_longer, count_by-total, Rises, rises_none, has_left, has_right, all_has}
+use Rattle.solid_data.proofs.Members.{map_has, get_below, from_flat_map, has_map, Has, All-at, no_longer, count_by-total, Rises, rises_none, has_left, has_right, all_has, has_get}
 use Rattle.edge_uses.proofs.Counting.{two_rows_each}
 use Rattle.edge_uses.proofs.RowFacts.{loops_below, edges_rise, vertices_rise, edges_known}
+use Rattle.edge_uses.proofs.Adding.{rows_shorter}
+use Rattle.edge_uses.proofs.Few.{part_shorter}
 use Rattle.topo_certificate.proofs.Build.{found_point}
 use Rattle.topo_certificate.proofs.Short.{IsSmall, length-spaced}
 use Rattle.topo_certificate.proofs.Complete.{closed_has_legal}
+use Rattle.topo_certificate.proofs.PointOrder.{faces_of_rows}
 use Rattle.brep_walk.specs.SolidOf.{solid_of}
 use Rattle.solid_data.specs.Numbering.{HasFewParts}
 use Rattle.cert_maker.specs.Laws.{ClosedIsAccepted}
 use Rattle.cert_maker.proofs.Ready.{enum_get, point_is, closed_at, closed_joins, apart_all, closed_is_ready}
 use Rattle.brep_walk.proofs.KnownVertices.{vertices_known}
-use Rattle.cert_maker.proofs.Sound.{has_get, face_count_of}
-use Rattle.cert_lines.specs.Line.{CertLine, head, solid, shell, edge, corner, point, reach, end, words, spaced, spelling, IsShort, HasSpelling, cut_lines, put_before}
-
--- A text without LF is cut behind its LF.
-NoBreak : List ℕ → Type 0
-NoBreak bytes = AllByRecursion (λ b. b ≢ 10) bytes
-
-cut_piece : (text rest : List ℕ) → AllByRecursion (λ b. b ≢ 10) text → cut_lines (text ++ 10 ∷ rest) ≡ (text ++ 10 ∷ []) ∷ cut_lines rest
-cut_piece [] rest h = refl
-cut_piece (b ∷ text) rest h =
-    let later = cut_piece text rest h.1 in
-    ⊎_elim (λ y. absurd (h.0 y.1))
-    (λ n. ap (λ t. if t then (b ∷ []) ∷ cut_lines (text ++ 10 ∷ rest) else put_before b (cut_lines (text ++ 10 ∷ rest))) n.0 ∙ ap (put_before b) later)
-    (eqb_tells b 10)
-
-join_no_break : (xs ys : List ℕ) → AllByRecursion (λ b. b ≢ 10) xs → AllByRecursion (λ b. b ≢ 10) ys → AllByRecursion (λ b. b ≢ 10) (xs ++ ys)
-join_no_break [] ys a b = b
-join_no_break (x ∷ xs) ys a b = (a.0, join_no_break xs ys a.1 b)
-
-map_no_break : (ds : List ℕ) → AllByRecursion (λ b. b ≢ 10) (map (λ d. 48 + d) ds)
-map_no_break [] = tt
-map_no_break (d ∷ ds) = (omega arith, map_no_break ds)
-
-zero_no_break : AllByRecursion (λ b. b ≢ 10) (decimal 0)
-unfolding digits
-zero_no_break = (omega arith, tt)
-
-digits_no_break : (n : ℕ) → n < 10 ^ 9 → AllByRecursion (λ b. b ≢ 10) (decimal n)
-digits_no_break zero lt = zero_no_break
-digits_no_break (suc n) lt = subst (AllByRecursion (λ b. b ≢ 10)) (sym (decimal-digits_of (suc n) (omega arith) (omega (arith, lt)))) (map_no_break (digits_of 10 (suc n)))
-
-spaced_no_break : (ns : List ℕ) → AllByRecursion IsShort ns → AllByRecursion (λ b. b ≢ 10) (spaced ns)
-spaced_no_break [] h = tt
-spaced_no_break (n ∷ ns) h = join_no_break (32 ∷ decimal n) (spaced ns) ((omega arith), digits_no_break n h.0) (spaced_no_break ns h.1)
-
-words_no_break : (l : CertLine) → HasSpelling l → AllByRecursion (λ b. b ≢ 10) (words l)
-words_no_break head h = (omega arith, (omega arith, (omega arith, (omega arith, (omega arith, (omega arith, (omega arith, (omega arith, (omega arith, (omega arith, tt))))))))))
-words_no_break (solid n) h = (omega arith, (omega arith, (omega arith, (omega arith, (omega arith, spaced_no_break (n ∷ []) (h, tt))))))
-words_no_break (shell k rows edges corners faces) h = (omega arith, (omega arith, (omega arith, (omega arith, (omega arith, spaced_no_break (k ∷ rows ∷ edges ∷ corners ∷ faces ∷ []) h)))))
-words_no_break (edge a b) h = (omega arith, spaced_no_break (a ∷ b ∷ []) (h.0, (h.1, tt)))
-words_no_break (corner rs) h = (omega arith, spaced_no_break rs h.0)
-words_no_break (point face l) h = (omega arith, spaced_no_break (face ∷ l ∷ []) (h.0, (h.1, tt)))
-words_no_break (reach r) h = (omega arith, spaced_no_break (r ∷ []) (h, tt))
-words_no_break end h = (omega arith, (omega arith, (omega arith, tt)))
-
--- Spelled lines, one after another, are cut into these lines.
-pub cut_spelled : (ls : List CertLine) → AllByRecursion HasSpelling ls → cut_lines (flat_map spelling ls) ≡ map spelling ls
-cut_spelled [] h = refl
-cut_spelled (l ∷ ls) h =
-    ap cut_lines (append_assoc (words l) (10 ∷ []) (flat_map spelling ls))
-    ∙ (cut_piece (words l) (flat_map spelling ls) (words_no_break l h.0) ∙ ap (λ ys. spelling l ∷ ys) (cut_spelled ls h.1))
+use Rattle.cert_lines.specs.Line.{CertLine, head, solid, spaced, spelling}
 
 -- Sizes.
-
-length-option : (o : Option Row) (rows : List Row) → length (cons_option o rows) ≤ suc (length rows)
-length-option None rows = omega arith
-length-option (Some r) rows = omega arith
-
-length-rows : (s : SolidData) (p : PlacedLoop) (us : List LoopUse) → length (filter_map (row_of s p) us) ≤ length us
-length-rows s p [] = omega arith
-length-rows s p (u ∷ us) = omega (arith, length-option (row_of s p u) (filter_map (row_of s p) us), length-rows s p us)
 
 -- a loop has as many uses as rows, or a use more where it has a point
 loop_size : (s : SolidData) (p : PlacedLoop) (us : List LoopUse) → length (filter_map (row_of s p) us) + length (point_of p us (map (λ (r : Row). r.edge.0) (filter_map (row_of s p) us))) ≤ length us
 loop_size s p [] = omega arith
-loop_size s p (EdgeUse used along ∷ us) = by_rows (map (λ (r : Row). r.edge.0) (filter_map (row_of s p) (EdgeUse used along ∷ us))) (length-rows s p (EdgeUse used along ∷ us))
+loop_size s p (EdgeUse used along ∷ us) = by_rows (map (λ (r : Row). r.edge.0) (filter_map (row_of s p) (EdgeUse used along ∷ us))) (rows_shorter s p (EdgeUse used along ∷ us))
   where
     by_rows : (es : List ℕ) → length (filter_map (row_of s p) (EdgeUse used along ∷ us)) ≤ length (EdgeUse used along ∷ us)
         → length (filter_map (row_of s p) (EdgeUse used along ∷ us)) + length (point_of p (EdgeUse used along ∷ us) es) ≤ length (EdgeUse used along ∷ us)
     by_rows [] h = omega (arith, h)
     by_rows (e ∷ es) h = omega (arith, h)
-loop_size s p (VertexUse v ∷ us) = by_rows (filter_map (row_of s p) us) (length-rows s p us)
+loop_size s p (VertexUse v ∷ us) = by_rows (filter_map (row_of s p) us) (rows_shorter s p us)
   where
     by_rows : (rows : List Row) → length rows ≤ length us → length rows + length (point_of p (VertexUse v ∷ us) (map (λ (r : Row). r.edge.0) rows)) ≤ length (VertexUse v ∷ us)
     by_rows [] h = omega arith
@@ -113,12 +56,6 @@ loops_size s (p ∷ ps) =
 rows_and_points : (s : SolidData) (h : Shell) → length (shell_rows s h).rows + length (shell_rows s h).points ≤ length (shell_uses h)
 unfolding shell_rows
 rows_and_points s h = loops_size s (placed_loops h)
-
--- a part of a whole is no longer
-pub part_of : {A B : Type 0} (g : A → List B) (xs : List A) (x : A) → Has xs x → length (g x) ≤ length (flat_map g xs)
-part_of g [] x h = absurd h
-part_of g (y ∷ xs) x (inl e) = let k : length (g y) ≡ length (g x) = ap (λ z. length (g z)) e in omega (arith, k, length-append (g y) (flat_map g xs))
-part_of g (y ∷ xs) x (inr h) = omega (arith, part_of g xs x h, length-append (g y) (flat_map g xs))
 
 -- the vertices of a closed shell are starts of rows and points
 vertices_size : (d : ShellRows) → Rises d.vertices → AllByRecursion (IsLinked d) d.vertices → length d.vertices ≤ length d.rows + length d.points
@@ -149,15 +86,11 @@ points_low s h x m =
     let g = enum_get 0 f.0.1.loops l.0 l.1 in
     let here : l.0.0 ≡ p.0.at.place = ap (λ (q : PlacedLoop). q.at.place) l.2 in
     let below : g.0 < length f.0.1.loops = get_below f.0.1.loops g.0 l.0.1 g.2 in
-    let few : length (placed_in_face h.flag f.0) ≤ length (placed_loops h) = part_of (placed_in_face h.flag) (enumerate_from 0 h.faces) f.0 f.1 in
-    let sizes : length (placed_in_face h.flag f.0) ≡ length f.0.1.loops = length-map (enumerate_from 0 f.0.1.loops) _ ∙ length-enumerate 0 f.0.1.loops in (
+    let few : length (placed_in_face h.flag f.0) ≤ length (placed_loops h) = part_shorter (placed_in_face h.flag) (enumerate_from 0 h.faces) f.0 f.1 in
+    let sizes : length (placed_in_face h.flag f.0) ≡ length f.0.1.loops = length-map (enumerate_from 0 f.0.1.loops) _ ∙ length-enumerate_from 0 f.0.1.loops in (
       subst (λ (a : LoopAt). a.face.0 < length h.faces) (sym at) low,
       subst (λ (a : LoopAt). a.place < length (placed_loops h)) (sym at) (omega (arith, here, g.1, below, few, sizes)),
     )
-  where
-    length-enumerate : {A : Type 0} (base : ℕ) (xs : List A) → length (enumerate_from base xs) ≡ length xs
-    length-enumerate base [] = refl
-    length-enumerate base (y ∷ xs) = ap suc (length-enumerate (base + 1) xs)
 
 has_place : {A : Type 0} (xs : List A) (x : A) → Has xs x → (k : ℕ) × (slice_get xs k ≡ Some x)
 has_place [] x h = absurd h
@@ -170,16 +103,16 @@ shell_small s n few h here closed =
     let k = has_place s.shells h here in
     let is_closed : IsClosedShell s (0 + k.0) h = closed_at s 0 s.shells closed k.0 h k.1 in
     let both = rows_and_points s h in
-    let uses : length (shell_uses h) ≤ length (flat_map shell_uses s.shells) = part_of shell_uses s.shells h here in
-    let loops : length (placed_loops h) ≤ length (flat_map placed_loops s.shells) = part_of placed_loops s.shells h here in
-    let faces : length h.faces ≤ length (flat_map (λ (x : Shell). x.faces) s.shells) = part_of (λ (x : Shell). x.faces) s.shells h here in
+    let uses : length (shell_uses h) ≤ length (flat_map shell_uses s.shells) = part_shorter shell_uses s.shells h here in
+    let loops : length (placed_loops h) ≤ length (flat_map placed_loops s.shells) = part_shorter placed_loops s.shells h here in
+    let faces : length h.faces ≤ length (flat_map (λ (x : Shell). x.faces) s.shells) = part_shorter (λ (x : Shell). x.faces) s.shells h here in
     let two = two_rows_each d (rises_none d.edges (edges_rise s h)) (edges_known s h) (All-at (IsPaired d) d.edges is_closed.paired) in
     record {
       few = few.few_uses;
       rows = omega (arith, both, uses);
       edges = omega (arith, two, both, uses, few.few_uses);
       vertices = omega (arith, vertices_size d (vertices_rise s h) is_closed.linked, both, uses, few.few_uses);
-      faces = subst (λ m. m < 10 ^ 9) (sym (face_count_of s h)) (omega (arith, faces, few.few_faces));
+      faces = subst (λ m. m < 10 ^ 9) (sym (faces_of_rows s h)) (omega (arith, faces, few.few_faces));
       points = λ x m. let low = points_low s h x m in (omega (arith, low.0, faces, few.few_faces), omega (arith, low.1, loops, few.few_loops));
       shells = omega (arith, few.few_shells);
     }

@@ -1,19 +1,19 @@
 -- The two rows of an edge.
-use Rattle.std.specs.Prelude.{◌≡◌, ◌≢◌, ℕ, ◌+◌, ◌-◌, ◌<◌, ◌≤◌, ◌⊎◌, Bool, true, false, not, List, length, Option, Some, None, slice_get, slice_set, IsSome, MatchOption, All}
+use Rattle.std.specs.Prelude.{◌≡◌, ◌≢◌, ℕ, ◌+◌, ◌-◌, ◌<◌, ◌≤◌, ◌⊎◌, Bool, true, false, List, length, Option, Some, None, slice_get, slice_set, IsSome, MatchOption, All}
 use Rattle.std.specs.List.{AllByRecursion}
 use Rattle.std.proofs.Common.{refl, sym, ◌∙◌, ap, subst, arith, inl, inr, ⊎_elim, get_or}
 use Rattle.solid_data.specs.declared.solid.EdgeId.{EdgeId}
 use Rattle.solid_data.specs.declared.solid.RowId.{RowId}
-use Rattle.solid_data.proofs.Members.{All-at, some_inj, get_below, Has-from_Contains, Has, Contains-from_Has}
+use Rattle.solid_data.proofs.Members.{All-at, some_inj, get_below, Contains-from_Has, has_get}
 use Rattle.solid_data.proofs.ObligationLemmas.{AllByRecursion-weaker}
 use Rattle.std.proofs.lemmas.List.Elements.{All-contains}
+use Rattle.std.proofs.lemmas.Bool.{not-true}
 use Rattle.edge_uses.specs.declared.row.Row.{Row}
 use Rattle.edge_uses.specs.declared.spanning.Span.{Span}
 use Rattle.edge_uses.specs.ShellRows.{ShellRows, AreRows}
 use Rattle.edge_uses.specs.Closed.{AreMates, IsPaired}
 use Rattle.edge_uses.specs.Mates.{ArePaired, RunsOn}
 use Rattle.edge_uses.specs.Ranges.{IsWithin, IsSpanOf}
-use Rattle.edge_uses.proofs.Few.{has_get}
 use Rattle.edge_uses.proofs.Tallies.{set_same, set_other}
 use Rattle.edge_uses.proofs.Cycle.{same_or_not}
 use Rattle.edge_uses.proofs.Turn.{row_of_edge_along}
@@ -81,12 +81,8 @@ mate_against d e r m runs mates =
       row = mates.mate;
       at = mates.at_m;
       edge = ap (λ (x : EdgeId). x.0) (sym mates.one_edge) ∙ (ap (λ (x : Row). x.edge.0) one ∙ runs.edge);
-      along = turned mates.mate.along (sym mates.opposite ∙ (ap (λ (x : Row). x.along) one ∙ runs.along));
+      along = not-true mates.mate.along (sym mates.opposite ∙ (ap (λ (x : Row). x.along) one ∙ runs.along));
     }
-  where
-    turned : (b : Bool) → not b ≡ true → b ≡ false
-    turned true h = sym h
-    turned false h = refl
 
 pub has_mate : (P : RowId → Type 0) (o : Option RowId) (n r : ℕ) → MatchOption o (n ≤ r) P → r < n → IsSome o
 has_mate P None n r h low = absurd (omega (arith, h, low))

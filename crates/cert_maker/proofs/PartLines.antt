@@ -1,31 +1,30 @@
 -- The lines of parts fit.
-use Rattle.std.specs.Prelude.{◌≡◌, ℕ, zero, suc, ◌+◌, ◌-◌, ◌<◌, ◌≤◌, ◌==◌, ◌&&◌, ◌⊎◌, Bool, true, false, List, [], ◌∷◌, ◌++◌, length, map, flat_map, Contains, Option, Some, None, slice_get, option_map}
+use Rattle.std.specs.Prelude.{◌≡◌, ℕ, suc, ◌+◌, ◌-◌, ◌<◌, ◌≤◌, ◌==◌, ◌&&◌, ◌⊎◌, Bool, true, false, List, [], ◌∷◌, ◌++◌, length, map, flat_map, Contains, Some, slice_get, option_map}
 use Rattle.std.specs.List.{AllByRecursion, AllZip, enumerate_from}
 use Rattle.std.proofs.Common.{refl, sym, ◌∙◌, ap, subst, arith, inl, inr, ⊎_elim, append_assoc}
-use Rattle.std.proofs.lemmas.Bool.{eq-eqb, eqb-true}
+use Rattle.std.proofs.lemmas.Bool.{eq-eqb, eqb-true, and_parts}
 use Rattle.std.proofs.lemmas.List.{length-map}
-use Rattle.solid_data.specs.Ring.{next_of_each}
+use Rattle.cert_maker.proofs.Zipping.{zip_length}
+use Rattle.edge_uses.proofs.Turn.{edge_id}
 use Rattle.solid_data.specs.SolidData.{SolidData}
-use Rattle.solid_data.specs.declared.solid.EdgeId.{EdgeId}
 use Rattle.solid_data.specs.declared.solid.LoopAt.{LoopAt}
 use Rattle.solid_data.specs.declared.solid.RowId.{RowId}
 use Rattle.solid_data.specs.declared.solid.Shell.{Shell}
-use Rattle.solid_data.proofs.Members.{Has, Has-from_Contains, Contains-from_Has, Rises, some_inj}
-use Rattle.edge_uses.specs.declared.row.Row.{Row}
-use Rattle.edge_uses.specs.ShellRows.{ShellRows, rows_of, shell_rows}
-use Rattle.edge_uses.specs.Closed.{AreMates, StartsAt, OnFace}
+use Rattle.solid_data.proofs.Members.{Has, Has-from_Contains, Contains-from_Has, Rises}
+use Rattle.edge_uses.specs.ShellRows.{ShellRows, rows_of}
+use Rattle.edge_uses.specs.Closed.{AreMates, StartsAt}
 use Rattle.edge_uses.specs.Mates.{RunsOn}
 use Rattle.vertex_link.specs.Cycles.{IsCycle}
 use Rattle.shell_reach.specs.Reaching.{ReachFrom, ReachesOne, row_numbers}
 use Rattle.cert_lines.specs.Line.{CertLine, shell, edge, corner, point, reach, end, spelling, IsShort, HasSpelling}
 use Rattle.topo_certificate.specs.Legal.{IsLegal, IsLegalBehind}
-use Rattle.topo_certificate.specs.Stand.{stand_behind, FitsLine, IsAbove, first_of, row_named, row_start, row_face, point_named, rows_of_shell, start_count, IsMate, TurnsTo}
+use Rattle.topo_certificate.specs.Stand.{stand_behind, FitsLine, IsAbove, first_of, row_start, row_face, point_named, rows_of_shell, start_count, IsMate, TurnsTo}
 use Rattle.cert_lines.specs.Written.{row_number, edge_line, corner_line, reach_line, shell_line, shell_lines}
 use Rattle.cert_lines.specs.declared.parts.CornerLine.{CornerLine}
 use Rattle.cert_lines.specs.declared.parts.CornerLine.TheVariants.{Cycle, Point}
 use Rattle.cert_lines.specs.declared.parts.ShellPart.{ShellPart}
 use Rattle.topo_certificate.proofs.Short.{IsSmall, IsReadable, readable_edge, readable_corner, readable_point, readable_reach, readable_end, row_short, starts_few}
-use Rattle.topo_certificate.proofs.Build.{Stage, add_edge, add_corner, add_point, add_reach, nothing_due, MatedAt, mates_listed, PointsDiffer, zip_suc, map-suc-append, above_suc, find_some, and_parts, none_start}
+use Rattle.topo_certificate.proofs.Build.{Stage, add_edge, add_corner, add_point, add_reach, nothing_due, MatedAt, mates_listed, PointsDiffer, zip_suc, map-suc-append, above_suc, find_some, none_start}
 use Rattle.topo_certificate.proofs.Complete.{AreReady, Done, begin_shell, any_above, end_fits, ended}
 use Rattle.cert_maker.specs.Parts.{AreItsRows, LiesRound, IsPart, AreParts}
 
@@ -52,9 +51,6 @@ named_rows (r ∷ rows) = ap (λ n. n ∷ map suc (row_numbers rows)) (one_more 
 
 edge_named : (p : RowId × RowId) → edge (suc p.0.0) (suc p.1.0) ≡ edge_line p
 edge_named p = ap (λ n. edge n (suc p.1.0)) (one_more p.0) ∙ ap (edge (row_number p.0)) (one_more p.1)
-
-edge_id : (a b : EdgeId) → a.0 ≡ b.0 → a ≡ b
-edge_id a b h = ap (λ n. record { 0 = n }) h
 
 module _ (s : SolidData) (k : ℕ) (d : ShellRows) (small : IsSmall s d) where
   -- The lines of the edges fit, if those behind them do.
@@ -180,12 +176,6 @@ shell_goes s j part rest lt ready is_part done on =
   where
     regroup : (a b c : List CertLine) → a ++ (b ++ (c ++ rest)) ≡ (a ++ (b ++ c)) ++ rest
     regroup a b c = ap (λ ys. a ++ ys) (sym (append_assoc b c rest)) ∙ sym (append_assoc a (b ++ c) rest)
-
-    zip_length : {A B : Type 0} (R : A → B → Type 0) (xs : List A) (ys : List B) → AllZip R xs ys → length xs ≡ length ys
-    zip_length R [] [] h = refl
-    zip_length R [] (y ∷ ys) h = absurd h
-    zip_length R (x ∷ xs) [] h = absurd h
-    zip_length R (x ∷ xs) (y ∷ ys) h = ap suc (zip_length R xs ys h.1)
 
     counts : IsPart (rows_of_shell s (suc j)) part
         → shell (suc j) (length (rows_of_shell s (suc j)).rows) (length (rows_of_shell s (suc j)).edges) (length (rows_of_shell s (suc j)).vertices) (rows_of_shell s (suc j)).face_count ≡ shell_line (suc j) part

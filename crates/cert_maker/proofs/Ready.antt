@@ -13,18 +13,19 @@ use Rattle.solid_data.specs.declared.solid.Shell.{Shell}
 use Rattle.edge_uses.specs.declared.row.Row.{Row}
 use Rattle.edge_uses.specs.ShellRows.{ShellRows, loop_rows, point_of, rows_of, shell_rows}
 use Rattle.edge_uses.specs.Closed.{IsJoined, IsPaired, IsReached, IsLinked, IsApart, IsClosedShell, IsClosedSolid}
-use Rattle.solid_data.proofs.Members.{all_append, from_flat_map, has_map, some_inj, Has, All-at}
+use Rattle.solid_data.proofs.Members.{all_append, from_flat_map, has_map, some_inj, Has, All-at, has_get}
+use Rattle.solid_data.proofs.Occurring.{numbers_have}
 use Rattle.edge_uses.proofs.FollowRows.{each_is_followed}
 use Rattle.topo_certificate.specs.Stand.{rows_of_shell}
 use Rattle.edge_uses.proofs.RowFacts.{edges_rise, vertices_rise}
-use Rattle.topo_certificate.proofs.Segment.{AreGoodRows, row_has, numbers_have}
-use Rattle.topo_certificate.proofs.Corner.{PairedRows}
-use Rattle.topo_certificate.proofs.Turning.{are_turning}
+use Rattle.edge_uses.proofs.Turn.{PairedRows, are_turning}
+use Rattle.topo_certificate.proofs.Segment.{AreGoodRows, row_has}
 use Rattle.topo_certificate.proofs.Build.{PointsDiffer}
 use Rattle.topo_certificate.proofs.Short.{IsSmall}
 use Rattle.topo_certificate.proofs.Complete.{AreReady}
+use Rattle.topo_certificate.proofs.PointOrder.{faces_of_rows}
 use Rattle.cert_maker.specs.Accepted.{AllJoin}
-use Rattle.cert_maker.proofs.Sound.{AllKnown, good_rows, has_get, face_count_of}
+use Rattle.cert_maker.proofs.Sound.{AllKnown, good_rows}
 
 -- Two loops at one place are one.
 
@@ -94,7 +95,7 @@ shell_ready s k shell small good closed =
       proper = record {
         paired = All-at (IsPaired d) d.edges closed.paired;
         reached = λ f lt. All-at (IsReached d) (numbers_from 0 (length shell.faces)) closed.reached f
-            (subst (Has (numbers_from 0 (length shell.faces))) (zero_more f) (numbers_have 0 (length shell.faces) f (subst (λ n. f < n) (face_count_of s shell) lt)));
+            (subst (Has (numbers_from 0 (length shell.faces))) (zero_more f) (numbers_have 0 (length shell.faces) f (subst (λ n. f < n) (faces_of_rows s shell) lt)));
         linked = All-at (IsLinked d) d.vertices closed.linked;
       };
       turning = are_turning d (paired_rows_of d good closed.paired) good.meet good.exchanged (each_is_followed s shell);

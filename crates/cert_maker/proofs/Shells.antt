@@ -1,16 +1,15 @@
 -- Shell after shell.
-use Rattle.std.specs.Prelude.{◌≡◌, ℕ, ◌+◌, ◌<◌, ◌≤◌, ◌^◌, List, [], ◌∷◌, ◌++◌, length, Some, slice_get, Result, Ok, Err, IfOk, IfErr, OnOk}
+use Rattle.std.specs.Prelude.{◌≡◌, ℕ, ◌+◌, ◌≤◌, List, ◌++◌, length, Some, slice_get, Err}
 use Rattle.std.specs.List.{enumerate_from}
-use Rattle.std.proofs.Common.{refl, sym, ◌∙◌, ap, subst, arith, drop}
+use Rattle.std.proofs.Common.{sym, subst, drop}
+use Rattle.std.proofs.lemmas.List.{drop_all}
 use Rattle.solid_data.specs.SolidData.{SolidData}
-use Rattle.solid_data.specs.Numbering.{IsNumberedSolid}
 use Rattle.solid_data.specs.Obligations.{Obligation, AllHold, FirstFalse, of_each}
 use Rattle.solid_data.specs.declared.solid.Shell.{Shell}
 use Rattle.solid_data.specs.declared.verdict.Failing.{Failing}
 use Rattle.solid_data.proofs.ObligationLemmas.{Remains, Remains-all, Remains-less, Remains-fails, FirstFalse-not_all, FirstFalse-one}
+use Rattle.solid_data.proofs.Members.{split_at}
 use Rattle.edge_uses.specs.ShellObligations.{shell_obligations, solid_obligations, checked_of_shell, checked_obligations}
-use Rattle.edge_uses.proofs.Joins.{drop_past}
-use Rattle.vertex_link.proofs.Starts.{split_at}
 use Rattle.cert_maker.specs.Certified.{IsMakeFault, IsNoMemory, FailsSo}
 use Rattle.cert_maker.specs.declared.fault.MakeFault.{MakeFault}
 use Rattle.cert_maker.specs.declared.fault.MakeFault.TheVariants.{Fails, NoMemory}
@@ -43,7 +42,7 @@ module _ (g : ℕ × Shell → List Obligation) (all : List Obligation) (hs : Li
   shell_fails h NoMemory at r bad = tt
 
   pub all_shells : length hs ≤ k → RemainFrom g all hs k → AllHold all
-  all_shells past r = r.holds (subst (λ xs. AllHold (of_each g (enumerate_from k xs))) (sym (drop_past k hs past)) tt)
+  all_shells past r = r.holds (subst (λ xs. AllHold (of_each g (enumerate_from k xs))) (sym (drop_all k hs past)) tt)
 
 -- A fault where all holds is want of memory.
 pub only_memory : (os : List Obligation) (e : MakeFault) → IsMakeFault os e → AllHold os → IsNoMemory e

@@ -1,10 +1,9 @@
 -- Two lists that are made to agree item by item.
-use Rattle.std.specs.Prelude.{◌≡◌, ℕ, zero, suc, ◌+◌, ◌<◌, ◌≤◌, List, [], ◌∷◌, ◌++◌, length, map, Some, slice_get}
+use Rattle.std.specs.Prelude.{◌≡◌, ℕ, suc, ◌+◌, ◌≤◌, List, [], ◌∷◌, ◌++◌, length, map, Some, slice_get}
 use Rattle.std.specs.List.{AllZip}
-use Rattle.std.proofs.Common.{refl, sym, ◌∙◌, ap, subst, arith, append_assoc, drop}
-use Rattle.std.proofs.lemmas.List.{append-nil}
-use Rattle.edge_uses.proofs.Joins.{drop_past}
-use Rattle.vertex_link.proofs.Starts.{split_at}
+use Rattle.std.proofs.Common.{refl, sym, ◌∙◌, ap, subst, append_assoc, drop}
+use Rattle.std.proofs.lemmas.List.{append-nil, drop_all}
+use Rattle.solid_data.proofs.Members.{split_at}
 
 -- Whatever agrees with the items that are left, from i on, agrees behind these with all.
 abbrev pub AgreeUpTo : {A B : Type 0} → (A → B → Type 0) → List A → ℕ → List B → Type 0
@@ -18,7 +17,7 @@ agree_more R xs i x y old new at here made agree rest h =
     subst (AllZip R xs) (sym (ap (λ ys. ys ++ rest) made ∙ append_assoc old (y ∷ []) rest)) (agree (y ∷ rest) (subst (λ zs. AllZip R zs (y ∷ rest)) (sym (split_at xs i x at)) (here, h)))
 
 pub agree_done : {A B : Type 0} (R : A → B → Type 0) (xs : List A) (i : ℕ) (made : List B) → length xs ≤ i → AgreeUpTo R xs i made → AllZip R xs made
-agree_done R xs i made past agree = subst (AllZip R xs) (append-nil made) (agree [] (subst (λ zs. AllZip R zs []) (sym (drop_past i xs past)) tt))
+agree_done R xs i made past agree = subst (AllZip R xs) (append-nil made) (agree [] (subst (λ zs. AllZip R zs []) (sym (drop_all i xs past)) tt))
 
 pub zip_map : {A B C : Type 0} (R : A → B → Type 0) (S : A → C → Type 0) (f : B → C) → ((x : A) (y : B) → R x y → S x (f y)) → (xs : List A) (ys : List B) → AllZip R xs ys → AllZip S xs (map f ys)
 zip_map R S f each [] [] h = tt
@@ -26,7 +25,8 @@ zip_map R S f each [] (y ∷ ys) h = absurd h
 zip_map R S f each (x ∷ xs) [] h = absurd h
 zip_map R S f each (x ∷ xs) (y ∷ ys) h = (each x y h.0, zip_map R S f each xs ys h.1)
 
-pub there : {A : Type 0} (xs : List A) (i : ℕ) → i < length xs → (x : A) × (slice_get xs i ≡ Some x)
-there [] i low = absurd (omega (arith, low))
-there (x ∷ xs) zero low = (x, refl)
-there (x ∷ xs) (suc i) low = there xs i (omega (arith, low))
+pub zip_length : {A B : Type 0} (R : A → B → Type 0) (xs : List A) (ys : List B) → AllZip R xs ys → length xs ≡ length ys
+zip_length R [] [] h = refl
+zip_length R [] (y ∷ ys) h = absurd h
+zip_length R (x ∷ xs) [] h = absurd h
+zip_length R (x ∷ xs) (y ∷ ys) h = ap suc (zip_length R xs ys h.1)

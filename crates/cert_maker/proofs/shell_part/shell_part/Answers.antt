@@ -1,13 +1,13 @@
-use Rattle.std.proofs.Common.{◌≡◌, sym, ◌∙◌, ap, subst, refl}
+use Rattle.std.proofs.Common.{sym, ◌∙◌, ap, subst, refl}
 use Rattle.std.proofs.lemmas.Result.{err_from_is_err_and}
+use Rattle.topo_certificate.proofs.PointOrder.{faces_of_rows}
 use Rattle.solid_data.specs.Obligations.{AllHold}
 use Rattle.solid_data.proofs.Members.{get_below}
-use Rattle.edge_uses.specs.ShellRows.{ShellRows, rows_of, shell_rows}
+use Rattle.edge_uses.specs.ShellRows.{ShellRows, shell_rows}
 use Rattle.edge_uses.specs.ShellObligations.{pair_obligations, apart_obligations}
 use Rattle.cert_maker.specs.Certified.{IsMakeFault}
 use Rattle.cert_maker.specs.Parts.{IsPart}
 use Rattle.cert_maker.specs.declared.fault.MakeFault.TheVariants.{Fails}
-use Rattle.cert_maker.proofs.Sound.{face_count_of}
 use Rattle.cert_maker.proofs.OneShell.{joined_not, paired_not, reached_not, linked_not, apart_not, all_hold, same_rows}
 use Rattle.cert_maker.proofs.shell_part.shell_part.Goals as goal
 
@@ -27,7 +27,7 @@ returns-in_err-paired-clause-fails c =
 
 pub reached-requires : goal.reached-requires
 reached-requires c =
-    ap (λ (d : ShellRows). d.face_count) (c.in_ok-paired.ensures.rows ∙ same_rows c.args.solid.now c.args.at.0 c.args.shell.now c.in_ok-rows.rows c.in_ok-rows.ensures c.requires.at) ∙ face_count_of c.args.solid.now c.args.shell.now
+    ap (λ (d : ShellRows). d.face_count) (c.in_ok-paired.ensures.rows ∙ same_rows c.args.solid.now c.args.at.0 c.args.shell.now c.in_ok-rows.rows c.in_ok-rows.ensures c.requires.at) ∙ faces_of_rows c.args.solid.now c.args.shell.now
 
 pub returns-in_err-reach-clause-fails : goal.returns-in_err-reach-clause-fails
 returns-in_err-reach-clause-fails c =
