@@ -7,6 +7,7 @@ use Rattle.std.proofs.lemmas.Grind.{flat_map-append}
 use Rattle.std.proofs.lemmas.List.Elements.{filter-append}
 use Rattle.std.proofs.lemmas.List.{drop_all, append-nil}
 use Rattle.std.proofs.lemmas.Bool.{eqb-true}
+use Rattle.std.proofs.lemmas.Option.{same_Some, none-some}
 use Rattle.solid_data.specs.Ring.{numbers_from, distinct}
 use Rattle.solid_data.specs.Numbering.{IsNumberedSolid}
 use Rattle.solid_data.specs.Obligations.{FirstNot}
@@ -15,7 +16,7 @@ use Rattle.solid_data.specs.declared.solid.FaceUse.{FaceUse}
 use Rattle.solid_data.specs.declared.solid.Loop.{Loop}
 use Rattle.solid_data.specs.declared.solid.LoopUse.{LoopUse}
 use Rattle.solid_data.specs.declared.solid.Shell.{Shell}
-use Rattle.solid_data.proofs.Members.{some_inj, Has, Has-from_Contains, Contains-from_Has, Rises, all_has, has_get, All-from, get_some}
+use Rattle.solid_data.proofs.Members.{Has, Has-from_Contains, Contains-from_Has, Rises, all_has, has_get, All-from, get_some}
 use Rattle.solid_data.proofs.Occurring.{occurs, number_below, number_within}
 use Rattle.solid_data.proofs.Keys.{to_distinct, from_distinct}
 use Rattle.edge_uses.specs.Before.{AreBelow, above_of, loop_vertices, face_vertices, faces_vertices}
@@ -68,7 +69,7 @@ shell_flat s h = faces_flat s h.flag 0 h.faces
 
 pub shells_more : (s : SolidData) (hs : List Shell) (k : ℕ) (h : Shell) → slice_get hs k ≡ Some h → flat_map (shell_vertices s) (take (k + 1) hs) ≡ flat_map (shell_vertices s) (take k hs) ++ shell_vertices s h
 shells_more s [] k h at = absurd cc
-shells_more s (x ∷ hs) zero h at = append-nil (shell_vertices s x) ∙ ap (λ y. shell_vertices s y) (some_inj x h at)
+shells_more s (x ∷ hs) zero h at = append-nil (shell_vertices s x) ∙ ap (λ y. shell_vertices s y) (same_Some x h at)
 shells_more s (x ∷ hs) (suc k) h at =
     let e : suc k + 1 ≡ suc (k + 1) = omega arith in
     ap (λ n. flat_map (shell_vertices s) (take n (x ∷ hs))) e
@@ -206,7 +207,7 @@ rises (x ∷ xs) h = (first xs (λ k lt. h k lt), rises xs later)
             subst (λ n. slice_index (z ∷ ys) k < slice_index (x ∷ z ∷ ys) n) f (subst (λ n. slice_index (z ∷ ys) k < slice_index (x ∷ y ∷ z ∷ ys) n) e h)
 
 above_last : (x : ℕ) (xs : List ℕ) (last : ℕ) → Rises (x ∷ xs) → slice_get (x ∷ xs) (length xs) ≡ Some last → (above_of (x ∷ xs) ≡ last + 1) × Has (x ∷ xs) last
-above_last x [] last h e = let same : x ≡ last = some_inj x last e in (omega (arith, same), inl same)
+above_last x [] last h e = let same : x ≡ last = same_Some x last e in (omega (arith, same), inl same)
 above_last x (y ∷ ys) last h e =
     let later = above_last y ys last h.1 e in
     let lt : x < last = all_has (λ z. x < z) (y ∷ ys) last h.0 later.1 in
@@ -224,10 +225,7 @@ none_above (x ∷ xs) e =
     let n : suc (length xs) - 1 ≡ length xs = omega arith in
     let there = get_some (x ∷ xs) (length xs) (omega arith) in
     let gone : slice_get (x ∷ xs) (length xs) ≡ None = subst (λ k. slice_get (x ∷ xs) k ≡ None) n e in
-    absurd (some_none there.0 (sym there.1 ∙ gone))
-  where
-    some_none : (y : ℕ) → Some y ≡ None → ⊥
-    some_none y h = cc
+    absurd (none-some there.0 (sym gone ∙ there.1))
 
 -- Whether the next shell shares one.
 
@@ -237,14 +235,14 @@ apart_below s k n v h le c = let lt : v < n = (h v).0 c in omega (arith, lt, le)
 pub none_shared : (s : SolidData) (k n least : ℕ) (vs : List ℕ) → IsStrictlyIncreasing vs → AreBelow s k n → slice_get vs 0 ≡ Some least → n ≤ least → AllByRecursion (IsApart s k) vs
 none_shared s k n least [] rise h e le = tt
 none_shared s k n least (v ∷ vs) rise h e le =
-    let same : v ≡ least = some_inj v least e in
+    let same : v ≡ least = same_Some v least e in
     let r = rises (v ∷ vs) rise in
     (apart_below s k n v h (omega (arith, same, le)), All-from (IsApart s k) vs (λ x m. let lt : v < x = all_has (λ z. v < z) vs x r.0 m in apart_below s k n x h (omega (arith, same, le, lt))))
 
 pub least_shared : (s : SolidData) (k n least : ℕ) (vs : List ℕ) → AreBelow s k n → slice_get vs 0 ≡ Some least → least < n → FirstNot (IsApart s k) vs least
 least_shared s k n least [] h e lt = absurd cc
 least_shared s k n least (v ∷ vs) h e lt =
-    let same : v ≡ least = some_inj v least e in
+    let same : v ≡ least = same_Some v least e in
     inl ((λ apart. apart ((h v).1 (omega (arith, same, lt)))), sym same)
 
 pub no_vertex : (s : SolidData) (k : ℕ) (vs : List ℕ) → slice_get vs 0 ≡ None → AllByRecursion (IsApart s k) vs

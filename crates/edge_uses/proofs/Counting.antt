@@ -3,10 +3,11 @@ use Rattle.std.specs.Prelude.{◌≡◌, ℕ, zero, suc, ◌+◌, ◌*◌, ◌�
 use Rattle.std.specs.List.{AllByRecursion}
 use Rattle.std.proofs.Common.{refl, sym, ◌∙◌, ap, subst, arith, inl, inr, ⊎_elim}
 use Rattle.std.proofs.lemmas.Bool.Decides.{eqb_tells}
+use Rattle.std.proofs.lemmas.Option.{same_Some}
 use Rattle.edge_uses.specs.declared.row.Row.{Row}
 use Rattle.edge_uses.specs.ShellRows.{ShellRows}
 use Rattle.edge_uses.specs.Closed.{row_count}
-use Rattle.solid_data.proofs.Members.{some_inj, Has, NoRepeat, total, count_by-total, total-plus, total-zero, total-same, all_two, all_of_two}
+use Rattle.solid_data.proofs.Members.{Has, NoRepeat, total, count_by-total, total-plus, total-zero, total-same, all_two, all_of_two}
 
 -- a row that passes is there where one is counted
 pub found_row : (p : Row → Bool) (rows : List Row) → 1 ≤ total (λ x. cond (p x) 1 0) rows → (n : ℕ) × (r : Row) × (slice_get rows n ≡ Some r) × (p r ≡ true)
@@ -100,7 +101,7 @@ paired_by_count d es none twice each e m =
 pub counted : (p : Row → Bool) (rows : List Row) (n : ℕ) (r : Row) → slice_get rows n ≡ Some r → p r ≡ true → 1 ≤ total (λ x. cond (p x) 1 0) rows
 counted p [] n r at passes = absurd cc
 counted p (x ∷ rows) zero r at passes =
-    let h : ◌≡◌ {A = ℕ} (cond (p x) 1 0) 1 = ap (λ b. cond b 1 0) (ap p (some_inj x r at) ∙ passes) in omega (arith, h)
+    let h : ◌≡◌ {A = ℕ} (cond (p x) 1 0) 1 = ap (λ b. cond b 1 0) (ap p (same_Some x r at) ∙ passes) in omega (arith, h)
 counted p (x ∷ rows) (suc n) r at passes = omega (arith, counted p rows n r at passes)
 
 -- where one row passes, it stands at one place
@@ -109,10 +110,10 @@ pub one_place : (p : Row → Bool) (rows : List Row) → total (λ x. cond (p x)
 one_place p [] one n m a b at_n at_m yes_a yes_b = absurd cc
 one_place p (x ∷ rows) one zero zero a b at_n at_m yes_a yes_b = refl
 one_place p (x ∷ rows) one zero (suc m) a b at_n at_m yes_a yes_b =
-    let h : ◌≡◌ {A = ℕ} (cond (p x) 1 0) 1 = ap (λ t. cond t 1 0) (ap p (some_inj x a at_n) ∙ yes_a) in
+    let h : ◌≡◌ {A = ℕ} (cond (p x) 1 0) 1 = ap (λ t. cond t 1 0) (ap p (same_Some x a at_n) ∙ yes_a) in
     absurd (omega (arith, h, one, counted p rows m b at_m yes_b))
 one_place p (x ∷ rows) one (suc n) zero a b at_n at_m yes_a yes_b =
-    let h : ◌≡◌ {A = ℕ} (cond (p x) 1 0) 1 = ap (λ t. cond t 1 0) (ap p (some_inj x b at_m) ∙ yes_b) in
+    let h : ◌≡◌ {A = ℕ} (cond (p x) 1 0) 1 = ap (λ t. cond t 1 0) (ap p (same_Some x b at_m) ∙ yes_b) in
     absurd (omega (arith, h, one, counted p rows n a at_n yes_a))
 one_place p (x ∷ rows) one (suc n) (suc m) a b at_n at_m yes_a yes_b =
     let rest = counted p rows n a at_n yes_a in

@@ -3,11 +3,12 @@ use Rattle.std.specs.Prelude.{◌≡◌, ◌≢◌, ℕ, zero, suc, ◌<◌, ◌
 use Rattle.std.specs.List.{AllByRecursion, AllZip}
 use Rattle.std.proofs.Common.{refl, sym, ◌∙◌, ap, subst, arith, inl, inr, ⊎_elim}
 use Rattle.std.proofs.lemmas.Bool.Decides.{eqb_tells}
+use Rattle.std.proofs.lemmas.Option.{same_Some}
 use Rattle.solid_data.specs.Chain.{Steps, LeadsTo}
 use Rattle.edge_uses.specs.declared.row.Row.{Row}
 use Rattle.edge_uses.specs.ShellRows.{ShellRows}
 use Rattle.edge_uses.specs.Closed.{Turns, StartsAt, IsCorner}
-use Rattle.solid_data.proofs.Members.{some_inj, Has, NoRepeat, All-from}
+use Rattle.solid_data.proofs.Members.{Has, NoRepeat, All-from}
 use Rattle.solid_data.proofs.Trail.{Trail, next_on, no_repeat, trail_keeps}
 
 pub same_or_not : (a b : ℕ) → (a ≡ b) ⊎ (a ≢ b)
@@ -44,12 +45,12 @@ after_other : (v : ℕ) (y : Row) (rows : List Row) → y.from.0 ≢ v → First
 after_other v y rows ne rest = (suc rest.0, rest.1, above)
   where
     above : (x : ℕ) (b : Row) → slice_get (y ∷ rows) x ≡ Some b → b.from.0 ≡ v → suc rest.0 ≤ x
-    above zero b h k = absurd (ne (ap (λ (r : Row). r.from.0) (some_inj y b h) ∙ k))
+    above zero b h k = absurd (ne (ap (λ (r : Row). r.from.0) (same_Some y b h) ∙ k))
     above (suc x) b h k = omega (arith, rest.2 x b h k)
 
 first_start : (v : ℕ) (rows : List Row) (k : ℕ) (row : Row) → slice_get rows k ≡ Some row → row.from.0 ≡ v → FirstStart v rows
 first_start v [] k row at e = absurd (let h : None ≡ Some row = at in cc)
-first_start v (y ∷ rows) zero row at e = (zero, (y, refl, ap (λ (r : Row). r.from.0) (some_inj y row at) ∙ e), λ x b h k. omega arith)
+first_start v (y ∷ rows) zero row at e = (zero, (y, refl, ap (λ (r : Row). r.from.0) (same_Some y row at) ∙ e), λ x b h k. omega arith)
 first_start v (y ∷ rows) (suc k) row at e = ⊎_elim (λ same. (zero, (y, refl, same.1), λ x b h k. omega arith)) (λ other. after_other v y rows other.1 (first_start v rows k row at e)) (eqb_tells y.from.0 v)
 
 -- a cycle of turns: each row of the vertex, once, from the least on

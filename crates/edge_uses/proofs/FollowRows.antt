@@ -2,6 +2,7 @@
 use Rattle.std.specs.Prelude.{◌≡◌, ℕ, ◌+◌, ◌<◌, Bool, true, false, List, [], ◌∷◌, length, flat_map, reverse, Some, slice_get, if◌then◌else◌}
 use Rattle.std.proofs.Common.{refl, ◌∙◌, arith, inl, inr, ⊎_elim, length-append}
 use Rattle.std.proofs.lemmas.List.{length-reverse}
+use Rattle.std.proofs.lemmas.Option.{slice_get_within}
 use Rattle.edge_uses.proofs.ClosedLemmas.{length-next}
 use Rattle.solid_data.specs.Ring.{next_of_each, previous_of_each, numbers_from}
 use Rattle.solid_data.specs.SolidData.{SolidData, PlacedLoop, placed_loops}
@@ -9,7 +10,7 @@ use Rattle.solid_data.specs.declared.solid.Shell.{Shell}
 use Rattle.edge_uses.specs.declared.row.Row.{Row}
 use Rattle.edge_uses.specs.ShellRows.{ShellRows, loop_rows, follows_from, shell_rows}
 use Rattle.edge_uses.specs.Closed.{Follows}
-use Rattle.solid_data.proofs.Members.{has_append, get_below, Has, has_get, get_some, has_reverse}
+use Rattle.solid_data.proofs.Members.{has_append, Has, has_get, get_some, has_reverse}
 use Rattle.solid_data.proofs.Occurring.{number_below, length-numbers}
 
 has_next : (xs : List ℕ) (z : ℕ) → Has (next_of_each xs) z → Has xs z
@@ -57,7 +58,7 @@ each_is_followed s shell m a at =
     let rows : List Row = flat_map (loop_rows s) (placed_loops shell) in
     let follows : List ℕ = follows_from s 0 (placed_loops shell) in
     let long = length-follows s 0 (placed_loops shell) in
-    let low = get_below rows m a at in
+    let low = slice_get_within rows m a at in
     let t = get_some follows m (omega (arith, long, low)) in
     let below = follows_below s 0 (placed_loops shell) t.0 (has_get follows m t.0 t.1) in
     let b = get_some rows t.0 (omega (arith, below)) in

@@ -2,7 +2,7 @@
 use Rattle.std.specs.Prelude.{◌≡◌, ◌<◌, ◌⊎◌, ℕ, zero, suc, Bool, true, false, not, List, [], ◌∷◌, ◌++◌, length, Some, slice_get, Contains, if◌then◌else◌, All}
 use Rattle.std.specs.List.{AllByRecursion}
 use Rattle.std.proofs.Common.{refl, sym, ◌∙◌, ap, subst, arith, inl, inr, ⊎_elim, get_or}
-use Rattle.std.proofs.lemmas.Option.{slice_get-get_or}
+use Rattle.std.proofs.lemmas.Option.{slice_get-get_or, same_Some}
 use Rattle.edge_uses.specs.declared.row.Row.{Row}
 use Rattle.edge_uses.specs.declared.tally.Seen.{Seen}
 use Rattle.edge_uses.specs.ShellRows.{ShellRows}
@@ -11,13 +11,13 @@ use Rattle.edge_uses.specs.Mates.{ArePaired, RunsOn}
 use Rattle.edge_uses.specs.Tally.{seen_of, IsSeen, IsTally}
 use Rattle.edge_uses.specs.Ranges.{IsWithin}
 use Rattle.edge_uses.specs.declared.spanning.Span.{Span}
-use Rattle.solid_data.proofs.Members.{some_inj, Has-from_Contains, All-at}
+use Rattle.solid_data.proofs.Members.{Has-from_Contains, All-at}
 use Rattle.edge_uses.proofs.Joins.{at_place}
 use Rattle.edge_uses.proofs.Steps.{default_apart}
 use Rattle.edge_uses.proofs.Turn.{edge_id}
 
 pub get_pushed : (xs : List ℕ) (m r k : ℕ) → slice_get (xs ++ m ∷ []) r ≡ Some k → (slice_get xs r ≡ Some k) ⊎ ((r ≡ length xs) × (m ≡ k))
-get_pushed [] m zero k h = inr (refl, some_inj m k h)
+get_pushed [] m zero k h = inr (refl, same_Some m k h)
 get_pushed [] m (suc r) k h = absurd cc
 get_pushed (x ∷ xs) m zero k h = inl h
 get_pushed (x ∷ xs) m (suc r) k h = ⊎_elim (λ a. inl a) (λ b. inr (ap suc b.0, b.1)) (get_pushed xs m r k h)

@@ -2,6 +2,7 @@
 use Rattle.std.specs.Prelude.{◌≡◌, ℕ, ◌+◌, ◌<◌, Bool, true, false, List, [], ◌∷◌, length, map, flat_map, Option, Some, None, slice_get}
 use Rattle.std.specs.List.{AllByRecursion, enumerate_from}
 use Rattle.std.proofs.Common.{refl, arith, inl, inr}
+use Rattle.std.proofs.lemmas.Option.{slice_get_within}
 use Rattle.solid_data.specs.Ring.{numbers_from}
 use Rattle.solid_data.specs.SolidData.{SolidData, PlacedLoop, placed_in_face, placed_loops, shell_uses, shell_edges, shell_vertices, edge_used, ends_of, vertices_used, same_flag, occurring}
 use Rattle.solid_data.specs.declared.solid.Edge.{Edge}
@@ -13,7 +14,7 @@ use Rattle.solid_data.specs.declared.solid.LoopUse.TheVariants.{EdgeUse, VertexU
 use Rattle.solid_data.specs.declared.solid.Shell.{Shell}
 use Rattle.edge_uses.specs.declared.row.Row.{Row}
 use Rattle.edge_uses.specs.ShellRows.{row_of_edge, row_of, loop_rows, point_of, shell_rows}
-use Rattle.solid_data.proofs.Members.{Has, has_flat_map, all_flat_map, OptionAll, all_filter_map, get_below, all_has, all_map, Rises}
+use Rattle.solid_data.proofs.Members.{Has, has_flat_map, all_flat_map, OptionAll, all_filter_map, all_has, all_map, Rises}
 use Rattle.solid_data.proofs.Occurring.{occurs, occurring_rises, numbers_rise, VerticesKnown}
 
 -- what holds of the row of each use holds of each row
@@ -32,8 +33,8 @@ edges_known s shell = rows_all (λ (r : Row). Has (occurring (numbers_from 0 (le
   where
     of_edge : (p : PlacedLoop) (edge : EdgeId) (along : Bool) (o : Option Edge) → slice_get s.edges edge.0 ≡ o → Has (shell_edges shell) edge.0 → OptionAll (λ (r : Row). Has (occurring (numbers_from 0 (length s.edges)) (shell_edges shell)) r.edge.0) (row_of_edge p.at edge along o)
     of_edge p edge along None e m = tt
-    of_edge p edge true (Some x) e m = occurs (length s.edges) (shell_edges shell) edge.0 (get_below s.edges edge.0 x e) m
-    of_edge p edge false (Some x) e m = occurs (length s.edges) (shell_edges shell) edge.0 (get_below s.edges edge.0 x e) m
+    of_edge p edge true (Some x) e m = occurs (length s.edges) (shell_edges shell) edge.0 (slice_get_within s.edges edge.0 x e) m
+    of_edge p edge false (Some x) e m = occurs (length s.edges) (shell_edges shell) edge.0 (slice_get_within s.edges edge.0 x e) m
 
     use_known : (p : PlacedLoop) (u : LoopUse) → Has (placed_loops shell) p → Has p.loop.uses u → OptionAll (λ (r : Row). Has (occurring (numbers_from 0 (length s.edges)) (shell_edges shell)) r.edge.0) (row_of s p u)
     use_known p (EdgeUse edge along) m k =

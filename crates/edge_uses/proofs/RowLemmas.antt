@@ -4,6 +4,7 @@ use Rattle.std.specs.List.{AllByRecursion, cons_option}
 use Rattle.std.proofs.Common.{refl, sym, ◌∙◌, ap, subst, arith, length-append, append_assoc}
 use Rattle.std.proofs.lemmas.List.{map-append, reverse-append, reverse-reverse, get_or-append-add, length-map}
 use Rattle.std.proofs.Math.ListN.{get_or-append}
+use Rattle.std.proofs.lemmas.Option.{same_Some}
 use Rattle.solid_data.specs.Ring.{next_of_each, previous_of_each, numbers_from}
 use Rattle.solid_data.specs.SolidData.{SolidData, PlacedLoop, placed_loops, same_flag}
 use Rattle.solid_data.specs.declared.solid.Edge.{Edge}
@@ -15,7 +16,6 @@ use Rattle.solid_data.specs.declared.solid.Shell.{Shell}
 use Rattle.edge_uses.specs.declared.row.Row.{Row}
 use Rattle.edge_uses.specs.ShellRows.{row_of_edge, row_of, loop_rows, follows_from, shell_rows, EndsMeet}
 use Rattle.edge_uses.specs.Closed.{begin_of, start_of, end_of, IsJoined}
-use Rattle.solid_data.proofs.Members.{some_inj}
 
 -- Chains of things with a start and an end.
 
@@ -178,12 +178,12 @@ follows_read s f g before (p ∷ ps) each =
 
 slice_get-map : (f : Row → ℕ) (rows : List Row) (n : ℕ) (r : Row) → slice_get rows n ≡ Some r → slice_index (map f rows) n ≡ f r
 slice_get-map f [] n r h = absurd (cc)
-slice_get-map f (x ∷ rows) zero r h = ap f (some_inj x r h)
+slice_get-map f (x ∷ rows) zero r h = ap f (same_Some x r h)
 slice_get-map f (x ∷ rows) (suc n) r h = slice_get-map f rows n r h
 
 slice_index-map : (g : ℕ → ℕ) (ns : List ℕ) (n m : ℕ) → slice_get ns n ≡ Some m → slice_index (map g ns) n ≡ g m
 slice_index-map g [] n m h = absurd (cc)
-slice_index-map g (x ∷ ns) zero m h = ap g (some_inj x m h)
+slice_index-map g (x ∷ ns) zero m h = ap g (same_Some x m h)
 slice_index-map g (x ∷ ns) (suc n) m h = slice_index-map g ns n m h
 
 -- what g tells of a row f tells of the row that follows it

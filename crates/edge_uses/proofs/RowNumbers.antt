@@ -4,8 +4,9 @@ use Rattle.std.proofs.Common.{refl, sym, ◌∙◌, ap, subst, arith, inl, inr}
 use Rattle.std.proofs.lemmas.Bool.{eq-eqb}
 use Rattle.std.proofs.lemmas.Bool.Decides.{eqb_tells}
 use Rattle.std.proofs.lemmas.List.{map-append}
+use Rattle.std.proofs.lemmas.Option.{same_Some}
 use Rattle.solid_data.specs.declared.solid.RowId.{RowId}
-use Rattle.solid_data.proofs.Members.{some_inj, Has, NoRepeat, total}
+use Rattle.solid_data.proofs.Members.{Has, NoRepeat, total}
 use Rattle.edge_uses.specs.declared.row.Row.{Row}
 
 -- the numbers, from n on, of the rows that start at a vertex
@@ -25,7 +26,7 @@ length-starting v n (r ∷ rows) = by_test (r.from.0 == v) (length-starting v (n
 pub starting_has : (v n k : ℕ) (rows : List Row) (r : Row) → slice_get rows k ≡ Some r → r.from.0 ≡ v → Has (starting v n rows) (n + k)
 starting_has v n k [] r at e = absurd (let h : None ≡ Some r = at in cc)
 starting_has v n zero (x ∷ rows) r at e =
-    let same : (x.from.0 == v) ≡ true = eq-eqb x.from.0 v (ap (λ (y : Row). y.from.0) (some_inj x r at) ∙ e) in
+    let same : (x.from.0 == v) ≡ true = eq-eqb x.from.0 v (ap (λ (y : Row). y.from.0) (same_Some x r at) ∙ e) in
     let here : n ≡ n + 0 = omega arith in
     subst (λ b. Has (cond b (n ∷ starting v (n + 1) rows) (starting v (n + 1) rows)) (n + 0)) (sym same) (inl here)
 starting_has v n (suc k) (x ∷ rows) r at e =

@@ -2,6 +2,7 @@
 use Rattle.std.specs.Prelude.{◌≡◌, ℕ, zero, suc, Bool, true, false, not, List, [], ◌∷◌, ◌++◌, flat_map, filter_map, Option, Some, None, slice_get}
 use Rattle.std.specs.List.{AllByRecursion, cons_option}
 use Rattle.std.proofs.Common.{refl, sym, ◌∙◌, ap, subst}
+use Rattle.std.proofs.lemmas.Option.{same_Some}
 use Rattle.solid_data.specs.SolidData.{SolidData, PlacedLoop, placed_loops, same_flag}
 use Rattle.solid_data.specs.declared.solid.Edge.{Edge}
 use Rattle.solid_data.specs.declared.solid.EdgeId.{EdgeId}
@@ -12,7 +13,6 @@ use Rattle.solid_data.specs.declared.solid.Shell.{Shell}
 use Rattle.edge_uses.specs.declared.row.Row.{Row}
 use Rattle.edge_uses.specs.ShellRows.{ShellRows, row_of_edge, row_of, loop_rows, shell_rows}
 use Rattle.edge_uses.specs.Closed.{begin_of}
-use Rattle.solid_data.proofs.Members.{some_inj}
 
 -- the row runs along its edge of the solid, or against it
 abbrev pub HasShape : SolidData → Row → Type 0
@@ -49,7 +49,7 @@ all_shapes s (p ∷ ps) = join_shapes s (loop_rows s p) (flat_map (loop_rows s) 
 
 pub shape_at : (s : SolidData) (rows : List Row) (n : ℕ) (r : Row) → AllByRecursion (HasShape s) rows → slice_get rows n ≡ Some r → HasShape s r
 shape_at s [] n r all at = absurd cc
-shape_at s (x ∷ rows) zero r all at = subst (HasShape s) (some_inj x r at) all.0
+shape_at s (x ∷ rows) zero r all at = subst (HasShape s) (same_Some x r at) all.0
 shape_at s (x ∷ rows) (suc n) r all at = shape_at s rows n r all.1 at
 
 -- rows of one edge in opposite directions: the one starts where the other ends
@@ -63,5 +63,5 @@ ends_exchanged s shell n m a b at_n at_m one opposite =
     let all : AllByRecursion (HasShape s) rows = all_shapes s (placed_loops shell) in
     let x = shape_at s rows n a all at_n in
     let y = shape_at s rows m b all at_m in
-    let same : x.0 ≡ y.0 = some_inj x.0 y.0 (sym x.1 ∙ (ap (λ (e : EdgeId). slice_get s.edges e.0) one ∙ y.1)) in
+    let same : x.0 ≡ y.0 = same_Some x.0 y.0 (sym x.1 ∙ (ap (λ (e : EdgeId). slice_get s.edges e.0) one ∙ y.1)) in
     x.2 ∙ (ap (begin_of (Some x.0)) opposite ∙ (ap (λ e. begin_of (Some e) (not b.along)) same ∙ sym y.3))

@@ -2,13 +2,14 @@
 use Rattle.std.specs.Prelude.{◌≡◌, ℕ, ◌==◌, ◌&&◌, Bool, true, false, not, Contains, Some, slice_get}
 use Rattle.std.proofs.Common.{refl, sym, ◌∙◌, ap, arith}
 use Rattle.std.proofs.lemmas.Bool.{eq-eqb, eqb-true, and_from, and_parts, not-true}
+use Rattle.std.proofs.lemmas.Option.{same_Some}
 use Rattle.solid_data.specs.declared.solid.EdgeId.{EdgeId}
 use Rattle.solid_data.specs.declared.solid.VertexId.{VertexId}
 use Rattle.edge_uses.specs.declared.row.Row.{Row}
 use Rattle.edge_uses.specs.ShellRows.{ShellRows, EndsMeet}
 use Rattle.edge_uses.specs.Closed.{AreMates, Turns, IsPaired, row_count}
 use Rattle.edge_uses.specs.Mates.{ArePaired}
-use Rattle.solid_data.proofs.Members.{some_inj, Has-from_Contains, All-at, count_by-total, has_get}
+use Rattle.solid_data.proofs.Members.{Has-from_Contains, All-at, count_by-total, has_get}
 use Rattle.edge_uses.proofs.Counting.{found_row, one_place}
 use Rattle.edge_uses.proofs.Cycle.{AreTurning}
 use Rattle.edge_uses.proofs.FollowRows.{EachIsFollowed}
@@ -39,7 +40,7 @@ one_of_edge d e false n m x y one at_n at_m ex ey bx by =
 -- a row has one mate
 pub one_mate : (d : ShellRows) → PairedRows d → (r m k : ℕ) → AreMates d r m → AreMates d r k → m ≡ k
 one_mate d paired n m k a b =
-    let same : a.row ≡ b.row = some_inj a.row b.row (sym a.at_r ∙ b.at_r) in
+    let same : a.row ≡ b.row = same_Some a.row b.row (sym a.at_r ∙ b.at_r) in
     let pair : IsPaired d a.row.edge.0 = paired n a.row a.at_r in
     let edge_a : a.mate.edge.0 ≡ a.row.edge.0 = ap (λ (e : EdgeId). e.0) (sym a.one_edge) in
     let edge_b : b.mate.edge.0 ≡ a.row.edge.0 = ap (λ (e : EdgeId). e.0) (sym b.one_edge ∙ sym (ap (λ (r : Row). r.edge) same)) in
@@ -86,7 +87,7 @@ paired_rows d whole n a at =
 pub turns_to_one : (d : ShellRows) → PairedRows d → (x y z : ℕ) → Turns d x y → Turns d x z → y ≡ z
 turns_to_one d paired x y z (m, a, f) (k, b, g) =
     let same : m ≡ k = one_mate d paired x m k a b in
-    some_inj y z (sym f ∙ (ap (λ n. slice_get d.follows n) same ∙ g))
+    same_Some y z (sym f ∙ (ap (λ n. slice_get d.follows n) same ∙ g))
 
 pub are_turning : (d : ShellRows) → PairedRows d → EndsMeet d → EndsExchanged d → EachIsFollowed d → AreTurning d
 are_turning d paired meet exchanged followed = record {
@@ -97,11 +98,11 @@ are_turning d paired meet exchanged followed = record {
       (f.0, (m.0, m.1, f.2));
   same = λ v x y (m, a, f) (row, at, e).
       let g = followed m a.mate a.at_m in
-      let there : y ≡ g.0 = some_inj y g.0 (sym f ∙ g.2) in
+      let there : y ≡ g.0 = same_Some y g.0 (sym f ∙ g.2) in
       let at_y : slice_get d.rows y ≡ Some g.1 = ap (λ n. slice_get d.rows n) there ∙ g.3 in
       let met : a.mate.to.0 ≡ g.1.from.0 = ap (λ (w : VertexId). w.0) (meet m y a.mate g.1 f a.at_m at_y) in
       let swapped : a.row.from.0 ≡ a.mate.to.0 = exchanged x m a.row a.mate a.at_r a.at_m a.one_edge a.opposite in
-      let starts : a.row.from.0 ≡ v = ap (λ (r : Row). r.from.0) (some_inj a.row row (sym a.at_r ∙ at)) ∙ e in
+      let starts : a.row.from.0 ≡ v = ap (λ (r : Row). r.from.0) (same_Some a.row row (sym a.at_r ∙ at)) ∙ e in
       (g.1, at_y, sym met ∙ (sym swapped ∙ starts));
 }
 

@@ -6,10 +6,10 @@ use Rattle.std.proofs.lemmas.Bool.{eq-eqb, eqb-true, cases_lt}
 use Rattle.std.proofs.lemmas.Bool.Decides.{eqb_tells}
 use Rattle.std.proofs.lemmas.List.Sorted.{length_permutation, Contains-permutation}
 use Rattle.std.proofs.lemmas.Map.Keys.{IsDistinct-IsPermutation, apart_from_distinct}
-use Rattle.std.proofs.lemmas.Option.{slice_get-get_or, get_or_from_slice_get}
+use Rattle.std.proofs.lemmas.Option.{slice_get-get_or, get_or_from_slice_get, same_Some, slice_get_within}
 use Rattle.solid_data.specs.Ring.{numbers_from}
 use Rattle.solid_data.specs.declared.solid.VertexId.{VertexId}
-use Rattle.solid_data.proofs.Members.{some_inj, Has, get_below, Contains-from_Has}
+use Rattle.solid_data.proofs.Members.{Has, Contains-from_Has}
 use Rattle.solid_data.proofs.Occurring.{numbers_have, numbers_above, length-numbers}
 use Rattle.solid_data.proofs.ObligationLemmas.{AllByRecursion-weaker}
 use Rattle.edge_uses.specs.declared.row.Row.{Row}
@@ -50,7 +50,7 @@ not_before : (xs : List ℕ) (q r t : ℕ) → IsDistinct ◌==◌ xs → slice_
 not_before xs q r t distinct at_q at_r lt =
     let a : get_or xs q t ≡ t = get_or_from_slice_get xs q t t at_q in
     let b : get_or xs r t ≡ t = get_or_from_slice_get xs r t t at_r in
-    let f : (get_or xs q t == get_or xs r t) ≡ false = apart_from_distinct ◌==◌ xs q r t distinct lt (get_below xs r t at_r) in
+    let f : (get_or xs q t == get_or xs r t) ≡ false = apart_from_distinct ◌==◌ xs q r t distinct lt (slice_get_within xs r t at_r) in
     let g : true ≡ false = sym (eq-eqb (get_or xs q t) (get_or xs r t) (a ∙ sym b)) ∙ f in
     absurd cc
 
@@ -65,7 +65,7 @@ follows_apart d rows q r t f g =
 -- each row follows one
 pub follows_onto : (d : ShellRows) → AreRows d → (t : ℕ) (b : Row) → slice_get d.rows t ≡ Some b → (m : ℕ) × (a : Row) × Follows d m t × (slice_get d.rows m ≡ Some a)
 follows_onto d rows t b at =
-    let low : t < length d.rows = get_below d.rows t b at in
+    let low : t < length d.rows = slice_get_within d.rows t b at in
     let zero_more : 0 + t ≡ t = omega arith in
     let listed : Contains (numbers_from 0 (length d.rows)) t =
     Contains-from_Has (numbers_from 0 (length d.rows)) t (subst (λ n. Has (numbers_from 0 (length d.rows)) n) zero_more (numbers_have 0 (length d.rows) t low)) in
@@ -88,7 +88,7 @@ turns_permute d whole = record {
       let mates : AreMates d r.0 m.0 = mates_back d m.0 r.0 r.1 in
       let met : m.1.to ≡ b.from = whole.meet m.0 t m.1 b m.2 m.3 at in
       let ends = whole.rows.exchanged_ends r.0 m.0 mates.row m.1 mates.at_r m.3
-      (mates.one_edge ∙ ap (λ (x : Row). x.edge) (some_inj mates.mate m.1 (sym mates.at_m ∙ m.3)))
-      (mates.opposite ∙ ap (λ (x : Row). not x.along) (some_inj mates.mate m.1 (sym mates.at_m ∙ m.3))) in
+      (mates.one_edge ∙ ap (λ (x : Row). x.edge) (same_Some mates.mate m.1 (sym mates.at_m ∙ m.3)))
+      (mates.opposite ∙ ap (λ (x : Row). not x.along) (same_Some mates.mate m.1 (sym mates.at_m ∙ m.3))) in
       (r.0, (mates.row, mates.at_r, ap (λ (w : VertexId). w.0) (ends.0 ∙ met) ∙ e), (m.0, mates, m.2));
 }

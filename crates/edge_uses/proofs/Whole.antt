@@ -4,6 +4,7 @@ use Rattle.std.specs.List.{AllByRecursion}
 use Rattle.std.specs.List.Sorted.{IsStrictlyIncreasing}
 use Rattle.std.proofs.Common.{sym, ◌∙◌, ap, subst, arith, length-append, get_or}
 use Rattle.std.proofs.lemmas.Bool.{eqb-true}
+use Rattle.std.proofs.lemmas.Option.{same_Some}
 use Rattle.solid_data.specs.Ring.{distinct}
 use Rattle.solid_data.specs.Numbering.{IsNumberedSolid}
 use Rattle.solid_data.specs.SolidData.{SolidData, PlacedLoop, placed_loops, shell_uses, shell_edges, shell_vertices, edge_used, ends_of, vertices_used}
@@ -19,7 +20,7 @@ use Rattle.edge_uses.specs.declared.row.Row.{Row}
 use Rattle.edge_uses.specs.ShellRows.{ShellRows, shell_rows, loop_rows, point_of, AreRows}
 use Rattle.edge_uses.specs.Building.{point_in, HasKnownParts}
 use Rattle.edge_uses.specs.Closed.{begin_of}
-use Rattle.solid_data.proofs.Members.{some_inj, Has, Has-from_place, Contains-from_Has, has_flat_map, all_flat_map, all_has, Rises}
+use Rattle.solid_data.proofs.Members.{Has, Has-from_place, Contains-from_Has, has_flat_map, all_flat_map, all_has, Rises}
 use Rattle.solid_data.proofs.Occurring.{VerticesKnown, number_below, length-numbers}
 use Rattle.solid_data.proofs.Keys.{to_distinct}
 use Rattle.edge_uses.proofs.RowFacts.{loops_below, faces_known, edges_known, starts_known, stops_known, points_known, edges_rise, vertices_rise}
@@ -134,7 +135,7 @@ one_edge : (s : SolidData) (rows : List Row) (n m : ℕ) (a b : Row) → AllByRe
 one_edge s rows n m a b all at_n at_m one =
     let x = shape_at s rows n a all at_n in
     let y = shape_at s rows m b all at_m in
-    let same : y.0 ≡ x.0 = some_inj y.0 x.0 (sym y.1 ∙ (ap (λ (e : EdgeId). slice_get s.edges e.0) (sym one) ∙ x.1)) in
+    let same : y.0 ≡ x.0 = same_Some y.0 x.0 (sym y.1 ∙ (ap (λ (e : EdgeId). slice_get s.edges e.0) (sym one) ∙ x.1)) in
     (x.0, x.2, x.3, y.2 ∙ ap (λ e. begin_of (Some e) b.along) same, y.3 ∙ ap (λ e. begin_of (Some e) (not b.along)) same)
 
 first_below : (x : ℕ) (xs : List ℕ) → AllByRecursion (λ y. x < y) xs → 0 < length xs → x < slice_index xs 0

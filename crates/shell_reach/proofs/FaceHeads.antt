@@ -3,17 +3,17 @@ use Rattle.std.specs.Prelude.{◌≡◌, ◌≢◌, ◌<◌, ◌≤◌, ◌+◌,
 use Rattle.std.proofs.Common.{refl, sym, ◌∙◌, ap, subst, arith, inl, inr, ⊎_elim, get_or}
 use Rattle.std.proofs.lemmas.Bool.Decides.{eqb_tells}
 use Rattle.std.proofs.lemmas.List.{length-set}
-use Rattle.std.proofs.lemmas.Option.{slice_get_within}
+use Rattle.std.proofs.lemmas.Option.{slice_get_within, same_Some}
 use Rattle.edge_uses.specs.declared.row.Row.{Row}
 use Rattle.edge_uses.specs.ShellRows.{ShellRows, AreRows}
 use Rattle.edge_uses.specs.Closed.{OnFace}
-use Rattle.solid_data.proofs.Members.{some_inj, All-at, has_get}
+use Rattle.solid_data.proofs.Members.{All-at, has_get}
 use Rattle.edge_uses.proofs.Steps.{default_apart}
 use Rattle.edge_uses.proofs.Tallies.{set_same, set_other}
 use Rattle.shell_reach.specs.FaceRows.{IsHead, AreFaceRows}
 
 pub one_face : (d : ShellRows) (f g r : ℕ) → OnFace d f r → OnFace d g r → f ≡ g
-one_face d f g r (a, at_a, e) (b, at_b, k) = sym e ∙ (ap (λ (x : Row). x.at.face.0) (some_inj a b (sym at_a ∙ at_b)) ∙ k)
+one_face d f g r (a, at_a, e) (b, at_b, k) = sym e ∙ (ap (λ (x : Row). x.at.face.0) (same_Some a b (sym at_a ∙ at_b)) ∙ k)
 
 pub face_low : (d : ShellRows) (f r : ℕ) → AreRows d → OnFace d f r → f < d.face_count
 face_low d f r rows (a, at, e) = subst (λ x. x < d.face_count) e (All-at (λ (x : Row). x.at.face.0 < d.face_count) d.rows rows.on_faces a (has_get d.rows r a at))

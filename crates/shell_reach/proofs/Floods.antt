@@ -5,13 +5,13 @@ use Rattle.std.proofs.Common.{refl, sym, ◌∙◌, ap, subst, arith, inl, inr, 
 use Rattle.std.proofs.lemmas.Bool.Decides.{eqb_tells}
 use Rattle.std.proofs.lemmas.List.{reverse-append, append-nil, length-set}
 use Rattle.std.proofs.lemmas.Bool.{cases_lt}
-use Rattle.std.proofs.lemmas.Option.{slice_get_within}
+use Rattle.std.proofs.lemmas.Option.{slice_get_within, same_Some}
 use Rattle.solid_data.specs.Chain.{Steps}
 use Rattle.solid_data.specs.Ring.{numbers_from}
 use Rattle.edge_uses.specs.ShellRows.{ShellRows}
 use Rattle.edge_uses.specs.Closed.{AreMates, OnFace, AreNeighbours, IsReached}
 use Rattle.edge_uses.specs.Mates.{ArePaired}
-use Rattle.solid_data.proofs.Members.{some_inj, Has, NoRepeat, Contains-from_Has, Has-from_Contains, no_longer, All-at, has_left, has_right, rises_none, has_last, has_reverse}
+use Rattle.solid_data.proofs.Members.{Has, NoRepeat, Contains-from_Has, Has-from_Contains, no_longer, All-at, has_left, has_right, rises_none, has_last, has_reverse}
 use Rattle.solid_data.specs.Obligations.{FirstNot}
 use Rattle.edge_uses.proofs.FirstOf.{LeftIn, left_in_less, left_in_fails, left_in_done}
 use Rattle.edge_uses.proofs.Steps.{default_apart}
@@ -252,7 +252,7 @@ flood_reaches d marks order rows h done all = record {
 }
 
 pub place_is : (old new : List ℕ) (q face f : ℕ) → Grows old new → q < length old → slice_get old q ≡ Some face → slice_get new q ≡ Some f → face ≡ f
-place_is old new q face f grows low at there = some_inj face f (sym at ∙ front_same old grows.0 q f low (ap (λ xs. slice_get xs q) (sym grows.1) ∙ there))
+place_is old new q face f grows low at there = same_Some face f (sym at ∙ front_same old grows.0 q f low (ap (λ xs. slice_get xs q) (sym grows.1) ∙ there))
 
 pub none_reach : (d : ShellRows) → d.face_count ≡ 0 → ReachesAll d []
 none_reach d none = record {

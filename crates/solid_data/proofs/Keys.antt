@@ -1,8 +1,9 @@
 -- Lists of keys without repeats, and the place of a key in such a list.
 use Rattle.std.specs.Prelude.{◌≡◌, suc, ◌<◌, Bool, true, false, not, cond, List, [], ◌∷◌, length, filter, Some, slice_get, if◌then◌else◌}
 use Rattle.std.proofs.Common.{refl, sym, ◌∙◌, ap, subst, arith, inl, inr}
+use Rattle.std.proofs.lemmas.Option.{same_Some}
 use Rattle.solid_data.specs.Ring.{distinct, place_of}
-use Rattle.solid_data.proofs.Members.{some_inj, Has}
+use Rattle.solid_data.proofs.Members.{Has}
 
 pub to_filter : {A : Type 0} (p : A → Bool) (xs : List A) (k : A) → Has xs k → p k ≡ true → Has (filter p xs) k
 to_filter p [] k h e = absurd h
@@ -61,4 +62,4 @@ at_place same sound itself (y ∷ keys) k h = by_test (same k y) refl h (λ m. a
 -- keys with one place are one
 pub one_place : {A : Type 0} (same : A → A → Bool) → ((a b : A) → same a b ≡ true → a ≡ b) → ((a : A) → same a a ≡ true) → (keys : List A) (j k : A) → Has keys j → Has keys k
     → place_of same keys j ≡ place_of same keys k → j ≡ k
-one_place same sound itself keys j k h m e = some_inj j k (sym (at_place same sound itself keys j h) ∙ (ap (slice_get keys) e ∙ at_place same sound itself keys k m))
+one_place same sound itself keys j k h m e = same_Some j k (sym (at_place same sound itself keys j h) ∙ (ap (slice_get keys) e ∙ at_place same sound itself keys k m))

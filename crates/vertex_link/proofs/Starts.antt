@@ -3,7 +3,7 @@ use Rattle.std.specs.Prelude.{◌≡◌, ◌≢◌, ◌<◌, ◌≤◌, ◌+◌,
 use Rattle.std.specs.List.{AllByRecursion}
 use Rattle.std.proofs.Common.{sym, ◌∙◌, ap, subst, arith, inl, inr, ⊎_elim, get_or, drop}
 use Rattle.std.proofs.lemmas.Bool.Decides.{eqb_tells}
-use Rattle.std.proofs.lemmas.Option.{slice_get_within}
+use Rattle.std.proofs.lemmas.Option.{slice_get_within, same_Some}
 use Rattle.std.proofs.lemmas.List.{drop_all}
 use Rattle.std.proofs.lemmas.Bool.{cases_lt}
 use Rattle.solid_data.specs.declared.solid.LoopAt.{LoopAt}
@@ -12,7 +12,7 @@ use Rattle.edge_uses.specs.declared.spanning.Span.{Span}
 use Rattle.edge_uses.specs.Ranges.{IsWithin}
 use Rattle.edge_uses.specs.ShellRows.{ShellRows}
 use Rattle.edge_uses.specs.Closed.{StartsAt}
-use Rattle.solid_data.proofs.Members.{some_inj, Has, Contains-from_Has, All-at, count_by-total, split_at, has_get}
+use Rattle.solid_data.proofs.Members.{Has, Contains-from_Has, All-at, count_by-total, split_at, has_get}
 use Rattle.edge_uses.proofs.Steps.{default_apart}
 use Rattle.edge_uses.proofs.Tallies.{one_if, set_same, set_other}
 use Rattle.edge_uses.proofs.Counting.{times, times_few}
@@ -50,7 +50,7 @@ starts_other : (d : ShellRows) (i v : ℕ) (m : Starts) (row : Row) → slice_ge
 starts_other d i v m row at differ ne h = record {
   count = omega (arith, h.count, split_times from_of v d.rows i row at, ap one_if differ);
   first = λ p. ((h.first p).0, omega (arith, (h.first p).1));
-  least = λ x lt s. ⊎_elim (λ low. h.least x low s) (λ le. let e : x ≡ i = omega (arith, le, lt) in absurd (ne (ap (λ (r : Row). r.from.0) (some_inj row s.0 (sym at ∙ (ap (λ k. slice_get d.rows k) (sym e) ∙ s.1))) ∙ s.2))) (cases_lt x i);
+  least = λ x lt s. ⊎_elim (λ low. h.least x low s) (λ le. let e : x ≡ i = omega (arith, le, lt) in absurd (ne (ap (λ (r : Row). r.from.0) (same_Some row s.0 (sym at ∙ (ap (λ k. slice_get d.rows k) (sym e) ∙ s.1))) ∙ s.2))) (cases_lt x i);
 }
 
 starts_this : (d : ShellRows) (i v : ℕ) (m : Starts) (row : Row) → slice_get d.rows i ≡ Some row → (row.from.0 == v) ≡ true → row.from.0 ≡ v → StartsBefore d i v m → StartsBefore d (i + 1) v (one_start_more m i)

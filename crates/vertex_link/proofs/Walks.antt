@@ -4,6 +4,7 @@ use Rattle.std.specs.List.{AllZip}
 use Rattle.std.proofs.Common.{refl, sym, ◌∙◌, ap, subst, arith, inl, inr, ⊎_elim}
 use Rattle.std.proofs.Common.{append_assoc, drop}
 use Rattle.std.proofs.lemmas.List.{append-nil, drop_all}
+use Rattle.std.proofs.lemmas.Option.{same_Some}
 use Rattle.solid_data.specs.Obligations.{FirstNot}
 use Rattle.edge_uses.proofs.FirstOf.{LeftIn}
 use Rattle.vertex_link.specs.declared.corners.Corner.{Corner}
@@ -12,7 +13,7 @@ use Rattle.edge_uses.specs.declared.row.Row.{Row}
 use Rattle.edge_uses.specs.ShellRows.{ShellRows}
 use Rattle.edge_uses.specs.Closed.{StartsAt, Turns, IsCorner, IsPoint, IsLinked, point_count}
 use Rattle.edge_uses.specs.Mates.{ArePaired}
-use Rattle.solid_data.proofs.Members.{some_inj, Has, NoRepeat, covers, no_longer, count_by-total, All-at, All-from, Has-from_Contains, Contains-from_Has, has_last, split_at}
+use Rattle.solid_data.proofs.Members.{Has, NoRepeat, covers, no_longer, count_by-total, All-at, All-from, Has-from_Contains, Contains-from_Has, has_last, split_at}
 use Rattle.solid_data.proofs.Trail.{Trail, trail_from_zip, trail_keeps, no_repeat, leads_to, leads_on, leads_trans}
 use Rattle.edge_uses.proofs.Cycle.{AreTurning, on_trail, cycle_of_corner, zip_from_trail}
 use Rattle.edge_uses.proofs.Turn.{turning}
@@ -174,4 +175,4 @@ corners_done d i corners past all = subst (AreLinks d) (append-nil corners) (all
 
 pub some_of : {A : Type 0} (o : Option A) (x : A) (N : Type 0) (P : A → Type 0) → o ≡ Some x → MatchOption o N P → P x
 some_of None x N P e h = absurd cc
-some_of (Some y) x N P e h = subst P (some_inj y x e) h
+some_of (Some y) x N P e h = subst P (same_Some y x e) h
