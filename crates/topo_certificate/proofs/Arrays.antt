@@ -4,7 +4,8 @@ use Rattle.std.proofs.Common.{refl, sym, ◌∙◌, ap, arith, inl, inr, ⊎_eli
 use Rattle.std.proofs.lemmas.Bool.Decides.{eqb_tells}
 use Rattle.std.proofs.lemmas.Bool.{cases_lt}
 use Rattle.std.proofs.lemmas.List.{get_or-replicate, get_or_past, length-replicate, length-set}
-use Rattle.solid_data.proofs.Members.{some_inj, Has, Has-from_Contains, Contains-from_Has}
+use Rattle.std.proofs.lemmas.Option.{same_Some}
+use Rattle.solid_data.proofs.Members.{Has, Has-from_Contains, Contains-from_Has}
 use Rattle.topo_certificate.specs.Stand.{IsMate}
 use Rattle.topo_certificate.specs.Kept.{above_zero, mate_in, HoldsMates, HoldsFaces}
 
@@ -58,11 +59,11 @@ mate_cases ms a b r m can h = by_b (eqb_tells r b) (eqb_tells r a)
     by_b (inl y) other =
         let w : b ≤ length (slice_set ms (a - 1) b) = omega (arith, can.within_b, length-set ms (a - 1) b) in
         let e : mate_in (with_mates ms a b) b ≡ Some a = mate_same (slice_set ms (a - 1) b) b a can.pos_b w can.pos_a in
-        inr (inl (y.1, some_inj m a (sym h ∙ (ap (mate_in (with_mates ms a b)) y.1 ∙ e))))
+        inr (inl (y.1, same_Some m a (sym h ∙ (ap (mate_in (with_mates ms a b)) y.1 ∙ e))))
     by_b (inr n) (inl y) =
         let off : mate_in (with_mates ms a b) r ≡ mate_in (slice_set ms (a - 1) b) r = mate_other (slice_set ms (a - 1) b) b r a can.pos_b n.1 in
         let e : mate_in (slice_set ms (a - 1) b) a ≡ Some b = mate_same ms a b can.pos_a can.within_a can.pos_b in
-        inl (y.1, some_inj m b (sym h ∙ (off ∙ (ap (mate_in (slice_set ms (a - 1) b)) y.1 ∙ e))))
+        inl (y.1, same_Some m b (sym h ∙ (off ∙ (ap (mate_in (slice_set ms (a - 1) b)) y.1 ∙ e))))
     by_b (inr n) (inr k) =
         let off : mate_in (with_mates ms a b) r ≡ mate_in (slice_set ms (a - 1) b) r = mate_other (slice_set ms (a - 1) b) b r a can.pos_b n.1 in
         let off2 : mate_in (slice_set ms (a - 1) b) r ≡ mate_in ms r = mate_other ms a r b can.pos_a k.1 in

@@ -1,18 +1,18 @@
 -- Where a checker stands behind one more line.
-use Rattle.std.specs.Prelude.{◌≡◌, ℕ, zero, suc, ◌+◌, ◌-◌, ◌*◌, ◌<◌, ◌≤◌, ◌^◌, Bool, true, false, List, [], ◌∷◌, ◌++◌, length, Option, Some, None, slice_get}
+use Rattle.std.specs.Prelude.{◌≡◌, ℕ, zero, suc, ◌+◌, ◌-◌, ◌<◌, true, false, List, [], ◌∷◌, ◌++◌, length, Option, Some, None, slice_get}
 use Rattle.std.proofs.Common.{refl, sym, ◌∙◌, ap, subst, arith, length-append}
+use Rattle.std.proofs.lemmas.Option.{same_Some}
 use Rattle.solid_data.specs.SolidData.{SolidData}
-use Rattle.solid_data.proofs.Members.{some_inj, get_below}
 use Rattle.edge_uses.specs.ShellRows.{ShellRows}
 use Rattle.cert_lines.specs.Line.{CertLine, head, solid, shell, edge, corner, point, reach, end, line_limit}
-use Rattle.topo_certificate.specs.Stand.{Stand, stand_behind, rows_of_shell, NoneDue, FitsOpen, FitsLine, FitsShell}
+use Rattle.topo_certificate.specs.Stand.{Stand, stand_behind, rows_of_shell, NoneDue, FitsOpen}
 use Rattle.cert_lines.specs.Said.{IsRowLine}
-use Rattle.topo_certificate.specs.Kept.{KeptShell, IsFresh, AreCounts, HoldsMates, HoldsFaces, dues}
+use Rattle.topo_certificate.specs.Kept.{KeptShell, IsFresh, AreCounts, HoldsMates, HoldsFaces}
 use Rattle.topo_certificate.specs.Told.{TellsShell, TellsCurrent, Takes, AreWaiting, Kept, IsAt}
 use Rattle.topo_certificate.specs.Room.{dues_of, HasRoom, TakesLine}
 use Rattle.topo_certificate.proofs.UseSizes.{few_shells}
 use Rattle.solid_data.specs.Numbering.{IsNumberedSolid}
-use Rattle.topo_certificate.proofs.Standing.{stand_of, edge_stand, corner_stand, point_stand, reach_stand, shell_stand, end_stand, first_stand}
+use Rattle.topo_certificate.proofs.Standing.{stand_of, shell_stand, end_stand, first_stand}
 
 -- nothing is due exactly where nothing is kept as due
 none_due : (s : SolidData) (at : Stand) (o : Option KeptShell) → TellsCurrent s at o → dues_of o ≡ 0 → NoneDue at
@@ -260,7 +260,7 @@ waits_more s k n waiting new t w lt is_n fresh e = record {
         → slice_get (xs ++ t ∷ []) i ≡ Some x → IsFresh (rows_of_shell s (length s.shells - (base + i))) x
     in_either [] base zero x each long h =
         let place : length s.shells - k ≡ length s.shells - (base + 0) = omega (arith, long) in
-        subst (λ m. IsFresh (rows_of_shell s m) x) place (subst (IsFresh (rows_of_shell s (length s.shells - k))) (some_inj t x h) last_fresh)
+        subst (λ m. IsFresh (rows_of_shell s m) x) place (subst (IsFresh (rows_of_shell s (length s.shells - k))) (same_Some t x h) last_fresh)
     in_either [] base (suc i) x each long h = absurd (none_there i x h)
       where
         none_there : (i : ℕ) (x : KeptShell) → slice_get [] i ≡ Some x → ⊥

@@ -2,13 +2,14 @@
 use Rattle.std.specs.Prelude.{◌≡◌, ℕ, zero, suc, ◌+◌, ◌<◌, ◌≤◌, ◌==◌, not, List, [], ◌∷◌, length, Contains, Option, Some, None, slice_get}
 use Rattle.std.specs.List.{AllByRecursion}
 use Rattle.std.proofs.Common.{refl, sym, ◌∙◌, ap, subst, arith, inl, inr, ⊎_elim}
+use Rattle.std.proofs.lemmas.Option.{same_Some, none-some}
 use Rattle.solid_data.specs.Chain.{Steps}
 use Rattle.solid_data.specs.declared.solid.EdgeId.{EdgeId}
 use Rattle.solid_data.specs.declared.solid.VertexId.{VertexId}
 use Rattle.edge_uses.specs.declared.row.Row.{Row}
 use Rattle.edge_uses.specs.ShellRows.{ShellRows, EndsMeet}
 use Rattle.edge_uses.specs.Closed.{AreMates, Turns, StartsAt, IsCorner, IsPaired}
-use Rattle.solid_data.proofs.Members.{some_inj, Has, NoRepeat, covers, count_by-total}
+use Rattle.solid_data.proofs.Members.{Has, NoRepeat, covers, count_by-total}
 use Rattle.topo_certificate.specs.Stand.{Stand, row_named, row_start, FollowsAsNamed, IsMate, TurnsTo, FitsCorner}
 use Rattle.solid_data.proofs.Trail.{Trail, trail_from_zip, leads_trans, leads_to, leads_on, no_repeat}
 use Rattle.edge_uses.proofs.RowShape.{EndsExchanged}
@@ -62,14 +63,11 @@ pub start_of_row : (d : ShellRows) (r : ℕ) (row : Row) → row_named d r ≡ S
 start_of_row d r row h = ap row_start h
 
 pub turn_start_by : (d : ShellRows) → EndsMeet d → EndsExchanged d → (v r k t : ℕ) → AreNamedMates d r k → FollowsAsNamed d k t → (b : Row) → row_named d t ≡ Some b → StartsNamed d v r → StartsNamed d v t
-turn_start_by d meet exchanged v zero k t a f b at_t start = absurd (none_is_some a.at_r)
-  where
-    none_is_some : None ≡ Some a.row → ⊥
-    none_is_some h = cc
+turn_start_by d meet exchanged v zero k t a f b at_t start = absurd (none-some a.row a.at_r)
 turn_start_by d meet exchanged v (suc n) zero t a f b at_t start = absurd f
 turn_start_by d meet exchanged v (suc n) (suc k) zero a f b at_t start = absurd f
 turn_start_by d meet exchanged v (suc n) (suc k) (suc t) a f b at_t start =
-    let starts : a.row.from.0 ≡ v = some_inj a.row.from.0 v (sym (start_of_row d (suc n) a.row a.at_r) ∙ start) in
+    let starts : a.row.from.0 ≡ v = same_Some a.row.from.0 v (sym (start_of_row d (suc n) a.row a.at_r) ∙ start) in
     let swapped : a.row.from.0 ≡ a.mate.to.0 = exchanged n k a.row a.mate a.at_r a.at_m a.one_edge a.opposite in
     let met : a.mate.to.0 ≡ b.from.0 = ap (λ (x : VertexId). x.0) (meet k t a.mate b f a.at_m at_t) in
     start_of_row d (suc t) b at_t ∙ ap Some (sym met ∙ (sym swapped ∙ starts))
@@ -101,7 +99,7 @@ one_mate d paired zero m k a b = absurd (let h : None ≡ Some a.row = a.at_r in
 one_mate d paired (suc n) zero k a b = absurd (let h : None ≡ Some a.mate = a.at_m in cc)
 one_mate d paired (suc n) (suc m) zero a b = absurd (let h : None ≡ Some b.mate = b.at_m in cc)
 one_mate d paired (suc n) (suc m) (suc k) a b =
-    let same : a.row ≡ b.row = some_inj a.row b.row (sym a.at_r ∙ b.at_r) in
+    let same : a.row ≡ b.row = same_Some a.row b.row (sym a.at_r ∙ b.at_r) in
     let pair : IsPaired d a.row.edge.0 = paired n a.row a.at_r in
     let edge_a : a.mate.edge.0 ≡ a.row.edge.0 = ap (λ (e : EdgeId). e.0) (sym a.one_edge) in
     let edge_b : b.mate.edge.0 ≡ a.row.edge.0 = ap (λ (e : EdgeId). e.0) (sym b.one_edge ∙ sym (ap (λ (r : Row). r.edge) same)) in
@@ -113,7 +111,7 @@ follows_one : (d : ShellRows) (m x y : ℕ) → FollowsAsNamed d m x → Follows
 follows_one d zero x y f g = absurd f
 follows_one d (suc m) zero y f g = absurd f
 follows_one d (suc m) (suc x) zero f g = absurd g
-follows_one d (suc m) (suc x) (suc y) f g = ap suc (some_inj x y (sym f ∙ g))
+follows_one d (suc m) (suc x) (suc y) f g = ap suc (same_Some x y (sym f ∙ g))
 
 pub turns_one : (d : ShellRows) (mates : List (ℕ × ℕ)) → MatesHold d mates → PairedRows d → (r x y : ℕ) → TurnsTo d mates r x → TurnsTo d mates r y → x ≡ y
 turns_one d mates hold paired r x y (m, is_m, f) (k, is_k, g) =
@@ -126,7 +124,7 @@ starts_listed d v (suc k) h = at_row (slice_get d.rows k) refl h
   where
     at_row : (o : Option Row) → slice_get d.rows k ≡ o → row_start o ≡ Some v → Has (starting v 1 d.rows) (suc k)
     at_row None e h = absurd cc
-    at_row (Some r) e h = let number : 1 + k ≡ suc k = omega arith in subst (Has (starting v 1 d.rows)) number (starting_has v 1 k d.rows r e (some_inj r.from.0 v h))
+    at_row (Some r) e h = let number : 1 + k ≡ suc k = omega arith in subst (Has (starting v 1 d.rows)) number (starting_has v 1 k d.rows r e (same_Some r.from.0 v h))
 
 above_least : (r : ℕ) (rs : List ℕ) → AllByRecursion (λ x. r < x) rs → Has rs r → ⊥
 above_least r (x ∷ xs) all (inl e) = omega (arith, all.0, e)
@@ -161,4 +159,4 @@ corner_from_line d at r rs meet exchanged hold paired h =
       where
         at_row : (o : Option Row) → slice_get d.rows n ≡ o → row_start o ≡ Some h.vertex → (n : ℕ) × StartsAt d h.vertex n
         at_row None at e = absurd cc
-        at_row (Some row) at e = (n, (row, at, some_inj row.from.0 h.vertex e))
+        at_row (Some row) at e = (n, (row, at, same_Some row.from.0 h.vertex e))

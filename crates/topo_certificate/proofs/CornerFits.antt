@@ -3,10 +3,9 @@ use Rattle.std.specs.Prelude.{◌≡◌, ◌≢◌, ℕ, zero, suc, ◌-◌, ◌
 use Rattle.std.proofs.Common.{refl, sym, ◌∙◌, ap, subst, arith, inl, inr, get_or}
 use Rattle.std.proofs.lemmas.Bool.Decides.{eqb_tells}
 use Rattle.std.proofs.lemmas.Bool.{eq-eqb, eqb-true, and_from}
-use Rattle.std.proofs.lemmas.Option.{get_or_from_slice_get, slice_get-map}
+use Rattle.std.proofs.lemmas.Option.{get_or_from_slice_get, slice_get-map, same_Some, slice_get_within}
 use Rattle.std.proofs.lemmas.List.{length-map}
 use Rattle.solid_data.specs.declared.solid.LoopAt.{LoopAt}
-use Rattle.solid_data.proofs.Members.{some_inj, get_below}
 use Rattle.edge_uses.specs.declared.row.Row.{Row}
 use Rattle.edge_uses.specs.ShellRows.{ShellRows}
 use Rattle.edge_uses.specs.Closed.{point_count}
@@ -20,7 +19,7 @@ use Rattle.topo_certificate.proofs.Rings.{next_left}
 
 pub named_below : (d : ShellRows) (n : ℕ) (row : Row) → row_named d n ≡ Some row → (0 < n) × (n ≤ length d.rows)
 named_below d zero row h = absurd cc
-named_below d (suc k) row h = (omega arith, omega (arith, get_below d.rows k row h))
+named_below d (suc k) row h = (omega arith, omega (arith, slice_get_within d.rows k row h))
 
 -- the rest of a fitting line whose first number is read
 pub corner_of : (d : ShellRows) (at : Stand) (text others : List ℕ) (first : ℕ) (rs : List ℕ) → Begins text first others → AreNumbers text rs → FitsCornerLine d at rs → (ms : List ℕ) × AreNumbers others ms × FitsCorner d at first ms
@@ -30,7 +29,7 @@ pub corner_no_row : (d : ShellRows) (at : Stand) (first : ℕ) (ms : List ℕ) �
 corner_no_row d at first ms none fits = let e : None ≡ Some fits.vertex = sym (ap row_start none) ∙ fits.lies_at in cc
 
 pub corner_vertex : (d : ShellRows) (at : Stand) (first : ℕ) (ms : List ℕ) (row : Row) → row_named d first ≡ Some row → (fits : FitsCorner d at first ms) → fits.vertex ≡ row.from.0
-corner_vertex d at first ms row h fits = some_inj fits.vertex row.from.0 (sym fits.lies_at ∙ ap row_start h)
+corner_vertex d at first ms row h fits = same_Some fits.vertex row.from.0 (sym fits.lies_at ∙ ap row_start h)
 
 pub corner_low : (d : ShellRows) (at : Stand) (first : ℕ) (ms : List ℕ) (row : Row) (last : Option ℕ) → row_named d first ≡ Some row → at.last_vertex ≡ last → (IsAbove last row.from.0 → ⊥) → FitsCorner d at first ms → ⊥
 corner_low d at first ms row last h same low fits = low (subst (λ o. IsAbove o row.from.0) same (subst (IsAbove at.last_vertex) (corner_vertex d at first ms row h fits) fits.rises))
@@ -103,11 +102,11 @@ alone_there d alone i p z is h =
     get_or_from_slice_get alone i (is_alone d p.1) z at
 
 pub alone_below : (d : ShellRows) (alone : List Bool) (i : ℕ) (p : LoopAt × ℕ) → alone ≡ map (λ (p : LoopAt × ℕ). is_alone d p.1) d.points → slice_get d.points i ≡ Some p → i < length alone
-alone_below d alone i p is h = omega (arith, get_below d.points i p h, ap (λ xs. length xs) is, length-map d.points (λ (p : LoopAt × ℕ). is_alone d p.1))
+alone_below d alone i p is h = omega (arith, slice_get_within d.points i p h, ap (λ xs. length xs) is, length-map d.points (λ (p : LoopAt × ℕ). is_alone d p.1))
 
 named_vertex : (d : ShellRows) (face place i : ℕ) (p : LoopAt × ℕ) → IsNamedAt d face place i → slice_get d.points i ≡ Some p → vertex_of d (point face place) ≡ Some p.1
 named_vertex d face place i p n h =
-    let same : n.point ≡ p = some_inj n.point p (sym n.at_i ∙ h) in
+    let same : n.point ≡ p = same_Some n.point p (sym n.at_i ∙ h) in
     ap (option_map (λ (q : LoopAt × ℕ). q.1)) n.named ∙ ap (λ (q : LoopAt × ℕ). Some q.1) same
 
 pub point_fits : (d : ShellRows) (at : Stand) (alone : List Bool) (face place i : ℕ) (p : LoopAt × ℕ) (last : Option ℕ) → IsNamedAt d face place i → slice_get d.points i ≡ Some p → is_alone d p.1 ≡ true → at.last_vertex ≡ last → IsAbove last p.1
@@ -117,7 +116,7 @@ point_fits d at alone face place i p last n h single same above =
     (record { vertex = p.1; lies_at = named_vertex d face place i p n h; no_row = t.0; one_point = t.1; rises = subst (λ o. IsAbove o p.1) (sym same) above }, named_vertex d face place i p n h)
 
 pub point_vertex : (d : ShellRows) (at : Stand) (face place i : ℕ) (p : LoopAt × ℕ) → IsNamedAt d face place i → slice_get d.points i ≡ Some p → (fits : FitsPoint d at face place) → fits.vertex ≡ p.1
-point_vertex d at face place i p n h fits = some_inj fits.vertex p.1 (sym fits.lies_at ∙ named_vertex d face place i p n h)
+point_vertex d at face place i p n h fits = same_Some fits.vertex p.1 (sym fits.lies_at ∙ named_vertex d face place i p n h)
 
 pub point_not_alone : (d : ShellRows) (at : Stand) (face place i : ℕ) (p : LoopAt × ℕ) → IsNamedAt d face place i → slice_get d.points i ≡ Some p → is_alone d p.1 ≡ false → FitsPoint d at face place → ⊥
 point_not_alone d at face place i p n h other fits =

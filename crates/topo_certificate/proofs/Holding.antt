@@ -1,10 +1,9 @@
 -- What arrays of mates and faces tell of reach lines and turns.
-use Rattle.std.specs.Prelude.{◌≡◌, ℕ, zero, suc, ◌+◌, ◌-◌, ◌<◌, ◌↔◌, Bool, true, false, List, Contains, Option, Some, None, slice_get}
+use Rattle.std.specs.Prelude.{◌≡◌, ℕ, zero, suc, ◌+◌, ◌-◌, ◌<◌, ◌↔◌, Bool, true, List, Contains, Option, Some, None, slice_get}
 use Rattle.std.proofs.Common.{refl, sym, ◌∙◌, ap, subst, arith}
-use Rattle.solid_data.proofs.Members.{some_inj}
+use Rattle.std.proofs.lemmas.Option.{same_Some}
 use Rattle.edge_uses.specs.declared.row.Row.{Row}
 use Rattle.edge_uses.specs.ShellRows.{ShellRows}
-use Rattle.edge_uses.specs.Closed.{Follows}
 use Rattle.topo_certificate.specs.Stand.{Stand, row_named, row_face, IsMate, FollowsAsNamed, TurnsTo, FitsReach}
 use Rattle.topo_certificate.specs.Kept.{above_zero, mate_in, HoldsMates, HoldsFaces}
 
@@ -14,7 +13,7 @@ none_some o x a b = let e : None ≡ Some x = sym a ∙ b in cc
 above : (o : Option ℕ) (m : ℕ) → above_zero o ≡ Some m → 0 < m
 above None m e = absurd (none_some None m refl e)
 above (Some zero) m e = absurd (none_some None m refl e)
-above (Some (suc n)) m e = let s : suc n ≡ m = some_inj (suc n) m e in omega (arith, s)
+above (Some (suc n)) m e = let s : suc n ≡ m = same_Some (suc n) m e in omega (arith, s)
 
 mate_above : (mates : List ℕ) (r m : ℕ) → mate_in mates r ≡ Some m → 0 < m
 mate_above mates zero m e = absurd (none_some None m refl e)
@@ -24,7 +23,7 @@ pub no_reach_mate : (d : ShellRows) (at : Stand) (mates : List ℕ) (row : ℕ) 
 no_reach_mate d at mates row holds none h = none_some (mate_in mates row) h.mate none ((holds row h.mate).0 h.mates)
 
 reach_mate : (d : ShellRows) (at : Stand) (mates : List ℕ) (row m : ℕ) → HoldsMates mates at.mates → mate_in mates row ≡ Some m → (h : FitsReach d at row) → h.mate ≡ m
-reach_mate d at mates row m holds is h = some_inj h.mate m (sym ((holds row h.mate).0 h.mates) ∙ is)
+reach_mate d at mates row m holds is h = same_Some h.mate m (sym ((holds row h.mate).0 h.mates) ∙ is)
 
 pub no_reach_row : (d : ShellRows) (at : Stand) (mates : List ℕ) (row m : ℕ) → HoldsMates mates at.mates → mate_in mates row ≡ Some m → row_named d m ≡ None → FitsReach d at row → ⊥
 no_reach_row d at mates row m holds is none h =
@@ -36,9 +35,9 @@ pub reach_iff : (d : ShellRows) (at : Stand) (mates : List ℕ) (reached : List 
     → FitsReach d at row ↔ (¬ (slice_get reached x.at.face.0 ≡ Some true)) × (slice_get reached y.at.face.0 ≡ Some true)
 reach_iff d at mates reached row m x y holds faces is hx hy = (
   λ h. (let e = reach_mate d at mates row m holds is h in
-      let ef : h.face ≡ x.at.face.0 = some_inj h.face x.at.face.0 (sym h.on_face ∙ ap row_face hx) in
+      let ef : h.face ≡ x.at.face.0 = same_Some h.face x.at.face.0 (sym h.on_face ∙ ap row_face hx) in
       let on : row_face (row_named d m) ≡ Some h.known = subst (λ z. row_face (row_named d z) ≡ Some h.known) e h.on_known in
-      let ek : h.known ≡ y.at.face.0 = some_inj h.known y.at.face.0 (sym on ∙ ap row_face hy) in
+      let ek : h.known ≡ y.at.face.0 = same_Some h.known y.at.face.0 (sym on ∙ ap row_face hy) in
       ((λ k. h.new (subst (Contains at.reached) (sym ef) ((faces x.at.face.0).1 k))), subst (λ z. slice_get reached z ≡ Some true) ek ((faces h.known).0 h.old))),
   λ p. record {
     mate = m;
@@ -68,7 +67,7 @@ follows_from_array d zero n h f = absurd (omega (arith, h))
 follows_from_array d (suc k) n h f = let a : suc k - 1 ≡ k = omega arith in ap (slice_get d.follows) (sym a) ∙ f
 
 turn_mate : (pairs : List (ℕ × ℕ)) (mates : List ℕ) (row m k : ℕ) → HoldsMates mates pairs → mate_in mates row ≡ Some m → IsMate pairs row k → k ≡ m
-turn_mate pairs mates row m k holds is mate = some_inj k m (sym ((holds row k).0 mate) ∙ is)
+turn_mate pairs mates row m k holds is mate = same_Some k m (sym ((holds row k).0 mate) ∙ is)
 
 pub turn_end : (d : ShellRows) (pairs : List (ℕ × ℕ)) (mates : List ℕ) (row m s : ℕ) → HoldsMates mates pairs → mate_in mates row ≡ Some m → slice_get d.follows (m - 1) ≡ None → TurnsTo d pairs row s → ⊥
 turn_end d pairs mates row m s holds is none (k, is_mate, on) =
@@ -78,11 +77,11 @@ turn_end d pairs mates row m s holds is none (k, is_mate, on) =
 pub turn_iff : (d : ShellRows) (pairs : List (ℕ × ℕ)) (mates : List ℕ) (row m n s : ℕ) → HoldsMates mates pairs → mate_in mates row ≡ Some m → slice_get d.follows (m - 1) ≡ Some n
     → (Some (n + 1) ≡ Some s) ↔ TurnsTo d pairs row s
 turn_iff d pairs mates row m n s holds is next = (
-  λ e. (let same : suc n ≡ s = (let f : n + 1 ≡ s = some_inj (n + 1) s e in omega (arith, f)) in
+  λ e. (let same : suc n ≡ s = (let f : n + 1 ≡ s = same_Some (n + 1) s e in omega (arith, f)) in
       (m, (holds row m).1 is, subst (FollowsAsNamed d m) same (follows_from_array d m n (mate_above mates row m is) next))),
   λ (k, is_mate, on). (let e = turn_mate pairs mates row m k holds is is_mate in
       let f = follows_to d m s (subst (λ z. FollowsAsNamed d z s) e on) in
-      let g : n ≡ s - 1 = some_inj n (s - 1) (sym next ∙ f.0) in
+      let g : n ≡ s - 1 = same_Some n (s - 1) (sym next ∙ f.0) in
       ap (λ z. Some z) (omega (arith, g, f.1))),
 )
 

@@ -3,7 +3,8 @@ use Rattle.std.specs.Prelude.{◌≡◌, ◌<◌, ◌≤◌, ◌+◌, ◌==◌, 
 use Rattle.std.specs.List.{AllByRecursion, enumerate_from, list_any}
 use Rattle.std.proofs.Common.{refl, sym, ◌∙◌, ap, subst, arith, inl, inr, ⊎_elim}
 use Rattle.std.proofs.lemmas.Bool.{eq-eqb, eqb-true}
-use Rattle.solid_data.proofs.Members.{some_inj, Has, all_append, all_has, has_append, from_flat_map, All-from, get_some, has_get}
+use Rattle.std.proofs.lemmas.Option.{same_Some}
+use Rattle.solid_data.proofs.Members.{Has, all_append, all_has, has_append, from_flat_map, All-from, get_some, has_get}
 use Rattle.solid_data.proofs.Occurring.{length-numbers}
 use Rattle.edge_uses.proofs.Whole.{few_edges, few_vertices}
 use Rattle.solid_data.specs.Numbering.{IsNumberedSolid}
@@ -43,7 +44,7 @@ not_low points face place middle m order at before i p lt at_i named = by_place 
         let g : p.0.place < m.0.place = k.1 (omega (arith, f, named.0)) in
         omega (arith, before.1 f, g, named.1)
     by_place (inr e) =
-        let same : p ≡ m = some_inj p m (sym at_i ∙ (ap (slice_get points) e ∙ at)) in
+        let same : p ≡ m = same_Some p m (sym at_i ∙ (ap (slice_get points) e ∙ at)) in
         let f : m.0.face.0 + 1 ≡ face = ap (λ (q : LoopAt × ℕ). q.0.face.0 + 1) (sym same) ∙ named.0 in
         let g : p.0.place ≡ m.0.place = ap (λ (q : LoopAt × ℕ). q.0.place) same in
         omega (arith, before.1 f, named.1, g)
@@ -63,7 +64,7 @@ not_high points face place middle m order at not_named not_before i p le at_i na
         let k = order middle i m p low at at_i in
         not_before (omega (arith, k.0, named.0), λ e. (let g : m.0.place < p.0.place = k.1 (omega (arith, e, named.0)) in omega (arith, g, named.1)))
     by_place (inr e) =
-        let same : p ≡ m = some_inj p m (sym at_i ∙ (ap (slice_get points) (sym e) ∙ at)) in
+        let same : p ≡ m = same_Some p m (sym at_i ∙ (ap (slice_get points) (sym e) ∙ at)) in
         not_named (subst (λ (q : LoopAt × ℕ). IsNamed q.0 face place) same named)
 
 abbrev is_named_by : ℕ → ℕ → LoopAt × ℕ → Bool
@@ -96,7 +97,7 @@ find_none face place (p ∷ points) never = by_test (is_named_by face place p) r
 find_one : (face place : ℕ) (points : List (LoopAt × ℕ)) (i : ℕ) (p : LoopAt × ℕ) → slice_get points i ≡ Some p → IsNamed p.0 face place
     → ((j : ℕ) (q : LoopAt × ℕ) → j < i → slice_get points j ≡ Some q → IsNamed q.0 face place → ⊥) → find (is_named_by face place) points ≡ Some p
 find_one face place [] i p at named first = absurd cc
-find_one face place (x ∷ points) zero p at named first = ap (λ b. cond b (Some x) (find (is_named_by face place) points)) (named_test x face place (subst (λ (q : LoopAt × ℕ). IsNamed q.0 face place) (sym (some_inj x p at)) named)) ∙ at
+find_one face place (x ∷ points) zero p at named first = ap (λ b. cond b (Some x) (find (is_named_by face place) points)) (named_test x face place (subst (λ (q : LoopAt × ℕ). IsNamed q.0 face place) (sym (same_Some x p at)) named)) ∙ at
 find_one face place (x ∷ points) (suc i) p at named first =
     by_test (is_named_by face place x) refl (find_one face place points i p at named (λ j q lt at_j. first (suc j) q (omega (arith, lt)) at_j))
   where
@@ -131,7 +132,7 @@ follow_append f (x ∷ xs) ys a b all =
 follow_at : {A : Type 0} (f : A → LoopAt) (xs : List A) (i j : ℕ) (x y : A) → Follow f xs → i < j → slice_get xs i ≡ Some x → slice_get xs j ≡ Some y → Precedes (f x) (f y)
 follow_at f [] i j x y h lt at_i at_j = absurd cc
 follow_at f (z ∷ xs) i zero x y h lt at_i at_j = absurd (omega (arith, lt))
-follow_at f (z ∷ xs) zero (suc j) x y h lt at_i at_j = subst (λ w. Precedes (f w) (f y)) (some_inj z x at_i) (all_has (λ w. Precedes (f z) (f w)) xs y h.0 (has_get xs j y at_j))
+follow_at f (z ∷ xs) zero (suc j) x y h lt at_i at_j = subst (λ w. Precedes (f w) (f y)) (same_Some z x at_i) (all_has (λ w. Precedes (f z) (f w)) xs y h.0 (has_get xs j y at_j))
 follow_at f (z ∷ xs) (suc i) (suc j) x y h lt at_i at_j = follow_at f xs i j x y h.1 (omega (arith, lt)) at_i at_j
 
 abbrev at_of : PlacedLoop → LoopAt

@@ -3,13 +3,14 @@ use Rattle.std.specs.Prelude.{◌≡◌, ℕ, zero, suc, ◌+◌, ◌-◌, ◌*�
 use Rattle.std.specs.List.{AllByRecursion, cons_option}
 use Rattle.std.proofs.Common.{refl, sym, ◌∙◌, ap, subst, arith, inl, inr, ⊎_elim}
 use Rattle.std.proofs.lemmas.Bool.{eq-eqb, and_from}
+use Rattle.std.proofs.lemmas.Option.{same_Some}
 use Rattle.solid_data.specs.Ring.{numbers_from}
 use Rattle.solid_data.specs.declared.solid.EdgeId.{EdgeId}
 use Rattle.solid_data.specs.declared.solid.LoopAt.{LoopAt}
 use Rattle.edge_uses.specs.declared.row.Row.{Row}
 use Rattle.edge_uses.specs.ShellRows.{ShellRows, EndsMeet}
 use Rattle.edge_uses.specs.Closed.{AreNeighbours, IsPaired, IsReached, IsLinked, IsPoint, row_count}
-use Rattle.solid_data.proofs.Members.{some_inj, Has, NoRepeat, Has-from_Contains, Contains-from_Has, All-at, All-from, covers, count_by-total}
+use Rattle.solid_data.proofs.Members.{Has, NoRepeat, Has-from_Contains, Contains-from_Has, All-at, All-from, covers, count_by-total}
 use Rattle.edge_uses.proofs.Counting.{counted, paired_by_count}
 use Rattle.topo_certificate.specs.Stand.{Stand, FitsEdge, FitsCorner, FitsPoint, FitsReach, IsAbove, first_of, row_named, row_edge, row_start, row_face, point_named}
 use Rattle.solid_data.proofs.Trail.{leads_last}
@@ -29,7 +30,7 @@ pub record AreGoodRows (d : ShellRows) : Type 0 where
 
 pub row_has : (P : Row → Type 0) (rows : List Row) (n : ℕ) (r : Row) → AllByRecursion P rows → slice_get rows n ≡ Some r → P r
 row_has P [] n r all h = absurd cc
-row_has P (x ∷ rows) zero r all h = subst P (some_inj x r h) all.0
+row_has P (x ∷ rows) zero r all h = subst P (same_Some x r h) all.0
 row_has P (x ∷ rows) (suc n) r all h = row_has P rows n r all.1 h
 
 pub named_has : (P : Row → Type 0) (d : ShellRows) (n : ℕ) (r : Row) → AllByRecursion P d.rows → row_named d n ≡ Some r → P r
@@ -110,7 +111,7 @@ start_known d good r v h = at_row (row_named d r) refl h
   where
     at_row : (o : Option Row) → row_named d r ≡ o → row_start o ≡ Some v → Has d.vertices v
     at_row None e h = absurd cc
-    at_row (Some row) e h = subst (Has d.vertices) (some_inj row.from.0 v h) (named_has (λ (x : Row). Has d.vertices x.from.0) d r row good.starts e)
+    at_row (Some row) e h = subst (Has d.vertices) (same_Some row.from.0 v h) (named_has (λ (x : Row). Has d.vertices x.from.0) d r row good.starts e)
 
 abbrev point_vertex : Option (LoopAt × ℕ) → Option ℕ
 point_vertex None = None
@@ -121,7 +122,7 @@ found_point P test [] q all h = absurd cc
 found_point P test (p ∷ ps) q all h = by_test (test p) h (λ k. found_point P test ps q all.1 k)
   where
     by_test : (b : Bool) → cond b (Some p) (find test ps) ≡ Some q → (find test ps ≡ Some q → P q) → P q
-    by_test true h k = subst P (some_inj p q h) all.0
+    by_test true h k = subst P (same_Some p q h) all.0
     by_test false h k = k h
 
 point_known : (d : ShellRows) → AreGoodRows d → (face l v : ℕ) → option_map (λ (p : LoopAt × ℕ). p.1) (point_named d face l) ≡ Some v → Has d.vertices v
@@ -129,7 +130,7 @@ point_known d good face l v h = at_point (point_named d face l) refl h
   where
     at_point : (o : Option (LoopAt × ℕ)) → point_named d face l ≡ o → option_map (λ (p : LoopAt × ℕ). p.1) o ≡ Some v → Has d.vertices v
     at_point None e h = absurd cc
-    at_point (Some p) e h = subst (Has d.vertices) (some_inj p.1 v h) (found_point (λ (q : LoopAt × ℕ). Has d.vertices q.1) _ d.points p good.points e)
+    at_point (Some p) e h = subst (Has d.vertices) (same_Some p.1 v h) (found_point (λ (q : LoopAt × ℕ). Has d.vertices q.1) _ d.points p good.points e)
 
 point_from_line : (d : ShellRows) (at : Stand) (face l : ℕ) → (h : FitsPoint d at face l) → IsPoint d h.vertex
 point_from_line d at face l h = record {
@@ -166,8 +167,8 @@ neighbours_of_mates d (suc r) (suc m) f g a on_f on_g =
       m,
       r,
       record { row = b.row; mate = b.mate; at_r = b.at_r; at_m = b.at_m; one_edge = b.one_edge; opposite = b.opposite },
-      (a.mate, a.at_m, some_inj a.mate.at.face.0 g (sym (ap row_face a.at_m) ∙ on_g)),
-      (a.row, a.at_r, some_inj a.row.at.face.0 f (sym (ap row_face a.at_r) ∙ on_f)),
+      (a.mate, a.at_m, same_Some a.mate.at.face.0 g (sym (ap row_face a.at_m) ∙ on_g)),
+      (a.row, a.at_r, same_Some a.row.at.face.0 f (sym (ap row_face a.at_r) ∙ on_f)),
     )
 
 first_reached : (d : ShellRows) → IsReached d 0
@@ -178,7 +179,7 @@ face_below d good r f h = at_row (row_named d r) refl h
   where
     at_row : (o : Option Row) → row_named d r ≡ o → row_face o ≡ Some f → f < d.face_count
     at_row None e h = absurd cc
-    at_row (Some row) e h = subst (λ x. x < d.face_count) (some_inj row.at.face.0 f h) (named_has (λ (x : Row). x.at.face.0 < d.face_count) d r row good.faces e)
+    at_row (Some row) e h = subst (λ x. x < d.face_count) (same_Some row.at.face.0 f h) (named_has (λ (x : Row). x.at.face.0 < d.face_count) d r row good.faces e)
 
 pub reach_step : (d : ShellRows) (at : Stand) (fs : List ℕ) (n r : ℕ) → AreGoodRows d → MatesHold d at.mates → ReachFacts d fs n → at.reached ≡ 0 ∷ fs → FitsReach d at r → ReachFacts d (cons_option (row_face (row_named d r)) fs) (suc n)
 reach_step d at fs n r good hold facts reached h =

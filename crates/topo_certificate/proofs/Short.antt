@@ -1,14 +1,15 @@
 -- Lines with small numbers are spelled, and none of them is long.
-use Rattle.std.specs.Prelude.{◌≡◌, ℕ, zero, suc, ◌+◌, ◌*◌, ◌<◌, ◌≤◌, ◌^◌, ◌==◌, List, [], ◌∷◌, length, flat_map, count_by, decimal, Some, slice_get}
+use Rattle.std.specs.Prelude.{◌≡◌, ℕ, suc, ◌+◌, ◌*◌, ◌<◌, ◌≤◌, ◌^◌, ◌==◌, List, [], ◌∷◌, length, flat_map, count_by, decimal, Some, slice_get}
 use Rattle.std.specs.List.{AllByRecursion}
 use Rattle.std.proofs.Common.{refl, arith, length-append}
 use Rattle.std.proofs.lemmas.Fmt.{length-decimal-le}
 use Rattle.std.proofs.lemmas.List.Sums.{count_by-le-length}
+use Rattle.std.proofs.lemmas.Option.{slice_get_within}
 use Rattle.solid_data.specs.SolidData.{SolidData, shell_uses}
 use Rattle.solid_data.specs.declared.solid.LoopAt.{LoopAt}
 use Rattle.edge_uses.specs.declared.row.Row.{Row}
 use Rattle.edge_uses.specs.ShellRows.{ShellRows}
-use Rattle.solid_data.proofs.Members.{get_below, Has}
+use Rattle.solid_data.proofs.Members.{Has}
 use Rattle.cert_lines.specs.Line.{CertLine, shell, edge, corner, point, reach, end, spaced, spelling, IsShort, IsLine, line_limit}
 
 -- the sizes of a shell are small
@@ -66,7 +67,7 @@ readable_corner s r rs short few =
 
 -- a row's number is short
 pub row_short : (s : SolidData) (d : ShellRows) → IsSmall s d → (n : ℕ) (r : Row) → slice_get d.rows n ≡ Some r → IsShort (suc n)
-row_short s d small n r at = omega (arith, get_below d.rows n r at, small.rows, small.few)
+row_short s d small n r at = omega (arith, slice_get_within d.rows n r at, small.rows, small.few)
 
 pub starts_few : (s : SolidData) (d : ShellRows) → IsSmall s d → (v : ℕ) → count_by (λ (r : Row). r.from.0 == v) d.rows ≤ length (flat_map shell_uses s.shells)
 starts_few s d small v = omega (arith, count_by-le-length (λ (r : Row). r.from.0 == v) d.rows, small.rows)

@@ -2,8 +2,8 @@
 use Rattle.std.specs.Prelude.{◌≡◌, ℕ, ◌+◌, ◌-◌, ◌<◌, ◌≤◌, true, false, List, [], ◌∷◌, length, Option, Some, None, IsSomeAnd, slice_set}
 use Rattle.std.proofs.Common.{refl, sym, ◌∙◌, ap, subst, arith, ⊎_elim}
 use Rattle.std.proofs.lemmas.List.{length-set}
+use Rattle.std.proofs.lemmas.Option.{same_Some}
 use Rattle.solid_data.specs.SolidData.{SolidData}
-use Rattle.solid_data.proofs.Members.{some_inj}
 use Rattle.edge_uses.specs.declared.row.Row.{Row}
 use Rattle.cert_lines.specs.Line.{edge, corner, point, reach}
 use Rattle.topo_certificate.specs.Stand.{Stand, stand_behind, rows_of_shell, row_named, edge_of, vertex_of, face_of, IsAbove, CornerDue, FitsOpen, FitsEdge, FitsPoint, FitsReach}
@@ -49,15 +49,15 @@ can_mate k a b e kept h = by_fit (h.fits (stand_at k.last_edge) (stand_at_last k
           pos_b = pb.0;
           within_a = omega (arith, pa.1, kept.each_row);
           within_b = omega (arith, pb.1, kept.each_row);
-          differ = λ same. (let r : f.along_row ≡ f.against_row = some_inj f.along_row f.against_row (sym f.at_a ∙ (ap (row_named k.rows) same ∙ f.at_b)) in
+          differ = λ same. (let r : f.along_row ≡ f.against_row = same_Some f.along_row f.against_row (sym f.at_a ∙ (ap (row_named k.rows) same ∙ f.at_b)) in
               let t : true ≡ false = sym f.along ∙ (ap (λ (x : Row). x.along) r ∙ f.against) in
               cc);
           free_a = λ m is. (let p = kept.passed a m is in
-              let r : p.0 ≡ f.along_row = some_inj p.0 f.along_row (sym p.1 ∙ f.at_a) in
+              let r : p.0 ≡ f.along_row = same_Some p.0 f.along_row (sym p.1 ∙ f.at_a) in
               let q : p.0.edge.0 ≡ f.along_row.edge.0 = ap (λ (x : Row). x.edge.0) r in
               omega (arith, q, not_passed k.last_edge f.along_row.edge.0 p.0.edge.0 above p.2));
           free_b = λ m is. (let p = kept.passed b m is in
-              let r : p.0 ≡ f.against_row = some_inj p.0 f.against_row (sym p.1 ∙ f.at_b) in
+              let r : p.0 ≡ f.against_row = same_Some p.0 f.against_row (sym p.1 ∙ f.at_b) in
               let q : p.0.edge.0 ≡ f.against_row.edge.0 = ap (λ (x : Row). x.edge.0) r in
               omega (arith, q, one, not_passed k.last_edge f.along_row.edge.0 p.0.edge.0 above p.2));
         }
@@ -75,7 +75,7 @@ edge_kept k a b e n kept h less = record {
   where
     by_case : (r m : ℕ) → FitsEdge k.rows (stand_at k.last_edge) a b × (edge_of k.rows (edge a b) ≡ Some e) → MateCases k.mates a b r m → (row : Row) × (row_named k.rows r ≡ Some row) × (row.edge.0 ≤ e)
     by_case r m (f, is_e) cases =
-        let edge_is : f.along_row.edge.0 ≡ e = some_inj f.along_row.edge.0 e (sym (ap (λ o. edge_at o) f.at_a) ∙ is_e) in
+        let edge_is : f.along_row.edge.0 ≡ e = same_Some f.along_row.edge.0 e (sym (ap (λ o. edge_at o) f.at_a) ∙ is_e) in
         let one : f.along_row.edge.0 ≡ f.against_row.edge.0 = ap (λ x. x.0) f.one_edge in
         let above : IsAbove k.last_edge f.along_row.edge.0 = subst (λ o. IsAbove o f.along_row.edge.0) (stand_at_last k.last_edge) f.rises in
         ⊎_elim (λ p. (f.along_row, ap (row_named k.rows) p.0 ∙ f.at_a, omega (arith, edge_is)))

@@ -3,9 +3,9 @@ use Rattle.std.specs.Prelude.{◌≡◌, ◌<◌, ◌≤◌, ◌+◌, ◌^◌, �
 use Rattle.std.specs.List.{enumerate_from}
 use Rattle.std.proofs.Common.{refl, ◌∙◌, ap, subst, arith, get_or, drop, length-append}
 use Rattle.std.proofs.lemmas.Grind.{flat_map-append}
-use Rattle.std.proofs.lemmas.Option.{get_or_from_slice_get}
+use Rattle.std.proofs.lemmas.Option.{get_or_from_slice_get, slice_get_within}
 use Rattle.std.proofs.lemmas.List.{drop_all}
-use Rattle.solid_data.proofs.Members.{get_below, split_at}
+use Rattle.solid_data.proofs.Members.{split_at}
 use Rattle.solid_data.specs.SolidData.{SolidData, PlacedLoop, placed_in_face, shell_uses}
 use Rattle.solid_data.specs.Numbering.{IsNumberedSolid}
 use Rattle.solid_data.specs.declared.solid.Loop.{Loop}
@@ -46,7 +46,7 @@ pub shells_split : (hs : List Shell) (k : ℕ) (h : Shell) → slice_get hs k �
 shells_split hs k h at = ap shells_size (split_at hs k h at)
 
 pub some_faces : (s : SolidData) → IsNumberedSolid s → (k : ℕ) (h : Shell) → slice_get s.shells k ≡ Some h → 0 < length h.faces
-some_faces s numbered k h at = subst (λ (x : Shell). 0 < length x.faces) (get_or_from_slice_get s.shells k h h at) (numbered.each_shell k h (get_below s.shells k h at))
+some_faces s numbered k h at = subst (λ (x : Shell). 0 < length x.faces) (get_or_from_slice_get s.shells k h h at) (numbered.each_shell k h (slice_get_within s.shells k h at))
 
 no_fewer : (hs : List Shell) → ((k : ℕ) (h : Shell) → slice_get hs k ≡ Some h → 0 < length h.faces) → length hs ≤ length (flat_map (λ (h : Shell). h.faces) hs)
 no_fewer [] each = omega arith
