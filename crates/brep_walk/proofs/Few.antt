@@ -7,6 +7,7 @@ use Rattle.std.proofs.lemmas.List.{length-map}
 use Rattle.std.proofs.lemmas.Bool.{eqb-true}
 use Rattle.std.proofs.Math.Nat.{div-add-mod}
 use Rattle.std.proofs.lemmas.List.FromFn.{length-enumerate_from}
+use Rattle.std.proofs.lemmas.Option.{slice_get_within}
 use Rattle.iges_fields.specs.declared.value.Value.{Value}
 use Rattle.iges_directory.specs.declared.entry.Entry.{Entry}
 use Rattle.iges_params.specs.Contents.{Contents}
@@ -17,7 +18,7 @@ use Rattle.brep_lists.specs.Record.{«loop», LoopTuple, tuple_due, items_of, Is
 use Rattle.brep_lists.proofs.OnlyRead.{missing, curves_only}
 use Rattle.solid_data.specs.Obligations.{AllHold}
 use Rattle.brep_walk.specs.Places.{HasRecordOf, Names, shells, faces, loops, tuples, numbers, loop_places, places}
-use Rattle.solid_data.proofs.Members.{from_enumerated, from_flat_map, has_map, Has, get_below, has_left, NoRepeat, total, fold-total}
+use Rattle.solid_data.proofs.Members.{from_enumerated, from_flat_map, has_map, Has, has_left, NoRepeat, total, fold-total}
 use Rattle.brep_walk.specs.SolidOf.{all_tuples, use_of, solid_of}
 use Rattle.solid_data.specs.SolidData.{SolidData, PlacedLoop, placed_in_face, placed_loops, shell_uses}
 use Rattle.solid_data.specs.declared.solid.FaceUse.{FaceUse}
@@ -238,7 +239,7 @@ has_few_parts f n limits all =
     let c : length s.shells ≤ length (flat_map (λ (h : Shell). h.faces) s.shells) = each_some (λ (h : Shell). h.faces) s.shells (λ h m. (shells_of f n all h m).3) in
     let few = tuples_few f n all in
     let most : sum_by (λ (e : Entry × List Value). length e.1) f.entries ≤ 164000000 = limits.values in
-    let low = get_below f.entries (name.number / 2) name.entry name.there in
+    let low = slice_get_within f.entries (name.number / 2) name.entry name.there in
     record {
       few_uses = omega (arith, uses, few, most);
       few_loops = omega (arith, uses, few, most, placed, a);

@@ -1,26 +1,23 @@
 -- What numbers name.
-use Rattle.std.specs.Prelude.{◌≡◌, ◌↔◌, IsTrue, IsSomeAnd, ℕ, Bool, true, false, ℤ, pos, List, Option, Some, None}
+use Rattle.std.specs.Prelude.{◌≡◌, ◌↔◌, IsTrue, IsSomeAnd, ℕ, Bool, ℤ, pos, List, Option, Some, None}
 use Rattle.std.specs.Option.{option_map}
-use Rattle.std.proofs.Common.{refl, sym, ◌∙◌, ap, subst}
+use Rattle.std.proofs.Common.{sym, subst}
+use Rattle.std.proofs.lemmas.Option.{same_Some, none-some}
 use Rattle.iges_fields.specs.declared.value.Value.{Value}
 use Rattle.iges_directory.specs.declared.entry.Entry.{Entry}
 use Rattle.iges_params.specs.Contents.{Contents}
 use Rattle.iges_params.specs.Named.{named}
 use Rattle.brep_lists.specs.Record.{EntityKind, type_number}
 use Rattle.brep_walk.specs.Places.{NamesGeometry}
-use Rattle.solid_data.proofs.Members.{some_inj}
 
 abbrev IsGeometry : Entry → Type 0
 IsGeometry e = (kind : EntityKind) → ¬ (e.kind ≡ type_number kind)
 
 of_entry : (o : Option (Entry × List Value)) (e : Entry) (b : Bool) → Some e ≡ option_map (λ (x : Entry × List Value). x.0) o
     → (IsTrue b → IsGeometry e) → (IsGeometry e → IsTrue b) → IsTrue b ↔ IsSomeAnd o (λ x. IsGeometry x.0)
-of_entry None e b is there back = absurd (none_some is)
-  where
-    none_some : Some e ≡ None → ⊥
-    none_some w = cc
+of_entry None e b is there back = absurd (none-some e (sym is))
 of_entry (Some x) e b is there back =
-    let same : e ≡ x.0 = some_inj e x.0 is in
+    let same : e ≡ x.0 = same_Some e x.0 is in
     ((λ t. subst IsGeometry same (there t)), (λ g. back (subst IsGeometry (sym same) g)))
 
 pub geometry_of : (f : Contents) (z : ℤ) (n : ℕ) → z ≡ pos n → (e : Entry) → Some e ≡ option_map (λ (x : Entry × List Value). x.0) (named f (pos n))

@@ -1,11 +1,12 @@
 -- The ids of a file's solid are numbered by first appearance.
-use Rattle.std.specs.Prelude.{◌≡◌, ◌≢◌, ℕ, zero, suc, ◌+◌, ◌==◌, ◌&&◌, ◌⊎◌, Bool, true, false, not, cond, ℤ, pos, negsuc, List, [], ◌∷◌, ◌++◌, length, map, flat_map, filter, Some, None, slice_get, if◌then◌else◌}
+use Rattle.std.specs.Prelude.{◌≡◌, ◌≢◌, ℕ, zero, suc, ◌+◌, ◌==◌, ◌&&◌, ◌⊎◌, Bool, true, false, not, cond, ℤ, pos, negsuc, List, [], ◌∷◌, ◌++◌, length, map, flat_map, filter, Some, slice_get, if◌then◌else◌}
 use Rattle.std.specs.List.{enumerate_from}
 use Rattle.std.proofs.Common.{refl, sym, ◌∙◌, ap, subst, arith, inl, inr}
 use Rattle.std.proofs.lemmas.Bool.{eq-eqb, eqb-true, and_parts}
 use Rattle.std.proofs.lemmas.Bool.Decides.{eqb_tells}
 use Rattle.std.proofs.lemmas.List.{map-append}
 use Rattle.std.proofs.lemmas.Grind.{flat_map-append}
+use Rattle.std.proofs.lemmas.Option.{same_Some, none-some}
 use Rattle.iges_params.specs.Contents.{Contents}
 use Rattle.brep_lists.specs.Record.{LoopTuple}
 use Rattle.brep_lists.specs.declared.edge_list.EdgeTuple.{EdgeTuple}
@@ -21,7 +22,7 @@ use Rattle.solid_data.specs.declared.solid.VertexKey.{VertexKey}
 use Rattle.solid_data.specs.declared.solid.Loop.{Loop}
 use Rattle.solid_data.specs.declared.solid.LoopUse.{LoopUse}
 use Rattle.solid_data.specs.declared.solid.LoopUse.TheVariants.{EdgeUse, VertexUse}
-use Rattle.solid_data.proofs.Members.{from_flat_map, Has, some_inj, has_flat_map, length-singles, get_single}
+use Rattle.solid_data.proofs.Members.{from_flat_map, Has, has_flat_map, length-singles, get_single}
 use Rattle.solid_data.proofs.Keys.{from_filter, to_distinct, from_distinct, at_place}
 use Rattle.brep_walk.proofs.KnownVertices.{vertex_sound, vertex_itself}
 
@@ -36,7 +37,7 @@ module _ {A : Type 0} (same : A → A → Bool) (sound : (a b : A) → same a b 
           → (place_of same keys a == place_of same keys b) ≡ t
       by_test true e tells = eq-eqb (place_of same keys a) (place_of same keys b) (ap (place_of same keys) (sound a b e))
       by_test false e (inl p) =
-          let one : a ≡ b = some_inj a b (sym (at_place same sound itself keys a h) ∙ (ap (slice_get keys) p.1 ∙ at_place same sound itself keys b k)) in
+          let one : a ≡ b = same_Some a b (sym (at_place same sound itself keys a h) ∙ (ap (slice_get keys) p.1 ∙ at_place same sound itself keys b k)) in
           absurd (true_is_false (sym (ap (same a) (sym one) ∙ itself a) ∙ e))
         where
           true_is_false : true ≡ false → ⊥
@@ -196,10 +197,7 @@ EdgesFound f n = (t : LoopTuple) → Has (all_tuples f n) t → t.is_vertex ≡ 
 
 pub by_key : (f : Contents) (e : ℤ) (j : ℕ) (t : EdgeTuple) → edge_at f e j ≡ Some t → edge_at f (pos (entry_number e)) j ≡ Some t
 by_key f (pos n) j t h = h
-by_key f (negsuc n) j t h = absurd (none_there h)
-  where
-    none_there : None ≡ Some t → ⊥
-    none_there w = cc
+by_key f (negsuc n) j t h = absurd (none-some t h)
 
 key_found : (f : Contents) (n : ℤ) → EdgesFound f n → (key : EdgeKey) → Has (edge_keys f n) key → (e : EdgeTuple) × (edge_at f (pos key.«list».0) key.index ≡ Some e)
 key_found f n found key h =

@@ -1,7 +1,8 @@
 -- What a record that was opened shows of its place.
-use Rattle.std.specs.Prelude.{◌≡◌, ℕ, zero, suc, ◌+◌, ◌<◌, ◌≤◌, ◌^◌, ◌/◌, IsSome, IsSomeAnd, IsErrAnd, IfErr, Result, Ok, Err, Bool, true, false, ℤ, pos, List, [], ◌∷◌, ◌++◌, length, map, flat_map, Option, Some, None, slice_get, sum_by}
-use Rattle.std.proofs.Common.{refl, sym, ◌∙◌, ap, subst, arith, inl, inr, length-append}
+use Rattle.std.specs.Prelude.{◌≡◌, ℕ, zero, suc, ◌+◌, ◌<◌, ◌≤◌, ◌^◌, ◌/◌, IsSome, IsSomeAnd, IsErrAnd, IfErr, Result, Ok, Err, true, false, ℤ, pos, List, [], ◌∷◌, length, map, Option, Some, None, slice_get, sum_by}
+use Rattle.std.proofs.Common.{refl, sym, ◌∙◌, ap, subst, arith, inl, inr}
 use Rattle.std.proofs.lemmas.List.{length-map}
+use Rattle.std.proofs.lemmas.Option.{same_Some, none-some}
 use Rattle.iges_fields.specs.declared.value.Value.{Value}
 use Rattle.iges_directory.specs.declared.entry.Entry.{Entry}
 use Rattle.iges_params.specs.Contents.{Contents}
@@ -13,9 +14,9 @@ use Rattle.solid_data.specs.Obligations.{AllHold, FirstFalse, obligation, entry_
 use Rattle.solid_data.proofs.ObligationLemmas.{FirstFalse-append_front}
 use Rattle.solid_data.specs.declared.verdict.Failing.{Failing}
 use Rattle.solid_data.specs.declared.verdict.Rule.TheVariants.{BadLayout}
-use Rattle.solid_data.proofs.Members.{total, fold-total, some_inj}
+use Rattle.solid_data.proofs.Members.{total, fold-total}
 use Rattle.brep_walk.specs.Places.{told, Names, HasRecordOf, entry_places, record_places}
-use Rattle.brep_walk.proofs.Few.{IsNamed, name_parts, each_some}
+use Rattle.brep_walk.proofs.Few.{name_parts, each_some}
 
 -- Whether the record is of the kind.
 
@@ -93,11 +94,8 @@ due_length edges tuples = omega (arith, each_some edge_due tuples (λ x h. omega
 due_length vertices triples = omega (arith, each_some vertex_due triples (λ x h. omega arith))
 
 entry_total : (es : List (Entry × List Value)) (k : ℕ) (e : Entry × List Value) → slice_get es k ≡ Some e → length e.1 ≤ total (λ (x : Entry × List Value). length x.1) es
-entry_total [] k e h = absurd (none_some h)
-  where
-    none_some : None ≡ Some e → ⊥
-    none_some w = cc
-entry_total (x ∷ es) zero e h = let same : length x.1 ≡ length e.1 = ap (λ (y : Entry × List Value). length y.1) (some_inj x e h) in omega (arith, same)
+entry_total [] k e h = absurd (none-some e h)
+entry_total (x ∷ es) zero e h = let same : length x.1 ≡ length e.1 = ap (λ (y : Entry × List Value). length y.1) (same_Some x e h) in omega (arith, same)
 entry_total (x ∷ es) (suc k) e h = omega (arith, entry_total es k e h)
 
 -- the values of one record are no more than those of all

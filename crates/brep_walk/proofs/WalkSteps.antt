@@ -1,14 +1,15 @@
 -- One step of a walk over a list.
-use Rattle.std.specs.Prelude.{◌≡◌, ◌+◌, ◌≤◌, ℕ, zero, suc, ℤ, List, [], ◌∷◌, ◌++◌, map, flat_map, length, take, drop, slice_get, Some, None}
+use Rattle.std.specs.Prelude.{◌≡◌, ◌+◌, ◌≤◌, ℕ, zero, suc, ℤ, List, [], ◌∷◌, ◌++◌, map, flat_map, length, take, drop, slice_get, Some}
 use Rattle.std.proofs.Common.{refl, sym, ◌∙◌, ap, subst, arith, append_assoc}
 use Rattle.std.proofs.lemmas.List.{map-append}
 use Rattle.std.proofs.lemmas.Grind.{flat_map-append}
+use Rattle.std.proofs.lemmas.Option.{same_Some, none-some}
 use Rattle.iges_params.specs.Contents.{Contents}
 use Rattle.brep_lists.specs.Record.{LoopTuple}
 use Rattle.solid_data.specs.Obligations.{Obligation, AllHold, after_each}
 use Rattle.solid_data.specs.SolidData.{same_edge, same_vertex}
 use Rattle.solid_data.proofs.ObligationLemmas.{Remains, Remains-less}
-use Rattle.solid_data.proofs.Members.{some_inj, split_at}
+use Rattle.solid_data.proofs.Members.{split_at}
 use Rattle.brep_walk.specs.declared.fault.WalkFault.{WalkFault}
 use Rattle.brep_walk.specs.Numbered.{Extends, IsMadeBy, keys_after}
 use Rattle.brep_walk.specs.Places.{tuple_at, tuple_places}
@@ -91,18 +92,12 @@ made_last F old new grown xs x out b pushed before here is later more = is ∙ m
 -- A walk by places: the i-th item comes next.
 
 pub take_next : {A : Type 0} (xs : List A) (i : ℕ) (x : A) → slice_get xs i ≡ Some x → take (i + 1) xs ≡ take i xs ++ x ∷ []
-take_next [] i x h = absurd (none_some h)
-  where
-    none_some : None ≡ Some x → ⊥
-    none_some w = cc
-take_next (y ∷ xs) zero x h = ap (λ z. z ∷ []) (some_inj y x h)
+take_next [] i x h = absurd (none-some x h)
+take_next (y ∷ xs) zero x h = ap (λ z. z ∷ []) (same_Some y x h)
 take_next (y ∷ xs) (suc i) x h = let e : suc i + 1 ≡ suc (i + 1) = omega arith in ap (λ n. take n (y ∷ xs)) e ∙ ap (λ zs. y ∷ zs) (take_next xs i x h)
 
 pub place_next : {A : Type 0} (xs : List A) (i : ℕ) (x : A) → slice_get xs i ≡ Some x → i + 1 ≡ length (take i xs) + 1
-place_next [] i x h = absurd (none_some h)
-  where
-    none_some : None ≡ Some x → ⊥
-    none_some w = cc
+place_next [] i x h = absurd (none-some x h)
 place_next (y ∷ xs) zero x h = refl
 place_next (y ∷ xs) (suc i) x h = omega (arith, place_next xs i x h)
 

@@ -12,9 +12,10 @@ use Rattle.edge_uses.specs.ShellRows.{ShellRows, row_of, loop_rows, point_of, sh
 use Rattle.std.proofs.lemmas.List.{length-map}
 use Rattle.std.proofs.lemmas.Bool.{eqb-true}
 use Rattle.std.proofs.lemmas.List.FromFn.{length-enumerate_from}
+use Rattle.std.proofs.lemmas.Option.{slice_get_within}
 use Rattle.cert_lines.proofs.CutLines.{cut_spelled}
 use Rattle.edge_uses.specs.Closed.{IsLinked, IsPaired, IsClosedShell, IsClosedSolid, point_count}
-use Rattle.solid_data.proofs.Members.{map_has, get_below, from_flat_map, has_map, Has, All-at, no_longer, count_by-total, Rises, rises_none, has_left, has_right, all_has, has_get}
+use Rattle.solid_data.proofs.Members.{map_has, from_flat_map, has_map, Has, All-at, no_longer, count_by-total, Rises, rises_none, has_left, has_right, all_has, has_get}
 use Rattle.edge_uses.proofs.Counting.{two_rows_each}
 use Rattle.edge_uses.proofs.RowFacts.{loops_below, edges_rise, vertices_rise, edges_known}
 use Rattle.edge_uses.proofs.Adding.{rows_shorter}
@@ -85,7 +86,7 @@ points_low s h x m =
     let l = has_map _ (enumerate_from 0 f.0.1.loops) p.0 f.2 in
     let g = enum_get 0 f.0.1.loops l.0 l.1 in
     let here : l.0.0 ≡ p.0.at.place = ap (λ (q : PlacedLoop). q.at.place) l.2 in
-    let below : g.0 < length f.0.1.loops = get_below f.0.1.loops g.0 l.0.1 g.2 in
+    let below : g.0 < length f.0.1.loops = slice_get_within f.0.1.loops g.0 l.0.1 g.2 in
     let few : length (placed_in_face h.flag f.0) ≤ length (placed_loops h) = part_shorter (placed_in_face h.flag) (enumerate_from 0 h.faces) f.0 f.1 in
     let sizes : length (placed_in_face h.flag f.0) ≡ length f.0.1.loops = length-map (enumerate_from 0 f.0.1.loops) _ ∙ length-enumerate_from 0 f.0.1.loops in (
       subst (λ (a : LoopAt). a.face.0 < length h.faces) (sym at) low,

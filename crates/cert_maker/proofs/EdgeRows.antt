@@ -4,10 +4,11 @@ use Rattle.std.specs.List.{AllByRecursion}
 use Rattle.std.proofs.Common.{refl, sym, ◌∙◌, ap, subst, arith, inl, inr, ⊎_elim, get_or}
 use Rattle.solid_data.specs.declared.solid.EdgeId.{EdgeId}
 use Rattle.solid_data.specs.declared.solid.RowId.{RowId}
-use Rattle.solid_data.proofs.Members.{All-at, some_inj, get_below, Contains-from_Has, has_get}
+use Rattle.solid_data.proofs.Members.{All-at, Contains-from_Has, has_get}
 use Rattle.solid_data.proofs.ObligationLemmas.{AllByRecursion-weaker}
 use Rattle.std.proofs.lemmas.List.Elements.{All-contains}
 use Rattle.std.proofs.lemmas.Bool.{not-true}
+use Rattle.std.proofs.lemmas.Option.{same_Some, slice_get_within}
 use Rattle.edge_uses.specs.declared.row.Row.{Row}
 use Rattle.edge_uses.specs.declared.spanning.Span.{Span}
 use Rattle.edge_uses.specs.ShellRows.{ShellRows, AreRows}
@@ -63,7 +64,7 @@ noted d span i row old new at within size along against before e r runs low = by
 
     by_place : (r ≡ i) ⊎ (r ≡ i → ⊥) → RunsOn d e true (get_or new (e - span.least) 0)
     by_place (inl same) =
-        let one : runs.row ≡ row = some_inj runs.row row (sym runs.at ∙ (ap (slice_get d.rows) same ∙ at)) in
+        let one : runs.row ≡ row = same_Some runs.row row (sym runs.at ∙ (ap (slice_get d.rows) same ∙ at)) in
         at_edge (sym runs.edge ∙ ap (λ (x : Row). x.edge.0) one) (sym (ap (λ (x : Row). x.along) one) ∙ runs.along)
     by_place (inr differ) = by_way (omega (arith, low, differ)) row.along refl
 
@@ -71,12 +72,12 @@ noted d span i row old new at within size along against before e r runs low = by
 pub along_there : (d : ShellRows) (span : Span) (along : List ℕ) (i e : ℕ) → ArePaired d → slice_get d.edges i ≡ Some e → RunAlong d span (length d.rows) along → RunsOn d e true (get_or along (e - span.least) 0)
 along_there d span along i e paired at all =
     let r = row_of_edge_along d e (All-at (IsPaired d) d.edges paired.paired e (has_get d.edges i e at)) in
-    all e r.0 (record { row = r.1; at = r.2; edge = r.3; along = r.4 }) (get_below d.rows r.0 r.1 r.2)
+    all e r.0 (record { row = r.1; at = r.2; edge = r.3; along = r.4 }) (slice_get_within d.rows r.0 r.1 r.2)
 
 -- and its mate runs against it
 pub mate_against : (d : ShellRows) (e r m : ℕ) → RunsOn d e true r → AreMates d r m → RunsOn d e false m
 mate_against d e r m runs mates =
-    let one : mates.row ≡ runs.row = some_inj mates.row runs.row (sym mates.at_r ∙ runs.at) in
+    let one : mates.row ≡ runs.row = same_Some mates.row runs.row (sym mates.at_r ∙ runs.at) in
     record {
       row = mates.mate;
       at = mates.at_m;

@@ -1,13 +1,14 @@
 -- A loop of a shell is found at its place.
-use Rattle.std.specs.Prelude.{◌≡◌, ℕ, ◌<◌, Some, Contains, slice_get, length}
+use Rattle.std.specs.Prelude.{◌≡◌, ◌<◌, Some, Contains, slice_get, length}
 use Rattle.std.specs.List.{enumerate_from}
-use Rattle.std.proofs.Common.{refl, sym, ◌∙◌, ap, subst, arith}
+use Rattle.std.proofs.Common.{sym, ◌∙◌, ap, subst, arith}
+use Rattle.std.proofs.lemmas.Option.{same_Some, slice_get_within}
 use Rattle.solid_data.specs.SolidData.{PlacedLoop, placed_in_face, placed_loops}
 use Rattle.solid_data.specs.declared.solid.FaceUse.{FaceUse}
 use Rattle.solid_data.specs.declared.solid.Loop.{Loop}
 use Rattle.solid_data.specs.declared.solid.LoopAt.{LoopAt}
 use Rattle.solid_data.specs.declared.solid.Shell.{Shell}
-use Rattle.solid_data.proofs.Members.{Has, Has-from_Contains, from_flat_map, get_below, has_map, some_inj}
+use Rattle.solid_data.proofs.Members.{Has, Has-from_Contains, from_flat_map, has_map}
 use Rattle.cert_maker.proofs.Ready.{enum_get}
 
 -- its face, and the loop there
@@ -31,17 +32,17 @@ IsPlace h at = (p : PlacedLoop) × Contains (placed_loops h) p × (at ≡ p.at)
 pub face_below : (h : Shell) (at : LoopAt) → IsPlace h at → at.face.0 < length h.faces
 face_below h at (p, m, same) =
     let f = found h p (Has-from_Contains (placed_loops h) p m) in
-    subst (λ (a : LoopAt). a.face.0 < length h.faces) (sym same) (get_below h.faces p.at.face.0 f.0 f.1)
+    subst (λ (a : LoopAt). a.face.0 < length h.faces) (sym same) (slice_get_within h.faces p.at.face.0 f.0 f.1)
 
 pub named_loop : (h : Shell) (at : LoopAt) (face : FaceUse) (walk : Loop) → slice_get h.faces at.face.0 ≡ Some face → slice_get face.loops at.place ≡ Some walk → (p : PlacedLoop) → Contains (placed_loops h) p → at ≡ p.at → walk ≡ p.loop
 named_loop h at face walk at_face at_place p m same =
     let f = found h p (Has-from_Contains (placed_loops h) p m) in
-    let one : face ≡ f.0 = some_inj face f.0 (sym at_face ∙ (ap (λ (a : LoopAt). slice_get h.faces a.face.0) same ∙ f.1)) in
-    some_inj walk p.loop (sym at_place ∙ (ap (λ (a : LoopAt). slice_get face.loops a.place) same ∙ (ap (λ (g : FaceUse). slice_get g.loops p.at.place) one ∙ f.2)))
+    let one : face ≡ f.0 = same_Some face f.0 (sym at_face ∙ (ap (λ (a : LoopAt). slice_get h.faces a.face.0) same ∙ f.1)) in
+    same_Some walk p.loop (sym at_place ∙ (ap (λ (a : LoopAt). slice_get face.loops a.place) same ∙ (ap (λ (g : FaceUse). slice_get g.loops p.at.place) one ∙ f.2)))
 
 pub loop_below : (h : Shell) (at : LoopAt) (face : FaceUse) → IsPlace h at → slice_get h.faces at.face.0 ≡ Some face → at.place < length face.loops
 loop_below h at face (p, m, same) at_face =
     let f = found h p (Has-from_Contains (placed_loops h) p m) in
-    let one : face ≡ f.0 = some_inj face f.0 (sym at_face ∙ (ap (λ (a : LoopAt). slice_get h.faces a.face.0) same ∙ f.1)) in
+    let one : face ≡ f.0 = same_Some face f.0 (sym at_face ∙ (ap (λ (a : LoopAt). slice_get h.faces a.face.0) same ∙ f.1)) in
     let here : slice_get face.loops at.place ≡ Some p.loop = ap (λ (a : LoopAt). slice_get face.loops a.place) same ∙ (ap (λ (g : FaceUse). slice_get g.loops p.at.place) one ∙ f.2) in
-    get_below face.loops at.place p.loop here
+    slice_get_within face.loops at.place p.loop here

@@ -2,6 +2,7 @@
 use Rattle.std.specs.Prelude.{◌≡◌, ℕ, zero, suc, ◌+◌, ◌<◌, List, [], ◌∷◌, length, map, flat_map, Option, Some, None, slice_get}
 use Rattle.std.specs.List.{AllByRecursion, enumerate_from}
 use Rattle.std.proofs.Common.{refl, sym, ◌∙◌, ap, subst, arith, inl, inr, ⊎_elim}
+use Rattle.std.proofs.lemmas.Option.{same_Some}
 use Rattle.solid_data.specs.Ring.{numbers_from}
 use Rattle.solid_data.specs.SolidData.{SolidData, PlacedLoop, placed_in_face, placed_loops, same_flag}
 use Rattle.solid_data.specs.declared.solid.FaceUse.{FaceUse}
@@ -13,7 +14,7 @@ use Rattle.solid_data.specs.declared.solid.Shell.{Shell}
 use Rattle.edge_uses.specs.declared.row.Row.{Row}
 use Rattle.edge_uses.specs.ShellRows.{ShellRows, loop_rows, point_of, rows_of, shell_rows}
 use Rattle.edge_uses.specs.Closed.{IsJoined, IsPaired, IsReached, IsLinked, IsApart, IsClosedShell, IsClosedSolid}
-use Rattle.solid_data.proofs.Members.{all_append, from_flat_map, has_map, some_inj, Has, All-at, has_get}
+use Rattle.solid_data.proofs.Members.{all_append, from_flat_map, has_map, Has, All-at, has_get}
 use Rattle.solid_data.proofs.Occurring.{numbers_have}
 use Rattle.edge_uses.proofs.FollowRows.{each_is_followed}
 use Rattle.topo_certificate.specs.Stand.{rows_of_shell}
@@ -39,7 +40,7 @@ enum_one xs f g h k e =
     let a = enum_get 0 xs f h in
     let b = enum_get 0 xs g k in
     let same : a.0 ≡ b.0 = omega (arith, a.1, b.1, e) in
-    let item : f.1 ≡ g.1 = some_inj f.1 g.1 (sym a.2 ∙ (ap (slice_get xs) same ∙ b.2)) in
+    let item : f.1 ≡ g.1 = same_Some f.1 g.1 (sym a.2 ∙ (ap (slice_get xs) same ∙ b.2)) in
     ap (λ n. (n, f.1)) e ∙ ap (λ x. (g.0, x)) item
 
 placed_one : (shell : Shell) (p q : PlacedLoop) → Has (placed_loops shell) p → Has (placed_loops shell) q → p.at.face.0 ≡ q.at.face.0 → p.at.place ≡ q.at.place → p ≡ q
@@ -109,7 +110,7 @@ pub closed_at : (s : SolidData) (base : ℕ) (xs : List Shell) → AllByRecursio
 closed_at s base [] all j shell h = absurd cc
 closed_at s base (x ∷ xs) all zero shell h =
     let e : base ≡ base + 0 = omega arith in
-    subst (λ n. IsClosedShell s n shell) e (subst (IsClosedShell s base) (some_inj x shell h) all.0)
+    subst (λ n. IsClosedShell s n shell) e (subst (IsClosedShell s base) (same_Some x shell h) all.0)
 closed_at s base (x ∷ xs) all (suc j) shell h =
     let e : base + 1 + j ≡ base + suc j = omega arith in
     subst (λ n. IsClosedShell s n shell) e (closed_at s (base + 1) xs all.1 j shell h)

@@ -1,6 +1,7 @@
 -- Solids that fail, each with its first false obligation.
 use Rattle.std.proofs.Common.{refl, sym, ◌∙◌, ap, lit<, arith, inl, inr, ⊎_elim}
-use Rattle.std.specs.Prelude.{◌≡◌, ℕ, zero, suc, pos, List, [], ◌∷◌, ◌++◌, Some, None, slice_get, slice_set}
+use Rattle.std.proofs.lemmas.Option.{none-some}
+use Rattle.std.specs.Prelude.{◌≡◌, ℕ, zero, suc, pos, List, [], ◌∷◌, ◌++◌, slice_get, slice_set}
 use Rattle.iges_fields.specs.declared.Value.{Value}
 use Rattle.iges_fields.specs.declared.value.Value.TheVariants.{Int}
 use Rattle.iges_params.specs.Contents.{Contents}
@@ -68,13 +69,10 @@ two_points_fail =
         refl,
         inr (
           (zero, refl),
-          inl ((λ h. ⊎_elim (λ c. no_row c.some.1.1) (λ p. let e : ◌≡◌ {A = ℕ} 2 1 = p.one_point in omega (arith, e)) h), refl),
+          inl ((λ h. ⊎_elim (λ c. none-some _ c.some.1.1) (λ p. let e : ◌≡◌ {A = ℕ} 2 1 = p.one_point in omega (arith, e)) h), refl),
         ),
       ),
     )
-  where
-    no_row : {A : Type 0} {x : A} → None ≡ Some x → ⊥
-    no_row e = cc
 
 -- the outer shell and a void at one vertex
 abbrev pub shared_vertex : Contents
@@ -94,7 +92,7 @@ shared_vertex_fails =
       inr (
         (zero, refl),
         inr (
-          inr (record { no_row = λ r s. no_row s.1; one_point = refl }),
+          inr (record { no_row = λ r s. none-some _ s.1; one_point = refl }),
           inr (
             (λ c. omega (arith, c.1)),
             inr (
@@ -102,7 +100,7 @@ shared_vertex_fails =
               inr (
                 (zero, refl),
                 inr (
-                  inr (record { no_row = λ r s. no_row s.1; one_point = refl }),
+                  inr (record { no_row = λ r s. none-some _ s.1; one_point = refl }),
                   inl ((λ h. h (0, lit< tt, refl)), refl),
                 ),
               ),
@@ -111,9 +109,6 @@ shared_vertex_fails =
         ),
       ),
     )
-  where
-    no_row : {A : Type 0} {x : A} → None ≡ Some x → ⊥
-    no_row e = cc
 
 -- two faces that share nothing
 abbrev pub two_faces : Contents
@@ -125,10 +120,7 @@ two_faces = record ball_at_one_vertex {
 }
 
 no_neighbours : (d : ShellRows) → d.rows ≡ [] → (a b : ℕ) → AreNeighbours d a b → ⊥
-no_neighbours d none a b (r, m, mates, x, y) = no_row (sym (ap (λ rows. slice_get rows r) none) ∙ mates.at_r)
-  where
-    no_row : {A : Type 0} {x : A} → None ≡ Some x → ⊥
-    no_row e = cc
+no_neighbours d none a b (r, m, mates, x, y) = none-some _ (sym (ap (λ rows. slice_get rows r) none) ∙ mates.at_r)
 
 unreached : (d : ShellRows) → d.rows ≡ [] → (n : ℕ) → Steps (AreNeighbours d) n 0 1 → ⊥
 unreached d none zero e = omega (arith, e)

@@ -1,6 +1,7 @@
 -- The places of worked files.
 use Rattle.std.proofs.Common.{refl, ap, arith, inl, inr, lit<, lit≤}
-use Rattle.std.specs.Prelude.{◌≡◌, ℕ, ℤ, pos, nat_abs, [], ◌∷◌, Contains, slice_set}
+use Rattle.std.specs.Prelude.{◌≡◌, ℕ, pos, nat_abs, [], ◌∷◌, slice_set}
+use Rattle.solid_data.proofs.Members.{Has-from_Contains}
 use Rattle.iges_fields.specs.declared.value.Value.TheVariants.{Int}
 use Rattle.iges_params.specs.Contents.{Contents}
 use Rattle.solid_data.specs.Obligations.{AllHold, FirstFalse}
@@ -8,9 +9,6 @@ use Rattle.solid_data.specs.declared.verdict.Rule.TheVariants.{BadIndex, BadGeom
 use Rattle.brep_walk.specs.Places.{places, shell_places, face_places, loop_places, tuple_places}
 use Rattle.brep_lists.specs.Record.{EntityKind, solid, shell, face, «loop», edges, vertices, type_number}
 use Rattle.cert_maker.proofs.WorkedFiles.{entry, ball_at_one_vertex}
-
-none_in_nothing : (z : ℤ) → ¬ Contains [] z
-none_in_nothing z c = omega (arith, c.1)
 
 -- a sphere is none of the six
 sphere : (kind : EntityKind) → ¬ (pos 196 ≡ type_number kind)
@@ -36,7 +34,7 @@ ball_places = (
           (
             ((refl, lit< tt), (refl, (refl, tt))),
             (
-              none_in_nothing _,
+              Has-from_Contains [] _,
               (
                 refl,
                 (
@@ -44,7 +42,7 @@ ball_places = (
                   (
                     (refl, ((refl, lit< tt), (refl, (refl, tt)))),
                     (
-                      none_in_nothing _,
+                      Has-from_Contains [] _,
                       (
                         sphere,
                         (
@@ -54,7 +52,7 @@ ball_places = (
                             (
                               ((refl, lit< tt), (refl, (refl, (refl, (refl, (inl refl, tt)))))),
                               (
-                                none_in_nothing _,
+                                Has-from_Contains [] _,
                                 (
                                   refl,
                                   (
@@ -102,7 +100,7 @@ face_on_itself_fails =
               inr (
                 ((refl, lit< tt), (refl, (refl, tt))),
                 inr (
-                  none_in_nothing _,
+                  Has-from_Contains [] _,
                   inr (
                     refl,
                     inr (
@@ -110,7 +108,7 @@ face_on_itself_fails =
                       inr (
                         (refl, ((refl, lit< tt), (refl, (refl, tt)))),
                         inr (
-                          none_in_nothing _,
+                          Has-from_Contains [] _,
                           inl ((λ h. h face refl), refl),
                         ),
                       ),
@@ -144,7 +142,7 @@ second_vertex_fails =
               inr (
                 ((refl, lit< tt), (refl, (refl, tt))),
                 inr (
-                  none_in_nothing _,
+                  Has-from_Contains [] _,
                   inr (
                     refl,
                     inr (
@@ -152,7 +150,7 @@ second_vertex_fails =
                       inr (
                         (refl, ((refl, lit< tt), (refl, (refl, tt)))),
                         inr (
-                          none_in_nothing _,
+                          Has-from_Contains [] _,
                           inr (
                             sphere,
                             inr (
@@ -162,7 +160,7 @@ second_vertex_fails =
                                 inr (
                                   ((refl, lit< tt), (refl, (refl, (refl, (refl, refl))))),
                                   inr (
-                                    none_in_nothing _,
+                                    Has-from_Contains [] _,
                                     inr (
                                       refl,
                                       inr (

@@ -1,11 +1,11 @@
 use Rattle.std.proofs.lemmas.Result.{err_from_is_err_and}
-use Rattle.solid_data.proofs.Members.{get_below}
+use Rattle.std.proofs.lemmas.Option.{slice_get_within}
 use Rattle.cert_maker.proofs.CheckedShell.{open_fails, shared_fails, both_hold}
 use Rattle.cert_maker.proofs.OneShell.{same_rows}
 use Rattle.cert_maker.proofs.checks.check_shell.Goals as goal
 
 pub rows-requires : goal.rows-requires
-rows-requires c = get_below c.args.solid.now.shells c.args.at.0 c.args.shell.now c.requires.at
+rows-requires c = slice_get_within c.args.solid.now.shells c.args.at.0 c.args.shell.now c.requires.at
 
 pub returns-in_err-join-clause-fails : goal.returns-in_err-join-clause-fails
 returns-in_err-join-clause-fails c =
@@ -20,7 +20,7 @@ returns-in_err-apart-clause-fails c =
 
 pub returns-clause-before : goal.returns-clause-before
 returns-clause-before c =
-    c.with.ensures c.args.solid.now c.args.at.0 c.entity-entity.ensures.numbered (get_below c.args.solid.now.shells c.args.at.0 c.args.shell.now c.requires.at) c.requires.before c.in_ok-rows.ensures
+    c.with.ensures c.args.solid.now c.args.at.0 c.entity-entity.ensures.numbered (slice_get_within c.args.solid.now.shells c.args.at.0 c.args.shell.now c.requires.at) c.requires.before c.in_ok-rows.ensures
 
 pub returns-clause-holds : goal.returns-clause-holds
 returns-clause-holds c =

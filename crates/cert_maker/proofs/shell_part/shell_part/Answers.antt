@@ -1,8 +1,8 @@
 use Rattle.std.proofs.Common.{sym, ◌∙◌, ap, subst, refl}
 use Rattle.std.proofs.lemmas.Result.{err_from_is_err_and}
+use Rattle.std.proofs.lemmas.Option.{slice_get_within}
 use Rattle.topo_certificate.proofs.PointOrder.{faces_of_rows}
 use Rattle.solid_data.specs.Obligations.{AllHold}
-use Rattle.solid_data.proofs.Members.{get_below}
 use Rattle.edge_uses.specs.ShellRows.{ShellRows, shell_rows}
 use Rattle.edge_uses.specs.ShellObligations.{pair_obligations, apart_obligations}
 use Rattle.cert_maker.specs.Certified.{IsMakeFault}
@@ -12,7 +12,7 @@ use Rattle.cert_maker.proofs.OneShell.{joined_not, paired_not, reached_not, link
 use Rattle.cert_maker.proofs.shell_part.shell_part.Goals as goal
 
 pub rows-requires : goal.rows-requires
-rows-requires c = get_below c.args.solid.now.shells c.args.at.0 c.args.shell.now c.requires.at
+rows-requires c = slice_get_within c.args.solid.now.shells c.args.at.0 c.args.shell.now c.requires.at
 
 pub returns-in_err-join-clause-fails : goal.returns-in_err-join-clause-fails
 returns-in_err-join-clause-fails c =
@@ -57,7 +57,7 @@ returns-clause-part c =
 
 pub returns-clause-before : goal.returns-clause-before
 returns-clause-before c =
-    c.with.ensures c.args.solid.now c.args.at.0 c.entity-entity.ensures.numbered (get_below c.args.solid.now.shells c.args.at.0 c.args.shell.now c.requires.at) c.requires.before c.in_ok-rows.ensures
+    c.with.ensures c.args.solid.now c.args.at.0 c.entity-entity.ensures.numbered (slice_get_within c.args.solid.now.shells c.args.at.0 c.args.shell.now c.requires.at) c.requires.before c.in_ok-rows.ensures
 
 pub returns-clause-holds : goal.returns-clause-holds
 returns-clause-holds c =
