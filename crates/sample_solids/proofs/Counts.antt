@@ -1,36 +1,29 @@
 -- How many edges and vertices the solid of a sample has.
-use Rattle.std.specs.Prelude.{◌≡◌, ℕ, zero, suc, ◌+◌, ◌-◌, ◌*◌, ◌/◌, ◌%◌, ◌<◌, ◌≤◌, Bool, true, false, not, cond, pos, List, [], ◌∷◌, length, map, flat_map, filter}
+use Rattle.std.specs.Prelude.{◌≡◌, ℕ, ◌+◌, ◌-◌, ◌*◌, ◌/◌, ◌%◌, ◌<◌, ◌≤◌, Bool, true, false, not, cond, pos, List, [], ◌∷◌, length, map, flat_map, filter}
 use Rattle.std.proofs.Common.{refl, sym, ◌∙◌, ap, subst, arith, inl, inr}
 use Rattle.std.proofs.Math.Nat.{mul_assoc}
+use Rattle.std.proofs.lemmas.Bool.{false≢true}
 use Rattle.std.proofs.lemmas.Nat.{mul-add-lt}
 use Rattle.std.proofs.lemmas.List.{length-map, append-nil}
+use Rattle.std.proofs.lemmas.List.Elements.{All-contains, filter_passes}
 use Rattle.brep_walk.specs.SolidOf.{all_tuples, edge_named, vertices_named, edge_keys, vertex_keys, solid_of}
-use Rattle.brep_walk.proofs.KnownVertices.{from_distinct, from_filter, vertex_itself, to_distinct, vertex_sound}
+use Rattle.brep_walk.proofs.KnownVertices.{vertex_itself, vertex_sound}
 use Rattle.brep_walk.proofs.Numbered.{edge_itself, edge_sound}
 use Rattle.solid_data.specs.Ring.{distinct, numbers_from}
 use Rattle.solid_data.specs.SolidData.{same_edge, same_vertex}
 use Rattle.solid_data.specs.declared.solid.EdgeKey.{EdgeKey}
 use Rattle.solid_data.specs.declared.solid.Shell.{Shell}
 use Rattle.solid_data.specs.declared.solid.VertexKey.{VertexKey}
-use Rattle.solid_data.proofs.Members.{Has, NoRepeat, no_longer, rises_none, has_map, map_has}
-use Rattle.solid_data.proofs.Occurring.{numbers_have, numbers_rise}
+use Rattle.solid_data.proofs.Members.{Has, NoRepeat, no_longer, rises_none, has_map, map_has, Contains-from_Has}
+use Rattle.solid_data.proofs.Keys.{from_filter, to_distinct, from_distinct}
+use Rattle.solid_data.proofs.Occurring.{numbers_have, numbers_rise, length-numbers, number_below}
 use Rattle.sample_solids.specs.Sample.{sample}
-use Rattle.sample_solids.proofs.Squares.{length_numbers, numbers_below}
 use Rattle.sample_solids.proofs.Round.{next_below}
 use Rattle.sample_solids.proofs.Mesh.{Side, near, right, far, left, vertex, edge_of}
 use Rattle.sample_solids.proofs.Keys.{key_of, key_is, number_listed, point_key, point_is, place_listed, edges_many}
 use Rattle.sample_solids.proofs.Rows.{the_solid, the_shell, shells_of, faces_many}
 
 -- ---- keys without repeats have different numbers
-
-passes : {A : Type 0} (p : A → Bool) (xs : List A) (k : A) → Has (filter p xs) k → p k ≡ true
-passes p [] k h = absurd h
-passes p (x ∷ xs) k h = by_test (p x) refl h (passes p xs k)
-  where
-    by_test : (b : Bool) → p x ≡ b → Has (cond b (x ∷ filter p xs) (filter p xs)) k → (Has (filter p xs) k → p k ≡ true) → p k ≡ true
-    by_test true e (inl same) rest = ap p (sym same) ∙ e
-    by_test true e (inr m) rest = rest m
-    by_test false e m rest = rest m
 
 filtered_apart : {A : Type 0} (g : A → ℕ) (p : A → Bool) (xs : List A) → NoRepeat (map g xs) → NoRepeat (map g (filter p xs))
 filtered_apart g p [] none = tt
@@ -50,13 +43,10 @@ apart same itself g (x ∷ xs) tell = (
       let listed : Has (x ∷ xs) k.0 = inr (from_distinct same xs k.0 (from_filter (λ y. not (same x y)) (distinct same xs) k.0 k.1)) in
       let one : k.0 ≡ x = tell k.0 x listed (inl refl) k.2 in
       let alike : same x k.0 ≡ true = ap (same x) one ∙ itself x in
-      let apart : not (same x k.0) ≡ true = passes (λ y. not (same x y)) (distinct same xs) k.0 k.1 in
-      false_true (sym (ap not alike) ∙ apart)),
+      let apart : not (same x k.0) ≡ true = All-contains (λ y. not (same x y) ≡ true) (filter (λ y. not (same x y)) (distinct same xs)) k.0 (filter_passes (λ y. not (same x y)) (distinct same xs)) (Contains-from_Has (filter (λ y. not (same x y)) (distinct same xs)) k.0 k.1) in
+      false≢true (sym (ap not alike) ∙ apart)),
   filtered_apart g (λ y. not (same x y)) (distinct same xs) (apart same itself g xs (λ a b h m. tell a b (inr h) (inr m))),
 )
-  where
-    false_true : false ≡ true → ⊥
-    false_true w = cc
 
 -- where the numbers of the keys are those from 1 to m, there are m keys
 counted : {A : Type 0} (g : A → ℕ) (keys : List A) (m : ℕ) → NoRepeat (map g keys) → ((a : A) → Has keys a → (1 ≤ g a) × (g a ≤ m)) → ((k : ℕ) → 1 ≤ k → k ≤ m → Has (map g keys) k) → length keys ≡ m
@@ -67,14 +57,9 @@ counted g keys m none within all =
     let e : 1 + (k - 1) ≡ k = omega (arith, b, a.2) in
     subst (Has (numbers_from 1 m)) e (numbers_have 1 m (k - 1) (omega (arith, b, a.2)))) in
     let high : length (numbers_from 1 m) ≤ length (map g keys) = no_longer (numbers_from 1 m) (map g keys) (rises_none (numbers_from 1 m) (numbers_rise 1 m)) (λ k h.
-    let b : k < 1 + m = numbers_below 1 m k h in
-    all k (at_least 1 m k h) (omega (arith, b))) in
-    omega (arith, low, high, length_numbers 1 m, length-map keys g)
-  where
-    at_least : (base m k : ℕ) → Has (numbers_from base m) k → base ≤ k
-    at_least base zero k h = absurd h
-    at_least base (suc m) k (inl e) = omega (arith, e)
-    at_least base (suc m) k (inr h) = let b = at_least (base + 1) m k h in omega (arith, b)
+    let b = number_below 1 m k h in
+    all k b.0 (omega (arith, b.1))) in
+    omega (arith, low, high, length-numbers 1 m, length-map keys g)
 
 -- ---- the edges
 

@@ -1,30 +1,24 @@
--- How many lines parts fill, and how long these are.
+-- How many lines parts fill.
 use Rattle.std.specs.Prelude.{◌≡◌, ℕ, ◌+◌, ◌-◌, ◌<◌, ◌≤◌, Bool, true, false, List, [], ◌∷◌, ◌++◌, length, map, nat_le, MatchBool}
 use Rattle.std.specs.Fmt.{decimal}
-use Rattle.std.specs.List.{AllByRecursion, list_all, concat}
-use Rattle.std.proofs.Common.{refl, sym, ap, subst, arith, length-append, lit<}
+use Rattle.std.specs.List.{list_all, concat}
+use Rattle.std.proofs.Common.{refl, ap, subst, arith, length-append, lit<}
 use Rattle.std.proofs.lemmas.Bool.{and_from, cond-true, le-leb}
 use Rattle.std.proofs.lemmas.Fmt.{length-decimal-le}
-use Rattle.std.proofs.lemmas.List.{length-replicate}
 use Rattle.iges_fields.specs.declared.value.Value.{Value}
 use Rattle.iges_fields.specs.declared.value.Value.TheVariants as value
 use Rattle.iges_fields.specs.Delims.{Delims}
 use Rattle.iges_fields.specs.InLine.{is_value}
-use Rattle.iges_fields.specs.Word.{spaces}
 use Rattle.iges_directory.specs.declared.entry.Entry.{Entry}
 use Rattle.iges_write.specs.Parts.{single_parts, value_parts, parts}
-use Rattle.iges_write.specs.Filled.{padded, IsFilled}
+use Rattle.iges_write.specs.Filled.{IsFilled}
 use Rattle.iges_write.specs.Text.{has_no_record, global_values, IsRecordText}
-use Rattle.iges_write.proofs.Filling.{FitLines}
+use Rattle.iges_write.proofs.Filling.{FitLines, fit_behind}
 use Rattle.iges_write.proofs.Back.{parts_fit}
 use Rattle.sample_solids.specs.Sample.{whole}
 use Rattle.sample_solids.proofs.Small.{IsSmall, AreSmall}
 
 -- ---- lines that are filled
-
-fit_behind : (n : ℕ) (run rest : List (List ℕ)) → FitLines n (run ++ rest) → FitLines n rest
-fit_behind n [] rest h = h
-fit_behind n (p ∷ run) rest h = fit_behind n run rest h.1
 
 -- a line that is ended holds a part
 one_more : (n k : ℕ) (ps run rest : List (List ℕ)) (part : List ℕ) → FitLines n ps → ps ≡ run ++ part ∷ rest → n < length (concat run) + length part → k ≤ length (part ∷ rest) + 1 → k + 1 ≤ length ps + 1
@@ -43,18 +37,6 @@ few_lines n ps (line ∷ next ∷ ls) fit h =
     let fewer = few_lines n (part ∷ rest) (next ∷ ls) fit_rest h.7 in
     let more = one_more n (length (next ∷ ls)) ps run rest part fit h.3 h.5 fewer in
     omega (arith, more)
-
--- each of n columns
-abbrev pub AreWide : ℕ → List (List ℕ) → Type 0
-AreWide n ls = AllByRecursion (λ (l : List ℕ). length l ≡ n) ls
-
-length-padded : (n : ℕ) (text line : List ℕ) → length text ≤ n → line ≡ padded n text → length line ≡ n
-length-padded n text line fits is = omega (arith, fits, ap (λ xs. length xs) is, length-append text (spaces (n - length text)), length-replicate {A = ℕ} (n - length text) 32)
-
-pub filled_wide : (n : ℕ) (ps ls : List (List ℕ)) → IsFilled n ps ls → AreWide n ls
-filled_wide n ps [] h = absurd h
-filled_wide n ps (line ∷ []) h = (length-padded n (concat ps) line h.0 h.1, tt)
-filled_wide n ps (line ∷ next ∷ ls) h = (length-padded n (concat h.0) line h.4 h.6, filled_wide n (h.1 ∷ h.2) (next ∷ ls) h.7)
 
 -- ---- small integers
 
@@ -95,13 +77,6 @@ length-global d =
     omega (arith, delimiter_parts d.param d.param, delimiter_parts d.end d.end, length-append (value_parts 72 (value.Text (d.param ∷ [])) d.param) (value_parts 72 (value.Text (d.end ∷ [])) d.end))
 
 -- ---- the lines of a record
-
-pub record_wide : (d : Delims) (e : Entry × List Value) (r : List (List ℕ)) → IsRecordText d e r → AreWide 64 r
-record_wide d e r t = by_type (has_no_record e.0) refl
-  where
-    by_type : (b : Bool) → has_no_record e.0 ≡ b → AreWide 64 r
-    by_type true h = let none : r ≡ [] = subst (λ (b : Bool). MatchBool b (r ≡ []) (IsFilled 64 (parts 64 d (value.Int e.0.kind ∷ e.1)) r)) h t in subst (AreWide 64) (sym none) tt
-    by_type false h = filled_wide 64 (parts 64 d (value.Int e.0.kind ∷ e.1)) r (subst (λ (b : Bool). MatchBool b (r ≡ []) (IsFilled 64 (parts 64 d (value.Int e.0.kind ∷ e.1)) r)) h t)
 
 pub record_few : (d : Delims) (e : Entry × List Value) (r : List (List ℕ)) → IsRecordText d e r → length r ≤ length (parts 64 d (value.Int e.0.kind ∷ e.1)) + 1
 record_few d e r t = by_type (has_no_record e.0) refl

@@ -1,16 +1,16 @@
 -- One entry more, and one square more.
-use Rattle.std.specs.Prelude.{◌≡◌, ℕ, suc, ◌+◌, ◌*◌, ◌<◌, ◌≤◌, List, [], ◌∷◌, ◌++◌, length, map, flat_map, take, drop}
-use Rattle.std.proofs.Common.{refl, sym, ◌∙◌, ap, subst, arith, get_or, append_assoc, drop-cons}
+use Rattle.std.specs.Prelude.{◌≡◌, ℕ, ◌+◌, ◌*◌, ◌<◌, ◌≤◌, List, [], ◌∷◌, ◌++◌, length, map, flat_map, take, drop}
+use Rattle.std.proofs.Common.{refl, sym, ◌∙◌, ap, subst, arith, append_assoc}
 use Rattle.std.proofs.lemmas.List.{take-append-drop, append-nil}
 use Rattle.std.proofs.lemmas.List.Concat.{flat_map-append}
-use Rattle.std.proofs.lemmas.Option.{get_or_from_slice_get}
 use Rattle.iges_fields.specs.declared.TheConstants.{FILE_LIMIT}
 use Rattle.iges_fields.specs.declared.value.Value.{Value}
 use Rattle.iges_directory.specs.declared.entry.Entry.{Entry}
 use Rattle.iges_params.specs.Contents.{Contents, value_count}
+use Rattle.solid_data.proofs.Members.{split_at}
 use Rattle.sample_solids.specs.Sample.{squares, whole, plain, entry, face_record, loop_record, first_entries, face_entries, sample}
 use Rattle.sample_solids.specs.Stages.{holding, stage}
-use Rattle.sample_solids.proofs.Squares.{length_squares, at_place, squares_at, squares_more, squares_all}
+use Rattle.sample_solids.proofs.Squares.{at_place, squares_at, squares_more, squares_all}
 use Rattle.sample_solids.proofs.Sizes.{fronts_fit}
 
 abbrev pub AnEntry : Type 0
@@ -57,12 +57,7 @@ unfolding stage
 is_front n k = refl
 
 rest_of : (n k : ℕ) → 0 < n → k < n * n → drop k (squares n) ≡ at_place n k ∷ drop (k + 1) (squares n)
-rest_of n k some lt =
-    let within : k < length (squares n) = omega (arith, lt, length_squares n) in
-    let there : get_or (squares n) k (at_place n n) ≡ at_place n k = get_or_from_slice_get (squares n) k (at_place n k) (at_place n n) (squares_at n k some lt) in
-    let split : drop k (squares n) ≡ get_or (squares n) k (at_place n n) ∷ drop (suc k) (squares n) = drop-cons (squares n) k (at_place n n) within in
-    let next : suc k ≡ k + 1 = omega arith in
-    split ∙ (ap (λ s. s ∷ drop (suc k) (squares n)) there ∙ ap (λ m. at_place n k ∷ drop m (squares n)) next)
+rest_of n k some lt = split_at (squares n) k (at_place n k) (squares_at n k some lt)
 
 abbrev pub face_of : ℕ → ℕ → AnEntry
 face_of n k = entry 510 1 (face_record n (at_place n k))

@@ -1,65 +1,26 @@
 -- The ids of a sample's edges and vertices.
-use Rattle.std.specs.Prelude.{◌≡◌, ℕ, zero, suc, ◌+◌, ◌*◌, ◌/◌, ◌%◌, ◌<◌, ◌≤◌, Bool, true, false, pos, List, [], ◌∷◌, ◌++◌, length, flat_map, Some, None, slice_get, if◌then◌else◌}
-use Rattle.std.proofs.Common.{refl, sym, ◌∙◌, ap, subst, arith, inl, inr, length-append}
+use Rattle.std.specs.Prelude.{◌≡◌, ℕ, zero, suc, ◌+◌, ◌*◌, ◌/◌, ◌%◌, ◌<◌, ◌≤◌, pos, [], ◌∷◌, length, flat_map, Some, slice_get}
+use Rattle.std.proofs.Common.{refl, sym, ◌∙◌, ap, subst, arith, inl, inr}
 use Rattle.std.proofs.Math.Nat.{mod-lt}
 use Rattle.std.proofs.lemmas.Nat.{div-add-mod', div_below}
 use Rattle.brep_lists.specs.Record.{LoopTuple}
 use Rattle.brep_walk.specs.Places.{edge_at}
 use Rattle.brep_walk.specs.SolidOf.{edge_key, vertex_key, all_tuples, edge_named, ends_named, vertices_named, edge_keys, vertex_keys, keys_of, numbered_by, edge_of as edge_of_key, solid_of}
-use Rattle.brep_walk.proofs.KnownVertices.{to_distinct, from_distinct, vertex_sound, vertex_itself}
+use Rattle.brep_walk.proofs.KnownVertices.{vertex_sound, vertex_itself}
 use Rattle.brep_walk.proofs.Numbered.{edge_sound, edge_itself}
-use Rattle.edge_uses.proofs.Few.{has_get}
 use Rattle.solid_data.specs.Ring.{place_of}
 use Rattle.solid_data.specs.SolidData.{same_edge, same_vertex}
 use Rattle.solid_data.specs.declared.solid.Edge.{Edge}
 use Rattle.solid_data.specs.declared.solid.EdgeKey.{EdgeKey}
 use Rattle.solid_data.specs.declared.solid.VertexKey.{VertexKey}
-use Rattle.solid_data.proofs.Members.{Has, some_inj, has_flat_map, from_flat_map}
+use Rattle.solid_data.proofs.Members.{Has, has_flat_map, from_flat_map, has_get, length-singles, get_single}
+use Rattle.solid_data.proofs.Keys.{to_distinct, from_distinct, at_place, one_place}
 use Rattle.sample_solids.specs.Sample.{squares, sample}
-use Rattle.sample_solids.proofs.Squares.{squares_get, squares_below}
+use Rattle.sample_solids.proofs.Squares.{squares_get, squares_below, only_one}
 use Rattle.sample_solids.proofs.Round.{next, next_below}
 use Rattle.sample_solids.proofs.Mesh.{Side, near, right, far, left, vertex, edge_of}
 use Rattle.sample_solids.proofs.Records.{edge_tuple}
 use Rattle.sample_solids.proofs.Tuples.{side_tuple, square_tuples, all_tuples_are, across_at, up_at}
-
--- ---- keys and their places
-
-pub at_place : {A : Type 0} (same : A → A → Bool) → ((a b : A) → same a b ≡ true → a ≡ b) → ((a : A) → same a a ≡ true) → (keys : List A) (k : A) → Has keys k → slice_get keys (place_of same keys k) ≡ Some k
-at_place same sound itself [] k h = absurd h
-at_place same sound itself (y ∷ keys) k h = by_test (same k y) refl h (λ m. at_place same sound itself keys k m)
-  where
-    true_is_false : true ≡ false → ⊥
-    true_is_false w = cc
-
-    by_test : (b : Bool) → same k y ≡ b → Has (y ∷ keys) k → (Has keys k → slice_get keys (place_of same keys k) ≡ Some k) → slice_get (y ∷ keys) (if b then 0 else suc (place_of same keys k)) ≡ Some k
-    by_test true e m on = ap Some (sym (sound k y e))
-    by_test false e (inl is) on = absurd (true_is_false (sym (ap (same k) is ∙ itself k) ∙ e))
-    by_test false e (inr m) on = on m
-
--- keys with one place are one
-pub one_place : {A : Type 0} (same : A → A → Bool) → ((a b : A) → same a b ≡ true → a ≡ b) → ((a : A) → same a a ≡ true) → (keys : List A) (j k : A) → Has keys j → Has keys k
-    → place_of same keys j ≡ place_of same keys k → j ≡ k
-one_place same sound itself keys j k h m e = some_inj j k (sym (at_place same sound itself keys j h) ∙ (ap (slice_get keys) e ∙ at_place same sound itself keys k m))
-
--- what stands behind one item each
-pub get_single : {A B : Type 0} (g : A → List B) (xs : List A) → ((x : A) → Has xs x → length (g x) ≡ 1) → (k : ℕ) (x : A) (y : B) → slice_get xs k ≡ Some x → g x ≡ y ∷ [] → slice_get (flat_map g xs) k ≡ Some y
-get_single g [] one k x y at is = absurd (none_there at)
-  where
-    none_there : None ≡ Some x → ⊥
-    none_there w = cc
-get_single g (z ∷ xs) one zero x y at is =
-    let here : g z ≡ y ∷ [] = ap g (some_inj z x at) ∙ is in
-    ap (λ ys. slice_get (ys ++ flat_map g xs) 0) here
-get_single {B = B} g (z ∷ xs) one (suc k) x y at is = by_list (g z) (one z (inl refl)) (get_single g xs (λ w m. one w (inr m)) k x y at is)
-  where
-    by_list : (ys : List B) → length ys ≡ 1 → slice_get (flat_map g xs) k ≡ Some y → slice_get (ys ++ flat_map g xs) (suc k) ≡ Some y
-    by_list [] e h = absurd (omega (arith, e))
-    by_list (w ∷ []) e h = h
-    by_list (w ∷ v ∷ ys) e h = absurd (omega (arith, e))
-
-pub length_singles : {A B : Type 0} (g : A → List B) (xs : List A) → ((x : A) → Has xs x → length (g x) ≡ 1) → length (flat_map g xs) ≡ length xs
-length_singles g [] h = refl
-length_singles g (x ∷ xs) h = omega (arith, length-append (g x) (flat_map g xs), h x (inl refl), length_singles g xs (λ y m. h y (inr m)))
 
 -- ---- the sides of all squares
 
@@ -76,18 +37,19 @@ pub tuple_listed : (n i j : ℕ) (s : Side) → i < n → j < n → Has (all_tup
 tuple_listed n i j s li lj =
     subst (λ ts. Has ts (side_tuple n i j s)) (sym (all_tuples_are n)) (has_flat_map (square_tuples n) (squares n) (i, j) (side_tuple n i j s) (square_in n i j li lj) (side_in n i j s))
 
-pub side_of : (n : ℕ) (p : ℕ × ℕ) (t : LoopTuple) → Has (square_tuples n p) t → (s : Side) × (side_tuple n p.0 p.1 s ≡ t)
-side_of n p t (inl e) = (near, e)
-side_of n p t (inr (inl e)) = (right, e)
-side_of n p t (inr (inr (inl e))) = (far, e)
-side_of n p t (inr (inr (inr (inl e)))) = (left, e)
-side_of n p t (inr (inr (inr (inr h)))) = absurd h
+-- what is listed for the four sides is that of one of them
+pub side_of : {A : Type 0} (g : Side → A) (a : A) → Has (g near ∷ g right ∷ g far ∷ g left ∷ []) a → (s : Side) × (g s ≡ a)
+side_of g a (inl e) = (near, e)
+side_of g a (inr (inl e)) = (right, e)
+side_of g a (inr (inr (inl e))) = (far, e)
+side_of g a (inr (inr (inr (inl e)))) = (left, e)
+side_of g a (inr (inr (inr (inr h)))) = absurd h
 
 pub tuple_is : (n : ℕ) (t : LoopTuple) → Has (all_tuples (sample n) (pos 1)) t → (i j : ℕ) × (s : Side) × (i < n) × (j < n) × (side_tuple n i j s ≡ t)
 tuple_is n t h =
     let k = from_flat_map (square_tuples n) (squares n) t (subst (λ ts. Has ts t) (all_tuples_are n) h) in
     let below = squares_below n k.0 k.1 in
-    let s = side_of n k.0 t k.2 in
+    let s = side_of (side_tuple n k.0.0 k.0.1) t k.2 in
     (k.0.0, k.0.1, s.0, below.0, below.1, s.1)
 
 -- ---- the edges
@@ -107,11 +69,7 @@ pub key_is : (n : ℕ) (k : EdgeKey) → Has (edge_keys (sample n) (pos 1)) k �
 key_is n k h =
     let t = from_flat_map edge_named (all_tuples (sample n) (pos 1)) k (from_distinct same_edge (flat_map edge_named (all_tuples (sample n) (pos 1))) k h) in
     let s = tuple_is n t.0 t.1 in
-    (s.0, s.1, s.2, s.3, s.4, only (key_of (edge_of n s.0 s.1 s.2)) (subst (λ u. Has (edge_named u) k) (sym s.5) t.2))
-  where
-    only : (a : EdgeKey) → Has (a ∷ []) k → a ≡ k
-    only a (inl e) = e
-    only a (inr m) = absurd m
+    (s.0, s.1, s.2, s.3, s.4, only_one (key_of (edge_of n s.0 s.1 s.2)) k (subst (λ u. Has (edge_named u) k) (sym s.5) t.2))
 
 -- each number of an edge is one of a square
 pub number_listed : (n a k : ℕ) → 0 < n → a < n * n → 1 ≤ k → k ≤ 2 → Has (edge_keys (sample n) (pos 1)) (key_of (2 * a + k))
@@ -220,4 +178,4 @@ edge_found n i j s li lj =
 
 pub edges_many : (n : ℕ) → length (solid_of (sample n) 1).edges ≡ length (edge_keys (sample n) (pos 1))
 unfolding solid_of
-edges_many n = length_singles (edge_of_key (sample n) (pos 1)) (edge_keys (sample n) (pos 1)) (one_each n)
+edges_many n = length-singles (edge_of_key (sample n) (pos 1)) (edge_keys (sample n) (pos 1)) (one_each n)

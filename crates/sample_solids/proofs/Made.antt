@@ -3,6 +3,7 @@ use Rattle.std.specs.Prelude.{◌≡◌, ℕ, ◌≤◌, true, false, List, [], 
 use Rattle.std.specs.List.{AllByRecursion}
 use Rattle.std.specs.Ordering.{int_eq}
 use Rattle.std.proofs.Common.{refl, sym, ◌∙◌, arith}
+use Rattle.std.proofs.lemmas.Bool.{false≢true}
 use Rattle.iges_params.specs.Made.{IsMadeEntry, IsMade}
 use Rattle.iges_directory.specs.Bounds.{fits_columns}
 use Rattle.solid_data.proofs.Members.{all_append, all_flat_map}
@@ -26,11 +27,8 @@ made_entry kind form ns high fits_too used = record {
     status = refl;
     label = refl;
   };
-  unused = λ h. absurd (false_true (sym used ∙ h));
+  unused = λ h. absurd (false≢true (sym used ∙ h));
 }
-  where
-    false_true : false ≡ true → ⊥
-    false_true w = cc
 
 first_made : (n : ℕ) → AllByRecursion IsMadeEntry (first_entries n)
 first_made n = (

@@ -3,17 +3,18 @@ use Rattle.std.specs.Prelude.{◌≡◌, ℕ, zero, suc, ◌+◌, ◌*◌, ◌/�
 use Rattle.std.specs.List.{AllByRecursion}
 use Rattle.std.proofs.Common.{refl, sym, ◌∙◌, ap, subst, arith, inl}
 use Rattle.std.proofs.Math.Nat.{mod-lt}
-use Rattle.std.proofs.lemmas.Bool.{eq-eqb, eqb-true}
+use Rattle.std.proofs.lemmas.Bool.{eq-eqb, eqb-true, and_parts, and_from, not-true}
 use Rattle.std.proofs.lemmas.Nat.{mul-add-lt, same_from_place, div-add-mod', div_below}
+use Rattle.std.proofs.lemmas.Option.{same_Some}
 use Rattle.solid_data.specs.Chain.{LeadsTo}
 use Rattle.solid_data.specs.Ring.{numbers_from}
 use Rattle.solid_data.specs.declared.solid.LoopAt.{LoopAt}
 use Rattle.edge_uses.specs.declared.row.Row.{Row}
 use Rattle.edge_uses.specs.ShellRows.{ShellRows}
 use Rattle.edge_uses.specs.Closed.{row_count, IsPaired, AreMates, Turns, StartsAt, OnFace, AreNeighbours, IsReached, IsLinked}
-use Rattle.solid_data.proofs.Members.{some_inj, Has, All-from, total, count_by-total}
+use Rattle.solid_data.proofs.Members.{Has, All-from, total, count_by-total}
+use Rattle.solid_data.proofs.Occurring.{number_below}
 use Rattle.solid_data.proofs.Trail.{leads_trans, leads_here, leads_one, leads_last}
-use Rattle.sample_solids.proofs.Squares.{numbers_below}
 use Rattle.sample_solids.proofs.Round.{next, back, next_below, back_below, next_small, next_back, back_next}
 
 -- ---- rows that pass once
@@ -30,7 +31,7 @@ one_counted : (p : Row → Bool) (rows : List Row) (n : ℕ) (r : Row) → slice
     → total (λ x. cond (p x) 1 0) rows ≡ 1
 one_counted p [] n r at passes one = absurd cc
 one_counted p (x ∷ rows) zero r at passes one =
-    let h : ◌≡◌ {A = ℕ} (cond (p x) 1 0) 1 = ap (λ b. cond b 1 0) (ap p (some_inj x r at) ∙ passes) in
+    let h : ◌≡◌ {A = ℕ} (cond (p x) 1 0) 1 = ap (λ b. cond b 1 0) (ap p (same_Some x r at) ∙ passes) in
     let rest : total (λ y. cond (p y) 1 0) rows ≡ 0 = none_counted p rows (λ m y there e. let w : suc m ≡ 0 = one (suc m) y there e in omega (arith, w)) in
     omega (arith, h, rest)
 one_counted p (x ∷ rows) (suc n) r at passes one =
@@ -40,31 +41,19 @@ one_counted p (x ∷ rows) (suc n) r at passes one =
     by_test true e rest = absurd (let w : zero ≡ suc n = one zero x refl e in omega (arith, w))
     by_test false e rest = let h : ◌≡◌ {A = ℕ} (cond (p x) 1 0) 0 = ap (λ b. cond b 1 0) e in omega (arith, h, rest)
 
-both_true : (s t : Bool) → (s && t) ≡ true → (s ≡ true) × (t ≡ true)
-both_true true t h = (refl, h)
-both_true false t h = absurd cc
-
-true_both : (s t : Bool) → s ≡ true → t ≡ true → (s && t) ≡ true
-true_both true t e f = f
-true_both false t e f = e
-
-not_true : (b : Bool) → not b ≡ true → b ≡ false
-not_true true h = sym h
-not_true false h = refl
-
 -- one row has the edge in the direction, at one place
 pub row_once : (d : ShellRows) (e : ℕ) (way : Bool) (r : ℕ) (row : Row) → slice_get d.rows r ≡ Some row → row.edge.0 ≡ e → row.along ≡ way
     → ((m : ℕ) (x : Row) → slice_get d.rows m ≡ Some x → x.edge.0 ≡ e → x.along ≡ way → m ≡ r) → row_count d e way ≡ 1
 row_once d e true r row at edge along one =
     let p : Row → Bool = λ x. (x.edge.0 == e) && x.along in
     count_by-total p d.rows
-    ∙ one_counted p d.rows r row at (true_both (row.edge.0 == e) row.along (eq-eqb row.edge.0 e edge) along)
-    (λ m x there h. let k = both_true (x.edge.0 == e) x.along h in one m x there (eqb-true x.edge.0 e k.0) k.1)
+    ∙ one_counted p d.rows r row at (and_from (row.edge.0 == e) row.along (eq-eqb row.edge.0 e edge) along)
+    (λ m x there h. let k = and_parts (x.edge.0 == e) x.along h in one m x there (eqb-true x.edge.0 e k.0) k.1)
 row_once d e false r row at edge along one =
     let p : Row → Bool = λ x. (x.edge.0 == e) && not x.along in
     count_by-total p d.rows
-    ∙ one_counted p d.rows r row at (true_both (row.edge.0 == e) (not row.along) (eq-eqb row.edge.0 e edge) (ap not along))
-    (λ m x there h. let k = both_true (x.edge.0 == e) (not x.along) h in one m x there (eqb-true x.edge.0 e k.0) (not_true x.along k.1))
+    ∙ one_counted p d.rows r row at (and_from (row.edge.0 == e) (not row.along) (eq-eqb row.edge.0 e edge) (ap not along))
+    (λ m x there h. let k = and_parts (x.edge.0 == e) (not x.along) h in one m x there (eqb-true x.edge.0 e k.0) (not-true x.along k.1))
 
 -- ---- the sides of squares
 
@@ -173,7 +162,7 @@ module _ (d : ShellRows) (n : ℕ) (edge point : ℕ → ℕ) (mesh : IsMesh d n
   places_of e way r side m x at is_edge is_way =
       let k = mesh.each m x at in
       let there : slice_get d.rows m ≡ Some (side_row n edge point k.0 k.1 k.2) = ap (slice_get d.rows) k.5 ∙ mesh.row k.0 k.1 k.2 k.3 k.4 in
-      let same : x ≡ side_row n edge point k.0 k.1 k.2 = some_inj x (side_row n edge point k.0 k.1 k.2) (sym at ∙ there) in
+      let same : x ≡ side_row n edge point k.0 k.1 k.2 = same_Some x (side_row n edge point k.0 k.1 k.2) (sym at ∙ there) in
       k.5 ∙ side k.0 k.1 k.2 k.3 k.4 (sym (ap (λ (y : Row). y.edge.0) same) ∙ is_edge) (sym (ap (λ (y : Row). y.along) same) ∙ is_way)
 
   number_same : (i j a b : ℕ) (s : Side) → (i ≡ a) × (j ≡ b) → number n i j s ≡ number n a b s
@@ -340,7 +329,7 @@ module _ (d : ShellRows) (n : ℕ) (edge point : ℕ → ℕ) (mesh : IsMesh d n
   start_is a b la lb r start =
       let k = mesh.each r start.0 start.1 in
       let there : slice_get d.rows r ≡ Some (side_row n edge point k.0 k.1 k.2) = ap (slice_get d.rows) k.5 ∙ mesh.row k.0 k.1 k.2 k.3 k.4 in
-      let same : start.0 ≡ side_row n edge point k.0 k.1 k.2 = some_inj start.0 (side_row n edge point k.0 k.1 k.2) (sym start.1 ∙ there) in
+      let same : start.0 ≡ side_row n edge point k.0 k.1 k.2 = same_Some start.0 (side_row n edge point k.0 k.1 k.2) (sym start.1 ∙ there) in
       (k.2, k.5 ∙ side_starts a b la lb k.0 k.1 k.2 k.3 k.4 (sym (ap (λ (y : Row). y.from.0) same) ∙ start.2))
 
   vertex_linked : (a b : ℕ) → a < n → b < n → IsLinked d (point (vertex n a b))
@@ -387,6 +376,6 @@ module _ (d : ShellRows) (n : ℕ) (edge point : ℕ → ℕ) (mesh : IsMesh d n
   -- Each face is reached.
   pub mesh_reached : AllByRecursion (IsReached d) (numbers_from 0 (n * n))
   mesh_reached = All-from (IsReached d) (numbers_from 0 (n * n)) (λ k h.
-      let below : k < 0 + n * n = numbers_below 0 (n * n) k h in
+      let below : k < 0 + n * n = (number_below 0 (n * n) k h).1 in
       let lt : k < n * n = omega (arith, below) in
       subst (IsReached d) (div-add-mod' k n) (reach (k / n) (k % n) (div_below k n n mesh.some lt) (mod-lt k mesh.some)))

@@ -1,20 +1,21 @@
 -- The places of a sample's solid hold.
-use Rattle.std.specs.Prelude.{◌≡◌, ℕ, zero, suc, ◌+◌, ◌*◌, ◌/◌, ◌%◌, ◌<◌, Bool, true, false, ℤ, pos, nat_abs, List, [], ◌∷◌, ◌++◌, length, map, flat_map, take, Contains, All, Option, Some, None, IsSome, IsSomeAnd, slice_get}
+use Rattle.std.specs.Prelude.{◌≡◌, ℕ, zero, suc, ◌+◌, ◌*◌, ◌/◌, ◌%◌, ◌<◌, Bool, true, false, ℤ, pos, nat_abs, List, [], ◌∷◌, ◌++◌, length, map, flat_map, take, Contains, All, Option, Some, IsSome, IsSomeAnd, slice_get}
 use Rattle.std.proofs.Common.{refl, sym, ◌∙◌, ap, subst, arith, inl, inr, append_assoc}
 use Rattle.std.proofs.lemmas.Nat.{mul-add-lt, div-add-mod', div_below}
 use Rattle.std.proofs.Math.Nat.{mod-lt}
 use Rattle.std.proofs.lemmas.List.{length-map, append-nil}
 use Rattle.std.proofs.lemmas.List.Elements.{All-nil}
+use Rattle.std.proofs.lemmas.Option.{none-some, same_Some, slice_get_within}
 use Rattle.iges_params.specs.Contents.{Contents}
 use Rattle.iges_params.specs.Named.{named}
 use Rattle.brep_lists.specs.Record.{EntityKind, solid, shell, face, «loop», edges, vertices, type_number, HasForm, FaceItems, LoopTuple, IsRecordOf}
 use Rattle.brep_walk.specs.Places.{told, shells, faces, loops, tuples, edge_at, numbers, NamesGeometry, IsIndex, record_places, item_places, edge_places, used_places, tuple_places, loop_places, face_places, shell_places, places}
 use Rattle.solid_data.specs.Obligations.{Obligation, obligation, entry_number, AllHold, after_each}
 use Rattle.solid_data.specs.declared.verdict.Rule.TheVariants.{BadIndex, BadGeometry, Twice}
-use Rattle.solid_data.proofs.Members.{Has, Has-from_Contains, some_inj, from_flat_map, has_map, get_below}
+use Rattle.solid_data.proofs.Members.{Has, Has-from_Contains, from_flat_map, has_map, has_get}
 use Rattle.solid_data.proofs.ObligationLemmas.{AllHold-append}
 use Rattle.sample_solids.specs.Sample.{squares, face_number, entry, shell_record, vertex_record, edge_record, face_record, loop_record, sample}
-use Rattle.sample_solids.proofs.Squares.{length_squares, squares_at, square_small}
+use Rattle.sample_solids.proofs.Squares.{length_squares, squares_at, square_small, only_one}
 use Rattle.sample_solids.proofs.Growing.{AnEntry}
 use Rattle.sample_solids.proofs.Mesh.{Side, vertex, edge_of}
 use Rattle.sample_solids.proofs.Records.{solid_named, shell_named, vertices_named, edges_named, line_named, plane_named, face_named, loop_named, solid_fits, shell_fits, vertices_fit, edges_fit, face_fits, loop_fits, face_item, vertex_item, edge_count}
@@ -41,11 +42,8 @@ before_place (y ∷ xs) (suc k) x (inl e) = (zero, omega arith, ap Some e)
 before_place (y ∷ xs) (suc k) x (inr h) = let m = before_place xs k x h in (suc m.0, omega (arith, m.1), m.2)
 
 get_of_map : {A B : Type 0} (g : A → B) (xs : List A) (k : ℕ) (y : B) → slice_get (map g xs) k ≡ Some y → (x : A) × (slice_get xs k ≡ Some x) × (g x ≡ y)
-get_of_map g [] k y at = absurd (none_there at)
-  where
-    none_there : None ≡ Some y → ⊥
-    none_there w = cc
-get_of_map g (x ∷ xs) zero y at = (x, refl, some_inj (g x) y at)
+get_of_map g [] k y at = absurd (none-some y at)
+get_of_map g (x ∷ xs) zero y at = (x, refl, same_Some (g x) y at)
 get_of_map g (x ∷ xs) (suc k) y at = get_of_map g xs k y at
 
 -- ---- records
@@ -152,14 +150,9 @@ loop_holds n i j li lj used before fresh =
       fresh,
       subst (λ ts. AllHold (after_each (tuple_places f l) [] ts)) (sym (tuples_are n i j li lj))
           (each_holds (tuple_places f l) [] (square_tuples n (i, j)) (λ m t at.
-          let s = side_of n (i, j) t (has_at (square_tuples n (i, j)) m t at) in
+          let s = side_of (side_tuple n i j) t (has_get (square_tuples n (i, j)) m t at) in
           subst (λ u. AllHold (tuple_places f l (take m (square_tuples n (i, j))) u)) s.1 (side_holds n i j s.0 li lj l (take m (square_tuples n (i, j)))))),
     )
-  where
-    has_at : (xs : List LoopTuple) (m : ℕ) (t : LoopTuple) → slice_get xs m ≡ Some t → Has xs t
-    has_at [] m t at = absurd cc
-    has_at (x ∷ xs) zero t at = inl (some_inj x t at)
-    has_at (x ∷ xs) (suc m) t at = inr (has_at xs m t at)
 
 -- ---- a face
 
@@ -167,9 +160,9 @@ loop_holds n i j li lj used before fresh =
 face_at_place : (n k : ℕ) (item : ℤ × Bool) → 0 < n → slice_get (map (face_item n) (squares n)) k ≡ Some item → (i j : ℕ) × (i < n) × (j < n) × (face_item n (i, j) ≡ item) × (face_number n i j ≡ 13 + 4 * k)
 face_at_place n k item some at =
     let s = get_of_map (face_item n) (squares n) k item at in
-    let within = get_below (squares n) k s.0 s.1 in
+    let within = slice_get_within (squares n) k s.0 s.1 in
     let lt : k < n * n = omega (arith, within, length_squares n) in
-    let same : (k / n, k % n) ≡ s.0 = some_inj (k / n, k % n) s.0 (sym (squares_at n k some lt) ∙ s.1) in
+    let same : (k / n, k % n) ≡ s.0 = same_Some (k / n, k % n) s.0 (sym (squares_at n k some lt) ∙ s.1) in
     let li : k / n < n = div_below k n n some lt in
     let lj : k % n < n = mod-lt k some in
     let e : k / n * n + k % n ≡ k = div-add-mod' k n in
@@ -202,12 +195,8 @@ loop_fresh n k i j some at h =
     let c = from_flat_map (loops f) (numbers (take k (map (face_item n) (squares n)))) l there in
     let x = lesser n k c.0 some c.1 in
     let listed : Has (pos (face_number n x.0 x.1 + 2) ∷ []) l = subst (λ ls. Has ls l) (loops_are n x.0 x.1 x.3 x.4) (subst (λ z. Has (loops f z) l) (sym x.5) c.2) in
-    let e = pos_same (face_number n x.0 x.1 + 2) (face_number n i j + 2) (only (pos (face_number n x.0 x.1 + 2)) l listed) in
+    let e = pos_same (face_number n x.0 x.1 + 2) (face_number n i j + 2) (only_one (pos (face_number n x.0 x.1 + 2)) l listed) in
     omega (arith, e, at, x.6, x.7)
-  where
-    only : (a b : ℤ) → Has (a ∷ []) b → a ≡ b
-    only a b (inl w) = w
-    only a b (inr m) = absurd m
 
 face_holds : (n k i j : ℕ) → i < n → j < n → face_number n i j ≡ 13 + 4 * k → AllHold (face_places (sample n) (pos 3) [] (take k (map (face_item n) (squares n))) (face_item n (i, j)))
 unfolding face_places

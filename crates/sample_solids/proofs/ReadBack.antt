@@ -7,6 +7,7 @@ use Rattle.iges_fields.specs.Delims.{Delims}
 use Rattle.iges_write.specs.Parts.{parts}
 use Rattle.iges_write.specs.Text.{global_values}
 use Rattle.iges_write.specs.Writable.{IsWritable}
+use Rattle.iges_write.proofs.Columns.{Are72}
 use Rattle.iges_write.proofs.FileBack.{reads_back, one_text}
 use Rattle.solid_data.proofs.Members.{all_append, all_flat_map}
 use Rattle.sample_solids.specs.Sample.{squares, whole, start_line, no_values, shell_record, vertex_record, edge_record, face_record, loop_record, entry, first_entries, face_entries, sample}
@@ -14,7 +15,7 @@ use Rattle.sample_solids.specs.Laws.{SamplesAreWithin, SamplesHaveTexts, Samples
 use Rattle.sample_solids.proofs.Sizes.{sample_total, sample_length, few_squares}
 use Rattle.sample_solids.proofs.Made.{made}
 use Rattle.sample_solids.proofs.Small.{IsSmall, AreSmall, shell_small, vertices_small, edges_small, face_small, loop_small}
-use Rattle.sample_solids.proofs.Filling.{AreWide, are_values, length-parts, length-global}
+use Rattle.sample_solids.proofs.Filling.{are_values, length-parts, length-global}
 use Rattle.sample_solids.proofs.Lengths.{IsShort, all_held, few_bytes}
 
 -- ---- the entries
@@ -59,7 +60,7 @@ module _ (d : Delims) (n : ℕ) (some : 0 < n) (few : n ≤ 200) where
 
 -- ---- the file
 
-start_wide : (n : ℕ) → AreWide 72 (sample n).start
+start_wide : (n : ℕ) → Are72 (sample n).start
 unfolding sample start_line
 start_wide n = (refl, tt)
 

@@ -9,8 +9,9 @@ use Rattle.iges_fields.specs.declared.value.Value.{Value}
 use Rattle.iges_directory.specs.Named.{unless_unused}
 use Rattle.iges_params.specs.Named.{kind_of, named}
 use Rattle.brep_lists.specs.DueValues.{MeetsAll}
-use Rattle.brep_lists.specs.Record.{solid, shell, face, «loop», edges, vertices, LoopTuple, pair_due, edge_due, vertex_due, due, items_of, IsRecordOf, groups, pair_read, edge_read, value_or_default}
+use Rattle.brep_lists.specs.Record.{solid, shell, face, «loop», edges, vertices, LoopTuple, pair_due, edge_due, vertex_due, due, items_of, IsRecordOf, groups, pair_read, edge_read}
 use Rattle.brep_lists.specs.declared.edge_list.EdgeTuple.{EdgeTuple}
+use Rattle.brep_lists.proofs.Stride.{vertex_read}
 use Rattle.sample_solids.specs.Sample.{squares, vertex_index, across_index, up_index, face_number, whole, entry, face_listed, vertex_listed, edges_listed, shell_record, vertex_record, edge_record, face_record, loop_record, first_entries, face_entries, sample}
 use Rattle.sample_solids.proofs.Squares.{get_right, get_chunk, length_squares, squares_get, square_small, length_chunks}
 use Rattle.sample_solids.proofs.Growing.{AnEntry}
@@ -81,15 +82,12 @@ shell_items n = ap (λ m. map pair_read (groups 2 m (map whole (flat_map (face_l
 abbrev pub vertex_item : ℕ × ℕ → Value × Value × Value
 vertex_item s = (whole s.0, whole s.1, whole 0)
 
-abbrev triple_read : List Value → Value × Value × Value
-triple_read g = (value_or_default g 0, value_or_default g 1, value_or_default g 2)
-
-vertex_groups : (ss : List (ℕ × ℕ)) → map triple_read (groups 3 (length ss) (map whole (flat_map vertex_listed ss))) ≡ map vertex_item ss
+vertex_groups : (ss : List (ℕ × ℕ)) → map vertex_read (groups 3 (length ss) (map whole (flat_map vertex_listed ss))) ≡ map vertex_item ss
 vertex_groups [] = refl
 vertex_groups (s ∷ ss) = ap (λ items. vertex_item s ∷ items) (vertex_groups ss)
 
 pub vertex_items : (n : ℕ) → items_of vertices (map whole (vertex_record n)) ≡ map vertex_item (squares n)
-vertex_items n = ap (λ m. map triple_read (groups 3 m (map whole (flat_map vertex_listed (squares n))))) (sym (length_squares n)) ∙ vertex_groups (squares n)
+vertex_items n = ap (λ m. map vertex_read (groups 3 m (map whole (flat_map vertex_listed (squares n))))) (sym (length_squares n)) ∙ vertex_groups (squares n)
 
 abbrev pub edge_tuple : ℕ → ℕ → EdgeTuple
 edge_tuple from to = record { curve = pos 9; start_list = pos 5; start_index = pos from; end_list = pos 5; end_index = pos to }

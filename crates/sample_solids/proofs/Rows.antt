@@ -6,6 +6,7 @@ use Rattle.std.proofs.Math.Nat.{mod-lt}
 use Rattle.std.proofs.lemmas.List.{length-map}
 use Rattle.std.proofs.lemmas.List.FromFn.{length-enumerate_from}
 use Rattle.std.proofs.lemmas.Nat.{div-add-mod', div_below}
+use Rattle.std.proofs.lemmas.Option.{same_Some, slice_get_within}
 use Rattle.iges_params.specs.Contents.{Contents}
 use Rattle.brep_lists.specs.Record.{LoopTuple}
 use Rattle.brep_walk.specs.Places.{faces}
@@ -21,14 +22,14 @@ use Rattle.solid_data.specs.declared.solid.Shell.{Shell}
 use Rattle.edge_uses.specs.declared.row.Row.{Row}
 use Rattle.edge_uses.specs.ShellRows.{ShellRows, row_of_edge, loop_rows, follows_from, point_of, shell_rows}
 use Rattle.edge_uses.specs.Closed.{begin_of, start_of as starts_at, end_of as ends_at, IsJoined, IsReached, IsApart, IsClosedShell, IsClosedSolid}
-use Rattle.solid_data.proofs.Members.{Has, All-from, from_flat_map, has_map, from_enumerated, get_below, some_inj}
+use Rattle.solid_data.proofs.Members.{Has, All-from, from_flat_map, has_map, from_enumerated}
 use Rattle.edge_uses.proofs.Occurs.{from_occurring}
 use Rattle.sample_solids.specs.Sample.{squares, face_number, sample}
-use Rattle.sample_solids.proofs.Squares.{get_right, get_chunk, get_map, length_chunks, length_squares, squares_get, squares_below}
+use Rattle.sample_solids.proofs.Squares.{get_right, get_chunk, get_map, length_chunks, length_squares, squares_get, squares_below, only_one}
 use Rattle.sample_solids.proofs.Mesh.{Side, near, right, far, left, place, after, is_along, vertex, edge_of, start_of, number, side_row, IsMesh, mesh_paired, mesh_linked, mesh_reached}
 use Rattle.sample_solids.proofs.Records.{face_item}
 use Rattle.sample_solids.proofs.Tuples.{shells_are, faces_are, loops_are, tuples_are}
-use Rattle.sample_solids.proofs.Keys.{edge_id, point_id, edge_found, end_is, one_edge, one_point}
+use Rattle.sample_solids.proofs.Keys.{edge_id, point_id, edge_found, end_is, one_edge, one_point, side_of}
 
 -- ---- the loops
 
@@ -91,7 +92,7 @@ loop_is n p h =
 
 enumerated_get : {A : Type 0} (base : ℕ) (xs : List A) (k : ℕ) (x : A) → slice_get xs k ≡ Some x → slice_get (enumerate_from base xs) k ≡ Some (base + k, x)
 enumerated_get base [] k x at = absurd cc
-enumerated_get base (y ∷ xs) zero x at = let e : base ≡ base + 0 = omega arith in ap (λ z. Some (base, z)) (some_inj y x at) ∙ ap (λ b. Some (b, x)) e
+enumerated_get base (y ∷ xs) zero x at = let e : base ≡ base + 0 = omega arith in ap (λ z. Some (base, z)) (same_Some y x at) ∙ ap (λ b. Some (b, x)) e
 enumerated_get base (y ∷ xs) (suc k) x at = let e : base + 1 + k ≡ base + suc k = omega arith in enumerated_get (base + 1) xs k x at ∙ ap (λ b. Some (b, x)) e
 
 loop_get : (n i j : ℕ) → i < n → j < n → slice_get (the_loops n) (i * n + j) ≡ Some (placed n (i * n + j, (i, j)))
@@ -177,7 +178,7 @@ side_at_place (suc (suc (suc (suc c)))) lt = absurd (omega (arith, lt))
 
 each_row : (n : ℕ) → 0 < n → (r : ℕ) (x : Row) → slice_get (the_rows n).rows r ≡ Some x → (i j : ℕ) × (s : Side) × (i < n) × (j < n) × (r ≡ number n i j s)
 each_row n some r x at =
-    let below = get_below (the_rows n).rows r x at in
+    let below = slice_get_within (the_rows n).rows r x at in
     let k : ℕ = r / 4 in
     let lt : k < n * n = omega (arith, below, rows_many n) in
     let s = side_at_place (r % 4) (mod-lt r (omega arith)) in
@@ -220,7 +221,7 @@ all_ahead n p h = let q = loop_is n p h in sym (ap (λ (x : PlacedLoop). x.forwa
 follow_get : (n i j : ℕ) (s : Side) → i < n → j < n → slice_get (the_rows n).follows (number n i j s) ≡ Some (number n i j (after s))
 unfolding shell_rows
 follow_get n i j s li lj =
-    let lt = get_below (the_loops n) (i * n + j) (placed n (i * n + j, (i, j))) (loop_get n i j li lj) in
+    let lt = slice_get_within (the_loops n) (i * n + j) (placed n (i * n + j, (i, j))) (loop_get n i j li lj) in
     let e : 0 + number n i j (after s) ≡ number n i j (after s) = omega arith in
     ap (λ ps. slice_get (follows_from (the_solid n) 0 ps) (number n i j s)) (placed_are n)
     ∙ (follows_get (the_solid n) (the_loops n) (four_each n) (all_ahead n) 0 (i * n + j) s lt ∙ ap Some e)
@@ -250,18 +251,11 @@ no_points n =
 
 -- ---- which edges and vertices occur
 
-side_of : (n i j : ℕ) (u : LoopUse) → Has (square_uses n (i, j)) u → (s : Side) × (side_use n i j s ≡ u)
-side_of n i j u (inl e) = (near, e)
-side_of n i j u (inr (inl e)) = (right, e)
-side_of n i j u (inr (inr (inl e))) = (far, e)
-side_of n i j u (inr (inr (inr (inl e)))) = (left, e)
-side_of n i j u (inr (inr (inr (inr h)))) = absurd h
-
 use_is : (n : ℕ) (u : LoopUse) → Has (shell_uses (the_shell n)) u → (i j : ℕ) × (s : Side) × (i < n) × (j < n) × (side_use n i j s ≡ u)
 use_is n u h =
     let p = from_flat_map (λ (q : PlacedLoop). q.loop.uses) (placed_loops (the_shell n)) u h in
     let q = loop_is n p.0 (subst (λ ps. Has ps p.0) (placed_are n) p.1) in
-    let s = side_of n q.0.1.0 q.0.1.1 u (subst (λ (x : PlacedLoop). Has x.loop.uses u) (sym q.3) p.2) in
+    let s = side_of (side_use n q.0.1.0 q.0.1.1) u (subst (λ (x : PlacedLoop). Has x.loop.uses u) (sym q.3) p.2) in
     (q.0.1.0, q.0.1.1, s.0, q.1, q.2, s.1)
 
 edge_occurs : (n e : ℕ) → Has (the_rows n).edges e → (i j : ℕ) × (s : Side) × (i < n) × (j < n) × (edge_id n (edge_of n i j s) ≡ e)
@@ -269,11 +263,7 @@ unfolding shell_rows
 edge_occurs n e h =
     let u = from_flat_map edge_used (shell_uses (the_shell n)) e (from_occurring (numbers_from 0 (length (the_solid n).edges)) (shell_edges (the_shell n)) e h) in
     let s = use_is n u.0 u.1 in
-    (s.0, s.1, s.2, s.3, s.4, only (edge_id n (edge_of n s.0 s.1 s.2)) (subst (λ w. Has (edge_used w) e) (sym s.5) u.2))
-  where
-    only : (a : ℕ) → Has (a ∷ []) e → a ≡ e
-    only a (inl w) = w
-    only a (inr m) = absurd m
+    (s.0, s.1, s.2, s.3, s.4, only_one (edge_id n (edge_of n s.0 s.1 s.2)) e (subst (λ w. Has (edge_used w) e) (sym s.5) u.2))
 
 vertex_occurs : (n v : ℕ) → Has (the_rows n).vertices v → (i j : ℕ) × (i < n) × (j < n) × (point_id n (vertex n i j) ≡ v)
 unfolding shell_rows

@@ -1,14 +1,16 @@
 -- The squares of a mesh, by their places.
-use Rattle.std.specs.Prelude.{◌≡◌, ℕ, zero, suc, ◌+◌, ◌*◌, ◌/◌, ◌%◌, ◌<◌, ◌≤◌, List, [], ◌∷◌, ◌++◌, length, map, flat_map, take, Some, slice_get}
-use Rattle.std.proofs.Common.{refl, sym, ◌∙◌, ap, arith, inl, inr, get_or, length-append}
+use Rattle.std.specs.Prelude.{option_map, ◌≡◌, ℕ, zero, suc, ◌+◌, ◌*◌, ◌/◌, ◌%◌, ◌<◌, ◌≤◌, List, [], ◌∷◌, ◌++◌, length, map, flat_map, take, Some, slice_get}
+use Rattle.std.proofs.Common.{refl, sym, ◌∙◌, ap, arith, inl, inr, length-append}
 use Rattle.std.proofs.Math.Nat.{mod-eq_of_lt, mod-lt, mul_comm}
 use Rattle.std.proofs.lemmas.Nat.{div-add-mod', div_below}
-use Rattle.std.proofs.lemmas.List.{take_more, length-map, map-append, append-nil, take_all}
+use Rattle.std.proofs.lemmas.List.{length-map, map-append, append-nil, take_all}
 use Rattle.std.proofs.lemmas.List.Concat.{flat_map-append}
-use Rattle.std.proofs.lemmas.Option.{get_or_from_slice_get}
+use Rattle.std.proofs.lemmas.Option.{slice_get-map, slice_get-get_or, same_Some}
 use Rattle.solid_data.specs.Ring.{numbers_from}
-use Rattle.solid_data.proofs.Members.{Has, from_flat_map, has_map, some_inj}
+use Rattle.solid_data.proofs.Members.{Has, from_flat_map, has_map}
+use Rattle.solid_data.proofs.Occurring.{length-numbers, number_get, number_below}
 use Rattle.iges_fields.specs.declared.value.Value.{Value}
+use Rattle.brep_walk.proofs.WalkSteps.{take_next}
 use Rattle.sample_solids.specs.Sample.{squares, square, whole}
 
 -- ---- places in lists
@@ -23,12 +25,16 @@ get_right [] ys m k e = let h : m ≡ k = omega (arith, e) in ap (slice_get ys) 
 get_right (x ∷ xs) ys zero k e = absurd (omega (arith, e))
 get_right (x ∷ xs) ys (suc m) k e = get_right xs ys m k (omega (arith, e))
 
+pub only_one : {A : Type 0} (x y : A) → Has (x ∷ []) y → x ≡ y
+only_one x y (inl e) = e
+only_one x y (inr h) = absurd h
+
 -- the r-th of what the k-th item gives, where each gives c
 pub get_chunk : {A B : Type 0} (g : A → List B) (c : ℕ) (xs : List A) → ((x : A) → Has xs x → length (g x) ≡ c) → (k r m : ℕ) (x : A) → slice_get xs k ≡ Some x → r < c → m ≡ c * k + r
     → slice_get (flat_map g xs) m ≡ slice_get (g x) r
 get_chunk g c [] each k r m x at lt e = absurd cc
 get_chunk g c (y ∷ xs) each zero r m x at lt e =
-    let here : y ≡ x = some_inj y x at in
+    let here : y ≡ x = same_Some y x at in
     let same : m ≡ r = omega (arith, e) in
     get_left (g y) (flat_map g xs) m (omega (arith, each y (inl refl), same, lt)) ∙ (ap (slice_get (g y)) same ∙ ap (λ z. slice_get (g z) r) here)
 get_chunk g c (y ∷ xs) each (suc k) r m x at lt e =
@@ -36,23 +42,10 @@ get_chunk g c (y ∷ xs) each (suc k) r m x at lt e =
     ∙ get_chunk g c xs (λ z h. each z (inr h)) k r (c * k + r) x at lt refl
 
 pub numbers_get : (base n k : ℕ) → k < n → slice_get (numbers_from base n) k ≡ Some (base + k)
-numbers_get base zero k lt = absurd (omega (arith, lt))
-numbers_get base (suc n) zero lt = let e : base ≡ base + 0 = omega arith in ap Some e
-numbers_get base (suc n) (suc k) lt = let e : base + 1 + k ≡ base + suc k = omega arith in numbers_get (base + 1) n k (omega (arith, lt)) ∙ ap Some e
-
-pub length_numbers : (base n : ℕ) → length (numbers_from base n) ≡ n
-length_numbers base zero = refl
-length_numbers base (suc n) = ap suc (length_numbers (base + 1) n)
-
-pub numbers_below : (base n k : ℕ) → Has (numbers_from base n) k → k < base + n
-numbers_below base zero k m = absurd m
-numbers_below base (suc n) k (inl e) = omega (arith, e)
-numbers_below base (suc n) k (inr m) = let h = numbers_below (base + 1) n k m in omega (arith, h)
+numbers_get base n k lt = slice_get-get_or (numbers_from base n) k 0 (omega (arith, lt, length-numbers base n)) ∙ ap Some (number_get base n k 0 lt)
 
 pub get_map : {A B : Type 0} (g : A → B) (xs : List A) (k : ℕ) (x : A) → slice_get xs k ≡ Some x → slice_get (map g xs) k ≡ Some (g x)
-get_map g [] k x at = absurd cc
-get_map g (y ∷ xs) zero x at = ap (λ z. Some (g z)) (some_inj y x at)
-get_map g (y ∷ xs) (suc k) x at = get_map g xs k x at
+get_map g xs k x at = slice_get-map g xs k ∙ ap (option_map g) at
 
 pub length_chunks : {A B : Type 0} (g : A → List B) (c : ℕ) (xs : List A) → ((x : A) → Has xs x → length (g x) ≡ c) → length (flat_map g xs) ≡ c * length xs
 length_chunks g c [] each = omega arith
@@ -64,10 +57,10 @@ abbrev row : ℕ → ℕ → ℕ × ℕ
 row i j = (i, j)
 
 length_row : (n i : ℕ) → length (map (row i) (numbers_from 0 n)) ≡ n
-length_row n i = length-map (numbers_from 0 n) (row i) ∙ length_numbers 0 n
+length_row n i = length-map (numbers_from 0 n) (row i) ∙ length-numbers 0 n
 
 pub length_squares : (n : ℕ) → length (squares n) ≡ n * n
-length_squares n = length_chunks (λ i. map (row i) (numbers_from 0 n)) n (numbers_from 0 n) (λ i h. length_row n i) ∙ ap (λ k. n * k) (length_numbers 0 n)
+length_squares n = length_chunks (λ i. map (row i) (numbers_from 0 n)) n (numbers_from 0 n) (λ i h. length_row n i) ∙ ap (λ k. n * k) (length-numbers 0 n)
 
 zero_plus : (k : ℕ) → 0 + k ≡ k
 zero_plus k = omega arith
@@ -91,8 +84,8 @@ pub squares_below : (n : ℕ) (s : ℕ × ℕ) → Has (squares n) s → (s.0 < 
 squares_below n s h =
     let a = from_flat_map (λ i. map (row i) (numbers_from 0 n)) (numbers_from 0 n) s h in
     let b = has_map (row a.0) (numbers_from 0 n) s a.2 in
-    let low : a.0 < 0 + n = numbers_below 0 n a.0 a.1 in
-    let left : b.0 < 0 + n = numbers_below 0 n b.0 b.1 in
+    let low : a.0 < 0 + n = (number_below 0 n a.0 a.1).1 in
+    let left : b.0 < 0 + n = (number_below 0 n b.0 b.1).1 in
     let first : a.0 ≡ s.0 = ap (λ (p : ℕ × ℕ). p.0) b.2 in
     let second : b.0 ≡ s.1 = ap (λ (p : ℕ × ℕ). p.1) b.2 in
     (omega (arith, low, first), omega (arith, left, second))
@@ -105,9 +98,7 @@ square_small n i j low left = let a = mod-eq_of_lt low in let b = mod-eq_of_lt l
 
 pub squares_more : {A : Type 0} (g : ℕ × ℕ → List A) (n k : ℕ) → 0 < n → k < n * n → flat_map g (take (k + 1) (squares n)) ≡ flat_map g (take k (squares n)) ++ g (k / n, k % n)
 squares_more g n k some lt =
-    let there : get_or (squares n) k (at_place n n) ≡ at_place n k = get_or_from_slice_get (squares n) k (at_place n k) (at_place n n) (squares_at n k some lt) in
-    let within : k < length (squares n) = omega (arith, lt, length_squares n) in
-    ap (flat_map g) (take_more (squares n) k (at_place n n) within ∙ ap (λ s. take k (squares n) ++ s ∷ []) there)
+    ap (flat_map g) (take_next (squares n) k (at_place n k) (squares_at n k some lt))
     ∙ (flat_map-append g (take k (squares n)) (at_place n k ∷ []) ∙ ap (λ ys. flat_map g (take k (squares n)) ++ ys) (append-nil (g (at_place n k))))
 
 pub squares_all : (n k : ℕ) → n * n ≤ k → take k (squares n) ≡ squares n
