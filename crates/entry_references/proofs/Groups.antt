@@ -1,9 +1,9 @@
 -- Groups of pointers by their places.
-use Rattle.std.specs.Prelude.{◌≡◌, ℕ, zero, suc, ◌+◌, ◌-◌, ◌<◌, min, Bool, true, false, ◌&&◌, List, [], ◌∷◌, length, take, drop, Some, None, slice_get, slice_index_or, unwrap_or}
+use Rattle.std.specs.Prelude.{◌≡◌, ℕ, zero, suc, ◌+◌, ◌-◌, ◌<◌, min, Bool, true, false, ◌&&◌, List, [], length, take, drop, Some, None, slice_get, slice_index_or, unwrap_or}
 use Rattle.std.specs.List.{list_all}
 use Rattle.std.proofs.Common.{refl, sym, ap, ◌∙◌, arith}
-use Rattle.std.proofs.lemmas.Bool.{and_from}
-use Rattle.std.proofs.lemmas.List.{drop-drop}
+use Rattle.std.proofs.lemmas.Bool.{and_from, and_left, and_right}
+use Rattle.std.proofs.lemmas.List.{drop-drop, drop_min, get_or-drop}
 use Rattle.iges_fields.specs.declared.value.Value.{Value}
 use Rattle.iges_fields.specs.declared.value.Value.TheVariants as value
 use Rattle.brep_lists.proofs.Places.{open_at, none_at}
@@ -11,22 +11,12 @@ use Rattle.entry_references.specs.Layout.{Own, value_at, count_of, is_count, is_
 use Rattle.entry_references.specs.Refs.{Group, group_at, first_group, second_group, is_group, is_left_out, are_groups}
 use Rattle.entry_references.specs.GroupPlaces.{group_between}
 
--- ---- tests that are joined
-
-and_false : (a b : Bool) → b ≡ false → (a && b) ≡ false
-and_false true b k = k
-and_false false b k = refl
-
-not_first : (a b : Bool) → a ≡ false → (a && b) ≡ false
-not_first true b h = absurd cc
-not_first false b h = refl
-
 -- ---- tests along a record
 
 module _ (p : Value → Bool) (vs : List Value) where
   test_fails : (n i : ℕ) (v : Value) → 0 < n → Some v ≡ slice_get vs i → p v ≡ false → list_all p (take n (drop i vs)) ≡ false
   test_fails zero i v some e f = absurd (omega (arith, some))
-  test_fails (suc n) i v some e f = ap (λ (xs : List Value). list_all p (take (suc n) xs)) (open_at vs i v (sym e)) ∙ not_first (p v) (list_all p (take n (drop (i + 1) vs))) f
+  test_fails (suc n) i v some e f = ap (λ (xs : List Value). list_all p (take (suc n) xs)) (open_at vs i v (sym e)) ∙ and_left (p v) (list_all p (take n (drop (i + 1) vs))) f
 
   test_passes : (n i : ℕ) (v : Value) → 0 < n → Some v ≡ slice_get vs i → p v ≡ true → list_all p (take (n - 1) (drop (i + 1) vs)) ≡ list_all p (take n (drop i vs))
   test_passes zero i v some e f = absurd (omega (arith, some))
@@ -57,7 +47,7 @@ module _ (p : Value → Bool) (vs : List Value) where
   at_end before count i all e same = sym (test_ends (count - i) (before + i) e) ∙ same
 
   pub rest_failed : (i : ℕ) (v : Value) (all : Bool) → Some v ≡ slice_get vs i → p v ≡ false → list_all p (drop i vs) ≡ all → false ≡ all
-  rest_failed i v all e f same = sym (ap (list_all p) (open_at vs i v (sym e)) ∙ not_first (p v) (list_all p (drop (i + 1) vs)) f) ∙ same
+  rest_failed i v all e f same = sym (ap (list_all p) (open_at vs i v (sym e)) ∙ and_left (p v) (list_all p (drop (i + 1) vs)) f) ∙ same
 
   pub rest_passed : (i : ℕ) (v : Value) (all : Bool) → Some v ≡ slice_get vs i → p v ≡ true → list_all p (drop i vs) ≡ all → list_all p (drop (i + 1) vs) ≡ all
   rest_passed i v all e f same = sym (ap (list_all p) (open_at vs i v (sym e)) ∙ ap (λ (b : Bool). b && list_all p (drop (i + 1) vs)) f) ∙ same
@@ -67,16 +57,10 @@ module _ (p : Value → Bool) (vs : List Value) where
 
 -- ---- a group
 
-index_drop : (vs : List Value) (i : ℕ) (d : Value) → slice_index_or (drop i vs) 0 d ≡ slice_index_or vs i d
-index_drop [] zero d = refl
-index_drop [] (suc i) d = refl
-index_drop (v ∷ vs) zero d = refl
-index_drop (v ∷ vs) (suc i) d = index_drop vs i d
-
 first_value : (vs : List Value) (i : ℕ) → value_at (drop i vs) 1 ≡ value_at vs (i + 1)
 first_value vs i =
-    let one : i ≡ (i + 1) - 1 = omega arith in
-    index_drop vs i value.Default ∙ ap (λ (k : ℕ). slice_index_or vs k value.Default) one
+    let here : i + 0 ≡ (i + 1) - 1 = omega arith in
+    get_or-drop i vs 0 value.Default ∙ ap (λ (k : ℕ). slice_index_or vs k value.Default) here
 
 same_group : (c d : Value) (n m : ℕ) (vs ws rest : List Value) → c ≡ d → vs ≡ ws → n ≡ m → drop n vs ≡ rest → (let g : Group = record { count = c; pointers = take n vs; rest = drop n vs } in g) ≡ record { count = d; pointers = take m ws; rest = rest }
 same_group c d n m vs ws rest ec ev en er =
@@ -101,21 +85,14 @@ group_stands vs i place n ep ec en ea =
 
 pub bad_pointers : (vs : List Value) (i place n : ℕ) → place ≡ i + 1 → n ≡ unwrap_or (count_of (value_at vs place)) 0 → list_all is_pointer (take n (drop place vs)) ≡ false → is_group vs (group_at (drop i vs)) ≡ false
 bad_pointers vs i place n ep en ea =
-    ap (is_group vs) (group_is vs i place n ep en) ∙ and_false (is_count vs (value_at vs place)) (list_all is_pointer (take n (drop place vs))) ea
+    ap (is_group vs) (group_is vs i place n ep en) ∙ and_right (is_count vs (value_at vs place)) (list_all is_pointer (take n (drop place vs))) ea
 
 pub bad_count : (vs : List Value) (i place : ℕ) → place ≡ i + 1 → is_count vs (value_at vs place) ≡ false → is_group vs (group_at (drop i vs)) ≡ false
 bad_count vs i place ep ec =
     ap (is_group vs) (group_is vs i place (unwrap_or (count_of (value_at vs place)) 0) ep refl)
-    ∙ not_first (is_count vs (value_at vs place)) (list_all is_pointer (take (unwrap_or (count_of (value_at vs place)) 0) (drop place vs))) ec
+    ∙ and_left (is_count vs (value_at vs place)) (list_all is_pointer (take (unwrap_or (count_of (value_at vs place)) 0) (drop place vs))) ec
 
 -- ---- both groups
-
-drop_min : (n : ℕ) (vs : List Value) → drop (min n (length vs)) vs ≡ drop n vs
-drop_min zero vs = let e : min 0 (length vs) ≡ 0 = omega arith in ap (λ (k : ℕ). drop k vs) e
-drop_min (suc n) [] = let e : min (suc n) 0 ≡ 0 = omega arith in ap (λ (k : ℕ). drop k []) e
-drop_min (suc n) (v ∷ vs) =
-    let e : min (suc n) (suc (length vs)) ≡ suc (min n (length vs)) = omega arith in
-    ap (λ (k : ℕ). drop k (v ∷ vs)) e ∙ drop_min n vs
 
 pub first_at : (own : Own) (vs : List Value) (i : ℕ) → i ≡ min own.count (length vs) → group_at (drop i vs) ≡ first_group own vs
 first_at own vs i e = ap group_at (ap (λ (k : ℕ). drop k vs) e ∙ drop_min own.count vs)
@@ -129,13 +106,13 @@ module _ (own : Own) (vs : List Value) (i : ℕ) (ei : i ≡ min own.count (leng
   pub no_first : is_group vs (group_at (drop i vs)) ≡ false → are_groups own vs ≡ false
   no_first f =
       let bad : is_group vs (first_group own vs) ≡ false = ap (is_group vs) (sym (first_at own vs i ei)) ∙ f in
-      not_first (is_group vs (first_group own vs) && is_group vs (second_group own vs)) (list_all is_left_out (second_group own vs).rest) (not_first (is_group vs (first_group own vs)) (is_group vs (second_group own vs)) bad)
+      and_left (is_group vs (first_group own vs) && is_group vs (second_group own vs)) (list_all is_left_out (second_group own vs).rest) (and_left (is_group vs (first_group own vs)) (is_group vs (second_group own vs)) bad)
 
   module _ (before count j : ℕ) (eg : group_at (drop i vs) ≡ group_between vs before count) (ej : j ≡ before + count) where
     pub no_second : is_group vs (group_at (drop j vs)) ≡ false → are_groups own vs ≡ false
     no_second f =
         let bad : is_group vs (second_group own vs) ≡ false = ap (is_group vs) (sym (second_at own vs i before count j ei eg ej)) ∙ f in
-        not_first (is_group vs (first_group own vs) && is_group vs (second_group own vs)) (list_all is_left_out (second_group own vs).rest) (and_false (is_group vs (first_group own vs)) (is_group vs (second_group own vs)) bad)
+        and_left (is_group vs (first_group own vs) && is_group vs (second_group own vs)) (list_all is_left_out (second_group own vs).rest) (and_right (is_group vs (first_group own vs)) (is_group vs (second_group own vs)) bad)
 
     module _ (place n k : ℕ) (es : group_at (drop j vs) ≡ group_between vs place n) (ek : k ≡ place + n) where
       pub second_is : second_group own vs ≡ group_between vs place n
@@ -146,7 +123,7 @@ module _ (own : Own) (vs : List Value) (i : ℕ) (ei : i ≡ min own.count (leng
 
       pub no_end : list_all is_left_out (drop k vs) ≡ false → are_groups own vs ≡ false
       no_end f =
-          and_false (is_group vs (first_group own vs) && is_group vs (second_group own vs)) (list_all is_left_out (second_group own vs).rest) (rest_is ∙ f)
+          and_right (is_group vs (first_group own vs) && is_group vs (second_group own vs)) (list_all is_left_out (second_group own vs).rest) (rest_is ∙ f)
 
       pub both_groups : is_group vs (group_at (drop i vs)) ≡ true → is_group vs (group_at (drop j vs)) ≡ true → list_all is_left_out (drop k vs) ≡ true → are_groups own vs ≡ true
       both_groups f s r =
