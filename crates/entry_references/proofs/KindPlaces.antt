@@ -3,6 +3,7 @@ use Rattle.std.specs.Prelude.{◌≡◌, ℕ, zero, suc, ◌+◌, ◌-◌, ◌*�
 use Rattle.std.specs.List.{enumerate_from, list_all}
 use Rattle.std.proofs.Common.{refl, subst, sym, ap, ◌∙◌, arith, append_assoc, length-append, suc-mul}
 use Rattle.std.proofs.lemmas.Bool.{cond-true, cond-false, ltb-true, lt-ltb, and_from, and_parts}
+use Rattle.std.proofs.lemmas.List.{length-map}
 use Rattle.std.proofs.lemmas.List.Elements.{filter_map-append}
 use Rattle.iges_fields.specs.declared.value.Value.{Value}
 use Rattle.brep_lists.specs.DueValues.{DueValue, pointer, number, flag, at_least_one, count, coordinate, MeetsAll}
@@ -78,10 +79,6 @@ vertices_length (v ∷ vs) =
 pub loops_placed : (k : ℕ) (ls : List ℤ) → places_due k (map pointer ls) ≡ group_places k (length ls) 1 (0 ∷ [])
 loops_placed k [] = refl
 loops_placed k (l ∷ ls) = ap (λ (j : ℕ). j ∷ places_due (k + 1) (map pointer ls)) (let e : k ≡ k + 0 = omega arith in e) ∙ ap (λ (ps : List ℕ). (k + 0) ∷ ps) (loops_placed (k + 1) ls)
-
-pub loops_length : (ls : List ℤ) → length (map pointer ls) ≡ length ls
-loops_length [] = refl
-loops_length (l ∷ ls) = ap suc (loops_length ls)
 
 -- ---- the own values of a record of a kind
 
@@ -214,12 +211,12 @@ shell_own vs s len first ps fits is el ef ep =
 pub face_room : (vs : List Value) (s : FaceItems) (len : ℕ) → Fits face vs s → length vs ≤ 164000000 → len ≡ length s.loops → 4 + len * 1 < 2 ^ 32
 face_room vs s len fits few e =
     let most : length (due face s) ≤ 164000001 = items_few face vs s fits few in
-    omega (arith, most, e, loops_length s.loops)
+    omega (arith, most, e, length-map s.loops pointer)
 
 pub face_own : (vs : List Value) (s : FaceItems) (len : ℕ) (first ps : List ℕ) → Fits face vs s → s ≡ items_of face vs → len ≡ length s.loops → first ≡ 1 ∷ [] → ps ≡ first ++ group_places 4 len 1 (0 ∷ [])
     → Some (record { count = 3 + len; pointers = ps; cut = [] }) ≡ own_of_kind face vs
 face_own vs s len first ps fits is el ef ep =
-    let n : 3 + len ≡ length (due face s) = omega (arith, el, loops_length s.loops) in
+    let n : 3 + len ≡ length (due face s) = omega (arith, el, length-map s.loops pointer) in
     let p : ps ≡ places_due 1 (due face s) =
     ep ∙ (ap (λ (xs : List ℕ). xs ++ group_places 4 len 1 (0 ∷ [])) ef ∙ ap (λ (xs : List ℕ). 1 ∷ xs) (ap (λ (m : ℕ). group_places 4 m 1 (0 ∷ [])) el ∙ sym (loops_placed 4 s.loops))) in
     own_of_items face vs s (3 + len) ps fits is n p

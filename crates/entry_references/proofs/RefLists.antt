@@ -23,7 +23,7 @@ use Rattle.entry_references.specs.Layout.{Own}
 use Rattle.entry_references.specs.Refs.{Record, is_listed, has_layout, names_entry, pointers_of, names_of, is_name, number_of, own_of, second_group, entry_fault, refs}
 use Rattle.entry_references.specs.References.{RefersTo, AreReferences, HasFault, IsRefFault, Gives}
 use Rattle.entry_references.proofs.NamedRecords.{named_within}
-use Rattle.entry_references.proofs.RisingLists.{In, in_from, contains_at, among_in, same_increasing}
+use Rattle.entry_references.proofs.RisingLists.{In, in_from, contains_at, among_in, same_increasing, in_front}
 
 -- ---- each number that an entry refers to names an entry
 
@@ -99,11 +99,6 @@ into_one ns a m h = by_test (is_among ns a) refl h
     by_test true t i = inl i
     by_test false t i = pushed ns i
 
-push_front : (xs : List ℕ) (a m : ℕ) → In xs m → In (xs ++ a ∷ []) m
-push_front [] a m i = absurd i
-push_front (x ∷ xs) a m (inl e) = inl e
-push_front (x ∷ xs) a m (inr i) = inr (push_front xs a m i)
-
 push_last : (xs : List ℕ) (a m : ℕ) → a ≡ m → In (xs ++ a ∷ []) m
 push_last [] a m e = inl e
 push_last (x ∷ xs) a m e = inr (push_last xs a m e)
@@ -114,7 +109,7 @@ from_one ns a m h = by_test (is_among ns a) refl h
     by_test : (b : Bool) → is_among ns a ≡ b → In ns m ⊎ (a ≡ m) → In (if b then ns else ns ++ a ∷ []) m
     by_test true t (inl i) = i
     by_test true t (inr e) = subst (In ns) e (among_in ns a t)
-    by_test false t (inl i) = push_front ns a m i
+    by_test false t (inl i) = in_front ns (a ∷ []) m i
     by_test false t (inr e) = push_last ns a m e
 
 later : (z : ℤ) (zs : List ℤ) (x : ℤ) → Contains zs x → Contains (z ∷ zs) x
