@@ -3,7 +3,7 @@ use Rattle.std.specs.Prelude.{◌≡◌, ◌⊎◌, ℕ, zero, suc, ◌+◌, ◌
 use Rattle.std.proofs.Common.{refl, sym, ap, subst, ◌∙◌, arith, inl, inr, append_assoc}
 use Rattle.std.proofs.lemmas.Bool.{cases_lt, leb-true, leb-false}
 use Rattle.std.proofs.lemmas.List.{append-nil}
-use Rattle.std.proofs.lemmas.Option.{same_Some, slice_get_within}
+use Rattle.std.proofs.lemmas.Option.{same_Some, slice_get_within, get_or_from_slice_get, slice_get-get_or}
 use Rattle.iges_fields.specs.declared.entry_no.EntryNo.{EntryNo}
 use Rattle.iges_params.specs.Contents.{Contents}
 use Rattle.iges_params.specs.Named.{named}
@@ -16,7 +16,7 @@ use Rattle.entry_references.specs.declared.fault.RefFault.TheVariants as fault
 use Rattle.entry_references.specs.EntrySets.{is_among, with_number, with_numbers}
 use Rattle.entry_references.specs.References.{RefersTo}
 use Rattle.entry_references.specs.Refs.{Record, entry_fault, refs}
-use Rattle.entry_references.proofs.RisingLists.{In, in_from, contains_at}
+use Rattle.entry_references.proofs.RisingLists.{In, in_from, contains_at, in_at, in_front}
 use Rattle.entry_references.proofs.RefLists.{refs_named, refs_faultless, refs_fault, into_all, from_all}
 use Rattle.solid_extract.specs.declared.fault.Refusal.{Refusal}
 use Rattle.solid_extract.specs.Extracted.{Reaches, here, further}
@@ -73,20 +73,11 @@ get_front [] xs i lt = absurd (omega (arith, lt))
 get_front (n ∷ ns) xs zero lt = refl
 get_front (n ∷ ns) xs (suc i) lt = get_front ns xs i (omega (arith, lt))
 
-in_front : (ns xs : List ℕ) (m : ℕ) → In ns m → In (ns ++ xs) m
-in_front [] xs m i = absurd i
-in_front (n ∷ ns) xs m (inl e) = inl e
-in_front (n ∷ ns) xs m (inr i) = inr (in_front ns xs m i)
-
 in_get : (ns : List ℕ) (i m : ℕ) → slice_get ns i ≡ Some m → In ns m
-in_get [] i m e = absurd (let g : None ≡ Some m = e in cc)
-in_get (n ∷ ns) zero m e = let g : Some n ≡ Some m = e in inl cc
-in_get (n ∷ ns) (suc i) m e = inr (in_get ns i m e)
+in_get ns i m e = in_at ns i m (slice_get_within ns i m e) (get_or_from_slice_get ns i m m e)
 
 get_in : (ns : List ℕ) (m : ℕ) → In ns m → (i : ℕ) × (i < length ns) × (slice_get ns i ≡ Some m)
-get_in [] m h = absurd h
-get_in (n ∷ ns) m (inl e) = (0, omega arith, ap (λ (x : ℕ). Some x) e)
-get_in (n ∷ ns) m (inr h) = let p = get_in ns m h in (suc p.0, omega (arith, p.1), p.2)
+get_in ns m h = let c = contains_at ns m h in (c.0, c.1, slice_get-get_or ns c.0 m c.1 ∙ ap (λ (x : ℕ). Some x) c.2)
 
 -- ---- a visit
 

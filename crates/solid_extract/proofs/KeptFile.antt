@@ -1,12 +1,12 @@
 -- The file of the entries that are kept.
-use Rattle.std.specs.Prelude.{◌≡◌, ◌⊎◌, ◌↔◌, ℕ, zero, suc, ◌+◌, ◌-◌, ◌*◌, ◌/◌, ◌%◌, ◌<◌, ◌≤◌, Bool, true, false, pos, List, [], ◌∷◌, ◌++◌, length, map, take, drop, Option, Some, None, Result, Ok, Err, IsSome, IsTrue, is_some, IfOk, IfErr, sum_by, slice_get, Contains}
+use Rattle.std.specs.Prelude.{◌≡◌, ◌⊎◌, ◌↔◌, ℕ, suc, ◌+◌, ◌-◌, ◌*◌, ◌/◌, ◌%◌, ◌<◌, ◌≤◌, Bool, true, false, pos, List, [], ◌∷◌, ◌++◌, length, map, take, drop, Option, Some, None, Result, Ok, Err, IsSome, IsTrue, is_some, IfOk, IfErr, sum_by, slice_get, Contains}
 use Rattle.std.specs.List.{AllByRecursion, AllZip, cons_option, list_all}
 use Rattle.std.specs.List.Sorted.{IsStrictlyIncreasing}
 use Rattle.std.specs.Ordering.{int_eq}
 use Rattle.std.proofs.Common.{refl, sym, ap, subst, ◌∙◌, arith, inl, inr, length-take}
 use Rattle.std.proofs.Math.Nat.{div-add-mod, mod-lt}
 use Rattle.std.proofs.lemmas.Bool.{cases_lt}
-use Rattle.std.proofs.lemmas.List.{map-append}
+use Rattle.std.proofs.lemmas.List.{map-append, length-map, take-append-drop}
 use Rattle.std.proofs.lemmas.List.Sums.{sum_by-cons, sum_by-append}
 use Rattle.std.proofs.lemmas.List.Elements.{filter_map-append, All-from_recursion}
 use Rattle.std.proofs.lemmas.Option.{same_Some}
@@ -32,7 +32,7 @@ use Rattle.solid_extract.specs.declared.fault.Refusal.{Refusal}
 use Rattle.solid_extract.specs.Extracted.{is_solid, Reaches, here, further, IsExtracted, IsRefused, new_record, new_values}
 use Rattle.solid_extract.specs.Flooding.{fault_at, IsFlooded, IsLeastFault}
 use Rattle.solid_extract.specs.Making.{records_of, IsFaultless, IsExtractFault, GivesFile, GivesRefusal}
-use Rattle.solid_extract.proofs.Copies.{one_more}
+use Rattle.solid_extract.proofs.Copies.{one_more, all_at, zip_length, filter_map_few}
 use Rattle.solid_extract.proofs.KeptValues.{values_few}
 use Rattle.solid_extract.proofs.One.{IsExtracted-unique, IsRefused-unique, IsExtracted-IsRefused}
 
@@ -62,14 +62,8 @@ module _ (f : Contents) (kept : List ℕ) where
 
   part_few : (ms : List ℕ) (k : ℕ) → value_count (records_of f (take k ms)) ≤ value_count (records_of f ms)
   part_few ms k =
-      let whole : records_of f ms ≡ records_of f (take k ms) ++ records_of f (drop k ms) = ap (records_of f) (sym (take_and_drop ms k)) ∙ records_append (take k ms) (drop k ms) in
+      let whole : records_of f ms ≡ records_of f (take k ms) ++ records_of f (drop k ms) = ap (records_of f) (sym (take-append-drop k ms)) ∙ records_append (take k ms) (drop k ms) in
       omega (arith, ap value_count whole, sum_by-append (λ (q : Record). length q.1) (records_of f (take k ms)) (records_of f (drop k ms)))
-    where
-      take_and_drop : (xs : List ℕ) (n : ℕ) → take n xs ++ drop n xs ≡ xs
-      take_and_drop [] zero = refl
-      take_and_drop [] (suc n) = refl
-      take_and_drop (x ∷ xs) zero = refl
-      take_and_drop (x ∷ xs) (suc n) = ap (λ (ys : List ℕ). x ∷ ys) (take_and_drop xs n)
 
   pub next_room : (ms : List ℕ) (i m : ℕ) (es : List Record) → slice_get ms i ≡ Some m → es ≡ map (new_record f kept) (records_of f (take i ms)) → value_count (records_of f ms) ≤ 164000000
       → value_count es + value_count (records_of f (m ∷ [])) ≤ 164000000
@@ -78,20 +72,8 @@ module _ (f : Contents) (kept : List ℕ) where
       ap value_count (next_records ms i m at) ∙ sum_by-append (λ (q : Record). length q.1) (records_of f (take i ms)) (records_of f (m ∷ [])) in
       omega (arith, ap value_count e, mapped_few (records_of f (take i ms)), sum, part_few ms (i + 1), few)
 
-  records_few : (ms : List ℕ) → length (records_of f ms) ≤ length ms
-  records_few [] = omega arith
-  records_few (m ∷ ms) = by_option (named f (pos m)) (records_few ms)
-    where
-      by_option : (o : Option Record) → length (records_of f ms) ≤ length ms → length (cons_option o (records_of f ms)) ≤ suc (length ms)
-      by_option None on = omega (arith, on)
-      by_option (Some r) on = omega (arith, on)
-
-  pub mapped_long : (rs : List Record) → length (map (new_record f kept) rs) ≡ length rs
-  mapped_long [] = refl
-  mapped_long (r ∷ rs) = ap suc (mapped_long rs)
-
   pub next_few : (ms : List ℕ) (i : ℕ) (es : List Record) → es ≡ map (new_record f kept) (records_of f (take i ms)) → i < length ms → length ms ≤ 4999999 → length es < 4999999
-  next_few ms i es e lt few = omega (arith, ap length e, mapped_long (records_of f (take i ms)), records_few (take i ms), length-take i ms, lt, few)
+  next_few ms i es e lt few = omega (arith, ap length e, length-map (records_of f (take i ms)) (new_record f kept), filter_map_few (λ m. named f (pos m)) (take i ms), length-take i ms, lt, few)
 
   pub next_entries : (ms : List ℕ) (i m : ℕ) (es new : List Record) → slice_get ms i ≡ Some m → es ≡ map (new_record f kept) (records_of f (take i ms)) → new ≡ es ++ map (new_record f kept) (records_of f (m ∷ []))
       → new ≡ map (new_record f kept) (records_of f (take (i + 1) ms))
@@ -279,17 +261,6 @@ ones : (rs : List Record) → sum_by (λ (r : Record). 1) rs ≡ length rs
 ones [] = refl
 ones (r ∷ rs) = let on : sum_by (λ (q : Record). 1) rs ≡ length rs = ones rs in omega (arith, on, sum_by-cons (λ (q : Record). 1) r rs)
 
-zip_long : (f : Contents) (ms : List ℕ) (rs : List Record) → AllZip (λ m r. named f (pos m) ≡ Some r) ms rs → length ms ≡ length rs
-zip_long f [] [] h = refl
-zip_long f [] (r ∷ rs) h = absurd h
-zip_long f (m ∷ ms) [] h = absurd h
-zip_long f (m ∷ ms) (r ∷ rs) h = ap suc (zip_long f ms rs h.1)
-
-all_at : (P : Record → Type 0) (rs : List Record) (k : ℕ) (r : Record) → AllByRecursion P rs → slice_get rs k ≡ Some r → P r
-all_at P [] k r h e = absurd (let none : None ≡ Some r = e in cc)
-all_at P (q ∷ rs) zero r h e = subst P (same_Some q r e) h.0
-all_at P (q ∷ rs) (suc k) r h e = all_at P rs k r h.1 e
-
 made_entries : (f : Contents) (kept ms : List ℕ) (rs : List Record) → length kept ≤ 4999999 → AllByRecursion IsMadeEntry f.entries → AllZip (λ m r. named f (pos m) ≡ Some r) ms rs → AllByRecursion IsMadeEntry (map (new_record f kept) rs)
 made_entries f kept [] [] few all h = tt
 made_entries f kept [] (r ∷ rs) few all h = absurd h
@@ -304,7 +275,7 @@ extracted_is_made f new n made x =
     let count : sum_by (λ (r : Record). 1) (records_of f x.kept) ≤ sum_by (λ (r : Record). 1) f.entries = kept_weigh f (λ (r : Record). 1) x.kept x.rising are.1 in
     let long : length x.records ≤ length f.entries = omega (arith, ap length are.0, count, ones (records_of f x.kept), ones f.entries) in
     let most : length f.entries ≤ 4999999 = made.limits.entries in
-    let few : length x.kept ≤ 4999999 = omega (arith, zip_long f x.kept x.records x.each_named, long, most) in
+    let few : length x.kept ≤ 4999999 = omega (arith, zip_length (λ m r. named f (pos m) ≡ Some r) x.kept x.records x.each_named, long, most) in
     let values : value_count x.records ≤ value_count f.entries = subst (λ (rs : List Record). value_count rs ≤ value_count f.entries) (sym are.0) (kept_few f x.kept x.rising are.1) in
     let limit : value_count f.entries ≤ 164000000 = made.limits.values in
     record {
@@ -313,7 +284,7 @@ extracted_is_made f new n made x =
       kinds = subst (λ (g : Global26). IsTrue (have_kinds g.values)) (sym x.global) made.kinds;
       entries = subst (AllByRecursion IsMadeEntry) (sym x.entries) (made_entries f x.kept x.kept x.records few made.entries x.each_named);
       limits = record {
-        entries = omega (arith, ap length x.entries, mapped_long f x.kept x.records, long, most);
+        entries = omega (arith, ap length x.entries, length-map x.records (new_record f x.kept), long, most);
         values = omega (arith, ap value_count x.entries, mapped_few f x.kept x.records, values, limit);
       };
     }

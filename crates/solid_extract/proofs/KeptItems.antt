@@ -1,10 +1,9 @@
 -- What a kept entry of one of the six kinds tells in the extracted file.
-use Rattle.std.proofs.Common.{◌≡◌, ℕ, zero, suc, Bool, true, false, List, [], ◌∷◌, pos, Option, Some, None, refl, sym, ap, subst, ◌∙◌}
+use Rattle.std.proofs.Common.{◌≡◌, Bool, true, false, [], ◌∷◌, pos, Option, Some, None, refl, sym, ap, subst, ◌∙◌}
 use Rattle.std.specs.Prelude.{◌==◌, slice_get}
-use Rattle.std.specs.List.{AllByRecursion, list_all, position_or_len}
+use Rattle.std.specs.List.{list_all, position_or_len}
 use Rattle.std.proofs.lemmas.Bool.{cond-false}
 use Rattle.std.proofs.lemmas.List.Elements.{recursion_from_All}
-use Rattle.std.proofs.lemmas.Option.{same_Some}
 use Rattle.iges_fields.proofs.Items.{passes}
 use Rattle.iges_params.specs.Contents.{Contents}
 use Rattle.iges_params.specs.Named.{record_values, values_of}
@@ -18,13 +17,9 @@ use Rattle.entry_references.specs.Refs.{Record, own_of_kind, own_of, are_groups,
 use Rattle.entry_references.proofs.RisingLists.{in_from}
 use Rattle.solid_extract.specs.Extracted.{renamed, new_values, new_number}
 use Rattle.solid_extract.specs.Kept.{renamed_items, ItemsAreKept}
+use Rattle.solid_extract.proofs.Copies.{all_at}
 use Rattle.solid_extract.proofs.Keeping.{keeps}
 use Rattle.solid_extract.proofs.NewNumbers.{found_at, new_named}
-
-at_all : {A : Type 0} (P : A → Type 0) (xs : List A) (k : ℕ) (x : A) → AllByRecursion P xs → slice_get xs k ≡ Some x → P x
-at_all P [] k x h e = absurd (let no : None ≡ Some x = e in cc)
-at_all {A} P (y ∷ xs) zero x h e = subst P (same_Some y x e) h.0
-at_all P (y ∷ xs) (suc k) x h e = at_all P xs k x h.1 e
 
 -- a faultless entry of one of the six kinds has a record of that kind
 faultless_is_record : (f : Contents) (r : Record) (kind : EntityKind) → entry_fault f r ≡ None → kind_of_type r.0.kind ≡ Some kind → is_record_of kind r.1 ≡ true
@@ -46,7 +41,7 @@ faultless_is_record f r kind none e = by_test (is_record_of kind r.1) refl
 pub items_kept : ItemsAreKept
 items_kept f new n x m r kind c e k =
     let at : slice_get x.records (position_or_len (λ j. j == m) x.kept) ≡ Some r = found_at f x.kept x.records x.each_named m r (in_from x.kept m c) e in
-    let none : entry_fault f r ≡ None = at_all (λ q. entry_fault f q ≡ None) x.records (position_or_len (λ j. j == m) x.kept) r (recursion_from_All (λ q. entry_fault f q ≡ None) x.records x.faultless) at in
+    let none : entry_fault f r ≡ None = all_at (λ q. entry_fault f q ≡ None) x.records (position_or_len (λ j. j == m) x.kept) r (recursion_from_All (λ q. entry_fault f q ≡ None) x.records x.faultless) at in
     let is : IsRecordOf kind r.1 = (decided kind r.1).0 (faultless_is_record f r kind none k) in
     let values : values_of new (pos (new_number x.kept m)) ≡ new_values f x.kept r = ap record_values (new_named f new n x m r c e) in
     let fits : Fits kind (new_values f x.kept r) (renamed_items (renamed x.kept) kind (items_of kind r.1)) = keeps f x.kept r kind k is in

@@ -1,10 +1,11 @@
 -- The values of a kept record.
 use Rattle.std.specs.Prelude.{◌≡◌, ◌⊎◌, ℕ, zero, suc, ◌+◌, ◌-◌, ◌<◌, ◌≤◌, ◌==◌, Bool, true, false, ◌||◌, ℤ, pos, List, [], ◌∷◌, ◌++◌, length, map, take, drop, set, Option, Some, None, if◌then◌else◌, slice_get, slice_index_or, unwrap_or, filter, filter_map}
-use Rattle.std.specs.List.{enumerate_from, cons_option}
+use Rattle.std.specs.List.{enumerate_from}
 use Rattle.std.proofs.Common.{refl, sym, ap, ◌∙◌, arith, get_or, length-append, length-take, length-drop, inl, inr}
 use Rattle.std.proofs.lemmas.Bool.{cases_lt, ne_eqb, cond-false}
-use Rattle.std.proofs.lemmas.List.{take_more, map-append, length-map}
+use Rattle.std.proofs.lemmas.List.{take_more, map-append, length-map, length-set, set_past}
 use Rattle.std.proofs.lemmas.List.FromFn.{length-enumerate_from}
+use Rattle.std.proofs.lemmas.List.Sums.{length-filter, count_by-le-length}
 use Rattle.std.proofs.lemmas.Option.{get_or_from_slice_get, slice_get_within}
 use Rattle.iges_fields.specs.declared.value.Value.{Value}
 use Rattle.iges_fields.specs.declared.value.Value.TheVariants as value
@@ -15,16 +16,12 @@ use Rattle.entry_references.specs.Refs.{Record, Group, first_group, own_of, name
 use Rattle.entry_references.specs.Shapes.{HasShape}
 use Rattle.entry_references.specs.declared.group.Group.{Group as Between}
 use Rattle.entry_references.proofs.KindPlaces.{enumerate_append}
-use Rattle.entry_references.proofs.Marks.{get_set, length_set, both_next, zero_other, or_false, among_push}
+use Rattle.entry_references.proofs.Marks.{get_set, both_next, zero_other, or_false, among_push}
 use Rattle.solid_extract.specs.Extracted.{new_value, new_values, renamed}
+use Rattle.solid_extract.proofs.Copies.{filter_map_few}
 use Rattle.solid_extract.specs.NewValues.{AreMarkedPlaces, with_mark, value_as, new_numbers, names_behind}
 
 -- ---- marks of places
-
-set_past : (ms : List Bool) (k : ℕ) → length ms ≤ k → set ms k true ≡ ms
-set_past [] k past = refl
-set_past (m ∷ ms) zero past = absurd (omega (arith, past))
-set_past (m ∷ ms) (suc k) past = ap (λ (xs : List Bool). m ∷ xs) (set_past ms k (omega (arith, past)))
 
 marked_one : (ms : List Bool) (place i : ℕ) → i < length ms → slice_index_or (with_mark ms place) i false ≡ (slice_index_or ms i false || (place == i + 1))
 marked_one ms zero i lt =
@@ -38,13 +35,13 @@ marked_one ms (suc k) i lt = by_order (cases_lt k (length ms))
     by_order : (k < length ms) ⊎ (length ms ≤ k) → slice_index_or (set ms k true) i false ≡ (slice_index_or ms i false || (suc k == i + 1))
     by_order (inr past) =
         let far : (k == i) ≡ false = ne_eqb k i (λ e. omega (arith, e, past, lt)) in
-        ap (λ (xs : List Bool). slice_index_or xs i false) (set_past ms k past)
+        ap (λ (xs : List Bool). slice_index_or xs i false) (set_past ms k true past)
         ∙ sym (ap (λ (b : Bool). slice_index_or ms i false || b) (same ∙ far) ∙ or_false (slice_index_or ms i false))
     by_order (inl below) = get_set ms k i below ∙ ap (λ (b : Bool). slice_index_or ms i false || b) (sym same)
 
 mark_long : (ms : List Bool) (place : ℕ) → length (with_mark ms place) ≡ length ms
 mark_long ms zero = refl
-mark_long ms (suc k) = length_set ms k
+mark_long ms (suc k) = length-set ms k true
 
 pub mark_next : (ms new : List Bool) (ps : List ℕ) (i count place : ℕ) → i < length ps → place ≡ get_or ps i 0 → new ≡ with_mark ms place → AreMarkedPlaces ms (take i ps) count → AreMarkedPlaces new (take (i + 1) ps) count
 mark_next ms new ps i count place lt read en h = record {
@@ -86,24 +83,8 @@ next_value kept own vs i v p c list new at ep ec inv en =
 
 -- ---- how many they are
 
-filter_few : (p : ℤ → Bool) (zs : List ℤ) → length (filter p zs) ≤ length zs
-filter_few p [] = omega arith
-filter_few p (z ∷ zs) = by_test (p z) (filter_few p zs)
-  where
-    by_test : (b : Bool) → length (filter p zs) ≤ length zs → length (if b then z ∷ filter p zs else filter p zs) ≤ suc (length zs)
-    by_test true on = omega (arith, on)
-    by_test false on = omega (arith, on)
-
-found_few : (vs : List Value) → length (filter_map number_of vs) ≤ length vs
-found_few [] = omega arith
-found_few (v ∷ vs) = by_option (number_of v) (found_few vs)
-  where
-    by_option : (o : Option ℤ) → length (filter_map number_of vs) ≤ length vs → length (cons_option o (filter_map number_of vs)) ≤ suc (length vs)
-    by_option None on = omega (arith, on)
-    by_option (Some z) on = omega (arith, on)
-
 pub names_few : (f : Contents) (vs : List Value) → length (filter (is_name f) (filter_map number_of vs)) ≤ length vs
-names_few f vs = omega (arith, filter_few (is_name f) (filter_map number_of vs), found_few vs)
+names_few f vs = omega (arith, length-filter (is_name f) (filter_map number_of vs), count_by-le-length (is_name f) (filter_map number_of vs), filter_map_few number_of vs)
 
 pub names_within : (f : Contents) (vs : List Value) (n b : ℕ) → length vs ≤ 164000000 → length (filter (is_name f) (filter_map number_of (take n (drop b vs)))) ≤ 164000000
 names_within f vs n b few = omega (arith, names_few f (take n (drop b vs)), length-take n (drop b vs), length-drop b vs, few)

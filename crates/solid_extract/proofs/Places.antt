@@ -1,42 +1,17 @@
 -- Places of kept entries.
-use Rattle.std.specs.Prelude.{◌≡◌, ℕ, zero, suc, ◌+◌, ◌-◌, ◌*◌, ◌/◌, ◌%◌, ◌<◌, ◌≤◌, ◌==◌, cond, not, Bool, true, false, List, [], ◌∷◌, length, drop, replicate, set, Option, Some, None, slice_get, slice_index_or, if◌then◌else◌}
+use Rattle.std.specs.Prelude.{◌≡◌, ℕ, suc, ◌+◌, ◌-◌, ◌*◌, ◌/◌, ◌%◌, ◌<◌, ◌≤◌, ◌==◌, cond, not, Bool, true, false, List, [], ◌∷◌, length, drop, replicate, set, Some, slice_get, slice_index_or, if◌then◌else◌, option_map}
 use Rattle.std.specs.List.{AllByRecursion}
-use Rattle.std.proofs.Common.{refl, sym, ap, subst, ◌∙◌, arith}
-use Rattle.std.proofs.lemmas.Bool.{eqb-true, eq-eqb, ne_eqb}
-use Rattle.std.proofs.lemmas.List.{drop_all}
+use Rattle.std.proofs.Common.{refl, sym, ap, subst, ◌∙◌, arith, inl, inr}
+use Rattle.std.proofs.lemmas.Bool.{eqb-true, eq-eqb, ne_eqb, true≢false}
+use Rattle.std.proofs.lemmas.List.{drop_all, get_or-replicate, get_or-set_same, get_or-set_other, get_or_default}
+use Rattle.std.proofs.lemmas.Option.{slice_get-map}
 use Rattle.iges_fields.specs.declared.entry_no.EntryNo.{EntryNo}
 use Rattle.brep_lists.proofs.Places.{open_at}
 use Rattle.entry_references.specs.EntrySets.{IsWithin, numbers_of}
 use Rattle.entry_references.proofs.Marks.{number_is, place_is}
+use Rattle.entry_references.proofs.RisingLists.{In}
 use Rattle.solid_extract.specs.Renaming.{place_of, ArePlaces}
-
--- ---- a value set
-
-set_here : (ps : List ℕ) (i x : ℕ) → i < length ps → slice_index_or (set ps i x) i 0 ≡ x
-set_here [] i x lt = absurd (omega (arith, lt))
-set_here (p ∷ ps) zero x lt = refl
-set_here (p ∷ ps) (suc i) x lt = set_here ps i x (omega (arith, lt))
-
-set_other : (ps : List ℕ) (i j x : ℕ) → (i ≡ j → ⊥) → slice_index_or (set ps i x) j 0 ≡ slice_index_or ps j 0
-set_other [] i j x ne = refl
-set_other (p ∷ ps) zero zero x ne = absurd (ne refl)
-set_other (p ∷ ps) zero (suc j) x ne = refl
-set_other (p ∷ ps) (suc i) zero x ne = refl
-set_other (p ∷ ps) (suc i) (suc j) x ne = set_other ps i j x (λ e. ne (ap suc e))
-
-pub set_long : (ps : List ℕ) (i x : ℕ) → length (set ps i x) ≡ length ps
-set_long [] i x = refl
-set_long (p ∷ ps) zero x = refl
-set_long (p ∷ ps) (suc i) x = ap suc (set_long ps i x)
-
-pub filled : (size k j : ℕ) → j < size → slice_index_or (replicate size k) j 0 ≡ k
-filled zero k j lt = absurd (omega (arith, lt))
-filled (suc n) k zero lt = refl
-filled (suc n) k (suc j) lt = filled n k j (omega (arith, lt))
-
-pub filled_long : (size k : ℕ) → length (replicate size k) ≡ size
-filled_long zero k = refl
-filled_long (suc n) k = ap suc (filled_long n k)
+use Rattle.solid_extract.proofs.Copies.{all_at}
 
 -- ---- places behind a first one
 
@@ -51,6 +26,16 @@ place_here x m xs e = place_step x m xs true (eq-eqb x m e)
 
 place_later : (x m : ℕ) (xs : List ℕ) → (x ≡ m → ⊥) → place_of (x ∷ xs) m ≡ suc (place_of xs m)
 place_later x m xs ne = place_step x m xs false (ne_eqb x m ne)
+
+-- a number that is kept stands at its place
+pub place_found : (xs : List ℕ) (m : ℕ) → In xs m → slice_get xs (place_of xs m) ≡ Some m
+place_found [] m i = absurd i
+place_found (x ∷ xs) m i = by_test (x == m) refl i (λ j. place_found xs m j)
+  where
+    by_test : (b : Bool) → (x == m) ≡ b → In (x ∷ xs) m → (In xs m → slice_get xs (place_of xs m) ≡ Some m) → slice_get (x ∷ xs) (place_of (x ∷ xs) m) ≡ Some m
+    by_test true t j on = ap (slice_get (x ∷ xs)) (place_step x m xs true t) ∙ ap (λ (n : ℕ). Some n) (eqb-true x m t)
+    by_test false t (inl e) on = absurd (true≢false (sym (eq-eqb x m e) ∙ t))
+    by_test false t (inr j) on = ap (slice_get (x ∷ xs)) (place_step x m xs false t) ∙ on j
 
 pub place_few : (xs : List ℕ) (m : ℕ) → place_of xs m ≤ length xs
 place_few [] m = omega arith
@@ -75,7 +60,7 @@ no_place size (x ∷ xs) m all ne =
 pub places_start : (kept ps : List ℕ) (size j : ℕ) → ps ≡ replicate size (length kept) → j < size → slice_index_or ps j 0 ≡ length kept + place_of (drop (length kept) kept) (2 * j + 1)
 places_start kept ps size j e lt =
     let nothing : place_of (drop (length kept) kept) (2 * j + 1) ≡ 0 = ap (λ (xs : List ℕ). place_of xs (2 * j + 1)) (drop_all (length kept) kept (omega arith)) in
-    ap (λ (xs : List ℕ). slice_index_or xs j 0) e ∙ (filled size (length kept) j lt ∙ (omega (arith, nothing)))
+    ap (λ (xs : List ℕ). slice_index_or xs j 0) e ∙ (get_or-replicate size j (length kept) 0 lt ∙ (omega (arith, nothing)))
 
 pub places_next : (kept ps new : List ℕ) (size left before m : ℕ) → length ps ≡ size → 0 < left → before ≡ left - 1 → slice_get kept before ≡ Some m → IsWithin size m → new ≡ set ps (m / 2) before
     → ((j : ℕ) → j < size → slice_index_or ps j 0 ≡ left + place_of (drop left kept) (2 * j + 1)) → (j : ℕ) → j < size → slice_index_or new j 0 ≡ before + place_of (drop before kept) (2 * j + 1)
@@ -95,13 +80,13 @@ places_next kept ps new size left before m long some eb at within en h j lt = by
         let same : m / 2 ≡ j = eqb-true (m / 2) j t in
         let number : m ≡ 2 * j + 1 = omega (arith, is, same) in
         let here : place_of (drop before kept) (2 * j + 1) ≡ 0 = ap (λ (xs : List ℕ). place_of xs (2 * j + 1)) opened ∙ place_here m (2 * j + 1) (drop left kept) number in
-        let got : slice_index_or new j 0 ≡ before = ap (λ (xs : List ℕ). slice_index_or xs j 0) en ∙ (ap (λ (k : ℕ). slice_index_or (set ps k before) j 0) same ∙ set_here ps j before (omega (arith, long, lt))) in
+        let got : slice_index_or new j 0 ≡ before = ap (λ (xs : List ℕ). slice_index_or xs j 0) en ∙ (ap (λ (k : ℕ). slice_index_or (set ps k before) j 0) same ∙ get_or-set_same ps j before 0 (omega (arith, long, lt))) in
         omega (arith, here, got)
     by_test false t =
         let ne : m / 2 ≡ j → ⊥ = λ e. apart e t in
         let far : m ≡ 2 * j + 1 → ⊥ = λ e. ne (ap (λ (k : ℕ). k / 2) e ∙ place_is j) in
         let later : place_of (drop before kept) (2 * j + 1) ≡ suc (place_of (drop left kept) (2 * j + 1)) = ap (λ (xs : List ℕ). place_of xs (2 * j + 1)) opened ∙ place_later m (2 * j + 1) (drop left kept) far in
-        let got : slice_index_or new j 0 ≡ left + place_of (drop left kept) (2 * j + 1) = ap (λ (xs : List ℕ). slice_index_or xs j 0) en ∙ (set_other ps (m / 2) j before ne ∙ h j lt) in
+        let got : slice_index_or new j 0 ≡ left + place_of (drop left kept) (2 * j + 1) = ap (λ (xs : List ℕ). slice_index_or xs j 0) en ∙ (get_or-set_other ps (m / 2) j before 0 (λ e. ne (sym e)) ∙ h j lt) in
         omega (arith, later, got, one)
       where
         apart : m / 2 ≡ j → (m / 2 == j) ≡ false → ⊥
@@ -124,21 +109,10 @@ pub place_read : (kept ps : List ℕ) (m i x : ℕ) → ArePlaces kept ps → i 
 place_read kept ps m i x h ei odd lt read =
     let is : 2 * (m / 2) + 1 ≡ m = number_is (length ps) m (odd, omega (arith, ei, lt)) in
     let same : 2 * i + 1 ≡ m = ap (λ (k : ℕ). 2 * k + 1) ei ∙ is in
-    read ∙ (whole ps i x 0 lt ∙ (h.stand i lt ∙ ap (place_of kept) same))
-  where
-    whole : (xs : List ℕ) (k a b : ℕ) → k < length xs → slice_index_or xs k a ≡ slice_index_or xs k b
-    whole [] k a b below = absurd (omega (arith, below))
-    whole (z ∷ xs) zero a b below = refl
-    whole (z ∷ xs) (suc k) a b below = whole xs k a b (omega (arith, below))
-
-pub within_at : (P : ℕ → Type 0) (nos : List EntryNo) (i : ℕ) (no : EntryNo) → AllByRecursion P (numbers_of nos) → slice_get nos i ≡ Some no → P no.0
-within_at P [] i entry all e = absurd (let g : None ≡ Some entry = e in cc)
-within_at P (x ∷ nos) zero entry all e =
-    let same : x.0 ≡ entry.0 = ap (λ (o : Option EntryNo). elim o as (λ _. ℕ) [ Some z ↦ z.0 | None ↦ x.0 ]) e in
-    subst P same all.0
-within_at P (x ∷ nos) (suc i) entry all e = within_at P nos i entry all.1 e
+    read ∙ (get_or_default ps i x 0 lt ∙ (h.stand i lt ∙ ap (place_of kept) same))
 
 pub number_at : (nos : List EntryNo) (i : ℕ) (no : EntryNo) → slice_get nos i ≡ Some no → slice_get (numbers_of nos) i ≡ Some no.0
-number_at [] i entry e = absurd (let g : None ≡ Some entry = e in cc)
-number_at (x ∷ nos) zero entry e = ap (λ (o : Option EntryNo). elim o as (λ _. Option ℕ) [ Some z ↦ Some z.0 | None ↦ None ]) e
-number_at (x ∷ nos) (suc i) entry e = number_at nos i entry e
+number_at nos i entry e = slice_get-map (λ (n : EntryNo). n.0) nos i ∙ ap (option_map (λ (n : EntryNo). n.0)) e
+
+pub within_at : (P : ℕ → Type 0) (nos : List EntryNo) (i : ℕ) (no : EntryNo) → AllByRecursion P (numbers_of nos) → slice_get nos i ≡ Some no → P no.0
+within_at P nos i entry all e = all_at P (numbers_of nos) i entry.0 all (number_at nos i entry e)
