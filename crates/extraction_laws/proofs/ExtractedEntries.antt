@@ -1,11 +1,12 @@
 -- Extraction keeps the entries that a chain of references reaches, and with each of them its pointers.
 use Rattle.std.specs.Prelude.{◌≡◌, ◌⊎◌, ℕ, suc, ◌+◌, ◌-◌, ◌≤◌, ◌==◌, Bool, true, false, ℤ, pos, negsuc, neg_ℤ, int_lt, List, [], ◌∷◌, ◌++◌, filter_map, Contains, Option, Some, None, Result, Ok, Err, is_some, slice_get, slice_index_or, if◌then◌else◌}
-use Rattle.std.specs.List.{AllByRecursion, AllZip, cons_option, enumerate_from, list_all, position_or_len}
+use Rattle.std.specs.List.{AllByRecursion, cons_option, enumerate_from, list_all, position_or_len}
 use Rattle.std.specs.Ordering.{int_eq}
 use Rattle.std.proofs.Common.{refl, sym, ◌∙◌, ap, subst, arith, inl, inr}
-use Rattle.std.proofs.lemmas.Bool.{cond-false, and_parts, eqb-true, eq-eqb}
+use Rattle.std.proofs.lemmas.Bool.{cond-false}
 use Rattle.std.proofs.lemmas.Bool.Decides.{Decides-int_eq}
 use Rattle.std.proofs.lemmas.List.Elements.{recursion_from_All}
+use Rattle.std.proofs.lemmas.Option.{same_Some}
 use Rattle.iges_fields.proofs.Items.{passes}
 use Rattle.iges_fields.specs.declared.value.Value.{Value}
 use Rattle.iges_fields.specs.declared.value.Value.TheVariants as value
@@ -14,7 +15,7 @@ use Rattle.iges_params.specs.Named.{named}
 use Rattle.brep_lists.specs.DueValues.{DueValue, pointer, number, flag, at_least_one, count, coordinate, MeetsAll}
 use Rattle.brep_lists.specs.Record.{EntityKind, kind_of_type, due, items_of, IsRecordOf}
 use Rattle.brep_lists.specs.OwnValues.{due_in, own_count, if_pointer, pointer_places}
-use Rattle.solid_data.proofs.Members.{Has, Has-from_Contains, Contains-from_Has, has_left, All-from}
+use Rattle.solid_data.proofs.Members.{Has, Contains-from_Has, has_left, All-from}
 use Rattle.brep_walk.specs.Places.{Names}
 use Rattle.entry_references.specs.declared.fault.ExtractReason.{ExtractReason}
 use Rattle.entry_references.specs.declared.fault.ExtractReason.TheVariants.{Unlisted, Layout, Dangling}
@@ -22,10 +23,13 @@ use Rattle.entry_references.specs.Layout.{Own, value_at}
 use Rattle.entry_references.specs.References.{RefersTo}
 use Rattle.entry_references.specs.Refs.{Record, own_of, is_listed, has_layout, names_entry, number_of, pointers_of, names_of, entry_fault, refs}
 use Rattle.entry_references.proofs.KindPlaces.{own_is}
+use Rattle.entry_references.proofs.RisingLists.{contains_pass, in_from}
 use Rattle.solid_extract.specs.Extracted.{new_number, renamed, here, further, IsExtracted}
+use Rattle.solid_extract.specs.Renaming.{place_of}
+use Rattle.solid_extract.proofs.Copies.{all_at, zip_at}
 use Rattle.solid_extract.proofs.KeptItems.{items_kept}
 use Rattle.solid_extract.proofs.NewNumbers.{new_named}
-use Rattle.solid_extract.proofs.Places.{place_step}
+use Rattle.solid_extract.proofs.Places.{place_found}
 use Rattle.extraction_laws.proofs.Zips.{OptionZip}
 use Rattle.extraction_laws.proofs.Renames.{AllPointers, IsEntity, IsPointer, IsSameKind, Renames}
 
@@ -77,40 +81,20 @@ module _ (P : ℤ → Type 0) (v : ℕ → Value) where
 
 -- ---- what is kept
 
-list_all_has : {A : Type 0} (p : A → Bool) (xs : List A) (x : A) → list_all p xs ≡ true → Has xs x → p x ≡ true
-list_all_has p [] x h m = absurd m
-list_all_has p (y ∷ xs) x h (inl e) = ap p (sym e) ∙ (and_parts (p y) (list_all p xs) h).0
-list_all_has p (y ∷ xs) x h (inr m) = list_all_has p xs x (and_parts (p y) (list_all p xs) h).1 m
-
 record Kept (f : Contents) (m : ℕ) : Type 0 where
   record_at : Record
   at : named f (pos m) ≡ Some record_at
   good : entry_fault f record_at ≡ None
-
-kept_entry : (f : Contents) (ms : List ℕ) (rs : List Record) → AllZip (λ m r. named f (pos m) ≡ Some r) ms rs → AllByRecursion (λ r. entry_fault f r ≡ None) rs → (m : ℕ) → Has ms m → Kept f m
-kept_entry f [] rs z g m h = absurd h
-kept_entry f (k ∷ ms) [] z g m h = absurd z
-kept_entry f (k ∷ ms) (r ∷ rs) z g m (inl e) = record { record_at = r; at = subst (λ j. named f (pos j) ≡ Some r) e z.0; good = g.0 }
-kept_entry f (k ∷ ms) (r ∷ rs) z g m (inr h) = kept_entry f ms rs z.1 g.1 m h
-
-pub place_found : (ms : List ℕ) (m : ℕ) → Has ms m → slice_get ms (position_or_len (λ k. k == m) ms) ≡ Some m
-place_found [] m h = absurd h
-place_found (x ∷ ms) m h = by_test (x == m) refl h (λ j. place_found ms m j)
-  where
-    later : Has (x ∷ ms) m → (x == m) ≡ false → Has ms m
-    later (inl same) t = let no : true ≡ false = sym (eq-eqb x m same) ∙ t in absurd cc
-    later (inr j) t = j
-
-    by_test : (b : Bool) → (x == m) ≡ b → Has (x ∷ ms) m → (Has ms m → slice_get ms (position_or_len (λ k. k == m) ms) ≡ Some m) → slice_get (x ∷ ms) (position_or_len (λ k. k == m) (x ∷ ms)) ≡ Some m
-    by_test true t j on = ap (slice_get (x ∷ ms)) (place_step x m ms true t) ∙ ap (λ n. Some n) (eqb-true x m t)
-    by_test false t j on = ap (slice_get (x ∷ ms)) (place_step x m ms false t) ∙ on (later j t)
 
 module _ (f q : Contents) (n : ℕ) (x : IsExtracted f n q) where
   abbrev pub IsKept : ℕ → Type 0
   IsKept m = Contains x.kept m
 
   kept : (m : ℕ) → IsKept m → Kept f m
-  kept m c = kept_entry f x.kept x.records x.each_named (recursion_from_All (λ r. entry_fault f r ≡ None) x.records x.faultless) m (Has-from_Contains x.kept m c)
+  kept m c =
+      let r = zip_at (λ (k : ℕ) (r : Record). named f (pos k) ≡ Some r) x.kept x.records (place_of x.kept m) m x.each_named (place_found x.kept m (in_from x.kept m c)) in
+      let faultless = recursion_from_All (λ q. entry_fault f q ≡ None) x.records x.faultless in
+      record { record_at = r.0; at = r.2; good = all_at (λ q. entry_fault f q ≡ None) x.records (place_of x.kept m) r.0 faultless r.1 }
 
   there : (m : ℕ) → IsKept m → Names f (pos m)
   there m c = let k = kept m c in ap is_some k.at
@@ -125,8 +109,8 @@ module _ (f q : Contents) (n : ℕ) (x : IsExtracted f n q) where
   same_place : (m k : ℕ) → IsKept m → IsKept k → new_number x.kept m ≡ new_number x.kept k → m ≡ k
   same_place m k a b e =
       let places : position_or_len (λ j. j == m) x.kept ≡ position_or_len (λ j. j == k) x.kept = omega (arith, e) in
-      let both : Some m ≡ Some k = sym (place_found x.kept m (Has-from_Contains x.kept m a)) ∙ (ap (slice_get x.kept) places ∙ place_found x.kept k (Has-from_Contains x.kept k b)) in
-      ap (λ (o : Option ℕ). elim o as (λ _. ℕ) [ Some j ↦ j | None ↦ m ]) both
+      let both : Some m ≡ Some k = sym (place_found x.kept m (in_from x.kept m a)) ∙ (ap (slice_get x.kept) places ∙ place_found x.kept k (in_from x.kept k b)) in
+      same_Some m k both
 
   entry_new : (m : ℕ) → IsKept m → OptionZip IsSameKind (named f (pos m)) (named q (pos (new_number x.kept m)))
   entry_new m c =
@@ -136,7 +120,7 @@ module _ (f q : Contents) (n : ℕ) (x : IsExtracted f n q) where
 
   -- what a kept entry refers to is kept
   pointer_kept : (m : ℕ) (r : Record) → IsKept m → named f (pos m) ≡ Some r → entry_fault f r ≡ None → (z : ℤ) → Has (pointers_of r) z → IsEntity IsKept z
-  pointer_kept m r c at good z h = by_sign z h (list_all_has (names_entry f) (pointers_of r) z (passes ((is_listed r, Unlisted) ∷ (has_layout r, Layout) ∷ (list_all (names_entry f) (pointers_of r), Dangling) ∷ []) good).1.1.0 h)
+  pointer_kept m r c at good z h = by_sign z h (contains_pass (names_entry f) (pointers_of r) z (Contains-from_Has (pointers_of r) z h) (passes ((is_listed r, Unlisted) ∷ (has_layout r, Layout) ∷ (list_all (names_entry f) (pointers_of r), Dangling) ∷ []) good).1.1.0)
     where
       read : refs f r ≡ Ok (pointers_of r ++ names_of f r)
       read = ap (λ (o : Option ExtractReason). elim o as (λ _. Result (List ℤ) ExtractReason) [ Some reason ↦ Err reason | None ↦ Ok (pointers_of r ++ names_of f r) ]) good
@@ -150,7 +134,7 @@ module _ (f q : Contents) (n : ℕ) (x : IsExtracted f n q) where
   pointers_kept : (m : ℕ) (r : Record) (kind : EntityKind) → IsKept m → named f (pos m) ≡ Some r → kind_of_type r.0.kind ≡ Some kind → AllPointers (IsPointer IsKept) (due kind (items_of kind r.1))
   pointers_kept m r kind c at e =
       let k = kept m c in
-      let same : k.record_at ≡ r = ap (λ (o : Option Record). elim o as (λ _. Record) [ Some y ↦ y | None ↦ r ]) (sym k.at ∙ at) in
+      let same : k.record_at ≡ r = same_Some k.record_at r (sym k.at ∙ at) in
       let good : entry_fault f r ≡ None = subst (λ y. entry_fault f y ≡ None) same k.good in
       let is : IsRecordOf kind r.1 = (items_kept f q n x m r kind c at e).0 in
       pointers_met (IsEntity IsKept) (value_at r.1) 1 (due_in kind r.1) r.1 is (agrees_itself r.1)

@@ -1,23 +1,24 @@
 -- The places of kept entities fail alike in both files.
-use Rattle.std.specs.Prelude.{◌≡◌, ◌↔◌, ℕ, zero, suc, ◌+◌, ◌-◌, ◌<◌, Bool, true, false, ℤ, pos, List, [], ◌∷◌, ◌++◌, length, map, flat_map, Option, Some, None, slice_get, All, Contains}
+use Rattle.std.specs.Prelude.{◌≡◌, ◌↔◌, ℕ, ◌+◌, ◌-◌, Bool, true, false, ℤ, pos, List, [], ◌∷◌, ◌++◌, length, map, flat_map, Option, Some, None, slice_get, All, Contains, option_map}
 use Rattle.std.specs.List.{AllByRecursion}
 use Rattle.std.proofs.Common.{refl, sym, ◌∙◌, ap, subst, arith, inr}
 use Rattle.std.proofs.lemmas.List.{map-append, length-map}
 use Rattle.std.proofs.lemmas.List.Elements.{All-from_recursion, recursion_from_All}
+use Rattle.std.proofs.lemmas.Option.{slice_get-map}
 use Rattle.iges_params.specs.Contents.{Contents}
 use Rattle.brep_lists.specs.Record.{EntityKind, solid, shell, face, «loop», edges, vertices, SolidItems, FaceItems, LoopTuple}
 use Rattle.brep_lists.specs.declared.edge_list.EdgeTuple.{EdgeTuple}
 use Rattle.solid_data.specs.Obligations.{Obligation, obligation, entry_number, AllHold, after_each}
 use Rattle.solid_data.specs.declared.verdict.Rule.{Rule}
 use Rattle.solid_data.specs.declared.verdict.Rule.TheVariants.{NoEntry, WrongKind, BadLayout, Twice, BadIndex, BadGeometry}
-use Rattle.solid_data.proofs.Members.{Has, Has-from_Contains, Contains-from_Has, All-at, has_map, map_has, all_append, all_flat_map, OptionAll}
+use Rattle.solid_data.proofs.Members.{Has, Has-from_Contains, Contains-from_Has, All-at, has_map, map_has, all_append, all_flat_map, OptionAll, get_some}
 use Rattle.solid_data.proofs.ObligationLemmas.{AllHold-append_left, AllHold-append_right, AllByRecursion-weaker}
 use Rattle.brep_walk.specs.Places.{told, shells, faces, loops, tuples, numbers, edge_at, Names, NamesKind, HasRecordOf, NamesGeometry, IsIndex, record_places, item_places, edge_places, used_places, tuple_at, tuple_places, loop_at, loop_places, face_at, face_places, shell_at, shell_places, places}
 use Rattle.solid_extract.specs.Kept.{renamed_pair, renamed_curve, renamed_tuple, renamed_edge}
 use Rattle.extraction_laws.specs.Alike.{FailAlike}
 use Rattle.extraction_laws.proofs.AlikeLists.{OneAlike, append_alike}
 use Rattle.extraction_laws.proofs.Renames.{IsEntity, IsPointer, IsNew, Renames, names_same, kind_same, geometry_same, is_entity, tells, number_new, pointers_apart}
-use Rattle.extraction_laws.proofs.Pointers.{changed, get_changed, all_get, PointedPair, PointedCurve, PointedTuple, PointedEdge, shells_pointed, faces_pointed, loops_pointed, tuples_pointed, edges_pointed}
+use Rattle.extraction_laws.proofs.Pointers.{all_get, PointedPair, PointedCurve, PointedTuple, PointedEdge, shells_pointed, faces_pointed, loops_pointed, tuples_pointed, edges_pointed}
 
 -- ---- what holding places tell of the entities that they name
 
@@ -84,11 +85,6 @@ pub numbers_all : (P : ℤ → Type 0) (items : List (ℤ × Bool)) → AllByRec
 numbers_all P [] h = tt
 numbers_all P (i ∷ items) h = (h.0, numbers_all P items h.1)
 
-get_some : {A : Type 0} (xs : List A) (k : ℕ) → k < length xs → (x : A) × (slice_get xs k ≡ Some x)
-get_some [] k lt = absurd (omega (arith, lt))
-get_some (y ∷ xs) zero lt = (y, refl)
-get_some (y ∷ xs) (suc k) lt = get_some xs k (omega (arith, lt))
-
 module _ (f q : Contents) (K : ℕ → Type 0) (new : ℕ → ℕ) (g : ℤ → ℤ) (h : Renames f q K new g) where
   -- ---- what entities tell in both files
 
@@ -104,8 +100,8 @@ module _ (f q : Contents) (K : ℕ → Type 0) (new : ℕ → ℕ) (g : ℤ → 
   pub shells_new : (n : ℤ) → IsEntity K n → NamesKind solid f n → shells q (g n) ≡ map (renamed_pair g) (shells f n)
   shells_new n e k = let t = tells f q K new g h solid n e k in ap (λ (i : SolidItems). i.outer ∷ i.voids) t.same
 
-  pub edge_new : (z : ℤ) (j : ℕ) → IsEntity K z → NamesKind edges f z → edge_at q (g z) j ≡ changed (renamed_edge g) (edge_at f z j)
-  edge_new z j e n = let t = tells f q K new g h edges z e n in ap (λ ts. slice_get ts (j - 1)) t.same ∙ get_changed (renamed_edge g) (told edges f z) (j - 1)
+  pub edge_new : (z : ℤ) (j : ℕ) → IsEntity K z → NamesKind edges f z → edge_at q (g z) j ≡ option_map (renamed_edge g) (edge_at f z j)
+  edge_new z j e n = let t = tells f q K new g h edges z e n in ap (λ ts. slice_get ts (j - 1)) t.same ∙ slice_get-map (renamed_edge g) (told edges f z) (j - 1)
 
   edge_count : (z : ℤ) → IsEntity K z → NamesKind edges f z → length (told edges q (g z)) ≡ length (told edges f z)
   edge_count z e n = let t = tells f q K new g h edges z e n in ap length t.same ∙ length-map (told edges f z) (renamed_edge g)
@@ -252,7 +248,7 @@ module _ (f q : Contents) (K : ℕ → Type 0) (new : ℕ → ℕ) (g : ℤ → 
       let o = named_alike e ent BadIndex place (IsIndex j n) (IsIndex j m) (λ x. subst (IsIndex j) (sym count) x, λ x. subst (IsIndex j) count x) in
       (o.0, o.1, λ x. tt))
 
-  edge_alike : (e : ℤ) (j : ℕ) → IsEntity K e → (o : Option EdgeTuple) → OptionAll (PointedEdge (IsPointer K)) o → FailAlike N (edge_places f e j o) (edge_places q (g e) j (changed (renamed_edge g) o))
+  edge_alike : (e : ℤ) (j : ℕ) → IsEntity K e → (o : Option EdgeTuple) → OptionAll (PointedEdge (IsPointer K)) o → FailAlike N (edge_places f e j o) (edge_places q (g e) j (option_map (renamed_edge g) o))
   edge_alike e j ent None p = tt
   edge_alike e j ent (Some t) p =
       append_alike N ((obligation BadGeometry (entry_number e) j (NamesGeometry f t.curve) ∷ []) ++ item_places f e j vertices t.start_list t.start_index (length (told vertices f t.start_list)))

@@ -1,5 +1,5 @@
 -- The solid of kept entities is told in both files, but for directory numbers.
-use Rattle.std.specs.Prelude.{◌≡◌, ℕ, ◌==◌, ◌&&◌, Bool, true, false, ℤ, pos, List, [], ◌∷◌, map, flat_map, Some, if◌then◌else◌}
+use Rattle.std.specs.Prelude.{◌≡◌, ℕ, ◌==◌, ◌&&◌, Bool, true, false, ℤ, pos, List, [], ◌∷◌, map, flat_map, Some, if◌then◌else◌, option_map}
 use Rattle.std.specs.List.{AllByRecursion, AllZip}
 use Rattle.std.proofs.Common.{refl, sym, ◌∙◌, ap, subst}
 use Rattle.iges_params.specs.Contents.{Contents}
@@ -18,7 +18,6 @@ use Rattle.solid_extract.specs.Kept.{renamed_pair, renamed_tuple, renamed_edge}
 use Rattle.extraction_laws.specs.Relabelled.{IsRelabelledLoop, IsRelabelledFace, IsRelabelledShell, IsRelabelledVertex, IsRelabelledEdge, IsRelabelled}
 use Rattle.extraction_laws.proofs.Zips.{zip_append}
 use Rattle.extraction_laws.proofs.Renames.{IsEntity, IsNew, Renames, number_new, becomes_entity}
-use Rattle.extraction_laws.proofs.Pointers.{changed}
 use Rattle.extraction_laws.proofs.RenamedLists.{all_distinct, distinct_renamed, place_renamed, same_number, map_known, zip_known}
 use Rattle.extraction_laws.proofs.KeptPlaces.{KnownUse, KnownTuple, KnownLoop, KnownFace, KnownShell, KnownSolid, flat_known, numbers_all, numbers_renamed, tuples_new, loops_new, faces_new, shells_new, edge_new, loops_known, faces_known, all_faces_known, solid_known}
 
@@ -71,7 +70,7 @@ module _ (f q : Contents) (K : ℕ → Type 0) (new : ℕ → ℕ) (g : ℤ → 
   same_vertices a b x y = ap (λ c. c && (a.index == b.index)) (same_number K new h.apart a.«list».0 b.«list».0 x y)
 
   edge_after : (z j : ℤ) (x : EdgeTuple) → IsEntity K z → NamesKind edges f z → edge_at f z (entry_number j) ≡ Some x → edge_at q (g z) (entry_number j) ≡ Some (renamed_edge g x)
-  edge_after z j x e n at = edge_new f q K new g h z (entry_number j) e n ∙ ap (changed (renamed_edge g)) at
+  edge_after z j x e n at = edge_new f q K new g h z (entry_number j) e n ∙ ap (option_map (renamed_edge g)) at
 
   edge_known : (z j : ℤ) (x : EdgeTuple) → IsEntity K z → NamesKind edges f z → edge_at f z (entry_number j) ≡ Some x → IsEntity K x.start_list → IsEntity K x.end_list → KnownEdgeKey (edge_key z j)
   edge_known z j x e n at s t = record {

@@ -3,15 +3,15 @@ use Rattle.std.specs.Prelude.{◌≡◌, ℕ, ◌==◌, Bool, true, false, List,
 use Rattle.std.specs.List.{position_or_len}
 use Rattle.std.proofs.Common.{refl, sym, ◌∙◌, ap, subst, arith}
 use Rattle.std.proofs.lemmas.Bool.{eqb-true}
+use Rattle.std.proofs.lemmas.Option.{same_Some}
 use Rattle.solid_data.specs.Obligations.{Obligation, FirstFalse}
 use Rattle.solid_data.specs.declared.verdict.Failing.{Failing}
-use Rattle.solid_data.proofs.Members.{Has-from_Contains, some_inj}
+use Rattle.entry_references.proofs.RisingLists.{in_from}
 use Rattle.solid_extract.specs.Extracted.{new_number}
-use Rattle.solid_extract.proofs.Places.{place_step}
+use Rattle.solid_extract.proofs.Places.{place_step, place_found}
 use Rattle.extraction_laws.specs.Alike.{AreNamedAlike, FailAlike, HaveOneVerdict}
 use Rattle.extraction_laws.specs.Kept.{IsNewNumber, renamed_failing, KeepsVerdict}
 use Rattle.extraction_laws.proofs.AlikeLists.{one_verdict}
-use Rattle.extraction_laws.proofs.ExtractedEntries.{place_found}
 
 -- what stands at the place of a number is that number
 place_is : (ms : List ℕ) (m j : ℕ) → slice_get ms (position_or_len (λ k. k == m) ms) ≡ Some j → j ≡ m
@@ -19,14 +19,14 @@ place_is [] m j e = absurd cc
 place_is (x ∷ ms) m j e = by_test (x == m) refl e (λ h. place_is ms m j h)
   where
     by_test : (b : Bool) → (x == m) ≡ b → slice_get (x ∷ ms) (position_or_len (λ k. k == m) (x ∷ ms)) ≡ Some j → (slice_get ms (position_or_len (λ k. k == m) ms) ≡ Some j → j ≡ m) → j ≡ m
-    by_test true t h on = sym (some_inj x j (sym (ap (slice_get (x ∷ ms)) (place_step x m ms true t)) ∙ h)) ∙ eqb-true x m t
+    by_test true t h on = sym (same_Some x j (sym (ap (slice_get (x ∷ ms)) (place_step x m ms true t)) ∙ h)) ∙ eqb-true x m t
     by_test false t h on = on (sym (ap (slice_get (x ∷ ms)) (place_step x m ms false t)) ∙ h)
 
 -- no other number becomes that of a kept entry
 new_apart : (kept : List ℕ) (m k : ℕ) → Contains kept m → new_number kept k ≡ new_number kept m → m ≡ k
 new_apart kept m k c e =
     let places : position_or_len (λ j. j == k) kept ≡ position_or_len (λ j. j == m) kept = omega (arith, e) in
-    place_is kept k m (ap (slice_get kept) places ∙ place_found kept m (Has-from_Contains kept m c))
+    place_is kept k m (ap (slice_get kept) places ∙ place_found kept m (in_from kept m c))
 
 failing_is : (x y : Failing) → x.rule ≡ y.rule → x.entity.0 ≡ y.entity.0 → x.place ≡ y.place → x ≡ y
 failing_is x y r e p =

@@ -1,22 +1,11 @@
 -- The pointers of the items of a record.
-use Rattle.std.specs.Prelude.{◌≡◌, ℕ, zero, suc, Bool, ℤ, List, [], ◌∷◌, ◌++◌, map, flat_map, Option, Some, None, slice_get}
+use Rattle.std.specs.Prelude.{ℕ, zero, suc, Bool, ℤ, List, [], ◌∷◌, ◌++◌, map, flat_map, slice_get}
 use Rattle.std.specs.List.{AllByRecursion}
-use Rattle.std.proofs.Common.{refl}
 use Rattle.brep_lists.specs.DueValues.{DueValue, pointer, number, flag, at_least_one, count, coordinate}
 use Rattle.brep_lists.specs.Record.{SolidItems, FaceItems, LoopTuple, pair_due, curve_due, tuple_due, edge_due, solid, shell, face, «loop», edges, due}
 use Rattle.brep_lists.specs.declared.edge_list.EdgeTuple.{EdgeTuple}
 use Rattle.solid_data.proofs.Members.{OptionAll}
 use Rattle.extraction_laws.proofs.Renames.{AllPointers}
-
--- h of what is there
-abbrev pub changed : {A B : Type 0} → (A → B) → Option A → Option B
-changed h None = None
-changed h (Some x) = Some (h x)
-
-pub get_changed : {A B : Type 0} (h : A → B) (xs : List A) (k : ℕ) → slice_get (map h xs) k ≡ changed h (slice_get xs k)
-get_changed h [] k = refl
-get_changed h (x ∷ xs) zero = refl
-get_changed h (x ∷ xs) (suc k) = get_changed h xs k
 
 pub all_get : {A : Type 0} (P : A → Type 0) (xs : List A) (k : ℕ) → AllByRecursion P xs → OptionAll P (slice_get xs k)
 all_get P [] k h = tt

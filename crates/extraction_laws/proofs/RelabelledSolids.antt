@@ -1,5 +1,5 @@
 -- The obligations on the shells of relabelled solids.
-use Rattle.std.specs.Prelude.{◌≡◌, ◌↔◌, ℕ, zero, suc, ◌+◌, ◌<◌, Bool, true, false, not, List, [], ◌∷◌, ◌++◌, length, map, flat_map, filter_map, take, Contains, Option, Some, None, slice_get, if◌then◌else◌}
+use Rattle.std.specs.Prelude.{◌≡◌, ◌↔◌, ℕ, ◌+◌, Bool, true, false, not, List, [], ◌∷◌, ◌++◌, length, map, flat_map, filter_map, take, Contains, Option, Some, None, slice_get, if◌then◌else◌}
 use Rattle.std.specs.List.{AllZip, enumerate_from}
 use Rattle.std.proofs.Common.{refl, sym, ◌∙◌, ap, subst, arith, inl, inr}
 use Rattle.solid_data.specs.Ring.{next_of_each, previous_of_each, numbers_from}
@@ -16,15 +16,17 @@ use Rattle.solid_data.specs.declared.solid.FaceUse.{FaceUse}
 use Rattle.solid_data.specs.declared.solid.Shell.{Shell}
 use Rattle.solid_data.specs.declared.verdict.Rule.{Rule}
 use Rattle.solid_data.specs.declared.verdict.Rule.TheVariants.{Unjoined, Unpaired, Unreached, Unlinked, Shared}
-use Rattle.solid_data.proofs.Members.{Has}
+use Rattle.solid_data.proofs.Members.{Has, get_some}
+use Rattle.solid_data.proofs.Occurring.{number_below}
 use Rattle.edge_uses.specs.declared.row.Row.{Row}
 use Rattle.edge_uses.specs.ShellRows.{ShellRows, row_of_edge, row_of, loop_rows, follows_from, point_of, shell_rows}
 use Rattle.edge_uses.specs.Closed.{begin_of, start_of, end_of, IsPaired, IsReached, IsLinked, IsApart}
 use Rattle.edge_uses.specs.ShellObligations.{ends_and_starts, loop_obligations, edge_name, vertex_name, at_edge, at_vertex, join_obligations, pair_obligations, reach_obligations, link_obligations, apart_obligations, shell_obligations, solid_obligations}
+use Rattle.solid_extract.proofs.Copies.{zip_length}
 use Rattle.extraction_laws.specs.Alike.{FailAlike}
 use Rattle.extraction_laws.specs.Relabelled.{IsRelabelledLoop, IsRelabelledFace, IsRelabelledShell, IsRelabelledVertex, IsRelabelledEdge, IsRelabelled}
 use Rattle.extraction_laws.proofs.AlikeLists.{OneAlike, append_alike, map_alike, map_same_alike, of_each_alike}
-use Rattle.extraction_laws.proofs.Zips.{OptionZip, zip_get, zip_map, zip_flat_map, Numbered, zip_enumerate, zip_take, zip_length, zip_same}
+use Rattle.extraction_laws.proofs.Zips.{OptionZip, zip_get, zip_map, zip_flat_map, Numbered, zip_enumerate, zip_take, zip_same}
 
 -- ---- lists of numbers
 
@@ -38,19 +40,8 @@ from_numbers (n ∷ ns) ids v h = by_test _ h (λ m. from_numbers ns ids v m)
     by_test true (inr m) more = inr (more m)
     by_test false m more = inr (more m)
 
-number_below : (base n v : ℕ) → Has (numbers_from base n) v → v < base + n
-number_below base zero v h = absurd h
-number_below base (suc n) v (inl e) = omega (arith, e)
-number_below base (suc n) v (inr h) = omega (arith, number_below (base + 1) n v h)
-
--- what is numbered is there
-there : {A : Type 0} (xs : List A) (k : ℕ) → k < length xs → (x : A) × (slice_get xs k ≡ Some x)
-there [] k lt = absurd (omega (arith, lt))
-there (x ∷ xs) zero lt = (x, refl)
-there (x ∷ xs) (suc k) lt = there xs k (omega (arith, lt))
-
 occurring_there : {A : Type 0} (xs : List A) (ids : List ℕ) (k : ℕ) → Has (occurring (numbers_from 0 (length xs)) ids) k → (x : A) × (slice_get xs k ≡ Some x)
-occurring_there xs ids k h = there xs k (let lt = number_below 0 (length xs) k (from_numbers (numbers_from 0 (length xs)) ids k h) in omega (arith, lt))
+occurring_there xs ids k h = get_some xs k (let lt = number_below 0 (length xs) k (from_numbers (numbers_from 0 (length xs)) ids k h) in omega (arith, lt.1))
 
 -- ---- one loop at its place
 

@@ -5,7 +5,7 @@ use Rattle.std.proofs.Common.{refl, sym, ◌∙◌, ap, inl, inr}
 use Rattle.std.proofs.lemmas.Bool.{eq-eqb, eqb-true}
 use Rattle.solid_data.specs.Ring.{distinct, place_of}
 use Rattle.solid_data.proofs.Members.{Has, All-at, All-from}
-use Rattle.brep_walk.proofs.KnownVertices.{from_distinct}
+use Rattle.solid_data.proofs.Keys.{from_distinct}
 
 filter_renamed : {A : Type 0} (p r : A → Bool) (change : A → A) (xs : List A) → ((x : A) → Has xs x → p (change x) ≡ r x) → filter p (map change xs) ≡ map change (filter r xs)
 filter_renamed p r change [] same = refl

@@ -1,5 +1,5 @@
 -- Lists that are related item by item.
-use Rattle.std.specs.Prelude.{◌≡◌, ℕ, zero, suc, ◌+◌, List, [], ◌∷◌, ◌++◌, length, map, flat_map, take, Option, Some, None, slice_get}
+use Rattle.std.specs.Prelude.{◌≡◌, ℕ, zero, suc, ◌+◌, List, [], ◌∷◌, ◌++◌, map, flat_map, take, Option, Some, None, slice_get}
 use Rattle.std.specs.List.{AllZip, enumerate_from}
 use Rattle.std.proofs.Common.{refl, ◌∙◌, ap}
 
@@ -51,12 +51,6 @@ zip_take Q (suc n) [] [] z = tt
 zip_take Q (suc n) [] (y ∷ ys) z = absurd z
 zip_take Q (suc n) (x ∷ xs) [] z = absurd z
 zip_take Q (suc n) (x ∷ xs) (y ∷ ys) z = (z.0, zip_take Q n xs ys z.1)
-
-pub zip_length : {A B : Type 0} (Q : A → B → Type 0) (xs : List A) (ys : List B) → AllZip Q xs ys → length xs ≡ length ys
-zip_length Q [] [] z = refl
-zip_length Q [] (y ∷ ys) z = absurd z
-zip_length Q (x ∷ xs) [] z = absurd z
-zip_length Q (x ∷ xs) (y ∷ ys) z = ap suc (zip_length Q xs ys z.1)
 
 -- what related items give alike, the lists give alike
 pub zip_same : {A B C : Type 0} (Q : A → B → Type 0) (f : A → List C) (g : B → List C) (xs : List A) (ys : List B) → AllZip Q xs ys → ((x : A) (y : B) → Q x y → f x ≡ g y) → flat_map f xs ≡ flat_map g ys
