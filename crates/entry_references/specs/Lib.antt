@@ -4,6 +4,7 @@ pub mod KindNames
 pub mod Refs
 pub mod ListedTypes
 pub mod PlacesDue
+pub mod PointForms
 pub mod GroupPlaces
 pub mod Shapes
 pub mod Numbers

@@ -1,6 +1,7 @@
 //! The own values of a record whose type is in the table.
 
 ghost use Rattle.entry_references.specs.Layout.{own_in, fixed};
+ghost use Rattle.entry_references.specs.PointForms.{form_number};
 ghost use Rattle.entry_references.specs.Rows.{layout_of_row};
 ghost use Rattle.entry_references.specs.declared.layout.Layout.TheVariants.{CompositeCurve, CopiousData, SplineCurve, Point, RationalCurve, RationalSurface};
 ghost use Rattle.iges_fields.specs.declared.TheConstants.{FILE_LIMIT};
@@ -8,7 +9,7 @@ ghost use Rattle.std.specs.Prelude.{◌≡◌, ◌+◌, ◌*◌, ◌≤◌, ◌=
 
 use crate::layout::Layout;
 use crate::own::{Own, places, places_from};
-use crate::place::{choice_in, count_in};
+use crate::place::{PointForm, count_in, form_in};
 use iges_fields::{NoMemory, Values};
 use std::alloc::Global;
 
@@ -37,16 +38,16 @@ fn of_composite_curve(alloc: Global, values: &Values) -> Result<Option<Own>, NoM
     Ok(own.checked(values))
 }
 
-// How many values tell so many points: those of a choice of 1 share a coordinate, and those of 3 have a direction each.
-fn point_values(choice: usize, points: usize) -> usize
+// How many values tell so many points.
+fn point_values(form: PointForm, points: usize) -> usize
     requires { points ≤ FILE_LIMIT }
-    ensures is { result ≡ if choice == 1 then 1 + 2 * points else (if choice == 2 then 3 * points else 6 * points) }
+    ensures is { result ≡ if form_number form == 1 then 1 + 2 * points else (if form_number form == 2 then 3 * points else 6 * points) }
     ensures few { result ≤ 1 + 6 * points }
 {
-    match choice {
-        1 => 1 + 2 * points,
-        2 => 3 * points,
-        _ => 6 * points,
+    match form {
+        PointForm::Plane => 1 + 2 * points,
+        PointForm::Space => 3 * points,
+        PointForm::Directed => 6 * points,
     }
 }
 
@@ -55,9 +56,9 @@ fn of_copious_data(alloc: Global, values: &Values) -> Option<Own>
     requires { length values.now ≤ FILE_LIMIT }
     ensures { result ≡ own_in (layout_of_row CopiousData) values.now }
 {
-    let choice = choice_in(values, 1)?;
+    let form = form_in(values, 1)?;
     let points = count_in(values, 2)?;
-    Some(Own::plain(alloc, 2 + point_values(choice, points)))
+    Some(Own::plain(alloc, 2 + point_values(form, points)))
 }
 
 // Parametric spline curve (type 112; IGES 5.3, 4.14): 4 values, the last of which is N; N + 1 break points; 12

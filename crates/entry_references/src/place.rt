@@ -1,6 +1,7 @@
 //! Values of a record by their places, counted from 1 without the type number (own); `brep_lists` counts them from 0.
 
 ghost use Rattle.entry_references.specs.Layout.{value_at, count_of, is_count, is_choice, is_pointer};
+ghost use Rattle.entry_references.specs.PointForms.{form_number};
 ghost use Rattle.entry_references.specs.Refs.{number_of};
 ghost use Rattle.iges_fields.specs.declared.value.Value.TheVariants.{Default};
 ghost use Rattle.std.specs.List.{list_all};
@@ -42,23 +43,34 @@ pub fn count_in(values: &Values, place: usize) -> Option<usize>
     }
 }
 
-fn choice_of(value: &Value) -> Option<usize>
-    ensures { MatchOption result (is_choice value.now ≡ false) (λ n. (is_choice value.now ≡ true) × (n ≡ unwrap_or (count_of value.now) 0)) }
+/// How each point of copious data is told (IGES 5.3, 4.6).
+#[derive(Clone, Copy, Debug, PartialEq, Eq)]
+pub enum PointForm {
+    /// Two coordinates, beside a third that all points share; written 1.
+    Plane,
+    /// Three coordinates; written 2.
+    Space,
+    /// Three coordinates and a direction of three; written 3.
+    Directed,
+}
+
+fn form_of(value: &Value) -> Option<PointForm>
+    ensures { MatchOption result (is_choice value.now ≡ false) (λ form. (is_choice value.now ≡ true) × (form_number form ≡ unwrap_or (count_of value.now) 0)) }
 {
     match value {
-        Value::Int(1) => Some(1),
-        Value::Int(2) => Some(2),
-        Value::Int(3) => Some(3),
+        Value::Int(1) => Some(PointForm::Plane),
+        Value::Int(2) => Some(PointForm::Space),
+        Value::Int(3) => Some(PointForm::Directed),
         _ => None,
     }
 }
 
-/// The number in a place, from 1, where it is 1, 2 or 3.
-pub fn choice_in(values: &Values, place: usize) -> Option<usize>
+/// The form of points whose number is written in a place, from 1.
+pub fn form_in(values: &Values, place: usize) -> Option<PointForm>
     ensures { MatchOption result (is_choice (value_at values.now place) ≡ false)
-        (λ n. (is_choice (value_at values.now place) ≡ true) × (n ≡ unwrap_or (count_of (value_at values.now place)) 0)) }
+        (λ form. (is_choice (value_at values.now place) ≡ true) × (form_number form ≡ unwrap_or (count_of (value_at values.now place)) 0)) }
 {
-    choice_of(value_at(values, place)?)
+    form_of(value_at(values, place)?)
 }
 
 /// Whether the value may be a pointer, be it left out.
