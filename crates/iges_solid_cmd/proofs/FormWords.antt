@@ -4,7 +4,8 @@ use Rattle.std.specs.Cmp.Lexicographic.{pointwise}
 use Rattle.std.specs.List.{list_any}
 use Rattle.std.specs.Option.{option_map}
 use Rattle.std.specs.Str.Parse.{digits_value}
-use Rattle.std.proofs.lemmas.Bool.{eqb-true, and_parts, leb-true}
+use Rattle.std.proofs.lemmas.Bool.{eqb-true, and_parts, leb-true, and_left as first_false}
+use Rattle.std.proofs.Math.Bool.{and-false as second_false}
 use Rattle.iges_fields.specs.Word.{are_digits}
 use Rattle.iges_solid_cmd.specs.declared.form.Command.{Command}
 use Rattle.iges_solid_cmd.specs.declared.form.Command.TheVariants.{File, Sample}
@@ -47,14 +48,6 @@ no_test words false false false true extract sample e0 e1 e2 e3 e4 e5 = absurd c
 no_test words false false false false true sample e0 e1 e2 e3 e4 e5 = absurd cc
 no_test words false false false false false true e0 e1 e2 e3 e4 e5 = absurd cc
 no_test words false false false false false false e0 e1 e2 e3 e4 e5 = refl
-
-first_false : (x y : Bool) → x ≡ false → (x && y) ≡ false
-first_false true y e = absurd cc
-first_false false y e = refl
-
-second_false : (x : Bool) → (x && false) ≡ false
-second_false true = refl
-second_false false = refl
 
 third_false : (x y : Bool) → (x && (true && (y && false))) ≡ false
 third_false true true = refl

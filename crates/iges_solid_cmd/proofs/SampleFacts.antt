@@ -1,12 +1,11 @@
 -- What holds of each sample.
-use Rattle.std.proofs.Common.{◌≡◌, ◌<◌, ◌*◌, ◌+◌, ◌^◌, ℕ, List, ◌∷◌, length, drop, sym, ap, subst, ◌∙◌, Some, slice_get, get_or, unwrap_or, arith, length-append}
-use Rattle.std.proofs.lemmas.List.{drop_more}
-use Rattle.std.proofs.lemmas.Option.{slice_get_within, unwrap_or-slice_get}
+use Rattle.std.proofs.Common.{◌≡◌, ◌<◌, ◌*◌, ◌+◌, ◌^◌, ℕ, List, length, drop, sym, ap, subst, ◌∙◌, Some, slice_get, arith, length-append}
 use Rattle.solid_data.specs.Numbering.{IsNumberedSolid}
 use Rattle.solid_data.specs.declared.solid.Shell.{Shell}
 use Rattle.solid_data.specs.Obligations.{AllHold, FirstFalse}
 use Rattle.solid_data.specs.SolidData.{SolidData}
 use Rattle.solid_data.specs.declared.verdict.Failing.{Failing}
+use Rattle.solid_data.proofs.Members.{split_at}
 use Rattle.solid_data.proofs.ObligationLemmas.{FirstFalse-not_all}
 use Rattle.edge_uses.specs.ShellObligations.{solid_obligations}
 use Rattle.edge_uses.proofs.ClosedLemmas.{closed_is_all_hold}
@@ -72,9 +71,7 @@ no_bad_line f k m s d certificate lines bad accepted is same opens first =
 -- the faces of a shell, and those of the shells behind it
 pub faces_next : (shells : List Shell) (k : ℕ) (h : Shell) → slice_get shells k ≡ Some h → length h.faces + length (faces_in (drop (k + 1) shells)) ≡ length (faces_in (drop k shells))
 faces_next shells k h there =
-    let is : get_or shells k h ≡ h = sym (unwrap_or-slice_get shells k h) ∙ ap (λ o. unwrap_or o h) there in
-    let front : drop k shells ≡ h ∷ drop (k + 1) shells = drop_more shells k h (slice_get_within shells k h there) ∙ ap (λ x. x ∷ drop (k + 1) shells) is in
-    sym (ap (λ hs. length (faces_in hs)) front ∙ length-append h.faces (faces_in (drop (k + 1) shells)))
+    sym (ap (λ hs. length (faces_in hs)) (split_at shells k h there) ∙ length-append h.faces (faces_in (drop (k + 1) shells)))
 
 -- a solid has few faces
 pub few_left : (s : SolidData) (count k : ℕ) → IsNumberedSolid s → count + length (faces_in (drop k s.shells)) ≡ length (faces_in s.shells) → count + length (faces_in (drop k s.shells)) < 2 ^ 29

@@ -1,17 +1,17 @@
 -- The lines of a solid's shells, one shell after another.
-use Rattle.std.proofs.Common.{◌≡◌, ℕ, suc, ◌+◌, ◌<◌, ◌≤◌, ◌^◌, Bool, List, [], ◌∷◌, ◌++◌, length, flat_map, drop, refl, sym, ap, subst, ◌∙◌, append_assoc, arith, Some, slice_get, get_or, unwrap_or, length-append}
+use Rattle.std.proofs.Common.{◌≡◌, ℕ, ◌+◌, ◌<◌, ◌^◌, Bool, List, [], ◌∷◌, ◌++◌, length, flat_map, drop, refl, sym, ap, ◌∙◌, append_assoc, arith, Some, slice_get, length-append}
 use Rattle.std.specs.List.{enumerate_from}
-use Rattle.std.proofs.lemmas.List.{drop_more, length-map}
+use Rattle.std.proofs.lemmas.List.{length-map}
 use Rattle.std.proofs.lemmas.List.Sums.{sum_by-cons}
 use Rattle.std.proofs.lemmas.List.FromFn.{length-enumerate_from}
-use Rattle.std.proofs.lemmas.Option.{slice_get_within, unwrap_or-slice_get}
 use Rattle.solid_data.specs.Numbering.{IsNumberedSolid}
 use Rattle.solid_data.specs.SolidData.{SolidData, PlacedLoop, placed_in_face, placed_loops, same_flag}
 use Rattle.solid_data.specs.declared.solid.FaceUse.{FaceUse}
 use Rattle.solid_data.specs.declared.solid.Shell.{Shell}
+use Rattle.solid_data.proofs.Members.{has_get, split_at}
 use Rattle.edge_uses.specs.Joining.{placed_at}
 use Rattle.edge_uses.specs.ShellRows.{ShellRows, shell_rows, rows_of}
-use Rattle.edge_uses.proofs.Few.{has_get, part_shorter}
+use Rattle.edge_uses.proofs.Few.{part_shorter}
 use Rattle.iges_solid_cmd.specs.Texts.{loop_count, shell_line, shell_lines_from}
 
 loops_counted : (flag : Bool) (base : ℕ) (fs : List FaceUse) → length (flat_map (placed_in_face flag) (enumerate_from base fs)) ≡ loop_count fs
@@ -29,23 +29,8 @@ pub few_loops : (s : SolidData) (k : ℕ) (h : Shell) → IsNumberedSolid s → 
 few_loops s k h numbered there =
     omega (arith, numbered.few_loops, part_shorter placed_loops s.shells h (has_get s.shells k h (sym there)), loops_counted h.flag 0 h.faces)
 
-some_faces : (s : SolidData) → IsNumberedSolid s → (k : ℕ) (h : Shell) → slice_get s.shells k ≡ Some h → 0 < length h.faces
-some_faces s numbered k h there =
-    let is : get_or s.shells k h ≡ h = sym (unwrap_or-slice_get s.shells k h) ∙ ap (λ o. unwrap_or o h) there in
-    subst (λ (x : Shell). 0 < length x.faces) is (numbered.each_shell k h (slice_get_within s.shells k h there))
-
-no_fewer : (hs : List Shell) → ((k : ℕ) (h : Shell) → slice_get hs k ≡ Some h → 0 < length h.faces) → length hs ≤ length (flat_map (λ (h : Shell). h.faces) hs)
-no_fewer [] each = omega arith
-no_fewer (h ∷ hs) each = omega (arith, each 0 h refl, no_fewer hs (λ k x there. each (suc k) x there), length-append h.faces (flat_map (λ (h : Shell). h.faces) hs))
-
--- a solid has few shells, since each has a face
-pub few_shells : (s : SolidData) → IsNumberedSolid s → length s.shells < 2 ^ 29
-few_shells s numbered = omega (arith, numbered.few_faces, no_fewer s.shells (some_faces s numbered))
-
 next_shell : (s : SolidData) (k : ℕ) (h : Shell) → slice_get s.shells k ≡ Some h → shell_lines_from k s (drop k s.shells) ≡ shell_line (k + 1) h (shell_rows s h) ++ shell_lines_from (k + 1) s (drop (k + 1) s.shells)
-next_shell s k h there =
-    let is : get_or s.shells k h ≡ h = sym (unwrap_or-slice_get s.shells k h) ∙ ap (λ o. unwrap_or o h) there in
-    ap (shell_lines_from k s) (drop_more s.shells k h (slice_get_within s.shells k h there) ∙ ap (λ x. x ∷ drop (k + 1) s.shells) is)
+next_shell s k h there = ap (shell_lines_from k s) (split_at s.shells k h there)
 
 -- a text that the line of a shell was put to
 pub shell_put : (s : SolidData) (k i : ℕ) (h : Shell) (d : ShellRows) (out new : List ℕ) → Some h ≡ slice_get s.shells k → d ≡ rows_of s (slice_get s.shells k) → i ≡ k → new ≡ out ++ shell_line (i + 1) h d

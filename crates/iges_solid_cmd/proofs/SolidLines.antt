@@ -1,8 +1,6 @@
 -- The lines of a listing, one entry after another.
-use Rattle.std.proofs.Common.{◌≡◌, ℕ, pos, ◌+◌, ◌*◌, List, [], ◌∷◌, ◌++◌, drop, refl, sym, ap, ◌∙◌, append_assoc, Option, Some, None, slice_get, get_or, unwrap_or, Bool, true, false, cond, filter, flat_map, Decides, codes, decimal}
+use Rattle.std.proofs.Common.{◌≡◌, ℕ, pos, ◌+◌, ◌*◌, List, [], ◌∷◌, ◌++◌, drop, refl, sym, ap, ◌∙◌, append_assoc, Option, Some, None, slice_get, Bool, true, false, cond, filter, flat_map, Decides, codes, decimal}
 use Rattle.std.specs.Option.{option_map}
-use Rattle.std.proofs.lemmas.List.{drop_more}
-use Rattle.std.proofs.lemmas.Option.{slice_get_within, unwrap_or-slice_get}
 use Rattle.std.proofs.lemmas.Bool.Decides.{Decides-int_eq}
 use Rattle.std.proofs.lemmas.Int.{to_z-of_z}
 use mir.Val.{SFits, of_z, to_z}
@@ -10,6 +8,7 @@ use mir.Syntax.{w64}
 use Rattle.std.specs.List.{enumerate_from}
 use Rattle.std.specs.Ordering.{int_eq}
 use Rattle.iges_fields.specs.declared.value.Value.{Value}
+use Rattle.iges_fields.proofs.Lists.{open_at}
 use Rattle.iges_directory.specs.declared.entry.Entry.{Entry}
 use Rattle.iges_solid_cmd.specs.Texts.{solid_lines_from}
 
@@ -31,9 +30,7 @@ stands : (entries : Records) (i : ℕ) (entry : Entry) → Some entry ≡ option
     → (values : List Value) × (drop i entries ≡ (entry, values) ∷ drop (i + 1) entries)
 stands entries i entry there =
     let here = held (slice_get entries i) entry there in
-    let e : Entry × List Value = (entry, here.0) in
-    let is : get_or entries i e ≡ e = sym (unwrap_or-slice_get entries i e) ∙ ap (λ o. unwrap_or o e) here.1 in
-    (here.0, drop_more entries i e (slice_get_within entries i e here.1) ∙ ap (λ x. x ∷ drop (i + 1) entries) is)
+    (here.0, open_at entries i (entry, here.0) here.1)
 
 chosen : (b : Bool) (i : ℕ) (e : Entry × List Value) (rest : List (ℕ × (Entry × List Value)))
     → flat_map (λ (e : ℕ × (Entry × List Value)). number_line e.0) (cond b ((i, e) ∷ rest) rest) ≡ cond b (number_line i) [] ++ flat_map (λ (e : ℕ × (Entry × List Value)). number_line e.0) rest
