@@ -13,27 +13,18 @@ all_get P (x ∷ xs) zero h = h.0
 all_get P (x ∷ xs) (suc k) h = all_get P xs k h.1
 
 module _ (P : ℤ → Type 0) where
-  pub pointers_front : (ds es : List DueValue) → AllPointers P (ds ++ es) → AllPointers P ds
-  pointers_front [] es h = tt
-  pointers_front (pointer z ∷ ds) es h = (h.0, pointers_front ds es h.1)
-  pointers_front (number z ∷ ds) es h = pointers_front ds es h
-  pointers_front (flag b ∷ ds) es h = pointers_front ds es h
-  pointers_front (at_least_one n ∷ ds) es h = pointers_front ds es h
-  pointers_front (count n ∷ ds) es h = pointers_front ds es h
-  pointers_front (coordinate w ∷ ds) es h = pointers_front ds es h
-
-  pub pointers_rest : (ds es : List DueValue) → AllPointers P (ds ++ es) → AllPointers P es
-  pointers_rest [] es h = h
-  pointers_rest (pointer z ∷ ds) es h = pointers_rest ds es h.1
-  pointers_rest (number z ∷ ds) es h = pointers_rest ds es h
-  pointers_rest (flag b ∷ ds) es h = pointers_rest ds es h
-  pointers_rest (at_least_one n ∷ ds) es h = pointers_rest ds es h
-  pointers_rest (count n ∷ ds) es h = pointers_rest ds es h
-  pointers_rest (coordinate w ∷ ds) es h = pointers_rest ds es h
+  pointers_parts : (ds es : List DueValue) → AllPointers P (ds ++ es) → AllPointers P ds × AllPointers P es
+  pointers_parts [] es h = (tt, h)
+  pointers_parts (pointer z ∷ ds) es h = let parts = pointers_parts ds es h.1 in ((h.0, parts.0), parts.1)
+  pointers_parts (number z ∷ ds) es h = pointers_parts ds es h
+  pointers_parts (flag b ∷ ds) es h = pointers_parts ds es h
+  pointers_parts (at_least_one n ∷ ds) es h = pointers_parts ds es h
+  pointers_parts (count n ∷ ds) es h = pointers_parts ds es h
+  pointers_parts (coordinate w ∷ ds) es h = pointers_parts ds es h
 
   each_pointed : {A : Type 0} (d : A → List DueValue) (Q : A → Type 0) → ((x : A) → AllPointers P (d x) → Q x) → (xs : List A) → AllPointers P (flat_map d xs) → AllByRecursion Q xs
   each_pointed d Q one [] h = tt
-  each_pointed d Q one (x ∷ xs) h = (one x (pointers_front (d x) (flat_map d xs) h), each_pointed d Q one xs (pointers_rest (d x) (flat_map d xs) h))
+  each_pointed d Q one (x ∷ xs) h = let parts = pointers_parts (d x) (flat_map d xs) h in (one x parts.0, each_pointed d Q one xs parts.1)
 
   abbrev pub PointedPair : ℤ × Bool → Type 0
   PointedPair p = P p.0

@@ -1,11 +1,11 @@
 -- Lists without repeats, under another name for each element.
 use Rattle.std.specs.Prelude.{◌≡◌, ℕ, suc, ◌==◌, Bool, true, false, not, cond, List, [], ◌∷◌, map, filter, if◌then◌else◌}
 use Rattle.std.specs.List.{AllByRecursion, AllZip}
-use Rattle.std.proofs.Common.{refl, sym, ◌∙◌, ap, inl, inr}
-use Rattle.std.proofs.lemmas.Bool.{eq-eqb, eqb-true}
+use Rattle.std.proofs.Common.{refl, ◌∙◌, ap, inl, inr}
 use Rattle.solid_data.specs.Ring.{distinct, place_of}
 use Rattle.solid_data.proofs.Members.{Has, All-at, All-from}
 use Rattle.solid_data.proofs.Keys.{from_distinct}
+use Rattle.entry_references.proofs.Marks.{same_test}
 
 filter_renamed : {A : Type 0} (p r : A → Bool) (change : A → A) (xs : List A) → ((x : A) → Has xs x → p (change x) ≡ r x) → filter p (map change xs) ≡ map change (filter r xs)
 filter_renamed p r change [] same = refl
@@ -36,15 +36,7 @@ module _ {A : Type 0} (same : A → A → Bool) (P : A → Type 0) (change : A �
 
 -- numbers that are told apart as their new ones are
 pub same_number : (K : ℕ → Type 0) (new : ℕ → ℕ) → ((m k : ℕ) → K m → K k → new m ≡ new k → m ≡ k) → (m k : ℕ) → K m → K k → (new m == new k) ≡ (m == k)
-same_number K new apart m k a b = by_test (m == k) refl
-  where
-    by_new : (c : Bool) → (new m == new k) ≡ c → (m == k) ≡ false → (new m == new k) ≡ false
-    by_new false e no_one = e
-    by_new true e no_one = let one : true ≡ false = sym (eq-eqb m k (apart m k a b (eqb-true (new m) (new k) e))) ∙ no_one in absurd cc
-
-    by_test : (c : Bool) → (m == k) ≡ c → (new m == new k) ≡ (m == k)
-    by_test true e = eq-eqb (new m) (new k) (ap new (eqb-true m k e)) ∙ sym e
-    by_test false e = by_new (new m == new k) refl e ∙ sym e
+same_number K new apart m k a b = same_test (new m) (new k) m k (apart m k a b) (ap new)
 
 pub map_known : {A B C : Type 0} (Known : A → Type 0) (change : A → B) (u : A → C) (v : B → C) → ((x : A) → Known x → v (change x) ≡ u x) → (xs : List A) → AllByRecursion Known xs → map v (map change xs) ≡ map u xs
 map_known Known change u v same [] all = refl

@@ -2,6 +2,7 @@
 use Rattle.std.specs.Prelude.{◌≡◌, ◌⊎◌, ℕ, zero, suc, ◌+◌, ◌-◌, ◌<◌, ◌≤◌, ◌==◌, Bool, true, false, ◌||◌, ℤ, pos, List, [], ◌∷◌, ◌++◌, length, map, take, drop, set, Option, Some, None, if◌then◌else◌, slice_get, slice_index_or, unwrap_or, filter, filter_map}
 use Rattle.std.specs.List.{enumerate_from}
 use Rattle.std.proofs.Common.{refl, sym, ap, ◌∙◌, arith, get_or, length-append, length-take, length-drop, inl, inr}
+use Rattle.std.proofs.Math.Bool.{or-false}
 use Rattle.std.proofs.lemmas.Bool.{cases_lt, ne_eqb, cond-false}
 use Rattle.std.proofs.lemmas.List.{take_more, map-append, length-map, length-set, set_past}
 use Rattle.std.proofs.lemmas.List.FromFn.{length-enumerate_from}
@@ -16,7 +17,7 @@ use Rattle.entry_references.specs.Refs.{Record, Group, first_group, own_of, name
 use Rattle.entry_references.specs.Shapes.{HasShape}
 use Rattle.entry_references.specs.declared.group.Group.{Group as Between}
 use Rattle.entry_references.proofs.KindPlaces.{enumerate_append}
-use Rattle.entry_references.proofs.Marks.{get_set, both_next, zero_other, or_false, among_push}
+use Rattle.entry_references.proofs.Marks.{get_set, both_next, zero_other, among_push}
 use Rattle.solid_extract.specs.Extracted.{new_value, new_values, renamed}
 use Rattle.solid_extract.proofs.Copies.{filter_map_few}
 use Rattle.solid_extract.specs.NewValues.{AreMarkedPlaces, with_mark, value_as, new_numbers, names_behind}
@@ -26,7 +27,7 @@ use Rattle.solid_extract.specs.NewValues.{AreMarkedPlaces, with_mark, value_as, 
 marked_one : (ms : List Bool) (place i : ℕ) → i < length ms → slice_index_or (with_mark ms place) i false ≡ (slice_index_or ms i false || (place == i + 1))
 marked_one ms zero i lt =
     let one : suc i ≡ i + 1 = omega arith in
-    sym (ap (λ (b : Bool). slice_index_or ms i false || b) (ap (λ (k : ℕ). 0 == k) (sym one) ∙ zero_other i) ∙ or_false (slice_index_or ms i false))
+    sym (ap (λ (b : Bool). slice_index_or ms i false || b) (ap (λ (k : ℕ). 0 == k) (sym one) ∙ zero_other i) ∙ or-false (slice_index_or ms i false))
 marked_one ms (suc k) i lt = by_order (cases_lt k (length ms))
   where
     same : (suc k == i + 1) ≡ (k == i)
@@ -36,7 +37,7 @@ marked_one ms (suc k) i lt = by_order (cases_lt k (length ms))
     by_order (inr past) =
         let far : (k == i) ≡ false = ne_eqb k i (λ e. omega (arith, e, past, lt)) in
         ap (λ (xs : List Bool). slice_index_or xs i false) (set_past ms k true past)
-        ∙ sym (ap (λ (b : Bool). slice_index_or ms i false || b) (same ∙ far) ∙ or_false (slice_index_or ms i false))
+        ∙ sym (ap (λ (b : Bool). slice_index_or ms i false || b) (same ∙ far) ∙ or-false (slice_index_or ms i false))
     by_order (inl below) = get_set ms k i below ∙ ap (λ (b : Bool). slice_index_or ms i false || b) (sym same)
 
 mark_long : (ms : List Bool) (place : ℕ) → length (with_mark ms place) ≡ length ms
