@@ -1,0 +1,204 @@
+"""A checker of certificates, written from docs/CERTIFICATE.md alone: a second reading of that page, to compare the program with.
+
+It reads the records of a solid only as far as the files of the examples need: integers on lines of 80 columns, no fault.
+"""
+import re
+
+RECORDS = (186, 502, 504, 508, 510, 514)
+NUMBER = rb" (0|[1-9][0-9]{0,8})"
+SPELLINGS = {
+    "head": rb"IGESCERT 1",
+    "solid": rb"SOLID" + NUMBER,
+    "shell": rb"SHELL" + NUMBER * 5,
+    "edge": rb"E" + NUMBER * 2,
+    "corner": rb"C(?:" + NUMBER + rb")+",
+    "point": rb"I" + NUMBER * 2,
+    "reach": rb"R" + NUMBER,
+    "last": rb"END",
+}
+
+
+def records_of(file):
+    """The type and, of the six types of a solid, the integers of the record of each entry, by directory number."""
+    lines = [line for line in file.decode("latin1").split("\n") if len(line) >= 73]
+    directory = {int(line[73:80]): line for line in lines if line[72] == "D"}
+    params = {int(line[73:80]): line[:64] for line in lines if line[72] == "P"}
+    records = {}
+    for number in range(1, len(directory), 2):
+        kind, first, count = int(directory[number][:8]), int(directory[number][8:16]), int(directory[number + 1][24:32])
+        text = "".join(params[k] for k in range(first, first + count)).split(";")[0]
+        whole = kind in RECORDS and kind != 502
+        records[number] = kind, [int(value) for value in text.split(",")[1:] if value.strip()] if whole else []
+    return records
+
+
+def pairs(values):
+    return list(zip(values[::2], values[1::2]))
+
+
+class Numbers:
+    """Numbers by first appearance."""
+
+    def __init__(self):
+        self.known = {}
+
+    def of(self, key):
+        return self.known.setdefault(key, len(self.known))
+
+
+class Shell:
+    """What a certificate speaks of: the rows, from 1, what follows each, and the loops without an edge."""
+
+    def __init__(self, faces):
+        self.faces, self.rows, self.follows, self.points, self.edges, self.vertices = faces, [None], [None], [], set(), set()
+
+    def add_loop(self, rows, backwards, face, loop, vertex):
+        if not rows:
+            self.points.append((face, loop, vertex))
+        first, count = len(self.rows), len(rows)
+        step = -1 if backwards else 1
+        self.rows += rows
+        self.follows += [first + (i + step) % count for i in range(count)]
+
+    def starting(self, vertex):
+        return [r for r, row in enumerate(self.rows) if row and row["start"] == vertex]
+
+
+def tuples_of(values):
+    """The tuples of a loop's record: whether each is a vertex, its list, its index and its flag."""
+    at = 1
+    for _ in range(values[0]):
+        yield values[at] == 1, (values[at + 1], values[at + 2]), values[at + 3]
+        at += 5 + 2 * values[at + 4]
+
+
+def shells_of(records, solid):
+    """The shells of a solid, and how many uses its loops have."""
+    edges, vertices, shells, uses = Numbers(), Numbers(), [], 0
+    values = records[solid][1]
+    for shell_entry, shell_flag in pairs(values[:2] + values[3 : 3 + 2 * values[2]]):
+        listed = records[shell_entry][1]
+        faces = pairs(listed[1 : 1 + 2 * listed[0]])
+        shell = Shell(len(faces))
+        for f, (face_entry, face_flag) in enumerate(faces, 1):
+            face = records[face_entry][1]
+            for l, loop_entry in enumerate(face[3 : 3 + face[1]], 1):
+                rows, first = [], None
+                for is_vertex, key, flag in tuples_of(records[loop_entry][1]):
+                    uses += 1
+                    if is_vertex:
+                        vertex = vertices.of(key)
+                        shell.vertices.add(vertex)
+                        first = vertex if first is None else first
+                        continue
+                    ends = records[key[0]][1][5 * key[1] - 3 : 5 * key[1] + 1]
+                    edge, start, end = edges.of(key), vertices.of(tuple(ends[:2])), vertices.of(tuple(ends[2:]))
+                    along = (flag, face_flag, shell_flag).count(0) % 2 == 0
+                    shell.edges.add(edge)
+                    shell.vertices |= {start, end}
+                    rows.append({"edge": edge, "along": along, "start": start if along else end, "face": f})
+                shell.add_loop(rows, (face_flag == 0) != (shell_flag == 0), f, l, first)
+        shells.append(shell)
+    return shells, uses
+
+
+class Checking:
+    """Where a checker stands behind some lines."""
+
+    def __init__(self, shells):
+        self.shells, self.named, self.shell, self.ended = shells, 0, None, False
+        self.edges = self.corners = self.reaches = 0
+
+    def due(self):
+        """The kind of line that is due of the shell, or None."""
+        return "edge" if self.edges else "corner" if self.corners else "reach" if self.reaches else None
+
+    def fits(self, kind, numbers):
+        if self.ended:
+            return False
+        if kind in ("edge", "corner", "reach"):
+            known = all(0 < r < len(self.shell.rows) for r in numbers) if self.due() == kind else False
+            return known and getattr(self, kind)(*numbers)
+        if kind == "point":
+            return self.due() == "corner" and self.point(*numbers)
+        if kind == "shell":
+            return self.due() is None and self.named < len(self.shells) and self.begin(*numbers)
+        self.ended = kind == "last" and self.due() is None and self.named == len(self.shells)
+        return self.ended
+
+    def begin(self, number, rows, edges, corners, faces):
+        self.shell = self.shells[self.named]
+        self.named += 1
+        self.edges, self.corners, self.reaches = edges, corners, faces - 1
+        self.mates, self.reached, self.edge_before, self.vertex_before = {}, {1}, -1, -1
+        counts = len(self.shell.rows) - 1, len(self.shell.edges), len(self.shell.vertices), self.shell.faces
+        return number == self.named and counts == (rows, edges, corners, faces) and rows == 2 * edges
+
+    def edge(self, along, against):
+        a, b = self.shell.rows[along], self.shell.rows[against]
+        rises = a["edge"] > self.edge_before
+        self.mates[along], self.mates[against], self.edge_before = against, along, a["edge"]
+        self.edges -= 1
+        return rises and a["edge"] == b["edge"] and a["along"] and not b["along"]
+
+    def at_vertex(self, vertex):
+        rises = vertex > self.vertex_before
+        self.vertex_before = vertex
+        self.corners -= 1
+        return rises, [point for point in self.shell.points if point[2] == vertex], self.shell.starting(vertex)
+
+    def corner(self, *rows):
+        rises, points, starting = self.at_vertex(self.shell.rows[rows[0]]["start"])
+        turns = all(self.shell.follows[self.mates[r]] == s for r, s in zip(rows, rows[1:] + rows[:1]))
+        return rises and turns and not points and len(rows) == len(starting) and all(r > rows[0] for r in rows[1:])
+
+    def point(self, face, loop):
+        named = [point for point in self.shell.points if point[:2] == (face, loop)]
+        rises, points, starting = self.at_vertex(named[0][2]) if named else (False, [], [])
+        return rises and len(points) == 1 and not starting
+
+    def reach(self, row):
+        face, other = (self.shell.rows[r]["face"] for r in (row, self.mates[row]))
+        fits = face not in self.reached and other in self.reached
+        self.reached.add(face)
+        self.reaches -= 1
+        return fits
+
+
+def spelled(line):
+    for kind, spelling in SPELLINGS.items():
+        if re.fullmatch(spelling + rb"\n", line):
+            return kind, [int(word) for word in line.split()[1:]] if kind != "head" else []
+    return None
+
+
+def judged(line, most):
+    """The kind and the numbers of a line; `misspelt`; or `unfit` where it is long."""
+    if not line.endswith(b"\n"):
+        return "misspelt", []
+    return ("unfit", []) if len(line) > most else spelled(line) or ("misspelt", [])
+
+
+def answer(records, certificate):
+    """What `verify` answers where the places, JOIN and APART of the solid hold; None where line 2 names no solid of the file."""
+    lines = re.findall(rb"[^\n]*\n|[^\n]+\Z", certificate)
+    checking, most, solid = None, 64, None
+    for number, line in enumerate(lines, 1):
+        kind, numbers = judged(line, most)
+        if kind == "misspelt":
+            return f"line {number} misspelt\n"
+        if number <= 2:
+            fits = kind == ("head", "solid")[number - 1]
+        else:
+            fits = checking.fits(kind, numbers)
+        if not fits:
+            return f"line {number} unfit\n"
+        if number == 2:
+            solid = numbers[0]
+            if records.get(solid, (0, []))[0] != 186:
+                return None
+            shells, uses = shells_of(records, solid)
+            checking, most = Checking(shells), 64 + 10 * uses
+    if checking is None or not checking.ended:
+        return f"line {len(lines) + 1} missing\n"
+    return f"accepted {solid}\n"
