@@ -1,4 +1,4 @@
-"""A checker of certificates, written from docs/CERTIFICATE.md alone: a second reading of that page, to compare the program with.
+"""A checker of certificates that goes by docs/CERTIFICATE.md and shares no code with the program, to compare the program with.
 
 It reads the records of a solid only as far as the files of the examples need: integers on lines of 80 columns, no fault.
 """
