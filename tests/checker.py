@@ -7,13 +7,14 @@ import re
 RECORDS = (186, 502, 504, 508, 510, 514)
 NUMBER = rb" (0|[1-9][0-9]{0,8})"
 SPELLINGS = {
-    "head": rb"IGESCERT 1",
+    "head": rb"IGESCERT ([123])",
     "solid": rb"SOLID" + NUMBER,
     "shell": rb"SHELL" + NUMBER * 5,
     "edge": rb"E" + NUMBER * 2,
     "corner": rb"C(?:" + NUMBER + rb")+",
     "point": rb"I" + NUMBER * 2,
     "reach": rb"R" + NUMBER,
+    "tally": rb"TALLY" + NUMBER * 4,
     "last": rb"END",
 }
 
@@ -50,9 +51,11 @@ class Shell:
     """What a certificate speaks of: the rows, from 1, what follows each, and the loops without an edge."""
 
     def __init__(self, faces):
+        self.loops = 0
         self.faces, self.rows, self.follows, self.points, self.edges, self.vertices = faces, [None], [None], [], set(), set()
 
     def add_loop(self, rows, backwards, face, loop, vertex):
+        self.loops += 1
         if not rows:
             self.points.append((face, loop, vertex))
         first, count = len(self.rows), len(rows)
@@ -105,13 +108,13 @@ def shells_of(records, solid):
 class Checking:
     """Where a checker stands behind some lines."""
 
-    def __init__(self, shells):
-        self.shells, self.named, self.shell, self.ended = shells, 0, None, False
-        self.edges = self.corners = self.reaches = 0
+    def __init__(self, shells, version):
+        self.shells, self.version, self.named, self.shell, self.ended = shells, version, 0, None, False
+        self.edges = self.corners = self.reaches = self.tallies = 0
 
     def due(self):
         """The kind of line that is due of the shell, or None."""
-        return "edge" if self.edges else "corner" if self.corners else "reach" if self.reaches else None
+        return "edge" if self.edges else "corner" if self.corners else "reach" if self.reaches else "tally" if self.tallies else None
 
     def fits(self, kind, numbers):
         if self.ended:
@@ -121,6 +124,8 @@ class Checking:
             return known and getattr(self, kind)(*numbers)
         if kind == "point":
             return self.due() == "corner" and self.point(*numbers)
+        if kind == "tally":
+            return self.due() == "tally" and self.tally(*numbers)
         if kind == "shell":
             return self.due() is None and self.named < len(self.shells) and self.begin(*numbers)
         self.ended = kind == "last" and self.due() is None and self.named == len(self.shells)
@@ -129,7 +134,7 @@ class Checking:
     def begin(self, number, rows, edges, corners, faces):
         self.shell = self.shells[self.named]
         self.named += 1
-        self.edges, self.corners, self.reaches = edges, corners, faces - 1
+        self.edges, self.corners, self.reaches, self.tallies = edges, corners, faces - 1, self.version - 1
         self.mates, self.reached, self.edge_before, self.vertex_before = {}, {1}, -1, -1
         counts = len(self.shell.rows) - 1, len(self.shell.edges), len(self.shell.vertices), self.shell.faces
         return number == self.named and counts == (rows, edges, corners, faces) and rows == 2 * edges
@@ -164,11 +169,15 @@ class Checking:
         self.reaches -= 1
         return fits
 
+    def tally(self, *counts):
+        self.tallies -= 1
+        return counts == (len(self.shell.vertices), len(self.shell.edges), self.shell.faces, self.shell.loops)
+
 
 def spelled(line):
     for kind, spelling in SPELLINGS.items():
         if re.fullmatch(spelling + rb"\n", line):
-            return kind, [int(word) for word in line.split()[1:]] if kind != "head" else []
+            return kind, [int(word) for word in line.split()[1:]]
     return None
 
 
@@ -180,7 +189,7 @@ def judged(line, most):
 
 
 def answer(records, certificate):
-    """What `verify` answers where the places, JOIN and APART of the solid hold; None where line 2 names no solid of the file."""
+    """What `verify` answers, which takes versions 1 and 2, where the places, JOIN and APART of the solid hold; None where line 2 names no solid of the file."""
     lines = re.findall(rb"[^\n]*\n|[^\n]+\Z", certificate)
     checking, most, solid = None, 64, None
     for number, line in enumerate(lines, 1):
@@ -193,12 +202,16 @@ def answer(records, certificate):
             fits = checking.fits(kind, numbers)
         if not fits:
             return f"line {number} unfit\n"
+        if number == 1:
+            version = numbers[0]
         if number == 2:
             solid = numbers[0]
             if records.get(solid, (0, []))[0] != 186:
                 return None
+            if version == 3:
+                return "line 1 unfit\n"
             shells, uses = shells_of(records, solid)
-            checking, most = Checking(shells), 64 + 10 * uses
+            checking, most = Checking(shells, version), 64 + 10 * uses
     if checking is None or not checking.ended:
         return f"line {len(lines) + 1} missing\n"
     return f"accepted {solid}\n"

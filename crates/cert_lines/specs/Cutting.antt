@@ -1,8 +1,17 @@
 -- Where the first line of a text ends.
-use Rattle.std.specs.Prelude.{◌≡◌, ◌≢◌, ℕ, ◌<◌, List, length, slice_index}
+use Rattle.std.specs.Prelude.{◌≡◌, ◌≢◌, ℕ, ◌<◌, List, ◌∷◌, ◌++◌, IsTrue, length, slice_index}
+use Rattle.iges_fields.specs.InLine.{is_in_line}
+use Rattle.iges_fields.specs.Ended.{ended}
 
 -- the first LF
 pub record IsFirstEnd (text : List ℕ) (n : ℕ) : Type 0 where
   pub within : n < length text
   pub is_end : slice_index text n ≡ 10
   pub before : (k : ℕ) → k < n → slice_index text k ≢ 10
+
+-- The text begins with this line, which the first LF ends, and this is behind it.
+pub record EndsFirst (text line after : List ℕ) : Type 0 where
+  pub front : List ℕ
+  pub in_line : IsTrue (is_in_line front)
+  pub line_is : line ≡ ended front
+  pub whole : text ≡ front ++ 10 ∷ after

@@ -1,19 +1,26 @@
--- The first two lines of a certificate: the head, and the solid that it names.
+-- The first two lines of a certificate: the head with its version, and the solid that it names.
 use Rattle.std.specs.Prelude.{◌≡◌, ℕ, ◌⊎◌, List, [], ◌∷◌}
 use Rattle.cert_lines.specs.Line.{CertLine, head, solid, cut_lines, IsLine, IsLong, IsMisspelt, first_limit}
+use Rattle.cert_lines.specs.declared.version.Version.{Version}
 use Rattle.cert_lines.specs.declared.fault.Illegal.{Illegal}
 use Rattle.cert_lines.specs.declared.fault.Illegal.TheVariants.{Misspelt, Unfit, Missing}
 
--- The certificate begins with the head and names solid n, and these are the lines from line 3 on.
-pub record Opens (certificate : List ℕ) (n : ℕ) (rest : List (List ℕ)) : Type 0 where
+-- The certificate begins with the head of this version, and these are the lines behind it.
+pub record IsHeaded (certificate : List ℕ) (v : Version) (rest : List (List ℕ)) : Type 0 where
+  pub first : List ℕ
+  pub cut : cut_lines certificate ≡ first ∷ rest
+  pub is_head : IsLine first_limit first (head v)
+
+-- The certificate begins with the head of this version and names solid n, and these are the lines from line 3 on.
+pub record Opens (certificate : List ℕ) (v : Version) (n : ℕ) (rest : List (List ℕ)) : Type 0 where
   pub first : List ℕ
   pub second : List ℕ
   pub cut : cut_lines certificate ≡ first ∷ second ∷ rest
-  pub is_head : IsLine first_limit first head
+  pub is_head : IsLine first_limit first (head v)
   pub names : IsLine first_limit second (solid n)
 
 abbrev pub IsHead : CertLine → Type 0
-IsHead line = line ≡ head
+IsHead line = (v : Version) × (line ≡ head v)
 
 abbrev pub IsSolid : CertLine → Type 0
 IsSolid line = (n : ℕ) × (line ≡ solid n)
@@ -32,7 +39,7 @@ IsSecondWrong (second ∷ rest) bad = IsWrong IsSolid 2 second bad
 
 abbrev pub IsFirstWrong : List (List ℕ) → Illegal → Type 0
 IsFirstWrong [] bad = bad ≡ Missing 1
-IsFirstWrong (first ∷ lines) bad = IsWrong IsHead 1 first bad ⊎ (IsLine first_limit first head × IsSecondWrong lines bad)
+IsFirstWrong (first ∷ lines) bad = IsWrong IsHead 1 first bad ⊎ ((v : Version) × IsLine first_limit first (head v) × IsSecondWrong lines bad)
 
 -- the first of the two that is missing, misspelt or unfit
 abbrev pub IsBadOpening : List ℕ → Illegal → Type 0

@@ -2,7 +2,9 @@
 use Rattle.std.specs.Prelude.{ℕ, ◌+◌, List, [], ◌∷◌, ◌++◌, length, map, flat_map}
 use Rattle.std.specs.List.{enumerate_from}
 use Rattle.solid_data.specs.declared.solid.RowId.{RowId}
-use Rattle.cert_lines.specs.Line.{CertLine, head, solid, shell, edge, corner, point, reach, end, spelling}
+use Rattle.cert_lines.specs.Line.{CertLine, Tally, head, solid, shell, edge, corner, point, reach, tally, end, spelling}
+use Rattle.cert_lines.specs.declared.version.Version.{Version}
+use Rattle.cert_lines.specs.declared.version.Version.TheVariants.{One, Two, Three}
 use Rattle.cert_lines.specs.declared.parts.CornerLine.{CornerLine}
 use Rattle.cert_lines.specs.declared.parts.CornerLine.TheVariants.{Cycle, Point}
 use Rattle.cert_lines.specs.declared.parts.ShellPart.{ShellPart}
@@ -22,14 +24,34 @@ abbrev pub reach_line : RowId → CertLine
 reach_line r = reach (row_number r)
 
 abbrev pub shell_line : ℕ → ShellPart → CertLine
-shell_line k part = shell k part.rows (length part.edges) (length part.corners) part.faces
+shell_line k part = shell k (record { rows = part.rows; edges = length part.edges; corners = length part.corners; faces = part.faces })
+
+abbrev pub tally_of : ℕ → ℕ → ℕ → ℕ → Tally
+tally_of vertices edges faces loops = record { vertices = vertices; edges = edges; faces = faces; loops = loops }
+
+abbrev pub tally_line : ShellPart → CertLine
+tally_line part = tally (tally_of part.vertices (length part.edges) part.faces part.loops)
+
+-- in version 1 a shell has no line of its counts at its end
+abbrev pub tally_lines : Version → ShellPart → List CertLine
+tally_lines One part = []
+tally_lines Two part = tally_line part ∷ []
+tally_lines Three part = tally_line part ∷ []
 
 -- the lines of a shell with its number
-abbrev pub shell_lines : ℕ × ShellPart → List CertLine
-shell_lines (k, part) = shell_line k part ∷ (map edge_line part.edges ++ (map corner_line part.corners ++ map reach_line part.reach))
+abbrev pub shell_lines : Version → ℕ × ShellPart → List CertLine
+shell_lines v (k, part) = shell_line k part ∷ (map edge_line part.edges ++ (map corner_line part.corners ++ (map reach_line part.reach ++ tally_lines v part)))
+
+-- the line that names the solid, and the lines of its shells
+abbrev pub solid_lines : Certificate → List CertLine
+solid_lines c = solid c.solid.0 ∷ flat_map (shell_lines c.version) (enumerate_from 1 c.shells)
 
 abbrev pub certificate_lines : Certificate → List CertLine
-certificate_lines c = head ∷ solid c.solid.0 ∷ (flat_map shell_lines (enumerate_from 1 c.shells) ++ end ∷ [])
+certificate_lines c = head c.version ∷ (solid_lines c ++ end ∷ [])
+
+-- the lines of a book with these parts
+abbrev pub book_lines : List Certificate → List CertLine
+book_lines cs = head Three ∷ (flat_map solid_lines cs ++ end ∷ [])
 
 -- the bytes of the lines
 abbrev pub text_of : List CertLine → List ℕ

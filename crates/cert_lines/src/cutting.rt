@@ -1,8 +1,9 @@
 //! The lines of a text.
 
-ghost use Rattle.std.specs.Prelude.{◌≡◌, ◌≢◌, ℕ, ◌<◌, ◌≤◌, [], ◌∷◌, length, take, drop, slice_index, MatchOption};
+ghost use Rattle.std.specs.Prelude.{◌≡◌, ◌≢◌, ℕ, ◌<◌, ◌≤◌, [], ◌∷◌, length, take, drop, slice_index, IsTrue, MatchOption};
 ghost use Rattle.cert_lines.specs.Line.{cut_lines};
-ghost use Rattle.cert_lines.specs.Cutting.{IsFirstEnd};
+ghost use Rattle.cert_lines.specs.Cutting.{IsFirstEnd, EndsFirst};
+ghost use Rattle.iges_fields.specs.InLine.{is_in_line};
 
 /// Where the first LF of a text stands.
 fn first_end(text: &[u8]) -> Option<usize>
@@ -34,4 +35,14 @@ pub fn first_line(text: &[u8]) -> Option<(&[u8], &[u8])>
     }
     let end = line_len(text);
     Some((&text[..end], &text[end..]))
+}
+
+/// The first line of a text that an LF ends, with its LF, and what follows it (own). None where there is no LF.
+pub fn first_ended(text: &[u8]) -> Option<(&[u8], &[u8])>
+    ensures { MatchOption result (IsTrue (is_in_line text.now)) (λ p. EndsFirst text.now p.0.now p.1.now) }
+{
+    match first_end(text) {
+        Some(end) => Some((&text[..end + 1], &text[end + 1..])),
+        None => None,
+    }
 }

@@ -4,7 +4,7 @@
 /// due (own).
 #[derive(Clone, Copy, Debug, PartialEq, Eq)]
 pub enum Misfit {
-    /// The bytes spell none of the eight kinds of lines, or have no LF.
+    /// The bytes spell none of the kinds of lines, or have no LF.
     Misspelt,
     /// The line is spelled but isn't the one that is due, or it has too many bytes, whatever they are.
     Unfit,
@@ -14,7 +14,7 @@ pub enum Misfit {
 /// doesn't fit where it stands, or it isn't there (own).
 #[derive(Clone, Copy, Debug, PartialEq, Eq)]
 pub enum Illegal {
-    /// The line spells none of the eight kinds of lines, or has no LF.
+    /// The line spells none of the kinds of lines, or has no LF.
     Misspelt { line: u64 },
     /// The line is spelled but doesn't fit behind the lines before it, or it has too many bytes, whatever they are.
     Unfit { line: u64 },

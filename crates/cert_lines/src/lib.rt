@@ -7,17 +7,23 @@ mod law;
 mod number;
 mod opening;
 mod parts;
+mod version;
 mod words;
 mod writing;
 
-pub use cutting::first_line;
+pub use cutting::{first_ended, first_line};
 pub use fault::{Illegal, Misfit};
 pub use law::{one_line, one_opening};
-pub use number::next_number;
+pub use number::{are_numbers, next_number, one_number, two_numbers};
 pub use opening::{head_line, read_opening, solid_line};
-pub use parts::{Certificate, CornerLine, Corners, EdgePairs, ReachRows, ShellPart, ShellParts};
-pub use words::{Judged, ShellWords, Words, judge};
-pub use writing::{from_one, write_certificate};
+pub use parts::{
+    Certificate, Certificates, CornerLine, Corners, EdgePairs, ReachRows, ShellPart, ShellParts,
+};
+pub use version::Version;
+pub use words::{Judged, ShellWords, TallyWords, Words, after_word, judge};
+pub use writing::{
+    from_one, put_head_line, put_line, put_rows, put_tally_line, write_book, write_certificate,
+};
 
 #[cfg(test)]
 mod tests;

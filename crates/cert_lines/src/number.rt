@@ -70,8 +70,8 @@ pub fn next_number(text: &[u8]) -> Option<(u32, &[u8])>
     Some((number, &after[end..]))
 }
 
-/// Whether the text is numbers alone, each behind a space; none at all will do.
-pub(crate) fn are_numbers(text: &[u8]) -> bool
+/// Whether the text is numbers alone, each of one to nine digits behind a space; none at all will do (own).
+pub fn are_numbers(text: &[u8]) -> bool
     ensures { IsTrue result ↔ IsSpaced text.now }
 {
     let mut rest = text;
@@ -84,7 +84,8 @@ pub(crate) fn are_numbers(text: &[u8]) -> bool
     true
 }
 
-pub(crate) fn one_number(text: &[u8]) -> Option<u32>
+/// The number of a text that is one number of one to nine digits behind a space (own).
+pub fn one_number(text: &[u8]) -> Option<u32>
     ensures { MatchOption result ((a : ℕ) → ¬ AreNumbers text.now (a ∷ [])) (λ a. AreNumbers text.now (a ∷ [])) }
 {
     let Some((a, rest)) = next_number(text) else {
@@ -93,7 +94,8 @@ pub(crate) fn one_number(text: &[u8]) -> Option<u32>
     if rest.is_empty() { Some(a) } else { None }
 }
 
-pub(crate) fn two_numbers(text: &[u8]) -> Option<(u32, u32)>
+/// The numbers of a text that is two numbers of one to nine digits, each behind a space (own).
+pub fn two_numbers(text: &[u8]) -> Option<(u32, u32)>
     ensures { MatchOption result ((a b : ℕ) → ¬ AreNumbers text.now (a ∷ b ∷ [])) (λ p. AreNumbers text.now (p.0 ∷ p.1 ∷ [])) }
 {
     let Some((a, rest)) = next_number(text) else {

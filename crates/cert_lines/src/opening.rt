@@ -7,18 +7,20 @@ ghost use Rattle.cert_lines.specs.Misfits.{IsMisfit, illegal_at};
 
 use crate::cutting::first_line;
 use crate::fault::{Illegal, Misfit};
+use crate::version::Version;
 use crate::words::{Judged, Words, judge};
 use iges_fields::EntryNo;
 
 /// The most bytes that line 1 or 2 may have.
 const FIRST_LIMIT: usize = 64;
 
-/// Whether these bytes are line 1 of a certificate, with its LF, without which they are misspelt (own). Takes no memory.
-pub fn head_line(line: &[u8]) -> Result<(), Misfit>
-    ensures { MatchResult result (λ _. IsLine first_limit line.now head) (λ misfit. IsMisfit IsHead line.now misfit) }
+/// The version that line 1 of a certificate names; the line is given with its LF, without which it is misspelt (own).
+/// Takes no memory.
+pub fn head_line(line: &[u8]) -> Result<Version, Misfit>
+    ensures { MatchResult result (λ v. IsLine first_limit line.now (head v)) (λ misfit. IsMisfit IsHead line.now misfit) }
 {
     match judge(line, FIRST_LIMIT) {
-        Judged::Spelled(Words::Head) => Ok(()),
+        Judged::Spelled(Words::Head(version)) => Ok(version),
         Judged::Spelled(_) | Judged::Long => Err(Misfit::Unfit),
         Judged::Misspelt => Err(Misfit::Misspelt),
     }
@@ -45,22 +47,23 @@ fn at_line(misfit: Misfit, line: u64) -> Illegal
     }
 }
 
-/// The solid that a certificate names in its first two lines, and the text behind them; or the first of the two that is
-/// missing, misspelt or unfit (own).
-pub fn read_opening(text: &[u8]) -> Result<(EntryNo, &[u8]), Illegal>
-    ensures { MatchResult result (λ p. Opens text.now p.0.0 (cut_lines p.1.now)) (λ bad. IsBadOpening text.now bad) }
+/// The version and the solid that a certificate names in its first two lines, and the text behind them; or the first of
+/// the two that is missing, misspelt or unfit (own).
+pub fn read_opening(text: &[u8]) -> Result<(Version, EntryNo, &[u8]), Illegal>
+    ensures { MatchResult result (λ p. Opens text.now p.0 p.1.0 (cut_lines p.2.now)) (λ bad. IsBadOpening text.now bad) }
 {
     let Some((first, rest)) = first_line(text) else {
         return Err(Illegal::Missing { line: 1 });
     };
-    if let Err(misfit) = head_line(first) {
-        return Err(at_line(misfit, 1));
-    }
+    let version = match head_line(first) {
+        Ok(version) => version,
+        Err(misfit) => return Err(at_line(misfit, 1)),
+    };
     let Some((second, rest)) = first_line(rest) else {
         return Err(Illegal::Missing { line: 2 });
     };
     match solid_line(second) {
-        Ok(solid) => Ok((solid, rest)),
+        Ok(solid) => Ok((version, solid, rest)),
         Err(misfit) => Err(at_line(misfit, 2)),
     }
 }

@@ -1,5 +1,6 @@
 //! A certificate as its parts.
 
+use crate::version::Version;
 use iges_fields::{EntryNo, ItemList};
 use solid_data::{LoopAt, RowId, RowList};
 
@@ -21,7 +22,7 @@ pub type Corners = ItemList<CornerLine>;
 /// Rows by which the faces but the first are reached, in a fitting order (own).
 pub type ReachRows = RowList;
 
-/// What a certificate says of a shell: how many rows and faces it has, and its lines (own).
+/// What a certificate says of a shell: how many rows, vertices, faces and loops it has, and its lines (own).
 #[derive(Drop)]
 pub struct ShellPart {
     pub rows: u32,
@@ -29,14 +30,20 @@ pub struct ShellPart {
     pub corners: Corners,
     pub faces: u32,
     pub reach: ReachRows,
+    pub vertices: u32,
+    pub loops: u32,
 }
 
 /// The parts of the shells, the outer one first (own).
 pub type ShellParts = ItemList<ShellPart>;
 
-/// A certificate: the solid that it names, and a part for each of its shells (own).
+/// A certificate: its version, the solid that it names, and a part for each of its shells (own).
 #[derive(Drop)]
 pub struct Certificate {
+    pub version: Version,
     pub solid: EntryNo,
     pub shells: ShellParts,
 }
+
+/// The certificates that are the parts of a book, by rising solid (own).
+pub type Certificates = ItemList<Certificate>;

@@ -1,6 +1,7 @@
 use crate::{
-    Certificate, CornerLine, Corners, EdgePairs, Illegal, Misfit, ReachRows, ShellPart, ShellParts,
-    head_line, read_opening, solid_line, write_certificate,
+    Certificate, Certificates, CornerLine, Corners, EdgePairs, Illegal, Misfit, ReachRows,
+    ShellPart, ShellParts, Version, head_line, read_opening, solid_line, write_book,
+    write_certificate,
 };
 use iges_fields::{EntryNo, NoMemory};
 use solid_data::{FaceAt, LoopAt, RowId, RowList};
@@ -9,8 +10,10 @@ use std::test::Fail;
 
 #[test]
 fn the_head_is_one_line_alone(rt: HostRuntime) {
-    assert_eq!(rt; head_line(b"IGESCERT 1\n"), Ok(()));
-    assert_eq!(rt; head_line(b"IGESCERT 2\n"), Err(Misfit::Misspelt));
+    assert_eq!(rt; head_line(b"IGESCERT 1\n"), Ok(Version::One));
+    assert_eq!(rt; head_line(b"IGESCERT 2\n"), Ok(Version::Two));
+    assert_eq!(rt; head_line(b"IGESCERT 3\n"), Ok(Version::Three));
+    assert_eq!(rt; head_line(b"IGESCERT 4\n"), Err(Misfit::Misspelt));
     assert_eq!(rt; head_line(b"IGESCERT 1"), Err(Misfit::Misspelt));
     assert_eq!(rt; head_line(b"END\n"), Err(Misfit::Unfit));
 }
@@ -28,7 +31,7 @@ fn the_solid_is_named_by_at_most_nine_digits(rt: HostRuntime) {
 
 fn solid_of(text: &[u8]) -> Result<EntryNo, Illegal> {
     match read_opening(text) {
-        Ok((solid, _)) => Ok(solid),
+        Ok((_, solid, _)) => Ok(solid),
         Err(illegal) => Err(illegal),
     }
 }
@@ -78,6 +81,8 @@ fn pole_part(alloc: Global) -> Result<ShellPart, NoMemory> {
         corners,
         faces: 1,
         reach: ReachRows::new(alloc),
+        vertices: 1,
+        loops: 1,
     })
 }
 
@@ -102,13 +107,16 @@ fn seam_part(alloc: Global) -> Result<ShellPart, NoMemory> {
         corners,
         faces: 1,
         reach,
+        vertices: 2,
+        loops: 1,
     })
 }
 
-fn certificate(alloc: Global, part: ShellPart) -> Result<Certificate, NoMemory> {
+fn certificate(alloc: Global, version: Version, part: ShellPart) -> Result<Certificate, NoMemory> {
     let mut shells = ShellParts::new(alloc);
     shells.push(part)?;
     Ok(Certificate {
+        version,
         solid: EntryNo(11),
         shells,
     })
@@ -117,7 +125,7 @@ fn certificate(alloc: Global, part: ShellPart) -> Result<Certificate, NoMemory> 
 #[test]
 fn a_pole_is_written(rt: HostRuntime) -> Result<(), Fail> {
     let alloc = rt.alloc();
-    let text = write_certificate(alloc, &certificate(alloc, pole_part(alloc)?)?)?;
+    let text = write_certificate(alloc, &certificate(alloc, Version::One, pole_part(alloc)?)?)?;
     let wanted = b"IGESCERT 1\nSOLID 11\nSHELL 1 0 0 1 1\nI 1 1\nEND\n";
     assert_eq!(rt; text.as_slice(), wanted.as_slice());
     Ok(())
@@ -126,8 +134,29 @@ fn a_pole_is_written(rt: HostRuntime) -> Result<(), Fail> {
 #[test]
 fn a_seam_is_written(rt: HostRuntime) -> Result<(), Fail> {
     let alloc = rt.alloc();
-    let text = write_certificate(alloc, &certificate(alloc, seam_part(alloc)?)?)?;
+    let text = write_certificate(alloc, &certificate(alloc, Version::One, seam_part(alloc)?)?)?;
     let wanted = b"IGESCERT 1\nSOLID 11\nSHELL 1 2 1 2 1\nE 1 2\nC 1\nC 2\nR 9\nEND\n";
+    assert_eq!(rt; text.as_slice(), wanted.as_slice());
+    Ok(())
+}
+
+#[test]
+fn a_shell_ends_in_its_counts(rt: HostRuntime) -> Result<(), Fail> {
+    let alloc = rt.alloc();
+    let part = certificate(alloc, Version::Two, pole_part(alloc)?)?;
+    let text = write_certificate(alloc, &part)?;
+    let wanted = b"IGESCERT 2\nSOLID 11\nSHELL 1 0 0 1 1\nI 1 1\nTALLY 1 0 1 1\nEND\n";
+    assert_eq!(rt; text.as_slice(), wanted.as_slice());
+    Ok(())
+}
+
+#[test]
+fn a_book_of_one_part_is_written(rt: HostRuntime) -> Result<(), Fail> {
+    let alloc = rt.alloc();
+    let mut parts = Certificates::new(alloc);
+    parts.push(certificate(alloc, Version::Two, pole_part(alloc)?)?)?;
+    let text = write_book(alloc, &parts)?;
+    let wanted = b"IGESCERT 3\nSOLID 11\nSHELL 1 0 0 1 1\nI 1 1\nTALLY 1 0 1 1\nEND\n";
     assert_eq!(rt; text.as_slice(), wanted.as_slice());
     Ok(())
 }

@@ -1,17 +1,19 @@
 //! One line of a certificate, read from its bytes.
 
 ghost use Rattle.std.specs.Prelude.{◌≡◌, ◌≢◌, ℕ, List, [], ◌∷◌, ◌++◌, ◌≤◌, ◌↔◌, IsTrue, IfSome, IfNone, codes, length, MatchOption};
-ghost use Rattle.cert_lines.specs.Line.{CertLine, head, solid, shell, edge, corner, point, reach, end, IsSpelled, spaced};
+ghost use Rattle.cert_lines.specs.Line.{CertLine, head, solid, shell, edge, corner, point, reach, tally, end, ShellCounts, Tally, IsSpelled, spaced};
 ghost use Rattle.cert_lines.specs.Numbers.{AreNumbers, IsSpaced, Spells};
-ghost use Rattle.cert_lines.specs.Said.{Means, IsRowLine, IsJudged};
+ghost use Rattle.cert_lines.specs.Said.{Means, IsRowLine, IsJudged, counts_said, tally_said};
+ghost use Rattle.cert_lines.specs.declared.version.Version.{Version as Edition};
 
 use crate::number::{are_numbers, next_number, one_number, two_numbers};
+use crate::version::{Version, numbered};
 
 /// What a line says (own). Rows, faces and loops count from 1 here, as in the text.
 #[derive(Clone, Copy)]
 pub enum Words<'a> {
-    /// `IGESCERT 1`.
-    Head,
+    /// `IGESCERT`, and the number of the version.
+    Head(Version),
     /// `SOLID`, and the directory number of the solid.
     Solid(u32),
     /// `SHELL`, and its numbers.
@@ -24,6 +26,8 @@ pub enum Words<'a> {
     Point(u32, u32),
     /// `R`, and a row.
     Reach(u32),
+    /// `TALLY`, and its numbers.
+    Tally(TallyWords),
     /// `END`.
     End,
 }
@@ -38,8 +42,17 @@ pub struct ShellWords {
     pub faces: u32,
 }
 
-/// What follows a word at the start of a text.
-fn after_word<'a>(text: &'a [u8], word: &[u8]) -> Option<&'a [u8]>
+/// The numbers of a TALLY line (own): how many vertices, edges, faces and loops the shell has.
+#[derive(Clone, Copy)]
+pub struct TallyWords {
+    pub vertices: u32,
+    pub edges: u32,
+    pub faces: u32,
+    pub loops: u32,
+}
+
+/// What follows a word at the start of a text; None where the text doesn't begin with it (own).
+pub fn after_word<'a>(text: &'a [u8], word: &[u8]) -> Option<&'a [u8]>
     ensures { MatchOption result ((rest : List ℕ) → text.now ≢ word.now ++ rest) (λ rest. text.now ≡ word.now ++ rest.now) }
 {
     text.strip_prefix(word)
@@ -69,6 +82,38 @@ fn shell_numbers(text: &[u8]) -> Option<ShellWords>
     })
 }
 
+fn tally_numbers(text: &[u8]) -> Option<TallyWords>
+    ensures { MatchOption result ((a b c d : ℕ) → ¬ AreNumbers text.now (a ∷ b ∷ c ∷ d ∷ [])) (λ w. AreNumbers text.now (w.vertices ∷ w.edges ∷ w.faces ∷ w.loops ∷ [])) }
+{
+    let Some((vertices, rest)) = next_number(text) else {
+        return None;
+    };
+    let Some((edges, rest)) = next_number(rest) else {
+        return None;
+    };
+    let Some((faces, loops)) = two_numbers(rest) else {
+        return None;
+    };
+    Some(TallyWords {
+        vertices,
+        edges,
+        faces,
+        loops,
+    })
+}
+
+fn head_words(text: &[u8]) -> Option<Version>
+    ensures { MatchOption result ((v : Edition) → ¬ Spells text.now (head v)) (λ v. Spells text.now (head v)) }
+{
+    let Some(rest) = after_word(text, b"IGESCERT") else {
+        return None;
+    };
+    let Some(number) = one_number(rest) else {
+        return None;
+    };
+    numbered(number)
+}
+
 fn solid_words(text: &[u8]) -> Option<u32>
     ensures { MatchOption result ((n : ℕ) → ¬ Spells text.now (solid n)) (λ n. Spells text.now (solid n)) }
 {
@@ -79,7 +124,7 @@ fn solid_words(text: &[u8]) -> Option<u32>
 }
 
 fn shell_words(text: &[u8]) -> Option<ShellWords>
-    ensures { MatchOption result ((a b c d e : ℕ) → ¬ Spells text.now (shell a b c d e)) (λ w. Spells text.now (shell w.shell w.rows w.edges w.corners w.faces)) }
+    ensures { MatchOption result ((k : ℕ) (c : ShellCounts) → ¬ Spells text.now (shell k c)) (λ w. Spells text.now (shell w.shell (counts_said w))) }
 {
     match after_word(text, b"SHELL") {
         Some(rest) => shell_numbers(rest),
@@ -114,6 +159,15 @@ fn reach_words(text: &[u8]) -> Option<u32>
     }
 }
 
+fn tally_words(text: &[u8]) -> Option<TallyWords>
+    ensures { MatchOption result ((t : Tally) → ¬ Spells text.now (tally t)) (λ w. Spells text.now (tally (tally_said w))) }
+{
+    match after_word(text, b"TALLY") {
+        Some(rest) => tally_numbers(rest),
+        None => None,
+    }
+}
+
 fn corner_words(text: &[u8]) -> Option<&[u8]>
     ensures { MatchOption result ((rs : List ℕ) → ¬ Spells text.now (corner rs)) (λ rest. (rs : List ℕ) × (rest.now ≡ spaced rs) × Spells text.now (corner rs)) }
 {
@@ -137,8 +191,8 @@ fn is_word(text: &[u8], word: &[u8]) -> bool
 fn read_words(text: &[u8]) -> Option<Words<'_>>
     ensures { MatchOption result ((line : CertLine) → ¬ Spells text.now line) (λ w. (line : CertLine) × Means w line × Spells text.now line) }
 {
-    if is_word(text, b"IGESCERT 1") {
-        return Some(Words::Head);
+    if let Some(version) = head_words(text) {
+        return Some(Words::Head(version));
     }
     if let Some(number) = solid_words(text) {
         return Some(Words::Solid(number));
@@ -152,7 +206,7 @@ fn read_words(text: &[u8]) -> Option<Words<'_>>
     read_row_words(text)
 }
 
-/// The edge, corner, point or reach line that a text without its LF spells.
+/// The line of a shell behind its SHELL line that a text without its LF spells.
 fn read_row_words(text: &[u8]) -> Option<Words<'_>>
     ensures { MatchOption result ((line : CertLine) → IsRowLine line → ¬ Spells text.now line) (λ w. (line : CertLine) × Means w line × Spells text.now line) }
 {
@@ -165,8 +219,11 @@ fn read_row_words(text: &[u8]) -> Option<Words<'_>>
     if let Some((face, place)) = point_words(text) {
         return Some(Words::Point(face, place));
     }
-    match reach_words(text) {
-        Some(row) => Some(Words::Reach(row)),
+    if let Some(row) = reach_words(text) {
+        return Some(Words::Reach(row));
+    }
+    match tally_words(text) {
+        Some(counts) => Some(Words::Tally(counts)),
         None => None,
     }
 }
@@ -187,9 +244,9 @@ fn read_line(line: &[u8]) -> Option<Words<'_>>
 /// A line, as far as its bytes and its length tell (own).
 #[derive(Clone, Copy)]
 pub enum Judged<'a> {
-    /// The line is one of the eight kinds, and isn't long.
+    /// The line is one of the kinds of lines, and isn't long.
     Spelled(Words<'a>),
-    /// The line is none of the eight kinds and isn't long, or it has no LF.
+    /// The line is none of the kinds of lines and isn't long, or it has no LF.
     Misspelt,
     /// The line has an LF, and more bytes than it may have.
     Long,

@@ -2,10 +2,11 @@
 
 ghost use Rattle.std.specs.Prelude.{◌≡◌, ℕ, ◌+◌, ◌<◌, ◌^◌, ◌++◌, ◌∷◌, [], decimal, length, map, flat_map, IfOk};
 ghost use Rattle.std.specs.List.{AllByRecursion, enumerate_from};
-ghost use Rattle.cert_lines.specs.Line.{HasSpelling, cut_lines, spaced, spelling};
-ghost use Rattle.cert_lines.specs.Written.{row_number, edge_line, corner_line, reach_line, shell_line, shell_lines, certificate_lines, text_of};
+ghost use Rattle.cert_lines.specs.Line.{HasSpelling, head, tally, cut_lines, spaced, spelling};
+ghost use Rattle.cert_lines.specs.Written.{row_number, edge_line, corner_line, reach_line, shell_line, tally_line, tally_of, tally_lines, shell_lines, solid_lines, certificate_lines, book_lines, text_of};
 
-use crate::parts::{Certificate, CornerLine, ShellPart};
+use crate::parts::{Certificate, Certificates, CornerLine, ShellPart};
+use crate::version::{Version, number_of};
 use iges_fields::{Bytes, NoMemory, Out, write_number};
 use solid_data::RowId;
 use std::alloc::Global;
@@ -33,7 +34,8 @@ fn put_numbers(out: &mut Out, numbers: &[u64]) -> Result<(), NoMemory>
     Ok(())
 }
 
-fn put_rows(out: &mut Out, rows: &[RowId]) -> Result<(), NoMemory>
+/// Appends the numbers of some rows, from 1, each behind a space (own).
+pub fn put_rows(out: &mut Out, rows: &[RowId]) -> Result<(), NoMemory>
     ensures { IfOk result (λ _. out.new ≡ out.old ++ spaced (map row_number rows.now)) }
 {
     'rows: for i in 0..rows.len() {
@@ -42,7 +44,8 @@ fn put_rows(out: &mut Out, rows: &[RowId]) -> Result<(), NoMemory>
     Ok(())
 }
 
-fn put_line(out: &mut Out, word: &[u8], numbers: &[u64]) -> Result<(), NoMemory>
+/// Appends a line: its word, its numbers, each behind a space, and LF (own).
+pub fn put_line(out: &mut Out, word: &[u8], numbers: &[u64]) -> Result<(), NoMemory>
     ensures { IfOk result (λ _. out.new ≡ out.old ++ ((word.now ++ spaced numbers.now) ++ 10 ∷ [])) }
 {
     out.put(word)?;
@@ -106,36 +109,115 @@ fn put_shell_line(out: &mut Out, number: u64, part: &ShellPart) -> Result<(), No
     put_line(out, b"SHELL", &numbers)
 }
 
-fn put_shell(out: &mut Out, number: u64, part: &ShellPart) -> Result<(), NoMemory>
-    ensures { IfOk result (λ _. out.new ≡ out.old ++ text_of (shell_lines (number, part.now))) }
+/// The TALLY line of these counts, with its LF (own).
+pub fn put_tally_line(
+    out: &mut Out,
+    vertices: u64,
+    edges: u64,
+    faces: u64,
+    loops: u64,
+) -> Result<(), NoMemory>
+    ensures { IfOk result (λ _. out.new ≡ out.old ++ spelling (tally (tally_of vertices edges faces loops))) }
+{
+    put_line(out, b"TALLY", &[vertices, edges, faces, loops])
+}
+
+fn put_counts(out: &mut Out, part: &ShellPart) -> Result<(), NoMemory>
+    ensures { IfOk result (λ _. out.new ≡ out.old ++ spelling (tally_line part.now)) }
+{
+    put_tally_line(
+        out,
+        u64::from(part.vertices),
+        part.edges.as_slice().len() as u64,
+        u64::from(part.faces),
+        u64::from(part.loops),
+    )
+}
+
+/// The first line of a certificate of this version, with its LF (own).
+pub fn put_head_line(out: &mut Out, version: Version) -> Result<(), NoMemory>
+    ensures { IfOk result (λ _. out.new ≡ out.old ++ spelling (head version)) }
+{
+    put_head(out, version)
+}
+
+/// In versions 2 and 3 the line of the shell's counts.
+fn put_tally(out: &mut Out, version: Version, part: &ShellPart) -> Result<(), NoMemory>
+    ensures { IfOk result (λ _. out.new ≡ out.old ++ text_of (tally_lines version part.now)) }
+{
+    match version {
+        Version::One => Ok(()),
+        Version::Two | Version::Three => put_counts(out, part),
+    }
+}
+
+fn put_shell(out: &mut Out, version: Version, number: u64, part: &ShellPart) -> Result<(), NoMemory>
+    ensures { IfOk result (λ _. out.new ≡ out.old ++ text_of (shell_lines version (number, part.now))) }
 {
     put_shell_line(out, number, part)?;
     put_edges(out, part.edges.as_slice())?;
     put_corners(out, part.corners.as_slice())?;
     put_reach(out, part.reach.as_slice())?;
+    put_tally(out, version, part)?;
     Ok(())
 }
 
-fn put_shells(out: &mut Out, parts: &[ShellPart]) -> Result<(), NoMemory>
-    ensures { IfOk result (λ _. out.new ≡ out.old ++ flat_map (λ h. text_of (shell_lines h)) (enumerate_from 1 parts.now)) }
+fn put_shells(out: &mut Out, version: Version, parts: &[ShellPart]) -> Result<(), NoMemory>
+    ensures { IfOk result (λ _. out.new ≡ out.old ++ flat_map (λ h. text_of (shell_lines version h)) (enumerate_from 1 parts.now)) }
 {
     'shells: for i in 0..parts.len() {
-        put_shell(out, i as u64 + 1, &parts[i])?;
+        put_shell(out, version, i as u64 + 1, &parts[i])?;
     }
     Ok(())
 }
 
-/// The text of a certificate: the lines of its parts in order, behind the head and the line of its solid (own). The counts
-/// of edges and of corners in a shell line are the lengths of the two lists. Where every number has at most nine digits and
-/// no cycle is empty, each line is spelled.
+fn put_head(out: &mut Out, version: Version) -> Result<(), NoMemory>
+    ensures { IfOk result (λ _. out.new ≡ out.old ++ spelling (head version)) }
+{
+    put_line(out, b"IGESCERT", &[number_of(version)])
+}
+
+/// The lines of one solid: the one that names it, and those of its shells.
+fn put_solid(out: &mut Out, c: &Certificate) -> Result<(), NoMemory>
+    ensures { IfOk result (λ _. out.new ≡ out.old ++ text_of (solid_lines c.now)) }
+{
+    put_line(out, b"SOLID", &[u64::from(c.solid.0)])?;
+    put_shells(out, c.version, c.shells.as_slice())?;
+    Ok(())
+}
+
+fn put_solids(out: &mut Out, parts: &[Certificate]) -> Result<(), NoMemory>
+    ensures { IfOk result (λ _. out.new ≡ out.old ++ flat_map (λ c. text_of (solid_lines c)) parts.now) }
+{
+    'parts: for i in 0..parts.len() {
+        put_solid(out, &parts[i])?;
+    }
+    Ok(())
+}
+
+/// The text of a certificate: the lines of its parts in order, behind the head of its version and the line of its solid
+/// (own). The counts of edges and of corners in a shell line are the lengths of the two lists. Where every number has at
+/// most nine digits and no cycle is empty, each line is spelled.
 pub fn write_certificate(alloc: Global, c: &Certificate) -> Result<Bytes, NoMemory>
     ensures text { IfOk result (λ text. text ≡ text_of (certificate_lines c.now)) }
     ensures lines { AllByRecursion HasSpelling (certificate_lines c.now) → IfOk result (λ text. cut_lines text ≡ map spelling (certificate_lines c.now)) }
 {
     let mut out = Out::new(alloc);
-    out.put(b"IGESCERT 1\n")?;
-    put_line(&mut out, b"SOLID", &[u64::from(c.solid.0)])?;
-    put_shells(&mut out, c.shells.as_slice())?;
+    put_head(&mut out, c.version)?;
+    put_solid(&mut out, c)?;
+    out.put(b"END\n")?;
+    Ok(out.into_bytes())
+}
+
+/// The text of a book, version 3: the lines of each part in order, behind the head and before END (own). Where every
+/// number has at most nine digits and no cycle is empty, each line is spelled.
+pub fn write_book(alloc: Global, parts: &Certificates) -> Result<Bytes, NoMemory>
+    ensures text { IfOk result (λ text. text ≡ text_of (book_lines parts.now)) }
+    ensures lines { AllByRecursion HasSpelling (book_lines parts.now) → IfOk result (λ text. cut_lines text ≡ map spelling (book_lines parts.now)) }
+{
+    let mut out = Out::new(alloc);
+    put_head(&mut out, Version::Three)?;
+    put_solids(&mut out, parts.as_slice())?;
     out.put(b"END\n")?;
     Ok(out.into_bytes())
 }

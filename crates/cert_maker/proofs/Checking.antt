@@ -73,9 +73,9 @@ parts_to s joins apart =
 
 pub accepted_is_checked : AcceptedIsChecked
 unfolding checked
-accepted_is_checked f n certificate = (
-  λ a. (a.rest, a.opens, AllHold-append (places f n) (checked_obligations (solid_of f n)) a.placed (parts_to (solid_of f n) a.joined a.apart), a.legal),
+accepted_is_checked v f n certificate = (
+  λ a. (a.rest, a.opens, AllHold-append (places f n) (checked_obligations (solid_of f n)) a.certified.placed (parts_to (solid_of f n) a.certified.joined a.certified.apart), a.certified.legal),
   λ (rest, opens, all, legal).
       let parts = parts_from (solid_of f n) (AllHold-append_right (places f n) (checked_obligations (solid_of f n)) all) in
-      record { rest = rest; opens = opens; placed = AllHold-append_left (places f n) (checked_obligations (solid_of f n)) all; joined = parts.0; apart = parts.1; legal = legal },
+      record { rest = rest; opens = opens; certified = record { placed = AllHold-append_left (places f n) (checked_obligations (solid_of f n)) all; joined = parts.0; apart = parts.1; legal = legal } },
 )

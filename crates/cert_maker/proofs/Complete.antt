@@ -22,6 +22,11 @@ use Rattle.edge_uses.proofs.Adding.{rows_shorter}
 use Rattle.edge_uses.proofs.Few.{part_shorter}
 use Rattle.topo_certificate.proofs.Build.{found_point}
 use Rattle.topo_certificate.proofs.Short.{IsSmall, length-spaced}
+use Rattle.topo_certificate.specs.Stand.{loops_of}
+use Rattle.topo_certificate.proofs.UseSizes.{loops_placed}
+use Rattle.cert_lines.specs.declared.version.Version.{Version}
+use Rattle.cert_lines.specs.declared.version.Version.TheVariants.{Two}
+use Rattle.cert_lines.proofs.Spelling.{version_short}
 use Rattle.topo_certificate.proofs.Complete.{closed_has_legal}
 use Rattle.topo_certificate.proofs.PointOrder.{faces_of_rows}
 use Rattle.brep_walk.specs.SolidOf.{solid_of}
@@ -29,7 +34,7 @@ use Rattle.solid_data.specs.Numbering.{HasFewParts}
 use Rattle.cert_maker.specs.Laws.{ClosedIsAccepted}
 use Rattle.cert_maker.proofs.Ready.{enum_get, point_is, closed_at, closed_joins, apart_all, closed_is_ready}
 use Rattle.brep_walk.proofs.KnownVertices.{vertices_known}
-use Rattle.cert_lines.specs.Line.{CertLine, head, solid, spaced, spelling}
+use Rattle.cert_lines.specs.Line.{CertLine, head, solid, spaced, spelling, version_number, first_limit, IsLine}
 
 -- Sizes.
 
@@ -98,7 +103,7 @@ has_place [] x h = absurd h
 has_place (y ∷ xs) x (inl e) = (zero, ap Some e)
 has_place (y ∷ xs) x (inr h) = let k = has_place xs x h in (suc k.0, k.1)
 
-pub shell_small : (s : SolidData) (n : ℕ) → HasFewParts s n → (h : Shell) → Has s.shells h → IsClosedSolid s → IsSmall s (shell_rows s h)
+pub shell_small : (s : SolidData) (n : ℕ) → HasFewParts s n → (h : Shell) → Has s.shells h → IsClosedSolid s → IsSmall s (shell_rows s h) × (loops_of (Some h) < 10 ^ 9)
 shell_small s n few h here closed =
     let d : ShellRows = shell_rows s h in
     let k = has_place s.shells h here in
@@ -107,38 +112,52 @@ shell_small s n few h here closed =
     let uses : length (shell_uses h) ≤ length (flat_map shell_uses s.shells) = part_shorter shell_uses s.shells h here in
     let loops : length (placed_loops h) ≤ length (flat_map placed_loops s.shells) = part_shorter placed_loops s.shells h here in
     let faces : length h.faces ≤ length (flat_map (λ (x : Shell). x.faces) s.shells) = part_shorter (λ (x : Shell). x.faces) s.shells h here in
-    let two = two_rows_each d (rises_none d.edges (edges_rise s h)) (edges_known s h) (All-at (IsPaired d) d.edges is_closed.paired) in
-    record {
-      few = few.few_uses;
-      rows = omega (arith, both, uses);
-      edges = omega (arith, two, both, uses, few.few_uses);
-      vertices = omega (arith, vertices_size d (vertices_rise s h) is_closed.linked, both, uses, few.few_uses);
-      faces = subst (λ m. m < 10 ^ 9) (sym (faces_of_rows s h)) (omega (arith, faces, few.few_faces));
-      points = λ x m. let low = points_low s h x m in (omega (arith, low.0, faces, few.few_faces), omega (arith, low.1, loops, few.few_loops));
-      shells = omega (arith, few.few_shells);
-    }
+    let two = two_rows_each d (rises_none d.edges (edges_rise s h)) (edges_known s h) (All-at (IsPaired d) d.edges is_closed.paired) in (
+      record {
+        few = few.few_uses;
+        rows = omega (arith, both, uses);
+        edges = omega (arith, two, both, uses, few.few_uses);
+        vertices = omega (arith, vertices_size d (vertices_rise s h) is_closed.linked, both, uses, few.few_uses);
+        faces = subst (λ m. m < 10 ^ 9) (sym (faces_of_rows s h)) (omega (arith, faces, few.few_faces));
+        points = λ x m. let low = points_low s h x m in (omega (arith, low.0, faces, few.few_faces), omega (arith, low.1, loops, few.few_loops));
+        shells = omega (arith, few.few_shells);
+      },
+      omega (arith, loops, few.few_loops, loops_placed h.flag 0 h.faces),
+    )
+
+-- the head is spelled, and not long
+pub head_read : (v : Version) → IsLine first_limit (spelling (head v)) (head v)
+head_read v =
+    let size = length-append (spaced (version_number v ∷ [])) (10 ∷ []) in
+    (omega (arith, size, length-spaced (version_number v ∷ []) (version_short v, tt)), (tt, refl))
 
 -- What is closed has an accepted certificate.
 pub closed_is_accepted : ClosedIsAccepted
 unfolding solid_of
 closed_is_accepted f n few closed =
     let s : SolidData = solid_of f n in
-    let made = closed_has_legal s (closed_is_ready s (shell_small s n few) (vertices_known f n) closed.closed) in
-    let all : List CertLine = head ∷ solid n ∷ made.0 in
+    let made = closed_has_legal Two s (closed_is_ready s (shell_small s n few) (vertices_known f n) closed.closed) in
+    let all : List CertLine = head Two ∷ solid n ∷ made.0 in
     let size = length-append (spaced (n ∷ [])) (10 ∷ []) in (
       flat_map spelling all,
-      record {
-        rest = map spelling made.0;
-        opens = record {
-          first = spelling head;
-          second = spelling (solid n);
-          cut = cut_spelled all (tt, (few.number, made.2));
-          is_head = (omega arith, (tt, refl));
-          names = (omega (arith, size, length-spaced (n ∷ []) (few.number, tt)), (few.number, refl));
-        };
-        placed = closed.placed;
-        joined = closed_joins s closed.closed;
-        apart = apart_all s (enumerate_from 0 s.shells) closed.closed;
-        legal = made.1;
-      },
+      (
+        n,
+        refl,
+        record {
+          rest = map spelling made.0;
+          opens = record {
+            first = spelling (head Two);
+            second = spelling (solid n);
+            cut = cut_spelled all (tt, (few.number, made.2));
+            is_head = head_read Two;
+            names = (omega (arith, size, length-spaced (n ∷ []) (few.number, tt)), (few.number, refl));
+          };
+          certified = record {
+            placed = closed.placed;
+            joined = closed_joins s closed.closed;
+            apart = apart_all s (enumerate_from 0 s.shells) closed.closed;
+            legal = made.1;
+          };
+        },
+      ),
     )

@@ -1,4 +1,9 @@
 -- Closed is what some certificate is accepted for.
+use Rattle.std.specs.Prelude.{[], ◌∷◌}
+use Rattle.std.proofs.Common.{refl, inl}
+use Rattle.solid_data.proofs.Members.{All-at, Has-from_Contains, Contains-from_Has}
+use Rattle.cert_lines.specs.declared.version.Version.TheVariants.{Two}
+use Rattle.cert_maker.specs.Closed.{IsClosed}
 use Rattle.cert_maker.specs.Laws.{ClosedExactlyWhereAccepted}
 use Rattle.cert_maker.proofs.Sound.{accepted_is_closed}
 use Rattle.cert_maker.proofs.Complete.{closed_is_accepted}
@@ -6,6 +11,6 @@ use Rattle.brep_walk.proofs.Few.{has_few_parts}
 
 pub closed_exactly : ClosedExactlyWhereAccepted
 closed_exactly f n limits = (
-  λ closed. closed_is_accepted f n (has_few_parts f n limits closed.placed) closed,
-  λ (certificate, accepted). accepted_is_closed f n certificate accepted,
+  λ closed. (let a = closed_is_accepted f n (has_few_parts f n limits closed.placed) closed in (a.0, Two, n ∷ [], a.1, Contains-from_Has (n ∷ []) n (inl refl))),
+  λ (certificate, v, ns, accepted, named). All-at (IsClosed f) ns (accepted_is_closed f certificate v ns accepted) n (Has-from_Contains ns n named),
 )

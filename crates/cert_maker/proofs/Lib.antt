@@ -1,4 +1,5 @@
 pub mod Exactly
+pub mod UpgradedLaw
 pub mod Sound
 pub mod Ready
 pub mod Complete
@@ -21,3 +22,5 @@ pub mod Shells
 pub mod Verdicts
 pub mod EdgeRows
 pub mod Certifying
+pub mod WholeLemmas
+pub mod BookMade

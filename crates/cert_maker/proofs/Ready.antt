@@ -1,5 +1,5 @@
 -- The shells of a closed solid have lines that fit.
-use Rattle.std.specs.Prelude.{◌≡◌, ℕ, zero, suc, ◌+◌, ◌<◌, List, [], ◌∷◌, length, map, flat_map, Option, Some, None, slice_get}
+use Rattle.std.specs.Prelude.{◌≡◌, ℕ, zero, suc, ◌+◌, ◌<◌, ◌^◌, List, [], ◌∷◌, length, map, flat_map, Option, Some, None, slice_get}
 use Rattle.std.specs.List.{AllByRecursion, enumerate_from}
 use Rattle.std.proofs.Common.{refl, sym, ◌∙◌, ap, subst, arith, inl, inr, ⊎_elim}
 use Rattle.std.proofs.lemmas.Option.{same_Some}
@@ -17,7 +17,7 @@ use Rattle.edge_uses.specs.Closed.{IsJoined, IsPaired, IsReached, IsLinked, IsAp
 use Rattle.solid_data.proofs.Members.{all_append, from_flat_map, has_map, Has, All-at, has_get}
 use Rattle.solid_data.proofs.Occurring.{numbers_have}
 use Rattle.edge_uses.proofs.FollowRows.{each_is_followed}
-use Rattle.topo_certificate.specs.Stand.{rows_of_shell}
+use Rattle.topo_certificate.specs.Stand.{rows_of_shell, loops_of, loops_of_shell}
 use Rattle.edge_uses.proofs.RowFacts.{edges_rise, vertices_rise}
 use Rattle.edge_uses.proofs.Turn.{PairedRows, are_turning}
 use Rattle.topo_certificate.proofs.Segment.{AreGoodRows, row_has}
@@ -86,12 +86,13 @@ points_differ s shell x y h k face place =
 pub paired_rows_of : (d : ShellRows) → AreGoodRows d → AllByRecursion (IsPaired d) d.edges → PairedRows d
 paired_rows_of d good all n a at = All-at (IsPaired d) d.edges all a.edge.0 (row_has (λ (r : Row). Has d.edges r.edge.0) d.rows n a good.edges at)
 
-shell_ready : (s : SolidData) (k : ℕ) (shell : Shell) → IsSmall s (shell_rows s shell) → AreGoodRows (shell_rows s shell) → IsClosedShell s k shell → AreReady s (shell_rows s shell)
+shell_ready : (s : SolidData) (k : ℕ) (shell : Shell) → IsSmall s (shell_rows s shell) × (loops_of (Some shell) < 10 ^ 9) → AreGoodRows (shell_rows s shell) → IsClosedShell s k shell → AreReady s (shell_rows s shell) (loops_of (Some shell))
 shell_ready s k shell small good closed =
     let d : ShellRows = shell_rows s shell in
     let zero_more : (f : ℕ) → 0 + f ≡ f = λ f. omega arith in
     record {
-      small = small;
+      small = small.0;
+      few_loops = small.1;
       good = good;
       proper = record {
         paired = All-at (IsPaired d) d.edges closed.paired;
@@ -127,7 +128,7 @@ pub apart_all : (s : SolidData) (xs : List (ℕ × Shell)) → AllByRecursion (�
 apart_all s [] all = tt
 apart_all s (h ∷ xs) all = (all.0.apart, apart_all s xs all.1)
 
-pub closed_is_ready : (s : SolidData) → ((shell : Shell) → Has s.shells shell → IsClosedSolid s → IsSmall s (shell_rows s shell)) → AllKnown s → IsClosedSolid s → (j : ℕ) → j < length s.shells → AreReady s (rows_of_shell s (suc j))
+pub closed_is_ready : (s : SolidData) → ((shell : Shell) → Has s.shells shell → IsClosedSolid s → IsSmall s (shell_rows s shell) × (loops_of (Some shell) < 10 ^ 9)) → AllKnown s → IsClosedSolid s → (j : ℕ) → j < length s.shells → AreReady s (rows_of_shell s (suc j)) (loops_of_shell s (suc j))
 closed_is_ready s small known closed j lt = at_shell (slice_get s.shells j) refl
   where
     some_there : (xs : List Shell) (n : ℕ) → n < length xs → slice_get xs n ≡ None → ⊥
@@ -135,7 +136,7 @@ closed_is_ready s small known closed j lt = at_shell (slice_get s.shells j) refl
     some_there (x ∷ xs) zero lt e = cc
     some_there (x ∷ xs) (suc n) lt e = some_there xs n (omega (arith, lt)) e
 
-    at_shell : (o : Option Shell) → slice_get s.shells j ≡ o → AreReady s (rows_of s o)
+    at_shell : (o : Option Shell) → slice_get s.shells j ≡ o → AreReady s (rows_of s o) (loops_of o)
     at_shell None e = absurd (some_there s.shells j lt e)
     at_shell (Some shell) e =
         let good : AreGoodRows (rows_of s (slice_get s.shells j)) = good_rows s (closed_joins s closed) known (suc j) in

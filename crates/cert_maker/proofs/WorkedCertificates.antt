@@ -1,12 +1,16 @@
 -- Certificates of worked files.
-use Rattle.std.specs.Prelude.{List, [], ◌∷◌}
-use Rattle.cert_lines.specs.Line.{CertLine, head, solid, shell, edge, corner, point, reach, end}
+use Rattle.std.specs.Prelude.{ℕ, List, [], ◌∷◌}
+use Rattle.cert_lines.specs.Line.{CertLine, ShellCounts, Tally, head, solid, shell, edge, corner, point, reach, tally, end}
+use Rattle.cert_lines.specs.declared.version.Version.TheVariants.{One, Two}
+
+abbrev pub counts : ℕ → ℕ → ℕ → ℕ → ShellCounts
+counts r e c f = record { rows = r; edges = e; corners = c; faces = f }
 
 abbrev pub cylinder_lines : List CertLine
 cylinder_lines =
-    head
+    head One
     ∷ (solid 1)
-    ∷ (shell 1 6 3 2 3)
+    ∷ (shell 1 (counts 6 3 2 3))
     ∷ (edge 1 5)
     ∷ (edge 2 4)
     ∷ (edge 6 3)
@@ -19,9 +23,9 @@ cylinder_lines =
 
 abbrev pub ball_with_seam_lines : List CertLine
 ball_with_seam_lines =
-    head
+    head One
     ∷ (solid 1)
-    ∷ (shell 1 2 1 2 1)
+    ∷ (shell 1 (counts 2 1 2 1))
     ∷ (edge 1 2)
     ∷ (corner (1 ∷ []))
     ∷ (corner (2 ∷ []))
@@ -30,18 +34,18 @@ ball_with_seam_lines =
 
 abbrev pub ball_at_one_vertex_lines : List CertLine
 ball_at_one_vertex_lines =
-    head
+    head One
     ∷ (solid 1)
-    ∷ (shell 1 0 0 1 1)
+    ∷ (shell 1 (counts 0 0 1 1))
     ∷ (point 1 1)
     ∷ end
     ∷ []
 
 abbrev pub cube_lines : List CertLine
 cube_lines =
-    head
+    head One
     ∷ (solid 1)
-    ∷ (shell 1 24 12 8 6)
+    ∷ (shell 1 (counts 24 12 8 6))
     ∷ (edge 21 1)
     ∷ (edge 17 2)
     ∷ (edge 13 3)

@@ -1,15 +1,22 @@
 -- A worked certificate is legal.
 use Rattle.std.proofs.Common.{refl, lit<, lit≤, inl, inr, arith}
-use Rattle.std.specs.Prelude.{◌≢◌, ℕ, List, [], ◌∷◌, map, drop, Contains}
+use Rattle.std.specs.Prelude.{◌≡◌, ◌≢◌, ℕ, List, [], ◌∷◌, map, drop, Contains}
 use Rattle.std.proofs.lemmas.Map.Made.{Contains-tail}
 use Rattle.std.specs.Fmt.{digits}
-use Rattle.cert_lines.specs.Line.{shell, edge, corner, point, reach, end, spelling}
-use Rattle.topo_certificate.specs.Stand.{stand_behind}
+use Rattle.topo_certificate.specs.Upgraded.{with_tallies}
+use Rattle.cert_lines.specs.Line.{CertLine, shell, edge, corner, point, reach, tally, end, spelling}
+use Rattle.topo_certificate.specs.Stand.{stand_behind, NoneDue}
 use Rattle.topo_certificate.specs.Legal.{IsLegal}
+use Rattle.topo_certificate.specs.Behind.{IsLegalBehind}
+use Rattle.topo_certificate.proofs.Forward.{legal_forward}
+use Rattle.cert_lines.specs.declared.version.Version.TheVariants.{One, Two}
 use Rattle.brep_walk.specs.SolidOf.{solid_of}
 use Rattle.edge_uses.specs.ShellRows.{shell_rows}
 use Rattle.cert_maker.proofs.WorkedFiles.{ball_at_one_vertex, ball_with_seam, cylinder, cube}
-use Rattle.cert_maker.proofs.WorkedCertificates.{ball_at_one_vertex_lines, ball_with_seam_lines, cylinder_lines, cube_lines}
+use Rattle.cert_maker.proofs.WorkedCertificates.{counts, ball_at_one_vertex_lines, ball_with_seam_lines, cylinder_lines, cube_lines}
+
+none : NoneDue (record { edges = 0; corners = 0; reach = 0; tally = 0 })
+none = record { edges = refl; corners = refl; reach = refl; tally = refl }
 
 not_nil : (q : ℕ) → ¬ Contains [] q
 not_nil q c = omega (arith, c.1)
@@ -17,12 +24,12 @@ not_nil q c = omega (arith, c.1)
 not_cons : (x q : ℕ) (xs : List ℕ) → x ≢ q → ¬ Contains xs q → ¬ Contains (x ∷ xs) q
 not_cons x q xs ne h c = h (Contains-tail x xs q ne c)
 
-pub ball_at_one_vertex_legal : IsLegal (solid_of ball_at_one_vertex 1) (map spelling (drop 2 ball_at_one_vertex_lines))
-unfolding IsLegal stand_behind solid_of shell_rows digits
-ball_at_one_vertex_legal = (
-  (shell 1 0 0 1 1),
+ball_at_one_vertex_behind : IsLegalBehind One (solid_of ball_at_one_vertex 1) [] (map spelling (drop 2 ball_at_one_vertex_lines))
+unfolding stand_behind solid_of shell_rows digits
+ball_at_one_vertex_behind = (
+  (shell 1 (counts 0 0 1 1)),
   (lit≤ tt, ((lit< tt, (lit< tt, (lit< tt, (lit< tt, (lit< tt, tt))))), refl)),
-  (refl, ((refl, refl, refl), record { next = refl; there = lit< tt; rows_counted = refl; edges_counted = refl; corners_counted = refl; faces_counted = refl; two_rows_each = refl })),
+  (refl, (none, record { next = refl; there = lit< tt; rows_counted = refl; edges_counted = refl; corners_counted = refl; faces_counted = refl; two_rows_each = refl })),
   (
     (point 1 1),
     (lit≤ tt, ((lit< tt, lit< tt), refl)),
@@ -30,18 +37,18 @@ ball_at_one_vertex_legal = (
     (
       end,
       (lit≤ tt, (tt, refl)),
-      (refl, ((refl, refl, refl), refl)),
+      (refl, (none, refl)),
       refl,
     ),
   ),
 )
 
-pub ball_with_seam_legal : IsLegal (solid_of ball_with_seam 1) (map spelling (drop 2 ball_with_seam_lines))
-unfolding IsLegal stand_behind solid_of shell_rows digits
-ball_with_seam_legal = (
-  (shell 1 2 1 2 1),
+ball_with_seam_behind : IsLegalBehind One (solid_of ball_with_seam 1) [] (map spelling (drop 2 ball_with_seam_lines))
+unfolding stand_behind solid_of shell_rows digits
+ball_with_seam_behind = (
+  (shell 1 (counts 2 1 2 1)),
   (lit≤ tt, ((lit< tt, (lit< tt, (lit< tt, (lit< tt, (lit< tt, tt))))), refl)),
-  (refl, ((refl, refl, refl), record { next = refl; there = lit< tt; rows_counted = refl; edges_counted = refl; corners_counted = refl; faces_counted = refl; two_rows_each = refl })),
+  (refl, (none, record { next = refl; there = lit< tt; rows_counted = refl; edges_counted = refl; corners_counted = refl; faces_counted = refl; two_rows_each = refl })),
   (
     (edge 1 2),
     (lit≤ tt, ((lit< tt, lit< tt), refl)),
@@ -57,7 +64,7 @@ ball_with_seam_legal = (
         (
           end,
           (lit≤ tt, (tt, refl)),
-          (refl, ((refl, refl, refl), refl)),
+          (refl, (none, refl)),
           refl,
         ),
       ),
@@ -65,12 +72,12 @@ ball_with_seam_legal = (
   ),
 )
 
-pub cylinder_legal : IsLegal (solid_of cylinder 1) (map spelling (drop 2 cylinder_lines))
-unfolding IsLegal stand_behind solid_of shell_rows digits
-cylinder_legal = (
-  (shell 1 6 3 2 3),
+cylinder_behind : IsLegalBehind One (solid_of cylinder 1) [] (map spelling (drop 2 cylinder_lines))
+unfolding stand_behind solid_of shell_rows digits
+cylinder_behind = (
+  (shell 1 (counts 6 3 2 3)),
   (lit≤ tt, ((lit< tt, (lit< tt, (lit< tt, (lit< tt, (lit< tt, tt))))), refl)),
-  (refl, ((refl, refl, refl), record { next = refl; there = lit< tt; rows_counted = refl; edges_counted = refl; corners_counted = refl; faces_counted = refl; two_rows_each = refl })),
+  (refl, (none, record { next = refl; there = lit< tt; rows_counted = refl; edges_counted = refl; corners_counted = refl; faces_counted = refl; two_rows_each = refl })),
   (
     (edge 1 5),
     (lit≤ tt, ((lit< tt, lit< tt), refl)),
@@ -94,15 +101,15 @@ cylinder_legal = (
             (
               (reach 5),
               (lit≤ tt, (lit< tt, refl)),
-              (refl, (refl, refl, lit< tt, record { mate = 1; face = 1; known = 0; mates = inr (2, lit< tt, refl); on_face = refl; on_known = refl; new = not_cons 0 1 ([]) (omega arith) (not_nil 1); old = (0, lit< tt, refl) })),
+              (refl, ((refl, refl, lit< tt), record { mate = 1; face = 1; known = 0; mates = inr (2, lit< tt, refl); on_face = refl; on_known = refl; new = not_cons 0 1 ([]) (omega arith) (not_nil 1); old = (0, lit< tt, refl) })),
               (
                 (reach 6),
                 (lit≤ tt, (lit< tt, refl)),
-                (refl, (refl, refl, lit< tt, record { mate = 3; face = 2; known = 0; mates = inl (0, lit< tt, refl); on_face = refl; on_known = refl; new = not_cons 0 2 (1 ∷ []) (omega arith) (not_cons 1 2 ([]) (omega arith) (not_nil 2)); old = (0, lit< tt, refl) })),
+                (refl, ((refl, refl, lit< tt), record { mate = 3; face = 2; known = 0; mates = inl (0, lit< tt, refl); on_face = refl; on_known = refl; new = not_cons 0 2 (1 ∷ []) (omega arith) (not_cons 1 2 ([]) (omega arith) (not_nil 2)); old = (0, lit< tt, refl) })),
                 (
                   end,
                   (lit≤ tt, (tt, refl)),
-                  (refl, ((refl, refl, refl), refl)),
+                  (refl, (none, refl)),
                   refl,
                 ),
               ),
@@ -114,12 +121,12 @@ cylinder_legal = (
   ),
 )
 
-pub cube_legal : IsLegal (solid_of cube 1) (map spelling (drop 2 cube_lines))
-unfolding IsLegal stand_behind solid_of shell_rows digits
-cube_legal = (
-  (shell 1 24 12 8 6),
+cube_behind : IsLegalBehind One (solid_of cube 1) [] (map spelling (drop 2 cube_lines))
+unfolding stand_behind solid_of shell_rows digits
+cube_behind = (
+  (shell 1 (counts 24 12 8 6)),
   (lit≤ tt, ((lit< tt, (lit< tt, (lit< tt, (lit< tt, (lit< tt, tt))))), refl)),
-  (refl, ((refl, refl, refl), record { next = refl; there = lit< tt; rows_counted = refl; edges_counted = refl; corners_counted = refl; faces_counted = refl; two_rows_each = refl })),
+  (refl, (none, record { next = refl; there = lit< tt; rows_counted = refl; edges_counted = refl; corners_counted = refl; faces_counted = refl; two_rows_each = refl })),
   (
     (edge 21 1),
     (lit≤ tt, ((lit< tt, lit< tt), refl)),
@@ -203,27 +210,27 @@ cube_legal = (
                                           (
                                             (reach 21),
                                             (lit≤ tt, (lit< tt, refl)),
-                                            (refl, (refl, refl, lit< tt, record { mate = 1; face = 5; known = 0; mates = inl (11, lit< tt, refl); on_face = refl; on_known = refl; new = not_cons 0 5 ([]) (omega arith) (not_nil 5); old = (0, lit< tt, refl) })),
+                                            (refl, ((refl, refl, lit< tt), record { mate = 1; face = 5; known = 0; mates = inl (11, lit< tt, refl); on_face = refl; on_known = refl; new = not_cons 0 5 ([]) (omega arith) (not_nil 5); old = (0, lit< tt, refl) })),
                                             (
                                               (reach 17),
                                               (lit≤ tt, (lit< tt, refl)),
-                                              (refl, (refl, refl, lit< tt, record { mate = 2; face = 4; known = 0; mates = inl (10, lit< tt, refl); on_face = refl; on_known = refl; new = not_cons 0 4 (5 ∷ []) (omega arith) (not_cons 5 4 ([]) (omega arith) (not_nil 4)); old = (0, lit< tt, refl) })),
+                                              (refl, ((refl, refl, lit< tt), record { mate = 2; face = 4; known = 0; mates = inl (10, lit< tt, refl); on_face = refl; on_known = refl; new = not_cons 0 4 (5 ∷ []) (omega arith) (not_cons 5 4 ([]) (omega arith) (not_nil 4)); old = (0, lit< tt, refl) })),
                                               (
                                                 (reach 13),
                                                 (lit≤ tt, (lit< tt, refl)),
-                                                (refl, (refl, refl, lit< tt, record { mate = 3; face = 3; known = 0; mates = inl (9, lit< tt, refl); on_face = refl; on_known = refl; new = not_cons 0 3 (4 ∷ 5 ∷ []) (omega arith) (not_cons 4 3 (5 ∷ []) (omega arith) (not_cons 5 3 ([]) (omega arith) (not_nil 3))); old = (0, lit< tt, refl) })),
+                                                (refl, ((refl, refl, lit< tt), record { mate = 3; face = 3; known = 0; mates = inl (9, lit< tt, refl); on_face = refl; on_known = refl; new = not_cons 0 3 (4 ∷ 5 ∷ []) (omega arith) (not_cons 4 3 (5 ∷ []) (omega arith) (not_cons 5 3 ([]) (omega arith) (not_nil 3))); old = (0, lit< tt, refl) })),
                                                 (
                                                   (reach 9),
                                                   (lit≤ tt, (lit< tt, refl)),
-                                                  (refl, (refl, refl, lit< tt, record { mate = 4; face = 2; known = 0; mates = inl (8, lit< tt, refl); on_face = refl; on_known = refl; new = not_cons 0 2 (3 ∷ 4 ∷ 5 ∷ []) (omega arith) (not_cons 3 2 (4 ∷ 5 ∷ []) (omega arith) (not_cons 4 2 (5 ∷ []) (omega arith) (not_cons 5 2 ([]) (omega arith) (not_nil 2)))); old = (0, lit< tt, refl) })),
+                                                  (refl, ((refl, refl, lit< tt), record { mate = 4; face = 2; known = 0; mates = inl (8, lit< tt, refl); on_face = refl; on_known = refl; new = not_cons 0 2 (3 ∷ 4 ∷ 5 ∷ []) (omega arith) (not_cons 3 2 (4 ∷ 5 ∷ []) (omega arith) (not_cons 4 2 (5 ∷ []) (omega arith) (not_cons 5 2 ([]) (omega arith) (not_nil 2)))); old = (0, lit< tt, refl) })),
                                                   (
                                                     (reach 8),
                                                     (lit≤ tt, (lit< tt, refl)),
-                                                    (refl, (refl, refl, lit< tt, record { mate = 23; face = 1; known = 5; mates = inl (4, lit< tt, refl); on_face = refl; on_known = refl; new = not_cons 0 1 (2 ∷ 3 ∷ 4 ∷ 5 ∷ []) (omega arith) (not_cons 2 1 (3 ∷ 4 ∷ 5 ∷ []) (omega arith) (not_cons 3 1 (4 ∷ 5 ∷ []) (omega arith) (not_cons 4 1 (5 ∷ []) (omega arith) (not_cons 5 1 ([]) (omega arith) (not_nil 1))))); old = (4, lit< tt, refl) })),
+                                                    (refl, ((refl, refl, lit< tt), record { mate = 23; face = 1; known = 5; mates = inl (4, lit< tt, refl); on_face = refl; on_known = refl; new = not_cons 0 1 (2 ∷ 3 ∷ 4 ∷ 5 ∷ []) (omega arith) (not_cons 2 1 (3 ∷ 4 ∷ 5 ∷ []) (omega arith) (not_cons 3 1 (4 ∷ 5 ∷ []) (omega arith) (not_cons 4 1 (5 ∷ []) (omega arith) (not_cons 5 1 ([]) (omega arith) (not_nil 1))))); old = (4, lit< tt, refl) })),
                                                     (
                                                       end,
                                                       (lit≤ tt, (tt, refl)),
-                                                      (refl, ((refl, refl, refl), refl)),
+                                                      (refl, (none, refl)),
                                                       refl,
                                                     ),
                                                   ),
@@ -252,3 +259,56 @@ cube_legal = (
     ),
   ),
 )
+
+pub ball_at_one_vertex_legal : IsLegal One (solid_of ball_at_one_vertex 1) (map spelling (drop 2 ball_at_one_vertex_lines))
+ball_at_one_vertex_legal = legal_forward One (solid_of ball_at_one_vertex 1) (map spelling (drop 2 ball_at_one_vertex_lines)) ball_at_one_vertex_behind
+
+pub ball_with_seam_legal : IsLegal One (solid_of ball_with_seam 1) (map spelling (drop 2 ball_with_seam_lines))
+ball_with_seam_legal = legal_forward One (solid_of ball_with_seam 1) (map spelling (drop 2 ball_with_seam_lines)) ball_with_seam_behind
+
+pub cylinder_legal : IsLegal One (solid_of cylinder 1) (map spelling (drop 2 cylinder_lines))
+cylinder_legal = legal_forward One (solid_of cylinder 1) (map spelling (drop 2 cylinder_lines)) cylinder_behind
+
+pub cube_legal : IsLegal One (solid_of cube 1) (map spelling (drop 2 cube_lines))
+cube_legal = legal_forward One (solid_of cube 1) (map spelling (drop 2 cube_lines)) cube_behind
+
+-- the same ball in version 2, whose shell ends in a line of its counts
+abbrev pub ball_in_version_two : List CertLine
+ball_in_version_two =
+    (shell 1 (counts 0 0 1 1))
+    ∷ (point 1 1)
+    ∷ (tally (record { vertices = 1; edges = 0; faces = 1; loops = 1 }))
+    ∷ end
+    ∷ []
+
+ball_in_version_two_behind : IsLegalBehind Two (solid_of ball_at_one_vertex 1) [] (map spelling ball_in_version_two)
+unfolding stand_behind solid_of shell_rows digits
+ball_in_version_two_behind = (
+  (shell 1 (counts 0 0 1 1)),
+  (lit≤ tt, ((lit< tt, (lit< tt, (lit< tt, (lit< tt, (lit< tt, tt))))), refl)),
+  (refl, (none, record { next = refl; there = lit< tt; rows_counted = refl; edges_counted = refl; corners_counted = refl; faces_counted = refl; two_rows_each = refl })),
+  (
+    (point 1 1),
+    (lit≤ tt, ((lit< tt, lit< tt), refl)),
+    (refl, ((refl, lit< tt), record { vertex = 0; lies_at = refl; no_row = refl; one_point = refl; rises = tt })),
+    (
+      (tally (record { vertices = 1; edges = 0; faces = 1; loops = 1 })),
+      (lit≤ tt, ((lit< tt, (lit< tt, (lit< tt, (lit< tt, tt)))), refl)),
+      (refl, ((refl, refl, refl, lit< tt), record { vertices_counted = refl; edges_counted = refl; faces_counted = refl; loops_counted = refl })),
+      (
+        end,
+        (lit≤ tt, (tt, refl)),
+        (refl, (none, refl)),
+        refl,
+      ),
+    ),
+  ),
+)
+
+pub ball_in_version_two_legal : IsLegal Two (solid_of ball_at_one_vertex 1) (map spelling ball_in_version_two)
+ball_in_version_two_legal = legal_forward Two (solid_of ball_at_one_vertex 1) (map spelling ball_in_version_two) ball_in_version_two_behind
+
+-- and what upgrading makes of its lines of version 1
+pub ball_upgraded : with_tallies (solid_of ball_at_one_vertex 1) 0 (map spelling (drop 2 ball_at_one_vertex_lines)) ≡ map spelling ball_in_version_two
+unfolding solid_of shell_rows digits
+ball_upgraded = refl

@@ -3,7 +3,8 @@ use Rattle.std.proofs.Common.{refl}
 use Rattle.std.specs.Prelude.{◌≡◌, false, [], ◌∷◌, ◌++◌, map, flat_map, codes, reverse, take, drop, Some}
 use Rattle.std.specs.Fmt.{digits}
 use Rattle.cert_lines.specs.Line.{words, spelling, cut_lines, line_limit}
-use Rattle.topo_certificate.specs.Stand.{stand_behind}
+use Rattle.topo_certificate.specs.Stand.{stand_behind, stand_after}
+use Rattle.cert_lines.specs.declared.version.Version.TheVariants.{One}
 use Rattle.brep_walk.specs.SolidOf.{solid_of}
 use Rattle.edge_uses.specs.ShellRows.{shell_rows}
 use Rattle.cert_maker.proofs.WorkedFiles.{cylinder, cube}
@@ -26,13 +27,10 @@ pub rest_cut : cut_lines (codes "E 1" ++ 10 ∷ codes "R") ≡ (codes "E 1" ++ 1
 rest_cut = refl
 
 -- the stand before END
-pub cylinder_stand : stand_behind (solid_of cylinder 1) (drop 1 (reverse (drop 2 cylinder_lines))) ≡ record {
-  number = 11;
+pub cylinder_stand : stand_after One (solid_of cylinder 1) (take 8 (drop 2 cylinder_lines)) ≡ record {
   ended = false;
   shell = 1;
-  edges_due = 0;
-  corners_due = 0;
-  reach_due = 0;
+  due = record { edges = 0; corners = 0; reach = 0; tally = 0 };
   mates = (6, 3) ∷ (2, 4) ∷ (1, 5) ∷ [];
   last_edge = Some 2;
   last_vertex = Some 1;
@@ -42,13 +40,10 @@ unfolding stand_behind solid_of shell_rows
 cylinder_stand = refl
 
 -- the stand behind the edges and two corners
-pub cube_stand : stand_behind (solid_of cube 1) (reverse (take 15 (drop 2 cube_lines))) ≡ record {
-  number = 18;
+pub cube_stand : stand_after One (solid_of cube 1) (take 15 (drop 2 cube_lines)) ≡ record {
   ended = false;
   shell = 1;
-  edges_due = 0;
-  corners_due = 6;
-  reach_due = 5;
+  due = record { edges = 0; corners = 6; reach = 5; tally = 0 };
   mates = (18, 24) ∷ (14, 20) ∷ (22, 12) ∷ (10, 16) ∷ (8, 23) ∷ (7, 19) ∷ (6, 15) ∷ (5, 11) ∷ (9, 4) ∷ (13, 3) ∷ (17, 2) ∷ (21, 1) ∷ [];
   last_edge = Some 11;
   last_vertex = Some 1;

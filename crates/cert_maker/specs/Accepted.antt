@@ -1,6 +1,7 @@
--- Which certificates are accepted for a file.
-use Rattle.std.specs.Prelude.{ℕ, List, flat_map}
+-- Which certificates are accepted for a file, and which solids they name.
+use Rattle.std.specs.Prelude.{◌≡◌, ℕ, ◌<◌, List, [], ◌∷◌, ◌++◌, length, map, flat_map}
 use Rattle.std.specs.List.{AllByRecursion, enumerate_from}
+use Rattle.std.specs.List.Sorted.{IsStrictlyIncreasing}
 use Rattle.iges_params.specs.Contents.{Contents}
 use Rattle.brep_walk.specs.Places.{places}
 use Rattle.brep_walk.specs.SolidOf.{solid_of}
@@ -9,8 +10,11 @@ use Rattle.solid_data.specs.Obligations.{AllHold}
 use Rattle.solid_data.specs.declared.solid.Shell.{Shell}
 use Rattle.edge_uses.specs.ShellRows.{shell_rows}
 use Rattle.edge_uses.specs.Closed.{IsJoined, IsApart}
-use Rattle.cert_lines.specs.Opening.{Opens}
+use Rattle.cert_lines.specs.Line.{solid, end, spelling, IsSpelled}
+use Rattle.cert_lines.specs.Opening.{Opens, IsHeaded}
 use Rattle.topo_certificate.specs.Legal.{IsLegal}
+use Rattle.cert_lines.specs.declared.version.Version.{Version}
+use Rattle.cert_lines.specs.declared.version.Version.TheVariants.{One, Two, Three}
 
 -- each loop of the solid joins
 abbrev pub AllJoin : SolidData → Type 0
@@ -20,11 +24,45 @@ AllJoin s = AllByRecursion (λ (p : PlacedLoop). IsJoined s p.loop) (flat_map pl
 abbrev pub AllApart : SolidData → Type 0
 AllApart s = AllByRecursion (λ (h : ℕ × Shell). AllByRecursion (IsApart s h.0) (shell_rows s h.1).vertices) (enumerate_from 0 s.shells)
 
--- The certificate is accepted for solid n of the file.
-pub record IsAccepted (f : Contents) (n : ℕ) (certificate : List ℕ) : Type 0 where
-  pub rest : List (List ℕ)
-  pub opens : Opens certificate n rest
+-- Solid n of the file has its places, its loops join, its vertices are apart, and these lines, the last of them END, are legal for it.
+pub record Certify (v : Version) (f : Contents) (n : ℕ) (lines : List (List ℕ)) : Type 0 where
   pub placed : AllHold (places f n)
   pub joined : AllJoin (solid_of f n)
   pub apart : AllApart (solid_of f n)
-  pub legal : IsLegal (solid_of f n) rest
+  pub legal : IsLegal v (solid_of f n) lines
+
+-- A certificate of one solid: it opens with the head of its version and the number of the solid, and its further lines certify this.
+pub record IsAcceptedAlone (v : Version) (f : Contents) (n : ℕ) (certificate : List ℕ) : Type 0 where
+  pub rest : List (List ℕ)
+  pub opens : Opens certificate v n rest
+  pub certified : Certify v f n rest
+
+-- A part of a book: the solid that it names, the bytes of the line that names it, and those of its further lines.
+pub record Part : Type 0 where
+  pub solid : ℕ
+  pub first : List ℕ
+  pub further : List (List ℕ)
+
+abbrev pub part_lines : Part → List (List ℕ)
+part_lines p = p.first ∷ p.further
+
+abbrev pub solids_named : List Part → List ℕ
+solids_named parts = map (λ (p : Part). p.solid) parts
+
+-- It names its solid, and its further lines, and then END, certify this as a certificate of version 2 does.
+pub record IsGoodPart (f : Contents) (p : Part) : Type 0 where
+  pub names : IsSpelled p.first (solid p.solid)
+  pub certified : Certify Two f p.solid (p.further ++ spelling end ∷ [])
+
+-- A book: behind the head of version 3 stand one or more good parts, by rising solid, and then END.
+pub record IsAcceptedBook (f : Contents) (certificate : List ℕ) (parts : List Part) : Type 0 where
+  pub headed : IsHeaded certificate Three (flat_map part_lines parts ++ spelling end ∷ [])
+  pub some : 0 < length parts
+  pub rising : IsStrictlyIncreasing (solids_named parts)
+  pub good : AllByRecursion (IsGoodPart f) parts
+
+-- The certificate has this version, is accepted for the file, and names these solids.
+abbrev pub IsAccepted : Contents → List ℕ → Version → List ℕ → Type 0
+IsAccepted f certificate One ns = (n : ℕ) × (ns ≡ n ∷ []) × IsAcceptedAlone One f n certificate
+IsAccepted f certificate Two ns = (n : ℕ) × (ns ≡ n ∷ []) × IsAcceptedAlone Two f n certificate
+IsAccepted f certificate Three ns = (parts : List Part) × (ns ≡ solids_named parts) × IsAcceptedBook f certificate parts

@@ -7,6 +7,7 @@ use Rattle.solid_data.specs.declared.verdict.Failing.{Failing}
 use Rattle.cert_lines.specs.Line.{CertLine, end, spelling, HasSpelling}
 use Rattle.topo_certificate.specs.Legal.{IsLegal}
 use Rattle.cert_lines.specs.Written.{shell_lines, certificate_lines}
+use Rattle.cert_lines.specs.declared.version.Version.TheVariants.{Two}
 use Rattle.cert_lines.specs.declared.parts.Certificate.{Certificate}
 use Rattle.cert_maker.specs.Accepted.{AllJoin, AllApart}
 use Rattle.cert_maker.specs.declared.fault.MakeFault.{MakeFault}
@@ -14,13 +15,14 @@ use Rattle.cert_maker.specs.declared.fault.MakeFault.TheVariants.{Fails, NoMemor
 
 -- the lines behind the head and the solid
 abbrev pub further_lines : Certificate → List CertLine
-further_lines c = flat_map shell_lines (enumerate_from 1 c.shells) ++ end ∷ []
+further_lines c = flat_map (shell_lines c.version) (enumerate_from 1 c.shells) ++ end ∷ []
 
--- A certificate of the solid: it names it, its lines can be spelled, those behind the first two are legal, each loop joins and each vertex is apart.
+-- A certificate of the solid: it is of version 2 and names it, its lines can be spelled, those behind the first two are legal, each loop joins and each vertex is apart.
 pub record IsCertificate (s : SolidData) (c : Certificate) : Type 0 where
+  pub version : c.version ≡ Two
   pub names : c.solid ≡ s.entity
   pub spelled : AllByRecursion HasSpelling (certificate_lines c)
-  pub legal : IsLegal s (map spelling (further_lines c))
+  pub legal : IsLegal Two s (map spelling (further_lines c))
   pub joined : AllJoin s
   pub apart : AllApart s
 

@@ -2,6 +2,8 @@ pub mod Closed
 pub mod Accepted
 pub mod Laws
 pub mod Checked
+pub mod Book
+pub mod Whole
 pub mod Certified
 pub mod Parts
 pub mod Naming

@@ -7,6 +7,7 @@ ghost use Rattle.brep_walk.specs.SolidOf.{solid_of};
 ghost use Rattle.solid_data.specs.Obligations.{AllHold, FirstFalse};
 ghost use Rattle.solid_data.specs.declared.verdict.Failing.{Failing as Named};
 ghost use Rattle.edge_uses.specs.ShellObligations.{solid_obligations};
+ghost use Rattle.cert_lines.specs.declared.version.Version.TheVariants.{Two as EditionTwo};
 ghost use Rattle.cert_lines.specs.Written.{certificate_lines, text_of};
 ghost use Rattle.cert_maker.specs.Accepted.{IsAccepted};
 ghost use Rattle.cert_maker.specs.Certified.{IsCertificate, IsMakeFault, IsNoMemory, FailsSo};
@@ -18,7 +19,7 @@ use edge_uses::VerticesBefore;
 use iges_fields::NoMemory;
 use solid_data::{Shell, ShellAt, Solid};
 use std::alloc::Global;
-use topo_certificate::{Certificate, ShellPart, ShellParts};
+use topo_certificate::{Certificate, ShellPart, ShellParts, Version};
 
 pub(crate) fn shell_at(solid: &Solid, at: ShellAt) -> &Shell
     requires { at.0 < length solid.now.shells }
@@ -51,12 +52,12 @@ fn shell_parts(alloc: Global, solid: &Solid) -> Result<ShellParts, MakeFault>
     Ok(parts)
 }
 
-/// The certificate of a closed solid, or the first rule on its shells that fails, with the entity and its item that
+/// The certificate of a closed solid, of version 2, or the first rule on its shells that fails, with the entity and its item that
 /// break it: shell by shell JOIN of the loops, PAIR of the edges, REACH of the faces, LINK and then APART of the
 /// vertices, by rising number. Its text is accepted for each file whose solid this is. (own)
 pub fn certify(alloc: Global, solid: &Solid) -> Result<Certificate, MakeFault>
     ensures certificate { IfOk result (IsCertificate solid.now) }
-    ensures accepted { IfOk result (λ c. (f : Contents) (n : ℕ) → AllHold (places f n) → solid.now ≡ solid_of f n → IsAccepted f n (text_of (certificate_lines c))) }
+    ensures accepted { IfOk result (λ c. (f : Contents) (n : ℕ) → AllHold (places f n) → solid.now ≡ solid_of f n → IsAccepted f (text_of (certificate_lines c)) EditionTwo (n ∷ [])) }
     ensures holds { OnOk result (AllHold (solid_obligations solid.now)) }
     ensures fault { IfErr result (IsMakeFault (solid_obligations solid.now)) }
     ensures only { AllHold (solid_obligations solid.now) → IfErr result IsNoMemory }
@@ -64,6 +65,7 @@ pub fn certify(alloc: Global, solid: &Solid) -> Result<Certificate, MakeFault>
 {
     let shells = shell_parts(alloc, solid)?;
     Ok(Certificate {
+        version: Version::Two,
         solid: solid.entity(),
         shells,
     })

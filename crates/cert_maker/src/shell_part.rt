@@ -1,6 +1,6 @@
 //! A shell's part of a certificate.
 
-ghost use Rattle.std.specs.Prelude.{◌≡◌, ◌+◌, Some, IfOk, IfErr, OnOk, slice_get};
+ghost use Rattle.std.specs.Prelude.{◌≡◌, ◌+◌, ◌<◌, ◌^◌, length, Some, IfOk, IfErr, OnOk, slice_get};
 ghost use Rattle.solid_data.specs.Obligations.{AllHold};
 ghost use Rattle.edge_uses.specs.Before.{AreBelow};
 ghost use Rattle.edge_uses.specs.ShellRows.{shell_rows};
@@ -8,6 +8,7 @@ ghost use Rattle.edge_uses.specs.ShellObligations.{shell_obligations};
 ghost use Rattle.vertex_link.specs.Corners.{AreLinks};
 ghost use Rattle.shell_reach.specs.Reaching.{ReachesAll, row_numbers};
 ghost use Rattle.cert_maker.specs.Certified.{IsMakeFault};
+ghost use Rattle.topo_certificate.specs.Stand.{loops_of};
 ghost use Rattle.cert_maker.specs.Parts.{IsPart};
 
 use crate::corners::corner_lines;
@@ -19,7 +20,7 @@ use iges_fields::NoMemory;
 use shell_reach::ReachList;
 use solid_data::{Shell, ShellAt, Solid};
 use std::alloc::Global;
-use topo_certificate::ShellPart;
+use topo_certificate::{ShellPart, loop_count};
 use vertex_link::Links;
 
 /// The part of a shell whose faces are reached by these rows and whose vertices have these corners.
@@ -28,10 +29,12 @@ fn part_of(
     paired: &Paired<'_>,
     reach: ReachList,
     links: Links,
+    loops: u32,
 ) -> Result<ShellPart, NoMemory>
     requires reach { ReachesAll paired.now (row_numbers reach) }
     requires links { AreLinks paired.now links }
-    ensures { IfOk result (IsPart paired.now) }
+    requires few { length paired.now.vertices < 2 ^ 30 }
+    ensures { IfOk result (IsPart paired.now loops) }
 {
     let rows = paired.rows();
     let edges = edge_pairs(alloc, paired)?;
@@ -42,7 +45,19 @@ fn part_of(
         corners,
         faces: rows.face_count() as u32,
         reach,
+        vertices: rows.vertex_count() as u32,
+        loops,
     })
+}
+
+/// How many loops a shell of a solid has.
+fn loops_in(solid: &Solid, at: ShellAt, shell: &Shell) -> u32
+    requires at { slice_get solid.now.shells at.0 ≡ Some shell.now }
+    ensures { result ≡ loops_of (Some shell.now) }
+{
+    // Its clause says that a solid has few loops.
+    let _entity = solid.entity();
+    loop_count(shell) as u32
 }
 
 /// The part of a closed shell, and the vertices of the shells up to it. The rules come in order: JOIN, PAIR, REACH,
@@ -56,7 +71,7 @@ pub(crate) fn shell_part(
 ) -> Result<(ShellPart, VerticesBefore), MakeFault>
     requires at { slice_get solid.now.shells at.0 ≡ Some shell.now }
     requires before { AreBelow solid.now at.0 before }
-    ensures part { IfOk result (λ p. IsPart (shell_rows solid.now shell.now) p.0) }
+    ensures part { IfOk result (λ p. IsPart (shell_rows solid.now shell.now) (loops_of (Some shell.now)) p.0) }
     ensures before { IfOk result (λ p. AreBelow solid.now (at.0 + 1) p.1) }
     ensures holds { OnOk result (AllHold (shell_obligations solid.now (at.0, shell.now))) }
     ensures fails { IfErr result (IsMakeFault (shell_obligations solid.now (at.0, shell.now))) }
@@ -69,6 +84,6 @@ pub(crate) fn shell_part(
     let reach = reached(alloc, shell, &paired)?;
     let links = linked(alloc, solid, &paired)?;
     apart(solid, at, before, &rows)?;
-    let part = part_of(alloc, &paired, reach, links)?;
+    let part = part_of(alloc, &paired, reach, links, loops_in(solid, at, shell))?;
     Ok((part, before.with(&rows)))
 }

@@ -143,7 +143,7 @@ fn a_seamed_ball_is_certified(rt: HostRuntime) -> Result<(), Fail> {
     let text = text_of(rt.alloc(), &solid)?;
     assert_eq!(rt;
         text.as_slice(),
-        b"IGESCERT 1\nSOLID 13\nSHELL 1 2 1 2 1\nE 1 2\nC 1\nC 2\nEND\n".as_slice()
+        b"IGESCERT 2\nSOLID 13\nSHELL 1 2 1 2 1\nE 1 2\nC 1\nC 2\nTALLY 2 1 1 1\nEND\n".as_slice()
     );
     Ok(())
 }
@@ -154,7 +154,7 @@ fn a_ball_at_one_vertex_is_certified(rt: HostRuntime) -> Result<(), Fail> {
     let text = text_of(rt.alloc(), &solid)?;
     assert_eq!(rt;
         text.as_slice(),
-        b"IGESCERT 1\nSOLID 13\nSHELL 1 0 0 1 1\nI 1 1\nEND\n".as_slice()
+        b"IGESCERT 2\nSOLID 13\nSHELL 1 0 0 1 1\nI 1 1\nTALLY 1 0 1 1\nEND\n".as_slice()
     );
     Ok(())
 }

@@ -21,13 +21,13 @@ found_row p (x ∷ rows) h = by_test (p x) refl h (λ k. found_row p rows k)
     by_test false e k on = let f = on (omega (arith, k)) in (suc f.0, f.1, f.2, f.3)
 
 -- 1 at the number and 0 elsewhere
-abbrev mark : ℕ → ℕ → ℕ
+abbrev pub mark : ℕ → ℕ → ℕ
 mark k e = cond (k == e) 1 0
 
-mark-other : (k e : ℕ) → (e ≡ k → ⊥) → mark k e ≡ 0
+pub mark-other : (k e : ℕ) → (e ≡ k → ⊥) → mark k e ≡ 0
 mark-other k e ne = ⊎_elim (λ same. absurd (ne (sym same.1))) (λ other. ap (λ b. cond b 1 0) other.0) (eqb_tells k e)
 
-mark-same : (k e : ℕ) → e ≡ k → mark k e ≡ 1
+pub mark-same : (k e : ℕ) → e ≡ k → mark k e ≡ 1
 mark-same k e same = ⊎_elim (λ y. ap (λ b. cond b 1 0) y.0) (λ n. absurd (n.1 (sym same))) (eqb_tells k e)
 
 mark-most : (k e : ℕ) → mark k e ≤ 1
@@ -46,17 +46,17 @@ marks-most k (e ∷ es) none =
     (eqb_tells k e)
 
 -- how many rows have the edge
-abbrev uses_of_edge : List Row → ℕ → ℕ
+abbrev pub uses_of_edge : List Row → ℕ → ℕ
 uses_of_edge rows e = total (λ (r : Row). mark r.edge.0 e) rows
 
 -- each row has one edge
-uses-most : (rows : List Row) (es : List ℕ) → NoRepeat es → total (uses_of_edge rows) es ≤ length rows
+pub uses-most : (rows : List Row) (es : List ℕ) → NoRepeat es → total (uses_of_edge rows) es ≤ length rows
 uses-most [] es none = let h = total-zero es in omega (arith, h)
 uses-most (r ∷ rows) es none =
     let h = total-plus (mark r.edge.0) (uses_of_edge rows) es in
     omega (arith, h, marks-most r.edge.0 es none, uses-most rows es none)
 
-marks-one : (k : ℕ) (es : List ℕ) → NoRepeat es → Has es k → total (mark k) es ≡ 1
+pub marks-one : (k : ℕ) (es : List ℕ) → NoRepeat es → Has es k → total (mark k) es ≡ 1
 marks-one k [] none h = absurd h
 marks-one k (e ∷ es) none (inl same) =
     let here : mark k e ≡ 1 = mark-same k e same in

@@ -31,6 +31,7 @@ pub use reading::rows;
 pub use row::Row;
 pub use spanning::Span;
 pub use table::Rows;
+pub use tally::{Seen, Tally, tally_of};
 
 #[cfg(test)]
 mod tests;

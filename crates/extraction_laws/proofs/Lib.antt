@@ -10,4 +10,5 @@ pub mod ExtractedEntries
 pub mod KeptVerdicts
 pub mod ExtractedSolid
 pub mod WholeVerdict
+pub mod WrittenText
 mod Worked

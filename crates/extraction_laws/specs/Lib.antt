@@ -2,3 +2,4 @@ pub mod Alike
 pub mod Relabelled
 pub mod Kept
 pub mod KeptVerdict
+pub mod Written

@@ -7,6 +7,7 @@ ghost use Rattle.extraction_laws.specs.Alike.{FailAlike, HaveOneVerdict};
 ghost use Rattle.extraction_laws.specs.Kept.{PlacesAreAlike, PlacesAreKept, SolidIsKept};
 ghost use Rattle.extraction_laws.specs.KeptVerdict.{VerdictIsKept, NoOtherVerdict, ClosedIsKept};
 ghost use Rattle.extraction_laws.specs.Relabelled.{IsImage, IsRelabelled};
+ghost use Rattle.extraction_laws.specs.Written.{ExtractedIsWritable, WrittenAgain, WrittenIsExtracted, WrittenKeepsVerdict};
 
 /// Solids that differ only in directory numbers fail the rules of a closed shell at the same loops, edges, faces and
 /// vertices. (own)
@@ -32,4 +33,25 @@ pub fn verdict_is_kept()
     ensures verdict { VerdictIsKept }
     ensures only { NoOtherVerdict }
     ensures closed { ClosedIsKept }
+{}
+
+/// What is extracted of a file whose canonical text reads back has a text that reads back. (own)
+pub fn extracted_is_writable()
+    ensures { ExtractedIsWritable }
+{}
+
+/// The canonical text of what is extracted of a file that was read, where it has at most `FILE_LIMIT` bytes, is read as
+/// exactly what was extracted. (own)
+pub fn written_is_extracted()
+    ensures { WrittenIsExtracted }
+{}
+
+/// That text is exactly one file, and the solid has the verdict there that it had, with the entity renamed. (own)
+pub fn written_keeps_verdict()
+    ensures { WrittenKeepsVerdict }
+{}
+
+/// Extracted again from that text, the solid gives the same file and the same text. (own)
+pub fn written_again()
+    ensures { WrittenAgain }
 {}

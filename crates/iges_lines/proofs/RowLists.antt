@@ -3,7 +3,7 @@ use Rattle.std.proofs.Common.{◌≡◌, ℕ, zero, suc, ◌+◌, ◌*◌, ◌<�
 use Rattle.std.specs.Prelude.{◌==◌, slice_get}
 use Rattle.std.proofs.lemmas.Bool.{eq-eqb, ne_eqb}
 use Rattle.std.proofs.lemmas.Option.{slice_get_past}
-use Rattle.std.proofs.lemmas.List.{take-append-le, drop-append-le, take_all, nil_from_length}
+use Rattle.std.proofs.lemmas.List.{take-append-le, drop-append-le, take-take, drop-take, take_all, nil_from_length}
 use Rattle.std.proofs.Math.Nat.{suc-mul}
 use Rattle.iges_fields.specs.Word.{is_empty}
 use Rattle.iges_lines.specs.Rows.{rows}
@@ -65,3 +65,21 @@ rows-count w n text view is = sym (length-rows w n text) ∙ ap length is
 pub empty_is : (n : ℕ) (xs : List (List ℕ)) → n ≡ length xs → (n == 0) ≡ is_empty xs
 empty_is n [] e = eq-eqb n 0 e
 empty_is n (x ∷ xs) e = ne_eqb n 0 (λ z. absurd (omega (arith, e, z)))
+
+-- the first lines are those of a front of the text
+pub rows-take : (w n m : ℕ) (text : List ℕ) → n ≤ m → rows w n (take (n * w) text) ≡ take n (rows w m text)
+unfolding rows
+rows-take w zero m text h = refl
+rows-take w (suc n) zero text h = absurd (omega arith)
+rows-take w (suc n) (suc m) text h =
+    let e : suc n * w ≡ w + n * w = omega (arith, more w n) in
+    ap (λ (k : ℕ). take w (take k text) ∷ rows w n (drop w (take k text))) e
+    ∙ ap (λ (x : List ℕ). x ∷ rows w n (drop w (take (w + n * w) text))) (take-take w (w + n * w) text (omega arith))
+    ∙ ap (λ (x : List ℕ). take w text ∷ rows w n x) (drop-take w (n * w) text)
+    ∙ ap (λ (x : List (List ℕ)). take w text ∷ x) (rows-take w n m (drop w text) (omega arith))
+
+pub rows_cut : (w n m : ℕ) (text new : List ℕ) (view : List (List ℕ)) → rows w m text ≡ view → n ≤ m → new ≡ take (n * w) text → rows w n new ≡ take n view
+rows_cut w n m text new view is h e = ap (rows w n) e ∙ rows-take w n m text h ∙ ap (take n) is
+
+pub rows_whole : (w n m : ℕ) (text : List ℕ) (view : List (List ℕ)) → rows w m text ≡ view → m ≤ n → rows w m text ≡ take n view
+rows_whole w n m text view is h = is ∙ sym (take_all n view (omega (arith, length-rows w m text, ap length is)))

@@ -1,5 +1,5 @@
 ghost use Rattle.iges_fields.specs.Word.{is_empty};
-ghost use Rattle.std.specs.Prelude.{◌≡◌, ◌↔◌, ◌<◌, ◌^◌, [], ◌∷◌, ◌++◌, OnOk, OnErr, length, slice_get, option_copied, IsSome, IfSome};
+ghost use Rattle.std.specs.Prelude.{◌≡◌, ◌↔◌, ◌<◌, ◌^◌, [], ◌∷◌, ◌++◌, OnOk, OnErr, length, take, slice_get, option_copied, IsSome, IfSome};
 
 use iges_fields::NoMemory;
 use std::alloc::Global;
@@ -62,6 +62,16 @@ impl LineList {
         self.text.extend_from_slice(line)?;
         self.count += 1;
         Ok(())
+    }
+
+    /// Takes off the lines behind the first ones.
+    pub fn truncate(&mut self, count: usize)
+        ensures { self.new ≡ take count self.old }
+    {
+        if count < self.count {
+            self.text.truncate(count * WIDTH);
+            self.count = count;
+        }
     }
 
     /// Takes all lines off, and gives their memory back.

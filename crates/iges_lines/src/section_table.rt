@@ -1,9 +1,10 @@
 ghost use Rattle.iges_fields.specs.Word.{is_empty};
 ghost use Rattle.iges_lines.specs.Kinds.{added, place_of};
+ghost use Rattle.iges_lines.specs.Extending.{counts_of};
 ghost use Rattle.iges_lines.specs.LineFaults.{has_count};
 ghost use Rattle.iges_lines.specs.Lines.{columns, sections};
 ghost use Rattle.std.specs.List.{list_all};
-ghost use Rattle.std.specs.Prelude.{◌≡◌, ◌↔◌, ◌+◌, ◌<◌, ◌≤◌, ◌^◌, ◌||◌, ◌&&◌, ◌==◌, [], suc, not, nat_le, nat_lt, drop, length, slice_get, slice_index_or, option_copied, OnOk, OnErr, IsSome, IfSome};
+ghost use Rattle.std.specs.Prelude.{◌≡◌, ◌↔◌, ◌+◌, ◌<◌, ◌≤◌, ◌^◌, ◌||◌, ◌&&◌, ◌==◌, [], suc, not, nat_le, nat_lt, drop, length, take, slice_get, slice_index_or, option_copied, OnOk, OnErr, IsSome, IfSome};
 
 use crate::kind::Kind;
 use crate::line::{columns, holds_count};
@@ -11,6 +12,15 @@ use crate::line_list::LineList;
 use iges_fields::NoMemory;
 use std::alloc::Global;
 use std::marker::Model;
+
+/// How many lines each section has.
+#[derive(Clone, Copy)]
+pub struct LineCounts {
+    pub start: usize,
+    pub global: usize,
+    pub directory: usize,
+    pub param: usize,
+}
 
 /// The lines of each section that have come so far, but for the terminate line.
 #[derive(Drop)]
@@ -184,6 +194,28 @@ impl SectionTable {
             Kind::Terminate | Kind::Other => self.has_counts(line),
             _ => true,
         }
+    }
+
+    /// How many lines each section has so far.
+    pub fn counts(&self) -> LineCounts
+        ensures { result ≡ counts_of self.now }
+    {
+        LineCounts {
+            start: self.start.count(),
+            global: self.global.count(),
+            directory: self.directory.count(),
+            param: self.param.count(),
+        }
+    }
+
+    /// Takes off the lines of each section behind so many.
+    pub fn truncate(&mut self, counts: LineCounts)
+        ensures { self.new ≡ record { start = take counts.start self.old.start; global = take counts.global self.old.global; directory = take counts.directory self.old.directory; param = take counts.param self.old.param } }
+    {
+        self.start.truncate(counts.start);
+        self.global.truncate(counts.global);
+        self.directory.truncate(counts.directory);
+        self.param.truncate(counts.param);
     }
 
     /// Takes all directory lines off, and gives their memory back.

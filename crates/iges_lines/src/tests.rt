@@ -1,6 +1,6 @@
 ghost use Rattle.std.specs.Prelude.{◌≤◌, length};
 
-use crate::{LineFault, PassFault, Reason, sections};
+use crate::{LineFault, LineFeed, PassFault, Reason, Sections, SectionsFault, sections};
 use std::alloc::Global;
 use std::test::Fail;
 
@@ -72,4 +72,34 @@ fn byte_behind_the_end(rt: HostRuntime) {
 fn word_and_number(rt: HostRuntime) {
     assert_eq!(rt; Reason::TypesDiffer.word(), b"types-differ".as_slice());
     assert_eq!(rt; Reason::TypesDiffer.number(), 10);
+}
+
+const TINY: &[u8] =
+    b"tiny                                                                    S      1\n1H,,1H;;                                                                G      1\nS      1G      1D      0P      0                                        T      1\n";
+
+// The lines of a text that comes in two pieces.
+fn fed(alloc: Global, text: &[u8], at: usize) -> Result<Sections, SectionsFault>
+    requires text { length text.now ≤ 600 }
+    requires at { at ≤ length text.now }
+{
+    let mut feed = LineFeed::new(alloc);
+    feed.feed(&text[..at])?;
+    feed.feed(&text[at..])?;
+    feed.finish()
+}
+
+#[test]
+fn cut_within_a_line(rt: HostRuntime) -> Result<(), Fail> {
+    let s = fed(rt.alloc(), TINY, 100)?;
+    assert_eq!(rt; s.start_count(), 1);
+    assert_eq!(rt; s.global_count(), 1);
+    Ok(())
+}
+
+#[test]
+fn cut_behind_an_lf(rt: HostRuntime) -> Result<(), Fail> {
+    let s = fed(rt.alloc(), TINY, 81)?;
+    assert_eq!(rt; s.start_count(), 1);
+    assert_eq!(rt; s.param_count(), 0);
+    Ok(())
 }

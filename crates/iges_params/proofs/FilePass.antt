@@ -17,6 +17,9 @@ use Rattle.iges_directory.specs.Entries.{AreEntries}
 use Rattle.iges_directory.specs.Reading.{read_directory}
 use Rattle.iges_directory.proofs.Exact.{AreEntries-read_directory, IsDirectoryFault-read_directory}
 use Rattle.iges_params.specs.declared.global.Global26.{Global26}
+use Rattle.iges_fields.specs.declared.value.Value.{Value}
+use Rattle.iges_directory.specs.declared.entry.Entry.{Entry}
+use Rattle.iges_params.specs.Begun.{IsBegunFile}
 use Rattle.iges_params.specs.Contents.{Contents}
 use Rattle.iges_params.specs.Global.{have_kinds}
 use Rattle.iges_params.specs.IsFile.{IsFile}
@@ -54,6 +57,15 @@ module _ (s : SectionLines) where
         subst (Gives r) (sym (behind_global ∙ ap (λ (x : Result (List Placed) LineFault). x >>= after_directory s g) (AreEntries-read_directory s ps h)))
         (subst (λ (f : Contents). Gives r (read_entries (above s) s.param f ps)) is
         (subst (λ (k : ℕ). Gives r (read_entries k s.param file ps)) n-is (subst (λ (ls : List (List ℕ)). Gives r (read_entries n ls file ps)) params-is gives)))
+
+begun_is : (s : SectionLines) (file : Contents) (ps : List Placed) → IsBegunFile s file ps → file ≡ record { start = map (columns 1 72) s.start; global = file.global; entries = [] }
+begun_is s file ps b =
+    ap (λ (x : List (List ℕ)). record file { start = x }) b.start ∙ ap (λ (es : List (Entry × List Value)). record { start = map (columns 1 72) s.start; global = file.global; entries = es }) b.entries
+
+-- the records behind what was begun
+pub begun_go_on : (s : SectionLines) (file : Contents) (ps : List Placed) → IsBegunFile s file ps → (n : ℕ) → n ≡ above s → (params : List (List ℕ)) → params ≡ s.param
+    → (r : Result Contents PassFault) → Gives r (read_entries n params file ps) → Gives r (read_lines s)
+begun_go_on s file ps b n n-is params params-is r gives = entries_go_on s file.global b.global ps b.directory file (begun_is s file ps b) n n-is params params-is r gives
 
 module _ (bytes : List ℕ) where
   from_lines : (e : PassFault) → Fails e (read_sections bytes) → Fails e (read_file bytes)

@@ -9,3 +9,4 @@ pub mod Refusal
 pub mod Reading
 pub mod Heads
 pub mod Parts
+pub mod Begun

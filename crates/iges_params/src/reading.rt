@@ -3,14 +3,16 @@ ghost use Rattle.iges_directory.specs.Entries.{has_record};
 ghost use Rattle.iges_fields.specs.Delims.{are_permitted};
 ghost use Rattle.iges_fields.specs.declared.TheConstants.{FILE_LIMIT};
 ghost use Rattle.iges_lines.specs.declared.fault.LineFault.{LineFault};
-ghost use Rattle.iges_lines.specs.Gives.{Gives, IfBad};
+ghost use Rattle.iges_lines.specs.Gives.{Fails, Gives, IfBad};
+ghost use Rattle.iges_lines.specs.Sectioned.{IsSectioned};
 ghost use Rattle.iges_lines.specs.Lines.{columns};
 ghost use Rattle.iges_params.specs.Contents.{Contents};
 ghost use Rattle.iges_params.specs.Global.{have_kinds};
 ghost use Rattle.iges_params.specs.IsFile.{IsFile};
-ghost use Rattle.iges_params.specs.Reading.{read_entries, read_file, read_lines};
+ghost use Rattle.iges_params.specs.Begun.{IsBegunFile};
+ghost use Rattle.iges_params.specs.Reading.{read_entries, read_lines};
 ghost use Rattle.iges_params.specs.Refusal.{Refusal};
-ghost use Rattle.std.specs.Prelude.{◌≡◌, ◌+◌, ◌*◌, ◌≤◌, [], Some, IfOk, IsTrue, ℕ, length, map, slice_get};
+ghost use Rattle.std.specs.Prelude.{◌≡◌, ◌+◌, ◌*◌, ◌≤◌, [], List, MatchResult, Some, IfOk, IsTrue, ℕ, length, map, slice_get};
 
 use crate::fault::ReadFileFault;
 use crate::file::File;
@@ -18,7 +20,7 @@ use crate::global::Global26;
 use crate::global_pass::read_global;
 use crate::record::{lines_above, read_record};
 use iges_directory::{Directory, directory};
-use iges_fields::{Bytes, FILE_LIMIT, NoMemory};
+use iges_fields::{FILE_LIMIT, NoMemory};
 use iges_lines::{Sections, columns, sections};
 use std::alloc::Global;
 
@@ -63,35 +65,69 @@ fn filled(
     Ok(file)
 }
 
-// The file of the lines, of which those of the directory aren't kept behind their pass.
-fn read_lines(alloc: Global, mut lines: Sections) -> Result<File, ReadFileFault>
+// What the passes before the records give: the file without its entries, and the directory.
+fn begun_file(
+    alloc: Global,
+    lines: &Sections,
+    text: &mut Vec<u8>,
+) -> Result<(File, Directory), ReadFileFault>
+    ensures { MatchResult result (λ p. IsBegunFile lines.now p.0 p.1) (λ e. Fails e (read_lines lines.now)) }
+{
+    let global = read_global(alloc, lines, text)?;
+    let entries = directory(alloc, lines)?;
+    let file = begun(alloc, lines, global)?;
+    Ok((file, entries))
+}
+
+// The file of the lines.
+fn read_lines(alloc: Global, lines: &Sections) -> Result<File, ReadFileFault>
+    ensures { Gives result (read_lines lines.now) }
+{
+    let mut text = Vec::new(alloc);
+    match begun_file(alloc, lines, &mut text) {
+        Ok((file, entries)) => {
+            filled(alloc, lines, lines_above(lines), &entries, file, &mut text)
+        }
+        Err(fault) => Err(fault),
+    }
+}
+
+// The same, of which the directory's lines aren't kept behind their pass.
+fn read_taken(alloc: Global, mut lines: Sections) -> Result<File, ReadFileFault>
     ensures { Gives result (read_lines lines) }
 {
     let above = lines_above(&lines);
     let mut text = Vec::new(alloc);
-    let global = read_global(alloc, &lines, &mut text)?;
-    let entries = directory(alloc, &lines)?;
-    let file = begun(alloc, &lines, global)?;
-    lines.clear_directory();
-    filled(alloc, &lines, above, &entries, file, &mut text)
+    match begun_file(alloc, &lines, &mut text) {
+        Ok((file, entries)) => {
+            lines.clear_directory();
+            filled(alloc, &lines, above, &entries, file, &mut text)
+        }
+        Err(fault) => Err(fault),
+    }
 }
 
-fn read(alloc: Global, bytes: &[u8]) -> Result<File, ReadFileFault>
-    requires { length bytes.now ≤ FILE_LIMIT }
-    ensures { Gives result (read_file bytes.now) }
+/// The file of the lines: global, directory and records are read in this order, and the first fault of the first pass
+/// that fails is told, with its line in the file, from 1 (own). It answers what `read_file` answers of any bytes that
+/// have these lines.
+pub fn read_sections(alloc: Global, lines: &Sections) -> Result<File, ReadFileFault>
+    ensures found { (bytes : List ℕ) → IsSectioned bytes lines.now → IfOk result (IsFile bytes) }
+    ensures only { (bytes : List ℕ) (f : Contents) → IsSectioned bytes lines.now → IsFile bytes f → Gives result (Ok f) }
+    ensures fault { (bytes : List ℕ) → IsSectioned bytes lines.now → IfBad result (Refusal bytes) }
+    ensures only_fault { (bytes : List ℕ) (fault : LineFault) → IsSectioned bytes lines.now → Refusal bytes fault → Gives {Y = Contents} result (Err fault) }
 {
-    let lines = sections(alloc, bytes)?;
     read_lines(alloc, lines)
 }
 
-// The same, of bytes that aren't kept behind the pass over the lines.
-fn read_owned(alloc: Global, bytes: Bytes) -> Result<File, ReadFileFault>
-    requires { length bytes ≤ FILE_LIMIT }
-    ensures { Gives result (read_file bytes) }
+/// The same, of lines that aren't needed any more: the memory of the directory's lines is given back as soon as they are
+/// read (own).
+pub fn take_sections(alloc: Global, lines: Sections) -> Result<File, ReadFileFault>
+    ensures found { (bytes : List ℕ) → IsSectioned bytes lines → IfOk result (IsFile bytes) }
+    ensures only { (bytes : List ℕ) (f : Contents) → IsSectioned bytes lines → IsFile bytes f → Gives result (Ok f) }
+    ensures fault { (bytes : List ℕ) → IsSectioned bytes lines → IfBad result (Refusal bytes) }
+    ensures only_fault { (bytes : List ℕ) (fault : LineFault) → IsSectioned bytes lines → Refusal bytes fault → Gives {Y = Contents} result (Err fault) }
 {
-    let lines = sections(alloc, bytes.as_slice())?;
-    drop(bytes);
-    read_lines(alloc, lines)
+    read_taken(alloc, lines)
 }
 
 /// The file that the bytes are (IGES 5.3, 2.2.4). Lines, global, directory and records are read in this order, and the
@@ -104,17 +140,8 @@ pub fn read_file(alloc: Global, bytes: &[u8]) -> Result<File, ReadFileFault>
     ensures fault { IfBad result (Refusal bytes.now) }
     ensures only_fault { (fault : LineFault) → Refusal bytes.now fault → Gives {Y = Contents} result (Err fault) }
 {
-    read(alloc, bytes)
-}
-
-/// The file that the bytes are, as `read_file` reads it (own). Their memory is given back as soon as the lines are
-/// read.
-pub fn read_bytes(alloc: Global, bytes: Bytes) -> Result<File, ReadFileFault>
-    requires { length bytes ≤ FILE_LIMIT }
-    ensures found { IfOk result (IsFile bytes) }
-    ensures only { (f : Contents) → IsFile bytes f → Gives result (Ok f) }
-    ensures fault { IfBad result (Refusal bytes) }
-    ensures only_fault { (fault : LineFault) → Refusal bytes fault → Gives {Y = Contents} result (Err fault) }
-{
-    read_owned(alloc, bytes)
+    match sections(alloc, bytes) {
+        Ok(lines) => read_sections(alloc, &lines),
+        Err(fault) => Err(fault),
+    }
 }

@@ -9,6 +9,9 @@ use Rattle.iges_params.proofs.FileExact.{IsFile-read_file, Refusal-read_file}
 use Rattle.solid_data.proofs.ObligationLemmas.{FirstFalse-one, FirstFalse-not_all}
 use Rattle.brep_walk.specs.Places.{places}
 use Rattle.brep_walk.specs.SolidOf.{solid_of}
+use Rattle.cert_lines.specs.declared.version.Version.{Version}
+use Rattle.cert_lines.specs.declared.version.Version.TheVariants.{One, Two, Three}
+use Rattle.cert_lines.specs.declared.fault.Illegal.TheVariants.{Unfit}
 use Rattle.cert_lines.proofs.Openings.{one_bad_opening, one_opening, opens_or_bad}
 use Rattle.topo_certificate.proofs.LegalLemmas.{legal_has_no_bad_lem, one_first_bad}
 use Rattle.cert_maker.specs.Checked.{checked}
@@ -26,7 +29,7 @@ use Rattle.iges_solid_cmd.specs.declared.answer.Answer.TheVariants as answer
 use Rattle.iges_solid_cmd.specs.Forms.{command_of, usage_line}
 use Rattle.iges_solid_cmd.specs.Texts.{bad_file_line, fail_line, illegal_line, no_extract_line, solids_text}
 use Rattle.iges_solid_cmd.specs.Outcome.{IsNoFile}
-use Rattle.iges_solid_cmd.specs.Due.{Owed, Exactly, OfNoFile, OfFile, OfSolids, OfShow, OfCertify, OfLines, OfVerify, OfExtract, OfContents, OfSample, DueOf}
+use Rattle.iges_solid_cmd.specs.Due.{Owed, Exactly, OfNoFile, OfFile, OfSolids, OfShow, OfCertify, OfLines, OfVersion, OfVerify, OfExtract, OfContents, OfSample, DueOf}
 use Rattle.iges_solid_cmd.specs.OneAnswer.{chooses, OneAnswerIsOwed}
 
 -- at most one answer and text are owed
@@ -80,16 +83,21 @@ certify_one Free free n f a b t u (inl (x, p, e)) (inr (all, done, made)) = absu
 certify_one Free free n f a b t u (inr (all, done, made)) (inl (y, q, d)) = absurd (FirstFalse-not_all (obligations f n) y q all)
 certify_one Free free n f a b t u (inr (all, done, made)) (inr (every, finished, other)) = (done ∙ sym finished, inr (done, free))
 
-lines_one : (n : ℕ) (lines : List (List ℕ)) (f : Contents) → IsOne (OfLines n lines f)
-lines_one n lines f a b t u (inl (x, p, e)) (inl (y, q, d)) = (e.0 ∙ sym d.0, e.1 ∙ ap fail_line (FirstFalse-one (checked f n) x y p q) ∙ sym d.1)
-lines_one n lines f a b t u (inl (x, p, e)) (inr (inl q)) = absurd (FirstFalse-not_all (checked f n) x p q.0)
-lines_one n lines f a b t u (inl (x, p, e)) (inr (inr q)) = absurd (FirstFalse-not_all (checked f n) x p q.0)
-lines_one n lines f a b t u (inr (inl p)) (inl (y, q, d)) = absurd (FirstFalse-not_all (checked f n) y q p.0)
-lines_one n lines f a b t u (inr (inr p)) (inl (y, q, d)) = absurd (FirstFalse-not_all (checked f n) y q p.0)
-lines_one n lines f a b t u (inr (inl p)) (inr (inl q)) = (p.3.0 ∙ sym q.3.0, p.3.1 ∙ ap illegal_line (one_first_bad (solid_of f n) lines p.1 q.1 p.2 q.2) ∙ sym q.3.1)
-lines_one n lines f a b t u (inr (inl p)) (inr (inr q)) = absurd (legal_has_no_bad_lem (solid_of f n) lines p.1 q.1 p.2)
-lines_one n lines f a b t u (inr (inr p)) (inr (inl q)) = absurd (legal_has_no_bad_lem (solid_of f n) lines q.1 p.1 q.2)
-lines_one n lines f a b t u (inr (inr p)) (inr (inr q)) = (p.2.0 ∙ sym q.2.0, p.2.1 ∙ sym q.2.1)
+lines_one : (v : Version) (n : ℕ) (lines : List (List ℕ)) (f : Contents) → IsOne (OfLines v n lines f)
+lines_one v n lines f a b t u (inl (x, p, e)) (inl (y, q, d)) = (e.0 ∙ sym d.0, e.1 ∙ ap fail_line (FirstFalse-one (checked f n) x y p q) ∙ sym d.1)
+lines_one v n lines f a b t u (inl (x, p, e)) (inr (inl q)) = absurd (FirstFalse-not_all (checked f n) x p q.0)
+lines_one v n lines f a b t u (inl (x, p, e)) (inr (inr q)) = absurd (FirstFalse-not_all (checked f n) x p q.0)
+lines_one v n lines f a b t u (inr (inl p)) (inl (y, q, d)) = absurd (FirstFalse-not_all (checked f n) y q p.0)
+lines_one v n lines f a b t u (inr (inr p)) (inl (y, q, d)) = absurd (FirstFalse-not_all (checked f n) y q p.0)
+lines_one v n lines f a b t u (inr (inl p)) (inr (inl q)) = (p.3.0 ∙ sym q.3.0, p.3.1 ∙ ap illegal_line (one_first_bad v (solid_of f n) 3 lines p.1 q.1 p.2 q.2) ∙ sym q.3.1)
+lines_one v n lines f a b t u (inr (inl p)) (inr (inr q)) = absurd (legal_has_no_bad_lem v (solid_of f n) 3 lines p.1 q.1 p.2)
+lines_one v n lines f a b t u (inr (inr p)) (inr (inl q)) = absurd (legal_has_no_bad_lem v (solid_of f n) 3 lines q.1 p.1 q.2)
+lines_one v n lines f a b t u (inr (inr p)) (inr (inr q)) = (p.2.0 ∙ sym q.2.0, p.2.1 ∙ sym q.2.1)
+
+version_one : (v : Version) (n : ℕ) (lines : List (List ℕ)) (f : Contents) → IsOne (OfVersion v n lines f)
+version_one One n lines f = lines_one One n lines f
+version_one Two n lines f = lines_one Two n lines f
+version_one Three n lines f = exactly_one answer.No (illegal_line (Unfit 1))
 
 verify_one : (certificate : List ℕ) (f : Contents) → IsOne (OfVerify certificate f)
 verify_one c f a b t u (inl p) (inl q) = (p.1.0 ∙ sym q.1.0, p.1.1 ∙ sym q.1.1)
@@ -98,11 +106,11 @@ verify_one c f a b t u (inl p) (inr (inr q)) = absurd (omega (arith, p.0, q.0))
 verify_one c f a b t u (inr (inl p)) (inl q) = absurd (omega (arith, p.0, q.0))
 verify_one c f a b t u (inr (inr p)) (inl q) = absurd (omega (arith, p.0, q.0))
 verify_one c f a b t u (inr (inl p)) (inr (inl q)) = (p.3.0 ∙ sym q.3.0, p.3.1 ∙ ap illegal_line (one_bad_opening c p.1 q.1 p.2 q.2) ∙ sym q.3.1)
-verify_one c f a b t u (inr (inl p)) (inr (inr q)) = absurd (opens_or_bad c q.1 q.2 p.1 q.3 p.2)
-verify_one c f a b t u (inr (inr p)) (inr (inl q)) = absurd (opens_or_bad c p.1 p.2 q.1 p.3 q.2)
-verify_one c f a b t u (inr (inr (few, n, lines, opens, owed))) (inr (inr (fewer, m, others, opened, due))) =
-    let same = one_opening c n m lines others opens opened in
-    lines_one m others f a b t u (subst (λ (k : ℕ). OfLines k others f a t) same.0 (subst (λ (xs : List (List ℕ)). OfLines n xs f a t) same.1 owed)) due
+verify_one c f a b t u (inr (inl p)) (inr (inr q)) = absurd (opens_or_bad c q.1 q.2 q.3 p.1 q.4 p.2)
+verify_one c f a b t u (inr (inr p)) (inr (inl q)) = absurd (opens_or_bad c p.1 p.2 p.3 q.1 p.4 q.2)
+verify_one c f a b t u (inr (inr (few, v, n, lines, opens, owed))) (inr (inr (fewer, w, m, others, opened, due))) =
+    let same = one_opening c v w n m lines others opens opened in
+    version_one w m others f a b t u (subst (λ (x : Version). OfVersion x m others f a t) same.0 (subst (λ (k : ℕ). OfVersion v k others f a t) same.1 (subst (λ (xs : List (List ℕ)). OfVersion v n xs f a t) same.2 owed))) due
 
 -- a file has one text
 text_is : (f : Contents) (t u : List ℕ) → IsText f t → IsText f u → t ≡ u

@@ -1,5 +1,5 @@
 -- What holds of each sample.
-use Rattle.std.proofs.Common.{◌≡◌, ◌<◌, ◌*◌, ◌+◌, ◌^◌, ℕ, List, length, drop, sym, ap, subst, ◌∙◌, Some, slice_get, arith, length-append}
+use Rattle.std.proofs.Common.{◌≡◌, ◌<◌, ◌*◌, ◌+◌, ◌^◌, ℕ, List, [], ◌∷◌, length, drop, sym, ap, subst, ◌∙◌, Some, slice_get, arith, length-append}
 use Rattle.solid_data.specs.Numbering.{IsNumberedSolid}
 use Rattle.solid_data.specs.declared.solid.Shell.{Shell}
 use Rattle.solid_data.specs.Obligations.{AllHold, FirstFalse}
@@ -17,6 +17,8 @@ use Rattle.cert_lines.specs.declared.fault.Illegal.{Illegal}
 use Rattle.cert_lines.proofs.Openings.{one_opening, opens_or_bad}
 use Rattle.topo_certificate.specs.Legal.{IsFirstBad}
 use Rattle.topo_certificate.proofs.LegalLemmas.{legal_has_no_bad_lem}
+use Rattle.cert_lines.specs.declared.version.Version.{Version}
+use Rattle.cert_lines.specs.declared.version.Version.TheVariants.{Two}
 use Rattle.cert_maker.specs.Accepted.{IsAccepted}
 use Rattle.iges_write.specs.Text.{IsText}
 use Rattle.sample_solids.specs.Laws.{IsClosedMesh, faces_in}
@@ -43,11 +45,11 @@ module _ (n : ℕ) (size : IsSize n) where
       FirstFalse-not_all (solid_obligations d) x (subst (λ (e : SolidData). FirstFalse (solid_obligations e) x) is first) ((closed_is_all_hold d).0 mesh.closed.closed)
 
   -- the certificate that was made is accepted
-  pub made_accepted : (s : SolidData) (text made : List ℕ) → s ≡ solid_of (sample n) 1 → text ≡ made → ((f : Contents) (k : ℕ) → AllHold (places f k) → s ≡ solid_of f k → IsAccepted f k made) → IsAccepted (sample n) 1 text
-  made_accepted s text made is same accepted = subst (IsAccepted (sample n) 1) (sym same) (accepted (sample n) 1 mesh.closed.placed is)
+  pub made_accepted : (s : SolidData) (text made : List ℕ) → s ≡ solid_of (sample n) 1 → text ≡ made → ((f : Contents) (k : ℕ) → AllHold (places f k) → s ≡ solid_of f k → IsAccepted f made Two (k ∷ [])) → IsAccepted (sample n) text Two (1 ∷ [])
+  made_accepted s text made is same accepted = subst (λ (c : List ℕ). IsAccepted (sample n) c Two (1 ∷ [])) (sym same) (accepted (sample n) 1 mesh.closed.placed is)
 
   -- the line tells the counts of n times n squares
-  pub sample_told : (s : SolidData) (text certificate t : List ℕ) (a : Answer) → s ≡ solid_of (sample n) 1 → IsText (sample n) text → IsAccepted (sample n) 1 certificate → a ≡ Done
+  pub sample_told : (s : SolidData) (text certificate t : List ℕ) (a : Answer) → s ≡ solid_of (sample n) 1 → IsText (sample n) text → IsAccepted (sample n) certificate Two (1 ∷ []) → a ≡ Done
       → t ≡ sample_line n (length (faces_in s.shells)) (length s.edges) (length s.vertices) (length text) (length certificate) → OfSample n a t
   sample_told s text certificate t a is canonical accepted done told =
       let counts : sample_line n (length (faces_in s.shells)) (length s.edges) (length s.vertices) (length text) (length certificate) ≡ sample_line n (n * n) (2 * n * n) (n * n) (length text) (length certificate) =
@@ -58,15 +60,17 @@ module _ (n : ℕ) (size : IsSize n) where
       (text, certificate, canonical, accepted, (done, told ∙ counts))
 
 -- an accepted certificate opens
-pub opens_well : (f : Contents) (k : ℕ) (certificate : List ℕ) (bad : Illegal) → IsAccepted f k certificate → IsBadOpening certificate bad → ⊥
-opens_well f k certificate bad accepted wrong = opens_or_bad certificate k accepted.rest bad accepted.opens wrong
+pub opens_well : (f : Contents) (k : ℕ) (certificate : List ℕ) (bad : Illegal) → IsAccepted f certificate Two (k ∷ []) → IsBadOpening certificate bad → ⊥
+opens_well f k certificate bad (n, is, accepted) wrong = opens_or_bad certificate Two n accepted.rest bad accepted.opens wrong
 
 -- and its further lines are legal
-pub no_bad_line : (f : Contents) (k m : ℕ) (s d : SolidData) (certificate : List ℕ) (lines : List (List ℕ)) (bad : Illegal) → IsAccepted f k certificate → s ≡ solid_of f k → d ≡ s → Opens certificate m lines → IsFirstBad d lines bad → ⊥
-no_bad_line f k m s d certificate lines bad accepted is same opens first =
-    let one = one_opening certificate m k lines accepted.rest opens accepted.opens in
-    legal_has_no_bad_lem (solid_of f k) accepted.rest bad accepted.legal
-    (subst (λ (e : SolidData). IsFirstBad e accepted.rest bad) (same ∙ is) (subst (λ (ls : List (List ℕ)). IsFirstBad d ls bad) one.1 first))
+pub no_bad_line : (f : Contents) (k m : ℕ) (v w : Version) (s d : SolidData) (certificate : List ℕ) (lines : List (List ℕ)) (bad : Illegal) → IsAccepted f certificate Two (k ∷ []) → s ≡ solid_of f k → w ≡ v → d ≡ s → Opens certificate v m lines → IsFirstBad w d 3 lines bad → ⊥
+no_bad_line f k m v w s d certificate lines bad (n, named, accepted) is version same opens first =
+    let one = one_opening certificate v Two m n lines accepted.rest opens accepted.opens in
+    let k_is : k ≡ n = cc in
+    legal_has_no_bad_lem Two (solid_of f n) 3 accepted.rest bad accepted.certified.legal
+    (subst (λ (u : Version). IsFirstBad u (solid_of f n) 3 accepted.rest bad) (version ∙ one.0)
+    (subst (λ (e : SolidData). IsFirstBad w e 3 accepted.rest bad) (same ∙ is ∙ ap (solid_of f) k_is) (subst (λ (ls : List (List ℕ)). IsFirstBad w d 3 ls bad) one.2 first)))
 
 -- the faces of a shell, and those of the shells behind it
 pub faces_next : (shells : List Shell) (k : ℕ) (h : Shell) → slice_get shells k ≡ Some h → length h.faces + length (faces_in (drop (k + 1) shells)) ≡ length (faces_in (drop k shells))

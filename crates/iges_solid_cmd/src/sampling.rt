@@ -1,4 +1,5 @@
 ghost use Rattle.brep_walk.specs.SolidOf.{solid_of};
+ghost use Rattle.cert_lines.specs.declared.version.Version.TheVariants.{Two};
 ghost use Rattle.cert_maker.specs.Accepted.{IsAccepted};
 ghost use Rattle.iges_fields.specs.declared.TheConstants.{FILE_LIMIT};
 ghost use Rattle.iges_solid_cmd.specs.Due.{OfSample};
@@ -7,7 +8,7 @@ ghost use Rattle.iges_solid_cmd.specs.Texts.{sample_line};
 ghost use Rattle.iges_write.specs.Text.{IsText};
 ghost use Rattle.sample_solids.specs.Laws.{faces_in};
 ghost use Rattle.sample_solids.specs.Sample.{sample};
-ghost use Rattle.std.specs.Prelude.{◌≡◌, ◌+◌, ◌<◌, ◌≤◌, drop, length, IfOk};
+ghost use Rattle.std.specs.Prelude.{◌≡◌, ◌+◌, ◌<◌, ◌≤◌, [], ◌∷◌, drop, length, IfOk};
 
 use crate::answer::Answer;
 use crate::reply::Reply;
@@ -68,7 +69,7 @@ fn walk_sample(alloc: Global, file: &File, n: u32) -> Result<Solid, NoMemory>
 fn certificate_text(alloc: Global, solid: &Solid, n: u32) -> Result<Bytes, NoMemory>
     requires size { IsSize n }
     requires sample { solid.now ≡ solid_of (sample n) 1 }
-    ensures { IfOk result (IsAccepted (sample n) 1) }
+    ensures { IfOk result (λ text. IsAccepted (sample n) text Two (1 ∷ [])) }
 {
     match certify(alloc, solid) {
         Ok(certificate) => write_certificate(alloc, &certificate),
@@ -80,12 +81,12 @@ fn certificate_text(alloc: Global, solid: &Solid, n: u32) -> Result<Bytes, NoMem
 // Checks the text of the certificate, which can't but be accepted.
 fn check_text(alloc: Global, solid: &Solid, text: &[u8], n: u32) -> Result<(), NoMemory>
     requires sample { solid.now ≡ solid_of (sample n) 1 }
-    requires accepted { IsAccepted (sample n) 1 text.now }
+    requires accepted { IsAccepted (sample n) text.now Two (1 ∷ []) }
 {
-    let Ok((_, rest)) = read_opening(text) else {
+    let Ok((version, _, rest)) = read_opening(text) else {
         unreachable!();
     };
-    let mut checker = Checker::new(alloc, solid)?;
+    let mut checker = Checker::new(alloc, solid, version)?;
     let Ok(()) = check(&mut checker, rest) else {
         unreachable!();
     };

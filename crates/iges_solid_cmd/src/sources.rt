@@ -1,18 +1,21 @@
-ghost use Rattle.iges_io.specs.Reading.{Told};
+ghost use Rattle.iges_fields.specs.declared.TheConstants.{FILE_LIMIT};
+ghost use Rattle.iges_lines.specs.Feeding.{IsFed};
+ghost use Rattle.iges_lines.specs.Gives.{IfBad};
+ghost use Rattle.iges_params.specs.Refusal.{Refusal};
 ghost use Rattle.iges_params.specs.IsFile.{IsFile};
 ghost use Rattle.iges_solid_cmd.specs.Due.{OfNoFile};
 ghost use Rattle.iges_solid_cmd.specs.Outcome.{ReadsWhole};
-ghost use Rattle.iges_solid_cmd.specs.Replies.{AreWithin, CountAfterCall, IsFileTold, IsReply, IsTooLarge};
+ghost use Rattle.iges_solid_cmd.specs.Replies.{AreWithin, CountAfterCall, IsFedTold, IsFileTold, IsReply, IsTooLarge};
 ghost use Rattle.iges_solid_cmd.specs.Texts.{bad_file_line};
 ghost use Rattle.std.specs.Io.KnownBytes.{IsAtEnd};
-ghost use Rattle.std.specs.Prelude.{◌≡◌, ◌≤◌, length, IfOk, MatchResult};
+ghost use Rattle.std.specs.Prelude.{◌≡◌, ◌≤◌, [], List, ℕ, length, IfOk, MatchResult, vec_len};
 
 use crate::answer::Answer;
 use crate::reply::{Reply, Stop};
 use iges_fields::{Bytes, FILE_LIMIT, NoMemory, Out, write_number};
 use iges_io::{ReadAll, Source, read_all};
-use iges_lines::LineFault;
-use iges_params::{File, ReadFileFault, read_bytes};
+use iges_lines::{LineFault, LineFeed};
+use iges_params::{File, ReadFileFault, take_sections};
 use std::alloc::Global;
 
 // The reply for a bad file.
@@ -29,6 +32,26 @@ fn bad_file(alloc: Global, fault: LineFault) -> Result<Reply, NoMemory>
         answer: Answer::BadFile,
         text: out.into_bytes(),
     })
+}
+
+// How many bytes are asked for at once.
+const PIECE: usize = 65_536;
+
+// Its clause tells the length alone, so that no goal of a caller spells so many zeros out.
+pub fn room_for(alloc: Global, len: usize) -> Result<Vec<u8>, NoMemory>
+    ensures { IfOk result (λ room. vec_len room ≡ len) }
+{
+    Ok(vec![in alloc; 0u8; len]?)
+}
+
+// The reply for more bytes than the limit.
+fn too_large(alloc: Global) -> Reply
+    ensures { (result.answer ≡ Answer.TooLarge) × (result.text ≡ []) }
+{
+    Reply {
+        answer: Answer::TooLarge,
+        text: Bytes::from_vec(Vec::new(alloc)),
+    }
 }
 
 /// All bytes of a source, or the reply where they are more than the limit.
@@ -52,27 +75,61 @@ pub fn bytes_in<S: Source>(
     }
 }
 
-// The file that these bytes are, or the reply where they are none.
-fn file_of(alloc: Global, bytes: Bytes) -> Result<Result<File, Reply>, NoMemory>
-    requires { length bytes ≤ FILE_LIMIT }
-    ensures found { IfOk result (λ r. MatchResult r (IsFile bytes) (λ reply. OfNoFile bytes reply.answer reply.text)) }
+// The lines of a source, which are judged while they come, or the reply where its bytes are too many.
+fn lines_in<S: Source>(alloc: Global, source: &mut S) -> Result<Result<LineFeed, Reply>, Stop>
+    ensures found { IfOk result (λ r. MatchResult r (IsFedTold (S.left source.old)) (IsReply (IsTooLarge FILE_LIMIT) (S.left source.old))) }
+    ensures whole { IfOk result (λ r. MatchResult r (λ _. IsAtEnd (S.left source.new)) (λ reply. reply.answer ≡ Answer.TooLarge)) }
+    ensures count { CountAfterCall (S.faults source.old) (S.faults source.new) result }
+{
+    let mut feed = LineFeed::new(alloc);
+    let mut piece = room_for(alloc, PIECE)?;
+    let mut came = 0u64;
+    'reads: loop {
+        let Ok(count) = source.read(piece.as_mut_slice()) else {
+            return Err(Stop::ReadFault);
+        };
+        if count == 0 {
+            return Ok(Ok(feed));
+        }
+        if (count as u64) > FILE_LIMIT - came {
+            return Ok(Err(too_large(alloc)));
+        }
+        feed.feed(&piece[..count])?;
+        came += count as u64;
+    }
+}
+
+// The file of the lines that came.
+fn read_fed(alloc: Global, feed: LineFeed) -> Result<File, ReadFileFault>
+    ensures found { (bytes : List ℕ) → IsFed feed bytes → IfOk result (IsFile bytes) }
+    ensures fault { (bytes : List ℕ) → IsFed feed bytes → IfBad result (Refusal bytes) }
+{
+    match feed.finish() {
+        Ok(lines) => take_sections(alloc, lines),
+        Err(fault) => Err(fault),
+    }
+}
+
+// The file of the lines that came, or the reply where they are those of none.
+fn file_of(alloc: Global, feed: LineFeed) -> Result<Result<File, Reply>, NoMemory>
+    ensures found { (bytes : List ℕ) → IsFed feed bytes → length bytes ≤ FILE_LIMIT → IfOk result (λ r. MatchResult r (IsFile bytes) (λ reply. OfNoFile bytes reply.answer reply.text)) }
     ensures bad { IfOk result (λ r. MatchResult r (λ _. Unit {0}) (λ reply. reply.answer ≡ Answer.BadFile)) }
 {
-    match read_bytes(alloc, bytes) {
+    match read_fed(alloc, feed) {
         Ok(file) => Ok(Ok(file)),
         Err(ReadFileFault::Bad(fault)) => Ok(Err(bad_file(alloc, fault)?)),
         Err(ReadFileFault::NoMemory) => Err(NoMemory),
     }
 }
 
-/// The file of a source, or the reply where its bytes are too many or none.
+/// The file of a source, which is read as lines while it comes, or the reply where its bytes are too many or none.
 pub fn file_in<F: Source>(alloc: Global, source: &mut F) -> Result<Result<File, Reply>, Stop>
     ensures found { IfOk result (λ r. MatchResult r (IsFileTold (F.left source.old)) (IsReply OfNoFile (F.left source.old))) }
     ensures whole { IfOk result (λ r. MatchResult r (λ _. IsAtEnd (F.left source.new)) (λ reply. ReadsWhole (F.left source.new) reply.answer)) }
     ensures count { CountAfterCall (F.faults source.old) (F.faults source.new) result }
 {
-    match bytes_in(alloc, source, FILE_LIMIT)? {
-        Ok(bytes) => Ok(file_of(alloc, bytes)?),
+    match lines_in(alloc, source)? {
+        Ok(feed) => Ok(file_of(alloc, feed)?),
         Err(reply) => Ok(Err(reply)),
     }
 }

@@ -1,5 +1,5 @@
 ghost use Rattle.cert_lines.specs.Line.{cut_lines};
-ghost use Rattle.iges_solid_cmd.specs.Due.{OfLines, OfVerify};
+ghost use Rattle.iges_solid_cmd.specs.Due.{OfLines, OfVerify, OfVersion};
 ghost use Rattle.iges_solid_cmd.specs.Outcome.{ReadsCertificate};
 ghost use Rattle.iges_solid_cmd.specs.Replies.{CountAfterCall, IsReply};
 ghost use Rattle.iges_solid_cmd.specs.Texts.{accepted_line, illegal_line, illegal_number, illegal_word};
@@ -10,7 +10,7 @@ use crate::reply::{Reply, Stop};
 use crate::showing::failed;
 use crate::sources::bytes_in;
 use brep_walk::{WalkFault, walk};
-use cert_lines::read_opening;
+use cert_lines::{Version, read_opening};
 use cert_maker::{MakeFault, check_shells};
 use iges_fields::{EntryNo, NoMemory, Out, write_number};
 use iges_io::Source;
@@ -67,8 +67,14 @@ fn accepted(alloc: Global, no: EntryNo) -> Result<Reply, NoMemory>
 }
 
 // Judges the solid that a certificate names, and then the lines behind the first two.
-fn judge_lines(alloc: Global, file: File, no: EntryNo, rest: &[u8]) -> Result<Reply, NoMemory>
-    ensures { IfOk result (λ reply. OfLines no.0 (cut_lines rest.now) file reply.answer reply.text) }
+fn judge_lines(
+    alloc: Global,
+    version: Version,
+    file: File,
+    no: EntryNo,
+    rest: &[u8],
+) -> Result<Reply, NoMemory>
+    ensures { IfOk result (λ reply. OfLines version no.0 (cut_lines rest.now) file reply.answer reply.text) }
 {
     let solid = match walk(alloc, &file, no) {
         Ok(solid) => solid,
@@ -81,10 +87,27 @@ fn judge_lines(alloc: Global, file: File, no: EntryNo, rest: &[u8]) -> Result<Re
         Err(MakeFault::Fails(failing)) => return failed(alloc, failing),
         Err(MakeFault::NoMemory) => return Err(NoMemory),
     }
-    let mut checker = Checker::new(alloc, &solid)?;
+    let mut checker = Checker::new(alloc, &solid, version)?;
     match check(&mut checker, rest) {
         Ok(()) => accepted(alloc, no),
         Err(bad) => illegal(alloc, bad),
+    }
+}
+
+// Judges a certificate of one solid. One of version 3 may name many, and isn't taken.
+fn judge_version(
+    alloc: Global,
+    version: Version,
+    file: File,
+    no: EntryNo,
+    rest: &[u8],
+) -> Result<Reply, NoMemory>
+    ensures { IfOk result (λ reply. OfVersion version no.0 (cut_lines rest.now) file reply.answer reply.text) }
+{
+    match version {
+        Version::One => judge_lines(alloc, Version::One, file, no, rest),
+        Version::Two => judge_lines(alloc, Version::Two, file, no, rest),
+        Version::Three => illegal(alloc, Illegal::Unfit { line: 1 }),
     }
 }
 
@@ -94,7 +117,7 @@ fn judge(alloc: Global, file: File, certificate: &[u8]) -> Result<Reply, NoMemor
     ensures { IfOk result (λ reply. OfVerify certificate.now file reply.answer reply.text) }
 {
     match read_opening(certificate) {
-        Ok((no, rest)) => judge_lines(alloc, file, no, rest),
+        Ok((version, no, rest)) => judge_version(alloc, version, file, no, rest),
         Err(bad) => illegal(alloc, bad),
     }
 }

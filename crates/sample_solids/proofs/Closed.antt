@@ -2,7 +2,8 @@
 use Rattle.std.specs.Prelude.{ℕ, ◌<◌}
 use Rattle.std.proofs.Common.{arith}
 use Rattle.cert_maker.specs.Closed.{IsClosed}
-use Rattle.cert_maker.proofs.Exactly.{closed_exactly}
+use Rattle.cert_maker.proofs.Complete.{closed_is_accepted}
+use Rattle.brep_walk.proofs.Few.{has_few_parts}
 use Rattle.sample_solids.specs.Sample.{sample}
 use Rattle.sample_solids.specs.Laws.{SamplesAreClosed, SamplesAreAccepted}
 use Rattle.sample_solids.proofs.Sizes.{fits}
@@ -20,4 +21,6 @@ closed n low high =
     record { made = made n high; closed = is_closed n some; faces = face_number n; edges = edge_number n some; vertices = vertex_number n some }
 
 pub accepted : SamplesAreAccepted
-accepted n low high = (closed_exactly (sample n) 1 (fits n high)).0 (is_closed n (omega (arith, low)))
+accepted n low high =
+    let closed : IsClosed (sample n) 1 = is_closed n (omega (arith, low)) in
+    closed_is_accepted (sample n) 1 (has_few_parts (sample n) 1 (fits n high) closed.placed) closed

@@ -1,5 +1,6 @@
 -- What holds of each sample.
-use Rattle.std.specs.Prelude.{◌≡◌, ℕ, ◌*◌, ◌≤◌, List, length, flat_map}
+use Rattle.std.specs.Prelude.{◌≡◌, ℕ, ◌*◌, ◌≤◌, List, [], ◌∷◌, length, flat_map}
+use Rattle.cert_lines.specs.declared.version.Version.TheVariants.{Two}
 use Rattle.iges_fields.specs.declared.TheConstants.{FILE_LIMIT}
 use Rattle.iges_params.specs.Contents.{Contents}
 use Rattle.iges_params.specs.IsFile.{IsFile}
@@ -26,9 +27,9 @@ pub record IsClosedMesh (f : Contents) (n : ℕ) : Type 0 where
 abbrev pub SamplesAreClosed : Type 0
 SamplesAreClosed = (n : ℕ) → 3 ≤ n → n ≤ 200 → IsClosedMesh (sample n) n
 
--- Some certificate is accepted for each.
+-- Some certificate of version 2 is accepted for each.
 abbrev pub SamplesAreAccepted : Type 0
-SamplesAreAccepted = (n : ℕ) → 3 ≤ n → n ≤ 200 → (certificate : List ℕ) × IsAccepted (sample n) 1 certificate
+SamplesAreAccepted = (n : ℕ) → 3 ≤ n → n ≤ 200 → (certificate : List ℕ) × IsAccepted (sample n) certificate Two (1 ∷ [])
 
 -- The canonical text of each has at most so many bytes as a file may have.
 abbrev pub SamplesAreWithin : Type 0

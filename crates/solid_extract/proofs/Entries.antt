@@ -88,7 +88,7 @@ module _ (e : Entry) (kept : List ℕ) (kind font level matrix weight colour for
 
 -- ---- within the bounds
 
-renamed_few : (kept : List ℕ) (z : ℤ) → length kept ≤ 4999999 → (x : ℕ) × (renamed kept z ≡ pos x) × (x ≤ 9999999)
+pub renamed_few : (kept : List ℕ) (z : ℤ) → length kept ≤ 4999999 → (x : ℕ) × (renamed kept z ≡ pos x) × (x ≤ 9999999)
 renamed_few kept z few = by_test (int_eq z (pos 0)) refl
   where
     by_test : (b : Bool) → int_eq z (pos 0) ≡ b → (x : ℕ) × ((if b then z else pos (new_number kept (unsigned_abs z))) ≡ pos x) × (x ≤ 9999999)

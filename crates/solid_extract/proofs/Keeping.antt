@@ -19,7 +19,7 @@ use Rattle.solid_extract.specs.Kept.{renamed_pair, renamed_curve, renamed_tuple,
 
 -- ---- what is due for renamed items
 
-abbrev renamed_due : (ℤ → ℤ) → DueValue → DueValue
+abbrev pub renamed_due : (ℤ → ℤ) → DueValue → DueValue
 renamed_due g (pointer z) = pointer (g z)
 renamed_due g (number z) = number z
 renamed_due g (flag b) = flag b
@@ -27,7 +27,7 @@ renamed_due g (at_least_one n) = at_least_one n
 renamed_due g (count n) = count n
 renamed_due g (coordinate w) = coordinate w
 
-abbrev R : (ℤ → ℤ) → List DueValue → List DueValue
+abbrev pub R : (ℤ → ℤ) → List DueValue → List DueValue
 R g ds = map (renamed_due g) ds
 
 -- item by item
@@ -54,7 +54,7 @@ loops_due g (l ∷ ls) = ap (λ ds. pointer (g l) ∷ ds) (loops_due g ls)
 headed : {A : Type 0} (g : ℤ → ℤ) (d : A → List DueValue) (h : A → A) → ((x : A) → d (h x) ≡ R g (d x)) → (xs : List A) → at_least_one (length (map h xs)) ∷ flat_map d (map h xs) ≡ R g (at_least_one (length xs) ∷ flat_map d xs)
 headed g d h same xs = ap (λ n. at_least_one n ∷ flat_map d (map h xs)) (length-map xs h) ∙ ap (λ ds. at_least_one (length xs) ∷ ds) (each_renamed g d h same xs)
 
-due_renamed : (g : ℤ → ℤ) (kind : EntityKind) (items : Items kind) → due kind (renamed_items g kind items) ≡ R g (due kind items)
+pub due_renamed : (g : ℤ → ℤ) (kind : EntityKind) (items : Items kind) → due kind (renamed_items g kind items) ≡ R g (due kind items)
 due_renamed g solid s =
     ap (λ n. pointer (g s.outer.0) ∷ flag s.outer.1 ∷ count n ∷ flat_map pair_due (map (renamed_pair g) s.voids)) (length-map s.voids (renamed_pair g))
     ∙ ap (λ ds. pointer (g s.outer.0) ∷ flag s.outer.1 ∷ count (length s.voids) ∷ ds) (each_renamed g pair_due (renamed_pair g) (λ p. refl) s.voids)

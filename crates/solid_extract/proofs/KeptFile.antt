@@ -29,7 +29,7 @@ use Rattle.solid_extract.proofs.NewNumbers.{has_kind}
 use Rattle.solid_extract.specs.declared.fault.ExtractFault.{ExtractFault}
 use Rattle.solid_extract.specs.declared.fault.ExtractFault.TheVariants as fault
 use Rattle.solid_extract.specs.declared.fault.Refusal.{Refusal}
-use Rattle.solid_extract.specs.Extracted.{is_solid, Reaches, here, further, IsExtracted, IsRefused, new_record, new_values}
+use Rattle.solid_extract.specs.Extracted.{is_solid, Reaches, here, further, IsExtracted, IsExtractedAs, IsRefused, new_number, new_record, new_values}
 use Rattle.solid_extract.specs.Flooding.{fault_at, IsFlooded, IsLeastFault}
 use Rattle.solid_extract.specs.Making.{records_of, IsFaultless, IsExtractFault, GivesFile, GivesRefusal}
 use Rattle.solid_extract.proofs.Copies.{one_more, all_at, zip_length, filter_map_few}
@@ -233,6 +233,11 @@ module _ (f : Contents) (n : ℕ) (ns : List ℕ) (refusal : Option Refusal) (no
     entries = ee;
   }
 
+  pub extracted_as_is : (new : Contents) (number : ℕ) → new.start ≡ f.start → new.global ≡ f.global → new.entries ≡ map (new_record f (numbers_of nos)) (records_of f (numbers_of nos)) → number ≡ new_number (numbers_of nos) n
+      → IsExtractedAs f n new number
+  unfolding extracted_is
+  extracted_as_is new number es eg ee en = record { extracted = extracted_is new es eg ee; is = en }
+
 -- ---- one answer
 
 pub only_file : (f : Contents) (n : ℕ) (result : Result Contents ExtractFault) (new : Contents) → IfOk result (IsExtracted f n) → IfErr result (IsExtractFault f n) → IsExtracted f n new → GivesFile result new
@@ -269,13 +274,23 @@ made_entries f kept (m ∷ ms) (r ∷ rs) few all h =
     let made : IsMadeEntry r = all_at IsMadeEntry f.entries (m / 2) r all (named_place f m r h.0).1 in
     (record { bounded = kept_bounded r.0 kept few made.bounded; unused = λ zero_kind. absurd (let g : true ≡ false = sym zero_kind ∙ has_kind f m r h.0 in cc) }, made_entries f kept ms rs few all h.1)
 
+records_count : (f new : Contents) (n : ℕ) (x : IsExtracted f n new) → length x.records ≤ length f.entries
+records_count f new n x =
+    let are = records_are f x.kept x.records x.each_named in
+    let count : sum_by (λ (r : Record). 1) (records_of f x.kept) ≤ sum_by (λ (r : Record). 1) f.entries = kept_weigh f (λ (r : Record). 1) x.kept x.rising are.1 in
+    omega (arith, ap length are.0, count, ones (records_of f x.kept), ones f.entries)
+
+pub kept_count : (f new : Contents) (n : ℕ) → IsMade f → (x : IsExtracted f n new) → length x.kept ≤ 4999999
+kept_count f new n made x =
+    let most : length f.entries ≤ 4999999 = made.limits.entries in
+    omega (arith, zip_length (λ m r. named f (pos m) ≡ Some r) x.kept x.records x.each_named, records_count f new n x, most)
+
 pub extracted_is_made : ExtractedIsMade
 extracted_is_made f new n made x =
     let are = records_are f x.kept x.records x.each_named in
-    let count : sum_by (λ (r : Record). 1) (records_of f x.kept) ≤ sum_by (λ (r : Record). 1) f.entries = kept_weigh f (λ (r : Record). 1) x.kept x.rising are.1 in
-    let long : length x.records ≤ length f.entries = omega (arith, ap length are.0, count, ones (records_of f x.kept), ones f.entries) in
+    let long : length x.records ≤ length f.entries = records_count f new n x in
     let most : length f.entries ≤ 4999999 = made.limits.entries in
-    let few : length x.kept ≤ 4999999 = omega (arith, zip_length (λ m r. named f (pos m) ≡ Some r) x.kept x.records x.each_named, long, most) in
+    let few : length x.kept ≤ 4999999 = kept_count f new n made x in
     let values : value_count x.records ≤ value_count f.entries = subst (λ (rs : List Record). value_count rs ≤ value_count f.entries) (sym are.0) (kept_few f x.kept x.rising are.1) in
     let limit : value_count f.entries ≤ 164000000 = made.limits.values in
     record {

@@ -22,7 +22,7 @@ use Rattle.solid_extract.proofs.Keeping.{keeps}
 use Rattle.solid_extract.proofs.NewNumbers.{found_at, new_named}
 
 -- a faultless entry of one of the six kinds has a record of that kind
-faultless_is_record : (f : Contents) (r : Record) (kind : EntityKind) → entry_fault f r ≡ None → kind_of_type r.0.kind ≡ Some kind → is_record_of kind r.1 ≡ true
+pub faultless_is_record : (f : Contents) (r : Record) (kind : EntityKind) → entry_fault f r ≡ None → kind_of_type r.0.kind ≡ Some kind → is_record_of kind r.1 ≡ true
 faultless_is_record f r kind none e = by_test (is_record_of kind r.1) refl
   where
     own : own_of r ≡ own_of_kind kind r.1

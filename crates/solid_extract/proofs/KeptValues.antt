@@ -102,11 +102,11 @@ pointers_few : (vs : List Value) (own n k : ℕ) → 0 < length (take k (drop 1 
 pointers_few vs own n k some =
     omega (arith, some, length-take k (drop 1 (drop n (drop 1 (drop own vs)))), length-drop 1 (drop n (drop 1 (drop own vs))), length-drop n (drop 1 (drop own vs)), length-drop 1 (drop own vs), length-drop own vs)
 
-second_few : (own : Own) (vs : List Value) → 0 < length (second_group own vs).pointers → length (second_group own vs).pointers + 2 + own.count ≤ length vs
+pub second_few : (own : Own) (vs : List Value) → 0 < length (second_group own vs).pointers → length (second_group own vs).pointers + 2 + own.count ≤ length vs
 second_few own vs some = pointers_few vs own.count (unwrap_or (count_of (first_group own vs).count) 0) (unwrap_or (count_of (second_group own vs).count) 0) some
 
 module _ (f : Contents) (kept : List ℕ) (r : Record) where
-  abbrev values_of_own : Option Own → List Value
+  abbrev pub values_of_own : Option Own → List Value
   values_of_own o =
       elim o as (λ _. List Value) [ Some own ↦ map (λ (v : ℕ × Value). new_value kept own v.0 v.1) (enumerate_from 1 (take own.count r.1)) | None ↦ [] ]
       ++ names_behind (new_numbers kept (elim o as (λ _. List ℤ) [ Some own ↦ filter (is_name f) (filter_map number_of (second_group own r.1).pointers) | None ↦ [] ]))

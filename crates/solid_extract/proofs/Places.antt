@@ -21,10 +21,10 @@ place_step x m xs false t =
     let next : 1 + place_of xs m ≡ suc (place_of xs m) = omega arith in
     ap (λ (b : Bool). cond (not b) (1 + place_of xs m) 0) t ∙ next
 
-place_here : (x m : ℕ) (xs : List ℕ) → x ≡ m → place_of (x ∷ xs) m ≡ 0
+pub place_here : (x m : ℕ) (xs : List ℕ) → x ≡ m → place_of (x ∷ xs) m ≡ 0
 place_here x m xs e = place_step x m xs true (eq-eqb x m e)
 
-place_later : (x m : ℕ) (xs : List ℕ) → (x ≡ m → ⊥) → place_of (x ∷ xs) m ≡ suc (place_of xs m)
+pub place_later : (x m : ℕ) (xs : List ℕ) → (x ≡ m → ⊥) → place_of (x ∷ xs) m ≡ suc (place_of xs m)
 place_later x m xs ne = place_step x m xs false (ne_eqb x m ne)
 
 -- a number that is kept stands at its place

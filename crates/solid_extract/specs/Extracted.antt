@@ -85,3 +85,8 @@ pub record IsExtracted (f : Contents) (n : ℕ) (new : Contents) : Type 0 where
   pub start : new.start ≡ f.start
   pub global : new.global ≡ f.global
   pub entries : new.entries ≡ map (new_record f kept) records
+
+-- the same, and the number that the solid has in it
+pub record IsExtractedAs (f : Contents) (n : ℕ) (new : Contents) (number : ℕ) : Type 0 where
+  pub extracted : IsExtracted f n new
+  pub is : number ≡ new_number extracted.kept n

@@ -4,7 +4,7 @@ ghost use Rattle.entry_references.specs.declared.fault.ExtractReason.{ExtractRea
 ghost use Rattle.iges_fields.specs.declared.TheConstants.{FILE_LIMIT};
 ghost use Rattle.iges_params.specs.Contents.{Contents, value_count};
 ghost use Rattle.iges_params.specs.Made.{IsMade};
-ghost use Rattle.solid_extract.specs.Extracted.{IsExtracted, IsRefused, is_solid, new_record};
+ghost use Rattle.solid_extract.specs.Extracted.{IsExtracted, IsExtractedAs, IsRefused, is_solid, new_record};
 ghost use Rattle.solid_extract.specs.Making.{GivesFile, GivesRefusal, IsExtractFault, IsFaultless, records_of};
 ghost use Rattle.std.specs.List.{AllByRecursion};
 ghost use Rattle.std.specs.Prelude.{◌≡◌, ◌+◌, ◌∷◌, ◌++◌, ◌<◌, ◌≤◌, ℕ, [], IfErr, IfOk, OnOk, length, map};
@@ -18,6 +18,13 @@ use entry_references::{ExtractReason, record_of, shape_of};
 use iges_fields::{EntryNo, NoMemory};
 use iges_params::File;
 use std::alloc::Global;
+
+/// The file of a solid, and the number that the solid has in it (own).
+#[derive(Drop)]
+pub struct Extraction {
+    pub file: File,
+    pub no: EntryNo,
+}
 
 // Puts the entry that a number names, as it is kept. It has no fault, so that its shape is told unless memory runs out.
 fn push_kept(
@@ -64,8 +71,8 @@ fn is_solid(file: &File, no: EntryNo) -> bool
     }
 }
 
-fn extracted(alloc: Global, file: &File, no: EntryNo) -> Result<File, ExtractFault>
-    ensures found { IfOk result (IsExtracted file.now no.0) }
+fn extracted_as(alloc: Global, file: &File, no: EntryNo) -> Result<Extraction, ExtractFault>
+    ensures found { IfOk result (λ x. IsExtractedAs file.now no.0 x.file x.no.0) }
     ensures fault { IfErr result (IsExtractFault file.now no.0) }
 {
     if !is_solid(file, no) {
@@ -83,7 +90,18 @@ fn extracted(alloc: Global, file: &File, no: EntryNo) -> Result<File, ExtractFau
     }
     let kept = flood.reached.rising(alloc)?;
     let renaming = Renaming::new(alloc, kept, file.entry_count())?;
-    Ok(kept_file(alloc, file, &renaming)?)
+    let new = kept_file(alloc, file, &renaming)?;
+    Ok(Extraction {
+        file: new,
+        no: renaming.number(no),
+    })
+}
+
+fn extracted(alloc: Global, file: &File, no: EntryNo) -> Result<File, ExtractFault>
+    ensures found { IfOk result (IsExtracted file.now no.0) }
+    ensures fault { IfErr result (IsExtractFault file.now no.0) }
+{
+    Ok(extracted_as(alloc, file, no)?.file)
 }
 
 /// The file of a solid: the entries that a chain of references reaches from it, in rising order, renamed 1, 3, 5 and so
@@ -96,4 +114,12 @@ pub fn extract(alloc: Global, file: &File, no: EntryNo) -> Result<File, ExtractF
     ensures only_fault { (entity : ℕ) (reason : Reason) → IsRefused file.now no.0 entity reason → GivesRefusal result entity reason }
 {
     extracted(alloc, file, no)
+}
+
+/// The file of a solid as `extract` gives it, with the solid's number in it, or the refusal of `extract` (own).
+pub fn extract_numbered(alloc: Global, file: &File, no: EntryNo) -> Result<Extraction, ExtractFault>
+    ensures found { IfOk result (λ x. IsExtractedAs file.now no.0 x.file x.no.0) }
+    ensures fault { IfErr result (IsExtractFault file.now no.0) }
+{
+    extracted_as(alloc, file, no)
 }

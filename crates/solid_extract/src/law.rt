@@ -1,5 +1,6 @@
 //! Laws of extraction.
 
+ghost use Rattle.solid_extract.specs.Again.{ExtractedAgain};
 ghost use Rattle.solid_extract.specs.Kept.{RecordsAreKept, KeptAreNamed, ItemsAreKept};
 ghost use Rattle.solid_extract.specs.MadeAgain.{ExtractedIsMade};
 ghost use Rattle.solid_extract.specs.OneExtraction.{OneFile, OneRefusal, NotBoth};
@@ -28,4 +29,9 @@ pub fn items_are_kept()
 /// limits of a file (own).
 pub fn extracted_is_made()
     ensures { ExtractedIsMade }
+{}
+
+/// What is extracted is extracted again as the same file. (own)
+pub fn extracted_again()
+    ensures { ExtractedAgain }
 {}

@@ -9,9 +9,12 @@ mod new_values;
 mod reaching;
 mod renaming;
 
-pub use extraction::extract;
+pub use copying::begun;
+pub use extraction::{Extraction, extract, extract_numbered};
 pub use fault::ExtractFault;
-pub use law::{extracted_is_made, items_are_kept, one_extraction, records_are_kept};
+pub use law::{
+    extracted_again, extracted_is_made, items_are_kept, one_extraction, records_are_kept,
+};
 
 #[cfg(test)]
 mod tests;

@@ -2,14 +2,14 @@
 
 ghost use Rattle.entry_references.specs.EntrySets.{IsWithin, numbers_of};
 ghost use Rattle.iges_directory.specs.Bounds.{IsBounded, fits_columns};
-ghost use Rattle.solid_extract.specs.Extracted.{if_number, new_entry, renamed};
+ghost use Rattle.solid_extract.specs.Extracted.{if_number, new_entry, new_number, renamed};
 ghost use Rattle.solid_extract.specs.Renaming.{place_of};
 ghost use Rattle.std.specs.List.{AllByRecursion};
 ghost use Rattle.std.specs.Prelude.{◌≡◌, ◌+◌, ◌*◌, ◌≤◌, ℕ, IfOk, IsTrue, if◌then◌else◌, int_lt, length, neg_ℤ, pos};
 
 use entry_references::EntryList;
 use iges_directory::Entry;
-use iges_fields::NoMemory;
+use iges_fields::{EntryNo, NoMemory};
 use std::alloc::Global;
 use std::marker::Model;
 
@@ -82,6 +82,13 @@ impl Renaming {
         } else {
             self.kept.len()
         }
+    }
+
+    /// The new number of an entry that is kept.
+    pub fn number(&self, no: EntryNo) -> EntryNo
+        ensures { result.0 ≡ new_number self.now no.0 }
+    {
+        EntryNo(2 * self.place(u64::from(no.0)) as u32 + 1)
     }
 
     /// The new number; 0 stays.

@@ -13,11 +13,12 @@ use Rattle.edge_uses.specs.ShellRows.{ShellRows}
 use Rattle.edge_uses.specs.Closed.{AreMates, Turns, StartsAt, OnFace, AreNeighbours, IsPaired, IsReached, IsLinked, IsPoint, point_count}
 use Rattle.solid_data.proofs.Members.{Has, NoRepeat, no_longer, Has-from_Contains, Contains-from_Has, All-from, total, count_by-total, Rises, rises_none}
 use Rattle.edge_uses.proofs.Counting.{found_row}
-use Rattle.cert_lines.specs.Line.{CertLine, edge, corner, point, reach, IsShort}
-use Rattle.topo_certificate.specs.Stand.{Stand, stand_behind, FitsEdge, FitsCorner, FitsPoint, FitsReach, NoneDue, IsAbove, first_of, row_named, row_edge, row_start, row_face, point_named, mates_of, edge_of, vertex_of, face_of, is_shell, is_edge, is_corner_or_point, is_reach, is_last, number_of, since_shell, asked, rows_of_shell, start_count, IsMate, TurnsTo}
+use Rattle.cert_lines.specs.Line.{CertLine, Tally, edge, corner, point, reach, tally, IsShort}
+use Rattle.cert_lines.specs.declared.version.Version.{Version}
+use Rattle.topo_certificate.specs.Stand.{Stand, Due, stand_behind, tallies, is_tally, FitsTally, FitsEdge, FitsCorner, FitsPoint, FitsReach, FitsLine, NoneDue, IsAbove, first_of, row_named, row_edge, row_start, row_face, point_named, mates_of, edge_of, vertex_of, face_of, is_shell, is_edge, is_corner_or_point, is_reach, is_last, number_of, since_shell, asked, rows_of_shell, start_count, IsMate, TurnsTo}
 use Rattle.solid_data.proofs.Occurring.{numbers_rise, number_below, length-numbers}
 use Rattle.topo_certificate.proofs.Segment.{AreGoodRows, row_has}
-use Rattle.topo_certificate.proofs.Shells.{AllFit}
+use Rattle.topo_certificate.proofs.Shells.{AllFit, asked_for}
 use Rattle.topo_certificate.proofs.Short.{IsSmall, IsReadable, readable_edge, readable_corner, readable_point, readable_reach, row_short, starts_few}
 use Rattle.topo_certificate.proofs.Corner.{starts_listed}
 use Rattle.edge_uses.proofs.Cycle.{same_or_not, zip_from_trail, IsCycle, AreTurning, cycle_of_corner}
@@ -25,11 +26,11 @@ use Rattle.edge_uses.proofs.Turn.{edge_id, one_of_edge, row_of_edge_along, row_o
 use Rattle.edge_uses.proofs.RowNumbers.{starting, length-starting, starting_none, starting_is}
 
 -- how far the lines of a shell have come
-pub record Stage (s : SolidData) (lines : List CertLine) (k : ℕ) (d : ShellRows) (es vs fs : List ℕ) (ms : List (ℕ × ℕ)) : Type 0 where
+pub record Stage (version : Version) (s : SolidData) (lines : List CertLine) (k : ℕ) (d : ShellRows) (es vs fs : List ℕ) (ms : List (ℕ × ℕ)) : Type 0 where
   pub rows : rows_of_shell s k ≡ d
   pub begun : list_any is_last lines ≡ false
   pub shells : number_of is_shell lines ≡ k
-  pub asks : asked (find is_shell lines) ≡ (length d.edges, length d.vertices, d.face_count - 1)
+  pub asks : asked version (find is_shell lines) ≡ asked_for version d
   pub edges : filter_map (edge_of d) (since_shell lines) ≡ es
   pub edge_count : number_of is_edge (since_shell lines) ≡ length es
   pub mates : filter_map mates_of (since_shell lines) ≡ ms
@@ -37,61 +38,86 @@ pub record Stage (s : SolidData) (lines : List CertLine) (k : ℕ) (d : ShellRow
   pub corner_count : number_of is_corner_or_point (since_shell lines) ≡ length vs
   pub faces : filter_map (face_of d) (since_shell lines) ≡ fs
   pub reach_count : number_of is_reach (since_shell lines) ≡ length fs
-  pub fit : AllFit s lines
+  pub tally_count : number_of is_tally (since_shell lines) ≡ 0
+  pub fit : AllFit version s lines
   pub short : AllByRecursion (IsReadable s) lines
 
-module _ (s : SolidData) (lines : List CertLine) (k : ℕ) (d : ShellRows) (es vs fs : List ℕ) (ms : List (ℕ × ℕ)) (stage : Stage s lines k d es vs fs ms) where
+module _ (version : Version) (s : SolidData) (lines : List CertLine) (k : ℕ) (d : ShellRows) (es vs fs : List ℕ) (ms : List (ℕ × ℕ)) (stage : Stage version s lines k d es vs fs ms) where
   at : Stand
-  at = stand_behind s lines
+  at = stand_behind version s lines
 
-  pub edges_left : (stand_behind s lines).edges_due ≡ length d.edges - length es
+  pub edges_left : (stand_behind version s lines).due.edges ≡ length d.edges - length es
   unfolding stand_behind
-  edges_left = ap (λ (a : ℕ × ℕ × ℕ). a.0 - number_of is_edge (since_shell lines)) stage.asks ∙ ap (λ n. length d.edges - n) stage.edge_count
+  edges_left = ap (λ (a : Due). a.edges - number_of is_edge (since_shell lines)) stage.asks ∙ ap (λ n. length d.edges - n) stage.edge_count
 
-  pub corners_left : (stand_behind s lines).corners_due ≡ length d.vertices - length vs
+  pub corners_left : (stand_behind version s lines).due.corners ≡ length d.vertices - length vs
   unfolding stand_behind
-  corners_left = ap (λ (a : ℕ × ℕ × ℕ). a.1 - number_of is_corner_or_point (since_shell lines)) stage.asks ∙ ap (λ n. length d.vertices - n) stage.corner_count
+  corners_left = ap (λ (a : Due). a.corners - number_of is_corner_or_point (since_shell lines)) stage.asks ∙ ap (λ n. length d.vertices - n) stage.corner_count
 
-  pub reach_left : (stand_behind s lines).reach_due ≡ d.face_count - 1 - length fs
+  pub reach_left : (stand_behind version s lines).due.reach ≡ d.face_count - 1 - length fs
   unfolding stand_behind
-  reach_left = ap (λ (a : ℕ × ℕ × ℕ). a.2 - number_of is_reach (since_shell lines)) stage.asks ∙ ap (λ n. d.face_count - 1 - n) stage.reach_count
+  reach_left = ap (λ (a : Due). a.reach - number_of is_reach (since_shell lines)) stage.asks ∙ ap (λ n. d.face_count - 1 - n) stage.reach_count
+
+  pub tally_left : (stand_behind version s lines).due.tally ≡ tallies version
+  unfolding stand_behind
+  tally_left = ap (λ (a : Due). a.tally - number_of is_tally (since_shell lines)) stage.asks ∙ (ap (λ n. tallies version - n) stage.tally_count ∙ omega arith)
 
   pub here : rows_of_shell s (number_of is_shell lines) ≡ d
   here = ap (rows_of_shell s) stage.shells ∙ stage.rows
 
-  pub edge_before : (stand_behind s lines).last_edge ≡ first_of es
+  pub edge_before : (stand_behind version s lines).last_edge ≡ first_of es
   unfolding stand_behind
   edge_before = ap (λ c. first_of (filter_map (edge_of c) (since_shell lines))) here ∙ ap first_of stage.edges
 
-  pub vertex_before : (stand_behind s lines).last_vertex ≡ first_of vs
+  pub vertex_before : (stand_behind version s lines).last_vertex ≡ first_of vs
   unfolding stand_behind
   vertex_before = ap (λ c. first_of (filter_map (vertex_of c) (since_shell lines))) here ∙ ap first_of stage.vertices
 
-  pub reached_before : (stand_behind s lines).reached ≡ 0 ∷ fs
+  pub reached_before : (stand_behind version s lines).reached ≡ 0 ∷ fs
   unfolding stand_behind
   reached_before = ap (λ c. 0 ∷ filter_map (face_of c) (since_shell lines)) here ∙ ap (λ xs. 0 ∷ xs) stage.faces
 
-  pub mates_before : (stand_behind s lines).mates ≡ ms
+  pub mates_before : (stand_behind version s lines).mates ≡ ms
   unfolding stand_behind
   mates_before = stage.mates
 
-  pub not_ended : (stand_behind s lines).ended ≡ false
+  pub not_ended : (stand_behind version s lines).ended ≡ false
   unfolding stand_behind
   not_ended = stage.begun
 
-  pub shell_here : rows_of_shell s (stand_behind s lines).shell ≡ d
+  pub shell_here : rows_of_shell s (stand_behind version s lines).shell ≡ d
   unfolding stand_behind
   shell_here = here
 
-  pub nothing_due : length d.edges ≤ length es → length d.vertices ≤ length vs → d.face_count - 1 ≤ length fs → NoneDue (stand_behind s lines)
-  nothing_due a b c = (omega (arith, a, edges_left), omega (arith, b, corners_left), omega (arith, c, reach_left))
+  pub nothing_due : tallies version ≡ 0 → length d.edges ≤ length es → length d.vertices ≤ length vs → d.face_count - 1 ≤ length fs → NoneDue (stand_behind version s lines).due
+  nothing_due none a b c = record { edges = omega (arith, a, edges_left); corners = omega (arith, b, corners_left); reach = omega (arith, c, reach_left); tally = omega (arith, none, tally_left) }
+
+  number_here : (stand_behind version s lines).shell ≡ k
+  unfolding stand_behind
+  number_here = stage.shells
+
+  -- where one TALLY line ends a shell, and nothing else is due, that of the shell fits, and nothing is due after it
+  pub tally_fits : (t : Tally) → tallies version ≡ 1 → length d.edges ≤ length es → length d.vertices ≤ length vs → d.face_count - 1 ≤ length fs → FitsTally s k t → FitsLine s (stand_behind version s lines) (tally t)
+  tally_fits t one a b c fits =
+      (not_ended, ((omega (arith, a, edges_left), omega (arith, b, corners_left), omega (arith, c, reach_left), omega (arith, one, tally_left)), subst (λ n. FitsTally s n t) (sym number_here) fits))
+
+  pub none_after_tally : (t : Tally) → tallies version ≡ 1 → length d.edges ≤ length es → length d.vertices ≤ length vs → d.face_count - 1 ≤ length fs → NoneDue (stand_behind version s (tally t ∷ lines)).due
+  unfolding stand_behind
+  none_after_tally t one a b c =
+      let left : tallies version - suc (number_of is_tally (since_shell lines)) ≡ 0 = omega (arith, one) in
+      record {
+        edges = omega (arith, a, edges_left);
+        corners = omega (arith, b, corners_left);
+        reach = omega (arith, c, reach_left);
+        tally = ap (λ (a : Due). a.tally - suc (number_of is_tally (since_shell lines))) stage.asks ∙ left;
+      }
 
   -- a line for an edge
   pub add_edge : (a b e : ℕ) (x y : Row) → length es < length d.edges → row_named d a ≡ Some x → row_named d b ≡ Some y → x.edge.0 ≡ e → x.edge ≡ y.edge → x.along ≡ true → y.along ≡ false → IsAbove (first_of es) e
-      → IsReadable s (edge a b) → Stage s (edge a b ∷ lines) k d (e ∷ es) vs fs ((a, b) ∷ ms)
+      → IsReadable s (edge a b) → Stage version s (edge a b ∷ lines) k d (e ∷ es) vs fs ((a, b) ∷ ms)
   add_edge a b e x y left at_a at_b is_e one along against above ok =
       let listed : row_edge (row_named d a) ≡ Some e = ap row_edge at_a ∙ ap Some is_e in
-      let fits : FitsEdge d (stand_behind s lines) a b = record { along_row = x; against_row = y; at_a = at_a; at_b = at_b; one_edge = one; along = along; against = against; rises = subst (λ o. IsAbove o x.edge.0) (sym edge_before) (subst (λ n. IsAbove (first_of es) n) (sym is_e) above) } in
+      let fits : FitsEdge d (stand_behind version s lines) a b = record { along_row = x; against_row = y; at_a = at_a; at_b = at_b; one_edge = one; along = along; against = against; rises = subst (λ o. IsAbove o x.edge.0) (sym edge_before) (subst (λ n. IsAbove (first_of es) n) (sym is_e) above) } in
       record {
         rows = stage.rows;
         begun = stage.begun;
@@ -104,15 +130,16 @@ module _ (s : SolidData) (lines : List CertLine) (k : ℕ) (d : ShellRows) (es v
         corner_count = stage.corner_count;
         faces = stage.faces;
         reach_count = stage.reach_count;
-        fit = ((not_ended, (omega (arith, left, edges_left), subst (λ c. FitsEdge c (stand_behind s lines) a b) (sym shell_here) fits)), stage.fit);
+        tally_count = stage.tally_count;
+        fit = ((not_ended, (omega (arith, left, edges_left), subst (λ c. FitsEdge c (stand_behind version s lines) a b) (sym shell_here) fits)), stage.fit);
         short = (ok, stage.short);
       }
 
   -- a line for a corner
   pub add_corner : (v r : ℕ) (rs : List ℕ) → length d.edges ≤ length es → length vs < length d.vertices → row_start (row_named d r) ≡ Some v → AllZip (TurnsTo d ms) (r ∷ rs) (next_of_each (r ∷ rs)) → AllByRecursion (λ x. r < x) rs
-      → length (r ∷ rs) ≡ start_count d v → point_count d v ≡ 0 → IsAbove (first_of vs) v → IsReadable s (corner (r ∷ rs)) → Stage s (corner (r ∷ rs) ∷ lines) k d es (v ∷ vs) fs ms
+      → length (r ∷ rs) ≡ start_count d v → point_count d v ≡ 0 → IsAbove (first_of vs) v → IsReadable s (corner (r ∷ rs)) → Stage version s (corner (r ∷ rs) ∷ lines) k d es (v ∷ vs) fs ms
   add_corner v r rs edges_done left starts turns least whole no_point above ok =
-      let fits : FitsCorner d (stand_behind s lines) r rs = record { vertex = v; lies_at = starts; turns = subst (λ m. AllZip (TurnsTo d m) (r ∷ rs) (next_of_each (r ∷ rs))) (sym mates_before) turns; least = least; whole = whole; no_point = no_point; rises = subst (λ o. IsAbove o v) (sym vertex_before) above } in
+      let fits : FitsCorner d (stand_behind version s lines) r rs = record { vertex = v; lies_at = starts; turns = subst (λ m. AllZip (TurnsTo d m) (r ∷ rs) (next_of_each (r ∷ rs))) (sym mates_before) turns; least = least; whole = whole; no_point = no_point; rises = subst (λ o. IsAbove o v) (sym vertex_before) above } in
       record {
         rows = stage.rows;
         begun = stage.begun;
@@ -125,15 +152,16 @@ module _ (s : SolidData) (lines : List CertLine) (k : ℕ) (d : ShellRows) (es v
         corner_count = ap suc stage.corner_count;
         faces = stage.faces;
         reach_count = stage.reach_count;
-        fit = ((not_ended, ((omega (arith, edges_done, edges_left), omega (arith, left, corners_left)), subst (λ c. FitsCorner c (stand_behind s lines) r rs) (sym shell_here) fits)), stage.fit);
+        tally_count = stage.tally_count;
+        fit = ((not_ended, ((omega (arith, edges_done, edges_left), omega (arith, left, corners_left)), subst (λ c. FitsCorner c (stand_behind version s lines) r rs) (sym shell_here) fits)), stage.fit);
         short = (ok, stage.short);
       }
 
   -- a line for a loop without an edge
   pub add_point : (v face l : ℕ) → length d.edges ≤ length es → length vs < length d.vertices → option_map (λ (p : LoopAt × ℕ). p.1) (point_named d face l) ≡ Some v → start_count d v ≡ 0 → point_count d v ≡ 1 → IsAbove (first_of vs) v
-      → IsReadable s (point face l) → Stage s (point face l ∷ lines) k d es (v ∷ vs) fs ms
+      → IsReadable s (point face l) → Stage version s (point face l ∷ lines) k d es (v ∷ vs) fs ms
   add_point v face l edges_done left lies no_row one above ok =
-      let fits : FitsPoint d (stand_behind s lines) face l = record { vertex = v; lies_at = lies; no_row = no_row; one_point = one; rises = subst (λ o. IsAbove o v) (sym vertex_before) above } in
+      let fits : FitsPoint d (stand_behind version s lines) face l = record { vertex = v; lies_at = lies; no_row = no_row; one_point = one; rises = subst (λ o. IsAbove o v) (sym vertex_before) above } in
       record {
         rows = stage.rows;
         begun = stage.begun;
@@ -146,15 +174,16 @@ module _ (s : SolidData) (lines : List CertLine) (k : ℕ) (d : ShellRows) (es v
         corner_count = ap suc stage.corner_count;
         faces = stage.faces;
         reach_count = stage.reach_count;
-        fit = ((not_ended, ((omega (arith, edges_done, edges_left), omega (arith, left, corners_left)), subst (λ c. FitsPoint c (stand_behind s lines) face l) (sym shell_here) fits)), stage.fit);
+        tally_count = stage.tally_count;
+        fit = ((not_ended, ((omega (arith, edges_done, edges_left), omega (arith, left, corners_left)), subst (λ c. FitsPoint c (stand_behind version s lines) face l) (sym shell_here) fits)), stage.fit);
         short = (ok, stage.short);
       }
 
   -- a line for a face
   pub add_reach : (r m f g : ℕ) → length d.edges ≤ length es → length d.vertices ≤ length vs → length fs < d.face_count - 1 → IsMate ms r m → row_face (row_named d r) ≡ Some f → row_face (row_named d m) ≡ Some g → (Has (0 ∷ fs) f → ⊥) → Has (0 ∷ fs) g
-      → IsReadable s (reach r) → Stage s (reach r ∷ lines) k d es vs (f ∷ fs) ms
+      → IsReadable s (reach r) → Stage version s (reach r ∷ lines) k d es vs (f ∷ fs) ms
   add_reach r m f g edges_done corners_done left mate on_f on_g new old ok =
-      let fits : FitsReach d (stand_behind s lines) r = record {
+      let fits : FitsReach d (stand_behind version s lines) r = record {
         mate = m;
         face = f;
         known = g;
@@ -176,7 +205,8 @@ module _ (s : SolidData) (lines : List CertLine) (k : ℕ) (d : ShellRows) (es v
         corner_count = stage.corner_count;
         faces = ap (λ o. cons_option o (filter_map (face_of d) (since_shell lines))) on_f ∙ ap (λ xs. f ∷ xs) stage.faces;
         reach_count = ap suc stage.reach_count;
-        fit = ((not_ended, (omega (arith, edges_done, edges_left), omega (arith, corners_done, corners_left), omega (arith, left, reach_left), subst (λ c. FitsReach c (stand_behind s lines) r) (sym shell_here) fits)), stage.fit);
+        tally_count = stage.tally_count;
+        fit = ((not_ended, ((omega (arith, edges_done, edges_left), omega (arith, corners_done, corners_left), omega (arith, left, reach_left)), subst (λ c. FitsReach c (stand_behind version s lines) r) (sym shell_here) fits)), stage.fit);
         short = (ok, stage.short);
       }
 
@@ -186,25 +216,25 @@ module _ (s : SolidData) (lines : List CertLine) (k : ℕ) (d : ShellRows) (es v
 abbrev pub MatedAt : ShellRows → List (ℕ × ℕ) → ℕ → Type 0
 MatedAt d ms e = (a : ℕ) × (b : ℕ) × (x : Row) × (y : Row) × Has ms (suc a, suc b) × (slice_get d.rows a ≡ Some x) × (slice_get d.rows b ≡ Some y) × (x.edge.0 ≡ e) × (y.edge.0 ≡ e) × (x.along ≡ true) × (y.along ≡ false)
 
-pub record EdgesBuilt (s : SolidData) (k : ℕ) (d : ShellRows) : Type 0 where
+pub record EdgesBuilt (version : Version) (s : SolidData) (k : ℕ) (d : ShellRows) : Type 0 where
   pub lines : List CertLine
   pub es : List ℕ
   pub ms : List (ℕ × ℕ)
-  pub stage : Stage s lines k d es [] [] ms
+  pub stage : Stage version s lines k d es [] [] ms
   pub all : length es ≡ length d.edges
   pub mated : (e : ℕ) → Has d.edges e → MatedAt d ms e
 
-pub build_edges : (s : SolidData) (k : ℕ) (d : ShellRows) → IsSmall s d → (left es : List ℕ) (ms : List (ℕ × ℕ)) (lines : List CertLine) → Stage s lines k d es [] [] ms
+pub build_edges : (version : Version) (s : SolidData) (k : ℕ) (d : ShellRows) → IsSmall s d → (left es : List ℕ) (ms : List (ℕ × ℕ)) (lines : List CertLine) → Stage version s lines k d es [] [] ms
     → length es + length left ≡ length d.edges → AllByRecursion (λ z. IsAbove (first_of es) z) left → Rises left → ((e : ℕ) → Has left e → IsPaired d e)
-    → ((e : ℕ) → Has d.edges e → Has left e ⊎ MatedAt d ms e) → EdgesBuilt s k d
-build_edges s k d small [] es ms lines stage count above rises paired mated =
+    → ((e : ℕ) → Has d.edges e → Has left e ⊎ MatedAt d ms e) → EdgesBuilt version s k d
+build_edges version s k d small [] es ms lines stage count above rises paired mated =
     record { lines = lines; es = es; ms = ms; stage = stage; all = omega (arith, count); mated = λ e m. ⊎_elim (λ h. absurd h) (λ h. h) (mated e m) }
-build_edges s k d small (e ∷ left) es ms lines stage count above rises paired mated =
+build_edges version s k d small (e ∷ left) es ms lines stage count above rises paired mated =
     let a = row_of_edge_along d e (paired e (inl refl)) in
     let b = row_of_edge_against d e (paired e (inl refl)) in
     let here : MatedAt d ((suc a.0, suc b.0) ∷ ms) e = (a.0, b.0, a.1, b.1, inl refl, a.2, b.2, a.3, b.3, a.4, b.4) in
-    build_edges s k d small left (e ∷ es) ((suc a.0, suc b.0) ∷ ms) (edge (suc a.0) (suc b.0) ∷ lines)
-    (add_edge s lines k d es [] [] ms stage (suc a.0) (suc b.0) e a.1 b.1 (omega (arith, count)) a.2 b.2 a.3 (edge_id a.1.edge b.1.edge (a.3 ∙ sym b.3)) a.4 b.4 above.0 (readable_edge s (suc a.0) (suc b.0) (row_short s d small a.0 a.1 a.2) (row_short s d small b.0 b.1 b.2)))
+    build_edges version s k d small left (e ∷ es) ((suc a.0, suc b.0) ∷ ms) (edge (suc a.0) (suc b.0) ∷ lines)
+    (add_edge version s lines k d es [] [] ms stage (suc a.0) (suc b.0) e a.1 b.1 (omega (arith, count)) a.2 b.2 a.3 (edge_id a.1.edge b.1.edge (a.3 ∙ sym b.3)) a.4 b.4 above.0 (readable_edge s (suc a.0) (suc b.0) (row_short s d small a.0 a.1 a.2) (row_short s d small b.0 b.1 b.2)))
     (omega (arith, count)) rises.0 rises.1 (λ x m. paired x (inr m))
     (λ x m. ⊎_elim
     (λ h. ⊎_elim (λ same. inr (subst (MatedAt d ((suc a.0, suc b.0) ∷ ms)) same here)) (λ t. inl t) h)
@@ -339,33 +369,33 @@ none_start d v h = by_count (start_count d v) refl
         let f = found_row (λ (x : Row). x.from.0 == v) d.rows (omega (arith, e, count_by-total (λ (x : Row). x.from.0 == v) d.rows)) in
         absurd (h f.0 (f.1, f.2, eqb-true f.1.from.0 v f.3))
 
-pub record CornersBuilt (s : SolidData) (k : ℕ) (d : ShellRows) (es : List ℕ) (ms : List (ℕ × ℕ)) : Type 0 where
+pub record CornersBuilt (version : Version) (s : SolidData) (k : ℕ) (d : ShellRows) (es : List ℕ) (ms : List (ℕ × ℕ)) : Type 0 where
   pub lines : List CertLine
   pub vs : List ℕ
-  pub stage : Stage s lines k d es vs [] ms
+  pub stage : Stage version s lines k d es vs [] ms
   pub all : length vs ≡ length d.vertices
 
-pub build_corners : (s : SolidData) (k : ℕ) (d : ShellRows) (es : List ℕ) (ms : List (ℕ × ℕ)) → IsSmall s d → AreTurning d → PointsDiffer d → ((r m : ℕ) → AreMates d r m → IsMate ms (suc r) (suc m)) → length d.edges ≤ length es
-    → (left vs : List ℕ) (lines : List CertLine) → Stage s lines k d es vs [] ms → length vs + length left ≡ length d.vertices → AllByRecursion (λ z. IsAbove (first_of vs) z) left → Rises left → ((v : ℕ) → Has left v → IsLinked d v)
-    → CornersBuilt s k d es ms
-build_corners s k d es ms small turning differ listed done [] vs lines stage count above rises linked = record { lines = lines; vs = vs; stage = stage; all = omega (arith, count) }
-build_corners s k d es ms small turning differ listed done (v ∷ left) vs lines stage count above rises linked =
+pub build_corners : (version : Version) (s : SolidData) (k : ℕ) (d : ShellRows) (es : List ℕ) (ms : List (ℕ × ℕ)) → IsSmall s d → AreTurning d → PointsDiffer d → ((r m : ℕ) → AreMates d r m → IsMate ms (suc r) (suc m)) → length d.edges ≤ length es
+    → (left vs : List ℕ) (lines : List CertLine) → Stage version s lines k d es vs [] ms → length vs + length left ≡ length d.vertices → AllByRecursion (λ z. IsAbove (first_of vs) z) left → Rises left → ((v : ℕ) → Has left v → IsLinked d v)
+    → CornersBuilt version s k d es ms
+build_corners version s k d es ms small turning differ listed done [] vs lines stage count above rises linked = record { lines = lines; vs = vs; stage = stage; all = omega (arith, count) }
+build_corners version s k d es ms small turning differ listed done (v ∷ left) vs lines stage count above rises linked =
     ⊎_elim
     (λ is_corner.
     let c = cycle_of_corner d v turning is_corner in
     let cycle : IsCycle d v c.0 c.1 = c.2 in
     let zipped : AllZip (Turns d) (c.0 ∷ c.1) (c.1 ++ c.0 ∷ []) = zip_from_trail (Turns d) c.0 c.1 c.0 cycle.trail in
     let turns : AllZip (TurnsTo d ms) (suc c.0 ∷ map suc c.1) (map suc c.1 ++ suc c.0 ∷ []) = subst (λ ys. AllZip (TurnsTo d ms) (suc c.0 ∷ map suc c.1) ys) (map-suc-append c.1 c.0) (zip_suc d ms listed (c.0 ∷ c.1) (c.1 ++ c.0 ∷ []) zipped) in
-    build_corners s k d es ms small turning differ listed done left (v ∷ vs) (corner (suc c.0 ∷ map suc c.1) ∷ lines)
-    (add_corner s lines k d es vs [] ms stage v (suc c.0) (map suc c.1) done (omega (arith, count)) (ap row_start cycle.starts.1 ∙ ap Some cycle.starts.2) turns (above_suc c.0 c.1 cycle.least) (cycle_whole d v c.0 c.1 cycle) is_corner.no_point above.0
+    build_corners version s k d es ms small turning differ listed done left (v ∷ vs) (corner (suc c.0 ∷ map suc c.1) ∷ lines)
+    (add_corner version s lines k d es vs [] ms stage v (suc c.0) (map suc c.1) done (omega (arith, count)) (ap row_start cycle.starts.1 ∙ ap Some cycle.starts.2) turns (above_suc c.0 c.1 cycle.least) (cycle_whole d v c.0 c.1 cycle) is_corner.no_point above.0
     (readable_corner s (suc c.0) (map suc c.1)
     (All-from IsShort (suc c.0 ∷ map suc c.1) (λ x m. let q = from_suc (c.0 ∷ c.1) x m in let at = cycle.each q.0 q.2 in subst IsShort (sym q.1) (row_short s d small q.0 at.0 at.1)))
     (omega (arith, cycle_whole d v c.0 c.1 cycle, starts_few s d small v))))
     (omega (arith, count)) rises.0 rises.1 (λ x m. linked x (inr m)))
     (λ point_there.
     let p = named_point s d v small differ point_there in
-    build_corners s k d es ms small turning differ listed done left (v ∷ vs) (point p.0 p.1 ∷ lines)
-    (add_point s lines k d es vs [] ms stage v p.0 p.1 done (omega (arith, count)) p.2 (none_start d v point_there.no_row) point_there.one_point above.0 (readable_point s p.0 p.1 p.3 p.4))
+    build_corners version s k d es ms small turning differ listed done left (v ∷ vs) (point p.0 p.1 ∷ lines)
+    (add_point version s lines k d es vs [] ms stage v p.0 p.1 done (omega (arith, count)) p.2 (none_start d v point_there.no_row) point_there.one_point above.0 (readable_point s p.0 p.1 p.3 p.4))
     (omega (arith, count)) rises.0 rises.1 (λ x m. linked x (inr m)))
     (linked v (inl refl))
 
@@ -389,28 +419,28 @@ leaving : (R : ℕ → ℕ → Type 0) (xs : List ℕ) (n a b : ℕ) → Steps R
 leaving R xs zero a b e m none = absurd (none (subst (Has xs) e m))
 leaving R xs (suc n) a b (c, r, rest) m none = ⊎_elim (λ k. leaving R xs n c b rest k none) (λ k. (a, c, m, k, r)) (decide_has xs c)
 
-pub record ReachBuilt (s : SolidData) (k : ℕ) (d : ShellRows) (es vs : List ℕ) (ms : List (ℕ × ℕ)) : Type 0 where
+pub record ReachBuilt (version : Version) (s : SolidData) (k : ℕ) (d : ShellRows) (es vs : List ℕ) (ms : List (ℕ × ℕ)) : Type 0 where
   pub lines : List CertLine
   pub fs : List ℕ
-  pub stage : Stage s lines k d es vs fs ms
+  pub stage : Stage version s lines k d es vs fs ms
   pub all : d.face_count - 1 ≤ length fs
 
-pub build_reach : (s : SolidData) (k : ℕ) (d : ShellRows) (es vs : List ℕ) (ms : List (ℕ × ℕ)) → IsSmall s d → ((r m : ℕ) → AreMates d r m → IsMate ms (suc r) (suc m)) → length d.edges ≤ length es → length d.vertices ≤ length vs
-    → ((f : ℕ) → f < d.face_count → IsReached d f) → (left : ℕ) (fs : List ℕ) (lines : List CertLine) → Stage s lines k d es vs fs ms → d.face_count - 1 ≤ length fs + left → ReachBuilt s k d es vs ms
-build_reach s k d es vs ms small listed edges_done corners_done reached zero fs lines stage count = record { lines = lines; fs = fs; stage = stage; all = omega (arith, count) }
-build_reach s k d es vs ms small listed edges_done corners_done reached (suc left) fs lines stage count = by_length (cases_lt (length fs) (d.face_count - 1)) (λ fs' lines' stage' count'. build_reach s k d es vs ms small listed edges_done corners_done reached left fs' lines' stage' count')
+pub build_reach : (version : Version) (s : SolidData) (k : ℕ) (d : ShellRows) (es vs : List ℕ) (ms : List (ℕ × ℕ)) → IsSmall s d → ((r m : ℕ) → AreMates d r m → IsMate ms (suc r) (suc m)) → length d.edges ≤ length es → length d.vertices ≤ length vs
+    → ((f : ℕ) → f < d.face_count → IsReached d f) → (left : ℕ) (fs : List ℕ) (lines : List CertLine) → Stage version s lines k d es vs fs ms → d.face_count - 1 ≤ length fs + left → ReachBuilt version s k d es vs ms
+build_reach version s k d es vs ms small listed edges_done corners_done reached zero fs lines stage count = record { lines = lines; fs = fs; stage = stage; all = omega (arith, count) }
+build_reach version s k d es vs ms small listed edges_done corners_done reached (suc left) fs lines stage count = by_length (cases_lt (length fs) (d.face_count - 1)) (λ fs' lines' stage' count'. build_reach version s k d es vs ms small listed edges_done corners_done reached left fs' lines' stage' count')
   where
     Next : Type 0
-    Next = (fs' : List ℕ) (lines' : List CertLine) → Stage s lines' k d es vs fs' ms → d.face_count - 1 ≤ length fs' + left → ReachBuilt s k d es vs ms
+    Next = (fs' : List ℕ) (lines' : List CertLine) → Stage version s lines' k d es vs fs' ms → d.face_count - 1 ≤ length fs' + left → ReachBuilt version s k d es vs ms
 
-    by_length : (length fs < d.face_count - 1) ⊎ (d.face_count - 1 ≤ length fs) → Next → ReachBuilt s k d es vs ms
+    by_length : (length fs < d.face_count - 1) ⊎ (d.face_count - 1 ≤ length fs) → Next → ReachBuilt version s k d es vs ms
     by_length (inr done) next = record { lines = lines; fs = fs; stage = stage; all = done }
     by_length (inl more) next = ⊎_elim new all_in (outsider (numbers_from 0 d.face_count) (0 ∷ fs))
       where
-        all_in : ((x : ℕ) → Has (numbers_from 0 d.face_count) x → Has (0 ∷ fs) x) → ReachBuilt s k d es vs ms
+        all_in : ((x : ℕ) → Has (numbers_from 0 d.face_count) x → Has (0 ∷ fs) x) → ReachBuilt version s k d es vs ms
         all_in into = absurd (let h = no_longer (numbers_from 0 d.face_count) (0 ∷ fs) (rises_none (numbers_from 0 d.face_count) (numbers_rise 0 d.face_count)) into in omega (arith, h, length-numbers 0 d.face_count, more))
 
-        new : (x : ℕ) × Has (numbers_from 0 d.face_count) x × (Has (0 ∷ fs) x → ⊥) → ReachBuilt s k d es vs ms
+        new : (x : ℕ) × Has (numbers_from 0 d.face_count) x × (Has (0 ∷ fs) x → ⊥) → ReachBuilt version s k d es vs ms
         new (x, there, none) =
             let below : x < d.face_count = (let b = number_below 0 d.face_count x there in omega (arith, b.1)) in
             let chain = reached x below in
@@ -420,5 +450,5 @@ build_reach s k d es vs ms small listed edges_done corners_done reached (suc lef
             let on_h : OnFace d c.1 c.4.1 = c.4.4 in
             let mate : IsMate ms (suc c.4.1) (suc c.4.0) = ⊎_elim (λ m. inr m) (λ m. inl m) (listed c.4.0 c.4.1 mates) in
             next (c.1 ∷ fs) (reach (suc c.4.1) ∷ lines)
-            (add_reach s lines k d es vs fs ms stage (suc c.4.1) (suc c.4.0) c.1 c.0 edges_done corners_done more mate (ap row_face on_h.1 ∙ ap Some on_h.2) (ap row_face on_g.1 ∙ ap Some on_g.2) c.3 c.2 (readable_reach s (suc c.4.1) (row_short s d small c.4.1 on_h.0 on_h.1)))
+            (add_reach version s lines k d es vs fs ms stage (suc c.4.1) (suc c.4.0) c.1 c.0 edges_done corners_done more mate (ap row_face on_h.1 ∙ ap Some on_h.2) (ap row_face on_g.1 ∙ ap Some on_g.2) c.3 c.2 (readable_reach s (suc c.4.1) (row_short s d small c.4.1 on_h.0 on_h.1)))
             (omega (arith, count))

@@ -36,10 +36,10 @@ pub mates_named : (d : ShellRows) (mates : List (ℕ × ℕ)) (r m : ℕ) → Ma
 mates_named d mates r m hold h = ⊎_elim (λ c. hold r m c) (λ c. mates_back d m r (hold m r c)) h
 
 -- by their numbers as rows
-mates_unnamed : (d : ShellRows) (r m : ℕ) → AreNamedMates d (suc r) (suc m) → AreMates d r m
+pub mates_unnamed : (d : ShellRows) (r m : ℕ) → AreNamedMates d (suc r) (suc m) → AreMates d r m
 mates_unnamed d r m h = record { row = h.row; mate = h.mate; at_r = h.at_r; at_m = h.at_m; one_edge = h.one_edge; opposite = h.opposite }
 
-turn_unnamed : (d : ShellRows) (mates : List (ℕ × ℕ)) (r c : ℕ) → MatesHold d mates → TurnsTo d mates (suc r) c → (s : ℕ) × (c ≡ suc s) × Turns d r s
+pub turn_unnamed : (d : ShellRows) (mates : List (ℕ × ℕ)) (r c : ℕ) → MatesHold d mates → TurnsTo d mates (suc r) c → (s : ℕ) × (c ≡ suc s) × Turns d r s
 turn_unnamed d mates r zero hold (zero, m, f) = absurd f
 turn_unnamed d mates r zero hold (suc k, m, f) = absurd f
 turn_unnamed d mates r (suc s) hold (zero, m, f) = absurd f
@@ -49,7 +49,7 @@ abbrev before : ℕ → ℕ
 before zero = 0
 before (suc n) = n
 
-chain_unnamed : (d : ShellRows) (mates : List (ℕ × ℕ)) → MatesHold d mates → (n r s : ℕ) → Steps (TurnsTo d mates) n (suc r) (suc s) → Steps (Turns d) n r s
+pub chain_unnamed : (d : ShellRows) (mates : List (ℕ × ℕ)) → MatesHold d mates → (n r s : ℕ) → Steps (TurnsTo d mates) n (suc r) (suc s) → Steps (Turns d) n r s
 chain_unnamed d mates hold zero r s e = ap before e
 chain_unnamed d mates hold (suc n) r s (c, t, rest) =
     let u = turn_unnamed d mates r c hold t in
@@ -73,11 +73,11 @@ turn_start_by d meet exchanged v (suc n) (suc k) (suc t) a f b at_t start =
     start_of_row d (suc t) b at_t ∙ ap Some (sym met ∙ (sym swapped ∙ starts))
 
 -- what turns is a row
-turns_row : (d : ShellRows) (mates : List (ℕ × ℕ)) (r s : ℕ) → MatesHold d mates → TurnsTo d mates r s → (row : Row) × (row_named d r ≡ Some row)
+pub turns_row : (d : ShellRows) (mates : List (ℕ × ℕ)) (r s : ℕ) → MatesHold d mates → TurnsTo d mates r s → (row : Row) × (row_named d r ≡ Some row)
 turns_row d mates r s hold t = let a = mates_named d mates r t.0 hold t.1 in (a.row, a.at_r)
 
 -- the rows of a corner line start at its vertex
-corner_starts : (d : ShellRows) (mates : List (ℕ × ℕ)) → EndsMeet d → EndsExchanged d → MatesHold d mates → (v r : ℕ) (rs : List ℕ) (z : ℕ) → Trail (TurnsTo d mates) r rs z → StartsNamed d v r → (x : ℕ) → Has (r ∷ rs) x → StartsNamed d v x
+pub corner_starts : (d : ShellRows) (mates : List (ℕ × ℕ)) → EndsMeet d → EndsExchanged d → MatesHold d mates → (v r : ℕ) (rs : List ℕ) (z : ℕ) → Trail (TurnsTo d mates) r rs z → StartsNamed d v r → (x : ℕ) → Has (r ∷ rs) x → StartsNamed d v x
 corner_starts d mates meet exchanged hold v r rs z t start x (inl e) = subst (StartsNamed d v) e start
 corner_starts d mates meet exchanged hold v r [] z t start x (inr h) = absurd h
 corner_starts d mates meet exchanged hold v r (w ∷ ws) z t start x (inr h) =
@@ -107,7 +107,7 @@ one_mate d paired (suc n) (suc m) (suc k) a b =
     let way_b : b.mate.along ≡ not a.row.along = not-not b.row.along b.mate.along b.opposite ∙ ap not (sym (ap (λ (r : Row). r.along) same)) in
     ap suc (one_of_edge d a.row.edge.0 (not a.row.along) m k a.mate b.mate (pair_counts d a.row.edge.0 (not a.row.along) pair) a.at_m b.at_m edge_a edge_b way_a way_b)
 
-follows_one : (d : ShellRows) (m x y : ℕ) → FollowsAsNamed d m x → FollowsAsNamed d m y → x ≡ y
+pub follows_one : (d : ShellRows) (m x y : ℕ) → FollowsAsNamed d m x → FollowsAsNamed d m y → x ≡ y
 follows_one d zero x y f g = absurd f
 follows_one d (suc m) zero y f g = absurd f
 follows_one d (suc m) (suc x) zero f g = absurd g
@@ -126,7 +126,7 @@ starts_listed d v (suc k) h = at_row (slice_get d.rows k) refl h
     at_row None e h = absurd cc
     at_row (Some r) e h = let number : 1 + k ≡ suc k = omega arith in subst (Has (starting v 1 d.rows)) number (starting_has v 1 k d.rows r e (same_Some r.from.0 v h))
 
-above_least : (r : ℕ) (rs : List ℕ) → AllByRecursion (λ x. r < x) rs → Has rs r → ⊥
+pub above_least : (r : ℕ) (rs : List ℕ) → AllByRecursion (λ x. r < x) rs → Has rs r → ⊥
 above_least r (x ∷ xs) all (inl e) = omega (arith, all.0, e)
 above_least r (x ∷ xs) all (inr h) = above_least r xs all.1 h
 above_least r [] all h = h

@@ -37,14 +37,14 @@ corner_low d at first ms row last h same low fits = low (subst (λ o. IsAbove o 
 pub corner_ring : (d : ShellRows) (at : Stand) (first : ℕ) (ms : List ℕ) → FitsCorner d at first ms → IsRing d at.mates first first ms
 corner_ring d at first ms fits = (fits.turns, fits.least)
 
-size_tells : (d : ShellRows) (v n : ℕ) → corner_size d v ≡ n → 0 < n → (point_count d v ≡ 0) × (n ≡ start_count d v)
+pub size_tells : (d : ShellRows) (v n : ℕ) → corner_size d v ≡ n → 0 < n → (point_count d v ≡ 0) × (n ≡ start_count d v)
 size_tells d v n e pos = by_count (eqb_tells (point_count d v) 0)
   where
     by_count : (((point_count d v == 0) ≡ true) × (point_count d v ≡ 0)) ⊎ (((point_count d v == 0) ≡ false) × (point_count d v ≢ 0)) → (point_count d v ≡ 0) × (n ≡ start_count d v)
     by_count (inl y) = let f : corner_size d v ≡ start_count d v = ap (λ b. if b then start_count d v else 0) y.0 in (y.1, sym e ∙ f)
     by_count (inr k) = absurd (let f : corner_size d v ≡ 0 = ap (λ b. if b then start_count d v else 0) k.0 in omega (arith, e, f, pos))
 
-size_of : (d : ShellRows) (v : ℕ) → point_count d v ≡ 0 → corner_size d v ≡ start_count d v
+pub size_of : (d : ShellRows) (v : ℕ) → point_count d v ≡ 0 → corner_size d v ≡ start_count d v
 size_of d v none = ap (λ b. if b then start_count d v else 0) (eq-eqb (point_count d v) 0 none)
 
 pub size_there : (d : ShellRows) (sizes : List ℕ) (first z : ℕ) (row : Row) → sizes ≡ map (λ (r : Row). corner_size d r.from.0) d.rows → row_named d first ≡ Some row → get_or sizes (first - 1) z ≡ corner_size d row.from.0

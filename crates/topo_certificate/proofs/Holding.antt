@@ -7,7 +7,7 @@ use Rattle.edge_uses.specs.ShellRows.{ShellRows}
 use Rattle.topo_certificate.specs.Stand.{Stand, row_named, row_face, IsMate, FollowsAsNamed, TurnsTo, FitsReach}
 use Rattle.topo_certificate.specs.Kept.{above_zero, mate_in, HoldsMates, HoldsFaces}
 
-none_some : {A : Type 0} (o : Option A) (x : A) → o ≡ None → o ≡ Some x → ⊥
+pub none_some : {A : Type 0} (o : Option A) (x : A) → o ≡ None → o ≡ Some x → ⊥
 none_some o x a b = let e : None ≡ Some x = sym a ∙ b in cc
 
 above : (o : Option ℕ) (m : ℕ) → above_zero o ≡ Some m → 0 < m

@@ -1,54 +1,73 @@
 -- Legal lines have no first bad one, and there is one at most.
-use Rattle.std.specs.Prelude.{◌≡◌, ℕ, zero, suc, ◌+◌, ◌<◌, ◌≤◌, ◌==◌, ◌^◌, true, false, List, [], ◌∷◌, ◌++◌, map, codes, decimal, if◌then◌else◌}
-use Rattle.std.specs.List.{AllByRecursion}
-use Rattle.std.specs.Fmt.{digits}
-use Rattle.std.specs.Int.Digits.{digits_of}
-use Rattle.std.proofs.Common.{refl, sym, ◌∙◌, ap, subst, arith, inl, inr, ⊎_elim, append_assoc, get_or}
-use Rattle.std.proofs.lemmas.Fmt.{decimal-digits_of, decimal_injective}
+use Rattle.std.specs.Prelude.{◌≡◌, ℕ, true, false, List, [], ◌∷◌}
+use Rattle.std.proofs.Common.{sym, ◌∙◌, subst, arith, inl, inr, ⊎_elim}
 use Rattle.solid_data.specs.SolidData.{SolidData}
-use Rattle.cert_lines.specs.Line.{CertLine, head, solid, shell, edge, corner, point, reach, end, spaced, spelling, IsShort, HasSpelling, IsSpelled, IsLine, IsMisspelt, line_limit}
-use Rattle.topo_certificate.specs.Stand.{stand_behind, FitsLine}
-use Rattle.topo_certificate.specs.Legal.{IsLegalBehind, IsUnfit, IsFirstBadBehind, IsLegal, IsFirstBad}
+use Rattle.cert_lines.specs.Line.{CertLine, IsLine, IsMisspelt, line_limit}
+use Rattle.cert_lines.specs.declared.version.Version.{Version}
+use Rattle.topo_certificate.specs.Stand.{Stand, stand_behind, FitsLine}
+use Rattle.topo_certificate.specs.Legal.{IsLegal, IsUnfit, IsBadLine, IsFirstBad, FitsPart, IsPartBad}
+use Rattle.topo_certificate.specs.Behind.{IsLegalBehind, IsFirstBadBehind}
 use Rattle.cert_lines.specs.declared.fault.Illegal.{Illegal}
 use Rattle.cert_lines.proofs.Spelling.{line_one}
+use Rattle.topo_certificate.proofs.Forward.{legal_behind, bad_behind}
 
 true_false : true ≡ false → ⊥
 true_false h = cc
 
--- Legal lines have no first bad one.
-no_bad : (s : SolidData) (before : List CertLine) (lines : List (List ℕ)) (bad : Illegal) → IsLegalBehind s before lines → IsFirstBadBehind s before lines bad → ⊥
-no_bad s before [] bad legal first = true_false (sym legal ∙ first.0)
-no_bad s before (bytes ∷ rest) bad (l, is_l, fits, more) (inl misspelt) = misspelt.0.none l is_l.1
-no_bad s before (bytes ∷ rest) bad (l, is_l, fits, more) (inr (inl unfit)) =
-    ⊎_elim (λ long. omega (arith, long.0, is_l.0)) (λ (m, is_m, not_fit). not_fit (subst (FitsLine s (stand_behind s before)) (line_one bytes l m is_l.1 is_m.1) fits)) unfit.0
-no_bad s before (bytes ∷ rest) bad (l, is_l, fits, more) (inr (inr (m, is_m, fits_m, later))) =
-    no_bad s (l ∷ before) rest bad more (subst (λ x. IsFirstBadBehind s (x ∷ before) rest bad) (line_one bytes m l is_m.1 is_l.1) later)
-
 -- a line is not misspelt, unfit and good at once
-misspelt_unfit : (s : SolidData) (before : List CertLine) (bytes : List ℕ) → IsMisspelt (line_limit s) bytes → IsUnfit s before bytes → ⊥
-misspelt_unfit s before bytes a b = ⊎_elim (λ long. a.not_long long) (λ (m, is_m, not_fit). a.none m is_m.1) b
+misspelt_unfit : (s : SolidData) (Fits : CertLine → Type 0) (bytes : List ℕ) → IsMisspelt (line_limit s) bytes → IsUnfit s Fits bytes → ⊥
+misspelt_unfit s Fits bytes a b = ⊎_elim (λ long. a.not_long long) (λ (m, is_m, not_fit). a.none m is_m.1) b
 
-unfit_good : (s : SolidData) (before : List CertLine) (bytes : List ℕ) (l : CertLine) → IsLine (line_limit s) bytes l → FitsLine s (stand_behind s before) l → IsUnfit s before bytes → ⊥
-unfit_good s before bytes l is_l fits b = ⊎_elim (λ long. omega (arith, long.0, is_l.0)) (λ (m, is_m, not_fit). not_fit (subst (FitsLine s (stand_behind s before)) (line_one bytes l m is_l.1 is_m.1) fits)) b
+unfit_good : (s : SolidData) (Fits : CertLine → Type 0) (bytes : List ℕ) (l : CertLine) → IsLine (line_limit s) bytes l → Fits l → IsUnfit s Fits bytes → ⊥
+unfit_good s Fits bytes l is_l fits b = ⊎_elim (λ long. omega (arith, long.0, is_l.0)) (λ (m, is_m, not_fit). not_fit (subst Fits (line_one bytes l m is_l.1 is_m.1) fits)) b
+
+pub bad_good : (s : SolidData) (Fits : CertLine → Type 0) (number : ℕ) (bytes : List ℕ) (l : CertLine) (bad : Illegal) → IsLine (line_limit s) bytes l → Fits l → IsBadLine s Fits number bytes bad → ⊥
+bad_good s Fits number bytes l bad is_l fits (inl misspelt) = misspelt.0.none l is_l.1
+bad_good s Fits number bytes l bad is_l fits (inr unfit) = unfit_good s Fits bytes l is_l fits unfit.0
+
+pub one_bad_line : (s : SolidData) (Fits : CertLine → Type 0) (number : ℕ) (bytes : List ℕ) (x y : Illegal) → IsBadLine s Fits number bytes x → IsBadLine s Fits number bytes y → x ≡ y
+one_bad_line s Fits number bytes x y (inl p) (inl q) = p.1 ∙ sym q.1
+one_bad_line s Fits number bytes x y (inl p) (inr q) = absurd (misspelt_unfit s Fits bytes p.0 q.0)
+one_bad_line s Fits number bytes x y (inr p) (inl q) = absurd (misspelt_unfit s Fits bytes q.0 p.0)
+one_bad_line s Fits number bytes x y (inr p) (inr q) = p.1 ∙ sym q.1
+
+-- all lines that fit, fit so too
+pub Covers : SolidData → (Stand → CertLine → Type 0) → Type 0
+Covers s Fits = (at : Stand) (line : CertLine) → FitsLine s at line → Fits at line
+
+-- Legal lines have no first bad one.
+no_bad : (version : Version) (s : SolidData) (Fits : Stand → CertLine → Type 0) (first : ℕ) → Covers s Fits → (before : List CertLine) (lines : List (List ℕ)) (bad : Illegal) → IsLegalBehind version s before lines
+    → IsFirstBadBehind version s Fits first before lines bad → ⊥
+unfolding Covers
+no_bad version s Fits first covers before [] bad legal h = true_false (sym legal ∙ h.0)
+no_bad version s Fits first covers before (bytes ∷ rest) bad (l, is_l, fits, more) (inl h) = bad_good s (Fits (stand_behind version s before)) _ bytes l bad is_l (covers (stand_behind version s before) l fits) h
+no_bad version s Fits first covers before (bytes ∷ rest) bad (l, is_l, fits, more) (inr (m, is_m, fits_m, later)) =
+    no_bad version s Fits first covers (l ∷ before) rest bad more (subst (λ x. IsFirstBadBehind version s Fits first (x ∷ before) rest bad) (line_one bytes m l is_m.1 is_l.1) later)
 
 -- There is one first bad one at most.
-one_bad : (s : SolidData) (before : List CertLine) (lines : List (List ℕ)) (x y : Illegal) → IsFirstBadBehind s before lines x → IsFirstBadBehind s before lines y → x ≡ y
-one_bad s before [] x y p q = p.1 ∙ sym q.1
-one_bad s before (bytes ∷ rest) x y (inl p) (inl q) = p.1 ∙ sym q.1
-one_bad s before (bytes ∷ rest) x y (inl p) (inr (inl q)) = absurd (misspelt_unfit s before bytes p.0 q.0)
-one_bad s before (bytes ∷ rest) x y (inl p) (inr (inr (l, is_l, fits, later))) = absurd (p.0.none l is_l.1)
-one_bad s before (bytes ∷ rest) x y (inr (inl p)) (inl q) = absurd (misspelt_unfit s before bytes q.0 p.0)
-one_bad s before (bytes ∷ rest) x y (inr (inl p)) (inr (inl q)) = p.1 ∙ sym q.1
-one_bad s before (bytes ∷ rest) x y (inr (inl p)) (inr (inr (l, is_l, fits, later))) = absurd (unfit_good s before bytes l is_l fits p.0)
-one_bad s before (bytes ∷ rest) x y (inr (inr (l, is_l, fits, later))) (inl q) = absurd (q.0.none l is_l.1)
-one_bad s before (bytes ∷ rest) x y (inr (inr (l, is_l, fits, later))) (inr (inl q)) = absurd (unfit_good s before bytes l is_l fits q.0)
-one_bad s before (bytes ∷ rest) x y (inr (inr (l, is_l, fits, later))) (inr (inr (m, is_m, fits_m, later_m))) =
-    one_bad s (l ∷ before) rest x y later (subst (λ z. IsFirstBadBehind s (z ∷ before) rest y) (line_one bytes m l is_m.1 is_l.1) later_m)
+one_bad : (version : Version) (s : SolidData) (Fits : Stand → CertLine → Type 0) (first : ℕ) → Covers s Fits → (before : List CertLine) (lines : List (List ℕ)) (x y : Illegal) → IsFirstBadBehind version s Fits first before lines x
+    → IsFirstBadBehind version s Fits first before lines y → x ≡ y
+unfolding Covers
+one_bad version s Fits first covers before [] x y p q = p.1 ∙ sym q.1
+one_bad version s Fits first covers before (bytes ∷ rest) x y (inl p) (inl q) = one_bad_line s (Fits (stand_behind version s before)) _ bytes x y p q
+one_bad version s Fits first covers before (bytes ∷ rest) x y (inl p) (inr (l, is_l, fits, later)) = absurd (bad_good s (Fits (stand_behind version s before)) _ bytes l x is_l (covers (stand_behind version s before) l fits) p)
+one_bad version s Fits first covers before (bytes ∷ rest) x y (inr (l, is_l, fits, later)) (inl q) = absurd (bad_good s (Fits (stand_behind version s before)) _ bytes l y is_l (covers (stand_behind version s before) l fits) q)
+one_bad version s Fits first covers before (bytes ∷ rest) x y (inr (l, is_l, fits, later)) (inr (m, is_m, fits_m, later_m)) =
+    one_bad version s Fits first covers (l ∷ before) rest x y later (subst (λ z. IsFirstBadBehind version s Fits first (z ∷ before) rest y) (line_one bytes m l is_m.1 is_l.1) later_m)
 
-pub legal_has_no_bad_lem : (s : SolidData) (lines : List (List ℕ)) (bad : Illegal) → IsLegal s lines → IsFirstBad s lines bad → ⊥
-unfolding IsLegal IsFirstBad
-legal_has_no_bad_lem s lines bad = no_bad s [] lines bad
+covers_lines : (s : SolidData) → Covers s (FitsLine s)
+unfolding Covers
+covers_lines s at line h = h
 
-pub one_first_bad : (s : SolidData) (lines : List (List ℕ)) (x y : Illegal) → IsFirstBad s lines x → IsFirstBad s lines y → x ≡ y
-unfolding IsFirstBad
-one_first_bad s lines x y = one_bad s [] lines x y
+pub covers_parts : (s : SolidData) → Covers s (FitsPart s)
+unfolding Covers
+covers_parts s at line h = inl h
+
+pub legal_has_no_bad_lem : (version : Version) (s : SolidData) (first : ℕ) (lines : List (List ℕ)) (bad : Illegal) → IsLegal version s lines → IsFirstBad version s first lines bad → ⊥
+legal_has_no_bad_lem version s first lines bad legal h = no_bad version s (FitsLine s) first (covers_lines s) [] lines bad (legal_behind version s lines legal) (bad_behind version s (FitsLine s) first lines bad h)
+
+pub one_first_bad : (version : Version) (s : SolidData) (first : ℕ) (lines : List (List ℕ)) (x y : Illegal) → IsFirstBad version s first lines x → IsFirstBad version s first lines y → x ≡ y
+one_first_bad version s first lines x y a b = one_bad version s (FitsLine s) first (covers_lines s) [] lines x y (bad_behind version s (FitsLine s) first lines x a) (bad_behind version s (FitsLine s) first lines y b)
+
+pub one_bad_in_part : (version : Version) (s : SolidData) (first : ℕ) (lines : List (List ℕ)) (x y : Illegal) → IsPartBad version s first lines x → IsPartBad version s first lines y → x ≡ y
+one_bad_in_part version s first lines x y a b = one_bad version s (FitsPart s) first (covers_parts s) [] lines x y (bad_behind version s (FitsPart s) first lines x a) (bad_behind version s (FitsPart s) first lines y b)

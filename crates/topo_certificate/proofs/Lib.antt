@@ -5,6 +5,7 @@ pub mod Build
 pub mod Complete
 pub mod Short
 pub mod Holding
+pub mod Forward
 pub mod LegalLemmas
 pub mod VertexTallies
 pub mod UseSizes
@@ -16,3 +17,7 @@ pub mod CornerFits
 pub mod Telling
 pub mod Checking
 pub mod CheckedLines
+pub mod Upgrades
+pub mod UpgradedText
+pub mod FedLines
+pub mod OpeningLines

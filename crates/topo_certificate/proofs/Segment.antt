@@ -42,11 +42,11 @@ abbrev pub Falls : List ℕ → Type 0
 Falls [] = Unit {0}
 Falls (x ∷ xs) = AllByRecursion (λ y. y < x) xs × Falls xs
 
-falls_none : (xs : List ℕ) → Falls xs → NoRepeat xs
+pub falls_none : (xs : List ℕ) → Falls xs → NoRepeat xs
 falls_none [] h = tt
 falls_none (x ∷ xs) h = ((λ m. let lt : x < x = All-at (λ y. y < x) xs h.0 x m in omega (arith, lt)), falls_none xs h.1)
 
-falls_more : (xs : List ℕ) (x : ℕ) → IsAbove (first_of xs) x → Falls xs → AllByRecursion (λ y. y < x) xs
+pub falls_more : (xs : List ℕ) (x : ℕ) → IsAbove (first_of xs) x → Falls xs → AllByRecursion (λ y. y < x) xs
 falls_more [] x above h = tt
 falls_more (y ∷ ys) x above h = (above, All-from (λ z. z < x) ys (λ z m. let lt : z < y = All-at (λ w. w < y) ys h.0 z m in omega (arith, lt, above)))
 
@@ -57,10 +57,10 @@ pub record EdgeFacts (d : ShellRows) (mates : List (ℕ × ℕ)) (es : List ℕ)
   pub each : (e : ℕ) → Has es e → Has d.edges e × (1 ≤ row_count d e true) × (1 ≤ row_count d e false)
   pub hold : MatesHold d mates
 
-mates_of_line : (d : ShellRows) (at : Stand) (a b : ℕ) → FitsEdge d at a b → AreNamedMates d a b
+pub mates_of_line : (d : ShellRows) (at : Stand) (a b : ℕ) → FitsEdge d at a b → AreNamedMates d a b
 mates_of_line d at a b h = record { row = h.along_row; mate = h.against_row; at_r = h.at_a; at_m = h.at_b; one_edge = h.one_edge; opposite = h.along ∙ sym (ap not h.against) }
 
-counted_named : (p : Row → Bool) (d : ShellRows) (n : ℕ) (r : Row) → row_named d n ≡ Some r → p r ≡ true → 1 ≤ count_by p d.rows
+pub counted_named : (p : Row → Bool) (d : ShellRows) (n : ℕ) (r : Row) → row_named d n ≡ Some r → p r ≡ true → 1 ≤ count_by p d.rows
 counted_named p d zero r h passes = absurd cc
 counted_named p d (suc n) r h passes = omega (arith, counted p d.rows n r h passes, count_by-total p d.rows)
 
@@ -106,7 +106,7 @@ vertex_step d vs n v o facts e above known linked = subst (λ p. CornerFacts d (
   each = λ x m. ⊎_elim (λ same. subst (λ y. Has d.vertices y × IsLinked d y) same (known, linked)) (λ k. facts.each x k) m;
 })
 
-start_known : (d : ShellRows) → AreGoodRows d → (r v : ℕ) → row_start (row_named d r) ≡ Some v → Has d.vertices v
+pub start_known : (d : ShellRows) → AreGoodRows d → (r v : ℕ) → row_start (row_named d r) ≡ Some v → Has d.vertices v
 start_known d good r v h = at_row (row_named d r) refl h
   where
     at_row : (o : Option Row) → row_named d r ≡ o → row_start o ≡ Some v → Has d.vertices v
@@ -125,14 +125,14 @@ found_point P test (p ∷ ps) q all h = by_test (test p) h (λ k. found_point P 
     by_test true h k = subst P (same_Some p q h) all.0
     by_test false h k = k h
 
-point_known : (d : ShellRows) → AreGoodRows d → (face l v : ℕ) → option_map (λ (p : LoopAt × ℕ). p.1) (point_named d face l) ≡ Some v → Has d.vertices v
+pub point_known : (d : ShellRows) → AreGoodRows d → (face l v : ℕ) → option_map (λ (p : LoopAt × ℕ). p.1) (point_named d face l) ≡ Some v → Has d.vertices v
 point_known d good face l v h = at_point (point_named d face l) refl h
   where
     at_point : (o : Option (LoopAt × ℕ)) → point_named d face l ≡ o → option_map (λ (p : LoopAt × ℕ). p.1) o ≡ Some v → Has d.vertices v
     at_point None e h = absurd cc
     at_point (Some p) e h = subst (Has d.vertices) (same_Some p.1 v h) (found_point (λ (q : LoopAt × ℕ). Has d.vertices q.1) _ d.points p good.points e)
 
-point_from_line : (d : ShellRows) (at : Stand) (face l : ℕ) → (h : FitsPoint d at face l) → IsPoint d h.vertex
+pub point_from_line : (d : ShellRows) (at : Stand) (face l : ℕ) → (h : FitsPoint d at face l) → IsPoint d h.vertex
 point_from_line d at face l h = record {
   no_row = λ r (row, at_r, e). omega (arith, h.no_row, counted (λ (x : Row). x.from.0 == h.vertex) d.rows r row at_r (eq-eqb row.from.0 h.vertex e), count_by-total (λ (x : Row). x.from.0 == h.vertex) d.rows);
   one_point = h.one_point;
@@ -171,7 +171,7 @@ neighbours_of_mates d (suc r) (suc m) f g a on_f on_g =
       (a.row, a.at_r, same_Some a.row.at.face.0 f (sym (ap row_face a.at_r) ∙ on_f)),
     )
 
-first_reached : (d : ShellRows) → IsReached d 0
+pub first_reached : (d : ShellRows) → IsReached d 0
 first_reached d = (zero, refl)
 
 face_below : (d : ShellRows) → AreGoodRows d → (r f : ℕ) → row_face (row_named d r) ≡ Some f → f < d.face_count

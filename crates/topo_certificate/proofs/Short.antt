@@ -10,7 +10,10 @@ use Rattle.solid_data.specs.declared.solid.LoopAt.{LoopAt}
 use Rattle.edge_uses.specs.declared.row.Row.{Row}
 use Rattle.edge_uses.specs.ShellRows.{ShellRows}
 use Rattle.solid_data.proofs.Members.{Has}
-use Rattle.cert_lines.specs.Line.{CertLine, shell, edge, corner, point, reach, end, spaced, spelling, IsShort, IsLine, line_limit}
+use Rattle.topo_certificate.specs.Stand.{tallies}
+use Rattle.cert_lines.specs.declared.version.Version.{Version}
+use Rattle.cert_lines.specs.declared.version.Version.TheVariants.{One, Two, Three}
+use Rattle.cert_lines.specs.Line.{CertLine, ShellCounts, Tally, shell, edge, corner, point, reach, tally, end, spaced, spelling, IsShort, IsLine, line_limit}
 
 -- the sizes of a shell are small
 pub record IsSmall (s : SolidData) (d : ShellRows) : Type 0 where
@@ -33,10 +36,17 @@ length-spaced (n ∷ ns) h =
 abbrev pub IsReadable : SolidData → CertLine → Type 0
 IsReadable s l = IsLine (line_limit s) (spelling l) l
 
-pub readable_shell : (s : SolidData) (k rows edges corners faces : ℕ) → IsShort k → IsShort rows → IsShort edges → IsShort corners → IsShort faces → IsReadable s (shell k rows edges corners faces)
-readable_shell s k rows edges corners faces a b c d e =
-    let ns : List ℕ = k ∷ rows ∷ edges ∷ corners ∷ faces ∷ [] in
+pub readable_shell : (s : SolidData) (k : ℕ) (n : ShellCounts) → IsShort k → IsShort n.rows → IsShort n.edges → IsShort n.corners → IsShort n.faces → IsReadable s (shell k n)
+readable_shell s k n a b c d e =
+    let ns : List ℕ = k ∷ n.rows ∷ n.edges ∷ n.corners ∷ n.faces ∷ [] in
     let short : AllByRecursion IsShort ns = (a, (b, (c, (d, (e, tt))))) in
+    let h = length-append (spaced ns) (10 ∷ []) in
+    (omega (arith, h, length-spaced ns short), (short, refl))
+
+pub readable_tally : (s : SolidData) (t : Tally) → IsShort t.vertices → IsShort t.edges → IsShort t.faces → IsShort t.loops → IsReadable s (tally t)
+readable_tally s t a b c d =
+    let ns : List ℕ = t.vertices ∷ t.edges ∷ t.faces ∷ t.loops ∷ [] in
+    let short : AllByRecursion IsShort ns = (a, (b, (c, (d, tt)))) in
     let h = length-append (spaced ns) (10 ∷ []) in
     (omega (arith, h, length-spaced ns short), (short, refl))
 
@@ -71,3 +81,9 @@ row_short s d small n r at = omega (arith, slice_get_within d.rows n r at, small
 
 pub starts_few : (s : SolidData) (d : ShellRows) → IsSmall s d → (v : ℕ) → count_by (λ (r : Row). r.from.0 == v) d.rows ≤ length (flat_map shell_uses s.shells)
 starts_few s d small v = omega (arith, count_by-le-length (λ (r : Row). r.from.0 == v) d.rows, small.rows)
+
+-- a shell ends in one TALLY line at most
+pub few_tallies : (version : Version) → tallies version ≤ 1
+few_tallies One = omega arith
+few_tallies Two = omega arith
+few_tallies Three = omega arith

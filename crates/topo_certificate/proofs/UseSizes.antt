@@ -1,12 +1,16 @@
 -- How many uses there are, part by part.
-use Rattle.std.specs.Prelude.{◌≡◌, ◌<◌, ◌≤◌, ◌+◌, ◌^◌, ℕ, suc, Bool, List, [], ◌∷◌, ◌++◌, length, map, flat_map, slice_get, Some}
+use Rattle.std.specs.Prelude.{◌≡◌, ◌<◌, ◌≤◌, ◌+◌, ◌^◌, ℕ, suc, Bool, List, [], ◌∷◌, ◌++◌, length, map, flat_map, sum_by, slice_get, Some}
 use Rattle.std.specs.List.{enumerate_from}
-use Rattle.std.proofs.Common.{refl, ◌∙◌, ap, subst, arith, get_or, drop, length-append}
+use Rattle.std.proofs.Common.{refl, sym, ◌∙◌, ap, subst, arith, get_or, drop, length-append}
 use Rattle.std.proofs.lemmas.Grind.{flat_map-append}
 use Rattle.std.proofs.lemmas.Option.{get_or_from_slice_get, slice_get_within}
-use Rattle.std.proofs.lemmas.List.{drop_all}
-use Rattle.solid_data.proofs.Members.{split_at}
-use Rattle.solid_data.specs.SolidData.{SolidData, PlacedLoop, placed_in_face, shell_uses}
+use Rattle.std.proofs.lemmas.List.{drop_all, length-map}
+use Rattle.std.proofs.lemmas.List.Sums.{sum_by-cons}
+use Rattle.std.proofs.lemmas.List.FromFn.{length-enumerate_from}
+use Rattle.solid_data.proofs.Members.{split_at, has_get}
+use Rattle.edge_uses.proofs.Few.{part_shorter}
+use Rattle.topo_certificate.specs.Stand.{loops_of, loops_of_shell}
+use Rattle.solid_data.specs.SolidData.{SolidData, PlacedLoop, placed_in_face, placed_loops, same_flag, shell_uses}
 use Rattle.solid_data.specs.Numbering.{IsNumberedSolid}
 use Rattle.solid_data.specs.declared.solid.Loop.{Loop}
 use Rattle.solid_data.specs.declared.solid.FaceUse.{FaceUse}
@@ -61,3 +65,22 @@ uses_few s numbered = omega (arith, numbered.few_uses, shells_counted s.shells)
 
 pub shells_past : (hs : List Shell) (k : ℕ) → length hs ≤ k → shells_size (drop k hs) ≡ 0
 shells_past hs k past = ap shells_size (drop_all k hs past)
+
+pub loops_placed : (flag : Bool) (base : ℕ) (fs : List FaceUse) → length (flat_map (placed_in_face flag) (enumerate_from base fs)) ≡ sum_by (λ (f : FaceUse). length f.loops) fs
+loops_placed flag base [] = refl
+loops_placed flag base (f ∷ fs) =
+    let here : List PlacedLoop = placed_in_face flag (base, f) in
+    let more : List PlacedLoop = flat_map (placed_in_face flag) (enumerate_from (base + 1) fs) in
+    let own : length here ≡ length f.loops = length-map (enumerate_from 0 f.loops) (placed_at base (same_flag f.flag flag)) ∙ length-enumerate_from 0 f.loops in
+    let parts : length (flat_map (placed_in_face flag) (enumerate_from base (f ∷ fs))) ≡ length here + length more = length-append here more in
+    let counted : sum_by (λ (x : FaceUse). length x.loops) (f ∷ fs) ≡ length f.loops + sum_by (λ (x : FaceUse). length x.loops) fs = sum_by-cons (λ (x : FaceUse). length x.loops) f fs in
+    omega (arith, parts, counted, own, loops_placed flag (base + 1) fs)
+
+-- a shell has no more loops than the solid
+pub loops_within : (s : SolidData) (k : ℕ) (h : Shell) → slice_get s.shells k ≡ Some h → loops_of (Some h) ≤ length (flat_map placed_loops s.shells)
+loops_within s k h there = omega (arith, part_shorter placed_loops s.shells h (has_get s.shells k h there), loops_placed h.flag 0 h.faces)
+
+pub loops_there : (s : SolidData) (k : ℕ) (h : Shell) → slice_get s.shells k ≡ Some h → loops_of (Some h) ≡ loops_of_shell s (k + 1)
+loops_there s k h there =
+    let next : suc k ≡ k + 1 = omega arith in
+    ap loops_of (sym there) ∙ ap (loops_of_shell s) next

@@ -4,7 +4,9 @@ use Rattle.solid_data.specs.declared.solid.LoopAt.{LoopAt}
 use Rattle.edge_uses.specs.declared.row.Row.{Row}
 use Rattle.edge_uses.specs.ShellRows.{ShellRows}
 use Rattle.edge_uses.specs.Closed.{point_count}
-use Rattle.topo_certificate.specs.Stand.{IsMate, row_named, start_count}
+use Rattle.cert_lines.specs.Line.{ShellCounts, Tally}
+use Rattle.cert_lines.specs.declared.version.Version.{Version}
+use Rattle.topo_certificate.specs.Stand.{IsMate, row_named, start_count, tallies}
 
 -- 0 stands for none
 abbrev pub above_zero : Option ℕ → Option ℕ
@@ -25,12 +27,19 @@ abbrev pub HoldsFaces : List Bool → List ℕ → Type 0
 HoldsFaces reached faces = (f : ℕ) → Contains faces f ↔ (slice_get reached f ≡ Some true)
 
 -- the counts of a SHELL line are those of the shell
-pub record AreCounts (d : ShellRows) (rows edges corners faces : ℕ) : Type 0 where
-  pub rows_counted : rows ≡ length d.rows
-  pub edges_counted : edges ≡ length d.edges
-  pub corners_counted : corners ≡ length d.vertices
-  pub faces_counted : faces ≡ d.face_count
-  pub two_rows_each : 2 * edges ≡ rows
+pub record AreCounts (d : ShellRows) (counts : ShellCounts) : Type 0 where
+  pub rows_counted : counts.rows ≡ length d.rows
+  pub edges_counted : counts.edges ≡ length d.edges
+  pub corners_counted : counts.corners ≡ length d.vertices
+  pub faces_counted : counts.faces ≡ d.face_count
+  pub two_rows_each : 2 * counts.edges ≡ counts.rows
+
+-- the counts of a TALLY line are those of the shell, which has so many loops
+pub record IsTally (d : ShellRows) (loops : ℕ) (t : Tally) : Type 0 where
+  pub vertices_counted : t.vertices ≡ length d.vertices
+  pub edges_counted : t.edges ≡ length d.edges
+  pub faces_counted : t.faces ≡ d.face_count
+  pub loops_counted : t.loops ≡ loops
 
 -- how many rows a corner line at a vertex has, or 0 where none fits there
 abbrev pub corner_size : ShellRows → ℕ → ℕ
@@ -48,9 +57,10 @@ Precedes p q = (p.face.0 ≤ q.face.0) × (p.face.0 ≡ q.face.0 → p.place < q
 abbrev pub InFileOrder : List (LoopAt × ℕ) → Type 0
 InFileOrder points = (i j : ℕ) (p q : LoopAt × ℕ) → i < j → slice_get points i ≡ Some p → slice_get points j ≡ Some q → Precedes p.0 q.0
 
--- Of a shell: its rows; how many rows a corner line has that starts with a row; which loops without an edge are alone at their vertex; the mate of each row; which faces are reached; how many lines of each kind are due; the last edge and the last vertex.
+-- Of a shell: its rows; how many loops it has; how many rows a corner line has that starts with a row; which loops without an edge are alone at their vertex; the mate of each row; which faces are reached; how many lines of each kind are due; the last edge and the last vertex.
 pub record KeptShell : Type 0 where
   pub rows : ShellRows
+  pub loops : ℕ
   pub sizes : List ℕ
   pub alone : List Bool
   pub mates : List ℕ
@@ -58,11 +68,12 @@ pub record KeptShell : Type 0 where
   pub edges_due : ℕ
   pub corners_due : ℕ
   pub reach_due : ℕ
+  pub tally_due : ℕ
   pub last_edge : Option ℕ
   pub last_vertex : Option ℕ
 
 abbrev pub dues : KeptShell → ℕ
-dues k = k.edges_due + k.corners_due + k.reach_due
+dues k = k.edges_due + k.corners_due + k.reach_due + k.tally_due
 
 -- what is kept of a shell whatever the lines are
 pub record IsKept (k : KeptShell) : Type 0 where
@@ -76,11 +87,13 @@ pub record IsKept (k : KeptShell) : Type 0 where
   pub passed : (r m : ℕ) → mate_in k.mates r ≡ Some m → (row : Row) × (row_named k.rows r ≡ Some row) × IsSomeAnd k.last_edge (λ e. row.edge.0 ≤ e)
 
 -- no line of the shell was read
-pub record IsFresh (d : ShellRows) (k : KeptShell) : Type 0 where
+pub record IsFresh (v : Version) (d : ShellRows) (loop_count : ℕ) (k : KeptShell) : Type 0 where
   pub rows : k.rows ≡ d
+  pub loops : k.loops ≡ loop_count
   pub edges_due : k.edges_due ≡ length d.edges
   pub corners_due : k.corners_due ≡ length d.vertices
   pub reach_due : k.reach_due ≡ d.face_count - 1
+  pub tally_due : k.tally_due ≡ tallies v
   pub last_edge : k.last_edge ≡ None
   pub last_vertex : k.last_vertex ≡ None
   pub mates : HoldsMates k.mates []

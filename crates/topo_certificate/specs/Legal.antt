@@ -1,30 +1,56 @@
--- Which lines behind the head and the solid make a certificate of a solid legal, and which is the first bad one.
-use Rattle.std.specs.Prelude.{◌≡◌, ℕ, ◌⊎◌, true, false, List, [], ◌∷◌}
+-- Which lines after the head and the line of the solid make a certificate legal, and which is the first bad one.
+use Rattle.std.specs.Prelude.{◌≡◌, ℕ, ◌+◌, ◌<◌, ◌⊎◌, false, List, [], ◌∷◌, ◌++◌, length, take, Some, slice_get}
+use Rattle.std.specs.List.{AllZip}
 use Rattle.solid_data.specs.SolidData.{SolidData}
-use Rattle.cert_lines.specs.Line.{CertLine, IsLine, IsLong, IsMisspelt, line_limit}
-use Rattle.topo_certificate.specs.Stand.{stand_behind, FitsLine}
+use Rattle.cert_lines.specs.Line.{CertLine, solid, end, IsLine, IsLong, IsMisspelt, line_limit}
+use Rattle.topo_certificate.specs.Stand.{Stand, stand_after, FitsLine}
+use Rattle.cert_lines.specs.declared.version.Version.{Version}
 use Rattle.cert_lines.specs.declared.fault.Illegal.{Illegal}
 use Rattle.cert_lines.specs.declared.fault.Illegal.TheVariants.{Misspelt, Unfit, Missing}
 
--- Behind the lines before, the latest first: each line is spelled and fits the stand of those before it, and the last is END.
-abbrev pub IsLegalBehind : SolidData → List CertLine → List (List ℕ) → Type 0
-IsLegalBehind s before [] = (stand_behind s before).ended ≡ true
-IsLegalBehind s before (bytes ∷ rest) = (line : CertLine) × IsLine (line_limit s) bytes line × FitsLine s (stand_behind s before) line × IsLegalBehind s (line ∷ before) rest
+-- The lines are spelled as these, one by one, and each fits the stand after those before it.
+pub record AreFitting (v : Version) (s : SolidData) (lines : List (List ℕ)) (read : List CertLine) : Type 0 where
+  pub spelled : AllZip (IsLine (line_limit s)) lines read
+  pub fit : (i : ℕ) (line : CertLine) → slice_get read i ≡ Some line → FitsLine s (stand_after v s (take i read)) line
 
-unfoldable pub IsLegal : SolidData → List (List ℕ) → Type 0
-IsLegal s lines = IsLegalBehind s [] lines
+-- The lines fit, and END is the last.
+pub record IsLegal (v : Version) (s : SolidData) (lines : List (List ℕ)) : Type 0 where
+  pub read : List CertLine
+  pub fitting : AreFitting v s lines read
+  pub before : List CertLine
+  pub ended : read ≡ before ++ end ∷ []
 
--- The line fits nowhere here: it is too long, or it is spelled and doesn't fit.
-abbrev pub IsUnfit : SolidData → List CertLine → List ℕ → Type 0
-IsUnfit s before bytes = IsLong (line_limit s) bytes ⊎ ((line : CertLine) × IsLine (line_limit s) bytes line × ¬ FitsLine s (stand_behind s before) line)
+-- The bytes are too long, or they are spelled and don't fit.
+abbrev pub IsUnfit : SolidData → (CertLine → Type 0) → List ℕ → Type 0
+IsUnfit s Fits bytes = IsLong (line_limit s) bytes ⊎ ((line : CertLine) × IsLine (line_limit s) bytes line × ¬ Fits line)
 
--- the first misspelt or unfit line, or the number behind the last line where END is missing
-abbrev pub IsFirstBadBehind : SolidData → List CertLine → List (List ℕ) → Illegal → Type 0
-IsFirstBadBehind s before [] bad = ((stand_behind s before).ended ≡ false) × (bad ≡ Missing (stand_behind s before).number)
-IsFirstBadBehind s before (bytes ∷ rest) bad =
-    (IsMisspelt (line_limit s) bytes × (bad ≡ Misspelt (stand_behind s before).number))
-    ⊎ (IsUnfit s before bytes × (bad ≡ Unfit (stand_behind s before).number))
-    ⊎ ((line : CertLine) × IsLine (line_limit s) bytes line × FitsLine s (stand_behind s before) line × IsFirstBadBehind s (line ∷ before) rest bad)
+-- what is wrong with the bytes of the line of this number
+abbrev pub IsBadLine : SolidData → (CertLine → Type 0) → ℕ → List ℕ → Illegal → Type 0
+IsBadLine s Fits number bytes bad = (IsMisspelt (line_limit s) bytes × (bad ≡ Misspelt number)) ⊎ (IsUnfit s Fits bytes × (bad ≡ Unfit number))
 
-unfoldable pub IsFirstBad : SolidData → List (List ℕ) → Illegal → Type 0
-IsFirstBad s lines bad = IsFirstBadBehind s [] lines bad
+-- the first of these lines is bad, or there is none and END has not come
+abbrev pub IsBadNext : SolidData → (Stand → CertLine → Type 0) → Stand → ℕ → List (List ℕ) → Illegal → Type 0
+IsBadNext s Fits at number [] bad = (at.ended ≡ false) × (bad ≡ Missing number)
+IsBadNext s Fits at number (bytes ∷ rest) bad = IsBadLine s (Fits at) number bytes bad
+
+-- Of lines numbered from this number on: some fit, and the next one is misspelt, unfit or missing.
+pub record HasFirstBad (v : Version) (s : SolidData) (Fits : Stand → CertLine → Type 0) (first : ℕ) (lines : List (List ℕ)) (bad : Illegal) : Type 0 where
+  pub good : List (List ℕ)
+  pub read : List CertLine
+  pub fitting : AreFitting v s good read
+  pub rest : List (List ℕ)
+  pub cut : lines ≡ good ++ rest
+  pub next : IsBadNext s Fits (stand_after v s read) (first + length read) rest bad
+
+abbrev pub IsFirstBad : Version → SolidData → ℕ → List (List ℕ) → Illegal → Type 0
+IsFirstBad v s first lines bad = HasFirstBad v s (FitsLine s) first lines bad
+
+-- In a part of a book, where END fits, a line fits too that names a solid with a greater number: it begins the next part.
+abbrev pub BeginsNext : SolidData → Stand → ℕ → Type 0
+BeginsNext s at n = FitsLine s at end × (s.entity.0 < n)
+
+abbrev pub FitsPart : SolidData → Stand → CertLine → Type 0
+FitsPart s at line = FitsLine s at line ⊎ ((n : ℕ) × (line ≡ solid n) × BeginsNext s at n)
+
+abbrev pub IsPartBad : Version → SolidData → ℕ → List (List ℕ) → Illegal → Type 0
+IsPartBad v s first lines bad = HasFirstBad v s (FitsPart s) first lines bad

@@ -1,7 +1,11 @@
 pub mod Stand
 pub mod Legal
+pub mod Behind
 pub mod Kept
+pub mod Upgraded
+pub mod Upgrades
 pub mod Told
+pub mod Part
 pub mod Room
 pub mod Ring
 pub mod Places
@@ -13,3 +17,5 @@ pub use Rattle.cert_lines.specs.Numbers
 pub use Rattle.cert_lines.specs.Said
 pub use Rattle.cert_lines.specs.Misfits
 pub use Rattle.cert_lines.specs.Written
+pub mod Feeding
+pub mod OpeningFed

@@ -1,5 +1,5 @@
 -- What a checker keeps whatever the lines are, so that the line's number has room.
-use Rattle.std.specs.Prelude.{◌≡◌, ℕ, ◌+◌, ◌*◌, ◌<◌, ◌≤◌, ◌^◌, Bool, true, false, List, ◌∷◌, length, Option, Some, None}
+use Rattle.std.specs.Prelude.{◌≡◌, ℕ, ◌+◌, ◌*◌, ◌<◌, ◌≤◌, ◌^◌, Bool, false, List, ◌∷◌, length, Option, Some, None}
 use Rattle.std.specs.Bool.{MatchBool}
 use Rattle.cert_lines.specs.Line.{CertLine, line_limit}
 use Rattle.topo_certificate.specs.Stand.{stand_behind, FitsLine}
@@ -11,15 +11,15 @@ abbrev pub dues_of : Option KeptShell → ℕ
 dues_of None = 0
 dues_of (Some k) = dues k
 
--- A shell has few lines, and there are few shells.
+-- A shell has few lines, there are few shells, and the first line has no great number.
 pub record HasRoom (limit : ℕ) (c : Kept) : Type 0 where
   pub limit_is : limit ≡ line_limit c.solid
   pub few_shells : c.shell + length c.waiting < 2 ^ 29
-  pub few : c.number + dues_of c.current ≤ 4 + c.shell * 2 ^ 34
-  pub unended : c.ended ≡ false → c.number + dues_of c.current ≤ 3 + c.shell * 2 ^ 34
+  pub few : c.number + dues_of c.current ≤ 2 ^ 32 + 1 + c.shell * 2 ^ 34
+  pub unended : c.ended ≡ false → c.number + dues_of c.current ≤ 2 ^ 32 + c.shell * 2 ^ 34
 
 -- Behind any lines that the checker stands behind, the line is taken exactly where it fits, and then it stands behind it.
 abbrev pub TakesLine : Kept → Kept → CertLine → Bool → Type 0
 TakesLine old new line taken =
-    (lines : List CertLine) → IsAt old lines →
-    MatchBool taken (FitsLine old.solid (stand_behind old.solid lines) line × IsAt new (line ∷ lines)) (¬ FitsLine old.solid (stand_behind old.solid lines) line)
+    (first : ℕ) (lines : List CertLine) → IsAt first old lines →
+    MatchBool taken (FitsLine old.solid (stand_behind old.version old.solid lines) line × IsAt first new (line ∷ lines)) (¬ FitsLine old.solid (stand_behind old.version old.solid lines) line)

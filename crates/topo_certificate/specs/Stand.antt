@@ -1,16 +1,20 @@
--- Where a certificate stands behind some of its lines, and which line fits there. The lines are those behind the head and the solid, the latest first.
-use Rattle.std.specs.Prelude.{◌≡◌, ℕ, zero, suc, ◌+◌, ◌-◌, ◌*◌, ◌<◌, ◌==◌, ◌&&◌, ◌⊎◌, Bool, true, false, List, [], ◌∷◌, length, filter_map, find, filter, count_by, Contains, Option, Some, None, slice_get, option_map, IfSome, if◌then◌else◌}
+-- Where a certificate of a version stands after some of its lines, and which line fits there. The lines are those after the head and the line of the solid.
+use Rattle.std.specs.Prelude.{◌≡◌, ℕ, zero, suc, ◌+◌, ◌-◌, ◌*◌, ◌<◌, ◌==◌, ◌&&◌, ◌⊎◌, Bool, true, false, List, [], ◌∷◌, length, reverse, sum_by, filter_map, find, filter, count_by, Contains, Option, Some, None, slice_get, option_map, IfSome, if◌then◌else◌}
 use Rattle.std.specs.List.{AllByRecursion, AllZip, list_any}
 use Rattle.solid_data.specs.Ring.{next_of_each}
 use Rattle.solid_data.specs.SolidData.{SolidData}
+use Rattle.solid_data.specs.declared.solid.FaceUse.{FaceUse}
+use Rattle.solid_data.specs.declared.solid.Shell.{Shell}
 use Rattle.solid_data.specs.declared.solid.LoopAt.{LoopAt}
 use Rattle.edge_uses.specs.declared.row.Row.{Row}
 use Rattle.edge_uses.specs.ShellRows.{ShellRows, rows_of}
 use Rattle.edge_uses.specs.Closed.{Follows, point_count}
-use Rattle.cert_lines.specs.Line.{CertLine, head, solid, shell, edge, corner, point, reach, end}
+use Rattle.cert_lines.specs.Line.{CertLine, ShellCounts, Tally, head, solid, shell, edge, corner, point, reach, tally, end}
+use Rattle.cert_lines.specs.declared.version.Version.{Version}
+use Rattle.cert_lines.specs.declared.version.Version.TheVariants.{One, Two, Three}
 
 abbrev pub is_shell : CertLine → Bool
-is_shell (shell k rows edges corners faces) = true
+is_shell (shell k counts) = true
 is_shell _ = false
 
 abbrev pub is_edge : CertLine → Bool
@@ -26,6 +30,10 @@ abbrev pub is_reach : CertLine → Bool
 is_reach (reach r) = true
 is_reach _ = false
 
+abbrev pub is_tally : CertLine → Bool
+is_tally (tally t) = true
+is_tally _ = false
+
 abbrev pub is_last : CertLine → Bool
 is_last end = true
 is_last _ = false
@@ -34,15 +42,37 @@ is_last _ = false
 abbrev pub number_of : (CertLine → Bool) → List CertLine → ℕ
 number_of kind lines = length (filter kind lines)
 
--- the lines behind the last SHELL line
+-- Of lines that stand the latest first: those after the last SHELL line.
 abbrev pub since_shell : List CertLine → List CertLine
 since_shell [] = []
 since_shell (line ∷ lines) = if is_shell line then [] else line ∷ since_shell lines
 
--- how many edge, corner and reach lines a SHELL line asks for
-abbrev pub asked : Option CertLine → ℕ × ℕ × ℕ
-asked (Some (shell k rows edges corners faces)) = (edges, corners, faces - 1)
-asked _ = (0, 0, 0)
+-- how many lines of each kind are due; corner and point lines are one kind
+pub record Due : Type 0 where
+  pub edges : ℕ
+  pub corners : ℕ
+  pub reach : ℕ
+  pub tally : ℕ
+
+-- how many TALLY lines end a shell
+abbrev pub tallies : Version → ℕ
+tallies One = 0
+tallies Two = 1
+tallies Three = 1
+
+-- what a SHELL line asks for
+abbrev pub asked : Version → Option CertLine → Due
+asked v (Some (shell k counts)) = record { edges = counts.edges; corners = counts.corners; reach = counts.faces - 1; tally = tallies v }
+asked v _ = record { edges = 0; corners = 0; reach = 0; tally = 0 }
+
+-- what a SHELL line asks for, less what these lines after it are
+abbrev pub left_due : Due → List CertLine → Due
+left_due a lines = record {
+  edges = a.edges - number_of is_edge lines;
+  corners = a.corners - number_of is_corner_or_point lines;
+  reach = a.reach - number_of is_reach lines;
+  tally = a.tally - number_of is_tally lines;
+}
 
 -- rows, faces and loops are numbered from 1 in a line
 abbrev pub row_named : ShellRows → ℕ → Option Row
@@ -82,14 +112,11 @@ abbrev pub face_of : ShellRows → CertLine → Option ℕ
 face_of d (reach r) = row_face (row_named d r)
 face_of d _ = None
 
--- the number of the next line, whether END came, the number of the shell, the lines that are still due of each kind, the mates, the last edge, the last vertex, and the faces reached
+-- whether END came, the number of the shell, what is still due of it, the mates, the last edge, the last vertex, and the faces reached
 pub record Stand : Type 0 where
-  pub number : ℕ
   pub ended : Bool
   pub shell : ℕ
-  pub edges_due : ℕ
-  pub corners_due : ℕ
-  pub reach_due : ℕ
+  pub due : Due
   pub mates : List (ℕ × ℕ)
   pub last_edge : Option ℕ
   pub last_vertex : Option ℕ
@@ -106,20 +133,30 @@ rows_of_shell s (suc k) = rows_of s (slice_get s.shells k)
 abbrev pub current_rows : SolidData → List CertLine → ShellRows
 current_rows s lines = rows_of_shell s (number_of is_shell lines)
 
--- Each part is read off all lines so far.
-unfoldable pub stand_behind : SolidData → List CertLine → Stand
-stand_behind s lines = record {
-  number = 3 + length lines;
+-- how many loops the shell with this number, from 1, has
+abbrev pub loops_of : Option Shell → ℕ
+loops_of None = 0
+loops_of (Some h) = sum_by (λ (f : FaceUse). length f.loops) h.faces
+
+abbrev pub loops_of_shell : SolidData → ℕ → ℕ
+loops_of_shell s zero = 0
+loops_of_shell s (suc k) = loops_of (slice_get s.shells k)
+
+-- Each part is read off all lines so far, which are given the latest first: so the first one found is the last in the certificate.
+unfoldable pub stand_behind : Version → SolidData → List CertLine → Stand
+stand_behind v s lines = record {
   ended = list_any is_last lines;
   shell = number_of is_shell lines;
-  edges_due = (asked (find is_shell lines)).0 - number_of is_edge (since_shell lines);
-  corners_due = (asked (find is_shell lines)).1 - number_of is_corner_or_point (since_shell lines);
-  reach_due = (asked (find is_shell lines)).2 - number_of is_reach (since_shell lines);
+  due = left_due (asked v (find is_shell lines)) (since_shell lines);
   mates = filter_map mates_of (since_shell lines);
   last_edge = first_of (filter_map (edge_of (current_rows s lines)) (since_shell lines));
   last_vertex = first_of (filter_map (vertex_of (current_rows s lines)) (since_shell lines));
   reached = 0 ∷ filter_map (face_of (current_rows s lines)) (since_shell lines);
 }
+
+-- the stand after these lines
+abbrev pub stand_after : Version → SolidData → List CertLine → Stand
+stand_after v s lines = stand_behind v s (reverse lines)
 
 -- above the last one, if there is one
 abbrev pub IsAbove : Option ℕ → ℕ → Type 0
@@ -136,14 +173,14 @@ abbrev pub start_count : ShellRows → ℕ → ℕ
 start_count d v = count_by (λ (r : Row). r.from.0 == v) d.rows
 
 -- the next shell begins: nothing is due of the one before, and the counts are those of the shell
-pub record FitsShell (s : SolidData) (at : Stand) (k rows edges corners faces : ℕ) : Type 0 where
+pub record FitsShell (s : SolidData) (at : Stand) (k : ℕ) (counts : ShellCounts) : Type 0 where
   pub next : k ≡ at.shell + 1
   pub there : k < length s.shells + 1
-  pub rows_counted : rows ≡ length (rows_of_shell s k).rows
-  pub edges_counted : edges ≡ length (rows_of_shell s k).edges
-  pub corners_counted : corners ≡ length (rows_of_shell s k).vertices
-  pub faces_counted : faces ≡ (rows_of_shell s k).face_count
-  pub two_rows_each : 2 * edges ≡ rows
+  pub rows_counted : counts.rows ≡ length (rows_of_shell s k).rows
+  pub edges_counted : counts.edges ≡ length (rows_of_shell s k).edges
+  pub corners_counted : counts.corners ≡ length (rows_of_shell s k).vertices
+  pub faces_counted : counts.faces ≡ (rows_of_shell s k).face_count
+  pub two_rows_each : 2 * counts.edges ≡ counts.rows
 
 -- two rows of one edge, the first along it and the other against it, and a greater edge than the one before
 pub record FitsEdge (d : ShellRows) (at : Stand) (a b : ℕ) : Type 0 where
@@ -185,24 +222,42 @@ pub record FitsReach (d : ShellRows) (at : Stand) (r : ℕ) : Type 0 where
   pub new : ¬ Contains at.reached face
   pub old : Contains at.reached known
 
--- Nothing is due of the shell.
-abbrev pub NoneDue : Stand → Type 0
-NoneDue at = (at.edges_due ≡ 0) × (at.corners_due ≡ 0) × (at.reach_due ≡ 0)
+-- the counts of the shell
+pub record FitsTally (s : SolidData) (k : ℕ) (t : Tally) : Type 0 where
+  pub vertices_counted : t.vertices ≡ length (rows_of_shell s k).vertices
+  pub edges_counted : t.edges ≡ length (rows_of_shell s k).edges
+  pub faces_counted : t.faces ≡ (rows_of_shell s k).face_count
+  pub loops_counted : t.loops ≡ loops_of_shell s k
 
-abbrev pub CornerDue : Stand → Type 0
-CornerDue at = (at.edges_due ≡ 0) × (0 < at.corners_due)
+-- Nothing is due of the shell.
+pub record NoneDue (due : Due) : Type 0 where
+  pub edges : due.edges ≡ 0
+  pub corners : due.corners ≡ 0
+  pub reach : due.reach ≡ 0
+  pub tally : due.tally ≡ 0
+
+-- The lines of a shell come kind by kind: a line of a kind is due where none of a kind before it is.
+abbrev pub CornerDue : Due → Type 0
+CornerDue due = (due.edges ≡ 0) × (0 < due.corners)
+
+abbrev pub ReachDue : Due → Type 0
+ReachDue due = (due.edges ≡ 0) × (due.corners ≡ 0) × (0 < due.reach)
+
+abbrev pub TallyDue : Due → Type 0
+TallyDue due = (due.edges ≡ 0) × (due.corners ≡ 0) × (due.reach ≡ 0) × (0 < due.tally)
 
 -- The line fits the stand, where END has not come.
 abbrev pub FitsOpen : SolidData → Stand → CertLine → Type 0
-FitsOpen s at head = ⊥
+FitsOpen s at (head v) = ⊥
 FitsOpen s at (solid n) = ⊥
-FitsOpen s at (shell k rows edges corners faces) = NoneDue at × FitsShell s at k rows edges corners faces
-FitsOpen s at (edge a b) = (0 < at.edges_due) × FitsEdge (rows_of_shell s at.shell) at a b
+FitsOpen s at (shell k counts) = NoneDue at.due × FitsShell s at k counts
+FitsOpen s at (edge a b) = (0 < at.due.edges) × FitsEdge (rows_of_shell s at.shell) at a b
 FitsOpen s at (corner []) = ⊥
-FitsOpen s at (corner (r ∷ rs)) = CornerDue at × FitsCorner (rows_of_shell s at.shell) at r rs
-FitsOpen s at (point face l) = CornerDue at × FitsPoint (rows_of_shell s at.shell) at face l
-FitsOpen s at (reach r) = (at.edges_due ≡ 0) × (at.corners_due ≡ 0) × (0 < at.reach_due) × FitsReach (rows_of_shell s at.shell) at r
-FitsOpen s at end = NoneDue at × (at.shell ≡ length s.shells)
+FitsOpen s at (corner (r ∷ rs)) = CornerDue at.due × FitsCorner (rows_of_shell s at.shell) at r rs
+FitsOpen s at (point face l) = CornerDue at.due × FitsPoint (rows_of_shell s at.shell) at face l
+FitsOpen s at (reach r) = ReachDue at.due × FitsReach (rows_of_shell s at.shell) at r
+FitsOpen s at (tally t) = TallyDue at.due × FitsTally s at.shell t
+FitsOpen s at end = NoneDue at.due × (at.shell ≡ length s.shells)
 
 abbrev pub FitsLine : SolidData → Stand → CertLine → Type 0
 FitsLine s at line = (at.ended ≡ false) × FitsOpen s at line

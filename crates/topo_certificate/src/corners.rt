@@ -17,7 +17,7 @@ use edge_uses::Rows;
 use solid_data::VertexId;
 
 /// The vertex of a corner line that fits behind one at the last vertex, where these are the mates.
-pub(crate) fn fitting_corner(
+pub fn fitting_corner(
     rows: &Rows,
     sizes: &[u32],
     mates: &[u32],
@@ -48,7 +48,7 @@ pub(crate) fn fitting_corner(
 }
 
 /// The vertex of a point line that fits behind one at the last vertex.
-pub(crate) fn fitting_point(
+pub fn fitting_point(
     rows: &Rows,
     alone: &[bool],
     last: Option<u32>,

@@ -3,14 +3,15 @@
 ghost use Rattle.std.specs.Prelude.{◌≡◌, ◌↔◌, ℕ, ◌+◌, ◌-◌, ◌<◌, ◌≤◌, List, IsTrue, IfSome, MatchOption, Some, true, length, slice_get};
 ghost use Rattle.cert_lines.specs.Line.{edge, reach};
 ghost use Rattle.topo_certificate.specs.Stand.{Stand, row_named, edge_of, face_of, IsAbove, TurnsTo, FitsEdge, FitsReach};
-ghost use Rattle.topo_certificate.specs.Kept.{mate_in, HoldsMates, HoldsFaces, AreCounts};
+ghost use Rattle.cert_lines.specs.Said.{counts_said, tally_said};
+ghost use Rattle.topo_certificate.specs.Kept.{mate_in, HoldsMates, HoldsFaces, AreCounts, IsTally};
 
-use cert_lines::{ShellWords, from_one};
+use cert_lines::{ShellWords, TallyWords, from_one};
 use edge_uses::{Row, Rows};
 use solid_data::{EdgeId, FaceAt, RowId};
 
 /// The row that a line names, from 1.
-pub(crate) fn named_row(rows: &Rows, number: u32) -> Option<Row>
+pub fn named_row(rows: &Rows, number: u32) -> Option<Row>
     ensures { result ≡ row_named rows.now number }
 {
     if number == 0 {
@@ -20,7 +21,7 @@ pub(crate) fn named_row(rows: &Rows, number: u32) -> Option<Row>
 }
 
 /// Whether a number is above the last one, where there is one.
-pub(crate) fn is_above(last: Option<u32>, number: u32) -> bool
+pub fn is_above(last: Option<u32>, number: u32) -> bool
     ensures { IsTrue result ↔ IsAbove last number }
 {
     match last {
@@ -30,7 +31,7 @@ pub(crate) fn is_above(last: Option<u32>, number: u32) -> bool
 }
 
 /// The edge of an edge line that fits behind one of the last edge.
-pub(crate) fn fitting_edge(
+pub fn fitting_edge(
     rows: &Rows,
     last: Option<u32>,
     along: u32,
@@ -57,13 +58,23 @@ pub(crate) fn fitting_edge(
 
 /// Whether these are the counts of a shell.
 pub(crate) fn fits_counts(rows: &Rows, words: &ShellWords) -> bool
-    ensures { IsTrue result ↔ AreCounts rows.now words.now.rows words.now.edges words.now.corners words.now.faces }
+    ensures { IsTrue result ↔ AreCounts rows.now (counts_said words.now) }
 {
     words.rows as usize == rows.len()
         && words.edges as usize == rows.edge_count()
         && words.corners as usize == rows.vertex_count()
         && words.faces as usize == rows.face_count()
         && 2 * u64::from(words.edges) == u64::from(words.rows)
+}
+
+/// Whether these are the counts of a shell with so many loops.
+pub(crate) fn fits_tally(rows: &Rows, loops: u64, words: &TallyWords) -> bool
+    ensures { IsTrue result ↔ IsTally rows.now loops (tally_said words.now) }
+{
+    words.vertices as usize == rows.vertex_count()
+        && words.edges as usize == rows.edge_count()
+        && words.faces as usize == rows.face_count()
+        && u64::from(words.loops) == loops
 }
 
 /// The mate of a row, both from 1.
@@ -89,7 +100,7 @@ fn is_reached(reached: &[bool], face: u32) -> bool
 }
 
 /// The face of a reach line that fits where these are the mates and the faces reached.
-pub(crate) fn fitting_face(rows: &Rows, mates: &[u32], reached: &[bool], row: u32) -> Option<FaceAt>
+pub fn fitting_face(rows: &Rows, mates: &[u32], reached: &[bool], row: u32) -> Option<FaceAt>
     ensures fits { (at : Stand) → HoldsMates mates.now at.mates → HoldsFaces reached.now at.reached → MatchOption result (¬ FitsReach rows.now at row)
         (λ f. FitsReach rows.now at row × (face_of rows.now (reach row) ≡ Some f.0)) }
     ensures known { IfSome result (λ f. f.0 < rows.now.face_count) }
@@ -115,7 +126,7 @@ pub(crate) fn fitting_face(rows: &Rows, mates: &[u32], reached: &[bool], row: u3
 }
 
 /// The row that follows the mate of a row, all from 1.
-pub(crate) fn turn_of(rows: &Rows, mates: &[u32], row: u32) -> Option<u64>
+pub fn turn_of(rows: &Rows, mates: &[u32], row: u32) -> Option<u64>
     ensures { (pairs : List (ℕ × ℕ)) → HoldsMates mates.now pairs → (s : ℕ) → (result ≡ Some s) ↔ TurnsTo rows.now pairs row s }
 {
     let Some(mate) = mate_of(mates, row) else {

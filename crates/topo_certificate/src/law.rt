@@ -2,11 +2,17 @@
 
 ghost use Rattle.std.specs.Prelude.{ℕ, List, ◌≡◌};
 ghost use Rattle.solid_data.specs.SolidData.{SolidData};
-ghost use Rattle.topo_certificate.specs.Legal.{IsLegal, IsFirstBad};
+ghost use Rattle.topo_certificate.specs.Legal.{IsLegal, IsFirstBad, IsPartBad};
+ghost use Rattle.cert_lines.specs.declared.version.Version.{Version as Edition};
 ghost use Rattle.cert_lines.specs.declared.fault.Illegal.{Illegal as Fault};
 
 /// Legal lines have no first bad one, and there is one first bad one at most (own).
 pub fn legal_or_first_bad()
-    ensures none { (s : SolidData) (lines : List (List ℕ)) (bad : Fault) → IsLegal s lines → IsFirstBad s lines bad → ⊥ }
-    ensures one { (s : SolidData) (lines : List (List ℕ)) (x y : Fault) → IsFirstBad s lines x → IsFirstBad s lines y → x ≡ y }
+    ensures none { (v : Edition) (s : SolidData) (first : ℕ) (lines : List (List ℕ)) (bad : Fault) → IsLegal v s lines → IsFirstBad v s first lines bad → ⊥ }
+    ensures one { (v : Edition) (s : SolidData) (first : ℕ) (lines : List (List ℕ)) (x y : Fault) → IsFirstBad v s first lines x → IsFirstBad v s first lines y → x ≡ y }
+{}
+
+/// In a part of a book too there is one first bad line at most (own).
+pub fn one_bad_in_part()
+    ensures { (v : Edition) (s : SolidData) (first : ℕ) (lines : List (List ℕ)) (x y : Fault) → IsPartBad v s first lines x → IsPartBad v s first lines y → x ≡ y }
 {}

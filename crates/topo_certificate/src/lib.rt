@@ -3,22 +3,35 @@
 
 mod checker;
 mod corners;
+mod feeding;
 mod fitting;
 mod law;
+mod line_start;
+mod opening;
 mod points;
 mod ring;
 mod shell_state;
 mod tallies;
 mod text;
+mod upgrading;
 mod uses;
 
 pub use cert_lines::{
-    Certificate, CornerLine, Corners, EdgePairs, Illegal, Misfit, ReachRows, ShellPart, ShellParts,
-    head_line, one_line, one_opening, solid_line, write_certificate,
+    Certificate, Certificates, CornerLine, Corners, EdgePairs, Illegal, Misfit, ReachRows,
+    ShellPart, ShellParts, Version, head_line, one_line, one_opening, solid_line, write_book,
+    write_certificate,
 };
-pub use checker::Checker;
-pub use law::legal_or_first_bad;
+pub use checker::{Checker, PartLine};
+pub use corners::{fitting_corner, fitting_point};
+pub use feeding::PieceChecker;
+pub use fitting::{fitting_edge, fitting_face, is_above, named_row, turn_of};
+pub use law::{legal_or_first_bad, one_bad_in_part};
+pub use opening::{Opening, OpeningStep};
+pub use ring::turns_to;
+pub use tallies::{Sizes, sizes_of};
 pub use text::check;
+pub use upgrading::{UpgradeFault, upgrade};
+pub use uses::{loop_count, use_count};
 
 /// The most bytes that a certificate may have to be read (own).
 pub const CERT_LIMIT: u64 = 536_870_912;

@@ -10,8 +10,8 @@ use crate::fitting::turn_of;
 use cert_lines::next_number;
 use edge_uses::Rows;
 
-/// Whether a row turns to another, both from 1.
-fn turns_to(rows: &Rows, mates: &[u32], row: u32, next: u32) -> bool
+/// Whether a row turns to another, both from 1 (own).
+pub fn turns_to(rows: &Rows, mates: &[u32], row: u32, next: u32) -> bool
     ensures { (pairs : List (ℕ × ℕ)) → HoldsMates mates.now pairs → IsTrue result ↔ TurnsTo rows.now pairs row next }
 {
     match turn_of(rows, mates, row) {

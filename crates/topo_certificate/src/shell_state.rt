@@ -1,9 +1,9 @@
 //! How far the lines of a shell have come.
 
 use crate::corners::{fitting_corner, fitting_point};
-use crate::fitting::{fits_counts, fitting_edge, fitting_face};
+use crate::fitting::{fits_counts, fits_tally, fitting_edge, fitting_face};
 use crate::tallies::sizes_of;
-use cert_lines::{ShellWords, Words};
+use cert_lines::{ShellWords, TallyWords, Version, Words};
 use edge_uses::Rows;
 use iges_fields::NoMemory;
 use std::alloc::Global;
@@ -14,6 +14,8 @@ use std::marker::Model;
 #[derive(Drop)]
 pub(crate) struct ShellState {
     rows: Rows,
+    /// How many loops the shell has.
+    loops: u64,
     /// For each row how many rows a corner line has that starts with it; 0 where none fits.
     sizes: Vec<u32>,
     /// For each loop without an edge, in file order, whether it is all that lies at its vertex.
@@ -28,6 +30,8 @@ pub(crate) struct ShellState {
     corners_due: u32,
     /// How many reach lines are due.
     reach_due: u32,
+    /// How many TALLY lines are due.
+    tally_due: u32,
     /// The edge of the last edge line, from 0; None before the first.
     last_edge: Option<u32>,
     /// The vertex of the last corner or point line, from 0; None before the first.
@@ -39,12 +43,13 @@ impl Model for ShellState {
 
     ghost Value = { KeptShell };
 
-    ghost view = { λ k. record { rows = k.rows; sizes = k.sizes.items; alone = k.alone.items; mates = k.mates.items; reached = k.reached.items; edges_due = k.edges_due; corners_due = k.corners_due; reach_due = k.reach_due; last_edge = k.last_edge; last_vertex = k.last_vertex } };
+    ghost view = { λ k. record { rows = k.rows; loops = k.loops; sizes = k.sizes.items; alone = k.alone.items; mates = k.mates.items; reached = k.reached.items; edges_due = k.edges_due; corners_due = k.corners_due; reach_due = k.reach_due; tally_due = k.tally_due; last_edge = k.last_edge; last_vertex = k.last_vertex } };
 
-    ghost invariant = { λ k. IsKept (record { rows = k.rows; sizes = k.sizes.items; alone = k.alone.items; mates = k.mates.items; reached = k.reached.items; edges_due = k.edges_due; corners_due = k.corners_due; reach_due = k.reach_due; last_edge = k.last_edge; last_vertex = k.last_vertex }) };
+    ghost invariant = { λ k. IsKept (record { rows = k.rows; loops = k.loops; sizes = k.sizes.items; alone = k.alone.items; mates = k.mates.items; reached = k.reached.items; edges_due = k.edges_due; corners_due = k.corners_due; reach_due = k.reach_due; tally_due = k.tally_due; last_edge = k.last_edge; last_vertex = k.last_vertex }) };
 }
 
 ghost use Rattle.std.specs.Prelude.{◌≡◌, ◌<◌, IfOk, length, replicate, ◌∷◌, []};
+ghost use Rattle.topo_certificate.specs.Stand.{tallies as tallies_of};
 ghost use Rattle.topo_certificate.specs.Kept.{HoldsFaces};
 
 fn no_mates(alloc: Global, rows: usize) -> Result<Vec<u32>, NoMemory>
@@ -63,21 +68,36 @@ fn first_reached(alloc: Global, faces: usize) -> Result<Vec<bool>, NoMemory>
     Ok(reached)
 }
 
+/// How many TALLY lines end a shell.
+fn tallies(version: Version) -> u32
+    ensures { result ≡ tallies_of version }
+{
+    match version {
+        Version::One => 0,
+        Version::Two | Version::Three => 1,
+    }
+}
+
 impl ShellState {
     ghost use Rattle.std.specs.Prelude.{◌≡◌, ◌↔◌, ℕ, ◌+◌, ◌<◌, ◌^◌, List, IsTrue, IfOk, false, length};
-    ghost use Rattle.cert_lines.specs.Line.{CertLine, HasSpelling, edge, corner, point, reach};
+    ghost use Rattle.cert_lines.specs.Line.{CertLine, HasSpelling, edge, corner, point, reach, tally};
     ghost use Rattle.cert_lines.specs.Numbers.{AreNumbers};
-    ghost use Rattle.cert_lines.specs.Said.{Means, IsRowLine};
-    ghost use Rattle.topo_certificate.specs.Kept.{KeptShell, IsFresh, InFileOrder, AreCounts, dues};
+    ghost use Rattle.cert_lines.specs.Said.{Means, IsRowLine, counts_said, tally_said};
+    ghost use Rattle.topo_certificate.specs.Kept.{KeptShell, IsFresh, InFileOrder, AreCounts, IsTally, dues};
     ghost use Rattle.topo_certificate.specs.Told.{Takes};
 
     /// A shell of which no line was read.
-    pub(crate) fn of(alloc: Global, rows: Rows) -> Result<ShellState, NoMemory>
+    pub(crate) fn of(
+        alloc: Global,
+        version: Version,
+        rows: Rows,
+        loops: u64,
+    ) -> Result<ShellState, NoMemory>
         requires order { InFileOrder rows.points }
         requires some { 0 < rows.face_count }
         requires few_edges { length rows.edges < 2 ^ 30 }
         requires few_vertices { length rows.vertices < 2 ^ 30 }
-        ensures { IfOk result (λ k. IsFresh rows k) }
+        ensures { IfOk result (λ k. IsFresh version rows loops k) }
     {
         let sizes = sizes_of(alloc, &rows)?;
         let mates = no_mates(alloc, rows.len())?;
@@ -87,6 +107,7 @@ impl ShellState {
         let reach_due = rows.face_count() as u32 - 1;
         Ok(ShellState {
             rows,
+            loops,
             sizes: sizes.rows,
             alone: sizes.alone,
             mates,
@@ -94,6 +115,7 @@ impl ShellState {
             edges_due,
             corners_due,
             reach_due,
+            tally_due: tallies(version),
             last_edge: None,
             last_vertex: None,
         })
@@ -101,7 +123,7 @@ impl ShellState {
 
     /// Whether these are the shell's counts.
     pub(crate) fn has_counts(&self, words: &ShellWords) -> bool
-        ensures { IsTrue result ↔ AreCounts self.now.rows words.now.rows words.now.edges words.now.corners words.now.faces }
+        ensures { IsTrue result ↔ AreCounts self.now.rows (counts_said words.now) }
     {
         fits_counts(&self.rows, words)
     }
@@ -110,7 +132,7 @@ impl ShellState {
     pub(crate) fn is_done(&self) -> bool
         ensures { IsTrue result ↔ (dues self.now ≡ 0) }
     {
-        self.edges_due == 0 && self.corners_due == 0 && self.reach_due == 0
+        self.edges_due == 0 && self.corners_due == 0 && self.reach_due == 0 && self.tally_due == 0
     }
 
     fn take_edge(&mut self, along: u32, against: u32) -> bool
@@ -186,7 +208,22 @@ impl ShellState {
         true
     }
 
-    /// Takes an edge, corner, point or reach line, exactly where it fits.
+    fn take_tally(&mut self, words: &TallyWords) -> bool
+        ensures line { Takes self.old self.new (tally (tally_said words.now)) result }
+        ensures due { IsTrue result → dues self.new + 1 ≡ dues self.old }
+        ensures refused { result ≡ false → self.new ≡ self.old }
+    {
+        if self.edges_due != 0 || self.corners_due != 0 || self.reach_due != 0 {
+            return false;
+        }
+        if self.tally_due == 0 || !fits_tally(&self.rows, self.loops, words) {
+            return false;
+        }
+        self.tally_due -= 1;
+        true
+    }
+
+    /// Takes an edge, corner, point, reach or TALLY line, exactly where it fits.
     pub(crate) fn take(&mut self, words: Words<'_>) -> bool
         ensures line { (line : CertLine) → Means words.entry line → HasSpelling line → IsRowLine line → Takes self.old self.new line result }
         ensures due { IsTrue result → dues self.new + 1 ≡ dues self.old }
@@ -197,7 +234,8 @@ impl ShellState {
             Words::Corner(numbers) => self.take_corner(numbers),
             Words::Point(face, place) => self.take_point(face, place),
             Words::Reach(row) => self.take_reach(row),
-            Words::Head | Words::Solid(_) | Words::Shell(_) | Words::End => false,
+            Words::Tally(counts) => self.take_tally(&counts),
+            Words::Head(_) | Words::Solid(_) | Words::Shell(_) | Words::End => false,
         }
     }
 }

@@ -126,13 +126,13 @@ fn alone_points(
 
 /// For each row the size of a corner line that starts with it, and for each loop without an edge whether it is alone.
 #[derive(Drop)]
-pub(crate) struct Sizes {
-    pub(crate) rows: Vec<u32>,
-    pub(crate) alone: Vec<bool>,
+pub struct Sizes {
+    pub rows: Vec<u32>,
+    pub alone: Vec<bool>,
 }
 
 /// What corner and point lines of a shell are compared with.
-pub(crate) fn sizes_of(alloc: Global, rows: &Rows) -> Result<Sizes, NoMemory>
+pub fn sizes_of(alloc: Global, rows: &Rows) -> Result<Sizes, NoMemory>
     ensures rows { IfOk result (λ s. s.rows.items ≡ map (λ (r : AnyRow). corner_size rows.now r.from.0) rows.now.rows) }
     ensures alone { IfOk result (λ s. s.alone.items ≡ map (λ (p : LoopPlace × ℕ). is_alone rows.now p.1) rows.now.points) }
 {

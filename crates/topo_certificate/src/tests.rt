@@ -1,8 +1,11 @@
 ghost use Rattle.std.specs.Prelude.{◌≡◌, ◌∷◌, [], IfOk};
 ghost use Rattle.edge_uses.specs.Balls.{one_loop, vertex_key};
 
-use crate::{CERT_LIMIT, Checker, Illegal, check};
-use iges_fields::{EntryNo, ItemList, NoMemory};
+use crate::{
+    CERT_LIMIT, Checker, Illegal, Opening, OpeningStep, PartLine, UpgradeFault, Version, check,
+    upgrade,
+};
+use iges_fields::{Bytes, EntryNo, ItemList, NoMemory};
 use solid_data::{
     Edge, EdgeId, EdgeKey, FaceUse, Loop, LoopUse, Shell, Shells, Solid, Uses, VertexId, VertexKey,
 };
@@ -102,13 +105,13 @@ fn pole_ball(alloc: Global) -> Result<Solid, NoMemory> {
 // What a checker says of lines of the seamed ball, and of the pole.
 fn of_seam(alloc: Global, text: &[u8]) -> Result<Result<(), Illegal>, NoMemory> {
     let solid = seamed_ball(alloc)?;
-    let mut checker = Checker::new(alloc, &solid)?;
+    let mut checker = Checker::new(alloc, &solid, Version::One)?;
     Ok(check(&mut checker, text))
 }
 
 fn of_pole(alloc: Global, text: &[u8]) -> Result<Result<(), Illegal>, NoMemory> {
     let solid = pole_ball(alloc)?;
-    let mut checker = Checker::new(alloc, &solid)?;
+    let mut checker = Checker::new(alloc, &solid, Version::One)?;
     Ok(check(&mut checker, text))
 }
 
@@ -187,7 +190,7 @@ fn a_line_of_75_bytes_is_unfit_for_one_use(rt: HostRuntime) -> Result<(), Fail> 
 #[test]
 fn an_illegal_checker_stays_so(rt: HostRuntime) -> Result<(), Fail> {
     let solid = pole_ball(rt.alloc())?;
-    let mut checker = Checker::new(rt.alloc(), &solid)?;
+    let mut checker = Checker::new(rt.alloc(), &solid, Version::One)?;
     let first = checker.line(b"SHELL 1 0 0 1 2\n");
     assert_eq!(rt; first, Err(Illegal::Unfit { line: 3 }));
     assert_eq!(rt; checker.line(b"SHELL 1 0 0 1 1\n"), first);
@@ -198,4 +201,90 @@ fn an_illegal_checker_stays_so(rt: HostRuntime) -> Result<(), Fail> {
 #[test]
 fn a_certificate_may_have_half_a_gigabyte(rt: HostRuntime) {
     assert_eq!(rt; CERT_LIMIT, 512 * 1024 * 1024);
+}
+
+// What a checker of version 2 says of lines of the pole.
+fn of_pole_in_two(alloc: Global, text: &[u8]) -> Result<Result<(), Illegal>, NoMemory> {
+    let solid = pole_ball(alloc)?;
+    let mut checker = Checker::new(alloc, &solid, Version::Two)?;
+    Ok(check(&mut checker, text))
+}
+
+#[test]
+fn a_shell_ends_in_its_counts(rt: HostRuntime) -> Result<(), Fail> {
+    let told = of_pole_in_two(rt.alloc(), b"SHELL 1 0 0 1 1\nI 1 1\nTALLY 1 0 1 1\nEND\n")?;
+    assert_eq!(rt; told, Ok(()));
+    Ok(())
+}
+
+#[test]
+fn other_counts_are_unfit(rt: HostRuntime) -> Result<(), Fail> {
+    let told = of_pole_in_two(rt.alloc(), b"SHELL 1 0 0 1 1\nI 1 1\nTALLY 1 0 1 2\nEND\n")?;
+    assert_eq!(rt; told, Err(Illegal::Unfit { line: 5 }));
+    Ok(())
+}
+
+#[test]
+fn version_one_has_no_counts(rt: HostRuntime) -> Result<(), Fail> {
+    let told = of_pole(rt.alloc(), b"SHELL 1 0 0 1 1\nI 1 1\nTALLY 1 0 1 1\nEND\n")?;
+    assert_eq!(rt; told, Err(Illegal::Unfit { line: 5 }));
+    Ok(())
+}
+
+#[test]
+fn a_part_ends_at_a_solid_of_a_greater_number(rt: HostRuntime) -> Result<(), Fail> {
+    let solid = pole_ball(rt.alloc())?;
+    let mut part = Checker::part(rt.alloc(), &solid, 7)?;
+    assert_eq!(rt; part.line_of_part(b"SHELL 1 0 0 1 1\n"), Ok(PartLine::More));
+    assert_eq!(rt; part.line_of_part(b"I 1 1\n"), Ok(PartLine::More));
+    assert_eq!(rt; part.line_of_part(b"TALLY 1 0 1 1\n"), Ok(PartLine::More));
+    let next = PartLine::Next {
+        no: EntryNo(15),
+        line: 11,
+    };
+    assert_eq!(rt; part.line_of_part(b"SOLID 15\n"), Ok(next));
+    Ok(())
+}
+
+fn upgraded(alloc: Global, limit: u64) -> Result<Result<Bytes, UpgradeFault>, NoMemory> {
+    let solid = pole_ball(alloc)?;
+    let text = b"IGESCERT 1\nSOLID 13\nSHELL 1 0 0 1 1\nI 1 1\nEND\n";
+    Ok(upgrade(alloc, &solid, text, limit))
+}
+
+#[test]
+fn counts_are_put_before_the_end(rt: HostRuntime) -> Result<(), Fail> {
+    let wanted = b"IGESCERT 2\nSOLID 13\nSHELL 1 0 0 1 1\nI 1 1\nTALLY 1 0 1 1\nEND\n";
+    match upgraded(rt.alloc(), wanted.len() as u64)? {
+        Ok(text) => assert_eq!(rt; text.as_slice(), wanted.as_slice()),
+        Err(_) => assert!(rt; false),
+    }
+    Ok(())
+}
+
+#[test]
+fn a_text_past_the_limit_is_too_large(rt: HostRuntime) -> Result<(), Fail> {
+    match upgraded(rt.alloc(), 59)? {
+        Ok(_) => assert!(rt; false),
+        Err(fault) => assert_eq!(rt; fault, UpgradeFault::TooLarge),
+    }
+    Ok(())
+}
+
+#[test]
+fn an_opening_comes_in_pieces(rt: HostRuntime) {
+    let mut opening = Opening::new();
+    let first = opening.feed(b"IGESCERT 2\nSOL");
+    let second = opening.feed(b"ID 5\nrest");
+    assert!(rt; matches!(first, Ok(OpeningStep::More)));
+    assert!(rt;
+        matches!(
+            second,
+            Ok(OpeningStep::Solid {
+                version: Version::Two,
+                no: EntryNo(5),
+                used: 5
+            })
+        )
+    );
 }

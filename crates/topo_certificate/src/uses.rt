@@ -3,6 +3,9 @@
 ghost use Rattle.std.specs.Prelude.{◌≡◌, ◌+◌, ◌*◌, ◌<◌, ◌^◌, length, flat_map};
 ghost use Rattle.solid_data.specs.SolidData.{shell_uses};
 ghost use Rattle.cert_lines.specs.Line.{line_limit};
+ghost use Rattle.std.specs.Prelude.{Some, sum_by};
+ghost use Rattle.solid_data.specs.declared.solid.FaceUse.{FaceUse as Face};
+ghost use Rattle.topo_certificate.specs.Stand.{loops_of};
 ghost use Rattle.topo_certificate.specs.Uses.{loops_size, faces_size};
 
 use solid_data::{FaceUse, Shell, ShellAt, Solid};
@@ -31,7 +34,8 @@ fn uses_of_shell(shell: &Shell) -> usize
     count
 }
 
-fn use_count(solid: &Solid) -> usize
+/// How many uses the loops of a solid have (own).
+pub fn use_count(solid: &Solid) -> usize
     ensures { result ≡ length (flat_map shell_uses solid.now.shells) }
 {
     let mut count = 0;
@@ -47,4 +51,23 @@ pub(crate) fn limit_of(solid: &Solid) -> usize
 {
     let _entity = solid.entity();
     64 + 10 * use_count(solid)
+}
+
+fn loops_in(faces: &[FaceUse]) -> u64
+    requires { sum_by (λ (f : Face). length f.loops) faces.now < 2 ^ 64 }
+    ensures { result ≡ sum_by (λ (f : Face). length f.loops) faces.now }
+{
+    let mut count = 0;
+    'faces: for face in faces {
+        count += face.loops.len() as u64;
+    }
+    count
+}
+
+/// How many loops a shell has (own).
+pub fn loop_count(shell: &Shell) -> u64
+    requires { loops_of (Some shell.now) < 2 ^ 29 }
+    ensures { result ≡ loops_of (Some shell.now) }
+{
+    loops_in(shell.faces.as_slice())
 }

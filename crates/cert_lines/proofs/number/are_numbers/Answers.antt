@@ -1,7 +1,4 @@
-use Rattle.std.proofs.Common.{rules, arith, true, false, ◌≡◌, ◌≢◌, ℕ, List, [], ◌∷◌, ◌≤◌, ◌<◌, ◌↔◌, IsTrue, length, take, drop, decimal, MatchOption, SomeIff, ap, subst, sym, get_or}
-use Rattle.std.specs.Str.Parse.{IsNumeral, digits_value}
-use Rattle.cert_lines.specs.Line.{IsShort}
-use Rattle.cert_lines.specs.Numbers.{IsWord, Stops, Begins, AreNumbers, IsSpaced}
+use Rattle.std.proofs.Common.{rules, true, false, ◌≡◌}
 use Rattle.cert_lines.proofs.Digits.{none_spaced, begins_more}
 use Rattle.cert_lines.proofs.number.are_numbers.Goals as goal
 

@@ -1,5 +1,5 @@
 use Rattle.std.proofs.Common.{length}
-use Rattle.std.specs.Prelude.{◌↔◌, ℕ}
+use Rattle.std.specs.Prelude.{◌↔◌}
 use Rattle.cert_lines.specs.Numbers.{IsSpaced}
 use Rattle.cert_lines.proofs.number.are_numbers.Given as goal
 

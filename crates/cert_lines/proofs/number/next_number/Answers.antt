@@ -1,7 +1,5 @@
-use Rattle.std.proofs.Common.{rules, arith, ◌≡◌, ◌≢◌, ℕ, List, [], ◌∷◌, ◌≤◌, ◌<◌, ◌↔◌, IsTrue, length, take, drop, decimal, MatchOption, SomeIff, ap, subst, sym, get_or}
-use Rattle.std.specs.Str.Parse.{IsNumeral, digits_value}
-use Rattle.cert_lines.specs.Line.{IsShort}
-use Rattle.cert_lines.specs.Numbers.{IsWord, Stops, Begins, AreNumbers, IsSpaced}
+use Rattle.std.proofs.Common.{rules, ◌≡◌, ◌∷◌, subst}
+use Rattle.cert_lines.specs.Numbers.{AreNumbers}
 use Rattle.cert_lines.proofs.Digits.{word_of}
 use Rattle.cert_lines.proofs.number.next_number.Goals as goal
 

@@ -1,8 +1,5 @@
-use Rattle.std.proofs.Common.{rules, arith, ◌≡◌, ◌≢◌, ℕ, List, [], ◌∷◌, ◌≤◌, ◌<◌, ◌↔◌, IsTrue, length, take, drop, decimal, MatchOption, SomeIff, ap, subst, sym, get_or}
-use Rattle.std.specs.Str.Parse.{IsNumeral, digits_value}
-use Rattle.cert_lines.specs.Line.{IsShort}
-use Rattle.cert_lines.specs.Numbers.{IsWord, Stops, Begins, AreNumbers, IsSpaced}
-use Rattle.cert_lines.proofs.Digits.{begins_tail, begins_cons, empty_spaced}
+use Rattle.std.proofs.Common.{rules, []}
+use Rattle.cert_lines.proofs.Digits.{begins_tail}
 use Rattle.cert_lines.proofs.number.one_number.Goals as goal
 
 pub returns-in_default : goal.returns-in_default

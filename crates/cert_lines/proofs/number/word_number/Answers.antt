@@ -1,7 +1,6 @@
-use Rattle.std.proofs.Common.{rules, arith, ◌≡◌, ◌≢◌, ℕ, List, [], ◌∷◌, ◌≤◌, ◌<◌, ◌↔◌, IsTrue, length, take, drop, decimal, MatchOption, SomeIff, ap, subst, sym, get_or}
-use Rattle.std.specs.Str.Parse.{IsNumeral, digits_value}
+use Rattle.std.proofs.Common.{rules, arith, ◌≡◌, ◌≢◌, ℕ, List, length, decimal, ap, subst, sym, get_or}
+use Rattle.std.specs.Str.Parse.{IsNumeral}
 use Rattle.cert_lines.specs.Line.{IsShort}
-use Rattle.cert_lines.specs.Numbers.{IsWord, Stops, Begins, AreNumbers, IsSpaced}
 use Rattle.cert_lines.proofs.Digits.{decimal_short, decimal_numeral, decimal_lead, numeral_word}
 use Rattle.cert_lines.proofs.number.word_number.Goals as goal
 

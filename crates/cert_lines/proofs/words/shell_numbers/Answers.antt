@@ -1,5 +1,4 @@
-use Rattle.std.proofs.Common.{rules, ℕ, List, [], ◌∷◌}
-use Rattle.cert_lines.specs.Numbers.{AreNumbers}
+use Rattle.std.proofs.Common.{rules, [], ◌∷◌}
 use Rattle.cert_lines.proofs.Digits.{begins_tail}
 use Rattle.cert_lines.proofs.words.shell_numbers.Goals as goal
 

@@ -1,8 +1,7 @@
-use Rattle.std.proofs.Common.{◌≡◌, drop, ◌++◌, map}
-use Rattle.std.specs.Prelude.{flat_map, ◌+◌}
-use Rattle.std.specs.List.{enumerate_from}
-use Rattle.cert_lines.specs.Line.{spaced, spelling}
-use Rattle.cert_lines.specs.Written.{row_number, edge_line, corner_line, reach_line, shell_lines, text_of}
+use Rattle.std.proofs.Common.{◌≡◌, drop, ◌++◌}
+use Rattle.std.specs.Prelude.{flat_map}
+use Rattle.cert_lines.specs.Line.{spelling}
+use Rattle.cert_lines.specs.Written.{corner_line}
 use Rattle.cert_lines.proofs.writing.put_corners.Given as goal
 
 abbrev pub invariant-corners : goal.invariant-corners

@@ -1,9 +1,8 @@
-use Rattle.std.proofs.Common.{◌≡◌, drop, ◌++◌, map}
+use Rattle.std.proofs.Common.{◌≡◌, drop, ◌++◌}
 use Rattle.std.specs.Prelude.{flat_map, ◌+◌}
 use Rattle.std.specs.List.{enumerate_from}
-use Rattle.cert_lines.specs.Line.{spaced, spelling}
-use Rattle.cert_lines.specs.Written.{row_number, edge_line, corner_line, reach_line, shell_lines, text_of}
+use Rattle.cert_lines.specs.Written.{shell_lines, text_of}
 use Rattle.cert_lines.proofs.writing.put_shells.Given as goal
 
 abbrev pub invariant-shells : goal.invariant-shells
-invariant-shells l = l.out ++ flat_map (λ h. text_of (shell_lines h)) (enumerate_from (l.i + 1) (drop l.i l.parts)) ≡ l.fn.out ++ flat_map (λ h. text_of (shell_lines h)) (enumerate_from 1 l.parts)
+invariant-shells l = l.out ++ flat_map (λ h. text_of (shell_lines l.version h)) (enumerate_from (l.i + 1) (drop l.i l.parts)) ≡ l.fn.out ++ flat_map (λ h. text_of (shell_lines l.version h)) (enumerate_from 1 l.parts)

@@ -1,4 +1,6 @@
+use Rattle.std.proofs.Common.{refl}
 use Rattle.std.proofs.lemmas.Result.{err_from_is_err_and}
+use Rattle.cert_lines.specs.declared.version.Version.TheVariants.{Two}
 use Rattle.edge_uses.specs.ShellObligations.{solid_obligations}
 use Rattle.cert_lines.specs.declared.parts.Certificate.{Certificate}
 use Rattle.cert_maker.specs.Certified.{IsCertificate}
@@ -18,12 +20,12 @@ returns-in_err-shells-clause-only_fault c x first =
 
 pub returns-clause-certificate : goal.returns-clause-certificate
 returns-clause-certificate c =
-    certificate_made c.args.solid.now (record { solid = c.entity.result; shells = c.in_ok-shells.shells }) c.entity.ensures.numbered c.entity.ensures.entity c.in_ok-shells.ensures.holds c.in_ok-shells.ensures.parts
+    certificate_made c.args.solid.now (record { version = Two; solid = c.entity.result; shells = c.in_ok-shells.shells }) c.entity.ensures.numbered refl c.entity.ensures.entity c.in_ok-shells.ensures.holds c.in_ok-shells.ensures.parts
 
 pub returns-clause-accepted : goal.returns-clause-accepted
 returns-clause-accepted c =
-    certificate_accepted c.args.solid.now (record { solid = c.entity.result; shells = c.in_ok-shells.shells })
-    (certificate_made c.args.solid.now (record { solid = c.entity.result; shells = c.in_ok-shells.shells }) c.entity.ensures.numbered c.entity.ensures.entity c.in_ok-shells.ensures.holds c.in_ok-shells.ensures.parts)
+    certificate_accepted c.args.solid.now (record { version = Two; solid = c.entity.result; shells = c.in_ok-shells.shells })
+    (certificate_made c.args.solid.now (record { version = Two; solid = c.entity.result; shells = c.in_ok-shells.shells }) c.entity.ensures.numbered refl c.entity.ensures.entity c.in_ok-shells.ensures.holds c.in_ok-shells.ensures.parts)
 
 pub returns-clause-only_fault : goal.returns-clause-only_fault
 returns-clause-only_fault c x first = never (solid_obligations c.args.solid.now) x c.in_ok-shells.ensures.holds first

@@ -1,4 +1,5 @@
-use Rattle.std.proofs.Common.{◌≡◌, ◌<◌, sym, ◌∙◌, ap, arith, length}
+use Rattle.std.proofs.Common.{◌≡◌, ◌<◌, sym, ◌∙◌, ap, arith, length, Some}
+use Rattle.topo_certificate.specs.Stand.{loops_of}
 use Rattle.std.proofs.lemmas.Result.{err_from_is_err_and}
 use Rattle.solid_data.specs.declared.solid.Shell.{Shell}
 use Rattle.edge_uses.specs.ShellRows.{shell_rows}
@@ -13,7 +14,7 @@ use Rattle.cert_maker.proofs.making.shell_parts.Goals as goal
 pub shells-init : goal.shells-init
 shells-init c = record {
   left = from_first c.args.solid.now;
-  parts = agree_first (λ (h : Shell) (part : ShellPart). IsPart (shell_rows c.args.solid.now h) part) c.args.solid.now.shells c.new-parts.result c.new-parts.ensures;
+  parts = agree_first (λ (h : Shell) (part : ShellPart). IsPart (shell_rows c.args.solid.now h) (loops_of (Some h)) part) c.args.solid.now.shells c.new-parts.result c.new-parts.ensures;
   before = c.none-before.ensures c.args.solid.now;
 }
 
@@ -30,11 +31,11 @@ returns-in_err-part-clause-fails c =
 pub shells-preserved : goal.shells-preserved
 shells-preserved c = record {
   left = one_shell (shell_obligations c.args.solid.now) (solid_obligations c.args.solid.now) c.args.solid.now.shells c.shells.k c.shell_at-shell.result.now c.shell_at-shell.ensures c.shells.invariant.left c.in_ok-part.ensures.holds;
-  parts = agree_more (λ (h : Shell) (part : ShellPart). IsPart (shell_rows c.args.solid.now h) part) c.args.solid.now.shells c.shells.k c.shell_at-shell.result.now c.in_ok-part.part c.shells.parts c.push_part.new.parts c.shell_at-shell.ensures
+  parts = agree_more (λ (h : Shell) (part : ShellPart). IsPart (shell_rows c.args.solid.now h) (loops_of (Some h)) part) c.args.solid.now.shells c.shells.k c.shell_at-shell.result.now c.in_ok-part.part c.shells.parts c.push_part.new.parts c.shell_at-shell.ensures
       c.in_ok-part.ensures.part c.in_ok-push_part.ensures c.shells.invariant.parts;
   before = c.in_ok-part.ensures.before;
 }
 
 pub returns-clause-parts : goal.returns-clause-parts
 returns-clause-parts c =
-    agree_done (λ (h : Shell) (part : ShellPart). IsPart (shell_rows c.args.solid.now h) part) c.args.solid.now.shells c.shells.k c.shells.parts (omega (arith, c.shell_count-k-end.ensures.count, c.shells-test.false)) c.shells.invariant.parts
+    agree_done (λ (h : Shell) (part : ShellPart). IsPart (shell_rows c.args.solid.now h) (loops_of (Some h)) part) c.args.solid.now.shells c.shells.k c.shells.parts (omega (arith, c.shell_count-k-end.ensures.count, c.shells-test.false)) c.shells.invariant.parts

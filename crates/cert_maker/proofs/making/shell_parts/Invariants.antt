@@ -1,4 +1,5 @@
-use Rattle.std.proofs.Common.{◌≡◌, ℕ}
+use Rattle.std.proofs.Common.{◌≡◌, ℕ, Some}
+use Rattle.topo_certificate.specs.Stand.{loops_of}
 use Rattle.solid_data.specs.declared.solid.Shell.{Shell}
 use Rattle.edge_uses.specs.Before.{AreBelow}
 use Rattle.edge_uses.specs.ShellRows.{shell_rows}
@@ -12,6 +13,6 @@ use Rattle.cert_maker.proofs.making.shell_parts.Given as goal
 abbrev pub invariant-shells : goal.invariant-shells
 invariant-shells l = record {
   left : RemainFrom (shell_obligations l.solid) (solid_obligations l.solid) l.solid.shells l.k;
-  parts : AgreeUpTo (λ (h : Shell) (part : ShellPart). IsPart (shell_rows l.solid h) part) l.solid.shells l.k l.parts;
+  parts : AgreeUpTo (λ (h : Shell) (part : ShellPart). IsPart (shell_rows l.solid h) (loops_of (Some h)) part) l.solid.shells l.k l.parts;
   before : AreBelow l.solid l.k l.before;
 }

@@ -1,11 +1,13 @@
-use Rattle.std.proofs.Common.{sym, ◌∙◌, ap, subst, refl}
+use Rattle.std.proofs.Common.{sym, ◌∙◌, ap, subst, refl, arith, length}
 use Rattle.std.proofs.lemmas.Result.{err_from_is_err_and}
 use Rattle.std.proofs.lemmas.Option.{slice_get_within}
-use Rattle.topo_certificate.proofs.PointOrder.{faces_of_rows}
+use Rattle.topo_certificate.proofs.PointOrder.{faces_of_rows, can_check}
 use Rattle.solid_data.specs.Obligations.{AllHold}
 use Rattle.edge_uses.specs.ShellRows.{ShellRows, shell_rows}
 use Rattle.edge_uses.specs.ShellObligations.{pair_obligations, apart_obligations}
 use Rattle.cert_maker.specs.Certified.{IsMakeFault}
+use Rattle.std.specs.Prelude.{Some}
+use Rattle.topo_certificate.specs.Stand.{loops_of}
 use Rattle.cert_maker.specs.Parts.{IsPart}
 use Rattle.cert_maker.specs.declared.fault.MakeFault.TheVariants.{Fails}
 use Rattle.cert_maker.proofs.OneShell.{joined_not, paired_not, reached_not, linked_not, apart_not, all_hold, same_rows}
@@ -53,7 +55,7 @@ returns-in_err-apart-clause-fails c =
 
 pub returns-clause-part : goal.returns-clause-part
 returns-clause-part c =
-    subst (λ (d : ShellRows). IsPart d c.in_ok-part.part) (c.in_ok-paired.ensures.rows ∙ same_rows c.args.solid.now c.args.at.0 c.args.shell.now c.in_ok-rows.rows c.in_ok-rows.ensures c.requires.at) c.in_ok-part.ensures
+    subst (λ (d : ShellRows). IsPart d (loops_of (Some c.args.shell.now)) c.in_ok-part.part) (c.in_ok-paired.ensures.rows ∙ same_rows c.args.solid.now c.args.at.0 c.args.shell.now c.in_ok-rows.rows c.in_ok-rows.ensures c.requires.at) (subst (λ n. IsPart c.in_ok-paired.paired n c.in_ok-part.part) c.loops_in.ensures c.in_ok-part.ensures)
 
 pub returns-clause-before : goal.returns-clause-before
 returns-clause-before c =
@@ -64,3 +66,8 @@ returns-clause-holds c =
     let pairs : AllHold (pair_obligations c.args.solid.now c.in_ok-paired.paired) = subst (λ (d : ShellRows). AllHold (pair_obligations c.args.solid.now d)) (sym c.in_ok-paired.ensures.rows) c.in_ok-paired.ensures.holds in
     all_hold c.args.solid.now c.args.at.0 c.args.shell.now c.in_ok-paired.paired (c.in_ok-paired.ensures.rows ∙ same_rows c.args.solid.now c.args.at.0 c.args.shell.now c.in_ok-rows.rows c.in_ok-rows.ensures c.requires.at) c.in_ok-join.ensures.holds pairs c.in_ok-reach.ensures.holds c.in_ok-links.ensures.holds
     (subst (λ (d : ShellRows). AllHold (apart_obligations c.args.solid.now c.args.at.0 d)) (sym c.in_ok-paired.ensures.rows) c.in_ok-apart.ensures.holds)
+
+pub part_of-requires-clause-few : goal.part_of-requires-clause-few
+part_of-requires-clause-few c =
+    let can = can_check c.args.solid.now c.args.at.0 c.in_ok-rows.rows c.entity-entity.ensures.numbered (slice_get_within c.args.solid.now.shells c.args.at.0 c.args.shell.now c.requires.at) c.in_ok-rows.ensures in
+    omega (arith, can.few_vertices, ap (λ (d : ShellRows). length d.vertices) c.in_ok-paired.ensures.rows)

@@ -1,5 +1,4 @@
-use Rattle.std.proofs.Common.{rules, sym, ap, ◌∙◌, ◌≡◌, true, false, List, ℕ}
-use Rattle.std.specs.Prelude.{Some, None}
+use Rattle.std.proofs.Common.{rules, sym, ◌∙◌, ◌≡◌, true, false}
 use Rattle.topo_certificate.proofs.CornerFits.{corner_of, corner_no_row, corner_low, corner_ring, corner_fits, corner_other_size, size_there, size_below}
 use Rattle.topo_certificate.proofs.corners.fitting_corner.Goals as goal
 

@@ -1,6 +1,5 @@
-use Rattle.std.proofs.Common.{rules, sym, ap, ◌∙◌, ◌≡◌, true, false, ℕ}
-use Rattle.std.specs.Prelude.{Some, None}
-use Rattle.topo_certificate.proofs.CornerFits.{point_fits, point_not_alone, point_low, alone_there, alone_below}
+use Rattle.std.proofs.Common.{sym, ◌∙◌, ◌≡◌, true, false}
+use Rattle.topo_certificate.proofs.CornerFits.{point_fits, point_not_alone, point_low, alone_there}
 use Rattle.topo_certificate.proofs.corners.fitting_point.Goals as goal
 
 pub returns-then-not-alone-i : goal.returns-then-not-alone-i

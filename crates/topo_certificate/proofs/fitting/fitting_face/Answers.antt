@@ -1,5 +1,4 @@
 use Rattle.std.proofs.Common.{rules, sym, ◌∙◌, ◌≡◌, ◌<◌, true, false}
-use Rattle.std.specs.Prelude.{Some, slice_get}
 use Rattle.topo_certificate.proofs.Holding.{no_reach_mate, no_reach_row, reach_iff, reach_on}
 use Rattle.edge_uses.specs.declared.row.Row.{Row}
 use Rattle.topo_certificate.proofs.Segment.{named_has}

@@ -1,6 +1,6 @@
-use Rattle.std.proofs.Common.{rules, ◌≡◌, ℕ, subst, sym}
+use Rattle.std.proofs.Common.{rules, ◌≡◌, subst, sym}
 use Rattle.topo_certificate.specs.Stand.{TurnsTo}
-use Rattle.std.specs.Prelude.{◌↔◌, Option, None, Some}
+use Rattle.std.specs.Prelude.{◌↔◌, Some}
 use Rattle.topo_certificate.proofs.Holding.{turn_none, turn_end, turn_iff}
 use Rattle.topo_certificate.proofs.fitting.turn_of.Goals as goal
 

@@ -1,4 +1,4 @@
-use Rattle.std.proofs.Common.{arith, rules, sym, ◌∙◌, ◌<◌, length, ◌≡◌, true, false}
+use Rattle.std.proofs.Common.{arith, sym, ◌∙◌, ◌≡◌, true, false}
 use Rattle.topo_certificate.proofs.Rings.{walked_none, walked_step, walked_stop, walked_whole, walked_broken, begins_shorter}
 use Rattle.topo_certificate.proofs.ring.ring_len.Goals as goal
 

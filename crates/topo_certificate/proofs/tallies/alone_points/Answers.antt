@@ -1,4 +1,4 @@
-use Rattle.std.proofs.Common.{arith, ap, ◌∙◌, ◌≡◌, ◌++◌, ◌∷◌, [], refl, ℕ}
+use Rattle.std.proofs.Common.{ap, ◌∙◌, ◌++◌, ◌∷◌, [], ℕ}
 use Rattle.solid_data.specs.declared.solid.LoopAt.{LoopAt}
 use Rattle.topo_certificate.specs.Kept.{is_alone}
 use Rattle.topo_certificate.proofs.VertexTallies.{point_within, mapped_more}

@@ -1,7 +1,6 @@
 use Rattle.std.proofs.Common.{ℕ, ◌≡◌, ◌++◌, map, drop}
 use Rattle.solid_data.specs.declared.solid.LoopAt.{LoopAt}
-use Rattle.edge_uses.specs.declared.row.Row.{Row}
-use Rattle.topo_certificate.specs.Kept.{corner_size, is_alone}
+use Rattle.topo_certificate.specs.Kept.{is_alone}
 use Rattle.topo_certificate.proofs.tallies.alone_points.Given as goal
 
 abbrev pub invariant-points : goal.invariant-points

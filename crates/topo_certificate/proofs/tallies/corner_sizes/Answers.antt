@@ -1,4 +1,4 @@
-use Rattle.std.proofs.Common.{arith, ap, ◌∙◌, ◌≡◌, ◌++◌, ◌∷◌, [], refl}
+use Rattle.std.proofs.Common.{ap, ◌∙◌, ◌++◌, ◌∷◌, []}
 use Rattle.edge_uses.specs.declared.row.Row.{Row}
 use Rattle.topo_certificate.specs.Kept.{corner_size}
 use Rattle.topo_certificate.proofs.VertexTallies.{row_within, mapped_more}

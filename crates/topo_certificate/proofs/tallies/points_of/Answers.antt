@@ -1,4 +1,4 @@
-use Rattle.std.proofs.Common.{arith, ℕ, ◌<◌, ◌≤◌, ◌+◌, length, refl}
+use Rattle.std.proofs.Common.{arith, ℕ, ◌<◌, refl}
 use Rattle.solid_data.specs.declared.solid.LoopAt.{LoopAt}
 use Rattle.edge_uses.specs.Ranges.{IsWithin}
 use Rattle.topo_certificate.proofs.VertexTallies.{lies_of, point_within, counts_few, counts_step, points_counted}

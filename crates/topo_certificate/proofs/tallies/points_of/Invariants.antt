@@ -1,6 +1,5 @@
 use Rattle.std.proofs.Common.{ℕ}
 use Rattle.solid_data.specs.declared.solid.LoopAt.{LoopAt}
-use Rattle.edge_uses.specs.declared.row.Row.{Row}
 use Rattle.topo_certificate.proofs.VertexTallies.{CountsBefore, lies_of}
 use Rattle.topo_certificate.proofs.tallies.points_of.Given as goal
 

@@ -1,4 +1,4 @@
-use Rattle.std.proofs.Common.{arith, ◌<◌, ◌≤◌, ◌+◌, length, refl}
+use Rattle.std.proofs.Common.{arith, ◌<◌, refl}
 use Rattle.edge_uses.specs.declared.row.Row.{Row}
 use Rattle.edge_uses.specs.Ranges.{IsWithin}
 use Rattle.topo_certificate.proofs.VertexTallies.{from_of, row_within, counts_few, counts_step, starts_counted}

@@ -1,5 +1,3 @@
-use Rattle.std.proofs.Common.{ℕ}
-use Rattle.solid_data.specs.declared.solid.LoopAt.{LoopAt}
 use Rattle.edge_uses.specs.declared.row.Row.{Row}
 use Rattle.topo_certificate.proofs.VertexTallies.{CountsBefore, from_of}
 use Rattle.topo_certificate.proofs.tallies.starts_of.Given as goal

@@ -1,5 +1,4 @@
-use Rattle.std.proofs.Common.{arith, rules, ◌≡◌, ◌<◌, ◌≤◌, ◌+◌, sym, ap, ◌∙◌, option_copied, refl}
-use Rattle.std.specs.Prelude.{Some, slice_get}
+use Rattle.std.proofs.Common.{arith, sym, ap, ◌∙◌, option_copied}
 use Rattle.topo_certificate.proofs.UseSizes.{few_shells, shells_split, shells_counted, uses_few, shells_past}
 use Rattle.topo_certificate.proofs.uses.use_count.Goals as goal
 

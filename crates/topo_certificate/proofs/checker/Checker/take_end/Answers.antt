@@ -1,5 +1,4 @@
-use Rattle.std.proofs.Common.{rules, arith, refl, sym, ap, ◌∙◌, subst, ◌≡◌, ◌+◌, length, true, false}
-use Rattle.std.proofs.lemmas.Bool.{eqb-true}
+use Rattle.std.proofs.Common.{rules, refl, ap, ◌∙◌, subst, ◌≡◌, ◌+◌, length, true, false}
 use Rattle.cert_lines.specs.Line.{end}
 use Rattle.topo_certificate.specs.Told.{Kept}
 use Rattle.topo_certificate.specs.Room.{dues_of, TakesLine}
@@ -10,6 +9,7 @@ pub returns-clause-line : goal.returns-clause-line
 returns-clause-line c =
     let old : Kept =
     record {
+      version = c.self.inside.version;
       solid = c.self.inside.solid.now;
       failed = c.self.inside.failed;
       number = c.self.inside.number;

@@ -1,4 +1,4 @@
-use Rattle.std.proofs.Common.{rules, arith, refl, sym, ap, ◌∙◌, subst, ◌≡◌, ◌+◌, length, true, false}
+use Rattle.std.proofs.Common.{refl, ap, ◌∙◌, subst, ◌≡◌, ◌+◌, true, false}
 use Rattle.topo_certificate.specs.Told.{Kept}
 use Rattle.topo_certificate.specs.Room.{TakesLine}
 use Rattle.topo_certificate.proofs.Checking.{with_current, row_line_taken, row_line_refused}
@@ -8,6 +8,7 @@ pub returns-clause-line : goal.returns-clause-line
 returns-clause-line c = λ line means spelled kind.
     let old : Kept =
     record {
+      version = c.self.inside.version;
       solid = c.self.inside.solid.now;
       failed = c.self.inside.failed;
       number = c.self.inside.number;
@@ -24,6 +25,7 @@ pub returns-then-not-take-clause-line : goal.returns-then-not-take-clause-line
 returns-then-not-take-clause-line c = λ line means spelled kind.
     let old : Kept =
     record {
+      version = c.self.inside.version;
       solid = c.self.inside.solid.now;
       failed = c.self.inside.failed;
       number = c.self.inside.number;

@@ -1,9 +1,9 @@
-use Rattle.std.proofs.Common.{rules, arith, subst, refl, sym, ◌≡◌, ◌<◌, ◌-◌, true, false}
+use Rattle.std.proofs.Common.{arith, subst, refl, sym, ◌-◌, true, false}
 use Rattle.cert_lines.specs.Line.{corner}
 use Rattle.topo_certificate.specs.Kept.{HoldsMates}
 use Rattle.topo_certificate.specs.Told.{Takes}
 use Rattle.topo_certificate.specs.contracts.shell_state.ShellState.{the_view}
-use Rattle.topo_certificate.proofs.Telling.{with_vertex, corner_takes, corner_unfit, corner_not_due}
+use Rattle.topo_certificate.proofs.Telling.{with_vertex, corner_takes, corner_unfit}
 use Rattle.topo_certificate.proofs.shell_state.ShellState.take_corner.Goals as goal
 
 pub returns-in_default-clause-line : goal.returns-in_default-clause-line

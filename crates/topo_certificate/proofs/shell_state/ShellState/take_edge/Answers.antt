@@ -1,8 +1,8 @@
-use Rattle.std.proofs.Common.{rules, arith, subst, refl, sym, ◌≡◌, ◌<◌, ◌≤◌, ◌-◌, length, true, false}
+use Rattle.std.proofs.Common.{arith, subst, refl, ◌-◌, true, false}
 use Rattle.cert_lines.specs.Line.{edge}
 use Rattle.topo_certificate.specs.Told.{Takes}
 use Rattle.topo_certificate.specs.contracts.shell_state.ShellState.{the_view}
-use Rattle.topo_certificate.proofs.Telling.{FitsBehind, with_edge, can_mate, edge_kept, edge_takes, edge_unfit}
+use Rattle.topo_certificate.proofs.Telling.{with_edge, can_mate, edge_kept, edge_takes, edge_unfit}
 use Rattle.topo_certificate.proofs.shell_state.ShellState.take_edge.Goals as goal
 
 pub returns-in_default-clause-line : goal.returns-in_default-clause-line

@@ -1,4 +1,4 @@
-use Rattle.std.proofs.Common.{rules, arith, subst, refl, sym, ◌≡◌, ◌<◌, ◌-◌, true, false}
+use Rattle.std.proofs.Common.{arith, subst, refl, ◌-◌, true, false}
 use Rattle.cert_lines.specs.Line.{point}
 use Rattle.topo_certificate.specs.Told.{Takes}
 use Rattle.topo_certificate.specs.contracts.shell_state.ShellState.{the_view}

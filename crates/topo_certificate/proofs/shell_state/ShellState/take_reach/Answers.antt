@@ -1,4 +1,4 @@
-use Rattle.std.proofs.Common.{rules, arith, subst, refl, sym, ◌≡◌, ◌<◌, ◌-◌, length, true, false}
+use Rattle.std.proofs.Common.{arith, subst, refl, sym, ◌-◌, true, false}
 use Rattle.cert_lines.specs.Line.{reach}
 use Rattle.topo_certificate.specs.Kept.{HoldsMates, HoldsFaces}
 use Rattle.topo_certificate.specs.Told.{Takes}

@@ -1,0 +1,5 @@
+use Rattle.compact_laws.proofs.RankedSolid.{solid_ranked}
+use Rattle.compact_laws.proofs.law.solid_is_ranked.Goals as goal
+
+pub returns : goal.returns
+returns c = solid_ranked

@@ -1,0 +1,4 @@
+pub mod Alike
+pub mod Relabelled
+pub mod Ranked
+pub mod Compacted

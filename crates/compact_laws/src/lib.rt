@@ -1,0 +1,6 @@
+//! The laws that a solid keeps its shape and its verdict once the unused items of its lists are dropped.
+#![tactic(auto)]
+
+mod law;
+
+pub use law::{solid_is_compacted, solid_is_ranked, verdict_is_compacted, verdict_is_ranked};

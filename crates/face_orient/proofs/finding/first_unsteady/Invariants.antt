@@ -1,0 +1,7 @@
+use Rattle.std.proofs.Common.{◌≡◌, ◌<◌, ℕ, slice_get, Some}
+use Rattle.face_orient.specs.declared.crossing.Crossing.{Crossing}
+use Rattle.face_orient.specs.Steady.{IsSteady}
+use Rattle.face_orient.proofs.finding.first_unsteady.Given as goal
+
+abbrev pub invariant-steps : goal.invariant-steps
+invariant-steps l = (r : ℕ) (c : Crossing) → r < l.r → slice_get l.crossings r ≡ Some c → IsSteady l.flood.places.items c

@@ -1,0 +1,90 @@
+//! Flags or a ring, once all faces are reached.
+
+ghost use Rattle.std.specs.Prelude.{◌≡◌, ◌≢◌, ◌<◌, ◌^◌, ℕ, length, map, Some, slice_get, IfOk, MatchOption};
+ghost use Rattle.std.specs.List.{AllByRecursion};
+ghost use Rattle.solid_data.specs.Chain.{LeadsTo};
+ghost use Rattle.solid_data.specs.Obligations.{FirstNot};
+ghost use Rattle.solid_data.specs.Ring.{numbers_from};
+ghost use Rattle.solid_data.proofs.Members.{Has};
+ghost use Rattle.face_orient.specs.declared.crossing.Crossing.{Crossing as AnyCrossing};
+ghost use Rattle.face_orient.specs.declared.flood.Place.{Place as AnyPlace};
+ghost use Rattle.face_orient.specs.Crossings.{IsGraph, Meets, flipped};
+ghost use Rattle.face_orient.specs.Flood.{IsFlood, IsDone, place_of};
+ghost use Rattle.face_orient.specs.Graph.{IsFound};
+ghost use Rattle.face_orient.specs.Steady.{IsSteady};
+
+use crate::crossing::Crossing;
+use crate::flood::{Flood, flip};
+use crate::lists::{FlagList, Orientation};
+use crate::ring::ring_of;
+use iges_fields::NoMemory;
+use std::alloc::Global;
+
+/// The least face that isn't reached.
+pub(crate) fn first_unreached(
+    flood: &Flood,
+    crossings: &[Crossing],
+    faces: usize,
+    first: bool,
+) -> Option<u32>
+    requires few { faces < 2 ^ 29 }
+    requires flood { IsFlood faces crossings.now first flood.now.places.items flood.now.order.items }
+    requires done { (f : ℕ) → Has flood.now.order.items f → IsDone crossings.now flood.now.order.items f }
+    ensures { MatchOption result (AllByRecursion (LeadsTo (Meets crossings.now) 0) (numbers_from 0 faces)) (λ f. FirstNot (LeadsTo (Meets crossings.now) 0) (numbers_from 0 faces) f) }
+{
+    'faces: for f in 0..faces {
+        if !flood.places[f].reached {
+            return Some(f as u32);
+        }
+    }
+    None
+}
+
+/// The least step that leads from the flag of its face to another than that of the other face.
+fn first_unsteady(flood: &Flood, crossings: &[Crossing], faces: usize) -> Option<u32>
+    requires graph { IsGraph faces crossings.now }
+    requires few { length crossings.now < 2 ^ 29 }
+    requires size { length flood.now.places.items ≡ faces }
+    ensures { MatchOption result ((r : ℕ) (c : AnyCrossing) → slice_get crossings.now r ≡ Some c → IsSteady flood.now.places.items c)
+        (λ r. (c : AnyCrossing) × (slice_get crossings.now r ≡ Some c) × (IsSteady flood.now.places.items c → ⊥)) }
+{
+    'steps: for r in 0..crossings.len() {
+        let step = crossings[r];
+        let here = flood.places[step.from as usize];
+        let there = flood.places[step.to as usize];
+        if there.flag != flip(step.flips, here.flag) {
+            return Some(r as u32);
+        }
+    }
+    None
+}
+
+fn flags_of(alloc: Global, flood: &Flood) -> Result<FlagList, NoMemory>
+    ensures { IfOk result (λ flags. flags ≡ map (λ (p : AnyPlace). p.flag) flood.now.places.items) }
+{
+    let mut flags = FlagList::new(alloc);
+    'places: for i in 0..flood.places.len() {
+        flags.push(flood.places[i].flag)?;
+    }
+    Ok(flags)
+}
+
+/// Flags that agree with each step, or a ring that no flags satisfy.
+pub(crate) fn found(
+    alloc: Global,
+    crossings: &[Crossing],
+    flood: &Flood,
+    faces: usize,
+    first: bool,
+) -> Result<Orientation, NoMemory>
+    requires graph { IsGraph faces crossings.now }
+    requires few { length crossings.now < 2 ^ 29 }
+    requires flood { IsFlood faces crossings.now first flood.now.places.items flood.now.order.items }
+    requires all { (f : ℕ) → f < faces → Has flood.now.order.items f }
+    ensures { IfOk result (IsFound crossings.now faces first) }
+{
+    match first_unsteady(flood, crossings, faces) {
+        None => Ok(Orientation::Flags(flags_of(alloc, flood)?)),
+        Some(r) => Ok(Orientation::Ring(ring_of(alloc, crossings, flood, faces, first, r)?)),
+    }
+}

@@ -1,0 +1,38 @@
+//! The steps from each face.
+
+ghost use Rattle.std.specs.Prelude.{◌≡◌, ◌<◌, ◌^◌, length, IfOk};
+ghost use Rattle.face_orient.specs.Crossings.{IsGraph};
+ghost use Rattle.face_orient.specs.Heads.{AreHeads};
+
+use crate::crossing::Crossing;
+use iges_fields::NoMemory;
+use std::alloc::Global;
+
+/// For each face its first step, and for each step the next one from its face; the number of steps where there is none.
+#[derive(Drop)]
+pub struct Heads {
+    pub first: Vec<u32>,
+    pub next: Vec<u32>,
+}
+
+/// The steps from each of some faces, by rising number.
+pub(crate) fn heads_of(
+    alloc: Global,
+    crossings: &[Crossing],
+    faces: usize,
+) -> Result<Heads, NoMemory>
+    requires graph { IsGraph faces crossings.now }
+    requires few { length crossings.now < 2 ^ 29 }
+    ensures { IfOk result (λ t. AreHeads faces crossings.now t.first.items t.next.items) }
+{
+    let count = crossings.len();
+    let mut first = vec![in alloc; count as u32; faces]?;
+    let mut next = vec![in alloc; count as u32; count]?;
+    'steps: for k in 0..count {
+        let r = count - 1 - k;
+        let face = crossings[r].from as usize;
+        next[r] = first[face];
+        first[face] = r as u32;
+    }
+    Ok(Heads { first, next })
+}

@@ -1,0 +1,40 @@
+//! What a rule names where it fails.
+
+ghost use Rattle.std.specs.Prelude.{◌≡◌, Some, slice_get};
+ghost use Rattle.solid_data.specs.declared.solid.FaceUse.{FaceUse as AnyFace};
+ghost use Rattle.edge_uses.specs.ShellObligations.{edge_name};
+
+use crate::fault::{OrientFailing, OrientRule};
+use iges_fields::EntryNo;
+use solid_data::{EdgeId, EdgeKey, Shell, Solid};
+
+/// COUNT names the edge list, and the index of the edge in it, from 1.
+pub(crate) fn miscounted(solid: &Solid, edge: u32) -> OrientFailing
+    ensures { let key = edge_name (slice_get solid.now.edges edge) in result ≡ record { rule = OrientRule.Count; entity = key.list; place = key.index } }
+{
+    let key = match solid.edge(EdgeId(edge)) {
+        Some(edge) => edge.key,
+        None => EdgeKey {
+            list: EntryNo(0),
+            index: 0,
+        },
+    };
+    OrientFailing {
+        rule: OrientRule::Count,
+        entity: key.list,
+        place: key.index,
+    }
+}
+
+/// REACH names the face itself.
+pub(crate) fn unreached(shell: &Shell, face: u32) -> OrientFailing
+    requires { (f : AnyFace) × (slice_get shell.now.faces face ≡ Some f) }
+    ensures { (f : AnyFace) → slice_get shell.now.faces face ≡ Some f → result ≡ record { rule = OrientRule.Reach; entity = f.entity; place = 0 } }
+{
+    let face = shell.faces.get(face as usize).unwrap();
+    OrientFailing {
+        rule: OrientRule::Reach,
+        entity: face.entity,
+        place: 0,
+    }
+}

@@ -1,0 +1,22 @@
+pub mod Members
+pub mod Ranks
+pub mod Spelled
+pub mod Rewritten
+pub mod DroppedEntries
+pub mod DroppedMade
+pub mod Steady
+pub mod OwnKept
+pub mod Groups
+pub mod Faultless
+pub mod Pointers
+pub mod NotRefused
+pub mod UsedItems
+pub mod StillHold
+pub mod OneAnswer
+mod Worked
+pub mod MarkSteps
+pub mod RowSizes
+pub mod RankSteps
+pub mod ValueSteps
+pub mod ListSteps
+pub mod FileSteps

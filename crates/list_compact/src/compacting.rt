@@ -1,0 +1,50 @@
+//! The compacted file of one solid.
+
+ghost use Rattle.entry_references.specs.declared.fault.ExtractReason.{ExtractReason as Reason};
+ghost use Rattle.iges_params.specs.Contents.{Contents};
+ghost use Rattle.list_compact.specs.Compacted.{GivesFile, GivesPlace, GivesRefusal, IsCompactFault, IsCompacted, IsMisplaced};
+ghost use Rattle.solid_data.specs.declared.verdict.Failing.{Failing as Named};
+ghost use Rattle.solid_extract.specs.Extracted.{IsExtracted, IsRefused};
+ghost use Rattle.std.specs.Prelude.{ℕ, IfErr, IfOk};
+
+use crate::dropping::dropped;
+use crate::fault::CompactFault;
+use brep_walk::walk;
+use iges_fields::{EntryNo, NoMemory};
+use iges_params::File;
+use solid_extract::{extract, extract_numbered};
+use std::alloc::Global;
+
+// The file of a solid that isn't refused: the call errs only where memory runs out.
+fn extracted(alloc: Global, file: &File, no: EntryNo) -> Result<File, NoMemory>
+    requires { (entity : ℕ) (reason : Reason) → IsRefused file.now no.0 entity reason → ⊥ }
+    ensures { IfOk result (IsExtracted file.now no.0) }
+{
+    match extract(alloc, file, no) {
+        Ok(new) => Ok(new),
+        Err(_) => Err(NoMemory),
+    }
+}
+
+fn compacted(alloc: Global, file: &File, no: EntryNo) -> Result<File, CompactFault>
+    ensures found { IfOk result (IsCompacted file.now no.0) }
+    ensures fault { IfErr result (IsCompactFault file.now no.0) }
+{
+    let extraction = extract_numbered(alloc, file, no)?;
+    walk(alloc, file, no)?;
+    let new = dropped(alloc, &extraction.file)?;
+    Ok(extracted(alloc, &new, extraction.no)?)
+}
+
+/// The compacted file of a solid: what `extract` gives, with lists of edges and of vertices that hold only what is used
+/// and indices to match, and extracted again. Where the solid isn't extracted, the refusal; else where an obligation on
+/// the records' places doesn't hold, the first one (own).
+pub fn compact(alloc: Global, file: &File, no: EntryNo) -> Result<File, CompactFault>
+    ensures found { IfOk result (IsCompacted file.now no.0) }
+    ensures only { (new : Contents) → IsCompacted file.now no.0 new → GivesFile result new }
+    ensures fault { IfErr result (IsCompactFault file.now no.0) }
+    ensures only_refusal { (entity : ℕ) (reason : Reason) → IsRefused file.now no.0 entity reason → GivesRefusal result entity reason }
+    ensures only_place { (x : Named) → IsMisplaced file.now no.0 x → GivesPlace result x }
+{
+    compacted(alloc, file, no)
+}

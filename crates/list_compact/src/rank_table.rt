@@ -1,0 +1,110 @@
+//! The ranks of used items.
+
+ghost use Rattle.iges_fields.specs.declared.TheConstants.{FILE_LIMIT};
+ghost use Rattle.list_compact.specs.Marking.{AreRanks, Covers, IsRankAt, ranks_of};
+ghost use Rattle.list_compact.specs.Used.{ranked};
+ghost use Rattle.solid_data.specs.Obligations.{entry_number};
+ghost use Rattle.std.specs.List.{AllByRecursion};
+ghost use Rattle.std.specs.Prelude.{◌≡◌, ◌⊎◌, ◌+◌, ◌*◌, ◌≤◌, ℕ, ℤ, Bool, List, Some, IfOk, pos, length, map, slice_get, slice_index_or};
+
+use crate::marks::Marks;
+use crate::place::place_of;
+use iges_fields::NoMemory;
+use std::alloc::Global;
+use std::marker::Model;
+
+/// For each item of a list its rank, or 0 where it isn't used.
+#[derive(Drop)]
+struct RankRow {
+    ranks: Vec<i64>,
+}
+
+impl Model for RankRow {
+    ghost use Rattle.std.specs.Prelude.{List, ℤ};
+
+    ghost Value = { List ℤ };
+
+    ghost view = { λ row. row.ranks.items };
+}
+
+// The ranks of marked items.
+fn rank_row(alloc: Global, marks: &[bool]) -> Result<RankRow, NoMemory>
+    requires { length marks.now ≤ FILE_LIMIT }
+    ensures { IfOk result (λ row. row ≡ ranks_of 0 marks.now) }
+{
+    let mut ranks = Vec::new(alloc);
+    let mut count = 0usize;
+    'marks: for mark in marks {
+        if *mark {
+            count += 1;
+            ranks.push(count as i64)?;
+        } else {
+            ranks.push(0)?;
+        }
+    }
+    Ok(RankRow { ranks })
+}
+
+impl RankRow {
+    fn get(&self, item: usize) -> i64
+        ensures { result ≡ slice_index_or self.now item (pos 0) }
+    {
+        if item < self.ranks.len() {
+            self.ranks[item]
+        } else {
+            0
+        }
+    }
+}
+
+/// For each entry the rank of each item of the list that it is, or 0 where the item isn't used.
+#[derive(Drop)]
+pub struct Ranks {
+    rows: Vec<RankRow>,
+}
+
+impl Model for Ranks {
+    ghost use Rattle.std.specs.Prelude.{List, ℤ};
+
+    ghost Value = { List (List ℤ) };
+
+    ghost view = { λ ranks. ranks.rows.items };
+}
+
+/// The ranks of marked items.
+pub fn ranks_by(alloc: Global, marks: &Marks) -> Result<Ranks, NoMemory>
+    requires { AllByRecursion (λ row. length row ≤ FILE_LIMIT) marks.now }
+    ensures { IfOk result (λ ranks. ranks ≡ map (ranks_of 0) marks.now) }
+{
+    let mut rows = Vec::new(alloc);
+    let count = marks.len();
+    'rows: for i in 0..count {
+        let row = rank_row(alloc, marks.row(i))?;
+        rows.push(row)?;
+    }
+    Ok(Ranks { rows })
+}
+
+impl Ranks {
+    // The rank of the item that the number of a list and an index name; 0 where there is none, or it isn't used.
+    fn rank(&self, list: i64, index: i64) -> i64
+        ensures item { (k i : ℕ) (row : List ℤ) → list ≡ pos (2 * k + 1) → index ≡ pos (i + 1) → slice_get self.now k ≡ Some row → result ≡ slice_index_or row i (pos 0) }
+        ensures found { (result ≡ pos 0) ⊎ IsRankAt self.now list index result }
+    {
+        let Some(place) = place_of(list, index) else {
+            return 0;
+        };
+        if place.entry >= self.rows.len() {
+            return 0;
+        }
+        self.rows[place.entry].get(place.item)
+    }
+
+    /// The index of an item among those that are used, where it is; and else the index.
+    pub fn index(&self, list: i64, index: i64) -> i64
+        ensures { (used : ℕ → ℕ → Bool) → AreRanks self.now used → Covers self.now used → result ≡ ranked (used (entry_number list)) index }
+    {
+        let rank = self.rank(list, index);
+        if rank == 0 { index } else { rank }
+    }
+}

@@ -1,0 +1,8 @@
+use Rattle.open_shells.proofs.Legality.{legal_has_no_bad, one_first_bad}
+use Rattle.open_shells.proofs.law.legal_or_first_bad.Goals as goal
+
+pub returns-clause-none : goal.returns-clause-none
+returns-clause-none c = legal_has_no_bad
+
+pub returns-clause-one : goal.returns-clause-one
+returns-clause-one c = one_first_bad

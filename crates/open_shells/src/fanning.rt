@@ -1,0 +1,188 @@
+//! What lies round each vertex of an open shell.
+
+ghost use Rattle.std.specs.Prelude.{◌≡◌, ◌↔◌, ℕ, ◌<◌, ◌++◌, ◌∷◌, [], IsTrue, All, Some, None, length, slice_get, IfOk, IfErr, MatchOption};
+ghost use Rattle.std.specs.List.{AllByRecursion, AllZip};
+ghost use Rattle.edge_uses.specs.Closed.{point_count};
+ghost use Rattle.edge_uses.specs.Ranges.{IsWithin};
+ghost use Rattle.open_shells.specs.Sound.{IsFan, IsFanned};
+ghost use Rattle.open_shells.specs.Mating.{AreOnce};
+ghost use Rattle.open_shells.specs.Starting.{AreStarts, ArePoints, AreAllStarts, AreAllPoints};
+ghost use Rattle.open_shells.specs.FanParts.{LiesAt, IsFanFault, IsHeadOf, AreHeads};
+
+use crate::heads::heads_of;
+use crate::mated::Mated;
+use crate::parts::{OpenCorner, OpenCorners};
+use crate::starting::{Points, Starts, all_points, all_starts, vertex_at};
+use edge_uses::Span;
+use iges_fields::NoMemory;
+use solid_data::{RowId, RowList, VertexId};
+use std::alloc::Global;
+
+/// Why vertices have no fans.
+#[derive(Clone, Copy, Debug, PartialEq, Eq)]
+pub(crate) enum FanFault {
+    /// The least vertex that has neither one fan of rows and no loop without an edge, nor no row and exactly one loop
+    /// without an edge.
+    NotFanned(VertexId),
+    /// Memory ran out.
+    NoMemory,
+}
+
+impl From<NoMemory> for FanFault {
+    ghost use Rattle.std.specs.Prelude.{◌≡◌};
+    ghost use Rattle.open_shells.specs.declared.fanning.FanFault.TheVariants.{NoMemory as OutOfMemory};
+
+    ghost from_gives = { λ _ e. e ≡ OutOfMemory };
+
+    fn from(_: NoMemory) -> FanFault {
+        FanFault::NoMemory
+    }
+}
+
+fn is_back(i: u32, at: u32, first: u32) -> bool
+    ensures { IsTrue result ↔ (0 < i) × (at ≡ first) }
+{
+    i > 0 && at == first
+}
+
+/// The row from which a walk begins: where the path begins, if it does, or the least.
+fn first_row(starts: Starts, head: Option<u32>) -> u32
+    ensures none { head ≡ None → result ≡ starts.first }
+    ensures some { (h : ℕ) → head ≡ Some h → result ≡ h }
+{
+    match head {
+        Some(row) => row,
+        None => starts.first,
+    }
+}
+
+/// The rows that start at a vertex, from the first on by turns, where that is a cycle or a path of all of them.
+fn walk(
+    alloc: Global,
+    mated: &Mated<'_>,
+    vertex: u32,
+    starts: Starts,
+    head: Option<u32>,
+) -> Result<Option<OpenCorner>, NoMemory>
+    requires whole { AreOnce mated.now }
+    requires starts { AreStarts mated.now vertex starts }
+    requires some { 0 < starts.count }
+    requires head { IsHeadOf mated.now vertex head }
+    requires no_point { point_count mated.now vertex ≡ 0 }
+    ensures { IfOk result (λ o. MatchOption o (IsFan mated.now vertex → ⊥) (λ corner. LiesAt mated.now vertex corner × IsFan mated.now vertex)) }
+{
+    let first = first_row(starts, head);
+    let mut rows = RowList::new(alloc);
+    let mut at = first;
+    'walk: for i in 0..starts.count {
+        if is_back(i, at, first) {
+            return Ok(None);
+        }
+        rows.push(RowId(at))?;
+        match mated.turn(at) {
+            Some(next) => at = next,
+            None => {
+                if i + 1 == starts.count {
+                    return Ok(Some(OpenCorner::Path(rows)));
+                }
+                return Ok(None);
+            }
+        }
+    }
+    if at != first {
+        return Ok(None);
+    }
+    Ok(Some(OpenCorner::Cycle(rows)))
+}
+
+/// What lies at a vertex, where it has a fan or is one loop without an edge.
+fn corner_at(
+    alloc: Global,
+    mated: &Mated<'_>,
+    vertex: u32,
+    starts: Starts,
+    points: Points,
+    head: Option<u32>,
+) -> Result<Option<OpenCorner>, NoMemory>
+    requires whole { AreOnce mated.now }
+    requires starts { AreStarts mated.now vertex starts }
+    requires points { ArePoints mated.now vertex points }
+    requires head { IsHeadOf mated.now vertex head }
+    ensures { IfOk result (λ o. MatchOption o (IsFanned mated.now vertex → ⊥) (λ corner. LiesAt mated.now vertex corner × IsFanned mated.now vertex)) }
+{
+    if starts.count == 0 {
+        if points.count != 1 {
+            return Ok(None);
+        }
+        return Ok(Some(OpenCorner::Point(points.last)));
+    }
+    if points.count != 0 {
+        return Ok(None);
+    }
+    match walk(alloc, mated, vertex, starts, head)? {
+        None => Ok(None),
+        Some(corner) => Ok(Some(corner)),
+    }
+}
+
+fn push_corner(corners: &mut OpenCorners, corner: OpenCorner) -> Result<(), NoMemory>
+    ensures { IfOk result (λ _. corners.new ≡ corners.old ++ corner ∷ []) }
+{
+    corners.push(corner)
+}
+
+fn corners_of(
+    alloc: Global,
+    mated: &Mated<'_>,
+    span: Span,
+    starts: &[Starts],
+    points: &[Points],
+    heads: &[Option<u32>],
+) -> Result<OpenCorners, FanFault>
+    requires whole { AreOnce mated.now }
+    requires starts { AreAllStarts mated.now span starts.now }
+    requires points { AreAllPoints mated.now span points.now }
+    requires heads { AreHeads mated.now span heads.now }
+    requires within { All (IsWithin span) mated.now.vertices }
+    requires all_starts { length starts.now ≡ span.count }
+    requires all_points { length points.now ≡ span.count }
+    requires all_heads { length heads.now ≡ span.count }
+    ensures corners { IfOk result (AllZip (LiesAt mated.now) mated.now.vertices) }
+    ensures fanned { IfOk result (λ _. AllByRecursion (IsFanned mated.now) mated.now.vertices) }
+    ensures fault { IfErr result (IsFanFault mated.now) }
+{
+    let rows = mated.rows();
+    let mut corners = OpenCorners::new(alloc);
+    'vertices: for i in 0..rows.vertex_count() {
+        let vertex = vertex_at(rows, i);
+        let v = (vertex - span.least) as usize;
+        let corner = corner_at(alloc, mated, vertex, starts[v], points[v], heads[v])?;
+        let Some(corner) = corner else {
+            return Err(FanFault::NotFanned(VertexId(vertex)));
+        };
+        push_corner(&mut corners, corner)?;
+    }
+    Ok(corners)
+}
+
+/// For each vertex of a shell, by rising number, the cycle or the path of the rows that start there, or its one loop without
+/// an edge.
+pub(crate) fn fans(alloc: Global, mated: &Mated<'_>) -> Result<OpenCorners, FanFault>
+    ensures corners { IfOk result (AllZip (LiesAt mated.now) mated.now.vertices) }
+    ensures fanned { IfOk result (λ _. AllByRecursion (IsFanned mated.now) mated.now.vertices) }
+    ensures fault { IfErr result (IsFanFault mated.now) }
+{
+    let rows = mated.rows();
+    let span = rows.vertex_span();
+    let starts = all_starts(alloc, rows, span)?;
+    let points = all_points(alloc, rows, span)?;
+    let heads = heads_of(alloc, mated, span)?;
+    corners_of(
+        alloc,
+        mated,
+        span,
+        starts.as_slice(),
+        points.as_slice(),
+        heads.as_slice(),
+    )
+}

@@ -1,0 +1,42 @@
+//! What holds of open shells and their certificates by their definition.
+
+ghost use Rattle.std.specs.Prelude.{ℕ, List, ◌≡◌};
+ghost use Rattle.solid_data.specs.SolidData.{SolidData};
+ghost use Rattle.cert_lines.specs.declared.fault.Illegal.{Illegal as Fault};
+ghost use Rattle.open_shells.specs.Line.{OpenLine, IsSpelled};
+ghost use Rattle.open_shells.specs.Legal.{IsOpenLegal, IsOpenFirstBad};
+ghost use Rattle.open_shells.specs.Obligations.{open_obligations, AllHold, FirstFalse};
+ghost use Rattle.open_shells.specs.Laws.{AcceptedIsSound, BordersAreCycles, SoundExactlyWhereAccepted};
+ghost use Rattle.open_shells.specs.declared.verdict.OpenFailing.{OpenFailing as Named};
+
+/// Bytes spell at most one line (own).
+pub fn one_line()
+    ensures { (bytes : List ℕ) (l m : OpenLine) → IsSpelled bytes l → IsSpelled bytes m → l ≡ m }
+{}
+
+/// Legal lines have no first bad one, and there is one first bad one at most (own).
+pub fn legal_or_first_bad()
+    ensures none { (s : SolidData) (lines : List (List ℕ)) (bad : Fault) → IsOpenLegal s lines → IsOpenFirstBad s lines bad → ⊥ }
+    ensures one { (s : SolidData) (lines : List (List ℕ)) (x y : Fault) → IsOpenFirstBad s lines x → IsOpenFirstBad s lines y → x ≡ y }
+{}
+
+/// Where all obligations hold none is the first false one, and there is one first false one at most (own).
+pub fn one_first_false()
+    ensures none { (s : SolidData) (x : Named) → AllHold (open_obligations s) → FirstFalse (open_obligations s) x → ⊥ }
+    ensures one { (s : SolidData) (x y : Named) → FirstFalse (open_obligations s) x → FirstFalse (open_obligations s) y → x ≡ y }
+{}
+
+/// Soundness: whatever made a certificate, the open shell that it is accepted for is sound. (own)
+pub fn soundness()
+    ensures { AcceptedIsSound }
+{}
+
+/// The border lines of legal lines are cycles of border rows, and hold each border row of the shell once. (own)
+pub fn borders_are_cycles()
+    ensures { BordersAreCycles }
+{}
+
+/// Soundness and completeness: an open shell is sound exactly where some certificate is accepted for it. (own)
+pub fn sound_exactly_where_accepted()
+    ensures { SoundExactlyWhereAccepted }
+{}

@@ -1,0 +1,42 @@
+//! Certificates of open shells: which are legal, a checker that judges each line by itself, and the maker.
+//!
+//! A row is a use of an edge by a loop (a coedge or half-edge). In an open shell an edge has two rows, one along it and one
+//! against it, which are mates; or it has one, which is a border row. A turn leads from a row to the next one about the
+//! vertex where it starts: the row that follows its mate. A border row has no turn.
+#![tactic(auto)]
+
+mod bordering;
+mod checker;
+mod faces;
+mod fanning;
+mod fault;
+mod fitting;
+mod flood;
+mod heads;
+mod judging;
+mod law;
+mod making;
+mod mated;
+mod mating;
+mod naming;
+mod opening;
+mod parts;
+mod reaching;
+mod starting;
+mod state;
+mod verdict;
+mod words;
+mod writing;
+
+pub use checker::OpenChecker;
+pub use fault::OpenFault;
+pub use making::open_certify;
+pub use law::{borders_are_cycles, legal_or_first_bad, one_first_false, one_line, sound_exactly_where_accepted, soundness};
+pub use opening::{open_head, shell_number};
+pub use parts::{Borders, OpenCertificate, OpenCorner, OpenCorners, OpenEdge, OpenEdges};
+pub use topo_certificate::{Illegal, Misfit, ReachRows};
+pub use verdict::{OpenFailing, OpenRule};
+pub use writing::write_open;
+
+#[cfg(test)]
+mod tests;

@@ -1,0 +1,116 @@
+//! The rows of an open shell with their mates.
+
+use crate::mating::{first_not_once, open_edges, open_mates};
+use crate::parts::OpenEdges;
+use edge_uses::{Rows, tally_of};
+use iges_fields::NoMemory;
+use solid_data::{EdgeId, RowId};
+use std::alloc::Global;
+use std::marker::Model;
+
+/// Why rows have no mates.
+#[derive(Clone, Copy, Debug, PartialEq, Eq)]
+pub(crate) enum EdgeFault {
+    /// The least edge that is used neither once nor by mates.
+    NotOnce(EdgeId),
+    /// Memory ran out.
+    NoMemory,
+}
+
+impl From<NoMemory> for EdgeFault {
+    ghost use Rattle.std.specs.Prelude.{◌≡◌};
+    ghost use Rattle.open_shells.specs.declared.mated.EdgeFault.TheVariants.{NoMemory as OutOfMemory};
+
+    ghost from_gives = { λ _ e. e ≡ OutOfMemory };
+
+    fn from(_: NoMemory) -> EdgeFault {
+        EdgeFault::NoMemory
+    }
+}
+
+/// The rows of a shell of which each has one mate, or is a border row.
+#[derive(Drop)]
+pub(crate) struct Mated<'a> {
+    rows: &'a Rows,
+    mates: Vec<Option<RowId>>,
+}
+
+impl<'a> Model for Mated<'a> {
+    ghost use Rattle.edge_uses.specs.ShellRows.{ShellRows};
+
+    ghost Value = { ShellRows };
+
+    ghost use Rattle.open_shells.specs.Mating.{HaveOpenMates};
+
+    ghost view = { λ m. m.rows.now };
+
+    ghost invariant = { λ m. HaveOpenMates m.rows.now m.mates.items };
+}
+
+impl<'a> Mated<'a> {
+    ghost use Rattle.std.specs.Prelude.{◌≡◌, ◌<◌, length, MatchOption};
+    ghost use Rattle.edge_uses.specs.Closed.{AreMates, Turns};
+    ghost use Rattle.open_shells.specs.Sound.{IsBorder};
+    ghost use Rattle.open_shells.specs.Mating.{AreOnce, HaveOpenMates};
+
+    pub(crate) fn of(rows: &'a Rows, mates: Vec<Option<RowId>>) -> Mated<'a>
+        requires { HaveOpenMates rows.now mates.items }
+        ensures { result ≡ rows.now }
+    {
+        Mated { rows, mates }
+    }
+
+    /// The rows.
+    pub(crate) fn rows(&self) -> &Rows
+        ensures rows { result.now ≡ self.now }
+        ensures whole { AreOnce self.now }
+    {
+        self.rows
+    }
+
+    /// The mate of a row; none where it is a border row.
+    pub(crate) fn mate(&self, r: u32) -> Option<u32>
+        requires { r < length self.now.rows }
+        ensures { MatchOption result (IsBorder self.now r) (λ m. AreMates self.now r m) }
+    {
+        match self.mates[r as usize] {
+            Some(mate) => Some(mate.0),
+            None => None,
+        }
+    }
+
+    /// The row that follows the mate of a row; none where it is a border row.
+    pub(crate) fn turn(&self, r: u32) -> Option<u32>
+        requires { r < length self.now.rows }
+        ensures { MatchOption result (IsBorder self.now r) (λ t. Turns self.now r t) }
+    {
+        match self.mate(r) {
+            Some(mate) => Some(self.rows.follows(RowId(mate)).unwrap().0),
+            None => None,
+        }
+    }
+}
+
+ghost use Rattle.std.specs.Prelude.{◌≡◌, IfOk, IfErr};
+ghost use Rattle.std.specs.List.{AllByRecursion, AllZip};
+ghost use Rattle.edge_uses.specs.ShellRows.{EndsMeet};
+ghost use Rattle.open_shells.specs.Sound.{IsOnce};
+ghost use Rattle.open_shells.specs.Mating.{AreRowsOf};
+ghost use Rattle.open_shells.specs.EdgeFaults.{IsEdgeFault};
+
+/// The rows of each edge, by rising edge, and the rows with their mates, where each edge is used once or by mates.
+pub(crate) fn with_mates(alloc: Global, rows: &Rows) -> Result<(OpenEdges, Mated<'_>), EdgeFault>
+    requires { EndsMeet rows.now }
+    ensures rows { IfOk result (λ p. p.1 ≡ rows.now) }
+    ensures edges { IfOk result (λ p. AllZip (AreRowsOf rows.now) rows.now.edges p.0) }
+    ensures once { IfOk result (λ _. AllByRecursion (IsOnce rows.now) rows.now.edges) }
+    ensures fault { IfErr result (IsEdgeFault rows.now) }
+{
+    let tally = tally_of(alloc, rows, rows.edge_span())?;
+    if let Some(edge) = first_not_once(rows, &tally) {
+        return Err(EdgeFault::NotOnce(edge));
+    }
+    let edges = open_edges(alloc, rows, &tally)?;
+    let mates = open_mates(alloc, rows, &tally)?;
+    Ok((edges, Mated::of(rows, mates)))
+}

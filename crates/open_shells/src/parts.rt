@@ -1,0 +1,46 @@
+//! A certificate of an open shell as its parts.
+
+use iges_fields::{EntryNo, ItemList};
+use solid_data::{LoopAt, RowId, RowList};
+use topo_certificate::ReachRows;
+
+/// The rows of an edge (own).
+#[derive(Clone, Copy, Debug, PartialEq, Eq)]
+pub enum OpenEdge {
+    /// The only one, which is a border row.
+    One(RowId),
+    /// The row along the edge, and the row against it.
+    Two(RowId, RowId),
+}
+
+/// The rows of each edge that occurs in the shell, by rising edge (own).
+pub type OpenEdges = ItemList<OpenEdge>;
+
+/// What lies at a vertex (own).
+#[derive(Drop)]
+pub enum OpenCorner {
+    /// The rows that start there, from the least one on by turns; the last turns to the first.
+    Cycle(RowList),
+    /// The rows that start there, each turning to the next; the last is a border row.
+    Path(RowList),
+    /// The one loop without an edge.
+    Point(LoopAt),
+}
+
+/// What lies at each vertex that occurs in the shell, by rising number (own).
+pub type OpenCorners = ItemList<OpenCorner>;
+
+/// The cycles of border rows, by their least rows; each from its least row on (own).
+pub type Borders = ItemList<RowList>;
+
+/// A certificate of an open shell (own): the shell, how many rows and faces it has, and its lines.
+#[derive(Drop)]
+pub struct OpenCertificate {
+    pub shell: EntryNo,
+    pub rows: u32,
+    pub edges: OpenEdges,
+    pub corners: OpenCorners,
+    pub faces: u32,
+    pub reach: ReachRows,
+    pub borders: Borders,
+}

@@ -1,0 +1,337 @@
+-- Legal lines of version 1 are legal in version 2 with TALLY lines.
+use Rattle.std.specs.Prelude.{◌≡◌, ℕ, zero, suc, ◌+◌, ◌-◌, ◌<◌, true, false, List, [], ◌∷◌, ◌++◌, length, find, filter_map, Contains, Option, Some, None, slice_get}
+use Rattle.std.specs.List.{AllZip, list_any}
+use Rattle.solid_data.specs.Ring.{next_of_each}
+use Rattle.solid_data.proofs.Members.{get_some}
+use Rattle.std.proofs.Common.{refl, sym, ◌∙◌, ap, subst, arith}
+use Rattle.solid_data.specs.SolidData.{SolidData}
+use Rattle.solid_data.specs.declared.solid.Shell.{Shell}
+use Rattle.edge_uses.specs.ShellRows.{ShellRows, shell_rows, rows_of}
+use Rattle.cert_lines.specs.Line.{CertLine, ShellCounts, Tally, head, solid, shell, edge, corner, point, reach, tally, end, spelling, IsLine, line_limit}
+use Rattle.cert_lines.specs.declared.version.Version.TheVariants.{One, Two}
+use Rattle.topo_certificate.specs.Stand.{Stand, first_of, edge_of, vertex_of, face_of, mates_of, IsAbove, IsMate, TurnsTo, CornerDue, ReachDue, stand_behind, is_shell, is_last, is_tally, is_edge, is_corner_or_point, is_reach, number_of, since_shell, asked, left_due, loops_of, rows_of_shell, loops_of_shell, FitsLine, FitsOpen, FitsTally, FitsShell, FitsEdge, FitsCorner, FitsPoint, FitsReach, NoneDue}
+use Rattle.topo_certificate.specs.Legal.{IsLegal}
+use Rattle.topo_certificate.specs.Behind.{IsLegalBehind}
+use Rattle.topo_certificate.specs.Upgraded.{tally_of_shell, tally_lines_of, tally_before, with_tallies}
+use Rattle.topo_certificate.proofs.Forward.{legal_forward, legal_behind}
+use Rattle.topo_certificate.proofs.Short.{IsReadable}
+
+-- the latest first: what a stand is read off is the same, with TALLY lines of shells before the one at hand and without
+record Alike (before new : List CertLine) : Type 0 where
+  pub ended : list_any is_last new ≡ list_any is_last before
+  pub shells : number_of is_shell new ≡ number_of is_shell before
+  pub asks : find is_shell new ≡ find is_shell before
+  pub since : since_shell new ≡ since_shell before
+
+-- stands that differ at most in TALLY lines that are due
+record SameStand (a b : Stand) : Type 0 where
+  pub ended : b.ended ≡ a.ended
+  pub shell : b.shell ≡ a.shell
+  pub edges : b.due.edges ≡ a.due.edges
+  pub corners : b.due.corners ≡ a.due.corners
+  pub reach : b.due.reach ≡ a.due.reach
+  pub mates : b.mates ≡ a.mates
+  pub last_edge : b.last_edge ≡ a.last_edge
+  pub last_vertex : b.last_vertex ≡ a.last_vertex
+  pub reached : b.reached ≡ a.reached
+
+asked_edges : (o : Option CertLine) → (asked Two o).edges ≡ (asked One o).edges
+asked_edges None = refl
+asked_edges (Some (head v)) = refl
+asked_edges (Some (solid n)) = refl
+asked_edges (Some (shell k c)) = refl
+asked_edges (Some (edge a b)) = refl
+asked_edges (Some (corner rs)) = refl
+asked_edges (Some (point a b)) = refl
+asked_edges (Some (reach r)) = refl
+asked_edges (Some (tally t)) = refl
+asked_edges (Some end) = refl
+
+asked_corners : (o : Option CertLine) → (asked Two o).corners ≡ (asked One o).corners
+asked_corners None = refl
+asked_corners (Some (head v)) = refl
+asked_corners (Some (solid n)) = refl
+asked_corners (Some (shell k c)) = refl
+asked_corners (Some (edge a b)) = refl
+asked_corners (Some (corner rs)) = refl
+asked_corners (Some (point a b)) = refl
+asked_corners (Some (reach r)) = refl
+asked_corners (Some (tally t)) = refl
+asked_corners (Some end) = refl
+
+asked_reach : (o : Option CertLine) → (asked Two o).reach ≡ (asked One o).reach
+asked_reach None = refl
+asked_reach (Some (head v)) = refl
+asked_reach (Some (solid n)) = refl
+asked_reach (Some (shell k c)) = refl
+asked_reach (Some (edge a b)) = refl
+asked_reach (Some (corner rs)) = refl
+asked_reach (Some (point a b)) = refl
+asked_reach (Some (reach r)) = refl
+asked_reach (Some (tally t)) = refl
+asked_reach (Some end) = refl
+
+asked_tally : (o : Option CertLine) → (asked One o).tally ≡ 0
+asked_tally None = refl
+asked_tally (Some (head v)) = refl
+asked_tally (Some (solid n)) = refl
+asked_tally (Some (shell k c)) = refl
+asked_tally (Some (edge a b)) = refl
+asked_tally (Some (corner rs)) = refl
+asked_tally (Some (point a b)) = refl
+asked_tally (Some (reach r)) = refl
+asked_tally (Some (tally t)) = refl
+asked_tally (Some end) = refl
+
+abbrev mates_in : List CertLine → List (ℕ × ℕ)
+mates_in ls = filter_map mates_of ls
+
+abbrev last_edge_in : ShellRows → List CertLine → Option ℕ
+last_edge_in d ls = first_of (filter_map (edge_of d) ls)
+
+abbrev last_vertex_in : ShellRows → List CertLine → Option ℕ
+last_vertex_in d ls = first_of (filter_map (vertex_of d) ls)
+
+abbrev reached_in : ShellRows → List CertLine → List ℕ
+reached_in d ls = 0 ∷ filter_map (face_of d) ls
+
+-- the stand of version 2, as one of version 1 would be read
+same_stand : (s : SolidData) (before new : List CertLine) → Alike before new → SameStand (stand_behind One s before) (stand_behind Two s new)
+unfolding stand_behind
+same_stand s before new h = record {
+  ended = h.ended;
+  shell = h.shells;
+  edges = ap (λ ls. (asked Two (find is_shell new)).edges - number_of is_edge ls) h.since ∙ ap (λ n. n - number_of is_edge (since_shell before)) (ap (λ o. (asked Two o).edges) h.asks ∙ asked_edges (find is_shell before));
+  corners = ap (λ ls. (asked Two (find is_shell new)).corners - number_of is_corner_or_point ls) h.since ∙ ap (λ n. n - number_of is_corner_or_point (since_shell before)) (ap (λ o. (asked Two o).corners) h.asks ∙ asked_corners (find is_shell before));
+  reach = ap (λ ls. (asked Two (find is_shell new)).reach - number_of is_reach ls) h.since ∙ ap (λ n. n - number_of is_reach (since_shell before)) (ap (λ o. (asked Two o).reach) h.asks ∙ asked_reach (find is_shell before));
+  mates = ap (λ ls. mates_in ls) h.since;
+  last_edge = ap (λ ls. last_edge_in (rows_of_shell s (number_of is_shell new)) ls) h.since ∙ ap (λ n. last_edge_in (rows_of_shell s n) (since_shell before)) h.shells;
+  last_vertex = ap (λ ls. last_vertex_in (rows_of_shell s (number_of is_shell new)) ls) h.since ∙ ap (λ n. last_vertex_in (rows_of_shell s n) (since_shell before)) h.shells;
+  reached = ap (λ ls. reached_in (rows_of_shell s (number_of is_shell new)) ls) h.since ∙ ap (λ n. reached_in (rows_of_shell s n) (since_shell before)) h.shells;
+}
+
+-- no TALLY line fits in version 1
+no_tally : (s : SolidData) (before : List CertLine) → (stand_behind One s before).due.tally ≡ 0
+unfolding stand_behind
+no_tally s before = let h : (asked One (find is_shell before)).tally ≡ 0 = asked_tally (find is_shell before) in omega (arith, h)
+
+-- What fits the one stand fits the other.
+fits_edge : (d : ShellRows) (a b : Stand) (x y : ℕ) → SameStand a b → FitsEdge d a x y → FitsEdge d b x y
+fits_edge d a b x y h f = record { along_row = f.along_row; against_row = f.against_row; at_a = f.at_a; at_b = f.at_b; one_edge = f.one_edge; along = f.along; against = f.against; rises = subst (λ o. IsAbove o f.along_row.edge.0) (sym h.last_edge) f.rises }
+
+fits_corner : (d : ShellRows) (a b : Stand) (r : ℕ) (rs : List ℕ) → SameStand a b → FitsCorner d a r rs → FitsCorner d b r rs
+fits_corner d a b r rs h f = record { vertex = f.vertex; lies_at = f.lies_at; turns = subst (λ ms. AllZip (TurnsTo d ms) (r ∷ rs) (next_of_each (r ∷ rs))) (sym h.mates) f.turns; least = f.least; whole = f.whole; no_point = f.no_point; rises = subst (λ o. IsAbove o f.vertex) (sym h.last_vertex) f.rises }
+
+fits_point : (d : ShellRows) (a b : Stand) (x y : ℕ) → SameStand a b → FitsPoint d a x y → FitsPoint d b x y
+fits_point d a b x y h f = record { vertex = f.vertex; lies_at = f.lies_at; no_row = f.no_row; one_point = f.one_point; rises = subst (λ o. IsAbove o f.vertex) (sym h.last_vertex) f.rises }
+
+fits_reach : (d : ShellRows) (a b : Stand) (r : ℕ) → SameStand a b → FitsReach d a r → FitsReach d b r
+fits_reach d a b r h f = record { mate = f.mate; face = f.face; known = f.known; mates = subst (λ ms. IsMate ms r f.mate) (sym h.mates) f.mates; on_face = f.on_face; on_known = f.on_known; new = λ c. f.new (subst (λ xs. Contains xs f.face) h.reached c); old = subst (λ xs. Contains xs f.known) (sym h.reached) f.old }
+
+corner_due : (a b : Stand) → SameStand a b → CornerDue a.due → CornerDue b.due
+corner_due a b h d = (h.edges ∙ d.0, subst (λ n. 0 < n) (sym h.corners) d.1)
+
+reach_due : (a b : Stand) → SameStand a b → ReachDue a.due → ReachDue b.due
+reach_due a b h d = (h.edges ∙ d.0, h.corners ∙ d.1, subst (λ n. 0 < n) (sym h.reach) d.2)
+
+-- Where a shell is begun, its line is the last one found.
+found_shell : (ls : List CertLine) (n : ℕ) → number_of is_shell ls ≡ suc n → (k : ℕ) × (c : ShellCounts) × (find is_shell ls ≡ Some (shell k c))
+found_shell [] n h = absurd (omega (arith, h))
+found_shell (head v ∷ ls) n h = found_shell ls n h
+found_shell (solid m ∷ ls) n h = found_shell ls n h
+found_shell (shell k c ∷ ls) n h = (k, c, refl)
+found_shell (edge a b ∷ ls) n h = found_shell ls n h
+found_shell (corner rs ∷ ls) n h = found_shell ls n h
+found_shell (point a b ∷ ls) n h = found_shell ls n h
+found_shell (reach r ∷ ls) n h = found_shell ls n h
+found_shell (tally t ∷ ls) n h = found_shell ls n h
+found_shell (end ∷ ls) n h = found_shell ls n h
+
+no_shell_found : (ls : List CertLine) → number_of is_shell ls ≡ 0 → find is_shell ls ≡ None
+no_shell_found [] h = refl
+no_shell_found (head v ∷ ls) h = no_shell_found ls h
+no_shell_found (solid m ∷ ls) h = no_shell_found ls h
+no_shell_found (shell k c ∷ ls) h = absurd (omega (arith, h))
+no_shell_found (edge a b ∷ ls) h = no_shell_found ls h
+no_shell_found (corner rs ∷ ls) h = no_shell_found ls h
+no_shell_found (point a b ∷ ls) h = no_shell_found ls h
+no_shell_found (reach r ∷ ls) h = no_shell_found ls h
+no_shell_found (tally t ∷ ls) h = no_shell_found ls h
+no_shell_found (end ∷ ls) h = no_shell_found ls h
+
+tally_there : (s : SolidData) (k : ℕ) (h : Shell) → slice_get s.shells k ≡ Some h → FitsTally s (suc k) (tally_of_shell s h)
+tally_there s k h at = record {
+  vertices_counted = ap (λ o. length (rows_of s o).vertices) (sym at);
+  edges_counted = ap (λ o. length (rows_of s o).edges) (sym at);
+  faces_counted = ap (λ o. (rows_of s o).face_count) (sym at);
+  loops_counted = ap (λ o. loops_of o) (sym at);
+}
+
+-- nothing is due before the first shell
+none_at_first : (s : SolidData) (new : List CertLine) → number_of is_shell new ≡ 0 → NoneDue (stand_behind Two s new).due
+unfolding stand_behind
+none_at_first s new none =
+    let e = no_shell_found new none in
+    record {
+      edges = ap (λ o. (asked Two o).edges - number_of is_edge (since_shell new)) e ∙ omega arith;
+      corners = ap (λ o. (asked Two o).corners - number_of is_corner_or_point (since_shell new)) e ∙ omega arith;
+      reach = ap (λ o. (asked Two o).reach - number_of is_reach (since_shell new)) e ∙ omega arith;
+      tally = ap (λ o. (asked Two o).tally - number_of is_tally (since_shell new)) e ∙ omega arith;
+    }
+
+-- where nothing but a TALLY line is due of a shell, it fits, and nothing is due after it
+tally_next : (s : SolidData) (before new : List CertLine) (k : ℕ) (h : Shell) → Alike before new → number_of is_shell before ≡ suc k → number_of is_tally (since_shell new) ≡ 0 → slice_get s.shells k ≡ Some h
+    → (stand_behind One s before).ended ≡ false → NoneDue (stand_behind One s before).due → FitsLine s (stand_behind Two s new) (tally (tally_of_shell s h))
+unfolding stand_behind
+tally_next s before new k h alike number no_tallies at going none =
+    let same = same_stand s before new alike in
+    let found = found_shell new k (alike.shells ∙ number) in
+    let due : (asked Two (find is_shell new)).tally - number_of is_tally (since_shell new) ≡ 1 = ap (λ o. (asked Two o).tally - number_of is_tally (since_shell new)) found.2 ∙ omega (arith, no_tallies) in (
+      same.ended ∙ going,
+      ((same.edges ∙ none.edges, same.corners ∙ none.corners, same.reach ∙ none.reach, omega (arith, due)), subst (λ n. FitsTally s n (tally_of_shell s h)) (sym (alike.shells ∙ number)) (tally_there s k h at)),
+    )
+
+none_behind_tally : (s : SolidData) (before new : List CertLine) (k : ℕ) (t : Tally) → Alike before new → number_of is_shell before ≡ suc k → number_of is_tally (since_shell new) ≡ 0 → NoneDue (stand_behind One s before).due
+    → NoneDue (stand_behind Two s (tally t ∷ new)).due
+unfolding stand_behind
+none_behind_tally s before new k t alike number no_tallies none =
+    let same = same_stand s before new alike in
+    let found = found_shell new k (alike.shells ∙ number) in
+    let left : (asked Two (find is_shell new)).tally - suc (number_of is_tally (since_shell new)) ≡ 0 = ap (λ o. (asked Two o).tally - suc (number_of is_tally (since_shell new))) found.2 ∙ omega arith in
+    record { edges = same.edges ∙ none.edges; corners = same.corners ∙ none.corners; reach = same.reach ∙ none.reach; tally = left }
+
+-- a line that begins a shell, or ends the certificate, after what ended the shell before
+ended_kept : (s : SolidData) (t : Tally) (ls : List CertLine) → ((stand_behind Two s (tally t ∷ ls)).ended ≡ (stand_behind Two s ls).ended) × ((stand_behind Two s (tally t ∷ ls)).shell ≡ (stand_behind Two s ls).shell)
+unfolding stand_behind
+ended_kept s t ls = (refl, refl)
+
+shell_fits : (s : SolidData) (a b : Stand) (k : ℕ) (c : ShellCounts) → b.shell ≡ a.shell → FitsShell s a k c → FitsShell s b k c
+shell_fits s a b k c e f = record { next = omega (arith, f.next, e); there = f.there; rows_counted = f.rows_counted; edges_counted = f.edges_counted; corners_counted = f.corners_counted; faces_counted = f.faces_counted; two_rows_each = f.two_rows_each }
+
+going_on : (s : SolidData) (before : List CertLine) → (stand_behind One s (end ∷ before)).ended ≡ false → ⊥
+unfolding stand_behind
+going_on s before h = cc
+
+shells_told : (s : SolidData) (ls : List CertLine) → (stand_behind One s ls).shell ≡ number_of is_shell ls
+unfolding stand_behind
+shells_told s ls = refl
+
+end_there : (s : SolidData) (ls : List CertLine) → (stand_behind Two s (end ∷ ls)).ended ≡ true
+unfolding stand_behind
+end_there s ls = refl
+
+-- each TALLY line that is put is spelled, and not long
+abbrev pub TalliesRead : SolidData → Type 0
+TalliesRead s = (k : ℕ) (h : Shell) → slice_get s.shells k ≡ Some h → IsReadable s (tally (tally_of_shell s h))
+
+module _ (s : SolidData) (read : TalliesRead s) where
+  one_tally : (k : ℕ) (h : Shell) → slice_get s.shells k ≡ Some h → IsReadable s (tally (tally_of_shell s h))
+  one_tally k h at = read k h at
+
+  -- a shell begins
+  shell_step : (before new : List CertLine) (n k : ℕ) (c : ShellCounts) (lines : List (List ℕ)) → Alike before new → number_of is_shell before ≡ n → number_of is_tally (since_shell new) ≡ 0 → IsReadable s (shell k c)
+      → FitsLine s (stand_behind One s before) (shell k c) → ((new' : List CertLine) → Alike (shell k c ∷ before) new' → number_of is_tally (since_shell new') ≡ 0 → IsLegalBehind Two s new' lines)
+      → IsLegalBehind Two s new (tally_before s n ++ spelling (shell k c) ∷ lines)
+  shell_step before new zero k c lines alike number no_tallies is fits on =
+      let same = same_stand s before new alike in (
+        shell k c,
+        is,
+        (same.ended ∙ fits.0, (none_at_first s new (alike.shells ∙ number), shell_fits s (stand_behind One s before) (stand_behind Two s new) k c same.shell fits.1.1)),
+        on (shell k c ∷ new) (record { ended = alike.ended; shells = ap suc alike.shells; asks = refl; since = refl }) refl,
+      )
+  shell_step before new (suc n) k c lines alike number no_tallies is fits on =
+      let lt : n < length s.shells = omega (arith, fits.1.1.there, fits.1.1.next, number, shells_told s before) in
+      let at = get_some s.shells n lt in
+      let t : Tally = tally_of_shell s at.0 in
+      let same = same_stand s before new alike in
+      let kept = ended_kept s t new in
+      subst (λ o. IsLegalBehind Two s new (tally_lines_of s o ++ spelling (shell k c) ∷ lines)) (sym at.1) (
+        tally t,
+        one_tally n at.0 at.1,
+        tally_next s before new n at.0 alike number no_tallies at.1 fits.0 fits.1.0,
+        (
+          shell k c,
+          is,
+          (kept.0 ∙ (same.ended ∙ fits.0), (none_behind_tally s before new n t alike number no_tallies fits.1.0, shell_fits s (stand_behind One s before) (stand_behind Two s (tally t ∷ new)) k c (kept.1 ∙ same.shell) fits.1.1)),
+          on (shell k c ∷ tally t ∷ new) (record { ended = alike.ended; shells = ap suc alike.shells; asks = refl; since = refl }) refl,
+        ),
+      )
+
+  -- END comes
+  end_step : (before new : List CertLine) (n : ℕ) → Alike before new → number_of is_shell before ≡ n → number_of is_tally (since_shell new) ≡ 0 → FitsLine s (stand_behind One s before) end
+      → IsReadable s end → IsLegalBehind Two s new (tally_before s n ++ spelling end ∷ [])
+  end_step before new zero alike number no_tallies fits is =
+      let same = same_stand s before new alike in
+      (end, is, (same.ended ∙ fits.0, (none_at_first s new (alike.shells ∙ number), same.shell ∙ fits.1.1)), end_there s new)
+  end_step before new (suc n) alike number no_tallies fits is =
+      let lt : n < length s.shells = omega (arith, fits.1.1, number, shells_told s before) in
+      let at = get_some s.shells n lt in
+      let t : Tally = tally_of_shell s at.0 in
+      let same = same_stand s before new alike in
+      let kept = ended_kept s t new in
+      subst (λ o. IsLegalBehind Two s new (tally_lines_of s o ++ spelling end ∷ [])) (sym at.1) (
+        tally t,
+        one_tally n at.0 at.1,
+        tally_next s before new n at.0 alike number no_tallies at.1 fits.0 fits.1.0,
+        (end, is, (kept.0 ∙ (same.ended ∙ fits.0), (none_behind_tally s before new n t alike number no_tallies fits.1.0, kept.1 ∙ (same.shell ∙ fits.1.1))), end_there s (tally t ∷ new)),
+      )
+
+  upgrade_behind : (before new : List CertLine) (n : ℕ) (lines : List (List ℕ)) → Alike before new → number_of is_shell before ≡ n → number_of is_tally (since_shell new) ≡ 0 → IsLegalBehind One s before lines → IsLegalBehind Two s new (with_tallies s n lines)
+  upgrade_behind before new n [] alike number no_tallies legal = ended_too alike legal
+    where
+      ended_too : Alike before new → (stand_behind One s before).ended ≡ true → (stand_behind Two s new).ended ≡ true
+      ended_too a h = (same_stand s before new a).ended ∙ h
+  upgrade_behind before new n (bytes ∷ lines) alike number no_tallies (l, is_l, fits, more) =
+      subst (λ b. IsLegalBehind Two s new (with_tallies s n (b ∷ lines))) (sym is_l.1.1) (by_line l (subst (λ b. IsLine (line_limit s) b l) is_l.1.1 is_l) fits more (λ new' m a b c d. upgrade_behind (l ∷ before) new' m lines a b c d))
+    where
+      same : SameStand (stand_behind One s before) (stand_behind Two s new)
+      same = same_stand s before new alike
+
+      here : rows_of_shell s (stand_behind One s before).shell ≡ rows_of_shell s (stand_behind Two s new).shell
+      here = ap (rows_of_shell s) (sym same.shell)
+
+      Later : CertLine → Type 0
+      Later l = (new' : List CertLine) (m : ℕ) → Alike (l ∷ before) new' → number_of is_shell (l ∷ before) ≡ m → number_of is_tally (since_shell new') ≡ 0 → IsLegalBehind One s (l ∷ before) lines → IsLegalBehind Two s new' (with_tallies s m lines)
+
+      by_line : (l : CertLine) → IsReadable s l → FitsLine s (stand_behind One s before) l → IsLegalBehind One s (l ∷ before) lines → Later l → IsLegalBehind Two s new (with_tallies s n (spelling l ∷ lines))
+      by_line (head v) is fits more later = absurd fits.1
+      by_line (solid m) is fits more later = absurd fits.1
+      by_line (shell k c) is fits more later =
+          shell_step before new n k c (with_tallies s (n + 1) lines) alike number no_tallies is fits
+          (λ new' a t. let m : number_of is_shell (shell k c ∷ before) ≡ n + 1 = omega (arith, number) in later new' (n + 1) a m t more)
+      by_line (edge a b) is fits more later =
+          let next : Alike (edge a b ∷ before) (edge a b ∷ new) = record { ended = alike.ended; shells = alike.shells; asks = alike.asks; since = ap (λ ls. edge a b ∷ ls) alike.since } in
+          (edge a b, is, (same.ended ∙ fits.0, (subst (λ x. 0 < x) (sym same.edges) fits.1.0, subst (λ d. FitsEdge d (stand_behind Two s new) a b) here (fits_edge _ (stand_behind One s before) (stand_behind Two s new) a b same fits.1.1))), later (edge a b ∷ new) n next number no_tallies more)
+      by_line (corner []) is fits more later = absurd fits.1
+      by_line (corner (r ∷ rs)) is fits more later =
+          let next : Alike (corner (r ∷ rs) ∷ before) (corner (r ∷ rs) ∷ new) = record { ended = alike.ended; shells = alike.shells; asks = alike.asks; since = ap (λ ls. corner (r ∷ rs) ∷ ls) alike.since } in (
+            corner (r ∷ rs),
+            is,
+            (same.ended ∙ fits.0, (corner_due (stand_behind One s before) (stand_behind Two s new) same fits.1.0, subst (λ d. FitsCorner d (stand_behind Two s new) r rs) here (fits_corner _ (stand_behind One s before) (stand_behind Two s new) r rs same fits.1.1))),
+            later (corner (r ∷ rs) ∷ new) n next number no_tallies more,
+          )
+      by_line (point a b) is fits more later =
+          let next : Alike (point a b ∷ before) (point a b ∷ new) = record { ended = alike.ended; shells = alike.shells; asks = alike.asks; since = ap (λ ls. point a b ∷ ls) alike.since } in (
+            point a b,
+            is,
+            (same.ended ∙ fits.0, (corner_due (stand_behind One s before) (stand_behind Two s new) same fits.1.0, subst (λ d. FitsPoint d (stand_behind Two s new) a b) here (fits_point _ (stand_behind One s before) (stand_behind Two s new) a b same fits.1.1))),
+            later (point a b ∷ new) n next number no_tallies more,
+          )
+      by_line (reach r) is fits more later =
+          let next : Alike (reach r ∷ before) (reach r ∷ new) = record { ended = alike.ended; shells = alike.shells; asks = alike.asks; since = ap (λ ls. reach r ∷ ls) alike.since } in (
+            reach r,
+            is,
+            (same.ended ∙ fits.0, (reach_due (stand_behind One s before) (stand_behind Two s new) same fits.1.0, subst (λ d. FitsReach d (stand_behind Two s new) r) here (fits_reach _ (stand_behind One s before) (stand_behind Two s new) r same fits.1.1))),
+            later (reach r ∷ new) n next number no_tallies more,
+          )
+      by_line (tally t) is fits more later = absurd (omega (arith, fits.1.0.3, no_tally s before))
+      by_line end is fits more later = last lines more
+        where
+          last : (ls : List (List ℕ)) → IsLegalBehind One s (end ∷ before) ls → IsLegalBehind Two s new (with_tallies s n (spelling end ∷ ls))
+          last [] h = end_step before new n alike number no_tallies fits is
+          last (b ∷ ls) (m, is_m, fits_m, more_m) = absurd (going_on s before fits_m.0)
+
+  -- Legal lines of version 1, with TALLY lines, are legal in version 2.
+  pub upgrade_legal : (lines : List (List ℕ)) → IsLegal One s lines → IsLegal Two s (with_tallies s 0 lines)
+  upgrade_legal lines legal =
+      legal_forward Two s (with_tallies s 0 lines) (upgrade_behind [] [] 0 lines (record { ended = refl; shells = refl; asks = refl; since = refl }) refl refl (legal_behind One s lines legal))

@@ -1,9 +1,0 @@
-use Rattle.std.proofs.Common.{refl}
-use Rattle.topo_certificate.proofs.Checking.{begins, room_at_first}
-use Rattle.topo_certificate.proofs.checker.Checker.new.Goals as goal
-
-pub invariant_of-result : goal.invariant_of-result
-invariant_of-result c = room_at_first c.args.solid.now c.limit_of.result c.in_ok-waiting.waiting.items c.entity-entity.ensures.numbered c.limit_of.ensures c.in_ok-waiting.ensures
-
-pub returns-clause-begun : goal.returns-clause-begun
-returns-clause-begun c = begins _ refl refl refl refl refl c.in_ok-waiting.ensures
