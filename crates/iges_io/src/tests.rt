@@ -65,6 +65,13 @@ fn each_read_may_fail(rt: HostRuntime) -> Result<(), Fail> {
     Ok(())
 }
 
+#[test]
+fn nothing_is_read_behind_the_end_or_the_limit(rt: HostRuntime) -> Result<(), Fail> {
+    assert_eq!(rt; fault(rt.alloc(), &[1], &[13], 100)?, None);
+    assert_eq!(rt; fault(rt.alloc(), &[1], &[5], 3)?, Some(ReadAll::TooLarge));
+    Ok(())
+}
+
 // Writes the text twice into one sink, and gives how many bytes went out each time.
 fn written(sink: &mut MemSink) -> (Option<WriteFault>, Option<WriteFault>) {
     let first = write_all(sink, TEXT).err();
