@@ -18,3 +18,4 @@ pub mod KeptLists
 pub mod NamedOnce
 pub mod KeyPlaces
 pub mod KnownEdges
+pub mod Decided

@@ -1,6 +1,6 @@
 //! Laws of places and of the solid that records tell.
 
-ghost use Rattle.std.specs.Prelude.{ℕ, ◌≡◌};
+ghost use Rattle.std.specs.Prelude.{ℕ, ◌≡◌, ◌⊎◌};
 ghost use Rattle.iges_params.specs.Contents.{Contents};
 ghost use Rattle.brep_walk.specs.Places.{places};
 ghost use Rattle.brep_walk.specs.SolidOf.{solid_of};
@@ -9,10 +9,11 @@ ghost use Rattle.solid_data.specs.Numbering.{IsNumberedSolid};
 ghost use Rattle.solid_data.specs.Obligations.{AllHold, FirstFalse};
 ghost use Rattle.solid_data.specs.declared.verdict.Failing.{Failing as Named};
 
-/// The places of a solid have at most one first false obligation, and then not all of them hold (own).
+/// The places of a solid all hold, or there is exactly one first false obligation, and never both (own).
 pub fn places_are_definite()
     ensures one { (f : Contents) (n : ℕ) (x y : Named) → FirstFalse (places f n) x → FirstFalse (places f n) y → x ≡ y }
     ensures none { (f : Contents) (n : ℕ) (x : Named) → FirstFalse (places f n) x → AllHold (places f n) → ⊥ }
+    ensures always { (f : Contents) (n : ℕ) → AllHold (places f n) ⊎ ((x : Named) × FirstFalse (places f n) x) }
 {}
 
 /// The solid of a file within its limits, whose places hold, is numbered by first appearance, and keeps what every

@@ -20,3 +20,4 @@ pub mod Mating
 pub mod Turn
 pub mod Turns
 pub mod RowNumbers
+pub mod Decided

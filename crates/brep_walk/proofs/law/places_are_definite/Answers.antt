@@ -1,5 +1,7 @@
 use Rattle.brep_walk.specs.Places.{places}
 use Rattle.solid_data.proofs.ObligationLemmas.{FirstFalse-one, FirstFalse-not_all}
+use Rattle.solid_data.proofs.ObligationsDecided.{all_or_first_false}
+use Rattle.brep_walk.proofs.Decided.{places_decided}
 use Rattle.brep_walk.proofs.law.places_are_definite.Goals as goal
 
 pub returns-clause-one : goal.returns-clause-one
@@ -7,3 +9,6 @@ returns-clause-one c f n x y = FirstFalse-one (places f n) x y
 
 pub returns-clause-none : goal.returns-clause-none
 returns-clause-none c f n x = FirstFalse-not_all (places f n) x
+
+pub returns-clause-always : goal.returns-clause-always
+returns-clause-always c f n = all_or_first_false (places f n) (places_decided f n)
