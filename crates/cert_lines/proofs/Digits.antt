@@ -55,6 +55,10 @@ spaced_stops : (ns : List ℕ) → Stops (spaced ns)
 spaced_stops [] = tt
 spaced_stops (n ∷ ns) = omega arith
 
+-- Numbers begin with the first of them.
+pub numbers_begin : (text ns : List ℕ) (n : ℕ) → AreNumbers text (n ∷ ns) → Begins text n (spaced ns)
+numbers_begin text ns n a = record { short = a.short.0; stops = spaced_stops ns; text_is = a.text_is }
+
 -- behind the first number
 pub begins_cons : (text rest ns : List ℕ) (n : ℕ) → Begins text n rest → AreNumbers rest ns → AreNumbers text (n ∷ ns)
 begins_cons text rest ns n b a = record { short = (b.short, a.short); text_is = b.text_is ∙ ap (λ r. 32 ∷ decimal n ++ r) a.text_is }
@@ -75,20 +79,20 @@ begins_more text rest n b = (λ (ns, a). (n ∷ ns, begins_cons text rest ns n b
     back ([], a) = absurd (begins_some text rest n b a)
     back (m ∷ ms, a) = (ms, (begins_tail text rest ms n m b a).1)
 
--- where no number stands at the start, no numbers stand there but none
-pub none_spaced : (text : List ℕ) → 0 < length text → ((n : ℕ) (ns : List ℕ) → ¬ AreNumbers text (n ∷ ns)) → IsSpaced text → ⊥
+-- where no number begins, no numbers stand but none
+pub none_spaced : (text : List ℕ) → 0 < length text → ((n : ℕ) (rest : List ℕ) → ¬ Begins text n rest) → IsSpaced text → ⊥
 none_spaced text some never ([], a) = omega (arith, some, ap length a.text_is)
-none_spaced text some never (m ∷ ms, a) = never m ms a
+none_spaced text some never (m ∷ ms, a) = never m (spaced ms) (numbers_begin text ms m a)
 
 pub empty_spaced : (text : List ℕ) → length text ≡ 0 → AreNumbers text []
 empty_spaced [] h = record { short = tt; text_is = refl }
 empty_spaced (b ∷ bs) h = absurd (omega (arith, h))
 
--- A text that begins so is cut at its word's end.
-pub word_of : (after ns : List ℕ) (n k : ℕ) → k ≤ length after → IsWord (take k after) → Stops (drop k after) → AreNumbers (32 ∷ after) (n ∷ ns) → take k after ≡ decimal n
-word_of after ns n k within word stops a =
-    let same : take k after ++ drop k after ≡ decimal n ++ spaced ns = take-append-drop k after ∙ ap rest_of a.text_is in
-    (split_digits (take k after) (decimal n) (drop k after) (spaced ns) word (decimal_digits n a.short.0) (stops_first (drop k after) stops) (stops_first (spaced ns) (spaced_stops ns)) same).0
+-- A text that begins with a number is cut at its word's end.
+pub word_of : (after rest : List ℕ) (n k : ℕ) → k ≤ length after → IsWord (take k after) → Stops (drop k after) → Begins (32 ∷ after) n rest → take k after ≡ decimal n
+word_of after rest n k within word stops b =
+    let same : take k after ++ drop k after ≡ decimal n ++ rest = take-append-drop k after ∙ ap rest_of b.text_is in
+    (split_digits (take k after) (decimal n) (drop k after) rest word (decimal_digits n b.short) (stops_first (drop k after) stops) (stops_first rest b.stops) same).0
 
 pub corner_some : (text rest rs : List ℕ) → text ≡ 67 ∷ rest → length rest ≡ 0 → Spells text (corner rs) → ⊥
 corner_some text rest [] e none h = omega (arith, h.0.1)

@@ -1,12 +1,12 @@
 -- A line that an LF ends, and a text that has begun with such lines.
-use Rattle.std.specs.Prelude.{◌≡◌, ◌≢◌, ℕ, zero, suc, ◌+◌, ◌-◌, ◌<◌, ◌≤◌, ◌==◌, ◌⊎◌, true, false, not, List, [], ◌∷◌, ◌++◌, length, map, take, drop, slice_index, Contains, if◌then◌else◌}
-use Rattle.std.proofs.Common.{refl, sym, ◌∙◌, ap, subst, arith, inl, inr, get_or, length-append}
-use Rattle.std.proofs.lemmas.Bool.{cond-false, and_parts, and_from, not-true, not_from_false, ne_eqb, eq-eqb, both_ways, cases_order}
+use Rattle.std.specs.Prelude.{◌≡◌, ◌≢◌, ℕ, zero, suc, ◌+◌, ◌-◌, ◌<◌, ◌≤◌, ◌==◌, ◌⊎◌, true, false, not, List, [], ◌∷◌, ◌++◌, length, map, take, drop, slice_index}
+use Rattle.std.proofs.Common.{refl, sym, ◌∙◌, ap, subst, arith, inl, inr, length-append}
+use Rattle.std.proofs.lemmas.Bool.{cond-false, and_parts, and_from, not-true, not_from_false, ne_eqb, both_ways, cases_order}
 use Rattle.std.proofs.lemmas.List.{take_rest, take_all, length-take}
 use Rattle.iges_fields.specs.InLine.{is_in_line}
 use Rattle.iges_fields.specs.Ended.{ended, IsBegun}
 use Rattle.iges_fields.proofs.Ended.{begun_cut}
-use Rattle.cert_lines.specs.Line.{CertLine, words, cut_lines, put_before, HasSpelling, IsSpelled, IsLine, IsLong, IsMisspelt}
+use Rattle.cert_lines.specs.Line.{CertLine, words, cut_lines, put_before, IsSpelled, EndsWithLf, IsLine, IsLong, IsMisspelt}
 use Rattle.cert_lines.specs.Cutting.{IsFirstEnd, EndsFirst}
 
 pub all_in_line : (text : List ℕ) → ((k : ℕ) → k < length text → slice_index text k ≢ 10) → is_in_line text ≡ true
@@ -63,20 +63,11 @@ has_end (x ∷ xs) h = has_end xs (and_parts (not (x == 10)) (is_in_line (xs ++ 
 pub unspelled : (bytes : List ℕ) (l : CertLine) → is_in_line bytes ≡ true → IsSpelled bytes l → ⊥
 unspelled bytes l h s = has_end (words l) (ap is_in_line (sym s.1) ∙ h)
 
-no_end : (bytes : List ℕ) (k : ℕ) → is_in_line bytes ≡ true → k < length bytes → get_or bytes k 10 ≡ 10 → ⊥
-no_end [] k h lt e = absurd (omega (arith, lt))
-no_end (b ∷ bs) zero h lt e = both_ways (b == 10) (not-true (b == 10) (and_parts (not (b == 10)) (is_in_line bs) h).0) (eq-eqb b 10 e)
-no_end (b ∷ bs) (suc k) h lt e = no_end bs k (and_parts (not (b == 10)) (is_in_line bs) h).1 (omega (arith, lt)) e
-
-end_at : (xs : List ℕ) → get_or (xs ++ 10 ∷ []) (length xs) 10 ≡ 10
-end_at [] = refl
-end_at (x ∷ xs) = end_at xs
-
-pub ended_has : (xs : List ℕ) → Contains (ended xs) 10
-ended_has xs = (length xs, omega (arith, length-append xs (10 ∷ [])), end_at xs)
+pub ended_has : (xs : List ℕ) → EndsWithLf (ended xs)
+ended_has xs = (xs, refl)
 
 pub never_long : (limit : ℕ) (bytes : List ℕ) → is_in_line bytes ≡ true → IsLong limit bytes → ⊥
-never_long limit bytes h l = no_end bytes l.1.0 h l.1.1 l.1.2
+never_long limit bytes h l = has_end l.1.0 (ap is_in_line (sym l.1.1) ∙ h)
 
 pub misspelt_rest : (limit : ℕ) (bytes : List ℕ) → is_in_line bytes ≡ true → IsMisspelt limit bytes
 misspelt_rest limit bytes h = record { not_long = λ l. never_long limit bytes h l; none = λ l s. unspelled bytes l h s }

@@ -6,3 +6,4 @@ pub mod Texts
 pub mod Cuts
 pub mod CutLines
 pub mod Ends
+pub mod Decided

@@ -57,7 +57,7 @@ spaced_one (n ∷ ns) (m ∷ ms) a b h =
     ap (λ z. z ∷ ns) same ∙ ap (λ zs. m ∷ zs) (spaced_one ns ms a.1 b.1 parts.1)
 
 -- A line is its kind and its numbers.
-abbrev kind_of : CertLine → ℕ
+abbrev pub kind_of : CertLine → ℕ
 kind_of (head v) = 0
 kind_of (solid n) = 1
 kind_of (shell k c) = 2
@@ -68,7 +68,7 @@ kind_of (reach r) = 6
 kind_of end = 7
 kind_of (tally t) = 8
 
-abbrev numbers_in : CertLine → List ℕ
+abbrev pub numbers_in : CertLine → List ℕ
 numbers_in (head v) = version_number v ∷ []
 numbers_in (solid n) = n ∷ []
 numbers_in (shell k c) = k ∷ c.rows ∷ c.edges ∷ c.corners ∷ c.faces ∷ []
@@ -79,17 +79,17 @@ numbers_in (reach r) = r ∷ []
 numbers_in end = []
 numbers_in (tally t) = t.vertices ∷ t.edges ∷ t.faces ∷ t.loops ∷ []
 
-abbrev prefix_of : ℕ → List ℕ
+abbrev pub prefix_of : ℕ → List ℕ
 prefix_of k = if k == 0 then codes "IGESCERT" else (if k == 1 then codes "SOLID" else (if k == 2 then codes "SHELL" else (if k == 3 then codes "E" else (if k == 4 then codes "C" else (if k == 5 then codes "I" else (if k == 6 then codes "R" else (if k == 7 then codes "END" else codes "TALLY")))))))
 
 abbrev version_with : ℕ → Version
 version_with n = if n == 1 then One else (if n == 2 then Two else Three)
 
-abbrev line_from : ℕ → List ℕ → CertLine
+abbrev pub line_from : ℕ → List ℕ → CertLine
 line_from k ns = if k == 0 then head (version_with (get_or ns 0 0)) else (if k == 1 then solid (get_or ns 0 0) else (if k == 2 then shell (get_or ns 0 0) (record { rows = get_or ns 1 0; edges = get_or ns 2 0; corners = get_or ns 3 0; faces = get_or ns 4 0 })
     else (if k == 3 then edge (get_or ns 0 0) (get_or ns 1 0) else (if k == 4 then corner ns else (if k == 5 then point (get_or ns 0 0) (get_or ns 1 0) else (if k == 6 then reach (get_or ns 0 0) else (if k == 7 then end else tally (record { vertices = get_or ns 0 0; edges = get_or ns 1 0; faces = get_or ns 2 0; loops = get_or ns 3 0 }))))))))
 
-rebuilt : (l : CertLine) → line_from (kind_of l) (numbers_in l) ≡ l
+pub rebuilt : (l : CertLine) → line_from (kind_of l) (numbers_in l) ≡ l
 rebuilt (head One) = refl
 rebuilt (head Two) = refl
 rebuilt (head Three) = refl
@@ -102,7 +102,7 @@ rebuilt (reach r) = refl
 rebuilt (tally t) = refl
 rebuilt end = refl
 
-spelling_parts : (l : CertLine) → spelling l ≡ prefix_of (kind_of l) ++ (spaced (numbers_in l) ++ 10 ∷ [])
+pub spelling_parts : (l : CertLine) → spelling l ≡ prefix_of (kind_of l) ++ (spaced (numbers_in l) ++ 10 ∷ [])
 spelling_parts (head v) = refl
 spelling_parts (solid n) = refl
 spelling_parts (shell k c) = refl
@@ -118,7 +118,7 @@ version_short One = omega arith
 version_short Two = omega arith
 version_short Three = omega arith
 
-numbers_short : (l : CertLine) → HasSpelling l → AllByRecursion IsShort (numbers_in l)
+pub numbers_short : (l : CertLine) → HasSpelling l → AllByRecursion IsShort (numbers_in l)
 numbers_short (head v) h = (version_short v, tt)
 numbers_short (solid n) h = (h, tt)
 numbers_short (shell k c) h = h

@@ -13,7 +13,7 @@ mod writing;
 
 pub use cutting::{first_ended, first_line};
 pub use fault::{Illegal, Misfit};
-pub use law::{one_line, one_opening};
+pub use law::{lines_are_decided, one_line, one_opening};
 pub use number::{are_numbers, next_number, one_number, two_numbers};
 pub use opening::{head_line, read_opening, solid_line};
 pub use parts::{

@@ -55,7 +55,7 @@ fn word_number(word: &[u8]) -> Option<u32>
 /// The number at the start of a text, behind a space, and what follows it; None where none of one to nine digits stands
 /// there (own).
 pub fn next_number(text: &[u8]) -> Option<(u32, &[u8])>
-    ensures { MatchOption result ((n : ℕ) (ns : List ℕ) → ¬ AreNumbers text.now (n ∷ ns)) (λ p. Begins text.now p.0 p.1.now) }
+    ensures { MatchOption result ((n : ℕ) (rest : List ℕ) → ¬ Begins text.now n rest) (λ p. Begins text.now p.0 p.1.now) }
 {
     let Some((space, after)) = text.split_first() else {
         return None;

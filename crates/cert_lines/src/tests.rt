@@ -70,6 +70,13 @@ fn a_longer_line_fits_nowhere(rt: HostRuntime) {
     assert_eq!(rt; head_line(&line[..64]), Err(Misfit::Misspelt));
 }
 
+#[test]
+fn a_line_feed_inside_ends_no_line(rt: HostRuntime) {
+    let bytes = b"123456789012345678901234567890123456789012345678901234567890\n1234567890";
+    assert_eq!(rt; bytes.len(), 71);
+    assert_eq!(rt; head_line(bytes), Err(Misfit::Misspelt));
+}
+
 // A shell of one face, whose loop is a pole.
 fn pole_part(alloc: Global) -> Result<ShellPart, NoMemory> {
     let mut corners = Corners::new(alloc);

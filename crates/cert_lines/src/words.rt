@@ -1,7 +1,7 @@
 //! One line of a certificate, read from its bytes.
 
 ghost use Rattle.std.specs.Prelude.{◌≡◌, ◌≢◌, ℕ, List, [], ◌∷◌, ◌++◌, ◌≤◌, ◌↔◌, IsTrue, IfSome, IfNone, codes, length, MatchOption};
-ghost use Rattle.cert_lines.specs.Line.{CertLine, head, solid, shell, edge, corner, point, reach, tally, end, ShellCounts, Tally, IsSpelled, spaced};
+ghost use Rattle.cert_lines.specs.Line.{CertLine, head, solid, shell, edge, corner, point, reach, tally, end, ShellCounts, Tally, EndsWithLf, IsSpelled, spaced};
 ghost use Rattle.cert_lines.specs.Numbers.{AreNumbers, IsSpaced, Spells};
 ghost use Rattle.cert_lines.specs.Said.{Means, IsRowLine, IsJudged, counts_said, tally_said};
 ghost use Rattle.cert_lines.specs.declared.version.Version.{Version as Edition};
@@ -246,10 +246,20 @@ fn read_line(line: &[u8]) -> Option<Words<'_>>
 pub enum Judged<'a> {
     /// The line is one of the kinds of lines, and isn't long.
     Spelled(Words<'a>),
-    /// The line is none of the kinds of lines and isn't long, or it has no LF.
+    /// The line is none of the kinds of lines and isn't long, or its last byte is no LF.
     Misspelt,
-    /// The line has an LF, and more bytes than it may have.
+    /// The last byte of the line is an LF, and it has more bytes than it may have.
     Long,
+}
+
+/// Whether the last byte is an LF.
+fn ends_with_lf(line: &[u8]) -> bool
+    ensures { IsTrue result ↔ EndsWithLf line.now }
+{
+    match line.split_last() {
+        Some((last, _)) => *last == b'\n',
+        None => false,
+    }
 }
 
 /// Reads a line that may have at most so many bytes, its LF among them (own).
@@ -257,7 +267,7 @@ pub fn judge(line: &[u8], limit: usize) -> Judged<'_>
     ensures { IsJudged limit line.now result }
 {
     if line.len() > limit {
-        if line.contains(&b'\n') {
+        if ends_with_lf(line) {
             return Judged::Long;
         }
         return Judged::Misspelt;

@@ -1,9 +1,9 @@
 use Rattle.std.proofs.Common.{rules, []}
-use Rattle.cert_lines.proofs.Digits.{begins_tail}
+use Rattle.cert_lines.proofs.Digits.{begins_tail, numbers_begin}
 use Rattle.cert_lines.proofs.number.one_number.Goals as goal
 
 pub returns-in_default : goal.returns-in_default
-returns-in_default c = λ a h. c.in_default.ensures a [] h
+returns-in_default c = λ a h. c.in_default.ensures a [] (numbers_begin c.args.text.now [] a h)
 
 pub returns-else-is_empty : goal.returns-else-is_empty
 returns-else-is_empty c = λ a h.
