@@ -1,51 +1,31 @@
--- A checker that is fed judges the lines of the text that it was fed.
-use Rattle.std.specs.Prelude.{◌≡◌, ℕ, zero, suc, ◌+◌, ◌-◌, ◌*◌, ◌<◌, ◌≤◌, ◌⊎◌, ◌==◌, true, false, not, List, [], ◌∷◌, ◌++◌, length, map, take, flat_map, Option, Some, None, Result, Ok, Err, IsTrue, MatchOption, MatchResult}
+-- A checker judges the lines that it is given, and those of the text that it was fed.
+use Rattle.std.specs.Prelude.{◌≡◌, ℕ, zero, suc, ◌+◌, ◌-◌, ◌<◌, ◌≤◌, true, false, List, [], ◌∷◌, ◌++◌, length, map, take, reverse, Option, Some, None, Result, Ok, Err, IsTrue, MatchOption, MatchResult}
 use Rattle.std.proofs.Common.{refl, sym, ◌∙◌, ap, subst, arith, inl, inr, ⊎_elim, append_assoc}
-use Rattle.std.specs.List.{list_all}
-use Rattle.std.proofs.lemmas.List.{append-nil, map-append, take_all, take_at, length-take, length-append}
+use Rattle.std.proofs.lemmas.List.{append-nil, map-append, take_all, take_at, length-take, length-append, length-reverse, reverse-append}
 use Rattle.iges_fields.specs.Ended.{ended, IsBegun}
 use Rattle.iges_fields.specs.InLine.{is_in_line}
 use Rattle.iges_fields.proofs.Ended.{begun_none, begun_more, begun_end}
 use Rattle.iges_fields.proofs.InLines.{both_in_line}
-use Rattle.iges_fields.proofs.Lists.{list_all-take}
-use Rattle.solid_data.specs.SolidData.{SolidData, shell_uses}
-use Rattle.cert_lines.specs.Line.{CertLine, cut_lines, IsLine, IsLong, IsMisspelt, line_limit}
+use Rattle.solid_data.specs.SolidData.{SolidData}
+use Rattle.cert_lines.specs.Line.{CertLine, solid as solid_line, cut_lines, IsLine, IsLong, IsMisspelt, line_limit}
 use Rattle.cert_lines.specs.declared.fault.Illegal.{Illegal}
-use Rattle.cert_lines.specs.declared.fault.Illegal.TheVariants.{Misspelt, Unfit, Missing}
-use Rattle.cert_lines.proofs.Ends.{cut_begun, last_cut, unspelled, never_long, misspelt_rest, kept_line, kept_is_line, kept_is_long, kept_is_misspelt}
-use Rattle.topo_certificate.specs.Stand.{stand_behind, FitsLine}
+use Rattle.cert_lines.specs.declared.fault.Illegal.TheVariants.{Misspelt, Missing}
+use Rattle.cert_lines.proofs.Ends.{cut_begun, last_cut, misspelt_rest, kept_line, kept_is_line, kept_is_long, kept_is_misspelt}
+use Rattle.topo_certificate.specs.Stand.{Stand, stand_behind, stand_after, FitsLine}
 use Rattle.cert_lines.specs.declared.version.Version.{Version}
-use Rattle.topo_certificate.specs.Legal.{IsUnfit, IsBadLine}
-use Rattle.topo_certificate.specs.Behind.{IsLegalBehind, IsFirstBadBehind}
+use Rattle.topo_certificate.specs.Legal.{AreFitting, IsLegal, HasFirstBad, IsUnfit, IsBadLine, FitsPart, BeginsNext}
 use Rattle.topo_certificate.specs.Told.{Kept, IsAt, IsOfSame}
-use Rattle.topo_certificate.specs.Feeding.{FedKept, AreFitting, IsBadAmong, IsKeptOf, IsFitting, IsFed}
+use Rattle.topo_certificate.specs.Feeding.{FedKept, IsKeptOf, StandsAfter, IsFedLines, IsFedPart}
+use Rattle.topo_certificate.specs.Part.{IsPartLine}
+use Rattle.topo_certificate.specs.PartEnds.{EndsPart, IsEndedBy}
+use Rattle.topo_certificate.specs.declared.line_checker.PartLine.{PartLine}
+use Rattle.topo_certificate.specs.declared.line_checker.PartLine.TheVariants.{More, Next}
+use Rattle.iges_fields.specs.declared.entry_no.EntryNo.{EntryNo}
+use Rattle.std.proofs.Math.Seq.{take-append-add}
+use Rattle.topo_certificate.proofs.Forward.{fitting_none, fitting_more, legal_ended}
 
 abbrev Lines : Type 0
 Lines = List (List ℕ)
-
--- ---- lines and more lines
-
-module _ (v : Version) (s : SolidData) where
-  fitting_on : (before : List CertLine) (ls : Lines) (now : List CertLine) (more : Lines) (then : List CertLine) → AreFitting v s before ls now → AreFitting v s now more then → AreFitting v s before (ls ++ more) then
-  fitting_on before [] now more then h k = subst (λ (b : List CertLine). AreFitting v s b more then) h k
-  fitting_on before (l ∷ ls) now more then h k = (h.0, h.1, h.2, fitting_on (h.0 ∷ before) ls now more then h.3 k)
-
-  among_on : (before : List CertLine) (ls : Lines) (now : List CertLine) (more : Lines) (bad : Illegal) → AreFitting v s before ls now → IsBadAmong v s now more bad → IsBadAmong v s before (ls ++ more) bad
-  among_on before [] now more bad h k = subst (λ (b : List CertLine). IsBadAmong v s b more bad) h k
-  among_on before (l ∷ ls) now more bad h k = inr (h.0, h.1, h.2, among_on (h.0 ∷ before) ls now more bad h.3 k)
-
-  legal_on : (before : List CertLine) (ls : Lines) (now : List CertLine) (more : Lines) → AreFitting v s before ls now → IsLegalBehind v s now more → IsLegalBehind v s before (ls ++ more)
-  legal_on before [] now more h k = subst (λ (b : List CertLine). IsLegalBehind v s b more) h k
-  legal_on before (l ∷ ls) now more h k = (h.0, h.1, h.2, legal_on (h.0 ∷ before) ls now more h.3 k)
-
-  bad_on : (before : List CertLine) (ls : Lines) (now : List CertLine) (more : Lines) (bad : Illegal) → AreFitting v s before ls now → IsFirstBadBehind v s (FitsLine s) 3 now more bad → IsFirstBadBehind v s (FitsLine s) 3 before (ls ++ more) bad
-  bad_on before [] now more bad h k = subst (λ (b : List CertLine). IsFirstBadBehind v s (FitsLine s) 3 b more bad) h k
-  bad_on before (l ∷ ls) now more bad h k = inr (h.0, h.1, h.2, bad_on (h.0 ∷ before) ls now more bad h.3 k)
-
-  bad_among : (before : List CertLine) (ls more : Lines) (bad : Illegal) → IsBadAmong v s before ls bad → IsFirstBadBehind v s (FitsLine s) 3 before (ls ++ more) bad
-  bad_among before [] more bad h = absurd h
-  bad_among before (l ∷ ls) more bad (inl b) = inl b
-  bad_among before (l ∷ ls) more bad (inr h) = inr (h.0, h.1, h.2, bad_among (h.0 ∷ before) ls more bad h.3)
 
 -- ---- a line that is judged by the bytes that are kept of it
 
@@ -85,85 +65,31 @@ none_kept s kept rest e h = nil rest (omega (arith, h, ap length e, length-take 
 
 -- ---- the next line
 
--- what a checker of whole lines of this version and solid says of its next line
-abbrev Says : Version → SolidData → List CertLine → List ℕ → Kept → Result (Unit {0}) Illegal → Type 0
-Says v s lines bytes new r = MatchResult r
-    (λ _. (l : CertLine) × IsLine (line_limit s) bytes l × FitsLine s (stand_behind v s lines) l × IsAt 3 new (l ∷ lines))
-    (λ bad. IsBadLine s (FitsLine s (stand_behind v s lines)) (3 + length lines) bytes bad)
+abbrev Answer : Type 0
+Answer = Result (Unit {0}) Illegal
 
-abbrev pub Judges : Kept → List ℕ → Kept → Result (Unit {0}) Illegal → Type 0
-Judges old bytes new r = (lines : List CertLine) → IsAt 3 old lines → Says old.version old.solid lines bytes new r
+-- which lines may come
+abbrev pub Fitness : Type 1
+Fitness = SolidData → Stand → CertLine → Type 0
 
-says : (v : Version) (s : SolidData) (old : Kept) (lines : List CertLine) (bytes : List ℕ) (new : Kept) (r : Result (Unit {0}) Illegal) → old.version ≡ v → old.solid ≡ s → IsAt 3 old lines → Judges old bytes new r → Says v s lines bytes new r
-says v s old lines bytes new r is_v is_s at judges =
-    subst (λ (z : SolidData). Says v z lines bytes new r) is_s (subst (λ (w : Version). Says w old.solid lines bytes new r) is_v (judges lines at))
+-- what a checker of whole lines says of its next line
+abbrev pub Judges : Fitness → Kept → List ℕ → Kept → Answer → Type 0
+Judges Fits old bytes new r = (first : ℕ) (lines : List CertLine) → IsAt first old lines → MatchResult r
+    (λ _. (l : CertLine) × IsLine (line_limit old.solid) bytes l × FitsLine old.solid (stand_behind old.version old.solid lines) l × IsAt first new (l ∷ lines))
+    (λ bad. IsBadLine old.solid (Fits old.solid (stand_behind old.version old.solid lines)) (first + length lines) bytes bad)
 
 -- what it says of the end
-abbrev SaysAtEnd : Version → SolidData → List CertLine → Kept → Kept → Result (Unit {0}) Illegal → Type 0
-SaysAtEnd v s lines old new r = MatchResult r (λ _. ((stand_behind v s lines).ended ≡ true) × (new ≡ old))
-    (λ bad. ((stand_behind v s lines).ended ≡ false) × (bad ≡ Missing (3 + length lines)) × (new.failed ≡ Some bad))
+abbrev pub Finishes : Kept → Answer → Type 0
+Finishes old r = (first : ℕ) (lines : List CertLine) → IsAt first old lines → MatchResult r
+    (λ _. (stand_behind old.version old.solid lines).ended ≡ true)
+    (λ bad. ((stand_behind old.version old.solid lines).ended ≡ false) × (bad ≡ Missing (first + length lines)))
 
-abbrev pub Finishes : Kept → Kept → Result (Unit {0}) Illegal → Type 0
-Finishes old new r = (lines : List CertLine) → IsAt 3 old lines → SaysAtEnd old.version old.solid lines old new r
+-- what holds of the version and the solid of a checker holds of these
+of_these : (v : Version) (s : SolidData) (c : Kept) (P : Version → SolidData → Type 0) → c.version ≡ v → c.solid ≡ s → P c.version c.solid → P v s
+of_these v s c P is_v is_s h = subst (λ (z : SolidData). P v z) is_s (subst (λ (w : Version). P w c.solid) is_v h)
 
-says_at_end : (v : Version) (s : SolidData) (old : Kept) (lines : List CertLine) (new : Kept) (r : Result (Unit {0}) Illegal) → old.version ≡ v → old.solid ≡ s → IsAt 3 old lines → Finishes old new r → SaysAtEnd v s lines old new r
-says_at_end v s old lines new r is_v is_s at finishes =
-    subst (λ (z : SolidData). SaysAtEnd v z lines old new r) is_s (subst (λ (w : Version). SaysAtEnd w old.solid lines old new r) is_v (finishes lines at))
-
--- nothing of the line is kept, or its fault is
-abbrev pub IsDone : FedKept → Result (Unit {0}) Illegal → Type 0
-IsDone new r = MatchResult r (λ _. (new.failed ≡ None) × (new.kept ≡ [])) (λ bad. new.failed ≡ Some bad)
-
-fitting_of : (v : Version) (s : SolidData) (before : List CertLine) (c : FedKept) (text : List ℕ) (h : IsFed v s before c text) → c.failed ≡ None → IsFitting v s before c h.pieces h.rest
-fitting_of v s before c text h none = subst (λ (o : Option Illegal). MatchOption o (IsFitting v s before c h.pieces h.rest) (IsBadAmong v s before (map ended h.pieces))) none h.judged
-
-among_of : (v : Version) (s : SolidData) (before : List CertLine) (c : FedKept) (text : List ℕ) (bad : Illegal) (h : IsFed v s before c text) → c.failed ≡ Some bad → IsBadAmong v s before (map ended h.pieces) bad
-among_of v s before c text bad h some = subst (λ (o : Option Illegal). MatchOption o (IsFitting v s before c h.pieces h.rest) (IsBadAmong v s before (map ended h.pieces))) some h.judged
-
-fed_fitting : (v : Version) (s : SolidData) (before : List CertLine) (c : FedKept) (text : List ℕ) (ps : Lines) (rest : List ℕ) → c.checker.version ≡ v → c.checker.solid ≡ s → c.failed ≡ None → IsBegun text ps rest → IsFitting v s before c ps rest → IsFed v s before c text
-fed_fitting v s before c text ps rest edition same none begun h = record {
-  version = edition;
-  solid = same;
-  pieces = ps;
-  rest = rest;
-  begun = begun;
-  judged = subst (λ (o : Option Illegal). MatchOption o (IsFitting v s before c ps rest) (IsBadAmong v s before (map ended ps))) (sym none) h;
-}
-
-fed_bad : (v : Version) (s : SolidData) (before : List CertLine) (c : FedKept) (text : List ℕ) (ps : Lines) (rest : List ℕ) (bad : Illegal) → c.checker.version ≡ v → c.checker.solid ≡ s → c.failed ≡ Some bad → IsBegun text ps rest
-    → IsBadAmong v s before (map ended ps) bad → IsFed v s before c text
-fed_bad v s before c text ps rest bad edition same some begun h = record {
-  version = edition;
-  solid = same;
-  pieces = ps;
-  rest = rest;
-  begun = begun;
-  judged = subst (λ (o : Option Illegal). MatchOption o (IsFitting v s before c ps rest) (IsBadAmong v s before (map ended ps))) (sym some) h;
-}
-
--- behind a fault any bytes may come
-pub fed_behind : (v : Version) (s : SolidData) (before : List CertLine) (c : FedKept) (text x : List ℕ) (bad : Illegal) → c.failed ≡ Some bad → IsFed v s before c text → IsFed v s before c (text ++ x)
-fed_behind v s before c text x bad some h = fed_bad v s before c (text ++ x) h.pieces (h.rest ++ x) bad h.version h.solid some (begun_more text h.pieces h.rest x h.begun) (among_of v s before c text bad h some)
-
-pub fed_none : (v : Version) (s : SolidData) (c : FedKept) → c.checker.version ≡ v → c.checker.solid ≡ s → c.failed ≡ None → c.kept ≡ [] → IsAt 3 c.checker [] → IsFed v s [] c []
-fed_none v s c edition same none kept at = fed_fitting v s [] c [] [] [] edition same none begun_none (record { now = []; fitting = refl; at = at; kept = (kept ∙ sym (take_all (line_limit s) [] (omega arith)), refl) })
-
--- the rest grows
-pub fed_more : (v : Version) (s : SolidData) (before : List CertLine) (old new : FedKept) (text x : List ℕ) → old.failed ≡ None → new.failed ≡ None → new.checker ≡ old.checker → is_in_line x ≡ true
-    → new.kept ≡ take (line_limit old.checker.solid) (old.kept ++ x) → IsFed v s before old text → IsFed v s before new (text ++ x)
-fed_more v s before old new text x none still same h kept fed =
-    let f = fitting_of v s before old text fed none in
-    let k = f.kept in
-    fed_fitting v s before new (text ++ x) fed.pieces (fed.rest ++ x) (ap (λ (c : Kept). c.version) same ∙ fed.version) (ap (λ (c : Kept). c.solid) same ∙ fed.solid) still (begun_more text fed.pieces fed.rest x fed.begun)
-    (record {
-      now = f.now;
-      fitting = f.fitting;
-      at = subst (λ (c : Kept). IsAt 3 c f.now) (sym same) f.at;
-      kept = (
-        kept ∙ ap (λ (z : SolidData). take (line_limit z) (old.kept ++ x)) fed.solid ∙ ap (λ (l : List ℕ). take (line_limit s) (l ++ x)) k.0 ∙ take_front (line_limit s) fed.rest x,
-        both_in_line fed.rest x k.1 h,
-      );
-    })
+pub front_of : (front line : List ℕ) → line ≡ ended front → take (length line - 1) line ≡ front
+front_of front line is = ap (λ (l : List ℕ). take (length l - 1) l) is ∙ take_at front (10 ∷ []) (length (ended front) - 1) (omega (arith, length-append front (10 ∷ [])))
 
 -- where one line more has ended, the text and its pieces
 ended_begun : (text front : List ℕ) (ps : Lines) (rest : List ℕ) → IsBegun text ps rest → is_in_line rest ≡ true → is_in_line front ≡ true → IsBegun (text ++ ended front) (ps ++ (rest ++ front) ∷ []) []
@@ -171,141 +97,284 @@ ended_begun text front ps rest begun h k =
     subst (λ (t : List ℕ). IsBegun t (ps ++ (rest ++ front) ∷ []) []) (append_assoc text front (10 ∷ []))
     (begun_end (text ++ front) ps (rest ++ front) (begun_more text ps rest front begun) (both_in_line rest front h k))
 
-next_fed : (v : Version) (s : SolidData) (before : List CertLine) (old new : FedKept) (text front bytes : List ℕ) (r : Result (Unit {0}) Illegal) (fed : IsFed v s before old text) → old.failed ≡ None → is_in_line front ≡ true
-    → IsOfSame old.checker new.checker → SameLine (line_limit s) bytes (ended (fed.rest ++ front)) → Judges old.checker bytes new.checker r → IsDone new r → IsFed v s before new (text ++ ended front)
-next_fed v s before old new text front bytes (Ok u) fed none h same_as same judges done =
-    let f = fitting_of v s before old text fed none in
-    let j = says v s old.checker f.now bytes new.checker (Ok u) fed.version fed.solid f.at judges in
-    fed_fitting v s before new (text ++ ended front) (fed.pieces ++ (fed.rest ++ front) ∷ []) [] (same_as.0 ∙ fed.version) (same_as.1 ∙ fed.solid) done.0 (ended_begun text front fed.pieces fed.rest fed.begun f.kept.1 h)
-    (record {
-      now = j.0 ∷ f.now;
-      fitting = subst (λ (ls : Lines). AreFitting v s before ls (j.0 ∷ f.now)) (sym (map-append ended fed.pieces ((fed.rest ++ front) ∷ [])))
-          (fitting_on v s before (map ended fed.pieces) f.now (ended (fed.rest ++ front) ∷ []) (j.0 ∷ f.now) f.fitting (j.0, same.line j.0 j.1, j.2, refl));
-      at = j.3;
-      kept = (done.1 ∙ sym (take_all (line_limit s) [] (omega arith)), refl);
-    })
-next_fed v s before old new text front bytes (Err bad) fed none h same_as same judges failed =
-    let f = fitting_of v s before old text fed none in
-    let j = says v s old.checker f.now bytes new.checker (Err bad) fed.version fed.solid f.at judges in
-    fed_bad v s before new (text ++ ended front) (fed.pieces ++ (fed.rest ++ front) ∷ []) [] bad (same_as.0 ∙ fed.version) (same_as.1 ∙ fed.solid) failed (ended_begun text front fed.pieces fed.rest fed.begun f.kept.1 h)
-    (subst (λ (ls : Lines). IsBadAmong v s before ls bad) (sym (map-append ended fed.pieces ((fed.rest ++ front) ∷ [])))
-    (among_on v s before (map ended fed.pieces) f.now (ended (fed.rest ++ front) ∷ []) bad f.fitting (inl (same_bad s (FitsLine s (stand_behind v s f.now)) (3 + length f.now) bytes (ended (fed.rest ++ front)) bad same j))))
+module _ (v : Version) (s : SolidData) (Fits : Fitness) (first : ℕ) where
+  -- the next line is good
+  pub taken : (old new : FedKept) (read : List CertLine) (rest bytes : List ℕ) (u : Unit {0}) → StandsAfter v s first read rest old → IsOfSame old.checker new.checker → new.failed ≡ None → IsKeptOf s new.kept [] → Judges Fits old.checker bytes new.checker (Ok u)
+      → (l : CertLine) × IsLine (line_limit s) bytes l × FitsLine s (stand_after v s read) l × StandsAfter v s first (read ++ l ∷ []) [] new
+  taken old new read rest bytes u stands same none kept judges =
+      let j = judges first (reverse read) stands.at in
+      let is : IsLine (line_limit s) bytes j.0 = subst (λ (z : SolidData). IsLine (line_limit z) bytes j.0) stands.solid j.1 in
+      let fits : FitsLine s (stand_after v s read) j.0 = of_these v s old.checker (λ w z. FitsLine z (stand_after w z read) j.0) stands.version stands.solid j.2 in (
+        j.0,
+        is,
+        fits,
+        record {
+          version = same.0 ∙ stands.version;
+          solid = same.1 ∙ stands.solid;
+          legal = none;
+          at = subst (IsAt first new.checker) (sym (reverse-append read (j.0 ∷ []))) j.3;
+          kept = kept;
+        },
+      )
 
--- a line that lies whole in the piece
-pub whole_line : (v : Version) (s : SolidData) (before : List CertLine) (old new : FedKept) (text front line : List ℕ) (r : Result (Unit {0}) Illegal) → old.failed ≡ None → length old.kept ≤ 0 → is_in_line front ≡ true → line ≡ ended front
-    → IsOfSame old.checker new.checker → Judges old.checker line new.checker r → IsDone new r → IsFed v s before old text → IsFed v s before new (text ++ line)
-whole_line v s before old new text front line r none empty h is solid judges done fed =
-    let f = fitting_of v s before old text fed none in
-    let rest = none_kept s old.kept fed.rest f.kept.0 empty in
-    subst (λ (l : List ℕ). IsFed v s before new (text ++ l)) (sym is)
-    (next_fed v s before old new text front line r fed none h solid (same_whole (line_limit s) line (ended (fed.rest ++ front)) (is ∙ ap (λ (x : List ℕ). ended (x ++ front)) (sym rest))) judges done)
+  -- the next line is bad
+  pub refused : (old : FedKept) (new : Kept) (read : List CertLine) (rest bytes : List ℕ) (bad : Illegal) → StandsAfter v s first read rest old → Judges Fits old.checker bytes new (Err bad)
+      → IsBadLine s (Fits s (stand_after v s read)) (first + length read) bytes bad
+  refused old new read rest bytes bad stands judges =
+      let j = judges first (reverse read) stands.at in
+      subst (λ (n : ℕ). IsBadLine s (Fits s (stand_after v s read)) (first + n) bytes bad) (length-reverse read)
+      (of_these v s old.checker (λ w z. IsBadLine z (Fits z (stand_after w z read)) (first + length (reverse read)) bytes bad) stands.version stands.solid j)
 
-pub front_of : (front line : List ℕ) → line ≡ ended front → take (length line - 1) line ≡ front
-front_of front line is = ap (λ (l : List ℕ). take (length l - 1) l) is ∙ take_at front (10 ∷ []) (length (ended front) - 1) (omega (arith, length-append front (10 ∷ [])))
+  pub line_answer : (old new : FedKept) (read : List CertLine) (bytes : List ℕ) (r : Answer) → StandsAfter v s first read [] old → IsOfSame old.checker new.checker → new.kept ≡ old.kept → MatchResult r (λ _. new.failed ≡ None) (λ bad. new.failed ≡ Some bad)
+      → Judges Fits old.checker bytes new.checker r
+      → MatchResult r (λ _. (l : CertLine) × IsLine (line_limit s) bytes l × FitsLine s (stand_after v s read) l × StandsAfter v s first (read ++ l ∷ []) [] new)
+      (λ bad. IsBadLine s (Fits s (stand_after v s read)) (first + length read) bytes bad × (new.failed ≡ Some bad))
+  line_answer old new read bytes (Ok u) stands same kept none judges = taken old new read [] bytes u stands same none (kept ∙ stands.kept.0, refl) judges
+  line_answer old new read bytes (Err bad) stands same kept some judges = (refused old new.checker read [] bytes bad stands judges, some)
 
--- a line that began in a piece before, where these bytes are kept of it
-pub joined_line : (v : Version) (s : SolidData) (before : List CertLine) (old mid new : FedKept) (text front line bytes : List ℕ) (r : Result (Unit {0}) Illegal) → old.failed ≡ None → is_in_line front ≡ true → line ≡ ended front
-    → mid.kept ≡ take (line_limit old.checker.solid) (old.kept ++ take (length line - 1) line) → mid.checker ≡ old.checker → bytes ≡ ended mid.kept
-    → IsOfSame mid.checker new.checker → Judges mid.checker bytes new.checker r → IsDone new r → IsFed v s before old text → IsFed v s before new (text ++ line)
-joined_line v s before old mid new text front line bytes r none h is kept same bytes-is solid judges done fed =
-    let f = fitting_of v s before old text fed none in
-    let limit = line_limit s in
-    let e : bytes ≡ kept_line limit (fed.rest ++ front) = bytes-is ∙ ap ended (kept ∙ ap (λ (x : List ℕ). take (line_limit old.checker.solid) (old.kept ++ x)) (front_of front line is)
-    ∙ ap (λ (z : SolidData). take (line_limit z) (old.kept ++ front)) fed.solid ∙ ap (λ (x : List ℕ). take limit (x ++ front)) f.kept.0 ∙ take_front limit fed.rest front) in
-    subst (λ (l : List ℕ). IsFed v s before new (text ++ l)) (sym is)
-    (next_fed v s before old new text front bytes r fed none h (solid.0 ∙ ap (λ (c : Kept). c.version) same, solid.1 ∙ ap (λ (c : Kept). c.solid) same) (same_kept limit bytes (fed.rest ++ front) e) (subst (λ (c : Kept). Judges c bytes new.checker r) same judges) done)
+  -- ---- what a checker was fed
 
--- ---- the end
+  standing : (c : FedKept) (text : List ℕ) (h : IsFedLines v s (Fits s) first text c) → c.failed ≡ None → (read : List CertLine) × AreFitting v s (map ended h.pieces) read × StandsAfter v s first read h.rest c
+  standing c text h none =
+      subst (λ (o : Option Illegal). MatchOption o ((read : List CertLine) × AreFitting v s (map ended h.pieces) read × StandsAfter v s first read h.rest c) (λ bad. (more : Lines) → HasFirstBad v s (Fits s) first (map ended h.pieces ++ more) bad)) none h.judged
 
-pub end_failed : (v : Version) (s : SolidData) (before : List CertLine) (c : FedKept) (text : List ℕ) (bad : Illegal) → c.failed ≡ Some bad → IsFed v s before c text → IsFirstBadBehind v s (FitsLine s) 3 before (cut_lines text) bad
-end_failed v s before c text bad some h =
-    subst (λ (ls : Lines). IsFirstBadBehind v s (FitsLine s) 3 before ls bad) (sym (cut_begun text h.pieces h.rest h.begun)) (bad_among v s before (map ended h.pieces) (cut_lines h.rest) bad (among_of v s before c text bad h some))
+  failing : (c : FedKept) (text : List ℕ) (bad : Illegal) (h : IsFedLines v s (Fits s) first text c) → c.failed ≡ Some bad → (more : Lines) → HasFirstBad v s (Fits s) first (map ended h.pieces ++ more) bad
+  failing c text bad h some =
+      subst (λ (o : Option Illegal). MatchOption o ((read : List CertLine) × AreFitting v s (map ended h.pieces) read × StandsAfter v s first read h.rest c) (λ bad. (more : Lines) → HasFirstBad v s (Fits s) first (map ended h.pieces ++ more) bad)) some h.judged
 
-kept_in_line : (n : ℕ) (rest : List ℕ) → is_in_line rest ≡ true → is_in_line (take n rest) ≡ true
-kept_in_line n rest h = list_all-take (λ b. not (b == 10)) n rest h
+  fed_standing : (c : FedKept) (text : List ℕ) (ps : Lines) (rest : List ℕ) (read : List CertLine) → IsBegun text ps rest → AreFitting v s (map ended ps) read → StandsAfter v s first read rest c → IsFedLines v s (Fits s) first text c
+  fed_standing c text ps rest read begun fitting stands = record {
+    version = stands.version;
+    solid = stands.solid;
+    pieces = ps;
+    rest = rest;
+    begun = begun;
+    judged = subst (λ (o : Option Illegal). MatchOption o ((read : List CertLine) × AreFitting v s (map ended ps) read × StandsAfter v s first read rest c) (λ bad. (more : Lines) → HasFirstBad v s (Fits s) first (map ended ps ++ more) bad)) (sym stands.legal)
+        (read, fitting, stands);
+  }
 
--- the rest is misspelt
-pub end_rest : (v : Version) (s : SolidData) (before : List CertLine) (c : FedKept) (new : Kept) (text : List ℕ) (bad : Illegal) → c.failed ≡ None → 0 < length c.kept → Judges c.checker c.kept new (Err bad) → IsFed v s before c text
-    → IsFirstBadBehind v s (FitsLine s) 3 before (cut_lines text) bad
-end_rest v s before c new text bad none some judges h =
-    let f = fitting_of v s before c text h none in
-    let in_line : is_in_line c.kept ≡ true = ap is_in_line f.kept.0 ∙ kept_in_line (line_limit s) h.rest f.kept.1 in
-    let j = says v s c.checker f.now c.kept new (Err bad) h.version h.solid f.at judges in
-    let long : 0 < length h.rest = omega (arith, some, ap length f.kept.0, length-take (line_limit s) h.rest) in
-    let first : IsFirstBadBehind v s (FitsLine s) 3 f.now (h.rest ∷ []) bad = inl (inl (misspelt_rest (line_limit s) h.rest f.kept.1, said f.now in_line j)) in
-    subst (λ (ls : Lines). IsFirstBadBehind v s (FitsLine s) 3 before ls bad) (sym (cut_begun text h.pieces h.rest h.begun ∙ ap (λ (ls : Lines). map ended h.pieces ++ ls) (last_cut h.rest f.kept.1 long)))
-    (bad_on v s before (map ended h.pieces) f.now (h.rest ∷ []) bad f.fitting first)
-  where
-    said : (lines : List CertLine) → is_in_line c.kept ≡ true → IsBadLine s (FitsLine s (stand_behind v s lines)) (3 + length lines) c.kept bad → bad ≡ Misspelt (3 + length lines)
-    said lines i (inl m) = m.1
-    said lines i (inr (inl l, e)) = absurd (never_long (line_limit s) c.kept i l)
-    said lines i (inr (inr x, e)) = absurd (unspelled c.kept x.0 i x.1.1)
+  fed_failing : (c : FedKept) (text : List ℕ) (ps : Lines) (rest : List ℕ) (bad : Illegal) → c.checker.version ≡ v → c.checker.solid ≡ s → c.failed ≡ Some bad → IsBegun text ps rest
+      → ((more : Lines) → HasFirstBad v s (Fits s) first (map ended ps ++ more) bad) → IsFedLines v s (Fits s) first text c
+  fed_failing c text ps rest bad is_v is_s some begun h = record {
+    version = is_v;
+    solid = is_s;
+    pieces = ps;
+    rest = rest;
+    begun = begun;
+    judged = subst (λ (o : Option Illegal). MatchOption o ((read : List CertLine) × AreFitting v s (map ended ps) read × StandsAfter v s first read rest c) (λ bad. (more : Lines) → HasFirstBad v s (Fits s) first (map ended ps ++ more) bad)) (sym some) h;
+  }
 
--- a rest is never taken
-pub rest_refused : (v : Version) (s : SolidData) (before : List CertLine) (c : FedKept) (new : Kept) (text : List ℕ) (u : Unit {0}) → c.failed ≡ None → Judges c.checker c.kept new (Ok u) → IsFed v s before c text → ⊥
-rest_refused v s before c new text u none judges h =
-    let f = fitting_of v s before c text h none in
-    let in_line : is_in_line c.kept ≡ true = ap is_in_line f.kept.0 ∙ kept_in_line (line_limit s) h.rest f.kept.1 in
-    let j = judges f.now f.at in
-    unspelled c.kept j.0 in_line j.1.1
+  -- before the first line
+  pub stands_first : (c : FedKept) → c.checker.version ≡ v → c.checker.solid ≡ s → c.failed ≡ None → c.kept ≡ [] → IsAt first c.checker [] → StandsAfter v s first [] [] c
+  stands_first c is_v is_s none kept at = record { version = is_v; solid = is_s; legal = none; at = at; kept = (kept ∙ sym (take_all (line_limit s) [] (omega arith)), refl) }
 
--- what the checker of whole lines says of a rest
-pub rest_answer : (v : Version) (s : SolidData) (before : List CertLine) (old new : FedKept) (text : List ℕ) (r : Result (Unit {0}) Illegal) → old.failed ≡ None → 0 < length old.kept → Judges old.checker old.kept new.checker r → IsFed v s before old text
-    → MatchResult r (λ _. (length old.kept ≤ 0) × (new ≡ old)) (λ bad. IsFirstBadBehind v s (FitsLine s) 3 before (cut_lines text) bad)
-rest_answer v s before old new text (Ok u) none some judges h = absurd (rest_refused v s before old new.checker text u none judges h)
-rest_answer v s before old new text (Err bad) none some judges h = end_rest v s before old new.checker text bad none some judges h
+  pub fed_first : (c : FedKept) → StandsAfter v s first [] [] c → IsFedLines v s (Fits s) first [] c
+  fed_first c stands = fed_standing c [] [] [] [] begun_none (fitting_none v s) stands
 
--- END was the last line, or it is missing
-pub end_done : (v : Version) (s : SolidData) (before : List CertLine) (c : FedKept) (new : Kept) (text : List ℕ) (r : Result (Unit {0}) Illegal) → c.failed ≡ None → length c.kept ≤ 0
-    → Finishes c.checker new r
-    → IsFed v s before c text → MatchResult r (λ _. IsLegalBehind v s before (cut_lines text)) (λ bad. IsFirstBadBehind v s (FitsLine s) 3 before (cut_lines text) bad)
-end_done v s before c new text (Ok u) none empty finish h =
-    let f = fitting_of v s before c text h none in
-    let j = (says_at_end v s c.checker f.now new (Ok u) h.version h.solid f.at finish).0 in
-    subst (λ (ls : Lines). IsLegalBehind v s before ls) (sym (cut_begun text h.pieces h.rest h.begun ∙ ap (λ (x : List ℕ). map ended h.pieces ++ cut_lines x) (none_kept s c.kept h.rest f.kept.0 empty)))
-    (legal_on v s before (map ended h.pieces) f.now [] f.fitting j)
-end_done v s before c new text (Err bad) none empty finish h =
-    let f = fitting_of v s before c text h none in
-    let k = says_at_end v s c.checker f.now new (Err bad) h.version h.solid f.at finish in
-    subst (λ (ls : Lines). IsFirstBadBehind v s (FitsLine s) 3 before ls bad) (sym (cut_begun text h.pieces h.rest h.begun ∙ ap (λ (x : List ℕ). map ended h.pieces ++ cut_lines x) (none_kept s c.kept h.rest f.kept.0 empty)))
-    (bad_on v s before (map ended h.pieces) f.now [] bad f.fitting (k.0, k.1))
+  -- behind a fault any bytes may come
+  pub fed_behind : (c : FedKept) (text x : List ℕ) (bad : Illegal) → c.failed ≡ Some bad → IsFedLines v s (Fits s) first text c → IsFedLines v s (Fits s) first (text ++ x) c
+  fed_behind c text x bad some h = fed_failing c (text ++ x) h.pieces (h.rest ++ x) bad h.version h.solid some (begun_more text h.pieces h.rest x h.begun) (failing c text bad h some)
+
+  -- the rest grows
+  pub fed_more : (old new : FedKept) (text x : List ℕ) → old.failed ≡ None → new.failed ≡ None → new.checker ≡ old.checker → is_in_line x ≡ true → new.kept ≡ take (line_limit old.checker.solid) (old.kept ++ x)
+      → IsFedLines v s (Fits s) first text old → IsFedLines v s (Fits s) first (text ++ x) new
+  fed_more old new text x none still same in_line kept fed =
+      let (read, fitting, stands) = standing old text fed none in
+      fed_standing new (text ++ x) fed.pieces (fed.rest ++ x) read (begun_more text fed.pieces fed.rest x fed.begun) fitting
+      (record {
+        version = ap (λ (c : Kept). c.version) same ∙ stands.version;
+        solid = ap (λ (c : Kept). c.solid) same ∙ stands.solid;
+        legal = still;
+        at = subst (λ (c : Kept). IsAt first c (reverse read)) (sym same) stands.at;
+        kept = (
+          kept ∙ ap (λ (z : SolidData). take (line_limit z) (old.kept ++ x)) fed.solid ∙ ap (λ (l : List ℕ). take (line_limit s) (l ++ x)) stands.kept.0 ∙ take_front (line_limit s) fed.rest x,
+          both_in_line fed.rest x stands.kept.1 in_line,
+        );
+      })
+
+  -- ---- a line more has ended
+
+  first_bad : (lines : Lines) (read : List CertLine) (bytes : List ℕ) (bad : Illegal) → AreFitting v s lines read → IsBadLine s (Fits s (stand_after v s read)) (first + length read) bytes bad → (more : Lines) → HasFirstBad v s (Fits s) first (lines ++ (bytes ∷ more)) bad
+  first_bad lines read bytes bad fitting h more = record { good = lines; read = read; fitting = fitting; rest = bytes ∷ more; cut = refl; next = h }
+
+  -- nothing of the line is kept, or its fault is
+  abbrev pub IsDone : FedKept → Answer → Type 0
+  IsDone new r = MatchResult r (λ _. (new.failed ≡ None) × (new.kept ≡ [])) (λ bad. new.failed ≡ Some bad)
+
+  next_fed : (old new : FedKept) (text front bytes : List ℕ) (r : Answer) (fed : IsFedLines v s (Fits s) first text old) → old.failed ≡ None → is_in_line front ≡ true → IsOfSame old.checker new.checker
+      → SameLine (line_limit s) bytes (ended (fed.rest ++ front)) → Judges Fits old.checker bytes new.checker r → IsDone new r → IsFedLines v s (Fits s) first (text ++ ended front) new
+  next_fed old new text front bytes (Ok u) fed none h same_as same judges done =
+      let (read, fitting, stands) = standing old text fed none in
+      let (l, is, fits, after) = taken old new read fed.rest bytes u stands same_as done.0 (done.1 ∙ sym (take_all (line_limit s) [] (omega arith)), refl) judges in
+      let line = fed.rest ++ front in
+      fed_standing new (text ++ ended front) (fed.pieces ++ line ∷ []) [] (read ++ l ∷ []) (ended_begun text front fed.pieces fed.rest fed.begun stands.kept.1 h)
+      (subst (λ (ls : Lines). AreFitting v s ls (read ++ l ∷ [])) (sym (map-append ended fed.pieces (line ∷ []))) (fitting_more v s (map ended fed.pieces) read (ended line) l fitting (same.line l is) fits)) after
+  next_fed old new text front bytes (Err bad) fed none h same_as same judges failed =
+      let (read, fitting, stands) = standing old text fed none in
+      let line = fed.rest ++ front in
+      let bad_line = same_bad s (Fits s (stand_after v s read)) (first + length read) bytes (ended line) bad same (refused old new.checker read fed.rest bytes bad stands judges) in
+      fed_failing new (text ++ ended front) (fed.pieces ++ line ∷ []) [] bad (same_as.0 ∙ fed.version) (same_as.1 ∙ fed.solid) failed (ended_begun text front fed.pieces fed.rest fed.begun stands.kept.1 h)
+      (λ more. subst (λ (ls : Lines). HasFirstBad v s (Fits s) first ls bad) (sym (ap (λ (ls : Lines). ls ++ more) (map-append ended fed.pieces (line ∷ [])) ∙ append_assoc (map ended fed.pieces) (ended line ∷ []) more))
+      (first_bad (map ended fed.pieces) read (ended line) bad fitting bad_line more))
+
+  -- a line that lies whole in the piece
+  pub whole_line : (old new : FedKept) (text front line : List ℕ) (r : Answer) → old.failed ≡ None → length old.kept ≤ 0 → is_in_line front ≡ true → line ≡ ended front
+      → IsOfSame old.checker new.checker → Judges Fits old.checker line new.checker r → IsDone new r → IsFedLines v s (Fits s) first text old → IsFedLines v s (Fits s) first (text ++ line) new
+  whole_line old new text front line r none empty h is same judges done fed =
+      let (read, fitting, stands) = standing old text fed none in
+      let rest = none_kept s old.kept fed.rest stands.kept.0 empty in
+      subst (λ (l : List ℕ). IsFedLines v s (Fits s) first (text ++ l) new) (sym is)
+      (next_fed old new text front line r fed none h same (same_whole (line_limit s) line (ended (fed.rest ++ front)) (is ∙ ap (λ (x : List ℕ). ended (x ++ front)) (sym rest))) judges done)
+
+  -- a line that began in a piece before, where these bytes are kept of it
+  -- the bytes that are kept of it
+  pub joined_is : (old mid : FedKept) (text front line bytes : List ℕ) (fed : IsFedLines v s (Fits s) first text old) → old.failed ≡ None → line ≡ ended front
+      → mid.kept ≡ take (line_limit old.checker.solid) (old.kept ++ take (length line - 1) line) → bytes ≡ ended mid.kept → bytes ≡ kept_line (line_limit s) (fed.rest ++ front)
+  joined_is old mid text front line bytes fed none is kept bytes-is =
+      let (read, fitting, stands) = standing old text fed none in
+      let limit = line_limit s in
+      bytes-is ∙ ap ended (kept ∙ ap (λ (x : List ℕ). take (line_limit old.checker.solid) (old.kept ++ x)) (front_of front line is)
+      ∙ ap (λ (z : SolidData). take (line_limit z) (old.kept ++ front)) fed.solid ∙ ap (λ (x : List ℕ). take limit (x ++ front)) stands.kept.0 ∙ take_front limit fed.rest front)
+
+  pub joined_line : (old mid new : FedKept) (text front line bytes : List ℕ) (r : Answer) → old.failed ≡ None → is_in_line front ≡ true → line ≡ ended front
+      → mid.kept ≡ take (line_limit old.checker.solid) (old.kept ++ take (length line - 1) line) → mid.checker ≡ old.checker → bytes ≡ ended mid.kept
+      → IsOfSame mid.checker new.checker → Judges Fits mid.checker bytes new.checker r → IsDone new r → IsFedLines v s (Fits s) first text old → IsFedLines v s (Fits s) first (text ++ line) new
+  joined_line old mid new text front line bytes r none h is kept same bytes-is same_as judges done fed =
+      let e = joined_is old mid text front line bytes fed none is kept bytes-is in
+      subst (λ (l : List ℕ). IsFedLines v s (Fits s) first (text ++ l) new) (sym is)
+      (next_fed old new text front bytes r fed none h (same_as.0 ∙ ap (λ (c : Kept). c.version) same, same_as.1 ∙ ap (λ (c : Kept). c.solid) same) (same_kept (line_limit s) bytes (fed.rest ++ front) e)
+      (subst (λ (c : Kept). Judges Fits c bytes new.checker r) same judges) done)
+
+  -- ---- the end
+
+  pub end_failed : (c : FedKept) (text : List ℕ) (bad : Illegal) → c.failed ≡ Some bad → IsFedLines v s (Fits s) first text c → HasFirstBad v s (Fits s) first (cut_lines text) bad
+  end_failed c text bad some h = subst (λ (ls : Lines). HasFirstBad v s (Fits s) first ls bad) (sym (cut_begun text h.pieces h.rest h.begun)) (failing c text bad h some (cut_lines h.rest))
+
+  -- a rest without LF is misspelt
+  pub end_rest : (c : FedKept) (text : List ℕ) (bad : Illegal) → c.failed ≡ None → 0 < length c.kept → bad ≡ Misspelt c.checker.number → IsFedLines v s (Fits s) first text c → HasFirstBad v s (Fits s) first (cut_lines text) bad
+  end_rest c text bad none some is h =
+      let (read, fitting, stands) = standing c text h none in
+      let long : 0 < length h.rest = omega (arith, some, ap length stands.kept.0, length-take (line_limit s) h.rest) in
+      let number : bad ≡ Misspelt (first + length read) = is ∙ ap Misspelt (stands.at.number ∙ ap (λ (n : ℕ). first + n) (length-reverse read)) in
+      subst (λ (ls : Lines). HasFirstBad v s (Fits s) first ls bad) (sym (cut_begun text h.pieces h.rest h.begun ∙ ap (λ (ls : Lines). map ended h.pieces ++ ls) (last_cut h.rest stands.kept.1 long)))
+      (first_bad (map ended h.pieces) read h.rest bad fitting (inl (misspelt_rest (line_limit s) h.rest stands.kept.1, number)) [])
+
+  pub end_stands : (c : FedKept) (read : List CertLine) (rest : List ℕ) (r : Answer) → Finishes c.checker r → StandsAfter v s first read rest c
+      → MatchResult r (λ _. (stand_after v s read).ended ≡ true) (λ bad. ((stand_after v s read).ended ≡ false) × (bad ≡ Missing (first + length read)))
+  end_stands c read rest (Ok u) finishes stands = of_these v s c.checker (λ w z. (stand_after w z read).ended ≡ true) stands.version stands.solid (finishes first (reverse read) stands.at)
+  end_stands c read rest (Err bad) finishes stands =
+      let f = finishes first (reverse read) stands.at in
+      (of_these v s c.checker (λ w z. (stand_after w z read).ended ≡ false) stands.version stands.solid f.0, f.1 ∙ ap (λ (n : ℕ). Missing (first + n)) (length-reverse read))
+
+  -- END was the last line, or it is missing
+  pub end_done : (c : FedKept) (text : List ℕ) (r : Answer) → c.failed ≡ None → length c.kept ≤ 0 → Finishes c.checker r → IsFedLines v s (Fits s) first text c → MatchResult r (λ _. IsLegal v s (cut_lines text)) (λ bad. HasFirstBad v s (Fits s) first (cut_lines text) bad)
+  end_done c text r none empty finishes h =
+      let (read, fitting, stands) = standing c text h none in
+      let cut : cut_lines text ≡ map ended h.pieces = cut_begun text h.pieces h.rest h.begun ∙ (ap (λ (x : List ℕ). map ended h.pieces ++ cut_lines x) (none_kept s c.kept h.rest stands.kept.0 empty) ∙ append-nil (map ended h.pieces)) in
+      by_answer r (map ended h.pieces) read cut fitting (end_stands c read h.rest r finishes stands)
+    where
+      by_answer : (r : Answer) (lines : Lines) (read : List CertLine) → cut_lines text ≡ lines → AreFitting v s lines read
+          → MatchResult r (λ _. (stand_after v s read).ended ≡ true) (λ bad. ((stand_after v s read).ended ≡ false) × (bad ≡ Missing (first + length read)))
+          → MatchResult r (λ _. IsLegal v s (cut_lines text)) (λ bad. HasFirstBad v s (Fits s) first (cut_lines text) bad)
+      by_answer (Ok u) lines read cut fitting e = subst (IsLegal v s) (sym cut) (legal_ended v s lines read fitting e)
+      by_answer (Err bad) lines read cut fitting e = record { good = lines; read = read; fitting = fitting; rest = []; cut = cut ∙ sym (append-nil lines); next = e }
 
 -- ---- the loop over the lines that have ended
 
-abbrev pub IsLeft : FedKept → List ℕ → FedKept → List ℕ → Type 0
-IsLeft old piece now left = (v : Version) (s : SolidData) (before : List CertLine) (text : List ℕ) → IsFed v s before old text → (gone : List ℕ) × (text ++ piece ≡ gone ++ left) × IsFed v s before now gone
+abbrev pub IsLeft : Fitness → FedKept → List ℕ → FedKept → List ℕ → Type 0
+IsLeft Fits old piece now left = (v : Version) (s : SolidData) (first : ℕ) (text : List ℕ) → IsFedLines v s (Fits s) first text old → (gone : List ℕ) × (text ++ piece ≡ gone ++ left) × IsFedLines v s (Fits s) first gone now
 
-pub left_all : (c : FedKept) (piece : List ℕ) → IsLeft c piece c piece
-left_all c piece = λ v s before text h. (text, refl, h)
+pub left_all : (Fits : Fitness) (c : FedKept) (piece : List ℕ) → IsLeft Fits c piece c piece
+left_all Fits c piece = λ v s first text h. (text, refl, h)
 
 -- a line is judged, which ends behind these bytes
-abbrev pub EndsLine : FedKept → List ℕ → FedKept → Type 0
-EndsLine old line new = (v : Version) (s : SolidData) (before : List CertLine) (text front : List ℕ) → IsTrue (is_in_line front) → line ≡ ended front → IsFed v s before old text → IsFed v s before new (text ++ line)
+abbrev pub EndsLine : Fitness → FedKept → List ℕ → FedKept → Type 0
+EndsLine Fits old line new = (v : Version) (s : SolidData) (first : ℕ) (text front : List ℕ) → IsTrue (is_in_line front) → line ≡ ended front → IsFedLines v s (Fits s) first text old → IsFedLines v s (Fits s) first (text ++ line) new
 
-pub left_next : (old : FedKept) (piece : List ℕ) (now new : FedKept) (left line after front : List ℕ) → is_in_line front ≡ true → line ≡ ended front → left ≡ front ++ 10 ∷ after → EndsLine now line new → IsLeft old piece now left → IsLeft old piece new after
-left_next old piece now new left line after front h is whole next k = λ v s before text fed.
-    let x = k v s before text fed in
+pub left_next : (Fits : Fitness) (old : FedKept) (piece : List ℕ) (now new : FedKept) (left line after front : List ℕ) → is_in_line front ≡ true → line ≡ ended front → left ≡ front ++ 10 ∷ after → EndsLine Fits now line new → IsLeft Fits old piece now left → IsLeft Fits old piece new after
+left_next Fits old piece now new left line after front h is whole next k = λ v s first text fed.
+    let x = k v s first text fed in
     let e : left ≡ line ++ after = whole ∙ sym (append_assoc front (10 ∷ []) after) ∙ ap (λ (l : List ℕ). l ++ after) (sym is) in
-    (x.0 ++ line, x.1 ∙ ap (λ (l : List ℕ). x.0 ++ l) e ∙ sym (append_assoc x.0 line after), next v s before x.0 front h is x.2)
+    (x.0 ++ line, x.1 ∙ ap (λ (l : List ℕ). x.0 ++ l) e ∙ sym (append_assoc x.0 line after), next v s first x.0 front h is x.2)
 
-pub left_bad : (old : FedKept) (piece : List ℕ) (new : FedKept) (after : List ℕ) (bad : Illegal) (v : Version) (s : SolidData) (before : List CertLine) (text : List ℕ) → new.failed ≡ Some bad → IsLeft old piece new after → IsFed v s before old text → IsFed v s before new (text ++ piece)
-left_bad old piece new after bad v s before text some k fed = let x = k v s before text fed in subst (IsFed v s before new) (sym x.1) (fed_behind v s before new x.0 after bad some x.2)
+pub left_bad : (Fits : Fitness) (old : FedKept) (piece : List ℕ) (new : FedKept) (after : List ℕ) (bad : Illegal) (v : Version) (s : SolidData) (first : ℕ) (text : List ℕ) → new.failed ≡ Some bad → IsLeft Fits old piece new after → IsFedLines v s (Fits s) first text old → IsFedLines v s (Fits s) first (text ++ piece) new
+left_bad Fits old piece new after bad v s first text some k fed = let x = k v s first text fed in subst (λ (t : List ℕ). IsFedLines v s (Fits s) first t new) (sym x.1) (fed_behind v s Fits first new x.0 after bad some x.2)
 
-pub left_kept : (old : FedKept) (piece : List ℕ) (now new : FedKept) (left : List ℕ) (v : Version) (s : SolidData) (before : List CertLine) (text : List ℕ) → now.failed ≡ None → new.failed ≡ None → new.checker ≡ now.checker → is_in_line left ≡ true
-    → new.kept ≡ take (line_limit now.checker.solid) (now.kept ++ left) → IsLeft old piece now left → IsFed v s before old text → IsFed v s before new (text ++ piece)
-left_kept old piece now new left v s before text none still same h kept k fed =
-    let x = k v s before text fed in subst (IsFed v s before new) (sym x.1) (fed_more v s before now new x.0 left none still same h kept x.2)
+pub left_kept : (Fits : Fitness) (old : FedKept) (piece : List ℕ) (now new : FedKept) (left : List ℕ) (v : Version) (s : SolidData) (first : ℕ) (text : List ℕ) → now.failed ≡ None → new.failed ≡ None → new.checker ≡ now.checker → is_in_line left ≡ true
+    → new.kept ≡ take (line_limit now.checker.solid) (now.kept ++ left) → IsLeft Fits old piece now left → IsFedLines v s (Fits s) first text old → IsFedLines v s (Fits s) first (text ++ piece) new
+left_kept Fits old piece now new left v s first text none still same h kept k fed =
+    let x = k v s first text fed in subst (λ (t : List ℕ). IsFedLines v s (Fits s) first t new) (sym x.1) (fed_more v s Fits first now new x.0 left none still same h kept x.2)
 
--- ---- of answers
+-- ---- a line of a part of a book
 
-pub judged_by : (old : Kept) (bytes : List ℕ) (new : Kept) (r : Result (Unit {0}) Illegal) → ((first : ℕ) (lines : List CertLine) → IsAt first old lines → MatchResult r
-    (λ _. (l : CertLine) × IsLine (line_limit old.solid) bytes l × FitsLine old.solid (stand_behind old.version old.solid lines) l × IsAt first new (l ∷ lines))
-    (λ bad. IsBadLine old.solid (FitsLine old.solid (stand_behind old.version old.solid lines)) (first + length lines) bytes bad × (new.failed ≡ Some bad))) → Judges old bytes new r
-judged_by old bytes new (Ok u) h = h 3
-judged_by old bytes new (Err bad) h = λ lines at. (h 3 lines at).0
+-- what a checker of whole lines says of its next line in a part
+abbrev pub JudgesPart : Kept → List ℕ → Kept → Result PartLine Illegal → Type 0
+JudgesPart old bytes new r = (first : ℕ) (lines : List CertLine) → IsAt first old lines → MatchResult r
+    (IsPartLine old new first lines bytes)
+    (λ bad. IsBadLine old.solid (FitsPart old.solid (stand_behind old.version old.solid lines)) (first + length lines) bytes bad)
 
-pub end_after : (v : Version) (s : SolidData) (before : List CertLine) (old mid : FedKept) (new : Kept) (text : List ℕ) (r : Result (Unit {0}) Illegal) → mid ≡ old → old.failed ≡ None → length old.kept ≤ 0
-    → Finishes mid.checker new r
-    → IsFed v s before old text → MatchResult r (λ _. IsLegalBehind v s before (cut_lines text)) (λ bad. IsFirstBadBehind v s (FitsLine s) 3 before (cut_lines text) bad)
-end_after v s before old mid new text r same none empty finish fed =
-    end_done v s before mid new text r (ap (λ (k : FedKept). k.failed) same ∙ none) (subst (λ (k : FedKept). length k.kept ≤ 0) (sym same) empty) finish (subst (λ (k : FedKept). IsFed v s before k text) (sym same) fed)
+-- nothing of the line is kept, or its fault is
+abbrev pub IsPartDone : FedKept → Result PartLine Illegal → Type 0
+IsPartDone new r = MatchResult r (λ _. (new.failed ≡ None) × (new.kept ≡ [])) (λ bad. new.failed ≡ Some bad)
+
+-- a line that begins the next part
+next_part_ends : (v : Version) (s : SolidData) (first : ℕ) (old new : FedKept) (text front bytes : List ℕ) (n : EntryNo) (number : ℕ) (fed : IsFedPart v s first text old) → old.failed ≡ None → is_in_line front ≡ true
+    → SameLine (line_limit s) bytes (ended (fed.rest ++ front)) → JudgesPart old.checker bytes new.checker (Ok (Next n number)) → new.failed ≡ None → new.kept ≡ [] → EndsPart v s first (text ++ ended front) n.0 number new
+next_part_ends v s first old new text front bytes n number fed none h same judges still kept =
+    let (read, fitting, stands) = standing v s FitsPart first old text fed none in
+    let j = judges first (reverse read) stands.at in
+    let line = fed.rest ++ front in
+    let begun = ended_begun text front fed.pieces fed.rest fed.begun stands.kept.1 h in
+    record {
+      good = map ended fed.pieces;
+      read = read;
+      fitting = fitting;
+      bytes = ended line;
+      cut = cut_begun (text ++ ended front) (fed.pieces ++ line ∷ []) [] begun ∙ (append-nil (map ended (fed.pieces ++ line ∷ [])) ∙ map-append ended fed.pieces (line ∷ []));
+      names = same.line (solid_line n.0) (subst (λ (z : SolidData). IsLine (line_limit z) bytes (solid_line n.0)) stands.solid j.0);
+      begins = of_these v s old.checker (λ w z. BeginsNext z (stand_after w z read) n.0) stands.version stands.solid j.1;
+      number = j.2 ∙ ap (λ (k : ℕ). first + k + 1) (length-reverse read);
+      stands = record {
+        version = ap (λ (c : Kept). c.version) j.3 ∙ stands.version;
+        solid = ap (λ (c : Kept). c.solid) j.3 ∙ stands.solid;
+        legal = still;
+        at = subst (λ (c : Kept). IsAt first c (reverse read)) (sym j.3) stands.at;
+        kept = (kept ∙ sym (take_all (line_limit s) [] (omega arith)), refl);
+      };
+    }
+
+part_fed : (v : Version) (s : SolidData) (first : ℕ) (old new : FedKept) (text front bytes : List ℕ) (r : Result PartLine Illegal) (fed : IsFedPart v s first text old) → old.failed ≡ None → is_in_line front ≡ true → IsOfSame old.checker new.checker
+    → SameLine (line_limit s) bytes (ended (fed.rest ++ front)) → JudgesPart old.checker bytes new.checker r → IsPartDone new r
+    → MatchResult r (IsEndedBy v s first (text ++ ended front) new) (λ _. IsFedPart v s first (text ++ ended front) new)
+part_fed v s first old new text front bytes (Ok More) fed none h same_as same judges done = next_fed v s FitsPart first old new text front bytes (Ok tt) fed none h same_as same (λ number lines at. judges number lines at) done
+part_fed v s first old new text front bytes (Ok (Next n number)) fed none h same_as same judges done = next_part_ends v s first old new text front bytes n number fed none h same judges done.0 done.1
+part_fed v s first old new text front bytes (Err bad) fed none h same_as same judges failed = next_fed v s FitsPart first old new text front bytes (Err bad) fed none h same_as same (λ number lines at. judges number lines at) failed
+
+-- a line that ends with these bytes, of which these are kept with the LF
+pub part_line : (v : Version) (s : SolidData) (first : ℕ) (old mid new : FedKept) (text front line bytes : List ℕ) (r : Result PartLine Illegal) → old.failed ≡ None → is_in_line front ≡ true → line ≡ ended front
+    → mid.kept ≡ take (line_limit old.checker.solid) (old.kept ++ take (length line - 1) line) → mid.checker ≡ old.checker → bytes ≡ ended mid.kept
+    → IsOfSame mid.checker new.checker → JudgesPart mid.checker bytes new.checker r → IsPartDone new r → IsFedPart v s first text old
+    → MatchResult r (IsEndedBy v s first (text ++ line) new) (λ _. IsFedPart v s first (text ++ line) new)
+part_line v s first old mid new text front line bytes r none h is kept same bytes-is same_as judges done fed =
+    let e = joined_is v s FitsPart first old mid text front line bytes fed none is kept bytes-is in
+    subst (λ (l : List ℕ). MatchResult r (IsEndedBy v s first (text ++ l) new) (λ _. IsFedPart v s first (text ++ l) new)) (sym is)
+    (part_fed v s first old new text front bytes r fed none h (same_as.0 ∙ ap (λ (c : Kept). c.version) same, same_as.1 ∙ ap (λ (c : Kept). c.solid) same) (same_kept (line_limit s) bytes (fed.rest ++ front) e)
+    (subst (λ (c : Kept). JudgesPart c bytes new.checker r) same judges) done)
+
+-- a line of a part is judged, which ends behind these bytes
+abbrev pub EndsPartLine : FedKept → List ℕ → FedKept → PartLine → Type 0
+EndsPartLine old line new told = (v : Version) (s : SolidData) (first : ℕ) (text front : List ℕ) → IsTrue (is_in_line front) → line ≡ ended front → IsFedPart v s first text old → IsEndedBy v s first (text ++ line) new told
+
+pub after_shorter : (left front after : List ℕ) → left ≡ front ++ 10 ∷ after → length after ≤ length left
+after_shorter left front after whole = omega (arith, ap length whole, length-append front (10 ∷ after))
+
+-- the bytes up to the end of the line that begins the next part
+pub left_next_part : (old : FedKept) (piece : List ℕ) (now new : FedKept) (left line after front : List ℕ) (n : EntryNo) (number used : ℕ) (v : Version) (s : SolidData) (first : ℕ) (text : List ℕ) → is_in_line front ≡ true → line ≡ ended front
+    → left ≡ front ++ 10 ∷ after → used + length after ≡ length piece → EndsPartLine now line new (Next n number) → IsLeft FitsPart old piece now left → IsFedPart v s first text old → EndsPart v s first (text ++ take used piece) n.0 number new
+left_next_part old piece now new left line after front n number used v s first text h is whole used-is next k fed =
+    let x = k v s first text fed in
+    let e : left ≡ line ++ after = whole ∙ sym (append_assoc front (10 ∷ []) after) ∙ ap (λ (l : List ℕ). l ++ after) (sym is) in
+    let all : text ++ piece ≡ (x.0 ++ line) ++ after = x.1 ∙ ap (λ (l : List ℕ). x.0 ++ l) e ∙ sym (append_assoc x.0 line after) in
+    let many : length text + used ≡ length (x.0 ++ line) = omega (arith, ap length all, used-is, length-append text piece, length-append (x.0 ++ line) after) in
+    let front_is : text ++ take used piece ≡ x.0 ++ line = sym (take-append-add text piece used) ∙ (ap (λ (l : List ℕ). take (length text + used) l) all ∙ take_at (x.0 ++ line) after (length text + used) (sym many)) in
+    subst (λ (t : List ℕ). EndsPart v s first t n.0 number new) (sym front_is) (next v s first x.0 front h is x.2)

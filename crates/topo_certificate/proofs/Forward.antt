@@ -48,6 +48,26 @@ read_fitting version s lines read h = record { spelled = h.spelled; fit = λ i l
 fitting_read : (version : Version) (s : SolidData) (lines : List (List ℕ)) (read : List CertLine) → AreFitting version s lines read → AreRead version s [] lines read
 fitting_read version s lines read h = record { spelled = h.spelled; fit = λ i line at. subst (λ ls. FitsLine s (stand_behind version s ls) line) (sym (append-nil (reverse (take i read)))) (h.fit i line at) }
 
+-- one line more is read
+read_on : (version : Version) (s : SolidData) (before : List CertLine) (lines : List (List ℕ)) (read : List CertLine) (bytes : List ℕ) (line : CertLine) → AreRead version s before lines read
+    → IsLine (line_limit s) bytes line → FitsLine s (stand_behind version s (reverse read ++ before)) line → AreRead version s before (lines ++ bytes ∷ []) (read ++ line ∷ [])
+read_on version s before [] [] bytes line are is fits = read_more version s before bytes [] line [] is fits (none_read version s (line ∷ before))
+read_on version s before [] (l ∷ read) bytes line are is fits = absurd are.spelled
+read_on version s before (b ∷ lines) [] bytes line are is fits = absurd are.spelled
+read_on version s before (b ∷ lines) (l ∷ read) bytes line are is fits =
+    let one = read_first version s before b lines l read are in
+    read_more version s before b (lines ++ bytes ∷ []) l (read ++ line ∷ []) one.0 one.1
+    (read_on version s (l ∷ before) lines read bytes line one.2 is (subst (λ ls. FitsLine s (stand_behind version s ls) line) (sym (behind_more l read before)) fits))
+
+pub fitting_none : (version : Version) (s : SolidData) → AreFitting version s [] []
+fitting_none version s = read_fitting version s [] [] (none_read version s [])
+
+pub fitting_more : (version : Version) (s : SolidData) (lines : List (List ℕ)) (read : List CertLine) (bytes : List ℕ) (line : CertLine) → AreFitting version s lines read
+    → IsLine (line_limit s) bytes line → FitsLine s (stand_after version s read) line → AreFitting version s (lines ++ bytes ∷ []) (read ++ line ∷ [])
+fitting_more version s lines read bytes line fitting is fits =
+    read_fitting version s (lines ++ bytes ∷ []) (read ++ line ∷ [])
+    (read_on version s [] lines read bytes line (fitting_read version s lines read fitting) is (subst (λ ls. FitsLine s (stand_behind version s ls) line) (sym (append-nil (reverse read))) fits))
+
 -- all lines of a legal certificate
 record AllRead (version : Version) (s : SolidData) (before : List CertLine) (lines : List (List ℕ)) : Type 0 where
   pub read : List CertLine
@@ -110,6 +130,11 @@ legal_from_read version s before (bytes ∷ lines) [] are ended = absurd are.spe
 legal_from_read version s before (bytes ∷ lines) (l ∷ read) are ended =
     let first = read_first version s before bytes lines l read are in
     (l, first.0, first.1, legal_from_read version s (l ∷ before) lines read first.2 (subst (λ ls. (stand_behind version s ls).ended ≡ true) (sym (behind_more l read before)) ended))
+
+-- lines that fit are legal where END has come
+pub legal_ended : (version : Version) (s : SolidData) (lines : List (List ℕ)) (read : List CertLine) → AreFitting version s lines read → (stand_after version s read).ended ≡ true → IsLegal version s lines
+legal_ended version s lines read fitting ended =
+    legal_forward version s lines (legal_from_read version s [] lines read (fitting_read version s lines read fitting) (subst (λ ls. (stand_behind version s ls).ended ≡ true) (sym (append-nil (reverse read))) ended))
 
 end_ends : (version : Version) (s : SolidData) (ls : List CertLine) → (stand_behind version s (end ∷ ls)).ended ≡ true
 unfolding stand_behind

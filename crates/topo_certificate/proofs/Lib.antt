@@ -16,8 +16,8 @@ pub mod Arrays
 pub mod CornerFits
 pub mod Telling
 pub mod Checking
-pub mod CheckedLines
 pub mod Upgrades
 pub mod UpgradedText
 pub mod FedLines
 pub mod OpeningLines
+pub mod Decided

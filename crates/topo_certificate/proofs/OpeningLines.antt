@@ -1,13 +1,12 @@
 -- The lines of an opening that comes in pieces.
-use Rattle.std.specs.Prelude.{◌≡◌, ℕ, ◌+◌, ◌-◌, ◌<◌, ◌≤◌, ◌⊎◌, ◌==◌, if◌then◌else◌, Bool, true, false, List, [], ◌∷◌, ◌++◌, length, map, take, drop, IsTrue}
+use Rattle.std.specs.Prelude.{◌≡◌, ℕ, ◌+◌, ◌-◌, ◌<◌, ◌≤◌, ◌==◌, if◌then◌else◌, Bool, true, false, List, [], ◌∷◌, ◌++◌, length, take, drop}
 use Rattle.std.proofs.Common.{refl, sym, ◌∙◌, ap, subst, arith, inl, inr, ⊎_elim, append_assoc}
 use Rattle.std.proofs.lemmas.Bool.{and_from, eqb-true, eqb-false}
-use Rattle.std.proofs.lemmas.List.{append-nil, take_all, take_at, take-append-drop, take-take, drop-take, length-take, length-drop, length-append}
-use Rattle.iges_fields.specs.Ended.{ended, IsBegun}
+use Rattle.std.proofs.lemmas.List.{append-nil, take_all, take_at, take-append-drop, take-take, drop-take, length-take, length-drop}
+use Rattle.iges_fields.specs.Ended.{ended}
 use Rattle.iges_fields.specs.InLine.{is_in_line}
-use Rattle.iges_fields.proofs.Ended.{begun_none, begun_more, begun_end}
 use Rattle.iges_fields.proofs.InLines.{both_in_line}
-use Rattle.cert_lines.specs.Line.{CertLine, head, solid, cut_lines, IsLine, first_limit}
+use Rattle.cert_lines.specs.Line.{CertLine, head, solid, cut_lines, first_limit}
 use Rattle.cert_lines.specs.Cutting.{EndsFirst}
 use Rattle.cert_lines.specs.Misfits.{IsMisfit, illegal_at}
 use Rattle.cert_lines.specs.Opening.{Opens, IsHead, IsSolid, IsOther, IsWrong, IsFirstWrong, IsBadOpening}

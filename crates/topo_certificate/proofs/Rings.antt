@@ -5,7 +5,8 @@ use Rattle.edge_uses.specs.ShellRows.{ShellRows}
 use Rattle.topo_certificate.specs.Stand.{TurnsTo}
 use Rattle.cert_lines.specs.Numbers.{Begins, AreNumbers}
 use Rattle.topo_certificate.specs.Ring.{IsRing}
-use Rattle.cert_lines.proofs.Digits.{begins_tail}
+use Rattle.cert_lines.specs.Line.{spaced}
+use Rattle.cert_lines.proofs.Digits.{begins_tail, numbers_begin}
 
 -- The numbers that are left make the ring whole exactly where all make it.
 pub record Walked (d : ShellRows) (pairs : List (ℕ × ℕ)) (first last : ℕ) (rest : List ℕ) (all : List ℕ) (count : ℕ) : Type 0 where
@@ -44,17 +45,17 @@ walked_stop d pairs first last next rest after all count b never w r =
     never k.1.0 k.0.0
 
 -- no number is left
-none_left : (rest left : List ℕ) → ((n : ℕ) (ns : List ℕ) → ¬ AreNumbers rest (n ∷ ns)) → AreNumbers rest left → left ≡ []
+pub none_left : (rest left : List ℕ) → ((n : ℕ) (after : List ℕ) → ¬ Begins rest n after) → AreNumbers rest left → left ≡ []
 none_left rest [] never h = refl
-none_left rest (m ∷ ms) never h = absurd (never m ms h)
+none_left rest (m ∷ ms) never h = absurd (never m (spaced ms) (numbers_begin rest ms m h))
 
-pub walked_whole : (d : ShellRows) (pairs : List (ℕ × ℕ)) (first last : ℕ) (rest all : List ℕ) (count : ℕ) → ((n : ℕ) (ns : List ℕ) → ¬ AreNumbers rest (n ∷ ns)) → TurnsTo d pairs last first
+pub walked_whole : (d : ShellRows) (pairs : List (ℕ × ℕ)) (first last : ℕ) (rest all : List ℕ) (count : ℕ) → ((n : ℕ) (after : List ℕ) → ¬ Begins rest n after) → TurnsTo d pairs last first
     → Walked d pairs first last rest all count → IsRing d pairs first first all × (count ≡ length (first ∷ all))
 walked_whole d pairs first last rest all count never turns w =
     let e = none_left rest w.left never w.numbers in
     (w.on (subst (IsRing d pairs first last) (sym e) ((turns, tt), tt)), omega (arith, w.whole, ap (λ xs. length xs) e))
 
-pub walked_broken : (d : ShellRows) (pairs : List (ℕ × ℕ)) (first last : ℕ) (rest all : List ℕ) (count : ℕ) → ((n : ℕ) (ns : List ℕ) → ¬ AreNumbers rest (n ∷ ns)) → (TurnsTo d pairs last first → ⊥)
+pub walked_broken : (d : ShellRows) (pairs : List (ℕ × ℕ)) (first last : ℕ) (rest all : List ℕ) (count : ℕ) → ((n : ℕ) (after : List ℕ) → ¬ Begins rest n after) → (TurnsTo d pairs last first → ⊥)
     → Walked d pairs first last rest all count → IsRing d pairs first first all → ⊥
 walked_broken d pairs first last rest all count never broken w r =
     let e = none_left rest w.left never w.numbers in

@@ -6,10 +6,10 @@ use Rattle.solid_data.proofs.Members.{get_some}
 use Rattle.std.proofs.Common.{refl, sym, ◌∙◌, ap, subst, arith}
 use Rattle.solid_data.specs.SolidData.{SolidData}
 use Rattle.solid_data.specs.declared.solid.Shell.{Shell}
-use Rattle.edge_uses.specs.ShellRows.{ShellRows, shell_rows, rows_of}
+use Rattle.edge_uses.specs.ShellRows.{ShellRows, rows_of}
 use Rattle.cert_lines.specs.Line.{CertLine, ShellCounts, Tally, head, solid, shell, edge, corner, point, reach, tally, end, spelling, IsLine, line_limit}
 use Rattle.cert_lines.specs.declared.version.Version.TheVariants.{One, Two}
-use Rattle.topo_certificate.specs.Stand.{Stand, first_of, edge_of, vertex_of, face_of, mates_of, IsAbove, IsMate, TurnsTo, CornerDue, ReachDue, stand_behind, is_shell, is_last, is_tally, is_edge, is_corner_or_point, is_reach, number_of, since_shell, asked, left_due, loops_of, rows_of_shell, loops_of_shell, FitsLine, FitsOpen, FitsTally, FitsShell, FitsEdge, FitsCorner, FitsPoint, FitsReach, NoneDue}
+use Rattle.topo_certificate.specs.Stand.{Stand, first_of, edge_of, vertex_of, face_of, mates_of, IsAbove, IsMate, TurnsTo, CornerDue, ReachDue, stand_behind, is_shell, is_last, is_tally, is_edge, is_corner_or_point, is_reach, number_of, since_shell, asked, loops_of, rows_of_shell, FitsLine, FitsTally, FitsShell, FitsEdge, FitsCorner, FitsPoint, FitsReach, NoneDue}
 use Rattle.topo_certificate.specs.Legal.{IsLegal}
 use Rattle.topo_certificate.specs.Behind.{IsLegalBehind}
 use Rattle.topo_certificate.specs.Upgraded.{tally_of_shell, tally_lines_of, tally_before, with_tallies}

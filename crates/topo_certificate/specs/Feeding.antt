@@ -1,49 +1,52 @@
--- A checker that is fed piece after piece, and the text that it was fed.
-use Rattle.std.specs.Prelude.{◌≡◌, ℕ, ◌+◌, ◌⊎◌, List, [], ◌∷◌, map, length, take, Option, None, IsTrue, MatchOption}
+-- A checker that is given lines, and the text that it was fed.
+use Rattle.std.specs.Prelude.{◌≡◌, ℕ, List, ◌++◌, map, take, reverse, Option, None, IsTrue, MatchOption}
 use Rattle.iges_fields.specs.Ended.{ended, IsBegun}
 use Rattle.iges_fields.specs.InLine.{is_in_line}
 use Rattle.solid_data.specs.SolidData.{SolidData}
-use Rattle.cert_lines.specs.Line.{CertLine, IsLine, line_limit}
+use Rattle.cert_lines.specs.Line.{CertLine, line_limit}
 use Rattle.cert_lines.specs.declared.version.Version.{Version}
 use Rattle.cert_lines.specs.declared.fault.Illegal.{Illegal}
-use Rattle.topo_certificate.specs.Stand.{stand_behind, FitsLine}
-use Rattle.topo_certificate.specs.Legal.{IsBadLine}
+use Rattle.topo_certificate.specs.Stand.{Stand, FitsLine}
+use Rattle.topo_certificate.specs.Legal.{AreFitting, HasFirstBad, FitsPart}
 use Rattle.topo_certificate.specs.Told.{Kept, IsAt}
 
--- what it keeps: the checker of whole lines, the bytes of an unfinished line, and the fault that was found
+-- what it keeps: what it tells of whole lines, the bytes of an unfinished line, and the fault that was found
 pub record FedKept : Type 0 where
   pub checker : Kept
   pub kept : List ℕ
   pub failed : Option Illegal
 
--- Behind the lines before, the latest first, each of these is spelled and fits, and then the lines are now these.
-abbrev pub AreFitting : Version → SolidData → List CertLine → List (List ℕ) → List CertLine → Type 0
-AreFitting v s before [] now = now ≡ before
-AreFitting v s before (bytes ∷ rest) now = (line : CertLine) × IsLine (line_limit s) bytes line × FitsLine s (stand_behind v s before) line × AreFitting v s (line ∷ before) rest now
-
--- the first of these lines that is misspelt or unfit, where the lines before are numbered from 3 on
-abbrev pub IsBadAmong : Version → SolidData → List CertLine → List (List ℕ) → Illegal → Type 0
-IsBadAmong v s before [] bad = ⊥
-IsBadAmong v s before (bytes ∷ rest) bad =
-    IsBadLine s (FitsLine s (stand_behind v s before)) (3 + length before) bytes bad
-    ⊎ ((line : CertLine) × IsLine (line_limit s) bytes line × FitsLine s (stand_behind v s before) line × IsBadAmong v s (line ∷ before) rest bad)
-
 -- the bytes that are kept stand for this rest of a line
 abbrev pub IsKeptOf : SolidData → List ℕ → List ℕ → Type 0
 IsKeptOf s kept rest = (kept ≡ take (line_limit s) rest) × IsTrue (is_in_line rest)
 
--- The checker stands behind lines that all fit, and behind them a rest of a line, of which it keeps the first bytes.
-pub record IsFitting (v : Version) (s : SolidData) (before : List CertLine) (c : FedKept) (pieces : List (List ℕ)) (rest : List ℕ) : Type 0 where
-  pub now : List CertLine
-  pub fitting : AreFitting v s before (map ended pieces) now
-  pub at : IsAt 3 c.checker now
+-- The checker, of this version and solid, has found no fault. It stands after these lines, in the order of the certificate and numbered from this number on, and of this rest of a line it keeps the first bytes.
+pub record StandsAfter (v : Version) (s : SolidData) (first : ℕ) (read : List CertLine) (rest : List ℕ) (c : FedKept) : Type 0 where
+  pub version : c.checker.version ≡ v
+  pub solid : c.checker.solid ≡ s
+  pub legal : c.failed ≡ None
+  pub at : IsAt first c.checker (reverse read)
   pub kept : IsKeptOf s c.kept rest
 
--- Behind the lines before, the checker was fed this text: its lines that have ended all fit, or it has found the first bad one.
-pub record IsFed (v : Version) (s : SolidData) (before : List CertLine) (c : FedKept) (text : List ℕ) : Type 0 where
+-- Of lines of which these may come, the lines fit and the checker stands after them, or it has found the first bad one among them: it is the first whatever lines follow.
+abbrev pub HasJudged : Version → SolidData → (Stand → CertLine → Type 0) → ℕ → List (List ℕ) → List ℕ → FedKept → Type 0
+HasJudged v s Fits first lines rest c = MatchOption c.failed
+    ((read : List CertLine) × AreFitting v s lines read × StandsAfter v s first read rest c)
+    (λ bad. (more : List (List ℕ)) → HasFirstBad v s Fits first (lines ++ more) bad)
+
+-- The checker was fed this text, whose lines are numbered from this number on, and has judged those that have ended.
+pub record IsFedLines (v : Version) (s : SolidData) (Fits : Stand → CertLine → Type 0) (first : ℕ) (text : List ℕ) (c : FedKept) : Type 0 where
   pub version : c.checker.version ≡ v
   pub solid : c.checker.solid ≡ s
   pub pieces : List (List ℕ)
   pub rest : List ℕ
   pub begun : IsBegun text pieces rest
-  pub judged : MatchOption c.failed (IsFitting v s before c pieces rest) (IsBadAmong v s before (map ended pieces))
+  pub judged : HasJudged v s Fits first (map ended pieces) rest c
+
+-- the text is of a certificate's lines
+abbrev pub IsFed : Version → SolidData → ℕ → List ℕ → FedKept → Type 0
+IsFed v s first text c = IsFedLines v s (FitsLine s) first text c
+
+-- The text is of the lines of a part of a book, where the line that begins the next part is not bad.
+abbrev pub IsFedPart : Version → SolidData → ℕ → List ℕ → FedKept → Type 0
+IsFedPart v s first text c = IsFedLines v s (FitsPart s) first text c

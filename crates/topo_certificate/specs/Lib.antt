@@ -18,4 +18,5 @@ pub use Rattle.cert_lines.specs.Said
 pub use Rattle.cert_lines.specs.Misfits
 pub use Rattle.cert_lines.specs.Written
 pub mod Feeding
+pub mod PartEnds
 pub mod OpeningFed

@@ -4,8 +4,8 @@ use Rattle.cert_lines.specs.Line.{CertLine, solid, IsLine, line_limit}
 use Rattle.topo_certificate.specs.Stand.{stand_behind, FitsLine}
 use Rattle.topo_certificate.specs.Legal.{BeginsNext}
 use Rattle.topo_certificate.specs.Told.{Kept, IsAt}
-use Rattle.topo_certificate.specs.declared.checker.PartLine.{PartLine}
-use Rattle.topo_certificate.specs.declared.checker.PartLine.TheVariants.{More, Next}
+use Rattle.topo_certificate.specs.declared.line_checker.PartLine.{PartLine}
+use Rattle.topo_certificate.specs.declared.line_checker.PartLine.TheVariants.{More, Next}
 
 -- Behind these lines, numbered from this number on, the bytes are a line that fits, or one that begins the next part.
 abbrev pub IsPartLine : Kept → Kept → ℕ → List CertLine → List ℕ → PartLine → Type 0

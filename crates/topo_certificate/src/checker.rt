@@ -1,136 +1,63 @@
-//! The checker of a certificate's lines.
+//! The checker of a certificate's lines, which are given whole or in pieces.
 
-use crate::shell_state::ShellState;
-use crate::uses::{limit_of, loop_count};
-use cert_lines::{Illegal, Judged, ShellWords, Version, Words, judge};
-use edge_uses::rows;
+ghost use Rattle.std.specs.Prelude.{◌≡◌, ◌+◌, ◌≤◌, ◌<◌, ◌^◌, [], ◌∷◌, ◌++◌, List, ℕ, None, Some, Err, true, false, take, length, IfOk, IfSome, IsTrue, MatchResult, vec_len};
+ghost use Rattle.cert_lines.specs.Line.{CertLine, IsLine, cut_lines, line_limit};
+ghost use Rattle.iges_fields.specs.Ended.{ended};
+ghost use Rattle.iges_fields.specs.InLine.{is_in_line};
+ghost use Rattle.solid_data.specs.SolidData.{SolidData};
+ghost use Rattle.topo_certificate.specs.Feeding.{StandsAfter, IsFed, IsFedPart};
+ghost use Rattle.topo_certificate.specs.PartEnds.{IsEndedBy, IsPartStep};
+ghost use Rattle.cert_lines.specs.declared.version.Version.{Version};
+ghost use Rattle.cert_lines.specs.declared.version.Version.TheVariants.{Two};
+ghost use Rattle.cert_lines.specs.declared.fault.Illegal.TheVariants.{Missing};
+ghost use Rattle.topo_certificate.specs.Stand.{stand_after, FitsLine};
+ghost use Rattle.topo_certificate.specs.Legal.{IsLegal, IsFirstBad, IsPartBad, IsBadLine};
+ghost use Rattle.topo_certificate.specs.Told.{IsOfSame};
+
+use crate::line_checker::{LineChecker, PartLine};
+use crate::uses::limit_of;
+use cert_lines::{Illegal, Version, first_ended};
 use iges_fields::{EntryNo, NoMemory};
-use solid_data::{ShellAt, Solid};
+use solid_data::Solid;
 use std::alloc::Global;
 use std::marker::Model;
 
-/// What a line of a part of a book is (own).
+/// What a checker says of a piece of a part of a book (own).
 #[derive(Clone, Copy, Debug, PartialEq, Eq)]
-pub enum PartLine {
-    /// It is a line of the part.
+pub enum PartStep {
+    /// The whole piece was taken, and the part goes on.
     More,
-    /// It names the solid of the next part, whose first line has this number.
-    Next { no: EntryNo, line: u64 },
+    /// A line ended the part: the solid that it names, the number of the line behind it, and how many bytes of the piece
+    /// were taken, those up to its LF.
+    Next { no: EntryNo, line: u64, used: usize },
 }
 
-/// Judges the lines of a certificate behind its first two, one after the other, against a solid (own). Each line costs
-/// time in proportion to its bytes, and none takes memory: beside the rows of the shells a checker keeps eight bytes a
-/// row, and a byte for each face and for each loop without an edge. Once a line was Illegal, each call answers the same.
+/// Judges the lines of a certificate behind its first two, or those of a part of a book, one after the other, against a
+/// solid (own). They come whole by `line`, or in pieces that are cut anywhere: by `feed`, and for a part of a book by
+/// `feed_part`. Each line costs time in proportion to its bytes, and no call takes memory after `new` or `part`: beside
+/// the rows of the shells a checker keeps eight bytes a row, a byte for each face and for each loop without an edge, and
+/// of an unfinished line as many bytes as a line may have. Once a line was Illegal, each call answers the same.
 #[derive(Drop)]
 pub struct Checker<'a> {
-    version: Version,
-    solid: &'a Solid,
+    checker: LineChecker<'a>,
     limit: usize,
+    kept: Vec<u8>,
     failed: Option<Illegal>,
-    number: u64,
-    ended: bool,
-    shell: u32,
-    current: Option<ShellState>,
-    waiting: Vec<ShellState>,
 }
 
 impl<'a> Model for Checker<'a> {
-    ghost use Rattle.topo_certificate.specs.Told.{Kept};
+    ghost use Rattle.cert_lines.specs.Line.{line_limit};
+    ghost use Rattle.std.specs.Prelude.{◌≡◌, ◌+◌, ◌≤◌, vec_len, vec_capacity};
+    ghost use Rattle.topo_certificate.specs.Feeding.{FedKept};
 
-    ghost Value = { Kept };
+    ghost Value = { FedKept };
 
-    ghost view = { λ c. record { version = c.version; solid = c.solid.now; failed = c.failed; number = c.number; ended = c.ended; shell = c.shell; current = c.current; waiting = c.waiting.items } };
+    ghost view = { λ c. record { checker = c.checker; kept = c.kept.items; failed = c.failed } };
 
-    ghost use Rattle.topo_certificate.specs.Room.{HasRoom};
-
-    ghost invariant = { λ c. HasRoom c.limit (record { version = c.version; solid = c.solid.now; failed = c.failed; number = c.number; ended = c.ended; shell = c.shell; current = c.current; waiting = c.waiting.items }) };
-}
-
-ghost use Rattle.std.specs.Prelude.{◌≡◌, ℕ, ◌+◌, ◌<◌, ◌^◌, ◌-◌, length, IfOk, MatchOption};
-ghost use Rattle.std.specs.Prelude.{◌≢◌};
-ghost use Rattle.cert_lines.specs.Line.{CertLine, IsLine, solid as solid_named};
-ghost use Rattle.cert_lines.specs.Said.{Means};
-ghost use Rattle.topo_certificate.specs.Stand.{rows_of_shell, loops_of_shell};
-ghost use Rattle.topo_certificate.specs.Kept.{IsFresh};
-ghost use Rattle.topo_certificate.specs.Told.{AreWaiting};
-
-fn solid_in(words: Words<'_>) -> Option<u32>
-    ensures { MatchOption result ((line : CertLine) (n : ℕ) → Means words.entry line → line ≢ solid_named n) (λ n. (line : CertLine) → Means words.entry line → line ≡ solid_named n) }
-{
-    match words {
-        Words::Solid(number) => Some(number),
-        Words::Head(_)
-        | Words::Shell(_)
-        | Words::Edge(..)
-        | Words::Corner(_)
-        | Words::Point(..)
-        | Words::Reach(_)
-        | Words::Tally(_)
-        | Words::End => None,
-    }
-}
-
-/// The solid that a line names which may have so many bytes.
-fn named_solid(line: &[u8], limit: usize) -> Option<u32>
-    ensures { MatchOption result ((n : ℕ) → ¬ IsLine limit line.now (solid_named n)) (λ n. IsLine limit line.now (solid_named n)) }
-{
-    match judge(line, limit) {
-        Judged::Spelled(words) => solid_in(words),
-        Judged::Misspelt | Judged::Long => None,
-    }
-}
-
-/// How many loops the shell with this number, from 0, has.
-fn loops_at(solid: &Solid, shell: u32) -> u64
-    requires { shell < length solid.now.shells }
-    ensures { result ≡ loops_of_shell solid.now (shell + 1) }
-{
-    let _entity = solid.entity();
-    loop_count(solid.shell(ShellAt(shell)).unwrap())
-}
-
-/// The shell with this number, from 0, of which no line was read.
-fn state_of(
-    alloc: Global,
-    version: Version,
-    solid: &Solid,
-    shell: u32,
-) -> Result<ShellState, NoMemory>
-    requires { shell < length solid.now.shells }
-    ensures { IfOk result (λ k. IsFresh version (rows_of_shell solid.now (shell + 1)) (loops_of_shell solid.now (shell + 1)) k) }
-{
-    let _entity = solid.entity();
-    let rows = rows(alloc, solid, ShellAt(shell))?;
-    let loops = loops_at(solid, shell);
-    ShellState::of(alloc, version, rows, loops)
-}
-
-/// The shells of a solid, the last one first.
-fn states_of(alloc: Global, version: Version, solid: &Solid) -> Result<Vec<ShellState>, NoMemory>
-    ensures { IfOk result (λ waiting. AreWaiting version solid.now 0 waiting.items) }
-{
-    let count = solid.shell_count();
-    let mut waiting = Vec::with_capacity(alloc, count)?;
-    'shells: for k in 0..count {
-        waiting.push(state_of(alloc, version, solid, (count - 1 - k) as u32)?)?;
-    }
-    Ok(waiting)
+    ghost invariant = { λ c. (c.limit ≡ line_limit c.checker.solid) × (vec_len c.kept ≤ c.limit) × (c.limit + 1 ≤ vec_capacity c.kept) };
 }
 
 impl<'a> Checker<'a> {
-    ghost use Rattle.std.specs.Prelude.{◌≡◌, ◌↔◌, ◌+◌, ℕ, ◌<◌, ◌≤◌, ◌^◌, List, [], ◌∷◌, length, IsTrue, IfOk, IfSome, MatchOption, MatchResult, Err, Some, true, false};
-    ghost use Rattle.std.specs.Bool.{MatchBool};
-    ghost use Rattle.cert_lines.specs.Line.{CertLine, HasSpelling, IsLine, line_limit, solid, shell, end};
-    ghost use Rattle.cert_lines.specs.Said.{Means, IsRowLine, counts_said};
-    ghost use Rattle.cert_lines.specs.declared.version.Version.TheVariants.{Two as EditionTwo};
-    ghost use Rattle.topo_certificate.specs.Stand.{stand_behind, FitsLine};
-    ghost use Rattle.topo_certificate.specs.Legal.{IsBadLine, BeginsNext, FitsPart};
-    ghost use Rattle.topo_certificate.specs.Part.{IsPartLine};
-    ghost use Rattle.topo_certificate.specs.Told.{IsAt, IsOfSame};
-    ghost use Rattle.topo_certificate.specs.Room.{dues_of, TakesLine};
-    ghost use Rattle.cert_lines.specs.declared.fault.Illegal.TheVariants.{Missing as IsMissing};
-
-    /// A checker whose first line has this number.
     fn from_line(
         alloc: Global,
         solid: &'a Solid,
@@ -138,227 +65,200 @@ impl<'a> Checker<'a> {
         first: u64,
     ) -> Result<Checker<'a>, NoMemory>
         requires { first ≤ 2 ^ 32 }
-        ensures version { IfOk result (λ c. c.version ≡ version) }
-        ensures solid { IfOk result (λ c. c.solid ≡ solid.now) }
-        ensures begun { IfOk result (λ c. IsAt first c []) }
+        ensures stands { IfOk result (λ c. StandsAfter version solid.now first [] [] c) }
+        ensures fed { IfOk result (λ c. IsFed version solid.now first [] c) }
+        ensures fed_part { IfOk result (λ c. IsFedPart version solid.now first [] c) }
     {
-        let _entity = solid.entity();
-        let waiting = states_of(alloc, version, solid)?;
+        let limit = limit_of(solid);
+        let checker = LineChecker::from_line(alloc, solid, version, first)?;
+        let kept = Vec::with_capacity(alloc, limit + 1)?;
         Ok(Checker {
-            version,
-            solid,
-            limit: limit_of(solid),
+            checker,
+            limit,
+            kept,
             failed: None,
-            number: first,
-            ended: false,
-            shell: 0,
-            current: None,
-            waiting,
         })
     }
 
     /// A checker of the lines of a certificate of this version, of which the next one is line 3 (own). It takes all the
     /// memory that a check needs, and errs only where memory runs out.
     pub fn new(alloc: Global, solid: &'a Solid, version: Version) -> Result<Checker<'a>, NoMemory>
-        ensures version { IfOk result (λ c. c.version ≡ version) }
-        ensures solid { IfOk result (λ c. c.solid ≡ solid.now) }
-        ensures begun { IfOk result (λ c. IsAt 3 c []) }
+        ensures stands { IfOk result (λ c. StandsAfter version solid.now 3 [] [] c) }
+        ensures fed { IfOk result (λ c. IsFed version solid.now 3 [] c) }
     {
         Checker::from_line(alloc, solid, version, 3)
     }
 
-    /// A checker of the lines of a part of a book, of which the next one has this number (own). It takes all the memory
-    /// that a check of the part needs, and errs only where memory runs out.
+    /// A checker of the lines of a part of a book, of which the next one has this number, from 1 (own). It takes all the
+    /// memory that a check of the part needs, and errs only where memory runs out.
     pub fn part(alloc: Global, solid: &'a Solid, first: u64) -> Result<Checker<'a>, NoMemory>
         requires { first ≤ 2 ^ 32 }
-        ensures version { IfOk result (λ c. c.version ≡ EditionTwo) }
-        ensures solid { IfOk result (λ c. c.solid ≡ solid.now) }
-        ensures begun { IfOk result (λ c. IsAt first c []) }
+        ensures stands { IfOk result (λ c. StandsAfter Two solid.now first [] [] c) }
+        ensures fed { IfOk result (λ c. IsFed Two solid.now first [] c) }
+        ensures fed_part { IfOk result (λ c. IsFedPart Two solid.now first [] c) }
     {
         Checker::from_line(alloc, solid, Version::Two, first)
     }
 
-    /// Keeps that the lines are not legal.
-    fn fail(&mut self, illegal: Illegal) -> Result<(), Illegal>
-        ensures fault { result ≡ Err illegal }
-        ensures failed { self.new.failed ≡ Some illegal }
-        ensures same { IsOfSame self.old self.new }
+    // Keeps the bytes that a line may have room for.
+    fn keep(&mut self, bytes: &[u8])
+        ensures kept { self.new.kept ≡ take (line_limit self.old.checker.solid) (self.old.kept ++ bytes.now) }
+        ensures checker { self.new.checker ≡ self.old.checker }
+        ensures failed { self.new.failed ≡ self.old.failed }
     {
-        self.failed = Some(illegal);
-        Err(illegal)
-    }
-
-    /// Whether no line of the shell at hand is due.
-    fn is_done(&self) -> bool
-        ensures { IsTrue result ↔ (dues_of self.now.current ≡ 0) }
-    {
-        match &self.current {
-            Some(current) => current.is_done(),
-            None => true,
-        }
-    }
-
-    fn take_shell(&mut self, words: &ShellWords) -> bool
-        requires { self.old.ended ≡ false }
-        ensures line { TakesLine self.old self.new (shell words.now.shell (counts_said words.now)) result }
-        ensures same { IsOfSame self.old self.new }
-        ensures number { result ≡ false → self.new.number ≡ self.old.number }
-    {
-        if !self.is_done() || words.shell != self.shell + 1 {
-            return false;
-        }
-        let Some(next) = self.waiting.pop() else {
-            return false;
+        let room = self.limit - self.kept.len();
+        let count = if bytes.len() < room {
+            bytes.len()
+        } else {
+            room
         };
-        if !next.has_counts(words) {
-            return false;
-        }
-        self.current = Some(next);
-        self.shell = words.shell;
-        self.number += 1;
-        true
+        self.kept.extend_from_slice(&bytes[..count]).unwrap();
     }
 
-    fn take_end(&mut self) -> bool
-        requires { self.old.ended ≡ false }
-        ensures line { TakesLine self.old self.new end result }
-        ensures same { IsOfSame self.old self.new }
-        ensures number { result ≡ false → self.new.number ≡ self.old.number }
+    // Keeps the fault that was found.
+    fn fail(&mut self, bad: Illegal) -> Result<(), Illegal>
+        ensures fault { result ≡ Err bad }
+        ensures failed { self.new.failed ≡ Some bad }
+        ensures checker { self.new.checker ≡ self.old.checker }
     {
-        if !self.is_done() || !self.waiting.is_empty() {
-            return false;
-        }
-        self.ended = true;
-        self.number += 1;
-        true
+        self.failed = Some(bad);
+        Err(bad)
     }
 
-    /// Takes an edge, corner, point, reach or TALLY line, exactly where it fits.
-    fn take_row_line(&mut self, words: Words<'_>) -> bool
-        requires { self.old.ended ≡ false }
-        ensures line { (line : CertLine) → Means words.entry line → HasSpelling line → IsRowLine line → TakesLine self.old self.new line result }
-        ensures same { IsOfSame self.old self.new }
-        ensures number { result ≡ false → self.new.number ≡ self.old.number }
-    {
-        let Some(current) = &mut self.current else {
-            return false;
-        };
-        if !current.take(words) {
-            return false;
-        }
-        self.number += 1;
-        true
-    }
-
-    /// Takes a line, exactly where it fits.
-    fn take(&mut self, words: Words<'_>) -> bool
-        ensures line { (line : CertLine) → Means words.entry line → HasSpelling line → TakesLine self.old self.new line result }
-        ensures same { IsOfSame self.old self.new }
-        ensures number { result ≡ false → self.new.number ≡ self.old.number }
-    {
-        if self.ended {
-            return false;
-        }
-        match words {
-            Words::Head(_) | Words::Solid(_) => false,
-            Words::Shell(counts) => self.take_shell(&counts),
-            Words::End => self.take_end(),
-            Words::Edge(..)
-            | Words::Corner(_)
-            | Words::Point(..)
-            | Words::Reach(_)
-            | Words::Tally(_) => self.take_row_line(words),
-        }
-    }
-
-    /// Judges the next line, given with its LF (own): it is spelled and fits behind the lines before it, or it is the first
-    /// that is misspelt or unfit. Once a line was Illegal, or `finish` found one missing, each call answers the same.
+    /// Judges the next line, given whole with its LF (own): it is spelled and fits after the lines before it, or it is the
+    /// first that is misspelt or unfit. It is for lines that begin where `feed` has left none unfinished.
     pub fn line(&mut self, line: &[u8]) -> Result<(), Illegal>
-        ensures line { (first : ℕ) (lines : List CertLine) → IsAt first self.old lines → MatchResult result
-            (λ _. (l : CertLine) × IsLine (line_limit self.old.solid) line.now l × FitsLine self.old.solid (stand_behind self.old.version self.old.solid lines) l × IsAt first self.new (l ∷ lines))
-            (λ bad. IsBadLine self.old.solid (FitsLine self.old.solid (stand_behind self.old.version self.old.solid lines)) (first + length lines) line.now bad × (self.new.failed ≡ Some bad)) }
+        ensures line { (v : Version) (s : SolidData) (first : ℕ) (read : List CertLine) → StandsAfter v s first read [] self.old → MatchResult result
+            (λ _. (l : CertLine) × IsLine (line_limit s) line.now l × FitsLine s (stand_after v s read) l × StandsAfter v s first (read ++ l ∷ []) [] self.new)
+            (λ bad. IsBadLine s (FitsLine s (stand_after v s read)) (first + length read) line.now bad × (self.new.failed ≡ Some bad)) }
+        ensures answer { MatchResult result (λ _. self.new.failed ≡ None) (λ bad. self.new.failed ≡ Some bad) }
         ensures stays { IfSome self.old.failed (λ bad. (result ≡ Err bad) × (self.new ≡ self.old)) }
-        ensures same { IsOfSame self.old self.new }
+        ensures same { IsOfSame self.old.checker self.new.checker }
     {
-        if let Some(illegal) = self.failed {
-            return Err(illegal);
+        if let Some(bad) = self.failed {
+            return Err(bad);
         }
-        match judge(line, self.limit) {
-            Judged::Misspelt => self.fail(Illegal::Misspelt { line: self.number }),
-            Judged::Long => self.fail(Illegal::Unfit { line: self.number }),
-            Judged::Spelled(words) => {
-                if self.take(words) {
-                    Ok(())
-                } else {
-                    self.fail(Illegal::Unfit { line: self.number })
-                }
+        match self.checker.line(line) {
+            Ok(()) => Ok(()),
+            Err(bad) => self.fail(bad),
+        }
+    }
+
+    // Judges the line that began with what is kept and ends with these bytes, the last of which is LF.
+    fn end_line(&mut self, line: &[u8]) -> Result<(), Illegal>
+        requires open { self.old.failed ≡ None }
+        requires some { 0 < length line.now }
+        ensures fed { (v : Version) (s : SolidData) (first : ℕ) (text front : List ℕ) → IsTrue (is_in_line front) → line.now ≡ ended front → IsFed v s first text self.old → IsFed v s first (text ++ line.now) self.new }
+        ensures kept { MatchResult result (λ _. (self.new.failed ≡ None) × (self.new.kept ≡ [])) (λ bad. self.new.failed ≡ Some bad) }
+        ensures same { IsOfSame self.old.checker self.new.checker }
+    {
+        if self.kept.is_empty() {
+            return match self.checker.line(line) {
+                Ok(()) => Ok(()),
+                Err(bad) => self.fail(bad),
+            };
+        }
+        self.keep(&line[..line.len() - 1]);
+        self.kept.extend_from_slice(b"\n").unwrap();
+        let judged = self.checker.line(self.kept.as_slice());
+        self.kept.truncate(0);
+        match judged {
+            Ok(()) => Ok(()),
+            Err(bad) => self.fail(bad),
+        }
+    }
+
+    /// Takes the next bytes, and judges each line at its LF (own). A fault is that of the first line that is misspelt or
+    /// unfit.
+    pub fn feed(&mut self, piece: &[u8]) -> Result<(), Illegal>
+        ensures fed { (v : Version) (s : SolidData) (first : ℕ) (text : List ℕ) → IsFed v s first text self.old → IsFed v s first (text ++ piece.now) self.new }
+        ensures answer { MatchResult result (λ _. self.new.failed ≡ None) (λ bad. self.new.failed ≡ Some bad) }
+        ensures stays { IfSome self.old.failed (λ bad. (result ≡ Err bad) × (self.new ≡ self.old)) }
+        ensures same { IsOfSame self.old.checker self.new.checker }
+    {
+        if let Some(bad) = self.failed {
+            return Err(bad);
+        }
+        let mut rest = piece;
+        'lines: while let Some((line, after)) = first_ended(rest) {
+            self.end_line(line)?;
+            rest = after;
+        }
+        self.keep(rest);
+        Ok(())
+    }
+
+    // Judges the line of a part that began with what is kept and ends with these bytes, the last of which is LF.
+    fn end_part_line(&mut self, line: &[u8]) -> Result<PartLine, Illegal>
+        requires open { self.old.failed ≡ None }
+        requires some { 0 < length line.now }
+        ensures fed { (v : Version) (s : SolidData) (first : ℕ) (text front : List ℕ) → IsTrue (is_in_line front) → line.now ≡ ended front → IsFedPart v s first text self.old →
+            MatchResult result (IsEndedBy v s first (text ++ line.now) self.new) (λ _. IsFedPart v s first (text ++ line.now) self.new) }
+        ensures kept { MatchResult result (λ _. (self.new.failed ≡ None) × (self.new.kept ≡ [])) (λ bad. self.new.failed ≡ Some bad) }
+        ensures same { IsOfSame self.old.checker self.new.checker }
+    {
+        self.keep(&line[..line.len() - 1]);
+        self.kept.extend_from_slice(b"\n").unwrap();
+        let judged = self.checker.line_of_part(self.kept.as_slice());
+        self.kept.clear();
+        match judged {
+            Ok(told) => Ok(told),
+            Err(bad) => {
+                self.failed = Some(bad);
+                Err(bad)
             }
         }
     }
 
-    /// Whether END may come now.
-    fn may_end(&self) -> bool
-        ensures { (first : ℕ) (lines : List CertLine) → IsAt first self.now lines → IsTrue result ↔ FitsLine self.now.solid (stand_behind self.now.version self.now.solid lines) end }
-    {
-        !self.ended && self.is_done() && self.waiting.is_empty()
-    }
-
-    /// The solid that a line names which begins the next part of a book.
-    fn next_part(&self, line: &[u8]) -> Option<EntryNo>
-        ensures { (first : ℕ) (lines : List CertLine) → IsAt first self.now lines → MatchOption result
-            ((n : ℕ) → IsLine (line_limit self.now.solid) line.now (solid n) → ¬ BeginsNext self.now.solid (stand_behind self.now.version self.now.solid lines) n)
-            (λ no. IsLine (line_limit self.now.solid) line.now (solid no.0) × BeginsNext self.now.solid (stand_behind self.now.version self.now.solid lines) no.0) }
-    {
-        let Some(number) = named_solid(line, self.limit) else {
-            return None;
-        };
-        if !self.may_end() {
-            return None;
-        }
-        if self.solid.entity().0 < number {
-            Some(EntryNo(number))
-        } else {
-            None
-        }
-    }
-
-    /// Judges the next line of a part of a book, given with its LF (own): as `line` does, but where END is due a line
-    /// fits too that names a solid with a greater number. It begins the next part, and this checker stays as it was.
-    pub fn line_of_part(&mut self, line: &[u8]) -> Result<PartLine, Illegal>
-        ensures line { (first : ℕ) (lines : List CertLine) → IsAt first self.old lines → MatchResult result
-            (IsPartLine self.old self.new first lines line.now)
-            (λ bad. IsBadLine self.old.solid (FitsPart self.old.solid (stand_behind self.old.version self.old.solid lines)) (first + length lines) line.now bad × (self.new.failed ≡ Some bad)) }
+    /// Takes the next bytes of a part of a book, and judges each line at its LF as `feed` does (own). But where END is due
+    /// a line fits too that names a solid with a greater number: it begins the next part, and no byte behind its LF is
+    /// taken. No call may come behind that. A part that END ends is finished by `finish`.
+    pub fn feed_part(&mut self, piece: &[u8]) -> Result<PartStep, Illegal>
+        ensures step { (v : Version) (s : SolidData) (first : ℕ) (text : List ℕ) → IsFedPart v s first text self.old → MatchResult result (IsPartStep v s first text piece.now self.new) (λ _. IsFedPart v s first (text ++ piece.now) self.new) }
+        ensures answer { MatchResult result (λ _. self.new.failed ≡ None) (λ bad. self.new.failed ≡ Some bad) }
         ensures stays { IfSome self.old.failed (λ bad. (result ≡ Err bad) × (self.new ≡ self.old)) }
-        ensures same { IsOfSame self.old self.new }
+        ensures same { IsOfSame self.old.checker self.new.checker }
     {
-        if let Some(illegal) = self.failed {
-            return Err(illegal);
+        if let Some(bad) = self.failed {
+            return Err(bad);
         }
-        if let Some(no) = self.next_part(line) {
-            return Ok(PartLine::Next {
-                no,
-                line: self.number + 1,
-            });
+        let mut left = piece;
+        'lines: while let Some((line, after)) = first_ended(left) {
+            let told = self.end_part_line(line)?;
+            match told {
+                PartLine::More => left = after,
+                PartLine::Next { no, line } => {
+                    let used = piece.len() - after.len();
+                    return Ok(PartStep::Next { no, line, used });
+                }
+            }
         }
-        self.line(line)?;
-        Ok(PartLine::More)
+        self.keep(left);
+        Ok(PartStep::More)
     }
 
-    /// Whether END was the last line (own). Where it wasn't, the line behind the last one is missing.
+    /// Whether END was the last line (own). A rest without LF is misspelt; where END wasn't the last line, the line behind
+    /// the last one is missing.
     pub fn finish(&mut self) -> Result<(), Illegal>
-        ensures ended { (first : ℕ) (lines : List CertLine) → IsAt first self.old lines → MatchResult result
-            (λ _. ((stand_behind self.old.version self.old.solid lines).ended ≡ true) × (self.new ≡ self.old))
-            (λ bad. ((stand_behind self.old.version self.old.solid lines).ended ≡ false) × (bad ≡ IsMissing (first + length lines)) × (self.new.failed ≡ Some bad)) }
+        ensures fed { (v : Version) (s : SolidData) (first : ℕ) (text : List ℕ) → IsFed v s first text self.old → MatchResult result (λ _. IsLegal v s (cut_lines text)) (λ bad. IsFirstBad v s first (cut_lines text) bad) }
+        ensures part { (v : Version) (s : SolidData) (first : ℕ) (text : List ℕ) → IsFedPart v s first text self.old → MatchResult result (λ _. IsLegal v s (cut_lines text)) (λ bad. IsPartBad v s first (cut_lines text) bad) }
+        ensures ended { (v : Version) (s : SolidData) (first : ℕ) (read : List CertLine) → StandsAfter v s first read [] self.old → MatchResult result
+            (λ _. (stand_after v s read).ended ≡ true)
+            (λ bad. ((stand_after v s read).ended ≡ false) × (bad ≡ Missing (first + length read))) }
+        ensures stays_ok { MatchResult result (λ _. self.new ≡ self.old) (λ bad. self.new.failed ≡ Some bad) }
         ensures stays { IfSome self.old.failed (λ bad. (result ≡ Err bad) × (self.new ≡ self.old)) }
-        ensures same { IsOfSame self.old self.new }
+        ensures same { IsOfSame self.old.checker self.new.checker }
     {
-        if let Some(illegal) = self.failed {
-            return Err(illegal);
+        if let Some(bad) = self.failed {
+            return Err(bad);
         }
-        if self.ended {
-            Ok(())
-        } else {
-            self.fail(Illegal::Missing { line: self.number })
+        if !self.kept.is_empty() {
+            let line = self.checker.next_number();
+            return self.fail(Illegal::Misspelt { line });
+        }
+        match self.checker.finish() {
+            Ok(()) => Ok(()),
+            Err(bad) => self.fail(bad),
         }
     }
 }

@@ -3,9 +3,9 @@
 
 mod checker;
 mod corners;
-mod feeding;
 mod fitting;
 mod law;
+mod line_checker;
 mod line_start;
 mod opening;
 mod points;
@@ -21,9 +21,8 @@ pub use cert_lines::{
     ShellPart, ShellParts, Version, head_line, one_line, one_opening, solid_line, write_book,
     write_certificate,
 };
-pub use checker::{Checker, PartLine};
+pub use checker::{Checker, PartStep};
 pub use corners::{fitting_corner, fitting_point};
-pub use feeding::PieceChecker;
 pub use fitting::{fitting_edge, fitting_face, is_above, named_row, turn_of};
 pub use law::{legal_or_first_bad, one_bad_in_part};
 pub use opening::{Opening, OpeningStep};

@@ -90,7 +90,8 @@ fn behind(stage: Stage, line: &[u8]) -> Stage
 impl Opening {
     /// Before line 1 (own).
     pub fn new() -> Opening
-        ensures { IsOpening result [] }
+        ensures stands { IsOpening result [] }
+        ensures waiting { IsWaiting result.stage }
     {
         Opening {
             start: LineStart::new(),

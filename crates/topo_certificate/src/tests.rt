@@ -1,8 +1,8 @@
-ghost use Rattle.std.specs.Prelude.{◌≡◌, ◌∷◌, [], IfOk};
+ghost use Rattle.std.specs.Prelude.{◌≡◌, ◌≤◌, ◌∷◌, [], IfOk, length};
 ghost use Rattle.edge_uses.specs.Balls.{one_loop, vertex_key};
 
 use crate::{
-    CERT_LIMIT, Checker, Illegal, Opening, OpeningStep, PartLine, UpgradeFault, Version, check,
+    CERT_LIMIT, Checker, Illegal, Opening, OpeningStep, PartStep, UpgradeFault, Version, check,
     upgrade,
 };
 use iges_fields::{Bytes, EntryNo, ItemList, NoMemory};
@@ -187,6 +187,48 @@ fn a_line_of_75_bytes_is_unfit_for_one_use(rt: HostRuntime) -> Result<(), Fail> 
     Ok(())
 }
 
+// What a checker says of a text that comes in two pieces, of which the first has so many bytes.
+fn of_two_pieces(alloc: Global, text: &[u8], cut: usize) -> Result<Result<(), Illegal>, NoMemory>
+    requires { cut ≤ length text.now }
+{
+    let solid = pole_ball(alloc)?;
+    let mut checker = Checker::new(alloc, &solid, Version::One)?;
+    let _ = checker.feed(&text[..cut]);
+    let _ = checker.feed(&text[cut..]);
+    Ok(checker.finish())
+}
+
+#[test]
+fn a_text_may_be_cut_anywhere(rt: HostRuntime) -> Result<(), Fail> {
+    let text = b"SHELL 1 0 0 1 1\nI 1 1\nEND\n";
+    'cuts: for cut in 0..text.len() {
+        assert_eq!(rt; of_two_pieces(rt.alloc(), text, cut)?, Ok(()));
+    }
+    Ok(())
+}
+
+#[test]
+fn a_line_of_75_bytes_is_unfit_in_two_pieces(rt: HostRuntime) -> Result<(), Fail> {
+    let line = b"12345678901234567890123456789012345678901234567890123456789012345678901234\n";
+    assert_eq!(rt; line.len(), 75);
+    assert_eq!(rt;
+        of_two_pieces(rt.alloc(), line, 74)?,
+        Err(Illegal::Unfit { line: 3 })
+    );
+    Ok(())
+}
+
+#[test]
+fn a_part_is_judged_line_by_line(rt: HostRuntime) -> Result<(), Fail> {
+    let solid = pole_ball(rt.alloc())?;
+    let mut part = Checker::part(rt.alloc(), &solid, 7)?;
+    assert_eq!(rt; part.line(b"SHELL 1 0 0 1 1\n"), Ok(()));
+    assert_eq!(rt; part.line(b"I 1 1\n"), Ok(()));
+    assert_eq!(rt; part.line(b"TALLY 1 0 1 1\n"), Ok(()));
+    assert_eq!(rt; part.finish(), Err(Illegal::Missing { line: 10 }));
+    Ok(())
+}
+
 #[test]
 fn an_illegal_checker_stays_so(rt: HostRuntime) -> Result<(), Fail> {
     let solid = pole_ball(rt.alloc())?;
@@ -194,6 +236,7 @@ fn an_illegal_checker_stays_so(rt: HostRuntime) -> Result<(), Fail> {
     let first = checker.line(b"SHELL 1 0 0 1 2\n");
     assert_eq!(rt; first, Err(Illegal::Unfit { line: 3 }));
     assert_eq!(rt; checker.line(b"SHELL 1 0 0 1 1\n"), first);
+    assert_eq!(rt; checker.feed(b"I 1 2\n"), first);
     assert_eq!(rt; checker.finish(), first);
     Ok(())
 }
@@ -235,14 +278,15 @@ fn version_one_has_no_counts(rt: HostRuntime) -> Result<(), Fail> {
 fn a_part_ends_at_a_solid_of_a_greater_number(rt: HostRuntime) -> Result<(), Fail> {
     let solid = pole_ball(rt.alloc())?;
     let mut part = Checker::part(rt.alloc(), &solid, 7)?;
-    assert_eq!(rt; part.line_of_part(b"SHELL 1 0 0 1 1\n"), Ok(PartLine::More));
-    assert_eq!(rt; part.line_of_part(b"I 1 1\n"), Ok(PartLine::More));
-    assert_eq!(rt; part.line_of_part(b"TALLY 1 0 1 1\n"), Ok(PartLine::More));
-    let next = PartLine::Next {
+    let first = part.feed_part(b"SHELL 1 0 0 1 1\nI 1 1\nTALLY 1 0 1");
+    let second = part.feed_part(b" 1\nSOLID 15\nSHELL");
+    let next = PartStep::Next {
         no: EntryNo(15),
         line: 11,
+        used: 12,
     };
-    assert_eq!(rt; part.line_of_part(b"SOLID 15\n"), Ok(next));
+    assert_eq!(rt; first, Ok(PartStep::More));
+    assert_eq!(rt; second, Ok(next));
     Ok(())
 }
 

@@ -1,6 +1,12 @@
-use Rattle.std.proofs.Common.{rules, sym, ◌∙◌, ◌≡◌, true, false}
+use Rattle.std.proofs.Common.{rules, sym, subst, ◌∙◌, ◌≡◌, true, false}
 use Rattle.topo_certificate.proofs.CornerFits.{corner_of, corner_no_row, corner_low, corner_ring, corner_fits, corner_other_size, size_there, size_below}
+use Rattle.topo_certificate.specs.Ring.{FitsCornerLine}
+use Rattle.topo_certificate.proofs.Rings.{none_left}
 use Rattle.topo_certificate.proofs.corners.fitting_corner.Goals as goal
+
+-- no row is listed
+pub returns-in_default : goal.returns-in_default
+returns-in_default c = λ at rs hm same h fits. subst (FitsCornerLine c.args.rows.now at) (none_left c.args.numbers.now rs c.in_default.ensures h) fits
 
 pub returns-in_default-named_row : goal.returns-in_default-named_row
 returns-in_default-named_row c = λ at rs hm same h fits.

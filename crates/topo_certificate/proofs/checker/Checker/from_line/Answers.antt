@@ -1,9 +1,15 @@
 use Rattle.std.proofs.Common.{refl}
-use Rattle.topo_certificate.proofs.Checking.{begins, room_at_first}
+use Rattle.topo_certificate.specs.Stand.{FitsLine}
+use Rattle.topo_certificate.specs.Legal.{FitsPart}
+use Rattle.topo_certificate.proofs.FedLines.{stands_first, fed_first}
 use Rattle.topo_certificate.proofs.checker.Checker.from_line.Goals as goal
 
-pub invariant_of-result : goal.invariant_of-result
-invariant_of-result c = room_at_first c.args.version c.args.solid.now c.limit_of.result c.args.first c.in_ok-waiting.waiting.items c.entity-entity.ensures.numbered c.limit_of.ensures c.requires c.in_ok-waiting.ensures
+pub returns-clause-fed : goal.returns-clause-fed
+returns-clause-fed c =
+    fed_first c.args.version c.args.solid.now FitsLine c.args.first _
+    (stands_first c.args.version c.args.solid.now FitsLine c.args.first _ c.in_ok-checker.ensures.version c.in_ok-checker.ensures.solid refl c.in_ok-kept.ensures.items c.in_ok-checker.ensures.begun)
 
-pub returns-clause-begun : goal.returns-clause-begun
-returns-clause-begun c = begins c.args.first _ refl refl refl refl refl c.in_ok-waiting.ensures
+pub returns-clause-fed_part : goal.returns-clause-fed_part
+returns-clause-fed_part c =
+    fed_first c.args.version c.args.solid.now FitsPart c.args.first _
+    (stands_first c.args.version c.args.solid.now FitsPart c.args.first _ c.in_ok-checker.ensures.version c.in_ok-checker.ensures.solid refl c.in_ok-kept.ensures.items c.in_ok-checker.ensures.begun)

@@ -1,4 +1,4 @@
-use Rattle.std.proofs.Common.{sym, ap, ◌∙◌, arith, length}
+use Rattle.std.proofs.Common.{arith}
 use Rattle.topo_certificate.proofs.OpeningLines.{kept_full, kept_all}
 use Rattle.topo_certificate.proofs.line_start.LineStart.keep.Goals as goal
 

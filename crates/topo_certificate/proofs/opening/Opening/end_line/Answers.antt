@@ -1,4 +1,4 @@
-use Rattle.std.proofs.Common.{sym, ap, ◌∙◌, subst, arith, List, ℕ, length, ◌≤◌, ◌++◌}
+use Rattle.std.proofs.Common.{sym, ◌∙◌, subst, arith, List, ℕ, length, ◌≤◌, ◌++◌}
 use Rattle.topo_certificate.specs.OpeningFed.{Shows}
 use Rattle.topo_certificate.proofs.FedLines.{nil}
 use Rattle.topo_certificate.proofs.OpeningLines.{whole_line, joined_line, few_kept}

@@ -1,4 +1,4 @@
-use Rattle.std.proofs.Common.{sym, ap, ◌∙◌, subst, List, ℕ, ◌++◌}
+use Rattle.std.proofs.Common.{sym, subst, List, ℕ, ◌++◌}
 use Rattle.topo_certificate.specs.OpeningFed.{IsOpening}
 use Rattle.topo_certificate.proofs.OpeningLines.{few_kept, line_front, shows_more}
 use Rattle.topo_certificate.proofs.opening.Opening.take_line.Goals as goal

@@ -1,0 +1,16 @@
+use Rattle.std.proofs.Common.{◌≡◌, ◌≤◌, length, None}
+use Rattle.topo_certificate.specs.Legal.{FitsPart}
+use Rattle.topo_certificate.specs.Told.{IsOfSame}
+use Rattle.topo_certificate.proofs.FedLines.{IsLeft}
+use Rattle.topo_certificate.proofs.checker.Checker.feed_part.Given as goal
+
+abbrev pub invariant-lines : goal.invariant-lines
+invariant-lines l = record {
+  left : IsLeft FitsPart l.fn.self l.piece l.self l.left;
+  within : length l.left ≤ length l.piece;
+  still : l.self.failed ≡ None;
+  same : IsOfSame l.fn.self.checker l.self.checker;
+}
+
+abbrev pub decreases-lines : goal.decreases-lines
+decreases-lines l = length l.left
