@@ -14,6 +14,7 @@ pub mod UsedItems
 pub mod StillHold
 pub mod OneAnswer
 mod Worked
+pub mod RowSteps
 pub mod MarkSteps
 pub mod RowSizes
 pub mod RankSteps

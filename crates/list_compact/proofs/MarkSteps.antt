@@ -16,7 +16,9 @@ use Rattle.entry_references.specs.Refs.{Record}
 use Rattle.solid_extract.proofs.Copies.{all_at, one_more}
 use Rattle.list_compact.specs.Used.{is_kind, tuples_in, edges_in, vertices_in, used_from, names_edge, names_vertex, has_end}
 use Rattle.list_compact.specs.Marking.{AreMarks, IsOfItsKind, MarksItems, is_at, sizes}
+use Rattle.solid_data.proofs.Members.{get_some}
 use Rattle.list_compact.proofs.DroppedEntries.{own_kind, kind_test}
+use Rattle.list_compact.proofs.RowSteps.{row_is}
 
 get_same : {X : Type 0} (xs : List X) (k : ℕ) (y : X) → k < length xs → slice_get (set xs k y) k ≡ Some y
 get_same [] k y lt = absurd (omega (arith, lt))
@@ -98,6 +100,23 @@ pub sizes_stay : (rows : List (List Bool)) (k i : ℕ) (row : List Bool) → sli
 sizes_stay [] k i row at = absurd cc
 sizes_stay (x ∷ rows) zero i row at = ap (λ n. n ∷ sizes rows) (length-set row i true ∙ ap length (sym (same_Some x row at)))
 sizes_stay (x ∷ rows) (suc k) i row at = ap (λ ns. length x ∷ ns) (sizes_stay rows k i row at)
+
+pub marked_at : (rows : List (List Bool)) (u : ℕ → ℕ → Bool) (z j : ℤ) (k i : ℕ) → z ≡ pos (2 * k + 1) → j ≡ pos (i + 1) → AreMarks rows u → AreMarks (set rows k (set (slice_index_or rows k []) i true)) (λ e x. u e x || is_at z j e x)
+marked_at rows u z j k i ez ej h = by_order (cases_lt k (length rows))
+  where
+    same : (m : ℕ) → pos (2 * k + 1) ≡ pos (2 * m + 1) → k ≡ m
+    same m e = let n : 2 * k + 1 ≡ 2 * m + 1 = cc in omega (arith, n)
+
+    by_order : (k < length rows) ⊎ (length rows ≤ k) → AreMarks (set rows k (set (slice_index_or rows k []) i true)) (λ e x. u e x || is_at z j e x)
+    by_order (inl lt) = let r = get_some rows k lt in subst (λ (row : List Bool). AreMarks (set rows k (set row i true)) (λ e x. u e x || is_at z j e x)) (sym (row_is rows k r.0 r.1)) (mark_there rows u z j k i r.0 ez ej r.1 h)
+    by_order (inr le) = subst (λ (new : List (List Bool)). AreMarks new (λ e x. u e x || is_at z j e x)) (sym (set_past rows k (set (slice_index_or rows k []) i true) le)) (mark_nowhere rows u z j (λ m x lt en ex. omega (arith, same m (sym ez ∙ en), lt, le)) h)
+
+pub sizes_at : (rows : List (List Bool)) (k i : ℕ) → sizes (set rows k (set (slice_index_or rows k []) i true)) ≡ sizes rows
+sizes_at rows k i = by_order (cases_lt k (length rows))
+  where
+    by_order : (k < length rows) ⊎ (length rows ≤ k) → sizes (set rows k (set (slice_index_or rows k []) i true)) ≡ sizes rows
+    by_order (inl lt) = let r = get_some rows k lt in ap (λ (row : List Bool). sizes (set rows k (set row i true))) (row_is rows k r.0 r.1) ∙ sizes_stay rows k i r.0 r.1
+    by_order (inr le) = ap (λ (new : List (List Bool)). sizes new) (set_past rows k (set (slice_index_or rows k []) i true) le)
 
 -- by another test that is the same
 pub marks_as : (rows : List (List Bool)) (u v : ℕ → ℕ → Bool) → ((e j : ℕ) → u e j ≡ v e j) → AreMarks rows u → AreMarks rows v

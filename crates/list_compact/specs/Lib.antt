@@ -4,3 +4,4 @@ pub mod Compacted
 pub mod Faults
 pub mod Laws
 pub mod Marking
+pub mod Rows

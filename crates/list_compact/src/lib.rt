@@ -3,6 +3,7 @@
 
 mod compacting;
 mod dropping;
+mod entry_rows;
 mod fault;
 mod law;
 mod marking;

@@ -97,12 +97,10 @@ fn unmarked(alloc: Global, file: &File) -> Result<FileMarks, NoMemory>
     let count = file.entry_count();
     'entries: for i in 0..count {
         let record = record_at(file, i);
-        marks
-            .edges
-            .push(alloc, edge_count(record.entry, record.values))?;
+        marks.edges.push(edge_count(record.entry, record.values))?;
         marks
             .vertices
-            .push(alloc, vertex_count(record.entry, record.values))?;
+            .push(vertex_count(record.entry, record.values))?;
     }
     Ok(marks)
 }

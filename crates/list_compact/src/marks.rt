@@ -1,41 +1,18 @@
 //! Marks of the items of a file's lists.
 
 ghost use Rattle.list_compact.specs.Marking.{AreMarks, is_at, sizes};
-ghost use Rattle.std.specs.Prelude.{◌≡◌, ◌∷◌, ◌++◌, ◌||◌, ◌<◌, ℕ, Bool, [], Some, true, false, OnOk, length, replicate, set, slice_get};
+ghost use Rattle.std.specs.Prelude.{◌≡◌, ◌∷◌, ◌++◌, ◌||◌, ◌<◌, ℕ, Bool, [], Some, false, OnOk, length, replicate, slice_get};
 
+use crate::entry_rows::EntryRows;
 use crate::place::place_of;
 use iges_fields::NoMemory;
 use std::alloc::Global;
 use std::marker::Model;
 
-/// A mark for each item of a list.
-#[derive(Drop)]
-struct MarkRow {
-    marks: Vec<bool>,
-}
-
-impl Model for MarkRow {
-    ghost use Rattle.std.specs.Prelude.{Bool, List};
-
-    ghost Value = { List Bool };
-
-    ghost view = { λ row. row.marks.items };
-}
-
-impl MarkRow {
-    fn set(&mut self, item: usize)
-        ensures { self.new ≡ set self.old item true }
-    {
-        if item < self.marks.len() {
-            self.marks[item] = true;
-        }
-    }
-}
-
 /// For each entry a mark for each item of the list that it is, and no marks where it is none.
 #[derive(Drop)]
 pub struct Marks {
-    rows: Vec<MarkRow>,
+    rows: EntryRows<bool>,
 }
 
 impl Model for Marks {
@@ -43,7 +20,7 @@ impl Model for Marks {
 
     ghost Value = { List (List Bool) };
 
-    ghost view = { λ marks. marks.rows.items };
+    ghost view = { λ marks. marks.rows };
 }
 
 impl Marks {
@@ -51,17 +28,15 @@ impl Marks {
         ensures { result ≡ [] }
     {
         Marks {
-            rows: Vec::new(alloc),
+            rows: EntryRows::new(alloc),
         }
     }
 
     /// Puts a row of so many items, none of which is marked.
-    pub fn push(&mut self, alloc: Global, items: usize) -> Result<(), NoMemory>
+    pub fn push(&mut self, items: usize) -> Result<(), NoMemory>
         ensures { OnOk result (self.new ≡ self.old ++ replicate items false ∷ []) }
     {
-        let marks = vec![in alloc; false; items]?;
-        self.rows.push(MarkRow { marks })?;
-        Ok(())
+        self.rows.push(items, false)
     }
 
     /// Marks the item that the number of a list and an index name, where there is one.
@@ -72,9 +47,7 @@ impl Marks {
         let Some(place) = place_of(list, index) else {
             return;
         };
-        if place.entry < self.rows.len() {
-            self.rows[place.entry].set(place.item);
-        }
+        self.rows.set(place.entry, place.item, true);
     }
 
     /// How many rows there are.
@@ -89,6 +62,6 @@ impl Marks {
         requires { i < length self.now }
         ensures { slice_get self.now i ≡ Some result.now }
     {
-        self.rows[i].marks.as_slice()
+        self.rows.row(i)
     }
 }

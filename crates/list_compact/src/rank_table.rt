@@ -5,34 +5,20 @@ ghost use Rattle.list_compact.specs.Marking.{AreRanks, Covers, IsRankAt, ranks_o
 ghost use Rattle.list_compact.specs.Used.{ranked};
 ghost use Rattle.solid_data.specs.Obligations.{entry_number};
 ghost use Rattle.std.specs.List.{AllByRecursion};
-ghost use Rattle.std.specs.Prelude.{◌≡◌, ◌⊎◌, ◌+◌, ◌*◌, ◌≤◌, ℕ, ℤ, Bool, List, Some, IfOk, pos, length, map, slice_get, slice_index_or};
+ghost use Rattle.std.specs.Prelude.{◌≡◌, ◌⊎◌, ◌+◌, ◌*◌, ◌≤◌, ◌++◌, ℕ, ℤ, Bool, List, Some, IfOk, OnOk, pos, length, map, slice_get, slice_index_or};
 
+use crate::entry_rows::EntryRows;
 use crate::marks::Marks;
 use crate::place::place_of;
 use iges_fields::NoMemory;
 use std::alloc::Global;
 use std::marker::Model;
 
-/// For each item of a list its rank, or 0 where it isn't used.
-#[derive(Drop)]
-struct RankRow {
-    ranks: Vec<i64>,
-}
-
-impl Model for RankRow {
-    ghost use Rattle.std.specs.Prelude.{List, ℤ};
-
-    ghost Value = { List ℤ };
-
-    ghost view = { λ row. row.ranks.items };
-}
-
-// The ranks of marked items.
-fn rank_row(alloc: Global, marks: &[bool]) -> Result<RankRow, NoMemory>
+// Puts the ranks of a list's marked items, and 0 for the others.
+fn push_ranks(ranks: &mut Vec<i64>, marks: &[bool]) -> Result<(), NoMemory>
     requires { length marks.now ≤ FILE_LIMIT }
-    ensures { IfOk result (λ row. row ≡ ranks_of 0 marks.now) }
+    ensures { OnOk result (ranks.new.items ≡ ranks.old.items ++ ranks_of 0 marks.now) }
 {
-    let mut ranks = Vec::new(alloc);
     let mut count = 0usize;
     'marks: for mark in marks {
         if *mark {
@@ -42,25 +28,19 @@ fn rank_row(alloc: Global, marks: &[bool]) -> Result<RankRow, NoMemory>
             ranks.push(0)?;
         }
     }
-    Ok(RankRow { ranks })
+    Ok(())
 }
 
-impl RankRow {
-    fn get(&self, item: usize) -> i64
-        ensures { result ≡ slice_index_or self.now item (pos 0) }
-    {
-        if item < self.ranks.len() {
-            self.ranks[item]
-        } else {
-            0
-        }
-    }
+fn rank_at(ranks: &[i64], item: usize) -> i64
+    ensures { result ≡ slice_index_or ranks.now item (pos 0) }
+{
+    if item < ranks.len() { ranks[item] } else { 0 }
 }
 
 /// For each entry the rank of each item of the list that it is, or 0 where the item isn't used.
 #[derive(Drop)]
 pub struct Ranks {
-    rows: Vec<RankRow>,
+    rows: EntryRows<i64>,
 }
 
 impl Model for Ranks {
@@ -68,7 +48,7 @@ impl Model for Ranks {
 
     ghost Value = { List (List ℤ) };
 
-    ghost view = { λ ranks. ranks.rows.items };
+    ghost view = { λ ranks. ranks.rows };
 }
 
 /// The ranks of marked items.
@@ -76,13 +56,16 @@ pub fn ranks_by(alloc: Global, marks: &Marks) -> Result<Ranks, NoMemory>
     requires { AllByRecursion (λ row. length row ≤ FILE_LIMIT) marks.now }
     ensures { IfOk result (λ ranks. ranks ≡ map (ranks_of 0) marks.now) }
 {
-    let mut rows = Vec::new(alloc);
+    let mut ranks = Vec::new(alloc);
+    let mut ends = Vec::new(alloc);
     let count = marks.len();
     'rows: for i in 0..count {
-        let row = rank_row(alloc, marks.row(i))?;
-        rows.push(row)?;
+        push_ranks(&mut ranks, marks.row(i))?;
+        ends.push(ranks.len())?;
     }
-    Ok(Ranks { rows })
+    Ok(Ranks {
+        rows: EntryRows::of(ranks, ends),
+    })
 }
 
 impl Ranks {
@@ -97,7 +80,7 @@ impl Ranks {
         if place.entry >= self.rows.len() {
             return 0;
         }
-        self.rows[place.entry].get(place.item)
+        rank_at(self.rows.row(place.entry), place.item)
     }
 
     /// The index of an item among those that are used, where it is; and else the index.

@@ -1,5 +1,5 @@
 -- The cycles of border rows, one after the other.
-use Rattle.std.specs.Prelude.{◌≡◌, ◌≢◌, ◌<◌, ◌≤◌, ◌+◌, ◌⊎◌, ◌↔◌, ◌==◌, ℕ, zero, suc, Bool, true, false, List, [], ◌∷◌, ◌++◌, length, map, flat_map, slice_get, slice_set, take, Some, Contains}
+use Rattle.std.specs.Prelude.{◌≡◌, ◌≢◌, ◌<◌, ◌≤◌, ◌+◌, ◌⊎◌, ◌↔◌, ◌==◌, ℕ, zero, suc, Bool, true, false, List, [], ◌∷◌, ◌++◌, length, map, slice_set, take, Contains}
 use Rattle.std.specs.List.{AllByRecursion, AllZip}
 use Rattle.std.proofs.Common.{refl, sym, ◌∙◌, ap, subst, arith, inl, inr, ⊎_elim, get_or}
 use Rattle.std.proofs.lemmas.Bool.{cases_lt}
@@ -8,7 +8,7 @@ use Rattle.std.proofs.lemmas.Grind.{flat_map-append}
 use Rattle.std.proofs.lemmas.List.{append-nil, map-append}
 use Rattle.std.proofs.lemmas.Option.{slice_get_within}
 use Rattle.solid_data.specs.declared.solid.RowId.{RowId}
-use Rattle.solid_data.proofs.Members.{Has, NoRepeat, Rises, All-from, All-at, has_append, all_append}
+use Rattle.solid_data.proofs.Members.{Has, NoRepeat, Rises, All-from, has_append, all_append}
 use Rattle.solid_data.proofs.Trail.{Trail, no_repeat, next_on, leads_on, trail_keeps}
 use Rattle.edge_uses.proofs.Cycle.{zip_from_trail}
 use Rattle.edge_uses.proofs.Tallies.{set_same, set_other}

@@ -5,7 +5,7 @@ use Rattle.std.proofs.Common.{refl, sym, ◌∙◌, ap, subst, arith, inl, inr, 
 use Rattle.std.proofs.lemmas.Bool.{cases_lt}
 use Rattle.std.proofs.lemmas.Bool.Decides.{eqb_tells}
 use Rattle.std.proofs.lemmas.Option.{same_Some, slice_get_within}
-use Rattle.solid_data.specs.Chain.{Steps, LeadsTo}
+use Rattle.solid_data.specs.Chain.{Steps}
 use Rattle.solid_data.specs.Ring.{numbers_from}
 use Rattle.solid_data.specs.declared.solid.VertexId.{VertexId}
 use Rattle.solid_data.proofs.Members.{Has, NoRepeat, no_longer, All-at, has_last, Has-from_Contains, has_get}
@@ -18,12 +18,12 @@ use Rattle.edge_uses.specs.ShellRows.{ShellRows}
 use Rattle.edge_uses.specs.Closed.{StartsAt, Turns, AreMates, Follows}
 use Rattle.edge_uses.proofs.Tallies.{set_same, set_other}
 use Rattle.edge_uses.proofs.Turns.{mates_back, follows_apart}
-use Rattle.open_shells.specs.Sound.{IsBorder, IsFan, IsFanned, GoesOn}
+use Rattle.open_shells.specs.Sound.{IsBorder, IsFanned}
 use Rattle.open_shells.specs.Mating.{AreOnce}
-use Rattle.open_shells.specs.BorderParts.{Next, IsStartOf, AreStartsOf, IsLoop}
+use Rattle.open_shells.specs.BorderParts.{Next, IsStartOf, IsLoop}
 use Rattle.open_shells.proofs.Fans.{lone_no_mate}
 use Rattle.open_shells.proofs.OnceMates.{border_or_mate}
-use Rattle.open_shells.proofs.FanWalks.{turn_one, turn_apart, turn_same, border_stuck, stays, too_many, trail_more, trail_back, prev_on, each_on, rows_at}
+use Rattle.open_shells.proofs.FanWalks.{turn_apart, turn_same, stays, too_many, trail_more, trail_back, prev_on, each_on, rows_at}
 
 -- One at most starts at a vertex.
 

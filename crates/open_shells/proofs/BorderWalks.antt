@@ -1,10 +1,10 @@
 -- One number more of a border line.
-use Rattle.std.specs.Prelude.{◌≡◌, ℕ, ◌+◌, ◌<◌, List, [], ◌∷◌, length, Contains}
-use Rattle.std.proofs.Common.{refl, sym, ◌∙◌, ap, subst, arith}
+use Rattle.std.specs.Prelude.{◌≡◌, ℕ, ◌+◌, ◌<◌, List, ◌∷◌, length, Contains}
+use Rattle.std.proofs.Common.{sym, ap, subst, arith}
 use Rattle.edge_uses.specs.ShellRows.{ShellRows}
 use Rattle.cert_lines.specs.Numbers.{Begins, AreNumbers}
 use Rattle.topo_certificate.specs.Stand.{IsAbove}
-use Rattle.topo_certificate.proofs.Rings.{next_left}
+use Rattle.topo_certificate.proofs.Rings.{next_left, none_left}
 use Rattle.open_shells.specs.Stand.{OpenStand, GoesOnTo, FitsBorder}
 use Rattle.open_shells.specs.Walks.{IsBorderRing, FitsBorderLine}
 
@@ -41,17 +41,13 @@ walked_stop d lone first last next rest after all count b never w r =
     let k = subst (IsBorderRing d lone first last) n.1 (w.back r) in
     never k.2.0 k.0.1.0 k.1.0
 
-none_left : (rest left : List ℕ) → ((n : ℕ) (ns : List ℕ) → ¬ AreNumbers rest (n ∷ ns)) → AreNumbers rest left → left ≡ []
-none_left rest [] never h = refl
-none_left rest (m ∷ ms) never h = absurd (never m ms h)
-
-pub walked_whole : (d : ShellRows) (lone : List ℕ) (first last : ℕ) (rest all : List ℕ) (count : ℕ) → ((n : ℕ) (ns : List ℕ) → ¬ AreNumbers rest (n ∷ ns)) → GoesOnTo d last first
+pub walked_whole : (d : ShellRows) (lone : List ℕ) (first last : ℕ) (rest all : List ℕ) (count : ℕ) → ((n : ℕ) (after : List ℕ) → ¬ Begins rest n after) → GoesOnTo d last first
     → Walked d lone first last rest all count → IsBorderRing d lone first first all × (count ≡ length (first ∷ all))
 walked_whole d lone first last rest all count never goes w =
     let e = none_left rest w.left never w.numbers in
     (w.on (subst (IsBorderRing d lone first last) (sym e) ((w.here, tt), (goes, tt), tt)), omega (arith, w.whole, ap (λ xs. length xs) e))
 
-pub walked_broken : (d : ShellRows) (lone : List ℕ) (first last : ℕ) (rest all : List ℕ) (count : ℕ) → ((n : ℕ) (ns : List ℕ) → ¬ AreNumbers rest (n ∷ ns)) → (GoesOnTo d last first → ⊥)
+pub walked_broken : (d : ShellRows) (lone : List ℕ) (first last : ℕ) (rest all : List ℕ) (count : ℕ) → ((n : ℕ) (after : List ℕ) → ¬ Begins rest n after) → (GoesOnTo d last first → ⊥)
     → Walked d lone first last rest all count → IsBorderRing d lone first first all → ⊥
 walked_broken d lone first last rest all count never broken w r =
     let e = none_left rest w.left never w.numbers in

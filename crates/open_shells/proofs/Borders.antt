@@ -1,16 +1,15 @@
 -- The border lines of legal lines are cycles that hold each border row once.
-use Rattle.std.specs.Prelude.{◌≡◌, ℕ, zero, suc, ◌+◌, ◌-◌, ◌<◌, ◌≤◌, ◌==◌, ◌⊎◌, true, cond, List, [], ◌∷◌, ◌++◌, length, map, filter_map, flat_map, count_by, Contains, Option, Some, None, slice_get}
-use Rattle.std.specs.List.{AllByRecursion, AllZip, cons_option}
-use Rattle.std.proofs.Common.{refl, sym, ◌∙◌, ap, subst, arith, inl, inr, ⊎_elim, length-append}
+use Rattle.std.specs.Prelude.{◌≡◌, ℕ, zero, suc, ◌+◌, ◌-◌, ◌<◌, ◌≤◌, ◌==◌, ◌⊎◌, true, List, [], ◌∷◌, ◌++◌, length, map, filter_map, flat_map, count_by, Contains, Some, slice_get}
+use Rattle.std.specs.List.{AllByRecursion, AllZip}
+use Rattle.std.proofs.Common.{refl, sym, ◌∙◌, ap, subst, arith, inl, inr, ⊎_elim}
 use Rattle.std.proofs.lemmas.Option.{same_Some, none-some}
 use Rattle.std.proofs.lemmas.Bool.Decides.{eqb_tells}
 use Rattle.solid_data.specs.Chain.{Steps, LeadsTo}
 use Rattle.solid_data.specs.Ring.{next_of_each}
 use Rattle.solid_data.specs.SolidData.{SolidData}
-use Rattle.solid_data.specs.Numbering.{IsNumberedSolid}
 use Rattle.solid_data.specs.declared.solid.VertexId.{VertexId}
 use Rattle.solid_data.proofs.Members.{Has, NoRepeat, total, count_by-total, covers, Has-from_Contains, Contains-from_Has, All-at, All-from, has_append, has_flat_map, from_flat_map}
-use Rattle.solid_data.proofs.Trail.{Trail, trail_from_zip, leads_on, next_on, no_repeat}
+use Rattle.solid_data.proofs.Trail.{Trail, leads_on, next_on, no_repeat}
 use Rattle.edge_uses.specs.declared.row.Row.{Row}
 use Rattle.edge_uses.specs.ShellRows.{ShellRows}
 use Rattle.edge_uses.specs.Closed.{Turns, StartsAt}
@@ -19,14 +18,13 @@ use Rattle.topo_certificate.specs.Stand.{row_named, first_of, IsAbove}
 use Rattle.topo_certificate.proofs.Segment.{AreGoodRows, Falls, falls_more, named_has}
 use Rattle.open_shells.specs.Sound.{IsBorder, IsBorderCycle, IsBorderCycleOf, IsFanned, GoesOn, row_total}
 use Rattle.open_shells.specs.Line.{OpenLine, head, shell, edge, lone, cycle, path, point, reach, border, end, IsSpelled}
-use Rattle.open_shells.specs.Stand.{OpenStand, stand_behind, shell_of, GoesOnTo, FitsBorder, FitsLine, IsDone, lone_in, mates_in, edge_in, is_edge, number_of, border_in, border_rows}
+use Rattle.open_shells.specs.Stand.{stand_behind, shell_of, GoesOnTo, FitsLine, lone_in, mates_in, edge_in, is_edge, number_of, border_in, border_rows}
 use Rattle.open_shells.specs.Legal.{IsLegalBehind, IsOpenLegal}
 use Rattle.open_shells.specs.Laws.{cycle_in, rows_in, AreAllBorders, BordersAreCycles}
-use Rattle.open_shells.specs.Accepted.{IsOpenShell, AllJoin}
 use Rattle.open_shells.proofs.Spelling.{line_one}
 use Rattle.open_shells.proofs.Once.{lone_border, border_listed}
 use Rattle.open_shells.proofs.Fans.{lone_no_mate}
-use Rattle.open_shells.proofs.Facts.{AllFit, Facts, FitsAll, AreProper, facts_listed, proper_of, fits_all}
+use Rattle.open_shells.proofs.Facts.{AllFit, FitsAll, facts_listed, proper_of, fits_all}
 use Rattle.open_shells.proofs.Sound.{good_shell}
 
 -- the listed rows are border rows

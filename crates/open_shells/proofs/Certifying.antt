@@ -1,7 +1,7 @@
 -- The maker's certificates are legal, and accepted.
-use Rattle.std.specs.Prelude.{◌≡◌, ℕ, zero, suc, ◌+◌, ◌-◌, ◌*◌, ◌<◌, ◌≤◌, ◌^◌, ◌⊎◌, List, [], ◌∷◌, ◌++◌, length, map, flat_map, Result, Err}
+use Rattle.std.specs.Prelude.{◌≡◌, ℕ, suc, ◌+◌, ◌≤◌, List, [], ◌∷◌, ◌++◌, length, map, Err}
 use Rattle.std.specs.List.{AllByRecursion, AllZip}
-use Rattle.std.proofs.Common.{refl, sym, ◌∙◌, ap, subst, arith, inl, inr, ⊎_elim, length-append}
+use Rattle.std.proofs.Common.{refl, sym, ◌∙◌, ap, subst, arith, inl, length-append}
 use Rattle.std.proofs.lemmas.List.{length-map}
 use Rattle.std.proofs.lemmas.Option.{slice_get_within}
 use Rattle.iges_fields.specs.declared.entry_no.EntryNo.{EntryNo}
@@ -10,23 +10,22 @@ use Rattle.solid_data.specs.Numbering.{IsNumberedSolid}
 use Rattle.solid_data.specs.Ring.{numbers_from}
 use Rattle.solid_data.specs.declared.solid.RowId.{RowId}
 use Rattle.solid_data.specs.declared.solid.Shell.{Shell}
-use Rattle.solid_data.proofs.Members.{Has, Has-from_Contains, Contains-from_Has, NoRepeat, no_longer, Rises, rises_none, All-at, has_map, map_has, from_flat_map, total}
+use Rattle.solid_data.proofs.Members.{Has, Has-from_Contains, Contains-from_Has, NoRepeat, no_longer, Rises, rises_none, All-at, has_map, map_has, from_flat_map}
 use Rattle.solid_data.proofs.Occurring.{numbers_have, length-numbers}
-use Rattle.edge_uses.specs.declared.row.Row.{Row}
 use Rattle.edge_uses.specs.ShellRows.{ShellRows, shell_rows}
 use Rattle.edge_uses.specs.Closed.{AreMates}
-use Rattle.edge_uses.proofs.Counting.{uses_of_edge, uses-all}
+use Rattle.edge_uses.proofs.Counting.{uses-all}
 use Rattle.edge_uses.proofs.RowFacts.{edges_rise, vertices_rise}
 use Rattle.topo_certificate.specs.Stand.{IsMate}
 use Rattle.topo_certificate.proofs.Segment.{AreGoodRows}
 use Rattle.topo_certificate.proofs.Build.{PointsDiffer}
 use Rattle.topo_certificate.proofs.Complete.{any_above}
-use Rattle.open_shells.specs.Sound.{IsBorder, IsBorderCycle, IsBorderCycleOf, IsSoundShell}
+use Rattle.open_shells.specs.Sound.{IsBorder, IsBorderCycleOf, IsSoundShell}
 use Rattle.open_shells.specs.Line.{OpenLine, head, shell, end, spelling, HasSpelling}
 use Rattle.open_shells.specs.Stand.{shell_of}
 use Rattle.open_shells.specs.Legal.{IsOpenLegal}
 use Rattle.open_shells.specs.Obligations.{OpenObligation, AllHold, FirstFalse, open_obligations}
-use Rattle.open_shells.specs.Accepted.{AllJoin, IsOpenAccepted}
+use Rattle.open_shells.specs.Accepted.{IsOpenAccepted}
 use Rattle.open_shells.specs.Certified.{IsOpenCertificate, IsOpenFault, IsNoMemory, FailsSo}
 use Rattle.open_shells.specs.Listed.{AreListedParts}
 use Rattle.open_shells.specs.Mating.{AreOnce}

@@ -1,5 +1,5 @@
 -- Where a checker stands behind one more line.
-use Rattle.std.specs.Prelude.{◌≡◌, ℕ, ◌+◌, ◌-◌, ◌<◌, ◌≤◌, ◌^◌, true, false, List, [], ◌∷◌, length, None}
+use Rattle.std.specs.Prelude.{◌≡◌, ℕ, ◌+◌, ◌<◌, true, false, List, [], ◌∷◌, length, None}
 use Rattle.std.proofs.Common.{refl, sym, ◌∙◌, ap, arith}
 use Rattle.open_shells.specs.Line.{OpenLine, head, shell, edge, lone, cycle, path, point, reach, border, end}
 use Rattle.open_shells.specs.Said.{IsRowLine}

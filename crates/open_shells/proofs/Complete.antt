@@ -1,13 +1,13 @@
 -- A sound open shell has an accepted certificate.
-use Rattle.std.specs.Prelude.{◌≡◌, ◌↔◌, ℕ, List, [], ◌∷◌, length, map}
-use Rattle.std.specs.List.{AllByRecursion, AllZip}
+use Rattle.std.specs.Prelude.{◌≡◌, ℕ, List, [], ◌∷◌, length}
+use Rattle.std.specs.List.{AllByRecursion}
 use Rattle.std.proofs.Common.{refl, sym, subst, inl}
 use Rattle.solid_data.specs.Ring.{numbers_from}
 use Rattle.solid_data.specs.SolidData.{SolidData}
 use Rattle.solid_data.specs.Numbering.{IsNumberedSolid}
 use Rattle.solid_data.specs.declared.solid.Shell.{Shell}
 use Rattle.solid_data.proofs.Members.{Has}
-use Rattle.edge_uses.specs.ShellRows.{ShellRows, AreRows, shell_rows}
+use Rattle.edge_uses.specs.ShellRows.{ShellRows, shell_rows}
 use Rattle.edge_uses.specs.Closed.{IsReached}
 use Rattle.edge_uses.proofs.RowLemmas.{ends_meet}
 use Rattle.edge_uses.proofs.Whole.{are_rows}
@@ -15,7 +15,7 @@ use Rattle.topo_certificate.proofs.PointOrder.{faces_of_rows}
 use Rattle.open_shells.specs.Sound.{IsSoundShell}
 use Rattle.open_shells.specs.Stand.{shell_of}
 use Rattle.open_shells.specs.Obligations.{AllHold, open_obligations}
-use Rattle.open_shells.specs.Accepted.{IsOpenShell, IsOpenAccepted}
+use Rattle.open_shells.specs.Accepted.{IsOpenAccepted}
 use Rattle.open_shells.specs.Listed.{AreListedParts}
 use Rattle.open_shells.specs.Laws.{SoundExactlyWhereAccepted}
 use Rattle.open_shells.specs.Mating.{AreOnce}

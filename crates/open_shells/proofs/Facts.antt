@@ -1,5 +1,5 @@
 -- What the lines of an open shell's certificate show of its rows.
-use Rattle.std.specs.Prelude.{◌≡◌, ℕ, zero, suc, ◌+◌, ◌-◌, ◌*◌, ◌<◌, ◌≤◌, ◌⊎◌, true, false, List, [], ◌∷◌, length, filter_map, find, Contains, Option, Some, None, option_map}
+use Rattle.std.specs.Prelude.{◌≡◌, ℕ, suc, ◌+◌, ◌-◌, ◌*◌, ◌<◌, ◌≤◌, true, false, List, [], ◌∷◌, length, filter_map, find, Option, Some, option_map}
 use Rattle.std.specs.List.{AllByRecursion, cons_option, list_any}
 use Rattle.std.proofs.Common.{refl, sym, ◌∙◌, ap, subst, arith, inl, inr, ⊎_elim}
 use Rattle.solid_data.specs.SolidData.{SolidData}
@@ -8,13 +8,13 @@ use Rattle.edge_uses.specs.declared.row.Row.{Row}
 use Rattle.edge_uses.specs.ShellRows.{ShellRows}
 use Rattle.edge_uses.specs.Closed.{IsReached}
 use Rattle.solid_data.proofs.Members.{Has, covers}
-use Rattle.topo_certificate.specs.Stand.{Stand, FitsPoint, IsAbove, first_of, row_named, row_start, point_named}
+use Rattle.topo_certificate.specs.Stand.{IsAbove, first_of, row_named, row_start, point_named}
 use Rattle.topo_certificate.proofs.Segment.{AreGoodRows, Falls, falls_none, falls_more, ReachFacts, reach_step, faces_reached, start_known, point_known, point_from_line}
-use Rattle.open_shells.specs.Sound.{IsOnce, IsFanned, row_total}
+use Rattle.open_shells.specs.Sound.{IsOnce, IsFanned}
 use Rattle.open_shells.specs.Line.{OpenLine, head, shell, edge, lone, cycle, path, point, reach, border, end}
 use Rattle.open_shells.specs.Legal.{IsLegalBehind}
-use Rattle.open_shells.specs.Stand.{OpenStand, stand_behind, shell_of, shared, asked, is_shell, is_edge, is_corner, is_reach, is_border, number_of, mates_in, lone_in, edge_in, vertex_in, face_in, FitsShell, FitsLine, FitsOpen, IsDone, ListsAll}
-use Rattle.open_shells.proofs.Once.{EdgeFacts, AreListed, OnceRows, no_edges, edge_step, lone_step, all_once, lone_border, once_rows}
+use Rattle.open_shells.specs.Stand.{stand_behind, shell_of, shared, asked, is_shell, is_edge, is_corner, is_reach, number_of, mates_in, lone_in, edge_in, vertex_in, face_in, FitsShell, FitsLine, FitsOpen, IsDone}
+use Rattle.open_shells.proofs.Once.{EdgeFacts, AreListed, no_edges, edge_step, lone_step, all_once, lone_border, once_rows}
 use Rattle.open_shells.proofs.Fans.{fan_from_cycle, fan_from_path}
 
 -- each line fits the stand behind those before it

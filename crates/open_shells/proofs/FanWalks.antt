@@ -1,14 +1,13 @@
 -- The walk round a vertex, from the row where its path begins or from its least row, passes each row once, or the vertex has no fan.
-use Rattle.std.specs.Prelude.{◌≡◌, ◌≢◌, ◌<◌, ◌≤◌, ◌+◌, ◌==◌, ◌⊎◌, ℕ, zero, suc, Bool, true, false, List, [], ◌∷◌, ◌++◌, length, slice_get, Option, Some, None, count_by, IsTrue, Contains, MatchOption}
-use Rattle.std.specs.List.{AllByRecursion, AllZip}
+use Rattle.std.specs.Prelude.{◌≡◌, ◌≢◌, ◌<◌, ◌≤◌, ◌+◌, ◌==◌, ◌⊎◌, ℕ, zero, suc, Bool, true, false, List, [], ◌∷◌, ◌++◌, length, slice_get, Option, Some, None, count_by, IsTrue, MatchOption}
 use Rattle.std.proofs.Common.{refl, sym, ◌∙◌, ap, subst, arith, inl, inr, ⊎_elim, length-append}
 use Rattle.std.proofs.lemmas.Option.{same_Some}
 use Rattle.solid_data.specs.Chain.{Steps, LeadsTo}
 use Rattle.edge_uses.specs.declared.row.Row.{Row}
 use Rattle.edge_uses.specs.ShellRows.{ShellRows}
-use Rattle.edge_uses.specs.Closed.{StartsAt, Turns, AreMates, Follows, IsPoint, point_count}
-use Rattle.solid_data.proofs.Members.{Has, NoRepeat, covers, no_longer, count_by-total, All-at, All-from, has_last, has_append}
-use Rattle.solid_data.proofs.Trail.{Trail, trail_keeps, no_repeat, next_on, leads_to, leads_on, leads_trans, trail_from_zip}
+use Rattle.edge_uses.specs.Closed.{StartsAt, Turns, AreMates, IsPoint, point_count}
+use Rattle.solid_data.proofs.Members.{Has, NoRepeat, covers, no_longer, count_by-total, All-from, has_last}
+use Rattle.solid_data.proofs.Trail.{Trail, trail_keeps, no_repeat, leads_to, leads_on, leads_trans}
 use Rattle.solid_data.specs.declared.solid.VertexId.{VertexId}
 use Rattle.edge_uses.proofs.Cycle.{on_trail, zip_from_trail}
 use Rattle.edge_uses.proofs.Turns.{mates_back, follows_apart}

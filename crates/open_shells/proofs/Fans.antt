@@ -1,21 +1,20 @@
 -- A fitting cycle or path line lists the rows of one fan, and these are all rows that start at its vertex.
-use Rattle.std.specs.Prelude.{◌≡◌, ℕ, zero, suc, ◌+◌, ◌<◌, ◌≤◌, ◌==◌, ◌&&◌, ◌⊎◌, Bool, true, false, not, List, [], ◌∷◌, length, Contains, Option, Some, None, slice_get}
-use Rattle.std.specs.List.{AllByRecursion}
+use Rattle.std.specs.Prelude.{◌≡◌, ℕ, zero, suc, ◌≤◌, ◌==◌, ◌&&◌, ◌⊎◌, Bool, true, false, not, List, [], ◌∷◌, length, Contains, Option, Some, None, slice_get}
 use Rattle.std.proofs.Common.{refl, sym, ◌∙◌, ap, subst, arith, inl, inr, ⊎_elim}
 use Rattle.std.proofs.lemmas.Bool.{eq-eqb, and_from}
 use Rattle.std.proofs.lemmas.Option.{same_Some, none-some}
-use Rattle.solid_data.specs.Chain.{Steps, LeadsTo}
+use Rattle.solid_data.specs.Chain.{LeadsTo}
 use Rattle.solid_data.specs.declared.solid.EdgeId.{EdgeId}
 use Rattle.edge_uses.specs.declared.row.Row.{Row}
 use Rattle.edge_uses.specs.ShellRows.{ShellRows, EndsMeet}
-use Rattle.edge_uses.specs.Closed.{AreMates, Turns, StartsAt, row_count}
+use Rattle.edge_uses.specs.Closed.{AreMates, StartsAt, row_count}
 use Rattle.solid_data.proofs.Members.{Has, NoRepeat, covers, count_by-total}
 use Rattle.solid_data.proofs.Trail.{Trail, trail_from_zip, leads_trans, leads_to, leads_on, leads_one, leads_here, no_repeat}
 use Rattle.edge_uses.proofs.RowShape.{EndsExchanged}
 use Rattle.edge_uses.proofs.Turn.{not-not, one_of_edge}
 use Rattle.edge_uses.proofs.RowNumbers.{starting, length-starting}
 use Rattle.edge_uses.proofs.Counting.{counted, counts_of_edge}
-use Rattle.topo_certificate.specs.Stand.{Stand, row_named, row_start, FollowsAsNamed, IsMate, TurnsTo, FitsCorner}
+use Rattle.topo_certificate.specs.Stand.{Stand, row_named, row_start, FollowsAsNamed, TurnsTo, FitsCorner}
 use Rattle.topo_certificate.proofs.Corner.{AreNamedMates, MatesHold, mates_named, chain_unnamed, StartsNamed, start_of_row, turn_start_by, turns_row, corner_starts, follows_one, starts_listed, above_least}
 use Rattle.open_shells.specs.Sound.{IsOnce, IsFan, row_total}
 use Rattle.open_shells.specs.Stand.{OpenStand, IsChain, last_of, FitsPath}

@@ -1,6 +1,5 @@
 -- Where the paths of rows round vertices begin.
-use Rattle.std.specs.Prelude.{◌≡◌, ◌≢◌, ◌<◌, ◌≤◌, ◌+◌, ◌-◌, ◌==◌, ◌⊎◌, ℕ, zero, suc, true, false, List, [], ◌∷◌, length, slice_get, slice_set, Option, Some, None, MatchOption}
-use Rattle.std.specs.List.{AllByRecursion}
+use Rattle.std.specs.Prelude.{◌≡◌, ◌≢◌, ◌<◌, ◌≤◌, ◌+◌, ◌-◌, ◌==◌, ◌⊎◌, ℕ, true, false, List, length, slice_get, slice_set, Option, Some, None, MatchOption}
 use Rattle.std.proofs.Common.{refl, sym, ◌∙◌, ap, subst, arith, inl, inr, ⊎_elim, get_or}
 use Rattle.std.proofs.lemmas.Bool.{cases_lt}
 use Rattle.std.proofs.lemmas.Bool.Decides.{eqb_tells}
@@ -10,13 +9,12 @@ use Rattle.edge_uses.specs.declared.row.Row.{Row}
 use Rattle.edge_uses.specs.declared.spanning.Span.{Span}
 use Rattle.edge_uses.specs.Ranges.{IsWithin}
 use Rattle.edge_uses.specs.ShellRows.{ShellRows}
-use Rattle.edge_uses.specs.Closed.{StartsAt, Turns, AreMates, Follows}
+use Rattle.edge_uses.specs.Closed.{AreMates, Follows}
 use Rattle.edge_uses.proofs.Tallies.{set_same, set_other}
 use Rattle.edge_uses.proofs.Turns.{mates_back, follows_apart, follows_onto}
-use Rattle.edge_uses.proofs.Turn.{has_mate}
-use Rattle.open_shells.specs.Sound.{IsBorder, IsOnce}
-use Rattle.open_shells.specs.Mating.{AreOnce, IsMateOf}
-use Rattle.open_shells.specs.FanParts.{IsHeadOf, AreHeads}
+use Rattle.open_shells.specs.Sound.{IsBorder}
+use Rattle.open_shells.specs.Mating.{AreOnce}
+use Rattle.open_shells.specs.FanParts.{IsHeadOf}
 use Rattle.open_shells.proofs.Fans.{lone_no_mate}
 
 abbrev pub EndsAt : ShellRows → ℕ → ℕ → Type 0

@@ -5,7 +5,7 @@ use Rattle.solid_data.specs.SolidData.{SolidData}
 use Rattle.cert_lines.specs.declared.fault.Illegal.{Illegal}
 use Rattle.open_shells.specs.Line.{OpenLine, IsSpelled}
 use Rattle.open_shells.specs.Stand.{stand_behind, FitsLine}
-use Rattle.open_shells.specs.Legal.{IsLegalBehind, IsUnfit, IsBadLine, IsFirstBadBehind, IsOpenLegal, IsOpenFirstBad}
+use Rattle.open_shells.specs.Legal.{IsLegalBehind, IsBadLine, IsFirstBadBehind, IsOpenLegal, IsOpenFirstBad}
 use Rattle.open_shells.specs.Obligations.{OpenObligation, AllHold, FirstFalse}
 use Rattle.open_shells.specs.declared.verdict.OpenFailing.{OpenFailing}
 use Rattle.open_shells.proofs.Spelling.{line_one}

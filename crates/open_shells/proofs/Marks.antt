@@ -1,12 +1,12 @@
 -- Arrays of marked rows, and counts that stop.
-use Rattle.std.specs.Prelude.{◌≡◌, ◌≢◌, ℕ, zero, suc, ◌+◌, ◌-◌, ◌<◌, ◌≤◌, ◌==◌, ◌⊎◌, min, Bool, true, false, List, [], ◌∷◌, length, Contains, Some, slice_get, slice_set, replicate}
-use Rattle.std.proofs.Common.{refl, sym, ◌∙◌, ap, subst, arith, inl, inr}
+use Rattle.std.specs.Prelude.{◌≡◌, ◌≢◌, ℕ, zero, suc, ◌-◌, ◌<◌, ◌≤◌, ◌==◌, ◌⊎◌, Bool, true, false, List, [], ◌∷◌, length, Contains, Some, slice_get, slice_set, replicate}
+use Rattle.std.proofs.Common.{sym, ◌∙◌, ap, subst, arith, inl, inr}
 use Rattle.std.proofs.lemmas.Bool.Decides.{eqb_tells}
 use Rattle.std.proofs.lemmas.Option.{same_Some}
 use Rattle.std.proofs.lemmas.List.{length-replicate}
 use Rattle.solid_data.proofs.Members.{Has, Has-from_Contains, Contains-from_Has}
 use Rattle.topo_certificate.proofs.Arrays.{get_set_same, get_set_other}
-use Rattle.open_shells.specs.Kept.{IsMarked, HoldsRows, count_limit}
+use Rattle.open_shells.specs.Kept.{IsMarked, HoldsRows}
 
 -- one row more is marked
 pub rows_more : (marks : List Bool) (rows : List ℕ) (a : ℕ) → 0 < a → a ≤ length marks → HoldsRows marks rows → HoldsRows (slice_set marks (a - 1) true) (a ∷ rows)

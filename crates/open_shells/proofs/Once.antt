@@ -1,16 +1,14 @@
 -- What the edge lines show: each edge has one row, or two that are mates.
-use Rattle.std.specs.Prelude.{◌≡◌, ℕ, zero, suc, ◌+◌, ◌*◌, ◌-◌, ◌<◌, ◌≤◌, ◌==◌, ◌&&◌, ◌⊎◌, Bool, true, false, not, List, [], ◌∷◌, length, map, Contains, Option, Some, None, slice_get}
-use Rattle.std.specs.List.{AllByRecursion, cons_option}
+use Rattle.std.specs.Prelude.{◌≡◌, ℕ, zero, suc, ◌+◌, ◌*◌, ◌≤◌, ◌==◌, ◌&&◌, ◌⊎◌, Bool, true, false, not, List, [], ◌∷◌, length, map, Contains, Some, None, slice_get}
+use Rattle.std.specs.List.{cons_option}
 use Rattle.std.proofs.Common.{refl, sym, ◌∙◌, ap, subst, arith, inl, inr, ⊎_elim}
 use Rattle.std.proofs.lemmas.Bool.{eq-eqb, and_from}
-use Rattle.std.proofs.lemmas.Option.{same_Some}
 use Rattle.solid_data.specs.declared.solid.EdgeId.{EdgeId}
 use Rattle.solid_data.proofs.Members.{Has, NoRepeat, total, Has-from_Contains, Contains-from_Has, covers, count_by-total}
 use Rattle.edge_uses.specs.declared.row.Row.{Row}
 use Rattle.edge_uses.specs.ShellRows.{ShellRows}
-use Rattle.edge_uses.specs.Closed.{IsPaired, AreMates, row_count}
+use Rattle.edge_uses.specs.Closed.{row_count}
 use Rattle.edge_uses.proofs.Counting.{uses_of_edge, uses-most, counts_of_edge, one_place}
-use Rattle.edge_uses.proofs.Turn.{not-not, one_of_edge}
 use Rattle.topo_certificate.specs.Stand.{Stand, FitsEdge, IsAbove, first_of, row_named, row_edge}
 use Rattle.topo_certificate.proofs.Corner.{AreNamedMates, MatesHold}
 use Rattle.topo_certificate.proofs.Segment.{AreGoodRows, Falls, falls_none, falls_more, named_has, row_has, counted_named, mates_of_line}

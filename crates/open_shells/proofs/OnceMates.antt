@@ -1,28 +1,26 @@
 -- Edges that are used once or by mates, and the mates of their rows.
-use Rattle.std.specs.Prelude.{◌≡◌, ◌≢◌, ℕ, zero, suc, ◌+◌, ◌-◌, ◌<◌, ◌≤◌, ◌==◌, ◌⊎◌, Bool, true, false, not, List, [], ◌∷◌, ◌++◌, length, Contains, Option, Some, None, slice_get, All}
+use Rattle.std.specs.Prelude.{◌≡◌, ℕ, zero, suc, ◌+◌, ◌-◌, ◌<◌, ◌≤◌, ◌⊎◌, Bool, true, false, not, List, [], ◌∷◌, ◌++◌, length, Contains, Option, Some, slice_get}
 use Rattle.std.specs.List.{AllByRecursion, AllZip}
 use Rattle.std.proofs.Common.{refl, sym, ◌∙◌, ap, subst, arith, inl, inr, ⊎_elim, drop, append_assoc, get_or}
 use Rattle.std.proofs.lemmas.List.{append-nil, drop_all}
-use Rattle.std.proofs.lemmas.Bool.{eq-eqb}
 use Rattle.std.proofs.lemmas.Option.{same_Some}
 use Rattle.solid_data.specs.Obligations.{FirstNot}
 use Rattle.solid_data.specs.declared.solid.RowId.{RowId}
-use Rattle.solid_data.proofs.Members.{Has, split_at, All-at, Has-from_Contains, has_get, count_by-total}
+use Rattle.solid_data.proofs.Members.{split_at, All-at, Has-from_Contains, has_get}
 use Rattle.edge_uses.specs.declared.row.Row.{Row}
 use Rattle.edge_uses.specs.declared.tally.Seen.{Seen}
 use Rattle.edge_uses.specs.declared.spanning.Span.{Span}
 use Rattle.edge_uses.specs.Ranges.{IsWithin}
-use Rattle.edge_uses.specs.ShellRows.{ShellRows, AreRows}
+use Rattle.edge_uses.specs.ShellRows.{ShellRows}
 use Rattle.edge_uses.specs.Closed.{AreMates, IsPaired, row_count}
 use Rattle.edge_uses.specs.Mates.{RunsOn}
 use Rattle.edge_uses.specs.Tally.{IsSeen, IsTally, unseen}
-use Rattle.edge_uses.proofs.Counting.{uses_of_edge, counts_of_edge}
+use Rattle.edge_uses.proofs.Counting.{counts_of_edge}
 use Rattle.edge_uses.proofs.FirstOf.{LeftIn}
 use Rattle.edge_uses.proofs.Turn.{edge_id, row_of_edge_along, row_of_edge_against}
 use Rattle.open_shells.specs.Sound.{IsOnce, IsBorder, row_total}
-use Rattle.open_shells.specs.Mating.{AreRowsOf, IsMateOf, AreOnce, HaveOpenMates}
-use Rattle.open_shells.specs.declared.parts.OpenEdge.{OpenEdge}
-use Rattle.open_shells.proofs.Once.{OnceRows, total_uses, way_one}
+use Rattle.open_shells.specs.Mating.{IsMateOf, AreOnce}
+use Rattle.open_shells.proofs.Once.{OnceRows, total_uses}
 
 -- What is shown of those left is shown of all, one more.
 

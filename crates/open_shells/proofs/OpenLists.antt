@@ -1,11 +1,9 @@
 -- Lists of obligations on open shells.
-use Rattle.std.specs.Prelude.{◌≡◌, ℕ, List, [], ◌∷◌, ◌++◌, map, ◌↔◌, length}
+use Rattle.std.specs.Prelude.{List, [], ◌∷◌, ◌++◌, map}
 use Rattle.std.specs.List.{AllByRecursion, enumerate_from}
-use Rattle.std.proofs.Common.{refl, sym, ap, inl, inr, ⊎_elim}
-use Rattle.solid_data.specs.Obligations.{Obligation, FirstNot, AllHold as AllHoldClosed, FirstFalse as FirstFalseClosed, of_each}
-use Rattle.solid_data.specs.Ring.{numbers_from}
+use Rattle.std.proofs.Common.{ap, inl, inr, ⊎_elim}
+use Rattle.solid_data.specs.Obligations.{Obligation, FirstNot, AllHold as AllHoldClosed, FirstFalse as FirstFalseClosed}
 use Rattle.solid_data.specs.SolidData.{SolidData, PlacedLoop, placed_loops}
-use Rattle.solid_data.specs.declared.solid.FaceUse.{FaceUse}
 use Rattle.solid_data.specs.declared.solid.Shell.{Shell}
 use Rattle.solid_data.specs.declared.verdict.Failing.{Failing}
 use Rattle.solid_data.proofs.ObligationLemmas.{AllHold-of_each, of_each-AllHold, AllHold-map, map-AllHold, AllByRecursion-weaker}
@@ -16,7 +14,7 @@ use Rattle.edge_uses.proofs.ClosedLemmas.{joined_from_hold, hold_from_joined, nu
 use Rattle.open_shells.specs.Sound.{IsSoundShell}
 use Rattle.open_shells.specs.Obligations.{OpenObligation, AllHold, FirstFalse, open_failing, as_open, edge_obligation, fan_obligation, open_shell_obligations}
 use Rattle.open_shells.specs.declared.verdict.OpenRule.{OpenRule}
-use Rattle.open_shells.specs.declared.verdict.OpenRule.TheVariants.{Join, Edge, Reach, Fan}
+use Rattle.open_shells.specs.declared.verdict.OpenRule.TheVariants.{Join, Reach}
 use Rattle.open_shells.specs.declared.verdict.OpenFailing.{OpenFailing}
 
 pub hold_append : (os ps : List OpenObligation) → AllHold os → AllHold ps → AllHold (os ++ ps)

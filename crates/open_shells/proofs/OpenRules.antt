@@ -1,5 +1,5 @@
 -- Whether each rule holds on an open shell, and what it names where it fails.
-use Rattle.std.specs.Prelude.{◌≡◌, ℕ, zero, suc, ◌+◌, ◌++◌, List, [], ◌∷◌, length, map, Contains, Option, Some, slice_get, IfSome, ⊤}
+use Rattle.std.specs.Prelude.{◌≡◌, ℕ, suc, ◌+◌, ◌++◌, List, [], ◌∷◌, length, map, Contains, Option, Some, slice_get, IfSome}
 use Rattle.std.specs.List.{AllByRecursion, enumerate_from}
 use Rattle.std.proofs.Common.{refl, sym, ◌∙◌, ap, subst, arith, inl, inr, ⊎_elim}
 use Rattle.solid_data.specs.Ring.{numbers_from}
@@ -13,9 +13,9 @@ use Rattle.solid_data.specs.declared.verdict.Rule.{Rule}
 use Rattle.solid_data.specs.declared.verdict.Rule.TheVariants.{Unjoined, Unreached}
 use Rattle.solid_data.proofs.Members.{Has, Contains-from_Has}
 use Rattle.solid_data.proofs.ObligationLemmas.{FirstFalse-append_front, FirstFalse-append_rest}
-use Rattle.edge_uses.specs.ShellRows.{ShellRows, shell_rows, rows_of}
+use Rattle.edge_uses.specs.ShellRows.{ShellRows, shell_rows}
 use Rattle.edge_uses.specs.Closed.{IsJoined, IsReached}
-use Rattle.edge_uses.specs.ShellObligations.{loop_obligations, IsFirstUnjoined, join_obligations, reach_obligations, edge_name, vertex_name}
+use Rattle.edge_uses.specs.ShellObligations.{loop_obligations, IsFirstUnjoined, join_obligations, reach_obligations}
 use Rattle.edge_uses.proofs.ClosedLemmas.{hold_from_joined}
 use Rattle.open_shells.specs.Sound.{IsOnce, IsFanned}
 use Rattle.open_shells.specs.Obligations.{OpenObligation, AllHold, FirstFalse, open_failing, as_open, edge_obligation, fan_obligation, open_shell_obligations}
@@ -23,8 +23,7 @@ use Rattle.open_shells.specs.Certified.{IsOpenFault}
 use Rattle.open_shells.specs.declared.fault.OpenFault.{OpenFault}
 use Rattle.open_shells.specs.declared.fault.OpenFault.TheVariants.{Fails, NoMemory}
 use Rattle.open_shells.specs.declared.verdict.OpenFailing.{OpenFailing}
-use Rattle.open_shells.specs.declared.verdict.OpenRule.{OpenRule}
-use Rattle.open_shells.specs.declared.verdict.OpenRule.TheVariants.{Join, Edge, Reach, Fan}
+use Rattle.open_shells.specs.declared.verdict.OpenRule.TheVariants.{Join, Reach}
 use Rattle.open_shells.proofs.OpenLists.{hold_append, false_front, false_rest, hold_map, first_map, as_open_hold, as_open_false}
 use Rattle.open_shells.proofs.Placed.{IsPlace}
 

@@ -1,44 +1,22 @@
 -- The lines of parts fit.
-use Rattle.std.specs.Prelude.{◌≡◌, ℕ, zero, suc, ◌+◌, ◌-◌, ◌*◌, ◌<◌, ◌≤◌, ◌^◌, ◌==◌, ◌&&◌, cond, ◌⊎◌, Bool, true, false, not, List, [], ◌∷◌, ◌++◌, length, map, filter, filter_map, flat_map, find, Contains, Some, None, slice_get, option_map}
+use Rattle.std.specs.Prelude.{◌≡◌, ℕ, suc, ◌+◌, ◌-◌, ◌*◌, ◌<◌, ◌≤◌, cond, true, false, List, [], ◌∷◌, ◌++◌, length, map, filter, filter_map, flat_map, find, Contains, Some, None, option_map}
 use Rattle.std.specs.List.{AllByRecursion, AllZip, cons_option, list_any}
-use Rattle.std.proofs.Common.{refl, sym, ◌∙◌, ap, subst, arith, inl, inr, ⊎_elim, length-append}
-use Rattle.std.proofs.lemmas.Bool.{eq-eqb, eqb-true, and_parts}
-use Rattle.std.proofs.lemmas.List.{length-map}
-use Rattle.std.proofs.lemmas.Option.{same_Some, slice_get_within}
+use Rattle.std.proofs.Common.{refl, sym, ◌∙◌, ap, subst, arith}
 use Rattle.solid_data.specs.Ring.{next_of_each}
 use Rattle.solid_data.specs.SolidData.{SolidData}
-use Rattle.solid_data.specs.declared.solid.EdgeId.{EdgeId}
 use Rattle.solid_data.specs.declared.solid.LoopAt.{LoopAt}
 use Rattle.solid_data.specs.declared.solid.RowId.{RowId}
-use Rattle.solid_data.proofs.Members.{Has, Has-from_Contains, Contains-from_Has, NoRepeat, Rises, rises_none, total, count_by-total}
+use Rattle.solid_data.proofs.Members.{Has, Has-from_Contains, Contains-from_Has}
 use Rattle.edge_uses.specs.declared.row.Row.{Row}
-use Rattle.edge_uses.specs.ShellRows.{ShellRows}
-use Rattle.edge_uses.specs.Closed.{AreMates, StartsAt, Turns, OnFace, point_count}
-use Rattle.edge_uses.specs.Mates.{RunsOn}
-use Rattle.edge_uses.proofs.Counting.{uses_of_edge, counts_of_edge, counted, one_place}
-use Rattle.edge_uses.proofs.Turn.{edge_id}
-use Rattle.cert_lines.specs.Line.{IsShort}
+use Rattle.edge_uses.specs.Closed.{point_count}
 use Rattle.cert_lines.specs.Written.{row_number}
-use Rattle.topo_certificate.specs.Stand.{IsAbove, first_of, row_named, row_edge, row_start, row_face, point_named, start_count, IsMate, TurnsTo, FitsEdge, FitsCorner, FitsPoint, FitsReach}
-use Rattle.topo_certificate.proofs.Segment.{AreGoodRows, row_has}
-use Rattle.topo_certificate.proofs.Build.{MatedAt, PointsDiffer, zip_suc, map-suc-append, above_suc, find_some, none_start}
-use Rattle.open_shells.specs.Sound.{row_total, IsBorder, IsOnce, GoesOn, IsBorderCycle, IsBorderCycleOf}
-use Rattle.open_shells.specs.Line.{OpenLine, head, shell, edge, lone, cycle, path, point, reach, border, end, spelling, HasSpelling}
-use Rattle.open_shells.specs.Stand.{OpenStand, stand_behind, shell_of, is_shell, is_edge, is_corner, is_reach, is_border, is_last, number_of, asked, mates_in, lone_in, edge_in, vertex_in, face_in, border_in, border_rows, FitsLine, IsChain, last_of, GoesOnTo}
+use Rattle.topo_certificate.specs.Stand.{IsAbove, first_of, row_named, row_edge, row_start, row_face, point_named, start_count, IsMate, TurnsTo}
+use Rattle.open_shells.specs.Line.{OpenLine, shell, edge, lone, cycle, path, point, reach, border, end, spelling, HasSpelling}
+use Rattle.open_shells.specs.Stand.{stand_behind, shell_of, is_shell, is_edge, is_corner, is_reach, is_border, is_last, number_of, asked, mates_in, lone_in, edge_in, vertex_in, face_in, border_in, border_rows, FitsLine, IsChain, last_of, GoesOnTo}
 use Rattle.open_shells.specs.Legal.{IsLegalBehind}
-use Rattle.open_shells.specs.Written.{edge_line, corner_line, reach_line, border_line}
-use Rattle.open_shells.specs.Mating.{AreRowsOf, AreOnce}
-use Rattle.open_shells.specs.FanParts.{LiesAt, IsCycle, IsPath}
-use Rattle.open_shells.specs.Reaching.{ReachFrom, ReachesOne, row_numbers}
-use Rattle.open_shells.specs.BorderParts.{flat, first_in}
-use Rattle.open_shells.specs.declared.parts.OpenEdge.{OpenEdge}
-use Rattle.open_shells.specs.declared.parts.OpenEdge.TheVariants.{One, Two}
-use Rattle.open_shells.specs.declared.parts.OpenCorner.{OpenCorner}
-use Rattle.open_shells.specs.declared.parts.OpenCorner.TheVariants.{Cycle, Path, Point}
-use Rattle.open_shells.proofs.Once.{total_uses}
-use Rattle.open_shells.proofs.Fans.{one_mate_of, lone_no_mate, both_ways_counted, counted_way}
-use Rattle.open_shells.proofs.OnceMates.{row_once}
-use Rattle.open_shells.proofs.OpenSizes.{AreSmall}
+use Rattle.open_shells.specs.Written.{edge_line}
+use Rattle.open_shells.specs.Reaching.{row_numbers}
+use Rattle.open_shells.specs.declared.parts.OpenEdge.TheVariants.{Two}
 
 -- Behind the lines before, the latest first: each line is spelled and fits, and the last is END.
 abbrev pub Follow : SolidData → List OpenLine → List OpenLine → Type 0

@@ -1,18 +1,17 @@
 -- The lines of parts fit one behind the other.
-use Rattle.std.specs.Prelude.{◌≡◌, ℕ, zero, suc, ◌+◌, ◌-◌, ◌*◌, ◌<◌, ◌≤◌, ◌^◌, ◌==◌, ◌&&◌, ◌⊎◌, Bool, true, false, not, List, [], ◌∷◌, ◌++◌, length, map, Contains, Some, slice_get, option_map}
+use Rattle.std.specs.Prelude.{◌≡◌, ℕ, suc, ◌+◌, ◌-◌, ◌*◌, ◌≤◌, ◌==◌, ◌&&◌, ◌⊎◌, Bool, true, false, not, List, [], ◌∷◌, ◌++◌, length, map, Contains, Some, slice_get, option_map}
 use Rattle.std.specs.List.{AllByRecursion, AllZip}
 use Rattle.std.proofs.Common.{refl, sym, ◌∙◌, ap, subst, arith, inl, inr, ⊎_elim, length-append}
 use Rattle.std.proofs.lemmas.Bool.{eq-eqb, eqb-true, and_parts}
 use Rattle.std.proofs.lemmas.List.{length-map}
 use Rattle.std.proofs.lemmas.Option.{same_Some, slice_get_within}
 use Rattle.solid_data.specs.SolidData.{SolidData}
-use Rattle.solid_data.specs.declared.solid.EdgeId.{EdgeId}
 use Rattle.solid_data.specs.declared.solid.LoopAt.{LoopAt}
 use Rattle.solid_data.specs.declared.solid.RowId.{RowId}
 use Rattle.solid_data.proofs.Members.{Has, Has-from_Contains, Contains-from_Has, NoRepeat, Rises, rises_none, total, count_by-total}
 use Rattle.edge_uses.specs.declared.row.Row.{Row}
 use Rattle.edge_uses.specs.ShellRows.{ShellRows}
-use Rattle.edge_uses.specs.Closed.{AreMates, StartsAt, Turns, OnFace}
+use Rattle.edge_uses.specs.Closed.{AreMates, StartsAt, Turns}
 use Rattle.edge_uses.specs.Mates.{RunsOn}
 use Rattle.edge_uses.proofs.Counting.{uses_of_edge, counts_of_edge, one_place}
 use Rattle.edge_uses.proofs.Turn.{edge_id}

@@ -1,5 +1,5 @@
 -- A sound open shell has the parts of a certificate.
-use Rattle.std.specs.Prelude.{◌≡◌, ◌≢◌, ◌↔◌, ℕ, zero, suc, ◌+◌, ◌-◌, ◌<◌, ◌≤◌, ◌==◌, ◌&&◌, ◌⊎◌, Bool, true, false, not, List, [], ◌∷◌, ◌++◌, length, map, Contains, count_by, Option, Some, None, slice_get, slice_set}
+use Rattle.std.specs.Prelude.{◌≡◌, ◌↔◌, ℕ, zero, suc, ◌+◌, ◌-◌, ◌<◌, ◌≤◌, ◌==◌, ◌&&◌, ◌⊎◌, Bool, true, false, not, List, [], ◌∷◌, ◌++◌, length, map, count_by, Option, Some, None, slice_get, slice_set}
 use Rattle.std.specs.List.{AllByRecursion, AllZip}
 use Rattle.std.proofs.Common.{refl, sym, ◌∙◌, ap, subst, arith, inl, inr, ⊎_elim, length-append, append_assoc, get_or}
 use Rattle.std.proofs.lemmas.Bool.{eqb-true, and_parts, cases_lt}
@@ -8,20 +8,18 @@ use Rattle.solid_data.specs.Chain.{Steps}
 use Rattle.solid_data.specs.Ring.{numbers_from}
 use Rattle.solid_data.specs.declared.solid.LoopAt.{LoopAt}
 use Rattle.solid_data.specs.declared.solid.RowId.{RowId}
-use Rattle.solid_data.proofs.Members.{Has, Has-from_Contains, Contains-from_Has, NoRepeat, no_longer, rises_none, count_by-total, All-at}
-use Rattle.solid_data.proofs.Occurring.{numbers_rise, number_below, length-numbers}
+use Rattle.solid_data.proofs.Members.{Has, Has-from_Contains, Contains-from_Has, no_longer, rises_none, count_by-total, All-at}
+use Rattle.solid_data.proofs.Occurring.{numbers_rise, length-numbers}
 use Rattle.std.proofs.lemmas.Option.{slice_get_within}
 use Rattle.solid_data.proofs.Trail.{trail_keeps}
 use Rattle.edge_uses.specs.declared.row.Row.{Row}
 use Rattle.edge_uses.specs.ShellRows.{ShellRows}
-use Rattle.edge_uses.specs.Closed.{AreMates, Turns, StartsAt, OnFace, AreNeighbours, IsReached, IsPoint}
+use Rattle.edge_uses.specs.Closed.{AreMates, Turns, StartsAt, OnFace, AreNeighbours, IsReached}
 use Rattle.edge_uses.proofs.Counting.{found_row}
 use Rattle.edge_uses.proofs.Cycle.{same_or_not}
 use Rattle.edge_uses.proofs.Turns.{mates_back, follows_onto}
-use Rattle.topo_certificate.specs.Stand.{start_count}
-use Rattle.topo_certificate.proofs.Segment.{row_has}
 use Rattle.topo_certificate.proofs.Build.{found_point}
-use Rattle.open_shells.specs.Sound.{row_total, IsBorder, IsOnce, IsFan, IsFanned}
+use Rattle.open_shells.specs.Sound.{IsBorder, IsOnce, IsFan, IsFanned}
 use Rattle.open_shells.specs.Mating.{AreRowsOf, AreOnce}
 use Rattle.open_shells.specs.FanParts.{LiesAt, IsCycleOf, IsPathOf, IsHeadOf}
 use Rattle.open_shells.specs.Reaching.{ReachFrom, ReachesOne, ReachesAll, row_numbers}

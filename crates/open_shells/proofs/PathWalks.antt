@@ -1,10 +1,10 @@
 -- One number more of a path line.
-use Rattle.std.specs.Prelude.{◌≡◌, ℕ, ◌+◌, List, [], ◌∷◌, length}
+use Rattle.std.specs.Prelude.{◌≡◌, ℕ, ◌+◌, List, ◌∷◌, length}
 use Rattle.std.proofs.Common.{refl, sym, ◌∙◌, ap, subst, arith}
 use Rattle.edge_uses.specs.ShellRows.{ShellRows}
 use Rattle.topo_certificate.specs.Stand.{TurnsTo}
 use Rattle.cert_lines.specs.Numbers.{Begins, AreNumbers}
-use Rattle.topo_certificate.proofs.Rings.{next_left}
+use Rattle.topo_certificate.proofs.Rings.{next_left, none_left}
 use Rattle.open_shells.specs.Stand.{IsChain, last_of}
 
 -- The numbers that are left make the chain whole exactly where all make it.
@@ -40,11 +40,7 @@ walked_stop d pairs first last next rest after all count b never w r =
     let k = subst (IsChain (TurnsTo d pairs) last) n.1 (w.back r) in
     never k.0
 
-none_left : (rest left : List ℕ) → ((n : ℕ) (ns : List ℕ) → ¬ AreNumbers rest (n ∷ ns)) → AreNumbers rest left → left ≡ []
-none_left rest [] never h = refl
-none_left rest (m ∷ ms) never h = absurd (never m ms h)
-
-pub walked_whole : (d : ShellRows) (pairs : List (ℕ × ℕ)) (first last : ℕ) (rest all : List ℕ) (count : ℕ) → ((n : ℕ) (ns : List ℕ) → ¬ AreNumbers rest (n ∷ ns))
+pub walked_whole : (d : ShellRows) (pairs : List (ℕ × ℕ)) (first last : ℕ) (rest all : List ℕ) (count : ℕ) → ((n : ℕ) (after : List ℕ) → ¬ Begins rest n after)
     → Walked d pairs first last rest all count → IsChain (TurnsTo d pairs) first all × (last ≡ last_of first all) × (count ≡ length (first ∷ all))
 walked_whole d pairs first last rest all count never w =
     let e = none_left rest w.left never w.numbers in

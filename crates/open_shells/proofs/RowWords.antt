@@ -1,8 +1,8 @@
 -- The numbers behind a word.
-use Rattle.std.specs.Prelude.{◌≡◌, ℕ, ◌<◌, List, [], ◌∷◌, ◌++◌, length}
+use Rattle.std.specs.Prelude.{◌≡◌, ℕ, List, [], ◌∷◌, ◌++◌, length}
 use Rattle.std.proofs.Common.{sym, ◌∙◌, ap, arith}
 use Rattle.cert_lines.specs.Line.{spaced}
-use Rattle.cert_lines.specs.Numbers.{AreNumbers, IsSpaced}
+use Rattle.cert_lines.specs.Numbers.{IsSpaced}
 use Rattle.cert_lines.proofs.Spelling.{same_front}
 use Rattle.open_shells.specs.Said.{IsRowsBehind}
 

@@ -1,7 +1,7 @@
 -- What has an accepted certificate is sound.
-use Rattle.std.specs.Prelude.{◌≡◌, ℕ, ◌<◌, List, [], ◌∷◌, ◌++◌, length, flat_map, slice_get, Some}
+use Rattle.std.specs.Prelude.{◌≡◌, ℕ, ◌<◌, List, [], ◌∷◌, length, flat_map, slice_get}
 use Rattle.std.specs.List.{AllByRecursion}
-use Rattle.std.proofs.Common.{refl, sym, ◌∙◌, ap, subst, arith, inl}
+use Rattle.std.proofs.Common.{refl, sym, ap, subst, arith, inl}
 use Rattle.std.proofs.lemmas.List.{append-nil}
 use Rattle.solid_data.specs.SolidData.{SolidData, PlacedLoop, placed_loops}
 use Rattle.solid_data.specs.Numbering.{IsNumberedSolid}
@@ -9,7 +9,7 @@ use Rattle.solid_data.specs.Ring.{numbers_from}
 use Rattle.solid_data.specs.declared.solid.Shell.{Shell}
 use Rattle.solid_data.proofs.Members.{Has, All-from}
 use Rattle.solid_data.proofs.Occurring.{number_below}
-use Rattle.edge_uses.specs.ShellRows.{ShellRows, shell_rows, rows_of}
+use Rattle.edge_uses.specs.ShellRows.{shell_rows, rows_of}
 use Rattle.edge_uses.specs.Closed.{IsJoined, IsReached}
 use Rattle.edge_uses.proofs.RowLemmas.{ends_meet}
 use Rattle.edge_uses.proofs.RowShape.{ends_exchanged}
@@ -21,7 +21,7 @@ use Rattle.open_shells.specs.Sound.{IsOnce, IsFanned, IsSoundShell}
 use Rattle.open_shells.specs.Stand.{shell_of}
 use Rattle.open_shells.specs.Legal.{IsOpenLegal}
 use Rattle.open_shells.specs.Obligations.{AllHold, open_shell_obligations, open_obligations, of_shells}
-use Rattle.open_shells.specs.Accepted.{IsOpenShell, IsOpenAccepted, AllJoin}
+use Rattle.open_shells.specs.Accepted.{AllJoin}
 use Rattle.open_shells.specs.Laws.{AcceptedIsSound}
 use Rattle.open_shells.proofs.Facts.{AreProper, legal_is_proper}
 use Rattle.open_shells.proofs.OpenLists.{hold_append, hold_left, hold_from_sound, sound_from_hold}

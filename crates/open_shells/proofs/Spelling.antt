@@ -1,8 +1,8 @@
 -- Bytes spell one line at most, and spelled lines are cut into these lines.
-use Rattle.std.specs.Prelude.{◌≡◌, ◌≢◌, ℕ, zero, suc, ◌+◌, ◌<◌, ◌==◌, List, [], ◌∷◌, ◌++◌, map, flat_map, codes, if◌then◌else◌}
+use Rattle.std.specs.Prelude.{◌≡◌, ◌≢◌, ℕ, ◌==◌, List, [], ◌∷◌, ◌++◌, map, flat_map, codes, if◌then◌else◌}
 use Rattle.std.specs.List.{AllByRecursion}
 use Rattle.std.proofs.Common.{refl, sym, ◌∙◌, ap, arith, append_assoc, get_or}
-use Rattle.cert_lines.specs.Line.{spaced, cut_lines, IsShort}
+use Rattle.cert_lines.specs.Line.{spaced, cut_lines}
 use Rattle.cert_lines.proofs.Spelling.{spaced_one, same_front}
 use Rattle.cert_lines.proofs.CutLines.{cut_piece, spaced_no_break}
 use Rattle.open_shells.specs.Line.{OpenLine, head, shell, edge, lone, cycle, path, point, reach, border, end, words, spelling, numbers_of, HasSpelling, IsSpelled}

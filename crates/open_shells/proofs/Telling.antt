@@ -1,5 +1,5 @@
 -- What is kept of an open shell, behind one more of its lines.
-use Rattle.std.specs.Prelude.{◌≡◌, ℕ, zero, suc, ◌+◌, ◌-◌, ◌*◌, ◌<◌, ◌≤◌, ◌^◌, ◌⊎◌, min, Bool, true, false, List, [], ◌∷◌, length, filter_map, flat_map, find, Contains, Option, Some, None, IsSomeAnd, slice_set, slice_get}
+use Rattle.std.specs.Prelude.{◌≡◌, ℕ, ◌+◌, ◌-◌, ◌<◌, ◌≤◌, ◌^◌, ◌⊎◌, min, true, false, List, [], ◌∷◌, length, filter_map, flat_map, Option, Some, None, slice_set}
 use Rattle.std.specs.List.{cons_option}
 use Rattle.std.proofs.Common.{refl, sym, ◌∙◌, ap, subst, arith, inl, inr, ⊎_elim, length-append}
 use Rattle.std.proofs.Math.Nat.{min-eq_left, min-eq_right}
@@ -10,16 +10,16 @@ use Rattle.solid_data.specs.SolidData.{SolidData}
 use Rattle.edge_uses.specs.declared.row.Row.{Row}
 use Rattle.edge_uses.specs.ShellRows.{ShellRows}
 use Rattle.cert_lines.specs.Line.{edge as pair_edge, corner as pair_corner, point as pair_point, reach as pair_reach}
-use Rattle.topo_certificate.specs.Stand.{Stand, row_named, first_of, IsAbove, FitsEdge, FitsCorner, FitsPoint, FitsReach}
+use Rattle.topo_certificate.specs.Stand.{Stand, row_named, first_of, IsAbove, FitsEdge, FitsPoint, FitsReach}
 use Rattle.topo_certificate.specs.Stand.{edge_of, vertex_of, face_of}
-use Rattle.topo_certificate.specs.Kept.{mate_in, HoldsMates, HoldsFaces}
+use Rattle.topo_certificate.specs.Kept.{HoldsMates, HoldsFaces}
 use Rattle.topo_certificate.specs.Ring.{FitsCornerLine}
 use Rattle.topo_certificate.proofs.Arrays.{CanMate, MateCases, with_mates, mate_cases, mates_more, faces_more}
 use Rattle.topo_certificate.proofs.CornerFits.{named_below}
 use Rattle.topo_certificate.proofs.Standing.{due_of, stand_of}
 use Rattle.topo_certificate.proofs.Telling.{not_passed}
 use Rattle.open_shells.specs.Line.{OpenLine, shell, edge, lone, cycle, path, point, reach, border}
-use Rattle.open_shells.specs.Stand.{OpenStand, stand_behind, shell_of, shared, asked, is_shell, is_edge, is_corner, is_reach, is_border, number_of, edge_in, vertex_in, face_in, border_in, border_rows, FitsShell, FitsLone, FitsOpen, ListsAll, CornerDue, ReachDue, BorderDue}
+use Rattle.open_shells.specs.Stand.{OpenStand, stand_behind, shell_of, shared, edge_in, vertex_in, face_in, border_in, border_rows, FitsShell, FitsLone, FitsOpen, CornerDue, BorderDue}
 use Rattle.open_shells.specs.Kept.{KeptOpen, IsKept, AreCounts, TellsLines, Takes, HoldsRows, dues, count_limit}
 use Rattle.open_shells.specs.Walks.{FitsPathLine, FitsBorderLine}
 use Rattle.open_shells.proofs.Marks.{rows_more}

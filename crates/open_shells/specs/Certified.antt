@@ -1,8 +1,7 @@
 -- What the maker gives.
-use Rattle.std.specs.Prelude.{◌≡◌, ℕ, List, [], ◌∷◌, ⊤, map, Result, Ok, Err}
+use Rattle.std.specs.Prelude.{◌≡◌, List, ⊤, map, Result, Ok, Err}
 use Rattle.std.specs.List.{AllByRecursion}
 use Rattle.solid_data.specs.SolidData.{SolidData}
-use Rattle.solid_data.specs.declared.solid.Shell.{Shell}
 use Rattle.open_shells.specs.Line.{spelling, HasSpelling}
 use Rattle.open_shells.specs.Legal.{IsOpenLegal}
 use Rattle.open_shells.specs.Written.{further_lines, open_lines}

@@ -9,7 +9,7 @@ use Rattle.cert_lines.specs.declared.fault.Illegal.{Illegal}
 use Rattle.topo_certificate.specs.Stand.{row_named}
 use Rattle.topo_certificate.specs.Kept.{mate_in, HoldsMates, HoldsFaces, InFileOrder, corner_size, is_alone}
 use Rattle.open_shells.specs.Line.{OpenLine}
-use Rattle.open_shells.specs.Stand.{OpenStand, stand_behind, shell_of, FitsOpen, FitsLine}
+use Rattle.open_shells.specs.Stand.{stand_behind, shell_of, FitsOpen, FitsLine}
 
 -- a row, from 1, is marked in an array by row from 0
 abbrev pub IsMarked : List Bool → ℕ → Type 0

@@ -1,5 +1,5 @@
 -- The obligations on an open shell, in order, and the first that is false.
-use Rattle.std.specs.Prelude.{◌≡◌, ℕ, ◌<◌, List, [], ◌∷◌, ◌++◌, ◌⊎◌, ⊤, map, codes, slice_get}
+use Rattle.std.specs.Prelude.{◌≡◌, ℕ, List, [], ◌∷◌, ◌++◌, ◌⊎◌, ⊤, map, codes, slice_get}
 use Rattle.iges_fields.specs.declared.entry_no.EntryNo.{EntryNo}
 use Rattle.solid_data.specs.SolidData.{SolidData}
 use Rattle.solid_data.specs.Obligations.{Obligation}

@@ -1,5 +1,5 @@
 -- What a sound open shell keeps. A row whose edge no other row has is a border row.
-use Rattle.std.specs.Prelude.{◌≡◌, ℕ, ◌<◌, ◌==◌, ◌⊎◌, List, [], ◌∷◌, length, Contains, count_by, Some, slice_get}
+use Rattle.std.specs.Prelude.{◌≡◌, ℕ, ◌<◌, ◌==◌, ◌⊎◌, List, [], ◌∷◌, length, count_by, Some, slice_get}
 use Rattle.std.specs.List.{AllByRecursion, AllZip}
 use Rattle.solid_data.specs.Ring.{next_of_each, numbers_from}
 use Rattle.solid_data.specs.Chain.{LeadsTo}

@@ -30,8 +30,11 @@ mod writing;
 
 pub use checker::OpenChecker;
 pub use fault::OpenFault;
+pub use law::{
+    borders_are_cycles, legal_or_first_bad, one_first_false, one_line,
+    sound_exactly_where_accepted, soundness,
+};
 pub use making::open_certify;
-pub use law::{borders_are_cycles, legal_or_first_bad, one_first_false, one_line, sound_exactly_where_accepted, soundness};
 pub use opening::{open_head, shell_number};
 pub use parts::{Borders, OpenCertificate, OpenCorner, OpenCorners, OpenEdge, OpenEdges};
 pub use topo_certificate::{Illegal, Misfit, ReachRows};

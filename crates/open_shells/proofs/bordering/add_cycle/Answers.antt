@@ -1,4 +1,4 @@
-use Rattle.std.proofs.Common.{rules, arith, refl, sym, ap, subst, ◌∙◌, ◌≡◌, ◌++◌, ◌∷◌, [], ◌<◌, ℕ, List, length, true, false, get_or, vec_len}
+use Rattle.std.proofs.Common.{arith, sym, ap, subst, ◌∙◌, ◌≡◌, ◌++◌, ◌∷◌, [], ◌<◌, ℕ, List, true, false, get_or, vec_len}
 use Rattle.std.specs.Prelude.{map, ◌↔◌, ◌⊎◌}
 use Rattle.solid_data.proofs.Members.{Has}
 use Rattle.std.specs.List.{AllByRecursion}

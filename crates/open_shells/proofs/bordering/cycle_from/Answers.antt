@@ -1,4 +1,4 @@
-use Rattle.std.proofs.Common.{rules, arith, sym, ap, subst, ◌∙◌, ◌≡◌, ◌++◌, ◌∷◌, [], ℕ, length, length-append}
+use Rattle.std.proofs.Common.{arith, sym, ap, subst, ◌≡◌, ◌++◌, ◌∷◌, [], ℕ, length, length-append}
 use Rattle.edge_uses.specs.ShellRows.{ShellRows}
 use Rattle.edge_uses.proofs.RowNumbers.{numbers_pushed}
 use Rattle.open_shells.specs.Reaching.{row_numbers}

@@ -1,4 +1,4 @@
-use Rattle.std.proofs.Common.{rules, arith, sym, ap, ◌∙◌, ◌≡◌, length}
+use Rattle.std.proofs.Common.{arith, ap, length}
 use Rattle.std.specs.Prelude.{map}
 use Rattle.edge_uses.specs.ShellRows.{ShellRows}
 use Rattle.open_shells.specs.Reaching.{row_numbers}

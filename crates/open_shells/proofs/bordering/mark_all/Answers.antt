@@ -1,4 +1,4 @@
-use Rattle.std.proofs.Common.{rules, arith, refl, ◌≡◌, ◌+◌, get_or}
+use Rattle.std.proofs.Common.{arith, refl, ◌+◌, get_or}
 use Rattle.open_shells.specs.Reaching.{row_numbers}
 use Rattle.std.proofs.Common.{take}
 use Rattle.open_shells.proofs.BorderLoops.{marks_more, taken_more, row_low}

@@ -1,4 +1,3 @@
-use Rattle.std.proofs.Common.{rules, arith, refl, sym, ap, ◌∙◌, ◌≡◌, ◌<◌, length}
 use Rattle.topo_certificate.proofs.PointOrder.{can_check}
 use Rattle.open_shells.proofs.Checking.{one_shell}
 use Rattle.open_shells.proofs.checker.state_of.Goals as goal

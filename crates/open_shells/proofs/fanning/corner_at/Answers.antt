@@ -1,6 +1,6 @@
-use Rattle.std.proofs.Common.{rules, arith, inr, inl}
+use Rattle.std.proofs.Common.{arith, inr}
 use Rattle.edge_uses.specs.Closed.{IsPoint}
-use Rattle.open_shells.proofs.FanWalks.{is_point, not_point, both_there, not_fan}
+use Rattle.open_shells.proofs.FanWalks.{is_point, not_point, both_there}
 use Rattle.open_shells.proofs.fanning.corner_at.Goals as goal
 
 pub returns-then-points-ne1 : goal.returns-then-points-ne1

@@ -1,4 +1,4 @@
-use Rattle.std.proofs.Common.{arith, rules, sym, ◌∙◌, ◌<◌, length, ◌≡◌, true, false}
+use Rattle.std.proofs.Common.{arith, sym, ◌∙◌, ◌≡◌, true, false}
 use Rattle.topo_certificate.proofs.Rings.{begins_shorter}
 use Rattle.open_shells.proofs.BorderWalks.{walked_none, walked_step, walked_stop, walked_whole, walked_broken}
 use Rattle.open_shells.proofs.fitting.border_len.Goals as goal

@@ -1,10 +1,15 @@
-use Rattle.std.proofs.Common.{rules, sym, ap, subst, ◌∙◌, ◌≡◌, true, false, ◌∷◌, length}
+use Rattle.std.proofs.Common.{sym, ap, subst, ◌∙◌, ◌≡◌, true, false, length}
 use Rattle.topo_certificate.specs.Stand.{IsAbove}
 use Rattle.open_shells.specs.Line.{border}
 use Rattle.open_shells.specs.Stand.{border_in}
 use Rattle.open_shells.specs.Walks.{FitsBorderLine}
 use Rattle.open_shells.proofs.BorderWalks.{border_of, border_ring, border_fits}
+use Rattle.topo_certificate.proofs.Rings.{none_left}
 use Rattle.open_shells.proofs.fitting.fitting_border.Goals as goal
+
+-- no row is listed
+pub returns-in_default : goal.returns-in_default
+returns-in_default c = λ at rs hr same h fits. subst (FitsBorderLine c.args.rows.now at) (none_left c.args.numbers.now rs c.in_default.ensures h) fits
 
 pub returns-then-not-is_above : goal.returns-then-not-is_above
 returns-then-not-is_above c = λ at rs hr same h fits.

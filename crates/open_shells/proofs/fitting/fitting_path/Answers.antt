@@ -1,8 +1,13 @@
-use Rattle.std.proofs.Common.{rules, sym, ◌∙◌, ◌≡◌, true, false}
-use Rattle.std.specs.Prelude.{Some, None}
+use Rattle.std.proofs.Common.{rules, sym, subst, ◌∙◌, ◌≡◌, true, false}
 use Rattle.topo_certificate.proofs.CornerFits.{size_there, size_below}
 use Rattle.open_shells.proofs.PathFits.{path_of, path_no_row, path_low, path_fits, path_other_size}
+use Rattle.topo_certificate.proofs.Rings.{none_left}
+use Rattle.open_shells.specs.Walks.{FitsPathLine}
 use Rattle.open_shells.proofs.fitting.fitting_path.Goals as goal
+
+-- no row is listed
+pub returns-in_default : goal.returns-in_default
+returns-in_default c = λ at rs hm hr same h fits. subst (FitsPathLine c.args.rows.now at) (none_left c.args.numbers.now rs c.in_default.ensures h) fits
 
 pub returns-in_default-named_row : goal.returns-in_default-named_row
 returns-in_default-named_row c = λ at rs hm hr same h fits.

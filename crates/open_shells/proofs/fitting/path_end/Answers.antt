@@ -1,4 +1,4 @@
-use Rattle.std.proofs.Common.{arith, rules, sym, ◌∙◌, ◌<◌, length, ◌≡◌, true, false}
+use Rattle.std.proofs.Common.{arith, sym, ◌∙◌, ◌≡◌, true, false}
 use Rattle.topo_certificate.proofs.Rings.{begins_shorter}
 use Rattle.open_shells.proofs.PathWalks.{walked_none, walked_step, walked_stop, walked_whole}
 use Rattle.open_shells.proofs.fitting.path_end.Goals as goal

@@ -1,4 +1,4 @@
-use Rattle.std.proofs.Common.{◌≡◌, ℕ, ◌+◌, ◌≤◌, List, length}
+use Rattle.std.proofs.Common.{ℕ, ◌+◌, ◌≤◌, List, length}
 use Rattle.cert_lines.specs.Numbers.{AreNumbers}
 use Rattle.topo_certificate.specs.Kept.{HoldsMates}
 use Rattle.open_shells.proofs.PathWalks.{Walked}

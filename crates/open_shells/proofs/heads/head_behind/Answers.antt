@@ -1,4 +1,3 @@
-use Rattle.std.proofs.Common.{rules}
 use Rattle.open_shells.proofs.Fans.{lone_no_mate}
 use Rattle.open_shells.proofs.heads.head_behind.Goals as goal
 

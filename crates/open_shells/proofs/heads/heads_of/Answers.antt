@@ -1,4 +1,4 @@
-use Rattle.std.proofs.Common.{rules, arith, sym, ap, ◌∙◌, ◌≡◌, ◌<◌, length}
+use Rattle.std.proofs.Common.{arith, sym, ap, ◌∙◌, ◌≡◌, length}
 use Rattle.std.specs.Prelude.{Some, slice_get}
 use Rattle.edge_uses.specs.ShellRows.{ShellRows}
 use Rattle.edge_uses.specs.declared.row.Row.{Row}

@@ -1,4 +1,4 @@
-use Rattle.std.proofs.Common.{rules, arith, refl, sym, ◌∙◌, ◌≡◌, true, false}
+use Rattle.std.proofs.Common.{arith, refl, ◌≡◌, true, false}
 use Rattle.open_shells.proofs.OnceMates.{once_counts, counts_once}
 use Rattle.open_shells.proofs.mating.is_once.Goals as goal
 

@@ -1,5 +1,5 @@
 use Rattle.edge_uses.specs.Ranges.{IsWithin}
-use Rattle.std.proofs.Common.{rules, arith, sym, ◌∙◌, ◌≡◌}
+use Rattle.std.proofs.Common.{arith}
 use Rattle.open_shells.specs.Sound.{IsOnce}
 use Rattle.open_shells.specs.Mating.{AreRowsOf}
 use Rattle.solid_data.proofs.Members.{All-at, has_get}

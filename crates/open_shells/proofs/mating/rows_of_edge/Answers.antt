@@ -1,4 +1,4 @@
-use Rattle.std.proofs.Common.{rules, arith, true, false}
+use Rattle.std.proofs.Common.{arith, true, false}
 use Rattle.open_shells.proofs.OnceMates.{only_against, only_along}
 use Rattle.open_shells.proofs.mating.rows_of_edge.Goals as goal
 

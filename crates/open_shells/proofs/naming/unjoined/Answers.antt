@@ -1,4 +1,4 @@
-use Rattle.std.proofs.Common.{◌≡◌, sym, ◌∙◌, ap, Some, slice_get, option_copied}
+use Rattle.std.proofs.Common.{sym, ◌∙◌, ap, option_copied}
 use Rattle.solid_data.specs.declared.solid.Loop.{Loop}
 use Rattle.open_shells.specs.declared.verdict.OpenRule.TheVariants.{Join}
 use Rattle.open_shells.specs.Obligations.{open_failing}

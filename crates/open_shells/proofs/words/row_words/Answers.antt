@@ -1,5 +1,5 @@
 use Rattle.std.proofs.Common.{rules}
-use Rattle.open_shells.proofs.RowWords.{no_rows, rows_spaced, rows_read}
+use Rattle.open_shells.proofs.RowWords.{no_rows, rows_spaced}
 use Rattle.open_shells.proofs.words.row_words.Goals as goal
 
 pub returns-then-is_empty : goal.returns-then-is_empty

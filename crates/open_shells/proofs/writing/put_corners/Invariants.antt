@@ -1,7 +1,7 @@
 use Rattle.std.proofs.Common.{◌≡◌, drop, ◌++◌}
 use Rattle.std.specs.Prelude.{flat_map}
 use Rattle.open_shells.specs.Line.{spelling}
-use Rattle.open_shells.specs.Written.{edge_line, corner_line, reach_line, border_line}
+use Rattle.open_shells.specs.Written.{corner_line}
 use Rattle.open_shells.proofs.writing.put_corners.Given as goal
 
 abbrev pub invariant-corners : goal.invariant-corners

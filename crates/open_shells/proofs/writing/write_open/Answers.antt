@@ -1,4 +1,4 @@
-use Rattle.std.proofs.Common.{rules, ap, ◌∙◌, ◌≡◌}
+use Rattle.std.proofs.Common.{rules, ap, ◌∙◌}
 use Rattle.cert_lines.specs.Line.{cut_lines}
 use Rattle.open_shells.specs.Written.{open_lines}
 use Rattle.open_shells.proofs.Spelling.{cut_spelled}

@@ -1,4 +1,4 @@
-use Rattle.std.proofs.Common.{arith, refl}
+use Rattle.std.proofs.Common.{refl}
 use Rattle.open_shells.proofs.Checking.{begins}
 use Rattle.open_shells.proofs.checker.OpenChecker.new.Goals as goal
 

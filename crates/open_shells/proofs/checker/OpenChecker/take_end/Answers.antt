@@ -1,4 +1,4 @@
-use Rattle.std.proofs.Common.{rules, arith, refl, sym, ap, ◌∙◌, subst, ◌≡◌, ◌+◌, true, false}
+use Rattle.std.proofs.Common.{arith, refl, sym, ap, ◌∙◌, subst, ◌≡◌, ◌+◌, true, false}
 use Rattle.open_shells.specs.Line.{end}
 use Rattle.open_shells.specs.Kept.{KeptChecker, TakesLine}
 use Rattle.open_shells.proofs.Checking.{with_end, end_comes, end_refused}

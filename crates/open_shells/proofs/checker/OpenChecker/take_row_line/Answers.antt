@@ -1,4 +1,4 @@
-use Rattle.std.proofs.Common.{rules, arith, refl, sym, ap, ◌∙◌, subst, ◌≡◌, ◌+◌, true, false}
+use Rattle.std.proofs.Common.{arith, refl, sym, ap, ◌∙◌, subst, ◌≡◌, ◌+◌, true, false}
 use Rattle.open_shells.specs.Kept.{KeptChecker, TakesLine}
 use Rattle.open_shells.proofs.Checking.{with_line, line_taken, line_refused, row_goes_on}
 use Rattle.open_shells.proofs.checker.OpenChecker.take_row_line.Goals as goal

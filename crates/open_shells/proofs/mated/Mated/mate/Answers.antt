@@ -1,5 +1,5 @@
-use Rattle.std.proofs.Common.{rules, arith, sym, ap, subst, ◌∙◌, ◌≡◌, length, ◌<◌}
-use Rattle.std.specs.Prelude.{Some, None, slice_get}
+use Rattle.std.proofs.Common.{arith, sym, ap, subst, ◌∙◌, length, ◌<◌}
+use Rattle.std.specs.Prelude.{Some, None}
 use Rattle.std.proofs.lemmas.Option.{slice_get-get_or}
 use Rattle.edge_uses.specs.ShellRows.{ShellRows}
 use Rattle.open_shells.specs.Mating.{IsMateOf}

@@ -1,8 +1,8 @@
-use Rattle.std.proofs.Common.{rules, arith, subst, refl, sym, ◌≡◌, ◌<◌, ◌-◌, ◌+◌, true, false}
+use Rattle.std.proofs.Common.{arith, subst, refl, sym, ◌-◌, true, false}
 use Rattle.open_shells.specs.Line.{border}
 use Rattle.open_shells.specs.Kept.{Takes, HoldsRows}
 use Rattle.open_shells.specs.contracts.state.OpenState.{the_view}
-use Rattle.open_shells.proofs.Telling.{with_border, border_kept, border_takes, border_unfit, border_not_due}
+use Rattle.open_shells.proofs.Telling.{with_border, border_kept, border_takes, border_unfit}
 use Rattle.open_shells.proofs.state.OpenState.take_border.Goals as goal
 
 pub returns-in_default-clause-line : goal.returns-in_default-clause-line

@@ -1,8 +1,8 @@
-use Rattle.std.proofs.Common.{rules, arith, subst, refl, sym, ◌∙◌, ◌≡◌, ◌<◌, ◌≤◌, ◌-◌, ◌+◌, length, true, false}
+use Rattle.std.proofs.Common.{arith, subst, refl, sym, ◌∙◌, ◌≡◌, ◌-◌, ◌+◌, true, false}
 use Rattle.open_shells.specs.Line.{edge}
 use Rattle.open_shells.specs.Kept.{Takes}
 use Rattle.open_shells.specs.contracts.state.OpenState.{the_view}
-use Rattle.open_shells.proofs.Telling.{FitsBehind, with_edge, can_mate, edge_kept, edge_takes, edge_unfit, edge_short}
+use Rattle.open_shells.proofs.Telling.{with_edge, can_mate, edge_kept, edge_takes, edge_unfit, edge_short}
 use Rattle.open_shells.proofs.state.OpenState.take_edge.Goals as goal
 
 pub returns-then-not-lists_all-clause-line : goal.returns-then-not-lists_all-clause-line

@@ -1,9 +1,9 @@
-use Rattle.std.proofs.Common.{rules, arith, subst, refl, sym, ◌≡◌, ◌<◌, ◌-◌, true, false}
+use Rattle.std.proofs.Common.{arith, subst, refl, sym, ◌-◌, true, false}
 use Rattle.open_shells.specs.Line.{path}
 use Rattle.topo_certificate.specs.Kept.{HoldsMates}
 use Rattle.open_shells.specs.Kept.{Takes, HoldsRows}
 use Rattle.open_shells.specs.contracts.state.OpenState.{the_view}
-use Rattle.open_shells.proofs.Telling.{with_vertex, vertex_kept, path_takes, path_unfit, path_not_due}
+use Rattle.open_shells.proofs.Telling.{with_vertex, vertex_kept, path_takes, path_unfit}
 use Rattle.open_shells.proofs.state.OpenState.take_path.Goals as goal
 
 pub returns-in_default-clause-line : goal.returns-in_default-clause-line

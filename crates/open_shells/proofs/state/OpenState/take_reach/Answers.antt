@@ -1,4 +1,4 @@
-use Rattle.std.proofs.Common.{rules, arith, subst, refl, sym, ◌≡◌, ◌<◌, ◌-◌, length, true, false}
+use Rattle.std.proofs.Common.{arith, subst, refl, sym, ◌-◌, true, false}
 use Rattle.open_shells.specs.Line.{reach}
 use Rattle.topo_certificate.specs.Kept.{HoldsMates, HoldsFaces}
 use Rattle.open_shells.specs.Kept.{Takes}

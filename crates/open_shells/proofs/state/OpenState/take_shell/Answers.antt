@@ -1,4 +1,4 @@
-use Rattle.std.proofs.Common.{rules, arith, subst, refl, sym, ◌∙◌, ◌≡◌, ◌-◌, true, false}
+use Rattle.std.proofs.Common.{subst, ◌-◌, true}
 use Rattle.open_shells.specs.Line.{shell}
 use Rattle.open_shells.specs.Kept.{Takes}
 use Rattle.open_shells.specs.contracts.state.OpenState.{the_view}
