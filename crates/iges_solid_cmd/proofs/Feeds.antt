@@ -1,6 +1,6 @@
 -- Bytes that are fed while they come.
-use Rattle.std.proofs.Common.{◌≡◌, ℕ, ◌+◌, ◌-◌, ◌≤◌, ◌<◌, take, List, [], ◌++◌, length, Option, refl, sym, ap, subst, ◌∙◌, arith}
-use Rattle.std.proofs.lemmas.List.{append-nil, length-append, length-take, take-take, take-append-le}
+use Rattle.std.proofs.Common.{◌≡◌, ℕ, ◌+◌, ◌≤◌, ◌<◌, take, List, [], ◌++◌, length, Option, refl, sym, ap, subst, ◌∙◌, arith}
+use Rattle.std.proofs.lemmas.List.{append-nil, length-append, length-take}
 use Rattle.std.specs.Io.KnownBytes.{Consumes, IsAtEnd}
 use Rattle.iges_fields.specs.declared.TheConstants.{FILE_LIMIT}
 use Rattle.iges_io.specs.Reading.{Told}
@@ -38,10 +38,3 @@ too_many limit a b c feed came x reply s k above exact =
 
 pub read_long : (buf : List ℕ) (count : ℕ) → count ≤ length buf → length (take count buf) ≡ count
 read_long buf count h = omega (arith, h, length-take count buf)
-
-pub above_limit : (limit came count : ℕ) (buf : List ℕ) → came ≤ limit → limit - came < count → count ≤ length buf → limit < came + length (take count buf)
-above_limit limit came count buf h k within = omega (arith, h, k, within, length-take count buf)
-
--- what a read put at the front of a buffer
-pub written : (buf after : List ℕ) (count len : ℕ) → count ≤ length buf → count ≤ length (take len (buf ++ after)) → take count (take len (buf ++ after)) ≡ take count buf
-written buf after count len h k = take-take count len (buf ++ after) (omega (arith, k, length-take len (buf ++ after))) ∙ take-append-le count buf after h

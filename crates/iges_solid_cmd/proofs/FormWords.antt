@@ -1,306 +1,257 @@
 -- Words and the forms that they have.
-use Rattle.std.proofs.Common.{◌≡◌, ◌⊎◌, ℕ, ◌<◌, ◌≤◌, ◌&&◌, Bool, true, false, cond, List, [], ◌∷◌, length, map, get_or, Option, Some, None, slice_get, refl, sym, ap, subst, ◌∙◌, arith, inl, inr, ⊎_elim, nat_eq, nat_le, codes, String, string_bytes, Global, if◌then◌else◌}
-use Rattle.std.specs.Cmp.Lexicographic.{pointwise}
-use Rattle.std.specs.List.{list_any}
-use Rattle.std.specs.Option.{option_map}
+use Rattle.std.proofs.Common.{◌≡◌, ◌∙◌, ℕ, ◌+◌, ◌≤◌, ◌&&◌, Bool, not, true, false, cond, List, [], ◌∷◌, ◌++◌, append_assoc, codes, length, map, Option, Some, None, refl, sym, ap, subst, arith, nat_eq, nat_le, nat_lt, rules, slice_get, suc, zero, String, string_bytes, Global}
+use Rattle.std.specs.Prelude.{option_map, option_and_then, unwrap_or, zip, find, position}
+use Rattle.std.specs.List.{list_all, list_any, position_or_len, prefix_len}
 use Rattle.std.specs.Str.Parse.{digits_value}
-use Rattle.std.proofs.lemmas.Bool.{eqb-true, and_parts, leb-true, and_left as first_false}
-use Rattle.std.proofs.Math.Bool.{and-false as second_false}
+use Rattle.std.proofs.lemmas.List.{length-map}
+use Rattle.std.proofs.lemmas.Simd.{map-map}
+use Rattle.std.proofs.lemmas.List.Folds.{list_all-map}
+use Rattle.std.proofs.lemmas.Bool.{and_from, and_parts, eqb-true, le-leb, leb-true}
+use Rattle.std.proofs.lemmas.Option.{slice_get-map}
 use Rattle.iges_fields.specs.Word.{are_digits}
+use Prim.Native.Nat.compare
 use Rattle.iges_solid_cmd.specs.declared.form.Command.{Command}
-use Rattle.iges_solid_cmd.specs.declared.form.Command.TheVariants.{File, Sample}
-use Rattle.iges_solid_cmd.specs.declared.form.FileCommand.TheVariants.{Solids, Show, Certify, Verify, Extract}
-use Rattle.iges_solid_cmd.specs.Forms.{Form, Slot, all_fit, certificate, certificate_named, command_of, file_named, form_of, word_in, entry_command, entry_number, sample_number, fits, file, is_certificate, is_file, number_among, reads_certificate, reads_file, takes_certificate, takes_file, IsSized, word}
+use Rattle.iges_solid_cmd.specs.declared.slot.Operand.{Operand}
+use Rattle.iges_solid_cmd.specs.declared.slot.Operand.TheVariants as operand
+use Rattle.iges_solid_cmd.specs.declared.slot.Slot.{Slot as CodeSlot}
+use Rattle.iges_solid_cmd.specs.declared.form.Form.{Form as Row}
+use Rattle.iges_solid_cmd.specs.Forms.{Form, IsSized, Slot, all_fit, certificate, command_of, file, fits, form_of, form_text, forms, holds, join_with, number, number_among, reads_certificate, reads_file, slot_text, takes_certificate, takes_file, usage_line, word, word_in}
+use Rattle.iges_solid_cmd.specs.FormTable.{command_for, form_meant, slot_meant}
 
-abbrev named : List ℕ → List ℕ → Bool
-named name text = pointwise nat_eq name text
+some_is : {A : Type 0} (x y : A) → Some x ≡ Some y → x ≡ y
+some_is x y e = cc
 
--- a word is this text, or it is another
-same_or : (a text : List ℕ) → (a ≡ text) ⊎ (named a text ≡ false)
-same_or [] [] = inl refl
-same_or [] (x ∷ text) = inr refl
-same_or (b ∷ a) [] = inr refl
-same_or (b ∷ a) (x ∷ text) = by_first (nat_eq b x) refl (same_or a text)
-  where
-    by_first : (t : Bool) → nat_eq b x ≡ t → (a ≡ text) ⊎ (named a text ≡ false) → (b ∷ a ≡ x ∷ text) ⊎ (named (b ∷ a) (x ∷ text) ≡ false)
-    by_first true e (inl same) = inl (ap (λ y. y ∷ a) (eqb-true b x e) ∙ ap (λ ys. x ∷ ys) same)
-    by_first true e (inr other) = inr (ap (λ y. y && named a text) e ∙ other)
-    by_first false e rest = inr (ap (λ y. y && named a text) e)
+-- ---- lists of pairs, and what is found in a list
 
--- the first form whose test holds
-abbrev form_by : Bool → Bool → Bool → Bool → Bool → Bool → Option Form
-form_by solids show certify verify extract sample =
-    cond solids (Some (record { slots = word (codes "solids") ∷ file ∷ []; command = λ _. File Solids }))
-    (cond show (Some (record { slots = word (codes "show") ∷ file ∷ entry_number ∷ []; command = λ n. File (Show n) }))
-    (cond certify (Some (record { slots = word (codes "certify") ∷ file ∷ entry_number ∷ []; command = λ n. File (Certify n) }))
-    (cond verify (Some (record { slots = word (codes "verify") ∷ file ∷ certificate ∷ []; command = λ _. File Verify }))
-    (cond extract (Some (record { slots = word (codes "extract") ∷ file ∷ entry_number ∷ []; command = λ n. File (Extract n) }))
-    (cond sample (Some (record { slots = word (codes "sample") ∷ sample_number ∷ []; command = λ n. Sample n })) None)))))
+-- both lists mapped, the pairs are
+zip-maps : {A B C D : Type 0} (f : A → C) (g : B → D) (xs : List A) (ys : List B) → zip (map f xs) (map g ys) ≡ map (λ (p : A × B). (f p.0, g p.1)) (zip xs ys)
+zip-maps f g [] ys = refl
+zip-maps f g (x ∷ xs) [] = refl
+zip-maps f g (x ∷ xs) (y ∷ ys) = ap (λ ps. (f x, g y) ∷ ps) (zip-maps f g xs ys)
 
-abbrev by_tests : List (List ℕ) → Bool → Bool → Bool → Bool → Bool → Bool → Option Command
-by_tests words solids show certify verify extract sample = option_map (λ (form : Form). form.command (number_among form.slots words)) (form_by solids show certify verify extract sample)
+find_next : {A B : Type 0} (t : Bool) (f : A → B) (x : A) (found : Option B) (there : Option A) → found ≡ option_map f there → cond t (Some (f x)) found ≡ option_map f (cond t (Some x) there)
+find_next true f x found there same = refl
+find_next false f x found there same = same
 
-no_test : (words : List (List ℕ)) (solids show certify verify extract sample : Bool) → solids ≡ false → show ≡ false → certify ≡ false → verify ≡ false → extract ≡ false → sample ≡ false → by_tests words solids show certify verify extract sample ≡ None
-no_test words true show certify verify extract sample e0 e1 e2 e3 e4 e5 = absurd cc
-no_test words false true certify verify extract sample e0 e1 e2 e3 e4 e5 = absurd cc
-no_test words false false true verify extract sample e0 e1 e2 e3 e4 e5 = absurd cc
-no_test words false false false true extract sample e0 e1 e2 e3 e4 e5 = absurd cc
-no_test words false false false false true sample e0 e1 e2 e3 e4 e5 = absurd cc
-no_test words false false false false false true e0 e1 e2 e3 e4 e5 = absurd cc
-no_test words false false false false false false e0 e1 e2 e3 e4 e5 = refl
+-- what is found in a mapped list is what is found there by the mapped test
+find-map : {A B : Type 0} (p : B → Bool) (f : A → B) (xs : List A) → find p (map f xs) ≡ option_map f (find (λ x. p (f x)) xs)
+find-map p f [] = refl
+find-map p f (x ∷ xs) = find_next (p (f x)) f x (find p (map f xs)) (find (λ x. p (f x)) xs) (find-map p f xs)
 
-third_false : (x y : Bool) → (x && (true && (y && false))) ≡ false
-third_false true true = refl
-third_false true false = refl
-third_false false y = refl
+found_next : {A : Type 0} (p : A → Bool) (t : Bool) (x y : A) (there : Option A) → p x ≡ t → (there ≡ Some y → p y ≡ true) → cond t (Some x) there ≡ Some y → p y ≡ true
+found_next p true x y there is later e = let same : x ≡ y = some_is x y e in ap p (sym same) ∙ is
+found_next p false x y there is later e = later e
 
-later_false : (x y : Bool) → (x && (y && false)) ≡ false
-later_false true true = refl
-later_false true false = refl
-later_false false y = refl
+-- what is found passes the test
+found_passes : {A : Type 0} (p : A → Bool) (xs : List A) (y : A) → find p xs ≡ Some y → p y ≡ true
+found_passes p [] y e = absurd cc
+found_passes p (x ∷ xs) y e = found_next p (p x) x y (find p xs) refl (found_passes p xs y) e
+
+prefix-map : {A B : Type 0} (p : B → Bool) (f : A → B) (xs : List A) → prefix_len p (map f xs) ≡ prefix_len (λ x. p (f x)) xs
+prefix-map p f [] = refl
+prefix-map p f (x ∷ xs) = ap (λ n. cond (p (f x)) (1 + n) 0) (prefix-map p f xs)
+
+abbrev place_within : ℕ → ℕ → Option ℕ
+place_within i n = cond (nat_lt i n) (Some i) None
+
+position-map : {A B : Type 0} (p : B → Bool) (f : A → B) (xs : List A) → position p (map f xs) ≡ position (λ x. p (f x)) xs
+position-map p f xs = ap (λ i. place_within i (length (map f xs))) (prefix-map (λ x. not (p x)) f xs) ∙ ap (place_within (position_or_len (λ x. p (f x)) xs)) (length-map xs f)
+
+one_more : (n : ℕ) → 1 + n ≡ suc n
+one_more n = omega arith
+
+place_next : (t : Bool) (i : ℕ) → cond t (Some (suc i)) None ≡ option_map suc (cond t (Some i) None)
+place_next true i = refl
+place_next false i = refl
+
+less_next : (i n : ℕ) → nat_lt (suc i) (suc n) ≡ nat_lt i n
+less_next i n = rw compare.suc-suc refl
+
+-- behind an element that does not pass, the place is one further
+position_later : {A : Type 0} (p : A → Bool) (x : A) (xs : List A) → p x ≡ false → position p (x ∷ xs) ≡ option_map suc (position p xs)
+position_later p x xs other =
+    let i = position_or_len p xs in
+    ap (λ t. place_within (cond (not t) (1 + i) 0) (suc (length xs))) other ∙ ap (λ k. place_within k (suc (length xs))) (one_more i)
+    ∙ ap (λ t. cond t (Some (suc i)) None) (less_next i (length xs)) ∙ place_next (nat_lt i (length xs)) i
+
+stops_next : {A : Type 0} (p : A → Bool) (t : Bool) (x y : A) (xs : List A) (n : ℕ) → p x ≡ t → (slice_get xs n ≡ Some y → p y ≡ true) → slice_get (x ∷ xs) (cond (not t) (1 + n) 0) ≡ Some y → p y ≡ true
+stops_next p true x y xs n is later e = let same : x ≡ y = some_is x y e in ap p (sym same) ∙ is
+stops_next p false x y xs n is later e = later (subst (λ i. slice_get (x ∷ xs) i ≡ Some y) (one_more n) e)
+
+stops_where : {A : Type 0} (p : A → Bool) (xs : List A) (y : A) → slice_get xs (position_or_len p xs) ≡ Some y → p y ≡ true
+stops_where p [] y e = absurd cc
+stops_where p (x ∷ xs) y e = stops_next p (p x) x y xs (position_or_len p xs) refl (stops_where p xs y) e
+
+place_is : (t : Bool) (n i : ℕ) → cond t (Some n) None ≡ Some i → n ≡ i
+place_is true n i e = cc
+place_is false n i e = absurd cc
+
+-- the element at the first place passes the test
+placed_passes : {A : Type 0} (p : A → Bool) (xs : List A) (i : ℕ) (y : A) → position p xs ≡ Some i → slice_get xs i ≡ Some y → p y ≡ true
+placed_passes p xs i y place there =
+    stops_where p xs y (ap (slice_get xs) (place_is (nat_lt (position_or_len p xs) (length xs)) (position_or_len p xs) i place) ∙ there)
+
+-- ---- words that stand in slots
 
 abbrev Given : Type 0
 Given = List (String Global)
 
 abbrev bytes_of : Given → List (List ℕ)
-bytes_of ws = map string_bytes ws
+bytes_of words = map string_bytes words
 
--- ---- two words
+abbrev meant : List CodeSlot → List Slot
+meant slots = map slot_meant slots
 
-abbrev of_two : List ℕ → List ℕ → Option Command
-of_two a b = if named a (codes "solids") then Some (File Solids) else (if named a (codes "sample") then (if fits sample_number b then Some (Sample (digits_value 10 b)) else None) else None)
+abbrev pub each_fits : List CodeSlot → Given → Bool
+each_fits slots words = list_all (λ (p : CodeSlot × String Global). fits (slot_meant p.0) (string_bytes p.1)) (zip slots words)
 
-abbrev by_fit_two : List ℕ → List ℕ → Bool → Type 0
-by_fit_two a b fit = (if named a (codes "solids") then Some (File Solids) else (if named a (codes "sample") then (if fit then Some (Sample (digits_value 10 b)) else None) else None))
-    ≡ by_tests (a ∷ b ∷ []) (named a (codes "solids") && (true && true)) (named a (codes "show") && (true && false)) (named a (codes "certify") && (true && false)) (named a (codes "verify") && (true && false)) (named a (codes "extract") && (true && false)) (named a (codes "sample") && (fit && true))
+each_meant : (slots : List CodeSlot) (words : Given) → list_all (λ p. fits p.0 p.1) (zip (meant slots) (bytes_of words)) ≡ each_fits slots words
+each_meant slots words = ap (list_all (λ p. fits p.0 p.1)) (zip-maps slot_meant string_bytes slots words) ∙ list_all-map (λ p. fits p.0 p.1) (λ (p : CodeSlot × String Global). (slot_meant p.0, string_bytes p.1)) (zip slots words)
 
-solids_words : (b : List ℕ) (fit : Bool) → by_fit_two (codes "solids") b fit
-solids_words b true = refl
-solids_words b false = refl
+lengths_meant : (slots : List CodeSlot) (words : Given) → nat_eq (length (meant slots)) (length (bytes_of words)) ≡ nat_eq (length slots) (length words)
+lengths_meant slots words = ap (λ n. nat_eq n (length (bytes_of words))) (length-map slots slot_meant) ∙ ap (nat_eq (length slots)) (length-map words string_bytes)
 
-sample_words : (b : List ℕ) (fit : Bool) → by_fit_two (codes "sample") b fit
-sample_words b true = refl
-sample_words b false = refl
+pub fit_meant : (slots : List CodeSlot) (words : Given) → all_fit (meant slots) (bytes_of words) ≡ (nat_eq (length slots) (length words) && each_fits slots words)
+fit_meant slots words =
+    ap (λ b. b && list_all (λ p. fits p.0 p.1) (zip (meant slots) (bytes_of words))) (lengths_meant slots words) ∙ ap (λ b. nat_eq (length slots) (length words) && b) (each_meant slots words)
 
-no_two : (x y fit : Bool) (command : Option Command) → x ≡ false → y ≡ false → (if x then Some (File Solids) else (if y then (if fit then command else None) else None)) ≡ None
-no_two true y fit command a b = absurd cc
-no_two false true fit command a b = absurd cc
-no_two false false fit command a b = refl
+abbrev others_fit : List Slot → List (List ℕ) → Bool
+others_fit slots words = list_all (λ p. fits p.0 p.1) (zip slots words)
 
-two_words : (a b : List ℕ) → of_two a b ≡ command_of (a ∷ b ∷ [])
-two_words a b =
-    ⊎_elim (λ is. subst (λ w. of_two w b ≡ command_of (w ∷ b ∷ [])) (sym is) (solids_words b (fits sample_number b)))
-    (λ x. ⊎_elim (λ is. subst (λ w. of_two w b ≡ command_of (w ∷ b ∷ [])) (sym is) (sample_words b (fits sample_number b)))
-    (λ y. none x y) (same_or a (codes "sample"))) (same_or a (codes "solids"))
-  where
-    none : named a (codes "solids") ≡ false → named a (codes "sample") ≡ false → of_two a b ≡ command_of (a ∷ b ∷ [])
-    none x y = no_two (named a (codes "solids")) (named a (codes "sample")) (fits sample_number b) (Some (Sample (digits_value 10 b))) x y
-        ∙ sym (no_test (a ∷ b ∷ []) (all_fit (word (codes "solids") ∷ file ∷ []) (a ∷ b ∷ [])) (all_fit (word (codes "show") ∷ file ∷ entry_number ∷ []) (a ∷ b ∷ [])) (all_fit (word (codes "certify") ∷ file ∷ entry_number ∷ []) (a ∷ b ∷ [])) (all_fit (word (codes "verify") ∷ file ∷ certificate ∷ []) (a ∷ b ∷ [])) (all_fit (word (codes "extract") ∷ file ∷ entry_number ∷ []) (a ∷ b ∷ [])) (all_fit (word (codes "sample") ∷ sample_number ∷ []) (a ∷ b ∷ []))
-        (first_false (named a (codes "solids")) true x) (second_false (named a (codes "show"))) (second_false (named a (codes "certify"))) (second_false (named a (codes "verify"))) (second_false (named a (codes "extract"))) (first_false (named a (codes "sample")) (fits sample_number b && true) y))
+each_at : (slots : List Slot) (words : List (List ℕ)) (i : ℕ) (slot : Slot) (w : List ℕ) → others_fit slots words ≡ true → slice_get slots i ≡ Some slot → slice_get words i ≡ Some w → fits slot w ≡ true
+each_at [] words i slot w each there at = absurd cc
+each_at (s ∷ slots) [] i slot w each there at = absurd cc
+each_at (s ∷ slots) (v ∷ words) zero slot w each there at =
+    ap (λ x. fits x w) (sym (some_is s slot there)) ∙ ap (fits s) (sym (some_is v w at)) ∙ (and_parts (fits s v) (others_fit slots words) each).0
+each_at (s ∷ slots) (v ∷ words) (suc i) slot w each there at = each_at slots words i slot w (and_parts (fits s v) (others_fit slots words) each).1 there at
 
--- ---- three words
+-- the word at a place fits the slot there
+pub fit_at : (slots : List CodeSlot) (words : List (List ℕ)) (i : ℕ) (slot : CodeSlot) (w : List ℕ) → all_fit (meant slots) words ≡ true → Some slot ≡ slice_get slots i → slice_get words i ≡ Some w → fits (slot_meant slot) w ≡ true
+fit_at slots words i slot w fit there = each_at (meant slots) words i (slot_meant slot) w (and_parts (nat_eq (length (meant slots)) (length words)) (others_fit (meant slots) words) fit).1 (slice_get-map slot_meant slots i ∙ ap (option_map slot_meant) (sym there))
 
-abbrev of_three : List ℕ → List ℕ → Option Command
-of_three a n = if named a (codes "verify") then Some (File Verify) else (if fits entry_number n then entry_command a (digits_value 10 n) else None)
+-- the word in the first slot for such, by the code's slots
+pub word_meant : (what : Operand) (slots : List CodeSlot) (words : List (List ℕ)) (place : Option ℕ) → place ≡ position (λ slot. holds what (slot_meant slot)) slots → word_in what (meant slots) words ≡ option_and_then (slice_get words) place
+word_meant what slots words place is = ap (option_and_then (slice_get words)) (position-map (holds what) slot_meant slots ∙ sym is)
 
--- what the other words are makes no difference but for their tests
-abbrev by_fit : List ℕ → List ℕ → List ℕ → Bool → Type 0
-by_fit a b n fit = (if named a (codes "verify") then Some (File Verify) else (if fit then entry_command a (digits_value 10 n) else None))
-    ≡ by_tests (a ∷ b ∷ n ∷ []) (named a (codes "solids") && (true && false)) (named a (codes "show") && (true && (fit && true))) (named a (codes "certify") && (true && (fit && true))) (named a (codes "verify") && (true && (true && true))) (named a (codes "extract") && (true && (fit && true))) (named a (codes "sample") && (fits sample_number b && false))
+pub slot_holds : (what : Operand) (slots : List CodeSlot) (i : ℕ) (slot : CodeSlot) → Some i ≡ position (λ slot. holds what (slot_meant slot)) slots → Some slot ≡ slice_get slots i → holds what (slot_meant slot) ≡ true
+slot_holds what slots i slot is there = placed_passes (λ slot. holds what (slot_meant slot)) slots i slot (sym is) (sym there)
 
-show_words : (b n : List ℕ) (fit : Bool) → by_fit (codes "show") b n fit
-show_words b n true = refl
-show_words b n false = refl
+-- ---- the table
 
-certify_words : (b n : List ℕ) (fit : Bool) → by_fit (codes "certify") b n fit
-certify_words b n true = refl
-certify_words b n false = refl
+pub form_is : (rows : List Row) (words : List (List ℕ)) → map form_meant rows ≡ forms → option_map form_meant (find (λ (row : Row). all_fit (form_meant row).slots words) rows) ≡ form_of words
+form_is rows words listed = sym (find-map (λ (form : Form). all_fit form.slots words) form_meant rows) ∙ ap (find (λ (form : Form). all_fit form.slots words)) listed
 
-extract_words : (b n : List ℕ) (fit : Bool) → by_fit (codes "extract") b n fit
-extract_words b n true = refl
-extract_words b n false = refl
+abbrev command_by : List (List ℕ) → Option Form → Option Command
+command_by words form = option_map (λ (form : Form). form.command (number_among form.slots words)) form
 
-verify_words : (b n : List ℕ) (fit : Bool) → by_fit (codes "verify") b n fit
-verify_words b n true = refl
-verify_words b n false = refl
+pub command_is : (words : List (List ℕ)) (found : Option Row) (row : Row) (there : Option ℕ) (n : ℕ) (command : Command) → found ≡ Some row → option_map form_meant found ≡ form_of words
+    → (all_fit (form_meant row).slots words ≡ true → there ≡ option_map (digits_value 10) (word_in operand.Number (form_meant row).slots words))
+    → n ≡ unwrap_or there 0 → command ≡ command_for row.kind n → Some command ≡ command_of words
+command_is words found row there n command is meant_is number_is n_is made =
+    let form : form_of words ≡ Some (form_meant row) = sym meant_is ∙ ap (option_map form_meant) is in
+    let fit = found_passes (λ (form : Form). all_fit form.slots words) forms (form_meant row) form in
+    let n_among : n ≡ number_among (form_meant row).slots words = n_is ∙ ap (λ o. unwrap_or o 0) (number_is fit) in
+    ap Some (made ∙ ap (command_for row.kind) n_among) ∙ sym (ap (command_by words) form)
 
-no_command : (x0 x1 x2 z fit : Bool) (show certify extract : Option Command) → x0 ≡ false → x1 ≡ false → x2 ≡ false → z ≡ false → (if z then Some (File Verify) else (if fit then (if x0 then show else (if x1 then certify else (if x2 then extract else None))) else None)) ≡ None
-no_command true x1 x2 z fit show certify extract c0 c1 c2 d = absurd cc
-no_command false true x2 z fit show certify extract c0 c1 c2 d = absurd cc
-no_command false false true z fit show certify extract c0 c1 c2 d = absurd cc
-no_command false false false true fit show certify extract c0 c1 c2 d = absurd cc
-no_command false false false false true show certify extract c0 c1 c2 d = refl
-no_command false false false false false show certify extract c0 c1 c2 d = refl
+-- ---- what a form reads, and what its command takes
 
-three_words : (a b n : List ℕ) → of_three a n ≡ command_of (a ∷ b ∷ n ∷ [])
-three_words a b n =
-    ⊎_elim (λ is. subst (λ w. of_three w n ≡ command_of (w ∷ b ∷ n ∷ [])) (sym is) (show_words b n (fits entry_number n)))
-    (λ y0. ⊎_elim (λ is. subst (λ w. of_three w n ≡ command_of (w ∷ b ∷ n ∷ [])) (sym is) (certify_words b n (fits entry_number n)))
-    (λ y1. ⊎_elim (λ is. subst (λ w. of_three w n ≡ command_of (w ∷ b ∷ n ∷ [])) (sym is) (extract_words b n (fits entry_number n)))
-    (λ y2. ⊎_elim (λ is. subst (λ w. of_three w n ≡ command_of (w ∷ b ∷ n ∷ [])) (sym is) (verify_words b n (fits entry_number n)))
-    (λ y3. none y0 y1 y2 y3) (same_or a (codes "verify"))) (same_or a (codes "extract"))) (same_or a (codes "certify"))) (same_or a (codes "show"))
-  where
-    none : named a (codes "show") ≡ false → named a (codes "certify") ≡ false → named a (codes "extract") ≡ false → named a (codes "verify") ≡ false → of_three a n ≡ command_of (a ∷ b ∷ n ∷ [])
-    none y0 y1 y2 y3 = no_command (named a (codes "show")) (named a (codes "certify")) (named a (codes "extract")) (named a (codes "verify")) (fits entry_number n) (Some (File (Show (digits_value 10 n)))) (Some (File (Certify (digits_value 10 n)))) (Some (File (Extract (digits_value 10 n)))) y0 y1 y2 y3
-        ∙ sym (no_test (a ∷ b ∷ n ∷ []) (all_fit (word (codes "solids") ∷ file ∷ []) (a ∷ b ∷ n ∷ [])) (all_fit (word (codes "show") ∷ file ∷ entry_number ∷ []) (a ∷ b ∷ n ∷ [])) (all_fit (word (codes "certify") ∷ file ∷ entry_number ∷ []) (a ∷ b ∷ n ∷ [])) (all_fit (word (codes "verify") ∷ file ∷ certificate ∷ []) (a ∷ b ∷ n ∷ [])) (all_fit (word (codes "extract") ∷ file ∷ entry_number ∷ []) (a ∷ b ∷ n ∷ [])) (all_fit (word (codes "sample") ∷ sample_number ∷ []) (a ∷ b ∷ n ∷ []))
-        (second_false (named a (codes "solids"))) (first_false (named a (codes "show")) (true && (fits entry_number n && true)) y0) (first_false (named a (codes "certify")) (true && (fits entry_number n && true)) y1) (first_false (named a (codes "verify")) true y3) (first_false (named a (codes "extract")) (true && (fits entry_number n && true)) y2) (later_false (named a (codes "sample")) (fits sample_number b)))
+-- the number is in the range of the first slot for one
+abbrev InRange : List Slot → ℕ → Type 0
+InRange [] n = Unit {0}
+InRange (number digits least greatest ∷ slots) n = (least ≤ n) × (n ≤ greatest)
+InRange (_ ∷ slots) n = InRange slots n
 
--- ---- other numbers of words
+lengths_next : (n m : ℕ) → nat_eq (suc n) (suc m) ≡ true → nat_eq n m ≡ true
+lengths_next n m same = rw compare.suc-suc at same
 
-one_word : (a : List ℕ) → None ≡ command_of (a ∷ [])
-one_word a = sym (no_test (a ∷ []) (named a (codes "solids") && false) (named a (codes "show") && false) (named a (codes "certify") && false) (named a (codes "verify") && false) (named a (codes "extract") && false) (named a (codes "sample") && false)
-    (second_false (named a (codes "solids"))) (second_false (named a (codes "show"))) (second_false (named a (codes "certify"))) (second_false (named a (codes "verify"))) (second_false (named a (codes "extract"))) (second_false (named a (codes "sample"))))
+-- of words that fit, the first does, and so do the others
+first_fit : (s : Slot) (slots : List Slot) (w : List ℕ) (words : List (List ℕ)) → all_fit (s ∷ slots) (w ∷ words) ≡ true → fits s w ≡ true
+first_fit s slots w words fit = (and_parts (fits s w) (others_fit slots words) (and_parts (nat_eq (suc (length slots)) (suc (length words))) (fits s w && others_fit slots words) fit).1).0
 
-many_words : (a b c d : List ℕ) (ws : List (List ℕ)) → None ≡ command_of (a ∷ b ∷ c ∷ d ∷ ws)
-many_words a b c d ws = sym (no_test (a ∷ b ∷ c ∷ d ∷ ws) (named a (codes "solids") && (true && false)) (named a (codes "show") && (true && (fits entry_number c && false))) (named a (codes "certify") && (true && (fits entry_number c && false))) (named a (codes "verify") && (true && (true && false))) (named a (codes "extract") && (true && (fits entry_number c && false))) (named a (codes "sample") && (fits sample_number b && false))
-    (second_false (named a (codes "solids"))) (third_false (named a (codes "show")) (fits entry_number c)) (third_false (named a (codes "certify")) (fits entry_number c)) (second_false (named a (codes "verify"))) (third_false (named a (codes "extract")) (fits entry_number c)) (later_false (named a (codes "sample")) (fits sample_number b)))
+rest_fit : (s : Slot) (slots : List Slot) (w : List ℕ) (words : List (List ℕ)) → all_fit (s ∷ slots) (w ∷ words) ≡ true → all_fit slots words ≡ true
+rest_fit s slots w words fit =
+    let parts = and_parts (nat_eq (suc (length slots)) (suc (length words))) (fits s w && others_fit slots words) fit in
+    and_from (nat_eq (length slots) (length words)) (others_fit slots words) (lengths_next (length slots) (length words) parts.0) (and_parts (fits s w) (others_fit slots words) parts.1).1
 
-pub two : (ws : Given) (name last : String Global) (a b : List ℕ) → 2 ≤ length ws → length ws < 3 → name ≡ get_or ws 0 name → last ≡ get_or ws 1 last → a ≡ string_bytes name → b ≡ string_bytes last → of_two a b ≡ command_of (bytes_of ws)
-two [] name last a b least most is is' bytes bytes' = absurd (omega (arith, least))
-two (x ∷ []) name last a b least most is is' bytes bytes' = absurd (omega (arith, least))
-two (x ∷ y ∷ []) name last a b least most is is' bytes bytes' =
-    ap (λ w. of_two w b) (bytes ∙ ap string_bytes is) ∙ ap (of_two (string_bytes x)) (bytes' ∙ ap string_bytes is') ∙ two_words (string_bytes x) (string_bytes y)
-two (x ∷ y ∷ z ∷ ws) name last a b least most is is' bytes bytes' = absurd (omega (arith, most))
+in_range : (digits least greatest : ℕ) (w : List ℕ) → fits (number digits least greatest) w ≡ true → (least ≤ digits_value 10 w) × (digits_value 10 w ≤ greatest)
+in_range digits least greatest w fit =
+    let outer = and_parts (are_digits w && nat_le (length w) digits && nat_le least (digits_value 10 w)) (nat_le (digits_value 10 w) greatest) fit in
+    let inner = and_parts (are_digits w && nat_le (length w) digits) (nat_le least (digits_value 10 w)) outer.0 in
+    (leb-true least (digits_value 10 w) inner.1, leb-true (digits_value 10 w) greatest outer.1)
 
-pub three : (ws : Given) (name last : String Global) (a n : List ℕ) → 3 ≤ length ws → length ws < 4 → name ≡ get_or ws 0 name → last ≡ get_or ws 2 last → a ≡ string_bytes name → n ≡ string_bytes last → of_three a n ≡ command_of (bytes_of ws)
-three [] name last a n least most is is' bytes bytes' = absurd (omega (arith, least))
-three (x ∷ []) name last a n least most is is' bytes bytes' = absurd (omega (arith, least))
-three (x ∷ y ∷ []) name last a n least most is is' bytes bytes' = absurd (omega (arith, least))
-three (x ∷ y ∷ z ∷ []) name last a n least most is is' bytes bytes' =
-    ap (λ w. of_three w n) (bytes ∙ ap string_bytes is) ∙ ap (of_three (string_bytes x)) (bytes' ∙ ap string_bytes is') ∙ three_words (string_bytes x) (string_bytes y) (string_bytes z)
-three (x ∷ y ∷ z ∷ u ∷ ws) name last a n least most is is' bytes bytes' = absurd (omega (arith, most))
+later_word : (w : List ℕ) (words : List (List ℕ)) (place : Option ℕ) → option_and_then (slice_get (w ∷ words)) (option_map suc place) ≡ option_and_then (slice_get words) place
+later_word w words None = refl
+later_word w words (Some i) = refl
 
-pub few : (ws : Given) → length ws < 2 → None ≡ command_of (bytes_of ws)
-few [] most = refl
-few (x ∷ []) most = one_word (string_bytes x)
-few (x ∷ y ∷ ws) most = absurd (omega (arith, most))
+-- the number among words behind a slot that is for none
+later_number : (s : Slot) (slots : List Slot) (w : List ℕ) (words : List (List ℕ)) (n : ℕ) → holds operand.Number s ≡ false → number_among (s ∷ slots) (w ∷ words) ≡ n → number_among slots words ≡ n
+later_number s slots w words n other is =
+    let later = ap (option_and_then (slice_get (w ∷ words))) (position_later (holds operand.Number) s slots other) ∙ later_word w words (position (holds operand.Number) slots) in
+    sym (ap (λ o. unwrap_or (option_map (digits_value 10) o) 0) later) ∙ is
 
-pub many : (ws : Given) → 4 ≤ length ws → None ≡ command_of (bytes_of ws)
-many [] least = absurd (omega (arith, least))
-many (x ∷ []) least = absurd (omega (arith, least))
-many (x ∷ y ∷ []) least = absurd (omega (arith, least))
-many (x ∷ y ∷ z ∷ []) least = absurd (omega (arith, least))
-many (x ∷ y ∷ z ∷ u ∷ ws) least = many_words (string_bytes x) (string_bytes y) (string_bytes z) (string_bytes u) (bytes_of ws)
+first_number : (digits least greatest : ℕ) (slots : List Slot) (w : List ℕ) (words : List (List ℕ)) → number_among (number digits least greatest ∷ slots) (w ∷ words) ≡ digits_value 10 w
+first_number digits least greatest slots w words =
+    ap (λ t. unwrap_or (option_map (digits_value 10) (option_and_then (slice_get (w ∷ words)) (cond t (Some 0) None))) 0) (le-leb 1 (suc (length slots)) (omega arith))
 
--- ---- which sources a form reads
+all_in_range : (slots : List Slot) (words : List (List ℕ)) (n : ℕ) → all_fit slots words ≡ true → number_among slots words ≡ n → InRange slots n
+all_in_range [] words n fit is = tt
+all_in_range (s ∷ slots) [] n fit is = absurd (omega (arith, eqb-true (suc (length slots)) 0 (and_parts (nat_eq (suc (length slots)) 0) true fit).0))
+all_in_range (word text ∷ slots) (w ∷ words) n fit is = all_in_range slots words n (rest_fit (word text) slots w words fit) (later_number (word text) slots w words n refl is)
+all_in_range (file ∷ slots) (w ∷ words) n fit is = all_in_range slots words n (rest_fit file slots w words fit) (later_number file slots w words n refl is)
+all_in_range (certificate ∷ slots) (w ∷ words) n fit is = all_in_range slots words n (rest_fit certificate slots w words fit) (later_number certificate slots w words n refl is)
+all_in_range (number digits least greatest ∷ slots) (w ∷ words) n fit is = subst (λ m. (least ≤ m) × (m ≤ greatest)) (sym (first_number digits least greatest slots w words) ∙ is) (in_range digits least greatest w (first_fit (number digits least greatest) slots w words fit))
 
-abbrev reads_form : Option Form → Bool
-reads_form o = elim o [ Some form ↦ list_any is_file form.slots | None ↦ false ]
+-- that the sources of the form and of its command are the same, and a sample's size is one
+abbrev AgreesAt : Form → ℕ → Type 0
+AgreesAt form n = (list_any (holds operand.File) form.slots ≡ takes_file (form.command n)) × (list_any (holds operand.Certificate) form.slots ≡ takes_certificate (form.command n)) × IsSized (form.command n)
 
-abbrev certificate_form : Option Form → Bool
-certificate_form o = elim o [ Some form ↦ list_any is_certificate form.slots | None ↦ false ]
+abbrev AllAgree : List Form → Type 0
+AllAgree [] = Unit {0}
+AllAgree (form ∷ rest) = ((n : ℕ) → InRange form.slots n → AgreesAt form n) × AllAgree rest
 
--- A form reads the sources that its command is for.
-abbrev ReadsAs : Bool → Bool → Command → Type 0
-ReadsAs reads takes c = (reads ≡ takes_file c) × (takes ≡ takes_certificate c)
+listed_agree : AllAgree forms
+listed_agree = search rules
 
-some_is : (c d : Command) → Some c ≡ Some d → c ≡ d
-some_is c d e = cc
+agree_next : (t : Bool) (form y : Form) (there : Option Form) → ((n : ℕ) → InRange form.slots n → AgreesAt form n) → (there ≡ Some y → (n : ℕ) → InRange y.slots n → AgreesAt y n) → cond t (Some form) there ≡ Some y → (n : ℕ) → InRange y.slots n → AgreesAt y n
+agree_next true form y there first later e = let same : form ≡ y = some_is form y e in subst (λ (f : Form). (n : ℕ) → InRange f.slots n → AgreesAt f n) same first
+agree_next false form y there first later e = later e
 
-reads_by : (words : List (List ℕ)) (solids show certify verify extract sample : Bool) (c : Command) → by_tests words solids show certify verify extract sample ≡ Some c → ReadsAs (reads_form (form_by solids show certify verify extract sample)) (certificate_form (form_by solids show certify verify extract sample)) c
-reads_by words true show certify verify extract sample c e = subst (ReadsAs true false) (some_is (File Solids) c e) (refl, refl)
-reads_by words false true certify verify extract sample c e = subst (ReadsAs true false) (some_is (File (Show (number_among (word (codes "show") ∷ file ∷ entry_number ∷ []) words))) c e) (refl, refl)
-reads_by words false false true verify extract sample c e = subst (ReadsAs true false) (some_is (File (Certify (number_among (word (codes "certify") ∷ file ∷ entry_number ∷ []) words))) c e) (refl, refl)
-reads_by words false false false true extract sample c e = subst (ReadsAs true true) (some_is (File Verify) c e) (refl, refl)
-reads_by words false false false false true sample c e = subst (ReadsAs true false) (some_is (File (Extract (number_among (word (codes "extract") ∷ file ∷ entry_number ∷ []) words))) c e) (refl, refl)
-reads_by words false false false false false true c e = subst (ReadsAs false false) (some_is (Sample (number_among (word (codes "sample") ∷ sample_number ∷ []) words)) c e) (refl, refl)
-reads_by words false false false false false false c e = absurd cc
+found_agrees : (p : Form → Bool) (all : List Form) (y : Form) → AllAgree all → find p all ≡ Some y → (n : ℕ) → InRange y.slots n → AgreesAt y n
+found_agrees p [] y agree e = absurd cc
+found_agrees p (form ∷ rest) y agree e = agree_next (p form) form y (find p rest) agree.0 (found_agrees p rest y agree.1) e
 
-reads_both : (words : List (List ℕ)) (c : Command) → command_of words ≡ Some c → ReadsAs (reads_file words) (reads_certificate words) c
-reads_both words c e = reads_by words (all_fit (word (codes "solids") ∷ file ∷ []) words) (all_fit (word (codes "show") ∷ file ∷ entry_number ∷ []) words) (all_fit (word (codes "certify") ∷ file ∷ entry_number ∷ []) words) (all_fit (word (codes "verify") ∷ file ∷ certificate ∷ []) words) (all_fit (word (codes "extract") ∷ file ∷ entry_number ∷ []) words) (all_fit (word (codes "sample") ∷ sample_number ∷ []) words) c e
+abbrev has_by : Operand → Option Form → Bool
+has_by what o = elim o [ Some form ↦ list_any (holds what) form.slots | None ↦ false ]
+
+-- words that ask for a command agree with it
+abbrev Agree : Option Form → Command → Type 0
+Agree o c = (has_by operand.File o ≡ takes_file c) × (has_by operand.Certificate o ≡ takes_certificate c) × IsSized c
+
+agree_by : (words : List (List ℕ)) (o : Option Form) (c : Command) → form_of words ≡ o → command_by words o ≡ Some c → Agree o c
+agree_by words None c e is = absurd cc
+agree_by words (Some form) c e is =
+    let same = some_is (form.command (number_among form.slots words)) c is in
+    let fit = found_passes (λ (form : Form). all_fit form.slots words) forms form e in
+    subst (Agree (Some form)) same (found_agrees (λ (form : Form). all_fit form.slots words) forms form listed_agree e (number_among form.slots words) (all_in_range form.slots words (number_among form.slots words) fit refl))
+
+agree : (words : List (List ℕ)) (c : Command) → command_of words ≡ Some c → Agree (form_of words) c
+agree words c is = agree_by words (form_of words) c refl is
 
 pub reads : (words : List (List ℕ)) (c : Command) → command_of words ≡ Some c → reads_file words ≡ takes_file c
-reads words c e = (reads_both words c e).0
+reads words c is = (agree words c is).0
 
 pub reads_too : (words : List (List ℕ)) (c : Command) → command_of words ≡ Some c → reads_certificate words ≡ takes_certificate c
-reads_too words c e = (reads_both words c e).1
-
--- ---- the words that a form names
-
--- A form's file is its second word, and its certificate the third.
-second_word : (text : List ℕ) (rest : List Slot) (words : List (List ℕ)) → word_in is_file (word text ∷ file ∷ rest) words ≡ slice_get words 1
-second_word text rest [] = refl
-second_word text rest (a ∷ []) = refl
-second_word text rest (a ∷ b ∷ words) = refl
-
-third_word : (text : List ℕ) (words : List (List ℕ)) → word_in is_certificate (word text ∷ file ∷ certificate ∷ []) words ≡ slice_get words 2
-third_word text [] = refl
-third_word text (a ∷ []) = refl
-third_word text (a ∷ b ∷ []) = refl
-third_word text (a ∷ b ∷ c ∷ words) = refl
-
--- no slot of these is such
-abbrev HasNone : (Slot → Bool) → List Slot → Type 0
-HasNone such [] = Unit {0}
-HasNone such (slot ∷ slots) = (such slot ≡ false) × HasNone such slots
-
-no_word : (such : Slot → Bool) (slots : List Slot) (words : List (List ℕ)) → HasNone such slots → word_in such slots words ≡ None
-no_word such [] words none = refl
-no_word such (slot ∷ slots) [] none = refl
-no_word such (slot ∷ slots) (w ∷ words) none = ap (λ b. if b then Some w else word_in such slots words) none.0 ∙ no_word such slots words none.1
-
-abbrev word_of_form : (Slot → Bool) → List (List ℕ) → Option Form → Option (List ℕ)
-word_of_form such words o = elim o [ Some form ↦ word_in such form.slots words | None ↦ None ]
-
--- the file and the certificate of a command
-abbrev file_due : Option Command → List (List ℕ) → Option (List ℕ)
-file_due None words = None
-file_due (Some c) words = if takes_file c then slice_get words 1 else None
-
-abbrev certificate_due : Option Command → List (List ℕ) → Option (List ℕ)
-certificate_due None words = None
-certificate_due (Some c) words = if takes_certificate c then slice_get words 2 else None
-
-abbrev NamesAs : List (List ℕ) → Option Form → Option Command → Type 0
-NamesAs words form command = (word_of_form is_file words form ≡ file_due command words) × (word_of_form is_certificate words form ≡ certificate_due command words)
-
-named_by : (words : List (List ℕ)) (solids show certify verify extract sample : Bool) → NamesAs words (form_by solids show certify verify extract sample) (by_tests words solids show certify verify extract sample)
-named_by words true show certify verify extract sample = (second_word (codes "solids") [] words, no_word is_certificate (word (codes "solids") ∷ file ∷ []) words (refl, (refl, tt)))
-named_by words false true certify verify extract sample = (second_word (codes "show") (entry_number ∷ []) words, no_word is_certificate (word (codes "show") ∷ file ∷ entry_number ∷ []) words (refl, (refl, (refl, tt))))
-named_by words false false true verify extract sample = (second_word (codes "certify") (entry_number ∷ []) words, no_word is_certificate (word (codes "certify") ∷ file ∷ entry_number ∷ []) words (refl, (refl, (refl, tt))))
-named_by words false false false true extract sample = (second_word (codes "verify") (certificate ∷ []) words, third_word (codes "verify") words)
-named_by words false false false false true sample = (second_word (codes "extract") (entry_number ∷ []) words, no_word is_certificate (word (codes "extract") ∷ file ∷ entry_number ∷ []) words (refl, (refl, (refl, tt))))
-named_by words false false false false false true = (no_word is_file (word (codes "sample") ∷ sample_number ∷ []) words (refl, (refl, tt)), no_word is_certificate (word (codes "sample") ∷ sample_number ∷ []) words (refl, (refl, tt)))
-named_by words false false false false false false = (refl, refl)
-
-named_both : (words : List (List ℕ)) → NamesAs words (form_of words) (command_of words)
-named_both words = named_by words (all_fit (word (codes "solids") ∷ file ∷ []) words) (all_fit (word (codes "show") ∷ file ∷ entry_number ∷ []) words) (all_fit (word (codes "certify") ∷ file ∷ entry_number ∷ []) words) (all_fit (word (codes "verify") ∷ file ∷ certificate ∷ []) words) (all_fit (word (codes "extract") ∷ file ∷ entry_number ∷ []) words) (all_fit (word (codes "sample") ∷ sample_number ∷ []) words)
-
-pub file_is : (words : List (List ℕ)) (command : Option Command) → command ≡ command_of words → file_named words ≡ file_due command words
-file_is words command is = (named_both words).0 ∙ ap (λ c. file_due c words) (sym is)
-
-pub certificate_is : (words : List (List ℕ)) (command : Option Command) → command ≡ command_of words → certificate_named words ≡ certificate_due command words
-certificate_is words command is = (named_both words).1 ∙ ap (λ c. certificate_due c words) (sym is)
-
--- where the command takes such, the word in its place, and else none
-pub by_test : {A : Type 0} (takes t : Bool) (there : Option A) → takes ≡ t → (if takes then there else None) ≡ (if t then there else None)
-by_test takes t there is = ap (λ b. if b then there else None) is
-
--- ---- the size of a sample
-
-in_range : (w : List ℕ) → fits sample_number w ≡ true → (3 ≤ digits_value 10 w) × (digits_value 10 w ≤ 200)
-in_range w fit =
-    let outer = and_parts (are_digits w && nat_le (length w) 3 && nat_le 3 (digits_value 10 w)) (nat_le (digits_value 10 w) 200) fit in
-    let inner = and_parts (are_digits w && nat_le (length w) 3) (nat_le 3 (digits_value 10 w)) outer.0 in
-    (leb-true 3 (digits_value 10 w) inner.1, leb-true (digits_value 10 w) 200 outer.1)
-
--- the words of a sample are two, of which the second fits
-sized_words : (words : List (List ℕ)) → all_fit (word (codes "sample") ∷ sample_number ∷ []) words ≡ true → (3 ≤ number_among (word (codes "sample") ∷ sample_number ∷ []) words) × (number_among (word (codes "sample") ∷ sample_number ∷ []) words ≤ 200)
-sized_words [] fit = absurd cc
-sized_words (a ∷ []) fit = absurd (let no_more = second_false (named a (codes "sample")) in cc)
-sized_words (a ∷ w ∷ []) fit =
-    let parts = and_parts (named a (codes "sample")) (fits sample_number w && true) fit in
-    in_range w (and_parts (fits sample_number w) true parts.1).0
-sized_words (a ∷ w ∷ x ∷ ws) fit = absurd (let no_more = later_false (named a (codes "sample")) (fits sample_number w) in cc)
-
-sized_by : (words : List (List ℕ)) (solids show certify verify extract sample : Bool) (c : Command) → (sample ≡ true → (3 ≤ number_among (word (codes "sample") ∷ sample_number ∷ []) words) × (number_among (word (codes "sample") ∷ sample_number ∷ []) words ≤ 200)) → by_tests words solids show certify verify extract sample ≡ Some c → IsSized c
-sized_by words true show certify verify extract sample c sized e = subst IsSized (some_is (File Solids) c e) tt
-sized_by words false true certify verify extract sample c sized e = subst IsSized (some_is (File (Show (number_among (word (codes "show") ∷ file ∷ entry_number ∷ []) words))) c e) tt
-sized_by words false false true verify extract sample c sized e = subst IsSized (some_is (File (Certify (number_among (word (codes "certify") ∷ file ∷ entry_number ∷ []) words))) c e) tt
-sized_by words false false false true extract sample c sized e = subst IsSized (some_is (File Verify) c e) tt
-sized_by words false false false false true sample c sized e = subst IsSized (some_is (File (Extract (number_among (word (codes "extract") ∷ file ∷ entry_number ∷ []) words))) c e) tt
-sized_by words false false false false false true c sized e = subst IsSized (some_is (Sample (number_among (word (codes "sample") ∷ sample_number ∷ []) words)) c e) (sized refl)
-sized_by words false false false false false false c sized e = absurd cc
+reads_too words c is = (agree words c is).1
 
 pub sized : (words : List (List ℕ)) (c : Command) → command_of words ≡ Some c → IsSized c
-sized words c e = sized_by words (all_fit (word (codes "solids") ∷ file ∷ []) words) (all_fit (word (codes "show") ∷ file ∷ entry_number ∷ []) words) (all_fit (word (codes "certify") ∷ file ∷ entry_number ∷ []) words) (all_fit (word (codes "verify") ∷ file ∷ certificate ∷ []) words) (all_fit (word (codes "extract") ∷ file ∷ entry_number ∷ []) words) (all_fit (word (codes "sample") ∷ sample_number ∷ []) words) c (sized_words words) e
+sized words c is = (agree words c is).2
+
+-- ---- the usage line
+
+pub slot_texts : (slots : List CodeSlot) → map (λ slot. slot_text (slot_meant slot)) slots ≡ map slot_text (meant slots)
+slot_texts slots = sym (map-map slot_text slot_meant slots)
+
+pub usage_is : (rows : List Row) (start joined line : List ℕ) → map form_meant rows ≡ forms → start ≡ codes "usage: igesolid " → joined ≡ start ++ join_with (codes " | ") (map (λ row. form_text (form_meant row)) rows) → line ≡ joined ++ 10 ∷ [] → line ≡ usage_line
+usage_is rows start joined line listed start_is joined_is line_is =
+    line_is ∙ ap (λ text. text ++ 10 ∷ []) (joined_is ∙ ap (λ text. text ++ join_with (codes " | ") (map (λ row. form_text (form_meant row)) rows)) start_is ∙ ap (λ texts. codes "usage: igesolid " ++ join_with (codes " | ") texts) (sym (map-map form_text form_meant rows) ∙ ap (map form_text) listed))
+    ∙ append_assoc (codes "usage: igesolid ") (join_with (codes " | ") (map form_text forms)) (10 ∷ [])

@@ -11,10 +11,11 @@ use Rattle.brep_walk.specs.Places.{places}
 use Rattle.brep_walk.specs.SolidOf.{solid_of}
 use Rattle.cert_lines.specs.declared.version.Version.{Version}
 use Rattle.cert_lines.specs.declared.version.Version.TheVariants.{One, Two, Three}
-use Rattle.cert_lines.specs.declared.fault.Illegal.TheVariants.{Unfit}
+use Rattle.cert_lines.specs.declared.fault.Illegal.TheVariants.{Misspelt}
 use Rattle.cert_lines.proofs.Openings.{one_bad_opening, one_opening, opens_or_bad}
 use Rattle.topo_certificate.proofs.LegalLemmas.{legal_has_no_bad_lem, one_first_bad}
 use Rattle.cert_maker.specs.Checked.{checked}
+use Rattle.topo_certificate.specs.Upgraded.{upgraded}
 use Rattle.iges_write.specs.Text.{IsText}
 use Rattle.iges_write.proofs.FileBack.{one_text}
 use Rattle.solid_extract.specs.Extracted.{IsExtracted}
@@ -27,9 +28,9 @@ use Rattle.iges_solid_cmd.specs.declared.form.FileCommand.TheVariants as of_file
 use Rattle.iges_solid_cmd.specs.declared.answer.Answer.{Answer}
 use Rattle.iges_solid_cmd.specs.declared.answer.Answer.TheVariants as answer
 use Rattle.iges_solid_cmd.specs.Forms.{command_of, usage_line}
-use Rattle.iges_solid_cmd.specs.Texts.{bad_file_line, fail_line, illegal_line, no_extract_line, solids_text}
+use Rattle.iges_solid_cmd.specs.Texts.{accepted_line, bad_file_line, fail_line, illegal_line, no_extract_line, solids_text}
 use Rattle.iges_solid_cmd.specs.Outcome.{IsNoFile}
-use Rattle.iges_solid_cmd.specs.Due.{Owed, Exactly, OfNoFile, OfFile, OfSolids, OfShow, OfCertify, OfLines, OfVersion, OfVerify, OfExtract, OfContents, OfSample, DueOf}
+use Rattle.iges_solid_cmd.specs.Due.{Owed, Exactly, OfNoFile, OfFile, OfSolids, OfShow, OfCertify, OfLines, OfVersion, OfCertificate, OfVerify, OfText, OfUpgrade, OfExtract, OfContents, OfSample, DueOf}
 use Rattle.iges_solid_cmd.specs.OneAnswer.{chooses, OneAnswerIsOwed}
 
 -- at most one answer and text are owed
@@ -83,34 +84,47 @@ certify_one Free free n f a b t u (inl (x, p, e)) (inr (all, done, made)) = absu
 certify_one Free free n f a b t u (inr (all, done, made)) (inl (y, q, d)) = absurd (FirstFalse-not_all (obligations f n) y q all)
 certify_one Free free n f a b t u (inr (all, done, made)) (inr (every, finished, other)) = (done ∙ sym finished, inr (done, free))
 
-lines_one : (v : Version) (n : ℕ) (lines : List (List ℕ)) (f : Contents) → IsOne (OfLines v n lines f)
-lines_one v n lines f a b t u (inl (x, p, e)) (inl (y, q, d)) = (e.0 ∙ sym d.0, e.1 ∙ ap fail_line (FirstFalse-one (checked f n) x y p q) ∙ sym d.1)
-lines_one v n lines f a b t u (inl (x, p, e)) (inr (inl q)) = absurd (FirstFalse-not_all (checked f n) x p q.0)
-lines_one v n lines f a b t u (inl (x, p, e)) (inr (inr q)) = absurd (FirstFalse-not_all (checked f n) x p q.0)
-lines_one v n lines f a b t u (inr (inl p)) (inl (y, q, d)) = absurd (FirstFalse-not_all (checked f n) y q p.0)
-lines_one v n lines f a b t u (inr (inr p)) (inl (y, q, d)) = absurd (FirstFalse-not_all (checked f n) y q p.0)
-lines_one v n lines f a b t u (inr (inl p)) (inr (inl q)) = (p.3.0 ∙ sym q.3.0, p.3.1 ∙ ap illegal_line (one_first_bad v (solid_of f n) 3 lines p.1 q.1 p.2 q.2) ∙ sym q.3.1)
-lines_one v n lines f a b t u (inr (inl p)) (inr (inr q)) = absurd (legal_has_no_bad_lem v (solid_of f n) 3 lines p.1 q.1 p.2)
-lines_one v n lines f a b t u (inr (inr p)) (inr (inl q)) = absurd (legal_has_no_bad_lem v (solid_of f n) 3 lines q.1 p.1 q.2)
-lines_one v n lines f a b t u (inr (inr p)) (inr (inr q)) = (p.2.0 ∙ sym q.2.0, p.2.1 ∙ sym q.2.1)
+lines_one : (granted : Owed) → IsOne granted → (v : Version) (n : ℕ) (lines : List (List ℕ)) (f : Contents) → IsOne (OfLines granted v n lines f)
+lines_one granted one v n lines f a b t u (inl (x, p, e)) (inl (y, q, d)) = (e.0 ∙ sym d.0, e.1 ∙ ap fail_line (FirstFalse-one (checked f n) x y p q) ∙ sym d.1)
+lines_one granted one v n lines f a b t u (inl (x, p, e)) (inr (inl q)) = absurd (FirstFalse-not_all (checked f n) x p q.0)
+lines_one granted one v n lines f a b t u (inl (x, p, e)) (inr (inr q)) = absurd (FirstFalse-not_all (checked f n) x p q.0)
+lines_one granted one v n lines f a b t u (inr (inl p)) (inl (y, q, d)) = absurd (FirstFalse-not_all (checked f n) y q p.0)
+lines_one granted one v n lines f a b t u (inr (inr p)) (inl (y, q, d)) = absurd (FirstFalse-not_all (checked f n) y q p.0)
+lines_one granted one v n lines f a b t u (inr (inl p)) (inr (inl q)) = (p.3.0 ∙ sym q.3.0, p.3.1 ∙ ap illegal_line (one_first_bad v (solid_of f n) 3 lines p.1 q.1 p.2 q.2) ∙ sym q.3.1)
+lines_one granted one v n lines f a b t u (inr (inl p)) (inr (inr q)) = absurd (legal_has_no_bad_lem v (solid_of f n) 3 lines p.1 q.1 p.2)
+lines_one granted one v n lines f a b t u (inr (inr p)) (inr (inl q)) = absurd (legal_has_no_bad_lem v (solid_of f n) 3 lines q.1 p.1 q.2)
+lines_one granted one v n lines f a b t u (inr (inr p)) (inr (inr q)) = one a b t u p.2 q.2
 
-version_one : (v : Version) (n : ℕ) (lines : List (List ℕ)) (f : Contents) → IsOne (OfVersion v n lines f)
-version_one One n lines f = lines_one One n lines f
-version_one Two n lines f = lines_one Two n lines f
-version_one Three n lines f = exactly_one answer.No (illegal_line (Unfit 1))
+version_one : (granted : Owed) → IsOne granted → (v : Version) (n : ℕ) (lines : List (List ℕ)) (f : Contents) → IsOne (OfVersion granted v n lines f)
+version_one granted one One n lines f = lines_one granted one One n lines f
+version_one granted one Two n lines f = lines_one granted one Two n lines f
+version_one granted one Three n lines f = exactly_one answer.No (illegal_line (Misspelt 1))
+
+certificate_one : (granted : ℕ → Owed) → ((n : ℕ) → IsOne (granted n)) → (certificate : List ℕ) (f : Contents) → IsOne (OfCertificate granted certificate f)
+certificate_one granted one c f a b t u (inl p) (inl q) = (p.1.0 ∙ sym q.1.0, p.1.1 ∙ sym q.1.1)
+certificate_one granted one c f a b t u (inl p) (inr (inl q)) = absurd (omega (arith, p.0, q.0))
+certificate_one granted one c f a b t u (inl p) (inr (inr q)) = absurd (omega (arith, p.0, q.0))
+certificate_one granted one c f a b t u (inr (inl p)) (inl q) = absurd (omega (arith, p.0, q.0))
+certificate_one granted one c f a b t u (inr (inr p)) (inl q) = absurd (omega (arith, p.0, q.0))
+certificate_one granted one c f a b t u (inr (inl p)) (inr (inl q)) = (p.3.0 ∙ sym q.3.0, p.3.1 ∙ ap illegal_line (one_bad_opening c p.1 q.1 p.2 q.2) ∙ sym q.3.1)
+certificate_one granted one c f a b t u (inr (inl p)) (inr (inr q)) = absurd (opens_or_bad c q.1 q.2 q.3 p.1 q.4 p.2)
+certificate_one granted one c f a b t u (inr (inr p)) (inr (inl q)) = absurd (opens_or_bad c p.1 p.2 p.3 q.1 p.4 q.2)
+certificate_one granted one c f a b t u (inr (inr (few, v, n, lines, opens, owed))) (inr (inr (fewer, w, m, others, opened, due))) =
+    let same = one_opening c v w n m lines others opens opened in
+    version_one (granted m) (one m) w m others f a b t u
+    (subst (λ (x : Version). OfVersion (granted m) x m others f a t) same.0 (subst (λ (k : ℕ). OfVersion (granted k) v k others f a t) same.1 (subst (λ (xs : List (List ℕ)). OfVersion (granted n) v n xs f a t) same.2 owed))) due
 
 verify_one : (certificate : List ℕ) (f : Contents) → IsOne (OfVerify certificate f)
-verify_one c f a b t u (inl p) (inl q) = (p.1.0 ∙ sym q.1.0, p.1.1 ∙ sym q.1.1)
-verify_one c f a b t u (inl p) (inr (inl q)) = absurd (omega (arith, p.0, q.0))
-verify_one c f a b t u (inl p) (inr (inr q)) = absurd (omega (arith, p.0, q.0))
-verify_one c f a b t u (inr (inl p)) (inl q) = absurd (omega (arith, p.0, q.0))
-verify_one c f a b t u (inr (inr p)) (inl q) = absurd (omega (arith, p.0, q.0))
-verify_one c f a b t u (inr (inl p)) (inr (inl q)) = (p.3.0 ∙ sym q.3.0, p.3.1 ∙ ap illegal_line (one_bad_opening c p.1 q.1 p.2 q.2) ∙ sym q.3.1)
-verify_one c f a b t u (inr (inl p)) (inr (inr q)) = absurd (opens_or_bad c q.1 q.2 q.3 p.1 q.4 p.2)
-verify_one c f a b t u (inr (inr p)) (inr (inl q)) = absurd (opens_or_bad c p.1 p.2 p.3 q.1 p.4 q.2)
-verify_one c f a b t u (inr (inr (few, v, n, lines, opens, owed))) (inr (inr (fewer, w, m, others, opened, due))) =
-    let same = one_opening c v w n m lines others opens opened in
-    version_one w m others f a b t u (subst (λ (x : Version). OfVersion x m others f a t) same.0 (subst (λ (k : ℕ). OfVersion v k others f a t) same.1 (subst (λ (xs : List (List ℕ)). OfVersion v n xs f a t) same.2 owed))) due
+verify_one certificate f = certificate_one (λ n. Exactly answer.Done (accepted_line n)) (λ n. exactly_one answer.Done (accepted_line n)) certificate f
+
+text_one : (text : List ℕ) → IsOne (OfText text)
+text_one text a b t u (inl p) (inl q) = (p.1.0 ∙ sym q.1.0, p.1.1 ∙ sym q.1.1)
+text_one text a b t u (inl p) (inr q) = absurd (omega (arith, p.0, q.0))
+text_one text a b t u (inr p) (inl q) = absurd (omega (arith, p.0, q.0))
+text_one text a b t u (inr p) (inr q) = (p.1.0 ∙ sym q.1.0, p.1.1 ∙ sym q.1.1)
+
+upgrade_one : (certificate : List ℕ) (f : Contents) → IsOne (OfUpgrade certificate f)
+upgrade_one certificate f = certificate_one (λ n. OfText (upgraded (solid_of f n) certificate)) (λ n. text_one (upgraded (solid_of f n) certificate)) certificate f
 
 -- a file has one text
 text_is : (f : Contents) (t u : List ℕ) → IsText f t → IsText f u → t ≡ u
@@ -142,6 +156,7 @@ contents_one of_file.Solids certificate f = one_but _ (OfSolids f) (exactly_one 
 contents_one (of_file.Show n) certificate f = one_but _ (OfShow n f) (show_one n f)
 contents_one (of_file.Certify n) certificate f = certify_one _ refl n f
 contents_one of_file.Verify certificate f = one_but _ (OfVerify certificate f) (verify_one certificate f)
+contents_one of_file.Upgrade certificate f = one_but _ (OfUpgrade certificate f) (upgrade_one certificate f)
 contents_one (of_file.Extract n) certificate f = one_but _ (OfExtract n f) (extract_one n f)
 
 sample_one : (n : ℕ) → IsOneBut (IsTrue (chooses (Some (command.Sample n)))) (OfSample n)

@@ -64,13 +64,13 @@ pub opens_well : (f : Contents) (k : ℕ) (certificate : List ℕ) (bad : Illega
 opens_well f k certificate bad (n, is, accepted) wrong = opens_or_bad certificate Two n accepted.rest bad accepted.opens wrong
 
 -- and its further lines are legal
-pub no_bad_line : (f : Contents) (k m : ℕ) (v w : Version) (s d : SolidData) (certificate : List ℕ) (lines : List (List ℕ)) (bad : Illegal) → IsAccepted f certificate Two (k ∷ []) → s ≡ solid_of f k → w ≡ v → d ≡ s → Opens certificate v m lines → IsFirstBad w d 3 lines bad → ⊥
-no_bad_line f k m v w s d certificate lines bad (n, named, accepted) is version same opens first =
+pub no_bad_line : (f : Contents) (k m : ℕ) (v : Version) (s : SolidData) (certificate : List ℕ) (lines : List (List ℕ)) (bad : Illegal) → IsAccepted f certificate Two (k ∷ []) → s ≡ solid_of f k → Opens certificate v m lines → IsFirstBad v s 3 lines bad → ⊥
+no_bad_line f k m v s certificate lines bad (n, named, accepted) is opens first =
     let one = one_opening certificate v Two m n lines accepted.rest opens accepted.opens in
     let k_is : k ≡ n = cc in
     legal_has_no_bad_lem Two (solid_of f n) 3 accepted.rest bad accepted.certified.legal
-    (subst (λ (u : Version). IsFirstBad u (solid_of f n) 3 accepted.rest bad) (version ∙ one.0)
-    (subst (λ (e : SolidData). IsFirstBad w e 3 accepted.rest bad) (same ∙ is ∙ ap (solid_of f) k_is) (subst (λ (ls : List (List ℕ)). IsFirstBad w d 3 ls bad) one.2 first)))
+    (subst (λ (u : Version). IsFirstBad u (solid_of f n) 3 accepted.rest bad) one.0
+    (subst (λ (e : SolidData). IsFirstBad v e 3 accepted.rest bad) (is ∙ ap (solid_of f) k_is) (subst (λ (ls : List (List ℕ)). IsFirstBad v s 3 ls bad) one.2 first)))
 
 -- the faces of a shell, and those of the shells behind it
 pub faces_next : (shells : List Shell) (k : ℕ) (h : Shell) → slice_get shells k ≡ Some h → length h.faces + length (faces_in (drop (k + 1) shells)) ≡ length (faces_in (drop k shells))

@@ -1,13 +1,14 @@
--- Words of few digits are numbers of 32 bits.
-use Rattle.std.proofs.Common.{◌≡◌, ℕ, ◌&&◌, ◌<◌, ◌≤◌, not, true, List, [], ◌∷◌, length, Err, refl, arith}
+-- A word that is not read as a number of 32 bits fits no slot for numbers up to one of them.
+use Rattle.std.proofs.Common.{◌≡◌, ℕ, ◌&&◌, ◌<◌, ◌^◌, Bool, not, true, false, List, [], ◌∷◌, length, Err, refl, arith}
 use Rattle.std.specs.Prelude.{nat_le}
 use Rattle.std.specs.Char.{is_ascii_digit}
 use Rattle.std.specs.List.{list_all}
 use Rattle.std.specs.Str.Parse.{ParsesUnsigned, digits_value}
 use Rattle.std.proofs.lemmas.Bool.{and_parts, and_from, le-leb, leb-true}
-use Rattle.std.proofs.lemmas.Str.Parse.{IsDigitsTest, IsNumeralModel, numerals_by_value, digits_value_short, parse_digits}
+use Rattle.std.proofs.lemmas.Str.Parse.{IsDigitsTest, IsNumeralModel, numerals_by_value, parse_gives}
 use Rattle.iges_fields.specs.Word.{are_digits, is_empty}
 use Rattle.iges_fields.proofs.DigitFronts.{digit_range}
+use Rattle.iges_solid_cmd.specs.Forms.{fits, number}
 
 abbrev AreAllDigits : List ℕ → Type 0
 AreAllDigits ds = list_all is_ascii_digit ds ≡ true
@@ -26,10 +27,18 @@ some_digits : (w : List ℕ) → not (is_empty w) ≡ true → 0 < length w
 some_digits [] some = absurd cc
 some_digits (x ∷ w) some = omega arith
 
-pub short_parses : {E : Type 0} (w : List ℕ) (digits : ℕ) (e : E) → digits ≤ 7 → (are_digits w && nat_le (length w) digits) ≡ true → ParsesUnsigned 32 10 w (Err e) → ⊥
-short_parses w digits e few short parses =
-    let parts = and_parts (are_digits w) (nat_le (length w) digits) short in
-    let all = and_parts (not (is_empty w)) (list_all is_ascii_digit w) parts.0 in
-    let most : length w ≤ 7 = omega (arith, leb-true (length w) digits parts.1, few) in
-    let small = digits_value_short own w 7 all.1 most in
-    parse_digits own 32 w (Err e) parses all.1 (some_digits w all.0, omega (arith, small))
+not_true : (b : Bool) → (b ≡ true → ⊥) → b ≡ false
+not_true true none = absurd (none refl)
+not_true false none = refl
+
+pub unread_unfit : {E : Type 0} (w : List ℕ) (digits least greatest : ℕ) (e : E) → greatest < 2 ^ 32 → ParsesUnsigned 32 10 w (Err e) → fits (number digits least greatest) w ≡ false
+unread_unfit w digits least greatest e few parses = not_true (fits (number digits least greatest) w) read
+  where
+    read : fits (number digits least greatest) w ≡ true → ⊥
+    read fit =
+        let upper = and_parts (are_digits w && nat_le (length w) digits && nat_le least (digits_value 10 w)) (nat_le (digits_value 10 w) greatest) fit in
+        let lower = and_parts (are_digits w && nat_le (length w) digits) (nat_le least (digits_value 10 w)) upper.0 in
+        let short = and_parts (are_digits w) (nat_le (length w) digits) lower.0 in
+        let all = and_parts (not (is_empty w)) (list_all is_ascii_digit w) short.0 in
+        let ok = parse_gives own 32 w (Err e) parses all.1 (some_digits w all.0) (omega (arith, leb-true (digits_value 10 w) greatest upper.1, few)) in
+        absurd cc

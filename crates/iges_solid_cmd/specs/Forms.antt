@@ -1,12 +1,13 @@
 -- The forms that the words of a command line may have.
-use Rattle.std.specs.Prelude.{ℕ, ◌≤◌, Bool, true, false, ◌&&◌, nat_eq, nat_le, List, [], ◌∷◌, ◌++◌, length, map, Option, Some, None, option_map, find, codes, if◌then◌else◌}
-use Rattle.std.specs.Cmp.Lexicographic.{pointwise}
-use Rattle.std.specs.List.{list_any}
+use Rattle.std.specs.Prelude.{ℕ, ◌≤◌, Bool, true, false, ◌&&◌, nat_eq, nat_le, List, [], ◌∷◌, ◌++◌, length, map, flat_map, zip, Option, Some, None, option_map, option_and_then, unwrap_or, find, position, slice_get, bytes_eq, codes}
+use Rattle.std.specs.List.{list_any, list_all}
 use Rattle.std.specs.Str.Parse.{digits_value}
 use Rattle.iges_fields.specs.Word.{are_digits}
 use Rattle.iges_solid_cmd.specs.declared.form.Command.{Command}
 use Rattle.iges_solid_cmd.specs.declared.form.Command.TheVariants as command
 use Rattle.iges_solid_cmd.specs.declared.form.FileCommand.TheVariants as of_file
+use Rattle.iges_solid_cmd.specs.declared.slot.Operand.{Operand}
+use Rattle.iges_solid_cmd.specs.declared.slot.Operand.TheVariants as operand
 
 -- a fixed word, the name of a file or of a certificate, or a number with its most digits, its least and its greatest value
 pub data Slot : Type 0 where
@@ -33,27 +34,36 @@ forms =
     record { slots = word (codes "certify") ∷ file ∷ entry_number ∷ []; command = λ n. command.File (of_file.Certify n) } ∷
     record { slots = word (codes "verify") ∷ file ∷ certificate ∷ []; command = λ _. command.File of_file.Verify } ∷
     record { slots = word (codes "extract") ∷ file ∷ entry_number ∷ []; command = λ n. command.File (of_file.Extract n) } ∷
-    record { slots = word (codes "sample") ∷ sample_number ∷ []; command = λ n. command.Sample n } ∷ []
+    record { slots = word (codes "sample") ∷ sample_number ∷ []; command = λ n. command.Sample n } ∷
+    record { slots = word (codes "upgrade") ∷ file ∷ certificate ∷ []; command = λ _. command.File of_file.Upgrade } ∷ []
 
 -- ---- reading words
 
 abbrev pub fits : Slot → List ℕ → Bool
-fits (word text) w = pointwise nat_eq w text
+fits (word text) w = bytes_eq w text
 fits file w = true
 fits certificate w = true
 fits (number digits least greatest) w =
     are_digits w && nat_le (length w) digits && nat_le least (digits_value 10 w) && nat_le (digits_value 10 w) greatest
 
+-- the words stand in the slots, one in each
 abbrev pub all_fit : List Slot → List (List ℕ) → Bool
-all_fit [] [] = true
-all_fit (slot ∷ slots) (w ∷ ws) = fits slot w && all_fit slots ws
-all_fit _ _ = false
+all_fit slots words = nat_eq (length slots) (length words) && list_all (λ p. fits p.0 p.1) (zip slots words)
+
+-- the slot is for such a word
+abbrev pub holds : Operand → Slot → Bool
+holds operand.File file = true
+holds operand.Certificate certificate = true
+holds operand.Number (number digits least greatest) = true
+holds _ _ = false
+
+-- the word that stands in the first slot for such
+abbrev pub word_in : Operand → List Slot → List (List ℕ) → Option (List ℕ)
+word_in what slots words = option_and_then (slice_get words) (position (holds what) slots)
 
 -- the number among the words, and 0 where there is none
 abbrev pub number_among : List Slot → List (List ℕ) → ℕ
-number_among (number digits least greatest ∷ slots) (w ∷ ws) = digits_value 10 w
-number_among (_ ∷ slots) (w ∷ ws) = number_among slots ws
-number_among _ _ = 0
+number_among slots words = unwrap_or (option_map (digits_value 10) (word_in operand.Number slots words)) 0
 
 abbrev pub form_of : List (List ℕ) → Option Form
 form_of words = find (λ (form : Form). all_fit form.slots words) forms
@@ -62,44 +72,28 @@ form_of words = find (λ (form : Form). all_fit form.slots words) forms
 abbrev pub command_of : List (List ℕ) → Option Command
 command_of words = option_map (λ (form : Form). form.command (number_among form.slots words)) (form_of words)
 
--- the command that a word asks for, for the entry of this number
-abbrev pub entry_command : List ℕ → ℕ → Option Command
-entry_command name n =
-    if pointwise nat_eq name (codes "show") then Some (command.File (of_file.Show n))
-    else (if pointwise nat_eq name (codes "certify") then Some (command.File (of_file.Certify n))
-    else (if pointwise nat_eq name (codes "extract") then Some (command.File (of_file.Extract n)) else None))
-
 -- ---- which sources a form reads
 
-abbrev pub is_file : Slot → Bool
-is_file file = true
-is_file _ = false
+-- the words have a form with a slot for such
+abbrev pub has_named : Operand → List (List ℕ) → Bool
+has_named what words = elim (form_of words) [ Some form ↦ list_any (holds what) form.slots | None ↦ false ]
 
--- the words have a form that names a file
+-- the word in the first such slot of the form that the words have
+abbrev pub named : Operand → List (List ℕ) → Option (List ℕ)
+named what words = elim (form_of words) [ Some form ↦ word_in what form.slots words | None ↦ None ]
+
 abbrev pub reads_file : List (List ℕ) → Bool
-reads_file words = elim (form_of words) [ Some form ↦ list_any is_file form.slots | None ↦ false ]
+reads_file = has_named operand.File
 
-abbrev pub is_certificate : Slot → Bool
-is_certificate certificate = true
-is_certificate _ = false
-
--- the words have a form that names a certificate
 abbrev pub reads_certificate : List (List ℕ) → Bool
-reads_certificate words = elim (form_of words) [ Some form ↦ list_any is_certificate form.slots | None ↦ false ]
+reads_certificate = has_named operand.Certificate
 
--- the first word that stands in such a slot
-abbrev pub word_in : (Slot → Bool) → List Slot → List (List ℕ) → Option (List ℕ)
-word_in such [] words = None
-word_in such (slot ∷ slots) [] = None
-word_in such (slot ∷ slots) (w ∷ ws) = if such slot then Some w else word_in such slots ws
-
--- the file that the words name
+-- the file and the certificate that the words name
 abbrev pub file_named : List (List ℕ) → Option (List ℕ)
-file_named words = elim (form_of words) [ Some form ↦ word_in is_file form.slots words | None ↦ None ]
+file_named = named operand.File
 
--- the certificate that the words name
 abbrev pub certificate_named : List (List ℕ) → Option (List ℕ)
-certificate_named words = elim (form_of words) [ Some form ↦ word_in is_certificate form.slots words | None ↦ None ]
+certificate_named = named operand.Certificate
 
 -- the command is for a file
 abbrev pub takes_file : Command → Bool
@@ -109,6 +103,7 @@ takes_file (command.Sample n) = false
 -- the command is for a file and a certificate
 abbrev pub takes_certificate : Command → Bool
 takes_certificate (command.File of_file.Verify) = true
+takes_certificate (command.File of_file.Upgrade) = true
 takes_certificate _ = false
 
 -- the sizes of samples
@@ -128,10 +123,17 @@ slot_text file = codes "FILE"
 slot_text certificate = codes "CERT"
 slot_text (number digits least greatest) = codes "N"
 
+-- this text before each of these
+abbrev pub joined_after : List ℕ → List (List ℕ) → List ℕ
+joined_after between texts = flat_map (λ text. between ++ text) texts
+
+-- these texts, with this one between each two
 abbrev pub join_with : List ℕ → List (List ℕ) → List ℕ
 join_with between [] = []
-join_with between (text ∷ []) = text
-join_with between (text ∷ next ∷ texts) = text ++ between ++ join_with between (next ∷ texts)
+join_with between (text ∷ texts) = text ++ joined_after between texts
+
+abbrev pub form_text : Form → List ℕ
+form_text form = join_with (codes " ") (map slot_text form.slots)
 
 abbrev pub usage_line : List ℕ
-usage_line = codes "usage: igesolid " ++ join_with (codes " | ") (map (λ (form : Form). join_with (codes " ") (map slot_text form.slots)) forms) ++ 10 ∷ []
+usage_line = codes "usage: igesolid " ++ join_with (codes " | ") (map form_text forms) ++ 10 ∷ []

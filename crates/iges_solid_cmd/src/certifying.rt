@@ -2,8 +2,7 @@ ghost use Rattle.iges_solid_cmd.specs.Due.{OfCertify};
 ghost use Rattle.std.specs.Prelude.{IfOk};
 
 use crate::answer::Answer;
-use crate::reply::Reply;
-use crate::showing::failed;
+use crate::reply::{Reply, failed};
 use brep_walk::{WalkFault, walk};
 use cert_maker::{MakeFault, certify};
 use iges_fields::{EntryNo, NoMemory};

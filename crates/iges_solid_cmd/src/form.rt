@@ -1,10 +1,10 @@
-ghost use Rattle.iges_solid_cmd.specs.Forms.{command_of, entry_command, entry_number as entry_slot, fits, number, sample_number as sample_slot, takes_certificate, takes_file};
-ghost use Rattle.iges_fields.specs.Word.{are_digits};
-ghost use Rattle.std.specs.Char.{is_ascii_digit};
-ghost use Rattle.std.specs.Cmp.Lexicographic.{pointwise};
-ghost use Rattle.std.specs.Str.Parse.{digits_value};
+ghost use Rattle.iges_solid_cmd.specs.Forms.{all_fit, command_of, fits, form_of, forms, holds, named, word_in};
+ghost use Rattle.iges_solid_cmd.specs.FormTable.{command_for, form_meant, slot_meant};
 ghost use Rattle.std.specs.List.{list_all};
-ghost use Rattle.std.specs.Prelude.{◌≡◌, ◌<◌, ◌≤◌, ◌&&◌, Some, None, MatchOption, codes, false, if◌then◌else◌, length, map, nat_eq, nat_le, string_bytes, true};
+ghost use Rattle.std.specs.Prelude.{◌≡◌, None, MatchOption, Some, find, map, option_map, position, slice_get, string_bytes, true, zip};
+ghost use Rattle.std.specs.Str.Parse.{digits_value};
+
+use crate::slot::{ENTRY_NUMBER, Operand, SAMPLE_NUMBER, Slot};
 
 /// A command for a file (own).
 #[derive(Clone, Copy, Debug, PartialEq, Eq)]
@@ -17,6 +17,8 @@ pub enum FileCommand {
     Certify(u32),
     /// Whether a certificate is accepted for a file.
     Verify,
+    /// An accepted certificate as one of the current version.
+    Upgrade,
     /// A file of a solid alone, named by its directory number, with all that it refers to.
     Extract(u32),
 }
@@ -30,124 +32,166 @@ pub enum Command {
     Sample(u32),
 }
 
-impl Command {
-    /// Whether the command is for a file (own).
-    pub fn takes_file(self) -> bool
-        ensures { result ≡ takes_file self }
+/// Which command a form asks for (own).
+#[derive(Clone, Copy, Debug)]
+pub enum CommandKind {
+    Solids,
+    Show,
+    Certify,
+    Verify,
+    Upgrade,
+    Extract,
+    Sample,
+}
+
+/// What the words of a command line may be, one by one, and the command that they ask for (own).
+#[derive(Clone, Copy, Debug)]
+pub struct Form {
+    pub slots: &'static [Slot],
+    pub kind: CommandKind,
+}
+
+// The listed forms, in the order of the usage line.
+const FORMS: &[Form] = &[
+    Form {
+        slots: &[Slot::Word("solids"), Slot::File],
+        kind: CommandKind::Solids,
+    },
+    Form {
+        slots: &[Slot::Word("show"), Slot::File, ENTRY_NUMBER],
+        kind: CommandKind::Show,
+    },
+    Form {
+        slots: &[Slot::Word("certify"), Slot::File, ENTRY_NUMBER],
+        kind: CommandKind::Certify,
+    },
+    Form {
+        slots: &[Slot::Word("verify"), Slot::File, Slot::Certificate],
+        kind: CommandKind::Verify,
+    },
+    Form {
+        slots: &[Slot::Word("extract"), Slot::File, ENTRY_NUMBER],
+        kind: CommandKind::Extract,
+    },
+    Form {
+        slots: &[Slot::Word("sample"), SAMPLE_NUMBER],
+        kind: CommandKind::Sample,
+    },
+    Form {
+        slots: &[Slot::Word("upgrade"), Slot::File, Slot::Certificate],
+        kind: CommandKind::Upgrade,
+    },
+];
+
+impl CommandKind {
+    // The command of this kind, for the number where it takes one.
+    fn command(self, n: u32) -> Command
+        ensures { result ≡ command_for self n }
     {
         match self {
-            Command::File(_) => true,
-            Command::Sample(_) => false,
+            CommandKind::Solids => Command::File(FileCommand::Solids),
+            CommandKind::Show => Command::File(FileCommand::Show(n)),
+            CommandKind::Certify => Command::File(FileCommand::Certify(n)),
+            CommandKind::Verify => Command::File(FileCommand::Verify),
+            CommandKind::Upgrade => Command::File(FileCommand::Upgrade),
+            CommandKind::Extract => Command::File(FileCommand::Extract(n)),
+            CommandKind::Sample => Command::Sample(n),
         }
     }
+}
 
-    /// Whether the command is for a file and a certificate (own).
-    pub fn takes_certificate(self) -> bool
-        ensures { result ≡ takes_certificate self }
+// Whether each word fits the slot at its place.
+fn each_fits(slots: &[Slot], words: &[String]) -> bool
+    ensures { result ≡ list_all (λ p. fits (slot_meant p.0) (string_bytes p.1)) (zip slots.now words.now) }
+{
+    slots
+        .iter()
+        .zip(words)
+        .all(|(slot, word)| slot.fits(word.as_str()))
+}
+
+// The word at a place, from 0.
+fn word_at(words: &[String], place: usize) -> Option<&str>
+    ensures { MatchOption result (slice_get (map string_bytes words.now) place ≡ None) (λ word. slice_get (map string_bytes words.now) place ≡ Some word.now) }
+{
+    match words.get(place) {
+        Some(word) => Some(word.as_str()),
+        None => None,
+    }
+}
+
+impl Form {
+    // Whether the words stand in the slots, one in each.
+    fn fits(self, words: &[String]) -> bool
+        ensures { result ≡ all_fit (form_meant self).slots (map string_bytes words.now) }
     {
-        match self {
-            Command::File(command) => command == FileCommand::Verify,
-            Command::Sample(_) => false,
-        }
+        self.slots.len() == words.len() && each_fits(self.slots, words)
+    }
+
+    // The place of the first slot for such a word, from 0.
+    fn place(self, what: Operand) -> Option<usize>
+        ensures { result ≡ position (λ slot. holds what (slot_meant slot)) self.slots.now }
+    {
+        self.slots.iter().position(|slot| slot.holds(what))
+    }
+
+    fn slot(self, place: usize) -> Option<Slot>
+        ensures { result ≡ slice_get self.slots.now place }
+    {
+        self.slots.get(place).copied()
+    }
+
+    // The word that stands in the first slot for such.
+    fn word<'a>(self, what: Operand, words: &'a [String]) -> Option<&'a str>
+        ensures { MatchOption result (word_in what (form_meant self).slots (map string_bytes words.now) ≡ None) (λ word. word_in what (form_meant self).slots (map string_bytes words.now) ≡ Some word.now) }
+    {
+        let place = self.place(what)?;
+        word_at(words, place)
+    }
+
+    // The number among words that stand in the slots, where there is one.
+    fn number(self, words: &[String]) -> Option<u32>
+        ensures { all_fit (form_meant self).slots (map string_bytes words.now) ≡ true → result ≡ option_map (digits_value 10) (word_in Operand.Number (form_meant self).slots (map string_bytes words.now)) }
+    {
+        let place = self.place(Operand::Number)?;
+        let slot = self.slot(place)?;
+        let word = word_at(words, place)?;
+        slot.number(word)
     }
 }
 
-fn all_digits(word: &[u8]) -> bool
-    ensures { result ≡ list_all is_ascii_digit word.now }
+// The first of the forms that the words have.
+fn first_form(forms: &[Form], words: &[String]) -> Option<Form>
+    ensures { result ≡ find (λ form. all_fit (form_meant form).slots (map string_bytes words.now)) forms.now }
 {
-    word.iter().all(|b| b.is_ascii_digit())
+    forms.iter().copied().find(|form| form.fits(words))
 }
 
-// Whether a word is at least one digit and at most so many.
-fn is_short_number(word: &[u8], digits: usize) -> bool
-    ensures { result ≡ (are_digits word.now && nat_le (length word.now) digits) }
+/// The listed forms, in the order of the usage line (own).
+pub fn listed() -> &'static [Form]
+    ensures { map form_meant result.now ≡ forms }
 {
-    !word.is_empty() && all_digits(word) && word.len() <= digits
+    FORMS
 }
 
-// The number from the least to the greatest that a word writes in at most so many digits.
-fn number_in(word: &str, digits: usize, least: u32, greatest: u32) -> Option<u32>
-    requires { digits ≤ 7 }
-    ensures { MatchOption result (fits (number digits least greatest) word.now ≡ false) (λ n. (fits (number digits least greatest) word.now ≡ true) × (n ≡ digits_value 10 word.now)) }
+// The first listed form that the words have.
+fn form_of(words: &[String]) -> Option<Form>
+    ensures { option_map form_meant result ≡ form_of (map string_bytes words.now) }
 {
-    if !is_short_number(word.as_bytes(), digits) {
-        return None;
-    }
-    let Ok(n) = word.parse::<u32>() else {
-        return None;
-    };
-    if n < least || n > greatest {
-        return None;
-    }
-    Some(n)
-}
-
-// The command for a sample of the size that a word writes.
-fn of_size(size: &str) -> Option<Command>
-    ensures { result ≡ (if fits sample_slot size.now then Some (Command.Sample (digits_value 10 size.now)) else None) }
-{
-    let Some(n) = number_in(size, 3, 3, 200) else {
-        return None;
-    };
-    Some(Command::Sample(n))
-}
-
-// The command that a word, and the name of a file or a number ask for.
-fn of_two(name: &str, last: &str) -> Option<Command>
-    ensures { result ≡ (if pointwise nat_eq name.now (codes "solids") then Some (Command.File FileCommand.Solids) else (if pointwise nat_eq name.now (codes "sample") then (if fits sample_slot last.now then Some (Command.Sample (digits_value 10 last.now)) else None) else None)) }
-{
-    if name == "solids" {
-        return Some(Command::File(FileCommand::Solids));
-    }
-    if name == "sample" {
-        return of_size(last);
-    }
-    None
-}
-
-// The command that a word asks for, for the entry of this number.
-fn of_entry(name: &str, no: u32) -> Option<Command>
-    ensures { result ≡ entry_command name.now no }
-{
-    if name == "show" {
-        return Some(Command::File(FileCommand::Show(no)));
-    }
-    if name == "certify" {
-        return Some(Command::File(FileCommand::Certify(no)));
-    }
-    if name == "extract" {
-        return Some(Command::File(FileCommand::Extract(no)));
-    }
-    None
-}
-
-// The command that a word, the name of a file and a number ask for.
-fn of_number(name: &str, number: &str) -> Option<Command>
-    ensures { result ≡ (if fits entry_slot number.now then entry_command name.now (digits_value 10 number.now) else None) }
-{
-    let Some(no) = number_in(number, 7, 1, 9_999_999) else {
-        return None;
-    };
-    of_entry(name, no)
-}
-
-// The command that a word, the name of a file, and the name of a certificate or a number ask for.
-fn of_three(name: &str, last: &str) -> Option<Command>
-    ensures { result ≡ (if pointwise nat_eq name.now (codes "verify") then Some (Command.File FileCommand.Verify) else (if fits entry_slot last.now then entry_command name.now (digits_value 10 last.now) else None)) }
-{
-    if name == "verify" {
-        return Some(Command::File(FileCommand::Verify));
-    }
-    of_number(name, last)
+    first_form(listed(), words)
 }
 
 /// The command of the first listed form that the words have (own).
 pub fn command_in(words: &[String]) -> Option<Command>
     ensures { result ≡ command_of (map string_bytes words.now) }
 {
-    match words {
-        [name, last] => of_two(name.as_str(), last.as_str()),
-        [name, _, last] => of_three(name.as_str(), last.as_str()),
-        _ => None,
-    }
+    let form = form_of(words)?;
+    Some(form.kind.command(form.number(words).unwrap_or(0)))
+}
+
+/// The word in the first slot for such of the form that the words have; None where they have none (own).
+pub fn named_in<'a>(what: Operand, words: &'a [String]) -> Option<&'a str>
+    ensures { MatchOption result (named what (map string_bytes words.now) ≡ None) (λ word. named what (map string_bytes words.now) ≡ Some word.now) }
+{
+    form_of(words)?.word(what, words)
 }

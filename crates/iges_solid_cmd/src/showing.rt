@@ -1,33 +1,15 @@
 ghost use Rattle.iges_solid_cmd.specs.Due.{OfShow};
-ghost use Rattle.iges_solid_cmd.specs.Texts.{counted, fail_line, loop_count as loops_of, shell_line, shell_lines_from, show_text};
+ghost use Rattle.iges_solid_cmd.specs.Texts.{counted, loop_count as loops_of, shell_line, shell_lines_from, show_text};
 ghost use Rattle.std.specs.Prelude.{◌≡◌, ◌+◌, ◌<◌, ◌^◌, ◌++◌, drop, length, IfOk, OnOk};
 
 use crate::answer::Answer;
-use crate::reply::Reply;
+use crate::reply::{Reply, failed};
 use brep_walk::{WalkFault, walk};
 use edge_uses::{Rows, rows};
 use iges_fields::{Bytes, EntryNo, NoMemory, Out, write_number};
 use iges_params::File;
-use solid_data::{FaceUse, Failing, Shell, ShellAt, Solid};
+use solid_data::{FaceUse, Shell, ShellAt, Solid};
 use std::alloc::Global;
-
-/// The reply for a rule that fails.
-pub fn failed(alloc: Global, failing: Failing) -> Result<Reply, NoMemory>
-    ensures { IfOk result (λ reply. (reply.answer ≡ Answer.No) × (reply.text ≡ fail_line failing)) }
-{
-    let mut out = Out::new(alloc);
-    out.put(b"fail ")?;
-    out.put(failing.rule.name().as_bytes())?;
-    out.put(b" ")?;
-    write_number(&mut out, u64::from(failing.entity.0))?;
-    out.put(b" ")?;
-    write_number(&mut out, u64::from(failing.place))?;
-    out.put(b"\n")?;
-    Ok(Reply {
-        answer: Answer::No,
-        text: out.into_bytes(),
-    })
-}
 
 /// A word and a number, each behind a space.
 pub fn put_count(out: &mut Out, word: &str, n: u64) -> Result<(), NoMemory>

@@ -6,52 +6,22 @@ ghost use Rattle.iges_params.specs.IsFile.{IsFile};
 ghost use Rattle.iges_solid_cmd.specs.Due.{OfNoFile};
 ghost use Rattle.iges_solid_cmd.specs.Outcome.{ReadsWhole};
 ghost use Rattle.iges_solid_cmd.specs.Replies.{AreWithin, CountAfterCall, IsFedTold, IsFileTold, IsReply, IsTooLarge};
-ghost use Rattle.iges_solid_cmd.specs.Texts.{bad_file_line};
 ghost use Rattle.std.specs.Io.KnownBytes.{IsAtEnd};
-ghost use Rattle.std.specs.Prelude.{◌≡◌, ◌≤◌, [], List, ℕ, length, IfOk, MatchResult, vec_len};
+ghost use Rattle.std.specs.Prelude.{◌≡◌, ◌<◌, ◌≤◌, List, ℕ, length, IfOk, MatchResult, vec_len};
 
 use crate::answer::Answer;
-use crate::reply::{Reply, Stop};
-use iges_fields::{Bytes, FILE_LIMIT, NoMemory, Out, write_number};
-use iges_io::{ReadAll, Source, read_all};
-use iges_lines::{LineFault, LineFeed};
+use crate::reply::{Reply, Stop, bad_file, too_large};
+use iges_fields::{Bytes, FILE_LIMIT, NoMemory};
+use iges_io::{NextPiece, ReadAll, Source, next_piece, piece_room, read_all};
+use iges_lines::LineFeed;
 use iges_params::{File, ReadFileFault, take_sections};
 use std::alloc::Global;
 
-// The reply for a bad file.
-fn bad_file(alloc: Global, fault: LineFault) -> Result<Reply, NoMemory>
-    ensures { IfOk result (λ reply. (reply.answer ≡ Answer.BadFile) × (reply.text ≡ bad_file_line fault)) }
+/// A buffer for what one read gives.
+pub fn buffer(alloc: Global) -> Result<Vec<u8>, NoMemory>
+    ensures { IfOk result (λ room. 0 < vec_len room) }
 {
-    let mut out = Out::new(alloc);
-    out.put(b"bad file line ")?;
-    write_number(&mut out, fault.line)?;
-    out.put(b" ")?;
-    out.put(fault.reason.word())?;
-    out.put(b"\n")?;
-    Ok(Reply {
-        answer: Answer::BadFile,
-        text: out.into_bytes(),
-    })
-}
-
-// How many bytes are asked for at once.
-const PIECE: usize = 65_536;
-
-// Its clause tells the length alone, so that no goal of a caller spells so many zeros out.
-pub fn room_for(alloc: Global, len: usize) -> Result<Vec<u8>, NoMemory>
-    ensures { IfOk result (λ room. vec_len room ≡ len) }
-{
-    Ok(vec![in alloc; 0u8; len]?)
-}
-
-// The reply for more bytes than the limit.
-fn too_large(alloc: Global) -> Reply
-    ensures { (result.answer ≡ Answer.TooLarge) × (result.text ≡ []) }
-{
-    Reply {
-        answer: Answer::TooLarge,
-        text: Bytes::from_vec(Vec::new(alloc)),
-    }
+    Ok(piece_room(alloc)?)
 }
 
 /// All bytes of a source, or the reply where they are more than the limit.
@@ -66,10 +36,7 @@ pub fn bytes_in<S: Source>(
 {
     match read_all(alloc, source, limit) {
         Ok(bytes) => Ok(Ok(bytes)),
-        Err(ReadAll::TooLarge) => Ok(Err(Reply {
-            answer: Answer::TooLarge,
-            text: Bytes::from_vec(Vec::new(alloc)),
-        })),
+        Err(ReadAll::TooLarge) => Ok(Err(too_large(alloc))),
         Err(ReadAll::ReadFault) => Err(Stop::ReadFault),
         Err(ReadAll::NoMemory) => Err(Stop::OutOfMemory),
     }
@@ -82,18 +49,18 @@ fn lines_in<S: Source>(alloc: Global, source: &mut S) -> Result<Result<LineFeed,
     ensures count { CountAfterCall (S.faults source.old) (S.faults source.new) result }
 {
     let mut feed = LineFeed::new(alloc);
-    let mut piece = room_for(alloc, PIECE)?;
-    let mut came = 0u64;
+    let mut room = buffer(alloc)?;
+    let piece = room.as_mut_slice();
+    let mut came = 0;
     'reads: loop {
-        let Ok(count) = source.read(piece.as_mut_slice()) else {
+        let Ok(next) = next_piece(source, piece, came, FILE_LIMIT) else {
             return Err(Stop::ReadFault);
         };
-        if count == 0 {
-            return Ok(Ok(feed));
-        }
-        if (count as u64) > FILE_LIMIT - came {
-            return Ok(Err(too_large(alloc)));
-        }
+        let count = match next {
+            NextPiece::Bytes(count) => count,
+            NextPiece::End => return Ok(Ok(feed)),
+            NextPiece::TooLarge => return Ok(Err(too_large(alloc))),
+        };
         feed.feed(&piece[..count])?;
         came += count as u64;
     }

@@ -27,3 +27,6 @@ returns-in-Some-clause-reads g c fault = reads c.args.words.now _ (sym c.command
 
 pub returns-in-Some-clause-unread : goal.returns-in-Some-clause-unread
 returns-in-Some-clause-unread g c unread = c.command_reply.ensures.unread (sym (reads c.args.words.now _ (sym c.command.ensures ∙ c.in-Some.is)) ∙ unread)
+
+pub returns-in-Some-clause-cert_unread : goal.returns-in-Some-clause-cert_unread
+returns-in-Some-clause-cert_unread g c unread = c.command_reply.ensures.cert_unread (sym (reads_too c.args.words.now _ (sym c.command.ensures ∙ c.in-Some.is)) ∙ unread)

@@ -7,5 +7,5 @@ unreachable-requires c = opens_well (sample c.args.n) 1 c.args.text.now c.in_def
 
 pub unreachable-requires-in_default-check : goal.unreachable-requires-in_default-check
 unreachable-requires-in_default-check c =
-    no_bad_line (sample c.args.n) 1 _ _ c.in_ok-checker.checker.version c.args.solid.now c.in_ok-checker.checker.solid c.args.text.now _ c.in_default-check.field-0 c.requires.accepted c.requires.sample c.in_ok-checker.ensures.version c.in_ok-checker.ensures.solid c.in-Ok.ensures
-    ((c.in_default-check.ensures {u = tt}).whole 3 c.in_ok-checker.ensures.begun)
+    no_bad_line (sample c.args.n) 1 _ _ c.args.solid.now c.args.text.now _ c.in_default-check.field-0 c.requires.accepted c.requires.sample c.in-Ok.ensures
+    ((c.in_default-check.ensures {u = tt}).whole _ c.args.solid.now 3 c.in_ok-checker.ensures.fed)

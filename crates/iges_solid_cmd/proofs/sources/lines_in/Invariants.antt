@@ -1,4 +1,4 @@
-use Rattle.std.proofs.Common.{◌≡◌, ◌≤◌, ◌-◌, ◌<◌, List, ℕ, length, vec_len}
+use Rattle.std.proofs.Common.{◌≡◌, ◌≤◌, ◌-◌, ◌<◌, List, ℕ, length}
 use Rattle.std.specs.Io.KnownBytes.{Consumes}
 use Rattle.iges_fields.specs.declared.TheConstants.{FILE_LIMIT}
 use Rattle.iges_solid_cmd.proofs.Feeds.{IsFedSoFar}
@@ -9,7 +9,7 @@ invariant-reads g l = record {
   within : l.came ≤ FILE_LIMIT;
   fed : IsFedSoFar (g.S.Source.left l.fn.source) (g.S.Source.left l.source) l.feed l.came;
   count : g.S.Source.faults l.source ≡ g.S.Source.faults l.fn.source;
-  room : 0 < vec_len l.piece;
+  room : 0 < length l.piece;
 }
 
 abbrev pub decreases-reads : goal.decreases-reads

@@ -1,0 +1,15 @@
+use Rattle.std.proofs.Common.{◌≡◌, ◌≤◌, ◌-◌, ◌<◌, length}
+use Rattle.topo_certificate.specs.declared.TheConstants.{CERT_LIMIT}
+use Rattle.iges_solid_cmd.proofs.FirstLines.{IsOpenedSoFar}
+use Rattle.iges_solid_cmd.proofs.opening.opening_in.Given as goal
+
+abbrev pub invariant-reads : goal.invariant-reads
+invariant-reads g l = record {
+  within : l.came ≤ CERT_LIMIT;
+  opened : IsOpenedSoFar (g.C.Source.left l.fn.cert) (g.C.Source.left l.cert) l.came l.opening;
+  count : g.C.Source.faults l.cert ≡ g.C.Source.faults l.fn.cert;
+  room : 0 < length l.piece;
+}
+
+abbrev pub decreases-reads : goal.decreases-reads
+decreases-reads g l = CERT_LIMIT - l.came

@@ -1,0 +1,118 @@
+ghost use Rattle.iges_fields.specs.Word.{are_digits};
+ghost use Rattle.iges_solid_cmd.specs.Forms.{fits, holds, number};
+ghost use Rattle.iges_solid_cmd.specs.FormTable.{slot_meant};
+ghost use Rattle.std.specs.Char.{is_ascii_digit};
+ghost use Rattle.std.specs.List.{list_all};
+ghost use Rattle.std.specs.Prelude.{◌≡◌, ◌&&◌, MatchOption, Some, false, length, nat_le, true};
+ghost use Rattle.std.specs.Str.Parse.{digits_value};
+
+/// What a word of a form stands for (own).
+#[derive(Clone, Copy, Debug)]
+pub enum Slot {
+    /// This very word.
+    Word(&'static str),
+    /// The name of a file.
+    File,
+    /// The name of a certificate.
+    Certificate,
+    /// A number of at least one digit and at most so many, from the least to the greatest.
+    Number {
+        digits: usize,
+        least: u32,
+        greatest: u32,
+    },
+}
+
+/// What a command takes from the words (own).
+#[derive(Clone, Copy, Debug, PartialEq, Eq)]
+pub enum Operand {
+    File,
+    Certificate,
+    Number,
+}
+
+/// The directory number of an entry (IGES 5.3, 2.2.4.4).
+pub const ENTRY_NUMBER: Slot = Slot::Number {
+    digits: 7,
+    least: 1,
+    greatest: 9_999_999,
+};
+
+/// The size of a sample (own).
+pub const SAMPLE_NUMBER: Slot = Slot::Number {
+    digits: 3,
+    least: 3,
+    greatest: 200,
+};
+
+fn all_digits(word: &[u8]) -> bool
+    ensures { result ≡ list_all is_ascii_digit word.now }
+{
+    word.iter().all(|b| b.is_ascii_digit())
+}
+
+// Whether a word is at least one digit and at most so many.
+fn is_short_number(word: &[u8], digits: usize) -> bool
+    ensures { result ≡ (are_digits word.now && nat_le (length word.now) digits) }
+{
+    !word.is_empty() && all_digits(word) && word.len() <= digits
+}
+
+// The number from the least to the greatest that a word writes in at most so many digits.
+fn number_in(word: &str, digits: usize, least: u32, greatest: u32) -> Option<u32>
+    ensures { MatchOption result (fits (number digits least greatest) word.now ≡ false) (λ n. (fits (number digits least greatest) word.now ≡ true) × (n ≡ digits_value 10 word.now)) }
+{
+    if !is_short_number(word.as_bytes(), digits) {
+        return None;
+    }
+    let Ok(n) = word.parse::<u32>() else {
+        return None;
+    };
+    if n < least || n > greatest {
+        return None;
+    }
+    Some(n)
+}
+
+impl Slot {
+    /// Whether a word may stand in the slot (own).
+    pub fn fits(self, word: &str) -> bool
+        ensures { result ≡ fits (slot_meant self) word.now }
+    {
+        match self {
+            Slot::Word(text) => word == text,
+            Slot::File | Slot::Certificate => true,
+            Slot::Number {
+                digits,
+                least,
+                greatest,
+            } => number_in(word, digits, least, greatest).is_some(),
+        }
+    }
+
+    /// Whether the slot is for such a word (own).
+    pub fn holds(self, what: Operand) -> bool
+        ensures { result ≡ holds what (slot_meant self) }
+    {
+        match self {
+            Slot::Word(_) => false,
+            Slot::File => what == Operand::File,
+            Slot::Certificate => what == Operand::Certificate,
+            Slot::Number { .. } => what == Operand::Number,
+        }
+    }
+
+    /// The number that a fitting word writes; None where the slot is not for numbers (own).
+    pub fn number(self, word: &str) -> Option<u32>
+        ensures { holds Operand.Number (slot_meant self) ≡ true → fits (slot_meant self) word.now ≡ true → result ≡ Some (digits_value 10 word.now) }
+    {
+        match self {
+            Slot::Number {
+                digits,
+                least,
+                greatest,
+            } => number_in(word, digits, least, greatest),
+            _ => None,
+        }
+    }
+}

@@ -1,0 +1,83 @@
+ghost use Rattle.brep_walk.specs.SolidOf.{solid_of};
+ghost use Rattle.cert_lines.specs.Line.{cut_lines};
+ghost use Rattle.iges_solid_cmd.specs.Due.{OfText, OfUpgrade, OfVersion};
+ghost use Rattle.iges_solid_cmd.specs.Outcome.{ReadsCertificate};
+ghost use Rattle.iges_solid_cmd.specs.Replies.{CountAfterCall, IsReply};
+ghost use Rattle.std.specs.Prelude.{◌≤◌, length, IfOk};
+ghost use Rattle.topo_certificate.specs.Upgraded.{upgraded};
+
+use crate::answer::Answer;
+use crate::checking::checked_solid;
+use crate::reply::{Reply, Stop, illegal, too_large};
+use crate::sources::bytes_in;
+use cert_lines::read_opening;
+use iges_fields::{EntryNo, NoMemory};
+use iges_io::Source;
+use iges_params::File;
+use solid_data::Solid;
+use std::alloc::Global;
+use topo_certificate::{CERT_LIMIT, Checker, UpgradeFault, Version, check, upgrade};
+
+// The reply with the text of version 2.
+fn upgraded_reply(alloc: Global, solid: &Solid, certificate: &[u8]) -> Result<Reply, NoMemory>
+    ensures { IfOk result (λ reply. OfText (upgraded solid.now certificate.now) reply.answer reply.text) }
+{
+    match upgrade(alloc, solid, certificate, CERT_LIMIT) {
+        Ok(text) => Ok(Reply {
+            answer: Answer::Done,
+            text,
+        }),
+        Err(UpgradeFault::TooLarge) => Ok(too_large(alloc)),
+        Err(UpgradeFault::NoMemory) => Err(NoMemory),
+    }
+}
+
+// The reply for a certificate that names this version and this solid, and has this rest behind its first two lines.
+fn upgrade_opened(
+    alloc: Global,
+    file: File,
+    certificate: &[u8],
+    version: Version,
+    no: EntryNo,
+    rest: &[u8],
+) -> Result<Reply, NoMemory>
+    ensures { IfOk result (λ reply. OfVersion (OfText (upgraded (solid_of file no.0) certificate.now)) version no.0 (cut_lines rest.now) file reply.answer reply.text) }
+{
+    let solid = match checked_solid(alloc, file, version, no)? {
+        Ok(solid) => solid,
+        Err(reply) => return Ok(reply),
+    };
+    let mut checker = Checker::new(alloc, &solid, version)?;
+    match check(&mut checker, rest) {
+        Ok(()) => upgraded_reply(alloc, &solid, certificate),
+        Err(bad) => illegal(alloc, bad),
+    }
+}
+
+// The reply for a certificate of these bytes: what its first two lines say comes first.
+fn upgrade_text(alloc: Global, file: File, certificate: &[u8]) -> Result<Reply, NoMemory>
+    requires { length certificate.now ≤ CERT_LIMIT }
+    ensures { IfOk result (λ reply. OfUpgrade certificate.now file reply.answer reply.text) }
+{
+    match read_opening(certificate) {
+        Ok((version, no, rest)) => upgrade_opened(alloc, file, certificate, version, no, rest),
+        Err(bad) => illegal(alloc, bad),
+    }
+}
+
+/// The certificate of a source as one of version 2, where it is accepted for the file; else what verifying it says. It is
+/// held whole.
+pub fn upgrade_certificate<C: Source>(
+    alloc: Global,
+    file: File,
+    cert: &mut C,
+) -> Result<Reply, Stop>
+    ensures found { IfOk result (IsReply (λ certificate. OfUpgrade certificate file) (C.left cert.old)) }
+    ensures whole { IfOk result (λ reply. ReadsCertificate (C.left cert.new) reply.answer) }
+    ensures count { CountAfterCall (C.faults cert.old) (C.faults cert.new) result }
+{
+    match bytes_in(alloc, cert, CERT_LIMIT)? {
+        Ok(bytes) => Ok(upgrade_text(alloc, file, bytes.as_slice())?),
+        Err(reply) => Ok(reply),
+    }
+}
