@@ -1,6 +1,7 @@
 """A checker of certificates that goes by docs/CERTIFICATE.md and shares no code with the program, to compare the program with.
 
-It reads the records of a solid only as far as the files of the examples need: integers on lines of 80 columns, no fault.
+It takes versions 1 and 2, and forms the text that `upgrade` is to write. It reads the records of a solid only as far as
+the files of the examples need: integers on lines of 80 columns, no fault.
 """
 import re
 
@@ -53,6 +54,10 @@ class Shell:
     def __init__(self, faces):
         self.loops = 0
         self.faces, self.rows, self.follows, self.points, self.edges, self.vertices = faces, [None], [None], [], set(), set()
+
+    def counts(self):
+        """The counts of its tally line."""
+        return len(self.vertices), len(self.edges), self.faces, self.loops
 
     def add_loop(self, rows, backwards, face, loop, vertex):
         self.loops += 1
@@ -171,7 +176,7 @@ class Checking:
 
     def tally(self, *counts):
         self.tallies -= 1
-        return counts == (len(self.shell.vertices), len(self.shell.edges), self.shell.faces, self.shell.loops)
+        return counts == self.shell.counts()
 
 
 def spelled(line):
@@ -188,30 +193,58 @@ def judged(line, most):
     return ("unfit", []) if len(line) > most else spelled(line) or ("misspelt", [])
 
 
-def answer(records, certificate):
-    """What `verify` answers, which takes versions 1 and 2, where the places, JOIN and APART of the solid hold; None where line 2 names no solid of the file."""
-    lines = re.findall(rb"[^\n]*\n|[^\n]+\Z", certificate)
-    checking, most, solid = None, 64, None
-    for number, line in enumerate(lines, 1):
-        kind, numbers = judged(line, most)
+def lines_of(certificate):
+    """The lines, each with its LF, and what stands behind the last LF where that isn't empty."""
+    return re.findall(rb"[^\n]*\n|[^\n]+\Z", certificate)
+
+
+def opening(lines):
+    """The version and the solid's number that lines 1 and 2 say, or the answer where one of them is bad."""
+    said = []
+    for number, due in enumerate(("head", "solid"), 1):
+        if len(lines) < number:
+            return None, f"line {number} missing\n"
+        kind, numbers = judged(lines[number - 1], 64)
+        if kind != due:
+            return None, f"line {number} {'misspelt' if kind == 'misspelt' else 'unfit'}\n"
+        said += numbers
+    return (said, None) if said[0] in (1, 2) else (None, "line 1 misspelt\n")
+
+
+def judgement(records, version, solid, lines):
+    """The answer by the lines from line 3 on."""
+    shells, uses = shells_of(records, solid)
+    checking = Checking(shells, version)
+    for number, line in enumerate(lines, 3):
+        kind, numbers = judged(line, 64 + 10 * uses)
         if kind == "misspelt":
             return f"line {number} misspelt\n"
-        if number <= 2:
-            fits = kind == ("head", "solid")[number - 1]
-        else:
-            fits = checking.fits(kind, numbers)
-        if not fits:
+        if not checking.fits(kind, numbers):
             return f"line {number} unfit\n"
-        if number == 1:
-            version = numbers[0]
-        if number == 2:
-            solid = numbers[0]
-            if records.get(solid, (0, []))[0] != 186:
-                return None
-            if version == 3:
-                return "line 1 unfit\n"
-            shells, uses = shells_of(records, solid)
-            checking, most = Checking(shells, version), 64 + 10 * uses
-    if checking is None or not checking.ended:
-        return f"line {len(lines) + 1} missing\n"
-    return f"accepted {solid}\n"
+    return f"accepted {solid}\n" if checking.ended else f"line {len(lines) + 3} missing\n"
+
+
+def answer(records, certificate):
+    """What `verify` answers where the places, JOIN and APART of the solid hold; None where line 2 names no solid of the file."""
+    lines = lines_of(certificate)
+    said, bad = opening(lines)
+    if said is None:
+        return bad
+    version, solid = said
+    if records.get(solid, (0, []))[0] != 186:
+        return None
+    return judgement(records, version, solid, lines[2:])
+
+
+def upgraded(records, certificate):
+    """What `upgrade` writes of an accepted certificate."""
+    head, solid, *lines = lines_of(certificate)
+    if head == b"IGESCERT 2\n":
+        return certificate
+    shells = iter(shells_of(records, int(solid.split()[1]))[0])
+    text = [b"IGESCERT 2\n", solid, lines[0]]
+    for line in lines[1:]:
+        if line.startswith((b"SHELL", b"END")):
+            text.append(b"TALLY %d %d %d %d\n" % next(shells).counts())
+        text.append(line)
+    return b"".join(text)
