@@ -20,6 +20,3 @@ mod walking;
 pub use fault::WalkFault;
 pub use law::{places_are_definite, solid_is_numbered};
 pub use walking::walk;
-
-#[cfg(test)]
-mod tests;

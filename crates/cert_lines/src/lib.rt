@@ -24,6 +24,3 @@ pub use words::{Judged, ShellWords, TallyWords, Words, after_word, judge};
 pub use writing::{
     from_one, put_head_line, put_line, put_rows, put_tally_line, write_book, write_certificate,
 };
-
-#[cfg(test)]
-mod tests;

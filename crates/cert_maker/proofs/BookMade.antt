@@ -1,23 +1,25 @@
 -- The certificates of all solids of a file make an accepted book.
-use Rattle.std.specs.Prelude.{◌≡◌, ℕ, pos, ◌+◌, ◌*◌, ◌<◌, ◌≤◌, Bool, true, false, List, [], ◌∷◌, ◌++◌, length, map, flat_map, if◌then◌else◌}
+use Rattle.std.specs.Prelude.{◌≡◌, ℕ, pos, ◌+◌, ◌*◌, ◌<◌, Bool, true, false, List, [], ◌∷◌, ◌++◌, length, map, flat_map, if◌then◌else◌}
 use Rattle.std.specs.List.{AllByRecursion, AllZip, enumerate_from}
 use Rattle.std.specs.List.Sorted.{IsStrictlyIncreasing}
 use Rattle.std.specs.Ordering.{int_eq}
-use Rattle.std.proofs.Common.{refl, sym, ◌∙◌, ap, subst, arith, append_assoc}
+use Rattle.std.proofs.Common.{refl, sym, ◌∙◌, ap, subst, arith}
 use Rattle.iges_fields.specs.declared.value.Value.{Value}
 use Rattle.iges_directory.specs.declared.entry.Entry.{Entry}
 use Rattle.iges_params.specs.Contents.{Contents}
 use Rattle.brep_walk.specs.SolidOf.{solid_of}
 use Rattle.cert_lines.specs.Line.{CertLine, head, solid, end, spelling, HasSpelling}
-use Rattle.cert_lines.specs.Written.{shell_lines, solid_lines, certificate_lines, book_lines, text_of}
+use Rattle.cert_lines.specs.Written.{shell_lines, solid_lines, book_lines, text_of}
 use Rattle.cert_lines.specs.declared.parts.Certificate.{Certificate}
 use Rattle.cert_lines.specs.declared.version.Version.TheVariants.{Two, Three}
 use Rattle.cert_lines.proofs.CutLines.{cut_spelled}
 use Rattle.topo_certificate.specs.Legal.{IsLegal}
-use Rattle.cert_maker.specs.Accepted.{Certify, Part, part_lines, solids_named, IsGoodPart, IsAcceptedBook, IsAccepted}
-use Rattle.cert_maker.specs.Certified.{IsCertificate, further_lines}
-use Rattle.cert_maker.specs.Whole.{solids_from, solids_of, IsCertificateOf}
-use Rattle.cert_maker.proofs.Complete.{head_read}
+use Rattle.solid_check.specs.Accepted.{Certify, Part, part_lines, solids_named, IsGoodPart, IsAccepted}
+use Rattle.cert_maker.specs.Book.{solids_from, solids_of, IsCertificateOf}
+use Rattle.cert_maker.specs.BookLaws.{BookTextIsAccepted, OneBookText}
+use Rattle.cert_maker.proofs.OneText.{one_zip, one_certificate}
+use Rattle.cert_maker.proofs.Zipping.{zip_length}
+use Rattle.solid_check.proofs.Complete.{head_read}
 use Rattle.solid_data.proofs.Members.{Rises}
 use Rattle.edge_uses.proofs.Whole.{rising}
 
@@ -123,3 +125,13 @@ solids_rise i (e ∷ es) = by_test (int_eq e.0.kind (pos 186)) (solids_rise (i +
 -- The text of the certificates of all solids is an accepted book that names them.
 pub book_of_all : (f : Contents) (cs : List Certificate) → AllZip (IsCertificateOf f) (solids_of f) cs → 0 < length cs → IsAccepted f (text_of (book_lines cs)) Three (solids_of f)
 book_of_all f cs made some = book_made f cs (rising (solids_of f) (solids_rise 0 f.entries)) made some
+
+pub book_text_accepted : BookTextIsAccepted
+book_text_accepted f text some (cs, made, same) =
+    let few : 0 < length cs = omega (arith, some, zip_length (IsCertificateOf f) (solids_of f) cs made) in
+    subst (λ t. IsAccepted f t Three (solids_of f)) (sym same) (book_of_all f cs made few)
+
+pub one_text_of_book : OneBookText
+one_text_of_book f a b (cs, made_a, same_a) (ds, made_b, same_b) =
+    let parts : cs ≡ ds = one_zip (IsCertificateOf f) (λ n c d h k. one_certificate (solid_of f n) c d h.1 k.1) (solids_of f) cs ds made_a made_b in
+    same_a ∙ (ap (λ x. text_of (book_lines x)) parts ∙ sym same_b)

@@ -1,18 +1,15 @@
 -- Parts of closed shells make a certificate, whose text is accepted.
-use Rattle.std.specs.Prelude.{◌≡◌, ℕ, ◌<◌, ◌≤◌, ◌^◌, List, [], ◌∷◌, length, map, flat_map}
+use Rattle.std.specs.Prelude.{◌≡◌, ℕ, ◌<◌, ◌^◌, [], ◌∷◌, map}
 use Rattle.std.specs.List.{enumerate_from}
-use Rattle.std.proofs.Common.{refl, sym, ◌∙◌, ap, subst, arith, length-append, inl, inr}
-use Rattle.std.proofs.lemmas.List.Elements.{All-contains}
+use Rattle.std.proofs.Common.{refl, sym, ◌∙◌, ap, subst, arith, length-append}
 use Rattle.cert_lines.proofs.CutLines.{cut_spelled}
 use Rattle.iges_fields.specs.declared.entry_no.EntryNo.{EntryNo}
 use Rattle.iges_params.specs.Contents.{Contents}
 use Rattle.brep_walk.specs.Places.{places}
 use Rattle.brep_walk.specs.SolidOf.{solid_of}
 use Rattle.solid_data.specs.SolidData.{SolidData}
-use Rattle.solid_data.specs.Numbering.{IsNumberedSolid, HasFewParts}
+use Rattle.solid_data.specs.Numbering.{IsNumberedSolid}
 use Rattle.solid_data.specs.Obligations.{AllHold}
-use Rattle.solid_data.specs.declared.solid.Shell.{Shell}
-use Rattle.solid_data.proofs.Members.{Has, Contains-from_Has}
 use Rattle.edge_uses.specs.Closed.{IsClosedSolid}
 use Rattle.edge_uses.specs.ShellObligations.{solid_obligations}
 use Rattle.edge_uses.proofs.ClosedLemmas.{closed_is_all_hold}
@@ -23,25 +20,13 @@ use Rattle.cert_lines.specs.declared.parts.Certificate.{Certificate}
 use Rattle.cert_lines.specs.declared.version.Version.TheVariants.{Two}
 use Rattle.topo_certificate.specs.Legal.{IsLegal}
 use Rattle.topo_certificate.proofs.Short.{length-spaced}
-use Rattle.cert_maker.specs.Accepted.{IsAccepted}
+use Rattle.solid_check.specs.Accepted.{IsAccepted}
 use Rattle.cert_maker.specs.Parts.{AreParts}
 use Rattle.cert_maker.specs.Certified.{IsCertificate, further_lines}
-use Rattle.cert_maker.proofs.Ready.{closed_is_ready, closed_joins, apart_all}
-use Rattle.cert_maker.proofs.Complete.{shell_small, head_read}
+use Rattle.solid_check.proofs.Ready.{closed_is_ready, closed_joins, apart_all}
+use Rattle.solid_check.proofs.Complete.{shell_small, head_read}
 use Rattle.cert_maker.proofs.PartLines.{parts_legal}
-
-each_has_one : (shells : List Shell) → ((h : Shell) → Has shells h → 0 < length h.faces) → length shells ≤ length (flat_map (λ (h : Shell). h.faces) shells)
-each_has_one [] some = omega arith
-each_has_one (h ∷ shells) some = omega (arith, some h (inl refl), each_has_one shells (λ x m. some x (inr m)), length-append h.faces (flat_map (λ (x : Shell). x.faces) shells))
-
-pub few_parts : (s : SolidData) → IsNumberedSolid s → HasFewParts s s.entity.0
-few_parts s numbered = record {
-  few_uses = numbered.few_uses;
-  few_loops = numbered.few_loops;
-  few_faces = numbered.few_faces;
-  few_shells = omega (arith, numbered.few_faces, each_has_one s.shells (λ h m. All-contains (λ (x : Shell). 0 < length x.faces) s.shells h numbered.each_shell (Contains-from_Has s.shells h m)));
-  number = numbered.number;
-}
+use Rattle.solid_check.proofs.Few.{few_parts}
 
 -- Parts of the shells of a closed solid make a certificate of it.
 pub certificate_made : (s : SolidData) (c : Certificate) → IsNumberedSolid s → c.version ≡ Two → c.solid ≡ s.entity → AllHold (solid_obligations s) → AreParts s s.shells c.shells → IsCertificate s c
@@ -51,6 +36,7 @@ certificate_made s c numbered is_two names hold parts =
     record {
       version = is_two;
       names = names;
+      parts = parts;
       spelled = (tt, (subst (λ (e : EntryNo). e.0 < 10 ^ 9) (sym names) numbered.number, lines.1));
       legal = subst (λ v. IsLegal v s (map spelling (further_lines c))) is_two lines.0;
       joined = closed_joins s closed;

@@ -1,39 +1,88 @@
--- What a book shows first that is false.
-use Rattle.std.specs.Prelude.{◌≡◌, ℕ, ◌+◌, ◌<◌, ◌⊎◌, List, [], ◌∷◌, ◌++◌, length, map, flat_map}
-use Rattle.std.specs.List.{AllByRecursion}
-use Rattle.std.specs.List.Sorted.{IsStrictlyIncreasing}
+-- What certifying all solids of a file gives.
+use Rattle.std.specs.Prelude.{◌≡◌, ℕ, pos, ◌+◌, ◌*◌, ◌<◌, ◌≤◌, ◌⊎◌, List, [], ◌∷◌, ⊤, Bool, false, Option, Some, None, slice_get, length, flat_map, if◌then◌else◌}
+use Rattle.std.specs.List.{AllZip}
+use Rattle.std.specs.Ordering.{int_eq}
+use Rattle.iges_fields.specs.declared.value.Value.{Value}
+use Rattle.iges_directory.specs.declared.entry.Entry.{Entry}
 use Rattle.iges_params.specs.Contents.{Contents}
+use Rattle.brep_walk.specs.Places.{places}
 use Rattle.brep_walk.specs.SolidOf.{solid_of}
-use Rattle.solid_data.specs.Obligations.{AllHold, FirstFalse}
-use Rattle.solid_data.specs.declared.verdict.Failing.{Failing}
-use Rattle.cert_lines.specs.Line.{CertLine, solid, IsSpelled}
-use Rattle.cert_lines.specs.Opening.{IsSolid, IsSecondWrong}
-use Rattle.cert_lines.specs.declared.version.Version.TheVariants.{Two}
-use Rattle.cert_lines.specs.declared.fault.Illegal.{Illegal}
-use Rattle.topo_certificate.specs.Legal.{IsPartBad}
-use Rattle.cert_maker.specs.Accepted.{Part, part_lines, solids_named, IsGoodPart}
-use Rattle.cert_maker.specs.Checked.{checked}
+use Rattle.solid_data.specs.SolidData.{shell_uses}
+use Rattle.solid_data.specs.Obligations.{Obligation, AllHold, FirstFalse}
+use Rattle.edge_uses.specs.ShellObligations.{solid_obligations}
+use Rattle.cert_lines.specs.Written.{book_lines, text_of}
+use Rattle.cert_lines.specs.declared.parts.Certificate.{Certificate}
+use Rattle.cert_maker.specs.Certified.{IsCertificate}
+use Rattle.cert_maker.specs.declared.book.BookFault.{BookFault}
+use Rattle.cert_maker.specs.declared.book.BookFault.TheVariants.{NoSolid, Fails, TooMany, NoMemory}
 
--- an obligation of a solid that is false, or a line
-pub data BookFault : Type 0 where
-  fails : ℕ → Failing → BookFault
-  illegal : Illegal → BookFault
+abbrev pub is_solid_entry : Option (Entry × List Value) → Bool
+is_solid_entry None = false
+is_solid_entry (Some e) = int_eq e.0.kind (pos 186)
 
--- Of the part of a solid whose first further line has this number: the first false obligation that is checked before its lines, or else the first bad line.
-abbrev pub IsPartFault : Contents → ℕ → ℕ → List (List ℕ) → BookFault → Type 0
-IsPartFault f n number lines (fails m x) = (m ≡ n) × FirstFalse (checked f n) x
-IsPartFault f n number lines (illegal bad) = AllHold (checked f n) × IsPartBad Two (solid_of f n) number lines bad
+-- the numbers of the entries of type 186, of which the first has this place, in directory order
+abbrev pub solids_from : ℕ → List (Entry × List Value) → List ℕ
+solids_from i [] = []
+solids_from i (e ∷ es) = if int_eq e.0.kind (pos 186) then (2 * i + 1) ∷ solids_from (i + 1) es else solids_from (i + 1) es
 
--- Behind good parts the rest, whose first line has this number, begins a part with a greater solid and a fault. Where there is no part, the line that names the first solid may be what is bad.
-abbrev pub IsRestBad : Contents → List Part → ℕ → List (List ℕ) → BookFault → Type 0
-IsRestBad f before number rest fault =
-    ((before ≡ []) × ((bad : Illegal) × (fault ≡ illegal bad) × IsSecondWrong rest bad))
-    ⊎ ((p : Part) × (rest ≡ part_lines p) × IsSpelled p.first (solid p.solid) × IsStrictlyIncreasing (solids_named (before ++ p ∷ [])) × IsPartFault f p.solid (number + 1) p.further fault)
+-- the entry at this place is of type 186
+abbrev pub is_solid_at : Contents → ℕ → Bool
+is_solid_at f i = is_solid_entry (slice_get f.entries i)
 
--- The lines of a book behind its head, from line 2 on: good parts, and then a rest that is bad.
-pub record IsBookBad (f : Contents) (lines : List (List ℕ)) (fault : BookFault) : Type 0 where
-  pub before : List Part
-  pub good : AllByRecursion (IsGoodPart f) before
-  pub rest : List (List ℕ)
-  pub cut : lines ≡ flat_map part_lines before ++ rest
-  pub bad : IsRestBad f before (2 + length (flat_map part_lines before)) rest fault
+abbrev pub solids_of : Contents → List ℕ
+solids_of f = solids_from 0 f.entries
+
+abbrev pub use_limit : ℕ
+use_limit = 6000000
+
+unfoldable pub uses_of : Contents → ℕ → ℕ
+uses_of f n = length (flat_map shell_uses (solid_of f n).shells)
+
+-- The solid is closed, and there are not too many loop uses with those of solids before it.
+abbrev pub IsMade : Contents → ℕ → ℕ → Type 0
+IsMade f used n = AllHold (places f n) × (used + uses_of f n ≤ use_limit) × AllHold (solid_obligations (solid_of f n))
+
+-- What is first wrong with a solid: a place, that there are too many uses, or what its shells are.
+abbrev pub IsUnmade : Contents → ℕ → ℕ → BookFault → Type 0
+IsUnmade f used n NoSolid = ⊥
+IsUnmade f used n (Fails m x) = (m.0 ≡ n) × (FirstFalse (places f n) x ⊎ (AllHold (places f n) × (used + uses_of f n ≤ use_limit) × FirstFalse (solid_obligations (solid_of f n)) x))
+IsUnmade f used n (TooMany m) = (m.0 ≡ n) × AllHold (places f n) × (use_limit < used + uses_of f n)
+IsUnmade f used n NoMemory = ⊥
+
+abbrev pub AllMade : Contents → ℕ → List ℕ → Type 0
+AllMade f used [] = ⊤
+AllMade f used (n ∷ ns) = IsMade f used n × AllMade f (used + uses_of f n) ns
+
+-- the first of the solids with which something is wrong
+abbrev pub FirstUnmade : Contents → ℕ → List ℕ → BookFault → Type 0
+FirstUnmade f used [] fault = ⊥
+FirstUnmade f used (n ∷ ns) fault = IsUnmade f used n fault ⊎ (IsMade f used n × FirstUnmade f (used + uses_of f n) ns fault)
+
+-- why not all solids of the file are certified
+abbrev pub IsBookFault : Contents → BookFault → Type 0
+IsBookFault f NoSolid = solids_of f ≡ []
+IsBookFault f (Fails m x) = FirstUnmade f 0 (solids_of f) (Fails m x)
+IsBookFault f (TooMany m) = FirstUnmade f 0 (solids_of f) (TooMany m)
+IsBookFault f NoMemory = ⊤
+
+-- the certificate of solid n of the file
+abbrev pub IsCertificateOf : Contents → ℕ → Certificate → Type 0
+IsCertificateOf f n c = AllHold (places f n) × IsCertificate (solid_of f n) c
+
+-- the text of the book whose parts are the certificates of all solids of the file, in directory order
+abbrev pub IsBookText : Contents → List ℕ → Type 0
+IsBookText f text = (cs : List Certificate) × AllZip (IsCertificateOf f) (solids_of f) cs × (text ≡ text_of (book_lines cs))
+
+-- what is wrong with one solid, or that memory ran out
+abbrev pub IsSolidFault : Contents → ℕ → ℕ → BookFault → Type 0
+IsSolidFault f used n NoSolid = ⊥
+IsSolidFault f used n (Fails m x) = IsUnmade f used n (Fails m x)
+IsSolidFault f used n (TooMany m) = IsUnmade f used n (TooMany m)
+IsSolidFault f used n NoMemory = ⊤
+
+-- the first false one of these obligations of solid n, or that memory ran out
+abbrev pub IsFaultOf : ℕ → List Obligation → BookFault → Type 0
+IsFaultOf n os NoSolid = ⊥
+IsFaultOf n os (Fails m x) = (m.0 ≡ n) × FirstFalse os x
+IsFaultOf n os (TooMany m) = ⊥
+IsFaultOf n os NoMemory = ⊤

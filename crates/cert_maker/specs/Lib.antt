@@ -1,10 +1,6 @@
-pub mod Closed
-pub mod Accepted
-pub mod Laws
-pub mod Checked
 pub mod Book
-pub mod Whole
 pub mod Certified
 pub mod Parts
-pub mod Naming
 pub mod Along
+pub mod Laws
+pub mod BookLaws

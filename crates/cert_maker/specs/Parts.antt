@@ -12,6 +12,7 @@ use Rattle.vertex_link.specs.Cycles.{IsCycleOf}
 use Rattle.vertex_link.specs.declared.corners.Corner.{Corner}
 use Rattle.vertex_link.specs.declared.corners.Corner.TheVariants as round
 use Rattle.shell_reach.specs.Reaching.{ReachesAll, row_numbers}
+use Rattle.shell_reach.specs.BreadthFirst.{IsBreadthFirst}
 use Rattle.cert_lines.specs.declared.parts.CornerLine.{CornerLine}
 use Rattle.cert_lines.specs.declared.parts.CornerLine.TheVariants.{Cycle, Point}
 use Rattle.cert_lines.specs.declared.parts.ShellPart.{ShellPart}
@@ -25,13 +26,14 @@ abbrev pub LiesRound : ShellRows → ℕ → CornerLine → Type 0
 LiesRound d v (Cycle rows) = IsCycleOf d v (row_numbers rows)
 LiesRound d v (Point at) = IsPoint d v × Contains d.points (at, v)
 
--- The two rows of each edge, what lies at each vertex, both by rising number, and rows that reach the faces.
+-- The two rows of each edge, what lies at each vertex, both by rising number, and rows that reach the faces breadth first.
 pub record IsPart (d : ShellRows) (loop_count : ℕ) (part : ShellPart) : Type 0 where
   pub rows : part.rows ≡ length d.rows
   pub edges : AllZip (AreItsRows d) d.edges part.edges
   pub corners : AllZip (LiesRound d) d.vertices part.corners
   pub faces : part.faces ≡ d.face_count
   pub reach : ReachesAll d (row_numbers part.reach)
+  pub order : IsBreadthFirst d (row_numbers part.reach)
   pub vertices : part.vertices ≡ length d.vertices
   pub loops : part.loops ≡ loop_count
 

@@ -1,36 +1,45 @@
-//! What holds of closed solids and accepted certificates by their definition.
+//! What holds of the texts of certificates that are made.
 
-ghost use Rattle.std.specs.Prelude.{ℕ, ◌≡◌};
-ghost use Rattle.iges_params.specs.Contents.{Contents};
-ghost use Rattle.cert_maker.specs.Closed.{IsVerdictOn};
-ghost use Rattle.cert_maker.specs.Checked.{AcceptedIsChecked};
-ghost use Rattle.cert_maker.specs.Laws.{AcceptedIsClosed, ClosedIsAllHold, ClosedExactlyWhereAccepted, UpgradedIsAccepted};
-ghost use Rattle.solid_data.specs.declared.verdict.Verdict.{Verdict as Word};
+ghost use Rattle.cert_maker.specs.BookLaws.{BookTextIsAccepted, MadeHasBook, MadeOrUnmade, NoneUnmadeWhereMade, OneBookText, OneUnmade};
+ghost use Rattle.cert_maker.specs.Laws.{CertificateTextIsAccepted, ClosedHasText, OneCertificateText};
 
-/// Soundness: whatever made a certificate, of any version, each solid that it names is closed where it is accepted. (own)
-pub fn soundness()
-    ensures { AcceptedIsClosed }
+/// The text of the certificate that `certify` makes of a solid of a file whose places hold is accepted, and names the
+/// solid alone. (own)
+pub fn certificate_text_is_accepted()
+    ensures { CertificateTextIsAccepted }
 {}
 
-/// Completeness: in a file within its limits, a solid is closed exactly where some certificate that names it is accepted. (own)
-pub fn completeness()
-    ensures { ClosedExactlyWhereAccepted }
+/// A solid of a file has one text of the certificate that `certify` makes. (own)
+pub fn one_certificate()
+    ensures { OneCertificateText }
 {}
 
-/// A solid is closed exactly where all obligations of its list hold, and it has one verdict at most. (own)
-pub fn one_verdict()
-    ensures all { ClosedIsAllHold }
-    ensures one { (f : Contents) (n : ℕ) (a b : Word) → IsVerdictOn f n a → IsVerdictOn f n b → a ≡ b }
+/// In a file within its limits, a closed solid has a text of the certificate that `certify` makes. (own)
+pub fn closed_has_certificate()
+    ensures { ClosedHasText }
 {}
 
-/// A certificate is accepted exactly where it opens with the solid's number, the places hold, the loops join, the
-/// vertices are apart and the further lines are legal. (own)
-pub fn accepted_is_checked()
-    ensures { AcceptedIsChecked }
+/// The text of the book with the certificates of all solids of a file, which `certify_all` makes, is accepted and names
+/// them all, where there is one. (own)
+pub fn book_text_is_accepted()
+    ensures { BookTextIsAccepted }
 {}
 
-/// Upgrading keeps acceptance: in a file within its limits, what is accepted stays accepted as `upgrade` gives it back for
-/// a solid that it names, and names the same solids. (own)
-pub fn upgrading_keeps_acceptance()
-    ensures { UpgradedIsAccepted }
+/// In a file within its limits whose solids can all be certified, there is a text of the book with their certificates.
+/// (own)
+pub fn made_has_book()
+    ensures { MadeHasBook }
+{}
+
+/// A file has one text of the book with the certificates of all its solids. (own)
+pub fn one_book_text()
+    ensures { OneBookText }
+{}
+
+/// Of the solids of a file all can be certified together, or one is the first that can't, for one reason, and never
+/// both. (own)
+pub fn one_unmade()
+    ensures one { OneUnmade }
+    ensures none { NoneUnmadeWhereMade }
+    ensures always { MadeOrUnmade }
 {}

@@ -1,7 +1,7 @@
 //! The maker of certificates, and verdicts.
 #![tactic(auto)]
 
-mod checks;
+mod book;
 mod corners;
 mod deciding;
 mod fault;
@@ -11,16 +11,12 @@ mod making;
 mod naming;
 mod pairs;
 mod shell_part;
-mod whole;
 
-pub use checks::check_shells;
+pub use book::{BookFault, certify_all};
 pub use deciding::verdict;
 pub use fault::MakeFault;
 pub use law::{
-    accepted_is_checked, completeness, one_verdict, soundness, upgrading_keeps_acceptance,
+    book_text_is_accepted, certificate_text_is_accepted, closed_has_certificate, made_has_book,
+    one_book_text, one_certificate, one_unmade,
 };
 pub use making::certify;
-pub use whole::{WholeFault, certify_all};
-
-#[cfg(test)]
-mod tests;

@@ -1,6 +1,6 @@
 //! The certificate of a solid.
 
-ghost use Rattle.std.specs.Prelude.{◌≡◌, ℕ, ◌<◌, ◌∷◌, ◌++◌, [], Some, length, slice_get, IfOk, IfErr, OnOk};
+ghost use Rattle.std.specs.Prelude.{◌≡◌, ℕ, ◌∷◌, ◌++◌, [], IfOk, IfErr, OnOk};
 ghost use Rattle.iges_params.specs.Contents.{Contents};
 ghost use Rattle.brep_walk.specs.Places.{places};
 ghost use Rattle.brep_walk.specs.SolidOf.{solid_of};
@@ -9,24 +9,20 @@ ghost use Rattle.solid_data.specs.declared.verdict.Failing.{Failing as Named};
 ghost use Rattle.edge_uses.specs.ShellObligations.{solid_obligations};
 ghost use Rattle.cert_lines.specs.declared.version.Version.TheVariants.{Two as EditionTwo};
 ghost use Rattle.cert_lines.specs.Written.{certificate_lines, text_of};
-ghost use Rattle.cert_maker.specs.Accepted.{IsAccepted};
-ghost use Rattle.cert_maker.specs.Certified.{IsCertificate, IsMakeFault, IsNoMemory, FailsSo};
+ghost use Rattle.solid_check.specs.Accepted.{IsAccepted};
+ghost use Rattle.solid_check.specs.Faults.{IsCheckFault, IsNoMemory, FailsSo};
+ghost use Rattle.cert_maker.specs.Certified.{IsCertificate};
+ghost use Rattle.cert_maker.specs.Laws.{IsCertificateText};
 ghost use Rattle.cert_maker.specs.Parts.{AreParts};
 
 use crate::fault::MakeFault;
 use crate::shell_part::shell_part;
 use edge_uses::VerticesBefore;
 use iges_fields::NoMemory;
-use solid_data::{Shell, ShellAt, Solid};
+use solid_check::shell_at;
+use solid_data::{ShellAt, Solid};
 use std::alloc::Global;
 use topo_certificate::{Certificate, ShellPart, ShellParts, Version};
-
-pub(crate) fn shell_at(solid: &Solid, at: ShellAt) -> &Shell
-    requires { at.0 < length solid.now.shells }
-    ensures { slice_get solid.now.shells at.0 ≡ Some result.now }
-{
-    solid.shell(at).unwrap()
-}
 
 fn push_part(parts: &mut ShellParts, part: ShellPart) -> Result<(), NoMemory>
     ensures { OnOk result (parts.new ≡ parts.old ++ part ∷ []) }
@@ -38,7 +34,7 @@ fn push_part(parts: &mut ShellParts, part: ShellPart) -> Result<(), NoMemory>
 fn shell_parts(alloc: Global, solid: &Solid) -> Result<ShellParts, MakeFault>
     ensures parts { IfOk result (AreParts solid.now solid.now.shells) }
     ensures holds { OnOk result (AllHold (solid_obligations solid.now)) }
-    ensures fails { IfErr result (IsMakeFault (solid_obligations solid.now)) }
+    ensures fails { IfErr result (IsCheckFault (solid_obligations solid.now)) }
 {
     let mut parts = ShellParts::new(alloc);
     let mut before = VerticesBefore::none();
@@ -54,12 +50,14 @@ fn shell_parts(alloc: Global, solid: &Solid) -> Result<ShellParts, MakeFault>
 
 /// The certificate of a closed solid, of version 2, or the first rule on its shells that fails, with the entity and its item that
 /// break it: shell by shell JOIN of the loops, PAIR of the edges, REACH of the faces, LINK and then APART of the
-/// vertices, by rising number. Its text is accepted for each file whose solid this is. (own)
+/// vertices, by rising number. For each file whose solid this is, its text is accepted, and the one text that may be
+/// made of it. (own)
 pub fn certify(alloc: Global, solid: &Solid) -> Result<Certificate, MakeFault>
     ensures certificate { IfOk result (IsCertificate solid.now) }
+    ensures text { IfOk result (λ c. (f : Contents) (n : ℕ) → solid.now ≡ solid_of f n → IsCertificateText f n (text_of (certificate_lines c))) }
     ensures accepted { IfOk result (λ c. (f : Contents) (n : ℕ) → AllHold (places f n) → solid.now ≡ solid_of f n → IsAccepted f (text_of (certificate_lines c)) EditionTwo (n ∷ [])) }
     ensures holds { OnOk result (AllHold (solid_obligations solid.now)) }
-    ensures fault { IfErr result (IsMakeFault (solid_obligations solid.now)) }
+    ensures fault { IfErr result (IsCheckFault (solid_obligations solid.now)) }
     ensures only { AllHold (solid_obligations solid.now) → IfErr result IsNoMemory }
     ensures only_fault { (x : Named) → FirstFalse (solid_obligations solid.now) x → FailsSo x result }
 {

@@ -7,17 +7,19 @@ ghost use Rattle.edge_uses.specs.ShellRows.{shell_rows};
 ghost use Rattle.edge_uses.specs.ShellObligations.{shell_obligations};
 ghost use Rattle.vertex_link.specs.Corners.{AreLinks};
 ghost use Rattle.shell_reach.specs.Reaching.{ReachesAll, row_numbers};
-ghost use Rattle.cert_maker.specs.Certified.{IsMakeFault};
+ghost use Rattle.shell_reach.specs.BreadthFirst.{IsBreadthFirst};
+ghost use Rattle.solid_check.specs.Faults.{IsCheckFault};
 ghost use Rattle.topo_certificate.specs.Stand.{loops_of};
 ghost use Rattle.cert_maker.specs.Parts.{IsPart};
 
 use crate::corners::corner_lines;
 use crate::fault::MakeFault;
-use crate::judging::{apart, join, linked, mated, reached};
+use crate::judging::{linked, mated, reached};
 use crate::pairs::edge_pairs;
 use edge_uses::{Paired, VerticesBefore, rows};
 use iges_fields::NoMemory;
 use shell_reach::ReachList;
+use solid_check::{apart, join};
 use solid_data::{Shell, ShellAt, Solid};
 use std::alloc::Global;
 use topo_certificate::{ShellPart, loop_count};
@@ -32,6 +34,7 @@ fn part_of(
     loops: u32,
 ) -> Result<ShellPart, NoMemory>
     requires reach { ReachesAll paired.now (row_numbers reach) }
+    requires order { IsBreadthFirst paired.now (row_numbers reach) }
     requires links { AreLinks paired.now links }
     requires few { length paired.now.vertices < 2 ^ 30 }
     ensures { IfOk result (IsPart paired.now loops) }
@@ -74,7 +77,7 @@ pub(crate) fn shell_part(
     ensures part { IfOk result (λ p. IsPart (shell_rows solid.now shell.now) (loops_of (Some shell.now)) p.0) }
     ensures before { IfOk result (λ p. AreBelow solid.now (at.0 + 1) p.1) }
     ensures holds { OnOk result (AllHold (shell_obligations solid.now (at.0, shell.now))) }
-    ensures fails { IfErr result (IsMakeFault (shell_obligations solid.now (at.0, shell.now))) }
+    ensures fails { IfErr result (IsCheckFault (shell_obligations solid.now (at.0, shell.now))) }
 {
     // Its clause says that the solid's vertices are numbered by first appearance.
     let _entity = solid.entity();

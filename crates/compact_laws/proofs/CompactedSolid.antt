@@ -9,10 +9,11 @@ use Rattle.solid_data.specs.declared.solid.EdgeKey.{EdgeKey}
 use Rattle.solid_data.specs.declared.solid.VertexKey.{VertexKey}
 use Rattle.solid_data.specs.declared.verdict.Verdict.{Verdict}
 use Rattle.solid_data.specs.declared.verdict.Verdict.TheVariants.{Closed, Fails}
-use Rattle.cert_maker.specs.Closed.{IsClosed, IsVerdictOn, obligations}
-use Rattle.cert_maker.proofs.Sound.{closed_is_all_hold_of_file}
+use Rattle.solid_check.specs.Closed.{IsClosed, IsVerdictOn, obligations}
+use Rattle.solid_check.proofs.Sound.{closed_is_all_hold_of_file}
 use Rattle.solid_extract.specs.Extracted.{new_number}
-use Rattle.extraction_laws.specs.Kept.{IsNewNumber}
+use Rattle.extraction_laws.specs.Alike.{KeepsVerdictAs}
+use Rattle.extraction_laws.specs.Kept.{IsNewNumber, kept_names}
 use Rattle.extraction_laws.specs.KeptVerdict.{renamed_verdict}
 use Rattle.extraction_laws.proofs.ExtractedSolid.{places_kept, solid_told}
 use Rattle.extraction_laws.proofs.WholeVerdict.{verdict_kept, no_other, closed_kept}
@@ -22,8 +23,8 @@ use Rattle.list_compact.specs.Compacted.{IsCompacted}
 use Rattle.list_compact.proofs.StillHold.{still_hold}
 use Rattle.compact_laws.specs.Compacted.{number_between, number_after, IsNumbered, compacted_names, ranked_verdict, compacted_verdict, SolidIsCompacted, VerdictIsCompacted, NoOtherVerdict, ClosedIsCompacted}
 use Rattle.compact_laws.specs.Ranked as ranks
-use Rattle.compact_laws.specs.Relabelled.{Names, IsRelabelled}
-use Rattle.compact_laws.proofs.Composed.{Compose, relabelled_then, list_names, relabelled_as}
+use Rattle.extraction_laws.specs.Relabelled.{Names, IsRelabelled}
+use Rattle.compact_laws.proofs.Composed.{Compose, relabelled_then}
 use Rattle.compact_laws.proofs.RankedSolid.{solid_ranked}
 use Rattle.compact_laws.proofs.RankedVerdict.{verdict_ranked}
 
@@ -40,16 +41,16 @@ module _ (f : Contents) (n : ℕ) (new : Contents) (c : IsCompacted f n new) whe
   places_between : AllHold (places g n1)
   places_between = let k = places_kept f g n c.extracted in k.all.0 c.places
 
-  places_dropped : AllHold (places d n1)
+  pub places_dropped : AllHold (places d n1)
   places_dropped = still_hold g n1 places_between
 
   -- ---- the solid
 
   abbrev First : Names
-  First = list_names (IsNewNumber c.extracted.kept)
+  First = kept_names c.extracted.kept
 
   abbrev Second : Names
-  Second = list_names (IsNewNumber c.again.kept)
+  Second = kept_names c.again.kept
 
   -- ranks, and then the second extraction
   record IsSecondEdge (a b : EdgeKey) : Type 0 where
@@ -104,13 +105,13 @@ module _ (f : Contents) (n : ℕ) (new : Contents) (c : IsCompacted f n new) whe
 
   solid_is : IsRelabelled (compacted_names f n new c) (solid_of f n) (solid_of new (number_after f n new c n))
   solid_is =
-      relabelled_then First Rest (compacted_names f n new c) whole (solid_of f n) (solid_of g n1) (solid_of new (number_after f n new c n)) (relabelled_as (IsNewNumber c.extracted.kept) (solid_of f n) (solid_of g n1) (solid_told f g n c.extracted c.places))
+      relabelled_then First Rest (compacted_names f n new c) whole (solid_of f n) (solid_of g n1) (solid_of new (number_after f n new c n)) (solid_told f g n c.extracted c.places)
       (relabelled_then (ranks.ranked_names g) Second Rest rest (solid_of g n1) (solid_of d n1) (solid_of new (number_after f n new c n)) (solid_ranked g n1 places_between)
-      (relabelled_as (IsNewNumber c.again.kept) (solid_of d n1) (solid_of new (number_after f n new c n)) (solid_told d new n1 c.again places_dropped)))
+      (solid_told d new n1 c.again places_dropped))
 
   -- ---- the verdict
 
-  ranks_kept : ranks.KeepsVerdict g (obligations g n1) (obligations d n1)
+  ranks_kept : KeepsVerdictAs (ranks.ranked_failing g) (obligations g n1) (obligations d n1)
   unfolding obligations
   ranks_kept = verdict_ranked g n1 places_between
 

@@ -22,20 +22,13 @@ use Rattle.list_compact.specs.Dropped.{edge_index, vertex_index, tuple_index, re
 use Rattle.list_compact.proofs.Ranks.{rank_apart}
 use Rattle.list_compact.proofs.UsedItems.{EdgeStill, VertexStill}
 use Rattle.list_compact.proofs.StillHold.{flat_same, numbers_all, KnownEdge, KnownUse, KnownTuple, SameLoop, SameFace, SameShell, SameSolid, faces_known, solid_holds}
-use Rattle.compact_laws.specs.Relabelled.{Names, IsRelabelledLoop, IsRelabelledFace, IsRelabelledShell, IsRelabelledEdge, IsRelabelled}
+use Rattle.extraction_laws.specs.Relabelled.{Names, IsRelabelledLoop, IsRelabelledFace, IsRelabelledShell, IsRelabelledEdge, IsRelabelled}
 use Rattle.compact_laws.specs.Ranked.{IsRankedVertex, ranked_names, SolidIsRanked}
-use Rattle.compact_laws.proofs.RenamedLists.{all_distinct, distinct_renamed, place_renamed, map_known}
-use Rattle.compact_laws.proofs.Zips.{zip_append}
+use Rattle.extraction_laws.proofs.KeptPlaces.{flat_known}
+use Rattle.extraction_laws.proofs.RenamedLists.{all_distinct, distinct_renamed, place_renamed, map_known}
+use Rattle.extraction_laws.proofs.Zips.{zip_append}
 
 -- ---- lists
-
--- what each item gives, renamed
-flat_known : {A B C D : Type 0} (Known : A → Type 0) (change : A → B) (F : A → List C) (G : B → List D) (rename : C → D) → ((x : A) → Known x → G (change x) ≡ map rename (F x)) → (xs : List A) → AllByRecursion Known xs → flat_map G (map change xs) ≡ map rename (flat_map F xs)
-flat_known Known change F G rename same [] known = refl
-flat_known Known change F G rename same (x ∷ xs) known =
-    ap (λ zs. zs ++ flat_map G (map change xs)) (same x known.0)
-    ∙ (ap (λ zs. map rename (F x) ++ zs) (flat_known Known change F G rename same xs known.1)
-    ∙ sym (map-append rename (F x) (flat_map F xs)))
 
 -- the same items, what each gives renamed
 flat_renamed : {A C D : Type 0} (Known : A → Type 0) (F : A → List C) (G : A → List D) (rename : C → D) → ((x : A) → Known x → G x ≡ map rename (F x)) → (xs : List A) → AllByRecursion Known xs → flat_map G xs ≡ map rename (flat_map F xs)

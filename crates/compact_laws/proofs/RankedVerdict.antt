@@ -1,6 +1,6 @@
 -- The verdict on a solid whose unused items are dropped.
 use Rattle.std.specs.Prelude.{◌≡◌, ℕ, ◌++◌, List, [], ◌∷◌}
-use Rattle.std.proofs.Common.{sym, ◌∙◌, ap, subst, inl, inr}
+use Rattle.std.proofs.Common.{sym, ap, inl, inr}
 use Rattle.iges_params.specs.Contents.{Contents}
 use Rattle.brep_walk.specs.Places.{places}
 use Rattle.brep_walk.specs.SolidOf.{solid_of}
@@ -12,18 +12,12 @@ use Rattle.solid_data.proofs.ObligationLemmas.{AllHold-append, AllHold-append_ri
 use Rattle.edge_uses.specs.ShellObligations.{solid_obligations}
 use Rattle.list_compact.specs.Dropped.{dropped}
 use Rattle.list_compact.proofs.StillHold.{still_hold}
-use Rattle.compact_laws.specs.Alike.{HaveOneVerdict}
-use Rattle.compact_laws.specs.Relabelled.{AreNamed, AreNamedAlike}
+use Rattle.extraction_laws.specs.Alike.{KeepsVerdictAs}
+use Rattle.extraction_laws.specs.Relabelled.{AreNamed, AreNamedAlike}
 use Rattle.compact_laws.specs.Ranked.{ranked_names, ranked_place, ranked_failing, VerdictIsRanked}
-use Rattle.compact_laws.proofs.AlikeLists.{one_verdict}
-use Rattle.compact_laws.proofs.RelabelledSolids.{solids_alike}
+use Rattle.extraction_laws.proofs.RelabelledSolids.{solids_alike}
+use Rattle.extraction_laws.proofs.RenamedPlaces.{failing_is, keeps_as}
 use Rattle.compact_laws.proofs.RankedSolid.{solid_ranked}
-
-failing_is : (x y : Failing) → x.rule ≡ y.rule → x.entity.0 ≡ y.entity.0 → x.place ≡ y.place → x ≡ y
-failing_is x y r e p =
-    ap (λ w. let z : Failing = record { rule = w; entity = x.entity; place = x.place } in z) r
-    ∙ (ap (λ w. let z : Failing = record { rule = y.rule; entity = record { 0 = w }; place = x.place } in z) e
-    ∙ ap (λ w. let z : Failing = record { rule = y.rule; entity = y.entity; place = w } in z) p)
 
 -- what is named alike is named by the rank
 named_is : (g : Contents) (rule : Rule) (e i f j : ℕ) → AreNamed (ranked_names g) rule e i f j → (f ≡ e) × (j ≡ ranked_place g rule e i)
@@ -55,15 +49,14 @@ verdict_ranked g n all = record {
     λ h. AllHold-append (places g n) (solid_obligations (solid_of g n)) all (one.all.1 (AllHold-append_right (places (dropped g) n) (solid_obligations (solid_of (dropped g) n)) h)),
   );
   fails = λ x bad.
-      let k = one.fails x (first_behind (places g n) (solid_obligations (solid_of g n)) x all bad) in
-      FirstFalse-append_rest (places (dropped g) n) (solid_obligations (solid_of (dropped g) n)) (ranked_failing g x) still (subst (FirstFalse (solid_obligations (solid_of (dropped g) n))) (is_ranked g x k.0 k.1) k.2);
+      FirstFalse-append_rest (places (dropped g) n) (solid_obligations (solid_of (dropped g) n)) (ranked_failing g x) still (one.fails x (first_behind (places g n) (solid_obligations (solid_of g n)) x all bad));
   only = λ y bad.
       let k = one.only y (first_behind (places (dropped g) n) (solid_obligations (solid_of (dropped g) n)) y still bad) in
-      (k.0, is_ranked g k.0 y k.1, FirstFalse-append_rest (places g n) (solid_obligations (solid_of g n)) k.0 all k.2);
+      (k.0, k.1, FirstFalse-append_rest (places g n) (solid_obligations (solid_of g n)) k.0 all k.2);
 }
   where
     still : AllHold (places (dropped g) n)
     still = still_hold g n all
 
-    one : HaveOneVerdict (AreNamedAlike (ranked_names g)) (solid_obligations (solid_of g n)) (solid_obligations (solid_of (dropped g) n))
-    one = one_verdict (AreNamedAlike (ranked_names g)) (solid_obligations (solid_of g n)) (solid_obligations (solid_of (dropped g) n)) (solids_alike (ranked_names g) (solid_of g n) (solid_of (dropped g) n) (solid_ranked g n all))
+    one : KeepsVerdictAs (ranked_failing g) (solid_obligations (solid_of g n)) (solid_obligations (solid_of (dropped g) n))
+    one = keeps_as (AreNamedAlike (ranked_names g)) (ranked_failing g) (is_ranked g) (solid_obligations (solid_of g n)) (solid_obligations (solid_of (dropped g) n)) (solids_alike (ranked_names g) (solid_of g n) (solid_of (dropped g) n) (solid_ranked g n all))

@@ -6,12 +6,12 @@ use Rattle.solid_data.specs.declared.solid.EdgeKey.{EdgeKey}
 use Rattle.solid_data.specs.declared.solid.VertexKey.{VertexKey}
 use Rattle.solid_data.specs.declared.verdict.Verdict.{Verdict}
 use Rattle.solid_data.specs.declared.verdict.Verdict.TheVariants.{Closed, Fails}
-use Rattle.cert_maker.specs.Closed.{IsClosed, IsVerdictOn}
+use Rattle.solid_check.specs.Closed.{IsClosed, IsVerdictOn}
 use Rattle.solid_extract.specs.Extracted.{new_number}
 use Rattle.extraction_laws.specs.KeptVerdict.{renamed_verdict}
 use Rattle.list_compact.specs.Used.{rank, is_used_edge, is_used_vertex}
 use Rattle.list_compact.specs.Compacted.{IsCompacted}
-use Rattle.compact_laws.specs.Relabelled.{Names, IsRelabelled}
+use Rattle.extraction_laws.specs.Relabelled.{Names, IsRelabelled}
 use Rattle.compact_laws.specs.Ranked.{ranked_failing}
 
 module _ (f : Contents) (n : ℕ) (new : Contents) (c : IsCompacted f n new) where

@@ -1,4 +1,3 @@
-pub mod Alike
-pub mod Relabelled
 pub mod Ranked
 pub mod Compacted
+pub mod Again

@@ -1,18 +1,19 @@
 -- The solid of a file whose unused items are dropped: each index is the rank that it had.
-use Rattle.std.specs.Prelude.{◌≡◌, ◌↔◌, ℕ, true, ◌++◌, List}
+use Rattle.std.specs.Prelude.{◌≡◌, ℕ, true, ◌++◌}
 use Rattle.iges_params.specs.Contents.{Contents}
 use Rattle.brep_walk.specs.Places.{places}
 use Rattle.brep_walk.specs.SolidOf.{solid_of}
-use Rattle.solid_data.specs.Obligations.{Obligation, AllHold, FirstFalse}
+use Rattle.solid_data.specs.Obligations.{AllHold}
 use Rattle.solid_data.specs.declared.solid.EdgeKey.{EdgeKey}
 use Rattle.solid_data.specs.declared.solid.VertexKey.{VertexKey}
 use Rattle.solid_data.specs.declared.verdict.Failing.{Failing}
 use Rattle.solid_data.specs.declared.verdict.Rule.{Rule}
 use Rattle.solid_data.specs.declared.verdict.Rule.TheVariants.{Unpaired, Unlinked, Shared}
 use Rattle.edge_uses.specs.ShellObligations.{solid_obligations}
+use Rattle.extraction_laws.specs.Alike.{KeepsVerdictAs}
+use Rattle.extraction_laws.specs.Relabelled.{Names, IsRelabelled}
 use Rattle.list_compact.specs.Used.{rank, is_used_edge, is_used_vertex}
 use Rattle.list_compact.specs.Dropped.{dropped}
-use Rattle.compact_laws.specs.Relabelled.{Names, IsRelabelled}
 
 -- a used edge of the same list, by its rank
 pub record IsRankedEdge (g : Contents) (a b : EdgeKey) : Type 0 where
@@ -43,12 +44,6 @@ ranked_place g _ e j = j
 abbrev pub ranked_failing : Contents → Failing → Failing
 ranked_failing g x = record x { place = ranked_place g x.rule x.entity.0 x.place }
 
--- All of the one list hold exactly where all of the other do, and else the same one fails first, at the rank of its place.
-pub record KeepsVerdict (g : Contents) (ps qs : List Obligation) : Type 0 where
-  pub all : AllHold ps ↔ AllHold qs
-  pub fails : (x : Failing) → FirstFalse ps x → FirstFalse qs (ranked_failing g x)
-  pub only : (y : Failing) → FirstFalse qs y → (x : Failing) × (y ≡ ranked_failing g x) × FirstFalse ps x
-
 -- So the solid has the verdict that it had, at the rank of the place.
 abbrev pub VerdictIsRanked : Type 0
-VerdictIsRanked = (g : Contents) (n : ℕ) → AllHold (places g n) → KeepsVerdict g (places g n ++ solid_obligations (solid_of g n)) (places (dropped g) n ++ solid_obligations (solid_of (dropped g) n))
+VerdictIsRanked = (g : Contents) (n : ℕ) → AllHold (places g n) → KeepsVerdictAs (ranked_failing g) (places g n ++ solid_obligations (solid_of g n)) (places (dropped g) n ++ solid_obligations (solid_of (dropped g) n))

@@ -1,5 +1,6 @@
 //! Laws of compacted solids.
 
+ghost use Rattle.compact_laws.specs.Again.{CompactedAgain, CompactedIsExtracted, CompactedStays};
 ghost use Rattle.compact_laws.specs.Compacted.{ClosedIsCompacted, NoOtherVerdict, SolidIsCompacted, VerdictIsCompacted};
 ghost use Rattle.compact_laws.specs.Ranked.{SolidIsRanked, VerdictIsRanked};
 
@@ -26,4 +27,12 @@ pub fn verdict_is_compacted()
     ensures verdict { VerdictIsCompacted }
     ensures only { NoOtherVerdict }
     ensures closed { ClosedIsCompacted }
+{}
+
+/// A compacted file can be compacted again: it is what is extracted of it, and its places hold. That drops what only
+/// loops used which the second extraction left out; where nothing is left to drop, it gives the same file (own).
+pub fn compacted_again()
+    ensures extracted { CompactedIsExtracted }
+    ensures dropped { CompactedAgain }
+    ensures stays { CompactedStays }
 {}

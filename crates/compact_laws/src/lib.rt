@@ -3,4 +3,6 @@
 
 mod law;
 
-pub use law::{solid_is_compacted, solid_is_ranked, verdict_is_compacted, verdict_is_ranked};
+pub use law::{
+    compacted_again, solid_is_compacted, solid_is_ranked, verdict_is_compacted, verdict_is_ranked,
+};

@@ -32,6 +32,3 @@ pub use row::Row;
 pub use spanning::Span;
 pub use table::Rows;
 pub use tally::{Seen, Tally, tally_of};
-
-#[cfg(test)]
-mod tests;

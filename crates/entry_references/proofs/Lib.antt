@@ -3,6 +3,7 @@ pub mod TableRows
 pub mod KindPlaces
 pub mod Groups
 pub mod NumberLists
+pub mod FirstNumbers
 pub mod NamedRecords
 pub mod RisingLists
 pub mod Marks

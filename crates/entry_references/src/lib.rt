@@ -27,6 +27,3 @@ pub use own::Own;
 pub use record::{Record, record_of};
 pub use reference_numbers::{Shape, refs, shape_of};
 pub use referring::references;
-
-#[cfg(test)]
-mod tests;

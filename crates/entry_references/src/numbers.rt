@@ -1,14 +1,14 @@
 //! What the numbers in an entry name.
 
 ghost use Rattle.entry_references.specs.Layout.{value_at};
-ghost use Rattle.entry_references.specs.Numbers.{matrix_of, colour_of};
+ghost use Rattle.entry_references.specs.Numbers.{AddsFirstOf, matrix_of, colour_of};
 ghost use Rattle.entry_references.specs.Refs.{names_entry, is_name, number_of};
 ghost use Rattle.iges_directory.specs.Bounds.{IsBounded};
 ghost use Rattle.iges_params.specs.Limits.{FitsLimits};
 ghost use Rattle.iges_params.specs.Named.{named};
 ghost use Rattle.std.specs.List.{list_all};
 ghost use Rattle.std.specs.Option.{option_to_list};
-ghost use Rattle.std.specs.Prelude.{◌≡◌, ◌+◌, ◌++◌, ◌<◌, ◌^◌, [], None, IfOk, MatchOption, OnOk, drop, filter, filter_map, length, pos, take};
+ghost use Rattle.std.specs.Prelude.{◌≡◌, ◌+◌, ◌++◌, ◌<◌, ◌^◌, [], None, IfOk, MatchOption, OnErr, OnOk, drop, filter, filter_map, length, pos, take};
 
 use crate::group::Group;
 use crate::own::Own;
@@ -64,7 +64,8 @@ pub fn name_entries(file: &File, numbers: &ItemList<i64>) -> bool
 }
 
 fn push_some(numbers: &mut ItemList<i64>, number: Option<i64>) -> Result<(), NoMemory>
-    ensures { OnOk result (numbers.new ≡ numbers.old ++ option_to_list number) }
+    ensures ok { OnOk result (numbers.new ≡ numbers.old ++ option_to_list number) }
+    ensures err { OnErr result (numbers.new ≡ numbers.old) }
 {
     match number {
         Some(number) => numbers.push(number),
@@ -129,7 +130,8 @@ fn if_name(file: &File, number: Option<i64>) -> Option<i64>
     }
 }
 
-/// Puts the pointers of a group that name a name, which is a property of form 15 (IGES 5.3, type 406).
+/// Puts the pointers of a group that name a name, which is a property of form 15 (IGES 5.3, type 406). Where memory
+/// runs out, some of the first of them may have been put, and no more.
 pub fn push_names(
     numbers: &mut ItemList<i64>,
     file: &File,
@@ -137,7 +139,8 @@ pub fn push_names(
     group: Group,
 ) -> Result<(), NoMemory>
     requires { group.before + group.count < 2 ^ 64 }
-    ensures { OnOk result (numbers.new ≡ numbers.old ++ filter (is_name file.now) (filter_map number_of (take group.count (drop group.before values.now)))) }
+    ensures ok { OnOk result (numbers.new ≡ numbers.old ++ filter (is_name file.now) (filter_map number_of (take group.count (drop group.before values.now)))) }
+    ensures err { OnErr result (AddsFirstOf numbers.old (filter (is_name file.now) (filter_map number_of (take group.count (drop group.before values.now)))) numbers.new) }
 {
     let mut i = 0;
     'pointers: while i < group.count {

@@ -9,6 +9,7 @@ use Rattle.iges_params.specs.Contents.{Contents}
 use Rattle.brep_lists.specs.Record.{EntityKind, solid, shell, face, «loop», edges, vertices, SolidItems, FaceItems, LoopTuple}
 use Rattle.brep_lists.specs.declared.edge_list.EdgeTuple.{EdgeTuple}
 use Rattle.solid_data.specs.Obligations.{Obligation, obligation, entry_number, AllHold, after_each}
+use Rattle.solid_data.specs.declared.verdict.Failing.{Failing}
 use Rattle.solid_data.specs.declared.verdict.Rule.{Rule}
 use Rattle.solid_data.specs.declared.verdict.Rule.TheVariants.{NoEntry, WrongKind, BadLayout, Twice, BadIndex, BadGeometry}
 use Rattle.solid_data.proofs.Members.{Has, Has-from_Contains, Contains-from_Has, All-at, has_map, map_has, all_append, all_flat_map, OptionAll, get_some}
@@ -16,8 +17,10 @@ use Rattle.solid_data.proofs.ObligationLemmas.{AllHold-append_left, AllHold-appe
 use Rattle.brep_walk.specs.Places.{told, shells, faces, loops, tuples, numbers, edge_at, Names, NamesKind, HasRecordOf, NamesGeometry, IsIndex, record_places, item_places, edge_places, used_places, tuple_at, tuple_places, loop_at, loop_places, face_at, face_places, shell_at, shell_places, places}
 use Rattle.solid_extract.specs.Kept.{renamed_pair, renamed_curve, renamed_tuple, renamed_edge}
 use Rattle.extraction_laws.specs.Alike.{FailAlike}
+use Rattle.extraction_laws.specs.Relabelled.{renumbered, AreNamedAlike}
 use Rattle.extraction_laws.proofs.AlikeLists.{OneAlike, append_alike}
 use Rattle.extraction_laws.proofs.Renames.{IsEntity, IsPointer, IsNew, Renames, names_same, kind_same, geometry_same, is_entity, tells, number_new, pointers_apart}
+use Rattle.extraction_laws.proofs.RenamedPlaces.{renumbered_named}
 use Rattle.extraction_laws.proofs.Pointers.{all_get, PointedPair, PointedCurve, PointedTuple, PointedEdge, shells_pointed, faces_pointed, loops_pointed, tuples_pointed, edges_pointed}
 
 -- ---- what holding places tell of the entities that they name
@@ -59,15 +62,15 @@ all_after F Good Known next before (x ∷ xs) good all = (
   all_after F Good Known next (before ++ x ∷ []) xs good.1 (AllHold-append_right (F before x) (after_each F (before ++ x ∷ []) xs) all),
 )
 
-after_alike : {A B : Type 0} (R : ℕ → ℕ → Type 0) (change : A → B) (F : List A → A → List Obligation) (G : List B → B → List Obligation) (Good Known : A → Type 0)
-    → ((before : List A) (x : A) → AllByRecursion Known before → Good x → FailAlike R (F before x) (G (map change before) (change x)))
+after_alike : {A B : Type 0} (Q : Failing → Failing → Type 0) (change : A → B) (F : List A → A → List Obligation) (G : List B → B → List Obligation) (Good Known : A → Type 0)
+    → ((before : List A) (x : A) → AllByRecursion Known before → Good x → FailAlike Q (F before x) (G (map change before) (change x)))
     → ((before : List A) (x : A) → Good x → AllHold (F before x) → Known x)
-    → (before xs : List A) → AllByRecursion Known before → AllByRecursion Good xs → FailAlike R (after_each F before xs) (after_each G (map change before) (map change xs))
-after_alike R change F G Good Known step next before [] known good = tt
-after_alike R change F G Good Known step next before (x ∷ xs) known good =
-    append_alike R (F before x) (after_each F (before ++ x ∷ []) xs) (G (map change before) (change x)) (after_each G (map change before ++ change x ∷ []) (map change xs)) (step before x known good.0)
-    (λ all. subst (λ bs. FailAlike R (after_each F (before ++ x ∷ []) xs) (after_each G bs (map change xs))) (map-append change before (x ∷ []))
-    (after_alike R change F G Good Known step next (before ++ x ∷ []) xs (all_append Known before (x ∷ []) known (next before x good.0 all, tt)) good.1))
+    → (before xs : List A) → AllByRecursion Known before → AllByRecursion Good xs → FailAlike Q (after_each F before xs) (after_each G (map change before) (map change xs))
+after_alike Q change F G Good Known step next before [] known good = tt
+after_alike Q change F G Good Known step next before (x ∷ xs) known good =
+    append_alike Q (F before x) (after_each F (before ++ x ∷ []) xs) (G (map change before) (change x)) (after_each G (map change before ++ change x ∷ []) (map change xs)) (step before x known good.0)
+    (λ all. subst (λ bs. FailAlike Q (after_each F (before ++ x ∷ []) xs) (after_each G bs (map change xs))) (map-append change before (x ∷ []))
+    (after_alike Q change F G Good Known step next (before ++ x ∷ []) xs (all_append Known before (x ∷ []) known (next before x good.0 all, tt)) good.1))
 
 -- what each item gives, renamed
 pub flat_known : {A B C D : Type 0} (Known : A → Type 0) (change : A → B) (F : A → List C) (G : B → List D) (rename : C → D) → ((x : A) → Known x → G (change x) ≡ map rename (F x)) → (xs : List A) → AllByRecursion Known xs → flat_map G (map change xs) ≡ map rename (flat_map F xs)
@@ -217,13 +220,13 @@ module _ (f q : Contents) (K : ℕ → Type 0) (new : ℕ → ℕ) (g : ℤ → 
 
   -- ---- the places, one by one
 
-  abbrev N : ℕ → ℕ → Type 0
-  N = IsNew K new
+  abbrev Q : Failing → Failing → Type 0
+  Q = AreNamedAlike (renumbered (IsNew K new))
 
-  named_alike : (z : ℤ) → IsEntity K z → (rule : Rule) (place : ℕ) (one other : Type 0) → one ↔ other → OneAlike N (obligation rule (entry_number z) place one) (obligation rule (entry_number (g z)) place other)
-  named_alike z e rule place one other same = (record { rule = refl; entity = number_new f q K new g h z e; place = refl }, same)
+  named_alike : (z : ℤ) → IsEntity K z → (rule : Rule) (place : ℕ) (one other : Type 0) → one ↔ other → OneAlike Q (obligation rule (entry_number z) place one) (obligation rule (entry_number (g z)) place other)
+  named_alike z e rule place one other same = (record { rule = refl; named = renumbered_named (IsNew K new) rule (entry_number z) place (entry_number (g z)) place (number_new f q K new g h z e) refl }, same)
 
-  record_alike : (e : ℤ) (place : ℕ) (kind : EntityKind) (z : ℤ) → IsEntity K e → IsPointer K z → FailAlike N (record_places f e place kind z) (record_places q (g e) place kind (g z))
+  record_alike : (e : ℤ) (place : ℕ) (kind : EntityKind) (z : ℤ) → IsEntity K e → IsPointer K z → FailAlike Q (record_places f e place kind z) (record_places q (g e) place kind (g z))
   record_alike e place kind z ent p =
       let names = named_alike e ent NoEntry place (Names f z) (Names q (g z)) (names_same f q K new g h z p) in
       let kinds = named_alike e ent WrongKind place (NamesKind kind f z) (NamesKind kind q (g z)) (kind_same f q K new g h kind z p) in (
@@ -240,36 +243,36 @@ module _ (f q : Contents) (K : ℕ → Type 0) (new : ℕ → ℕ) (g : ℤ → 
         ),
       )
 
-  item_alike : (e : ℤ) (place : ℕ) (kind : EntityKind) (z j : ℤ) (n m : ℕ) → IsEntity K e → IsPointer K z → (IsEntity K z → NamesKind kind f z → m ≡ n) → FailAlike N (item_places f e place kind z j n) (item_places q (g e) place kind (g z) j m)
+  item_alike : (e : ℤ) (place : ℕ) (kind : EntityKind) (z j : ℤ) (n m : ℕ) → IsEntity K e → IsPointer K z → (IsEntity K z → NamesKind kind f z → m ≡ n) → FailAlike Q (item_places f e place kind z j n) (item_places q (g e) place kind (g z) j m)
   item_alike e place kind z j n m ent p same =
-      append_alike N (record_places f e place kind z) (obligation BadIndex (entry_number e) place (IsIndex j n) ∷ []) (record_places q (g e) place kind (g z)) (obligation BadIndex (entry_number (g e)) place (IsIndex j m) ∷ []) (record_alike e place kind z ent p)
+      append_alike Q (record_places f e place kind z) (obligation BadIndex (entry_number e) place (IsIndex j n) ∷ []) (record_places q (g e) place kind (g z)) (obligation BadIndex (entry_number (g e)) place (IsIndex j m) ∷ []) (record_alike e place kind z ent p)
       (λ all.
       let count : m ≡ n = same (is_entity f q K new g h z p all.0) all.1.0 in
       let o = named_alike e ent BadIndex place (IsIndex j n) (IsIndex j m) (λ x. subst (IsIndex j) (sym count) x, λ x. subst (IsIndex j) count x) in
       (o.0, o.1, λ x. tt))
 
-  edge_alike : (e : ℤ) (j : ℕ) → IsEntity K e → (o : Option EdgeTuple) → OptionAll (PointedEdge (IsPointer K)) o → FailAlike N (edge_places f e j o) (edge_places q (g e) j (option_map (renamed_edge g) o))
+  edge_alike : (e : ℤ) (j : ℕ) → IsEntity K e → (o : Option EdgeTuple) → OptionAll (PointedEdge (IsPointer K)) o → FailAlike Q (edge_places f e j o) (edge_places q (g e) j (option_map (renamed_edge g) o))
   edge_alike e j ent None p = tt
   edge_alike e j ent (Some t) p =
-      append_alike N ((obligation BadGeometry (entry_number e) j (NamesGeometry f t.curve) ∷ []) ++ item_places f e j vertices t.start_list t.start_index (length (told vertices f t.start_list)))
+      append_alike Q ((obligation BadGeometry (entry_number e) j (NamesGeometry f t.curve) ∷ []) ++ item_places f e j vertices t.start_list t.start_index (length (told vertices f t.start_list)))
       (item_places f e j vertices t.end_list t.end_index (length (told vertices f t.end_list)))
       ((obligation BadGeometry (entry_number (g e)) j (NamesGeometry q (g t.curve)) ∷ []) ++ item_places q (g e) j vertices (g t.start_list) t.start_index (length (told vertices q (g t.start_list))))
       (item_places q (g e) j vertices (g t.end_list) t.end_index (length (told vertices q (g t.end_list))))
-      (append_alike N (obligation BadGeometry (entry_number e) j (NamesGeometry f t.curve) ∷ []) (item_places f e j vertices t.start_list t.start_index (length (told vertices f t.start_list)))
+      (append_alike Q (obligation BadGeometry (entry_number e) j (NamesGeometry f t.curve) ∷ []) (item_places f e j vertices t.start_list t.start_index (length (told vertices f t.start_list)))
       (obligation BadGeometry (entry_number (g e)) j (NamesGeometry q (g t.curve)) ∷ []) (item_places q (g e) j vertices (g t.start_list) t.start_index (length (told vertices q (g t.start_list))))
       (let o = named_alike e ent BadGeometry j (NamesGeometry f t.curve) (NamesGeometry q (g t.curve)) (geometry_same f q K new g h t.curve p.curve) in (o.0, o.1, λ x. tt))
       (λ all. item_alike e j vertices t.start_list t.start_index (length (told vertices f t.start_list)) (length (told vertices q (g t.start_list))) ent p.start (vertex_count t.start_list)))
       (λ all. item_alike e j vertices t.end_list t.end_index (length (told vertices f t.end_list)) (length (told vertices q (g t.end_list))) ent p.end (vertex_count t.end_list))
 
-  used_alike : (l : ℤ) (place : ℕ) (b : Bool) (z j : ℤ) → IsEntity K l → IsPointer K z → FailAlike N (used_places f l place z j b) (used_places q (g l) place (g z) j b)
+  used_alike : (l : ℤ) (place : ℕ) (b : Bool) (z j : ℤ) → IsEntity K l → IsPointer K z → FailAlike Q (used_places f l place z j b) (used_places q (g l) place (g z) j b)
   used_alike l place true z j ent p = item_alike l place vertices z j (length (told vertices f z)) (length (told vertices q (g z))) ent p (vertex_count z)
   used_alike l place false z j ent p =
-      append_alike N (item_places f l place edges z j (length (told edges f z))) (edge_places f z (entry_number j) (edge_at f z (entry_number j)))
+      append_alike Q (item_places f l place edges z j (length (told edges f z))) (edge_places f z (entry_number j) (edge_at f z (entry_number j)))
       (item_places q (g l) place edges (g z) j (length (told edges q (g z)))) (edge_places q (g z) (entry_number j) (edge_at q (g z) (entry_number j)))
       (item_alike l place edges z j (length (told edges f z)) (length (told edges q (g z))) ent p (edge_count z))
       (λ all.
       let e : IsEntity K z = is_entity f q K new g h z p all.0 in
-      subst (λ o. FailAlike N (edge_places f z (entry_number j) (edge_at f z (entry_number j))) (edge_places q (g z) (entry_number j) o)) (sym (edge_new z (entry_number j) e all.1.0))
+      subst (λ o. FailAlike Q (edge_places f z (entry_number j) (edge_at f z (entry_number j))) (edge_places q (g z) (entry_number j) o)) (sym (edge_new z (entry_number j) e all.1.0))
       (edge_alike z (entry_number j) e (edge_at f z (entry_number j)) (edge_pointers z (entry_number j) e all.1.0)))
 
   curves_same : (cs : List (Bool × ℤ)) → AllByRecursion (PointedCurve (IsPointer K)) cs
@@ -287,19 +290,19 @@ module _ (f q : Contents) (K : ℕ → Type 0) (new : ℕ → ℕ) (g : ℤ → 
     λ x. All-from_recursion (λ (c : Bool × ℤ). NamesGeometry f c.1) cs ((curves_same cs p).1 (recursion_from_All (λ (c : Bool × ℤ). NamesGeometry q c.1) (map (renamed_curve g) cs) x)),
   )
 
-  tuple_alike : (l : ℤ) (place : ℕ) (t : LoopTuple) → IsEntity K l → PointedTuple (IsPointer K) t → FailAlike N (tuple_at f l place t) (tuple_at q (g l) place (renamed_tuple g t))
+  tuple_alike : (l : ℤ) (place : ℕ) (t : LoopTuple) → IsEntity K l → PointedTuple (IsPointer K) t → FailAlike Q (tuple_at f l place t) (tuple_at q (g l) place (renamed_tuple g t))
   tuple_alike l place t ent p =
-      append_alike N (used_places f l place t.«list» t.index t.is_vertex) (obligation BadGeometry (entry_number l) place (All (λ (c : Bool × ℤ). NamesGeometry f c.1) t.curves) ∷ [])
+      append_alike Q (used_places f l place t.«list» t.index t.is_vertex) (obligation BadGeometry (entry_number l) place (All (λ (c : Bool × ℤ). NamesGeometry f c.1) t.curves) ∷ [])
       (used_places q (g l) place (g t.«list») t.index t.is_vertex) (obligation BadGeometry (entry_number (g l)) place (All (λ (c : Bool × ℤ). NamesGeometry q c.1) (map (renamed_curve g) t.curves)) ∷ [])
       (used_alike l place t.is_vertex t.«list» t.index ent p.names)
       (λ all.
       let o = named_alike l ent BadGeometry place (All (λ (c : Bool × ℤ). NamesGeometry f c.1) t.curves) (All (λ (c : Bool × ℤ). NamesGeometry q c.1) (map (renamed_curve g) t.curves)) (all_curves_same t.curves p.curves) in
       (o.0, o.1, λ x. tt))
 
-  tuple_step : (l : ℤ) → IsEntity K l → (before : List LoopTuple) (t : LoopTuple) → AllByRecursion (λ (x : LoopTuple). Unit {0}) before → PointedTuple (IsPointer K) t → FailAlike N (tuple_places f l before t) (tuple_places q (g l) (map (renamed_tuple g) before) (renamed_tuple g t))
+  tuple_step : (l : ℤ) → IsEntity K l → (before : List LoopTuple) (t : LoopTuple) → AllByRecursion (λ (x : LoopTuple). Unit {0}) before → PointedTuple (IsPointer K) t → FailAlike Q (tuple_places f l before t) (tuple_places q (g l) (map (renamed_tuple g) before) (renamed_tuple g t))
   unfolding tuple_places
   tuple_step l ent before t known p =
-      subst (λ n. FailAlike N (tuple_at f l (length before + 1) t) (tuple_at q (g l) (n + 1) (renamed_tuple g t))) (sym (length-map before (renamed_tuple g))) (tuple_alike l (length before + 1) t ent p)
+      subst (λ n. FailAlike Q (tuple_at f l (length before + 1) t) (tuple_at q (g l) (n + 1) (renamed_tuple g t))) (sym (length-map before (renamed_tuple g))) (tuple_alike l (length before + 1) t ent p)
 
   twice_same : (known : List ℤ) (z : ℤ) → AllByRecursion (IsPointer K) known → IsPointer K z → (¬ Contains known z) ↔ (¬ Contains (map g known) (g z))
   twice_same known z ks p = (λ no_one c. no_one (back c), λ no_one c. no_one (into c))
@@ -314,26 +317,26 @@ module _ (f q : Contents) (K : ℕ → Type 0) (new : ℕ → ℕ) (g : ℤ → 
 
   -- a record and that no place before names it
   fresh_alike : (e : ℤ) (place : ℕ) (kind : EntityKind) (known : List ℤ) (z : ℤ) → IsEntity K e → AllByRecursion (IsPointer K) known → IsPointer K z
-      → FailAlike N (record_places f e place kind z ++ (obligation Twice (entry_number e) place (¬ Contains known z) ∷ [])) (record_places q (g e) place kind (g z) ++ (obligation Twice (entry_number (g e)) place (¬ Contains (map g known) (g z)) ∷ []))
+      → FailAlike Q (record_places f e place kind z ++ (obligation Twice (entry_number e) place (¬ Contains known z) ∷ [])) (record_places q (g e) place kind (g z) ++ (obligation Twice (entry_number (g e)) place (¬ Contains (map g known) (g z)) ∷ []))
   fresh_alike e place kind known z ent ks p =
-      append_alike N (record_places f e place kind z) (obligation Twice (entry_number e) place (¬ Contains known z) ∷ []) (record_places q (g e) place kind (g z)) (obligation Twice (entry_number (g e)) place (¬ Contains (map g known) (g z)) ∷ []) (record_alike e place kind z ent p)
+      append_alike Q (record_places f e place kind z) (obligation Twice (entry_number e) place (¬ Contains known z) ∷ []) (record_places q (g e) place kind (g z)) (obligation Twice (entry_number (g e)) place (¬ Contains (map g known) (g z)) ∷ []) (record_alike e place kind z ent p)
       (λ all. let o = named_alike e ent Twice place (¬ Contains known z) (¬ Contains (map g known) (g z)) (twice_same known z ks p) in (o.0, o.1, λ x. tt))
 
-  loop_alike : (c : ℤ) (place : ℕ) (known : List ℤ) (l : ℤ) → IsEntity K c → AllByRecursion (IsPointer K) known → IsPointer K l → FailAlike N (loop_at f c place known l) (loop_at q (g c) place (map g known) (g l))
+  loop_alike : (c : ℤ) (place : ℕ) (known : List ℤ) (l : ℤ) → IsEntity K c → AllByRecursion (IsPointer K) known → IsPointer K l → FailAlike Q (loop_at f c place known l) (loop_at q (g c) place (map g known) (g l))
   loop_alike c place known l ent ks p =
-      append_alike N (record_places f c place «loop» l ++ (obligation Twice (entry_number c) place (¬ Contains known l) ∷ [])) (after_each (tuple_places f l) [] (tuples f l))
+      append_alike Q (record_places f c place «loop» l ++ (obligation Twice (entry_number c) place (¬ Contains known l) ∷ [])) (after_each (tuple_places f l) [] (tuples f l))
       (record_places q (g c) place «loop» (g l) ++ (obligation Twice (entry_number (g c)) place (¬ Contains (map g known) (g l)) ∷ [])) (after_each (tuple_places q (g l)) [] (tuples q (g l)))
       (fresh_alike c place «loop» known l ent ks p)
       (λ all.
       let e : IsEntity K l = is_entity f q K new g h l p all.0 in
-      subst (λ ts. FailAlike N (after_each (tuple_places f l) [] (tuples f l)) (after_each (tuple_places q (g l)) [] ts)) (sym (tuples_new l e all.1.0))
-      (after_alike N (renamed_tuple g) (tuple_places f l) (tuple_places q (g l)) (PointedTuple (IsPointer K)) (λ (x : LoopTuple). Unit {0}) (tuple_step l e) (λ before t good holds. tt) [] (tuples f l) tt (tuple_pointers l e all.1.0)))
+      subst (λ ts. FailAlike Q (after_each (tuple_places f l) [] (tuples f l)) (after_each (tuple_places q (g l)) [] ts)) (sym (tuples_new l e all.1.0))
+      (after_alike Q (renamed_tuple g) (tuple_places f l) (tuple_places q (g l)) (PointedTuple (IsPointer K)) (λ (x : LoopTuple). Unit {0}) (tuple_step l e) (λ before t good holds. tt) [] (tuples f l) tt (tuple_pointers l e all.1.0)))
 
-  loop_step : (c : ℤ) (used : List ℤ) → IsEntity K c → AllByRecursion (IsPointer K) used → (before : List ℤ) (l : ℤ) → AllByRecursion (IsPointer K) before → IsPointer K l → FailAlike N (loop_places f c used before l) (loop_places q (g c) (map g used) (map g before) (g l))
+  loop_step : (c : ℤ) (used : List ℤ) → IsEntity K c → AllByRecursion (IsPointer K) used → (before : List ℤ) (l : ℤ) → AllByRecursion (IsPointer K) before → IsPointer K l → FailAlike Q (loop_places f c used before l) (loop_places q (g c) (map g used) (map g before) (g l))
   unfolding loop_places
   loop_step c used ent us before l bs p =
-      subst (λ n. FailAlike N (loop_at f c (length before + 1) (used ++ before) l) (loop_at q (g c) (n + 1) (map g used ++ map g before) (g l))) (sym (length-map before g))
-      (subst (λ zs. FailAlike N (loop_at f c (length before + 1) (used ++ before) l) (loop_at q (g c) (length before + 1) zs (g l))) (map-append g used before)
+      subst (λ n. FailAlike Q (loop_at f c (length before + 1) (used ++ before) l) (loop_at q (g c) (n + 1) (map g used ++ map g before) (g l))) (sym (length-map before g))
+      (subst (λ zs. FailAlike Q (loop_at f c (length before + 1) (used ++ before) l) (loop_at q (g c) (length before + 1) zs (g l))) (map-append g used before)
       (loop_alike c (length before + 1) (used ++ before) l ent (all_append (IsPointer K) used before us bs) p))
 
   -- the loops of known faces, and the faces of known shells
@@ -354,11 +357,11 @@ module _ (f q : Contents) (K : ℕ → Type 0) (new : ℕ → ℕ) (g : ℤ → 
       all_flat_map (KnownFace f K) (λ b. numbers (faces f b)) known
       (λ s m. let k : KnownShell f K s = All-at (KnownShell f K) known ks s m in numbers_all (KnownFace f K) (faces f s) k.faces)
 
-  face_alike : (s : ℤ) (place : ℕ) (known : List ℤ) (c : ℤ) → IsEntity K s → AllByRecursion (KnownFace f K) known → IsPointer K c → FailAlike N (face_at f s place known c) (face_at q (g s) place (map g known) (g c))
+  face_alike : (s : ℤ) (place : ℕ) (known : List ℤ) (c : ℤ) → IsEntity K s → AllByRecursion (KnownFace f K) known → IsPointer K c → FailAlike Q (face_at f s place known c) (face_at q (g s) place (map g known) (g c))
   face_alike s place known c ent ks p =
       let pointers : AllByRecursion (IsPointer K) known = AllByRecursion-weaker (KnownFace f K) (IsPointer K) known (λ z k. inr k.entity) ks in
-      append_alike N (face_front s place known c) (after_each (loop_places f c (flat_map (loops f) known)) [] (loops f c)) new_front (after_each (loop_places q (g c) (flat_map (loops q) (map g known))) [] (loops q (g c)))
-      (append_alike N (record_places f s place face c) (obligation Twice (entry_number s) place (¬ Contains known c) ∷ geometry ∷ []) (record_places q (g s) place face (g c)) (obligation Twice (entry_number (g s)) place (¬ Contains (map g known) (g c)) ∷ new_geometry ∷ [])
+      append_alike Q (face_front s place known c) (after_each (loop_places f c (flat_map (loops f) known)) [] (loops f c)) new_front (after_each (loop_places q (g c) (flat_map (loops q) (map g known))) [] (loops q (g c)))
+      (append_alike Q (record_places f s place face c) (obligation Twice (entry_number s) place (¬ Contains known c) ∷ geometry ∷ []) (record_places q (g s) place face (g c)) (obligation Twice (entry_number (g s)) place (¬ Contains (map g known) (g c)) ∷ new_geometry ∷ [])
       (record_alike s place face c ent p)
       (λ all.
       let o = named_alike s ent Twice place (¬ Contains known c) (¬ Contains (map g known) (g c)) (twice_same known c pointers p) in
@@ -374,29 +377,29 @@ module _ (f q : Contents) (K : ℕ → Type 0) (new : ℕ → ℕ) (g : ℤ → 
       new_front : List Obligation
       new_front = record_places q (g s) place face (g c) ++ (obligation Twice (entry_number (g s)) place (¬ Contains (map g known) (g c)) ∷ new_geometry ∷ [])
 
-      surface_alike : IsEntity K c → NamesKind face f c → OneAlike N geometry new_geometry
+      surface_alike : IsEntity K c → NamesKind face f c → OneAlike Q geometry new_geometry
       surface_alike e n =
           let t = tells f q K new g h face c e n in
-          subst (λ (i : FaceItems). OneAlike N geometry (obligation BadGeometry (entry_number (g c)) 0 (NamesGeometry q i.surface))) (sym t.same)
+          subst (λ (i : FaceItems). OneAlike Q geometry (obligation BadGeometry (entry_number (g c)) 0 (NamesGeometry q i.surface))) (sym t.same)
           (named_alike c e BadGeometry 0 (let items = told face f c in NamesGeometry f items.surface) (let items = told face f c in NamesGeometry q (g items.surface)) (let items = told face f c in geometry_same f q K new g h items.surface (surface_pointer c e n)))
 
-      after_front : IsEntity K c → NamesKind face f c → FailAlike N (after_each (loop_places f c (flat_map (loops f) known)) [] (loops f c)) (after_each (loop_places q (g c) (flat_map (loops q) (map g known))) [] (loops q (g c)))
+      after_front : IsEntity K c → NamesKind face f c → FailAlike Q (after_each (loop_places f c (flat_map (loops f) known)) [] (loops f c)) (after_each (loop_places q (g c) (flat_map (loops q) (map g known))) [] (loops q (g c)))
       after_front e n =
-          subst (λ us. FailAlike N (after_each (loop_places f c (flat_map (loops f) known)) [] (loops f c)) (after_each (loop_places q (g c) us) [] (loops q (g c)))) (sym (loops_known known ks))
-          (subst (λ ls. FailAlike N (after_each (loop_places f c (flat_map (loops f) known)) [] (loops f c)) (after_each (loop_places q (g c) (map g (flat_map (loops f) known))) [] ls)) (sym (loops_new c e n))
-          (after_alike N g (loop_places f c (flat_map (loops f) known)) (loop_places q (g c) (map g (flat_map (loops f) known))) (IsPointer K) (IsPointer K) (loop_step c (flat_map (loops f) known) e (loops_pointers known ks)) (λ before l good holds. good) [] (loops f c) tt (loop_pointers c e n)))
+          subst (λ us. FailAlike Q (after_each (loop_places f c (flat_map (loops f) known)) [] (loops f c)) (after_each (loop_places q (g c) us) [] (loops q (g c)))) (sym (loops_known known ks))
+          (subst (λ ls. FailAlike Q (after_each (loop_places f c (flat_map (loops f) known)) [] (loops f c)) (after_each (loop_places q (g c) (map g (flat_map (loops f) known))) [] ls)) (sym (loops_new c e n))
+          (after_alike Q g (loop_places f c (flat_map (loops f) known)) (loop_places q (g c) (map g (flat_map (loops f) known))) (IsPointer K) (IsPointer K) (loop_step c (flat_map (loops f) known) e (loops_pointers known ks)) (λ before l good holds. good) [] (loops f c) tt (loop_pointers c e n)))
 
   face_step : (s : ℤ) (used : List ℤ) → IsEntity K s → AllByRecursion (KnownFace f K) used → (before : List (ℤ × Bool)) (i : ℤ × Bool) → AllByRecursion (λ (j : ℤ × Bool). KnownFace f K j.0) before → PointedPair (IsPointer K) i
-      → FailAlike N (face_places f s used before i) (face_places q (g s) (map g used) (map (renamed_pair g) before) (renamed_pair g i))
+      → FailAlike Q (face_places f s used before i) (face_places q (g s) (map g used) (map (renamed_pair g) before) (renamed_pair g i))
   unfolding face_places
   face_step s used ent us before i bs p =
-      subst (λ n. FailAlike N (face_at f s (length before + 1) (used ++ numbers before) i.0) (face_at q (g s) (n + 1) (map g used ++ numbers (map (renamed_pair g) before)) (g i.0))) (sym (length-map before (renamed_pair g)))
-      (subst (λ zs. FailAlike N (face_at f s (length before + 1) (used ++ numbers before) i.0) (face_at q (g s) (length before + 1) zs (g i.0))) (map-append g used (numbers before) ∙ ap (λ zs. map g used ++ zs) (sym (numbers_renamed g before)))
+      subst (λ n. FailAlike Q (face_at f s (length before + 1) (used ++ numbers before) i.0) (face_at q (g s) (n + 1) (map g used ++ numbers (map (renamed_pair g) before)) (g i.0))) (sym (length-map before (renamed_pair g)))
+      (subst (λ zs. FailAlike Q (face_at f s (length before + 1) (used ++ numbers before) i.0) (face_at q (g s) (length before + 1) zs (g i.0))) (map-append g used (numbers before) ∙ ap (λ zs. map g used ++ zs) (sym (numbers_renamed g before)))
       (face_alike s (length before + 1) (used ++ numbers before) i.0 ent (all_append (KnownFace f K) used (numbers before) us (numbers_all (KnownFace f K) before bs)) p))
 
-  shell_alike : (n : ℤ) (place : ℕ) (known : List ℤ) (s : ℤ) → IsEntity K n → AllByRecursion (KnownShell f K) known → IsPointer K s → FailAlike N (shell_at f n place known s) (shell_at q (g n) place (map g known) (g s))
+  shell_alike : (n : ℤ) (place : ℕ) (known : List ℤ) (s : ℤ) → IsEntity K n → AllByRecursion (KnownShell f K) known → IsPointer K s → FailAlike Q (shell_at f n place known s) (shell_at q (g n) place (map g known) (g s))
   shell_alike n place known s ent ks p =
-      append_alike N (shell_front n place known s) (after_each (face_places f s (flat_map (λ b. numbers (faces f b)) known)) [] (faces f s))
+      append_alike Q (shell_front n place known s) (after_each (face_places f s (flat_map (λ b. numbers (faces f b)) known)) [] (faces f s))
       (record_places q (g n) place shell (g s) ++ (obligation Twice (entry_number (g n)) place (¬ Contains (map g known) (g s)) ∷ [])) (after_each (face_places q (g s) (flat_map (λ b. numbers (faces q b)) (map g known))) [] (faces q (g s)))
       (fresh_alike n place shell known s ent (AllByRecursion-weaker (KnownShell f K) (IsPointer K) known (λ z k. inr k.entity) ks) p)
       (λ all. after_front (is_entity f q K new g h s p all.0) all.1.0)
@@ -404,29 +407,29 @@ module _ (f q : Contents) (K : ℕ → Type 0) (new : ℕ → ℕ) (g : ℤ → 
       used : List ℤ
       used = flat_map (λ b. numbers (faces f b)) known
 
-      after_front : IsEntity K s → NamesKind shell f s → FailAlike N (after_each (face_places f s (flat_map (λ b. numbers (faces f b)) known)) [] (faces f s)) (after_each (face_places q (g s) (flat_map (λ b. numbers (faces q b)) (map g known))) [] (faces q (g s)))
+      after_front : IsEntity K s → NamesKind shell f s → FailAlike Q (after_each (face_places f s (flat_map (λ b. numbers (faces f b)) known)) [] (faces f s)) (after_each (face_places q (g s) (flat_map (λ b. numbers (faces q b)) (map g known))) [] (faces q (g s)))
       after_front e k =
-          subst (λ us. FailAlike N (after_each (face_places f s used) [] (faces f s)) (after_each (face_places q (g s) us) [] (faces q (g s)))) (sym (faces_known known ks))
-          (subst (λ is. FailAlike N (after_each (face_places f s used) [] (faces f s)) (after_each (face_places q (g s) (map g used)) [] is)) (sym (faces_new s e k))
-          (after_alike N (renamed_pair g) (face_places f s used) (face_places q (g s) (map g used)) (PointedPair (IsPointer K)) (λ (i : ℤ × Bool). KnownFace f K i.0) (face_step s used e (all_faces_known known ks)) (face_item_known s used) [] (faces f s) tt (face_pointers s e k)))
+          subst (λ us. FailAlike Q (after_each (face_places f s used) [] (faces f s)) (after_each (face_places q (g s) us) [] (faces q (g s)))) (sym (faces_known known ks))
+          (subst (λ is. FailAlike Q (after_each (face_places f s used) [] (faces f s)) (after_each (face_places q (g s) (map g used)) [] is)) (sym (faces_new s e k))
+          (after_alike Q (renamed_pair g) (face_places f s used) (face_places q (g s) (map g used)) (PointedPair (IsPointer K)) (λ (i : ℤ × Bool). KnownFace f K i.0) (face_step s used e (all_faces_known known ks)) (face_item_known s used) [] (faces f s) tt (face_pointers s e k)))
 
   shell_step : (n : ℤ) → IsEntity K n → (before : List (ℤ × Bool)) (i : ℤ × Bool) → AllByRecursion (λ (j : ℤ × Bool). KnownShell f K j.0) before → PointedPair (IsPointer K) i
-      → FailAlike N (shell_places f n before i) (shell_places q (g n) (map (renamed_pair g) before) (renamed_pair g i))
+      → FailAlike Q (shell_places f n before i) (shell_places q (g n) (map (renamed_pair g) before) (renamed_pair g i))
   unfolding shell_places
   shell_step n ent before i bs p =
-      subst (λ k. FailAlike N (shell_at f n (length before + 1) (numbers before) i.0) (shell_at q (g n) (k + 1) (numbers (map (renamed_pair g) before)) (g i.0))) (sym (length-map before (renamed_pair g)))
-      (subst (λ zs. FailAlike N (shell_at f n (length before + 1) (numbers before) i.0) (shell_at q (g n) (length before + 1) zs (g i.0))) (sym (numbers_renamed g before))
+      subst (λ k. FailAlike Q (shell_at f n (length before + 1) (numbers before) i.0) (shell_at q (g n) (k + 1) (numbers (map (renamed_pair g) before)) (g i.0))) (sym (length-map before (renamed_pair g)))
+      (subst (λ zs. FailAlike Q (shell_at f n (length before + 1) (numbers before) i.0) (shell_at q (g n) (length before + 1) zs (g i.0))) (sym (numbers_renamed g before))
       (shell_alike n (length before + 1) (numbers before) i.0 ent (numbers_all (KnownShell f K) before bs) p))
 
-  pub places_alike : (n : ℕ) → K n → FailAlike N (places f n) (places q (new n))
+  pub places_alike : (n : ℕ) → K n → FailAlike Q (places f n) (places q (new n))
   unfolding places
   places_alike n k =
-      subst (λ z. FailAlike N (record_places f (pos n) 0 solid (pos n) ++ after_each (shell_places f (pos n)) [] (shells f (pos n))) (record_places q z 0 solid z ++ after_each (shell_places q z) [] (shells q z))) (h.something n k)
-      (append_alike N (record_places f (pos n) 0 solid (pos n)) (after_each (shell_places f (pos n)) [] (shells f (pos n))) (record_places q (g (pos n)) 0 solid (g (pos n))) (after_each (shell_places q (g (pos n))) [] (shells q (g (pos n))))
+      subst (λ z. FailAlike Q (record_places f (pos n) 0 solid (pos n) ++ after_each (shell_places f (pos n)) [] (shells f (pos n))) (record_places q z 0 solid z ++ after_each (shell_places q z) [] (shells q z))) (h.something n k)
+      (append_alike Q (record_places f (pos n) 0 solid (pos n)) (after_each (shell_places f (pos n)) [] (shells f (pos n))) (record_places q (g (pos n)) 0 solid (g (pos n))) (after_each (shell_places q (g (pos n))) [] (shells q (g (pos n))))
       (record_alike (pos n) 0 solid (pos n) e (inr e))
       (λ all.
-      subst (λ is. FailAlike N (after_each (shell_places f (pos n)) [] (shells f (pos n))) (after_each (shell_places q (g (pos n))) [] is)) (sym (shells_new (pos n) e all.1.0))
-      (after_alike N (renamed_pair g) (shell_places f (pos n)) (shell_places q (g (pos n))) (PointedPair (IsPointer K)) (λ (i : ℤ × Bool). KnownShell f K i.0) (shell_step (pos n) e) (shell_item_known (pos n)) [] (shells f (pos n)) tt (shell_pointers (pos n) e all.1.0))))
+      subst (λ is. FailAlike Q (after_each (shell_places f (pos n)) [] (shells f (pos n))) (after_each (shell_places q (g (pos n))) [] is)) (sym (shells_new (pos n) e all.1.0))
+      (after_alike Q (renamed_pair g) (shell_places f (pos n)) (shell_places q (g (pos n))) (PointedPair (IsPointer K)) (λ (i : ℤ × Bool). KnownShell f K i.0) (shell_step (pos n) e) (shell_item_known (pos n)) [] (shells f (pos n)) tt (shell_pointers (pos n) e all.1.0))))
     where
       e : IsEntity K (pos n)
       e = (n, refl, k)

@@ -15,7 +15,7 @@ use Rattle.solid_data.proofs.Members.{All-at, all_flat_map}
 use Rattle.brep_walk.specs.Places.{shells, faces, loops, tuples, edge_at, numbers, NamesKind, places}
 use Rattle.brep_walk.specs.SolidOf.{Keys, edge_key, vertex_key, all_tuples, edge_named, ends_named, vertices_named, edge_keys, vertex_keys, use_by, loop_by, face_by, shell_by, numbered_by, edge_by, keys_of, solid_of}
 use Rattle.solid_extract.specs.Kept.{renamed_pair, renamed_tuple, renamed_edge}
-use Rattle.extraction_laws.specs.Relabelled.{IsRelabelledLoop, IsRelabelledFace, IsRelabelledShell, IsRelabelledVertex, IsRelabelledEdge, IsRelabelled}
+use Rattle.extraction_laws.specs.Relabelled.{Names, renumbered, IsRelabelledLoop, IsRelabelledFace, IsRelabelledShell, IsRelabelledEdge, IsRelabelled}
 use Rattle.extraction_laws.proofs.Zips.{zip_append}
 use Rattle.extraction_laws.proofs.Renames.{IsEntity, IsNew, Renames, number_new, becomes_entity}
 use Rattle.extraction_laws.proofs.RenamedLists.{all_distinct, distinct_renamed, place_renamed, same_number, map_known, zip_known}
@@ -40,8 +40,8 @@ unfolding solid_of
 solid_is f n = refl
 
 module _ (f q : Contents) (K : ℕ → Type 0) (new : ℕ → ℕ) (g : ℤ → ℤ) (h : Renames f q K new g) where
-  abbrev N : ℕ → ℕ → Type 0
-  N = IsNew K new
+  abbrev N : Names
+  N = renumbered (IsNew K new)
 
   -- ---- keys
 
@@ -213,8 +213,7 @@ module _ (f q : Contents) (K : ℕ → Type 0) (new : ℕ → ℕ) (g : ℤ → 
         subst (λ o. AllZip (IsRelabelledEdge N) (numbered_by keys key o) (edge_by q (new_keys new keys) (new_edge_key new key))) (sym k.before)
         (subst (λ o. AllZip (IsRelabelledEdge N) (numbered_by keys key (Some k.edge)) (numbered_by (new_keys new keys) (new_edge_key new key) o)) (sym k.after) (
           record {
-            entity = (k.entity, refl);
-            index = refl;
+            key = ((k.entity, refl), refl);
             from = ap (λ m. record { 0 = m }) (sym (vertex_place k.edge.start_list k.edge.start_index k.start));
             to = ap (λ m. record { 0 = m }) (sym (vertex_place k.edge.end_list k.edge.end_index k.end));
           },
@@ -227,9 +226,9 @@ module _ (f q : Contents) (K : ℕ → Type 0) (new : ℕ → ℕ) (g : ℤ → 
         zip_append (IsRelabelledEdge N) (edge_by f keys key) (flat_map (edge_by f keys) ks) (edge_by q (new_keys new keys) (new_edge_key new key)) (flat_map (edge_by q (new_keys new keys)) (map (new_edge_key new) ks))
         (one_edge_new key all.0) (edges_new ks all.1)
 
-    vertices_new : (ks : List VertexKey) → AllByRecursion KnownVertexKey ks → AllZip (IsRelabelledVertex N) ks (map (new_vertex_key new) ks)
+    vertices_new : (ks : List VertexKey) → AllByRecursion KnownVertexKey ks → AllZip N.vertex ks (map (new_vertex_key new) ks)
     vertices_new [] all = tt
-    vertices_new (key ∷ ks) all = (record { entity = (all.0, refl); index = refl }, vertices_new ks all.1)
+    vertices_new (key ∷ ks) all = (((all.0, refl), refl), vertices_new ks all.1)
 
     by_keys : (n : ℕ) → K n → KnownSolid f K (pos n) → IsRelabelled N (solid_by f n (pos n) keys) (solid_by q (new n) (g (pos n)) (new_keys new keys))
     by_keys n k known = record {

@@ -9,9 +9,11 @@ use Rattle.solid_data.specs.declared.verdict.Failing.{Failing}
 use Rattle.entry_references.proofs.RisingLists.{in_from}
 use Rattle.solid_extract.specs.Extracted.{new_number}
 use Rattle.solid_extract.proofs.Places.{place_step, place_found}
-use Rattle.extraction_laws.specs.Alike.{AreNamedAlike, FailAlike, HaveOneVerdict}
-use Rattle.extraction_laws.specs.Kept.{IsNewNumber, renamed_failing, KeepsVerdict}
-use Rattle.extraction_laws.proofs.AlikeLists.{one_verdict}
+use Rattle.extraction_laws.specs.Alike.{FailAlike}
+use Rattle.extraction_laws.specs.Kept.{IsNewNumber, kept_names, renamed_failing, KeepsVerdict}
+use Rattle.extraction_laws.specs.Relabelled.{AreNamedAlike}
+use Rattle.extraction_laws.proofs.AlikeLists.{HaveOneVerdict, one_verdict}
+use Rattle.extraction_laws.proofs.RenamedPlaces.{failing_is, renumbered_parts}
 
 -- what stands at the place of a number is that number
 place_is : (ms : List ℕ) (m j : ℕ) → slice_get ms (position_or_len (λ k. k == m) ms) ≡ Some j → j ≡ m
@@ -28,24 +30,21 @@ new_apart kept m k c e =
     let places : position_or_len (λ j. j == k) kept ≡ position_or_len (λ j. j == m) kept = omega (arith, e) in
     place_is kept k m (ap (slice_get kept) places ∙ place_found kept m (in_from kept m c))
 
-failing_is : (x y : Failing) → x.rule ≡ y.rule → x.entity.0 ≡ y.entity.0 → x.place ≡ y.place → x ≡ y
-failing_is x y r e p =
-    ap (λ w. let z : Failing = record { rule = w; entity = x.entity; place = x.place } in z) r
-    ∙ (ap (λ w. let z : Failing = record { rule = y.rule; entity = record { 0 = w }; place = x.place } in z) e
-    ∙ ap (λ w. let z : Failing = record { rule = y.rule; entity = y.entity; place = w } in z) p)
-
-pub keeps_verdict : (kept : List ℕ) (ps qs : List Obligation) → FailAlike (IsNewNumber kept) ps qs → KeepsVerdict kept ps qs
+pub keeps_verdict : (kept : List ℕ) (ps qs : List Obligation) → FailAlike (AreNamedAlike (kept_names kept)) ps qs → KeepsVerdict kept ps qs
 keeps_verdict kept ps qs h = record {
   all = one.all;
   fails = λ x. (
     λ bad. let k = one.fails x bad in subst (FirstFalse qs) (is_renamed x k.0 k.1) k.2,
-    λ bad. let k = one.only (renamed_failing kept x) bad in subst (FirstFalse ps) (failing_is k.0 x k.1.rule (new_apart kept k.0.entity.0 x.entity.0 k.1.entity.0 k.1.entity.1) k.1.place) k.2,
+    λ bad.
+        let k = one.only (renamed_failing kept x) bad in
+        let n = renumbered_parts (IsNewNumber kept) k.0.rule k.0.entity.0 k.0.place (new_number kept x.entity.0) x.place k.1.named in
+        subst (FirstFalse ps) (failing_is k.0 x k.1.rule (new_apart kept k.0.entity.0 x.entity.0 n.0.0 n.0.1) n.1) k.2,
   );
   only = λ y bad. let k = one.only y bad in (k.0, is_renamed k.0 y k.1, k.2);
 }
   where
-    one : HaveOneVerdict (IsNewNumber kept) ps qs
-    one = one_verdict (IsNewNumber kept) ps qs h
+    one : HaveOneVerdict (AreNamedAlike (kept_names kept)) ps qs
+    one = one_verdict (AreNamedAlike (kept_names kept)) ps qs h
 
-    is_renamed : (x y : Failing) → AreNamedAlike (IsNewNumber kept) x y → y ≡ renamed_failing kept x
-    is_renamed x y k = failing_is y (renamed_failing kept x) (sym k.rule) k.entity.1 (sym k.place)
+    is_renamed : (x y : Failing) → AreNamedAlike (kept_names kept) x y → y ≡ renamed_failing kept x
+    is_renamed x y k = let n = renumbered_parts (IsNewNumber kept) x.rule x.entity.0 x.place y.entity.0 y.place k.named in failing_is y (renamed_failing kept x) (sym k.rule) n.0.1 (sym n.1)

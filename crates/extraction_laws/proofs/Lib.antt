@@ -2,8 +2,9 @@ pub mod AlikeLists
 pub mod Zips
 pub mod Renames
 pub mod Pointers
-pub mod KeptPlaces
 pub mod RelabelledSolids
+pub mod RenamedPlaces
+pub mod KeptPlaces
 pub mod RenamedLists
 pub mod KeptSolid
 pub mod ExtractedEntries

@@ -6,22 +6,23 @@ use Rattle.brep_walk.specs.Places.{places}
 use Rattle.brep_walk.specs.SolidOf.{solid_of}
 use Rattle.solid_data.specs.declared.verdict.Verdict.TheVariants.{Closed, Fails}
 use Rattle.edge_uses.specs.ShellObligations.{solid_obligations}
-use Rattle.cert_maker.specs.Closed.{obligations}
-use Rattle.cert_maker.proofs.Sound.{closed_is_all_hold_of_file}
+use Rattle.solid_check.specs.Closed.{obligations}
+use Rattle.solid_check.proofs.Sound.{closed_is_all_hold_of_file}
 use Rattle.solid_extract.specs.Extracted.{new_number, IsExtracted}
 use Rattle.extraction_laws.specs.Alike.{FailAlike}
-use Rattle.extraction_laws.specs.Kept.{IsNewNumber, KeepsVerdict}
+use Rattle.extraction_laws.specs.Kept.{kept_names, KeepsVerdict}
+use Rattle.extraction_laws.specs.Relabelled.{AreNamedAlike}
 use Rattle.extraction_laws.specs.KeptVerdict.{VerdictIsKept, NoOtherVerdict, ClosedIsKept}
 use Rattle.extraction_laws.proofs.AlikeLists.{append_alike}
 use Rattle.extraction_laws.proofs.RelabelledSolids.{solids_alike}
 use Rattle.extraction_laws.proofs.ExtractedSolid.{places_alike, solid_told}
 use Rattle.extraction_laws.proofs.KeptVerdicts.{keeps_verdict}
 
-obligations_alike : (f q : Contents) (n : ℕ) (x : IsExtracted f n q) → FailAlike (IsNewNumber x.kept) (obligations f n) (obligations q (new_number x.kept n))
+obligations_alike : (f q : Contents) (n : ℕ) (x : IsExtracted f n q) → FailAlike (AreNamedAlike (kept_names x.kept)) (obligations f n) (obligations q (new_number x.kept n))
 unfolding obligations
 obligations_alike f q n x =
-    append_alike (IsNewNumber x.kept) (places f n) (solid_obligations (solid_of f n)) (places q (new_number x.kept n)) (solid_obligations (solid_of q (new_number x.kept n))) (places_alike f q n x)
-    (λ all. solids_alike (IsNewNumber x.kept) (solid_of f n) (solid_of q (new_number x.kept n)) (solid_told f q n x all))
+    append_alike (AreNamedAlike (kept_names x.kept)) (places f n) (solid_obligations (solid_of f n)) (places q (new_number x.kept n)) (solid_obligations (solid_of q (new_number x.kept n))) (places_alike f q n x)
+    (λ all. solids_alike (kept_names x.kept) (solid_of f n) (solid_of q (new_number x.kept n)) (solid_told f q n x all))
 
 obligations_kept : (f q : Contents) (n : ℕ) (x : IsExtracted f n q) → KeepsVerdict x.kept (obligations f n) (obligations q (new_number x.kept n))
 obligations_kept f q n x = keeps_verdict x.kept (obligations f n) (obligations q (new_number x.kept n)) (obligations_alike f q n x)

@@ -7,11 +7,15 @@ use Rattle.solid_data.specs.Obligations.{Obligation, AllHold, FirstFalse}
 use Rattle.solid_data.specs.declared.verdict.Failing.{Failing}
 use Rattle.solid_extract.specs.Extracted.{new_number, IsExtracted}
 use Rattle.extraction_laws.specs.Alike.{FailAlike}
-use Rattle.extraction_laws.specs.Relabelled.{IsRelabelled}
+use Rattle.extraction_laws.specs.Relabelled.{Names, renumbered, IsRelabelled, AreNamedAlike}
 
 -- the entry is kept, and this is its new number
 abbrev pub IsNewNumber : List ℕ → ℕ → ℕ → Type 0
 IsNewNumber kept m k = Contains kept m × (k ≡ new_number kept m)
+
+-- entities and lists have their new numbers, and indices stay
+abbrev pub kept_names : List ℕ → Names
+kept_names kept = renumbered (IsNewNumber kept)
 
 -- the same, said of the entity by its new number
 abbrev pub renamed_failing : List ℕ → Failing → Failing
@@ -25,7 +29,7 @@ pub record KeepsVerdict (kept : List ℕ) (ps qs : List Obligation) : Type 0 whe
 
 -- Item by item the places of the extracted solid are those that it had.
 abbrev pub PlacesAreAlike : Type 0
-PlacesAreAlike = (f new : Contents) (n : ℕ) (x : IsExtracted f n new) → FailAlike (IsNewNumber x.kept) (places f n) (places new (new_number x.kept n))
+PlacesAreAlike = (f new : Contents) (n : ℕ) (x : IsExtracted f n new) → FailAlike (AreNamedAlike (kept_names x.kept)) (places f n) (places new (new_number x.kept n))
 
 -- So they have its first false one.
 abbrev pub PlacesAreKept : Type 0
@@ -33,4 +37,4 @@ PlacesAreKept = (f new : Contents) (n : ℕ) (x : IsExtracted f n new) → Keeps
 
 -- Where the places hold, the extracted file tells the solid that its file told, with each number renamed.
 abbrev pub SolidIsKept : Type 0
-SolidIsKept = (f new : Contents) (n : ℕ) (x : IsExtracted f n new) → AllHold (places f n) → IsRelabelled (IsNewNumber x.kept) (solid_of f n) (solid_of new (new_number x.kept n))
+SolidIsKept = (f new : Contents) (n : ℕ) (x : IsExtracted f n new) → AllHold (places f n) → IsRelabelled (kept_names x.kept) (solid_of f n) (solid_of new (new_number x.kept n))

@@ -1,19 +1,17 @@
 //! Laws of extracted solids.
 
-ghost use Rattle.std.specs.Prelude.{ℕ};
-ghost use Rattle.solid_data.specs.SolidData.{SolidData};
-ghost use Rattle.edge_uses.specs.ShellObligations.{solid_obligations};
-ghost use Rattle.extraction_laws.specs.Alike.{FailAlike, HaveOneVerdict};
 ghost use Rattle.extraction_laws.specs.Kept.{PlacesAreAlike, PlacesAreKept, SolidIsKept};
 ghost use Rattle.extraction_laws.specs.KeptVerdict.{VerdictIsKept, NoOtherVerdict, ClosedIsKept};
-ghost use Rattle.extraction_laws.specs.Relabelled.{IsImage, IsRelabelled};
+ghost use Rattle.extraction_laws.specs.Renamed.{RenamedFailAlike, RenamedKeepsVerdict, RenamedTellsPlace};
 ghost use Rattle.extraction_laws.specs.Written.{ExtractedIsWritable, WrittenAgain, WrittenIsExtracted, WrittenKeepsVerdict};
 
-/// Solids that differ only in directory numbers fail the rules of a closed shell at the same loops, edges, faces and
-/// vertices. (own)
+/// Solids that differ only in the names of entities, edges and vertices, list and index, fail the rules of a closed
+/// shell at the same loops, edges, faces and vertices: the rules read names only to tell what fails. Where no two names
+/// become one, the new name of what fails tells the old one. (own)
 pub fn relabelled_solids_fail_alike()
-    ensures items { (g : ℕ → ℕ) (s t : SolidData) → IsRelabelled (IsImage g) s t → FailAlike (IsImage g) (solid_obligations s) (solid_obligations t) }
-    ensures verdict { (g : ℕ → ℕ) (s t : SolidData) → IsRelabelled (IsImage g) s t → HaveOneVerdict (IsImage g) (solid_obligations s) (solid_obligations t) }
+    ensures items { RenamedFailAlike }
+    ensures verdict { RenamedKeepsVerdict }
+    ensures place { RenamedTellsPlace }
 {}
 
 /// The places of a solid in its extracted file are those that it had, with entities renamed, up to the first false one.

@@ -31,6 +31,3 @@ pub use lists::{FlagList, NumberList, Orientation};
 pub use orienting::orient;
 pub use reading::orient_line;
 pub use writing::write_orient_line;
-
-#[cfg(test)]
-mod tests;

@@ -18,6 +18,3 @@ pub use file::File;
 pub use global::Global26;
 pub use law::every_text_has_one_reading;
 pub use reading::{read_file, read_sections, take_sections};
-
-#[cfg(test)]
-mod tests;

@@ -71,7 +71,7 @@ opened_bad a b c came count old new x bad s k is few failed stands =
     }
 
 -- what came of a piece in the buffer, up to a place and behind it
-cut_piece : (buffer x : List ℕ) (from to : ℕ) → from ≤ to → x ≡ take to buffer → take from x ++ take (to - from) (drop from buffer) ≡ x
+pub cut_piece : (buffer x : List ℕ) (from to : ℕ) → from ≤ to → x ≡ take to buffer → take from x ++ take (to - from) (drop from buffer) ≡ x
 cut_piece buffer x from to h is =
     let n : from + (to - from) ≡ to = omega arith in
     let front : take from x ≡ take from buffer = ap (λ (l : List ℕ). take from l) is ∙ take-take from to buffer h in

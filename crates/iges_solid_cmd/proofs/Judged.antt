@@ -1,7 +1,8 @@
 -- A certificate that is judged while it comes.
-use Rattle.std.proofs.Common.{◌≡◌, ℕ, ◌+◌, ◌-◌, ◌≤◌, ◌<◌, take, drop, List, [], ◌++◌, length, Option, Result, Ok, Err, refl, sym, ap, subst, ◌∙◌, arith, inl, inr, append_assoc}
+use Rattle.std.proofs.Common.{◌≡◌, ℕ, ◌+◌, ◌-◌, ◌≤◌, ◌<◌, take, drop, List, [], ◌∷◌, ◌++◌, length, Option, Result, Ok, Err, refl, sym, ap, subst, ◌∙◌, arith, inl, inr, append_assoc}
 use Rattle.std.specs.Prelude.{MatchResult}
 use Rattle.std.proofs.lemmas.List.{append-nil, length-append, length-take}
+use Rattle.std.proofs.lemmas.Grind.{flat_map-append}
 use Rattle.std.specs.Io.KnownBytes.{Consumes, IsAtEnd}
 use Rattle.iges_io.proofs.Streams.{consumes_none, consumes_more, told_all, told_more}
 use Rattle.iges_params.specs.Contents.{Contents}
@@ -11,6 +12,7 @@ use Rattle.cert_lines.specs.Line.{cut_lines}
 use Rattle.cert_lines.specs.Opening.{Opens, IsBadOpening}
 use Rattle.cert_lines.specs.declared.fault.Illegal.{Illegal}
 use Rattle.cert_lines.specs.declared.version.Version.{Version}
+use Rattle.cert_lines.specs.declared.version.Version.TheVariants.{Three}
 use Rattle.topo_certificate.specs.declared.TheConstants.{CERT_LIMIT}
 use Rattle.topo_certificate.specs.Legal.{IsLegal, IsFirstBad}
 use Rattle.topo_certificate.specs.Feeding.{FedKept, IsFed}
@@ -18,15 +20,25 @@ use Rattle.iges_solid_cmd.specs.declared.answer.Answer.TheVariants.{Done, No, To
 use Rattle.iges_solid_cmd.specs.declared.reply.Reply.{Reply}
 use Rattle.iges_solid_cmd.specs.declared.judging.Judging.{Judging}
 use Rattle.iges_solid_cmd.specs.declared.opening.Opened.{Opened}
-use Rattle.iges_solid_cmd.specs.Texts.{accepted_line, illegal_line}
-use Rattle.iges_solid_cmd.specs.Due.{Owed, Exactly, OfCertificate, OfVerify, OfVersion}
+use Rattle.iges_solid_cmd.specs.Texts.{accepted_line, accepted_lines, fail_line, illegal_line}
+use Rattle.iges_solid_cmd.specs.declared.books.Begun.{Begun}
+use Rattle.iges_solid_cmd.specs.Due.{Owed, Exactly, OfCertificate, OfVerify}
 use Rattle.iges_solid_cmd.specs.Replies.{IsReply}
-use Rattle.iges_solid_cmd.specs.Yes.{NamesOne}
-use Rattle.iges_solid_cmd.specs.Judging.{IsChecked, RefusesAll, HasChecked, IsJudged, IsRestJudged, HasTooMany, HasOpened, HasOpenedBadly, EndsEarly}
-use Rattle.iges_solid_cmd.proofs.VerifyAnswers.{owed_anyway, legal_owed, bad_owed}
+use Rattle.iges_solid_cmd.specs.Books.{HasBegun}
+use Rattle.iges_solid_cmd.specs.Judging.{IsChecked, IsOfOne, TellsFalse, HasChecked, IsJudged, IsRestJudged, HasTooMany, HasOpened, HasOpenedBadly, EndsEarly}
+use Rattle.iges_solid_cmd.proofs.BookParts.{book_begins}
+use Rattle.iges_solid_cmd.proofs.BookReads.{between_long}
+use Rattle.iges_solid_cmd.proofs.VerifyAnswers.{bad_owed, false_owed, legal_owed}
 
-abbrev pub OfYes : ℕ → Owed
-OfYes n = Exactly Done (accepted_line n)
+abbrev pub OfYes : List ℕ → Owed
+OfYes ns = Exactly Done (accepted_lines ns)
+
+-- the line of one solid
+pub one_accepted : (n : ℕ) → accepted_lines (n ∷ []) ≡ accepted_line n
+one_accepted n = append-nil (accepted_line n)
+
+pub accepted_more : (ns : List ℕ) (n : ℕ) → accepted_lines (ns ++ n ∷ []) ≡ accepted_lines ns ++ accepted_line n
+accepted_more ns n = flat_map-append accepted_line ns (n ∷ []) ∙ ap (λ (t : List ℕ). accepted_lines ns ++ t) (one_accepted n)
 
 -- ---- more of the text
 
@@ -60,22 +72,18 @@ decided_reply f text reply owed few =
 abbrev pub Says : FedKept → Result (Unit {0}) Illegal → Type 0
 Says c r = (v : Version) (s : SolidData) (first : ℕ) (text : List ℕ) → IsFed v s first text c → MatchResult r (λ _. IsLegal v s (cut_lines text)) (λ bad. IsFirstBad v s first (cut_lines text) bad)
 
--- of a certificate whose first two lines are good
-pub opened_owed : (OfAccepted : ℕ → Owed) (f : Contents) (c : List ℕ) (v : Version) (n : ℕ) (lines : List (List ℕ)) (reply : Reply) → length c ≤ CERT_LIMIT → Opens c v n lines → OfVersion (OfAccepted n) v n lines f reply.answer reply.text → OfCertificate OfAccepted c f reply.answer reply.text
-opened_owed OfAccepted f c v n lines reply few opens owed = inr (inr (few, v, n, lines, opens, owed))
-
 checked_opens : (f : Contents) (n : ℕ) (text : List ℕ) (c : FedKept) (h : HasChecked f n text c) → Opens text h.version n (cut_lines h.rest)
 checked_opens f n text c h = subst (λ (t : List ℕ). Opens t h.version n (cut_lines h.rest)) (sym h.whole) (h.opens h.rest)
 
 pub accepted_reply : (f : Contents) (n : ℕ) (text : List ℕ) (c : FedKept) (reply : Reply) → ((v : Version) (t : List ℕ) → IsFed v (solid_of f n) 3 t c → IsLegal v (solid_of f n) (cut_lines t)) → (reply.answer ≡ Done) × (reply.text ≡ accepted_line n) → HasChecked f n text c → length text ≤ CERT_LIMIT
     → OfVerify text f reply.answer reply.text
 accepted_reply f n text c reply legal exact h few =
-    opened_owed OfYes f text h.version n (cut_lines h.rest) reply few (checked_opens f n text c h) (legal_owed (OfYes n) f h.version n (cut_lines h.rest) reply.answer reply.text h.one h.holds (legal h.version h.rest h.fed) exact)
+    legal_owed OfYes f text h.version n (cut_lines h.rest) reply.answer reply.text few (checked_opens f n text c h) h.one h.holds (legal h.version h.rest h.fed) (exact.0, exact.1 ∙ sym (one_accepted n))
 
 pub illegal_reply : (f : Contents) (n : ℕ) (text : List ℕ) (c : FedKept) (bad : Illegal) (reply : Reply) → ((v : Version) (t : List ℕ) → IsFed v (solid_of f n) 3 t c → IsFirstBad v (solid_of f n) 3 (cut_lines t) bad) → (reply.answer ≡ No) × (reply.text ≡ illegal_line bad) → HasChecked f n text c
     → length text ≤ CERT_LIMIT → OfVerify text f reply.answer reply.text
 illegal_reply f n text c bad reply first exact h few =
-    opened_owed OfYes f text h.version n (cut_lines h.rest) reply few (checked_opens f n text c h) (bad_owed (OfYes n) f h.version n (cut_lines h.rest) reply.answer reply.text h.one h.holds bad (first h.version h.rest h.fed) exact)
+    bad_owed OfYes f text h.version n (cut_lines h.rest) reply.answer reply.text few (checked_opens f n text c h) h.one h.holds bad (first h.version h.rest h.fed) exact
 
 -- ---- reading the rest
 
@@ -124,7 +132,7 @@ judged_too_many a b c came so_far old new x s k above =
 -- ---- the reply behind a part that was read
 
 -- the certificate is too large
-pub too_large_owed : (OfAccepted : ℕ → Owed) (f : Contents) (a : Option (List ℕ)) (bytes : List ℕ) (c : Option (List ℕ)) (reply : Reply) → Consumes a c bytes → CERT_LIMIT < length bytes → (reply.answer ≡ TooLarge) × (reply.text ≡ []) → IsReply (λ certificate. OfCertificate OfAccepted certificate f) a reply
+pub too_large_owed : (OfAccepted : List ℕ → Owed) (f : Contents) (a : Option (List ℕ)) (bytes : List ℕ) (c : Option (List ℕ)) (reply : Reply) → Consumes a c bytes → CERT_LIMIT < length bytes → (reply.answer ≡ TooLarge) × (reply.text ≡ []) → IsReply (λ certificate. OfCertificate OfAccepted certificate f) a reply
 too_large_owed OfAccepted f a bytes c reply k above exact =
     let t = told_more a c bytes k in
     record { bytes = t.0; told = t.1; owed = inl (omega (arith, above, t.2), exact) }
@@ -152,18 +160,17 @@ bad_opening_judged f text bad reply always exact more few = inr (inl (few, bad, 
 pub early_owed : (f : Contents) (a b : Option (List ℕ)) (bad : Illegal) (reply : Reply) → EndsEarly a b bad → (reply.answer ≡ No) × (reply.text ≡ illegal_line bad) → IsReply (λ certificate. OfVerify certificate f) a reply
 early_owed f a b bad reply h exact = record { bytes = h.bytes; told = told_all a b h.bytes h.taken h.ended; owed = inr (inl (h.few, bad, h.wrong, exact)) }
 
-pub refused_judged : (f : Contents) (a b : Option (List ℕ)) (buffer : List ℕ) (o : Opened) (reply : Reply) (h : HasOpened a b buffer o) → RefusesAll f o.version o.no.0 reply
+pub refused_judged : (f : Contents) (a b : Option (List ℕ)) (buffer : List ℕ) (o : Opened) (reply : Reply) (h : HasOpened a b buffer o) → IsOfOne o.version → TellsFalse fail_line f o.no.0 reply
     → (more : List ℕ) → length ((h.front ++ h.rest) ++ more) ≤ CERT_LIMIT → OfVerify ((h.front ++ h.rest) ++ more) f reply.answer reply.text
-refused_judged f a b buffer o reply h refuses more few =
+refused_judged f a b buffer o reply h one (x, first, exact) more few =
     let same = append_assoc h.front h.rest more in
     subst (λ (c : List ℕ). OfVerify c f reply.answer reply.text) (sym same)
-    (opened_owed OfYes f (h.front ++ (h.rest ++ more)) o.version o.no.0 (cut_lines (h.rest ++ more)) reply (subst (λ (c : List ℕ). length c ≤ CERT_LIMIT) same few) (h.opens (h.rest ++ more))
-    (owed_anyway (OfYes o.no.0) o.version o.no.0 (cut_lines (h.rest ++ more)) f reply.answer reply.text (refuses (cut_lines (h.rest ++ more)))))
+    (false_owed OfYes f (h.front ++ (h.rest ++ more)) o.version o.no.0 (cut_lines (h.rest ++ more)) reply.answer reply.text (subst (λ (c : List ℕ). length c ≤ CERT_LIMIT) same few) (h.opens (h.rest ++ more)) one x first exact)
 
-pub lines_judged : (f : Contents) (a b : Option (List ℕ)) (buffer : List ℕ) (o : Opened) (c : FedKept) (h : HasOpened a b buffer o) → (s : SolidData) → IsChecked f o.version o.no.0 s → IsFed o.version s 3 h.rest c → HasChecked f o.no.0 (h.front ++ h.rest) c
-lines_judged f a b buffer o c h s k fed = record {
+pub lines_judged : (f : Contents) (a b : Option (List ℕ)) (buffer : List ℕ) (o : Opened) (c : FedKept) (h : HasOpened a b buffer o) → IsOfOne o.version → (s : SolidData) → IsChecked f o.no.0 s → IsFed o.version s 3 h.rest c → HasChecked f o.no.0 (h.front ++ h.rest) c
+lines_judged f a b buffer o c h one s k fed = record {
   version = o.version;
-  one = k.one;
+  one = one;
   holds = k.holds;
   front = h.front;
   rest = h.rest;
@@ -171,3 +178,23 @@ lines_judged f a b buffer o c h s k fed = record {
   opens = h.opens;
   fed = subst (λ (x : SolidData). IsFed o.version x 3 h.rest c) k.solid fed;
 }
+
+-- the first part of a book has begun
+pub opened_begun : (f : Contents) (a b : Option (List ℕ)) (buffer : List ℕ) (o : Opened) (begun : Begun) → HasOpened a b buffer o → o.version ≡ Three → begun ≡ (record { no = o.no; line = 3; from = o.from; to = o.to; came = o.came }) → HasBegun f [] a b buffer begun
+opened_begun f a b buffer o begun h three is =
+    let whole = ap (λ (l : List ℕ). h.front ++ l) h.behind in
+    subst (HasBegun f [] a b buffer) (sym is) (record {
+      front = h.front;
+      taken = subst (Consumes a b) whole h.taken;
+      long = ap (λ (l : List ℕ). length l) (sym whole) ∙ h.long;
+      begins = book_begins f h.front o.no.0 (subst (λ (v : Version). (more : List ℕ) → Opens (h.front ++ more) v o.no.0 (cut_lines more)) three h.opens);
+    })
+
+-- the bytes behind line 2 have come
+pub opened_holds : (a b : Option (List ℕ)) (buffer : List ℕ) (o : Opened) → HasOpened a b buffer o → o.to - o.from ≤ o.came
+opened_holds a b buffer o h =
+    let long = h.long in
+    let ordered = h.ordered in
+    let within = h.within in
+    let rest = ap (λ (l : List ℕ). length l) h.behind ∙ between_long buffer o.from o.to ordered within in
+    omega (arith, long, rest, length-append h.front h.rest)

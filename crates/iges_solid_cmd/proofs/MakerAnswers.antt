@@ -1,5 +1,5 @@
 -- What is owed of certifying a solid, by what the walk and the maker answer.
-use Rattle.std.proofs.Common.{◌≡◌, inl, inr, ℕ, List, [], ◌∷◌, subst}
+use Rattle.std.proofs.Common.{◌≡◌, inl, inr, ℕ, List, subst}
 use Rattle.solid_data.specs.Obligations.{AllHold, FirstFalse}
 use Rattle.solid_data.specs.SolidData.{SolidData}
 use Rattle.solid_data.specs.declared.verdict.Failing.{Failing}
@@ -8,9 +8,8 @@ use Rattle.edge_uses.specs.ShellObligations.{solid_obligations}
 use Rattle.brep_walk.specs.Places.{places}
 use Rattle.brep_walk.specs.SolidOf.{solid_of}
 use Rattle.iges_params.specs.Contents.{Contents}
-use Rattle.cert_maker.specs.Closed.{obligations}
-use Rattle.cert_lines.specs.declared.version.Version.TheVariants.{Two}
-use Rattle.cert_maker.specs.Accepted.{IsAccepted}
+use Rattle.solid_check.specs.Closed.{obligations}
+use Rattle.cert_maker.specs.Laws.{IsCertificateText}
 use Rattle.iges_solid_cmd.specs.declared.answer.Answer.{Answer}
 use Rattle.iges_solid_cmd.specs.declared.answer.Answer.TheVariants.{Done, No}
 use Rattle.iges_solid_cmd.specs.Texts.{fail_line}
@@ -29,7 +28,7 @@ module _ (f : Contents) (n : ℕ) (a : Answer) (t : List ℕ) where
       inl (x, FirstFalse-append_rest (places f n) (solid_obligations (solid_of f n)) x placed (subst (λ (d : SolidData). FirstFalse (solid_obligations d) x) is first), exact)
 
   -- a certificate was made
-  pub certified : (s : SolidData) → AllHold (places f n) → s ≡ solid_of f n → AllHold (solid_obligations s) → a ≡ Done → IsAccepted f t Two (n ∷ []) → OfCertify n f a t
+  pub certified : (s : SolidData) → AllHold (places f n) → s ≡ solid_of f n → AllHold (solid_obligations s) → a ≡ Done → IsCertificateText f n t → OfCertify n f a t
   unfolding obligations
-  certified s placed is closed done accepted =
-      inr (AllHold-append (places f n) (solid_obligations (solid_of f n)) placed (subst (λ (d : SolidData). AllHold (solid_obligations d)) is closed), done, accepted)
+  certified s placed is closed done made =
+      inr (AllHold-append (places f n) (solid_obligations (solid_of f n)) placed (subst (λ (d : SolidData). AllHold (solid_obligations d)) is closed), made, done)

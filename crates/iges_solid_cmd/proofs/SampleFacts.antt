@@ -19,7 +19,9 @@ use Rattle.topo_certificate.specs.Legal.{IsFirstBad}
 use Rattle.topo_certificate.proofs.LegalLemmas.{legal_has_no_bad_lem}
 use Rattle.cert_lines.specs.declared.version.Version.{Version}
 use Rattle.cert_lines.specs.declared.version.Version.TheVariants.{Two}
-use Rattle.cert_maker.specs.Accepted.{IsAccepted}
+use Rattle.solid_check.specs.Accepted.{IsAccepted}
+use Rattle.cert_maker.specs.Laws.{IsCertificateText}
+use Rattle.cert_maker.proofs.OneText.{text_accepted}
 use Rattle.iges_write.specs.Text.{IsText}
 use Rattle.sample_solids.specs.Laws.{IsClosedMesh, faces_in}
 use Rattle.sample_solids.specs.Sample.{sample}
@@ -44,20 +46,24 @@ module _ (n : ℕ) (size : IsSize n) where
       let d = solid_of (sample n) 1 in
       FirstFalse-not_all (solid_obligations d) x (subst (λ (e : SolidData). FirstFalse (solid_obligations e) x) is first) ((closed_is_all_hold d).0 mesh.closed.closed)
 
-  -- the certificate that was made is accepted
-  pub made_accepted : (s : SolidData) (text made : List ℕ) → s ≡ solid_of (sample n) 1 → text ≡ made → ((f : Contents) (k : ℕ) → AllHold (places f k) → s ≡ solid_of f k → IsAccepted f made Two (k ∷ [])) → IsAccepted (sample n) text Two (1 ∷ [])
-  made_accepted s text made is same accepted = subst (λ (c : List ℕ). IsAccepted (sample n) c Two (1 ∷ [])) (sym same) (accepted (sample n) 1 mesh.closed.placed is)
+  -- the text that was made is that of its certificate
+  pub made_text : (s : SolidData) (text made : List ℕ) → s ≡ solid_of (sample n) 1 → text ≡ made → ((f : Contents) (k : ℕ) → s ≡ solid_of f k → IsCertificateText f k made) → IsCertificateText (sample n) 1 text
+  made_text s text made is same of_file = subst (IsCertificateText (sample n) 1) (sym same) (of_file (sample n) 1 is)
+
+  -- and is accepted
+  pub made_accepted : (text : List ℕ) → IsCertificateText (sample n) 1 text → IsAccepted (sample n) text Two (1 ∷ [])
+  made_accepted text made = text_accepted (sample n) 1 text mesh.closed.placed made
 
   -- the line tells the counts of n times n squares
-  pub sample_told : (s : SolidData) (text certificate t : List ℕ) (a : Answer) → s ≡ solid_of (sample n) 1 → IsText (sample n) text → IsAccepted (sample n) certificate Two (1 ∷ []) → a ≡ Done
+  pub sample_told : (s : SolidData) (text certificate t : List ℕ) (a : Answer) → s ≡ solid_of (sample n) 1 → IsText (sample n) text → IsCertificateText (sample n) 1 certificate → a ≡ Done
       → t ≡ sample_line n (length (faces_in s.shells)) (length s.edges) (length s.vertices) (length text) (length certificate) → OfSample n a t
-  sample_told s text certificate t a is canonical accepted done told =
+  sample_told s text certificate t a is canonical made done told =
       let counts : sample_line n (length (faces_in s.shells)) (length s.edges) (length s.vertices) (length text) (length certificate) ≡ sample_line n (n * n) (2 * n * n) (n * n) (length text) (length certificate) =
       ap (λ (d : SolidData). sample_line n (length (faces_in d.shells)) (length d.edges) (length d.vertices) (length text) (length certificate)) is
       ∙ ap (λ k. sample_line n k (length (solid_of (sample n) 1).edges) (length (solid_of (sample n) 1).vertices) (length text) (length certificate)) mesh.faces
       ∙ ap (λ k. sample_line n (n * n) k (length (solid_of (sample n) 1).vertices) (length text) (length certificate)) mesh.edges
       ∙ ap (λ k. sample_line n (n * n) (2 * n * n) k (length text) (length certificate)) mesh.vertices in
-      (text, certificate, canonical, accepted, (done, told ∙ counts))
+      (text, certificate, canonical, made, (done, told ∙ counts))
 
 -- an accepted certificate opens
 pub opens_well : (f : Contents) (k : ℕ) (certificate : List ℕ) (bad : Illegal) → IsAccepted f certificate Two (k ∷ []) → IsBadOpening certificate bad → ⊥

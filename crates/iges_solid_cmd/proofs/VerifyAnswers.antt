@@ -1,87 +1,57 @@
--- What is owed of a certificate, by what the walk, the checks on the shells and the checker answer.
-use Rattle.std.proofs.Common.{◌≡◌, inl, inr, ℕ, List, refl, sym, subst, ◌∙◌}
+-- What is owed of a certificate of one solid, by what is checked of this and what the checker answers.
+use Rattle.std.proofs.Common.{◌≡◌, ◌≤◌, ◌∙◌, inl, inr, ℕ, List, [], ◌∷◌, length, sym, subst}
 use Rattle.solid_data.specs.Obligations.{AllHold, FirstFalse}
 use Rattle.solid_data.specs.SolidData.{SolidData}
 use Rattle.solid_data.specs.declared.verdict.Failing.{Failing}
-use Rattle.solid_data.proofs.ObligationLemmas.{AllHold-append, FirstFalse-append_front, FirstFalse-append_rest}
-use Rattle.edge_uses.specs.ShellObligations.{checked_obligations}
-use Rattle.brep_walk.specs.Places.{places}
 use Rattle.brep_walk.specs.SolidOf.{solid_of}
 use Rattle.iges_params.specs.Contents.{Contents}
+use Rattle.cert_lines.specs.Opening.{Opens}
 use Rattle.cert_lines.specs.declared.fault.Illegal.{Illegal}
-use Rattle.cert_lines.specs.declared.fault.Illegal.TheVariants.{Misspelt}
 use Rattle.cert_lines.specs.declared.version.Version.{Version}
 use Rattle.cert_lines.specs.declared.version.Version.TheVariants.{One, Two, Three}
+use Rattle.topo_certificate.specs.declared.TheConstants.{CERT_LIMIT}
 use Rattle.topo_certificate.specs.Legal.{IsLegal, IsFirstBad}
-use Rattle.cert_maker.specs.Checked.{checked}
+use Rattle.topo_certificate.specs.Upgraded.{upgraded}
+use Rattle.solid_check.specs.Checked.{checked}
 use Rattle.iges_solid_cmd.specs.declared.answer.Answer.{Answer}
 use Rattle.iges_solid_cmd.specs.declared.answer.Answer.TheVariants.{No}
 use Rattle.iges_solid_cmd.specs.declared.reply.Reply.{Reply}
 use Rattle.iges_solid_cmd.specs.Texts.{fail_line, illegal_line}
-use Rattle.topo_certificate.specs.Upgraded.{upgraded}
-use Rattle.iges_solid_cmd.specs.Due.{Owed, OfLines, OfText, OfVersion}
-use Rattle.iges_solid_cmd.specs.Yes.{NamesOne}
-use Rattle.iges_solid_cmd.specs.Judging.{Nothing, IsChecked, RefusesAll}
+use Rattle.iges_solid_cmd.specs.Due.{Owed, OfCertificate, OfLines, OfText, OfUpgrade, OfVersion, upgraded_for}
+use Rattle.iges_solid_cmd.specs.Judging.{IsChecked, IsOfOne, TellsFalse}
 
 -- what is owed of the lines is owed of the version
-pub by_lines : (OfAccepted : Owed) (v : Version) (n : ℕ) (lines : List (List ℕ)) (f : Contents) (a : Answer) (t : List ℕ) → NamesOne v → OfLines OfAccepted v n lines f a t → OfVersion OfAccepted v n lines f a t
-by_lines OfAccepted One n lines f a t one owed = owed
-by_lines OfAccepted Two n lines f a t one owed = owed
-by_lines OfAccepted Three n lines f a t one owed = absurd one
+pub by_lines : (OfAccepted : List ℕ → Owed) (c : List ℕ) (v : Version) (n : ℕ) (lines : List (List ℕ)) (f : Contents) (a : Answer) (t : List ℕ) → IsOfOne v → OfLines (OfAccepted (n ∷ [])) v n lines f a t → OfVersion OfAccepted c v n lines f a t
+by_lines OfAccepted c One n lines f a t one owed = owed
+by_lines OfAccepted c Two n lines f a t one owed = owed
+by_lines OfAccepted c Three n lines f a t one owed = absurd one
 
-nothing_lines : (OfAccepted : Owed) (v : Version) (n : ℕ) (lines : List (List ℕ)) (f : Contents) (a : Answer) (t : List ℕ) → OfLines Nothing v n lines f a t → OfLines OfAccepted v n lines f a t
-nothing_lines OfAccepted v n lines f a t (inl p) = inl p
-nothing_lines OfAccepted v n lines f a t (inr (inl p)) = inr (inl p)
-nothing_lines OfAccepted v n lines f a t (inr (inr p)) = absurd p.2
+module _ (OfAccepted : List ℕ → Owed) (f : Contents) (c : List ℕ) (v : Version) (n : ℕ) (lines : List (List ℕ)) (a : Answer) (t : List ℕ) (few : length c ≤ CERT_LIMIT) (opens : Opens c v n lines) (one : IsOfOne v) where
+  -- what is checked of the solid fails
+  pub false_owed : (x : Failing) → FirstFalse (checked f n) x → (a ≡ No) × (t ≡ fail_line x) → OfCertificate OfAccepted c f a t
+  false_owed x first exact = inr (inr (few, v, n, lines, opens, by_lines OfAccepted c v n lines f a t one (inl (x, first, exact))))
 
--- what is owed where nothing is owed of an accepted certificate is owed anyway
-pub owed_anyway : (OfAccepted : Owed) (v : Version) (n : ℕ) (lines : List (List ℕ)) (f : Contents) (a : Answer) (t : List ℕ) → OfVersion Nothing v n lines f a t → OfVersion OfAccepted v n lines f a t
-owed_anyway OfAccepted One n lines f a t owed = nothing_lines OfAccepted One n lines f a t owed
-owed_anyway OfAccepted Two n lines f a t owed = nothing_lines OfAccepted Two n lines f a t owed
-owed_anyway OfAccepted Three n lines f a t owed = owed
-
-module _ (f : Contents) (v : Version) (n : ℕ) (reply : Reply) where
-  -- a certificate of version 3 isn't taken
-  pub refuses_version : v ≡ Three → (reply.answer ≡ No) × (reply.text ≡ illegal_line (Misspelt 1)) → RefusesAll f v n reply
-  refuses_version three exact = λ lines. subst (λ (w : Version). OfVersion Nothing w n lines f reply.answer reply.text) (sym three) exact
-
-  -- a place is false
-  pub refuses_place : NamesOne v → (x : Failing) → FirstFalse (places f n) x → (reply.answer ≡ No) × (reply.text ≡ fail_line x) → RefusesAll f v n reply
-  unfolding checked
-  refuses_place one x first exact = λ lines. by_lines Nothing v n lines f reply.answer reply.text one (inl (x, FirstFalse-append_front (places f n) (checked_obligations (solid_of f n)) x first, exact))
-
-  -- a loop doesn't join, or shells share a vertex
-  pub refuses_shells : NamesOne v → (s : SolidData) → AllHold (places f n) → s ≡ solid_of f n → (x : Failing) → FirstFalse (checked_obligations s) x → (reply.answer ≡ No) × (reply.text ≡ fail_line x) → RefusesAll f v n reply
-  unfolding checked
-  refuses_shells one s placed is x first exact = λ lines. by_lines Nothing v n lines f reply.answer reply.text one
-      (inl (x, FirstFalse-append_rest (places f n) (checked_obligations (solid_of f n)) x placed (subst (λ (d : SolidData). FirstFalse (checked_obligations d) x) is first), exact))
-
-pub is_checked : (f : Contents) (v : Version) (n : ℕ) (s : SolidData) → NamesOne v → AllHold (places f n) → s ≡ solid_of f n → AllHold (checked_obligations s) → IsChecked f v n s
-unfolding checked
-is_checked f v n s one placed is hold = record {
-  one = one;
-  solid = is;
-  holds = AllHold-append (places f n) (checked_obligations (solid_of f n)) placed (subst (λ (d : SolidData). AllHold (checked_obligations d)) is hold);
-}
-
-module _ (OfAccepted : Owed) (f : Contents) (v : Version) (n : ℕ) (lines : List (List ℕ)) (a : Answer) (t : List ℕ) where
   -- the lines are legal for the solid
-  pub legal_owed : NamesOne v → AllHold (checked f n) → IsLegal v (solid_of f n) lines → OfAccepted a t → OfVersion OfAccepted v n lines f a t
-  legal_owed one holds legal owed = by_lines OfAccepted v n lines f a t one (inr (inr (holds, legal, owed)))
+  pub legal_owed : AllHold (checked f n) → IsLegal v (solid_of f n) lines → OfAccepted (n ∷ []) a t → OfCertificate OfAccepted c f a t
+  legal_owed holds legal owed = inr (inr (few, v, n, lines, opens, by_lines OfAccepted c v n lines f a t one (inr (inr (holds, legal, owed)))))
 
   -- one of them is bad
-  pub bad_owed : NamesOne v → AllHold (checked f n) → (bad : Illegal) → IsFirstBad v (solid_of f n) 3 lines bad → (a ≡ No) × (t ≡ illegal_line bad) → OfVersion OfAccepted v n lines f a t
-  bad_owed one holds bad first exact = by_lines OfAccepted v n lines f a t one (inr (inl (holds, bad, first, exact)))
+  pub bad_owed : AllHold (checked f n) → (bad : Illegal) → IsFirstBad v (solid_of f n) 3 lines bad → (a ≡ No) × (t ≡ illegal_line bad) → OfCertificate OfAccepted c f a t
+  bad_owed holds bad first exact = inr (inr (few, v, n, lines, opens, by_lines OfAccepted c v n lines f a t one (inr (inl (holds, bad, first, exact)))))
 
--- the lines are legal for a solid that is checked, and the text is upgraded for it
-pub upgraded_owed : (f : Contents) (v : Version) (n : ℕ) (certificate : List ℕ) (lines : List (List ℕ)) (s : SolidData) (reply : Reply) → IsChecked f v n s → IsLegal v s lines → OfText (upgraded s certificate) reply.answer reply.text
-    → OfVersion (OfText (upgraded (solid_of f n) certificate)) v n lines f reply.answer reply.text
-upgraded_owed f v n certificate lines s reply k legal owed =
-    legal_owed (OfText (upgraded (solid_of f n) certificate)) f v n lines reply.answer reply.text k.one k.holds (subst (λ (d : SolidData). IsLegal v d lines) k.solid legal)
-    (subst (λ (d : SolidData). OfText (upgraded d certificate) reply.answer reply.text) k.solid owed)
+module _ (f : Contents) (c : List ℕ) (v : Version) (n : ℕ) (lines : List (List ℕ)) (few : length c ≤ CERT_LIMIT) (opens : Opens c v n lines) (one : IsOfOne v) where
+  abbrev Ups : List ℕ → Owed
+  Ups ns = OfText (upgraded_for f c ns)
 
--- one of them is bad for it
-pub unfit_owed : (OfAccepted : Owed) (f : Contents) (v : Version) (n : ℕ) (lines : List (List ℕ)) (s : SolidData) (bad : Illegal) (reply : Reply) → IsChecked f v n s → IsFirstBad v s 3 lines bad → (reply.answer ≡ No) × (reply.text ≡ illegal_line bad)
-    → OfVersion OfAccepted v n lines f reply.answer reply.text
-unfit_owed OfAccepted f v n lines s bad reply k first exact =
-    bad_owed OfAccepted f v n lines reply.answer reply.text k.one k.holds bad (subst (λ (d : SolidData). IsFirstBad v d 3 lines bad) k.solid first) exact
+  pub upgrade_fails : (reply : Reply) → TellsFalse fail_line f n reply → OfUpgrade c f reply.answer reply.text
+  upgrade_fails reply (x, first, exact) = false_owed Ups f c v n lines reply.answer reply.text few opens one x first exact
+
+  -- the lines are legal for a solid that is checked, and the text is upgraded for it
+  pub upgraded_owed : (s : SolidData) (reply : Reply) → IsChecked f n s → IsLegal v s lines → OfText (upgraded s c) reply.answer reply.text → OfUpgrade c f reply.answer reply.text
+  upgraded_owed s reply k legal owed =
+      legal_owed Ups f c v n lines reply.answer reply.text few opens one k.holds (subst (λ (d : SolidData). IsLegal v d lines) k.solid legal)
+      (subst (λ (d : SolidData). OfText (upgraded d c) reply.answer reply.text) k.solid owed)
+
+  -- one of them is bad for it
+  pub unfit_owed : (s : SolidData) (bad : Illegal) (reply : Reply) → IsChecked f n s → IsFirstBad v s 3 lines bad → (reply.answer ≡ No) × (reply.text ≡ illegal_line bad) → OfUpgrade c f reply.answer reply.text
+  unfit_owed s bad reply k first exact = bad_owed Ups f c v n lines reply.answer reply.text few opens one k.holds bad (subst (λ (d : SolidData). IsFirstBad v d 3 lines bad) k.solid first) exact

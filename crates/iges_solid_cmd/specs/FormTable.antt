@@ -21,6 +21,7 @@ abbrev pub command_for : CommandKind → ℕ → Command
 command_for kind.Solids n = command.File of_file.Solids
 command_for kind.Show n = command.File (of_file.Show n)
 command_for kind.Certify n = command.File (of_file.Certify n)
+command_for kind.CertifyAll n = command.File of_file.CertifyAll
 command_for kind.Verify n = command.File of_file.Verify
 command_for kind.Upgrade n = command.File of_file.Upgrade
 command_for kind.Extract n = command.File (of_file.Extract n)

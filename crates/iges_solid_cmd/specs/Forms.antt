@@ -35,7 +35,8 @@ forms =
     record { slots = word (codes "verify") ∷ file ∷ certificate ∷ []; command = λ _. command.File of_file.Verify } ∷
     record { slots = word (codes "extract") ∷ file ∷ entry_number ∷ []; command = λ n. command.File (of_file.Extract n) } ∷
     record { slots = word (codes "sample") ∷ sample_number ∷ []; command = λ n. command.Sample n } ∷
-    record { slots = word (codes "upgrade") ∷ file ∷ certificate ∷ []; command = λ _. command.File of_file.Upgrade } ∷ []
+    record { slots = word (codes "upgrade") ∷ file ∷ certificate ∷ []; command = λ _. command.File of_file.Upgrade } ∷
+    record { slots = word (codes "certify") ∷ file ∷ word (codes "all") ∷ []; command = λ _. command.File of_file.CertifyAll } ∷ []
 
 -- ---- reading words
 

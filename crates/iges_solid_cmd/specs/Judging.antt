@@ -1,44 +1,47 @@
 -- What is known of a certificate while it comes.
-use Rattle.std.specs.Prelude.{◌≡◌, ℕ, ◌+◌, ◌-◌, ◌<◌, ◌≤◌, List, ◌++◌, length, take, drop, Option}
+use Rattle.std.specs.Prelude.{◌≡◌, ℕ, ◌+◌, ◌-◌, ◌<◌, ◌≤◌, List, ◌++◌, length, take, drop, Option, ⊤}
 use Rattle.std.specs.Io.KnownBytes.{Consumes, IsAtEnd}
 use Rattle.iges_params.specs.Contents.{Contents}
 use Rattle.solid_data.specs.SolidData.{SolidData}
-use Rattle.solid_data.specs.Obligations.{AllHold}
+use Rattle.solid_data.specs.Obligations.{AllHold, FirstFalse}
+use Rattle.solid_data.specs.declared.verdict.Failing.{Failing}
 use Rattle.brep_walk.specs.SolidOf.{solid_of}
 use Rattle.cert_lines.specs.Line.{cut_lines}
 use Rattle.cert_lines.specs.Opening.{Opens, IsBadOpening}
 use Rattle.cert_lines.specs.declared.version.Version.{Version}
+use Rattle.cert_lines.specs.declared.version.Version.TheVariants.{One, Two, Three}
 use Rattle.cert_lines.specs.declared.fault.Illegal.{Illegal}
 use Rattle.topo_certificate.specs.declared.TheConstants.{CERT_LIMIT}
 use Rattle.topo_certificate.specs.Feeding.{FedKept, IsFed}
-use Rattle.cert_maker.specs.Checked.{checked}
+use Rattle.solid_check.specs.Checked.{checked}
 use Rattle.iges_solid_cmd.specs.declared.reply.Reply.{Reply}
 use Rattle.iges_solid_cmd.specs.declared.judging.Judging.{Judging}
 use Rattle.iges_solid_cmd.specs.declared.judging.Judging.TheVariants as judging
 use Rattle.iges_solid_cmd.specs.declared.opening.Opened.{Opened}
 use Rattle.iges_solid_cmd.specs.declared.opening.OpeningEnd.{OpeningEnd}
 use Rattle.iges_solid_cmd.specs.declared.opening.OpeningEnd.TheVariants as opening
-use Rattle.iges_solid_cmd.specs.Due.{Owed, OfVersion, OfVerify}
-use Rattle.iges_solid_cmd.specs.Yes.{NamesOne}
+use Rattle.iges_solid_cmd.specs.declared.answer.Answer.TheVariants.{No}
+use Rattle.iges_solid_cmd.specs.Due.{Exactly, OfVerify}
 
--- nothing is owed
-abbrev pub Nothing : Owed
-Nothing a t = ⊥
+-- Certificates of these versions are of one solid each.
+abbrev pub IsOfOne : Version → Type 0
+IsOfOne One = ⊤
+IsOfOne Two = ⊤
+IsOfOne Three = ⊥
 
--- The certificate is of one solid, which is this one, and all that is checked of it holds.
-pub record IsChecked (f : Contents) (v : Version) (n : ℕ) (s : SolidData) : Type 0 where
-  pub one : NamesOne v
+-- This is the solid, and all that is checked of it holds.
+pub record IsChecked (f : Contents) (n : ℕ) (s : SolidData) : Type 0 where
   pub solid : s ≡ solid_of f n
   pub holds : AllHold (checked f n)
 
--- Whatever its lines are, a certificate of this version that names solid n is refused with this reply.
-abbrev pub RefusesAll : Contents → Version → ℕ → Reply → Type 0
-RefusesAll f v n reply = (lines : List (List ℕ)) → OfVersion Nothing v n lines f reply.answer reply.text
+-- The reply tells in these words the first that is false of all that is checked of the solid.
+abbrev pub TellsFalse : (Failing → List ℕ) → Contents → ℕ → Reply → Type 0
+TellsFalse words f n reply = (x : Failing) × FirstFalse (checked f n) x × Exactly No (words x) reply.answer reply.text
 
 -- The certificate opens with two good lines, which name solid n, all that is checked of this holds, and the checker was fed what stands behind them.
 pub record HasChecked (f : Contents) (n : ℕ) (text : List ℕ) (c : FedKept) : Type 0 where
   pub version : Version
-  pub one : NamesOne version
+  pub one : IsOfOne version
   pub holds : AllHold (checked f n)
   pub front : List ℕ
   pub rest : List ℕ
@@ -97,3 +100,10 @@ IsOpeningEnd before after buffer opening.TooLarge = HasTooMany before after 0
 IsOpeningEnd before after buffer (opening.Ended bad) = EndsEarly before after bad
 IsOpeningEnd before after buffer (opening.Bad bad came) = HasOpenedBadly before after bad came
 IsOpeningEnd before after buffer (opening.Both o) = HasOpened before after buffer o
+
+-- the certificate may go on behind them
+abbrev pub GoesOn : OpeningEnd → Type 0
+GoesOn opening.TooLarge = ⊥
+GoesOn (opening.Ended bad) = ⊥
+GoesOn (opening.Bad bad came) = Unit {0}
+GoesOn (opening.Both o) = Unit {0}

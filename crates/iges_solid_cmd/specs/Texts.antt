@@ -33,6 +33,13 @@ solids_text f = solid_lines_from 0 f.entries
 abbrev pub fail_line : Failing → List ℕ
 fail_line x = codes "fail " ++ rule_name x.rule ++ codes " " ++ decimal x.entity.0 ++ codes " " ++ decimal x.place ++ codes "\n"
 
+abbrev pub no_solid_line : List ℕ
+no_solid_line = codes "no solid\n"
+
+-- of one among many solids, a line with its number and the line of the rule that fails
+abbrev pub solid_fail_text : ℕ → Failing → List ℕ
+solid_fail_text n x = codes "solid " ++ decimal n ++ codes "\n" ++ fail_line x
+
 abbrev pub illegal_word : Illegal → List ℕ
 illegal_word (Misspelt n) = codes "misspelt"
 illegal_word (Unfit n) = codes "unfit"
@@ -49,6 +56,10 @@ illegal_line bad = codes "line " ++ decimal (illegal_number bad) ++ codes " " ++
 
 abbrev pub accepted_line : ℕ → List ℕ
 accepted_line n = codes "accepted " ++ decimal n ++ codes "\n"
+
+-- a line for each of these solids
+abbrev pub accepted_lines : List ℕ → List ℕ
+accepted_lines ns = flat_map accepted_line ns
 
 abbrev pub extract_word : ExtractReason → List ℕ
 extract_word extracting.NotSolid = codes "not-solid"

@@ -1,40 +1,41 @@
 -- When verifying answers yes, and that what is written is accepted.
-use Rattle.std.specs.Prelude.{◌≡◌, ◌↔◌, ◌≤◌, ℕ, List, [], ◌∷◌, length, ⊤}
+use Rattle.std.specs.Prelude.{◌≡◌, ◌↔◌, ◌≤◌, ℕ, List, length}
+use Rattle.std.specs.List.{AllByRecursion}
+use Rattle.iges_fields.specs.declared.TheConstants.{FILE_LIMIT}
 use Rattle.iges_params.specs.Contents.{Contents}
+use Rattle.iges_params.specs.IsFile.{IsFile}
 use Rattle.topo_certificate.specs.declared.TheConstants.{CERT_LIMIT}
 use Rattle.cert_lines.specs.declared.version.Version.{Version}
-use Rattle.cert_lines.specs.declared.version.Version.TheVariants.{One, Two, Three}
-use Rattle.cert_maker.specs.Accepted.{IsAccepted}
-use Rattle.cert_maker.specs.Closed.{IsClosed}
+use Rattle.solid_check.specs.Accepted.{IsAccepted}
+use Rattle.solid_check.specs.Closed.{IsClosed}
+use Rattle.solid_check.specs.Laws.{upgraded_version}
+use Rattle.cert_maker.specs.Book.{solids_of}
 use Rattle.iges_solid_cmd.specs.declared.answer.Answer.TheVariants as answer
-use Rattle.iges_solid_cmd.specs.Texts.{accepted_line}
-use Rattle.brep_walk.specs.SolidOf.{solid_of}
+use Rattle.iges_solid_cmd.specs.Texts.{accepted_line, accepted_lines}
 use Rattle.iges_params.specs.Limits.{FitsLimits}
-use Rattle.topo_certificate.specs.Upgraded.{upgraded}
-use Rattle.iges_solid_cmd.specs.Due.{OfCertify, OfUpgrade, OfVerify}
+use Rattle.iges_solid_cmd.specs.Due.{OfCertify, OfCertifyAll, OfUpgrade, OfVerify, upgraded_for}
 
--- Certificates of these versions name one solid each.
-abbrev pub NamesOne : Version → Type 0
-NamesOne One = ⊤
-NamesOne Two = ⊤
-NamesOne Three = ⊥
-
--- Of a certificate that isn't too large, yes is owed exactly where it is one of version 1 or 2 that is accepted; the line names its solid.
+-- Of a certificate that isn't too large, of any version, yes is owed exactly where it is accepted; the lines name its solids.
 abbrev pub YesIsAccepted : Type 0
 YesIsAccepted =
     (f : Contents) (certificate text : List ℕ) → length certificate ≤ CERT_LIMIT
-    → OfVerify certificate f answer.Done text ↔ ((v : Version) × (n : ℕ) × NamesOne v × IsAccepted f certificate v (n ∷ []) × (text ≡ accepted_line n))
+    → OfVerify certificate f answer.Done text ↔ ((v : Version) × (ns : List ℕ) × IsAccepted f certificate v ns × (text ≡ accepted_lines ns))
 
--- Where yes is owed, the solid that the line names is closed.
+-- Where yes is owed, each solid that a line names is closed.
 abbrev pub YesIsClosed : Type 0
-YesIsClosed = (f : Contents) (certificate text : List ℕ) → OfVerify certificate f answer.Done text → (n : ℕ) × IsClosed f n × (text ≡ accepted_line n)
+YesIsClosed = (f : Contents) (certificate text : List ℕ) → OfVerify certificate f answer.Done text → (ns : List ℕ) × AllByRecursion (IsClosed f) ns × (text ≡ accepted_lines ns)
 
--- What certifying writes, where it isn't too large, verifying accepts.
+-- What certifying writes of a file that isn't too large, verifying accepts.
 abbrev pub CertifiedIsVerified : Type 0
-CertifiedIsVerified = (n : ℕ) (f : Contents) (text : List ℕ) → length text ≤ CERT_LIMIT → OfCertify n f answer.Done text → OfVerify text f answer.Done (accepted_line n)
+CertifiedIsVerified =
+    (n : ℕ) (bytes : List ℕ) (f : Contents) (text : List ℕ) → length bytes ≤ FILE_LIMIT → IsFile bytes f → OfCertify n f answer.Done text → OfVerify text f answer.Done (accepted_line n)
 
--- What upgrading writes is the upgraded text of an accepted certificate, for the solid that this names, and is accepted too and names the same solid; the file is within its limits.
+-- And so it does what certifying all solids writes, where it isn't too large, and names them all.
+abbrev pub BookIsVerified : Type 0
+BookIsVerified = (f : Contents) (text : List ℕ) → length text ≤ CERT_LIMIT → OfCertifyAll f answer.Done text → OfVerify text f answer.Done (accepted_lines (solids_of f))
+
+-- What upgrading writes is the upgraded text of an accepted certificate, for a solid that this names, and is accepted too and names the same solids; the file is within its limits.
 abbrev pub UpgradedIsVerified : Type 0
 UpgradedIsVerified =
     (f : Contents) (certificate text : List ℕ) → FitsLimits f → OfUpgrade certificate f answer.Done text
-    → (v : Version) × (n : ℕ) × NamesOne v × IsAccepted f certificate v (n ∷ []) × (text ≡ upgraded (solid_of f n) certificate) × IsAccepted f text Two (n ∷ [])
+    → (v : Version) × (ns : List ℕ) × IsAccepted f certificate v ns × (text ≡ upgraded_for f certificate ns) × IsAccepted f text (upgraded_version v) ns

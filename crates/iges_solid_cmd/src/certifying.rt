@@ -1,14 +1,14 @@
-ghost use Rattle.iges_solid_cmd.specs.Due.{OfCertify};
+ghost use Rattle.iges_solid_cmd.specs.Due.{OfCertify, OfCertifyAll};
 ghost use Rattle.std.specs.Prelude.{IfOk};
 
 use crate::answer::Answer;
-use crate::reply::{Reply, failed};
+use crate::reply::{Reply, failed, no_solid, solid_failed, too_large};
 use brep_walk::{WalkFault, walk};
-use cert_maker::{MakeFault, certify};
+use cert_maker::{BookFault, MakeFault, certify, certify_all};
 use iges_fields::{EntryNo, NoMemory};
 use iges_params::File;
 use std::alloc::Global;
-use topo_certificate::write_certificate;
+use topo_certificate::{write_book, write_certificate};
 
 /// The certificate of a solid that is closed, or the first rule that fails.
 pub fn certify_solid(alloc: Global, file: File, no: u32) -> Result<Reply, NoMemory>
@@ -29,5 +29,25 @@ pub fn certify_solid(alloc: Global, file: File, no: u32) -> Result<Reply, NoMemo
     Ok(Reply {
         answer: Answer::Done,
         text: write_certificate(alloc, &certificate)?,
+    })
+}
+
+/// The book with a certificate for each solid of the file, or why there is none: no solid, the first that fails, or too many
+/// loop uses.
+pub fn certify_solids(alloc: Global, file: File) -> Result<Reply, NoMemory>
+    ensures { IfOk result (λ reply. OfCertifyAll file reply.answer reply.text) }
+{
+    let parts = match certify_all(alloc, &file) {
+        Ok(parts) => parts,
+        Err(BookFault::NoSolid) => return no_solid(alloc),
+        Err(BookFault::Fails { solid, failing }) => return solid_failed(alloc, solid, failing),
+        Err(BookFault::TooMany { .. }) => return Ok(too_large(alloc)),
+        Err(BookFault::NoMemory) => return Err(NoMemory),
+    };
+    // The text needs the room that the file takes.
+    drop(file);
+    Ok(Reply {
+        answer: Answer::Done,
+        text: write_book(alloc, &parts)?,
     })
 }

@@ -15,6 +15,8 @@ pub enum FileCommand {
     Show(u32),
     /// A certificate that a solid, named by its directory number, is closed.
     Certify(u32),
+    /// A certificate that all solids of a file are closed.
+    CertifyAll,
     /// Whether a certificate is accepted for a file.
     Verify,
     /// An accepted certificate as one of the current version.
@@ -38,6 +40,7 @@ pub enum CommandKind {
     Solids,
     Show,
     Certify,
+    CertifyAll,
     Verify,
     Upgrade,
     Extract,
@@ -81,6 +84,10 @@ const FORMS: &[Form] = &[
         slots: &[Slot::Word("upgrade"), Slot::File, Slot::Certificate],
         kind: CommandKind::Upgrade,
     },
+    Form {
+        slots: &[Slot::Word("certify"), Slot::File, Slot::Word("all")],
+        kind: CommandKind::CertifyAll,
+    },
 ];
 
 impl CommandKind {
@@ -92,6 +99,7 @@ impl CommandKind {
             CommandKind::Solids => Command::File(FileCommand::Solids),
             CommandKind::Show => Command::File(FileCommand::Show(n)),
             CommandKind::Certify => Command::File(FileCommand::Certify(n)),
+            CommandKind::CertifyAll => Command::File(FileCommand::CertifyAll),
             CommandKind::Verify => Command::File(FileCommand::Verify),
             CommandKind::Upgrade => Command::File(FileCommand::Upgrade),
             CommandKind::Extract => Command::File(FileCommand::Extract(n)),

@@ -1,19 +1,30 @@
+ghost use Rattle.cert_lines.specs.declared.version.Version.TheVariants.{Three};
 ghost use Rattle.iges_params.specs.Contents.{Contents};
 ghost use Rattle.iges_solid_cmd.specs.Due.{OfVerify};
-ghost use Rattle.iges_solid_cmd.specs.Judging.{HasTooMany, IsJudged, IsRestJudged};
+ghost use Rattle.iges_solid_cmd.specs.Judging.{HasTooMany, IsJudged, IsOfOne, IsRestJudged};
 ghost use Rattle.iges_solid_cmd.specs.Outcome.{ReadsCertificate};
-ghost use Rattle.iges_solid_cmd.specs.Replies.{CountAfterCall, IsReply};
+ghost use Rattle.iges_solid_cmd.specs.Replies.{CountAfterCall, IsReply, TakesWithin};
 ghost use Rattle.std.specs.Bool.{MatchBool};
 ghost use Rattle.std.specs.Io.KnownBytes.{Consumes};
-ghost use Rattle.std.specs.Prelude.{◌≡◌, ◌<◌, ◌≤◌, ◌++◌, List, ℕ, Option, length, IfOk};
+ghost use Rattle.std.specs.Prelude.{◌≡◌, ◌-◌, ◌≤◌, ◌++◌, List, ℕ, Option, length, IfOk};
 
 use crate::reply::{Reply, Stop, accepted, illegal, too_large};
 use iges_fields::{EntryNo, NoMemory};
-use iges_io::{NextPiece, Source, next_piece};
+use iges_io::{NextPiece, PIECE, Source, next_piece};
 use std::alloc::Global;
-use topo_certificate::{CERT_LIMIT, Checker};
+use topo_certificate::{CERT_LIMIT, Checker, Version};
 
-/// What was judged so far of a certificate that comes in pieces.
+/// Whether certificates of this version are of one solid.
+pub fn is_of_one(version: Version) -> bool
+    ensures { MatchBool result (IsOfOne version) (version ≡ Three) }
+{
+    match version {
+        Version::One | Version::Two => true,
+        Version::Three => false,
+    }
+}
+
+/// What was judged so far of a certificate of one solid that comes in pieces.
 #[derive(Drop)]
 pub enum Judging<'a> {
     /// This is the reply, unless the certificate is too large.
@@ -54,10 +65,12 @@ fn read_rest<C: Source>(
     came: u64,
     judging: &mut Judging<'_>,
 ) -> Result<bool, Stop>
-    requires room { 0 < length piece.old }
+    requires ready { C.can_read cert.old }
+    requires room { length piece.old ≡ PIECE }
     requires few { came ≤ CERT_LIMIT }
     ensures found { IfOk result (λ within. MatchBool within (IsRestJudged (C.left cert.old) (C.left cert.new) came judging.old judging.new) (HasTooMany (C.left cert.old) (C.left cert.new) came)) }
     ensures count { CountAfterCall (C.faults cert.old) (C.faults cert.new) result }
+    ensures taken { TakesWithin (CERT_LIMIT - came) (C.left cert.old) (C.left cert.new) result }
 {
     let mut came = came;
     'reads: loop {
@@ -82,11 +95,13 @@ pub fn rest_reply<C: Source>(
     came: u64,
     judging: Judging<'_>,
 ) -> Result<Reply, Stop>
-    requires room { 0 < length piece.old }
+    requires ready { C.can_read cert.old }
+    requires room { length piece.old ≡ PIECE }
     requires few { came ≤ CERT_LIMIT }
     ensures found { (f : Contents) (before : Option (List ℕ)) (text : List ℕ) → Consumes before (C.left cert.old) text → length text ≡ came → IsJudged f text judging.entry → IfOk result (IsReply (λ certificate. OfVerify certificate f) before) }
     ensures whole { IfOk result (λ reply. ReadsCertificate (C.left cert.new) reply.answer) }
     ensures count { CountAfterCall (C.faults cert.old) (C.faults cert.new) result }
+    ensures taken { TakesWithin (CERT_LIMIT - came) (C.left cert.old) (C.left cert.new) result }
 {
     let mut judging = judging;
     if !read_rest(cert, piece, came, &mut judging)? {

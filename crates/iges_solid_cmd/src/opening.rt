@@ -1,12 +1,12 @@
-ghost use Rattle.iges_solid_cmd.specs.Judging.{EndsEarly, IsOpeningEnd};
-ghost use Rattle.iges_solid_cmd.specs.Replies.{CountAfterCall};
-ghost use Rattle.std.specs.Prelude.{◌≡◌, ◌<◌, List, ℕ, length, IfOk};
+ghost use Rattle.iges_solid_cmd.specs.Judging.{EndsEarly, GoesOn, IsOpeningEnd};
+ghost use Rattle.iges_solid_cmd.specs.Replies.{CountAfterCall, TakesWithin};
+ghost use Rattle.std.specs.Prelude.{◌≡◌, List, ℕ, length, IfOk};
 ghost use Rattle.cert_lines.specs.Opening.{IsBadOpening};
 ghost use Rattle.topo_certificate.specs.OpeningFed.{IsOpening, IsWaiting};
 
 use crate::reply::Stop;
 use iges_fields::EntryNo;
-use iges_io::{NextPiece, Source, next_piece};
+use iges_io::{NextPiece, PIECE, Source, next_piece};
 use topo_certificate::{CERT_LIMIT, Illegal, Opening, OpeningStep, Version};
 
 /// The first two lines of a certificate have come, and are good.
@@ -50,9 +50,12 @@ fn fault_at_end(opening: &mut Opening) -> Illegal
 
 /// Reads a certificate up to the end of its second line, or to the end of the piece with the first bad one.
 pub fn opening_in<C: Source>(cert: &mut C, piece: &mut [u8]) -> Result<OpeningEnd, Stop>
-    requires { 0 < length piece.old }
+    requires ready { C.can_read cert.old }
+    requires room { length piece.old ≡ PIECE }
     ensures found { IfOk result (IsOpeningEnd (C.left cert.old) (C.left cert.new) piece.new) }
     ensures count { CountAfterCall (C.faults cert.old) (C.faults cert.new) result }
+    ensures taken { TakesWithin CERT_LIMIT (C.left cert.old) (C.left cert.new) result }
+    ensures more { IfOk result (λ end. GoesOn end → C.can_read cert.new) }
 {
     let mut opening = Opening::new();
     let mut came = 0;

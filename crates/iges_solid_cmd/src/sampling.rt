@@ -1,6 +1,5 @@
 ghost use Rattle.brep_walk.specs.SolidOf.{solid_of};
-ghost use Rattle.cert_lines.specs.declared.version.Version.TheVariants.{Two};
-ghost use Rattle.cert_maker.specs.Accepted.{IsAccepted};
+ghost use Rattle.cert_maker.specs.Laws.{IsCertificateText};
 ghost use Rattle.iges_fields.specs.declared.TheConstants.{FILE_LIMIT};
 ghost use Rattle.iges_solid_cmd.specs.Due.{OfSample};
 ghost use Rattle.iges_solid_cmd.specs.Forms.{IsSize};
@@ -8,7 +7,7 @@ ghost use Rattle.iges_solid_cmd.specs.Texts.{sample_line};
 ghost use Rattle.iges_write.specs.Text.{IsText};
 ghost use Rattle.sample_solids.specs.Laws.{faces_in};
 ghost use Rattle.sample_solids.specs.Sample.{sample};
-ghost use Rattle.std.specs.Prelude.{◌≡◌, ◌+◌, ◌<◌, ◌≤◌, [], ◌∷◌, drop, length, IfOk};
+ghost use Rattle.std.specs.Prelude.{◌≡◌, ◌+◌, ◌<◌, ◌≤◌, drop, length, IfOk};
 
 use crate::answer::Answer;
 use crate::reply::Reply;
@@ -65,11 +64,11 @@ fn walk_sample(alloc: Global, file: &File, n: u32) -> Result<Solid, NoMemory>
     }
 }
 
-// The text of a certificate of the sample's solid.
+// The text of the certificate of the sample's solid.
 fn certificate_text(alloc: Global, solid: &Solid, n: u32) -> Result<Bytes, NoMemory>
     requires size { IsSize n }
     requires sample { solid.now ≡ solid_of (sample n) 1 }
-    ensures { IfOk result (λ text. IsAccepted (sample n) text Two (1 ∷ [])) }
+    ensures { IfOk result (IsCertificateText (sample n) 1) }
 {
     match certify(alloc, solid) {
         Ok(certificate) => write_certificate(alloc, &certificate),
@@ -80,8 +79,9 @@ fn certificate_text(alloc: Global, solid: &Solid, n: u32) -> Result<Bytes, NoMem
 
 // Checks the text of the certificate, which can't but be accepted.
 fn check_text(alloc: Global, solid: &Solid, text: &[u8], n: u32) -> Result<(), NoMemory>
+    requires size { IsSize n }
     requires sample { solid.now ≡ solid_of (sample n) 1 }
-    requires accepted { IsAccepted (sample n) text.now Two (1 ∷ []) }
+    requires text { IsCertificateText (sample n) 1 text.now }
 {
     let Ok((version, _, rest)) = read_opening(text) else {
         unreachable!();

@@ -14,6 +14,3 @@ mod writing;
 pub use fault::WriteFileFault;
 pub use law::{every_file_has_one_text, every_read_file_can_be_made, every_text_reads_back};
 pub use writing::write_file;
-
-#[cfg(test)]
-mod tests;

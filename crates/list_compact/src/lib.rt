@@ -16,6 +16,3 @@ mod values;
 pub use compacting::compact;
 pub use fault::CompactFault;
 pub use law::{dropped_is_made, dropped_is_not_refused, extracted_is_faultless, places_still_hold};
-
-#[cfg(test)]
-mod tests;

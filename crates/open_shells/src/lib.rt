@@ -40,6 +40,3 @@ pub use parts::{Borders, OpenCertificate, OpenCorner, OpenCorners, OpenEdge, Ope
 pub use topo_certificate::{Illegal, Misfit, ReachRows};
 pub use verdict::{OpenFailing, OpenRule};
 pub use writing::write_open;
-
-#[cfg(test)]
-mod tests;

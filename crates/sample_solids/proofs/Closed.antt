@@ -1,8 +1,8 @@
 -- Samples are closed.
 use Rattle.std.specs.Prelude.{ℕ, ◌<◌}
 use Rattle.std.proofs.Common.{arith}
-use Rattle.cert_maker.specs.Closed.{IsClosed}
-use Rattle.cert_maker.proofs.Complete.{closed_is_accepted}
+use Rattle.solid_check.specs.Closed.{IsClosed}
+use Rattle.solid_check.proofs.Complete.{closed_is_accepted}
 use Rattle.brep_walk.proofs.Few.{has_few_parts}
 use Rattle.sample_solids.specs.Sample.{sample}
 use Rattle.sample_solids.specs.Laws.{SamplesAreClosed, SamplesAreAccepted}

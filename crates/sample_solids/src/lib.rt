@@ -8,6 +8,3 @@ mod values;
 
 pub use file::sample_file;
 pub use law::{samples_are_closed, samples_read_back};
-
-#[cfg(test)]
-mod tests;

@@ -31,6 +31,7 @@ no_heads d i first next end faces rows all_end = record {
   rows = rows;
   heads = λ face low. record {
     low = omega (arith, all_end face low);
+    high = omega (arith, all_end face low, end);
     here = λ lt. absurd (omega (arith, lt, end, all_end face low));
     all = λ x on le. absurd (omega (arith, slice_get_within d.rows x on.0 on.1, le, end));
   };
@@ -74,6 +75,7 @@ heads_step d j i f was first next whole after on is_was h = record {
         let there : get_or (slice_set first f i) face 0 ≡ i = subst (λ k. get_or (slice_set first f i) k 0 ≡ i) y.1 (set_same first f i 0 f_low) in
         subst (IsHead d face i) (sym there) (record {
           low = omega arith;
+          high = omega (arith, i_low, h.rows);
           here = λ lt. subst (λ k. OnFace d k i) y.1 on;
           all = λ x on_x le. le;
         })
@@ -81,6 +83,7 @@ heads_step d j i f was first next whole after on is_was h = record {
         let t : IsHead d face j (get_or first face 0) = h.heads face low in
         subst (IsHead d face i) (sym (set_other first f face i 0 n.1)) (record {
           low = omega (arith, t.low, after);
+          high = t.high;
           here = t.here;
           all = λ x on_x le. ⊎_elim (λ a. absurd (n.1 (one_face d f face i on (subst (λ k. OnFace d face k) (sym a) on_x)))) (λ b. t.all x on_x (omega (arith, b, after))) (later_or i x le);
         })

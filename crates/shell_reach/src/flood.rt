@@ -6,7 +6,8 @@ ghost use Rattle.edge_uses.specs.Mates.{ArePaired};
 ghost use Rattle.solid_data.proofs.Members.{Has};
 ghost use Rattle.shell_reach.specs.FaceRows.{AreFaceRows};
 ghost use Rattle.shell_reach.specs.Reaching.{row_numbers};
-ghost use Rattle.shell_reach.specs.Flood.{IsFlood, IsDone, Grows};
+ghost use Rattle.shell_reach.specs.BreadthFirst.{across};
+ghost use Rattle.shell_reach.specs.Flood.{IsFlood, IsDone, Grows, HasCrossed, Crosses, mate_at, across_place, across_all};
 
 use crate::faces::{FaceRows, face_of};
 use edge_uses::Paired;
@@ -44,6 +45,7 @@ impl Flood {
         ensures flood { IfOk result (λ _. IsFlood paired.now self.new.marks.items self.new.order.items (row_numbers self.new.rows)) }
         ensures grows { IfOk result (λ _. Grows self.old.order.items self.new.order.items) }
         ensures there { IfOk result (λ _. (m g : ℕ) → AreMates paired.now r m → OnFace paired.now g m → Has self.new.order.items g) }
+        ensures crossed { IfOk result (λ _. Crosses paired.now (mate_at r) self.old.order.items (row_numbers self.old.rows) self.new.order.items (row_numbers self.new.rows)) }
     {
         let rows = paired.rows();
         let mate = mate_of(paired, r);
@@ -64,6 +66,7 @@ impl Flood {
         ensures flood { IfOk result (λ _. IsFlood paired.now self.new.marks.items self.new.order.items (row_numbers self.new.rows)) }
         ensures grows { IfOk result (λ _. Grows self.old.order.items self.new.order.items) }
         ensures done { IfOk result (λ _. IsDone paired.now self.new.order.items face) }
+        ensures crossed { IfOk result (λ _. Crosses paired.now (λ mates. across paired.now mates face) self.old.order.items (row_numbers self.old.rows) self.new.order.items (row_numbers self.new.rows)) }
     {
         let mut r = faces.first[face as usize];
         'rows: while (r as usize) < faces.next.len() {
@@ -77,7 +80,8 @@ impl Flood {
     pub fn start(alloc: Global, paired: &Paired<'_>, count: usize) -> Result<Flood, NoMemory>
         requires some { 0 < count }
         requires count { count ≡ paired.now.face_count }
-        ensures { IfOk result (λ flood. IsFlood paired.now flood.marks.items flood.order.items (row_numbers flood.rows)) }
+        ensures flood { IfOk result (λ flood. IsFlood paired.now flood.marks.items flood.order.items (row_numbers flood.rows)) }
+        ensures crossed { IfOk result (λ flood. HasCrossed paired.now [] flood.order.items (row_numbers flood.rows)) }
     {
         let mut marks = vec![in alloc; false; count]?;
         marks[0] = true;
@@ -103,6 +107,7 @@ impl Flood {
         ensures grows { IfOk result (λ _. Grows self.old.order.items self.new.order.items) }
         ensures same { IfOk result (λ _. length self.old.order.items ≤ q → self.new.order.items ≡ self.old.order.items) }
         ensures done { IfOk result (λ _. (f : ℕ) → slice_get self.new.order.items q ≡ Some f → IsDone paired.now self.new.order.items f) }
+        ensures crossed { IfOk result (λ _. Crosses paired.now (across_place paired.now self.old.order.items q) self.old.order.items (row_numbers self.old.rows) self.new.order.items (row_numbers self.new.rows)) }
     {
         if q >= self.order.len() {
             return Ok(());
@@ -124,6 +129,7 @@ impl Flood {
         requires flood { IsFlood paired.now self.old.marks.items self.old.order.items (row_numbers self.old.rows) }
         ensures flood { IfOk result (λ _. IsFlood paired.now self.new.marks.items self.new.order.items (row_numbers self.new.rows)) }
         ensures done { IfOk result (λ _. (f : ℕ) → Has self.new.order.items f → IsDone paired.now self.new.order.items f) }
+        ensures crossed { IfOk result (λ _. Crosses paired.now (across_all paired.now self.new.order.items) self.old.order.items (row_numbers self.old.rows) self.new.order.items (row_numbers self.new.rows)) }
     {
         'places: for q in 0..count {
             self.leave_next(paired, faces, q)?;

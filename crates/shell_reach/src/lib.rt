@@ -7,10 +7,9 @@
 mod faces;
 mod fault;
 mod flood;
+mod law;
 mod reaching;
 
 pub use fault::ReachFault;
+pub use law::{one_reach_order, some_reach_order};
 pub use reaching::{ReachList, reach};
-
-#[cfg(test)]
-mod tests;

@@ -7,6 +7,7 @@ ghost use Rattle.solid_data.specs.Obligations.{FirstNot};
 ghost use Rattle.edge_uses.specs.Closed.{IsReached};
 ghost use Rattle.solid_data.proofs.Members.{Has};
 ghost use Rattle.shell_reach.specs.Faults.{IsReachFault};
+ghost use Rattle.shell_reach.specs.BreadthFirst.{IsBreadthFirst};
 ghost use Rattle.shell_reach.specs.Flood.{IsFlood, IsDone};
 ghost use Rattle.shell_reach.specs.Reaching.{ReachesAll, row_numbers};
 
@@ -39,9 +40,12 @@ fn first_unreached(paired: &Paired<'_>, flood: &Flood, count: usize) -> Option<u
 }
 
 /// Rows that reach each face of a shell but the first, once: each lies on a face that isn't
-/// reached before it, and its mate on one that is (own).
+/// reached before it, and its mate on one that is. They go breadth first: across the rows of the
+/// first face by rising number, then across those of each face in the order in which it is reached
+/// (own).
 pub fn reach(alloc: Global, paired: &Paired<'_>) -> Result<ReachList, ReachFault>
     ensures rows { IfOk result (λ rows. ReachesAll paired.now (row_numbers rows)) }
+    ensures order { IfOk result (λ rows. IsBreadthFirst paired.now (row_numbers rows)) }
     ensures fault { IfErr result (λ fault. IsReachFault paired.now fault) }
 {
     let rows = paired.rows();

@@ -14,12 +14,12 @@ use Rattle.entry_references.specs.References.{RefersTo}
 use Rattle.entry_references.specs.Refs.{Record, names_entry, names_of, pointers_of, entry_fault, refs}
 use Rattle.entry_references.proofs.RisingLists.{In, below, tail_rises, contains_at, in_from, contains_pass}
 use Rattle.solid_extract.specs.Again.{ExtractedAgain}
-use Rattle.solid_extract.specs.Extracted.{new_number, new_record, renamed, is_solid, Reaches, here, further, IsExtracted}
+use Rattle.solid_extract.specs.Extracted.{new_number, new_record, renamed, is_solid, Reaches, here, further, IsExtracted, IsExtractedAs}
 use Rattle.solid_extract.specs.Renaming.{place_of}
 use Rattle.solid_extract.proofs.Copies.{all_at, zip_at}
 use Rattle.solid_extract.proofs.NewNumbers.{new_named}
-use Rattle.solid_extract.proofs.Places.{place_here, place_later, place_found}
-use Rattle.solid_extract.proofs.AgainPlaces.{odds_from, odds_rising, in_odds, from_odds}
+use Rattle.solid_extract.proofs.Places.{place_here, place_later, place_found, place_few}
+use Rattle.solid_extract.proofs.AgainPlaces.{odds_from, odds_rising, in_odds, from_odds, new_odd}
 use Rattle.solid_extract.proofs.AgainRecord.{IsKeptNumber, IsSteady, steady, refs_read, renamed_named}
 
 -- ---- members
@@ -190,3 +190,8 @@ module _ (f new : Contents) (n : ℕ) (x : IsExtracted f n new) where
 
 pub extracted_again : ExtractedAgain
 extracted_again f new n x = again f new n x
+
+-- The solid keeps its number.
+pub number_again : (f new : Contents) (n : ℕ) (x : IsExtracted f n new) → IsExtractedAs new (new_number x.kept n) new (new_number x.kept n)
+unfolding again
+number_again f new n x = record { extracted = again f new n x; is = sym (new_odd (length x.kept) (place_of x.kept n) (place_few x.kept n)) }

@@ -28,14 +28,15 @@ asked_is version d c es vs fs = same_asked c.edges (length d.edges) c.corners (l
     same_asked : (e e2 c c2 f f2 t : ℕ) → e ≡ e2 → c ≡ c2 → f ≡ f2 → due_of e c (f - 1) t ≡ due_of e2 c2 (f2 - 1) t
     same_asked e e2 c c2 f f2 t he hc hf = ap (λ x. due_of x c (f - 1) t) he ∙ (ap (λ x. due_of e2 x (f - 1) t) hc ∙ ap (λ x. due_of e2 c2 (x - 1) t) hf)
 
-record Facts (version : Version) (s : SolidData) (lines : List CertLine) (d : ShellRows) : Type 0 where
+-- what the lines since the SHELL line show of its rows
+pub record Facts (version : Version) (s : SolidData) (lines : List CertLine) (d : ShellRows) : Type 0 where
   pub edge_facts : EdgeFacts d (filter_map mates_of (since_shell lines)) (filter_map (edge_of d) (since_shell lines)) (number_of is_edge (since_shell lines))
   pub corner_facts : CornerFacts d (filter_map (vertex_of d) (since_shell lines)) (number_of is_corner_or_point (since_shell lines))
   pub reach_facts : ReachFacts d (filter_map (face_of d) (since_shell lines)) (number_of is_reach (since_shell lines))
   pub asks : asked version (find is_shell lines) ≡ asked_for version d
   pub twice : 2 * length d.edges ≡ length d.rows
 
-abbrev Good : SolidData → Type 0
+abbrev pub Good : SolidData → Type 0
 Good s = (k : ℕ) → AreGoodRows (rows_of_shell s k)
 
 facts_begin : (version : Version) (s : SolidData) (lines : List CertLine) (k : ℕ) (c : ShellCounts) → FitsShell s (stand_behind version s lines) k c → Facts version s (shell k c ∷ lines) (rows_of_shell s (suc (number_of is_shell lines)))
@@ -57,7 +58,7 @@ facts_begin version s lines k c h =
     }
 
 -- where no edge line is due, each edge is paired
-facts_paired : (version : Version) (s : SolidData) (lines : List CertLine) (d : ShellRows) → Facts version s lines d → (stand_behind version s lines).due.edges ≡ 0 → (e : ℕ) → Has d.edges e → IsPaired d e
+pub facts_paired : (version : Version) (s : SolidData) (lines : List CertLine) (d : ShellRows) → Facts version s lines d → (stand_behind version s lines).due.edges ≡ 0 → (e : ℕ) → Has d.edges e → IsPaired d e
 unfolding stand_behind
 facts_paired version s lines d facts none =
     let due : length d.edges - number_of is_edge (since_shell lines) ≡ 0 = sym (ap (λ (a : Due). a.edges - number_of is_edge (since_shell lines)) facts.asks) ∙ none in
@@ -114,7 +115,7 @@ facts_reach version s lines d r good here facts fits =
       twice = facts.twice;
     }
 
-facts_of : (version : Version) (s : SolidData) → Good s → (lines : List CertLine) (k : ℕ) → number_of is_shell lines ≡ suc k → AllFit version s lines → Facts version s lines (current_rows s lines)
+pub facts_of : (version : Version) (s : SolidData) → Good s → (lines : List CertLine) (k : ℕ) → number_of is_shell lines ≡ suc k → AllFit version s lines → Facts version s lines (current_rows s lines)
 facts_of version s good [] k number fit = absurd (omega (arith, number))
 facts_of version s good (head v ∷ lines) k number fit = absurd fit.0.1
 facts_of version s good (solid n ∷ lines) k number fit = absurd fit.0.1

@@ -34,6 +34,3 @@ pub use uses::{loop_count, use_count};
 
 /// The most bytes that a certificate may have to be read (own).
 pub const CERT_LIMIT: u64 = 536_870_912;
-
-#[cfg(test)]
-mod tests;

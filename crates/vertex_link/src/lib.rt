@@ -14,6 +14,3 @@ mod walking;
 pub use corners::{Corner, Links};
 pub use fault::LinkFault;
 pub use linking::links;
-
-#[cfg(test)]
-mod tests;

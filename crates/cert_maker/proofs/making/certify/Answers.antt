@@ -1,11 +1,11 @@
-use Rattle.std.proofs.Common.{refl}
+use Rattle.std.proofs.Common.{refl, subst}
 use Rattle.std.proofs.lemmas.Result.{err_from_is_err_and}
 use Rattle.cert_lines.specs.declared.version.Version.TheVariants.{Two}
 use Rattle.edge_uses.specs.ShellObligations.{solid_obligations}
 use Rattle.cert_lines.specs.declared.parts.Certificate.{Certificate}
 use Rattle.cert_maker.specs.Certified.{IsCertificate}
 use Rattle.cert_maker.proofs.Certifying.{certificate_made, certificate_accepted}
-use Rattle.cert_maker.proofs.Shells.{only_memory, only_so, never}
+use Rattle.solid_check.proofs.Shells.{only_memory, only_so, never}
 use Rattle.cert_maker.proofs.making.certify.Goals as goal
 
 pub returns-in_err-shells-clause-only : goal.returns-in_err-shells-clause-only
@@ -29,3 +29,9 @@ returns-clause-accepted c =
 
 pub returns-clause-only_fault : goal.returns-clause-only_fault
 returns-clause-only_fault c x first = never (solid_obligations c.args.solid.now) x c.in_ok-shells.ensures.holds first
+
+pub returns-clause-text : goal.returns-clause-text
+returns-clause-text c f n same =
+    let certificate : Certificate = record { version = Two; solid = c.entity.result; shells = c.in_ok-shells.shells } in
+    let made : IsCertificate c.args.solid.now certificate = certificate_made c.args.solid.now certificate c.entity.ensures.numbered refl c.entity.ensures.entity c.in_ok-shells.ensures.holds c.in_ok-shells.ensures.parts in
+    (certificate, subst (λ s. IsCertificate s certificate) same made, refl)

@@ -1,4 +1,4 @@
-use Rattle.std.proofs.Common.{◌≡◌, ◌<◌, sym, ◌∙◌, ap, arith, length, Some}
+use Rattle.std.proofs.Common.{◌<◌, arith, length, Some}
 use Rattle.topo_certificate.specs.Stand.{loops_of}
 use Rattle.std.proofs.lemmas.Result.{err_from_is_err_and}
 use Rattle.solid_data.specs.declared.solid.Shell.{Shell}
@@ -6,8 +6,8 @@ use Rattle.edge_uses.specs.ShellRows.{shell_rows}
 use Rattle.edge_uses.specs.ShellObligations.{shell_obligations, solid_obligations}
 use Rattle.cert_lines.specs.declared.parts.ShellPart.{ShellPart}
 use Rattle.cert_maker.specs.Parts.{IsPart}
-use Rattle.cert_maker.proofs.Certifying.{few_parts}
-use Rattle.cert_maker.proofs.Shells.{from_first, one_shell, shell_fails}
+use Rattle.solid_check.proofs.Few.{few_parts}
+use Rattle.solid_check.proofs.Shells.{from_first, one_shell, shell_fails}
 use Rattle.cert_maker.proofs.Zipping.{agree_first, agree_more, agree_done}
 use Rattle.cert_maker.proofs.making.shell_parts.Goals as goal
 

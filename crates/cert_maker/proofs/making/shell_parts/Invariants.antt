@@ -1,4 +1,4 @@
-use Rattle.std.proofs.Common.{◌≡◌, ℕ, Some}
+use Rattle.std.proofs.Common.{Some}
 use Rattle.topo_certificate.specs.Stand.{loops_of}
 use Rattle.solid_data.specs.declared.solid.Shell.{Shell}
 use Rattle.edge_uses.specs.Before.{AreBelow}
@@ -6,7 +6,7 @@ use Rattle.edge_uses.specs.ShellRows.{shell_rows}
 use Rattle.edge_uses.specs.ShellObligations.{shell_obligations, solid_obligations}
 use Rattle.cert_lines.specs.declared.parts.ShellPart.{ShellPart}
 use Rattle.cert_maker.specs.Parts.{IsPart}
-use Rattle.cert_maker.proofs.Shells.{RemainFrom}
+use Rattle.solid_check.proofs.Shells.{RemainFrom}
 use Rattle.cert_maker.proofs.Zipping.{AgreeUpTo}
 use Rattle.cert_maker.proofs.making.shell_parts.Given as goal
 

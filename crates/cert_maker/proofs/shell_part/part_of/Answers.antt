@@ -1,4 +1,4 @@
-use Rattle.std.proofs.Common.{◌≡◌, ℕ, refl, sym, ◌∙◌, ap, subst, length, List, map, arith}
+use Rattle.std.proofs.Common.{ℕ, refl, sym, ◌∙◌, ap, subst, length, List, arith}
 use Rattle.std.specs.List.{AllZip}
 use Rattle.edge_uses.specs.ShellRows.{ShellRows}
 use Rattle.vertex_link.specs.Corners.{LiesAt}
@@ -22,6 +22,7 @@ returns c =
       corners = subst (λ (cs : List CornerLine). AllZip (LiesRound d) d.vertices cs) (sym c.in_ok-corners.ensures) (zip_map (LiesAt d) (LiesRound d) line_for (lies d) d.vertices c.args.links c.requires.links);
       faces = c.face_count.ensures ∙ ap (λ (e : ShellRows). e.face_count) c.rows-rows.ensures.rows;
       reach = c.requires.reach;
+      order = c.requires.order;
       vertices = c.vertex_count.ensures ∙ ap (λ (e : ShellRows). length e.vertices) c.rows-rows.ensures.rows;
       loops = refl;
     }

@@ -5,12 +5,12 @@ use Rattle.topo_certificate.proofs.PointOrder.{faces_of_rows, can_check}
 use Rattle.solid_data.specs.Obligations.{AllHold}
 use Rattle.edge_uses.specs.ShellRows.{ShellRows, shell_rows}
 use Rattle.edge_uses.specs.ShellObligations.{pair_obligations, apart_obligations}
-use Rattle.cert_maker.specs.Certified.{IsMakeFault}
+use Rattle.solid_check.specs.Faults.{IsCheckFault}
 use Rattle.std.specs.Prelude.{Some}
 use Rattle.topo_certificate.specs.Stand.{loops_of}
 use Rattle.cert_maker.specs.Parts.{IsPart}
-use Rattle.cert_maker.specs.declared.fault.MakeFault.TheVariants.{Fails}
-use Rattle.cert_maker.proofs.OneShell.{joined_not, paired_not, reached_not, linked_not, apart_not, all_hold, same_rows}
+use Rattle.solid_check.specs.declared.fault.CheckFault.TheVariants.{Fails}
+use Rattle.solid_check.proofs.OneShell.{joined_not, paired_not, reached_not, linked_not, apart_not, all_hold, same_rows}
 use Rattle.cert_maker.proofs.shell_part.shell_part.Goals as goal
 
 pub rows-requires : goal.rows-requires
@@ -51,7 +51,7 @@ returns-in_err-apart-clause-fails c =
     let pairs : AllHold (pair_obligations c.args.solid.now c.in_ok-paired.paired) = subst (λ (d : ShellRows). AllHold (pair_obligations c.args.solid.now d)) (sym c.in_ok-paired.ensures.rows) c.in_ok-paired.ensures.holds in
     rw (p.1, p.2)
     (apart_not c.args.solid.now c.args.at.0 c.args.shell.now c.in_ok-paired.paired (c.in_ok-paired.ensures.rows ∙ same_rows c.args.solid.now c.args.at.0 c.args.shell.now c.in_ok-rows.rows c.in_ok-rows.ensures c.requires.at) c.in_ok-join.ensures.holds pairs c.in_ok-reach.ensures.holds c.in_ok-links.ensures.holds
-    c.in_err-apart.field-0.0 (subst (λ (d : ShellRows). IsMakeFault (apart_obligations c.args.solid.now c.args.at.0 d) (Fails c.in_err-apart.field-0.0)) (sym c.in_ok-paired.ensures.rows) c.in_err-apart.ensures.fails))
+    c.in_err-apart.field-0.0 (subst (λ (d : ShellRows). IsCheckFault (apart_obligations c.args.solid.now c.args.at.0 d) (Fails c.in_err-apart.field-0.0)) (sym c.in_ok-paired.ensures.rows) c.in_err-apart.ensures.fails))
 
 pub returns-clause-part : goal.returns-clause-part
 returns-clause-part c =

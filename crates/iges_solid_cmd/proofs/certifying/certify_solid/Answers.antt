@@ -1,10 +1,9 @@
-use Rattle.std.proofs.Common.{refl, rules, sym, subst, List, ℕ, [], ◌∷◌}
+use Rattle.std.proofs.Common.{refl, rules, sym, subst}
 use Rattle.std.proofs.lemmas.Result.{IfOk-weaker}
 use Rattle.solid_data.specs.Obligations.{FirstFalse}
 use Rattle.edge_uses.specs.ShellObligations.{solid_obligations}
 use Rattle.brep_walk.specs.Places.{places}
-use Rattle.cert_lines.specs.declared.version.Version.TheVariants.{Two}
-use Rattle.cert_maker.specs.Accepted.{IsAccepted}
+use Rattle.cert_maker.specs.Laws.{IsCertificateText}
 use Rattle.iges_solid_cmd.proofs.MakerAnswers.{certified, misplaced, unclosed}
 use Rattle.iges_solid_cmd.proofs.certifying.certify_solid.Goals as goal
 
@@ -22,6 +21,5 @@ returns-in-Err-Fails-certify c =
 
 pub returns : goal.returns
 returns c =
-    let accepted = subst (λ (t : List ℕ). IsAccepted c.args.file t Two (c.args.no ∷ [])) (sym c.in_ok-write_certificate.ensures.text)
-    (c.in-Ok-certify.ensures.accepted c.args.file c.args.no c.in-Ok.ensures.holds c.in-Ok.ensures.solid) in
-    certified c.args.file c.args.no _ _ c.in-Ok.solid c.in-Ok.ensures.holds c.in-Ok.ensures.solid c.in-Ok-certify.ensures.holds refl accepted
+    let made = subst (IsCertificateText c.args.file c.args.no) (sym c.in_ok-write_certificate.ensures.text) (c.in-Ok-certify.ensures.text c.args.file c.args.no c.in-Ok.ensures.solid) in
+    certified c.args.file c.args.no _ _ c.in-Ok.solid c.in-Ok.ensures.holds c.in-Ok.ensures.solid c.in-Ok-certify.ensures.holds refl made

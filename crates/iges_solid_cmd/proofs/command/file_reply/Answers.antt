@@ -12,3 +12,6 @@ returns-in_ok-certify_solid-in-Certify-clause-found g c = rw c.in-Certify.is (al
 
 pub returns-in_ok-extract_solid-in-Extract-clause-found : goal.returns-in_ok-extract_solid-in-Extract-clause-found
 returns-in_ok-extract_solid-in-Extract-clause-found g c = rw c.in-Extract.is (alone_owed _ _ c.in_ok-extract_solid-in-Extract.field-0 c.in_ok-extract_solid-in-Extract.ensures)
+
+pub returns-in_ok-certify_solids-in-CertifyAll-clause-found : goal.returns-in_ok-certify_solids-in-CertifyAll-clause-found
+returns-in_ok-certify_solids-in-CertifyAll-clause-found g c = rw c.in-CertifyAll.is (alone_owed _ _ c.in_ok-certify_solids-in-CertifyAll.field-0 c.in_ok-certify_solids-in-CertifyAll.ensures)

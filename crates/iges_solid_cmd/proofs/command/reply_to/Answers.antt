@@ -11,7 +11,7 @@ pub returns-in-None-clause-found : goal.returns-in-None-clause-found
 returns-in-None-clause-found g c = IfOk-weaker c.usage_reply.result _ _ (λ reply usage. usage_owed _ _ _ reply (sym c.command.ensures ∙ c.in-None.is) usage) c.usage_reply.ensures.found
 
 pub command_reply-requires : goal.command_reply-requires
-command_reply-requires g c = sized c.args.words.now _ (sym c.command.ensures ∙ c.in-Some.is)
+command_reply-requires g c = record { size = sized c.args.words.now _ (sym c.command.ensures ∙ c.in-Some.is); file = c.requires.file; cert = c.requires.cert }
 
 pub returns-in-Some-clause-whole : goal.returns-in-Some-clause-whole
 returns-in-Some-clause-whole g c read = c.command_reply.ensures.whole (sym (reads c.args.words.now _ (sym c.command.ensures ∙ c.in-Some.is)) ∙ read)

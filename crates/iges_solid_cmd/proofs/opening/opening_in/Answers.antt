@@ -1,6 +1,9 @@
-use Rattle.std.proofs.Common.{◌<◌, ◌∙◌, length, take, refl, arith}
+use Rattle.std.proofs.Common.{◌≡◌, ◌+◌, ◌∙◌, length, take, refl, arith}
 use Rattle.iges_solid_cmd.proofs.Feeds.{read_long}
 use Rattle.iges_solid_cmd.proofs.FirstLines.{opened_more, opened_too_many, opened_bad, opened_both}
+use Rattle.topo_certificate.specs.declared.TheConstants.{CERT_LIMIT}
+use Rattle.iges_io.specs.declared.reading.TheConstants.{PIECE}
+use Rattle.iges_solid_cmd.proofs.Taken.{takes_past, takes_piece}
 use Rattle.iges_solid_cmd.proofs.opening.opening_in.Goals as goal
 
 pub returns-in-TooLarge-clause-found : goal.returns-in-TooLarge-clause-found
@@ -26,6 +29,7 @@ returns-in-Err-clause-found g c =
 pub reads-preserved : goal.reads-preserved
 reads-preserved g c =
     let read = rw c.in-Bytes.is at (c.in-Ok.ensures {u = tt}).read in
+    let more = rw c.in-Bytes.is at (c.in-Ok.ensures {u = tt}).more in
     let step = rw c.in-Ok-More.field-0-is at (c.in-Ok-More.ensures {u = tt}).step in
     let s = c.reads.invariant.opened in
     let shown = step s.bytes s.stands in
@@ -33,5 +37,25 @@ reads-preserved g c =
       within = read.3;
       opened = opened_more _ _ _ c.reads.came c.in-Bytes.count c.reads.opening c.feed.new.self (take c.in-Bytes.count c.next_piece.new.buffer) s read.0 (read_long c.next_piece.new.buffer c.in-Bytes.count read.2) shown.0 shown.1;
       count = (c.in-Ok.ensures {u = tt}).cause ∙ c.reads.invariant.count;
-      room = (let h : 0 < length c.next_piece.new.buffer = omega arith in h);
+      room = (let h : length c.next_piece.new.buffer ≡ PIECE = omega arith in h);
+      ready = more tt;
     }
+
+pub returns-in-TooLarge-clause-taken : goal.returns-in-TooLarge-clause-taken
+returns-in-TooLarge-clause-taken g c =
+    let read = rw c.in-TooLarge.is at (c.in-Ok.ensures {u = tt}).read in
+    let s = c.reads.invariant.opened in
+    let room : length c.next_piece.new.buffer ≡ PIECE = omega arith in
+    takes_past _ _ _ s.bytes read.0 c.reads.came (length c.next_piece.new.buffer) CERT_LIMIT s.taken s.long read.1 c.reads.invariant.within read.3 room
+
+pub returns-in-Ok-Solid-clause-taken : goal.returns-in-Ok-Solid-clause-taken
+returns-in-Ok-Solid-clause-taken g c =
+    let read = rw c.in-Bytes.is at (c.in-Ok.ensures {u = tt}).read in
+    let s = c.reads.invariant.opened in
+    takes_piece _ _ _ s.bytes c.next_piece.new.buffer c.reads.came c.in-Bytes.count (CERT_LIMIT + PIECE) s.taken s.long read.0 (omega (arith, read.3))
+
+pub returns-in-Err-clause-taken : goal.returns-in-Err-clause-taken
+returns-in-Err-clause-taken g c =
+    let read = rw c.in-Bytes.is at (c.in-Ok.ensures {u = tt}).read in
+    let s = c.reads.invariant.opened in
+    takes_piece _ _ _ s.bytes c.next_piece.new.buffer c.reads.came c.in-Bytes.count (CERT_LIMIT + PIECE) s.taken s.long read.0 (omega (arith, read.3))

@@ -2,7 +2,7 @@ use Rattle.std.proofs.Common.{rules}
 use Rattle.std.proofs.lemmas.Result.{IfOk-weaker}
 use Rattle.solid_data.specs.Obligations.{FirstFalse}
 use Rattle.edge_uses.specs.ShellObligations.{solid_obligations}
-use Rattle.iges_solid_cmd.proofs.SampleFacts.{no_rule_fails, made_accepted}
+use Rattle.iges_solid_cmd.proofs.SampleFacts.{no_rule_fails, made_text}
 use Rattle.iges_solid_cmd.proofs.sampling.certificate_text.Goals as goal
 
 pub unreachable-requires : goal.unreachable-requires
@@ -12,4 +12,4 @@ unreachable-requires c =
 
 pub returns-in-Ok : goal.returns-in-Ok
 returns-in-Ok c =
-    IfOk-weaker c.write_certificate.result _ _ (λ text is. made_accepted c.args.n c.requires.size c.args.solid.now text _ c.requires.sample is c.in-Ok.ensures.accepted) c.write_certificate.ensures.text
+    IfOk-weaker c.write_certificate.result _ _ (λ text is. made_text c.args.n c.requires.size c.args.solid.now text _ c.requires.sample is c.in-Ok.ensures.text) c.write_certificate.ensures.text

@@ -1,6 +1,8 @@
-use Rattle.std.proofs.Common.{◌<◌, ◌∙◌, arith, take, length}
+use Rattle.std.proofs.Common.{◌≡◌, ◌∙◌, arith, take, length}
 use Rattle.iges_fields.specs.declared.TheConstants.{FILE_LIMIT}
 use Rattle.iges_solid_cmd.proofs.Feeds.{so_far_more, fed_told, too_many, read_long}
+use Rattle.iges_io.specs.declared.reading.TheConstants.{PIECE}
+use Rattle.iges_solid_cmd.proofs.Taken.{takes_past, takes_piece, within_few}
 use Rattle.iges_solid_cmd.proofs.sources.lines_in.Goals as goal
 
 pub returns-in-TooLarge-clause-found : goal.returns-in-TooLarge-clause-found
@@ -16,9 +18,24 @@ returns-in-End-clause-found g c =
 pub reads-preserved : goal.reads-preserved
 reads-preserved g c =
     let read = rw c.in-Bytes.is at (c.in-Ok.ensures {u = tt}).read in
+    let more = rw c.in-Bytes.is at (c.in-Ok.ensures {u = tt}).more in
     record {
       within = read.3;
       fed = so_far_more _ _ _ _ _ c.reads.came c.in-Bytes.count (take c.in-Bytes.count c.next_piece.new.buffer) c.reads.invariant.fed read.0 (read_long c.next_piece.new.buffer c.in-Bytes.count read.2) (c.in_ok-feed.ensures {u = tt}).ok;
       count = (c.in-Ok.ensures {u = tt}).cause ∙ c.reads.invariant.count;
-      room = (let h : 0 < length c.next_piece.new.buffer = omega arith in h);
+      room = (let h : length c.next_piece.new.buffer ≡ PIECE = omega arith in h);
+      ready = more tt;
     }
+
+pub returns-in-TooLarge-clause-taken : goal.returns-in-TooLarge-clause-taken
+returns-in-TooLarge-clause-taken g c =
+    let read = rw c.in-TooLarge.is at (c.in-Ok.ensures {u = tt}).read in
+    let fed = c.reads.invariant.fed in
+    let room : length c.next_piece.new.buffer ≡ PIECE = omega arith in
+    takes_past _ _ _ fed.bytes read.0 c.reads.came (length c.next_piece.new.buffer) FILE_LIMIT fed.taken fed.long read.1 c.reads.invariant.within read.3 room
+
+pub returns-in_err-feed-clause-taken : goal.returns-in_err-feed-clause-taken
+returns-in_err-feed-clause-taken g c =
+    let read = rw c.in-Bytes.is at (c.in-Ok.ensures {u = tt}).read in
+    let fed = c.reads.invariant.fed in
+    within_few FILE_LIMIT _ _ c.from_residual-in_err-feed.result (takes_piece _ _ _ fed.bytes c.next_piece.new.buffer c.reads.came c.in-Bytes.count FILE_LIMIT fed.taken fed.long read.0 read.3)

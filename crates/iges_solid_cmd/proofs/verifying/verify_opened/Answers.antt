@@ -1,17 +1,8 @@
-use Rattle.std.proofs.Common.{◌++◌, sym, subst}
-use Rattle.iges_solid_cmd.specs.declared.judging.Judging.TheVariants as judging
-use Rattle.topo_certificate.specs.Feeding.{IsFed}
-use Rattle.iges_solid_cmd.proofs.Judged.{refused_judged, lines_judged}
+use Rattle.std.proofs.Common.{refl}
+use Rattle.iges_solid_cmd.proofs.Judged.{opened_begun}
 use Rattle.iges_solid_cmd.proofs.verifying.verify_opened.Goals as goal
-
-pub returns-in-Err-clause-found : goal.returns-in-Err-clause-found
-returns-in-Err-clause-found g c = λ before opened.
-    let refuses = rw c.in-Err.is at (c.in_ok-solid.ensures {u = tt}) in
-    c.rest_reply.ensures.found c.args.file before (opened.front ++ opened.rest) opened.taken opened.long (refused_judged c.args.file before _ c.args.piece.now c.args.opened c.in-Err.reply opened refuses)
 
 pub returns-clause-found : goal.returns-clause-found
 returns-clause-found g c = λ before opened.
-    let checked = rw c.in-Ok.is at (c.in_ok-solid.ensures {u = tt}) in
-    let fed = c.feed-fault.ensures.fed c.args.opened.version c.in-Ok.solid 3 _ (c.in_ok-checker.ensures {u = tt}).fed in
-    c.rest_reply-2.ensures.found c.args.file before (opened.front ++ opened.rest) opened.taken opened.long
-    (lines_judged c.args.file before _ c.args.piece.now c.args.opened c.feed-fault.new.self opened c.in-Ok.solid checked (rw opened.behind fed))
+    let three = rw c.if-is_of_one.false at c.is_of_one.ensures in
+    c.book_reply.ensures.found before (opened_begun c.args.file before _ c.args.piece.now c.args.opened _ opened three refl)

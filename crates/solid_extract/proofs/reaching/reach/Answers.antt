@@ -15,10 +15,10 @@ add-requires c =
 pub entries-init : goal.entries-init
 entries-init c =
     let added : c.add.new.self.numbers ≡ with_number [] c.args.no.0 =
-    ap (λ (s : Entries). s.numbers) c.in_ok-add.ensures ∙ ap (λ (s : Entries). with_number s.numbers c.args.no.0) c.in_ok-reached.ensures in
+    ap (λ (s : Entries). s.numbers) c.in_ok-add.ensures.ok ∙ ap (λ (s : Entries). with_number s.numbers c.args.no.0) c.in_ok-reached.ensures in
     record {
       flooding = subst (λ (ns : List ℕ). IsFlooding c.args.file.now c.args.no.0 0 ns None) (sym added) (flood_starts c.args.file.now c.args.no.0);
-      size = ap (λ (s : Entries). s.size) c.in_ok-add.ensures ∙ (ap (λ (s : Entries). s.size) c.in_ok-reached.ensures ∙ c.entry_count.ensures.is);
+      size = ap (λ (s : Entries). s.size) c.in_ok-add.ensures.ok ∙ (ap (λ (s : Entries). s.size) c.in_ok-reached.ensures ∙ c.entry_count.ensures.is);
     }
 
 pub entries-preserved : goal.entries-preserved

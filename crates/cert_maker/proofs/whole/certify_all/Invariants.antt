@@ -1,5 +1,0 @@
-use Rattle.cert_maker.proofs.WholeLemmas.{Left}
-use Rattle.cert_maker.proofs.whole.certify_all.Given as goal
-
-abbrev pub invariant-entries : goal.invariant-entries
-invariant-entries l = Left l.file l.i l.used l.parts

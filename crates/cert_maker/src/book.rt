@@ -1,0 +1,132 @@
+//! The certificates of all solids of a file.
+
+ghost use Rattle.std.specs.Prelude.{◌≡◌, ℕ, ◌+◌, ◌<◌, ◌≤◌, IfOk, IfErr, OnOk, length};
+ghost use Rattle.std.specs.List.{AllZip};
+ghost use Rattle.brep_walk.specs.Places.{places};
+ghost use Rattle.brep_walk.specs.SolidOf.{solid_of};
+ghost use Rattle.solid_data.specs.Obligations.{AllHold};
+ghost use Rattle.edge_uses.specs.ShellObligations.{solid_obligations};
+ghost use Rattle.cert_lines.specs.Written.{book_lines, text_of};
+ghost use Rattle.cert_lines.specs.declared.version.Version.TheVariants.{Three as EditionThree};
+ghost use Rattle.solid_check.specs.Accepted.{IsAccepted};
+ghost use Rattle.cert_maker.specs.Certified.{IsCertificate};
+ghost use Rattle.cert_maker.specs.Book.{is_solid_at, solids_of, uses_of, IsMade, AllMade, IsCertificateOf, IsSolidFault, IsFaultOf, IsBookFault};
+
+use crate::fault::MakeFault;
+use crate::making::certify;
+use brep_walk::{WalkFault, walk};
+use iges_fields::{EntryNo, NoMemory};
+use iges_params::File;
+use solid_data::{Failing, Solid};
+use std::alloc::Global;
+use topo_certificate::{Certificate, Certificates, use_count};
+
+/// The entity type of a manifold solid B-rep object.
+const SOLID: i64 = 186;
+
+/// The most loop uses that the solids of a book may have together (own).
+const USE_LIMIT: u64 = 6_000_000;
+
+/// Why not all solids of a file are certified (own).
+#[derive(Clone, Copy, Debug, PartialEq, Eq)]
+pub enum BookFault {
+    /// The file has no solid.
+    NoSolid,
+    /// A solid isn't closed: the first rule that fails, and where.
+    Fails { solid: EntryNo, failing: Failing },
+    /// With this solid there are too many loop uses.
+    TooMany { solid: EntryNo },
+    /// Memory ran out.
+    NoMemory,
+}
+
+impl From<NoMemory> for BookFault {
+    ghost use Rattle.std.specs.Prelude.{◌≡◌};
+    ghost use Rattle.cert_maker.specs.declared.book.BookFault.TheVariants.{NoMemory as OutOfMemory};
+
+    ghost from_gives = { λ _ fault. fault ≡ OutOfMemory };
+
+    fn from(_: NoMemory) -> BookFault {
+        BookFault::NoMemory
+    }
+}
+
+fn walked(alloc: Global, file: &File, no: EntryNo) -> Result<Solid, BookFault>
+    ensures solid { IfOk result (λ s. s ≡ solid_of file.now no.0) }
+    ensures holds { OnOk result (AllHold (places file.now no.0)) }
+    ensures fault { IfErr result (IsFaultOf no.0 (places file.now no.0)) }
+{
+    match walk(alloc, file, no) {
+        Ok(solid) => Ok(solid),
+        Err(WalkFault::Fails(failing)) => Err(BookFault::Fails { solid: no, failing }),
+        Err(WalkFault::NoMemory) => Err(BookFault::NoMemory),
+    }
+}
+
+fn certified(alloc: Global, no: EntryNo, solid: &Solid) -> Result<Certificate, BookFault>
+    ensures certificate { IfOk result (IsCertificate solid.now) }
+    ensures holds { OnOk result (AllHold (solid_obligations solid.now)) }
+    ensures fault { IfErr result (IsFaultOf no.0 (solid_obligations solid.now)) }
+{
+    match certify(alloc, solid) {
+        Ok(certificate) => Ok(certificate),
+        Err(MakeFault::Fails(failing)) => Err(BookFault::Fails { solid: no, failing }),
+        Err(MakeFault::NoMemory) => Err(BookFault::NoMemory),
+    }
+}
+
+/// The certificate of one solid, and how many loop uses there are with its own.
+fn solid_part(
+    alloc: Global,
+    file: &File,
+    no: EntryNo,
+    used: u64,
+) -> Result<(Certificate, u64), BookFault>
+    requires few { used ≤ 6000000 }
+    ensures part { IfOk result (λ p. IsCertificateOf file.now no.0 p.0) }
+    ensures used { IfOk result (λ p. p.1 ≡ used + uses_of file.now no.0) }
+    ensures made { OnOk result (IsMade file.now used no.0) }
+    ensures fault { IfErr result (IsSolidFault file.now used no.0) }
+{
+    let solid = walked(alloc, file, no)?;
+    let used = used + use_count(&solid) as u64;
+    if used > USE_LIMIT {
+        return Err(BookFault::TooMany { solid: no });
+    }
+    let certificate = certified(alloc, no, &solid)?;
+    Ok((certificate, used))
+}
+
+fn is_solid(file: &File, i: usize) -> bool
+    requires { i < length file.now.entries }
+    ensures { result ≡ is_solid_at file.now i }
+{
+    let count = file.entry_count();
+    prove!(i < count);
+    file.entry_at(i).unwrap().kind == SOLID
+}
+
+/// The certificates of all solids of a file, of version 2, in directory order; or the first solid that can't be
+/// certified: one that isn't closed, or with which there are more than 6,000,000 loop uses. Their text as a book is
+/// accepted and names all solids of the file. (own)
+pub fn certify_all(alloc: Global, file: &File) -> Result<Certificates, BookFault>
+    ensures parts { IfOk result (AllZip (IsCertificateOf file.now) (solids_of file.now)) }
+    ensures some { IfOk result (λ parts. 0 < length parts) }
+    ensures book { IfOk result (λ parts. IsAccepted file.now (text_of (book_lines parts)) EditionThree (solids_of file.now)) }
+    ensures made { OnOk result (AllMade file.now 0 (solids_of file.now)) }
+    ensures fault { IfErr result (IsBookFault file.now) }
+{
+    let mut parts = Certificates::new(alloc);
+    let mut used = 0;
+    'entries: for i in 0..file.entry_count() {
+        if is_solid(file, i) {
+            let (part, with) = solid_part(alloc, file, EntryNo(2 * i as u32 + 1), used)?;
+            parts.push(part)?;
+            used = with;
+        }
+    }
+    if parts.len() == 0 {
+        return Err(BookFault::NoSolid);
+    }
+    Ok(parts)
+}

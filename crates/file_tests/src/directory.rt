@@ -1,0 +1,45 @@
+use iges_directory::{Directory, DirectoryFault, directory};
+use iges_fields::EntryNo;
+use iges_lines::{LineFault, Reason, Sections, sections};
+use std::alloc::Global;
+use std::test::Fail;
+
+// The sections of a file of one entry, whose second line has this type.
+fn one_entry(alloc: Global, kind: &[u8; 8]) -> Result<Sections, DirectoryFault> {
+    let mut text =
+        *b"tiny                                                                    S      1\n1H,,1H;;                                                                G      1\n     186       1       0       0       0       0       0       000000000D      1\n     186       0       0       1       0                               0D      2\n186,0,1,0;                                                             1P      1\nS      1G      1D      2P      1                                        T      1\n";
+    text[243..251].copy_from_slice(kind);
+    sections(alloc, &text)
+}
+
+fn entries(alloc: Global, kind: &[u8; 8]) -> Result<Directory, DirectoryFault> {
+    let s = one_entry(alloc, kind)?;
+    directory(alloc, &s)
+}
+
+#[test]
+fn entry_of_a_solid(rt: HostRuntime) -> Result<(), Fail> {
+    let d = entries(rt.alloc(), b"     186")?;
+    assert_eq!(rt; d.count(), 1);
+    let placed = d.placed(EntryNo(1)).ok_or("no entry 1")?;
+    assert_eq!(rt; placed.entry.kind, 186);
+    assert_eq!(rt; placed.count, 1);
+    Ok(())
+}
+
+#[test]
+fn numbers_that_name_no_entry(rt: HostRuntime) -> Result<(), Fail> {
+    let d = entries(rt.alloc(), b"186     ")?;
+    assert!(rt; d.entry(EntryNo(2)).is_none());
+    assert!(rt; d.entry(EntryNo(3)).is_none());
+    Ok(())
+}
+
+#[test]
+fn two_types(rt: HostRuntime) {
+    let fault = LineFault {
+        line: 4,
+        reason: Reason::TypesDiffer,
+    };
+    assert!(rt; entries(rt.alloc(), b"     110").err() == Some(DirectoryFault::Bad(fault)));
+}

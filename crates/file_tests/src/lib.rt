@@ -1,0 +1,19 @@
+//! Tests of the calls that read, write and extract files, each with ample memory.
+#![tactic(auto)]
+
+#[cfg(test)]
+mod compacting;
+#[cfg(test)]
+mod directory;
+#[cfg(test)]
+mod extracting;
+#[cfg(test)]
+mod fields;
+#[cfg(test)]
+mod lines;
+#[cfg(test)]
+mod params;
+#[cfg(test)]
+mod references;
+#[cfg(test)]
+mod writing;

@@ -1,0 +1,105 @@
+ghost use Rattle.std.specs.Prelude.{◌≤◌, length};
+
+use iges_lines::{LineFault, LineFeed, PassFault, Reason, Sections, SectionsFault, sections};
+use std::alloc::Global;
+use std::test::Fail;
+
+// The bad line of a text, where it has one.
+fn bad_line(alloc: Global, text: &[u8]) -> Option<LineFault>
+    requires { length text.now ≤ 600 }
+{
+    match sections(alloc, text) {
+        Err(PassFault::Bad(fault)) => Some(fault),
+        _ => None,
+    }
+}
+
+fn bad(line: u64, reason: Reason) -> Option<LineFault> {
+    Some(LineFault { line, reason })
+}
+
+#[test]
+fn five_sections(rt: HostRuntime) -> Result<(), Fail> {
+    let s = sections(
+        rt.alloc(),
+        b"tiny                                                                    S      1\n1H,,1H;;                                                                G      1\n     186       1       0       0       0       0       0       000000000D      1\n     186       0       0       1       0                               0D      2\n186,0,1,0;                                                             1P      1\nS      1G      1D      2P      1                                        T      1\n",
+    )?;
+    assert_eq!(rt; s.start_count(), 1);
+    assert_eq!(rt; s.global_count(), 1);
+    assert_eq!(rt; s.directory_count(), 2);
+    assert_eq!(rt; s.param_count(), 1);
+    Ok(())
+}
+
+#[test]
+fn lines_end_in_carriage_returns(rt: HostRuntime) -> Result<(), Fail> {
+    let s = sections(
+        rt.alloc(),
+        b"tiny                                                                    S0000001\r\n1H,,1H;;                                                                G1      \r\nS      1G      1D      0P      0                                        T      1",
+    )?;
+    assert_eq!(rt; s.directory_count(), 0);
+    Ok(())
+}
+
+#[test]
+fn no_lines(rt: HostRuntime) {
+    assert_eq!(rt; bad_line(rt.alloc(), b""), bad(1, Reason::Missing));
+}
+
+#[test]
+fn short_line(rt: HostRuntime) {
+    assert_eq!(rt;
+        bad_line(
+            rt.alloc(),
+            b"tiny                                                                    S      1\n1H,,1H;;"
+        ),
+        bad(2, Reason::Length)
+    );
+}
+
+#[test]
+fn byte_behind_the_end(rt: HostRuntime) {
+    assert_eq!(rt;
+        bad_line(
+            rt.alloc(),
+            b"tiny                                                                    S      1\n1H,,1H;;                                                                G      1\nS      1G      1D      0P      0                                        T      1\n \nx"
+        ),
+        bad(5, Reason::After)
+    );
+}
+
+#[test]
+fn word_and_number(rt: HostRuntime) {
+    assert_eq!(rt; Reason::TypesDiffer.word(), b"types-differ".as_slice());
+    assert_eq!(rt; Reason::TypesDiffer.number(), 10);
+}
+
+const TINY: &[u8] =
+    b"tiny                                                                    S      1\n1H,,1H;;                                                                G      1\nS      1G      1D      0P      0                                        T      1\n";
+
+// The lines of a text that comes in two pieces.
+fn fed(alloc: Global, text: &[u8], at: usize) -> Result<Sections, SectionsFault>
+    requires text { length text.now ≤ 600 }
+    requires at { at ≤ length text.now }
+{
+    let mut feed = LineFeed::new(alloc);
+    feed.feed(&text[..at])?;
+    feed.feed(&text[at..])?;
+    feed.finish()
+}
+
+#[test]
+fn cut_within_a_line(rt: HostRuntime) -> Result<(), Fail> {
+    let s = fed(rt.alloc(), TINY, 100)?;
+    assert_eq!(rt; s.start_count(), 1);
+    assert_eq!(rt; s.global_count(), 1);
+    Ok(())
+}
+
+#[test]
+fn cut_behind_an_lf(rt: HostRuntime) -> Result<(), Fail> {
+    let s = fed(rt.alloc(), TINY, 81)?;
+    assert_eq!(rt; s.start_count(), 1);
+    assert_eq!(rt; s.param_count(), 0);
+    Ok(())
+}

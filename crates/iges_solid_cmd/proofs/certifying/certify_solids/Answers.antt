@@ -1,0 +1,22 @@
+use Rattle.std.proofs.Common.{◌<◌, inl, inr, length, refl, arith}
+use Rattle.std.proofs.lemmas.Result.{IfOk-weaker}
+use Rattle.cert_maker.specs.Book.{solids_of, IsCertificateOf}
+use Rattle.cert_maker.proofs.Zipping.{zip_length}
+use Rattle.iges_solid_cmd.proofs.certifying.certify_solids.Goals as goal
+
+pub returns-in-Err-Fails : goal.returns-in-Err-Fails
+returns-in-Err-Fails c =
+    let first = rw c.in-Err-Fails.field-0-is at c.in-Err-Fails.ensures.fault in
+    IfOk-weaker c.solid_failed.result _ _ (λ reply exact. inr (inl (c.in-Err-Fails.solid, c.in-Err-Fails.failing, first, exact))) c.solid_failed.ensures
+
+pub returns-in-Err-NoSolid : goal.returns-in-Err-NoSolid
+returns-in-Err-NoSolid c =
+    let none = rw c.in-Err-NoSolid.field-0-is at c.in-Err-NoSolid.ensures.fault in
+    IfOk-weaker c.no_solid.result _ _ (λ reply exact. inl (none, exact)) c.no_solid.ensures
+
+pub returns : goal.returns
+returns c =
+    let same = zip_length (IsCertificateOf c.args.file) (solids_of c.args.file) c.in-Ok.parts c.in-Ok.ensures.parts in
+    let some = c.in-Ok.ensures.some in
+    let above : 0 < length (solids_of c.args.file) = omega (arith, same, some) in
+    inr (inr (inr (above, c.in-Ok.ensures.made, (c.in-Ok.parts, c.in-Ok.ensures.parts, c.in_ok-write_book.ensures.text), refl)))

@@ -1,0 +1,81 @@
+-- What the lines to come show of those before them, in a legal certificate.
+use Rattle.std.specs.Prelude.{◌≡◌, ℕ, zero, suc, ◌-◌, true, false, List, [], ◌∷◌, length, filter_map, option_map, Some}
+use Rattle.std.specs.List.{cons_option}
+use Rattle.std.proofs.Common.{refl, sym, ◌∙◌, ap, arith}
+use Rattle.solid_data.specs.SolidData.{SolidData}
+use Rattle.solid_data.specs.declared.solid.LoopAt.{LoopAt}
+use Rattle.solid_data.proofs.Members.{Has, covers}
+use Rattle.edge_uses.specs.declared.row.Row.{Row}
+use Rattle.edge_uses.specs.ShellRows.{ShellRows}
+use Rattle.edge_uses.specs.Closed.{IsPaired}
+use Rattle.cert_lines.specs.Line.{CertLine, head, solid, shell, edge, corner, point, reach, tally, end}
+use Rattle.cert_lines.specs.declared.version.Version.{Version}
+use Rattle.topo_certificate.specs.Stand.{Stand, Due, stand_behind, NoneDue, edge_of, vertex_of, is_shell, is_edge, is_corner_or_point, number_of, since_shell, rows_of_shell, current_rows, row_named, row_start, point_named}
+use Rattle.topo_certificate.specs.Behind.{IsLegalBehind}
+use Rattle.topo_certificate.proofs.Segment.{falls_none}
+use Rattle.topo_certificate.proofs.Shells.{AllFit, Facts, Good, facts_of, facts_paired}
+use Rattle.solid_check.proofs.Nexts.{Leads, leads_none, leads_less}
+
+-- The edges and the vertices that the lines since the SHELL line name lead to all of the shell, and its edges are paired.
+pub record LeadOn (s : SolidData) (lines : List CertLine) (d : ShellRows) : Type 0 where
+  pub edges : Leads d.edges (filter_map (edge_of d) (since_shell lines))
+  pub vertices : Leads d.vertices (filter_map (vertex_of d) (since_shell lines))
+  pub paired : (e : ℕ) → Has d.edges e → IsPaired d e
+
+going_not_ended : (b : Stand) → b.ended ≡ false → b.ended ≡ true → ⊥
+going_not_ended b going ended = true_false (sym ended ∙ going)
+  where
+    true_false : true ≡ false → ⊥
+    true_false h = cc
+
+-- a row, the start of a row, or a loop without an edge is named of a shell that has begun
+pub begun_row : (s : SolidData) (n a : ℕ) (row : Row) → row_named (rows_of_shell s n) a ≡ Some row → (k : ℕ) × (n ≡ suc k)
+begun_row s zero zero row h = absurd cc
+begun_row s zero (suc a) row h = absurd cc
+begun_row s (suc k) a row h = (k, refl)
+
+pub begun_start : (s : SolidData) (n r v : ℕ) → row_start (row_named (rows_of_shell s n) r) ≡ Some v → (k : ℕ) × (n ≡ suc k)
+begun_start s zero zero v h = absurd cc
+begun_start s zero (suc r) v h = absurd cc
+begun_start s (suc k) r v h = (k, refl)
+
+pub begun_point : (s : SolidData) (n face l v : ℕ) → option_map (λ (p : LoopAt × ℕ). p.1) (point_named (rows_of_shell s n) face l) ≡ Some v → (k : ℕ) × (n ≡ suc k)
+begun_point s zero face l v h = absurd cc
+begun_point s (suc k) face l v h = (k, refl)
+
+module _ (version : Version) (s : SolidData) (good : Good s) where
+  -- Where nothing is due, all have come.
+  all_came : (lines : List CertLine) (d : ShellRows) → Facts version s lines d → NoneDue (stand_behind version s lines).due → LeadOn s lines d
+  unfolding stand_behind
+  all_came lines d facts none =
+      let edges : length d.edges - number_of is_edge (since_shell lines) ≡ 0 = sym (ap (λ (a : Due). a.edges - number_of is_edge (since_shell lines)) facts.asks) ∙ none.edges in
+      let vertices : length d.vertices - number_of is_corner_or_point (since_shell lines) ≡ 0 = sym (ap (λ (a : Due). a.corners - number_of is_corner_or_point (since_shell lines)) facts.asks) ∙ none.corners in
+      let es : List ℕ = filter_map (edge_of d) (since_shell lines) in
+      let vs : List ℕ = filter_map (vertex_of d) (since_shell lines) in
+      record {
+        edges = leads_none d.edges es facts.edge_facts.falls (λ x m. covers es d.edges (falls_none es facts.edge_facts.falls) (λ y k. (facts.edge_facts.each y k).0) (omega (arith, edges, facts.edge_facts.number)) x m);
+        vertices = leads_none d.vertices vs facts.corner_facts.falls (λ x m. covers vs d.vertices (falls_none vs facts.corner_facts.falls) (λ y k. (facts.corner_facts.each y k).0) (omega (arith, vertices, facts.corner_facts.number)) x m);
+        paired = facts_paired version s lines d facts none.edges;
+      }
+
+  -- what leads on behind a line leads on before it
+  one_less : (line : CertLine) (lines : List CertLine) (d : ShellRows) → Leads d.edges (cons_option (edge_of d line) (filter_map (edge_of d) (since_shell lines))) → Leads d.vertices (cons_option (vertex_of d line) (filter_map (vertex_of d) (since_shell lines)))
+      → ((e : ℕ) → Has d.edges e → IsPaired d e) → LeadOn s lines d
+  one_less line lines d edges vertices paired = record {
+    edges = leads_less d.edges (filter_map (edge_of d) (since_shell lines)) (edge_of d line) edges;
+    vertices = leads_less d.vertices (filter_map (vertex_of d) (since_shell lines)) (vertex_of d line) vertices;
+    paired = paired;
+  }
+
+  pub lead_on : (before : List CertLine) (k : ℕ) → number_of is_shell before ≡ suc k → AllFit version s before → (lines : List (List ℕ)) → IsLegalBehind version s before lines → (stand_behind version s before).ended ≡ false → LeadOn s before (current_rows s before)
+  unfolding stand_behind
+  lead_on before k number fit [] ended going = absurd (going_not_ended (stand_behind version s before) going ended)
+  lead_on before k number fit (bytes ∷ lines) (head v, is, fits, more) going = absurd fits.1
+  lead_on before k number fit (bytes ∷ lines) (solid n, is, fits, more) going = absurd fits.1
+  lead_on before k number fit (bytes ∷ lines) (shell j c, is, fits, more) going = all_came before (current_rows s before) (facts_of version s good before k number fit) fits.1.0
+  lead_on before k number fit (bytes ∷ lines) (edge a b, is, fits, more) going = let h = lead_on (edge a b ∷ before) k number (fits, fit) lines more going in one_less (edge a b) before (current_rows s before) h.edges h.vertices h.paired
+  lead_on before k number fit (bytes ∷ lines) (corner rs, is, fits, more) going = let h = lead_on (corner rs ∷ before) k number (fits, fit) lines more going in one_less (corner rs) before (current_rows s before) h.edges h.vertices h.paired
+  lead_on before k number fit (bytes ∷ lines) (point face l, is, fits, more) going = let h = lead_on (point face l ∷ before) k number (fits, fit) lines more going in one_less (point face l) before (current_rows s before) h.edges h.vertices h.paired
+  lead_on before k number fit (bytes ∷ lines) (reach r, is, fits, more) going = let h = lead_on (reach r ∷ before) k number (fits, fit) lines more going in one_less (reach r) before (current_rows s before) h.edges h.vertices h.paired
+  lead_on before k number fit (bytes ∷ lines) (tally t, is, fits, more) going = let h = lead_on (tally t ∷ before) k number (fits, fit) lines more going in one_less (tally t) before (current_rows s before) h.edges h.vertices h.paired
+  lead_on before k number fit (bytes ∷ lines) (end, is, fits, more) going = all_came before (current_rows s before) (facts_of version s good before k number fit) fits.1.0

@@ -1,0 +1,20 @@
+-- Of each obligation on a solid of a file it can be told whether it holds.
+use Rattle.std.specs.Prelude.{ℕ}
+use Rattle.iges_params.specs.Contents.{Contents}
+use Rattle.brep_walk.specs.Places.{places}
+use Rattle.brep_walk.specs.SolidOf.{solid_of}
+use Rattle.brep_walk.proofs.Decided.{places_decided}
+use Rattle.solid_data.proofs.ObligationsDecided.{AreDecided, decided-append}
+use Rattle.edge_uses.specs.ShellObligations.{solid_obligations, checked_obligations}
+use Rattle.edge_uses.proofs.Decided.{solid_decided, checked_decided}
+use Rattle.solid_check.specs.Closed.{obligations}
+use Rattle.solid_check.specs.Checked.{checked}
+
+pub obligations_decided : (f : Contents) (n : ℕ) → AreDecided (obligations f n)
+unfolding obligations
+obligations_decided f n = decided-append (places f n) (solid_obligations (solid_of f n)) (places_decided f n) (solid_decided (solid_of f n))
+
+-- and of what is checked before the lines of a certificate
+pub checks_decided : (f : Contents) (n : ℕ) → AreDecided (checked f n)
+unfolding checked
+checks_decided f n = decided-append (places f n) (checked_obligations (solid_of f n)) (places_decided f n) (checked_decided (solid_of f n))

@@ -1,0 +1,8 @@
+pub mod Closed
+pub mod Accepted
+pub mod Laws
+pub mod Checked
+pub mod Book
+pub mod BookLaws
+pub mod Faults
+pub mod Naming
