@@ -1,6 +1,8 @@
 """Random changes of a certificate's text."""
 import re
 
+from versions import book_of, parts_of
+
 
 def changed_once(rng, lines):
     """The lines with a change of a number, a byte or their order."""
@@ -37,3 +39,18 @@ def changed(rng, certificate):
         changed_once(rng, lines)
         certificate = b"\n".join(lines)
     return certificate
+
+
+def changed_book(rng, book):
+    """The book with a part left out, there twice or elsewhere, or with changes of its lines, or with both."""
+    parts = parts_of(book)
+    change = rng.choice(["out", "twice", "swap", "none", "none"])
+    i, j = rng.randrange(len(parts)), rng.randrange(len(parts))
+    if change == "out":
+        del parts[i]
+    elif change == "twice":
+        parts.insert(j, parts[i])
+    elif change == "swap":
+        parts[i], parts[j] = parts[j], parts[i]
+    book = book_of(parts)
+    return book if change != "none" and rng.random() < 0.5 else changed(rng, book)

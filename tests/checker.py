@@ -1,7 +1,8 @@
 """A checker of certificates that goes by docs/CERTIFICATE.md and shares no code with the program, to compare the program with.
 
-It takes versions 1 and 2, and forms the text that `upgrade` is to write. It reads the records of a solid only as far as
-the files of the examples need: integers on lines of 80 columns, no fault.
+It takes all three versions, and forms the text that `upgrade` is to write. It reads the records of a solid only as far as
+the files of the examples need: integers on lines of 80 columns, no fault. Of the rules on a solid it judges those that the
+certificate's lines show, and whether the number names a solid at all; the others are to hold of each solid of the file.
 """
 import re
 
@@ -111,7 +112,7 @@ def shells_of(records, solid):
 
 
 class Checking:
-    """Where a checker stands behind some lines."""
+    """Where a checker of one solid stands behind some lines."""
 
     def __init__(self, shells, version):
         self.shells, self.version, self.named, self.shell, self.ended = shells, version, 0, None, False
@@ -120,6 +121,10 @@ class Checking:
     def due(self):
         """The kind of line that is due of the shell, or None."""
         return "edge" if self.edges else "corner" if self.corners else "reach" if self.reaches else "tally" if self.tallies else None
+
+    def is_over(self):
+        """Whether `END` is due, or in a book the next part."""
+        return not self.ended and self.due() is None and self.named == len(self.shells)
 
     def fits(self, kind, numbers):
         if self.ended:
@@ -133,7 +138,7 @@ class Checking:
             return self.due() == "tally" and self.tally(*numbers)
         if kind == "shell":
             return self.due() is None and self.named < len(self.shells) and self.begin(*numbers)
-        self.ended = kind == "last" and self.due() is None and self.named == len(self.shells)
+        self.ended = kind == "last" and self.is_over()
         return self.ended
 
     def begin(self, number, rows, edges, corners, faces):
@@ -208,38 +213,58 @@ def opening(lines):
         if kind != due:
             return None, f"line {number} {'misspelt' if kind == 'misspelt' else 'unfit'}\n"
         said += numbers
-    return (said, None) if said[0] in (1, 2) else (None, "line 1 misspelt\n")
+    return said, None
 
 
-def judgement(records, version, solid, lines):
-    """The answer by the lines from line 3 on."""
+def no_solid(records, solid):
+    """What is answered where the number names no solid; None where it names one."""
+    if solid not in records:
+        return f"fail ENTRY {solid} 0\n"
+    return f"fail TYPE {solid} 0\n" if records[solid][0] != 186 else None
+
+
+def judgement(records, version, solid, lines, last):
+    """Judges lines of a solid, each with its number: all that are left, or in a book those up to the next part.
+
+    `last` is the number of the last line of all. Gives the solid that begins the next part, or None; and the answer where a
+    line is bad or missing, or None.
+    """
     shells, uses = shells_of(records, solid)
-    checking = Checking(shells, version)
-    for number, line in enumerate(lines, 3):
+    checking = Checking(shells, min(version, 2))
+    for number, line in lines:
         kind, numbers = judged(line, 64 + 10 * uses)
         if kind == "misspelt":
-            return f"line {number} misspelt\n"
+            return None, f"line {number} misspelt\n"
+        if version == 3 and kind == "solid" and checking.is_over() and numbers[0] > solid:
+            return numbers[0], None
         if not checking.fits(kind, numbers):
-            return f"line {number} unfit\n"
-    return f"accepted {solid}\n" if checking.ended else f"line {len(lines) + 3} missing\n"
+            return None, f"line {number} unfit\n"
+    return None, None if checking.ended else f"line {last + 1} missing\n"
 
 
 def answer(records, certificate):
-    """What `verify` answers where the places, JOIN and APART of the solid hold; None where line 2 names no solid of the file."""
+    """What `verify` answers, where each solid of the file keeps the rules that no line shows."""
     lines = lines_of(certificate)
     said, bad = opening(lines)
     if said is None:
         return bad
     version, solid = said
-    if records.get(solid, (0, []))[0] != 186:
-        return None
-    return judgement(records, version, solid, lines[2:])
+    rest, accepted = iter(list(enumerate(lines, 1))[2:]), ""
+    while solid is not None:
+        bad = no_solid(records, solid)
+        if bad:
+            return f"solid {solid}\n{bad}" if version == 3 else bad
+        accepted += f"accepted {solid}\n"
+        solid, bad = judgement(records, version, solid, rest, len(lines))
+        if bad:
+            return bad
+    return accepted
 
 
 def upgraded(records, certificate):
     """What `upgrade` writes of an accepted certificate."""
     head, solid, *lines = lines_of(certificate)
-    if head == b"IGESCERT 2\n":
+    if head != b"IGESCERT 1\n":
         return certificate
     shells = iter(shells_of(records, int(solid.split()[1]))[0])
     text = [b"IGESCERT 2\n", solid, lines[0]]

@@ -1,0 +1,207 @@
+"""The launcher and dist/: a first run without the kit, builds by a kit that is played, and what the launcher says."""
+import os
+import pathlib
+import re
+import resource
+import shutil
+import signal
+import subprocess
+import time
+
+import clone
+from sample_file import sample_text
+
+BIG_FILE, BIG_CERTIFICATE = 164_000_001, 536_870_913
+IS_BIG_FILE = "the file has more than 164,000,000 bytes"
+IS_BIG_CERTIFICATE = "the certificate has more than 536,870,912 bytes"
+
+
+def first_runs(copy, skipped):
+    """What the launcher does of a clone whose dist/ holds the program, without the kit."""
+    cube = ["./igesolid", "certify", "examples/cube.igs", "1"]
+    wanted = subprocess.run([copy.program, *cube[1:]], cwd=copy.top, stdout=subprocess.PIPE).stdout
+    start = time.monotonic()
+    yield "launcher: the first command", copy.run(*cube) == (0, wanted, "")
+    yield "launcher: within a second", time.monotonic() - start < 1
+    yield "launcher: from another folder", copy.run(copy.top / "igesolid", "solids", "cube.igs", cwd=copy.top / "examples") == (0, b"1\n", "")
+    piped = subprocess.run(
+        ["./igesolid", "solids", "/dev/stdin"], cwd=copy.top, input=(copy.top / "examples" / "cube.igs").read_bytes(), stdout=subprocess.PIPE, env=copy.environment()
+    )
+    yield "launcher: a file on standard input", (piped.returncode, piped.stdout) == (0, b"1\n")
+    yield "launcher: no words", copy.run("./igesolid")[::2] == (2, "")
+    sources = copy.run("dist/sources")[1].decode()
+    shipped = copy.top / "dist" / "igesolid-x86_64-linux"
+    status, text, error = copy.run("./igesolid", "--version")
+    told = re.fullmatch(r"igesolid [0-9.]+\nsources (.*\n)kit a kit for tests\nprogram (.*)\n", text.decode())
+    yield "launcher: --version", (status, error) == (0, "") and told and told.groups() == (sources, str(shipped))
+    yield "launcher: --program", copy.run("./igesolid", "--program") == (0, f"{shipped}\n".encode(), "")
+    if not clone.without_kit():
+        skipped("runs without the kit: rt is among the system's own commands")
+        return
+    status, text, error = copy.run("./igesolid", "--built", *cube[1:])
+    yield "launcher: --built without the kit", (status, text) == (125, b"") and "rt, the kit that builds it, isn't on PATH" in error
+    whole = shipped.read_bytes()
+    shipped.write_bytes(whole[:-1])
+    yield "launcher: a program of dist/ that is cut", copy.run(*cube)[0] == 125
+    copy.ship_script("#!/bin/sh\nexit 1\n")
+    status, _, error = copy.run(*cube)
+    yield "launcher: a program that doesn't start", status == 125 and "doesn't start on this machine" in error
+    copy.ship(copy.program)
+    with open(copy.top / "crates.txt", "a") as file:
+        file.write("# changed\n")
+    status, _, error = copy.run(*cube)
+    yield "launcher: a changed source without the kit", status == 125 and "holds no program of these sources" in error
+
+
+def helps(copy, forms):
+    """--help and the man page have each form and each word of the launcher."""
+    status, text, error = copy.run("./igesolid", "--help")
+    page = (copy.top / "man" / "igesolid.1").read_text()
+    plain = page.replace("\\-", "-").replace("\\fB", "").replace("\\fI", "").replace("\\fR", "")
+    yield "launcher: --help", (status, error) == (0, "")
+    for form in [*forms, "--help", "--version", "--program"]:
+        yield f"--help: {form}", f"igesolid {form} " in text.decode()
+        yield f"man page: {form}", form in plain
+    version = re.search(r"(?m)^version=(.*)$", (copy.top / "igesolid").read_text())[1]
+    yield "man page: the version", f'"igesolid {version}"' in page
+
+
+def builds(copy):
+    """Builds by the kit that is played, in a clone whose sources aren't those of dist/."""
+    solids = ["./igesolid", "solids", "examples/cube.igs"]
+    copy.calls()
+    status, text, error = copy.run(*solids, kit=True)
+    lines = error.splitlines()
+    count = len(lines) - 1
+    yield "build: the answer", (status, text) == (0, b"1\n")
+    yield "build: a line a crate", [it.split(",")[0] for it in lines[1:]] == [f"igesolid: {n} of {count} crates proved" for n in range(1, count + 1)]
+    calls = copy.calls()
+    yield "build: lowest first, and the program last", calls[0] == "lib iges_fields" and calls[-1] == "run igesolid" and len(calls) == count
+    yield "build: once", copy.run(*solids) == (0, b"1\n", "") and copy.calls() == []
+    yield "build: --built runs it", copy.run("./igesolid", "--built", *solids[1:]) == (0, b"1\n", "")
+    whole = copy.built().read_bytes()
+    copy.built().write_bytes(whole[:-1])
+    yield "build: another program in its place", copy.run("./igesolid", "--built", *solids[1:])[0] == 125
+    copy.built().write_bytes(whole)
+    yield "build: --version", b"kit a kit for tests\nprogram " in copy.run("./igesolid", "--version")[1]
+    copy.unbuild()
+    status, text, error = copy.run(*solids, kit=True, KIT_REFUSES="brep_walk")
+    yield "build: a crate that isn't proved", (status, text) == (125, b"") and "crate brep_walk could not be built" in error
+    yield "build: none above it", "run igesolid" not in copy.calls()
+    yield "build: not built yet", b"not built yet" in copy.run("./igesolid", "--version")[1]
+    status, told = clone.on_terminal(solids, cwd=copy.top, env=copy.environment(kit=True, KIT_DELAY="0.05"))
+    yield "build: one line that changes", status == 0 and f"\r\x1b[Kigesolid: 0 of {count} crates proved, now iges_fields" in told
+    copy.unbuild()
+
+
+def stopped(copy):
+    """A signal to the launcher's group, as from a terminal, stops a build, and a signal to the launcher a run."""
+    solids = ["./igesolid", "solids", "examples/cube.igs"]
+    for number in (signal.SIGINT, signal.SIGTERM):
+        process = subprocess.Popen(solids, cwd=copy.top, env=copy.environment(kit=True, KIT_DELAY=5), stderr=subprocess.DEVNULL, start_new_session=True)
+        time.sleep(0.5)
+        os.killpg(process.pid, number)
+        yield f"a build stopped by {number.name}", process.wait(timeout=10) == -number
+    copy.ship(copy.program)
+    fifo = copy.folder / "fifo"
+    os.mkfifo(fifo)
+    process = subprocess.Popen(["./igesolid", "solids", fifo], cwd=copy.top, env=copy.environment(), stderr=subprocess.DEVNULL, start_new_session=True)
+    with open(fifo, "wb", buffering=0) as writer:
+        time.sleep(0.2)
+        process.terminate()
+        yield "a run stopped", process.wait(timeout=10) == -signal.SIGTERM
+        try:
+            writer.write(b"x")
+            is_gone = False
+        except BrokenPipeError:
+            is_gone = True
+        yield "a run stopped: the program too", is_gone
+    fifo.unlink()
+
+
+def messages(copy):
+    """What the launcher says of the program's own statuses; nothing of the others."""
+    cube, certificate = "examples/cube.igs", "examples/cube.cert2"
+    (copy.top / "big.igs").touch()
+    os.truncate(copy.top / "big.igs", BIG_FILE)
+    (copy.top / "big.cert").touch()
+    os.truncate(copy.top / "big.cert", BIG_CERTIFICATE)
+    for words, status, said in (
+        (["solids", "none.igs"], 4, "none.igs: can't be opened: No such file or directory"),
+        (["solids", "two\nlines"], 4, "two?lines: can't be opened: No such file or directory"),
+        (["show", "examples", "1"], 4, "examples: is a folder"),
+        (["verify", cube, "none.cert"], 4, "none.cert: can't be opened: No such file or directory"),
+        (["upgrade", cube, "docs"], 4, "docs: is a folder"),
+        (["solids", "/proc/self/mem"], 4, "/proc/self/mem: a read failed: Input/output error"),
+        (["solids", "big.igs"], 8, f"big.igs: {IS_BIG_FILE}"),
+        (["verify", "big.igs", "big.cert"], 8, f"big.igs: {IS_BIG_FILE}"),
+        (["verify", cube, "big.cert"], 8, f"big.cert: {IS_BIG_CERTIFICATE}"),
+    ):
+        yield f"message: {words}", copy.run("./igesolid", *words) == (status, b"", f"igesolid: {said}\n")
+    told = copy.run("./igesolid", "solids", b"caf\xe9.igs")
+    yield "message: a word that isn't UTF-8", told[::2] == (2, "igesolid: caf\ufffd.igs: this word isn't UTF-8\n")
+    with open("/dev/full", "wb") as full:
+        told = copy.run("./igesolid", "certify", cube, "1", stdout=full)
+    yield "message: standard output is full", told[::2] == (5, f"igesolid: {cube}: standard output failed, so the answer is cut short or missing\n")
+    (copy.top / "sample.igs").write_bytes(sample_text(100))
+    few = 12_000_000
+    told = copy.run("./igesolid", "certify", "sample.igs", "1", limit=lambda: resource.setrlimit(resource.RLIMIT_AS, (few, few)))
+    yield "message: no memory", told == (6, b"", "igesolid: sample.igs: out of memory\n")
+    for words in (["certify", "examples/two_tetrahedra.igs", "1"], ["certify", "examples/two_tetrahedra.igs", "all"], ["solids", "crates.txt"], ["extract", cube, "3"], ["solids"]):
+        status, _, error = copy.run("./igesolid", *words)
+        yield f"no message: {words}", status in (1, 2, 3, 7) and error == ""
+    copy.ship_script(clone.ENDING)
+    for words, said in (
+        (["extract", cube, "1"], f"{cube}: the extracted text would have more than 164,000,000 bytes"),
+        (["upgrade", cube, certificate], f"{cube}: the upgraded text would have more than 536,870,912 bytes"),
+        (["upgrade", cube, "big.cert"], f"big.cert: {IS_BIG_CERTIFICATE}"),
+        (["certify", cube, "all"], f"{cube}: its solids have more than 6,000,000 loop uses together"),
+        (["certify", "/dev/null", "all"], f"/dev/null: {IS_BIG_FILE}, or its solids have more than 6,000,000 loop uses together"),
+        (["certify", "/dev/null", "1"], f"/dev/null: {IS_BIG_FILE}"),
+        (["verify", "/dev/null", certificate], f"/dev/null: {IS_BIG_FILE}"),
+        (["verify", "/dev/null", "/dev/null"], f"/dev/null: {IS_BIG_FILE}, or {IS_BIG_CERTIFICATE}"),
+    ):
+        yield f"message of status 8: {words}", copy.run("./igesolid", *words, STATUS=8) == (8, b"", f"igesolid: {said}\n")
+    for status in (4, 6, 9):
+        error = copy.run("./igesolid", "verify", cube, certificate, STATUS=status)[2]
+        yield f"message of status {status}: one line", error.startswith("igesolid: ") and error.count("\n") == 1
+    for name in ("big.igs", "big.cert", "sample.igs"):
+        (copy.top / name).unlink()
+    copy.ship(copy.program)
+
+
+def comparisons(copy, skipped):
+    """dist/check passes where dist/ holds what was built here, of these sources, and fails else; dist/make counts what git tracks."""
+    copy.built().parent.mkdir(exist_ok=True)
+    shutil.copy(copy.program, copy.built())
+    yield "dist/check: the same", copy.run("dist/check", kit=True)[0] == 0
+    copy.built().write_bytes(pathlib.Path(copy.program).read_bytes()[:-1] + b"?")
+    yield "dist/check: another byte", copy.run("dist/check", kit=True)[0] == 1
+    copy.built().write_bytes(pathlib.Path(copy.program).read_bytes())
+    listed = copy.top / "HANDLES"
+    text = listed.read_text()
+    listed.write_text(text + "\n")
+    yield "dist/check: another source", copy.run("dist/check", kit=True)[0] == 1
+    listed.write_text(text)
+    yield "dist/check: the sources again", copy.run("dist/check", kit=True)[0] == 0
+    if shutil.which("git", path=clone.PLAIN_PATH) is None:
+        skipped("dist/make beside git, which isn't installed")
+    else:
+        copy.run("git", "init", "--quiet")
+        copy.run("git", "add", "--all")
+        told = copy.run("dist/sources")[1]
+        yield "dist/make: what git tracks", copy.run("dist/make", kit=True)[0] == 0 and copy.run("dist/sources")[1] == told
+        (copy.top / "crates" / "iges_io" / "notes").touch()
+        yield "dist/make: a file that git doesn't know", copy.run("dist/make", kit=True)[0] == 1
+        (copy.top / "crates" / "iges_io" / "notes").unlink()
+        shutil.rmtree(copy.top / ".git")
+    copy.unbuild()
+
+
+def checks(copy, forms, skipped):
+    yield from first_runs(copy, skipped)
+    yield from helps(copy, forms)
+    yield from builds(copy)
+    yield from stopped(copy)
+    yield from messages(copy)
+    yield from comparisons(copy, skipped)

@@ -1,0 +1,97 @@
+"""The installer and the Debian package, each into a folder of its own."""
+import os
+import re
+import shutil
+import subprocess
+
+import clone
+
+INSTALLED = "bin/igesolid", "lib/igesolid/igesolid", "lib/igesolid/BUILT", "share/man/man1/igesolid.1"
+PAGES = "README.md", "docs/FORMAT.md", "docs/CERTIFICATE.md", "examples/cube.igs", "examples/README.md", "examples/occt/05_sphere.igs"
+
+
+def files_in(folder):
+    return sorted(str(it.relative_to(folder)) for it in folder.rglob("*") if not it.is_dir())
+
+
+def certifies(copy, root):
+    """Whether what is installed below a folder certifies an example that is installed there, without the kit."""
+    wanted = subprocess.run([copy.program, "certify", copy.top / "examples" / "cube.igs", "1"], stdout=subprocess.PIPE).stdout
+    return copy.run(root / "bin" / "igesolid", "certify", "cube.igs", "1", cwd=root / "share" / "doc" / "igesolid" / "examples") == (0, wanted, "")
+
+
+def installs(copy):
+    prefix = copy.folder / "a prefix"
+    status, text, error = copy.run("./install", prefix)
+    yield "install", (status, error) == (0, "") and text.decode().startswith(f"igesolid is installed in {prefix}\n")
+    found = files_in(prefix)
+    for name in [*INSTALLED, *(f"share/doc/igesolid/{page}" for page in PAGES)]:
+        yield f"install: {name}", name in found
+    yield "install: it certifies", certifies(copy, prefix)
+    own, installed = (copy.run(at, "--version")[1].decode().splitlines() for at in ("./igesolid", prefix / "bin" / "igesolid"))
+    yield "install: --version", installed[:3] == own[:3] and installed[3].endswith("/lib/igesolid/igesolid")
+    yield "install: --built", copy.run(prefix / "bin" / "igesolid", "--built")[0] == 125
+    status, text, _ = copy.run(prefix / "bin" / "igesolid", "--help")
+    yield "install: --help names the pages", status == 0 and f"Pages: {prefix}/share/doc/igesolid\n" in text.decode()
+    yield "install: a second time", copy.run("./install", prefix)[0] == 0 and files_in(prefix) == found
+    kept = prefix / "share" / "doc" / "igesolid" / "notes"
+    kept.write_text("of somebody else\n")
+    yield "uninstall", copy.run("./install", "--uninstall", prefix)[0] == 0
+    yield "uninstall: what others put there stays", files_in(prefix) == ["share/doc/igesolid/notes"]
+    yield "uninstall: a second time", copy.run("./install", "--uninstall", prefix)[0] == 1
+    shutil.rmtree(prefix)
+    home = copy.folder / "home"
+    yield "install: without a prefix", copy.run("./install", HOME=home)[0] == 0 and certifies(copy, home / ".local")
+    yield "uninstall: without a prefix", copy.run("./install", "--uninstall", HOME=home)[0] == 0 and list((home / ".local").iterdir()) == []
+    stage = copy.folder / "stage"
+    yield "install: DESTDIR", copy.run("./install", "/usr", DESTDIR=stage)[0] == 0 and certifies(copy, stage / "usr")
+    shutil.rmtree(stage)
+
+
+def packages(copy, skipped):
+    if shutil.which("dpkg-deb") is None:
+        skipped("the Debian package: dpkg-deb isn't installed")
+        return
+    status, text, error = copy.run("packaging/deb", copy.folder, SOURCE_DATE_EPOCH=1_700_000_000)
+    yield "package", (status, error) == (0, "")
+    if status != 0:
+        return
+    package = text.decode().strip()
+    whole = open(package, "rb").read()
+    copy.run("packaging/deb", copy.folder, SOURCE_DATE_EPOCH=1_700_000_000)
+    yield "package: the same bytes again", open(package, "rb").read() == whole
+    needs = copy.run("dpkg-deb", "--field", package, "Depends")[1].decode()
+    yield "package: needs the C library alone", re.fullmatch(r"libc6 \(>= 2\.[0-9]+\)\n", needs) is not None
+    root = copy.folder / "root"
+    if os.geteuid() == 0:
+        # dpkg knows of one package there, the C library of this machine.
+        (root / "var" / "lib" / "dpkg" / "info").mkdir(parents=True)
+        (root / "var" / "lib" / "dpkg" / "updates").mkdir()
+        (root / "var" / "lib" / "dpkg" / "status").write_bytes(copy.run("dpkg-query", "--status", "libc6")[1])
+        installed = copy.run("dpkg", f"--root={root}", "--force-script-chrootless", "--install", package)
+        yield "package: installed", installed[0] == 0 and b"install ok installed" in copy.run("dpkg-query", f"--admindir={root}/var/lib/dpkg", "--status", "igesolid")[1]
+    else:
+        yield "package: unpacked", copy.run("dpkg-deb", "--extract", package, root)[0] == 0
+    yield "package: it certifies", certifies(copy, root / "usr")
+    if os.geteuid() == 0:
+        copy.run("dpkg", f"--root={root}", "--force-script-chrootless", "--purge", "igesolid")
+        yield "package: removed", not (root / "usr").exists() or files_in(root / "usr") == []
+    shutil.rmtree(root)
+    if shutil.which("lintian") is None:
+        skipped("the Debian package's look by lintian, which isn't installed")
+    else:
+        yield "package: lintian", copy.run("lintian", "--allow-root", "--fail-on", "error", package)[0] == 0
+
+
+def pages(copy, skipped):
+    if shutil.which("groff") is None:
+        skipped("the man page: groff isn't installed")
+    else:
+        status, _, error = copy.run("groff", "-man", "-ww", "-Tascii", "man/igesolid.1")
+        yield "man page: no warnings", (status, error) == (0, "")
+
+
+def checks(copy, skipped):
+    yield from installs(copy)
+    yield from packages(copy, skipped)
+    yield from pages(copy, skipped)
