@@ -1,5 +1,5 @@
 -- The printed lines of what is refused and of what is accepted.
-use Rattle.std.specs.Prelude.{ℕ, ◌+◌, List, ◌++◌, flat_map, codes, decimal}
+use Rattle.std.specs.Prelude.{ℕ, List, ◌++◌, flat_map, codes, decimal}
 use Rattle.iges_lines.specs.declared.fault.LineFault.{LineFault}
 use Rattle.iges_lines.specs.Reasons.{reason_word}
 use Rattle.solid_data.specs.RuleNames.{rule_name}

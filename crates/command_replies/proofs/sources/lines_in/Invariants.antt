@@ -1,5 +1,4 @@
-use Rattle.std.proofs.Common.{◌≡◌, ◌≤◌, ◌-◌, List, ℕ, length}
-use Rattle.std.specs.Io.KnownBytes.{Consumes}
+use Rattle.std.proofs.Common.{◌≡◌, ◌≤◌, ◌-◌, length}
 use Rattle.iges_fields.specs.declared.TheConstants.{FILE_LIMIT}
 use Rattle.iges_io.specs.declared.reading.TheConstants.{PIECE}
 use Rattle.command_replies.proofs.Feeds.{IsFedSoFar}
