@@ -3,7 +3,7 @@ import random
 
 import compactor
 import iges_file
-from shapes import Grid, disc, presented, torus
+from shapes import Grid, beside, disc, presented, torus
 
 
 def compacted(data, solid):
@@ -34,14 +34,16 @@ def judged(run, name, data, solid):
 
 
 def made(run):
-    """Solids whose lists hold unused items: closed ones, and such as fail PAIR, LINK and APART."""
+    """Solids whose lists hold unused items: closed ones, and such as fail JOIN, PAIR, REACH, LINK and APART."""
     rng = random.Random(504)
     pinched = torus(4, 4).merged({(2, 2): (0, 0)})
     for name, told, shared in (
         ("torus", [torus(3, 3)], {}),
         ("two tori", [torus(2, 2), torus(1, 2)], {}),
         ("two tori that share a vertex", [torus(2, 2), torus(1, 2)], {(1, (0, 1)): (0, (1, 1))}),
+        ("torus with a use turned", [torus(2, 2).unjoined()], {}),
         ("disc", [disc(5)], {}),
+        ("two tori in a shell", [beside(torus(2, 2), torus(1, 2))], {}),
         ("Klein bottle", [Grid(2, 3, "mirrored", "straight").surface()], {}),
         ("pinched torus", [pinched], {}),
     ):

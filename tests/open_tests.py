@@ -19,12 +19,6 @@ def square_with_hole(filled):
     return Surface(faces + [[[(edge, True) for edge in inner]]] * filled, ends)
 
 
-def unjoined(surface):
-    """With one use turned."""
-    (edge, along), *rest = surface.faces[0][0]
-    return Surface([[[(edge, not along), *rest], *surface.faces[0][1:]], *surface.faces[1:]], surface.ends)
-
-
 def surfaces():
     strip = Grid(1, 4).surface()
     annulus = Grid(1, 6, None, "straight").surface()
@@ -49,7 +43,7 @@ def surfaces():
         "disc with a point at its border": disc(4).with_point(2, 3),
         "point": Surface([[[("point",)]]], {}),
         "two points at a vertex": Surface([[[("point",)], [("point",)]]], {}),
-        "strip with a use turned": unjoined(strip),
+        "strip with a use turned": strip.unjoined(),
         "torus": torus(2, 3),
         "torus without a square": torus(3, 3).without(4),
         "torus without two squares at a corner": torus(3, 3).without(4).without(0),

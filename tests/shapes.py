@@ -22,6 +22,11 @@ class Surface:
     def without(self, face):
         return Surface(self.faces[:face] + self.faces[face + 1 :], self.ends)
 
+    def unjoined(self):
+        """With the first use turned."""
+        (edge, along), *rest = self.faces[0][0]
+        return Surface([[[(edge, not along), *rest], *self.faces[0][1:]], *self.faces[1:]], self.ends)
+
     def with_point(self, face, vertex):
         """With a loop at a vertex alone in a face."""
         faces = [loops + [[(vertex,)]] if at == face else loops for at, loops in enumerate(self.faces)]
