@@ -152,7 +152,11 @@ def messages(copy):
     few = 12_000_000
     told = copy.run("./igesolid", "certify", "sample.igs", "1", limit=lambda: resource.setrlimit(resource.RLIMIT_AS, (few, few)))
     yield "message: no memory", told == (6, b"", "igesolid: sample.igs: out of memory\n")
-    for words in (["certify", "examples/two_tetrahedra.igs", "1"], ["certify", "examples/two_tetrahedra.igs", "all"], ["solids", "crates.txt"], ["extract", cube, "3"], ["solids"], ["open", cube, "1"], ["orient", cube, "2"], ["compact", cube, "3"]):
+    tetrahedra = "examples/two_tetrahedra.igs"
+    for words in (
+        *(["certify", tetrahedra, number] for number in ("1", "all")), ["solids", "crates.txt"], ["extract", cube, "3"], ["solids"],
+        ["open", cube, "1"], ["orient", cube, "2"], ["compact", cube, "3"],
+    ):  # fmt: skip
         status, _, error = copy.run("./igesolid", *words)
         yield f"no message: {words}", status in (1, 2, 3, 7) and error == ""
     copy.ship_script(clone.ENDING)

@@ -103,8 +103,22 @@ def made(run):
             yield f"{name}: the certificate of another", got == (int(not wanted.startswith("accepted")), wanted.encode(), b"")
 
 
-def shells_of_example(file):
-    return [number for number, entry in file.numbered().items() if entry.kind == 514]
+def of_solids(run):
+    """Each shell of solids with more than one, which share lists, and in one case a vertex."""
+    rng = random.Random(186)
+    for name, told, shared in (
+        ("torus and disc", [torus(2, 3), disc(4)], {}),
+        ("disc and strip that share a vertex", [disc(4), Grid(1, 3).surface()], {(1, (0, 0)): (0, 2)}),
+        ("three sheets", [Grid(2, 2).surface(), square_with_hole(False), disc(3)], {}),
+    ):
+        file = presented(rng, told, shared=shared)
+        for number in shells_in(file):
+            yield from judged(run, f"{name}, shell {number}", file, number)
+            yield from changes(run, rng, f"{name}, shell {number}", file, number, 15)
+
+
+def shells_in(data):
+    return [number for number, (kind, *_) in records_of(data).items() if kind == 514]
 
 
 def of_examples(run, examples):
@@ -112,7 +126,7 @@ def of_examples(run, examples):
     rng = random.Random(2)
     for name, data in examples:
         file = iges_file.read(data)
-        for number in shells_of_example(file):
+        for number in shells_in(data):
             yield from judged(run, f"{name}, shell {number}", data, number)
             yield from changes(run, rng, f"{name}, shell {number}", data, number, 40)
             values = file.numbered()[number].values
@@ -127,4 +141,5 @@ def of_examples(run, examples):
 
 def checks(run, examples):
     yield from made(run)
+    yield from of_solids(run)
     yield from of_examples(run, examples)

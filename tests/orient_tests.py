@@ -13,6 +13,7 @@ from shell_rows import shells_of_solid
 def solids():
     """The surfaces of the shells of solids."""
     tetrahedron = polygons([0, 1, 2], [0, 2, 3], [0, 3, 1], [1, 3, 2])
+    half_icosahedron = polygons(*([0, i, i % 5 + 1] for i in range(1, 6)), *([i, i % 5 + 1, (i + 2) % 5 + 1] for i in range(1, 6)))
     bottle, plane = Grid(2, 3, "mirrored", "straight").surface(), Grid(2, 2, "mirrored", "mirrored").surface()
     return {
         "torus": [torus(3, 3)],
@@ -23,7 +24,7 @@ def solids():
         "Klein bottle of one square": [Grid(1, 1, "mirrored", "straight").surface()],
         "projective plane": [plane],
         "projective plane of one square": [Grid(1, 1, "mirrored", "mirrored").surface()],
-        "projective plane of triangles": [polygons([0, 1, 2], [0, 2, 3], [0, 3, 4], [0, 4, 5], [0, 5, 1], [1, 2, 4], [2, 3, 5], [3, 4, 1], [4, 5, 2], [5, 1, 3])],
+        "half an icosahedron": [half_icosahedron],
         "torus and Klein bottle": [torus(2, 2), bottle],
         "projective plane and torus": [plane, torus(2, 2)],
         "disc": [disc(4)],
