@@ -1,3 +1,5 @@
 pub mod LineSteps
 pub mod ShellSteps
 pub mod WholeText
+pub mod OneOwed
+pub mod Turning

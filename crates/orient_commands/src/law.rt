@@ -1,0 +1,16 @@
+//! What holds of orientations by their definition.
+
+ghost use Rattle.orient_commands.specs.Laws.{OneOrientation, OneVerifying, FittingFlagsClose};
+
+/// Of orienting a solid one answer is owed, and one text line by line, but that two lines of one shell may name two rings.
+/// Of verifying a text one answer and one text are owed. (own)
+pub fn one_orient_answer()
+    ensures orienting { OneOrientation }
+    ensures verifying { OneVerifying }
+{}
+
+/// Where COUNT and REACH hold of each shell, and flags fit, the solid with these flags in place of its faces' is closed if
+/// it keeps JOIN, LINK and APART: with these flags every edge is used in opposite directions, and every face is reached. (own)
+pub fn fitting_flags_close()
+    ensures { FittingFlagsClose }
+{}
