@@ -6,3 +6,4 @@ pub mod AcceptedFor
 pub mod Owing
 pub mod One
 pub mod SomeDue
+pub mod ClosedSolids
