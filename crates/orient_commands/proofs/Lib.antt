@@ -3,3 +3,5 @@ pub mod ShellSteps
 pub mod WholeText
 pub mod OneOwed
 pub mod Turning
+pub mod OrientDecided
+pub mod SomeOwed

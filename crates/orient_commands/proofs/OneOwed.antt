@@ -1,23 +1,20 @@
 -- What is owed of orienting and of verifying is one.
-use Rattle.std.specs.Prelude.{◌≡◌, ◌⊎◌, ℕ, suc, ◌+◌, ◌<◌, Bool, List, [], ◌∷◌, length, Result, Ok, Err}
+use Rattle.std.specs.Prelude.{◌≡◌, ℕ, ◌+◌, List, [], ◌∷◌, length, Err}
 use Rattle.std.specs.List.{AllByRecursion, AllZip, enumerate_from}
 use Rattle.std.proofs.Common.{refl, sym, ◌∙◌, ap, subst, arith, inl, inr, ⊎_elim}
 use Rattle.std.proofs.lemmas.Bool.{cases_order}
 use Rattle.iges_params.specs.Contents.{Contents}
 use Rattle.solid_data.specs.SolidData.{SolidData}
-use Rattle.solid_data.specs.declared.verdict.Failing.{Failing}
 use Rattle.solid_data.proofs.ObligationLemmas.{FirstFalse-not_all, FirstFalse-one}
 use Rattle.brep_walk.specs.Places.{places}
 use Rattle.brep_walk.specs.SolidOf.{solid_of}
 use Rattle.cert_lines.specs.Line.{cut_lines}
 use Rattle.cert_lines.specs.declared.fault.Illegal.{Illegal}
-use Rattle.cert_lines.specs.declared.fault.Illegal.TheVariants.{Misspelt, Unfit, Missing}
 use Rattle.face_orient.specs.Flags.{FlagsFit}
 use Rattle.face_orient.specs.Line.{IsSpelled, spelling}
 use Rattle.face_orient.specs.OddRing.{OddRing}
 use Rattle.face_orient.specs.Outcome.{IsFirstFailing, CountFails}
 use Rattle.face_orient.specs.declared.fault.OrientFailing.{OrientFailing}
-use Rattle.face_orient.specs.declared.fault.OrientFault.{OrientFault}
 use Rattle.face_orient.specs.declared.fault.OrientFault.TheVariants as faults
 use Rattle.face_orient.specs.declared.line.OrientLine.{OrientLine}
 use Rattle.face_orient.specs.declared.line.OrientLine.TheVariants.{Head, Flags, Ring, End}
@@ -25,13 +22,12 @@ use Rattle.face_orient.proofs.Answered.{first_not_all, first_not_one, only_memor
 use Rattle.face_orient.proofs.Lawful.{one_fit, refuses}
 use Rattle.face_orient.proofs.Lines.{line_one}
 use Rattle.command_replies.specs.declared.answer.Answer.{Answer}
-use Rattle.command_replies.specs.declared.answer.Answer.TheVariants as answer
-use Rattle.command_replies.specs.Texts.{fail_line, illegal_line, accepted_line}
+use Rattle.command_replies.specs.Texts.{fail_line, illegal_line}
 use Rattle.command_replies.proofs.One.{IsOne}
-use Rattle.orient_commands.specs.Due.{IsRingLine, HasRing, IsAnswerOf, IsOriented, OfOrient, OfOrientLines, OfOrientVerify, orient_fail_line}
+use Rattle.orient_commands.specs.Due.{IsRingLine, HasRing, IsAnswerOf, IsOriented, OfOrientLines, orient_fail_line}
 use Rattle.orient_commands.specs.Laws.{AreSameOrRings, OneOrientation, OneVerifying}
 use Rattle.orient_commands.specs.Shells.{IsReady, IsCounted, OfAllShells, FailsInShell}
-use Rattle.orient_commands.specs.Text.{FitsAs, Fits, AreWhole, IsWrong, IsFirstBad, Names, IsHead, IsBadFirst, IsBadHead}
+use Rattle.orient_commands.specs.Text.{FitsAs, Fits, AreWhole, IsWrong, IsFirstBad, Names, IsBadFirst, IsBadHead}
 
 -- What first fails of a shell.
 

@@ -1,7 +1,7 @@
 -- A solid with fitting flags in place of its faces' is paired and reached.
-use Rattle.std.specs.Prelude.{◌≡◌, ℕ, zero, suc, ◌+◌, ◌<◌, ◌≤◌, ◌==◌, ◌&&◌, Bool, true, false, not, List, [], ◌∷◌, ◌++◌, length, map, flat_map, filter_map, slice_get, Option, Some, option_map, count_by}
+use Rattle.std.specs.Prelude.{◌≡◌, ℕ, suc, ◌+◌, ◌≤◌, ◌==◌, ◌&&◌, Bool, true, false, not, List, [], ◌∷◌, ◌++◌, length, map, flat_map, filter_map, slice_get, Option, Some, option_map, count_by}
 use Rattle.std.specs.List.{AllByRecursion, AllZip, enumerate_from, cons_option}
-use Rattle.std.proofs.Common.{refl, sym, ◌∙◌, ap, subst, arith, cond}
+use Rattle.std.proofs.Common.{refl, sym, ◌∙◌, ap, subst, arith}
 use Rattle.std.proofs.lemmas.Bool.{eq-eqb, eqb-true, and_from, not_from_false}
 use Rattle.std.proofs.lemmas.Grind.{flat_map-append}
 use Rattle.std.proofs.lemmas.List.{length-map}
@@ -22,8 +22,8 @@ use Rattle.edge_uses.specs.Closed.{row_count, IsPaired, AreMates, OnFace, AreNei
 use Rattle.edge_uses.specs.Closed as closed
 use Rattle.edge_uses.specs.ShellRows.{ShellRows, row_of, loop_rows, shell_rows, rows_of}
 use Rattle.edge_uses.proofs.Counting.{counted, counts_of_edge, found_row}
-use Rattle.face_orient.specs.Partners.{HasTwoRows, AllHaveTwoRows, ArePartners, Adjoin, IsReached, AllReached}
-use Rattle.face_orient.specs.Flags.{FlagsFit, PartnersDiffer, face_flags, faces_with, shell_with, rows_at, rows_with}
+use Rattle.face_orient.specs.Partners.{HasTwoRows, AllHaveTwoRows, Adjoin, IsReached, AllReached}
+use Rattle.face_orient.specs.Flags.{FlagsFit, PartnersDiffer, face_flags, faces_with, shell_with}
 use Rattle.face_orient.specs.OddRing.{bare_shell}
 use Rattle.face_orient.proofs.Bare.{Told, Alike, walks, told_rows, bare_with, zip_get, partners_alike, two_rows_alike}
 use Rattle.face_orient.proofs.Crossed.{steps_map}
@@ -31,7 +31,7 @@ use Rattle.face_orient.proofs.Places.{partner_made, other_in}
 use Rattle.face_orient.specs.Tally.{summary, places_of}
 use Rattle.orient_commands.specs.Laws.{FittingFlagsClose}
 use Rattle.orient_commands.specs.Shells.{IsReady, OfAllShells}
-use Rattle.orient_commands.specs.Turned.{shells_with, solid_with, AllFlagsFit, JoinsAndLinks}
+use Rattle.orient_commands.specs.Turned.{shells_with, solid_with, JoinsAndLinks}
 
 -- The rows with other flags.
 
@@ -226,8 +226,8 @@ turned_shells s all ready n (x ∷ flags) (h ∷ shells) fit at (here, j) =
     let there : slice_get s.shells n ≡ Some h = subst (λ i. slice_get s.shells i ≡ Some h) first (at 0 h refl) in (
       turned_closed s all n h x there (ready n (slice_get_within s.shells n h there)) (subst (λ i. FlagsFit s i x) first (fit 0 x refl)) here,
       turned_shells s all ready (n + 1) flags shells
-      (λ i y is. subst (λ i. FlagsFit s i y) (let next : n + suc i ≡ (n + 1) + i = omega arith in next) (fit (suc i) y is))
-      (λ i g is. subst (λ i. slice_get s.shells i ≡ Some g) (let next : n + suc i ≡ (n + 1) + i = omega arith in next) (at (suc i) g is)) j,
+          (λ i y is. subst (λ i. FlagsFit s i y) (let next : n + suc i ≡ (n + 1) + i = omega arith in next) (fit (suc i) y is))
+          (λ i g is. subst (λ i. slice_get s.shells i ≡ Some g) (let next : n + suc i ≡ (n + 1) + i = omega arith in next) (at (suc i) g is)) j,
     )
 
 pub fitting_close : FittingFlagsClose

@@ -1,12 +1,19 @@
 //! What holds of orientations by their definition.
 
-ghost use Rattle.orient_commands.specs.Laws.{OneOrientation, OneVerifying, FittingFlagsClose};
+ghost use Rattle.orient_commands.specs.Laws.{OneOrientation, OneVerifying, SomeOrientation, SomeVerifying, FittingFlagsClose};
 
 /// Of orienting a solid one answer is owed, and one text line by line, but that two lines of one shell may name two rings.
 /// Of verifying a text one answer and one text are owed. (own)
 pub fn one_orient_answer()
     ensures orienting { OneOrientation }
     ensures verifying { OneVerifying }
+{}
+
+/// In a file within its limits some answer is owed of orienting any solid, and in any file some answer of verifying any
+/// text. (own)
+pub fn some_orient_answer()
+    ensures orienting { SomeOrientation }
+    ensures verifying { SomeVerifying }
 {}
 
 /// Where COUNT and REACH hold of each shell, and flags fit, the solid with these flags in place of its faces' is closed if
