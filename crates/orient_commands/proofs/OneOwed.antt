@@ -25,7 +25,7 @@ use Rattle.command_replies.specs.declared.answer.Answer.{Answer}
 use Rattle.command_replies.specs.Texts.{fail_line, illegal_line}
 use Rattle.command_replies.proofs.One.{IsOne}
 use Rattle.orient_commands.specs.Due.{IsRingLine, HasRing, IsAnswerOf, IsOriented, OfOrientLines, orient_fail_line}
-use Rattle.orient_commands.specs.Laws.{AreSameOrRings, OneOrientation, OneVerifying}
+use Rattle.orient_commands.specs.Laws.{AreSameOrRings, OneOrientation, OneVerifying, OrientationIsAccepted}
 use Rattle.orient_commands.specs.Shells.{IsReady, IsCounted, OfAllShells, FailsInShell}
 use Rattle.orient_commands.specs.Text.{FitsAs, Fits, AreWhole, IsWrong, IsFirstBad, Names, IsBadFirst, IsBadHead}
 
@@ -227,3 +227,11 @@ orienting_one n f a b t u (inr (inl (all, x, p, e))) (inr (inl (every, y, q, d))
 orienting_one n f a b t u (inr (inl (all, x, p, e))) (inr (inr (every, ready, q))) = absurd (shells_none IsReady IsFirstFailing failing_one failing_not (solid_of f n) x p ready)
 orienting_one n f a b t u (inr (inr (all, ready, p))) (inr (inl (every, y, q, d))) = absurd (shells_none IsReady IsFirstFailing failing_one failing_not (solid_of f n) y q ready)
 orienting_one n f a b t u (inr (inr (all, ready, p))) (inr (inr (every, also, q))) = oriented_one (solid_of f n) n a b t u ready p q
+
+-- What is owed is accepted.
+
+pub orientation_accepted : OrientationIsAccepted
+orientation_accepted n f a text all ready (inl (x, p, e)) few = absurd (FirstFalse-not_all (places f n) x p all)
+orientation_accepted n f a text all ready (inr (inl (holds, x, p, e))) few = absurd (shells_none IsReady IsFirstFailing failing_one failing_not (solid_of f n) x p ready)
+orientation_accepted n f a text all ready (inr (inr (holds, also, o))) few =
+    inr (inr (few, n, o.lines, o.names, inr (inr (inr (all, (λ k lt. (ready k lt).counted), o.whole, (refl, refl))))))

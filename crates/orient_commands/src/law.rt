@@ -1,12 +1,18 @@
 //! What holds of orientations by their definition.
 
-ghost use Rattle.orient_commands.specs.Laws.{OneOrientation, OneVerifying, SomeOrientation, SomeVerifying, FittingFlagsClose};
+ghost use Rattle.orient_commands.specs.Laws.{OneOrientation, OneVerifying, OrientationIsAccepted, SomeOrientation, SomeVerifying, FittingFlagsClose};
 
 /// Of orienting a solid one answer is owed, and one text line by line, but that two lines of one shell may name two rings.
 /// Of verifying a text one answer and one text are owed. (own)
 pub fn one_orient_answer()
     ensures orienting { OneOrientation }
     ensures verifying { OneVerifying }
+{}
+
+/// An orientation that is owed of a solid is accepted when it is verified, rings included, unless it is larger than the
+/// limit. (own)
+pub fn orientations_are_accepted()
+    ensures { OrientationIsAccepted }
 {}
 
 /// In a file within its limits some answer is owed of orienting any solid, and in any file some answer of verifying any
