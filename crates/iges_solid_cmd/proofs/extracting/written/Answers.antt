@@ -1,4 +1,4 @@
-use Rattle.std.proofs.Common.{◌≡◌, refl, inl, [], rules}
+use Rattle.std.proofs.Common.{refl, inl}
 use Rattle.iges_write.proofs.FileBack.{one_text}
 use Rattle.iges_solid_cmd.proofs.extracting.written.Goals as goal
 
