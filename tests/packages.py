@@ -7,7 +7,7 @@ import subprocess
 import clone
 
 INSTALLED = "bin/igesolid", "lib/igesolid/igesolid", "lib/igesolid/BUILT", "share/man/man1/igesolid.1"
-PAGES = "README.md", "docs/FORMAT.md", "docs/CERTIFICATE.md", "examples/cube.igs", "examples/README.md", "examples/occt/05_sphere.igs"
+PAGES = "README.md", "docs/FORMAT.md", "docs/CERTIFICATE.md", "examples/cube.igs", "examples/README.md", "examples/no/README.md", "examples/no/fail_pair.igs", "examples/occt/05_sphere.igs"
 
 
 def files_in(folder):
