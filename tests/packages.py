@@ -7,7 +7,10 @@ import subprocess
 import clone
 
 INSTALLED = "bin/igesolid", "lib/igesolid/igesolid", "lib/igesolid/BUILT", "share/man/man1/igesolid.1"
-PAGES = "README.md", "docs/FORMAT.md", "docs/CERTIFICATE.md", "examples/cube.igs", "examples/README.md", "examples/no/README.md", "examples/no/fail_pair.igs", "examples/occt/05_sphere.igs"
+PAGES = (
+    *(f"docs/{name}.md" for name in ("THEOREM", "PROOFS", "COMMANDS", "FORMAT", "CERTIFICATE")),
+    "README.md", "examples/cube.igs", "examples/README.md", "examples/no/README.md", "examples/no/fail_pair.igs", "examples/occt/05_sphere.igs",
+)  # fmt: skip
 
 
 def files_in(folder):
