@@ -22,7 +22,7 @@ SPELLINGS = {
 
 
 def records_of(file):
-    """The type and, of the six types of a solid, the integers of the record of each entry, by directory number."""
+    """The type, of the six types of a solid the integers of the record, and the form of each entry, by directory number."""
     lines = [line for line in file.decode("latin1").split("\n") if len(line) >= 73]
     directory = {int(line[73:80]): line for line in lines if line[72] == "D"}
     params = {int(line[73:80]): line[:64] for line in lines if line[72] == "P"}
@@ -31,7 +31,8 @@ def records_of(file):
         kind, first, count = int(directory[number][:8]), int(directory[number][8:16]), int(directory[number + 1][24:32])
         text = "".join(params[k] for k in range(first, first + count)).split(";")[0]
         whole = kind in RECORDS and kind != 502
-        records[number] = kind, [int(value) for value in text.split(",")[1:] if value.strip()] if whole else []
+        values = [int(value) for value in text.split(",")[1:] if value.strip()] if whole else []
+        records[number] = kind, values, int(directory[number + 1][32:40])
     return records
 
 

@@ -136,6 +136,11 @@ def messages(copy):
         (["solids", "big.igs"], 8, f"big.igs: {IS_BIG_FILE}"),
         (["verify", "big.igs", "big.cert"], 8, f"big.igs: {IS_BIG_FILE}"),
         (["verify", cube, "big.cert"], 8, f"big.cert: {IS_BIG_CERTIFICATE}"),
+        (["open", "none.igs", "3"], 4, "none.igs: can't be opened: No such file or directory"),
+        (["open-verify", cube, "docs"], 4, "docs: is a folder"),
+        (["orient", "docs", "1"], 4, "docs: is a folder"),
+        (["orient-verify", cube, "none.cert"], 4, "none.cert: can't be opened: No such file or directory"),
+        (["compact", "big.igs", "1"], 8, f"big.igs: {IS_BIG_FILE}"),
     ):
         yield f"message: {words}", copy.run("./igesolid", *words) == (status, b"", f"igesolid: {said}\n")
     told = copy.run("./igesolid", "solids", b"caf\xe9.igs")
@@ -147,7 +152,11 @@ def messages(copy):
     few = 12_000_000
     told = copy.run("./igesolid", "certify", "sample.igs", "1", limit=lambda: resource.setrlimit(resource.RLIMIT_AS, (few, few)))
     yield "message: no memory", told == (6, b"", "igesolid: sample.igs: out of memory\n")
-    for words in (["certify", "examples/two_tetrahedra.igs", "1"], ["certify", "examples/two_tetrahedra.igs", "all"], ["solids", "crates.txt"], ["extract", cube, "3"], ["solids"]):
+    tetrahedra = "examples/two_tetrahedra.igs"
+    for words in (
+        *(["certify", tetrahedra, number] for number in ("1", "all")), ["solids", "crates.txt"], ["extract", cube, "3"], ["solids"],
+        ["open", cube, "1"], ["orient", cube, "2"], ["compact", cube, "3"],
+    ):  # fmt: skip
         status, _, error = copy.run("./igesolid", *words)
         yield f"no message: {words}", status in (1, 2, 3, 7) and error == ""
     copy.ship_script(clone.ENDING)
@@ -155,6 +164,10 @@ def messages(copy):
         (["extract", cube, "1"], f"{cube}: the extracted text would have more than 164,000,000 bytes"),
         (["upgrade", cube, certificate], f"{cube}: the upgraded text would have more than 536,870,912 bytes"),
         (["upgrade", cube, "big.cert"], f"big.cert: {IS_BIG_CERTIFICATE}"),
+        (["open-verify", cube, "big.cert"], f"big.cert: {IS_BIG_CERTIFICATE}"),
+        (["orient-verify", cube, "big.cert"], f"big.cert: {IS_BIG_CERTIFICATE}"),
+        (["compact", cube, "1"], f"{cube}: the compact text would have more than 164,000,000 bytes"),
+        (["open", "/dev/null", "1"], f"/dev/null: {IS_BIG_FILE}"),
         (["certify", cube, "all"], f"{cube}: its solids have more than 6,000,000 loop uses together"),
         (["certify", "/dev/null", "all"], f"/dev/null: {IS_BIG_FILE}, or its solids have more than 6,000,000 loop uses together"),
         (["certify", "/dev/null", "1"], f"/dev/null: {IS_BIG_FILE}"),

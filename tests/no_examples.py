@@ -5,15 +5,12 @@ import subprocess
 ROW = re.compile(r"(?m)^\| `igesolid (.*?)` \| *(.*?) *\| (\d) \| .+ \|$")
 # The definitions whose words are printed: of a bad file, of a solid, of a certificate and of an extraction.
 PRINTED = re.compile(r'(?m)^(?:reason_word|rule_name|illegal_word|extract_word) .*= codes "(.*)"$')
-# Crates whose commands aren't built yet.
-UNUSED = "open_shells", "face_orient"
 SECONDS = 60
 
 
 def printed_words(top):
     """Each word that can be printed for what is wrong."""
-    paths = (path for path in top.glob("crates/*/specs/*.antt") if path.parts[-3] not in UNUSED)
-    return {word for path in paths for word in PRINTED.findall(path.read_text())}
+    return {word for path in top.glob("crates/*/specs/*.antt") for word in PRINTED.findall(path.read_text())}
 
 
 def checks(top, program):

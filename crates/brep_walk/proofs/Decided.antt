@@ -1,5 +1,5 @@
 -- Of each place of a solid it can be told whether it holds.
-use Rattle.std.specs.Prelude.{◌≡◌, ℕ, ◌+◌, ◌-◌, ◌≤◌, Bool, true, false, ℤ, pos, negsuc, List, [], ◌∷◌, ◌++◌, length, map, flat_map, slice_get, All, Contains, Option, Some, None, IsSome}
+use Rattle.std.specs.Prelude.{◌≡◌, ℕ, ◌+◌, ◌≤◌, Bool, true, false, ℤ, pos, negsuc, List, [], ◌∷◌, ◌++◌, length, flat_map, All, Contains, Option, Some, None, ◌⊎◌}
 use Rattle.std.proofs.Common.{refl, subst, inr}
 use Rattle.std.proofs.lemmas.List.Elements.{All-from_recursion, recursion_from_All}
 use Rattle.iges_params.specs.Contents.{Contents}
@@ -11,7 +11,8 @@ use Rattle.solid_data.specs.Obligations.{obligation, entry_number, after_each}
 use Rattle.solid_data.specs.declared.verdict.Rule.TheVariants.{BadLayout, Twice, BadIndex, BadGeometry}
 use Rattle.solid_data.proofs.Decisions.{Decided, decided_alike, decided_by, decided_within, decided_bool, decided_int, decided_both, decided_three, decided_either, decided_not, decided_some_and, decided_all, decided_contains}
 use Rattle.solid_data.proofs.ObligationsDecided.{AreDecided, decided-append, decided-after_each}
-use Rattle.brep_walk.specs.Places.{told, shells, faces, loops, tuples, edge_at, Names, NamesKind, HasRecordOf, NamesGeometry, IsIndex, entry_places, record_places, item_places, edge_places, used_places, tuple_at, tuple_places, loop_at, loop_places, numbers, face_at, face_places, shell_at, shell_places, places}
+use Rattle.brep_walk.specs.OpenPlaces.{NamesShell, shell_record_places, open_places}
+use Rattle.brep_walk.specs.Places.{told, shells, faces, loops, tuples, edge_at, Names, NamesKind, HasRecordOf, NamesGeometry, IsIndex, entry_places, record_places, item_places, edge_places, used_places, tuple_places, loop_places, numbers, face_places, shell_places, places}
 
 -- What a number names.
 
@@ -136,3 +137,15 @@ unfolding places
 places_decided f n =
     decided-append (record_places f (pos n) 0 solid (pos n)) (after_each (shell_places f (pos n)) [] (shells f (pos n)))
     (record_decided f (pos n) 0 solid (pos n)) (decided-after_each (shell_places f (pos n)) (shell_decided f (pos n)) [] (shells f (pos n)))
+
+-- Places of a shell that may be open.
+
+names_shell_decided : (f : Contents) (number : ℤ) → Decided (NamesShell f number)
+names_shell_decided f number = decided_some_and (named f number) (λ e. (e.0.kind ≡ type_number shell) × ((e.0.form ≡ pos 1) ⊎ (e.0.form ≡ pos 2)))
+    (λ e. decided_both (decided_int e.0.kind (type_number shell)) (decided_either (decided_int e.0.form (pos 1)) (decided_int e.0.form (pos 2))))
+
+pub open_places_decided : (f : Contents) (n : ℕ) → AreDecided (open_places f n)
+unfolding open_places
+open_places_decided f n =
+    decided-append (shell_record_places f n) (after_each (face_places f (pos n) []) [] (faces f (pos n)))
+    (names_decided f (pos n), (names_shell_decided f (pos n), (has_record_decided shell f (pos n), tt))) (decided-after_each (face_places f (pos n) []) (face_decided f (pos n) []) [] (faces f (pos n)))

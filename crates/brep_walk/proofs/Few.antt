@@ -19,15 +19,15 @@ use Rattle.brep_lists.proofs.OnlyRead.{missing, curves_only}
 use Rattle.solid_data.specs.Obligations.{AllHold}
 use Rattle.brep_walk.specs.Places.{HasRecordOf, Names, shells, faces, loops, tuples, numbers, loop_places, places}
 use Rattle.solid_data.proofs.Members.{from_enumerated, from_flat_map, has_map, Has, has_left, NoRepeat, total, fold-total}
-use Rattle.brep_walk.specs.SolidOf.{all_tuples, use_of, solid_of}
+use Rattle.brep_walk.specs.SolidOf.{use_by, solid_of, tuples_in, keys_in, solid_listing}
 use Rattle.solid_data.specs.SolidData.{SolidData, PlacedLoop, placed_in_face, placed_loops, shell_uses}
 use Rattle.solid_data.specs.declared.solid.FaceUse.{FaceUse}
 use Rattle.solid_data.specs.declared.solid.Shell.{Shell}
 use Rattle.iges_params.specs.Limits.{FitsLimits}
 use Rattle.solid_data.specs.Numbering.{HasFewParts}
-use Rattle.brep_walk.proofs.Numbered.{all_uses, flat_flat}
-use Rattle.brep_walk.proofs.Found.{shells_of, shells_hold, faces_hold, loops_hold, loop_record}
-use Rattle.brep_walk.proofs.Fresh.{Fresh, loops_fresh}
+use Rattle.brep_walk.proofs.Numbered.{uses_listed, flat_flat}
+use Rattle.brep_walk.proofs.Found.{AreListed, listed_solid, shells_listed, solid_lists, loops_hold, loop_record}
+use Rattle.brep_walk.proofs.Fresh.{Fresh, faces_in, loops_fresh}
 
 -- tuples are no more than values
 tuples_size : (ts : List LoopTuple) (vs : List Value) → MeetsAll (flat_map tuple_due ts) vs → length ts ≤ length vs
@@ -145,15 +145,15 @@ loop_name : (f : Contents) (c : ℤ) (v d : List ℤ) (l : ℤ) → AllHold (loo
 unfolding loop_places
 loop_name f c v d l all = all.0
 
-loops_known : (f : Contents) (n : ℕ) → AllHold (places f n) → (l : ℤ) → Has (flat_map (loops f) (flat_map (λ s. numbers (faces f s)) (numbers (shells f (pos n))))) l → Names f l × HasRecordOf «loop» f l
-loops_known f n all l here =
-    let c = from_flat_map (loops f) (flat_map (λ s. numbers (faces f s)) (numbers (shells f (pos n)))) l here in
-    let s = from_flat_map (λ s. numbers (faces f s)) (numbers (shells f (pos n))) c.0 c.1 in
-    let item = has_map (λ (i : ℤ × Bool). i.0) (shells f (pos n)) s.0 s.1 in
+loops_known : (f : Contents) (items : List (ℤ × Bool)) → AreListed f items → (l : ℤ) → Has (flat_map (loops f) (faces_in f items)) l → Names f l × HasRecordOf «loop» f l
+loops_known f items held l here =
+    let c = from_flat_map (loops f) (faces_in f items) l here in
+    let s = from_flat_map (λ s. numbers (faces f s)) (numbers items) c.0 c.1 in
+    let item = has_map (λ (i : ℤ × Bool). i.0) items s.0 s.1 in
     let face_item = has_map (λ (i : ℤ × Bool). i.0) (faces f s.0) c.0 s.2 in
-    let a = shells_hold f n all item.0 item.1 in
+    let a = held item.0 item.1 in
     let in_shell : Has (faces f item.0.0) face_item.0 = subst (λ z. Has (faces f z) face_item.0) (sym item.2) face_item.1 in
-    let b = faces_hold f (pos n) a.0 item.0 a.1 face_item.0 in_shell in
+    let b = a.1 face_item.0 in_shell in
     let in_face : Has (loops f face_item.0.0) l = subst (λ z. Has (loops f z) l) (sym face_item.2) c.2 in
     let d = loops_hold f item.0.0 b.0 b.1 face_item.0 b.2 l in_face in
     (loop_name f face_item.0.0 d.0 d.1 l d.2, loop_record f face_item.0.0 d.0 d.1 l d.2)
@@ -193,11 +193,11 @@ sizes_total : (es : List (Entry × List Value)) → total (λ w. w) (map (λ (e 
 sizes_total [] = refl
 sizes_total (e ∷ es) = omega (arith, sizes_total es)
 
-tuples_few : (f : Contents) (n : ℕ) → AllHold (places f n) → length (all_tuples f (pos n)) ≤ sum_by (λ (e : Entry × List Value). length e.1) f.entries
-tuples_few f n all =
-    let ls : List ℤ = flat_map (loops f) (flat_map (λ s. numbers (faces f s)) (numbers (shells f (pos n)))) in
-    let known : (l : ℤ) → Has ls l → IsNamed f l × HasRecordOf «loop» f l = λ l m. let k = loops_known f n all l m in (name_parts f l k.0, k.1) in
-    let differ : NoRepeat (map place_of_number ls) = places_differ f [] ls (loops_fresh f n all) (λ l m. (known l m).0) in
+tuples_few : (f : Contents) (items : List (ℤ × Bool)) → AreListed f items → Fresh [] (flat_map (loops f) (faces_in f items)) → length (tuples_in f items) ≤ sum_by (λ (e : Entry × List Value). length e.1) f.entries
+tuples_few f items held fresh =
+    let ls : List ℤ = flat_map (loops f) (faces_in f items) in
+    let known : (l : ℤ) → Has ls l → IsNamed f l × HasRecordOf «loop» f l = λ l m. let k = loops_known f items held l m in (name_parts f l k.0, k.1) in
+    let differ : NoRepeat (map place_of_number ls) = places_differ f [] ls fresh (λ l m. (known l m).0) in
     omega (arith, tuples_total f ls known, taken_most (sizes f) (map place_of_number ls) differ, sizes_total f.entries, fold-total (λ (e : Entry × List Value). length e.1) 0 f.entries)
 
 -- Loops are no more than uses, faces than loops, and shells than faces.
@@ -221,23 +221,23 @@ solid_name : (f : Contents) (n : ℕ) → AllHold (places f n) → Names f (pos 
 unfolding places
 solid_name f n all = all.0
 
--- A solid of a file within its limits has few parts.
-pub has_few_parts : (f : Contents) (n : ℕ) → FitsLimits f → AllHold (places f n) → HasFewParts (solid_of f n) n
-has_few_parts f n limits all =
-    let s : SolidData = solid_of f n in
-    let name : IsNamed f (pos n) = name_parts f (pos n) (solid_name f n all) in
+-- A solid of listed shells has few parts, where the file is within its limits and no loop is listed twice.
+pub listing_has_few_parts : (f : Contents) (n : ℕ) (items : List (ℤ × Bool)) → FitsLimits f → Names f (pos n) → AreListed f items → Fresh [] (flat_map (loops f) (faces_in f items)) → HasFewParts (solid_listing f n items) n
+listing_has_few_parts f n items limits here held fresh =
+    let s : SolidData = solid_listing f n items in
+    let name : IsNamed f (pos n) = name_parts f (pos n) here in
     let number : name.number ≡ n = ap nat_abs (sym name.is) in
-    let uses : length (flat_map shell_uses s.shells) ≡ length (all_tuples f (pos n)) = ap (λ us. length us) (all_uses f n) ∙ length-map (all_tuples f (pos n)) (use_of f (pos n)) in
+    let uses : length (flat_map shell_uses s.shells) ≡ length (tuples_in f items) = ap (λ us. length us) (uses_listed f n items) ∙ length-map (tuples_in f items) (use_by (keys_in f items)) in
     let placed : length (flat_map (λ (p : PlacedLoop). p.loop.uses) (flat_map placed_loops s.shells)) ≡ length (flat_map shell_uses s.shells) = ap (λ us. length us) (sym (flat_flat placed_loops (λ (p : PlacedLoop). p.loop.uses) s.shells)) in
     let a : length (flat_map placed_loops s.shells) ≤ length (flat_map (λ (p : PlacedLoop). p.loop.uses) (flat_map placed_loops s.shells)) = each_some (λ (p : PlacedLoop). p.loop.uses) (flat_map placed_loops s.shells) (λ p m.
     let h = from_flat_map placed_loops s.shells p m in
     let g = from_flat_map (placed_in_face h.0.flag) (enumerate_from 0 h.0.faces) p h.2 in
     let k = has_map _ (enumerate_from 0 g.0.1.loops) p g.2 in
-    let c = (shells_of f n all h.0 h.1).4 g.0.1 (from_enumerated 0 h.0.faces g.0 g.1) in
+    let c = (shells_listed f n items held h.0 h.1).4 g.0.1 (from_enumerated 0 h.0.faces g.0 g.1) in
     subst (λ (q : PlacedLoop). 0 < length q.loop.uses) k.2 (c.3 k.0.1 (from_enumerated 0 g.0.1.loops k.0 k.1))) in
-    let b : length (flat_map (λ (h : Shell). h.faces) s.shells) ≤ length (flat_map placed_loops s.shells) = more_each (λ (h : Shell). h.faces) placed_loops s.shells (λ h m. placed_some h.flag 0 h.faces (λ c k. ((shells_of f n all h m).4 c k).2)) in
-    let c : length s.shells ≤ length (flat_map (λ (h : Shell). h.faces) s.shells) = each_some (λ (h : Shell). h.faces) s.shells (λ h m. (shells_of f n all h m).3) in
-    let few = tuples_few f n all in
+    let b : length (flat_map (λ (h : Shell). h.faces) s.shells) ≤ length (flat_map placed_loops s.shells) = more_each (λ (h : Shell). h.faces) placed_loops s.shells (λ h m. placed_some h.flag 0 h.faces (λ c k. ((shells_listed f n items held h m).4 c k).2)) in
+    let c : length s.shells ≤ length (flat_map (λ (h : Shell). h.faces) s.shells) = each_some (λ (h : Shell). h.faces) s.shells (λ h m. (shells_listed f n items held h m).3) in
+    let few = tuples_few f items held fresh in
     let most : sum_by (λ (e : Entry × List Value). length e.1) f.entries ≤ 164000000 = limits.values in
     let low = slice_get_within f.entries (name.number / 2) name.entry name.there in
     record {
@@ -247,3 +247,8 @@ has_few_parts f n limits all =
       few_shells = omega (arith, uses, few, most, placed, a, b, c);
       number = omega (arith, low, limits.entries, div-add-mod name.number 2, name.odd, number);
     }
+
+-- A solid of a file within its limits has few parts.
+pub has_few_parts : (f : Contents) (n : ℕ) → FitsLimits f → AllHold (places f n) → HasFewParts (solid_of f n) n
+has_few_parts f n limits all =
+    subst (λ s. HasFewParts s n) (sym (solid_lists f n)) (listing_has_few_parts f n (shells f (pos n)) limits (solid_name f n all) (listed_solid f n all) (loops_fresh f n all))

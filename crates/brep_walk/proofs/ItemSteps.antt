@@ -1,6 +1,6 @@
 -- One face of a shell, and one shell of a solid.
 use Rattle.std.specs.Prelude.{◌≡◌, ◌+◌, ℕ, ℤ, Bool, List, [], ◌∷◌, ◌++◌, flat_map, length, take, slice_get, Contains, Some, Result, IsErrAnd, IfErr}
-use Rattle.std.proofs.Common.{sym, ◌∙◌, ap, subst}
+use Rattle.std.proofs.Common.{subst}
 use Rattle.iges_params.specs.Contents.{Contents}
 use Rattle.brep_lists.specs.Record.{face, shell}
 use Rattle.solid_data.specs.Obligations.{Obligation, AllHold, FirstFalse, obligation, after_each, entry_number}

@@ -19,3 +19,4 @@ pub mod NamedOnce
 pub mod KeyPlaces
 pub mod KnownEdges
 pub mod Decided
+pub mod ShellSolids

@@ -11,7 +11,7 @@ use Rattle.iges_params.specs.Contents.{Contents}
 use Rattle.brep_lists.specs.Record.{LoopTuple}
 use Rattle.brep_lists.specs.declared.edge_list.EdgeTuple.{EdgeTuple}
 use Rattle.brep_walk.specs.Places.{shells, faces, loops, tuples, edge_at, numbers}
-use Rattle.brep_walk.specs.SolidOf.{edge_key, vertex_key, all_tuples, edge_named, ends_named, vertices_named, edge_keys, vertex_keys, use_of, loop_of, face_of, shell_of, numbered_edge, edge_of, solid_of}
+use Rattle.brep_walk.specs.SolidOf.{Keys, edge_key, vertex_key, all_tuples, edge_named, ends_named, vertices_named, use_by, loop_by, face_by, shell_by, numbered_by, edge_by, keys_of, use_of, solid_of, tuples_in, edges_in, vertices_in, keys_in, solid_listing}
 use Rattle.solid_data.specs.Ring.{distinct, place_of, numbers_from}
 use Rattle.solid_data.specs.Obligations.{entry_number}
 use Rattle.solid_data.specs.Numbering.{InOrderOfAppearance}
@@ -137,41 +137,45 @@ edge_itself a = ap (λ t. t && (a.index == a.index)) (eq-eqb a.«list».0 a.«li
 
 -- The uses of all shells are those of all tuples.
 
-uses_of_loops : (f : Contents) (n : ℤ) (mk : ℕ × Loop → PlacedLoop) → ((l : ℕ × Loop) → (mk l).loop ≡ l.1) → (base : ℕ) (ls : List ℤ)
-    → flat_map (λ (p : PlacedLoop). p.loop.uses) (map mk (enumerate_from base (map (loop_of f n) ls))) ≡ map (use_of f n) (flat_map (tuples f) ls)
-uses_of_loops f n mk same base [] = refl
-uses_of_loops f n mk same base (l ∷ ls) =
-    let here : (mk (base, loop_of f n l)).loop.uses ≡ map (use_of f n) (tuples f l) = ap (λ (x : Loop). x.uses) (same (base, loop_of f n l)) in
-    ap (λ us. us ++ flat_map (λ (p : PlacedLoop). p.loop.uses) (map mk (enumerate_from (base + 1) (map (loop_of f n) ls)))) here
-    ∙ (ap (λ us. map (use_of f n) (tuples f l) ++ us) (uses_of_loops f n mk same (base + 1) ls)
-    ∙ sym (map-append (use_of f n) (tuples f l) (flat_map (tuples f) ls)))
+uses_of_loops : (f : Contents) (keys : Keys) (mk : ℕ × Loop → PlacedLoop) → ((l : ℕ × Loop) → (mk l).loop ≡ l.1) → (base : ℕ) (ls : List ℤ)
+    → flat_map (λ (p : PlacedLoop). p.loop.uses) (map mk (enumerate_from base (map (loop_by f keys) ls))) ≡ map (use_by keys) (flat_map (tuples f) ls)
+uses_of_loops f keys mk same base [] = refl
+uses_of_loops f keys mk same base (l ∷ ls) =
+    let here : (mk (base, loop_by f keys l)).loop.uses ≡ map (use_by keys) (tuples f l) = ap (λ (x : Loop). x.uses) (same (base, loop_by f keys l)) in
+    ap (λ us. us ++ flat_map (λ (p : PlacedLoop). p.loop.uses) (map mk (enumerate_from (base + 1) (map (loop_by f keys) ls)))) here
+    ∙ (ap (λ us. map (use_by keys) (tuples f l) ++ us) (uses_of_loops f keys mk same (base + 1) ls)
+    ∙ sym (map-append (use_by keys) (tuples f l) (flat_map (tuples f) ls)))
 
-uses_of_faces : (f : Contents) (n : ℤ) (flag : Bool) (base : ℕ) (items : List (ℤ × Bool))
-    → flat_map (λ (p : PlacedLoop). p.loop.uses) (flat_map (placed_in_face flag) (enumerate_from base (map (face_of f n) items))) ≡ map (use_of f n) (flat_map (tuples f) (flat_map (loops f) (numbers items)))
-uses_of_faces f n flag base [] = refl
-uses_of_faces f n flag base (item ∷ items) =
-    let rest : List PlacedLoop = flat_map (placed_in_face flag) (enumerate_from (base + 1) (map (face_of f n) items)) in
-    let mine : List PlacedLoop = placed_in_face flag (base, face_of f n item) in
+uses_of_faces : (f : Contents) (keys : Keys) (flag : Bool) (base : ℕ) (items : List (ℤ × Bool))
+    → flat_map (λ (p : PlacedLoop). p.loop.uses) (flat_map (placed_in_face flag) (enumerate_from base (map (face_by f keys) items))) ≡ map (use_by keys) (flat_map (tuples f) (flat_map (loops f) (numbers items)))
+uses_of_faces f keys flag base [] = refl
+uses_of_faces f keys flag base (item ∷ items) =
+    let rest : List PlacedLoop = flat_map (placed_in_face flag) (enumerate_from (base + 1) (map (face_by f keys) items)) in
+    let mine : List PlacedLoop = placed_in_face flag (base, face_by f keys item) in
     flat_map-append (λ (p : PlacedLoop). p.loop.uses) mine rest
-    ∙ (ap (λ us. us ++ flat_map (λ (p : PlacedLoop). p.loop.uses) rest) (uses_of_loops f n _ (λ l. refl) 0 (loops f item.0))
-    ∙ (ap (λ us. map (use_of f n) (flat_map (tuples f) (loops f item.0)) ++ us) (uses_of_faces f n flag (base + 1) items)
-    ∙ (sym (map-append (use_of f n) (flat_map (tuples f) (loops f item.0)) (flat_map (tuples f) (flat_map (loops f) (numbers items))))
-    ∙ ap (map (use_of f n)) (sym (flat_map-append (tuples f) (loops f item.0) (flat_map (loops f) (numbers items)))))))
+    ∙ (ap (λ us. us ++ flat_map (λ (p : PlacedLoop). p.loop.uses) rest) (uses_of_loops f keys _ (λ l. refl) 0 (loops f item.0))
+    ∙ (ap (λ us. map (use_by keys) (flat_map (tuples f) (loops f item.0)) ++ us) (uses_of_faces f keys flag (base + 1) items)
+    ∙ (sym (map-append (use_by keys) (flat_map (tuples f) (loops f item.0)) (flat_map (tuples f) (flat_map (loops f) (numbers items))))
+    ∙ ap (map (use_by keys)) (sym (flat_map-append (tuples f) (loops f item.0) (flat_map (loops f) (numbers items)))))))
 
-uses_of_shells : (f : Contents) (n : ℤ) (items : List (ℤ × Bool))
-    → flat_map shell_uses (map (shell_of f n) items) ≡ map (use_of f n) (flat_map (tuples f) (flat_map (loops f) (flat_map (λ s. numbers (faces f s)) (numbers items))))
-uses_of_shells f n [] = refl
-uses_of_shells f n (item ∷ items) =
+uses_of_shells : (f : Contents) (keys : Keys) (items : List (ℤ × Bool))
+    → flat_map shell_uses (map (shell_by f keys) items) ≡ map (use_by keys) (flat_map (tuples f) (flat_map (loops f) (flat_map (λ s. numbers (faces f s)) (numbers items))))
+uses_of_shells f keys [] = refl
+uses_of_shells f keys (item ∷ items) =
     let mine : List ℤ = numbers (faces f item.0) in
     let rest : List ℤ = flat_map (λ s. numbers (faces f s)) (numbers items) in
-    ap (λ us. us ++ flat_map shell_uses (map (shell_of f n) items)) (uses_of_faces f n item.1 0 (faces f item.0))
-    ∙ (ap (λ us. map (use_of f n) (flat_map (tuples f) (flat_map (loops f) mine)) ++ us) (uses_of_shells f n items)
-    ∙ (sym (map-append (use_of f n) (flat_map (tuples f) (flat_map (loops f) mine)) (flat_map (tuples f) (flat_map (loops f) rest)))
-    ∙ ap (map (use_of f n)) (sym (ap (flat_map (tuples f)) (flat_map-append (loops f) mine rest) ∙ flat_map-append (tuples f) (flat_map (loops f) mine) (flat_map (loops f) rest)))))
+    ap (λ us. us ++ flat_map shell_uses (map (shell_by f keys) items)) (uses_of_faces f keys item.1 0 (faces f item.0))
+    ∙ (ap (λ us. map (use_by keys) (flat_map (tuples f) (flat_map (loops f) mine)) ++ us) (uses_of_shells f keys items)
+    ∙ (sym (map-append (use_by keys) (flat_map (tuples f) (flat_map (loops f) mine)) (flat_map (tuples f) (flat_map (loops f) rest)))
+    ∙ ap (map (use_by keys)) (sym (ap (flat_map (tuples f)) (flat_map-append (loops f) mine rest) ∙ flat_map-append (tuples f) (flat_map (loops f) mine) (flat_map (loops f) rest)))))
 
 pub all_uses : (f : Contents) (n : ℕ) → flat_map shell_uses (solid_of f n).shells ≡ map (use_of f (pos n)) (all_tuples f (pos n))
 unfolding solid_of
-all_uses f n = uses_of_shells f (pos n) (shells f (pos n))
+all_uses f n = uses_of_shells f (keys_of f (pos n)) (shells f (pos n))
+
+pub uses_listed : (f : Contents) (n : ℕ) (items : List (ℤ × Bool)) → flat_map shell_uses (solid_listing f n items).shells ≡ map (use_by (keys_in f items)) (tuples_in f items)
+unfolding solid_listing
+uses_listed f n items = uses_of_shells f (keys_in f items) items
 
 pub flat_flat : {A B C : Type 0} (g : A → List B) (h : B → List C) (xs : List A) → flat_map (λ x. flat_map h (g x)) xs ≡ flat_map h (flat_map g xs)
 flat_flat g h [] = refl
@@ -179,117 +183,117 @@ flat_flat g h (x ∷ xs) = ap (λ zs. flat_map h (g x) ++ zs) (flat_flat g h xs)
 
 -- The edges.
 
-edges_used : (f : Contents) (n : ℤ) (ts : List LoopTuple) → flat_map edge_used (map (use_of f n) ts) ≡ map (place_of same_edge (edge_keys f n)) (flat_map edge_named ts)
-edges_used f n [] = refl
-edges_used f n (t ∷ ts) =
-    ap (λ zs. edge_used (use_of f n t) ++ zs) (edges_used f n ts)
-    ∙ (ap (λ zs. zs ++ map (place_of same_edge (edge_keys f n)) (flat_map edge_named ts)) (one t.is_vertex)
-    ∙ sym (map-append (place_of same_edge (edge_keys f n)) (edge_named t) (flat_map edge_named ts)))
+edges_used : (f : Contents) (items : List (ℤ × Bool)) (ts : List LoopTuple) → flat_map edge_used (map (use_by (keys_in f items)) ts) ≡ map (place_of same_edge (edges_in f items)) (flat_map edge_named ts)
+edges_used f items [] = refl
+edges_used f items (t ∷ ts) =
+    ap (λ zs. edge_used (use_by (keys_in f items) t) ++ zs) (edges_used f items ts)
+    ∙ (ap (λ zs. zs ++ map (place_of same_edge (edges_in f items)) (flat_map edge_named ts)) (one t.is_vertex)
+    ∙ sym (map-append (place_of same_edge (edges_in f items)) (edge_named t) (flat_map edge_named ts)))
   where
-    one : (b : Bool) → edge_used (if b then VertexUse (record { 0 = place_of same_vertex (vertex_keys f n) (vertex_key t.«list» t.index) }) else EdgeUse (record { 0 = place_of same_edge (edge_keys f n) (edge_key t.«list» t.index) }) t.flag)
-        ≡ map (place_of same_edge (edge_keys f n)) (if b then [] else edge_key t.«list» t.index ∷ [])
+    one : (b : Bool) → edge_used (if b then VertexUse (record { 0 = place_of same_vertex (vertices_in f items) (vertex_key t.«list» t.index) }) else EdgeUse (record { 0 = place_of same_edge (edges_in f items) (edge_key t.«list» t.index) }) t.flag)
+        ≡ map (place_of same_edge (edges_in f items)) (if b then [] else edge_key t.«list» t.index ∷ [])
     one true = refl
     one false = refl
 
 -- each edge that is used is there
-abbrev pub EdgesFound : Contents → ℤ → Type 0
-EdgesFound f n = (t : LoopTuple) → Has (all_tuples f n) t → t.is_vertex ≡ false → (e : EdgeTuple) × (edge_at f t.«list» (entry_number t.index) ≡ Some e)
+abbrev pub EdgesFound : Contents → List (ℤ × Bool) → Type 0
+EdgesFound f items = (t : LoopTuple) → Has (tuples_in f items) t → t.is_vertex ≡ false → (e : EdgeTuple) × (edge_at f t.«list» (entry_number t.index) ≡ Some e)
 
 pub by_key : (f : Contents) (e : ℤ) (j : ℕ) (t : EdgeTuple) → edge_at f e j ≡ Some t → edge_at f (pos (entry_number e)) j ≡ Some t
 by_key f (pos n) j t h = h
 by_key f (negsuc n) j t h = absurd (none-some t h)
 
-key_found : (f : Contents) (n : ℤ) → EdgesFound f n → (key : EdgeKey) → Has (edge_keys f n) key → (e : EdgeTuple) × (edge_at f (pos key.«list».0) key.index ≡ Some e)
-key_found f n found key h =
-    let t = from_flat_map edge_named (all_tuples f n) key (from_distinct same_edge (flat_map edge_named (all_tuples f n)) key h) in
+key_found : (f : Contents) (items : List (ℤ × Bool)) → EdgesFound f items → (key : EdgeKey) → Has (edges_in f items) key → (e : EdgeTuple) × (edge_at f (pos key.«list».0) key.index ≡ Some e)
+key_found f items found key h =
+    let t = from_flat_map edge_named (tuples_in f items) key (from_distinct same_edge (flat_map edge_named (tuples_in f items)) key h) in
     of_tuple t.0 t.1 t.0.is_vertex refl t.2
   where
-    of_tuple : (t : LoopTuple) → Has (all_tuples f n) t → (b : Bool) → t.is_vertex ≡ b → Has (if b then [] else edge_key t.«list» t.index ∷ []) key → (e : EdgeTuple) × (edge_at f (pos key.«list».0) key.index ≡ Some e)
+    of_tuple : (t : LoopTuple) → Has (tuples_in f items) t → (b : Bool) → t.is_vertex ≡ b → Has (if b then [] else edge_key t.«list» t.index ∷ []) key → (e : EdgeTuple) × (edge_at f (pos key.«list».0) key.index ≡ Some e)
     of_tuple t here true v m = absurd m
     of_tuple t here false v (inr m) = absurd m
     of_tuple t here false v (inl same) =
         let e = found t here v in
         (e.0, ap (λ (q : EdgeKey). edge_at f (pos q.«list».0) q.index) (sym same) ∙ by_key f t.«list» (entry_number t.index) e.0 e.1)
 
-edges_counted : (f : Contents) (n : ℤ) → EdgesFound f n → length (flat_map (edge_of f n) (edge_keys f n)) ≡ length (edge_keys f n)
-edges_counted f n found = length-singles (edge_of f n) (edge_keys f n) (λ key m. let e = key_found f n found key m in ap (λ o. length (numbered_edge f n key o)) e.1)
+edges_counted : (f : Contents) (items : List (ℤ × Bool)) → EdgesFound f items → length (flat_map (edge_by f (keys_in f items)) (edges_in f items)) ≡ length (edges_in f items)
+edges_counted f items found = length-singles (edge_by f (keys_in f items)) (edges_in f items) (λ key m. let e = key_found f items found key m in ap (λ o. length (numbered_by (keys_in f items) key o)) e.1)
 
-edge_count : (f : Contents) (n : ℕ) → length (solid_of f n).edges ≡ length (flat_map (edge_of f (pos n)) (edge_keys f (pos n)))
-unfolding solid_of
-edge_count f n = refl
+edge_count : (f : Contents) (n : ℕ) (items : List (ℤ × Bool)) → length (solid_listing f n items).edges ≡ length (flat_map (edge_by f (keys_in f items)) (edges_in f items))
+unfolding solid_listing
+edge_count f n items = refl
 
 -- The edges of a file's solid are numbered by first appearance.
-pub edges_in_order : (f : Contents) (n : ℕ) → EdgesFound f (pos n) → InOrderOfAppearance (flat_map shell_edges (solid_of f n).shells) (length (solid_of f n).edges)
-edges_in_order f n found =
-    let ids : flat_map shell_edges (solid_of f n).shells ≡ map (place_of same_edge (edge_keys f (pos n))) (flat_map edge_named (all_tuples f (pos n))) =
-    flat_flat shell_uses edge_used (solid_of f n).shells ∙ (ap (flat_map edge_used) (all_uses f n) ∙ edges_used f (pos n) (all_tuples f (pos n))) in
+pub edges_in_order : (f : Contents) (n : ℕ) (items : List (ℤ × Bool)) → EdgesFound f items → InOrderOfAppearance (flat_map shell_edges (solid_listing f n items).shells) (length (solid_listing f n items).edges)
+edges_in_order f n items found =
+    let ids : flat_map shell_edges (solid_listing f n items).shells ≡ map (place_of same_edge (edges_in f items)) (flat_map edge_named (tuples_in f items)) =
+    flat_flat shell_uses edge_used (solid_listing f n items).shells ∙ (ap (flat_map edge_used) (uses_listed f n items) ∙ edges_used f items (tuples_in f items)) in
     ap (distinct ◌==◌) ids
-    ∙ (places_in_order same_edge edge_sound edge_itself (flat_map edge_named (all_tuples f (pos n)))
-    ∙ ap (numbers_from 0) (sym (edge_count f n ∙ edges_counted f (pos n) found)))
+    ∙ (places_in_order same_edge edge_sound edge_itself (flat_map edge_named (tuples_in f items))
+    ∙ ap (numbers_from 0) (sym (edge_count f n items ∙ edges_counted f items found)))
 
 -- The vertices.
 
 -- the edge of a key, where it is there
-abbrev numbered : Contents → ℤ → EdgeKey → EdgeTuple → Edge
-numbered f n key e = record {
+abbrev numbered : Contents → List (ℤ × Bool) → EdgeKey → EdgeTuple → Edge
+numbered f items key e = record {
   key = key;
-  from = record { 0 = place_of same_vertex (vertex_keys f n) (vertex_key e.start_list e.start_index) };
-  to = record { 0 = place_of same_vertex (vertex_keys f n) (vertex_key e.end_list e.end_index) };
+  from = record { 0 = place_of same_vertex (vertices_in f items) (vertex_key e.start_list e.start_index) };
+  to = record { 0 = place_of same_vertex (vertices_in f items) (vertex_key e.end_list e.end_index) };
 }
 
-edges_of_solid : (f : Contents) (n : ℕ) → (solid_of f n).edges ≡ flat_map (edge_of f (pos n)) (edge_keys f (pos n))
-unfolding solid_of
-edges_of_solid f n = refl
+edges_of_solid : (f : Contents) (n : ℕ) (items : List (ℤ × Bool)) → (solid_listing f n items).edges ≡ flat_map (edge_by f (keys_in f items)) (edges_in f items)
+unfolding solid_listing
+edges_of_solid f n items = refl
 
-vertices_one : (f : Contents) (n : ℕ) → EdgesFound f (pos n) → (t : LoopTuple) → Has (all_tuples f (pos n)) t
-    → vertices_used (solid_of f n) (use_of f (pos n) t) ≡ map (place_of same_vertex (vertex_keys f (pos n))) (vertices_named f t)
-vertices_one f n found t here = by_case t.is_vertex refl
+vertices_one : (f : Contents) (n : ℕ) (items : List (ℤ × Bool)) → EdgesFound f items → (t : LoopTuple) → Has (tuples_in f items) t
+    → vertices_used (solid_listing f n items) (use_by (keys_in f items) t) ≡ map (place_of same_vertex (vertices_in f items)) (vertices_named f t)
+vertices_one f n items found t here = by_case t.is_vertex refl
   where
     pick : Bool → LoopUse
-    pick b = if b then VertexUse (record { 0 = place_of same_vertex (vertex_keys f (pos n)) (vertex_key t.«list» t.index) }) else EdgeUse (record { 0 = place_of same_edge (edge_keys f (pos n)) (edge_key t.«list» t.index) }) t.flag
+    pick b = if b then VertexUse (record { 0 = place_of same_vertex (vertices_in f items) (vertex_key t.«list» t.index) }) else EdgeUse (record { 0 = place_of same_edge (edges_in f items) (edge_key t.«list» t.index) }) t.flag
 
     names : Bool → List VertexKey
     names b = if b then vertex_key t.«list» t.index ∷ [] else ends_named (edge_at f t.«list» (entry_number t.index))
 
-    of_case : (b : Bool) → t.is_vertex ≡ b → vertices_used (solid_of f n) (pick b) ≡ map (place_of same_vertex (vertex_keys f (pos n))) (names b)
+    of_case : (b : Bool) → t.is_vertex ≡ b → vertices_used (solid_listing f n items) (pick b) ≡ map (place_of same_vertex (vertices_in f items)) (names b)
     of_case true v = refl
     of_case false v =
         let e = found t here v in
         let key : EdgeKey = edge_key t.«list» t.index in
-        let listed : Has (edge_keys f (pos n)) key = to_distinct same_edge edge_sound (flat_map edge_named (all_tuples f (pos n))) key
-        (has_flat_map edge_named (all_tuples f (pos n)) t key here (subst (λ c. Has (if c then [] else key ∷ []) key) (sym v) (inl refl))) in
-        let there : edge_of f (pos n) key ≡ numbered f (pos n) key e.0 ∷ [] = ap (numbered_edge f (pos n) key) (by_key f t.«list» (entry_number t.index) e.0 e.1) in
-        let got : slice_get (solid_of f n).edges (place_of same_edge (edge_keys f (pos n)) key) ≡ Some (numbered f (pos n) key e.0) =
-        ap (λ es. slice_get es (place_of same_edge (edge_keys f (pos n)) key)) (edges_of_solid f n)
-        ∙ get_single (edge_of f (pos n)) (edge_keys f (pos n)) (λ k m. let d = key_found f (pos n) found k m in ap (λ o. length (numbered_edge f (pos n) k o)) d.1)
-        (place_of same_edge (edge_keys f (pos n)) key) key (numbered f (pos n) key e.0) (at_place same_edge edge_sound edge_itself (edge_keys f (pos n)) key listed) there in
-        ap ends_of got ∙ sym (ap (λ o. map (place_of same_vertex (vertex_keys f (pos n))) (ends_named o)) e.1)
+        let listed : Has (edges_in f items) key = to_distinct same_edge edge_sound (flat_map edge_named (tuples_in f items)) key
+        (has_flat_map edge_named (tuples_in f items) t key here (subst (λ c. Has (if c then [] else key ∷ []) key) (sym v) (inl refl))) in
+        let there : edge_by f (keys_in f items) key ≡ numbered f items key e.0 ∷ [] = ap (numbered_by (keys_in f items) key) (by_key f t.«list» (entry_number t.index) e.0 e.1) in
+        let got : slice_get (solid_listing f n items).edges (place_of same_edge (edges_in f items) key) ≡ Some (numbered f items key e.0) =
+        ap (λ es. slice_get es (place_of same_edge (edges_in f items) key)) (edges_of_solid f n items)
+        ∙ get_single (edge_by f (keys_in f items)) (edges_in f items) (λ k m. let d = key_found f items found k m in ap (λ o. length (numbered_by (keys_in f items) k o)) d.1)
+        (place_of same_edge (edges_in f items) key) key (numbered f items key e.0) (at_place same_edge edge_sound edge_itself (edges_in f items) key listed) there in
+        ap ends_of got ∙ sym (ap (λ o. map (place_of same_vertex (vertices_in f items)) (ends_named o)) e.1)
 
-    by_case : (b : Bool) → t.is_vertex ≡ b → vertices_used (solid_of f n) (pick t.is_vertex) ≡ map (place_of same_vertex (vertex_keys f (pos n))) (names t.is_vertex)
+    by_case : (b : Bool) → t.is_vertex ≡ b → vertices_used (solid_listing f n items) (pick t.is_vertex) ≡ map (place_of same_vertex (vertices_in f items)) (names t.is_vertex)
     by_case b v = of_case t.is_vertex refl
 
-all_vertices : (f : Contents) (n : ℕ) (ts : List LoopTuple)
-    → ((t : LoopTuple) → Has ts t → vertices_used (solid_of f n) (use_of f (pos n) t) ≡ map (place_of same_vertex (vertex_keys f (pos n))) (vertices_named f t))
-    → flat_map (vertices_used (solid_of f n)) (map (use_of f (pos n)) ts) ≡ map (place_of same_vertex (vertex_keys f (pos n))) (flat_map (vertices_named f) ts)
-all_vertices f n [] each = refl
-all_vertices f n (t ∷ ts) each =
-    ap (λ zs. zs ++ flat_map (vertices_used (solid_of f n)) (map (use_of f (pos n)) ts)) (each t (inl refl))
-    ∙ (ap (λ zs. map (place_of same_vertex (vertex_keys f (pos n))) (vertices_named f t) ++ zs) (all_vertices f n ts (λ u m. each u (inr m)))
-    ∙ sym (map-append (place_of same_vertex (vertex_keys f (pos n))) (vertices_named f t) (flat_map (vertices_named f) ts)))
+all_vertices : (f : Contents) (n : ℕ) (items : List (ℤ × Bool)) (ts : List LoopTuple)
+    → ((t : LoopTuple) → Has ts t → vertices_used (solid_listing f n items) (use_by (keys_in f items) t) ≡ map (place_of same_vertex (vertices_in f items)) (vertices_named f t))
+    → flat_map (vertices_used (solid_listing f n items)) (map (use_by (keys_in f items)) ts) ≡ map (place_of same_vertex (vertices_in f items)) (flat_map (vertices_named f) ts)
+all_vertices f n items [] each = refl
+all_vertices f n items (t ∷ ts) each =
+    ap (λ zs. zs ++ flat_map (vertices_used (solid_listing f n items)) (map (use_by (keys_in f items)) ts)) (each t (inl refl))
+    ∙ (ap (λ zs. map (place_of same_vertex (vertices_in f items)) (vertices_named f t) ++ zs) (all_vertices f n items ts (λ u m. each u (inr m)))
+    ∙ sym (map-append (place_of same_vertex (vertices_in f items)) (vertices_named f t) (flat_map (vertices_named f) ts)))
 
-vertices_of_solid : (f : Contents) (n : ℕ) → (solid_of f n).vertices ≡ vertex_keys f (pos n)
-unfolding solid_of
-vertices_of_solid f n = refl
+vertices_of_solid : (f : Contents) (n : ℕ) (items : List (ℤ × Bool)) → (solid_listing f n items).vertices ≡ vertices_in f items
+unfolding solid_listing
+vertices_of_solid f n items = refl
 
 -- The vertices of a file's solid are numbered by first appearance.
-pub vertices_in_order : (f : Contents) (n : ℕ) → EdgesFound f (pos n) → InOrderOfAppearance (flat_map (shell_vertices (solid_of f n)) (solid_of f n).shells) (length (solid_of f n).vertices)
-vertices_in_order f n found =
-    let ids : flat_map (shell_vertices (solid_of f n)) (solid_of f n).shells ≡ map (place_of same_vertex (vertex_keys f (pos n))) (flat_map (vertices_named f) (all_tuples f (pos n))) =
-    flat_flat shell_uses (vertices_used (solid_of f n)) (solid_of f n).shells
-    ∙ (ap (flat_map (vertices_used (solid_of f n))) (all_uses f n) ∙ all_vertices f n (all_tuples f (pos n)) (vertices_one f n found)) in
+pub vertices_in_order : (f : Contents) (n : ℕ) (items : List (ℤ × Bool)) → EdgesFound f items → InOrderOfAppearance (flat_map (shell_vertices (solid_listing f n items)) (solid_listing f n items).shells) (length (solid_listing f n items).vertices)
+vertices_in_order f n items found =
+    let ids : flat_map (shell_vertices (solid_listing f n items)) (solid_listing f n items).shells ≡ map (place_of same_vertex (vertices_in f items)) (flat_map (vertices_named f) (tuples_in f items)) =
+    flat_flat shell_uses (vertices_used (solid_listing f n items)) (solid_listing f n items).shells
+    ∙ (ap (flat_map (vertices_used (solid_listing f n items))) (uses_listed f n items) ∙ all_vertices f n items (tuples_in f items) (vertices_one f n items found)) in
     ap (distinct ◌==◌) ids
-    ∙ (places_in_order same_vertex vertex_sound vertex_itself (flat_map (vertices_named f) (all_tuples f (pos n)))
-    ∙ ap (λ vs. numbers_from 0 (length vs)) (sym (vertices_of_solid f n)))
+    ∙ (places_in_order same_vertex vertex_sound vertex_itself (flat_map (vertices_named f) (tuples_in f items))
+    ∙ ap (λ vs. numbers_from 0 (length vs)) (sym (vertices_of_solid f n items)))
 
 -- Keys without repeats.
 
@@ -304,21 +308,21 @@ apart_distinct same sound itself (x ∷ xs) h =
     ap (λ zs. x ∷ filter (λ y. not (same x y)) zs) rest
     ∙ ap (λ zs. x ∷ zs) (keep_all (λ y. not (same x y)) xs (λ a m. ap not (symmetric same sound itself a x (h.0 a m))))
 
-keys_of_edges : (f : Contents) (n : ℤ) (keys : List EdgeKey) → ((key : EdgeKey) → Has keys key → (e : EdgeTuple) × (edge_at f (pos key.«list».0) key.index ≡ Some e)) → map (λ (e : Edge). e.key) (flat_map (edge_of f n) keys) ≡ keys
-keys_of_edges f n [] h = refl
-keys_of_edges f n (key ∷ keys) h =
+keys_of_edges : (f : Contents) (items : List (ℤ × Bool)) (keys : List EdgeKey) → ((key : EdgeKey) → Has keys key → (e : EdgeTuple) × (edge_at f (pos key.«list».0) key.index ≡ Some e)) → map (λ (e : Edge). e.key) (flat_map (edge_by f (keys_in f items)) keys) ≡ keys
+keys_of_edges f items [] h = refl
+keys_of_edges f items (key ∷ keys) h =
     let e = h key (inl refl) in
-    ap (λ o. map (λ (x : Edge). x.key) (numbered_edge f n key o ++ flat_map (edge_of f n) keys)) e.1
-    ∙ ap (λ zs. key ∷ zs) (keys_of_edges f n keys (λ k m. h k (inr m)))
+    ap (λ o. map (λ (x : Edge). x.key) (numbered_by (keys_in f items) key o ++ flat_map (edge_by f (keys_in f items)) keys)) e.1
+    ∙ ap (λ zs. key ∷ zs) (keys_of_edges f items keys (λ k m. h k (inr m)))
 
-pub edge_keys_differ : (f : Contents) (n : ℕ) → EdgesFound f (pos n) → distinct same_edge (map (λ (e : Edge). e.key) (solid_of f n).edges) ≡ map (λ (e : Edge). e.key) (solid_of f n).edges
-edge_keys_differ f n found =
-    let keys : map (λ (e : Edge). e.key) (solid_of f n).edges ≡ edge_keys f (pos n) =
-    ap (map (λ (e : Edge). e.key)) (edges_of_solid f n) ∙ keys_of_edges f (pos n) (edge_keys f (pos n)) (key_found f (pos n) found) in
+pub edge_keys_differ : (f : Contents) (n : ℕ) (items : List (ℤ × Bool)) → EdgesFound f items → distinct same_edge (map (λ (e : Edge). e.key) (solid_listing f n items).edges) ≡ map (λ (e : Edge). e.key) (solid_listing f n items).edges
+edge_keys_differ f n items found =
+    let keys : map (λ (e : Edge). e.key) (solid_listing f n items).edges ≡ edges_in f items =
+    ap (map (λ (e : Edge). e.key)) (edges_of_solid f n items) ∙ keys_of_edges f items (edges_in f items) (key_found f items found) in
     ap (distinct same_edge) keys
-    ∙ (apart_distinct same_edge edge_sound edge_itself (edge_keys f (pos n)) (distinct_apart same_edge edge_sound edge_itself (flat_map edge_named (all_tuples f (pos n)))) ∙ sym keys)
+    ∙ (apart_distinct same_edge edge_sound edge_itself (edges_in f items) (distinct_apart same_edge edge_sound edge_itself (flat_map edge_named (tuples_in f items))) ∙ sym keys)
 
-pub vertex_keys_differ : (f : Contents) (n : ℕ) → distinct same_vertex (solid_of f n).vertices ≡ (solid_of f n).vertices
-vertex_keys_differ f n =
-    ap (distinct same_vertex) (vertices_of_solid f n)
-    ∙ (apart_distinct same_vertex vertex_sound vertex_itself (vertex_keys f (pos n)) (distinct_apart same_vertex vertex_sound vertex_itself (flat_map (vertices_named f) (all_tuples f (pos n)))) ∙ sym (vertices_of_solid f n))
+pub vertex_keys_differ : (f : Contents) (n : ℕ) (items : List (ℤ × Bool)) → distinct same_vertex (solid_listing f n items).vertices ≡ (solid_listing f n items).vertices
+vertex_keys_differ f n items =
+    ap (distinct same_vertex) (vertices_of_solid f n items)
+    ∙ (apart_distinct same_vertex vertex_sound vertex_itself (vertices_in f items) (distinct_apart same_vertex vertex_sound vertex_itself (flat_map (vertices_named f) (tuples_in f items))) ∙ sym (vertices_of_solid f n items))

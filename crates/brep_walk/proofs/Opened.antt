@@ -20,12 +20,12 @@ use Rattle.brep_walk.proofs.Few.{name_parts, each_some}
 
 -- Whether the record is of the kind.
 
-record_of : (kind : EntityKind) (o : Option (Entry × List Value)) → IsSome o → (items : Items kind) → Fits kind (record_values o) items → items ≡ items_of kind (record_values o)
+pub record_of : (kind : EntityKind) (o : Option (Entry × List Value)) → IsSome o → (items : Items kind) → Fits kind (record_values o) items → items ≡ items_of kind (record_values o)
     → IsSomeAnd o (λ e. IsRecordOf kind e.1)
 record_of kind None some items fits read = absurd (let g : false ≡ true = some in cc)
 record_of kind (Some e) some items fits read = subst (Fits kind e.1) read fits
 
-no_record : (kind : EntityKind) (o : Option (Entry × List Value)) → ((items : Items kind) → ¬ Fits kind (record_values o) items) → ¬ IsSomeAnd o (λ e. IsRecordOf kind e.1)
+pub no_record : (kind : EntityKind) (o : Option (Entry × List Value)) → ((items : Items kind) → ¬ Fits kind (record_values o) items) → ¬ IsSomeAnd o (λ e. IsRecordOf kind e.1)
 no_record kind None none h = h
 no_record kind (Some e) none h = none (items_of kind e.1) h
 
@@ -105,7 +105,11 @@ values_few f z limits here =
     let most : sum_by (λ (e : Entry × List Value). length e.1) f.entries ≤ 164_000_000 = limits.values in
     omega (arith, entry_total f.entries (p.number / 2) p.entry p.there, p.size, most, fold-total (λ (e : Entry × List Value). length e.1) 0 f.entries)
 
+-- an entry that a number names, whose values tell these items
+pub named_few : (kind : EntityKind) (f : Contents) (z : ℤ) → FitsLimits f → Names f z → (vs : List Value) (items : Items kind) → vs ≡ values_of f z → Fits kind vs items → item_count kind items < 2 ^ 31
+named_few kind f z limits here vs items at fits =
+    omega (arith, due_length kind items, met_length (due kind items) vs fits, values_few f z limits here, ap (λ (ws : List Value). length ws) at)
+
 pub items_few : (kind : EntityKind) (f : Contents) (entity : ℤ) (place : ℕ) (z y : ℤ) → y ≡ z → FitsLimits f → AllHold (entry_places f entity place kind y)
     → (vs : List Value) (items : Items kind) → vs ≡ values_of f y → Fits kind vs items → item_count kind items < 2 ^ 31
-items_few kind f entity place z y same limits all vs items at fits =
-    omega (arith, due_length kind items, met_length (due kind items) vs fits, values_few f y limits all.0, ap (λ (ws : List Value). length ws) at)
+items_few kind f entity place z y same limits all vs items at fits = named_few kind f y limits all.0 vs items at fits

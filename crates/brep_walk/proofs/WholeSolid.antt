@@ -3,10 +3,10 @@ use Rattle.std.specs.Prelude.{◌≡◌, ℕ, ℤ, pos, Bool, List, [], ◌∷�
 use Rattle.std.proofs.Common.{refl, sym, ◌∙◌, ap, subst}
 use Rattle.std.proofs.lemmas.List.{append-nil}
 use Rattle.std.proofs.lemmas.Grind.{flat_map-append}
-use Rattle.indexmap.specs.IndexSet.{insert_all}
 use Rattle.iges_params.specs.Contents.{Contents}
-use Rattle.brep_lists.specs.Record.{SolidItems, solid}
-use Rattle.solid_data.specs.Obligations.{Obligation, AllHold, FirstFalse, after_each}
+use Rattle.brep_lists.specs.Record.{SolidItems, LoopTuple, solid}
+use Rattle.solid_data.specs.Obligations.{AllHold, FirstFalse, after_each}
+use Rattle.solid_data.specs.Ring.{distinct}
 use Rattle.solid_data.specs.SolidData.{same_edge, same_vertex}
 use Rattle.iges_fields.specs.declared.entry_no.EntryNo.{EntryNo}
 use Rattle.solid_data.specs.declared.solid.Edge.{Edge}
@@ -27,7 +27,7 @@ use Rattle.brep_walk.proofs.Numbered.{edge_sound, edge_itself}
 
 -- The tuples of all shells are all tuples.
 
-tuples_of_faces : (f : Contents) (items : List (ℤ × Bool)) → flat_map (face_tuples f) items ≡ flat_map (tuples f) (flat_map (loops f) (numbers items))
+pub tuples_of_faces : (f : Contents) (items : List (ℤ × Bool)) → flat_map (face_tuples f) items ≡ flat_map (tuples f) (flat_map (loops f) (numbers items))
 tuples_of_faces f [] = refl
 tuples_of_faces f (item ∷ items) =
     ap (λ ts. face_tuples f item ++ ts) (tuples_of_faces f items) ∙ sym (flat_map-append (tuples f) (loops f item.0) (flat_map (loops f) (numbers items)))
@@ -41,16 +41,19 @@ tuples_of_shells f (item ∷ items) =
     ∙ (ap (λ ts. ts ++ flat_map (tuples f) (flat_map (loops f) rest)) (tuples_of_faces f (faces f item.0))
     ∙ (sym (flat_map-append (tuples f) (flat_map (loops f) mine) (flat_map (loops f) rest)) ∙ sym (ap (flat_map (tuples f)) (flat_map-append (loops f) mine rest))))
 
+-- the keys of tuples that come first are those that they name, without repeats
+pub first_keys : (f : Contents) (ts : List LoopTuple) → keys_after f (record { edges = []; vertices = [] }) ts ≡ record { edges = distinct same_edge (flat_map edge_named ts); vertices = distinct same_vertex (flat_map (vertices_named f) ts) }
+first_keys f ts = λ j. record {
+  edges = insert_all-distinct same_edge edge_sound edge_itself (flat_map edge_named ts) j;
+  vertices = insert_all-distinct same_vertex vertex_sound vertex_itself (flat_map (vertices_named f) ts) j;
+}
+
 all_keys : (f : Contents) (n : ℤ) (start : Keys) → start ≡ record { edges = []; vertices = [] } → keys_after f start (flat_map (shell_tuples f) (shells f n)) ≡ keys_of f n
 all_keys f n start none =
     ap (λ k. keys_after f k (flat_map (shell_tuples f) (shells f n))) none
-    ∙ (ap (keys_after f (record { edges = []; vertices = [] })) (tuples_of_shells f (shells f n))
-    ∙ λ j. record {
-      edges = insert_all-distinct same_edge edge_sound edge_itself (flat_map edge_named (all_tuples f n)) j;
-      vertices = insert_all-distinct same_vertex vertex_sound vertex_itself (flat_map (vertices_named f) (all_tuples f n)) j;
-    })
+    ∙ (ap (keys_after f (record { edges = []; vertices = [] })) (tuples_of_shells f (shells f n)) ∙ first_keys f (all_tuples f n))
 
-Extends-itself : (keys : Keys) → Extends keys keys
+pub Extends-itself : (keys : Keys) → Extends keys keys
 Extends-itself keys = record { more_edges = []; edges = sym (append-nil keys.edges); more_vertices = []; vertices = sym (append-nil keys.vertices) }
 
 -- y is the number as the record was opened with it, and items what the record tells

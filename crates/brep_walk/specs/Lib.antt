@@ -5,3 +5,4 @@ pub mod Numbered
 pub mod Kept
 pub mod Stands
 pub mod Kinds
+pub mod OpenPlaces

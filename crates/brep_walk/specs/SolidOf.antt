@@ -112,3 +112,26 @@ solid_of f n = record {
   edges = flat_map (edge_of f (pos n)) (edge_keys f (pos n));
   vertices = vertex_keys f (pos n);
 }
+
+-- A solid of an entry whose shells are these, each given by its number and its flag. Edges and vertices are numbered by first appearance over these shells.
+
+-- the tuples of the shells' loops, in file order
+abbrev pub tuples_in : Contents → List (ℤ × Bool) → List LoopTuple
+tuples_in f items = flat_map (tuples f) (flat_map (loops f) (flat_map (λ s. numbers (faces f s)) (numbers items)))
+
+abbrev pub edges_in : Contents → List (ℤ × Bool) → List EdgeKey
+edges_in f items = distinct same_edge (flat_map edge_named (tuples_in f items))
+
+abbrev pub vertices_in : Contents → List (ℤ × Bool) → List VertexKey
+vertices_in f items = distinct same_vertex (flat_map (vertices_named f) (tuples_in f items))
+
+abbrev pub keys_in : Contents → List (ℤ × Bool) → Keys
+keys_in f items = record { edges = edges_in f items; vertices = vertices_in f items }
+
+unfoldable pub solid_listing : Contents → ℕ → List (ℤ × Bool) → SolidData
+solid_listing f n items = record {
+  entity = record { 0 = n };
+  shells = map (shell_by f (keys_in f items)) items;
+  edges = flat_map (edge_by f (keys_in f items)) (edges_in f items);
+  vertices = vertices_in f items;
+}

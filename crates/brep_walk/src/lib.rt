@@ -13,10 +13,14 @@ mod numbering;
 mod once;
 mod place;
 mod records;
+mod shell_walking;
 mod shells;
 mod tuples;
 mod walking;
 
 pub use fault::WalkFault;
-pub use law::{places_are_definite, solid_is_numbered};
+pub use law::{
+    open_places_are_definite, places_are_definite, shell_solid_is_numbered, solid_is_numbered,
+};
+pub use shell_walking::walk_shell;
 pub use walking::walk;

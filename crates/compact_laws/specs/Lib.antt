@@ -1,3 +1,4 @@
 pub mod Ranked
 pub mod Compacted
 pub mod Again
+pub mod Written

@@ -3,6 +3,7 @@
 ghost use Rattle.compact_laws.specs.Again.{CompactedAgain, CompactedIsExtracted, CompactedStays};
 ghost use Rattle.compact_laws.specs.Compacted.{ClosedIsCompacted, NoOtherVerdict, SolidIsCompacted, VerdictIsCompacted};
 ghost use Rattle.compact_laws.specs.Ranked.{SolidIsRanked, VerdictIsRanked};
+ghost use Rattle.compact_laws.specs.Written.{CompactedIsMade, CompactedIsWritable, WrittenIsCompacted, WrittenKeepsVerdict};
 
 /// Where the places of a solid hold, the solid is the same once unused items are dropped, with each list index by its
 /// rank (own).
@@ -35,4 +36,23 @@ pub fn compacted_again()
     ensures extracted { CompactedIsExtracted }
     ensures dropped { CompactedAgain }
     ensures stays { CompactedStays }
+{}
+
+/// What is compacted of a file that can be made can be made, and where the file's canonical text reads back, so does that
+/// of the compacted one (own).
+pub fn compacted_is_writable()
+    ensures made { CompactedIsMade }
+    ensures writable { CompactedIsWritable }
+{}
+
+/// The canonical text of what is compacted of a file that was read, where it has at most `FILE_LIMIT` bytes, is read as
+/// exactly what was compacted (own).
+pub fn written_is_compacted()
+    ensures { WrittenIsCompacted }
+{}
+
+/// That text is exactly one file, and the solid has the verdict there that it had, with the entity renamed and the place
+/// by its rank where the rule names an edge or a vertex (own).
+pub fn compacted_keeps_verdict()
+    ensures { WrittenKeepsVerdict }
 {}

@@ -4,5 +4,6 @@
 mod law;
 
 pub use law::{
-    compacted_again, solid_is_compacted, solid_is_ranked, verdict_is_compacted, verdict_is_ranked,
+    compacted_again, compacted_is_writable, compacted_keeps_verdict, solid_is_compacted,
+    solid_is_ranked, verdict_is_compacted, verdict_is_ranked, written_is_compacted,
 };

@@ -293,12 +293,13 @@ impl<'a> LineChecker<'a> {
             ((n : ℕ) → IsLine (line_limit self.now.solid) line.now (solid n) → ¬ BeginsNext self.now.solid (stand_behind self.now.version self.now.solid lines) n)
             (λ no. IsLine (line_limit self.now.solid) line.now (solid no.0) × BeginsNext self.now.solid (stand_behind self.now.version self.now.solid lines) no.0) }
     {
-        let Some(number) = named_solid(line, self.limit) else {
-            return None;
-        };
+        // Nearly every line stops here, and so is judged once.
         if !self.may_end() {
             return None;
         }
+        let Some(number) = named_solid(line, self.limit) else {
+            return None;
+        };
         if self.solid.entity().0 < number {
             Some(EntryNo(number))
         } else {

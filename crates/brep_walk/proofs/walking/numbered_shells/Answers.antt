@@ -1,4 +1,4 @@
-use Rattle.std.proofs.Common.{◌≡◌, rules, pos, subst, refl}
+use Rattle.std.proofs.Common.{◌≡◌, rules, pos, refl}
 use mir.Syntax.{w64}
 use mir.Val.{to_z, of_z}
 use Rattle.brep_walk.proofs.WholeSolid.{no_solid, shells_fault, shells_hold, keys_whole, shells_whole, edges_whole}

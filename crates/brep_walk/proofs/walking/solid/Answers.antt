@@ -1,6 +1,5 @@
-use Rattle.std.proofs.Common.{sym, subst, pos}
+use Rattle.std.proofs.Common.{sym, subst}
 use Rattle.solid_data.specs.Numbering.{IsNumberedSolid}
-use Rattle.brep_walk.specs.SolidOf.{solid_of}
 use Rattle.brep_walk.proofs.Few.{has_few_parts}
 use Rattle.brep_walk.proofs.Found.{solid_is_numbered}
 use Rattle.brep_walk.proofs.WholeSolid.{solid_is}

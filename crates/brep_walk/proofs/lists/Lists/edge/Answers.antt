@@ -1,7 +1,6 @@
 use Rattle.std.proofs.Common.{pos, ap}
 use Rattle.std.proofs.lemmas.Int.{to_z-of_z}
 use mir.Syntax.{w64}
-use Rattle.brep_walk.specs.Kept.{IsEdgeList}
 use Rattle.brep_walk.proofs.KeptLists.{kept_edges, still_edges, edge_list_kept, kept_holds, kept_fails, kept_edge}
 use Rattle.brep_walk.proofs.lists.Lists.edge.Goals as goal
 

@@ -1,7 +1,6 @@
-use Rattle.std.proofs.Common.{rules, ◌≡◌, pos, ap}
+use Rattle.std.proofs.Common.{ap}
 use Rattle.std.proofs.lemmas.Int.{to_z-of_z}
 use mir.Syntax.{w64}
-use Rattle.brep_walk.specs.Kept.{AreKept, IsVertexList}
 use Rattle.brep_walk.proofs.KeptLists.{kept_vertices, still_vertices, vertex_list_kept}
 use Rattle.brep_walk.proofs.lists.Lists.vertex_list.Goals as goal
 

@@ -1,4 +1,4 @@
-use Rattle.std.proofs.Common.{pos, ap, subst, sym}
+use Rattle.std.proofs.Common.{pos, subst}
 use Rattle.std.proofs.lemmas.Int.{to_z-of_z}
 use mir.Syntax.{w64}
 use mir.Val.{to_z, of_z}

@@ -1,8 +1,7 @@
-use Rattle.std.proofs.Common.{◌≡◌, ◌∙◌, [], rules, sym, ap, pos, subst, slice_get, Some, take}
+use Rattle.std.proofs.Common.{◌≡◌, ◌∙◌, [], rules, sym, pos, subst, slice_get, Some}
 use mir.Syntax.{w64}
 use mir.Val.{to_z, of_z}
-use Rattle.solid_data.specs.Obligations.{AllHold, after_each}
-use Rattle.brep_walk.specs.Numbered.{IsMadeBy}
+use Rattle.solid_data.specs.Obligations.{after_each}
 use Rattle.brep_walk.specs.Places.{tuples, loop_places}
 use Rattle.brep_walk.specs.SolidOf.{loop_by}
 use Rattle.brep_walk.specs.Stands.{Stands}

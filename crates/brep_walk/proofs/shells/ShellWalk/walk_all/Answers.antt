@@ -1,4 +1,4 @@
-use Rattle.std.proofs.Common.{◌≡◌, ◌∙◌, ◌++◌, ◌∷◌, [], rules, sym, ap, pos, subst, slice_get, Some, take, map, flat_map, length, ◌≤◌, arith, ℤ, Bool}
+use Rattle.std.proofs.Common.{◌≡◌, ◌∙◌, ◌∷◌, [], rules, sym, pos, subst, slice_get, Some, take, map, flat_map, length, ◌≤◌, arith, ℤ, Bool}
 use mir.Syntax.{w64}
 use mir.Val.{to_z, of_z}
 use Rattle.solid_data.specs.Obligations.{after_each}

@@ -1,4 +1,4 @@
-use Rattle.std.proofs.Common.{◌≡◌, ◌++◌, ◌∷◌, [], map, flat_map, take, drop, pos}
+use Rattle.std.proofs.Common.{◌≡◌, ◌∷◌, [], map, flat_map, take, drop, pos}
 use Rattle.solid_data.specs.Obligations.{after_each}
 use Rattle.solid_data.proofs.ObligationLemmas.{Remains}
 use Rattle.brep_walk.specs.Numbered.{IsMadeBy, shell_tuples, keys_after}

@@ -1,12 +1,11 @@
-use Rattle.std.proofs.Common.{◌≡◌, ◌∙◌, ◌+◌, ◌++◌, ◌∷◌, [], sym, ap, pos, arith, subst, length, length-append}
+use Rattle.std.proofs.Common.{◌≡◌, ◌+◌, ◌∷◌, [], ap, pos, arith, subst, length, length-append}
 use Rattle.solid_data.specs.Obligations.{AllHold, after_each}
 use Rattle.brep_walk.specs.Places.{tuple_at, tuple_places}
-use Rattle.brep_walk.specs.Numbered.{IsMadeBy}
 use Rattle.brep_walk.specs.SolidOf.{use_by}
 use Rattle.brep_walk.specs.Stands.{Stands}
 use Rattle.brep_walk.specs.Walked.{IsFault}
 use Rattle.brep_walk.proofs.Faults.{handed}
-use Rattle.brep_walk.proofs.WalkSteps.{tuple_in_place, tuple_fault, keys_step, keys_grow, made_step, made_last, left_step, remains_next, fault_next}
+use Rattle.brep_walk.proofs.WalkSteps.{tuple_in_place, tuple_fault, keys_step, keys_grow, made_last, left_step, remains_next, fault_next}
 use Rattle.brep_walk.proofs.tuples.TupleWalk.walk_all.Goals as goal
 
 pub tuples-preserved : goal.tuples-preserved

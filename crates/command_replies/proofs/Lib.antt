@@ -1,0 +1,5 @@
+pub mod Feeds
+pub mod Taken
+pub mod One
+pub mod SomeDue
+pub mod Verdicts

@@ -1,0 +1,33 @@
+-- What may be owed: an answer and a text.
+use Rattle.std.specs.Prelude.{◌≡◌, ◌⊎◌, ℕ, ◌<◌, ◌≤◌, List, [], length}
+use Rattle.iges_fields.specs.declared.TheConstants.{FILE_LIMIT}
+use Rattle.iges_lines.specs.declared.fault.LineFault.{LineFault}
+use Rattle.iges_params.specs.Contents.{Contents}
+use Rattle.iges_params.specs.IsFile.{IsFile}
+use Rattle.iges_params.specs.Refusal.{Refusal}
+use Rattle.topo_certificate.specs.declared.TheConstants.{CERT_LIMIT}
+use Rattle.command_replies.specs.declared.answer.Answer.{Answer}
+use Rattle.command_replies.specs.declared.answer.Answer.TheVariants as answer
+use Rattle.command_replies.specs.Texts.{bad_file_line}
+
+abbrev pub Owed : Type 1
+Owed = Answer → List ℕ → Type 0
+
+abbrev pub Exactly : Answer → List ℕ → Owed
+Exactly a text = λ b t. (b ≡ a) × (t ≡ text)
+
+-- what is owed of bytes that are no file to be judged: that they are too many, or the line of a bad file
+abbrev pub OfNoFile : List ℕ → Owed
+OfNoFile bytes a t =
+    ((FILE_LIMIT < length bytes) × Exactly answer.TooLarge [] a t)
+    ⊎ ((length bytes ≤ FILE_LIMIT) × (fault : LineFault) × Refusal bytes fault × Exactly answer.BadFile (bad_file_line fault) a t)
+
+-- what is owed of a file's bytes: that, or what is owed of the file
+abbrev pub OfFile : List ℕ → (Contents → Owed) → Owed
+OfFile bytes owed a t = OfNoFile bytes a t ⊎ ((length bytes ≤ FILE_LIMIT) × (f : Contents) × IsFile bytes f × owed f a t)
+
+-- what is owed of a text that may be too large for a certificate
+abbrev pub OfText : List ℕ → Owed
+OfText text a t =
+    ((CERT_LIMIT < length text) × Exactly answer.TooLarge [] a t)
+    ⊎ ((length text ≤ CERT_LIMIT) × Exactly answer.Done text a t)

@@ -1,0 +1,5 @@
+pub mod Answer
+pub mod Texts
+pub mod Due
+pub mod Outcome
+pub mod Replies

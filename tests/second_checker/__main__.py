@@ -1,0 +1,18 @@
+"""What a command owes, by the second checker: `python3 tests/second_checker verify FILE CERT`, and alike."""
+import pathlib
+import sys
+
+sys.path.insert(0, str(pathlib.Path(__file__).resolve().parent.parent))
+
+from second_checker import answer  # noqa: E402
+
+
+def main():
+    words = sys.argv[1:]
+    inputs = [pathlib.Path(word).read_bytes() for word in words[1:3] if pathlib.Path(word).is_file()]
+    status, text = answer(words, *inputs)
+    sys.stdout.buffer.write(text)
+    return status
+
+
+sys.exit(main())
