@@ -29,8 +29,8 @@ def judged(run, name, data, solid):
     before = run.words(["certify", "FILE", str(solid)], data)
     after = run.words(["certify", "FILE", str(number)], text)
     yield f"{name}: certified when compact", after == (before[0], renamed(before[1]))
-    again = run.words(["compact", "FILE", str(number)], text)
-    yield f"{name}: compact again", again == (0, compacted(text, number)[0]) if status == 0 else False
+    again = run.words(["compact", "FILE", str(number)], wanted)
+    yield f"{name}: compact again", again == (0, compacted(wanted, number)[0])
 
 
 def made(run):

@@ -72,9 +72,10 @@ def judged(run, name, file, solid, is_closed):
         yield f"{name}: orient", (status, text.decode()) == (1, "fail {} {} {}\n".format(*fails))
         return
     flags = list(wanted_flags(shells))
-    head, *lines, last = text.decode().splitlines() or [""]
+    told = text.decode().split("\n")
+    lines, around = told[1:-2], [*told[:1], *told[-2:]]
     same = len(lines) == len(flags) and all(line == due if due else line.startswith(f"O {k} ") for k, (line, due) in enumerate(zip(lines, flags), 1))
-    yield f"{name}: orient", status == int(None in flags) and same and (head, last) == (f"ORIENT {solid}", "END")
+    yield f"{name}: orient", status == int(None in flags) and same and around == [f"ORIENT {solid}", "END", ""]
     yield f"{name}: the checker", orient_checker.answer(records_of(file), text) == f"accepted {solid}\n"
     yield f"{name}: orient-verify", run.certificate("orient-verify", file, text) == (0, b"accepted %d\n" % solid, b"")
     if is_closed and same and None not in flags:
