@@ -17,7 +17,7 @@ def tables(top, forms):
     """Each form stands in the tables of commands, and each rule of a closed solid in that of README."""
     readme, commands = ((top / name).read_text() for name in COMMANDS)
     for form in forms:
-        yield f"README, docs/COMMANDS.md: {form}", all(f"\n| `igesolid {form}` |" in text for text in (readme, commands))
+        yield f"README, docs/COMMANDS.md: {form}", f"\nigesolid {form}  " in readme and f"\n| `igesolid {form}` |" in commands
     for rule in RULE.findall((top / "crates" / "solid_data" / "specs" / "RuleNames.antt").read_text()):
         yield f"README: {rule}", f"\n| `{rule}` |" in readme
 

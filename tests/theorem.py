@@ -1,12 +1,15 @@
 #!/usr/bin/env python3
 """docs/THEOREM.md against the sources: each quote stands in the file that its first line names, and each word of the table is
-defined in the file that its row names. Run alone with --mend, it names the file anew where what is quoted or defined was moved.
+defined in the file that its row names; and the names that it, docs/PROOFS.md and README tell are there. Run alone with --mend,
+it names the file of a quote or a word anew where it was moved.
 """
 import pathlib
 import re
 import sys
 
 QUOTE = re.compile(r"(?ms)^```(?:antt|rust)\n(?:--|//) (crates/\S+)\n(.*?)^```$")
+# A name of the sources in the text of a page: of two words or more, or of a type.
+NAME = re.compile(r"`([a-z]\w*_\w+|[A-Z]\w*[a-z]\w*)(?:::(\w+))?`")
 ROW = re.compile(r"(?m)^\| `(\w+)` \| \[(\S+)\]\(\.\./(crates/\S+)\) \|")
 
 
@@ -37,7 +40,23 @@ def claims(page):
         yield word, path, lambda source, word=word, is_named=name == short(path): is_named and defines(source, word)
 
 
+def sources_of(top):
+    """Each file of definitions and of code, by its path."""
+    return {str(path.relative_to(top)): path.read_text() for suffix in ("specs/*.antt", "src/*.rt") for path in sorted(top.glob(f"crates/*/{suffix}"))}
+
+
+def names(top):
+    """Each name that a page tells is one of a crate, or occurs in its sources."""
+    known = {path.name for path in top.glob("crates/*")} | {"itoa", "indexmap"}
+    known.update(word for source in sources_of(top).values() for word in re.findall(r"\w+", source))
+    for page in ("docs/THEOREM.md", "docs/PROOFS.md", "README.md"):
+        text = re.sub(r"(?s)```.*?```", "", (top / page).read_text())
+        for name in sorted({part for parts in NAME.findall(text) for part in parts if part}):
+            yield f"{page}: {name}", name in known or (top / "examples" / "occt" / f"{name}.igs").exists()
+
+
 def checks(top):
+    yield from names(top)
     found = 0
     for name, path, holds in claims((top / "docs" / "THEOREM.md").read_text()):
         found += 1
@@ -47,7 +66,7 @@ def checks(top):
 
 def mended(top, page):
     """The page with the files named where quotes and definitions stand now."""
-    sources = {str(path.relative_to(top)): path.read_text() for suffix in ("specs/*.antt", "src/*.rt") for path in sorted(top.glob(f"crates/*/{suffix}"))}
+    sources = sources_of(top)
     for path, quote in QUOTE.findall(page):
         places = [other for other, source in sources.items() if has_quote(source, quote)]
         if path not in places and places:
