@@ -15,7 +15,7 @@ def changed_once(rng, lines):
         lines[i] = lines[i][: number.start()] + str(value).encode() + lines[i][number.end() :]
     elif change == "byte" and lines[i]:
         at = rng.randrange(len(lines[i]))
-        lines[i] = lines[i][:at] + bytes([rng.choice(b"0123456789 ECIRSNDTALY\r\n")]) + lines[i][at + 1 :]
+        lines[i] = lines[i][:at] + bytes([rng.choice(b"0123456789 ECIRPBFOSNDTALY\r\n")]) + lines[i][at + 1 :]
     elif change == "drop":
         del lines[i]
     elif change == "twice":
@@ -146,10 +146,21 @@ def with_small_number(rng, line):
     return text + line[RECORD_COLUMNS:] if len(text) == RECORD_COLUMNS else line
 
 
+def without_face(rng, line):
+    """A line that holds the record of a shell, with one of its faces left out."""
+    record = re.match(rb"514,(\d+),((?:\d+,[01],?)+);", line)
+    faces = re.findall(rb"\d+,[01]", record.group(2)) if record else []
+    if len(faces) < 2 or len(faces) != int(record.group(1)):
+        return line
+    del faces[rng.randrange(len(faces))]
+    text = b"514,%d,%b;" % (len(faces), b",".join(faces)) + line[record.end() : RECORD_COLUMNS]
+    return text.ljust(RECORD_COLUMNS) + line[RECORD_COLUMNS:]
+
+
 def changed_file(rng, file):
     """The file with one to three changes of a number, a field, a value, a byte or the lines; now and then with CR before each LF.
 
-    Half of the files keep their form: only small numbers of records are changed there.
+    Half of the files keep their form: there only small numbers of records are changed, or a shell loses a face.
     """
     is_gentle = rng.random() < 0.5
     for _ in range(rng.randint(1, 3)):
@@ -158,6 +169,10 @@ def changed_file(rng, file):
         if is_gentle and of_records:
             i = rng.choice(of_records)
             lines[i] = with_small_number(rng, lines[i])
+            shells = [number for number in of_records if lines[number].startswith(b"514,")]
+            if shells and rng.random() < 0.2:
+                i = rng.choice(shells)
+                lines[i] = without_face(rng, lines[i])
         else:
             changed_line(rng, lines)
         file = b"\n".join(lines)

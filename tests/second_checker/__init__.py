@@ -3,8 +3,8 @@
 It goes by docs/FORMAT.md, docs/CERTIFICATE.md and README.md alone, and its heart (reading a file, walking a solid, the rules
 of its shells, checking and making a certificate) was written by somebody who had seen nothing else of the project. So where
 the two differ, one of them is wrong or a sentence of the documents can be read in two ways. `answer` gives what a command
-owes; `python3 tests/second_checker WORDS..` prints it, and ends with its status.
+owes, and `is_owed` compares with it; `python3 tests/second_checker WORDS..` prints it, and ends with its status.
 """
-from .answering import answer
+from .answering import answer, is_owed
 
-__all__ = ["answer"]
+__all__ = ["answer", "is_owed"]

@@ -3,8 +3,12 @@ import functools
 import re
 
 from .canonical import text_of
-from .certificates import BadLine, BadPart, book, certificate, checked, upgraded
+from .certificates import BadPart, book, certificate, checked, upgraded
+from .compaction import compacted
 from .extraction import NoExtract, extracted
+from .lines import BadLine
+from .opening import open_accepted, open_certificate
+from .orientation import orientation, orientation_accepted
 from .reading import BadFile, File
 from .shells import Rows
 from .walking import Fail, walked
@@ -27,8 +31,9 @@ def show(file, number):
     return "".join(f"{line}\n" for line in lines).encode()
 
 
-def extract(file, number):
-    text = text_of(extracted(file, number))
+def written(file):
+    """A file's canonical text, where it isn't too large."""
+    text = text_of(file)
     return (DONE, text) if len(text) <= FILE_LIMIT else (TOO_LARGE, b"")
 
 
@@ -50,9 +55,17 @@ def upgrade(file, text):
 NUMBERED = {
     "show": lambda file, number: (DONE, show(file, number)),
     "certify": lambda file, number: (DONE, certificate(file, number)),
-    "extract": extract,
+    "extract": lambda file, number: written(extracted(file, number)),
+    "open": lambda file, number: (DONE, open_certificate(file, number)),
+    "orient": orientation,
+    "compact": lambda file, number: written(compacted(file, number)),
 }
-CHECKING = {"verify": verify, "upgrade": upgrade}
+CHECKING = {
+    "verify": verify,
+    "upgrade": upgrade,
+    "open-verify": lambda file, text: b"accepted %d\n" % open_accepted(file, text),
+    "orient-verify": lambda file, text: b"accepted %d\n" % orientation_accepted(file, text),
+}
 
 
 def work_of(words, certificate_text):
@@ -92,3 +105,11 @@ def answer(words, text=b"", certificate_text=b""):
         return (TOO_LARGE, b"") if bad.fail is None else (NO, bad.text())
     except (Fail, BadLine) as bad:
         return NO, bad.text()
+
+
+def is_owed(words, text, got, wanted):
+    """Whether a status and a text are what a command owes, where `answer` gives `wanted`: of `orient` another ring may be named."""
+    if got == wanted or words[0] != "orient" or got[0] != wanted[0]:
+        return got == wanted
+    without_rings = [re.sub(rb"(?m)^(O \d+) .*$", rb"\1", told) for told in (got[1], wanted[1])]
+    return without_rings[0] == without_rings[1] and answer(["orient-verify", *words[1:]], text, got[1])[0] == DONE

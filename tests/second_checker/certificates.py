@@ -1,26 +1,17 @@
 """Certificates of all three versions (docs/CERTIFICATE.md): how one is made, checked and upgraded."""
 import re
 
+from .lines import NUMBER, Lines, text_of
 from .shells import Rows, check_apart, check_join, corners_of, mates_of, reach_of
 from .walking import Fail, walked
 
-NUMBER = rb" (?:0|[1-9][0-9]{0,8}+)"
 SPELLED = re.compile(
-    rb"(?:(IGESCERT) [123]|(SOLID)%s|(SHELL)%s{5}|(E)%s{2}|(C)(?:%s)++|(I)%s{2}|(R)%s|(TALLY)%s{4}|(END))\n"
-    % ((NUMBER, rb"(?:%s)" % NUMBER, rb"(?:%s)" % NUMBER, NUMBER, rb"(?:%s)" % NUMBER, NUMBER, rb"(?:%s)" % NUMBER))
+    b"".join((
+        rb"(?:IGESCERT [123]|SOLID", NUMBER, rb"|SHELL(?:", NUMBER, rb"){5}|E(?:", NUMBER, rb"){2}|C(?:", NUMBER, rb")++",
+        rb"|I(?:", NUMBER, rb"){2}|R", NUMBER, rb"|TALLY(?:", NUMBER, rb"){4}|END)\n",
+    ))  # fmt: skip
 ).fullmatch
 MOST_USES = 6_000_000
-
-
-class BadLine(Exception):
-    """A line of the certificate, from 1, that is misspelt, unfit or missing."""
-
-    def __init__(self, number, word):
-        super().__init__(number, word)
-        self.number, self.word = number, word
-
-    def text(self):
-        return b"line %d %s\n" % (self.number, self.word.encode())
 
 
 class BadPart(Exception):
@@ -65,10 +56,6 @@ def part(solid):
     return lines
 
 
-def text_of(lines):
-    return "".join(f"{line}\n" for line in lines).encode()
-
-
 def certificate(file, number):
     """What `certify` writes of a solid; Fail where it isn't closed."""
     return text_of(["IGESCERT 2", *part(walked(file, number)), "END"])
@@ -90,43 +77,6 @@ def book(file):
 
 
 # ---- checking one
-
-
-class Lines:
-    """The lines of a certificate, one after the other."""
-
-    def __init__(self, text):
-        self.lines = re.findall(rb"[^\n]*\n|[^\n]+\Z", text)
-        self.number = 0
-
-    def next(self, longest):
-        """The word and the numbers of the next line; BadLine where it is missing, misspelt, or unfit since it is too long."""
-        self.number += 1
-        if self.number > len(self.lines):
-            raise BadLine(self.number, "missing")
-        line = self.lines[self.number - 1]
-        if not line.endswith(b"\n"):
-            raise BadLine(self.number, "misspelt")
-        self.check(len(line) <= longest)
-        spelled = SPELLED(line)
-        if spelled is None:
-            raise BadLine(self.number, "misspelt")
-        word, *numbers = line.split()
-        return word.decode(), [int(number) for number in numbers]
-
-    def check(self, fits):
-        """BadLine where the line doesn't fit."""
-        if not fits:
-            raise BadLine(self.number, "unfit")
-
-    def due(self, word, longest):
-        """The numbers of the next line, which is to be of this kind."""
-        found, numbers = self.next(longest)
-        self.check(found == word)
-        return numbers
-
-    def is_over(self):
-        return self.number == len(self.lines)
 
 
 def checked_solid(file, number):
@@ -207,26 +157,14 @@ def check_shells(lines, solid, version):
     return longest
 
 
-def check_end(lines, longest):
-    lines.due("END", longest)
-    check_over(lines, longest)
-
-
-def check_over(lines, longest):
-    """BadLine where a line stands behind the last."""
-    if not lines.is_over():
-        lines.next(longest)
-        lines.check(False)
-
-
 def checked(file, text):
     """The version of a certificate and the numbers of the solids that it names; Fail, BadPart or BadLine where it isn't accepted."""
-    lines = Lines(text)
+    lines = Lines(text, SPELLED)
     (version,) = lines.due("IGESCERT", 64)
     (number,) = lines.due("SOLID", 64)
     if version < 3:
         solid = checked_solid(file, number)
-        check_end(lines, check_shells(lines, solid, version))
+        lines.end(check_shells(lines, solid, version))
         return version, [number]
     named = []
     while number is not None:
@@ -247,7 +185,7 @@ def check_part(file, lines, number):
         lines.check(numbers[0] > number)
         return numbers[0]
     lines.check(word == "END")
-    check_over(lines, longest)
+    lines.over(longest)
     return None
 
 

@@ -194,6 +194,11 @@ class Reference:
 
 def extracted(file, number):
     """The file of a solid alone; NoExtract where it is refused."""
+    return renumbered(file, number)[0]
+
+
+def renumbered(file, number):
+    """The file of a solid alone, and the new number of each of its entries; NoExtract where it is refused."""
     solid = file.named(number)
     if solid is None or solid.kind != 186:
         raise NoExtract(number, "not-solid")
@@ -209,4 +214,4 @@ def extracted(file, number):
     names = {old: 2 * place + 1 for place, old in enumerate(sorted(references))}
     new = copy.copy(file)
     new.entries = {names[old]: references[old].cut(names) for old in sorted(references)}
-    return new
+    return new, names

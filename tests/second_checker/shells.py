@@ -89,15 +89,15 @@ def mates_of(solid, rows):
 
 
 def reach_of(shell, rows, mates):
-    """REACH: rows that reach all faces but the first, breadth first."""
+    """REACH: rows that reach all faces but the first, breadth first; a row without a mate leads nowhere."""
     of_faces = [[] for _ in range(rows.faces + 1)]
     for number in rows.numbers():
         of_faces[rows.rows[number].face].append(number)
     reached, waiting, reach = {1}, deque([1]), []
     while waiting:
         for number in of_faces[waiting.popleft()]:
-            face = rows.rows[mates[number]].face
-            if face not in reached:
+            face = rows.rows[mates[number]].face if mates[number] else None
+            if face and face not in reached:
                 reached.add(face)
                 reach.append(mates[number])
                 waiting.append(face)

@@ -30,3 +30,5 @@ pub mod PartsGo
 pub mod Certifying
 pub mod PartsMade
 pub mod Complete
+pub mod LinesDecided
+pub mod RulesDecided

@@ -8,7 +8,7 @@ use Rattle.cert_lines.proofs.CutLines.{cut_piece, spaced_no_break}
 use Rattle.open_shells.specs.Line.{OpenLine, head, shell, edge, lone, cycle, path, point, reach, border, end, words, spelling, numbers_of, HasSpelling, IsSpelled}
 
 -- A line is its kind and its numbers.
-abbrev kind_of : OpenLine → ℕ
+abbrev pub kind_of : OpenLine → ℕ
 kind_of head = 0
 kind_of (shell n rows edges corners faces borders) = 1
 kind_of (edge a b) = 2
@@ -20,7 +20,7 @@ kind_of (reach r) = 6
 kind_of (border rs) = 7
 kind_of end = 8
 
-abbrev prefix_of : ℕ → List ℕ
+abbrev pub prefix_of : ℕ → List ℕ
 prefix_of k = if k == 0 then codes "IGESOPEN 1" else (if k == 1 then codes "SHELL" else (if k == 2 then codes "E" else (if k == 3 then codes "C" else (if k == 4 then codes "P" else (if k == 5 then codes "I" else (if k == 6 then codes "R" else (if k == 7 then codes "B" else codes "END")))))))
 
 abbrev edge_from : List ℕ → OpenLine
@@ -28,11 +28,11 @@ edge_from [] = end
 edge_from (a ∷ []) = lone a
 edge_from (a ∷ b ∷ ns) = edge a b
 
-abbrev line_from : ℕ → List ℕ → OpenLine
+abbrev pub line_from : ℕ → List ℕ → OpenLine
 line_from k ns = if k == 0 then head else (if k == 1 then shell (get_or ns 0 0) (get_or ns 1 0) (get_or ns 2 0) (get_or ns 3 0) (get_or ns 4 0) (get_or ns 5 0)
     else (if k == 2 then edge_from ns else (if k == 3 then cycle ns else (if k == 4 then path ns else (if k == 5 then point (get_or ns 0 0) (get_or ns 1 0) else (if k == 6 then reach (get_or ns 0 0) else (if k == 7 then border ns else end)))))))
 
-rebuilt : (l : OpenLine) → line_from (kind_of l) (numbers_of l) ≡ l
+pub rebuilt : (l : OpenLine) → line_from (kind_of l) (numbers_of l) ≡ l
 rebuilt head = refl
 rebuilt (shell n rows edges corners faces borders) = refl
 rebuilt (edge a b) = refl
@@ -44,7 +44,7 @@ rebuilt (reach r) = refl
 rebuilt (border rs) = refl
 rebuilt end = refl
 
-spelling_parts : (l : OpenLine) → spelling l ≡ prefix_of (kind_of l) ++ (spaced (numbers_of l) ++ 10 ∷ [])
+pub spelling_parts : (l : OpenLine) → spelling l ≡ prefix_of (kind_of l) ++ (spaced (numbers_of l) ++ 10 ∷ [])
 spelling_parts head = refl
 spelling_parts (shell n rows edges corners faces borders) = refl
 spelling_parts (edge a b) = refl

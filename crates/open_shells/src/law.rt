@@ -1,6 +1,6 @@
 //! What holds of open shells and their certificates by their definition.
 
-ghost use Rattle.std.specs.Prelude.{ℕ, List, ◌≡◌};
+ghost use Rattle.std.specs.Prelude.{ℕ, List, ◌≡◌, ◌⊎◌};
 ghost use Rattle.solid_data.specs.SolidData.{SolidData};
 ghost use Rattle.cert_lines.specs.declared.fault.Illegal.{Illegal as Fault};
 ghost use Rattle.open_shells.specs.Line.{OpenLine, IsSpelled};
@@ -14,16 +14,19 @@ pub fn one_line()
     ensures { (bytes : List ℕ) (l m : OpenLine) → IsSpelled bytes l → IsSpelled bytes m → l ≡ m }
 {}
 
-/// Legal lines have no first bad one, and there is one first bad one at most (own).
+/// Whatever the lines are, either they are legal or one of them is the first bad one; that is one line alone, and legal lines
+/// have none (own).
 pub fn legal_or_first_bad()
     ensures none { (s : SolidData) (lines : List (List ℕ)) (bad : Fault) → IsOpenLegal s lines → IsOpenFirstBad s lines bad → ⊥ }
     ensures one { (s : SolidData) (lines : List (List ℕ)) (x y : Fault) → IsOpenFirstBad s lines x → IsOpenFirstBad s lines y → x ≡ y }
+    ensures always { (s : SolidData) (lines : List (List ℕ)) → IsOpenLegal s lines ⊎ ((bad : Fault) × IsOpenFirstBad s lines bad) }
 {}
 
-/// Where all obligations hold none is the first false one, and there is one first false one at most (own).
+/// Either all obligations hold or one of them is the first false one; that is one alone, and where all hold there is none (own).
 pub fn one_first_false()
     ensures none { (s : SolidData) (x : Named) → AllHold (open_obligations s) → FirstFalse (open_obligations s) x → ⊥ }
     ensures one { (s : SolidData) (x y : Named) → FirstFalse (open_obligations s) x → FirstFalse (open_obligations s) y → x ≡ y }
+    ensures always { (s : SolidData) → AllHold (open_obligations s) ⊎ ((x : Named) × FirstFalse (open_obligations s) x) }
 {}
 
 /// Soundness: whatever made a certificate, the open shell that it is accepted for is sound. (own)

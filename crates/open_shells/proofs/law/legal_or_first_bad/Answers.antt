@@ -1,4 +1,5 @@
 use Rattle.open_shells.proofs.Legality.{legal_has_no_bad, one_first_bad}
+use Rattle.open_shells.proofs.LinesDecided as decided
 use Rattle.open_shells.proofs.law.legal_or_first_bad.Goals as goal
 
 pub returns-clause-none : goal.returns-clause-none
@@ -6,3 +7,6 @@ returns-clause-none c = legal_has_no_bad
 
 pub returns-clause-one : goal.returns-clause-one
 returns-clause-one c = one_first_bad
+
+pub returns-clause-always : goal.returns-clause-always
+returns-clause-always c = decided.legal_or_first_bad

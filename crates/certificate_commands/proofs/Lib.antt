@@ -1,0 +1,11 @@
+mod BookParts
+mod BookReads
+mod BookSteps
+mod CutText
+mod FirstLines
+pub mod Judged
+mod VerifyAnswers
+pub mod One
+pub mod SomeDue
+pub mod Verdicts
+pub mod AcceptedOwed

@@ -1,0 +1,23 @@
+use Rattle.std.proofs.lemmas.Result.{IfOk-weaker}
+use Rattle.cert_lines.specs.Line.{cut_lines}
+use Rattle.certificate_commands.proofs.VerifyAnswers.{upgrade_fails, upgraded_owed, unfit_owed}
+use Rattle.certificate_commands.proofs.upgrading.upgrade_alone.Goals as goal
+
+pub returns-in-Err : goal.returns-in-Err
+returns-in-Err c =
+    let tells = rw c.in-Err.is at (c.in_ok-solid.ensures {u = tt}) in
+    upgrade_fails c.args.file c.args.certificate.now c.args.version c.args.no.0 (cut_lines c.args.rest.now) c.requires.few c.requires.opens c.requires.one c.in-Err.reply tells
+
+pub returns-in-Ok-check : goal.returns-in-Ok-check
+returns-in-Ok-check c =
+    let checked = rw c.in-Ok.is at (c.in_ok-solid.ensures {u = tt}) in
+    let legal = (c.in-Ok-check.ensures {u = tt}).whole c.args.version c.in-Ok.solid 3 (c.in_ok-checker.ensures {u = tt}).fed in
+    IfOk-weaker c.upgraded_reply.result _ _
+    (λ reply owed. upgraded_owed c.args.file c.args.certificate.now c.args.version c.args.no.0 (cut_lines c.args.rest.now) c.requires.few c.requires.opens c.requires.one c.in-Ok.solid reply checked legal owed) c.upgraded_reply.ensures
+
+pub returns : goal.returns
+returns c =
+    let checked = rw c.in-Ok.is at (c.in_ok-solid.ensures {u = tt}) in
+    let first = (c.in-Err-check.ensures {u = tt}).whole c.args.version c.in-Ok.solid 3 (c.in_ok-checker.ensures {u = tt}).fed in
+    IfOk-weaker c.illegal.result _ _
+    (λ reply exact. unfit_owed c.args.file c.args.certificate.now c.args.version c.args.no.0 (cut_lines c.args.rest.now) c.requires.few c.requires.opens c.requires.one c.in-Ok.solid c.in-Err-check.bad reply checked first exact) c.illegal.ensures

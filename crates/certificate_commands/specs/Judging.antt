@@ -1,0 +1,110 @@
+-- What is known of a certificate while it comes.
+use Rattle.std.specs.Prelude.{◌≡◌, ℕ, ◌+◌, ◌-◌, ◌<◌, ◌≤◌, List, ◌++◌, length, take, drop, Option, ⊤}
+use Rattle.std.specs.Io.KnownBytes.{Consumes, IsAtEnd}
+use Rattle.iges_params.specs.Contents.{Contents}
+use Rattle.solid_data.specs.SolidData.{SolidData}
+use Rattle.solid_data.specs.Obligations.{AllHold, FirstFalse}
+use Rattle.solid_data.specs.declared.verdict.Failing.{Failing}
+use Rattle.brep_walk.specs.SolidOf.{solid_of}
+use Rattle.cert_lines.specs.Line.{cut_lines}
+use Rattle.cert_lines.specs.Opening.{Opens, IsBadOpening}
+use Rattle.cert_lines.specs.declared.version.Version.{Version}
+use Rattle.cert_lines.specs.declared.version.Version.TheVariants.{One, Two, Three}
+use Rattle.cert_lines.specs.declared.fault.Illegal.{Illegal}
+use Rattle.topo_certificate.specs.declared.TheConstants.{CERT_LIMIT}
+use Rattle.topo_certificate.specs.Feeding.{FedKept, IsFed}
+use Rattle.solid_check.specs.Checked.{checked}
+use Rattle.command_replies.specs.declared.reply.Reply.{Reply}
+use Rattle.certificate_commands.specs.declared.judging.Judging.{Judging}
+use Rattle.certificate_commands.specs.declared.judging.Judging.TheVariants as judging
+use Rattle.certificate_commands.specs.declared.opening.Opened.{Opened}
+use Rattle.certificate_commands.specs.declared.opening.OpeningEnd.{OpeningEnd}
+use Rattle.certificate_commands.specs.declared.opening.OpeningEnd.TheVariants as opening
+use Rattle.command_replies.specs.declared.answer.Answer.TheVariants.{No}
+use Rattle.command_replies.specs.Due.{Exactly}
+use Rattle.certificate_commands.specs.Due.{OfVerify}
+
+-- Certificates of these versions are of one solid each.
+abbrev pub IsOfOne : Version → Type 0
+IsOfOne One = ⊤
+IsOfOne Two = ⊤
+IsOfOne Three = ⊥
+
+-- This is the solid, and all that is checked of it holds.
+pub record IsChecked (f : Contents) (n : ℕ) (s : SolidData) : Type 0 where
+  pub solid : s ≡ solid_of f n
+  pub holds : AllHold (checked f n)
+
+-- The reply tells in these words the first that is false of all that is checked of the solid.
+abbrev pub TellsFalse : (Failing → List ℕ) → Contents → ℕ → Reply → Type 0
+TellsFalse words f n reply = (x : Failing) × FirstFalse (checked f n) x × Exactly No (words x) reply.answer reply.text
+
+-- The certificate opens with two good lines, which name solid n, all that is checked of this holds, and the checker was fed what stands behind them.
+pub record HasChecked (f : Contents) (n : ℕ) (text : List ℕ) (c : FedKept) : Type 0 where
+  pub version : Version
+  pub one : IsOfOne version
+  pub holds : AllHold (checked f n)
+  pub front : List ℕ
+  pub rest : List ℕ
+  pub whole : text ≡ front ++ rest
+  pub opens : (more : List ℕ) → Opens (front ++ more) version n (cut_lines more)
+  pub fed : IsFed version (solid_of f n) 3 rest c
+
+-- What was judged stands for this text, the certificate so far: the reply is owed whatever comes, or its lines are judged.
+abbrev pub IsJudged : Contents → List ℕ → Judging → Type 0
+IsJudged f text (judging.Decided reply) = (more : List ℕ) → length (text ++ more) ≤ CERT_LIMIT → OfVerify (text ++ more) f reply.answer reply.text
+IsJudged f text (judging.Lines checker named) = HasChecked f named.0 text checker
+
+-- The rest of a certificate, of which so many bytes had come, was read to its end and judged.
+pub record IsRestJudged (before after : Option (List ℕ)) (came : ℕ) (old new : Judging) : Type 0 where
+  pub bytes : List ℕ
+  pub taken : Consumes before after bytes
+  pub ended : IsAtEnd after
+  pub few : came + length bytes ≤ CERT_LIMIT
+  pub judged : (f : Contents) (text : List ℕ) → IsJudged f text old → IsJudged f (text ++ bytes) new
+
+-- More bytes than the limit came.
+abbrev pub HasTooMany : Option (List ℕ) → Option (List ℕ) → ℕ → Type 0
+HasTooMany before after came = (bytes : List ℕ) × Consumes before after bytes × (CERT_LIMIT < came + length bytes)
+
+-- The first two lines have come, are good, and name the version and the solid; the buffer holds what came behind them.
+pub record HasOpened (before after : Option (List ℕ)) (buffer : List ℕ) (o : Opened) : Type 0 where
+  pub front : List ℕ
+  pub rest : List ℕ
+  pub taken : Consumes before after (front ++ rest)
+  pub long : length (front ++ rest) ≡ o.came
+  pub few : o.came ≤ CERT_LIMIT
+  pub ordered : o.from ≤ o.to
+  pub within : o.to ≤ length buffer
+  pub behind : rest ≡ take (o.to - o.from) (drop o.from buffer)
+  pub opens : (more : List ℕ) → Opens (front ++ more) o.version o.no.0 (cut_lines more)
+
+-- One of the two is bad, whatever comes; so many bytes have come.
+pub record HasOpenedBadly (before after : Option (List ℕ)) (bad : Illegal) (came : ℕ) : Type 0 where
+  pub bytes : List ℕ
+  pub taken : Consumes before after bytes
+  pub long : length bytes ≡ came
+  pub few : came ≤ CERT_LIMIT
+  pub always : (more : List ℕ) → IsBadOpening (bytes ++ more) bad
+
+-- The certificate ended before its second line did.
+pub record EndsEarly (before after : Option (List ℕ)) (bad : Illegal) : Type 0 where
+  pub bytes : List ℕ
+  pub taken : Consumes before after bytes
+  pub ended : IsAtEnd after
+  pub few : length bytes ≤ CERT_LIMIT
+  pub wrong : IsBadOpening bytes bad
+
+-- what reading the first two lines came to
+abbrev pub IsOpeningEnd : Option (List ℕ) → Option (List ℕ) → List ℕ → OpeningEnd → Type 0
+IsOpeningEnd before after buffer opening.TooLarge = HasTooMany before after 0
+IsOpeningEnd before after buffer (opening.Ended bad) = EndsEarly before after bad
+IsOpeningEnd before after buffer (opening.Bad bad came) = HasOpenedBadly before after bad came
+IsOpeningEnd before after buffer (opening.Both o) = HasOpened before after buffer o
+
+-- the certificate may go on behind them
+abbrev pub GoesOn : OpeningEnd → Type 0
+GoesOn opening.TooLarge = ⊥
+GoesOn (opening.Ended bad) = ⊥
+GoesOn (opening.Bad bad came) = Unit {0}
+GoesOn (opening.Both o) = Unit {0}

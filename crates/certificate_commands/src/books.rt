@@ -1,0 +1,197 @@
+//! Books: certificates of version 3, which are judged part by part.
+
+ghost use Rattle.certificate_commands.specs.Books.{EndsInside, HasBegun, HasNext, IsInPart, IsPartEnd, IsPartJudged, IsPlace, Leaves, held};
+ghost use Rattle.certificate_commands.specs.Due.{OfVerify};
+ghost use Rattle.command_replies.specs.Outcome.{ReadsCertificate};
+ghost use Rattle.command_replies.specs.Replies.{CountAfterCall, IsReply, TakesWithin};
+ghost use Rattle.solid_data.specs.SolidData.{SolidData};
+ghost use Rattle.std.specs.Prelude.{◌≡◌, ◌-◌, ◌≤◌, ◌++◌, [], List, ℕ, Option, MatchOption, length, take, IfOk, IfSome};
+ghost use Rattle.topo_certificate.specs.Feeding.{IsFedPart};
+ghost use Rattle.topo_certificate.specs.PartEnds.{EndsPart};
+ghost use Rattle.cert_lines.specs.declared.version.Version.{Version as Edition};
+
+use crate::checking::part_solid;
+use crate::judging::{Judging, rest_reply};
+use command_replies::{Answer, Reply, Stop, illegal, put_accepted, too_large};
+use iges_fields::{EntryNo, NoMemory, Out};
+use iges_io::{NextPiece, PIECE, Source, next_piece};
+use iges_params::File;
+use std::alloc::Global;
+use topo_certificate::{CERT_LIMIT, Checker, PartStep};
+
+/// The line that names the solid of a part has come.
+#[derive(Clone, Copy, Debug)]
+pub struct Begun {
+    /// The solid.
+    pub no: EntryNo,
+    /// The number of the line behind that line.
+    pub line: u64,
+    /// Where in the buffer the bytes behind that line begin.
+    pub from: usize,
+    /// Where in the buffer the bytes of the last read end.
+    pub to: usize,
+    /// How many bytes have come in all.
+    pub came: u64,
+}
+
+/// How a part of a book ended.
+#[derive(Clone, Copy, Debug)]
+pub enum PartEnd {
+    /// With the line that names the next solid.
+    Next(Begun),
+    /// With the certificate.
+    Last,
+    /// More bytes than a certificate may have came before.
+    TooLarge,
+}
+
+/// What judging a part of a book came to.
+#[derive(Drop)]
+pub enum PartJudged {
+    /// It is good, and the next one has begun.
+    Next(Begun),
+    /// It is good, and the last one.
+    Last,
+    /// This is the reply.
+    Decided(Reply),
+}
+
+/// Where a piece ended a part: the line that names the next solid.
+#[derive(Clone, Copy, Debug)]
+pub struct NextSolid {
+    pub no: EntryNo,
+    /// The number of the line behind it.
+    pub line: u64,
+    /// How many bytes of the piece stand up to its end.
+    pub used: usize,
+}
+
+/// Gives a checker the next bytes of its part, up to the line that names the next solid where it is among them.
+pub fn feed(checker: &mut Checker<'_>, piece: &[u8]) -> Option<NextSolid>
+    requires { IsInPart checker.old }
+    ensures within { IfSome result (λ next. next.used ≤ length piece.now) }
+    ensures fed { (v : Edition) (s : SolidData) (first : ℕ) (text : List ℕ) → IsFedPart v s first text checker.old → MatchOption result
+        (IsFedPart v s first (text ++ piece.now) checker.new)
+        (λ next. (next.used ≤ length piece.now) × EndsPart v s first (text ++ take next.used piece.now) next.no.0 next.line checker.new) }
+{
+    match checker.feed_part(piece) {
+        Ok(PartStep::Next { no, line, used }) => Some(NextSolid { no, line, used }),
+        Ok(PartStep::More) => None,
+        // A fault is kept, and told at the end: the certificate may still be too large.
+        Err(_) => None,
+    }
+}
+
+// Gives a checker the bytes of its part while they come.
+fn read_part<C: Source>(
+    cert: &mut C,
+    piece: &mut [u8],
+    checker: &mut Checker<'_>,
+    begun: Begun,
+) -> Result<PartEnd, Stop>
+    requires ready { C.can_read cert.old }
+    requires room { length piece.old ≡ PIECE }
+    requires place { IsPlace piece.old begun }
+    requires part { IsInPart checker.old }
+    ensures found { IfOk result (IsPartEnd (C.left cert.old) (C.left cert.new) begun.came (held piece.old begun) piece.new checker.old checker.new) }
+    ensures count { CountAfterCall (C.faults cert.old) (C.faults cert.new) result }
+    ensures taken { TakesWithin (CERT_LIMIT - begun.came) (C.left cert.old) (C.left cert.new) result }
+    ensures more { IfOk result (λ end. EndsInside end → C.can_read cert.new) }
+{
+    let mut from = begun.from;
+    let mut to = begun.to;
+    let mut came = begun.came;
+    'pieces: loop {
+        if let Some(next) = feed(checker, &piece[from..to]) {
+            return Ok(PartEnd::Next(Begun {
+                no: next.no,
+                line: next.line,
+                from: from + next.used,
+                to,
+                came,
+            }));
+        }
+        let Ok(read) = next_piece(cert, piece, came, CERT_LIMIT) else {
+            return Err(Stop::ReadFault);
+        };
+        to = match read {
+            NextPiece::Bytes(count) => count,
+            NextPiece::End => return Ok(PartEnd::Last),
+            NextPiece::TooLarge => return Ok(PartEnd::TooLarge),
+        };
+        from = 0;
+        came += to as u64;
+    }
+}
+
+// Judges the part that has begun.
+fn judge_part<C: Source>(
+    alloc: Global,
+    file: &File,
+    cert: &mut C,
+    piece: &mut [u8],
+    begun: Begun,
+) -> Result<PartJudged, Stop>
+    requires ready { C.can_read cert.old }
+    requires room { length piece.old ≡ PIECE }
+    requires place { IsPlace piece.old begun }
+    ensures found { (ns : List ℕ) (before : Option (List ℕ)) → HasBegun file.now ns before (C.left cert.old) piece.old begun → IfOk result (IsPartJudged file.now ns begun.no.0 before (C.left cert.new) piece.new) }
+    ensures leaves { IfOk result (Leaves (C.left cert.old) (C.left cert.new) piece.new begun) }
+    ensures count { CountAfterCall (C.faults cert.old) (C.faults cert.new) result }
+    ensures taken { TakesWithin (CERT_LIMIT - begun.came) (C.left cert.old) (C.left cert.new) result }
+    ensures more { IfOk result (λ judged. HasNext judged → C.can_read cert.new) }
+{
+    let solid = match part_solid(alloc, file, begun.no)? {
+        Ok(solid) => solid,
+        Err(reply) => {
+            let reply = rest_reply(alloc, cert, piece, begun.came, Judging::Decided(reply))?;
+            return Ok(PartJudged::Decided(reply));
+        }
+    };
+    let mut checker = Checker::part(alloc, &solid, begun.line)?;
+    match read_part(cert, piece, &mut checker, begun)? {
+        PartEnd::Next(next) => Ok(PartJudged::Next(next)),
+        PartEnd::Last => match checker.finish() {
+            Ok(()) => Ok(PartJudged::Last),
+            Err(bad) => Ok(PartJudged::Decided(illegal(alloc, bad)?)),
+        },
+        PartEnd::TooLarge => Ok(PartJudged::Decided(too_large(alloc))),
+    }
+}
+
+/// The reply for a book whose first part has begun. It is judged while it comes, one solid at a time, and is read to its
+/// end whatever is found.
+pub fn book_reply<C: Source>(
+    alloc: Global,
+    file: File,
+    cert: &mut C,
+    piece: &mut [u8],
+    begun: Begun,
+) -> Result<Reply, Stop>
+    requires ready { C.can_read cert.old }
+    requires room { length piece.old ≡ PIECE }
+    requires place { IsPlace piece.old begun }
+    ensures found { (before : Option (List ℕ)) → HasBegun file [] before (C.left cert.old) piece.old begun → IfOk result (IsReply (λ certificate. OfVerify certificate file) before) }
+    ensures whole { IfOk result (λ reply. ReadsCertificate (C.left cert.new) reply.answer) }
+    ensures count { CountAfterCall (C.faults cert.old) (C.faults cert.new) result }
+    ensures taken { TakesWithin (CERT_LIMIT - begun.came) (C.left cert.old) (C.left cert.new) result }
+{
+    let mut out = Out::new(alloc);
+    let mut begun = begun;
+    'parts: loop {
+        match judge_part(alloc, &file, cert, piece, begun)? {
+            PartJudged::Next(next) => {
+                put_accepted(&mut out, begun.no)?;
+                begun = next;
+            }
+            PartJudged::Last => {
+                put_accepted(&mut out, begun.no)?;
+                return Ok(Reply {
+                    answer: Answer::Done,
+                    text: out.into_bytes(),
+                });
+            }
+            PartJudged::Decided(reply) => return Ok(reply),
+        }
+    }
+}

@@ -1,0 +1,87 @@
+//! Books that are held whole.
+
+ghost use Rattle.cert_lines.specs.Line.{cut_lines};
+ghost use Rattle.cert_lines.specs.Opening.{Opens};
+ghost use Rattle.cert_lines.specs.declared.version.Version.TheVariants.{Three};
+ghost use Rattle.certificate_commands.specs.Books.{BeginsPart, IsHeldPart, StepsIn};
+ghost use Rattle.command_replies.specs.Due.{OfText};
+ghost use Rattle.certificate_commands.specs.Due.{OfUpgrade};
+ghost use Rattle.command_replies.specs.declared.answer.Answer.{Answer as Answered};
+ghost use Rattle.std.specs.Prelude.{◌≡◌, ◌+◌, ◌≤◌, ◌++◌, List, ℕ, MatchOption, length, IfOk};
+
+use crate::books::{NextSolid, feed};
+use crate::checking::part_solid;
+use command_replies::{Reply, illegal};
+use iges_fields::{EntryNo, NoMemory};
+use iges_params::File;
+use std::alloc::Global;
+use topo_certificate::{CERT_LIMIT, Checker};
+
+/// What judging a part of a book that is held whole came to.
+#[derive(Drop)]
+pub enum HeldPart {
+    /// It is good, and the next one begins.
+    Next(NextSolid),
+    /// It is good, and the last one.
+    Last,
+    /// This is the reply.
+    Decided(Reply),
+}
+
+// Judges the part of this solid, which has this rest of the book behind the line that names it; the next line has this
+// number.
+fn judge_held(
+    alloc: Global,
+    file: &File,
+    no: EntryNo,
+    line: u64,
+    rest: &[u8],
+) -> Result<HeldPart, NoMemory>
+    requires { line + length rest.now ≤ CERT_LIMIT + 3 }
+    ensures found { (certificate : List ℕ) (ns : List ℕ) (front : List ℕ) → certificate ≡ front ++ rest.now → length certificate ≤ CERT_LIMIT → BeginsPart file.now ns front no.0 line → IfOk result (IsHeldPart file.now certificate ns no.0 rest.now) }
+    ensures further { IfOk result (StepsIn line rest.now) }
+{
+    let solid = match part_solid(alloc, file, no)? {
+        Ok(solid) => solid,
+        Err(reply) => return Ok(HeldPart::Decided(reply)),
+    };
+    let mut checker = Checker::part(alloc, &solid, line)?;
+    if let Some(next) = feed(&mut checker, rest) {
+        return Ok(HeldPart::Next(next));
+    }
+    match checker.finish() {
+        Ok(()) => Ok(HeldPart::Last),
+        Err(bad) => Ok(HeldPart::Decided(illegal(alloc, bad)?)),
+    }
+}
+
+/// The reply for a book that isn't accepted; None for one that is. Behind the line that names its first solid it has this
+/// rest.
+pub fn book_refusal(
+    alloc: Global,
+    file: &File,
+    certificate: &[u8],
+    no: EntryNo,
+    rest: &[u8],
+) -> Result<Option<Reply>, NoMemory>
+    requires few { length certificate.now ≤ CERT_LIMIT }
+    requires opens { Opens certificate.now Three no.0 (cut_lines rest.now) }
+    ensures { IfOk result (λ r. MatchOption r
+        ((a : Answered) (t : List ℕ) → OfText certificate.now a t → OfUpgrade certificate.now file.now a t)
+        (λ reply. OfUpgrade certificate.now file.now reply.answer reply.text)) }
+{
+    let mut no = no;
+    let mut line = 3;
+    let mut rest = rest;
+    'parts: loop {
+        match judge_held(alloc, file, no, line, rest)? {
+            HeldPart::Next(next) => {
+                no = next.no;
+                line = next.line;
+                rest = &rest[next.used..];
+            }
+            HeldPart::Last => return Ok(None),
+            HeldPart::Decided(reply) => return Ok(Some(reply)),
+        }
+    }
+}

@@ -1,0 +1,6 @@
+use Rattle.std.proofs.Common.{◌≡◌, suc, map, take}
+use Rattle.face_orient.specs.OddRing.{row_numbers}
+use Rattle.orient_commands.proofs.making.numbers_of.Given as goal
+
+abbrev pub invariant-rows : goal.invariant-rows
+invariant-rows l = l.numbers ≡ map suc (row_numbers (take l.i l.rows))

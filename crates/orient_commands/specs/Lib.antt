@@ -1,0 +1,6 @@
+pub mod Text
+pub mod Shells
+pub mod Due
+pub mod Reading
+pub mod Turned
+pub mod Laws

@@ -1,0 +1,35 @@
+//! Why a text isn't taken as an orientation.
+
+use iges_fields::NoMemory as OutOfMemory;
+use topo_certificate::Illegal;
+
+/// Why a text isn't taken as an orientation.
+#[derive(Clone, Copy, Debug, PartialEq, Eq)]
+pub enum TextFault {
+    /// This is its first bad line.
+    Bad(Illegal),
+    /// Memory ran out.
+    NoMemory,
+}
+
+impl From<Illegal> for TextFault {
+    ghost use Rattle.std.specs.Prelude.{◌≡◌};
+    ghost use Rattle.orient_commands.specs.declared.fault.TextFault.TheVariants.{Bad};
+
+    ghost from_gives = { λ x e. e ≡ Bad x };
+
+    fn from(bad: Illegal) -> TextFault {
+        TextFault::Bad(bad)
+    }
+}
+
+impl From<OutOfMemory> for TextFault {
+    ghost use Rattle.std.specs.Prelude.{◌≡◌};
+    ghost use Rattle.orient_commands.specs.declared.fault.TextFault.TheVariants.{NoMemory};
+
+    ghost from_gives = { λ _ e. e ≡ NoMemory };
+
+    fn from(_: OutOfMemory) -> TextFault {
+        TextFault::NoMemory
+    }
+}

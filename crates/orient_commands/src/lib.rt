@@ -1,0 +1,17 @@
+//! Orientation as commands: the text of flags and rings for all shells of a solid of a file, and its verification.
+//!
+//! The text is a line `ORIENT` with the number of the solid, for each shell in order a line `F` with flags for its faces
+//! or a line `O` with rows that are an odd ring, and a line `END`.
+#![tactic(auto)]
+
+mod counting;
+mod fault;
+mod fitting;
+mod lines;
+mod making;
+mod orienting;
+mod reading;
+mod verifying;
+
+pub use orienting::orient_solid;
+pub use verifying::verify_orientation;

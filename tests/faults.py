@@ -1,0 +1,92 @@
+"""Runs of each command in which the k-th call of the C library that takes memory, opens, reads or writes fails, for each k.
+
+The program is the built one; tests/faults.c, preloaded, makes its calls fail. Needs gcc.
+"""
+import errno
+import os
+import shutil
+import subprocess
+
+import elf
+from commands import TOP, Runs
+
+DONE, UNREAD, UNWRITTEN, NO_MEMORY = 0, 4, 5, 6
+REPORT = 200
+# How many bytes each read and each write takes, or None for as many as the program asks for, and the error of the call that fails.
+SETTINGS = {
+    "memory": ((None, errno.ENOMEM),),
+    "open": ((None, errno.ENOENT), (None, errno.EACCES), (None, errno.EMFILE)),
+    "read": ((81, errno.EIO), (None, errno.EIO), (None, errno.EISDIR)),
+    "write": ((16, errno.EIO), (None, errno.ENOSPC), (None, errno.EPIPE)),
+}
+# Calls of the C library that the program makes beside those that faults.c covers: none of them takes memory, reads or writes.
+HARMLESS = {"close", "free", "memcpy", "memmove", "memset", "memcmp", "bcmp", "strlen", "exit", "_exit"}
+START = {"__libc_start_main", "__cxa_finalize", "__gmon_start__", "_ITM_deregisterTMCloneTable", "_ITM_registerTMCloneTable"}
+START |= {"__errno_location", "__sysv_signal", "__x86_get_cpuid_feature_leaf"}
+
+
+class Faults:
+    """The library that makes calls fail, and runs with it."""
+
+    def __init__(self, runner, folder):
+        self.runner, self.library = runner, folder / "faults.so"
+        command = ["gcc", "-O2", "-Wall", "-Wextra", "-Werror", "-shared", "-fPIC", "-o", self.library, TOP / "tests" / "faults.c", "-ldl"]
+        subprocess.run(command, check=True)
+        self.report = os.memfd_create("report", os.MFD_CLOEXEC)
+
+    def run(self, words, **told):
+        """What a run gives, and whether a call failed in it."""
+        os.ftruncate(self.report, 0)
+        settings = {f"FAULT_{name.upper()}": str(value) for name, value in told.items() if value is not None}
+        environment = {**os.environ, "LD_PRELOAD": str(self.library), "FAULT_REPORT": str(REPORT), **settings}
+        got = self.runner.run(words, environment, more=[(self.report, REPORT)])
+        return got, os.fstat(self.report).st_size > 0
+
+
+def is_due(call, got, full, written):
+    """Whether an answer is right where a call failed: no memory, no read or no write; or where memory is wanting, the full one."""
+    if call == "memory":
+        return got in ((NO_MEMORY, b"", b""), full)
+    if call == "write":
+        return got == (UNWRITTEN, full[1][:written], b"")
+    return got == (UNREAD, b"", b"")
+
+
+def of_run(faults, run, call, size, error):
+    """One call after the other fails, and of memory besides all from one on, until a run makes none of them."""
+    full, _ = faults.run(run.words, size=size)
+    yield f"{run.name}, in pieces of {size}", full == faults.runner.run(run.words)
+    for onward in ("", "+") if call == "memory" else ("",):
+        number, failed = 1, True
+        while failed:
+            got, failed = faults.run(run.words, call=call, number=f"{number}{onward}", size=size, error=error)
+            held = is_due(call, got, full, (size or 0) * (number - 1)) if failed else got == full
+            yield f"{run.name}, {call} {number}{onward} fails (pieces of {size}, {os.strerror(error)}): {got[0]} {got[1][:40]!r}", held
+            number += 1
+
+
+def failing(call):
+    """The table of one call, for all commands on all small files."""
+
+    def checks(runner, folder, forms):
+        if shutil.which("gcc") is None:
+            return
+        faults = Faults(runner, folder)
+        for run in Runs(runner, folder, forms).all():
+            for size, error in SETTINGS[call]:
+                yield from of_run(faults, run, call, size, error)
+
+    checks.__name__ = f"failing_{call}"
+    return checks
+
+
+def covered(runner, folder, forms):
+    """Each call of the C library that the program makes is one that faults.c covers, or takes no memory and does no input or output."""
+    if shutil.which("gcc") is None:
+        return
+    defined = elf.File(Faults(runner, folder).library.read_bytes()).symbols(is_defined=True)
+    for name in sorted(elf.File(open(runner.program, "rb").read()).symbols(is_defined=False)):
+        yield f"the call of {name} is covered", name in defined | HARMLESS | START
+
+
+TABLES = [*(failing(call) for call in SETTINGS), covered]

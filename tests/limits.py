@@ -1,0 +1,95 @@
+"""Each command under limits that the system sets: address space, file size, open files, stack."""
+import pathlib
+import resource
+import signal
+import subprocess
+
+from commands import SMALL, Runs, Small
+from sample_file import sample_text
+from spawned import Runner
+
+USAGE, UNREAD, UNWRITTEN, NO_MEMORY = 2, 4, 5, 6
+MESH = Small("mesh", 1, 3, 20)
+VALUES, STEP, MOST = 200, 4, 1 << 20
+LIMITED = 'ulimit -%s "$0" && exec "$@"'
+
+
+class Shell:
+    """Runs of the program under a limit that the shell sets."""
+
+    def __init__(self, runner):
+        self.program, self.shell = runner.program, Runner("/bin/sh")
+
+    def run(self, limit, value, words):
+        return self.shell.run(["-c", LIMITED % limit, str(value), self.program, *words])
+
+
+def least(holds, low, high):
+    """The least multiple of STEP from which on a condition holds, between two of which it holds at the higher."""
+    while high - low > STEP:
+        middle = (low + high) // 2 // STEP * STEP
+        low, high = (low, middle) if holds(middle) else (middle, high)
+    return high
+
+
+def address_space(runner, folder, forms):
+    """From the least limit at which the program starts: status 6 and nothing written, or the full answer, and no other."""
+    shell = Shell(runner)
+    (folder / f"{MESH.name}.igs").write_bytes(sample_text(MESH.sample))
+    usage = runner.run([])
+    starts = least(lambda limit: shell.run("v", limit, []) in (usage, (NO_MEMORY, b"", b"")), 0, MOST)
+    runs = Runs(runner, folder, forms)
+    for command in runs.commands:
+        for run in runs.of(MESH, command):
+            full = runner.run(run.words)
+            enough = least(lambda limit: shell.run("v", limit, run.words) == full, starts, MOST)
+            for at in range(VALUES):
+                limit = starts + (enough + 10 * STEP - starts) * at // VALUES
+                got = shell.run("v", limit, run.words)
+                yield f"{run.name}, with {limit} KB of address space: {got[0]} {got[1][:40]!r} {got[2][:60]!r}", got in (full, (NO_MEMORY, b"", b""))
+
+
+def limited(words, output, limit, value, ignored=None):
+    """The status of a run into a file, under a limit; a signal may be ignored."""
+
+    def before():
+        resource.setrlimit(limit, (value, value))
+        if ignored:
+            signal.signal(ignored, signal.SIG_IGN)
+
+    with open(output, "wb") as written:
+        done = subprocess.run(words, stdout=written, stderr=subprocess.PIPE, preexec_fn=before)
+    return done.returncode, pathlib.Path(output).read_bytes(), done.stderr
+
+
+def file_size(runner, folder, forms):
+    """A file may have so many bytes: a part of the text, and status 5 where the signal for that is ignored, else its end by that."""
+    runs, output = Runs(runner, folder, forms), folder / "output"
+    for command in runs.commands:
+        for run in runs.of(SMALL[3], command):
+            status, text, _ = runner.run(run.words)
+            words = runner.program, *run.words
+            for most in (0, 1, len(text) - 1, len(text)):
+                got = limited(words, output, resource.RLIMIT_FSIZE, most, signal.SIGXFSZ)
+                wanted = (status, text, b"") if most == len(text) else (UNWRITTEN, text[:most], b"")
+                yield f"{run.name}, into a file of {most} bytes", got == wanted
+            got = limited(words, output, resource.RLIMIT_FSIZE, 0)
+            yield f"{run.name}, ended by the signal of the file's size", got == (-signal.SIGXFSZ, b"", b"")
+
+
+def open_files(runner, folder, forms):
+    """With room for one open file or for two: status 4, or the full answer. With a stack of 64 KB the full answer.
+
+    With less room no program starts, since the C library can't be opened.
+    """
+    shell, runs = Shell(runner), Runs(runner, folder, forms)
+    for command in runs.commands:
+        for run in runs.of(SMALL[3], command):
+            full, inputs = runner.run(run.words), (run.file is not None) + (run.certificate is not None)
+            for most in (4, 5):
+                wanted = full if most - 3 >= inputs else (UNREAD, b"", b"")
+                yield f"{run.name}, with {most} open files", shell.run("n", most, run.words) == wanted
+            yield f"{run.name}, with a stack of 64 KB", shell.run("s", 64, run.words) == full
+
+
+TABLES = [address_space, file_size, open_files]
