@@ -10,9 +10,9 @@ use Rattle.brep_walk.specs.SolidOf.{solid_of}
 use Rattle.iges_params.specs.Contents.{Contents}
 use Rattle.solid_check.specs.Closed.{obligations}
 use Rattle.cert_maker.specs.Laws.{IsCertificateText}
-use Rattle.iges_solid_cmd.specs.declared.answer.Answer.{Answer}
-use Rattle.iges_solid_cmd.specs.declared.answer.Answer.TheVariants.{Done, No}
-use Rattle.iges_solid_cmd.specs.Texts.{fail_line}
+use Rattle.command_replies.specs.declared.answer.Answer.{Answer}
+use Rattle.command_replies.specs.declared.answer.Answer.TheVariants.{Done, No}
+use Rattle.command_replies.specs.Texts.{fail_line}
 use Rattle.iges_solid_cmd.specs.Due.{OfCertify}
 
 module _ (f : Contents) (n : ℕ) (a : Answer) (t : List ℕ) where

@@ -1,30 +1,14 @@
 -- What is owed is one answer with one text.
-use Rattle.std.proofs.Common.{◌≡◌, ◌≤◌, ◌<◌, ◌⊎◌, length, inl, inr, ℕ, List, [], ◌∷◌, Option, Some, None, refl, sym, ap, subst, ◌∙◌, arith}
+use Rattle.std.proofs.Common.{◌≡◌, ◌<◌, length, inl, inr, ℕ, List, [], Option, Some, None, sym, ap, subst, ◌∙◌, arith}
 use Rattle.std.specs.Prelude.{◌*◌, MatchOption}
-use Rattle.iges_fields.specs.declared.TheConstants.{FILE_LIMIT}
 use Rattle.iges_params.specs.Contents.{Contents}
-use Rattle.iges_params.specs.IsFile.{IsFile}
-use Rattle.iges_params.proofs.Answers.{clash, ok_is, err_is}
-use Rattle.iges_params.proofs.FileExact.{IsFile-read_file, Refusal-read_file}
 use Rattle.solid_data.proofs.ObligationLemmas.{FirstFalse-one, FirstFalse-not_all}
 use Rattle.brep_walk.specs.Places.{places}
-use Rattle.brep_walk.specs.SolidOf.{solid_of}
-use Rattle.cert_lines.specs.declared.version.Version.{Version}
-use Rattle.cert_lines.specs.declared.version.Version.TheVariants.{One, Two, Three}
-use Rattle.cert_lines.specs.Opening.{IsHeaded}
-use Rattle.cert_lines.proofs.Openings.{one_bad_opening, one_opening, opens_or_bad}
-use Rattle.topo_certificate.proofs.LegalLemmas.{legal_has_no_bad_lem, one_first_bad}
-use Rattle.solid_check.specs.Checked.{checked}
-use Rattle.solid_check.specs.Accepted.{Part, solids_named}
-use Rattle.solid_check.specs.Book.{BookRefusal}
-use Rattle.solid_check.specs.Book as book
-use Rattle.solid_check.proofs.BookReading.{none_bad, one_reading, one_refusal}
 use Rattle.cert_maker.specs.Book.{FirstUnmade, solids_of}
 use Rattle.cert_maker.specs.declared.book.BookFault.{BookFault}
 use Rattle.cert_maker.specs.declared.book.BookFault.TheVariants as maker
 use Rattle.cert_maker.proofs.BookMade.{one_text_of_book}
 use Rattle.cert_maker.proofs.Unmade.{none_unmade, one_unmade}
-use Rattle.topo_certificate.specs.Upgraded.{upgraded}
 use Rattle.iges_write.specs.Text.{IsText}
 use Rattle.iges_write.proofs.FileBack.{one_text}
 use Rattle.solid_extract.specs.Extracted.{IsExtracted}
@@ -36,45 +20,15 @@ use Rattle.iges_solid_cmd.specs.declared.form.Command.{Command}
 use Rattle.iges_solid_cmd.specs.declared.form.Command.TheVariants as command
 use Rattle.iges_solid_cmd.specs.declared.form.FileCommand.{FileCommand}
 use Rattle.iges_solid_cmd.specs.declared.form.FileCommand.TheVariants as of_file
-use Rattle.iges_solid_cmd.specs.declared.answer.Answer.{Answer}
-use Rattle.iges_solid_cmd.specs.declared.answer.Answer.TheVariants as answer
+use Rattle.command_replies.specs.declared.answer.Answer.TheVariants as answer
 use Rattle.iges_solid_cmd.specs.Forms.{command_of, usage_line}
-use Rattle.iges_solid_cmd.specs.Texts.{accepted_lines, bad_file_line, fail_line, illegal_line, no_extract_line, sample_line, solids_text, solid_fail_text}
-use Rattle.iges_solid_cmd.specs.Outcome.{IsNoFile}
-use Rattle.iges_solid_cmd.specs.Due.{Owed, Exactly, OfNoFile, OfFile, OfShow, OfCertify, OfCertifyAll, OfLines, OfBook, OfVersion, OfCertificate, OfVerify, OfText, OfUpgrade, upgraded_for, OfExtract, OfContents, OfSample, DueOf}
+use Rattle.command_replies.specs.Texts.{fail_line, solid_fail_text}
+use Rattle.iges_solid_cmd.specs.Texts.{no_extract_line, sample_line, solids_text}
+use Rattle.command_replies.specs.Due.{Exactly}
+use Rattle.iges_solid_cmd.specs.Due.{OfShow, OfCertify, OfCertifyAll, OfExtract, OfContents, OfSample, DueOf}
 use Rattle.iges_solid_cmd.specs.OneAnswer.{OneAnswerIsOwed}
-
--- at most one answer and text are owed
-abbrev pub IsOne : Owed → Type 0
-IsOne owed = (a b : Answer) (t u : List ℕ) → owed a t → owed b u → (a ≡ b) × (t ≡ u)
-
-exactly_one : (a : Answer) (text : List ℕ) → IsOne (Exactly a text)
-exactly_one a text b c t u p q = (p.0 ∙ sym q.0, p.1 ∙ sym q.1)
-
-no_file_one : (bytes : List ℕ) → IsOne (OfNoFile bytes)
-no_file_one bytes a b t u (inl p) (inl q) = (p.1.0 ∙ sym q.1.0, p.1.1 ∙ sym q.1.1)
-no_file_one bytes a b t u (inl p) (inr q) = absurd (omega (arith, p.0, q.0))
-no_file_one bytes a b t u (inr p) (inl q) = absurd (omega (arith, p.0, q.0))
-no_file_one bytes a b t u (inr p) (inr q) =
-    let same : p.1 ≡ q.1 = err_is {X = Contents} p.1 q.1 (sym (Refusal-read_file bytes p.1 p.2) ∙ Refusal-read_file bytes q.1 q.2) in
-    (p.3.0 ∙ sym q.3.0, p.3.1 ∙ ap bad_file_line same ∙ sym q.3.1)
-
--- what is no file is none
-pub no_file : (bytes : List ℕ) (f : Contents) → IsNoFile bytes → length bytes ≤ FILE_LIMIT → IsFile bytes f → ⊥
-no_file bytes f (inl p) few is = absurd (omega (arith, p, few))
-no_file bytes f (inr p) few is = clash p.1 f (sym (Refusal-read_file bytes p.1 p.2) ∙ IsFile-read_file bytes f is)
-
-owed_none : (bytes : List ℕ) (a : Answer) (t : List ℕ) → OfNoFile bytes a t → IsNoFile bytes
-owed_none bytes a t (inl p) = inl p.0
-owed_none bytes a t (inr p) = inr (p.0, p.1, p.2)
-
-file_one : (bytes : List ℕ) (owed : Contents → Owed) → ((f : Contents) → IsOne (owed f)) → IsOne (OfFile bytes owed)
-file_one bytes owed one a b t u (inl p) (inl q) = no_file_one bytes a b t u p q
-file_one bytes owed one a b t u (inl p) (inr q) = absurd (no_file bytes q.1 (owed_none bytes a t p) q.0 q.2)
-file_one bytes owed one a b t u (inr p) (inl q) = absurd (no_file bytes p.1 (owed_none bytes b u q) p.0 p.2)
-file_one bytes owed one a b t u (inr p) (inr q) =
-    let same : p.1 ≡ q.1 = ok_is p.1 q.1 (sym (IsFile-read_file bytes p.1 p.2) ∙ IsFile-read_file bytes q.1 q.2) in
-    one q.1 a b t u (subst (λ (f : Contents). owed f a t) same p.3) q.3
+use Rattle.command_replies.proofs.One.{IsOne, exactly_one, file_one}
+use Rattle.certificate_commands.proofs.One.{verify_one, upgrade_one}
 
 show_one : (n : ℕ) (f : Contents) → IsOne (OfShow n f)
 show_one n f a b t u (inl (x, p, e)) (inl (y, q, d)) = (e.0 ∙ sym d.0, e.1 ∙ ap fail_line (FirstFalse-one (places f n) x y p q) ∙ sym d.1)
@@ -87,62 +41,6 @@ certify_one n f a b t u (inl (x, p, e)) (inl (y, q, d)) = (e.0 ∙ sym d.0, e.1 
 certify_one n f a b t u (inl (x, p, e)) (inr (all, made, done)) = absurd (FirstFalse-not_all (obligations f n) x p all)
 certify_one n f a b t u (inr (all, made, done)) (inl (y, q, d)) = absurd (FirstFalse-not_all (obligations f n) y q all)
 certify_one n f a b t u (inr (all, made, done)) (inr (every, other, finished)) = (done ∙ sym finished, one_certificate f n t u made other)
-
-lines_one : (granted : Owed) → IsOne granted → (v : Version) (n : ℕ) (lines : List (List ℕ)) (f : Contents) → IsOne (OfLines granted v n lines f)
-lines_one granted one v n lines f a b t u (inl (x, p, e)) (inl (y, q, d)) = (e.0 ∙ sym d.0, e.1 ∙ ap fail_line (FirstFalse-one (checked f n) x y p q) ∙ sym d.1)
-lines_one granted one v n lines f a b t u (inl (x, p, e)) (inr (inl q)) = absurd (FirstFalse-not_all (checked f n) x p q.0)
-lines_one granted one v n lines f a b t u (inl (x, p, e)) (inr (inr q)) = absurd (FirstFalse-not_all (checked f n) x p q.0)
-lines_one granted one v n lines f a b t u (inr (inl p)) (inl (y, q, d)) = absurd (FirstFalse-not_all (checked f n) y q p.0)
-lines_one granted one v n lines f a b t u (inr (inr p)) (inl (y, q, d)) = absurd (FirstFalse-not_all (checked f n) y q p.0)
-lines_one granted one v n lines f a b t u (inr (inl p)) (inr (inl q)) = (p.3.0 ∙ sym q.3.0, p.3.1 ∙ ap illegal_line (one_first_bad v (solid_of f n) 3 lines p.1 q.1 p.2 q.2) ∙ sym q.3.1)
-lines_one granted one v n lines f a b t u (inr (inl p)) (inr (inr q)) = absurd (legal_has_no_bad_lem v (solid_of f n) 3 lines p.1 q.1 p.2)
-lines_one granted one v n lines f a b t u (inr (inr p)) (inr (inl q)) = absurd (legal_has_no_bad_lem v (solid_of f n) 3 lines q.1 p.1 q.2)
-lines_one granted one v n lines f a b t u (inr (inr p)) (inr (inr q)) = one a b t u p.2 q.2
-
--- the lines behind the head
-headed_same : (c : List ℕ) (xs ys : List (List ℕ)) → IsHeaded c Three xs → IsHeaded c Three ys → xs ≡ ys
-headed_same c xs ys h k = let same : h.first ∷ xs ≡ k.first ∷ ys = sym h.cut ∙ k.cut in cc
-
-refusal_text : BookRefusal → List ℕ
-refusal_text (book.fails n x) = solid_fail_text n x
-refusal_text (book.illegal bad) = illegal_line bad
-
-module _ (granted : List ℕ → Owed) (one : (ns : List ℕ) → IsOne (granted ns)) where
-  book_one : (c : List ℕ) (lines : List (List ℕ)) (f : Contents) → IsHeaded c Three lines → IsOne (OfBook granted c lines f)
-  unfolding refusal_text
-  book_one c lines f h a b t u (inl (n, x, p, e)) (inl (m, y, q, d)) = (e.0 ∙ sym d.0, e.1 ∙ ap refusal_text (one_refusal f c lines (book.fails n x) (book.fails m y) h p q) ∙ sym d.1)
-  book_one c lines f h a b t u (inl (n, x, p, e)) (inr (inl (bad, q, d))) = absurd (let same : book.fails n x ≡ book.illegal bad = one_refusal f c lines (book.fails n x) (book.illegal bad) h p q in cc)
-  book_one c lines f h a b t u (inl (n, x, p, e)) (inr (inr (parts, ok, due))) = absurd (none_bad f c lines parts (book.fails n x) h ok p)
-  book_one c lines f h a b t u (inr (inl (bad, p, e))) (inl (m, y, q, d)) = absurd (let same : book.illegal bad ≡ book.fails m y = one_refusal f c lines (book.illegal bad) (book.fails m y) h p q in cc)
-  book_one c lines f h a b t u (inr (inl (bad, p, e))) (inr (inl (worse, q, d))) = (e.0 ∙ sym d.0, e.1 ∙ ap refusal_text (one_refusal f c lines (book.illegal bad) (book.illegal worse) h p q) ∙ sym d.1)
-  book_one c lines f h a b t u (inr (inl (bad, p, e))) (inr (inr (parts, ok, due))) = absurd (none_bad f c lines parts (book.illegal bad) h ok p)
-  book_one c lines f h a b t u (inr (inr (parts, ok, owed))) (inl (m, y, q, d)) = absurd (none_bad f c lines parts (book.fails m y) h ok q)
-  book_one c lines f h a b t u (inr (inr (parts, ok, owed))) (inr (inl (bad, q, d))) = absurd (none_bad f c lines parts (book.illegal bad) h ok q)
-  book_one c lines f h a b t u (inr (inr (parts, ok, owed))) (inr (inr (others, good, due))) =
-      one (solids_named others) a b t u (subst (λ (ps : List Part). granted (solids_named ps) a t) (one_reading f c parts others ok good) owed) due
-
-  version_one : (c : List ℕ) (v : Version) (n : ℕ) (lines : List (List ℕ)) (f : Contents) → IsOne (OfVersion granted c v n lines f)
-  version_one c One n lines f = lines_one (granted (n ∷ [])) (one (n ∷ [])) One n lines f
-  version_one c Two n lines f = lines_one (granted (n ∷ [])) (one (n ∷ [])) Two n lines f
-  version_one c Three n lines f = λ a b t u (all, h, owed) (others, k, due).
-      book_one c others f k a b t u (subst (λ (xs : List (List ℕ)). OfBook granted c xs f a t) (headed_same c all others h k) owed) due
-
-  certificate_one : (certificate : List ℕ) (f : Contents) → IsOne (OfCertificate granted certificate f)
-  certificate_one c f a b t u (inl p) (inl q) = (p.1.0 ∙ sym q.1.0, p.1.1 ∙ sym q.1.1)
-  certificate_one c f a b t u (inl p) (inr (inl q)) = absurd (omega (arith, p.0, q.0))
-  certificate_one c f a b t u (inl p) (inr (inr q)) = absurd (omega (arith, p.0, q.0))
-  certificate_one c f a b t u (inr (inl p)) (inl q) = absurd (omega (arith, p.0, q.0))
-  certificate_one c f a b t u (inr (inr p)) (inl q) = absurd (omega (arith, p.0, q.0))
-  certificate_one c f a b t u (inr (inl p)) (inr (inl q)) = (p.3.0 ∙ sym q.3.0, p.3.1 ∙ ap illegal_line (one_bad_opening c p.1 q.1 p.2 q.2) ∙ sym q.3.1)
-  certificate_one c f a b t u (inr (inl p)) (inr (inr q)) = absurd (opens_or_bad c q.1 q.2 q.3 p.1 q.4 p.2)
-  certificate_one c f a b t u (inr (inr p)) (inr (inl q)) = absurd (opens_or_bad c p.1 p.2 p.3 q.1 p.4 q.2)
-  certificate_one c f a b t u (inr (inr (few, v, n, lines, opens, owed))) (inr (inr (fewer, w, m, others, opened, due))) =
-      let same = one_opening c v w n m lines others opens opened in
-      version_one c w m others f a b t u
-      (subst (λ (x : Version). OfVersion granted c x m others f a t) same.0 (subst (λ (k : ℕ). OfVersion granted c v k others f a t) same.1 (subst (λ (xs : List (List ℕ)). OfVersion granted c v n xs f a t) same.2 owed))) due
-
-verify_one : (certificate : List ℕ) (f : Contents) → IsOne (OfVerify certificate f)
-verify_one certificate f = certificate_one (λ ns. Exactly answer.Done (accepted_lines ns)) (λ ns. exactly_one answer.Done (accepted_lines ns)) certificate f
 
 fault_text : BookFault → List ℕ
 fault_text (maker.Fails n x) = solid_fail_text n.0 x
@@ -173,15 +71,6 @@ module _ (f : Contents) where
   all_one a b t u (inr (inr (inr (some, made, e, g)))) (inr (inl (m, y, q, d))) = absurd (none_unmade f 0 (solids_of f) (maker.Fails m y) made q)
   all_one a b t u (inr (inr (inr (some, made, e, g)))) (inr (inr (inl (m, q, d)))) = absurd (none_unmade f 0 (solids_of f) (maker.TooMany m) made q)
   all_one a b t u (inr (inr (inr (some, made, text, done)))) (inr (inr (inr (more, every, other, finished)))) = (done ∙ sym finished, one_text_of_book f t u text other)
-
-text_one : (text : List ℕ) → IsOne (OfText text)
-text_one text a b t u (inl p) (inl q) = (p.1.0 ∙ sym q.1.0, p.1.1 ∙ sym q.1.1)
-text_one text a b t u (inl p) (inr q) = absurd (omega (arith, p.0, q.0))
-text_one text a b t u (inr p) (inl q) = absurd (omega (arith, p.0, q.0))
-text_one text a b t u (inr p) (inr q) = (p.1.0 ∙ sym q.1.0, p.1.1 ∙ sym q.1.1)
-
-upgrade_one : (certificate : List ℕ) (f : Contents) → IsOne (OfUpgrade certificate f)
-upgrade_one certificate f = certificate_one (λ ns. OfText (upgraded_for f certificate ns)) (λ ns. text_one (upgraded_for f certificate ns)) certificate f
 
 -- a file has one text
 text_is : (f : Contents) (t u : List ℕ) → IsText f t → IsText f u → t ≡ u

@@ -2,7 +2,7 @@
 use Rattle.std.proofs.Common.{◌≡◌, ◌<◌, ◌*◌, ◌+◌, ◌^◌, ℕ, List, [], ◌∷◌, length, drop, sym, ap, subst, ◌∙◌, Some, slice_get, arith, length-append}
 use Rattle.solid_data.specs.Numbering.{IsNumberedSolid}
 use Rattle.solid_data.specs.declared.solid.Shell.{Shell}
-use Rattle.solid_data.specs.Obligations.{AllHold, FirstFalse}
+use Rattle.solid_data.specs.Obligations.{FirstFalse}
 use Rattle.solid_data.specs.SolidData.{SolidData}
 use Rattle.solid_data.specs.declared.verdict.Failing.{Failing}
 use Rattle.solid_data.proofs.Members.{split_at}
@@ -26,8 +26,8 @@ use Rattle.iges_write.specs.Text.{IsText}
 use Rattle.sample_solids.specs.Laws.{IsClosedMesh, faces_in}
 use Rattle.sample_solids.specs.Sample.{sample}
 use Rattle.sample_solids.proofs.Closed.{closed}
-use Rattle.iges_solid_cmd.specs.declared.answer.Answer.{Answer}
-use Rattle.iges_solid_cmd.specs.declared.answer.Answer.TheVariants.{Done}
+use Rattle.command_replies.specs.declared.answer.Answer.{Answer}
+use Rattle.command_replies.specs.declared.answer.Answer.TheVariants.{Done}
 use Rattle.iges_solid_cmd.specs.Forms.{IsSize}
 use Rattle.iges_solid_cmd.specs.Texts.{sample_line}
 use Rattle.iges_solid_cmd.specs.Due.{OfSample}

@@ -2,11 +2,8 @@
 use Rattle.std.proofs.Common.{◌≡◌, ◌≤◌, ◌⊎◌, length, inl, inr, ℕ, List, [], ◌∷◌, Option, Some, None, refl, ap, arith}
 use Rattle.std.specs.Prelude.{◌+◌, ◌*◌, ◌<◌, MatchOption}
 use Rattle.iges_fields.specs.declared.TheConstants.{FILE_LIMIT}
-use Rattle.iges_lines.specs.declared.fault.LineFault.{LineFault}
 use Rattle.iges_params.specs.Contents.{Contents}
 use Rattle.iges_params.specs.IsFile.{IsFile}
-use Rattle.iges_params.specs.Refusal.{Refusal, IsOnly, HasOneReading}
-use Rattle.iges_params.proofs.FileExact.{one_reading}
 use Rattle.solid_data.specs.declared.verdict.Failing.{Failing}
 use Rattle.solid_data.specs.declared.verdict.Verdict.{Verdict}
 use Rattle.solid_data.specs.declared.verdict.Verdict.TheVariants.{Closed, Fails}
@@ -16,28 +13,15 @@ use Rattle.solid_data.proofs.ObligationsDecided.{all_or_first_false, some_verdic
 use Rattle.brep_walk.specs.Places.{places}
 use Rattle.brep_walk.specs.SolidOf.{solid_of}
 use Rattle.brep_walk.proofs.Decided.{places_decided}
-use Rattle.cert_lines.specs.Opening.{Opens, IsBadOpening, IsHeaded}
-use Rattle.cert_lines.specs.declared.fault.Illegal.{Illegal}
-use Rattle.cert_lines.specs.declared.version.Version.{Version}
-use Rattle.cert_lines.specs.declared.version.Version.TheVariants.{One, Two, Three}
-use Rattle.cert_lines.proofs.Decided.{openings_are_decided}
-use Rattle.topo_certificate.specs.declared.TheConstants.{CERT_LIMIT}
-use Rattle.topo_certificate.specs.Legal.{IsLegal, IsFirstBad}
-use Rattle.topo_certificate.proofs.Decided.{legal_or_first_bad}
 use Rattle.solid_check.specs.Closed.{obligations, IsVerdictOn}
-use Rattle.solid_check.specs.Checked.{checked}
 use Rattle.solid_check.proofs.Sound.{closed_is_all_hold_of_file}
-use Rattle.solid_check.specs.Accepted.{Part, solids_named, IsAcceptedBook}
-use Rattle.solid_check.specs.Book.{BookRefusal, IsBookBad}
-use Rattle.solid_check.specs.Book as book
-use Rattle.solid_check.proofs.BookReading.{accepted_or_bad}
 use Rattle.cert_maker.specs.Book.{AllMade, FirstUnmade, IsUnmade, solids_of, uses_of}
 use Rattle.cert_maker.specs.declared.book.BookFault.{BookFault}
 use Rattle.cert_maker.specs.declared.book.BookFault.TheVariants as maker
 use Rattle.cert_maker.proofs.SomeBook.{some_book}
 use Rattle.cert_maker.proofs.SomeText.{some_text}
 use Rattle.cert_maker.proofs.Unmade.{made_or_unmade}
-use Rattle.solid_check.proofs.Decided.{obligations_decided, checks_decided}
+use Rattle.solid_check.proofs.Decided.{obligations_decided}
 use Rattle.iges_write.proofs.FileBack.{one_text}
 use Rattle.iges_write.proofs.Made.{can_be_made}
 use Rattle.solid_extract.specs.Extracted.{IsRefused, IsExtracted}
@@ -49,21 +33,17 @@ use Rattle.iges_solid_cmd.specs.declared.form.Command.{Command}
 use Rattle.iges_solid_cmd.specs.declared.form.Command.TheVariants as command
 use Rattle.iges_solid_cmd.specs.declared.form.FileCommand.{FileCommand}
 use Rattle.iges_solid_cmd.specs.declared.form.FileCommand.TheVariants as of_file
-use Rattle.iges_solid_cmd.specs.declared.answer.Answer.{Answer}
-use Rattle.iges_solid_cmd.specs.declared.answer.Answer.TheVariants as answer
+use Rattle.command_replies.specs.declared.answer.Answer.TheVariants as answer
 use Rattle.iges_solid_cmd.specs.Forms.{command_of, usage_line, IsSized}
-use Rattle.iges_solid_cmd.specs.Texts.{accepted_lines, bad_file_line, fail_line, illegal_line, no_extract_line, no_solid_line, sample_line, show_text, solid_fail_text, solids_text}
-use Rattle.iges_solid_cmd.specs.Due.{Owed, Exactly, OfFile, OfSolids, OfShow, OfCertify, OfCertifyAll, OfLines, OfBook, OfVersion, OfCertificate, OfVerify, OfText, OfUpgrade, upgraded_for, OfExtract, OfContents, OfSample, DueOf}
+use Rattle.command_replies.specs.Texts.{fail_line, no_solid_line, solid_fail_text}
+use Rattle.iges_solid_cmd.specs.Texts.{no_extract_line, sample_line, show_text, solids_text}
+use Rattle.command_replies.specs.Due.{Exactly}
+use Rattle.iges_solid_cmd.specs.Due.{OfShow, OfCertify, OfCertifyAll, OfExtract, OfContents, OfSample, DueOf}
 use Rattle.iges_solid_cmd.specs.OneAnswer.{SomeAnswerIsOwed}
 use Rattle.iges_solid_cmd.proofs.ExtractionDecided.{extracted_or_refused}
 use Rattle.iges_solid_cmd.proofs.FormWords.{sized}
-
--- some answer and text are owed
-abbrev IsSome : Owed → Type 0
-IsSome owed = (a : Answer) × (t : List ℕ) × owed a t
-
-longer : (n limit : ℕ) → ¬ (n ≤ limit) → limit < n
-longer n limit h = omega (arith, h)
+use Rattle.command_replies.proofs.SomeDue.{IsSome, longer, file_due}
+use Rattle.certificate_commands.proofs.SomeDue.{verify_due, upgrade_due}
 
 show_due : (n : ℕ) (f : Contents) → IsSome (OfShow n f)
 show_due n f = by_places (all_or_first_false (places f n) (places_decided f n))
@@ -80,14 +60,6 @@ certify_due n f bytes few is = by_verdict (some_verdict (obligations f n) (oblig
     by_verdict (Closed, all) =
         let made = some_text f n (can_be_made bytes f few is).made.limits ((closed_is_all_hold_of_file f n).1 all) in
         (answer.Done, made.0, inr (all, made.1, refl))
-
-lines_due : (granted : Owed) → IsSome granted → (v : Version) (n : ℕ) (lines : List (List ℕ)) (f : Contents) → IsSome (OfLines granted v n lines f)
-lines_due granted due v n lines f = by_checks (all_or_first_false (checked f n) (checks_decided f n)) (legal_or_first_bad v (solid_of f n) 3 lines)
-  where
-    by_checks : AllHold (checked f n) ⊎ ((x : Failing) × FirstFalse (checked f n) x) → IsLegal v (solid_of f n) lines ⊎ ((bad : Illegal) × IsFirstBad v (solid_of f n) 3 lines bad) → IsSome (OfLines granted v n lines f)
-    by_checks (inr (x, bad)) legal = (answer.No, fail_line x, inl (x, bad, (refl, refl)))
-    by_checks (inl all) (inl legal) = (due.0, due.1, inr (inr (all, legal, due.2)))
-    by_checks (inl all) (inr (bad, first)) = (answer.No, illegal_line bad, inr (inl (all, bad, first, (refl, refl))))
 
 -- certifying all solids
 never_so : (f : Contents) (used : ℕ) (ns : List ℕ) (fault : BookFault) → ((used n : ℕ) → IsUnmade f used n fault → ⊥) → FirstUnmade f used ns fault → ⊥
@@ -111,44 +83,6 @@ all_due f bytes few is = by_solids (solids_of f) refl (made_or_unmade f 0 (solid
         (answer.Done, text.0, inr (inr (inr ((let long = ap (λ (xs : List ℕ). length xs) some in let above : 0 < length (solids_of f) = omega (arith, long) in above), made, text.1, refl))))
     by_solids (n ∷ ns) some (inr (fault, first)) = by_fault fault first
 
-module _ (granted : List ℕ → Owed) (each : (ns : List ℕ) → IsSome (granted ns)) where
-  book_due : (c : List ℕ) (lines : List (List ℕ)) (f : Contents) → IsHeaded c Three lines → IsSome (OfBook granted c lines f)
-  book_due c lines f headed = by_book (accepted_or_bad f c lines headed)
-    where
-      by_book : ((parts : List Part) × IsAcceptedBook f c parts) ⊎ ((a : BookRefusal) × IsBookBad f lines a) → IsSome (OfBook granted c lines f)
-      by_book (inl (parts, accepted)) = let due = each (solids_named parts) in (due.0, due.1, inr (inr (parts, accepted, due.2)))
-      by_book (inr (book.fails n x, bad)) = (answer.No, solid_fail_text n x, inl (n, x, bad, (refl, refl)))
-      by_book (inr (book.illegal bad, wrong)) = (answer.No, illegal_line bad, inr (inl (bad, wrong, (refl, refl))))
-
-  version_due : (c : List ℕ) (v : Version) (n : ℕ) (lines : List (List ℕ)) (f : Contents) → Opens c v n lines → IsSome (OfVersion granted c v n lines f)
-  version_due c One n lines f opens = lines_due (granted (n ∷ [])) (each (n ∷ [])) One n lines f
-  version_due c Two n lines f opens = lines_due (granted (n ∷ [])) (each (n ∷ [])) Two n lines f
-  version_due c Three n lines f opens =
-      let headed : IsHeaded c Three (opens.second ∷ lines) = record { first = opens.first; cut = opens.cut; is_head = opens.is_head } in
-      let due = book_due c (opens.second ∷ lines) f headed in
-      (due.0, due.1, (opens.second ∷ lines, headed, due.2))
-
-  certificate_due : (certificate : List ℕ) (f : Contents) → IsSome (OfCertificate granted certificate f)
-  certificate_due certificate f = by_limit (decided_within (length certificate) CERT_LIMIT) (openings_are_decided certificate)
-    where
-      by_limit : Decided (length certificate ≤ CERT_LIMIT) → ((v : Version) × (n : ℕ) × (rest : List (List ℕ)) × Opens certificate v n rest) ⊎ ((bad : Illegal) × IsBadOpening certificate bad) → IsSome (OfCertificate granted certificate f)
-      by_limit (inr more) opening = (answer.TooLarge, [], inl (longer (length certificate) CERT_LIMIT more, (refl, refl)))
-      by_limit (inl few) (inr (bad, wrong)) = (answer.No, illegal_line bad, inr (inl (few, bad, wrong, (refl, refl))))
-      by_limit (inl few) (inl (v, n, rest, opens)) = let due = version_due certificate v n rest f opens in (due.0, due.1, inr (inr (few, v, n, rest, opens, due.2)))
-
-verify_due : (certificate : List ℕ) (f : Contents) → IsSome (OfVerify certificate f)
-verify_due certificate f = certificate_due (λ ns. Exactly answer.Done (accepted_lines ns)) (λ ns. (answer.Done, accepted_lines ns, (refl, refl))) certificate f
-
-text_due : (text : List ℕ) → IsSome (OfText text)
-text_due text = by_limit (decided_within (length text) CERT_LIMIT)
-  where
-    by_limit : Decided (length text ≤ CERT_LIMIT) → IsSome (OfText text)
-    by_limit (inl few) = (answer.Done, text, inr (few, (refl, refl)))
-    by_limit (inr more) = (answer.TooLarge, [], inl (longer (length text) CERT_LIMIT more, (refl, refl)))
-
-upgrade_due : (certificate : List ℕ) (f : Contents) → IsSome (OfUpgrade certificate f)
-upgrade_due certificate f = certificate_due (λ ns. OfText (upgraded_for f certificate ns)) (λ ns. text_due (upgraded_for f certificate ns)) certificate f
-
 extract_due : (n : ℕ) (f : Contents) → IsSome (OfExtract n f)
 extract_due n f = by_answer (extracted_or_refused f n)
   where
@@ -168,14 +102,6 @@ contents_due of_file.CertifyAll certificate f bytes few is = all_due f bytes few
 contents_due of_file.Verify certificate f bytes few is = verify_due certificate f
 contents_due of_file.Upgrade certificate f bytes few is = upgrade_due certificate f
 contents_due (of_file.Extract n) certificate f bytes few is = extract_due n f
-
-file_due : (bytes : List ℕ) (owed : Contents → Owed) → ((f : Contents) → length bytes ≤ FILE_LIMIT → IsFile bytes f → IsSome (owed f)) → IsSome (OfFile bytes owed)
-file_due bytes owed each = by_limit (decided_within (length bytes) FILE_LIMIT) (one_reading bytes)
-  where
-    by_limit : Decided (length bytes ≤ FILE_LIMIT) → HasOneReading bytes → IsSome (OfFile bytes owed)
-    by_limit (inr more) reading = (answer.TooLarge, [], inl (inl (longer (length bytes) FILE_LIMIT more, (refl, refl))))
-    by_limit (inl few) (inl (f, only, never)) = let due = each f few only.0 in (due.0, due.1, inr (few, f, only.0, due.2))
-    by_limit (inl few) (inr (fault, only, never)) = (answer.BadFile, bad_file_line fault, inl (inr (few, fault, only.0, (refl, refl))))
 
 sample_due : (n : ℕ) → 3 ≤ n → n ≤ 200 → IsSome (OfSample n)
 sample_due n low high =

@@ -1,6 +1,6 @@
 -- What is owed is one answer with one text.
 use Rattle.std.specs.Prelude.{◌≡◌, ℕ, List}
-use Rattle.iges_solid_cmd.specs.declared.answer.Answer.{Answer}
+use Rattle.command_replies.specs.declared.answer.Answer.{Answer}
 use Rattle.iges_solid_cmd.specs.Due.{Due}
 
 -- Two that are owed have one answer and one text.

@@ -4,22 +4,13 @@ use Rattle.std.specs.List.{enumerate_from}
 use Rattle.std.specs.Ordering.{int_eq}
 use Rattle.iges_fields.specs.declared.value.Value.{Value}
 use Rattle.iges_directory.specs.declared.entry.Entry.{Entry}
-use Rattle.iges_lines.specs.declared.fault.LineFault.{LineFault}
-use Rattle.iges_lines.specs.Reasons.{reason_word}
 use Rattle.iges_params.specs.Contents.{Contents}
-use Rattle.solid_data.specs.RuleNames.{rule_name}
 use Rattle.solid_data.specs.SolidData.{SolidData}
 use Rattle.solid_data.specs.declared.solid.FaceUse.{FaceUse}
 use Rattle.solid_data.specs.declared.solid.Shell.{Shell}
-use Rattle.solid_data.specs.declared.verdict.Failing.{Failing}
 use Rattle.edge_uses.specs.ShellRows.{ShellRows, shell_rows}
 use Rattle.entry_references.specs.declared.fault.ExtractReason.{ExtractReason}
 use Rattle.entry_references.specs.declared.fault.ExtractReason.TheVariants as extracting
-use Rattle.cert_lines.specs.declared.fault.Illegal.{Illegal}
-use Rattle.cert_lines.specs.declared.fault.Illegal.TheVariants.{Misspelt, Unfit, Missing}
-
-abbrev pub bad_file_line : LineFault → List ℕ
-bad_file_line fault = codes "bad file line " ++ decimal fault.line ++ codes " " ++ reason_word fault.reason ++ codes "\n"
 
 -- a line for each entry of type 186 from the i-th on, with its number
 abbrev pub solid_lines_from : ℕ → List (Entry × List Value) → List ℕ
@@ -29,37 +20,6 @@ solid_lines_from i entries =
 
 abbrev pub solids_text : Contents → List ℕ
 solids_text f = solid_lines_from 0 f.entries
-
-abbrev pub fail_line : Failing → List ℕ
-fail_line x = codes "fail " ++ rule_name x.rule ++ codes " " ++ decimal x.entity.0 ++ codes " " ++ decimal x.place ++ codes "\n"
-
-abbrev pub no_solid_line : List ℕ
-no_solid_line = codes "no solid\n"
-
--- of one among many solids, a line with its number and the line of the rule that fails
-abbrev pub solid_fail_text : ℕ → Failing → List ℕ
-solid_fail_text n x = codes "solid " ++ decimal n ++ codes "\n" ++ fail_line x
-
-abbrev pub illegal_word : Illegal → List ℕ
-illegal_word (Misspelt n) = codes "misspelt"
-illegal_word (Unfit n) = codes "unfit"
-illegal_word (Missing n) = codes "missing"
-
-abbrev pub illegal_number : Illegal → ℕ
-illegal_number (Misspelt n) = n
-illegal_number (Unfit n) = n
-illegal_number (Missing n) = n
-
--- what is wrong with a line of a certificate
-abbrev pub illegal_line : Illegal → List ℕ
-illegal_line bad = codes "line " ++ decimal (illegal_number bad) ++ codes " " ++ illegal_word bad ++ codes "\n"
-
-abbrev pub accepted_line : ℕ → List ℕ
-accepted_line n = codes "accepted " ++ decimal n ++ codes "\n"
-
--- a line for each of these solids
-abbrev pub accepted_lines : List ℕ → List ℕ
-accepted_lines ns = flat_map accepted_line ns
 
 abbrev pub extract_word : ExtractReason → List ℕ
 extract_word extracting.NotSolid = codes "not-solid"

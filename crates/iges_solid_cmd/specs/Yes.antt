@@ -10,10 +10,11 @@ use Rattle.solid_check.specs.Accepted.{IsAccepted}
 use Rattle.solid_check.specs.Closed.{IsClosed}
 use Rattle.solid_check.specs.Laws.{upgraded_version}
 use Rattle.cert_maker.specs.Book.{solids_of}
-use Rattle.iges_solid_cmd.specs.declared.answer.Answer.TheVariants as answer
-use Rattle.iges_solid_cmd.specs.Texts.{accepted_line, accepted_lines}
+use Rattle.command_replies.specs.declared.answer.Answer.TheVariants as answer
+use Rattle.command_replies.specs.Texts.{accepted_line, accepted_lines}
 use Rattle.iges_params.specs.Limits.{FitsLimits}
-use Rattle.iges_solid_cmd.specs.Due.{OfCertify, OfCertifyAll, OfUpgrade, OfVerify, upgraded_for}
+use Rattle.certificate_commands.specs.Due.{OfUpgrade, OfVerify, upgraded_for}
+use Rattle.iges_solid_cmd.specs.Due.{OfCertify, OfCertifyAll}
 
 -- Of a certificate that isn't too large, of any version, yes is owed exactly where it is accepted; the lines name its solids.
 abbrev pub YesIsAccepted : Type 0

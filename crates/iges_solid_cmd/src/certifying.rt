@@ -1,10 +1,9 @@
 ghost use Rattle.iges_solid_cmd.specs.Due.{OfCertify, OfCertifyAll};
 ghost use Rattle.std.specs.Prelude.{IfOk};
 
-use crate::answer::Answer;
-use crate::reply::{Reply, failed, no_solid, solid_failed, too_large};
 use brep_walk::{WalkFault, walk};
 use cert_maker::{BookFault, MakeFault, certify, certify_all};
+use command_replies::{Answer, Reply, failed, no_solid, solid_failed, too_large};
 use iges_fields::{EntryNo, NoMemory};
 use iges_params::File;
 use std::alloc::Global;

@@ -2,8 +2,7 @@ ghost use Rattle.iges_solid_cmd.specs.Due.{OfExtract};
 ghost use Rattle.iges_solid_cmd.specs.Texts.{extract_word, no_extract_line};
 ghost use Rattle.std.specs.Prelude.{◌≡◌, IfOk};
 
-use crate::answer::Answer;
-use crate::reply::Reply;
+use command_replies::{Answer, Reply};
 use entry_references::ExtractReason;
 use iges_fields::{Bytes, EntryNo, FILE_LIMIT, NoMemory, Out, write_number};
 use iges_params::File;

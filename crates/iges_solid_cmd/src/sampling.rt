@@ -9,12 +9,11 @@ ghost use Rattle.sample_solids.specs.Laws.{faces_in};
 ghost use Rattle.sample_solids.specs.Sample.{sample};
 ghost use Rattle.std.specs.Prelude.{◌≡◌, ◌+◌, ◌<◌, ◌≤◌, drop, length, IfOk};
 
-use crate::answer::Answer;
-use crate::reply::Reply;
 use crate::showing::put_count;
 use brep_walk::{WalkFault, walk};
 use cert_lines::read_opening;
 use cert_maker::{MakeFault, certify};
+use command_replies::{Answer, Reply};
 use iges_fields::{Bytes, EntryNo, FILE_LIMIT, NoMemory, Out, write_number};
 use iges_params::{File, ReadFileFault, read_file};
 use iges_write::{WriteFileFault, write_file};

@@ -2,9 +2,8 @@ ghost use Rattle.iges_solid_cmd.specs.Due.{OfShow};
 ghost use Rattle.iges_solid_cmd.specs.Texts.{counted, loop_count as loops_of, shell_line, shell_lines_from, show_text};
 ghost use Rattle.std.specs.Prelude.{◌≡◌, ◌+◌, ◌<◌, ◌^◌, ◌++◌, drop, length, IfOk, OnOk};
 
-use crate::answer::Answer;
-use crate::reply::{Reply, failed};
 use brep_walk::{WalkFault, walk};
+use command_replies::{Answer, Reply, failed};
 use edge_uses::{Rows, rows};
 use iges_fields::{Bytes, EntryNo, NoMemory, Out, write_number};
 use iges_params::File;

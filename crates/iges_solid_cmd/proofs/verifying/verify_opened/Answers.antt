@@ -1,8 +1,0 @@
-use Rattle.std.proofs.Common.{refl}
-use Rattle.iges_solid_cmd.proofs.Judged.{opened_begun}
-use Rattle.iges_solid_cmd.proofs.verifying.verify_opened.Goals as goal
-
-pub returns-clause-found : goal.returns-clause-found
-returns-clause-found g c = λ before opened.
-    let three = rw c.if-is_of_one.false at c.is_of_one.ensures in
-    c.book_reply.ensures.found before (opened_begun c.args.file before _ c.args.piece.now c.args.opened _ opened three refl)
