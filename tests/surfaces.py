@@ -46,14 +46,15 @@ class Surface:
             sides += [(side, loop[(at + 1) % len(loop)], faces[-1][0]) for loop in loops for at, side in enumerate(loop)]
         rng.shuffle(sides)
         told = self.glued(sides)
-        for flag, loops in faces:
+        for face, (_, loops) in enumerate(faces):
             for at, loop in enumerate(loops):
-                if not loop:
-                    loops[at] = [((number, id(loop)), None, 1)]
-                    self.corners.of((number, id(loop)))
-                else:
-                    loops[at] = [(corner, *told[corner]) for corner in loop]
+                loops[at] = [(corner, *told[corner]) for corner in loop] or [self.point((number, face, at))]
         return faces
+
+    def point(self, corner):
+        """The one use of a loop without a side, which lies at a vertex of its own."""
+        self.corners.of(corner)
+        return corner, None, 1
 
     def glued(self, sides):
         """The edge and the tuple flag of each side, by the corner where it begins."""
