@@ -12,6 +12,8 @@ DONE, BAD_FILE, UNREAD, UNWRITTEN, NO_MEMORY, TOO_LARGE = 0, 3, 4, 5, 6, 8
 FILE_LIMIT = 164_000_000
 MESH = Small("mesh", 1, 3, 20)
 VALUES, STEP, MOST = 200, 4, 1 << 20
+# The program may need a little more to start from one run to the next, since the system places it at random.
+MARGIN, UNSTARTED = 40, 127
 LIMITED = 'ulimit -%s "$0" && exec "$@"'
 
 
@@ -33,6 +35,11 @@ def least(holds, low, high):
     return high
 
 
+def is_unstarted(got):
+    """Whether the C library couldn't be loaded."""
+    return got[1] == b"" and (got[0] == UNSTARTED or got[0] is not None and got[0] < 0)
+
+
 def address_space(runner, folder, forms):
     """From the least limit at which the program starts: status 6 and nothing written, or the full answer, and no other."""
     shell = Shell(runner)
@@ -45,9 +52,10 @@ def address_space(runner, folder, forms):
             full = runner.run(run.words)
             enough = least(lambda limit: shell.run("v", limit, run.words) == full, starts, MOST)
             for at in range(VALUES):
-                limit = starts + (enough + 10 * STEP - starts) * at // VALUES
+                limit = starts + (enough + MARGIN - starts) * at // VALUES
                 got = shell.run("v", limit, run.words)
-                yield f"{run.name}, with {limit} KB of address space: {got[0]} {got[1][:40]!r} {got[2][:60]!r}", got in (full, (NO_MEMORY, b"", b""))
+                held = got in (full, (NO_MEMORY, b"", b"")) or limit < starts + MARGIN and is_unstarted(got)
+                yield f"{run.name}, with {limit} KB of address space: {got[0]} {got[1][:40]!r} {got[2][:60]!r}", held
 
 
 def limited(words, output, limit, value, ignored=None):
