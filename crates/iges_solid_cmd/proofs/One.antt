@@ -22,7 +22,7 @@ use Rattle.iges_solid_cmd.specs.declared.form.FileCommand.TheVariants as of_file
 use Rattle.command_replies.specs.declared.answer.Answer.TheVariants as answer
 use Rattle.iges_solid_cmd.specs.Forms.{command_of, usage_line}
 use Rattle.command_replies.specs.Texts.{fail_line, solid_fail_text}
-use Rattle.iges_solid_cmd.specs.Texts.{no_extract_line, sample_line, solids_text}
+use Rattle.iges_solid_cmd.specs.Texts.{sample_line, solids_text}
 use Rattle.command_replies.specs.declared.answer.Answer.{Answer}
 use Rattle.command_replies.specs.Due.{Exactly, OfFile, Owed}
 use Rattle.iges_solid_cmd.specs.Due.{OfSolids, OfShow, OfCertify, OfCertifyAll, OfExtract, OfCompact, OfContents, OfSample, DueOf}

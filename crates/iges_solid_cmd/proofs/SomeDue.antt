@@ -8,7 +8,6 @@ use Rattle.solid_data.specs.declared.verdict.Failing.{Failing}
 use Rattle.solid_data.specs.declared.verdict.Verdict.{Verdict}
 use Rattle.solid_data.specs.declared.verdict.Verdict.TheVariants.{Closed, Fails}
 use Rattle.solid_data.specs.Obligations.{AllHold, FirstFalse}
-use Rattle.solid_data.proofs.Decisions.{Decided, decided_within}
 use Rattle.solid_data.proofs.ObligationsDecided.{all_or_first_false, some_verdict}
 use Rattle.brep_walk.specs.Places.{places}
 use Rattle.brep_walk.specs.SolidOf.{solid_of}
@@ -34,14 +33,14 @@ use Rattle.iges_solid_cmd.specs.declared.form.FileCommand.TheVariants as of_file
 use Rattle.command_replies.specs.declared.answer.Answer.TheVariants as answer
 use Rattle.iges_solid_cmd.specs.Forms.{command_of, usage_line, IsSized}
 use Rattle.command_replies.specs.Texts.{fail_line, no_solid_line, solid_fail_text}
-use Rattle.iges_solid_cmd.specs.Texts.{no_extract_line, sample_line, show_text, solids_text}
+use Rattle.iges_solid_cmd.specs.Texts.{sample_line, show_text, solids_text}
 use Rattle.command_replies.specs.Due.{Exactly}
-use Rattle.iges_solid_cmd.specs.Due.{OfShow, OfCertify, OfCertifyAll, OfExtract, OfContents, OfSample, DueOf}
+use Rattle.iges_solid_cmd.specs.Due.{OfShow, OfCertify, OfCertifyAll, OfContents, OfSample, DueOf}
 use Rattle.open_commands.proofs.SomeDue.{some_open, some_verify}
 use Rattle.orient_commands.proofs.SomeOwed.{orienting_due, verifying_due}
 use Rattle.iges_solid_cmd.specs.OneAnswer.{SomeAnswerIsOwed}
 use Rattle.iges_solid_cmd.proofs.FormWords.{sized}
-use Rattle.command_replies.proofs.SomeDue.{IsSome, longer, file_due}
+use Rattle.command_replies.proofs.SomeDue.{IsSome, file_due}
 use Rattle.certificate_commands.proofs.SomeDue.{verify_due, upgrade_due}
 
 show_due : (n : ℕ) (f : Contents) → IsSome (OfShow n f)

@@ -16,7 +16,6 @@ use Rattle.entry_references.specs.declared.fault.ExtractReason.{ExtractReason}
 use Rattle.solid_extract.specs.Extracted.{new_number, IsRefused, IsExtracted}
 use Rattle.solid_extract.proofs.One.{IsExtracted-unique, IsRefused-unique, IsExtracted-IsRefused}
 use Rattle.list_compact.specs.Dropped.{dropped}
-use Rattle.list_compact.specs.Compacted.{IsCompacted, IsMisplaced}
 use Rattle.list_compact.proofs.NotRefused.{not_refused}
 use Rattle.list_compact.proofs.OneAnswer.{only_file}
 use Rattle.command_replies.specs.declared.answer.Answer.{Answer}
