@@ -12,6 +12,8 @@ mod loops;
 #[cfg(test)]
 mod open_shell;
 #[cfg(test)]
+mod open_shell_commands;
+#[cfg(test)]
 mod orientation;
 #[cfg(test)]
 mod reach;

@@ -1,6 +1,6 @@
 ghost use Rattle.std.specs.Prelude.{◌≤◌, length};
 
-use brep_walk::{WalkFault, walk};
+use brep_walk::{WalkFault, walk, walk_shell};
 use iges_fields::EntryNo;
 use iges_params::{File, ReadFileFault, read_file};
 use solid_data::{Failing, Rule, ShellAt, Solid, VertexId, VertexKey};
@@ -20,6 +20,9 @@ const FACE: usize = 1458;
 
 const LOOP: usize = 1539;
 
+/// Where the number of the shell's form stands.
+pub(crate) const SHELL_FORM: usize = 444;
+
 // The file of a text; no clause goes further.
 fn read(alloc: Global, text: &[u8]) -> Result<File, ReadFileFault>
     requires { length text.now ≤ 2000 }
@@ -27,8 +30,8 @@ fn read(alloc: Global, text: &[u8]) -> Result<File, ReadFileFault>
     read_file(alloc, text)
 }
 
-// The ball with one byte changed.
-fn changed(alloc: Global, at: usize, byte: u8) -> Result<File, Fail> {
+/// The ball with one byte changed.
+pub(crate) fn changed(alloc: Global, at: usize, byte: u8) -> Result<File, Fail> {
     let mut text = Vec::from_slice(alloc, BALL)?;
     if at >= text.len() || text.len() > 2000 {
         return Err(Fail::from("no such byte"));
@@ -40,6 +43,11 @@ fn changed(alloc: Global, at: usize, byte: u8) -> Result<File, Fail> {
 // The solid of an entry; no clause goes further.
 fn solid(alloc: Global, file: &File, no: u32) -> Result<Solid, WalkFault> {
     walk(alloc, file, EntryNo(no))
+}
+
+// The solid that is the shell of an entry; no clause goes further.
+fn shell(alloc: Global, file: &File, no: u32) -> Result<Solid, WalkFault> {
+    walk_shell(alloc, file, EntryNo(no))
 }
 
 // What fails of solid 1 of the ball with one byte changed.
@@ -131,6 +139,29 @@ fn an_index_past_the_end(rt: HostRuntime) -> Result<(), Fail> {
     assert_eq!(rt;
         failing(rt.alloc(), LOOP + 10, b'2')?,
         fails(Rule::BadIndex, 7, 1)
+    );
+    Ok(())
+}
+
+#[test]
+fn an_open_shell_is_walked_by_itself(rt: HostRuntime) -> Result<(), Fail> {
+    let file = changed(rt.alloc(), SHELL_FORM, b'2')?;
+    let ball = shell(rt.alloc(), &file, 3)?;
+    assert_eq!(rt; ball.entity(), EntryNo(3));
+    assert_eq!(rt; ball.shell(ShellAt(0)).map(|shell| shell.flag), Some(true));
+    assert_eq!(rt;
+        solid(rt.alloc(), &file, 1).err(),
+        fails(Rule::WrongKind, 1, 1)
+    );
+    Ok(())
+}
+
+#[test]
+fn a_shell_of_form_3_is_of_no_kind(rt: HostRuntime) -> Result<(), Fail> {
+    let file = changed(rt.alloc(), SHELL_FORM, b'3')?;
+    assert_eq!(rt;
+        shell(rt.alloc(), &file, 3).err(),
+        fails(Rule::WrongKind, 3, 0)
     );
     Ok(())
 }
