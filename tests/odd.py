@@ -11,11 +11,12 @@ from commands import SMALL, Runs
 from spawned import Runner
 
 BAD_FILE, UNREAD, UNWRITTEN, NO_MEMORY, TOO_LARGE = 3, 4, 5, 6, 8
-SECONDS = 20
+SECONDS = 60
+GROWTHS = 1_000
 NOBODY = 65_534
-# A command that holds its certificate has that much of address space, in KB, where the certificate has no end.
+# A command that holds its certificate gets that much of address space, in KB, where the certificate has no end.
 ROOM = 200_000
-HOLDING = ("upgrade",)
+HOLDING = "upgrade", "open-verify", "orient-verify"
 MISSING = BAD_FILE, b"bad file line 1 missing\n", b""
 NOTHING_READ = UNREAD, b"", b""
 
@@ -129,7 +130,7 @@ def unreadable(runner, folder, forms):
 
 
 class Growing(threading.Thread):
-    """Appends lines of spaces to a file, which are allowed behind its last line, until it is told to stop."""
+    """Appends lines of spaces to a file, which are allowed behind its last line, until it is told to stop, or some megabytes."""
 
     def __init__(self, path):
         super().__init__(daemon=True)
@@ -137,13 +138,15 @@ class Growing(threading.Thread):
 
     def run(self):
         with open(self.path, "ab", buffering=0) as file:
-            while not self.is_over:
+            for _ in range(GROWTHS):
+                if self.is_over:
+                    return
                 file.write((b" " * 80 + b"\n") * 100)
                 time.sleep(0.000_1)
 
 
 def growing(runner, folder, forms):
-    """A file that grows while it is read is read as far as it has come: the same answer, or too large."""
+    """A file that grows while it is read is read as far as it has come: the same answer."""
     path = folder / "growing"
     for run in runs_of(runner, folder, forms):
         if run.file is not None:
@@ -153,7 +156,7 @@ def growing(runner, folder, forms):
             got = runner.run(placed(run, file=path))
             thread.is_over = True
             thread.join()
-            yield f"{run.name}, a file that grows", got in (runner.run(run.words), (TOO_LARGE, b"", b""))
+            yield f"{run.name}, a file that grows", got == runner.run(run.words)
 
 
 def odd_outputs(runner, folder, forms):
