@@ -84,7 +84,7 @@ def failing(command, run, of_solid, of_shell, refused):
     if word in ("extract", "compact") and refused:
         return 7, b"no extract %s\n" % refused.encode()
     if word in ("solids", "extract", "sample") or rule is None:
-        return 0, None
+        return (NO, b"line 2 unfit\n") if run.certificate else (0, None)
     part = b"solid 1\n" if run.kind == "version 3" or run.words[-1] == "all" else b""
     return NO, part + b"fail %s\n" % rule.encode()
 

@@ -8,9 +8,12 @@ from commands import SMALL, Runs, Small
 from sample_file import sample_text
 from spawned import Runner
 
-USAGE, UNREAD, UNWRITTEN, NO_MEMORY = 2, 4, 5, 6
+DONE, BAD_FILE, UNREAD, UNWRITTEN, NO_MEMORY, TOO_LARGE = 0, 3, 4, 5, 6, 8
+FILE_LIMIT = 164_000_000
 MESH = Small("mesh", 1, 3, 20)
 VALUES, STEP, MOST = 200, 4, 1 << 20
+# The program may need a little more to start from one run to the next, since the system places it at random.
+MARGIN, UNSTARTED = 40, 127
 LIMITED = 'ulimit -%s "$0" && exec "$@"'
 
 
@@ -32,6 +35,11 @@ def least(holds, low, high):
     return high
 
 
+def is_unstarted(got):
+    """Whether the C library couldn't be loaded."""
+    return got[1] == b"" and (got[0] == UNSTARTED or got[0] is not None and got[0] < 0)
+
+
 def address_space(runner, folder, forms):
     """From the least limit at which the program starts: status 6 and nothing written, or the full answer, and no other."""
     shell = Shell(runner)
@@ -44,9 +52,10 @@ def address_space(runner, folder, forms):
             full = runner.run(run.words)
             enough = least(lambda limit: shell.run("v", limit, run.words) == full, starts, MOST)
             for at in range(VALUES):
-                limit = starts + (enough + 10 * STEP - starts) * at // VALUES
+                limit = starts + (enough + MARGIN - starts) * at // VALUES
                 got = shell.run("v", limit, run.words)
-                yield f"{run.name}, with {limit} KB of address space: {got[0]} {got[1][:40]!r} {got[2][:60]!r}", got in (full, (NO_MEMORY, b"", b""))
+                held = got in (full, (NO_MEMORY, b"", b"")) or limit < starts + MARGIN and is_unstarted(got)
+                yield f"{run.name}, with {limit} KB of address space: {got[0]} {got[1][:40]!r} {got[2][:60]!r}", held
 
 
 def limited(words, output, limit, value, ignored=None):
@@ -92,4 +101,21 @@ def open_files(runner, folder, forms):
             yield f"{run.name}, with a stack of 64 KB", shell.run("s", 64, run.words) == full
 
 
-TABLES = [address_space, file_size, open_files]
+def file_limit(runner, folder, forms):
+    """A file of the most bytes and one of a byte more: good, with empty lines behind its last line, or a space; and bad."""
+    shell, path = Runner("/bin/sh"), Runs(runner, folder, forms).file(SMALL[0])
+    count = FILE_LIMIT - path.stat().st_size
+    good = f'{{ cat "{path}"; head -c %d /dev/zero | tr "\\0" "%s"; }} | exec "$0" solids /dev/stdin'
+    bad = 'head -c %d /dev/zero | exec "$0" solids /dev/stdin'
+    too_large = TOO_LARGE, b"", b""
+    for name, script, wanted in (
+        ("empty lines", good % (count, "\\n"), (DONE, b"1\n", b"")),
+        ("empty lines, a byte more", good % (count + 1, "\\n"), too_large),
+        ("spaces, a byte more", good % (count + 1, " "), too_large),
+        ("zeros", bad % FILE_LIMIT, (BAD_FILE, b"bad file line 1 length\n", b"")),
+        ("zeros, a byte more", bad % (FILE_LIMIT + 1), too_large),
+    ):
+        yield f"solids of a file of 164,000,000 bytes, {name}", shell.run(["-c", script, runner.program]) == wanted
+
+
+TABLES = [file_limit, address_space, file_size, open_files]

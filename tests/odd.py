@@ -116,6 +116,11 @@ def unreadable(runner, folder, forms):
     secret.write_bytes(b"")
     secret.chmod(0)
     user = {"user": NOBODY, "group": NOBODY, "extra_groups": []} if os.geteuid() == 0 else {}
+    try:
+        subprocess.run([program], capture_output=True, **user)
+    except PermissionError:
+        print("skipped: files that may not be read, since the temporary folder is one that others don't see")
+        return
     for run in runs_of(runner, folder, forms):
         for name, path in (("file", run.file), ("certificate", run.certificate)):
             if path is not None:

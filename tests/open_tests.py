@@ -1,11 +1,11 @@
-"""Open shells, made and of the examples: the program and the second checker (open_checker.py) judge them alike."""
+"""Open shells, made here and of the examples: the program and the second checker judge them alike."""
 import random
 import re
 
-import iges_file
-import open_checker
 from changes import changed
-from checker import records_of
+from second_checker import answer
+from second_checker.canonical import text_of
+from second_checker.reading import File
 from shapes import Grid, Surface, beside, disc, polygons, presented, torus
 
 SHELL = 15
@@ -57,53 +57,41 @@ def without_reach(certificate):
     return re.sub(rb"(?m)^R .*\n", b"", certificate)
 
 
-def judged(run, name, file, number):
-    """`open` answers the verdict of the second checker, or a certificate that differs from the checker's own in reach lines alone."""
-    records = records_of(file)
-    shell = open_checker.shell_of(records, number)
-    fails = open_checker.verdict(shell)
-    status, text = run.words(["open", "FILE", str(number)], file)
-    if fails:
-        yield f"{name}: open", (status, text.decode()) == (1, "fail {} {} {}\n".format(*fails))
-        return
-    wanted = open_checker.certificate(shell, number)
-    yield f"{name}: open", status == 0 and without_reach(text) == without_reach(wanted)
-    yield f"{name}: the checker", open_checker.answer(records, text) == f"accepted {number}\n"
-    for certificate in {text, wanted}:
-        yield f"{name}: open-verify", run.certificate("open-verify", file, certificate) == (0, b"accepted %d\n" % number, b"")
+def judged(program, name, file, number):
+    """`open` answers as the second checker does, but for reach lines. Both their certificates are accepted by both."""
+    words = ["open", "FILE", str(number)]
+    wanted, got = answer(words, file), program.words(words, file)
+    yield f"{name}: open", (got[0], without_reach(got[1])) == (wanted[0], without_reach(wanted[1]))
+    for certificate in {got[1], wanted[1]} if wanted[0] == 0 else []:
+        yield from checked(program, name, file, certificate, b"accepted %d\n" % number)
 
 
-def changes(run, rng, name, file, number, count):
-    """Changed certificates: `open-verify` answers what the second checker answers."""
-    records = records_of(file)
-    shell = open_checker.shell_of(records, number)
-    certificate = open_checker.certificate(shell, number) if open_checker.verdict(shell) is None else None
-    for n in range(count if certificate else 0):
-        text = changed(rng, certificate)
-        wanted = open_checker.answer(records, text)
-        got = run.certificate("open-verify", file, text)
-        yield f"{name}: open-verify of a certificate changed, {n}", got == (int(not wanted.startswith("accepted")), wanted.encode(), b"")
+def checked(program, name, file, certificate, accepted=None):
+    """`open-verify` answers as the second checker does, and what is wanted."""
+    wanted = answer(["open-verify", "FILE", "CERT"], file, certificate)
+    yield f"{name}: open-verify", program.certificate("open-verify", file, certificate) == (*wanted, b"") and accepted in (None, wanted[1])
 
 
-def made(run):
+def changes(program, rng, name, file, number, count):
+    """Changed certificates."""
+    status, certificate = answer(["open", "FILE", str(number)], file)
+    for n in range(count if status == 0 else 0):
+        yield from checked(program, f"{name}, certificate changed, {n}", file, changed(rng, certificate))
+
+
+def made(program):
     """Surfaces as the shell of a file, their faces turned in some; and certificates of another presentation."""
     rng = random.Random(514)
     for name, surface in surfaces().items():
         for n, turned in enumerate((0, 0, 0.15)):
             file = presented(rng, [surface], turned, form=1 + n % 2)
-            yield from judged(run, f"{name}, {n}", file, SHELL)
-            yield from changes(run, rng, f"{name}, {n}", file, SHELL, 25)
+            yield from judged(program, f"{name}, {n}", file, SHELL)
+            yield from changes(program, rng, f"{name}, {n}", file, SHELL, 25)
         other = presented(rng, [surface])
-        records = records_of(other)
-        shell = open_checker.shell_of(records_of(file), SHELL)
-        if open_checker.verdict(shell) is None:
-            text = open_checker.certificate(shell, SHELL)
-            wanted = open_checker.answer(records, text)
-            got = run.certificate("open-verify", other, text)
-            yield f"{name}: the certificate of another", got == (int(not wanted.startswith("accepted")), wanted.encode(), b"")
+        yield from checked(program, f"{name}, the certificate of another", other, answer(["open", "FILE", str(SHELL)], file)[1])
 
 
-def of_solids(run):
+def of_solids(program):
     """Each shell of solids with more than one, which share lists, and in one case a vertex."""
     rng = random.Random(186)
     for name, told, shared in (
@@ -113,33 +101,50 @@ def of_solids(run):
     ):
         file = presented(rng, told, shared=shared)
         for number in shells_in(file):
-            yield from judged(run, f"{name}, shell {number}", file, number)
-            yield from changes(run, rng, f"{name}, shell {number}", file, number, 15)
+            yield from judged(program, f"{name}, shell {number}", file, number)
+            yield from changes(program, rng, f"{name}, shell {number}", file, number, 15)
 
 
 def shells_in(data):
-    return [number for number, (kind, *_) in records_of(data).items() if kind == 514]
+    return [number for number, entry in File(data).entries.items() if entry.kind == 514]
 
 
-def of_examples(run, examples):
-    """Each shell of the examples, whole and with each of its faces taken away. A closed one has a certificate without a border."""
+def without_face(data, number, face):
+    """The file with a shell of form 2 that lacks a face, from 0."""
+    file = File(data)
+    shell = file.entries[number]
+    shell.values = [shell.values[0] - 1, *shell.values[1 : 1 + 2 * face], *shell.values[3 + 2 * face :]]
+    shell.form = 2
+    return text_of(file)
+
+
+def of_examples(program, examples):
+    """Each shell of the examples, whole and with each of its faces taken away."""
     rng = random.Random(2)
     for name, data in examples:
-        file = iges_file.read(data)
         for number in shells_in(data):
-            yield from judged(run, f"{name}, shell {number}", data, number)
-            yield from changes(run, rng, f"{name}, shell {number}", data, number, 40)
-            values = file.numbered()[number].values
-            for face in range(values[0] if values[0] > 1 else 0):
-                cut = file.copy()
-                cut.numbered()[number].values = [values[0] - 1, *values[1 : 1 + 2 * face], *values[3 + 2 * face :]]
-                cut.numbered()[number].fields["form"] = 2
-                without = iges_file.text_of(cut)
-                yield from judged(run, f"{name}, shell {number} without face {face + 1}", without, number)
-                yield from changes(run, rng, f"{name}, shell {number} without face {face + 1}", without, number, 3)
+            yield from judged(program, f"{name}, shell {number}", data, number)
+            yield from changes(program, rng, f"{name}, shell {number}", data, number, 40)
+            faces = File(data).entries[number].values[0]
+            for face in range(faces if faces > 1 else 0):
+                without = without_face(data, number, face)
+                yield from judged(program, f"{name}, shell {number} without face {face + 1}", without, number)
+                yield from changes(program, rng, f"{name}, shell {number} without face {face + 1}", without, number, 3)
 
 
-def checks(run, examples):
-    yield from made(run)
-    yield from of_solids(run)
-    yield from of_examples(run, examples)
+def of_closed_solids(program, examples):
+    """Each shell of a solid that `certify` calls closed is a sound sheet without a border."""
+    for name, data in examples:
+        for solid in File(data).solids():
+            if program.words(["certify", "FILE", str(solid)], data)[0] == 0:
+                values = File(data).entries[solid].values
+                for shell in [values[0], *values[3::2][: values[2]]]:
+                    status, text = program.words(["open", "FILE", str(shell)], data)
+                    yield f"{name}, shell {shell} of a closed solid", status == 0 and re.search(rb"(?m)^SHELL .* 0$", text) is not None
+
+
+def checks(program, examples):
+    yield from made(program)
+    yield from of_solids(program)
+    yield from of_examples(program, examples)
+    yield from of_closed_solids(program, examples)

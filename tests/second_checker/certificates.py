@@ -7,7 +7,7 @@ from .walking import Fail, walked
 
 SPELLED = re.compile(
     b"".join((
-        rb"(?:IGESCERT [123]|SOLID", NUMBER, rb"|SHELL(?:", NUMBER, rb"){5}|E(?:", NUMBER, rb"){2}|C(?:", NUMBER, rb")++",
+        rb"(?:IGESCERT [123]|SOLID", NUMBER, rb"|SHELL(?:", NUMBER, rb"){5}|E(?:", NUMBER, rb"){2}|C(?:", NUMBER, rb")+",
         rb"|I(?:", NUMBER, rb"){2}|R", NUMBER, rb"|TALLY(?:", NUMBER, rb"){4}|END)\n",
     ))  # fmt: skip
 ).fullmatch

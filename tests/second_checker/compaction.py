@@ -1,7 +1,7 @@
 """Compact extraction: an extracted solid whose lists of edges and of vertices hold only what is used, extracted again."""
 import copy
 
-from .extraction import extracted, renumbered
+from .extraction import renumbered
 from .records import FITTING
 from .walking import walked
 
@@ -57,12 +57,19 @@ class Used:
         return [len(items), *(value for item in items for value in item), *values[1 + width * count :]]
 
 
-def compacted(file, number):
-    """The compacted file of a solid; NoExtract or Fail where it is refused."""
+def compacted_with_names(file, number):
+    """The compacted file of a solid, its entries' new numbers, and the used items' new indices; NoExtract or Fail where it is refused."""
     alone, names = renumbered(file, number)
     walked(file, number)
     used, new = Used(alone), copy.copy(alone)
     new.entries = {number: copy.copy(entry) for number, entry in alone.entries.items()}
     for entry_number, entry in new.entries.items():
         entry.values = used.dropped(entry_number, alone.entries[entry_number])
-    return extracted(new, names[number])
+    last, names_again = renumbered(new, names[number])
+    old = {name: entry for entry, name in names.items()}
+    numbers = {old[name]: name_again for name, name_again in names_again.items()}
+    return last, numbers, {(old[name], index): rank for name, ranks in used.ranks.items() for index, rank in ranks.items()}
+
+
+def compacted(file, number):
+    return compacted_with_names(file, number)[0]

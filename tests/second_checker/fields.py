@@ -1,9 +1,9 @@
 """Numbers in columns, and the free format (docs/FORMAT.md, "Columns and free format")."""
 import re
 
-IN_COLUMNS = re.compile(rb" *+(?:[+-]?[0-9]++ *+)?").fullmatch
-INTEGER = re.compile(rb"[+-]?[0-9]++").fullmatch
-REAL = re.compile(rb"[+-]?(?:[0-9]++(?:\.[0-9]*+)?+|\.[0-9]++)(?:[EDed][+-]?[0-9]++)?+").fullmatch
+IN_COLUMNS = re.compile(rb" *(?:[+-]?[0-9]+ *)?").fullmatch
+INTEGER = re.compile(rb"[+-]?[0-9]+").fullmatch
+REAL = re.compile(rb"[+-]?(?:[0-9]+(?:\.[0-9]*)?|\.[0-9]+)(?:[EDed][+-]?[0-9]+)?").fullmatch
 LEAST, MOST = -(1 << 63), (1 << 63) - 1
 NO_DELIMITERS = frozenset(b"0123456789+-.DEHdeh")
 
@@ -63,8 +63,8 @@ class FreeText:
         self.parting, self.ending = parting, ending
         either = b"".join(b"\\x%02x" % byte for byte in (parting, ending))
         # Digits before an H; or any other word up to the next delimiter, with the spaces at its end, and the delimiter.
-        self.item = re.compile(b" *+(?:([0-9]++)H|([^" + either + b"]*+)([" + either + b"]))").match
-        self.spaces = re.compile(b" *+").match
+        self.item = re.compile(b" *(?:([0-9]+)H|([^" + either + b"]*)([" + either + b"]))").match
+        self.spaces = re.compile(b" *").match
 
     def values(self, text, start=0):
         """The values of the text from a place on; FieldFault where it holds none."""

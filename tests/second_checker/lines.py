@@ -1,7 +1,7 @@
 """The lines of a certificate or of an orientation, one after the other."""
 import re
 
-NUMBER = rb" (?:0|[1-9][0-9]{0,8}+)"
+NUMBER = rb" (?:0|[1-9][0-9]{0,8})"
 
 
 class BadLine(Exception):

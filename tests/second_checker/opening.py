@@ -1,4 +1,4 @@
-"""Certificates of open shells: a shell of form 1 or 2 whose edges are used once or twice (docs/OPEN.md)."""
+"""Certificates of open shells: a shell of form 1 or 2 whose edges are used once or twice (docs/CERTIFICATE.md, section 9)."""
 import re
 
 from .lines import NUMBER, Lines, text_of
@@ -8,7 +8,7 @@ from .walking import Fail, Walk
 FORMS = 1, 2
 SPELLED = re.compile(
     b"".join((
-        rb"(?:IGESOPEN 1|SHELL(?:", NUMBER, rb"){6}|E(?:", NUMBER, rb"){1,2}|[CPB](?:", NUMBER, rb")++",
+        rb"(?:IGESOPEN 1|SHELL(?:", NUMBER, rb"){6}|E(?:", NUMBER, rb"){1,2}|[CPB](?:", NUMBER, rb")+",
         rb"|I(?:", NUMBER, rb"){2}|R", NUMBER, rb"|END)\n",
     ))  # fmt: skip
 ).fullmatch

@@ -7,7 +7,7 @@ from .shells import Rows
 from .walking import Fail, walked
 
 DONE, NO = 0, 1
-SPELLED = re.compile(b"".join((rb"(?:ORIENT", NUMBER, rb"|F", NUMBER, rb"(?: [01])++|O(?:", NUMBER, rb"){2,}+|END)\n"))).fullmatch
+SPELLED = re.compile(b"".join((rb"(?:ORIENT", NUMBER, rb"|F", NUMBER, rb"(?: [01])+|O(?:", NUMBER, rb"){2,}|END)\n"))).fullmatch
 
 
 class Partners:

@@ -319,7 +319,7 @@ fn tells_the_usage_and_reads_nothing(rt: HostRuntime) -> Result<(), Fail> {
         given,
         (
             2,
-            b"usage: igesolid solids FILE | show FILE N | certify FILE N | verify FILE CERT | extract FILE N | sample N | upgrade FILE CERT | certify FILE all\n",
+            b"usage: igesolid solids FILE | show FILE N | certify FILE N | verify FILE CERT | extract FILE N | sample N | upgrade FILE CERT | certify FILE all | open FILE N | open-verify FILE CERT | orient FILE N | orient-verify FILE CERT | compact FILE N\n",
         ),
     )
 }

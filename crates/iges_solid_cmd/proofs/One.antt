@@ -1,7 +1,9 @@
 -- What is owed is one answer with one text.
-use Rattle.std.proofs.Common.{◌≡◌, ◌<◌, length, inl, inr, ℕ, List, [], Option, Some, None, sym, ap, subst, ◌∙◌, arith}
-use Rattle.std.specs.Prelude.{◌*◌, MatchOption}
+use Rattle.std.proofs.Common.{◌≡◌, ◌<◌, ◌⊎◌, length, inl, inr, ℕ, List, [], Option, Some, None, sym, ap, subst, ◌∙◌, arith}
+use Rattle.std.specs.Prelude.{◌*◌, MatchOption, IsSomeAnd}
 use Rattle.iges_params.specs.Contents.{Contents}
+use Rattle.iges_params.proofs.Answers.{ok_is}
+use Rattle.iges_params.proofs.FileExact.{IsFile-read_file}
 use Rattle.solid_data.proofs.ObligationLemmas.{FirstFalse-one, FirstFalse-not_all}
 use Rattle.brep_walk.specs.Places.{places}
 use Rattle.cert_maker.specs.Book.{FirstUnmade, solids_of}
@@ -9,10 +11,7 @@ use Rattle.cert_maker.specs.declared.book.BookFault.{BookFault}
 use Rattle.cert_maker.specs.declared.book.BookFault.TheVariants as maker
 use Rattle.cert_maker.proofs.BookMade.{one_text_of_book}
 use Rattle.cert_maker.proofs.Unmade.{none_unmade, one_unmade}
-use Rattle.iges_write.specs.Text.{IsText}
-use Rattle.iges_write.proofs.FileBack.{one_text}
-use Rattle.solid_extract.specs.Extracted.{IsExtracted}
-use Rattle.solid_extract.proofs.One.{IsExtracted-unique, IsRefused-unique, IsExtracted-IsRefused}
+use Rattle.iges_solid_cmd.proofs.WrittenFiles.{text_is, one_extract, one_compact}
 use Rattle.solid_check.specs.Closed.{obligations}
 use Rattle.cert_maker.proofs.OneText.{one_text as one_certificate}
 use Rattle.sample_solids.specs.Sample.{sample}
@@ -23,11 +22,17 @@ use Rattle.iges_solid_cmd.specs.declared.form.FileCommand.TheVariants as of_file
 use Rattle.command_replies.specs.declared.answer.Answer.TheVariants as answer
 use Rattle.iges_solid_cmd.specs.Forms.{command_of, usage_line}
 use Rattle.command_replies.specs.Texts.{fail_line, solid_fail_text}
-use Rattle.iges_solid_cmd.specs.Texts.{no_extract_line, sample_line, solids_text}
-use Rattle.command_replies.specs.Due.{Exactly}
-use Rattle.iges_solid_cmd.specs.Due.{OfShow, OfCertify, OfCertifyAll, OfExtract, OfContents, OfSample, DueOf}
-use Rattle.iges_solid_cmd.specs.OneAnswer.{OneAnswerIsOwed}
-use Rattle.command_replies.proofs.One.{IsOne, exactly_one, file_one}
+use Rattle.iges_solid_cmd.specs.Texts.{sample_line, solids_text}
+use Rattle.command_replies.specs.declared.answer.Answer.{Answer}
+use Rattle.command_replies.specs.Due.{Exactly, OfFile, Owed}
+use Rattle.iges_solid_cmd.specs.Due.{OfSolids, OfShow, OfCertify, OfCertifyAll, OfExtract, OfCompact, OfContents, OfSample, DueOf}
+use Rattle.iges_solid_cmd.specs.OneAnswer.{MayDiffer, OneAnswerIsOwed}
+use Rattle.command_replies.proofs.One.{IsOne, exactly_one, no_file, no_file_one, owed_none}
+use Rattle.open_commands.specs.Due.{OfOpen, OfOpenVerify}
+use Rattle.open_commands.proofs.One.{one_open, one_verify}
+use Rattle.orient_commands.specs.Due.{OfOrient, OfOrientVerify}
+use Rattle.orient_commands.proofs.OneOwed.{orienting_one, verifying_one}
+use Rattle.certificate_commands.specs.Due.{OfUpgrade, OfVerify}
 use Rattle.certificate_commands.proofs.One.{verify_one, upgrade_one}
 
 show_one : (n : ℕ) (f : Contents) → IsOne (OfShow n f)
@@ -72,39 +77,43 @@ module _ (f : Contents) where
   all_one a b t u (inr (inr (inr (some, made, e, g)))) (inr (inr (inl (m, q, d)))) = absurd (none_unmade f 0 (solids_of f) (maker.TooMany m) made q)
   all_one a b t u (inr (inr (inr (some, made, text, done)))) (inr (inr (inr (more, every, other, finished)))) = (done ∙ sym finished, one_text_of_book f t u text other)
 
--- a file has one text
-text_is : (f : Contents) (t u : List ℕ) → IsText f t → IsText f u → t ≡ u
-text_is f t u p q = let one = one_text f in one.2 t p ∙ sym (one.2 u q)
+-- at most one answer is owed, and one text but for how the command lets them differ
+abbrev IsAlike : Command → Owed → Type 0
+IsAlike c owed = (a b : Answer) (t u : List ℕ) → owed a t → owed b u → (a ≡ b) × ((t ≡ u) ⊎ MayDiffer c a t u)
 
--- the texts of the two extracted files are one
-extracted_is : (f : Contents) (n : ℕ) (a b : Contents) (t u : List ℕ) → IsExtracted f n a → IsText a t → IsExtracted f n b → IsText b u → t ≡ u
-extracted_is f n a b t u x p y q = text_is b t u (subst (λ (g : Contents). IsText g t) (IsExtracted-unique f n a b x y) p) q
+alike : (c : Command) (owed : Owed) → IsOne owed → IsAlike c owed
+alike c owed one a b t u p q = let same = one a b t u p q in (same.0, inl same.1)
 
-extract_one : (n : ℕ) (f : Contents) → IsOne (OfExtract n f)
-extract_one n f a b t u (inl (e, r, p, x)) (inl (k, s, q, y)) =
-    let same = IsRefused-unique f n e k r s p q in
-    (x.0 ∙ sym y.0, x.1 ∙ ap (λ i. no_extract_line i r) same.0 ∙ ap (no_extract_line k) same.1 ∙ sym y.1)
-extract_one n f a b t u (inl (e, r, p, x)) (inr (inl q)) = absurd (IsExtracted-IsRefused f n q.0 e r q.2 p)
-extract_one n f a b t u (inl (e, r, p, x)) (inr (inr q)) = absurd (IsExtracted-IsRefused f n q.0 e r q.2 p)
-extract_one n f a b t u (inr (inl p)) (inl (k, s, q, y)) = absurd (IsExtracted-IsRefused f n p.0 k s p.2 q)
-extract_one n f a b t u (inr (inr p)) (inl (k, s, q, y)) = absurd (IsExtracted-IsRefused f n p.0 k s p.2 q)
-extract_one n f a b t u (inr (inl p)) (inr (inl q)) = (p.5.0 ∙ sym q.5.0, p.5.1 ∙ sym q.5.1)
-extract_one n f a b t u (inr (inl p)) (inr (inr q)) =
-    let same = ap (λ (xs : List ℕ). length xs) (extracted_is f n p.0 q.0 p.1 q.1 p.2 p.3 q.2 q.3) in
-    absurd (omega (arith, p.4, q.4, same))
-extract_one n f a b t u (inr (inr p)) (inr (inl q)) =
-    let same = ap (λ (xs : List ℕ). length xs) (extracted_is f n p.0 q.0 p.1 q.1 p.2 p.3 q.2 q.3) in
-    absurd (omega (arith, p.4, q.4, same))
-extract_one n f a b t u (inr (inr p)) (inr (inr q)) = (p.5.0 ∙ sym q.5.0, p.5.1 ∙ extracted_is f n p.0 q.0 p.1 q.1 p.2 p.3 q.2 q.3 ∙ sym q.5.1)
+open_alike : (n : ℕ) (f : Contents) → IsAlike (command.File (of_file.Open n)) (OfOpen n f)
+open_alike n f a b t u (inl p) q = let same = one_open n f a b t u (inl p) q in (same.0, inl (same.1 p.2.0))
+open_alike n f a b t u (inr (inl p)) q = let same = one_open n f a b t u (inr (inl p)) q in (same.0, inl (same.1 p.2.0))
+open_alike n f a b t u (inr (inr p)) q = let same = one_open n f a b t u (inr (inr p)) q in (same.0, inr p.2)
 
-contents_one : (c : FileCommand) (certificate : List ℕ) (f : Contents) → IsOne (OfContents c certificate f)
-contents_one of_file.Solids certificate f = exactly_one answer.Done (solids_text f)
-contents_one (of_file.Show n) certificate f = show_one n f
-contents_one (of_file.Certify n) certificate f = certify_one n f
-contents_one of_file.CertifyAll certificate f = all_one f
-contents_one of_file.Verify certificate f = verify_one certificate f
-contents_one of_file.Upgrade certificate f = upgrade_one certificate f
-contents_one (of_file.Extract n) certificate f = extract_one n f
+orient_alike : (n : ℕ) (f : Contents) → IsAlike (command.File (of_file.Orient n)) (OfOrient n f)
+orient_alike n f a b t u p q = let same = orienting_one n f a b t u p q in (same.0, inr same.1)
+
+contents_one : (c : FileCommand) (certificate : List ℕ) (f : Contents) → IsAlike (command.File c) (OfContents c certificate f)
+contents_one of_file.Solids certificate f = alike (command.File of_file.Solids) (OfSolids f) (exactly_one answer.Done (solids_text f))
+contents_one (of_file.Show n) certificate f = alike (command.File (of_file.Show n)) (OfShow n f) (show_one n f)
+contents_one (of_file.Certify n) certificate f = alike (command.File (of_file.Certify n)) (OfCertify n f) (certify_one n f)
+contents_one of_file.CertifyAll certificate f = alike (command.File of_file.CertifyAll) (OfCertifyAll f) (all_one f)
+contents_one of_file.Verify certificate f = alike (command.File of_file.Verify) (OfVerify certificate f) (verify_one certificate f)
+contents_one of_file.Upgrade certificate f = alike (command.File of_file.Upgrade) (OfUpgrade certificate f) (upgrade_one certificate f)
+contents_one (of_file.Extract n) certificate f = alike (command.File (of_file.Extract n)) (OfExtract n f) (one_extract n f)
+contents_one (of_file.Open n) certificate f = open_alike n f
+contents_one of_file.OpenVerify certificate f = alike (command.File of_file.OpenVerify) (OfOpenVerify certificate f) (one_verify certificate f)
+contents_one (of_file.Orient n) certificate f = orient_alike n f
+contents_one of_file.OrientVerify certificate f = alike (command.File of_file.OrientVerify) (OfOrientVerify certificate f) (verifying_one certificate f)
+contents_one (of_file.Compact n) certificate f = alike (command.File (of_file.Compact n)) (OfCompact n f) (one_compact n f)
+
+-- of a file, or of bytes that are none
+file_alike : (c : Command) (bytes : List ℕ) (owed : Contents → Owed) → ((f : Contents) → IsAlike c (owed f)) → IsAlike c (OfFile bytes owed)
+file_alike c bytes owed one a b t u (inl p) (inl q) = let same = no_file_one bytes a b t u p q in (same.0, inl same.1)
+file_alike c bytes owed one a b t u (inl p) (inr q) = absurd (no_file bytes q.1 (owed_none bytes a t p) q.0 q.2)
+file_alike c bytes owed one a b t u (inr p) (inl q) = absurd (no_file bytes p.1 (owed_none bytes b u q) p.0 p.2)
+file_alike c bytes owed one a b t u (inr p) (inr q) =
+    let same : p.1 ≡ q.1 = ok_is p.1 q.1 (sym (IsFile-read_file bytes p.1 p.2) ∙ IsFile-read_file bytes q.1 q.2) in
+    one q.1 a b t u (subst (λ (f : Contents). owed f a t) same p.3) q.3
 
 -- the lengths of one text and of one certificate
 sample_one : (n : ℕ) → IsOne (OfSample n)
@@ -114,13 +123,14 @@ sample_one n a b t u p q =
     let line : ℕ → ℕ → List ℕ = sample_line n (n * n) (2 * n * n) (n * n) in
     (p.4.0 ∙ sym q.4.0, p.4.1 ∙ (ap (λ k. line k (length p.1)) texts ∙ (ap (line (length q.0)) certificates ∙ sym q.4.1)))
 
-due_of_one : (c : Command) (file certificate : List ℕ) → IsOne (DueOf c file certificate)
-due_of_one (command.File c) file certificate = file_one file (OfContents c certificate) (contents_one c certificate)
-due_of_one (command.Sample n) file certificate = sample_one n
+due_of_one : (c : Command) (file certificate : List ℕ) → IsAlike c (DueOf c file certificate)
+due_of_one (command.File c) file certificate = file_alike (command.File c) file (OfContents c certificate) (contents_one c certificate)
+due_of_one (command.Sample n) file certificate = alike (command.Sample n) (OfSample n) (sample_one n)
 
 pub due_one : OneAnswerIsOwed
 due_one words file certificate a b t u p q = by_command (command_of words) p q
   where
-    by_command : (o : Option Command) → MatchOption o (Exactly answer.Usage usage_line a t) (λ c. DueOf c file certificate a t) → MatchOption o (Exactly answer.Usage usage_line b u) (λ c. DueOf c file certificate b u) → (a ≡ b) × (t ≡ u)
-    by_command None p q = (p.0 ∙ sym q.0, p.1 ∙ sym q.1)
+    by_command : (o : Option Command) → MatchOption o (Exactly answer.Usage usage_line a t) (λ c. DueOf c file certificate a t) → MatchOption o (Exactly answer.Usage usage_line b u) (λ c. DueOf c file certificate b u)
+        → (a ≡ b) × ((t ≡ u) ⊎ IsSomeAnd o (λ c. MayDiffer c a t u))
+    by_command None p q = (p.0 ∙ sym q.0, inl (p.1 ∙ sym q.1))
     by_command (Some c) p q = due_of_one c file certificate a b t u p q

@@ -8,7 +8,6 @@ use Rattle.solid_data.specs.declared.verdict.Failing.{Failing}
 use Rattle.solid_data.specs.declared.verdict.Verdict.{Verdict}
 use Rattle.solid_data.specs.declared.verdict.Verdict.TheVariants.{Closed, Fails}
 use Rattle.solid_data.specs.Obligations.{AllHold, FirstFalse}
-use Rattle.solid_data.proofs.Decisions.{Decided, decided_within}
 use Rattle.solid_data.proofs.ObligationsDecided.{all_or_first_false, some_verdict}
 use Rattle.brep_walk.specs.Places.{places}
 use Rattle.brep_walk.specs.SolidOf.{solid_of}
@@ -22,10 +21,8 @@ use Rattle.cert_maker.proofs.SomeBook.{some_book}
 use Rattle.cert_maker.proofs.SomeText.{some_text}
 use Rattle.cert_maker.proofs.Unmade.{made_or_unmade}
 use Rattle.solid_check.proofs.Decided.{obligations_decided}
-use Rattle.iges_write.proofs.FileBack.{one_text}
 use Rattle.iges_write.proofs.Made.{can_be_made}
-use Rattle.solid_extract.specs.Extracted.{IsRefused, IsExtracted}
-use Rattle.entry_references.specs.declared.fault.ExtractReason.{ExtractReason}
+use Rattle.iges_solid_cmd.proofs.WrittenFiles.{some_extract, some_compact}
 use Rattle.sample_solids.specs.Sample.{sample}
 use Rattle.sample_solids.proofs.Closed.{closed}
 use Rattle.sample_solids.proofs.ReadBack.{has_text}
@@ -36,13 +33,14 @@ use Rattle.iges_solid_cmd.specs.declared.form.FileCommand.TheVariants as of_file
 use Rattle.command_replies.specs.declared.answer.Answer.TheVariants as answer
 use Rattle.iges_solid_cmd.specs.Forms.{command_of, usage_line, IsSized}
 use Rattle.command_replies.specs.Texts.{fail_line, no_solid_line, solid_fail_text}
-use Rattle.iges_solid_cmd.specs.Texts.{no_extract_line, sample_line, show_text, solids_text}
+use Rattle.iges_solid_cmd.specs.Texts.{sample_line, show_text, solids_text}
 use Rattle.command_replies.specs.Due.{Exactly}
-use Rattle.iges_solid_cmd.specs.Due.{OfShow, OfCertify, OfCertifyAll, OfExtract, OfContents, OfSample, DueOf}
+use Rattle.iges_solid_cmd.specs.Due.{OfShow, OfCertify, OfCertifyAll, OfContents, OfSample, DueOf}
+use Rattle.open_commands.proofs.SomeDue.{some_open, some_verify}
+use Rattle.orient_commands.proofs.SomeOwed.{orienting_due, verifying_due}
 use Rattle.iges_solid_cmd.specs.OneAnswer.{SomeAnswerIsOwed}
-use Rattle.iges_solid_cmd.proofs.ExtractionDecided.{extracted_or_refused}
 use Rattle.iges_solid_cmd.proofs.FormWords.{sized}
-use Rattle.command_replies.proofs.SomeDue.{IsSome, longer, file_due}
+use Rattle.command_replies.proofs.SomeDue.{IsSome, file_due}
 use Rattle.certificate_commands.proofs.SomeDue.{verify_due, upgrade_due}
 
 show_due : (n : ℕ) (f : Contents) → IsSome (OfShow n f)
@@ -83,17 +81,6 @@ all_due f bytes few is = by_solids (solids_of f) refl (made_or_unmade f 0 (solid
         (answer.Done, text.0, inr (inr (inr ((let long = ap (λ (xs : List ℕ). length xs) some in let above : 0 < length (solids_of f) = omega (arith, long) in above), made, text.1, refl))))
     by_solids (n ∷ ns) some (inr (fault, first)) = by_fault fault first
 
-extract_due : (n : ℕ) (f : Contents) → IsSome (OfExtract n f)
-extract_due n f = by_answer (extracted_or_refused f n)
-  where
-    by_answer : ((new : Contents) × IsExtracted f n new) ⊎ ((entity : ℕ) × (why : ExtractReason) × IsRefused f n entity why) → IsSome (OfExtract n f)
-    by_answer (inr (entity, why, refused)) = (answer.NoExtract, no_extract_line entity why, inl (entity, why, refused, (refl, refl)))
-    by_answer (inl (new, extracted)) = by_limit (decided_within (length (one_text new).0) FILE_LIMIT)
-      where
-        by_limit : Decided (length (one_text new).0 ≤ FILE_LIMIT) → IsSome (OfExtract n f)
-        by_limit (inl few) = (answer.Done, (one_text new).0, inr (inr (new, (one_text new).0, extracted, (one_text new).1, few, (refl, refl))))
-        by_limit (inr more) = (answer.TooLarge, [], inr (inl (new, (one_text new).0, extracted, (one_text new).1, longer (length (one_text new).0) FILE_LIMIT more, (refl, refl))))
-
 contents_due : (c : FileCommand) (certificate : List ℕ) (f : Contents) (bytes : List ℕ) → length bytes ≤ FILE_LIMIT → IsFile bytes f → IsSome (OfContents c certificate f)
 contents_due of_file.Solids certificate f bytes few is = (answer.Done, solids_text f, (refl, refl))
 contents_due (of_file.Show n) certificate f bytes few is = show_due n f
@@ -101,7 +88,12 @@ contents_due (of_file.Certify n) certificate f bytes few is = certify_due n f by
 contents_due of_file.CertifyAll certificate f bytes few is = all_due f bytes few is
 contents_due of_file.Verify certificate f bytes few is = verify_due certificate f
 contents_due of_file.Upgrade certificate f bytes few is = upgrade_due certificate f
-contents_due (of_file.Extract n) certificate f bytes few is = extract_due n f
+contents_due (of_file.Extract n) certificate f bytes few is = some_extract n f
+contents_due (of_file.Open n) certificate f bytes few is = some_open n f (can_be_made bytes f few is).made.limits
+contents_due of_file.OpenVerify certificate f bytes few is = some_verify certificate f
+contents_due (of_file.Orient n) certificate f bytes few is = orienting_due n f (can_be_made bytes f few is).made.limits
+contents_due of_file.OrientVerify certificate f bytes few is = verifying_due certificate f
+contents_due (of_file.Compact n) certificate f bytes few is = some_compact n f
 
 sample_due : (n : ℕ) → 3 ≤ n → n ≤ 200 → IsSome (OfSample n)
 sample_due n low high =

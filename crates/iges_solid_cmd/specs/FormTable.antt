@@ -25,6 +25,11 @@ command_for kind.CertifyAll n = command.File of_file.CertifyAll
 command_for kind.Verify n = command.File of_file.Verify
 command_for kind.Upgrade n = command.File of_file.Upgrade
 command_for kind.Extract n = command.File (of_file.Extract n)
+command_for kind.Open n = command.File (of_file.Open n)
+command_for kind.OpenVerify n = command.File of_file.OpenVerify
+command_for kind.Orient n = command.File (of_file.Orient n)
+command_for kind.OrientVerify n = command.File of_file.OrientVerify
+command_for kind.Compact n = command.File (of_file.Compact n)
 command_for kind.Sample n = command.Sample n
 
 abbrev pub form_meant : Row → Form

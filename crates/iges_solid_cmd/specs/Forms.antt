@@ -36,7 +36,12 @@ forms =
     record { slots = word (codes "extract") ∷ file ∷ entry_number ∷ []; command = λ n. command.File (of_file.Extract n) } ∷
     record { slots = word (codes "sample") ∷ sample_number ∷ []; command = λ n. command.Sample n } ∷
     record { slots = word (codes "upgrade") ∷ file ∷ certificate ∷ []; command = λ _. command.File of_file.Upgrade } ∷
-    record { slots = word (codes "certify") ∷ file ∷ word (codes "all") ∷ []; command = λ _. command.File of_file.CertifyAll } ∷ []
+    record { slots = word (codes "certify") ∷ file ∷ word (codes "all") ∷ []; command = λ _. command.File of_file.CertifyAll } ∷
+    record { slots = word (codes "open") ∷ file ∷ entry_number ∷ []; command = λ n. command.File (of_file.Open n) } ∷
+    record { slots = word (codes "open-verify") ∷ file ∷ certificate ∷ []; command = λ _. command.File of_file.OpenVerify } ∷
+    record { slots = word (codes "orient") ∷ file ∷ entry_number ∷ []; command = λ n. command.File (of_file.Orient n) } ∷
+    record { slots = word (codes "orient-verify") ∷ file ∷ certificate ∷ []; command = λ _. command.File of_file.OrientVerify } ∷
+    record { slots = word (codes "compact") ∷ file ∷ entry_number ∷ []; command = λ n. command.File (of_file.Compact n) } ∷ []
 
 -- ---- reading words
 
@@ -105,6 +110,8 @@ takes_file (command.Sample n) = false
 abbrev pub takes_certificate : Command → Bool
 takes_certificate (command.File of_file.Verify) = true
 takes_certificate (command.File of_file.Upgrade) = true
+takes_certificate (command.File of_file.OpenVerify) = true
+takes_certificate (command.File of_file.OrientVerify) = true
 takes_certificate _ = false
 
 -- the sizes of samples

@@ -1,10 +1,10 @@
-ghost use Rattle.iges_solid_cmd.specs.Due.{OfExtract};
+ghost use Rattle.iges_solid_cmd.specs.Due.{OfExtract, OfWritten};
 ghost use Rattle.iges_solid_cmd.specs.Texts.{extract_word, no_extract_line};
 ghost use Rattle.std.specs.Prelude.{◌≡◌, IfOk};
 
-use command_replies::{Answer, Reply};
+use command_replies::{Answer, Reply, too_large};
 use entry_references::ExtractReason;
-use iges_fields::{Bytes, EntryNo, FILE_LIMIT, NoMemory, Out, write_number};
+use iges_fields::{EntryNo, FILE_LIMIT, NoMemory, Out, write_number};
 use iges_params::File;
 use iges_write::{WriteFileFault, write_file};
 use solid_extract::{ExtractFault, extract};
@@ -21,8 +21,8 @@ fn word_of(reason: ExtractReason) -> &'static str
     }
 }
 
-// The reply for a solid that can't be extracted.
-fn refused(alloc: Global, entity: EntryNo, reason: ExtractReason) -> Result<Reply, NoMemory>
+/// The reply for a solid that can't be extracted.
+pub fn refused(alloc: Global, entity: EntryNo, reason: ExtractReason) -> Result<Reply, NoMemory>
     ensures { IfOk result (λ reply. (reply.answer ≡ Answer.NoExtract) × (reply.text ≡ no_extract_line entity.0 reason)) }
 {
     let mut out = Out::new(alloc);
@@ -37,6 +37,20 @@ fn refused(alloc: Global, entity: EntryNo, reason: ExtractReason) -> Result<Repl
     })
 }
 
+/// The reply that is the text of a file, or that this is too large.
+pub fn written(alloc: Global, file: File) -> Result<Reply, NoMemory>
+    ensures { IfOk result (λ reply. OfWritten file reply.answer reply.text) }
+{
+    match write_file(alloc, &file, FILE_LIMIT) {
+        Ok(text) => Ok(Reply {
+            answer: Answer::Done,
+            text,
+        }),
+        Err(WriteFileFault::TooLarge) => Ok(too_large(alloc)),
+        Err(WriteFileFault::NoMemory) => Err(NoMemory),
+    }
+}
+
 /// The file of a solid alone, with all that it refers to, or why there is none.
 pub fn extract_solid(alloc: Global, file: File, no: u32) -> Result<Reply, NoMemory>
     ensures { IfOk result (λ reply. OfExtract no file reply.answer reply.text) }
@@ -48,15 +62,5 @@ pub fn extract_solid(alloc: Global, file: File, no: u32) -> Result<Reply, NoMemo
     };
     // The text needs the room that the file takes.
     drop(file);
-    match write_file(alloc, &extracted, FILE_LIMIT) {
-        Ok(text) => Ok(Reply {
-            answer: Answer::Done,
-            text,
-        }),
-        Err(WriteFileFault::TooLarge) => Ok(Reply {
-            answer: Answer::TooLarge,
-            text: Bytes::from_vec(Vec::new(alloc)),
-        }),
-        Err(WriteFileFault::NoMemory) => Err(NoMemory),
-    }
+    written(alloc, extracted)
 }

@@ -23,6 +23,17 @@ pub enum FileCommand {
     Upgrade,
     /// A file of a solid alone, named by its directory number, with all that it refers to.
     Extract(u32),
+    /// A certificate that a shell, named by its directory number, is sound as an open one.
+    Open(u32),
+    /// Whether a certificate of an open shell is accepted for a file.
+    OpenVerify,
+    /// Face flags under which each edge of a solid, named by its directory number, is used in opposite directions, or a
+    /// ring of faces for which there are none.
+    Orient(u32),
+    /// Whether an orientation fits a file.
+    OrientVerify,
+    /// A file of a solid alone, named by its directory number, whose lists hold only what it uses.
+    Compact(u32),
 }
 
 /// A command that the words ask for (own).
@@ -44,6 +55,11 @@ pub enum CommandKind {
     Verify,
     Upgrade,
     Extract,
+    Open,
+    OpenVerify,
+    Orient,
+    OrientVerify,
+    Compact,
     Sample,
 }
 
@@ -88,6 +104,26 @@ const FORMS: &[Form] = &[
         slots: &[Slot::Word("certify"), Slot::File, Slot::Word("all")],
         kind: CommandKind::CertifyAll,
     },
+    Form {
+        slots: &[Slot::Word("open"), Slot::File, ENTRY_NUMBER],
+        kind: CommandKind::Open,
+    },
+    Form {
+        slots: &[Slot::Word("open-verify"), Slot::File, Slot::Certificate],
+        kind: CommandKind::OpenVerify,
+    },
+    Form {
+        slots: &[Slot::Word("orient"), Slot::File, ENTRY_NUMBER],
+        kind: CommandKind::Orient,
+    },
+    Form {
+        slots: &[Slot::Word("orient-verify"), Slot::File, Slot::Certificate],
+        kind: CommandKind::OrientVerify,
+    },
+    Form {
+        slots: &[Slot::Word("compact"), Slot::File, ENTRY_NUMBER],
+        kind: CommandKind::Compact,
+    },
 ];
 
 impl CommandKind {
@@ -103,6 +139,11 @@ impl CommandKind {
             CommandKind::Verify => Command::File(FileCommand::Verify),
             CommandKind::Upgrade => Command::File(FileCommand::Upgrade),
             CommandKind::Extract => Command::File(FileCommand::Extract(n)),
+            CommandKind::Open => Command::File(FileCommand::Open(n)),
+            CommandKind::OpenVerify => Command::File(FileCommand::OpenVerify),
+            CommandKind::Orient => Command::File(FileCommand::Orient(n)),
+            CommandKind::OrientVerify => Command::File(FileCommand::OrientVerify),
+            CommandKind::Compact => Command::File(FileCommand::Compact(n)),
             CommandKind::Sample => Command::Sample(n),
         }
     }

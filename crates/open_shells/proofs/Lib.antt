@@ -32,3 +32,4 @@ pub mod PartsMade
 pub mod Complete
 pub mod LinesDecided
 pub mod RulesDecided
+pub mod ClosedShells

@@ -3,8 +3,10 @@ use Rattle.std.specs.Prelude.{◌≡◌, ℕ, ◌-◌, ◌==◌, ◌↔◌, List
 use Rattle.std.specs.List.{AllByRecursion, AllZip}
 use Rattle.solid_data.specs.Numbering.{IsNumberedSolid}
 use Rattle.solid_data.specs.SolidData.{SolidData}
-use Rattle.edge_uses.specs.ShellRows.{ShellRows}
-use Rattle.open_shells.specs.Sound.{IsBorder, IsBorderCycleOf}
+use Rattle.solid_data.specs.declared.solid.Shell.{Shell}
+use Rattle.edge_uses.specs.Closed.{IsClosedShell}
+use Rattle.edge_uses.specs.ShellRows.{ShellRows, shell_rows}
+use Rattle.open_shells.specs.Sound.{IsBorder, IsBorderCycleOf, IsSoundShell}
 use Rattle.open_shells.specs.Line.{OpenLine, border, IsSpelled}
 use Rattle.open_shells.specs.Stand.{shell_of}
 use Rattle.open_shells.specs.Legal.{IsOpenLegal}
@@ -36,3 +38,7 @@ pub record AreAllBorders (d : ShellRows) (cycles : List (List ℕ)) : Type 0 whe
 abbrev pub BordersAreCycles : Type 0
 BordersAreCycles = (s : SolidData) (texts : List (List ℕ)) (lines : List OpenLine) → IsNumberedSolid s → IsOpenShell s → AllJoin s → IsOpenLegal s texts → AllZip IsSpelled texts lines
     → AreAllBorders (shell_of s) (filter_map cycle_in lines)
+
+-- A closed shell of a solid is sound as an open one, and has no border row.
+abbrev pub ClosedIsSound : Type 0
+ClosedIsSound = (s : SolidData) (k : ℕ) (shell : Shell) → IsClosedShell s k shell → IsSoundShell s shell × ((r : ℕ) → ¬ IsBorder (shell_rows s shell) r)

@@ -6,7 +6,7 @@ ghost use Rattle.cert_lines.specs.declared.fault.Illegal.{Illegal as Fault};
 ghost use Rattle.open_shells.specs.Line.{OpenLine, IsSpelled};
 ghost use Rattle.open_shells.specs.Legal.{IsOpenLegal, IsOpenFirstBad};
 ghost use Rattle.open_shells.specs.Obligations.{open_obligations, AllHold, FirstFalse};
-ghost use Rattle.open_shells.specs.Laws.{AcceptedIsSound, BordersAreCycles, SoundExactlyWhereAccepted};
+ghost use Rattle.open_shells.specs.Laws.{AcceptedIsSound, BordersAreCycles, ClosedIsSound, SoundExactlyWhereAccepted};
 ghost use Rattle.open_shells.specs.declared.verdict.OpenFailing.{OpenFailing as Named};
 
 /// Bytes spell at most one line (own).
@@ -42,4 +42,9 @@ pub fn borders_are_cycles()
 /// Soundness and completeness: an open shell is sound exactly where some certificate is accepted for it. (own)
 pub fn sound_exactly_where_accepted()
     ensures { SoundExactlyWhereAccepted }
+{}
+
+/// A closed shell of a solid is sound as an open one, and has no border row. (own)
+pub fn closed_is_sound()
+    ensures { ClosedIsSound }
 {}

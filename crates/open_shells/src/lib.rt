@@ -31,7 +31,7 @@ mod writing;
 pub use checker::OpenChecker;
 pub use fault::OpenFault;
 pub use law::{
-    borders_are_cycles, legal_or_first_bad, one_first_false, one_line,
+    borders_are_cycles, closed_is_sound, legal_or_first_bad, one_first_false, one_line,
     sound_exactly_where_accepted, soundness,
 };
 pub use making::open_certify;

@@ -1,5 +1,5 @@
 -- Steps of reading the lines of an orientation.
-use Rattle.std.specs.Prelude.{◌≡◌, ◌⊎◌, ◌↔◌, ℕ, suc, ◌+◌, ◌<◌, ◌≤◌, List, [], ◌∷◌, length, Bool, false, IsTrue}
+use Rattle.std.specs.Prelude.{◌≡◌, ℕ, ◌+◌, ◌<◌, ◌≤◌, List, [], ◌∷◌, length, Bool, false, IsTrue}
 use Rattle.std.proofs.Common.{refl, sym, ◌∙◌, ap, subst, arith, inl, inr}
 use Rattle.solid_data.specs.SolidData.{SolidData}
 use Rattle.cert_lines.specs.Line.{cut_lines}
@@ -10,7 +10,7 @@ use Rattle.face_orient.specs.declared.line.OrientLine.{OrientLine}
 use Rattle.face_orient.specs.declared.line.OrientLine.TheVariants.{Head, Flags, Ring, End}
 use Rattle.face_orient.proofs.Lines.{line_one}
 use Rattle.orient_commands.specs.Reading.{IsTextFault, FitsFirst, IsRestOf}
-use Rattle.orient_commands.specs.Text.{FitsAs, Fits, AreWhole, IsWrong, HasWrong, LacksNext, IsFirstBad}
+use Rattle.orient_commands.specs.Text.{FitsAs, Fits, AreWhole, IsFirstBad}
 use Rattle.orient_commands.specs.declared.fault.TextFault.{TextFault}
 use Rattle.orient_commands.specs.declared.fault.TextFault.TheVariants.{Bad, NoMemory}
 
@@ -35,7 +35,7 @@ bad_on s i l ls bad fit (inr w) =
     let next : (i + 1) + length ls ≡ i + length (l ∷ ls) = omega arith in
     inr (record { each = (fit, w.each); unended = omega (arith, few); missing = w.missing ∙ ap Missing next })
 
-unfit_never : (s : SolidData) (i : ℕ) (l : List ℕ) (line : OrientLine) → IsSpelled l line → (FitsAs s i line → ⊥) → Fits s (i, l) → ⊥
+pub unfit_never : (s : SolidData) (i : ℕ) (l : List ℕ) (line : OrientLine) → IsSpelled l line → (FitsAs s i line → ⊥) → Fits s (i, l) → ⊥
 unfit_never s i l line is never (other, spelled, fit) = never (subst (FitsAs s i) (line_one l other line spelled is) fit)
 
 pub unfit_here : (s : SolidData) (i : ℕ) (l : List ℕ) (ls : List (List ℕ)) (line : OrientLine) → IsSpelled l line → (FitsAs s i line → ⊥) → IsFirstBad s i (l ∷ ls) (Unfit i)

@@ -1,7 +1,7 @@
 -- What is first false of the shells, and lines of a shell.
-use Rattle.std.specs.Prelude.{◌≡◌, ◌⊎◌, ◌↔◌, ℕ, suc, zero, ◌+◌, ◌<◌, ◌^◌, Bool, List, [], ◌∷◌, length, map, drop, Option, None, Some, slice_get, Result, Ok, Err, IfOk, IsTrue}
+use Rattle.std.specs.Prelude.{◌≡◌, ◌↔◌, ℕ, suc, zero, ◌+◌, ◌<◌, ◌^◌, Bool, List, [], ◌∷◌, length, map, drop, Option, None, Some, slice_get, Result, Ok, Err, IfOk, IsTrue}
 use Rattle.std.specs.List.{AllByRecursion, AllZip}
-use Rattle.std.proofs.Common.{refl, sym, ◌∙◌, ap, subst, arith, inl, inr, ⊎_elim, get_or}
+use Rattle.std.proofs.Common.{refl, sym, ◌∙◌, ap, subst, arith, inr, ⊎_elim, get_or}
 use Rattle.std.proofs.lemmas.Bool.{cases_order}
 use Rattle.std.proofs.lemmas.List.{length-map}
 use Rattle.std.proofs.lemmas.Option.{slice_get_within}
@@ -124,19 +124,19 @@ zip_low s k [] others numbered all = tt
 zip_low s k (r ∷ rows) [] numbered all = absurd all
 zip_low s k (r ∷ rows) (x ∷ others) numbered all = (goes_low s k r x numbered all.0, zip_low s k rows others numbered all.1)
 
-pub ring_low : (s : SolidData) (k : ℕ) (rows : List RowId) → IsNumberedSolid s → OddRing s k (row_numbers rows) → AllByRecursion (λ r. r < 2 ^ 29) (row_numbers rows)
-ring_low s k rows numbered ring = zip_low s k (row_numbers rows) (next_of_each (row_numbers rows)) numbered ring.closed
+pub ring_low : (s : SolidData) (k : ℕ) (rows : List ℕ) → IsNumberedSolid s → OddRing s k rows → AllByRecursion (λ r. r < 2 ^ 29) rows
+ring_low s k rows numbered ring = zip_low s k rows (next_of_each rows) numbered ring.closed
 
 short_numbers : (rows : List ℕ) → AllByRecursion (λ r. r < 2 ^ 29) rows → AllByRecursion IsShort (map suc rows)
 short_numbers [] all = tt
 short_numbers (r ∷ rows) all = (omega (arith, all.0), short_numbers rows all.1)
 
-pub ring_spelled : (s : SolidData) (k : ℕ) (rows : List RowId) (numbers : List ℕ) → IsNumberedSolid s → k < length s.shells → numbers ≡ map suc (row_numbers rows) → OddRing s k (row_numbers rows) → ((k + 1 < 10 ^ 9) × AllByRecursion IsShort numbers) × (0 < length numbers)
+pub ring_spelled : (s : SolidData) (k : ℕ) (rows numbers : List ℕ) → IsNumberedSolid s → k < length s.shells → numbers ≡ map suc rows → OddRing s k rows → ((k + 1 < 10 ^ 9) × AllByRecursion IsShort numbers) × (0 < length numbers)
 ring_spelled s k rows numbers numbered lt e ring =
     let few = few_shells s numbered in
     let some = ring.some in (
-      (omega (arith, few, lt), subst (AllByRecursion IsShort) (sym e) (short_numbers (row_numbers rows) (ring_low s k rows numbered ring))),
-      omega (arith, ap (λ (ns : List ℕ). length ns) e, length-map (row_numbers rows) suc, some),
+      (omega (arith, few, lt), subst (AllByRecursion IsShort) (sym e) (short_numbers rows (ring_low s k rows numbered ring))),
+      omega (arith, ap (λ (ns : List ℕ). length ns) e, length-map rows suc, some),
     )
 
 pub flags_spelled : (s : SolidData) (k : ℕ) (flags : List Bool) → IsNumberedSolid s → k < length s.shells → FlagsFit s k flags → (k + 1 < 10 ^ 9) × (0 < length flags)

@@ -1,5 +1,5 @@
 -- The text of an orientation, line after line.
-use Rattle.std.specs.Prelude.{◌≡◌, ◌≢◌, ◌⊎◌, ℕ, suc, zero, ◌+◌, ◌<◌, ◌^◌, Bool, true, false, List, [], ◌∷◌, ◌++◌, length, map, codes}
+use Rattle.std.specs.Prelude.{◌≡◌, ◌≢◌, ◌⊎◌, ℕ, suc, ◌+◌, ◌<◌, ◌^◌, Bool, true, false, List, [], ◌∷◌, ◌++◌, length, map}
 use Rattle.std.specs.Bool.{MatchBool}
 use Rattle.std.specs.List.{AllByRecursion, enumerate_from}
 use Rattle.std.proofs.Common.{refl, sym, ◌∙◌, ap, subst, arith, inl, inr, ⊎_elim, append_assoc, length-append}
@@ -8,7 +8,7 @@ use Rattle.iges_fields.specs.declared.entry_no.EntryNo.{EntryNo}
 use Rattle.solid_data.specs.SolidData.{SolidData}
 use Rattle.cert_lines.specs.Line.{cut_lines}
 use Rattle.cert_lines.proofs.CutLines.{cut_piece, spaced_no_break}
-use Rattle.face_orient.specs.Line.{HasSpelling, IsSpelled, flag_number, words, spelling}
+use Rattle.face_orient.specs.Line.{HasSpelling, flag_number, words, spelling}
 use Rattle.face_orient.specs.declared.line.OrientLine.{OrientLine}
 use Rattle.face_orient.specs.declared.line.OrientLine.TheVariants.{Head, Flags, Ring, End}
 use Rattle.face_orient.proofs.Lines.{line_one, flags_short}

@@ -1,14 +1,20 @@
 -- What holds of orientations by their definition.
-use Rattle.std.specs.Prelude.{◌≡◌, ◌⊎◌, ℕ, Bool, List}
+use Rattle.std.specs.Prelude.{◌≡◌, ◌⊎◌, ℕ, ◌≤◌, Bool, List, length}
 use Rattle.std.specs.List.{AllByRecursion, AllZip, enumerate_from}
 use Rattle.iges_params.specs.Contents.{Contents}
 use Rattle.iges_params.specs.Limits.{FitsLimits}
+use Rattle.solid_data.specs.Obligations.{AllHold}
 use Rattle.solid_data.specs.SolidData.{SolidData}
 use Rattle.solid_data.specs.declared.solid.Shell.{Shell}
 use Rattle.edge_uses.specs.Closed.{IsClosedSolid}
+use Rattle.brep_walk.specs.Places.{places}
+use Rattle.brep_walk.specs.SolidOf.{solid_of}
 use Rattle.cert_lines.specs.Line.{cut_lines}
+use Rattle.topo_certificate.specs.declared.TheConstants.{CERT_LIMIT}
 use Rattle.command_replies.specs.declared.answer.Answer.{Answer}
+use Rattle.command_replies.specs.declared.answer.Answer.TheVariants.{Done}
 use Rattle.command_replies.specs.Due.{Owed}
+use Rattle.command_replies.specs.Texts.{accepted_line}
 use Rattle.orient_commands.specs.Due.{IsRingLine, OfOrient, OfOrientVerify}
 use Rattle.orient_commands.specs.Shells.{IsReady, OfAllShells}
 use Rattle.orient_commands.specs.Turned.{solid_with, AllFlagsFit, JoinsAndLinks}
@@ -28,6 +34,10 @@ OneOrientation = (n : ℕ) (f : Contents) (a b : Answer) (t u : List ℕ) → Of
 -- Of verifying an orientation one answer and one text are owed.
 abbrev pub OneVerifying : Type 0
 OneVerifying = (text : List ℕ) (f : Contents) (a b : Answer) (t u : List ℕ) → OfOrientVerify text f a t → OfOrientVerify text f b u → (a ≡ b) × (t ≡ u)
+
+-- An orientation that is owed of a solid is accepted, rings included, where it isn't too large.
+abbrev pub OrientationIsAccepted : Type 0
+OrientationIsAccepted = (n : ℕ) (f : Contents) (a : Answer) (text : List ℕ) → AllHold (places f n) → OfAllShells IsReady (solid_of f n) → OfOrient n f a text → length text ≤ CERT_LIMIT → OfOrientVerify text f Done (accepted_line n)
 
 -- In a file within its limits some answer is owed of orienting any solid.
 abbrev pub SomeOrientation : Type 0

@@ -1,12 +1,11 @@
 -- A solid with other flags for the faces of its shells.
-use Rattle.std.specs.Prelude.{◌≡◌, ℕ, ◌<◌, Bool, List, [], ◌∷◌, length, Some, slice_get}
-use Rattle.std.specs.List.{AllByRecursion, enumerate_from}
+use Rattle.std.specs.Prelude.{◌≡◌, ℕ, Bool, List, [], ◌∷◌, length, Some, slice_get}
+use Rattle.std.specs.List.{AllByRecursion}
 use Rattle.solid_data.specs.SolidData.{SolidData, PlacedLoop, placed_loops}
 use Rattle.solid_data.specs.declared.solid.Shell.{Shell}
-use Rattle.edge_uses.specs.Closed.{IsJoined, IsLinked, IsApart, IsClosedSolid}
+use Rattle.edge_uses.specs.Closed.{IsJoined, IsLinked, IsApart}
 use Rattle.edge_uses.specs.ShellRows.{shell_rows}
 use Rattle.face_orient.specs.Flags.{FlagsFit, shell_with}
-use Rattle.orient_commands.specs.Shells.{IsReady, OfAllShells}
 
 -- shells with these flags in place of their faces', one list for each
 abbrev pub shells_with : List (List Bool) → List Shell → List Shell

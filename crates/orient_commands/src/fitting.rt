@@ -5,7 +5,7 @@ ghost use Rattle.face_orient.specs.OddRing.{row_numbers};
 ghost use Rattle.orient_commands.specs.Shells.{IsCounted};
 ghost use Rattle.orient_commands.specs.Text.{FitsAs, NameOddRing};
 
-use face_orient::{NumberList, OrientChecker, OrientFault, OrientLine};
+use face_orient::{NumberList, OrientChecker, OrientLine};
 use iges_fields::NoMemory;
 use solid_data::{RowId, RowList, ShellAt, Solid};
 use std::alloc::Global;
@@ -33,8 +33,8 @@ fn checker_of(alloc: Global, solid: &Solid, at: ShellAt) -> Result<OrientChecker
 {
     match OrientChecker::new(alloc, solid, at) {
         Ok(checker) => Ok(checker),
-        Err(OrientFault::Fails(_)) => Err(NoMemory),
-        Err(OrientFault::NoMemory) => Err(NoMemory),
+        // COUNT holds, so that nothing but memory can be wanting.
+        Err(_) => Err(NoMemory),
     }
 }
 

@@ -7,11 +7,15 @@
 mod counting;
 mod fault;
 mod fitting;
+mod law;
 mod lines;
 mod making;
 mod orienting;
 mod reading;
 mod verifying;
 
+pub use law::{
+    fitting_flags_close, one_orient_answer, orientations_are_accepted, some_orient_answer,
+};
 pub use orienting::orient_solid;
 pub use verifying::verify_orientation;

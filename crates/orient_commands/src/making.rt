@@ -39,6 +39,7 @@ fn shell_line(alloc: Global, solid: &Solid, at: ShellAt) -> Result<OrientLine, O
     ensures ready { OnOk result (IsReady solid.now at.0) }
     ensures fault { IfErr result (IsFault (IsFirstFailing solid.now at.0)) }
 {
+    // Its clause says that the solid is numbered, and so has few shells.
     let _count = solid.shell_count();
     match orient(alloc, solid, at)? {
         Orientation::Flags(flags) => Ok(OrientLine::Flags {

@@ -15,3 +15,12 @@ returns-in_ok-extract_solid-in-Extract-clause-found g c = rw c.in-Extract.is (al
 
 pub returns-in_ok-certify_solids-in-CertifyAll-clause-found : goal.returns-in_ok-certify_solids-in-CertifyAll-clause-found
 returns-in_ok-certify_solids-in-CertifyAll-clause-found g c = rw c.in-CertifyAll.is (alone_owed _ _ c.in_ok-certify_solids-in-CertifyAll.field-0 c.in_ok-certify_solids-in-CertifyAll.ensures)
+
+pub returns-in_ok-certify_shell-in-Open-clause-found : goal.returns-in_ok-certify_shell-in-Open-clause-found
+returns-in_ok-certify_shell-in-Open-clause-found g c = rw c.in-Open.is (alone_owed _ _ c.in_ok-certify_shell-in-Open.field-0 c.in_ok-certify_shell-in-Open.ensures)
+
+pub returns-in_ok-orient_solid-in-Orient-clause-found : goal.returns-in_ok-orient_solid-in-Orient-clause-found
+returns-in_ok-orient_solid-in-Orient-clause-found g c = rw c.in-Orient.is (alone_owed _ _ c.in_ok-orient_solid-in-Orient.field-0 c.in_ok-orient_solid-in-Orient.ensures)
+
+pub returns-in_ok-compact_solid-in-Compact-clause-found : goal.returns-in_ok-compact_solid-in-Compact-clause-found
+returns-in_ok-compact_solid-in-Compact-clause-found g c = rw c.in-Compact.is (alone_owed _ _ c.in_ok-compact_solid-in-Compact.field-0 c.in_ok-compact_solid-in-Compact.ensures)

@@ -1,6 +1,5 @@
-use Rattle.std.proofs.Common.{◌≡◌, ◌<◌, arith, length, suc, map, sym, ◌∙◌, ap, subst}
-use Rattle.solid_data.specs.declared.solid.RowId.{RowId}
-use Rattle.face_orient.specs.OddRing.{OddRing, row_numbers}
+use Rattle.std.proofs.Common.{◌<◌, arith, length}
+use Rattle.face_orient.specs.OddRing.{row_numbers}
 use Rattle.topo_certificate.proofs.UseSizes.{few_shells}
 use Rattle.orient_commands.proofs.ShellSteps.{ring_low, ring_spelled, flags_spelled}
 use Rattle.orient_commands.proofs.making.shell_line.Goals as goal
@@ -17,7 +16,7 @@ overflow_add-result-in-Ring c =
 
 pub numbers_of-requires : goal.numbers_of-requires
 numbers_of-requires c =
-    ring_low c.args.solid.now c.args.at.0 c.as_slice.result.now c.shell_count-count.ensures.numbered
+    ring_low c.args.solid.now c.args.at.0 (row_numbers c.as_slice.result.now) c.shell_count-count.ensures.numbered
     (rw c.as_slice.ensures (rw c.in-Ring.is at c.in_ok-flags.ensures.found))
 
 pub returns-in-Flags-clause-spelled : goal.returns-in-Flags-clause-spelled
@@ -25,5 +24,5 @@ returns-in-Flags-clause-spelled c = flags_spelled c.args.solid.now c.args.at.0 c
 
 pub returns-in_ok-numbers_of-in-Ring-clause-spelled : goal.returns-in_ok-numbers_of-in-Ring-clause-spelled
 returns-in_ok-numbers_of-in-Ring-clause-spelled c =
-    ring_spelled c.args.solid.now c.args.at.0 c.as_slice.result.now c.in_ok-numbers_of-in-Ring.field-0 c.shell_count-count.ensures.numbered c.requires c.in_ok-numbers_of-in-Ring.ensures
+    ring_spelled c.args.solid.now c.args.at.0 (row_numbers c.as_slice.result.now) c.in_ok-numbers_of-in-Ring.field-0 c.shell_count-count.ensures.numbered c.requires c.in_ok-numbers_of-in-Ring.ensures
     (rw c.as_slice.ensures (rw c.in-Ring.is at c.in_ok-flags.ensures.found))

@@ -1,0 +1,100 @@
+-- Of a file that is written, of a solid that is extracted, and of one that is compacted, one answer and text are owed.
+use Rattle.std.specs.Prelude.{◌≡◌, ◌⊎◌, ℕ, ◌<◌, ◌≤◌, List, [], length, Ok}
+use Rattle.std.proofs.Common.{refl, sym, ap, subst, ◌∙◌, arith, inl, inr}
+use Rattle.iges_fields.specs.declared.TheConstants.{FILE_LIMIT}
+use Rattle.iges_params.specs.Contents.{Contents}
+use Rattle.iges_write.specs.Text.{IsText}
+use Rattle.iges_write.proofs.FileBack.{one_text}
+use Rattle.solid_data.proofs.Decisions.{Decided, decided_within}
+use Rattle.solid_data.proofs.ObligationLemmas.{FirstFalse-one, FirstFalse-not_all}
+use Rattle.solid_data.specs.Obligations.{AllHold, FirstFalse}
+use Rattle.solid_data.specs.declared.verdict.Failing.{Failing}
+use Rattle.solid_data.proofs.ObligationsDecided.{all_or_first_false}
+use Rattle.brep_walk.specs.Places.{places}
+use Rattle.brep_walk.proofs.Decided.{places_decided}
+use Rattle.entry_references.specs.declared.fault.ExtractReason.{ExtractReason}
+use Rattle.solid_extract.specs.Extracted.{new_number, IsRefused, IsExtracted}
+use Rattle.solid_extract.proofs.One.{IsExtracted-unique, IsRefused-unique, IsExtracted-IsRefused}
+use Rattle.list_compact.specs.Dropped.{dropped}
+use Rattle.list_compact.proofs.NotRefused.{not_refused}
+use Rattle.list_compact.proofs.OneAnswer.{only_file}
+use Rattle.command_replies.specs.declared.answer.Answer.{Answer}
+use Rattle.command_replies.specs.declared.answer.Answer.TheVariants as answer
+use Rattle.command_replies.specs.Texts.{fail_line}
+use Rattle.iges_solid_cmd.specs.Texts.{no_extract_line}
+use Rattle.iges_solid_cmd.specs.Due.{OfRefused, OfWritten, OfExtract, OfCompact}
+use Rattle.iges_solid_cmd.proofs.ExtractionDecided.{extracted_or_refused}
+
+-- ---- two that are owed are one
+
+-- a file has one text
+pub text_is : (f : Contents) (t u : List ℕ) → IsText f t → IsText f u → t ≡ u
+text_is f t u p q = let one = one_text f in one.2 t p ∙ sym (one.2 u q)
+
+one_written : (f : Contents) (a b : Answer) (t u : List ℕ) → OfWritten f a t → OfWritten f b u → (a ≡ b) × (t ≡ u)
+one_written f a b t u (inl p) (inl q) = (p.3.0 ∙ sym q.3.0, p.3.1 ∙ sym q.3.1)
+one_written f a b t u (inl p) (inr q) = let same = ap (λ (xs : List ℕ). length xs) (text_is f p.0 q.0 p.1 q.1) in absurd (omega (arith, p.2, q.2, same))
+one_written f a b t u (inr p) (inl q) = let same = ap (λ (xs : List ℕ). length xs) (text_is f p.0 q.0 p.1 q.1) in absurd (omega (arith, p.2, q.2, same))
+one_written f a b t u (inr p) (inr q) = (p.3.0 ∙ sym q.3.0, p.3.1 ∙ text_is f p.0 q.0 p.1 q.1 ∙ sym q.3.1)
+
+one_refused : (n : ℕ) (f : Contents) (a b : Answer) (t u : List ℕ) → OfRefused n f a t → OfRefused n f b u → (a ≡ b) × (t ≡ u)
+one_refused n f a b t u (e, r, p, x) (k, s, q, y) =
+    let same = IsRefused-unique f n e k r s p q in
+    (x.0 ∙ sym y.0, x.1 ∙ ap (λ i. no_extract_line i r) same.0 ∙ ap (no_extract_line k) same.1 ∙ sym y.1)
+
+-- two answers that are owed of extracting a solid agree
+pub one_extract : (n : ℕ) (f : Contents) (a b : Answer) (t u : List ℕ) → OfExtract n f a t → OfExtract n f b u → (a ≡ b) × (t ≡ u)
+one_extract n f a b t u (inl p) (inl q) = one_refused n f a b t u p q
+one_extract n f a b t u (inl p) (inr (new, x, owed)) = absurd (IsExtracted-IsRefused f n new p.0 p.1 x p.2)
+one_extract n f a b t u (inr (new, x, owed)) (inl q) = absurd (IsExtracted-IsRefused f n new q.0 q.1 x q.2)
+one_extract n f a b t u (inr (new, x, owed)) (inr (other, y, due)) = one_written other a b t u (subst (λ (g : Contents). OfWritten g a t) (IsExtracted-unique f n new other x y) owed) due
+
+-- two answers that are owed of compacting a solid agree
+pub one_compact : (n : ℕ) (f : Contents) (a b : Answer) (t u : List ℕ) → OfCompact n f a t → OfCompact n f b u → (a ≡ b) × (t ≡ u)
+one_compact n f a b t u (inl p) (inl q) = one_refused n f a b t u p q
+one_compact n f a b t u (inl p) (inr (inl (y, q, d))) = absurd (IsExtracted-IsRefused f n q.«between» p.0 p.1 q.extracted p.2)
+one_compact n f a b t u (inl p) (inr (inr (new, q, due))) = absurd (IsExtracted-IsRefused f n q.«between» p.0 p.1 q.extracted p.2)
+one_compact n f a b t u (inr (inl (x, p, e))) (inl q) = absurd (IsExtracted-IsRefused f n p.«between» q.0 q.1 p.extracted q.2)
+one_compact n f a b t u (inr (inl (x, p, e))) (inr (inl (y, q, d))) = (e.0 ∙ sym d.0, e.1 ∙ ap fail_line (FirstFalse-one (places f n) x y p.places q.places) ∙ sym d.1)
+one_compact n f a b t u (inr (inl (x, p, e))) (inr (inr (new, q, due))) = absurd (FirstFalse-not_all (places f n) x p.places q.places)
+one_compact n f a b t u (inr (inr (new, p, owed))) (inl q) = absurd (IsExtracted-IsRefused f n p.«between» q.0 q.1 p.extracted q.2)
+one_compact n f a b t u (inr (inr (new, p, owed))) (inr (inl (y, q, d))) = absurd (FirstFalse-not_all (places f n) y q.places p.places)
+one_compact n f a b t u (inr (inr (new, p, owed))) (inr (inr (other, q, due))) = one_written other a b t u (subst (λ (g : Contents). OfWritten g a t) (only_file f n (Ok new) other p tt q) owed) due
+
+-- ---- something is owed
+
+some_written : (f : Contents) → (a : Answer) × (t : List ℕ) × OfWritten f a t
+some_written f = by_limit (one_text f).0 (one_text f).1 (decided_within (length (one_text f).0) FILE_LIMIT)
+  where
+    by_limit : (text : List ℕ) → IsText f text → Decided (length text ≤ FILE_LIMIT) → (a : Answer) × (t : List ℕ) × OfWritten f a t
+    by_limit text is (inl few) = (answer.Done, text, inr (text, is, few, (refl, refl)))
+    by_limit text is (inr more) = let above : FILE_LIMIT < length text = omega (arith, more) in (answer.TooLarge, [], inl (text, is, above, (refl, refl)))
+
+-- some answer is owed of extracting a solid
+pub some_extract : (n : ℕ) (f : Contents) → (a : Answer) × (t : List ℕ) × OfExtract n f a t
+some_extract n f = by_answer (extracted_or_refused f n)
+  where
+    by_answer : ((new : Contents) × IsExtracted f n new) ⊎ ((entity : ℕ) × (why : ExtractReason) × IsRefused f n entity why) → (a : Answer) × (t : List ℕ) × OfExtract n f a t
+    by_answer (inr (entity, why, refused)) = (answer.NoExtract, no_extract_line entity why, inl (entity, why, refused, (refl, refl)))
+    by_answer (inl (new, extracted)) = let owed = some_written new in (owed.0, owed.1, inr (new, extracted, owed.2))
+
+-- once its unused items are dropped, an extracted solid is extracted again
+again : (f g : Contents) (n : ℕ) (x : IsExtracted f n g) → (new : Contents) × IsExtracted (dropped g) (new_number x.kept n) new
+again f g n x = by_answer (extracted_or_refused (dropped g) (new_number x.kept n))
+  where
+    by_answer : ((new : Contents) × IsExtracted (dropped g) (new_number x.kept n) new) ⊎ ((entity : ℕ) × (why : ExtractReason) × IsRefused (dropped g) (new_number x.kept n) entity why)
+        → (new : Contents) × IsExtracted (dropped g) (new_number x.kept n) new
+    by_answer (inl found) = found
+    by_answer (inr (entity, why, refused)) = absurd (not_refused f g n x entity why refused)
+
+-- some answer is owed of compacting a solid
+pub some_compact : (n : ℕ) (f : Contents) → (a : Answer) × (t : List ℕ) × OfCompact n f a t
+some_compact n f = by_answer (extracted_or_refused f n) (all_or_first_false (places f n) (places_decided f n))
+  where
+    by_answer : ((new : Contents) × IsExtracted f n new) ⊎ ((entity : ℕ) × (why : ExtractReason) × IsRefused f n entity why) → AllHold (places f n) ⊎ ((x : Failing) × FirstFalse (places f n) x) → (a : Answer) × (t : List ℕ) × OfCompact n f a t
+    by_answer (inr (entity, why, refused)) holds = (answer.NoExtract, no_extract_line entity why, inl (entity, why, refused, (refl, refl)))
+    by_answer (inl (g, extracted)) (inr (x, bad)) = (answer.No, fail_line x, inr (inl (x, record { «between» = g; extracted = extracted; places = bad }, (refl, refl))))
+    by_answer (inl (g, extracted)) (inl all) =
+        let new = again f g n extracted in
+        let owed = some_written new.0 in
+        (owed.0, owed.1, inr (inr (new.0, record { «between» = g; extracted = extracted; places = all; again = new.1 }, owed.2)))

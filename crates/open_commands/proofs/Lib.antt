@@ -1,0 +1,9 @@
+pub mod OpenedLines
+pub mod Shells
+pub mod Joining
+pub mod Judged
+pub mod AcceptedFor
+pub mod Owing
+pub mod One
+pub mod SomeDue
+pub mod ClosedSolids
