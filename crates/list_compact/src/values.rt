@@ -54,7 +54,7 @@ fn push_copies(
 pub fn copied(alloc: Global, values: &Values) -> Result<Values, NoMemory>
     ensures { IfOk result (λ list. list ≡ values.now) }
 {
-    let mut list = Values::new(alloc);
+    let mut list = Values::with_room(alloc, values.len())?;
     push_copies(&mut list, alloc, values, 0, values.len())?;
     Ok(list)
 }
@@ -128,7 +128,7 @@ pub fn loop_values(
     requires read { listed.now ≡ items_of «loop» values.now }
     ensures { (g : Contents) → AreTables g ranks.now.edges ranks.now.vertices → IfOk result (λ list. list ≡ loop_values g values.now) }
 {
-    let mut list = Values::new(alloc);
+    let mut list = Values::with_room(alloc, values.len())?;
     push_copies(&mut list, alloc, values, 0, 1)?;
     let mut at = 1;
     'tuples: for tuple in listed.tuples() {
