@@ -1,12 +1,29 @@
-"""README and the pages: the forms, the rules, each command that stands there with what it prints, the script, and the links."""
+"""README and the pages: the forms, the rules, each command that stands there with what it prints, the script, and the links; the
+indexes of docs/FORMAT.md and docs/CERTIFICATE.md, and the changed certificates of docs/CERTIFICATE.md with their answers.
+"""
 import os
 import re
 import subprocess
+
+from no_examples import printed_words
+from theorem import defines
 
 PAGES = "README.md", "examples/README.md", "examples/no/README.md"
 COMMANDS = "README.md", "docs/COMMANDS.md"
 RULE = re.compile(r'(?m)^rule_name .*= codes "(.*)"$')
 SECONDS = 120
+# The indexes: a row has the rule, definitions, functions, edits and examples.
+INDEXED = "docs/FORMAT.md", "docs/CERTIFICATE.md"
+INDEX = re.compile(r"(?m)^\| Rule \| Definition \| Function \| .*\n\|[-|]+\n((?:\|.*\n?)+)")
+DEFINITION = re.compile(r"\[`(\w+)`\]\(\.\./(crates/\w+/specs/\w+\.antt)\)")
+FUNCTION = re.compile(r"`(\w+)(?:::\w+)?::(\w+)`")
+EDIT = re.compile(r"\[(\w+)\]\(\.\./(crates/\w+/must-fail/(\w+)\.edit)\)")
+EXAMPLE = re.compile(r"\[([\w.]+)\]\(\.\./((?:examples|tests/inputs)/(?:\w+/)*([\w.]+))\)")
+# A certificate of the page with its table of changes, and the changes that are spelled out.
+CERTIFICATE = re.compile(r"(?s)```\n((?:IGESCERT|IGESOPEN|ORIENT) [^`]*)```\n(?:(?!```).)*?\n\| Change \| Answer \|\n\|[-|]+\n((?:\|.*?\n)+)")
+CHANGE = re.compile(r"`([^`]+)` as line (\d+)|no line (\d+)|no `END`")
+VERIFIERS = {"IGESCERT": "verify", "IGESOPEN": "open-verify", "ORIENT": "orient-verify"}
+FEWEST_CHANGES = 25
 
 
 def run(words, folder, **more):
@@ -55,6 +72,65 @@ def measured(top, program):
     yield "README: examples/occt", failing == {"76_pinched_vertex", "77_pinched_edge"}
 
 
+def is_indexed(cell, pattern, holds):
+    """Whether a cell of an index is a list of what the pattern reads, each of which holds, or none."""
+    found = list(pattern.finditer(cell))
+    return ", ".join(match[0] for match in found) == cell and all(holds(match) for match in found) if found else cell == "none"
+
+
+def indexes(top):
+    """Each definition is in the file named, each function in its crate's sources; each edit and each example is there."""
+    code = {crate.name: "\n".join(path.read_text() for path in crate.glob("src/**/*.rt")) for crate in top.glob("crates/*")}
+    tests = (
+        (DEFINITION, lambda m: (top / m[2]).exists() and defines((top / m[2]).read_text(), m[1])),
+        (FUNCTION, lambda m: re.search(rf"\bfn {m[2]}\b", code.get(m[1], "")) is not None),
+        (EDIT, lambda m: m[1] == m[3] and (top / m[2]).exists()),
+        (EXAMPLE, lambda m: m[1] == m[3] and (top / m[2]).exists()),
+    )
+    ruled = set()
+    for name in INDEXED:
+        rows = [line[2:-2].split(" | ") for table in INDEX.findall((top / name).read_text()) for line in table.splitlines()]
+        yield f"{name}: an index", len(rows) > 0
+        for rule, *cells in rows:
+            ruled.update(re.findall(r"`([a-z-]+)`|\b([A-Z]{3,})\b", rule))
+            for cell, (pattern, holds) in zip(cells, tests, strict=True):
+                yield f"{name}: {rule}: {cell}", is_indexed(cell, pattern, holds)
+    rules = {word for words in ruled for word in words}
+    for word in sorted(printed_words(top) - {"missing", "misspelt", "unfit"}):
+        yield f"docs/FORMAT.md: {word} in the index", word in rules
+
+
+def changed_lines(lines, change):
+    """The lines with a change that is spelled out, as far as its reason; None of another change."""
+    spelled = re.split(r": |, an ", change)[0]
+    if CHANGE.sub("", spelled) not in ("", ", and "):
+        return None
+    lines = dict(enumerate(lines, 1))
+    for text, place, gone in CHANGE.findall(spelled):
+        if text:
+            lines[int(place)] = text
+        else:
+            del lines[int(gone or len(lines))]
+    return list(lines.values())
+
+
+def changed_certificates(folder, top, program):
+    """What is answered of each certificate of the page with a change that is spelled out."""
+    page, tried = (top / "docs" / "CERTIFICATE.md").read_text(), 0
+    certificate = folder / "changed.cert"
+    for match in CERTIFICATE.finditer(page):
+        lines, example = match[1].splitlines(), re.findall(r"`(examples/[\w/]+\.igs)`", page[: match.start()])[-1]
+        for change, answer in re.findall(r"(?m)^\| (.*?) \| (.*?) \|$", match[2]):
+            changed = changed_lines(lines, change)
+            if changed is None:
+                continue
+            tried += 1
+            certificate.write_text("".join(f"{line}\n" for line in changed))
+            done = run([program, VERIFIERS[lines[0].split()[0]], top / example, certificate], folder)
+            yield f"docs/CERTIFICATE.md: {example}: {change}", done.stdout.decode().splitlines() == re.findall(r"`(.*?)`", answer)
+    yield "docs/CERTIFICATE.md: changes", tried >= FEWEST_CHANGES
+
+
 def links(top):
     for name in (*PAGES, *(str(path.relative_to(top)) for path in sorted((top / "docs").glob("*.md")))):
         targets = re.findall(r"\]\(([^)#:]+)\)", (top / name).read_text())
@@ -69,3 +145,5 @@ def checks(folder, top, program, forms):
     yield from script_by_status(folder, top)
     yield from measured(top, program)
     yield from links(top)
+    yield from indexes(top)
+    yield from changed_certificates(folder, top, program)

@@ -1,6 +1,6 @@
 #!/usr/bin/env python3
 """docs/THEOREM.md against the sources: each quote stands in the file that its first line names, and each word of the table is
-defined in the file that its row names; and the names that it, docs/PROOFS.md and README tell are there. Run alone with --mend,
+defined in the file that its row names; and the names of the sources that it and the pages of NAMING tell are there. Run alone with --mend,
 it names the file of a quote or a word anew where it was moved.
 """
 import pathlib
@@ -8,6 +8,7 @@ import re
 import sys
 
 QUOTE = re.compile(r"(?ms)^```(?:antt|rust)\n(?:--|//) (crates/\S+)\n(.*?)^```$")
+NAMING = "README.md", *(f"docs/{name}.md" for name in ("THEOREM", "PROOFS", "FORMAT", "CERTIFICATE", "ARCHITECTURE", "DECISIONS", "LIBRARY"))
 # A name of the sources in the text of a page: of two words or more, or of a type.
 NAME = re.compile(r"`([a-z]\w*_\w+|[A-Z]\w*[a-z]\w*)(?:::(\w+))?`")
 ROW = re.compile(r"(?m)^\| `(\w+)` \| \[(\S+)\]\(\.\./(crates/\S+)\) \|")
@@ -46,10 +47,11 @@ def sources_of(top):
 
 
 def names(top):
-    """Each name that a page tells is one of a crate, or occurs in its sources."""
-    known = {path.name for path in top.glob("crates/*")} | {"itoa", "indexmap"}
-    known.update(word for source in sources_of(top).values() for word in re.findall(r"\w+", source))
-    for page in ("docs/THEOREM.md", "docs/PROOFS.md", "README.md"):
+    """Each name that a page tells is one of a crate or of a folder of tests, or occurs in the sources of a crate or its lemmas."""
+    known = {path.name for folder in ("crates", "tests") for path in top.glob(f"{folder}/*")} | {"itoa", "indexmap"}
+    lemmas = (path.read_text() for path in sorted(top.glob("crates/*/proofs/*.antt")))
+    known.update(word for source in (*sources_of(top).values(), *lemmas) for word in re.findall(r"\w+", source))
+    for page in NAMING:
         text = re.sub(r"(?s)```.*?```", "", (top / page).read_text())
         for name in sorted({part for parts in NAME.findall(text) for part in parts if part}):
             yield f"{page}: {name}", name in known or (top / "examples" / "occt" / f"{name}.igs").exists()

@@ -1,4 +1,4 @@
-"""Numbers in columns, and the free format (docs/FORMAT.md, "Columns and free format")."""
+"""Numbers in columns, and the free format (docs/FORMAT.md, sections 2 and 4)."""
 import re
 
 IN_COLUMNS = re.compile(rb" *(?:[+-]?[0-9]+ *)?").fullmatch

@@ -1,4 +1,4 @@
-"""Reading a file: the four passes over its lines (docs/FORMAT.md, "Lines and directory" and "Global and records")."""
+"""Reading a file: the four passes over its lines (docs/FORMAT.md, sections 2 to 6)."""
 from .fields import FieldFault, FreeText, Real, column_number, is_delimiter
 
 LETTERS = b"SGDPT"

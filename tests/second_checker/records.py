@@ -1,4 +1,4 @@
-"""What the records of a solid's six types tell (docs/FORMAT.md, "Records of a solid's entities"); None where one doesn't fit."""
+"""What the records of a solid's six types tell (docs/FORMAT.md, section 7); None where one doesn't fit."""
 from typing import NamedTuple
 
 

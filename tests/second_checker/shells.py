@@ -1,4 +1,4 @@
-"""The shells of a solid: rows, mates and turns (docs/CERTIFICATE.md, section 2), and the rules of a closed shell (docs/FORMAT.md)."""
+"""The shells of a solid: rows, mates and turns (docs/CERTIFICATE.md, section 1), and the rules of a closed shell (docs/FORMAT.md, section 9)."""
 from collections import Counter, deque
 from typing import NamedTuple
 

@@ -1,4 +1,4 @@
-"""A solid's entities, read along its records (docs/FORMAT.md, "Places of a solid"), and the solid as numbers."""
+"""A solid's entities, read along its records (docs/FORMAT.md, section 8), and the solid as numbers."""
 from dataclasses import dataclass, field
 
 from .records import FITTING, FORMS
