@@ -50,7 +50,7 @@ def first_runs(copy, skipped):
     with open(copy.top / "crates.txt", "a") as file:
         file.write("# changed\n")
     status, _, error = copy.run(*cube)
-    yield "launcher: a changed source without the kit", status == 125 and "holds no program of these sources" in error
+    yield "launcher: a changed source without the kit", status == 125 and "holds no program built from these sources" in error
 
 
 def helps(copy, forms):
@@ -144,7 +144,7 @@ def messages(copy):
     ):
         yield f"message: {words}", copy.run("./igesolid", *words) == (status, b"", f"igesolid: {said}\n")
     told = copy.run("./igesolid", "solids", b"caf\xe9.igs")
-    yield "message: a word that isn't UTF-8", told[::2] == (2, "igesolid: caf\ufffd.igs: this word isn't UTF-8\n")
+    yield "message: a word that isn't UTF-8", told[::2] == (2, "igesolid: caf\ufffd.igs: this argument isn't UTF-8\n")
     with open("/dev/full", "wb") as full:
         told = copy.run("./igesolid", "certify", cube, "1", stdout=full)
     yield "message: standard output is full", told[::2] == (5, f"igesolid: {cube}: standard output failed, so the answer is cut short or missing\n")
@@ -168,8 +168,8 @@ def messages(copy):
         (["orient-verify", cube, "big.cert"], f"big.cert: {IS_BIG_CERTIFICATE}"),
         (["compact", cube, "1"], f"{cube}: the compact text would have more than 164,000,000 bytes"),
         (["open", "/dev/null", "1"], f"/dev/null: {IS_BIG_FILE}"),
-        (["certify", cube, "all"], f"{cube}: its solids have more than 6,000,000 loop uses together"),
-        (["certify", "/dev/null", "all"], f"/dev/null: {IS_BIG_FILE}, or its solids have more than 6,000,000 loop uses together"),
+        (["certify", cube, "all"], f"{cube}: its solids together have more than 6,000,000 loop uses"),
+        (["certify", "/dev/null", "all"], f"/dev/null: {IS_BIG_FILE}, or its solids together have more than 6,000,000 loop uses"),
         (["certify", "/dev/null", "1"], f"/dev/null: {IS_BIG_FILE}"),
         (["verify", "/dev/null", certificate], f"/dev/null: {IS_BIG_FILE}"),
         (["verify", "/dev/null", "/dev/null"], f"/dev/null: {IS_BIG_FILE}, or {IS_BIG_CERTIFICATE}"),

@@ -35,7 +35,7 @@ def installs(copy):
     yield "install: --version", installed[:3] == own[:3] and installed[3].endswith("/lib/igesolid/igesolid")
     yield "install: --built", copy.run(prefix / "bin" / "igesolid", "--built")[0] == 125
     status, text, _ = copy.run(prefix / "bin" / "igesolid", "--help")
-    yield "install: --help names the pages", status == 0 and f"Pages: {prefix}/share/doc/igesolid\n" in text.decode()
+    yield "install: --help names the pages", status == 0 and f"Documentation: {prefix}/share/doc/igesolid\n" in text.decode()
     yield "install: a second time", copy.run("./install", prefix)[0] == 0 and files_in(prefix) == found
     kept = prefix / "share" / "doc" / "igesolid" / "notes"
     kept.write_text("of somebody else\n")
