@@ -19,7 +19,7 @@ fn push_copy(list: &mut Values, alloc: Global, value: &Value) -> Result<(), NoMe
 fn copied_values(alloc: Global, values: &Values) -> Result<Values, NoMemory>
     ensures { IfOk result (λ list. list ≡ values.now) }
 {
-    let mut list = Values::new(alloc);
+    let mut list = Values::with_room(alloc, values.len())?;
     'values: for i in 0..values.len() {
         push_copy(&mut list, alloc, values.get(i).unwrap())?;
     }

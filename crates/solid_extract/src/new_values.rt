@@ -80,7 +80,7 @@ fn own_values(
     let pointers = marked(alloc, own.pointers.as_slice(), count)?;
     let marks = pointers.as_slice();
     let cut = own.cut.as_slice();
-    let mut list = Values::new(alloc);
+    let mut list = Values::with_room(alloc, count)?;
     'values: for i in 0..count {
         let value = values.get(i).unwrap();
         let is_pointer = mark_at(marks, i);
