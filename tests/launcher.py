@@ -94,11 +94,17 @@ def builds(copy):
     copy.unbuild()
 
 
+def heed_interrupts():
+    """A process that is started in the background may ignore SIGINT, and hands that down."""
+    signal.signal(signal.SIGINT, signal.SIG_DFL)
+
+
 def stopped(copy):
     """A signal to the launcher's group, as from a terminal, stops a build, and a signal to the launcher a run."""
     solids = ["./igesolid", "solids", "examples/cube.igs"]
     for number in (signal.SIGINT, signal.SIGTERM):
-        process = subprocess.Popen(solids, cwd=copy.top, env=copy.environment(kit=True, KIT_DELAY=5), stderr=subprocess.DEVNULL, start_new_session=True)
+        environment = copy.environment(kit=True, KIT_DELAY=5)
+        process = subprocess.Popen(solids, cwd=copy.top, env=environment, stderr=subprocess.DEVNULL, start_new_session=True, preexec_fn=heed_interrupts)
         time.sleep(0.5)
         os.killpg(process.pid, number)
         yield f"a build stopped by {number.name}", process.wait(timeout=10) == -number
