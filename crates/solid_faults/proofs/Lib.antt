@@ -1,0 +1,15 @@
+pub mod FailingLemmas
+pub mod Named
+pub mod GapSteps
+pub mod Counted
+pub mod SharedSteps
+pub mod Reached
+pub mod Joined
+pub mod PartLemmas
+pub mod TurnBack
+pub mod FanLemmas
+pub mod FanCounts
+pub mod LinkNamed
+pub mod Definite
+pub mod FanSteps
+pub mod Assembled

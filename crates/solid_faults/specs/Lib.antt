@@ -1,0 +1,11 @@
+pub mod Failing
+pub mod Gaps
+pub mod Edges
+pub mod Components
+pub mod Parts
+pub mod Fans
+pub mod Faults
+pub mod PartPairs
+pub mod Tallied
+pub mod TurnPairs
+pub mod Naming

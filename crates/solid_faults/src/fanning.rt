@@ -1,0 +1,46 @@
+//! The fans of rows round the vertices of a shell.
+
+ghost use Rattle.std.specs.Prelude.{◌≡◌, ◌<◌, ◌++◌, ◌∷◌, [], ◌^◌, length, IfOk};
+ghost use Rattle.edge_uses.specs.Closed.{Turns};
+ghost use Rattle.edge_uses.specs.Mates.{ArePaired};
+ghost use Rattle.solid_faults.specs.Fans.{AreFans};
+ghost use Rattle.solid_faults.specs.TurnPairs.{AreTurns};
+
+use crate::joining::components;
+use edge_uses::Paired;
+use iges_fields::NoMemory;
+use solid_data::RowId;
+use std::alloc::Global;
+
+fn turned(paired: &Paired<'_>, r: u32) -> u32
+    requires { r < length paired.now.rows }
+    ensures { Turns paired.now r result }
+{
+    paired.turn(RowId(r)).unwrap().0
+}
+
+fn push_pair(out: &mut Vec<(u32, u32)>, a: u32, b: u32) -> Result<(), NoMemory>
+    ensures { IfOk result (λ _. out.new.items ≡ out.old.items ++ (a, b) ∷ []) }
+{
+    out.push((a, b))?;
+    Ok(())
+}
+
+fn turns_of(alloc: Global, paired: &Paired<'_>) -> Result<Vec<(u32, u32)>, NoMemory>
+    ensures { IfOk result (λ pairs. AreTurns paired.now pairs.items) }
+{
+    let mut out = Vec::new(alloc);
+    'rows: for i in 0..paired.rows().len() {
+        push_pair(&mut out, i as u32, turned(paired, i as u32))?;
+    }
+    Ok(out)
+}
+
+/// For each row the least row of its fan: of the rows that turns lead to from it (own).
+pub fn fan_leasts(alloc: Global, paired: &Paired<'_>) -> Result<Vec<u32>, NoMemory>
+    ensures { IfOk result (λ leasts. AreFans paired.now leasts.items) }
+{
+    let pairs = turns_of(alloc, paired)?;
+    let leasts = components(alloc, paired.rows().len(), pairs.as_slice())?;
+    Ok(leasts)
+}

@@ -1,0 +1,156 @@
+//! The gaps of loops.
+
+ghost use Rattle.std.specs.Prelude.{◌≡◌, ◌+◌, ◌<◌, ◌≤◌, ◌^◌, ◌++◌, Bool, length, map, flat_map, slice_get, option_copied, IfOk, IfSome};
+ghost use Rattle.std.proofs.Common.{get_or};
+ghost use Rattle.solid_data.specs.Ring.{next_of_each};
+ghost use Rattle.solid_data.specs.SolidData.{same_flag, placed_in_face, placed_loops};
+ghost use Rattle.edge_uses.specs.Closed.{begin_of, start_of, end_of};
+ghost use Rattle.edge_uses.specs.Joining.{IsFewFace, IsFewShell, placed_at};
+ghost use Rattle.solid_faults.specs.Gaps.{gap_at, loop_gaps, gaps_of};
+
+use iges_fields::{EntryNo, NoMemory};
+use solid_data::{Edge, FaceAt, FaceUse, Loop, LoopAt, LoopUse, Shell, ShellAt, Solid};
+use std::alloc::Global;
+
+/// A use of a loop that ends at another vertex than the next one starts at (own).
+#[derive(Clone, Copy, Debug, PartialEq, Eq)]
+pub struct Gap {
+    pub at: LoopAt,
+    /// The loop's number.
+    pub entity: EntryNo,
+    /// The tuple of the use in the loop's record, from 1.
+    pub tuple: u32,
+}
+
+fn begins_at(edge: Option<&Edge>, along: bool) -> u32
+    ensures { result ≡ begin_of (option_copied edge.entry) along }
+{
+    match edge {
+        None => 0,
+        Some(edge) => { if along { edge.from.0 } else { edge.to.0 } }
+    }
+}
+
+fn starts_at(solid: &Solid, item: LoopUse) -> u32
+    ensures { result ≡ start_of solid.now item }
+{
+    match item {
+        LoopUse::EdgeUse { edge, along } => begins_at(solid.edge(edge), along),
+        LoopUse::VertexUse { vertex } => vertex.0,
+    }
+}
+
+fn ends_at(solid: &Solid, item: LoopUse) -> u32
+    ensures { result ≡ end_of solid.now item }
+{
+    match item {
+        LoopUse::EdgeUse { edge, along } => begins_at(solid.edge(edge), !along),
+        LoopUse::VertexUse { vertex } => vertex.0,
+    }
+}
+
+fn next_place(i: usize, len: usize) -> usize
+    requires { i < len }
+    ensures inside { result < len }
+    ensures next { i + 1 < len → result ≡ i + 1 }
+    ensures last { len ≤ i + 1 → result ≡ 0 }
+{
+    if i + 1 < len { i + 1 } else { 0 }
+}
+
+fn end_of_use(solid: &Solid, uses: &[LoopUse], i: usize) -> u32
+    requires { i < length uses.now }
+    ensures { result ≡ get_or (map (end_of solid.now) uses.now) i 0 }
+{
+    ends_at(solid, uses[i])
+}
+
+fn start_of_next(solid: &Solid, uses: &[LoopUse], i: usize) -> u32
+    requires { i < length uses.now }
+    ensures { result ≡ get_or (next_of_each (map (start_of solid.now) uses.now)) i 0 }
+{
+    let next = next_place(i, uses.len());
+    starts_at(solid, uses[next])
+}
+
+fn push_gap(
+    out: &mut Vec<Gap>,
+    at: LoopAt,
+    walk: &Loop,
+    tuple: u32,
+    end: u32,
+    start: u32,
+) -> Result<(), NoMemory>
+    ensures { (f : Bool) → IfOk result (λ _. out.new.items ≡ out.old.items ++ gap_at (record { at = at; forwards = f; loop = walk.now }) (tuple, end, start)) }
+{
+    if end != start {
+        out.push(Gap {
+            at,
+            entity: walk.entity,
+            tuple,
+        })?;
+    }
+    Ok(())
+}
+
+fn push_loop_gaps(
+    solid: &Solid,
+    at: LoopAt,
+    walk: &Loop,
+    out: &mut Vec<Gap>,
+) -> Result<(), NoMemory>
+    requires { length walk.now.uses < 2 ^ 29 }
+    ensures { (f : Bool) → IfOk result (λ _. out.new.items ≡ out.old.items ++ loop_gaps solid.now (record { at = at; forwards = f; loop = walk.now })) }
+{
+    let uses = walk.uses.as_slice();
+    'uses: for i in 0..uses.len() {
+        let end = end_of_use(solid, uses, i);
+        let start = start_of_next(solid, uses, i);
+        push_gap(out, at, walk, i as u32 + 1, end, start)?;
+    }
+    Ok(())
+}
+
+fn push_face_gaps(
+    solid: &Solid,
+    shell_flag: bool,
+    at: FaceAt,
+    face: &FaceUse,
+    out: &mut Vec<Gap>,
+) -> Result<(), NoMemory>
+    requires { IsFewFace face.now }
+    ensures { IfOk result (λ _. out.new.items ≡ out.old.items ++ flat_map (loop_gaps solid.now) (placed_in_face shell_flag (at.0, face.now))) }
+{
+    let loops = face.loops.as_slice();
+    'loops: for i in 0..loops.len() {
+        let place = LoopAt {
+            face: at,
+            place: i as u32,
+        };
+        push_loop_gaps(solid, place, &loops[i], out)?;
+    }
+    Ok(())
+}
+
+fn push_shell_gaps(solid: &Solid, shell: &Shell, out: &mut Vec<Gap>) -> Result<(), NoMemory>
+    requires { IsFewShell shell.now }
+    ensures { IfOk result (λ _. out.new.items ≡ out.old.items ++ gaps_of solid.now shell.now) }
+{
+    let faces = shell.faces.as_slice();
+    'faces: for i in 0..faces.len() {
+        push_face_gaps(solid, shell.flag, FaceAt(i as u32), &faces[i], out)?;
+    }
+    Ok(())
+}
+
+/// The gaps of a shell's loops, in file order. In a loop's own order and by its own flags alone each
+/// use is to end where the next one starts, the last where the first does (own).
+pub fn gaps(alloc: Global, solid: &Solid, shell: ShellAt) -> Result<Vec<Gap>, NoMemory>
+    requires { shell.0 < length solid.now.shells }
+    ensures { IfOk result (λ gaps. IfSome (slice_get solid.now.shells shell.0) (λ h. gaps.items ≡ gaps_of solid.now h)) }
+{
+    let shell = solid.shell(shell).unwrap();
+    let mut gaps = Vec::new(alloc);
+    push_shell_gaps(solid, shell, &mut gaps)?;
+    Ok(gaps)
+}

@@ -1,0 +1,33 @@
+//! All that fails in a shell, rule by rule.
+//!
+//! A gap is a use of a loop that ends at another vertex than the next one starts at. A part is all
+//! faces that chains of shared edges join. A fan is a cycle of turns among the rows that start at a
+//! vertex.
+#![tactic(auto)]
+
+mod closing;
+mod edge;
+mod failing;
+mod fan;
+mod fanning;
+mod gap;
+mod joining;
+mod law;
+mod part;
+mod shared;
+mod unlinking;
+
+pub use closing::is_closed;
+pub use edge::{Unpaired, rows_of_edge, unpaired_edges};
+pub use failing::{Linking, ShellFaults, faults, faults_of};
+pub use fan::Unlinked;
+pub use fanning::fan_leasts;
+pub use gap::{Gap, gaps};
+pub use joining::components;
+pub use law::faults_are_definite;
+pub use part::firsts;
+pub use shared::shared_vertices;
+pub use unlinking::unlinked_vertices;
+
+#[cfg(test)]
+mod tests;
