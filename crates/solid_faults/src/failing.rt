@@ -37,6 +37,24 @@ impl Model for Linking {
     ghost view = { λ l. record { leasts = l.leasts.items; unlinked = l.unlinked.items } };
 }
 
+impl Linking {
+    ghost use Rattle.std.specs.Prelude.{◌≡◌};
+
+    /// For each row the least row of its fan (own).
+    pub fn leasts(&self) -> &[u32]
+        ensures { result.now ≡ self.now.leasts }
+    {
+        self.leasts.as_slice()
+    }
+
+    /// The vertices that aren't linked, by rising number (own).
+    pub fn unlinked(&self) -> &[Unlinked]
+        ensures { result.now ≡ self.now.unlinked }
+    {
+        self.unlinked.as_slice()
+    }
+}
+
 /// All that fails in a shell, rule by rule (own).
 #[derive(Drop)]
 pub struct ShellFaults {
@@ -66,6 +84,18 @@ fn no_other_part(firsts: &[u32]) -> bool
     true
 }
 
+fn apart_in(firsts: &[u32]) -> usize
+    ensures { result ≡ length (faces_apart firsts.now) }
+{
+    let mut count = 0;
+    'faces: for i in 0..firsts.len() {
+        if firsts[i] != 0 {
+            count += 1;
+        }
+    }
+    count
+}
+
 fn all_linked(linking: &Option<Linking>) -> bool
     ensures { IsTrue result ↔ AreLinked linking.now }
 {
@@ -76,8 +106,9 @@ fn all_linked(linking: &Option<Linking>) -> bool
 }
 
 impl ShellFaults {
-    ghost use Rattle.std.specs.Prelude.{◌↔◌, IsTrue};
+    ghost use Rattle.std.specs.Prelude.{◌≡◌, ◌↔◌, IsTrue, length, option_copied};
     ghost use Rattle.solid_faults.specs.Faults.{IsFaultless};
+    ghost use Rattle.solid_faults.specs.Parts.{faces_apart};
 
     /// Whether nothing fails: no list holds anything, and there is one part (own).
     pub fn is_empty(&self) -> bool
@@ -88,6 +119,49 @@ impl ShellFaults {
             && no_other_part(self.firsts.as_slice())
             && all_linked(&self.linking)
             && self.shared.as_slice().is_empty()
+    }
+
+    /// The gaps of loops, in file order (own).
+    pub fn gaps(&self) -> &[Gap]
+        ensures { result.now ≡ self.now.gaps }
+    {
+        self.gaps.as_slice()
+    }
+
+    /// The edges that aren't paired, by rising number (own).
+    pub fn unpaired(&self) -> &[Unpaired]
+        ensures { result.now ≡ self.now.unpaired }
+    {
+        self.unpaired.as_slice()
+    }
+
+    /// For each face the first face of its part (own).
+    pub fn firsts(&self) -> &[u32]
+        ensures { result.now ≡ self.now.firsts }
+    {
+        self.firsts.as_slice()
+    }
+
+    /// How many faces lie outside of the first part (own).
+    pub fn apart_count(&self) -> usize
+        ensures { result ≡ length (faces_apart self.now.firsts) }
+    {
+        apart_in(self.firsts.as_slice())
+    }
+
+    /// The fans; None where a loop has a gap or an edge isn't paired, since turns aren't definite
+    /// there (own).
+    pub fn linking(&self) -> Option<&Linking>
+        ensures { option_copied result ≡ self.now.linking }
+    {
+        self.linking.as_ref()
+    }
+
+    /// The vertices that an earlier shell has, by rising number (own).
+    pub fn shared(&self) -> &[u32]
+        ensures { result.now ≡ self.now.shared }
+    {
+        self.shared.as_slice()
     }
 }
 

@@ -28,6 +28,3 @@ pub use law::faults_are_definite;
 pub use part::firsts;
 pub use shared::shared_vertices;
 pub use unlinking::unlinked_vertices;
-
-#[cfg(test)]
-mod tests;

@@ -1,11 +1,12 @@
 ghost use Rattle.std.specs.Prelude.{◌≡◌, ◌∷◌, [], length, IfOk};
 ghost use Rattle.edge_uses.specs.Balls.{one_loop, vertex_key};
 
-use crate::is_closed;
 use iges_fields::{EntryNo, ItemList, NoMemory};
 use solid_data::{
-    Edge, EdgeId, EdgeKey, FaceUse, Loop, LoopUse, Shell, Shells, Solid, Uses, VertexId, VertexKey,
+    Edge, EdgeId, EdgeKey, FaceUse, Loop, LoopUse, Shell, ShellAt, Shells, Solid, Uses, VertexId,
+    VertexKey,
 };
+use solid_faults::{ShellFaults, faults, is_closed};
 use std::alloc::Global;
 use std::test::Fail;
 
@@ -103,7 +104,10 @@ fn pole_ball(alloc: Global) -> Result<Solid, NoMemory>
     Ok(Solid::new(EntryNo(13), shells, ItemList::new(alloc), vertices))
 }
 
-fn open_sheet(alloc: Global) -> Result<Solid, NoMemory> {
+// A face whose loop runs along one edge and doesn't return.
+fn open_sheet(alloc: Global) -> Result<Solid, NoMemory>
+    ensures { IfOk result (λ s. length s.shells ≡ 1) }
+{
     let there = LoopUse::EdgeUse {
         edge: EdgeId(0),
         along: true,
@@ -144,5 +148,23 @@ fn an_edge_used_once_is_not_closed(rt: HostRuntime) -> Result<(), Fail> {
     let solid = open_sheet(rt.alloc())?;
     let closed = is_closed(rt.alloc(), &solid)?;
     assert_eq!(rt; closed, false);
+    Ok(())
+}
+
+fn counts(found: &ShellFaults) -> (usize, usize, usize, bool, usize) {
+    (
+        found.gaps().len(),
+        found.unpaired().len(),
+        found.apart_count(),
+        found.linking().is_some(),
+        found.shared().len(),
+    )
+}
+
+#[test]
+fn its_loop_has_a_gap_and_its_edge_is_unpaired(rt: HostRuntime) -> Result<(), Fail> {
+    let solid = open_sheet(rt.alloc())?;
+    let found = faults(rt.alloc(), &solid, ShellAt(0))?;
+    assert_eq!(rt; counts(&found), (1, 1, 0, false, 0));
     Ok(())
 }

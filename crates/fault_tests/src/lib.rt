@@ -1,0 +1,5 @@
+//! Tests of whether a solid is closed, and of where it isn't.
+#![tactic(auto)]
+
+#[cfg(test)]
+mod closing;
