@@ -13,3 +13,4 @@ pub mod LinkNamed
 pub mod Definite
 pub mod FanSteps
 pub mod Assembled
+pub mod Flagged

@@ -9,3 +9,4 @@ pub mod PartPairs
 pub mod Tallied
 pub mod TurnPairs
 pub mod Naming
+pub mod FaceFlags
