@@ -3,3 +3,5 @@
 
 #[cfg(test)]
 mod closing;
+#[cfg(test)]
+mod flagging;
