@@ -14,6 +14,7 @@ pub mod Whole
 pub mod Occurs
 pub mod Made
 pub mod Above
+pub mod SortedOnce
 pub mod Tallies
 pub mod FirstOf
 pub mod Mating
