@@ -79,7 +79,7 @@ pub fn places_from(alloc: Global, first: usize, count: usize) -> Result<ItemList
     requires { first + count < 2 ^ 64 }
     ensures { IfOk result (λ list. list ≡ range_with_len first count) }
 {
-    let mut list = ItemList::new(alloc);
+    let mut list = ItemList::with_room(alloc, count)?;
     'count: for i in 0..count {
         list.push(first + i)?;
     }

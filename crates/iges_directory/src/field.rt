@@ -20,6 +20,7 @@ fn field(line: &[u8], k: usize) -> &[u8]
 }
 
 /// The number in the k-th field of a line, from 1.
+#[inline(always)]
 pub fn number_in(line: &[u8], k: usize) -> Option<i64>
     requires long { length line.now ≡ 80 }
     requires some { 0 < k }

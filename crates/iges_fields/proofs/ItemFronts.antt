@@ -48,13 +48,13 @@ prefix_len-take p (suc n) (x ∷ xs) =
 mantissa_is_not : (n b : ℕ) → is_mantissa_byte n ≡ false → is_mantissa_byte b ≡ true → (b == n) ≡ false
 mantissa_is_not n b none e = ne_eqb b n (λ is. both_ways (is_mantissa_byte n) none (subst (λ (x : ℕ). is_mantissa_byte x ≡ true) is e))
 
-unsigned_plain : (xs : List ℕ) → list_all is_mantissa_byte xs ≡ true → without_leading_sign xs ≡ xs
+pub unsigned_plain : (xs : List ℕ) → list_all is_mantissa_byte xs ≡ true → without_leading_sign xs ≡ xs
 unsigned_plain [] all = refl
 unsigned_plain (x ∷ xs) all =
     let e = (and_parts (is_mantissa_byte x) (list_all is_mantissa_byte xs) all).0 in
     cond-false (x == 45) xs (without_leading_plus (x ∷ xs)) (mantissa_is_not 45 x refl e) ∙ ap (λ (n : ℕ). drop n (x ∷ xs)) (cond-false (x == 43) 1 0 (mantissa_is_not 43 x refl e))
 
-trim_plain : (xs : List ℕ) → list_all is_mantissa_byte xs ≡ true → trim xs ≡ xs
+pub trim_plain : (xs : List ℕ) → list_all is_mantissa_byte xs ≡ true → trim xs ≡ xs
 trim_plain xs all =
     ap trim (sym (append-nil xs))
     ∙ trim-word 0 0 xs (list_all-implies is_mantissa_byte (λ b. not (is_space b)) (λ b e. number_byte_no_space b (mantissa_byte b e)) xs all)

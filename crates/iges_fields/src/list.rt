@@ -1,4 +1,4 @@
-ghost use Rattle.std.specs.Prelude.{◌≡◌, ◌<◌, ◌≤◌, ◌^◌, ◌↔◌, ◌∷◌, ◌++◌, [], drop, length, IfOk, IsSome, IfSome, OnOk, OnErr, option_copied, slice_get};
+ghost use Rattle.std.specs.Prelude.{◌≡◌, ◌<◌, ◌≤◌, ◌^◌, ◌↔◌, ◌∷◌, ◌++◌, [], length, IfOk, IsSome, IfSome, OnOk, OnErr, option_copied, slice_get};
 
 use crate::no_memory::NoMemory;
 use std::alloc::Global;
@@ -38,6 +38,7 @@ impl<T: Drop> ItemList<T> {
     }
 
     /// Puts an item at the end (own). Where memory runs out, the item is dropped and the list is as it was.
+    #[inline(always)]
     pub fn push(&mut self, item: T) -> Result<(), NoMemory>
         ensures ok { OnOk result (self.new ≡ self.old ++ item ∷ []) }
         ensures err { OnErr result (self.new ≡ self.old) }
@@ -46,15 +47,11 @@ impl<T: Drop> ItemList<T> {
         Ok(())
     }
 
-    /// The items from a place on, in as much memory as they need; those before them are dropped (own). It errs only where
-    /// memory runs out.
-    pub fn into_rest(mut self, at: usize) -> Result<ItemList<T>, NoMemory>
-        requires { at ≤ length self }
-        ensures { IfOk result (λ rest. rest ≡ drop at self) }
+    /// Gives back the room that no item needs (own). Where memory for a smaller block runs out, the room stays.
+    pub fn fit(&mut self)
+        ensures { self.new ≡ self.old }
     {
-        Ok(ItemList {
-            items: self.items.split_off(at)?,
-        })
+        self.items.shrink_to_fit();
     }
 
     /// How many items there are (own).

@@ -1,6 +1,6 @@
 ghost use Rattle.iges_fields.specs.InLine.{is_value, stays_in_line};
 ghost use Rattle.std.specs.List.{list_all};
-ghost use Rattle.std.specs.Prelude.{◌≡◌, [], ◌∷◌, ◌++◌, ◌<◌, ◌≤◌, ◌^◌, ◌↔◌, IfOk, IfSome, IsSome, IsTrue, OnOk, OnErr, drop, length, slice_get, option_copied};
+ghost use Rattle.std.specs.Prelude.{◌≡◌, [], ◌∷◌, ◌++◌, ◌<◌, ◌≤◌, ◌^◌, ◌↔◌, IfOk, IfSome, IsSome, IsTrue, OnOk, OnErr, length, slice_get, option_copied};
 
 use crate::list::ItemList;
 use crate::no_memory::NoMemory;
@@ -48,6 +48,7 @@ impl Values {
     }
 
     /// Puts the value at the end (own). Where memory runs out, the value is dropped and the list is as it was.
+    #[inline(always)]
     pub fn push(&mut self, value: Value) -> Result<(), NoMemory>
         requires { IsTrue (stays_in_line value) }
         ensures ok { OnOk result (self.new ≡ self.old ++ value ∷ []) }
@@ -56,15 +57,11 @@ impl Values {
         self.values.push(value)
     }
 
-    /// The values from a place on, in as much memory as they need; those before them are dropped (own). It errs only where
-    /// memory runs out.
-    pub fn into_rest(self, at: usize) -> Result<Values, NoMemory>
-        requires { at ≤ length self }
-        ensures { IfOk result (λ rest. rest ≡ drop at self) }
+    /// Gives back the room that no value needs (own). Where memory for a smaller block runs out, the room stays.
+    pub fn fit(&mut self)
+        ensures { self.new ≡ self.old }
     {
-        Ok(Values {
-            values: self.values.into_rest(at)?,
-        })
+        self.values.fit();
     }
 
     /// How many values there are (own).

@@ -6,10 +6,10 @@ ghost use Rattle.iges_params.specs.Reading.{above, read_record, used_values, wit
 ghost use Rattle.iges_params.specs.Records.{is_number, points_back, record_lines};
 ghost use Rattle.std.specs.List.{position_from};
 ghost use Rattle.std.specs.Ordering.{int_eq};
-ghost use Rattle.std.specs.Prelude.{◌≡◌, ◌+◌, ◌-◌, ◌*◌, ◌<◌, ◌≤◌, ◌^◌, IfSome, IsTrue, length, not, pos, slice_range, unsigned_abs};
+ghost use Rattle.std.specs.Prelude.{◌≡◌, ◌+◌, ◌-◌, ◌*◌, ◌<◌, ◌≤◌, ◌^◌, ◌∷◌, IfSome, IsTrue, length, not, pos, slice_range, unsigned_abs};
 
 use crate::part::{Part, put_text};
-use crate::passage::{Passage, bad, passage_values};
+use crate::passage::{Passage, bad, parted_passage};
 use iges_directory::{Entry, Placed};
 use iges_fields::{Delimiters, FILE_LIMIT, Value, Values};
 use iges_lines::{PassFault, Reason, Sections, columns, holds_number};
@@ -44,17 +44,14 @@ fn is_number(n: &i64, value: &Value) -> bool
     }
 }
 
-// A record's values without the type number, which must come first, in as much memory as they need.
-fn without_type(first: u64, kind: &i64, values: Values) -> Result<Values, PassFault>
-    ensures { Gives result (without_type first kind.now values) }
+// A record's values behind its first, which must be the type number.
+fn behind_type(first: u64, kind: &i64, number: &Value, others: Values) -> Result<Values, PassFault>
+    ensures { Gives result (without_type first kind.now (number.now ∷ others)) }
 {
-    let Some(number) = values.get(0) else {
-        return Err(bad(first, Reason::RecordType));
-    };
     if !is_number(kind, number) {
         return Err(bad(first, Reason::RecordType));
     }
-    Ok(values.into_rest(1)?)
+    Ok(others)
 }
 
 /// How many lines stand above the parameter lines.
@@ -109,8 +106,8 @@ fn used_values(
         first,
         width: 64,
     };
-    let values = passage_values(alloc, &passage, delims, Reason::RecordValue)?;
-    without_type(first, &placed.entry.kind, values)
+    let (number, others) = parted_passage(alloc, &passage, delims, Reason::RecordValue)?;
+    behind_type(first, &placed.entry.kind, &number, others)
 }
 
 /// The values of the record of the entry with this number, none for type 0, where so many lines stand above the

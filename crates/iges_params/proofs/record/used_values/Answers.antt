@@ -8,14 +8,14 @@ returns-in-Some c =
     let found = c.in-Some.ensures {u = tt} in
     rw c.bad.ensures (foreign_fails c.args.above c.args.sections.now.param c.args.delims c.args.number c.args.placed.now _ _ _ c.magnitude-place.ensures c.magnitude-count.ensures refl c.in-Some.i found.place)
 
-pub returns-in_err-values : goal.returns-in_err-values
-returns-in_err-values c =
-    let p = err_from_is_err_and c.from_residual-in_err-values.result c.from_residual-in_err-values.ensures.1 in
+pub returns-in_err-number : goal.returns-in_err-number
+returns-in_err-number c =
+    let p = err_from_is_err_and c.from_residual-in_err-number.result c.from_residual-in_err-number.ensures.1 in
     let put = c.in_ok-put_text.ensures {u = tt} in
     let none = sym c.in_default.is ∙ c.first_foreign.ensures.place in
     rw (p.1, p.2) (
     text_fails c.args.above c.args.sections.now.param c.args.delims c.args.number c.args.placed.now _ _ _ c.magnitude-place.ensures c.magnitude-count.ensures refl none c.as_slice-columns.result.now (c.as_slice-columns.ensures.value ∙ put.text) _
-    (c.in_err-values.ensures {u = tt})
+    (c.in_err-number.ensures {u = tt}).err
     )
 
 pub returns : goal.returns
@@ -23,4 +23,4 @@ returns c =
     let put = c.in_ok-put_text.ensures {u = tt} in
     let none = sym c.in_default.is ∙ c.first_foreign.ensures.place in
     text_goes_on c.args.above c.args.sections.now.param c.args.delims c.args.number c.args.placed.now _ _ _ c.magnitude-place.ensures c.magnitude-count.ensures refl none c.as_slice-columns.result.now (c.as_slice-columns.ensures.value ∙ put.text) _ _
-    (c.in_ok-values.ensures {u = tt}) c.without_type.ensures
+    (c.in_ok-number.ensures {u = tt}).ok c.behind_type.ensures

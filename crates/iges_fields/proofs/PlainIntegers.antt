@@ -1,0 +1,137 @@
+-- Digits at the front of a text, behind which a delimiter stands.
+use Rattle.std.proofs.Common.{◌≡◌, ℕ, zero, suc, ◌+◌, ◌-◌, ◌*◌, ◌^◌, ◌<◌, ◌≤◌, Bool, true, false, not, List, [], ◌∷◌, ◌++◌, length, take, drop, get_or, ℤ, pos, Result, Ok, refl, sym, ap, subst, ◌∙◌, arith, length-append}
+use Rattle.std.specs.Prelude.{◌==◌, nat_le, neg_ℤ}
+use Rattle.std.specs.Char.{is_ascii_digit}
+use Rattle.std.specs.List.{list_all, prefix_len}
+use Rattle.std.specs.Str.Parse.{digits_value, signed_digits_value, without_leading_sign}
+use Rattle.std.proofs.Math.Nat.{pow-le-pow_right, pow-suc}
+use Rattle.std.proofs.Math.Seq.{drop-cons}
+use Rattle.std.proofs.lemmas.Bool.{and_from, and_parts, both_ways, cond-false, false_from_ne_true, le-leb, not-true, not_from_false, eqb-true}
+use Rattle.std.proofs.lemmas.Int.Digits.{digits_value_more}
+use Rattle.std.proofs.lemmas.List.{length-drop, length-take-le, take-append-drop}
+use Rattle.std.proofs.lemmas.List.Folds.{list_all_more}
+use Rattle.std.proofs.lemmas.Str.{digit_value_digit}
+use Rattle.iges_fields.specs.declared.value.Value.{Value}
+use Rattle.iges_fields.specs.declared.value.Value.TheVariants as value
+use Rattle.iges_fields.specs.declared.fault.FieldFault.{FieldFault}
+use Rattle.iges_fields.specs.Delims.{Delims, are_permitted}
+use Rattle.iges_fields.specs.FreeText.{begins_text, fits_64_bits, is_delimiter_of}
+use Rattle.iges_fields.specs.Reading.{read_item, word_item}
+use Rattle.iges_fields.specs.Word.{after_spaces, are_digits, is_empty, is_integer, is_space, trim}
+use Rattle.iges_fields.proofs.DigitFronts.{digit_range}
+use Rattle.iges_fields.proofs.ItemFronts.{trim_plain, unsigned_plain}
+use Rattle.iges_fields.proofs.Lists.{after_spaces-other, prefix_len-front}
+use Rattle.iges_fields.proofs.Steps.{item_is_word, no_H_behind, word_from, word_int}
+use Rattle.iges_fields.proofs.WordKinds.{digit_mantissa}
+use Rattle.iges_fields.proofs.Words.{digit_is_not, digit_number_byte, list_all-implies, number_byte_no_space, number_byte_no_stop, stop_no_H}
+
+-- ---- digit by digit
+
+pub record IsDigitsSoFar (text : List ℕ) (len value : ℕ) : Type 0 where
+  pub within : len ≤ length text
+  pub most : len ≤ 18
+  pub all : list_all is_ascii_digit (take len text) ≡ true
+  pub is : value ≡ digits_value 10 (take len text)
+  pub few : value < 10 ^ len
+
+pub no_digits_yet : (text : List ℕ) → IsDigitsSoFar text 0 0
+no_digits_yet text = record { within = omega arith; most = omega arith; all = refl; is = refl; few = omega arith }
+
+powers : (n : ℕ) → n ≤ 18 → 10 ^ n ≤ 10 ^ 18
+powers n h = pow-le-pow_right (omega arith) h
+
+pub digits_few : (text : List ℕ) (len value : ℕ) → IsDigitsSoFar text len value → value < 10 ^ 18
+digits_few text len value so_far = let p = powers len so_far.most in omega (arith, so_far.few, p)
+
+module _ (text : List ℕ) (len value : ℕ) (so_far : IsDigitsSoFar text len value) (h : len < length text) (m : len < 18) (e : is_ascii_digit (get_or text len 0) ≡ true) where
+  abbrev byte : ℕ
+  byte = get_or text len 0
+
+  pub digit_small : byte - 48 ≤ 9
+  digit_small = let range = digit_range byte e in omega (arith, range.0, range.1)
+
+  pub digit_next : IsDigitsSoFar text (len + 1) (value * 10 + (byte - 48))
+  digit_next =
+      let range = digit_range byte e in
+      let more = digits_value_more 10 text len h in
+      let worth = digit_value_digit byte range in
+      let small = digit_small in
+      let ten : 10 ^ (len + 1) ≡ 10 ^ len * 10 = power_next len in
+      record {
+        within = omega (arith, h);
+        most = omega (arith, m);
+        all = list_all_more is_ascii_digit text len 0 h ∙ and_from _ _ so_far.all e;
+        is = omega (arith, more, worth, so_far.is);
+        few = omega (arith, so_far.few, small, ten);
+      }
+    where
+      power_next : (n : ℕ) → 10 ^ (n + 1) ≡ 10 ^ n * 10
+      power_next n = let next : n + 1 ≡ suc n = omega arith in ap (λ (m : ℕ). 10 ^ m) next ∙ pow-suc 10 n
+
+-- ---- the item
+
+module _ (d : Delims) (ok : are_permitted d ≡ true) (text : List ℕ) (n : ℕ) (within : n ≤ length text) (digits : list_all is_ascii_digit (take n text) ≡ true) (some : 0 < n)
+    (behind : List ℕ) (behind-is : behind ≡ drop n text) (more : 1 ≤ length behind) (stop : is_delimiter_of d (get_or behind 0 0) ≡ true) where
+  abbrev front : List ℕ
+  front = take n text
+
+  abbrev first : ℕ
+  first = get_or behind 0 0
+
+  behind_cons : behind ≡ first ∷ drop 1 behind
+  behind_cons = drop-cons behind 0 0 (omega (arith, more))
+
+  split : text ≡ front ++ first ∷ drop 1 behind
+  split = sym (take-append-drop n text) ∙ ap (λ (t : List ℕ). front ++ t) (sym behind-is ∙ behind_cons)
+
+  long : length front ≡ n
+  long = length-take-le n text within
+
+  no_digit : is_ascii_digit first ≡ false
+  no_digit = false_from_ne_true (is_ascii_digit first) (λ e. both_ways (is_delimiter_of d first) (not-true _ (number_byte_no_stop d ok first (digit_number_byte first e))) stop)
+
+  digits_end : n ≡ prefix_len is_ascii_digit text
+  digits_end = sym (ap (prefix_len is_ascii_digit) split ∙ prefix_len-front is_ascii_digit front first (drop 1 behind) digits no_digit ∙ long)
+
+  word_ends : n ≡ prefix_len (λ b. not (is_delimiter_of d b)) text
+  word_ends =
+      let p : ℕ → Bool = λ b. not (is_delimiter_of d b) in
+      sym (ap (prefix_len p) split
+      ∙ prefix_len-front p front first (drop 1 behind) (list_all-implies is_ascii_digit p (λ b e. number_byte_no_stop d ok b (digit_number_byte b e)) front digits) (ap not stop)
+      ∙ long)
+
+  no_text : begins_text text ≡ false
+  no_text =
+      no_H_behind text n digits_end (subst (λ (t : List ℕ). 1 ≤ length t) behind-is more)
+      (λ e. both_ways (first == 72) (stop_no_H d ok first stop) (ap (λ (b : ℕ). b == 72) (ap (λ (t : List ℕ). get_or t 0 0) behind-is ∙ e)))
+
+  no_space_first : (t : List ℕ) (m : ℕ) → 0 < m → m ≤ length t → list_all is_ascii_digit (take m t) ≡ true → t ≡ after_spaces t
+  no_space_first [] m a b all = absurd (omega (arith, a, b))
+  no_space_first (c ∷ t) zero a b all = absurd (omega (arith, a))
+  no_space_first (c ∷ t) (suc m) a b all =
+      sym (after_spaces-other c t (not-true _ (number_byte_no_space c (digit_number_byte c (and_parts (is_ascii_digit c) (list_all is_ascii_digit (take m t)) all).0))))
+
+  body_is : text ≡ after_spaces text
+  body_is = no_space_first text n some within digits
+
+  plain : (xs : List ℕ) → list_all is_ascii_digit xs ≡ true → 0 < length xs → (is_integer xs ≡ true) × (signed_digits_value 10 xs ≡ pos (digits_value 10 xs)) × (xs ≡ trim xs)
+  plain [] all a = absurd (omega (arith, a))
+  plain (c ∷ xs) all a =
+      let bytes = list_all-implies is_ascii_digit _ digit_mantissa (c ∷ xs) all in
+      let unsigned : without_leading_sign (c ∷ xs) ≡ c ∷ xs = unsigned_plain (c ∷ xs) bytes in
+      let minus : (c == 45) ≡ false = not-true _ (digit_is_not 45 c refl (and_parts (is_ascii_digit c) (list_all is_ascii_digit xs) all).0) in (
+        subst (λ (w : List ℕ). are_digits w ≡ true) (sym unsigned) (and_from (not (is_empty (c ∷ xs))) (list_all is_ascii_digit (c ∷ xs)) refl all),
+        cond-false (c == 45) (neg_ℤ (pos (digits_value 10 (without_leading_sign (c ∷ xs))))) (pos (digits_value 10 (without_leading_sign (c ∷ xs)))) minus ∙ ap (λ (w : List ℕ). pos (digits_value 10 w)) unsigned,
+        sym (trim_plain (c ∷ xs) bytes),
+      )
+
+  pub plain_item : digits_value 10 front < 10 ^ 18 → read_item d text ≡ Ok (value.Int (pos (digits_value 10 front)), behind)
+  plain_item few =
+      let p = plain front digits (omega (arith, long, some)) in
+      let limit : 10 ^ 18 ≡ 1000000000000000000 = refl in
+      let fits : fits_64_bits (pos (digits_value 10 front)) ≡ true = and_from _ _ refl (le-leb (digits_value 10 front) 9223372036854775807 (omega (arith, few, limit))) in
+      let inside : n ≡ length text → ⊥ = λ e. let rest : length behind ≡ length text - n = ap length behind-is ∙ length-drop n text in omega (arith, e, rest, more) in
+      let word = word_int d text front p.0 (ap fits_64_bits p.1 ∙ fits) in
+      item_is_word d text (ap begins_text (sym body_is) ∙ no_text) ∙ ap (word_item d text) (sym body_is)
+      ∙ word_from d text text n word_ends inside front behind front refl behind-is p.2 (Ok (value.Int (signed_digits_value 10 front))) word
+      ∙ ap (λ (z : ℤ). Ok (value.Int z, behind)) p.1

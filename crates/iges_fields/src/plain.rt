@@ -1,0 +1,52 @@
+//! Integers that are written by digits alone, behind which a delimiter stands: most items of a file are these.
+
+ghost use Rattle.iges_fields.specs.declared.value.Value.TheVariants as value;
+ghost use Rattle.iges_fields.specs.Delims.{are_permitted};
+ghost use Rattle.iges_fields.specs.Fronts.{AreDigits};
+ghost use Rattle.iges_fields.specs.Reading.{read_item};
+ghost use Rattle.std.specs.Prelude.{◌≡◌, Ok, IfSome, IsTrue};
+
+use crate::delimiters::Delimiters;
+
+// So many digits write a number that 64 signed bits hold.
+const MOST: usize = 18;
+
+/// Digits at the front of a text: how many, and the number that they write.
+#[derive(Clone, Copy, Debug)]
+pub struct Digits {
+    pub len: usize,
+    pub value: u64,
+}
+
+/// The digits at the front of the text, no more than eighteen.
+#[inline(always)]
+fn digits_of(text: &[u8]) -> Digits
+    ensures { AreDigits text.now result }
+{
+    let most = text.len().min(MOST);
+    let mut len = 0;
+    let mut value = 0;
+    'digits: while len < most && text[len].is_ascii_digit() {
+        value = value * 10 + u64::from(text[len] - b'0');
+        len += 1;
+    }
+    Digits { len, value }
+}
+
+/// The integer at the front of the text, where digits alone write it, and what stands from its delimiter on. None says
+/// nothing of the text.
+#[inline(always)]
+pub fn plain_integer<'t>(delims: &Delimiters, text: &'t [u8]) -> Option<(i64, &'t [u8])>
+    requires { IsTrue (are_permitted delims.now) }
+    ensures { IfSome result (λ x. read_item delims.now text.now ≡ Ok (value.Int x.0, x.1.now)) }
+{
+    let digits = digits_of(text);
+    let (_, behind) = text.split_at(digits.len);
+    let [stop, ..] = behind else {
+        return None;
+    };
+    if digits.len == 0 || !delims.has(*stop) {
+        return None;
+    }
+    Some((digits.value as i64, behind))
+}
