@@ -14,3 +14,9 @@ pub mod Definite
 pub mod FanSteps
 pub mod Assembled
 pub mod Flagged
+pub mod Counting
+pub mod EdgeRows
+pub mod GroupSteps
+pub mod Placed
+pub mod RisenLists
+pub mod PartSteps

@@ -1,10 +1,9 @@
 -- Nodes that pairs join, in chains.
-use Rattle.std.specs.Prelude.{◌≡◌, ◌<◌, ◌≤◌, ◌⊎◌, ℕ, List, length, if◌then◌else◌, slice_set}
+use Rattle.std.specs.Prelude.{◌≡◌, ◌<◌, ◌≤◌, ◌⊎◌, ℕ, List, length}
 use Rattle.std.specs.List.{AllByRecursion}
 use Rattle.std.proofs.Common.{get_or}
-use Rattle.std.proofs.Math.Dec.{ltb}
 use Rattle.solid_data.specs.Chain.{LeadsTo}
-use Rattle.solid_data.proofs.Members.{Has, total}
+use Rattle.solid_data.proofs.Members.{Has}
 
 abbrev pub Linked : List (ℕ × ℕ) → ℕ → ℕ → Type 0
 Linked pairs a b = Has pairs (a, b) ⊎ Has pairs (b, a)
@@ -25,10 +24,3 @@ pub record AreLabels (pairs : List (ℕ × ℕ)) (count : ℕ) (labels : List �
 pub record AreComponents (pairs : List (ℕ × ℕ)) (count : ℕ) (labels : List ℕ) : Type 0 where
   pub marks : AreLabels pairs count labels
   pub settled : (a b : ℕ) → Has pairs (a, b) → get_or labels a 0 ≡ get_or labels b 0
-
--- the label of x, where it is greater, becomes v
-abbrev pub lowered : List ℕ → ℕ → ℕ → List ℕ
-lowered labels x v = if ltb v (get_or labels x 0) then slice_set labels x v else labels
-
-abbrev pub sum_of : List ℕ → ℕ
-sum_of xs = total (λ (x : ℕ). x) xs

@@ -2,6 +2,7 @@ pub mod Failing
 pub mod Gaps
 pub mod Edges
 pub mod Components
+pub mod Trees
 pub mod Parts
 pub mod Fans
 pub mod Faults
@@ -10,3 +11,9 @@ pub mod Tallied
 pub mod TurnPairs
 pub mod Naming
 pub mod FaceFlags
+pub mod RowPlaces
+pub mod Groups
+pub mod UseCounts
+pub mod FaceUses
+pub mod PartFacts
+pub mod PartTables

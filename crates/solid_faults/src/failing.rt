@@ -84,7 +84,8 @@ fn no_other_part(firsts: &[u32]) -> bool
     true
 }
 
-fn apart_in(firsts: &[u32]) -> usize
+/// How many faces lie outside of the first part, by the first face of the part of each (own).
+pub fn apart_in(firsts: &[u32]) -> usize
     ensures { result ≡ length (faces_apart firsts.now) }
 {
     let mut count = 0;

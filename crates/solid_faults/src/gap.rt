@@ -22,7 +22,8 @@ pub struct Gap {
     pub tuple: u32,
 }
 
-fn begins_at(edge: Option<&Edge>, along: bool) -> u32
+/// The vertex where an edge begins that is walked along it or against it; 0 where there is no edge (own).
+pub fn begins_at(edge: Option<&Edge>, along: bool) -> u32
     ensures { result ≡ begin_of (option_copied edge.entry) along }
 {
     match edge {
@@ -31,7 +32,8 @@ fn begins_at(edge: Option<&Edge>, along: bool) -> u32
     }
 }
 
-fn starts_at(solid: &Solid, item: LoopUse) -> u32
+/// The vertex where a use starts, by the flag of its tuple alone; 0 where the solid hasn't its edge (own).
+pub fn starts_at(solid: &Solid, item: LoopUse) -> u32
     ensures { result ≡ start_of solid.now item }
 {
     match item {
@@ -40,7 +42,8 @@ fn starts_at(solid: &Solid, item: LoopUse) -> u32
     }
 }
 
-fn ends_at(solid: &Solid, item: LoopUse) -> u32
+/// The vertex where a use ends, by the flag of its tuple alone; 0 where the solid hasn't its edge (own).
+pub fn ends_at(solid: &Solid, item: LoopUse) -> u32
     ensures { result ≡ end_of solid.now item }
 {
     match item {

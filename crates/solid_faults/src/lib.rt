@@ -5,6 +5,7 @@
 //! vertex.
 #![tactic(auto)]
 
+mod by_edge;
 mod closing;
 mod edge;
 mod failing;
@@ -12,21 +13,34 @@ mod fan;
 mod fanning;
 mod flagging;
 mod gap;
+mod grouping;
 mod joining;
 mod law;
 mod part;
+mod parting;
+mod placing;
+mod rising;
 mod shared;
+mod tallying;
 mod unlinking;
+mod used;
 
+pub use by_edge::rows_by_edge;
 pub use closing::is_closed;
 pub use edge::{Unpaired, rows_of_edge, unpaired_edges};
-pub use failing::{Linking, ShellFaults, faults, faults_of};
+pub use failing::{Linking, ShellFaults, apart_in, faults, faults_of};
 pub use fan::Unlinked;
 pub use fanning::fan_leasts;
 pub use flagging::is_closed_flagged;
-pub use gap::{Gap, gaps};
+pub use gap::{Gap, begins_at, ends_at, gaps, starts_at};
+pub use grouping::{Groups, grouped};
 pub use joining::components;
 pub use law::faults_are_definite;
 pub use part::firsts;
-pub use shared::shared_vertices;
+pub use parting::{Part, PartTables, part_tables, parts};
+pub use placing::{RowPlace, row_places};
+pub use rising::rise;
+pub use shared::{below_next, shared_vertices};
+pub use tallying::{UseCounts, use_counts};
 pub use unlinking::unlinked_vertices;
+pub use used::{Used, nothing_used, used_by};

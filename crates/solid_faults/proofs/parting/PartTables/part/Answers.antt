@@ -1,0 +1,48 @@
+use Rattle.std.proofs.Common.{◌≡◌, ◌∙◌, ap, sym, subst, flat_map, length, map, arith}
+use Rattle.std.specs.Prelude.{All}
+use Rattle.solid_data.specs.SolidData.{occurring}
+use Rattle.solid_data.specs.declared.solid.FaceUse.{FaceUse}
+use Rattle.edge_uses.specs.Before.{face_vertices}
+use Rattle.edge_uses.specs.Ranges.{IsWithin}
+use Rattle.solid_faults.specs.FaceUses.{face_edges}
+use Rattle.solid_faults.specs.Groups.{places_of}
+use Rattle.solid_faults.specs.PartFacts.{part_faces, part_edges, part_vertices, IsPart}
+use Rattle.solid_faults.specs.PartTables.{ShellParts, low_vertex, faces_numbered}
+use Rattle.solid_faults.specs.declared.parting.Part.{Part}
+use Rattle.solid_faults.proofs.PartSteps.{part_named, edges_below, vertices_below, part_within, touching_kept, rises_to}
+use Rattle.solid_faults.proofs.parting.PartTables.part.Goals as goal
+
+pub touching-requires-clause-within : goal.touching-requires-clause-within
+touching-requires-clause-within c =
+    let s = c.self.inside.solid.now in
+    let h = c.self.inside.shell.now in
+    let firsts = c.self.inside.firsts.now in
+    let named : faces_numbered h c.places-numbers.result.now ≡ part_faces h firsts c.args.first =
+    ap (faces_numbered h) (c.places-numbers.ensures ∙ ap (places_of c.args.first) c.self.invariant.parts) ∙ part_named h firsts c.args.first c.self.invariant.each in
+    let vertices : c.rise-2.new.numbers.items ≡ part_vertices s h firsts c.args.first =
+    rises_to (length s.vertices) c.in_ok-used.used.vertices.items c.rise-2.new.numbers.items (flat_map (face_vertices s) (part_faces h firsts c.args.first)) c.rise-2.ensures (c.in_ok-used.ensures.vertices ∙ ap (flat_map (face_vertices s)) named) (vertices_below s h firsts c.args.first c.self.invariant.known) in
+    subst (All (IsWithin c.self.inside.range)) (sym (c.as_slice-vertices.ensures.value ∙ vertices)) (part_within s h firsts c.args.first c.self.inside.range c.self.invariant.within)
+
+pub returns : goal.returns
+returns c =
+    let s = c.self.inside.solid.now in
+    let h = c.self.inside.shell.now in
+    let firsts = c.self.inside.firsts.now in
+    let range = c.self.inside.range in
+    let named : faces_numbered h c.places-numbers.result.now ≡ part_faces h firsts c.args.first =
+    ap (faces_numbered h) (c.places-numbers.ensures ∙ ap (places_of c.args.first) c.self.invariant.parts) ∙ part_named h firsts c.args.first c.self.invariant.each in
+    let edges : c.rise.new.numbers.items ≡ part_edges s h firsts c.args.first =
+    rises_to (length s.edges) c.in_ok-used.used.edges.items c.rise.new.numbers.items (flat_map face_edges (part_faces h firsts c.args.first)) c.rise.ensures (c.in_ok-used.ensures.edges ∙ ap (flat_map face_edges) named) (edges_below s h firsts c.args.first c.self.invariant.known) in
+    let vertices : c.rise-2.new.numbers.items ≡ part_vertices s h firsts c.args.first =
+    rises_to (length s.vertices) c.in_ok-used.used.vertices.items c.rise-2.new.numbers.items (flat_map (face_vertices s) (part_faces h firsts c.args.first)) c.rise-2.ensures (c.in_ok-used.ensures.vertices ∙ ap (flat_map (face_vertices s)) named) (vertices_below s h firsts c.args.first c.self.invariant.known) in
+    let told : Part = record { faces = c.in_ok-faces.faces; edges = c.len.result; vertices = c.rise-2.new.numbers; unpaired = c.unpaired_among.result; touching = c.in_ok-touching.touching } in
+    subst (λ (q : ShellParts). IsPart q.solid q.shell q.firsts q.unpaired c.args.first told) c.self.view_is (record {
+      faces = c.in_ok-faces.ensures ∙ ap (map (λ (f : FaceUse). f.entity)) named;
+      edges = omega (arith, c.len.ensures, ap length edges);
+      vertices = vertices;
+      unpaired = c.unpaired_among.ensures ∙ (ap (λ es. length (occurring es c.self.inside.by_edge)) (c.as_slice-2.ensures.value ∙ edges) ∙ ap (λ us. length (occurring (part_edges s h firsts c.args.first) us)) c.self.invariant.edges);
+      touching = c.in_ok-touching.ensures
+          ∙ (ap (λ ms. flat_map (low_vertex range ms c.args.first) c.as_slice-vertices.result.now) c.as_slice.ensures.value
+          ∙ (ap (flat_map (low_vertex range c.self.inside.lows.items c.args.first)) (c.as_slice-vertices.ensures.value ∙ vertices)
+          ∙ touching_kept s h firsts c.args.first range c.self.inside.lows.items c.self.invariant.lows (part_within s h firsts c.args.first range c.self.invariant.within) (omega (arith, c.ranges.first.fits))));
+    })

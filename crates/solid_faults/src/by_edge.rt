@@ -1,0 +1,39 @@
+//! The rows of a shell, edge by edge.
+
+ghost use Rattle.std.specs.Prelude.{◌≡◌, ℕ, ◌+◌, ◌<◌, ◌≤◌, ◌^◌, IfOk, length, map, slice_get};
+ghost use Rattle.edge_uses.specs.declared.row.Row.{Row as AnyRow};
+ghost use Rattle.solid_faults.specs.Edges.{rows_on_edge};
+ghost use Rattle.solid_faults.specs.Groups.{places_of};
+
+use crate::grouping::{Groups, grouped};
+use edge_uses::{Row, Rows};
+use iges_fields::NoMemory;
+use solid_data::RowId;
+use std::alloc::Global;
+
+fn row_at(rows: &Rows, i: usize) -> Row
+    requires row { i < length rows.now.rows }
+    requires few { i < 2 ^ 29 }
+    ensures { slice_get rows.now.rows i ≡ Some result }
+{
+    rows.row(RowId(i as u32)).unwrap()
+}
+
+fn edges_of_rows(alloc: Global, rows: &Rows) -> Result<Vec<u32>, NoMemory>
+    ensures { IfOk result (λ edges. edges.items ≡ map (λ (r : AnyRow). r.edge.0) rows.now.rows) }
+{
+    let mut edges = Vec::with_capacity(alloc, rows.len())?;
+    'rows: for i in 0..rows.len() {
+        edges.push(row_at(rows, i).edge.0)?;
+    }
+    Ok(edges)
+}
+
+/// The numbers of a shell's rows by the edges that they have, those of an edge in file order (own). It goes once over the
+/// rows, where `rows_of_edge` does so for each edge.
+pub fn rows_by_edge(alloc: Global, rows: &Rows) -> Result<Groups, NoMemory>
+    ensures { IfOk result (λ groups. (e : ℕ) → places_of e groups ≡ rows_on_edge rows.now e) }
+{
+    let edges = edges_of_rows(alloc, rows)?;
+    grouped(alloc, edges, rows.edge_span())
+}
