@@ -1,0 +1,4 @@
+pub mod Splits
+pub mod NamedKinds
+pub mod Sites
+pub mod Breaking

@@ -1,0 +1,7 @@
+pub mod Kinds
+pub mod Expected
+pub mod Due
+pub mod Begins
+pub mod Told
+pub mod BadValue
+pub mod Naming

@@ -1,0 +1,3 @@
+pub mod FanFacts
+pub mod VertexFaces
+pub mod FaceTable
