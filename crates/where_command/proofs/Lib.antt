@@ -1,0 +1,6 @@
+pub mod ShortWords
+pub mod GivenWords
+pub mod Outcomes
+pub mod OneFaults
+pub mod OneAnswer
+pub mod Laws

@@ -1,0 +1,59 @@
+-- What is owed.
+use Rattle.std.specs.Prelude.{◌≡◌, ◌⊎◌, ℕ, ◌<◌, ◌≤◌, Bool, true, false, List, [], ◌++◌, length, MatchOption}
+use Rattle.iges_fields.specs.declared.TheConstants.{FILE_LIMIT}
+use Rattle.iges_fields.specs.declared.entry_no.EntryNo.{EntryNo}
+use Rattle.iges_lines.specs.declared.fault.LineFault.{LineFault}
+use Rattle.iges_params.specs.Contents.{Contents}
+use Rattle.iges_params.specs.IsFile.{IsFile}
+use Rattle.iges_params.specs.Refusal.{Refusal}
+use Rattle.solid_data.specs.declared.verdict.Verdict.{Verdict}
+use Rattle.solid_data.specs.declared.verdict.Verdict.TheVariants.{Closed, Fails}
+use Rattle.command_replies.specs.declared.answer.Answer.{Answer}
+use Rattle.command_replies.specs.declared.answer.Answer.TheVariants as answer
+use Rattle.command_replies.specs.Due.{Owed, Exactly}
+use Rattle.command_replies.specs.Texts.{bad_file_line}
+use Rattle.where_text.specs.Sentences.{reason_sentence}
+use Rattle.where_text.specs.declared.listing.Listing.{Listing}
+use Rattle.where_solids.specs.Overview.{IsOverview, all_close}
+use Rattle.where_solids.specs.Told.{IsToldOf}
+use Rattle.where_command.specs.declared.asked.Asked.{Asked}
+use Rattle.where_command.specs.declared.asked.Asked.TheVariants as asked
+use Rattle.where_command.specs.Asked.{asked_of, usage_line}
+
+-- the line of a bad file, and the sentence of the reason
+abbrev pub bad_file_text : LineFault → List ℕ
+bad_file_text fault = bad_file_line fault ++ reason_sentence fault.reason
+
+-- what is owed of bytes that are no file to be judged: that they are too many, or what is wrong with the file
+abbrev pub OfNoFile : List ℕ → Owed
+OfNoFile bytes a t =
+    ((FILE_LIMIT < length bytes) × Exactly answer.TooLarge [] a t)
+    ⊎ ((length bytes ≤ FILE_LIMIT) × (fault : LineFault) × Refusal bytes fault × Exactly answer.BadFile (bad_file_text fault) a t)
+
+abbrev pub answer_to : Verdict → Answer
+answer_to Closed = answer.Done
+answer_to (Fails x) = answer.No
+
+abbrev pub answer_where : Bool → Answer
+answer_where true = answer.Done
+answer_where false = answer.No
+
+-- of one solid of a file: its verdict, and where it fails
+abbrev pub OfSolid : ℕ → Listing → Contents → Owed
+OfSolid n listing f a t = (v : Verdict) × IsToldOf listing f (record { 0 = n }) v t × (a ≡ answer_to v)
+
+-- of all solids of a file: the verdict on each
+abbrev pub OfOverview : Contents → Owed
+OfOverview f a t = (vs : List Verdict) × IsOverview f vs t × (a ≡ answer_where (all_close vs))
+
+abbrev pub OfContents : Asked → Contents → Owed
+OfContents asked.Overview f = OfOverview f
+OfContents (asked.Solid n listing) f = OfSolid n listing f
+
+-- what is owed of a file's bytes
+abbrev pub DueOf : Asked → List ℕ → Owed
+DueOf q bytes a t = OfNoFile bytes a t ⊎ ((length bytes ≤ FILE_LIMIT) × (f : Contents) × IsFile bytes f × OfContents q f a t)
+
+-- what is owed for these words and the file's bytes
+abbrev pub Due : List (List ℕ) → List ℕ → Owed
+Due words bytes a t = MatchOption (asked_of words) (Exactly answer.Usage usage_line a t) (λ q. DueOf q bytes a t)

@@ -1,0 +1,71 @@
+//! The replies to what is asked of a file.
+
+ghost use Rattle.std.specs.Prelude.{◌≡◌, IfOk};
+ghost use Rattle.where_command.specs.Asked.{usage_line};
+ghost use Rattle.where_command.specs.Due.{OfContents, OfOverview, OfSolid, answer_to, answer_where};
+
+use crate::asked::Asked;
+use command_replies::{Answer, Reply};
+use iges_fields::{Bytes, EntryNo, NoMemory};
+use iges_params::File;
+use solid_data::Verdict;
+use std::alloc::Global;
+use where_solids::{tell, tell_all};
+use where_text::Listing;
+
+const USAGE: &[u8] = b"usage: igesolid-where FILE [N [all]]\n";
+
+/// The reply to words of no listed form.
+pub fn usage_reply(alloc: Global) -> Result<Reply, NoMemory>
+    ensures { IfOk result (λ reply. (reply.answer ≡ Answer.Usage) × (reply.text ≡ usage_line)) }
+{
+    Ok(Reply {
+        answer: Answer::Usage,
+        text: Bytes::copy(alloc, USAGE)?,
+    })
+}
+
+fn answer_to(verdict: Verdict) -> Answer
+    ensures { result ≡ answer_to verdict }
+{
+    match verdict {
+        Verdict::Closed => Answer::Done,
+        Verdict::Fails(_) => Answer::No,
+    }
+}
+
+fn answer_where(closed: bool) -> Answer
+    ensures { result ≡ answer_where closed }
+{
+    if closed { Answer::Done } else { Answer::No }
+}
+
+fn solid_reply(alloc: Global, file: &File, no: u32, listing: Listing) -> Result<Reply, NoMemory>
+    ensures { IfOk result (λ reply. OfSolid no listing file.now reply.answer reply.text) }
+{
+    let told = tell(alloc, file, EntryNo(no), listing)?;
+    Ok(Reply {
+        answer: answer_to(told.verdict),
+        text: told.text,
+    })
+}
+
+fn overview_reply(alloc: Global, file: &File) -> Result<Reply, NoMemory>
+    ensures { IfOk result (λ reply. OfOverview file.now reply.answer reply.text) }
+{
+    let told = tell_all(alloc, file)?;
+    Ok(Reply {
+        answer: answer_where(told.all_closed),
+        text: told.text,
+    })
+}
+
+/// The reply to what is asked of a file.
+pub fn contents_reply(alloc: Global, asked: Asked, file: &File) -> Result<Reply, NoMemory>
+    ensures { IfOk result (λ reply. OfContents asked file.now reply.answer reply.text) }
+{
+    match asked {
+        Asked::Overview => overview_reply(alloc, file),
+        Asked::Solid(no, listing) => solid_reply(alloc, file, no, listing),
+    }
+}

@@ -1,0 +1,3 @@
+pub mod ItemSteps
+pub mod ReachSteps
+pub mod SharedBelow

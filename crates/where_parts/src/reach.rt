@@ -1,0 +1,226 @@
+//! The paragraph on a shell that falls into parts.
+
+ghost use Rattle.std.specs.Prelude.{◌≡◌, ◌<◌, ◌+◌, ◌-◌, ◌^◌, ◌++◌, codes, length, flat_map, take, slice_get, OnOk};
+ghost use Rattle.std.specs.List.{enumerate_from};
+ghost use Rattle.std.proofs.Common.{get_or};
+ghost use Rattle.edge_uses.specs.ShellRows.{rows_of};
+ghost use Rattle.solid_faults.specs.Edges.{unpaired_of};
+ghost use Rattle.solid_faults.specs.Parts.{AreParts};
+ghost use Rattle.where_text.specs.Listing.{shown};
+ghost use Rattle.where_parts.specs.Lines.{face_line, vertex_line};
+ghost use Rattle.where_parts.specs.Reach.{part_head, part_lines, part_text, part_named, shown_parts, reach_head, reach_lines, reach_text, reach_named};
+
+use crate::lines::{put_count, put_face_line, put_rule, put_vertex_line};
+use edge_uses::Rows;
+use iges_fields::{EntryNo, NoMemory, Out};
+use iges_params::File;
+use solid_data::{Rule, ShellAt, Solid};
+use solid_faults::{Part, PartTables, Unpaired, apart_in, part_tables, parts};
+use std::alloc::Global;
+use where_text::{EntryNumbers, Listing, put_more_facts, put_more_items, put_rule_sentence};
+
+#[tactic(auto, unfolding(crate::specs::Reach::part_head))]
+fn put_part_head(out: &mut Out, number: usize, part: &Part) -> Result<(), NoMemory>
+    ensures { OnOk result (out.new ≡ out.old ++ part_head number (length part.now.faces.items) part.now.edges (length part.now.vertices.items) part.now.unpaired (length part.now.touching.items)) }
+{
+    put_count(out, "part", number)?;
+    put_count(out, " faces", part.faces.len())?;
+    put_count(out, " edges", part.edges)?;
+    put_count(out, " vertices", part.vertices.len())?;
+    put_count(out, " unpaired", part.unpaired)?;
+    put_count(out, " touching", part.touching.len())?;
+    out.put(b"\n")
+}
+
+fn least(vertices: &[u32]) -> u32
+    ensures { result ≡ get_or vertices.now 0 0 }
+{
+    match vertices {
+        [] => 0,
+        [first, ..] => *first,
+    }
+}
+
+fn put_touches(out: &mut Out, file: &File, solid: &Solid, vertices: &[u32]) -> Result<(), NoMemory>
+    ensures { OnOk result (out.new ≡ out.old ++ flat_map (vertex_line (codes "  touches") file.now solid.now) vertices.now) }
+{
+    'vertices: for i in 0..vertices.len() {
+        put_vertex_line(out, file, solid, "  touches", vertices[i])?;
+    }
+    Ok(())
+}
+
+fn put_faces(
+    out: &mut Out,
+    named: &mut EntryNumbers,
+    file: &File,
+    faces: &[EntryNo],
+) -> Result<(), NoMemory>
+    ensures text { OnOk result (out.new ≡ out.old ++ flat_map (face_line file.now) faces.now) }
+    ensures named { OnOk result (named.new ≡ named.old ++ faces.now) }
+{
+    'faces: for i in 0..faces.len() {
+        put_face_line(out, named, file, faces[i])?;
+    }
+    Ok(())
+}
+
+#[tactic(auto, unfolding(crate::specs::Reach::part_lines))]
+fn put_part(
+    out: &mut Out,
+    named: &mut EntryNumbers,
+    file: &File,
+    solid: &Solid,
+    number: usize,
+    part: &Part,
+    listing: Listing,
+) -> Result<(), NoMemory>
+    ensures text { OnOk result (out.new ≡ out.old ++ part_lines listing file.now solid.now number part.now.faces.items part.now.edges part.now.vertices.items part.now.unpaired part.now.touching.items) }
+    ensures named { OnOk result (named.new ≡ named.old ++ shown listing part.now.faces.items) }
+{
+    let faces = part.faces.as_slice();
+    let touching = part.touching.as_slice();
+    let face_count = listing.count(faces.len());
+    put_part_head(out, number, part)?;
+    put_vertex_line(out, file, solid, "  at", least(part.vertices.as_slice()))?;
+    put_touches(out, file, solid, &touching[..listing.count(touching.len())])?;
+    put_faces(out, named, file, &faces[..face_count])?;
+    put_more_facts(out, faces.len() - face_count)
+}
+
+fn put_part_of(
+    alloc: Global,
+    out: &mut Out,
+    named: &mut EntryNumbers,
+    file: &File,
+    solid: &Solid,
+    tables: &PartTables<'_>,
+    number: usize,
+    first: u32,
+    listing: Listing,
+) -> Result<(), NoMemory>
+    requires { tables.now.solid ≡ solid.now }
+    ensures text { OnOk result (out.new ≡ out.old ++ part_text listing file.now solid.now tables.now.shell tables.now.firsts tables.now.unpaired (number, first)) }
+    ensures named { OnOk result (named.new ≡ named.old ++ part_named listing tables.now.shell tables.now.firsts (number, first)) }
+{
+    let part = tables.part(alloc, first)?;
+    put_part(out, named, file, solid, number, &part, listing)
+}
+
+fn put_parts(
+    alloc: Global,
+    out: &mut Out,
+    named: &mut EntryNumbers,
+    file: &File,
+    solid: &Solid,
+    tables: &PartTables<'_>,
+    parts: &[u32],
+    listing: Listing,
+) -> Result<(), NoMemory>
+    requires { tables.now.solid ≡ solid.now }
+    ensures text { OnOk result (out.new ≡ out.old ++ flat_map (part_text listing file.now solid.now tables.now.shell tables.now.firsts tables.now.unpaired) (enumerate_from 1 parts.now)) }
+    ensures named { OnOk result (named.new ≡ named.old ++ flat_map (part_named listing tables.now.shell tables.now.firsts) (enumerate_from 1 parts.now)) }
+{
+    'parts: for i in 0..parts.len() {
+        put_part_of(
+            alloc,
+            out,
+            named,
+            file,
+            solid,
+            tables,
+            i + 1,
+            parts[i],
+            listing,
+        )?;
+    }
+    Ok(())
+}
+
+#[tactic(auto, unfolding(crate::specs::Reach::reach_head))]
+fn put_reach_head(
+    out: &mut Out,
+    shell: ShellAt,
+    faults: usize,
+    parts: usize,
+) -> Result<(), NoMemory>
+    ensures { OnOk result (out.new ≡ out.old ++ reach_head shell.0 faults parts) }
+{
+    put_rule(out, Rule::Unreached, shell, faults)?;
+    put_count(out, " parts", parts)?;
+    out.put(b"\n")?;
+    put_rule_sentence(out, Rule::Unreached)
+}
+
+#[tactic(auto, unfolding(crate::specs::Reach::reach_lines))]
+fn put_reach_lines(
+    alloc: Global,
+    out: &mut Out,
+    named: &mut EntryNumbers,
+    file: &File,
+    solid: &Solid,
+    shell: ShellAt,
+    tables: &PartTables<'_>,
+    faults: usize,
+    parts: &[u32],
+    listing: Listing,
+) -> Result<(), NoMemory>
+    requires { tables.now.solid ≡ solid.now }
+    ensures text { OnOk result (out.new ≡ out.old ++ reach_lines listing file.now solid.now shell.0 tables.now.shell tables.now.firsts tables.now.unpaired faults parts.now) }
+    ensures named { OnOk result (named.new ≡ named.old ++ flat_map (part_named listing tables.now.shell tables.now.firsts) (shown_parts listing parts.now)) }
+{
+    let count = listing.count(parts.len());
+    put_reach_head(out, shell, faults, parts.len())?;
+    put_parts(
+        alloc,
+        out,
+        named,
+        file,
+        solid,
+        tables,
+        &parts[..count],
+        listing,
+    )?;
+    put_more_items(out, parts.len() - count)
+}
+
+/// Appends the paragraph on a shell that falls into parts, whose rows, first faces of parts and edges that aren't paired
+/// are given (own); nothing where it is one part.
+pub fn put_reach(
+    alloc: Global,
+    out: &mut Out,
+    named: &mut EntryNumbers,
+    file: &File,
+    solid: &Solid,
+    shell: ShellAt,
+    rows: &Rows,
+    firsts: &[u32],
+    unpaired: &[Unpaired],
+    listing: Listing,
+) -> Result<(), NoMemory>
+    requires shell { shell.0 < length solid.now.shells }
+    requires rows { rows.now ≡ rows_of solid.now (slice_get solid.now.shells shell.0) }
+    requires parts { AreParts rows.now firsts.now }
+    requires unpaired { unpaired.now ≡ unpaired_of rows.now }
+    ensures text { OnOk result (out.new ≡ out.old ++ reach_text listing file.now solid.now shell.0 firsts.now unpaired.now) }
+    ensures named { OnOk result (named.new ≡ named.old ++ reach_named listing solid.now shell.0 firsts.now) }
+{
+    let faults = apart_in(firsts);
+    if faults == 0 {
+        return Ok(());
+    }
+    let parts = parts(alloc, firsts)?;
+    let tables = part_tables(alloc, solid, shell, rows, firsts, unpaired)?;
+    put_reach_lines(
+        alloc,
+        out,
+        named,
+        file,
+        solid,
+        shell,
+        &tables,
+        faults,
+        parts.as_slice(),
+        listing,
+    )
+}

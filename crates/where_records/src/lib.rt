@@ -1,0 +1,8 @@
+//! The paragraph that tells where a rule on the records of a solid fails.
+#![tactic(auto)]
+
+mod facts;
+mod paragraph;
+mod why;
+
+pub use paragraph::put_record;

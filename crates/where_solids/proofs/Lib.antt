@@ -1,0 +1,6 @@
+pub mod Gathered
+pub mod Judged
+pub mod FirstFailing
+pub mod VerdictSteps
+pub mod Counts
+pub mod ToldSolids

@@ -1,0 +1,55 @@
+-- What is told of one solid of a file.
+use Rattle.std.specs.Prelude.{◌≡◌, ◌⊎◌, ℕ, List, [], ◌++◌, Option, Some, None}
+use Rattle.iges_fields.specs.declared.entry_no.EntryNo.{EntryNo}
+use Rattle.iges_params.specs.Contents.{Contents}
+use Rattle.brep_walk.specs.Places.{places}
+use Rattle.brep_walk.specs.SolidOf.{solid_of}
+use Rattle.solid_data.specs.Obligations.{AllHold, FirstFalse}
+use Rattle.solid_data.specs.declared.verdict.Failing.{Failing}
+use Rattle.solid_data.specs.declared.verdict.Verdict.{Verdict}
+use Rattle.solid_check.specs.Closed.{IsVerdictOn}
+use Rattle.solid_faults.specs.Faults.{Faults}
+use Rattle.record_paths.specs.declared.path.Path.{Path}
+use Rattle.record_paths.specs.Paths.{IsPathTo, sited}
+use Rattle.where_text.specs.declared.listing.Listing.{Listing}
+use Rattle.where_text.specs.Listing.{shown}
+use Rattle.where_records.specs.RecordText.{record_named, record_text}
+use Rattle.where_entities.specs.Entities.{entities_text}
+use Rattle.where_solids.specs.AllFaults.{AreAllFaults, failing_shells}
+use Rattle.where_solids.specs.Hints.{IsFlagsHint, pair_fails, solids_hint}
+use Rattle.where_solids.specs.Lines.{units_line, verdict_line}
+use Rattle.where_solids.specs.Listed.{solids_of}
+use Rattle.where_solids.specs.ShellTexts.{shell_lines, shell_texts}
+
+-- the units, where the number names a solid; else which do
+abbrev pub record_start : Listing → Contents → Option Path → List ℕ
+record_start listing f None = solids_hint listing (solids_of f)
+record_start listing f (Some path) = units_line f
+
+-- of a rule on the records that fails on this path
+unfoldable pub record_rest : Listing → Contents → EntryNo → Failing → Option Path → List ℕ
+record_rest listing f n x path = record_start listing f path ++ record_text f n x path ++ entities_text f (record_named n x path)
+
+-- An obligation on the records is the first that fails, and this is told of it.
+pub record IsOfRecords (listing : Listing) (f : Contents) (n : EntryNo) (rest : List ℕ) : Type 0 where
+  pub failing : Failing
+  pub first : FirstFalse (places f n.0) failing
+  pub path : Option Path
+  pub leads : IsPathTo failing (sited f n.0) path
+  pub rest_is : rest ≡ record_rest listing f n failing path
+
+-- All obligations on the records hold, and this is told of the shells.
+pub record IsOfShells (listing : Listing) (f : Contents) (n : EntryNo) (rest : List ℕ) : Type 0 where
+  pub placed : AllHold (places f n.0)
+  pub faults : List Faults
+  pub all : AreAllFaults (solid_of f n.0) faults
+  pub hint : List ℕ
+  pub is_hint : IsFlagsHint (solid_of f n.0) (pair_fails faults (shown listing (failing_shells faults))) hint
+  pub rest_is : rest ≡ shell_lines listing f (solid_of f n.0) faults ++ hint ++ shell_texts listing f (solid_of f n.0) faults
+
+-- The text tells of solid n, which has this verdict.
+pub record IsToldOf (listing : Listing) (f : Contents) (n : EntryNo) (verdict : Verdict) (text : List ℕ) : Type 0 where
+  pub judged : IsVerdictOn f n.0 verdict
+  pub rest : List ℕ
+  pub told : IsOfRecords listing f n rest ⊎ IsOfShells listing f n rest
+  pub text_is : text ≡ verdict_line n.0 verdict ++ rest

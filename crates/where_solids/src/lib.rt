@@ -1,0 +1,16 @@
+//! What is told of the solids of a file: the verdict on each, and where and why one fails.
+#![tactic(auto)]
+
+mod all_faults;
+mod fault_paragraphs;
+mod hints;
+mod lines;
+mod listed;
+mod overview;
+mod record_texts;
+mod shell_texts;
+mod telling;
+mod verdicts;
+
+pub use overview::{Overview, tell_all};
+pub use telling::{Told, tell};

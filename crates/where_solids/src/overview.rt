@@ -1,0 +1,171 @@
+//! The verdict on each solid of a file.
+
+ghost use Rattle.iges_fields.specs.declared.entry_no.EntryNo.{EntryNo as AnyEntryNo};
+ghost use Rattle.solid_check.specs.Closed.{IsVerdictOn};
+ghost use Rattle.solid_data.specs.declared.verdict.Verdict.{Verdict as AnyVerdict};
+ghost use Rattle.std.specs.Prelude.{◌≡◌, ◌++◌, ◌&&◌, ◌==◌, nat_lt, List, IfOk, OnOk, count_by, flat_map, length, zip};
+ghost use Rattle.where_solids.specs.Overview.{AreVerdicts, IsOverview, all_close, fails, overview_start, solid_paragraph, verdict_words};
+ghost use Rattle.where_text.specs.Spelled.{space_word};
+
+use crate::all_faults::all_faults;
+use crate::hints::put_no_solid;
+use crate::lines::{put_count, put_failing};
+use crate::listed::solids;
+use crate::verdicts::verdict;
+use brep_walk::{WalkFault, walk};
+use iges_fields::{Bytes, EntryNo, ItemList, NoMemory, Out};
+use iges_params::File;
+use solid_data::Verdict;
+use std::alloc::Global;
+use where_entities::put_entity_facts;
+use where_text::{EntryNumbers, put_number};
+
+/// Whether there are solids and all are closed, and a text that tells of each (own).
+#[derive(Drop)]
+pub struct Overview {
+    pub all_closed: bool,
+    pub text: Bytes,
+}
+
+fn verdict_on(alloc: Global, file: &File, no: EntryNo) -> Result<Verdict, NoMemory>
+    ensures { IfOk result (IsVerdictOn file.now no.0) }
+{
+    let solid = match walk(alloc, file, no) {
+        Ok(solid) => solid,
+        Err(WalkFault::Fails(failing)) => return Ok(Verdict::Fails(failing)),
+        Err(WalkFault::NoMemory) => return Err(NoMemory),
+    };
+    let all = all_faults(alloc, &solid)?;
+    Ok(verdict(&solid, &all))
+}
+
+fn verdicts(alloc: Global, file: &File, solids: &[EntryNo]) -> Result<ItemList<Verdict>, NoMemory>
+    ensures { IfOk result (AreVerdicts file.now solids.now) }
+{
+    let mut verdicts = ItemList::with_room(alloc, solids.len())?;
+    'solids: for i in 0..solids.len() {
+        verdicts.push(verdict_on(alloc, file, solids[i])?)?;
+    }
+    Ok(verdicts)
+}
+
+fn fails(verdict: Verdict) -> bool
+    ensures { result ≡ fails verdict }
+{
+    match verdict {
+        Verdict::Closed => false,
+        Verdict::Fails(_) => true,
+    }
+}
+
+fn failing_count(verdicts: &[Verdict]) -> usize
+    ensures { result ≡ count_by fails verdicts.now }
+{
+    let mut count = 0;
+    'verdicts: for i in 0..verdicts.len() {
+        if fails(verdicts[i]) {
+            count += 1;
+        }
+    }
+    count
+}
+
+#[tactic(auto, unfolding(crate::specs::Overview::overview_start))]
+fn put_start(out: &mut Out, solids: usize, failing: usize) -> Result<(), NoMemory>
+    ensures { (vs : List AnyVerdict) → length vs ≡ solids → count_by fails vs ≡ failing → OnOk result (out.new ≡ out.old ++ overview_start vs) }
+{
+    if solids == 0 {
+        out.put(b"solids 0 failing 0\n")?;
+        return put_no_solid(out);
+    }
+    out.put(b"solids")?;
+    put_number(out, solids as u64)?;
+    put_count(out, "failing", failing)?;
+    out.put(b"\n")
+}
+
+fn put_verdict_words(out: &mut Out, verdict: Verdict) -> Result<(), NoMemory>
+    ensures { OnOk result (out.new ≡ out.old ++ verdict_words verdict) }
+{
+    match verdict {
+        Verdict::Closed => out.put(b"closed"),
+        Verdict::Fails(failing) => put_failing(out, failing),
+    }
+}
+
+#[tactic(auto, unfolding(crate::specs::Overview::solid_paragraph))]
+fn put_solid(
+    alloc: Global,
+    out: &mut Out,
+    file: &File,
+    no: EntryNo,
+    verdict: Verdict,
+) -> Result<(), NoMemory>
+    ensures { OnOk result (out.new ≡ out.old ++ solid_paragraph file.now (no, verdict)) }
+{
+    out.put(b"solid")?;
+    put_number(out, u64::from(no.0))?;
+    out.put(b" ")?;
+    put_verdict_words(out, verdict)?;
+    out.put(b"\n")?;
+    put_entity_facts(alloc, out, file, no)
+}
+
+fn put_solids(
+    alloc: Global,
+    out: &mut Out,
+    file: &File,
+    solids: &[EntryNo],
+    verdicts: &[Verdict],
+) -> Result<(), NoMemory>
+    requires { length verdicts.now ≡ length solids.now }
+    ensures { OnOk result (out.new ≡ out.old ++ flat_map (solid_paragraph file.now) (zip solids.now verdicts.now)) }
+{
+    'solids: for i in 0..solids.len() {
+        put_solid(alloc, out, file, solids[i], verdicts[i])?;
+    }
+    Ok(())
+}
+
+fn text_of(
+    alloc: Global,
+    file: &File,
+    solids: &EntryNumbers,
+    verdicts: &ItemList<Verdict>,
+    failing: usize,
+) -> Result<Bytes, NoMemory>
+    requires each { length verdicts.now ≡ length solids.now }
+    requires failing { failing ≡ count_by fails verdicts.now }
+    ensures { IfOk result (λ text. text ≡ overview_start verdicts.now ++ flat_map (solid_paragraph file.now) (zip solids.now verdicts.now)) }
+{
+    let mut out = Out::new(alloc);
+    put_start(&mut out, solids.len(), failing)?;
+    put_solids(
+        alloc,
+        &mut out,
+        file,
+        solids.as_slice(),
+        verdicts.as_slice(),
+    )?;
+    Ok(out.into_bytes())
+}
+
+fn all_closed(solids: usize, failing: usize) -> bool
+    ensures { result ≡ (nat_lt 0 solids && failing == 0) }
+{
+    solids > 0 && failing == 0
+}
+
+/// Tells of each solid of a file, in directory order, whether it is closed, or the first rule that fails (own). It errs only
+/// where memory runs out. Each solid's records are walked once.
+pub fn tell_all(alloc: Global, file: &File) -> Result<Overview, NoMemory>
+    ensures { IfOk result (λ told. (vs : List AnyVerdict) × IsOverview file.now vs told.text × (told.all_closed ≡ all_close vs)) }
+{
+    let solids = solids(alloc, file)?;
+    let verdicts = verdicts(alloc, file, solids.as_slice())?;
+    let failing = failing_count(verdicts.as_slice());
+    Ok(Overview {
+        all_closed: all_closed(solids.len(), failing),
+        text: text_of(alloc, file, &solids, &verdicts, failing)?,
+    })
+}

@@ -1,0 +1,54 @@
+//! What is told of a rule on the records of a solid that fails.
+
+ghost use Rattle.std.specs.Prelude.{◌≡◌, ◌++◌, OnOk};
+ghost use Rattle.where_solids.specs.Told.{record_rest, record_start};
+
+use crate::hints::put_solids_hint;
+use crate::lines::put_units;
+use crate::listed::solids;
+use iges_fields::{EntryNo, ItemList, NoMemory, Out};
+use iges_params::File;
+use record_paths::Path;
+use solid_data::Failing;
+use std::alloc::Global;
+use where_entities::put_entities;
+use where_records::put_record;
+use where_text::Listing;
+
+fn put_start(
+    alloc: Global,
+    out: &mut Out,
+    file: &File,
+    path: Option<Path>,
+    listing: Listing,
+) -> Result<(), NoMemory>
+    ensures { OnOk result (out.new ≡ out.old ++ record_start listing file.now path) }
+{
+    match path {
+        Some(_) => put_units(out, file),
+        None => {
+            let solids = solids(alloc, file)?;
+            put_solids_hint(out, &solids, listing)
+        }
+    }
+}
+
+/// Appends what follows the verdict on a solid of which a rule on the records fails: the units, or where the number names no
+/// solid which do; the paragraph of the rule, and those of the entities that it names (own).
+#[tactic(auto, unfolding(crate::specs::Told::record_rest))]
+pub fn put_record_rest(
+    alloc: Global,
+    out: &mut Out,
+    file: &File,
+    no: EntryNo,
+    failing: Failing,
+    path: Option<Path>,
+    listing: Listing,
+) -> Result<(), NoMemory>
+    ensures { OnOk result (out.new ≡ out.old ++ record_rest listing file.now no failing path) }
+{
+    let mut named = ItemList::new(alloc);
+    put_start(alloc, out, file, path, listing)?;
+    put_record(out, &mut named, file, no, failing, path)?;
+    put_entities(alloc, out, file, &named)
+}

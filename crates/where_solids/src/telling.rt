@@ -1,0 +1,145 @@
+//! What is told of one solid of a file.
+
+ghost use Rattle.brep_walk.specs.Places.{places};
+ghost use Rattle.brep_walk.specs.SolidOf.{solid_of};
+ghost use Rattle.solid_data.specs.Obligations.{AllHold, FirstFalse};
+ghost use Rattle.std.specs.Prelude.{◌≡◌, ◌++◌, ◌≤◌, ◌-◌, ℕ, [], List, IfOk, OnOk, length};
+ghost use Rattle.where_entities.specs.Entities.{entities_text};
+ghost use Rattle.where_solids.specs.AllFaults.{AreAllFaults, failing_shells};
+ghost use Rattle.where_solids.specs.Hints.{IsFlagsHint, pair_fails};
+ghost use Rattle.where_solids.specs.Lines.{shells_line, units_line};
+ghost use Rattle.where_solids.specs.ShellTexts.{shell_lines, shell_texts};
+ghost use Rattle.where_solids.specs.Told.{IsToldOf};
+ghost use Rattle.where_text.specs.Listing.{left_line, shown};
+
+use crate::all_faults::{AllFaults, all_faults, failing_shells};
+use crate::hints::{pair_fails, put_flags_hint};
+use crate::lines::{put_shells, put_units, put_verdict};
+use crate::record_texts::put_record_rest;
+use crate::shell_texts::{ShellTexts, shell_texts};
+use crate::verdicts::verdict;
+use brep_walk::{WalkFault, walk};
+use iges_fields::{Bytes, EntryNo, NoMemory, Out};
+use iges_params::File;
+use record_paths::path_of;
+use solid_data::{Failing, Solid, Verdict};
+use std::alloc::Global;
+use where_entities::put_entities;
+use where_text::{Listing, put_more_items, shown_members};
+
+/// The verdict on a solid, and a text that tells where it fails (own).
+#[derive(Drop)]
+pub struct Told {
+    pub verdict: Verdict,
+    pub text: Bytes,
+}
+
+fn of_records(
+    alloc: Global,
+    file: &File,
+    no: EntryNo,
+    failing: Failing,
+    listing: Listing,
+) -> Result<Told, NoMemory>
+    requires { FirstFalse (places file.now no.0) failing }
+    ensures { IfOk result (λ told. IsToldOf listing file.now no told.verdict told.text) }
+{
+    let path = path_of(file, no, failing);
+    let verdict = Verdict::Fails(failing);
+    let mut out = Out::new(alloc);
+    put_verdict(&mut out, no, verdict)?;
+    put_record_rest(alloc, &mut out, file, no, failing, path, listing)?;
+    Ok(Told {
+        verdict,
+        text: out.into_bytes(),
+    })
+}
+
+// What stands between the verdict and the hints, where of so many failing shells so many are told of.
+fn put_lines(
+    out: &mut Out,
+    file: &File,
+    shells: usize,
+    lines: &[u8],
+    failing: usize,
+    shown: usize,
+) -> Result<(), NoMemory>
+    requires { shown ≤ failing }
+    ensures { OnOk result (out.new ≡ out.old ++ (units_line file.now ++ shells_line shells failing ++ lines.now ++ left_line [] (failing - shown))) }
+{
+    put_units(out, file)?;
+    put_shells(out, shells, failing)?;
+    out.put(lines)?;
+    put_more_items(out, failing - shown)
+}
+
+fn put_texts(alloc: Global, out: &mut Out, file: &File, texts: &ShellTexts) -> Result<(), NoMemory>
+    ensures { OnOk result (out.new ≡ out.old ++ (texts.now.paragraphs ++ entities_text file.now texts.now.named)) }
+{
+    out.put(texts.paragraphs.bytes())?;
+    put_entities(alloc, out, file, &texts.named)
+}
+
+// What follows the verdict on a solid of which all obligations on records hold.
+fn put_shells_rest(
+    alloc: Global,
+    out: &mut Out,
+    file: &File,
+    solid: &Solid,
+    all: &AllFaults,
+    listing: Listing,
+) -> Result<(), NoMemory>
+    requires { AreAllFaults solid.now all.now }
+    ensures { IfOk result (λ _. (hint : List ℕ) × IsFlagsHint solid.now (pair_fails all.now (shown listing (failing_shells all.now))) hint
+        × (out.new ≡ out.old ++ (shell_lines listing file.now solid.now all.now ++ hint ++ shell_texts listing file.now solid.now all.now))) }
+{
+    let count = solid.shell_count();
+    let failing = failing_shells(alloc, all)?;
+    let shells = shown_members(listing, failing.as_slice());
+    let texts = shell_texts(alloc, file, solid, all, shells, listing)?;
+    put_lines(
+        out,
+        file,
+        count,
+        texts.lines.bytes(),
+        failing.len(),
+        shells.len(),
+    )?;
+    put_flags_hint(alloc, out, solid, pair_fails(all, shells))?;
+    put_texts(alloc, out, file, &texts)
+}
+
+fn of_shells(
+    alloc: Global,
+    file: &File,
+    no: EntryNo,
+    solid: &Solid,
+    listing: Listing,
+) -> Result<Told, NoMemory>
+    requires placed { AllHold (places file.now no.0) }
+    requires solid { solid.now ≡ solid_of file.now no.0 }
+    ensures { IfOk result (λ told. IsToldOf listing file.now no told.verdict told.text) }
+{
+    let all = all_faults(alloc, solid)?;
+    let verdict = verdict(solid, &all);
+    let mut out = Out::new(alloc);
+    put_verdict(&mut out, no, verdict)?;
+    put_shells_rest(alloc, &mut out, file, solid, &all, listing)?;
+    Ok(Told {
+        verdict,
+        text: out.into_bytes(),
+    })
+}
+
+/// Tells of the solid with this number: the verdict, and where it fails. Where a rule on its records fails, that is told
+/// alone; else all that fails in its shells (own). It errs only where memory runs out. The solid's records are walked once,
+/// and the uses of each failing shell that is told of a few times.
+pub fn tell(alloc: Global, file: &File, no: EntryNo, listing: Listing) -> Result<Told, NoMemory>
+    ensures { IfOk result (λ told. IsToldOf listing file.now no told.verdict told.text) }
+{
+    match walk(alloc, file, no) {
+        Ok(solid) => of_shells(alloc, file, no, &solid, listing),
+        Err(WalkFault::Fails(failing)) => of_records(alloc, file, no, failing, listing),
+        Err(WalkFault::NoMemory) => Err(NoMemory),
+    }
+}

@@ -1,0 +1,6 @@
+pub mod Spelled
+pub mod Types
+pub mod TypeTable
+pub mod Places
+pub mod Sentences
+pub mod Listing

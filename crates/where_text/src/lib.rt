@@ -1,0 +1,17 @@
+//! Words, lines and tables of the text that tells where a solid fails: how values, vertices, faces and types are written.
+#![tactic(auto)]
+
+mod listing;
+mod masking;
+mod places;
+mod sentences;
+mod type_names;
+mod types;
+mod words;
+
+pub use listing::{EntryNumbers, Listing, put_more_facts, put_more_items, shown_members};
+pub use masking::put_masked;
+pub use places::{put_face, put_vertex};
+pub use sentences::{put_reason_sentence, put_rule_sentence};
+pub use types::{entry_no, put_type, put_type_word};
+pub use words::{put_number, put_signed, put_value, put_word};

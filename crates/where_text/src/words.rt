@@ -1,0 +1,55 @@
+//! Words, numbers and values of a line.
+
+ghost use Rattle.std.specs.Prelude.{◌≡◌, ◌++◌, OnOk, decimal, option_copied};
+ghost use Rattle.where_text.specs.Spelled.{signed, space_word, spelled, spelled_if};
+
+use crate::masking::put_masked;
+use iges_fields::{NoMemory, Out, Value, write_number};
+use itoa::Buffer;
+
+/// Appends a space and the word (own).
+pub fn put_word(out: &mut Out, word: &str) -> Result<(), NoMemory>
+    ensures text { OnOk result (out.new ≡ out.old ++ space_word word.now) }
+{
+    out.put(b" ")?;
+    out.put(word.as_bytes())
+}
+
+/// Appends a space and the number's digits (own).
+pub fn put_number(out: &mut Out, n: u64) -> Result<(), NoMemory>
+    ensures text { OnOk result (out.new ≡ out.old ++ space_word (decimal n)) }
+{
+    out.put(b" ")?;
+    write_number(out, n)
+}
+
+/// Appends a space and the number's digits, behind a minus where it is negative (own).
+pub fn put_signed(out: &mut Out, n: i64) -> Result<(), NoMemory>
+    ensures text { OnOk result (out.new ≡ out.old ++ space_word (signed n)) }
+{
+    out.put(b" ")?;
+    out.put(Buffer::new().format(n).as_bytes())
+}
+
+fn put_spelled(out: &mut Out, value: &Value) -> Result<(), NoMemory>
+    ensures text { OnOk result (out.new ≡ out.old ++ spelled value.now) }
+{
+    match value {
+        Value::Default => out.put(b"-"),
+        Value::Int(n) => out.put(Buffer::new().format(*n).as_bytes()),
+        Value::Real(word) => out.put(word.as_slice()),
+        Value::Text(text) => put_masked(out, text.as_slice()),
+    }
+}
+
+/// Appends a space and the value as it is shown: an integer by its digits, a real by its word as it was read, a text by its
+/// bytes, each that isn't printed as `?`; `-` for none and for a value that is left out (own).
+pub fn put_value(out: &mut Out, value: Option<&Value>) -> Result<(), NoMemory>
+    ensures text { OnOk result (out.new ≡ out.old ++ space_word (spelled_if (option_copied value.entry))) }
+{
+    out.put(b" ")?;
+    match value {
+        Some(value) => put_spelled(out, value),
+        None => out.put(b"-"),
+    }
+}
