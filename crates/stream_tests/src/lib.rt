@@ -1,0 +1,10 @@
+//! Each read and each write of each command fails in turn: `run` then answers that, and has written the front of its text
+//! that came before, which is nothing where a read failed.
+#![tactic(auto)]
+
+#[cfg(test)]
+mod failing;
+#[cfg(test)]
+mod files;
+#[cfg(test)]
+mod running;
