@@ -1,0 +1,148 @@
+"""Reading an IGES file for its geometry: lines, directory entries, and the values of records as they are spelled.
+
+The file is one that the proved program has read, so little is checked here. Sources: IGES 5.3, sections 2.2.2 (free format),
+2.2.4.3 (global section), 2.2.4.4 (directory entry) and 2.2.4.5 (parameter data)."""
+import re
+from typing import NamedTuple
+
+RECORD_COLUMNS = 64
+TEXT_BEGINS = re.compile(rb" *([0-9]+)H").match
+DELIMITERS_TOLD = re.compile(rb" *(?:1H(.))? *(.) *(?:1H(.))?", re.DOTALL).match
+NUMBER = re.compile(rb"[+-]?(?:[0-9]+\.?[0-9]*|\.[0-9]+)(?:[EeDd][+-]?[0-9]+)?").fullmatch
+# A coordinate beyond this is taken for none: its square would be no number.
+GREATEST = 1e100
+
+
+class Unreadable(Exception):
+    """What can't be read or drawn, in words."""
+
+
+class Entry(NamedTuple):
+    """A directory entry: the type, the first line of its record in section P (from 1), the number of lines, the matrix, the form."""
+
+    kind: int
+    first: int
+    lines: int
+    matrix: int
+    form: int
+
+
+class Mark(NamedTuple):
+    """A part of a line of the file: the line and the column, from 1, and a number of columns."""
+
+    line: int
+    column: int
+    length: int
+
+
+def lines_of(text):
+    """The lines of a file, without their ends."""
+    lines = text.split(b"\n")
+    if not lines[-1]:
+        lines.pop()
+    return [line[:-1] if line.endswith(b"\r") else line for line in lines]
+
+
+def integer(spelled):
+    """The integer that is spelled so, 0 if it is left out; Unreadable of any other value."""
+    try:
+        return int(spelled or b"0")
+    except ValueError:
+        raise Unreadable("a value that should be an integer") from None
+
+
+def real(spelled):
+    """The number that is spelled so, 0 if it is left out; Unreadable of a text and of a number that is too large to draw."""
+    if not spelled:
+        return 0.0
+    if NUMBER(spelled) is None:
+        raise Unreadable("a value that should be a number")
+    number = float(spelled.upper().replace(b"D", b"E"))
+    if not abs(number) < GREATEST:
+        raise Unreadable("a number that is too large to draw")
+    return number
+
+
+class File:
+    """The entries of a file by their directory numbers, and their values."""
+
+    def __init__(self, lines):
+        letters = bytes(line[72] if len(line) > 72 else 0 for line in lines)
+        self.lines = lines
+        starts, globals_ = letters.count(b"S"), letters.count(b"G")
+        self.directory_at = starts + globals_
+        self.records_at = self.directory_at + letters.count(b"D")
+        self.globals = lines[starts : self.directory_at]
+        self.parting, self.ending = delimiters_of(b"".join(line[:72] for line in self.globals))
+        self.delimiter = re.compile(b"[" + re.escape(self.parting + self.ending) + b"]")
+        self.entries, self.spelled = {}, {}
+
+    def entry(self, number):
+        """The entry of this number; Unreadable if there is none."""
+        found = self.entries.get(number)
+        if found is None:
+            at = self.directory_at + number - 1
+            if number % 2 == 0 or not self.directory_at <= at < self.records_at - 1:
+                raise Unreadable(f"entity {number}, which isn't in the directory")
+            one, two = self.lines[at], self.lines[at + 1]
+            fields = one[0:8], one[8:16], two[24:32], one[48:56], two[32:40]
+            found = self.entries[number] = Entry(*(integer(field.strip()) for field in fields))
+        return found
+
+    def record(self, number):
+        """The text of an entry's record."""
+        entry = self.entry(number)
+        at = self.records_at + entry.first - 1
+        return b"".join(line[:RECORD_COLUMNS] for line in self.lines[at : at + entry.lines])
+
+    def pieces(self, number):
+        """The type number and the values of a record, each with the spaces around it; a delimiter follows each."""
+        text, pieces, at = self.record(number), [], 0
+        if b"H" not in text:
+            return text.split(self.ending, 1)[0].split(self.parting)
+        while True:
+            begins = TEXT_BEGINS(text, at)
+            found = self.delimiter.search(text, begins.end() + int(begins[1]) if begins else at)
+            end = found.start() if found else len(text)
+            pieces.append(text[at:end])
+            if found is None or found[0] == self.ending:
+                return pieces
+            at = end + 1
+
+    def values(self, number):
+        """The values of an entry's record as they are spelled, without the type number; empty where one is left out."""
+        found = self.spelled.get(number)
+        if found is None:
+            found = self.spelled[number] = [piece.strip(b" ") for piece in self.pieces(number)[1:]]
+        return found
+
+    def marks(self, number, place):
+        """Where the value of this place stands, from 1: itself, or the delimiter if it is left out or the record ends before it."""
+        entry, pieces = self.entry(number), self.pieces(number)
+        at = sum(len(piece) + 1 for piece in pieces[:place])
+        piece = pieces[place] if place < len(pieces) else b""
+        if place >= len(pieces):
+            at -= 1
+        elif piece.strip(b" "):
+            at += len(piece) - len(piece.lstrip(b" "))
+        else:
+            at += len(piece)
+        first = self.records_at + entry.first
+        return marks_between(first, at, at + max(1, len(piece.strip(b" "))))
+
+
+def marks_between(first, start, end):
+    """The marks of the bytes from start to end of a record whose first line is this one of the file."""
+    while start < end:
+        line, column = divmod(start, RECORD_COLUMNS)
+        length = min(end - start, RECORD_COLUMNS - column)
+        yield Mark(first + line, column + 1, length)
+        start += length
+
+
+def delimiters_of(text):
+    """The delimiters of values and of records that the global section sets: its parameters 1 and 2."""
+    told = DELIMITERS_TOLD(text)
+    parting = told[1] or b"," if told else b","
+    after = told[3] if told and told[2] == parting else None
+    return parting, after or b";"

@@ -1,0 +1,147 @@
+"""An IGES file that marks faults, to be laid over the model in a CAD system: copies of curves, and points, under the same global section.
+
+On level 901 and red stand the curves of failing edges and points at failing vertices, labelled FAULT with the fault's number as on the page;
+on level 902 and blue the other edges of the faces there, labelled NEAR. Nothing is computed: coordinates are copied as they are spelled."""
+from .iges import RECORD_COLUMNS, File, Unreadable, integer
+from .marked import Marked
+from .solids import solid_of
+
+FAULT, NEAR = (901, 2, b"FAULT"), (902, 4, b"NEAR")
+# Statuses of an entity (IGES 5.3, section 2.2.4.4.9): one that stands alone, a part of another, and a part that isn't shown.
+ALONE, PART, HIDDEN = b"00000000", b"00010000", b"01010000"
+DEEPEST = 4
+
+
+def copied_values(kind, values):
+    """How many values a curve or a matrix has of its own, and the places, from 0, of those that name another curve."""
+    if kind == 102:
+        count = integer(values[0])
+        return 1 + count, range(1, 1 + count)
+    if kind == 106:
+        count = integer(values[1])
+        return {1: 3 + 2 * count, 2: 2 + 3 * count, 3: 2 + 6 * count}[integer(values[0])], ()
+    if kind == 112:
+        return 17 + 13 * integer(values[3]), ()
+    if kind == 126:
+        return 17 + 5 * integer(values[0]) + integer(values[1]), ()
+    if kind == 130:
+        return 14, (0, 2)
+    return {100: 7, 104: 11, 110: 6, 124: 12}[kind], ()
+
+
+class Overlay:
+    """The entries of an overlay, as it is made."""
+
+    def __init__(self, file):
+        self.file, self.directory, self.records, self.copies, self.latest = file, [], [], {}, []
+
+    def add(self, kind, values, mark, subscript, matrix=0, status=ALONE, form=0):
+        """Adds an entry, and its directory number."""
+        number, (level, colour, label) = len(self.directory) + 1, mark
+        lines = filled([b"%d" % kind, *values], self.file.parting, self.file.ending)
+        first = len(self.records) + 1
+        self.records += [b"%-64s %7d" % (line, number) for line in lines]
+        one = b"".join(b"%8d" % it for it in (kind, first, 0, 1, level, 0, matrix, 0)) + status
+        two = b"".join(b"%8d" % it for it in (kind, 0, colour, len(lines), form)) + b" " * 16 + b"%8s%8d" % (label, subscript)
+        self.directory += [one, two]
+        return number
+
+    def copy(self, number, mark, subscript, status=ALONE, depth=0):
+        """Copies a curve or a matrix with what it names, and its new number; Unreadable of what isn't copied."""
+        key = number, mark, status
+        if key not in self.copies:
+            self.copies[key] = self.add(*self.copied(number, mark, subscript, depth), status=status, form=self.file.entry(number).form)
+            self.latest.append(key)
+        return self.copies[key]
+
+    def copied(self, number, mark, subscript, depth):
+        entry, values = self.file.entry(number), self.file.values(number)
+        try:
+            count, curves = copied_values(entry.kind, values)
+        except (KeyError, IndexError):
+            raise Unreadable(f"a curve of type {entry.kind}") from None
+        values = list(values[:count])
+        if depth > DEEPEST or any(b"H" in it for it in values):
+            raise Unreadable(f"a curve of type {entry.kind}")
+        status = HIDDEN if entry.kind == 130 else PART
+        for place in curves:
+            if place < len(values) and integer(values[place]) != 0:
+                values[place] = b"%d" % self.copy(integer(values[place]), mark, subscript, status, depth + 1)
+        matrix = self.copy(entry.matrix, mark, subscript, PART, depth + 1) if entry.matrix > 0 else 0
+        return entry.kind, values, mark, subscript, matrix
+
+    def add_edge(self, solid, edge, mark, subscript):
+        """Adds the curve of an edge, or its chord; whether the curve could be copied."""
+        told = solid.edges[edge]
+        directory, records, self.latest = len(self.directory), len(self.records), []
+        try:
+            self.copy(told.curve, mark, subscript)
+            return True
+        except Unreadable:
+            del self.directory[directory:], self.records[records:]
+            for key in self.latest:
+                del self.copies[key]
+            self.add(110, [it for vertex in (told.start, told.end) for it in padded(solid.coordinates(vertex))], mark, subscript)
+            return False
+
+    def text(self, says):
+        """The bytes of the file, with these words in its start section."""
+        starts = [b"%-72s" % line.encode("ascii", "replace")[:72] for line in says]
+        sections = b"S", starts, b"G", [line[:72] for line in self.file.globals], b"D", self.directory, b"P", self.records
+        lines = [b"%s%s%7d\n" % (line, letter, place) for letter, section in zip(sections[::2], sections[1::2]) for place, line in enumerate(section, 1)]
+        counts = b"".join(b"%s%7d" % (letter, len(section)) for letter, section in zip(sections[::2], sections[1::2]))
+        return b"".join(lines) + b"%-72sT%7d\n" % (counts, 1)
+
+
+def padded(coordinates):
+    return (list(coordinates) + [b""] * 3)[:3]
+
+
+def filled(values, parting, ending):
+    """The lines of a record: values aren't cut, but those that are longer than a line."""
+    lines, line = [], b""
+    for place, value in enumerate(values, 1):
+        word = value + (parting if place < len(values) else ending)
+        if line and len(line) + len(word) > RECORD_COLUMNS:
+            lines.append(line)
+            line = b""
+        line += word
+        while len(line) > RECORD_COLUMNS:
+            lines.append(line[:RECORD_COLUMNS])
+            line = line[RECORD_COLUMNS:]
+    return [*lines, line]
+
+
+def marks_of(title, number, answer, lines):
+    """The bytes of the overlay of a solid, and what to say of it."""
+    if answer.is_bad_file():
+        return b"", f"{title}: {answer.verdict.text}, so nothing is marked"
+    file = File(lines)
+    overlay, red, points, near, left = Overlay(file), {}, {}, {}, 0
+    solid = solid_of(file, number) if answer.shells else None
+    faces = {face.entity: face for shell in solid.shells for face in shell.faces} if solid else {}
+    items = ((rule, item) for rule in answer.rules for item in rule.items) if solid else ()
+    for subscript, (rule, item) in enumerate(items, 1):
+        marked = Marked(item, rule, solid)
+        for found, those in ((red, marked.edges), (points, marked.vertices), (near, edges_of(faces, marked.faces))):
+            for it in those:
+                found.setdefault(it, subscript)
+    for edges, mark in ((red, FAULT), ({edge: it for edge, it in near.items() if edge not in red}, NEAR)):
+        for edge, subscript in sorted(edges.items()):
+            left += not overlay.add_edge(solid, edge, mark, subscript)
+    for vertex, subscript in sorted(points.items()):
+        overlay.add(116, [*padded(solid.coordinates(vertex)), b"0"], FAULT, subscript)
+    says = [f"Faults of solid {number} of {title}", "Level 901, red: edges and vertices that fail", "Level 902, blue: other edges of the faces there"]
+    return overlay.text(says), told(title, answer, left)
+
+
+def edges_of(faces, marked):
+    return (use.edge for face, _ in marked for loop in faces[face].loops for use in loop.uses if use.edge is not None)
+
+
+def told(title, answer, left):
+    if answer.is_closed():
+        return f"{title}: the solid is closed, so nothing is marked"
+    if answer.shells is None:
+        return f"{title}: {answer.verdict.text}: a record is wrong, so nothing is marked"
+    return f"{title}: {left} curves can't be copied, so straight lines stand for them" if left else ""

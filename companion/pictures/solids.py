@@ -1,0 +1,131 @@
+"""The faces, loops, edges and vertices of a solid, as its records tell them (IGES 5.3, sections 4.144 to 4.148: types 186, 514, 510, 508, 504 and 502).
+
+The proved program has found the records whole before this reads them."""
+from typing import NamedTuple, Optional
+
+from .iges import Unreadable, integer
+
+
+class Use(NamedTuple):
+    """A tuple of a loop: the number of its edge, or None at a vertex; whether it runs along the edge; the vertices it leads from and to."""
+
+    edge: Optional[int]
+    along: bool
+    start: int
+    end: int
+
+
+class Loop(NamedTuple):
+    entity: int
+    uses: list
+
+
+class Face(NamedTuple):
+    entity: int
+    surface: int
+    flag: int
+    loops: list
+
+
+class Shell(NamedTuple):
+    entity: int
+    flag: int
+    faces: list
+
+    def rows(self):
+        """Each use of an edge: the edge, whether the shell runs along it there (flags of tuple, face and shell together), and the face's place."""
+        for place, face in enumerate(self.faces):
+            same = self.flag == face.flag
+            for loop in face.loops:
+                for use in loop.uses:
+                    if use.edge is not None:
+                        yield use.edge, use.along == same, place
+
+    def counts(self):
+        """How many faces, edges and vertices the shell has."""
+        uses = [use for face in self.faces for loop in face.loops for use in loop.uses]
+        edges = {use.edge for use in uses if use.edge is not None}
+        return len(self.faces), len(edges), len({vertex for use in uses for vertex in (use.start, use.end)})
+
+
+class Edge(NamedTuple):
+    """An edge's list and index in it, the entity of its curve, and its two vertices."""
+
+    key: tuple
+    curve: int
+    start: int
+    end: int
+
+
+class Solid:
+    """A solid's shells, the outer one first; its edges and its vertices (list and index), numbered from 0 in the order they are met."""
+
+    def __init__(self, file, number):
+        self.file, self.entity, self.edges, self.vertices = file, number, [], []
+        self.edge_numbers, self.vertex_numbers = {}, {}
+        values = self.values(number)
+        more = integer(values[2]) if len(values) > 2 else 0
+        self.shells = [self.shell(*pair) for pair in pairs(values[:2] + values[3 : 3 + 2 * more])]
+
+    def values(self, number):
+        return self.file.values(number)
+
+    def shell(self, number, flag):
+        values = self.values(number)
+        return Shell(number, flag, [self.face(*pair) for pair in pairs(values[1 : 1 + 2 * integer(values[0])])])
+
+    def face(self, number, flag):
+        values = self.values(number)
+        return Face(number, integer(values[0]), flag, [self.loop(integer(it)) for it in values[3 : 3 + integer(values[1])]])
+
+    def loop(self, number):
+        values, uses, at = self.values(number), [], 1
+        for _ in range(integer(values[0])):
+            kind, entity, index, flag = (integer(it) for it in values[at : at + 4])
+            uses.append(self.use(kind, (entity, index), flag == 1))
+            curves = integer(values[at + 4]) if at + 4 < len(values) else 0
+            at += 5 + 2 * curves
+        return Loop(number, uses)
+
+    def use(self, kind, key, along):
+        if kind == 1:
+            vertex = self.vertex(key)
+            return Use(None, along, vertex, vertex)
+        number = self.edge(key)
+        edge = self.edges[number]
+        return Use(number, along, edge.start, edge.end) if along else Use(number, along, edge.end, edge.start)
+
+    def edge(self, key):
+        """The number of an edge, which is met here for the first time or again."""
+        if key not in self.edge_numbers:
+            entity, index = key
+            curve, *ends = (integer(it) for it in self.values(entity)[5 * index - 4 : 5 * index + 1])
+            edge = Edge(key, curve, self.vertex((ends[0], ends[1])), self.vertex((ends[2], ends[3])))
+            self.edge_numbers[key] = len(self.edges)
+            self.edges.append(edge)
+        return self.edge_numbers[key]
+
+    def vertex(self, key):
+        found = self.vertex_numbers.setdefault(key, len(self.vertices))
+        if found == len(self.vertices):
+            self.vertices.append(key)
+        return found
+
+    def coordinates(self, vertex):
+        """The three coordinates of a vertex as they are spelled."""
+        entity, index = self.vertices[vertex]
+        return self.values(entity)[3 * index - 2 : 3 * index + 1]
+
+
+def pairs(values):
+    """Pairs of a pointer and a flag."""
+    numbers = [integer(it) for it in values]
+    return list(zip(numbers[::2], numbers[1::2]))
+
+
+def solid_of(file, number):
+    """The solid of this directory number; Unreadable where its records aren't understood."""
+    try:
+        return Solid(file, number)
+    except (IndexError, ValueError):
+        raise Unreadable("the records of the solid") from None
