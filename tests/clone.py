@@ -9,7 +9,7 @@ SECONDS = 120
 # Where the kit isn't, if it isn't installed among the system's own commands.
 PLAIN_PATH = "/usr/bin:/bin:/usr/sbin:/sbin"
 LEFT_OUT = shutil.ignore_patterns("out", ".git", "__pycache__")
-# It proves nothing: its library builds end at once, with a delay or refused, and its program is the one that is given.
+# It proves nothing: its library builds end at once, with a delay or refused, and its programs are those that are given.
 KIT = """#!/bin/sh
 case $1 in
 version) echo 'a kit for tests' ;;
@@ -17,7 +17,10 @@ lib | run)
     echo "$1 ${PWD##*/}" >>"$KIT_LOG"
     [ "${PWD##*/}" != "${KIT_REFUSES-}" ] || exit 1
     sleep "${KIT_DELAY:-0}"
-    [ "$1" = lib ] || { mkdir -p out && cp "$KIT_PROGRAM" out/igesolid; }
+    case $1,${PWD##*/} in
+    run,igesolid_where) mkdir -p out && cp "$KIT_WHERE" out/igesolid_where ;;
+    run,*) mkdir -p out && cp "$KIT_PROGRAM" out/igesolid ;;
+    esac
     ;;
 esac
 """
@@ -31,8 +34,8 @@ exit "${STATUS:-0}"
 class Clone:
     """A copy of the repository in a folder, without what a build left."""
 
-    def __init__(self, top, folder, program):
-        self.top, self.folder, self.program = folder / "clone", folder, program
+    def __init__(self, top, folder, program, where):
+        self.top, self.folder, self.program, self.where = folder / "clone", folder, program, where
         shutil.copytree(top, self.top, ignore=LEFT_OUT, symlinks=True)
         shutil.rmtree(self.top / "bench", ignore_errors=True)
         self.log = folder / "kit.log"
@@ -47,7 +50,7 @@ class Clone:
 
     def environment(self, kit=False, **more):
         path = f"{self.folder / 'kit'}:{PLAIN_PATH}" if kit else PLAIN_PATH
-        own = {"PATH": path, "KIT_PROGRAM": str(self.program), "KIT_LOG": str(self.log)}
+        own = {"PATH": path, "KIT_PROGRAM": str(self.program), "KIT_WHERE": str(self.where), "KIT_LOG": str(self.log)}
         return {**os.environ, **own, **{name: str(value) for name, value in more.items()}}
 
     def run(self, *words, kit=False, cwd=None, stdout=subprocess.PIPE, limit=None, **more):
@@ -58,16 +61,18 @@ class Clone:
         )  # fmt: skip
         return done.returncode, done.stdout, done.stderr.decode(errors="replace")
 
-    def built(self):
-        return self.top / "crates" / "igesolid" / "out" / "igesolid"
+    def built(self, crate="igesolid"):
+        return self.top / "crates" / crate / "out" / crate
 
     def unbuild(self):
-        shutil.rmtree(self.built().parent, ignore_errors=True)
+        for crate in ("igesolid", "igesolid_where"):
+            shutil.rmtree(self.built(crate).parent, ignore_errors=True)
 
     def ship(self, program):
-        """Makes dist/ of a program, as dist/make does it behind the gate."""
-        self.built().parent.mkdir(exist_ok=True)
-        shutil.copy(program, self.built())
+        """Makes dist/ of a program, and of that which tells where solids fail, as dist/make does it behind the gate."""
+        for crate, it in (("igesolid", program), ("igesolid_where", self.where)):
+            self.built(crate).parent.mkdir(parents=True, exist_ok=True)
+            shutil.copy(it, self.built(crate))
         status, _, error = self.run("dist/make", kit=True)
         if status != 0:
             raise RuntimeError(error)

@@ -53,8 +53,36 @@ def first_runs(copy, skipped):
     yield "launcher: a changed source without the kit", status == 125 and "holds no program built from these sources" in error
 
 
+def pictures(copy):
+    """`where` runs the other program, and `page` and `marks` ask it."""
+    wanted = (copy.top / "tests" / "recorded" / "fail_pair.1.txt").read_bytes()
+    words = "examples/no/fail_pair.igs", "1"
+    yield "launcher: where", copy.run("./igesolid", "where", *words) == (1, wanted, "")
+    yield "launcher: where without words", copy.run("./igesolid", "where")[::2] == (2, "")
+    yield "launcher: --program where", copy.run("./igesolid", "--program", "where") == (0, f"{copy.top / 'dist' / 'igesolid-where-x86_64-linux'}\n".encode(), "")
+    status, text, error = copy.run("./igesolid", "page", *words)
+    yield "launcher: page", (status, text[:15], error) == (1, b"<!doctype html>", "") and b"fail PAIR 7 1" in text
+    status, text, error = copy.run(copy.top / "igesolid", "marks", "fail_pair.igs", "1", cwd=copy.top / "examples" / "no")
+    yield "launcher: marks", (status, error) == (1, "") and text.startswith(b"Faults of solid 1 of fail_pair.igs ")
+    yield "launcher: page without a number", copy.run("./igesolid", "page", words[0])[:2] == (2, b"")
+    for command in ("where", "page", "marks"):
+        told = copy.run("./igesolid", command, "none.igs", "1")
+        yield f"launcher: {command} of no file", told == (4, b"", "igesolid: none.igs: can't be opened: No such file or directory\n")
+    yield "launcher: no caches are left", not any(copy.top.rglob("__pycache__"))
+    plain = copy.folder / "without python"
+    plain.mkdir()
+    for folder in map(pathlib.Path, clone.PLAIN_PATH.split(":")):
+        for it in folder.iterdir() if folder.is_dir() else ():
+            if not it.name.startswith("python") and not (plain / it.name).exists():
+                (plain / it.name).symlink_to(it)
+    told = copy.run("./igesolid", "page", *words, PATH=plain)
+    yield "launcher: page without Python", told == (125, b"", "igesolid: page needs Python 3.8 or later, and python3 isn't on PATH\n")
+    shutil.rmtree(plain)
+
+
 def helps(copy, forms):
     """--help and the man page have each form and each word of the launcher."""
+    forms = *forms, "where FILE", "where FILE N", "where FILE N all", "page FILE N", "marks FILE N"
     status, text, error = copy.run("./igesolid", "--help")
     page = (copy.top / "man" / "igesolid.1").read_text()
     plain = page.replace("\\-", "-").replace("\\fB", "").replace("\\fI", "").replace("\\fR", "")
@@ -78,6 +106,8 @@ def builds(copy):
     calls = copy.calls()
     yield "build: lowest first, and the program last", calls[0] == "lib iges_fields" and calls[-1] == "run igesolid" and len(calls) == count
     yield "build: once", copy.run(*solids) == (0, b"1\n", "") and copy.calls() == []
+    told = copy.run("./igesolid", "--built", "where", "examples/no/fail_pair.igs", "1", kit=True)
+    yield "build: the other program", told[0] == 1 and copy.calls()[-1] == "run igesolid_where"
     yield "build: --built runs it", copy.run("./igesolid", "--built", *solids[1:]) == (0, b"1\n", "")
     whole = copy.built().read_bytes()
     copy.built().write_bytes(whole[:-1])
@@ -191,8 +221,9 @@ def messages(copy):
 
 def comparisons(copy, skipped):
     """dist/check passes where dist/ holds what was built here, of these sources, and fails else; dist/make counts what git tracks."""
-    copy.built().parent.mkdir(exist_ok=True)
-    shutil.copy(copy.program, copy.built())
+    for crate, program in (("igesolid", copy.program), ("igesolid_where", copy.where)):
+        copy.built(crate).parent.mkdir(parents=True, exist_ok=True)
+        shutil.copy(program, copy.built(crate))
     yield "dist/check: the same", copy.run("dist/check", kit=True)[0] == 0
     copy.built().write_bytes(pathlib.Path(copy.program).read_bytes()[:-1] + b"?")
     yield "dist/check: another byte", copy.run("dist/check", kit=True)[0] == 1
@@ -218,6 +249,7 @@ def comparisons(copy, skipped):
 
 
 def checks(copy, forms, skipped):
+    yield from pictures(copy)
     yield from first_runs(copy, skipped)
     yield from helps(copy, forms)
     yield from builds(copy)

@@ -6,10 +6,13 @@ import subprocess
 
 import clone
 
-INSTALLED = "bin/igesolid", "lib/igesolid/igesolid", "lib/igesolid/BUILT", "share/man/man1/igesolid.1"
+INSTALLED = (
+    "bin/igesolid", "lib/igesolid/igesolid", "lib/igesolid/igesolid-where", "lib/igesolid/BUILT", "share/man/man1/igesolid.1",
+    "lib/igesolid/companion/page", "lib/igesolid/companion/marks", "lib/igesolid/companion/pictures/page.html", "lib/igesolid/companion/pictures/iges.py",
+)  # fmt: skip
 PAGES = (
     *(f"docs/{name}.md" for name in ("THEOREM", "PROOFS", "COMMANDS", "FORMAT", "CERTIFICATE")),
-    "README.md", "examples/cube.igs", "examples/README.md", "examples/no/README.md", "examples/no/fail_pair.igs", "examples/occt/05_sphere.igs",
+    "README.md", "docs/images/page.png", "examples/cube.igs", "examples/README.md", "examples/no/README.md", "examples/no/fail_pair.igs", "examples/occt/05_sphere.igs",
 )  # fmt: skip
 
 
@@ -23,6 +26,12 @@ def certifies(copy, root):
     return copy.run(root / "bin" / "igesolid", "certify", "cube.igs", "1", cwd=root / "share" / "doc" / "igesolid" / "examples") == (0, wanted, "")
 
 
+def draws(copy, root):
+    """Whether what is installed below a folder makes a page of an example that is installed there."""
+    status, text, error = copy.run(root / "bin" / "igesolid", "page", "fail_pair.igs", "1", cwd=root / "share" / "doc" / "igesolid" / "examples" / "no")
+    return (status, text[:15], error) == (1, b"<!doctype html>", "")
+
+
 def installs(copy):
     prefix = copy.folder / "a prefix"
     status, text, error = copy.run("./install", prefix)
@@ -31,6 +40,7 @@ def installs(copy):
     for name in [*INSTALLED, *(f"share/doc/igesolid/{page}" for page in PAGES)]:
         yield f"install: {name}", name in found
     yield "install: it certifies", certifies(copy, prefix)
+    yield "install: it draws", draws(copy, prefix) and files_in(prefix) == found
     own, installed = (copy.run(at, "--version")[1].decode().splitlines() for at in ("./igesolid", prefix / "bin" / "igesolid"))
     yield "install: --version", installed[:3] == own[:3] and installed[3].endswith("/lib/igesolid/igesolid")
     yield "install: --built", copy.run(prefix / "bin" / "igesolid", "--built")[0] == 125
@@ -65,6 +75,7 @@ def packages(copy, skipped):
     yield "package: the same bytes again", open(package, "rb").read() == whole
     needs = copy.run("dpkg-deb", "--field", package, "Depends")[1].decode()
     yield "package: needs the C library alone", re.fullmatch(r"libc6 \(>= 2\.[0-9]+\)\n", needs) is not None
+    yield "package: recommends Python", copy.run("dpkg-deb", "--field", package, "Recommends")[1] == b"python3 (>= 3.8)\n"
     root = copy.folder / "root"
     if os.geteuid() == 0:
         # dpkg knows of one package there, the C library of this machine.
@@ -76,6 +87,7 @@ def packages(copy, skipped):
     else:
         yield "package: unpacked", copy.run("dpkg-deb", "--extract", package, root)[0] == 0
     yield "package: it certifies", certifies(copy, root / "usr")
+    yield "package: it draws", draws(copy, root / "usr")
     if os.geteuid() == 0:
         copy.run("dpkg", f"--root={root}", "--force-script-chrootless", "--purge", "igesolid")
         yield "package: removed", not (root / "usr").exists() or files_in(root / "usr") == []

@@ -24,6 +24,11 @@ CERTIFICATE = re.compile(r"(?s)```\n((?:IGESCERT|IGESOPEN|ORIENT) [^`]*)```\n(?:
 CHANGE = re.compile(r"`([^`]+)` as line (\d+)|no line (\d+)|no `END`")
 VERIFIERS = {"IGESCERT": "verify", "IGESOPEN": "open-verify", "ORIENT": "orient-verify"}
 FEWEST_CHANGES = 25
+# What stands for the launcher: it runs the program, or that which tells where solids fail.
+LAUNCHED = """#!/bin/sh
+[ "$1" != where ] || {{ shift; exec '{where}' "$@"; }}
+exec '{program}' "$@"
+"""
 
 
 def run(words, folder, **more):
@@ -137,9 +142,10 @@ def links(top):
         yield f"{name}: its links", all(((top / name).parent / target).exists() for target in targets)
 
 
-def checks(folder, top, program, forms):
-    for name, target in (("igesolid", program), ("examples", top / "examples")):
-        (folder / name).symlink_to(target)
+def checks(folder, top, program, where, forms):
+    (folder / "examples").symlink_to(top / "examples")
+    (folder / "igesolid").write_text(LAUNCHED.format(program=program, where=where))
+    (folder / "igesolid").chmod(0o755)
     yield from tables(top, forms)
     yield from examples(folder, top)
     yield from script_by_status(folder, top)
