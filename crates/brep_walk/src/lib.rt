@@ -16,6 +16,7 @@ mod records;
 mod shell_walking;
 mod shells;
 mod tuples;
+mod walker;
 mod walking;
 
 pub use fault::WalkFault;
@@ -23,4 +24,5 @@ pub use law::{
     open_places_are_definite, places_are_definite, shell_solid_is_numbered, solid_is_numbered,
 };
 pub use shell_walking::walk_shell;
+pub use walker::Walker;
 pub use walking::walk;
