@@ -20,7 +20,7 @@ ROW = re.compile(r"(?m)^\| \[\w+\]\(\.\./(\S+)\) \| (.*) \| (.*) \|$")
 TABLE = "| File | What it says | For |\n|---|---|---|\n"
 PRIVATE = "-- Private: "
 HOLDER = re.compile(r"(?:impl|(?:pub )?(?:trait|struct|enum))\b")
-FUNCTION = re.compile(r"( *)(pub )?(?:const )?fn (\w+)")
+FUNCTION = re.compile(r"( *)(pub |pub\(crate\) )?(?:const )?fn (\w+)")
 
 
 def imports(sources, source):
@@ -112,14 +112,14 @@ def public_lines(source, names):
             public = is_held = not names.isdisjoint(re.findall(r"\w+", line))
             is_whole = " for " in line or "trait" in line
         elif function and function[1]:
-            public = is_held and (is_whole or function[2] is not None)
+            public = is_held and (is_whole or function[2] == "pub ")
         elif function:
-            public = function[2] is not None and function[3] in names
+            public = function[2] == "pub " and function[3] in names
         elif re.match(r"    ghost (?!use)", line):
             public = is_held
         elif re.fullmatch(r"\}.*", line):
             public = is_held = False
-        elif re.fullmatch(r" *\{\}?|    \}|.* \{", line):
+        elif re.fullmatch(r" *\{\}?|    \}| *\).* \{", line):
             public = False
         if public:
             yield line
