@@ -63,7 +63,7 @@ class Shape:
         self.match = re.compile(re.sub(r"\(\?P<(\w+)>", numbered, shape)).fullmatch
 
     def told(self, text):
-        """What a line of this shape tells, by name; None for another line."""
+        """What a line of this shape says, by name; None for another line."""
         match = self.match(text)
         return match and {self.names[own]: value for own, value in match.groupdict().items() if value is not None}
 
@@ -79,7 +79,7 @@ class NotUnderstood(Exception):
 
 @dataclass
 class Line:
-    """A line and what it tells, by name."""
+    """A line and what it says, by name."""
 
     text: str
     told: dict
@@ -137,7 +137,7 @@ class Answer:
         return self.verdict.word == "bad"
 
     def facts_of(self, entity):
-        """What the text tells of an entity: level, colour, label, names."""
+        """What the text says of an entity: level, colour, label, names."""
         found = self.entities.get(entity)
         return [fact.text for fact in found.facts] if found else []
 

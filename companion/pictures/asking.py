@@ -39,7 +39,7 @@ def asked(program, file, number):
 
 
 def run(name, description, write):
-    """Runs a command: `write` gets the name of the file, the solid's number, the answer and the lines, and tells what to print and to say."""
+    """Runs a command: `write` gets the name of the file, the solid's number, the answer and the lines, and returns what to print and to say."""
     parser = argparse.ArgumentParser(prog=f"igesolid {name}", description=description, formatter_class=argparse.RawDescriptionHelpFormatter)
     parser.add_argument("file", metavar="FILE")
     parser.add_argument("number", metavar="N", help="the directory number of a solid")
@@ -59,7 +59,7 @@ def run(name, description, write):
             print(f"igesolid: {given.file}: {end.says}", file=sys.stderr)
         return end.status
     except (Unreadable, LookupError):
-        print(f"igesolid: {given.file}: it doesn't hold what igesolid-where tells of it; was it changed meanwhile?", file=sys.stderr)
+        print(f"igesolid: {given.file}: it doesn't match what igesolid-where reports; was it changed meanwhile?", file=sys.stderr)
         return NOT_UNDERSTOOD
     except MemoryError:
         return MEMORY_FAILED

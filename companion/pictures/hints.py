@@ -1,4 +1,4 @@
-"""What as a rule lies behind a fault. Each hint is an exact condition on the faults and the solid's records, but no more than a hint: it isn't
+"""What usually causes a fault. Each hint is an exact condition on the faults and the solid's records, but no more than a hint: it isn't
 proved, as the faults are, and the cause may be another one."""
 from collections import defaultdict
 from typing import NamedTuple
@@ -30,7 +30,7 @@ SENTENCES = {
 
 
 class Hint(NamedTuple):
-    """Its words, its sentence, the directory numbers of the faces to show, and whether `igesolid-where` tells it."""
+    """Its words, its sentence, the directory numbers of the faces to show, and whether it is from `igesolid-where`."""
 
     head: str
     sentence: str
@@ -77,7 +77,7 @@ class ShellUses:
 
 
 def hints_of(answer, solid):
-    """The hints that the text tells, and those of each failing shell's first failing rule; the hint face-flags stands alone."""
+    """The hints in the text, and those of each failing shell's first failing rule; the hint face-flags comes alone."""
     told = [Hint(it.text.split(" ", 1)[1], it.sentence, [], True) for it in answer.hints]
     if told or solid is None:
         return told

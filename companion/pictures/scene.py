@@ -1,4 +1,4 @@
-"""What a page shows of a solid: the faults as `igesolid-where` tells them, and the solid's edges as the file draws them."""
+"""What a page shows of a solid: the faults that `igesolid-where` reports, and the solid's edges as the file draws them."""
 import itertools
 import math
 from collections import Counter

@@ -1,4 +1,4 @@
--- The lists of edges and of vertices that a walk has looked at.
+-- Private: the lists of edges and of vertices that a walk has looked at.
 use Rattle.std.specs.Prelude.{◌≡◌, ◌<◌, ◌^◌, ℕ, ℤ, pos, List, length, IfSome}
 use Rattle.std.specs.Ordering.{int_eq}
 use Rattle.std.specs.Map.{lookup}

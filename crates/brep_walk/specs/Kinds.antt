@@ -1,4 +1,4 @@
--- The kinds of entity that places ask for.
+-- Private: the kinds of entity that places ask for.
 use Rattle.brep_lists.specs.Record.{EntityKind, solid, shell, face, «loop», edges, vertices}
 use Rattle.brep_walk.specs.declared.kind.RecordKind.{RecordKind}
 use Rattle.brep_walk.specs.declared.kind.RecordKind.TheVariants as due

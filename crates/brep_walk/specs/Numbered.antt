@@ -1,4 +1,4 @@
--- Edges and vertices as a walk numbers them.
+-- Private: edges and vertices as a walk numbers them.
 use Rattle.std.specs.Prelude.{◌≡◌, ℤ, pos, Bool, true, List, ◌++◌, flat_map}
 use Rattle.std.specs.List.{list_any, AllByRecursion}
 use Rattle.indexmap.specs.IndexSet.{insert_all}

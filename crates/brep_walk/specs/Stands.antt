@@ -1,4 +1,4 @@
--- What a walk has kept so far is true of the file.
+-- Private: what a walk has kept so far is true of the file.
 use Rattle.std.specs.Prelude.{◌≡◌}
 use Rattle.iges_params.specs.Contents.{Contents}
 use Rattle.brep_walk.specs.Kept.{Kept, AreKept}

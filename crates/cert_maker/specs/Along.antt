@@ -1,4 +1,4 @@
--- Which row runs along each edge.
+-- Private: which row runs along each edge.
 use Rattle.std.specs.Prelude.{ℕ, ◌<◌, ◌-◌, true, List}
 use Rattle.std.proofs.Common.{get_or}
 use Rattle.edge_uses.specs.ShellRows.{ShellRows}

@@ -1,4 +1,4 @@
--- What is known of a certificate while it comes.
+-- Private: what is known of a certificate while it comes.
 use Rattle.std.specs.Prelude.{◌≡◌, ℕ, ◌+◌, ◌-◌, ◌<◌, ◌≤◌, List, ◌++◌, length, take, drop, Option, ⊤}
 use Rattle.std.specs.Io.KnownBytes.{Consumes, IsAtEnd}
 use Rattle.iges_params.specs.Contents.{Contents}

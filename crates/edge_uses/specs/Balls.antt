@@ -1,4 +1,4 @@
--- Parts of the small solids that tests are about.
+-- Private: parts of the small solids that tests are about.
 use Rattle.std.specs.Prelude.{ℕ, true, List, [], ◌∷◌}
 use Rattle.solid_data.specs.declared.solid.LoopUse.{LoopUse}
 use Rattle.solid_data.specs.declared.solid.LoopUse.TheVariants.{VertexUse}

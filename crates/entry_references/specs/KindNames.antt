@@ -1,4 +1,4 @@
--- The kinds of records by the names that the code gives them.
+-- Private: the kinds of records by the names that the code gives them.
 use Rattle.brep_lists.specs.Record.{EntityKind, solid, shell, face, «loop», edges, vertices}
 use Rattle.entry_references.specs.declared.record_kind.RecordKind.{RecordKind}
 use Rattle.entry_references.specs.declared.record_kind.RecordKind.TheVariants as kind

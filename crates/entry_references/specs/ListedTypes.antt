@@ -1,4 +1,4 @@
--- The types that extraction follows by the names that the code gives them.
+-- Private: the types that extraction follows by the names that the code gives them.
 use Rattle.std.specs.Prelude.{◌≡◌, List, Option, Some, None}
 use Rattle.iges_fields.specs.declared.value.Value.{Value}
 use Rattle.iges_directory.specs.declared.entry.Entry.{Entry}

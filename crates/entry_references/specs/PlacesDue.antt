@@ -1,4 +1,4 @@
--- The places of pointers among values that are due.
+-- Private: the places of pointers among required values.
 use Rattle.std.specs.Prelude.{ℕ, zero, suc, ◌+◌, List, [], ◌++◌, map, filter_map}
 use Rattle.std.specs.List.{enumerate_from}
 use Rattle.brep_lists.specs.DueValues.{DueValue}

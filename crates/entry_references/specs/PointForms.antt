@@ -1,4 +1,4 @@
--- How the points of copious data are told.
+-- Private: how the points of copious data are given.
 use Rattle.std.specs.Prelude.{ℕ}
 use Rattle.entry_references.specs.declared.place.PointForm.{PointForm}
 use Rattle.entry_references.specs.declared.place.PointForm.TheVariants as form

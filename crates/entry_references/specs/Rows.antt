@@ -1,4 +1,4 @@
--- The layouts by the names that the code gives them.
+-- Private: the layouts by the names that the code gives them.
 use Rattle.std.specs.Prelude.{◌≡◌, ℕ, ℤ, pos, ◌+◌, ◌*◌, List, [], ◌∷◌, ◌==◌, if◌then◌else◌}
 use Rattle.std.specs.List.{range_with_len}
 use Rattle.entry_references.specs.Layout.{Layout, fixed, counted, nth, by_form}

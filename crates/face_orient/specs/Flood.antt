@@ -1,4 +1,4 @@
--- The faces that are reached so far, with the flag that each must have.
+-- Private: the faces that are reached so far, with the flag that each must have.
 use Rattle.std.specs.Prelude.{◌≡◌, ◌<◌, ◌+◌, ◌⊎◌, ℕ, Bool, true, false, List, ◌++◌, length, slice_get, Some}
 use Rattle.std.proofs.Common.{get_or}
 use Rattle.solid_data.proofs.Members.{Has, NoRepeat}

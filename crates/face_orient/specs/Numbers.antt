@@ -1,4 +1,4 @@
--- The numbers of a line.
+-- Private: the numbers of a line.
 use Rattle.std.specs.Prelude.{◌≡◌, ℕ, ◌<◌, ◌≤◌, List, [], ◌∷◌, ◌++◌, decimal, ⊤}
 use Rattle.std.specs.List.{AllByRecursion}
 use Rattle.face_orient.specs.declared.line.OrientLine.{OrientLine}

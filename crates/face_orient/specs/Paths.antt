@@ -1,4 +1,4 @@
--- Two paths up from the faces of a step.
+-- Private: two paths up from the faces of a step.
 use Rattle.std.specs.Prelude.{◌≡◌, ℕ, Bool, List, [], ◌∷◌, ◌++◌}
 use Rattle.face_orient.specs.declared.crossing.Crossing.{Crossing}
 use Rattle.face_orient.specs.Crossings.{Climb}

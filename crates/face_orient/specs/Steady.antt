@@ -1,4 +1,4 @@
--- Whether a step leads from the flag of its face to that of the other face.
+-- Private: whether a step leads from the flag of its face to that of the other face.
 use Rattle.std.specs.Prelude.{◌≡◌, List}
 use Rattle.face_orient.specs.declared.crossing.Crossing.{Crossing}
 use Rattle.face_orient.specs.declared.flood.Place.{Place}

@@ -1,4 +1,4 @@
--- How many rows each edge has, the first and the last of them.
+-- Private: how many rows each edge has, the first and the last of them.
 use Rattle.std.specs.Prelude.{◌≡◌, ◌-◌, ◌+◌, ◌==◌, ℕ, List, [], ◌∷◌, length, if◌then◌else◌}
 use Rattle.std.proofs.Common.{get_or}
 use Rattle.edge_uses.specs.declared.row.Row.{Row}

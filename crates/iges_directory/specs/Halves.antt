@@ -1,4 +1,4 @@
--- The two lines of an entry, each with what it holds. Private clauses cite it.
+-- Private: the two lines of an entry, each with what it holds.
 use Rattle.std.specs.Prelude.{◌≡◌, ℕ, ◌+◌, false, List, Some, None, Result, Ok, Err, IsTrue}
 use Rattle.std.specs.Char.{is_ascii_digit}
 use Rattle.std.specs.List.{list_all}

@@ -1,4 +1,4 @@
--- The directory as a function of the sections. Private clauses cite it; what it means is said by AreEntries and IsDirectoryFault.
+-- Private: the directory as a function of the sections. AreEntries and IsDirectoryFault say what it means.
 use Rattle.std.specs.Prelude.{ℕ, ◌+◌, List, [], ◌∷◌, length, Option, Some, None, Result, Ok, Err}
 use Rattle.iges_lines.specs.declared.reason.Reason.{Reason}
 use Rattle.iges_lines.specs.declared.fault.LineFault.{LineFault}

@@ -1,4 +1,4 @@
--- The digits and points at the front of a text.
+-- Private: the digits and points at the front of a text.
 use Rattle.std.specs.Prelude.{◌≡◌, ◌<◌, ◌≤◌, ◌^◌, ℕ, min, Bool, true, ◌||◌, List, length, take, count_by}
 use Rattle.std.specs.Char.{is_ascii_digit}
 use Rattle.std.specs.List.{list_all, prefix_len}

@@ -1,4 +1,4 @@
--- Sections that grew, and how far they had come.
+-- Private: sections that grew, and how far they had come.
 use Rattle.std.specs.Prelude.{◌≡◌, ◌++◌, length}
 use Rattle.iges_lines.specs.Lines.{SectionLines}
 use Rattle.iges_lines.specs.Feeding.{Taken}

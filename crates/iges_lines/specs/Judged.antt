@@ -1,4 +1,4 @@
--- The tests of a line, and the sections with it.
+-- Private: the tests of a line, and the sections with it.
 use Rattle.std.specs.Prelude.{◌≡◌, ℕ, Bool, true, false, List, [], ◌∷◌, if◌then◌else◌}
 use Rattle.iges_lines.specs.declared.reason.Reason.{Reason}
 use Rattle.iges_lines.specs.declared.reason.Reason.TheVariants.{After}

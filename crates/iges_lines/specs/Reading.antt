@@ -1,4 +1,4 @@
--- The sections as a function of the bytes. Private clauses cite it; what it means is said by IsSectioned and IsLineFault.
+-- Private: the sections as a function of the bytes. IsSectioned and IsLineFault say what it means.
 use Rattle.std.specs.Prelude.{ℕ, zero, suc, ◌+◌, List, length, Option, Some, None, Result, Ok, Err}
 use Rattle.iges_lines.specs.declared.reason.Reason.{Reason}
 use Rattle.iges_lines.specs.declared.fault.LineFault.{LineFault}

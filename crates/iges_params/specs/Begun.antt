@@ -1,4 +1,4 @@
--- What the passes before the records give.
+-- Private: what the passes before the records give.
 use Rattle.std.specs.Prelude.{◌≡◌, [], List, Ok, length, map}
 use Rattle.iges_lines.specs.Lines.{SectionLines, columns}
 use Rattle.iges_directory.specs.declared.entry.Placed.{Placed}

@@ -1,4 +1,4 @@
--- The head of a global as the code has it.
+-- Private: the head of a global as the code has it.
 use Rattle.std.specs.Prelude.{◌≡◌, Option, Some, None, option_copied}
 use Rattle.iges_params.specs.Global as global
 use Rattle.iges_params.specs.declared.head.Head.{Head}

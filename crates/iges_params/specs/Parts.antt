@@ -1,4 +1,4 @@
--- The lines of a section with free text.
+-- Private: the lines of a section with free text.
 use Rattle.std.specs.Prelude.{ℕ, List}
 use Rattle.iges_lines.specs.Lines.{SectionLines}
 use Rattle.iges_params.specs.declared.part.Part.{Part}

@@ -1,4 +1,4 @@
--- The file as a function of the bytes. Private clauses cite it; what it means is said by IsFile and Refusal.
+-- Private: the file as a function of the bytes. IsFile and Refusal say what it means.
 use Rattle.std.specs.Prelude.{ℕ, ◌+◌, ◌-◌, not, List, [], ◌∷◌, length, map, ℤ, pos, unsigned_abs, Option, Some, None, Result, Ok, Err, if◌then◌else◌}
 use Rattle.std.specs.List.{position_from}
 use Rattle.std.specs.Ordering.{int_eq}

@@ -1,4 +1,4 @@
--- What a row of the table of forms in the code means.
+-- Private: what a row of the table of forms in the code means.
 use Rattle.std.specs.Prelude.{ℕ, map}
 use Rattle.iges_solid_cmd.specs.declared.form.Command.{Command}
 use Rattle.iges_solid_cmd.specs.declared.form.Command.TheVariants as command

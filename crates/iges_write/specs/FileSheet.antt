@@ -1,4 +1,4 @@
--- The sheet of a whole file, section by section. Private clauses cite it.
+-- Private: the sheet of a whole file, section by section.
 use Rattle.std.specs.Prelude.{◌≡◌, ℕ, ◌<◌, ◌≤◌, List, [], ◌∷◌, length, Result, Ok, Err}
 use Rattle.iges_params.specs.Contents.{Contents}
 use Rattle.iges_write.specs.declared.counts.Counts.{Counts}

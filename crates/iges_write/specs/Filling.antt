@@ -1,4 +1,4 @@
--- The text as a function of the file. Private clauses cite it; what it means is said by IsFilled and IsText.
+-- Private: the text as a function of the file. IsFilled and IsText say what it means.
 use Rattle.std.specs.Prelude.{ℕ, ◌+◌, nat_le, true, false, List, [], ◌∷◌, ◌++◌, length, map, if◌then◌else◌, flat_map}
 use Rattle.iges_fields.specs.declared.value.Value.{Value}
 use Rattle.iges_fields.specs.declared.value.Value.TheVariants as value

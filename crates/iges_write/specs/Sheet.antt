@@ -1,4 +1,4 @@
--- Lines that are written one after the other. Private clauses cite them.
+-- Private: lines that are written one after the other.
 use Rattle.std.specs.Prelude.{◌≡◌, ℕ, ◌+◌, ◌<◌, ◌≤◌, nat_le, true, false, List, [], ◌∷◌, ◌++◌, length, Result, Ok, Err}
 use Rattle.std.specs.Fmt.{decimal}
 use Rattle.iges_fields.specs.declared.TheConstants.{FILE_LIMIT}

@@ -1,4 +1,4 @@
--- Marks and ranks of the items of a file's lists, a row for each entry.
+-- Private: marks and ranks of the items of a file's lists, a row for each entry.
 use Rattle.std.specs.Prelude.{◌≡◌, ℕ, suc, ◌+◌, ◌*◌, ◌<◌, ◌&&◌, Bool, true, false, if◌then◌else◌, ℤ, pos, List, [], ◌∷◌, length, map, flat_map, Some, slice_get, slice_index_or}
 use Rattle.std.specs.List.{AllByRecursion, enumerate_from}
 use Rattle.std.specs.Ordering.{int_eq}

@@ -1,4 +1,4 @@
--- Rows that stand one behind the other in one list.
+-- Private: rows that follow one another in one list.
 use Rattle.std.specs.Prelude.{◌≡◌, ℕ, ◌-◌, ◌≤◌, ◌==◌, List, [], ◌∷◌, take, drop, slice_index_or, if◌then◌else◌}
 
 -- the rows that end before these places, of which the first begins at place a

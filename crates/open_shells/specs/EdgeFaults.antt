@@ -1,4 +1,4 @@
--- What an error of mates names.
+-- Private: what an error of mates names.
 use Rattle.std.specs.Prelude.{⊤}
 use Rattle.solid_data.specs.Obligations.{FirstNot}
 use Rattle.edge_uses.specs.ShellRows.{ShellRows}

@@ -1,4 +1,4 @@
--- The rows of each face, linked from the first to the last.
+-- Private: the rows of each face, linked from the first to the last.
 use Rattle.std.specs.Prelude.{◌≡◌, ◌<◌, ◌≤◌, ◌+◌, ℕ, List, length}
 use Rattle.std.proofs.Common.{get_or}
 use Rattle.edge_uses.specs.ShellRows.{ShellRows}

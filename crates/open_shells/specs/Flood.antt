@@ -1,4 +1,4 @@
--- The faces that are reached so far.
+-- Private: the faces that are reached so far.
 use Rattle.std.specs.Prelude.{◌≡◌, ℕ, suc, Bool, true, false, List, [], ◌∷◌, ◌++◌, length, reverse}
 use Rattle.std.proofs.Common.{get_or}
 use Rattle.edge_uses.specs.ShellRows.{ShellRows}

@@ -1,4 +1,4 @@
--- What an error names.
+-- Private: what an error names.
 use Rattle.std.specs.Prelude.{⊤}
 use Rattle.solid_data.specs.Obligations.{FirstNot}
 use Rattle.solid_data.specs.Ring.{numbers_from}

@@ -1,4 +1,4 @@
--- What the code says of a line, in the words of lines.
+-- Private: what the code says of a line, in the words of lines.
 use Rattle.std.specs.Prelude.{◌≡◌, ℕ, ◌<◌, ◌++◌, List, length, ⊤}
 use Rattle.std.specs.List.{AllByRecursion}
 use Rattle.cert_lines.specs.Line.{spaced, IsShort}

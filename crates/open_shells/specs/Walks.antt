@@ -1,4 +1,4 @@
--- The rows of path lines and of border lines.
+-- Private: the rows of path lines and of border lines.
 use Rattle.std.specs.Prelude.{ℕ, ◌<◌, List, [], ◌∷◌, ◌++◌, Contains}
 use Rattle.std.specs.List.{AllByRecursion, AllZip}
 use Rattle.edge_uses.specs.ShellRows.{ShellRows}

@@ -1,4 +1,4 @@
--- What is known while the text of an orientation is read or written.
+-- Private: what is known while the text of an orientation is read or written.
 use Rattle.std.specs.Prelude.{◌≡◌, ◌⊎◌, ℕ, ⊤, Bool, List, ◌∷◌, ◌++◌, length}
 use Rattle.std.specs.List.{AllByRecursion, enumerate_from}
 use Rattle.std.specs.Bool.{MatchBool}

@@ -1,4 +1,4 @@
--- What a search for the obligation of a name answers.
+-- Private: what a search for the obligation of a name answers.
 use Rattle.std.specs.Prelude.{◌≡◌, List, [], ◌∷◌, ◌⊎◌, Some, Result, Ok, Err}
 use Rattle.solid_data.specs.Obligations.{Obligation, AllHold, FirstFalse}
 use Rattle.solid_data.specs.declared.verdict.Failing.{Failing}

@@ -1,4 +1,4 @@
--- The values of a kept record.
+-- Private: the values of a kept record.
 use Rattle.std.specs.Prelude.{◌≡◌, ℕ, zero, suc, ◌+◌, ◌<◌, ◌==◌, Bool, false, true, ℤ, pos, List, [], ◌∷◌, length, map, set, if◌then◌else◌, slice_index_or}
 use Rattle.iges_fields.specs.declared.value.Value.{Value}
 use Rattle.iges_fields.specs.declared.value.Value.TheVariants as value

@@ -1,4 +1,4 @@
--- The places of kept entries.
+-- Private: the places of kept entries.
 use Rattle.std.specs.Prelude.{◌≡◌, ℕ, ◌+◌, ◌*◌, ◌<◌, ◌≤◌, ◌==◌, List, length, slice_index_or}
 use Rattle.std.specs.List.{AllByRecursion, position_or_len}
 use Rattle.entry_references.specs.EntrySets.{IsWithin}

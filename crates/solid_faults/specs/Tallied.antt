@@ -1,4 +1,4 @@
--- Rows whose edges are tallied.
+-- Private: rows whose edges are tallied.
 use Rattle.std.specs.Prelude.{List}
 use Rattle.edge_uses.specs.declared.spanning.Span.{Span}
 use Rattle.edge_uses.specs.declared.tally.Seen.{Seen}

@@ -1,4 +1,4 @@
--- The trees that labels make: each node hangs at the one that it is marked by.
+-- Private: the trees that labels make: each node hangs at the one that it is marked by.
 use Rattle.std.specs.Prelude.{◌≡◌, ◌<◌, ◌≤◌, ℕ, List, length}
 use Rattle.std.proofs.Common.{get_or}
 use Rattle.solid_faults.specs.Components.{Linked, AreLabels}

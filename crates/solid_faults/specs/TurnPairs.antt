@@ -1,4 +1,4 @@
--- For each row the row that it turns to.
+-- Private: for each row the row that it turns to.
 use Rattle.std.specs.Prelude.{◌≡◌, ℕ, List, length, Some, slice_get}
 use Rattle.edge_uses.specs.Closed.{Turns}
 use Rattle.edge_uses.specs.ShellRows.{ShellRows}

@@ -1,4 +1,4 @@
--- Legal lines and the first bad one by recursion, as the code reads them: behind lines before, the latest first.
+-- Private: legal lines and the first bad one by recursion, as the code reads them: after the lines before, the latest first.
 use Rattle.std.specs.Prelude.{◌≡◌, ℕ, ◌+◌, ◌⊎◌, true, false, List, [], ◌∷◌, length}
 use Rattle.solid_data.specs.SolidData.{SolidData}
 use Rattle.cert_lines.specs.Line.{CertLine, IsLine, line_limit}

@@ -1,4 +1,4 @@
--- What a checker tells of a line of a part of a book.
+-- Private: what a checker says of a line of a part of a book.
 use Rattle.std.specs.Prelude.{◌≡◌, ℕ, ◌+◌, List, ◌∷◌, length}
 use Rattle.cert_lines.specs.Line.{CertLine, solid, IsLine, line_limit}
 use Rattle.topo_certificate.specs.Stand.{stand_behind, FitsLine}

@@ -1,4 +1,4 @@
--- The loops without an edge, by face and place from 1.
+-- Private: the loops without an edge, by face and place from 1.
 use Rattle.std.specs.Prelude.{◌≡◌, ℕ, ◌+◌, ◌<◌, ◌≤◌, Some, slice_get}
 use Rattle.solid_data.specs.declared.solid.LoopAt.{LoopAt}
 use Rattle.edge_uses.specs.ShellRows.{ShellRows}

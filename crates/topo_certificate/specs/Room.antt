@@ -1,4 +1,4 @@
--- What a checker keeps whatever the lines are, so that the line's number has room.
+-- Private: what a checker keeps whatever the lines are, so that the line's number doesn't overflow.
 use Rattle.std.specs.Prelude.{◌≡◌, ℕ, ◌+◌, ◌*◌, ◌<◌, ◌≤◌, ◌^◌, Bool, false, List, ◌∷◌, length, Option, Some, None}
 use Rattle.std.specs.Bool.{MatchBool}
 use Rattle.cert_lines.specs.Line.{CertLine, line_limit}

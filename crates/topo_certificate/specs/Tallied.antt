@@ -1,4 +1,4 @@
--- How many rows start at each vertex of a range, and how many loops without an edge lie there.
+-- Private: how many rows start at each vertex of a range, and how many loops without an edge lie there.
 use Rattle.std.specs.Prelude.{◌≡◌, ℕ, ◌-◌, ◌<◌, ◌^◌, List, length}
 use Rattle.std.specs.List.{AllByRecursion}
 use Rattle.std.proofs.Common.{get_or}

@@ -1,4 +1,4 @@
--- How many uses loops have.
+-- Private: how many uses loops have.
 use Rattle.std.specs.Prelude.{ℕ, ◌+◌, List, [], ◌∷◌, length}
 use Rattle.solid_data.specs.declared.solid.Loop.{Loop}
 use Rattle.solid_data.specs.declared.solid.FaceUse.{FaceUse}

@@ -1,4 +1,4 @@
--- Where the names of a record stand. Private clauses cite it.
+-- Private: where the names of a record are.
 use Rattle.std.specs.Prelude.{◌≡◌, ◌+◌, ◌^◌, ◌<◌, true, Some}
 use Rattle.entry_references.specs.declared.group.Group.{Group}
 use Rattle.entry_references.specs.Layout.{Own}

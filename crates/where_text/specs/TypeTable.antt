@@ -1,4 +1,4 @@
--- What a row of the table of types in the code means.
+-- Private: what a row of the table of types in the code means.
 use Rattle.std.specs.Prelude.{ℕ, ℤ, List}
 use Rattle.where_text.specs.declared.type_names.TypeName.{TypeName}
 

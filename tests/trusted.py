@@ -1,0 +1,185 @@
+#!/usr/bin/env python3
+"""docs/TRUSTED.md against the sources: its tables have exactly the files of definitions on which the contracts of the calls of
+CALLS and the laws rest, by their `use` lines. Each law is named in docs/PROOFS.md. Of the files that no public contract rests on,
+either each says in its first line that it is private, or none does.
+
+Run alone with --mend, it writes the tables anew: a file that is new there has its first line as what it says. With --private, it
+prints the files that no public contract rests on.
+"""
+import pathlib
+import re
+import sys
+
+from theorem import sources_of
+
+CALLS = {"run": "crates/iges_solid_cmd/src/command.rt", "run_where": "crates/where_command/src/command.rt"}
+# The traits of the sources and sinks of the calls: their clauses say what is left to read and what was written.
+TRAITS, STREAMS = ("Source", "Sink"), "crates/iges_io/src/io.rt"
+USE = re.compile(r"(?m)^ *(?:ghost )?use Rattle\.(\w+)\.specs\.(\w+)(?:\.\{([^}]*)\}| as (\w+))?;?$")
+ROW = re.compile(r"(?m)^\| \[\w+\]\(\.\./(\S+)\) \| (.*) \| (.*) \|$")
+TABLE = "| File | What it says | For |\n|---|---|---|\n"
+PRIVATE = "-- Private: "
+HOLDER = re.compile(r"(?:impl|(?:pub )?(?:trait|struct|enum))\b")
+FUNCTION = re.compile(r"( *)(pub |pub\(crate\) )?(?:const )?fn (\w+)")
+
+
+def imports(sources, source):
+    """Each name that a source imports from a file of definitions, and the path of this file."""
+    found = {}
+    for crate, module, names, alias in USE.findall(source):
+        path = f"crates/{crate}/specs/{module}.antt"
+        if path in sources:
+            found |= {name.split()[-1]: path for name in (alias or names or module).split(",") if name.strip()}
+    return found
+
+
+def reached(sources, paths):
+    """These files of definitions, and those that their `use` lines lead to."""
+    found, left = set(), list(paths)
+    while left:
+        path = left.pop()
+        if path not in found:
+            found.add(path)
+            left += imports(sources, sources[path]).values()
+    return found
+
+
+def cited(sources, path, text):
+    """The files of definitions whose words stand in this text of a source."""
+    words = set(re.findall(r"[^\W\d][\w']*", re.sub(r"//.*", "", text)))
+    return {file for name, file in imports(sources, sources[path]).items() if name in words}
+
+
+def contract(source, head):
+    """An item of a source from its head on, without a body."""
+    return re.split(r"(?m)^\{\}?$|^\}$", source[source.index(head) :])[0]
+
+
+def laws(sources):
+    return [(path, name) for path, source in sources.items() if path.endswith("/src/law.rt") for name in re.findall(r"(?m)^pub fn (\w+)\(", source)]
+
+
+def rests(sources):
+    """The files of definitions on which each call rests, and the laws."""
+    streams = set().union(*(cited(sources, STREAMS, contract(sources[STREAMS], f"pub trait {name}")) for name in TRAITS))
+    roots = {f"`{name}`": streams | cited(sources, path, contract(sources[path], f"pub fn {name}<")) for name, path in CALLS.items()}
+    roots["laws"] = set().union(*(cited(sources, path, contract(sources[path], f"pub fn {name}(")) for path, name in laws(sources)))
+    return {root: reached(sources, paths) for root, paths in roots.items()}
+
+
+def definitions(sources):
+    return {path for path in sources if "/specs/" in path and not path.endswith("/Lib.antt")}
+
+
+def wanted(sources):
+    """Each file that the page must have, with what rests on it."""
+    found = rests(sources)
+    return {path: ", ".join(root for root, paths in found.items() if path in paths) for path in set().union(*found.values())}
+
+
+def summary(sources):
+    run, where, of_laws = (len(paths) for paths in rests(sources).values())
+    return f"`run` rests on {run} of the {len(definitions(sources))} files of definitions, `run_where` on {where}, the laws on {of_laws}; all together on {len(wanted(sources))}."
+
+
+def differing(sources, page):
+    """The files that the page lacks, has too many, or has for another call."""
+    has, needs = {path: root for path, _, root in ROW.findall(page)}, wanted(sources)
+    return sorted(path for path in has.keys() | needs.keys() if has.get(path) != needs.get(path))
+
+
+def made_up(sources):
+    """The sources with one more `use` in a definition, and with one more clause of a call; each is to be noticed."""
+    other = min(definitions(sources) - wanted(sources).keys())
+    use = "use Rattle.{0}.specs.{1}.{{MadeUp}}".format(*re.findall(r"crates/(\w+)/specs/(\w+)", other)[0])
+    definition, call = "crates/iges_solid_cmd/specs/Outcome.antt", CALLS["run"]
+    yield "use", sources | {definition: f"{use}\n{sources[definition]}"}
+    clause = sources[call].replace("    ensures outcome {", "    ensures made_up { MadeUp }\n    ensures outcome {")
+    yield "clause", sources | {call: f"ghost {use};\n{clause}"}
+
+
+def exported(sources, crate):
+    """The names that a crate exports by the `pub use` lines of its lib.rt."""
+    return {name for names in re.findall(r"pub use ([^;]*);", sources.get(f"crates/{crate}/src/lib.rt", "")) for name in re.findall(r"\w+", names)}
+
+
+def public_lines(source, names):
+    """The lines of the contracts of a source's public functions, types and traits, of which these names are exported."""
+    public = is_held = is_whole = False
+    for line in source.splitlines():
+        function = FUNCTION.match(line)
+        if HOLDER.match(line):
+            public = is_held = not names.isdisjoint(re.findall(r"\w+", line))
+            is_whole = " for " in line or "trait" in line
+        elif function and function[1]:
+            public = is_held and (is_whole or function[2] == "pub ")
+        elif function:
+            public = function[2] == "pub " and function[3] in names
+        elif re.match(r"    ghost (?!use)", line):
+            public = is_held
+        elif re.fullmatch(r"\}.*", line):
+            public = is_held = False
+        elif re.fullmatch(r" *\{\}?|    \}| *\).* \{", line):
+            public = False
+        if public:
+            yield line
+
+
+def private(sources):
+    """The files of definitions on which no public contract rests."""
+    roots = set()
+    for path, source in sources.items():
+        if path.endswith(".rt"):
+            names = exported(sources, path.split("/")[1]) | set(re.findall(r"(?m)^pub fn (\w+)", source) if path.endswith("/lib.rt") else ())
+            lines = [line for line in public_lines(source, names) if not USE.match(line)]
+            roots |= cited(sources, path, "\n".join(lines))
+    return definitions(sources) - reached(sources, roots)
+
+
+def checks(top):
+    sources, page = sources_of(top), (top / "docs" / "TRUSTED.md").read_text()
+    others = differing(sources, page)
+    for path in sorted(wanted(sources).keys() | set(others)):
+        yield f"docs/TRUSTED.md: {path}", path not in others
+    yield "docs/TRUSTED.md: the numbers of files", summary(sources) in page
+    for name, changed in made_up(sources):
+        yield f"docs/TRUSTED.md: one more {name} is noticed", differing(changed, page) != []
+    proofs = (top / "docs" / "PROOFS.md").read_text()
+    for path, name in laws(sources):
+        yield f"docs/PROOFS.md: {path}: {name}", f"`{name}`" in proofs
+    marked = {path for path in definitions(sources) if sources[path].startswith(PRIVATE)}
+    yield "files of definitions that say that they are private", marked in (set(), private(sources))
+
+
+def mended(sources, page, crates):
+    """The page with its sentence of numbers and its tables as the sources have them."""
+    says, needs = {path: text for path, text, _ in ROW.findall(page)}, wanted(sources)
+    tables = []
+    for crate in crates:
+        rows = ""
+        for path in sorted(path for path in needs if path.split("/")[1] == crate):
+            text = says.get(path, sources[path].splitlines()[0].removeprefix("-- ").rstrip("."))
+            rows += f"| [{pathlib.Path(path).stem}](../{path}) | {text} | {needs[path]} |\n"
+        if rows:
+            tables.append(f"### {crate}\n\n{TABLE}{rows}")
+    page = re.sub(r"(?m)^`run` rests on .*$", lambda _: summary(sources), page)
+    return page[: page.index("\n### ") + 1] + "\n".join(tables)
+
+
+def main():
+    top = pathlib.Path(__file__).resolve().parent.parent
+    if sys.argv[1:] == ["--private"]:
+        print(*sorted(private(sources_of(top))), sep="\n")
+        return 0
+    if sys.argv[1:] == ["--mend"]:
+        page = top / "docs" / "TRUSTED.md"
+        crates = re.findall(r"(?m)^(\w+):", (top / "crates.txt").read_text())
+        page.write_text(mended(sources_of(top), page.read_text(), crates))
+    failed = [name for name, held in checks(top) if not held]
+    for name in failed:
+        print(name)
+    return 1 if failed else 0
+
+
+if __name__ == "__main__":
+    sys.exit(main())
