@@ -1,8 +1,6 @@
-ghost use Rattle.std.specs.Prelude.{◌≤◌, length};
-
 use brep_walk::{WalkFault, walk, walk_shell};
 use iges_fields::EntryNo;
-use iges_params::{File, ReadFileFault, read_file};
+use iges_params::{File, read_file};
 use solid_data::{Failing, Rule, ShellAt, Solid, VertexId, VertexKey};
 use std::alloc::Global;
 use std::test::Fail;
@@ -23,21 +21,27 @@ const LOOP: usize = 1539;
 /// Where the number of the shell's form stands.
 pub(crate) const SHELL_FORM: usize = 444;
 
-// The file of a text; no clause goes further.
-fn read(alloc: Global, text: &[u8]) -> Result<File, ReadFileFault>
-    requires { length text.now ≤ 2000 }
-{
-    read_file(alloc, text)
+// Has no clause, so that no goal holds the text.
+fn ball() -> &'static [u8] {
+    BALL
+}
+
+// The file of a text.
+fn read(alloc: Global, text: &[u8]) -> Result<File, Fail> {
+    if text.len() > 2000 {
+        return Err(Fail::from("too long"));
+    }
+    Ok(read_file(alloc, text)?)
 }
 
 /// The ball with one byte changed.
 pub(crate) fn changed(alloc: Global, at: usize, byte: u8) -> Result<File, Fail> {
-    let mut text = Vec::from_slice(alloc, BALL)?;
-    if at >= text.len() || text.len() > 2000 {
+    let mut text = Vec::from_slice(alloc, ball())?;
+    if at >= text.len() {
         return Err(Fail::from("no such byte"));
     }
     text[at] = byte;
-    Ok(read(alloc, text.as_slice())?)
+    read(alloc, text.as_slice())
 }
 
 // The solid of an entry; no clause goes further.

@@ -1,11 +1,8 @@
-ghost use Rattle.std.specs.Prelude.{◌≡◌, ◌≤◌, Some, length, slice_get};
-ghost use Rattle.edge_uses.specs.ShellRows.{EndsMeet, shell_rows};
-
 use brep_walk::{WalkFault, walk};
 use cert_maker::verdict;
-use edge_uses::{PairFault, Rows, first_unjoined, pair, rows};
+use edge_uses::{PairFault, first_unjoined, pair, rows};
 use iges_fields::EntryNo;
-use iges_params::{File, ReadFileFault, read_file};
+use iges_params::{File, read_file};
 use solid_data::{EdgeId, Failing, Rule, ShellAt, Solid, Verdict, VertexId};
 use std::alloc::Global;
 use std::test::Fail;
@@ -23,21 +20,31 @@ const SEAMS: &[u8] =
 // Where the second use of the first loop names its edge: with 2 there, the edges have one use and three.
 const SECOND_USE: usize = 2047;
 
-// The file of a text; no clause goes further.
-fn read(alloc: Global, text: &[u8]) -> Result<File, ReadFileFault>
-    requires { length text.now ≤ 3000 }
-{
-    read_file(alloc, text)
+// These have no clause, so that no goal holds a text.
+fn ball() -> &'static [u8] {
+    BALL
+}
+
+fn seams() -> &'static [u8] {
+    SEAMS
+}
+
+// The file of a text.
+fn read(alloc: Global, text: &[u8]) -> Result<File, Fail> {
+    if text.len() > 3000 {
+        return Err(Fail::from("too long"));
+    }
+    Ok(read_file(alloc, text)?)
 }
 
 // The seams with one byte changed.
 fn changed(alloc: Global, at: usize, byte: u8) -> Result<File, Fail> {
-    let mut text = Vec::from_slice(alloc, SEAMS)?;
-    if at >= text.len() || text.len() > 3000 {
+    let mut text = Vec::from_slice(alloc, seams())?;
+    if at >= text.len() {
         return Err(Fail::from("no such byte"));
     }
     text[at] = byte;
-    Ok(read(alloc, text.as_slice())?)
+    read(alloc, text.as_slice())
 }
 
 fn fails(rule: Rule, entity: u32, place: u32) -> Verdict {
@@ -72,7 +79,7 @@ fn faults(alloc: Global, solid: &Solid) -> Result<(Option<PairFault>, Option<Lin
 
 #[test]
 fn a_ball_is_closed(rt: HostRuntime) -> Result<(), Fail> {
-    let file = read(rt.alloc(), BALL)?;
+    let file = read(rt.alloc(), ball())?;
     assert_eq!(rt; judged(rt.alloc(), &file)?, Verdict::Closed);
     Ok(())
 }

@@ -1,7 +1,6 @@
-use iges_fields::Bytes;
+use crate::memory::{sink, source};
 use iges_io::{
-    MemSink, MemSource, Numbers, ReadAll, WriteFault, no_source, open_source, read_all, std_sink,
-    write_all,
+    MemSink, ReadAll, WriteFault, no_source, open_source, read_all, std_sink, write_all,
 };
 use std::alloc::Global;
 use std::fs::File;
@@ -9,25 +8,6 @@ use std::test::Fail;
 use std::{fs, io};
 
 const TEXT: &[u8] = b"IGESCERT 1\n";
-
-fn numbers(alloc: Global, given: &[u64]) -> Result<Numbers, Fail> {
-    let mut list = Numbers::new(alloc);
-    for n in given {
-        list.push(*n)?;
-    }
-    Ok(list)
-}
-
-fn source(alloc: Global, text: &[u8], sizes: &[u64], fails: &[u64]) -> Result<MemSource, Fail> {
-    let bytes = Bytes::copy(alloc, text)?;
-    Ok(MemSource::new(bytes, numbers(alloc, sizes)?, numbers(alloc, fails)?))
-}
-
-fn sink(alloc: Global, room: usize, sizes: &[u64], fails: &[u64]) -> Result<MemSink, Fail> {
-    let sizes = numbers(alloc, sizes)?;
-    let fails = numbers(alloc, fails)?;
-    Ok(MemSink::new(alloc, room, sizes, fails)?)
-}
 
 // Why the text is not had from a source of these sizes that fails at these calls, if it isn't.
 fn fault(alloc: Global, sizes: &[u64], fails: &[u64], limit: u64) -> Result<Option<ReadAll>, Fail> {

@@ -1,5 +1,4 @@
-ghost use Rattle.std.specs.Prelude.{◌≤◌, length};
-
+use crate::texts::{integer_at, read, value_at};
 use iges_directory::Entry;
 use iges_fields::{Delimiters, EntryNo, Value, Values};
 use iges_lines::{LineFault, Reason};
@@ -23,17 +22,11 @@ const ENTRY: Entry = Entry {
     label: *b"        ",
 };
 
-// The file of a text; no clause goes further.
-fn read(alloc: Global, text: &[u8]) -> Result<File, ReadFileFault>
-    requires { length text.now ≤ 2000 }
-{
-    read_file(alloc, text)
-}
-
 // The bad line of a text, where it has one.
-fn bad_line(alloc: Global, text: &[u8]) -> Option<LineFault>
-    requires { length text.now ≤ 600 }
-{
+fn bad_line(alloc: Global, text: &[u8]) -> Option<LineFault> {
+    if text.len() > 600 {
+        return None;
+    }
     match read_file(alloc, text) {
         Err(ReadFileFault::Bad(fault)) => Some(fault),
         _ => None,
@@ -42,19 +35,6 @@ fn bad_line(alloc: Global, text: &[u8]) -> Option<LineFault>
 
 fn bad(line: u64, reason: Reason) -> Option<LineFault> {
     Some(LineFault { line, reason })
-}
-
-// The value at a place of an entry's record.
-fn value_at(file: &File, no: u32, i: usize) -> Option<&Value> {
-    file.values(EntryNo(no))?.get(i)
-}
-
-// The integer at a place of an entry's record.
-fn integer_at(file: &File, no: u32, i: usize) -> Option<i64> {
-    match value_at(file, no, i)? {
-        Value::Int(n) => Some(*n),
-        _ => None,
-    }
 }
 
 // The bytes of the text at a place of an entry's record.
@@ -67,7 +47,7 @@ fn text_at(file: &File, no: u32, i: usize) -> Option<&[u8]> {
 
 #[test]
 fn one_solid(rt: HostRuntime) -> Result<(), Fail> {
-    let file = read_file(
+    let file = read(
         rt.alloc(),
         b"tiny                                                                    S      1\n1H,,1H;;                                                                G      1\n     186       1       0       0       0       0       0       000000000D      1\n     186       0       0       1       0                               0D      2\n186,0,1,0;                                                             1P      1\nS      1G      1D      2P      1                                        T      1\n",
     )?;

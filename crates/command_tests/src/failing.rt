@@ -1,5 +1,5 @@
 use crate::files::{ball, short};
-use crate::running::{Call, Fails, Given, outcome};
+use crate::outcomes::{Call, Fails, Given, outcome};
 use iges_fields::Bytes;
 use std::alloc::Global;
 use std::process::Abort;
@@ -66,6 +66,22 @@ impl Call {
     }
 }
 
+// The call behind so many of a kind fails.
+fn fails_behind(
+    rt: &impl Abort,
+    alloc: Global,
+    given: Given,
+    call: Call,
+    size: u64,
+    passed: u64,
+    text: &[u8],
+) -> Result<(), Fail> {
+    let at = passed.saturating_add(1);
+    let got = outcome(alloc, given, Some(Fails { call, size, at }))?;
+    compare(rt, &got, call.status(), call.written(text, passed, size));
+    Ok(())
+}
+
 // Each call of a kind fails in turn, until the run passes.
 fn fails_in_turn(
     rt: &impl Abort,
@@ -78,9 +94,7 @@ fn fails_in_turn(
     let text = whole.1.as_slice();
     let count = call.count(given, text.len(), size);
     for passed in 0..count {
-        let at = passed.saturating_add(1);
-        let got = outcome(alloc, given, Some(Fails { call, size, at }))?;
-        compare(rt, &got, call.status(), call.written(text, passed, size));
+        fails_behind(rt, alloc, given, call, size, passed, text)?;
     }
     let at = count.saturating_add(1);
     let got = outcome(alloc, given, Some(Fails { call, size, at }))?;

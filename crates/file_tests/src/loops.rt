@@ -1,21 +1,7 @@
-ghost use Rattle.std.specs.Prelude.{IsTrue};
-ghost use Rattle.iges_fields.specs.InLine.{is_in_line};
-
+use crate::texts::record;
 use brep_loops::{FaceRecord, LoopRecord, ShellRecord, SolidRecord};
-use iges_fields::{Delimiters, Values, ValuesFault, values};
-use std::alloc::Global;
+use iges_fields::Values;
 use std::test::Fail;
-
-// The values of a record without its type number.
-fn record(alloc: Global, text: &[u8]) -> Result<Values, ValuesFault>
-    requires { IsTrue (is_in_line text.now) }
-{
-    let Some(delims) = Delimiters::new(b',', b';') else {
-        return Err(ValuesFault::NoMemory);
-    };
-    let (list, _) = values(alloc, text, delims)?;
-    Ok(list)
-}
 
 fn shell(list: &Values, i: usize) -> Option<(i64, bool)> {
     SolidRecord::of(list)?.item(i)

@@ -1,8 +1,8 @@
-//! Runs in memory.
+//! Runs in which one call fails.
 
+use crate::memory::{sink, source, status_of, words};
 use iges_fields::Bytes;
-use iges_io::{MemSink, MemSource, Numbers};
-use iges_solid_cmd::{Words, run};
+use iges_io::{MemSink, MemSource};
 use std::alloc::Global;
 use std::test::Fail;
 
@@ -35,43 +35,6 @@ pub struct Fails {
 /// More than any text here is long.
 const ROOM: usize = 4_096;
 
-fn words(alloc: Global, given: &[&str]) -> Result<Words, Fail> {
-    let mut words = Words::new(alloc);
-    for word in given {
-        words.push(word)?;
-    }
-    Ok(words)
-}
-
-fn numbers(alloc: Global, n: u64) -> Result<Numbers, Fail> {
-    let mut list = Numbers::new(alloc);
-    list.push(n)?;
-    Ok(list)
-}
-
-fn source(alloc: Global, bytes: &[u8], bounds: (u64, u64)) -> Result<MemSource, Fail> {
-    let sizes = numbers(alloc, bounds.0)?;
-    let fails = numbers(alloc, bounds.1)?;
-    Ok(MemSource::new(Bytes::copy(alloc, bytes)?, sizes, fails))
-}
-
-fn sink(alloc: Global, bounds: (u64, u64)) -> Result<MemSink, Fail> {
-    let sizes = numbers(alloc, bounds.0)?;
-    let fails = numbers(alloc, bounds.1)?;
-    Ok(MemSink::new(alloc, ROOM, sizes, fails)?)
-}
-
-// Has no clause, so that what follows a call carries none of those of `run`.
-fn status_of(
-    alloc: Global,
-    words: &Words,
-    file: &mut MemSource,
-    cert: &mut MemSource,
-    out: &mut MemSink,
-) -> u8 {
-    run(alloc, words, file, cert, out).code()
-}
-
 // How many bytes a call of this kind moves at most, and which one fails, from 1; 0 is none.
 fn bounds(call: Call, fails: Option<Fails>) -> (u64, u64) {
     match fails {
@@ -80,16 +43,24 @@ fn bounds(call: Call, fails: Option<Fails>) -> (u64, u64) {
     }
 }
 
+fn source_of(alloc: Global, text: &[u8], bounds: (u64, u64)) -> Result<MemSource, Fail> {
+    source(alloc, text, &[bounds.0], &[bounds.1])
+}
+
+fn sink_of(alloc: Global, bounds: (u64, u64)) -> Result<MemSink, Fail> {
+    sink(alloc, ROOM, &[bounds.0], &[bounds.1])
+}
+
 /// The status of a run, and what it wrote. Calls of another kind than the one that fails move all bytes at once.
 pub fn outcome(alloc: Global, given: Given, fails: Option<Fails>) -> Result<(u8, Bytes), Fail> {
     let words = words(alloc, given.words)?;
-    let mut file = source(alloc, given.file, bounds(Call::FileRead, fails))?;
-    let mut cert = source(
+    let mut file = source_of(alloc, given.file, bounds(Call::FileRead, fails))?;
+    let mut cert = source_of(
         alloc,
         given.certificate,
         bounds(Call::CertificateRead, fails),
     )?;
-    let mut out = sink(alloc, bounds(Call::Write, fails))?;
+    let mut out = sink_of(alloc, bounds(Call::Write, fails))?;
     let status = status_of(alloc, &words, &mut file, &mut cert, &mut out);
     Ok((status, Bytes::copy(alloc, out.bytes())?))
 }

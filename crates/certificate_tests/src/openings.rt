@@ -44,6 +44,11 @@ fn solid_of(opening: &mut Opening, piece: &[u8]) -> Option<(u32, usize)> {
     }
 }
 
+// Whether more bytes are due once this piece has come; no clause goes further.
+fn is_not_done(opening: &mut Opening, piece: &[u8]) -> bool {
+    matches!(opening.feed(piece), Ok(OpeningStep::More))
+}
+
 #[test]
 fn an_opening_names_its_solid_again(rt: HostRuntime) {
     let mut opening = Opening::new();
@@ -54,4 +59,11 @@ fn an_opening_names_its_solid_again(rt: HostRuntime) {
     assert_eq!(rt; solid_of(&mut opening, b"SOLID 7\n"), Some((5, 0)));
     assert_eq!(rt; fault_at_end(&mut opening), None);
     assert_eq!(rt; solid_of(&mut opening, b"x\n"), Some((5, 0)));
+}
+
+#[test]
+fn an_opening_comes_in_pieces(rt: HostRuntime) {
+    let mut opening = Opening::new();
+    assert_eq!(rt; is_not_done(&mut opening, b"IGESCERT 2\nSOL"), true);
+    assert_eq!(rt; solid_of(&mut opening, b"ID 5\nrest"), Some((5, 5)));
 }
