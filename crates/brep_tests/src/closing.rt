@@ -1,5 +1,6 @@
 ghost use Rattle.std.specs.Prelude.{◌≡◌, length};
 
+use crate::comparing::same;
 use iges_fields::NoMemory;
 use small_solids::{open_sheet, pole_ball, seamed_ball};
 use solid_data::{ShellAt, Solid};
@@ -11,7 +12,7 @@ use std::test::Fail;
 fn a_seamed_ball_is_closed(rt: HostRuntime) -> Result<(), Fail> {
     let solid = seamed_ball(rt.alloc())?;
     let closed = is_closed(rt.alloc(), &solid)?;
-    assert_eq!(rt; closed, true);
+    same(&rt, &closed, &true);
     Ok(())
 }
 
@@ -19,7 +20,7 @@ fn a_seamed_ball_is_closed(rt: HostRuntime) -> Result<(), Fail> {
 fn a_pole_is_closed(rt: HostRuntime) -> Result<(), Fail> {
     let solid = pole_ball(rt.alloc())?;
     let closed = is_closed(rt.alloc(), &solid)?;
-    assert_eq!(rt; closed, true);
+    same(&rt, &closed, &true);
     Ok(())
 }
 
@@ -27,7 +28,7 @@ fn a_pole_is_closed(rt: HostRuntime) -> Result<(), Fail> {
 fn an_edge_used_once_is_not_closed(rt: HostRuntime) -> Result<(), Fail> {
     let solid = open_sheet(rt.alloc())?;
     let closed = is_closed(rt.alloc(), &solid)?;
-    assert_eq!(rt; closed, false);
+    same(&rt, &closed, &false);
     Ok(())
 }
 
@@ -52,6 +53,6 @@ fn faults_of(alloc: Global, solid: &Solid) -> Result<ShellFaults, NoMemory>
 fn the_loop_of_a_sheet_has_a_gap_and_its_edge_is_unpaired(rt: HostRuntime) -> Result<(), Fail> {
     let solid = open_sheet(rt.alloc())?;
     let found = faults_of(rt.alloc(), &solid)?;
-    assert_eq!(rt; counts(&found), (1, 1, 0, false, 0));
+    same(&rt, &counts(&found), &(1, 1, 0, false, 0));
     Ok(())
 }

@@ -1,5 +1,6 @@
 ghost use Rattle.std.specs.Prelude.{◌≡◌, length};
 
+use crate::comparing::same;
 use edge_uses::{
     Row, Rows, VerticesBefore, first_shared, first_unjoined, pair, rows, vertices_before,
 };
@@ -54,32 +55,32 @@ fn counts(rows: &Rows) -> (usize, usize, usize, usize, usize) {
 #[test]
 fn a_seam_has_a_row_each_way(rt: HostRuntime) -> Result<(), Fail> {
     let rows = seam_rows(rt.alloc())?;
-    assert_eq!(rt; counts(&rows), (2, 1, 2, 1, 0));
-    assert_eq!(rt; rows.row(RowId(0)), Some(row(true, 0, 1)));
-    assert_eq!(rt; rows.row(RowId(1)), Some(row(false, 1, 0)));
-    assert_eq!(rt; rows.row(RowId(2)), None);
+    same(&rt, &counts(&rows), &(2, 1, 2, 1, 0));
+    same(&rt, &rows.row(RowId(0)), &Some(row(true, 0, 1)));
+    same(&rt, &rows.row(RowId(1)), &Some(row(false, 1, 0)));
+    same(&rt, &rows.row(RowId(2)), &None);
     Ok(())
 }
 
 #[test]
 fn the_rows_of_a_seam_follow_each_other(rt: HostRuntime) -> Result<(), Fail> {
     let rows = seam_rows(rt.alloc())?;
-    assert_eq!(rt; rows.follows(RowId(0)), Some(RowId(1)));
-    assert_eq!(rt; rows.follows(RowId(1)), Some(RowId(0)));
-    assert_eq!(rt; rows.edge_at(0), Some(EdgeId(0)));
-    assert_eq!(rt; rows.vertex_at(1), Some(VertexId(1)));
+    same(&rt, &rows.follows(RowId(0)), &Some(RowId(1)));
+    same(&rt, &rows.follows(RowId(1)), &Some(RowId(0)));
+    same(&rt, &rows.edge_at(0), &Some(EdgeId(0)));
+    same(&rt, &rows.vertex_at(1), &Some(VertexId(1)));
     Ok(())
 }
 
 #[test]
 fn a_pole_is_a_loop_without_an_edge(rt: HostRuntime) -> Result<(), Fail> {
     let rows = pole_rows(rt.alloc())?;
-    assert_eq!(rt; counts(&rows), (0, 0, 1, 1, 1));
+    same(&rt, &counts(&rows), &(0, 0, 1, 1, 1));
     let at = LoopAt {
         face: FaceAt(0),
         place: 0,
     };
-    assert_eq!(rt; rows.isolated(0), Some((at, VertexId(0))));
+    same(&rt, &rows.isolated(0), &Some((at, VertexId(0))));
     Ok(())
 }
 
@@ -97,9 +98,9 @@ fn mate_and_turn(alloc: Global, row: RowId) -> Result<(Option<RowId>, Option<Row
 #[test]
 fn each_row_of_a_seam_turns_to_itself(rt: HostRuntime) -> Result<(), Fail> {
     let first = mate_and_turn(rt.alloc(), RowId(0))?;
-    assert_eq!(rt; first, (Some(RowId(1)), Some(RowId(0))));
+    same(&rt, &first, &(Some(RowId(1)), Some(RowId(0))));
     let second = mate_and_turn(rt.alloc(), RowId(1))?;
-    assert_eq!(rt; second, (Some(RowId(0)), Some(RowId(1))));
+    same(&rt, &second, &(Some(RowId(0)), Some(RowId(1))));
     Ok(())
 }
 
@@ -117,8 +118,8 @@ fn shared(alloc: Global) -> Result<Option<VertexId>, NoMemory> {
 
 #[test]
 fn one_shell_shares_no_vertex(rt: HostRuntime) -> Result<(), Fail> {
-    assert_eq!(rt; shared_before(rt.alloc())?, None);
-    assert_eq!(rt; shared(rt.alloc())?, None);
+    same(&rt, &shared_before(rt.alloc())?, &None);
+    same(&rt, &shared(rt.alloc())?, &None);
     Ok(())
 }
 
@@ -126,6 +127,6 @@ fn one_shell_shares_no_vertex(rt: HostRuntime) -> Result<(), Fail> {
 fn a_shell_met_again_shares_its_least_vertex(rt: HostRuntime) -> Result<(), Fail> {
     let rows = seam_rows(rt.alloc())?;
     let after = VerticesBefore::none().with(&rows);
-    assert_eq!(rt; after.first_shared(&rows), Some(VertexId(0)));
+    same(&rt, &after.first_shared(&rows), &Some(VertexId(0)));
     Ok(())
 }

@@ -1,3 +1,4 @@
+use crate::comparing::same;
 use small_solids::half_turned_ball;
 use solid_faults::{is_closed, is_closed_flagged};
 use std::test::Fail;
@@ -5,7 +6,7 @@ use std::test::Fail;
 #[test]
 fn a_half_turned_ball_is_closed_once_flagged(rt: HostRuntime) -> Result<(), Fail> {
     let solid = half_turned_ball(rt.alloc())?;
-    assert_eq!(rt; is_closed(rt.alloc(), &solid)?, false);
-    assert_eq!(rt; is_closed_flagged(rt.alloc(), &solid)?, true);
+    same(&rt, &is_closed(rt.alloc(), &solid)?, &false);
+    same(&rt, &is_closed_flagged(rt.alloc(), &solid)?, &true);
     Ok(())
 }

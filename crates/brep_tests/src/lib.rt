@@ -4,6 +4,8 @@
 #[cfg(test)]
 mod closing;
 #[cfg(test)]
+mod comparing;
+#[cfg(test)]
 mod edges;
 #[cfg(test)]
 mod flagging;

@@ -1,5 +1,6 @@
 ghost use Rattle.std.specs.Prelude.{◌≡◌, length};
 
+use crate::comparing::same;
 use edge_uses::{first_unjoined, pair, rows};
 use small_solids::{pole_ball, seamed_ball};
 use solid_data::{FaceAt, LoopAt, RowId, ShellAt, Solid};
@@ -37,10 +38,10 @@ fn point_at(links: &Links, i: usize) -> Option<LoopAt> {
 fn each_end_of_a_seam_has_a_cycle_of_one_row(rt: HostRuntime) -> Result<(), Fail> {
     let solid = seamed_ball(rt.alloc())?;
     let links = links_of(rt.alloc(), &solid)?;
-    assert_eq!(rt; links.len(), 2);
-    assert_eq!(rt; row_round(&links, 0, 0), Some(RowId(0)));
-    assert_eq!(rt; row_round(&links, 0, 1), None);
-    assert_eq!(rt; row_round(&links, 1, 0), Some(RowId(1)));
+    same(&rt, &links.len(), &2);
+    same(&rt, &row_round(&links, 0, 0), &Some(RowId(0)));
+    same(&rt, &row_round(&links, 0, 1), &None);
+    same(&rt, &row_round(&links, 1, 0), &Some(RowId(1)));
     Ok(())
 }
 
@@ -52,6 +53,6 @@ fn a_pole_is_one_point(rt: HostRuntime) -> Result<(), Fail> {
         face: FaceAt(0),
         place: 0,
     };
-    assert_eq!(rt; point_at(&links, 0), Some(at));
+    same(&rt, &point_at(&links, 0), &Some(at));
     Ok(())
 }

@@ -1,5 +1,6 @@
 ghost use Rattle.std.specs.Prelude.{◌≡◌, length};
 
+use crate::comparing::same;
 use face_orient::{
     FlagList, OrientChecker, OrientFault, OrientLineFault, OrientRule, Orientation, orient,
     orient_line, write_orient_line,
@@ -39,21 +40,21 @@ fn ring_of(alloc: Global, solid: &Solid) -> Result<RowList, Fail>
 #[test]
 fn a_seam_needs_no_change(rt: HostRuntime) -> Result<(), Fail> {
     let flags = flags_of(rt.alloc(), &seamed_ball(rt.alloc())?)?;
-    assert_eq!(rt; flags.as_slice(), [true].as_slice());
+    same(&rt, &flags.as_slice(), &[true].as_slice());
     Ok(())
 }
 
 #[test]
 fn a_face_that_runs_twice_along_an_edge_is_a_ring(rt: HostRuntime) -> Result<(), Fail> {
     let rows = ring_of(rt.alloc(), &twice_along(rt.alloc())?)?;
-    assert_eq!(rt; rows.as_slice(), [RowId(0)].as_slice());
+    same(&rt, &rows.as_slice(), &[RowId(0)].as_slice());
     Ok(())
 }
 
 #[test]
 fn of_two_alike_faces_the_second_is_turned(rt: HostRuntime) -> Result<(), Fail> {
     let flags = flags_of(rt.alloc(), &alike_faces(rt.alloc())?)?;
-    assert_eq!(rt; flags.as_slice(), [true, false].as_slice());
+    same(&rt, &flags.as_slice(), &[true, false].as_slice());
     Ok(())
 }
 
@@ -70,11 +71,23 @@ fn judged(alloc: Global, solid: &Solid, flag: bool, row: u32) -> Result<(bool, b
 #[test]
 fn flags_and_rings_are_judged(rt: HostRuntime) -> Result<(), Fail> {
     let seam = seamed_ball(rt.alloc())?;
-    assert_eq!(rt; judged(rt.alloc(), &seam, true, 0), Ok((true, false)));
-    assert_eq!(rt; judged(rt.alloc(), &seam, false, 0), Ok((false, false)));
+    same(&rt, &judged(rt.alloc(), &seam, true, 0), &Ok((true, false)));
+    same(
+        &rt,
+        &judged(rt.alloc(), &seam, false, 0),
+        &Ok((false, false)),
+    );
     let twice = twice_along(rt.alloc())?;
-    assert_eq!(rt; judged(rt.alloc(), &twice, true, 1), Ok((false, true)));
-    assert_eq!(rt; judged(rt.alloc(), &twice, true, 2), Ok((false, false)));
+    same(
+        &rt,
+        &judged(rt.alloc(), &twice, true, 1),
+        &Ok((false, true)),
+    );
+    same(
+        &rt,
+        &judged(rt.alloc(), &twice, true, 2),
+        &Ok((false, false)),
+    );
     Ok(())
 }
 
@@ -87,27 +100,37 @@ fn again(alloc: Global, line: &[u8]) -> Result<bool, OrientLineFault> {
 
 #[test]
 fn lines_are_read_and_written(rt: HostRuntime) {
-    assert_eq!(rt; again(rt.alloc(), b"ORIENT 1\n"), Ok(true));
-    assert_eq!(rt; again(rt.alloc(), b"F 1 1 0\n"), Ok(true));
-    assert_eq!(rt; again(rt.alloc(), b"O 2 17 0 3\n"), Ok(true));
-    assert_eq!(rt; again(rt.alloc(), b"END\n"), Ok(true));
+    same(&rt, &again(rt.alloc(), b"ORIENT 1\n"), &Ok(true));
+    same(&rt, &again(rt.alloc(), b"F 1 1 0\n"), &Ok(true));
+    same(&rt, &again(rt.alloc(), b"O 2 17 0 3\n"), &Ok(true));
+    same(&rt, &again(rt.alloc(), b"END\n"), &Ok(true));
 }
 
 #[test]
 fn other_lines_are_misspelt(rt: HostRuntime) {
-    assert_eq!(rt;
-        again(rt.alloc(), b"F 1 2\n"),
-        Err(OrientLineFault::Misspelt)
+    same(
+        &rt,
+        &again(rt.alloc(), b"F 1 2\n"),
+        &Err(OrientLineFault::Misspelt),
     );
-    assert_eq!(rt; again(rt.alloc(), b"O 1\n"), Err(OrientLineFault::Misspelt));
-    assert_eq!(rt;
-        again(rt.alloc(), b"F 1 01\n"),
-        Err(OrientLineFault::Misspelt)
+    same(
+        &rt,
+        &again(rt.alloc(), b"O 1\n"),
+        &Err(OrientLineFault::Misspelt),
     );
-    assert_eq!(rt; again(rt.alloc(), b"END"), Err(OrientLineFault::Misspelt));
+    same(
+        &rt,
+        &again(rt.alloc(), b"F 1 01\n"),
+        &Err(OrientLineFault::Misspelt),
+    );
+    same(
+        &rt,
+        &again(rt.alloc(), b"END"),
+        &Err(OrientLineFault::Misspelt),
+    );
 }
 
 #[test]
 fn a_rule_is_printed(rt: HostRuntime) {
-    assert_eq!(rt; OrientRule::Count.name(), "COUNT");
+    same(&rt, &OrientRule::Count.name(), &"COUNT");
 }

@@ -1,5 +1,6 @@
 ghost use Rattle.std.specs.Prelude.{◌≡◌, length};
 
+use crate::comparing::same;
 use edge_uses::{first_unjoined, pair, rows};
 use shell_reach::{ReachFault, ReachList, reach};
 use small_solids::{seamed_ball, touching_faces};
@@ -25,16 +26,17 @@ fn reach_of(alloc: Global, solid: &Solid) -> Result<ReachList, ReachFault>
 fn a_shell_of_one_face_needs_no_row(rt: HostRuntime) -> Result<(), Fail> {
     let solid = seamed_ball(rt.alloc())?;
     let list = reach_of(rt.alloc(), &solid)?;
-    assert_eq!(rt; list.len(), 0);
+    same(&rt, &list.len(), &0);
     Ok(())
 }
 
 #[test]
 fn a_shared_vertex_reaches_no_face(rt: HostRuntime) -> Result<(), Fail> {
     let solid = touching_faces(rt.alloc())?;
-    assert_eq!(rt;
-        reach_of(rt.alloc(), &solid).err(),
-        Some(ReachFault::Unreached(FaceAt(1)))
+    same(
+        &rt,
+        &reach_of(rt.alloc(), &solid).err(),
+        &Some(ReachFault::Unreached(FaceAt(1))),
     );
     Ok(())
 }

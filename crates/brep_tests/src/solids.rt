@@ -1,3 +1,4 @@
+use crate::comparing::same;
 use small_solids::pole_ball;
 use solid_data::Rule;
 use std::test::Fail;
@@ -5,13 +6,13 @@ use std::test::Fail;
 #[test]
 fn a_ball_has_one_shell_and_one_vertex(rt: HostRuntime) -> Result<(), Fail> {
     let solid = pole_ball(rt.alloc())?;
-    assert_eq!(rt; solid.shell_count(), 1);
-    assert_eq!(rt; solid.vertex_count(), 1);
-    assert_eq!(rt; solid.edge_count(), 0);
+    same(&rt, &solid.shell_count(), &1);
+    same(&rt, &solid.vertex_count(), &1);
+    same(&rt, &solid.edge_count(), &0);
     Ok(())
 }
 
 #[test]
 fn a_rule_is_printed(rt: HostRuntime) {
-    assert_eq!(rt; Rule::Shared.name(), "APART");
+    same(&rt, &Rule::Shared.name(), &"APART");
 }

@@ -1,3 +1,4 @@
+use crate::comparing::same;
 use brep_walk::{WalkFault, walk, walk_shell};
 use iges_fields::EntryNo;
 use iges_params::{File, read_file};
@@ -72,16 +73,17 @@ fn fails(rule: Rule, entity: u32, place: u32) -> Option<WalkFault> {
 fn a_ball_has_one_vertex(rt: HostRuntime) -> Result<(), Fail> {
     let file = changed(rt.alloc(), 0, b' ')?;
     let ball = solid(rt.alloc(), &file, 1)?;
-    assert_eq!(rt; ball.shell_count(), 1);
-    assert_eq!(rt; ball.edge_count(), 0);
-    assert_eq!(rt;
-        ball.vertex(VertexId(0)),
-        Some(VertexKey {
+    same(&rt, &ball.shell_count(), &1);
+    same(&rt, &ball.edge_count(), &0);
+    same(
+        &rt,
+        &ball.vertex(VertexId(0)),
+        &Some(VertexKey {
             list: EntryNo(9),
-            index: 1
-        })
+            index: 1,
+        }),
     );
-    assert_eq!(rt; ball.vertex(VertexId(1)), None);
+    same(&rt, &ball.vertex(VertexId(1)), &None);
     Ok(())
 }
 
@@ -89,10 +91,15 @@ fn a_ball_has_one_vertex(rt: HostRuntime) -> Result<(), Fail> {
 fn its_shell_is_that_of_the_record(rt: HostRuntime) -> Result<(), Fail> {
     let file = changed(rt.alloc(), 0, b' ')?;
     let ball = solid(rt.alloc(), &file, 1)?;
-    assert_eq!(rt; ball.shell(ShellAt(0)).map(|shell| shell.entity.0), Some(3));
-    assert_eq!(rt;
-        ball.shell(ShellAt(0)).map(|shell| shell.faces.len()),
-        Some(1)
+    same(
+        &rt,
+        &ball.shell(ShellAt(0)).map(|shell| shell.entity.0),
+        &Some(3),
+    );
+    same(
+        &rt,
+        &ball.shell(ShellAt(0)).map(|shell| shell.faces.len()),
+        &Some(1),
     );
     Ok(())
 }
@@ -100,49 +107,55 @@ fn its_shell_is_that_of_the_record(rt: HostRuntime) -> Result<(), Fail> {
 #[test]
 fn an_entry_of_another_type(rt: HostRuntime) -> Result<(), Fail> {
     let file = changed(rt.alloc(), 0, b' ')?;
-    assert_eq!(rt;
-        solid(rt.alloc(), &file, 3).err(),
-        fails(Rule::WrongKind, 3, 0)
+    same(
+        &rt,
+        &solid(rt.alloc(), &file, 3).err(),
+        &fails(Rule::WrongKind, 3, 0),
     );
-    assert_eq!(rt;
-        solid(rt.alloc(), &file, 2).err(),
-        fails(Rule::NoEntry, 2, 0)
+    same(
+        &rt,
+        &solid(rt.alloc(), &file, 2).err(),
+        &fails(Rule::NoEntry, 2, 0),
     );
     Ok(())
 }
 
 #[test]
 fn a_flag_of_2(rt: HostRuntime) -> Result<(), Fail> {
-    assert_eq!(rt;
-        failing(rt.alloc(), SOLID + 6, b'2')?,
-        fails(Rule::BadLayout, 1, 0)
+    same(
+        &rt,
+        &failing(rt.alloc(), SOLID + 6, b'2')?,
+        &fails(Rule::BadLayout, 1, 0),
     );
     Ok(())
 }
 
 #[test]
 fn a_face_that_is_no_entry(rt: HostRuntime) -> Result<(), Fail> {
-    assert_eq!(rt;
-        failing(rt.alloc(), SHELL + 6, b'6')?,
-        fails(Rule::NoEntry, 3, 1)
+    same(
+        &rt,
+        &failing(rt.alloc(), SHELL + 6, b'6')?,
+        &fails(Rule::NoEntry, 3, 1),
     );
     Ok(())
 }
 
 #[test]
 fn a_surface_of_the_six_types(rt: HostRuntime) -> Result<(), Fail> {
-    assert_eq!(rt;
-        failing(rt.alloc(), FACE + 5, b' ')?,
-        fails(Rule::BadGeometry, 5, 0)
+    same(
+        &rt,
+        &failing(rt.alloc(), FACE + 5, b' ')?,
+        &fails(Rule::BadGeometry, 5, 0),
     );
     Ok(())
 }
 
 #[test]
 fn an_index_past_the_end(rt: HostRuntime) -> Result<(), Fail> {
-    assert_eq!(rt;
-        failing(rt.alloc(), LOOP + 10, b'2')?,
-        fails(Rule::BadIndex, 7, 1)
+    same(
+        &rt,
+        &failing(rt.alloc(), LOOP + 10, b'2')?,
+        &fails(Rule::BadIndex, 7, 1),
     );
     Ok(())
 }
@@ -151,11 +164,16 @@ fn an_index_past_the_end(rt: HostRuntime) -> Result<(), Fail> {
 fn an_open_shell_is_walked_by_itself(rt: HostRuntime) -> Result<(), Fail> {
     let file = changed(rt.alloc(), SHELL_FORM, b'2')?;
     let ball = shell(rt.alloc(), &file, 3)?;
-    assert_eq!(rt; ball.entity(), EntryNo(3));
-    assert_eq!(rt; ball.shell(ShellAt(0)).map(|shell| shell.flag), Some(true));
-    assert_eq!(rt;
-        solid(rt.alloc(), &file, 1).err(),
-        fails(Rule::WrongKind, 1, 1)
+    same(&rt, &ball.entity(), &EntryNo(3));
+    same(
+        &rt,
+        &ball.shell(ShellAt(0)).map(|shell| shell.flag),
+        &Some(true),
+    );
+    same(
+        &rt,
+        &solid(rt.alloc(), &file, 1).err(),
+        &fails(Rule::WrongKind, 1, 1),
     );
     Ok(())
 }
@@ -163,9 +181,10 @@ fn an_open_shell_is_walked_by_itself(rt: HostRuntime) -> Result<(), Fail> {
 #[test]
 fn a_shell_of_form_3_is_of_no_kind(rt: HostRuntime) -> Result<(), Fail> {
     let file = changed(rt.alloc(), SHELL_FORM, b'3')?;
-    assert_eq!(rt;
-        shell(rt.alloc(), &file, 3).err(),
-        fails(Rule::WrongKind, 3, 0)
+    same(
+        &rt,
+        &shell(rt.alloc(), &file, 3).err(),
+        &fails(Rule::WrongKind, 3, 0),
     );
     Ok(())
 }

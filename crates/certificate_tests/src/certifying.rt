@@ -1,3 +1,4 @@
+use crate::comparing::same;
 use cert_maker::{MakeFault, certify};
 use iges_fields::{Bytes, EntryNo, NoMemory};
 use small_solids::{open_sheet, pole_ball, seamed_ball};
@@ -26,9 +27,10 @@ fn text_of(alloc: Global, solid: &Solid) -> Result<Bytes, MakeFault> {
 fn a_seamed_ball_is_certified(rt: HostRuntime) -> Result<(), Fail> {
     let solid = seamed_ball(rt.alloc())?;
     let text = text_of(rt.alloc(), &solid)?;
-    assert_eq!(rt;
-        text.as_slice(),
-        b"IGESCERT 2\nSOLID 13\nSHELL 1 2 1 2 1\nE 1 2\nC 1\nC 2\nTALLY 2 1 1 1\nEND\n".as_slice()
+    same(
+        &rt,
+        &text.as_slice(),
+        &b"IGESCERT 2\nSOLID 13\nSHELL 1 2 1 2 1\nE 1 2\nC 1\nC 2\nTALLY 2 1 1 1\nEND\n".as_slice(),
     );
     Ok(())
 }
@@ -37,9 +39,10 @@ fn a_seamed_ball_is_certified(rt: HostRuntime) -> Result<(), Fail> {
 fn a_ball_at_one_vertex_is_certified(rt: HostRuntime) -> Result<(), Fail> {
     let solid = pole_ball(rt.alloc())?;
     let text = text_of(rt.alloc(), &solid)?;
-    assert_eq!(rt;
-        text.as_slice(),
-        b"IGESCERT 2\nSOLID 13\nSHELL 1 0 0 1 1\nI 1 1\nTALLY 1 0 1 1\nEND\n".as_slice()
+    same(
+        &rt,
+        &text.as_slice(),
+        &b"IGESCERT 2\nSOLID 13\nSHELL 1 0 0 1 1\nI 1 1\nTALLY 1 0 1 1\nEND\n".as_slice(),
     );
     Ok(())
 }
@@ -52,6 +55,6 @@ fn join_is_judged_before_pair(rt: HostRuntime) -> Result<(), Fail> {
         entity: EntryNo(7),
         place: 1,
     });
-    assert_eq!(rt; certified(rt.alloc(), &solid).err(), Some(wanted));
+    same(&rt, &certified(rt.alloc(), &solid).err(), &Some(wanted));
     Ok(())
 }

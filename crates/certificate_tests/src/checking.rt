@@ -1,5 +1,6 @@
 ghost use Rattle.std.specs.Prelude.{◌≤◌, length};
 
+use crate::comparing::same;
 use iges_fields::{Bytes, EntryNo, NoMemory};
 use small_solids::{pole_ball, seamed_ball};
 use solid_data::Solid;
@@ -60,63 +61,65 @@ fn of_pole(alloc: Global, text: &[u8]) -> Result<Result<(), Illegal>, NoMemory> 
 #[test]
 fn a_ball_at_one_vertex_is_checked(rt: HostRuntime) -> Result<(), Fail> {
     let told = of_pole(rt.alloc(), b"SHELL 1 0 0 1 1\nI 1 1\nEND\n")?;
-    assert_eq!(rt; told, Ok(()));
+    same(&rt, &told, &Ok(()));
     Ok(())
 }
 
 #[test]
 fn a_loop_that_is_not_there_is_unfit(rt: HostRuntime) -> Result<(), Fail> {
     let told = of_pole(rt.alloc(), b"SHELL 1 0 0 1 1\nI 1 2\nEND\n")?;
-    assert_eq!(rt; told, Err(Illegal::Unfit { line: 4 }));
+    same(&rt, &told, &Err(Illegal::Unfit { line: 4 }));
     Ok(())
 }
 
 #[test]
 fn a_ball_with_a_seam_is_checked(rt: HostRuntime) -> Result<(), Fail> {
     let told = of_seam(rt.alloc(), b"SHELL 1 2 1 2 1\nE 1 2\nC 1\nC 2\nEND\n")?;
-    assert_eq!(rt; told, Ok(()));
+    same(&rt, &told, &Ok(()));
     Ok(())
 }
 
 #[test]
 fn the_row_along_an_edge_comes_first(rt: HostRuntime) -> Result<(), Fail> {
     let told = of_seam(rt.alloc(), b"SHELL 1 2 1 2 1\nE 2 1\nC 1\nC 2\nEND\n")?;
-    assert_eq!(rt; told, Err(Illegal::Unfit { line: 4 }));
+    same(&rt, &told, &Err(Illegal::Unfit { line: 4 }));
     Ok(())
 }
 
 #[test]
 fn a_line_behind_the_end_is_unfit(rt: HostRuntime) -> Result<(), Fail> {
     let told = of_seam(rt.alloc(), b"SHELL 1 2 1 2 1\nE 1 2\nC 1\nC 2\nEND\nEND\n")?;
-    assert_eq!(rt; told, Err(Illegal::Unfit { line: 8 }));
+    same(&rt, &told, &Err(Illegal::Unfit { line: 8 }));
     Ok(())
 }
 
 #[test]
 fn a_rest_without_a_line_feed_is_misspelt(rt: HostRuntime) -> Result<(), Fail> {
     let told = of_seam(rt.alloc(), b"SHELL 1 2 1 2 1\nE 1 2\nC 1\nC 2\nEND")?;
-    assert_eq!(rt; told, Err(Illegal::Misspelt { line: 7 }));
+    same(&rt, &told, &Err(Illegal::Misspelt { line: 7 }));
     Ok(())
 }
 
 #[test]
 fn a_missing_line_has_the_number_behind_the_last(rt: HostRuntime) -> Result<(), Fail> {
-    assert_eq!(rt;
-        of_seam(rt.alloc(), b"")?,
-        Err(Illegal::Missing { line: 3 })
+    same(
+        &rt,
+        &of_seam(rt.alloc(), b"")?,
+        &Err(Illegal::Missing { line: 3 }),
     );
     let told = of_seam(rt.alloc(), b"SHELL 1 2 1 2 1\nE 1 2\nC 1\nC 2\n")?;
-    assert_eq!(rt; told, Err(Illegal::Missing { line: 7 }));
+    same(&rt, &told, &Err(Illegal::Missing { line: 7 }));
     Ok(())
 }
 
 #[test]
 fn a_line_of_74_bytes_is_read_for_one_use(rt: HostRuntime) -> Result<(), Fail> {
     let line = b"1234567890123456789012345678901234567890123456789012345678901234567890123\n";
-    assert_eq!(rt; line.len(), 74);
-    assert_eq!(rt;
-        of_pole(rt.alloc(), line)?,
-        Err(Illegal::Misspelt { line: 3 })
+    same(&rt, &line.len(), &74);
+    same(
+        &rt,
+        &of_pole(rt.alloc(), line)?,
+        &Err(Illegal::Misspelt { line: 3 }),
     );
     Ok(())
 }
@@ -124,8 +127,12 @@ fn a_line_of_74_bytes_is_read_for_one_use(rt: HostRuntime) -> Result<(), Fail> {
 #[test]
 fn a_line_of_75_bytes_is_unfit_for_one_use(rt: HostRuntime) -> Result<(), Fail> {
     let line = b"12345678901234567890123456789012345678901234567890123456789012345678901234\n";
-    assert_eq!(rt; line.len(), 75);
-    assert_eq!(rt; of_pole(rt.alloc(), line)?, Err(Illegal::Unfit { line: 3 }));
+    same(&rt, &line.len(), &75);
+    same(
+        &rt,
+        &of_pole(rt.alloc(), line)?,
+        &Err(Illegal::Unfit { line: 3 }),
+    );
     Ok(())
 }
 
@@ -144,7 +151,7 @@ fn of_two_pieces(alloc: Global, text: &[u8], cut: usize) -> Result<Result<(), Il
 fn a_text_may_be_cut_anywhere(rt: HostRuntime) -> Result<(), Fail> {
     let text = b"SHELL 1 0 0 1 1\nI 1 1\nEND\n";
     'cuts: for cut in 0..text.len() {
-        assert_eq!(rt; of_two_pieces(rt.alloc(), text, cut)?, Ok(()));
+        same(&rt, &of_two_pieces(rt.alloc(), text, cut)?, &Ok(()));
     }
     Ok(())
 }
@@ -152,10 +159,11 @@ fn a_text_may_be_cut_anywhere(rt: HostRuntime) -> Result<(), Fail> {
 #[test]
 fn a_line_of_75_bytes_is_unfit_in_two_pieces(rt: HostRuntime) -> Result<(), Fail> {
     let line = b"12345678901234567890123456789012345678901234567890123456789012345678901234\n";
-    assert_eq!(rt; line.len(), 75);
-    assert_eq!(rt;
-        of_two_pieces(rt.alloc(), line, 74)?,
-        Err(Illegal::Unfit { line: 3 })
+    same(&rt, &line.len(), &75);
+    same(
+        &rt,
+        &of_two_pieces(rt.alloc(), line, 74)?,
+        &Err(Illegal::Unfit { line: 3 }),
     );
     Ok(())
 }
@@ -164,11 +172,11 @@ fn a_line_of_75_bytes_is_unfit_in_two_pieces(rt: HostRuntime) -> Result<(), Fail
 fn a_part_is_judged_line_by_line(rt: HostRuntime) -> Result<(), Fail> {
     let solid = pole_ball(rt.alloc())?;
     let mut part = part_of(rt.alloc(), &solid)?;
-    assert_eq!(rt; said(&mut part, b"SHELL 1 0 0 1 1\n"), Ok(()));
-    assert_eq!(rt; said(&mut part, b"I 1 1\n"), Ok(()));
-    assert_eq!(rt; said(&mut part, b"TALLY 1 0 1 1\n"), Ok(()));
+    same(&rt, &said(&mut part, b"SHELL 1 0 0 1 1\n"), &Ok(()));
+    same(&rt, &said(&mut part, b"I 1 1\n"), &Ok(()));
+    same(&rt, &said(&mut part, b"TALLY 1 0 1 1\n"), &Ok(()));
     let missing = Err(Illegal::Missing { line: 10 });
-    assert_eq!(rt; said_at_end(&mut part), missing);
+    same(&rt, &said_at_end(&mut part), &missing);
     Ok(())
 }
 
@@ -177,16 +185,16 @@ fn an_illegal_checker_stays_so(rt: HostRuntime) -> Result<(), Fail> {
     let solid = pole_ball(rt.alloc())?;
     let mut checker = checker_of(rt.alloc(), &solid)?;
     let bad = Err(Illegal::Unfit { line: 3 });
-    assert_eq!(rt; said(&mut checker, b"SHELL 1 0 0 1 2\n"), bad);
-    assert_eq!(rt; said(&mut checker, b"SHELL 1 0 0 1 1\n"), bad);
-    assert_eq!(rt; fed(&mut checker, b"I 1 2\n"), bad);
-    assert_eq!(rt; said_at_end(&mut checker), bad);
+    same(&rt, &said(&mut checker, b"SHELL 1 0 0 1 2\n"), &bad);
+    same(&rt, &said(&mut checker, b"SHELL 1 0 0 1 1\n"), &bad);
+    same(&rt, &fed(&mut checker, b"I 1 2\n"), &bad);
+    same(&rt, &said_at_end(&mut checker), &bad);
     Ok(())
 }
 
 #[test]
 fn a_certificate_may_have_half_a_gigabyte(rt: HostRuntime) {
-    assert_eq!(rt; CERT_LIMIT, 512 * 1024 * 1024);
+    same(&rt, &CERT_LIMIT, &512 * 1024 * 1024);
 }
 
 // What a checker of version 2 says of lines of the pole.
@@ -198,21 +206,21 @@ fn of_pole_in_two(alloc: Global, text: &[u8]) -> Result<Result<(), Illegal>, NoM
 #[test]
 fn a_shell_ends_in_its_counts(rt: HostRuntime) -> Result<(), Fail> {
     let told = of_pole_in_two(rt.alloc(), b"SHELL 1 0 0 1 1\nI 1 1\nTALLY 1 0 1 1\nEND\n")?;
-    assert_eq!(rt; told, Ok(()));
+    same(&rt, &told, &Ok(()));
     Ok(())
 }
 
 #[test]
 fn other_counts_are_unfit(rt: HostRuntime) -> Result<(), Fail> {
     let told = of_pole_in_two(rt.alloc(), b"SHELL 1 0 0 1 1\nI 1 1\nTALLY 1 0 1 2\nEND\n")?;
-    assert_eq!(rt; told, Err(Illegal::Unfit { line: 5 }));
+    same(&rt, &told, &Err(Illegal::Unfit { line: 5 }));
     Ok(())
 }
 
 #[test]
 fn version_one_has_no_counts(rt: HostRuntime) -> Result<(), Fail> {
     let told = of_pole(rt.alloc(), b"SHELL 1 0 0 1 1\nI 1 1\nTALLY 1 0 1 1\nEND\n")?;
-    assert_eq!(rt; told, Err(Illegal::Unfit { line: 5 }));
+    same(&rt, &told, &Err(Illegal::Unfit { line: 5 }));
     Ok(())
 }
 
@@ -221,13 +229,13 @@ fn a_part_ends_at_a_solid_of_a_greater_number(rt: HostRuntime) -> Result<(), Fai
     let solid = pole_ball(rt.alloc())?;
     let mut part = part_of(rt.alloc(), &solid)?;
     let first = fed_part(&mut part, b"SHELL 1 0 0 1 1\nI 1 1\nTALLY 1 0 1");
-    assert_eq!(rt; first, Ok(PartStep::More));
+    same(&rt, &first, &Ok(PartStep::More));
     let next = PartStep::Next {
         no: EntryNo(15),
         line: 11,
         used: 12,
     };
-    assert_eq!(rt; fed_part(&mut part, b" 1\nSOLID 15\nSHELL"), Ok(next));
+    same(&rt, &fed_part(&mut part, b" 1\nSOLID 15\nSHELL"), &Ok(next));
     Ok(())
 }
 
@@ -243,16 +251,17 @@ fn counts_are_put_before_the_end(rt: HostRuntime) -> Result<(), Fail> {
     let Ok(text) = upgraded(rt.alloc(), 60)? else {
         return Err(Fail::from("not upgraded"));
     };
-    assert_eq!(rt; wanted.len(), 60);
-    assert_eq!(rt; text.as_slice(), wanted.as_slice());
+    same(&rt, &wanted.len(), &60);
+    same(&rt, &text.as_slice(), &wanted.as_slice());
     Ok(())
 }
 
 #[test]
 fn a_text_past_the_limit_is_too_large(rt: HostRuntime) -> Result<(), Fail> {
-    assert_eq!(rt;
-        upgraded(rt.alloc(), 59)?.err(),
-        Some(UpgradeFault::TooLarge)
+    same(
+        &rt,
+        &upgraded(rt.alloc(), 59)?.err(),
+        &Some(UpgradeFault::TooLarge),
     );
     Ok(())
 }
@@ -262,12 +271,17 @@ fn a_refused_part_stays_so(rt: HostRuntime) -> Result<(), Fail> {
     let solid = pole_ball(rt.alloc())?;
     let mut part = part_of(rt.alloc(), &solid)?;
     let bad = Illegal::Unfit { line: 8 };
-    assert_eq!(rt;
-        fed_part(&mut part, b"SHELL 1 0 0 1 1\nI 1 2\nI 1 1\n"),
-        Err(bad)
+    same(
+        &rt,
+        &fed_part(&mut part, b"SHELL 1 0 0 1 1\nI 1 2\nI 1 1\n"),
+        &Err(bad),
     );
-    assert_eq!(rt; fed_part(&mut part, b"I 1 1\nTALLY 1 0 1 1\nEND\n"), Err(bad));
-    assert_eq!(rt; said_at_end(&mut part), Err(bad));
-    assert_eq!(rt; fed_part(&mut part, b"SOLID 15\n"), Err(bad));
+    same(
+        &rt,
+        &fed_part(&mut part, b"I 1 1\nTALLY 1 0 1 1\nEND\n"),
+        &Err(bad),
+    );
+    same(&rt, &said_at_end(&mut part), &Err(bad));
+    same(&rt, &fed_part(&mut part, b"SOLID 15\n"), &Err(bad));
     Ok(())
 }

@@ -7,6 +7,8 @@ mod certifying;
 #[cfg(test)]
 mod checking;
 #[cfg(test)]
+mod comparing;
+#[cfg(test)]
 mod judging;
 #[cfg(test)]
 mod lines;

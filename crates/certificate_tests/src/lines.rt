@@ -1,6 +1,7 @@
+use crate::comparing::same;
 use cert_lines::{
-    Certificate, Certificates, CornerLine, EdgePairs, Illegal, Misfit, ReachRows, ShellPart, Version,
-    head_line, read_opening, solid_line, write_book, write_certificate,
+    Certificate, Certificates, CornerLine, EdgePairs, Illegal, Misfit, ReachRows, ShellPart,
+    Version, head_line, read_opening, solid_line, write_book, write_certificate,
 };
 use iges_fields::{Bytes, EntryNo, NoMemory};
 use small_solids::{one, two};
@@ -27,23 +28,31 @@ fn book_written(alloc: Global, parts: &Certificates) -> Result<Bytes, NoMemory> 
 
 #[test]
 fn the_head_is_one_line_alone(rt: HostRuntime) {
-    assert_eq!(rt; version_of(b"IGESCERT 1\n"), Ok(Version::One));
-    assert_eq!(rt; version_of(b"IGESCERT 2\n"), Ok(Version::Two));
-    assert_eq!(rt; version_of(b"IGESCERT 3\n"), Ok(Version::Three));
-    assert_eq!(rt; version_of(b"IGESCERT 4\n"), Err(Misfit::Misspelt));
-    assert_eq!(rt; version_of(b"IGESCERT 1"), Err(Misfit::Misspelt));
-    assert_eq!(rt; version_of(b"END\n"), Err(Misfit::Unfit));
+    same(&rt, &version_of(b"IGESCERT 1\n"), &Ok(Version::One));
+    same(&rt, &version_of(b"IGESCERT 2\n"), &Ok(Version::Two));
+    same(&rt, &version_of(b"IGESCERT 3\n"), &Ok(Version::Three));
+    same(&rt, &version_of(b"IGESCERT 4\n"), &Err(Misfit::Misspelt));
+    same(&rt, &version_of(b"IGESCERT 1"), &Err(Misfit::Misspelt));
+    same(&rt, &version_of(b"END\n"), &Err(Misfit::Unfit));
 }
 
 #[test]
 fn the_solid_is_named_by_at_most_nine_digits(rt: HostRuntime) {
-    assert_eq!(rt; number_of(b"SOLID 11\n"), Ok(EntryNo(11)));
-    assert_eq!(rt; number_of(b"SOLID 0\n"), Ok(EntryNo(0)));
-    assert_eq!(rt; number_of(b"SOLID 999999999\n"), Ok(EntryNo(999_999_999)));
-    assert_eq!(rt; number_of(b"SOLID 1000000000\n"), Err(Misfit::Misspelt));
-    assert_eq!(rt; number_of(b"SOLID 01\n"), Err(Misfit::Misspelt));
-    assert_eq!(rt; number_of(b"SOLID  1\n"), Err(Misfit::Misspelt));
-    assert_eq!(rt; number_of(b"R 5\n"), Err(Misfit::Unfit));
+    same(&rt, &number_of(b"SOLID 11\n"), &Ok(EntryNo(11)));
+    same(&rt, &number_of(b"SOLID 0\n"), &Ok(EntryNo(0)));
+    same(
+        &rt,
+        &number_of(b"SOLID 999999999\n"),
+        &Ok(EntryNo(999_999_999)),
+    );
+    same(
+        &rt,
+        &number_of(b"SOLID 1000000000\n"),
+        &Err(Misfit::Misspelt),
+    );
+    same(&rt, &number_of(b"SOLID 01\n"), &Err(Misfit::Misspelt));
+    same(&rt, &number_of(b"SOLID  1\n"), &Err(Misfit::Misspelt));
+    same(&rt, &number_of(b"R 5\n"), &Err(Misfit::Unfit));
 }
 
 fn solid_of(text: &[u8]) -> Result<EntryNo, Illegal> {
@@ -55,43 +64,50 @@ fn solid_of(text: &[u8]) -> Result<EntryNo, Illegal> {
 
 #[test]
 fn a_certificate_opens_with_two_lines(rt: HostRuntime) {
-    assert_eq!(rt; solid_of(b"IGESCERT 1\nSOLID 5\nx"), Ok(EntryNo(5)));
-    assert_eq!(rt; solid_of(b""), Err(Illegal::Missing { line: 1 }));
-    assert_eq!(rt; solid_of(b"SOLID 5\n"), Err(Illegal::Unfit { line: 1 }));
-    assert_eq!(rt;
-        solid_of(b"IGESCERT 1\n"),
-        Err(Illegal::Missing { line: 2 })
+    same(&rt, &solid_of(b"IGESCERT 1\nSOLID 5\nx"), &Ok(EntryNo(5)));
+    same(&rt, &solid_of(b""), &Err(Illegal::Missing { line: 1 }));
+    same(
+        &rt,
+        &solid_of(b"SOLID 5\n"),
+        &Err(Illegal::Unfit { line: 1 }),
     );
-    assert_eq!(rt;
-        solid_of(b"IGESCERT 1\nSOLID 5"),
-        Err(Illegal::Misspelt { line: 2 })
+    same(
+        &rt,
+        &solid_of(b"IGESCERT 1\n"),
+        &Err(Illegal::Missing { line: 2 }),
     );
-    assert_eq!(rt;
-        solid_of(b"IGESCERT 1\nEND\n"),
-        Err(Illegal::Unfit { line: 2 })
+    same(
+        &rt,
+        &solid_of(b"IGESCERT 1\nSOLID 5"),
+        &Err(Illegal::Misspelt { line: 2 }),
+    );
+    same(
+        &rt,
+        &solid_of(b"IGESCERT 1\nEND\n"),
+        &Err(Illegal::Unfit { line: 2 }),
     );
 }
 
 #[test]
 fn a_line_of_64_bytes_is_read(rt: HostRuntime) {
     let line = b"123456789012345678901234567890123456789012345678901234567890123\n";
-    assert_eq!(rt; line.len(), 64);
-    assert_eq!(rt; version_of(line), Err(Misfit::Misspelt));
+    same(&rt, &line.len(), &64);
+    same(&rt, &version_of(line), &Err(Misfit::Misspelt));
 }
 
 #[test]
 fn a_longer_line_fits_nowhere(rt: HostRuntime) {
     let line = b"1234567890123456789012345678901234567890123456789012345678901234\n";
-    assert_eq!(rt; line.len(), 65);
-    assert_eq!(rt; version_of(line), Err(Misfit::Unfit));
-    assert_eq!(rt; version_of(&line[..64]), Err(Misfit::Misspelt));
+    same(&rt, &line.len(), &65);
+    same(&rt, &version_of(line), &Err(Misfit::Unfit));
+    same(&rt, &version_of(&line[..64]), &Err(Misfit::Misspelt));
 }
 
 #[test]
 fn a_line_feed_inside_ends_no_line(rt: HostRuntime) {
     let bytes = b"123456789012345678901234567890123456789012345678901234567890\n1234567890";
-    assert_eq!(rt; bytes.len(), 71);
-    assert_eq!(rt; version_of(bytes), Err(Misfit::Misspelt));
+    same(&rt, &bytes.len(), &71);
+    same(&rt, &version_of(bytes), &Err(Misfit::Misspelt));
 }
 
 // A shell of one face, whose loop is a pole.
@@ -154,7 +170,7 @@ fn a_pole_is_written(rt: HostRuntime) -> Result<(), Fail> {
     let part = pole_part(rt.alloc())?;
     let text = text_of(rt.alloc(), Version::One, part)?;
     let wanted = b"IGESCERT 1\nSOLID 11\nSHELL 1 0 0 1 1\nI 1 1\nEND\n";
-    assert_eq!(rt; text.as_slice(), wanted.as_slice());
+    same(&rt, &text.as_slice(), &wanted.as_slice());
     Ok(())
 }
 
@@ -163,7 +179,7 @@ fn a_seam_is_written(rt: HostRuntime) -> Result<(), Fail> {
     let part = seam_part(rt.alloc())?;
     let text = text_of(rt.alloc(), Version::One, part)?;
     let wanted = b"IGESCERT 1\nSOLID 11\nSHELL 1 2 1 2 1\nE 1 2\nC 1\nC 2\nR 9\nEND\n";
-    assert_eq!(rt; text.as_slice(), wanted.as_slice());
+    same(&rt, &text.as_slice(), &wanted.as_slice());
     Ok(())
 }
 
@@ -172,7 +188,7 @@ fn a_shell_ends_in_its_counts(rt: HostRuntime) -> Result<(), Fail> {
     let part = pole_part(rt.alloc())?;
     let text = text_of(rt.alloc(), Version::Two, part)?;
     let wanted = b"IGESCERT 2\nSOLID 11\nSHELL 1 0 0 1 1\nI 1 1\nTALLY 1 0 1 1\nEND\n";
-    assert_eq!(rt; text.as_slice(), wanted.as_slice());
+    same(&rt, &text.as_slice(), &wanted.as_slice());
     Ok(())
 }
 
@@ -181,6 +197,6 @@ fn a_book_of_one_part_is_written(rt: HostRuntime) -> Result<(), Fail> {
     let part = pole_part(rt.alloc())?;
     let text = book_of(rt.alloc(), part)?;
     let wanted = b"IGESCERT 3\nSOLID 11\nSHELL 1 0 0 1 1\nI 1 1\nTALLY 1 0 1 1\nEND\n";
-    assert_eq!(rt; text.as_slice(), wanted.as_slice());
+    same(&rt, &text.as_slice(), &wanted.as_slice());
     Ok(())
 }

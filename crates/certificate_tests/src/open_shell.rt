@@ -1,5 +1,6 @@
 ghost use Rattle.open_shells.specs.Accepted.{IsOpenShell};
 
+use crate::comparing::same;
 use crate::open_solids::{ball, lid};
 use iges_fields::{Bytes, EntryNo, NoMemory};
 use open_shells::{
@@ -54,7 +55,7 @@ fn a_border_row_has_no_line_of_turns(rt: HostRuntime) -> Result<(), Fail> {
         b"C 1\n",
         b"END\n",
     )?;
-    assert_eq!(rt; told, Err(Illegal::Unfit { line: 4 }));
+    same(&rt, &told, &Err(Illegal::Unfit { line: 4 }));
     Ok(())
 }
 
@@ -67,7 +68,7 @@ fn border_rows_that_no_line_lists_are_missed(rt: HostRuntime) -> Result<(), Fail
         b"P 1\n",
         b"END\n",
     )?;
-    assert_eq!(rt; told, Err(Illegal::Unfit { line: 5 }));
+    same(&rt, &told, &Err(Illegal::Unfit { line: 5 }));
     Ok(())
 }
 
@@ -75,21 +76,21 @@ fn border_rows_that_no_line_lists_are_missed(rt: HostRuntime) -> Result<(), Fail
 fn a_lid_is_checked(rt: HostRuntime) -> Result<(), Fail> {
     let solid = lid(rt.alloc())?;
     let mut checker = checker_of(rt.alloc(), &solid)?;
-    assert_eq!(rt; said(&mut checker, b"SHELL 11 1 1 1 1 1\n"), Ok(()));
-    assert_eq!(rt; said(&mut checker, b"E 1\n"), Ok(()));
-    assert_eq!(rt; said(&mut checker, b"P 1\n"), Ok(()));
-    assert_eq!(rt; said(&mut checker, b"B 1\n"), Ok(()));
+    same(&rt, &said(&mut checker, b"SHELL 11 1 1 1 1 1\n"), &Ok(()));
+    same(&rt, &said(&mut checker, b"E 1\n"), &Ok(()));
+    same(&rt, &said(&mut checker, b"P 1\n"), &Ok(()));
+    same(&rt, &said(&mut checker, b"B 1\n"), &Ok(()));
     let missing = Err(Illegal::Missing { line: 6 });
-    assert_eq!(rt; said_at_end(&mut checker), missing);
+    same(&rt, &said_at_end(&mut checker), &missing);
     Ok(())
 }
 
 #[test]
 fn the_first_two_lines_are_read(rt: HostRuntime) {
-    assert_eq!(rt; open_head(b"IGESOPEN 1\n"), Ok(()));
-    assert_eq!(rt; open_head(b"IGESCERT 1\n"), Err(Misfit::Misspelt));
-    assert_eq!(rt; shell_number(b"SHELL 3 1 1 1 1 1\n"), Ok(EntryNo(3)));
-    assert_eq!(rt; shell_number(b"END\n"), Err(Misfit::Unfit));
+    same(&rt, &open_head(b"IGESOPEN 1\n"), &Ok(()));
+    same(&rt, &open_head(b"IGESCERT 1\n"), &Err(Misfit::Misspelt));
+    same(&rt, &shell_number(b"SHELL 3 1 1 1 1 1\n"), &Ok(EntryNo(3)));
+    same(&rt, &shell_number(b"END\n"), &Err(Misfit::Unfit));
 }
 
 // A certificate of a lid.
@@ -119,7 +120,7 @@ fn written(alloc: Global) -> Result<Bytes, NoMemory> {
 fn a_certificate_is_written(rt: HostRuntime) -> Result<(), Fail> {
     let text = written(rt.alloc())?;
     let due = b"IGESOPEN 1\nSHELL 3 1 1 1 1 1\nE 1\nP 1\nB 1\nEND\n";
-    assert_eq!(rt; text.as_slice(), due.as_slice());
+    same(&rt, &text.as_slice(), &due.as_slice());
     Ok(())
 }
 
@@ -128,10 +129,10 @@ fn a_refused_open_checker_stays_so(rt: HostRuntime) -> Result<(), Fail> {
     let solid = ball(rt.alloc())?;
     let mut checker = checker_of(rt.alloc(), &solid)?;
     let bad = Illegal::Unfit { line: 3 };
-    assert_eq!(rt; said(&mut checker, b"SHELL 11 0 0 1 1 0\n"), Ok(()));
-    assert_eq!(rt; said(&mut checker, b"I 1 2\n"), Err(bad));
-    assert_eq!(rt; said(&mut checker, b"I 1 1\n"), Err(bad));
-    assert_eq!(rt; said_at_end(&mut checker), Err(bad));
-    assert_eq!(rt; said(&mut checker, b"END\n"), Err(bad));
+    same(&rt, &said(&mut checker, b"SHELL 11 0 0 1 1 0\n"), &Ok(()));
+    same(&rt, &said(&mut checker, b"I 1 2\n"), &Err(bad));
+    same(&rt, &said(&mut checker, b"I 1 1\n"), &Err(bad));
+    same(&rt, &said_at_end(&mut checker), &Err(bad));
+    same(&rt, &said(&mut checker, b"END\n"), &Err(bad));
     Ok(())
 }

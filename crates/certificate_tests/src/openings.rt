@@ -1,3 +1,4 @@
+use crate::comparing::same;
 use topo_certificate::{Illegal, Opening, OpeningStep, Version};
 
 // What is wrong with the opening once this piece has come; no clause goes further.
@@ -14,20 +15,24 @@ fn fault_at_end(opening: &mut Opening) -> Option<Illegal> {
 fn a_refused_opening_stays_so(rt: HostRuntime) {
     let mut opening = Opening::new();
     let bad = Some(Illegal::Unfit { line: 2 });
-    assert_eq!(rt; fault_of(&mut opening, b"IGESCERT 2\nEND\nSOLID 5\n"), bad);
-    assert_eq!(rt; fault_of(&mut opening, b"SOLID 5\n"), bad);
-    assert_eq!(rt; fault_at_end(&mut opening), bad);
-    assert_eq!(rt; fault_of(&mut opening, b"IGESCERT 2\nSOLID 5\n"), bad);
+    same(
+        &rt,
+        &fault_of(&mut opening, b"IGESCERT 2\nEND\nSOLID 5\n"),
+        &bad,
+    );
+    same(&rt, &fault_of(&mut opening, b"SOLID 5\n"), &bad);
+    same(&rt, &fault_at_end(&mut opening), &bad);
+    same(&rt, &fault_of(&mut opening, b"IGESCERT 2\nSOLID 5\n"), &bad);
 }
 
 #[test]
 fn an_opening_that_ended_early_stays_refused(rt: HostRuntime) {
     let mut opening = Opening::new();
     let bad = Some(Illegal::Missing { line: 2 });
-    assert_eq!(rt; fault_of(&mut opening, b"IGESCERT 2\n"), None);
-    assert_eq!(rt; fault_at_end(&mut opening), bad);
-    assert_eq!(rt; fault_of(&mut opening, b"SOLID 5\n"), bad);
-    assert_eq!(rt; fault_at_end(&mut opening), bad);
+    same(&rt, &fault_of(&mut opening, b"IGESCERT 2\n"), &None);
+    same(&rt, &fault_at_end(&mut opening), &bad);
+    same(&rt, &fault_of(&mut opening, b"SOLID 5\n"), &bad);
+    same(&rt, &fault_at_end(&mut opening), &bad);
 }
 
 // The solid that the opening names once this piece has come, and how many bytes of the piece it took; no clause goes further.
@@ -52,18 +57,19 @@ fn is_not_done(opening: &mut Opening, piece: &[u8]) -> bool {
 #[test]
 fn an_opening_names_its_solid_again(rt: HostRuntime) {
     let mut opening = Opening::new();
-    assert_eq!(rt;
-        solid_of(&mut opening, b"IGESCERT 2\nSOLID 5\nSHELL"),
-        Some((5, 19))
+    same(
+        &rt,
+        &solid_of(&mut opening, b"IGESCERT 2\nSOLID 5\nSHELL"),
+        &Some((5, 19)),
     );
-    assert_eq!(rt; solid_of(&mut opening, b"SOLID 7\n"), Some((5, 0)));
-    assert_eq!(rt; fault_at_end(&mut opening), None);
-    assert_eq!(rt; solid_of(&mut opening, b"x\n"), Some((5, 0)));
+    same(&rt, &solid_of(&mut opening, b"SOLID 7\n"), &Some((5, 0)));
+    same(&rt, &fault_at_end(&mut opening), &None);
+    same(&rt, &solid_of(&mut opening, b"x\n"), &Some((5, 0)));
 }
 
 #[test]
 fn an_opening_comes_in_pieces(rt: HostRuntime) {
     let mut opening = Opening::new();
-    assert_eq!(rt; is_not_done(&mut opening, b"IGESCERT 2\nSOL"), true);
-    assert_eq!(rt; solid_of(&mut opening, b"ID 5\nrest"), Some((5, 5)));
+    same(&rt, &is_not_done(&mut opening, b"IGESCERT 2\nSOL"), &true);
+    same(&rt, &solid_of(&mut opening, b"ID 5\nrest"), &Some((5, 5)));
 }

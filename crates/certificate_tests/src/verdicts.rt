@@ -1,3 +1,4 @@
+use crate::comparing::same;
 use brep_walk::{WalkFault, walk};
 use cert_maker::verdict;
 use edge_uses::{PairFault, first_unjoined, pair, rows};
@@ -80,18 +81,23 @@ fn faults(alloc: Global, solid: &Solid) -> Result<(Option<PairFault>, Option<Lin
 #[test]
 fn a_ball_is_closed(rt: HostRuntime) -> Result<(), Fail> {
     let file = read(rt.alloc(), ball())?;
-    assert_eq!(rt; judged(rt.alloc(), &file)?, Verdict::Closed);
+    same(&rt, &judged(rt.alloc(), &file)?, &Verdict::Closed);
     Ok(())
 }
 
 #[test]
 fn the_least_vertex_with_two_cycles_is_named(rt: HostRuntime) -> Result<(), Fail> {
     let file = changed(rt.alloc(), 0, b' ')?;
-    assert_eq!(rt; judged(rt.alloc(), &file)?, fails(Rule::Unlinked, 11, 1));
+    same(
+        &rt,
+        &judged(rt.alloc(), &file)?,
+        &fails(Rule::Unlinked, 11, 1),
+    );
     let solid = solid(rt.alloc(), &file)?;
-    assert_eq!(rt;
-        faults(rt.alloc(), &solid)?,
-        (None, Some(LinkFault::Broken(VertexId(0))))
+    same(
+        &rt,
+        &faults(rt.alloc(), &solid)?,
+        &(None, Some(LinkFault::Broken(VertexId(0)))),
     );
     Ok(())
 }
@@ -99,11 +105,16 @@ fn the_least_vertex_with_two_cycles_is_named(rt: HostRuntime) -> Result<(), Fail
 #[test]
 fn the_least_unpaired_edge_is_named(rt: HostRuntime) -> Result<(), Fail> {
     let file = changed(rt.alloc(), SECOND_USE, b'2')?;
-    assert_eq!(rt; judged(rt.alloc(), &file)?, fails(Rule::Unpaired, 15, 1));
+    same(
+        &rt,
+        &judged(rt.alloc(), &file)?,
+        &fails(Rule::Unpaired, 15, 1),
+    );
     let solid = solid(rt.alloc(), &file)?;
-    assert_eq!(rt;
-        faults(rt.alloc(), &solid)?,
-        (Some(PairFault::Unpaired(EdgeId(0))), None)
+    same(
+        &rt,
+        &faults(rt.alloc(), &solid)?,
+        &(Some(PairFault::Unpaired(EdgeId(0))), None),
     );
     Ok(())
 }

@@ -315,7 +315,12 @@ fn fails_at_write(
 ) -> Result<(), Fail> {
     let (status, front) = certified(alloc, text, &[calls.saturating_add(1)])?;
     compare(rt, status, b"", (5, b""));
-    starts(rt, front.as_slice(), whole, calls.saturating_mul(16) as usize);
+    starts(
+        rt,
+        front.as_slice(),
+        whole,
+        calls.saturating_mul(16) as usize,
+    );
     Ok(())
 }
 

@@ -1,3 +1,4 @@
+use crate::comparing::same;
 use crate::texts::{integer_at, two_solids_with, value_count};
 use entry_references::ExtractReason;
 use iges_fields::EntryNo;
@@ -48,10 +49,10 @@ fn compacted(alloc: Global) -> Result<File, Fail> {
 #[test]
 fn one_vertex_of_three_is_kept(rt: HostRuntime) -> Result<(), Fail> {
     let new = compacted(rt.alloc())?;
-    assert_eq!(rt; new.entry_count(), 7);
-    assert_eq!(rt; value_count(&new, 9), Some(4));
-    assert_eq!(rt; integer_at(&new, 9, 0), Some(1));
-    assert_eq!(rt; integer_at(&new, 7, 3), Some(1));
+    same(&rt, &new.entry_count(), &7);
+    same(&rt, &value_count(&new, 9), &Some(4));
+    same(&rt, &integer_at(&new, 9, 0), &Some(1));
+    same(&rt, &integer_at(&new, 7, 3), &Some(1));
     Ok(())
 }
 
@@ -62,7 +63,7 @@ fn a_shell_is_no_solid(rt: HostRuntime) -> Result<(), Fail> {
         entity: EntryNo(3),
         reason: ExtractReason::NotSolid,
     });
-    assert_eq!(rt; fault(rt.alloc(), &file, 3), due);
+    same(&rt, &fault(rt.alloc(), &file, 3), &due);
     Ok(())
 }
 
@@ -74,6 +75,6 @@ fn an_index_past_the_end_is_named(rt: HostRuntime) -> Result<(), Fail> {
         entity: EntryNo(7),
         place: 1,
     }));
-    assert_eq!(rt; fault(rt.alloc(), &file, 1), due);
+    same(&rt, &fault(rt.alloc(), &file, 1), &due);
     Ok(())
 }

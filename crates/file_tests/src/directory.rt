@@ -1,3 +1,4 @@
+use crate::comparing::same;
 use iges_directory::{Directory, DirectoryFault, directory};
 use iges_fields::EntryNo;
 use iges_lines::{LineFault, Reason, Sections, sections};
@@ -36,10 +37,10 @@ fn entries(alloc: Global, kind: &[u8]) -> Result<Directory, Fail> {
 #[test]
 fn entry_of_a_solid(rt: HostRuntime) -> Result<(), Fail> {
     let d = entries(rt.alloc(), b"     186")?;
-    assert_eq!(rt; d.count(), 1);
+    same(&rt, &d.count(), &1);
     let placed = d.placed(EntryNo(1)).ok_or("no entry 1")?;
-    assert_eq!(rt; placed.entry.kind, 186);
-    assert_eq!(rt; placed.count, 1);
+    same(&rt, &placed.entry.kind, &186);
+    same(&rt, &placed.count, &1);
     Ok(())
 }
 

@@ -1,3 +1,4 @@
+use crate::comparing::same;
 use crate::texts::{integer_at, two_solids, two_solids_with, value_count};
 use entry_references::ExtractReason;
 use iges_fields::EntryNo;
@@ -68,32 +69,32 @@ fn second(alloc: Global) -> Result<File, Fail> {
 #[test]
 fn a_solid_keeps_its_shell_and_its_names(rt: HostRuntime) -> Result<(), Fail> {
     let new = second(rt.alloc())?;
-    assert_eq!(rt; new.entry_count(), 10);
-    assert_eq!(rt; integer_at(&new, 1, 0), Some(3));
-    assert_eq!(rt; integer_at(&new, 1, 3), Some(0));
-    assert_eq!(rt; integer_at(&new, 1, 4), Some(1));
-    assert_eq!(rt; integer_at(&new, 1, 5), Some(13));
-    assert_eq!(rt; value_count(&new, 1), Some(6));
+    same(&rt, &new.entry_count(), &10);
+    same(&rt, &integer_at(&new, 1, 0), &Some(3));
+    same(&rt, &integer_at(&new, 1, 3), &Some(0));
+    same(&rt, &integer_at(&new, 1, 4), &Some(1));
+    same(&rt, &integer_at(&new, 1, 5), &Some(13));
+    same(&rt, &value_count(&new, 1), &Some(6));
     Ok(())
 }
 
 #[test]
 fn fields_of_a_kept_entry_are_renamed(rt: HostRuntime) -> Result<(), Fail> {
     let new = second(rt.alloc())?;
-    assert_eq!(rt; matrix(&new, 1), Some(17));
-    assert_eq!(rt; colour(&new, 1), Some(-15));
-    assert_eq!(rt; kind(&new, 19), Some(116));
+    same(&rt, &matrix(&new, 1), &Some(17));
+    same(&rt, &colour(&new, 1), &Some(-15));
+    same(&rt, &kind(&new, 19), &Some(116));
     Ok(())
 }
 
 #[test]
 fn pointers_of_records_are_renamed(rt: HostRuntime) -> Result<(), Fail> {
     let new = second(rt.alloc())?;
-    assert_eq!(rt; integer_at(&new, 3, 1), Some(7));
-    assert_eq!(rt; integer_at(&new, 5, 0), Some(19));
-    assert_eq!(rt; integer_at(&new, 7, 0), Some(5));
-    assert_eq!(rt; integer_at(&new, 7, 3), Some(9));
-    assert_eq!(rt; integer_at(&new, 9, 2), Some(11));
+    same(&rt, &integer_at(&new, 3, 1), &Some(7));
+    same(&rt, &integer_at(&new, 5, 0), &Some(19));
+    same(&rt, &integer_at(&new, 7, 0), &Some(5));
+    same(&rt, &integer_at(&new, 7, 3), &Some(9));
+    same(&rt, &integer_at(&new, 9, 2), &Some(11));
     Ok(())
 }
 
@@ -109,19 +110,20 @@ fn again(alloc: Global) -> Result<File, Fail> {
 #[test]
 fn extracted_again_it_is_the_same(rt: HostRuntime) -> Result<(), Fail> {
     let new = again(rt.alloc())?;
-    assert_eq!(rt; new.entry_count(), 10);
-    assert_eq!(rt; integer_at(&new, 1, 5), Some(13));
-    assert_eq!(rt; matrix(&new, 1), Some(17));
-    assert_eq!(rt; integer_at(&new, 9, 2), Some(11));
+    same(&rt, &new.entry_count(), &10);
+    same(&rt, &integer_at(&new, 1, 5), &Some(13));
+    same(&rt, &matrix(&new, 1), &Some(17));
+    same(&rt, &integer_at(&new, 9, 2), &Some(11));
     Ok(())
 }
 
 #[test]
 fn a_shell_is_no_solid(rt: HostRuntime) -> Result<(), Fail> {
     let file = two_solids(rt.alloc())?;
-    assert_eq!(rt;
-        refused(rt.alloc(), &file, 3),
-        refusal(3, ExtractReason::NotSolid)
+    same(
+        &rt,
+        &refused(rt.alloc(), &file, 3),
+        &refusal(3, ExtractReason::NotSolid),
     );
     Ok(())
 }
@@ -129,9 +131,10 @@ fn a_shell_is_no_solid(rt: HostRuntime) -> Result<(), Fail> {
 #[test]
 fn a_surface_of_an_unlisted_type_is_refused(rt: HostRuntime) -> Result<(), Fail> {
     let file = two_solids_with(rt.alloc(), &[(FACE_5, b"510,23,1,1,7;")])?;
-    assert_eq!(rt;
-        refused(rt.alloc(), &file, 1),
-        refusal(23, ExtractReason::Unlisted)
+    same(
+        &rt,
+        &refused(rt.alloc(), &file, 1),
+        &refusal(23, ExtractReason::Unlisted),
     );
     Ok(())
 }
@@ -139,9 +142,10 @@ fn a_surface_of_an_unlisted_type_is_refused(rt: HostRuntime) -> Result<(), Fail>
 #[test]
 fn a_huge_count_is_refused(rt: HostRuntime) -> Result<(), Fail> {
     let file = with_huge_count(rt.alloc())?;
-    assert_eq!(rt;
-        refused(rt.alloc(), &file, 1),
-        refusal(23, ExtractReason::Layout)
+    same(
+        &rt,
+        &refused(rt.alloc(), &file, 1),
+        &refusal(23, ExtractReason::Layout),
     );
     Ok(())
 }
@@ -149,9 +153,10 @@ fn a_huge_count_is_refused(rt: HostRuntime) -> Result<(), Fail> {
 #[test]
 fn a_pointer_to_nothing_is_refused(rt: HostRuntime) -> Result<(), Fail> {
     let file = two_solids_with(rt.alloc(), &[(SPHERE_15, b"196,33,1.;")])?;
-    assert_eq!(rt;
-        refused(rt.alloc(), &file, 11),
-        refusal(15, ExtractReason::Dangling)
+    same(
+        &rt,
+        &refused(rt.alloc(), &file, 11),
+        &refusal(15, ExtractReason::Dangling),
     );
     Ok(())
 }

@@ -1,9 +1,10 @@
 ghost use Rattle.iges_fields.specs.InLine.{is_in_line};
 ghost use Rattle.std.specs.Prelude.{IsTrue};
 
+use crate::comparing::same;
 use iges_fields::{
-    Bytes, Delimiters, FieldFault, FieldReason, ItemList, NoMemory, Out, Spelling, SpellingFault, Value,
-    Values, ValuesFault, column_number, values, write_number, write_value,
+    Bytes, Delimiters, FieldFault, FieldReason, ItemList, NoMemory, Out, Spelling, SpellingFault,
+    Value, Values, ValuesFault, column_number, values, write_number, write_value,
 };
 use std::alloc::Global;
 use std::test::Fail;
@@ -55,14 +56,14 @@ fn text(value: Option<&Value>) -> Option<&[u8]> {
 fn eight_values_are_read(rt: HostRuntime) -> Result<(), Fail> {
     let bytes = b"502/ 1 /1.D0/-.5/1E3/0/3Ha/#/#";
     let (list, used) = read(rt.alloc(), bytes, b'/', b'#')?;
-    assert_eq!(rt; (list.len(), used), (8, 30));
-    assert_eq!(rt; integer(list.get(0)), Some(502));
-    assert_eq!(rt; integer(list.get(1)), Some(1));
-    assert_eq!(rt; real(list.get(2)), Some(b"1.D0".as_slice()));
-    assert_eq!(rt; real(list.get(3)), Some(b"-.5".as_slice()));
-    assert_eq!(rt; real(list.get(4)), Some(b"1E3".as_slice()));
-    assert_eq!(rt; integer(list.get(5)), Some(0));
-    assert_eq!(rt; text(list.get(6)), Some(b"a/#".as_slice()));
+    same(&rt, &(list.len(), used), &(8, 30));
+    same(&rt, &integer(list.get(0)), &Some(502));
+    same(&rt, &integer(list.get(1)), &Some(1));
+    same(&rt, &real(list.get(2)), &Some(b"1.D0".as_slice()));
+    same(&rt, &real(list.get(3)), &Some(b"-.5".as_slice()));
+    same(&rt, &real(list.get(4)), &Some(b"1E3".as_slice()));
+    same(&rt, &integer(list.get(5)), &Some(0));
+    same(&rt, &text(list.get(6)), &Some(b"a/#".as_slice()));
     assert!(rt; matches!(list.get(7), Some(Value::Default)));
     Ok(())
 }
@@ -70,45 +71,50 @@ fn eight_values_are_read(rt: HostRuntime) -> Result<(), Fail> {
 #[test]
 fn one_value_is_left_out(rt: HostRuntime) -> Result<(), Fail> {
     let (list, used) = read(rt.alloc(), b";", b',', b';')?;
-    assert_eq!(rt; list.len(), 1);
-    assert_eq!(rt; used, 1);
+    same(&rt, &list.len(), &1);
+    same(&rt, &used, &1);
     Ok(())
 }
 
 #[test]
 fn a_text_is_too_short(rt: HostRuntime) {
-    assert_eq!(rt;
-        fault_of(rt.alloc(), b"9Hab,"),
-        fault(0, FieldReason::TextTooShort)
+    same(
+        &rt,
+        &fault_of(rt.alloc(), b"9Hab,"),
+        &fault(0, FieldReason::TextTooShort),
     );
 }
 
 #[test]
 fn a_blank_stands_inside(rt: HostRuntime) {
-    assert_eq!(rt;
-        fault_of(rt.alloc(), b"1 2;"),
-        fault(0, FieldReason::BadValue)
+    same(
+        &rt,
+        &fault_of(rt.alloc(), b"1 2;"),
+        &fault(0, FieldReason::BadValue),
     );
 }
 
 #[test]
 fn an_integer_is_too_large(rt: HostRuntime) {
     let text = b" 9223372036854775808;";
-    assert_eq!(rt;
-        fault_of(rt.alloc(), text),
-        fault(1, FieldReason::IntTooLarge)
+    same(
+        &rt,
+        &fault_of(rt.alloc(), text),
+        &fault(1, FieldReason::IntTooLarge),
     );
 }
 
 #[test]
 fn no_record_ends(rt: HostRuntime) {
-    assert_eq!(rt;
-        fault_of(rt.alloc(), b"1,2"),
-        fault(3, FieldReason::NoRecordEnd)
+    same(
+        &rt,
+        &fault_of(rt.alloc(), b"1,2"),
+        &fault(3, FieldReason::NoRecordEnd),
     );
-    assert_eq!(rt;
-        fault_of(rt.alloc(), b""),
-        fault(0, FieldReason::NoRecordEnd)
+    same(
+        &rt,
+        &fault_of(rt.alloc(), b""),
+        &fault(0, FieldReason::NoRecordEnd),
     );
 }
 
@@ -120,18 +126,19 @@ fn spelling(alloc: Global, word: &[u8]) -> Result<Spelling, SpellingFault> {
 #[test]
 fn a_real_has_digits_behind_its_letter(rt: HostRuntime) -> Result<(), Fail> {
     let word = spelling(rt.alloc(), b"1.D0")?;
-    assert_eq!(rt; word.as_slice(), b"1.D0".as_slice());
-    assert_eq!(rt;
-        spelling(rt.alloc(), b"1.E").err(),
-        Some(SpellingFault::NotReal)
+    same(&rt, &word.as_slice(), &b"1.D0".as_slice());
+    same(
+        &rt,
+        &spelling(rt.alloc(), b"1.E").err(),
+        &Some(SpellingFault::NotReal),
     );
     Ok(())
 }
 
 #[test]
 fn a_column_is_padded(rt: HostRuntime) {
-    assert_eq!(rt; column_number(b"  -7    "), Some(-7));
-    assert_eq!(rt; column_number(b"1 1"), None);
+    same(&rt, &column_number(b"  -7    "), &Some(-7));
+    same(&rt, &column_number(b"1 1"), &None);
 }
 
 // A text that begins with x, with a number and two values behind it.
@@ -156,7 +163,7 @@ fn put_value(out: &mut Out, value: &Value) -> Result<(), NoMemory> {
 #[test]
 fn values_are_written(rt: HostRuntime) -> Result<(), Fail> {
     let text = written(rt.alloc())?;
-    assert_eq!(rt; text.as_slice(), b"x40-73Ha/#".as_slice());
+    same(&rt, &text.as_slice(), &b"x40-73Ha/#".as_slice());
     Ok(())
 }
 
@@ -174,7 +181,7 @@ fn one_value(alloc: Global) -> Result<Values, NoMemory> {
 
 #[test]
 fn lists_grow(rt: HostRuntime) -> Result<(), Fail> {
-    assert_eq!(rt; one_number(rt.alloc())?.len(), 1);
-    assert_eq!(rt; one_value(rt.alloc())?.len(), 1);
+    same(&rt, &one_number(rt.alloc())?.len(), &1);
+    same(&rt, &one_value(rt.alloc())?.len(), &1);
     Ok(())
 }

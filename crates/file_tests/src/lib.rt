@@ -4,6 +4,8 @@
 #[cfg(test)]
 mod compacting;
 #[cfg(test)]
+mod comparing;
+#[cfg(test)]
 mod directory;
 #[cfg(test)]
 mod extracting;

@@ -1,3 +1,4 @@
+use crate::comparing::same;
 use iges_lines::{LineFault, LineFeed, PassFault, Reason, Sections, SectionsFault, sections};
 use std::alloc::Global;
 use std::test::Fail;
@@ -18,6 +19,16 @@ fn bad_line(alloc: Global, text: &[u8]) -> Option<LineFault> {
     }
 }
 
+// How many lines the sections have before the last one.
+fn counts(s: &Sections) -> (usize, usize, usize, usize) {
+    (
+        s.start_count(),
+        s.global_count(),
+        s.directory_count(),
+        s.param_count(),
+    )
+}
+
 fn bad(line: u64, reason: Reason) -> Option<LineFault> {
     Some(LineFault { line, reason })
 }
@@ -28,10 +39,7 @@ fn five_sections(rt: HostRuntime) -> Result<(), Fail> {
         rt.alloc(),
         b"tiny                                                                    S      1\n1H,,1H;;                                                                G      1\n     186       1       0       0       0       0       0       000000000D      1\n     186       0       0       1       0                               0D      2\n186,0,1,0;                                                             1P      1\nS      1G      1D      2P      1                                        T      1\n",
     )?;
-    assert_eq!(rt; s.start_count(), 1);
-    assert_eq!(rt; s.global_count(), 1);
-    assert_eq!(rt; s.directory_count(), 2);
-    assert_eq!(rt; s.param_count(), 1);
+    same(&rt, &counts(&s), &(1, 1, 2, 1));
     Ok(())
 }
 
@@ -41,41 +49,47 @@ fn lines_end_in_carriage_returns(rt: HostRuntime) -> Result<(), Fail> {
         rt.alloc(),
         b"tiny                                                                    S0000001\r\n1H,,1H;;                                                                G1      \r\nS      1G      1D      0P      0                                        T      1",
     )?;
-    assert_eq!(rt; s.directory_count(), 0);
+    same(&rt, &counts(&s), &(1, 1, 0, 0));
     Ok(())
 }
 
 #[test]
 fn no_lines(rt: HostRuntime) {
-    assert_eq!(rt; bad_line(rt.alloc(), b""), bad(1, Reason::Missing));
+    same(&rt, &bad_line(rt.alloc(), b""), &bad(1, Reason::Missing));
 }
 
 #[test]
 fn short_line(rt: HostRuntime) {
-    assert_eq!(rt;
-        bad_line(
+    same(
+        &rt,
+        &bad_line(
             rt.alloc(),
-            b"tiny                                                                    S      1\n1H,,1H;;"
+            b"tiny                                                                    S      1\n1H,,1H;;",
         ),
-        bad(2, Reason::Length)
+        &bad(2, Reason::Length),
     );
 }
 
 #[test]
 fn byte_behind_the_end(rt: HostRuntime) {
-    assert_eq!(rt;
-        bad_line(
+    same(
+        &rt,
+        &bad_line(
             rt.alloc(),
-            b"tiny                                                                    S      1\n1H,,1H;;                                                                G      1\nS      1G      1D      0P      0                                        T      1\n \nx"
+            b"tiny                                                                    S      1\n1H,,1H;;                                                                G      1\nS      1G      1D      0P      0                                        T      1\n \nx",
         ),
-        bad(5, Reason::After)
+        &bad(5, Reason::After),
     );
 }
 
 #[test]
 fn word_and_number(rt: HostRuntime) {
-    assert_eq!(rt; Reason::TypesDiffer.word(), b"types-differ".as_slice());
-    assert_eq!(rt; Reason::TypesDiffer.number(), 10);
+    same(
+        &rt,
+        &Reason::TypesDiffer.word(),
+        &b"types-differ".as_slice(),
+    );
+    same(&rt, &Reason::TypesDiffer.number(), &10);
 }
 
 const TINY: &[u8] =
@@ -106,16 +120,14 @@ fn finished(feed: LineFeed) -> Result<Sections, SectionsFault> {
 #[test]
 fn cut_within_a_line(rt: HostRuntime) -> Result<(), Fail> {
     let s = finished(fed(rt.alloc(), tiny(), 100, 100)?)?;
-    assert_eq!(rt; s.start_count(), 1);
-    assert_eq!(rt; s.global_count(), 1);
+    same(&rt, &counts(&s), &(1, 1, 0, 0));
     Ok(())
 }
 
 #[test]
 fn cut_behind_an_lf(rt: HostRuntime) -> Result<(), Fail> {
     let s = finished(fed(rt.alloc(), tiny(), 81, 81)?)?;
-    assert_eq!(rt; s.start_count(), 1);
-    assert_eq!(rt; s.param_count(), 0);
+    same(&rt, &counts(&s), &(1, 1, 0, 0));
     Ok(())
 }
 
@@ -129,6 +141,6 @@ fn the_first_failing_line_is_told(rt: HostRuntime) -> Result<(), Fail> {
         line: 2,
         reason: Reason::Length,
     };
-    assert_eq!(rt; finished(feed).err(), Some(SectionsFault::Bad(bad)));
+    same(&rt, &finished(feed).err(), &Some(SectionsFault::Bad(bad)));
     Ok(())
 }

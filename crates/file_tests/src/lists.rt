@@ -1,3 +1,4 @@
+use crate::comparing::same;
 use crate::texts::record;
 use brep_lists::{EdgeList, EdgeTuple, VertexList};
 use iges_fields::Values;
@@ -21,7 +22,7 @@ fn the_cube_has_eight_vertices(rt: HostRuntime) -> Result<(), Fail> {
         rt.alloc(),
         b"8,0.,0.,0.,1.,0.,0.,0.,1.,0.,1.,1.,0.,0.,0.,1.,1.,0.,1.,0.,1.,1.,1.,1.,1.;",
     )?;
-    assert_eq!(rt; vertex_count(&list), Some(8));
+    same(&rt, &vertex_count(&list), &Some(8));
     Ok(())
 }
 
@@ -38,16 +39,16 @@ fn the_cube_has_twelve_edges(rt: HostRuntime) -> Result<(), Fail> {
         end_list: 5,
         end_index: 7,
     };
-    assert_eq!(rt; edge_count(&list), Some(12));
-    assert_eq!(rt; edge(&list, 11), Some(last));
+    same(&rt, &edge_count(&list), &Some(12));
+    same(&rt, &edge(&list, 11), &Some(last));
     Ok(())
 }
 
 #[test]
 fn the_ball_has_one_edge(rt: HostRuntime) -> Result<(), Fail> {
     let list = record(rt.alloc(), b"1,15,5,1,5,2;")?;
-    assert_eq!(rt; edge_count(&list), Some(1));
-    assert_eq!(rt; edge(&list, 1), None);
+    same(&rt, &edge_count(&list), &Some(1));
+    same(&rt, &edge(&list, 1), &None);
     Ok(())
 }
 
@@ -61,20 +62,20 @@ fn the_cylinder_has_a_seam(rt: HostRuntime) -> Result<(), Fail> {
         end_list: 5,
         end_index: 2,
     };
-    assert_eq!(rt; edge(&list, 2), Some(circle));
+    same(&rt, &edge(&list, 2), &Some(circle));
     Ok(())
 }
 
 #[test]
 fn a_coordinate_may_be_left_out(rt: HostRuntime) -> Result<(), Fail> {
     let list = record(rt.alloc(), b"1,,1,2.,3,,7;")?;
-    assert_eq!(rt; vertex_count(&list), Some(1));
+    same(&rt, &vertex_count(&list), &Some(1));
     Ok(())
 }
 
 #[test]
 fn the_last_coordinate_is_missing(rt: HostRuntime) -> Result<(), Fail> {
     let list = record(rt.alloc(), b"1,0.,0.;")?;
-    assert_eq!(rt; vertex_count(&list), None);
+    same(&rt, &vertex_count(&list), &None);
     Ok(())
 }

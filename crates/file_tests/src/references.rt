@@ -1,3 +1,4 @@
+use crate::comparing::same;
 use crate::texts::read;
 use entry_references::{EntryList, RefFault, references};
 use iges_fields::EntryNo;
@@ -37,20 +38,21 @@ fn a_solid_refers_to_its_shell_its_name_its_colour_and_its_matrix(
     let Ok(list) = listed(rt.alloc(), &file, 1) else {
         return Err(Fail::from("no references"));
     };
-    assert_eq!(rt; reference(&list, 0), Some(3));
-    assert_eq!(rt; reference(&list, 1), Some(5));
-    assert_eq!(rt; reference(&list, 2), Some(7));
-    assert_eq!(rt; reference(&list, 3), Some(9));
-    assert_eq!(rt; reference(&list, 4), None);
+    same(&rt, &reference(&list, 0), &Some(3));
+    same(&rt, &reference(&list, 1), &Some(5));
+    same(&rt, &reference(&list, 2), &Some(7));
+    same(&rt, &reference(&list, 3), &Some(9));
+    same(&rt, &reference(&list, 4), &None);
     Ok(())
 }
 
 #[test]
 fn a_type_that_is_not_listed_has_no_references(rt: HostRuntime) -> Result<(), Fail> {
     let file = one_solid(rt.alloc())?;
-    assert_eq!(rt;
-        listed(rt.alloc(), &file, 11).err(),
-        Some(RefFault::Unlisted)
+    same(
+        &rt,
+        &listed(rt.alloc(), &file, 11).err(),
+        &Some(RefFault::Unlisted),
     );
     Ok(())
 }

@@ -3,10 +3,27 @@
 ghost use Rattle.std.specs.Prelude.{IsTrue};
 ghost use Rattle.iges_fields.specs.InLine.{is_in_line};
 
+use iges_directory::Entry;
 use iges_fields::{Delimiters, EntryNo, Value, Values, ValuesFault, values};
-use iges_params::{File, read_file};
+use iges_params::{File, Global26, read_file};
 use std::alloc::Global;
 use std::test::Fail;
+
+const POINT: Entry = Entry {
+    kind: 116,
+    structure: 0,
+    font: 0,
+    level: 0,
+    view: 0,
+    matrix: 0,
+    display: 0,
+    weight: 0,
+    colour: 0,
+    form: 0,
+    subscript: 0,
+    status: *b"00000000",
+    label: *b"        ",
+};
 
 // Two solids: 1 with entries up to 9, and 11 with 13 to 31, of which 15 and 31 are shared. Entry 23 is of an unlisted type.
 const TWO_SOLIDS: &[u8] =
@@ -48,6 +65,25 @@ fn put(text: &mut Vec<u8>, at: usize, bytes: &[u8]) -> Result<(), Fail> {
     }
     text[at..end].copy_from_slice(bytes);
     Ok(())
+}
+
+/// A file made call by call: two blank start lines and one point.
+pub fn made(alloc: Global) -> Result<File, Fail> {
+    let line = [b' '; 72];
+    let delims = Delimiters::new(b',', b';').ok_or("no delimiters")?;
+    let global = Global26 {
+        delims,
+        values: Values::new(alloc),
+    };
+    let mut file = File::new(alloc, &line, global)?;
+    file.push_start(&line)?;
+    file.push(POINT, Values::new(alloc))?;
+    Ok(file)
+}
+
+/// How many start lines a file has, and how many entries.
+pub fn counts(file: &File) -> (usize, usize) {
+    (file.start_count(), file.entry_count())
 }
 
 /// The value at a place of an entry's record.

@@ -1,28 +1,12 @@
 ghost use Rattle.std.specs.Prelude.{◌≤◌};
 
-use crate::texts::read;
-use iges_directory::Entry;
-use iges_fields::{Bytes, Delimiters, Values};
-use iges_params::{File, Global26};
+use crate::comparing::same;
+use crate::texts::{counts, made, read};
+use iges_fields::Bytes;
+use iges_params::File;
 use iges_write::{WriteFileFault, write_file};
 use std::alloc::Global;
 use std::test::Fail;
-
-const POINT: Entry = Entry {
-    kind: 116,
-    structure: 0,
-    font: 0,
-    level: 0,
-    view: 0,
-    matrix: 0,
-    display: 0,
-    weight: 0,
-    colour: 0,
-    form: 0,
-    subscript: 0,
-    status: *b"00000000",
-    label: *b"        ",
-};
 
 const TINY: &[u8] =
     b"tiny                                                                    S      1\n1H,,1H;;                                                                G      1\n     186       1       0       0       0       0       0       000000000D      1\n     186       0       0       1       0                               0D      2\n186,0,1,0;                                                             1P      1\nS      1G      1D      2P      1                                        T      1\n";
@@ -57,8 +41,8 @@ fn length_within(alloc: Global, text: &[u8], limit: u64) -> Result<Option<usize>
 #[test]
 fn the_tiny_file_has_486_bytes(rt: HostRuntime) -> Result<(), Fail> {
     assert!(rt; is_the_same_again(rt.alloc(), TINY)?);
-    assert_eq!(rt; length_within(rt.alloc(), TINY, 486)?, Some(486));
-    assert_eq!(rt; length_within(rt.alloc(), TINY, 485)?, None);
+    same(&rt, &length_within(rt.alloc(), TINY, 486)?, &Some(486));
+    same(&rt, &length_within(rt.alloc(), TINY, 485)?, &None);
     Ok(())
 }
 
@@ -106,37 +90,22 @@ fn a_ball_is_the_same_again(rt: HostRuntime) -> Result<(), Fail> {
     Ok(())
 }
 
-// Two blank start lines and one point.
+// Two blank start lines and one point, which is also made call by call.
 const TWO_LINES: &[u8] =
     b"                                                                        S      1\n                                                                        S      2\n1H,,1H;;                                                                G      1\n     116       1       0       0       0       0       0       000000000D      1\n     116       0       0       1       0                               0D      2\n116;                                                                   1P      1\nS      2G      1D      2P      1                                        T      1\n";
-
-// The file with this text, made call by call.
-fn made(alloc: Global) -> Result<File, Fail> {
-    let line = [b' '; 72];
-    let delims = Delimiters::new(b',', b';').ok_or("no delimiters")?;
-    let global = Global26 {
-        delims,
-        values: Values::new(alloc),
-    };
-    let mut file = File::new(alloc, &line, global)?;
-    file.push_start(&line)?;
-    file.push(POINT, Values::new(alloc))?;
-    Ok(file)
-}
 
 #[test]
 fn a_made_file_is_written(rt: HostRuntime) -> Result<(), Fail> {
     let file = made(rt.alloc())?;
     let text = written(rt.alloc(), &file, 567)?;
-    assert_eq!(rt; text.as_slice(), TWO_LINES);
+    same(&rt, &text.as_slice(), &TWO_LINES);
     Ok(())
 }
 
 #[test]
 fn a_made_file_reads_back(rt: HostRuntime) -> Result<(), Fail> {
     let file = read(rt.alloc(), TWO_LINES)?;
-    assert_eq!(rt; file.start_count(), 2);
-    assert_eq!(rt; file.entry_count(), 1);
+    same(&rt, &counts(&file), &(2, 1));
     Ok(())
 }
 
