@@ -1,109 +1,32 @@
-ghost use Rattle.std.specs.Prelude.{◌≡◌, ◌∷◌, [], length, IfOk};
-ghost use Rattle.edge_uses.specs.Balls.{one_loop, vertex_key};
+ghost use Rattle.std.specs.Prelude.{◌≡◌, length};
 
+use crate::comparing::same;
 use edge_uses::{
     Row, Rows, VerticesBefore, first_shared, first_unjoined, pair, rows, vertices_before,
 };
-use iges_fields::{EntryNo, ItemList, NoMemory};
-use solid_data::{
-    Edge, EdgeId, EdgeKey, FaceAt, FaceUse, Loop, LoopAt, LoopUse, RowId, Shell, ShellAt, Shells,
-    Solid, Uses, VertexId, VertexKey,
-};
+use iges_fields::NoMemory;
+use small_solids::{pole_ball, seamed_ball};
+use solid_data::{EdgeId, FaceAt, LoopAt, RowId, ShellAt, Solid, VertexId};
 use std::alloc::Global;
 use std::test::Fail;
 
-fn one<T: Drop>(alloc: Global, item: T) -> Result<ItemList<T>, NoMemory>
-    ensures { IfOk result (λ list. list ≡ item ∷ []) }
+// The rows of a solid's one shell; no clause goes further.
+fn rows_of(alloc: Global, solid: &Solid) -> Result<Rows, NoMemory>
+    requires { length solid.now.shells ≡ 1 }
 {
-    let mut list = ItemList::new(alloc);
-    list.push(item)?;
-    Ok(list)
+    rows(alloc, solid, ShellAt(0))
 }
 
-fn two<T: Drop>(alloc: Global, first: T, second: T) -> Result<ItemList<T>, NoMemory>
-    ensures { IfOk result (λ list. list ≡ first ∷ second ∷ []) }
-{
-    let mut list = one(alloc, first)?;
-    list.push(second)?;
-    Ok(list)
+// The rows of the ball with a seam.
+fn seam_rows(alloc: Global) -> Result<Rows, NoMemory> {
+    let solid = seamed_ball(alloc)?;
+    rows_of(alloc, &solid)
 }
 
-// One shell with one face with one loop.
-fn shell_of(alloc: Global, uses: Uses) -> Result<Shells, NoMemory>
-    ensures { IfOk result (λ shells. shells ≡ one_loop uses) }
-{
-    let loops = one(
-        alloc,
-        Loop {
-            entity: EntryNo(7),
-            uses,
-        },
-    )?;
-    let faces = one(
-        alloc,
-        FaceUse {
-            entity: EntryNo(9),
-            flag: true,
-            loops,
-        },
-    )?;
-    one(
-        alloc,
-        Shell {
-            entity: EntryNo(11),
-            flag: true,
-            faces,
-        },
-    )
-}
-
-fn vertex(index: u32) -> VertexKey
-    ensures { result ≡ vertex_key index }
-{
-    VertexKey {
-        list: EntryNo(3),
-        index,
-    }
-}
-
-// A ball of one face, whose loop runs along a seam from pole to pole and back.
-fn seamed_ball(alloc: Global) -> Result<Solid, NoMemory>
-    ensures { IfOk result (λ s. length s.shells ≡ 1) }
-{
-    let there = LoopUse::EdgeUse {
-        edge: EdgeId(0),
-        along: true,
-    };
-    let back = LoopUse::EdgeUse {
-        edge: EdgeId(0),
-        along: false,
-    };
-    let uses = two(alloc, there, back)?;
-    let shells = shell_of(alloc, uses)?;
-    let edge = Edge {
-        key: EdgeKey {
-            list: EntryNo(5),
-            index: 1,
-        },
-        from: VertexId(0),
-        to: VertexId(1),
-    };
-    let edges = one(alloc, edge)?;
-    let vertices = two(alloc, vertex(1), vertex(2))?;
-    Ok(Solid::new(EntryNo(13), shells, edges, vertices))
-}
-
-// A ball of one face, whose loop is a pole.
-fn pole_ball(alloc: Global) -> Result<Solid, NoMemory>
-    ensures { IfOk result (λ s. length s.shells ≡ 1) }
-{
-    let pole = LoopUse::VertexUse {
-        vertex: VertexId(0),
-    };
-    let uses = one(alloc, pole)?;
-    let shells = shell_of(alloc, uses)?;
-    let vertices = one(alloc, vertex(1))?;
-    Ok(Solid::new(EntryNo(13), shells, ItemList::new(alloc), vertices))
+// The rows of the ball at a pole.
+fn pole_rows(alloc: Global) -> Result<Rows, NoMemory> {
+    let solid = pole_ball(alloc)?;
+    rows_of(alloc, &solid)
 }
 
 fn row(along: bool, from: u32, to: u32) -> Row {
@@ -131,69 +54,79 @@ fn counts(rows: &Rows) -> (usize, usize, usize, usize, usize) {
 
 #[test]
 fn a_seam_has_a_row_each_way(rt: HostRuntime) -> Result<(), Fail> {
-    let solid = seamed_ball(rt.alloc())?;
-    let rows = rows(rt.alloc(), &solid, ShellAt(0))?;
-    assert_eq!(rt; counts(&rows), (2, 1, 2, 1, 0));
-    assert_eq!(rt; rows.row(RowId(0)), Some(row(true, 0, 1)));
-    assert_eq!(rt; rows.row(RowId(1)), Some(row(false, 1, 0)));
-    assert_eq!(rt; rows.row(RowId(2)), None);
+    let rows = seam_rows(rt.alloc())?;
+    same(&rt, &counts(&rows), &(2, 1, 2, 1, 0));
+    same(&rt, &rows.row(RowId(0)), &Some(row(true, 0, 1)));
+    same(&rt, &rows.row(RowId(1)), &Some(row(false, 1, 0)));
+    same(&rt, &rows.row(RowId(2)), &None);
     Ok(())
 }
 
 #[test]
 fn the_rows_of_a_seam_follow_each_other(rt: HostRuntime) -> Result<(), Fail> {
-    let solid = seamed_ball(rt.alloc())?;
-    let rows = rows(rt.alloc(), &solid, ShellAt(0))?;
-    assert_eq!(rt; rows.follows(RowId(0)), Some(RowId(1)));
-    assert_eq!(rt; rows.follows(RowId(1)), Some(RowId(0)));
-    assert_eq!(rt; rows.edge_at(0), Some(EdgeId(0)));
-    assert_eq!(rt; rows.vertex_at(1), Some(VertexId(1)));
+    let rows = seam_rows(rt.alloc())?;
+    same(&rt, &rows.follows(RowId(0)), &Some(RowId(1)));
+    same(&rt, &rows.follows(RowId(1)), &Some(RowId(0)));
+    same(&rt, &rows.edge_at(0), &Some(EdgeId(0)));
+    same(&rt, &rows.vertex_at(1), &Some(VertexId(1)));
     Ok(())
 }
 
 #[test]
 fn a_pole_is_a_loop_without_an_edge(rt: HostRuntime) -> Result<(), Fail> {
-    let solid = pole_ball(rt.alloc())?;
-    let rows = rows(rt.alloc(), &solid, ShellAt(0))?;
-    assert_eq!(rt; counts(&rows), (0, 0, 1, 1, 1));
+    let rows = pole_rows(rt.alloc())?;
+    same(&rt, &counts(&rows), &(0, 0, 1, 1, 1));
     let at = LoopAt {
         face: FaceAt(0),
         place: 0,
     };
-    assert_eq!(rt; rows.isolated(0), Some((at, VertexId(0))));
+    same(&rt, &rows.isolated(0), &Some((at, VertexId(0))));
     Ok(())
+}
+
+// The mate of a row of the ball with a seam, and the row that it turns to.
+fn mate_and_turn(alloc: Global, row: RowId) -> Result<(Option<RowId>, Option<RowId>), Fail> {
+    let solid = seamed_ball(alloc)?;
+    let rows = rows(alloc, &solid, ShellAt(0))?;
+    if first_unjoined(&solid, ShellAt(0)).is_some() {
+        return Err(Fail::from("a gap"));
+    }
+    let paired = pair(alloc, &rows)?;
+    Ok((paired.mate(row), paired.turn(row)))
 }
 
 #[test]
 fn each_row_of_a_seam_turns_to_itself(rt: HostRuntime) -> Result<(), Fail> {
-    let solid = seamed_ball(rt.alloc())?;
-    let rows = rows(rt.alloc(), &solid, ShellAt(0))?;
-    if let Some(open) = first_unjoined(&solid, ShellAt(0)) {
-        assert_eq!(rt; open.place, 0);
-        return Ok(());
-    }
-    let paired = pair(rt.alloc(), &rows)?;
-    assert_eq!(rt; paired.mate(RowId(0)), Some(RowId(1)));
-    assert_eq!(rt; paired.turn(RowId(0)), Some(RowId(0)));
-    assert_eq!(rt; paired.turn(RowId(1)), Some(RowId(1)));
+    let first = mate_and_turn(rt.alloc(), RowId(0))?;
+    same(&rt, &first, &(Some(RowId(1)), Some(RowId(0))));
+    let second = mate_and_turn(rt.alloc(), RowId(1))?;
+    same(&rt, &second, &(Some(RowId(0)), Some(RowId(1))));
     Ok(())
+}
+
+// What the first shell of the ball with a seam shares with those before it.
+fn shared_before(alloc: Global) -> Result<Option<VertexId>, NoMemory> {
+    let solid = seamed_ball(alloc)?;
+    let rows = rows_of(alloc, &solid)?;
+    Ok(vertices_before(&solid, ShellAt(0)).first_shared(&rows))
+}
+
+fn shared(alloc: Global) -> Result<Option<VertexId>, NoMemory> {
+    let solid = seamed_ball(alloc)?;
+    first_shared(alloc, &solid, ShellAt(0))
 }
 
 #[test]
 fn one_shell_shares_no_vertex(rt: HostRuntime) -> Result<(), Fail> {
-    let solid = seamed_ball(rt.alloc())?;
-    let rows = rows(rt.alloc(), &solid, ShellAt(0))?;
-    let before = vertices_before(&solid, ShellAt(0));
-    assert_eq!(rt; before.first_shared(&rows), None);
-    assert_eq!(rt; first_shared(rt.alloc(), &solid, ShellAt(0))?, None);
+    same(&rt, &shared_before(rt.alloc())?, &None);
+    same(&rt, &shared(rt.alloc())?, &None);
     Ok(())
 }
 
 #[test]
 fn a_shell_met_again_shares_its_least_vertex(rt: HostRuntime) -> Result<(), Fail> {
-    let solid = seamed_ball(rt.alloc())?;
-    let rows = rows(rt.alloc(), &solid, ShellAt(0))?;
+    let rows = seam_rows(rt.alloc())?;
     let after = VerticesBefore::none().with(&rows);
-    assert_eq!(rt; after.first_shared(&rows), Some(VertexId(0)));
+    same(&rt, &after.first_shared(&rows), &Some(VertexId(0)));
     Ok(())
 }

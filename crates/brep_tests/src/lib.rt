@@ -1,16 +1,16 @@
-//! Tests of the calls on records, solids and shells, each with ample memory.
+//! Tests of the calls on solids and shells, each with ample memory.
 #![tactic(auto)]
 
 #[cfg(test)]
+mod closing;
+#[cfg(test)]
+mod comparing;
+#[cfg(test)]
 mod edges;
 #[cfg(test)]
+mod flagging;
+#[cfg(test)]
 mod links;
-#[cfg(test)]
-mod lists;
-#[cfg(test)]
-mod loops;
-#[cfg(test)]
-mod open_shell;
 #[cfg(test)]
 mod open_shell_commands;
 #[cfg(test)]

@@ -1,8 +1,7 @@
-ghost use Rattle.std.specs.Prelude.{◌≤◌, length};
-
+use crate::comparing::same;
 use brep_walk::{WalkFault, walk, walk_shell};
 use iges_fields::EntryNo;
-use iges_params::{File, ReadFileFault, read_file};
+use iges_params::{File, read_file};
 use solid_data::{Failing, Rule, ShellAt, Solid, VertexId, VertexKey};
 use std::alloc::Global;
 use std::test::Fail;
@@ -23,21 +22,27 @@ const LOOP: usize = 1539;
 /// Where the number of the shell's form stands.
 pub(crate) const SHELL_FORM: usize = 444;
 
-// The file of a text; no clause goes further.
-fn read(alloc: Global, text: &[u8]) -> Result<File, ReadFileFault>
-    requires { length text.now ≤ 2000 }
-{
-    read_file(alloc, text)
+// Has no clause, so that no goal holds the text.
+fn ball() -> &'static [u8] {
+    BALL
+}
+
+// The file of a text.
+fn read(alloc: Global, text: &[u8]) -> Result<File, Fail> {
+    if text.len() > 2000 {
+        return Err(Fail::from("too long"));
+    }
+    Ok(read_file(alloc, text)?)
 }
 
 /// The ball with one byte changed.
 pub(crate) fn changed(alloc: Global, at: usize, byte: u8) -> Result<File, Fail> {
-    let mut text = Vec::from_slice(alloc, BALL)?;
-    if at >= text.len() || text.len() > 2000 {
+    let mut text = Vec::from_slice(alloc, ball())?;
+    if at >= text.len() {
         return Err(Fail::from("no such byte"));
     }
     text[at] = byte;
-    Ok(read(alloc, text.as_slice())?)
+    read(alloc, text.as_slice())
 }
 
 // The solid of an entry; no clause goes further.
@@ -68,16 +73,17 @@ fn fails(rule: Rule, entity: u32, place: u32) -> Option<WalkFault> {
 fn a_ball_has_one_vertex(rt: HostRuntime) -> Result<(), Fail> {
     let file = changed(rt.alloc(), 0, b' ')?;
     let ball = solid(rt.alloc(), &file, 1)?;
-    assert_eq!(rt; ball.shell_count(), 1);
-    assert_eq!(rt; ball.edge_count(), 0);
-    assert_eq!(rt;
-        ball.vertex(VertexId(0)),
-        Some(VertexKey {
+    same(&rt, &ball.shell_count(), &1);
+    same(&rt, &ball.edge_count(), &0);
+    same(
+        &rt,
+        &ball.vertex(VertexId(0)),
+        &Some(VertexKey {
             list: EntryNo(9),
-            index: 1
-        })
+            index: 1,
+        }),
     );
-    assert_eq!(rt; ball.vertex(VertexId(1)), None);
+    same(&rt, &ball.vertex(VertexId(1)), &None);
     Ok(())
 }
 
@@ -85,10 +91,15 @@ fn a_ball_has_one_vertex(rt: HostRuntime) -> Result<(), Fail> {
 fn its_shell_is_that_of_the_record(rt: HostRuntime) -> Result<(), Fail> {
     let file = changed(rt.alloc(), 0, b' ')?;
     let ball = solid(rt.alloc(), &file, 1)?;
-    assert_eq!(rt; ball.shell(ShellAt(0)).map(|shell| shell.entity.0), Some(3));
-    assert_eq!(rt;
-        ball.shell(ShellAt(0)).map(|shell| shell.faces.len()),
-        Some(1)
+    same(
+        &rt,
+        &ball.shell(ShellAt(0)).map(|shell| shell.entity.0),
+        &Some(3),
+    );
+    same(
+        &rt,
+        &ball.shell(ShellAt(0)).map(|shell| shell.faces.len()),
+        &Some(1),
     );
     Ok(())
 }
@@ -96,49 +107,55 @@ fn its_shell_is_that_of_the_record(rt: HostRuntime) -> Result<(), Fail> {
 #[test]
 fn an_entry_of_another_type(rt: HostRuntime) -> Result<(), Fail> {
     let file = changed(rt.alloc(), 0, b' ')?;
-    assert_eq!(rt;
-        solid(rt.alloc(), &file, 3).err(),
-        fails(Rule::WrongKind, 3, 0)
+    same(
+        &rt,
+        &solid(rt.alloc(), &file, 3).err(),
+        &fails(Rule::WrongKind, 3, 0),
     );
-    assert_eq!(rt;
-        solid(rt.alloc(), &file, 2).err(),
-        fails(Rule::NoEntry, 2, 0)
+    same(
+        &rt,
+        &solid(rt.alloc(), &file, 2).err(),
+        &fails(Rule::NoEntry, 2, 0),
     );
     Ok(())
 }
 
 #[test]
 fn a_flag_of_2(rt: HostRuntime) -> Result<(), Fail> {
-    assert_eq!(rt;
-        failing(rt.alloc(), SOLID + 6, b'2')?,
-        fails(Rule::BadLayout, 1, 0)
+    same(
+        &rt,
+        &failing(rt.alloc(), SOLID + 6, b'2')?,
+        &fails(Rule::BadLayout, 1, 0),
     );
     Ok(())
 }
 
 #[test]
 fn a_face_that_is_no_entry(rt: HostRuntime) -> Result<(), Fail> {
-    assert_eq!(rt;
-        failing(rt.alloc(), SHELL + 6, b'6')?,
-        fails(Rule::NoEntry, 3, 1)
+    same(
+        &rt,
+        &failing(rt.alloc(), SHELL + 6, b'6')?,
+        &fails(Rule::NoEntry, 3, 1),
     );
     Ok(())
 }
 
 #[test]
 fn a_surface_of_the_six_types(rt: HostRuntime) -> Result<(), Fail> {
-    assert_eq!(rt;
-        failing(rt.alloc(), FACE + 5, b' ')?,
-        fails(Rule::BadGeometry, 5, 0)
+    same(
+        &rt,
+        &failing(rt.alloc(), FACE + 5, b' ')?,
+        &fails(Rule::BadGeometry, 5, 0),
     );
     Ok(())
 }
 
 #[test]
 fn an_index_past_the_end(rt: HostRuntime) -> Result<(), Fail> {
-    assert_eq!(rt;
-        failing(rt.alloc(), LOOP + 10, b'2')?,
-        fails(Rule::BadIndex, 7, 1)
+    same(
+        &rt,
+        &failing(rt.alloc(), LOOP + 10, b'2')?,
+        &fails(Rule::BadIndex, 7, 1),
     );
     Ok(())
 }
@@ -147,11 +164,16 @@ fn an_index_past_the_end(rt: HostRuntime) -> Result<(), Fail> {
 fn an_open_shell_is_walked_by_itself(rt: HostRuntime) -> Result<(), Fail> {
     let file = changed(rt.alloc(), SHELL_FORM, b'2')?;
     let ball = shell(rt.alloc(), &file, 3)?;
-    assert_eq!(rt; ball.entity(), EntryNo(3));
-    assert_eq!(rt; ball.shell(ShellAt(0)).map(|shell| shell.flag), Some(true));
-    assert_eq!(rt;
-        solid(rt.alloc(), &file, 1).err(),
-        fails(Rule::WrongKind, 1, 1)
+    same(&rt, &ball.entity(), &EntryNo(3));
+    same(
+        &rt,
+        &ball.shell(ShellAt(0)).map(|shell| shell.flag),
+        &Some(true),
+    );
+    same(
+        &rt,
+        &solid(rt.alloc(), &file, 1).err(),
+        &fails(Rule::WrongKind, 1, 1),
     );
     Ok(())
 }
@@ -159,9 +181,10 @@ fn an_open_shell_is_walked_by_itself(rt: HostRuntime) -> Result<(), Fail> {
 #[test]
 fn a_shell_of_form_3_is_of_no_kind(rt: HostRuntime) -> Result<(), Fail> {
     let file = changed(rt.alloc(), SHELL_FORM, b'3')?;
-    assert_eq!(rt;
-        shell(rt.alloc(), &file, 3).err(),
-        fails(Rule::WrongKind, 3, 0)
+    same(
+        &rt,
+        &shell(rt.alloc(), &file, 3).err(),
+        &fails(Rule::WrongKind, 3, 0),
     );
     Ok(())
 }

@@ -1,111 +1,10 @@
-ghost use Rattle.std.specs.Prelude.{◌≡◌, ◌∷◌, [], length, true, IfOk};
-ghost use Rattle.edge_uses.specs.Balls.{one_loop, vertex_key};
-
-use iges_fields::{EntryNo, ItemList, NoMemory};
+use crate::comparing::same;
+use iges_fields::EntryNo;
+use small_solids::{open_sheet, seamed_ball};
 use solid_check::{CheckFault, check_shells};
-use solid_data::{
-    Edge, EdgeId, EdgeKey, FaceUse, Failing, Loop, LoopUse, Rule, Shell, Shells, Solid, Uses,
-    VertexId, VertexKey,
-};
+use solid_data::{Failing, Rule, Solid};
 use std::alloc::Global;
 use std::test::Fail;
-
-fn one<T: Drop>(alloc: Global, item: T) -> Result<ItemList<T>, NoMemory>
-    ensures { IfOk result (λ list. list ≡ item ∷ []) }
-{
-    let mut list = ItemList::new(alloc);
-    list.push(item)?;
-    Ok(list)
-}
-
-fn two<T: Drop>(alloc: Global, first: T, second: T) -> Result<ItemList<T>, NoMemory>
-    ensures { IfOk result (λ list. list ≡ first ∷ second ∷ []) }
-{
-    let mut list = one(alloc, first)?;
-    list.push(second)?;
-    Ok(list)
-}
-
-// One shell with one face with one loop.
-fn shell_of(alloc: Global, uses: Uses) -> Result<Shells, NoMemory>
-    ensures { IfOk result (λ shells. shells ≡ one_loop uses) }
-{
-    let loops = one(
-        alloc,
-        Loop {
-            entity: EntryNo(7),
-            uses,
-        },
-    )?;
-    let faces = one(
-        alloc,
-        FaceUse {
-            entity: EntryNo(9),
-            flag: true,
-            loops,
-        },
-    )?;
-    one(
-        alloc,
-        Shell {
-            entity: EntryNo(11),
-            flag: true,
-            faces,
-        },
-    )
-}
-
-fn vertex(index: u32) -> VertexKey
-    ensures { result ≡ vertex_key index }
-{
-    VertexKey {
-        list: EntryNo(3),
-        index,
-    }
-}
-
-fn seam() -> Edge
-    ensures { result ≡ record { key = record { «list» = record { 0 = 5 }; index = 1 }; from = record { 0 = 0 }; to = record { 0 = 1 } } }
-{
-    Edge {
-        key: EdgeKey {
-            list: EntryNo(5),
-            index: 1,
-        },
-        from: VertexId(0),
-        to: VertexId(1),
-    }
-}
-
-// A ball of one face, whose loop runs along a seam from pole to pole and back.
-fn seamed_ball(alloc: Global) -> Result<Solid, NoMemory> {
-    let there = LoopUse::EdgeUse {
-        edge: EdgeId(0),
-        along: true,
-    };
-    let back = LoopUse::EdgeUse {
-        edge: EdgeId(0),
-        along: false,
-    };
-    let uses = two(alloc, there, back)?;
-    let shells = shell_of(alloc, uses)?;
-    let edges = one(alloc, seam())?;
-    let vertices = two(alloc, vertex(1), vertex(2))?;
-    Ok(Solid::new(EntryNo(13), shells, edges, vertices))
-}
-
-// A face whose loop goes from pole to pole and not back.
-fn open_loop(alloc: Global) -> Result<Solid, NoMemory> {
-    let there = LoopUse::EdgeUse {
-        edge: EdgeId(0),
-        along: true,
-    };
-    let uses = one(alloc, there)?;
-    let shells = shell_of(alloc, uses)?;
-    let edges = one(alloc, seam())?;
-    let vertices = two(alloc, vertex(1), vertex(2))?;
-    Ok(Solid::new(EntryNo(13), shells, edges, vertices))
-}
 
 fn fault_of(alloc: Global, solid: &Solid) -> Option<CheckFault> {
     match check_shells(alloc, solid) {
@@ -117,18 +16,18 @@ fn fault_of(alloc: Global, solid: &Solid) -> Option<CheckFault> {
 #[test]
 fn a_seamed_ball_passes(rt: HostRuntime) -> Result<(), Fail> {
     let solid = seamed_ball(rt.alloc())?;
-    assert_eq!(rt; fault_of(rt.alloc(), &solid), None);
+    same(&rt, &fault_of(rt.alloc(), &solid), &None);
     Ok(())
 }
 
 #[test]
 fn an_open_loop_is_named(rt: HostRuntime) -> Result<(), Fail> {
-    let solid = open_loop(rt.alloc())?;
+    let solid = open_sheet(rt.alloc())?;
     let wanted = CheckFault::Fails(Failing {
         rule: Rule::Unjoined,
         entity: EntryNo(7),
         place: 1,
     });
-    assert_eq!(rt; fault_of(rt.alloc(), &solid), Some(wanted));
+    same(&rt, &fault_of(rt.alloc(), &solid), &Some(wanted));
     Ok(())
 }

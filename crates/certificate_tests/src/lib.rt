@@ -1,4 +1,5 @@
-//! Tests of the calls on certificates, each with ample memory.
+//! Tests of the calls on certificates, each with ample memory: also that what is refused stays refused, whatever comes
+//! behind.
 #![tactic(auto)]
 
 #[cfg(test)]
@@ -6,8 +7,16 @@ mod certifying;
 #[cfg(test)]
 mod checking;
 #[cfg(test)]
+mod comparing;
+#[cfg(test)]
 mod judging;
 #[cfg(test)]
 mod lines;
+#[cfg(test)]
+mod open_shell;
+#[cfg(test)]
+mod open_solids;
+#[cfg(test)]
+mod openings;
 #[cfg(test)]
 mod verdicts;

@@ -1,6 +1,6 @@
+use crate::memory::{sink, source, status_of, words};
 use iges_fields::{Bytes, FILE_LIMIT};
-use iges_io::{MemSink, MemSource, Numbers};
-use iges_solid_cmd::{Words, run, sample_file};
+use iges_solid_cmd::sample_file;
 use iges_write::write_file;
 use std::alloc::Global;
 use std::process::Abort;
@@ -66,45 +66,6 @@ fn tiny(alloc: Global) -> Result<Vec<u8>, Fail> {
     lines(alloc, &[START, GLOBAL, FIRST, SECOND, PARAM, LAST])
 }
 
-fn numbers(alloc: Global, given: &[u64]) -> Result<Numbers, Fail> {
-    let mut list = Numbers::new(alloc);
-    for n in given {
-        list.push(*n)?;
-    }
-    Ok(list)
-}
-
-fn words(alloc: Global, given: &[&str]) -> Result<Words, Fail> {
-    let mut words = Words::new(alloc);
-    for word in given {
-        words.push(word)?;
-    }
-    Ok(words)
-}
-
-fn source(alloc: Global, bytes: &[u8], size: u64, fails: &[u64]) -> Result<MemSource, Fail> {
-    let sizes = numbers(alloc, &[size])?;
-    let fails = numbers(alloc, fails)?;
-    Ok(MemSource::new(Bytes::copy(alloc, bytes)?, sizes, fails))
-}
-
-fn sink(alloc: Global, size: u64, fails: &[u64]) -> Result<MemSink, Fail> {
-    let sizes = numbers(alloc, &[size])?;
-    let fails = numbers(alloc, fails)?;
-    Ok(MemSink::new(alloc, 400, sizes, fails)?)
-}
-
-// Has no clause, so that what follows a call carries none of those of `run`.
-fn status_of(
-    alloc: Global,
-    words: &Words,
-    file: &mut MemSource,
-    cert: &mut MemSource,
-    out: &mut MemSink,
-) -> u8 {
-    run(alloc, words, file, cert, out).code()
-}
-
 fn compare(rt: &impl Abort, status: u8, text: &[u8], wanted: (u8, &[u8])) {
     assert_eq!(rt; status, wanted.0);
     assert_eq!(rt; text, wanted.1);
@@ -119,9 +80,9 @@ fn shows(
     wanted: (u8, &[u8]),
 ) -> Result<(), Fail> {
     let words = words(alloc, given.words)?;
-    let mut file = source(alloc, bytes, given.size, given.read_fails)?;
-    let mut cert = source(alloc, given.certificate, 5, given.certificate_fails)?;
-    let mut out = sink(alloc, 1, given.write_fails)?;
+    let mut file = source(alloc, bytes, &[given.size], given.read_fails)?;
+    let mut cert = source(alloc, given.certificate, &[5], given.certificate_fails)?;
+    let mut out = sink(alloc, 400, &[1], given.write_fails)?;
     let status = status_of(alloc, &words, &mut file, &mut cert, &mut out);
     compare(rt, status, out.bytes(), wanted);
     Ok(())
@@ -327,9 +288,9 @@ fn tells_the_usage_and_reads_nothing(rt: HostRuntime) -> Result<(), Fail> {
 // The status of certifying solid 1 of these bytes into a sink that takes 16 bytes a call, and what was written.
 fn certified(alloc: Global, bytes: &[u8], write_fails: &[u64]) -> Result<(u8, Bytes), Fail> {
     let words = words(alloc, &["certify", "FILE", "1"])?;
-    let mut file = source(alloc, bytes, 1_000, &[])?;
-    let mut cert = source(alloc, b"", 1, &[])?;
-    let mut out = sink(alloc, 16, write_fails)?;
+    let mut file = source(alloc, bytes, &[1_000], &[])?;
+    let mut cert = source(alloc, b"", &[1], &[])?;
+    let mut out = sink(alloc, 400, &[16], write_fails)?;
     let status = status_of(alloc, &words, &mut file, &mut cert, &mut out);
     Ok((status, Bytes::copy(alloc, out.bytes())?))
 }
@@ -338,17 +299,39 @@ fn starts(rt: &impl Abort, front: &[u8], whole: &[u8], length: usize) {
     assert_eq!(rt; Some(front), whole.get(..length));
 }
 
+// The text of the smallest sample; no clause goes further.
+fn sample_text(alloc: Global) -> Result<Bytes, Fail> {
+    let file = sample_file(alloc, 3)?;
+    Ok(write_file(alloc, &file, FILE_LIMIT)?)
+}
+
+// Fails the write behind so many, and compares what was written.
+fn fails_at_write(
+    rt: &impl Abort,
+    alloc: Global,
+    text: &[u8],
+    calls: u64,
+    whole: &[u8],
+) -> Result<(), Fail> {
+    let (status, front) = certified(alloc, text, &[calls.saturating_add(1)])?;
+    compare(rt, status, b"", (5, b""));
+    starts(
+        rt,
+        front.as_slice(),
+        whole,
+        calls.saturating_mul(16) as usize,
+    );
+    Ok(())
+}
+
 #[test]
 fn tells_each_write_of_a_certificate_that_fails(rt: HostRuntime) -> Result<(), Fail> {
     let alloc = rt.alloc();
-    let file = sample_file(alloc, 3)?;
-    let text = write_file(alloc, &file, FILE_LIMIT)?;
+    let text = sample_text(alloc)?;
     let (status, whole) = certified(alloc, text.as_slice(), &[])?;
     compare(&rt, status, b"", (0, b""));
     for calls in 0..21u64 {
-        let (status, front) = certified(alloc, text.as_slice(), &[calls + 1])?;
-        compare(&rt, status, b"", (5, b""));
-        starts(&rt, front.as_slice(), whole.as_slice(), 16 * calls as usize);
+        fails_at_write(&rt, alloc, text.as_slice(), calls, whole.as_slice())?;
     }
     Ok(())
 }

@@ -1,3 +1,4 @@
+use crate::comparing::same;
 use iges_fields::{EntryNo, NoMemory, Value};
 use iges_params::File;
 use sample_solids::sample_file;
@@ -24,25 +25,25 @@ fn kind_of(file: &File, no: u32) -> Option<i64> {
 #[test]
 fn entries_of_nine_squares(rt: HostRuntime) -> Result<(), Fail> {
     let file = smallest(rt.alloc())?;
-    assert_eq!(rt; file.start_count(), 1);
-    assert_eq!(rt; file.entry_count(), 24);
+    same(&rt, &file.start_count(), &1);
+    same(&rt, &file.entry_count(), &24);
     Ok(())
 }
 
 #[test]
 fn counts_of_nine_squares(rt: HostRuntime) -> Result<(), Fail> {
     let file = smallest(rt.alloc())?;
-    assert_eq!(rt; integer_at(&file, 3, 0), Some(9));
-    assert_eq!(rt; integer_at(&file, 5, 0), Some(9));
-    assert_eq!(rt; integer_at(&file, 7, 0), Some(18));
+    same(&rt, &integer_at(&file, 3, 0), &Some(9));
+    same(&rt, &integer_at(&file, 5, 0), &Some(9));
+    same(&rt, &integer_at(&file, 7, 0), &Some(18));
     Ok(())
 }
 
 #[test]
 fn the_last_square(rt: HostRuntime) -> Result<(), Fail> {
     let file = smallest(rt.alloc())?;
-    assert_eq!(rt; kind_of(&file, 45), Some(510));
-    assert_eq!(rt; integer_at(&file, 45, 3), Some(47));
-    assert_eq!(rt; kind_of(&file, 49), None);
+    same(&rt, &kind_of(&file, 45), &Some(510));
+    same(&rt, &integer_at(&file, 45, 3), &Some(47));
+    same(&rt, &kind_of(&file, 49), &None);
     Ok(())
 }

@@ -1,7 +1,7 @@
-use iges_fields::Bytes;
+use crate::comparing::same;
+use crate::memory::{sink, source};
 use iges_io::{
-    MemSink, MemSource, Numbers, ReadAll, WriteFault, no_source, open_source, read_all, std_sink,
-    write_all,
+    MemSink, ReadAll, WriteFault, no_source, open_source, read_all, std_sink, write_all,
 };
 use std::alloc::Global;
 use std::fs::File;
@@ -9,25 +9,6 @@ use std::test::Fail;
 use std::{fs, io};
 
 const TEXT: &[u8] = b"IGESCERT 1\n";
-
-fn numbers(alloc: Global, given: &[u64]) -> Result<Numbers, Fail> {
-    let mut list = Numbers::new(alloc);
-    for n in given {
-        list.push(*n)?;
-    }
-    Ok(list)
-}
-
-fn source(alloc: Global, text: &[u8], sizes: &[u64], fails: &[u64]) -> Result<MemSource, Fail> {
-    let bytes = Bytes::copy(alloc, text)?;
-    Ok(MemSource::new(bytes, numbers(alloc, sizes)?, numbers(alloc, fails)?))
-}
-
-fn sink(alloc: Global, room: usize, sizes: &[u64], fails: &[u64]) -> Result<MemSink, Fail> {
-    let sizes = numbers(alloc, sizes)?;
-    let fails = numbers(alloc, fails)?;
-    Ok(MemSink::new(alloc, room, sizes, fails)?)
-}
 
 // Why the text is not had from a source of these sizes that fails at these calls, if it isn't.
 fn fault(alloc: Global, sizes: &[u64], fails: &[u64], limit: u64) -> Result<Option<ReadAll>, Fail> {
@@ -42,24 +23,29 @@ fn fault(alloc: Global, sizes: &[u64], fails: &[u64], limit: u64) -> Result<Opti
 #[test]
 fn pieces_make_the_text(rt: HostRuntime) -> Result<(), Fail> {
     for size in [1, 7, 81] {
-        assert_eq!(rt; fault(rt.alloc(), &[size], &[], 100)?, None);
+        same(&rt, &fault(rt.alloc(), &[size], &[], 100)?, &None);
     }
     Ok(())
 }
 
 #[test]
 fn the_limit_is_taken(rt: HostRuntime) -> Result<(), Fail> {
-    assert_eq!(rt; fault(rt.alloc(), &[], &[], 11)?, None);
-    assert_eq!(rt; fault(rt.alloc(), &[], &[], 10)?, Some(ReadAll::TooLarge));
+    same(&rt, &fault(rt.alloc(), &[], &[], 11)?, &None);
+    same(
+        &rt,
+        &fault(rt.alloc(), &[], &[], 10)?,
+        &Some(ReadAll::TooLarge),
+    );
     Ok(())
 }
 
 #[test]
 fn each_read_may_fail(rt: HostRuntime) -> Result<(), Fail> {
     for call in 1..=12 {
-        assert_eq!(rt;
-            fault(rt.alloc(), &[1], &[call], 100)?,
-            Some(ReadAll::ReadFault)
+        same(
+            &rt,
+            &fault(rt.alloc(), &[1], &[call], 100)?,
+            &Some(ReadAll::ReadFault),
         );
     }
     Ok(())
@@ -67,8 +53,12 @@ fn each_read_may_fail(rt: HostRuntime) -> Result<(), Fail> {
 
 #[test]
 fn nothing_is_read_behind_the_end_or_the_limit(rt: HostRuntime) -> Result<(), Fail> {
-    assert_eq!(rt; fault(rt.alloc(), &[1], &[13], 100)?, None);
-    assert_eq!(rt; fault(rt.alloc(), &[1], &[5], 3)?, Some(ReadAll::TooLarge));
+    same(&rt, &fault(rt.alloc(), &[1], &[13], 100)?, &None);
+    same(
+        &rt,
+        &fault(rt.alloc(), &[1], &[5], 3)?,
+        &Some(ReadAll::TooLarge),
+    );
     Ok(())
 }
 
@@ -83,16 +73,20 @@ fn written(sink: &mut MemSink) -> (Option<WriteFault>, Option<WriteFault>) {
 fn no_write_follows_one_that_failed(rt: HostRuntime) -> Result<(), Fail> {
     let mut sink = sink(rt.alloc(), 100, &[5], &[2, 4])?;
     let five = Some(WriteFault { written: 5 });
-    assert_eq!(rt; written(&mut sink), (five, five));
-    assert_eq!(rt; sink.bytes(), b"IGESCIGESC".as_slice());
+    same(&rt, &written(&mut sink), &(five, five));
+    same(&rt, &sink.bytes(), &b"IGESCIGESC".as_slice());
     Ok(())
 }
 
 #[test]
 fn a_full_sink_fails(rt: HostRuntime) -> Result<(), Fail> {
     let mut sink = sink(rt.alloc(), 13, &[], &[])?;
-    assert_eq!(rt; written(&mut sink), (None, Some(WriteFault { written: 2 })));
-    assert_eq!(rt; sink.bytes(), b"IGESCERT 1\nIG".as_slice());
+    same(
+        &rt,
+        &written(&mut sink),
+        &(None, Some(WriteFault { written: 2 })),
+    );
+    same(&rt, &sink.bytes(), &b"IGESCERT 1\nIG".as_slice());
     Ok(())
 }
 
@@ -103,16 +97,17 @@ fn a_file_is_read(rt: HostRuntime) -> Result<(), Fail> {
     let mut file = open_source(&rt, path);
     let bytes = read_all(rt.alloc(), &mut file, 100).ok();
     fs::remove_file(&rt, path)?;
-    assert_eq!(rt; bytes.as_ref().map(|b| b.as_slice()), Some(TEXT));
+    same(&rt, &bytes.as_ref().map(|b| b.as_slice()), &Some(TEXT));
     Ok(())
 }
 
 #[test]
 fn a_file_that_is_not_there_fails(rt: HostRuntime) {
     let mut file = open_source(&rt, "no/such/file.igs");
-    assert_eq!(rt;
-        read_all(rt.alloc(), &mut file, 100).err(),
-        Some(ReadAll::ReadFault)
+    same(
+        &rt,
+        &read_all(rt.alloc(), &mut file, 100).err(),
+        &Some(ReadAll::ReadFault),
     );
 }
 
@@ -120,14 +115,15 @@ fn a_file_that_is_not_there_fails(rt: HostRuntime) {
 fn no_file_ends_at_once(rt: HostRuntime) {
     let mut none = no_source::<File>();
     let bytes = read_all(rt.alloc(), &mut none, 0).ok();
-    assert_eq!(rt; bytes.map(|b| b.as_slice().len()), Some(0));
+    same(&rt, &bytes.map(|b| b.as_slice().len()), &Some(0));
 }
 
 #[test]
 fn standard_output_takes_a_text(rt: HostRuntime) {
     let mut out = std_sink(io::writer(&rt));
-    assert_eq!(rt;
-        write_all(&mut out, b"written to standard output\n"),
-        Ok(())
+    same(
+        &rt,
+        &write_all(&mut out, b"written to standard output\n"),
+        &Ok(()),
     );
 }

@@ -1,29 +1,46 @@
+use crate::comparing::same;
 use iges_directory::{Directory, DirectoryFault, directory};
 use iges_fields::EntryNo;
 use iges_lines::{LineFault, Reason, Sections, sections};
 use std::alloc::Global;
 use std::test::Fail;
 
+// A file of one entry, in front of the type in the entry's second line, and behind it.
+const FRONT: &[u8] =
+    b"tiny                                                                    S      1\n1H,,1H;;                                                                G      1\n     186       1       0       0       0       0       0       000000000D      1\n";
+
+const BACK: &[u8] =
+    b"       0       0       1       0                               0D      2\n186,0,1,0;                                                             1P      1\nS      1G      1D      2P      1                                        T      1\n";
+
 // The sections of a file of one entry, whose second line has this type.
-fn one_entry(alloc: Global, kind: &[u8; 8]) -> Result<Sections, DirectoryFault> {
-    let mut text =
-        *b"tiny                                                                    S      1\n1H,,1H;;                                                                G      1\n     186       1       0       0       0       0       0       000000000D      1\n     186       0       0       1       0                               0D      2\n186,0,1,0;                                                             1P      1\nS      1G      1D      2P      1                                        T      1\n";
-    text[243..251].copy_from_slice(kind);
-    sections(alloc, &text)
+fn one_entry(alloc: Global, kind: &[u8]) -> Result<Sections, Fail> {
+    let mut text = Vec::new(alloc);
+    text.extend_from_slice(FRONT)?;
+    text.extend_from_slice(kind)?;
+    text.extend_from_slice(BACK)?;
+    if text.len() > 600 {
+        return Err(Fail::from("too long"));
+    }
+    Ok(sections(alloc, text.as_slice())?)
 }
 
-fn entries(alloc: Global, kind: &[u8; 8]) -> Result<Directory, DirectoryFault> {
+// The entries of sections; no clause goes further.
+fn entries_of(alloc: Global, s: &Sections) -> Result<Directory, DirectoryFault> {
+    directory(alloc, s)
+}
+
+fn entries(alloc: Global, kind: &[u8]) -> Result<Directory, Fail> {
     let s = one_entry(alloc, kind)?;
-    directory(alloc, &s)
+    Ok(entries_of(alloc, &s)?)
 }
 
 #[test]
 fn entry_of_a_solid(rt: HostRuntime) -> Result<(), Fail> {
     let d = entries(rt.alloc(), b"     186")?;
-    assert_eq!(rt; d.count(), 1);
+    same(&rt, &d.count(), &1);
     let placed = d.placed(EntryNo(1)).ok_or("no entry 1")?;
-    assert_eq!(rt; placed.entry.kind, 186);
-    assert_eq!(rt; placed.count, 1);
+    same(&rt, &placed.entry.kind, &186);
+    same(&rt, &placed.count, &1);
     Ok(())
 }
 
@@ -36,10 +53,12 @@ fn numbers_that_name_no_entry(rt: HostRuntime) -> Result<(), Fail> {
 }
 
 #[test]
-fn two_types(rt: HostRuntime) {
+fn two_types(rt: HostRuntime) -> Result<(), Fail> {
+    let s = one_entry(rt.alloc(), b"     110")?;
     let fault = LineFault {
         line: 4,
         reason: Reason::TypesDiffer,
     };
-    assert!(rt; entries(rt.alloc(), b"     110").err() == Some(DirectoryFault::Bad(fault)));
+    assert!(rt; entries_of(rt.alloc(), &s).err() == Some(DirectoryFault::Bad(fault)));
+    Ok(())
 }

@@ -1,9 +1,10 @@
 ghost use Rattle.iges_fields.specs.InLine.{is_in_line};
 ghost use Rattle.std.specs.Prelude.{IsTrue};
 
+use crate::comparing::same;
 use iges_fields::{
-    Bytes, Delimiters, FieldFault, FieldReason, ItemList, Out, Spelling, SpellingFault, Value,
-    Values, ValuesFault, column_number, values, write_number, write_value,
+    Bytes, Delimiters, FieldFault, FieldReason, ItemList, NoMemory, Out, Spelling, SpellingFault,
+    Value, Values, ValuesFault, column_number, values, write_number, write_value,
 };
 use std::alloc::Global;
 use std::test::Fail;
@@ -30,40 +31,39 @@ fn fault(at: usize, reason: FieldReason) -> Option<FieldFault> {
     Some(FieldFault { at, reason })
 }
 
-fn is_integer(value: Option<&Value>, expected: i64) -> bool {
-    match value {
-        Some(Value::Int(n)) => *n == expected,
-        _ => false,
+fn integer(value: Option<&Value>) -> Option<i64> {
+    match value? {
+        Value::Int(n) => Some(*n),
+        _ => None,
     }
 }
 
-fn is_real(value: Option<&Value>, word: &[u8]) -> bool {
-    match value {
-        Some(Value::Real(spelling)) => spelling.as_slice() == word,
-        _ => false,
+fn real(value: Option<&Value>) -> Option<&[u8]> {
+    match value? {
+        Value::Real(word) => Some(word.as_slice()),
+        _ => None,
     }
 }
 
-fn is_text(value: Option<&Value>, bytes: &[u8]) -> bool {
-    match value {
-        Some(Value::Text(text)) => text.as_slice() == bytes,
-        _ => false,
+fn text(value: Option<&Value>) -> Option<&[u8]> {
+    match value? {
+        Value::Text(bytes) => Some(bytes.as_slice()),
+        _ => None,
     }
 }
 
 #[test]
 fn eight_values_are_read(rt: HostRuntime) -> Result<(), Fail> {
-    let text = b"502/ 1 /1.D0/-.5/1E3/0/3Ha/#/#";
-    let (list, used) = read(rt.alloc(), text, b'/', b'#')?;
-    assert_eq!(rt; list.len(), 8);
-    assert_eq!(rt; used, 30);
-    assert!(rt; is_integer(list.get(0), 502));
-    assert!(rt; is_integer(list.get(1), 1));
-    assert!(rt; is_real(list.get(2), b"1.D0"));
-    assert!(rt; is_real(list.get(3), b"-.5"));
-    assert!(rt; is_real(list.get(4), b"1E3"));
-    assert!(rt; is_integer(list.get(5), 0));
-    assert!(rt; is_text(list.get(6), b"a/#"));
+    let bytes = b"502/ 1 /1.D0/-.5/1E3/0/3Ha/#/#";
+    let (list, used) = read(rt.alloc(), bytes, b'/', b'#')?;
+    same(&rt, &(list.len(), used), &(8, 30));
+    same(&rt, &integer(list.get(0)), &Some(502));
+    same(&rt, &integer(list.get(1)), &Some(1));
+    same(&rt, &real(list.get(2)), &Some(b"1.D0".as_slice()));
+    same(&rt, &real(list.get(3)), &Some(b"-.5".as_slice()));
+    same(&rt, &real(list.get(4)), &Some(b"1E3".as_slice()));
+    same(&rt, &integer(list.get(5)), &Some(0));
+    same(&rt, &text(list.get(6)), &Some(b"a/#".as_slice()));
     assert!(rt; matches!(list.get(7), Some(Value::Default)));
     Ok(())
 }
@@ -71,82 +71,117 @@ fn eight_values_are_read(rt: HostRuntime) -> Result<(), Fail> {
 #[test]
 fn one_value_is_left_out(rt: HostRuntime) -> Result<(), Fail> {
     let (list, used) = read(rt.alloc(), b";", b',', b';')?;
-    assert_eq!(rt; list.len(), 1);
-    assert_eq!(rt; used, 1);
+    same(&rt, &list.len(), &1);
+    same(&rt, &used, &1);
     Ok(())
 }
 
 #[test]
 fn a_text_is_too_short(rt: HostRuntime) {
-    assert_eq!(rt;
-        fault_of(rt.alloc(), b"9Hab,"),
-        fault(0, FieldReason::TextTooShort)
+    same(
+        &rt,
+        &fault_of(rt.alloc(), b"9Hab,"),
+        &fault(0, FieldReason::TextTooShort),
     );
 }
 
 #[test]
 fn a_blank_stands_inside(rt: HostRuntime) {
-    assert_eq!(rt;
-        fault_of(rt.alloc(), b"1 2;"),
-        fault(0, FieldReason::BadValue)
+    same(
+        &rt,
+        &fault_of(rt.alloc(), b"1 2;"),
+        &fault(0, FieldReason::BadValue),
     );
 }
 
 #[test]
 fn an_integer_is_too_large(rt: HostRuntime) {
     let text = b" 9223372036854775808;";
-    assert_eq!(rt;
-        fault_of(rt.alloc(), text),
-        fault(1, FieldReason::IntTooLarge)
+    same(
+        &rt,
+        &fault_of(rt.alloc(), text),
+        &fault(1, FieldReason::IntTooLarge),
     );
 }
 
 #[test]
 fn no_record_ends(rt: HostRuntime) {
-    assert_eq!(rt;
-        fault_of(rt.alloc(), b"1,2"),
-        fault(3, FieldReason::NoRecordEnd)
+    same(
+        &rt,
+        &fault_of(rt.alloc(), b"1,2"),
+        &fault(3, FieldReason::NoRecordEnd),
     );
-    assert_eq!(rt;
-        fault_of(rt.alloc(), b""),
-        fault(0, FieldReason::NoRecordEnd)
+    same(
+        &rt,
+        &fault_of(rt.alloc(), b""),
+        &fault(0, FieldReason::NoRecordEnd),
     );
+}
+
+// No clause goes further.
+fn spelling(alloc: Global, word: &[u8]) -> Result<Spelling, SpellingFault> {
+    Spelling::of(alloc, word)
 }
 
 #[test]
 fn a_real_has_digits_behind_its_letter(rt: HostRuntime) -> Result<(), Fail> {
-    let real = Spelling::of(rt.alloc(), b"1.D0")?;
-    assert_eq!(rt; real.as_slice(), b"1.D0".as_slice());
-    assert_eq!(rt;
-        Spelling::of(rt.alloc(), b"1.E").err(),
-        Some(SpellingFault::NotReal)
+    let word = spelling(rt.alloc(), b"1.D0")?;
+    same(&rt, &word.as_slice(), &b"1.D0".as_slice());
+    same(
+        &rt,
+        &spelling(rt.alloc(), b"1.E").err(),
+        &Some(SpellingFault::NotReal),
     );
     Ok(())
 }
 
 #[test]
 fn a_column_is_padded(rt: HostRuntime) {
-    assert_eq!(rt; column_number(b"  -7    "), Some(-7));
-    assert_eq!(rt; column_number(b"1 1"), None);
+    same(&rt, &column_number(b"  -7    "), &Some(-7));
+    same(&rt, &column_number(b"1 1"), &None);
+}
+
+// A text that begins with x, with a number and two values behind it.
+fn written(alloc: Global) -> Result<Bytes, Fail> {
+    let mut out = Out::new(alloc);
+    out.put(b"x")?;
+    put_number(&mut out, 40)?;
+    put_value(&mut out, &Value::Int(-7))?;
+    put_value(&mut out, &Value::Text(Bytes::copy(alloc, b"a/#")?))?;
+    Ok(out.into_bytes())
+}
+
+// No clause of the calls goes further.
+fn put_number(out: &mut Out, n: u64) -> Result<(), NoMemory> {
+    write_number(out, n)
+}
+
+fn put_value(out: &mut Out, value: &Value) -> Result<(), NoMemory> {
+    write_value(out, value)
 }
 
 #[test]
 fn values_are_written(rt: HostRuntime) -> Result<(), Fail> {
-    let mut out = Out::new(rt.alloc());
-    out.put(b"x")?;
-    write_number(&mut out, 40)?;
-    write_value(&mut out, &Value::Int(-7))?;
-    write_value(&mut out, &Value::Text(Bytes::copy(rt.alloc(), b"a/#")?))?;
-    assert_eq!(rt; out.into_bytes().as_slice(), b"x40-73Ha/#".as_slice());
+    let text = written(rt.alloc())?;
+    same(&rt, &text.as_slice(), &b"x40-73Ha/#".as_slice());
     Ok(())
+}
+
+fn one_number(alloc: Global) -> Result<ItemList<u32>, NoMemory> {
+    let mut numbers = ItemList::new(alloc);
+    numbers.push(7)?;
+    Ok(numbers)
+}
+
+fn one_value(alloc: Global) -> Result<Values, NoMemory> {
+    let mut list = Values::new(alloc);
+    list.push(Value::Int(3).copy(alloc)?)?;
+    Ok(list)
 }
 
 #[test]
 fn lists_grow(rt: HostRuntime) -> Result<(), Fail> {
-    let mut numbers = ItemList::new(rt.alloc());
-    numbers.push(7u32)?;
-    let mut list = Values::new(rt.alloc());
-    list.push(Value::Int(3).copy(rt.alloc())?)?;
-    assert_eq!(rt; numbers.len() + list.len(), 2);
+    same(&rt, &one_number(rt.alloc())?.len(), &1);
+    same(&rt, &one_value(rt.alloc())?.len(), &1);
     Ok(())
 }

@@ -1,8 +1,8 @@
-ghost use Rattle.std.specs.Prelude.{◌≤◌, length};
-
+use crate::comparing::same;
+use crate::texts::read;
 use entry_references::{EntryList, RefFault, references};
 use iges_fields::EntryNo;
-use iges_params::{File, ReadFileFault, read_file};
+use iges_params::File;
 use std::alloc::Global;
 use std::test::Fail;
 
@@ -10,15 +10,13 @@ use std::test::Fail;
 const ONE_SOLID: &[u8] =
     b"                                                                        S      1\n1H,,1H;;                                                                G      1\n     186       1       0       0       0       0       9       000000000D      1\n     186       0      -7       1       0                               0D      2\n     514       2       0       0       0       0       0       000000000D      3\n     514       0       0       1       1                               0D      4\n     406       3       0       0       0       0       0       000000000D      5\n     406       0       0       1      15                               0D      6\n     314       4       0       0       0       0       0       000000000D      7\n     314       0       0       1       0                               0D      8\n     124       5       0       0       0       0       0       000000000D      9\n     124       0       0       1       0                               0D     10\n     114       6       0       0       0       0       0       000000000D     11\n     114       0       0       1       0                               0D     12\n186,3,1,0,0,1,5;                                                       1P      1\n514,1,11,1;                                                            3P      2\n406,1,4HBALL;                                                          5P      3\n314,100.,0.,0.,3Hred;                                                  7P      4\n124,1.,0.,0.,0.,0.,1.,0.,0.,0.,0.,1.,0.;                               9P      5\n114,1,2;                                                              11P      6\nS      1G      1D     12P      6                                        T      1\n";
 
-// The file of a text; no clause goes further.
-fn read(alloc: Global, text: &[u8]) -> Result<File, ReadFileFault>
-    requires { length text.now ≤ 5000 }
-{
-    read_file(alloc, text)
+// Has no clause, so that no goal holds the text.
+fn text() -> &'static [u8] {
+    ONE_SOLID
 }
 
 fn one_solid(alloc: Global) -> Result<File, Fail> {
-    Ok(read(alloc, ONE_SOLID)?)
+    read(alloc, text())
 }
 
 fn listed(alloc: Global, file: &File, no: u32) -> Result<EntryList, RefFault> {
@@ -29,10 +27,7 @@ fn listed(alloc: Global, file: &File, no: u32) -> Result<EntryList, RefFault> {
 }
 
 fn reference(list: &EntryList, i: usize) -> Option<u32> {
-    match list.get(i) {
-        Some(no) => Some(no.0),
-        None => None,
-    }
+    Some(list.get(i)?.0)
 }
 
 #[test]
@@ -43,20 +38,21 @@ fn a_solid_refers_to_its_shell_its_name_its_colour_and_its_matrix(
     let Ok(list) = listed(rt.alloc(), &file, 1) else {
         return Err(Fail::from("no references"));
     };
-    assert_eq!(rt; reference(&list, 0), Some(3));
-    assert_eq!(rt; reference(&list, 1), Some(5));
-    assert_eq!(rt; reference(&list, 2), Some(7));
-    assert_eq!(rt; reference(&list, 3), Some(9));
-    assert_eq!(rt; reference(&list, 4), None);
+    same(&rt, &reference(&list, 0), &Some(3));
+    same(&rt, &reference(&list, 1), &Some(5));
+    same(&rt, &reference(&list, 2), &Some(7));
+    same(&rt, &reference(&list, 3), &Some(9));
+    same(&rt, &reference(&list, 4), &None);
     Ok(())
 }
 
 #[test]
 fn a_type_that_is_not_listed_has_no_references(rt: HostRuntime) -> Result<(), Fail> {
     let file = one_solid(rt.alloc())?;
-    assert_eq!(rt;
-        listed(rt.alloc(), &file, 11).err(),
-        Some(RefFault::Unlisted)
+    same(
+        &rt,
+        &listed(rt.alloc(), &file, 11).err(),
+        &Some(RefFault::Unlisted),
     );
     Ok(())
 }

@@ -1,37 +1,15 @@
-ghost use Rattle.std.specs.Prelude.{◌≤◌, length};
+ghost use Rattle.std.specs.Prelude.{◌≤◌};
 
-use iges_directory::Entry;
-use iges_fields::{Bytes, Delimiters, Values};
-use iges_params::{File, Global26, ReadFileFault, read_file};
+use crate::comparing::same;
+use crate::texts::{counts, made, read};
+use iges_fields::Bytes;
+use iges_params::File;
 use iges_write::{WriteFileFault, write_file};
 use std::alloc::Global;
 use std::test::Fail;
 
-const POINT: Entry = Entry {
-    kind: 116,
-    structure: 0,
-    font: 0,
-    level: 0,
-    view: 0,
-    matrix: 0,
-    display: 0,
-    weight: 0,
-    colour: 0,
-    form: 0,
-    subscript: 0,
-    status: *b"00000000",
-    label: *b"        ",
-};
-
 const TINY: &[u8] =
     b"tiny                                                                    S      1\n1H,,1H;;                                                                G      1\n     186       1       0       0       0       0       0       000000000D      1\n     186       0       0       1       0                               0D      2\n186,0,1,0;                                                             1P      1\nS      1G      1D      2P      1                                        T      1\n";
-
-// The file of a text; no clause goes further.
-fn read(alloc: Global, text: &[u8]) -> Result<File, ReadFileFault>
-    requires { length text.now ≤ 20_000 }
-{
-    read_file(alloc, text)
-}
 
 // The canonical text of a file; no clause goes further.
 fn written(alloc: Global, file: &File, limit: u64) -> Result<Bytes, WriteFileFault>
@@ -40,22 +18,31 @@ fn written(alloc: Global, file: &File, limit: u64) -> Result<Bytes, WriteFileFau
     write_file(alloc, file, limit)
 }
 
-// The canonical text of the file that a text is.
-fn again(alloc: Global, text: &[u8]) -> Result<Bytes, Fail>
-    requires { length text.now ≤ 20_000 }
-{
+// Whether the canonical text of the file that a text is is this one.
+fn becomes(alloc: Global, text: &[u8], canonical: &[u8]) -> Result<bool, Fail> {
     let file = read(alloc, text)?;
-    Ok(written(alloc, &file, 20_000)?)
+    Ok(written(alloc, &file, 20_000)?.as_slice() == canonical)
+}
+
+fn is_the_same_again(alloc: Global, text: &[u8]) -> Result<bool, Fail> {
+    becomes(alloc, text, text)
+}
+
+// How many bytes the canonical text of the file that a text is has, if it may have so many.
+fn length_within(alloc: Global, text: &[u8], limit: u64) -> Result<Option<usize>, Fail> {
+    let file = read(alloc, text)?;
+    match written(alloc, &file, limit.min(20_000)) {
+        Ok(text) => Ok(Some(text.as_slice().len())),
+        Err(WriteFileFault::TooLarge) => Ok(None),
+        Err(_) => Err(Fail::from("no memory")),
+    }
 }
 
 #[test]
 fn the_tiny_file_has_486_bytes(rt: HostRuntime) -> Result<(), Fail> {
-    let file = read(rt.alloc(), TINY)?;
-    assert_eq!(rt; written(rt.alloc(), &file, 486)?.as_slice(), TINY);
-    assert_eq!(rt;
-        written(rt.alloc(), &file, 485).err(),
-        Some(WriteFileFault::TooLarge)
-    );
+    assert!(rt; is_the_same_again(rt.alloc(), TINY)?);
+    same(&rt, &length_within(rt.alloc(), TINY, 486)?, &Some(486));
+    same(&rt, &length_within(rt.alloc(), TINY, 485)?, &None);
     Ok(())
 }
 
@@ -69,7 +56,7 @@ const FILLED: &[u8] =
 
 #[test]
 fn a_text_crosses_lines(rt: HostRuntime) -> Result<(), Fail> {
-    assert_eq!(rt; again(rt.alloc(), LOOSE)?.as_slice(), FILLED);
+    assert!(rt; becomes(rt.alloc(), LOOSE, FILLED)?);
     Ok(())
 }
 
@@ -79,7 +66,7 @@ const ODD: &[u8] =
 
 #[test]
 fn a_long_word_begins_a_line(rt: HostRuntime) -> Result<(), Fail> {
-    assert_eq!(rt; again(rt.alloc(), ODD)?.as_slice(), ODD);
+    assert!(rt; is_the_same_again(rt.alloc(), ODD)?);
     Ok(())
 }
 
@@ -89,7 +76,7 @@ const ONE_VERTEX: &[u8] =
 
 #[test]
 fn a_ball_at_one_vertex_is_the_same_again(rt: HostRuntime) -> Result<(), Fail> {
-    assert_eq!(rt; again(rt.alloc(), ONE_VERTEX)?.as_slice(), ONE_VERTEX);
+    assert!(rt; is_the_same_again(rt.alloc(), ONE_VERTEX)?);
     Ok(())
 }
 
@@ -99,41 +86,26 @@ const BALL: &[u8] =
 
 #[test]
 fn a_ball_is_the_same_again(rt: HostRuntime) -> Result<(), Fail> {
-    assert_eq!(rt; again(rt.alloc(), BALL)?.as_slice(), BALL);
+    assert!(rt; is_the_same_again(rt.alloc(), BALL)?);
     Ok(())
 }
 
-// Two blank start lines and one point.
+// Two blank start lines and one point, which is also made call by call.
 const TWO_LINES: &[u8] =
     b"                                                                        S      1\n                                                                        S      2\n1H,,1H;;                                                                G      1\n     116       1       0       0       0       0       0       000000000D      1\n     116       0       0       1       0                               0D      2\n116;                                                                   1P      1\nS      2G      1D      2P      1                                        T      1\n";
-
-// The file with this text, made call by call.
-fn made(alloc: Global) -> Result<File, Fail> {
-    let line = [b' '; 72];
-    let delims = Delimiters::new(b',', b';').ok_or("no delimiters")?;
-    let global = Global26 {
-        delims,
-        values: Values::new(alloc),
-    };
-    let mut file = File::new(alloc, &line, global)?;
-    file.push_start(&line)?;
-    file.push(POINT, Values::new(alloc))?;
-    Ok(file)
-}
 
 #[test]
 fn a_made_file_is_written(rt: HostRuntime) -> Result<(), Fail> {
     let file = made(rt.alloc())?;
     let text = written(rt.alloc(), &file, 567)?;
-    assert_eq!(rt; text.as_slice(), TWO_LINES);
+    same(&rt, &text.as_slice(), &TWO_LINES);
     Ok(())
 }
 
 #[test]
 fn a_made_file_reads_back(rt: HostRuntime) -> Result<(), Fail> {
     let file = read(rt.alloc(), TWO_LINES)?;
-    assert_eq!(rt; file.start_count(), 2);
-    assert_eq!(rt; file.entry_count(), 1);
+    same(&rt, &counts(&file), &(2, 1));
     Ok(())
 }
 
@@ -143,7 +115,7 @@ const TWO_SOLIDS: &[u8] =
 
 #[test]
 fn two_solids_are_the_same_again(rt: HostRuntime) -> Result<(), Fail> {
-    assert_eq!(rt; again(rt.alloc(), TWO_SOLIDS)?.as_slice(), TWO_SOLIDS);
+    assert!(rt; is_the_same_again(rt.alloc(), TWO_SOLIDS)?);
     Ok(())
 }
 
@@ -153,7 +125,7 @@ const CYLINDER: &[u8] =
 
 #[test]
 fn a_cylinder_is_the_same_again(rt: HostRuntime) -> Result<(), Fail> {
-    assert_eq!(rt; again(rt.alloc(), CYLINDER)?.as_slice(), CYLINDER);
+    assert!(rt; is_the_same_again(rt.alloc(), CYLINDER)?);
     Ok(())
 }
 
@@ -163,7 +135,7 @@ const TETRAHEDRA: &[u8] =
 
 #[test]
 fn two_tetrahedra_are_the_same_again(rt: HostRuntime) -> Result<(), Fail> {
-    assert_eq!(rt; again(rt.alloc(), TETRAHEDRA)?.as_slice(), TETRAHEDRA);
+    assert!(rt; is_the_same_again(rt.alloc(), TETRAHEDRA)?);
     Ok(())
 }
 
@@ -173,7 +145,7 @@ const CUBE: &[u8] =
 
 #[test]
 fn a_cube_is_the_same_again(rt: HostRuntime) -> Result<(), Fail> {
-    assert_eq!(rt; again(rt.alloc(), CUBE)?.as_slice(), CUBE);
+    assert!(rt; is_the_same_again(rt.alloc(), CUBE)?);
     Ok(())
 }
 
@@ -183,6 +155,6 @@ const CUBE_VOID: &[u8] =
 
 #[test]
 fn a_cube_with_a_void_is_the_same_again(rt: HostRuntime) -> Result<(), Fail> {
-    assert_eq!(rt; again(rt.alloc(), CUBE_VOID)?.as_slice(), CUBE_VOID);
+    assert!(rt; is_the_same_again(rt.alloc(), CUBE_VOID)?);
     Ok(())
 }

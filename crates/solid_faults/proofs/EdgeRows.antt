@@ -10,7 +10,7 @@ use Rattle.edge_uses.specs.Ranges.{IsWithin, IsSpanOf}
 use Rattle.edge_uses.specs.ShellRows.{ShellRows, AreRows}
 use Rattle.edge_uses.proofs.Mating.{rows_within}
 use Rattle.solid_faults.specs.Edges.{row_on, rows_on_edge}
-use Rattle.solid_faults.specs.Groups.{place_if, places_of}
+use Rattle.edge_components.specs.Groups.{place_if, places_of}
 
 abbrev pub edge_of_row : Row → ℕ
 edge_of_row r = r.edge.0

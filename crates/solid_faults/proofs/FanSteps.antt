@@ -15,7 +15,7 @@ use Rattle.edge_uses.proofs.Tallies.{one_if, set_same, set_other}
 use Rattle.edge_uses.specs.Closed.{point_count}
 use Rattle.solid_faults.specs.declared.fan.Unlinked.{Unlinked}
 use Rattle.solid_faults.specs.Fans.{fans_from, fan_count, added, AreFanCounts, ArePointCounts, unlinked_at, vertex_unlinked}
-use Rattle.solid_faults.proofs.Joined.{has_place}
+use Rattle.edge_components.proofs.Joined.{has_place}
 
 abbrev pub vertex_of : LoopAt × ℕ → ℕ
 vertex_of p = p.1

@@ -4,7 +4,6 @@ pub mod GapSteps
 pub mod Counted
 pub mod SharedSteps
 pub mod Reached
-pub mod Joined
 pub mod PartLemmas
 pub mod TurnBack
 pub mod FanLemmas
@@ -14,9 +13,6 @@ pub mod Definite
 pub mod FanSteps
 pub mod Assembled
 pub mod Flagged
-pub mod Counting
 pub mod EdgeRows
-pub mod GroupSteps
 pub mod Placed
-pub mod RisenLists
 pub mod PartSteps

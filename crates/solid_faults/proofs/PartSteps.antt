@@ -28,14 +28,14 @@ use Rattle.edge_uses.proofs.Above.{shell_flat}
 use Rattle.edge_uses.proofs.Occurs.{from_occurring}
 use Rattle.edge_uses.proofs.Whole.{few_edges, vertices_known}
 use Rattle.solid_faults.specs.Edges.{unpaired_at, edge_unpaired, unpaired_of}
-use Rattle.solid_faults.specs.FaceUses.{loop_edges, face_edges}
+use Rattle.edge_components.specs.FaceUses.{loop_edges, face_edges}
 use Rattle.solid_faults.specs.PartFacts.{faces_where, faces_before, part_faces, part_vertices, part_touching}
 use Rattle.solid_faults.specs.PartTables.{faces_numbered, low_vertex, AreLows}
-use Rattle.solid_faults.specs.Groups.{place_if, places_of}
+use Rattle.edge_components.specs.Groups.{place_if, places_of}
 use Rattle.solid_faults.specs.Parts.{ShareEdge, AreParts}
-use Rattle.solid_faults.specs.Trees.{AreTrees}
+use Rattle.edge_components.specs.Trees.{AreTrees}
 use Rattle.solid_faults.specs.declared.edge.Unpaired.{Unpaired}
-use Rattle.solid_faults.proofs.RisenLists.{kept_occurring, occurring_short}
+use Rattle.edge_components.proofs.RisenLists.{kept_occurring, occurring_short}
 
 -- a number is among some exactly where it has a place
 places_from : (n i : ℕ) (xs : List ℕ) → list_any (λ m. m == n) xs ≡ false → flat_map (place_if n) (enumerate_from i xs) ≡ []

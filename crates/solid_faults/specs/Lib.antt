@@ -1,8 +1,10 @@
+pub use Rattle.edge_components.specs.Components
+pub use Rattle.edge_components.specs.Trees
+pub use Rattle.edge_components.specs.Groups
+pub use Rattle.edge_components.specs.FaceUses
 pub mod Failing
 pub mod Gaps
 pub mod Edges
-pub mod Components
-pub mod Trees
 pub mod Parts
 pub mod Fans
 pub mod Faults
@@ -12,8 +14,6 @@ pub mod TurnPairs
 pub mod Naming
 pub mod FaceFlags
 pub mod RowPlaces
-pub mod Groups
 pub mod UseCounts
-pub mod FaceUses
 pub mod PartFacts
 pub mod PartTables

@@ -6,7 +6,7 @@ use Rattle.solid_data.specs.SolidData.{SolidData, occurring}
 use Rattle.solid_data.specs.declared.solid.FaceUse.{FaceUse}
 use Rattle.solid_data.specs.declared.solid.Shell.{Shell}
 use Rattle.edge_uses.specs.Before.{face_vertices}
-use Rattle.solid_faults.specs.FaceUses.{face_edges}
+use Rattle.edge_components.specs.FaceUses.{face_edges}
 use Rattle.solid_faults.specs.declared.edge.Unpaired.{Unpaired}
 use Rattle.solid_faults.specs.declared.parting.Part.{Part}
 

@@ -3,9 +3,9 @@
 ghost use Rattle.std.specs.Prelude.{◌≡◌, ℕ, ◌+◌, ◌<◌, ◌≤◌, ◌^◌, IfOk, length, map, slice_get};
 ghost use Rattle.edge_uses.specs.declared.row.Row.{Row as AnyRow};
 ghost use Rattle.solid_faults.specs.Edges.{rows_on_edge};
-ghost use Rattle.solid_faults.specs.Groups.{places_of};
+ghost use Rattle.edge_components.specs.Groups.{places_of};
 
-use crate::grouping::{Groups, grouped};
+use edge_components::{Groups, grouped};
 use edge_uses::{Row, Rows};
 use iges_fields::NoMemory;
 use solid_data::RowId;

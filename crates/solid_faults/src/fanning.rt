@@ -6,7 +6,7 @@ ghost use Rattle.edge_uses.specs.Mates.{ArePaired};
 ghost use Rattle.solid_faults.specs.Fans.{AreFans};
 ghost use Rattle.solid_faults.specs.TurnPairs.{AreTurns};
 
-use crate::joining::components;
+use edge_components::components;
 use edge_uses::Paired;
 use iges_fields::NoMemory;
 use solid_data::RowId;

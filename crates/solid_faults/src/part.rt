@@ -7,7 +7,7 @@ ghost use Rattle.solid_faults.specs.PartPairs.{chosen_row, chosen_face, part_pai
 ghost use Rattle.solid_faults.specs.Parts.{AreParts};
 ghost use Rattle.solid_faults.specs.Tallied.{AreTallied};
 
-use crate::joining::components;
+use edge_components::components;
 use edge_uses::{Row, Rows, Seen, Tally, tally_of};
 use iges_fields::NoMemory;
 use solid_data::RowId;

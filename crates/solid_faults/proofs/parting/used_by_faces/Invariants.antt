@@ -1,6 +1,6 @@
 use Rattle.std.proofs.Common.{◌≡◌, ◌++◌, drop, flat_map}
 use Rattle.edge_uses.specs.Before.{face_vertices}
-use Rattle.solid_faults.specs.FaceUses.{face_edges}
+use Rattle.edge_components.specs.FaceUses.{face_edges}
 use Rattle.solid_faults.specs.PartTables.{faces_numbered}
 use Rattle.solid_faults.proofs.parting.used_by_faces.Given as goal
 

@@ -4,8 +4,8 @@ use Rattle.solid_data.specs.SolidData.{occurring}
 use Rattle.solid_data.specs.declared.solid.FaceUse.{FaceUse}
 use Rattle.edge_uses.specs.Before.{face_vertices}
 use Rattle.edge_uses.specs.Ranges.{IsWithin}
-use Rattle.solid_faults.specs.FaceUses.{face_edges}
-use Rattle.solid_faults.specs.Groups.{places_of}
+use Rattle.edge_components.specs.FaceUses.{face_edges}
+use Rattle.edge_components.specs.Groups.{places_of}
 use Rattle.solid_faults.specs.PartFacts.{part_faces, part_edges, part_vertices, IsPart}
 use Rattle.solid_faults.specs.PartTables.{ShellParts, low_vertex, faces_numbered}
 use Rattle.solid_faults.specs.declared.parting.Part.{Part}

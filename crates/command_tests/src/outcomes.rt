@@ -1,0 +1,66 @@
+//! Runs in which one call fails.
+
+use crate::memory::{sink, source, status_of, words};
+use iges_fields::Bytes;
+use iges_io::{MemSink, MemSource};
+use std::alloc::Global;
+use std::test::Fail;
+
+/// What a run is given: its words, the file and the certificate, and which of the two the words read.
+#[derive(Clone, Copy)]
+pub struct Given<'a> {
+    pub words: &'a [&'a str],
+    pub file: &'a [u8],
+    pub reads_file: bool,
+    pub certificate: &'a [u8],
+    pub reads_certificate: bool,
+}
+
+/// A kind of call that may fail.
+#[derive(Clone, Copy, PartialEq, Eq)]
+pub enum Call {
+    FileRead,
+    CertificateRead,
+    Write,
+}
+
+/// Which call of a kind fails, from 1, where each of them moves at most `size` bytes.
+#[derive(Clone, Copy)]
+pub struct Fails {
+    pub call: Call,
+    pub size: u64,
+    pub at: u64,
+}
+
+/// More than any text here is long.
+const ROOM: usize = 4_096;
+
+// How many bytes a call of this kind moves at most, and which one fails, from 1; 0 is none.
+fn bounds(call: Call, fails: Option<Fails>) -> (u64, u64) {
+    match fails {
+        Some(fails) if fails.call == call => (fails.size, fails.at),
+        _ => (ROOM as u64, 0),
+    }
+}
+
+fn source_of(alloc: Global, text: &[u8], bounds: (u64, u64)) -> Result<MemSource, Fail> {
+    source(alloc, text, &[bounds.0], &[bounds.1])
+}
+
+fn sink_of(alloc: Global, bounds: (u64, u64)) -> Result<MemSink, Fail> {
+    sink(alloc, ROOM, &[bounds.0], &[bounds.1])
+}
+
+/// The status of a run, and what it wrote. Calls of another kind than the one that fails move all bytes at once.
+pub fn outcome(alloc: Global, given: Given, fails: Option<Fails>) -> Result<(u8, Bytes), Fail> {
+    let words = words(alloc, given.words)?;
+    let mut file = source_of(alloc, given.file, bounds(Call::FileRead, fails))?;
+    let mut cert = source_of(
+        alloc,
+        given.certificate,
+        bounds(Call::CertificateRead, fails),
+    )?;
+    let mut out = sink_of(alloc, bounds(Call::Write, fails))?;
+    let status = status_of(alloc, &words, &mut file, &mut cert, &mut out);
+    Ok((status, Bytes::copy(alloc, out.bytes())?))
+}

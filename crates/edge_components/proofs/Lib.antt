@@ -1,0 +1,4 @@
+pub mod Joined
+pub mod Counting
+pub mod GroupSteps
+pub mod RisenLists

@@ -1,0 +1,10 @@
+//! Solids of a face or two, which tests are about.
+#![tactic(auto)]
+
+mod balls;
+mod pairs;
+mod parts;
+
+pub use balls::{open_sheet, pole_ball, seamed_ball, twice_along};
+pub use pairs::{alike_faces, half_turned_ball, touching_faces};
+pub use parts::{edge_to, face, one, shell_of, shell_of_two, two, use_of, vertex};
