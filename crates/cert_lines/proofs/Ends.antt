@@ -1,13 +1,19 @@
 -- A line that an LF ends, and a text that has begun with such lines.
-use Rattle.std.specs.Prelude.{◌≡◌, ◌≢◌, ℕ, zero, suc, ◌+◌, ◌-◌, ◌<◌, ◌≤◌, ◌==◌, ◌⊎◌, true, false, not, List, [], ◌∷◌, ◌++◌, length, map, take, drop, slice_index}
+use Rattle.std.specs.Prelude.{◌≡◌, ◌≢◌, ℕ, zero, suc, ◌+◌, ◌-◌, ◌<◌, ◌≤◌, ◌==◌, ◌⊎◌, true, false, not, List, [], ◌∷◌, ◌++◌, length, map, take, drop, slice_index, Option, Some, None, MatchOption}
 use Rattle.std.proofs.Common.{refl, sym, ◌∙◌, ap, subst, arith, inl, inr, length-append}
-use Rattle.std.proofs.lemmas.Bool.{cond-false, and_parts, and_from, not-true, not_from_false, ne_eqb, both_ways, cases_order}
+use Rattle.std.proofs.lemmas.Bool.{cond-false, and_parts, and_from, not-true, not_from_false, ne_eqb, both_ways, cases_order, eq-eqb, eqb-true}
+use Rattle.memchr.specs.Find.{IsFirstByte, is_byte}
 use Rattle.std.proofs.lemmas.List.{take_rest, take_all, length-take}
 use Rattle.iges_fields.specs.InLine.{is_in_line}
 use Rattle.iges_fields.specs.Ended.{ended, IsBegun}
 use Rattle.iges_fields.proofs.Ended.{begun_cut}
 use Rattle.cert_lines.specs.Line.{CertLine, words, cut_lines, put_before, IsSpelled, EndsWithLf, IsLine, IsLong, IsMisspelt}
 use Rattle.cert_lines.specs.Cutting.{IsFirstEnd, EndsFirst}
+
+-- what a search for LF answers
+pub first_end_of : (text : List ℕ) (r : Option ℕ) → IsFirstByte (is_byte 10) text r → MatchOption r ((k : ℕ) → k < length text → slice_index text k ≢ 10) (λ n. IsFirstEnd text n)
+first_end_of text None h = λ k lt e. h k (omega arith) lt (eq-eqb (slice_index text k) 10 e)
+first_end_of text (Some n) h = record { within = h.0.high; is_end = eqb-true (slice_index text n) 10 h.1; before = λ k lt e. h.0.before k (omega arith) lt (eq-eqb (slice_index text k) 10 e) }
 
 pub all_in_line : (text : List ℕ) → ((k : ℕ) → k < length text → slice_index text k ≢ 10) → is_in_line text ≡ true
 all_in_line [] never = refl

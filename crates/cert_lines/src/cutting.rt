@@ -5,11 +5,13 @@ ghost use Rattle.cert_lines.specs.Line.{cut_lines};
 ghost use Rattle.cert_lines.specs.Cutting.{IsFirstEnd, EndsFirst};
 ghost use Rattle.iges_fields.specs.InLine.{is_in_line};
 
+use memchr::memchr;
+
 /// Where the first LF of a text stands.
 fn first_end(text: &[u8]) -> Option<usize>
     ensures { MatchOption result ((k : ℕ) → k < length text.now → slice_index text.now k ≢ 10) (λ n. IsFirstEnd text.now n) }
 {
-    text.iter().position(|byte| *byte == b'\n')
+    memchr(b'\n', text)
 }
 
 /// How many bytes the first line of a text has, with its LF where there is one.
