@@ -164,13 +164,8 @@ impl ShellState {
         if self.edges_due != 0 || self.corners_due == 0 {
             return false;
         }
-        let Some(vertex) = read_corner(
-            &self.rows,
-            &self.sizes,
-            &self.mates,
-            self.last_vertex,
-            text,
-        ) else {
+        let Some(vertex) = read_corner(&self.rows, &self.sizes, &self.mates, self.last_vertex, text)
+        else {
             return false;
         };
         self.corners_due -= 1;

@@ -1,4 +1,3 @@
-use Rattle.std.proofs.Common.{rules}
 use Rattle.std.proofs.lemmas.Result.{err_from_is_err_and}
 use Rattle.edge_uses.specs.ShellObligations.{checked_obligations}
 use Rattle.solid_check.specs.declared.fault.CheckFault.TheVariants.{Fails}

@@ -19,8 +19,8 @@ turns-preserved c = record {
   room = omega (arith, c.turns.invariant.room, begins_shorter c.turns.rest.now c.in-Some.after.now c.in-Some.next c.in-Some.ensures);
   spaced =
       (let step = begins_more c.turns.rest.now c.in-Some.after.now c.in-Some.next c.in-Some.ensures in
-       let kept = c.turns.invariant.spaced in
-       (λ h. kept.0 (step.0 h), λ h. step.1 (kept.1 h)));
+      let kept = c.turns.invariant.spaced in
+      (λ h. kept.0 (step.0 h), λ h. step.1 (kept.1 h)));
   walked = λ pairs rs hm h.
       let on = (c.goes_on.ensures pairs hm).0 c.if-not-goes_on.false in
       walked_step c.args.rows.now pairs c.args.first c.turns.last c.in-Some.next c.turns.rest.now c.in-Some.after.now rs c.turns.count c.in-Some.ensures on.0 on.1 (c.turns.invariant.walked pairs rs hm h);
