@@ -1,16 +1,16 @@
 -- What a front of some digits is worth, and the texts of numbers.
-use Rattle.std.proofs.Common.{rules, ◌≡◌, ℕ, zero, suc, ◌+◌, ◌-◌, ◌*◌, ◌<◌, ◌≤◌, ◌^◌, List, [], ◌∷◌, ◌++◌, length, take, drop, get_or, arith, length-take, lit<, refl, sym, ◌∙◌, ap, take-append-drop}
+use Rattle.std.proofs.Common.{rules, ◌≡◌, ℕ, zero, suc, ◌+◌, ◌-◌, ◌*◌, ◌<◌, ◌≤◌, ◌^◌, List, [], ◌∷◌, ◌++◌, length, take, drop, get_or, arith, length-take, lit<, refl, sym, ◌∙◌, ap, subst, take-append-drop}
 use Rattle.std.proofs.Math.Nat.{pow-le-pow_right}
 use Rattle.std.specs.Prelude.{decimal, ◌↔◌}
 use Rattle.std.specs.Str.Parse.{AllDigits, IsNumeral, digits_value}
 use Rattle.std.proofs.lemmas.Str.{digit_value_digit}
-use Rattle.std.proofs.lemmas.Str.Parse.{numerals_by_value}
+use Rattle.std.proofs.lemmas.Str.Parse.{numerals_by_value, digit_from_value}
 use Rattle.std.specs.Char.{digit_value}
 use Rattle.std.specs.Int.{IsInRange}
 use Rattle.std.proofs.lemmas.Int.Digits.{digits_value-lt, digits_value_more}
 use Rattle.std.proofs.lemmas.Fmt.{decimal_digit, decimal_is_IsNumeral, decimal-digits_value, length-decimal-le, first_decimal, decimal_injective}
 use Rattle.cert_lines.specs.Line.{IsShort, spaced, corner}
-use Rattle.cert_lines.specs.Numbers.{IsWord, Stops, Begins, AreNumbers, IsSpaced, Spells}
+use Rattle.cert_lines.specs.Numbers.{IsWord, IsPlain, Stops, Begins, AreNumbers, IsSpaced, Spells}
 use Rattle.cert_lines.proofs.Spelling.{first_or, rest_of, split_digits, decimal_digits}
 
 pub few_digits : (bs : List ℕ) (i : ℕ) → AllDigits 10 (take i bs) → i ≤ length bs → i < 9 → digits_value 10 (take i bs) < 100000000
@@ -29,13 +29,16 @@ pub more_digits : (bs : List ℕ) (i v d : ℕ) → i < length bs → v ≡ digi
 more_digits bs i v d within value digit inside =
     omega (arith, digits_value_more 10 bs i within, worth (get_or bs i 0) inside)
 
--- a word of digits that doesn't begin with a needless 0 is its number's
-pub numeral_word : (word : List ℕ) (n : ℕ) → IsNumeral 10 word → n ≡ digits_value 10 word → length word ≤ 9 → (get_or word 0 0 ≡ 48 → length word ≡ 1) → IsShort n × (word ≡ decimal n)
-numeral_word word n numeral e few lead =
-    let below = digits_value-lt 10 word numeral.1 in
+-- plain digits are their number's
+pub numeral_word : (word : List ℕ) (n : ℕ) → AllDigits 10 word → n ≡ digits_value 10 word → length word ≤ 9 → IsPlain word → IsShort n × (word ≡ decimal n)
+numeral_word [] n digits e few plain = absurd plain
+numeral_word (b ∷ bs) n digits e few plain =
+    let word : List ℕ = b ∷ bs in
+    let below = digits_value-lt 10 word digits in
     let bound : 10 ^ length word ≤ 10 ^ 9 = pow-le-pow_right (lit< tt) few in
     let small : digits_value 10 word < 10 ^ 9 = omega (arith, below, bound) in
-    (omega (arith, small, e), sym (ap decimal e ∙ decimal-digits_value (numerals_by_value (AllDigits 10) (search rules)) word numeral.1 numeral.0 lead (omega (arith, small))))
+    let lead : get_or word 0 0 ≡ 48 → length word ≡ 1 = λ zero_first. omega (arith, plain zero_first) in
+    (omega (arith, small, e), sym (ap decimal e ∙ decimal-digits_value (numerals_by_value (AllDigits 10) (search rules)) word digits (omega arith) lead (omega (arith, small))))
 
 pub decimal_short : (n : ℕ) → IsShort n → length (decimal n) ≤ 9
 decimal_short n short = length-decimal-le 9 n (omega arith) short (omega (arith, short))
@@ -46,6 +49,33 @@ decimal_numeral n short = (decimal_is_IsNumeral n (omega (arith, short))).0
 pub decimal_lead : (n : ℕ) → IsShort n → get_or (decimal n) 0 0 ≡ 48 → length (decimal n) ≡ 1
 decimal_lead zero short e = ap length (decimal_digit 0 (omega arith))
 decimal_lead (suc n) short e = absurd (let f = first_decimal (suc n) (omega arith) (omega (arith, short)) in omega (arith, e, f))
+
+-- a number's digits are plain
+pub decimal_plain : (word : List ℕ) (n : ℕ) → IsShort n → word ≡ decimal n → IsPlain word
+decimal_plain [] n short e = let numeral = decimal_numeral n short in omega (arith, numeral.0, ap length e)
+decimal_plain (b ∷ bs) n short e = λ zero_first.
+    let first : get_or (decimal n) 0 0 ≡ 48 = subst (λ (w : List ℕ). get_or w 0 0 ≡ 48) e zero_first in
+    omega (arith, ap length e, decimal_lead n short first)
+
+digits_word : (bs : List ℕ) → AllDigits 10 bs → IsWord bs
+digits_word [] h = tt
+digits_word (b ∷ bs) h = ((digit_from_value b h.0).0, digits_word bs h.1)
+
+-- Where as many digits as have room were taken off, a number ends where they do.
+end_of_digits : (text word rest : List ℕ) (k room : ℕ) → text ≡ word ++ rest → AllDigits 10 word → Stops rest → length word ≤ room → k ≤ length text → AllDigits 10 (take k text)
+    → (k < room → k < length text → ¬ IsInRange 48 57 (get_or text k 0)) → Stops (drop k text)
+end_of_digits text [] rest zero room e w s r within digits ends = subst Stops (sym e) s
+end_of_digits [] [] rest (suc k) room e w s r within digits ends = absurd (omega (arith, within))
+end_of_digits (b ∷ bs) [] rest (suc k) room e w s r within digits ends =
+    let low : b < 48 = subst Stops (sym e) s in
+    absurd (omega (arith, low, (digit_from_value b digits.0).0))
+end_of_digits [] (x ∷ word) rest k room e w s r within digits ends = absurd (omega (arith, ap length e))
+end_of_digits (b ∷ bs) (x ∷ word) rest zero room e w s r within digits ends =
+    let same : b ≡ x = ap (first_or 0) e in
+    absurd (ends (omega (arith, r)) (omega arith) (subst (IsInRange 48 57) (sym same) (digit_from_value x w.0)))
+end_of_digits (b ∷ bs) (x ∷ word) rest (suc k) zero e w s r within digits ends = absurd (omega (arith, r))
+end_of_digits (b ∷ bs) (x ∷ word) rest (suc k) (suc room) e w s r within digits ends =
+    end_of_digits bs word rest k room (ap rest_of e) w.1 s (omega (arith, r)) (omega (arith, within)) digits.1 (λ few inside. ends (omega (arith, few)) (omega (arith, inside)))
 
 stops_first : (rest : List ℕ) → Stops rest → first_or 0 rest < 48
 stops_first [] h = omega arith
@@ -88,11 +118,26 @@ pub empty_spaced : (text : List ℕ) → length text ≡ 0 → AreNumbers text [
 empty_spaced [] h = record { short = tt; text_is = refl }
 empty_spaced (b ∷ bs) h = absurd (omega (arith, h))
 
--- A text that begins with a number is cut at its word's end.
-pub word_of : (after rest : List ℕ) (n k : ℕ) → k ≤ length after → IsWord (take k after) → Stops (drop k after) → Begins (32 ∷ after) n rest → take k after ≡ decimal n
-word_of after rest n k within word stops b =
-    let same : take k after ++ drop k after ≡ decimal n ++ rest = take-append-drop k after ∙ ap rest_of b.text_is in
-    (split_digits (take k after) (decimal n) (drop k after) rest word (decimal_digits n b.short) (stops_first (drop k after) stops) (stops_first rest b.stops) same).0
+-- A text that begins with a number is cut where its digits end.
+module _ (text after : List ℕ) (k : ℕ) (cut : text ≡ 32 ∷ after) (within : k ≤ length after) (digits : AllDigits 10 (take k after)) where
+  pub number_stops : (rest : List ℕ) (n : ℕ) → (k < 9 → k < length after → ¬ IsInRange 48 57 (get_or after k 0)) → Begins text n rest → Stops (drop k after)
+  number_stops rest n ends b =
+      end_of_digits after (decimal n) rest k 9 (ap rest_of (sym cut ∙ b.text_is)) (decimal_numeral n b.short).1 b.stops (decimal_short n b.short) within digits ends
+
+  pub number_plain : (rest : List ℕ) (n : ℕ) → Stops (drop k after) → Begins text n rest → IsPlain (take k after)
+  number_plain rest n stops b =
+      let same : take k after ++ drop k after ≡ decimal n ++ rest = take-append-drop k after ∙ ap rest_of (sym cut ∙ b.text_is) in
+      decimal_plain (take k after) n b.short
+      (split_digits (take k after) (decimal n) (drop k after) rest (digits_word (take k after) digits) (decimal_digits n b.short) (stops_first (drop k after) stops) (stops_first rest b.stops) same).0
+
+  pub number_begins : (n : ℕ) → k ≤ 9 → n ≡ digits_value 10 (take k after) → Stops (drop k after) → IsPlain (take k after) → Begins text n (drop k after)
+  number_begins n few value stops plain =
+      let word = numeral_word (take k after) n digits value (omega (arith, few, length-take k after)) plain in
+      record {
+        short = word.0;
+        stops = stops;
+        text_is = cut ∙ ap (λ (xs : List ℕ). 32 ∷ xs) (sym (take-append-drop k after) ∙ ap (λ (xs : List ℕ). xs ++ drop k after) word.1);
+      }
 
 pub corner_some : (text rest rs : List ℕ) → text ≡ 67 ∷ rest → length rest ≡ 0 → Spells text (corner rs) → ⊥
 corner_some text rest [] e none h = omega (arith, h.0.1)

@@ -1,5 +1,5 @@
 -- The numbers of a line.
-use Rattle.std.specs.Prelude.{◌≡◌, ℕ, ◌<◌, ◌≤◌, List, [], ◌∷◌, ◌++◌, decimal, ⊤}
+use Rattle.std.specs.Prelude.{◌≡◌, ℕ, ◌<◌, ◌≤◌, List, [], ◌∷◌, ◌++◌, decimal, length, ⊤}
 use Rattle.std.specs.List.{AllByRecursion}
 use Rattle.cert_lines.specs.Line.{CertLine, IsShort, HasSpelling, spaced, words}
 
@@ -11,6 +11,11 @@ IsWord bytes = AllByRecursion (λ b. 48 ≤ b) bytes
 abbrev pub Stops : List ℕ → Type 0
 Stops [] = ⊤
 Stops (b ∷ bs) = b < 48
+
+-- the bytes are there, and begin with no 0 that others follow
+abbrev pub IsPlain : List ℕ → Type 0
+IsPlain [] = ⊥
+IsPlain (b ∷ bs) = b ≡ 48 → length bs ≡ 0
 
 -- The text begins with a space and this number, and behind these stands the rest.
 pub record Begins (text : List ℕ) (n : ℕ) (rest : List ℕ) : Type 0 where

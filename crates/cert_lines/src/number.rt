@@ -1,55 +1,47 @@
 //! The numbers of a line.
 
-ghost use Rattle.std.specs.Prelude.{◌≡◌, ◌≢◌, ℕ, List, [], ◌∷◌, ◌≤◌, ◌<◌, ◌↔◌, IsTrue, length, take, drop, decimal, MatchOption, SomeIff};
-ghost use Rattle.std.specs.Str.Parse.{IsNumeral, digits_value};
-ghost use Rattle.cert_lines.specs.Line.{IsShort};
-ghost use Rattle.cert_lines.specs.Numbers.{IsWord, Stops, Begins, AreNumbers, IsSpaced};
+ghost use Rattle.std.specs.Prelude.{◌≡◌, ℕ, List, [], ◌∷◌, ◌≤◌, ◌<◌, ◌↔◌, IsTrue, length, take, slice_index, MatchOption};
+ghost use Rattle.std.specs.Int.{IsInRange};
+ghost use Rattle.std.specs.Str.Parse.{AllDigits, digits_value};
+ghost use Rattle.cert_lines.specs.Numbers.{IsPlain, Stops, Begins, AreNumbers, IsSpaced};
 
-/// How many bytes stand before the first that is below the digits.
-fn word_len(text: &[u8]) -> usize
-    ensures within { result ≤ length text.now }
-    ensures word { IsWord (take result text.now) }
-    ensures stops { Stops (drop result text.now) }
+/// The number of the digits at the start of a text, and how many they are: nine at most.
+fn leading_digits(text: &[u8]) -> (u32, usize)
+    ensures within { result.1 ≤ length text.now }
+    ensures few { result.1 ≤ 9 }
+    ensures digits { AllDigits 10 (take result.1 text.now) }
+    ensures value { result.0 ≡ digits_value 10 (take result.1 text.now) }
+    ensures ends { result.1 < 9 → result.1 < length text.now → ¬ IsInRange 48 57 (slice_index text.now result.1) }
 {
-    'bytes: for i in 0..text.len() {
-        if text[i] < b'0' {
-            return i;
+    let most = text.len().min(9);
+    let mut value = 0;
+    'digits: for i in 0..most {
+        if !text[i].is_ascii_digit() {
+            return (value, i);
         }
+        value = value * 10 + u32::from(text[i] - b'0');
     }
-    text.len()
+    (value, most)
 }
 
-fn digits_number(digits: &[u8]) -> Option<u32>
-    requires { length digits.now ≤ 9 }
-    ensures { SomeIff result (IsNumeral 10 digits.now) (digits_value 10 digits.now) }
+/// Whether no digit and nothing else that may stand in a word goes on with a number here.
+fn stops(rest: &[u8]) -> bool
+    ensures { IsTrue result ↔ Stops rest.now }
 {
-    if digits.is_empty() {
-        return None;
+    match rest.first() {
+        Some(byte) => *byte < b'0',
+        None => true,
     }
-    let mut value = 0u32;
-    'digits: for digit in digits {
-        if !digit.is_ascii_digit() {
-            return None;
-        }
-        value = value * 10 + u32::from(*digit - b'0');
-    }
-    Some(value)
 }
 
-/// The number of a word that spells one with at most nine digits.
-fn word_number(word: &[u8]) -> Option<u32>
-    ensures { MatchOption result ((n : ℕ) → IsShort n → word.now ≢ decimal n) (λ n. IsShort n × (word.now ≡ decimal n)) }
+/// Whether digits are there, and don't begin with a needless 0.
+fn is_plain(digits: &[u8]) -> bool
+    ensures { IsTrue result ↔ IsPlain digits.now }
 {
-    if word.len() > 9 {
-        return None;
+    match digits.split_first() {
+        Some((first, others)) => *first != b'0' || others.is_empty(),
+        None => false,
     }
-    let Some(number) = digits_number(word) else {
-        return None;
-    };
-    if word[0] == b'0' && word.len() > 1 {
-        return None;
-    }
-    Some(number)
 }
 
 /// The number at the start of a text, behind a space, and what follows it; None where none of one to nine digits stands
@@ -63,11 +55,15 @@ pub fn next_number(text: &[u8]) -> Option<(u32, &[u8])>
     if *space != b' ' {
         return None;
     }
-    let end = word_len(after);
-    let Some(number) = word_number(&after[..end]) else {
+    let (number, end) = leading_digits(after);
+    let rest = &after[end..];
+    if !stops(rest) {
         return None;
-    };
-    Some((number, &after[end..]))
+    }
+    if !is_plain(&after[..end]) {
+        return None;
+    }
+    Some((number, rest))
 }
 
 /// Whether the text is numbers alone, each of one to nine digits behind a space; none at all will do (own).

@@ -51,6 +51,16 @@ pub struct TallyWords {
     pub loops: u32,
 }
 
+/// What follows a letter at the start of a text.
+fn after_letter(text: &[u8], letter: u8) -> Option<&[u8]>
+    ensures { MatchOption result ((rest : List ℕ) → text.now ≢ letter ∷ rest) (λ rest. text.now ≡ letter ∷ rest.now) }
+{
+    match text.split_first() {
+        Some((first, rest)) if *first == letter => Some(rest),
+        _ => None,
+    }
+}
+
 /// What follows a word at the start of a text; None where the text doesn't begin with it (own).
 pub fn after_word<'a>(text: &'a [u8], word: &[u8]) -> Option<&'a [u8]>
     ensures { MatchOption result ((rest : List ℕ) → text.now ≢ word.now ++ rest) (λ rest. text.now ≡ word.now ++ rest.now) }
@@ -135,7 +145,7 @@ fn shell_words(text: &[u8]) -> Option<ShellWords>
 fn edge_words(text: &[u8]) -> Option<(u32, u32)>
     ensures { MatchOption result ((a b : ℕ) → ¬ Spells text.now (edge a b)) (λ p. Spells text.now (edge p.0 p.1)) }
 {
-    match after_word(text, b"E") {
+    match after_letter(text, b'E') {
         Some(rest) => two_numbers(rest),
         None => None,
     }
@@ -144,7 +154,7 @@ fn edge_words(text: &[u8]) -> Option<(u32, u32)>
 fn point_words(text: &[u8]) -> Option<(u32, u32)>
     ensures { MatchOption result ((a b : ℕ) → ¬ Spells text.now (point a b)) (λ p. Spells text.now (point p.0 p.1)) }
 {
-    match after_word(text, b"I") {
+    match after_letter(text, b'I') {
         Some(rest) => two_numbers(rest),
         None => None,
     }
@@ -153,7 +163,7 @@ fn point_words(text: &[u8]) -> Option<(u32, u32)>
 fn reach_words(text: &[u8]) -> Option<u32>
     ensures { MatchOption result ((a : ℕ) → ¬ Spells text.now (reach a)) (λ a. Spells text.now (reach a)) }
 {
-    match after_word(text, b"R") {
+    match after_letter(text, b'R') {
         Some(rest) => one_number(rest),
         None => None,
     }
@@ -171,7 +181,7 @@ fn tally_words(text: &[u8]) -> Option<TallyWords>
 fn corner_words(text: &[u8]) -> Option<&[u8]>
     ensures { MatchOption result ((rs : List ℕ) → ¬ Spells text.now (corner rs)) (λ rest. (rs : List ℕ) × (rest.now ≡ spaced rs) × Spells text.now (corner rs)) }
 {
-    let Some(rest) = after_word(text, b"C") else {
+    let Some(rest) = after_letter(text, b'C') else {
         return None;
     };
     if rest.is_empty() {
@@ -191,19 +201,24 @@ fn is_word(text: &[u8], word: &[u8]) -> bool
 fn read_words(text: &[u8]) -> Option<Words<'_>>
     ensures { MatchOption result ((line : CertLine) → ¬ Spells text.now line) (λ w. (line : CertLine) × Means w line × Spells text.now line) }
 {
-    if let Some(version) = head_words(text) {
-        return Some(Words::Head(version));
-    }
-    if let Some(number) = solid_words(text) {
-        return Some(Words::Solid(number));
+    // Nearly every line is one of these.
+    if let Some(words) = read_row_words(text) {
+        return Some(words);
     }
     if let Some(counts) = shell_words(text) {
         return Some(Words::Shell(counts));
     }
-    if is_word(text, b"END") {
-        return Some(Words::End);
+    if let Some(number) = solid_words(text) {
+        return Some(Words::Solid(number));
     }
-    read_row_words(text)
+    if let Some(version) = head_words(text) {
+        return Some(Words::Head(version));
+    }
+    if is_word(text, b"END") {
+        Some(Words::End)
+    } else {
+        None
+    }
 }
 
 /// The line of a shell behind its SHELL line that a text without its LF spells.
@@ -216,11 +231,11 @@ fn read_row_words(text: &[u8]) -> Option<Words<'_>>
     if let Some(rows) = corner_words(text) {
         return Some(Words::Corner(rows));
     }
-    if let Some((face, place)) = point_words(text) {
-        return Some(Words::Point(face, place));
-    }
     if let Some(row) = reach_words(text) {
         return Some(Words::Reach(row));
+    }
+    if let Some((face, place)) = point_words(text) {
+        return Some(Words::Point(face, place));
     }
     match tally_words(text) {
         Some(counts) => Some(Words::Tally(counts)),

@@ -43,9 +43,8 @@ fn check_shell(
     Ok(before.with(&rows))
 }
 
-/// Judges what the lines of a certificate don't show: shell by shell that each loop joins, and then that no vertex is
-/// one of a shell before. Errs with the first of these rules that fails, and where. (own)
-pub fn check_shells(alloc: Global, solid: &Solid) -> Result<(), CheckFault>
+/// Judges the shells one after the other: that each loop joins, and then that no vertex is one of a shell before.
+fn check_each(alloc: Global, solid: &Solid) -> Result<(), CheckFault>
     ensures holds { OnOk result (AllHold (checked_obligations solid.now)) }
     ensures fault { IfErr result (IsCheckFault (checked_obligations solid.now)) }
     ensures only { AllHold (checked_obligations solid.now) → IfErr result IsNoMemory }
@@ -58,4 +57,32 @@ pub fn check_shells(alloc: Global, solid: &Solid) -> Result<(), CheckFault>
         before = check_shell(alloc, solid, at, shell, before)?;
     }
     Ok(())
+}
+
+/// Judges the only shell of a solid: that each loop joins. No shell before has a vertex, so its rows aren't made.
+fn check_only(solid: &Solid) -> Result<(), CheckFault>
+    requires { length solid.now.shells ≡ 1 }
+    ensures holds { OnOk result (AllHold (checked_obligations solid.now)) }
+    ensures fault { IfErr result (IsCheckFault (checked_obligations solid.now)) }
+    ensures only { AllHold (checked_obligations solid.now) → IfErr result IsNoMemory }
+    ensures only_fault { (x : Named) → FirstFalse (checked_obligations solid.now) x → FailsSo x result }
+{
+    let at = ShellAt(0);
+    join(solid, at, shell_at(solid, at))?;
+    Ok(())
+}
+
+/// Judges what the lines of a certificate don't show: shell by shell that each loop joins, and then that no vertex is
+/// one of a shell before. Errs with the first of these rules that fails, and where. (own)
+pub fn check_shells(alloc: Global, solid: &Solid) -> Result<(), CheckFault>
+    ensures holds { OnOk result (AllHold (checked_obligations solid.now)) }
+    ensures fault { IfErr result (IsCheckFault (checked_obligations solid.now)) }
+    ensures only { AllHold (checked_obligations solid.now) → IfErr result IsNoMemory }
+    ensures only_fault { (x : Named) → FirstFalse (checked_obligations solid.now) x → FailsSo x result }
+{
+    if solid.shell_count() == 1 {
+        check_only(solid)
+    } else {
+        check_each(alloc, solid)
+    }
 }

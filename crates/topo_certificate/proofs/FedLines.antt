@@ -226,6 +226,12 @@ module _ (v : Version) (s : SolidData) (Fits : Fitness) (first : ℕ) where
       subst (λ (l : List ℕ). IsFedLines v s (Fits s) first (text ++ l) new) (sym is)
       (next_fed old new text front line r fed none h same (same_whole (line_limit s) line (ended (fed.rest ++ front)) (is ∙ ap (λ (x : List ℕ). ended (x ++ front)) (sym rest))) judges done)
 
+  -- the whole of it, where nothing was kept
+  pub whole_is : (old : FedKept) (text front line : List ℕ) (fed : IsFedLines v s (Fits s) first text old) → old.failed ≡ None → length old.kept ≤ 0 → line ≡ ended front → line ≡ ended (fed.rest ++ front)
+  whole_is old text front line fed none empty is =
+      let (read, fitting, stands) = standing old text fed none in
+      is ∙ ap (λ (x : List ℕ). ended (x ++ front)) (sym (none_kept s old.kept fed.rest stands.kept.0 empty))
+
   -- a line that began in a piece before, where these bytes are kept of it
   -- the bytes that are kept of it
   pub joined_is : (old mid : FedKept) (text front line bytes : List ℕ) (fed : IsFedLines v s (Fits s) first text old) → old.failed ≡ None → line ≡ ended front
@@ -360,6 +366,15 @@ part_line v s first old mid new text front line bytes r none h is kept same byte
     subst (λ (l : List ℕ). MatchResult r (IsEndedBy v s first (text ++ l) new) (λ _. IsFedPart v s first (text ++ l) new)) (sym is)
     (part_fed v s first old new text front bytes r fed none h (same_as.0 ∙ ap (λ (c : Kept). c.version) same, same_as.1 ∙ ap (λ (c : Kept). c.solid) same) (same_kept (line_limit s) bytes (fed.rest ++ front) e)
     (subst (λ (c : Kept). JudgesPart c bytes new.checker r) same judges) done)
+
+-- a line that lies whole in the piece
+pub whole_part_line : (v : Version) (s : SolidData) (first : ℕ) (old new : FedKept) (text front line : List ℕ) (r : Result PartLine Illegal) → old.failed ≡ None → length old.kept ≤ 0 → is_in_line front ≡ true → line ≡ ended front
+    → IsOfSame old.checker new.checker → JudgesPart old.checker line new.checker r → IsPartDone new r → IsFedPart v s first text old
+    → MatchResult r (IsEndedBy v s first (text ++ line) new) (λ _. IsFedPart v s first (text ++ line) new)
+whole_part_line v s first old new text front line r none empty h is same judges done fed =
+    let e = whole_is v s FitsPart first old text front line fed none empty is in
+    subst (λ (l : List ℕ). MatchResult r (IsEndedBy v s first (text ++ l) new) (λ _. IsFedPart v s first (text ++ l) new)) (sym is)
+    (part_fed v s first old new text front line r fed none h same (same_whole (line_limit s) line (ended (fed.rest ++ front)) e) judges done)
 
 -- a line of a part is judged, which ends behind these bytes
 abbrev pub EndsPartLine : FedKept → List ℕ → FedKept → PartLine → Type 0

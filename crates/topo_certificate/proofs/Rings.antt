@@ -3,10 +3,10 @@ use Rattle.std.specs.Prelude.{◌≡◌, ℕ, ◌+◌, ◌<◌, List, [], ◌∷
 use Rattle.std.proofs.Common.{refl, sym, ◌∙◌, ap, subst, arith, length-append}
 use Rattle.edge_uses.specs.ShellRows.{ShellRows}
 use Rattle.topo_certificate.specs.Stand.{TurnsTo}
-use Rattle.cert_lines.specs.Numbers.{Begins, AreNumbers}
-use Rattle.topo_certificate.specs.Ring.{IsRing}
+use Rattle.cert_lines.specs.Numbers.{Begins, AreNumbers, IsSpaced}
+use Rattle.topo_certificate.specs.Ring.{IsRing, IsCornerText}
 use Rattle.cert_lines.specs.Line.{spaced}
-use Rattle.cert_lines.proofs.Digits.{begins_tail, numbers_begin}
+use Rattle.cert_lines.proofs.Digits.{begins_tail, begins_cons, numbers_begin, none_spaced}
 
 -- The numbers that are left make the ring whole exactly where all make it.
 pub record Walked (d : ShellRows) (pairs : List (ℕ × ℕ)) (first last : ℕ) (rest : List ℕ) (all : List ℕ) (count : ℕ) : Type 0 where
@@ -64,3 +64,11 @@ walked_broken d pairs first last rest all count never broken w r =
 
 pub begins_shorter : (rest after : List ℕ) (n : ℕ) → Begins rest n after → length after < length rest
 begins_shorter rest after n b = omega (arith, ap (λ xs. length xs) b.text_is, length-append (32 ∷ decimal n) after)
+
+-- where more is left than numbers, the text is no numbers
+pub walked_more : (d : ShellRows) (pairs : List (ℕ × ℕ)) (first last : ℕ) (rest all : List ℕ) (count : ℕ) → 0 < length rest → ((n : ℕ) (after : List ℕ) → ¬ Begins rest n after) → Walked d pairs first last rest all count → ⊥
+walked_more d pairs first last rest all count some never w = none_spaced rest some never (w.left, w.numbers)
+
+-- a corner line's text is its first number and the others
+pub corner_text_of : (text others : List ℕ) (n : ℕ) → Begins text n others → IsSpaced others → IsCornerText text
+corner_text_of text others n b (ms, a) = (n ∷ ms, begins_cons text others ms n b a, omega arith)

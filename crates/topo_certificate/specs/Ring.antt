@@ -1,7 +1,8 @@
 -- Rows that turn to one another in a ring.
-use Rattle.std.specs.Prelude.{ℕ, ◌<◌, List, [], ◌∷◌, ◌++◌}
+use Rattle.std.specs.Prelude.{ℕ, ◌<◌, List, [], ◌∷◌, ◌++◌, length}
 use Rattle.std.specs.List.{AllByRecursion, AllZip}
 use Rattle.edge_uses.specs.ShellRows.{ShellRows}
+use Rattle.cert_lines.specs.Numbers.{AreNumbers}
 use Rattle.topo_certificate.specs.Stand.{Stand, TurnsTo, FitsCorner}
 
 -- From r on each row turns to the next, and the last to the first; all behind r are greater than the first.
@@ -12,3 +13,7 @@ IsRing d pairs first r rs = AllZip (TurnsTo d pairs) (r ∷ rs) (rs ++ first ∷
 abbrev pub FitsCornerLine : ShellRows → Stand → List ℕ → Type 0
 FitsCornerLine d at [] = ⊥
 FitsCornerLine d at (r ∷ rs) = FitsCorner d at r rs
+
+-- the text is the numbers of a corner line
+abbrev pub IsCornerText : List ℕ → Type 0
+IsCornerText text = (rs : List ℕ) × AreNumbers text rs × (0 < length rs)

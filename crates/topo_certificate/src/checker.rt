@@ -197,6 +197,15 @@ impl<'a> Checker<'a> {
         ensures kept { MatchResult result (λ _. (self.new.failed ≡ None) × (self.new.kept ≡ [])) (λ bad. self.new.failed ≡ Some bad) }
         ensures same { IsOfSame self.old.checker self.new.checker }
     {
+        if self.kept.is_empty() {
+            return match self.checker.line_of_part(line) {
+                Ok(told) => Ok(told),
+                Err(bad) => {
+                    self.failed = Some(bad);
+                    Err(bad)
+                }
+            };
+        }
         self.keep(&line[..line.len() - 1]);
         self.kept.extend_from_slice(b"\n").unwrap();
         let judged = self.checker.line_of_part(self.kept.as_slice());

@@ -1,13 +1,13 @@
 //! Whether a corner or a point line fits.
 
-ghost use Rattle.std.specs.Prelude.{◌≡◌, ℕ, ◌<◌, List, MatchOption, Some, length, map};
+ghost use Rattle.std.specs.Prelude.{◌≡◌, ℕ, ◌<◌, List, IfSome, MatchOption, Some, length, map};
 ghost use Rattle.solid_data.specs.declared.solid.LoopAt.{LoopAt as LoopPlace};
 ghost use Rattle.edge_uses.specs.declared.row.Row.{Row as AnyRow};
 ghost use Rattle.cert_lines.specs.Line.{corner, point};
 ghost use Rattle.cert_lines.specs.Numbers.{AreNumbers};
 ghost use Rattle.topo_certificate.specs.Stand.{Stand, vertex_of, FitsPoint};
 ghost use Rattle.topo_certificate.specs.Kept.{HoldsMates, InFileOrder, corner_size, is_alone};
-ghost use Rattle.topo_certificate.specs.Ring.{FitsCornerLine};
+ghost use Rattle.topo_certificate.specs.Ring.{FitsCornerLine, IsCornerText};
 
 use crate::fitting::{is_above, named_row};
 use crate::points::{point_at, point_place};
@@ -16,19 +16,21 @@ use cert_lines::next_number;
 use edge_uses::Rows;
 use solid_data::VertexId;
 
-/// The vertex of a corner line that fits behind one at the last vertex, where these are the mates.
-pub fn fitting_corner(
+/// The vertex of a corner line that fits behind one at the last vertex, where these are the mates; None where the text
+/// isn't the numbers of one.
+pub(crate) fn read_corner(
     rows: &Rows,
     sizes: &[u32],
     mates: &[u32],
     last: Option<u32>,
-    numbers: &[u8],
+    text: &[u8],
 ) -> Option<VertexId>
     requires { sizes.now ≡ map (λ (r : AnyRow). corner_size rows.now r.from.0) rows.now.rows }
-    ensures { (at : Stand) (rs : List ℕ) → HoldsMates mates.now at.mates → at.last_vertex ≡ last → AreNumbers numbers.now rs →
+    ensures numbers { IfSome result (λ _. IsCornerText text.now) }
+    ensures fits { (at : Stand) (rs : List ℕ) → HoldsMates mates.now at.mates → at.last_vertex ≡ last → AreNumbers text.now rs →
         MatchOption result (¬ FitsCornerLine rows.now at rs) (λ v. FitsCornerLine rows.now at rs × (vertex_of rows.now (corner rs) ≡ Some v.0)) }
 {
-    let Some((first, others)) = next_number(numbers) else {
+    let Some((first, others)) = next_number(text) else {
         return None;
     };
     let Some(row) = named_row(rows, first) else {
@@ -45,6 +47,21 @@ pub fn fitting_corner(
     } else {
         None
     }
+}
+
+/// The vertex of a corner line that fits behind one at the last vertex, where these are the mates.
+pub fn fitting_corner(
+    rows: &Rows,
+    sizes: &[u32],
+    mates: &[u32],
+    last: Option<u32>,
+    numbers: &[u8],
+) -> Option<VertexId>
+    requires { sizes.now ≡ map (λ (r : AnyRow). corner_size rows.now r.from.0) rows.now.rows }
+    ensures { (at : Stand) (rs : List ℕ) → HoldsMates mates.now at.mates → at.last_vertex ≡ last → AreNumbers numbers.now rs →
+        MatchOption result (¬ FitsCornerLine rows.now at rs) (λ v. FitsCornerLine rows.now at rs × (vertex_of rows.now (corner rs) ≡ Some v.0)) }
+{
+    read_corner(rows, sizes, mates, last, numbers)
 }
 
 /// The vertex of a point line that fits behind one at the last vertex.

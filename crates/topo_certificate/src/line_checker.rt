@@ -46,7 +46,7 @@ impl<'a> Model for LineChecker<'a> {
 }
 
 ghost use Rattle.std.specs.Prelude.{◌≡◌, ℕ, ◌+◌, ◌<◌, ◌^◌, ◌-◌, length, IfOk, MatchOption};
-ghost use Rattle.std.specs.Prelude.{◌≢◌};
+ghost use Rattle.std.specs.Prelude.{◌≢◌, List, [], ◌∷◌, ◌++◌};
 ghost use Rattle.cert_lines.specs.Line.{CertLine, IsLine, solid as solid_named};
 ghost use Rattle.cert_lines.specs.Said.{Means};
 ghost use Rattle.topo_certificate.specs.Stand.{rows_of_shell, loops_of_shell};
@@ -76,6 +76,22 @@ fn named_solid(line: &[u8], limit: usize) -> Option<u32>
     match judge(line, limit) {
         Judged::Spelled(words) => solid_in(words),
         Judged::Misspelt | Judged::Long => None,
+    }
+}
+
+/// What a corner line has between its letter and its LF.
+fn corner_text(line: &[u8]) -> Option<&[u8]>
+    ensures { MatchOption result ((text : List ℕ) → line.now ≢ 67 ∷ text ++ 10 ∷ []) (λ text. line.now ≡ 67 ∷ text.now ++ 10 ∷ []) }
+{
+    let Some((letter, behind)) = line.split_first() else {
+        return None;
+    };
+    if *letter != b'C' {
+        return None;
+    }
+    match behind.split_last() {
+        Some((last, text)) if *last == b'\n' => Some(text),
+        _ => None,
     }
 }
 
@@ -255,6 +271,49 @@ impl<'a> LineChecker<'a> {
         self.number
     }
 
+    /// Takes a corner line where one fits, in one pass over its bytes; any other line is left.
+    fn take_corner_line(&mut self, line: &[u8]) -> bool
+        ensures line { (first : ℕ) (lines : List CertLine) → IsAt first self.old lines → IsTrue result →
+            (l : CertLine) × IsLine (line_limit self.old.solid) line.now l × FitsLine self.old.solid (stand_behind self.old.version self.old.solid lines) l × IsAt first self.new (l ∷ lines) }
+        ensures same { IsOfSame self.old self.new }
+        ensures refused { result ≡ false → self.new ≡ self.old }
+    {
+        if self.ended || line.len() > self.limit {
+            return false;
+        }
+        let Some(text) = corner_text(line) else {
+            return false;
+        };
+        let Some(current) = &mut self.current else {
+            return false;
+        };
+        if !current.take_corner(text) {
+            return false;
+        }
+        self.number += 1;
+        true
+    }
+
+    /// Judges a line as `line` does, where no fault was found.
+    fn judge_line(&mut self, line: &[u8]) -> Result<(), Illegal>
+        ensures line { (first : ℕ) (lines : List CertLine) → IsAt first self.old lines → MatchResult result
+            (λ _. (l : CertLine) × IsLine (line_limit self.old.solid) line.now l × FitsLine self.old.solid (stand_behind self.old.version self.old.solid lines) l × IsAt first self.new (l ∷ lines))
+            (λ bad. IsBadLine self.old.solid (FitsLine self.old.solid (stand_behind self.old.version self.old.solid lines)) (first + length lines) line.now bad × (self.new.failed ≡ Some bad)) }
+        ensures same { IsOfSame self.old self.new }
+    {
+        match judge(line, self.limit) {
+            Judged::Misspelt => self.fail(Illegal::Misspelt { line: self.number }),
+            Judged::Long => self.fail(Illegal::Unfit { line: self.number }),
+            Judged::Spelled(words) => {
+                if self.take(words) {
+                    Ok(())
+                } else {
+                    self.fail(Illegal::Unfit { line: self.number })
+                }
+            }
+        }
+    }
+
     /// Judges the next line, given with its LF: it is spelled and fits behind the lines before it, or it is the first
     /// that is misspelt or unfit.
     pub(crate) fn line(&mut self, line: &[u8]) -> Result<(), Illegal>
@@ -267,17 +326,11 @@ impl<'a> LineChecker<'a> {
         if let Some(illegal) = self.failed {
             return Err(illegal);
         }
-        match judge(line, self.limit) {
-            Judged::Misspelt => self.fail(Illegal::Misspelt { line: self.number }),
-            Judged::Long => self.fail(Illegal::Unfit { line: self.number }),
-            Judged::Spelled(words) => {
-                if self.take(words) {
-                    Ok(())
-                } else {
-                    self.fail(Illegal::Unfit { line: self.number })
-                }
-            }
+        // The numbers of a corner line are read once where it fits.
+        if self.take_corner_line(line) {
+            return Ok(());
         }
+        self.judge_line(line)
     }
 
     /// Whether END may come now.

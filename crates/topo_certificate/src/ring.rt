@@ -1,8 +1,8 @@
 //! Whether the rows of a corner line turn to one another.
 
-ghost use Rattle.std.specs.Prelude.{◌≡◌, ◌↔◌, ℕ, ◌<◌, List, ◌∷◌, IsTrue, length, MatchOption};
+ghost use Rattle.std.specs.Prelude.{◌≡◌, ◌↔◌, ℕ, ◌<◌, List, ◌∷◌, IsTrue, IfSome, length, MatchOption};
 ghost use Rattle.topo_certificate.specs.Stand.{TurnsTo};
-ghost use Rattle.cert_lines.specs.Numbers.{AreNumbers};
+ghost use Rattle.cert_lines.specs.Numbers.{AreNumbers, IsSpaced};
 ghost use Rattle.topo_certificate.specs.Kept.{HoldsMates};
 ghost use Rattle.topo_certificate.specs.Ring.{IsRing};
 
@@ -28,9 +28,10 @@ fn goes_on(rows: &Rows, mates: &[u32], first: u32, last: u32, next: u32) -> bool
 }
 
 /// How many rows turn to one another from a first one on, back to it, which is the least. The others are numbers of a
-/// text, each behind a space.
+/// text, each behind a space; None where the text is anything else.
 pub(crate) fn ring_len(rows: &Rows, mates: &[u32], first: u32, others: &[u8]) -> Option<usize>
-    ensures { (pairs : List (ℕ × ℕ)) (rs : List ℕ) → HoldsMates mates.now pairs → AreNumbers others.now rs →
+    ensures numbers { IfSome result (λ _. IsSpaced others.now) }
+    ensures ring { (pairs : List (ℕ × ℕ)) (rs : List ℕ) → HoldsMates mates.now pairs → AreNumbers others.now rs →
         MatchOption result (¬ IsRing rows.now pairs first first rs) (λ n. IsRing rows.now pairs first first rs × (n ≡ length (first ∷ rs))) }
 {
     let mut last = first;
@@ -43,6 +44,9 @@ pub(crate) fn ring_len(rows: &Rows, mates: &[u32], first: u32, others: &[u8]) ->
         last = next;
         rest = after;
         count += 1;
+    }
+    if !rest.is_empty() {
+        return None;
     }
     if turns_to(rows, mates, last, first) {
         Some(count)

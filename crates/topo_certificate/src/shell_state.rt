@@ -1,6 +1,6 @@
 //! How far the lines of a shell have come.
 
-use crate::corners::{fitting_corner, fitting_point};
+use crate::corners::{fitting_point, read_corner};
 use crate::fitting::{fits_counts, fits_tally, fitting_edge, fitting_face};
 use crate::tallies::sizes_of;
 use cert_lines::{ShellWords, TallyWords, Version, Words};
@@ -84,6 +84,7 @@ impl ShellState {
     ghost use Rattle.cert_lines.specs.Numbers.{AreNumbers};
     ghost use Rattle.cert_lines.specs.Said.{Means, IsRowLine, counts_said, tally_said};
     ghost use Rattle.topo_certificate.specs.Kept.{KeptShell, IsFresh, InFileOrder, AreCounts, IsTally, dues};
+    ghost use Rattle.topo_certificate.specs.Ring.{IsCornerText};
     ghost use Rattle.topo_certificate.specs.Told.{Takes};
 
     /// A shell of which no line was read.
@@ -153,21 +154,18 @@ impl ShellState {
         true
     }
 
-    fn take_corner(&mut self, numbers: &[u8]) -> bool
-        ensures line { (rs : List ℕ) → AreNumbers numbers.now rs → Takes self.old self.new (corner rs) result }
+    /// Takes the corner line of this text, exactly where it fits.
+    pub(crate) fn take_corner(&mut self, text: &[u8]) -> bool
+        ensures numbers { IsTrue result → IsCornerText text.now }
+        ensures line { (rs : List ℕ) → AreNumbers text.now rs → Takes self.old self.new (corner rs) result }
         ensures due { IsTrue result → dues self.new + 1 ≡ dues self.old }
         ensures refused { result ≡ false → self.new ≡ self.old }
     {
         if self.edges_due != 0 || self.corners_due == 0 {
             return false;
         }
-        let Some(vertex) = fitting_corner(
-            &self.rows,
-            &self.sizes,
-            &self.mates,
-            self.last_vertex,
-            numbers,
-        ) else {
+        let Some(vertex) = read_corner(&self.rows, &self.sizes, &self.mates, self.last_vertex, text)
+        else {
             return false;
         };
         self.corners_due -= 1;

@@ -1,5 +1,6 @@
 use Rattle.std.proofs.Common.{ℕ, ◌+◌, ◌≤◌, List, length}
-use Rattle.cert_lines.specs.Numbers.{AreNumbers}
+use Rattle.std.specs.Prelude.{◌↔◌}
+use Rattle.cert_lines.specs.Numbers.{AreNumbers, IsSpaced}
 use Rattle.topo_certificate.specs.Kept.{HoldsMates}
 use Rattle.topo_certificate.proofs.Rings.{Walked}
 use Rattle.topo_certificate.proofs.ring.ring_len.Given as goal
@@ -7,6 +8,7 @@ use Rattle.topo_certificate.proofs.ring.ring_len.Given as goal
 abbrev pub invariant-turns : goal.invariant-turns
 invariant-turns l = record {
   room : l.count + length l.rest ≤ length l.others + 1;
+  spaced : IsSpaced l.rest ↔ IsSpaced l.others;
   walked : (pairs : List (ℕ × ℕ)) (rs : List ℕ) → HoldsMates l.mates pairs → AreNumbers l.others rs → Walked l.rows pairs l.first l.last l.rest rs l.count;
 }
 

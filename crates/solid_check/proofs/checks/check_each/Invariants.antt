@@ -1,7 +1,7 @@
 use Rattle.edge_uses.specs.Before.{AreBelow}
 use Rattle.edge_uses.specs.ShellObligations.{checked_of_shell, checked_obligations}
 use Rattle.solid_check.proofs.Shells.{RemainFrom}
-use Rattle.solid_check.proofs.checks.check_shells.Given as goal
+use Rattle.solid_check.proofs.checks.check_each.Given as goal
 
 abbrev pub invariant-shells : goal.invariant-shells
 invariant-shells l = record {

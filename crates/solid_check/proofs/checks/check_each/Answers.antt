@@ -3,7 +3,7 @@ use Rattle.std.proofs.lemmas.Result.{err_from_is_err_and}
 use Rattle.edge_uses.specs.ShellObligations.{checked_of_shell, checked_obligations}
 use Rattle.solid_check.proofs.Few.{few_parts}
 use Rattle.solid_check.proofs.Shells.{checked_from_first, one_shell, shell_fails, all_shells, only_memory, only_so, never}
-use Rattle.solid_check.proofs.checks.check_shells.Goals as goal
+use Rattle.solid_check.proofs.checks.check_each.Goals as goal
 
 pub shells-init : goal.shells-init
 shells-init c = record {
