@@ -1,9 +1,7 @@
 -- Lists that are kept.
-use Rattle.std.specs.Prelude.{◌≡◌, ◌<◌, ◌^◌, ◌-◌, ℕ, ℤ, pos, Bool, true, false, cond, List, [], ◌∷◌, length, slice_get, Option, Some, IfSome, Result, Ok, Err, IsErrAnd, IfErr}
-use Rattle.std.specs.Ordering.{int_eq}
-use Rattle.std.specs.Map.{lookup}
-use Rattle.std.proofs.Common.{refl, sym, ◌∙◌, ap, subst, inl, ⊎_elim}
-use Rattle.std.proofs.lemmas.Bool.Decides.{Decides-int_eq}
+use Rattle.std.specs.Prelude.{◌≡◌, ◌<◌, ◌^◌, ◌-◌, ◌⊎◌, ℕ, zero, suc, ℤ, pos, List, [], ◌∷◌, ◌++◌, length, slice_get, Some, Result, Ok, Err, IsErrAnd, IfErr}
+use Rattle.std.proofs.Common.{refl, sym, ◌∙◌, ap, subst, inl, inr, ⊎_elim}
+use Rattle.std.proofs.lemmas.Option.{same_Some, none-some}
 use Rattle.iges_fields.specs.declared.entry_no.EntryNo.{EntryNo}
 use Rattle.iges_params.specs.Contents.{Contents}
 use Rattle.brep_lists.specs.declared.edge_list.EdgeTuple.{EdgeTuple}
@@ -15,69 +13,53 @@ use Rattle.solid_data.specs.declared.verdict.Rule.TheVariants.{BadIndex}
 use Rattle.solid_data.proofs.ObligationLemmas.{AllHold-append, FirstFalse-append_rest}
 use Rattle.brep_walk.specs.declared.fault.WalkFault.{WalkFault}
 use Rattle.brep_walk.specs.declared.fault.WalkFault.TheVariants.{Fails}
-use Rattle.brep_walk.specs.Kept.{Kept, AreKept, NamesRecord, IsEdgeList, IsVertexList}
+use Rattle.brep_walk.specs.Kept.{AreKept, NamesRecord, IsEdgeList, IsVertexList}
 use Rattle.brep_walk.specs.Places.{told, edge_at, IsIndex, record_places, item_places}
 use Rattle.brep_walk.specs.SolidOf.{edge_key}
 use Rattle.brep_walk.specs.Walked.{IsFault}
 
-found : {V : Type 0} (P : V → Type 0) (o : Option V) (v : V) → IfSome o P → Some v ≡ o → P v
-found P o v h e = let k : IfSome (Some v) P = subst (λ w. IfSome w P) (sym e) h in k
+-- an item of a list with one more is among those before, or it is the last
+pub get_pushed : {A : Type 0} (xs : List A) (x y : A) (i : ℕ) → slice_get (xs ++ x ∷ []) i ≡ Some y → (slice_get xs i ≡ Some y) ⊎ ((i ≡ length xs) × (x ≡ y))
+get_pushed [] x y zero h = inr (refl, same_Some x y h)
+get_pushed [] x y (suc i) h = absurd (none-some y h)
+get_pushed (z ∷ zs) x y zero h = inl h
+get_pushed (z ∷ zs) x y (suc i) h = ⊎_elim (λ old. inl old) (λ last. inr (ap suc last.0, last.1)) (get_pushed zs x y i h)
 
--- y is the number as a call was given it
-pub kept_edges : (k : Kept) → AreKept k → (entries : List (ℤ × (EntryNo × List EdgeTuple))) → entries ≡ k.edges → (z y : ℤ) → y ≡ z → (v : EntryNo × List EdgeTuple)
-    → Some v ≡ lookup (int_eq y) entries → IsEdgeList k.file z v
-kept_edges k all entries same z y at v is =
-    found (IsEdgeList k.file z) (lookup (int_eq z) k.edges) v (all.edges z) (is ∙ (ap (λ x. lookup (int_eq x) entries) at ∙ ap (lookup (int_eq z)) same))
+-- A list that is found is kept. g is the file as the call was given it, and y the number.
 
-pub kept_vertices : (k : Kept) → AreKept k → (entries : List (ℤ × (EntryNo × ℕ))) → entries ≡ k.vertices → (z y : ℤ) → y ≡ z → (v : EntryNo × ℕ)
-    → Some v ≡ lookup (int_eq y) entries → IsVertexList k.file z v
-kept_vertices k all entries same z y at v is =
-    found (IsVertexList k.file z) (lookup (int_eq z) k.vertices) v (all.vertices z) (is ∙ (ap (λ x. lookup (int_eq x) entries) at ∙ ap (lookup (int_eq z)) same))
+pub kept_edges : (f g : Contents) → f ≡ g → (es : List (EntryNo × List EdgeTuple)) (vs : List (EntryNo × ℕ)) → AreKept f es vs → (z y : ℤ) → y ≡ z → (v : EntryNo × List EdgeTuple)
+    → (y ≡ pos v.0.0) × ((i : ℕ) × (slice_get es i ≡ Some v)) → IsEdgeList g z v
+kept_edges f g file es vs all z y at v h =
+    subst (λ h. IsEdgeList h z v) file (subst (λ x. IsEdgeList f x v) (sym h.0 ∙ at) (all.edges h.1.0 v h.1.1))
 
--- what is put in by a number is found there, and what was there otherwise
-updated : {V : Type 0} (P : ℤ → V → Type 0) (old new : List (ℤ × V)) (y : ℤ) (v : V) → ((q : ℤ) → lookup (int_eq q) new ≡ cond (int_eq y q) (Some v) (lookup (int_eq q) old))
-    → P y v → ((q : ℤ) → IfSome (lookup (int_eq q) old) (P q)) → (q : ℤ) → IfSome (lookup (int_eq q) new) (P q)
-updated {V} P old new y v updates put kept q = subst (λ o. IfSome o (P q)) (sym (updates q)) (by_test (int_eq y q) (λ e. (Decides-int_eq y q).0 e))
-  where
-    by_test : (b : Bool) → (b ≡ true → y ≡ q) → IfSome (cond b (Some v) (lookup (int_eq q) old)) (P q)
-    by_test true e = subst (λ x. P x v) (e refl) put
-    by_test false e = kept q
+pub kept_vertices : (f g : Contents) → f ≡ g → (es : List (EntryNo × List EdgeTuple)) (vs : List (EntryNo × ℕ)) → AreKept f es vs → (z y : ℤ) → y ≡ z → (v : EntryNo × ℕ)
+    → (y ≡ pos v.0.0) × ((i : ℕ) × (slice_get vs i ≡ Some v)) → IsVertexList g z v
+kept_vertices f g file es vs all z y at v h =
+    subst (λ h. IsVertexList h z v) file (subst (λ x. IsVertexList f x v) (sym h.0 ∙ at) (all.vertices h.1.0 v h.1.1))
 
-pub still_edges : (k : Kept) → AreKept k → (was : Kept) → was ≡ k → (new : List (ℤ × (EntryNo × List EdgeTuple))) (z y : ℤ) → y ≡ z → (v : EntryNo × List EdgeTuple)
-    → ((q : ℤ) → lookup (int_eq q) new ≡ cond (int_eq y q) (Some v) (lookup (int_eq q) was.edges)) → IsEdgeList k.file z v
-    → AreKept (record { file = was.file; edges = new; vertices = was.vertices })
-still_edges k all was same new z y at v updates put =
-    let before : AreKept was = subst AreKept (sym same) all in
-    let file : k.file ≡ was.file = ap (λ (x : Kept). x.file) (sym same) in
-    let here : IsEdgeList was.file y v = subst (λ f. IsEdgeList f y v) file (subst (λ x. IsEdgeList k.file x v) (sym at) put) in
-    record {
-      edges = updated (IsEdgeList was.file) was.edges new y v updates here before.edges;
-      vertices = before.vertices;
-    }
+-- One more list is kept.
 
-pub still_vertices : (k : Kept) → AreKept k → (was : Kept) → was ≡ k → (new : List (ℤ × (EntryNo × ℕ))) (z y : ℤ) → y ≡ z → (v : EntryNo × ℕ)
-    → ((q : ℤ) → lookup (int_eq q) new ≡ cond (int_eq y q) (Some v) (lookup (int_eq q) was.vertices)) → IsVertexList k.file z v
-    → AreKept (record { file = was.file; edges = was.edges; vertices = new })
-still_vertices k all was same new z y at v updates put =
-    let before : AreKept was = subst AreKept (sym same) all in
-    let file : k.file ≡ was.file = ap (λ (x : Kept). x.file) (sym same) in
-    let here : IsVertexList was.file y v = subst (λ f. IsVertexList f y v) file (subst (λ x. IsVertexList k.file x v) (sym at) put) in
-    record {
-      edges = before.edges;
-      vertices = updated (IsVertexList was.file) was.vertices new y v updates here before.vertices;
-    }
+pub more_edges : (f : Contents) (es new : List (EntryNo × List EdgeTuple)) (vs : List (EntryNo × ℕ)) → AreKept f es vs → (v : EntryNo × List EdgeTuple) → new ≡ es ++ v ∷ [] → IsEdgeList f (pos v.0.0) v
+    → AreKept f new vs
+more_edges f es new vs all v is put = subst (λ l. AreKept f l vs) (sym is) (record {
+  edges = λ i kept at. ⊎_elim (all.edges i kept) (λ last. subst (λ (w : EntryNo × List EdgeTuple). IsEdgeList f (pos w.0.0) w) last.1 put) (get_pushed es v kept i at);
+  vertices = all.vertices;
+})
 
--- A list that was opened may be kept. f is the file behind the lists, and g the same as they were given.
+pub more_vertices : (f : Contents) (es : List (EntryNo × List EdgeTuple)) (vs new : List (EntryNo × ℕ)) → AreKept f es vs → (v : EntryNo × ℕ) → new ≡ vs ++ v ∷ [] → IsVertexList f (pos v.0.0) v → AreKept f es new
+more_vertices f es vs new all v is put = subst (λ l. AreKept f es l) (sym is) (record {
+  edges = all.edges;
+  vertices = λ i kept at. ⊎_elim (all.vertices i kept) (λ last. subst (λ (w : EntryNo × ℕ). IsVertexList f (pos w.0.0) w) last.1 put) (get_pushed vs v kept i at);
+})
 
-pub vertex_list_kept : (f g : Contents) → f ≡ g → (z y : ℤ) → y ≡ z → (entry : EntryNo) (n : ℕ) → NamesRecord vertices f y → y ≡ pos entry.0 → (list : Items vertices) → list ≡ told vertices f y → n ≡ length list
-    → IsVertexList g z (entry, n)
-vertex_list_kept f g file z y at entry n holds number list is count = subst (λ h. IsVertexList h z (entry, n)) file (subst (λ x. IsVertexList f x (entry, n)) at
-    (record { number = number; holds = holds; count = count ∙ ap (λ (l : Items vertices). length l) is }))
+-- A list that was opened may be kept, by its entry.
 
-pub edge_list_kept : (f g : Contents) → f ≡ g → (z y : ℤ) → y ≡ z → (entry : EntryNo) (list : Items edges) → NamesRecord edges f y → y ≡ pos entry.0 → list ≡ told edges f y → length list < 2 ^ 31
-    → IsEdgeList g z (entry, list)
-edge_list_kept f g file z y at entry list holds number is few = subst (λ h. IsEdgeList h z (entry, list)) file (subst (λ x. IsEdgeList f x (entry, list)) at
-    (record { number = number; holds = holds; items = is; few = few }))
+pub edge_list_kept : (f : Contents) (y : ℤ) (entry : EntryNo) (list : Items edges) → NamesRecord edges f y → y ≡ pos entry.0 → list ≡ told edges f y → length list < 2 ^ 31 → IsEdgeList f (pos entry.0) (entry, list)
+edge_list_kept f y entry list holds number is few = subst (λ x. IsEdgeList f x (entry, list)) number (record { number = number; holds = holds; items = is; few = few })
+
+pub vertex_list_kept : (f : Contents) (y : ℤ) (entry : EntryNo) (n : ℕ) → NamesRecord vertices f y → y ≡ pos entry.0 → (list : Items vertices) → list ≡ told vertices f y → n ≡ length list → IsVertexList f (pos entry.0) (entry, n)
+vertex_list_kept f y entry n holds number list is count =
+    subst (λ x. IsVertexList f x (entry, n)) number (record { number = number; holds = holds; count = count ∙ ap (λ (l : Items vertices). length l) is })
 
 -- An index in a kept list. k is the index as a call was given it.
 module _ (f : Contents) (z : ℤ) (v : EntryNo × List EdgeTuple) (kept : IsEdgeList f z v) (entity : ℤ) (place : ℕ) (j k : ℤ) (same : k ≡ j) where

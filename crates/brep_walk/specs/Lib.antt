@@ -5,4 +5,7 @@ pub mod Numbered
 pub mod Kept
 pub mod Stands
 pub mod Kinds
+pub mod Placed
+pub mod Slots
+pub mod Keyed
 pub mod OpenPlaces

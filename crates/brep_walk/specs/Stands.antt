@@ -1,11 +1,10 @@
 -- Private: what a walk has kept so far is true of the file.
 use Rattle.std.specs.Prelude.{◌≡◌}
 use Rattle.iges_params.specs.Contents.{Contents}
-use Rattle.brep_walk.specs.Kept.{Kept, AreKept}
 use Rattle.brep_walk.specs.Numbered.{Numbered, AreEdges, AreKnownEdges}
 
-pub record Stands (f : Contents) (lists : Kept) (numbered : Numbered) : Type 0 where
-  pub file : lists.file ≡ f
-  pub kept : AreKept lists
+-- lists is the file whose lists the walk looks at
+pub record Stands (f : Contents) (lists : Contents) (numbered : Numbered) : Type 0 where
+  pub file : lists ≡ f
   pub edges : AreEdges f numbered
   pub known : AreKnownEdges f numbered.keys

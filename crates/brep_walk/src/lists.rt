@@ -2,7 +2,7 @@
 
 ghost use Rattle.std.specs.Prelude.{◌≡◌, ◌∷◌, ◌<◌, ◌^◌, ◌-◌, [], pos, length, slice_get, Some, IfOk, IfErr, OnOk};
 ghost use Rattle.brep_lists.specs.Record.{edges, vertices};
-ghost use Rattle.brep_walk.specs.Kept.{AreKept, IsVertexList};
+ghost use Rattle.brep_walk.specs.Kept.{IsVertexList};
 ghost use Rattle.brep_walk.specs.Places.{told, edge_at, edge_places, record_places, item_places, IsIndex};
 ghost use Rattle.brep_walk.specs.SolidOf.{edge_key, vertex_key};
 ghost use Rattle.brep_walk.specs.Walked.{IsFault};
@@ -14,29 +14,32 @@ use crate::index::index_in;
 use crate::naming::names_geometry;
 use crate::place::Place;
 use crate::records::{edge_list_at, vertex_list_at};
+use crate::table::ListTable;
 use brep_lists::{EdgeList, EdgeTuple};
 use iges_fields::EntryNo;
 use iges_params::File;
-use indexmap::IndexMap;
 use solid_data::{EdgeKey, Failing, Rule, VertexKey};
 use std::alloc::Global;
 use std::marker::Model;
 
-/// The lists of edges and of vertices of a file. Each that was looked at is kept by the number that names it, so that
-/// its record is gone through once.
+/// The lists of edges and of vertices of a file. Each that was looked at is kept by its entry, so that its record is gone
+/// through once.
 #[derive(Drop)]
 pub struct Lists<'a> {
     file: &'a File,
-    edges: IndexMap<i64, (EntryNo, EdgeList<'a>)>,
-    vertices: IndexMap<i64, (EntryNo, u32)>,
+    edges: ListTable<EdgeList<'a>>,
+    vertices: ListTable<u32>,
 }
 
 impl<'a> Model for Lists<'a> {
-    ghost use Rattle.brep_walk.specs.Kept.{Kept};
+    ghost use Rattle.iges_params.specs.Contents.{Contents};
+    ghost use Rattle.brep_walk.specs.Kept.{AreKept};
 
-    ghost Value = { Kept };
+    ghost Value = { Contents };
 
-    ghost view = { λ lists. record { file = lists.file.now; edges = lists.edges.entries; vertices = lists.vertices.entries } };
+    ghost view = { λ lists. lists.file.now };
+
+    ghost invariant = { λ lists. AreKept lists.file.now lists.edges lists.vertices };
 }
 
 // The edge of a list that the index at a place names.
@@ -59,42 +62,37 @@ fn edge_of(
 impl<'a> Lists<'a> {
     /// The lists of a file, none of which was looked at yet.
     pub fn new(alloc: Global, file: &'a File) -> Lists<'a>
-        ensures file { result.file ≡ file.now }
-        ensures kept { AreKept result }
+        ensures { result ≡ file.now }
     {
         Lists {
             file,
-            edges: IndexMap::new(alloc),
-            vertices: IndexMap::new(alloc),
+            edges: ListTable::new(alloc),
+            vertices: ListTable::new(alloc),
         }
     }
 
     // The entry of the vertex list that the number at a place names, and how many vertices it has.
     fn vertex_list(&mut self, at: Place, number: i64) -> Result<(EntryNo, u32), WalkFault>
-        requires { AreKept self.old }
-        ensures file { OnOk result (self.new.file ≡ self.old.file) }
-        ensures kept { OnOk result (AreKept self.new) }
-        ensures holds { OnOk result (AllHold (record_places self.old.file (pos at.entity.0) at.item vertices number)) }
-        ensures list { IfOk result (IsVertexList self.old.file number) }
-        ensures fault { IfErr result (IsFault (record_places self.old.file (pos at.entity.0) at.item vertices number)) }
+        ensures file { self.new ≡ self.old }
+        ensures holds { OnOk result (AllHold (record_places self.old (pos at.entity.0) at.item vertices number)) }
+        ensures list { IfOk result (IsVertexList self.old number) }
+        ensures fault { IfErr result (IsFault (record_places self.old (pos at.entity.0) at.item vertices number)) }
     {
-        if let Some(kept) = self.vertices.get(&number) {
+        if let Some(kept) = self.vertices.get(number) {
             return Ok(*kept);
         }
         let (no, list) = vertex_list_at(self.file, at, number)?;
-        let kept = (no, list.len() as u32);
-        self.vertices.insert(number, kept)?;
-        Ok(kept)
+        let count = list.len() as u32;
+        self.vertices.keep(no, count)?;
+        Ok((no, count))
     }
 
     /// The vertex that a list and an index at a place name.
     pub fn vertex(&mut self, at: Place, number: i64, index: i64) -> Result<VertexKey, WalkFault>
-        requires { AreKept self.old }
-        ensures file { OnOk result (self.new.file ≡ self.old.file) }
-        ensures kept { OnOk result (AreKept self.new) }
-        ensures holds { OnOk result (AllHold (item_places self.old.file (pos at.entity.0) at.item vertices number index (length (told vertices self.old.file number)))) }
+        ensures file { self.new ≡ self.old }
+        ensures holds { OnOk result (AllHold (item_places self.old (pos at.entity.0) at.item vertices number index (length (told vertices self.old number)))) }
         ensures vertex { IfOk result (λ key. key ≡ vertex_key number index) }
-        ensures fault { IfErr result (IsFault (item_places self.old.file (pos at.entity.0) at.item vertices number index (length (told vertices self.old.file number)))) }
+        ensures fault { IfErr result (IsFault (item_places self.old (pos at.entity.0) at.item vertices number index (length (told vertices self.old number)))) }
     {
         let (list, count) = self.vertex_list(at, number)?;
         let index = index_in(count, at, index)?;
@@ -108,30 +106,26 @@ impl<'a> Lists<'a> {
         number: i64,
         index: i64,
     ) -> Result<(EdgeKey, EdgeTuple), WalkFault>
-        requires { AreKept self.old }
-        ensures file { OnOk result (self.new.file ≡ self.old.file) }
-        ensures kept { OnOk result (AreKept self.new) }
-        ensures holds { OnOk result (AllHold (item_places self.old.file (pos at.entity.0) at.item edges number index (length (told edges self.old.file number)))) }
-        ensures edge { IfOk result (λ e. (e.0 ≡ edge_key number index) × (edge_at self.old.file number (entry_number index) ≡ Some e.1)) }
-        ensures fault { IfErr result (IsFault (item_places self.old.file (pos at.entity.0) at.item edges number index (length (told edges self.old.file number)))) }
+        ensures file { self.new ≡ self.old }
+        ensures holds { OnOk result (AllHold (item_places self.old (pos at.entity.0) at.item edges number index (length (told edges self.old number)))) }
+        ensures edge { IfOk result (λ e. (e.0 ≡ edge_key number index) × (edge_at self.old number (entry_number index) ≡ Some e.1)) }
+        ensures fault { IfErr result (IsFault (item_places self.old (pos at.entity.0) at.item edges number index (length (told edges self.old number)))) }
     {
-        if let Some((no, list)) = self.edges.get(&number) {
+        if let Some((no, list)) = self.edges.get(number) {
             return Ok(edge_of(*no, list, at, index)?);
         }
         let (no, list) = edge_list_at(self.file, at, number)?;
         let edge = edge_of(no, &list, at, index)?;
-        self.edges.insert(number, (no, list))?;
+        self.edges.keep(no, list)?;
         Ok(edge)
     }
 
     /// The start and the end of the edge at a place, whose curve must name geometry.
     pub fn ends(&mut self, at: Place, edge: EdgeTuple) -> Result<(VertexKey, VertexKey), WalkFault>
-        requires { AreKept self.old }
-        ensures file { OnOk result (self.new.file ≡ self.old.file) }
-        ensures kept { OnOk result (AreKept self.new) }
-        ensures holds { OnOk result (AllHold (edge_places self.old.file (pos at.entity.0) at.item (Some edge))) }
+        ensures file { self.new ≡ self.old }
+        ensures holds { OnOk result (AllHold (edge_places self.old (pos at.entity.0) at.item (Some edge))) }
         ensures ends { IfOk result (λ ends. (ends.0 ≡ vertex_key edge.start_list edge.start_index) × (ends.1 ≡ vertex_key edge.end_list edge.end_index)) }
-        ensures fault { IfErr result (IsFault (edge_places self.old.file (pos at.entity.0) at.item (Some edge))) }
+        ensures fault { IfErr result (IsFault (edge_places self.old (pos at.entity.0) at.item (Some edge))) }
     {
         if !names_geometry(self.file, edge.curve) {
             return Err(WalkFault::Fails(at.fails(Rule::BadGeometry)));
@@ -143,7 +137,7 @@ impl<'a> Lists<'a> {
 
     /// The file that the lists are of.
     pub fn file(&self) -> &'a File
-        ensures { result.now ≡ self.now.file }
+        ensures { result.now ≡ self.now }
     {
         self.file
     }

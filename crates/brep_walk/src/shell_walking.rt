@@ -95,7 +95,7 @@ fn shell_solid(alloc: Global, file: &File, no: EntryNo) -> Result<Solid, WalkFau
     ensures holds { OnOk result (AllHold (open_places file.now no.0)) }
     ensures fault { IfErr result (IsFault (open_places file.now no.0)) }
 {
-    let (faces, numbering) = numbered_faces(alloc, file, no)?;
+    let (faces, mut numbering) = numbered_faces(alloc, file, no)?;
     let vertices = numbering.vertices(alloc)?;
     let mut shells = Shells::new(alloc);
     shells.push(Shell {
@@ -103,7 +103,7 @@ fn shell_solid(alloc: Global, file: &File, no: EntryNo) -> Result<Solid, WalkFau
         flag: true,
         faces,
     })?;
-    Ok(Solid::new(no, shells, numbering.into_edges(), vertices))
+    Ok(Solid::new(no, shells, numbering.take_edges(alloc), vertices))
 }
 
 /// One shell as a solid of its own number: the shell with flag true, its faces, loops and uses as its records list them

@@ -41,6 +41,21 @@ impl<'a> ShellWalk<'a> {
         }
     }
 
+    /// Begins again, with no shell, no face and no loop named and no edge and no vertex used. The lists that were looked at
+    /// are kept.
+    pub fn restart(&mut self, alloc: Global)
+        ensures stands { Stands self.old.faces.loops.tuples.lists self.new.faces.loops.tuples.lists self.new.faces.loops.tuples.numbering }
+        ensures keys { self.new.faces.loops.tuples.numbering.keys ≡ record { edges = []; vertices = [] } }
+        ensures named { self.new.named ≡ [] }
+        ensures faces { self.new.faces.named ≡ [] }
+        ensures loops { self.new.faces.loops.named ≡ [] }
+    {
+        self.named.restart();
+        self.faces.named.restart();
+        self.faces.loops.named.restart();
+        self.faces.loops.tuples.numbering.restart(alloc);
+    }
+
     /// The shell that the number at a place names, with the flag of the solid that lists it, where all that it names is
     /// there.
     pub fn walk(
@@ -50,21 +65,22 @@ impl<'a> ShellWalk<'a> {
         number: i64,
         flag: bool,
     ) -> Result<Shell, WalkFault>
-        requires stands { Stands self.old.faces.loops.tuples.lists.file self.old.faces.loops.tuples.lists self.old.faces.loops.tuples.numbering }
-        requires faces { self.old.faces.named ≡ flat_map (λ shell. numbers (faces self.old.faces.loops.tuples.lists.file shell)) self.old.named }
-        requires loops { self.old.faces.loops.named ≡ flat_map (loops self.old.faces.loops.tuples.lists.file) self.old.faces.named }
-        ensures stands { OnOk result (Stands self.old.faces.loops.tuples.lists.file self.new.faces.loops.tuples.lists self.new.faces.loops.tuples.numbering) }
-        ensures keys { OnOk result (self.new.faces.loops.tuples.numbering.keys ≡ keys_after self.old.faces.loops.tuples.lists.file self.old.faces.loops.tuples.numbering.keys (shell_tuples self.old.faces.loops.tuples.lists.file (number, flag))) }
+        requires stands { Stands self.old.faces.loops.tuples.lists self.old.faces.loops.tuples.lists self.old.faces.loops.tuples.numbering }
+        requires faces { self.old.faces.named ≡ flat_map (λ shell. numbers (faces self.old.faces.loops.tuples.lists shell)) self.old.named }
+        requires loops { self.old.faces.loops.named ≡ flat_map (loops self.old.faces.loops.tuples.lists) self.old.faces.named }
+        ensures file { self.new.faces.loops.tuples.lists ≡ self.old.faces.loops.tuples.lists }
+        ensures stands { OnOk result (Stands self.old.faces.loops.tuples.lists self.new.faces.loops.tuples.lists self.new.faces.loops.tuples.numbering) }
+        ensures keys { OnOk result (self.new.faces.loops.tuples.numbering.keys ≡ keys_after self.old.faces.loops.tuples.lists self.old.faces.loops.tuples.numbering.keys (shell_tuples self.old.faces.loops.tuples.lists (number, flag))) }
         ensures named { OnOk result (self.new.named ≡ self.old.named ++ number ∷ []) }
-        ensures faces { OnOk result (self.new.faces.named ≡ flat_map (λ shell. numbers (faces self.old.faces.loops.tuples.lists.file shell)) self.new.named) }
-        ensures loops { OnOk result (self.new.faces.loops.named ≡ flat_map (loops self.old.faces.loops.tuples.lists.file) self.new.faces.named) }
-        ensures made { IfOk result (IsMadeBy self.new.faces.loops.tuples.numbering.keys (λ keys. shell_by self.old.faces.loops.tuples.lists.file keys (number, flag))) }
-        ensures holds { OnOk result (AllHold (shell_at self.old.faces.loops.tuples.lists.file (pos at.entity.0) at.item self.old.named number)) }
-        ensures fault { IfErr result (IsFault (shell_at self.old.faces.loops.tuples.lists.file (pos at.entity.0) at.item self.old.named number)) }
+        ensures faces { OnOk result (self.new.faces.named ≡ flat_map (λ shell. numbers (faces self.old.faces.loops.tuples.lists shell)) self.new.named) }
+        ensures loops { OnOk result (self.new.faces.loops.named ≡ flat_map (loops self.old.faces.loops.tuples.lists) self.new.faces.named) }
+        ensures made { IfOk result (IsMadeBy self.new.faces.loops.tuples.numbering.keys (λ keys. shell_by self.old.faces.loops.tuples.lists keys (number, flag))) }
+        ensures holds { OnOk result (AllHold (shell_at self.old.faces.loops.tuples.lists (pos at.entity.0) at.item self.old.named number)) }
+        ensures fault { IfErr result (IsFault (shell_at self.old.faces.loops.tuples.lists (pos at.entity.0) at.item self.old.named number)) }
     {
         let file = self.faces.loops.tuples.lists.file();
         let (entity, listed) = shell_at(file, at, number)?;
-        self.named.note(at, number)?;
+        self.named.note(at, entity)?;
         let faces = self.faces.walk_all(alloc, entity, &listed)?;
         Ok(Shell {
             entity,
@@ -81,16 +97,17 @@ impl<'a> ShellWalk<'a> {
         listed: &SolidRecord<'_>,
     ) -> Result<Shells, WalkFault>
         requires few { length listed.now.voids < 2 ^ 31 }
-        requires stands { Stands self.old.faces.loops.tuples.lists.file self.old.faces.loops.tuples.lists self.old.faces.loops.tuples.numbering }
+        requires stands { Stands self.old.faces.loops.tuples.lists self.old.faces.loops.tuples.lists self.old.faces.loops.tuples.numbering }
         requires named { self.old.named ≡ [] }
         requires faces { self.old.faces.named ≡ [] }
         requires loops { self.old.faces.loops.named ≡ [] }
-        ensures stands { OnOk result (Stands self.old.faces.loops.tuples.lists.file self.new.faces.loops.tuples.lists self.new.faces.loops.tuples.numbering) }
-        ensures keys { OnOk result (self.new.faces.loops.tuples.numbering.keys ≡ keys_after self.old.faces.loops.tuples.lists.file self.old.faces.loops.tuples.numbering.keys
-            (flat_map (shell_tuples self.old.faces.loops.tuples.lists.file) (listed.now.outer ∷ listed.now.voids))) }
-        ensures made { IfOk result (IsMadeBy self.new.faces.loops.tuples.numbering.keys (λ keys. map (shell_by self.old.faces.loops.tuples.lists.file keys) (listed.now.outer ∷ listed.now.voids))) }
-        ensures holds { OnOk result (AllHold (after_each (shell_places self.old.faces.loops.tuples.lists.file (pos no.0)) [] (listed.now.outer ∷ listed.now.voids))) }
-        ensures fault { IfErr result (IsFault (after_each (shell_places self.old.faces.loops.tuples.lists.file (pos no.0)) [] (listed.now.outer ∷ listed.now.voids))) }
+        ensures file { self.new.faces.loops.tuples.lists ≡ self.old.faces.loops.tuples.lists }
+        ensures stands { OnOk result (Stands self.old.faces.loops.tuples.lists self.new.faces.loops.tuples.lists self.new.faces.loops.tuples.numbering) }
+        ensures keys { OnOk result (self.new.faces.loops.tuples.numbering.keys ≡ keys_after self.old.faces.loops.tuples.lists self.old.faces.loops.tuples.numbering.keys
+            (flat_map (shell_tuples self.old.faces.loops.tuples.lists) (listed.now.outer ∷ listed.now.voids))) }
+        ensures made { IfOk result (IsMadeBy self.new.faces.loops.tuples.numbering.keys (λ keys. map (shell_by self.old.faces.loops.tuples.lists keys) (listed.now.outer ∷ listed.now.voids))) }
+        ensures holds { OnOk result (AllHold (after_each (shell_places self.old.faces.loops.tuples.lists (pos no.0)) [] (listed.now.outer ∷ listed.now.voids))) }
+        ensures fault { IfErr result (IsFault (after_each (shell_places self.old.faces.loops.tuples.lists (pos no.0)) [] (listed.now.outer ∷ listed.now.voids))) }
     {
         let mut shells = Shells::new(alloc);
         'shells: for i in 0..listed.len() {

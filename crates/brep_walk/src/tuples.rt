@@ -2,7 +2,6 @@
 
 ghost use Rattle.std.specs.Prelude.{◌≡◌, ◌∷◌, ◌<◌, ◌^◌, [], map, length, ℤ, Bool, pos, true, false, Some, All, IsTrue, ◌↔◌, slice_get, IfSome, IfOk, IfErr, OnOk};
 ghost use Rattle.indexmap.specs.IndexSet.{insert_key, insert_all};
-ghost use Rattle.brep_walk.specs.Kept.{AreKept};
 ghost use Rattle.brep_walk.specs.Numbered.{IsMadeBy, keys_after};
 ghost use Rattle.brep_walk.specs.Places.{NamesGeometry, edge_at, edge_places, used_places, tuple_at, tuple_places};
 ghost use Rattle.brep_walk.specs.SolidOf.{use_by, ends_named};
@@ -68,12 +67,13 @@ impl<'a> TupleWalk<'a> {
     // The use that a tuple of a vertex is.
     fn vertex_use(&mut self, at: Place, tuple: &LoopTuple<'_>) -> Result<LoopUse, WalkFault>
         requires vertex { tuple.now.is_vertex ≡ true }
-        requires stands { Stands self.old.lists.file self.old.lists self.old.numbering }
-        ensures stands { OnOk result (Stands self.old.lists.file self.new.lists self.new.numbering) }
-        ensures keys { OnOk result (self.new.numbering.keys ≡ keys_after self.old.lists.file self.old.numbering.keys (tuple.now ∷ [])) }
+        requires stands { Stands self.old.lists self.old.lists self.old.numbering }
+        ensures file { self.new.lists ≡ self.old.lists }
+        ensures stands { OnOk result (Stands self.old.lists self.new.lists self.new.numbering) }
+        ensures keys { OnOk result (self.new.numbering.keys ≡ keys_after self.old.lists self.old.numbering.keys (tuple.now ∷ [])) }
         ensures made { IfOk result (IsMadeBy self.new.numbering.keys (λ keys. use_by keys tuple.now)) }
-        ensures holds { OnOk result (AllHold (used_places self.old.lists.file (pos at.entity.0) at.item tuple.now.list tuple.now.index true)) }
-        ensures fault { IfErr result (IsFault (used_places self.old.lists.file (pos at.entity.0) at.item tuple.now.list tuple.now.index true)) }
+        ensures holds { OnOk result (AllHold (used_places self.old.lists (pos at.entity.0) at.item tuple.now.list tuple.now.index true)) }
+        ensures fault { IfErr result (IsFault (used_places self.old.lists (pos at.entity.0) at.item tuple.now.list tuple.now.index true)) }
     {
         let key = self.lists.vertex(at, tuple.list(), tuple.index())?;
         let vertex = self.numbering.vertex(key)?;
@@ -82,18 +82,19 @@ impl<'a> TupleWalk<'a> {
 
     // The number of an edge. Where it is numbered, its curve and its vertices were looked at before.
     fn edge_number(&mut self, key: EdgeKey, ends: EdgeTuple) -> Result<EdgeId, WalkFault>
-        requires ends { edge_at self.old.lists.file (pos key.«list».0) key.index ≡ Some ends }
-        requires stands { Stands self.old.lists.file self.old.lists self.old.numbering }
-        ensures stands { OnOk result (Stands self.old.lists.file self.new.lists self.new.numbering) }
+        requires ends { edge_at self.old.lists (pos key.«list».0) key.index ≡ Some ends }
+        requires stands { Stands self.old.lists self.old.lists self.old.numbering }
+        ensures file { self.new.lists ≡ self.old.lists }
+        ensures stands { OnOk result (Stands self.old.lists self.new.lists self.new.numbering) }
         ensures keys { OnOk result (self.new.numbering.keys ≡ record {
           edges = insert_key same_edge self.old.numbering.keys.edges key;
           vertices = insert_all same_vertex self.old.numbering.keys.vertices (ends_named (Some ends));
         }) }
         ensures id { IfOk result (λ id. id.0 ≡ place_of same_edge self.new.numbering.keys.edges key) }
-        ensures holds { OnOk result (AllHold (edge_places self.old.lists.file (pos key.«list».0) key.index (Some ends))) }
-        ensures fault { IfErr result (IsFault (edge_places self.old.lists.file (pos key.«list».0) key.index (Some ends))) }
+        ensures holds { OnOk result (AllHold (edge_places self.old.lists (pos key.«list».0) key.index (Some ends))) }
+        ensures fault { IfErr result (IsFault (edge_places self.old.lists (pos key.«list».0) key.index (Some ends))) }
     {
-        if let Some(edge) = self.numbering.known_edge(key)? {
+        if let Some(edge) = self.numbering.known_edge(key) {
             return Ok(edge);
         }
         let place = Place {
@@ -107,12 +108,13 @@ impl<'a> TupleWalk<'a> {
     // The use that a tuple of an edge is.
     fn edge_use(&mut self, at: Place, tuple: &LoopTuple<'_>) -> Result<LoopUse, WalkFault>
         requires edge { tuple.now.is_vertex ≡ false }
-        requires stands { Stands self.old.lists.file self.old.lists self.old.numbering }
-        ensures stands { OnOk result (Stands self.old.lists.file self.new.lists self.new.numbering) }
-        ensures keys { OnOk result (self.new.numbering.keys ≡ keys_after self.old.lists.file self.old.numbering.keys (tuple.now ∷ [])) }
+        requires stands { Stands self.old.lists self.old.lists self.old.numbering }
+        ensures file { self.new.lists ≡ self.old.lists }
+        ensures stands { OnOk result (Stands self.old.lists self.new.lists self.new.numbering) }
+        ensures keys { OnOk result (self.new.numbering.keys ≡ keys_after self.old.lists self.old.numbering.keys (tuple.now ∷ [])) }
         ensures made { IfOk result (IsMadeBy self.new.numbering.keys (λ keys. use_by keys tuple.now)) }
-        ensures holds { OnOk result (AllHold (used_places self.old.lists.file (pos at.entity.0) at.item tuple.now.list tuple.now.index false)) }
-        ensures fault { IfErr result (IsFault (used_places self.old.lists.file (pos at.entity.0) at.item tuple.now.list tuple.now.index false)) }
+        ensures holds { OnOk result (AllHold (used_places self.old.lists (pos at.entity.0) at.item tuple.now.list tuple.now.index false)) }
+        ensures fault { IfErr result (IsFault (used_places self.old.lists (pos at.entity.0) at.item tuple.now.list tuple.now.index false)) }
     {
         let (key, ends) = self.lists.edge(at, tuple.list(), tuple.index())?;
         let edge = self.edge_number(key, ends)?;
@@ -124,12 +126,13 @@ impl<'a> TupleWalk<'a> {
 
     // The use that a tuple is.
     fn tuple_use(&mut self, at: Place, tuple: &LoopTuple<'_>) -> Result<LoopUse, WalkFault>
-        requires { Stands self.old.lists.file self.old.lists self.old.numbering }
-        ensures stands { OnOk result (Stands self.old.lists.file self.new.lists self.new.numbering) }
-        ensures keys { OnOk result (self.new.numbering.keys ≡ keys_after self.old.lists.file self.old.numbering.keys (tuple.now ∷ [])) }
+        requires { Stands self.old.lists self.old.lists self.old.numbering }
+        ensures file { self.new.lists ≡ self.old.lists }
+        ensures stands { OnOk result (Stands self.old.lists self.new.lists self.new.numbering) }
+        ensures keys { OnOk result (self.new.numbering.keys ≡ keys_after self.old.lists self.old.numbering.keys (tuple.now ∷ [])) }
         ensures made { IfOk result (IsMadeBy self.new.numbering.keys (λ keys. use_by keys tuple.now)) }
-        ensures holds { OnOk result (AllHold (used_places self.old.lists.file (pos at.entity.0) at.item tuple.now.list tuple.now.index tuple.now.is_vertex)) }
-        ensures fault { IfErr result (IsFault (used_places self.old.lists.file (pos at.entity.0) at.item tuple.now.list tuple.now.index tuple.now.is_vertex)) }
+        ensures holds { OnOk result (AllHold (used_places self.old.lists (pos at.entity.0) at.item tuple.now.list tuple.now.index tuple.now.is_vertex)) }
+        ensures fault { IfErr result (IsFault (used_places self.old.lists (pos at.entity.0) at.item tuple.now.list tuple.now.index tuple.now.is_vertex)) }
     {
         if tuple.is_vertex() {
             self.vertex_use(at, tuple)
@@ -140,12 +143,13 @@ impl<'a> TupleWalk<'a> {
 
     /// The use that the tuple at a place is, where all that it names is there.
     pub fn walk(&mut self, at: Place, tuple: &LoopTuple<'_>) -> Result<LoopUse, WalkFault>
-        requires { Stands self.old.lists.file self.old.lists self.old.numbering }
-        ensures stands { OnOk result (Stands self.old.lists.file self.new.lists self.new.numbering) }
-        ensures keys { OnOk result (self.new.numbering.keys ≡ keys_after self.old.lists.file self.old.numbering.keys (tuple.now ∷ [])) }
+        requires { Stands self.old.lists self.old.lists self.old.numbering }
+        ensures file { self.new.lists ≡ self.old.lists }
+        ensures stands { OnOk result (Stands self.old.lists self.new.lists self.new.numbering) }
+        ensures keys { OnOk result (self.new.numbering.keys ≡ keys_after self.old.lists self.old.numbering.keys (tuple.now ∷ [])) }
         ensures made { IfOk result (IsMadeBy self.new.numbering.keys (λ keys. use_by keys tuple.now)) }
-        ensures holds { OnOk result (AllHold (tuple_at self.old.lists.file (pos at.entity.0) at.item tuple.now)) }
-        ensures fault { IfErr result (IsFault (tuple_at self.old.lists.file (pos at.entity.0) at.item tuple.now)) }
+        ensures holds { OnOk result (AllHold (tuple_at self.old.lists (pos at.entity.0) at.item tuple.now)) }
+        ensures fault { IfErr result (IsFault (tuple_at self.old.lists (pos at.entity.0) at.item tuple.now)) }
     {
         let made = self.tuple_use(at, tuple)?;
         if !curves_name_geometry(self.lists.file(), tuple) {
@@ -162,12 +166,13 @@ impl<'a> TupleWalk<'a> {
         listed: &LoopRecord<'_>,
     ) -> Result<Uses, WalkFault>
         requires few { length listed.now < 2 ^ 31 }
-        requires stands { Stands self.old.lists.file self.old.lists self.old.numbering }
-        ensures stands { OnOk result (Stands self.old.lists.file self.new.lists self.new.numbering) }
-        ensures keys { OnOk result (self.new.numbering.keys ≡ keys_after self.old.lists.file self.old.numbering.keys listed.now) }
+        requires stands { Stands self.old.lists self.old.lists self.old.numbering }
+        ensures file { self.new.lists ≡ self.old.lists }
+        ensures stands { OnOk result (Stands self.old.lists self.new.lists self.new.numbering) }
+        ensures keys { OnOk result (self.new.numbering.keys ≡ keys_after self.old.lists self.old.numbering.keys listed.now) }
         ensures made { IfOk result (IsMadeBy self.new.numbering.keys (λ keys. map (use_by keys) listed.now)) }
-        ensures holds { OnOk result (AllHold (after_each (tuple_places self.old.lists.file (pos no.0)) [] listed.now)) }
-        ensures fault { IfErr result (IsFault (after_each (tuple_places self.old.lists.file (pos no.0)) [] listed.now)) }
+        ensures holds { OnOk result (AllHold (after_each (tuple_places self.old.lists (pos no.0)) [] listed.now)) }
+        ensures fault { IfErr result (IsFault (after_each (tuple_places self.old.lists (pos no.0)) [] listed.now)) }
     {
         let mut uses = Uses::new(alloc);
         let mut item = 0;

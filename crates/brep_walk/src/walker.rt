@@ -8,7 +8,8 @@ ghost use Rattle.solid_data.specs.Obligations.{AllHold, FirstFalse};
 ghost use Rattle.solid_data.specs.declared.verdict.Failing.{Failing as Named};
 
 use crate::fault::WalkFault;
-use crate::walking::walk;
+use crate::shells::ShellWalk;
+use crate::walking::walk_solid;
 use iges_fields::EntryNo;
 use iges_params::File;
 use solid_data::Solid;
@@ -19,7 +20,7 @@ use std::marker::Model;
 /// all of them, so that a walk costs what its own solid names (own).
 #[derive(Drop)]
 pub struct Walker<'a> {
-    file: &'a File,
+    walk: ShellWalk<'a>,
 }
 
 impl<'a> Model for Walker<'a> {
@@ -27,15 +28,17 @@ impl<'a> Model for Walker<'a> {
 
     ghost Value = { Contents };
 
-    ghost view = { λ walker. walker.file.now };
+    ghost view = { λ walker. walker.walk.faces.loops.tuples.lists };
 }
 
 impl<'a> Walker<'a> {
     /// A walker of the solids of a file.
-    pub fn new(_alloc: Global, file: &'a File) -> Walker<'a>
+    pub fn new(alloc: Global, file: &'a File) -> Walker<'a>
         ensures { result ≡ file.now }
     {
-        Walker { file }
+        Walker {
+            walk: ShellWalk::new(alloc, file),
+        }
     }
 
     /// The solid of an entry, as `walk` tells it. After a fault the walker serves for other solids.
@@ -47,6 +50,6 @@ impl<'a> Walker<'a> {
         ensures only { AllHold (places self.old no.0) → Gives result (Ok (solid_of self.old no.0)) }
         ensures only_fault { (x : Named) → FirstFalse (places self.old no.0) x → Gives result (Err x) }
     {
-        walk(alloc, self.file, no)
+        walk_solid(&mut self.walk, alloc, no)
     }
 }

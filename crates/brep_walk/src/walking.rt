@@ -1,7 +1,8 @@
 //! The walk through a solid.
 
-ghost use Rattle.std.specs.Prelude.{◌≡◌, IfOk, IfErr, OnOk, Ok, Err, map, flat_map, pos};
-ghost use Rattle.brep_walk.specs.Places.{places, shells};
+ghost use Rattle.std.specs.Prelude.{◌≡◌, ◌<◌, ◌^◌, IfOk, IfErr, OnOk, Ok, Err, map, flat_map, length, pos};
+ghost use Rattle.brep_lists.specs.Record.{solid};
+ghost use Rattle.brep_walk.specs.Places.{told, record_places, places, shells};
 ghost use Rattle.brep_walk.specs.SolidOf.{keys_of, shell_of, edge_of, edge_keys, solid_of};
 ghost use Rattle.brep_walk.specs.Walked.{IsFault, Gives};
 ghost use Rattle.iges_params.specs.Limits.{FitsLimits};
@@ -9,47 +10,71 @@ ghost use Rattle.solid_data.specs.Obligations.{AllHold, FirstFalse};
 ghost use Rattle.solid_data.specs.declared.verdict.Failing.{Failing as Named};
 
 use crate::fault::WalkFault;
-use crate::numbering::Numbering;
+use crate::lists::Lists;
 use crate::place::Place;
 use crate::records::solid_at;
 use crate::shells::ShellWalk;
+use crate::walker::Walker;
+use brep_loops::SolidRecord;
 use iges_fields::EntryNo;
 use iges_params::File;
-use solid_data::{Shells, Solid};
+use solid_data::{Failing, Shells, Solid};
 use std::alloc::Global;
 
-// The shells of a solid, and the numbers of its edges and vertices.
-fn numbered_shells(
-    alloc: Global,
-    file: &File,
+// The record of a solid.
+fn solid_record<'a>(
+    lists: &Lists<'a>,
     no: EntryNo,
-) -> Result<(Shells, Numbering), WalkFault>
-    ensures holds { OnOk result (AllHold (places file.now no.0)) }
-    ensures shells { IfOk result (λ r. r.0 ≡ map (shell_of file.now (pos no.0)) (shells file.now (pos no.0))) }
-    ensures keys { IfOk result (λ r. r.1.keys ≡ keys_of file.now (pos no.0)) }
-    ensures edges { IfOk result (λ r. r.1.edges ≡ flat_map (edge_of file.now (pos no.0)) (edge_keys file.now (pos no.0))) }
-    ensures fault { IfErr result (IsFault (places file.now no.0)) }
-    ensures limits { FitsLimits file.now }
+) -> Result<(EntryNo, SolidRecord<'a>), Failing>
+    ensures holds { OnOk result (AllHold (record_places lists.now (pos no.0) 0 solid (pos no.0))) }
+    ensures named { IfOk result (λ r. (pos no.0 ≡ pos r.0.0) × (r.1 ≡ told solid lists.now (pos no.0))) }
+    ensures few { IfOk result (λ r. length r.1.voids < 2 ^ 31) }
+    ensures limits { FitsLimits lists.now }
+    ensures fails { IfErr result (FirstFalse (record_places lists.now (pos no.0) 0 solid (pos no.0))) }
 {
     let place = Place {
         entity: no,
         item: 0,
     };
-    let (entity, listed) = solid_at(file, place, i64::from(no.0))?;
-    let mut walk = ShellWalk::new(alloc, file);
-    let shells = walk.walk_all(alloc, entity, &listed)?;
-    Ok((shells, walk.faces.loops.tuples.numbering))
+    solid_at(lists.file(), place, i64::from(no.0))
 }
 
-// The solid, or the first place that fails.
-fn solid(alloc: Global, file: &File, no: EntryNo) -> Result<Solid, WalkFault>
-    ensures solid { IfOk result (λ s. s ≡ solid_of file.now no.0) }
-    ensures holds { OnOk result (AllHold (places file.now no.0)) }
-    ensures fault { IfErr result (IsFault (places file.now no.0)) }
+// The shells of a solid. The walk begins again for it.
+fn numbered_shells(
+    walk: &mut ShellWalk<'_>,
+    alloc: Global,
+    no: EntryNo,
+) -> Result<Shells, WalkFault>
+    ensures file { walk.new.faces.loops.tuples.lists ≡ walk.old.faces.loops.tuples.lists }
+    ensures holds { OnOk result (AllHold (places walk.old.faces.loops.tuples.lists no.0)) }
+    ensures shells { IfOk result (λ r. r ≡ map (shell_of walk.old.faces.loops.tuples.lists (pos no.0)) (shells walk.old.faces.loops.tuples.lists (pos no.0))) }
+    ensures keys { OnOk result (walk.new.faces.loops.tuples.numbering.keys ≡ keys_of walk.old.faces.loops.tuples.lists (pos no.0)) }
+    ensures edges { OnOk result (walk.new.faces.loops.tuples.numbering.edges ≡ flat_map (edge_of walk.old.faces.loops.tuples.lists (pos no.0)) (edge_keys walk.old.faces.loops.tuples.lists (pos no.0))) }
+    ensures fault { IfErr result (IsFault (places walk.old.faces.loops.tuples.lists no.0)) }
+    ensures limits { FitsLimits walk.old.faces.loops.tuples.lists }
 {
-    let (shells, numbering) = numbered_shells(alloc, file, no)?;
+    let (entity, listed) = solid_record(&walk.faces.loops.tuples.lists, no)?;
+    walk.restart(alloc);
+    walk.walk_all(alloc, entity, &listed)
+}
+
+/// The solid that a walk through its file finds, or the first place that fails. The walk may have gone through other
+/// solids before, with whatever end.
+pub fn walk_solid(
+    walk: &mut ShellWalk<'_>,
+    alloc: Global,
+    no: EntryNo,
+) -> Result<Solid, WalkFault>
+    ensures file { walk.new.faces.loops.tuples.lists ≡ walk.old.faces.loops.tuples.lists }
+    ensures solid { IfOk result (λ s. s ≡ solid_of walk.old.faces.loops.tuples.lists no.0) }
+    ensures holds { OnOk result (AllHold (places walk.old.faces.loops.tuples.lists no.0)) }
+    ensures fault { IfErr result (IsFault (places walk.old.faces.loops.tuples.lists no.0)) }
+{
+    let shells = numbered_shells(walk, alloc, no)?;
+    let numbering = &mut walk.faces.loops.tuples.numbering;
     let vertices = numbering.vertices(alloc)?;
-    Ok(Solid::new(no, shells, numbering.into_edges(), vertices))
+    let edges = numbering.take_edges(alloc);
+    Ok(Solid::new(no, shells, edges, vertices))
 }
 
 /// The solid of an entry: the shells, faces, loops and uses as its records list them (IGES 5.3, 4.49 and 4.145 to
@@ -62,5 +87,5 @@ pub fn walk(alloc: Global, file: &File, no: EntryNo) -> Result<Solid, WalkFault>
     ensures only { AllHold (places file.now no.0) → Gives result (Ok (solid_of file.now no.0)) }
     ensures only_fault { (x : Named) → FirstFalse (places file.now no.0) x → Gives result (Err x) }
 {
-    solid(alloc, file, no)
+    Walker::new(alloc, file).walk(alloc, no)
 }

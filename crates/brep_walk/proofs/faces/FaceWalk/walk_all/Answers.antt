@@ -13,8 +13,8 @@ use Rattle.brep_walk.proofs.faces.FaceWalk.walk_all.Goals as goal
 
 pub faces-preserved : goal.faces-preserved
 faces-preserved c =
-    let f = c.args.self.now.loops.tuples.lists.file in
-    let g = c.faces.self.loops.tuples.lists.file in
+    let f = c.args.self.now.loops.tuples.lists in
+    let g = c.faces.self.loops.tuples.lists in
     let i = c.faces.invariant in
     let e = c.in_ok-made.ensures in
     let all = c.args.listed.now in
@@ -37,7 +37,7 @@ faces-preserved c =
 
 pub returns-in_err-made-clause-fault : goal.returns-in_err-made-clause-fault
 returns-in_err-made-clause-fault c =
-    let f = c.args.self.now.loops.tuples.lists.file in
+    let f = c.args.self.now.loops.tuples.lists in
     let i = c.faces.invariant in
     let all = c.args.listed.now in
     let used = c.args.self.now.named in
@@ -47,5 +47,5 @@ returns-in_err-made-clause-fault c =
     handed (after_each (face_places f (pos c.args.no.0) used) [] all) c.from_residual.result _
     (fault_at (face_places f (pos c.args.no.0) used) all c.faces.i x (after_each (face_places f (pos c.args.no.0) used) [] all) _ at i.remains
     (face_failed f (pos c.args.no.0) used (take c.faces.i all) x c.in_err-made.field-0.0
-    (item_fails f c.faces.self.loops.tuples.lists.file i.stands.file (pos c.args.no.0) c.faces.self.named (used ++ numbers (take c.faces.i all)) all c.faces.i x _ at is i.named face_at c.in_err-made.field-0.0 c.in_err-made.ensures.fault)))
+    (item_fails f c.faces.self.loops.tuples.lists i.stands.file (pos c.args.no.0) c.faces.self.named (used ++ numbers (take c.faces.i all)) all c.faces.i x _ at is i.named face_at c.in_err-made.field-0.0 c.in_err-made.ensures.fault)))
     c.from_residual.ensures.1

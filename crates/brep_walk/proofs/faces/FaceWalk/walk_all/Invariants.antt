@@ -9,7 +9,7 @@ use Rattle.brep_walk.proofs.faces.FaceWalk.walk_all.Given as goal
 
 abbrev pub invariant-faces : goal.invariant-faces
 invariant-faces l =
-    let f = l.fn.self.loops.tuples.lists.file in
+    let f = l.fn.self.loops.tuples.lists in
     record {
       stands : Stands f l.self.loops.tuples.lists l.self.loops.tuples.numbering;
       keys : keys_after f l.self.loops.tuples.numbering.keys (flat_map (face_tuples f) (drop l.i l.listed)) ≡ keys_after f l.fn.self.loops.tuples.numbering.keys (flat_map (face_tuples f) l.listed);

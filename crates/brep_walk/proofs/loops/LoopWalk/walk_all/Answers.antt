@@ -12,8 +12,8 @@ use Rattle.brep_walk.proofs.loops.LoopWalk.walk_all.Goals as goal
 
 pub loops-preserved : goal.loops-preserved
 loops-preserved c =
-    let f = c.args.self.now.tuples.lists.file in
-    let g = c.loops.self.tuples.lists.file in
+    let f = c.args.self.now.tuples.lists in
+    let g = c.loops.self.tuples.lists in
     let i = c.loops.invariant in
     let e = c.in_ok-made.ensures in
     let all = c.args.listed.now.loops in
@@ -32,7 +32,7 @@ loops-preserved c =
 
 pub returns-in_err-made-clause-fault : goal.returns-in_err-made-clause-fault
 returns-in_err-made-clause-fault c =
-    let f = c.args.self.now.tuples.lists.file in
+    let f = c.args.self.now.tuples.lists in
     let i = c.loops.invariant in
     let all = c.args.listed.now.loops in
     let z = c.unwrap-number.result in
@@ -40,5 +40,5 @@ returns-in_err-made-clause-fault c =
     let is : to_z w64 (of_z w64 z) ≡ z = search rules in
     handed (after_each (loop_places f (pos c.args.no.0) c.args.self.now.named) [] all) c.from_residual.result _
     (fault_at (loop_places f (pos c.args.no.0) c.args.self.now.named) all c.loops.i z (after_each (loop_places f (pos c.args.no.0) c.args.self.now.named) [] all) _ at i.remains
-    (loop_fails f c.loops.self.tuples.lists.file i.stands.file (pos c.args.no.0) c.args.self.now.named c.loops.self.named all c.loops.i z _ at is i.named c.in_err-made.field-0.0 c.in_err-made.ensures.fault))
+    (loop_fails f c.loops.self.tuples.lists i.stands.file (pos c.args.no.0) c.args.self.now.named c.loops.self.named all c.loops.i z _ at is i.named c.in_err-made.field-0.0 c.in_err-made.ensures.fault))
     c.from_residual.ensures.1

@@ -9,7 +9,7 @@ use Rattle.brep_walk.proofs.loops.LoopWalk.walk_all.Given as goal
 
 abbrev pub invariant-loops : goal.invariant-loops
 invariant-loops l =
-    let f = l.fn.self.tuples.lists.file in
+    let f = l.fn.self.tuples.lists in
     record {
       stands : Stands f l.self.tuples.lists l.self.tuples.numbering;
       keys : keys_after f l.self.tuples.numbering.keys (flat_map (tuples f) (drop l.i l.listed.loops)) ≡ keys_after f l.fn.self.tuples.numbering.keys (flat_map (tuples f) l.listed.loops);

@@ -1,9 +1,13 @@
-use Rattle.std.proofs.lemmas.Int.{to_z-of_z}
-use mir.Syntax.{w64}
-use Rattle.brep_walk.proofs.NamedOnce.{named_twice}
+use Rattle.std.proofs.Common.{◌∙◌, rules}
+use Rattle.brep_walk.proofs.PlacedNumbers.{still_placed, placed_more, not_there}
 use Rattle.brep_walk.proofs.once.Once.note.Goals as goal
 
-pub returns-then-not-branch-clause-fault : goal.returns-then-not-branch-clause-fault
-returns-then-not-branch-clause-fault c =
-    named_twice c.self.inside.numbers.keys c.args.self.now c.self.view_is c.args.number _ c.args.at.entity.0 c.args.at.item _ _ (to_z-of_z w64 c.args.number c.ranges.number)
-    c.in_ok-insert.ensures.added c.if-not-branch.true c.fails.ensures
+pub invariant_of-self-in_err-push : goal.invariant_of-self-in_err-push
+invariant_of-self-in_err-push c =
+    rw c.in_err-push.ensures.items (still_placed c.self.inside.positions c.set.new.self c.self.inside.numbers.items c.args.no.0 c.self.invariant
+    (not_there _ _ c.self.view_is c.args.no.0 c.if-has.ensures.1) c.in_ok-set.ensures.others)
+
+pub invariant_of-self-2 : goal.invariant_of-self-2
+invariant_of-self-2 c =
+    rw c.in_ok-push.ensures.items (placed_more c.self.inside.positions c.set.new.self c.self.inside.numbers.items c.args.no.0 c.self.invariant
+    (not_there _ _ c.self.view_is c.args.no.0 c.if-has.ensures.1) c.in_ok-set.ensures.others (c.in_ok-set.ensures.set ∙ (c.in_ok-position.ensures ∙ (c.len.ensures ∙ search rules))))

@@ -13,8 +13,8 @@ use Rattle.brep_walk.proofs.shells.ShellWalk.walk_all.Goals as goal
 
 pub shells-preserved : goal.shells-preserved
 shells-preserved c =
-    let f = c.args.self.now.faces.loops.tuples.lists.file in
-    let g = c.shells.self.faces.loops.tuples.lists.file in
+    let f = c.args.self.now.faces.loops.tuples.lists in
+    let g = c.shells.self.faces.loops.tuples.lists in
     let i = c.shells.invariant in
     let e = c.in_ok-made.ensures in
     let all = c.args.listed.now.outer ∷ c.args.listed.now.voids in
@@ -37,7 +37,7 @@ shells-preserved c =
 
 pub returns-in_err-made-clause-fault : goal.returns-in_err-made-clause-fault
 returns-in_err-made-clause-fault c =
-    let f = c.args.self.now.faces.loops.tuples.lists.file in
+    let f = c.args.self.now.faces.loops.tuples.lists in
     let i = c.shells.invariant in
     let all = c.args.listed.now.outer ∷ c.args.listed.now.voids in
     let x = c.unwrap-number.result in
@@ -46,7 +46,7 @@ returns-in_err-made-clause-fault c =
     handed (after_each (shell_places f (pos c.args.no.0)) [] all) c.from_residual.result _
     (fault_at (shell_places f (pos c.args.no.0)) all c.shells.i x (after_each (shell_places f (pos c.args.no.0)) [] all) _ at i.remains
     (shell_failed f (pos c.args.no.0) (take c.shells.i all) x c.in_err-made.field-0.0
-    (item_fails f c.shells.self.faces.loops.tuples.lists.file i.stands.file (pos c.args.no.0) c.shells.self.named (numbers (take c.shells.i all)) all c.shells.i x _ at is i.named shell_at c.in_err-made.field-0.0 c.in_err-made.ensures.fault)))
+    (item_fails f c.shells.self.faces.loops.tuples.lists i.stands.file (pos c.args.no.0) c.shells.self.named (numbers (take c.shells.i all)) all c.shells.i x _ at is i.named shell_at c.in_err-made.field-0.0 c.in_err-made.ensures.fault)))
     c.from_residual.ensures.1
 
 pub walk-requires-clause-faces : goal.walk-requires-clause-faces
@@ -55,7 +55,7 @@ walk-requires-clause-faces c =
 
 pub returns-clause-made : goal.returns-clause-made
 returns-clause-made c =
-    let f = c.args.self.now.faces.loops.tuples.lists.file in
+    let f = c.args.self.now.faces.loops.tuples.lists in
     let all = c.args.listed.now.outer ∷ c.args.listed.now.voids in
     let past : length all ≤ c.shells.i = omega (arith, c.len-i-end.ensures, c.shells-test.false) in
     subst (λ xs. IsMadeBy c.shells.self.faces.loops.tuples.numbering.keys (λ k. map (shell_by f k) xs) c.shells.shells) (take_past all c.shells.i past) c.shells.invariant.made

@@ -9,7 +9,7 @@ use Rattle.brep_walk.proofs.shells.ShellWalk.walk_all.Given as goal
 
 abbrev pub invariant-shells : goal.invariant-shells
 invariant-shells l =
-    let f = l.fn.self.faces.loops.tuples.lists.file in
+    let f = l.fn.self.faces.loops.tuples.lists in
     let all = l.listed.outer ∷ l.listed.voids in
     record {
       stands : Stands f l.self.faces.loops.tuples.lists l.self.faces.loops.tuples.numbering;

@@ -16,5 +16,5 @@ pub returns-in_err-edge-clause-fault : goal.returns-in_err-edge-clause-fault
 returns-in_err-edge-clause-fault c =
     let a : to_z w64 (of_z w64 c.list.result) ≡ c.args.tuple.now.list = search rules in
     let b : to_z w64 (of_z w64 c.index.result) ≡ c.args.tuple.now.index = search rules in
-    ends_fault c.from_residual-in_err-edge.result _ c.args.self.now.lists.file _ c.in_ok-key.ensures.file (pos c.args.at.entity.0) c.args.at.item c.args.tuple.now.list c.args.tuple.now.index _ _ a b
+    ends_fault c.from_residual-in_err-edge.result _ c.args.self.now.lists _ c.in_ok-key.ensures.file (pos c.args.at.entity.0) c.args.at.item c.args.tuple.now.list c.args.tuple.now.index _ _ a b
     c.in_ok-key.key c.in_ok-key.ends c.in_ok-key.ensures.edge.0 c.in_ok-key.ensures.edge.1 c.in_ok-key.ensures.holds c.in_err-edge.ensures.fault c.from_residual-in_err-edge.ensures.1

@@ -10,7 +10,7 @@ use Rattle.brep_walk.proofs.tuples.TupleWalk.walk_all.Goals as goal
 
 pub tuples-preserved : goal.tuples-preserved
 tuples-preserved c =
-    let f = c.args.self.now.lists.file in
+    let f = c.args.self.now.lists in
     let i = c.tuples.invariant in
     let e = c.in_ok-made.ensures in
     let place : c.tuples.item + 1 ≡ length c.tuples.yielded + 1 = ap (λ n. n + 1) i.count in
@@ -18,9 +18,9 @@ tuples-preserved c =
       count = omega (arith, i.count, length-append c.tuples.yielded (c.in-Some.tuple ∷ []));
       left = left_step c.tuples.yielded c.tuples.tuple-iterator c.next.new.self c.args.listed.now c.in-Some.tuple i.left c.in-Some.ensures.steps;
       stands = subst (λ g. Stands g c.walk.new.self.lists c.walk.new.self.numbering) i.stands.file e.stands;
-      keys = keys_step f c.tuples.self.lists.file i.stands.file c.args.self.now.numbering.keys c.tuples.self.numbering.keys c.walk.new.self.numbering.keys (c.in-Some.tuple ∷ []) c.next.new.self
+      keys = keys_step f c.tuples.self.lists i.stands.file c.args.self.now.numbering.keys c.tuples.self.numbering.keys c.walk.new.self.numbering.keys (c.in-Some.tuple ∷ []) c.next.new.self
           c.tuples.tuple-iterator c.args.listed.now c.in-Some.ensures.steps i.keys e.keys;
-      made = made_last use_by c.tuples.self.numbering.keys c.walk.new.self.numbering.keys (keys_grow c.tuples.self.lists.file c.tuples.self.numbering.keys c.walk.new.self.numbering.keys (c.in-Some.tuple ∷ []) e.keys)
+      made = made_last use_by c.tuples.self.numbering.keys c.walk.new.self.numbering.keys (keys_grow c.tuples.self.lists c.tuples.self.numbering.keys c.walk.new.self.numbering.keys (c.in-Some.tuple ∷ []) e.keys)
           c.tuples.yielded c.in-Some.tuple c.tuples.uses c.in_ok-made.made c.push.new.self i.made e.made c.in_ok-push.ensures.ok;
       remains = remains_next (tuple_places f (pos c.args.no.0)) c.tuples.yielded c.tuples.tuple-iterator c.next.new.self c.in-Some.tuple
           (after_each (tuple_places f (pos c.args.no.0)) [] c.args.listed.now) c.in-Some.ensures.steps i.remains
@@ -30,7 +30,7 @@ tuples-preserved c =
 
 pub returns-in_err-made-clause-fault : goal.returns-in_err-made-clause-fault
 returns-in_err-made-clause-fault c =
-    let f = c.args.self.now.lists.file in
+    let f = c.args.self.now.lists in
     let i = c.tuples.invariant in
     let place : c.tuples.item + 1 ≡ length c.tuples.yielded + 1 = ap (λ n. n + 1) i.count in
     handed (after_each (tuple_places f (pos c.args.no.0)) [] c.args.listed.now) c.from_residual.result _

@@ -11,8 +11,8 @@ abbrev pub invariant-tuples : goal.invariant-tuples
 invariant-tuples l = record {
   count : l.item ≡ length l.yielded;
   left : l.yielded ++ l.tuple-iterator ≡ l.listed;
-  stands : Stands l.fn.self.lists.file l.self.lists l.self.numbering;
-  keys : keys_after l.fn.self.lists.file l.self.numbering.keys l.tuple-iterator ≡ keys_after l.fn.self.lists.file l.fn.self.numbering.keys l.listed;
+  stands : Stands l.fn.self.lists l.self.lists l.self.numbering;
+  keys : keys_after l.fn.self.lists l.self.numbering.keys l.tuple-iterator ≡ keys_after l.fn.self.lists l.fn.self.numbering.keys l.listed;
   made : IsMadeBy l.self.numbering.keys (λ keys. map (use_by keys) l.yielded) l.uses;
-  remains : Remains (after_each (tuple_places l.fn.self.lists.file (pos l.no.0)) l.yielded l.tuple-iterator) (after_each (tuple_places l.fn.self.lists.file (pos l.no.0)) [] l.listed);
+  remains : Remains (after_each (tuple_places l.fn.self.lists (pos l.no.0)) l.yielded l.tuple-iterator) (after_each (tuple_places l.fn.self.lists (pos l.no.0)) [] l.listed);
 }
