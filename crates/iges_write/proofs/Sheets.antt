@@ -1,9 +1,9 @@
 -- Sheets and what is put on them.
-use Rattle.std.proofs.Common.{◌≡◌, ℕ, ◌+◌, ◌-◌, ◌<◌, ◌≤◌, Bool, true, false, List, [], ◌∷◌, ◌++◌, length, take, drop, map, refl, sym, ap, subst, ◌∙◌, append_assoc, arith, length-append, inl, inr, Result}
+use Rattle.std.proofs.Common.{◌≡◌, ℕ, ◌+◌, ◌-◌, ◌<◌, ◌≤◌, Bool, true, false, List, [], ◌∷◌, ◌++◌, length, take, drop, map, replicate, refl, sym, ap, subst, ◌∙◌, append_assoc, arith, length-append, inl, inr, Result}
 use Rattle.std.specs.Prelude.{nat_le, if◌then◌else◌, flat_map}
 use Rattle.std.specs.List.{enumerate_from}
 use Rattle.std.specs.Fmt.{decimal}
-use Rattle.std.proofs.lemmas.List.{append-nil, map-append, length-map, nil_from_length, take-append-le, drop-append-le}
+use Rattle.std.proofs.lemmas.List.{append-nil, map-append, length-map, length-replicate, nil_from_length, take-append-drop, take-append-le, take-replicate, take_all, drop_all, drop-append-le}
 use Rattle.std.proofs.lemmas.Bool.{le-leb, lt-leb}
 use Rattle.std.proofs.lemmas.Bool.Decides.{leb_tells}
 use Rattle.std.specs.Result.{IsErrAnd}
@@ -24,6 +24,24 @@ use Rattle.iges_write.proofs.Filling.{fill-fits, fill-new}
 
 pub right_grown : (new mid old : List ℕ) (n : ℕ) (text : List ℕ) → length text ≤ n → mid ≡ old ++ spaces (n - length text) → new ≡ mid ++ text → new ≡ old ++ right n text
 right_grown new mid old n text le m e = e ∙ ap (λ (l : List ℕ). l ++ text) m ∙ append_assoc old (spaces (n - length text)) text ∙ ap (λ (l : List ℕ). old ++ l) (sym (right-is n text le))
+
+-- a text that was written over the last of so many spaces
+pub right_written : (new old text : List ℕ) (start n : ℕ) → old ≡ spaces n → start + length text ≡ n → drop start new ≡ text ++ drop n old → take start new ≡ take start old → new ≡ right n text
+right_written new old text start n blank long behind before =
+    let none : drop n old ≡ [] = ap (drop n) blank ∙ drop_all n (spaces n) (omega (arith, length-replicate {A = ℕ} n 32)) in
+    let front : take start old ≡ spaces start = ap (take start) blank ∙ take-replicate start n 32 (omega (arith, long)) in
+    let left : start ≡ n - length text = omega (arith, long) in
+    sym (take-append-drop start new)
+    ∙ ap (λ (x : List ℕ). x ++ drop start new) (before ∙ front)
+    ∙ ap (λ (x : List ℕ). spaces start ++ x) (behind ∙ ap (λ (x : List ℕ). text ++ x) none ∙ append-nil text)
+    ∙ ap (λ (k : ℕ). spaces k ++ text) left
+    ∙ sym (right-is n text (omega (arith, long)))
+
+-- a text that was written before the last of 21 bytes, with that byte
+pub word_written : (new old digits : List ℕ) (start e : ℕ) → old ≡ replicate 21 e → start + length digits ≡ 20 → drop start new ≡ digits ++ drop 20 old → take (21 - start) (drop start new) ≡ digits ++ e ∷ []
+word_written new old digits start e blank long behind =
+    let whole : drop start new ≡ digits ++ e ∷ [] = behind ∙ ap (λ (x : List ℕ). digits ++ drop 20 x) blank in
+    ap (take (21 - start)) whole ∙ take_all (21 - start) (digits ++ e ∷ []) (omega (arith, long, length-append digits (e ∷ [])))
 
 some_long : (a b : List ℕ) (x : ℕ) → 0 < length (a ++ x ∷ b)
 some_long a b x = omega (arith, length-append a (x ∷ b))
@@ -172,6 +190,11 @@ singles_behind a b = map-append (λ (x : ℕ). x ∷ []) a b
 pub short_word : (n : ℕ) (word : List ℕ) (e : ℕ) → length word < n → word_parts n (word ++ e ∷ []) ≡ (word ++ e ∷ []) ∷ []
 short_word n word e h = ap (λ (b : Bool). if b then (word ++ e ∷ []) ∷ [] else take n (word ++ e ∷ []) ∷ single_parts (drop n (word ++ e ∷ [])))
     (le-leb (length (word ++ e ∷ [])) n (omega (arith, length-append word (e ∷ []))))
+
+-- a word that a line holds is a part
+pub word_is_part : (s : Sheet) (word : List ℕ) → length word ≤ s.width → put_part s word ≡ put_parts s (word_parts s.width word)
+word_is_part s word h =
+    sym (ap (put_parts s) (ap (λ (b : Bool). if b then word ∷ [] else take s.width word ∷ single_parts (drop s.width word)) (le-leb (length word) s.width h)) ∙ one_part s word)
 
 pub long_word : (n : ℕ) (word : List ℕ) (e : ℕ) → n ≤ length word → word_parts n (word ++ e ∷ []) ≡ (take n word ∷ single_parts (drop n word)) ++ (e ∷ []) ∷ []
 long_word n word e h =

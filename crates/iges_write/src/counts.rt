@@ -3,11 +3,10 @@ ghost use Rattle.iges_write.specs.Sheet.{Steps};
 ghost use Rattle.iges_write.specs.Text.{count_field, counts_columns};
 ghost use Rattle.std.specs.Prelude.{◌≡◌, ◌++◌, IfOk, length};
 
-use crate::column::{put_right, put_spaces};
+use crate::column::{put_seven, put_spaces};
 use crate::fault::WriteFileFault;
 use crate::page::Page;
 use iges_fields::NoMemory;
-use itoa::Buffer;
 
 /// How many lines each section has.
 #[derive(Clone, Copy, Debug)]
@@ -23,7 +22,7 @@ fn put_count(line: &mut Vec<u8>, letter: u8, count: u64) -> Result<(), NoMemory>
     ensures { IfOk result (λ _. line.new.items ≡ line.old.items ++ count_field letter count) }
 {
     line.push(letter)?;
-    put_right(line, 7, Buffer::new().format(count).as_bytes())
+    put_seven(line, count)
 }
 
 // The columns 1 to 72 of the terminate line, in place of `line`.

@@ -5,12 +5,12 @@ ghost use Rattle.iges_write.specs.FileSheet.{blank};
 ghost use Rattle.iges_write.specs.Filling.{fill};
 ghost use Rattle.iges_write.specs.Parts.{parts, single_parts, value_parts, word_parts};
 ghost use Rattle.iges_write.specs.Sheet.{Steps, add, append_text, begin, end_line, make_room, next_delimiter, put_lines, put_part, put_parts, record_tail, with_tail};
-ghost use Rattle.std.specs.Prelude.{◌≡◌, ◌+◌, ◌<◌, ◌≤◌, ◌^◌, [], ◌∷◌, ◌++◌, length, map, IfOk, IsTrue};
+ghost use Rattle.std.specs.Prelude.{◌≡◌, ◌+◌, ◌<◌, ◌≤◌, ◌^◌, [], ◌∷◌, ◌++◌, length, map, IfOk, IsTrue, decimal};
 
-use crate::column::{finish_line, put_right};
+use crate::column::{finish_line, put_seven};
 use crate::fault::WriteFileFault;
 use iges_fields::{Bytes, Delimiters, NoMemory, Value};
-use itoa::Buffer;
+use itoa::{Buffer, write_digits};
 use std::alloc::Global;
 use std::marker::Model;
 
@@ -162,11 +162,24 @@ impl Page {
         self.put_part(&[delimiter])
     }
 
+    // A number without a sign and the delimiter behind it, which a line holds.
+    fn put_number(&mut self, n: u64, delimiter: u8) -> Result<(), WriteFileFault>
+        requires { 20 < self.old.width }
+        ensures { Steps result self.new (put_parts self.old (word_parts self.old.width (decimal n ++ delimiter ∷ []))) }
+    {
+        let mut word = [delimiter; 21];
+        let start = write_digits(n, &mut word, 20);
+        self.put_part(&word[start..])
+    }
+
     // An integer and the delimiter behind it.
     fn put_integer(&mut self, n: &i64, delimiter: u8) -> Result<(), WriteFileFault>
         ensures { Steps result self.new (put_parts self.old (value_parts self.old.width (value.Int n.now) delimiter)) }
     {
-        self.put_word(Buffer::new().format(*n).as_bytes(), delimiter)
+        match u64::try_from(*n) {
+            Ok(n) if self.width > 20 => self.put_number(n, delimiter),
+            _ => self.put_word(Buffer::new().format(*n).as_bytes(), delimiter),
+        }
     }
 
     // A value and the delimiter behind it.
@@ -235,7 +248,7 @@ impl Page {
     {
         self.tail.clear();
         self.tail.push(b' ')?;
-        put_right(&mut self.tail, 7, Buffer::new().format(number).as_bytes())
+        put_seven(&mut self.tail, number)
     }
 
     // From here on nothing stands behind the free columns.

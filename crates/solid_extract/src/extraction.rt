@@ -27,12 +27,14 @@ pub struct Extraction {
 }
 
 // Puts the entry that a number names, as it is kept. It has no fault, so that its shape is told unless memory runs out.
+// `marks` is a scratch buffer.
 fn push_kept(
     new: &mut File,
     alloc: Global,
     file: &File,
     renaming: &Renaming,
     no: EntryNo,
+    marks: &mut Vec<bool>,
 ) -> Result<(), NoMemory>
     requires faultless { IsFaultless file.now no.0 }
     requires entries { length new.old.entries < 4_999_999 }
@@ -43,7 +45,7 @@ fn push_kept(
     let Ok(shape) = shape_of(alloc, record.entry, record.values) else {
         return Err(NoMemory);
     };
-    let values = new_values(alloc, file, renaming, record.values, &shape)?;
+    let values = new_values(alloc, file, renaming, record.values, &shape, marks)?;
     new.push(renaming.entry(record.entry), values)
 }
 
@@ -55,9 +57,10 @@ fn kept_file(alloc: Global, file: &File, renaming: &Renaming) -> Result<File, No
 {
     let mut new = begun(alloc, file)?;
     let kept = renaming.kept();
+    let mut marks = Vec::new(alloc);
     'entries: for i in 0..kept.len() {
         let no = kept.get(i).unwrap();
-        push_kept(&mut new, alloc, file, renaming, *no)?;
+        push_kept(&mut new, alloc, file, renaming, *no, &mut marks)?;
     }
     Ok(new)
 }

@@ -3,10 +3,10 @@
 ghost use Rattle.entry_references.specs.Refs.{is_name, number_of};
 ghost use Rattle.iges_fields.specs.InLine.{is_value, stays_in_line};
 ghost use Rattle.iges_fields.specs.declared.TheConstants.{FILE_LIMIT};
-ghost use Rattle.solid_extract.specs.Extracted.{new_value};
+ghost use Rattle.solid_extract.specs.Extracted.{new_value, renamed};
 ghost use Rattle.solid_extract.specs.NewValues.{AreMarkedPlaces, names_behind, new_numbers, value_as, with_mark};
 ghost use Rattle.std.specs.List.{enumerate_from};
-ghost use Rattle.std.specs.Prelude.{◌≡◌, ◌+◌, ◌∷◌, ◌++◌, ◌<◌, ◌≤◌, ◌^◌, [], IfOk, IsTrue, OnOk, drop, filter, filter_map, length, map, take};
+ghost use Rattle.std.specs.Prelude.{◌≡◌, ◌+◌, ◌∷◌, ◌++◌, ◌<◌, ◌≤◌, ◌^◌, [], IfOk, IsTrue, OnOk, drop, filter, filter_map, if◌then◌else◌, length, map, pos, take};
 
 use crate::renaming::Renaming;
 use entry_references::{Group, Own, Shape, mark_at, push_names};
@@ -22,33 +22,28 @@ fn set_mark(marks: &mut Vec<bool>, place: usize)
     }
 }
 
-// A mark for each of so many places, from 1: whether it is one of these.
-fn marked(alloc: Global, places: &[usize], count: usize) -> Result<Vec<bool>, NoMemory>
-    ensures { IfOk result (λ marks. AreMarkedPlaces marks.items places.now count) }
+// Puts in place of all marks one for each of so many places, from 1: whether it is one of these.
+fn mark_places(marks: &mut Vec<bool>, places: &[usize], count: usize) -> Result<(), NoMemory>
+    ensures { OnOk result (AreMarkedPlaces marks.new.items places.now count) }
 {
-    let mut marks = vec![in alloc; false; count]?;
+    marks.clear();
+    marks.resize(count, false)?;
     'places: for place in places {
-        set_mark(&mut marks, *place);
+        set_mark(marks, *place);
     }
-    Ok(marks)
+    Ok(())
 }
 
-// A value as it is kept: a pointer is renamed, and one that isn't followed is cut.
-fn new_value(
-    alloc: Global,
-    renaming: &Renaming,
-    value: &Value,
-    is_pointer: bool,
-    is_cut: bool,
-) -> Result<Value, NoMemory>
-    requires { IsTrue (is_value value.now) }
-    ensures is { IfOk result (λ v. v ≡ value_as renaming.now is_pointer is_cut value.now) }
-    ensures in_line { IfOk result (λ v. IsTrue (stays_in_line v)) }
+// An integer as it is kept: a pointer is renamed, and one that isn't followed is cut.
+fn new_integer(renaming: &Renaming, n: i64, is_pointer: bool, is_cut: bool) -> i64
+    ensures { result ≡ if is_pointer then renamed renaming.now n else (if is_cut then pos 0 else n) }
 {
-    match value {
-        Value::Int(n) if is_pointer => Ok(Value::Int(renaming.renamed(*n))),
-        Value::Int(_) if is_cut => Ok(Value::Int(0)),
-        _ => value.copy(alloc),
+    if is_pointer {
+        renaming.renamed(n)
+    } else if is_cut {
+        0
+    } else {
+        n
     }
 }
 
@@ -63,27 +58,34 @@ fn push_value(
     requires { IsTrue (is_value value.now) }
     ensures { OnOk result (list.new ≡ list.old ++ value_as renaming.now is_pointer is_cut value.now ∷ []) }
 {
-    let kept = new_value(alloc, renaming, value, is_pointer, is_cut)?;
-    list.push(kept)
+    match value {
+        Value::Default => list.push(Value::Default),
+        Value::Int(n) => list.push(Value::Int(new_integer(renaming, *n, is_pointer, is_cut))),
+        _ => {
+            let copy = value.copy(alloc)?;
+            list.push(copy)
+        }
+    }
 }
 
-// The own values as they are kept.
+// The own values as they are kept. `marks` is a scratch buffer.
 fn own_values(
     alloc: Global,
     renaming: &Renaming,
     own: &Own,
     values: &Values,
+    marks: &mut Vec<bool>,
 ) -> Result<Values, NoMemory>
     ensures { IfOk result (λ list. list ≡ map (λ v. new_value renaming.now own.now v.0 v.1) (enumerate_from 1 (take own.now.count values.now))) }
 {
     let count = own.count.min(values.len());
-    let pointers = marked(alloc, own.pointers.as_slice(), count)?;
-    let marks = pointers.as_slice();
+    mark_places(marks, own.pointers.as_slice(), count)?;
+    let pointers = marks.as_slice();
     let cut = own.cut.as_slice();
     let mut list = Values::with_room(alloc, count)?;
     'values: for i in 0..count {
         let value = values.get(i).unwrap();
-        let is_pointer = mark_at(marks, i);
+        let is_pointer = mark_at(pointers, i);
         let is_cut = cut.contains(&(i + 1));
         push_value(&mut list, alloc, renaming, value, is_pointer, is_cut)?;
     }
@@ -136,19 +138,21 @@ fn names_in(
 }
 
 /// The values that a record has where it is kept: its own values, and behind them the names, where there are any (own).
+/// `marks` is a scratch buffer.
 pub fn new_values(
     alloc: Global,
     file: &File,
     renaming: &Renaming,
     values: &Values,
     shape: &Shape,
+    marks: &mut Vec<bool>,
 ) -> Result<Values, NoMemory>
     requires few { length values.now ≤ FILE_LIMIT }
     requires small { shape.now.names.before + shape.now.names.count < 2 ^ 32 }
     ensures { IfOk result (λ list. list ≡ map (λ v. new_value renaming.now shape.now.own v.0 v.1) (enumerate_from 1 (take shape.now.own.count values.now))
         ++ names_behind (new_numbers renaming.now (filter (is_name file.now) (filter_map number_of (take shape.now.names.count (drop shape.now.names.before values.now)))))) }
 {
-    let mut list = own_values(alloc, renaming, &shape.own, values)?;
+    let mut list = own_values(alloc, renaming, &shape.own, values, marks)?;
     let names = names_in(alloc, file, values, shape.names)?;
     push_groups(&mut list, renaming, &names)?;
     Ok(list)
