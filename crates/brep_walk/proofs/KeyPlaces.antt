@@ -127,24 +127,24 @@ edge_pushed old new key from to i j false is_new added fresh a b is =
     is ∙ (ap (λ n. old ++ record { key = key; from = record { 0 = n }; to = to } ∷ []) a
     ∙ ap (λ n. old ++ record { key = key; from = record { 0 = i }; to = record { 0 = n } } ∷ []) b)
 
--- with its vertices numbered one after the other
-pub edge_numbered : (s0 s1 s2 : Numbered) (pushed : List Edge) (key : EdgeKey) (start end : VertexKey) (from to : VertexId) (is_new : Bool)
+-- with its vertices numbered one after the other; s3 is what the edge was pushed to
+pub edge_numbered : (s0 s1 s2 s3 : Numbered) (pushed : List Edge) (key : EdgeKey) (start end : VertexKey) (from to : VertexId) (is_new : Bool)
     → s1 ≡ record { keys = record { edges = s0.keys.edges; vertices = insert_key same_vertex s0.keys.vertices start }; edges = s0.edges }
     → from.0 ≡ place_of same_vertex s1.keys.vertices start
     → s2 ≡ record { keys = record { edges = s1.keys.edges; vertices = insert_key same_vertex s1.keys.vertices end }; edges = s1.edges }
     → to.0 ≡ place_of same_vertex s2.keys.vertices end
-    → is_new ≡ not (list_any (same_edge key) s2.keys.edges) → is_new ≡ true
-    → pushed ≡ s2.edges ++ record { key = key; from = from; to = to } ∷ []
+    → is_new ≡ not (list_any (same_edge key) s2.keys.edges) → is_new ≡ true → s3.keys.vertices ≡ s2.keys.vertices → s3.edges ≡ s2.edges
+    → pushed ≡ s3.edges ++ record { key = key; from = from; to = to } ∷ []
     → pushed ≡ (if list_any (same_edge key) s0.keys.edges then s0.edges else s0.edges ++ record {
       key = key;
-      from = record { 0 = place_of same_vertex s2.keys.vertices start };
-      to = record { 0 = place_of same_vertex s2.keys.vertices end };
+      from = record { 0 = place_of same_vertex s3.keys.vertices start };
+      to = record { 0 = place_of same_vertex s3.keys.vertices end };
     } ∷ [])
-edge_numbered s0 s1 s2 pushed key start end from to is_new first i second j added fresh is =
-    let edges : s2.edges ≡ s0.edges = ap (λ (s : Numbered). s.edges) second ∙ ap (λ (s : Numbered). s.edges) first in
+edge_numbered s0 s1 s2 s3 pushed key start end from to is_new first i second j added fresh third_vertices third_edges is =
+    let edges : s3.edges ≡ s0.edges = third_edges ∙ (ap (λ (s : Numbered). s.edges) second ∙ ap (λ (s : Numbered). s.edges) first) in
     let keys : s2.keys.edges ≡ s0.keys.edges = ap (λ (s : Numbered). s.keys.edges) second ∙ ap (λ (s : Numbered). s.keys.edges) first in
-    let still : from.0 ≡ place_of same_vertex s2.keys.vertices start =
+    let still : from.0 ≡ place_of same_vertex s3.keys.vertices start =
     numbered_still same_vertex vertex_itself s0.keys.vertices s1.keys.vertices s2.keys.vertices start end from.0
-    (ap (λ (s : Numbered). s.keys.vertices) first) (ap (λ (s : Numbered). s.keys.vertices) second) i in
+    (ap (λ (s : Numbered). s.keys.vertices) first) (ap (λ (s : Numbered). s.keys.vertices) second) i ∙ ap (λ ks. place_of same_vertex ks start) (sym third_vertices) in
     edge_pushed s0.edges pushed key from to _ _ (list_any (same_edge key) s0.keys.edges) is_new
-    (added ∙ ap (λ ks. not (list_any (same_edge key) ks)) keys) fresh still j (is ∙ ap (λ es. es ++ record { key = key; from = from; to = to } ∷ []) edges)
+    (added ∙ ap (λ ks. not (list_any (same_edge key) ks)) keys) fresh still (j ∙ ap (λ ks. place_of same_vertex ks end) (sym third_vertices)) (is ∙ ap (λ es. es ++ record { key = key; from = from; to = to } ∷ []) edges)

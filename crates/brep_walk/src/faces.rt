@@ -63,7 +63,7 @@ impl<'a> FaceWalk<'a> {
     {
         let file = self.loops.tuples.lists.file();
         let (entity, listed) = face_at(file, at, number)?;
-        self.named.note(at, entity)?;
+        self.named.note(at, number, entity)?;
         if !names_geometry(file, listed.surface()) {
             let place = Place { entity, item: 0 };
             return Err(WalkFault::Fails(place.fails(Rule::BadGeometry)));

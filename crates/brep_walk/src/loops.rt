@@ -51,7 +51,7 @@ impl<'a> LoopWalk<'a> {
         ensures fault { IfErr result (IsFault (loop_at self.old.tuples.lists (pos at.entity.0) at.item self.old.named number)) }
     {
         let (entity, listed) = loop_at(self.tuples.lists.file(), at, number)?;
-        self.named.note(at, entity)?;
+        self.named.note(at, number, entity)?;
         let uses = self.tuples.walk_all(alloc, entity, &listed)?;
         Ok(Loop { entity, uses })
     }

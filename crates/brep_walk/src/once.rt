@@ -52,11 +52,12 @@ impl Once {
         }
     }
 
-    /// Notes an entry, which no earlier place may have named.
-    pub fn note(&mut self, at: Place, no: EntryNo) -> Result<(), WalkFault>
-        ensures noted { OnOk result (self.new ≡ self.old ++ pos no.0 ∷ []) }
-        ensures holds { OnOk result (¬ Contains self.old (pos no.0)) }
-        ensures fault { IfErr result (IsFault (obligation Twice at.entity.0 at.item (¬ Contains self.old (pos no.0)) ∷ [])) }
+    /// Notes a number, which no earlier place may have named. It is that of an entry.
+    pub fn note(&mut self, at: Place, number: i64, no: EntryNo) -> Result<(), WalkFault>
+        requires { number ≡ pos no.0 }
+        ensures noted { OnOk result (self.new ≡ self.old ++ number ∷ []) }
+        ensures holds { OnOk result (¬ Contains self.old number) }
+        ensures fault { IfErr result (IsFault (obligation Twice at.entity.0 at.item (¬ Contains self.old number) ∷ [])) }
     {
         if self.has(no) {
             return Err(WalkFault::Fails(at.fails(Rule::Twice)));

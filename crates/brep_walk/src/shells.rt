@@ -80,7 +80,7 @@ impl<'a> ShellWalk<'a> {
     {
         let file = self.faces.loops.tuples.lists.file();
         let (entity, listed) = shell_at(file, at, number)?;
-        self.named.note(at, entity)?;
+        self.named.note(at, number, entity)?;
         let faces = self.faces.walk_all(alloc, entity, &listed)?;
         Ok(Shell {
             entity,

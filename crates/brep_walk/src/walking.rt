@@ -55,7 +55,8 @@ fn numbered_shells(
 {
     let (entity, listed) = solid_record(&walk.faces.loops.tuples.lists, no)?;
     walk.restart(alloc);
-    walk.walk_all(alloc, entity, &listed)
+    let shells = walk.walk_all(alloc, entity, &listed)?;
+    Ok(shells)
 }
 
 /// The solid that a walk through its file finds, or the first place that fails. The walk may have gone through other

@@ -9,10 +9,9 @@ pub returns-clause-stands : goal.returns-clause-stands
 returns-clause-stands c =
     let old = c.args.self.now.numbering in
     let ends = c.in_ok-from.ensures.ends in
-    let put = c.in_ok-edge-2.ensures in
+    let put = c.in_ok-edge.ensures in
     record {
       file = c.in_ok-from.ensures.file;
-      kept = c.in_ok-from.ensures.kept;
       edges = edges_put c.args.self.now.lists (pos c.args.key.«list».0) (pos c.args.key.index) old c.edge.new.self c.args.key c.args.ends c.in_ok-from.from c.in_ok-from.to c.requires.stands.edges
           refl c.requires.ends ends.0 ends.1 put.keys put.edges;
       known = put_edge c.args.self.now.lists old.keys c.edge.new.self.keys c.args.key c.args.ends c.requires.stands.known c.requires.ends c.in_ok-from.ensures.holds
