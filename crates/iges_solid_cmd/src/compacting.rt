@@ -12,13 +12,11 @@ use std::alloc::Global;
 pub fn compact_solid(alloc: Global, file: File, no: u32) -> Result<Reply, NoMemory>
     ensures { IfOk result (λ reply. OfCompact no file reply.answer reply.text) }
 {
-    let compacted = match compact(alloc, &file, EntryNo(no)) {
+    let compacted = match compact(alloc, file, EntryNo(no)) {
         Ok(compacted) => compacted,
         Err(CompactFault::Refused { entity, reason }) => return refused(alloc, entity, reason),
         Err(CompactFault::Fails(failing)) => return failed(alloc, failing),
         Err(CompactFault::NoMemory) => return Err(NoMemory),
     };
-    // The text needs the room that the file takes.
-    drop(file);
     written(alloc, compacted)
 }

@@ -83,6 +83,7 @@ impl Page {
     }
 
     // Appends to the line being made.
+    #[inline(always)]
     fn add(&mut self, bytes: &[u8]) -> Result<(), WriteFileFault>
         ensures { Steps result self.new (add self.old bytes.now) }
     {
@@ -91,6 +92,7 @@ impl Page {
     }
 
     // Ends the line being made where it has no room for so many bytes.
+    #[inline(always)]
     fn make_room(&mut self, size: usize) -> Result<(), WriteFileFault>
         requires { size ≤ 2 ^ 63 }
         ensures { Steps result self.new (make_room self.old size) }
@@ -102,6 +104,7 @@ impl Page {
     }
 
     // Puts bytes that may not be cut.
+    #[inline(always)]
     fn put_part(&mut self, part: &[u8]) -> Result<(), WriteFileFault>
         ensures { Steps result self.new (put_part self.old part.now) }
     {
@@ -162,11 +165,23 @@ impl Page {
         self.put_part(&[delimiter])
     }
 
+    // A digit and the delimiter behind it, which a line holds.
+    fn put_digit(&mut self, n: u64, delimiter: u8) -> Result<(), WriteFileFault>
+        requires digit { n < 10 }
+        requires width { 1 < self.old.width }
+        ensures { Steps result self.new (put_parts self.old (word_parts self.old.width (decimal n ++ delimiter ∷ []))) }
+    {
+        self.put_part(&[b'0' + n as u8, delimiter])
+    }
+
     // A number without a sign and the delimiter behind it, which a line holds.
     fn put_number(&mut self, n: u64, delimiter: u8) -> Result<(), WriteFileFault>
         requires { 20 < self.old.width }
         ensures { Steps result self.new (put_parts self.old (word_parts self.old.width (decimal n ++ delimiter ∷ []))) }
     {
+        if n < 10 {
+            return self.put_digit(n, delimiter);
+        }
         let mut word = [delimiter; 21];
         let start = write_digits(n, &mut word, 20);
         self.put_part(&word[start..])

@@ -26,25 +26,29 @@ fn extracted(alloc: Global, file: &File, no: EntryNo) -> Result<File, NoMemory>
     }
 }
 
-fn compacted(alloc: Global, file: &File, no: EntryNo) -> Result<File, CompactFault>
-    ensures found { IfOk result (IsCompacted file.now no.0) }
-    ensures fault { IfErr result (IsCompactFault file.now no.0) }
+fn compacted(alloc: Global, file: File, no: EntryNo) -> Result<File, CompactFault>
+    ensures found { IfOk result (IsCompacted file no.0) }
+    ensures fault { IfErr result (IsCompactFault file no.0) }
 {
-    let extraction = extract_numbered(alloc, file, no)?;
-    walk(alloc, file, no)?;
+    let extraction = extract_numbered(alloc, &file, no)?;
+    walk(alloc, &file, no)?;
+    // Each file takes room that the one after the next needs.
+    drop(file);
     let new = dropped(alloc, &extraction.file)?;
-    Ok(extracted(alloc, &new, extraction.no)?)
+    let number = extraction.no;
+    drop(extraction);
+    Ok(extracted(alloc, &new, number)?)
 }
 
 /// The compacted file of a solid: what `extract` gives, with lists of edges and of vertices that hold only what is used
 /// and indices to match, and extracted again. Where the solid isn't extracted, the refusal; else where an obligation on
 /// the records' places doesn't hold, the first one (own).
-pub fn compact(alloc: Global, file: &File, no: EntryNo) -> Result<File, CompactFault>
-    ensures found { IfOk result (IsCompacted file.now no.0) }
-    ensures only { (new : Contents) → IsCompacted file.now no.0 new → GivesFile result new }
-    ensures fault { IfErr result (IsCompactFault file.now no.0) }
-    ensures only_refusal { (entity : ℕ) (reason : Reason) → IsRefused file.now no.0 entity reason → GivesRefusal result entity reason }
-    ensures only_place { (x : Named) → IsMisplaced file.now no.0 x → GivesPlace result x }
+pub fn compact(alloc: Global, file: File, no: EntryNo) -> Result<File, CompactFault>
+    ensures found { IfOk result (IsCompacted file no.0) }
+    ensures only { (new : Contents) → IsCompacted file no.0 new → GivesFile result new }
+    ensures fault { IfErr result (IsCompactFault file no.0) }
+    ensures only_refusal { (entity : ℕ) (reason : Reason) → IsRefused file no.0 entity reason → GivesRefusal result entity reason }
+    ensures only_place { (x : Named) → IsMisplaced file no.0 x → GivesPlace result x }
 {
     compacted(alloc, file, no)
 }

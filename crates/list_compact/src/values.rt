@@ -28,8 +28,14 @@ fn push_copy(list: &mut Values, alloc: Global, value: &Value) -> Result<(), NoMe
     requires { IsTrue (is_value value.now) }
     ensures { OnOk result (list.new ≡ list.old ++ value.now ∷ []) }
 {
-    let copy = value.copy(alloc)?;
-    list.push(copy)
+    match value {
+        Value::Default => list.push(Value::Default),
+        Value::Int(n) => list.push(Value::Int(*n)),
+        _ => {
+            let copy = value.copy(alloc)?;
+            list.push(copy)
+        }
+    }
 }
 
 // Puts copies of so many values that stand from a place on, of those that are there.
