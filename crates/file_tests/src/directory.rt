@@ -1,7 +1,8 @@
 use crate::comparing::same;
+use crate::lines::sections_of;
 use iges_directory::{Directory, DirectoryFault, directory};
 use iges_fields::EntryNo;
-use iges_lines::{LineFault, Reason, Sections, sections};
+use iges_lines::{LineFault, Reason, Sections};
 use std::alloc::Global;
 use std::test::Fail;
 
@@ -12,16 +13,27 @@ const FRONT: &[u8] =
 const BACK: &[u8] =
     b"       0       0       1       0                               0D      2\n186,0,1,0;                                                             1P      1\nS      1G      1D      2P      1                                        T      1\n";
 
+// These have no clause, so that no goal holds a text.
+fn front() -> &'static [u8] {
+    FRONT
+}
+
+fn back() -> &'static [u8] {
+    BACK
+}
+
+fn joined(alloc: Global, pieces: &[&[u8]]) -> Result<Vec<u8>, Fail> {
+    let mut text = Vec::new(alloc);
+    for piece in pieces {
+        text.extend_from_slice(piece)?;
+    }
+    Ok(text)
+}
+
 // The sections of a file of one entry, whose second line has this type.
 fn one_entry(alloc: Global, kind: &[u8]) -> Result<Sections, Fail> {
-    let mut text = Vec::new(alloc);
-    text.extend_from_slice(FRONT)?;
-    text.extend_from_slice(kind)?;
-    text.extend_from_slice(BACK)?;
-    if text.len() > 600 {
-        return Err(Fail::from("too long"));
-    }
-    Ok(sections(alloc, text.as_slice())?)
+    let text = joined(alloc, &[front(), kind, back()])?;
+    Ok(sections_of(alloc, text.as_slice())?)
 }
 
 // The entries of sections; no clause goes further.
@@ -34,21 +46,29 @@ fn entries(alloc: Global, kind: &[u8]) -> Result<Directory, Fail> {
     Ok(entries_of(alloc, &s)?)
 }
 
+// The type of an entry, and of how many lines its record is.
+fn kind_and_lines(d: &Directory, no: u32) -> Option<(i64, i64)> {
+    let placed = d.placed(EntryNo(no))?;
+    Some((placed.entry.kind, placed.count))
+}
+
+fn is_entry(d: &Directory, no: u32) -> bool {
+    d.entry(EntryNo(no)).is_some()
+}
+
 #[test]
 fn entry_of_a_solid(rt: HostRuntime) -> Result<(), Fail> {
     let d = entries(rt.alloc(), b"     186")?;
     same(&rt, &d.count(), &1);
-    let placed = d.placed(EntryNo(1)).ok_or("no entry 1")?;
-    same(&rt, &placed.entry.kind, &186);
-    same(&rt, &placed.count, &1);
+    same(&rt, &kind_and_lines(&d, 1), &Some((186, 1)));
     Ok(())
 }
 
 #[test]
 fn numbers_that_name_no_entry(rt: HostRuntime) -> Result<(), Fail> {
     let d = entries(rt.alloc(), b"186     ")?;
-    assert!(rt; d.entry(EntryNo(2)).is_none());
-    assert!(rt; d.entry(EntryNo(3)).is_none());
+    same(&rt, &is_entry(&d, 2), &false);
+    same(&rt, &is_entry(&d, 3), &false);
     Ok(())
 }
 
@@ -59,6 +79,10 @@ fn two_types(rt: HostRuntime) -> Result<(), Fail> {
         line: 4,
         reason: Reason::TypesDiffer,
     };
-    assert!(rt; entries_of(rt.alloc(), &s).err() == Some(DirectoryFault::Bad(fault)));
+    same(
+        &rt,
+        &entries_of(rt.alloc(), &s).err(),
+        &Some(DirectoryFault::Bad(fault)),
+    );
     Ok(())
 }

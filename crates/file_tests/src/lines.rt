@@ -3,8 +3,8 @@ use iges_lines::{LineFault, LineFeed, PassFault, Reason, Sections, SectionsFault
 use std::alloc::Global;
 use std::test::Fail;
 
-// The lines of a text by section; no clause goes further.
-fn sections_of(alloc: Global, text: &[u8]) -> Result<Sections, SectionsFault> {
+/// The lines of a text by section; no clause goes further.
+pub fn sections_of(alloc: Global, text: &[u8]) -> Result<Sections, SectionsFault> {
     if text.len() > 600 {
         return Err(SectionsFault::NoMemory);
     }
