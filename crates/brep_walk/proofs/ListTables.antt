@@ -1,6 +1,6 @@
 -- Lists that are found by their positions.
 use Rattle.std.specs.Prelude.{◌≡◌, ◌<◌, ℕ, ℤ, pos, List, length, slice_get, Some}
-use Rattle.std.proofs.Common.{refl, sym, ◌∙◌, ap, subst, get_or}
+use Rattle.std.proofs.Common.{refl, sym, ◌∙◌, ap, get_or}
 use Rattle.std.proofs.lemmas.Option.{slice_get_read}
 use Rattle.iges_fields.specs.declared.entry_no.EntryNo.{EntryNo}
 

@@ -1,6 +1,6 @@
 -- Numbers that are found by their positions.
-use Rattle.std.specs.Prelude.{◌↔◌, ℤ, false, true, IsTrue, nat_eq, ◌≡◌, ◌≢◌, ◌<◌, ◌≤◌, ◌+◌, ◌⊎◌, ℕ, pos, List, [], ◌∷◌, ◌++◌, map, length, slice_index, slice_get, Some, Contains}
-use Rattle.std.proofs.Common.{refl, sym, ◌∙◌, ap, subst, inl, inr, arith, length-append, get_or}
+use Rattle.std.specs.Prelude.{◌↔◌, ℤ, false, true, IsTrue, nat_eq, ◌≡◌, ◌≢◌, ◌<◌, ◌≤◌, ◌⊎◌, ℕ, pos, List, [], ◌∷◌, ◌++◌, map, length, slice_index, Contains}
+use Rattle.std.proofs.Common.{sym, ◌∙◌, ap, subst, inl, inr, arith, length-append, get_or}
 use Rattle.std.proofs.lemmas.List.{length-map, get_or-map, get_or_append_left, get_or_at}
 use Rattle.std.proofs.lemmas.Bool.{cases_lt, eqb-true, eq-eqb}
 use Rattle.brep_walk.specs.Placed.{ArePlaced}

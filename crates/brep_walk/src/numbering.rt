@@ -63,7 +63,11 @@ impl Numbering {
         let Some((_, known)) = self.vertex_keys.get_index(number as usize) else {
             return None;
         };
-        if *known == key { Some(VertexId(number)) } else { None }
+        if *known == key {
+            Some(VertexId(number))
+        } else {
+            None
+        }
     }
 
     /// The number of a vertex, which is the next one where the vertex didn't appear before.
@@ -92,7 +96,11 @@ impl Numbering {
         let Some((_, known)) = self.edge_keys.get_index(number as usize) else {
             return None;
         };
-        if *known == key { Some(EdgeId(number)) } else { None }
+        if *known == key {
+            Some(EdgeId(number))
+        } else {
+            None
+        }
     }
 
     // The number of an edge, and whether it is a new one.

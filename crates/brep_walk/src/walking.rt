@@ -22,10 +22,7 @@ use solid_data::{Failing, Shells, Solid};
 use std::alloc::Global;
 
 // The record of a solid.
-fn solid_record<'a>(
-    lists: &Lists<'a>,
-    no: EntryNo,
-) -> Result<(EntryNo, SolidRecord<'a>), Failing>
+fn solid_record<'a>(lists: &Lists<'a>, no: EntryNo) -> Result<(EntryNo, SolidRecord<'a>), Failing>
     ensures holds { OnOk result (AllHold (record_places lists.now (pos no.0) 0 solid (pos no.0))) }
     ensures named { IfOk result (λ r. (pos no.0 ≡ pos r.0.0) × (r.1 ≡ told solid lists.now (pos no.0))) }
     ensures few { IfOk result (λ r. length r.1.voids < 2 ^ 31) }
@@ -61,11 +58,7 @@ fn numbered_shells(
 
 /// The solid that a walk through its file finds, or the first place that fails. The walk may have gone through other
 /// solids before, with whatever end.
-pub fn walk_solid(
-    walk: &mut ShellWalk<'_>,
-    alloc: Global,
-    no: EntryNo,
-) -> Result<Solid, WalkFault>
+pub fn walk_solid(walk: &mut ShellWalk<'_>, alloc: Global, no: EntryNo) -> Result<Solid, WalkFault>
     ensures file { walk.new.faces.loops.tuples.lists ≡ walk.old.faces.loops.tuples.lists }
     ensures solid { IfOk result (λ s. s ≡ solid_of walk.old.faces.loops.tuples.lists no.0) }
     ensures holds { OnOk result (AllHold (places walk.old.faces.loops.tuples.lists no.0)) }

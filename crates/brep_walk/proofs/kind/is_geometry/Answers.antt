@@ -1,4 +1,4 @@
-use Rattle.std.proofs.Common.{rules, ◌≡◌, ◌↔◌, IsTrue, Bool, true, false, ℤ, pos}
+use Rattle.std.proofs.Common.{rules, ◌≡◌, ◌↔◌, IsTrue, true, false, ℤ}
 use Rattle.brep_lists.specs.Record.{EntityKind, solid, shell, face, «loop», edges, vertices, type_number}
 use Rattle.brep_walk.proofs.kind.is_geometry.Goals as goal
 

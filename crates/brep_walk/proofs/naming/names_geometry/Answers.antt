@@ -1,9 +1,6 @@
-use Rattle.std.proofs.Common.{rules, ◌≡◌, ◌↔◌, IsTrue, pos, Bool, true, false, ℤ, pos, sym, ◌∙◌, ap, subst}
+use Rattle.std.proofs.Common.{sym, ◌∙◌}
 use Rattle.std.proofs.lemmas.Int.{to_z-of_z}
 use mir.Syntax.{w64}
-use Rattle.iges_directory.specs.declared.entry.Entry.{Entry}
-use Rattle.iges_params.specs.Contents.{Contents}
-use Rattle.brep_walk.specs.Places.{Names, NamesGeometry}
 use Rattle.brep_walk.proofs.NamedEntry.{geometry_of}
 use Rattle.brep_walk.proofs.naming.names_geometry.Goals as goal
 

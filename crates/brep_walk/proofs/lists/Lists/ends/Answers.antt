@@ -1,4 +1,4 @@
-use Rattle.std.proofs.Common.{pos, ap, subst, ◌≡◌, rules, refl}
+use Rattle.std.proofs.Common.{pos, subst, ◌≡◌, rules, refl}
 use mir.Syntax.{w64}
 use mir.Val.{to_z, of_z}
 use Rattle.brep_walk.specs.Places.{NamesGeometry}

@@ -10,23 +10,29 @@ use Rattle.brep_walk.proofs.KnownVertices.{vertex_sound, vertex_itself}
 use Rattle.brep_walk.proofs.numbering.Numbering.vertex.Goals as goal
 
 pub invariant_of-self : goal.invariant_of-self
-invariant_of-self c = (c.self.invariant.0,
-    keyed_still same_vertex vertex_sound vertex_itself (vertex_slot c.self.inside.vertex_slots) c.self.inside.vertex_keys.entries c.self.invariant.1 c.args.key
-    (sym (c.in_default.ensures.found ∙ ap (λ (n : Numbered). list_any (same_vertex c.args.key) n.keys.vertices) (sym c.self.view_is)))
-    (vertex_slot c.set.new.self) (λ x differs. c.set.ensures.others x.«list».0 x.index (λ h. differs (vertex_key_is x c.args.key h.0 h.1))))
+invariant_of-self c = (
+  c.self.invariant.0,
+  keyed_still same_vertex vertex_sound vertex_itself (vertex_slot c.self.inside.vertex_slots) c.self.inside.vertex_keys.entries c.self.invariant.1 c.args.key
+      (sym (c.in_default.ensures.found ∙ ap (λ (n : Numbered). list_any (same_vertex c.args.key) n.keys.vertices) (sym c.self.view_is)))
+      (vertex_slot c.set.new.self) (λ x differs. c.set.ensures.others x.«list».0 x.index (λ h. differs (vertex_key_is x c.args.key h.0 h.1))),
+)
 
 pub invariant_of-self-in_err-insert : goal.invariant_of-self-in_err-insert
-invariant_of-self-in_err-insert c = (c.self.invariant.0,
-    rw c.in_err-insert.ensures.err (keyed_still same_vertex vertex_sound vertex_itself (vertex_slot c.self.inside.vertex_slots) c.self.inside.vertex_keys.entries c.self.invariant.1 c.args.key
-    (sym (c.in_default.ensures.found ∙ ap (λ (n : Numbered). list_any (same_vertex c.args.key) n.keys.vertices) (sym c.self.view_is)))
-    (vertex_slot c.set.new.self) (λ x differs. c.in_ok-set.ensures.others x.«list».0 x.index (λ h. differs (vertex_key_is x c.args.key h.0 h.1)))))
+invariant_of-self-in_err-insert c = (
+  c.self.invariant.0,
+  rw c.in_err-insert.ensures.err (keyed_still same_vertex vertex_sound vertex_itself (vertex_slot c.self.inside.vertex_slots) c.self.inside.vertex_keys.entries c.self.invariant.1 c.args.key
+      (sym (c.in_default.ensures.found ∙ ap (λ (n : Numbered). list_any (same_vertex c.args.key) n.keys.vertices) (sym c.self.view_is)))
+      (vertex_slot c.set.new.self) (λ x differs. c.in_ok-set.ensures.others x.«list».0 x.index (λ h. differs (vertex_key_is x c.args.key h.0 h.1)))),
+)
 
 pub invariant_of-self-2 : goal.invariant_of-self-2
-invariant_of-self-2 c = (c.self.invariant.0,
-    keyed_more same_vertex vertex_sound vertex_itself (vertex_slot c.self.inside.vertex_slots) c.self.inside.vertex_keys.entries c.self.invariant.1 c.args.key
-    (sym (c.in_default.ensures.found ∙ ap (λ (n : Numbered). list_any (same_vertex c.args.key) n.keys.vertices) (sym c.self.view_is)))
-    (vertex_slot c.set.new.self) (λ x differs. c.in_ok-set.ensures.others x.«list».0 x.index (λ h. differs (vertex_key_is x c.args.key h.0 h.1)))
-    c.in_ok-number.number (c.in_ok-number.ensures ∙ c.len.ensures.len) c.in_ok-set.ensures.set c.insert.new.self.entries c.in_ok-insert.ensures.entries)
+invariant_of-self-2 c = (
+  c.self.invariant.0,
+  keyed_more same_vertex vertex_sound vertex_itself (vertex_slot c.self.inside.vertex_slots) c.self.inside.vertex_keys.entries c.self.invariant.1 c.args.key
+      (sym (c.in_default.ensures.found ∙ ap (λ (n : Numbered). list_any (same_vertex c.args.key) n.keys.vertices) (sym c.self.view_is)))
+      (vertex_slot c.set.new.self) (λ x differs. c.in_ok-set.ensures.others x.«list».0 x.index (λ h. differs (vertex_key_is x c.args.key h.0 h.1)))
+      c.in_ok-number.number (c.in_ok-number.ensures ∙ c.len.ensures.len) c.in_ok-set.ensures.set c.insert.new.self.entries c.in_ok-insert.ensures.entries,
+)
 
 pub returns-clause-keys : goal.returns-clause-keys
 returns-clause-keys c =
