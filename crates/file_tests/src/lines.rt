@@ -1,4 +1,7 @@
+ghost use Rattle.std.specs.Prelude.{◌≡◌, ◌≤◌, ◌+◌, length, OnOk};
+
 use crate::comparing::same;
+use iges_fields::NoMemory;
 use iges_lines::{LineFault, LineFeed, PassFault, Reason, Sections, SectionsFault, sections};
 use std::alloc::Global;
 use std::test::Fail;
@@ -100,16 +103,39 @@ fn tiny() -> &'static [u8] {
     TINY
 }
 
-// A feed that got a text in three pieces, cut at two places.
-fn fed(alloc: Global, text: &[u8], first: usize, second: usize) -> Result<LineFeed, Fail> {
-    if text.len() > 600 || first > second || second > text.len() {
-        return Err(Fail::from("no such cuts"));
+// Gives a feed its next bytes; only its length goes further.
+fn take(feed: &mut LineFeed, piece: &[u8]) -> Result<(), NoMemory>
+    requires { feed.old.len + length piece.now ≤ 600 }
+    ensures { OnOk result (feed.new.len ≡ feed.old.len + length piece.now) }
+{
+    feed.feed(piece)
+}
+
+// A feed that got three pieces.
+fn fed(alloc: Global, first: &[u8], second: &[u8], third: &[u8]) -> Result<LineFeed, Fail> {
+    if first.len() > 200 || second.len() > 200 || third.len() > 200 {
+        return Err(Fail::from("too long"));
     }
     let mut feed = LineFeed::new(alloc);
-    feed.feed(&text[..first])?;
-    feed.feed(&text[first..second])?;
-    feed.feed(&text[second..])?;
+    take(&mut feed, first)?;
+    take(&mut feed, second)?;
+    take(&mut feed, third)?;
     Ok(feed)
+}
+
+// The bytes of a text from one place to another.
+fn piece(text: &[u8], from: usize, to: usize) -> &[u8] {
+    text.get(from..to).unwrap_or(b"")
+}
+
+// A feed that got a text in three pieces, cut at two places.
+fn cut(alloc: Global, text: &[u8], first: usize, second: usize) -> Result<LineFeed, Fail> {
+    fed(
+        alloc,
+        piece(text, 0, first),
+        piece(text, first, second),
+        piece(text, second, text.len()),
+    )
 }
 
 // The lines that a feed got; no clause goes further.
@@ -119,14 +145,14 @@ fn finished(feed: LineFeed) -> Result<Sections, SectionsFault> {
 
 #[test]
 fn cut_within_a_line(rt: HostRuntime) -> Result<(), Fail> {
-    let s = finished(fed(rt.alloc(), tiny(), 100, 100)?)?;
+    let s = finished(cut(rt.alloc(), tiny(), 100, 100)?)?;
     same(&rt, &counts(&s), &(1, 1, 0, 0));
     Ok(())
 }
 
 #[test]
 fn cut_behind_an_lf(rt: HostRuntime) -> Result<(), Fail> {
-    let s = finished(fed(rt.alloc(), tiny(), 81, 81)?)?;
+    let s = finished(cut(rt.alloc(), tiny(), 81, 81)?)?;
     same(&rt, &counts(&s), &(1, 1, 0, 0));
     Ok(())
 }
@@ -136,7 +162,7 @@ const TWO_SHORT_LINES: &[u8] =
 
 #[test]
 fn the_first_failing_line_is_told(rt: HostRuntime) -> Result<(), Fail> {
-    let feed = fed(rt.alloc(), TWO_SHORT_LINES, 90, 170)?;
+    let feed = cut(rt.alloc(), TWO_SHORT_LINES, 90, 170)?;
     let bad = LineFault {
         line: 2,
         reason: Reason::Length,
