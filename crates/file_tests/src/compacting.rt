@@ -30,17 +30,17 @@ fn no_vertex(alloc: Global) -> Result<File, Fail> {
 }
 
 // No clause of the call goes further.
-fn solid(alloc: Global, file: File, no: u32) -> Result<File, CompactFault> {
+fn solid(alloc: Global, file: &File, no: u32) -> Result<File, CompactFault> {
     compact(alloc, file, EntryNo(no))
 }
 
-fn fault(alloc: Global, file: File, no: u32) -> Option<CompactFault> {
+fn fault(alloc: Global, file: &File, no: u32) -> Option<CompactFault> {
     solid(alloc, file, no).err()
 }
 
 fn compacted(alloc: Global) -> Result<File, Fail> {
     let file = three_vertices(alloc)?;
-    match solid(alloc, file, 1) {
+    match solid(alloc, &file, 1) {
         Ok(new) => Ok(new),
         Err(_) => Err(Fail::from("not compacted")),
     }
@@ -63,7 +63,7 @@ fn a_shell_is_no_solid(rt: HostRuntime) -> Result<(), Fail> {
         entity: EntryNo(3),
         reason: ExtractReason::NotSolid,
     });
-    same(&rt, &fault(rt.alloc(), file, 3), &due);
+    same(&rt, &fault(rt.alloc(), &file, 3), &due);
     Ok(())
 }
 
@@ -75,6 +75,6 @@ fn an_index_past_the_end_is_named(rt: HostRuntime) -> Result<(), Fail> {
         entity: EntryNo(7),
         place: 1,
     }));
-    same(&rt, &fault(rt.alloc(), file, 1), &due);
+    same(&rt, &fault(rt.alloc(), &file, 1), &due);
     Ok(())
 }

@@ -5,14 +5,14 @@ use crate::extracting::{refused, written};
 use command_replies::{Reply, failed};
 use iges_fields::{EntryNo, NoMemory};
 use iges_params::File;
-use list_compact::{CompactFault, compact};
+use list_compact::{CompactFault, into_compact};
 use std::alloc::Global;
 
 /// The file of a solid alone, whose lists of edges and of vertices hold only what is used, or why there is none.
 pub fn compact_solid(alloc: Global, file: File, no: u32) -> Result<Reply, NoMemory>
     ensures { IfOk result (λ reply. OfCompact no file reply.answer reply.text) }
 {
-    let compacted = match compact(alloc, file, EntryNo(no)) {
+    let compacted = match into_compact(alloc, file, EntryNo(no)) {
         Ok(compacted) => compacted,
         Err(CompactFault::Refused { entity, reason }) => return refused(alloc, entity, reason),
         Err(CompactFault::Fails(failing)) => return failed(alloc, failing),

@@ -2,9 +2,11 @@
 
 ghost use Rattle.entry_references.specs.declared.fault.ExtractReason.{ExtractReason as Reason};
 ghost use Rattle.iges_params.specs.Contents.{Contents};
+ghost use Rattle.brep_walk.specs.Places.{places};
 ghost use Rattle.list_compact.specs.Compacted.{GivesFile, GivesPlace, GivesRefusal, IsCompactFault, IsCompacted, IsMisplaced};
 ghost use Rattle.solid_data.specs.declared.verdict.Failing.{Failing as Named};
-ghost use Rattle.solid_extract.specs.Extracted.{IsExtracted, IsRefused};
+ghost use Rattle.solid_data.specs.Obligations.{AllHold};
+ghost use Rattle.solid_extract.specs.Extracted.{IsExtracted, IsExtractedAs, IsRefused};
 ghost use Rattle.std.specs.Prelude.{ℕ, IfErr, IfOk};
 
 use crate::dropping::dropped;
@@ -12,7 +14,7 @@ use crate::fault::CompactFault;
 use brep_walk::walk;
 use iges_fields::{EntryNo, NoMemory};
 use iges_params::File;
-use solid_extract::{extract, extract_numbered};
+use solid_extract::{Extraction, extract, extract_numbered};
 use std::alloc::Global;
 
 // The file of a solid that isn't refused: the call errs only where memory runs out.
@@ -26,29 +28,56 @@ fn extracted(alloc: Global, file: &File, no: EntryNo) -> Result<File, NoMemory>
     }
 }
 
-fn compacted(alloc: Global, file: File, no: EntryNo) -> Result<File, CompactFault>
-    ensures found { IfOk result (IsCompacted file no.0) }
-    ensures fault { IfErr result (IsCompactFault file no.0) }
+// The rest, once a solid's file is extracted. Each file takes room that the one after the next needs.
+fn finished(alloc: Global, extraction: Extraction) -> Result<File, NoMemory>
+    requires { (f : Contents) × (n : ℕ) × IsExtractedAs f n extraction.file extraction.no.0 }
+    ensures { (f : Contents) (n : ℕ) → IsExtractedAs f n extraction.file extraction.no.0 → AllHold (places f n) → IfOk result (IsCompacted f n) }
 {
-    let extraction = extract_numbered(alloc, &file, no)?;
-    walk(alloc, &file, no)?;
-    // Each file takes room that the one after the next needs.
-    drop(file);
     let new = dropped(alloc, &extraction.file)?;
     let number = extraction.no;
     drop(extraction);
     Ok(extracted(alloc, &new, number)?)
 }
 
+fn compacted(alloc: Global, file: &File, no: EntryNo) -> Result<File, CompactFault>
+    ensures found { IfOk result (IsCompacted file.now no.0) }
+    ensures fault { IfErr result (IsCompactFault file.now no.0) }
+{
+    let extraction = extract_numbered(alloc, file, no)?;
+    walk(alloc, file, no)?;
+    Ok(finished(alloc, extraction)?)
+}
+
+fn turned_into_compacted(alloc: Global, file: File, no: EntryNo) -> Result<File, CompactFault>
+    ensures found { IfOk result (IsCompacted file no.0) }
+    ensures fault { IfErr result (IsCompactFault file no.0) }
+{
+    let extraction = extract_numbered(alloc, &file, no)?;
+    walk(alloc, &file, no)?;
+    drop(file);
+    Ok(finished(alloc, extraction)?)
+}
+
 /// The compacted file of a solid: what `extract` gives, with lists of edges and of vertices that hold only what is used
 /// and indices to match, and extracted again. Where the solid isn't extracted, the refusal; else where an obligation on
 /// the records' places doesn't hold, the first one (own).
-pub fn compact(alloc: Global, file: File, no: EntryNo) -> Result<File, CompactFault>
+pub fn compact(alloc: Global, file: &File, no: EntryNo) -> Result<File, CompactFault>
+    ensures found { IfOk result (IsCompacted file.now no.0) }
+    ensures only { (new : Contents) → IsCompacted file.now no.0 new → GivesFile result new }
+    ensures fault { IfErr result (IsCompactFault file.now no.0) }
+    ensures only_refusal { (entity : ℕ) (reason : Reason) → IsRefused file.now no.0 entity reason → GivesRefusal result entity reason }
+    ensures only_place { (x : Named) → IsMisplaced file.now no.0 x → GivesPlace result x }
+{
+    compacted(alloc, file, no)
+}
+
+/// The same as `compact`, of a file that isn't needed any more: its memory is freed before the new file is made (own).
+pub fn into_compact(alloc: Global, file: File, no: EntryNo) -> Result<File, CompactFault>
     ensures found { IfOk result (IsCompacted file no.0) }
     ensures only { (new : Contents) → IsCompacted file no.0 new → GivesFile result new }
     ensures fault { IfErr result (IsCompactFault file no.0) }
     ensures only_refusal { (entity : ℕ) (reason : Reason) → IsRefused file no.0 entity reason → GivesRefusal result entity reason }
     ensures only_place { (x : Named) → IsMisplaced file no.0 x → GivesPlace result x }
 {
-    compacted(alloc, file, no)
+    turned_into_compacted(alloc, file, no)
 }

@@ -13,6 +13,6 @@ mod rank_table;
 mod record_at;
 mod values;
 
-pub use compacting::compact;
+pub use compacting::{compact, into_compact};
 pub use fault::CompactFault;
 pub use law::{dropped_is_made, dropped_is_not_refused, extracted_is_faultless, places_still_hold};
