@@ -1,7 +1,7 @@
 -- Keys that are put at the end where they are new, and their places.
-use Rattle.std.specs.Prelude.{◌≡◌, ℕ, suc, ◌+◌, ◌||◌, Bool, true, false, not, cond, List, [], ◌∷◌, ◌++◌, Some, None, if◌then◌else◌}
-use Rattle.std.specs.List.{list_any, position_or_len, prefix_len}
-use Rattle.std.proofs.Common.{refl, sym, ◌∙◌, ap, arith, append_assoc}
+use Rattle.std.specs.Prelude.{◌≡◌, ℕ, suc, ◌||◌, Bool, true, false, not, List, [], ◌∷◌, ◌++◌, if◌then◌else◌}
+use Rattle.std.specs.List.{list_any}
+use Rattle.std.proofs.Common.{refl, sym, ◌∙◌, ap, append_assoc}
 use Rattle.std.proofs.lemmas.List.{append-nil}
 use Rattle.indexmap.specs.IndexSet.{insert_key, insert_all}
 use Rattle.solid_data.specs.Ring.{place_of}
@@ -10,7 +10,6 @@ use Rattle.solid_data.specs.declared.solid.EdgeKey.{EdgeKey}
 use Rattle.solid_data.specs.declared.solid.VertexId.{VertexId}
 use Rattle.solid_data.specs.declared.solid.VertexKey.{VertexKey}
 use Rattle.solid_data.specs.SolidData.{same_edge, same_vertex}
-use Rattle.solid_data.proofs.Members.{some_inj}
 use Rattle.brep_walk.specs.Numbered.{Numbered}
 use Rattle.brep_walk.proofs.KnownVertices.{vertex_itself}
 
@@ -23,22 +22,6 @@ any_append p (x ∷ xs) ys h = by_test (p x) h (any_append p xs ys)
     by_test false h rest = rest h
 
 module _ {A : Type 0} (same : A → A → Bool) where
-  place_is : (ks : List A) (k : A) → place_of same ks k ≡ position_or_len (same k) ks
-  place_is [] k = refl
-  place_is (y ∷ ys) k = by_test (same k y) (place_is ys k)
-    where
-      by_test : (b : Bool) → place_of same ys k ≡ position_or_len (same k) ys → (if b then 0 else suc (place_of same ys k)) ≡ cond (not b) (1 + prefix_len (λ x. not (same k x)) ys) 0
-      by_test true e = refl
-      by_test false e = ap suc e ∙ omega arith
-
-  -- an index that is found is the key's place
-  pub found_at : (ks : List A) (k : A) (i : ℕ) (found : Bool) → Some i ≡ cond found (Some (position_or_len (same k) ks)) None → i ≡ place_of same ks k
-  found_at ks k i true h = some_inj i (position_or_len (same k) ks) h ∙ sym (place_is ks k)
-  found_at ks k i false h = absurd (some_none h)
-    where
-      some_none : Some i ≡ None → ⊥
-      some_none w = cc
-
   -- a key that is there keeps its place
   pub place_stays : (ks more : List A) (k : A) → list_any (same k) ks ≡ true → place_of same (ks ++ more) k ≡ place_of same ks k
   place_stays [] more k h = absurd (let g : false ≡ true = h in cc)
@@ -50,23 +33,6 @@ module _ {A : Type 0} (same : A → A → Bool) where
       by_test false h rest = ap suc (rest h)
 
   module _ (itself : (a : A) → same a a ≡ true) where
-    -- a new key goes to the place that is looked for
-    place_new : (ks : List A) (k : A) → list_any (same k) ks ≡ false → place_of same (ks ++ k ∷ []) k ≡ place_of same ks k
-    place_new [] k h = ap (λ b. if b then 0 else 1) (itself k)
-    place_new (y ∷ ys) k h = by_test (same k y) h (place_new ys k)
-      where
-        by_test : (b : Bool) → (b || list_any (same k) ys) ≡ false → (list_any (same k) ys ≡ false → place_of same (ys ++ k ∷ []) k ≡ place_of same ys k)
-            → (if b then 0 else suc (place_of same (ys ++ k ∷ []) k)) ≡ (if b then 0 else suc (place_of same ys k))
-        by_test true h rest = refl
-        by_test false h rest = ap suc (rest h)
-
-    place_inserted : (ks : List A) (k : A) → place_of same (insert_key same ks k) k ≡ place_of same ks k
-    place_inserted ks k = by_test (list_any (same k) ks) (place_new ks k)
-      where
-        by_test : (b : Bool) → (b ≡ false → place_of same (ks ++ k ∷ []) k ≡ place_of same ks k) → place_of same (if b then ks else ks ++ k ∷ []) k ≡ place_of same ks k
-        by_test true h = refl
-        by_test false h = h refl
-
     any_itself : (ks : List A) (k : A) → list_any (same k) (ks ++ k ∷ []) ≡ true
     any_itself [] k = ap (λ b. b || false) (itself k)
     any_itself (y ∷ ys) k = by_test (same k y) (any_itself ys k)
@@ -83,11 +49,7 @@ module _ {A : Type 0} (same : A → A → Bool) where
         by_test true e = e
         by_test false e = any_itself ks k
 
-    -- the index that an insertion tells is the key's place
-    pub numbered : (old new : List A) (k : A) (i j : ℕ) → i ≡ position_or_len (same k) old → new ≡ insert_key same old k → j ≡ i → j ≡ place_of same new k
-    numbered old new k i j at is e = e ∙ (at ∙ (sym (place_is old k) ∙ (sym (place_inserted old k) ∙ ap (λ ks. place_of same ks k) (sym is))))
-
-    -- and stays so when another key is inserted
+    -- the place of a key that was inserted stays so when another key is
     pub numbered_still : (old mid new : List A) (a b : A) (i : ℕ) → mid ≡ insert_key same old a → new ≡ insert_key same mid b → i ≡ place_of same mid a → i ≡ place_of same new a
     numbered_still old mid new a b i first second e =
         e ∙ (sym (by_test (list_any (same b) mid)) ∙ ap (λ ks. place_of same ks a) (sym second))

@@ -15,7 +15,6 @@ pub mod Used
 pub mod Faults
 pub mod EdgeEnds
 pub mod KeptLists
-pub mod NamedOnce
 pub mod PlacedNumbers
 pub mod ListTables
 pub mod KeyedKeys
