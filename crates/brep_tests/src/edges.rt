@@ -1,4 +1,5 @@
-ghost use Rattle.std.specs.Prelude.{◌≡◌, length};
+ghost use Rattle.std.specs.Prelude.{◌≡◌, length, IfOk};
+ghost use Rattle.edge_uses.specs.ShellRows.{EndsMeet};
 
 use crate::comparing::same;
 use edge_uses::{
@@ -84,13 +85,22 @@ fn a_pole_is_a_loop_without_an_edge(rt: HostRuntime) -> Result<(), Fail> {
     Ok(())
 }
 
+/// The rows of a solid's one shell, whose loops join, or an Err; no other clause goes further.
+pub fn joined_rows(alloc: Global, solid: &Solid) -> Result<Rows, NoMemory>
+    requires { length solid.now.shells ≡ 1 }
+    ensures { IfOk result EndsMeet }
+{
+    let rows = rows(alloc, solid, ShellAt(0))?;
+    if first_unjoined(solid, ShellAt(0)).is_some() {
+        return Err(NoMemory);
+    }
+    Ok(rows)
+}
+
 // The mate of a row of the ball with a seam, and the row that it turns to.
 fn mate_and_turn(alloc: Global, row: RowId) -> Result<(Option<RowId>, Option<RowId>), Fail> {
     let solid = seamed_ball(alloc)?;
-    let rows = rows(alloc, &solid, ShellAt(0))?;
-    if first_unjoined(&solid, ShellAt(0)).is_some() {
-        return Err(Fail::from("a gap"));
-    }
+    let rows = joined_rows(alloc, &solid)?;
     let paired = pair(alloc, &rows)?;
     Ok((paired.mate(row), paired.turn(row)))
 }

@@ -1,9 +1,10 @@
 ghost use Rattle.std.specs.Prelude.{◌≡◌, length};
 
 use crate::comparing::same;
-use edge_uses::{first_unjoined, pair, rows};
+use crate::edges::joined_rows;
+use edge_uses::pair;
 use small_solids::{pole_ball, seamed_ball};
-use solid_data::{FaceAt, LoopAt, RowId, ShellAt, Solid};
+use solid_data::{FaceAt, LoopAt, RowId, Solid};
 use std::alloc::Global;
 use std::test::Fail;
 use vertex_link::{Corner, Links, links};
@@ -11,10 +12,7 @@ use vertex_link::{Corner, Links, links};
 fn links_of(alloc: Global, solid: &Solid) -> Result<Links, Fail>
     requires { length solid.now.shells ≡ 1 }
 {
-    let rows = rows(alloc, solid, ShellAt(0))?;
-    if first_unjoined(solid, ShellAt(0)).is_some() {
-        return Err(Fail::from("a gap"));
-    }
+    let rows = joined_rows(alloc, solid)?;
     let paired = pair(alloc, &rows)?;
     Ok(links(alloc, &paired)?)
 }

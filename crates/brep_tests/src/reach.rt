@@ -1,10 +1,11 @@
 ghost use Rattle.std.specs.Prelude.{◌≡◌, length};
 
 use crate::comparing::same;
-use edge_uses::{first_unjoined, pair, rows};
+use crate::edges::joined_rows;
+use edge_uses::pair;
 use shell_reach::{ReachFault, ReachList, reach};
 use small_solids::{seamed_ball, touching_faces};
-use solid_data::{FaceAt, ShellAt, Solid};
+use solid_data::{FaceAt, Solid};
 use std::alloc::Global;
 use std::test::Fail;
 
@@ -12,10 +13,7 @@ use std::test::Fail;
 fn reach_of(alloc: Global, solid: &Solid) -> Result<ReachList, ReachFault>
     requires { length solid.now.shells ≡ 1 }
 {
-    let rows = rows(alloc, solid, ShellAt(0))?;
-    if first_unjoined(solid, ShellAt(0)).is_some() {
-        return Err(ReachFault::NoMemory);
-    }
+    let rows = joined_rows(alloc, solid)?;
     let Ok(paired) = pair(alloc, &rows) else {
         return Err(ReachFault::NoMemory);
     };
