@@ -14,7 +14,7 @@ ghost use Rattle.cert_maker.specs.Book.{is_solid_at, solids_of, uses_of, IsMade,
 
 use crate::fault::MakeFault;
 use crate::making::certify;
-use brep_walk::{WalkFault, walk};
+use brep_walk::{WalkFault, Walker};
 use iges_fields::{EntryNo, NoMemory};
 use iges_params::File;
 use solid_data::{Failing, Solid};
@@ -51,12 +51,13 @@ impl From<NoMemory> for BookFault {
     }
 }
 
-fn walked(alloc: Global, file: &File, no: EntryNo) -> Result<Solid, BookFault>
-    ensures solid { IfOk result (λ s. s ≡ solid_of file.now no.0) }
-    ensures holds { OnOk result (AllHold (places file.now no.0)) }
-    ensures fault { IfErr result (IsFaultOf no.0 (places file.now no.0)) }
+fn walked(alloc: Global, walker: &mut Walker<'_>, no: EntryNo) -> Result<Solid, BookFault>
+    ensures file { walker.new ≡ walker.old }
+    ensures solid { IfOk result (λ s. s ≡ solid_of walker.old no.0) }
+    ensures holds { OnOk result (AllHold (places walker.old no.0)) }
+    ensures fault { IfErr result (IsFaultOf no.0 (places walker.old no.0)) }
 {
-    match walk(alloc, file, no) {
+    match walker.walk(alloc, no) {
         Ok(solid) => Ok(solid),
         Err(WalkFault::Fails(failing)) => Err(BookFault::Fails { solid: no, failing }),
         Err(WalkFault::NoMemory) => Err(BookFault::NoMemory),
@@ -78,17 +79,18 @@ fn certified(alloc: Global, no: EntryNo, solid: &Solid) -> Result<Certificate, B
 /// The certificate of one solid, and how many loop uses there are with its own.
 fn solid_part(
     alloc: Global,
-    file: &File,
+    walker: &mut Walker<'_>,
     no: EntryNo,
     used: u64,
 ) -> Result<(Certificate, u64), BookFault>
     requires few { used ≤ 6000000 }
-    ensures part { IfOk result (λ p. IsCertificateOf file.now no.0 p.0) }
-    ensures used { IfOk result (λ p. p.1 ≡ used + uses_of file.now no.0) }
-    ensures made { OnOk result (IsMade file.now used no.0) }
-    ensures fault { IfErr result (IsSolidFault file.now used no.0) }
+    ensures file { walker.new ≡ walker.old }
+    ensures part { IfOk result (λ p. IsCertificateOf walker.old no.0 p.0) }
+    ensures used { IfOk result (λ p. p.1 ≡ used + uses_of walker.old no.0) }
+    ensures made { OnOk result (IsMade walker.old used no.0) }
+    ensures fault { IfErr result (IsSolidFault walker.old used no.0) }
 {
-    let solid = walked(alloc, file, no)?;
+    let solid = walked(alloc, walker, no)?;
     let used = used + use_count(&solid) as u64;
     if used > USE_LIMIT {
         return Err(BookFault::TooMany { solid: no });
@@ -117,10 +119,11 @@ pub fn certify_all(alloc: Global, file: &File) -> Result<Certificates, BookFault
     ensures fault { IfErr result (IsBookFault file.now) }
 {
     let mut parts = Certificates::new(alloc);
+    let mut walker = Walker::new(alloc, file);
     let mut used = 0;
     'entries: for i in 0..file.entry_count() {
         if is_solid(file, i) {
-            let (part, with) = solid_part(alloc, file, EntryNo(2 * i as u32 + 1), used)?;
+            let (part, with) = solid_part(alloc, &mut walker, EntryNo(2 * i as u32 + 1), used)?;
             parts.push(part)?;
             used = with;
         }

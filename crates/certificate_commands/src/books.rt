@@ -12,6 +12,7 @@ ghost use Rattle.cert_lines.specs.declared.version.Version.{Version as Edition};
 
 use crate::checking::part_solid;
 use crate::judging::{Judging, rest_reply};
+use brep_walk::Walker;
 use command_replies::{Answer, Reply, Stop, illegal, put_accepted, too_large};
 use iges_fields::{EntryNo, NoMemory, Out};
 use iges_io::{NextPiece, PIECE, Source, next_piece};
@@ -127,7 +128,7 @@ fn read_part<C: Source>(
 // Judges the part that has begun.
 fn judge_part<C: Source>(
     alloc: Global,
-    file: &File,
+    walker: &mut Walker<'_>,
     cert: &mut C,
     piece: &mut [u8],
     begun: Begun,
@@ -135,13 +136,14 @@ fn judge_part<C: Source>(
     requires ready { C.can_read cert.old }
     requires room { length piece.old ≡ PIECE }
     requires place { IsPlace piece.old begun }
-    ensures found { (ns : List ℕ) (before : Option (List ℕ)) → HasBegun file.now ns before (C.left cert.old) piece.old begun → IfOk result (IsPartJudged file.now ns begun.no.0 before (C.left cert.new) piece.new) }
+    ensures file { walker.new ≡ walker.old }
+    ensures found { (ns : List ℕ) (before : Option (List ℕ)) → HasBegun walker.old ns before (C.left cert.old) piece.old begun → IfOk result (IsPartJudged walker.old ns begun.no.0 before (C.left cert.new) piece.new) }
     ensures leaves { IfOk result (Leaves (C.left cert.old) (C.left cert.new) piece.new begun) }
     ensures count { CountAfterCall (C.faults cert.old) (C.faults cert.new) result }
     ensures taken { TakesWithin (CERT_LIMIT - begun.came) (C.left cert.old) (C.left cert.new) result }
     ensures more { IfOk result (λ judged. HasNext judged → C.can_read cert.new) }
 {
-    let solid = match part_solid(alloc, file, begun.no)? {
+    let solid = match part_solid(alloc, walker, begun.no)? {
         Ok(solid) => solid,
         Err(reply) => {
             let reply = rest_reply(alloc, cert, piece, begun.came, Judging::Decided(reply))?;
@@ -176,10 +178,11 @@ pub fn book_reply<C: Source>(
     ensures count { CountAfterCall (C.faults cert.old) (C.faults cert.new) result }
     ensures taken { TakesWithin (CERT_LIMIT - begun.came) (C.left cert.old) (C.left cert.new) result }
 {
+    let mut walker = Walker::new(alloc, &file);
     let mut out = Out::new(alloc);
     let mut begun = begun;
     'parts: loop {
-        match judge_part(alloc, &file, cert, piece, begun)? {
+        match judge_part(alloc, &mut walker, cert, piece, begun)? {
             PartJudged::Next(next) => {
                 put_accepted(&mut out, begun.no)?;
                 begun = next;

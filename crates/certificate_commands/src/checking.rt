@@ -6,7 +6,7 @@ ghost use Rattle.solid_check.specs.Faults.{IsCheckFault};
 ghost use Rattle.solid_data.specs.Obligations.{AllHold};
 ghost use Rattle.std.specs.Prelude.{◌≡◌, IfErr, IfOk, MatchResult, OnOk};
 
-use brep_walk::{WalkFault, walk};
+use brep_walk::{WalkFault, Walker};
 use command_replies::{Reply, failed, solid_failed};
 use iges_fields::{EntryNo, NoMemory};
 use iges_params::File;
@@ -27,12 +27,13 @@ pub fn named_solid(alloc: Global, file: File, no: EntryNo) -> Result<Result<Soli
 }
 
 // The solid of a file that is read further, where all holds of it that the lines of a certificate don't show.
-fn walked_solid(alloc: Global, file: &File, no: EntryNo) -> Result<Solid, CheckFault>
-    ensures solid { IfOk result (λ s. s ≡ solid_of file.now no.0) }
-    ensures holds { OnOk result (AllHold (checked file.now no.0)) }
-    ensures fault { IfErr result (IsCheckFault (checked file.now no.0)) }
+fn walked_solid(alloc: Global, walker: &mut Walker<'_>, no: EntryNo) -> Result<Solid, CheckFault>
+    ensures file { walker.new ≡ walker.old }
+    ensures solid { IfOk result (λ s. s ≡ solid_of walker.old no.0) }
+    ensures holds { OnOk result (AllHold (checked walker.old no.0)) }
+    ensures fault { IfErr result (IsCheckFault (checked walker.old no.0)) }
 {
-    let solid = match walk(alloc, file, no) {
+    let solid = match walker.walk(alloc, no) {
         Ok(solid) => solid,
         Err(WalkFault::Fails(failing)) => return Err(CheckFault::Fails(failing)),
         Err(WalkFault::NoMemory) => return Err(CheckFault::NoMemory),
@@ -41,12 +42,17 @@ fn walked_solid(alloc: Global, file: &File, no: EntryNo) -> Result<Solid, CheckF
     Ok(solid)
 }
 
-/// The solid that a part of a book names, where all that its lines don't show holds of it; else the reply. The file is
-/// kept for further parts.
-pub fn part_solid(alloc: Global, file: &File, no: EntryNo) -> Result<Result<Solid, Reply>, NoMemory>
-    ensures { IfOk result (λ r. MatchResult r (IsChecked file.now no.0) (TellsFalse (solid_fail_text no.0) file.now no.0)) }
+/// The solid that a part of a book names, where all that its lines don't show holds of it; else the reply. The walker
+/// serves for further parts.
+pub fn part_solid(
+    alloc: Global,
+    walker: &mut Walker<'_>,
+    no: EntryNo,
+) -> Result<Result<Solid, Reply>, NoMemory>
+    ensures file { walker.new ≡ walker.old }
+    ensures found { IfOk result (λ r. MatchResult r (IsChecked walker.old no.0) (TellsFalse (solid_fail_text no.0) walker.old no.0)) }
 {
-    match walked_solid(alloc, file, no) {
+    match walked_solid(alloc, walker, no) {
         Ok(solid) => Ok(Ok(solid)),
         Err(CheckFault::Fails(failing)) => Ok(Err(solid_failed(alloc, no, failing)?)),
         Err(CheckFault::NoMemory) => Err(NoMemory),

@@ -11,6 +11,7 @@ ghost use Rattle.std.specs.Prelude.{◌≡◌, ◌+◌, ◌≤◌, ◌++◌, Lis
 
 use crate::books::{NextSolid, feed};
 use crate::checking::part_solid;
+use brep_walk::Walker;
 use command_replies::{Reply, illegal};
 use iges_fields::{EntryNo, NoMemory};
 use iges_params::File;
@@ -32,16 +33,17 @@ pub enum HeldPart {
 // number.
 fn judge_held(
     alloc: Global,
-    file: &File,
+    walker: &mut Walker<'_>,
     no: EntryNo,
     line: u64,
     rest: &[u8],
 ) -> Result<HeldPart, NoMemory>
     requires { line + length rest.now ≤ CERT_LIMIT + 3 }
-    ensures found { (certificate : List ℕ) (ns : List ℕ) (front : List ℕ) → certificate ≡ front ++ rest.now → length certificate ≤ CERT_LIMIT → BeginsPart file.now ns front no.0 line → IfOk result (IsHeldPart file.now certificate ns no.0 rest.now) }
+    ensures file { walker.new ≡ walker.old }
+    ensures found { (certificate : List ℕ) (ns : List ℕ) (front : List ℕ) → certificate ≡ front ++ rest.now → length certificate ≤ CERT_LIMIT → BeginsPart walker.old ns front no.0 line → IfOk result (IsHeldPart walker.old certificate ns no.0 rest.now) }
     ensures further { IfOk result (StepsIn line rest.now) }
 {
-    let solid = match part_solid(alloc, file, no)? {
+    let solid = match part_solid(alloc, walker, no)? {
         Ok(solid) => solid,
         Err(reply) => return Ok(HeldPart::Decided(reply)),
     };
@@ -70,11 +72,12 @@ pub fn book_refusal(
         ((a : Answered) (t : List ℕ) → OfText certificate.now a t → OfUpgrade certificate.now file.now a t)
         (λ reply. OfUpgrade certificate.now file.now reply.answer reply.text)) }
 {
+    let mut walker = Walker::new(alloc, file);
     let mut no = no;
     let mut line = 3;
     let mut rest = rest;
     'parts: loop {
-        match judge_held(alloc, file, no, line, rest)? {
+        match judge_held(alloc, &mut walker, no, line, rest)? {
             HeldPart::Next(next) => {
                 no = next.no;
                 line = next.line;

@@ -8,6 +8,7 @@ use Rattle.certificate_commands.proofs.books.book_reply.Goals as goal
 
 pub parts-init : goal.parts-init
 parts-init g c = record {
+  file = c.new-walker.ensures;
   place = c.requires.place;
   since = taken_none _ c.args.begun.came;
   told = λ before h. ([], h, c.new-out.ensures);
@@ -29,10 +30,11 @@ parts-preserved g c =
     let leaves = rw c.in-Next.is at (c.in_ok-next.ensures {u = tt}).leaves in
     let more = rw c.in-Next.is at (c.in_ok-next.ensures {u = tt}).more in
     record {
+      file = c.judge_part.ensures.file ∙ c.parts.invariant.file;
       place = leaves.place;
       since = taken_more _ _ _ c.args.begun.came c.judge_part.new.piece c.parts.begun c.in-Next.next c.parts.invariant.since leaves;
       told = told_more c.args.file _ _ _ c.args.piece.now _ c.judge_part.new.piece c.args.begun c.parts.begun c.in-Next.next _ c.put_accepted.new.out c.parts.invariant.told
-          (λ ns before h. rw c.in-Next.is at ((c.in_ok-next.ensures {u = tt}).found ns before h)) (c.in_ok-put_accepted-in-Next.ensures {u = tt});
+          (λ ns before h. rw c.in-Next.is at ((rw c.parts.invariant.file at (c.in_ok-next.ensures {u = tt}).found) ns before h)) (c.in_ok-put_accepted-in-Next.ensures {u = tt});
       count = (c.in_ok-next.ensures {u = tt}).count ∙ c.parts.invariant.count;
       room = (let h : length c.judge_part.new.piece ≡ PIECE = omega arith in h);
       ready = more tt;
@@ -46,7 +48,7 @@ returns-in_err-put_accepted-in-Last-clause-taken g c =
 pub returns-in-Last-clause-found : goal.returns-in-Last-clause-found
 returns-in-Last-clause-found g c = λ before h.
     let at = c.parts.invariant.told before h in
-    let owed = rw c.in-Last.is at ((c.in_ok-next.ensures {u = tt}).found at.0 before at.1) in
+    let owed = rw c.in-Last.is at ((rw c.parts.invariant.file at (c.in_ok-next.ensures {u = tt}).found) at.0 before at.1) in
     owed _ (refl, c.into_bytes.ensures ∙ (c.in_ok-put_accepted-in-Last.ensures {u = tt}) ∙ ap (λ (t : List ℕ). t ++ accepted_line c.parts.begun.no.0) at.2 ∙ sym (accepted_more at.0 c.parts.begun.no.0))
 
 pub returns-in-Last-clause-taken : goal.returns-in-Last-clause-taken
@@ -56,7 +58,7 @@ returns-in-Last-clause-taken g c =
 pub returns-in-Decided-clause-found : goal.returns-in-Decided-clause-found
 returns-in-Decided-clause-found g c = λ before h.
     let at = c.parts.invariant.told before h in
-    rw c.in-Decided.is at ((c.in_ok-next.ensures {u = tt}).found at.0 before at.1)
+    rw c.in-Decided.is at ((rw c.parts.invariant.file at (c.in_ok-next.ensures {u = tt}).found) at.0 before at.1)
 
 pub returns-in-Decided-clause-taken : goal.returns-in-Decided-clause-taken
 returns-in-Decided-clause-taken g c = takes_on _ _ _ c.args.begun.came c.parts.begun.came c.parts.invariant.since c.parts.invariant.place.few (c.in_ok-next.ensures {u = tt}).taken

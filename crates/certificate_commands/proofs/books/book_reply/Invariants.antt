@@ -9,6 +9,7 @@ use Rattle.certificate_commands.proofs.books.book_reply.Given as goal
 -- a part has begun behind good ones, each of which has its line
 abbrev pub invariant-parts : goal.invariant-parts
 invariant-parts g l = record {
+  file : l.walker ≡ l.fn.file;
   place : IsPlace l.piece l.begun;
   since : TakenSince (g.C.Source.left l.fn.cert) (g.C.Source.left l.cert) l.fn.begun.came l.begun.came;
   told : (before : Option (List ℕ)) → HasBegun l.fn.file [] before (g.C.Source.left l.fn.cert) l.fn.piece l.fn.begun → (ns : List ℕ) × HasBegun l.fn.file ns before (g.C.Source.left l.cert) l.piece l.begun × (l.out ≡ accepted_lines ns);

@@ -6,6 +6,7 @@ use Rattle.certificate_commands.proofs.held_book.book_refusal.Given as goal
 -- behind good parts the part of this solid has begun, and the rest stands behind its first line
 abbrev pub invariant-parts : goal.invariant-parts
 invariant-parts l = record {
+  file : l.walker ≡ l.file;
   few : l.line + length l.rest ≤ CERT_LIMIT + 3;
   begins : (ns : List ℕ) × (front : List ℕ) × (l.certificate ≡ front ++ l.rest) × BeginsPart l.file ns front l.no.0 l.line;
 }
