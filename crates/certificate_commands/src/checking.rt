@@ -27,11 +27,7 @@ pub fn named_solid(alloc: Global, file: File, no: EntryNo) -> Result<Result<Soli
 }
 
 // The solid of a file that is read further, where all holds of it that the lines of a certificate don't show.
-fn walked_solid(
-    alloc: Global,
-    walker: &mut Walker<'_>,
-    no: EntryNo,
-) -> Result<Solid, CheckFault>
+fn walked_solid(alloc: Global, walker: &mut Walker<'_>, no: EntryNo) -> Result<Solid, CheckFault>
     ensures file { walker.new ≡ walker.old }
     ensures solid { IfOk result (λ s. s ≡ solid_of walker.old no.0) }
     ensures holds { OnOk result (AllHold (checked walker.old no.0)) }

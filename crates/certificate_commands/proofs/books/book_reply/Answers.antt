@@ -30,7 +30,7 @@ parts-preserved g c =
     let leaves = rw c.in-Next.is at (c.in_ok-next.ensures {u = tt}).leaves in
     let more = rw c.in-Next.is at (c.in_ok-next.ensures {u = tt}).more in
     record {
-      file = c.judge_part-next.ensures.file ∙ c.parts.invariant.file;
+      file = c.judge_part.ensures.file ∙ c.parts.invariant.file;
       place = leaves.place;
       since = taken_more _ _ _ c.args.begun.came c.judge_part.new.piece c.parts.begun c.in-Next.next c.parts.invariant.since leaves;
       told = told_more c.args.file _ _ _ c.args.piece.now _ c.judge_part.new.piece c.args.begun c.parts.begun c.in-Next.next _ c.put_accepted.new.out c.parts.invariant.told
