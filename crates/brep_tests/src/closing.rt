@@ -1,7 +1,7 @@
 ghost use Rattle.std.specs.Prelude.{◌≡◌, length};
 
 use crate::comparing::same;
-use iges_fields::NoMemory;
+use iges_base::NoMemory;
 use small_solids::{open_sheet, pole_ball, seamed_ball};
 use solid_data::{ShellAt, Solid};
 use solid_faults::{ShellFaults, faults, is_closed};

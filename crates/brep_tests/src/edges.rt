@@ -5,7 +5,7 @@ use crate::comparing::same;
 use edge_uses::{
     Row, Rows, VerticesBefore, first_shared, first_unjoined, pair, rows, vertices_before,
 };
-use iges_fields::NoMemory;
+use iges_base::NoMemory;
 use small_solids::{pole_ball, seamed_ball};
 use solid_data::{EdgeId, FaceAt, LoopAt, RowId, ShellAt, Solid, VertexId};
 use std::alloc::Global;

@@ -1,6 +1,6 @@
 use crate::walking::{SHELL_FORM, changed};
 use command_replies::{Answer, Reply, Stop};
-use iges_fields::{Bytes, NoMemory};
+use iges_base::{Bytes, NoMemory};
 use iges_io::{MemSource, Numbers};
 use iges_params::File;
 use open_commands::{certify_shell, verify_shell};

@@ -1,6 +1,6 @@
 use crate::comparing::same;
 use brep_walk::{WalkFault, walk, walk_shell};
-use iges_fields::EntryNo;
+use iges_base::EntryNo;
 use iges_params::{File, read_file};
 use solid_data::{Failing, Rule, ShellAt, Solid, VertexId, VertexKey};
 use std::alloc::Global;

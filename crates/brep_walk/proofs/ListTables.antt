@@ -2,7 +2,7 @@
 use Rattle.std.specs.Prelude.{◌≡◌, ◌<◌, ℕ, ℤ, pos, List, length, slice_get, Some}
 use Rattle.std.proofs.Common.{refl, sym, ◌∙◌, ap, get_or}
 use Rattle.std.proofs.lemmas.Option.{slice_get_read}
-use Rattle.iges_fields.specs.declared.entry_no.EntryNo.{EntryNo}
+use Rattle.iges_base.specs.declared.entry_no.EntryNo.{EntryNo}
 
 -- a list at its position, with the number that was looked up
 pub found_list : {T : Type 0} (z : ℤ) (n : ℕ) → z ≡ pos n → (kept : EntryNo × T) → kept.0.0 ≡ n → (seen lists : List (EntryNo × T)) → seen ≡ lists → (i : ℕ) → i < length seen

@@ -8,7 +8,7 @@ use Rattle.brep_lists.specs.Record.{SolidItems, LoopTuple, solid}
 use Rattle.solid_data.specs.Obligations.{AllHold, FirstFalse, after_each}
 use Rattle.solid_data.specs.Ring.{distinct}
 use Rattle.solid_data.specs.SolidData.{same_edge, same_vertex}
-use Rattle.iges_fields.specs.declared.entry_no.EntryNo.{EntryNo}
+use Rattle.iges_base.specs.declared.entry_no.EntryNo.{EntryNo}
 use Rattle.solid_data.specs.declared.solid.Edge.{Edge}
 use Rattle.solid_data.specs.declared.solid.Shell.{Shell}
 use Rattle.solid_data.specs.declared.solid.VertexKey.{VertexKey}

@@ -1,6 +1,6 @@
 -- The lists of edges and of vertices that a walk has looked at.
 use Rattle.std.specs.Prelude.{◌≡◌, ◌<◌, ◌^◌, ℕ, ℤ, pos, List, length, Some, slice_get}
-use Rattle.iges_fields.specs.declared.entry_no.EntryNo.{EntryNo}
+use Rattle.iges_base.specs.declared.entry_no.EntryNo.{EntryNo}
 use Rattle.iges_params.specs.Contents.{Contents}
 use Rattle.brep_lists.specs.Record.{EntityKind, edges, vertices}
 use Rattle.brep_lists.specs.declared.edge_list.EdgeTuple.{EdgeTuple}

@@ -1,6 +1,6 @@
 -- Numbers of the items of lists, each list with slots of its own.
 use Rattle.std.specs.Prelude.{◌≡◌, ◌==◌, ℕ, List, Option, Some, None, slice_get, slice_index, if◌then◌else◌}
-use Rattle.iges_fields.specs.declared.entry_no.EntryNo.{EntryNo}
+use Rattle.iges_base.specs.declared.entry_no.EntryNo.{EntryNo}
 
 -- where each list's slots stand, and the slots with the list that they belong to
 pub record Slots : Type 0 where

@@ -1,6 +1,6 @@
 -- The solid that a file's records tell.
 use Rattle.std.specs.Prelude.{ℕ, Bool, ℤ, pos, List, [], ◌∷◌, map, flat_map, Option, Some, None, if◌then◌else◌}
-use Rattle.iges_fields.specs.declared.entry_no.EntryNo.{EntryNo}
+use Rattle.iges_base.specs.declared.entry_no.EntryNo.{EntryNo}
 use Rattle.iges_params.specs.Contents.{Contents}
 use Rattle.brep_lists.specs.Record.{LoopTuple}
 use Rattle.brep_lists.specs.declared.edge_list.EdgeTuple.{EdgeTuple}

@@ -16,7 +16,7 @@ pub struct ListTable<T> {
 
 impl<T> Model for ListTable<T> {
     ghost use Rattle.std.specs.Prelude.{List};
-    ghost use Rattle.iges_fields.specs.declared.entry_no.EntryNo.{EntryNo};
+    ghost use Rattle.iges_base.specs.declared.entry_no.EntryNo.{EntryNo};
 
     ghost Value = { List (EntryNo × T) };
 

@@ -3,9 +3,9 @@ use Rattle.std.specs.Prelude.{◌≡◌, ◌≢◌, ℕ, zero, suc, ◌+◌, ◌
 use Rattle.std.proofs.Common.{refl, sym, ◌∙◌, ap, subst, arith, inl, inr, length-append}
 use Rattle.std.proofs.lemmas.Bool.{cond-false, and_parts, and_from, not-true, not_from_false, ne_eqb, both_ways, cases_order}
 use Rattle.std.proofs.lemmas.List.{take_rest, take_all, length-take}
-use Rattle.iges_fields.specs.InLine.{is_in_line}
-use Rattle.iges_fields.specs.Ended.{ended, IsBegun}
-use Rattle.iges_fields.proofs.Ended.{begun_cut}
+use Rattle.iges_base.specs.InLine.{is_in_line}
+use Rattle.iges_base.specs.Ended.{ended, IsBegun}
+use Rattle.iges_base.proofs.Ended.{begun_cut}
 use Rattle.cert_lines.specs.Line.{CertLine, words, cut_lines, put_before, IsSpelled, EndsWithLf, IsLine, IsLong, IsMisspelt}
 use Rattle.cert_lines.specs.Cutting.{IsFirstEnd, EndsFirst}
 

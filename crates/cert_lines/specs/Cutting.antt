@@ -1,7 +1,7 @@
 -- Where the first line of a text ends.
 use Rattle.std.specs.Prelude.{◌≡◌, ◌≢◌, ℕ, ◌<◌, List, ◌∷◌, ◌++◌, IsTrue, length, slice_index}
-use Rattle.iges_fields.specs.InLine.{is_in_line}
-use Rattle.iges_fields.specs.Ended.{ended}
+use Rattle.iges_base.specs.InLine.{is_in_line}
+use Rattle.iges_base.specs.Ended.{ended}
 
 -- the first LF
 pub record IsFirstEnd (text : List ℕ) (n : ℕ) : Type 0 where

@@ -3,7 +3,7 @@
 ghost use Rattle.std.specs.Prelude.{◌≡◌, ◌≢◌, ℕ, ◌<◌, ◌≤◌, [], ◌∷◌, length, take, drop, slice_index, IsTrue, MatchOption};
 ghost use Rattle.cert_lines.specs.Line.{cut_lines};
 ghost use Rattle.cert_lines.specs.Cutting.{IsFirstEnd, EndsFirst};
-ghost use Rattle.iges_fields.specs.InLine.{is_in_line};
+ghost use Rattle.iges_base.specs.InLine.{is_in_line};
 
 /// Where the first LF of a text stands.
 fn first_end(text: &[u8]) -> Option<usize>

@@ -9,7 +9,7 @@ use crate::cutting::first_line;
 use crate::fault::{Illegal, Misfit};
 use crate::version::Version;
 use crate::words::{Judged, Words, judge};
-use iges_fields::EntryNo;
+use iges_base::EntryNo;
 
 /// The most bytes that line 1 or 2 may have.
 const FIRST_LIMIT: usize = 64;

@@ -1,7 +1,7 @@
 //! A certificate as its parts.
 
 use crate::version::Version;
-use iges_fields::{EntryNo, ItemList};
+use iges_base::{EntryNo, ItemList};
 use solid_data::{LoopAt, RowId, RowList};
 
 /// The two rows of each edge that occurs in a shell, the one along it first, by rising edge (own).

@@ -7,7 +7,7 @@ ghost use Rattle.cert_lines.specs.Written.{row_number, edge_line, corner_line, r
 
 use crate::parts::{Certificate, Certificates, CornerLine, ShellPart};
 use crate::version::{Version, number_of};
-use iges_fields::{Bytes, NoMemory, Out, write_number};
+use iges_base::{Bytes, NoMemory, Out, write_number};
 use solid_data::RowId;
 use std::alloc::Global;
 

@@ -14,7 +14,7 @@ use crate::checking::part_solid;
 use crate::judging::{Judging, rest_reply};
 use brep_walk::Walker;
 use command_replies::{Answer, Reply, Stop, illegal, put_accepted, too_large};
-use iges_fields::{EntryNo, NoMemory, Out};
+use iges_base::{EntryNo, NoMemory, Out};
 use iges_io::{NextPiece, PIECE, Source, next_piece};
 use iges_params::File;
 use std::alloc::Global;

@@ -8,7 +8,7 @@ ghost use Rattle.std.specs.Prelude.{◌≡◌, IfErr, IfOk, MatchResult, OnOk};
 
 use brep_walk::{WalkFault, Walker};
 use command_replies::{Reply, failed, solid_failed};
-use iges_fields::{EntryNo, NoMemory};
+use iges_base::{EntryNo, NoMemory};
 use iges_params::File;
 use solid_check::{CheckFault, check_shells, checked_solid};
 use solid_data::Solid;

@@ -13,7 +13,7 @@ use crate::books::{NextSolid, feed};
 use crate::checking::part_solid;
 use brep_walk::Walker;
 use command_replies::{Reply, illegal};
-use iges_fields::{EntryNo, NoMemory};
+use iges_base::{EntryNo, NoMemory};
 use iges_params::File;
 use std::alloc::Global;
 use topo_certificate::{CERT_LIMIT, Checker};

@@ -9,7 +9,7 @@ ghost use Rattle.std.specs.Io.KnownBytes.{Consumes};
 ghost use Rattle.std.specs.Prelude.{◌≡◌, ◌-◌, ◌≤◌, ◌++◌, List, ℕ, Option, length, IfOk};
 
 use command_replies::{Reply, Stop, accepted, illegal, too_large};
-use iges_fields::{EntryNo, NoMemory};
+use iges_base::{EntryNo, NoMemory};
 use iges_io::{NextPiece, PIECE, Source, next_piece};
 use std::alloc::Global;
 use topo_certificate::{CERT_LIMIT, Checker, Version};

@@ -5,7 +5,7 @@ ghost use Rattle.cert_lines.specs.Opening.{IsBadOpening};
 ghost use Rattle.topo_certificate.specs.OpeningFed.{IsOpening, IsWaiting};
 
 use command_replies::Stop;
-use iges_fields::EntryNo;
+use iges_base::EntryNo;
 use iges_io::{NextPiece, PIECE, Source, next_piece};
 use topo_certificate::{CERT_LIMIT, Illegal, Opening, OpeningStep, Version};
 

@@ -14,7 +14,7 @@ use crate::held_book::book_refusal;
 use crate::judging::is_of_one;
 use cert_lines::read_opening;
 use command_replies::{Answer, Reply, Stop, bytes_in, illegal, too_large};
-use iges_fields::{Bytes, EntryNo, NoMemory};
+use iges_base::{Bytes, EntryNo, NoMemory};
 use iges_io::Source;
 use iges_params::File;
 use solid_data::Solid;

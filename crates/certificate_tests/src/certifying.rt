@@ -1,6 +1,6 @@
 use crate::comparing::same;
 use cert_maker::{MakeFault, certify};
-use iges_fields::{Bytes, EntryNo, NoMemory};
+use iges_base::{Bytes, EntryNo, NoMemory};
 use small_solids::{open_sheet, pole_ball, seamed_ball};
 use solid_data::{Failing, Rule, Solid};
 use std::alloc::Global;

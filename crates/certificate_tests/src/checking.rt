@@ -1,7 +1,7 @@
 ghost use Rattle.std.specs.Prelude.{◌≤◌, length};
 
 use crate::comparing::same;
-use iges_fields::{Bytes, EntryNo, NoMemory};
+use iges_base::{Bytes, EntryNo, NoMemory};
 use small_solids::{pole_ball, seamed_ball};
 use solid_data::Solid;
 use std::alloc::Global;

@@ -1,5 +1,5 @@
 use crate::comparing::same;
-use iges_fields::EntryNo;
+use iges_base::EntryNo;
 use small_solids::{open_sheet, seamed_ball};
 use solid_check::{CheckFault, check_shells};
 use solid_data::{Failing, Rule, Solid};

@@ -3,7 +3,7 @@ use cert_lines::{
     Certificate, Certificates, CornerLine, EdgePairs, Illegal, Misfit, ReachRows, ShellPart,
     Version, head_line, read_opening, solid_line, write_book, write_certificate,
 };
-use iges_fields::{Bytes, EntryNo, NoMemory};
+use iges_base::{Bytes, EntryNo, NoMemory};
 use small_solids::{one, two};
 use solid_data::{FaceAt, LoopAt, RowId};
 use std::alloc::Global;

@@ -2,7 +2,7 @@ ghost use Rattle.open_shells.specs.Accepted.{IsOpenShell};
 
 use crate::comparing::same;
 use crate::open_solids::{ball, lid};
-use iges_fields::{Bytes, EntryNo, NoMemory};
+use iges_base::{Bytes, EntryNo, NoMemory};
 use open_shells::{
     Borders, Illegal, Misfit, OpenCertificate, OpenChecker, OpenCorner, OpenCorners, OpenEdge,
     OpenEdges, open_head, shell_number, write_open,

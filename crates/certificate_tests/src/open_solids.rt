@@ -3,7 +3,7 @@
 ghost use Rattle.std.specs.Prelude.{IfOk};
 ghost use Rattle.open_shells.specs.Accepted.{IsOpenShell};
 
-use iges_fields::{EntryNo, ItemList, NoMemory};
+use iges_base::{EntryNo, ItemList, NoMemory};
 use small_solids::{edge_to, one, shell_of, use_of, vertex};
 use solid_data::{LoopUse, Solid, VertexId};
 use std::alloc::Global;

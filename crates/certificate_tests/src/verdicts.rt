@@ -2,7 +2,7 @@ use crate::comparing::same;
 use brep_walk::{WalkFault, walk};
 use cert_maker::verdict;
 use edge_uses::{PairFault, first_unjoined, pair, rows};
-use iges_fields::EntryNo;
+use iges_base::EntryNo;
 use iges_params::{File, read_file};
 use solid_data::{EdgeId, Failing, Rule, ShellAt, Solid, Verdict, VertexId};
 use std::alloc::Global;

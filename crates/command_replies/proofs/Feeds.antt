@@ -2,7 +2,7 @@
 use Rattle.std.proofs.Common.{◌≡◌, ℕ, ◌+◌, ◌≤◌, ◌<◌, take, List, [], ◌++◌, length, Option, refl, subst, arith}
 use Rattle.std.proofs.lemmas.List.{append-nil, length-append, length-take}
 use Rattle.std.specs.Io.KnownBytes.{Consumes, IsAtEnd}
-use Rattle.iges_fields.specs.declared.TheConstants.{FILE_LIMIT}
+use Rattle.iges_base.specs.declared.TheConstants.{FILE_LIMIT}
 use Rattle.iges_io.proofs.Streams.{consumes_none, consumes_more, told_all, told_above}
 use Rattle.iges_lines.specs.Feeding.{Fed, IsFed}
 use Rattle.command_replies.specs.Replies.{IsFedTold, IsReply, IsTooLarge}

@@ -1,6 +1,6 @@
 -- Of bytes that are no file, or a file, one answer and one text are owed.
 use Rattle.std.proofs.Common.{◌≡◌, ◌≤◌, length, inl, inr, ℕ, List, sym, ap, subst, ◌∙◌, arith}
-use Rattle.iges_fields.specs.declared.TheConstants.{FILE_LIMIT}
+use Rattle.iges_base.specs.declared.TheConstants.{FILE_LIMIT}
 use Rattle.iges_params.specs.Contents.{Contents}
 use Rattle.iges_params.specs.IsFile.{IsFile}
 use Rattle.iges_params.proofs.Answers.{clash, ok_is, err_is}

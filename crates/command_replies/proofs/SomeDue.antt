@@ -1,7 +1,7 @@
 -- Of bytes that are no file, or a file, some answer is owed.
 use Rattle.std.proofs.Common.{◌≤◌, length, inl, inr, ℕ, List, [], refl, arith}
 use Rattle.std.specs.Prelude.{◌<◌}
-use Rattle.iges_fields.specs.declared.TheConstants.{FILE_LIMIT}
+use Rattle.iges_base.specs.declared.TheConstants.{FILE_LIMIT}
 use Rattle.iges_params.specs.Contents.{Contents}
 use Rattle.iges_params.specs.IsFile.{IsFile}
 use Rattle.iges_params.specs.Refusal.{HasOneReading}

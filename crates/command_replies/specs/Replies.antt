@@ -1,6 +1,6 @@
 -- Replies.
 use Rattle.std.specs.Prelude.{◌≡◌, ℕ, ◌+◌, ◌<◌, ◌≤◌, List, [], length, Option, Result, MatchResult}
-use Rattle.iges_fields.specs.declared.TheConstants.{FILE_LIMIT}
+use Rattle.iges_base.specs.declared.TheConstants.{FILE_LIMIT}
 use Rattle.iges_io.specs.Faults.{Rose}
 use Rattle.iges_io.specs.Reading.{TakesAtMost, Told}
 use Rattle.iges_io.specs.declared.reading.TheConstants.{PIECE}

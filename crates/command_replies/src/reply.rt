@@ -2,7 +2,7 @@ ghost use Rattle.command_replies.specs.Texts.{accepted_line, bad_file_line, fail
 ghost use Rattle.std.specs.Prelude.{◌≡◌, ◌++◌, [], IfOk};
 
 use crate::answer::Answer;
-use iges_fields::{Bytes, EntryNo, NoMemory, Out, write_number};
+use iges_base::{Bytes, EntryNo, NoMemory, Out, write_number};
 use iges_lines::LineFault;
 use solid_data::Failing;
 use std::alloc::Global;

@@ -1,4 +1,4 @@
-ghost use Rattle.iges_fields.specs.declared.TheConstants.{FILE_LIMIT};
+ghost use Rattle.iges_base.specs.declared.TheConstants.{FILE_LIMIT};
 ghost use Rattle.iges_io.specs.Reading.{TakesAtMost};
 ghost use Rattle.iges_lines.specs.Feeding.{IsFed};
 ghost use Rattle.iges_lines.specs.Gives.{IfBad};
@@ -12,7 +12,7 @@ ghost use Rattle.std.specs.Prelude.{◌≡◌, ◌<◌, ◌≤◌, List, ℕ, le
 
 use crate::answer::Answer;
 use crate::reply::{Reply, Stop, bad_file, too_large};
-use iges_fields::{Bytes, FILE_LIMIT, NoMemory};
+use iges_base::{Bytes, FILE_LIMIT, NoMemory};
 use iges_io::{NextPiece, PIECE, ReadAll, Source, next_piece, piece_room, read_all};
 use iges_lines::LineFeed;
 use iges_params::{File, ReadFileFault, take_sections};

@@ -8,7 +8,7 @@ use Rattle.iges_fields.specs.declared.value.Value.{Value}
 use Rattle.iges_fields.specs.declared.value.Value.TheVariants as value
 use Rattle.iges_fields.specs.FreeText.{fits_64_bits}
 use Rattle.iges_fields.specs.InLine.{is_value}
-use Rattle.iges_fields.proofs.Lists.{list_all-take, list_all-drop, list_all-both}
+use Rattle.iges_base.proofs.Lists.{list_all-take, list_all-drop, list_all-both}
 use Rattle.iges_params.specs.Contents.{Contents}
 use Rattle.brep_lists.specs.DueValues.{DueValue, pointer, number, flag, at_least_one, count, coordinate}
 use Rattle.brep_lists.specs.Record.{«loop», edges, vertices, LoopTuple, tuple_due, curve_due, edge_due, vertex_due, due, items_of, int_of, natural, value_or_default, int_at, count_at, groups, edge_read, tuples_read}

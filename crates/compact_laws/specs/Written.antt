@@ -1,6 +1,6 @@
 -- The text that is written of a compacted solid, and the verdict on the file that it is.
 use Rattle.std.specs.Prelude.{◌≡◌, ◌↔◌, ℕ, ◌≤◌, List, length}
-use Rattle.iges_fields.specs.declared.TheConstants.{FILE_LIMIT}
+use Rattle.iges_base.specs.declared.TheConstants.{FILE_LIMIT}
 use Rattle.iges_params.specs.Contents.{Contents}
 use Rattle.iges_params.specs.IsFile.{IsFile}
 use Rattle.iges_params.specs.Made.{IsMade}

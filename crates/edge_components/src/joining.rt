@@ -7,7 +7,7 @@ ghost use Rattle.solid_data.proofs.Members.{Has};
 ghost use Rattle.edge_components.specs.Components.{AreJoined, AreInside, AreLabels, AreComponents};
 ghost use Rattle.edge_components.specs.Trees.{AreTrees, AreInOneTree, AreRehung, AreTopsKept, AreSettled, AreHung};
 
-use iges_fields::NoMemory;
+use iges_base::NoMemory;
 use std::alloc::Global;
 
 fn label_of(labels: &Vec<u32>, x: u32) -> u32

@@ -5,7 +5,7 @@ ghost use Rattle.solid_data.specs.SolidData.{edge_used, vertices_used, ends_of};
 ghost use Rattle.edge_uses.specs.Before.{loop_vertices, face_vertices};
 ghost use Rattle.edge_components.specs.FaceUses.{loop_edges, face_edges, AddedFaces};
 
-use iges_fields::NoMemory;
+use iges_base::NoMemory;
 use solid_data::{Edge, FaceUse, Loop, LoopUse, Solid};
 use std::alloc::Global;
 

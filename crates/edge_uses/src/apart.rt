@@ -10,7 +10,7 @@ ghost use Rattle.edge_uses.specs.ShellRows.{rows_of};
 
 use crate::before::VerticesBefore;
 use crate::reading::rows;
-use iges_fields::NoMemory;
+use iges_base::NoMemory;
 use solid_data::{Edge, FaceUse, Loop, LoopUse, Shell, ShellAt, Solid, VertexId};
 use std::alloc::Global;
 

@@ -11,7 +11,7 @@ ghost use Rattle.edge_uses.specs.Building.{Added, HasRoom, ring_from};
 ghost use Rattle.edge_uses.specs.Joining.{IsFewFace, IsFewShell, placed_at};
 
 use crate::row::Row;
-use iges_fields::NoMemory;
+use iges_base::NoMemory;
 use solid_data::{Edge, EdgeId, FaceAt, FaceUse, Loop, LoopAt, LoopUse, Shell, Solid};
 use std::alloc::Global;
 

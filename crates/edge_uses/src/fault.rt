@@ -1,6 +1,6 @@
 //! Why rows can't be paired.
 
-use iges_fields::NoMemory;
+use iges_base::NoMemory;
 use solid_data::EdgeId;
 
 /// Why the rows of a shell weren't paired (own).

@@ -15,7 +15,7 @@ use crate::paired::Paired;
 use crate::row::Row;
 use crate::table::Rows;
 use crate::tally::{Tally, tally_of};
-use iges_fields::NoMemory;
+use iges_base::NoMemory;
 use solid_data::EdgeId;
 use std::alloc::Global;
 

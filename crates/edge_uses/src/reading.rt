@@ -4,7 +4,7 @@ ghost use Rattle.std.specs.Prelude.{◌≡◌, ◌<◌, length, slice_get, IfOk}
 ghost use Rattle.edge_uses.specs.ShellRows.{rows_of};
 
 use crate::table::Rows;
-use iges_fields::NoMemory;
+use iges_base::NoMemory;
 use solid_data::{ShellAt, Solid};
 use std::alloc::Global;
 

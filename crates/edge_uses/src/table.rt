@@ -4,7 +4,7 @@ use crate::building::Built;
 use crate::occurring::occurring_numbers;
 use crate::row::Row;
 use crate::spanning::{Span, span_of};
-use iges_fields::NoMemory;
+use iges_base::NoMemory;
 use solid_data::{EdgeId, LoopAt, RowId, Shell, Solid, VertexId};
 use std::alloc::Global;
 use std::marker::Model;

@@ -9,7 +9,7 @@ ghost use Rattle.edge_uses.specs.Tally.{unseen, seen_once_more, IsTally};
 use crate::row::Row;
 use crate::spanning::Span;
 use crate::table::Rows;
-use iges_fields::NoMemory;
+use iges_base::NoMemory;
 use std::alloc::Global;
 
 /// How often an edge was run along and against, and by which row last, from 0; where none did, that

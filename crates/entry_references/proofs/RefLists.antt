@@ -7,8 +7,8 @@ use Rattle.std.proofs.lemmas.Bool.{and_from, and_parts}
 use Rattle.std.proofs.lemmas.List.Folds.{list_all-append}
 use Rattle.std.proofs.lemmas.Option.{none-some, same_Some}
 use Rattle.iges_fields.proofs.Items.{passes}
-use Rattle.iges_fields.specs.declared.entry_no.EntryNo.{EntryNo}
-use Rattle.iges_fields.specs.declared.TheConstants.{FILE_LIMIT}
+use Rattle.iges_base.specs.declared.entry_no.EntryNo.{EntryNo}
+use Rattle.iges_base.specs.declared.TheConstants.{FILE_LIMIT}
 use Rattle.iges_directory.specs.Bounds.{IsBounded}
 use Rattle.entry_references.specs.declared.record.Record.{Record as Found}
 use Rattle.iges_params.specs.Contents.{Contents}

@@ -3,7 +3,7 @@
 ghost use Rattle.entry_references.specs.GroupPlaces.{group_between};
 ghost use Rattle.entry_references.specs.Layout.{is_pointer};
 ghost use Rattle.entry_references.specs.Refs.{is_group, group_at, second_group, are_groups, is_left_out};
-ghost use Rattle.iges_fields.specs.declared.TheConstants.{FILE_LIMIT};
+ghost use Rattle.iges_base.specs.declared.TheConstants.{FILE_LIMIT};
 ghost use Rattle.std.specs.List.{list_all};
 ghost use Rattle.std.specs.Prelude.{◌≡◌, ◌+◌, ◌≤◌, true, false, MatchOption, drop, length, take, ◌*◌, ◌^◌, ◌<◌};
 

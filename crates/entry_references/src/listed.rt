@@ -2,7 +2,7 @@
 
 ghost use Rattle.entry_references.specs.ListedTypes.{IsTypeOf, own_by_type};
 ghost use Rattle.entry_references.specs.Refs.{is_listed};
-ghost use Rattle.iges_fields.specs.declared.TheConstants.{FILE_LIMIT};
+ghost use Rattle.iges_base.specs.declared.TheConstants.{FILE_LIMIT};
 ghost use Rattle.std.specs.Prelude.{◌≡◌, ◌≤◌, [], false, IfOk, MatchOption, length};
 
 use crate::layout::{Layout, layout_of};

@@ -4,7 +4,7 @@ ghost use Rattle.brep_lists.specs.Record.{solid, shell, face, «loop», edges, v
 ghost use Rattle.entry_references.specs.KindNames.{entity_kind};
 ghost use Rattle.entry_references.specs.PlacesDue.{places_due};
 ghost use Rattle.entry_references.specs.Refs.{own_of_kind};
-ghost use Rattle.iges_fields.specs.declared.TheConstants.{FILE_LIMIT};
+ghost use Rattle.iges_base.specs.declared.TheConstants.{FILE_LIMIT};
 ghost use Rattle.std.specs.Prelude.{◌≡◌, ◌+◌, ◌*◌, ◌<◌, ◌≤◌, ◌^◌, ◌++◌, IfOk, OnOk, length, flat_map};
 
 use crate::group_places::{push_groups, push_tuples};

@@ -4,7 +4,7 @@ ghost use Rattle.entry_references.specs.Layout.{own_in, fixed};
 ghost use Rattle.entry_references.specs.PointForms.{form_number};
 ghost use Rattle.entry_references.specs.Rows.{layout_of_row};
 ghost use Rattle.entry_references.specs.declared.layout.Layout.TheVariants.{CompositeCurve, CopiousData, SplineCurve, Point, RationalCurve, RationalSurface};
-ghost use Rattle.iges_fields.specs.declared.TheConstants.{FILE_LIMIT};
+ghost use Rattle.iges_base.specs.declared.TheConstants.{FILE_LIMIT};
 ghost use Rattle.std.specs.Prelude.{◌≡◌, ◌+◌, ◌*◌, ◌≤◌, ◌==◌, IfOk, length, if◌then◌else◌};
 
 use crate::layout::Layout;

@@ -4,7 +4,7 @@ ghost use Rattle.entry_references.specs.Answered.{GivesRefs};
 ghost use Rattle.entry_references.specs.Refs.{refs};
 ghost use Rattle.entry_references.specs.Shapes.{HasShape, IsShapeFault};
 ghost use Rattle.iges_directory.specs.Bounds.{IsBounded};
-ghost use Rattle.iges_fields.specs.declared.TheConstants.{FILE_LIMIT};
+ghost use Rattle.iges_base.specs.declared.TheConstants.{FILE_LIMIT};
 ghost use Rattle.std.specs.Prelude.{◌≤◌, IfErr, IfOk, length};
 
 use crate::fault::RefFault;

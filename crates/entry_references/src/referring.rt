@@ -2,7 +2,7 @@
 
 ghost use Rattle.entry_references.specs.References.{AreReferences, Gives, HasFault, IsRefFault};
 ghost use Rattle.entry_references.specs.declared.fault.ExtractReason.{ExtractReason as Reason};
-ghost use Rattle.iges_fields.specs.declared.entry_no.EntryNo.{EntryNo as Number};
+ghost use Rattle.iges_base.specs.declared.entry_no.EntryNo.{EntryNo as Number};
 ghost use Rattle.iges_params.specs.Named.{named};
 ghost use Rattle.std.specs.Prelude.{List, Ok, Err, IfErr, IfOk, IsSome, pos};
 

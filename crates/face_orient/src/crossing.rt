@@ -12,7 +12,7 @@ ghost use Rattle.face_orient.specs.Crossings.{IsStep};
 
 use crate::tally::Tally;
 use edge_uses::{Row, Rows};
-use iges_fields::NoMemory;
+use iges_base::NoMemory;
 use solid_data::{RowId, Shell};
 use std::alloc::Global;
 

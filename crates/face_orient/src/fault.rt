@@ -1,6 +1,6 @@
 //! Why a shell has no orientation to speak of.
 
-use iges_fields::{EntryNo, NoMemory};
+use iges_base::{EntryNo, NoMemory};
 
 /// What the edges and the faces of a shell keep before flags are sought (own).
 #[derive(Clone, Copy, Debug, PartialEq, Eq)]

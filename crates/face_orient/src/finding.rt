@@ -17,7 +17,7 @@ use crate::crossing::Crossing;
 use crate::flood::{Flood, flip};
 use crate::lists::{FlagList, Orientation};
 use crate::ring::ring_of;
-use iges_fields::NoMemory;
+use iges_base::NoMemory;
 use std::alloc::Global;
 
 /// The least face that isn't reached.

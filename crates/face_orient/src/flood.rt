@@ -13,7 +13,7 @@ ghost use Rattle.face_orient.specs.Flood.{IsFlood, IsDone, Grows, place_of};
 
 use crate::crossing::Crossing;
 use crate::heads::{Heads, heads_of};
-use iges_fields::NoMemory;
+use iges_base::NoMemory;
 use std::alloc::Global;
 
 /// Whether a face is reached, and then the flag that it must have, how many steps lead to it, and the last of these.

@@ -5,7 +5,7 @@ ghost use Rattle.face_orient.specs.Crossings.{IsGraph};
 ghost use Rattle.face_orient.specs.Heads.{AreHeads};
 
 use crate::crossing::Crossing;
-use iges_fields::NoMemory;
+use iges_base::NoMemory;
 use std::alloc::Global;
 
 /// For each face its first step, and for each step the next one from its face; the number of steps where there is none.

@@ -1,7 +1,7 @@
 //! A line of an orientation's text.
 
 use crate::lists::{FlagList, NumberList};
-use iges_fields::{EntryNo, NoMemory};
+use iges_base::{EntryNo, NoMemory};
 
 /// A line of an orientation's text (own). Shells and rows are numbered from 1 in a line.
 #[derive(Drop)]

@@ -1,6 +1,6 @@
 //! Lists of flags and of numbers, and what is found of a shell.
 
-use iges_fields::ItemList;
+use iges_base::ItemList;
 use solid_data::RowList;
 
 /// A flag for each face of a shell, in the order of the shell's record; 1 means that directions agree (IGES 5.3, 4.149).

@@ -5,7 +5,7 @@ ghost use Rattle.solid_data.specs.declared.solid.FaceUse.{FaceUse as AnyFace};
 ghost use Rattle.edge_uses.specs.ShellObligations.{edge_name};
 
 use crate::fault::{OrientFailing, OrientRule};
-use iges_fields::EntryNo;
+use iges_base::EntryNo;
 use solid_data::{EdgeId, EdgeKey, Shell, Solid};
 
 /// COUNT names the edge list, and the index of the edge in it, from 1.

@@ -8,7 +8,7 @@ ghost use Rattle.face_orient.specs.Numbers.{AreNumbers, Begins, IsSpaced, Spells
 use crate::line::{OrientLine, OrientLineFault};
 use crate::lists::{FlagList, NumberList};
 use crate::number::{next_number, one_number};
-use iges_fields::{EntryNo, NoMemory};
+use iges_base::{EntryNo, NoMemory};
 use std::alloc::Global;
 
 /// What follows a word at the start of a text.

@@ -11,7 +11,7 @@ ghost use Rattle.face_orient.specs.Paths.{EndAlike, LeadUpTo};
 
 use crate::crossing::Crossing;
 use crate::flood::Flood;
-use iges_fields::NoMemory;
+use iges_base::NoMemory;
 use solid_data::{RowId, RowList};
 use std::alloc::Global;
 

@@ -10,7 +10,7 @@ ghost use Rattle.face_orient.specs.Partners.{HasTwoRows};
 ghost use Rattle.face_orient.specs.Tally.{summary, seen_of, IsTally};
 
 use edge_uses::{Rows, Span};
-use iges_fields::NoMemory;
+use iges_base::NoMemory;
 use solid_data::{EdgeId, RowId};
 use std::alloc::Global;
 

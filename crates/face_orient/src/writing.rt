@@ -4,7 +4,7 @@ ghost use Rattle.std.specs.Prelude.{◌≡◌, ◌++◌, ◌∷◌, [], decimal,
 ghost use Rattle.face_orient.specs.Line.{HasSpelling, IsSpelled, flag_number, spaced, spelling};
 
 use crate::line::OrientLine;
-use iges_fields::{Bytes, NoMemory, Out, write_number};
+use iges_base::{Bytes, NoMemory, Out, write_number};
 use std::alloc::Global;
 
 fn put_number(out: &mut Out, number: u32) -> Result<(), NoMemory>

@@ -1,4 +1,4 @@
-ghost use Rattle.iges_fields.specs.InLine.{is_in_line};
+ghost use Rattle.iges_base.specs.InLine.{is_in_line};
 ghost use Rattle.std.specs.Prelude.{IsTrue};
 
 use crate::comparing::same;

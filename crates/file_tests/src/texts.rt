@@ -1,7 +1,7 @@
 //! Files of texts, whole and changed.
 
 ghost use Rattle.std.specs.Prelude.{IsTrue};
-ghost use Rattle.iges_fields.specs.InLine.{is_in_line};
+ghost use Rattle.iges_base.specs.InLine.{is_in_line};
 
 use iges_directory::Entry;
 use iges_fields::{Delimiters, EntryNo, Value, Values, ValuesFault, values};

@@ -6,7 +6,7 @@ use Rattle.std.specs.List.{list_all}
 use Rattle.std.specs.Cmp.{signed_Decides}
 use Rattle.std.proofs.lemmas.Bool.{and_parts, and_from, cases_lt}
 use Rattle.iges_fields.specs.Word.{column_number}
-use Rattle.iges_fields.specs.First.{first_failing}
+use Rattle.iges_base.specs.First.{first_failing}
 use Rattle.iges_fields.proofs.Answers.{ok_is, err_is, clash}
 use Rattle.iges_fields.proofs.Items.{passes, passed}
 use Rattle.iges_lines.specs.declared.reason.Reason.{Reason}

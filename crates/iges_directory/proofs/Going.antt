@@ -4,9 +4,9 @@ use Rattle.std.specs.Prelude.{slice_get, IfOk}
 use Rattle.std.proofs.lemmas.Bool.{cases_order}
 use Rattle.std.proofs.lemmas.List.{append-nil, drop_all}
 use Rattle.std.proofs.lemmas.Option.{none-some}
-use Rattle.iges_fields.specs.InLine.{is_in_line}
-use Rattle.iges_fields.specs.First.{first_failing}
-use Rattle.iges_fields.proofs.Lists.{open_at}
+use Rattle.iges_base.specs.InLine.{is_in_line}
+use Rattle.iges_base.specs.First.{first_failing}
+use Rattle.iges_base.proofs.Lists.{open_at}
 use Rattle.iges_lines.specs.declared.reason.Reason.TheVariants.{Unpaired}
 use Rattle.iges_lines.specs.declared.fault.PassFault.{PassFault}
 use Rattle.iges_lines.specs.declared.fault.PassFault.TheVariants as faults

@@ -14,12 +14,12 @@ use Rattle.std.proofs.lemmas.Int.Digits.{digits_value-lt}
 use Rattle.std.proofs.Math.Nat.{one-le-pow, pow-le-pow_right}
 use Rattle.iges_fields.specs.Word.{is_empty, trim, are_digits, is_integer, integer, column_number}
 use Rattle.iges_fields.proofs.Eight.{all_digits}
-use Rattle.iges_fields.proofs.Lists.{trim_shorter}
+use Rattle.iges_fields.proofs.Spaces.{trim_shorter}
 use Rattle.iges_fields.proofs.Words.{integer_is}
 use Rattle.iges_directory.specs.Bounds.{fits_columns, IsBounded}
 use Rattle.iges_directory.specs.declared.entry.Placed.{Placed}
 use Rattle.iges_directory.specs.Entries.{field, Holds, IsEntry}
-use Rattle.iges_fields.specs.InLine.{is_in_line}
+use Rattle.iges_base.specs.InLine.{is_in_line}
 use Rattle.iges_lines.proofs.InLines.{columns_in_line, columns_short}
 
 -- ---- numbers in columns

@@ -10,7 +10,7 @@ use mir.Syntax.{w64}
 use Rattle.std.proofs.lemmas.Bool.{and_from}
 use Rattle.std.proofs.lemmas.Int.{to_z-of_z}
 use Rattle.iges_fields.specs.Word.{column_number}
-use Rattle.iges_fields.specs.First.{first_failing}
+use Rattle.iges_base.specs.First.{first_failing}
 use Rattle.iges_lines.specs.declared.reason.Reason.{Reason}
 use Rattle.iges_lines.specs.declared.reason.Reason.TheVariants as reason
 use Rattle.iges_directory.specs.declared.half.FirstHalf.{FirstHalf}

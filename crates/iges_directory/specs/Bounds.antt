@@ -2,8 +2,8 @@
 use Rattle.std.specs.Prelude.{◌≡◌, ℕ, ◌*◌, ◌≤◌, Bool, ◌&&◌, List, length, ℤ, pos, negsuc, int_le, Some, IsTrue, slice_get}
 use Rattle.std.specs.Char.{is_ascii_digit}
 use Rattle.std.specs.List.{list_all}
-use Rattle.iges_fields.specs.InLine.{is_in_line}
-use Rattle.iges_fields.specs.declared.TheConstants.{FILE_LIMIT}
+use Rattle.iges_base.specs.InLine.{is_in_line}
+use Rattle.iges_base.specs.declared.TheConstants.{FILE_LIMIT}
 use Rattle.iges_directory.specs.declared.entry.Entry.{Entry}
 use Rattle.iges_directory.specs.declared.entry.Placed.{Placed}
 

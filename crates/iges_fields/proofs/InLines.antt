@@ -10,27 +10,19 @@ use Rattle.iges_fields.specs.declared.value.Value.{Value}
 use Rattle.iges_fields.specs.declared.value.Value.TheVariants as value
 use Rattle.iges_fields.specs.Delims.{Delims}
 use Rattle.iges_fields.specs.FreeText.{Spells, IsItem, FreeText, delimited}
-use Rattle.iges_fields.specs.InLine.{is_in_line, stays_in_line, is_value}
+use Rattle.iges_base.specs.InLine.{is_in_line}
+use Rattle.iges_base.proofs.InLines.{slice_get-all, front_in_line}
+use Rattle.iges_fields.specs.InLine.{stays_in_line, is_value}
 use Rattle.iges_fields.specs.Word.{is_real, spaces}
-use Rattle.iges_fields.proofs.Lists.{list_all-parts, list_all-both}
+use Rattle.iges_base.proofs.Lists.{list_all-parts, list_all-both}
 
 -- ---- what is got of a list
-
-pub slice_get-all : {X : Type 0} (p : X → Bool) (xs : List X) (i : ℕ) (x : X) → slice_get xs i ≡ Some x → list_all p xs ≡ true → p x ≡ true
-slice_get-all {X} p xs i x is all =
-    subst (λ (y : X). p y ≡ true) (get_or_from_slice_get xs i x x is) (All-get_or (λ (y : X). p y ≡ true) xs i x (slice_get_within xs i x is) (AllPass-from_list_all p xs all))
 
 pub got_value : (values : List Value) (i : ℕ) (r : Option (Bor Value)) → option_copied r ≡ slice_get values i → list_all is_value values ≡ true → IfSome r (λ v. IsTrue (is_value v.now))
 got_value values i None is all = tt
 got_value values i (Some v) is all = slice_get-all is_value values i v.now (sym is) all
 
 -- ---- parts of a text
-
-pub front_in_line : (front rest : List ℕ) → is_in_line (front ++ rest) ≡ true → (is_in_line front ≡ true) × (is_in_line rest ≡ true)
-front_in_line front rest h = list_all-parts (λ b. not (b == 10)) front rest h
-
-pub both_in_line : (front rest : List ℕ) → is_in_line front ≡ true → is_in_line rest ≡ true → is_in_line (front ++ rest) ≡ true
-both_in_line front rest h k = list_all-both (λ b. not (b == 10)) front rest h k
 
 spelled_in_line : (v : Value) (word : List ℕ) → Spells v word → is_in_line word ≡ true → stays_in_line v ≡ true
 spelled_in_line value.Default word s h = refl

@@ -14,7 +14,7 @@ use Rattle.iges_fields.specs.declared.mantissa.Mantissa.{Mantissa}
 use Rattle.iges_fields.specs.Fronts.{is_mantissa_byte, up_to_past, IsMantissa}
 use Rattle.iges_fields.specs.Word.{is_point, is_mantissa}
 use Rattle.iges_fields.proofs.DigitFronts.{digit_range}
-use Rattle.iges_fields.proofs.Lists.{list_all-take_while}
+use Rattle.iges_base.proofs.Lists.{list_all-take_while}
 use Rattle.iges_fields.proofs.Words.{digit_is_not}
 
 -- ---- byte by byte

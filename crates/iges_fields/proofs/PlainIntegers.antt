@@ -20,7 +20,8 @@ use Rattle.iges_fields.specs.Reading.{read_item, word_item}
 use Rattle.iges_fields.specs.Word.{after_spaces, are_digits, is_empty, is_integer, is_space, trim}
 use Rattle.iges_fields.proofs.DigitFronts.{digit_range}
 use Rattle.iges_fields.proofs.ItemFronts.{trim_plain, unsigned_plain}
-use Rattle.iges_fields.proofs.Lists.{after_spaces-other, prefix_len-front}
+use Rattle.iges_fields.proofs.Spaces.{after_spaces-other}
+use Rattle.iges_base.proofs.Lists.{prefix_len-front}
 use Rattle.iges_fields.proofs.Steps.{item_is_word, no_H_behind, word_from, word_int}
 use Rattle.iges_fields.proofs.WordKinds.{digit_mantissa}
 use Rattle.iges_fields.proofs.Words.{digit_is_not, digit_number_byte, list_all-implies, number_byte_no_space, number_byte_no_stop, stop_no_H}

@@ -1,14 +1,10 @@
--- Bytes that stand in lines, which hold no LF, and the values that lines can hold.
-use Rattle.std.specs.Prelude.{ℕ, ◌^◌, Bool, true, not, ◌&&◌, ◌==◌, nat_lt, List, length}
-use Rattle.std.specs.List.{list_all}
+-- The values that lines can hold.
+use Rattle.std.specs.Prelude.{◌^◌, Bool, true, ◌&&◌, nat_lt, length}
+use Rattle.iges_base.specs.InLine.{is_in_line}
 use Rattle.iges_fields.specs.declared.value.Value.{Value}
 use Rattle.iges_fields.specs.declared.value.Value.TheVariants as value
 use Rattle.iges_fields.specs.FreeText.{fits_64_bits}
 use Rattle.iges_fields.specs.Word.{is_real}
-
--- bytes without LF
-abbrev pub is_in_line : List ℕ → Bool
-is_in_line bytes = list_all (λ b. not (b == 10)) bytes
 
 -- the bytes of a text hold no LF
 abbrev pub stays_in_line : Value → Bool

@@ -3,8 +3,8 @@
 ghost use Rattle.iges_fields.specs.Spelled.{spelling};
 ghost use Rattle.std.specs.Prelude.{◌≡◌, ◌++◌, OnOk, OnErr, length, take};
 
-use crate::no_memory::NoMemory;
-use crate::out::{Out, write_number};
+use iges_base::NoMemory;
+use iges_base::{Out, write_number};
 use crate::value::Value;
 use itoa::Buffer;
 

@@ -3,11 +3,11 @@ use Rattle.std.proofs.Common.{◌≡◌, ℕ, ◌+◌, ◌<◌, ◌≤◌, true,
 use Rattle.std.specs.Prelude.{OnOk, OnErr, flat_map}
 use Rattle.std.specs.Str.Lines.{strip_carriage_return}
 use Rattle.std.proofs.lemmas.List.{append-nil, map-append, length-map}
-use Rattle.iges_fields.specs.InLine.{is_in_line}
-use Rattle.iges_fields.specs.Ended.{ended, IsBegun}
-use Rattle.iges_fields.proofs.Ended.{begun_none, begun_more, begun_end}
-use Rattle.iges_fields.proofs.InLines.{both_in_line}
-use Rattle.iges_fields.specs.declared.no_memory.NoMemory.{NoMemory}
+use Rattle.iges_base.specs.InLine.{is_in_line}
+use Rattle.iges_base.specs.Ended.{ended, IsBegun}
+use Rattle.iges_base.proofs.Ended.{begun_none, begun_more, begun_end}
+use Rattle.iges_base.proofs.InLines.{both_in_line}
+use Rattle.iges_base.specs.declared.no_memory.NoMemory.{NoMemory}
 use Rattle.iges_lines.specs.declared.fault.LineFault.{LineFault}
 use Rattle.iges_lines.specs.Feeding.{Taken, AreTaken, StandsFor, Fed, IsFed}
 use Rattle.iges_lines.specs.Lines.{lines}

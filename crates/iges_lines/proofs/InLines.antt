@@ -5,8 +5,8 @@ use Rattle.std.specs.List.{AllByRecursion}
 use Rattle.std.specs.Str.Lines.{strip_carriage_return}
 use Rattle.std.proofs.lemmas.Bool.{and_from, cond-true, cond-false}
 use Rattle.std.proofs.lemmas.List.{length-take}
-use Rattle.iges_fields.specs.InLine.{is_in_line}
-use Rattle.iges_fields.proofs.Lists.{list_all-take, list_all-drop}
+use Rattle.iges_base.specs.InLine.{is_in_line}
+use Rattle.iges_base.proofs.Lists.{list_all-take, list_all-drop}
 use Rattle.iges_lines.specs.Lines.{columns, pieces, cut, before_pieces, lines}
 
 -- ---- the pieces have no LF

@@ -3,10 +3,10 @@ use Rattle.std.proofs.Common.{◌≡◌, ℕ, ◌+◌, ◌*◌, ◌≤◌, true,
 use Rattle.std.specs.Prelude.{slice_get, option_copied, IfSome, IsTrue}
 use Rattle.std.specs.List.{AllByRecursion, enumerate_from, list_all}
 use Rattle.std.proofs.lemmas.Bool.{and_from}
-use Rattle.iges_fields.specs.InLine.{is_in_line}
-use Rattle.iges_fields.specs.declared.TheConstants.{FILE_LIMIT}
-use Rattle.iges_fields.proofs.InLines.{slice_get-all}
-use Rattle.iges_fields.proofs.Lists.{list_all-parts}
+use Rattle.iges_base.specs.InLine.{is_in_line}
+use Rattle.iges_base.specs.declared.TheConstants.{FILE_LIMIT}
+use Rattle.iges_base.proofs.InLines.{slice_get-all}
+use Rattle.iges_base.proofs.Lists.{list_all-parts}
 use Rattle.iges_lines.specs.Lines.{SectionLines, joined, lines}
 use Rattle.iges_lines.specs.Sectioned.{IsNumbered, IsSectioned, AreSections}
 use Rattle.iges_lines.proofs.InLines.{size, lines_in_line, lines_size}

@@ -1,9 +1,9 @@
 -- Lines taken one after the other, and bytes fed piece after piece.
 use Rattle.std.specs.Prelude.{◌≡◌, ℕ, ◌+◌, ◌<◌, Bool, List, length, map, Option, None, IsTrue, MatchOption}
 use Rattle.std.specs.Str.Lines.{strip_carriage_return}
-use Rattle.iges_fields.specs.Ended.{IsBegun}
-use Rattle.iges_fields.specs.First.{IsFirst}
-use Rattle.iges_fields.specs.InLine.{is_in_line}
+use Rattle.iges_base.specs.Ended.{IsBegun}
+use Rattle.iges_base.specs.First.{IsFirst}
+use Rattle.iges_base.specs.InLine.{is_in_line}
 use Rattle.iges_lines.specs.declared.fault.LineFault.{LineFault}
 use Rattle.iges_lines.specs.Lines.{SectionLines}
 use Rattle.iges_lines.specs.LineFaults.{sections_of, is_terminated, line_fault}

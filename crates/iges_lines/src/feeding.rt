@@ -1,5 +1,5 @@
-ghost use Rattle.iges_fields.specs.declared.TheConstants.{FILE_LIMIT};
-ghost use Rattle.iges_fields.specs.InLine.{is_in_line};
+ghost use Rattle.iges_base.specs.declared.TheConstants.{FILE_LIMIT};
+ghost use Rattle.iges_base.specs.InLine.{is_in_line};
 ghost use Rattle.iges_lines.specs.declared.fault.LineFault.{LineFault};
 ghost use Rattle.iges_lines.specs.Extending.{Extends};
 ghost use Rattle.iges_lines.specs.Feeding.{IsFed, StandsFor};
@@ -30,7 +30,7 @@ pub struct LineFeed {
 }
 
 impl Model for LineFeed {
-    ghost use Rattle.iges_fields.specs.declared.TheConstants.{FILE_LIMIT};
+    ghost use Rattle.iges_base.specs.declared.TheConstants.{FILE_LIMIT};
     ghost use Rattle.iges_lines.specs.Feeding.{Fed, IsFed};
     ghost use Rattle.std.specs.Prelude.{◌≤◌, List, ℕ};
 

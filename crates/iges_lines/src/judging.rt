@@ -1,4 +1,4 @@
-ghost use Rattle.iges_fields.specs.First.{first_failing};
+ghost use Rattle.iges_base.specs.First.{first_failing};
 ghost use Rattle.iges_fields.specs.Word.{is_empty};
 ghost use Rattle.iges_lines.specs.Judged.{tests_behind};
 ghost use Rattle.iges_lines.specs.LineFaults.{line_tests};

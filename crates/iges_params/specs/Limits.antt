@@ -1,6 +1,6 @@
 -- How large a file may be.
 use Rattle.std.specs.Prelude.{◌≤◌, length}
-use Rattle.iges_fields.specs.declared.TheConstants.{FILE_LIMIT}
+use Rattle.iges_base.specs.declared.TheConstants.{FILE_LIMIT}
 use Rattle.iges_params.specs.Contents.{Contents, value_count}
 
 -- What a file may hold: so many entries, and so many values in all records together.

@@ -3,7 +3,7 @@ use Rattle.std.specs.Prelude.{◌≡◌, ℕ, ◌<◌, Bool, ◌&&◌, ◌==◌,
 use Rattle.std.specs.List.{AllByRecursion, list_all}
 use Rattle.std.specs.Ordering.{int_eq}
 use Rattle.iges_fields.specs.declared.value.Value.{Value}
-use Rattle.iges_fields.specs.InLine.{is_in_line}
+use Rattle.iges_base.specs.InLine.{is_in_line}
 use Rattle.iges_directory.specs.declared.entry.Entry.{Entry}
 use Rattle.iges_directory.specs.Bounds.{IsBounded}
 use Rattle.iges_params.specs.Contents.{Contents}

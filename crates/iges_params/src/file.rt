@@ -1,5 +1,5 @@
 ghost use Rattle.iges_directory.specs.Bounds.{IsBounded};
-ghost use Rattle.iges_fields.specs.declared.TheConstants.{FILE_LIMIT};
+ghost use Rattle.iges_base.specs.declared.TheConstants.{FILE_LIMIT};
 ghost use Rattle.iges_params.specs.Contents.{value_count};
 ghost use Rattle.iges_params.specs.Global.{have_kinds};
 ghost use Rattle.iges_params.specs.Made.{IsMade, is_start_line};

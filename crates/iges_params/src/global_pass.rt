@@ -1,4 +1,4 @@
-ghost use Rattle.iges_fields.specs.InLine.{is_in_line};
+ghost use Rattle.iges_base.specs.InLine.{is_in_line};
 ghost use Rattle.iges_lines.specs.Gives.{Gives};
 ghost use Rattle.iges_params.specs.Global.{head};
 ghost use Rattle.iges_params.specs.Heads.{IsHead};

@@ -1,4 +1,4 @@
-ghost use Rattle.iges_fields.specs.InLine.{is_in_line};
+ghost use Rattle.iges_base.specs.InLine.{is_in_line};
 ghost use Rattle.iges_lines.specs.Lines.{columns};
 ghost use Rattle.iges_params.specs.Parts.{part_lines};
 ghost use Rattle.std.specs.Prelude.{◌≡◌, ◌+◌, ◌^◌, ◌<◌, ◌≤◌, ◌↔◌, IsSome, IfSome, IfOk, IsTrue, OnOk, flat_map, length, option_copied, slice_get, slice_range};

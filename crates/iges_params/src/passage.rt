@@ -1,5 +1,5 @@
 ghost use Rattle.iges_fields.specs.Delims.{are_permitted};
-ghost use Rattle.iges_fields.specs.InLine.{is_in_line};
+ghost use Rattle.iges_base.specs.InLine.{is_in_line};
 ghost use Rattle.iges_lines.specs.Gives.{Fails, Gives};
 ghost use Rattle.iges_params.specs.Global.{line_of_byte};
 ghost use Rattle.iges_params.specs.Reading.{read_passage};

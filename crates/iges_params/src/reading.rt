@@ -1,7 +1,7 @@
 ghost use Rattle.iges_directory.specs.declared.entry.Placed.{Placed};
 ghost use Rattle.iges_directory.specs.Entries.{has_record};
 ghost use Rattle.iges_fields.specs.Delims.{are_permitted};
-ghost use Rattle.iges_fields.specs.declared.TheConstants.{FILE_LIMIT};
+ghost use Rattle.iges_base.specs.declared.TheConstants.{FILE_LIMIT};
 ghost use Rattle.iges_lines.specs.declared.fault.LineFault.{LineFault};
 ghost use Rattle.iges_lines.specs.Gives.{Fails, Gives, IfBad};
 ghost use Rattle.iges_lines.specs.Sectioned.{IsSectioned};

@@ -1,6 +1,6 @@
 ghost use Rattle.iges_directory.specs.Entries.{has_record};
 ghost use Rattle.iges_fields.specs.Delims.{are_permitted};
-ghost use Rattle.iges_fields.specs.declared.TheConstants.{FILE_LIMIT};
+ghost use Rattle.iges_base.specs.declared.TheConstants.{FILE_LIMIT};
 ghost use Rattle.iges_lines.specs.Gives.{Gives};
 ghost use Rattle.iges_params.specs.Reading.{above, read_record, used_values, without_type};
 ghost use Rattle.iges_params.specs.Records.{is_number, points_back, record_lines};

@@ -8,7 +8,7 @@ use mir.Syntax.{w64}
 use Rattle.std.specs.List.{enumerate_from}
 use Rattle.std.specs.Ordering.{int_eq}
 use Rattle.iges_fields.specs.declared.value.Value.{Value}
-use Rattle.iges_fields.proofs.Lists.{open_at}
+use Rattle.iges_base.proofs.Lists.{open_at}
 use Rattle.iges_directory.specs.declared.entry.Entry.{Entry}
 use Rattle.iges_solid_cmd.specs.Texts.{solid_lines_from}
 

@@ -1,7 +1,7 @@
 -- When verifying answers yes, and that what is written is accepted.
 use Rattle.std.specs.Prelude.{◌≡◌, ◌↔◌, ◌≤◌, ℕ, List, length}
 use Rattle.std.specs.List.{AllByRecursion}
-use Rattle.iges_fields.specs.declared.TheConstants.{FILE_LIMIT}
+use Rattle.iges_base.specs.declared.TheConstants.{FILE_LIMIT}
 use Rattle.iges_params.specs.Contents.{Contents}
 use Rattle.iges_params.specs.IsFile.{IsFile}
 use Rattle.topo_certificate.specs.declared.TheConstants.{CERT_LIMIT}

@@ -12,7 +12,7 @@ use Rattle.iges_fields.specs.Delims.{Delims}
 use Rattle.iges_fields.specs.Word.{spaces}
 use Rattle.iges_fields.specs.FreeText.{Spells, IsItem, delimited, FreeText}
 use Rattle.iges_fields.specs.Spelled.{spelling}
-use Rattle.iges_fields.proofs.Lists.{all_append}
+use Rattle.iges_base.proofs.Lists.{all_append}
 use Rattle.iges_fields.proofs.Whole.{few_items}
 use Rattle.iges_write.specs.Parts.{single_parts, word_parts, value_parts, parts}
 use Rattle.iges_write.specs.Filled.{padded, IsFilled}

@@ -15,7 +15,7 @@ use Rattle.iges_write.specs.Filling.{record_text_lines, used_lines}
 use Rattle.iges_write.specs.Sheet.{Sheet, Both, Fails, FailsBoth, Steps, StepsBoth, put_lines, record_tail}
 use Rattle.iges_write.specs.Text.{entry_lines, first_of, has_no_record, directory_lines}
 use Rattle.iges_write.specs.Writable.{IsHeld}
-use Rattle.iges_fields.proofs.Lists.{open_at}
+use Rattle.iges_base.proofs.Lists.{open_at}
 use Rattle.iges_write.proofs.RecordsBack.{lines_from, owned, length-owned}
 use Rattle.iges_write.proofs.Sheets.{Grows, lines_next, lines_fail, lines_last, no_lines}
 

@@ -15,12 +15,13 @@ use Rattle.iges_fields.specs.Word.{is_empty, spaces}
 use Rattle.iges_fields.specs.Delims.{Delims, is_delimiter, are_permitted}
 use Rattle.iges_fields.specs.FreeText.{is_delimiter_of, fits_64_bits}
 use Rattle.iges_fields.proofs.Words.{list_all-implies, is_number_byte, number_byte-passes, digit_is_not, digits_number_bytes, integer_is, integer_number_bytes, real_number_bytes, stop_is_delimiter, end_stops, param_stops}
-use Rattle.iges_fields.proofs.InLines.{both_in_line}
+use Rattle.iges_base.proofs.InLines.{both_in_line}
 use Rattle.iges_fields.specs.Spelled.{spelling}
 use Rattle.iges_write.specs.Parts.{single_parts, word_parts, value_parts, parts}
 use Rattle.iges_write.specs.Filled.{padded, IsFilled}
 use Rattle.iges_write.specs.Text.{right, numbered}
-use Rattle.iges_fields.specs.InLine.{is_in_line, is_value}
+use Rattle.iges_base.specs.InLine.{is_in_line}
+use Rattle.iges_fields.specs.InLine.{is_value}
 use Rattle.iges_write.proofs.Spelled.{integer-signed_decimal, decimal_digits}
 use Rattle.iges_write.proofs.Columns.{no_LF, IsLine, right-is, AreWide}
 

@@ -6,13 +6,13 @@ use Rattle.std.specs.Fmt.{decimal}
 use Rattle.std.specs.List.{AllByRecursion, AllZip, list_all, concat}
 use Rattle.std.proofs.lemmas.Bool.{and_parts, and_from, cond-true, cond-false, leb-true, eqb-true, not_from_false, ne_eqb, both_ways}
 use Rattle.std.proofs.lemmas.Fmt.{length-decimal-le}
-use Rattle.iges_fields.specs.declared.TheConstants.{FILE_LIMIT}
+use Rattle.iges_base.specs.declared.TheConstants.{FILE_LIMIT}
 use Rattle.iges_fields.specs.declared.value.Value.{Value}
 use Rattle.iges_fields.specs.declared.value.Value.TheVariants as value
 use Rattle.iges_fields.specs.Word.{spaces}
 use Rattle.iges_fields.specs.Delims.{Delims, is_delimiter, are_permitted}
-use Rattle.iges_fields.proofs.InLines.{both_in_line}
-use Rattle.iges_fields.proofs.Lists.{all_append}
+use Rattle.iges_base.proofs.InLines.{both_in_line}
+use Rattle.iges_base.proofs.Lists.{all_append}
 use Rattle.iges_fields.proofs.Words.{list_all-implies, digit_number_byte}
 use Rattle.iges_lines.specs.Lines.{SectionLines, joined, lines}
 use Rattle.iges_lines.specs.Sectioned.{AreSectioned}
@@ -24,7 +24,8 @@ use Rattle.iges_write.specs.Parts.{parts}
 use Rattle.iges_write.specs.Filled.{IsFilled}
 use Rattle.iges_write.specs.Filling.{fill, record_text_lines, text_of}
 use Rattle.iges_write.specs.Text.{first_of, counts_columns, right, column, numbered, entry_lines, has_no_record, directory_lines, count_field, global_values, IsRecordText, text_lines, IsText}
-use Rattle.iges_fields.specs.InLine.{is_in_line, is_value}
+use Rattle.iges_base.specs.InLine.{is_in_line}
+use Rattle.iges_fields.specs.InLine.{is_value}
 use Rattle.iges_directory.specs.Bounds.{fits_columns}
 use Rattle.iges_params.specs.Made.{is_start_line}
 use Rattle.iges_write.specs.Writable.{IsWritable, ReadsBack, OneText}

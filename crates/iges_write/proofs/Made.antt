@@ -8,9 +8,11 @@ use Rattle.std.proofs.lemmas.List.{length-take, length-drop, length-map}
 use Rattle.iges_fields.specs.declared.value.Value.{Value}
 use Rattle.iges_fields.specs.declared.value.Value.TheVariants as value
 use Rattle.iges_fields.specs.Delims.{Delims, are_permitted}
-use Rattle.iges_fields.specs.InLine.{is_in_line, is_value}
-use Rattle.iges_fields.proofs.InLines.{both_in_line, free_text_values}
-use Rattle.iges_fields.proofs.Lists.{list_all-parts, list_all-take, list_all-drop}
+use Rattle.iges_base.specs.InLine.{is_in_line}
+use Rattle.iges_fields.specs.InLine.{is_value}
+use Rattle.iges_base.proofs.InLines.{both_in_line}
+use Rattle.iges_fields.proofs.InLines.{free_text_values}
+use Rattle.iges_base.proofs.Lists.{list_all-parts, list_all-take, list_all-drop}
 use Rattle.iges_lines.specs.Lines.{columns, SectionLines, joined}
 use Rattle.iges_lines.specs.Sectioned.{IsNumbered}
 use Rattle.iges_lines.proofs.InLines.{columns_in_line, columns_short}

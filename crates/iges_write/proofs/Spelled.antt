@@ -13,7 +13,8 @@ use Rattle.iges_fields.specs.declared.value.Value.TheVariants as value
 use Rattle.iges_fields.specs.Word.{are_digits, is_integer, integer}
 use Rattle.iges_fields.specs.FreeText.{Spells, fits_64_bits}
 use Rattle.iges_fields.specs.Spelled.{spelling}
-use Rattle.iges_fields.specs.InLine.{is_in_line, is_value}
+use Rattle.iges_base.specs.InLine.{is_in_line}
+use Rattle.iges_fields.specs.InLine.{is_value}
 
 all_digits : (ds : List ℕ) → AllDigits 10 ds → list_all is_ascii_digit ds ≡ true
 all_digits [] h = refl

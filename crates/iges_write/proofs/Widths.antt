@@ -6,7 +6,7 @@ use Rattle.std.specs.List.{AllByRecursion, AllZip, concat}
 use Rattle.iges_fields.specs.declared.value.Value.{Value}
 use Rattle.iges_fields.specs.declared.value.Value.TheVariants as value
 use Rattle.iges_fields.specs.Delims.{Delims}
-use Rattle.iges_fields.proofs.Lists.{all_append}
+use Rattle.iges_base.proofs.Lists.{all_append}
 use Rattle.iges_directory.specs.declared.entry.Entry.{Entry}
 use Rattle.iges_params.specs.Contents.{Contents}
 use Rattle.iges_write.specs.Parts.{parts}

@@ -1,7 +1,7 @@
 -- The files that can be made, and that their texts read back.
 use Rattle.std.specs.Prelude.{◌≡◌, ℕ, ◌≤◌, List, length, IsTrue}
 use Rattle.std.specs.List.{AllByRecursion, list_all}
-use Rattle.iges_fields.specs.declared.TheConstants.{FILE_LIMIT}
+use Rattle.iges_base.specs.declared.TheConstants.{FILE_LIMIT}
 use Rattle.iges_fields.specs.declared.value.Value.{Value}
 use Rattle.iges_fields.specs.Delims.{are_permitted}
 use Rattle.iges_fields.specs.InLine.{is_value}

@@ -1,4 +1,4 @@
-ghost use Rattle.iges_fields.specs.declared.TheConstants.{FILE_LIMIT};
+ghost use Rattle.iges_base.specs.declared.TheConstants.{FILE_LIMIT};
 ghost use Rattle.iges_directory.specs.declared.entry.Entry.{Entry as OneEntry};
 ghost use Rattle.iges_fields.specs.declared.value.Value.{Value as OneValue};
 ghost use Rattle.iges_params.specs.Made.{IsMade};

@@ -1,5 +1,5 @@
 ghost use Rattle.iges_fields.specs.Delims.{are_permitted};
-ghost use Rattle.iges_fields.specs.declared.TheConstants.{FILE_LIMIT};
+ghost use Rattle.iges_base.specs.declared.TheConstants.{FILE_LIMIT};
 ghost use Rattle.iges_fields.specs.declared.value.Value.TheVariants as value;
 ghost use Rattle.iges_write.specs.FileSheet.{blank};
 ghost use Rattle.iges_write.specs.Filling.{fill};

@@ -1,4 +1,4 @@
-ghost use Rattle.iges_fields.specs.declared.TheConstants.{FILE_LIMIT};
+ghost use Rattle.iges_base.specs.declared.TheConstants.{FILE_LIMIT};
 ghost use Rattle.iges_write.specs.FileSheet.{Writes, blank, file_sheet, params_sheet, with_front, with_records};
 ghost use Rattle.iges_write.specs.Gives.{Gives};
 ghost use Rattle.iges_write.specs.Filling.{text_of};

@@ -5,7 +5,7 @@ ghost use Rattle.std.specs.Prelude.{◌≡◌, IsTrue};
 ghost use Rattle.library_example.specs.Finds.{Finds};
 
 use cert_maker::verdict;
-use iges_fields::{EntryNo, FILE_LIMIT, NoMemory};
+use iges_base::{EntryNo, FILE_LIMIT, NoMemory};
 use iges_lines::LineFault;
 use iges_params::{ReadFileFault, read_file};
 use solid_data::{Failing, Verdict};

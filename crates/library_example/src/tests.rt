@@ -1,5 +1,5 @@
 use crate::{Finding, judge};
-use iges_fields::EntryNo;
+use iges_base::EntryNo;
 use solid_data::{Failing, Rule};
 
 #[test]

@@ -1,6 +1,6 @@
 //! The file whose lists hold only what is used.
 
-ghost use Rattle.iges_fields.specs.declared.TheConstants.{FILE_LIMIT};
+ghost use Rattle.iges_base.specs.declared.TheConstants.{FILE_LIMIT};
 ghost use Rattle.iges_params.specs.Contents.{Contents};
 ghost use Rattle.list_compact.specs.Dropped.{dropped, dropped_values};
 ghost use Rattle.list_compact.specs.Marking.{AreRecords, AreTables, IsOfItsKind, MarksItems};

@@ -1,6 +1,6 @@
 //! The ranks of used items.
 
-ghost use Rattle.iges_fields.specs.declared.TheConstants.{FILE_LIMIT};
+ghost use Rattle.iges_base.specs.declared.TheConstants.{FILE_LIMIT};
 ghost use Rattle.list_compact.specs.Marking.{AreRanks, Covers, IsRankAt, ranks_of};
 ghost use Rattle.list_compact.specs.Used.{ranked};
 ghost use Rattle.solid_data.specs.Obligations.{entry_number};

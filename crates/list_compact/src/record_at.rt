@@ -1,7 +1,7 @@
 //! Entries by their places.
 
 ghost use Rattle.iges_directory.specs.Bounds.{IsBounded};
-ghost use Rattle.iges_fields.specs.declared.TheConstants.{FILE_LIMIT};
+ghost use Rattle.iges_base.specs.declared.TheConstants.{FILE_LIMIT};
 ghost use Rattle.list_compact.specs.Marking.{HasType};
 ghost use Rattle.std.specs.List.{AllByRecursion};
 ghost use Rattle.std.specs.Prelude.{◌≡◌, ◌<◌, ◌≤◌, Some, length, slice_get};

@@ -3,7 +3,7 @@
 ghost use Rattle.brep_lists.specs.Record.{«loop», edges, vertices, items_of, tuple_due, Fits, IsRecordOf};
 ghost use Rattle.entry_references.specs.EntrySets.{marks_set};
 ghost use Rattle.iges_fields.specs.InLine.{is_value};
-ghost use Rattle.iges_fields.specs.declared.TheConstants.{FILE_LIMIT};
+ghost use Rattle.iges_base.specs.declared.TheConstants.{FILE_LIMIT};
 ghost use Rattle.iges_params.specs.Contents.{Contents};
 ghost use Rattle.list_compact.specs.Dropped.{edge_index, edge_values, loop_values, reindexed_edge, tuple_index, vertex_index, vertex_values};
 ghost use Rattle.list_compact.specs.Marking.{AreTables, IsVertexTable, MarksItems, edge_spelled, int_value};

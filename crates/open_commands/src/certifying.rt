@@ -5,7 +5,7 @@ ghost use Rattle.open_commands.specs.Due.{OfOpen};
 
 use brep_walk::{WalkFault, walk_shell};
 use command_replies::{Answer, Reply, failed, failed_by};
-use iges_fields::{EntryNo, NoMemory};
+use iges_base::{EntryNo, NoMemory};
 use iges_params::File;
 use open_shells::{OpenFault, open_certify, write_open};
 use std::alloc::Global;

@@ -7,7 +7,7 @@ ghost use Rattle.solid_check.specs.Faults.{IsCheckFault};
 ghost use Rattle.solid_data.specs.Obligations.{AllHold};
 
 use brep_walk::{WalkFault, walk_shell};
-use iges_fields::EntryNo;
+use iges_base::EntryNo;
 use iges_params::File;
 use solid_check::{CheckFault, join, shell_at};
 use solid_data::{ShellAt, Solid};

@@ -6,7 +6,7 @@ ghost use Rattle.cert_lines.specs.Misfits.{illegal_at};
 ghost use Rattle.open_commands.specs.Opening.{OpensShell, IsBadOpening};
 
 use cert_lines::first_line;
-use iges_fields::EntryNo;
+use iges_base::EntryNo;
 use open_shells::{Illegal, Misfit, open_head, shell_number};
 
 fn at_line(misfit: Misfit, line: u64) -> Illegal

@@ -10,7 +10,7 @@ use crate::checking::checked_shell;
 use crate::judging::judge_lines;
 use crate::opening::read_opening;
 use command_replies::{Reply, Stop, accepted, bytes_in, failed, illegal};
-use iges_fields::{EntryNo, NoMemory};
+use iges_base::{EntryNo, NoMemory};
 use iges_io::Source;
 use iges_params::File;
 use open_shells::OpenChecker;

@@ -1,6 +1,6 @@
 -- The obligations on an open shell, in order, and the first that is false.
 use Rattle.std.specs.Prelude.{◌≡◌, ℕ, List, [], ◌∷◌, ◌++◌, ◌⊎◌, ⊤, map, codes, slice_get}
-use Rattle.iges_fields.specs.declared.entry_no.EntryNo.{EntryNo}
+use Rattle.iges_base.specs.declared.entry_no.EntryNo.{EntryNo}
 use Rattle.solid_data.specs.SolidData.{SolidData}
 use Rattle.solid_data.specs.Obligations.{Obligation}
 use Rattle.solid_data.specs.declared.solid.Shell.{Shell}

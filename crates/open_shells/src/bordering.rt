@@ -17,7 +17,7 @@ use crate::mated::Mated;
 use crate::mating::row_at;
 use crate::parts::Borders;
 use edge_uses::Span;
-use iges_fields::NoMemory;
+use iges_base::NoMemory;
 use solid_data::{RowId, RowList};
 use std::alloc::Global;
 

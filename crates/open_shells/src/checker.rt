@@ -4,7 +4,7 @@ use crate::state::OpenState;
 use crate::words::{OpenCounts, OpenWords, read_line};
 use cert_lines::Illegal;
 use edge_uses::rows;
-use iges_fields::NoMemory;
+use iges_base::NoMemory;
 use solid_data::{ShellAt, Solid};
 use std::alloc::Global;
 use std::marker::Model;

@@ -5,7 +5,7 @@ ghost use Rattle.edge_uses.specs.Closed.{OnFace};
 ghost use Rattle.open_shells.specs.FaceRows.{AreFaceRows};
 
 use edge_uses::Rows;
-use iges_fields::NoMemory;
+use iges_base::NoMemory;
 use solid_data::RowId;
 use std::alloc::Global;
 

@@ -14,7 +14,7 @@ use crate::mated::Mated;
 use crate::parts::{OpenCorner, OpenCorners};
 use crate::starting::{Points, Starts, all_points, all_starts, vertex_at};
 use edge_uses::Span;
-use iges_fields::NoMemory;
+use iges_base::NoMemory;
 use solid_data::{RowId, RowList, VertexId};
 use std::alloc::Global;
 

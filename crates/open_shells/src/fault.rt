@@ -1,7 +1,7 @@
 //! Why no certificate was made.
 
 use crate::verdict::OpenFailing;
-use iges_fields::NoMemory;
+use iges_base::NoMemory;
 
 /// Why no certificate of an open shell was made (own).
 #[derive(Clone, Copy, Debug, PartialEq, Eq)]

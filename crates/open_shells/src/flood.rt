@@ -10,7 +10,7 @@ ghost use Rattle.open_shells.specs.Flood.{IsFlood, IsDone, Grows};
 
 use crate::faces::{FaceRows, face_of};
 use crate::mated::Mated;
-use iges_fields::NoMemory;
+use iges_base::NoMemory;
 use solid_data::{RowId, RowList};
 use std::alloc::Global;
 

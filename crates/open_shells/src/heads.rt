@@ -12,7 +12,7 @@ ghost use Rattle.open_shells.specs.FanParts.{AreHeads};
 use crate::mated::Mated;
 use crate::mating::row_at;
 use edge_uses::Span;
-use iges_fields::NoMemory;
+use iges_base::NoMemory;
 use solid_data::RowId;
 use std::alloc::Global;
 

@@ -3,7 +3,7 @@
 use crate::mating::{first_not_once, open_edges, open_mates};
 use crate::parts::OpenEdges;
 use edge_uses::{Rows, tally_of};
-use iges_fields::NoMemory;
+use iges_base::NoMemory;
 use solid_data::{EdgeId, RowId};
 use std::alloc::Global;
 use std::marker::Model;

@@ -12,7 +12,7 @@ ghost use Rattle.open_shells.specs.Mating.{AreRowsOf, IsMateOf, AreOnce, HaveOpe
 
 use crate::parts::{OpenEdge, OpenEdges};
 use edge_uses::{Row, Rows, Seen, Tally};
-use iges_fields::NoMemory;
+use iges_base::NoMemory;
 use solid_data::{EdgeId, RowId};
 use std::alloc::Global;
 

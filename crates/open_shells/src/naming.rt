@@ -8,7 +8,7 @@ ghost use Rattle.open_shells.specs.Obligations.{open_failing, edge_obligation, f
 
 use crate::verdict::{OpenFailing, OpenRule};
 use edge_uses::Unjoined;
-use iges_fields::EntryNo;
+use iges_base::EntryNo;
 use solid_data::{EdgeId, EdgeKey, FaceAt, Shell, Solid, VertexId, VertexKey};
 
 /// JOIN names the loop, and its first tuple, from 1, whose use doesn't end where the next one starts.

@@ -6,7 +6,7 @@ ghost use Rattle.open_shells.specs.Opening.{IsHead, IsShell, NamesShell, IsOf, I
 
 use crate::words::{OpenWords, read_line};
 use cert_lines::Misfit;
-use iges_fields::EntryNo;
+use iges_base::EntryNo;
 
 /// Whether these bytes are line 1 of an open shell's certificate, with its LF, without which they are misspelt (own). Takes
 /// no memory.

@@ -1,6 +1,6 @@
 //! A certificate of an open shell as its parts.
 
-use iges_fields::{EntryNo, ItemList};
+use iges_base::{EntryNo, ItemList};
 use solid_data::{LoopAt, RowId, RowList};
 use topo_certificate::ReachRows;
 

@@ -13,7 +13,7 @@ ghost use Rattle.open_shells.specs.Reaching.{ReachesAll, row_numbers};
 use crate::faces::face_rows;
 use crate::flood::Flood;
 use crate::mated::Mated;
-use iges_fields::NoMemory;
+use iges_base::NoMemory;
 use solid_data::{FaceAt, RowList};
 use std::alloc::Global;
 

@@ -9,7 +9,7 @@ ghost use Rattle.open_shells.specs.Starting.{one_start_more, one_point_more, Are
 
 use crate::mating::row_at;
 use edge_uses::{Rows, Span};
-use iges_fields::NoMemory;
+use iges_base::NoMemory;
 use solid_data::{FaceAt, LoopAt, VertexId};
 use std::alloc::Global;
 

@@ -3,7 +3,7 @@
 use crate::fitting::{fits_counts, fitting_border, fitting_lone, fitting_path, lists_all};
 use crate::words::{OpenCounts, OpenWords};
 use edge_uses::Rows;
-use iges_fields::{EntryNo, NoMemory};
+use iges_base::{EntryNo, NoMemory};
 use std::alloc::Global;
 use std::marker::Model;
 use topo_certificate::{fitting_corner, fitting_edge, fitting_face, fitting_point, sizes_of};

@@ -3,7 +3,7 @@
 ghost use Rattle.std.specs.Prelude.{◌≡◌};
 ghost use Rattle.open_shells.specs.Obligations.{rule_name};
 
-use iges_fields::EntryNo;
+use iges_base::EntryNo;
 use std::fmt;
 
 /// What a sound open shell keeps (own).

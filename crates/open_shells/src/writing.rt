@@ -9,7 +9,7 @@ ghost use Rattle.open_shells.specs.declared.parts.OpenCorner.TheVariants.{Cycle,
 
 use crate::parts::{OpenCertificate, OpenCorner, OpenEdge};
 use cert_lines::{from_one, put_line, put_rows};
-use iges_fields::{Bytes, NoMemory, Out};
+use iges_base::{Bytes, NoMemory, Out};
 use solid_data::{RowId, RowList};
 use std::alloc::Global;
 

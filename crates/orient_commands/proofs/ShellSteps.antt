@@ -5,7 +5,7 @@ use Rattle.std.proofs.Common.{refl, sym, ◌∙◌, ap, subst, arith, inr, ⊎_e
 use Rattle.std.proofs.lemmas.Bool.{cases_order}
 use Rattle.std.proofs.lemmas.List.{length-map}
 use Rattle.std.proofs.lemmas.Option.{slice_get_within}
-use Rattle.iges_fields.specs.declared.no_memory.NoMemory.{NoMemory as OutOfMemory}
+use Rattle.iges_base.specs.declared.no_memory.NoMemory.{NoMemory as OutOfMemory}
 use Rattle.iges_params.specs.Contents.{Contents}
 use Rattle.solid_data.specs.Numbering.{IsNumberedSolid}
 use Rattle.solid_data.specs.Obligations.{AllHold}

@@ -1,6 +1,6 @@
 //! Why a text isn't taken as an orientation.
 
-use iges_fields::NoMemory as OutOfMemory;
+use iges_base::NoMemory as OutOfMemory;
 use topo_certificate::Illegal;
 
 /// Why a text isn't taken as an orientation.

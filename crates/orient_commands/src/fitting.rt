@@ -6,7 +6,7 @@ ghost use Rattle.orient_commands.specs.Shells.{IsCounted};
 ghost use Rattle.orient_commands.specs.Text.{FitsAs, NameOddRing};
 
 use face_orient::{NumberList, OrientChecker, OrientLine};
-use iges_fields::NoMemory;
+use iges_base::NoMemory;
 use solid_data::{RowId, RowList, ShellAt, Solid};
 use std::alloc::Global;
 

@@ -15,7 +15,7 @@ ghost use Rattle.solid_data.specs.SolidData.{SolidData};
 
 use command_replies::{Answer, Reply};
 use face_orient::{NumberList, OrientFault, OrientLine, Orientation, orient, write_orient_line};
-use iges_fields::{NoMemory, Out};
+use iges_base::{NoMemory, Out};
 use solid_data::{RowId, RowList, ShellAt, Solid};
 use std::alloc::Global;
 

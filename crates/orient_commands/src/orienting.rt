@@ -8,7 +8,7 @@ use crate::making::orientation;
 use brep_walk::{WalkFault, walk};
 use command_replies::{Reply, failed, failed_by};
 use face_orient::{OrientFailing, OrientFault};
-use iges_fields::{EntryNo, NoMemory};
+use iges_base::{EntryNo, NoMemory};
 use iges_params::File;
 use std::alloc::Global;
 

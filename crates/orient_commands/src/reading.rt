@@ -12,7 +12,7 @@ ghost use Rattle.orient_commands.specs.Text.{Names, IsBadHead};
 use crate::fault::TextFault;
 use cert_lines::first_line;
 use face_orient::{OrientLine, OrientLineFault, orient_line};
-use iges_fields::EntryNo;
+use iges_base::EntryNo;
 use std::alloc::Global;
 use topo_certificate::Illegal;
 

@@ -17,7 +17,7 @@ use crate::reading::read_head;
 use brep_walk::{WalkFault, walk};
 use command_replies::{Reply, Stop, accepted, bytes_in, failed, illegal};
 use face_orient::OrientFault;
-use iges_fields::{EntryNo, NoMemory};
+use iges_base::{EntryNo, NoMemory};
 use iges_io::Source;
 use iges_params::File;
 use solid_data::Solid;

@@ -1,6 +1,6 @@
 -- How a path is written.
 use Rattle.std.specs.Prelude.{ℕ, List, [], ◌∷◌, ◌++◌, codes, decimal, Option, Some, None}
-use Rattle.iges_fields.specs.declared.entry_no.EntryNo.{EntryNo}
+use Rattle.iges_base.specs.declared.entry_no.EntryNo.{EntryNo}
 use Rattle.where_text.specs.Spelled.{space_word}
 use Rattle.record_paths.specs.declared.path.Path.{Path}
 use Rattle.record_paths.specs.declared.path.Step.{Step}

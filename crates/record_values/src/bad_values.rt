@@ -3,7 +3,7 @@
 ghost use Rattle.record_values.specs.BadValue.{bad_curve, bad_value, by_rule, due_of, in_edge, in_edges, in_record, in_tuple, in_tuples, is_of_number, no_value, value_at};
 ghost use Rattle.record_values.specs.Told.{told_in};
 ghost use Rattle.brep_lists.specs.Record.{edges, «loop»};
-ghost use Rattle.iges_fields.specs.declared.TheConstants.{FILE_LIMIT};
+ghost use Rattle.iges_base.specs.declared.TheConstants.{FILE_LIMIT};
 ghost use Rattle.std.specs.Prelude.{◌≡◌, ◌≤◌, ◌+◌, ◌*◌, ◌<◌, ◌^◌, IfSome, Some, length};
 
 use crate::due::Due;

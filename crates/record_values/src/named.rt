@@ -1,7 +1,7 @@
 //! What the numbers in records name.
 
 ghost use Rattle.record_values.specs.BadValue.{entry_at, is_geometry, is_index, is_vertex_list, item_count};
-ghost use Rattle.iges_fields.specs.declared.TheConstants.{FILE_LIMIT};
+ghost use Rattle.iges_base.specs.declared.TheConstants.{FILE_LIMIT};
 ghost use Rattle.iges_params.specs.Limits.{FitsLimits};
 ghost use Rattle.iges_params.specs.Named.{named};
 ghost use Rattle.std.specs.Prelude.{◌≡◌, ◌≤◌, IfSome, MatchOption, None, length, option_copied, option_map, pos};

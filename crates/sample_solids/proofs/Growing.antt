@@ -3,7 +3,7 @@ use Rattle.std.specs.Prelude.{◌≡◌, ℕ, ◌+◌, ◌*◌, ◌<◌, ◌≤�
 use Rattle.std.proofs.Common.{refl, sym, ◌∙◌, ap, subst, arith, append_assoc}
 use Rattle.std.proofs.lemmas.List.{take-append-drop, append-nil}
 use Rattle.std.proofs.lemmas.List.Concat.{flat_map-append}
-use Rattle.iges_fields.specs.declared.TheConstants.{FILE_LIMIT}
+use Rattle.iges_base.specs.declared.TheConstants.{FILE_LIMIT}
 use Rattle.iges_fields.specs.declared.value.Value.{Value}
 use Rattle.iges_directory.specs.declared.entry.Entry.{Entry}
 use Rattle.iges_params.specs.Contents.{Contents, value_count}

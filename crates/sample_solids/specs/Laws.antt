@@ -1,7 +1,7 @@
 -- What holds of each sample.
 use Rattle.std.specs.Prelude.{◌≡◌, ℕ, ◌*◌, ◌≤◌, List, [], ◌∷◌, length, flat_map}
 use Rattle.cert_lines.specs.declared.version.Version.TheVariants.{Two}
-use Rattle.iges_fields.specs.declared.TheConstants.{FILE_LIMIT}
+use Rattle.iges_base.specs.declared.TheConstants.{FILE_LIMIT}
 use Rattle.iges_params.specs.Contents.{Contents}
 use Rattle.iges_params.specs.IsFile.{IsFile}
 use Rattle.iges_params.specs.Made.{IsMade}

@@ -1,6 +1,6 @@
 //! Why faces aren't reached.
 
-use iges_fields::NoMemory;
+use iges_base::NoMemory;
 use solid_data::FaceAt;
 
 /// Why the faces of a shell aren't reached (own).

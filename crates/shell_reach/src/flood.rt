@@ -11,7 +11,7 @@ ghost use Rattle.shell_reach.specs.Flood.{IsFlood, IsDone, Grows, HasCrossed, Cr
 
 use crate::faces::{FaceRows, face_of};
 use edge_uses::Paired;
-use iges_fields::NoMemory;
+use iges_base::NoMemory;
 use solid_data::{RowId, RowList};
 use std::alloc::Global;
 

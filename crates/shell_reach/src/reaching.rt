@@ -15,7 +15,7 @@ use crate::faces::face_rows;
 use crate::fault::ReachFault;
 use crate::flood::Flood;
 use edge_uses::Paired;
-use iges_fields::NoMemory;
+use iges_base::NoMemory;
 use solid_data::{FaceAt, RowList};
 use std::alloc::Global;
 

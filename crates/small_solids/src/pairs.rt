@@ -3,7 +3,7 @@
 ghost use Rattle.std.specs.Prelude.{◌≡◌, length, IfOk};
 
 use crate::parts::{edge_to, face, one, shell_of_two, two, use_of, vertex};
-use iges_fields::{EntryNo, ItemList, NoMemory};
+use iges_base::{EntryNo, ItemList, NoMemory};
 use solid_data::{LoopUse, Solid, VertexId};
 use std::alloc::Global;
 

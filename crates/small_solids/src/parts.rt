@@ -4,7 +4,7 @@ ghost use Rattle.std.specs.Prelude.{◌≡◌, ◌∷◌, [], true, IfOk};
 ghost use Rattle.edge_uses.specs.Balls.{one_loop, vertex_key};
 ghost use Rattle.solid_data.specs.declared.solid.LoopUse.TheVariants.{EdgeUse};
 
-use iges_fields::{EntryNo, ItemList, NoMemory};
+use iges_base::{EntryNo, ItemList, NoMemory};
 use solid_data::{
     Edge, EdgeId, EdgeKey, FaceUse, Loop, LoopUse, Shell, Shells, Uses, VertexId, VertexKey,
 };

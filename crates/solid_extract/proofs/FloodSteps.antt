@@ -4,10 +4,10 @@ use Rattle.std.proofs.Common.{refl, sym, ap, subst, ◌∙◌, arith, inl, inr, 
 use Rattle.std.proofs.lemmas.Bool.{cases_lt, leb-true, leb-false}
 use Rattle.std.proofs.lemmas.List.{append-nil}
 use Rattle.std.proofs.lemmas.Option.{same_Some, slice_get_within, get_or_from_slice_get, slice_get-get_or}
-use Rattle.iges_fields.specs.declared.entry_no.EntryNo.{EntryNo}
+use Rattle.iges_base.specs.declared.entry_no.EntryNo.{EntryNo}
 use Rattle.iges_params.specs.Contents.{Contents}
 use Rattle.iges_params.specs.Named.{named}
-use Rattle.iges_fields.specs.declared.no_memory.NoMemory.{NoMemory}
+use Rattle.iges_base.specs.declared.no_memory.NoMemory.{NoMemory}
 use Rattle.entry_references.specs.Answered.{TellsFault}
 use Rattle.entry_references.specs.declared.fault.ExtractReason.{ExtractReason}
 use Rattle.entry_references.specs.declared.fault.ExtractReason.TheVariants as reason

@@ -8,7 +8,7 @@ use Rattle.iges_fields.specs.declared.value.Value.{Value}
 use Rattle.iges_fields.specs.declared.value.Value.TheVariants as value
 use Rattle.iges_fields.specs.FreeText.{fits_64_bits}
 use Rattle.iges_fields.specs.InLine.{is_value}
-use Rattle.iges_fields.proofs.Lists.{list_all-take, list_all-both}
+use Rattle.iges_base.proofs.Lists.{list_all-take, list_all-both}
 use Rattle.iges_params.specs.Contents.{Contents}
 use Rattle.entry_references.specs.EntrySets.{is_among}
 use Rattle.entry_references.specs.Layout.{Own, count_of}

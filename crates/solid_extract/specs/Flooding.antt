@@ -1,6 +1,6 @@
 -- What is reached, and the least fault there.
 use Rattle.std.specs.Prelude.{◌≡◌, ◌↔◌, ℕ, ◌<◌, nat_le, List, pos, Option, Some, None, Ok, Err, Contains, if◌then◌else◌}
-use Rattle.iges_fields.specs.declared.entry_no.EntryNo.{EntryNo}
+use Rattle.iges_base.specs.declared.entry_no.EntryNo.{EntryNo}
 use Rattle.iges_params.specs.Contents.{Contents}
 use Rattle.iges_params.specs.Named.{named}
 use Rattle.entry_references.specs.declared.fault.ExtractReason.{ExtractReason}

@@ -1,7 +1,7 @@
 //! The file of one solid.
 
 ghost use Rattle.entry_references.specs.declared.fault.ExtractReason.{ExtractReason as Reason};
-ghost use Rattle.iges_fields.specs.declared.TheConstants.{FILE_LIMIT};
+ghost use Rattle.iges_base.specs.declared.TheConstants.{FILE_LIMIT};
 ghost use Rattle.iges_params.specs.Contents.{Contents, value_count};
 ghost use Rattle.iges_params.specs.Made.{IsMade};
 ghost use Rattle.solid_extract.specs.Extracted.{IsExtracted, IsExtractedAs, IsRefused, is_solid, new_record};

@@ -2,7 +2,7 @@
 
 ghost use Rattle.entry_references.specs.Refs.{is_name, number_of};
 ghost use Rattle.iges_fields.specs.InLine.{is_value};
-ghost use Rattle.iges_fields.specs.declared.TheConstants.{FILE_LIMIT};
+ghost use Rattle.iges_base.specs.declared.TheConstants.{FILE_LIMIT};
 ghost use Rattle.solid_extract.specs.Extracted.{new_value, renamed};
 ghost use Rattle.solid_extract.specs.NewValues.{AreMarkedPlaces, names_behind, new_numbers, value_as, with_mark};
 ghost use Rattle.std.specs.List.{enumerate_from};

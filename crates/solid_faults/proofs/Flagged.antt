@@ -7,7 +7,7 @@ use Rattle.std.proofs.lemmas.List.Elements.{All-from_recursion, recursion_from_A
 use Rattle.std.proofs.lemmas.List.Folds.{flat_map-map}
 use Rattle.solid_data.specs.Numbering.{IsNumberedSolid, InOrderOfAppearance}
 use Rattle.solid_data.specs.SolidData.{SolidData, PlacedLoop, placed_in_face, placed_loops, shell_uses, shell_edges, shell_vertices, edge_used, vertices_used, same_flag}
-use Rattle.iges_fields.specs.declared.entry_no.EntryNo.{EntryNo}
+use Rattle.iges_base.specs.declared.entry_no.EntryNo.{EntryNo}
 use Rattle.solid_data.specs.declared.solid.Edge.{Edge}
 use Rattle.solid_data.specs.declared.solid.VertexKey.{VertexKey}
 use Rattle.solid_data.specs.declared.solid.FaceUse.{FaceUse}

@@ -7,7 +7,7 @@ ghost use Rattle.edge_components.specs.Groups.{places_of};
 
 use edge_components::{Groups, grouped};
 use edge_uses::{Row, Rows};
-use iges_fields::NoMemory;
+use iges_base::NoMemory;
 use solid_data::RowId;
 use std::alloc::Global;
 

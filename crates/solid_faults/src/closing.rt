@@ -8,7 +8,7 @@ ghost use Rattle.edge_uses.specs.ShellRows.{rows_of};
 use crate::failing::faults_of;
 use crate::shared::below_next;
 use edge_uses::rows;
-use iges_fields::NoMemory;
+use iges_base::NoMemory;
 use solid_data::{ShellAt, Solid};
 use std::alloc::Global;
 

@@ -7,7 +7,7 @@ ghost use Rattle.edge_uses.specs.Tally.{seen_of, IsTally};
 ghost use Rattle.solid_faults.specs.Edges.{unpaired_at, unpaired_of, rows_on_edge, row_on};
 
 use edge_uses::{Row, Rows, Tally, tally_of};
-use iges_fields::NoMemory;
+use iges_base::NoMemory;
 use solid_data::{EdgeId, RowId};
 use std::alloc::Global;
 

@@ -17,7 +17,7 @@ use crate::part::firsts;
 use crate::shared::{below_shell, shared_vertices};
 use crate::unlinking::unlinked_vertices;
 use edge_uses::{PairFault, Paired, Rows, pair, rows};
-use iges_fields::NoMemory;
+use iges_base::NoMemory;
 use solid_data::{ShellAt, Solid};
 use std::alloc::Global;
 use std::marker::Model;

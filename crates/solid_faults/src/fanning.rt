@@ -8,7 +8,7 @@ ghost use Rattle.solid_faults.specs.TurnPairs.{AreTurns};
 
 use edge_components::components;
 use edge_uses::Paired;
-use iges_fields::NoMemory;
+use iges_base::NoMemory;
 use solid_data::RowId;
 use std::alloc::Global;
 

@@ -5,7 +5,7 @@ ghost use Rattle.solid_data.specs.Numbering.{IsNumberedSolid};
 ghost use Rattle.solid_faults.specs.FaceFlags.{flagged_face as face_flagged, flagged_shell as shell_flagged, flagged_solid, IsClosedFlagged};
 
 use crate::closing::is_closed;
-use iges_fields::{ItemList, NoMemory};
+use iges_base::{ItemList, NoMemory};
 use solid_data::{
     Edge, EdgeId, Edges, FaceUse, Faces, Loop, LoopUse, Loops, Shell, ShellAt, Shells, Solid, Uses,
     VertexId, VertexKey, Vertices,

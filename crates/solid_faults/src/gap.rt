@@ -8,7 +8,7 @@ ghost use Rattle.edge_uses.specs.Closed.{begin_of, start_of, end_of};
 ghost use Rattle.edge_uses.specs.Joining.{IsFewFace, IsFewShell, placed_at};
 ghost use Rattle.solid_faults.specs.Gaps.{gap_at, loop_gaps, gaps_of};
 
-use iges_fields::{EntryNo, NoMemory};
+use iges_base::{EntryNo, NoMemory};
 use solid_data::{Edge, FaceAt, FaceUse, Loop, LoopAt, LoopUse, Shell, ShellAt, Solid};
 use std::alloc::Global;
 

@@ -9,7 +9,7 @@ ghost use Rattle.solid_faults.specs.Tallied.{AreTallied};
 
 use edge_components::components;
 use edge_uses::{Row, Rows, Seen, Tally, tally_of};
-use iges_fields::NoMemory;
+use iges_base::NoMemory;
 use solid_data::RowId;
 use std::alloc::Global;
 

@@ -20,7 +20,7 @@ ghost use Rattle.solid_faults.specs.declared.edge.Unpaired.{Unpaired as AnyUnpai
 use crate::edge::Unpaired;
 use edge_components::{Groups, Used, add_face, grouped, nothing_used, rise, used_by};
 use edge_uses::{Rows, Span};
-use iges_fields::{EntryNo, NoMemory};
+use iges_base::{EntryNo, NoMemory};
 use solid_data::{FaceUse, Shell, ShellAt, Solid};
 use std::alloc::Global;
 use std::marker::Model;

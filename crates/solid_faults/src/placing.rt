@@ -11,7 +11,7 @@ ghost use Rattle.edge_uses.specs.declared.row.Row.{Row as AnyRow};
 ghost use Rattle.solid_faults.specs.declared.placing.RowPlace.{RowPlace as AnyPlace};
 ghost use Rattle.solid_faults.specs.RowPlaces.{place_of_row, use_places, loop_places, face_places, row_places_of, places_in};
 
-use iges_fields::{EntryNo, NoMemory};
+use iges_base::{EntryNo, NoMemory};
 use solid_data::{Edge, FaceUse, Loop, LoopUse, Shell, ShellAt, Solid};
 use std::alloc::Global;
 

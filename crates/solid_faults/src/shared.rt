@@ -12,7 +12,7 @@ ghost use Rattle.edge_uses.specs.ShellRows.{rows_of};
 ghost use Rattle.solid_faults.specs.Edges.{shared_of};
 
 use edge_uses::{Rows, rows};
-use iges_fields::NoMemory;
+use iges_base::NoMemory;
 use solid_data::{ShellAt, Solid, VertexId};
 use std::alloc::Global;
 

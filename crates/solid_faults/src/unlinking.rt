@@ -8,7 +8,7 @@ ghost use Rattle.solid_faults.specs.Fans.{added, AreFanCounts, ArePointCounts, u
 
 use crate::fan::Unlinked;
 use edge_uses::{Row, Rows, Span};
-use iges_fields::NoMemory;
+use iges_base::NoMemory;
 use solid_data::{LoopAt, RowId, VertexId};
 use std::alloc::Global;
 

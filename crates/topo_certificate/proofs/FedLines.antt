@@ -2,10 +2,10 @@
 use Rattle.std.specs.Prelude.{◌≡◌, ℕ, zero, suc, ◌+◌, ◌-◌, ◌<◌, ◌≤◌, true, false, List, [], ◌∷◌, ◌++◌, length, map, take, reverse, Option, Some, None, Result, Ok, Err, IsTrue, MatchOption, MatchResult}
 use Rattle.std.proofs.Common.{refl, sym, ◌∙◌, ap, subst, arith, inl, inr, ⊎_elim, append_assoc}
 use Rattle.std.proofs.lemmas.List.{append-nil, map-append, take_all, take_at, length-take, length-append, length-reverse, reverse-append}
-use Rattle.iges_fields.specs.Ended.{ended, IsBegun}
-use Rattle.iges_fields.specs.InLine.{is_in_line}
-use Rattle.iges_fields.proofs.Ended.{begun_none, begun_more, begun_end}
-use Rattle.iges_fields.proofs.InLines.{both_in_line}
+use Rattle.iges_base.specs.Ended.{ended, IsBegun}
+use Rattle.iges_base.specs.InLine.{is_in_line}
+use Rattle.iges_base.proofs.Ended.{begun_none, begun_more, begun_end}
+use Rattle.iges_base.proofs.InLines.{both_in_line}
 use Rattle.solid_data.specs.SolidData.{SolidData}
 use Rattle.cert_lines.specs.Line.{CertLine, solid as solid_line, cut_lines, IsLine, IsLong, IsMisspelt, line_limit}
 use Rattle.cert_lines.specs.declared.fault.Illegal.{Illegal}
@@ -20,7 +20,7 @@ use Rattle.topo_certificate.specs.Part.{IsPartLine}
 use Rattle.topo_certificate.specs.PartEnds.{EndsPart, IsEndedBy}
 use Rattle.topo_certificate.specs.declared.line_checker.PartLine.{PartLine}
 use Rattle.topo_certificate.specs.declared.line_checker.PartLine.TheVariants.{More, Next}
-use Rattle.iges_fields.specs.declared.entry_no.EntryNo.{EntryNo}
+use Rattle.iges_base.specs.declared.entry_no.EntryNo.{EntryNo}
 use Rattle.std.proofs.Math.Seq.{take-append-add}
 use Rattle.topo_certificate.proofs.Forward.{fitting_none, fitting_more, legal_ended}
 

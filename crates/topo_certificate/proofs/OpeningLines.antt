@@ -3,9 +3,9 @@ use Rattle.std.specs.Prelude.{◌≡◌, ℕ, ◌+◌, ◌-◌, ◌<◌, ◌≤�
 use Rattle.std.proofs.Common.{refl, sym, ◌∙◌, ap, subst, arith, inl, inr, ⊎_elim, append_assoc}
 use Rattle.std.proofs.lemmas.Bool.{and_from, eqb-true, eqb-false}
 use Rattle.std.proofs.lemmas.List.{append-nil, take_all, take_at, take-append-drop, take-take, drop-take, length-take, length-drop}
-use Rattle.iges_fields.specs.Ended.{ended}
-use Rattle.iges_fields.specs.InLine.{is_in_line}
-use Rattle.iges_fields.proofs.InLines.{both_in_line}
+use Rattle.iges_base.specs.Ended.{ended}
+use Rattle.iges_base.specs.InLine.{is_in_line}
+use Rattle.iges_base.proofs.InLines.{both_in_line}
 use Rattle.cert_lines.specs.Line.{CertLine, head, solid, cut_lines, first_limit}
 use Rattle.cert_lines.specs.Cutting.{EndsFirst}
 use Rattle.cert_lines.specs.Misfits.{IsMisfit, illegal_at}
@@ -14,7 +14,7 @@ use Rattle.cert_lines.specs.declared.version.Version.{Version}
 use Rattle.cert_lines.specs.declared.fault.Illegal.{Illegal}
 use Rattle.cert_lines.specs.declared.fault.Illegal.TheVariants.{Missing, Misspelt}
 use Rattle.cert_lines.specs.declared.fault.Misfit.{Misfit}
-use Rattle.iges_fields.specs.declared.entry_no.EntryNo.{EntryNo}
+use Rattle.iges_base.specs.declared.entry_no.EntryNo.{EntryNo}
 use Rattle.cert_lines.specs.declared.fault.Misfit.TheVariants as misfit
 use Rattle.cert_lines.proofs.Ends.{cut_begun, last_cut, misspelt_rest}
 use Rattle.topo_certificate.specs.declared.opening.Stage.{Stage}

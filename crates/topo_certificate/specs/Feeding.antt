@@ -1,7 +1,7 @@
 -- A checker that is given lines, and the text that it was fed.
 use Rattle.std.specs.Prelude.{◌≡◌, ℕ, List, ◌++◌, map, take, reverse, Option, None, IsTrue, MatchOption}
-use Rattle.iges_fields.specs.Ended.{ended, IsBegun}
-use Rattle.iges_fields.specs.InLine.{is_in_line}
+use Rattle.iges_base.specs.Ended.{ended, IsBegun}
+use Rattle.iges_base.specs.InLine.{is_in_line}
 use Rattle.solid_data.specs.SolidData.{SolidData}
 use Rattle.cert_lines.specs.Line.{CertLine, line_limit}
 use Rattle.cert_lines.specs.declared.version.Version.{Version}

@@ -1,7 +1,7 @@
 -- The first two lines of a certificate that comes in pieces.
 use Rattle.std.specs.Prelude.{◌≡◌, ℕ, ◌≤◌, List, ◌++◌, length, take, IsTrue, Result, Ok, Err, ⊤}
-use Rattle.iges_fields.specs.Ended.{ended}
-use Rattle.iges_fields.specs.InLine.{is_in_line}
+use Rattle.iges_base.specs.Ended.{ended}
+use Rattle.iges_base.specs.InLine.{is_in_line}
 use Rattle.cert_lines.specs.declared.version.Version.{Version}
 use Rattle.cert_lines.specs.declared.fault.Illegal.{Illegal}
 use Rattle.cert_lines.specs.Line.{head, solid, cut_lines, IsLine, first_limit}

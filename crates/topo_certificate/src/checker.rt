@@ -2,8 +2,8 @@
 
 ghost use Rattle.std.specs.Prelude.{◌≡◌, ◌+◌, ◌≤◌, ◌<◌, ◌^◌, [], ◌∷◌, ◌++◌, List, ℕ, None, Some, Err, true, false, take, length, IfOk, IfSome, IsTrue, MatchResult, vec_len};
 ghost use Rattle.cert_lines.specs.Line.{CertLine, IsLine, cut_lines, line_limit};
-ghost use Rattle.iges_fields.specs.Ended.{ended};
-ghost use Rattle.iges_fields.specs.InLine.{is_in_line};
+ghost use Rattle.iges_base.specs.Ended.{ended};
+ghost use Rattle.iges_base.specs.InLine.{is_in_line};
 ghost use Rattle.solid_data.specs.SolidData.{SolidData};
 ghost use Rattle.topo_certificate.specs.Feeding.{StandsAfter, IsFed, IsFedPart};
 ghost use Rattle.topo_certificate.specs.PartEnds.{IsEndedBy, IsPartStep};
@@ -17,7 +17,7 @@ ghost use Rattle.topo_certificate.specs.Told.{IsOfSame};
 use crate::line_checker::{LineChecker, PartLine};
 use crate::uses::limit_of;
 use cert_lines::{Illegal, Version, first_ended};
-use iges_fields::{EntryNo, NoMemory};
+use iges_base::{EntryNo, NoMemory};
 use solid_data::Solid;
 use std::alloc::Global;
 use std::marker::Model;

@@ -4,7 +4,7 @@ use crate::shell_state::ShellState;
 use crate::uses::{limit_of, loop_count};
 use cert_lines::{Illegal, Judged, ShellWords, Version, Words, judge};
 use edge_uses::rows;
-use iges_fields::{EntryNo, NoMemory};
+use iges_base::{EntryNo, NoMemory};
 use solid_data::{ShellAt, Solid};
 use std::alloc::Global;
 use std::marker::Model;

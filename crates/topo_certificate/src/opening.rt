@@ -1,8 +1,8 @@
 //! The first two lines of a certificate that comes in pieces.
 
 ghost use Rattle.std.specs.Prelude.{◌≡◌, ◌≤◌, ◌<◌, ◌++◌, ◌==◌, if◌then◌else◌, [], List, ℕ, Ok, Err, take, length, IfOk, IsTrue, MatchOption, MatchResult};
-ghost use Rattle.iges_fields.specs.Ended.{ended};
-ghost use Rattle.iges_fields.specs.InLine.{is_in_line};
+ghost use Rattle.iges_base.specs.Ended.{ended};
+ghost use Rattle.iges_base.specs.InLine.{is_in_line};
 ghost use Rattle.cert_lines.specs.Line.{first_limit};
 ghost use Rattle.cert_lines.specs.Misfits.{illegal_at};
 ghost use Rattle.cert_lines.specs.Opening.{Opens, IsBadOpening};
@@ -12,7 +12,7 @@ ghost use Rattle.topo_certificate.specs.OpeningFed.{HasCome, IsOpening, IsStep, 
 
 use crate::line_start::LineStart;
 use cert_lines::{Illegal, Misfit, Version, first_ended, head_line, solid_line};
-use iges_fields::EntryNo;
+use iges_base::EntryNo;
 use std::marker::Model;
 
 /// How far a certificate's opening has come.

@@ -5,7 +5,7 @@ use crate::fitting::{fits_counts, fits_tally, fitting_edge, fitting_face};
 use crate::tallies::sizes_of;
 use cert_lines::{ShellWords, TallyWords, Version, Words};
 use edge_uses::Rows;
-use iges_fields::NoMemory;
+use iges_base::NoMemory;
 use std::alloc::Global;
 use std::marker::Model;
 

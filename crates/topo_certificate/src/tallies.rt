@@ -11,7 +11,7 @@ ghost use Rattle.topo_certificate.specs.Tallied.{HoldsAll, AreStarts, ArePoints}
 
 use crate::points::point_at;
 use edge_uses::{Row, Rows, Span};
-use iges_fields::NoMemory;
+use iges_base::NoMemory;
 use solid_data::RowId;
 use std::alloc::Global;
 

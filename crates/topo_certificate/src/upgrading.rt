@@ -8,7 +8,7 @@ ghost use Rattle.topo_certificate.specs.Upgrades.{IsUpgradeFault};
 use crate::uses::loop_count;
 use cert_lines::{Version, after_word, first_line, put_head_line, put_tally_line};
 use edge_uses::rows;
-use iges_fields::{Bytes, NoMemory, Out};
+use iges_base::{Bytes, NoMemory, Out};
 use solid_data::{Shell, ShellAt, Solid};
 use std::alloc::Global;
 

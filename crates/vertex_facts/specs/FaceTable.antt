@@ -1,7 +1,7 @@
 -- The faces of a solid, each at each vertex that it touches.
 use Rattle.std.specs.Prelude.{◌≡◌, ◌<◌, ◌^◌, ◌==◌, ℕ, List, [], ◌∷◌, ◌++◌, length, map, flat_map, Option, Some, None, slice_get, if◌then◌else◌, nat_lt}
 use Rattle.std.specs.List.{enumerate_from}
-use Rattle.iges_fields.specs.declared.entry_no.EntryNo.{EntryNo}
+use Rattle.iges_base.specs.declared.entry_no.EntryNo.{EntryNo}
 use Rattle.solid_data.specs.Ring.{numbers_from}
 use Rattle.solid_data.specs.SolidData.{SolidData, occurring}
 use Rattle.solid_data.specs.declared.solid.FaceUse.{FaceUse}

@@ -7,7 +7,7 @@ ghost use Rattle.vertex_facts.specs.FaceTable.{at_vertex, face_touches, kept_at,
 ghost use Rattle.vertex_facts.specs.VertexFaces.{faces_up_to};
 
 use edge_uses::Span;
-use iges_fields::{EntryNo, NoMemory};
+use iges_base::{EntryNo, NoMemory};
 use solid_data::{FaceUse, Shell, ShellAt, Solid, VertexId};
 use solid_faults::{Groups, Used, grouped, nothing_used, rise, used_by};
 use std::alloc::Global;

@@ -9,7 +9,7 @@ ghost use Rattle.edge_uses.specs.Mates.{ArePaired, AreInvolution};
 ghost use Rattle.solid_faults.specs.Trees.{AreTrees};
 
 use edge_uses::{Paired, Row, Rows, Span};
-use iges_fields::NoMemory;
+use iges_base::NoMemory;
 use solid_data::{LoopAt, RowId, VertexId};
 use solid_faults::{Groups, grouped};
 use std::alloc::Global;

@@ -1,6 +1,6 @@
 //! Why vertices aren't linked.
 
-use iges_fields::NoMemory;
+use iges_base::NoMemory;
 use solid_data::VertexId;
 
 /// Why a shell has no corner for each of its vertices (own).

@@ -14,7 +14,7 @@ use crate::fault::LinkFault;
 use crate::starting::{Points, Starts, all_points, all_starts, vertex_at};
 use crate::walking::corner_at;
 use edge_uses::{Paired, Span};
-use iges_fields::NoMemory;
+use iges_base::NoMemory;
 use solid_data::VertexId;
 use std::alloc::Global;
 

@@ -8,7 +8,7 @@ ghost use Rattle.edge_uses.specs.declared.row.Row.{Row as AnyRow};
 ghost use Rattle.vertex_link.specs.Starting.{one_start_more, one_point_more, AreAllStarts, AreAllPoints};
 
 use edge_uses::{Row, Rows, Span};
-use iges_fields::NoMemory;
+use iges_base::NoMemory;
 use solid_data::{FaceAt, LoopAt, RowId, VertexId};
 use std::alloc::Global;
 

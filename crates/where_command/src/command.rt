@@ -1,6 +1,6 @@
 ghost use Rattle.command_replies.specs.Outcome.{ReadsWhole};
 ghost use Rattle.command_replies.specs.Replies.{CountAfterCall, IsReply, TakesWithin};
-ghost use Rattle.iges_fields.specs.declared.TheConstants.{FILE_LIMIT};
+ghost use Rattle.iges_base.specs.declared.TheConstants.{FILE_LIMIT};
 ghost use Rattle.iges_io.specs.Faults.{Rose};
 ghost use Rattle.iges_io.specs.Reading.{TakesAtMost};
 ghost use Rattle.std.specs.Prelude.{◌≡◌, ◌+◌, ◌<◌, ◌⊎◌, IfOk, IsErrOf, IsNone, IsSome};

@@ -1,6 +1,6 @@
 //! The file of a source.
 
-ghost use Rattle.iges_fields.specs.declared.TheConstants.{FILE_LIMIT};
+ghost use Rattle.iges_base.specs.declared.TheConstants.{FILE_LIMIT};
 ghost use Rattle.iges_io.specs.Reading.{TakesAtMost};
 ghost use Rattle.iges_params.specs.IsFile.{IsFile};
 ghost use Rattle.command_replies.specs.Outcome.{ReadsWhole};

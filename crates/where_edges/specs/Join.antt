@@ -1,6 +1,6 @@
 -- The paragraph on the gaps of a shell's loops.
 use Rattle.std.specs.Prelude.{ℕ, ◌+◌, ◌-◌, nat_lt, List, [], ◌++◌, length, map, flat_map, Option, Some, None, codes, decimal, slice_get, if◌then◌else◌}
-use Rattle.iges_fields.specs.declared.entry_no.EntryNo.{EntryNo}
+use Rattle.iges_base.specs.declared.entry_no.EntryNo.{EntryNo}
 use Rattle.iges_params.specs.Contents.{Contents}
 use Rattle.solid_data.specs.RuleNames.{rule_name}
 use Rattle.solid_data.specs.SolidData.{SolidData}

@@ -1,6 +1,6 @@
 -- How edges, their curves and their ends are named in a line.
 use Rattle.std.specs.Prelude.{ℕ, ◌+◌, ◌-◌, ◌*◌, Bool, ℤ, pos, List, ◌++◌, codes, decimal, slice_get, if◌then◌else◌}
-use Rattle.iges_fields.specs.declared.entry_no.EntryNo.{EntryNo}
+use Rattle.iges_base.specs.declared.entry_no.EntryNo.{EntryNo}
 use Rattle.iges_params.specs.Contents.{Contents}
 use Rattle.iges_params.specs.Named.{values_of}
 use Rattle.brep_lists.specs.Record.{int_at}

@@ -9,7 +9,7 @@ use crate::lines::{
     key_of, put_curve_words, put_edge_words, put_face_fact, put_rule_words, put_vertex_fact,
     shown_members, vertex_key,
 };
-use iges_fields::{EntryNo, NoMemory, Out};
+use iges_base::{EntryNo, NoMemory, Out};
 use iges_params::File;
 use solid_data::{FaceUse, Loop, LoopAt, LoopUse, Rule, ShellAt, Solid};
 use solid_faults::{Gap, ends_at, starts_at};

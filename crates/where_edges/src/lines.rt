@@ -8,7 +8,7 @@ ghost use Rattle.where_edges.specs.Lines.{curve_of, curve_words, edge_words, fac
 ghost use Rattle.where_text.specs.Listing.{shown, shown_count};
 
 use brep_lists::int_at;
-use iges_fields::{EntryNo, NoMemory, Out};
+use iges_base::{EntryNo, NoMemory, Out};
 use iges_params::File;
 use solid_data::{Edge, EdgeKey, ShellAt, Solid, VertexId, VertexKey};
 use where_text::{

@@ -12,7 +12,7 @@ use crate::lines::{
     key_of, put_curve_words, put_edge_words, put_rule_words, put_vertex_fact, shown_members,
 };
 use edge_uses::Rows;
-use iges_fields::{NoMemory, Out};
+use iges_base::{NoMemory, Out};
 use iges_params::File;
 use solid_data::{Edge, EdgeKey, Rule, ShellAt, Solid};
 use solid_faults::{Groups, RowPlace, Unpaired, begins_at, row_places, rows_by_edge, use_counts};

@@ -1,7 +1,7 @@
 //! The facts of an entity.
 
 ghost use Rattle.iges_directory.specs.Bounds.{IsBounded};
-ghost use Rattle.iges_fields.specs.declared.TheConstants.{FILE_LIMIT};
+ghost use Rattle.iges_base.specs.declared.TheConstants.{FILE_LIMIT};
 ghost use Rattle.std.specs.Prelude.{◌≡◌, ◌≤◌, ◌++◌, OnOk, length};
 ghost use Rattle.where_entities.specs.Facts.{entity_facts, field_facts, label_facts, number_fact, record_facts};
 

@@ -1,6 +1,6 @@
 //! The names of an entity.
 
-ghost use Rattle.iges_fields.specs.declared.TheConstants.{FILE_LIMIT};
+ghost use Rattle.iges_base.specs.declared.TheConstants.{FILE_LIMIT};
 ghost use Rattle.iges_params.specs.Named.{values_of};
 ghost use Rattle.std.specs.Prelude.{◌≡◌, ◌≤◌, ◌++◌, false, IfOk, MatchOption, OnOk, flat_map, length, option_copied};
 ghost use Rattle.entry_references.specs.Refs.{Record as FullRecord, has_layout};

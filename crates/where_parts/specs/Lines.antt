@@ -1,6 +1,6 @@
 -- The lines that the paragraphs on a shell's faces and vertices are made of.
 use Rattle.std.specs.Prelude.{ℕ, ◌+◌, List, ◌++◌, codes, decimal, slice_get}
-use Rattle.iges_fields.specs.declared.entry_no.EntryNo.{EntryNo}
+use Rattle.iges_base.specs.declared.entry_no.EntryNo.{EntryNo}
 use Rattle.iges_params.specs.Contents.{Contents}
 use Rattle.solid_data.specs.RuleNames.{rule_name}
 use Rattle.solid_data.specs.SolidData.{SolidData}

@@ -2,14 +2,14 @@
 
 ghost use Rattle.std.specs.Prelude.{◌≡◌, ◌<◌, ◌+◌, ◌-◌, ◌++◌, ◌∷◌, [], ℕ, All, length, map, flat_map, take, slice_get, OnOk};
 ghost use Rattle.edge_uses.specs.ShellRows.{rows_of};
-ghost use Rattle.iges_fields.specs.declared.entry_no.EntryNo.{EntryNo as AnyEntryNo};
+ghost use Rattle.iges_base.specs.declared.entry_no.EntryNo.{EntryNo as AnyEntryNo};
 ghost use Rattle.solid_faults.specs.Edges.{shared_of};
 ghost use Rattle.where_text.specs.Listing.{shown};
 ghost use Rattle.vertex_facts.specs.FaceTable.{touches_of};
 ghost use Rattle.where_parts.specs.Apart.{apart_lines, apart_named, apart_text, in_shell_line, shared_lines, shared_named, shared_text};
 
 use crate::lines::{put_count, put_head, put_vertex_line};
-use iges_fields::{EntryNo, NoMemory, Out};
+use iges_base::{EntryNo, NoMemory, Out};
 use iges_params::File;
 use solid_data::{Rule, ShellAt, Solid, VertexId};
 use std::alloc::Global;

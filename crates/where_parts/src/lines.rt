@@ -4,7 +4,7 @@ ghost use Rattle.std.specs.Prelude.{◌≡◌, ◌<◌, ◌^◌, ◌++◌, ◌�
 ghost use Rattle.edge_uses.specs.ShellObligations.{vertex_name};
 ghost use Rattle.where_parts.specs.Lines.{count_words, face_line, head_lines, rule_words, vertex_line};
 
-use iges_fields::{EntryNo, NoMemory, Out};
+use iges_base::{EntryNo, NoMemory, Out};
 use iges_params::File;
 use solid_data::{Rule, ShellAt, Solid, VertexId, VertexKey};
 use where_text::{EntryNumbers, put_face, put_number, put_rule_sentence, put_vertex, put_word};

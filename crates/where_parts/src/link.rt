@@ -11,7 +11,7 @@ ghost use Rattle.where_parts.specs.Link.{edge_words, fact_faces, fact_line, face
 
 use crate::lines::{key_of, put_count, put_head};
 use edge_uses::{Paired, Row, Rows};
-use iges_fields::{EntryNo, NoMemory, Out};
+use iges_base::{EntryNo, NoMemory, Out};
 use iges_params::File;
 use solid_data::{EdgeId, EdgeKey, FaceUse, Loop, LoopAt, RowId, Rule, ShellAt, Solid};
 use solid_faults::{Linking, RowPlace, Unlinked, row_places};

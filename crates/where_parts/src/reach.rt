@@ -12,7 +12,7 @@ ghost use Rattle.where_parts.specs.Reach.{part_head, part_lines, part_text, part
 
 use crate::lines::{put_count, put_face_line, put_rule, put_vertex_line};
 use edge_uses::Rows;
-use iges_fields::{EntryNo, NoMemory, Out};
+use iges_base::{EntryNo, NoMemory, Out};
 use iges_params::File;
 use solid_data::{Rule, ShellAt, Solid};
 use solid_faults::{Part, PartTables, Unpaired, apart_in, part_tables, parts};

@@ -1,7 +1,7 @@
 -- The solids of a file.
 use Rattle.std.specs.Prelude.{ℕ, Bool, false, pos, List, length, map, filter, Option, Some, None}
 use Rattle.std.specs.Ordering.{int_eq}
-use Rattle.iges_fields.specs.declared.entry_no.EntryNo.{EntryNo}
+use Rattle.iges_base.specs.declared.entry_no.EntryNo.{EntryNo}
 use Rattle.iges_params.specs.Contents.{Contents}
 use Rattle.iges_params.specs.Named.{named}
 use Rattle.entry_references.specs.Refs.{Record}

@@ -1,7 +1,7 @@
 //! The hints.
 
 ghost use Rattle.solid_faults.specs.FaceFlags.{IsClosedFlagged};
-ghost use Rattle.iges_fields.specs.declared.entry_no.EntryNo.{EntryNo as AnyEntryNo};
+ghost use Rattle.iges_base.specs.declared.entry_no.EntryNo.{EntryNo as AnyEntryNo};
 ghost use Rattle.solid_data.specs.declared.solid.FaceUse.{FaceUse as AnyFace};
 ghost use Rattle.solid_data.specs.declared.solid.Shell.{Shell as AnyShell};
 ghost use Rattle.std.specs.Prelude.{◌≡◌, ◌++◌, ◌<◌, ◌^◌, ◌↔◌, IfOk, IfSome, IsTrue, List, OnOk, count_by, decimal, flat_map, length, not, option_copied, slice_get, ℕ};

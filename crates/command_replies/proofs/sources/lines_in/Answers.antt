@@ -1,5 +1,5 @@
 use Rattle.std.proofs.Common.{◌≡◌, ◌∙◌, arith, take, length}
-use Rattle.iges_fields.specs.declared.TheConstants.{FILE_LIMIT}
+use Rattle.iges_base.specs.declared.TheConstants.{FILE_LIMIT}
 use Rattle.command_replies.proofs.Feeds.{so_far_more, fed_told, too_many, read_long}
 use Rattle.iges_io.specs.declared.reading.TheConstants.{PIECE}
 use Rattle.command_replies.proofs.Taken.{takes_past, takes_piece, within_few}

@@ -1,7 +1,7 @@
 use Rattle.std.proofs.Common.{List, length, ◌≤◌, ◌++◌}
 use Rattle.std.specs.Prelude.{IsTrue}
 use Rattle.iges_fields.specs.declared.value.Value.{Value}
-use Rattle.iges_fields.specs.InLine.{is_in_line}
+use Rattle.iges_base.specs.InLine.{is_in_line}
 use Rattle.iges_fields.specs.Reading.{IsLeft}
 use Rattle.iges_fields.proofs.reading.read_left.Given as goal
 

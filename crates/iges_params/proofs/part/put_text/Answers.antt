@@ -1,5 +1,5 @@
 use Rattle.std.proofs.Common.{◌++◌, ℕ, List, sym, ap, ◌∙◌}
-use Rattle.iges_fields.proofs.InLines.{both_in_line}
+use Rattle.iges_base.proofs.InLines.{both_in_line}
 use Rattle.iges_params.proofs.Joined.{joined_more}
 use Rattle.iges_params.proofs.part.put_text.Goals as goal
 

@@ -1,6 +1,6 @@
 use Rattle.std.proofs.Common.{◌≡◌, ◌+◌}
 use Rattle.std.specs.Prelude.{IsTrue, flat_map, slice_range}
-use Rattle.iges_fields.specs.InLine.{is_in_line}
+use Rattle.iges_base.specs.InLine.{is_in_line}
 use Rattle.iges_lines.specs.Lines.{columns}
 use Rattle.iges_params.specs.Parts.{part_lines}
 use Rattle.iges_params.proofs.part.put_text.Given as goal

@@ -1,7 +1,7 @@
 use Rattle.std.proofs.Common.{◌≤◌, length, arith}
 use Rattle.std.proofs.Math.ListN.{drop_of_length-le}
 use Rattle.iges_write.proofs.BothPages.{both_failed, put_fails, put_more, put_all, all_held}
-use Rattle.iges_fields.proofs.Lists.{some_at}
+use Rattle.iges_base.proofs.Lists.{some_at}
 use Rattle.iges_write.proofs.entries.put_entries.Goals as goal
 
 pub returns-in_err-put_at-clause-steps : goal.returns-in_err-put_at-clause-steps

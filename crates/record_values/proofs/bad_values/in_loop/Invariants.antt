@@ -1,6 +1,6 @@
 use Rattle.std.proofs.Common.{◌≡◌, ◌+◌, ◌≤◌}
 use Rattle.std.specs.Prelude.{sum_by}
-use Rattle.iges_fields.specs.declared.TheConstants.{FILE_LIMIT}
+use Rattle.iges_base.specs.declared.TheConstants.{FILE_LIMIT}
 use Rattle.record_values.specs.BadValue.{in_tuples, tuple_size}
 use Rattle.brep_lists.specs.Record.{«loop»}
 use Rattle.record_values.specs.Told.{told_in}

@@ -1,5 +1,5 @@
 use Rattle.std.proofs.Common.{◌≡◌, ◌+◌, ◌∙◌, ap, sym, subst, length, None, Option, ℕ, List, [], option_map}
-use Rattle.iges_fields.specs.declared.entry_no.EntryNo.{EntryNo}
+use Rattle.iges_base.specs.declared.entry_no.EntryNo.{EntryNo}
 use Rattle.entry_references.specs.EntrySets.{Entries, IsWithin, with_number}
 use Rattle.entry_references.proofs.NamedRecords.{is_within}
 use Rattle.solid_extract.specs.declared.fault.Refusal.{Refusal}

@@ -1,5 +1,5 @@
 use Rattle.std.proofs.Common.{◌≡◌, ◌++◌, ℕ, drop, map, flat_map}
-use Rattle.iges_fields.specs.declared.entry_no.EntryNo.{EntryNo}
+use Rattle.iges_base.specs.declared.entry_no.EntryNo.{EntryNo}
 use Rattle.where_parts.specs.Apart.{in_shell_line}
 use Rattle.where_parts.proofs.apart.put_in_shells.Given as goal
 

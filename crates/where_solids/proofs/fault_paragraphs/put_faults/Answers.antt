@@ -1,6 +1,6 @@
 use Rattle.std.proofs.Common.{ap, sym, ◌∙◌}
 use Rattle.std.specs.Prelude.{Option, Some}
-use Rattle.iges_fields.proofs.Lists.{some_at}
+use Rattle.iges_base.proofs.Lists.{some_at}
 use Rattle.edge_uses.specs.ShellRows.{rows_of}
 use Rattle.solid_data.specs.declared.solid.Shell.{Shell}
 use Rattle.solid_faults.specs.Edges.{shared_of}

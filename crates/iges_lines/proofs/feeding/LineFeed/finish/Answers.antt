@@ -1,6 +1,6 @@
 use Rattle.std.proofs.Common.{sym, ◌∙◌, subst, arith, length, ◌≤◌}
 use Rattle.std.proofs.lemmas.Result.{err_from_is_err_and}
-use Rattle.iges_fields.specs.declared.TheConstants.{FILE_LIMIT}
+use Rattle.iges_base.specs.declared.TheConstants.{FILE_LIMIT}
 use Rattle.iges_lines.specs.Feeding.{Fed, IsFed}
 use Rattle.iges_lines.proofs.Exact.{read_sections-IsSectioned, IsSectioned-read_sections, IsLineFault-read_sections}
 use Rattle.iges_lines.proofs.Going.{left_fault, left_as}

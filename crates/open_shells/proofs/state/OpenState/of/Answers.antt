@@ -1,5 +1,5 @@
 use Rattle.std.proofs.Common.{arith, refl, ap, ◌∙◌}
-use Rattle.iges_fields.specs.declared.entry_no.EntryNo.{EntryNo}
+use Rattle.iges_base.specs.declared.entry_no.EntryNo.{EntryNo}
 use Rattle.topo_certificate.proofs.Arrays.{no_mates, none_in_zeros, zeros, length_zeros}
 use Rattle.open_shells.proofs.Marks.{no_rows_marked, marks_long}
 use Rattle.open_shells.proofs.Telling.{fresh_tells}

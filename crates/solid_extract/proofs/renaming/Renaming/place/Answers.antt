@@ -1,6 +1,6 @@
 use Rattle.std.proofs.Common.{◌≡◌, ◌<◌, ◌/◌, ◌∙◌, sym, ap, List, ℕ, length, arith, refl}
 use Rattle.std.proofs.lemmas.List.{length-map}
-use Rattle.iges_fields.specs.declared.entry_no.EntryNo.{EntryNo}
+use Rattle.iges_base.specs.declared.entry_no.EntryNo.{EntryNo}
 use Rattle.entry_references.specs.EntrySets.{numbers_of}
 use Rattle.solid_extract.specs.Renaming.{place_of}
 use Rattle.solid_extract.proofs.Places.{place_read, place_few, no_place}

@@ -1,7 +1,7 @@
 -- A text as pieces, each ended by an LF, and what is behind them.
 use Rattle.std.specs.Prelude.{◌≡◌, ℕ, List, [], ◌∷◌, ◌++◌, IsTrue, flat_map}
 use Rattle.std.specs.List.{list_all}
-use Rattle.iges_fields.specs.InLine.{is_in_line}
+use Rattle.iges_base.specs.InLine.{is_in_line}
 
 abbrev pub ended : List ℕ → List ℕ
 ended piece = piece ++ 10 ∷ []

@@ -4,9 +4,9 @@ use Rattle.std.specs.Prelude.{flat_map}
 use Rattle.std.specs.List.{list_all}
 use Rattle.std.proofs.lemmas.Bool.{and_parts, and_from}
 use Rattle.std.proofs.lemmas.List.{append-nil}
-use Rattle.iges_fields.specs.InLine.{is_in_line}
-use Rattle.iges_fields.specs.Ended.{ended, IsBegun}
-use Rattle.iges_fields.proofs.Lists.{list_all-both}
+use Rattle.iges_base.specs.InLine.{is_in_line}
+use Rattle.iges_base.specs.Ended.{ended, IsBegun}
+use Rattle.iges_base.proofs.Lists.{list_all-both}
 
 abbrev Pieces : Type 0
 Pieces = List (List ℕ)

@@ -1,0 +1,3 @@
+pub mod Lists
+pub mod InLines
+pub mod Ended
