@@ -3,9 +3,8 @@
 ghost use Rattle.iges_fields.specs.Spelled.{spelling};
 ghost use Rattle.std.specs.Prelude.{◌≡◌, ◌++◌, OnOk, OnErr, length, take};
 
-use iges_base::NoMemory;
-use iges_base::{Out, write_number};
 use crate::value::Value;
+use iges_base::{NoMemory, Out, write_number};
 use itoa::Buffer;
 
 // Appends the spelling, or some bytes at its front.

@@ -3,6 +3,7 @@ use Rattle.std.specs.Prelude.{◌≡◌, ℕ, suc, ◌+◌, Bool, not, ◌&&◌,
 use Rattle.std.specs.List.{list_any, list_all, position_or_len}
 use Rattle.iges_fields.specs.Word.{is_empty}
 use Rattle.iges_base.specs.First.{first_failing, IsFirst}
+use Rattle.iges_lines.specs.Letters.{letter_S, letter_G, letter_D, letter_P, letter_T}
 use Rattle.iges_lines.specs.declared.reason.Reason.{Reason}
 use Rattle.iges_lines.specs.declared.reason.Reason.TheVariants.{NotFixed, Length, Letter, Number, Counts, Missing, After}
 use Rattle.iges_lines.specs.declared.fault.LineFault.{LineFault}
@@ -18,7 +19,7 @@ of_letter b ls = filter (λ l. letter l == b) ls
 
 -- the lines by their letters
 abbrev pub sections_of : List (List ℕ) → SectionLines
-sections_of ls = record { start = of_letter 83 ls; global = of_letter 71 ls; directory = of_letter 68 ls; param = of_letter 80 ls }
+sections_of ls = record { start = of_letter letter_S ls; global = of_letter letter_G ls; directory = of_letter letter_D ls; param = of_letter letter_P ls }
 
 -- the letter of a section, and the number of its lines
 abbrev pub has_count : ℕ → List (List ℕ) → List ℕ → Bool
@@ -33,8 +34,8 @@ tests_at s place line =
     (nat_lt place 5 && list_all is_empty (drop (suc place) (sections s)), Letter) ∷
     ((not is_first || place == 0) && (nat_le place 1 || not (is_empty s.global)), Missing) ∷
     (has_number (columns 74 80 line) (length (slice_index_or (sections s) place []) + 1), Number) ∷ (
-      nat_lt place 4 || (has_count 83 s.start (columns 1 8 line) && has_count 71 s.global (columns 9 16 line)
-          && has_count 68 s.directory (columns 17 24 line) && has_count 80 s.param (columns 25 32 line)),
+      nat_lt place 4 || (has_count letter_S s.start (columns 1 8 line) && has_count letter_G s.global (columns 9 16 line)
+          && has_count letter_D s.directory (columns 17 24 line) && has_count letter_P s.param (columns 25 32 line)),
       Counts,
     ) ∷ []
 
@@ -42,7 +43,7 @@ abbrev pub line_tests : SectionLines → List ℕ → List (Bool × Reason)
 line_tests s line = tests_at s (section_place (letter line)) line
 
 abbrev pub is_terminated : List (List ℕ) → Bool
-is_terminated before = list_any (λ l. letter l == 84) before
+is_terminated before = list_any (λ l. letter l == letter_T) before
 
 -- What is wrong with a line, or with the end, where these lines stand before it. Behind the T line only After is judged.
 abbrev pub fault_behind : List (List ℕ) → Option (List ℕ) → Option Reason

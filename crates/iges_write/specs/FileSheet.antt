@@ -7,6 +7,7 @@ use Rattle.iges_write.specs.declared.fault.WriteFileFault.TheVariants as fault
 use Rattle.iges_write.specs.Filling.{global_lines, records_lines, text_of}
 use Rattle.iges_write.specs.Sheet.{Sheet, append_text, begin, put_lines}
 use Rattle.iges_write.specs.Text.{counts_columns, directory_lines, param_lines}
+use Rattle.iges_lines.specs.Letters.{letter_S, letter_G, letter_D, letter_T}
 
 -- a sheet with no line
 abbrev pub blank : ℕ → ℕ → ℕ → Sheet
@@ -14,11 +15,11 @@ blank limit letter width = record { text = []; line = []; tail = []; letter = le
 
 -- with the start lines and those of the global
 abbrev pub with_front : Sheet → Contents → Sheet
-with_front s f = put_lines (begin (put_lines (begin s 83 72) f.start) 71 72) (global_lines f.global)
+with_front s f = put_lines (begin (put_lines (begin s letter_S 72) f.start) letter_G 72) (global_lines f.global)
 
 -- with the lines of the directory
 abbrev pub with_directory : Sheet → Contents → Sheet
-with_directory s f = put_lines (begin s 68 72) (directory_lines 1 f.entries (records_lines f))
+with_directory s f = put_lines (begin s letter_D 72) (directory_lines 1 f.entries (records_lines f))
 
 -- the lines of the records
 abbrev pub params_sheet : ℕ → Contents → Sheet
@@ -30,11 +31,11 @@ with_records s f = append_text (with_directory s f) (params_sheet s.limit f).tex
 
 -- with the terminate line
 abbrev pub with_counts : Sheet → Counts → Sheet
-with_counts s counts = put_lines (begin s 84 72) (counts_columns counts.start counts.global counts.directory counts.params ∷ [])
+with_counts s counts = put_lines (begin s letter_T 72) (counts_columns counts.start counts.global counts.directory counts.params ∷ [])
 
 -- the text of a file, finished
 abbrev pub file_sheet : ℕ → Contents → Sheet
-file_sheet limit f = record { text = text_of f; line = []; tail = []; letter = 84; number = 2; width = 72; limit = limit }
+file_sheet limit f = record { text = text_of f; line = []; tail = []; letter = letter_T; number = 2; width = 72; limit = limit }
 
 -- the text, within the limit, or that it is longer
 abbrev pub Writes : ℕ → Result (List ℕ) WriteFileFault → List ℕ → Type 0

@@ -12,6 +12,7 @@ use Rattle.iges_params.specs.declared.global.Global26.{Global26}
 use Rattle.iges_params.specs.Contents.{Contents}
 use Rattle.iges_write.specs.Parts.{parts}
 use Rattle.iges_write.specs.Filled.{IsFilled}
+use Rattle.iges_lines.specs.Letters.{letter_S, letter_G, letter_D, letter_P, letter_T}
 
 -- a text at the right of n columns; of a longer text the last n bytes
 abbrev pub right : ℕ → List ℕ → List ℕ
@@ -60,7 +61,7 @@ count_field section n = section ∷ right 7 (decimal n)
 
 -- the columns 1 to 72 of the terminate line, with the number of lines of each section
 abbrev pub counts_columns : ℕ → ℕ → ℕ → ℕ → List ℕ
-counts_columns start global directory params = count_field 83 start ++ count_field 71 global ++ count_field 68 directory ++ count_field 80 params ++ spaces 40
+counts_columns start global directory params = count_field letter_S start ++ count_field letter_G global ++ count_field letter_D directory ++ count_field letter_P params ++ spaces 40
 
 -- the global names its delimiters as two texts before its values
 abbrev pub global_values : Global26 → List Value
@@ -75,8 +76,8 @@ abbrev pub text_lines : Contents → List (List ℕ) → List (List (List ℕ)) 
 text_lines f global records =
     let directory = directory_lines 1 f.entries records in
     let params = param_lines records in
-    numbered 83 f.start ++ numbered 71 global ++ numbered 68 directory ++ numbered 80 params
-    ++ numbered 84 (counts_columns (length f.start) (length global) (length directory) (length params) ∷ [])
+    numbered letter_S f.start ++ numbered letter_G global ++ numbered letter_D directory ++ numbered letter_P params
+    ++ numbered letter_T (counts_columns (length f.start) (length global) (length directory) (length params) ∷ [])
 
 -- the canonical text of the file
 pub record IsText (f : Contents) (bytes : List ℕ) : Type 0 where
