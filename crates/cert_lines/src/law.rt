@@ -23,7 +23,7 @@ pub fn lines_are_decided()
 /// and never both (own).
 pub fn one_opening()
     ensures opens { (c : List ℕ) (v w : Edition) (n m : ℕ) (r t : List (List ℕ)) → Opens c v n r → Opens c w m t → (v ≡ w) × (n ≡ m) × (r ≡ t) }
-    ensures none { (c : List ℕ) (v : Edition) (n : ℕ) (r : List (List ℕ)) (bad : Fault) → Opens c v n r → IsBadOpening c bad → ⊥ }
+    ensures none { (c : List ℕ) (v : Edition) (n : ℕ) (r : List (List ℕ)) (bad : Fault) → Opens c v n r → ¬ IsBadOpening c bad }
     ensures one { (c : List ℕ) (x y : Fault) → IsBadOpening c x → IsBadOpening c y → x ≡ y }
     ensures always { (c : List ℕ) → ((v : Edition) × (n : ℕ) × (r : List (List ℕ)) × Opens c v n r) ⊎ ((bad : Fault) × IsBadOpening c bad) }
 {}

@@ -1,6 +1,5 @@
 -- Private: which row runs along each edge.
-use Rattle.std.specs.Prelude.{ℕ, ◌<◌, ◌-◌, true, List}
-use Rattle.std.proofs.Common.{get_or}
+use Rattle.std.specs.Prelude.{ℕ, ◌<◌, ◌-◌, true, List, get_or}
 use Rattle.edge_uses.specs.ShellRows.{ShellRows}
 use Rattle.edge_uses.specs.Mates.{RunsOn}
 use Rattle.edge_uses.specs.declared.spanning.Span.{Span}

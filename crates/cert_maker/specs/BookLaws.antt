@@ -25,7 +25,7 @@ OneUnmade = (f : Contents) (used : ℕ) (ns : List ℕ) (a b : BookFault) → Fi
 
 -- Where all can be, there is none.
 abbrev pub NoneUnmadeWhereMade : Type 0
-NoneUnmadeWhereMade = (f : Contents) (used : ℕ) (ns : List ℕ) (a : BookFault) → AllMade f used ns → FirstUnmade f used ns a → ⊥
+NoneUnmadeWhereMade = (f : Contents) (used : ℕ) (ns : List ℕ) (a : BookFault) → AllMade f used ns → ¬ FirstUnmade f used ns a
 
 -- Whatever the solids are, one of the two is so.
 abbrev pub MadeOrUnmade : Type 0

@@ -1,7 +1,6 @@
 -- Nodes that pairs join, in chains.
-use Rattle.std.specs.Prelude.{◌≡◌, ◌<◌, ◌≤◌, ◌⊎◌, ℕ, List, length}
+use Rattle.std.specs.Prelude.{◌≡◌, ◌<◌, ◌≤◌, ◌⊎◌, ℕ, List, length, get_or}
 use Rattle.std.specs.List.{AllByRecursion}
-use Rattle.std.proofs.Common.{get_or}
 use Rattle.solid_data.specs.Chain.{LeadsTo}
 use Rattle.solid_data.proofs.Members.{Has}
 

@@ -1,6 +1,5 @@
 -- Private: the trees that labels make: each node hangs at the one that it is marked by.
-use Rattle.std.specs.Prelude.{◌≡◌, ◌<◌, ◌≤◌, ℕ, List, length}
-use Rattle.std.proofs.Common.{get_or}
+use Rattle.std.specs.Prelude.{◌≡◌, ◌<◌, ◌≤◌, ℕ, List, length, get_or}
 use Rattle.edge_components.specs.Components.{Linked, AreLabels}
 
 -- each node hangs at one that isn't greater

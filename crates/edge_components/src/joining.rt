@@ -1,7 +1,6 @@
 //! The least node that each node is joined to.
 
-ghost use Rattle.std.specs.Prelude.{◌≡◌, ◌<◌, ◌≤◌, ◌^◌, ℕ, List, length, vec_len, slice_get, slice_set, Some, IfOk};
-ghost use Rattle.std.proofs.Common.{get_or};
+ghost use Rattle.std.specs.Prelude.{◌≡◌, ◌<◌, ◌≤◌, ◌^◌, ℕ, List, length, vec_len, slice_get, slice_set, Some, IfOk, get_or};
 ghost use Rattle.solid_data.specs.Ring.{numbers_from};
 ghost use Rattle.solid_data.proofs.Members.{Has};
 ghost use Rattle.edge_components.specs.Components.{AreJoined, AreInside, AreLabels, AreComponents};

@@ -1,8 +1,7 @@
 //! Whether the loops of a shell join.
 
-ghost use Rattle.std.specs.Prelude.{◌≡◌, ◌↔◌, ℕ, ◌+◌, ◌<◌, ◌≤◌, ◌^◌, IsTrue, length, map, slice_get, option_copied, MatchOption, IfSome, IfNone};
+ghost use Rattle.std.specs.Prelude.{◌≡◌, ◌↔◌, ℕ, ◌+◌, ◌<◌, ◌≤◌, ◌^◌, IsTrue, length, map, slice_get, option_copied, MatchOption, IfSome, IfNone, get_or};
 ghost use Rattle.std.specs.List.{enumerate_from};
-ghost use Rattle.std.proofs.Common.{get_or};
 ghost use Rattle.solid_data.specs.Ring.{next_of_each};
 ghost use Rattle.solid_data.specs.SolidData.{same_flag, placed_in_face, placed_loops};
 ghost use Rattle.solid_data.specs.Obligations.{AllHold, FirstFalse};

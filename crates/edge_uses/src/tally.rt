@@ -1,8 +1,7 @@
 //! How often each edge of a shell is run along and against.
 
-ghost use Rattle.std.specs.Prelude.{◌≡◌, ◌-◌, ◌<◌, ◌^◌, length, vec_len, IfOk};
+ghost use Rattle.std.specs.Prelude.{◌≡◌, ◌-◌, ◌<◌, ◌^◌, length, vec_len, IfOk, get_or};
 ghost use Rattle.std.specs.List.{AllByRecursion};
-ghost use Rattle.std.proofs.Common.{get_or};
 ghost use Rattle.edge_uses.specs.Ranges.{IsWithin};
 ghost use Rattle.edge_uses.specs.Tally.{unseen, seen_once_more, IsTally};
 

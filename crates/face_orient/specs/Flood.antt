@@ -1,6 +1,5 @@
 -- Private: the faces that are reached so far, with the flag that each must have.
-use Rattle.std.specs.Prelude.{◌≡◌, ◌<◌, ◌+◌, ◌⊎◌, ℕ, Bool, true, false, List, ◌++◌, length, slice_get, Some}
-use Rattle.std.proofs.Common.{get_or}
+use Rattle.std.specs.Prelude.{◌≡◌, ◌<◌, ◌+◌, ◌⊎◌, ℕ, Bool, true, false, List, ◌++◌, length, slice_get, Some, get_or}
 use Rattle.solid_data.proofs.Members.{Has, NoRepeat}
 use Rattle.face_orient.specs.declared.crossing.Crossing.{Crossing}
 use Rattle.face_orient.specs.declared.flood.Place.{Place}

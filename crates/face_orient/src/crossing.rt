@@ -1,7 +1,6 @@
 //! Rows as steps from face to face.
 
-ghost use Rattle.std.specs.Prelude.{◌≡◌, ◌<◌, ◌≤◌, ◌^◌, ℕ, Bool, true, map, length, slice_get, IfOk};
-ghost use Rattle.std.proofs.Common.{get_or};
+ghost use Rattle.std.specs.Prelude.{◌≡◌, ◌<◌, ◌≤◌, ◌^◌, ℕ, Bool, true, map, length, slice_get, IfOk, get_or};
 ghost use Rattle.solid_data.specs.SolidData.{same_flag};
 ghost use Rattle.solid_data.specs.declared.solid.FaceUse.{FaceUse as AnyFace};
 ghost use Rattle.edge_uses.specs.ShellRows.{AreRows};

@@ -46,7 +46,7 @@ fn first_unsteady(flood: &Flood, crossings: &[Crossing], faces: usize) -> Option
     requires few { length crossings.now < 2 ^ 29 }
     requires size { length flood.now.places.items ≡ faces }
     ensures { MatchOption result ((r : ℕ) (c : AnyCrossing) → slice_get crossings.now r ≡ Some c → IsSteady flood.now.places.items c)
-        (λ r. (c : AnyCrossing) × (slice_get crossings.now r ≡ Some c) × (IsSteady flood.now.places.items c → ⊥)) }
+        (λ r. (c : AnyCrossing) × (slice_get crossings.now r ≡ Some c) × (¬ IsSteady flood.now.places.items c)) }
 {
     'steps: for r in 0..crossings.len() {
         let step = crossings[r];

@@ -1,8 +1,7 @@
 //! The faces that are reached, with the flag that each must have.
 
-ghost use Rattle.std.specs.Prelude.{◌≡◌, ◌≢◌, ◌<◌, ◌≤◌, ◌^◌, ◌++◌, ◌∷◌, [], ℕ, true, false, length, map, reverse, Some, slice_get, slice_set, IfOk, MatchOption};
+ghost use Rattle.std.specs.Prelude.{◌≡◌, ◌≢◌, ◌<◌, ◌≤◌, ◌^◌, ◌++◌, ◌∷◌, [], ℕ, true, false, length, map, reverse, Some, slice_get, slice_set, IfOk, MatchOption, get_or};
 ghost use Rattle.std.specs.List.{AllByRecursion};
-ghost use Rattle.std.proofs.Common.{get_or};
 ghost use Rattle.solid_data.proofs.Members.{Has};
 ghost use Rattle.solid_data.specs.Chain.{LeadsTo};
 ghost use Rattle.solid_data.specs.Ring.{numbers_from};

@@ -27,7 +27,7 @@ fn is_word(text: &[u8], word: &[u8]) -> bool
 
 /// The numbers that a text is, each behind a space.
 fn numbers_of(alloc: Global, text: &[u8]) -> Result<Option<NumberList>, NoMemory>
-    ensures { IfOk result (λ read. MatchOption read (IsSpaced text.now → ⊥) (λ ns. AreNumbers text.now ns)) }
+    ensures { IfOk result (λ read. MatchOption read (¬ IsSpaced text.now) (λ ns. AreNumbers text.now ns)) }
 {
     let mut list = NumberList::new(alloc);
     let mut rest = text;

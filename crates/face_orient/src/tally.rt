@@ -1,8 +1,7 @@
 //! How many rows each edge of a shell has, and which.
 
-ghost use Rattle.std.specs.Prelude.{◌≡◌, ◌+◌, ◌-◌, ◌<◌, ◌^◌, length, vec_len, IfOk, MatchOption, if◌then◌else◌, ◌==◌};
+ghost use Rattle.std.specs.Prelude.{◌≡◌, ◌+◌, ◌-◌, ◌<◌, ◌^◌, length, vec_len, IfOk, MatchOption, if◌then◌else◌, ◌==◌, get_or};
 ghost use Rattle.std.specs.List.{AllByRecursion};
-ghost use Rattle.std.proofs.Common.{get_or};
 ghost use Rattle.solid_data.specs.Obligations.{FirstNot};
 ghost use Rattle.edge_uses.specs.Ranges.{IsWithin, IsSpanOf};
 ghost use Rattle.edge_uses.specs.ShellRows.{AreRows};

@@ -19,7 +19,7 @@ use std::alloc::Global;
 
 // The file of a solid that isn't refused: the call errs only where memory runs out.
 fn extracted(alloc: Global, file: &File, no: EntryNo) -> Result<File, NoMemory>
-    requires { (entity : ℕ) (reason : Reason) → IsRefused file.now no.0 entity reason → ⊥ }
+    requires { (entity : ℕ) (reason : Reason) → ¬ IsRefused file.now no.0 entity reason }
     ensures { IfOk result (IsExtracted file.now no.0) }
 {
     match extract(alloc, file, no) {

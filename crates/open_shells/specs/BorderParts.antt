@@ -1,7 +1,6 @@
 -- The cycles of border rows of an open shell.
-use Rattle.std.specs.Prelude.{◌≡◌, ◌<◌, ◌-◌, ◌↔◌, ℕ, Bool, true, false, List, [], ◌∷◌, length, map, flat_map, Option, Some, None}
+use Rattle.std.specs.Prelude.{◌≡◌, ◌<◌, ◌-◌, ◌↔◌, ℕ, Bool, true, false, List, [], ◌∷◌, length, map, flat_map, Option, Some, None, get_or}
 use Rattle.std.specs.List.{AllByRecursion}
-use Rattle.std.proofs.Common.{get_or}
 use Rattle.solid_data.proofs.Members.{Has, NoRepeat, Rises}
 use Rattle.solid_data.proofs.Trail.{Trail}
 use Rattle.edge_uses.specs.declared.spanning.Span.{Span}
@@ -16,7 +15,7 @@ Next d a b = IsBorder d a × IsBorder d b × GoesOn d a b
 
 -- a border row that starts at the vertex, or none where none does
 abbrev pub IsStartOf : ShellRows → ℕ → Option ℕ → Type 0
-IsStartOf d v None = (r : ℕ) → IsBorder d r → StartsAt d v r → ⊥
+IsStartOf d v None = (r : ℕ) → IsBorder d r → ¬ StartsAt d v r
 IsStartOf d v (Some r) = IsBorder d r × StartsAt d v r
 
 abbrev pub AreStartsOf : ShellRows → Span → List (Option ℕ) → Type 0
@@ -25,7 +24,7 @@ AreStartsOf d span starts = (v : ℕ) → IsWithin span v → IsStartOf d v (get
 -- From the first on each row leads to the next, and the last to the first, which is there once.
 abbrev pub IsLoop : ShellRows → ℕ → List ℕ → Type 0
 IsLoop d first [] = ⊥
-IsLoop d first (x ∷ xs) = (x ≡ first) × Trail (Next d) first xs first × (Has xs first → ⊥)
+IsLoop d first (x ∷ xs) = (x ≡ first) × Trail (Next d) first xs first × (¬ Has xs first)
 
 abbrev pub rows_of_cycle : List ℕ → List ℕ
 rows_of_cycle rs = rs

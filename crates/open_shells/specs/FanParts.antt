@@ -1,7 +1,6 @@
 -- What lies round each vertex of an open shell.
-use Rattle.std.specs.Prelude.{◌≡◌, ◌<◌, ◌-◌, ℕ, List, [], ◌∷◌, length, Contains, Option, Some, None, ⊤}
+use Rattle.std.specs.Prelude.{◌≡◌, ◌<◌, ◌-◌, ℕ, List, [], ◌∷◌, length, Contains, Option, Some, None, ⊤, get_or}
 use Rattle.std.specs.List.{AllByRecursion, AllZip}
-use Rattle.std.proofs.Common.{get_or}
 use Rattle.solid_data.specs.Ring.{next_of_each}
 use Rattle.solid_data.specs.Obligations.{FirstNot}
 use Rattle.edge_uses.specs.declared.spanning.Span.{Span}
@@ -55,7 +54,7 @@ IsFanFault d NoMemory = ⊤
 -- a row of the vertex to which no row turns, or none where there is none
 abbrev pub IsHeadOf : ShellRows → ℕ → Option ℕ → Type 0
 IsHeadOf d v None = (x : ℕ) → StartsAt d v x → (t : ℕ) × Turns d t x
-IsHeadOf d v (Some h) = StartsAt d v h × ((t : ℕ) → Turns d t h → ⊥)
+IsHeadOf d v (Some h) = StartsAt d v h × ((t : ℕ) → ¬ Turns d t h)
 
 abbrev pub AreHeads : ShellRows → Span → List (Option ℕ) → Type 0
 AreHeads d span heads = (v : ℕ) → IsWithin span v → IsHeadOf d v (get_or heads (v - span.least) None)

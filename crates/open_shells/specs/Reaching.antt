@@ -13,7 +13,7 @@ pub record ReachesOne (d : ShellRows) (known : List ℕ) (r face : ℕ) : Type 0
   pub mates : AreMates d r mate
   pub on_face : OnFace d face r
   pub on_known : OnFace d from mate
-  pub new : Contains known face → ⊥
+  pub new : ¬ Contains known face
   pub old : Contains known from
 
 -- each row reaches a face, where those before it have reached theirs

@@ -1,7 +1,6 @@
 //! The cycles of border rows of an open shell.
 
-ghost use Rattle.std.specs.Prelude.{◌≡◌, ◌<◌, ◌+◌, ◌↔◌, ◌⊎◌, ℕ, true, false, None, length, map, vec_len, IfOk, MatchOption};
-ghost use Rattle.std.proofs.Common.{get_or};
+ghost use Rattle.std.specs.Prelude.{◌≡◌, ◌<◌, ◌+◌, ◌↔◌, ◌⊎◌, ℕ, true, false, None, length, map, vec_len, IfOk, MatchOption, get_or};
 ghost use Rattle.solid_data.proofs.Members.{Has};
 ghost use Rattle.solid_data.specs.declared.solid.RowId.{RowId as AnyRowId};
 ghost use Rattle.std.specs.List.{AllByRecursion};
@@ -24,7 +23,7 @@ use std::alloc::Global;
 /// The row itself, where it is a border row.
 fn border_at(mated: &Mated<'_>, r: u32) -> Option<u32>
     requires { r < length mated.now.rows }
-    ensures none { result ≡ None → IsBorder mated.now r → ⊥ }
+    ensures none { result ≡ None → ¬ IsBorder mated.now r }
     ensures some { MatchOption result (length mated.now.rows ≡ length mated.now.rows) (λ b. IsBorder mated.now r × (b ≡ r)) }
 {
     match mated.mate(r) {

@@ -20,7 +20,7 @@ use std::alloc::Global;
 fn head_behind(mated: &Mated<'_>, r: u32) -> Option<u32>
     requires there { r < length mated.now.rows }
     requires whole { AreOnce mated.now }
-    ensures none { result ≡ None → IsBorder mated.now r → ⊥ }
+    ensures none { result ≡ None → ¬ IsBorder mated.now r }
     ensures some { MatchOption result (length mated.now.rows ≡ length mated.now.rows) (λ h. IsBorder mated.now r × Follows mated.now r h) }
 {
     match mated.mate(r) {

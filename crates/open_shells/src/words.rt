@@ -120,7 +120,7 @@ fn reach_words(text: &[u8]) -> Option<u32>
 
 /// The numbers behind a word, as text, of which there is at least one.
 fn row_words<'a>(text: &'a [u8], word: &[u8]) -> Option<&'a [u8]>
-    ensures { MatchOption result ((rs : List ℕ) → IsRowsBehind text.now word.now rs → ⊥) (λ rest. (rs : List ℕ) × (rest.now ≡ spaced rs) × IsRowsBehind text.now word.now rs) }
+    ensures { MatchOption result ((rs : List ℕ) → ¬ IsRowsBehind text.now word.now rs) (λ rest. (rs : List ℕ) × (rest.now ≡ spaced rs) × IsRowsBehind text.now word.now rs) }
 {
     let Some(rest) = after_word(text, word) else {
         return None;

@@ -62,7 +62,7 @@ fn put_line(alloc: Global, out: &mut Out, line: &OrientLine) -> Result<(), NoMem
 
 fn is_ring(line: &OrientLine) -> bool
     requires { HasSpelling line.now }
-    ensures { MatchBool result (IsRingLine (spelling line.now)) (IsRingLine (spelling line.now) → ⊥) }
+    ensures { MatchBool result (IsRingLine (spelling line.now)) (¬ IsRingLine (spelling line.now)) }
 {
     matches!(line, OrientLine::Ring { .. })
 }

@@ -1,7 +1,6 @@
 -- Private: the faces that are reached so far.
-use Rattle.std.specs.Prelude.{◌≡◌, ℕ, suc, Bool, true, false, List, [], ◌∷◌, ◌++◌, length, reverse, map, flat_map, slice_get}
+use Rattle.std.specs.Prelude.{◌≡◌, ℕ, suc, Bool, true, false, List, [], ◌∷◌, ◌++◌, length, reverse, map, flat_map, slice_get, get_or}
 use Rattle.std.specs.Option.{option_to_list}
-use Rattle.std.proofs.Common.{get_or}
 use Rattle.edge_uses.specs.ShellRows.{ShellRows}
 use Rattle.edge_uses.specs.Closed.{IsReached, AreNeighbours}
 use Rattle.edge_uses.specs.Mates.{HaveMates}

@@ -12,7 +12,7 @@ OneRefusal = (f : Contents) (certificate : List ℕ) (lines : List (List ℕ)) (
 
 -- In an accepted book nothing is bad.
 abbrev pub NoneBadWhereAccepted : Type 0
-NoneBadWhereAccepted = (f : Contents) (certificate : List ℕ) (lines : List (List ℕ)) (parts : List Part) (a : BookRefusal) → IsHeaded certificate Three lines → IsAcceptedBook f certificate parts → IsBookBad f lines a → ⊥
+NoneBadWhereAccepted = (f : Contents) (certificate : List ℕ) (lines : List (List ℕ)) (parts : List Part) (a : BookRefusal) → IsHeaded certificate Three lines → IsAcceptedBook f certificate parts → ¬ IsBookBad f lines a
 
 -- Whatever stands behind the head, the book is accepted or something is the first bad one.
 abbrev pub AcceptedOrBad : Type 0

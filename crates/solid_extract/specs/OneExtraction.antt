@@ -11,4 +11,4 @@ abbrev pub OneRefusal : Type 0
 OneRefusal = (f : Contents) (n e k : ℕ) (r s : ExtractReason) → IsRefused f n e r → IsRefused f n k s → (e ≡ k) × (r ≡ s)
 
 abbrev pub NotBoth : Type 0
-NotBoth = (f : Contents) (n : ℕ) (a : Contents) (e : ℕ) (r : ExtractReason) → IsExtracted f n a → IsRefused f n e r → ⊥
+NotBoth = (f : Contents) (n : ℕ) (a : Contents) (e : ℕ) (r : ExtractReason) → IsExtracted f n a → ¬ IsRefused f n e r

@@ -1,6 +1,5 @@
 -- The fans round a vertex: the cycles of turns among the rows that start there. They are judged where loops join and edges are paired.
-use Rattle.std.specs.Prelude.{◌≡◌, ◌≤◌, ◌<◌, Bool, slice_set, ◌+◌, ◌==◌, ◌&&◌, ◌||◌, ℕ, List, [], ◌∷◌, length, flat_map, Some, slice_get, if◌then◌else◌}
-use Rattle.std.proofs.Common.{get_or}
+use Rattle.std.specs.Prelude.{◌≡◌, ◌≤◌, ◌<◌, Bool, slice_set, ◌+◌, ◌==◌, ◌&&◌, ◌||◌, ℕ, List, [], ◌∷◌, length, flat_map, Some, slice_get, if◌then◌else◌, get_or}
 use Rattle.solid_data.specs.Chain.{LeadsTo}
 use Rattle.solid_data.specs.SolidData.{SolidData}
 use Rattle.solid_data.specs.declared.verdict.Failing.{Failing}

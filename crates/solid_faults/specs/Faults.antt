@@ -27,7 +27,7 @@ pub record Faults : Type 0 where
 
 -- Fans are judged where no loop has a gap and no edge is unpaired.
 abbrev pub AreLinkings : ShellRows → List Gap → List Unpaired → Option Linking → Type 0
-AreLinkings d gaps unpaired None = ((gaps ≡ []) × (unpaired ≡ [])) → ⊥
+AreLinkings d gaps unpaired None = ¬ ((gaps ≡ []) × (unpaired ≡ []))
 AreLinkings d gaps unpaired (Some l) = (gaps ≡ []) × (unpaired ≡ []) × AreFans d l.leasts × (l.unlinked ≡ unlinked_of d l.leasts)
 
 -- x is all that fails in shell k

@@ -1,8 +1,7 @@
 -- Tables by which the parts of a shell are told.
-use Rattle.std.specs.Prelude.{◌≡◌, ◌==◌, ◌<◌, ◌-◌, ◌^◌, nat_lt, ℕ, Bool, List, [], ◌∷◌, length, map, flat_map, slice_get, All, if◌then◌else◌}
+use Rattle.std.specs.Prelude.{◌≡◌, ◌==◌, ◌<◌, ◌-◌, ◌^◌, nat_lt, ℕ, Bool, List, [], ◌∷◌, length, map, flat_map, slice_get, All, if◌then◌else◌, get_or}
 use Rattle.std.specs.Option.{option_to_list}
 use Rattle.std.specs.List.{list_any}
-use Rattle.std.proofs.Common.{get_or}
 use Rattle.solid_data.specs.SolidData.{SolidData}
 use Rattle.solid_data.specs.declared.solid.FaceUse.{FaceUse}
 use Rattle.solid_data.specs.declared.solid.Shell.{Shell}

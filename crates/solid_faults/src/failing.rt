@@ -177,7 +177,7 @@ fn linked(alloc: Global, paired: &Paired<'_>) -> Result<Linking, NoMemory>
 
 fn judge_links(alloc: Global, rows: &Rows, gap: bool) -> Result<Option<Linking>, NoMemory>
     requires { gap ≡ false → EndsMeet rows.now }
-    ensures { IfOk result (λ o. MatchOption o ((gap ≡ true) ⊎ (unpaired_of rows.now ≡ [] → ⊥))
+    ensures { IfOk result (λ o. MatchOption o ((gap ≡ true) ⊎ (¬ (unpaired_of rows.now ≡ [])))
         (λ l. (gap ≡ false) × (unpaired_of rows.now ≡ []) × AreFans rows.now l.leasts × (l.unlinked ≡ unlinked_of rows.now l.leasts))) }
 {
     if gap {
@@ -195,7 +195,7 @@ fn judge_links(alloc: Global, rows: &Rows, gap: bool) -> Result<Option<Linking>,
 
 fn has_gap(gaps: &[Gap]) -> bool
     ensures none { result ≡ false → gaps.now ≡ [] }
-    ensures some { result ≡ true → gaps.now ≡ [] → ⊥ }
+    ensures some { result ≡ true → ¬ (gaps.now ≡ []) }
 {
     !gaps.is_empty()
 }

@@ -1,7 +1,6 @@
 //! The gaps of loops.
 
-ghost use Rattle.std.specs.Prelude.{◌≡◌, ◌+◌, ◌<◌, ◌≤◌, ◌^◌, ◌++◌, Bool, length, map, flat_map, slice_get, option_copied, IfOk, IfSome};
-ghost use Rattle.std.proofs.Common.{get_or};
+ghost use Rattle.std.specs.Prelude.{◌≡◌, ◌+◌, ◌<◌, ◌≤◌, ◌^◌, ◌++◌, Bool, length, map, flat_map, slice_get, option_copied, IfOk, IfSome, get_or};
 ghost use Rattle.solid_data.specs.Ring.{next_of_each};
 ghost use Rattle.solid_data.specs.SolidData.{same_flag, placed_in_face, placed_loops};
 ghost use Rattle.edge_uses.specs.Closed.{begin_of, start_of, end_of};

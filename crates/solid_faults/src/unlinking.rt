@@ -1,7 +1,6 @@
 //! Which vertices of a shell aren't linked.
 
-ghost use Rattle.std.specs.Prelude.{◌≡◌, ◌<◌, ◌≤◌, ◌+◌, ◌-◌, ◌==◌, ◌++◌, ◌^◌, Some, length, slice_get, IfOk};
-ghost use Rattle.std.proofs.Common.{get_or};
+ghost use Rattle.std.specs.Prelude.{◌≡◌, ◌<◌, ◌≤◌, ◌+◌, ◌-◌, ◌==◌, ◌++◌, ◌^◌, Some, length, slice_get, IfOk, get_or};
 ghost use Rattle.edge_uses.specs.Ranges.{IsWithin, IsSpanOf};
 ghost use Rattle.edge_uses.specs.ShellRows.{AreRows};
 ghost use Rattle.solid_faults.specs.Fans.{added, AreFanCounts, ArePointCounts, unlinked_at, unlinked_of};

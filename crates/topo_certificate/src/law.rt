@@ -9,7 +9,7 @@ ghost use Rattle.cert_lines.specs.declared.fault.Illegal.{Illegal as Fault};
 /// Whatever the lines are, either they are legal or one of them is the first bad one; that is one line alone, and legal lines
 /// have none (own).
 pub fn legal_or_first_bad()
-    ensures none { (v : Edition) (s : SolidData) (first : ℕ) (lines : List (List ℕ)) (bad : Fault) → IsLegal v s lines → IsFirstBad v s first lines bad → ⊥ }
+    ensures none { (v : Edition) (s : SolidData) (first : ℕ) (lines : List (List ℕ)) (bad : Fault) → IsLegal v s lines → ¬ IsFirstBad v s first lines bad }
     ensures one { (v : Edition) (s : SolidData) (first : ℕ) (lines : List (List ℕ)) (x y : Fault) → IsFirstBad v s first lines x → IsFirstBad v s first lines y → x ≡ y }
     ensures always { (v : Edition) (s : SolidData) (first : ℕ) (lines : List (List ℕ)) → IsLegal v s lines ⊎ ((bad : Fault) × IsFirstBad v s first lines bad) }
 {}

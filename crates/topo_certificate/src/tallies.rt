@@ -1,7 +1,6 @@
 //! How many rows start at each vertex of a shell, and how many loops without an edge lie there.
 
-ghost use Rattle.std.specs.Prelude.{◌≡◌, ℕ, ◌+◌, ◌-◌, ◌<◌, ◌≤◌, ◌^◌, ◌++◌, ◌∷◌, Some, length, map, vec_len, slice_get, slice_set, IfOk};
-ghost use Rattle.std.proofs.Common.{get_or};
+ghost use Rattle.std.specs.Prelude.{◌≡◌, ℕ, ◌+◌, ◌-◌, ◌<◌, ◌≤◌, ◌^◌, ◌++◌, ◌∷◌, Some, length, map, vec_len, slice_get, slice_set, IfOk, get_or};
 ghost use Rattle.solid_data.specs.declared.solid.LoopAt.{LoopAt as LoopPlace};
 ghost use Rattle.edge_uses.specs.declared.row.Row.{Row as AnyRow};
 ghost use Rattle.edge_uses.specs.Ranges.{IsWithin};

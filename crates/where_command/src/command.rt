@@ -89,7 +89,7 @@ pub fn run_where<F: Source, O: Sink>(
     ensures unread { IsNone (asked_of words.now) → file.new ≡ file.old }
 
     // Where nothing failed, words of a listed form have their defined answer.
-    ensures complete { IsSome (asked_of words.now) → (Rose (F.faults file.old) (F.faults file.new) → ⊥) → (Rose (O.faults out.old) (O.faults out.new) → ⊥) → IsComplete result }
+    ensures complete { IsSome (asked_of words.now) → (¬ Rose (F.faults file.old) (F.faults file.new)) → (¬ Rose (O.faults out.old) (O.faults out.new)) → IsComplete result }
 {
     match reply_to(alloc, words, file) {
         Ok(reply) => finish(out, reply),

@@ -1,8 +1,7 @@
 //! Which entities are described.
 
 ghost use Rattle.entry_references.specs.Refs.{names_entry};
-ghost use Rattle.std.specs.Prelude.{◌≡◌, ◌+◌, ◌*◌, ◌<◌, ◌||◌, ◌&&◌, ◌==◌, ◌++◌, ◌∷◌, [], ℕ, false, pos, length, vec_len, IfOk, OnOk, filter};
-ghost use Rattle.std.proofs.Common.{get_or};
+ghost use Rattle.std.specs.Prelude.{◌≡◌, ◌+◌, ◌*◌, ◌<◌, ◌||◌, ◌&&◌, ◌==◌, ◌++◌, ◌∷◌, [], ℕ, false, pos, length, vec_len, IfOk, OnOk, filter, get_or};
 ghost use Rattle.where_entities.specs.Entities.{described, is_among, is_described, number_at};
 
 use iges_fields::{EntryNo, ItemList, NoMemory};

@@ -1,8 +1,7 @@
 //! The paragraph on a shell that falls into parts.
 
-ghost use Rattle.std.specs.Prelude.{◌≡◌, ◌<◌, ◌+◌, ◌-◌, ◌^◌, ◌++◌, codes, length, flat_map, take, slice_get, OnOk};
+ghost use Rattle.std.specs.Prelude.{◌≡◌, ◌<◌, ◌+◌, ◌-◌, ◌^◌, ◌++◌, codes, length, flat_map, take, slice_get, OnOk, get_or};
 ghost use Rattle.std.specs.List.{enumerate_from};
-ghost use Rattle.std.proofs.Common.{get_or};
 ghost use Rattle.edge_uses.specs.ShellRows.{rows_of};
 ghost use Rattle.solid_faults.specs.Edges.{unpaired_of};
 ghost use Rattle.solid_faults.specs.Parts.{AreParts};
