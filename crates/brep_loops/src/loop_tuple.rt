@@ -65,7 +65,8 @@ impl<'a> LoopTuple<'a> {
 
     /// The entry of the i-th parameter curve, i from 0; None past the end (IGES 5.3, 4.147).
     pub fn curve(&self, i: usize) -> Option<i64>
-        ensures { result ≡ option_map (λ (curve : Bool × ℤ). curve.1) (slice_get self.now.curves i) }
+        ensures { result ≡ option_map (λ (curve : Bool
+            × ℤ). curve.1) (slice_get self.now.curves i) }
     {
         if i >= self.curves {
             return None;

@@ -51,15 +51,23 @@ impl<'a> FaceWalk<'a> {
         flag: bool,
     ) -> Result<FaceUse, WalkFault>
         requires stands { Stands self.old.loops.tuples.lists self.old.loops.tuples.lists self.old.loops.tuples.numbering }
-        requires loops { self.old.loops.named ≡ flat_map (loops self.old.loops.tuples.lists) self.old.named }
+        requires loops { self.old.loops.named ≡ flat_map
+            (loops self.old.loops.tuples.lists) self.old.named }
         ensures file { self.new.loops.tuples.lists ≡ self.old.loops.tuples.lists }
-        ensures stands { OnOk result (Stands self.old.loops.tuples.lists self.new.loops.tuples.lists self.new.loops.tuples.numbering) }
-        ensures keys { OnOk result (self.new.loops.tuples.numbering.keys ≡ keys_after self.old.loops.tuples.lists self.old.loops.tuples.numbering.keys (face_tuples self.old.loops.tuples.lists (number, flag))) }
+        ensures stands { OnOk result
+            (Stands self.old.loops.tuples.lists self.new.loops.tuples.lists self.new.loops.tuples.numbering) }
+        ensures keys { OnOk result (self.new.loops.tuples.numbering.keys
+            ≡ keys_after self.old.loops.tuples.lists self.old.loops.tuples.numbering.keys
+            (face_tuples self.old.loops.tuples.lists (number, flag))) }
         ensures named { OnOk result (self.new.named ≡ self.old.named ++ number ∷ []) }
-        ensures loops { OnOk result (self.new.loops.named ≡ flat_map (loops self.old.loops.tuples.lists) self.new.named) }
-        ensures made { IfOk result (IsMadeBy self.new.loops.tuples.numbering.keys (λ keys. face_by self.old.loops.tuples.lists keys (number, flag))) }
-        ensures holds { OnOk result (AllHold (face_at self.old.loops.tuples.lists (pos at.entity.0) at.item self.old.named number)) }
-        ensures fault { IfErr result (IsFault (face_at self.old.loops.tuples.lists (pos at.entity.0) at.item self.old.named number)) }
+        ensures loops { OnOk result (self.new.loops.named
+            ≡ flat_map (loops self.old.loops.tuples.lists) self.new.named) }
+        ensures made { IfOk result (IsMadeBy self.new.loops.tuples.numbering.keys
+            (λ keys. face_by self.old.loops.tuples.lists keys (number, flag))) }
+        ensures holds { OnOk result (AllHold (face_at self.old.loops.tuples.lists
+            (pos at.entity.0) at.item self.old.named number)) }
+        ensures fault { IfErr result (IsFault (face_at self.old.loops.tuples.lists
+            (pos at.entity.0) at.item self.old.named number)) }
     {
         let file = self.loops.tuples.lists.file();
         let (entity, listed) = face_at(file, at, number)?;
@@ -85,15 +93,23 @@ impl<'a> FaceWalk<'a> {
     ) -> Result<Faces, WalkFault>
         requires few { length listed.now < 2 ^ 31 }
         requires stands { Stands self.old.loops.tuples.lists self.old.loops.tuples.lists self.old.loops.tuples.numbering }
-        requires loops { self.old.loops.named ≡ flat_map (loops self.old.loops.tuples.lists) self.old.named }
+        requires loops { self.old.loops.named ≡ flat_map
+            (loops self.old.loops.tuples.lists) self.old.named }
         ensures file { self.new.loops.tuples.lists ≡ self.old.loops.tuples.lists }
-        ensures stands { OnOk result (Stands self.old.loops.tuples.lists self.new.loops.tuples.lists self.new.loops.tuples.numbering) }
-        ensures keys { OnOk result (self.new.loops.tuples.numbering.keys ≡ keys_after self.old.loops.tuples.lists self.old.loops.tuples.numbering.keys (flat_map (face_tuples self.old.loops.tuples.lists) listed.now)) }
+        ensures stands { OnOk result
+            (Stands self.old.loops.tuples.lists self.new.loops.tuples.lists self.new.loops.tuples.numbering) }
+        ensures keys { OnOk result (self.new.loops.tuples.numbering.keys
+            ≡ keys_after self.old.loops.tuples.lists self.old.loops.tuples.numbering.keys
+            (flat_map (face_tuples self.old.loops.tuples.lists) listed.now)) }
         ensures named { OnOk result (self.new.named ≡ self.old.named ++ numbers listed.now) }
-        ensures loops { OnOk result (self.new.loops.named ≡ flat_map (loops self.old.loops.tuples.lists) self.new.named) }
-        ensures made { IfOk result (IsMadeBy self.new.loops.tuples.numbering.keys (λ keys. map (face_by self.old.loops.tuples.lists keys) listed.now)) }
-        ensures holds { OnOk result (AllHold (after_each (face_places self.old.loops.tuples.lists (pos no.0) self.old.named) [] listed.now)) }
-        ensures fault { IfErr result (IsFault (after_each (face_places self.old.loops.tuples.lists (pos no.0) self.old.named) [] listed.now)) }
+        ensures loops { OnOk result (self.new.loops.named
+            ≡ flat_map (loops self.old.loops.tuples.lists) self.new.named) }
+        ensures made { IfOk result (IsMadeBy self.new.loops.tuples.numbering.keys
+            (λ keys. map (face_by self.old.loops.tuples.lists keys) listed.now)) }
+        ensures holds { OnOk result (AllHold (after_each
+            (face_places self.old.loops.tuples.lists (pos no.0) self.old.named) [] listed.now)) }
+        ensures fault { IfErr result (IsFault (after_each
+            (face_places self.old.loops.tuples.lists (pos no.0) self.old.named) [] listed.now)) }
     {
         let mut faces = Faces::new(alloc);
         'faces: for i in 0..listed.len() {

@@ -12,7 +12,8 @@ use solid_data::{Failing, Rule};
 pub fn index_in(count: u32, at: Place, index: i64) -> Result<u32, Failing>
     ensures holds { OnOk result (IsIndex index count) }
     ensures index { IfOk result (λ i. index ≡ pos i) }
-    ensures fails { IfErr result (FirstFalse (obligation BadIndex at.entity.0 at.item (IsIndex index count) ∷ [])) }
+    ensures fails { IfErr result (FirstFalse
+        (obligation BadIndex at.entity.0 at.item (IsIndex index count) ∷ [])) }
 {
     match u32::try_from(index) {
         Ok(i) if 1 <= i && i <= count => Ok(i),

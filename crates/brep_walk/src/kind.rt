@@ -45,7 +45,8 @@ impl RecordKind {
 
     /// Whether the entry is of this kind: it has the type, and a form that is accepted.
     pub fn is_of(self, entry: &Entry) -> bool
-        ensures { IsTrue result ↔ ((entry.now.kind ≡ type_number (entity_kind self)) × HasForm (entity_kind self) entry.now.form) }
+        ensures { IsTrue result ↔ ((entry.now.kind ≡ type_number (entity_kind self))
+            × HasForm (entity_kind self) entry.now.form) }
     {
         entry.kind == self.type_number() && self.has_form(entry.form)
     }

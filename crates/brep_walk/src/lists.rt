@@ -51,8 +51,10 @@ fn edge_of(
 ) -> Result<(EdgeKey, EdgeTuple), Failing>
     requires { length list.now < 2 ^ 31 }
     ensures holds { OnOk result (IsIndex index (length list.now)) }
-    ensures edge { IfOk result (λ e. (e.0 ≡ record { «list» = no; index = entry_number index }) × (slice_get list.now (entry_number index - 1) ≡ Some e.1)) }
-    ensures fails { IfErr result (FirstFalse (obligation BadIndex at.entity.0 at.item (IsIndex index (length list.now)) ∷ [])) }
+    ensures edge { IfOk result (λ e. (e.0 ≡ record { «list» = no; index = entry_number index })
+        × (slice_get list.now (entry_number index - 1) ≡ Some e.1)) }
+    ensures fails { IfErr result (FirstFalse
+        (obligation BadIndex at.entity.0 at.item (IsIndex index (length list.now)) ∷ [])) }
 {
     let index = index_in(list.len() as u32, at, index)?;
     let tuple = list.tuple(index as usize - 1).unwrap();
@@ -74,9 +76,11 @@ impl<'a> Lists<'a> {
     // The entry of the vertex list that the number at a place names, and how many vertices it has.
     fn vertex_list(&mut self, at: Place, number: i64) -> Result<(EntryNo, u32), WalkFault>
         ensures file { self.new ≡ self.old }
-        ensures holds { OnOk result (AllHold (record_places self.old (pos at.entity.0) at.item vertices number)) }
+        ensures holds { OnOk result (AllHold (record_places self.old
+            (pos at.entity.0) at.item vertices number)) }
         ensures list { IfOk result (IsVertexList self.old number) }
-        ensures fault { IfErr result (IsFault (record_places self.old (pos at.entity.0) at.item vertices number)) }
+        ensures fault { IfErr result (IsFault (record_places self.old
+            (pos at.entity.0) at.item vertices number)) }
     {
         if let Some(kept) = self.vertices.get(number) {
             return Ok(*kept);
@@ -90,9 +94,13 @@ impl<'a> Lists<'a> {
     /// The vertex that a list and an index at a place name.
     pub fn vertex(&mut self, at: Place, number: i64, index: i64) -> Result<VertexKey, WalkFault>
         ensures file { self.new ≡ self.old }
-        ensures holds { OnOk result (AllHold (item_places self.old (pos at.entity.0) at.item vertices number index (length (told vertices self.old number)))) }
+        ensures holds { OnOk result (AllHold (item_places self.old
+            (pos at.entity.0) at.item vertices number index
+            (length (told vertices self.old number)))) }
         ensures vertex { IfOk result (λ key. key ≡ vertex_key number index) }
-        ensures fault { IfErr result (IsFault (item_places self.old (pos at.entity.0) at.item vertices number index (length (told vertices self.old number)))) }
+        ensures fault { IfErr result (IsFault (item_places self.old
+            (pos at.entity.0) at.item vertices number index
+            (length (told vertices self.old number)))) }
     {
         let (list, count) = self.vertex_list(at, number)?;
         let index = index_in(count, at, index)?;
@@ -107,9 +115,12 @@ impl<'a> Lists<'a> {
         index: i64,
     ) -> Result<(EdgeKey, EdgeTuple), WalkFault>
         ensures file { self.new ≡ self.old }
-        ensures holds { OnOk result (AllHold (item_places self.old (pos at.entity.0) at.item edges number index (length (told edges self.old number)))) }
-        ensures edge { IfOk result (λ e. (e.0 ≡ edge_key number index) × (edge_at self.old number (entry_number index) ≡ Some e.1)) }
-        ensures fault { IfErr result (IsFault (item_places self.old (pos at.entity.0) at.item edges number index (length (told edges self.old number)))) }
+        ensures holds { OnOk result (AllHold (item_places self.old
+            (pos at.entity.0) at.item edges number index (length (told edges self.old number)))) }
+        ensures edge { IfOk result (λ e. (e.0 ≡ edge_key number index)
+            × (edge_at self.old number (entry_number index) ≡ Some e.1)) }
+        ensures fault { IfErr result (IsFault (item_places self.old
+            (pos at.entity.0) at.item edges number index (length (told edges self.old number)))) }
     {
         if let Some((no, list)) = self.edges.get(number) {
             return Ok(edge_of(*no, list, at, index)?);
@@ -123,9 +134,12 @@ impl<'a> Lists<'a> {
     /// The start and the end of the edge at a place, whose curve must name geometry.
     pub fn ends(&mut self, at: Place, edge: EdgeTuple) -> Result<(VertexKey, VertexKey), WalkFault>
         ensures file { self.new ≡ self.old }
-        ensures holds { OnOk result (AllHold (edge_places self.old (pos at.entity.0) at.item (Some edge))) }
-        ensures ends { IfOk result (λ ends. (ends.0 ≡ vertex_key edge.start_list edge.start_index) × (ends.1 ≡ vertex_key edge.end_list edge.end_index)) }
-        ensures fault { IfErr result (IsFault (edge_places self.old (pos at.entity.0) at.item (Some edge))) }
+        ensures holds { OnOk result (AllHold (edge_places self.old (pos at.entity.0) at.item
+            (Some edge))) }
+        ensures ends { IfOk result (λ ends. (ends.0 ≡ vertex_key edge.start_list edge.start_index)
+            × (ends.1 ≡ vertex_key edge.end_list edge.end_index)) }
+        ensures fault { IfErr result (IsFault (edge_places self.old (pos at.entity.0) at.item
+            (Some edge))) }
     {
         if !names_geometry(self.file, edge.curve) {
             return Err(WalkFault::Fails(at.fails(Rule::BadGeometry)));

@@ -43,12 +43,18 @@ impl<'a> LoopWalk<'a> {
     pub fn walk(&mut self, alloc: Global, at: Place, number: i64) -> Result<Loop, WalkFault>
         requires { Stands self.old.tuples.lists self.old.tuples.lists self.old.tuples.numbering }
         ensures file { self.new.tuples.lists ≡ self.old.tuples.lists }
-        ensures stands { OnOk result (Stands self.old.tuples.lists self.new.tuples.lists self.new.tuples.numbering) }
-        ensures keys { OnOk result (self.new.tuples.numbering.keys ≡ keys_after self.old.tuples.lists self.old.tuples.numbering.keys (tuples self.old.tuples.lists number)) }
+        ensures stands { OnOk result
+            (Stands self.old.tuples.lists self.new.tuples.lists self.new.tuples.numbering) }
+        ensures keys { OnOk result (self.new.tuples.numbering.keys
+            ≡ keys_after self.old.tuples.lists self.old.tuples.numbering.keys
+            (tuples self.old.tuples.lists number)) }
         ensures named { OnOk result (self.new.named ≡ self.old.named ++ number ∷ []) }
-        ensures made { IfOk result (IsMadeBy self.new.tuples.numbering.keys (λ keys. loop_by self.old.tuples.lists keys number)) }
-        ensures holds { OnOk result (AllHold (loop_at self.old.tuples.lists (pos at.entity.0) at.item self.old.named number)) }
-        ensures fault { IfErr result (IsFault (loop_at self.old.tuples.lists (pos at.entity.0) at.item self.old.named number)) }
+        ensures made { IfOk result (IsMadeBy self.new.tuples.numbering.keys
+            (λ keys. loop_by self.old.tuples.lists keys number)) }
+        ensures holds { OnOk result (AllHold (loop_at self.old.tuples.lists
+            (pos at.entity.0) at.item self.old.named number)) }
+        ensures fault { IfErr result (IsFault (loop_at self.old.tuples.lists
+            (pos at.entity.0) at.item self.old.named number)) }
     {
         let (entity, listed) = loop_at(self.tuples.lists.file(), at, number)?;
         self.named.note(at, number, entity)?;
@@ -66,12 +72,18 @@ impl<'a> LoopWalk<'a> {
         requires few { length listed.now.loops < 2 ^ 31 }
         requires stands { Stands self.old.tuples.lists self.old.tuples.lists self.old.tuples.numbering }
         ensures file { self.new.tuples.lists ≡ self.old.tuples.lists }
-        ensures stands { OnOk result (Stands self.old.tuples.lists self.new.tuples.lists self.new.tuples.numbering) }
-        ensures keys { OnOk result (self.new.tuples.numbering.keys ≡ keys_after self.old.tuples.lists self.old.tuples.numbering.keys (flat_map (tuples self.old.tuples.lists) listed.now.loops)) }
+        ensures stands { OnOk result
+            (Stands self.old.tuples.lists self.new.tuples.lists self.new.tuples.numbering) }
+        ensures keys { OnOk result (self.new.tuples.numbering.keys
+            ≡ keys_after self.old.tuples.lists self.old.tuples.numbering.keys
+            (flat_map (tuples self.old.tuples.lists) listed.now.loops)) }
         ensures named { OnOk result (self.new.named ≡ self.old.named ++ listed.now.loops) }
-        ensures made { IfOk result (IsMadeBy self.new.tuples.numbering.keys (λ keys. map (loop_by self.old.tuples.lists keys) listed.now.loops)) }
-        ensures holds { OnOk result (AllHold (after_each (loop_places self.old.tuples.lists (pos no.0) self.old.named) [] listed.now.loops)) }
-        ensures fault { IfErr result (IsFault (after_each (loop_places self.old.tuples.lists (pos no.0) self.old.named) [] listed.now.loops)) }
+        ensures made { IfOk result (IsMadeBy self.new.tuples.numbering.keys
+            (λ keys. map (loop_by self.old.tuples.lists keys) listed.now.loops)) }
+        ensures holds { OnOk result (AllHold (after_each
+            (loop_places self.old.tuples.lists (pos no.0) self.old.named) [] listed.now.loops)) }
+        ensures fault { IfErr result (IsFault (after_each
+            (loop_places self.old.tuples.lists (pos no.0) self.old.named) [] listed.now.loops)) }
     {
         let mut loops = Loops::new(alloc);
         'loops: for i in 0..listed.len() {

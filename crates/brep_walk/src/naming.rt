@@ -35,9 +35,12 @@ pub struct Named<'a> {
 
 /// The entry of a kind that the number at a place names.
 pub fn entry_at(file: &File, at: Place, kind: RecordKind, number: i64) -> Result<Named<'_>, Failing>
-    ensures holds { OnOk result (AllHold (entry_places file.now (pos at.entity.0) at.item (entity_kind kind) number)) }
-    ensures named { IfOk result (λ named. (number ≡ pos named.no.0) × (named.values.now ≡ values_of file.now number)) }
-    ensures fails { IfErr result (FirstFalse (entry_places file.now (pos at.entity.0) at.item (entity_kind kind) number)) }
+    ensures holds { OnOk result (AllHold (entry_places file.now (pos at.entity.0) at.item
+        (entity_kind kind) number)) }
+    ensures named { IfOk result (λ named. (number ≡ pos named.no.0)
+        × (named.values.now ≡ values_of file.now number)) }
+    ensures fails { IfErr result (FirstFalse
+        (entry_places file.now (pos at.entity.0) at.item (entity_kind kind) number)) }
     ensures limits { FitsLimits file.now }
 {
     let Some(no) = entry_no(file, number) else {

@@ -110,7 +110,8 @@ impl Numbering {
           edges = self.old.edges;
         }) }
         ensures id { IfOk result (λ r. r.0.0 ≡ place_of same_edge self.new.keys.edges key) }
-        ensures added { IfOk result (λ r. r.1 ≡ not (list_any (same_edge key) self.old.keys.edges)) }
+        ensures added { IfOk result (λ r. r.1 ≡ not
+            (list_any (same_edge key) self.old.keys.edges)) }
     {
         if let Some(id) = self.known_edge(key) {
             return Ok((id, false));

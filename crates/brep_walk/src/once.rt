@@ -57,7 +57,8 @@ impl Once {
         requires { number ≡ pos no.0 }
         ensures noted { OnOk result (self.new ≡ self.old ++ number ∷ []) }
         ensures holds { OnOk result (¬ Contains self.old number) }
-        ensures fault { IfErr result (IsFault (obligation Twice at.entity.0 at.item (¬ Contains self.old number) ∷ [])) }
+        ensures fault { IfErr result (IsFault (obligation Twice at.entity.0 at.item
+            (¬ Contains self.old number) ∷ [])) }
     {
         if self.has(no) {
             return Err(WalkFault::Fails(at.fails(Rule::Twice)));

@@ -29,11 +29,13 @@ fn bad_layout(named: &Named<'_>) -> Failing
 
 /// The solid that the number at a place names, by its entry and what its record tells.
 pub fn solid_at(file: &File, at: Place, number: i64) -> Result<(EntryNo, SolidRecord<'_>), Failing>
-    ensures holds { OnOk result (AllHold (record_places file.now (pos at.entity.0) at.item solid number)) }
+    ensures holds { OnOk result (AllHold (record_places file.now
+        (pos at.entity.0) at.item solid number)) }
     ensures named { IfOk result (λ r. (number ≡ pos r.0.0) × (r.1 ≡ told solid file.now number)) }
     ensures few { IfOk result (λ r. length r.1.voids < 2 ^ 31) }
     ensures limits { FitsLimits file.now }
-    ensures fails { IfErr result (FirstFalse (record_places file.now (pos at.entity.0) at.item solid number)) }
+    ensures fails { IfErr result (FirstFalse
+        (record_places file.now (pos at.entity.0) at.item solid number)) }
 {
     let named = entry_at(file, at, RecordKind::Solid, number)?;
     match SolidRecord::of(named.values) {
@@ -44,10 +46,12 @@ pub fn solid_at(file: &File, at: Place, number: i64) -> Result<(EntryNo, SolidRe
 
 /// The shell that the number at a place names.
 pub fn shell_at(file: &File, at: Place, number: i64) -> Result<(EntryNo, ShellRecord<'_>), Failing>
-    ensures holds { OnOk result (AllHold (record_places file.now (pos at.entity.0) at.item shell number)) }
+    ensures holds { OnOk result (AllHold (record_places file.now
+        (pos at.entity.0) at.item shell number)) }
     ensures named { IfOk result (λ r. (number ≡ pos r.0.0) × (r.1 ≡ told shell file.now number)) }
     ensures few { IfOk result (λ r. length r.1 < 2 ^ 31) }
-    ensures fails { IfErr result (FirstFalse (record_places file.now (pos at.entity.0) at.item shell number)) }
+    ensures fails { IfErr result (FirstFalse
+        (record_places file.now (pos at.entity.0) at.item shell number)) }
 {
     let named = entry_at(file, at, RecordKind::Shell, number)?;
     match ShellRecord::of(named.values) {
@@ -58,10 +62,12 @@ pub fn shell_at(file: &File, at: Place, number: i64) -> Result<(EntryNo, ShellRe
 
 /// The face that the number at a place names.
 pub fn face_at(file: &File, at: Place, number: i64) -> Result<(EntryNo, FaceRecord<'_>), Failing>
-    ensures holds { OnOk result (AllHold (record_places file.now (pos at.entity.0) at.item face number)) }
+    ensures holds { OnOk result (AllHold (record_places file.now
+        (pos at.entity.0) at.item face number)) }
     ensures named { IfOk result (λ r. (number ≡ pos r.0.0) × (r.1 ≡ told face file.now number)) }
     ensures few { IfOk result (λ r. length r.1.loops < 2 ^ 31) }
-    ensures fails { IfErr result (FirstFalse (record_places file.now (pos at.entity.0) at.item face number)) }
+    ensures fails { IfErr result (FirstFalse
+        (record_places file.now (pos at.entity.0) at.item face number)) }
 {
     let named = entry_at(file, at, RecordKind::Face, number)?;
     match FaceRecord::of(named.values) {
@@ -72,10 +78,12 @@ pub fn face_at(file: &File, at: Place, number: i64) -> Result<(EntryNo, FaceReco
 
 /// The loop that the number at a place names.
 pub fn loop_at(file: &File, at: Place, number: i64) -> Result<(EntryNo, LoopRecord<'_>), Failing>
-    ensures holds { OnOk result (AllHold (record_places file.now (pos at.entity.0) at.item «loop» number)) }
+    ensures holds { OnOk result (AllHold (record_places file.now
+        (pos at.entity.0) at.item «loop» number)) }
     ensures named { IfOk result (λ r. (number ≡ pos r.0.0) × (r.1 ≡ told «loop» file.now number)) }
     ensures few { IfOk result (λ r. length r.1 < 2 ^ 31) }
-    ensures fails { IfErr result (FirstFalse (record_places file.now (pos at.entity.0) at.item «loop» number)) }
+    ensures fails { IfErr result (FirstFalse
+        (record_places file.now (pos at.entity.0) at.item «loop» number)) }
 {
     let named = entry_at(file, at, RecordKind::Loop, number)?;
     match LoopRecord::of(named.values) {
@@ -86,10 +94,12 @@ pub fn loop_at(file: &File, at: Place, number: i64) -> Result<(EntryNo, LoopReco
 
 /// The edge list that the number at a place names.
 pub fn edge_list_at(file: &File, at: Place, number: i64) -> Result<(EntryNo, EdgeList<'_>), Failing>
-    ensures holds { OnOk result (AllHold (record_places file.now (pos at.entity.0) at.item edges number)) }
+    ensures holds { OnOk result (AllHold (record_places file.now
+        (pos at.entity.0) at.item edges number)) }
     ensures named { IfOk result (λ r. (number ≡ pos r.0.0) × (r.1 ≡ told edges file.now number)) }
     ensures few { IfOk result (λ r. length r.1 < 2 ^ 31) }
-    ensures fails { IfErr result (FirstFalse (record_places file.now (pos at.entity.0) at.item edges number)) }
+    ensures fails { IfErr result (FirstFalse
+        (record_places file.now (pos at.entity.0) at.item edges number)) }
 {
     let named = entry_at(file, at, RecordKind::EdgeList, number)?;
     match EdgeList::of(named.values) {
@@ -104,10 +114,13 @@ pub fn vertex_list_at(
     at: Place,
     number: i64,
 ) -> Result<(EntryNo, VertexList<'_>), Failing>
-    ensures holds { OnOk result (AllHold (record_places file.now (pos at.entity.0) at.item vertices number)) }
-    ensures named { IfOk result (λ r. (number ≡ pos r.0.0) × (r.1 ≡ told vertices file.now number)) }
+    ensures holds { OnOk result (AllHold (record_places file.now
+        (pos at.entity.0) at.item vertices number)) }
+    ensures named { IfOk result (λ r. (number ≡ pos r.0.0)
+        × (r.1 ≡ told vertices file.now number)) }
     ensures few { IfOk result (λ r. length r.1 < 2 ^ 31) }
-    ensures fails { IfErr result (FirstFalse (record_places file.now (pos at.entity.0) at.item vertices number)) }
+    ensures fails { IfErr result (FirstFalse
+        (record_places file.now (pos at.entity.0) at.item vertices number)) }
 {
     let named = entry_at(file, at, RecordKind::VertexList, number)?;
     match VertexList::of(named.values) {

@@ -24,7 +24,8 @@ use std::alloc::Global;
 
 // Whether the entry is a shell, said to be closed or to be open (IGES 5.3, 4.149).
 fn is_shell(entry: &Entry) -> bool
-    ensures { IsTrue result ↔ ((entry.now.kind ≡ type_number shell) × ((entry.now.form ≡ pos 1) ⊎ (entry.now.form ≡ pos 2))) }
+    ensures { IsTrue result ↔ ((entry.now.kind ≡ type_number shell)
+        × ((entry.now.form ≡ pos 1) ⊎ (entry.now.form ≡ pos 2))) }
 {
     entry.kind == 514 && (entry.form == 1 || entry.form == 2)
 }
@@ -77,9 +78,12 @@ fn shell_record(file: &File, no: EntryNo) -> Result<ShellRecord<'_>, Failing>
 // The faces of a shell, and the numbers of its edges and vertices.
 fn numbered_faces(alloc: Global, file: &File, no: EntryNo) -> Result<(Faces, Numbering), WalkFault>
     ensures holds { OnOk result (AllHold (open_places file.now no.0)) }
-    ensures faces { IfOk result (λ r. r.0 ≡ map (face_by file.now (keys_in file.now ((pos no.0, true) ∷ []))) (faces file.now (pos no.0))) }
+    ensures faces { IfOk result (λ r. r.0 ≡ map
+        (face_by file.now (keys_in file.now ((pos no.0, true) ∷ []))) (faces file.now (pos no.0))) }
     ensures keys { IfOk result (λ r. r.1.keys ≡ keys_in file.now ((pos no.0, true) ∷ [])) }
-    ensures edges { IfOk result (λ r. r.1.edges ≡ flat_map (edge_by file.now (keys_in file.now ((pos no.0, true) ∷ []))) (edges_in file.now ((pos no.0, true) ∷ []))) }
+    ensures edges { IfOk result (λ r. r.1.edges
+        ≡ flat_map (edge_by file.now (keys_in file.now ((pos no.0, true)
+        ∷ []))) (edges_in file.now ((pos no.0, true) ∷ []))) }
     ensures fault { IfErr result (IsFault (open_places file.now no.0)) }
     ensures limits { FitsLimits file.now }
 {
@@ -114,8 +118,10 @@ pub fn walk_shell(alloc: Global, file: &File, no: EntryNo) -> Result<Solid, Walk
     ensures solid { IfOk result (λ s. s ≡ shell_solid_of file.now no.0) }
     ensures holds { OnOk result (AllHold (open_places file.now no.0)) }
     ensures fault { IfErr result (IsFault (open_places file.now no.0)) }
-    ensures only { AllHold (open_places file.now no.0) → Gives result (Ok (shell_solid_of file.now no.0)) }
-    ensures only_fault { (x : Named) → FirstFalse (open_places file.now no.0) x → Gives result (Err x) }
+    ensures only { AllHold (open_places file.now no.0)
+        → Gives result (Ok (shell_solid_of file.now no.0)) }
+    ensures only_fault { (x : Named) → FirstFalse (open_places file.now no.0) x
+        → Gives result (Err x) }
 {
     shell_solid(alloc, file, no)
 }

@@ -30,7 +30,8 @@ impl<'a> ShellWalk<'a> {
     /// A walk through a file in which no shell, no face and no loop was named yet.
     pub fn new(alloc: Global, file: &'a File) -> ShellWalk<'a>
         ensures stands { Stands file.now result.faces.loops.tuples.lists result.faces.loops.tuples.numbering }
-        ensures keys { result.faces.loops.tuples.numbering.keys ≡ record { edges = []; vertices = [] } }
+        ensures keys { result.faces.loops.tuples.numbering.keys
+            ≡ record { edges = []; vertices = [] } }
         ensures named { result.named ≡ [] }
         ensures faces { result.faces.named ≡ [] }
         ensures loops { result.faces.loops.named ≡ [] }
@@ -45,7 +46,8 @@ impl<'a> ShellWalk<'a> {
     /// are kept.
     pub fn restart(&mut self, alloc: Global)
         ensures stands { Stands self.old.faces.loops.tuples.lists self.new.faces.loops.tuples.lists self.new.faces.loops.tuples.numbering }
-        ensures keys { self.new.faces.loops.tuples.numbering.keys ≡ record { edges = []; vertices = [] } }
+        ensures keys { self.new.faces.loops.tuples.numbering.keys
+            ≡ record { edges = []; vertices = [] } }
         ensures named { self.new.named ≡ [] }
         ensures faces { self.new.faces.named ≡ [] }
         ensures loops { self.new.faces.loops.named ≡ [] }
@@ -66,17 +68,27 @@ impl<'a> ShellWalk<'a> {
         flag: bool,
     ) -> Result<Shell, WalkFault>
         requires stands { Stands self.old.faces.loops.tuples.lists self.old.faces.loops.tuples.lists self.old.faces.loops.tuples.numbering }
-        requires faces { self.old.faces.named ≡ flat_map (λ shell. numbers (faces self.old.faces.loops.tuples.lists shell)) self.old.named }
-        requires loops { self.old.faces.loops.named ≡ flat_map (loops self.old.faces.loops.tuples.lists) self.old.faces.named }
+        requires faces { self.old.faces.named ≡ flat_map
+            (λ shell. numbers (faces self.old.faces.loops.tuples.lists shell)) self.old.named }
+        requires loops { self.old.faces.loops.named
+            ≡ flat_map (loops self.old.faces.loops.tuples.lists) self.old.faces.named }
         ensures file { self.new.faces.loops.tuples.lists ≡ self.old.faces.loops.tuples.lists }
-        ensures stands { OnOk result (Stands self.old.faces.loops.tuples.lists self.new.faces.loops.tuples.lists self.new.faces.loops.tuples.numbering) }
-        ensures keys { OnOk result (self.new.faces.loops.tuples.numbering.keys ≡ keys_after self.old.faces.loops.tuples.lists self.old.faces.loops.tuples.numbering.keys (shell_tuples self.old.faces.loops.tuples.lists (number, flag))) }
+        ensures stands { OnOk result
+            (Stands self.old.faces.loops.tuples.lists self.new.faces.loops.tuples.lists self.new.faces.loops.tuples.numbering) }
+        ensures keys { OnOk result (self.new.faces.loops.tuples.numbering.keys
+            ≡ keys_after self.old.faces.loops.tuples.lists self.old.faces.loops.tuples.numbering.keys (shell_tuples self.old.faces.loops.tuples.lists (number, flag))) }
         ensures named { OnOk result (self.new.named ≡ self.old.named ++ number ∷ []) }
-        ensures faces { OnOk result (self.new.faces.named ≡ flat_map (λ shell. numbers (faces self.old.faces.loops.tuples.lists shell)) self.new.named) }
-        ensures loops { OnOk result (self.new.faces.loops.named ≡ flat_map (loops self.old.faces.loops.tuples.lists) self.new.faces.named) }
-        ensures made { IfOk result (IsMadeBy self.new.faces.loops.tuples.numbering.keys (λ keys. shell_by self.old.faces.loops.tuples.lists keys (number, flag))) }
-        ensures holds { OnOk result (AllHold (shell_at self.old.faces.loops.tuples.lists (pos at.entity.0) at.item self.old.named number)) }
-        ensures fault { IfErr result (IsFault (shell_at self.old.faces.loops.tuples.lists (pos at.entity.0) at.item self.old.named number)) }
+        ensures faces { OnOk result (self.new.faces.named
+            ≡ flat_map
+            (λ shell. numbers (faces self.old.faces.loops.tuples.lists shell)) self.new.named) }
+        ensures loops { OnOk result (self.new.faces.loops.named
+            ≡ flat_map (loops self.old.faces.loops.tuples.lists) self.new.faces.named) }
+        ensures made { IfOk result (IsMadeBy self.new.faces.loops.tuples.numbering.keys
+            (λ keys. shell_by self.old.faces.loops.tuples.lists keys (number, flag))) }
+        ensures holds { OnOk result (AllHold (shell_at self.old.faces.loops.tuples.lists
+            (pos at.entity.0) at.item self.old.named number)) }
+        ensures fault { IfErr result (IsFault (shell_at self.old.faces.loops.tuples.lists
+            (pos at.entity.0) at.item self.old.named number)) }
     {
         let file = self.faces.loops.tuples.lists.file();
         let (entity, listed) = shell_at(file, at, number)?;
@@ -102,12 +114,19 @@ impl<'a> ShellWalk<'a> {
         requires faces { self.old.faces.named ≡ [] }
         requires loops { self.old.faces.loops.named ≡ [] }
         ensures file { self.new.faces.loops.tuples.lists ≡ self.old.faces.loops.tuples.lists }
-        ensures stands { OnOk result (Stands self.old.faces.loops.tuples.lists self.new.faces.loops.tuples.lists self.new.faces.loops.tuples.numbering) }
+        ensures stands { OnOk result
+            (Stands self.old.faces.loops.tuples.lists self.new.faces.loops.tuples.lists self.new.faces.loops.tuples.numbering) }
         ensures keys { OnOk result (self.new.faces.loops.tuples.numbering.keys ≡ keys_after self.old.faces.loops.tuples.lists self.old.faces.loops.tuples.numbering.keys
             (flat_map (shell_tuples self.old.faces.loops.tuples.lists) (listed.now.outer ∷ listed.now.voids))) }
-        ensures made { IfOk result (IsMadeBy self.new.faces.loops.tuples.numbering.keys (λ keys. map (shell_by self.old.faces.loops.tuples.lists keys) (listed.now.outer ∷ listed.now.voids))) }
-        ensures holds { OnOk result (AllHold (after_each (shell_places self.old.faces.loops.tuples.lists (pos no.0)) [] (listed.now.outer ∷ listed.now.voids))) }
-        ensures fault { IfErr result (IsFault (after_each (shell_places self.old.faces.loops.tuples.lists (pos no.0)) [] (listed.now.outer ∷ listed.now.voids))) }
+        ensures made { IfOk result (IsMadeBy self.new.faces.loops.tuples.numbering.keys
+            (λ keys. map (shell_by self.old.faces.loops.tuples.lists keys) (listed.now.outer
+            ∷ listed.now.voids))) }
+        ensures holds { OnOk result (AllHold (after_each
+            (shell_places self.old.faces.loops.tuples.lists (pos no.0)) [] (listed.now.outer
+            ∷ listed.now.voids))) }
+        ensures fault { IfErr result (IsFault (after_each
+            (shell_places self.old.faces.loops.tuples.lists (pos no.0)) [] (listed.now.outer
+            ∷ listed.now.voids))) }
     {
         let mut shells = Shells::new(alloc);
         'shells: for i in 0..listed.len() {

@@ -74,7 +74,8 @@ impl ItemSlots {
     /// Sets the number of an item.
     pub fn set(&mut self, list: EntryNo, index: u32, number: u32) -> Result<(), NoMemory>
         ensures set { OnOk result (slot_of self.new list.0 index ≡ number) }
-        ensures others { (l i : ℕ) → ¬ ((l ≡ list.0) × (i ≡ index)) → slot_of self.new l i ≡ slot_of self.old l i }
+        ensures others { (l i : ℕ) → ¬ ((l ≡ list.0) × (i ≡ index))
+            → slot_of self.new l i ≡ slot_of self.old l i }
     {
         let place = self.place(list)?;
         let slots = &mut self.slots[place].1;

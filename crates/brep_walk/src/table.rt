@@ -46,7 +46,8 @@ impl<T: Drop> ListTable<T> {
 
     /// The list that a number names, where it is kept.
     pub fn get(&self, number: i64) -> Option<&(EntryNo, T)>
-        ensures { IfSome result (λ kept. (number ≡ pos kept.now.0.0) × ((i : ℕ) × (slice_get self.now i ≡ Some kept.now))) }
+        ensures { IfSome result (λ kept. (number ≡ pos kept.now.0.0)
+            × ((i : ℕ) × (slice_get self.now i ≡ Some kept.now))) }
     {
         let Some(no) = entry_number(number) else {
             return None;

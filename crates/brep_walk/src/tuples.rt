@@ -32,7 +32,8 @@ pub struct TupleWalk<'a> {
 
 // Whether the i-th parameter curve of the tuple, from 0, names geometry where there is one.
 fn curve_names_geometry(file: &File, tuple: &LoopTuple<'_>, i: usize) -> bool
-    ensures { IsTrue result ↔ IfSome (slice_get tuple.now.curves i) (λ curve. NamesGeometry file.now curve.1) }
+    ensures { IsTrue result ↔ IfSome (slice_get tuple.now.curves i)
+        (λ curve. NamesGeometry file.now curve.1) }
 {
     match tuple.curve(i) {
         Some(curve) => names_geometry(file, curve),
@@ -42,7 +43,8 @@ fn curve_names_geometry(file: &File, tuple: &LoopTuple<'_>, i: usize) -> bool
 
 // Whether each parameter curve of the tuple names geometry.
 fn curves_name_geometry(file: &File, tuple: &LoopTuple<'_>) -> bool
-    ensures { IsTrue result ↔ All (λ (curve : Bool × ℤ). NamesGeometry file.now curve.1) tuple.now.curves }
+    ensures { IsTrue result ↔ All (λ (curve : Bool
+        × ℤ). NamesGeometry file.now curve.1) tuple.now.curves }
 {
     'curves: for i in 0..tuple.curve_count() {
         if !curve_names_geometry(file, tuple, i) {
@@ -70,10 +72,14 @@ impl<'a> TupleWalk<'a> {
         requires stands { Stands self.old.lists self.old.lists self.old.numbering }
         ensures file { self.new.lists ≡ self.old.lists }
         ensures stands { OnOk result (Stands self.old.lists self.new.lists self.new.numbering) }
-        ensures keys { OnOk result (self.new.numbering.keys ≡ keys_after self.old.lists self.old.numbering.keys (tuple.now ∷ [])) }
-        ensures made { IfOk result (IsMadeBy self.new.numbering.keys (λ keys. use_by keys tuple.now)) }
-        ensures holds { OnOk result (AllHold (used_places self.old.lists (pos at.entity.0) at.item tuple.now.list tuple.now.index true)) }
-        ensures fault { IfErr result (IsFault (used_places self.old.lists (pos at.entity.0) at.item tuple.now.list tuple.now.index true)) }
+        ensures keys { OnOk result (self.new.numbering.keys
+            ≡ keys_after self.old.lists self.old.numbering.keys (tuple.now ∷ [])) }
+        ensures made { IfOk result (IsMadeBy self.new.numbering.keys
+            (λ keys. use_by keys tuple.now)) }
+        ensures holds { OnOk result (AllHold (used_places self.old.lists
+            (pos at.entity.0) at.item tuple.now.list tuple.now.index true)) }
+        ensures fault { IfErr result (IsFault (used_places self.old.lists
+            (pos at.entity.0) at.item tuple.now.list tuple.now.index true)) }
     {
         let key = self.lists.vertex(at, tuple.list(), tuple.index())?;
         let vertex = self.numbering.vertex(key)?;
@@ -90,9 +96,12 @@ impl<'a> TupleWalk<'a> {
           edges = insert_key same_edge self.old.numbering.keys.edges key;
           vertices = insert_all same_vertex self.old.numbering.keys.vertices (ends_named (Some ends));
         }) }
-        ensures id { IfOk result (λ id. id.0 ≡ place_of same_edge self.new.numbering.keys.edges key) }
-        ensures holds { OnOk result (AllHold (edge_places self.old.lists (pos key.«list».0) key.index (Some ends))) }
-        ensures fault { IfErr result (IsFault (edge_places self.old.lists (pos key.«list».0) key.index (Some ends))) }
+        ensures id { IfOk result
+            (λ id. id.0 ≡ place_of same_edge self.new.numbering.keys.edges key) }
+        ensures holds { OnOk result (AllHold (edge_places self.old.lists
+            (pos key.«list».0) key.index (Some ends))) }
+        ensures fault { IfErr result (IsFault (edge_places self.old.lists
+            (pos key.«list».0) key.index (Some ends))) }
     {
         if let Some(edge) = self.numbering.known_edge(key) {
             return Ok(edge);
@@ -111,10 +120,14 @@ impl<'a> TupleWalk<'a> {
         requires stands { Stands self.old.lists self.old.lists self.old.numbering }
         ensures file { self.new.lists ≡ self.old.lists }
         ensures stands { OnOk result (Stands self.old.lists self.new.lists self.new.numbering) }
-        ensures keys { OnOk result (self.new.numbering.keys ≡ keys_after self.old.lists self.old.numbering.keys (tuple.now ∷ [])) }
-        ensures made { IfOk result (IsMadeBy self.new.numbering.keys (λ keys. use_by keys tuple.now)) }
-        ensures holds { OnOk result (AllHold (used_places self.old.lists (pos at.entity.0) at.item tuple.now.list tuple.now.index false)) }
-        ensures fault { IfErr result (IsFault (used_places self.old.lists (pos at.entity.0) at.item tuple.now.list tuple.now.index false)) }
+        ensures keys { OnOk result (self.new.numbering.keys
+            ≡ keys_after self.old.lists self.old.numbering.keys (tuple.now ∷ [])) }
+        ensures made { IfOk result (IsMadeBy self.new.numbering.keys
+            (λ keys. use_by keys tuple.now)) }
+        ensures holds { OnOk result (AllHold (used_places self.old.lists
+            (pos at.entity.0) at.item tuple.now.list tuple.now.index false)) }
+        ensures fault { IfErr result (IsFault (used_places self.old.lists
+            (pos at.entity.0) at.item tuple.now.list tuple.now.index false)) }
     {
         let (key, ends) = self.lists.edge(at, tuple.list(), tuple.index())?;
         let edge = self.edge_number(key, ends)?;
@@ -129,10 +142,14 @@ impl<'a> TupleWalk<'a> {
         requires { Stands self.old.lists self.old.lists self.old.numbering }
         ensures file { self.new.lists ≡ self.old.lists }
         ensures stands { OnOk result (Stands self.old.lists self.new.lists self.new.numbering) }
-        ensures keys { OnOk result (self.new.numbering.keys ≡ keys_after self.old.lists self.old.numbering.keys (tuple.now ∷ [])) }
-        ensures made { IfOk result (IsMadeBy self.new.numbering.keys (λ keys. use_by keys tuple.now)) }
-        ensures holds { OnOk result (AllHold (used_places self.old.lists (pos at.entity.0) at.item tuple.now.list tuple.now.index tuple.now.is_vertex)) }
-        ensures fault { IfErr result (IsFault (used_places self.old.lists (pos at.entity.0) at.item tuple.now.list tuple.now.index tuple.now.is_vertex)) }
+        ensures keys { OnOk result (self.new.numbering.keys
+            ≡ keys_after self.old.lists self.old.numbering.keys (tuple.now ∷ [])) }
+        ensures made { IfOk result (IsMadeBy self.new.numbering.keys
+            (λ keys. use_by keys tuple.now)) }
+        ensures holds { OnOk result (AllHold (used_places self.old.lists
+            (pos at.entity.0) at.item tuple.now.list tuple.now.index tuple.now.is_vertex)) }
+        ensures fault { IfErr result (IsFault (used_places self.old.lists
+            (pos at.entity.0) at.item tuple.now.list tuple.now.index tuple.now.is_vertex)) }
     {
         if tuple.is_vertex() {
             self.vertex_use(at, tuple)
@@ -146,10 +163,14 @@ impl<'a> TupleWalk<'a> {
         requires { Stands self.old.lists self.old.lists self.old.numbering }
         ensures file { self.new.lists ≡ self.old.lists }
         ensures stands { OnOk result (Stands self.old.lists self.new.lists self.new.numbering) }
-        ensures keys { OnOk result (self.new.numbering.keys ≡ keys_after self.old.lists self.old.numbering.keys (tuple.now ∷ [])) }
-        ensures made { IfOk result (IsMadeBy self.new.numbering.keys (λ keys. use_by keys tuple.now)) }
-        ensures holds { OnOk result (AllHold (tuple_at self.old.lists (pos at.entity.0) at.item tuple.now)) }
-        ensures fault { IfErr result (IsFault (tuple_at self.old.lists (pos at.entity.0) at.item tuple.now)) }
+        ensures keys { OnOk result (self.new.numbering.keys
+            ≡ keys_after self.old.lists self.old.numbering.keys (tuple.now ∷ [])) }
+        ensures made { IfOk result (IsMadeBy self.new.numbering.keys
+            (λ keys. use_by keys tuple.now)) }
+        ensures holds { OnOk result (AllHold (tuple_at self.old.lists
+            (pos at.entity.0) at.item tuple.now)) }
+        ensures fault { IfErr result (IsFault (tuple_at self.old.lists
+            (pos at.entity.0) at.item tuple.now)) }
     {
         let made = self.tuple_use(at, tuple)?;
         if !curves_name_geometry(self.lists.file(), tuple) {
@@ -169,10 +190,14 @@ impl<'a> TupleWalk<'a> {
         requires stands { Stands self.old.lists self.old.lists self.old.numbering }
         ensures file { self.new.lists ≡ self.old.lists }
         ensures stands { OnOk result (Stands self.old.lists self.new.lists self.new.numbering) }
-        ensures keys { OnOk result (self.new.numbering.keys ≡ keys_after self.old.lists self.old.numbering.keys listed.now) }
-        ensures made { IfOk result (IsMadeBy self.new.numbering.keys (λ keys. map (use_by keys) listed.now)) }
-        ensures holds { OnOk result (AllHold (after_each (tuple_places self.old.lists (pos no.0)) [] listed.now)) }
-        ensures fault { IfErr result (IsFault (after_each (tuple_places self.old.lists (pos no.0)) [] listed.now)) }
+        ensures keys { OnOk result (self.new.numbering.keys
+            ≡ keys_after self.old.lists self.old.numbering.keys listed.now) }
+        ensures made { IfOk result (IsMadeBy self.new.numbering.keys
+            (λ keys. map (use_by keys) listed.now)) }
+        ensures holds { OnOk result (AllHold (after_each
+            (tuple_places self.old.lists (pos no.0)) [] listed.now)) }
+        ensures fault { IfErr result (IsFault (after_each
+            (tuple_places self.old.lists (pos no.0)) [] listed.now)) }
     {
         let mut uses = Uses::new(alloc);
         let mut item = 0;

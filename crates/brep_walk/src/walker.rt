@@ -48,7 +48,8 @@ impl<'a> Walker<'a> {
         ensures holds { OnOk result (AllHold (places self.old no.0)) }
         ensures fault { IfErr result (IsFault (places self.old no.0)) }
         ensures only { AllHold (places self.old no.0) → Gives result (Ok (solid_of self.old no.0)) }
-        ensures only_fault { (x : Named) → FirstFalse (places self.old no.0) x → Gives result (Err x) }
+        ensures only_fault { (x : Named) → FirstFalse (places self.old no.0) x
+            → Gives result (Err x) }
     {
         walk_solid(&mut self.walk, alloc, no)
     }

@@ -24,10 +24,12 @@ use std::alloc::Global;
 // The record of a solid.
 fn solid_record<'a>(lists: &Lists<'a>, no: EntryNo) -> Result<(EntryNo, SolidRecord<'a>), Failing>
     ensures holds { OnOk result (AllHold (record_places lists.now (pos no.0) 0 solid (pos no.0))) }
-    ensures named { IfOk result (λ r. (pos no.0 ≡ pos r.0.0) × (r.1 ≡ told solid lists.now (pos no.0))) }
+    ensures named { IfOk result (λ r. (pos no.0 ≡ pos r.0.0)
+        × (r.1 ≡ told solid lists.now (pos no.0))) }
     ensures few { IfOk result (λ r. length r.1.voids < 2 ^ 31) }
     ensures limits { FitsLimits lists.now }
-    ensures fails { IfErr result (FirstFalse (record_places lists.now (pos no.0) 0 solid (pos no.0))) }
+    ensures fails { IfErr result (FirstFalse
+        (record_places lists.now (pos no.0) 0 solid (pos no.0))) }
 {
     let place = Place {
         entity: no,
@@ -44,9 +46,14 @@ fn numbered_shells(
 ) -> Result<Shells, WalkFault>
     ensures file { walk.new.faces.loops.tuples.lists ≡ walk.old.faces.loops.tuples.lists }
     ensures holds { OnOk result (AllHold (places walk.old.faces.loops.tuples.lists no.0)) }
-    ensures shells { IfOk result (λ r. r ≡ map (shell_of walk.old.faces.loops.tuples.lists (pos no.0)) (shells walk.old.faces.loops.tuples.lists (pos no.0))) }
-    ensures keys { OnOk result (walk.new.faces.loops.tuples.numbering.keys ≡ keys_of walk.old.faces.loops.tuples.lists (pos no.0)) }
-    ensures edges { OnOk result (walk.new.faces.loops.tuples.numbering.edges ≡ flat_map (edge_of walk.old.faces.loops.tuples.lists (pos no.0)) (edge_keys walk.old.faces.loops.tuples.lists (pos no.0))) }
+    ensures shells { IfOk result (λ r. r ≡ map
+        (shell_of walk.old.faces.loops.tuples.lists (pos no.0))
+        (shells walk.old.faces.loops.tuples.lists (pos no.0))) }
+    ensures keys { OnOk result (walk.new.faces.loops.tuples.numbering.keys
+        ≡ keys_of walk.old.faces.loops.tuples.lists (pos no.0)) }
+    ensures edges { OnOk result (walk.new.faces.loops.tuples.numbering.edges
+        ≡ flat_map (edge_of walk.old.faces.loops.tuples.lists (pos no.0))
+        (edge_keys walk.old.faces.loops.tuples.lists (pos no.0))) }
     ensures fault { IfErr result (IsFault (places walk.old.faces.loops.tuples.lists no.0)) }
     ensures limits { FitsLimits walk.old.faces.loops.tuples.lists }
 {

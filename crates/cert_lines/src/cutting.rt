@@ -7,7 +7,8 @@ ghost use Rattle.iges_base.specs.InLine.{is_in_line};
 
 /// Where the first LF of a text stands.
 fn first_end(text: &[u8]) -> Option<usize>
-    ensures { MatchOption result ((k : ℕ) → k < length text.now → slice_index text.now k ≢ 10) (λ n. IsFirstEnd text.now n) }
+    ensures { MatchOption result ((k : ℕ) → k < length text.now → slice_index text.now k ≢ 10)
+        (λ n. IsFirstEnd text.now n) }
 {
     text.iter().position(|byte| *byte == b'\n')
 }
@@ -28,7 +29,9 @@ fn line_len(text: &[u8]) -> usize
 /// The first line of a text, with its LF, and what follows it: a text without LF is one line (own). None where no byte is
 /// left.
 pub fn first_line(text: &[u8]) -> Option<(&[u8], &[u8])>
-    ensures { MatchOption result (text.now ≡ []) (λ p. (cut_lines text.now ≡ p.0.now ∷ cut_lines p.1.now) × (length p.1.now < length text.now)) }
+    ensures { MatchOption result (text.now ≡ [])
+        (λ p. (cut_lines text.now ≡ p.0.now ∷ cut_lines p.1.now)
+        × (length p.1.now < length text.now)) }
 {
     if text.is_empty() {
         return None;
@@ -39,7 +42,8 @@ pub fn first_line(text: &[u8]) -> Option<(&[u8], &[u8])>
 
 /// The first line of a text that an LF ends, with its LF, and what follows it (own). None where there is no LF.
 pub fn first_ended(text: &[u8]) -> Option<(&[u8], &[u8])>
-    ensures { MatchOption result (IsTrue (is_in_line text.now)) (λ p. EndsFirst text.now p.0.now p.1.now) }
+    ensures { MatchOption result (IsTrue (is_in_line text.now))
+        (λ p. EndsFirst text.now p.0.now p.1.now) }
 {
     match first_end(text) {
         Some(end) => Some((&text[..end + 1], &text[end + 1..])),

@@ -11,7 +11,8 @@ fn leading_digits(text: &[u8]) -> (u32, usize)
     ensures few { result.1 ≤ 9 }
     ensures digits { AllDigits 10 (take result.1 text.now) }
     ensures value { result.0 ≡ digits_value 10 (take result.1 text.now) }
-    ensures ends { result.1 < 9 → result.1 < length text.now → ¬ IsInRange 48 57 (slice_index text.now result.1) }
+    ensures ends { result.1 < 9 → result.1 < length text.now
+        → ¬ IsInRange 48 57 (slice_index text.now result.1) }
 {
     let most = text.len().min(9);
     let mut value = 0;
@@ -47,7 +48,8 @@ fn is_plain(digits: &[u8]) -> bool
 /// The number at the start of a text, behind a space, and what follows it; None where none of one to nine digits stands
 /// there (own).
 pub fn next_number(text: &[u8]) -> Option<(u32, &[u8])>
-    ensures { MatchOption result ((n : ℕ) (rest : List ℕ) → ¬ Begins text.now n rest) (λ p. Begins text.now p.0 p.1.now) }
+    ensures { MatchOption result ((n : ℕ) (rest : List ℕ) → ¬ Begins text.now n rest)
+        (λ p. Begins text.now p.0 p.1.now) }
 {
     let Some((space, after)) = text.split_first() else {
         return None;
@@ -82,7 +84,8 @@ pub fn are_numbers(text: &[u8]) -> bool
 
 /// The number of a text that is one number of one to nine digits behind a space (own).
 pub fn one_number(text: &[u8]) -> Option<u32>
-    ensures { MatchOption result ((a : ℕ) → ¬ AreNumbers text.now (a ∷ [])) (λ a. AreNumbers text.now (a ∷ [])) }
+    ensures { MatchOption result ((a : ℕ) → ¬ AreNumbers text.now (a ∷ []))
+        (λ a. AreNumbers text.now (a ∷ [])) }
 {
     let Some((a, rest)) = next_number(text) else {
         return None;
@@ -92,7 +95,8 @@ pub fn one_number(text: &[u8]) -> Option<u32>
 
 /// The numbers of a text that is two numbers of one to nine digits, each behind a space (own).
 pub fn two_numbers(text: &[u8]) -> Option<(u32, u32)>
-    ensures { MatchOption result ((a b : ℕ) → ¬ AreNumbers text.now (a ∷ b ∷ [])) (λ p. AreNumbers text.now (p.0 ∷ p.1 ∷ [])) }
+    ensures { MatchOption result ((a b : ℕ) → ¬ AreNumbers text.now (a ∷ b ∷ []))
+        (λ p. AreNumbers text.now (p.0 ∷ p.1 ∷ [])) }
 {
     let Some((a, rest)) = next_number(text) else {
         return None;

@@ -26,7 +26,8 @@ pub(crate) fn number_of(version: Version) -> u64
 
 /// The version with this number.
 pub(crate) fn numbered(number: u32) -> Option<Version>
-    ensures { MatchOption result ((v : Edition) → version_number v ≢ number) (λ v. version_number v ≡ number) }
+    ensures { MatchOption result ((v : Edition) → version_number v ≢ number)
+        (λ v. version_number v ≡ number) }
 {
     match number {
         1 => Some(Version::One),

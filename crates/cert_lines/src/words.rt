@@ -53,7 +53,8 @@ pub struct TallyWords {
 
 /// What follows a letter at the start of a text.
 fn after_letter(text: &[u8], letter: u8) -> Option<&[u8]>
-    ensures { MatchOption result ((rest : List ℕ) → text.now ≢ letter ∷ rest) (λ rest. text.now ≡ letter ∷ rest.now) }
+    ensures { MatchOption result ((rest : List ℕ) → text.now ≢ letter ∷ rest)
+        (λ rest. text.now ≡ letter ∷ rest.now) }
 {
     match text.split_first() {
         Some((first, rest)) if *first == letter => Some(rest),
@@ -63,13 +64,15 @@ fn after_letter(text: &[u8], letter: u8) -> Option<&[u8]>
 
 /// What follows a word at the start of a text; None where the text doesn't begin with it (own).
 pub fn after_word<'a>(text: &'a [u8], word: &[u8]) -> Option<&'a [u8]>
-    ensures { MatchOption result ((rest : List ℕ) → text.now ≢ word.now ++ rest) (λ rest. text.now ≡ word.now ++ rest.now) }
+    ensures { MatchOption result ((rest : List ℕ) → text.now ≢ word.now ++ rest)
+        (λ rest. text.now ≡ word.now ++ rest.now) }
 {
     text.strip_prefix(word)
 }
 
 fn shell_numbers(text: &[u8]) -> Option<ShellWords>
-    ensures { MatchOption result ((a b c d e : ℕ) → ¬ AreNumbers text.now (a ∷ b ∷ c ∷ d ∷ e ∷ [])) (λ w. AreNumbers text.now (w.shell ∷ w.rows ∷ w.edges ∷ w.corners ∷ w.faces ∷ [])) }
+    ensures { MatchOption result ((a b c d e : ℕ) → ¬ AreNumbers text.now (a ∷ b ∷ c ∷ d ∷ e ∷ []))
+        (λ w. AreNumbers text.now (w.shell ∷ w.rows ∷ w.edges ∷ w.corners ∷ w.faces ∷ [])) }
 {
     let Some((shell, rest)) = next_number(text) else {
         return None;
@@ -93,7 +96,8 @@ fn shell_numbers(text: &[u8]) -> Option<ShellWords>
 }
 
 fn tally_numbers(text: &[u8]) -> Option<TallyWords>
-    ensures { MatchOption result ((a b c d : ℕ) → ¬ AreNumbers text.now (a ∷ b ∷ c ∷ d ∷ [])) (λ w. AreNumbers text.now (w.vertices ∷ w.edges ∷ w.faces ∷ w.loops ∷ [])) }
+    ensures { MatchOption result ((a b c d : ℕ) → ¬ AreNumbers text.now (a ∷ b ∷ c ∷ d ∷ []))
+        (λ w. AreNumbers text.now (w.vertices ∷ w.edges ∷ w.faces ∷ w.loops ∷ [])) }
 {
     let Some((vertices, rest)) = next_number(text) else {
         return None;
@@ -113,7 +117,8 @@ fn tally_numbers(text: &[u8]) -> Option<TallyWords>
 }
 
 fn head_words(text: &[u8]) -> Option<Version>
-    ensures { MatchOption result ((v : Edition) → ¬ Spells text.now (head v)) (λ v. Spells text.now (head v)) }
+    ensures { MatchOption result ((v : Edition) → ¬ Spells text.now (head v))
+        (λ v. Spells text.now (head v)) }
 {
     let Some(rest) = after_word(text, b"IGESCERT") else {
         return None;
@@ -125,7 +130,8 @@ fn head_words(text: &[u8]) -> Option<Version>
 }
 
 fn solid_words(text: &[u8]) -> Option<u32>
-    ensures { MatchOption result ((n : ℕ) → ¬ Spells text.now (solid n)) (λ n. Spells text.now (solid n)) }
+    ensures { MatchOption result ((n : ℕ) → ¬ Spells text.now (solid n))
+        (λ n. Spells text.now (solid n)) }
 {
     match after_word(text, b"SOLID") {
         Some(rest) => one_number(rest),
@@ -134,7 +140,8 @@ fn solid_words(text: &[u8]) -> Option<u32>
 }
 
 fn shell_words(text: &[u8]) -> Option<ShellWords>
-    ensures { MatchOption result ((k : ℕ) (c : ShellCounts) → ¬ Spells text.now (shell k c)) (λ w. Spells text.now (shell w.shell (counts_said w))) }
+    ensures { MatchOption result ((k : ℕ) (c : ShellCounts) → ¬ Spells text.now (shell k c))
+        (λ w. Spells text.now (shell w.shell (counts_said w))) }
 {
     match after_word(text, b"SHELL") {
         Some(rest) => shell_numbers(rest),
@@ -143,7 +150,8 @@ fn shell_words(text: &[u8]) -> Option<ShellWords>
 }
 
 fn edge_words(text: &[u8]) -> Option<(u32, u32)>
-    ensures { MatchOption result ((a b : ℕ) → ¬ Spells text.now (edge a b)) (λ p. Spells text.now (edge p.0 p.1)) }
+    ensures { MatchOption result ((a b : ℕ) → ¬ Spells text.now (edge a b))
+        (λ p. Spells text.now (edge p.0 p.1)) }
 {
     match after_letter(text, b'E') {
         Some(rest) => two_numbers(rest),
@@ -152,7 +160,8 @@ fn edge_words(text: &[u8]) -> Option<(u32, u32)>
 }
 
 fn point_words(text: &[u8]) -> Option<(u32, u32)>
-    ensures { MatchOption result ((a b : ℕ) → ¬ Spells text.now (point a b)) (λ p. Spells text.now (point p.0 p.1)) }
+    ensures { MatchOption result ((a b : ℕ) → ¬ Spells text.now (point a b))
+        (λ p. Spells text.now (point p.0 p.1)) }
 {
     match after_letter(text, b'I') {
         Some(rest) => two_numbers(rest),
@@ -161,7 +170,8 @@ fn point_words(text: &[u8]) -> Option<(u32, u32)>
 }
 
 fn reach_words(text: &[u8]) -> Option<u32>
-    ensures { MatchOption result ((a : ℕ) → ¬ Spells text.now (reach a)) (λ a. Spells text.now (reach a)) }
+    ensures { MatchOption result ((a : ℕ) → ¬ Spells text.now (reach a))
+        (λ a. Spells text.now (reach a)) }
 {
     match after_letter(text, b'R') {
         Some(rest) => one_number(rest),
@@ -170,7 +180,8 @@ fn reach_words(text: &[u8]) -> Option<u32>
 }
 
 fn tally_words(text: &[u8]) -> Option<TallyWords>
-    ensures { MatchOption result ((t : Tally) → ¬ Spells text.now (tally t)) (λ w. Spells text.now (tally (tally_said w))) }
+    ensures { MatchOption result ((t : Tally) → ¬ Spells text.now (tally t))
+        (λ w. Spells text.now (tally (tally_said w))) }
 {
     match after_word(text, b"TALLY") {
         Some(rest) => tally_numbers(rest),
@@ -179,7 +190,8 @@ fn tally_words(text: &[u8]) -> Option<TallyWords>
 }
 
 fn corner_words(text: &[u8]) -> Option<&[u8]>
-    ensures { MatchOption result ((rs : List ℕ) → ¬ Spells text.now (corner rs)) (λ rest. (rs : List ℕ) × (rest.now ≡ spaced rs) × Spells text.now (corner rs)) }
+    ensures { MatchOption result ((rs : List ℕ) → ¬ Spells text.now (corner rs))
+        (λ rest. (rs : List ℕ) × (rest.now ≡ spaced rs) × Spells text.now (corner rs)) }
 {
     let Some(rest) = after_letter(text, b'C') else {
         return None;
@@ -199,7 +211,8 @@ fn is_word(text: &[u8], word: &[u8]) -> bool
 
 /// The line that a text without its LF spells.
 fn read_words(text: &[u8]) -> Option<Words<'_>>
-    ensures { MatchOption result ((line : CertLine) → ¬ Spells text.now line) (λ w. (line : CertLine) × Means w line × Spells text.now line) }
+    ensures { MatchOption result ((line : CertLine) → ¬ Spells text.now line)
+        (λ w. (line : CertLine) × Means w line × Spells text.now line) }
 {
     // Nearly every line is one of these.
     if let Some(words) = read_row_words(text) {
@@ -223,7 +236,8 @@ fn read_words(text: &[u8]) -> Option<Words<'_>>
 
 /// The line of a shell behind its SHELL line that a text without its LF spells.
 fn read_row_words(text: &[u8]) -> Option<Words<'_>>
-    ensures { MatchOption result ((line : CertLine) → IsRowLine line → ¬ Spells text.now line) (λ w. (line : CertLine) × Means w line × Spells text.now line) }
+    ensures { MatchOption result ((line : CertLine) → IsRowLine line → ¬ Spells text.now line)
+        (λ w. (line : CertLine) × Means w line × Spells text.now line) }
 {
     if let Some((along, against)) = edge_words(text) {
         return Some(Words::Edge(along, against));
@@ -245,7 +259,8 @@ fn read_row_words(text: &[u8]) -> Option<Words<'_>>
 
 /// The line that bytes spell with their LF.
 fn read_line(line: &[u8]) -> Option<Words<'_>>
-    ensures { MatchOption result ((l : CertLine) → ¬ IsSpelled line.now l) (λ w. (l : CertLine) × Means w l × IsSpelled line.now l) }
+    ensures { MatchOption result ((l : CertLine) → ¬ IsSpelled line.now l)
+        (λ w. (l : CertLine) × Means w l × IsSpelled line.now l) }
 {
     let Some((last, text)) = line.split_last() else {
         return None;

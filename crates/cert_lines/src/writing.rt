@@ -46,7 +46,8 @@ pub fn put_rows(out: &mut Out, rows: &[RowId]) -> Result<(), NoMemory>
 
 /// Appends a line: its word, its numbers, each behind a space, and LF (own).
 pub fn put_line(out: &mut Out, word: &[u8], numbers: &[u64]) -> Result<(), NoMemory>
-    ensures { IfOk result (λ _. out.new ≡ out.old ++ ((word.now ++ spaced numbers.now) ++ 10 ∷ [])) }
+    ensures { IfOk result (λ _. out.new ≡ out.old
+        ++ ((word.now ++ spaced numbers.now) ++ 10 ∷ [])) }
 {
     out.put(word)?;
     put_numbers(out, numbers)?;
@@ -54,7 +55,8 @@ pub fn put_line(out: &mut Out, word: &[u8], numbers: &[u64]) -> Result<(), NoMem
 }
 
 fn put_edges(out: &mut Out, edges: &[(RowId, RowId)]) -> Result<(), NoMemory>
-    ensures { IfOk result (λ _. out.new ≡ out.old ++ flat_map (λ p. spelling (edge_line p)) edges.now) }
+    ensures { IfOk result (λ _. out.new ≡ out.old
+        ++ flat_map (λ p. spelling (edge_line p)) edges.now) }
 {
     'edges: for i in 0..edges.len() {
         let (along, against) = edges[i];
@@ -77,7 +79,8 @@ fn put_corner(out: &mut Out, corner: &CornerLine) -> Result<(), NoMemory>
 }
 
 fn put_corners(out: &mut Out, corners: &[CornerLine]) -> Result<(), NoMemory>
-    ensures { IfOk result (λ _. out.new ≡ out.old ++ flat_map (λ l. spelling (corner_line l)) corners.now) }
+    ensures { IfOk result (λ _. out.new ≡ out.old
+        ++ flat_map (λ l. spelling (corner_line l)) corners.now) }
 {
     'corners: for i in 0..corners.len() {
         put_corner(out, &corners[i])?;
@@ -86,7 +89,8 @@ fn put_corners(out: &mut Out, corners: &[CornerLine]) -> Result<(), NoMemory>
 }
 
 fn put_reach(out: &mut Out, rows: &[RowId]) -> Result<(), NoMemory>
-    ensures { IfOk result (λ _. out.new ≡ out.old ++ flat_map (λ r. spelling (reach_line r)) rows.now) }
+    ensures { IfOk result (λ _. out.new ≡ out.old
+        ++ flat_map (λ r. spelling (reach_line r)) rows.now) }
 {
     'rows: for i in 0..rows.len() {
         put_line(out, b"R", &[from_one(rows[i].0)])?;
@@ -117,7 +121,8 @@ pub fn put_tally_line(
     faces: u64,
     loops: u64,
 ) -> Result<(), NoMemory>
-    ensures { IfOk result (λ _. out.new ≡ out.old ++ spelling (tally (tally_of vertices edges faces loops))) }
+    ensures { IfOk result (λ _. out.new ≡ out.old
+        ++ spelling (tally (tally_of vertices edges faces loops))) }
 {
     put_line(out, b"TALLY", &[vertices, edges, faces, loops])
 }
@@ -152,7 +157,8 @@ fn put_tally(out: &mut Out, version: Version, part: &ShellPart) -> Result<(), No
 }
 
 fn put_shell(out: &mut Out, version: Version, number: u64, part: &ShellPart) -> Result<(), NoMemory>
-    ensures { IfOk result (λ _. out.new ≡ out.old ++ text_of (shell_lines version (number, part.now))) }
+    ensures { IfOk result (λ _. out.new ≡ out.old
+        ++ text_of (shell_lines version (number, part.now))) }
 {
     put_shell_line(out, number, part)?;
     put_edges(out, part.edges.as_slice())?;
@@ -163,7 +169,8 @@ fn put_shell(out: &mut Out, version: Version, number: u64, part: &ShellPart) -> 
 }
 
 fn put_shells(out: &mut Out, version: Version, parts: &[ShellPart]) -> Result<(), NoMemory>
-    ensures { IfOk result (λ _. out.new ≡ out.old ++ flat_map (λ h. text_of (shell_lines version h)) (enumerate_from 1 parts.now)) }
+    ensures { IfOk result (λ _. out.new ≡ out.old
+        ++ flat_map (λ h. text_of (shell_lines version h)) (enumerate_from 1 parts.now)) }
 {
     'shells: for i in 0..parts.len() {
         put_shell(out, version, i as u64 + 1, &parts[i])?;
@@ -187,7 +194,8 @@ fn put_solid(out: &mut Out, c: &Certificate) -> Result<(), NoMemory>
 }
 
 fn put_solids(out: &mut Out, parts: &[Certificate]) -> Result<(), NoMemory>
-    ensures { IfOk result (λ _. out.new ≡ out.old ++ flat_map (λ c. text_of (solid_lines c)) parts.now) }
+    ensures { IfOk result (λ _. out.new ≡ out.old
+        ++ flat_map (λ c. text_of (solid_lines c)) parts.now) }
 {
     'parts: for i in 0..parts.len() {
         put_solid(out, &parts[i])?;
@@ -200,7 +208,8 @@ fn put_solids(out: &mut Out, parts: &[Certificate]) -> Result<(), NoMemory>
 /// most nine digits and no cycle is empty, each line is spelled.
 pub fn write_certificate(alloc: Global, c: &Certificate) -> Result<Bytes, NoMemory>
     ensures text { IfOk result (λ text. text ≡ text_of (certificate_lines c.now)) }
-    ensures lines { AllByRecursion HasSpelling (certificate_lines c.now) → IfOk result (λ text. cut_lines text ≡ map spelling (certificate_lines c.now)) }
+    ensures lines { AllByRecursion HasSpelling (certificate_lines c.now)
+        → IfOk result (λ text. cut_lines text ≡ map spelling (certificate_lines c.now)) }
 {
     let mut out = Out::new(alloc);
     put_head(&mut out, c.version)?;
@@ -213,7 +222,8 @@ pub fn write_certificate(alloc: Global, c: &Certificate) -> Result<Bytes, NoMemo
 /// number has at most nine digits and no cycle is empty, each line is spelled.
 pub fn write_book(alloc: Global, parts: &Certificates) -> Result<Bytes, NoMemory>
     ensures text { IfOk result (λ text. text ≡ text_of (book_lines parts.now)) }
-    ensures lines { AllByRecursion HasSpelling (book_lines parts.now) → IfOk result (λ text. cut_lines text ≡ map spelling (book_lines parts.now)) }
+    ensures lines { AllByRecursion HasSpelling (book_lines parts.now)
+        → IfOk result (λ text. cut_lines text ≡ map spelling (book_lines parts.now)) }
 {
     let mut out = Out::new(alloc);
     put_head(&mut out, Version::Three)?;

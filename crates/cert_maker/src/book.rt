@@ -114,7 +114,8 @@ fn is_solid(file: &File, i: usize) -> bool
 pub fn certify_all(alloc: Global, file: &File) -> Result<Certificates, BookFault>
     ensures parts { IfOk result (AllZip (IsCertificateOf file.now) (solids_of file.now)) }
     ensures some { IfOk result (λ parts. 0 < length parts) }
-    ensures book { IfOk result (λ parts. IsAccepted file.now (text_of (book_lines parts)) EditionThree (solids_of file.now)) }
+    ensures book { IfOk result (λ parts. IsAccepted file.now
+        (text_of (book_lines parts)) EditionThree (solids_of file.now)) }
     ensures made { OnOk result (AllMade file.now 0 (solids_of file.now)) }
     ensures fault { IfErr result (IsBookFault file.now) }
 {

@@ -54,12 +54,16 @@ fn shell_parts(alloc: Global, solid: &Solid) -> Result<ShellParts, MakeFault>
 /// made of it. (own)
 pub fn certify(alloc: Global, solid: &Solid) -> Result<Certificate, MakeFault>
     ensures certificate { IfOk result (IsCertificate solid.now) }
-    ensures text { IfOk result (λ c. (f : Contents) (n : ℕ) → solid.now ≡ solid_of f n → IsCertificateText f n (text_of (certificate_lines c))) }
-    ensures accepted { IfOk result (λ c. (f : Contents) (n : ℕ) → AllHold (places f n) → solid.now ≡ solid_of f n → IsAccepted f (text_of (certificate_lines c)) EditionTwo (n ∷ [])) }
+    ensures text { IfOk result (λ c. (f : Contents) (n : ℕ) → solid.now ≡ solid_of f n
+        → IsCertificateText f n (text_of (certificate_lines c))) }
+    ensures accepted { IfOk result (λ c. (f : Contents) (n : ℕ) → AllHold (places f n)
+        → solid.now ≡ solid_of f n → IsAccepted f (text_of (certificate_lines c)) EditionTwo (n
+        ∷ [])) }
     ensures holds { OnOk result (AllHold (solid_obligations solid.now)) }
     ensures fault { IfErr result (IsCheckFault (solid_obligations solid.now)) }
     ensures only { AllHold (solid_obligations solid.now) → IfErr result IsNoMemory }
-    ensures only_fault { (x : Named) → FirstFalse (solid_obligations solid.now) x → FailsSo x result }
+    ensures only_fault { (x : Named) → FirstFalse (solid_obligations solid.now) x
+        → FailsSo x result }
 {
     let shells = shell_parts(alloc, solid)?;
     Ok(Certificate {

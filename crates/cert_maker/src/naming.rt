@@ -11,7 +11,8 @@ use solid_data::{EdgeId, EdgeKey, FaceAt, Failing, Rule, Shell, Solid};
 
 /// PAIR names the edge list, and the index of the edge in it, from 1.
 pub(crate) fn unpaired(solid: &Solid, edge: EdgeId) -> Failing
-    ensures { let key = edge_name (slice_get solid.now.edges edge.0) in result ≡ failing Rule.Unpaired key.list.0 key.index }
+    ensures { let key = edge_name (slice_get solid.now.edges edge.0) in result
+        ≡ failing Rule.Unpaired key.list.0 key.index }
 {
     let key = match solid.edge(edge) {
         Some(edge) => edge.key,
@@ -30,7 +31,8 @@ pub(crate) fn unpaired(solid: &Solid, edge: EdgeId) -> Failing
 /// REACH names the face itself.
 pub(crate) fn unreached(shell: &Shell, at: FaceAt) -> Failing
     requires { (f : AnyFace) × (slice_get shell.now.faces at.0 ≡ Some f) }
-    ensures { (f : AnyFace) → slice_get shell.now.faces at.0 ≡ Some f → result ≡ failing Rule.Unreached f.entity.0 0 }
+    ensures { (f : AnyFace) → slice_get shell.now.faces at.0 ≡ Some f
+        → result ≡ failing Rule.Unreached f.entity.0 0 }
 {
     let face = shell.faces.get(at.0 as usize).unwrap();
     Failing {

@@ -29,7 +29,8 @@ fn note(along: &mut Vec<u32>, span: Span, row: Row, i: usize)
     requires few { i < 2 ^ 32 }
     requires len { vec_len along.old ≡ span.count }
     ensures len { vec_len along.new ≡ span.count }
-    ensures along { row.along ≡ true → along.new.items ≡ slice_set along.old.items (row.edge.0 - span.least) i }
+    ensures along { row.along ≡ true → along.new.items
+        ≡ slice_set along.old.items (row.edge.0 - span.least) i }
     ensures against { row.along ≡ false → along.new.items ≡ along.old.items }
 {
     if row.along {
@@ -41,7 +42,8 @@ fn note(along: &mut Vec<u32>, span: Span, row: Row, i: usize)
 fn rows_along(alloc: Global, rows: &Rows, span: Span) -> Result<Vec<u32>, NoMemory>
     requires { AllByRecursion (λ (r : AnyRow). IsWithin span r.edge.0) rows.now.rows }
     ensures len { IfOk result (λ along. vec_len along ≡ span.count) }
-    ensures along { IfOk result (λ along. RunAlong rows.now span (length rows.now.rows) along.items) }
+    ensures along { IfOk result (λ along. RunAlong rows.now span
+        (length rows.now.rows) along.items) }
 {
     let mut along = vec![in alloc; 0u32; span.count]?;
     'rows: for i in 0..rows.len() {

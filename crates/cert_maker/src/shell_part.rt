@@ -74,7 +74,8 @@ pub(crate) fn shell_part(
 ) -> Result<(ShellPart, VerticesBefore), MakeFault>
     requires at { slice_get solid.now.shells at.0 ≡ Some shell.now }
     requires before { AreBelow solid.now at.0 before }
-    ensures part { IfOk result (λ p. IsPart (shell_rows solid.now shell.now) (loops_of (Some shell.now)) p.0) }
+    ensures part { IfOk result (λ p. IsPart (shell_rows solid.now shell.now)
+        (loops_of (Some shell.now)) p.0) }
     ensures before { IfOk result (λ p. AreBelow solid.now (at.0 + 1) p.1) }
     ensures holds { OnOk result (AllHold (shell_obligations solid.now (at.0, shell.now))) }
     ensures fails { IfErr result (IsCheckFault (shell_obligations solid.now (at.0, shell.now))) }

@@ -94,9 +94,11 @@ fn read_part<C: Source>(
     requires room { length piece.old ≡ PIECE }
     requires place { IsPlace piece.old begun }
     requires part { IsInPart checker.old }
-    ensures found { IfOk result (IsPartEnd (C.left cert.old) (C.left cert.new) begun.came (held piece.old begun) piece.new checker.old checker.new) }
+    ensures found { IfOk result (IsPartEnd (C.left cert.old) (C.left cert.new) begun.came
+        (held piece.old begun) piece.new checker.old checker.new) }
     ensures count { CountAfterCall (C.faults cert.old) (C.faults cert.new) result }
-    ensures taken { TakesWithin (CERT_LIMIT - begun.came) (C.left cert.old) (C.left cert.new) result }
+    ensures taken { TakesWithin (CERT_LIMIT - begun.came) (C.left cert.old)
+        (C.left cert.new) result }
     ensures more { IfOk result (λ end. EndsInside end → C.can_read cert.new) }
 {
     let mut from = begun.from;
@@ -137,10 +139,13 @@ fn judge_part<C: Source>(
     requires room { length piece.old ≡ PIECE }
     requires place { IsPlace piece.old begun }
     ensures file { walker.new ≡ walker.old }
-    ensures found { (ns : List ℕ) (before : Option (List ℕ)) → HasBegun walker.old ns before (C.left cert.old) piece.old begun → IfOk result (IsPartJudged walker.old ns begun.no.0 before (C.left cert.new) piece.new) }
+    ensures found { (ns : List ℕ) (before : Option (List ℕ))
+        → HasBegun walker.old ns before (C.left cert.old) piece.old begun
+        → IfOk result (IsPartJudged walker.old ns begun.no.0 before (C.left cert.new) piece.new) }
     ensures leaves { IfOk result (Leaves (C.left cert.old) (C.left cert.new) piece.new begun) }
     ensures count { CountAfterCall (C.faults cert.old) (C.faults cert.new) result }
-    ensures taken { TakesWithin (CERT_LIMIT - begun.came) (C.left cert.old) (C.left cert.new) result }
+    ensures taken { TakesWithin (CERT_LIMIT - begun.came) (C.left cert.old)
+        (C.left cert.new) result }
     ensures more { IfOk result (λ judged. HasNext judged → C.can_read cert.new) }
 {
     let solid = match part_solid(alloc, walker, begun.no)? {
@@ -173,10 +178,13 @@ pub fn book_reply<C: Source>(
     requires ready { C.can_read cert.old }
     requires room { length piece.old ≡ PIECE }
     requires place { IsPlace piece.old begun }
-    ensures found { (before : Option (List ℕ)) → HasBegun file [] before (C.left cert.old) piece.old begun → IfOk result (IsReply (λ certificate. OfVerify certificate file) before) }
+    ensures found { (before : Option (List ℕ))
+        → HasBegun file [] before (C.left cert.old) piece.old begun
+        → IfOk result (IsReply (λ certificate. OfVerify certificate file) before) }
     ensures whole { IfOk result (λ reply. ReadsCertificate (C.left cert.new) reply.answer) }
     ensures count { CountAfterCall (C.faults cert.old) (C.faults cert.new) result }
-    ensures taken { TakesWithin (CERT_LIMIT - begun.came) (C.left cert.old) (C.left cert.new) result }
+    ensures taken { TakesWithin (CERT_LIMIT - begun.came) (C.left cert.old)
+        (C.left cert.new) result }
 {
     let mut walker = Walker::new(alloc, &file);
     let mut out = Out::new(alloc);

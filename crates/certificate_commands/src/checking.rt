@@ -17,7 +17,8 @@ use std::alloc::Global;
 /// The solid that a certificate of one solid names, where all that its lines don't show holds of it; else the reply.
 /// The file's room is given back.
 pub fn named_solid(alloc: Global, file: File, no: EntryNo) -> Result<Result<Solid, Reply>, NoMemory>
-    ensures { IfOk result (λ r. MatchResult r (IsChecked file no.0) (TellsFalse fail_line file no.0)) }
+    ensures { IfOk result (λ r. MatchResult r (IsChecked file no.0)
+        (TellsFalse fail_line file no.0)) }
 {
     match checked_solid(alloc, file, no) {
         Ok(solid) => Ok(Ok(solid)),
@@ -50,7 +51,8 @@ pub fn part_solid(
     no: EntryNo,
 ) -> Result<Result<Solid, Reply>, NoMemory>
     ensures file { walker.new ≡ walker.old }
-    ensures found { IfOk result (λ r. MatchResult r (IsChecked walker.old no.0) (TellsFalse (solid_fail_text no.0) walker.old no.0)) }
+    ensures found { IfOk result (λ r. MatchResult r (IsChecked walker.old no.0)
+        (TellsFalse (solid_fail_text no.0) walker.old no.0)) }
 {
     match walked_solid(alloc, walker, no) {
         Ok(solid) => Ok(Ok(solid)),

@@ -40,7 +40,10 @@ fn judge_held(
 ) -> Result<HeldPart, NoMemory>
     requires { line + length rest.now ≤ CERT_LIMIT + 3 }
     ensures file { walker.new ≡ walker.old }
-    ensures found { (certificate : List ℕ) (ns : List ℕ) (front : List ℕ) → certificate ≡ front ++ rest.now → length certificate ≤ CERT_LIMIT → BeginsPart walker.old ns front no.0 line → IfOk result (IsHeldPart walker.old certificate ns no.0 rest.now) }
+    ensures found { (certificate : List ℕ) (ns : List ℕ) (front : List ℕ)
+        → certificate ≡ front ++ rest.now → length certificate ≤ CERT_LIMIT
+        → BeginsPart walker.old ns front no.0 line
+        → IfOk result (IsHeldPart walker.old certificate ns no.0 rest.now) }
     ensures further { IfOk result (StepsIn line rest.now) }
 {
     let solid = match part_solid(alloc, walker, no)? {

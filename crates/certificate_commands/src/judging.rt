@@ -36,7 +36,8 @@ pub enum Judging<'a> {
 impl<'a> Judging<'a> {
     // Takes the next bytes.
     fn feed(&mut self, piece: &[u8])
-        ensures { (f : Contents) (text : List ℕ) → IsJudged f text self.old → IsJudged f (text ++ piece.now) self.new }
+        ensures { (f : Contents) (text : List ℕ) → IsJudged f text self.old
+            → IsJudged f (text ++ piece.now) self.new }
     {
         if let Judging::Lines(checker, _) = self {
             // A fault is kept, and told at the end: the certificate may still be too large.
@@ -46,7 +47,8 @@ impl<'a> Judging<'a> {
 
     // The reply, at the end of the certificate.
     fn reply(self, alloc: Global) -> Result<Reply, NoMemory>
-        ensures { IfOk result (λ reply. (f : Contents) (text : List ℕ) → IsJudged f text self.entry → length text ≤ CERT_LIMIT → OfVerify text f reply.answer reply.text) }
+        ensures { IfOk result (λ reply. (f : Contents) (text : List ℕ) → IsJudged f text self.entry
+            → length text ≤ CERT_LIMIT → OfVerify text f reply.answer reply.text) }
     {
         match self {
             Judging::Decided(reply) => Ok(reply),
@@ -68,7 +70,9 @@ fn read_rest<C: Source>(
     requires ready { C.can_read cert.old }
     requires room { length piece.old ≡ PIECE }
     requires few { came ≤ CERT_LIMIT }
-    ensures found { IfOk result (λ within. MatchBool within (IsRestJudged (C.left cert.old) (C.left cert.new) came judging.old judging.new) (HasTooMany (C.left cert.old) (C.left cert.new) came)) }
+    ensures found { IfOk result (λ within. MatchBool within
+        (IsRestJudged (C.left cert.old) (C.left cert.new) came judging.old judging.new)
+        (HasTooMany (C.left cert.old) (C.left cert.new) came)) }
     ensures count { CountAfterCall (C.faults cert.old) (C.faults cert.new) result }
     ensures taken { TakesWithin (CERT_LIMIT - came) (C.left cert.old) (C.left cert.new) result }
 {
@@ -98,7 +102,10 @@ pub fn rest_reply<C: Source>(
     requires ready { C.can_read cert.old }
     requires room { length piece.old ≡ PIECE }
     requires few { came ≤ CERT_LIMIT }
-    ensures found { (f : Contents) (before : Option (List ℕ)) (text : List ℕ) → Consumes before (C.left cert.old) text → length text ≡ came → IsJudged f text judging.entry → IfOk result (IsReply (λ certificate. OfVerify certificate f) before) }
+    ensures found { (f : Contents) (before : Option (List ℕ)) (text : List ℕ)
+        → Consumes before (C.left cert.old) text → length text ≡ came
+        → IsJudged f text judging.entry → IfOk result (IsReply
+        (λ certificate. OfVerify certificate f) before) }
     ensures whole { IfOk result (λ reply. ReadsCertificate (C.left cert.new) reply.answer) }
     ensures count { CountAfterCall (C.faults cert.old) (C.faults cert.new) result }
     ensures taken { TakesWithin (CERT_LIMIT - came) (C.left cert.old) (C.left cert.new) result }

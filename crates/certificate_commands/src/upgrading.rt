@@ -23,7 +23,8 @@ use topo_certificate::{CERT_LIMIT, Checker, UpgradeFault, Version, check, upgrad
 
 // The reply with the text of version 2.
 fn upgraded_reply(alloc: Global, solid: &Solid, certificate: &[u8]) -> Result<Reply, NoMemory>
-    ensures { IfOk result (λ reply. OfText (upgraded solid.now certificate.now) reply.answer reply.text) }
+    ensures { IfOk result
+        (λ reply. OfText (upgraded solid.now certificate.now) reply.answer reply.text) }
 {
     match upgrade(alloc, solid, certificate, CERT_LIMIT) {
         Ok(text) => Ok(Reply {
@@ -104,7 +105,8 @@ pub fn upgrade_certificate<C: Source>(
     cert: &mut C,
 ) -> Result<Reply, Stop>
     requires { C.can_read cert.old }
-    ensures found { IfOk result (IsReply (λ certificate. OfUpgrade certificate file) (C.left cert.old)) }
+    ensures found { IfOk result (IsReply (λ certificate. OfUpgrade certificate file)
+        (C.left cert.old)) }
     ensures whole { IfOk result (λ reply. ReadsCertificate (C.left cert.new) reply.answer) }
     ensures count { CountAfterCall (C.faults cert.old) (C.faults cert.new) result }
     ensures taken { TakesWithin CERT_LIMIT (C.left cert.old) (C.left cert.new) result }

@@ -28,10 +28,12 @@ fn verify_alone<C: Source>(
     requires ordered { opened.from ≤ opened.to }
     requires within { opened.to ≤ length piece.old }
     requires one { IsOfOne opened.version }
-    ensures found { (before : Option (List ℕ)) → HasOpened before (C.left cert.old) piece.old opened → IfOk result (IsReply (λ certificate. OfVerify certificate file) before) }
+    ensures found { (before : Option (List ℕ)) → HasOpened before (C.left cert.old) piece.old opened
+        → IfOk result (IsReply (λ certificate. OfVerify certificate file) before) }
     ensures whole { IfOk result (λ reply. ReadsCertificate (C.left cert.new) reply.answer) }
     ensures count { CountAfterCall (C.faults cert.old) (C.faults cert.new) result }
-    ensures taken { TakesWithin (CERT_LIMIT - opened.came) (C.left cert.old) (C.left cert.new) result }
+    ensures taken { TakesWithin (CERT_LIMIT - opened.came) (C.left cert.old)
+        (C.left cert.new) result }
 {
     let solid = match named_solid(alloc, file, opened.no)? {
         Ok(solid) => solid,
@@ -63,10 +65,12 @@ fn verify_opened<C: Source>(
     requires ordered { opened.from ≤ opened.to }
     requires within { opened.to ≤ length piece.old }
     requires holds { opened.to - opened.from ≤ opened.came }
-    ensures found { (before : Option (List ℕ)) → HasOpened before (C.left cert.old) piece.old opened → IfOk result (IsReply (λ certificate. OfVerify certificate file) before) }
+    ensures found { (before : Option (List ℕ)) → HasOpened before (C.left cert.old) piece.old opened
+        → IfOk result (IsReply (λ certificate. OfVerify certificate file) before) }
     ensures whole { IfOk result (λ reply. ReadsCertificate (C.left cert.new) reply.answer) }
     ensures count { CountAfterCall (C.faults cert.old) (C.faults cert.new) result }
-    ensures taken { TakesWithin (CERT_LIMIT - opened.came) (C.left cert.old) (C.left cert.new) result }
+    ensures taken { TakesWithin (CERT_LIMIT - opened.came) (C.left cert.old)
+        (C.left cert.new) result }
 {
     if is_of_one(opened.version) {
         return verify_alone(alloc, file, cert, piece, opened);
@@ -86,7 +90,8 @@ fn verify_opened<C: Source>(
 /// runs out.
 pub fn verify_certificate<C: Source>(alloc: Global, file: File, cert: &mut C) -> Result<Reply, Stop>
     requires { C.can_read cert.old }
-    ensures found { IfOk result (IsReply (λ certificate. OfVerify certificate file) (C.left cert.old)) }
+    ensures found { IfOk result (IsReply (λ certificate. OfVerify certificate file)
+        (C.left cert.old)) }
     ensures whole { IfOk result (λ reply. ReadsCertificate (C.left cert.new) reply.answer) }
     ensures count { CountAfterCall (C.faults cert.old) (C.faults cert.new) result }
     ensures taken { TakesWithin CERT_LIMIT (C.left cert.old) (C.left cert.new) result }

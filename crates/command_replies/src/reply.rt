@@ -49,7 +49,8 @@ pub fn too_large(alloc: Global) -> Reply
 
 /// The reply for a bad file (own). It errs only where memory runs out.
 pub fn bad_file(alloc: Global, fault: LineFault) -> Result<Reply, NoMemory>
-    ensures { IfOk result (λ reply. (reply.answer ≡ Answer.BadFile) × (reply.text ≡ bad_file_line fault)) }
+    ensures { IfOk result (λ reply. (reply.answer ≡ Answer.BadFile)
+        × (reply.text ≡ bad_file_line fault)) }
 {
     let mut out = Out::new(alloc);
     out.put(b"bad file line ")?;
@@ -83,7 +84,8 @@ pub fn failed_by(
     entity: EntryNo,
     place: u32,
 ) -> Result<Reply, NoMemory>
-    ensures { IfOk result (λ reply. (reply.answer ≡ Answer.No) × (reply.text ≡ fail_text name.now entity.0 place)) }
+    ensures { IfOk result (λ reply. (reply.answer ≡ Answer.No)
+        × (reply.text ≡ fail_text name.now entity.0 place)) }
 {
     let mut out = Out::new(alloc);
     put_failing(&mut out, name, entity, place)?;
@@ -102,7 +104,8 @@ pub fn failed(alloc: Global, failing: Failing) -> Result<Reply, NoMemory>
 
 /// The reply for a rule that fails of one among many solids (own). It errs only where memory runs out.
 pub fn solid_failed(alloc: Global, no: EntryNo, failing: Failing) -> Result<Reply, NoMemory>
-    ensures { IfOk result (λ reply. (reply.answer ≡ Answer.No) × (reply.text ≡ solid_fail_text no.0 failing)) }
+    ensures { IfOk result (λ reply. (reply.answer ≡ Answer.No)
+        × (reply.text ≡ solid_fail_text no.0 failing)) }
 {
     let mut out = Out::new(alloc);
     out.put(b"solid ")?;
@@ -172,7 +175,8 @@ pub fn put_accepted(out: &mut Out, no: EntryNo) -> Result<(), NoMemory>
 
 /// The reply for a certificate that is accepted for one solid (own). It errs only where memory runs out.
 pub fn accepted(alloc: Global, no: EntryNo) -> Result<Reply, NoMemory>
-    ensures { IfOk result (λ reply. (reply.answer ≡ Answer.Done) × (reply.text ≡ accepted_line no.0)) }
+    ensures { IfOk result (λ reply. (reply.answer ≡ Answer.Done)
+        × (reply.text ≡ accepted_line no.0)) }
 {
     let mut out = Out::new(alloc);
     put_accepted(&mut out, no)?;

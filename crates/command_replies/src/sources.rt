@@ -33,11 +33,14 @@ pub fn bytes_in<S: Source>(
     limit: u64,
 ) -> Result<Result<Bytes, Reply>, Stop>
     requires { S.can_read source.old }
-    ensures found { IfOk result (λ r. MatchResult r (AreWithin limit (S.left source.old)) (IsReply (IsTooLarge limit) (S.left source.old))) }
-    ensures whole { IfOk result (λ r. MatchResult r (λ _. IsAtEnd (S.left source.new)) (λ reply. reply.answer ≡ Answer.TooLarge)) }
+    ensures found { IfOk result (λ r. MatchResult r (AreWithin limit (S.left source.old))
+        (IsReply (IsTooLarge limit) (S.left source.old))) }
+    ensures whole { IfOk result (λ r. MatchResult r (λ _. IsAtEnd (S.left source.new))
+        (λ reply. reply.answer ≡ Answer.TooLarge)) }
     ensures count { CountAfterCall (S.faults source.old) (S.faults source.new) result }
     ensures taken { TakesWithin limit (S.left source.old) (S.left source.new) result }
-    ensures within { IfOk result (λ r. OnOk r (TakesAtMost limit (S.left source.old) (S.left source.new))) }
+    ensures within { IfOk result (λ r. OnOk r
+        (TakesAtMost limit (S.left source.old) (S.left source.new))) }
 {
     match read_all(alloc, source, limit) {
         Ok(bytes) => Ok(Ok(bytes)),
@@ -50,11 +53,14 @@ pub fn bytes_in<S: Source>(
 // The lines of a source, which are judged while they come, or the reply where its bytes are too many.
 fn lines_in<S: Source>(alloc: Global, source: &mut S) -> Result<Result<LineFeed, Reply>, Stop>
     requires { S.can_read source.old }
-    ensures found { IfOk result (λ r. MatchResult r (IsFedTold (S.left source.old)) (IsReply (IsTooLarge FILE_LIMIT) (S.left source.old))) }
-    ensures whole { IfOk result (λ r. MatchResult r (λ _. IsAtEnd (S.left source.new)) (λ reply. reply.answer ≡ Answer.TooLarge)) }
+    ensures found { IfOk result (λ r. MatchResult r (IsFedTold (S.left source.old))
+        (IsReply (IsTooLarge FILE_LIMIT) (S.left source.old))) }
+    ensures whole { IfOk result (λ r. MatchResult r (λ _. IsAtEnd (S.left source.new))
+        (λ reply. reply.answer ≡ Answer.TooLarge)) }
     ensures count { CountAfterCall (S.faults source.old) (S.faults source.new) result }
     ensures taken { TakesWithin FILE_LIMIT (S.left source.old) (S.left source.new) result }
-    ensures within { IfOk result (λ r. OnOk r (TakesAtMost FILE_LIMIT (S.left source.old) (S.left source.new))) }
+    ensures within { IfOk result (λ r. OnOk r
+        (TakesAtMost FILE_LIMIT (S.left source.old) (S.left source.new))) }
 {
     let mut feed = LineFeed::new(alloc);
     let mut room = buffer(alloc)?;
@@ -87,8 +93,11 @@ fn read_fed(alloc: Global, feed: LineFeed) -> Result<File, ReadFileFault>
 
 // The file of the lines that came, or the reply where they are those of none.
 fn file_of(alloc: Global, feed: LineFeed) -> Result<Result<File, Reply>, NoMemory>
-    ensures found { (bytes : List ℕ) → IsFed feed bytes → length bytes ≤ FILE_LIMIT → IfOk result (λ r. MatchResult r (IsFile bytes) (λ reply. OfNoFile bytes reply.answer reply.text)) }
-    ensures bad { IfOk result (λ r. MatchResult r (λ _. Unit {0}) (λ reply. reply.answer ≡ Answer.BadFile)) }
+    ensures found { (bytes : List ℕ) → IsFed feed bytes → length bytes ≤ FILE_LIMIT
+        → IfOk result (λ r. MatchResult r (IsFile bytes)
+        (λ reply. OfNoFile bytes reply.answer reply.text)) }
+    ensures bad { IfOk result (λ r. MatchResult r (λ _. Unit {0})
+        (λ reply. reply.answer ≡ Answer.BadFile)) }
 {
     match read_fed(alloc, feed) {
         Ok(file) => Ok(Ok(file)),
@@ -101,11 +110,14 @@ fn file_of(alloc: Global, feed: LineFeed) -> Result<Result<File, Reply>, NoMemor
 /// errs where a read fails or memory runs out.
 pub fn file_in<F: Source>(alloc: Global, source: &mut F) -> Result<Result<File, Reply>, Stop>
     requires { F.can_read source.old }
-    ensures found { IfOk result (λ r. MatchResult r (IsFileTold (F.left source.old)) (IsReply OfNoFile (F.left source.old))) }
-    ensures whole { IfOk result (λ r. MatchResult r (λ _. IsAtEnd (F.left source.new)) (λ reply. ReadsWhole (F.left source.new) reply.answer)) }
+    ensures found { IfOk result (λ r. MatchResult r (IsFileTold (F.left source.old))
+        (IsReply OfNoFile (F.left source.old))) }
+    ensures whole { IfOk result (λ r. MatchResult r (λ _. IsAtEnd (F.left source.new))
+        (λ reply. ReadsWhole (F.left source.new) reply.answer)) }
     ensures count { CountAfterCall (F.faults source.old) (F.faults source.new) result }
     ensures taken { TakesWithin FILE_LIMIT (F.left source.old) (F.left source.new) result }
-    ensures within { IfOk result (λ r. OnOk r (TakesAtMost FILE_LIMIT (F.left source.old) (F.left source.new))) }
+    ensures within { IfOk result (λ r. OnOk r
+        (TakesAtMost FILE_LIMIT (F.left source.old) (F.left source.new))) }
 {
     match lines_in(alloc, source)? {
         Ok(feed) => Ok(file_of(alloc, feed)?),

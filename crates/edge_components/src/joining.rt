@@ -49,7 +49,8 @@ fn top_of(labels: &mut Vec<u32>, x: u32) -> u32
     ensures top { get_or labels.new.items result 0 ≡ result }
     ensures low { result ≤ x }
     ensures one_tree { AreInOneTree labels.new.items x result }
-    ensures joined { (pairs : List (ℕ × ℕ)) → AreLabels pairs (length labels.old.items) labels.old.items → AreJoined pairs x result }
+    ensures joined { (pairs : List (ℕ × ℕ)) → AreLabels pairs
+        (length labels.old.items) labels.old.items → AreJoined pairs x result }
 {
     let mut at = x;
     'ways: while label_of(labels, at) != at {

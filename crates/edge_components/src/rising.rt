@@ -6,7 +6,8 @@ ghost use Rattle.solid_data.specs.SolidData.{occurring};
 
 /// Puts numbers in rising order, each once.
 pub fn rise(numbers: &mut Vec<u32>)
-    ensures { (n : ℕ) → All (λ k. k < n) numbers.old.items → numbers.new.items ≡ occurring (numbers_from 0 n) numbers.old.items }
+    ensures { (n : ℕ) → All (λ k. k < n) numbers.old.items
+        → numbers.new.items ≡ occurring (numbers_from 0 n) numbers.old.items }
 {
     numbers.sort_unstable();
     numbers.dedup();

@@ -28,7 +28,8 @@ pub fn nothing_used(alloc: Global) -> Used
 }
 
 fn push_ends(edge: Option<&Edge>, vertices: &mut Vec<u32>) -> Result<(), NoMemory>
-    ensures { IfOk result (λ _. vertices.new.items ≡ vertices.old.items ++ ends_of (option_copied edge.entry)) }
+    ensures { IfOk result (λ _. vertices.new.items
+        ≡ vertices.old.items ++ ends_of (option_copied edge.entry)) }
 {
     if let Some(edge) = edge {
         vertices.push(edge.from.0)?;
@@ -44,7 +45,8 @@ fn push_used(
     vertices: &mut Vec<u32>,
 ) -> Result<(), NoMemory>
     ensures edges { IfOk result (λ _. edges.new.items ≡ edges.old.items ++ edge_used item) }
-    ensures vertices { IfOk result (λ _. vertices.new.items ≡ vertices.old.items ++ vertices_used solid.now item) }
+    ensures vertices { IfOk result (λ _. vertices.new.items
+        ≡ vertices.old.items ++ vertices_used solid.now item) }
 {
     match item {
         LoopUse::EdgeUse { edge, .. } => {
@@ -65,7 +67,8 @@ fn push_loop(
     vertices: &mut Vec<u32>,
 ) -> Result<(), NoMemory>
     ensures edges { IfOk result (λ _. edges.new.items ≡ edges.old.items ++ loop_edges walk.now) }
-    ensures vertices { IfOk result (λ _. vertices.new.items ≡ vertices.old.items ++ loop_vertices solid.now walk.now) }
+    ensures vertices { IfOk result (λ _. vertices.new.items
+        ≡ vertices.old.items ++ loop_vertices solid.now walk.now) }
 {
     let uses = walk.uses.as_slice();
     'uses: for i in 0..uses.len() {
@@ -88,7 +91,8 @@ pub fn add_face(solid: &Solid, face: &FaceUse, used: &mut Used) -> Result<(), No
 /// What one face uses, and nothing else.
 pub fn used_by(solid: &Solid, face: &FaceUse, used: &mut Used) -> Result<(), NoMemory>
     ensures edges { IfOk result (λ _. used.new.edges.items ≡ face_edges face.now) }
-    ensures vertices { IfOk result (λ _. used.new.vertices.items ≡ face_vertices solid.now face.now) }
+    ensures vertices { IfOk result (λ _. used.new.vertices.items
+        ≡ face_vertices solid.now face.now) }
 {
     used.edges.clear();
     used.vertices.clear();

@@ -69,7 +69,8 @@ fn above_shell(solid: &Solid, shell: &Shell, from: usize) -> usize
 
 fn above_shells(solid: &Solid, shell: ShellAt) -> usize
     requires { shell.0 ≤ length solid.now.shells }
-    ensures { result ≡ above_of (flat_map (shell_vertices solid.now) (take shell.0 solid.now.shells)) }
+    ensures { result ≡ above_of (flat_map (shell_vertices solid.now)
+        (take shell.0 solid.now.shells)) }
 {
     let mut above = 0;
     'shells: for k in 0..shell.0 {

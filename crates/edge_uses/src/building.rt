@@ -51,7 +51,8 @@ fn row_at(at: LoopAt, id: EdgeId, along: bool, edge: Option<&Edge>) -> Option<Ro
 }
 
 fn row_for(solid: &Solid, at: LoopAt, forwards: bool, item: LoopUse) -> Option<Row>
-    ensures { (l : AnyLoop) → result ≡ row_of solid.now (record { at = at; forwards = forwards; loop = l }) item }
+    ensures { (l : AnyLoop) → result ≡ row_of solid.now
+        (record { at = at; forwards = forwards; loop = l }) item }
 {
     match item {
         LoopUse::EdgeUse { edge, along } => {
@@ -77,7 +78,9 @@ fn push_rows(
     walk: &Loop,
     rows: &mut Vec<Row>,
 ) -> Result<(), NoMemory>
-    ensures { IfOk result (λ _. rows.new.items ≡ rows.old.items ++ loop_rows solid.now (record { at = at; forwards = forwards; loop = walk.now })) }
+    ensures { IfOk result (λ _. rows.new.items
+        ≡ rows.old.items
+        ++ loop_rows solid.now (record { at = at; forwards = forwards; loop = walk.now })) }
 {
     let uses = walk.uses.as_slice();
     'uses: for i in 0..uses.len() {
@@ -93,7 +96,8 @@ fn push_used(
     vertices: &mut Vec<u32>,
 ) -> Result<(), NoMemory>
     ensures edges { IfOk result (λ _. edges.new.items ≡ edges.old.items ++ edge_used item) }
-    ensures vertices { IfOk result (λ _. vertices.new.items ≡ vertices.old.items ++ vertices_used solid.now item) }
+    ensures vertices { IfOk result (λ _. vertices.new.items
+        ≡ vertices.old.items ++ vertices_used solid.now item) }
 {
     match item {
         LoopUse::EdgeUse { edge, .. } => {
@@ -108,7 +112,8 @@ fn push_used(
 }
 
 fn push_ends(edge: Option<&Edge>, vertices: &mut Vec<u32>) -> Result<(), NoMemory>
-    ensures { IfOk result (λ _. vertices.new.items ≡ vertices.old.items ++ ends_of (option_copied edge.entry)) }
+    ensures { IfOk result (λ _. vertices.new.items
+        ≡ vertices.old.items ++ ends_of (option_copied edge.entry)) }
 {
     if let Some(edge) = edge {
         vertices.push(edge.from.0)?;
@@ -123,8 +128,10 @@ fn push_all_used(
     edges: &mut Vec<u32>,
     vertices: &mut Vec<u32>,
 ) -> Result<(), NoMemory>
-    ensures edges { IfOk result (λ _. edges.new.items ≡ edges.old.items ++ flat_map edge_used walk.now.uses) }
-    ensures vertices { IfOk result (λ _. vertices.new.items ≡ vertices.old.items ++ flat_map (vertices_used solid.now) walk.now.uses) }
+    ensures edges { IfOk result (λ _. edges.new.items
+        ≡ edges.old.items ++ flat_map edge_used walk.now.uses) }
+    ensures vertices { IfOk result (λ _. vertices.new.items
+        ≡ vertices.old.items ++ flat_map (vertices_used solid.now) walk.now.uses) }
 {
     let uses = walk.uses.as_slice();
     'uses: for i in 0..uses.len() {
@@ -146,7 +153,8 @@ fn push_numbers(from: u32, count: u32, out: &mut Vec<u32>) -> Result<(), NoMemor
 fn push_forwards(base: u32, count: u32, out: &mut Vec<u32>) -> Result<(), NoMemory>
     requires some { 0 < count }
     requires few { base + count < 2 ^ 32 }
-    ensures { IfOk result (λ _. out.new.items ≡ out.old.items ++ next_of_each (numbers_from base count)) }
+    ensures { IfOk result (λ _. out.new.items
+        ≡ out.old.items ++ next_of_each (numbers_from base count)) }
 {
     push_numbers(base + 1, count - 1, out)?;
     out.push(base)?;
@@ -156,7 +164,8 @@ fn push_forwards(base: u32, count: u32, out: &mut Vec<u32>) -> Result<(), NoMemo
 fn push_backwards(base: u32, count: u32, out: &mut Vec<u32>) -> Result<(), NoMemory>
     requires some { 0 < count }
     requires few { base + count < 2 ^ 32 }
-    ensures { IfOk result (λ _. out.new.items ≡ out.old.items ++ previous_of_each (numbers_from base count)) }
+    ensures { IfOk result (λ _. out.new.items
+        ≡ out.old.items ++ previous_of_each (numbers_from base count)) }
 {
     out.push(base + (count - 1))?;
     push_numbers(base, count - 1, out)
@@ -177,7 +186,9 @@ fn push_ring(base: u32, count: u32, forwards: bool, out: &mut Vec<u32>) -> Resul
 }
 
 fn point_at(at: LoopAt, walk: &Loop, count: usize) -> Option<(LoopAt, u32)>
-    ensures { (f : Bool) (es : List ℕ) → length es ≡ count → option_to_list result ≡ point_of (record { at = at; forwards = f; loop = walk.now }) walk.now.uses es }
+    ensures { (f : Bool) (es : List ℕ) → length es ≡ count
+        → option_to_list result
+        ≡ point_of (record { at = at; forwards = f; loop = walk.now }) walk.now.uses es }
 {
     if count != 0 {
         return None;
@@ -205,8 +216,10 @@ impl Built {
         forwards: bool,
         walk: &Loop,
     ) -> Result<(), NoMemory>
-        requires { HasRoom self.old (record { at = at; forwards = forwards; loop = walk.now } ∷ []) }
-        ensures { IfOk result (λ _. Added solid.now self.old self.new (record { at = at; forwards = forwards; loop = walk.now } ∷ [])) }
+        requires { HasRoom self.old (record { at = at; forwards = forwards; loop = walk.now }
+            ∷ []) }
+        ensures { IfOk result (λ _. Added solid.now self.old self.new
+            (record { at = at; forwards = forwards; loop = walk.now } ∷ [])) }
     {
         let base = self.rows.len();
         push_rows(solid, at, forwards, walk, &mut self.rows)?;
@@ -225,7 +238,8 @@ impl Built {
     ) -> Result<(), NoMemory>
         requires few { IsFewFace face.now }
         requires room { HasRoom self.old (placed_in_face shell_flag (at.0, face.now)) }
-        ensures { IfOk result (λ _. Added solid.now self.old self.new (placed_in_face shell_flag (at.0, face.now))) }
+        ensures { IfOk result (λ _. Added solid.now self.old self.new
+            (placed_in_face shell_flag (at.0, face.now))) }
     {
         let forwards = same(face.flag, shell_flag);
         let loops = face.loops.as_slice();

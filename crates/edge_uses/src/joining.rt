@@ -59,7 +59,8 @@ fn next_place(i: usize, len: usize) -> usize
 
 fn ends_where_next_starts(solid: &Solid, uses: &[LoopUse], i: usize) -> bool
     requires { i < length uses.now }
-    ensures { IsTrue result ↔ (get_or (map (end_of solid.now) uses.now) i 0 ≡ get_or (next_of_each (map (start_of solid.now) uses.now)) i 0) }
+    ensures { IsTrue result ↔ (get_or (map (end_of solid.now) uses.now) i 0
+        ≡ get_or (next_of_each (map (start_of solid.now) uses.now)) i 0) }
 {
     let next = next_place(i, uses.len());
     ends_at(solid, uses[i]) == starts_at(solid, uses[next])
@@ -120,7 +121,8 @@ pub fn first_unjoined(solid: &Solid, shell: ShellAt) -> Option<Unjoined>
     requires { shell.0 < length solid.now.shells }
     ensures first { IfSome (slice_get solid.now.shells shell.0)
         (λ h. MatchOption result (AllHold (join_obligations solid.now h)) (λ u. IsFirstUnjoined solid.now h u.at u.place)) }
-    ensures meet { IfNone result (EndsMeet (rows_of solid.now (slice_get solid.now.shells shell.0))) }
+    ensures meet { IfNone result (EndsMeet (rows_of solid.now
+        (slice_get solid.now.shells shell.0))) }
 {
     let shell = solid.shell(shell).unwrap();
     open_in_shell(solid, shell)

@@ -11,6 +11,8 @@ ghost use Rattle.edge_uses.specs.ShellObligations.{solid_obligations};
 /// first false obligation. (own)
 pub fn shells_are_definite()
     ensures closed { (s : SolidData) → IsClosedSolid s ↔ AllHold (solid_obligations s) }
-    ensures one { (s : SolidData) (x y : Named) → FirstFalse (solid_obligations s) x → FirstFalse (solid_obligations s) y → x ≡ y }
-    ensures always { (s : SolidData) → AllHold (solid_obligations s) ⊎ ((x : Named) × FirstFalse (solid_obligations s) x) }
+    ensures one { (s : SolidData) (x y : Named) → FirstFalse (solid_obligations s) x
+        → FirstFalse (solid_obligations s) y → x ≡ y }
+    ensures always { (s : SolidData) → AllHold (solid_obligations s)
+        ⊎ ((x : Named) × FirstFalse (solid_obligations s) x) }
 {}

@@ -21,7 +21,8 @@ use std::alloc::Global;
 
 fn is_paired(tally: &Tally, e: u32) -> bool
     requires { IsWithin tally.now.span e }
-    ensures { IsTrue result ↔ ((seen_of tally.now.span tally.now.seen.items e).along ≡ 1) × ((seen_of tally.now.span tally.now.seen.items e).against ≡ 1) }
+    ensures { IsTrue result ↔ ((seen_of tally.now.span tally.now.seen.items e).along ≡ 1)
+        × ((seen_of tally.now.span tally.now.seen.items e).against ≡ 1) }
 {
     let seen = tally.of(e);
     seen.along == 1 && seen.against == 1
@@ -30,7 +31,8 @@ fn is_paired(tally: &Tally, e: u32) -> bool
 fn first_unpaired(rows: &Rows, tally: &Tally) -> Option<u32>
     requires tally { IsTally rows.now tally.now.span tally.now.seen.items }
     requires span { All (IsWithin tally.now.span) rows.now.edges }
-    ensures { MatchOption result (AllByRecursion (IsPaired rows.now) rows.now.edges) (λ e. FirstNot (IsPaired rows.now) rows.now.edges e) }
+    ensures { MatchOption result (AllByRecursion (IsPaired rows.now) rows.now.edges)
+        (λ e. FirstNot (IsPaired rows.now) rows.now.edges e) }
 {
     let edges = rows.edge_slice();
     'edges: for i in 0..edges.len() {
@@ -43,7 +45,8 @@ fn first_unpaired(rows: &Rows, tally: &Tally) -> Option<u32>
 
 fn mate_in(tally: &Tally, row: Row) -> u32
     requires { IsWithin tally.now.span row.edge.0 }
-    ensures { let seen = seen_of tally.now.span tally.now.seen.items row.edge.0 in result ≡ (if row.along then seen.against_row else seen.along_row) }
+    ensures { let seen = seen_of tally.now.span tally.now.seen.items row.edge.0 in result
+        ≡ (if row.along then seen.against_row else seen.along_row) }
 {
     let seen = tally.of(row.edge.0);
     if row.along {

@@ -138,7 +138,8 @@ impl Rows {
     /// The i-th loop without an edge, in file order, i from 0, and the vertex of its first use;
     /// None past the end (own).
     pub fn isolated(&self, i: usize) -> Option<(LoopAt, VertexId)>
-        ensures { option_map (λ (p : LoopPlace × AnyVertexId). (p.0, p.1.0)) result ≡ slice_get self.now.points i }
+        ensures { option_map (λ (p : LoopPlace × AnyVertexId). (p.0, p.1.0)) result
+            ≡ slice_get self.now.points i }
     {
         match self.points.get(i) {
             Some(point) => Some((point.0, VertexId(point.1))),

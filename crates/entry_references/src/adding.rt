@@ -13,7 +13,10 @@ use iges_params::File;
 fn add_number(set: &mut EntrySet, file: &File, number: i64) -> Result<(), NoMemory>
     requires size { set.old.size ≡ length file.now.entries }
     requires names { names_entry file.now number ≡ true }
-    ensures ok { OnOk result (set.new ≡ record set.old { numbers = with_number set.old.numbers (unsigned_abs number) }) }
+    ensures ok { OnOk result (set.new ≡ record set.old {
+      numbers = with_number set.old.numbers
+          (unsigned_abs number);
+    }) }
     ensures err { OnErr result (set.new ≡ set.old) }
 {
     match entry_no(file, number) {
@@ -27,7 +30,8 @@ fn add_number(set: &mut EntrySet, file: &File, number: i64) -> Result<(), NoMemo
 pub fn add_numbers(set: &mut EntrySet, file: &File, numbers: &ItemList<i64>) -> Result<(), NoMemory>
     requires size { set.old.size ≡ length file.now.entries }
     requires name { list_all (names_entry file.now) numbers.now ≡ true }
-    ensures ok { OnOk result (set.new ≡ record set.old { numbers = with_numbers set.old.numbers numbers.now }) }
+    ensures ok { OnOk result (set.new
+        ≡ record set.old { numbers = with_numbers set.old.numbers numbers.now }) }
     ensures err { OnErr result (HasFirstOf set.old numbers.now set.new) }
 {
     'numbers: for number in numbers.as_slice() {

@@ -52,7 +52,8 @@ fn push_tuple(
     tuple: &LoopTuple<'_>,
 ) -> Result<usize, NoMemory>
     requires { first + length (tuple_due tuple.now) < 2 ^ 64 }
-    ensures places { OnOk result (places.new ≡ places.old ++ places_due first (tuple_due tuple.now)) }
+    ensures places { OnOk result (places.new
+        ≡ places.old ++ places_due first (tuple_due tuple.now)) }
     ensures end { IfOk result (λ end. end ≡ first + length (tuple_due tuple.now)) }
 {
     let curves = tuple.curve_count();
@@ -69,7 +70,8 @@ pub fn push_tuples(
     listed: &LoopRecord<'_>,
 ) -> Result<usize, NoMemory>
     requires { first + length (flat_map tuple_due listed.now) < 2 ^ 64 }
-    ensures places { OnOk result (places.new ≡ places.old ++ places_due first (flat_map tuple_due listed.now)) }
+    ensures places { OnOk result (places.new
+        ≡ places.old ++ places_due first (flat_map tuple_due listed.now)) }
     ensures end { IfOk result (λ end. end ≡ first + length (flat_map tuple_due listed.now)) }
 {
     let mut at = first;

@@ -103,7 +103,8 @@ fn row_of(rows: &[Row], kind: i64) -> Option<Row>
 // The layouts of a type that the rows list.
 fn forms_of(rows: &[Row], kind: i64) -> Option<Forms>
     requires { (form : ℤ) → Shows form rows.now (listed form) }
-    ensures { (form : ℤ) → option_map (layout_in_form form) result ≡ option_map (λ row. row.1) (find (λ row. int_eq kind (pos row.0)) (listed form)) }
+    ensures { (form : ℤ) → option_map (layout_in_form form) result
+        ≡ option_map (λ row. row.1) (find (λ row. int_eq kind (pos row.0)) (listed form)) }
 {
     match row_of(rows, kind) {
         Some(row) => Some(row.1),

@@ -75,7 +75,8 @@ fn push_some(numbers: &mut ItemList<i64>, number: Option<i64>) -> Result<(), NoM
 
 // The pointers among the own values.
 fn own_pointers(alloc: Global, own: &Own, values: &Values) -> Result<ItemList<i64>, NoMemory>
-    ensures { IfOk result (λ numbers. numbers ≡ filter_map (λ k. number_of (value_at values.now k)) own.now.pointers) }
+    ensures { IfOk result (λ numbers. numbers
+        ≡ filter_map (λ k. number_of (value_at values.now k)) own.now.pointers) }
 {
     let mut numbers = ItemList::new(alloc);
     'places: for place in own.pointers.as_slice() {
@@ -113,7 +114,9 @@ pub fn followed(
     values: &Values,
 ) -> Result<ItemList<i64>, NoMemory>
     requires { IsBounded entry.now }
-    ensures { IfOk result (λ numbers. numbers ≡ filter_map (λ k. number_of (value_at values.now k)) own.now.pointers ++ matrix_of entry.now ++ colour_of entry.now) }
+    ensures { IfOk result (λ numbers. numbers
+        ≡ filter_map (λ k. number_of (value_at values.now k)) own.now.pointers
+        ++ matrix_of entry.now ++ colour_of entry.now) }
 {
     let mut numbers = own_pointers(alloc, own, values)?;
     push_some(&mut numbers, matrix_of(entry))?;
@@ -139,8 +142,12 @@ pub fn push_names(
     group: Group,
 ) -> Result<(), NoMemory>
     requires { group.before + group.count < 2 ^ 64 }
-    ensures ok { OnOk result (numbers.new ≡ numbers.old ++ filter (is_name file.now) (filter_map number_of (take group.count (drop group.before values.now)))) }
-    ensures err { OnErr result (AddsFirstOf numbers.old (filter (is_name file.now) (filter_map number_of (take group.count (drop group.before values.now)))) numbers.new) }
+    ensures ok { OnOk result (numbers.new ≡ numbers.old
+        ++ filter (is_name file.now) (filter_map number_of
+        (take group.count (drop group.before values.now)))) }
+    ensures err { OnErr result (AddsFirstOf numbers.old
+        (filter (is_name file.now) (filter_map number_of
+        (take group.count (drop group.before values.now)))) numbers.new) }
 {
     let mut i = 0;
     'pointers: while i < group.count {

@@ -51,7 +51,8 @@ impl Own {
 
     /// The own values, where pointers may stand in all places of pointers.
     pub fn checked(self, values: &Values) -> Option<Own>
-        ensures { result ≡ if list_all (λ k. is_pointer (value_at values.now k)) (self.pointers ++ self.cut) then Some self else None }
+        ensures { result ≡ if list_all (λ k. is_pointer (value_at values.now k)) (self.pointers
+            ++ self.cut) then Some self else None }
     {
         if !are_pointers(values, self.pointers.as_slice()) {
             return None;

@@ -41,7 +41,8 @@ fn of_composite_curve(alloc: Global, values: &Values) -> Result<Option<Own>, NoM
 // How many values tell so many points.
 fn point_values(form: PointForm, points: usize) -> usize
     requires { points ≤ FILE_LIMIT }
-    ensures is { result ≡ if form_number form == 1 then 1 + 2 * points else (if form_number form == 2 then 3 * points else 6 * points) }
+    ensures is { result ≡ if form_number form == 1 then 1 + 2 * points
+        else (if form_number form == 2 then 3 * points else 6 * points) }
     ensures few { result ≤ 1 + 6 * points }
 {
     match form {
@@ -96,7 +97,8 @@ fn surface_values(uppers: (usize, usize), degrees: (usize, usize)) -> usize
     requires second { uppers.1 ≤ FILE_LIMIT }
     requires first_degree { degrees.0 ≤ FILE_LIMIT }
     requires second_degree { degrees.1 ≤ FILE_LIMIT }
-    ensures { result ≡ 9 + (uppers.0 + degrees.0 + 2) + (uppers.1 + degrees.1 + 2) + 4 * (uppers.0 + 1) * (uppers.1 + 1) + 4 }
+    ensures { result ≡ 9 + (uppers.0 + degrees.0 + 2) + (uppers.1 + degrees.1 + 2) + 4 *
+        (uppers.0 + 1) * (uppers.1 + 1) + 4 }
 {
     let knots = (uppers.0 + degrees.0 + 2) + (uppers.1 + degrees.1 + 2);
     9 + knots + 4 * (uppers.0 + 1) * (uppers.1 + 1) + 4

@@ -55,7 +55,9 @@ pub enum PointForm {
 }
 
 fn form_of(value: &Value) -> Option<PointForm>
-    ensures { MatchOption result (is_choice value.now ≡ false) (λ form. (is_choice value.now ≡ true) × (form_number form ≡ unwrap_or (count_of value.now) 0)) }
+    ensures { MatchOption result (is_choice value.now ≡ false)
+        (λ form. (is_choice value.now ≡ true) × (form_number form
+        ≡ unwrap_or (count_of value.now) 0)) }
 {
     match value {
         Value::Int(1) => Some(PointForm::Plane),

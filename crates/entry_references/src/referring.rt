@@ -35,7 +35,8 @@ pub fn references(alloc: Global, file: &File, no: EntryNo) -> Result<EntryList, 
     ensures found { IfOk result (AreReferences file.now no.0) }
     ensures only { (nos : List Number) → AreReferences file.now no.0 nos → Gives result (Ok nos) }
     ensures fault { IfErr result (IsRefFault file.now no.0) }
-    ensures only_fault { (reason : Reason) → HasFault file.now no.0 reason → Gives {T = List Number} result (Err reason) }
+    ensures only_fault { (reason : Reason) → HasFault file.now no.0 reason
+        → Gives {T = List Number} result (Err reason) }
 {
     rising_references(alloc, file, no)
 }

@@ -32,7 +32,8 @@ pub(crate) fn same(a: bool, b: bool) -> bool
 
 /// Which faces are walked as they stand: those whose flag is the shell's.
 pub(crate) fn forwards_of(alloc: Global, shell: &Shell) -> Result<Vec<bool>, NoMemory>
-    ensures { IfOk result (λ v. v.items ≡ map (λ (f : AnyFace). same_flag f.flag shell.now.flag) shell.now.faces) }
+    ensures { IfOk result (λ v. v.items ≡ map
+        (λ (f : AnyFace). same_flag f.flag shell.now.flag) shell.now.faces) }
 {
     let mut forwards = Vec::new(alloc);
     let faces = shell.faces.as_slice();
@@ -83,7 +84,8 @@ pub(crate) fn steps_of(
     requires tally { IsTally rows.now tally.now.span tally.now.seen.items }
     requires two { AllHaveTwoRows rows.now }
     ensures each { IfOk result (λ cs. length cs.items ≡ length rows.now.rows) }
-    ensures steps { IfOk result (λ cs. (r : ℕ) (c : Crossing) → slice_get cs.items r ≡ Some c → IsStep rows.now forwards.now r c) }
+    ensures steps { IfOk result (λ cs. (r : ℕ) (c : Crossing) → slice_get cs.items r ≡ Some c
+        → IsStep rows.now forwards.now r c) }
 {
     let mut crossings = Vec::new(alloc);
     'rows: for r in 0..rows.len() {

@@ -29,8 +29,11 @@ pub(crate) fn first_unreached(
 ) -> Option<u32>
     requires few { faces < 2 ^ 29 }
     requires flood { IsFlood faces crossings.now first flood.now.places.items flood.now.order.items }
-    requires done { (f : ℕ) → Has flood.now.order.items f → IsDone crossings.now flood.now.order.items f }
-    ensures { MatchOption result (AllByRecursion (LeadsTo (Meets crossings.now) 0) (numbers_from 0 faces)) (λ f. FirstNot (LeadsTo (Meets crossings.now) 0) (numbers_from 0 faces) f) }
+    requires done { (f : ℕ) → Has flood.now.order.items f
+        → IsDone crossings.now flood.now.order.items f }
+    ensures { MatchOption result (AllByRecursion (LeadsTo (Meets crossings.now) 0)
+        (numbers_from 0 faces)) (λ f. FirstNot (LeadsTo (Meets crossings.now) 0)
+        (numbers_from 0 faces) f) }
 {
     'faces: for f in 0..faces {
         if !flood.places[f].reached {

@@ -47,8 +47,10 @@ pub(crate) fn flip(flips: bool, flag: bool) -> bool
 impl Flood {
     fn add(&mut self, face: u32, place: Place) -> Result<(), NoMemory>
         requires { face < length self.old.places.items }
-        ensures places { IfOk result (λ _. self.new.places.items ≡ slice_set self.old.places.items face place) }
-        ensures order { IfOk result (λ _. self.new.order.items ≡ self.old.order.items ++ face ∷ []) }
+        ensures places { IfOk result (λ _. self.new.places.items
+            ≡ slice_set self.old.places.items face place) }
+        ensures order { IfOk result (λ _. self.new.order.items
+            ≡ self.old.order.items ++ face ∷ []) }
     {
         self.order.push(face)?;
         self.places[face as usize] = place;
@@ -66,11 +68,14 @@ impl Flood {
         requires graph { IsGraph faces crossings.now }
         requires few { faces < 2 ^ 29 }
         requires row { r < length crossings.now }
-        requires known { (c : Crossing) → slice_get crossings.now r ≡ Some c → Has self.old.order.items c.from }
+        requires known { (c : Crossing) → slice_get crossings.now r ≡ Some c
+            → Has self.old.order.items c.from }
         requires flood { IsFlood faces crossings.now first self.old.places.items self.old.order.items }
-        ensures flood { IfOk result (λ _. IsFlood faces crossings.now first self.new.places.items self.new.order.items) }
+        ensures flood { IfOk result
+            (λ _. IsFlood faces crossings.now first self.new.places.items self.new.order.items) }
         ensures grows { IfOk result (λ _. Grows self.old.order.items self.new.order.items) }
-        ensures there { IfOk result (λ _. (c : Crossing) → slice_get crossings.now r ≡ Some c → Has self.new.order.items c.to) }
+        ensures there { IfOk result (λ _. (c : Crossing) → slice_get crossings.now r ≡ Some c
+            → Has self.new.order.items c.to) }
     {
         let step = crossings[r as usize];
         if self.places[step.to as usize].reached {
@@ -101,7 +106,8 @@ impl Flood {
         requires known { Has self.old.order.items face }
         requires low { face < faces }
         requires flood { IsFlood faces crossings.now first self.old.places.items self.old.order.items }
-        ensures flood { IfOk result (λ _. IsFlood faces crossings.now first self.new.places.items self.new.order.items) }
+        ensures flood { IfOk result
+            (λ _. IsFlood faces crossings.now first self.new.places.items self.new.order.items) }
         ensures grows { IfOk result (λ _. Grows self.old.order.items self.new.order.items) }
         ensures done { IfOk result (λ _. IsDone crossings.now self.new.order.items face) }
     {
@@ -125,10 +131,13 @@ impl Flood {
         requires few { faces < 2 ^ 29 }
         requires table { AreHeads faces crossings.now heads.now.first.items heads.now.next.items }
         requires flood { IsFlood faces crossings.now first self.old.places.items self.old.order.items }
-        ensures flood { IfOk result (λ _. IsFlood faces crossings.now first self.new.places.items self.new.order.items) }
+        ensures flood { IfOk result
+            (λ _. IsFlood faces crossings.now first self.new.places.items self.new.order.items) }
         ensures grows { IfOk result (λ _. Grows self.old.order.items self.new.order.items) }
-        ensures same { IfOk result (λ _. length self.old.order.items ≤ q → self.new.order.items ≡ self.old.order.items) }
-        ensures done { IfOk result (λ _. (f : ℕ) → slice_get self.new.order.items q ≡ Some f → IsDone crossings.now self.new.order.items f) }
+        ensures same { IfOk result (λ _. length self.old.order.items ≤ q
+            → self.new.order.items ≡ self.old.order.items) }
+        ensures done { IfOk result (λ _. (f : ℕ) → slice_get self.new.order.items q ≡ Some f
+            → IsDone crossings.now self.new.order.items f) }
     {
         if q >= self.order.len() {
             return Ok(());
@@ -145,7 +154,8 @@ impl Flood {
         first: bool,
     ) -> Result<Flood, NoMemory>
         requires { 0 < faces }
-        ensures { IfOk result (λ flood. IsFlood faces crossings.now first flood.places.items flood.order.items) }
+        ensures { IfOk result
+            (λ flood. IsFlood faces crossings.now first flood.places.items flood.order.items) }
     {
         let mut places = vec![in alloc; UNREACHED; faces]?;
         places[0] = Place {
@@ -170,8 +180,10 @@ impl Flood {
         requires some { 0 < faces }
         requires few { faces < 2 ^ 29 }
         requires few_steps { length crossings.now < 2 ^ 29 }
-        ensures flood { IfOk result (λ flood. IsFlood faces crossings.now first flood.places.items flood.order.items) }
-        ensures done { IfOk result (λ flood. (f : ℕ) → Has flood.order.items f → IsDone crossings.now flood.order.items f) }
+        ensures flood { IfOk result
+            (λ flood. IsFlood faces crossings.now first flood.places.items flood.order.items) }
+        ensures done { IfOk result (λ flood. (f : ℕ) → Has flood.order.items f
+            → IsDone crossings.now flood.order.items f) }
     {
         let heads = heads_of(alloc, crossings, faces)?;
         let mut flood = Flood::start(alloc, crossings, faces, first)?;

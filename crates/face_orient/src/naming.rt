@@ -10,7 +10,8 @@ use solid_data::{EdgeId, EdgeKey, Shell, Solid};
 
 /// COUNT names the edge list, and the index of the edge in it, from 1.
 pub(crate) fn miscounted(solid: &Solid, edge: u32) -> OrientFailing
-    ensures { let key = edge_name (slice_get solid.now.edges edge) in result ≡ record { rule = OrientRule.Count; entity = key.list; place = key.index } }
+    ensures { let key = edge_name (slice_get solid.now.edges edge) in result
+        ≡ record { rule = OrientRule.Count; entity = key.list; place = key.index } }
 {
     let key = match solid.edge(EdgeId(edge)) {
         Some(edge) => edge.key,
@@ -29,7 +30,8 @@ pub(crate) fn miscounted(solid: &Solid, edge: u32) -> OrientFailing
 /// REACH names the face itself.
 pub(crate) fn unreached(shell: &Shell, face: u32) -> OrientFailing
     requires { (f : AnyFace) × (slice_get shell.now.faces face ≡ Some f) }
-    ensures { (f : AnyFace) → slice_get shell.now.faces face ≡ Some f → result ≡ record { rule = OrientRule.Reach; entity = f.entity; place = 0 } }
+    ensures { (f : AnyFace) → slice_get shell.now.faces face ≡ Some f
+        → result ≡ record { rule = OrientRule.Reach; entity = f.entity; place = 0 } }
 {
     let face = shell.faces.get(face as usize).unwrap();
     OrientFailing {

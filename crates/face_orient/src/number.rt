@@ -38,7 +38,8 @@ fn digits_number(digits: &[u8]) -> Option<u32>
 
 /// The number of a word that spells one with at most nine digits.
 fn word_number(word: &[u8]) -> Option<u32>
-    ensures { MatchOption result ((n : ℕ) → IsShort n → word.now ≢ decimal n) (λ n. IsShort n × (word.now ≡ decimal n)) }
+    ensures { MatchOption result ((n : ℕ) → IsShort n → word.now ≢ decimal n)
+        (λ n. IsShort n × (word.now ≡ decimal n)) }
 {
     if word.len() > 9 {
         return None;
@@ -55,7 +56,8 @@ fn word_number(word: &[u8]) -> Option<u32>
 /// The number at the start of a text, behind a space, and what follows it; None where none of one to nine digits stands
 /// there.
 pub(crate) fn next_number(text: &[u8]) -> Option<(u32, &[u8])>
-    ensures { MatchOption result ((n : ℕ) (ns : List ℕ) → ¬ AreNumbers text.now (n ∷ ns)) (λ p. Begins text.now p.0 p.1.now) }
+    ensures { MatchOption result ((n : ℕ) (ns : List ℕ) → ¬ AreNumbers text.now (n ∷ ns))
+        (λ p. Begins text.now p.0 p.1.now) }
 {
     let Some((space, after)) = text.split_first() else {
         return None;
@@ -71,7 +73,8 @@ pub(crate) fn next_number(text: &[u8]) -> Option<(u32, &[u8])>
 }
 
 pub(crate) fn one_number(text: &[u8]) -> Option<u32>
-    ensures { MatchOption result ((a : ℕ) → ¬ AreNumbers text.now (a ∷ [])) (λ a. AreNumbers text.now (a ∷ [])) }
+    ensures { MatchOption result ((a : ℕ) → ¬ AreNumbers text.now (a ∷ []))
+        (λ a. AreNumbers text.now (a ∷ [])) }
 {
     let Some((a, rest)) = next_number(text) else {
         return None;

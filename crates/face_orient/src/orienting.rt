@@ -41,9 +41,11 @@ pub fn orient(alloc: Global, solid: &Solid, shell: ShellAt) -> Result<Orientatio
     ensures two { OnOk result (AllHaveTwoRows (rows_at solid.now shell.0)) }
     ensures reached { OnOk result (AllReached (rows_at solid.now shell.0)) }
     ensures fault { IfErr result (IsFault (IsFirstFailing solid.now shell.0)) }
-    ensures only { AllHaveTwoRows (rows_at solid.now shell.0) → AllReached (rows_at solid.now shell.0) → IfErr result IsNoMemory }
+    ensures only { AllHaveTwoRows (rows_at solid.now shell.0)
+        → AllReached (rows_at solid.now shell.0) → IfErr result IsNoMemory }
     ensures only_fault { (x : Named) → IsFirstFailing solid.now shell.0 x → FailsSo x result }
-    ensures only_flags { (x : List Bool) → FlagsFit solid.now shell.0 x → IfOk result (λ o. o ≡ Orientation.Flags x) }
+    ensures only_flags { (x : List Bool) → FlagsFit solid.now shell.0 x
+        → IfOk result (λ o. o ≡ Orientation.Flags x) }
 {
     oriented(alloc, solid, shell)
 }

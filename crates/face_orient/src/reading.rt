@@ -13,7 +13,8 @@ use std::alloc::Global;
 
 /// What follows a word at the start of a text.
 fn after_word<'a>(text: &'a [u8], word: &[u8]) -> Option<&'a [u8]>
-    ensures { MatchOption result ((rest : List ℕ) → text.now ≢ word.now ++ rest) (λ rest. text.now ≡ word.now ++ rest.now) }
+    ensures { MatchOption result ((rest : List ℕ) → text.now ≢ word.now ++ rest)
+        (λ rest. text.now ≡ word.now ++ rest.now) }
 {
     text.strip_prefix(word)
 }
@@ -27,7 +28,8 @@ fn is_word(text: &[u8], word: &[u8]) -> bool
 
 /// The numbers that a text is, each behind a space.
 fn numbers_of(alloc: Global, text: &[u8]) -> Result<Option<NumberList>, NoMemory>
-    ensures { IfOk result (λ read. MatchOption read (¬ IsSpaced text.now) (λ ns. AreNumbers text.now ns)) }
+    ensures { IfOk result (λ read. MatchOption read (¬ IsSpaced text.now)
+        (λ ns. AreNumbers text.now ns)) }
 {
     let mut list = NumberList::new(alloc);
     let mut rest = text;
@@ -42,7 +44,8 @@ fn numbers_of(alloc: Global, text: &[u8]) -> Result<Option<NumberList>, NoMemory
 }
 
 fn flag_of(number: u32) -> Option<bool>
-    ensures { MatchOption result ((b : Bool) → number ≢ flag_number b) (λ b. number ≡ flag_number b) }
+    ensures { MatchOption result ((b : Bool) → number ≢ flag_number b)
+        (λ b. number ≡ flag_number b) }
 {
     match number {
         0 => Some(false),
@@ -53,7 +56,8 @@ fn flag_of(number: u32) -> Option<bool>
 
 /// The flags that some numbers are.
 fn flags_of(alloc: Global, numbers: &[u32]) -> Result<Option<FlagList>, NoMemory>
-    ensures { IfOk result (λ read. MatchOption read ((flags : List Bool) → numbers.now ≢ map flag_number flags) (λ flags. numbers.now ≡ map flag_number flags)) }
+    ensures { IfOk result (λ read. MatchOption read ((flags : List Bool)
+        → numbers.now ≢ map flag_number flags) (λ flags. numbers.now ≡ map flag_number flags)) }
 {
     let mut list = FlagList::new(alloc);
     'numbers: for i in 0..numbers.len() {
@@ -66,7 +70,8 @@ fn flags_of(alloc: Global, numbers: &[u32]) -> Result<Option<FlagList>, NoMemory
 }
 
 fn head_words(text: &[u8]) -> Option<OrientLine>
-    ensures { MatchOption result ((n : ℕ) → ¬ Spells text.now (OrientLine.Head (record { 0 = n }))) (λ l. Spells text.now l) }
+    ensures { MatchOption result ((n : ℕ) → ¬ Spells text.now (OrientLine.Head (record { 0 = n })))
+        (λ l. Spells text.now l) }
 {
     let Some(rest) = after_word(text, b"ORIENT") else {
         return None;
@@ -89,7 +94,8 @@ fn listed<'a>(text: &'a [u8], letter: &[u8]) -> Option<(u32, &'a [u8])>
 }
 
 fn flag_words(alloc: Global, text: &[u8]) -> Result<Option<OrientLine>, NoMemory>
-    ensures { IfOk result (λ read. MatchOption read ((k : ℕ) (flags : List Bool) → ¬ Spells text.now (OrientLine.Flags k flags)) (λ l. Spells text.now l)) }
+    ensures { IfOk result (λ read. MatchOption read ((k : ℕ) (flags : List Bool)
+        → ¬ Spells text.now (OrientLine.Flags k flags)) (λ l. Spells text.now l)) }
 {
     let Some((shell, rest)) = listed(text, b"F") else {
         return Ok(None);
@@ -107,7 +113,8 @@ fn flag_words(alloc: Global, text: &[u8]) -> Result<Option<OrientLine>, NoMemory
 }
 
 fn ring_words(alloc: Global, text: &[u8]) -> Result<Option<OrientLine>, NoMemory>
-    ensures { IfOk result (λ read. MatchOption read ((k : ℕ) (rows : List ℕ) → ¬ Spells text.now (OrientLine.Ring k rows)) (λ l. Spells text.now l)) }
+    ensures { IfOk result (λ read. MatchOption read ((k : ℕ) (rows : List ℕ)
+        → ¬ Spells text.now (OrientLine.Ring k rows)) (λ l. Spells text.now l)) }
 {
     let Some((shell, rest)) = listed(text, b"O") else {
         return Ok(None);

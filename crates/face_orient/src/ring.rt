@@ -26,7 +26,8 @@ fn climb(
 ) -> Result<Vec<u32>, NoMemory>
     requires flood { IsFlood faces crossings.now first flood.now.places.items flood.now.order.items }
     requires known { Has flood.now.order.items face }
-    ensures { IfOk result (λ path. Climb crossings.now face (place_of flood.now.places.items face).flag path.items 0 first) }
+    ensures { IfOk result (λ path. Climb crossings.now face
+        (place_of flood.now.places.items face).flag path.items 0 first) }
 {
     let mut path = Vec::new(alloc);
     let mut at = face;
@@ -50,7 +51,9 @@ fn end_alike(down: &[u32], up: &[u32]) -> bool
 
 /// Drops the rows with which two paths end alike.
 fn drop_common(down: &mut Vec<u32>, up: &mut Vec<u32>)
-    ensures { (cs : List AnyCrossing) (a b : ℕ) (p q : Bool) → LeadUpTo cs a p down.old.items b q up.old.items → LeadUpTo cs a p down.new.items b q up.new.items }
+    ensures { (cs : List AnyCrossing) (a b : ℕ) (p q : Bool)
+        → LeadUpTo cs a p down.old.items b q up.old.items
+        → LeadUpTo cs a p down.new.items b q up.new.items }
 {
     'ends: while end_alike(down.as_slice(), up.as_slice()) {
         down.pop();
@@ -70,7 +73,8 @@ fn push_reversed(rows: &mut RowList, path: &[u32]) -> Result<(), NoMemory>
 
 fn push_partners(rows: &mut RowList, crossings: &[Crossing], path: &[u32]) -> Result<(), NoMemory>
     requires { AllByRecursion (λ r. r < length crossings.now) path.now }
-    ensures { IfOk result (λ _. row_numbers rows.new ≡ row_numbers rows.old ++ map (partner_of crossings.now) path.now) }
+    ensures { IfOk result (λ _. row_numbers rows.new
+        ≡ row_numbers rows.old ++ map (partner_of crossings.now) path.now) }
 {
     'path: for i in 0..path.len() {
         rows.push(RowId(crossings[path[i] as usize].partner))?;
@@ -87,7 +91,8 @@ fn joined(
     up: &[u32],
 ) -> Result<RowList, NoMemory>
     requires { AllByRecursion (λ x. x < length crossings.now) up.now }
-    ensures { IfOk result (λ rows. row_numbers rows ≡ reverse down.now ++ r ∷ map (partner_of crossings.now) up.now) }
+    ensures { IfOk result (λ rows. row_numbers rows
+        ≡ reverse down.now ++ r ∷ map (partner_of crossings.now) up.now) }
 {
     let mut rows = RowList::new(alloc);
     push_reversed(&mut rows, down)?;
@@ -109,7 +114,9 @@ pub(crate) fn ring_of(
     requires flood { IsFlood faces crossings.now first flood.now.places.items flood.now.order.items }
     requires all { (f : ℕ) → f < faces → Has flood.now.order.items f }
     requires row { r < length crossings.now }
-    requires odd { (c : AnyCrossing) → slice_get crossings.now r ≡ Some c → (place_of flood.now.places.items c.to).flag ≢ flipped c.flips (place_of flood.now.places.items c.from).flag }
+    requires odd { (c : AnyCrossing) → slice_get crossings.now r ≡ Some c
+        → (place_of flood.now.places.items c.to).flag ≢ flipped c.flips
+        (place_of flood.now.places.items c.from).flag }
     ensures { IfOk result (λ rows. IsOddWalk crossings.now (row_numbers rows)) }
 {
     let step = crossings[r as usize];

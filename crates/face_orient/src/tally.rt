@@ -37,7 +37,12 @@ pub struct Tally {
 
 fn once_more(seen: Seen, r: u32) -> Seen
     requires { seen.count < 2 ^ 29 }
-    ensures { result ≡ record { count = seen.count + 1; first = (if seen.count == 0 then r else seen.first); last = r } }
+    ensures { result ≡ record {
+      count = seen.count + 1;
+      first = (if seen.count == 0 then r
+          else seen.first);
+      last = r;
+    } }
 {
     Seen {
         count: seen.count + 1,
@@ -73,7 +78,8 @@ impl Tally {
     /// The one of the first and the last row of an edge that isn't this one.
     pub(crate) fn other_of(&self, e: u32, r: u32) -> u32
         requires { IsWithin self.now.span e }
-        ensures { let seen = seen_of self.now.span self.now.seen.items e in result ≡ (if seen.first == r then seen.last else seen.first) }
+        ensures { let seen = seen_of self.now.span self.now.seen.items e in result
+            ≡ (if seen.first == r then seen.last else seen.first) }
     {
         let seen = self.of(e);
         if seen.first == r {
@@ -88,7 +94,8 @@ impl Tally {
 pub(crate) fn first_miscounted(rows: &Rows, tally: &Tally) -> Option<u32>
     requires span { IsSpanOf tally.now.span rows.now.edges }
     requires tally { IsTally rows.now tally.now.span tally.now.seen.items }
-    ensures { MatchOption result (AllByRecursion (HasTwoRows rows.now) rows.now.edges) (λ e. FirstNot (HasTwoRows rows.now) rows.now.edges e) }
+    ensures { MatchOption result (AllByRecursion (HasTwoRows rows.now) rows.now.edges)
+        (λ e. FirstNot (HasTwoRows rows.now) rows.now.edges e) }
 {
     'edges: for i in 0..rows.edge_count() {
         let edge = rows.edge_at(i).unwrap();

@@ -70,7 +70,8 @@ fn are_digits(bytes: &[u8]) -> bool
 /// The status in the 9th field of a line.
 pub fn status_in(line: &[u8]) -> Option<[u8; 8]>
     requires { length line.now ≡ 80 }
-    ensures none { IfNone result (IsFalse (list_all is_ascii_digit (status_of (field 9 line.now)))) }
+    ensures none { IfNone result (IsFalse (list_all is_ascii_digit
+        (status_of (field 9 line.now)))) }
     ensures some { IfSome result (λ status. status ≡ status_of (field 9 line.now)) }
     ensures digits { IfSome result (λ status. IsTrue (list_all is_ascii_digit status)) }
 {

@@ -51,7 +51,8 @@ pub fn mantissa_of(text: &[u8]) -> Mantissa
 impl Mantissa {
     /// Whether it is a real's: with a digit and at most one point.
     pub fn is_valid(&self) -> bool
-        ensures { (text : List ℕ) → IsMantissa text self.now → result ≡ is_mantissa (take self.now.len text) }
+        ensures { (text : List ℕ) → IsMantissa text self.now
+            → result ≡ is_mantissa (take self.now.len text) }
     {
         self.points <= 1 && self.points < self.len
     }

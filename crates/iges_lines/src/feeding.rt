@@ -60,7 +60,8 @@ fn take_joined(
     requires few { taken.old.number < 2 ^ 63 }
     requires open { taken.old.fault ≡ None }
     requires head { IsTrue (is_in_line head.now) }
-    ensures ok { OnOk result ((bytes : List ℕ) → StandsFor taken.old rest.now bytes → StandsFor taken.new [] (bytes ++ (head.now ++ 10 ∷ []))) }
+    ensures ok { OnOk result ((bytes : List ℕ) → StandsFor taken.old rest.now bytes
+        → StandsFor taken.new [] (bytes ++ (head.now ++ 10 ∷ []))) }
     ensures extends { Extends taken.old.sections taken.new.sections }
     ensures number { taken.new.number ≤ taken.old.number + 1 }
 {
@@ -83,7 +84,8 @@ fn take_piece(
     requires few { taken.old.number + length tail.now + 1 < 2 ^ 63 }
     requires open { taken.old.fault ≡ None }
     requires head { IsTrue (is_in_line head.now) }
-    ensures ok { IfOk result (λ left. (bytes : List ℕ) → StandsFor taken.old rest.now bytes → StandsFor taken.new left.items (bytes ++ (head.now ++ 10 ∷ tail.now))) }
+    ensures ok { IfOk result (λ left. (bytes : List ℕ) → StandsFor taken.old rest.now bytes
+        → StandsFor taken.new left.items (bytes ++ (head.now ++ 10 ∷ tail.now))) }
     ensures extends { Extends taken.old.sections taken.new.sections }
 {
     take_joined(alloc, taken, rest, head)?;
@@ -110,10 +112,12 @@ impl LineFeed {
     /// Takes the next bytes, cut anywhere (own). Where memory runs out, the feed is as it was.
     pub fn feed(&mut self, piece: &[u8]) -> Result<(), NoMemory>
         requires { self.old.len + length piece.now ≤ FILE_LIMIT }
-        ensures ok { OnOk result ((bytes : List ℕ) → IsFed self.old bytes → IsFed self.new (bytes ++ piece.now)) }
+        ensures ok { OnOk result ((bytes : List ℕ) → IsFed self.old bytes
+            → IsFed self.new (bytes ++ piece.now)) }
         ensures len { OnOk result (self.new.len ≡ self.old.len + length piece.now) }
         ensures err { OnErr result (self.new ≡ self.old) }
-        ensures failed { IsSome self.old.taken.fault → (self.new.taken ≡ self.old.taken) × (self.new.rest ≡ self.old.rest) }
+        ensures failed { IsSome self.old.taken.fault
+            → (self.new.taken ≡ self.old.taken) × (self.new.rest ≡ self.old.rest) }
     {
         if self.taken.has_failed() {
             self.len += piece.len() as u64;
@@ -165,9 +169,11 @@ impl LineFeed {
     /// why (own).
     pub fn finish(self) -> Result<Sections, SectionsFault>
         ensures found { (bytes : List ℕ) → IsFed self bytes → IfOk result (IsSectioned bytes) }
-        ensures only { (bytes : List ℕ) → IsFed self bytes → (s : SectionLines) → IsSectioned bytes s → Gives result (Ok s) }
+        ensures only { (bytes : List ℕ) → IsFed self bytes → (s : SectionLines)
+            → IsSectioned bytes s → Gives result (Ok s) }
         ensures fault { (bytes : List ℕ) → IsFed self bytes → IfBad result (IsLineFault bytes) }
-        ensures only_fault { (bytes : List ℕ) → IsFed self bytes → (fault : LineFault) → IsLineFault bytes fault → Gives {Y = SectionLines} result (Err fault) }
+        ensures only_fault { (bytes : List ℕ) → IsFed self bytes → (fault : LineFault)
+            → IsLineFault bytes fault → Gives {Y = SectionLines} result (Err fault) }
     {
         let _len = self.len;
         let table = self.end()?;

@@ -132,7 +132,8 @@ impl SectionTable {
 
     /// Whether a line of this section may come, by the order of the sections.
     pub fn is_in_order(&self, kind: Kind) -> bool
-        ensures { result ≡ (nat_lt (place_of kind) 5 && list_all is_empty (drop (suc (place_of kind)) (sections self.now))) }
+        ensures { result ≡ (nat_lt (place_of kind) 5
+            && list_all is_empty (drop (suc (place_of kind)) (sections self.now))) }
     {
         match kind {
             Kind::Start => self.global.is_empty()
@@ -147,7 +148,8 @@ impl SectionTable {
 
     /// Whether the sections that must come before this one have come.
     pub fn is_due(&self, kind: Kind) -> bool
-        ensures { result ≡ ((not (list_all is_empty (sections self.now)) || place_of kind == 0) && (nat_le (place_of kind) 1 || not (is_empty self.now.global))) }
+        ensures { result ≡ ((not (list_all is_empty (sections self.now)) || place_of kind == 0)
+            && (nat_le (place_of kind) 1 || not (is_empty self.now.global))) }
     {
         match kind {
             Kind::Start => true,
@@ -158,7 +160,8 @@ impl SectionTable {
 
     /// The number of the next line of this section, from 1.
     pub fn next_number(&self, kind: Kind) -> usize
-        ensures number { result ≡ length (slice_index_or (sections self.now) (place_of kind) []) + 1 }
+        ensures number { result ≡ length (slice_index_or (sections self.now)
+            (place_of kind) []) + 1 }
         ensures few { result ≤ 2 ^ 60 }
     {
         match kind {
@@ -210,7 +213,8 @@ impl SectionTable {
 
     /// Takes off the lines of each section behind so many.
     pub fn truncate(&mut self, counts: LineCounts)
-        ensures { self.new ≡ record { start = take counts.start self.old.start; global = take counts.global self.old.global; directory = take counts.directory self.old.directory; param = take counts.param self.old.param } }
+        ensures { self.new
+            ≡ record { start = take counts.start self.old.start; global = take counts.global self.old.global; directory = take counts.directory self.old.directory; param = take counts.param self.old.param } }
     {
         self.start.truncate(counts.start);
         self.global.truncate(counts.global);

@@ -93,7 +93,8 @@ impl TakenLines {
 
     /// Takes off the lines behind the mark.
     pub fn go_back(&mut self, mark: Mark)
-        ensures { (t : Taken) → mark ≡ mark_of t → Extends t.sections self.old.sections → self.new ≡ t }
+        ensures { (t : Taken) → mark ≡ mark_of t → Extends t.sections self.old.sections
+            → self.new ≡ t }
     {
         self.table.truncate(mark.counts);
         self.terminated = mark.terminated;
@@ -104,7 +105,8 @@ impl TakenLines {
     /// Judges the next line, and takes it where no line has failed.
     pub fn take(&mut self, line: &[u8]) -> Result<(), NoMemory>
         requires { self.old.number < 2 ^ 63 }
-        ensures ok { OnOk result ((ls : List (List ℕ)) → AreTaken ls self.old → AreTaken (ls ++ line.now ∷ []) self.new) }
+        ensures ok { OnOk result ((ls : List (List ℕ)) → AreTaken ls self.old
+            → AreTaken (ls ++ line.now ∷ []) self.new) }
         ensures err { OnErr result (self.new ≡ self.old) }
         ensures extends { Extends self.old.sections self.new.sections }
         ensures number { self.new.number ≤ self.old.number + 1 }
@@ -128,7 +130,8 @@ impl TakenLines {
     /// left.
     pub fn take_ended<'b>(&mut self, bytes: &'b [u8]) -> Result<&'b [u8], NoMemory>
         requires { self.old.number + length bytes.now < 2 ^ 63 }
-        ensures ok { IfOk result (λ left. (before : List ℕ) → StandsFor self.old [] before → StandsFor self.new left.now (before ++ bytes.now)) }
+        ensures ok { IfOk result (λ left. (before : List ℕ) → StandsFor self.old [] before
+            → StandsFor self.new left.now (before ++ bytes.now)) }
         ensures extends { Extends self.old.sections self.new.sections }
     {
         let mut left = bytes;
@@ -144,7 +147,8 @@ impl TakenLines {
 
     /// The lines by section, without a test of what is known of them then.
     pub fn finish(self) -> Result<SectionTable, SectionsFault>
-        ensures { (bytes : List ℕ) → AreTaken (lines bytes) self → Gives result (read_sections bytes) }
+        ensures { (bytes : List ℕ) → AreTaken (lines bytes) self
+            → Gives result (read_sections bytes) }
     {
         if let Some(fault) = self.fault {
             return Err(SectionsFault::Bad(fault));

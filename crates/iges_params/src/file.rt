@@ -53,7 +53,12 @@ impl File {
     pub fn new(alloc: Global, start: &[u8], global: Global26) -> Result<File, NoMemory>
         requires start { IsTrue (is_start_line start.now) }
         requires kinds { IsTrue (have_kinds global.values) }
-        ensures { IfOk result (λ f. f ≡ record { start = start.now ∷ []; global = global; entries = [] }) }
+        ensures { IfOk result (λ f. f ≡ record {
+          start = start.now
+              ∷ [];
+          global = global;
+          entries = [];
+        }) }
     {
         let mut lines = Vec::new(alloc);
         lines.push(start_line(start))?;
@@ -68,7 +73,10 @@ impl File {
     /// out, the file is as it was.
     pub fn push_start(&mut self, line: &[u8]) -> Result<(), NoMemory>
         requires { IsTrue (is_start_line line.now) }
-        ensures ok { OnOk result (self.new ≡ record self.old { start = self.old.start ++ line.now ∷ [] }) }
+        ensures ok { OnOk result (self.new ≡ record self.old {
+          start = self.old.start ++ line.now
+              ∷ [];
+        }) }
         ensures err { OnErr result (self.new ≡ self.old) }
     {
         self.start.push(start_line(line))?;
@@ -84,7 +92,10 @@ impl File {
         requires unused { IsTrue (int_eq entry.kind (pos 0)) → values ≡ [] }
         requires entries { length self.old.entries < 4_999_999 }
         requires few { value_count self.old.entries + length values ≤ FILE_LIMIT }
-        ensures ok { OnOk result (self.new ≡ record self.old { entries = self.old.entries ++ (entry, values) ∷ [] }) }
+        ensures ok { OnOk result (self.new ≡ record self.old {
+          entries = self.old.entries
+              ++ (entry, values) ∷ [];
+        }) }
         ensures err { OnErr result (self.new ≡ self.old) }
     {
         self.entries.push((entry, values))?;
@@ -139,7 +150,8 @@ impl File {
 
     /// The i-th entry, i from 0 and those of type 0 among them; None past the end (own).
     pub fn entry_at(&self, i: usize) -> Option<&Entry>
-        ensures entry { option_copied result ≡ option_map (λ e. e.0) (slice_get self.now.entries i) }
+        ensures entry { option_copied result ≡ option_map
+            (λ e. e.0) (slice_get self.now.entries i) }
         ensures within { IsSome result ↔ (i < length self.now.entries) }
         ensures bounded { IfSome result (λ entry. IsBounded entry.now) }
     {

@@ -24,7 +24,8 @@ fn head_values(
     requires front { IsHead (Some front.now) (head text.now) }
     requires in_line { IsTrue (is_in_line text.now) }
     requires few { first + length text.now < 2 ^ 64 }
-    ensures { Gives result (head_values first text.now front.now.delims (option_copied front.now.values)) }
+    ensures { Gives result (head_values first text.now front.now.delims
+        (option_copied front.now.values)) }
 {
     let Some(rest) = front.values else {
         return Ok(Values::new(alloc));

@@ -35,7 +35,8 @@ fn behind_byte(byte: u8, text: &[u8]) -> Option<&[u8]>
 
 // The head with these delimiters, where they are permitted.
 fn permitted(param: u8, end: u8, values: Option<&[u8]>) -> Option<Head<'_>>
-    ensures { IsHead result (if_permitted (Some (record { delims = record { param = param; end = end }; values = option_copied values.entry }))) }
+    ensures { IsHead result (if_permitted (Some
+        (record { delims = record { param = param; end = end }; values = option_copied values.entry }))) }
 {
     let delims = Delimiters::new(param, end)?;
     Some(Head { delims, values })

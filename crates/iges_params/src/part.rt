@@ -42,7 +42,9 @@ pub fn put_text(
     requires width { width ≤ 80 }
     requires within { from + count ≤ length (part_lines part sections.now) }
     requires few { from + count < 2 ^ 64 }
-    ensures text { OnOk result (text.new.items ≡ flat_map (columns 1 width) (slice_range (part_lines part sections.now) from (from + count))) }
+    ensures text { OnOk result (text.new.items
+        ≡ flat_map (columns 1 width) (slice_range (part_lines part sections.now) from
+        (from + count))) }
     ensures in_line { OnOk result (IsTrue (is_in_line text.new.items)) }
 {
     text.clear();

@@ -33,7 +33,8 @@ fn line_of(passage: &Passage<'_>, at: usize) -> u64
     requires end { length passage.now.text.now ≤ length passage.now.columns.now }
     requires within { at ≤ length passage.now.text.now }
     requires few { passage.now.first + length passage.now.columns.now < 2 ^ 64 }
-    ensures { result ≡ passage.now.first + line_of_byte passage.now.width passage.now.columns.now (length passage.now.columns.now - length passage.now.text.now + at) }
+    ensures { result ≡ passage.now.first + line_of_byte passage.now.width passage.now.columns.now
+        (length passage.now.columns.now - length passage.now.text.now + at) }
 {
     let place = passage.columns.len() - passage.text.len() + at;
     let last = (passage.columns.len() / passage.width).saturating_sub(1);
@@ -52,7 +53,8 @@ pub fn passage_values(
     requires width { 0 < passage.now.width }
     requires end { length passage.now.text.now ≤ length passage.now.columns.now }
     requires few { passage.now.first + length passage.now.columns.now < 2 ^ 64 }
-    ensures { Gives result (read_passage passage.now.first passage.now.width passage.now.columns.now reason delims passage.now.text.now) }
+    ensures { Gives result
+        (read_passage passage.now.first passage.now.width passage.now.columns.now reason delims passage.now.text.now) }
 {
     match values(alloc, passage.text, delims) {
         Ok((values, _)) => Ok(values),
@@ -73,8 +75,10 @@ pub fn parted_passage(
     requires width { 0 < passage.now.width }
     requires end { length passage.now.text.now ≤ length passage.now.columns.now }
     requires few { passage.now.first + length passage.now.columns.now < 2 ^ 64 }
-    ensures ok { IfOk result (λ x. read_passage passage.now.first passage.now.width passage.now.columns.now reason delims passage.now.text.now ≡ Ok (x.0 ∷ x.1)) }
-    ensures err { IfErr result (λ e. Fails e (read_passage passage.now.first passage.now.width passage.now.columns.now reason delims passage.now.text.now)) }
+    ensures ok { IfOk result
+        (λ x. read_passage passage.now.first passage.now.width passage.now.columns.now reason delims passage.now.text.now ≡ Ok (x.0 ∷ x.1)) }
+    ensures err { IfErr result (λ e. Fails e
+        (read_passage passage.now.first passage.now.width passage.now.columns.now reason delims passage.now.text.now)) }
 {
     match parted_values(alloc, passage.text, delims) {
         Ok(parts) => Ok(parts),

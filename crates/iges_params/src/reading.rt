@@ -27,7 +27,12 @@ use std::alloc::Global;
 // A file of the start lines and the global.
 fn begun(alloc: Global, lines: &Sections, global: Global26) -> Result<File, NoMemory>
     requires { IsTrue (have_kinds global.values) }
-    ensures { IfOk result (λ f. f ≡ record { start = map (columns 1 72) lines.now.start; global = global; entries = [] }) }
+    ensures { IfOk result (λ f. f ≡ record {
+      start = map
+          (columns 1 72) lines.now.start;
+      global = global;
+      entries = [];
+    }) }
 {
     let count = lines.start_count();
     let first = lines.start(0).unwrap();
@@ -50,7 +55,8 @@ fn filled(
     text: &mut Vec<u8>,
 ) -> Result<File, ReadFileFault>
     requires few { 80 * (above + length lines.now.param) ≤ FILE_LIMIT }
-    requires records { (i : ℕ) (p : Placed) → slice_get entries.now i ≡ Some p → IsTrue (has_record (length lines.now.param) p.entry.kind p.first p.count) }
+    requires records { (i : ℕ) (p : Placed) → slice_get entries.now i ≡ Some p
+        → IsTrue (has_record (length lines.now.param) p.entry.kind p.first p.count) }
     requires permitted { IsTrue (are_permitted file.global.delims) }
     requires empty { file.entries ≡ [] }
     ensures { Gives result (read_entries above lines.now.param file entries.now) }
@@ -71,7 +77,8 @@ fn begun_file(
     lines: &Sections,
     text: &mut Vec<u8>,
 ) -> Result<(File, Directory), ReadFileFault>
-    ensures { MatchResult result (λ p. IsBegunFile lines.now p.0 p.1) (λ e. Fails e (read_lines lines.now)) }
+    ensures { MatchResult result (λ p. IsBegunFile lines.now p.0 p.1)
+        (λ e. Fails e (read_lines lines.now)) }
 {
     let global = read_global(alloc, lines, text)?;
     let entries = directory(alloc, lines)?;
@@ -112,9 +119,11 @@ fn read_taken(alloc: Global, mut lines: Sections) -> Result<File, ReadFileFault>
 /// have these lines.
 pub fn read_sections(alloc: Global, lines: &Sections) -> Result<File, ReadFileFault>
     ensures found { (bytes : List ℕ) → IsSectioned bytes lines.now → IfOk result (IsFile bytes) }
-    ensures only { (bytes : List ℕ) (f : Contents) → IsSectioned bytes lines.now → IsFile bytes f → Gives result (Ok f) }
+    ensures only { (bytes : List ℕ) (f : Contents) → IsSectioned bytes lines.now → IsFile bytes f
+        → Gives result (Ok f) }
     ensures fault { (bytes : List ℕ) → IsSectioned bytes lines.now → IfBad result (Refusal bytes) }
-    ensures only_fault { (bytes : List ℕ) (fault : LineFault) → IsSectioned bytes lines.now → Refusal bytes fault → Gives {Y = Contents} result (Err fault) }
+    ensures only_fault { (bytes : List ℕ) (fault : LineFault) → IsSectioned bytes lines.now
+        → Refusal bytes fault → Gives {Y = Contents} result (Err fault) }
 {
     read_lines(alloc, lines)
 }
@@ -123,9 +132,11 @@ pub fn read_sections(alloc: Global, lines: &Sections) -> Result<File, ReadFileFa
 /// read (own).
 pub fn take_sections(alloc: Global, lines: Sections) -> Result<File, ReadFileFault>
     ensures found { (bytes : List ℕ) → IsSectioned bytes lines → IfOk result (IsFile bytes) }
-    ensures only { (bytes : List ℕ) (f : Contents) → IsSectioned bytes lines → IsFile bytes f → Gives result (Ok f) }
+    ensures only { (bytes : List ℕ) (f : Contents) → IsSectioned bytes lines → IsFile bytes f
+        → Gives result (Ok f) }
     ensures fault { (bytes : List ℕ) → IsSectioned bytes lines → IfBad result (Refusal bytes) }
-    ensures only_fault { (bytes : List ℕ) (fault : LineFault) → IsSectioned bytes lines → Refusal bytes fault → Gives {Y = Contents} result (Err fault) }
+    ensures only_fault { (bytes : List ℕ) (fault : LineFault) → IsSectioned bytes lines
+        → Refusal bytes fault → Gives {Y = Contents} result (Err fault) }
 {
     read_taken(alloc, lines)
 }
@@ -138,7 +149,8 @@ pub fn read_file(alloc: Global, bytes: &[u8]) -> Result<File, ReadFileFault>
     ensures found { IfOk result (IsFile bytes.now) }
     ensures only { (f : Contents) → IsFile bytes.now f → Gives result (Ok f) }
     ensures fault { IfBad result (Refusal bytes.now) }
-    ensures only_fault { (fault : LineFault) → Refusal bytes.now fault → Gives {Y = Contents} result (Err fault) }
+    ensures only_fault { (fault : LineFault) → Refusal bytes.now fault
+        → Gives {Y = Contents} result (Err fault) }
 {
     match sections(alloc, bytes) {
         Ok(lines) => read_sections(alloc, &lines),

@@ -20,7 +20,8 @@ fn first_foreign(sections: &Sections, from: usize, count: usize, number: usize) 
     requires within { from + count ≤ length sections.now.param }
     requires few { from + count < 2 ^ 64 }
     requires number { number < 2 ^ 63 }
-    ensures place { result ≡ position_from (λ l. not (points_back number l)) 0 (slice_range sections.now.param from (from + count)) }
+    ensures place { result ≡ position_from (λ l. not (points_back number l)) 0
+        (slice_range sections.now.param from (from + count)) }
     ensures within { IfSome result (λ i. i < count) }
 {
     'lines: for i in 0..count {
@@ -89,7 +90,8 @@ fn used_values(
     requires number { number < 2 ^ 63 }
     requires few { 80 * (above + length sections.now.param) ≤ FILE_LIMIT }
     requires first { 0 < unsigned_abs placed.now.first }
-    requires within { unsigned_abs placed.now.first - 1 + unsigned_abs placed.now.count ≤ length sections.now.param }
+    requires within { unsigned_abs placed.now.first - 1 + unsigned_abs placed.now.count
+        ≤ length sections.now.param }
     ensures { Gives result (used_values above sections.now.param delims number placed.now) }
 {
     let place = magnitude(&placed.first);
@@ -124,7 +126,9 @@ pub fn read_record(
     requires permitted { IsTrue (are_permitted delims) }
     requires number { number < 2 ^ 63 }
     requires few { 80 * (above + length sections.now.param) ≤ FILE_LIMIT }
-    requires record { IsTrue (has_record (length sections.now.param) placed.now.entry.kind placed.now.first placed.now.count) }
+    requires record { IsTrue
+        (has_record
+        (length sections.now.param) placed.now.entry.kind placed.now.first placed.now.count) }
     ensures { Gives result (read_record above sections.now.param delims number placed.now) }
 {
     if is_unused(&placed.entry) {

@@ -23,7 +23,8 @@ fn word_of(reason: ExtractReason) -> &'static str
 
 /// The reply for a solid that can't be extracted.
 pub fn refused(alloc: Global, entity: EntryNo, reason: ExtractReason) -> Result<Reply, NoMemory>
-    ensures { IfOk result (λ reply. (reply.answer ≡ Answer.NoExtract) × (reply.text ≡ no_extract_line entity.0 reason)) }
+    ensures { IfOk result (λ reply. (reply.answer ≡ Answer.NoExtract)
+        × (reply.text ≡ no_extract_line entity.0 reason)) }
 {
     let mut out = Out::new(alloc);
     out.put(b"no extract ")?;

@@ -151,7 +151,8 @@ impl CommandKind {
 
 // Whether each word fits the slot at its place.
 fn each_fits(slots: &[Slot], words: &[String]) -> bool
-    ensures { result ≡ list_all (λ p. fits (slot_meant p.0) (string_bytes p.1)) (zip slots.now words.now) }
+    ensures { result ≡ list_all (λ p. fits (slot_meant p.0) (string_bytes p.1))
+        (zip slots.now words.now) }
 {
     slots
         .iter()
@@ -161,7 +162,8 @@ fn each_fits(slots: &[Slot], words: &[String]) -> bool
 
 // The word at a place, from 0.
 fn word_at(words: &[String], place: usize) -> Option<&str>
-    ensures { MatchOption result (slice_get (map string_bytes words.now) place ≡ None) (λ word. slice_get (map string_bytes words.now) place ≡ Some word.now) }
+    ensures { MatchOption result (slice_get (map string_bytes words.now) place ≡ None)
+        (λ word. slice_get (map string_bytes words.now) place ≡ Some word.now) }
 {
     match words.get(place) {
         Some(word) => Some(word.as_str()),
@@ -192,7 +194,9 @@ impl Form {
 
     // The word that stands in the first slot for such.
     fn word<'a>(self, what: Operand, words: &'a [String]) -> Option<&'a str>
-        ensures { MatchOption result (word_in what (form_meant self).slots (map string_bytes words.now) ≡ None) (λ word. word_in what (form_meant self).slots (map string_bytes words.now) ≡ Some word.now) }
+        ensures { MatchOption result (word_in what (form_meant self).slots
+            (map string_bytes words.now) ≡ None) (λ word. word_in what (form_meant self).slots
+            (map string_bytes words.now) ≡ Some word.now) }
     {
         let place = self.place(what)?;
         word_at(words, place)
@@ -200,7 +204,9 @@ impl Form {
 
     // The number among words that stand in the slots, where there is one.
     fn number(self, words: &[String]) -> Option<u32>
-        ensures { all_fit (form_meant self).slots (map string_bytes words.now) ≡ true → result ≡ option_map (digits_value 10) (word_in Operand.Number (form_meant self).slots (map string_bytes words.now)) }
+        ensures { all_fit (form_meant self).slots (map string_bytes words.now) ≡ true
+            → result ≡ option_map (digits_value 10) (word_in Operand.Number (form_meant self).slots
+            (map string_bytes words.now)) }
     {
         let place = self.place(Operand::Number)?;
         let slot = self.slot(place)?;
@@ -211,7 +217,8 @@ impl Form {
 
 // The first of the forms that the words have.
 fn first_form(forms: &[Form], words: &[String]) -> Option<Form>
-    ensures { result ≡ find (λ form. all_fit (form_meant form).slots (map string_bytes words.now)) forms.now }
+    ensures { result ≡ find (λ form. all_fit (form_meant form).slots
+        (map string_bytes words.now)) forms.now }
 {
     forms.iter().copied().find(|form| form.fits(words))
 }
@@ -240,7 +247,8 @@ pub fn command_in(words: &[String]) -> Option<Command>
 
 /// The word in the first slot for such of the form that the words have; None where they have none (own).
 pub fn named_in<'a>(what: Operand, words: &'a [String]) -> Option<&'a str>
-    ensures { MatchOption result (named what (map string_bytes words.now) ≡ None) (λ word. named what (map string_bytes words.now) ≡ Some word.now) }
+    ensures { MatchOption result (named what (map string_bytes words.now) ≡ None)
+        (λ word. named what (map string_bytes words.now) ≡ Some word.now) }
 {
     form_of(words)?.word(what, words)
 }

@@ -95,7 +95,8 @@ fn check_text(alloc: Global, solid: &Solid, text: &[u8], n: u32) -> Result<(), N
 // How many faces the k-th shell has, from 0.
 fn shell_faces(solid: &Solid, k: u32) -> u64
     requires { k < length solid.now.shells }
-    ensures { result + length (faces_in (drop (k + 1) solid.now.shells)) ≡ length (faces_in (drop k solid.now.shells)) }
+    ensures { result + length (faces_in (drop (k + 1) solid.now.shells))
+        ≡ length (faces_in (drop k solid.now.shells)) }
 {
     solid.shell(ShellAt(k)).unwrap().faces.len() as u64
 }
@@ -119,7 +120,8 @@ fn line_of(
     file: usize,
     certificate: usize,
 ) -> Result<Bytes, NoMemory>
-    ensures { IfOk result (λ text. text ≡ sample_line n (length (faces_in solid.now.shells)) (length solid.now.edges) (length solid.now.vertices) file certificate) }
+    ensures { IfOk result (λ text. text ≡ sample_line n (length (faces_in solid.now.shells))
+        (length solid.now.edges) (length solid.now.vertices) file certificate) }
 {
     let mut out = Out::new(alloc);
     out.put(b"sample ")?;

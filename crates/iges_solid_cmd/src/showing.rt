@@ -52,7 +52,9 @@ fn put_shell(out: &mut Out, k: u64, shell: &Shell, rows: &Rows) -> Result<(), No
 // The line of the k-th shell, from 0.
 fn put_shell_at(alloc: Global, out: &mut Out, solid: &Solid, k: u32) -> Result<(), NoMemory>
     requires { k < length solid.now.shells }
-    ensures { OnOk result (out.new ++ shell_lines_from (k + 1) solid.now (drop (k + 1) solid.now.shells) ≡ out.old ++ shell_lines_from k solid.now (drop k solid.now.shells)) }
+    ensures { OnOk result (out.new ++ shell_lines_from (k + 1) solid.now
+        (drop (k + 1) solid.now.shells) ≡ out.old
+        ++ shell_lines_from k solid.now (drop k solid.now.shells)) }
 {
     let rows = rows(alloc, solid, ShellAt(k))?;
     let shell = solid.shell(ShellAt(k)).unwrap();

@@ -60,7 +60,9 @@ fn is_short_number(word: &[u8], digits: usize) -> bool
 
 // The number from the least to the greatest that a word writes in at most so many digits.
 fn number_in(word: &str, digits: usize, least: u32, greatest: u32) -> Option<u32>
-    ensures { MatchOption result (fits (number digits least greatest) word.now ≡ false) (λ n. (fits (number digits least greatest) word.now ≡ true) × (n ≡ digits_value 10 word.now)) }
+    ensures { MatchOption result (fits (number digits least greatest) word.now ≡ false)
+        (λ n. (fits (number digits least greatest) word.now ≡ true)
+        × (n ≡ digits_value 10 word.now)) }
 {
     if !is_short_number(word.as_bytes(), digits) {
         return None;
@@ -104,7 +106,8 @@ impl Slot {
 
     /// The number that a fitting word writes; None where the slot is not for numbers (own).
     pub fn number(self, word: &str) -> Option<u32>
-        ensures { holds Operand.Number (slot_meant self) ≡ true → fits (slot_meant self) word.now ≡ true → result ≡ Some (digits_value 10 word.now) }
+        ensures { holds Operand.Number (slot_meant self) ≡ true
+            → fits (slot_meant self) word.now ≡ true → result ≡ Some (digits_value 10 word.now) }
     {
         match self {
             Slot::Number {

@@ -27,7 +27,9 @@ fn put_count(line: &mut Vec<u8>, letter: u8, count: u64) -> Result<(), NoMemory>
 
 // The columns 1 to 72 of the terminate line, in place of `line`.
 fn put_columns(line: &mut Vec<u8>, counts: &Counts) -> Result<(), NoMemory>
-    ensures { IfOk result (λ _. (line.new.items ≡ counts_columns counts.now.start counts.now.global counts.now.directory counts.now.params) × (length line.new.items ≡ 72)) }
+    ensures { IfOk result (λ _. (line.new.items
+        ≡ counts_columns counts.now.start counts.now.global counts.now.directory counts.now.params)
+        × (length line.new.items ≡ 72)) }
 {
     line.clear();
     put_count(line, b'S', counts.start)?;

@@ -51,7 +51,8 @@ fn put_at(
     ensures steps { (e : OneEntry × List OneValue) → slice_get file.now.entries i ≡ Some e → StepsBoth result
         page.new (put_lines page.old (entry_lines e.0 (first_of e.0 params.old.number) (length (record_text_lines file.now.global.delims e))))
         params.new (put_lines params.old (map (λ l. l ++ record_tail (2 * i + 1)) (record_text_lines file.now.global.delims e))) }
-    ensures held { (e : OneEntry × List OneValue) → slice_get file.now.entries i ≡ Some e → OnOk result (IsHeld e) }
+    ensures held { (e : OneEntry × List OneValue) → slice_get file.now.entries i ≡ Some e
+        → OnOk result (IsHeld e) }
 {
     let entry = file.entry_at(i).unwrap();
     let delims = &file.global().delims;

@@ -127,7 +127,8 @@ impl Page {
     // A word and the delimiter behind it, which no line holds.
     fn put_long_word(&mut self, word: &[u8], end: u8) -> Result<(), WriteFileFault>
         requires { self.old.width ≤ length word.now }
-        ensures { Steps result self.new (put_parts self.old (word_parts self.old.width (word.now ++ end ∷ []))) }
+        ensures { Steps result self.new (put_parts self.old (word_parts self.old.width (word.now
+            ++ end ∷ []))) }
     {
         let (front, behind) = word.split_at(self.width);
         self.put_part(front)?;
@@ -138,7 +139,8 @@ impl Page {
     // A word and the delimiter behind it, which a line holds.
     fn put_short_word(&mut self, word: &[u8], end: u8) -> Result<(), WriteFileFault>
         requires { length word.now < self.old.width }
-        ensures { Steps result self.new (put_parts self.old (word_parts self.old.width (word.now ++ end ∷ []))) }
+        ensures { Steps result self.new (put_parts self.old (word_parts self.old.width (word.now
+            ++ end ∷ []))) }
     {
         self.make_room(word.len() + 1)?;
         self.add(word)?;
@@ -147,7 +149,8 @@ impl Page {
 
     // A word and the byte behind it.
     fn put_word(&mut self, word: &[u8], end: u8) -> Result<(), WriteFileFault>
-        ensures { Steps result self.new (put_parts self.old (word_parts self.old.width (word.now ++ end ∷ []))) }
+        ensures { Steps result self.new (put_parts self.old (word_parts self.old.width (word.now
+            ++ end ∷ []))) }
     {
         if word.len() < self.width {
             self.put_short_word(word, end)
@@ -158,7 +161,8 @@ impl Page {
 
     // A text and the delimiter behind it.
     fn put_text(&mut self, text: &[u8], delimiter: u8) -> Result<(), WriteFileFault>
-        ensures { Steps result self.new (put_parts self.old (value_parts self.old.width (value.Text text.now) delimiter)) }
+        ensures { Steps result self.new (put_parts self.old
+            (value_parts self.old.width (value.Text text.now) delimiter)) }
     {
         self.put_word(Buffer::new().format(text.len()).as_bytes(), b'H')?;
         self.put_singles(text)?;
@@ -169,7 +173,8 @@ impl Page {
     fn put_digit(&mut self, n: u64, delimiter: u8) -> Result<(), WriteFileFault>
         requires digit { n < 10 }
         requires width { 1 < self.old.width }
-        ensures { Steps result self.new (put_parts self.old (word_parts self.old.width (decimal n ++ delimiter ∷ []))) }
+        ensures { Steps result self.new (put_parts self.old (word_parts self.old.width (decimal n
+            ++ delimiter ∷ []))) }
     {
         self.put_part(&[b'0' + n as u8, delimiter])
     }
@@ -177,7 +182,8 @@ impl Page {
     // A number without a sign and the delimiter behind it, which a line holds.
     fn put_number(&mut self, n: u64, delimiter: u8) -> Result<(), WriteFileFault>
         requires { 20 < self.old.width }
-        ensures { Steps result self.new (put_parts self.old (word_parts self.old.width (decimal n ++ delimiter ∷ []))) }
+        ensures { Steps result self.new (put_parts self.old (word_parts self.old.width (decimal n
+            ++ delimiter ∷ []))) }
     {
         if n < 10 {
             return self.put_digit(n, delimiter);
@@ -189,7 +195,8 @@ impl Page {
 
     // An integer and the delimiter behind it.
     fn put_integer(&mut self, n: &i64, delimiter: u8) -> Result<(), WriteFileFault>
-        ensures { Steps result self.new (put_parts self.old (value_parts self.old.width (value.Int n.now) delimiter)) }
+        ensures { Steps result self.new (put_parts self.old
+            (value_parts self.old.width (value.Int n.now) delimiter)) }
     {
         match u64::try_from(*n) {
             Ok(n) if self.width > 20 => self.put_number(n, delimiter),
@@ -199,7 +206,8 @@ impl Page {
 
     // A value and the delimiter behind it.
     fn put_value(&mut self, value: &Value, delimiter: u8) -> Result<(), WriteFileFault>
-        ensures { Steps result self.new (put_parts self.old (value_parts self.old.width value.now delimiter)) }
+        ensures { Steps result self.new (put_parts self.old
+            (value_parts self.old.width value.now delimiter)) }
     {
         match value {
             Value::Default => self.put_word(b"", delimiter),
@@ -211,7 +219,8 @@ impl Page {
 
     // Values parted by the parameter delimiter and ended by the record delimiter.
     fn put_values(&mut self, values: &[Value], delims: &Delimiters) -> Result<(), WriteFileFault>
-        ensures { Steps result self.new (put_parts self.old (parts self.old.width delims.now values.now)) }
+        ensures { Steps result self.new (put_parts self.old
+            (parts self.old.width delims.now values.now)) }
     {
         let mut rest = values;
         'values: while let Some((value, others)) = rest.split_first() {
@@ -250,7 +259,9 @@ impl Page {
         delims: &Delimiters,
     ) -> Result<(), WriteFileFault>
         requires { self.old.line ≡ [] }
-        ensures { Steps result self.new (put_lines self.old (fill self.old.width [] (parts self.old.width delims.now (value.Int kind.now ∷ values.now)))) }
+        ensures { Steps result self.new (put_lines self.old
+            (fill self.old.width [] (parts self.old.width delims.now (value.Int kind.now
+            ∷ values.now)))) }
     {
         self.put_integer(kind, delimiter_before(values, delims))?;
         self.put_values(values, delims)?;

@@ -23,7 +23,8 @@ use std::alloc::Global;
 // The start section and the global section.
 fn put_front(page: &mut Page, file: &File) -> Result<(), WriteFileFault>
     ensures steps { Steps result page.new (with_front page.old file.now) }
-    ensures global { OnOk result (IsTrue (are_permitted file.now.global.delims) × IsTrue (list_all is_value file.now.global.values)) }
+    ensures global { OnOk result (IsTrue (are_permitted file.now.global.delims)
+        × IsTrue (list_all is_value file.now.global.values)) }
 {
     page.begin(b'S', 72);
     put_start(page, file)?;
@@ -89,9 +90,12 @@ pub fn write_file(alloc: Global, file: &File, limit: u64) -> Result<Bytes, Write
     ensures found { IfOk result (IsText file.now) }
     ensures within { IfOk result (λ bytes. length bytes ≤ limit) }
     ensures back { IfOk result (λ bytes. IsFile bytes file.now) }
-    ensures only { (bytes : List ℕ) → IsText file.now bytes → length bytes ≤ limit → Gives result (Ok bytes) }
-    ensures large { result ≡ Err WriteFileFault.TooLarge → (bytes : List ℕ) → IsText file.now bytes → limit < length bytes }
-    ensures only_large { (bytes : List ℕ) → IsText file.now bytes → limit < length bytes → Gives result (Err WriteFileFault.TooLarge) }
+    ensures only { (bytes : List ℕ) → IsText file.now bytes → length bytes ≤ limit
+        → Gives result (Ok bytes) }
+    ensures large { result ≡ Err WriteFileFault.TooLarge → (bytes : List ℕ) → IsText file.now bytes
+        → limit < length bytes }
+    ensures only_large { (bytes : List ℕ) → IsText file.now bytes → limit < length bytes
+        → Gives result (Err WriteFileFault.TooLarge) }
 {
     write(alloc, file, limit)
 }

@@ -31,7 +31,9 @@ fn source_of<R: Files>(rt: &R, path: Option<&str>) -> StdSource<R::File>
 // The words that stand for those that can't be had: where one isn't UTF-8, none, which have no listed form; else the status.
 fn words_for(alloc: Global, kind: ErrorKind) -> Result<Words, u8>
     ensures none { IfOk result (λ words. (kind ≡ ErrorKind.InvalidData) × (words ≡ [])) }
-    ensures status { IfErr result (λ status. ((kind ≡ ErrorKind.OutOfMemory) × (status ≡ code_of Answer.NoMemory)) ⊎ ((kind ≢ ErrorKind.InvalidData) × (kind ≢ ErrorKind.OutOfMemory) × (status ≡ 9))) }
+    ensures status { IfErr result (λ status. ((kind ≡ ErrorKind.OutOfMemory)
+        × (status ≡ code_of Answer.NoMemory)) ⊎ ((kind ≢ ErrorKind.InvalidData)
+        × (kind ≢ ErrorKind.OutOfMemory) × (status ≡ 9))) }
 {
     match kind {
         ErrorKind::InvalidData => Ok(Words::new(alloc)),

@@ -31,7 +31,8 @@ fn extracted(alloc: Global, file: &File, no: EntryNo) -> Result<File, NoMemory>
 // The rest, once a solid's file is extracted. Each file takes room that the one after the next needs.
 fn finished(alloc: Global, extraction: Extraction) -> Result<File, NoMemory>
     requires { (f : Contents) × (n : ℕ) × IsExtractedAs f n extraction.file extraction.no.0 }
-    ensures { (f : Contents) (n : ℕ) → IsExtractedAs f n extraction.file extraction.no.0 → AllHold (places f n) → IfOk result (IsCompacted f n) }
+    ensures { (f : Contents) (n : ℕ) → IsExtractedAs f n extraction.file extraction.no.0
+        → AllHold (places f n) → IfOk result (IsCompacted f n) }
 {
     let new = dropped(alloc, &extraction.file)?;
     let number = extraction.no;
@@ -65,7 +66,8 @@ pub fn compact(alloc: Global, file: &File, no: EntryNo) -> Result<File, CompactF
     ensures found { IfOk result (IsCompacted file.now no.0) }
     ensures only { (new : Contents) → IsCompacted file.now no.0 new → GivesFile result new }
     ensures fault { IfErr result (IsCompactFault file.now no.0) }
-    ensures only_refusal { (entity : ℕ) (reason : Reason) → IsRefused file.now no.0 entity reason → GivesRefusal result entity reason }
+    ensures only_refusal { (entity : ℕ) (reason : Reason) → IsRefused file.now no.0 entity reason
+        → GivesRefusal result entity reason }
     ensures only_place { (x : Named) → IsMisplaced file.now no.0 x → GivesPlace result x }
 {
     compacted(alloc, file, no)
@@ -76,7 +78,8 @@ pub fn into_compact(alloc: Global, file: File, no: EntryNo) -> Result<File, Comp
     ensures found { IfOk result (IsCompacted file no.0) }
     ensures only { (new : Contents) → IsCompacted file no.0 new → GivesFile result new }
     ensures fault { IfErr result (IsCompactFault file no.0) }
-    ensures only_refusal { (entity : ℕ) (reason : Reason) → IsRefused file no.0 entity reason → GivesRefusal result entity reason }
+    ensures only_refusal { (entity : ℕ) (reason : Reason) → IsRefused file no.0 entity reason
+        → GivesRefusal result entity reason }
     ensures only_place { (x : Named) → IsMisplaced file no.0 x → GivesPlace result x }
 {
     turned_into_compacted(alloc, file, no)

@@ -33,7 +33,10 @@ fn record_values(
     requires of_kind { IsOfItsKind (entry.now, values.now) }
     requires edge_size { length edge_row.now ≡ length (edges_in (entry.now, values.now)) }
     requires vertex_size { length vertex_row.now ≡ length (vertices_in (entry.now, values.now)) }
-    ensures { (g : Contents) (e : ℕ) → AreTables g ranks.now.edges ranks.now.vertices → MarksItems edge_row.now (is_used_edge g e) → MarksItems vertex_row.now (is_used_vertex g e) → IfOk result (λ v. v ≡ dropped_values g e (entry.now, values.now)) }
+    ensures { (g : Contents) (e : ℕ) → AreTables g ranks.now.edges ranks.now.vertices
+        → MarksItems edge_row.now (is_used_edge g e)
+        → MarksItems vertex_row.now (is_used_vertex g e)
+        → IfOk result (λ v. v ≡ dropped_values g e (entry.now, values.now)) }
 {
     if entry.kind == 508 {
         let Some(listed) = LoopRecord::of(values) else {

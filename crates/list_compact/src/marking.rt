@@ -23,8 +23,10 @@ pub struct FileMarks {
 }
 
 fn mark_tuple(marks: &mut FileMarks, tuple: &LoopTuple<'_>)
-    ensures edges { (used : ℕ → ℕ → Bool) → AreMarks marks.old.edges used → AreMarks marks.new.edges (λ e j. used e j || names_edge e j tuple.now) }
-    ensures vertices { (used : ℕ → ℕ → Bool) → AreMarks marks.old.vertices used → AreMarks marks.new.vertices (λ v j. used v j || names_vertex v j tuple.now) }
+    ensures edges { (used : ℕ → ℕ → Bool) → AreMarks marks.old.edges used
+        → AreMarks marks.new.edges (λ e j. used e j || names_edge e j tuple.now) }
+    ensures vertices { (used : ℕ → ℕ → Bool) → AreMarks marks.old.vertices used
+        → AreMarks marks.new.vertices (λ v j. used v j || names_vertex v j tuple.now) }
     ensures edge_sizes { sizes marks.new.edges ≡ sizes marks.old.edges }
     ensures vertex_sizes { sizes marks.new.vertices ≡ sizes marks.old.vertices }
 {
@@ -36,8 +38,10 @@ fn mark_tuple(marks: &mut FileMarks, tuple: &LoopTuple<'_>)
 }
 
 fn mark_loop(marks: &mut FileMarks, listed: &LoopRecord<'_>)
-    ensures edges { (used : ℕ → ℕ → Bool) → AreMarks marks.old.edges used → AreMarks marks.new.edges (λ e j. used e j || list_any (names_edge e j) listed.now) }
-    ensures vertices { (used : ℕ → ℕ → Bool) → AreMarks marks.old.vertices used → AreMarks marks.new.vertices (λ v j. used v j || list_any (names_vertex v j) listed.now) }
+    ensures edges { (used : ℕ → ℕ → Bool) → AreMarks marks.old.edges used
+        → AreMarks marks.new.edges (λ e j. used e j || list_any (names_edge e j) listed.now) }
+    ensures vertices { (used : ℕ → ℕ → Bool) → AreMarks marks.old.vertices used
+        → AreMarks marks.new.vertices (λ v j. used v j || list_any (names_vertex v j) listed.now) }
     ensures edge_sizes { sizes marks.new.edges ≡ sizes marks.old.edges }
     ensures vertex_sizes { sizes marks.new.vertices ≡ sizes marks.old.vertices }
 {
@@ -47,7 +51,8 @@ fn mark_loop(marks: &mut FileMarks, listed: &LoopRecord<'_>)
 }
 
 fn mark_ends(vertices: &mut Marks, edge: &EdgeTuple)
-    ensures marked { (used : ℕ → ℕ → Bool) → AreMarks vertices.old used → AreMarks vertices.new (λ v j. used v j || has_end v j edge.now) }
+    ensures marked { (used : ℕ → ℕ → Bool) → AreMarks vertices.old used
+        → AreMarks vertices.new (λ v j. used v j || has_end v j edge.now) }
     ensures sizes { sizes vertices.new ≡ sizes vertices.old }
 {
     vertices.mark(edge.start_list, edge.start_index);
@@ -108,8 +113,12 @@ fn unmarked(alloc: Global, file: &File) -> Result<FileMarks, NoMemory>
 // Marks what an entry uses, where it is a loop.
 fn mark_entry(marks: &mut FileMarks, entry: &Entry, values: &Values)
     requires { IsOfItsKind (entry.now, values.now) }
-    ensures edges { (used : ℕ → ℕ → Bool) → AreMarks marks.old.edges used → AreMarks marks.new.edges (λ e j. used e j || list_any (names_edge e j) (tuples_in (entry.now, values.now))) }
-    ensures vertices { (used : ℕ → ℕ → Bool) → AreMarks marks.old.vertices used → AreMarks marks.new.vertices (λ v j. used v j || list_any (names_vertex v j) (tuples_in (entry.now, values.now))) }
+    ensures edges { (used : ℕ → ℕ → Bool) → AreMarks marks.old.edges used
+        → AreMarks marks.new.edges (λ e j. used e j
+        || list_any (names_edge e j) (tuples_in (entry.now, values.now))) }
+    ensures vertices { (used : ℕ → ℕ → Bool) → AreMarks marks.old.vertices used
+        → AreMarks marks.new.vertices (λ v j. used v j
+        || list_any (names_vertex v j) (tuples_in (entry.now, values.now))) }
     ensures edge_sizes { sizes marks.new.edges ≡ sizes marks.old.edges }
     ensures vertex_sizes { sizes marks.new.vertices ≡ sizes marks.old.vertices }
 {
@@ -125,8 +134,12 @@ fn mark_entry(marks: &mut FileMarks, entry: &Entry, values: &Values)
 // Marks what the loops of a file use.
 fn mark_loops(marks: &mut FileMarks, file: &File)
     requires { AreRecords file.now }
-    ensures edges { (used : ℕ → ℕ → Bool) → AreMarks marks.old.edges used → AreMarks marks.new.edges (λ e j. used e j || list_any (names_edge e j) (all_uses file.now)) }
-    ensures vertices { (used : ℕ → ℕ → Bool) → AreMarks marks.old.vertices used → AreMarks marks.new.vertices (λ v j. used v j || list_any (names_vertex v j) (all_uses file.now)) }
+    ensures edges { (used : ℕ → ℕ → Bool) → AreMarks marks.old.edges used
+        → AreMarks marks.new.edges (λ e j. used e j
+        || list_any (names_edge e j) (all_uses file.now)) }
+    ensures vertices { (used : ℕ → ℕ → Bool) → AreMarks marks.old.vertices used
+        → AreMarks marks.new.vertices (λ v j. used v j
+        || list_any (names_vertex v j) (all_uses file.now)) }
     ensures edge_sizes { sizes marks.new.edges ≡ sizes marks.old.edges }
     ensures vertex_sizes { sizes marks.new.vertices ≡ sizes marks.old.vertices }
 {
@@ -139,7 +152,9 @@ fn mark_loops(marks: &mut FileMarks, file: &File)
 
 // Marks where an edge that is used starts and ends.
 fn mark_used_ends(vertices: &mut Marks, is_used: bool, edge: &EdgeTuple)
-    ensures marked { (used : ℕ → ℕ → Bool) → AreMarks vertices.old used → AreMarks vertices.new (λ v j. used v j || list_any (has_end v j) (if is_used then edge.now ∷ [] else [])) }
+    ensures marked { (used : ℕ → ℕ → Bool) → AreMarks vertices.old used
+        → AreMarks vertices.new (λ v j. used v j
+        || list_any (has_end v j) (if is_used then edge.now ∷ [] else [])) }
     ensures sizes { sizes vertices.new ≡ sizes vertices.old }
 {
     if is_used {
@@ -150,7 +165,9 @@ fn mark_used_ends(vertices: &mut Marks, is_used: bool, edge: &EdgeTuple)
 // Marks where the marked edges of a list start and end.
 fn mark_list_ends(vertices: &mut Marks, row: &[bool], listed: &EdgeList<'_>)
     requires { length row.now ≡ length listed.now }
-    ensures marked { (edge_used : ℕ → Bool) → MarksItems row.now edge_used → (used : ℕ → ℕ → Bool) → AreMarks vertices.old used → AreMarks vertices.new (λ v j. used v j || list_any (has_end v j) (used_from edge_used 1 listed.now)) }
+    ensures marked { (edge_used : ℕ → Bool) → MarksItems row.now edge_used → (used : ℕ → ℕ → Bool)
+        → AreMarks vertices.old used → AreMarks vertices.new
+        (λ v j. used v j || list_any (has_end v j) (used_from edge_used 1 listed.now)) }
     ensures sizes { sizes vertices.new ≡ sizes vertices.old }
 {
     let count = listed.len();
@@ -164,7 +181,10 @@ fn mark_list_ends(vertices: &mut Marks, row: &[bool], listed: &EdgeList<'_>)
 fn mark_entry_ends(vertices: &mut Marks, row: &[bool], entry: &Entry, values: &Values)
     requires of_kind { IsOfItsKind (entry.now, values.now) }
     requires size { length row.now ≡ length (edges_in (entry.now, values.now)) }
-    ensures marked { (edge_used : ℕ → Bool) → MarksItems row.now edge_used → (used : ℕ → ℕ → Bool) → AreMarks vertices.old used → AreMarks vertices.new (λ v j. used v j || list_any (has_end v j) (used_from edge_used 1 (edges_in (entry.now, values.now)))) }
+    ensures marked { (edge_used : ℕ → Bool) → MarksItems row.now edge_used → (used : ℕ → ℕ → Bool)
+        → AreMarks vertices.old used → AreMarks vertices.new
+        (λ v j. used v j || list_any (has_end v j)
+        (used_from edge_used 1 (edges_in (entry.now, values.now)))) }
     ensures sizes { sizes vertices.new ≡ sizes vertices.old }
 {
     if entry.kind != 504 {
@@ -180,7 +200,9 @@ fn mark_entry_ends(vertices: &mut Marks, row: &[bool], entry: &Entry, values: &V
 fn mark_all_ends(vertices: &mut Marks, edges: &Marks, file: &File)
     requires records { AreRecords file.now }
     requires sizes { sizes edges.now ≡ edge_sizes file.now }
-    ensures marked { (edge_used used : ℕ → ℕ → Bool) → AreMarks edges.now edge_used → AreMarks vertices.old used → AreMarks vertices.new (λ v j. used v j || list_any (has_end v j) (ends_by edge_used file.now)) }
+    ensures marked { (edge_used used : ℕ → ℕ → Bool) → AreMarks edges.now edge_used
+        → AreMarks vertices.old used → AreMarks vertices.new
+        (λ v j. used v j || list_any (has_end v j) (ends_by edge_used file.now)) }
     ensures sizes { sizes vertices.new ≡ sizes vertices.old }
 {
     let count = file.entry_count();

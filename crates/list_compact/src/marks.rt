@@ -41,7 +41,8 @@ impl Marks {
 
     /// Marks the item that the number of a list and an index name, where there is one.
     pub fn mark(&mut self, list: i64, index: i64)
-        ensures marked { (used : ℕ → ℕ → Bool) → AreMarks self.old used → AreMarks self.new (λ e j. used e j || is_at list index e j) }
+        ensures marked { (used : ℕ → ℕ → Bool) → AreMarks self.old used
+            → AreMarks self.new (λ e j. used e j || is_at list index e j) }
         ensures sizes { sizes self.new ≡ sizes self.old }
     {
         let Some(place) = place_of(list, index) else {

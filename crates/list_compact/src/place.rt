@@ -11,7 +11,8 @@ pub struct Place {
 
 /// The place that the number of a list and an index name; None where they can name none.
 pub fn place_of(list: i64, index: i64) -> Option<Place>
-    ensures some { IfSome result (λ p. (list ≡ pos (2 * p.entry + 1)) × (index ≡ pos (p.item + 1))) }
+    ensures some { IfSome result (λ p. (list ≡ pos (2 * p.entry + 1))
+        × (index ≡ pos (p.item + 1))) }
     ensures none { IfNone result ((k i : ℕ) → list ≡ pos (2 * k + 1) → ¬ (index ≡ pos (i + 1))) }
 {
     let (Ok(number), Ok(index)) = (u64::try_from(list), u64::try_from(index)) else {

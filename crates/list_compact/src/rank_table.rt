@@ -71,7 +71,8 @@ pub fn ranks_by(alloc: Global, marks: &Marks) -> Result<Ranks, NoMemory>
 impl Ranks {
     // The rank of the item that the number of a list and an index name; 0 where there is none, or it isn't used.
     fn rank(&self, list: i64, index: i64) -> i64
-        ensures item { (k i : ℕ) (row : List ℤ) → list ≡ pos (2 * k + 1) → index ≡ pos (i + 1) → slice_get self.now k ≡ Some row → result ≡ slice_index_or row i (pos 0) }
+        ensures item { (k i : ℕ) (row : List ℤ) → list ≡ pos (2 * k + 1) → index ≡ pos (i + 1)
+            → slice_get self.now k ≡ Some row → result ≡ slice_index_or row i (pos 0) }
         ensures found { (result ≡ pos 0) ⊎ IsRankAt self.now list index result }
     {
         let Some(place) = place_of(list, index) else {
@@ -85,7 +86,8 @@ impl Ranks {
 
     /// The index of an item among those that are used, where it is; and else the index.
     pub fn index(&self, list: i64, index: i64) -> i64
-        ensures { (used : ℕ → ℕ → Bool) → AreRanks self.now used → Covers self.now used → result ≡ ranked (used (entry_number list)) index }
+        ensures { (used : ℕ → ℕ → Bool) → AreRanks self.now used → Covers self.now used
+            → result ≡ ranked (used (entry_number list)) index }
     {
         let rank = self.rank(list, index);
         if rank == 0 { index } else { rank }

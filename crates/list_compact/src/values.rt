@@ -66,7 +66,8 @@ pub fn copied(alloc: Global, values: &Values) -> Result<Values, NoMemory>
 }
 
 fn tuple_index(ranks: &FileRanks, tuple: &LoopTuple<'_>) -> i64
-    ensures { (g : Contents) → AreTables g ranks.now.edges ranks.now.vertices → result ≡ tuple_index g tuple.now.is_vertex tuple.now.list tuple.now.index }
+    ensures { (g : Contents) → AreTables g ranks.now.edges ranks.now.vertices
+        → result ≡ tuple_index g tuple.now.is_vertex tuple.now.list tuple.now.index }
 {
     if tuple.is_vertex() {
         ranks.vertices.index(tuple.list(), tuple.index())
@@ -112,7 +113,8 @@ fn push_tuple(
     index: i64,
 ) -> Result<usize, NoMemory>
     requires { at + length (tuple_due tuple.now) < 2 ^ 64 }
-    ensures list { OnOk result (list.new ≡ list.old ++ take 2 (drop at values.now) ++ int_value index ∷ take (2 + 2 * length tuple.now.curves) (drop (at + 3) values.now)) }
+    ensures list { OnOk result (list.new ≡ list.old ++ take 2 (drop at values.now)
+        ++ int_value index ∷ take (2 + 2 * length tuple.now.curves) (drop (at + 3) values.now)) }
     ensures end { IfOk result (λ end. end ≡ at + length (tuple_due tuple.now)) }
 {
     let curves = tuple.curve_count();
@@ -132,7 +134,8 @@ pub fn loop_values(
     requires short { length values.now ≤ FILE_LIMIT }
     requires is { IsRecordOf «loop» values.now }
     requires read { listed.now ≡ items_of «loop» values.now }
-    ensures { (g : Contents) → AreTables g ranks.now.edges ranks.now.vertices → IfOk result (λ list. list ≡ loop_values g values.now) }
+    ensures { (g : Contents) → AreTables g ranks.now.edges ranks.now.vertices
+        → IfOk result (λ list. list ≡ loop_values g values.now) }
 {
     let mut list = Values::with_room(alloc, values.len())?;
     push_copies(&mut list, alloc, values, 0, 1)?;
@@ -164,7 +167,9 @@ fn push_used_edge(
     is_used: bool,
     edge: &EdgeTuple,
 ) -> Result<(), NoMemory>
-    ensures { OnOk result ((g : Contents) → IsVertexTable g ranks.now → list.new ≡ list.old ++ (if is_used then edge_spelled (reindexed_edge g edge.now) else [])) }
+    ensures { OnOk result ((g : Contents) → IsVertexTable g ranks.now
+        → list.new ≡ list.old ++ (if is_used then edge_spelled (reindexed_edge g edge.now)
+        else [])) }
 {
     if is_used {
         push_edge(list, &reindexed(ranks, edge))?;
@@ -179,7 +184,8 @@ fn push_used_vertex(
     is_used: bool,
     from: usize,
 ) -> Result<(), NoMemory>
-    ensures { OnOk result (list.new ≡ list.old ++ (if is_used then take 3 (drop from values.now) else [])) }
+    ensures { OnOk result (list.new ≡ list.old
+        ++ (if is_used then take 3 (drop from values.now) else [])) }
 {
     if is_used {
         push_copies(list, alloc, values, from, 3)?;
@@ -199,7 +205,9 @@ pub fn edge_values(
     requires is { IsRecordOf edges values.now }
     requires read { listed.now ≡ items_of edges values.now }
     requires size { length row.now ≡ length listed.now }
-    ensures { (g : Contents) (e : ℕ) → IsVertexTable g ranks.now → MarksItems row.now (is_used_edge g e) → IfOk result (λ list. list ≡ edge_values g e values.now) }
+    ensures { (g : Contents) (e : ℕ) → IsVertexTable g ranks.now
+        → MarksItems row.now (is_used_edge g e) → IfOk result
+        (λ list. list ≡ edge_values g e values.now) }
 {
     let kept = count_marks(row);
     let mut list = Values::new(alloc);
@@ -228,7 +236,8 @@ pub fn vertex_values(
     requires is { IsRecordOf vertices values.now }
     requires read { listed.now ≡ items_of vertices values.now }
     requires size { length row.now ≡ length listed.now }
-    ensures { (g : Contents) (v : ℕ) → MarksItems row.now (is_used_vertex g v) → IfOk result (λ list. list ≡ vertex_values g v values.now) }
+    ensures { (g : Contents) (v : ℕ) → MarksItems row.now (is_used_vertex g v)
+        → IfOk result (λ list. list ≡ vertex_values g v values.now) }
 {
     let kept = count_marks(row);
     let mut list = Values::new(alloc);

@@ -12,7 +12,8 @@ use open_shells::{Illegal, OpenChecker};
 /// (own). A rest without LF is misspelt.
 pub(crate) fn judge_lines(checker: &mut OpenChecker<'_>, text: &[u8]) -> Result<(), Illegal>
     requires { IsAt checker.old [] }
-    ensures { MatchResult result (λ _. IsOpenLegal checker.old.solid (cut_lines text.now)) (λ bad. IsOpenFirstBad checker.old.solid (cut_lines text.now) bad) }
+    ensures { MatchResult result (λ _. IsOpenLegal checker.old.solid (cut_lines text.now))
+        (λ bad. IsOpenFirstBad checker.old.solid (cut_lines text.now) bad) }
 {
     let mut rest = text;
     'lines: while let Some((line, after)) = first_line(rest) {

@@ -9,7 +9,8 @@ ghost use Rattle.open_commands.specs.Verdict.{OpenVerdict, IsOpenVerdict};
 
 /// An open shell of a file has exactly one verdict. (own)
 pub fn one_verdict()
-    ensures one { (f : Contents) (n : ℕ) (a b : OpenVerdict) → IsOpenVerdict f n a → IsOpenVerdict f n b → a ≡ b }
+    ensures one { (f : Contents) (n : ℕ) (a b : OpenVerdict) → IsOpenVerdict f n a
+        → IsOpenVerdict f n b → a ≡ b }
     ensures always { (f : Contents) (n : ℕ) → (verdict : OpenVerdict) × IsOpenVerdict f n verdict }
 {}
 

@@ -20,7 +20,8 @@ use topo_certificate::CERT_LIMIT;
 
 // The reply for a certificate that names a shell in its second line, by the text from that line on.
 fn lines_reply(alloc: Global, file: File, no: EntryNo, lines: &[u8]) -> Result<Reply, NoMemory>
-    ensures { IfOk result (λ reply. OfShellLines no.0 (cut_lines lines.now) file reply.answer reply.text) }
+    ensures { IfOk result (λ reply. OfShellLines no.0
+        (cut_lines lines.now) file reply.answer reply.text) }
 {
     let solid = match checked_shell(alloc, file, no) {
         Ok(solid) => solid,
@@ -50,7 +51,8 @@ fn text_reply(alloc: Global, file: File, certificate: &[u8]) -> Result<Reply, No
 /// accepted, else the first thing that is wrong (own). The certificate is read to its end and held whole.
 pub fn verify_shell<C: Source>(alloc: Global, file: File, cert: &mut C) -> Result<Reply, Stop>
     requires { C.can_read cert.old }
-    ensures found { IfOk result (IsReply (λ certificate. OfOpenVerify certificate file) (C.left cert.old)) }
+    ensures found { IfOk result (IsReply (λ certificate. OfOpenVerify certificate file)
+        (C.left cert.old)) }
     ensures whole { IfOk result (λ reply. ReadsCertificate (C.left cert.new) reply.answer) }
     ensures count { CountAfterCall (C.faults cert.old) (C.faults cert.new) result }
     ensures taken { TakesWithin CERT_LIMIT (C.left cert.old) (C.left cert.new) result }

@@ -24,7 +24,8 @@ use std::alloc::Global;
 fn border_at(mated: &Mated<'_>, r: u32) -> Option<u32>
     requires { r < length mated.now.rows }
     ensures none { result ≡ None → ¬ IsBorder mated.now r }
-    ensures some { MatchOption result (length mated.now.rows ≡ length mated.now.rows) (λ b. IsBorder mated.now r × (b ≡ r)) }
+    ensures some { MatchOption result (length mated.now.rows ≡ length mated.now.rows)
+        (λ b. IsBorder mated.now r × (b ≡ r)) }
 {
     match mated.mate(r) {
         Some(_) => None,
@@ -101,7 +102,8 @@ pub(crate) fn cycle_from(
 fn mark_all(seen: &mut Vec<bool>, rows: &[RowId])
     requires { AllByRecursion (λ (r : AnyRowId). r.0 < vec_len seen.old) rows.now }
     ensures len { vec_len seen.new ≡ vec_len seen.old }
-    ensures marks { (x : ℕ) → (get_or seen.new.items x false ≡ true) ↔ ((get_or seen.old.items x false ≡ true) ⊎ Has (row_numbers rows.now) x) }
+    ensures marks { (x : ℕ) → (get_or seen.new.items x false ≡ true)
+        ↔ ((get_or seen.old.items x false ≡ true) ⊎ Has (row_numbers rows.now) x) }
 {
     'rows: for i in 0..rows.len() {
         seen[rows[i].0 as usize] = true;
@@ -125,7 +127,8 @@ fn add_cycle(
     requires len { length starts.now ≡ span.count }
     requires starts { AreStartsOf mated.now span starts.now }
     requires cycles { IsBordering mated.now r seen.old.items (map row_numbers cycles.old) }
-    ensures { IfOk result (λ _. IsBordering mated.now (r + 1) seen.new.items (map row_numbers cycles.new)) }
+    ensures { IfOk result (λ _. IsBordering mated.now (r + 1) seen.new.items
+        (map row_numbers cycles.new)) }
 {
     if seen[r as usize] {
         return Ok(());

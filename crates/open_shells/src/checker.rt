@@ -89,7 +89,8 @@ impl<'a> OpenChecker<'a> {
 
     fn take_shell(&mut self, words: &OpenCounts) -> bool
         requires { self.old.ended ≡ false }
-        ensures line { TakesLine self.old self.new (shell words.now.shell words.now.rows words.now.edges words.now.corners words.now.faces words.now.borders) result }
+        ensures line { TakesLine self.old self.new
+            (shell words.now.shell words.now.rows words.now.edges words.now.corners words.now.faces words.now.borders) result }
         ensures solid { self.new.solid ≡ self.old.solid }
         ensures number { result ≡ false → self.new.number ≡ self.old.number }
     {
@@ -117,7 +118,8 @@ impl<'a> OpenChecker<'a> {
     /// Takes an edge, corner, path, point, reach or border line, exactly where it fits.
     fn take_row_line(&mut self, words: OpenWords<'_>) -> bool
         requires { self.old.ended ≡ false }
-        ensures line { (line : OpenLine) → Means words.entry line → HasSpelling line → IsRowLine line → TakesLine self.old self.new line result }
+        ensures line { (line : OpenLine) → Means words.entry line → HasSpelling line
+            → IsRowLine line → TakesLine self.old self.new line result }
         ensures solid { self.new.solid ≡ self.old.solid }
         ensures number { result ≡ false → self.new.number ≡ self.old.number }
     {
@@ -130,7 +132,8 @@ impl<'a> OpenChecker<'a> {
 
     /// Takes a line, exactly where it fits.
     fn take(&mut self, words: OpenWords<'_>) -> bool
-        ensures line { (line : OpenLine) → Means words.entry line → HasSpelling line → TakesLine self.old self.new line result }
+        ensures line { (line : OpenLine) → Means words.entry line → HasSpelling line
+            → TakesLine self.old self.new line result }
         ensures solid { self.new.solid ≡ self.old.solid }
         ensures number { result ≡ false → self.new.number ≡ self.old.number }
     {

@@ -69,7 +69,8 @@ fn walk(
     requires some { 0 < starts.count }
     requires head { IsHeadOf mated.now vertex head }
     requires no_point { point_count mated.now vertex ≡ 0 }
-    ensures { IfOk result (λ o. MatchOption o (¬ IsFan mated.now vertex) (λ corner. LiesAt mated.now vertex corner × IsFan mated.now vertex)) }
+    ensures { IfOk result (λ o. MatchOption o (¬ IsFan mated.now vertex)
+        (λ corner. LiesAt mated.now vertex corner × IsFan mated.now vertex)) }
 {
     let first = first_row(starts, head);
     let mut rows = RowList::new(alloc);
@@ -108,7 +109,8 @@ fn corner_at(
     requires starts { AreStarts mated.now vertex starts }
     requires points { ArePoints mated.now vertex points }
     requires head { IsHeadOf mated.now vertex head }
-    ensures { IfOk result (λ o. MatchOption o (¬ IsFanned mated.now vertex) (λ corner. LiesAt mated.now vertex corner × IsFanned mated.now vertex)) }
+    ensures { IfOk result (λ o. MatchOption o (¬ IsFanned mated.now vertex)
+        (λ corner. LiesAt mated.now vertex corner × IsFanned mated.now vertex)) }
 {
     if starts.count == 0 {
         if points.count != 1 {

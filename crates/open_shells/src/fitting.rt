@@ -18,7 +18,8 @@ use topo_certificate::{is_above, named_row, turns_to};
 
 /// Whether these are the counts of the shell.
 pub(crate) fn fits_counts(rows: &Rows, words: &OpenCounts) -> bool
-    ensures { IsTrue result ↔ AreCounts rows.now words.now.rows words.now.edges words.now.corners words.now.faces }
+    ensures { IsTrue result
+        ↔ AreCounts rows.now words.now.rows words.now.edges words.now.corners words.now.faces }
 {
     words.rows as usize == rows.len()
         && words.edges as usize == rows.edge_count()
@@ -135,7 +136,8 @@ fn goes_on_to(rows: &Rows, row: u32, next: u32) -> bool
 
 /// Whether a row may follow the last one of a border line.
 fn borders_on(rows: &Rows, lone: &[bool], first: u32, last: u32, next: u32) -> bool
-    ensures { IsTrue result ↔ (first < next) × IsMarked lone.now next × GoesOnTo rows.now last next }
+    ensures { IsTrue result ↔ (first < next) × IsMarked lone.now next
+        × GoesOnTo rows.now last next }
 {
     first < next && is_marked(lone, next) && goes_on_to(rows, last, next)
 }

@@ -25,9 +25,12 @@ pub(crate) struct Flood {
 impl Flood {
     fn add(&mut self, face: u32, row: u32) -> Result<(), NoMemory>
         requires { face < length self.old.marks.items }
-        ensures marks { IfOk result (λ _. self.new.marks.items ≡ slice_set self.old.marks.items face true) }
-        ensures order { IfOk result (λ _. self.new.order.items ≡ self.old.order.items ++ face ∷ []) }
-        ensures rows { IfOk result (λ _. self.new.rows ≡ self.old.rows ++ (record { 0 = row }) ∷ []) }
+        ensures marks { IfOk result (λ _. self.new.marks.items
+            ≡ slice_set self.old.marks.items face true) }
+        ensures order { IfOk result (λ _. self.new.order.items
+            ≡ self.old.order.items ++ face ∷ []) }
+        ensures rows { IfOk result (λ _. self.new.rows
+            ≡ self.old.rows ++ (record { 0 = row }) ∷ []) }
     {
         self.order.push(face)?;
         self.rows.push(RowId(row))?;
@@ -40,10 +43,14 @@ impl Flood {
         requires whole { AreOnce paired.now }
         requires row { OnFace paired.now face r }
         requires known { Has self.old.order.items face }
-        requires flood { IsFlood paired.now self.old.marks.items self.old.order.items (row_numbers self.old.rows) }
-        ensures flood { IfOk result (λ _. IsFlood paired.now self.new.marks.items self.new.order.items (row_numbers self.new.rows)) }
+        requires flood { IsFlood paired.now self.old.marks.items self.old.order.items
+            (row_numbers self.old.rows) }
+        ensures flood { IfOk result
+            (λ _. IsFlood paired.now self.new.marks.items self.new.order.items
+            (row_numbers self.new.rows)) }
         ensures grows { IfOk result (λ _. Grows self.old.order.items self.new.order.items) }
-        ensures there { IfOk result (λ _. (m g : ℕ) → AreMates paired.now r m → OnFace paired.now g m → Has self.new.order.items g) }
+        ensures there { IfOk result (λ _. (m g : ℕ) → AreMates paired.now r m
+            → OnFace paired.now g m → Has self.new.order.items g) }
     {
         let rows = paired.rows();
         let Some(mate) = paired.mate(r) else {
@@ -62,8 +69,11 @@ impl Flood {
         requires table { AreFaceRows paired.now faces.now.first.items faces.now.next.items }
         requires known { Has self.old.order.items face }
         requires low { face < paired.now.face_count }
-        requires flood { IsFlood paired.now self.old.marks.items self.old.order.items (row_numbers self.old.rows) }
-        ensures flood { IfOk result (λ _. IsFlood paired.now self.new.marks.items self.new.order.items (row_numbers self.new.rows)) }
+        requires flood { IsFlood paired.now self.old.marks.items self.old.order.items
+            (row_numbers self.old.rows) }
+        ensures flood { IfOk result
+            (λ _. IsFlood paired.now self.new.marks.items self.new.order.items
+            (row_numbers self.new.rows)) }
         ensures grows { IfOk result (λ _. Grows self.old.order.items self.new.order.items) }
         ensures done { IfOk result (λ _. IsDone paired.now self.new.order.items face) }
     {
@@ -79,7 +89,8 @@ impl Flood {
     pub(crate) fn start(alloc: Global, paired: &Mated<'_>, count: usize) -> Result<Flood, NoMemory>
         requires some { 0 < count }
         requires count { count ≡ paired.now.face_count }
-        ensures { IfOk result (λ flood. IsFlood paired.now flood.marks.items flood.order.items (row_numbers flood.rows)) }
+        ensures { IfOk result (λ flood. IsFlood paired.now flood.marks.items flood.order.items
+            (row_numbers flood.rows)) }
     {
         let mut marks = vec![in alloc; false; count]?;
         marks[0] = true;
@@ -95,11 +106,16 @@ impl Flood {
     fn leave_next(&mut self, paired: &Mated<'_>, faces: &FaceRows, q: usize) -> Result<(), NoMemory>
         requires whole { AreOnce paired.now }
         requires table { AreFaceRows paired.now faces.now.first.items faces.now.next.items }
-        requires flood { IsFlood paired.now self.old.marks.items self.old.order.items (row_numbers self.old.rows) }
-        ensures flood { IfOk result (λ _. IsFlood paired.now self.new.marks.items self.new.order.items (row_numbers self.new.rows)) }
+        requires flood { IsFlood paired.now self.old.marks.items self.old.order.items
+            (row_numbers self.old.rows) }
+        ensures flood { IfOk result
+            (λ _. IsFlood paired.now self.new.marks.items self.new.order.items
+            (row_numbers self.new.rows)) }
         ensures grows { IfOk result (λ _. Grows self.old.order.items self.new.order.items) }
-        ensures same { IfOk result (λ _. length self.old.order.items ≤ q → self.new.order.items ≡ self.old.order.items) }
-        ensures done { IfOk result (λ _. (f : ℕ) → slice_get self.new.order.items q ≡ Some f → IsDone paired.now self.new.order.items f) }
+        ensures same { IfOk result (λ _. length self.old.order.items ≤ q
+            → self.new.order.items ≡ self.old.order.items) }
+        ensures done { IfOk result (λ _. (f : ℕ) → slice_get self.new.order.items q ≡ Some f
+            → IsDone paired.now self.new.order.items f) }
     {
         if q >= self.order.len() {
             return Ok(());
@@ -118,9 +134,13 @@ impl Flood {
         requires whole { AreOnce paired.now }
         requires table { AreFaceRows paired.now faces.now.first.items faces.now.next.items }
         requires count { count ≡ paired.now.face_count }
-        requires flood { IsFlood paired.now self.old.marks.items self.old.order.items (row_numbers self.old.rows) }
-        ensures flood { IfOk result (λ _. IsFlood paired.now self.new.marks.items self.new.order.items (row_numbers self.new.rows)) }
-        ensures done { IfOk result (λ _. (f : ℕ) → Has self.new.order.items f → IsDone paired.now self.new.order.items f) }
+        requires flood { IsFlood paired.now self.old.marks.items self.old.order.items
+            (row_numbers self.old.rows) }
+        ensures flood { IfOk result
+            (λ _. IsFlood paired.now self.new.marks.items self.new.order.items
+            (row_numbers self.new.rows)) }
+        ensures done { IfOk result (λ _. (f : ℕ) → Has self.new.order.items f
+            → IsDone paired.now self.new.order.items f) }
     {
         'places: for q in 0..count {
             self.leave_next(paired, faces, q)?;

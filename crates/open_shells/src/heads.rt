@@ -21,7 +21,8 @@ fn head_behind(mated: &Mated<'_>, r: u32) -> Option<u32>
     requires there { r < length mated.now.rows }
     requires whole { AreOnce mated.now }
     ensures none { result ≡ None → ¬ IsBorder mated.now r }
-    ensures some { MatchOption result (length mated.now.rows ≡ length mated.now.rows) (λ h. IsBorder mated.now r × Follows mated.now r h) }
+    ensures some { MatchOption result (length mated.now.rows ≡ length mated.now.rows)
+        (λ h. IsBorder mated.now r × Follows mated.now r h) }
 {
     match mated.mate(r) {
         Some(_) => None,
@@ -35,7 +36,8 @@ pub(crate) fn note(heads: &mut Vec<Option<u32>>, span: Span, vertex: u32, head: 
     requires len { vec_len heads.old ≡ span.count }
     ensures len { vec_len heads.new ≡ span.count }
     ensures none { head ≡ None → heads.new.items ≡ heads.old.items }
-    ensures some { MatchOption head (length heads.old.items ≡ length heads.old.items) (λ h. heads.new.items ≡ slice_set heads.old.items (vertex - span.least) (Some h)) }
+    ensures some { MatchOption head (length heads.old.items ≡ length heads.old.items)
+        (λ h. heads.new.items ≡ slice_set heads.old.items (vertex - span.least) (Some h)) }
 {
     if let Some(h) = head {
         heads[(vertex - span.least) as usize] = Some(h);

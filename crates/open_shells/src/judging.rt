@@ -25,9 +25,11 @@ use std::alloc::Global;
 /// Whether each loop joins.
 pub(crate) fn join(solid: &Solid, shell: &Shell) -> Result<(), OpenFailing>
     requires { slice_get solid.now.shells 0 ≡ Some shell.now }
-    ensures holds { OnOk result (AllHold (map (as_open OpenRule.Join) (join_obligations solid.now shell.now))) }
+    ensures holds { OnOk result (AllHold (map (as_open OpenRule.Join)
+        (join_obligations solid.now shell.now))) }
     ensures meet { OnOk result (EndsMeet (shell_rows solid.now shell.now)) }
-    ensures fails { IfErr result (FirstFalse (map (as_open OpenRule.Join) (join_obligations solid.now shell.now))) }
+    ensures fails { IfErr result (FirstFalse
+        (map (as_open OpenRule.Join) (join_obligations solid.now shell.now))) }
 {
     match first_unjoined(solid, ShellAt(0)) {
         Some(open) => Err(unjoined(shell, open)),
@@ -44,8 +46,10 @@ pub(crate) fn once<'a>(
     requires { EndsMeet rows.now }
     ensures rows { IfOk result (λ p. p.1 ≡ rows.now) }
     ensures edges { IfOk result (λ p. AllZip (AreRowsOf rows.now) rows.now.edges p.0) }
-    ensures holds { OnOk result (AllHold (map (edge_obligation solid.now rows.now) rows.now.edges)) }
-    ensures fails { IfErr result (IsOpenFault (map (edge_obligation solid.now rows.now) rows.now.edges)) }
+    ensures holds { OnOk result (AllHold (map
+        (edge_obligation solid.now rows.now) rows.now.edges)) }
+    ensures fails { IfErr result (IsOpenFault
+        (map (edge_obligation solid.now rows.now) rows.now.edges)) }
 {
     match with_mates(alloc, rows) {
         Ok(made) => Ok(made),
@@ -58,8 +62,10 @@ pub(crate) fn once<'a>(
 pub(crate) fn reached(alloc: Global, shell: &Shell, mated: &Mated<'_>) -> Result<RowList, OpenFault>
     requires { mated.now.face_count ≡ length shell.now.faces }
     ensures rows { IfOk result (λ rows. ReachesAll mated.now (row_numbers rows)) }
-    ensures holds { OnOk result (AllHold (map (as_open OpenRule.Reach) (reach_obligations shell.now mated.now))) }
-    ensures fails { IfErr result (IsOpenFault (map (as_open OpenRule.Reach) (reach_obligations shell.now mated.now))) }
+    ensures holds { OnOk result (AllHold (map (as_open OpenRule.Reach)
+        (reach_obligations shell.now mated.now))) }
+    ensures fails { IfErr result (IsOpenFault
+        (map (as_open OpenRule.Reach) (reach_obligations shell.now mated.now))) }
 {
     match reach(alloc, mated) {
         Ok(rows) => Ok(rows),
@@ -76,8 +82,10 @@ pub(crate) fn fanned(
 ) -> Result<OpenCorners, OpenFault>
     ensures corners { IfOk result (AllZip (LiesAt mated.now) mated.now.vertices) }
     ensures fanned { IfOk result (λ _. AllByRecursion (IsFanned mated.now) mated.now.vertices) }
-    ensures holds { OnOk result (AllHold (map (fan_obligation solid.now mated.now) mated.now.vertices)) }
-    ensures fails { IfErr result (IsOpenFault (map (fan_obligation solid.now mated.now) mated.now.vertices)) }
+    ensures holds { OnOk result (AllHold (map
+        (fan_obligation solid.now mated.now) mated.now.vertices)) }
+    ensures fails { IfErr result (IsOpenFault
+        (map (fan_obligation solid.now mated.now) mated.now.vertices)) }
 {
     match fans(alloc, mated) {
         Ok(corners) => Ok(corners),

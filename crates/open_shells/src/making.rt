@@ -24,7 +24,8 @@ use std::alloc::Global;
 /// the vertices.
 fn shell_parts(alloc: Global, solid: &Solid, shell: &Shell) -> Result<OpenCertificate, OpenFault>
     requires { slice_get solid.now.shells 0 ≡ Some shell.now }
-    ensures parts { IfOk result (λ c. AreListedParts (shell_rows solid.now shell.now) c.edges c.corners c.reach c.borders) }
+    ensures parts { IfOk result (λ c. AreListedParts
+        (shell_rows solid.now shell.now) c.edges c.corners c.reach c.borders) }
     ensures names { IfOk result (λ c. c.shell ≡ solid.now.entity) }
     ensures rows { IfOk result (λ c. c.rows ≡ length (shell_rows solid.now shell.now).rows) }
     ensures faces { IfOk result (λ c. c.faces ≡ (shell_rows solid.now shell.now).face_count) }
@@ -59,7 +60,8 @@ fn shell_parts(alloc: Global, solid: &Solid, shell: &Shell) -> Result<OpenCertif
 /// The parts of an open shell, or the first rule that fails on it.
 pub(crate) fn listed_parts(alloc: Global, solid: &Solid) -> Result<OpenCertificate, OpenFault>
     requires { IsOpenShell solid.now }
-    ensures parts { IfOk result (λ c. AreListedParts (shell_of solid.now) c.edges c.corners c.reach c.borders) }
+    ensures parts { IfOk result (λ c. AreListedParts
+        (shell_of solid.now) c.edges c.corners c.reach c.borders) }
     ensures names { IfOk result (λ c. c.shell ≡ solid.now.entity) }
     ensures rows { IfOk result (λ c. c.rows ≡ length (shell_of solid.now).rows) }
     ensures faces { IfOk result (λ c. c.faces ≡ (shell_of solid.now).face_count) }
@@ -78,11 +80,13 @@ pub fn open_certify(alloc: Global, solid: &Solid) -> Result<OpenCertificate, Ope
     requires { IsOpenShell solid.now }
     ensures certificate { IfOk result (IsOpenCertificate solid.now) }
     ensures accepted { IfOk result (λ c. IsOpenAccepted solid.now (text_of (open_lines c))) }
-    ensures parts { IfOk result (λ c. AreListedParts (shell_of solid.now) c.edges c.corners c.reach c.borders) }
+    ensures parts { IfOk result (λ c. AreListedParts
+        (shell_of solid.now) c.edges c.corners c.reach c.borders) }
     ensures holds { OnOk result (AllHold (open_obligations solid.now)) }
     ensures fault { IfErr result (IsOpenFault (open_obligations solid.now)) }
     ensures only { AllHold (open_obligations solid.now) → IfErr result IsNoMemory }
-    ensures only_fault { (x : Named) → FirstFalse (open_obligations solid.now) x → FailsSo x result }
+    ensures only_fault { (x : Named) → FirstFalse (open_obligations solid.now) x
+        → FailsSo x result }
 {
     let made = listed_parts(alloc, solid)?;
     Ok(made)

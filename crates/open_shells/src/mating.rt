@@ -54,7 +54,8 @@ pub(crate) fn row_at(rows: &Rows, i: usize) -> Row
 pub(crate) fn first_not_once(rows: &Rows, tally: &Tally) -> Option<EdgeId>
     requires tally { IsTally rows.now tally.now.span tally.now.seen.items }
     requires span { AllByRecursion (IsWithin tally.now.span) rows.now.edges }
-    ensures { MatchOption result (AllByRecursion (IsOnce rows.now) rows.now.edges) (λ e. FirstNot (IsOnce rows.now) rows.now.edges e.0) }
+    ensures { MatchOption result (AllByRecursion (IsOnce rows.now) rows.now.edges)
+        (λ e. FirstNot (IsOnce rows.now) rows.now.edges e.0) }
 {
     'edges: for i in 0..rows.edge_count() {
         let edge = edge_at(rows, i);
@@ -94,7 +95,8 @@ pub(crate) fn open_edges(alloc: Global, rows: &Rows, tally: &Tally) -> Result<Op
 
 /// The mate of a row whose edge was seen so.
 fn mate_in(seen: Seen, row: Row) -> Option<RowId>
-    ensures { (d : ShellRows) (r : ℕ) → slice_get d.rows r ≡ Some row → IsSeen d row.edge.0 seen → IsOnce d row.edge.0 → IsMateOf d r result }
+    ensures { (d : ShellRows) (r : ℕ) → slice_get d.rows r ≡ Some row → IsSeen d row.edge.0 seen
+        → IsOnce d row.edge.0 → IsMateOf d r result }
 {
     if row.along {
         if seen.against == 0 {
@@ -123,7 +125,8 @@ pub(crate) fn open_mates(
     tally: &Tally,
 ) -> Result<Vec<Option<RowId>>, NoMemory>
     requires tally { IsTally rows.now tally.now.span tally.now.seen.items }
-    requires span { AllByRecursion (λ (r : AnyRow). IsWithin tally.now.span r.edge.0) rows.now.rows }
+    requires span { AllByRecursion
+        (λ (r : AnyRow). IsWithin tally.now.span r.edge.0) rows.now.rows }
     requires whole { AreOnce rows.now }
     ensures { IfOk result (λ mates. HaveOpenMates rows.now mates.items) }
 {

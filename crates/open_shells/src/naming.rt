@@ -14,7 +14,8 @@ use solid_data::{EdgeId, EdgeKey, FaceAt, Shell, Solid, VertexId, VertexKey};
 /// JOIN names the loop, and its first tuple, from 1, whose use doesn't end where the next one starts.
 pub(crate) fn unjoined(shell: &Shell, gap: Unjoined) -> OpenFailing
     requires { (p : PlacedLoop) × Contains (placed_loops shell.now) p × (gap.at ≡ p.at) }
-    ensures { (p : PlacedLoop) → Contains (placed_loops shell.now) p → gap.at ≡ p.at → result ≡ open_failing OpenRule.Join p.loop.entity gap.place }
+    ensures { (p : PlacedLoop) → Contains (placed_loops shell.now) p → gap.at ≡ p.at
+        → result ≡ open_failing OpenRule.Join p.loop.entity gap.place }
 {
     let face = shell.faces.get(gap.at.face.0 as usize).unwrap();
     let walk = face.loops.get(gap.at.place as usize).unwrap();
@@ -46,7 +47,8 @@ pub(crate) fn not_once(solid: &Solid, edge: EdgeId) -> OpenFailing
 /// REACH names the face itself.
 pub(crate) fn unreached(shell: &Shell, at: FaceAt) -> OpenFailing
     requires { (f : AnyFace) × (slice_get shell.now.faces at.0 ≡ Some f) }
-    ensures { (f : AnyFace) → slice_get shell.now.faces at.0 ≡ Some f → result ≡ open_failing OpenRule.Reach f.entity 0 }
+    ensures { (f : AnyFace) → slice_get shell.now.faces at.0 ≡ Some f
+        → result ≡ open_failing OpenRule.Reach f.entity 0 }
 {
     let face = shell.faces.get(at.0 as usize).unwrap();
     OpenFailing {

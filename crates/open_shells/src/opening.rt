@@ -11,7 +11,8 @@ use iges_base::EntryNo;
 /// Whether these bytes are line 1 of an open shell's certificate, with its LF, without which they are misspelt (own). Takes
 /// no memory.
 pub fn open_head(line: &[u8]) -> Result<(), Misfit>
-    ensures { MatchResult result (λ _. IsSpelled line.now head) (λ misfit. IsMisfit IsHead line.now misfit) }
+    ensures { MatchResult result (λ _. IsSpelled line.now head)
+        (λ misfit. IsMisfit IsHead line.now misfit) }
 {
     match read_line(line) {
         Some(OpenWords::Head) => Ok(()),
@@ -23,7 +24,8 @@ pub fn open_head(line: &[u8]) -> Result<(), Misfit>
 /// The shell that line 2 of an open shell's certificate names; the line is given with its LF, without which it is misspelt
 /// (own). Takes no memory.
 pub fn shell_number(line: &[u8]) -> Result<EntryNo, Misfit>
-    ensures { MatchResult result (λ n. IsOf (NamesShell n.0) line.now) (λ misfit. IsMisfit IsShell line.now misfit) }
+    ensures { MatchResult result (λ n. IsOf (NamesShell n.0) line.now)
+        (λ misfit. IsMisfit IsShell line.now misfit) }
 {
     match read_line(line) {
         Some(OpenWords::Shell(counts)) => Ok(EntryNo(counts.shell)),

@@ -99,7 +99,8 @@ impl OpenState {
         requires some { 0 < rows.face_count }
         requires few_edges { length rows.edges < 2 ^ 30 }
         requires few_vertices { length rows.vertices < 2 ^ 30 }
-        ensures tells { IfOk result (λ k. (s : SolidData) → entity ≡ s.entity → rows ≡ shell_of s → TellsLines s [] k) }
+        ensures tells { IfOk result (λ k. (s : SolidData) → entity ≡ s.entity → rows ≡ shell_of s
+            → TellsLines s [] k) }
         ensures dues { IfOk result (λ k. dues k ≡ 0) }
         ensures begun { IfOk result (λ k. k.begun ≡ false) }
     {
@@ -132,7 +133,8 @@ impl OpenState {
     /// Whether END fits.
     pub(crate) fn is_done(&self) -> bool
         ensures begun { IsTrue result → self.now.begun ≡ true }
-        ensures done { (s : SolidData) (lines : List OpenLine) → TellsLines s lines self.now → IsTrue result ↔ IsDone (stand_behind s lines) }
+        ensures done { (s : SolidData) (lines : List OpenLine) → TellsLines s lines self.now
+            → IsTrue result ↔ IsDone (stand_behind s lines) }
     {
         self.begun
             && self.edges_due == 0
@@ -144,7 +146,8 @@ impl OpenState {
 
     /// Takes the SHELL line, exactly where it fits.
     pub(crate) fn take_shell(&mut self, words: &OpenCounts) -> bool
-        ensures line { Takes self.old self.new (shell words.now.shell words.now.rows words.now.edges words.now.corners words.now.faces words.now.borders) result }
+        ensures line { Takes self.old self.new
+            (shell words.now.shell words.now.rows words.now.edges words.now.corners words.now.faces words.now.borders) result }
         ensures due { IsTrue result → dues self.new < 2 ^ 34 }
         ensures begun { IsTrue result → (self.old.begun ≡ false) × (self.new.begun ≡ true) }
         ensures refused { result ≡ false → self.new ≡ self.old }
@@ -207,7 +210,8 @@ impl OpenState {
     }
 
     fn take_cycle(&mut self, numbers: &[u8]) -> bool
-        ensures line { (rs : List ℕ) → AreNumbers numbers.now rs → Takes self.old self.new (cycle rs) result }
+        ensures line { (rs : List ℕ) → AreNumbers numbers.now rs
+            → Takes self.old self.new (cycle rs) result }
         ensures due { IsTrue result → dues self.new + 1 ≡ dues self.old }
         ensures begun { self.new.begun ≡ self.old.begun }
         ensures refused { result ≡ false → self.new ≡ self.old }
@@ -230,7 +234,8 @@ impl OpenState {
     }
 
     fn take_path(&mut self, numbers: &[u8]) -> bool
-        ensures line { (rs : List ℕ) → AreNumbers numbers.now rs → Takes self.old self.new (path rs) result }
+        ensures line { (rs : List ℕ) → AreNumbers numbers.now rs
+            → Takes self.old self.new (path rs) result }
         ensures due { IsTrue result → dues self.new + 1 ≡ dues self.old }
         ensures begun { self.new.begun ≡ self.old.begun }
         ensures refused { result ≡ false → self.new ≡ self.old }
@@ -289,7 +294,8 @@ impl OpenState {
     }
 
     fn take_border(&mut self, numbers: &[u8]) -> bool
-        ensures line { (rs : List ℕ) → AreNumbers numbers.now rs → Takes self.old self.new (border rs) result }
+        ensures line { (rs : List ℕ) → AreNumbers numbers.now rs
+            → Takes self.old self.new (border rs) result }
         ensures due { IsTrue result → dues self.new + 1 ≡ dues self.old }
         ensures begun { self.new.begun ≡ self.old.begun }
         ensures refused { result ≡ false → self.new ≡ self.old }
@@ -313,7 +319,8 @@ impl OpenState {
 
     /// Takes an edge, corner, path, point, reach or border line, exactly where it fits.
     pub(crate) fn take(&mut self, words: OpenWords<'_>) -> bool
-        ensures line { (line : OpenLine) → Means words.entry line → HasSpelling line → IsRowLine line → Takes self.old self.new line result }
+        ensures line { (line : OpenLine) → Means words.entry line → HasSpelling line
+            → IsRowLine line → Takes self.old self.new line result }
         ensures due { IsTrue result → dues self.new + 1 ≡ dues self.old }
         ensures begun { self.new.begun ≡ self.old.begun }
         ensures refused { result ≡ false → self.new ≡ self.old }

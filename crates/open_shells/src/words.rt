@@ -46,7 +46,10 @@ pub(crate) struct OpenCounts {
 }
 
 fn shell_numbers(text: &[u8]) -> Option<OpenCounts>
-    ensures { MatchOption result ((a b c d e f : ℕ) → ¬ AreNumbers text.now (a ∷ b ∷ c ∷ d ∷ e ∷ f ∷ [])) (λ w. AreNumbers text.now (w.shell ∷ w.rows ∷ w.edges ∷ w.corners ∷ w.faces ∷ w.borders ∷ [])) }
+    ensures { MatchOption result ((a b c d e f : ℕ)
+        → ¬ AreNumbers text.now (a ∷ b ∷ c ∷ d ∷ e ∷ f ∷ []))
+        (λ w. AreNumbers text.now (w.shell ∷ w.rows ∷ w.edges ∷ w.corners ∷ w.faces ∷ w.borders
+        ∷ [])) }
 {
     let Some((shell, rest)) = next_number(text) else {
         return None;
@@ -74,7 +77,8 @@ fn shell_numbers(text: &[u8]) -> Option<OpenCounts>
 }
 
 fn shell_words(text: &[u8]) -> Option<OpenCounts>
-    ensures { MatchOption result ((a b c d e f : ℕ) → ¬ Spells text.now (shell a b c d e f)) (λ w. Spells text.now (shell w.shell w.rows w.edges w.corners w.faces w.borders)) }
+    ensures { MatchOption result ((a b c d e f : ℕ) → ¬ Spells text.now (shell a b c d e f))
+        (λ w. Spells text.now (shell w.shell w.rows w.edges w.corners w.faces w.borders)) }
 {
     match after_word(text, b"SHELL") {
         Some(rest) => shell_numbers(rest),
@@ -83,7 +87,8 @@ fn shell_words(text: &[u8]) -> Option<OpenCounts>
 }
 
 fn edge_words(text: &[u8]) -> Option<(u32, u32)>
-    ensures { MatchOption result ((a b : ℕ) → ¬ Spells text.now (edge a b)) (λ p. Spells text.now (edge p.0 p.1)) }
+    ensures { MatchOption result ((a b : ℕ) → ¬ Spells text.now (edge a b))
+        (λ p. Spells text.now (edge p.0 p.1)) }
 {
     match after_word(text, b"E") {
         Some(rest) => two_numbers(rest),
@@ -92,7 +97,8 @@ fn edge_words(text: &[u8]) -> Option<(u32, u32)>
 }
 
 fn lone_words(text: &[u8]) -> Option<u32>
-    ensures { MatchOption result ((a : ℕ) → ¬ Spells text.now (lone a)) (λ a. Spells text.now (lone a)) }
+    ensures { MatchOption result ((a : ℕ) → ¬ Spells text.now (lone a))
+        (λ a. Spells text.now (lone a)) }
 {
     match after_word(text, b"E") {
         Some(rest) => one_number(rest),
@@ -101,7 +107,8 @@ fn lone_words(text: &[u8]) -> Option<u32>
 }
 
 fn point_words(text: &[u8]) -> Option<(u32, u32)>
-    ensures { MatchOption result ((a b : ℕ) → ¬ Spells text.now (point a b)) (λ p. Spells text.now (point p.0 p.1)) }
+    ensures { MatchOption result ((a b : ℕ) → ¬ Spells text.now (point a b))
+        (λ p. Spells text.now (point p.0 p.1)) }
 {
     match after_word(text, b"I") {
         Some(rest) => two_numbers(rest),
@@ -110,7 +117,8 @@ fn point_words(text: &[u8]) -> Option<(u32, u32)>
 }
 
 fn reach_words(text: &[u8]) -> Option<u32>
-    ensures { MatchOption result ((a : ℕ) → ¬ Spells text.now (reach a)) (λ a. Spells text.now (reach a)) }
+    ensures { MatchOption result ((a : ℕ) → ¬ Spells text.now (reach a))
+        (λ a. Spells text.now (reach a)) }
 {
     match after_word(text, b"R") {
         Some(rest) => one_number(rest),
@@ -120,7 +128,8 @@ fn reach_words(text: &[u8]) -> Option<u32>
 
 /// The numbers behind a word, as text, of which there is at least one.
 fn row_words<'a>(text: &'a [u8], word: &[u8]) -> Option<&'a [u8]>
-    ensures { MatchOption result ((rs : List ℕ) → ¬ IsRowsBehind text.now word.now rs) (λ rest. (rs : List ℕ) × (rest.now ≡ spaced rs) × IsRowsBehind text.now word.now rs) }
+    ensures { MatchOption result ((rs : List ℕ) → ¬ IsRowsBehind text.now word.now rs)
+        (λ rest. (rs : List ℕ) × (rest.now ≡ spaced rs) × IsRowsBehind text.now word.now rs) }
 {
     let Some(rest) = after_word(text, word) else {
         return None;
@@ -132,19 +141,22 @@ fn row_words<'a>(text: &'a [u8], word: &[u8]) -> Option<&'a [u8]>
 }
 
 fn cycle_words(text: &[u8]) -> Option<&[u8]>
-    ensures { MatchOption result ((rs : List ℕ) → ¬ Spells text.now (cycle rs)) (λ rest. (rs : List ℕ) × (rest.now ≡ spaced rs) × Spells text.now (cycle rs)) }
+    ensures { MatchOption result ((rs : List ℕ) → ¬ Spells text.now (cycle rs))
+        (λ rest. (rs : List ℕ) × (rest.now ≡ spaced rs) × Spells text.now (cycle rs)) }
 {
     row_words(text, b"C")
 }
 
 fn path_words(text: &[u8]) -> Option<&[u8]>
-    ensures { MatchOption result ((rs : List ℕ) → ¬ Spells text.now (path rs)) (λ rest. (rs : List ℕ) × (rest.now ≡ spaced rs) × Spells text.now (path rs)) }
+    ensures { MatchOption result ((rs : List ℕ) → ¬ Spells text.now (path rs))
+        (λ rest. (rs : List ℕ) × (rest.now ≡ spaced rs) × Spells text.now (path rs)) }
 {
     row_words(text, b"P")
 }
 
 fn border_words(text: &[u8]) -> Option<&[u8]>
-    ensures { MatchOption result ((rs : List ℕ) → ¬ Spells text.now (border rs)) (λ rest. (rs : List ℕ) × (rest.now ≡ spaced rs) × Spells text.now (border rs)) }
+    ensures { MatchOption result ((rs : List ℕ) → ¬ Spells text.now (border rs))
+        (λ rest. (rs : List ℕ) × (rest.now ≡ spaced rs) × Spells text.now (border rs)) }
 {
     row_words(text, b"B")
 }
@@ -158,7 +170,8 @@ fn is_word(text: &[u8], word: &[u8]) -> bool
 
 /// The line that a text without its LF spells.
 fn read_words(text: &[u8]) -> Option<OpenWords<'_>>
-    ensures { MatchOption result ((line : OpenLine) → ¬ Spells text.now line) (λ w. (line : OpenLine) × Means w line × Spells text.now line) }
+    ensures { MatchOption result ((line : OpenLine) → ¬ Spells text.now line)
+        (λ w. (line : OpenLine) × Means w line × Spells text.now line) }
 {
     if is_word(text, b"IGESOPEN 1") {
         return Some(OpenWords::Head);
@@ -174,7 +187,8 @@ fn read_words(text: &[u8]) -> Option<OpenWords<'_>>
 
 /// The edge, corner, point, reach or border line that a text without its LF spells.
 fn read_row_words(text: &[u8]) -> Option<OpenWords<'_>>
-    ensures { MatchOption result ((line : OpenLine) → IsRowLine line → ¬ Spells text.now line) (λ w. (line : OpenLine) × Means w line × Spells text.now line) }
+    ensures { MatchOption result ((line : OpenLine) → IsRowLine line → ¬ Spells text.now line)
+        (λ w. (line : OpenLine) × Means w line × Spells text.now line) }
 {
     if let Some((along, against)) = edge_words(text) {
         return Some(OpenWords::Edge(along, against));
@@ -202,7 +216,8 @@ fn read_row_words(text: &[u8]) -> Option<OpenWords<'_>>
 
 /// The line that bytes spell with their LF.
 pub(crate) fn read_line(line: &[u8]) -> Option<OpenWords<'_>>
-    ensures { MatchOption result ((l : OpenLine) → ¬ IsSpelled line.now l) (λ w. (l : OpenLine) × Means w l × IsSpelled line.now l) }
+    ensures { MatchOption result ((l : OpenLine) → ¬ IsSpelled line.now l)
+        (λ w. (l : OpenLine) × Means w l × IsSpelled line.now l) }
 {
     let Some((last, text)) = line.split_last() else {
         return None;

@@ -25,7 +25,8 @@ fn put_edge(out: &mut Out, edge: OpenEdge) -> Result<(), NoMemory>
 }
 
 fn put_edges(out: &mut Out, edges: &[OpenEdge]) -> Result<(), NoMemory>
-    ensures { IfOk result (λ _. out.new ≡ out.old ++ flat_map (λ e. spelling (edge_line e)) edges.now) }
+    ensures { IfOk result (λ _. out.new ≡ out.old
+        ++ flat_map (λ e. spelling (edge_line e)) edges.now) }
 {
     'edges: for i in 0..edges.len() {
         put_edge(out, edges[i])?;
@@ -60,7 +61,8 @@ fn put_corner(out: &mut Out, corner: &OpenCorner) -> Result<(), NoMemory>
 }
 
 fn put_corners(out: &mut Out, corners: &[OpenCorner]) -> Result<(), NoMemory>
-    ensures { IfOk result (λ _. out.new ≡ out.old ++ flat_map (λ l. spelling (corner_line l)) corners.now) }
+    ensures { IfOk result (λ _. out.new ≡ out.old
+        ++ flat_map (λ l. spelling (corner_line l)) corners.now) }
 {
     'corners: for i in 0..corners.len() {
         put_corner(out, &corners[i])?;
@@ -69,7 +71,8 @@ fn put_corners(out: &mut Out, corners: &[OpenCorner]) -> Result<(), NoMemory>
 }
 
 fn put_reach(out: &mut Out, rows: &[RowId]) -> Result<(), NoMemory>
-    ensures { IfOk result (λ _. out.new ≡ out.old ++ flat_map (λ r. spelling (reach_line r)) rows.now) }
+    ensures { IfOk result (λ _. out.new ≡ out.old
+        ++ flat_map (λ r. spelling (reach_line r)) rows.now) }
 {
     'rows: for i in 0..rows.len() {
         put_line(out, b"R", &[from_one(rows[i].0)])?;
@@ -86,7 +89,8 @@ fn put_border(out: &mut Out, rows: &RowList) -> Result<(), NoMemory>
 }
 
 fn put_borders(out: &mut Out, borders: &[RowList]) -> Result<(), NoMemory>
-    ensures { IfOk result (λ _. out.new ≡ out.old ++ flat_map (λ b. spelling (border_line b)) borders.now) }
+    ensures { IfOk result (λ _. out.new ≡ out.old
+        ++ flat_map (λ b. spelling (border_line b)) borders.now) }
 {
     'borders: for i in 0..borders.len() {
         put_border(out, &borders[i])?;
@@ -116,7 +120,8 @@ fn put_shell_line(out: &mut Out, c: &OpenCertificate) -> Result<(), NoMemory>
 /// and no cycle, path or border is empty, each line is spelled.
 pub fn write_open(alloc: Global, c: &OpenCertificate) -> Result<Bytes, NoMemory>
     ensures text { IfOk result (λ text. text ≡ text_of (open_lines c.now)) }
-    ensures lines { AllByRecursion HasSpelling (open_lines c.now) → IfOk result (λ text. cut_lines text ≡ map spelling (open_lines c.now)) }
+    ensures lines { AllByRecursion HasSpelling (open_lines c.now)
+        → IfOk result (λ text. cut_lines text ≡ map spelling (open_lines c.now)) }
 {
     let mut out = Out::new(alloc);
     out.put(b"IGESOPEN 1\n")?;

@@ -12,7 +12,8 @@ use std::alloc::Global;
 
 /// The rows that numbers name, which count from 1. None where one of them is 0.
 fn rows_named(alloc: Global, numbers: &[u32]) -> Result<Option<RowList>, NoMemory>
-    ensures { IfOk result (λ read. MatchOption read ((rows : List ℕ) → ¬ (numbers.now ≡ map suc rows)) (λ rows. numbers.now ≡ map suc (row_numbers rows))) }
+    ensures { IfOk result (λ read. MatchOption read ((rows : List ℕ)
+        → ¬ (numbers.now ≡ map suc rows)) (λ rows. numbers.now ≡ map suc (row_numbers rows))) }
 {
     let mut rows = RowList::new(alloc);
     'numbers: for i in 0..numbers.len() {
@@ -44,7 +45,8 @@ fn ring_fits(
     checker: &OrientChecker<'_>,
     numbers: &NumberList,
 ) -> Result<bool, NoMemory>
-    ensures { IfOk result (λ fit. IsTrue fit ↔ NameOddRing checker.now.solid checker.now.shell numbers.now) }
+    ensures { IfOk result (λ fit. IsTrue fit
+        ↔ NameOddRing checker.now.solid checker.now.shell numbers.now) }
 {
     match rows_named(alloc, numbers.as_slice())? {
         Some(rows) => Ok(checker.ring(&rows)),

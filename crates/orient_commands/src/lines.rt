@@ -25,7 +25,8 @@ fn behind_shell<'a>(
     requires within { at.0 < length solid.now.shells }
     requires counted { IsCounted solid.now at.0 }
     ensures found { IfOk result (λ rest. FitsFirst solid.now (at.0 + 2) text.now rest.now) }
-    ensures fault { IfErr result (IsTextFault (IsFirstBad solid.now (at.0 + 2) (cut_lines text.now))) }
+    ensures fault { IfErr result (IsTextFault
+        (IsFirstBad solid.now (at.0 + 2) (cut_lines text.now))) }
 {
     let number = u64::from(at.0) + 2;
     let Some((line, rest)) = first_line(text) else {

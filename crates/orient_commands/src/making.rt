@@ -75,7 +75,8 @@ fn put_shell(
     ringed: bool,
 ) -> Result<bool, NoMemory>
     requires { HasSpelling line.now }
-    ensures { IfOk result (λ more. (s : SolidData) (n count : ℕ) → IsBegun s n count ringed out.old → FitsAs s (count + 2) line.now → IsBegun s n (count + 1) more out.new) }
+    ensures { IfOk result (λ more. (s : SolidData) (n count : ℕ) → IsBegun s n count ringed out.old
+        → FitsAs s (count + 2) line.now → IsBegun s n (count + 1) more out.new) }
 {
     put_line(alloc, out, line)?;
     if is_ring(line) {
@@ -93,7 +94,8 @@ fn answer_of(ringed: bool) -> Answer
 /// An orientation of all shells, or the first shell and rule that fail.
 pub(crate) fn orientation(alloc: Global, solid: &Solid) -> Result<Reply, OrientFault>
     ensures ready { OnOk result (OfAllShells IsReady solid.now) }
-    ensures text { IfOk result (λ reply. IsOriented solid.now solid.now.entity.0 reply.answer reply.text) }
+    ensures text { IfOk result
+        (λ reply. IsOriented solid.now solid.now.entity.0 reply.answer reply.text) }
     ensures fault { IfErr result (IsFault (IsFirstUnready solid.now)) }
 {
     let mut out = Out::new(alloc);

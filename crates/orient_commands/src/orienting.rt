@@ -14,7 +14,8 @@ use std::alloc::Global;
 
 /// The reply for a rule that fails of a shell.
 pub(crate) fn shell_failed(alloc: Global, failing: OrientFailing) -> Result<Reply, NoMemory>
-    ensures { IfOk result (λ reply. (reply.answer ≡ answer.No) × (reply.text ≡ orient_fail_line failing)) }
+    ensures { IfOk result (λ reply. (reply.answer ≡ answer.No)
+        × (reply.text ≡ orient_fail_line failing)) }
 {
     failed_by(alloc, failing.rule.name(), failing.entity, failing.place)
 }

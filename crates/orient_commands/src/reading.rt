@@ -19,7 +19,8 @@ use topo_certificate::Illegal;
 /// The line that bytes spell, which stand as the line of this number.
 pub(crate) fn read_line(alloc: Global, line: &[u8], number: u64) -> Result<OrientLine, TextFault>
     ensures found { IfOk result (IsSpelled line.now) }
-    ensures fault { IfErr result (IsTextFault (λ bad. ((l : AnyLine) → ¬ IsSpelled line.now l) × (bad ≡ Misspelt number))) }
+    ensures fault { IfErr result (IsTextFault
+        (λ bad. ((l : AnyLine) → ¬ IsSpelled line.now l) × (bad ≡ Misspelt number))) }
 {
     match orient_line(alloc, line) {
         Ok(read) => Ok(read),

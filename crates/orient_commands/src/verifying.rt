@@ -38,7 +38,8 @@ fn lines_reply(alloc: Global, solid: &Solid, no: EntryNo, text: &[u8]) -> Result
 
 /// The reply for a text behind one that names a solid.
 fn solid_reply(alloc: Global, file: File, no: EntryNo, text: &[u8]) -> Result<Reply, NoMemory>
-    ensures { IfOk result (λ reply. OfOrientLines no.0 (cut_lines text.now) file reply.answer reply.text) }
+    ensures { IfOk result (λ reply. OfOrientLines no.0
+        (cut_lines text.now) file reply.answer reply.text) }
 {
     let solid = match walk(alloc, &file, no) {
         Ok(solid) => solid,

@@ -17,7 +17,8 @@ use solid_data::Failing;
 // list for each use of it would take the square of the list's length.
 fn edge_of(values: &Values, index: usize) -> Option<EdgeTuple>
     ensures some { IfSome result (λ e. slice_get (items_of edges values.now) (index - 1) ≡ Some e) }
-    ensures none { IfNone result (IsRecordOf edges values.now → ¬ IsIndex (pos index) (length (items_of edges values.now))) }
+    ensures none { IfNone result (IsRecordOf edges values.now
+        → ¬ IsIndex (pos index) (length (items_of edges values.now))) }
 {
     let len = values.len();
     if index == 0 || index > count_at(values, 0) {
@@ -38,8 +39,11 @@ fn edge_of(values: &Values, index: usize) -> Option<EdgeTuple>
 
 /// Whether an obligation on the curve or the ends of an edge bears the name; None where there is no such edge.
 pub fn names_used_edge(file: &File, name: Failing, list: i64, index: i64) -> Option<bool>
-    ensures some { IfSome result (λ b. IsTrue b ↔ Bears (edge_places file.now list (entry_number index) (edge_at file.now list (entry_number index))) name) }
-    ensures none { IfNone result (HasRecordOf edges file.now list → ¬ IsIndex index (length (told edges file.now list))) }
+    ensures some { IfSome result (λ b. IsTrue b
+        ↔ Bears (edge_places file.now list (entry_number index)
+        (edge_at file.now list (entry_number index))) name) }
+    ensures none { IfNone result (HasRecordOf edges file.now list
+        → ¬ IsIndex index (length (told edges file.now list))) }
 {
     let Some((no, values)) = record_of(file, list) else {
         return None;

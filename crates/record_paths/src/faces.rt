@@ -23,7 +23,8 @@ fn search_face(
     item: usize,
     number: i64,
 ) -> Result<(), Ended>
-    ensures { (known : List ℤ) → Searched (face_sited file.now path (pos shell.0) item known number) name result }
+    ensures { (known : List ℤ) → Searched (face_sited file.now path
+        (pos shell.0) item known number) name result }
 {
     if names_face(name, shell, item, number) {
         return Err(Ended::Found(path));
@@ -47,7 +48,8 @@ pub fn search_faces(
     shell: EntryNo,
     listed: &ShellRecord<'_>,
 ) -> Result<(), Ended>
-    ensures { (used : List ℤ) → Searched (sited_after (faces_sited file.now path (pos shell.0) used) [] listed.now) name result }
+    ensures { (used : List ℤ) → Searched (sited_after
+        (faces_sited file.now path (pos shell.0) used) [] listed.now) name result }
 {
     'faces: for i in 0..listed.len() {
         let (number, _) = listed.item(i).unwrap();

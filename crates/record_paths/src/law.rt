@@ -14,5 +14,6 @@ pub fn paths_are_of_places()
 
 /// One path at most leads to the first obligation of a name (own).
 pub fn one_path()
-    ensures { (f : Contents) (n : ℕ) (name : Failing) (p q : Option Path) → IsPathTo name (sited f n) p → IsPathTo name (sited f n) q → p ≡ q }
+    ensures { (f : Contents) (n : ℕ) (name : Failing) (p q : Option Path)
+        → IsPathTo name (sited f n) p → IsPathTo name (sited f n) q → p ≡ q }
 {}

@@ -23,7 +23,8 @@ fn search_loop(
     item: usize,
     number: i64,
 ) -> Result<(), Ended>
-    ensures { (known : List ℤ) → Searched (loop_sited file.now path (pos face.0) item known number) name result }
+    ensures { (known : List ℤ) → Searched (loop_sited file.now path
+        (pos face.0) item known number) name result }
 {
     if names_place(name, face, item, number) {
         return Err(Ended::Found(path));
@@ -47,7 +48,8 @@ pub fn search_loops(
     face: EntryNo,
     listed: &FaceRecord<'_>,
 ) -> Result<(), Ended>
-    ensures { (used : List ℤ) → Searched (sited_after (loops_sited file.now path (pos face.0) used) [] listed.now.loops) name result }
+    ensures { (used : List ℤ) → Searched (sited_after
+        (loops_sited file.now path (pos face.0) used) [] listed.now.loops) name result }
 {
     'loops: for i in 0..listed.len() {
         let number = listed.item(i).unwrap();

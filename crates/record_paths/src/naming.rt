@@ -29,7 +29,8 @@ fn is_of(name: Failing, number: i64) -> bool
 
 /// Whether an obligation on a place that names a record bears the name.
 pub fn names_place(name: Failing, entity: EntryNo, item: usize, number: i64) -> bool
-    ensures { (f : Contents) (kind : EntityKind) (known : List ℤ) → IsTrue result ↔ Bears (naming_places f (pos entity.0) item kind known number) name }
+    ensures { (f : Contents) (kind : EntityKind) (known : List ℤ) → IsTrue result
+        ↔ Bears (naming_places f (pos entity.0) item kind known number) name }
 {
     match name.rule {
         Rule::NoEntry | Rule::WrongKind | Rule::Twice => is_at(name, entity, item),
@@ -40,7 +41,8 @@ pub fn names_place(name: Failing, entity: EntryNo, item: usize, number: i64) -> 
 
 /// Whether an obligation on the place of a face or on its surface bears the name.
 pub fn names_face(name: Failing, shell: EntryNo, item: usize, number: i64) -> bool
-    ensures { (f : Contents) (known : List ℤ) → IsTrue result ↔ Bears (face_naming f (pos shell.0) item known number) name }
+    ensures { (f : Contents) (known : List ℤ) → IsTrue result
+        ↔ Bears (face_naming f (pos shell.0) item known number) name }
 {
     match name.rule {
         Rule::NoEntry | Rule::WrongKind | Rule::Twice => is_at(name, shell, item),
@@ -65,7 +67,8 @@ pub fn names_tuple(name: Failing, the_loop: EntryNo, item: usize, list: i64) -> 
 
 /// Whether an obligation on the curve or the ends of an edge bears the name.
 pub fn names_edge(name: Failing, list: EntryNo, index: usize, edge: EdgeTuple) -> bool
-    ensures { (f : Contents) → IsTrue result ↔ Bears (edge_places f (pos list.0) index (Some edge)) name }
+    ensures { (f : Contents) → IsTrue result
+        ↔ Bears (edge_places f (pos list.0) index (Some edge)) name }
 {
     match name.rule {
         Rule::NoEntry | Rule::WrongKind | Rule::BadIndex | Rule::BadGeometry => is_at(

@@ -22,7 +22,8 @@ fn entry_no(file: &File, number: i64) -> Option<EntryNo>
 
 /// The entry that a number names, and the values of its record.
 pub fn record_of(file: &File, number: i64) -> Option<(EntryNo, &Values)>
-    ensures some { IfSome result (λ r. (number ≡ pos r.0.0) × (r.1.now ≡ values_of file.now number)) }
+    ensures some { IfSome result (λ r. (number ≡ pos r.0.0)
+        × (r.1.now ≡ values_of file.now number)) }
     ensures none { IfNone result (¬ Names file.now number) }
 {
     let Some(no) = entry_no(file, number) else {

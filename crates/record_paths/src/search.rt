@@ -19,7 +19,8 @@ use solid_data::{Failing, Rule};
 
 // Whether the name says that the number names no solid.
 fn asks_for_solid(name: Failing, no: EntryNo) -> bool
-    ensures { (f : Contents) → IsTrue result ↔ Bears (entry_places f (pos no.0) 0 solid (pos no.0)) name }
+    ensures { (f : Contents) → IsTrue result
+        ↔ Bears (entry_places f (pos no.0) 0 solid (pos no.0)) name }
 {
     matches!(name.rule, Rule::NoEntry | Rule::WrongKind) && name.entity.0 == no.0 && name.place == 0
 }

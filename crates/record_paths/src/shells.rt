@@ -23,7 +23,8 @@ fn search_shell(
     item: usize,
     number: i64,
 ) -> Result<(), Ended>
-    ensures { (known : List ℤ) → Searched (shell_sited file.now path (pos solid.0) item known number) name result }
+    ensures { (known : List ℤ) → Searched (shell_sited file.now path
+        (pos solid.0) item known number) name result }
 {
     if names_place(name, solid, item, number) {
         return Err(Ended::Found(path));
@@ -47,7 +48,8 @@ pub fn search_shells(
     solid: EntryNo,
     listed: &SolidRecord<'_>,
 ) -> Result<(), Ended>
-    ensures { Searched (sited_after (shells_sited file.now path (pos solid.0)) [] (listed.now.outer ∷ listed.now.voids)) name result }
+    ensures { Searched (sited_after (shells_sited file.now path (pos solid.0)) [] (listed.now.outer
+        ∷ listed.now.voids)) name result }
 {
     'shells: for i in 0..listed.len() {
         let (number, _) = listed.item(i).unwrap();

@@ -23,7 +23,8 @@ fn search_tuple(
     item: usize,
     tuple: &LoopTuple<'_>,
 ) -> Result<(), Ended>
-    ensures { Searched (on (Some path) (tuple_at file.now (pos the_loop.0) item tuple.now)) name result }
+    ensures { Searched (on (Some path) (tuple_at file.now
+        (pos the_loop.0) item tuple.now)) name result }
 {
     if names_tuple(name, the_loop, item, tuple.list()) {
         return Err(Ended::Found(path));
@@ -46,7 +47,8 @@ pub fn search_tuples(
     the_loop: EntryNo,
     listed: &LoopRecord<'_>,
 ) -> Result<(), Ended>
-    ensures { Searched (sited_after (tuples_sited file.now path (pos the_loop.0)) [] listed.now) name result }
+    ensures { Searched (sited_after (tuples_sited file.now path
+        (pos the_loop.0)) [] listed.now) name result }
 {
     let mut item = 0;
     'tuples: for tuple in listed.tuples() {

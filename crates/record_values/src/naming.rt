@@ -29,7 +29,8 @@ fn named_by(entity: i64, item: usize) -> Naming
 
 // The record of a face, where it fits.
 fn face_named(file: &File, face: i64) -> Option<FaceRecord<'_>>
-    ensures { MatchOption result (loops_in file.now face ≡ []) (λ record_of. loops_in file.now face ≡ record_of.loops) }
+    ensures { MatchOption result (loops_in file.now face ≡ [])
+        (λ record_of. loops_in file.now face ≡ record_of.loops) }
 {
     let Some(values) = values_named(file, face) else {
         return None;
@@ -39,7 +40,8 @@ fn face_named(file: &File, face: i64) -> Option<FaceRecord<'_>>
 
 // The record of a shell, where it fits.
 fn shell_named(file: &File, shell: i64) -> Option<ShellRecord<'_>>
-    ensures { MatchOption result (faces_in file.now shell ≡ []) (λ record_of. faces_in file.now shell ≡ record_of) }
+    ensures { MatchOption result (faces_in file.now shell ≡ [])
+        (λ record_of. faces_in file.now shell ≡ record_of) }
 {
     let Some(values) = values_named(file, shell) else {
         return None;
@@ -49,7 +51,8 @@ fn shell_named(file: &File, shell: i64) -> Option<ShellRecord<'_>>
 
 // The record of a solid, where it fits.
 fn solid_named(file: &File, solid: i64) -> Option<SolidRecord<'_>>
-    ensures { MatchOption result (shells_in file.now solid ≡ []) (λ record_of. shells_in file.now solid ≡ record_of.outer ∷ record_of.voids) }
+    ensures { MatchOption result (shells_in file.now solid ≡ [])
+        (λ record_of. shells_in file.now solid ≡ record_of.outer ∷ record_of.voids) }
 {
     let Some(values) = values_named(file, solid) else {
         return None;

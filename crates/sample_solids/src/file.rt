@@ -45,7 +45,12 @@ fn plain(kind: u32, form: u32) -> Entry
 
 /// A file with the start line, a global of the usual delimiters, and no entries.
 fn started(alloc: Global) -> Result<File, NoMemory>
-    ensures { IfOk result (λ f. f ≡ record { start = start_line ∷ []; global = no_values; entries = [] }) }
+    ensures { IfOk result (λ f. f ≡ record {
+      start = start_line
+          ∷ [];
+      global = no_values;
+      entries = [];
+    }) }
 {
     let global = Global26 {
         delims: Delimiters::new(b',', b';').unwrap(),
@@ -61,7 +66,10 @@ fn put(file: &mut File, kind: u32, form: u32, values: Values) -> Result<(), NoMe
     requires form { form < 1000 }
     requires entries { length file.old.entries < 4_999_999 }
     requires few { value_count file.old.entries + length values ≤ FILE_LIMIT }
-    ensures { OnOk result (file.new ≡ record file.old { entries = file.old.entries ++ (plain kind form, values) ∷ [] }) }
+    ensures { OnOk result (file.new ≡ record file.old {
+      entries = file.old.entries
+          ++ (plain kind form, values) ∷ [];
+    }) }
 {
     file.push(plain(kind, form), values)
 }

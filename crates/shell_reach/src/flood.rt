@@ -26,9 +26,12 @@ pub struct Flood {
 impl Flood {
     fn add(&mut self, face: u32, row: u32) -> Result<(), NoMemory>
         requires { face < length self.old.marks.items }
-        ensures marks { IfOk result (λ _. self.new.marks.items ≡ slice_set self.old.marks.items face true) }
-        ensures order { IfOk result (λ _. self.new.order.items ≡ self.old.order.items ++ face ∷ []) }
-        ensures rows { IfOk result (λ _. self.new.rows ≡ self.old.rows ++ (record { 0 = row }) ∷ []) }
+        ensures marks { IfOk result (λ _. self.new.marks.items
+            ≡ slice_set self.old.marks.items face true) }
+        ensures order { IfOk result (λ _. self.new.order.items
+            ≡ self.old.order.items ++ face ∷ []) }
+        ensures rows { IfOk result (λ _. self.new.rows
+            ≡ self.old.rows ++ (record { 0 = row }) ∷ []) }
     {
         self.order.push(face)?;
         self.rows.push(RowId(row))?;
@@ -41,11 +44,16 @@ impl Flood {
         requires whole { ArePaired paired.now }
         requires row { OnFace paired.now face r }
         requires known { Has self.old.order.items face }
-        requires flood { IsFlood paired.now self.old.marks.items self.old.order.items (row_numbers self.old.rows) }
-        ensures flood { IfOk result (λ _. IsFlood paired.now self.new.marks.items self.new.order.items (row_numbers self.new.rows)) }
+        requires flood { IsFlood paired.now self.old.marks.items self.old.order.items
+            (row_numbers self.old.rows) }
+        ensures flood { IfOk result
+            (λ _. IsFlood paired.now self.new.marks.items self.new.order.items
+            (row_numbers self.new.rows)) }
         ensures grows { IfOk result (λ _. Grows self.old.order.items self.new.order.items) }
-        ensures there { IfOk result (λ _. (m g : ℕ) → AreMates paired.now r m → OnFace paired.now g m → Has self.new.order.items g) }
-        ensures crossed { IfOk result (λ _. Crosses paired.now (mate_at r) self.old.order.items (row_numbers self.old.rows) self.new.order.items (row_numbers self.new.rows)) }
+        ensures there { IfOk result (λ _. (m g : ℕ) → AreMates paired.now r m
+            → OnFace paired.now g m → Has self.new.order.items g) }
+        ensures crossed { IfOk result (λ _. Crosses paired.now (mate_at r) self.old.order.items
+            (row_numbers self.old.rows) self.new.order.items (row_numbers self.new.rows)) }
     {
         let rows = paired.rows();
         let mate = mate_of(paired, r);
@@ -62,11 +70,16 @@ impl Flood {
         requires table { AreFaceRows paired.now faces.now.first.items faces.now.next.items }
         requires known { Has self.old.order.items face }
         requires low { face < paired.now.face_count }
-        requires flood { IsFlood paired.now self.old.marks.items self.old.order.items (row_numbers self.old.rows) }
-        ensures flood { IfOk result (λ _. IsFlood paired.now self.new.marks.items self.new.order.items (row_numbers self.new.rows)) }
+        requires flood { IsFlood paired.now self.old.marks.items self.old.order.items
+            (row_numbers self.old.rows) }
+        ensures flood { IfOk result
+            (λ _. IsFlood paired.now self.new.marks.items self.new.order.items
+            (row_numbers self.new.rows)) }
         ensures grows { IfOk result (λ _. Grows self.old.order.items self.new.order.items) }
         ensures done { IfOk result (λ _. IsDone paired.now self.new.order.items face) }
-        ensures crossed { IfOk result (λ _. Crosses paired.now (λ mates. across paired.now mates face) self.old.order.items (row_numbers self.old.rows) self.new.order.items (row_numbers self.new.rows)) }
+        ensures crossed { IfOk result (λ _. Crosses paired.now
+            (λ mates. across paired.now mates face) self.old.order.items
+            (row_numbers self.old.rows) self.new.order.items (row_numbers self.new.rows)) }
     {
         let mut r = faces.first[face as usize];
         'rows: while (r as usize) < faces.next.len() {
@@ -80,8 +93,10 @@ impl Flood {
     pub fn start(alloc: Global, paired: &Paired<'_>, count: usize) -> Result<Flood, NoMemory>
         requires some { 0 < count }
         requires count { count ≡ paired.now.face_count }
-        ensures flood { IfOk result (λ flood. IsFlood paired.now flood.marks.items flood.order.items (row_numbers flood.rows)) }
-        ensures crossed { IfOk result (λ flood. HasCrossed paired.now [] flood.order.items (row_numbers flood.rows)) }
+        ensures flood { IfOk result (λ flood. IsFlood paired.now flood.marks.items flood.order.items
+            (row_numbers flood.rows)) }
+        ensures crossed { IfOk result (λ flood. HasCrossed paired.now [] flood.order.items
+            (row_numbers flood.rows)) }
     {
         let mut marks = vec![in alloc; false; count]?;
         marks[0] = true;
@@ -102,12 +117,19 @@ impl Flood {
     ) -> Result<(), NoMemory>
         requires whole { ArePaired paired.now }
         requires table { AreFaceRows paired.now faces.now.first.items faces.now.next.items }
-        requires flood { IsFlood paired.now self.old.marks.items self.old.order.items (row_numbers self.old.rows) }
-        ensures flood { IfOk result (λ _. IsFlood paired.now self.new.marks.items self.new.order.items (row_numbers self.new.rows)) }
+        requires flood { IsFlood paired.now self.old.marks.items self.old.order.items
+            (row_numbers self.old.rows) }
+        ensures flood { IfOk result
+            (λ _. IsFlood paired.now self.new.marks.items self.new.order.items
+            (row_numbers self.new.rows)) }
         ensures grows { IfOk result (λ _. Grows self.old.order.items self.new.order.items) }
-        ensures same { IfOk result (λ _. length self.old.order.items ≤ q → self.new.order.items ≡ self.old.order.items) }
-        ensures done { IfOk result (λ _. (f : ℕ) → slice_get self.new.order.items q ≡ Some f → IsDone paired.now self.new.order.items f) }
-        ensures crossed { IfOk result (λ _. Crosses paired.now (across_place paired.now self.old.order.items q) self.old.order.items (row_numbers self.old.rows) self.new.order.items (row_numbers self.new.rows)) }
+        ensures same { IfOk result (λ _. length self.old.order.items ≤ q
+            → self.new.order.items ≡ self.old.order.items) }
+        ensures done { IfOk result (λ _. (f : ℕ) → slice_get self.new.order.items q ≡ Some f
+            → IsDone paired.now self.new.order.items f) }
+        ensures crossed { IfOk result (λ _. Crosses paired.now
+            (across_place paired.now self.old.order.items q) self.old.order.items
+            (row_numbers self.old.rows) self.new.order.items (row_numbers self.new.rows)) }
     {
         if q >= self.order.len() {
             return Ok(());
@@ -126,10 +148,16 @@ impl Flood {
         requires whole { ArePaired paired.now }
         requires table { AreFaceRows paired.now faces.now.first.items faces.now.next.items }
         requires count { count ≡ paired.now.face_count }
-        requires flood { IsFlood paired.now self.old.marks.items self.old.order.items (row_numbers self.old.rows) }
-        ensures flood { IfOk result (λ _. IsFlood paired.now self.new.marks.items self.new.order.items (row_numbers self.new.rows)) }
-        ensures done { IfOk result (λ _. (f : ℕ) → Has self.new.order.items f → IsDone paired.now self.new.order.items f) }
-        ensures crossed { IfOk result (λ _. Crosses paired.now (across_all paired.now self.new.order.items) self.old.order.items (row_numbers self.old.rows) self.new.order.items (row_numbers self.new.rows)) }
+        requires flood { IsFlood paired.now self.old.marks.items self.old.order.items
+            (row_numbers self.old.rows) }
+        ensures flood { IfOk result
+            (λ _. IsFlood paired.now self.new.marks.items self.new.order.items
+            (row_numbers self.new.rows)) }
+        ensures done { IfOk result (λ _. (f : ℕ) → Has self.new.order.items f
+            → IsDone paired.now self.new.order.items f) }
+        ensures crossed { IfOk result (λ _. Crosses paired.now
+            (across_all paired.now self.new.order.items) self.old.order.items
+            (row_numbers self.old.rows) self.new.order.items (row_numbers self.new.rows)) }
     {
         'places: for q in 0..count {
             self.leave_next(paired, faces, q)?;

@@ -26,8 +26,10 @@ pub type ReachList = RowList;
 fn first_unreached(paired: &Paired<'_>, flood: &Flood, count: usize) -> Option<u32>
     requires count { count ≡ paired.now.face_count }
     requires few { count < 2 ^ 29 }
-    requires flood { IsFlood paired.now flood.now.marks.items flood.now.order.items (row_numbers flood.now.rows) }
-    requires done { (f : ℕ) → Has flood.now.order.items f → IsDone paired.now flood.now.order.items f }
+    requires flood { IsFlood paired.now flood.now.marks.items flood.now.order.items
+        (row_numbers flood.now.rows) }
+    requires done { (f : ℕ) → Has flood.now.order.items f
+        → IsDone paired.now flood.now.order.items f }
     ensures { MatchOption result (AllByRecursion (IsReached paired.now) (numbers_from 0 paired.now.face_count))
         (λ f. FirstNot (IsReached paired.now) (numbers_from 0 paired.now.face_count) f) }
 {

@@ -30,7 +30,9 @@ pub fn two<T: Drop>(alloc: Global, first: T, second: T) -> Result<ItemList<T>, N
 
 /// A face with one loop (own).
 pub fn face(alloc: Global, number: u32, flag: bool, uses: Uses) -> Result<FaceUse, NoMemory>
-    ensures { IfOk result (λ face. face ≡ record { entity = record { 0 = number }; flag = flag; loops = record { entity = record { 0 = 7 }; uses = uses } ∷ [] }) }
+    ensures { IfOk result
+        (λ face. face
+        ≡ record { entity = record { 0 = number }; flag = flag; loops = record { entity = record { 0 = 7 }; uses = uses } ∷ [] }) }
 {
     let loops = one(
         alloc,
@@ -63,7 +65,13 @@ pub fn shell_of(alloc: Global, uses: Uses) -> Result<Shells, NoMemory>
 
 /// One shell with two faces (own).
 pub fn shell_of_two(alloc: Global, first: FaceUse, second: FaceUse) -> Result<Shells, NoMemory>
-    ensures { IfOk result (λ shells. shells ≡ record { entity = record { 0 = 11 }; flag = true; faces = first ∷ second ∷ [] } ∷ []) }
+    ensures { IfOk result
+        (λ shells. shells ≡ record {
+          entity = record { 0 = 11 };
+          flag = true;
+          faces = first ∷ second
+              ∷ [];
+        } ∷ []) }
 {
     let faces = two(alloc, first, second)?;
     one(
@@ -98,7 +106,8 @@ pub fn use_of(along: bool) -> LoopUse
 
 /// The edge from a solid's first vertex to another one, or back to the first (own).
 pub fn edge_to(to: u32) -> Edge
-    ensures { result ≡ record { key = record { «list» = record { 0 = 5 }; index = 1 }; from = record { 0 = 0 }; to = record { 0 = to } } }
+    ensures { result
+        ≡ record { key = record { «list» = record { 0 = 5 }; index = 1 }; from = record { 0 = 0 }; to = record { 0 = to } } }
 {
     Edge {
         key: EdgeKey {

@@ -48,7 +48,8 @@ fn check_each(alloc: Global, solid: &Solid) -> Result<(), CheckFault>
     ensures holds { OnOk result (AllHold (checked_obligations solid.now)) }
     ensures fault { IfErr result (IsCheckFault (checked_obligations solid.now)) }
     ensures only { AllHold (checked_obligations solid.now) → IfErr result IsNoMemory }
-    ensures only_fault { (x : Named) → FirstFalse (checked_obligations solid.now) x → FailsSo x result }
+    ensures only_fault { (x : Named) → FirstFalse (checked_obligations solid.now) x
+        → FailsSo x result }
 {
     let mut before = VerticesBefore::none();
     'shells: for k in 0..solid.shell_count() {
@@ -65,7 +66,8 @@ fn check_only(solid: &Solid) -> Result<(), CheckFault>
     ensures holds { OnOk result (AllHold (checked_obligations solid.now)) }
     ensures fault { IfErr result (IsCheckFault (checked_obligations solid.now)) }
     ensures only { AllHold (checked_obligations solid.now) → IfErr result IsNoMemory }
-    ensures only_fault { (x : Named) → FirstFalse (checked_obligations solid.now) x → FailsSo x result }
+    ensures only_fault { (x : Named) → FirstFalse (checked_obligations solid.now) x
+        → FailsSo x result }
 {
     let at = ShellAt(0);
     join(solid, at, shell_at(solid, at))?;
@@ -78,7 +80,8 @@ pub fn check_shells(alloc: Global, solid: &Solid) -> Result<(), CheckFault>
     ensures holds { OnOk result (AllHold (checked_obligations solid.now)) }
     ensures fault { IfErr result (IsCheckFault (checked_obligations solid.now)) }
     ensures only { AllHold (checked_obligations solid.now) → IfErr result IsNoMemory }
-    ensures only_fault { (x : Named) → FirstFalse (checked_obligations solid.now) x → FailsSo x result }
+    ensures only_fault { (x : Named) → FirstFalse (checked_obligations solid.now) x
+        → FailsSo x result }
 {
     if solid.shell_count() == 1 {
         check_only(solid)

@@ -21,7 +21,8 @@ pub fn completeness()
 /// A solid is closed exactly where all obligations of its list hold, and it has exactly one verdict. (own)
 pub fn one_verdict()
     ensures all { ClosedIsAllHold }
-    ensures one { (f : Contents) (n : ℕ) (a b : Word) → IsVerdictOn f n a → IsVerdictOn f n b → a ≡ b }
+    ensures one { (f : Contents) (n : ℕ) (a b : Word) → IsVerdictOn f n a → IsVerdictOn f n b
+        → a ≡ b }
     ensures always { (f : Contents) (n : ℕ) → (verdict : Word) × IsVerdictOn f n verdict }
 {}
 

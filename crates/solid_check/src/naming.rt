@@ -12,7 +12,8 @@ use solid_data::{Failing, Rule, Shell, Solid, VertexId, VertexKey};
 /// JOIN names the loop, and its first tuple, from 1, whose use doesn't end where the next one starts.
 pub(crate) fn unjoined(shell: &Shell, gap: Unjoined) -> Failing
     requires { (p : PlacedLoop) × Contains (placed_loops shell.now) p × (gap.at ≡ p.at) }
-    ensures { (p : PlacedLoop) → Contains (placed_loops shell.now) p → gap.at ≡ p.at → result ≡ failing Rule.Unjoined p.loop.entity.0 gap.place }
+    ensures { (p : PlacedLoop) → Contains (placed_loops shell.now) p → gap.at ≡ p.at
+        → result ≡ failing Rule.Unjoined p.loop.entity.0 gap.place }
 {
     let face = shell.faces.get(gap.at.face.0 as usize).unwrap();
     let walk = face.loops.get(gap.at.place as usize).unwrap();
@@ -25,7 +26,8 @@ pub(crate) fn unjoined(shell: &Shell, gap: Unjoined) -> Failing
 
 /// What LINK and APART name of a vertex: the vertex list, and the index of the vertex in it, from 1 (own).
 pub fn at_vertex(solid: &Solid, rule: Rule, vertex: VertexId) -> Failing
-    ensures { let key = vertex_name (slice_get solid.now.vertices vertex.0) in result ≡ failing rule key.list.0 key.index }
+    ensures { let key = vertex_name (slice_get solid.now.vertices vertex.0) in result
+        ≡ failing rule key.list.0 key.index }
 {
     let key = match solid.vertex(vertex) {
         Some(key) => key,

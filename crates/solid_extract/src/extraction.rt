@@ -38,8 +38,12 @@ fn push_kept(
 ) -> Result<(), NoMemory>
     requires faultless { IsFaultless file.now no.0 }
     requires entries { length new.old.entries < 4_999_999 }
-    requires values { value_count new.old.entries + value_count (records_of file.now (no.0 ∷ [])) ≤ FILE_LIMIT }
-    ensures { OnOk result (new.new ≡ record new.old { entries = new.old.entries ++ map (new_record file.now renaming.now) (records_of file.now (no.0 ∷ [])) }) }
+    requires values { value_count new.old.entries + value_count (records_of file.now (no.0 ∷ []))
+        ≤ FILE_LIMIT }
+    ensures { OnOk result (new.new ≡ record new.old {
+      entries = new.old.entries
+          ++ map (new_record file.now renaming.now) (records_of file.now (no.0 ∷ []));
+    }) }
 {
     let record = record_of(file, no).unwrap();
     let Ok(shape) = shape_of(alloc, record.entry, record.values) else {
@@ -53,7 +57,10 @@ fn push_kept(
 fn kept_file(alloc: Global, file: &File, renaming: &Renaming) -> Result<File, NoMemory>
     requires faultless { AllByRecursion (IsFaultless file.now) renaming.now }
     requires values { value_count (records_of file.now renaming.now) ≤ FILE_LIMIT }
-    ensures { IfOk result (λ new. new ≡ record file.now { entries = map (new_record file.now renaming.now) (records_of file.now renaming.now) }) }
+    ensures { IfOk result (λ new. new ≡ record file.now {
+      entries = map
+          (new_record file.now renaming.now) (records_of file.now renaming.now);
+    }) }
 {
     let mut new = begun(alloc, file)?;
     let kept = renaming.kept();
@@ -114,7 +121,8 @@ pub fn extract(alloc: Global, file: &File, no: EntryNo) -> Result<File, ExtractF
     ensures found { IfOk result (IsExtracted file.now no.0) }
     ensures only { (new : Contents) → IsExtracted file.now no.0 new → GivesFile result new }
     ensures fault { IfErr result (IsExtractFault file.now no.0) }
-    ensures only_fault { (entity : ℕ) (reason : Reason) → IsRefused file.now no.0 entity reason → GivesRefusal result entity reason }
+    ensures only_fault { (entity : ℕ) (reason : Reason) → IsRefused file.now no.0 entity reason
+        → GivesRefusal result entity reason }
 {
     extracted(alloc, file, no)
 }

@@ -36,7 +36,8 @@ fn mark_places(marks: &mut Vec<bool>, places: &[usize], count: usize) -> Result<
 
 // An integer as it is kept: a pointer is renamed, and one that isn't followed is cut.
 fn new_integer(renaming: &Renaming, n: i64, is_pointer: bool, is_cut: bool) -> i64
-    ensures { result ≡ if is_pointer then renamed renaming.now n else (if is_cut then pos 0 else n) }
+    ensures { result ≡ if is_pointer then renamed renaming.now n
+        else (if is_cut then pos 0 else n) }
 {
     if is_pointer {
         renaming.renamed(n)
@@ -56,7 +57,8 @@ fn push_value(
     is_cut: bool,
 ) -> Result<(), NoMemory>
     requires { IsTrue (is_value value.now) }
-    ensures { OnOk result (list.new ≡ list.old ++ value_as renaming.now is_pointer is_cut value.now ∷ []) }
+    ensures { OnOk result (list.new ≡ list.old ++ value_as renaming.now is_pointer is_cut value.now
+        ∷ []) }
 {
     match value {
         Value::Default => list.push(Value::Default),
@@ -76,7 +78,9 @@ fn own_values(
     values: &Values,
     marks: &mut Vec<bool>,
 ) -> Result<Values, NoMemory>
-    ensures { IfOk result (λ list. list ≡ map (λ v. new_value renaming.now own.now v.0 v.1) (enumerate_from 1 (take own.now.count values.now))) }
+    ensures { IfOk result (λ list. list ≡ map
+        (λ v. new_value renaming.now own.now v.0 v.1)
+        (enumerate_from 1 (take own.now.count values.now))) }
 {
     let count = own.count.min(values.len());
     mark_places(marks, own.pointers.as_slice(), count)?;
@@ -112,7 +116,8 @@ fn push_groups(
     names: &ItemList<i64>,
 ) -> Result<(), NoMemory>
     requires { length names.now ≤ FILE_LIMIT }
-    ensures { OnOk result (list.new ≡ list.old ++ names_behind (new_numbers renaming.now names.now)) }
+    ensures { OnOk result (list.new ≡ list.old
+        ++ names_behind (new_numbers renaming.now names.now)) }
 {
     let count = names.len();
     if count == 0 {
@@ -130,7 +135,9 @@ fn names_in(
     group: Group,
 ) -> Result<ItemList<i64>, NoMemory>
     requires { group.before + group.count < 2 ^ 32 }
-    ensures is { IfOk result (λ names. names ≡ filter (is_name file.now) (filter_map number_of (take group.count (drop group.before values.now)))) }
+    ensures is { IfOk result (λ names. names
+        ≡ filter (is_name file.now) (filter_map number_of
+        (take group.count (drop group.before values.now)))) }
 {
     let mut names = ItemList::new(alloc);
     push_names(&mut names, file, values, group)?;

@@ -36,7 +36,8 @@ fn visit(
     no: EntryNo,
 ) -> Result<Option<ExtractReason>, NoMemory>
     requires { reached.old.size ≡ length file.now.entries }
-    ensures reached { OnOk result (reached.new ≡ record reached.old { numbers = with_refs file.now reached.old.numbers no.0 }) }
+    ensures reached { OnOk result (reached.new
+        ≡ record reached.old { numbers = with_refs file.now reached.old.numbers no.0 }) }
     ensures fault { IfOk result (λ fault. fault ≡ fault_at file.now no.0) }
 {
     let Some(record) = record_of(file, no) else {
@@ -71,7 +72,8 @@ fn least_of(
 /// What is reached from an entry. A faulty entity refers to nothing.
 pub fn reach(alloc: Global, file: &File, no: EntryNo) -> Result<Flood, NoMemory>
     requires { IsSome (named file.now (pos no.0)) }
-    ensures flooded { IfOk result (λ flood. IsFlooded file.now no.0 flood.reached.numbers flood.refusal) }
+    ensures flooded { IfOk result
+        (λ flood. IsFlooded file.now no.0 flood.reached.numbers flood.refusal) }
     ensures size { IfOk result (λ flood. flood.reached.size ≡ length file.now.entries) }
 {
     let mut reached = EntrySet::new(alloc, file.entry_count())?;

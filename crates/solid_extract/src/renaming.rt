@@ -104,7 +104,8 @@ impl Renaming {
 
     fn colour(&self, colour: i64) -> i64
         requires { IsTrue (fits_columns colour) }
-        ensures is { result ≡ if int_lt colour (pos 0) then neg_ℤ (renamed self.now (neg_ℤ colour)) else colour }
+        ensures is { result ≡ if int_lt colour (pos 0) then neg_ℤ (renamed self.now (neg_ℤ colour))
+            else colour }
         ensures fits { IsTrue (fits_columns result) }
     {
         if colour < 0 {

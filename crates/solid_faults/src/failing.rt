@@ -212,7 +212,8 @@ pub fn faults_of(
     requires shell { shell.0 < length solid.now.shells }
     requires rows { rows.now ≡ rows_of solid.now (slice_get solid.now.shells shell.0) }
     requires below { AreBelow solid.now shell.0 below }
-    ensures { IfOk result (λ x. (h : AnyShell) → slice_get solid.now.shells shell.0 ≡ Some h → AreFaults solid.now shell.0 h x) }
+    ensures { IfOk result (λ x. (h : AnyShell) → slice_get solid.now.shells shell.0 ≡ Some h
+        → AreFaults solid.now shell.0 h x) }
 {
     let gaps = gaps(alloc, solid, shell)?;
     let unpaired = unpaired_edges(alloc, rows)?;
@@ -232,7 +233,8 @@ pub fn faults_of(
 /// vertices; whoever goes over all shells carries the number of these, and calls `faults_of`.
 pub fn faults(alloc: Global, solid: &Solid, shell: ShellAt) -> Result<ShellFaults, NoMemory>
     requires { shell.0 < length solid.now.shells }
-    ensures { IfOk result (λ x. (h : AnyShell) → slice_get solid.now.shells shell.0 ≡ Some h → AreFaults solid.now shell.0 h x) }
+    ensures { IfOk result (λ x. (h : AnyShell) → slice_get solid.now.shells shell.0 ≡ Some h
+        → AreFaults solid.now shell.0 h x) }
 {
     let rows = rows(alloc, solid, shell)?;
     let below = below_shell(alloc, solid, shell)?;

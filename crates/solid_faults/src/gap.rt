@@ -83,7 +83,9 @@ fn push_gap(
     end: u32,
     start: u32,
 ) -> Result<(), NoMemory>
-    ensures { (f : Bool) → IfOk result (λ _. out.new.items ≡ out.old.items ++ gap_at (record { at = at; forwards = f; loop = walk.now }) (tuple, end, start)) }
+    ensures { (f : Bool) → IfOk result (λ _. out.new.items
+        ≡ out.old.items ++ gap_at (record { at = at; forwards = f; loop = walk.now })
+        (tuple, end, start)) }
 {
     if end != start {
         out.push(Gap {
@@ -102,7 +104,9 @@ fn push_loop_gaps(
     out: &mut Vec<Gap>,
 ) -> Result<(), NoMemory>
     requires { length walk.now.uses < 2 ^ 29 }
-    ensures { (f : Bool) → IfOk result (λ _. out.new.items ≡ out.old.items ++ loop_gaps solid.now (record { at = at; forwards = f; loop = walk.now })) }
+    ensures { (f : Bool) → IfOk result (λ _. out.new.items
+        ≡ out.old.items
+        ++ loop_gaps solid.now (record { at = at; forwards = f; loop = walk.now })) }
 {
     let uses = walk.uses.as_slice();
     'uses: for i in 0..uses.len() {
@@ -121,7 +125,9 @@ fn push_face_gaps(
     out: &mut Vec<Gap>,
 ) -> Result<(), NoMemory>
     requires { IsFewFace face.now }
-    ensures { IfOk result (λ _. out.new.items ≡ out.old.items ++ flat_map (loop_gaps solid.now) (placed_in_face shell_flag (at.0, face.now))) }
+    ensures { IfOk result (λ _. out.new.items
+        ≡ out.old.items ++ flat_map (loop_gaps solid.now)
+        (placed_in_face shell_flag (at.0, face.now))) }
 {
     let loops = face.loops.as_slice();
     'loops: for i in 0..loops.len() {
@@ -149,7 +155,8 @@ fn push_shell_gaps(solid: &Solid, shell: &Shell, out: &mut Vec<Gap>) -> Result<(
 /// use is to end where the next one starts, the last where the first does (own).
 pub fn gaps(alloc: Global, solid: &Solid, shell: ShellAt) -> Result<Vec<Gap>, NoMemory>
     requires { shell.0 < length solid.now.shells }
-    ensures { IfOk result (λ gaps. IfSome (slice_get solid.now.shells shell.0) (λ h. gaps.items ≡ gaps_of solid.now h)) }
+    ensures { IfOk result (λ gaps. IfSome (slice_get solid.now.shells shell.0)
+        (λ h. gaps.items ≡ gaps_of solid.now h)) }
 {
     let shell = solid.shell(shell).unwrap();
     let mut gaps = Vec::new(alloc);

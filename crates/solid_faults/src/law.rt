@@ -15,7 +15,8 @@ ghost use Rattle.solid_faults.specs.Naming.{AreNamed};
 /// REACH and LINK where loops join and edges are paired. The first of all that is found is the
 /// first false obligation of the shell, and nothing is found exactly where all hold. (own)
 pub fn faults_are_definite()
-    ensures named { (s : SolidData) (k : ℕ) (h : AnyShell) (x : Faults) → IsNumberedSolid s → Has s.shells h → AreFaults s k h x → AreNamed s k h x }
+    ensures named { (s : SolidData) (k : ℕ) (h : AnyShell) (x : Faults) → IsNumberedSolid s
+        → Has s.shells h → AreFaults s k h x → AreNamed s k h x }
     ensures first { (s : SolidData) (k : ℕ) (h : AnyShell) (x : Faults) → IsNumberedSolid s → Has s.shells h → AreFaults s k h x →
         (y : Named) (ys : List Named) → failing_of s h x ≡ y ∷ ys → FirstFalse (shell_obligations s (k, h)) y }
     ensures closed { (s : SolidData) (k : ℕ) (h : AnyShell) (x : Faults) → IsNumberedSolid s → Has s.shells h → AreFaults s k h x →

@@ -51,7 +51,8 @@ fn push_pair(out: &mut Vec<(u32, u32)>, a: u32, b: u32) -> Result<(), NoMemory>
 
 fn pairs_of(alloc: Global, rows: &Rows, tally: &Tally) -> Result<Vec<(u32, u32)>, NoMemory>
     requires { AreTallied rows.now tally.now.span tally.now.seen.items }
-    ensures { IfOk result (λ pairs. pairs.items ≡ part_pairs rows.now tally.now.span tally.now.seen.items) }
+    ensures { IfOk result (λ pairs. pairs.items
+        ≡ part_pairs rows.now tally.now.span tally.now.seen.items) }
 {
     let mut out = Vec::new(alloc);
     'rows: for i in 0..rows.len() {

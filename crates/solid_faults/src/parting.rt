@@ -80,7 +80,8 @@ fn faces_by_part(alloc: Global, firsts: &[u32]) -> Result<Groups, NoMemory>
 }
 
 fn numbers_of(alloc: Global, unpaired: &[Unpaired]) -> Result<Vec<u32>, NoMemory>
-    ensures { IfOk result (λ edges. edges.items ≡ map (λ (u : AnyUnpaired). u.edge.0) unpaired.now) }
+    ensures { IfOk result (λ edges. edges.items
+        ≡ map (λ (u : AnyUnpaired). u.edge.0) unpaired.now) }
 {
     let mut edges = Vec::with_capacity(alloc, unpaired.len())?;
     'edges: for i in 0..unpaired.len() {
@@ -93,7 +94,9 @@ fn lower(lows: &mut Vec<u32>, range: Span, vertex: u32, part: u32)
     requires within { IsWithin range vertex }
     requires each { length lows.old.items ≡ range.count }
     ensures each { length lows.new.items ≡ range.count }
-    ensures lows { (v p : ℕ) → IsWithin range v → is_low range lows.new.items p v ≡ (is_low range lows.old.items p v || ((vertex == v) && nat_lt part p)) }
+    ensures lows { (v p : ℕ) → IsWithin range v
+        → is_low range lows.new.items p v ≡ (is_low range lows.old.items p v
+        || ((vertex == v) && nat_lt part p)) }
 {
     let k = (vertex - range.least) as usize;
     if part < lows[k] {
@@ -105,7 +108,9 @@ fn lower_all(lows: &mut Vec<u32>, range: Span, vertices: &[u32], part: u32)
     requires within { All (IsWithin range) vertices.now }
     requires each { length lows.old.items ≡ range.count }
     ensures each { length lows.new.items ≡ range.count }
-    ensures lows { (v p : ℕ) → IsWithin range v → is_low range lows.new.items p v ≡ (is_low range lows.old.items p v || (list_any (λ m. m == v) vertices.now && nat_lt part p)) }
+    ensures lows { (v p : ℕ) → IsWithin range v
+        → is_low range lows.new.items p v ≡ (is_low range lows.old.items p v
+        || (list_any (λ m. m == v) vertices.now && nat_lt part p)) }
 {
     'vertices: for i in 0..vertices.len() {
         lower(lows, range, vertices[i], part);
@@ -148,7 +153,9 @@ pub fn part_tables<'a>(
     requires rows { rows.now ≡ rows_of solid.now (slice_get solid.now.shells shell.0) }
     requires parts { AreParts rows.now firsts.now }
     requires unpaired { unpaired.now ≡ unpaired_of rows.now }
-    ensures { IfOk result (λ t. (h : AnyShell) → slice_get solid.now.shells shell.0 ≡ Some h → t ≡ record { solid = solid.now; shell = h; firsts = firsts.now; unpaired = unpaired.now }) }
+    ensures { IfOk result (λ t. (h : AnyShell) → slice_get solid.now.shells shell.0 ≡ Some h
+        → t
+        ≡ record { solid = solid.now; shell = h; firsts = firsts.now; unpaired = unpaired.now }) }
 {
     let shell = solid.shell(shell).unwrap();
     let edges = rows.edge_span();
@@ -189,7 +196,8 @@ pub fn parts(alloc: Global, firsts: &[u32]) -> Result<Vec<u32>, NoMemory>
 }
 
 fn add_numbered(solid: &Solid, shell: &Shell, n: u32, used: &mut Used) -> Result<(), NoMemory>
-    ensures { IfOk result (λ _. AddedFaces solid.now used.old used.new (face_numbered shell.now n)) }
+    ensures { IfOk result (λ _. AddedFaces solid.now used.old used.new
+        (face_numbered shell.now n)) }
 {
     match shell.faces.get(n as usize) {
         Some(face) => add_face(solid, face, used),
@@ -203,8 +211,10 @@ fn used_by_faces(
     shell: &Shell,
     faces: &[u32],
 ) -> Result<Used, NoMemory>
-    ensures edges { IfOk result (λ used. used.edges.items ≡ flat_map face_edges (faces_numbered shell.now faces.now)) }
-    ensures vertices { IfOk result (λ used. used.vertices.items ≡ flat_map (face_vertices solid.now) (faces_numbered shell.now faces.now)) }
+    ensures edges { IfOk result (λ used. used.edges.items
+        ≡ flat_map face_edges (faces_numbered shell.now faces.now)) }
+    ensures vertices { IfOk result (λ used. used.vertices.items
+        ≡ flat_map (face_vertices solid.now) (faces_numbered shell.now faces.now)) }
 {
     let mut used = nothing_used(alloc);
     'faces: for i in 0..faces.len() {
@@ -214,7 +224,9 @@ fn used_by_faces(
 }
 
 fn push_entity(out: &mut Vec<EntryNo>, face: Option<&FaceUse>) -> Result<(), NoMemory>
-    ensures { IfOk result (λ _. out.new.items ≡ out.old.items ++ map (λ (f : AnyFace). f.entity) (option_to_list (option_copied face.entry))) }
+    ensures { IfOk result (λ _. out.new.items
+        ≡ out.old.items ++ map (λ (f : AnyFace). f.entity)
+        (option_to_list (option_copied face.entry))) }
 {
     if let Some(face) = face {
         out.push(face.entity)?;
@@ -223,7 +235,8 @@ fn push_entity(out: &mut Vec<EntryNo>, face: Option<&FaceUse>) -> Result<(), NoM
 }
 
 fn entities(alloc: Global, shell: &Shell, faces: &[u32]) -> Result<Vec<EntryNo>, NoMemory>
-    ensures { IfOk result (λ out. out.items ≡ map (λ (f : AnyFace). f.entity) (faces_numbered shell.now faces.now)) }
+    ensures { IfOk result (λ out. out.items ≡ map
+        (λ (f : AnyFace). f.entity) (faces_numbered shell.now faces.now)) }
 {
     let mut out = Vec::with_capacity(alloc, faces.len())?;
     'faces: for i in 0..faces.len() {
@@ -268,7 +281,8 @@ fn touching(
 ) -> Result<Vec<u32>, NoMemory>
     requires within { All (IsWithin range) vertices.now }
     requires each { length lows.now ≡ range.count }
-    ensures { IfOk result (λ out. out.items ≡ flat_map (low_vertex range lows.now first) vertices.now) }
+    ensures { IfOk result (λ out. out.items ≡ flat_map
+        (low_vertex range lows.now first) vertices.now) }
 {
     let mut out = Vec::new(alloc);
     'vertices: for i in 0..vertices.len() {
@@ -287,7 +301,8 @@ impl<'a> PartTables<'a> {
 
     /// A part, by its first face (own). It goes over the uses of the part's faces, and sorts what they use.
     pub fn part(&self, alloc: Global, first: u32) -> Result<Part, NoMemory>
-        ensures { IfOk result (λ p. IsPart self.now.solid self.now.shell self.now.firsts self.now.unpaired first p) }
+        ensures { IfOk result
+            (λ p. IsPart self.now.solid self.now.shell self.now.firsts self.now.unpaired first p) }
     {
         let numbers = self.by_part.places(first);
         let mut used = used_by_faces(alloc, self.solid, self.shell, numbers)?;

@@ -47,7 +47,10 @@ fn place_on(
     flag: bool,
     edge: Option<&Edge>,
 ) -> Option<RowPlace>
-    ensures { (at : LoopPlace) (id : AnyEdgeId) → option_to_list result ≡ place_of_row face.now (record { at = at; forwards = forwards; loop = walk.now }) tuple flag (row_of_edge at id (same_flag flag forwards) (option_copied edge.entry)) }
+    ensures { (at : LoopPlace) (id : AnyEdgeId)
+        → option_to_list result ≡ place_of_row face.now
+        (record { at = at; forwards = forwards; loop = walk.now }) tuple flag
+        (row_of_edge at id (same_flag flag forwards) (option_copied edge.entry)) }
 {
     edge?;
     Some(RowPlace {
@@ -68,7 +71,9 @@ fn place_of_use(
     tuple: u32,
     item: LoopUse,
 ) -> Option<RowPlace>
-    ensures { (at : LoopPlace) → option_to_list result ≡ use_places solid.now face.now (record { at = at; forwards = forwards; loop = walk.now }) (tuple, item) }
+    ensures { (at : LoopPlace) → option_to_list result
+        ≡ use_places solid.now face.now (record { at = at; forwards = forwards; loop = walk.now })
+        (tuple, item) }
 {
     match item {
         LoopUse::EdgeUse { edge, along } => {
@@ -95,7 +100,9 @@ fn push_loop_places(
     out: &mut Vec<RowPlace>,
 ) -> Result<(), NoMemory>
     requires { length walk.now.uses < 2 ^ 29 }
-    ensures { (at : LoopPlace) → IfOk result (λ _. out.new.items ≡ out.old.items ++ loop_places solid.now face.now (record { at = at; forwards = forwards; loop = walk.now })) }
+    ensures { (at : LoopPlace) → IfOk result
+        (λ _. out.new.items ≡ out.old.items ++ loop_places solid.now face.now
+        (record { at = at; forwards = forwards; loop = walk.now })) }
 {
     let uses = walk.uses.as_slice();
     'uses: for i in 0..uses.len() {
@@ -113,7 +120,8 @@ fn push_face_places(
     out: &mut Vec<RowPlace>,
 ) -> Result<(), NoMemory>
     requires { IsFewFace face.now }
-    ensures { IfOk result (λ _. out.new.items ≡ out.old.items ++ face_places solid.now shell_flag (at, face.now)) }
+    ensures { IfOk result (λ _. out.new.items
+        ≡ out.old.items ++ face_places solid.now shell_flag (at, face.now)) }
 {
     let forwards = same(face.flag, shell_flag);
     let loops = face.loops.as_slice();
@@ -125,7 +133,8 @@ fn push_face_places(
 
 fn push_shell_places(solid: &Solid, shell: &Shell, out: &mut Vec<RowPlace>) -> Result<(), NoMemory>
     requires { IsFewShell shell.now }
-    ensures { IfOk result (λ _. out.new.items ≡ out.old.items ++ row_places_of solid.now shell.now) }
+    ensures { IfOk result (λ _. out.new.items
+        ≡ out.old.items ++ row_places_of solid.now shell.now) }
 {
     let faces = shell.faces.as_slice();
     'faces: for i in 0..faces.len() {
@@ -137,9 +146,13 @@ fn push_shell_places(solid: &Solid, shell: &Shell, out: &mut Vec<RowPlace>) -> R
 /// Where each row of a shell stands in the file, in the order of the rows (own).
 pub fn row_places(alloc: Global, solid: &Solid, shell: ShellAt) -> Result<Vec<RowPlace>, NoMemory>
     requires { shell.0 < length solid.now.shells }
-    ensures places { IfOk result (λ out. out.items ≡ places_in solid.now (slice_get solid.now.shells shell.0)) }
-    ensures rows { IfOk result (λ out. map (λ (p : AnyPlace). p.along) out.items ≡ map (λ (r : AnyRow). r.along) (rows_of solid.now (slice_get solid.now.shells shell.0)).rows) }
-    ensures each { IfOk result (λ out. length out.items ≡ length (rows_of solid.now (slice_get solid.now.shells shell.0)).rows) }
+    ensures places { IfOk result (λ out. out.items
+        ≡ places_in solid.now (slice_get solid.now.shells shell.0)) }
+    ensures rows { IfOk result (λ out. map (λ (p : AnyPlace). p.along) out.items
+        ≡ map (λ (r : AnyRow). r.along) (rows_of solid.now
+        (slice_get solid.now.shells shell.0)).rows) }
+    ensures each { IfOk result (λ out. length out.items
+        ≡ length (rows_of solid.now (slice_get solid.now.shells shell.0)).rows) }
 {
     let shell = solid.shell(shell).unwrap();
     let mut out = Vec::new(alloc);

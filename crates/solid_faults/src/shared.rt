@@ -64,7 +64,8 @@ pub fn below_shell(alloc: Global, solid: &Solid, shell: ShellAt) -> Result<usize
 }
 
 fn is_below(vertex: VertexId, below: usize) -> bool
-    ensures { (s : SolidData) (k : ℕ) → AreBelow s k below → IsTrue result ↔ Contains (flat_map (shell_vertices s) (take k s.shells)) vertex.0 }
+    ensures { (s : SolidData) (k : ℕ) → AreBelow s k below → IsTrue result
+        ↔ Contains (flat_map (shell_vertices s) (take k s.shells)) vertex.0 }
 {
     (vertex.0 as usize) < below
 }
@@ -72,7 +73,8 @@ fn is_below(vertex: VertexId, below: usize) -> bool
 /// The vertices of the next shell, whose rows are given, that are among those of the shells before,
 /// which are the ones below a number; by rising number (own).
 pub fn shared_vertices(alloc: Global, below: usize, rows: &Rows) -> Result<Vec<u32>, NoMemory>
-    ensures { IfOk result (λ out. (s : SolidData) (k : ℕ) → AreBelow s k below → out.items ≡ shared_of s k rows.now) }
+    ensures { IfOk result (λ out. (s : SolidData) (k : ℕ) → AreBelow s k below
+        → out.items ≡ shared_of s k rows.now) }
 {
     let mut out = Vec::new(alloc);
     'vertices: for i in 0..rows.vertex_count() {

@@ -46,7 +46,8 @@ fn fan_counts(alloc: Global, rows: &Rows, span: Span, leasts: &[u32]) -> Result<
     requires each { length leasts.now ≡ length rows.now.rows }
     requires span { IsSpanOf span rows.now.vertices }
     ensures len { IfOk result (λ counts. length counts.items ≡ span.count) }
-    ensures counts { IfOk result (λ counts. AreFanCounts rows.now leasts.now span.least span.count counts.items) }
+    ensures counts { IfOk result
+        (λ counts. AreFanCounts rows.now leasts.now span.least span.count counts.items) }
 {
     let mut counts = vec![in alloc; 0; span.count]?;
     'rows: for i in 0..rows.len() {
@@ -67,7 +68,8 @@ fn point_at(rows: &Rows, i: usize) -> (LoopAt, VertexId)
 fn point_counts(alloc: Global, rows: &Rows, span: Span) -> Result<Vec<u32>, NoMemory>
     requires span { IsSpanOf span rows.now.vertices }
     ensures len { IfOk result (λ counts. length counts.items ≡ span.count) }
-    ensures counts { IfOk result (λ counts. ArePointCounts rows.now span.least span.count counts.items) }
+    ensures counts { IfOk result
+        (λ counts. ArePointCounts rows.now span.least span.count counts.items) }
 {
     let _kept = rows.len();
     let mut counts = vec![in alloc; 0; span.count]?;

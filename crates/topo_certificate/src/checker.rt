@@ -102,7 +102,8 @@ impl<'a> Checker<'a> {
 
     // Keeps the bytes that a line may have room for.
     fn keep(&mut self, bytes: &[u8])
-        ensures kept { self.new.kept ≡ take (line_limit self.old.checker.solid) (self.old.kept ++ bytes.now) }
+        ensures kept { self.new.kept ≡ take (line_limit self.old.checker.solid) (self.old.kept
+            ++ bytes.now) }
         ensures checker { self.new.checker ≡ self.old.checker }
         ensures failed { self.new.failed ≡ self.old.failed }
     {
@@ -131,7 +132,8 @@ impl<'a> Checker<'a> {
         ensures line { (v : Version) (s : SolidData) (first : ℕ) (read : List CertLine) → StandsAfter v s first read [] self.old → MatchResult result
             (λ _. (l : CertLine) × IsLine (line_limit s) line.now l × FitsLine s (stand_after v s read) l × StandsAfter v s first (read ++ l ∷ []) [] self.new)
             (λ bad. IsBadLine s (FitsLine s (stand_after v s read)) (first + length read) line.now bad × (self.new.failed ≡ Some bad)) }
-        ensures answer { MatchResult result (λ _. self.new.failed ≡ None) (λ bad. self.new.failed ≡ Some bad) }
+        ensures answer { MatchResult result (λ _. self.new.failed ≡ None)
+            (λ bad. self.new.failed ≡ Some bad) }
         ensures stays { IfSome self.old.failed (λ bad. (result ≡ Err bad) × (self.new ≡ self.old)) }
         ensures same { IsOfSame self.old.checker self.new.checker }
     {
@@ -148,8 +150,11 @@ impl<'a> Checker<'a> {
     fn end_line(&mut self, line: &[u8]) -> Result<(), Illegal>
         requires open { self.old.failed ≡ None }
         requires some { 0 < length line.now }
-        ensures fed { (v : Version) (s : SolidData) (first : ℕ) (text front : List ℕ) → IsTrue (is_in_line front) → line.now ≡ ended front → IsFed v s first text self.old → IsFed v s first (text ++ line.now) self.new }
-        ensures kept { MatchResult result (λ _. (self.new.failed ≡ None) × (self.new.kept ≡ [])) (λ bad. self.new.failed ≡ Some bad) }
+        ensures fed { (v : Version) (s : SolidData) (first : ℕ) (text front : List ℕ)
+            → IsTrue (is_in_line front) → line.now ≡ ended front → IsFed v s first text self.old
+            → IsFed v s first (text ++ line.now) self.new }
+        ensures kept { MatchResult result (λ _. (self.new.failed ≡ None) × (self.new.kept ≡ []))
+            (λ bad. self.new.failed ≡ Some bad) }
         ensures same { IsOfSame self.old.checker self.new.checker }
     {
         if self.kept.is_empty() {
@@ -171,8 +176,10 @@ impl<'a> Checker<'a> {
     /// Takes the next bytes, and judges each line at its LF (own). A fault is that of the first line that is misspelt or
     /// unfit.
     pub fn feed(&mut self, piece: &[u8]) -> Result<(), Illegal>
-        ensures fed { (v : Version) (s : SolidData) (first : ℕ) (text : List ℕ) → IsFed v s first text self.old → IsFed v s first (text ++ piece.now) self.new }
-        ensures answer { MatchResult result (λ _. self.new.failed ≡ None) (λ bad. self.new.failed ≡ Some bad) }
+        ensures fed { (v : Version) (s : SolidData) (first : ℕ) (text : List ℕ)
+            → IsFed v s first text self.old → IsFed v s first (text ++ piece.now) self.new }
+        ensures answer { MatchResult result (λ _. self.new.failed ≡ None)
+            (λ bad. self.new.failed ≡ Some bad) }
         ensures stays { IfSome self.old.failed (λ bad. (result ≡ Err bad) × (self.new ≡ self.old)) }
         ensures same { IsOfSame self.old.checker self.new.checker }
     {
@@ -194,7 +201,8 @@ impl<'a> Checker<'a> {
         requires some { 0 < length line.now }
         ensures fed { (v : Version) (s : SolidData) (first : ℕ) (text front : List ℕ) → IsTrue (is_in_line front) → line.now ≡ ended front → IsFedPart v s first text self.old →
             MatchResult result (IsEndedBy v s first (text ++ line.now) self.new) (λ _. IsFedPart v s first (text ++ line.now) self.new) }
-        ensures kept { MatchResult result (λ _. (self.new.failed ≡ None) × (self.new.kept ≡ [])) (λ bad. self.new.failed ≡ Some bad) }
+        ensures kept { MatchResult result (λ _. (self.new.failed ≡ None) × (self.new.kept ≡ []))
+            (λ bad. self.new.failed ≡ Some bad) }
         ensures same { IsOfSame self.old.checker self.new.checker }
     {
         if self.kept.is_empty() {
@@ -223,8 +231,12 @@ impl<'a> Checker<'a> {
     /// a line fits too that names a solid with a greater number: it begins the next part, and no byte behind its LF is
     /// taken. No call may come behind that. A part that END ends is finished by `finish`.
     pub fn feed_part(&mut self, piece: &[u8]) -> Result<PartStep, Illegal>
-        ensures step { (v : Version) (s : SolidData) (first : ℕ) (text : List ℕ) → IsFedPart v s first text self.old → MatchResult result (IsPartStep v s first text piece.now self.new) (λ _. IsFedPart v s first (text ++ piece.now) self.new) }
-        ensures answer { MatchResult result (λ _. self.new.failed ≡ None) (λ bad. self.new.failed ≡ Some bad) }
+        ensures step { (v : Version) (s : SolidData) (first : ℕ) (text : List ℕ)
+            → IsFedPart v s first text self.old → MatchResult result
+            (IsPartStep v s first text piece.now self.new)
+            (λ _. IsFedPart v s first (text ++ piece.now) self.new) }
+        ensures answer { MatchResult result (λ _. self.new.failed ≡ None)
+            (λ bad. self.new.failed ≡ Some bad) }
         ensures stays { IfSome self.old.failed (λ bad. (result ≡ Err bad) × (self.new ≡ self.old)) }
         ensures same { IsOfSame self.old.checker self.new.checker }
     {
@@ -249,12 +261,17 @@ impl<'a> Checker<'a> {
     /// Whether END was the last line (own). A rest without LF is misspelt; where END wasn't the last line, the line behind
     /// the last one is missing.
     pub fn finish(&mut self) -> Result<(), Illegal>
-        ensures fed { (v : Version) (s : SolidData) (first : ℕ) (text : List ℕ) → IsFed v s first text self.old → MatchResult result (λ _. IsLegal v s (cut_lines text)) (λ bad. IsFirstBad v s first (cut_lines text) bad) }
-        ensures part { (v : Version) (s : SolidData) (first : ℕ) (text : List ℕ) → IsFedPart v s first text self.old → MatchResult result (λ _. IsLegal v s (cut_lines text)) (λ bad. IsPartBad v s first (cut_lines text) bad) }
+        ensures fed { (v : Version) (s : SolidData) (first : ℕ) (text : List ℕ)
+            → IsFed v s first text self.old → MatchResult result (λ _. IsLegal v s (cut_lines text))
+            (λ bad. IsFirstBad v s first (cut_lines text) bad) }
+        ensures part { (v : Version) (s : SolidData) (first : ℕ) (text : List ℕ)
+            → IsFedPart v s first text self.old → MatchResult result
+            (λ _. IsLegal v s (cut_lines text)) (λ bad. IsPartBad v s first (cut_lines text) bad) }
         ensures ended { (v : Version) (s : SolidData) (first : ℕ) (read : List CertLine) → StandsAfter v s first read [] self.old → MatchResult result
             (λ _. (stand_after v s read).ended ≡ true)
             (λ bad. ((stand_after v s read).ended ≡ false) × (bad ≡ Missing (first + length read))) }
-        ensures stays_ok { MatchResult result (λ _. self.new ≡ self.old) (λ bad. self.new.failed ≡ Some bad) }
+        ensures stays_ok { MatchResult result (λ _. self.new ≡ self.old)
+            (λ bad. self.new.failed ≡ Some bad) }
         ensures stays { IfSome self.old.failed (λ bad. (result ≡ Err bad) × (self.new ≡ self.old)) }
         ensures same { IsOfSame self.old.checker self.new.checker }
     {

@@ -72,7 +72,8 @@ pub fn fitting_point(
     face: u32,
     place: u32,
 ) -> Option<VertexId>
-    requires alone { alone.now ≡ map (λ (p : LoopPlace × ℕ). is_alone rows.now p.1) rows.now.points }
+    requires alone { alone.now ≡ map (λ (p : LoopPlace
+        × ℕ). is_alone rows.now p.1) rows.now.points }
     requires order { InFileOrder rows.now.points }
     ensures { (at : Stand) → at.last_vertex ≡ last →
         MatchOption result (¬ FitsPoint rows.now at face place) (λ v. FitsPoint rows.now at face place × (vertex_of rows.now (point face place) ≡ Some v.0)) }

@@ -122,7 +122,8 @@ pub fn fitting_face(rows: &Rows, mates: &[u32], reached: &[bool], row: u32) -> O
 
 /// The row that follows the mate of a row, all from 1.
 pub fn turn_of(rows: &Rows, mates: &[u32], row: u32) -> Option<u64>
-    ensures { (pairs : List (ℕ × ℕ)) → HoldsMates mates.now pairs → (s : ℕ) → (result ≡ Some s) ↔ TurnsTo rows.now pairs row s }
+    ensures { (pairs : List (ℕ × ℕ)) → HoldsMates mates.now pairs → (s : ℕ) → (result ≡ Some s)
+        ↔ TurnsTo rows.now pairs row s }
 {
     let Some(mate) = mate_of(mates, row) else {
         return None;

@@ -54,7 +54,9 @@ ghost use Rattle.topo_certificate.specs.Kept.{IsFresh};
 ghost use Rattle.topo_certificate.specs.Told.{AreWaiting};
 
 fn solid_in(words: Words<'_>) -> Option<u32>
-    ensures { MatchOption result ((line : CertLine) (n : ℕ) → Means words.entry line → line ≢ solid_named n) (λ n. (line : CertLine) → Means words.entry line → line ≡ solid_named n) }
+    ensures { MatchOption result ((line : CertLine) (n : ℕ) → Means words.entry line
+        → line ≢ solid_named n) (λ n. (line : CertLine) → Means words.entry line
+        → line ≡ solid_named n) }
 {
     match words {
         Words::Solid(number) => Some(number),
@@ -71,7 +73,8 @@ fn solid_in(words: Words<'_>) -> Option<u32>
 
 /// The solid that a line names which may have so many bytes.
 fn named_solid(line: &[u8], limit: usize) -> Option<u32>
-    ensures { MatchOption result ((n : ℕ) → ¬ IsLine limit line.now (solid_named n)) (λ n. IsLine limit line.now (solid_named n)) }
+    ensures { MatchOption result ((n : ℕ) → ¬ IsLine limit line.now (solid_named n))
+        (λ n. IsLine limit line.now (solid_named n)) }
 {
     match judge(line, limit) {
         Judged::Spelled(words) => solid_in(words),
@@ -81,7 +84,8 @@ fn named_solid(line: &[u8], limit: usize) -> Option<u32>
 
 /// What a corner line has between its letter and its LF.
 fn corner_text(line: &[u8]) -> Option<&[u8]>
-    ensures { MatchOption result ((text : List ℕ) → line.now ≢ 67 ∷ text ++ 10 ∷ []) (λ text. line.now ≡ 67 ∷ text.now ++ 10 ∷ []) }
+    ensures { MatchOption result ((text : List ℕ) → line.now ≢ 67 ∷ text ++ 10 ∷ [])
+        (λ text. line.now ≡ 67 ∷ text.now ++ 10 ∷ []) }
 {
     let Some((letter, behind)) = line.split_first() else {
         return None;
@@ -112,7 +116,8 @@ fn state_of(
     shell: u32,
 ) -> Result<ShellState, NoMemory>
     requires { shell < length solid.now.shells }
-    ensures { IfOk result (λ k. IsFresh version (rows_of_shell solid.now (shell + 1)) (loops_of_shell solid.now (shell + 1)) k) }
+    ensures { IfOk result (λ k. IsFresh version (rows_of_shell solid.now (shell + 1))
+        (loops_of_shell solid.now (shell + 1)) k) }
 {
     let _entity = solid.entity();
     let rows = rows(alloc, solid, ShellAt(shell))?;
@@ -193,7 +198,8 @@ impl<'a> LineChecker<'a> {
 
     fn take_shell(&mut self, words: &ShellWords) -> bool
         requires { self.old.ended ≡ false }
-        ensures line { TakesLine self.old self.new (shell words.now.shell (counts_said words.now)) result }
+        ensures line { TakesLine self.old self.new
+            (shell words.now.shell (counts_said words.now)) result }
         ensures same { IsOfSame self.old self.new }
         ensures number { result ≡ false → self.new.number ≡ self.old.number }
     {
@@ -229,7 +235,8 @@ impl<'a> LineChecker<'a> {
     /// Takes an edge, corner, point, reach or TALLY line, exactly where it fits.
     fn take_row_line(&mut self, words: Words<'_>) -> bool
         requires { self.old.ended ≡ false }
-        ensures line { (line : CertLine) → Means words.entry line → HasSpelling line → IsRowLine line → TakesLine self.old self.new line result }
+        ensures line { (line : CertLine) → Means words.entry line → HasSpelling line
+            → IsRowLine line → TakesLine self.old self.new line result }
         ensures same { IsOfSame self.old self.new }
         ensures number { result ≡ false → self.new.number ≡ self.old.number }
     {
@@ -245,7 +252,8 @@ impl<'a> LineChecker<'a> {
 
     /// Takes a line, exactly where it fits.
     fn take(&mut self, words: Words<'_>) -> bool
-        ensures line { (line : CertLine) → Means words.entry line → HasSpelling line → TakesLine self.old self.new line result }
+        ensures line { (line : CertLine) → Means words.entry line → HasSpelling line
+            → TakesLine self.old self.new line result }
         ensures same { IsOfSame self.old self.new }
         ensures number { result ≡ false → self.new.number ≡ self.old.number }
     {
@@ -335,7 +343,8 @@ impl<'a> LineChecker<'a> {
 
     /// Whether END may come now.
     fn may_end(&self) -> bool
-        ensures { (first : ℕ) (lines : List CertLine) → IsAt first self.now lines → IsTrue result ↔ FitsLine self.now.solid (stand_behind self.now.version self.now.solid lines) end }
+        ensures { (first : ℕ) (lines : List CertLine) → IsAt first self.now lines → IsTrue result
+            ↔ FitsLine self.now.solid (stand_behind self.now.version self.now.solid lines) end }
     {
         !self.ended && self.is_done() && self.waiting.is_empty()
     }

@@ -103,7 +103,8 @@ impl Opening {
     fn end_line(&mut self, line: &[u8])
         requires waiting { IsWaiting self.old.stage }
         requires some { 0 < length line.now }
-        ensures { (text front : List ℕ) → IsTrue (is_in_line front) → line.now ≡ ended front → IsOpening self.old text → IsOpening self.new (text ++ line.now) }
+        ensures { (text front : List ℕ) → IsTrue (is_in_line front) → line.now ≡ ended front
+            → IsOpening self.old text → IsOpening self.new (text ++ line.now) }
     {
         if self.start.len() == 0 {
             self.stage = behind(self.stage, line);
@@ -118,8 +119,11 @@ impl Opening {
     // Takes the bytes up to the first LF, and judges the line that it ends: how many they are. Without LF all are kept.
     fn take_line(&mut self, piece: &[u8]) -> Option<usize>
         requires { IsWaiting self.old.stage }
-        ensures line { (text : List ℕ) → IsOpening self.old text → MatchOption result (IsOpening self.new (text ++ piece.now)) (λ used. IsOpening self.new (text ++ take used piece.now)) }
-        ensures used { MatchOption result (self.new.stage ≡ self.old.stage) (λ used. (0 < used) × (used ≤ length piece.now)) }
+        ensures line { (text : List ℕ) → IsOpening self.old text
+            → MatchOption result (IsOpening self.new (text ++ piece.now))
+            (λ used. IsOpening self.new (text ++ take used piece.now)) }
+        ensures used { MatchOption result (self.new.stage ≡ self.old.stage)
+            (λ used. (0 < used) × (used ≤ length piece.now)) }
     {
         match first_ended(piece) {
             Some((line, _)) => {
@@ -136,7 +140,9 @@ impl Opening {
     /// Takes the next bytes up to the end of line 2, and judges each of the two lines at its LF (own). Once both have come
     /// each call takes none and answers the same solid; once one was bad each call answers the same.
     pub fn feed(&mut self, piece: &[u8]) -> Result<OpeningStep, Illegal>
-        ensures step { (text : List ℕ) → IsOpening self.old text → MatchResult result (IsStep self.new text piece.now) (λ bad. (self.new.stage ≡ Stage.Failed bad) × IsOpening self.new (text ++ piece.now)) }
+        ensures step { (text : List ℕ) → IsOpening self.old text
+            → MatchResult result (IsStep self.new text piece.now)
+            (λ bad. (self.new.stage ≡ Stage.Failed bad) × IsOpening self.new (text ++ piece.now)) }
         ensures stays { Stays self.old self.new result }
     {
         match self.stage {
@@ -152,7 +158,9 @@ impl Opening {
 
     fn feed_lines(&mut self, piece: &[u8]) -> Result<OpeningStep, Illegal>
         requires { IsWaiting self.old.stage }
-        ensures step { (text : List ℕ) → IsOpening self.old text → MatchResult result (IsStep self.new text piece.now) (λ bad. (self.new.stage ≡ Stage.Failed bad) × IsOpening self.new (text ++ piece.now)) }
+        ensures step { (text : List ℕ) → IsOpening self.old text
+            → MatchResult result (IsStep self.new text piece.now)
+            (λ bad. (self.new.stage ≡ Stage.Failed bad) × IsOpening self.new (text ++ piece.now)) }
     {
         let mut used = 0;
         'lines: while let Some(len) = self.take_line(&piece[used..]) {
@@ -168,7 +176,8 @@ impl Opening {
 
     // The line of this number isn't there, or its LF isn't.
     fn end(&mut self, line: u64) -> Result<(), Illegal>
-        ensures said { result ≡ Err (if length self.old.kept == 0 then Missing line else Misspelt line) }
+        ensures said { result ≡ Err (if length self.old.kept == 0 then Missing line
+            else Misspelt line) }
         ensures failed { MatchResult result (λ _. ⊥) (λ bad. self.new.stage ≡ Stage.Failed bad) }
     {
         let bad = if self.start.len() == 0 {
@@ -182,9 +191,12 @@ impl Opening {
 
     /// Whether both lines have come (own). A line without LF is misspelt, and a line that isn't there is missing.
     pub fn finish(&mut self) -> Result<(), Illegal>
-        ensures said { (text : List ℕ) → IsOpening self.old text → MatchResult result (λ _. (v : Edition) × (n : ℕ) × Opens text v n []) (λ bad. IsBadOpening text bad) }
+        ensures said { (text : List ℕ) → IsOpening self.old text
+            → MatchResult result (λ _. (v : Edition) × (n : ℕ) × Opens text v n [])
+            (λ bad. IsBadOpening text bad) }
         ensures come { IfOk result (λ _. HasCome self.old.stage) }
-        ensures failed { MatchResult result (λ _. self.new ≡ self.old) (λ bad. self.new.stage ≡ Stage.Failed bad) }
+        ensures failed { MatchResult result (λ _. self.new ≡ self.old)
+            (λ bad. self.new.stage ≡ Stage.Failed bad) }
         ensures stays { StaysAtEnd self.old self.new result }
     {
         match self.stage {

@@ -35,7 +35,8 @@ pub(crate) fn point_at(rows: &Rows, i: usize) -> (LoopAt, VertexId)
 /// Which of the loops without an edge a line names, by face and place from 1; they stand in file order.
 pub(crate) fn point_place(rows: &Rows, face: u32, place: u32) -> Option<usize>
     requires { InFileOrder rows.now.points }
-    ensures { MatchOption result (point_named rows.now face place ≡ None) (λ i. IsNamedAt rows.now face place i) }
+    ensures { MatchOption result (point_named rows.now face place ≡ None)
+        (λ i. IsNamedAt rows.now face place i) }
 {
     let mut low = 0;
     let mut high = rows.isolated_count();

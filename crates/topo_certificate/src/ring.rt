@@ -12,7 +12,8 @@ use edge_uses::Rows;
 
 /// Whether a row turns to another, both from 1 (own).
 pub fn turns_to(rows: &Rows, mates: &[u32], row: u32, next: u32) -> bool
-    ensures { (pairs : List (ℕ × ℕ)) → HoldsMates mates.now pairs → IsTrue result ↔ TurnsTo rows.now pairs row next }
+    ensures { (pairs : List (ℕ × ℕ)) → HoldsMates mates.now pairs → IsTrue result
+        ↔ TurnsTo rows.now pairs row next }
 {
     match turn_of(rows, mates, row) {
         Some(turn) => turn == u64::from(next),
@@ -22,7 +23,8 @@ pub fn turns_to(rows: &Rows, mates: &[u32], row: u32, next: u32) -> bool
 
 /// Whether a row may follow the last one of a corner line.
 fn goes_on(rows: &Rows, mates: &[u32], first: u32, last: u32, next: u32) -> bool
-    ensures { (pairs : List (ℕ × ℕ)) → HoldsMates mates.now pairs → IsTrue result ↔ (first < next) × TurnsTo rows.now pairs last next }
+    ensures { (pairs : List (ℕ × ℕ)) → HoldsMates mates.now pairs → IsTrue result
+        ↔ (first < next) × TurnsTo rows.now pairs last next }
 {
     first < next && turns_to(rows, mates, last, next)
 }

@@ -157,7 +157,8 @@ impl ShellState {
     /// Takes the corner line of this text, exactly where it fits.
     pub(crate) fn take_corner(&mut self, text: &[u8]) -> bool
         ensures numbers { IsTrue result → IsCornerText text.now }
-        ensures line { (rs : List ℕ) → AreNumbers text.now rs → Takes self.old self.new (corner rs) result }
+        ensures line { (rs : List ℕ) → AreNumbers text.now rs
+            → Takes self.old self.new (corner rs) result }
         ensures due { IsTrue result → dues self.new + 1 ≡ dues self.old }
         ensures refused { result ≡ false → self.new ≡ self.old }
     {
@@ -223,7 +224,8 @@ impl ShellState {
 
     /// Takes an edge, corner, point, reach or TALLY line, exactly where it fits.
     pub(crate) fn take(&mut self, words: Words<'_>) -> bool
-        ensures line { (line : CertLine) → Means words.entry line → HasSpelling line → IsRowLine line → Takes self.old self.new line result }
+        ensures line { (line : CertLine) → Means words.entry line → HasSpelling line
+            → IsRowLine line → Takes self.old self.new line result }
         ensures due { IsTrue result → dues self.new + 1 ≡ dues self.old }
         ensures refused { result ≡ false → self.new ≡ self.old }
     {

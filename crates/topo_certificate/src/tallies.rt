@@ -64,7 +64,8 @@ fn size_at(span: Span, starts: &[u32], points: &[u32], v: u32) -> u32
     requires within { IsWithin span v }
     requires starts { length starts.now ≡ span.count }
     requires points { length points.now ≡ span.count }
-    ensures { (d : ShellRows) → AreStarts d span starts.now → ArePoints d span points.now → result ≡ corner_size d v }
+    ensures { (d : ShellRows) → AreStarts d span starts.now → ArePoints d span points.now
+        → result ≡ corner_size d v }
 {
     if count_at(points, span, v) == 0 {
         count_at(starts, span, v)
@@ -78,7 +79,8 @@ fn alone_at(span: Span, starts: &[u32], points: &[u32], v: u32) -> bool
     requires within { IsWithin span v }
     requires starts { length starts.now ≡ span.count }
     requires points { length points.now ≡ span.count }
-    ensures { (d : ShellRows) → AreStarts d span starts.now → ArePoints d span points.now → result ≡ is_alone d v }
+    ensures { (d : ShellRows) → AreStarts d span starts.now → ArePoints d span points.now
+        → result ≡ is_alone d v }
 {
     count_at(starts, span, v) == 0 && count_at(points, span, v) == 1
 }
@@ -94,7 +96,8 @@ fn corner_sizes(
     requires within { HoldsAll rows.now span }
     requires starts { AreStarts rows.now span starts.now }
     requires points { ArePoints rows.now span points.now }
-    ensures { IfOk result (λ sizes. sizes.items ≡ map (λ (r : AnyRow). corner_size rows.now r.from.0) rows.now.rows) }
+    ensures { IfOk result (λ sizes. sizes.items
+        ≡ map (λ (r : AnyRow). corner_size rows.now r.from.0) rows.now.rows) }
 {
     let mut sizes = Vec::with_capacity(alloc, rows.len())?;
     'rows: for i in 0..rows.len() {
@@ -114,7 +117,8 @@ fn alone_points(
     requires within { HoldsAll rows.now span }
     requires starts { AreStarts rows.now span starts.now }
     requires points { ArePoints rows.now span points.now }
-    ensures { IfOk result (λ alone. alone.items ≡ map (λ (p : LoopPlace × ℕ). is_alone rows.now p.1) rows.now.points) }
+    ensures { IfOk result (λ alone. alone.items
+        ≡ map (λ (p : LoopPlace × ℕ). is_alone rows.now p.1) rows.now.points) }
 {
     let mut alone = Vec::with_capacity(alloc, rows.isolated_count())?;
     'points: for i in 0..rows.isolated_count() {
@@ -132,8 +136,10 @@ pub struct Sizes {
 
 /// What corner and point lines of a shell are compared with.
 pub fn sizes_of(alloc: Global, rows: &Rows) -> Result<Sizes, NoMemory>
-    ensures rows { IfOk result (λ s. s.rows.items ≡ map (λ (r : AnyRow). corner_size rows.now r.from.0) rows.now.rows) }
-    ensures alone { IfOk result (λ s. s.alone.items ≡ map (λ (p : LoopPlace × ℕ). is_alone rows.now p.1) rows.now.points) }
+    ensures rows { IfOk result (λ s. s.rows.items
+        ≡ map (λ (r : AnyRow). corner_size rows.now r.from.0) rows.now.rows) }
+    ensures alone { IfOk result (λ s. s.alone.items
+        ≡ map (λ (p : LoopPlace × ℕ). is_alone rows.now p.1) rows.now.points) }
 {
     let _count = rows.len();
     let span = rows.vertex_span();

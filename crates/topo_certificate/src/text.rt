@@ -15,9 +15,15 @@ use cert_lines::Illegal;
 /// checker has judged no line yet, that is whether the lines are legal for its solid, or which is the first bad one
 /// (own). A rest without LF is misspelt.
 pub fn check(checker: &mut Checker<'_>, text: &[u8]) -> Result<(), Illegal>
-    ensures whole { (v : Version) (s : SolidData) (first : ℕ) → IsFed v s first [] checker.old → MatchResult result (λ _. IsLegal v s (cut_lines text.now)) (λ bad. IsFirstBad v s first (cut_lines text.now) bad) }
-    ensures further { (v : Version) (s : SolidData) (first : ℕ) (before : List ℕ) → IsFed v s first before checker.old → MatchResult result (λ _. IsLegal v s (cut_lines (before ++ text.now))) (λ bad. IsFirstBad v s first (cut_lines (before ++ text.now)) bad) }
-    ensures stays { IfSome checker.old.failed (λ bad. (result ≡ Err bad) × (checker.new ≡ checker.old)) }
+    ensures whole { (v : Version) (s : SolidData) (first : ℕ) → IsFed v s first [] checker.old
+        → MatchResult result (λ _. IsLegal v s (cut_lines text.now))
+        (λ bad. IsFirstBad v s first (cut_lines text.now) bad) }
+    ensures further { (v : Version) (s : SolidData) (first : ℕ) (before : List ℕ)
+        → IsFed v s first before checker.old → MatchResult result
+        (λ _. IsLegal v s (cut_lines (before ++ text.now)))
+        (λ bad. IsFirstBad v s first (cut_lines (before ++ text.now)) bad) }
+    ensures stays { IfSome checker.old.failed
+        (λ bad. (result ≡ Err bad) × (checker.new ≡ checker.old)) }
     ensures same { IsOfSame checker.old.checker checker.new.checker }
 {
     checker.feed(text)?;

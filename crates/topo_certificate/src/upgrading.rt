@@ -51,7 +51,8 @@ fn put_tally_of(
     shell: &Shell,
 ) -> Result<(), NoMemory>
     requires at { slice_get solid.now.shells at.0 ≡ Some shell.now }
-    ensures { IfOk result (λ _. out.new ≡ out.old ++ spelling (tally (tally_of_shell solid.now shell.now))) }
+    ensures { IfOk result (λ _. out.new ≡ out.old
+        ++ spelling (tally (tally_of_shell solid.now shell.now))) }
 {
     // Its clause says that a solid has few loops.
     let _entity = solid.entity();
@@ -98,7 +99,9 @@ fn put_line(
     line: &[u8],
 ) -> Result<usize, NoMemory>
     requires few { shells < 2 ^ 63 }
-    ensures text { IfOk result (λ n. (ls : List (List ℕ)) → out.new ++ joined (with_tallies solid.now n ls) ≡ out.old ++ joined (with_tallies solid.now shells (line.now ∷ ls))) }
+    ensures text { IfOk result (λ n. (ls : List (List ℕ))
+        → out.new ++ joined (with_tallies solid.now n ls)
+        ≡ out.old ++ joined (with_tallies solid.now shells (line.now ∷ ls))) }
     ensures few { IfOk result (λ n. n ≤ shells + 1) }
 {
     if begins(line, b"SHELL") {
@@ -114,7 +117,8 @@ fn put_line(
 }
 
 fn put_lines(alloc: Global, out: &mut Out, solid: &Solid, text: &[u8]) -> Result<(), NoMemory>
-    ensures { IfOk result (λ _. out.new ≡ out.old ++ joined (with_tallies solid.now 0 (cut_lines text.now))) }
+    ensures { IfOk result (λ _. out.new ≡ out.old
+        ++ joined (with_tallies solid.now 0 (cut_lines text.now))) }
 {
     let mut rest = text;
     let mut shells = 0;

@@ -46,7 +46,8 @@ fn push_at(
     vertices: &[u32],
     out: &mut Vec<FaceAtVertex>,
 ) -> Result<(), NoMemory>
-    ensures { IfOk result (λ _. out.new.items ≡ out.old.items ++ map (at_vertex shell face) vertices.now) }
+    ensures { IfOk result (λ _. out.new.items
+        ≡ out.old.items ++ map (at_vertex shell face) vertices.now) }
 {
     'vertices: for i in 0..vertices.len() {
         let vertex = vertices[i];
@@ -67,7 +68,8 @@ fn push_face(
     out: &mut Vec<FaceAtVertex>,
 ) -> Result<(), NoMemory>
     requires { All (λ v. v < length solid.now.vertices) (face_vertices solid.now face.now) }
-    ensures { IfOk result (λ _. out.new.items ≡ out.old.items ++ face_touches solid.now shell face.now) }
+    ensures { IfOk result (λ _. out.new.items
+        ≡ out.old.items ++ face_touches solid.now shell face.now) }
 {
     used_by(solid, face, used)?;
     rise(&mut used.vertices);
@@ -82,7 +84,8 @@ fn push_shell(
     out: &mut Vec<FaceAtVertex>,
 ) -> Result<(), NoMemory>
     requires { All (λ v. v < length solid.now.vertices) (faces_vertices solid.now shell.now) }
-    ensures { IfOk result (λ _. out.new.items ≡ out.old.items ++ shell_touches solid.now (number, shell.now)) }
+    ensures { IfOk result (λ _. out.new.items
+        ≡ out.old.items ++ shell_touches solid.now (number, shell.now)) }
 {
     let faces = shell.faces.as_slice();
     'faces: for i in 0..faces.len() {
@@ -193,7 +196,8 @@ impl VertexFaces {
         shell: ShellAt,
         vertex: VertexId,
     ) -> Result<Vec<(u32, EntryNo)>, NoMemory>
-        ensures { (s : SolidData) → self.now ≡ touches_of s → vertex.0 < length s.vertices → IfOk result (λ out. out.items ≡ faces_up_to s shell.0 vertex.0) }
+        ensures { (s : SolidData) → self.now ≡ touches_of s → vertex.0 < length s.vertices
+            → IfOk result (λ out. out.items ≡ faces_up_to s shell.0 vertex.0) }
     {
         let places = self.by_vertex.places(vertex.0);
         kept(alloc, self.touches.as_slice(), places, shell.0)

@@ -58,7 +58,8 @@ fn point_at(rows: &Rows, i: usize) -> (LoopAt, VertexId)
 }
 
 fn points_of(alloc: Global, rows: &Rows) -> Result<Vec<u32>, NoMemory>
-    ensures { IfOk result (λ points. points.items ≡ map (λ (p : LoopPlace × ℕ). p.1) rows.now.points) }
+    ensures { IfOk result (λ points. points.items
+        ≡ map (λ (p : LoopPlace × ℕ). p.1) rows.now.points) }
 {
     let mut points = Vec::with_capacity(alloc, rows.isolated_count())?;
     'points: for i in 0..rows.isolated_count() {
@@ -129,7 +130,8 @@ fn push_fan(
     requires inside { least < length paired.now.rows }
     requires whole { ArePaired paired.now }
     requires mates { AreInvolution paired.now }
-    ensures { IfOk result (λ _. out.new.items ≡ out.old.items ++ map (on_fan fan) (by_turns paired.now count least)) }
+    ensures { IfOk result (λ _. out.new.items
+        ≡ out.old.items ++ map (on_fan fan) (by_turns paired.now count least)) }
 {
     let mut row = least;
     let mut left = count;
@@ -155,7 +157,8 @@ fn push_fan_of(
     requires mates { AreInvolution paired.now }
     requires fans { tables.now.fans ≡ leasts.now }
     requires few { fan < 2 ^ 63 }
-    ensures { IfOk result (λ next. IsFanPushed paired.now leasts.now fan row out.old.items out.new.items next) }
+    ensures { IfOk result
+        (λ next. IsFanPushed paired.now leasts.now fan row out.old.items out.new.items next) }
 {
     if leasts[row as usize] != row {
         return Ok(fan);
@@ -175,7 +178,9 @@ fn push_fans(
     requires tables { AreVertexTables paired.now leasts.now tables.now }
     requires whole { ArePaired paired.now }
     requires mates { AreInvolution paired.now }
-    ensures { IfOk result (λ _. out.new.items ≡ out.old.items ++ on_fans paired.now leasts.now 1 (fans_at paired.now leasts.now vertex.0)) }
+    ensures { IfOk result (λ _. out.new.items
+        ≡ out.old.items ++ on_fans paired.now leasts.now 1
+        (fans_at paired.now leasts.now vertex.0)) }
 {
     let rows = tables.starts.places(vertex.0);
     let mut fan = 1;
@@ -201,7 +206,8 @@ fn push_alone(
     out: &mut Vec<AtVertex>,
 ) -> Result<(), NoMemory>
     requires { tables.now.points ≡ map (λ (p : LoopPlace × ℕ). p.1) rows.now.points }
-    ensures { IfOk result (λ _. out.new.items ≡ out.old.items ++ flat_map (alone_if vertex.0) rows.now.points) }
+    ensures { IfOk result (λ _. out.new.items
+        ≡ out.old.items ++ flat_map (alone_if vertex.0) rows.now.points) }
 {
     let points = tables.points.places(vertex.0);
     'points: for i in 0..points.len() {

@@ -30,7 +30,8 @@ fn is_short_number(word: &[u8]) -> bool
 
 // The number that one to seven digits write, but for 0.
 fn number_in(word: &str) -> Option<u32>
-    ensures { MatchOption result (is_number word.now ≡ false) (λ n. (is_number word.now ≡ true) × (n ≡ digits_value 10 word.now)) }
+    ensures { MatchOption result (is_number word.now ≡ false)
+        (λ n. (is_number word.now ≡ true) × (n ≡ digits_value 10 word.now)) }
 {
     if !is_short_number(word.as_bytes()) {
         return None;
@@ -54,7 +55,8 @@ fn one_asked(number: &str, listing: Listing) -> Option<Asked>
 }
 
 fn all_asked(number: &str, word: &str) -> Option<Asked>
-    ensures { result ≡ if bytes_eq word.now (codes "all") then one_asked number.now Listing.All else None }
+    ensures { result ≡ if bytes_eq word.now (codes "all") then one_asked number.now Listing.All
+        else None }
 {
     if word == "all" {
         return one_asked(number, Listing::All);

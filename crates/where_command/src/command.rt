@@ -32,8 +32,10 @@ fn source_reply<F: Source>(alloc: Global, asked: Asked, file: &mut F) -> Result<
 
 fn reply_to<F: Source>(alloc: Global, words: &Words, file: &mut F) -> Result<Reply, Stop>
     requires { F.can_read file.old }
-    ensures found { IfOk result (λ reply. IsOwed words.now (F.left file.old) reply.answer reply.text) }
-    ensures whole { IsSome (asked_of words.now) → IfOk result (λ reply. ReadsWhole (F.left file.new) reply.answer) }
+    ensures found { IfOk result (λ reply. IsOwed words.now
+        (F.left file.old) reply.answer reply.text) }
+    ensures whole { IsSome (asked_of words.now)
+        → IfOk result (λ reply. ReadsWhole (F.left file.new) reply.answer) }
     ensures count { CountAfterCall (F.faults file.old) (F.faults file.new) result }
     ensures taken { TakesWithin FILE_LIMIT (F.left file.old) (F.left file.new) result }
     ensures reads { IsErrOf result Stop.ReadFault → IsSome (asked_of words.now) }
@@ -48,7 +50,8 @@ fn reply_to<F: Source>(alloc: Global, words: &Words, file: &mut F) -> Result<Rep
 // Writes a reply, and gives its answer.
 fn finish<O: Sink>(out: &mut O, reply: Reply) -> Answer
     requires { O.can_write out.old }
-    ensures { Finishes (O.written out.old) (O.written out.new) (O.faults out.old) (O.faults out.new) reply.answer reply.text result }
+    ensures { Finishes (O.written out.old) (O.written out.new) (O.faults out.old)
+        (O.faults out.new) reply.answer reply.text result }
 {
     match write_all(out, reply.text.as_slice()) {
         Ok(()) => reply.answer,
@@ -70,26 +73,32 @@ pub fn run_where<F: Source, O: Sink>(
     requires out { O.can_write out.old }
 
     // It answers what is owed and has written exactly the text that is owed, or a fault or out of memory cut it short.
-    ensures outcome { Outcome words.now (F.left file.old) (O.written out.old) (O.written out.new) result }
+    ensures outcome { Outcome words.now (F.left file.old) (O.written out.old)
+        (O.written out.new) result }
 
     // A fault is answered only where the count of a source that the words read, or of the sink, rose.
-    ensures read_fault { result ≡ Answer.ReadFault → IsSome (asked_of words.now) × Rose (F.faults file.old) (F.faults file.new) }
+    ensures read_fault { result ≡ Answer.ReadFault
+        → IsSome (asked_of words.now) × Rose (F.faults file.old) (F.faults file.new) }
     ensures write_fault { result ≡ Answer.WriteFault → Rose (O.faults out.old) (O.faults out.new) }
 
     // Where a read failed, that or out of memory is answered, and where a write failed, that.
-    ensures failed_read { F.faults file.old < F.faults file.new → (result ≡ Answer.ReadFault) ⊎ (result ≡ Answer.NoMemory) }
+    ensures failed_read { F.faults file.old < F.faults file.new
+        → (result ≡ Answer.ReadFault) ⊎ (result ≡ Answer.NoMemory) }
     ensures failed_write { O.faults out.old < O.faults out.new → result ≡ Answer.WriteFault }
 
     // Of a source it takes at most one piece more than the limit; a read that failed came before more than the limit.
     ensures taken { TakesAtMost (FILE_LIMIT + PIECE) (F.left file.old) (F.left file.new) }
-    ensures early { result ≡ Answer.ReadFault → TakesAtMost FILE_LIMIT (F.left file.old) (F.left file.new) }
+    ensures early { result ≡ Answer.ReadFault
+        → TakesAtMost FILE_LIMIT (F.left file.old) (F.left file.new) }
 
     // A file that is judged was read to its end. Words that ask for nothing leave it.
     ensures whole { IsSome (asked_of words.now) → ReadsWhole (F.left file.new) result }
     ensures unread { IsNone (asked_of words.now) → file.new ≡ file.old }
 
     // Where nothing failed, words of a listed form have their defined answer.
-    ensures complete { IsSome (asked_of words.now) → (¬ Rose (F.faults file.old) (F.faults file.new)) → (¬ Rose (O.faults out.old) (O.faults out.new)) → IsComplete result }
+    ensures complete { IsSome (asked_of words.now)
+        → (¬ Rose (F.faults file.old) (F.faults file.new))
+        → (¬ Rose (O.faults out.old) (O.faults out.new)) → IsComplete result }
 {
     match reply_to(alloc, words, file) {
         Ok(reply) => finish(out, reply),

@@ -18,7 +18,8 @@ use std::alloc::Global;
 use where_text::put_reason_sentence;
 
 fn bad_file_reply(alloc: Global, fault: LineFault) -> Result<Reply, NoMemory>
-    ensures { IfOk result (λ reply. (reply.answer ≡ Answer.BadFile) × (reply.text ≡ bad_file_text fault)) }
+    ensures { IfOk result (λ reply. (reply.answer ≡ Answer.BadFile)
+        × (reply.text ≡ bad_file_text fault)) }
 {
     let line = bad_file(alloc, fault)?;
     let mut out = Out::new(alloc);
@@ -32,8 +33,10 @@ fn bad_file_reply(alloc: Global, fault: LineFault) -> Result<Reply, NoMemory>
 
 fn file_of(alloc: Global, bytes: &[u8]) -> Result<Result<File, Reply>, NoMemory>
     requires { length bytes.now ≤ FILE_LIMIT }
-    ensures found { IfOk result (λ r. MatchResult r (IsFile bytes.now) (λ reply. OfNoFile bytes.now reply.answer reply.text)) }
-    ensures bad { IfOk result (λ r. MatchResult r (λ _. Unit {0}) (λ reply. reply.answer ≡ Answer.BadFile)) }
+    ensures found { IfOk result (λ r. MatchResult r (IsFile bytes.now)
+        (λ reply. OfNoFile bytes.now reply.answer reply.text)) }
+    ensures bad { IfOk result (λ r. MatchResult r (λ _. Unit {0})
+        (λ reply. reply.answer ≡ Answer.BadFile)) }
 {
     match read_file(alloc, bytes) {
         Ok(file) => Ok(Ok(file)),
@@ -46,11 +49,14 @@ fn file_of(alloc: Global, bytes: &[u8]) -> Result<Result<File, Reply>, NoMemory>
 /// out.
 pub fn file_in<F: Source>(alloc: Global, source: &mut F) -> Result<Result<File, Reply>, Stop>
     requires { F.can_read source.old }
-    ensures found { IfOk result (λ r. MatchResult r (IsFileTold (F.left source.old)) (IsReply OfNoFile (F.left source.old))) }
-    ensures whole { IfOk result (λ r. MatchResult r (λ _. IsAtEnd (F.left source.new)) (λ reply. ReadsWhole (F.left source.new) reply.answer)) }
+    ensures found { IfOk result (λ r. MatchResult r (IsFileTold (F.left source.old))
+        (IsReply OfNoFile (F.left source.old))) }
+    ensures whole { IfOk result (λ r. MatchResult r (λ _. IsAtEnd (F.left source.new))
+        (λ reply. ReadsWhole (F.left source.new) reply.answer)) }
     ensures count { CountAfterCall (F.faults source.old) (F.faults source.new) result }
     ensures taken { TakesWithin FILE_LIMIT (F.left source.old) (F.left source.new) result }
-    ensures within { IfOk result (λ r. OnOk r (TakesAtMost FILE_LIMIT (F.left source.old) (F.left source.new))) }
+    ensures within { IfOk result (λ r. OnOk r
+        (TakesAtMost FILE_LIMIT (F.left source.old) (F.left source.new))) }
 {
     match bytes_in(alloc, source, FILE_LIMIT)? {
         Ok(bytes) => Ok(file_of(alloc, bytes.as_slice())?),

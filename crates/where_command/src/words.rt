@@ -25,7 +25,8 @@ impl Model for Words {
 
 // The first of the words.
 fn first_of(words: &[String]) -> Option<&str>
-    ensures { MatchOption result (words.now ≡ []) (λ name. (rest : List (List ℕ)) × (map string_bytes words.now ≡ name.now ∷ rest)) }
+    ensures { MatchOption result (words.now ≡ [])
+        (λ name. (rest : List (List ℕ)) × (map string_bytes words.now ≡ name.now ∷ rest)) }
 {
     match words {
         [] => None,
@@ -72,7 +73,8 @@ impl Words {
 
     /// The name of the file that the words name; None where they have no listed form (own).
     pub fn file(&self) -> Option<&str>
-        ensures { MatchOption result (file_named self.now ≡ None) (λ name. file_named self.now ≡ Some name.now) }
+        ensures { MatchOption result (file_named self.now ≡ None)
+            (λ name. file_named self.now ≡ Some name.now) }
     {
         match self.asked() {
             Some(_) => first_of(self.words.as_slice()),

@@ -65,7 +65,9 @@ fn put_meeting_facts(
     this: Option<&LoopUse>,
     other: Option<&LoopUse>,
 ) -> Result<(), NoMemory>
-    ensures { OnOk result (out.new ≡ out.old ++ meeting_facts file.now solid.now tuple next (option_copied this.entry) (option_copied other.entry)) }
+    ensures { OnOk result (out.new ≡ out.old
+        ++ meeting_facts file.now solid.now tuple next (option_copied this.entry)
+        (option_copied other.entry)) }
 {
     let Some(this) = this else {
         return Ok(());
@@ -125,7 +127,8 @@ fn put_loop_at(
     tuple: usize,
     walk: Option<&Loop>,
 ) -> Result<(), NoMemory>
-    ensures { OnOk result (out.new ≡ out.old ++ loop_facts file.now solid.now tuple (uses_in (option_copied walk.entry))) }
+    ensures { OnOk result (out.new ≡ out.old
+        ++ loop_facts file.now solid.now tuple (uses_in (option_copied walk.entry))) }
 {
     match walk {
         Some(walk) => put_loop_facts(out, file, solid, tuple, walk.uses.as_slice()),
@@ -173,7 +176,8 @@ fn put_gaps(
     faces: &[FaceUse],
     gaps: &[Gap],
 ) -> Result<(), NoMemory>
-    ensures text { OnOk result (out.new ≡ out.old ++ flat_map (gap_text file.now solid.now faces.now) gaps.now) }
+    ensures text { OnOk result (out.new ≡ out.old
+        ++ flat_map (gap_text file.now solid.now faces.now) gaps.now) }
     ensures named { OnOk result (named.new ≡ named.old ++ map (gap_face faces.now) gaps.now) }
 {
     'gaps: for i in 0..gaps.len() {
@@ -196,8 +200,10 @@ pub fn put_join(
     listing: Listing,
 ) -> Result<(), NoMemory>
     requires { shell.0 < length solid.now.shells }
-    ensures text { OnOk result (out.new ≡ out.old ++ join_text listing file.now solid.now shell.0 gaps.now) }
-    ensures named { OnOk result (named.new ≡ named.old ++ join_named listing solid.now shell.0 gaps.now) }
+    ensures text { OnOk result (out.new ≡ out.old
+        ++ join_text listing file.now solid.now shell.0 gaps.now) }
+    ensures named { OnOk result (named.new ≡ named.old
+        ++ join_named listing solid.now shell.0 gaps.now) }
 {
     if gaps.is_empty() {
         return Ok(());

@@ -76,7 +76,8 @@ fn put_row(
     places: &[RowPlace],
     row: u32,
 ) -> Result<(), NoMemory>
-    ensures text { OnOk result (out.new ≡ out.old ++ row_fact file.now shell_flag (slice_get places.now row)) }
+    ensures text { OnOk result (out.new ≡ out.old
+        ++ row_fact file.now shell_flag (slice_get places.now row)) }
     ensures named { OnOk result (named.new ≡ named.old ++ row_named (slice_get places.now row)) }
 {
     match places.get(row as usize) {
@@ -93,8 +94,10 @@ fn put_shown_rows(
     places: &[RowPlace],
     rows: &[u32],
 ) -> Result<(), NoMemory>
-    ensures text { OnOk result (out.new ≡ out.old ++ flat_map (λ (r : ℕ). row_fact file.now shell_flag (slice_get places.now r)) rows.now) }
-    ensures named { OnOk result (named.new ≡ named.old ++ flat_map (λ (r : ℕ). row_named (slice_get places.now r)) rows.now) }
+    ensures text { OnOk result (out.new ≡ out.old
+        ++ flat_map (λ (r : ℕ). row_fact file.now shell_flag (slice_get places.now r)) rows.now) }
+    ensures named { OnOk result (named.new ≡ named.old
+        ++ flat_map (λ (r : ℕ). row_named (slice_get places.now r)) rows.now) }
 {
     'rows: for i in 0..rows.len() {
         put_row(out, named, file, shell_flag, places, rows[i])?;
@@ -111,7 +114,8 @@ fn put_rows(
     rows: &[u32],
     listing: Listing,
 ) -> Result<(), NoMemory>
-    ensures text { OnOk result (out.new ≡ out.old ++ row_facts listing file.now shell_flag places.now rows.now) }
+    ensures text { OnOk result (out.new ≡ out.old
+        ++ row_facts listing file.now shell_flag places.now rows.now) }
     ensures named { OnOk result (named.new ≡ named.old ++ rows_named listing places.now rows.now) }
 {
     let shown = shown_members(listing, rows);
@@ -139,7 +143,8 @@ fn put_edge_facts(
     solid: &Solid,
     edge: Option<&Edge>,
 ) -> Result<(), NoMemory>
-    ensures { OnOk result (out.new ≡ out.old ++ edge_facts file.now solid.now (option_copied edge.entry)) }
+    ensures { OnOk result (out.new ≡ out.old
+        ++ edge_facts file.now solid.now (option_copied edge.entry)) }
 {
     out.put(b" ")?;
     put_curve_words(out, file, key_of(edge))?;
@@ -167,8 +172,10 @@ fn put_edge(
     unpaired: Unpaired,
     listing: Listing,
 ) -> Result<(), NoMemory>
-    ensures text { OnOk result (out.new ≡ out.old ++ edge_text listing file.now solid.now known.now.flag known.now.rows.now known.now.places.items unpaired) }
-    ensures named { OnOk result (named.new ≡ named.old ++ edge_named listing known.now.rows.now known.now.places.items unpaired) }
+    ensures text { OnOk result (out.new ≡ out.old
+        ++ edge_text listing file.now solid.now known.now.flag known.now.rows.now known.now.places.items unpaired) }
+    ensures named { OnOk result (named.new ≡ named.old
+        ++ edge_named listing known.now.rows.now known.now.places.items unpaired) }
 {
     let edge = solid.edge(unpaired.edge);
     put_edge_head(out, key_of(edge), unpaired)?;
@@ -194,8 +201,11 @@ fn put_edges(
     unpaired: &[Unpaired],
     listing: Listing,
 ) -> Result<(), NoMemory>
-    ensures text { OnOk result (out.new ≡ out.old ++ flat_map (edge_text listing file.now solid.now known.now.flag known.now.rows.now known.now.places.items) unpaired.now) }
-    ensures named { OnOk result (named.new ≡ named.old ++ flat_map (edge_named listing known.now.rows.now known.now.places.items) unpaired.now) }
+    ensures text { OnOk result (out.new ≡ out.old
+        ++ flat_map
+        (edge_text listing file.now solid.now known.now.flag known.now.rows.now known.now.places.items) unpaired.now) }
+    ensures named { OnOk result (named.new ≡ named.old
+        ++ flat_map (edge_named listing known.now.rows.now known.now.places.items) unpaired.now) }
 {
     'edges: for i in 0..unpaired.len() {
         put_edge(out, named, file, solid, known, unpaired[i], listing)?;
@@ -230,8 +240,11 @@ fn put_edges_of_shell(
 ) -> Result<(), NoMemory>
     requires shell { shell.0 < length solid.now.shells }
     requires rows { rows.now ≡ rows_of solid.now (slice_get solid.now.shells shell.0) }
-    ensures text { OnOk result (out.new ≡ out.old ++ edges_text listing file.now solid.now (slice_get solid.now.shells shell.0) unpaired.now) }
-    ensures named { OnOk result (named.new ≡ named.old ++ edges_named listing solid.now (slice_get solid.now.shells shell.0) unpaired.now) }
+    ensures text { OnOk result (out.new ≡ out.old
+        ++ edges_text listing file.now solid.now
+        (slice_get solid.now.shells shell.0) unpaired.now) }
+    ensures named { OnOk result (named.new ≡ named.old
+        ++ edges_named listing solid.now (slice_get solid.now.shells shell.0) unpaired.now) }
 {
     let known = KnownRows {
         rows,
@@ -260,8 +273,10 @@ pub fn put_pair(
 ) -> Result<(), NoMemory>
     requires shell { shell.0 < length solid.now.shells }
     requires rows { rows.now ≡ rows_of solid.now (slice_get solid.now.shells shell.0) }
-    ensures text { OnOk result (out.new ≡ out.old ++ pair_text listing file.now solid.now shell.0 unpaired.now) }
-    ensures named { OnOk result (named.new ≡ named.old ++ pair_named listing solid.now shell.0 unpaired.now) }
+    ensures text { OnOk result (out.new ≡ out.old
+        ++ pair_text listing file.now solid.now shell.0 unpaired.now) }
+    ensures named { OnOk result (named.new ≡ named.old
+        ++ pair_named listing solid.now shell.0 unpaired.now) }
 {
     if unpaired.is_empty() {
         return Ok(());

@@ -10,7 +10,8 @@ use std::alloc::Global;
 use where_text::EntryNumbers;
 
 fn mark(marks: &mut [bool], no: EntryNo)
-    ensures { (k : ℕ) → k < length marks.old → get_or marks.new k false ≡ (get_or marks.old k false || (no.0 == 2 * k + 1)) }
+    ensures { (k : ℕ) → k < length marks.old
+        → get_or marks.new k false ≡ (get_or marks.old k false || (no.0 == 2 * k + 1)) }
 {
     let place = (no.0 / 2) as usize;
     if no.0 % 2 == 1 && place < marks.len() {
@@ -21,7 +22,8 @@ fn mark(marks: &mut [bool], no: EntryNo)
 // Which of so many entries are among the numbers.
 fn marks_of(alloc: Global, count: usize, numbers: &EntryNumbers) -> Result<Vec<bool>, NoMemory>
     ensures len { IfOk result (λ marks. vec_len marks ≡ count) }
-    ensures marks { IfOk result (λ marks. (k : ℕ) → k < count → get_or marks.items k false ≡ is_among numbers.now (number_at k)) }
+    ensures marks { IfOk result (λ marks. (k : ℕ) → k < count
+        → get_or marks.items k false ≡ is_among numbers.now (number_at k)) }
 {
     let mut marks = vec![in alloc; false; count]?;
     let listed = numbers.as_slice();
@@ -37,7 +39,8 @@ fn push_if(
     marked: bool,
     no: EntryNo,
 ) -> Result<(), NoMemory>
-    ensures { OnOk result (list.new ≡ list.old ++ filter (λ (n : EntryNo). marked && names_entry file.now (pos n.0)) (no ∷ [])) }
+    ensures { OnOk result (list.new ≡ list.old
+        ++ filter (λ (n : EntryNo). marked && names_entry file.now (pos n.0)) (no ∷ [])) }
 {
     if marked && file.entry(no).is_some() {
         return list.push(no);

@@ -24,7 +24,8 @@ fn is_of_solids(kind: i64) -> bool
 
 // No group where the record doesn't fit its type.
 fn without_group(fault: RefFault) -> Result<Option<Group>, NoMemory>
-    ensures { (r : FullRecord) → IsShapeFault r fault → IfOk result (λ group. MatchOption group (has_layout r ≡ false) (IsNamesGroup r)) }
+    ensures { (r : FullRecord) → IsShapeFault r fault
+        → IfOk result (λ group. MatchOption group (has_layout r ≡ false) (IsNamesGroup r)) }
 {
     match fault {
         RefFault::NoMemory => Err(NoMemory),
@@ -37,7 +38,8 @@ fn without_group(fault: RefFault) -> Result<Option<Group>, NoMemory>
 // The second group behind the own values of a record that fits its type.
 fn names_group(alloc: Global, entry: &Entry, values: &Values) -> Result<Option<Group>, NoMemory>
     requires { length values.now ≤ FILE_LIMIT }
-    ensures { IfOk result (λ group. MatchOption group (has_layout (entry.now, values.now) ≡ false) (IsNamesGroup (entry.now, values.now))) }
+    ensures { IfOk result (λ group. MatchOption group (has_layout (entry.now, values.now)
+        ≡ false) (IsNamesGroup (entry.now, values.now))) }
 {
     match shape_of(alloc, entry, values) {
         Ok(shape) => Ok(Some(shape.names)),
@@ -111,7 +113,8 @@ pub fn put_names(
     values: &Values,
 ) -> Result<(), NoMemory>
     requires { length values.now ≤ FILE_LIMIT }
-    ensures { OnOk result (out.new ≡ out.old ++ flat_map (name_fact file.now) (entity_names file.now (entry.now, values.now))) }
+    ensures { OnOk result (out.new ≡ out.old
+        ++ flat_map (name_fact file.now) (entity_names file.now (entry.now, values.now))) }
 {
     let names = entity_names(alloc, file, entry, values)?;
     put_each(out, file, &names)

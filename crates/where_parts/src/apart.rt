@@ -39,7 +39,8 @@ fn put_in_shells(
     faces: &[(u32, EntryNo)],
 ) -> Result<(), NoMemory>
     ensures text { OnOk result (out.new ≡ out.old ++ flat_map (in_shell_line file.now) faces.now) }
-    ensures named { OnOk result (named.new ≡ named.old ++ map (λ (x : ℕ × AnyEntryNo). x.1) faces.now) }
+    ensures named { OnOk result (named.new ≡ named.old
+        ++ map (λ (x : ℕ × AnyEntryNo). x.1) faces.now) }
 {
     'faces: for i in 0..faces.len() {
         put_in_shell(out, named, file, faces[i])?;
@@ -57,8 +58,10 @@ fn put_shared_lines(
     faces: &[(u32, EntryNo)],
     listing: Listing,
 ) -> Result<(), NoMemory>
-    ensures text { OnOk result (out.new ≡ out.old ++ shared_lines listing file.now solid.now vertex faces.now) }
-    ensures named { OnOk result (named.new ≡ named.old ++ map (λ (x : ℕ × AnyEntryNo). x.1) (shown listing faces.now)) }
+    ensures text { OnOk result (out.new ≡ out.old
+        ++ shared_lines listing file.now solid.now vertex faces.now) }
+    ensures named { OnOk result (named.new ≡ named.old
+        ++ map (λ (x : ℕ × AnyEntryNo). x.1) (shown listing faces.now)) }
 {
     let count = listing.count(faces.len());
     put_vertex_line(out, file, solid, "vertex", vertex)?;
@@ -79,8 +82,10 @@ fn put_shared(
 ) -> Result<(), NoMemory>
     requires faces { faces.now ≡ touches_of solid.now }
     requires inside { vertex < length solid.now.vertices }
-    ensures text { OnOk result (out.new ≡ out.old ++ shared_text listing file.now solid.now shell.0 vertex) }
-    ensures named { OnOk result (named.new ≡ named.old ++ shared_named listing solid.now shell.0 vertex) }
+    ensures text { OnOk result (out.new ≡ out.old
+        ++ shared_text listing file.now solid.now shell.0 vertex) }
+    ensures named { OnOk result (named.new ≡ named.old
+        ++ shared_named listing solid.now shell.0 vertex) }
 {
     let faces = faces.up_to(alloc, shell, VertexId(vertex))?;
     put_shared_lines(out, named, file, solid, vertex, faces.as_slice(), listing)
@@ -99,8 +104,10 @@ fn put_each_shared(
 ) -> Result<(), NoMemory>
     requires faces { faces.now ≡ touches_of solid.now }
     requires inside { All (λ v. v < length solid.now.vertices) shared.now }
-    ensures text { OnOk result (out.new ≡ out.old ++ flat_map (shared_text listing file.now solid.now shell.0) shared.now) }
-    ensures named { OnOk result (named.new ≡ named.old ++ flat_map (shared_named listing solid.now shell.0) shared.now) }
+    ensures text { OnOk result (out.new ≡ out.old
+        ++ flat_map (shared_text listing file.now solid.now shell.0) shared.now) }
+    ensures named { OnOk result (named.new ≡ named.old
+        ++ flat_map (shared_named listing solid.now shell.0) shared.now) }
 {
     'vertices: for i in 0..shared.len() {
         put_shared(
@@ -124,8 +131,10 @@ fn put_apart_lines(
 ) -> Result<(), NoMemory>
     requires faces { faces.now ≡ touches_of solid.now }
     requires inside { All (λ v. v < length solid.now.vertices) shared.now }
-    ensures text { OnOk result (out.new ≡ out.old ++ apart_lines listing file.now solid.now shell.0 shared.now) }
-    ensures named { OnOk result (named.new ≡ named.old ++ apart_named listing solid.now shell.0 shared.now) }
+    ensures text { OnOk result (out.new ≡ out.old
+        ++ apart_lines listing file.now solid.now shell.0 shared.now) }
+    ensures named { OnOk result (named.new ≡ named.old
+        ++ apart_named listing solid.now shell.0 shared.now) }
 {
     let count = listing.count(shared.len());
     put_head(out, Rule::Shared, shell, shared.len())?;
@@ -157,9 +166,12 @@ pub fn put_apart(
     listing: Listing,
 ) -> Result<(), NoMemory>
     requires faces { faces.now ≡ touches_of solid.now }
-    requires shared { shared.now ≡ shared_of solid.now shell.0 (rows_of solid.now (slice_get solid.now.shells shell.0)) }
-    ensures text { OnOk result (out.new ≡ out.old ++ apart_text listing file.now solid.now shell.0 shared.now) }
-    ensures named { OnOk result (named.new ≡ named.old ++ apart_named listing solid.now shell.0 shared.now) }
+    requires shared { shared.now ≡ shared_of solid.now shell.0
+        (rows_of solid.now (slice_get solid.now.shells shell.0)) }
+    ensures text { OnOk result (out.new ≡ out.old
+        ++ apart_text listing file.now solid.now shell.0 shared.now) }
+    ensures named { OnOk result (named.new ≡ named.old
+        ++ apart_named listing solid.now shell.0 shared.now) }
 {
     if shared.is_empty() {
         return Ok(());

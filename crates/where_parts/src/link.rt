@@ -86,7 +86,8 @@ fn put_walk(
     face: Option<&FaceUse>,
     place: u32,
 ) -> Result<(), NoMemory>
-    ensures text { OnOk result (out.new ≡ out.old ++ walk_words file.now (option_copied face.entry) place) }
+    ensures text { OnOk result (out.new ≡ out.old
+        ++ walk_words file.now (option_copied face.entry) place) }
     ensures named { OnOk result (named.new ≡ named.old ++ walk_faces (option_copied face.entry)) }
 {
     let Some(face) = face else {
@@ -120,8 +121,10 @@ fn put_row_line(
     fan: usize,
     row: RowId,
 ) -> Result<(), NoMemory>
-    ensures text { OnOk result (out.new ≡ out.old ++ row_line file.now solid.now rows.now places.now fan row.0) }
-    ensures named { OnOk result (named.new ≡ named.old ++ place_faces (slice_get places.now row.0)) }
+    ensures text { OnOk result (out.new ≡ out.old
+        ++ row_line file.now solid.now rows.now places.now fan row.0) }
+    ensures named { OnOk result (named.new ≡ named.old
+        ++ place_faces (slice_get places.now row.0)) }
 {
     put_count(out, "  fan", fan)?;
     put_place(out, named, file, place_at(places, row))?;
@@ -138,7 +141,8 @@ fn put_point_line(
     walk: LoopAt,
 ) -> Result<(), NoMemory>
     ensures text { OnOk result (out.new ≡ out.old ++ point_line file.now faces.now walk) }
-    ensures named { OnOk result (named.new ≡ named.old ++ walk_faces (slice_get faces.now walk.face.0)) }
+    ensures named { OnOk result (named.new ≡ named.old
+        ++ walk_faces (slice_get faces.now walk.face.0)) }
 {
     out.put(b"  point")?;
     put_walk(out, named, file, face_at(faces, walk.face.0), walk.place)?;
@@ -155,7 +159,8 @@ fn put_fact(
     places: &[RowPlace],
     fact: AtVertex,
 ) -> Result<(), NoMemory>
-    ensures text { OnOk result (out.new ≡ out.old ++ fact_line file.now solid.now faces.now rows.now places.now fact) }
+    ensures text { OnOk result (out.new ≡ out.old
+        ++ fact_line file.now solid.now faces.now rows.now places.now fact) }
     ensures named { OnOk result (named.new ≡ named.old ++ fact_faces faces.now places.now fact) }
 {
     match fact {
@@ -176,8 +181,10 @@ fn put_facts(
     places: &[RowPlace],
     facts: &[AtVertex],
 ) -> Result<(), NoMemory>
-    ensures text { OnOk result (out.new ≡ out.old ++ flat_map (fact_line file.now solid.now faces.now rows.now places.now) facts.now) }
-    ensures named { OnOk result (named.new ≡ named.old ++ flat_map (fact_faces faces.now places.now) facts.now) }
+    ensures text { OnOk result (out.new ≡ out.old
+        ++ flat_map (fact_line file.now solid.now faces.now rows.now places.now) facts.now) }
+    ensures named { OnOk result (named.new ≡ named.old
+        ++ flat_map (fact_faces faces.now places.now) facts.now) }
 {
     'facts: for i in 0..facts.len() {
         put_fact(out, named, file, solid, faces, rows, places, facts[i])?;
@@ -198,8 +205,10 @@ fn put_unlinked_lines(
     facts: &[AtVertex],
     listing: Listing,
 ) -> Result<(), NoMemory>
-    ensures text { OnOk result (out.new ≡ out.old ++ unlinked_lines listing file.now solid.now faces.now rows.now places.now vertex facts.now) }
-    ensures named { OnOk result (named.new ≡ named.old ++ flat_map (fact_faces faces.now places.now) (shown listing facts.now)) }
+    ensures text { OnOk result (out.new ≡ out.old
+        ++ unlinked_lines listing file.now solid.now faces.now rows.now places.now vertex facts.now) }
+    ensures named { OnOk result (named.new ≡ named.old
+        ++ flat_map (fact_faces faces.now places.now) (shown listing facts.now)) }
 {
     let count = listing.count(facts.len());
     out.put(b"vertex")?;
@@ -236,8 +245,10 @@ fn put_unlinked(
 ) -> Result<(), NoMemory>
     requires fans { AreFans paired.now leasts.now }
     requires tables { AreVertexTables paired.now leasts.now tables.now }
-    ensures text { OnOk result (out.new ≡ out.old ++ unlinked_text listing file.now solid.now faces.now paired.now places.now leasts.now vertex) }
-    ensures named { OnOk result (named.new ≡ named.old ++ unlinked_named listing faces.now paired.now places.now leasts.now vertex) }
+    ensures text { OnOk result (out.new ≡ out.old
+        ++ unlinked_text listing file.now solid.now faces.now paired.now places.now leasts.now vertex) }
+    ensures named { OnOk result (named.new ≡ named.old
+        ++ unlinked_named listing faces.now paired.now places.now leasts.now vertex) }
 {
     let facts = around(alloc, paired, leasts, tables, vertex.vertex)?;
     let rows = paired.rows();
@@ -271,8 +282,12 @@ fn put_each_unlinked(
 ) -> Result<(), NoMemory>
     requires fans { AreFans paired.now leasts.now }
     requires tables { AreVertexTables paired.now leasts.now tables.now }
-    ensures text { OnOk result (out.new ≡ out.old ++ flat_map (unlinked_text listing file.now solid.now faces.now paired.now places.now leasts.now) vertices.now) }
-    ensures named { OnOk result (named.new ≡ named.old ++ flat_map (unlinked_named listing faces.now paired.now places.now leasts.now) vertices.now) }
+    ensures text { OnOk result (out.new ≡ out.old
+        ++ flat_map
+        (unlinked_text listing file.now solid.now faces.now paired.now places.now leasts.now) vertices.now) }
+    ensures named { OnOk result (named.new ≡ named.old
+        ++ flat_map
+        (unlinked_named listing faces.now paired.now places.now leasts.now) vertices.now) }
 {
     'vertices: for i in 0..vertices.len() {
         put_unlinked(
@@ -309,8 +324,11 @@ fn put_link_lines(
     listing: Listing,
 ) -> Result<(), NoMemory>
     requires { AreFans paired.now leasts.now }
-    ensures text { OnOk result (out.new ≡ out.old ++ link_lines listing file.now solid.now shell.0 faces.now paired.now places.now leasts.now vertices.now) }
-    ensures named { OnOk result (named.new ≡ named.old ++ flat_map (unlinked_named listing faces.now paired.now places.now leasts.now) (shown listing vertices.now)) }
+    ensures text { OnOk result (out.new ≡ out.old
+        ++ link_lines listing file.now solid.now shell.0 faces.now paired.now places.now leasts.now vertices.now) }
+    ensures named { OnOk result (named.new ≡ named.old
+        ++ flat_map (unlinked_named listing faces.now paired.now places.now leasts.now)
+        (shown listing vertices.now)) }
 {
     let tables = vertex_tables(alloc, paired, leasts)?;
     let count = listing.count(vertices.len());
@@ -348,8 +366,10 @@ pub fn put_link(
     requires shell { shell.0 < length solid.now.shells }
     requires rows { paired.now ≡ rows_of solid.now (slice_get solid.now.shells shell.0) }
     requires fans { AreFans paired.now linking.now.leasts }
-    ensures text { OnOk result (out.new ≡ out.old ++ link_text listing file.now solid.now shell.0 linking.now.leasts linking.now.unlinked) }
-    ensures named { OnOk result (named.new ≡ named.old ++ link_named listing solid.now shell.0 linking.now.leasts linking.now.unlinked) }
+    ensures text { OnOk result (out.new ≡ out.old
+        ++ link_text listing file.now solid.now shell.0 linking.now.leasts linking.now.unlinked) }
+    ensures named { OnOk result (named.new ≡ named.old
+        ++ link_named listing solid.now shell.0 linking.now.leasts linking.now.unlinked) }
 {
     let vertices = linking.unlinked();
     if vertices.is_empty() {

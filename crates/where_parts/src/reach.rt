@@ -20,7 +20,9 @@ use where_text::{EntryNumbers, Listing, put_more_facts, put_more_items, put_rule
 
 #[tactic(auto, unfolding(crate::specs::Reach::part_head))]
 fn put_part_head(out: &mut Out, number: usize, part: &Part) -> Result<(), NoMemory>
-    ensures { OnOk result (out.new ≡ out.old ++ part_head number (length part.now.faces.items) part.now.edges (length part.now.vertices.items) part.now.unpaired (length part.now.touching.items)) }
+    ensures { OnOk result (out.new ≡ out.old
+        ++ part_head number (length part.now.faces.items) part.now.edges
+        (length part.now.vertices.items) part.now.unpaired (length part.now.touching.items)) }
 {
     put_count(out, "part", number)?;
     put_count(out, " faces", part.faces.len())?;
@@ -41,7 +43,8 @@ fn least(vertices: &[u32]) -> u32
 }
 
 fn put_touches(out: &mut Out, file: &File, solid: &Solid, vertices: &[u32]) -> Result<(), NoMemory>
-    ensures { OnOk result (out.new ≡ out.old ++ flat_map (vertex_line (codes "  touches") file.now solid.now) vertices.now) }
+    ensures { OnOk result (out.new ≡ out.old
+        ++ flat_map (vertex_line (codes "  touches") file.now solid.now) vertices.now) }
 {
     'vertices: for i in 0..vertices.len() {
         put_vertex_line(out, file, solid, "  touches", vertices[i])?;
@@ -74,7 +77,8 @@ fn put_part(
     part: &Part,
     listing: Listing,
 ) -> Result<(), NoMemory>
-    ensures text { OnOk result (out.new ≡ out.old ++ part_lines listing file.now solid.now number part.now.faces.items part.now.edges part.now.vertices.items part.now.unpaired part.now.touching.items) }
+    ensures text { OnOk result (out.new ≡ out.old
+        ++ part_lines listing file.now solid.now number part.now.faces.items part.now.edges part.now.vertices.items part.now.unpaired part.now.touching.items) }
     ensures named { OnOk result (named.new ≡ named.old ++ shown listing part.now.faces.items) }
 {
     let faces = part.faces.as_slice();
@@ -99,8 +103,10 @@ fn put_part_of(
     listing: Listing,
 ) -> Result<(), NoMemory>
     requires { tables.now.solid ≡ solid.now }
-    ensures text { OnOk result (out.new ≡ out.old ++ part_text listing file.now solid.now tables.now.shell tables.now.firsts tables.now.unpaired (number, first)) }
-    ensures named { OnOk result (named.new ≡ named.old ++ part_named listing tables.now.shell tables.now.firsts (number, first)) }
+    ensures text { OnOk result (out.new ≡ out.old
+        ++ part_text listing file.now solid.now tables.now.shell tables.now.firsts tables.now.unpaired (number, first)) }
+    ensures named { OnOk result (named.new ≡ named.old
+        ++ part_named listing tables.now.shell tables.now.firsts (number, first)) }
 {
     let part = tables.part(alloc, first)?;
     put_part(out, named, file, solid, number, &part, listing)
@@ -117,8 +123,12 @@ fn put_parts(
     listing: Listing,
 ) -> Result<(), NoMemory>
     requires { tables.now.solid ≡ solid.now }
-    ensures text { OnOk result (out.new ≡ out.old ++ flat_map (part_text listing file.now solid.now tables.now.shell tables.now.firsts tables.now.unpaired) (enumerate_from 1 parts.now)) }
-    ensures named { OnOk result (named.new ≡ named.old ++ flat_map (part_named listing tables.now.shell tables.now.firsts) (enumerate_from 1 parts.now)) }
+    ensures text { OnOk result (out.new ≡ out.old
+        ++ flat_map
+        (part_text listing file.now solid.now tables.now.shell tables.now.firsts tables.now.unpaired) (enumerate_from 1 parts.now)) }
+    ensures named { OnOk result (named.new ≡ named.old
+        ++ flat_map (part_named listing tables.now.shell tables.now.firsts)
+        (enumerate_from 1 parts.now)) }
 {
     'parts: for i in 0..parts.len() {
         put_part_of(
@@ -165,8 +175,11 @@ fn put_reach_lines(
     listing: Listing,
 ) -> Result<(), NoMemory>
     requires { tables.now.solid ≡ solid.now }
-    ensures text { OnOk result (out.new ≡ out.old ++ reach_lines listing file.now solid.now shell.0 tables.now.shell tables.now.firsts tables.now.unpaired faults parts.now) }
-    ensures named { OnOk result (named.new ≡ named.old ++ flat_map (part_named listing tables.now.shell tables.now.firsts) (shown_parts listing parts.now)) }
+    ensures text { OnOk result (out.new ≡ out.old
+        ++ reach_lines listing file.now solid.now shell.0 tables.now.shell tables.now.firsts tables.now.unpaired faults parts.now) }
+    ensures named { OnOk result (named.new ≡ named.old
+        ++ flat_map (part_named listing tables.now.shell tables.now.firsts)
+        (shown_parts listing parts.now)) }
 {
     let count = listing.count(parts.len());
     put_reach_head(out, shell, faults, parts.len())?;
@@ -201,8 +214,10 @@ pub fn put_reach(
     requires rows { rows.now ≡ rows_of solid.now (slice_get solid.now.shells shell.0) }
     requires parts { AreParts rows.now firsts.now }
     requires unpaired { unpaired.now ≡ unpaired_of rows.now }
-    ensures text { OnOk result (out.new ≡ out.old ++ reach_text listing file.now solid.now shell.0 firsts.now unpaired.now) }
-    ensures named { OnOk result (named.new ≡ named.old ++ reach_named listing solid.now shell.0 firsts.now) }
+    ensures text { OnOk result (out.new ≡ out.old
+        ++ reach_text listing file.now solid.now shell.0 firsts.now unpaired.now) }
+    ensures named { OnOk result (named.new ≡ named.old
+        ++ reach_named listing solid.now shell.0 firsts.now) }
 {
     let faults = apart_in(firsts);
     if faults == 0 {

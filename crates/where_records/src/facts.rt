@@ -160,7 +160,8 @@ fn put_rule_facts(
     failing: Failing,
     place: Option<usize>,
 ) -> Result<(), NoMemory>
-    ensures { OnOk result (out.new ≡ out.old ++ rule_facts file.now solid failing.entity place failing.rule) }
+    ensures { OnOk result (out.new ≡ out.old
+        ++ rule_facts file.now solid failing.entity place failing.rule) }
 {
     let no = failing.entity;
     match failing.rule {

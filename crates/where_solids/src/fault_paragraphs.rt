@@ -50,8 +50,10 @@ fn put_linking(
     requires meet { IsSome linking → EndsMeet rows.now }
     requires paired { IsSome linking → unpaired_of rows.now ≡ [] }
     requires fans { IfSome linking (λ l. AreFans rows.now l.now.leasts) }
-    ensures text { OnOk result (out.new ≡ out.old ++ linking_text listing file.now solid.now at.0 (option_copied linking.entry)) }
-    ensures named { OnOk result (named.new ≡ named.old ++ linking_named listing solid.now at.0 (option_copied linking.entry)) }
+    ensures text { OnOk result (out.new ≡ out.old
+        ++ linking_text listing file.now solid.now at.0 (option_copied linking.entry)) }
+    ensures named { OnOk result (named.new ≡ named.old
+        ++ linking_named listing solid.now at.0 (option_copied linking.entry)) }
 {
     let Some(linking) = linking else {
         return Ok(());
@@ -79,9 +81,12 @@ pub fn put_faults(
     requires shell { at.0 < length solid.now.shells }
     requires rows { rows.now ≡ rows_of solid.now (slice_get solid.now.shells at.0) }
     requires faces { faces.now ≡ touches_of solid.now }
-    requires faults { (h : AnyShell) → slice_get solid.now.shells at.0 ≡ Some h → AreFaults solid.now at.0 h faults.now }
-    ensures text { OnOk result (out.new ≡ out.old ++ fault_paragraphs listing file.now solid.now at.0 faults.now) }
-    ensures named { OnOk result (named.new ≡ named.old ++ fault_faces listing solid.now at.0 faults.now) }
+    requires faults { (h : AnyShell) → slice_get solid.now.shells at.0 ≡ Some h
+        → AreFaults solid.now at.0 h faults.now }
+    ensures text { OnOk result (out.new ≡ out.old
+        ++ fault_paragraphs listing file.now solid.now at.0 faults.now) }
+    ensures named { OnOk result (named.new ≡ named.old
+        ++ fault_faces listing solid.now at.0 faults.now) }
 {
     put_join(out, named, file, solid, at, faults.gaps(), listing)?;
     put_pair(

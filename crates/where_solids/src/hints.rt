@@ -38,7 +38,8 @@ fn unset_in(faces: &[FaceUse]) -> usize
 fn unset_at(solid: &Solid, k: usize) -> usize
     requires shell { k < length solid.now.shells }
     requires few { k < 2 ^ 29 }
-    ensures { IfSome (slice_get solid.now.shells k) (λ (h : AnyShell). result ≡ count_by (λ (face : AnyFace). not face.flag) h.faces) }
+    ensures { IfSome (slice_get solid.now.shells k)
+        (λ (h : AnyShell). result ≡ count_by (λ (face : AnyFace). not face.flag) h.faces) }
 {
     unset_in(shell_at(solid, k).faces.as_slice())
 }
@@ -78,7 +79,8 @@ pub fn pair_fails(all: &AllFaults, shells: &[u32]) -> bool
 
 // Whether the hint on face flags is told.
 fn tells_flags(alloc: Global, solid: &Solid, unpaired: bool, unset: usize) -> Result<bool, NoMemory>
-    ensures { IfOk result (λ b. IsTrue b ↔ (IsTrue unpaired × (0 < unset) × IsClosedFlagged solid.now)) }
+    ensures { IfOk result (λ b. IsTrue b ↔ (IsTrue unpaired × (0 < unset)
+        × IsClosedFlagged solid.now)) }
 {
     if !unpaired || unset == 0 {
         return Ok(false);
@@ -111,7 +113,8 @@ pub fn put_flags_hint(
     solid: &Solid,
     unpaired: bool,
 ) -> Result<(), NoMemory>
-    ensures { IfOk result (λ _. (hint : List ℕ) × IsFlagsHint solid.now unpaired hint × (out.new ≡ out.old ++ hint)) }
+    ensures { IfOk result (λ _. (hint : List ℕ) × IsFlagsHint solid.now unpaired hint
+        × (out.new ≡ out.old ++ hint)) }
 {
     let unset = unset_flags(solid);
     if !tells_flags(alloc, solid, unpaired, unset)? {
@@ -121,7 +124,8 @@ pub fn put_flags_hint(
 }
 
 fn put_numbers(out: &mut Out, numbers: &[EntryNo]) -> Result<(), NoMemory>
-    ensures { OnOk result (out.new ≡ out.old ++ flat_map (λ (n : AnyEntryNo). space_word (decimal n.0)) numbers.now) }
+    ensures { OnOk result (out.new ≡ out.old
+        ++ flat_map (λ (n : AnyEntryNo). space_word (decimal n.0)) numbers.now) }
 {
     'numbers: for i in 0..numbers.len() {
         put_number(out, u64::from(numbers[i].0))?;

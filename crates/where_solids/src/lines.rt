@@ -82,7 +82,8 @@ fn put_shell_words(out: &mut Out, at: ShellAt, shell: &Shell, rows: &Rows) -> Re
 }
 
 fn put_link_word(out: &mut Out, linking: Option<&Linking>) -> Result<(), NoMemory>
-    ensures { OnOk result (out.new ≡ out.old ++ (codes " LINK" ++ space_word (link_word (option_copied linking.entry)))) }
+    ensures { OnOk result (out.new ≡ out.old
+        ++ (codes " LINK" ++ space_word (link_word (option_copied linking.entry)))) }
 {
     out.put(b" LINK")?;
     match linking {
@@ -110,7 +111,8 @@ pub fn put_shell_line(
     rows: &Rows,
     faults: &ShellFaults,
 ) -> Result<(), NoMemory>
-    ensures { OnOk result (out.new ≡ out.old ++ (shell_words at.0 shell.now rows.now ++ count_words faults.now ++ codes "\n")) }
+    ensures { OnOk result (out.new ≡ out.old
+        ++ (shell_words at.0 shell.now rows.now ++ count_words faults.now ++ codes "\n")) }
 {
     put_shell_words(out, at, shell, rows)?;
     put_count_words(out, faults)?;

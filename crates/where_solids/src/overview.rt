@@ -74,7 +74,8 @@ fn failing_count(verdicts: &[Verdict]) -> usize
 
 #[tactic(auto, unfolding(crate::specs::Overview::overview_start))]
 fn put_start(out: &mut Out, solids: usize, failing: usize) -> Result<(), NoMemory>
-    ensures { (vs : List AnyVerdict) → length vs ≡ solids → count_by fails vs ≡ failing → OnOk result (out.new ≡ out.old ++ overview_start vs) }
+    ensures { (vs : List AnyVerdict) → length vs ≡ solids → count_by fails vs ≡ failing
+        → OnOk result (out.new ≡ out.old ++ overview_start vs) }
 {
     if solids == 0 {
         out.put(b"solids 0 failing 0\n")?;
@@ -121,7 +122,8 @@ fn put_solids(
     verdicts: &[Verdict],
 ) -> Result<(), NoMemory>
     requires { length verdicts.now ≡ length solids.now }
-    ensures { OnOk result (out.new ≡ out.old ++ flat_map (solid_paragraph file.now) (zip solids.now verdicts.now)) }
+    ensures { OnOk result (out.new ≡ out.old
+        ++ flat_map (solid_paragraph file.now) (zip solids.now verdicts.now)) }
 {
     'solids: for i in 0..solids.len() {
         put_solid(alloc, out, file, solids[i], verdicts[i])?;
@@ -138,7 +140,8 @@ fn text_of(
 ) -> Result<Bytes, NoMemory>
     requires each { length verdicts.now ≡ length solids.now }
     requires failing { failing ≡ count_by fails verdicts.now }
-    ensures { IfOk result (λ text. text ≡ overview_start verdicts.now ++ flat_map (solid_paragraph file.now) (zip solids.now verdicts.now)) }
+    ensures { IfOk result (λ text. text ≡ overview_start verdicts.now
+        ++ flat_map (solid_paragraph file.now) (zip solids.now verdicts.now)) }
 {
     let mut out = Out::new(alloc);
     put_start(&mut out, solids.len(), failing)?;
@@ -161,7 +164,8 @@ fn all_closed(solids: usize, failing: usize) -> bool
 /// Tells of each solid of a file, in directory order, whether it is closed, or the first rule that fails (own). It errs only
 /// where memory runs out. Each solid's records are walked once.
 pub fn tell_all(alloc: Global, file: &File) -> Result<Overview, NoMemory>
-    ensures { IfOk result (λ told. (vs : List AnyVerdict) × IsOverview file.now vs told.text × (told.all_closed ≡ all_close vs)) }
+    ensures { IfOk result (λ told. (vs : List AnyVerdict) × IsOverview file.now vs told.text
+        × (told.all_closed ≡ all_close vs)) }
 {
     let solids = solids(alloc, file)?;
     let verdicts = verdicts(alloc, file, solids.as_slice())?;

@@ -38,8 +38,10 @@ fn put_shell(
     requires faults { AreAllFaults solid.now all.now }
     requires faces { faces.now ≡ touches_of solid.now }
     ensures lines { OnOk result (texts.new.lines ≡ texts.old.lines ++ line_at solid.now all.now k) }
-    ensures paragraphs { OnOk result (texts.new.paragraphs ≡ texts.old.paragraphs ++ paragraphs_at listing file.now solid.now all.now k) }
-    ensures named { OnOk result (texts.new.named ≡ texts.old.named ++ named_at listing solid.now all.now k) }
+    ensures paragraphs { OnOk result (texts.new.paragraphs
+        ≡ texts.old.paragraphs ++ paragraphs_at listing file.now solid.now all.now k) }
+    ensures named { OnOk result (texts.new.named
+        ≡ texts.old.named ++ named_at listing solid.now all.now k) }
 {
     let at = ShellAt(k);
     let Some(shell) = solid.shell(at) else {
@@ -76,9 +78,12 @@ pub fn shell_texts(
     listing: Listing,
 ) -> Result<ShellTexts, NoMemory>
     requires { AreAllFaults solid.now all.now }
-    ensures lines { IfOk result (λ texts. texts.lines ≡ flat_map (line_at solid.now all.now) shells.now) }
-    ensures paragraphs { IfOk result (λ texts. texts.paragraphs ≡ flat_map (paragraphs_at listing file.now solid.now all.now) shells.now) }
-    ensures named { IfOk result (λ texts. texts.named ≡ solid.now.entity ∷ flat_map (named_at listing solid.now all.now) shells.now) }
+    ensures lines { IfOk result (λ texts. texts.lines
+        ≡ flat_map (line_at solid.now all.now) shells.now) }
+    ensures paragraphs { IfOk result (λ texts. texts.paragraphs
+        ≡ flat_map (paragraphs_at listing file.now solid.now all.now) shells.now) }
+    ensures named { IfOk result (λ texts. texts.named
+        ≡ solid.now.entity ∷ flat_map (named_at listing solid.now all.now) shells.now) }
 {
     let mut texts = ShellTexts {
         lines: Out::new(alloc),

@@ -65,7 +65,9 @@ fn put_lines(
     shown: usize,
 ) -> Result<(), NoMemory>
     requires { shown ≤ failing }
-    ensures { OnOk result (out.new ≡ out.old ++ (units_line file.now ++ shells_line shells failing ++ lines.now ++ left_line [] (failing - shown))) }
+    ensures { OnOk result (out.new ≡ out.old
+        ++ (units_line file.now ++ shells_line shells failing ++ lines.now
+        ++ left_line [] (failing - shown))) }
 {
     put_units(out, file)?;
     put_shells(out, shells, failing)?;
@@ -74,7 +76,8 @@ fn put_lines(
 }
 
 fn put_texts(alloc: Global, out: &mut Out, file: &File, texts: &ShellTexts) -> Result<(), NoMemory>
-    ensures { OnOk result (out.new ≡ out.old ++ (texts.now.paragraphs ++ entities_text file.now texts.now.named)) }
+    ensures { OnOk result (out.new ≡ out.old
+        ++ (texts.now.paragraphs ++ entities_text file.now texts.now.named)) }
 {
     out.put(texts.paragraphs.bytes())?;
     put_entities(alloc, out, file, &texts.named)

@@ -20,7 +20,8 @@ use solid_data::{
 use solid_faults::{Gap, Linking, ShellFaults, Unlinked, Unpaired};
 
 fn first_gap(gaps: &[Gap]) -> Option<Failing>
-    ensures { MatchOption result (map gap_failing gaps.now ≡ []) (λ y. (ys : List Named) × (map gap_failing gaps.now ≡ y ∷ ys)) }
+    ensures { MatchOption result (map gap_failing gaps.now ≡ [])
+        (λ y. (ys : List Named) × (map gap_failing gaps.now ≡ y ∷ ys)) }
 {
     let [gap, ..] = gaps else {
         return None;
@@ -45,7 +46,8 @@ fn edge_name(solid: &Solid, edge: EdgeId) -> EdgeKey
 }
 
 fn first_unpaired(solid: &Solid, unpaired: &[Unpaired]) -> Option<Failing>
-    ensures { MatchOption result (map (unpaired_failing solid.now) unpaired.now ≡ []) (λ y. (ys : List Named) × (map (unpaired_failing solid.now) unpaired.now ≡ y ∷ ys)) }
+    ensures { MatchOption result (map (unpaired_failing solid.now) unpaired.now ≡ [])
+        (λ y. (ys : List Named) × (map (unpaired_failing solid.now) unpaired.now ≡ y ∷ ys)) }
 {
     let [first, ..] = unpaired else {
         return None;
@@ -60,7 +62,8 @@ fn first_unpaired(solid: &Solid, unpaired: &[Unpaired]) -> Option<Failing>
 
 // The first face that isn't in the first part.
 fn first_apart(faces: &[FaceUse], firsts: &[u32]) -> Option<Failing>
-    ensures { MatchOption result (failing_faces faces.now firsts.now ≡ []) (λ y. (ys : List Named) × (failing_faces faces.now firsts.now ≡ y ∷ ys)) }
+    ensures { MatchOption result (failing_faces faces.now firsts.now ≡ [])
+        (λ y. (ys : List Named) × (failing_faces faces.now firsts.now ≡ y ∷ ys)) }
 {
     let count = faces.len().min(firsts.len());
     'faces: for i in 0..count {
@@ -99,7 +102,9 @@ fn at_vertex(solid: &Solid, rule: Rule, vertex: u32) -> Failing
 }
 
 fn first_unlinked(solid: &Solid, linking: Option<&Linking>) -> Option<Failing>
-    ensures { MatchOption result (failing_vertices solid.now (option_copied linking.entry) ≡ []) (λ y. (ys : List Named) × (failing_vertices solid.now (option_copied linking.entry) ≡ y ∷ ys)) }
+    ensures { MatchOption result (failing_vertices solid.now (option_copied linking.entry) ≡ [])
+        (λ y. (ys : List Named) × (failing_vertices solid.now (option_copied linking.entry)
+        ≡ y ∷ ys)) }
 {
     let Some(linking) = linking else {
         return None;
@@ -111,7 +116,8 @@ fn first_unlinked(solid: &Solid, linking: Option<&Linking>) -> Option<Failing>
 }
 
 fn first_shared(solid: &Solid, shared: &[u32]) -> Option<Failing>
-    ensures { MatchOption result (map (shared_failing solid.now) shared.now ≡ []) (λ y. (ys : List Named) × (map (shared_failing solid.now) shared.now ≡ y ∷ ys)) }
+    ensures { MatchOption result (map (shared_failing solid.now) shared.now ≡ [])
+        (λ y. (ys : List Named) × (map (shared_failing solid.now) shared.now ≡ y ∷ ys)) }
 {
     let [first, ..] = shared else {
         return None;
@@ -121,7 +127,8 @@ fn first_shared(solid: &Solid, shared: &[u32]) -> Option<Failing>
 
 // The first that fails in a shell.
 fn first_failing(solid: &Solid, shell: &Shell, faults: &ShellFaults) -> Option<Failing>
-    ensures { MatchOption result (failing_of solid.now shell.now faults.now ≡ []) (λ y. (ys : List Named) × (failing_of solid.now shell.now faults.now ≡ y ∷ ys)) }
+    ensures { MatchOption result (failing_of solid.now shell.now faults.now ≡ [])
+        (λ y. (ys : List Named) × (failing_of solid.now shell.now faults.now ≡ y ∷ ys)) }
 {
     if let Some(failing) = first_gap(faults.gaps()) {
         return Some(failing);

@@ -73,7 +73,8 @@ fn listed() -> &'static [TypeName]
 
 /// The word of a type that has one of its own (own).
 pub fn known_word(kind: i64) -> Option<&'static str>
-    ensures { MatchOption result (type_word kind ≡ codes "type-" ++ signed kind) (λ word. type_word kind ≡ word.now) }
+    ensures { MatchOption result (type_word kind ≡ codes "type-" ++ signed kind)
+        (λ word. type_word kind ≡ word.now) }
 {
     match name_in(listed(), kind) {
         Some(row) => Some(row.1),

@@ -45,7 +45,8 @@ fn put_spelled(out: &mut Out, value: &Value) -> Result<(), NoMemory>
 /// Appends a space and the value as it is shown: an integer by its digits, a real by its word as it was read, a text by its
 /// bytes, each that isn't printed as `?`; `-` for none and for a value that is left out (own).
 pub fn put_value(out: &mut Out, value: Option<&Value>) -> Result<(), NoMemory>
-    ensures text { OnOk result (out.new ≡ out.old ++ space_word (spelled_if (option_copied value.entry))) }
+    ensures text { OnOk result (out.new ≡ out.old
+        ++ space_word (spelled_if (option_copied value.entry))) }
 {
     out.put(b" ")?;
     match value {
