@@ -1,4 +1,4 @@
--- The lists of edges and of vertices that a walk has looked at.
+-- Private: the lists of edges and of vertices that a walk has looked at.
 use Rattle.std.specs.Prelude.{◌≡◌, ◌<◌, ◌^◌, ℕ, ℤ, pos, List, length, Some, slice_get}
 use Rattle.iges_base.specs.declared.entry_no.EntryNo.{EntryNo}
 use Rattle.iges_params.specs.Contents.{Contents}

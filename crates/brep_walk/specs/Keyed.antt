@@ -1,4 +1,4 @@
--- Keys by number, each found by the slot of its item.
+-- Private: keys by number, each found by the slot of its item.
 use Rattle.std.specs.Prelude.{◌≡◌, ℕ, List, Some, slice_get}
 use Rattle.solid_data.specs.declared.solid.EdgeKey.{EdgeKey}
 use Rattle.solid_data.specs.declared.solid.VertexKey.{VertexKey}

@@ -1,4 +1,4 @@
--- Numbers of the items of lists, each list with slots of its own.
+-- Private: numbers of the items of lists, each list with slots of its own.
 use Rattle.std.specs.Prelude.{◌≡◌, ◌==◌, ℕ, List, Option, Some, None, slice_get, slice_index, if◌then◌else◌}
 use Rattle.iges_base.specs.declared.entry_no.EntryNo.{EntryNo}
 
