@@ -128,6 +128,3 @@ parts_of_labels d span seen labels t h = record {
       let low = least_of_joined (part_pairs d span seen) d.face_count labels f g (pairs_inside d span seen t) h lt (connected_joined d span seen chain.0 f g chain.1) in
       omega (arith, low, get_or_from_slice_get labels f p 0 at);
 }
-
-pub tallied : (d : ShellRows) (span range : Span) (seen : List Seen) → AreRows d → span ≡ range → IsSpanOf range d.edges → IsTally d span seen → AreTallied d span seen
-tallied d span range seen rows same is_span tally = record { rows = rows; span = subst (λ r. IsSpanOf r d.edges) (sym same) is_span; tally = tally }

@@ -17,3 +17,4 @@ pub mod UseCounts
 pub mod FaceUses
 pub mod PartFacts
 pub mod PartTables
+pub mod FanCells
