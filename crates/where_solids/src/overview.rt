@@ -12,7 +12,7 @@ use crate::hints::put_no_solid;
 use crate::lines::{put_count, put_failing};
 use crate::listed::solids;
 use crate::verdicts::verdict;
-use brep_walk::{WalkFault, walk};
+use brep_walk::{WalkFault, Walker};
 use iges_fields::{Bytes, EntryNo, ItemList, NoMemory, Out};
 use iges_params::File;
 use solid_data::Verdict;
@@ -27,10 +27,11 @@ pub struct Overview {
     pub text: Bytes,
 }
 
-fn verdict_on(alloc: Global, file: &File, no: EntryNo) -> Result<Verdict, NoMemory>
-    ensures { IfOk result (IsVerdictOn file.now no.0) }
+fn verdict_on(alloc: Global, walker: &mut Walker<'_>, no: EntryNo) -> Result<Verdict, NoMemory>
+    ensures file { walker.new ≡ walker.old }
+    ensures verdict { IfOk result (IsVerdictOn walker.old no.0) }
 {
-    let solid = match walk(alloc, file, no) {
+    let solid = match walker.walk(alloc, no) {
         Ok(solid) => solid,
         Err(WalkFault::Fails(failing)) => return Ok(Verdict::Fails(failing)),
         Err(WalkFault::NoMemory) => return Err(NoMemory),
@@ -42,9 +43,10 @@ fn verdict_on(alloc: Global, file: &File, no: EntryNo) -> Result<Verdict, NoMemo
 fn verdicts(alloc: Global, file: &File, solids: &[EntryNo]) -> Result<ItemList<Verdict>, NoMemory>
     ensures { IfOk result (AreVerdicts file.now solids.now) }
 {
+    let mut walker = Walker::new(alloc, file);
     let mut verdicts = ItemList::with_room(alloc, solids.len())?;
     'solids: for i in 0..solids.len() {
-        verdicts.push(verdict_on(alloc, file, solids[i])?)?;
+        verdicts.push(verdict_on(alloc, &mut walker, solids[i])?)?;
     }
     Ok(verdicts)
 }

@@ -6,6 +6,7 @@ use Rattle.where_solids.proofs.overview.verdicts.Given as goal
 
 abbrev pub invariant-solids : goal.invariant-solids
 invariant-solids l = record {
+  file : l.walker ≡ l.file;
   each : length l.verdicts ≡ l.i;
   verdict : (j : ℕ) (n : EntryNo) (v : Verdict) → slice_get l.solids j ≡ Some n → slice_get l.verdicts j ≡ Some v → IsVerdictOn l.file n.0 v;
 }
