@@ -2,6 +2,8 @@ ghost use Rattle.iges_fields.specs.InLine.{is_value, stays_in_line};
 ghost use Rattle.std.specs.List.{list_all};
 ghost use Rattle.std.specs.Prelude.{◌≡◌, [], ◌∷◌, ◌++◌, ◌<◌, ◌≤◌, ◌^◌, ◌↔◌, IfOk, IfSome, IsSome, IsTrue, OnOk, OnErr, length, slice_get, option_copied};
 
+mod editing;
+
 use crate::list::ItemList;
 use crate::no_memory::NoMemory;
 use crate::value::Value;

@@ -7,6 +7,8 @@ ghost use Rattle.iges_params.specs.Named.{named};
 ghost use Rattle.std.specs.Ordering.{int_eq};
 ghost use Rattle.std.specs.Prelude.{◌≡◌, ◌+◌, ◌<◌, ◌≤◌, [], ◌∷◌, ◌++◌, ◌↔◌, pos, IsSome, IsTrue, IfOk, IfSome, OnOk, OnErr, length, slice_get, option_copied, option_map};
 
+mod taking;
+
 use crate::global::Global26;
 use iges_directory::Entry;
 use iges_fields::{EntryNo, FILE_LIMIT, NoMemory, Values};
