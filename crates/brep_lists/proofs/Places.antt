@@ -4,7 +4,7 @@ use Rattle.std.proofs.Common.{refl, sym, ◌∙◌, ap, arith, suc-mul}
 use Rattle.std.proofs.lemmas.Option.{slice_get_within}
 use Rattle.std.proofs.lemmas.List.{drop-drop}
 use Rattle.brep_lists.specs.DueValues.{at_least_one, count}
-pub use Rattle.iges_fields.proofs.Lists.{open_at}
+pub use Rattle.iges_base.proofs.Lists.{open_at}
 use Rattle.iges_fields.specs.declared.value.Value.{Value}
 use Rattle.iges_fields.specs.declared.value.Value.TheVariants.{Default}
 use Rattle.brep_lists.specs.Record.{count_of, value_or_default, count_at}
