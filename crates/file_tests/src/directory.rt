@@ -22,17 +22,12 @@ fn back() -> &'static [u8] {
     BACK
 }
 
-fn joined(alloc: Global, pieces: &[&[u8]]) -> Result<Vec<u8>, Fail> {
-    let mut text = Vec::new(alloc);
-    for piece in pieces {
-        text.extend_from_slice(piece)?;
-    }
-    Ok(text)
-}
-
 // The sections of a file of one entry, whose second line has this type.
 fn one_entry(alloc: Global, kind: &[u8]) -> Result<Sections, Fail> {
-    let text = joined(alloc, &[front(), kind, back()])?;
+    let mut text = Vec::new(alloc);
+    text.extend_from_slice(front())?;
+    text.extend_from_slice(kind)?;
+    text.extend_from_slice(back())?;
     Ok(sections_of(alloc, text.as_slice())?)
 }
 

@@ -38,3 +38,8 @@ pub returns-clause-book : goal.returns-clause-book
 returns-clause-book c =
     book_of_all c.args.file.now c.entries.parts (all_zip c.args.file.now c.entries.i c.entries.used c.entries.parts (omega (arith, c.entry_count-i-end.ensures.is, c.entries-test.false)) c.entries.invariant.left)
     (above_none c.entries.parts c.len.result c.len.ensures c.if-len-eq0.false)
+
+pub returns-in_err-push-clause-fault : goal.returns-in_err-push-clause-fault
+returns-in_err-push-clause-fault c =
+    let p = err_from_is_err_and c.from_residual-in_err-push.result c.from_residual-in_err-push.ensures.1 in
+    rw (p.1, p.2) tt
