@@ -104,7 +104,7 @@ def builds(copy):
     yield "build: the answer", (status, text) == (0, b"1\n")
     yield "build: a line a crate", [it.split(",")[0] for it in lines[1:]] == [f"igesolid: {n} of {count} crates proved" for n in range(1, count + 1)]
     calls = copy.calls()
-    yield "build: lowest first, and the program last", calls[0] == "lib iges_fields" and calls[-1] == "run igesolid" and len(calls) == count
+    yield "build: lowest first, and the program last", calls[0] == "lib iges_base" and calls[-1] == "run igesolid" and len(calls) == count
     yield "build: once", copy.run(*solids) == (0, b"1\n", "") and copy.calls() == []
     told = copy.run("./igesolid", "--built", "where", "examples/no/fail_pair.igs", "1", kit=True)
     yield "build: the other program", told[0] == 1 and copy.calls()[-1] == "run igesolid_where"
@@ -120,7 +120,7 @@ def builds(copy):
     yield "build: none above it", "run igesolid" not in copy.calls()
     yield "build: not built yet", b"not built yet" in copy.run("./igesolid", "--version")[1]
     status, told = clone.on_terminal(solids, cwd=copy.top, env=copy.environment(kit=True, KIT_DELAY="0.05"))
-    yield "build: one line that changes", status == 0 and f"\r\x1b[Kigesolid: 0 of {count} crates proved, now iges_fields" in told
+    yield "build: one line that changes", status == 0 and f"\r\x1b[Kigesolid: 0 of {count} crates proved, now iges_base" in told
     copy.unbuild()
 
 
