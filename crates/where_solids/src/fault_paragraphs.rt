@@ -88,50 +88,14 @@ pub fn put_faults(
     ensures named { OnOk result (named.new ≡ named.old
         ++ fault_faces listing solid.now at.0 faults.now) }
 {
+    let (unpaired, firsts) = (faults.unpaired(), faults.firsts());
     put_join(out, named, file, solid, at, faults.gaps(), listing)?;
-    put_pair(
-        alloc,
-        out,
-        named,
-        file,
-        solid,
-        at,
-        rows,
-        faults.unpaired(),
-        listing,
-    )?;
+    put_pair(alloc, out, named, file, solid, at, rows, unpaired, listing)?;
     put_reach(
-        alloc,
-        out,
-        named,
-        file,
-        solid,
-        at,
-        rows,
-        faults.firsts(),
-        faults.unpaired(),
-        listing,
+        alloc, out, named, file, solid, at, rows, firsts, unpaired, listing,
     )?;
-    put_linking(
-        alloc,
-        out,
-        named,
-        file,
-        solid,
-        at,
-        rows,
-        faults.linking(),
-        listing,
-    )?;
-    put_apart(
-        alloc,
-        out,
-        named,
-        file,
-        solid,
-        at,
-        faces,
-        faults.shared(),
-        listing,
-    )
+    let linking = faults.linking();
+    put_linking(alloc, out, named, file, solid, at, rows, linking, listing)?;
+    let shared = faults.shared();
+    put_apart(alloc, out, named, file, solid, at, faces, shared, listing)
 }
