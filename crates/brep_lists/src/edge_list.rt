@@ -11,10 +11,15 @@ use std::marker::Model;
 /// a vertex list and an index in it, from 1 (IGES 5.3, 4.146). None of these numbers is judged.
 #[derive(Clone, Copy, Debug, PartialEq, Eq)]
 pub struct EdgeTuple {
+    /// The directory number of the curve.
     pub curve: i64,
+    /// The directory number of the vertex list that has the start.
     pub start_list: i64,
+    /// The place of the start in that list, from 1.
     pub start_index: i64,
+    /// The directory number of the vertex list that has the end.
     pub end_list: i64,
+    /// The place of the end in that list, from 1.
     pub end_index: i64,
 }
 

@@ -12,7 +12,9 @@ use iges_fields::Values;
 /// How many parameter curves a tuple has, and the place after them.
 #[derive(Clone, Copy)]
 pub struct Ends {
+    /// The count of curves; 0 where the record ends before it.
     pub curves: usize,
+    /// The place of the first value after the tuple, from 0.
     pub end: usize,
 }
 

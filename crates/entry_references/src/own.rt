@@ -13,8 +13,11 @@ use std::marker::Model;
 /// places of pointers among them, from 1: of those that are followed, and of those that are cut (own).
 #[derive(Drop)]
 pub struct Own {
+    /// How many own values there are, the type number not counted.
     pub count: usize,
+    /// Places after the type number, from 1, of pointers whose entries are taken too.
     pub pointers: ItemList<usize>,
+    /// Places after the type number, from 1, of pointers that an extraction sets to 0.
     pub cut: ItemList<usize>,
 }
 

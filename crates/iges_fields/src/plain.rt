@@ -14,7 +14,9 @@ const MOST: usize = 18;
 /// Digits at the front of a text: how many, and the number that they write.
 #[derive(Clone, Copy, Debug)]
 pub struct Digits {
+    /// How many bytes these are, from 0 to 18.
     pub len: usize,
+    /// The number; 0 where there is no digit.
     pub value: u64,
 }
 

@@ -16,9 +16,13 @@ use std::marker::Model;
 /// How many lines each section has.
 #[derive(Clone, Copy)]
 pub struct LineCounts {
+    /// Lines with S in column 73.
     pub start: usize,
+    /// Lines with G in column 73.
     pub global: usize,
+    /// Lines with D in column 73, two of each entry.
     pub directory: usize,
+    /// Lines with P in column 73.
     pub param: usize,
 }
 

@@ -18,7 +18,9 @@ use std::alloc::Global;
 /// Marks of a file's edges and of its vertices.
 #[derive(Drop)]
 pub struct FileMarks {
+    /// Of the items of edge lists; other entries have no marks here.
     pub edges: Marks,
+    /// Of the items of vertex lists; other entries have no marks here.
     pub vertices: Marks,
 }
 

@@ -5,7 +5,9 @@ ghost use Rattle.std.specs.Prelude.{◌≡◌, ◌+◌, ◌*◌, ℕ, pos, IfNon
 /// The place of an item: the entry and the item, both from 0.
 #[derive(Clone, Copy)]
 pub struct Place {
+    /// The place of the list in the directory, from 0: its directory number is twice that and one more.
     pub entry: usize,
+    /// One less than the index that names the item.
     pub item: usize,
 }
 

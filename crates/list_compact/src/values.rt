@@ -20,7 +20,9 @@ use std::alloc::Global;
 /// The ranks of a file's edges and of its vertices.
 #[derive(Drop)]
 pub struct FileRanks {
+    /// Of the items of edge lists.
     pub edges: Ranks,
+    /// Of the items of vertex lists.
     pub vertices: Ranks,
 }
 
