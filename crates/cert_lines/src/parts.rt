@@ -25,12 +25,19 @@ pub type ReachRows = RowList;
 /// What a certificate says of a shell: how many rows, vertices, faces and loops it has, and its lines (own).
 #[derive(Drop)]
 pub struct ShellPart {
+    /// How many edge uses the shell has.
     pub rows: u32,
+    /// As many pairs as edges occur in the shell; each row is numbered within the shell, from 0.
     pub edges: EdgePairs,
+    /// As many as vertices occur in the shell, those of loops without an edge among them.
     pub corners: Corners,
+    /// How many faces the shell has.
     pub faces: u32,
+    /// One row for each face but the first, numbered within the shell, from 0.
     pub reach: ReachRows,
+    /// How many vertices occur in the shell; only versions 2 and 3 print it.
     pub vertices: u32,
+    /// How many loops the faces of the shell have; only versions 2 and 3 print it.
     pub loops: u32,
 }
 
@@ -40,8 +47,11 @@ pub type ShellParts = ItemList<ShellPart>;
 /// A certificate: its version, the solid that it names, and a part for each of its shells (own).
 #[derive(Drop)]
 pub struct Certificate {
+    /// The version whose lines are written.
     pub version: Version,
+    /// The solid's directory number (IGES 5.3, 2.2.4.4).
     pub solid: EntryNo,
+    /// The outer shell first, and then the voids in the order of the solid's record.
     pub shells: ShellParts,
 }
 

@@ -35,10 +35,15 @@ pub enum Words<'a> {
 /// The numbers of a SHELL line (own): the shell, from 1, and how many rows, edges, corners and faces it has.
 #[derive(Clone, Copy)]
 pub struct ShellWords {
+    /// The shell, from 1; the outer one is 1.
     pub shell: u32,
+    /// How many edge uses it has.
     pub rows: u32,
+    /// How many E lines it has, one for each edge that occurs in it.
     pub edges: u32,
+    /// How many C and I lines it has together, one for each vertex that occurs in it.
     pub corners: u32,
+    /// How many faces it has.
     pub faces: u32,
 }
 

@@ -60,6 +60,7 @@ pub enum PartJudged {
 /// Where a piece ended a part: the line that names the next solid.
 #[derive(Clone, Copy, Debug)]
 pub struct NextSolid {
+    /// The directory number on that line.
     pub no: EntryNo,
     /// The number of the line behind it.
     pub line: u64,

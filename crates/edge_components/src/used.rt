@@ -12,7 +12,9 @@ use std::alloc::Global;
 /// The edges and the vertices of some faces, each once for each use (own).
 #[derive(Drop)]
 pub struct Used {
+    /// Numbers of edges of the solid, from 0: one for each edge use.
     pub edges: Vec<u32>,
+    /// Numbers of vertices of the solid, from 0: start and end of each edge use's edge, and each vertex use's vertex.
     pub vertices: Vec<u32>,
 }
 

@@ -19,10 +19,15 @@ use std::alloc::Global;
 /// stands there once for each use.
 #[derive(Drop)]
 pub struct Built {
+    /// The edge uses, in file order.
     pub rows: Vec<Row>,
+    /// For each row the row that follows it in its loop, from 0, backwards where the loop is walked backwards.
     pub next: Vec<u32>,
+    /// The loops without an edge, each with the number of its vertex in the solid.
     pub points: Vec<(LoopAt, u32)>,
+    /// Numbers of edges of the solid.
     pub edges: Vec<u32>,
+    /// Numbers of vertices of the solid.
     pub vertices: Vec<u32>,
 }
 

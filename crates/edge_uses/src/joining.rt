@@ -17,7 +17,9 @@ use solid_data::{Edge, FaceAt, FaceUse, Loop, LoopAt, LoopUse, Shell, ShellAt, S
 /// starts, from 1 (own).
 #[derive(Clone, Copy, Debug, PartialEq, Eq)]
 pub struct Unjoined {
+    /// The loop, by its face in the shell and its place in the face, both from 0.
     pub at: LoopAt,
+    /// The tuple in the loop's record, from 1.
     pub place: u32,
 }
 

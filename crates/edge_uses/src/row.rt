@@ -9,10 +9,15 @@ use std::mem::size_of;
 /// 4.49).
 #[derive(Clone, Copy, Debug, PartialEq, Eq)]
 pub struct Row {
+    /// The loop that has the use, by its face in the shell and its place in the face, both from 0.
     pub at: LoopAt,
+    /// The edge, by its number in the solid.
     pub edge: EdgeId,
+    /// Whether the use runs from the edge's start to its end.
     pub along: bool,
+    /// The vertex at which the use starts, by its number in the solid.
     pub from: VertexId,
+    /// The vertex at which the use ends, by its number in the solid.
     pub to: VertexId,
 }
 

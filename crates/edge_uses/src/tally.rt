@@ -15,9 +15,13 @@ use std::alloc::Global;
 /// row is 0 too.
 #[derive(Clone, Copy)]
 pub struct Seen {
+    /// How many rows run along the edge.
     pub along: u32,
+    /// The last row along the edge, from 0; 0 where there is none.
     pub along_row: u32,
+    /// How many rows run against the edge.
     pub against: u32,
+    /// The last row against the edge, from 0; 0 where there is none.
     pub against_row: u32,
 }
 
@@ -31,7 +35,9 @@ const UNSEEN: Seen = Seen {
 /// What was seen of each edge of a range.
 #[derive(Drop)]
 pub struct Tally {
+    /// The range, in numbers of edges of the solid.
     pub span: Span,
+    /// One item for each edge of the range, that of `span.least` at 0.
     pub seen: Vec<Seen>,
     ghost long: { length seen.items ≡ span.count },
 }

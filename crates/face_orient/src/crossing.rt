@@ -18,9 +18,13 @@ use std::alloc::Global;
 /// A row as a step from its face to that of its partner. It flips where the two faces need different flags.
 #[derive(Clone, Copy)]
 pub struct Crossing {
+    /// The face of the row, from 0.
     pub from: u32,
+    /// The face of its partner, from 0; it may be the same one.
     pub to: u32,
+    /// The other row of the same edge, from 0.
     pub partner: u32,
+    /// Whether the two faces need different flags for the edge to be used in opposite directions.
     pub flips: bool,
 }
 

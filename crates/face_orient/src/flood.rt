@@ -18,9 +18,13 @@ use std::alloc::Global;
 /// Whether a face is reached, and then the flag that it must have, how many steps lead to it, and the last of these.
 #[derive(Clone, Copy)]
 pub struct Place {
+    /// Whether steps lead here from the first face.
     pub reached: bool,
+    /// The shell's flag for the face, as it follows from that of the first face; false where the face isn't reached.
     pub flag: bool,
+    /// How many steps lead here from the first face; 0 for that face.
     pub depth: u32,
+    /// The row of the last step, from 0; 0 for the first face and where none is reached.
     pub up: u32,
 }
 
@@ -34,7 +38,9 @@ const UNREACHED: Place = Place {
 /// A place for each face, and the faces reached in their order.
 #[derive(Drop)]
 pub struct Flood {
+    /// One for each face of the shell, by its number from 0.
     pub places: Vec<Place>,
+    /// The reached faces, from 0, in the order in which they were reached; the first face is the first.
     pub order: Vec<u32>,
 }
 

@@ -17,8 +17,11 @@ use std::alloc::Global;
 /// The steps of a shell's rows, how many faces it has, and the first one's flag.
 #[derive(Drop)]
 pub struct Graph {
+    /// One step for each row, by its number from 0.
     pub crossings: Vec<Crossing>,
+    /// How many faces the shell has.
     pub faces: usize,
+    /// The shell's orientation flag for its first face.
     pub first: bool,
 }
 

@@ -11,7 +11,9 @@ use std::alloc::Global;
 /// For each face its first step, and for each step the next one from its face; the number of steps where there is none.
 #[derive(Drop)]
 pub struct Heads {
+    /// By face, from 0.
     pub first: Vec<u32>,
+    /// By step, from 0.
     pub next: Vec<u32>,
 }
 

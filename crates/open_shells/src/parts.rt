@@ -36,11 +36,18 @@ pub type Borders = ItemList<RowList>;
 /// A certificate of an open shell (own): the shell, how many rows and faces it has, and its lines.
 #[derive(Drop)]
 pub struct OpenCertificate {
+    /// The shell's directory number (IGES 5.3, 2.2.4.4).
     pub shell: EntryNo,
+    /// How many edge uses the shell has.
     pub rows: u32,
+    /// As many as edges occur in the shell; each row is numbered within the shell, from 0.
     pub edges: OpenEdges,
+    /// As many as vertices occur in the shell.
     pub corners: OpenCorners,
+    /// How many faces the shell has.
     pub faces: u32,
+    /// One row for each face but the first, numbered within the shell, from 0.
     pub reach: ReachRows,
+    /// Each row that has no mate is in one of them.
     pub borders: Borders,
 }

@@ -18,8 +18,11 @@ use std::alloc::Global;
 /// Which faces are reached, in which order, and by which rows.
 #[derive(Drop)]
 pub struct Flood {
+    /// One for each face of the shell, by its number from 0: whether it is reached.
     pub marks: Vec<bool>,
+    /// The reached faces, from 0, in the order in which they were reached; the first face is the first.
     pub order: Vec<u32>,
+    /// For each face of `order` but the first, its row whose mate is on a face that was reached before.
     pub rows: RowList,
 }
 

@@ -14,6 +14,7 @@ use std::alloc::Global;
 /// A use of a loop that ends at another vertex than the next one starts at (own).
 #[derive(Clone, Copy, Debug, PartialEq, Eq)]
 pub struct Gap {
+    /// The loop, by its face in the shell and its place in the face, both from 0.
     pub at: LoopAt,
     /// The loop's number.
     pub entity: EntryNo,

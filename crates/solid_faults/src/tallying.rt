@@ -8,9 +8,11 @@ use crate::edge::Unpaired;
 /// How many of some edges that aren't paired have one row, two and more (own).
 #[derive(Clone, Copy, Debug, PartialEq, Eq)]
 pub struct UseCounts {
+    /// With one row.
     pub once: usize,
     /// With two rows, which run the same way.
     pub same_way: usize,
+    /// With more than two rows, whatever their directions.
     pub many: usize,
 }
 

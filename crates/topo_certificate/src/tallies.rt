@@ -130,7 +130,9 @@ fn alone_points(
 /// For each row the size of a corner line that starts with it, and for each loop without an edge whether it is alone.
 #[derive(Drop)]
 pub struct Sizes {
+    /// By row, from 0: how many rows start where it starts, or 0 where a loop without an edge lies there too.
     pub rows: Vec<u32>,
+    /// By loop without an edge, in file order.
     pub alone: Vec<bool>,
 }
 

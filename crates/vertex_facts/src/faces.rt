@@ -16,8 +16,11 @@ use std::marker::Model;
 /// A face at a vertex that one of its uses touches, by the number of its shell, from 0 (own).
 #[derive(Clone, Copy, Debug, PartialEq, Eq)]
 pub struct FaceAtVertex {
+    /// The vertex's number in the solid, from 0.
     pub vertex: u32,
+    /// The shell, from 0; the outer one is 0.
     pub shell: u32,
+    /// The face's directory number.
     pub face: EntryNo,
 }
 

@@ -23,6 +23,7 @@ pub struct Starts {
 #[derive(Clone, Copy)]
 pub struct Points {
     pub count: u32,
+    /// Its face and its place in the face, from 0; both are 0 where there is none.
     pub last: LoopAt,
 }
 
