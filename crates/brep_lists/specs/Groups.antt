@@ -7,7 +7,7 @@ use Rattle.brep_lists.specs.OwnValues.{is_int, is_same_coordinate, meets, meets_
 use Rattle.brep_lists.specs.declared.groups.Slot.{Slot}
 use Rattle.brep_lists.specs.declared.groups.Slot.TheVariants.{Whole, Flag, Coordinate}
 
--- the value may stand there
+-- the value may be there
 abbrev pub passes : Slot → Value → Bool
 passes Whole v = is_int (int_of v) v
 passes Flag v = is_int (if flag_of v then pos 1 else pos 0) v

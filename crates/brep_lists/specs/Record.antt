@@ -50,7 +50,7 @@ pub record LoopTuple : Type 0 where
   pub flag : Bool
   pub curves : List (Bool × ℤ)
 
--- what the record of an entity tells
+-- what the record of an entity describes
 abbrev pub Items : EntityKind → Type 0
 Items solid = SolidItems
 Items shell = List (ℤ × Bool)
@@ -83,11 +83,11 @@ due «loop» tuples = at_least_one (length tuples) ∷ flat_map tuple_due tuples
 due edges tuples = at_least_one (length tuples) ∷ flat_map edge_due tuples
 due vertices triples = at_least_one (length triples) ∷ flat_map vertex_due triples
 
--- the record tells these items
+-- the record has these items
 abbrev pub Fits : (kind : EntityKind) → List Value → Items kind → Type 0
 Fits kind values items = MeetsAll (due kind items) values
 
--- The reading: the items that stand in the places of the layout, whatever the values are.
+-- The reading: the items that are in the places of the layout, whatever the values are.
 
 abbrev pub int_of : Value → ℤ
 int_of (Int z) = z
@@ -156,6 +156,6 @@ items_of vertices vs = map (λ g. (value_or_default g 0, value_or_default g 1, v
 abbrev pub IsRecordOf : EntityKind → List Value → Type 0
 IsRecordOf kind values = Fits kind values (items_of kind values)
 
--- a record tells no other items than those read
+-- a record has no other items than those read
 abbrev pub FitsOnlyRead : Type 0
 FitsOnlyRead = (kind : EntityKind) (values : List Value) (items : Items kind) → Fits kind values items → items ≡ items_of kind values

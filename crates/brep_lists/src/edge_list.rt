@@ -42,7 +42,7 @@ impl<'a> Model for EdgeList<'a> {
 }
 
 impl<'a> EdgeList<'a> {
-    /// The list that a record tells; None where the record doesn't fit (IGES 5.3, 4.146). The record is borrowed; no
+    /// The list that a record describes; None where the record doesn't fit (IGES 5.3, 4.146). The record is borrowed; no
     /// memory is taken.
     pub fn of(values: &'a Values) -> Option<EdgeList<'a>>
         ensures some { IfSome result (λ list. Fits edges values.now list) }

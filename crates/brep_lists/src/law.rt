@@ -3,7 +3,7 @@
 ghost use Rattle.brep_lists.specs.OwnValues.{RecordsAreDecided};
 ghost use Rattle.brep_lists.specs.Record.{FitsOnlyRead};
 
-/// A record tells no other items than those that stand in the places of its layout (own).
+/// A record has no other items than those that are in the places of its layout (own).
 pub fn items_are_one()
     ensures { FitsOnlyRead }
 {}

@@ -27,7 +27,7 @@ impl<'a> Model for VertexList<'a> {
 }
 
 impl<'a> VertexList<'a> {
-    /// The list that a record tells; None where the record doesn't fit (IGES 5.3, 4.145). The record is borrowed; no
+    /// The list that a record describes; None where the record doesn't fit (IGES 5.3, 4.145). The record is borrowed; no
     /// memory is taken.
     pub fn of(values: &'a Values) -> Option<VertexList<'a>>
         ensures some { IfSome result (λ list. Fits vertices values.now list) }

@@ -32,7 +32,7 @@ fn after_curves(values: &Values, count_place: usize, curves: usize) -> Option<us
     after_groups(values, count_place + 1, curves, &shape)
 }
 
-/// The ends of the tuple that stands from a place on, where its values may stand in their places.
+/// The ends of the tuple that begins at a place, where its values may be in their places.
 pub fn checked_ends(values: &Values, at: usize) -> Option<Ends>
     ensures { MatchOption result (tuple_passes (drop at values.now) ≡ false)
         (λ ends. (tuple_passes (drop at values.now) ≡ true) × AreEnds at values.now ends.curves ends.end) }

@@ -28,7 +28,7 @@ impl<'a> Model for LoopRecord<'a> {
     ghost invariant = { λ record_of. IsLoop record_of.values.now record_of.count };
 }
 
-// The count of tuples of a record that tells a loop.
+// The count of tuples of a record that describes a loop.
 fn tuple_count(values: &Values) -> Option<usize>
     ensures { MatchOption result (is_loop values.now ≡ false)
         (λ n. (is_loop values.now ≡ true) × (n ≡ count_at values.now 0) × (tuples_pass n (drop 1 values.now) ≡ true)) }
@@ -52,7 +52,7 @@ fn tuple_count(values: &Values) -> Option<usize>
 }
 
 impl<'a> LoopRecord<'a> {
-    /// The loop that a record tells; None where the record doesn't fit (IGES 5.3, 4.147). The record is borrowed; no
+    /// The loop that a record describes; None where the record doesn't fit (IGES 5.3, 4.147). The record is borrowed; no
     /// memory is taken. It goes once over the values, and no further than the record's end, however large the count is.
     pub fn of(values: &'a Values) -> Option<LoopRecord<'a>>
         ensures some { IfSome result (λ tuples. Fits «loop» values.now tuples) }

@@ -19,7 +19,7 @@ const FACE: usize = 1458;
 
 const LOOP: usize = 1539;
 
-/// Where the number of the shell's form stands.
+/// Where the number of the shell's form is.
 pub(crate) const SHELL_FORM: usize = 444;
 
 // Has no clause, so that no goal holds the text.

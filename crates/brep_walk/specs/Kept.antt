@@ -7,7 +7,7 @@ use Rattle.brep_lists.specs.declared.edge_list.EdgeTuple.{EdgeTuple}
 use Rattle.brep_walk.specs.Places.{told, record_places}
 use Rattle.solid_data.specs.Obligations.{AllHold}
 
--- the number names a record of the kind, at whatever place it stands
+-- the number names a record of the kind, at whatever place it is
 abbrev pub NamesRecord : EntityKind → Contents → ℤ → Type 0
 NamesRecord kind f z = AllHold (record_places f (pos 0) 0 kind z)
 

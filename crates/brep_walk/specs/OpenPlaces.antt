@@ -17,7 +17,7 @@ NamesShell f number = IsSomeAnd (named f number) (λ e. (e.0.kind ≡ type_numbe
 abbrev pub shell_entry_places : Contents → ℕ → List Obligation
 shell_entry_places f n = obligation NoEntry n 0 (Names f (pos n)) ∷ obligation WrongKind n 0 (NamesShell f (pos n)) ∷ []
 
--- Its record tells faces.
+-- Its record describes faces.
 abbrev pub shell_record_places : Contents → ℕ → List Obligation
 shell_record_places f n = shell_entry_places f n ++ (obligation BadLayout n 0 (HasRecordOf shell f (pos n)) ∷ [])
 

@@ -7,7 +7,7 @@ use Rattle.brep_lists.specs.declared.edge_list.EdgeTuple.{EdgeTuple}
 use Rattle.solid_data.specs.Obligations.{Obligation, obligation, entry_number, after_each}
 use Rattle.solid_data.specs.declared.verdict.Rule.TheVariants.{NoEntry, WrongKind, BadLayout, Twice, BadIndex, BadGeometry}
 
--- what the record of an entry tells as one of this kind
+-- what the record of an entry describes as one of this kind
 abbrev pub told : (kind : EntityKind) → Contents → ℤ → Items kind
 told kind f number = items_of kind (values_of f number)
 
@@ -120,6 +120,6 @@ shell_at f n place known s =
 unfoldable pub shell_places : Contents → ℤ → List (ℤ × Bool) → ℤ × Bool → List Obligation
 shell_places f n before item = shell_at f n (length before + 1) (numbers before) item.0
 
--- The obligations of solid n, depth first. Up to the first false one each speaks of entries, records and items that those before it have shown to be there; what stands behind that one is never looked at.
+-- The obligations of solid n, depth first. Up to the first false one each speaks of entries, records and items that those before it have shown to be there; what comes after that one is never looked at.
 unfoldable pub places : Contents → ℕ → List Obligation
 places f n = record_places f (pos n) 0 solid (pos n) ++ after_each (shell_places f (pos n)) [] (shells f (pos n))

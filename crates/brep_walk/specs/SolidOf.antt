@@ -1,4 +1,4 @@
--- The solid that a file's records tell.
+-- The solid that a file's records describe.
 use Rattle.std.specs.Prelude.{ℕ, Bool, ℤ, pos, List, [], ◌∷◌, map, flat_map, Option, Some, None, if◌then◌else◌}
 use Rattle.iges_base.specs.declared.entry_no.EntryNo.{EntryNo}
 use Rattle.iges_params.specs.Contents.{Contents}
@@ -53,7 +53,7 @@ pub record Keys : Type 0 where
   pub edges : List EdgeKey
   pub vertices : List VertexKey
 
--- What the records tell, with the edges and the vertices numbered by these keys.
+-- What the records describe, with the edges and the vertices numbered by these keys.
 
 abbrev pub use_by : Keys → LoopTuple → LoopUse
 use_by keys t =

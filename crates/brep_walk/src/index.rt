@@ -8,7 +8,7 @@ ghost use Rattle.solid_data.specs.declared.verdict.Rule.TheVariants.{BadIndex};
 use crate::place::Place;
 use solid_data::{Failing, Rule};
 
-/// The index that stands at a place, where it is one of a list of so many items, from 1.
+/// The index that is at a place, where it is one of a list of so many items, from 1.
 pub fn index_in(count: u32, at: Place, index: i64) -> Result<u32, Failing>
     ensures holds { OnOk result (IsIndex index count) }
     ensures index { IfOk result (λ i. index ≡ pos i) }

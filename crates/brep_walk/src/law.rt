@@ -1,4 +1,4 @@
-//! Laws of places and of the solid that records tell.
+//! Laws of places and of the solid that records describe.
 
 ghost use Rattle.std.specs.Prelude.{ℕ, ◌≡◌, ◌⊎◌};
 ghost use Rattle.iges_params.specs.Contents.{Contents};

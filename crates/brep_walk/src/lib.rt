@@ -1,4 +1,4 @@
-//! The walk through the records of a solid: what their places must name, and the solid that they tell.
+//! The walk through the records of a solid: what their places must name, and the solid that they describe.
 #![tactic(auto)]
 
 mod faces;

@@ -163,7 +163,7 @@ impl Numbering {
         replace(&mut self.edges, Edges::new(alloc))
     }
 
-    /// Begins again, with no edge and no vertex used. The slots are kept: what they tell of keys that aren't used is free.
+    /// Begins again, with no edge and no vertex used. The slots are kept: what they say of keys that aren't used is free.
     pub fn restart(&mut self, alloc: Global)
         ensures { self.new ≡ record { keys = record { edges = []; vertices = [] }; edges = [] } }
     {

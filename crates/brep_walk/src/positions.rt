@@ -1,4 +1,4 @@
-//! Where numbers stand in a list.
+//! Where numbers are in a list.
 
 ghost use Rattle.std.specs.Prelude.{◌≡◌, ◌≢◌, [], ℕ, slice_index, IfOk, OnOk, OnErr};
 
@@ -6,8 +6,8 @@ use iges_fields::NoMemory;
 use std::alloc::Global;
 use std::marker::Model;
 
-/// For each number a position in a list, found by one load. Whoever looks one up tests that the number stands there, so
-/// that what is told of a number that the list hasn't got is free, and nothing has to be undone when the list is cleared.
+/// For each number a position in a list, found by one load. Whoever looks one up tests that the number is there, so
+/// that what is said of a number that the list hasn't got is free, and nothing has to be undone when the list is cleared.
 #[derive(Drop)]
 pub struct Positions {
     by_number: Vec<u32>,

@@ -27,7 +27,7 @@ fn bad_layout(named: &Named<'_>) -> Failing
     place.fails(Rule::BadLayout)
 }
 
-/// The solid that the number at a place names, by its entry and what its record tells.
+/// The solid that the number at a place names, by its entry and what its record describes.
 pub fn solid_at(file: &File, at: Place, number: i64) -> Result<(EntryNo, SolidRecord<'_>), Failing>
     ensures holds { OnOk result (AllHold (record_places file.now
         (pos at.entity.0) at.item solid number)) }

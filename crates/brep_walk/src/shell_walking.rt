@@ -54,7 +54,7 @@ fn shell_values(file: &File, no: EntryNo) -> Result<&Values, Failing>
     Ok(values)
 }
 
-// The shell that the entry's record tells.
+// The shell that the entry's record describes.
 fn shell_record(file: &File, no: EntryNo) -> Result<ShellRecord<'_>, Failing>
     ensures holds { OnOk result (AllHold (shell_record_places file.now no.0)) }
     ensures listed { IfOk result (λ listed. listed ≡ faces file.now (pos no.0)) }

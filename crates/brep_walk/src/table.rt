@@ -7,7 +7,7 @@ use iges_fields::{EntryNo, NoMemory};
 use std::alloc::Global;
 use std::marker::Model;
 
-/// Lists that were looked at, by the entries that they stand in. Where an entry is kept twice, the later one is found.
+/// Lists that were looked at, by the entries that they are in. Where an entry is kept twice, the later one is found.
 #[derive(Drop)]
 pub struct ListTable<T> {
     lists: Vec<(EntryNo, T)>,

@@ -41,7 +41,7 @@ impl<'a> Walker<'a> {
         }
     }
 
-    /// The solid of an entry, as `walk` tells it. After a fault the walker serves for other solids.
+    /// The solid of an entry, as `walk` gives it. After a fault the walker serves for other solids.
     pub fn walk(&mut self, alloc: Global, no: EntryNo) -> Result<Solid, WalkFault>
         ensures file { self.new ≡ self.old }
         ensures solid { IfOk result (λ s. s ≡ solid_of self.old no.0) }

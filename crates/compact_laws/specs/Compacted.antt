@@ -50,7 +50,7 @@ ranked_verdict g (Fails x) = Fails (ranked_failing g x)
 abbrev pub compacted_verdict : (f : Contents) (n : ℕ) (new : Contents) → IsCompacted f n new → Verdict → Verdict
 compacted_verdict f n new c v = renamed_verdict c.again.kept (ranked_verdict c.«between» (renamed_verdict c.extracted.kept v))
 
--- The compacted file tells the solid of the file, with each directory number renamed by the two extractions and each list index by its rank.
+-- The compacted file describes the solid of the file, with each directory number renamed by the two extractions and each list index by its rank.
 abbrev pub SolidIsCompacted : Type 0
 SolidIsCompacted = (f : Contents) (n : ℕ) (new : Contents) (c : IsCompacted f n new) → IsRelabelled (compacted_names f n new c) (solid_of f n) (solid_of new (number_after f n new c n))
 

@@ -16,7 +16,7 @@ pub fn verdict_is_ranked()
     ensures { VerdictIsRanked }
 {}
 
-/// The compacted file tells the solid of its file, with each directory number renamed by the two extractions and each
+/// The compacted file describes the solid of its file, with each directory number renamed by the two extractions and each
 /// list index by its rank (own).
 pub fn solid_is_compacted()
     ensures { SolidIsCompacted }

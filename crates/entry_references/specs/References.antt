@@ -27,7 +27,7 @@ pub record AreReferences (f : Contents) (m : ℕ) (nos : List EntryNo) : Type 0 
 abbrev pub HasFault : Contents → ℕ → ExtractReason → Type 0
 HasFault f m due = (r : Record) × (named f (pos m) ≡ Some r) × (entry_fault f r ≡ Some due)
 
--- it is the one told, unless memory ran out
+-- it is the one reported, unless memory ran out
 abbrev pub IsRefFault : Contents → ℕ → RefFault → Type 0
 IsRefFault f m fault.Unlisted = HasFault f m reason.Unlisted
 IsRefFault f m fault.Layout = HasFault f m reason.Layout

@@ -39,7 +39,7 @@ group_at values =
     let n = unwrap_or (count_of count) 0 in
     record { count = count; pointers = take n (drop 1 values); rest = drop n (drop 1 values) }
 
--- the two groups behind the own values
+-- the two groups after the own values
 abbrev pub first_group : Own → List Value → Group
 first_group own values = group_at (drop own.count values)
 

@@ -1,4 +1,4 @@
--- How the values of a record stand.
+-- How the values of a record are laid out.
 use Rattle.std.specs.Prelude.{◌≡◌, ◌+◌, ◌^◌, ◌<◌, true, false, Some}
 use Rattle.entry_references.specs.declared.fault.RefFault.{RefFault}
 use Rattle.entry_references.specs.declared.fault.RefFault.TheVariants as fault
@@ -7,7 +7,7 @@ use Rattle.entry_references.specs.GroupPlaces.{group_between}
 use Rattle.entry_references.specs.Layout.{Own}
 use Rattle.entry_references.specs.Refs.{Record, is_listed, has_layout, own_of, second_group, are_groups}
 
--- these are its own values, and there stands its second group
+-- these are its own values, and there is its second group
 pub record HasShape (r : Record) (own : Own) (names : Between) : Type 0 where
   pub listed : is_listed r ≡ true
   pub own_values : own_of r ≡ Some own

@@ -1,14 +1,14 @@
-//! Why references aren't told.
+//! Why references aren't given.
 
 use iges_fields::NoMemory;
 use std::alloc::{AllocError, AllocFailed};
 
-/// Why the references of an entry aren't told (own). Of the first three the first that holds is told.
+/// Why the references of an entry aren't given (own). Of the first three the first that holds is reported.
 #[derive(Clone, Copy, Debug, PartialEq, Eq)]
 pub enum RefFault {
     /// The type of the entry isn't one that extraction follows.
     Unlisted,
-    /// The values of the record don't stand as its type has them.
+    /// The values of the record aren't laid out as its type has them.
     Layout,
     /// A pointer of the entry names no entry.
     Dangling,
@@ -23,7 +23,7 @@ pub enum ExtractReason {
     NotSolid,
     /// The type of the entity isn't one that extraction follows.
     Unlisted,
-    /// The values of the entity's record don't stand as its type has them.
+    /// The values of the entity's record aren't laid out as its type has them.
     Layout,
     /// A pointer of the entity names no entry.
     Dangling,

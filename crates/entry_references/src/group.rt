@@ -1,4 +1,4 @@
-//! The groups of pointers behind the own values.
+//! The groups of pointers after the own values.
 
 ghost use Rattle.entry_references.specs.GroupPlaces.{group_between};
 ghost use Rattle.entry_references.specs.Layout.{is_pointer};
@@ -14,7 +14,7 @@ use iges_fields::{Value, Values};
 /// A group of pointers (IGES 5.3, 2.2.4.5.2).
 #[derive(Clone, Copy)]
 pub struct Group {
-    /// How many values stand before the first pointer.
+    /// How many values come before the first pointer.
     pub before: usize,
     /// How many pointers there are, of which some may be missing at the record's end.
     pub count: usize,
@@ -43,7 +43,7 @@ fn is_left_out(value: &Value) -> bool
     matches!(value, Value::Default)
 }
 
-// Whether only left-out values stand behind so many values.
+// Whether only left-out values come after so many values.
 fn are_left_out(values: &Values, before: usize) -> bool
     ensures { result ≡ list_all is_left_out (drop before values.now) }
 {
@@ -57,7 +57,7 @@ fn are_left_out(values: &Values, before: usize) -> bool
     true
 }
 
-// The group that stands behind so many values.
+// The group that comes after so many values.
 fn group_at(values: &Values, before: usize) -> Option<Group>
     requires small { before ≤ 3 * FILE_LIMIT }
     requires few { length values.now ≤ FILE_LIMIT }
@@ -75,7 +75,7 @@ fn group_at(values: &Values, before: usize) -> Option<Group>
     })
 }
 
-/// The second of the two groups behind the own values, where nothing else stands there; a group may be missing (own).
+/// The second of the two groups after the own values, where nothing else is there; a group may be missing (own).
 pub fn second_group(own: &Own, values: &Values) -> Option<Group>
     requires { length values.now ≤ FILE_LIMIT }
     ensures { MatchOption result (are_groups own.now values.now ≡ false)

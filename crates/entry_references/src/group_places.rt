@@ -22,7 +22,7 @@ fn push_group(
     Ok(())
 }
 
-/// Puts the places, from 1, of pointers in so many groups of a size that stand from a place on. In each group the
+/// Puts the places, from 1, of pointers in so many groups of a size that begin at a place. In each group the
 /// pointers have these places, from 0.
 pub fn push_groups(
     places: &mut ItemList<usize>,
@@ -45,7 +45,7 @@ pub fn push_groups(
     Ok(())
 }
 
-// Puts the places of pointers in a tuple of a loop that stands from a place on, and gives the place behind it.
+// Puts the places of pointers in a tuple of a loop that begins at a place, and gives the place after it.
 fn push_tuple(
     places: &mut ItemList<usize>,
     first: usize,
@@ -62,7 +62,7 @@ fn push_tuple(
     Ok(first + 5 + curves * 2)
 }
 
-/// Puts the places, from 1, of pointers in the tuples of a loop that stand from a place on, and gives the place behind
+/// Puts the places, from 1, of pointers in the tuples of a loop that begin at a place, and gives the place after
 /// them.
 pub fn push_tuples(
     places: &mut ItemList<usize>,

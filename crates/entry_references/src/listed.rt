@@ -36,7 +36,7 @@ pub fn type_of(entry: &Entry) -> Option<ListedType>
     }
 }
 
-/// The own values of a record of a type; None where the record doesn't stand by it.
+/// The own values of a record of a type; None where the record doesn't fit it.
 pub fn own_of(alloc: Global, listed: ListedType, values: &Values) -> Result<Option<Own>, NoMemory>
     requires { length values.now ≤ FILE_LIMIT }
     ensures { IfOk result (λ own. own ≡ own_by_type listed values.now) }

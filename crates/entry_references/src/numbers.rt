@@ -95,7 +95,7 @@ fn matrix_of(entry: &Entry) -> Option<i64>
     Some(entry.matrix)
 }
 
-// The entry that tells the colour, where one does: its number stands there negated (IGES 5.3, 2.2.4.4.13).
+// The entry that gives the colour, where one does: its number is there negated (IGES 5.3, 2.2.4.4.13).
 fn colour_of(entry: &Entry) -> Option<i64>
     requires { IsBounded entry.now }
     ensures { option_to_list result ≡ colour_of entry.now }

@@ -9,7 +9,7 @@ use iges_fields::{ItemList, NoMemory, Values};
 use std::alloc::Global;
 use std::marker::Model;
 
-/// How many values of a record are its own, which stand before the groups of pointers (IGES 5.3, 2.2.4.5.2), and the
+/// How many values of a record are its own, which come before the groups of pointers (IGES 5.3, 2.2.4.5.2), and the
 /// places of pointers among them, from 1: of those that are followed, and of those that are cut (own).
 #[derive(Drop)]
 pub struct Own {
@@ -52,7 +52,7 @@ impl Own {
         }
     }
 
-    /// The own values, where pointers may stand in all places of pointers.
+    /// The own values, where pointers may be in all places of pointers.
     pub fn checked(self, values: &Values) -> Option<Own>
         ensures { result ≡ if list_all (λ k. is_pointer (value_at values.now k)) (self.pointers
             ++ self.cut) then Some self else None }
@@ -78,7 +78,7 @@ pub fn places(alloc: Global, listed: &[usize]) -> Result<ItemList<usize>, NoMemo
     Ok(list)
 }
 
-/// So many places from the first on, one behind the other.
+/// So many places from the first on, one after the other.
 pub fn places_from(alloc: Global, first: usize, count: usize) -> Result<ItemList<usize>, NoMemory>
     requires { first + count < 2 ^ 64 }
     ensures { IfOk result (λ list. list ≡ range_with_len first count) }

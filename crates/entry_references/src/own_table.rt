@@ -13,7 +13,7 @@ use crate::place::{PointForm, count_in, form_in};
 use iges_fields::{NoMemory, Values};
 use std::alloc::Global;
 
-// A row with so many values (IGES 5.3, chapter 4; the section of each type stands in the table).
+// A row with so many values (IGES 5.3, chapter 4; the section of each type is in the table).
 fn with_fixed(
     alloc: Global,
     values: &Values,
@@ -38,7 +38,7 @@ fn of_composite_curve(alloc: Global, values: &Values) -> Result<Option<Own>, NoM
     Ok(own.checked(values))
 }
 
-// How many values tell so many points.
+// How many values so many points have.
 fn point_values(form: PointForm, points: usize) -> usize
     requires { points ≤ FILE_LIMIT }
     ensures is { result ≡ if form_number form == 1 then 1 + 2 * points
@@ -120,7 +120,7 @@ fn of_rational_surface(alloc: Global, values: &Values) -> Option<Own>
     ))
 }
 
-/// The own values by a layout (IGES 5.3, chapter 4); None where the record doesn't stand by it (own). Each count is at
+/// The own values by a layout (IGES 5.3, chapter 4); None where the record doesn't fit it (own). Each count is at
 /// most the number of values, so that no product passes 64 bits.
 pub fn own_in(alloc: Global, layout: Layout, values: &Values) -> Result<Option<Own>, NoMemory>
     requires { length values.now ≤ FILE_LIMIT }

@@ -27,7 +27,7 @@ fn count_of(value: &Value) -> Option<usize>
     }
 }
 
-/// The count in a place, from 1, where it may stand there: one that is left out or missing is 0, and none is greater
+/// The count in a place, from 1, where it may be there: one that is left out or missing is 0, and none is greater
 /// than the number of values.
 pub fn count_in(values: &Values, place: usize) -> Option<usize>
     ensures { MatchOption result (is_count values.now (value_at values.now place) ≡ false)
@@ -43,7 +43,7 @@ pub fn count_in(values: &Values, place: usize) -> Option<usize>
     }
 }
 
-/// How each point of copious data is told (IGES 5.3, 4.6).
+/// How each point of copious data is given (IGES 5.3, 4.6).
 #[derive(Clone, Copy, Debug, PartialEq, Eq)]
 pub enum PointForm {
     /// Two coordinates, beside a third that all points share; written 1.
@@ -91,7 +91,7 @@ fn is_pointer_in(values: &Values, place: usize) -> bool
     }
 }
 
-/// Whether pointers may stand in all these places, from 1.
+/// Whether pointers may be in all these places, from 1.
 pub fn are_pointers(values: &Values, places: &[usize]) -> bool
     ensures { result ≡ list_all (λ k. is_pointer (value_at values.now k)) places.now }
 {

@@ -1,4 +1,4 @@
-//! How the values of a record stand, and the numbers that its entry refers to.
+//! How the values of a record are laid out, and the numbers that its entry refers to.
 
 ghost use Rattle.entry_references.specs.Answered.{GivesRefs};
 ghost use Rattle.entry_references.specs.Refs.{refs};
@@ -17,16 +17,16 @@ use iges_fields::{ItemList, Values};
 use iges_params::File;
 use std::alloc::Global;
 
-/// How the values of a record stand (own).
+/// How the values of a record are laid out (own).
 #[derive(Drop)]
 pub struct Shape {
     /// The own values.
     pub own: Own,
-    /// The second of the groups behind them, in which names stand.
+    /// The second of the groups after them, in which names are.
     pub names: Group,
 }
 
-/// How the values of a record stand, or the first of the faults that they have (own).
+/// How the values of a record are laid out, or the first of the faults that they have (own).
 pub fn shape_of(alloc: Global, entry: &Entry, values: &Values) -> Result<Shape, RefFault>
     requires { length values.now ≤ FILE_LIMIT }
     ensures ok { IfOk result (λ shape. HasShape (entry.now, values.now) shape.own shape.names) }

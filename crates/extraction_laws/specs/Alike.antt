@@ -3,7 +3,7 @@ use Rattle.std.specs.Prelude.{◌≡◌, ◌↔◌, List, [], ◌∷◌, ⊤}
 use Rattle.solid_data.specs.Obligations.{Obligation, AllHold, FirstFalse}
 use Rattle.solid_data.specs.declared.verdict.Failing.{Failing}
 
--- Item by item Q relates what they name, and the one holds where the other does. What stands behind a false one speaks of nothing, and isn't compared.
+-- Item by item Q relates what they name, and the one holds where the other does. What comes after a false one speaks of nothing, and isn't compared.
 abbrev pub FailAlike : (Failing → Failing → Type 0) → List Obligation → List Obligation → Type 0
 FailAlike Q [] [] = ⊤
 FailAlike Q [] (q ∷ qs) = ⊥

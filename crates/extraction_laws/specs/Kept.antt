@@ -1,4 +1,4 @@
--- What extraction keeps of a solid: its places, what its records tell, and its verdict.
+-- What extraction keeps of a solid: its places, what its records describe, and its verdict.
 use Rattle.std.specs.Prelude.{◌≡◌, ◌↔◌, ℕ, List, Contains}
 use Rattle.iges_params.specs.Contents.{Contents}
 use Rattle.brep_walk.specs.Places.{places}
@@ -35,6 +35,6 @@ PlacesAreAlike = (f new : Contents) (n : ℕ) (x : IsExtracted f n new) → Fail
 abbrev pub PlacesAreKept : Type 0
 PlacesAreKept = (f new : Contents) (n : ℕ) (x : IsExtracted f n new) → KeepsVerdict x.kept (places f n) (places new (new_number x.kept n))
 
--- Where the places hold, the extracted file tells the solid that its file told, with each number renamed.
+-- Where the places hold, the extracted file describes the solid that its file described, with each number renamed.
 abbrev pub SolidIsKept : Type 0
 SolidIsKept = (f new : Contents) (n : ℕ) (x : IsExtracted f n new) → AllHold (places f n) → IsRelabelled (kept_names x.kept) (solid_of f n) (solid_of new (new_number x.kept n))

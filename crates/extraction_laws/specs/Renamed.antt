@@ -45,6 +45,6 @@ pub record IsOneToOne (r : Renaming) : Type 0 where
   pub edge : (a b : EdgeKey) → r.edge a ≡ r.edge b → a ≡ b
   pub vertex : (a b : VertexKey) → r.vertex a ≡ r.vertex b → a ≡ b
 
--- Where no two names become one, the new name of a place tells which place failed.
+-- Where no two names become one, the new name of a place says which place failed.
 abbrev pub RenamedTellsPlace : Type 0
 RenamedTellsPlace = (r : Renaming) (s t : SolidData) → IsOneToOne r → IsRelabelled (new_names r) s t → (x : Failing) → FirstFalse (solid_obligations t) (under_new_name r x) → FirstFalse (solid_obligations s) x

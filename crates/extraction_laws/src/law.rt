@@ -6,8 +6,8 @@ ghost use Rattle.extraction_laws.specs.Renamed.{RenamedFailAlike, RenamedKeepsVe
 ghost use Rattle.extraction_laws.specs.Written.{ExtractedIsWritable, WrittenAgain, WrittenIsExtracted, WrittenKeepsVerdict};
 
 /// Solids that differ only in the names of entities, edges and vertices, list and index, fail the rules of a closed
-/// shell at the same loops, edges, faces and vertices: the rules read names only to tell what fails. Where no two names
-/// become one, the new name of what fails tells the old one. (own)
+/// shell at the same loops, edges, faces and vertices: the rules read names only to say what fails. Where no two names
+/// become one, the new name of what fails gives the old one. (own)
 pub fn relabelled_solids_fail_alike()
     ensures items { RenamedFailAlike }
     ensures verdict { RenamedKeepsVerdict }
@@ -21,7 +21,7 @@ pub fn places_are_kept()
     ensures verdict { PlacesAreKept }
 {}
 
-/// Where the places of a solid hold, its extracted file tells the same solid, with directory numbers renamed. (own)
+/// Where the places of a solid hold, its extracted file describes the same solid, with directory numbers renamed. (own)
 pub fn solid_is_kept()
     ensures { SolidIsKept }
 {}

@@ -6,7 +6,7 @@ use iges_lines::{LineFault, Reason, Sections};
 use std::alloc::Global;
 use std::test::Fail;
 
-// A file of one entry, in front of the type in the entry's second line, and behind it.
+// A file of one entry, in front of the type in the entry's second line, and after it.
 const FRONT: &[u8] =
     b"tiny                                                                    S      1\n1H,,1H;;                                                                G      1\n     186       1       0       0       0       0       0       000000000D      1\n";
 

@@ -141,7 +141,7 @@ fn a_column_is_padded(rt: HostRuntime) {
     same(&rt, &column_number(b"1 1"), &None);
 }
 
-// A text that begins with x, with a number and two values behind it.
+// A text that begins with x, with a number and two values after it.
 fn written(alloc: Global) -> Result<Bytes, Fail> {
     let mut out = Out::new(alloc);
     out.put(b"x")?;

@@ -1,4 +1,4 @@
--- Bytes that stand in lines, which hold no LF.
+-- Bytes that lie in lines, which hold no LF.
 use Rattle.std.specs.Prelude.{ℕ, Bool, not, ◌==◌, List}
 use Rattle.std.specs.List.{list_all}
 

@@ -26,7 +26,7 @@ first_fields line = are_numbers (1 ∷ 2 ∷ 3 ∷ 4 ∷ 5 ∷ 6 ∷ 7 ∷ 8 ∷
 abbrev pub second_fields : List ℕ → Bool
 second_fields line = are_numbers (1 ∷ 2 ∷ 3 ∷ 4 ∷ 5 ∷ 9 ∷ []) line
 
--- the tests of an entry's first line; only the last line of a directory has none behind it
+-- the tests of an entry's first line; only the last line of a directory has none after it
 abbrev pub first_tests : Bool → List ℕ → List (Bool × Reason)
 first_tests is_last line = (not is_last, Unpaired) ∷ (first_fields line, Field) ∷ []
 

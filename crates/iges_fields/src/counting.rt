@@ -1,4 +1,4 @@
-//! How often a byte stands in a text, eight bytes at a time.
+//! How often a byte occurs in a text, eight bytes at a time.
 
 ghost use Rattle.std.specs.Prelude.{◌≡◌, length};
 
@@ -31,7 +31,7 @@ fn count_one_by_one(text: &[u8], byte: u8) -> usize {
     count
 }
 
-/// How often the byte stands in the text. No more than a guess is promised, by which room is taken.
+/// How often the byte occurs in the text. No more than a guess is promised, by which room is taken.
 pub fn about_count(text: &[u8], byte: u8) -> usize {
     let pattern = ONES.wrapping_mul(u64::from(byte));
     let mut count: usize = 0;

@@ -52,7 +52,7 @@ fn whole_kind(word: &[u8], value: u64) -> WordKind
     }
 }
 
-/// The kind of a word that has only digits and points behind its sign, where these are the mantissa.
+/// The kind of a word that has only digits and points after its sign, where these are the mantissa.
 pub fn plain_kind(word: &[u8], mantissa: &Mantissa) -> WordKind
     requires mantissa { IsMantissa (without_leading_sign word.now) mantissa.now }
     requires all { mantissa.now.len ≡ length (without_leading_sign word.now) }

@@ -12,7 +12,7 @@ pub struct Mantissa {
     pub len: usize,
     /// How many of them are points.
     pub points: usize,
-    /// The number that they write where none is a point, which stands still at the first past 2^63.
+    /// The number that they write where none is a point, which stays at the first past 2^63.
     pub value: u64,
 }
 

@@ -1,4 +1,4 @@
-//! Integers that are written by digits alone, behind which a delimiter stands: most items of a file are these.
+//! Integers that are written by digits alone, after which a delimiter comes: most items of a file are these.
 
 ghost use Rattle.iges_fields.specs.declared.value.Value.TheVariants as value;
 ghost use Rattle.iges_fields.specs.Delims.{are_permitted};
@@ -35,7 +35,7 @@ fn digits_of(text: &[u8]) -> Digits
     Digits { len, value }
 }
 
-/// The integer at the front of the text, where digits alone write it, and what stands from its delimiter on. None says
+/// The integer at the front of the text, where digits alone write it, and the text from its delimiter on. None says
 /// nothing of the text.
 #[inline(always)]
 pub fn plain_integer<'t>(delims: &Delimiters, text: &'t [u8]) -> Option<(i64, &'t [u8])>

@@ -7,7 +7,7 @@ use iges_base::{ItemList, NoMemory};
 use std::alloc::Global;
 use std::marker::Model;
 
-/// The values of a free text in their order, of which no text holds an LF: a free text stands in lines
+/// The values of a free text in their order, of which no text holds an LF: a free text lies in lines
 /// (IGES 5.3, 2.2.3).
 #[derive(Debug, Drop)]
 pub struct Values {

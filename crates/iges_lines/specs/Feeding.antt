@@ -32,7 +32,7 @@ pub record FailsAt (ls : List (List ℕ)) (fault : LineFault) : Type 0 where
 abbrev pub AreTaken : List (List ℕ) → Taken → Type 0
 AreTaken ls t = MatchOption t.fault (ArePassed ls t) (FailsAt ls)
 
--- The bytes are lines that were taken, each ended by an LF, and a rest. Behind a fault the rest isn't kept.
+-- The bytes are lines that were taken, each ended by an LF, and a rest. After a fault the rest isn't kept.
 pub record StandsFor (t : Taken) (rest bytes : List ℕ) : Type 0 where
   pub pieces : List (List ℕ)
   pub more : List ℕ
@@ -40,7 +40,7 @@ pub record StandsFor (t : Taken) (rest bytes : List ℕ) : Type 0 where
   pub taken : AreTaken (map strip_carriage_return pieces) t
   pub still : t.fault ≡ None → (more ≡ rest) × IsTrue (is_in_line rest)
 
--- what a feed keeps: the lines that were taken, the rest behind the last LF, and how many bytes came
+-- what a feed keeps: the lines that were taken, the rest after the last LF, and how many bytes came
 pub record Fed : Type 0 where
   pub taken : Taken
   pub rest : List ℕ

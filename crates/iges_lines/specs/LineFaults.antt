@@ -45,7 +45,7 @@ line_tests s line = tests_at s (section_place (letter line)) line
 abbrev pub is_terminated : List (List ℕ) → Bool
 is_terminated before = list_any (λ l. letter l == letter_T) before
 
--- What is wrong with a line, or with the end, where these lines stand before it. Behind the T line only After is judged.
+-- What is wrong with a line, or with the end, where these lines come before it. After the T line only After is judged.
 abbrev pub fault_behind : List (List ℕ) → Option (List ℕ) → Option Reason
 fault_behind before None = if is_terminated before then None else Some Missing
 fault_behind before (Some line) = first_failing (if is_terminated before then (is_blank line, After) ∷ [] else line_tests (sections_of before) line)

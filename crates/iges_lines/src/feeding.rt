@@ -20,7 +20,7 @@ use std::alloc::Global;
 use std::marker::Model;
 
 /// The lines of a file that comes piece by piece (IGES 5.3, 2.2.4). A line is judged as soon as its LF has come, and
-/// behind the first that fails no more are kept (own).
+/// after the first that fails no more are kept (own).
 #[derive(Drop)]
 pub struct LineFeed {
     alloc: Global,
@@ -73,7 +73,7 @@ fn take_joined(
     taken.take(stripped(line.as_slice()))
 }
 
-// Takes the lines that have ended, and gives the rest behind them.
+// Takes the lines that have ended, and gives the rest after them.
 fn take_piece(
     alloc: Global,
     taken: &mut TakenLines,

@@ -8,7 +8,7 @@ use std::marker::Model;
 /// The bytes of a line.
 pub const WIDTH: usize = 80;
 
-/// Lines of 80 bytes, one behind the other.
+/// Lines of 80 bytes, one after the other.
 #[derive(Drop)]
 pub struct LineList {
     text: Vec<u8>,
@@ -64,7 +64,7 @@ impl LineList {
         Ok(())
     }
 
-    /// Takes off the lines behind the first ones.
+    /// Takes off the lines after the first ones.
     pub fn truncate(&mut self, count: usize)
         ensures { self.new ≡ take count self.old }
     {

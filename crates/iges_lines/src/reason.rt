@@ -13,11 +13,11 @@ pub enum Reason {
     Letter = 3,
     /// Columns 74 to 80 don't hold the line's place in its section.
     Number = 4,
-    /// The terminate line doesn't tell the numbers of lines of the sections.
+    /// The terminate line doesn't give the numbers of lines of the sections.
     Counts = 5,
     /// A section that must come hasn't come.
     Missing = 6,
-    /// Something stands behind the terminate line.
+    /// Something comes after the terminate line.
     After = 7,
     /// A directory entry has one line alone.
     Unpaired = 8,

@@ -215,7 +215,7 @@ impl SectionTable {
         }
     }
 
-    /// Takes off the lines of each section behind so many.
+    /// Takes off the lines of each section after so many.
     pub fn truncate(&mut self, counts: LineCounts)
         ensures { self.new
             ≡ record { start = take counts.start self.old.start; global = take counts.global self.old.global; directory = take counts.directory self.old.directory; param = take counts.param self.old.param } }

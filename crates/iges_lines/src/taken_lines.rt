@@ -91,7 +91,7 @@ impl TakenLines {
         }
     }
 
-    /// Takes off the lines behind the mark.
+    /// Takes off the lines after the mark.
     pub fn go_back(&mut self, mark: Mark)
         ensures { (t : Taken) → mark ≡ mark_of t → Extends t.sections self.old.sections
             → self.new ≡ t }
@@ -126,7 +126,7 @@ impl TakenLines {
         Ok(())
     }
 
-    /// Takes the lines that have ended, and gives what is behind them. Behind a line that fails none is taken, and nothing is
+    /// Takes the lines that have ended, and gives what is after them. After a line that fails none is taken, and nothing is
     /// left.
     pub fn take_ended<'b>(&mut self, bytes: &'b [u8]) -> Result<&'b [u8], NoMemory>
         requires { self.old.number + length bytes.now < 2 ^ 63 }

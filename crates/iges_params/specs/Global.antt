@@ -16,13 +16,13 @@ use Rattle.iges_params.specs.declared.kinds.Kind.TheVariants.{Text, Integer, Rea
 
 -- ---- the delimiters
 
--- Behind spaces `1Hx` names x. Where it doesn't stand there the default is meant. Beside the delimiter: what follows.
+-- After spaces `1Hx` names x. Where it isn't there the default is meant. Beside the delimiter: what follows.
 abbrev pub delimiter_at : ℕ → List ℕ → ℕ × List ℕ
 delimiter_at default text =
     let front = after_spaces text in
     if starts_with nat_eq front (codes "1H") && nat_lt 2 (length front) then (slice_index front 2, drop 3 front) else (default, front)
 
--- what stands behind spaces and this byte, if it stands there
+-- what comes after spaces and this byte, if it is there
 abbrev pub behind_byte : ℕ → List ℕ → Option (List ℕ)
 behind_byte b text = let front = after_spaces text in if begins_with (nat_eq b) front then Some (drop 1 front) else None
 
@@ -31,7 +31,7 @@ pub record Head : Type 0 where
   pub delims : Delims
   pub values : Option (List ℕ)
 
--- behind the delimiter r: p and the values, or r and a comment
+-- after the delimiter r: p and the values, or r and a comment
 abbrev pub head_end : ℕ → ℕ → Option (List ℕ) → Option (List ℕ) → Option Head
 head_end p r (Some values) _ = Some (record { delims = record { param = p; end = r }; values = Some values })
 head_end p r None (Some comment) = Some (record { delims = record { param = p; end = r }; values = None })
@@ -40,7 +40,7 @@ head_end p r None None = None
 abbrev pub head_with : ℕ → List ℕ → Option Head
 head_with p text = let r = delimiter_at 59 text in head_end p r.0 (behind_byte p r.1) (behind_byte r.0 r.1)
 
--- behind the delimiter p: p and the delimiter r, or a semicolon and a comment
+-- after the delimiter p: p and the delimiter r, or a semicolon and a comment
 abbrev pub head_start : ℕ → Option (List ℕ) → Option (List ℕ) → Option Head
 head_start p (Some rest) _ = head_with p rest
 head_start p None (Some comment) = Some (record { delims = record { param = p; end = 59 }; values = None })

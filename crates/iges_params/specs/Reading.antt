@@ -27,7 +27,7 @@ abbrev pub at_line : {X : Type 0} → ℕ → ℕ → List ℕ → ℕ → Reaso
 at_line first width text before reason (Ok x) = Ok x
 at_line first width text before reason (Err fault) = fault_at (first + line_of_byte width text (before + fault.at)) reason
 
--- the values of a text that stands at the end of these columns, in lines of this width, the first of which has this number
+-- the values of a text that is at the end of these columns, in lines of this width, the first of which has this number
 unfoldable pub read_passage : ℕ → ℕ → List ℕ → Reason → Delims → List ℕ → Result (List Value) LineFault
 read_passage first width columns reason d text = at_line first width columns (length columns - length text) reason (read_values d text) >>= λ x. Ok x.0
 
@@ -39,7 +39,7 @@ abbrev pub global_with : ℕ → List ℕ → Delims → Option (List ℕ) → R
 global_with first text d None = with_kinds first d []
 global_with first text d (Some rest) = at_line first 72 text (length text - length rest) GlobalValue (read_values d rest) >>= λ x. with_kinds first d x.0
 
--- the values behind a head
+-- the values after a head
 abbrev pub head_values : ℕ → List ℕ → Delims → Option (List ℕ) → Result (List Value) LineFault
 head_values first text d None = Ok []
 head_values first text d (Some rest) = read_passage first 72 text GlobalValue d rest
@@ -60,13 +60,13 @@ values_unless params d first p (Some line) = fault_at (first + line) BackPointer
 values_unless params d first p None =
     at_line first 64 (record_text params p) 0 RecordValue (read_values d (record_text params p)) >>= λ x. without_type first p.entry.kind x.0
 
--- the values of an entry's record, where this many lines stand before the P lines
+-- the values of an entry's record, where this many lines come before the P lines
 unfoldable pub read_record : ℕ → List (List ℕ) → Delims → ℕ → Placed → Result (List Value) LineFault
 read_record above params d number p =
     if int_eq p.entry.kind (pos 0) then Ok []
     else values_unless params d (above + unsigned_abs p.first) p (position_from (λ l. not (points_back number l)) 0 (record_lines params p))
 
--- how many lines stand before the P lines
+-- how many lines come before the P lines
 abbrev pub above : SectionLines → ℕ
 above s = length s.start + length s.global + length s.directory
 

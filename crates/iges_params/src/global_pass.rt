@@ -14,7 +14,7 @@ use iges_fields::{Delimiters, Values};
 use iges_lines::{PassFault, Reason, Sections};
 use std::alloc::Global;
 
-// The values behind a head of the text.
+// The values after a head of the text.
 fn head_values(
     alloc: Global,
     text: &[u8],

@@ -12,7 +12,7 @@ pub struct Head<'t> {
     pub values: Option<&'t [u8]>,
 }
 
-// Behind spaces, `1H` and a byte name the byte as a delimiter; else the default is meant. With it, what follows.
+// After spaces, `1H` and a byte name the byte as a delimiter; else the default is meant. With it, what follows.
 fn delimiter_at(default: u8, text: &[u8]) -> (u8, &[u8])
     ensures byte { result.0 ≡ (delimiter_at default text.now).0 }
     ensures rest { result.1.now ≡ (delimiter_at default text.now).1 }
@@ -24,7 +24,7 @@ fn delimiter_at(default: u8, text: &[u8]) -> (u8, &[u8])
     }
 }
 
-// What stands behind spaces and the byte, if it stands there.
+// What comes after spaces and the byte, if it is there.
 fn behind_byte(byte: u8, text: &[u8]) -> Option<&[u8]>
     ensures { option_copied result ≡ behind_byte byte text.now }
 {
@@ -43,7 +43,7 @@ fn permitted(param: u8, end: u8, values: Option<&[u8]>) -> Option<Head<'_>>
     Some(Head { delims, values })
 }
 
-// The head of a text behind the parameter delimiter.
+// The head of a text after the parameter delimiter.
 fn head_with(param: u8, text: &[u8]) -> Option<Head<'_>>
     ensures { IsHead result (if_permitted (head_with param text.now)) }
 {

@@ -9,7 +9,7 @@ use iges_fields::{Delimiters, Value, Values, ValuesFault, parted_values, values}
 use iges_lines::{LineFault, PassFault, Reason};
 use std::alloc::Global;
 
-/// A free text at the end of the columns that it stands in, which are joined line by line.
+/// A free text at the end of the columns that it lies in, which are joined line by line.
 #[derive(Clone, Copy, Debug)]
 pub struct Passage<'t> {
     /// The free columns of whole lines, `width` bytes of each.

@@ -44,7 +44,7 @@ fn begun(alloc: Global, lines: &Sections, global: Global26) -> Result<File, NoMe
     Ok(file)
 }
 
-// The file with the entries and the values of their records, where so many lines stand above the parameter lines. The
+// The file with the entries and the values of their records, where so many lines come before the parameter lines. The
 // text of each record is put in place of `text`.
 fn filled(
     alloc: Global,
@@ -99,7 +99,7 @@ fn read_lines(alloc: Global, lines: &Sections) -> Result<File, ReadFileFault>
     }
 }
 
-// The same, of which the directory's lines aren't kept behind their pass.
+// The same, of which the directory's lines aren't kept after their pass.
 fn read_taken(alloc: Global, mut lines: Sections) -> Result<File, ReadFileFault>
     ensures { Gives result (read_lines lines) }
 {
@@ -115,7 +115,7 @@ fn read_taken(alloc: Global, mut lines: Sections) -> Result<File, ReadFileFault>
 }
 
 /// The file of the lines: global, directory and records are read in this order, and the first fault of the first pass
-/// that fails is told, with its line in the file, from 1 (own). It answers what `read_file` answers of any bytes that
+/// that fails is reported, with its line in the file, from 1 (own). It answers what `read_file` answers of any bytes that
 /// have these lines.
 pub fn read_sections(alloc: Global, lines: &Sections) -> Result<File, ReadFileFault>
     ensures found { (bytes : List ℕ) → IsSectioned bytes lines.now → IfOk result (IsFile bytes) }
@@ -142,7 +142,7 @@ pub fn take_sections(alloc: Global, lines: Sections) -> Result<File, ReadFileFau
 }
 
 /// The file that the bytes are (IGES 5.3, 2.2.4). Lines, global, directory and records are read in this order, and the
-/// first fault of the first pass that fails is told, with its line in the file, from 1 (own). Parameter lines that no
+/// first fault of the first pass that fails is reported, with its line in the file, from 1 (own). Parameter lines that no
 /// entry claims aren't read, and a value may cross a line (own).
 pub fn read_file(alloc: Global, bytes: &[u8]) -> Result<File, ReadFileFault>
     requires { length bytes.now ≤ FILE_LIMIT }

@@ -45,7 +45,7 @@ fn is_number(n: &i64, value: &Value) -> bool
     }
 }
 
-// A record's values behind its first, which must be the type number.
+// A record's values after its first, which must be the type number.
 fn behind_type(first: u64, kind: &i64, number: &Value, others: Values) -> Result<Values, PassFault>
     ensures { Gives result (without_type first kind.now (number.now ∷ others)) }
 {
@@ -55,7 +55,7 @@ fn behind_type(first: u64, kind: &i64, number: &Value, others: Values) -> Result
     Ok(others)
 }
 
-/// How many lines stand above the parameter lines.
+/// How many lines come before the parameter lines.
 pub fn lines_above(sections: &Sections) -> u64
     ensures is { result ≡ above sections.now }
     ensures few { 80 * (result + length sections.now.param) ≤ FILE_LIMIT }
@@ -112,7 +112,7 @@ fn used_values(
     behind_type(first, &placed.entry.kind, &number, others)
 }
 
-/// The values of the record of the entry with this number, none for type 0, where so many lines stand above the
+/// The values of the record of the entry with this number, none for type 0, where so many lines come before the
 /// parameter lines. The record's text, columns 1 to 64 of its lines (IGES 5.3, 2.2.4.5), is put in place of `text`.
 pub fn read_record(
     alloc: Global,

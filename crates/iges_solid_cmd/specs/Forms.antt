@@ -52,7 +52,7 @@ fits certificate w = true
 fits (number digits least greatest) w =
     are_digits w && nat_le (length w) digits && nat_le least (digits_value 10 w) && nat_le (digits_value 10 w) greatest
 
--- the words stand in the slots, one in each
+-- the words are in the slots, one in each
 abbrev pub all_fit : List Slot → List (List ℕ) → Bool
 all_fit slots words = nat_eq (length slots) (length words) && list_all (λ p. fits p.0 p.1) (zip slots words)
 
@@ -63,7 +63,7 @@ holds operand.Certificate certificate = true
 holds operand.Number (number digits least greatest) = true
 holds _ _ = false
 
--- the word that stands in the first slot for such
+-- the word that is in the first slot for such
 abbrev pub word_in : Operand → List Slot → List (List ℕ) → Option (List ℕ)
 word_in what slots words = option_and_then (slice_get words) (position (holds what) slots)
 

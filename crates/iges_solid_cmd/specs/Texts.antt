@@ -30,7 +30,7 @@ extract_word extracting.Dangling = codes "dangling"
 abbrev pub no_extract_line : ℕ → ExtractReason → List ℕ
 no_extract_line entity why = codes "no extract " ++ decimal entity ++ codes " " ++ extract_word why ++ codes "\n"
 
--- a word and a number, each behind a space
+-- a word and a number, each after a space
 abbrev pub counted : List ℕ → ℕ → List ℕ
 counted word n = codes " " ++ word ++ codes " " ++ decimal n
 

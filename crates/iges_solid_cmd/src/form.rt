@@ -172,7 +172,7 @@ fn word_at(words: &[String], place: usize) -> Option<&str>
 }
 
 impl Form {
-    // Whether the words stand in the slots, one in each.
+    // Whether the words are in the slots, one in each.
     fn fits(self, words: &[String]) -> bool
         ensures { result ≡ all_fit (form_meant self).slots (map string_bytes words.now) }
     {
@@ -192,7 +192,7 @@ impl Form {
         self.slots.get(place).copied()
     }
 
-    // The word that stands in the first slot for such.
+    // The word that is in the first slot for such.
     fn word<'a>(self, what: Operand, words: &'a [String]) -> Option<&'a str>
         ensures { MatchOption result (word_in what (form_meant self).slots
             (map string_bytes words.now) ≡ None) (λ word. word_in what (form_meant self).slots
@@ -202,7 +202,7 @@ impl Form {
         word_at(words, place)
     }
 
-    // The number among words that stand in the slots, where there is one.
+    // The number among words that are in the slots, where there is one.
     fn number(self, words: &[String]) -> Option<u32>
         ensures { all_fit (form_meant self).slots (map string_bytes words.now) ≡ true
             → result ≡ option_map (digits_value 10) (word_in Operand.Number (form_meant self).slots

@@ -136,7 +136,7 @@ fn line_of(
 }
 
 /// Makes the sample of so many times so many faces, forms its text, reads it, walks and certifies its solid, forms the
-/// certificate's text and checks that; tells the counts of the walked solid and the lengths of both texts.
+/// certificate's text and checks that; gives the counts of the walked solid and the lengths of both texts.
 pub fn certify_sample(alloc: Global, n: u32) -> Result<Reply, NoMemory>
     requires { IsSize n }
     ensures { IfOk result (λ reply. OfSample n reply.answer reply.text) }

@@ -10,7 +10,7 @@ use iges_params::File;
 use solid_data::{FaceUse, Shell, ShellAt, Solid};
 use std::alloc::Global;
 
-/// A word and a number, each behind a space.
+/// A word and a number, each after a space.
 pub fn put_count(out: &mut Out, word: &str, n: u64) -> Result<(), NoMemory>
     ensures { OnOk result (out.new ≡ out.old ++ counted word.now n) }
 {

@@ -77,7 +77,7 @@ fn number_in(word: &str, digits: usize, least: u32, greatest: u32) -> Option<u32
 }
 
 impl Slot {
-    /// Whether a word may stand in the slot (own).
+    /// Whether a word may be in the slot (own).
     pub fn fits(self, word: &str) -> bool
         ensures { result ≡ fits (slot_meant self) word.now }
     {

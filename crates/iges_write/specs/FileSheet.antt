@@ -25,7 +25,7 @@ with_directory s f = put_lines (begin s letter_D 72) (directory_lines 1 f.entrie
 abbrev pub params_sheet : ℕ → Contents → Sheet
 params_sheet limit f = put_lines (blank limit 80 64) (param_lines (records_lines f))
 
--- with the directory, and behind it the records
+-- with the directory, and after it the records
 abbrev pub with_records : Sheet → Contents → Sheet
 with_records s f = append_text (with_directory s f) (params_sheet s.limit f).text
 

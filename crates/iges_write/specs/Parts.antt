@@ -14,7 +14,7 @@ single_parts bytes = map (λ b. b ∷ []) bytes
 abbrev pub word_parts : ℕ → List ℕ → List (List ℕ)
 word_parts n word = if nat_le (length word) n then word ∷ [] else take n word ∷ single_parts (drop n word)
 
--- A value and the delimiter behind it are one word, but of a text that is only the length with H.
+-- A value and the delimiter after it are one word, but of a text that is only the length with H.
 abbrev pub value_parts : ℕ → Value → ℕ → List (List ℕ)
 value_parts n (value.Text text) delimiter = word_parts n (decimal (length text) ++ 72 ∷ []) ++ single_parts (text ++ delimiter ∷ [])
 value_parts n v delimiter = word_parts n (spelling v ++ delimiter ∷ [])

@@ -9,11 +9,11 @@ use Rattle.iges_write.specs.declared.fault.WriteFileFault.TheVariants as fault
 use Rattle.iges_write.specs.Filled.{padded}
 use Rattle.iges_write.specs.Text.{right}
 
--- The lines that stand, and the one that is being made.
+-- The finished lines, and the one that is being made.
 pub record Sheet : Type 0 where
   pub text : List ℕ
   pub line : List ℕ
-  -- what stands behind the columns of a line, before the section's letter
+  -- what comes after the columns of a line, before the section's letter
   pub tail : List ℕ
   pub letter : ℕ
   pub number : ℕ
@@ -70,11 +70,11 @@ begin s letter width = record { text = s.text; line = []; tail = []; letter = le
 abbrev pub with_tail : Sheet → List ℕ → Sheet
 with_tail s tail = record { text = s.text; line = s.line; tail = tail; letter = s.letter; number = s.number; width = s.width; limit = s.limit }
 
--- a finished text behind the text
+-- a finished text after the text
 abbrev pub append_text : Sheet → List ℕ → Sheet
 append_text s more = record { text = s.text ++ more; line = s.line; tail = s.tail; letter = s.letter; number = s.number; width = s.width; limit = s.limit }
 
--- what stands behind the columns of a record's line
+-- what comes after the columns of a record's line
 abbrev pub record_tail : ℕ → List ℕ
 record_tail number = 32 ∷ right 7 (decimal number)
 

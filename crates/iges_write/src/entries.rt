@@ -70,8 +70,8 @@ fn put_at(
     }
 }
 
-/// Puts the two lines of each entry, and beside them the records, which stand in the same order. One pass makes both, since an
-/// entry's lines say where its record stands. `line` is a scratch buffer.
+/// Puts the two lines of each entry, and beside them the records, which come in the same order. One pass makes both, since an
+/// entry's lines say where its record is. `line` is a scratch buffer.
 pub fn put_entries(
     page: &mut Page,
     params: &mut Page,

@@ -14,8 +14,8 @@ use itoa::{Buffer, write_digits};
 use std::alloc::Global;
 use std::marker::Model;
 
-/// Lines that are written one after the other: those that stand, each with its section's letter and its number, and the
-/// line being made. A section has lines of `width` free columns, 72, or 64 where `tail` stands behind them.
+/// Lines that are written one after the other: the finished ones, each with its section's letter and its number, and the
+/// line being made. A section has lines of `width` free columns, 72, or 64 where `tail` comes after them.
 #[derive(Drop)]
 pub struct Page {
     text: Vec<u8>,
@@ -124,7 +124,7 @@ impl Page {
         Ok(())
     }
 
-    // A word and the delimiter behind it, which no line holds.
+    // A word and the delimiter after it, which no line holds.
     fn put_long_word(&mut self, word: &[u8], end: u8) -> Result<(), WriteFileFault>
         requires { self.old.width ≤ length word.now }
         ensures { Steps result self.new (put_parts self.old (word_parts self.old.width (word.now
@@ -136,7 +136,7 @@ impl Page {
         self.put_part(&[end])
     }
 
-    // A word and the delimiter behind it, which a line holds.
+    // A word and the delimiter after it, which a line holds.
     fn put_short_word(&mut self, word: &[u8], end: u8) -> Result<(), WriteFileFault>
         requires { length word.now < self.old.width }
         ensures { Steps result self.new (put_parts self.old (word_parts self.old.width (word.now
@@ -147,7 +147,7 @@ impl Page {
         self.add(&[end])
     }
 
-    // A word and the byte behind it.
+    // A word and the byte after it.
     fn put_word(&mut self, word: &[u8], end: u8) -> Result<(), WriteFileFault>
         ensures { Steps result self.new (put_parts self.old (word_parts self.old.width (word.now
             ++ end ∷ []))) }
@@ -159,7 +159,7 @@ impl Page {
         }
     }
 
-    // A text and the delimiter behind it.
+    // A text and the delimiter after it.
     fn put_text(&mut self, text: &[u8], delimiter: u8) -> Result<(), WriteFileFault>
         ensures { Steps result self.new (put_parts self.old
             (value_parts self.old.width (value.Text text.now) delimiter)) }
@@ -169,7 +169,7 @@ impl Page {
         self.put_part(&[delimiter])
     }
 
-    // A digit and the delimiter behind it, which a line holds.
+    // A digit and the delimiter after it, which a line holds.
     fn put_digit(&mut self, n: u64, delimiter: u8) -> Result<(), WriteFileFault>
         requires digit { n < 10 }
         requires width { 1 < self.old.width }
@@ -179,7 +179,7 @@ impl Page {
         self.put_part(&[b'0' + n as u8, delimiter])
     }
 
-    // A number without a sign and the delimiter behind it, which a line holds.
+    // A number without a sign and the delimiter after it, which a line holds.
     fn put_number(&mut self, n: u64, delimiter: u8) -> Result<(), WriteFileFault>
         requires { 20 < self.old.width }
         ensures { Steps result self.new (put_parts self.old (word_parts self.old.width (decimal n
@@ -193,7 +193,7 @@ impl Page {
         self.put_part(&word[start..])
     }
 
-    // An integer and the delimiter behind it.
+    // An integer and the delimiter after it.
     fn put_integer(&mut self, n: &i64, delimiter: u8) -> Result<(), WriteFileFault>
         ensures { Steps result self.new (put_parts self.old
             (value_parts self.old.width (value.Int n.now) delimiter)) }
@@ -204,7 +204,7 @@ impl Page {
         }
     }
 
-    // A value and the delimiter behind it.
+    // A value and the delimiter after it.
     fn put_value(&mut self, value: &Value, delimiter: u8) -> Result<(), WriteFileFault>
         ensures { Steps result self.new (put_parts self.old
             (value_parts self.old.width value.now delimiter)) }
@@ -268,7 +268,7 @@ impl Page {
         self.end_line()
     }
 
-    // From here on an entry's number stands behind the free columns.
+    // From here on an entry's number comes after the free columns.
     fn set_tail(&mut self, number: u64) -> Result<(), NoMemory>
         ensures { IfOk result (λ _. self.new ≡ with_tail self.old (record_tail number)) }
     {
@@ -277,7 +277,7 @@ impl Page {
         put_seven(&mut self.tail, number)
     }
 
-    // From here on nothing stands behind the free columns.
+    // From here on nothing comes after the free columns.
     fn clear_tail(&mut self)
         ensures { self.new ≡ with_tail self.old [] }
     {
@@ -303,7 +303,7 @@ impl Page {
         Ok(())
     }
 
-    // The two delimiters as texts, and a byte behind them.
+    // The two delimiters as texts, and a byte after them.
     fn put_delimiters(&mut self, delims: &Delimiters, behind: u8) -> Result<(), WriteFileFault>
         ensures steps { Steps result self.new (put_parts self.old (value_parts self.old.width (value.Text (delims.now.param ∷ [])) delims.now.param
             ++ value_parts self.old.width (value.Text (delims.now.end ∷ [])) behind)) }

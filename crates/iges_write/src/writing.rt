@@ -50,7 +50,7 @@ fn put_records(
     page.append(params)
 }
 
-// The directory says where the records stand, so that both are made side by side, and the terminate line counts the
+// The directory says where the records are, so that both are made side by side, and the terminate line counts the
 // lines of all sections.
 fn put_file(alloc: Global, page: &mut Page, limit: u64, file: &File) -> Result<(), WriteFileFault>
     requires page { page.old ≡ blank limit 83 72 }

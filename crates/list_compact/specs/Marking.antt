@@ -72,7 +72,7 @@ MarksItems row used = (i : ℕ) → i < length row → slice_index_or row i fals
 abbrev pub ends_by : (ℕ → ℕ → Bool) → Contents → List EdgeTuple
 ends_by used g = flat_map (λ (p : ℕ × Record). used_from (used (2 * p.0 + 1)) 1 (edges_in p.1)) (enumerate_from 0 g.entries)
 
--- the number stands in the place of an item that these name
+-- the number is in the place of an item that these name
 pub record IsRankAt (rows : List (List ℤ)) (z j r : ℤ) : Type 0 where
   pub entry : ℕ
   pub item : ℕ

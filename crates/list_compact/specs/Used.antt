@@ -13,7 +13,7 @@ use Rattle.entry_references.specs.Refs.{Record}
 abbrev pub is_kind : EntityKind → Record → Bool
 is_kind kind r = int_eq r.0.kind (type_number kind)
 
--- what an entry tells as a loop, as a list of edges, and as a list of vertices
+-- what an entry describes as a loop, as a list of edges, and as a list of vertices
 abbrev pub tuples_in : Record → List LoopTuple
 tuples_in r = if is_kind «loop» r then items_of «loop» r.1 else []
 

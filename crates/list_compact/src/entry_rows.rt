@@ -7,7 +7,7 @@ use iges_fields::NoMemory;
 use std::alloc::Global;
 use std::marker::Model;
 
-/// For each entry a row of items, one row behind the other in one list.
+/// For each entry a row of items, one row after the other in one list.
 #[derive(Drop)]
 pub struct EntryRows<T> {
     items: Vec<T>,

@@ -40,7 +40,7 @@ fn push_copy(list: &mut Values, alloc: Global, value: &Value) -> Result<(), NoMe
     }
 }
 
-// Puts copies of so many values that stand from a place on, of those that are there.
+// Puts copies of so many values from a place on, as far as they are there.
 fn push_copies(
     list: &mut Values,
     alloc: Global,
@@ -105,7 +105,7 @@ fn push_edge(list: &mut Values, edge: &EdgeTuple) -> Result<(), NoMemory>
     Ok(())
 }
 
-// Puts a tuple of a loop that stands from a place on, with its new index, and gives the place behind it.
+// Puts a tuple of a loop that begins at a place, with its new index, and gives the place after it.
 fn push_tuple(
     list: &mut Values,
     alloc: Global,

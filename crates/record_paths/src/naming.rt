@@ -13,14 +13,14 @@ use brep_lists::EdgeTuple;
 use iges_fields::EntryNo;
 use solid_data::{Failing, Rule};
 
-// Whether the name tells this item of this entity.
+// Whether the name means this item of this entity.
 fn is_at(name: Failing, entity: EntryNo, item: usize) -> bool
     ensures { IsTrue result ↔ ((name.entity.0 ≡ entity.0) × (name.place ≡ item)) }
 {
     name.entity.0 == entity.0 && name.place as usize == item
 }
 
-// Whether the name tells the entity itself that the number names; a negative number stands for 0.
+// Whether the name means the entity itself that the number names; a negative number stands for 0.
 fn is_of(name: Failing, number: i64) -> bool
     ensures { IsTrue result ↔ ((name.entity.0 ≡ entry_number number) × (name.place ≡ 0)) }
 {

@@ -30,7 +30,7 @@ fn put_step(
     named.push(step.entity)
 }
 
-/// Appends the facts that tell a path: a line for the solid, and one for each step, with the number of its entity and
+/// Appends the facts that describe a path: a line for the solid, and one for each step, with the number of its entity and
 /// the item that names it. The numbers join those that facts name (own). Where memory runs out, both may have grown.
 #[tactic(auto, unfolding(crate::specs::Texts::path_text, crate::specs::Texts::path_named, crate::specs::Texts::solid_line))]
 pub fn put_path(

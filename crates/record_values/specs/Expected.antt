@@ -43,12 +43,12 @@ abbrev pub times : ℕ → List Expected → List Expected
 times zero es = []
 times (suc n) es = es ++ times n es
 
--- what follows a count of n; in a face the flag of the outer loop stands before the loops
+-- what follows a count of n; in a face the flag of the outer loop comes before the loops
 abbrev pub counted_layout : Counted → ℕ → List Expected
 counted_layout counted.Loops n = single slot.Flag ∷ times n (item_layout counted.Loops)
 counted_layout c n = times n (item_layout c)
 
--- whether the value may stand in the slot
+-- whether the value may be in the slot
 abbrev pub fills : Slot → Value → Bool
 fills slot.Pointer v = passes stands.Whole v
 fills slot.Index v = passes stands.Whole v
@@ -80,7 +80,7 @@ next_due [] = due.CountOrPointer
 next_due (single s ∷ es) = due.Single s
 next_due (count_of_items c ∷ es) = due.Count
 
--- The first value that may not come, by its place where the first value stands in this one, and what is due there. Where all may come it is the place after them.
+-- The first value that may not come, by its place where the first value is in this one, and what is due there. Where all may come it is the place after them.
 abbrev pub misfit_from : ℕ → List Expected → List Value → Misfit
 misfit_from at es [] = record { place = at; due = next_due es }
 misfit_from at es (v ∷ vs) = if may_come es v then misfit_from (at + 1) (after es v) vs else record { place = at; due = next_due es }
@@ -94,7 +94,7 @@ abbrev pub GoesOn : List Value → ℕ → List Expected → Result ℕ Misfit �
 GoesOn vs at es (Ok next) = (rest : List Expected) → misfit_from at (es ++ rest) (drop at vs) ≡ misfit_from next rest (drop next vs)
 GoesOn vs at es (Err m) = (rest : List Expected) → misfit_from at (es ++ rest) (drop at vs) ≡ m
 
--- In a place stands a count of n, or the first misfit.
+-- In a place is a count of n, or the first misfit.
 abbrev pub IsCounted : List Value → ℕ → Counted → Result ℕ Misfit → Type 0
 IsCounted vs at c (Ok n) = (at + 1 < 2 ^ 64) × ((rest : List Expected) → misfit_from at (count_of_items c ∷ rest) (drop at vs) ≡ misfit_from (at + 1) (counted_layout c n ++ rest) (drop (at + 1) vs))
 IsCounted vs at c (Err m) = (rest : List Expected) → misfit_from at (count_of_items c ∷ rest) (drop at vs) ≡ m

@@ -1,4 +1,4 @@
--- What a record tells where it fits its type.
+-- What a record describes where it fits its type.
 use Rattle.std.specs.Prelude.{List, Option, Some, None, if◌then◌else◌}
 use Rattle.iges_fields.specs.declared.value.Value.{Value}
 use Rattle.brep_lists.specs.Record.{EntityKind, Items, items_of}

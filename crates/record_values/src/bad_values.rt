@@ -24,7 +24,7 @@ pub struct BadValue {
     /// The place of the value in the record of the failing entity, from 0 and without the type number. None where no
     /// value is bad, but the number that was asked for.
     pub place: Option<usize>,
-    /// What may stand there, where the rule speaks of that.
+    /// What may be there, where the rule speaks of that.
     pub due: Option<Due>,
 }
 

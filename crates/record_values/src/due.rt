@@ -1,4 +1,4 @@
-//! What may stand in a place of a record.
+//! What may be in a place of a record.
 
 ghost use Rattle.std.specs.Prelude.{◌≡◌};
 ghost use Rattle.record_values.specs.Due.{due_word, slot_word};

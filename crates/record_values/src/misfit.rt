@@ -18,7 +18,7 @@ pub struct Misfit {
     /// The place of the value, from 0 and without the type number. It is the number of values where the record ends too
     /// early.
     pub place: usize,
-    /// What may stand there.
+    /// What may be there.
     pub due: Due,
 }
 
@@ -83,7 +83,7 @@ fn count_in(values: &Values, at: usize, counted: Counted) -> Option<usize>
     }
 }
 
-// The count that stands in a place.
+// The count that is in a place.
 fn count_of(values: &Values, at: usize, counted: Counted) -> Result<usize, Misfit>
     ensures { IsCounted values.now at counted result }
 {

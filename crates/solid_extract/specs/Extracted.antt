@@ -61,7 +61,7 @@ IsRefused f n entity reason =
     ⊎ (IsTrue (is_solid f n) × (r : Record) × Reaches f n entity × (named f (pos entity) ≡ Some r) × (entry_fault f r ≡ Some reason)
     × ((m : ℕ) (q : Record) → m < entity → Reaches f n m → named f (pos m) ≡ Some q → entry_fault f q ≡ None))
 
--- the own values, and behind them a group of none and one of the names, where there are any
+-- the own values, and after them a group of none and one of the names, where there are any
 abbrev pub new_values : Contents → List ℕ → Record → List Value
 new_values f kept r =
     let names = map (λ z. value.Int (renamed kept z)) (names_of f r) in

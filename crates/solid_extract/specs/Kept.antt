@@ -38,7 +38,7 @@ abbrev pub KeptAreNamed : Type 0
 KeptAreNamed = (f new : Contents) (n : ℕ) (x : IsExtracted f n new) (m : ℕ) (r : Record) → Contains x.kept m → named f (pos m) ≡ Some r
     → named new (pos (new_number x.kept m)) ≡ Some (new_record f x.kept r)
 
--- Where it is of one of the six kinds, it tells the same items, with each pointer renamed.
+-- Where it is of one of the six kinds, it has the same items, with each pointer renamed.
 abbrev pub ItemsAreKept : Type 0
 ItemsAreKept = (f new : Contents) (n : ℕ) (x : IsExtracted f n new) (m : ℕ) (r : Record) (kind : EntityKind) → Contains x.kept m → named f (pos m) ≡ Some r → kind_of_type r.0.kind ≡ Some kind
     → IsRecordOf kind r.1 × IsRecordOf kind (values_of new (pos (new_number x.kept m)))

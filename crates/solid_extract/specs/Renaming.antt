@@ -3,7 +3,7 @@ use Rattle.std.specs.Prelude.{◌≡◌, ℕ, ◌+◌, ◌*◌, ◌<◌, ◌≤�
 use Rattle.std.specs.List.{AllByRecursion, position_or_len}
 use Rattle.entry_references.specs.EntrySets.{IsWithin}
 
--- where the number stands among those that are kept, or how many these are
+-- where the number is among those that are kept, or how many these are
 abbrev pub place_of : List ℕ → ℕ → ℕ
 place_of kept m = position_or_len (λ k. k == m) kept
 

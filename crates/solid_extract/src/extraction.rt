@@ -26,7 +26,7 @@ pub struct Extraction {
     pub no: EntryNo,
 }
 
-// Puts the entry that a number names, as it is kept. It has no fault, so that its shape is told unless memory runs out.
+// Puts the entry that a number names, as it is kept. It has no fault, so that its shape is given unless memory runs out.
 // `marks` is a scratch buffer.
 fn push_kept(
     new: &mut File,
@@ -116,7 +116,7 @@ fn extracted(alloc: Global, file: &File, no: EntryNo) -> Result<File, ExtractFau
 
 /// The file of a solid: the entries that a chain of references reaches from it, in rising order, renamed 1, 3, 5 and so
 /// on, with the start section and the global as they are (own). Structure, view and label display are cut, and so are a
-/// line font and a level that are entries; groups behind the own values keep the names alone (own).
+/// line font and a level that are entries; groups after the own values keep the names alone (own).
 pub fn extract(alloc: Global, file: &File, no: EntryNo) -> Result<File, ExtractFault>
     ensures found { IfOk result (IsExtracted file.now no.0) }
     ensures only { (new : Contents) → IsExtracted file.now no.0 new → GivesFile result new }

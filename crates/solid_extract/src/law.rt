@@ -18,7 +18,7 @@ pub fn records_are_kept()
     ensures { RecordsAreKept }
 {}
 
-/// A kept entry is named by its new number, and where it is of one of a solid's six kinds it tells the same items, with
+/// A kept entry is named by its new number, and where it is of one of a solid's six kinds it has the same items, with
 /// pointers renamed (own).
 pub fn items_are_kept()
     ensures named { KeptAreNamed }

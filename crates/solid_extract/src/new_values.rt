@@ -144,7 +144,7 @@ fn names_in(
     Ok(names)
 }
 
-/// The values that a record has where it is kept: its own values, and behind them the names, where there are any (own).
+/// The values that a record has where it is kept: its own values, and after them the names, where there are any (own).
 /// `marks` is a scratch buffer.
 pub fn new_values(
     alloc: Global,

@@ -28,7 +28,7 @@ fn reason_of(fault: RefFault) -> Result<Option<ExtractReason>, NoMemory>
     }
 }
 
-// Puts what an entry refers to, or tells its fault.
+// Puts what an entry refers to, or gives its fault.
 fn visit(
     alloc: Global,
     file: &File,

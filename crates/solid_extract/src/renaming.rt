@@ -71,7 +71,7 @@ impl Renaming {
         &self.kept
     }
 
-    // Where the number stands among those that are kept, from 0, or how many these are.
+    // Where the number is among those that are kept, from 0, or how many these are.
     fn place(&self, number: u64) -> usize
         ensures is { result ≡ place_of self.now number }
         ensures few { result ≤ 4_999_999 }
