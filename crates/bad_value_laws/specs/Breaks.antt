@@ -19,7 +19,7 @@ use Rattle.where_records.specs.RecordText.{before, judged, values_in}
 abbrev pub BreaksBy : Contents → Failing → BadValue → Rule → Type 0
 -- it names no entry
 BreaksBy f x bad rule.NoEntry = ¬ Names f (judged f x.entity bad.place)
--- the entry that it names isn't of the kind that is told to be due
+-- the entry that it names isn't of the kind that is said to be due
 BreaksBy f x bad rule.WrongKind =
     Names f (judged f x.entity bad.place) × ((kind : RecordKind) × (bad.due ≡ Some (due.Record kind)) × (¬ NamesKind (entity_kind kind) f (judged f x.entity bad.place)))
 -- the record isn't one of its type, and the value is the first with which none goes on

@@ -25,7 +25,7 @@ Means (Reach r) line = line ≡ reach r
 Means (TallyLine w) line = line ≡ tally (tally_said w)
 Means End line = line ≡ end
 
--- a line of the shell at hand, behind its SHELL line
+-- a line of the shell at hand, after its SHELL line
 abbrev pub IsRowLine : CertLine → Type 0
 IsRowLine (edge a b) = ⊤
 IsRowLine (corner rs) = ⊤
@@ -34,7 +34,7 @@ IsRowLine (reach r) = ⊤
 IsRowLine (tally t) = ⊤
 IsRowLine _ = ⊥
 
--- what is told of bytes that may be so many
+-- what is said of bytes that may be so many
 abbrev pub IsJudged : ℕ → List ℕ → Judged → Type 0
 IsJudged limit bytes (Spelled w) = (line : CertLine) × Means w line × IsLine limit bytes line
 IsJudged limit bytes Misspelt = IsMisspelt limit bytes

@@ -5,7 +5,7 @@ ghost use Rattle.cert_lines.specs.Line.{cut_lines};
 ghost use Rattle.cert_lines.specs.Cutting.{IsFirstEnd, EndsFirst};
 ghost use Rattle.iges_base.specs.InLine.{is_in_line};
 
-/// Where the first LF of a text stands.
+/// Where the first LF of a text is.
 fn first_end(text: &[u8]) -> Option<usize>
     ensures { MatchOption result ((k : ℕ) → k < length text.now → slice_index text.now k ≢ 10)
         (λ n. IsFirstEnd text.now n) }

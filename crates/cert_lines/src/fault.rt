@@ -11,12 +11,12 @@ pub enum Misfit {
 }
 
 /// The first line that keeps a certificate from being legal, by its number from 1: it is spelled as no line, it
-/// doesn't fit where it stands, or it isn't there (own).
+/// doesn't fit where it is, or it isn't there (own).
 #[derive(Clone, Copy, Debug, PartialEq, Eq)]
 pub enum Illegal {
     /// The line spells none of the kinds of lines, or has no LF.
     Misspelt { line: u64 },
-    /// The line is spelled but doesn't fit behind the lines before it, or it has too many bytes, whatever they are.
+    /// The line is spelled but doesn't fit after the lines before it, or it has too many bytes, whatever they are.
     Unfit { line: u64 },
     /// The text ends where this line is due.
     Missing { line: u64 },

@@ -11,7 +11,7 @@ pub fn one_line()
     ensures { (bytes : List ℕ) (l m : CertLine) → IsSpelled bytes l → IsSpelled bytes m → l ≡ m }
 {}
 
-/// Bytes are a line, or are too long, or spell no line, and only one of these, whatever they are and however many may stand
+/// Bytes are a line, or are too long, or spell no line, and only one of these, whatever they are and however many may come
 /// in a line (own).
 pub fn lines_are_decided()
     ensures always { (limit : ℕ) (bytes : List ℕ)

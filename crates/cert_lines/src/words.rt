@@ -20,7 +20,7 @@ pub enum Words<'a> {
     Shell(ShellWords),
     /// `E`, the row along an edge, and the one against it.
     Edge(u32, u32),
-    /// `C`. The rows stand in this text, each behind a space.
+    /// `C`. The rows are in this text, each after a space.
     Corner(&'a [u8]),
     /// `I`, a face of the shell, and a loop of that face.
     Point(u32, u32),
@@ -239,7 +239,7 @@ fn read_words(text: &[u8]) -> Option<Words<'_>>
     }
 }
 
-/// The line of a shell behind its SHELL line that a text without its LF spells.
+/// The line of a shell after its SHELL line that a text without its LF spells.
 fn read_row_words(text: &[u8]) -> Option<Words<'_>>
     ensures { MatchOption result ((line : CertLine) → IsRowLine line → ¬ Spells text.now line)
         (λ w. (line : CertLine) × Means w line × Spells text.now line) }
@@ -276,7 +276,7 @@ fn read_line(line: &[u8]) -> Option<Words<'_>>
     read_words(text)
 }
 
-/// A line, as far as its bytes and its length tell (own).
+/// A line, as far as its bytes and its length say (own).
 #[derive(Clone, Copy)]
 pub enum Judged<'a> {
     /// The line is one of the kinds of lines, and isn't long.

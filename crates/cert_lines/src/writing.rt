@@ -34,7 +34,7 @@ fn put_numbers(out: &mut Out, numbers: &[u64]) -> Result<(), NoMemory>
     Ok(())
 }
 
-/// Appends the numbers of some rows, from 1, each behind a space (own).
+/// Appends the numbers of some rows, from 1, each after a space (own).
 pub fn put_rows(out: &mut Out, rows: &[RowId]) -> Result<(), NoMemory>
     ensures { IfOk result (λ _. out.new ≡ out.old ++ spaced (map row_number rows.now)) }
 {
@@ -44,7 +44,7 @@ pub fn put_rows(out: &mut Out, rows: &[RowId]) -> Result<(), NoMemory>
     Ok(())
 }
 
-/// Appends a line: its word, its numbers, each behind a space, and LF (own).
+/// Appends a line: its word, its numbers, each after a space, and LF (own).
 pub fn put_line(out: &mut Out, word: &[u8], numbers: &[u64]) -> Result<(), NoMemory>
     ensures { IfOk result (λ _. out.new ≡ out.old
         ++ ((word.now ++ spaced numbers.now) ++ 10 ∷ [])) }
@@ -203,7 +203,7 @@ fn put_solids(out: &mut Out, parts: &[Certificate]) -> Result<(), NoMemory>
     Ok(())
 }
 
-/// The text of a certificate: the lines of its parts in order, behind the head of its version and the line of its solid
+/// The text of a certificate: the lines of its parts in order, after the head of its version and the line of its solid
 /// (own). The counts of edges and of corners in a shell line are the lengths of the two lists. Where every number has at
 /// most nine digits and no cycle is empty, each line is spelled.
 pub fn write_certificate(alloc: Global, c: &Certificate) -> Result<Bytes, NoMemory>
@@ -218,7 +218,7 @@ pub fn write_certificate(alloc: Global, c: &Certificate) -> Result<Bytes, NoMemo
     Ok(out.into_bytes())
 }
 
-/// The text of a book, version 3: the lines of each part in order, behind the head and before END (own). Where every
+/// The text of a book, version 3: the lines of each part in order, after the head and before END (own). Where every
 /// number has at most nine digits and no cycle is empty, each line is spelled.
 pub fn write_book(alloc: Global, parts: &Certificates) -> Result<Bytes, NoMemory>
     ensures text { IfOk result (λ text. text ≡ text_of (book_lines parts.now)) }

@@ -19,7 +19,7 @@ OneBookText = (f : Contents) (a b : List ℕ) → IsBookText f a → IsBookText 
 abbrev pub MadeHasBook : Type 0
 MadeHasBook = (f : Contents) → FitsLimits f → AllMade f 0 (solids_of f) → (text : List ℕ) × IsBookText f text
 
--- Of solids, taken in this order behind others with so many loop uses, one is the first that can't be certified, for one reason.
+-- Of solids, taken in this order after others with so many loop uses, one is the first that can't be certified, for one reason.
 abbrev pub OneUnmade : Type 0
 OneUnmade = (f : Contents) (used : ℕ) (ns : List ℕ) (a b : BookFault) → FirstUnmade f used ns a → FirstUnmade f used ns b → a ≡ b
 

@@ -10,11 +10,11 @@ use Rattle.cert_lines.specs.declared.parts.Certificate.{Certificate}
 use Rattle.solid_check.specs.Accepted.{AllJoin, AllApart}
 use Rattle.cert_maker.specs.Parts.{AreParts}
 
--- the lines behind the head and the solid
+-- the lines after the head and the solid
 abbrev pub further_lines : Certificate → List CertLine
 further_lines c = flat_map (shell_lines c.version) (enumerate_from 1 c.shells) ++ end ∷ []
 
--- A certificate of the solid: it is of version 2 and names it, its parts are those of its shells, its lines can be spelled, those behind the first two are legal, each loop joins and each vertex is apart.
+-- A certificate of the solid: it is of version 2 and names it, its parts are those of its shells, its lines can be spelled, those after the first two are legal, each loop joins and each vertex is apart.
 pub record IsCertificate (s : SolidData) (c : Certificate) : Type 0 where
   pub version : c.version ≡ Two
   pub names : c.solid ≡ s.entity

@@ -41,7 +41,7 @@ pub record IsPart (d : ShellRows) (loop_count : ℕ) (part : ShellPart) : Type 0
 abbrev pub AreParts : SolidData → List Shell → List ShellPart → Type 0
 AreParts s shells parts = AllZip (λ (h : Shell) (part : ShellPart). IsPart (shell_rows s h) (loops_of (Some h)) part) shells parts
 
--- what a corner line tells of what lies at a vertex
+-- what a corner line says of what lies at a vertex
 abbrev pub line_for : Corner → CornerLine
 line_for (round.Cycle rows) = Cycle rows
 line_for (round.Point at) = Point at

@@ -31,7 +31,7 @@ use Rattle.iges_io.specs.Reading.{TakesAtMost}
 use Rattle.command_replies.specs.Outcome.{ReadsCertificate}
 use Rattle.command_replies.specs.Replies.{IsReply}
 
--- The text is the front of a book: behind the head stand good parts, which name these solids, and then the line of solid n, which is greater. The line behind that has this number.
+-- The text is the front of a book: after the head come good parts, which name these solids, and then the line of solid n, which is greater. The line after that has this number.
 pub record BeginsPart (f : Contents) (ns : List ℕ) (text : List ℕ) (n line : ℕ) : Type 0 where
   pub parts : List Part
   pub named : solids_named parts ≡ ns
@@ -43,11 +43,11 @@ pub record BeginsPart (f : Contents) (ns : List ℕ) (text : List ℕ) (n line :
   pub opens : (more : List ℕ) → (m : ℕ) × (lines : List (List ℕ)) × Opens (text ++ more) Three m lines
   pub number : line ≡ 3 + length (flat_map part_lines parts)
 
--- what the buffer holds behind the line of the solid
+-- what the buffer holds after the line of the solid
 abbrev pub held : List ℕ → Begun → List ℕ
 held buffer b = take (b.to - b.from) (drop b.from buffer)
 
--- how many bytes of the certificate stand up to the end of that line
+-- how many bytes the certificate has up to the end of that line
 abbrev pub passed : Begun → ℕ
 passed b = b.came - (b.to - b.from)
 
@@ -59,14 +59,14 @@ pub record IsPlace (buffer : List ℕ) (b : Begun) : Type 0 where
   pub holds : b.to - b.from ≤ b.came
   pub lines : b.line ≤ passed b + 3
 
--- Of the certificate a part has begun behind this front; the buffer holds what came behind it.
+-- Of the certificate a part has begun after this front; the buffer holds what came after it.
 pub record HasBegun (f : Contents) (ns : List ℕ) (before after : Option (List ℕ)) (buffer : List ℕ) (b : Begun) : Type 0 where
   pub front : List ℕ
   pub taken : Consumes before after (front ++ held buffer b)
   pub long : length (front ++ held buffer b) ≡ b.came
   pub begins : BeginsPart f ns front b.no.0 b.line
 
--- A further part has begun, behind so many bytes more.
+-- A further part has begun, after so many bytes more.
 pub record GoesOn (before after : Option (List ℕ)) (buffer : List ℕ) (old new : Begun) : Type 0 where
   pub place : IsPlace buffer new
   pub further : passed old < passed new
@@ -106,7 +106,7 @@ pub record IsPartLast (before after : Option (List ℕ)) (came : ℕ) (there : L
   pub few : came + length bytes ≤ CERT_LIMIT
   pub fed : WasFed old (there ++ bytes) new
 
--- how a part ended, of which so many bytes had come and the buffer held these behind its first line
+-- how a part ended, of which so many bytes had come and the buffer held these after its first line
 abbrev pub IsPartEnd : Option (List ℕ) → Option (List ℕ) → ℕ → List ℕ → List ℕ → FedKept → FedKept → PartEnd → Type 0
 IsPartEnd before after came there buffer old new (part_end.Next next) = IsNextBegun before after came there buffer old new next
 IsPartEnd before after came there buffer old new part_end.Last = IsPartLast before after came there old new
@@ -123,13 +123,13 @@ HasNext (judged.Next next) = Unit {0}
 HasNext judged.Last = ⊥
 HasNext (judged.Decided reply) = ⊥
 
--- What is left behind a part: the next one has begun, or the certificate was read to its end as the answer wants it.
+-- What is left after a part: the next one has begun, or the certificate was read to its end as the answer wants it.
 abbrev pub Leaves : Option (List ℕ) → Option (List ℕ) → List ℕ → Begun → PartJudged → Type 0
 Leaves before after buffer old (judged.Next next) = GoesOn before after buffer old next
 Leaves before after buffer old judged.Last = IsAtEnd after × TakesAtMost (CERT_LIMIT - old.came) before after
 Leaves before after buffer old (judged.Decided reply) = ReadsCertificate after reply.answer
 
--- What judging the part of solid n came to, behind good parts that name these solids: the next part, that the certificate is accepted and names these and n, or a reply that is owed.
+-- What judging the part of solid n came to, after good parts that name these solids: the next part, that the certificate is accepted and names these and n, or a reply that is owed.
 abbrev pub IsPartJudged : Contents → List ℕ → ℕ → Option (List ℕ) → Option (List ℕ) → List ℕ → PartJudged → Type 0
 IsPartJudged f ns n before after buffer (judged.Next next) = HasBegun f (ns ++ n ∷ []) before after buffer next
 IsPartJudged f ns n before after buffer judged.Last = (reply : Reply) → Exactly Done (accepted_lines (ns ++ n ∷ [])) reply.answer reply.text → IsReply (λ certificate. OfVerify certificate f) before reply
@@ -137,7 +137,7 @@ IsPartJudged f ns n before after buffer (judged.Decided reply) = IsReply (λ cer
 
 -- ---- a book that is held whole
 
--- What judging the part of solid n came to, which has this rest of the book behind its first line.
+-- What judging the part of solid n came to, which has this rest of the book after its first line.
 abbrev pub IsHeldPart : Contents → List ℕ → List ℕ → ℕ → List ℕ → HeldPart → Type 0
 IsHeldPart f certificate ns n rest (held_part.Next next) =
     (front : List ℕ) × (certificate ≡ front ++ drop next.used rest) × BeginsPart f (ns ++ n ∷ []) front next.no.0 next.line

@@ -26,14 +26,14 @@ OfLines OfAccepted v n lines f a t =
     ⊎ (AllHold (checked f n) × (bad : Illegal) × IsFirstBad v (solid_of f n) 3 lines bad × Exactly answer.No (illegal_line bad) a t)
     ⊎ (AllHold (checked f n) × IsLegal v (solid_of f n) lines × OfAccepted a t)
 
--- what is owed of a book with these lines behind its head: what is false of a solid that a part names, the first bad line, or what is owed of one that is accepted, by the solids that it names
+-- what is owed of a book with these lines after its head: what is false of a solid that a part names, the first bad line, or what is owed of one that is accepted, by the solids that it names
 abbrev pub OfBook : (List ℕ → Owed) → List ℕ → List (List ℕ) → Contents → Owed
 OfBook OfAccepted certificate lines f a t =
     ((n : ℕ) × (x : Failing) × IsBookBad f lines (book.fails n x) × Exactly answer.No (solid_fail_text n x) a t)
     ⊎ ((bad : Illegal) × IsBookBad f lines (book.illegal bad) × Exactly answer.No (illegal_line bad) a t)
     ⊎ ((parts : List Part) × IsAcceptedBook f certificate parts × OfAccepted (solids_named parts) a t)
 
--- what is owed of a certificate of this version whose line 2 names solid n and has these lines behind it: one of version 3 is a book, any other is of solid n alone
+-- what is owed of a certificate of this version whose line 2 names solid n and has these lines after it: one of version 3 is a book, any other is of solid n alone
 abbrev pub OfVersion : (List ℕ → Owed) → List ℕ → Version → ℕ → List (List ℕ) → Contents → Owed
 OfVersion OfAccepted certificate One n lines f a t = OfLines (OfAccepted (n ∷ [])) One n lines f a t
 OfVersion OfAccepted certificate Two n lines f a t = OfLines (OfAccepted (n ∷ [])) Two n lines f a t

@@ -35,11 +35,11 @@ pub record IsChecked (f : Contents) (n : ℕ) (s : SolidData) : Type 0 where
   pub solid : s ≡ solid_of f n
   pub holds : AllHold (checked f n)
 
--- The reply tells in these words the first that is false of all that is checked of the solid.
+-- The reply says in these words the first that is false of all that is checked of the solid.
 abbrev pub TellsFalse : (Failing → List ℕ) → Contents → ℕ → Reply → Type 0
 TellsFalse words f n reply = (x : Failing) × FirstFalse (checked f n) x × Exactly No (words x) reply.answer reply.text
 
--- The certificate opens with two good lines, which name solid n, all that is checked of this holds, and the checker was fed what stands behind them.
+-- The certificate opens with two good lines, which name solid n, all that is checked of this holds, and the checker was fed what comes after them.
 pub record HasChecked (f : Contents) (n : ℕ) (text : List ℕ) (c : FedKept) : Type 0 where
   pub version : Version
   pub one : IsOfOne version
@@ -67,7 +67,7 @@ pub record IsRestJudged (before after : Option (List ℕ)) (came : ℕ) (old new
 abbrev pub HasTooMany : Option (List ℕ) → Option (List ℕ) → ℕ → Type 0
 HasTooMany before after came = (bytes : List ℕ) × Consumes before after bytes × (CERT_LIMIT < came + length bytes)
 
--- The first two lines have come, are good, and name the version and the solid; the buffer holds what came behind them.
+-- The first two lines have come, are good, and name the version and the solid; the buffer holds what came after them.
 pub record HasOpened (before after : Option (List ℕ)) (buffer : List ℕ) (o : Opened) : Type 0 where
   pub front : List ℕ
   pub rest : List ℕ
@@ -102,7 +102,7 @@ IsOpeningEnd before after buffer (opening.Ended bad) = EndsEarly before after ba
 IsOpeningEnd before after buffer (opening.Bad bad came) = HasOpenedBadly before after bad came
 IsOpeningEnd before after buffer (opening.Both o) = HasOpened before after buffer o
 
--- the certificate may go on behind them
+-- the certificate may go on after them
 abbrev pub GoesOn : OpeningEnd → Type 0
 GoesOn opening.TooLarge = ⊥
 GoesOn (opening.Ended bad) = ⊥

@@ -25,9 +25,9 @@ use topo_certificate::{CERT_LIMIT, Checker, PartStep};
 pub struct Begun {
     /// The solid.
     pub no: EntryNo,
-    /// The number of the line behind that line.
+    /// The number of the line after that line.
     pub line: u64,
-    /// Where in the buffer the bytes behind that line begin.
+    /// Where in the buffer the bytes after that line begin.
     pub from: usize,
     /// Where in the buffer the bytes of the last read end.
     pub to: usize,
@@ -62,9 +62,9 @@ pub enum PartJudged {
 pub struct NextSolid {
     /// The directory number on that line.
     pub no: EntryNo,
-    /// The number of the line behind it.
+    /// The number of the line after it.
     pub line: u64,
-    /// How many bytes of the piece stand up to its end.
+    /// How many bytes the piece has up to its end.
     pub used: usize,
 }
 
@@ -79,7 +79,7 @@ pub fn feed(checker: &mut Checker<'_>, piece: &[u8]) -> Option<NextSolid>
     match checker.feed_part(piece) {
         Ok(PartStep::Next { no, line, used }) => Some(NextSolid { no, line, used }),
         Ok(PartStep::More) => None,
-        // A fault is kept, and told at the end: the certificate may still be too large.
+        // A fault is kept, and reported at the end: the certificate may still be too large.
         Err(_) => None,
     }
 }

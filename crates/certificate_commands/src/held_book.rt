@@ -29,7 +29,7 @@ pub enum HeldPart {
     Decided(Reply),
 }
 
-// Judges the part of this solid, which has this rest of the book behind the line that names it; the next line has this
+// Judges the part of this solid, which has this rest of the book after the line that names it; the next line has this
 // number.
 fn judge_held(
     alloc: Global,
@@ -60,7 +60,7 @@ fn judge_held(
     }
 }
 
-/// The reply for a book that isn't accepted; None for one that is. Behind the line that names its first solid it has this
+/// The reply for a book that isn't accepted; None for one that is. After the line that names its first solid it has this
 /// rest.
 pub fn book_refusal(
     alloc: Global,

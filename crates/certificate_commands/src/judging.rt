@@ -40,7 +40,7 @@ impl<'a> Judging<'a> {
             → IsJudged f (text ++ piece.now) self.new }
     {
         if let Judging::Lines(checker, _) = self {
-            // A fault is kept, and told at the end: the certificate may still be too large.
+            // A fault is kept, and reported at the end: the certificate may still be too large.
             let _fault = checker.feed(piece);
         }
     }

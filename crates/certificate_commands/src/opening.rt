@@ -16,7 +16,7 @@ pub struct Opened {
     pub version: Version,
     /// The solid that line 2 names.
     pub no: EntryNo,
-    /// Where in the buffer the bytes behind line 2 begin.
+    /// Where in the buffer the bytes after line 2 begin.
     pub from: usize,
     /// Where in the buffer the bytes of the last read end.
     pub to: usize,

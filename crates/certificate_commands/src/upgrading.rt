@@ -36,7 +36,7 @@ fn upgraded_reply(alloc: Global, solid: &Solid, certificate: &[u8]) -> Result<Re
     }
 }
 
-// The reply for a certificate of one solid, of this version, that has this rest behind its first two lines.
+// The reply for a certificate of one solid, of this version, that has this rest after its first two lines.
 fn upgrade_alone(
     alloc: Global,
     file: File,
@@ -61,7 +61,7 @@ fn upgrade_alone(
     }
 }
 
-// The reply for a book, which has this rest behind its first two lines.
+// The reply for a book, which has this rest after its first two lines.
 fn upgrade_book(
     alloc: Global,
     file: &File,

@@ -40,7 +40,7 @@ fn verify_alone<C: Source>(
         Err(reply) => return rest_reply(alloc, cert, piece, opened.came, Judging::Decided(reply)),
     };
     let mut checker = Checker::new(alloc, &solid, opened.version)?;
-    // A fault is kept, and told at the end: the certificate may still be too large.
+    // A fault is kept, and reported at the end: the certificate may still be too large.
     let _fault = checker.feed(&piece[opened.from..opened.to]);
     rest_reply(
         alloc,

@@ -1,5 +1,5 @@
 //! Tests of the calls on certificates, each with ample memory: also that what is refused stays refused, whatever comes
-//! behind.
+//! after.
 #![tactic(auto)]
 
 #[cfg(test)]

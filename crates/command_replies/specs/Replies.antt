@@ -13,29 +13,29 @@ use Rattle.command_replies.specs.declared.reply.Stop.{Stop}
 use Rattle.command_replies.specs.declared.reply.Stop.TheVariants as stops
 use Rattle.command_replies.specs.Due.{Owed, Exactly}
 
--- the reply is owed for some bytes, which are those that the source told where it told any
+-- the reply is owed for some bytes, which are those that the source gave where it gave any
 pub record IsReply (owed_of : List ℕ → Owed) (left : Option (List ℕ)) (reply : Reply) : Type 0 where
   pub bytes : List ℕ
   pub told : Told left bytes
   pub owed : owed_of bytes reply.answer reply.text
 
--- so many bytes were told, and no more than the limit
+-- so many bytes came, and no more than the limit
 pub record AreWithin (limit : ℕ) (left : Option (List ℕ)) (bytes : List ℕ) : Type 0 where
   pub told : Told left bytes
   pub few : length bytes ≤ limit
 
--- more bytes than the limit were told, and the reply says so
+-- more bytes than the limit came, and the reply says so
 abbrev pub IsTooLarge : ℕ → List ℕ → Owed
 IsTooLarge limit bytes a t = (limit < length bytes) × Exactly TooLarge [] a t
 
--- the feed stands for the bytes that were told
+-- the feed stands for the bytes that came
 pub record IsFedTold (left : Option (List ℕ)) (feed : Fed) : Type 0 where
   pub bytes : List ℕ
   pub told : Told left bytes
   pub few : length bytes ≤ FILE_LIMIT
   pub fed : IsFed feed bytes
 
--- the bytes that were told are a file with these contents
+-- the bytes that came are a file with these contents
 pub record IsFileTold (left : Option (List ℕ)) (f : Contents) : Type 0 where
   pub bytes : List ℕ
   pub told : Told left bytes

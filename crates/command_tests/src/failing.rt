@@ -66,7 +66,7 @@ impl Call {
     }
 }
 
-// The call behind so many of a kind fails.
+// The call after so many of a kind fails.
 fn fails_behind(
     rt: &impl Abort,
     alloc: Global,

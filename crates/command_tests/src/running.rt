@@ -305,7 +305,7 @@ fn sample_text(alloc: Global) -> Result<Bytes, Fail> {
     Ok(write_file(alloc, &file, FILE_LIMIT)?)
 }
 
-// Fails the write behind so many, and compares what was written.
+// Fails the write after so many, and compares what was written.
 fn fails_at_write(
     rt: &impl Abort,
     alloc: Global,

@@ -23,7 +23,7 @@ fn hang(labels: &mut Vec<u32>, x: u32, to: u32)
     labels[x as usize] = to;
 }
 
-/// Hangs a node one step higher, and tells where.
+/// Hangs a node one step higher, and says where.
 fn climb(labels: &mut Vec<u32>, x: u32) -> u32
     requires trees { AreTrees labels.old.items }
     requires inside { x < length labels.old.items }

@@ -16,7 +16,7 @@ use solid_data::{Edge, EdgeId, FaceAt, FaceUse, Loop, LoopAt, LoopUse, Shell, So
 use std::alloc::Global;
 
 /// What has been read of a shell, column by column as in `Rows`, but that each edge and each vertex
-/// stands there once for each use.
+/// is there once for each use.
 #[derive(Drop)]
 pub struct Built {
     /// The edge uses, in file order.

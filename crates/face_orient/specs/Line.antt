@@ -6,7 +6,7 @@ use Rattle.face_orient.specs.declared.line.OrientLine.TheVariants.{Head, Flags, 
 use Rattle.face_orient.specs.declared.line.OrientLineFault.{OrientLineFault}
 use Rattle.face_orient.specs.declared.line.OrientLineFault.TheVariants.{Misspelt, NoMemory}
 
--- each number behind a space, in plain decimal
+-- each number after a space, in plain decimal
 abbrev pub spaced : List ℕ → List ℕ
 spaced ns = flat_map (λ n. 32 ∷ decimal n) ns
 

@@ -15,7 +15,7 @@ abbrev pub Stops : List ℕ → Type 0
 Stops [] = ⊤
 Stops (b ∷ bs) = b < 48
 
--- The text begins with a space and this number, and behind these stands the rest.
+-- The text begins with a space and this number, and after these comes the rest.
 pub record Begins (text : List ℕ) (n : ℕ) (rest : List ℕ) : Type 0 where
   pub short : IsShort n
   pub stops : Stops rest

@@ -5,7 +5,7 @@ ghost use Rattle.std.specs.Str.Parse.{IsNumeral, digits_value};
 ghost use Rattle.face_orient.specs.Line.{IsShort};
 ghost use Rattle.face_orient.specs.Numbers.{IsWord, Stops, Begins, AreNumbers};
 
-/// How many bytes stand before the first that is below the digits.
+/// How many bytes come before the first that is below the digits.
 fn word_len(text: &[u8]) -> usize
     ensures within { result ≤ length text.now }
     ensures word { IsWord (take result text.now) }
@@ -53,7 +53,7 @@ fn word_number(word: &[u8]) -> Option<u32>
     Some(number)
 }
 
-/// The number at the start of a text, behind a space, and what follows it; None where none of one to nine digits stands
+/// The number at the start of a text, after a space, and what follows it; None where none of one to nine digits is
 /// there.
 pub(crate) fn next_number(text: &[u8]) -> Option<(u32, &[u8])>
     ensures { MatchOption result ((n : ℕ) (ns : List ℕ) → ¬ AreNumbers text.now (n ∷ ns))

@@ -26,7 +26,7 @@ fn is_word(text: &[u8], word: &[u8]) -> bool
     text == word
 }
 
-/// The numbers that a text is, each behind a space.
+/// The numbers that a text is, each after a space.
 fn numbers_of(alloc: Global, text: &[u8]) -> Result<Option<NumberList>, NoMemory>
     ensures { IfOk result (λ read. MatchOption read (¬ IsSpaced text.now)
         (λ ns. AreNumbers text.now ns)) }
@@ -82,7 +82,7 @@ fn head_words(text: &[u8]) -> Option<OrientLine>
     }
 }
 
-/// The numbers of a line that begins with a letter: the shell, and those behind it.
+/// The numbers of a line that begins with a letter: the shell, and those after it.
 fn listed<'a>(text: &'a [u8], letter: &[u8]) -> Option<(u32, &'a [u8])>
     ensures { MatchOption result ((k : ℕ) (ns rest : List ℕ) → text.now ≡ letter.now ++ rest → ¬ AreNumbers rest (k ∷ ns))
         (λ p. (rest : List ℕ) × (text.now ≡ letter.now ++ rest) × Begins rest p.0 p.1.now) }

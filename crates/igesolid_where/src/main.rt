@@ -28,7 +28,7 @@ fn source_of<R: Files>(rt: &R, path: Option<&str>) -> StdSource<R::File>
     }
 }
 
-// The words that stand for those that can't be had: where one isn't UTF-8, none, which have no listed form; else the status.
+// The words in place of those that can't be had: where one isn't UTF-8, none, which have no listed form; else the status.
 fn words_for(alloc: Global, kind: ErrorKind) -> Result<Words, u8>
     ensures none { IfOk result (λ words. (kind ≡ ErrorKind.InvalidData) × (words ≡ [])) }
     ensures status { IfErr result (λ status. ((kind ≡ ErrorKind.OutOfMemory)

@@ -14,7 +14,7 @@ use Rattle.library_example.specs.declared.Finding.TheVariants.{Closed, Fails, Ba
 abbrev pub HasVerdict : List ℕ → ℕ → Verdict → Type 0
 HasVerdict bytes n v = (f : Contents) × IsOnly (IsFile bytes) f × IsOnly (IsVerdictOn f n) v
 
--- Only want of memory says nothing.
+-- It says nothing only where memory runs out.
 abbrev pub Finds : List ℕ → ℕ → Finding → Type 0
 Finds bytes n Closed = HasVerdict bytes n verdict.Closed
 Finds bytes n (Fails failing) = HasVerdict bytes n (verdict.Fails failing)

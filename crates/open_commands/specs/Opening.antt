@@ -8,7 +8,7 @@ use Rattle.cert_lines.specs.declared.fault.Misfit.{Misfit}
 use Rattle.open_shells.specs.Line.{OpenLine, head, IsSpelled}
 use Rattle.open_shells.specs.Opening.{IsHead, IsShell, NamesShell, IsOf, IsMisfit}
 
--- The certificate begins with the head, and these are the lines behind it, of which the first is a SHELL line of number n.
+-- The certificate begins with the head, and these are the lines after it, of which the first is a SHELL line of number n.
 pub record OpensShell (certificate : List ℕ) (n : ℕ) (lines : List (List ℕ)) : Type 0 where
   pub first : List ℕ
   pub second : List ℕ

@@ -7,7 +7,7 @@ use Rattle.solid_data.specs.declared.verdict.Failing.{Failing}
 use Rattle.open_shells.specs.Obligations.{open_obligations, AllHold as AllRulesHold, FirstFalse as FirstRuleFalse}
 use Rattle.open_shells.specs.declared.verdict.OpenFailing.{OpenFailing}
 
--- It is sound; or a rule on its records fails, or one on the shell that they tell.
+-- It is sound; or a rule on its records fails, or one on the shell that they describe.
 pub data OpenVerdict : Type 0 where
   sound : OpenVerdict
   misplaced : Failing → OpenVerdict

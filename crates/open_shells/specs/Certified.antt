@@ -11,7 +11,7 @@ use Rattle.open_shells.specs.declared.parts.OpenCertificate.{OpenCertificate}
 use Rattle.open_shells.specs.declared.fault.OpenFault.{OpenFault}
 use Rattle.open_shells.specs.declared.fault.OpenFault.TheVariants.{Fails, NoMemory}
 
--- A certificate of the solid's one shell: it names it, its lines can be spelled, and those behind the head are legal.
+-- A certificate of the solid's one shell: it names it, its lines can be spelled, and those after the head are legal.
 pub record IsOpenCertificate (s : SolidData) (c : OpenCertificate) : Type 0 where
   pub names : c.shell ≡ s.entity
   pub spelled : AllByRecursion HasSpelling (open_lines c)

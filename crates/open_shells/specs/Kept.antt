@@ -1,4 +1,4 @@
--- What a checker keeps of an open shell, in arrays, and when it is what the lines so far tell.
+-- What a checker keeps of an open shell, in arrays, and when it is what the lines so far say.
 use Rattle.std.specs.Prelude.{◌≡◌, ℕ, zero, suc, ◌+◌, ◌-◌, ◌*◌, ◌≤◌, ◌<◌, ◌^◌, ◌↔◌, min, Bool, true, false, List, [], ◌∷◌, length, map, Contains, Option, Some, None, IsSomeAnd, slice_get}
 use Rattle.std.specs.Bool.{MatchBool}
 use Rattle.solid_data.specs.SolidData.{SolidData}
@@ -16,7 +16,7 @@ abbrev pub IsMarked : List Bool → ℕ → Type 0
 IsMarked marks zero = ⊥
 IsMarked marks (suc r) = slice_get marks r ≡ Some true
 
--- the array tells these rows
+-- the array has these rows
 abbrev pub HoldsRows : List Bool → List ℕ → Type 0
 HoldsRows marks rows = (r : ℕ) → Contains rows r ↔ IsMarked marks r
 
@@ -71,7 +71,7 @@ pub record IsKept (k : KeptOpen) : Type 0 where
   -- a row that has a mate has no greater edge than the last one
   pub passed : (r m : ℕ) → mate_in k.mates r ≡ Some m → (row : Row) × (row_named k.rows r ≡ Some row) × IsSomeAnd k.last_edge (λ e. row.edge.0 ≤ e)
 
--- what is kept of the shell is what the lines tell
+-- what is kept of the shell is what the lines say
 pub record TellsLines (s : SolidData) (lines : List OpenLine) (k : KeptOpen) : Type 0 where
   pub entity : k.entity ≡ s.entity.0
   pub rows : k.rows ≡ shell_of s
@@ -91,7 +91,7 @@ pub record TellsLines (s : SolidData) (lines : List OpenLine) (k : KeptOpen) : T
   pub last_vertex : k.last_vertex ≡ (stand_behind s lines).last_vertex
   pub last_border : k.last_border ≡ (stand_behind s lines).last_border
 
--- Behind any lines that it tells of, the line is taken exactly where it fits, and then what is kept tells of the line too.
+-- After any lines that it speaks of, the line is taken exactly where it fits, and then what is kept speaks of the line too.
 abbrev pub Takes : KeptOpen → KeptOpen → OpenLine → Bool → Type 0
 Takes old new line taken =
     (s : SolidData) (lines : List OpenLine) → TellsLines s lines old →
@@ -105,7 +105,7 @@ pub record KeptChecker : Type 0 where
   pub ended : Bool
   pub shell : KeptOpen
 
--- The checker stands behind these lines, the latest first, which all fit.
+-- The checker has advanced past these lines, the latest first, which all fit.
 pub record IsAt (c : KeptChecker) (lines : List OpenLine) : Type 0 where
   pub legal : c.failed ≡ None
   pub number : c.number ≡ (stand_behind c.solid lines).number
@@ -118,7 +118,7 @@ pub record HasRoom (c : KeptChecker) : Type 0 where
   pub unended : c.ended ≡ false → c.number + dues c.shell ≤ 3 + 2 ^ 34
   pub unbegun : c.shell.begun ≡ false → (c.number ≤ 2) × (dues c.shell ≡ 0)
 
--- Behind any lines that the checker stands behind, the line is taken exactly where it fits, and then it stands behind it.
+-- After any lines that the checker has advanced past, the line is taken exactly where it fits, and then the checker has advanced past it too.
 abbrev pub TakesLine : KeptChecker → KeptChecker → OpenLine → Bool → Type 0
 TakesLine old new line taken =
     (lines : List OpenLine) → IsAt old lines →

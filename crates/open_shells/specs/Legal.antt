@@ -1,4 +1,4 @@
--- Which lines behind the head make a certificate of an open shell legal, and which is the first bad one.
+-- Which lines after the head make a certificate of an open shell legal, and which is the first bad one.
 use Rattle.std.specs.Prelude.{◌≡◌, ℕ, ◌⊎◌, true, false, List, [], ◌∷◌}
 use Rattle.solid_data.specs.SolidData.{SolidData}
 use Rattle.cert_lines.specs.declared.fault.Illegal.{Illegal}
@@ -6,7 +6,7 @@ use Rattle.cert_lines.specs.declared.fault.Illegal.TheVariants.{Misspelt, Unfit,
 use Rattle.open_shells.specs.Line.{OpenLine, IsSpelled, IsMisspelt}
 use Rattle.open_shells.specs.Stand.{stand_behind, FitsLine}
 
--- Behind the lines before, the latest first: each line is spelled and fits the stand of those before it, and the last is END.
+-- After the lines before, the latest first: each line is spelled and fits the stand of those before it, and the last is END.
 abbrev pub IsLegalBehind : SolidData → List OpenLine → List (List ℕ) → Type 0
 IsLegalBehind s before [] = (stand_behind s before).ended ≡ true
 IsLegalBehind s before (bytes ∷ rest) = (line : OpenLine) × IsSpelled bytes line × FitsLine s (stand_behind s before) line × IsLegalBehind s (line ∷ before) rest
@@ -18,12 +18,12 @@ IsOpenLegal s lines = IsLegalBehind s [] lines
 abbrev pub IsUnfit : SolidData → List OpenLine → List ℕ → Type 0
 IsUnfit s before bytes = (line : OpenLine) × IsSpelled bytes line × ¬ FitsLine s (stand_behind s before) line
 
--- The bytes are no line that fits behind these lines: they are misspelt, or unfit.
+-- The bytes are no line that fits after these lines: they are misspelt, or unfit.
 abbrev pub IsBadLine : SolidData → List OpenLine → List ℕ → Illegal → Type 0
 IsBadLine s before bytes bad =
     (IsMisspelt bytes × (bad ≡ Misspelt (stand_behind s before).number)) ⊎ (IsUnfit s before bytes × (bad ≡ Unfit (stand_behind s before).number))
 
--- the first misspelt or unfit line, or the number behind the last line where END is missing
+-- the first misspelt or unfit line, or the number after the last line where END is missing
 abbrev pub IsFirstBadBehind : SolidData → List OpenLine → List (List ℕ) → Illegal → Type 0
 IsFirstBadBehind s before [] bad = ((stand_behind s before).ended ≡ false) × (bad ≡ Missing (stand_behind s before).number)
 IsFirstBadBehind s before (bytes ∷ rest) bad =

@@ -1,4 +1,4 @@
--- Where an open shell's certificate stands behind some of its lines, and which line fits there. The lines are those behind the head, the latest first.
+-- How far an open shell's certificate has come after some of its lines, and which line fits there. The lines are those after the head, the latest first.
 use Rattle.std.specs.Prelude.{◌≡◌, ℕ, ◌+◌, ◌-◌, ◌*◌, ◌<◌, Bool, true, false, List, [], ◌∷◌, length, filter_map, flat_map, find, filter, Contains, Option, Some, None, option_map, ⊤}
 use Rattle.std.specs.List.{AllByRecursion, AllZip, list_any}
 use Rattle.solid_data.specs.Ring.{next_of_each}
@@ -120,7 +120,7 @@ stand_behind s lines = record {
   bordered = flat_map border_rows lines;
 }
 
--- as a stand of a closed solid's certificate, by which the conditions are told that both kinds of certificates share
+-- as a stand of a closed solid's certificate, by which the conditions are stated that both kinds of certificates share
 abbrev pub shared : OpenStand → Stand
 shared at = record { ended = at.ended; shell = 1; due = record { edges = at.edges_due; corners = at.corners_due; reach = at.reach_due; tally = 0 }; mates = at.mates; last_edge = at.last_edge; last_vertex = at.last_vertex; reached = at.reached }
 
@@ -147,7 +147,7 @@ abbrev pub IsChain : (ℕ → ℕ → Type 0) → ℕ → List ℕ → Type 0
 IsChain R r [] = ⊤
 IsChain R r (s ∷ rs) = R r s × IsChain R s rs
 
--- the last of r and the ones behind it
+-- the last of r and the ones after it
 abbrev pub last_of : ℕ → List ℕ → ℕ
 last_of r [] = r
 last_of r (s ∷ rs) = last_of s rs

@@ -14,6 +14,6 @@ abbrev pub FitsBorderLine : ShellRows → OpenStand → List ℕ → Type 0
 FitsBorderLine d at [] = ⊥
 FitsBorderLine d at (r ∷ rs) = FitsBorder d at r rs
 
--- From r on each row is one of these, and goes on to the next, and the last to the first; all behind r are greater than the first.
+-- From r on each row is one of these, and goes on to the next, and the last to the first; all after r are greater than the first.
 abbrev pub IsBorderRing : ShellRows → List ℕ → ℕ → ℕ → List ℕ → Type 0
 IsBorderRing d lone first r rs = AllByRecursion (Contains lone) (r ∷ rs) × AllZip (GoesOnTo d) (r ∷ rs) (rs ++ first ∷ []) × AllByRecursion (λ x. first < x) rs

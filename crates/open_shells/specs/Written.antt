@@ -27,7 +27,7 @@ border_line rows = border (map row_number rows)
 abbrev pub shell_line : OpenCertificate → OpenLine
 shell_line c = shell c.shell.0 c.rows (length c.edges) (length c.corners) c.faces (length c.borders)
 
--- the lines behind the head
+-- the lines after the head
 abbrev pub further_lines : OpenCertificate → List OpenLine
 further_lines c = shell_line c ∷ (map edge_line c.edges ++ (map corner_line c.corners ++ (map reach_line c.reach ++ (map border_line c.borders ++ end ∷ []))))
 

@@ -36,7 +36,7 @@ pub(crate) fn lists_all(rows: &Rows, edges_due: u32, listed: u64, more: u64) -> 
     edges_due != 1 || listed + more == rows.len() as u64
 }
 
-/// The edge of a line of the only row of an edge that fits behind one of the last edge.
+/// The edge of a line of the only row of an edge that fits after one of the last edge.
 pub(crate) fn fitting_lone(rows: &Rows, last: Option<u32>, row: u32) -> Option<EdgeId>
     ensures { (at : OpenStand) → at.last_edge ≡ last → MatchOption result (¬ FitsLone rows.now at row)
         (λ e. FitsLone rows.now at row × (edge_in rows.now (lone_line row) ≡ Some e.0)) }
@@ -65,7 +65,7 @@ pub(crate) fn is_marked(marks: &[bool], row: u32) -> bool
 }
 
 /// How many rows turn one to the next from a first one on, and the last of them. The others are numbers of a text, each
-/// behind a space.
+/// after a space.
 fn path_end(rows: &Rows, mates: &[u32], first: u32, others: &[u8]) -> Option<(u32, usize)>
     ensures { (pairs : List (ℕ × ℕ)) (rs : List ℕ) → HoldsMates mates.now pairs → AreNumbers others.now rs →
         MatchOption result (¬ IsChain (TurnsTo rows.now pairs) first rs)
@@ -85,7 +85,7 @@ fn path_end(rows: &Rows, mates: &[u32], first: u32, others: &[u8]) -> Option<(u3
     Some((last, count))
 }
 
-/// The vertex of a path line that fits behind one at the last vertex, where these are the mates and the rows that are the
+/// The vertex of a path line that fits after one at the last vertex, where these are the mates and the rows that are the
 /// only ones of their edges.
 pub(crate) fn fitting_path(
     rows: &Rows,
@@ -143,7 +143,7 @@ fn borders_on(rows: &Rows, lone: &[bool], first: u32, last: u32, next: u32) -> b
 }
 
 /// How many of the rows that are the only ones of their edges go on to one another from a first one on, back to it, which
-/// is the least. The others are numbers of a text, each behind a space.
+/// is the least. The others are numbers of a text, each after a space.
 fn border_len(rows: &Rows, lone: &[bool], first: u32, others: &[u8]) -> Option<usize>
     ensures { (rows_alone : List ℕ) (rs : List ℕ) → HoldsRows lone.now rows_alone → AreNumbers others.now rs →
         MatchOption result (¬ IsBorderRing rows.now rows_alone first first rs) (λ n. IsBorderRing rows.now rows_alone first first rs × (n ≡ length (first ∷ rs))) }
@@ -169,7 +169,7 @@ fn border_len(rows: &Rows, lone: &[bool], first: u32, others: &[u8]) -> Option<u
     }
 }
 
-/// The first row of a border line that fits behind one with the last first row, and how many rows it lists.
+/// The first row of a border line that fits after one with the last first row, and how many rows it lists.
 pub(crate) fn fitting_border(
     rows: &Rows,
     lone: &[bool],

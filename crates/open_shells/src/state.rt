@@ -9,7 +9,7 @@ use std::marker::Model;
 use topo_certificate::{fitting_corner, fitting_edge, fitting_face, fitting_point, sizes_of};
 
 /// What is kept of the shell: its rows, what its lines are compared with, and what the lines so far said. Places in the
-/// lists count from 0; rows that stand in them count from 1, as in the lines.
+/// lists count from 0; rows that are in them count from 1, as in the lines.
 #[derive(Drop)]
 pub(crate) struct OpenState {
     entity: EntryNo,

@@ -19,15 +19,15 @@ pub(crate) enum OpenWords<'a> {
     Edge(u32, u32),
     /// `E`, and the only row of an edge.
     Lone(u32),
-    /// `C`. The rows stand in this text, each behind a space.
+    /// `C`. The rows are in this text, each after a space.
     Cycle(&'a [u8]),
-    /// `P`. The rows stand in this text, each behind a space.
+    /// `P`. The rows are in this text, each after a space.
     Path(&'a [u8]),
     /// `I`, a face of the shell, and a loop of that face.
     Point(u32, u32),
     /// `R`, and a row.
     Reach(u32),
-    /// `B`. The rows stand in this text, each behind a space.
+    /// `B`. The rows are in this text, each after a space.
     Border(&'a [u8]),
     /// `END`.
     End,
@@ -126,7 +126,7 @@ fn reach_words(text: &[u8]) -> Option<u32>
     }
 }
 
-/// The numbers behind a word, as text, of which there is at least one.
+/// The numbers after a word, as text, of which there is at least one.
 fn row_words<'a>(text: &'a [u8], word: &[u8]) -> Option<&'a [u8]>
     ensures { MatchOption result ((rs : List ℕ) → ¬ IsRowsBehind text.now word.now rs)
         (λ rest. (rs : List ℕ) × (rest.now ≡ spaced rs) × IsRowsBehind text.now word.now rs) }

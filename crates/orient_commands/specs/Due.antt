@@ -50,7 +50,7 @@ OfOrient n f a t =
     ⊎ (AllHold (places f n) × (x : OrientFailing) × IsFirstUnready (solid_of f n) x × Exactly answer.No (orient_fail_line x) a t)
     ⊎ (AllHold (places f n) × OfAllShells IsReady (solid_of f n) × IsOriented (solid_of f n) n a t)
 
--- what is owed of lines from line 2 on, behind one that names solid n: the first place that is false, the first shell's COUNT that fails, the first bad line, or that they are accepted
+-- what is owed of lines from line 2 on, after one that names solid n: the first place that is false, the first shell's COUNT that fails, the first bad line, or that they are accepted
 abbrev pub OfOrientLines : ℕ → List (List ℕ) → Contents → Owed
 OfOrientLines n lines f a t =
     ((x : Failing) × FirstFalse (places f n) x × Exactly answer.No (fail_line x) a t)
@@ -58,7 +58,7 @@ OfOrientLines n lines f a t =
     ⊎ (AllHold (places f n) × OfAllShells IsCounted (solid_of f n) × (bad : Illegal) × IsFirstBad (solid_of f n) 2 lines bad × Exactly answer.No (illegal_line bad) a t)
     ⊎ (AllHold (places f n) × OfAllShells IsCounted (solid_of f n) × AreWhole (solid_of f n) 2 lines × Exactly answer.Done (accepted_line n) a t)
 
--- what is owed of verifying the text of an orientation: that it is too large, what is wrong with line 1, or what is owed of the lines behind it
+-- what is owed of verifying the text of an orientation: that it is too large, what is wrong with line 1, or what is owed of the lines after it
 abbrev pub OfOrientVerify : List ℕ → Contents → Owed
 OfOrientVerify text f a t =
     ((CERT_LIMIT < length text) × Exactly answer.TooLarge [] a t)

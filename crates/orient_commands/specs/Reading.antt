@@ -21,7 +21,7 @@ abbrev pub IsTextFault : (Illegal → Type 0) → TextFault → Type 0
 IsTextFault IsBad (Bad bad) = IsBad bad
 IsTextFault IsBad NoMemory = ⊤
 
--- The first line of the text fits as the line of this number, and behind it stands the rest.
+-- The first line of the text fits as the line of this number, and after it comes the rest.
 pub record FitsFirst (s : SolidData) (number : ℕ) (text rest : List ℕ) : Type 0 where
   pub line : List ℕ
   pub cut : cut_lines text ≡ line ∷ cut_lines rest
@@ -32,7 +32,7 @@ pub record IsRestOf (s : SolidData) (text : List ℕ) (number : ℕ) (rest : Lis
   pub whole : AreWhole s number (cut_lines rest) → AreWhole s 2 (cut_lines text)
   pub bad : (bad : Illegal) → IsFirstBad s number (cut_lines rest) bad → IsFirstBad s 2 (cut_lines text) bad
 
--- The text is a head that names solid n and so many lines that fit behind it, among them that of a ring where ringed says so.
+-- The text is a head that names solid n and so many lines that fit after it, among them that of a ring where ringed says so.
 pub record IsBegun (s : SolidData) (n count : ℕ) (ringed : Bool) (text : List ℕ) : Type 0 where
   pub head : List ℕ
   pub lines : List (List ℕ)
@@ -42,7 +42,7 @@ pub record IsBegun (s : SolidData) (n count : ℕ) (ringed : Bool) (text : List 
   pub counted : length lines ≡ count
   pub rings : MatchBool ringed (HasRing lines) (¬ HasRing lines)
 
--- The reply tells the first bad line of these from line 2 on, or that they are accepted for solid n.
+-- The reply says which is the first bad line of these from line 2 on, or that they are accepted for solid n.
 abbrev pub IsOfLines : SolidData → ℕ → List (List ℕ) → Reply → Type 0
 IsOfLines s n lines reply =
     ((bad : Illegal) × IsFirstBad s 2 lines bad × Exactly answer.No (illegal_line bad) reply.answer reply.text)

@@ -22,7 +22,7 @@ pub record IsLineOf (s : SolidData) (i number k : ℕ) : Type 0 where
   pub numbered : number ≡ k + 1
   pub at : i ≡ k + 2
 
--- It fits as line i behind the head: flags or a ring of the shell whose line that is, and END behind the line of the last shell.
+-- It fits as line i after the head: flags or a ring of the shell whose line that is, and END after the line of the last shell.
 abbrev pub FitsAs : SolidData → ℕ → OrientLine → Type 0
 FitsAs s i (Head solid) = ⊥
 FitsAs s i (Flags shell flags) = (k : ℕ) × IsLineOf s i shell k × FlagsFit s k flags
@@ -58,7 +58,7 @@ pub record LacksNext (s : SolidData) (first : ℕ) (lines : List (List ℕ)) (ba
 abbrev pub IsFirstBad : SolidData → ℕ → List (List ℕ) → Illegal → Type 0
 IsFirstBad s first lines bad = HasWrong s first lines bad ⊎ LacksNext s first lines bad
 
--- Line 1 of the text names solid n, and these are the lines behind it.
+-- Line 1 of the text names solid n, and these are the lines after it.
 pub record Names (text : List ℕ) (n : ℕ) (lines : List (List ℕ)) : Type 0 where
   pub head : List ℕ
   pub cut : cut_lines text ≡ head ∷ lines

@@ -1,4 +1,4 @@
-//! The lines behind the first.
+//! The lines after the first.
 
 ghost use Rattle.std.specs.Prelude.{◌≡◌, ◌+◌, ◌<◌, ◌↔◌, [], length, IfOk, IfErr, IsTrue, OnOk};
 ghost use Rattle.cert_lines.specs.Line.{cut_lines};
@@ -15,7 +15,7 @@ use solid_data::{ShellAt, Solid};
 use std::alloc::Global;
 use topo_certificate::Illegal;
 
-/// The text behind the line of a shell, which fits.
+/// The text after the line of a shell, which fits.
 fn behind_shell<'a>(
     alloc: Global,
     solid: &Solid,
@@ -45,7 +45,7 @@ fn is_end(line: &OrientLine) -> bool
     matches!(line, OrientLine::End)
 }
 
-/// The text behind END, which has this number.
+/// The text after END, which has this number.
 fn behind_end<'a>(
     alloc: Global,
     solid: &Solid,
@@ -66,7 +66,7 @@ fn behind_end<'a>(
     Ok(rest)
 }
 
-/// Nothing fits behind END; this is the number of the line behind it.
+/// Nothing fits after END; this is the number of the line after it.
 fn end_text(alloc: Global, solid: &Solid, number: u64, text: &[u8]) -> Result<(), TextFault>
     requires { number ≡ length solid.now.shells + 3 }
     ensures none { OnOk result (cut_lines text.now ≡ []) }
@@ -79,7 +79,7 @@ fn end_text(alloc: Global, solid: &Solid, number: u64, text: &[u8]) -> Result<()
     Err(TextFault::Bad(Illegal::Unfit { line: number }))
 }
 
-/// Judges the lines behind the first: a line that fits for each shell, and END.
+/// Judges the lines after the first: a line that fits for each shell, and END.
 pub(crate) fn check_lines(alloc: Global, solid: &Solid, text: &[u8]) -> Result<(), TextFault>
     requires { OfAllShells IsCounted solid.now }
     ensures whole { OnOk result (AreWhole solid.now 2 (cut_lines text.now)) }

@@ -67,7 +67,7 @@ fn is_ring(line: &OrientLine) -> bool
     matches!(line, OrientLine::Ring { .. })
 }
 
-/// Puts the line of a shell behind those before it, and tells whether a ring is among them all.
+/// Puts the line of a shell after those before it, and says whether a ring is among them all.
 fn put_shell(
     alloc: Global,
     out: &mut Out,

@@ -16,7 +16,7 @@ use iges_base::EntryNo;
 use std::alloc::Global;
 use topo_certificate::Illegal;
 
-/// The line that bytes spell, which stand as the line of this number.
+/// The line that bytes spell, which are the line of this number.
 pub(crate) fn read_line(alloc: Global, line: &[u8], number: u64) -> Result<OrientLine, TextFault>
     ensures found { IfOk result (IsSpelled line.now) }
     ensures fault { IfErr result (IsTextFault
@@ -29,7 +29,7 @@ pub(crate) fn read_line(alloc: Global, line: &[u8], number: u64) -> Result<Orien
     }
 }
 
-/// The solid that line 1 names, and the text behind this line.
+/// The solid that line 1 names, and the text after this line.
 pub(crate) fn read_head(alloc: Global, text: &[u8]) -> Result<(EntryNo, &[u8]), TextFault>
     ensures found { IfOk result (λ r. Names text.now r.0.0 (cut_lines r.1.now)) }
     ensures fault { IfErr result (IsTextFault (IsBadHead text.now)) }

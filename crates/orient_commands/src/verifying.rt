@@ -24,7 +24,7 @@ use solid_data::Solid;
 use std::alloc::Global;
 use topo_certificate::CERT_LIMIT;
 
-/// The reply for lines behind one that names a solid of which COUNT holds.
+/// The reply for lines after one that names a solid of which COUNT holds.
 fn lines_reply(alloc: Global, solid: &Solid, no: EntryNo, text: &[u8]) -> Result<Reply, NoMemory>
     requires { OfAllShells IsCounted solid.now }
     ensures { IfOk result (IsOfLines solid.now no.0 (cut_lines text.now)) }
@@ -36,7 +36,7 @@ fn lines_reply(alloc: Global, solid: &Solid, no: EntryNo, text: &[u8]) -> Result
     }
 }
 
-/// The reply for a text behind one that names a solid.
+/// The reply for a text after one that names a solid.
 fn solid_reply(alloc: Global, file: File, no: EntryNo, text: &[u8]) -> Result<Reply, NoMemory>
     ensures { IfOk result (λ reply. OfOrientLines no.0
         (cut_lines text.now) file reply.answer reply.text) }
@@ -68,7 +68,7 @@ fn text_reply(alloc: Global, file: File, text: &[u8]) -> Result<Reply, NoMemory>
 
 /// Whether the text of a source is an orientation of the solid that it names: it is accepted, rings included, or the
 /// first thing that is wrong with its line 1, with the solid's records, with a shell's edges or with a further line is
-/// told (own). The text is held whole.
+/// reported (own). The text is held whole.
 pub fn verify_orientation<C: Source>(alloc: Global, file: File, cert: &mut C) -> Result<Reply, Stop>
     requires { C.can_read cert.old }
     ensures found { IfOk result (IsReply (λ text. OfOrientVerify text file) (C.left cert.old)) }

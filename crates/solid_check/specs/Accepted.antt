@@ -54,7 +54,7 @@ pub record IsGoodPart (f : Contents) (p : Part) : Type 0 where
   pub names : IsSpelled p.first (solid p.solid)
   pub certified : Certify Two f p.solid (p.further ++ spelling end ∷ [])
 
--- A book: behind the head of version 3 stand one or more good parts, by rising solid, and then END.
+-- A book: after the head of version 3 come one or more good parts, by rising solid, and then END.
 pub record IsAcceptedBook (f : Contents) (certificate : List ℕ) (parts : List Part) : Type 0 where
   pub headed : IsHeaded certificate Three (flat_map part_lines parts ++ spelling end ∷ [])
   pub some : 0 < length parts

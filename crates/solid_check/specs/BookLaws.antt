@@ -1,4 +1,4 @@
--- What holds of books by their definition. The lines are those behind the head.
+-- What holds of books by their definition. The lines are those after the head.
 use Rattle.std.specs.Prelude.{◌≡◌, ℕ, ◌⊎◌, List}
 use Rattle.iges_params.specs.Contents.{Contents}
 use Rattle.cert_lines.specs.Opening.{IsHeaded}
@@ -14,7 +14,7 @@ OneRefusal = (f : Contents) (certificate : List ℕ) (lines : List (List ℕ)) (
 abbrev pub NoneBadWhereAccepted : Type 0
 NoneBadWhereAccepted = (f : Contents) (certificate : List ℕ) (lines : List (List ℕ)) (parts : List Part) (a : BookRefusal) → IsHeaded certificate Three lines → IsAcceptedBook f certificate parts → ¬ IsBookBad f lines a
 
--- Whatever stands behind the head, the book is accepted or something is the first bad one.
+-- Whatever comes after the head, the book is accepted or something is the first bad one.
 abbrev pub AcceptedOrBad : Type 0
 AcceptedOrBad = (f : Contents) (certificate : List ℕ) (lines : List (List ℕ)) → IsHeaded certificate Three lines → ((parts : List Part) × IsAcceptedBook f certificate parts) ⊎ ((a : BookRefusal) × IsBookBad f lines a)
 

@@ -39,7 +39,7 @@ pub fn upgrading_keeps_acceptance()
 {}
 
 /// Two accepted certificates of one version that name the same solids are the same line by line, but that a line which
-/// shows how a face is reached may name another row: all other lines are told by the solids. (own)
+/// shows how a face is reached may name another row: all other lines are fixed by the solids. (own)
 pub fn differ_in_reach()
     ensures { AcceptedDifferInReach }
 {}

@@ -1,6 +1,6 @@
 //! What a certificate shows of a file: which certificates are accepted, and what is judged beside their lines.
 //!
-//! Nothing here makes a certificate, and nothing here stands on what does.
+//! Nothing here makes a certificate, and nothing here depends on what does.
 #![tactic(auto)]
 
 mod checking;

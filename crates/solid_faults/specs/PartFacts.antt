@@ -1,4 +1,4 @@
--- What is told of each part of a shell. A part is named by its first face.
+-- What is said of each part of a shell. A part is named by its first face.
 use Rattle.std.specs.Prelude.{◌≡◌, ◌==◌, nat_lt, ℕ, Bool, List, [], ◌∷◌, length, map, flat_map, if◌then◌else◌}
 use Rattle.std.specs.List.{enumerate_from}
 use Rattle.solid_data.specs.Ring.{numbers_from}
@@ -45,7 +45,7 @@ part_unpaired s shell firsts unpaired p = occurring (part_edges s shell firsts p
 abbrev pub part_touching : SolidData → Shell → List ℕ → ℕ → List ℕ
 part_touching s shell firsts p = occurring (part_vertices s shell firsts p) (flat_map (face_vertices s) (faces_before shell firsts p))
 
--- what is told of a part
+-- what is said of a part
 pub record IsPart (s : SolidData) (shell : Shell) (firsts : List ℕ) (us : List Unpaired) (p : ℕ) (part : Part) : Type 0 where
   pub faces : part.faces.items ≡ map (λ (f : FaceUse). f.entity) (part_faces shell firsts p)
   pub edges : part.edges ≡ length (part_edges s shell firsts p)

@@ -1,4 +1,4 @@
--- Where the rows of a shell stand in the file: each with its face, its loop and its tuple.
+-- Where the rows of a shell are in the file: each with its face, its loop and its tuple.
 use Rattle.std.specs.Prelude.{ℕ, Bool, false, List, [], ◌∷◌, flat_map, Option, Some, None}
 use Rattle.std.specs.List.{enumerate_from}
 use Rattle.solid_data.specs.SolidData.{SolidData, PlacedLoop, placed_in_face}
@@ -15,7 +15,7 @@ abbrev pub flag_of_use : LoopUse → Bool
 flag_of_use (EdgeUse edge along) = along
 flag_of_use (VertexUse vertex) = false
 
--- where the row of a use stands, if the use has one
+-- where the row of a use is, if the use has one
 abbrev pub place_of_row : FaceUse → PlacedLoop → ℕ → Bool → Option Row → List RowPlace
 place_of_row f p t flag None = []
 place_of_row f p t flag (Some r) = record { along = r.along; face = f.entity; face_flag = f.flag; walk = p.loop.entity; tuple = t; flag = flag } ∷ []
@@ -30,7 +30,7 @@ loop_places s f p = flat_map (use_places s f p) (enumerate_from 1 p.loop.uses)
 abbrev pub face_places : SolidData → Bool → ℕ × FaceUse → List RowPlace
 face_places s shell_flag f = flat_map (loop_places s f.1) (placed_in_face shell_flag f)
 
--- where each row of a shell stands, in the order of the rows
+-- where each row of a shell is, in the order of the rows
 abbrev pub row_places_of : SolidData → Shell → List RowPlace
 row_places_of s shell = flat_map (face_places s shell.flag) (enumerate_from 0 shell.faces)
 

@@ -1,4 +1,4 @@
-//! What is told of each part of a shell.
+//! What is said of each part of a shell.
 
 ghost use Rattle.std.specs.Prelude.{◌≡◌, ◌<◌, ◌^◌, ◌++◌, ◌∷◌, [], ◌&&◌, ◌||◌, ◌==◌, ◌-◌, nat_lt, ℕ, List, All, Some, IfOk, length, map, flat_map, slice_get, option_copied, if◌then◌else◌};
 ghost use Rattle.std.specs.List.{list_any};
@@ -25,7 +25,7 @@ use solid_data::{FaceUse, Shell, ShellAt, Solid};
 use std::alloc::Global;
 use std::marker::Model;
 
-/// The parts of a shell, with tables by which each is told, made once (own).
+/// The parts of a shell, with tables by which each is described, made once (own).
 #[derive(Drop)]
 pub struct PartTables<'a> {
     solid: &'a Solid,

@@ -1,4 +1,4 @@
-//! Where the rows of a shell stand in the file.
+//! Where the rows of a shell are in the file.
 
 ghost use Rattle.std.specs.Prelude.{◌≡◌, ◌<◌, ◌^◌, ◌++◌, Bool, List, length, map, flat_map, slice_get, option_copied, IfOk};
 ghost use Rattle.std.specs.Option.{option_to_list};
@@ -15,7 +15,7 @@ use iges_base::{EntryNo, NoMemory};
 use solid_data::{Edge, FaceUse, Loop, LoopUse, Shell, ShellAt, Solid};
 use std::alloc::Global;
 
-/// Where a row of a shell stands in the file, and by which flags it runs (IGES 5.3, 4.147 to 4.149).
+/// Where a row of a shell is in the file, and by which flags it runs (IGES 5.3, 4.147 to 4.149).
 #[derive(Clone, Copy, Debug, PartialEq, Eq)]
 pub struct RowPlace {
     /// Whether the row runs along its edge, by all three flags.
@@ -143,7 +143,7 @@ fn push_shell_places(solid: &Solid, shell: &Shell, out: &mut Vec<RowPlace>) -> R
     Ok(())
 }
 
-/// Where each row of a shell stands in the file, in the order of the rows (own).
+/// Where each row of a shell is in the file, in the order of the rows (own).
 pub fn row_places(alloc: Global, solid: &Solid, shell: ShellAt) -> Result<Vec<RowPlace>, NoMemory>
     requires { shell.0 < length solid.now.shells }
     ensures places { IfOk result (λ out. out.items

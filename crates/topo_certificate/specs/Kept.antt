@@ -18,11 +18,11 @@ abbrev pub mate_in : List ℕ → ℕ → Option ℕ
 mate_in mates zero = None
 mate_in mates (suc r) = above_zero (slice_get mates r)
 
--- the array tells the mates of these pairs
+-- the array has the mates of these pairs
 abbrev pub HoldsMates : List ℕ → List (ℕ × ℕ) → Type 0
 HoldsMates mates pairs = (r m : ℕ) → IsMate pairs r m ↔ (mate_in mates r ≡ Some m)
 
--- the array tells these faces
+-- the array has these faces
 abbrev pub HoldsFaces : List Bool → List ℕ → Type 0
 HoldsFaces reached faces = (f : ℕ) → Contains faces f ↔ (slice_get reached f ≡ Some true)
 
@@ -49,11 +49,11 @@ corner_size d v = if point_count d v == 0 then start_count d v else 0
 abbrev pub is_alone : ShellRows → ℕ → Bool
 is_alone d v = (start_count d v == 0) && (point_count d v == 1)
 
--- p stands before q: in an earlier face, or earlier in the same face
+-- p comes before q: in an earlier face, or earlier in the same face
 abbrev pub Precedes : LoopAt → LoopAt → Type 0
 Precedes p q = (p.face.0 ≤ q.face.0) × (p.face.0 ≡ q.face.0 → p.place < q.place)
 
--- each stands before all behind it
+-- each comes before all after it
 abbrev pub InFileOrder : List (LoopAt × ℕ) → Type 0
 InFileOrder points = (i j : ℕ) (p q : LoopAt × ℕ) → i < j → slice_get points i ≡ Some p → slice_get points j ≡ Some q → Precedes p.0 q.0
 

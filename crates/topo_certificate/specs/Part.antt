@@ -7,7 +7,7 @@ use Rattle.topo_certificate.specs.Told.{Kept, IsAt}
 use Rattle.topo_certificate.specs.declared.line_checker.PartLine.{PartLine}
 use Rattle.topo_certificate.specs.declared.line_checker.PartLine.TheVariants.{More, Next}
 
--- Behind these lines, numbered from this number on, the bytes are a line that fits, or one that begins the next part.
+-- After these lines, numbered from this number on, the bytes are a line that fits, or one that begins the next part.
 abbrev pub IsPartLine : Kept → Kept → ℕ → List CertLine → List ℕ → PartLine → Type 0
 IsPartLine old new first lines bytes More =
     (l : CertLine) × IsLine (line_limit old.solid) bytes l × FitsLine old.solid (stand_behind old.version old.solid lines) l × IsAt first new (l ∷ lines)

@@ -18,7 +18,7 @@ pub record HasRoom (limit : ℕ) (c : Kept) : Type 0 where
   pub few : c.number + dues_of c.current ≤ 2 ^ 32 + 1 + c.shell * 2 ^ 34
   pub unended : c.ended ≡ false → c.number + dues_of c.current ≤ 2 ^ 32 + c.shell * 2 ^ 34
 
--- Behind any lines that the checker stands behind, the line is taken exactly where it fits, and then it stands behind it.
+-- After any lines that the checker has advanced past, the line is taken exactly where it fits, and then the checker has advanced past it too.
 abbrev pub TakesLine : Kept → Kept → CertLine → Bool → Type 0
 TakesLine old new line taken =
     (first : ℕ) (lines : List CertLine) → IsAt first old lines →

@@ -1,4 +1,4 @@
--- Where a certificate of a version stands after some of its lines, and which line fits there. The lines are those after the head and the line of the solid.
+-- How far a certificate of a version has come after some of its lines, and which line fits there. The lines are those after the head and the line of the solid.
 use Rattle.std.specs.Prelude.{◌≡◌, ℕ, zero, suc, ◌+◌, ◌-◌, ◌*◌, ◌<◌, ◌==◌, ◌&&◌, ◌⊎◌, Bool, true, false, List, [], ◌∷◌, length, reverse, sum_by, filter_map, find, filter, count_by, Contains, Option, Some, None, slice_get, option_map, IfSome, if◌then◌else◌}
 use Rattle.std.specs.List.{AllByRecursion, AllZip, list_any}
 use Rattle.solid_data.specs.Ring.{next_of_each}
@@ -42,7 +42,7 @@ is_last _ = false
 abbrev pub number_of : (CertLine → Bool) → List CertLine → ℕ
 number_of kind lines = length (filter kind lines)
 
--- Of lines that stand the latest first: those after the last SHELL line.
+-- Of lines that are given the latest first: those after the last SHELL line.
 abbrev pub since_shell : List CertLine → List CertLine
 since_shell [] = []
 since_shell (line ∷ lines) = if is_shell line then [] else line ∷ since_shell lines

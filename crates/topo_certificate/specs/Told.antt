@@ -1,4 +1,4 @@
--- When what a checker keeps is what the lines so far tell.
+-- When what a checker keeps is what the lines so far say.
 use Rattle.std.specs.Prelude.{◌≡◌, ℕ, ◌+◌, ◌-◌, ◌<◌, Bool, List, ◌∷◌, length, Option, Some, None, slice_get}
 use Rattle.std.specs.Bool.{MatchBool}
 use Rattle.solid_data.specs.SolidData.{SolidData}
@@ -22,7 +22,7 @@ pub record TellsShell (s : SolidData) (at : Stand) (k : KeptShell) : Type 0 wher
   pub mates : HoldsMates k.mates at.mates
   pub reached : HoldsFaces k.reached at.reached
 
--- Behind any lines that it tells of, the line is taken exactly where it fits, and then what is kept tells of the line too.
+-- After any lines that it speaks of, the line is taken exactly where it fits, and then what is kept speaks of the line too.
 abbrev pub Takes : KeptShell → KeptShell → CertLine → Bool → Type 0
 Takes old new line taken =
     (v : Version) (s : SolidData) (lines : List CertLine) → TellsShell s (stand_behind v s lines) old →
@@ -49,7 +49,7 @@ abbrev pub TellsCurrent : SolidData → Stand → Option KeptShell → Type 0
 TellsCurrent s at None = (at.shell ≡ 0) × NoneDue at.due
 TellsCurrent s at (Some k) = TellsShell s at k
 
--- The checker stands behind these lines, the latest first, which all fit and are numbered from this number on.
+-- The checker has advanced past these lines, the latest first, which all fit and are numbered from this number on.
 pub record IsAt (first : ℕ) (c : Kept) (lines : List CertLine) : Type 0 where
   pub legal : c.failed ≡ None
   pub number : c.number ≡ first + length lines

@@ -13,7 +13,7 @@ starts_with [] bytes = true
 starts_with (w ∷ word) [] = false
 starts_with (w ∷ word) (b ∷ bytes) = (w == b) && starts_with word bytes
 
--- what the TALLY line of a shell tells
+-- what the TALLY line of a shell says
 abbrev pub tally_of_shell : SolidData → Shell → Tally
 tally_of_shell s h = record { vertices = length (shell_rows s h).vertices; edges = length (shell_rows s h).edges; faces = (shell_rows s h).face_count; loops = loops_of (Some h) }
 

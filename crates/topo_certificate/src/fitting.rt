@@ -30,7 +30,7 @@ pub fn is_above(last: Option<u32>, number: u32) -> bool
     }
 }
 
-/// The edge of an edge line that fits behind one of the last edge.
+/// The edge of an edge line that fits after one of the last edge.
 pub fn fitting_edge(rows: &Rows, last: Option<u32>, along: u32, against: u32) -> Option<EdgeId>
     ensures { (at : Stand) → at.last_edge ≡ last → MatchOption result (¬ FitsEdge rows.now at along against)
         (λ e. FitsEdge rows.now at along against × (edge_of rows.now (edge along against) ≡ Some e.0)) }

@@ -322,7 +322,7 @@ impl<'a> LineChecker<'a> {
         }
     }
 
-    /// Judges the next line, given with its LF: it is spelled and fits behind the lines before it, or it is the first
+    /// Judges the next line, given with its LF: it is spelled and fits after the lines before it, or it is the first
     /// that is misspelt or unfit.
     pub(crate) fn line(&mut self, line: &[u8]) -> Result<(), Illegal>
         ensures line { (first : ℕ) (lines : List CertLine) → IsAt first self.old lines → MatchResult result
@@ -391,7 +391,7 @@ impl<'a> LineChecker<'a> {
         Ok(PartLine::More)
     }
 
-    /// Whether END was the last line. Where it wasn't, the line behind the last one is missing.
+    /// Whether END was the last line. Where it wasn't, the line after the last one is missing.
     pub(crate) fn finish(&mut self) -> Result<(), Illegal>
         ensures ended { (first : ℕ) (lines : List CertLine) → IsAt first self.old lines → MatchResult result
             (λ _. (stand_behind self.old.version self.old.solid lines).ended ≡ true)

@@ -69,7 +69,7 @@ fn at_line(misfit: Misfit, line: u64) -> Illegal
     }
 }
 
-// How far the opening has come behind a line.
+// How far the opening has come after a line.
 fn behind(stage: Stage, line: &[u8]) -> Stage
     requires { IsWaiting stage }
     ensures { StageBehind stage line.now result }

@@ -16,7 +16,7 @@ fn is_named(at: LoopAt, face: u32, place: u32) -> bool
     from_one(at.face.0) == u64::from(face) && from_one(at.place) == u64::from(place)
 }
 
-/// Whether a loop stands before the one that a line names.
+/// Whether a loop comes before the one that a line names.
 fn is_before(at: LoopAt, face: u32, place: u32) -> bool
     ensures { IsTrue result ↔ IsBefore at face place }
 {
@@ -32,7 +32,7 @@ pub(crate) fn point_at(rows: &Rows, i: usize) -> (LoopAt, VertexId)
     rows.isolated(i).unwrap()
 }
 
-/// Which of the loops without an edge a line names, by face and place from 1; they stand in file order.
+/// Which of the loops without an edge a line names, by face and place from 1; they are in file order.
 pub(crate) fn point_place(rows: &Rows, face: u32, place: u32) -> Option<usize>
     requires { InFileOrder rows.now.points }
     ensures { MatchOption result (point_named rows.now face place ≡ None)

@@ -10,7 +10,7 @@ use std::alloc::Global;
 use std::marker::Model;
 
 /// What is kept of a shell: its rows, what its lines are compared with, and what the lines so far said. Places in the
-/// lists count from 0; rows that stand in them count from 1, as in the lines.
+/// lists count from 0; rows that are in them count from 1, as in the lines.
 #[derive(Drop)]
 pub(crate) struct ShellState {
     rows: Rows,

@@ -89,7 +89,7 @@ fn put_tally_before(
     Ok(())
 }
 
-/// Puts a line behind which so many shells have begun, and what stands before it; the result is how many shells have
+/// Puts a line after which so many shells have begun, and what comes before it; the result is how many shells have
 /// begun then.
 fn put_line(
     alloc: Global,
@@ -144,7 +144,7 @@ fn upgraded_text(alloc: Global, solid: &Solid, text: &[u8]) -> Result<Bytes, NoM
     Ok(out.into_bytes())
 }
 
-/// A certificate of version 1 as one of version 2: the head of version 2, and the line of the counts of each shell behind
+/// A certificate of version 1 as one of version 2: the head of version 2, and the line of the counts of each shell after
 /// its lines. A certificate of another version is given back as it is. What is accepted for the solid stays accepted.
 /// TooLarge comes exactly where the text would have more bytes than the limit. (own)
 pub fn upgrade(alloc: Global, solid: &Solid, text: &[u8], limit: u64) -> Result<Bytes, UpgradeFault>

@@ -27,7 +27,7 @@ touches_of s = flat_map (shell_touches s) (enumerate_from 0 s.shells)
 abbrev pub vertex_of : FaceAtVertex → ℕ
 vertex_of t = t.vertex
 
--- a face that is there, where its shell isn't behind the last one
+-- a face that is there, where its shell isn't after the last one
 abbrev pub kept_at : ℕ → Option FaceAtVertex → List (ℕ × EntryNo)
 kept_at last None = []
 kept_at last (Some t) = if nat_lt last t.shell then [] else (t.shell, t.face) ∷ []

@@ -1,4 +1,4 @@
--- What is told of a vertex that isn't linked: the rows of its fans, and its loops without an edge.
+-- What is said of a vertex that isn't linked: the rows of its fans, and its loops without an edge.
 use Rattle.std.specs.Prelude.{◌≡◌, ◌==◌, ◌&&◌, ◌+◌, not, ℕ, zero, suc, Bool, List, [], ◌∷◌, ◌++◌, length, map, flat_map, slice_get, Option, Some, None, if◌then◌else◌, get_or}
 use Rattle.std.specs.List.{enumerate_from}
 use Rattle.solid_data.specs.declared.solid.LoopAt.{LoopAt}
@@ -52,7 +52,7 @@ on_fans d leasts i (r ∷ rs) = map (on_fan i) (fan_rows d leasts r) ++ on_fans 
 abbrev pub alone_if : ℕ → LoopAt × ℕ → List AtVertex
 alone_if v p = if p.1 == v then Alone p.0 ∷ [] else []
 
--- all that is told of the vertex: fan by fan from its least row on by turns, then the loops without an edge
+-- all that is said of the vertex: fan by fan from its least row on by turns, then the loops without an edge
 abbrev pub around : ShellRows → List ℕ → ℕ → List AtVertex
 around d leasts v = on_fans d leasts 1 (fans_at d leasts v) ++ flat_map (alone_if v) d.points
 

@@ -15,7 +15,7 @@ face_if s v f = if list_any (λ m. m == v) (face_vertices s f) then f.entity ∷
 abbrev pub faces_at : SolidData → ℕ → Shell → List EntryNo
 faces_at s v shell = flat_map (face_if s v) shell.faces
 
--- those of shell j, with its number; nothing of a shell behind shell k
+-- those of shell j, with its number; nothing of a shell after shell k
 abbrev pub numbered_faces : SolidData → ℕ → ℕ → ℕ × Shell → List (ℕ × EntryNo)
 numbered_faces s k v (j, shell) = if nat_lt k j then [] else map (λ e. (j, e)) (faces_at s v shell)
 

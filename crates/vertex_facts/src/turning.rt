@@ -23,7 +23,7 @@ pub enum AtVertex {
     Alone { walk: LoopAt },
 }
 
-/// Tables of a shell by which its fans are told, each made once: the rows by the vertices where they start, the
+/// Tables of a shell by which its fans are described, each made once: the rows by the vertices where they start, the
 /// rows by their fans, and the loops without an edge by their vertices (own).
 #[derive(Drop)]
 pub struct VertexTables {

@@ -7,7 +7,7 @@ use Rattle.command_replies.specs.declared.answer.Answer.{Answer}
 use Rattle.command_replies.specs.declared.answer.Answer.TheVariants.{Usage, ReadFault, WriteFault, NoMemory}
 use Rattle.where_command.specs.Due.{Due}
 
--- the answer and the text are due for some bytes, which are those that the source told where it told any
+-- the answer and the text are due for some bytes, which are those that the source gave where it gave any
 pub record IsOwed (words : List (List ℕ)) (file : Option (List ℕ)) (answer : Answer) (text : List ℕ) : Type 0 where
   pub bytes : List ℕ
   pub told : Told file bytes
@@ -28,7 +28,7 @@ pub record IsCutShort (words : List (List ℕ)) (file before after : Option (Lis
   pub shorter : count < length text
   pub appended : Appends before after (take count text)
 
--- What a run answers, and what it appended: for the words, what the source told, and what was written before and after it.
+-- What a run answers, and what it appended: for the words, what the source gave, and what was written before and after it.
 abbrev pub Outcome : List (List ℕ) → Option (List ℕ) → Option (List ℕ) → Option (List ℕ) → Answer → Type 0
 Outcome words file before after WriteFault = IsCutShort words file before after
 Outcome words file before after ReadFault = Keeps before after

@@ -35,7 +35,7 @@ fn first_of(words: &[String]) -> Option<&str>
 }
 
 impl Words {
-    /// No words, as where the program's name stands alone (own).
+    /// No words, as where there is the program's name alone (own).
     pub fn new(alloc: Global) -> Words
         ensures { result ≡ [] }
     {

@@ -22,7 +22,7 @@ rule_words rule k faults = codes "\nrule" ++ space_word rule ++ codes " shell" +
 abbrev pub edge_words : EdgeKey → List ℕ
 edge_words key = space_word (decimal key.«list».0) ++ space_word (decimal key.index)
 
--- the number of an edge's curve, which stands first of the five values for the edge behind the count of its list
+-- the number of an edge's curve, which is the first of the five values for the edge after the count of its list
 abbrev pub curve_of : Contents → EdgeKey → ℤ
 curve_of f key = int_at (values_of f (pos key.«list».0)) (5 * key.index - 4)
 

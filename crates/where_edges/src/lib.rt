@@ -1,4 +1,4 @@
-//! The paragraphs that tell where the loops of a shell have gaps, and which of its edges aren't paired.
+//! The paragraphs that say where the loops of a shell have gaps, and which of its edges aren't paired.
 #![tactic(auto)]
 
 mod joins;

@@ -153,7 +153,7 @@ fn put_edge_facts(
     put_vertex_fact(out, "end", file, solid, begins_at(edge, false))
 }
 
-/// The rows of a shell, where each stands, and which each edge has.
+/// The rows of a shell, where each is, and which each edge has.
 #[derive(Drop)]
 struct KnownRows<'a> {
     rows: &'a Rows,

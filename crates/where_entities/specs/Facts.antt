@@ -10,7 +10,7 @@ use Rattle.iges_params.specs.Named.{named, values_of}
 use Rattle.entry_references.specs.Refs.{Record, has_layout, names_of}
 use Rattle.where_text.specs.Spelled.{masked, signed, space_word, spelled_if}
 
--- a number that isn't 0, behind a word
+-- a number that isn't 0, after a word
 unfoldable pub number_fact : List ℕ → ℤ → List ℕ
 number_fact word n = if int_eq n (pos 0) then [] else codes "  " ++ word ++ space_word (signed n) ++ codes "\n"
 
@@ -76,7 +76,7 @@ name_fact f n = name_line (slice_get (values_of f n) 1)
 abbrev pub is_of_solids : ℤ → Bool
 is_of_solids z = int_eq z (pos 186) || int_eq z (pos 502) || int_eq z (pos 504) || int_eq z (pos 508) || int_eq z (pos 510) || int_eq z (pos 514)
 
--- the names in the second group behind the own values of a record of which a solid is made
+-- the names in the second group after the own values of a record of which a solid is made
 unfoldable pub entity_names : Contents → Record → List ℤ
 entity_names f r = if is_of_solids r.0.kind && has_layout r then names_of f r else []
 

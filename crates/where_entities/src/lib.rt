@@ -1,4 +1,4 @@
-//! What the directory and the records tell of entities: their type, level, colour, matrix, label and names.
+//! What the directory and the records say of entities: their type, level, colour, matrix, label and names.
 #![tactic(auto)]
 
 mod colour;

@@ -35,7 +35,7 @@ fn without_group(fault: RefFault) -> Result<Option<Group>, NoMemory>
     }
 }
 
-// The second group behind the own values of a record that fits its type.
+// The second group after the own values of a record that fits its type.
 fn names_group(alloc: Global, entry: &Entry, values: &Values) -> Result<Option<Group>, NoMemory>
     requires { length values.now ≤ FILE_LIMIT }
     ensures { IfOk result (λ group. MatchOption group (has_layout (entry.now, values.now)
@@ -47,7 +47,7 @@ fn names_group(alloc: Global, entry: &Entry, values: &Values) -> Result<Option<G
     }
 }
 
-// The names in the second group behind the own values of a record.
+// The names in the second group after the own values of a record.
 fn entity_names(
     alloc: Global,
     file: &File,
@@ -103,7 +103,7 @@ fn put_each(out: &mut Out, file: &File, names: &ItemList<i64>) -> Result<(), NoM
     Ok(())
 }
 
-/// Appends a fact for each name of an entity of which a solid is made: each property of form 15 in the second group behind
+/// Appends a fact for each name of an entity of which a solid is made: each property of form 15 in the second group after
 /// its own values (IGES 5.3, 2.2.4.5.2 and type 406). There are none where the record doesn't fit its type (own).
 pub fn put_names(
     alloc: Global,

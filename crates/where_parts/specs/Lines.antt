@@ -22,7 +22,7 @@ rule_words rule k faults = codes "\nrule" ++ space_word (rule_name rule) ++ coun
 unfoldable pub head_lines : Rule → ℕ → ℕ → List ℕ
 head_lines rule k faults = rule_words rule k faults ++ codes "\n" ++ rule_sentence rule
 
--- a vertex of the solid, behind a word
+-- a vertex of the solid, after a word
 abbrev pub vertex_line : List ℕ → Contents → SolidData → ℕ → List ℕ
 vertex_line word f s v = word ++ vertex_words f (vertex_name (slice_get s.vertices v)) ++ codes "\n"
 

@@ -24,7 +24,7 @@ use Rattle.where_text.specs.Places.{face_words, vertex_words}
 use Rattle.where_text.specs.Spelled.{space_word}
 use Rattle.where_parts.specs.Lines.{count_words, head_lines}
 
--- where a row stands: its face, its loop and its tuple
+-- where a row is: its face, its loop and its tuple
 abbrev pub place_words : Contents → Option RowPlace → List ℕ
 place_words f None = []
 place_words f (Some p) = codes " face" ++ face_words f p.face ++ count_words (codes " loop") p.walk.0 ++ count_words (codes " tuple") p.tuple

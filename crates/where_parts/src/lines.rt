@@ -50,7 +50,7 @@ pub fn key_of(solid: &Solid, vertex: u32) -> VertexKey
     }
 }
 
-/// A vertex behind a word.
+/// A vertex after a word.
 pub fn put_vertex_line(
     out: &mut Out,
     file: &File,

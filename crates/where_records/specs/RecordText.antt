@@ -22,7 +22,7 @@ use Rattle.where_text.specs.Sentences.{rule_sentence}
 use Rattle.where_text.specs.Spelled.{signed, space_word, spelled}
 use Rattle.where_text.specs.Types.{type_of}
 
--- a fact: two spaces, its word and what it tells
+-- a fact: two spaces, its word and what it says
 abbrev pub fact : List ℕ → List ℕ → List ℕ
 fact word tells = codes "  " ++ word ++ tells ++ codes "\n"
 
@@ -31,7 +31,7 @@ fact word tells = codes "  " ++ word ++ tells ++ codes "\n"
 abbrev pub values_in : Contents → EntryNo → List Value
 values_in f entity = values_of f (pos entity.0)
 
--- what stands in a place of a record: a value as it is shown, or the record's end
+-- what is in a place of a record: a value as it is shown, or the record's end
 abbrev pub found : Option Value → List ℕ
 found None = codes "end"
 found (Some v) = spelled v
@@ -85,7 +85,7 @@ abbrev pub before : Option ℕ → Option ℕ
 before None = None
 before (Some i) = Some (i - 1)
 
--- what the rule tells of the solid n, where this is the place of the bad value; an index follows the list that it is meant in
+-- what the rule says of the solid n, where this is the place of the bad value; an index follows the list that it is meant in
 abbrev pub rule_facts : Contents → EntryNo → EntryNo → Option ℕ → Rule → List ℕ
 rule_facts f n entity place rule.NoEntry = named_fact f (judged f entity place)
 rule_facts f n entity place rule.WrongKind = named_fact f (judged f entity place)

@@ -62,7 +62,7 @@ fn put_bad_value(
     out.put(b"\n")
 }
 
-// What is due, where the rule tells it.
+// What is due, where the rule says it.
 fn put_due(out: &mut Out, due: Option<Due>) -> Result<(), NoMemory>
     ensures { OnOk result (out.new ≡ out.old ++ due_fact due) }
 {
@@ -152,7 +152,7 @@ fn before(place: Option<usize>) -> Option<usize>
     }
 }
 
-// What the rule tells of a solid, where this is the place of the bad value.
+// What the rule says of a solid, where this is the place of the bad value.
 fn put_rule_facts(
     out: &mut Out,
     file: &File,

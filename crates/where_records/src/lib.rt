@@ -1,4 +1,4 @@
-//! The paragraph that tells where a rule on the records of a solid fails.
+//! The paragraph that says where a rule on the records of a solid fails.
 #![tactic(auto)]
 
 mod facts;

@@ -32,7 +32,7 @@ has_unpaired (Some x) = not (is_empty x.unpaired)
 abbrev pub pair_fails : List Faults → List ℕ → Bool
 pair_fails xs ks = list_any (λ k. has_unpaired (slice_get xs k)) ks
 
--- Edges aren't paired, a face has the flag 0, and with all flags of faces 1 the solid is closed: then this is told, and else nothing.
+-- Edges aren't paired, a face has the flag 0, and with all flags of faces 1 the solid is closed: then this is said, and else nothing.
 abbrev pub IsFlagsHint : SolidData → Bool → List ℕ → Type 0
 IsFlagsHint s unpaired hint =
     (IsTrue unpaired × (0 < unset_flags s) × IsClosedFlagged s × (hint ≡ flags_hint (unset_flags s)))

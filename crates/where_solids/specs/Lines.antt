@@ -25,7 +25,7 @@ verdict_line n (Fails x) = failing_words x ++ codes "\n"
 unfoldable pub units_line : Contents → List ℕ
 units_line f = codes "units" ++ space_word (spelled_if (slice_get f.global.values 11)) ++ space_word (spelled_if (slice_get f.global.values 12)) ++ codes "\n"
 
--- a word and a number, each behind a space
+-- a word and a number, each after a space
 abbrev pub counted : List ℕ → ℕ → List ℕ
 counted word n = space_word word ++ space_word (decimal n)
 

@@ -40,7 +40,7 @@ overview_text f vs = overview_start vs ++ flat_map (solid_paragraph f) (zip (sol
 abbrev pub all_close : List Verdict → Bool
 all_close vs = nat_lt 0 (length vs) && count_by fails vs == 0
 
--- The text tells of all solids of the file, which have these verdicts.
+-- The text speaks of all solids of the file, which have these verdicts.
 pub record IsOverview (f : Contents) (verdicts : List Verdict) (text : List ℕ) : Type 0 where
   pub judged : AreVerdicts f (solids_of f) verdicts
   pub text_is : text ≡ overview_text f verdicts

@@ -1,4 +1,4 @@
--- What is told of the shells of a solid that fail.
+-- What is said of the shells of a solid that fail.
 use Rattle.std.specs.Prelude.{ℕ, List, [], ◌∷◌, ◌++◌, length, flat_map, Option, Some, None, slice_get}
 use Rattle.iges_base.specs.declared.entry_no.EntryNo.{EntryNo}
 use Rattle.iges_params.specs.Contents.{Contents}

@@ -1,4 +1,4 @@
--- What is told of one solid of a file.
+-- What is said of one solid of a file.
 use Rattle.std.specs.Prelude.{◌≡◌, ◌⊎◌, ℕ, List, [], ◌++◌, Option, Some, None}
 use Rattle.iges_base.specs.declared.entry_no.EntryNo.{EntryNo}
 use Rattle.iges_params.specs.Contents.{Contents}
@@ -30,7 +30,7 @@ record_start listing f (Some path) = units_line f
 unfoldable pub record_rest : Listing → Contents → EntryNo → Failing → Option Path → List ℕ
 record_rest listing f n x path = record_start listing f path ++ record_text f n x path ++ entities_text f (record_named n x path)
 
--- An obligation on the records is the first that fails, and this is told of it.
+-- An obligation on the records is the first that fails, and this is said of it.
 pub record IsOfRecords (listing : Listing) (f : Contents) (n : EntryNo) (rest : List ℕ) : Type 0 where
   pub failing : Failing
   pub first : FirstFalse (places f n.0) failing
@@ -38,7 +38,7 @@ pub record IsOfRecords (listing : Listing) (f : Contents) (n : EntryNo) (rest : 
   pub leads : IsPathTo failing (sited f n.0) path
   pub rest_is : rest ≡ record_rest listing f n failing path
 
--- All obligations on the records hold, and this is told of the shells.
+-- All obligations on the records hold, and this is said of the shells.
 pub record IsOfShells (listing : Listing) (f : Contents) (n : EntryNo) (rest : List ℕ) : Type 0 where
   pub placed : AllHold (places f n.0)
   pub faults : List Faults
@@ -47,7 +47,7 @@ pub record IsOfShells (listing : Listing) (f : Contents) (n : EntryNo) (rest : L
   pub is_hint : IsFlagsHint (solid_of f n.0) (pair_fails faults (shown listing (failing_shells faults))) hint
   pub rest_is : rest ≡ shell_lines listing f (solid_of f n.0) faults ++ hint ++ shell_texts listing f (solid_of f n.0) faults
 
--- The text tells of solid n, which has this verdict.
+-- The text speaks of solid n, which has this verdict.
 pub record IsToldOf (listing : Listing) (f : Contents) (n : EntryNo) (verdict : Verdict) (text : List ℕ) : Type 0 where
   pub judged : IsVerdictOn f n.0 verdict
   pub rest : List ℕ

@@ -77,7 +77,7 @@ pub fn pair_fails(all: &AllFaults, shells: &[u32]) -> bool
     false
 }
 
-// Whether the hint on face flags is told.
+// Whether the hint on face flags is given.
 fn tells_flags(alloc: Global, solid: &Solid, unpaired: bool, unset: usize) -> Result<bool, NoMemory>
     ensures { IfOk result (λ b. IsTrue b ↔ (IsTrue unpaired × (0 < unset)
         × IsClosedFlagged solid.now)) }
@@ -105,7 +105,7 @@ fn put_flags(out: &mut Out, unset: usize) -> Result<(), NoMemory>
     put_flags_sentence(out)
 }
 
-/// Appends the hint on face flags where edges aren't paired in a shell that is told of, a face has the flag 0, and with all
+/// Appends the hint on face flags where edges aren't paired in a shell that is described, a face has the flag 0, and with all
 /// face flags 1 the solid is closed (own). It copies the solid.
 pub fn put_flags_hint(
     alloc: Global,

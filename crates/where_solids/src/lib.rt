@@ -1,4 +1,4 @@
-//! What is told of the solids of a file: the verdict on each, and where and why one fails.
+//! What is said of the solids of a file: the verdict on each, and where and why one fails.
 #![tactic(auto)]
 
 mod all_faults;

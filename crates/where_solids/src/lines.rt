@@ -11,7 +11,7 @@ use solid_data::{Failing, Shell, ShellAt, Verdict};
 use solid_faults::{Linking, ShellFaults};
 use where_text::{put_number, put_value, put_word};
 
-/// A word and a number, each behind a space.
+/// A word and a number, each after a space.
 pub fn put_count(out: &mut Out, word: &str, n: usize) -> Result<(), NoMemory>
     ensures { OnOk result (out.new ≡ out.old ++ counted word.now n) }
 {

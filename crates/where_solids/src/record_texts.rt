@@ -1,4 +1,4 @@
-//! What is told of a rule on the records of a solid that fails.
+//! What is said of a rule on the records of a solid that fails.
 
 ghost use Rattle.std.specs.Prelude.{◌≡◌, ◌++◌, OnOk};
 ghost use Rattle.where_solids.specs.Told.{record_rest, record_start};

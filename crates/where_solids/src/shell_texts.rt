@@ -1,4 +1,4 @@
-//! What is told of the shells of a solid that fail.
+//! What is said of the shells of a solid that fail.
 
 ghost use Rattle.vertex_facts.specs.FaceTable.{touches_of};
 ghost use Rattle.std.specs.Prelude.{◌≡◌, ◌++◌, ◌∷◌, ◌<◌, [], IfOk, OnOk, Some, flat_map, length, slice_get};
@@ -17,7 +17,7 @@ use std::alloc::Global;
 use vertex_facts::{VertexFaces, faces_by_vertex};
 use where_text::{EntryNumbers, Listing};
 
-/// What is told of shells: their lines, their paragraphs, and the entities that these name.
+/// What is said of shells: their lines, their paragraphs, and the entities that these name.
 #[derive(Drop)]
 pub struct ShellTexts {
     pub lines: Out,

@@ -1,4 +1,4 @@
-//! What is told of one solid of a file.
+//! What is said of one solid of a file.
 
 ghost use Rattle.brep_walk.specs.Places.{places};
 ghost use Rattle.brep_walk.specs.SolidOf.{solid_of};
@@ -27,7 +27,7 @@ use std::alloc::Global;
 use where_entities::put_entities;
 use where_text::{Listing, put_more_items, shown_members};
 
-/// The verdict on a solid, and a text that tells where it fails (own).
+/// The verdict on a solid, and a text that says where it fails (own).
 #[derive(Drop)]
 pub struct Told {
     pub verdict: Verdict,
@@ -55,7 +55,7 @@ fn of_records(
     })
 }
 
-// What stands between the verdict and the hints, where of so many failing shells so many are told of.
+// What comes between the verdict and the hints, where of so many failing shells so many are described.
 fn put_lines(
     out: &mut Out,
     file: &File,
@@ -134,9 +134,9 @@ fn of_shells(
     })
 }
 
-/// Tells of the solid with this number: the verdict, and where it fails. Where a rule on its records fails, that is told
+/// The verdict on the solid with this number, and where it fails. Where a rule on its records fails, that is reported
 /// alone; else all that fails in its shells (own). It errs only where memory runs out. The solid's records are walked once,
-/// and the uses of each failing shell that is told of a few times.
+/// and the uses of each failing shell that is described a few times.
 pub fn tell(alloc: Global, file: &File, no: EntryNo, listing: Listing) -> Result<Told, NoMemory>
     ensures { IfOk result (λ told. IsToldOf listing file.now no told.verdict told.text) }
 {

@@ -11,11 +11,11 @@ shown_count All n = n
 abbrev pub shown : {A : Type 0} → Listing → List A → List A
 shown listing xs = take (shown_count listing (length xs)) xs
 
--- how many aren't written, behind an indent; nothing where all are
+-- how many aren't written, after an indent; nothing where all are
 unfoldable pub left_line : List ℕ → ℕ → List ℕ
 left_line indent left = if left == 0 then [] else indent ++ codes "more " ++ decimal left ++ codes "\n"
 
--- behind paragraphs, and behind facts, of which there are n
+-- after paragraphs, and after facts, of which there are n
 abbrev pub more_items : Listing → ℕ → List ℕ
 more_items listing n = left_line [] (n - shown_count listing n)
 

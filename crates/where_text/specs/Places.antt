@@ -8,7 +8,7 @@ use Rattle.solid_data.specs.declared.solid.VertexKey.{VertexKey}
 use Rattle.where_text.specs.Spelled.{space_word, spelled}
 use Rattle.where_text.specs.Types.{type_of}
 
--- one of the three coordinates of a vertex, from 0: behind the count of its list three values stand for each vertex
+-- one of the three coordinates of a vertex, from 0: after the count of its list there are three values for each vertex
 unfoldable pub coordinate : Contents → VertexKey → ℕ → List ℕ
 coordinate f key axis = spelled (value_or_default (values_of f (pos key.«list».0)) (3 * key.index + axis - 2))
 

@@ -1,4 +1,4 @@
-//! Words, lines and tables of the text that tells where a solid fails: how values, vertices, faces and types are written.
+//! Words, lines and tables of the text that says where a solid fails: how values, vertices, faces and types are written.
 #![tactic(auto)]
 
 mod listing;

@@ -64,14 +64,14 @@ fn put_left(out: &mut Out, indent: &str, left: usize) -> Result<(), NoMemory>
     out.put(b"\n")
 }
 
-/// Appends the line that tells how many paragraphs of a list aren't written; nothing where all are (own).
+/// Appends the line that says how many paragraphs of a list aren't written; nothing where all are (own).
 pub fn put_more_items(out: &mut Out, left: usize) -> Result<(), NoMemory>
     ensures text { OnOk result (out.new ≡ out.old ++ left_line [] left) }
 {
     put_left(out, "", left)
 }
 
-/// Appends the line that tells how many facts of a list aren't written; nothing where all are (own).
+/// Appends the line that says how many facts of a list aren't written; nothing where all are (own).
 pub fn put_more_facts(out: &mut Out, left: usize) -> Result<(), NoMemory>
     ensures text { OnOk result (out.new ≡ out.old ++ left_line (codes "  ") left) }
 {

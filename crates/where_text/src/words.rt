@@ -23,7 +23,7 @@ pub fn put_number(out: &mut Out, n: u64) -> Result<(), NoMemory>
     write_number(out, n)
 }
 
-/// Appends a space and the number's digits, behind a minus where it is negative (own).
+/// Appends a space and the number's digits, after a minus where it is negative (own).
 pub fn put_signed(out: &mut Out, n: i64) -> Result<(), NoMemory>
     ensures text { OnOk result (out.new ≡ out.old ++ space_word (signed n)) }
 {
