@@ -9,6 +9,7 @@ ghost use Rattle.edge_components.specs.Trees.{AreTrees, AreInOneTree, AreRehung,
 use iges_base::NoMemory;
 use std::alloc::Global;
 
+// The node that a node hangs from; a root hangs from itself.
 fn label_of(labels: &Vec<u32>, x: u32) -> u32
     requires { x < length labels.now.items }
     ensures { result ≡ get_or labels.now.items x 0 }
@@ -16,6 +17,7 @@ fn label_of(labels: &Vec<u32>, x: u32) -> u32
     labels[x as usize]
 }
 
+// Hangs a node from another.
 fn hang(labels: &mut Vec<u32>, x: u32, to: u32)
     requires { x < length labels.old.items }
     ensures { labels.new.items ≡ slice_set labels.old.items x to }
@@ -82,6 +84,7 @@ fn pair_at(pairs: &[(u32, u32)], i: usize) -> (u32, u32)
     pairs[i]
 }
 
+// Joins the trees of each pair.
 fn join_all(labels: &mut Vec<u32>, pairs: &[(u32, u32)])
     requires inside { AreInside pairs.now (length labels.old.items) }
     requires labels { AreLabels pairs.now (length labels.old.items) labels.old.items }
@@ -106,6 +109,7 @@ fn settle(labels: &mut Vec<u32>)
     }
 }
 
+// Each node as a root.
 fn numbers(alloc: Global, count: usize) -> Result<Vec<u32>, NoMemory>
     requires { count < 2 ^ 32 }
     ensures { IfOk result (λ v. v.items ≡ numbers_from 0 count) }

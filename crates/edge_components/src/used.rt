@@ -29,6 +29,7 @@ pub fn nothing_used(alloc: Global) -> Used
     }
 }
 
+// Appends the start and the end of an edge, whatever the direction of its use.
 fn push_ends(edge: Option<&Edge>, vertices: &mut Vec<u32>) -> Result<(), NoMemory>
     ensures { IfOk result (λ _. vertices.new.items
         ≡ vertices.old.items ++ ends_of (option_copied edge.entry)) }
@@ -40,6 +41,7 @@ fn push_ends(edge: Option<&Edge>, vertices: &mut Vec<u32>) -> Result<(), NoMemor
     Ok(())
 }
 
+// Appends what one use uses: an edge and both its ends, or a vertex.
 fn push_used(
     solid: &Solid,
     item: LoopUse,

@@ -14,6 +14,7 @@ use iges_base::NoMemory;
 use solid_data::{Edge, FaceUse, Loop, LoopUse, Shell, ShellAt, Solid, VertexId};
 use std::alloc::Global;
 
+// The least number that is above both ends of an edge and not below `above`.
 fn above_ends(edge: Option<&Edge>, above: usize) -> usize
     ensures { result ≡ max above (above_of (ends_of (option_copied edge.entry))) }
 {
@@ -25,6 +26,7 @@ fn above_ends(edge: Option<&Edge>, above: usize) -> usize
     }
 }
 
+// The same for the vertices of one use.
 fn above_use(solid: &Solid, item: LoopUse, above: usize) -> usize
     ensures { result ≡ max above (above_of (vertices_used solid.now item)) }
 {

@@ -37,6 +37,7 @@ fn same(a: bool, b: bool) -> bool
     if a { b } else { !b }
 }
 
+// The row of an edge use; from and to are exchanged where it runs against the edge.
 fn row_at(at: LoopAt, id: EdgeId, along: bool, edge: Option<&Edge>) -> Option<Row>
     ensures { result ≡ row_of_edge at id along (option_copied edge.entry) }
 {
@@ -55,6 +56,7 @@ fn row_at(at: LoopAt, id: EdgeId, along: bool, edge: Option<&Edge>) -> Option<Ro
     })
 }
 
+// None for a vertex use, which is no row.
 fn row_for(solid: &Solid, at: LoopAt, forwards: bool, item: LoopUse) -> Option<Row>
     ensures { (l : AnyLoop) → result ≡ row_of solid.now
         (record { at = at; forwards = forwards; loop = l }) item }
@@ -94,6 +96,7 @@ fn push_rows(
     Ok(())
 }
 
+// Appends what one use uses: an edge and both its ends, or a vertex.
 fn push_used(
     solid: &Solid,
     item: LoopUse,
@@ -116,6 +119,7 @@ fn push_used(
     }
 }
 
+// Appends the start and the end of an edge, whatever the direction of its use.
 fn push_ends(edge: Option<&Edge>, vertices: &mut Vec<u32>) -> Result<(), NoMemory>
     ensures { IfOk result (λ _. vertices.new.items
         ≡ vertices.old.items ++ ends_of (option_copied edge.entry)) }
@@ -145,6 +149,7 @@ fn push_all_used(
     Ok(())
 }
 
+// Appends so many numbers from the first on.
 fn push_numbers(from: u32, count: u32, out: &mut Vec<u32>) -> Result<(), NoMemory>
     requires { from + count < 2 ^ 32 }
     ensures { IfOk result (λ _. out.new.items ≡ out.old.items ++ numbers_from from count) }
@@ -155,6 +160,7 @@ fn push_numbers(from: u32, count: u32, out: &mut Vec<u32>) -> Result<(), NoMemor
     Ok(())
 }
 
+// Appends the next one of each of so many rows from `base` on; of the last that is the first.
 fn push_forwards(base: u32, count: u32, out: &mut Vec<u32>) -> Result<(), NoMemory>
     requires some { 0 < count }
     requires few { base + count < 2 ^ 32 }
@@ -166,6 +172,7 @@ fn push_forwards(base: u32, count: u32, out: &mut Vec<u32>) -> Result<(), NoMemo
     Ok(())
 }
 
+// Appends the one before each of so many rows from `base` on; of the first that is the last.
 fn push_backwards(base: u32, count: u32, out: &mut Vec<u32>) -> Result<(), NoMemory>
     requires some { 0 < count }
     requires few { base + count < 2 ^ 32 }
@@ -176,6 +183,7 @@ fn push_backwards(base: u32, count: u32, out: &mut Vec<u32>) -> Result<(), NoMem
     push_numbers(base, count - 1, out)
 }
 
+// Appends the row that follows each of a loop's rows, which are numbered from `base` on.
 fn push_ring(base: u32, count: u32, forwards: bool, out: &mut Vec<u32>) -> Result<(), NoMemory>
     requires { base + count < 2 ^ 32 }
     ensures { IfOk result (λ _. out.new.items ≡ out.old.items ++ ring_from forwards base count) }
@@ -190,6 +198,7 @@ fn push_ring(base: u32, count: u32, forwards: bool, out: &mut Vec<u32>) -> Resul
     }
 }
 
+// The vertex of a loop without an edge; None for a loop that has edges.
 fn point_at(at: LoopAt, walk: &Loop, count: usize) -> Option<(LoopAt, u32)>
     ensures { (f : Bool) (es : List ℕ) → length es ≡ count
         → option_to_list result

@@ -23,6 +23,7 @@ pub struct Unjoined {
     pub place: u32,
 }
 
+// The vertex where a use of an edge starts, by its tuple's flag alone; 0 where there is no edge.
 fn begins_at(edge: Option<&Edge>, along: bool) -> u32
     ensures { result ≡ begin_of (option_copied edge.entry) along }
 {
@@ -50,6 +51,7 @@ fn ends_at(solid: &Solid, item: LoopUse) -> u32
     }
 }
 
+// The next place of a ring, from 0.
 fn next_place(i: usize, len: usize) -> usize
     requires { i < len }
     ensures inside { result < len }
@@ -68,6 +70,7 @@ fn ends_where_next_starts(solid: &Solid, uses: &[LoopUse], i: usize) -> bool
     ends_at(solid, uses[i]) == starts_at(solid, uses[next])
 }
 
+// The first tuple of a loop, from 1, that doesn't end where the next one starts.
 fn open_use(solid: &Solid, walk: &Loop) -> Option<u32>
     requires { length walk.now.uses < 2 ^ 29 }
     ensures { MatchOption result (IsJoined solid.now walk.now)

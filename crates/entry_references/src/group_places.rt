@@ -8,6 +8,7 @@ ghost use Rattle.std.specs.Prelude.{◌≡◌, ◌+◌, ◌*◌, ◌<◌, ◌^�
 use brep_loops::{LoopRecord, LoopTuple};
 use iges_fields::{ItemList, NoMemory};
 
+// Puts the places of a group's pointers, which are given from the group's first value on, from 0.
 fn push_group(
     places: &mut ItemList<usize>,
     first: usize,

@@ -89,6 +89,7 @@ const TABLE: [Row; 23] = [
     Row(406, Forms::Every(Layout::Fixed(2, &[]))), // property, in chapter 4; form 15 is the name
 ];
 
+// The row of the table for an entity type.
 fn row_of(rows: &[Row], kind: i64) -> Option<Row>
     ensures { result ≡ find (λ r. int_eq kind r.0) rows.now }
 {
@@ -112,6 +113,7 @@ fn forms_of(rows: &[Row], kind: i64) -> Option<Forms>
     }
 }
 
+// The layout in this form; of two the first is that of form 1.
 fn in_form(forms: Forms, form: i64) -> Layout
     ensures { layout_of_row result ≡ layout_in_form form forms }
 {

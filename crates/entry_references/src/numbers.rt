@@ -124,6 +124,7 @@ pub fn followed(
     Ok(numbers)
 }
 
+// The number, where it names a name.
 fn if_name(file: &File, number: Option<i64>) -> Option<i64>
     ensures { option_to_list result ≡ filter (is_name file.now) (option_to_list number) }
 {

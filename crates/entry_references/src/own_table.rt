@@ -92,6 +92,7 @@ fn of_rational_curve(alloc: Global, values: &Values) -> Option<Own>
     Some(Own::plain(alloc, 6 + (upper + degree + 2) + 4 * (upper + 1) + 5))
 }
 
+// How many own values a rational B-spline surface (type 128) has, by its upper indices and its degrees.
 fn surface_values(uppers: (usize, usize), degrees: (usize, usize)) -> usize
     requires first { uppers.0 ≤ FILE_LIMIT }
     requires second { uppers.1 ≤ FILE_LIMIT }

@@ -17,6 +17,7 @@ fn value_at(values: &Values, place: usize) -> Option<&Value>
     values.get(place.saturating_sub(1))
 }
 
+// A count that is left out is 0; None for a negative one and for a value that is no integer.
 fn count_of(value: &Value) -> Option<usize>
     ensures { result ≡ count_of value.now }
 {
@@ -54,6 +55,7 @@ pub enum PointForm {
     Directed,
 }
 
+// None for a value that is none of 1, 2 and 3.
 fn form_of(value: &Value) -> Option<PointForm>
     ensures { MatchOption result (is_choice value.now ≡ false)
         (λ form. (is_choice value.now ≡ true) × (form_number form

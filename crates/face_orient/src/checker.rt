@@ -36,6 +36,7 @@ impl<'a> OrientChecker<'a> {
     ghost use Rattle.face_orient.specs.OddRing.{OddRing, row_numbers};
     ghost use Rattle.face_orient.specs.Outcome.{CountFails, IsFault, IsNoMemory, FailsSo};
 
+    // A checker for this shell; it errs where an edge hasn't exactly two rows.
     fn made(
         alloc: Global,
         solid: &'a Solid,

@@ -51,6 +51,7 @@ pub(crate) fn flip(flips: bool, flag: bool) -> bool
 }
 
 impl Flood {
+    // Counts a face as reached.
     fn add(&mut self, face: u32, place: Place) -> Result<(), NoMemory>
         requires { face < length self.old.places.items }
         ensures places { IfOk result (λ _. self.new.places.items
@@ -125,6 +126,7 @@ impl Flood {
         Ok(())
     }
 
+    // Goes on from the face at a place of `order`, from 0; past the last one nothing is done.
     fn leave_next(
         &mut self,
         crossings: &[Crossing],

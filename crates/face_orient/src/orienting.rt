@@ -15,6 +15,7 @@ use crate::naming::unreached;
 use solid_data::{ShellAt, Solid};
 use std::alloc::Global;
 
+// Flags or a ring, once each edge has two rows and each face is reached.
 fn oriented(alloc: Global, solid: &Solid, shell: ShellAt) -> Result<Orientation, OrientFault>
     requires { shell.0 < length solid.now.shells }
     ensures found { IfOk result (IsOrientation solid.now shell.0) }

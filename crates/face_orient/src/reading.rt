@@ -43,6 +43,7 @@ fn numbers_of(alloc: Global, text: &[u8]) -> Result<Option<NumberList>, NoMemory
     Ok(Some(list))
 }
 
+// None for a number that is neither 0 nor 1.
 fn flag_of(number: u32) -> Option<bool>
     ensures { MatchOption result ((b : Bool) → number ≢ flag_number b)
         (λ b. number ≡ flag_number b) }
@@ -148,6 +149,7 @@ fn read_words(alloc: Global, text: &[u8]) -> Result<OrientLine, OrientLineFault>
     Err(OrientLineFault::Misspelt)
 }
 
+// The line with its LF; without one it is misspelt.
 fn read_line(alloc: Global, line: &[u8]) -> Result<OrientLine, OrientLineFault>
     ensures found { IfOk result (IsSpelled line.now) }
     ensures fault { IfErr result (IsLineFault line.now) }

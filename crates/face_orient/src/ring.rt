@@ -61,6 +61,7 @@ fn drop_common(down: &mut Vec<u32>, up: &mut Vec<u32>)
     }
 }
 
+// Appends the rows of a path, the last one first.
 fn push_reversed(rows: &mut RowList, path: &[u32]) -> Result<(), NoMemory>
     ensures { IfOk result (λ _. row_numbers rows.new ≡ row_numbers rows.old ++ reverse path.now) }
 {
@@ -71,6 +72,7 @@ fn push_reversed(rows: &mut RowList, path: &[u32]) -> Result<(), NoMemory>
     Ok(())
 }
 
+// Appends the partner of each row of a path.
 fn push_partners(rows: &mut RowList, crossings: &[Crossing], path: &[u32]) -> Result<(), NoMemory>
     requires { AllByRecursion (λ r. r < length crossings.now) path.now }
     ensures { IfOk result (λ _. row_numbers rows.new

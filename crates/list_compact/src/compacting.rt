@@ -49,6 +49,7 @@ fn compacted(alloc: Global, file: &File, no: EntryNo) -> Result<File, CompactFau
     Ok(finished(alloc, extraction)?)
 }
 
+// The same of a file that is given away: it is dropped before the lists are compacted.
 fn turned_into_compacted(alloc: Global, file: File, no: EntryNo) -> Result<File, CompactFault>
     ensures found { IfOk result (IsCompacted file no.0) }
     ensures fault { IfErr result (IsCompactFault file no.0) }

@@ -32,6 +32,7 @@ struct Span {
     end: usize,
 }
 
+// Which items the row of the i-th entry has, i from 0.
 fn span_of(ends: &[usize], i: usize) -> Span
     requires { i < length ends.now }
     ensures start { result.start ≡ start_of ends.now i }

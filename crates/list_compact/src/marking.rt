@@ -24,6 +24,7 @@ pub struct FileMarks {
     pub vertices: Marks,
 }
 
+// Marks the edge or the vertex that a tuple names.
 fn mark_tuple(marks: &mut FileMarks, tuple: &LoopTuple<'_>)
     ensures edges { (used : ℕ → ℕ → Bool) → AreMarks marks.old.edges used
         → AreMarks marks.new.edges (λ e j. used e j || names_edge e j tuple.now) }
@@ -52,6 +53,7 @@ fn mark_loop(marks: &mut FileMarks, listed: &LoopRecord<'_>)
     }
 }
 
+// Marks the start and the end of an edge.
 fn mark_ends(vertices: &mut Marks, edge: &EdgeTuple)
     ensures marked { (used : ℕ → ℕ → Bool) → AreMarks vertices.old used
         → AreMarks vertices.new (λ v j. used v j || has_end v j edge.now) }

@@ -31,6 +31,7 @@ fn push_ranks(ranks: &mut Vec<i64>, marks: &[bool]) -> Result<(), NoMemory>
     Ok(())
 }
 
+// 0 past the end, as for an item that isn't used.
 fn rank_at(ranks: &[i64], item: usize) -> i64
     ensures { result ≡ slice_index_or ranks.now item (pos 0) }
 {

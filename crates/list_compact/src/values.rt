@@ -67,6 +67,7 @@ pub fn copied(alloc: Global, values: &Values) -> Result<Values, NoMemory>
     Ok(list)
 }
 
+// The new index of the edge or the vertex that a tuple names.
 fn tuple_index(ranks: &FileRanks, tuple: &LoopTuple<'_>) -> i64
     ensures { (g : Contents) → AreTables g ranks.now.edges ranks.now.vertices
         → result ≡ tuple_index g tuple.now.is_vertex tuple.now.list tuple.now.index }
@@ -78,6 +79,7 @@ fn tuple_index(ranks: &FileRanks, tuple: &LoopTuple<'_>) -> i64
     }
 }
 
+// The edge with the new indices of its ends, by the ranks of vertices.
 fn reindexed(ranks: &Ranks, edge: &EdgeTuple) -> EdgeTuple
     ensures { (g : Contents) → IsVertexTable g ranks.now → result ≡ reindexed_edge g edge.now }
 {
@@ -163,6 +165,7 @@ fn count_marks(row: &[bool]) -> usize
     count
 }
 
+// Puts the five values of an edge with its new indices, where the edge is used.
 fn push_used_edge(
     list: &mut Values,
     ranks: &Ranks,
@@ -179,6 +182,7 @@ fn push_used_edge(
     Ok(())
 }
 
+// Puts the three coordinates of a vertex, which begin at a place, where the vertex is used.
 fn push_used_vertex(
     list: &mut Values,
     alloc: Global,

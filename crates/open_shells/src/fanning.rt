@@ -39,6 +39,7 @@ impl From<NoMemory> for FanFault {
     }
 }
 
+// Whether a walk of turns has come back to its first row, after a step at least.
 fn is_back(i: u32, at: u32, first: u32) -> bool
     ensures { IsTrue result ↔ (0 < i) × (at ≡ first) }
 {
@@ -133,6 +134,7 @@ fn push_corner(corners: &mut OpenCorners, corner: OpenCorner) -> Result<(), NoMe
     corners.push(corner)
 }
 
+// What lies at each vertex that occurs in the shell; it errs at the first vertex that isn't fanned.
 fn corners_of(
     alloc: Global,
     mated: &Mated<'_>,

@@ -37,6 +37,7 @@ const NO_POINTS: Points = Points {
     },
 };
 
+// Counts one more row that starts at the vertex; the first of them is kept.
 fn one_start(starts: Starts, r: u32) -> Starts
     requires { starts.count < 2 ^ 29 }
     ensures { result ≡ one_start_more starts r }
@@ -47,6 +48,7 @@ fn one_start(starts: Starts, r: u32) -> Starts
     }
 }
 
+// Counts one more loop without an edge; the last of them is kept.
 fn one_point(points: Points, at: LoopAt) -> Points
     requires { points.count < 2 ^ 29 }
     ensures { result ≡ one_point_more points at }

@@ -61,18 +61,21 @@ impl Model for OpenState {
 ghost use Rattle.std.specs.Prelude.{◌≡◌, ◌<◌, IfOk, length, replicate, ◌∷◌, [], false};
 ghost use Rattle.topo_certificate.specs.Kept.{HoldsFaces};
 
+// One number for each row: its mate, from 1, or 0 while no line has named one.
 fn no_mates(alloc: Global, rows: usize) -> Result<Vec<u32>, NoMemory>
     ensures { IfOk result (λ mates. mates.items ≡ replicate rows 0) }
 {
     Ok(vec![in alloc; 0u32; rows]?)
 }
 
+// One mark for each row: whether a line has named it as a border row.
 fn no_marks(alloc: Global, rows: usize) -> Result<Vec<bool>, NoMemory>
     ensures { IfOk result (λ marks. marks.items ≡ replicate rows false) }
 {
     Ok(vec![in alloc; false; rows]?)
 }
 
+// One mark for each face; the first face counts as reached without a line.
 fn first_reached(alloc: Global, faces: usize) -> Result<Vec<bool>, NoMemory>
     requires { 0 < faces }
     ensures len { IfOk result (λ reached. length reached.items ≡ faces) }
@@ -163,6 +166,7 @@ impl OpenState {
         true
     }
 
+    // Takes an E line of two rows, from 1, where it fits; else the state stays as it was.
     fn take_edge(&mut self, along: u32, against: u32) -> bool
         ensures line { Takes self.old self.new (edge along against) result }
         ensures due { IsTrue result → dues self.new + 1 ≡ dues self.old }
@@ -186,6 +190,7 @@ impl OpenState {
         true
     }
 
+    // Takes an E line of one row, from 1, where it fits; else the state stays as it was.
     fn take_lone(&mut self, row: u32) -> bool
         ensures line { Takes self.old self.new (lone row) result }
         ensures due { IsTrue result → dues self.new + 1 ≡ dues self.old }
@@ -209,6 +214,7 @@ impl OpenState {
         true
     }
 
+    // Takes a C line, whose rows are given as text, where it fits; else the state stays as it was.
     fn take_cycle(&mut self, numbers: &[u8]) -> bool
         ensures line { (rs : List ℕ) → AreNumbers numbers.now rs
             → Takes self.old self.new (cycle rs) result }
@@ -233,6 +239,7 @@ impl OpenState {
         true
     }
 
+    // Takes a P line, whose rows are given as text, where it fits; else the state stays as it was.
     fn take_path(&mut self, numbers: &[u8]) -> bool
         ensures line { (rs : List ℕ) → AreNumbers numbers.now rs
             → Takes self.old self.new (path rs) result }
@@ -258,6 +265,7 @@ impl OpenState {
         true
     }
 
+    // Takes an I line of a face and a loop of it, both from 1, where it fits; else the state stays as it was.
     fn take_point(&mut self, face: u32, place: u32) -> bool
         ensures line { Takes self.old self.new (point face place) result }
         ensures due { IsTrue result → dues self.new + 1 ≡ dues self.old }
@@ -276,6 +284,7 @@ impl OpenState {
         true
     }
 
+    // Takes an R line of a row, from 1, where it fits; else the state stays as it was.
     fn take_reach(&mut self, row: u32) -> bool
         ensures line { Takes self.old self.new (reach row) result }
         ensures due { IsTrue result → dues self.new + 1 ≡ dues self.old }
@@ -293,6 +302,7 @@ impl OpenState {
         true
     }
 
+    // Takes a B line, whose rows are given as text, where it fits; else the state stays as it was.
     fn take_border(&mut self, numbers: &[u8]) -> bool
         ensures line { (rs : List ℕ) → AreNumbers numbers.now rs
             → Takes self.old self.new (border rs) result }

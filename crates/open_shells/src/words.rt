@@ -86,6 +86,7 @@ fn shell_words(text: &[u8]) -> Option<OpenCounts>
     }
 }
 
+// The two rows on an E line.
 fn edge_words(text: &[u8]) -> Option<(u32, u32)>
     ensures { MatchOption result ((a b : ℕ) → ¬ Spells text.now (edge a b))
         (λ p. Spells text.now (edge p.0 p.1)) }
@@ -96,6 +97,7 @@ fn edge_words(text: &[u8]) -> Option<(u32, u32)>
     }
 }
 
+// The row on an E line that has one row alone.
 fn lone_words(text: &[u8]) -> Option<u32>
     ensures { MatchOption result ((a : ℕ) → ¬ Spells text.now (lone a))
         (λ a. Spells text.now (lone a)) }

@@ -27,6 +27,7 @@ pub struct Flood {
 }
 
 impl Flood {
+    // Counts a face as reached by this row of it.
     fn add(&mut self, face: u32, row: u32) -> Result<(), NoMemory>
         requires { face < length self.old.marks.items }
         ensures marks { IfOk result (λ _. self.new.marks.items
@@ -112,6 +113,7 @@ impl Flood {
         })
     }
 
+    // Goes on from the face at a place of `order`, from 0; past the last one nothing is done.
     fn leave_next(
         &mut self,
         paired: &Paired<'_>,

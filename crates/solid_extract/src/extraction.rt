@@ -81,6 +81,7 @@ fn is_solid(file: &File, no: EntryNo) -> bool
     }
 }
 
+// The file of a solid alone, and the solid's directory number in it.
 fn extracted_as(alloc: Global, file: &File, no: EntryNo) -> Result<Extraction, ExtractFault>
     ensures found { IfOk result (λ x. IsExtractedAs file.now no.0 x.file x.no.0) }
     ensures fault { IfErr result (IsExtractFault file.now no.0) }

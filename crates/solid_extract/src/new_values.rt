@@ -14,6 +14,7 @@ use iges_fields::{ItemList, NoMemory, Value, Values};
 use iges_params::File;
 use std::alloc::Global;
 
+// Marks a place, from 1, where the values have it.
 fn set_mark(marks: &mut Vec<bool>, place: usize)
     ensures { marks.new.items ≡ with_mark marks.old.items place }
 {
@@ -128,6 +129,7 @@ fn push_groups(
     push_renamed(list, renaming, names)
 }
 
+// The pointers of a group that name a property of form 15, in order.
 fn names_in(
     alloc: Global,
     file: &File,

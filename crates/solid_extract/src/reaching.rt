@@ -17,6 +17,7 @@ pub struct Flood {
     pub refusal: Option<Refusal>,
 }
 
+// The reason that is reported for a fault, unless memory ran out.
 fn reason_of(fault: RefFault) -> Result<Option<ExtractReason>, NoMemory>
     ensures { IfOk result (IsToldAs fault) }
 {

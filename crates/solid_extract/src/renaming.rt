@@ -39,6 +39,7 @@ fn if_number(number: i64) -> i64
     if number < 0 { 0 } else { number }
 }
 
+// The directory number of the entry at a place, from 0.
 fn number_of_place(place: usize) -> i64
     requires { place ≤ 4_999_999 }
     ensures { result ≡ pos (2 * place + 1) }
@@ -102,6 +103,7 @@ impl Renaming {
         number_of_place(self.place(number.unsigned_abs()))
     }
 
+    // A colour field as it is kept: only a negative one is a pointer, and is renamed.
     fn colour(&self, colour: i64) -> i64
         requires { IsTrue (fits_columns colour) }
         ensures is { result ≡ if int_lt colour (pos 0) then neg_ℤ (renamed self.now (neg_ℤ colour))

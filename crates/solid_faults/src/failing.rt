@@ -73,6 +73,7 @@ impl Model for ShellFaults {
     ghost view = { λ x. record { gaps = x.gaps.items; unpaired = x.unpaired.items; firsts = x.firsts.items; linking = x.linking; shared = x.shared.items } };
 }
 
+// Whether the part of face 0 has all faces: each face is given by the first face of its part.
 fn no_other_part(firsts: &[u32]) -> bool
     ensures { IsTrue result ↔ (faces_apart firsts.now ≡ []) }
 {
@@ -97,6 +98,7 @@ pub fn apart_in(firsts: &[u32]) -> usize
     count
 }
 
+// False where links weren't judged too.
 fn all_linked(linking: &Option<Linking>) -> bool
     ensures { IsTrue result ↔ AreLinked linking.now }
 {
@@ -166,6 +168,7 @@ impl ShellFaults {
     }
 }
 
+// The fans of a shell whose edges are all paired, and its vertices that aren't linked.
 fn linked(alloc: Global, paired: &Paired<'_>) -> Result<Linking, NoMemory>
     ensures fans { IfOk result (λ l. AreFans paired.now l.leasts) }
     ensures unlinked { IfOk result (λ l. l.unlinked ≡ unlinked_of paired.now l.leasts) }
@@ -175,6 +178,7 @@ fn linked(alloc: Global, paired: &Paired<'_>) -> Result<Linking, NoMemory>
     Ok(Linking { leasts, unlinked })
 }
 
+// None where a loop has a gap or an edge isn't paired, since then rows have no turns.
 fn judge_links(alloc: Global, rows: &Rows, gap: bool) -> Result<Option<Linking>, NoMemory>
     requires { gap ≡ false → EndsMeet rows.now }
     ensures { IfOk result (λ o. MatchOption o ((gap ≡ true) ⊎ (¬ (unpaired_of rows.now ≡ [])))

@@ -12,6 +12,7 @@ use iges_base::NoMemory;
 use solid_data::RowId;
 use std::alloc::Global;
 
+// The row that a row turns to; both count from 0.
 fn turned(paired: &Paired<'_>, r: u32) -> u32
     requires { r < length paired.now.rows }
     ensures { Turns paired.now r result }
@@ -26,6 +27,7 @@ fn push_pair(out: &mut Vec<(u32, u32)>, a: u32, b: u32) -> Result<(), NoMemory>
     Ok(())
 }
 
+// Each row with the row that it turns to.
 fn turns_of(alloc: Global, paired: &Paired<'_>) -> Result<Vec<(u32, u32)>, NoMemory>
     ensures { IfOk result (λ pairs. AreTurns paired.now pairs.items) }
 {

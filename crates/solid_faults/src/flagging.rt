@@ -42,6 +42,7 @@ fn copied_loops(alloc: Global, loops: &[Loop]) -> Result<Loops, NoMemory>
     Ok(copy)
 }
 
+// A copy of a face with the flag 1.
 fn flagged_face(alloc: Global, face: &FaceUse) -> Result<FaceUse, NoMemory>
     ensures { IfOk result (λ copy. copy ≡ face_flagged face.now) }
 {
@@ -63,6 +64,7 @@ fn flagged_faces(alloc: Global, faces: &[FaceUse]) -> Result<Faces, NoMemory>
     Ok(copy)
 }
 
+// A copy of a shell in which each face has the flag 1; the shell's own flag stays.
 fn flagged_shell(alloc: Global, shell: &Shell) -> Result<Shell, NoMemory>
     ensures { IfOk result (λ copy. copy ≡ shell_flagged shell.now) }
 {
@@ -131,6 +133,7 @@ fn copied_vertices(alloc: Global, solid: &Solid) -> Result<Vertices, NoMemory>
     Ok(copy)
 }
 
+// A copy of a solid in which each face has the flag 1.
 fn flagged(alloc: Global, solid: &Solid) -> Result<Solid, NoMemory>
     ensures { IfOk result (λ copy. copy ≡ flagged_solid solid.now) }
 {

@@ -79,6 +79,7 @@ fn faces_by_part(alloc: Global, firsts: &[u32]) -> Result<Groups, NoMemory>
     grouped(alloc, numbers, range)
 }
 
+// The numbers of edges that aren't paired.
 fn numbers_of(alloc: Global, unpaired: &[Unpaired]) -> Result<Vec<u32>, NoMemory>
     ensures { IfOk result (λ edges. edges.items
         ≡ map (λ (u : AnyUnpaired). u.edge.0) unpaired.now) }
@@ -90,6 +91,7 @@ fn numbers_of(alloc: Global, unpaired: &[Unpaired]) -> Result<Vec<u32>, NoMemory
     Ok(edges)
 }
 
+// Notes that a part, named by its first face, has a vertex: of the parts that have it the least is kept.
 fn lower(lows: &mut Vec<u32>, range: Span, vertex: u32, part: u32)
     requires within { IsWithin range vertex }
     requires each { length lows.old.items ≡ range.count }
@@ -104,6 +106,7 @@ fn lower(lows: &mut Vec<u32>, range: Span, vertex: u32, part: u32)
     }
 }
 
+// The same for all of some vertices.
 fn lower_all(lows: &mut Vec<u32>, range: Span, vertices: &[u32], part: u32)
     requires within { All (IsWithin range) vertices.now }
     requires each { length lows.old.items ≡ range.count }
@@ -195,6 +198,7 @@ pub fn parts(alloc: Global, firsts: &[u32]) -> Result<Vec<u32>, NoMemory>
     Ok(out)
 }
 
+// Adds what the face with this number uses; nothing where the shell hasn't got it.
 fn add_numbered(solid: &Solid, shell: &Shell, n: u32, used: &mut Used) -> Result<(), NoMemory>
     ensures { IfOk result (λ _. AddedFaces solid.now used.old used.new
         (face_numbered shell.now n)) }
@@ -234,6 +238,7 @@ fn push_entity(out: &mut Vec<EntryNo>, face: Option<&FaceUse>) -> Result<(), NoM
     Ok(())
 }
 
+// The directory numbers of faces that are given by their numbers in the shell.
 fn entities(alloc: Global, shell: &Shell, faces: &[u32]) -> Result<Vec<EntryNo>, NoMemory>
     ensures { IfOk result (λ out. out.items ≡ map
         (λ (f : AnyFace). f.entity) (faces_numbered shell.now faces.now)) }
@@ -251,6 +256,7 @@ fn is_among(numbers: &Groups, n: u32) -> bool
     !numbers.places(n).is_empty()
 }
 
+// How many of some edges aren't paired in the shell.
 fn unpaired_among(unpaired: &Groups, edges: &[u32]) -> usize
     ensures { result ≡ length (occurring edges.now unpaired.now) }
 {
@@ -272,6 +278,7 @@ fn is_before(lows: &[u32], range: Span, vertex: u32, first: u32) -> bool
     lows[(vertex - range.least) as usize] < first
 }
 
+// Those of a part's vertices that a part before it has too.
 fn touching(
     alloc: Global,
     lows: &[u32],

@@ -63,6 +63,7 @@ fn place_on(
     })
 }
 
+// None for a vertex use, which is no row.
 fn place_of_use(
     solid: &Solid,
     face: &FaceUse,

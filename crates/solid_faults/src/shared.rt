@@ -63,6 +63,7 @@ pub fn below_shell(alloc: Global, solid: &Solid, shell: ShellAt) -> Result<usize
     Ok(below)
 }
 
+// Whether a shell before has the vertex: the vertices of those are numbered below `below`.
 fn is_below(vertex: VertexId, below: usize) -> bool
     ensures { (s : SolidData) (k : ℕ) → AreBelow s k below → IsTrue result
         ↔ Contains (flat_map (shell_vertices s) (take k s.shells)) vertex.0 }

@@ -58,6 +58,7 @@ impl<'a> Model for Checker<'a> {
 }
 
 impl<'a> Checker<'a> {
+    // A checker of a certificate of this version, whose next line has this number.
     fn from_line(
         alloc: Global,
         solid: &'a Solid,

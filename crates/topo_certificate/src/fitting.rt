@@ -85,6 +85,7 @@ fn mate_of(mates: &[u32], row: u32) -> Option<u32>
     }
 }
 
+// False for a face past the last one too.
 fn is_reached(reached: &[bool], face: u32) -> bool
     ensures { IsTrue result ↔ (slice_get reached.now face ≡ Some true) }
 {

@@ -53,6 +53,7 @@ ghost use Rattle.topo_certificate.specs.Stand.{rows_of_shell, loops_of_shell};
 ghost use Rattle.topo_certificate.specs.Kept.{IsFresh};
 ghost use Rattle.topo_certificate.specs.Told.{AreWaiting};
 
+// The directory number on a SOLID line; None for any other line.
 fn solid_in(words: Words<'_>) -> Option<u32>
     ensures { MatchOption result ((line : CertLine) (n : ℕ) → Means words.entry line
         → line ≢ solid_named n) (λ n. (line : CertLine) → Means words.entry line
@@ -196,6 +197,7 @@ impl<'a> LineChecker<'a> {
         }
     }
 
+    // Whether a SHELL line fits; where it does, its shell is the one at hand.
     fn take_shell(&mut self, words: &ShellWords) -> bool
         requires { self.old.ended ≡ false }
         ensures line { TakesLine self.old self.new
@@ -218,6 +220,7 @@ impl<'a> LineChecker<'a> {
         true
     }
 
+    // Whether END fits; where it does, no line fits after it.
     fn take_end(&mut self) -> bool
         requires { self.old.ended ≡ false }
         ensures line { TakesLine self.old self.new end result }

@@ -60,6 +60,7 @@ impl Model for Opening {
     ghost invariant = { λ o. length o.start ≤ 64 };
 }
 
+// The fault of the line with this number.
 fn at_line(misfit: Misfit, line: u64) -> Illegal
     ensures { result ≡ illegal_at misfit line }
 {
@@ -156,6 +157,7 @@ impl Opening {
         }
     }
 
+    // Takes the lines that end in the piece, until line 2 has ended or one of the two is bad.
     fn feed_lines(&mut self, piece: &[u8]) -> Result<OpeningStep, Illegal>
         requires { IsWaiting self.old.stage }
         ensures step { (text : List ℕ) → IsOpening self.old text

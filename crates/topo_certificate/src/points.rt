@@ -25,6 +25,7 @@ fn is_before(at: LoopAt, face: u32, place: u32) -> bool
     here < there || here == there && from_one(at.place) < u64::from(place)
 }
 
+// The i-th loop without an edge, i from 0, and its vertex.
 pub(crate) fn point_at(rows: &Rows, i: usize) -> (LoopAt, VertexId)
     requires { i < length rows.now.points }
     ensures { slice_get rows.now.points i ≡ Some (result.0, result.1.0) }

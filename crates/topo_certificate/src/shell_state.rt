@@ -52,12 +52,14 @@ ghost use Rattle.std.specs.Prelude.{◌≡◌, ◌<◌, IfOk, length, replicate,
 ghost use Rattle.topo_certificate.specs.Stand.{tallies as tallies_of};
 ghost use Rattle.topo_certificate.specs.Kept.{HoldsFaces};
 
+// One number for each row: its mate, from 1, or 0 while no line has named one.
 fn no_mates(alloc: Global, rows: usize) -> Result<Vec<u32>, NoMemory>
     ensures { IfOk result (λ mates. mates.items ≡ replicate rows 0) }
 {
     Ok(vec![in alloc; 0u32; rows]?)
 }
 
+// One mark for each face; the first face counts as reached without a line.
 fn first_reached(alloc: Global, faces: usize) -> Result<Vec<bool>, NoMemory>
     requires { 0 < faces }
     ensures len { IfOk result (λ reached. length reached.items ≡ faces) }
@@ -136,6 +138,7 @@ impl ShellState {
         self.edges_due == 0 && self.corners_due == 0 && self.reach_due == 0 && self.tally_due == 0
     }
 
+    // Takes an E line of two rows, from 1, where it fits; else the state stays as it was.
     fn take_edge(&mut self, along: u32, against: u32) -> bool
         ensures line { Takes self.old self.new (edge along against) result }
         ensures due { IsTrue result → dues self.new + 1 ≡ dues self.old }
@@ -174,6 +177,7 @@ impl ShellState {
         true
     }
 
+    // Takes an I line of a face and a loop of it, both from 1, where it fits; else the state stays as it was.
     fn take_point(&mut self, face: u32, place: u32) -> bool
         ensures line { Takes self.old self.new (point face place) result }
         ensures due { IsTrue result → dues self.new + 1 ≡ dues self.old }
@@ -191,6 +195,7 @@ impl ShellState {
         true
     }
 
+    // Takes an R line of a row, from 1, where it fits; else the state stays as it was.
     fn take_reach(&mut self, row: u32) -> bool
         ensures line { Takes self.old self.new (reach row) result }
         ensures due { IsTrue result → dues self.new + 1 ≡ dues self.old }
@@ -207,6 +212,7 @@ impl ShellState {
         true
     }
 
+    // Takes a TALLY line where it is due and its counts are the shell's; else the state stays as it was.
     fn take_tally(&mut self, words: &TallyWords) -> bool
         ensures line { Takes self.old self.new (tally (tally_said words.now)) result }
         ensures due { IsTrue result → dues self.new + 1 ≡ dues self.old }

@@ -51,6 +51,7 @@ fn points_of(alloc: Global, rows: &Rows, span: Span) -> Result<Vec<u32>, NoMemor
     Ok(points)
 }
 
+// The count of a vertex of the range.
 fn count_at(tally: &[u32], span: Span, v: u32) -> u32
     requires within { IsWithin span v }
     requires long { length tally.now ≡ span.count }

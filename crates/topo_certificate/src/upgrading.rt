@@ -116,6 +116,7 @@ fn put_line(
     Ok(shells)
 }
 
+// Puts the lines, and after those of each shell the line of its counts.
 fn put_lines(alloc: Global, out: &mut Out, solid: &Solid, text: &[u8]) -> Result<(), NoMemory>
     ensures { IfOk result (λ _. out.new ≡ out.old
         ++ joined (with_tallies solid.now 0 (cut_lines text.now))) }
@@ -129,6 +130,7 @@ fn put_lines(alloc: Global, out: &mut Out, solid: &Solid, text: &[u8]) -> Result
     Ok(())
 }
 
+// A text that isn't of version 1 is copied as it is.
 fn upgraded_text(alloc: Global, solid: &Solid, text: &[u8]) -> Result<Bytes, NoMemory>
     ensures { IfOk result (λ t. t ≡ upgraded solid.now text.now) }
 {

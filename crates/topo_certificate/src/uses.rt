@@ -10,6 +10,7 @@ ghost use Rattle.topo_certificate.specs.Uses.{loops_size, faces_size};
 
 use solid_data::{FaceUse, Shell, ShellAt, Solid};
 
+// How many uses the loops of a face have.
 fn uses_of_face(face: &FaceUse) -> usize
     requires { loops_size face.now.loops < 2 ^ 29 }
     ensures { result ≡ loops_size face.now.loops }
@@ -22,6 +23,7 @@ fn uses_of_face(face: &FaceUse) -> usize
     count
 }
 
+// How many uses the loops of a shell have.
 fn uses_of_shell(shell: &Shell) -> usize
     requires { faces_size shell.now.faces < 2 ^ 29 }
     ensures { result ≡ faces_size shell.now.faces }

@@ -43,6 +43,7 @@ impl Model for VertexFaces {
     ghost invariant = { λ t. t.by_vertex ≡ map vertex_of t.touches.items };
 }
 
+// Appends the face once for each of these vertices.
 fn push_at(
     shell: u32,
     face: EntryNo,
@@ -143,6 +144,7 @@ pub fn faces_by_vertex(alloc: Global, solid: &Solid) -> Result<VertexFaces, NoMe
     Ok(VertexFaces { touches, by_vertex })
 }
 
+// Appends a face with its shell, unless the shell is after `last`.
 fn push_kept(
     out: &mut Vec<(u32, EntryNo)>,
     last: u32,
@@ -170,6 +172,7 @@ fn push_place(
     push_kept(out, last, touches.get(place as usize).copied())
 }
 
+// The faces at these places, with their shells, as far as shell `last`.
 fn kept(
     alloc: Global,
     touches: &[FaceAtVertex],

@@ -68,6 +68,7 @@ fn points_of(alloc: Global, rows: &Rows) -> Result<Vec<u32>, NoMemory>
     Ok(points)
 }
 
+// The rows of each fan, which is named by its least row.
 fn rows_by_fan(alloc: Global, leasts: &[u32]) -> Result<Groups, NoMemory>
     requires low { AreTrees leasts.now }
     requires few { length leasts.now < 2 ^ 32 }
@@ -101,6 +102,7 @@ pub fn vertex_tables(
     })
 }
 
+// The row that a row turns to; both count from 0.
 fn turned(paired: &Paired<'_>, r: u32) -> u32
     requires inside { r < length paired.now.rows }
     requires whole { ArePaired paired.now }
@@ -143,6 +145,7 @@ fn push_fan(
     Ok(())
 }
 
+// Appends the fan of which this is the least row, and gives the next fan's number; nothing for any other row.
 fn push_fan_of(
     paired: &Paired<'_>,
     leasts: &[u32],
@@ -199,6 +202,7 @@ fn push_point(rows: &Rows, i: u32, out: &mut Vec<AtVertex>) -> Result<(), NoMemo
     Ok(())
 }
 
+// Appends the loops without an edge at a vertex.
 fn push_alone(
     rows: &Rows,
     tables: &VertexTables,

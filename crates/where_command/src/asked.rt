@@ -45,6 +45,7 @@ fn number_in(word: &str) -> Option<u32>
     Some(n)
 }
 
+// None where the word is no directory number.
 fn one_asked(number: &str, listing: Listing) -> Option<Asked>
     ensures { result ≡ one_asked number.now listing }
 {
@@ -54,6 +55,7 @@ fn one_asked(number: &str, listing: Listing) -> Option<Asked>
     }
 }
 
+// The same with nothing left out of the listing, where the second word is `all`.
 fn all_asked(number: &str, word: &str) -> Option<Asked>
     ensures { result ≡ if bytes_eq word.now (codes "all") then one_asked number.now Listing.All
         else None }

@@ -34,6 +34,7 @@ fn answer_to(verdict: Verdict) -> Answer
     }
 }
 
+// The answer, by whether all solids are closed.
 fn answer_where(closed: bool) -> Answer
     ensures { result ≡ answer_where closed }
 {

@@ -55,6 +55,7 @@ fn put_tuple_fact(
     out.put(b"\n")
 }
 
+// Four lines: this tuple, the vertex where it ends, the next tuple, and the vertex where that starts.
 #[tactic(auto, unfolding(crate::specs::Join::meeting_facts))]
 fn put_meeting_facts(
     out: &mut Out,
@@ -81,6 +82,7 @@ fn put_meeting_facts(
     put_vertex_fact(out, "starts", file, solid, starts_at(solid, *other))
 }
 
+// The next tuple of a loop of so many, from 1.
 fn tuple_after(len: usize, tuple: usize) -> usize
     ensures next { result ≡ tuple_after len tuple }
     ensures some { 0 < result }
@@ -136,6 +138,7 @@ fn put_loop_at(
     }
 }
 
+// The directory number of the face whose loop has the gap.
 fn gap_face(faces: &[FaceUse], gap: Gap) -> EntryNo
     ensures { result ≡ gap_face faces.now gap }
 {

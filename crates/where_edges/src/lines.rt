@@ -66,6 +66,7 @@ pub fn put_edge_words(out: &mut Out, key: EdgeKey) -> Result<(), NoMemory>
     put_number(out, u64::from(key.index))
 }
 
+// The directory number of an edge's curve; 0 where the list's record gives none.
 fn curve_of(file: &File, key: EdgeKey) -> i64
     ensures { result ≡ curve_of file.now key }
 {

@@ -45,6 +45,7 @@ fn definition_of(file: &File, number: i64) -> Option<&Values>
     }
 }
 
+// One of the three shares of a colour definition; a text is shown as a hyphen.
 fn put_share(out: &mut Out, value: Option<&Value>) -> Result<(), NoMemory>
     ensures { OnOk result (out.new ≡ out.old ++ share_word (option_copied value.entry)) }
 {
@@ -54,6 +55,7 @@ fn put_share(out: &mut Out, value: Option<&Value>) -> Result<(), NoMemory>
     }
 }
 
+// The name of a colour definition, where it has one.
 fn put_text(out: &mut Out, value: Option<&Value>) -> Result<(), NoMemory>
     ensures { OnOk result (out.new ≡ out.old ++ text_word (option_copied value.entry)) }
 {
@@ -66,6 +68,7 @@ fn put_text(out: &mut Out, value: Option<&Value>) -> Result<(), NoMemory>
     }
 }
 
+// The shares of red, green and blue of a colour definition, and its name.
 #[tactic(auto, unfolding(crate::specs::Facts::definition_words))]
 fn put_definition(out: &mut Out, definition: Option<&Values>) -> Result<(), NoMemory>
     ensures { OnOk result (out.new ≡ out.old ++ definition_words (option_copied definition.entry)) }

@@ -9,6 +9,7 @@ use iges_params::File;
 use std::alloc::Global;
 use where_text::EntryNumbers;
 
+// Marks an entry by its directory number; an even number and one past the end mark none.
 fn mark(marks: &mut [bool], no: EntryNo)
     ensures { (k : ℕ) → k < length marks.old
         → get_or marks.new k false ≡ (get_or marks.old k false || (no.0 == 2 * k + 1)) }

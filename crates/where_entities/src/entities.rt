@@ -23,6 +23,7 @@ fn names_entry(file: &File, number: i64) -> bool
     }
 }
 
+// The surface of a face, where its number names an entry.
 fn put_surface_named(out: &mut Out, file: &File, surface: i64) -> Result<(), NoMemory>
     ensures { OnOk result (out.new ≡ out.old ++ surface_named file.now surface) }
 {

@@ -16,6 +16,7 @@ use std::alloc::Global;
 use vertex_facts::VertexFaces;
 use where_text::{EntryNumbers, Listing, put_face, put_more_facts, put_more_items};
 
+// A line for a face, given with the number of its shell from 0.
 #[tactic(auto, unfolding(crate::specs::Apart::in_shell_line))]
 fn put_in_shell(
     out: &mut Out,

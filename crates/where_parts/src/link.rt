@@ -21,6 +21,7 @@ use where_text::{
     EntryNumbers, Listing, put_face, put_more_facts, put_more_items, put_number, put_vertex,
 };
 
+// The face, the loop and the tuple of a row.
 fn put_place(
     out: &mut Out,
     named: &mut EntryNumbers,
@@ -79,6 +80,7 @@ fn put_loop(out: &mut Out, walk: Option<&Loop>) -> Result<(), NoMemory>
     }
 }
 
+// A face, and its loop at a place from 0.
 fn put_walk(
     out: &mut Out,
     named: &mut EntryNumbers,
@@ -149,6 +151,7 @@ fn put_point_line(
     out.put(b"\n")
 }
 
+// A line for a row of a fan, or for a loop without an edge.
 fn put_fact(
     out: &mut Out,
     named: &mut EntryNumbers,

@@ -33,6 +33,7 @@ fn put_part_head(out: &mut Out, number: usize, part: &Part) -> Result<(), NoMemo
     out.put(b"\n")
 }
 
+// The first of rising numbers; 0 where there are none.
 fn least(vertices: &[u32]) -> u32
     ensures { result ≡ get_or vertices.now 0 0 }
 {
@@ -42,6 +43,7 @@ fn least(vertices: &[u32]) -> u32
     }
 }
 
+// A line for each of a part's vertices that a part before it has too.
 fn put_touches(out: &mut Out, file: &File, solid: &Solid, vertices: &[u32]) -> Result<(), NoMemory>
     ensures { OnOk result (out.new ≡ out.old
         ++ flat_map (vertex_line (codes "  touches") file.now solid.now) vertices.now) }

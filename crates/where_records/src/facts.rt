@@ -33,6 +33,7 @@ fn number_in(file: &File, no: EntryNo, place: usize) -> i64
     }
 }
 
+// The value that was found, or `end` where the record ends before it.
 fn put_found(out: &mut Out, value: Option<&Value>) -> Result<(), NoMemory>
     ensures { OnOk result (out.new ≡ out.old ++ space_word (found (option_copied value.entry))) }
 {

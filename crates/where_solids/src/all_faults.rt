@@ -41,6 +41,7 @@ pub fn all_faults(alloc: Global, solid: &Solid) -> Result<AllFaults, NoMemory>
     Ok(all)
 }
 
+// True where links weren't judged too: then something else fails.
 fn none_unlinked(linking: Option<&Linking>) -> bool
     ensures { result ≡ none_unlinked (option_copied linking.entry) }
 {

@@ -23,6 +23,7 @@ const SOLIDS: &str = "  The solids of this file are these. Take one of their num
 const NO_SOLID: &str =
     "hint no-solid\n  This file holds no solid (entity 186); it may hold trimmed surfaces or a\n  shell alone.\n";
 
+// How many of the faces have the flag 0.
 fn unset_in(faces: &[FaceUse]) -> usize
     ensures { result ≡ count_by (λ (face : AnyFace). not face.flag) faces.now }
 {
@@ -35,6 +36,7 @@ fn unset_in(faces: &[FaceUse]) -> usize
     count
 }
 
+// How many faces of a shell have the flag 0; shells count from 0.
 fn unset_at(solid: &Solid, k: usize) -> usize
     requires shell { k < length solid.now.shells }
     requires few { k < 2 ^ 29 }

@@ -72,6 +72,7 @@ fn failing_count(verdicts: &[Verdict]) -> usize
     count
 }
 
+// The line of the counts; where there is no solid, also the hint on that.
 #[tactic(auto, unfolding(crate::specs::Overview::overview_start))]
 fn put_start(out: &mut Out, solids: usize, failing: usize) -> Result<(), NoMemory>
     ensures { (vs : List AnyVerdict) → length vs ≡ solids → count_by fails vs ≡ failing

@@ -15,6 +15,7 @@ use where_entities::put_entities;
 use where_records::put_record;
 use where_text::Listing;
 
+// The units; where no path leads to the entity, instead the hint on the file's solids.
 fn put_start(
     alloc: Global,
     out: &mut Out,

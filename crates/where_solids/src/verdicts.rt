@@ -33,6 +33,7 @@ fn first_gap(gaps: &[Gap]) -> Option<Failing>
     })
 }
 
+// The list and the index of an edge; both are 0 where the solid hasn't got it.
 fn edge_name(solid: &Solid, edge: EdgeId) -> EdgeKey
     ensures { result ≡ edge_name (slice_get solid.now.edges edge.0) }
 {
@@ -78,6 +79,7 @@ fn first_apart(faces: &[FaceUse], firsts: &[u32]) -> Option<Failing>
     None
 }
 
+// The list and the index of a vertex; both are 0 where the solid hasn't got it.
 fn vertex_name(solid: &Solid, vertex: u32) -> VertexKey
     ensures { result ≡ vertex_name (slice_get solid.now.vertices vertex) }
 {
@@ -90,6 +92,7 @@ fn vertex_name(solid: &Solid, vertex: u32) -> VertexKey
     }
 }
 
+// That a rule fails at a vertex: the entity is its list, the place its index.
 fn at_vertex(solid: &Solid, rule: Rule, vertex: u32) -> Failing
     ensures { result ≡ named_vertex rule (vertex_name (slice_get solid.now.vertices vertex)) }
 {

@@ -51,6 +51,7 @@ pub fn shown_members<T>(listing: Listing, members: &[T]) -> &[T]
 /// Numbers of entries that written facts name, in the order of writing, with repeats (own).
 pub type EntryNumbers = ItemList<EntryNo>;
 
+// The line that says how many more there are; nothing where there are none.
 #[tactic(auto, unfolding(crate::specs::Listing::left_line))]
 fn put_left(out: &mut Out, indent: &str, left: usize) -> Result<(), NoMemory>
     ensures { OnOk result (out.new ≡ out.old ++ left_line indent.now left) }

@@ -5,6 +5,7 @@ ghost use Rattle.where_text.specs.Spelled.{masked, masked_byte};
 
 use iges_fields::{NoMemory, Out};
 
+// A control character is shown as a question mark.
 fn masked_byte(b: u8) -> u8
     ensures { result ≡ masked_byte b }
 {

@@ -40,6 +40,7 @@ pub fn put_vertex(out: &mut Out, file: &File, key: VertexKey) -> Result<(), NoMe
     put_coordinate(out, file, key, 2)
 }
 
+// The directory number of a face's surface; 0 where its record gives none.
 fn surface_of(file: &File, face: EntryNo) -> i64
     ensures { result ≡ surface_of file.now face }
 {

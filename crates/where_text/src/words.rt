@@ -31,6 +31,7 @@ pub fn put_signed(out: &mut Out, n: i64) -> Result<(), NoMemory>
     out.put(Buffer::new().format(n).as_bytes())
 }
 
+// A value as it is shown; one that is left out is a hyphen.
 fn put_spelled(out: &mut Out, value: &Value) -> Result<(), NoMemory>
     ensures text { OnOk result (out.new ≡ out.old ++ spelled value.now) }
 {
