@@ -35,9 +35,7 @@ const UNSEEN: Seen = Seen {
 /// What was seen of each edge of a range.
 #[derive(Drop)]
 pub struct Tally {
-    /// The range, in numbers of edges of the solid.
     pub span: Span,
-    /// One item for each edge of the range, that of `span.least` at 0.
     pub seen: Vec<Seen>,
     ghost long: { length seen.items ≡ span.count },
 }
