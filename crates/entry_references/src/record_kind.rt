@@ -4,7 +4,7 @@ ghost use Rattle.brep_lists.specs.Record.{kind_of_type};
 ghost use Rattle.entry_references.specs.KindNames.{entity_kind};
 ghost use Rattle.std.specs.Prelude.{◌≡◌, option_map};
 
-/// A kind of record that describes a part of a solid (IGES 5.3, 4.49 and 4.145 to 4.149).
+/// A kind of record that tells a part of a solid (IGES 5.3, 4.49 and 4.145 to 4.149).
 #[derive(Clone, Copy)]
 pub enum RecordKind {
     Solid,

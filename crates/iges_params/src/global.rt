@@ -4,8 +4,6 @@ use iges_fields::{Delimiters, Values};
 /// knows 24 (IGES 5.3, 2.2.4.3). Fewer and more are taken, and each may be left out (own).
 #[derive(Drop)]
 pub struct Global26 {
-    /// Parameters 1 and 2: the parameter delimiter and the record delimiter.
     pub delims: Delimiters,
-    /// The value at 0 is parameter 3.
     pub values: Values,
 }

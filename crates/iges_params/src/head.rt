@@ -8,7 +8,6 @@ use iges_fields::{Delimiters, without_front_spaces};
 #[derive(Clone, Copy, Debug)]
 pub struct Head<'t> {
     pub delims: Delimiters,
-    /// The text from the third parameter on; None where the section ends before it.
     pub values: Option<&'t [u8]>,
 }
 

@@ -12,9 +12,7 @@ use std::alloc::Global;
 /// A free text at the end of the columns that it lies in, which are joined line by line.
 #[derive(Clone, Copy, Debug)]
 pub struct Passage<'t> {
-    /// The free columns of whole lines, `width` bytes of each.
     pub columns: &'t [u8],
-    /// The end of these columns; it may be all of them.
     pub text: &'t [u8],
     /// The number of the first line in the file, from 1.
     pub first: u64,

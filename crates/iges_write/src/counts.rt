@@ -11,13 +11,9 @@ use iges_fields::NoMemory;
 /// How many lines each section has.
 #[derive(Clone, Copy, Debug)]
 pub struct Counts {
-    /// S lines.
     pub start: u64,
-    /// G lines.
     pub global: u64,
-    /// D lines, two of each entry.
     pub directory: u64,
-    /// P lines.
     pub params: u64,
 }
 

@@ -6,7 +6,7 @@ ghost use Rattle.record_values.specs.Kinds.{kind_of};
 
 use iges_directory::Entry;
 
-/// A kind of record that describes a part of a solid (IGES 5.3, 4.49 and 4.145 to 4.149).
+/// A kind of record that tells a part of a solid (IGES 5.3, 4.49 and 4.145 to 4.149).
 #[derive(Clone, Copy, Debug, PartialEq, Eq)]
 pub enum RecordKind {
     Solid,
