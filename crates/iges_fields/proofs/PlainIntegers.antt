@@ -22,9 +22,9 @@ use Rattle.iges_fields.proofs.DigitFronts.{digit_range}
 use Rattle.iges_fields.proofs.ItemFronts.{trim_plain, unsigned_plain}
 use Rattle.iges_fields.proofs.Spaces.{after_spaces-other}
 use Rattle.iges_base.proofs.Lists.{prefix_len-front}
-use Rattle.iges_fields.proofs.Steps.{item_is_word, no_H_behind, word_from, word_int}
+use Rattle.iges_fields.proofs.Steps.{item_is_word, no_H_behind, word_default, word_from, word_int}
 use Rattle.iges_fields.proofs.WordKinds.{digit_mantissa}
-use Rattle.iges_fields.proofs.Words.{digit_is_not, digit_number_byte, list_all-implies, number_byte_no_space, number_byte_no_stop, stop_no_H}
+use Rattle.iges_fields.proofs.Words.{digit_is_not, digit_number_byte, list_all-implies, number_byte_no_space, number_byte_no_stop, stop_no_H, stop_no_space}
 
 -- ---- digit by digit
 
@@ -71,7 +71,7 @@ module _ (text : List ℕ) (len value : ℕ) (so_far : IsDigitsSoFar text len va
 
 -- ---- the item
 
-module _ (d : Delims) (ok : are_permitted d ≡ true) (text : List ℕ) (n : ℕ) (within : n ≤ length text) (digits : list_all is_ascii_digit (take n text) ≡ true) (some : 0 < n)
+module _ (d : Delims) (ok : are_permitted d ≡ true) (text : List ℕ) (n : ℕ) (within : n ≤ length text) (digits : list_all is_ascii_digit (take n text) ≡ true)
     (behind : List ℕ) (behind-is : behind ≡ drop n text) (more : 1 ≤ length behind) (stop : is_delimiter_of d (get_or behind 0 0) ≡ true) where
   abbrev front : List ℕ
   front = take n text
@@ -112,8 +112,16 @@ module _ (d : Delims) (ok : are_permitted d ≡ true) (text : List ℕ) (n : ℕ
   no_space_first (c ∷ t) (suc m) a b all =
       sym (after_spaces-other c t (not-true _ (number_byte_no_space c (digit_number_byte c (and_parts (is_ascii_digit c) (list_all is_ascii_digit (take m t)) all).0))))
 
-  body_is : text ≡ after_spaces text
-  body_is = no_space_first text n some within digits
+  body_is : 0 < n → text ≡ after_spaces text
+  body_is some = no_space_first text n some within digits
+
+  body_is_there : n ≡ 0 → text ≡ after_spaces text
+  body_is_there none =
+      let here : text ≡ first ∷ drop 1 behind = split ∙ ap (λ (m : ℕ). take m text ++ first ∷ drop 1 behind) none in
+      here ∙ (sym (after_spaces-other first (drop 1 behind) (stop_no_space d ok first stop)) ∙ ap after_spaces (sym here))
+
+  inside : n ≡ length text → ⊥
+  inside e = let rest : length behind ≡ length text - n = ap length behind-is ∙ length-drop n text in omega (arith, e, rest, more)
 
   plain : (xs : List ℕ) → list_all is_ascii_digit xs ≡ true → 0 < length xs → (is_integer xs ≡ true) × (signed_digits_value 10 xs ≡ pos (digits_value 10 xs)) × (xs ≡ trim xs)
   plain [] all a = absurd (omega (arith, a))
@@ -126,13 +134,20 @@ module _ (d : Delims) (ok : are_permitted d ≡ true) (text : List ℕ) (n : ℕ
         sym (trim_plain (c ∷ xs) bytes),
       )
 
-  pub plain_item : digits_value 10 front < 10 ^ 18 → read_item d text ≡ Ok (value.Int (pos (digits_value 10 front)), behind)
-  plain_item few =
+  pub plain_item : 0 < n → digits_value 10 front < 10 ^ 18 → read_item d text ≡ Ok (value.Int (pos (digits_value 10 front)), behind)
+  plain_item some few =
       let p = plain front digits (omega (arith, long, some)) in
       let limit : 10 ^ 18 ≡ 1000000000000000000 = refl in
       let fits : fits_64_bits (pos (digits_value 10 front)) ≡ true = and_from _ _ refl (le-leb (digits_value 10 front) 9223372036854775807 (omega (arith, few, limit))) in
-      let inside : n ≡ length text → ⊥ = λ e. let rest : length behind ≡ length text - n = ap length behind-is ∙ length-drop n text in omega (arith, e, rest, more) in
       let word = word_int d text front p.0 (ap fits_64_bits p.1 ∙ fits) in
-      item_is_word d text (ap begins_text (sym body_is) ∙ no_text) ∙ ap (word_item d text) (sym body_is)
+      item_is_word d text (ap begins_text (sym (body_is some)) ∙ no_text) ∙ ap (word_item d text) (sym (body_is some))
       ∙ word_from d text text n word_ends inside front behind front refl behind-is p.2 (Ok (value.Int (signed_digits_value 10 front))) word
       ∙ ap (λ (z : ℤ). Ok (value.Int z, behind)) p.1
+
+  -- nothing stands before the delimiter
+  pub omitted_item : n ≡ 0 → read_item d text ≡ Ok (value.Default, behind)
+  omitted_item none =
+      let body = body_is_there none in
+      let front_is : [] ≡ take n text = ap (λ (m : ℕ). take m text) (sym none) in
+      item_is_word d text (ap begins_text (sym body) ∙ no_text) ∙ ap (word_item d text) (sym body)
+      ∙ word_from d text text n word_ends inside [] behind [] front_is behind-is refl (Ok value.Default) (word_default d text [] refl)

@@ -1,12 +1,12 @@
-//! Integers that are written by digits alone, after which a delimiter comes: most items of a file are these.
+//! Items that are omitted or written by digits alone, without spaces: most items of a file are these.
 
-ghost use Rattle.iges_fields.specs.declared.value.Value.TheVariants as value;
 ghost use Rattle.iges_fields.specs.Delims.{are_permitted};
 ghost use Rattle.iges_fields.specs.Fronts.{AreDigits};
 ghost use Rattle.iges_fields.specs.Reading.{read_item};
 ghost use Rattle.std.specs.Prelude.{◌≡◌, Ok, IfSome, IsTrue};
 
 use crate::delimiters::Delimiters;
+use crate::value::Value;
 
 // So many digits write a number that 64 signed bits hold.
 const MOST: usize = 18;
@@ -35,20 +35,23 @@ fn digits_of(text: &[u8]) -> Digits
     Digits { len, value }
 }
 
-/// The integer at the front of the text, where digits alone write it, and the text from its delimiter on. None says
-/// nothing of the text.
+/// The value at the front of the text if it is omitted or an integer of digits alone, and the text from its delimiter on.
+/// None says nothing of the text.
 #[inline(always)]
-pub fn plain_integer<'t>(delims: &Delimiters, text: &'t [u8]) -> Option<(i64, &'t [u8])>
+pub fn plain_value<'t>(delims: &Delimiters, text: &'t [u8]) -> Option<(Value, &'t [u8])>
     requires { IsTrue (are_permitted delims.now) }
-    ensures { IfSome result (λ x. read_item delims.now text.now ≡ Ok (value.Int x.0, x.1.now)) }
+    ensures { IfSome result (λ x. read_item delims.now text.now ≡ Ok (x.0, x.1.now)) }
 {
     let digits = digits_of(text);
-    let (_, behind) = text.split_at(digits.len);
-    let [stop, ..] = behind else {
+    let (_, rest) = text.split_at(digits.len);
+    let [stop, ..] = rest else {
         return None;
     };
-    if digits.len == 0 || !delims.has(*stop) {
+    if !delims.has(*stop) {
         return None;
     }
-    Some((digits.value as i64, behind))
+    if digits.len == 0 {
+        return Some((Value::Default, rest));
+    }
+    Some((Value::Int(digits.value as i64), rest))
 }
