@@ -18,18 +18,9 @@ slot_meant (slot.Number digits least greatest) = number digits least greatest
 
 -- the command of this kind for the number n
 abbrev pub command_for : CommandKind → ℕ → Command
-command_for kind.Solids n = command.File of_file.Solids
-command_for kind.Show n = command.File (of_file.Show n)
-command_for kind.Certify n = command.File (of_file.Certify n)
-command_for kind.CertifyAll n = command.File of_file.CertifyAll
-command_for kind.Verify n = command.File of_file.Verify
-command_for kind.Upgrade n = command.File of_file.Upgrade
-command_for kind.Extract n = command.File (of_file.Extract n)
-command_for kind.Open n = command.File (of_file.Open n)
-command_for kind.OpenVerify n = command.File of_file.OpenVerify
-command_for kind.Orient n = command.File (of_file.Orient n)
-command_for kind.OrientVerify n = command.File of_file.OrientVerify
-command_for kind.Compact n = command.File (of_file.Compact n)
+command_for (kind.Whole c) n = command.File (of_file.Whole c)
+command_for (kind.Entity c) n = command.File (of_file.Entity c n)
+command_for (kind.Certificate c) n = command.File (of_file.Certificate c)
 command_for kind.Sample n = command.Sample n
 
 abbrev pub form_meant : Row → Form

@@ -6,6 +6,12 @@ use Rattle.iges_fields.specs.Word.{are_digits}
 use Rattle.iges_solid_cmd.specs.declared.form.Command.{Command}
 use Rattle.iges_solid_cmd.specs.declared.form.Command.TheVariants as command
 use Rattle.iges_solid_cmd.specs.declared.form.FileCommand.TheVariants as of_file
+use Rattle.iges_solid_cmd.specs.declared.form.WholeCommand.{WholeCommand}
+use Rattle.iges_solid_cmd.specs.declared.form.WholeCommand.TheVariants as of_whole
+use Rattle.iges_solid_cmd.specs.declared.form.EntityCommand.{EntityCommand}
+use Rattle.iges_solid_cmd.specs.declared.form.EntityCommand.TheVariants as of_entity
+use Rattle.iges_solid_cmd.specs.declared.form.CertificateCommand.{CertificateCommand}
+use Rattle.iges_solid_cmd.specs.declared.form.CertificateCommand.TheVariants as of_certificate
 use Rattle.iges_solid_cmd.specs.declared.slot.Operand.{Operand}
 use Rattle.iges_solid_cmd.specs.declared.slot.Operand.TheVariants as operand
 
@@ -26,22 +32,34 @@ entry_number = number 7 1 9999999
 abbrev pub sample_number : Slot
 sample_number = number 3 3 200
 
+-- these slots for a command for all of a file
+abbrev pub for_whole : List Slot → WholeCommand → Form
+for_whole slots c = record { slots = slots; command = λ _. command.File (of_file.Whole c) }
+
+-- this word, a file and a directory number
+abbrev pub for_entity : List ℕ → EntityCommand → Form
+for_entity text c = record { slots = word text ∷ file ∷ entry_number ∷ []; command = λ n. command.File (of_file.Entity c n) }
+
+-- this word, a file and a certificate
+abbrev pub for_certificate : List ℕ → CertificateCommand → Form
+for_certificate text c = record { slots = word text ∷ file ∷ certificate ∷ []; command = λ _. command.File (of_file.Certificate c) }
+
 -- the listed forms, in the order of the usage line
 abbrev pub forms : List Form
 forms =
-    record { slots = word (codes "solids") ∷ file ∷ []; command = λ _. command.File of_file.Solids } ∷
-    record { slots = word (codes "show") ∷ file ∷ entry_number ∷ []; command = λ n. command.File (of_file.Show n) } ∷
-    record { slots = word (codes "certify") ∷ file ∷ entry_number ∷ []; command = λ n. command.File (of_file.Certify n) } ∷
-    record { slots = word (codes "verify") ∷ file ∷ certificate ∷ []; command = λ _. command.File of_file.Verify } ∷
-    record { slots = word (codes "extract") ∷ file ∷ entry_number ∷ []; command = λ n. command.File (of_file.Extract n) } ∷
+    for_whole (word (codes "solids") ∷ file ∷ []) of_whole.Solids ∷
+    for_entity (codes "show") of_entity.Show ∷
+    for_entity (codes "certify") of_entity.Certify ∷
+    for_certificate (codes "verify") of_certificate.Verify ∷
+    for_entity (codes "extract") of_entity.Extract ∷
     record { slots = word (codes "sample") ∷ sample_number ∷ []; command = λ n. command.Sample n } ∷
-    record { slots = word (codes "upgrade") ∷ file ∷ certificate ∷ []; command = λ _. command.File of_file.Upgrade } ∷
-    record { slots = word (codes "certify") ∷ file ∷ word (codes "all") ∷ []; command = λ _. command.File of_file.CertifyAll } ∷
-    record { slots = word (codes "open") ∷ file ∷ entry_number ∷ []; command = λ n. command.File (of_file.Open n) } ∷
-    record { slots = word (codes "open-verify") ∷ file ∷ certificate ∷ []; command = λ _. command.File of_file.OpenVerify } ∷
-    record { slots = word (codes "orient") ∷ file ∷ entry_number ∷ []; command = λ n. command.File (of_file.Orient n) } ∷
-    record { slots = word (codes "orient-verify") ∷ file ∷ certificate ∷ []; command = λ _. command.File of_file.OrientVerify } ∷
-    record { slots = word (codes "compact") ∷ file ∷ entry_number ∷ []; command = λ n. command.File (of_file.Compact n) } ∷ []
+    for_certificate (codes "upgrade") of_certificate.Upgrade ∷
+    for_whole (word (codes "certify") ∷ file ∷ word (codes "all") ∷ []) of_whole.CertifyAll ∷
+    for_entity (codes "open") of_entity.Open ∷
+    for_certificate (codes "open-verify") of_certificate.OpenVerify ∷
+    for_entity (codes "orient") of_entity.Orient ∷
+    for_certificate (codes "orient-verify") of_certificate.OrientVerify ∷
+    for_entity (codes "compact") of_entity.Compact ∷ []
 
 -- ---- reading words
 
@@ -108,10 +126,7 @@ takes_file (command.Sample n) = false
 
 -- the command is for a file and a certificate
 abbrev pub takes_certificate : Command → Bool
-takes_certificate (command.File of_file.Verify) = true
-takes_certificate (command.File of_file.Upgrade) = true
-takes_certificate (command.File of_file.OpenVerify) = true
-takes_certificate (command.File of_file.OrientVerify) = true
+takes_certificate (command.File (of_file.Certificate c)) = true
 takes_certificate _ = false
 
 -- the sizes of samples

@@ -8,13 +8,14 @@ use Rattle.orient_commands.specs.Laws.{AreSameOrRings}
 use Rattle.iges_solid_cmd.specs.declared.form.Command.{Command}
 use Rattle.iges_solid_cmd.specs.declared.form.Command.TheVariants as command
 use Rattle.iges_solid_cmd.specs.declared.form.FileCommand.TheVariants as of_file
+use Rattle.iges_solid_cmd.specs.declared.form.EntityCommand.TheVariants as of_entity
 use Rattle.iges_solid_cmd.specs.Forms.{command_of}
 use Rattle.iges_solid_cmd.specs.Due.{Due}
 
 -- How two texts that are owed with this answer may differ: an open shell may have several certificates that are accepted, and an orientation may name one ring or another.
 abbrev pub MayDiffer : Command → Answer → List ℕ → List ℕ → Type 0
-MayDiffer (command.File (of_file.Open n)) a t u = a ≡ Done
-MayDiffer (command.File (of_file.Orient n)) a t u = AllZip AreSameOrRings (cut_lines t) (cut_lines u)
+MayDiffer (command.File (of_file.Entity of_entity.Open n)) a t u = a ≡ Done
+MayDiffer (command.File (of_file.Entity of_entity.Orient n)) a t u = AllZip AreSameOrRings (cut_lines t) (cut_lines u)
 MayDiffer _ a t u = ⊥
 
 -- Two that are owed have one answer, and one text but for those.

@@ -6,34 +6,55 @@ ghost use Rattle.std.specs.Str.Parse.{digits_value};
 
 use crate::slot::{ENTRY_NUMBER, Operand, SAMPLE_NUMBER, Slot};
 
-/// A command for a file (own).
+/// A command for all of a file (own).
 #[derive(Clone, Copy, Debug, PartialEq, Eq)]
-pub enum FileCommand {
+pub enum WholeCommand {
     /// The directory numbers of the solids of a file.
     Solids,
-    /// What the shells of a solid, named by its directory number, are made of.
-    Show(u32),
-    /// A certificate that a solid, named by its directory number, is closed.
-    Certify(u32),
     /// A certificate that all solids of a file are closed.
     CertifyAll,
+}
+
+/// A command for a solid or a shell of a file (own).
+#[derive(Clone, Copy, Debug, PartialEq, Eq)]
+pub enum EntityCommand {
+    /// What the shells of a solid are made of.
+    Show,
+    /// A certificate that a solid is closed.
+    Certify,
+    /// A file of a solid alone, with all that it refers to.
+    Extract,
+    /// A certificate that a shell is sound as an open one.
+    Open,
+    /// Face flags under which each edge of a solid is used in opposite directions, or a ring of faces for which there are
+    /// none.
+    Orient,
+    /// A file of a solid alone, whose lists hold only what it uses.
+    Compact,
+}
+
+/// A command for a file and a certificate (own).
+#[derive(Clone, Copy, Debug, PartialEq, Eq)]
+pub enum CertificateCommand {
     /// Whether a certificate is accepted for a file.
     Verify,
     /// An accepted certificate as one of the current version.
     Upgrade,
-    /// A file of a solid alone, named by its directory number, with all that it refers to.
-    Extract(u32),
-    /// A certificate that a shell, named by its directory number, is sound as an open one.
-    Open(u32),
     /// Whether a certificate of an open shell is accepted for a file.
     OpenVerify,
-    /// Face flags under which each edge of a solid, named by its directory number, is used in opposite directions, or a
-    /// ring of faces for which there are none.
-    Orient(u32),
     /// Whether an orientation fits a file.
     OrientVerify,
-    /// A file of a solid alone, named by its directory number, whose lists hold only what it uses.
-    Compact(u32),
+}
+
+/// A command for a file (own).
+#[derive(Clone, Copy, Debug, PartialEq, Eq)]
+pub enum FileCommand {
+    /// One for all of it.
+    Whole(WholeCommand),
+    /// One for the solid or the shell with this directory number.
+    Entity(EntityCommand, u32),
+    /// One for it and a certificate.
+    Certificate(CertificateCommand),
 }
 
 /// A command that the words ask for (own).
@@ -45,27 +66,19 @@ pub enum Command {
     Sample(u32),
 }
 
-/// Which command a form asks for (own).
+/// Which command a form asks for, without its number (own).
 #[derive(Clone, Copy, Debug)]
 pub enum CommandKind {
-    Solids,
-    Show,
-    Certify,
-    CertifyAll,
-    Verify,
-    Upgrade,
-    Extract,
-    Open,
-    OpenVerify,
-    Orient,
-    OrientVerify,
-    Compact,
+    Whole(WholeCommand),
+    Entity(EntityCommand),
+    Certificate(CertificateCommand),
     Sample,
 }
 
 /// What the words of a command line may be, one by one, and the command that they ask for (own).
 #[derive(Clone, Copy, Debug)]
 pub struct Form {
+    /// One for each word, in the order of the words.
     pub slots: &'static [Slot],
     pub kind: CommandKind,
 }
@@ -74,23 +87,23 @@ pub struct Form {
 const FORMS: &[Form] = &[
     Form {
         slots: &[Slot::Word("solids"), Slot::File],
-        kind: CommandKind::Solids,
+        kind: CommandKind::Whole(WholeCommand::Solids),
     },
     Form {
         slots: &[Slot::Word("show"), Slot::File, ENTRY_NUMBER],
-        kind: CommandKind::Show,
+        kind: CommandKind::Entity(EntityCommand::Show),
     },
     Form {
         slots: &[Slot::Word("certify"), Slot::File, ENTRY_NUMBER],
-        kind: CommandKind::Certify,
+        kind: CommandKind::Entity(EntityCommand::Certify),
     },
     Form {
         slots: &[Slot::Word("verify"), Slot::File, Slot::Certificate],
-        kind: CommandKind::Verify,
+        kind: CommandKind::Certificate(CertificateCommand::Verify),
     },
     Form {
         slots: &[Slot::Word("extract"), Slot::File, ENTRY_NUMBER],
-        kind: CommandKind::Extract,
+        kind: CommandKind::Entity(EntityCommand::Extract),
     },
     Form {
         slots: &[Slot::Word("sample"), SAMPLE_NUMBER],
@@ -98,31 +111,31 @@ const FORMS: &[Form] = &[
     },
     Form {
         slots: &[Slot::Word("upgrade"), Slot::File, Slot::Certificate],
-        kind: CommandKind::Upgrade,
+        kind: CommandKind::Certificate(CertificateCommand::Upgrade),
     },
     Form {
         slots: &[Slot::Word("certify"), Slot::File, Slot::Word("all")],
-        kind: CommandKind::CertifyAll,
+        kind: CommandKind::Whole(WholeCommand::CertifyAll),
     },
     Form {
         slots: &[Slot::Word("open"), Slot::File, ENTRY_NUMBER],
-        kind: CommandKind::Open,
+        kind: CommandKind::Entity(EntityCommand::Open),
     },
     Form {
         slots: &[Slot::Word("open-verify"), Slot::File, Slot::Certificate],
-        kind: CommandKind::OpenVerify,
+        kind: CommandKind::Certificate(CertificateCommand::OpenVerify),
     },
     Form {
         slots: &[Slot::Word("orient"), Slot::File, ENTRY_NUMBER],
-        kind: CommandKind::Orient,
+        kind: CommandKind::Entity(EntityCommand::Orient),
     },
     Form {
         slots: &[Slot::Word("orient-verify"), Slot::File, Slot::Certificate],
-        kind: CommandKind::OrientVerify,
+        kind: CommandKind::Certificate(CertificateCommand::OrientVerify),
     },
     Form {
         slots: &[Slot::Word("compact"), Slot::File, ENTRY_NUMBER],
-        kind: CommandKind::Compact,
+        kind: CommandKind::Entity(EntityCommand::Compact),
     },
 ];
 
@@ -132,18 +145,9 @@ impl CommandKind {
         ensures { result ≡ command_for self n }
     {
         match self {
-            CommandKind::Solids => Command::File(FileCommand::Solids),
-            CommandKind::Show => Command::File(FileCommand::Show(n)),
-            CommandKind::Certify => Command::File(FileCommand::Certify(n)),
-            CommandKind::CertifyAll => Command::File(FileCommand::CertifyAll),
-            CommandKind::Verify => Command::File(FileCommand::Verify),
-            CommandKind::Upgrade => Command::File(FileCommand::Upgrade),
-            CommandKind::Extract => Command::File(FileCommand::Extract(n)),
-            CommandKind::Open => Command::File(FileCommand::Open(n)),
-            CommandKind::OpenVerify => Command::File(FileCommand::OpenVerify),
-            CommandKind::Orient => Command::File(FileCommand::Orient(n)),
-            CommandKind::OrientVerify => Command::File(FileCommand::OrientVerify),
-            CommandKind::Compact => Command::File(FileCommand::Compact(n)),
+            CommandKind::Whole(command) => Command::File(FileCommand::Whole(command)),
+            CommandKind::Entity(command) => Command::File(FileCommand::Entity(command, n)),
+            CommandKind::Certificate(command) => Command::File(FileCommand::Certificate(command)),
             CommandKind::Sample => Command::Sample(n),
         }
     }
