@@ -1,6 +1,6 @@
 -- Lists whose items pass a test, and what stands at a place.
 use Rattle.std.proofs.Common.{◌≡◌, inl, inr, ℕ, zero, suc, ◌+◌, ◌<◌, ◌≤◌, Bool, true, false, cond, not, List, [], ◌∷◌, ◌++◌, length, take, drop, reverse, Some, refl, sym, ap, subst, ◌∙◌, append_assoc, arith, length-append}
-use Rattle.std.specs.Prelude.{slice_get, take_while}
+use Rattle.std.specs.Prelude.{set, slice_get, take_while}
 use Rattle.std.specs.List.{AllByRecursion, list_all, prefix_len}
 use Rattle.std.proofs.Math.Numerals.{one-add, add-one}
 use Rattle.std.proofs.lemmas.Option.{get_or_from_slice_get, slice_get_cases, slice_get_within}
@@ -59,6 +59,13 @@ module _ {X : Type 0} (p : X → Bool) where
   list_all-take zero xs h = refl
   list_all-take (suc n) [] h = refl
   list_all-take (suc n) (x ∷ xs) h = let parts = and_parts (p x) (list_all p xs) h in and_from (p x) (list_all p (take n xs)) parts.0 (list_all-take n xs parts.1)
+
+  pub list_all-set : (xs : List X) (i : ℕ) (y : X) → p y ≡ true → list_all p xs ≡ true → list_all p (set xs i y) ≡ true
+  list_all-set [] i y e h = refl
+  list_all-set (x ∷ xs) zero y e h = and_from (p y) (list_all p xs) e (and_parts (p x) (list_all p xs) h).1
+  list_all-set (x ∷ xs) (suc i) y e h =
+      let parts = and_parts (p x) (list_all p xs) h in
+      and_from (p x) (list_all p (set xs i y)) parts.0 (list_all-set xs i y e parts.1)
 
   pub list_all-drop : (n : ℕ) (xs : List X) → list_all p xs ≡ true → list_all p (drop n xs) ≡ true
   list_all-drop zero xs h = h

@@ -1,4 +1,4 @@
-//! What all crates share: bytes, a text that grows, a list, the number of an entry, that memory ran out, and how long a
+//! What all crates share: bytes, a text that grows, a list, the number of an entry, that memory ran out, and how large a
 //! file may be.
 #![tactic(auto)]
 
@@ -16,3 +16,11 @@ pub use out::{Out, write_number};
 
 /// The most bytes that a file may have, read or written: 2,000,000 lines of 82 bytes (own).
 pub const FILE_LIMIT: u64 = 164_000_000;
+
+/// The most lines that a section may have: columns 74 to 80 of a line hold its number in its section, counted from 1
+/// (IGES 5.3, 2.2.4).
+pub const LINE_LIMIT: u64 = 9_999_999;
+
+/// The most entries that a directory may have: each takes two of the lines that `LINE_LIMIT` lets a section have
+/// (IGES 5.3, 2.2.4.4).
+pub const ENTRY_LIMIT: u64 = 4_999_999;

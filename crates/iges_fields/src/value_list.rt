@@ -2,6 +2,8 @@ ghost use Rattle.iges_fields.specs.InLine.{is_value, stays_in_line};
 ghost use Rattle.std.specs.List.{list_all};
 ghost use Rattle.std.specs.Prelude.{◌≡◌, [], ◌∷◌, ◌++◌, ◌<◌, ◌≤◌, ◌^◌, ◌↔◌, IfOk, IfSome, IsSome, IsTrue, OnOk, OnErr, length, slice_get, option_copied};
 
+mod editing;
+
 use crate::value::Value;
 use iges_base::{ItemList, NoMemory};
 use std::alloc::Global;

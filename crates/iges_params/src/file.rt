@@ -1,11 +1,13 @@
 ghost use Rattle.iges_directory.specs.Bounds.{IsBounded};
-ghost use Rattle.iges_base.specs.declared.TheConstants.{FILE_LIMIT};
+ghost use Rattle.iges_base.specs.declared.TheConstants.{ENTRY_LIMIT, FILE_LIMIT};
 ghost use Rattle.iges_params.specs.Contents.{value_count};
 ghost use Rattle.iges_params.specs.Global.{have_kinds};
 ghost use Rattle.iges_params.specs.Made.{IsMade, is_start_line};
 ghost use Rattle.iges_params.specs.Named.{named};
 ghost use Rattle.std.specs.Ordering.{int_eq};
 ghost use Rattle.std.specs.Prelude.{◌≡◌, ◌+◌, ◌<◌, ◌≤◌, [], ◌∷◌, ◌++◌, ◌↔◌, pos, IsSome, IsTrue, IfOk, IfSome, OnOk, OnErr, length, slice_get, option_copied, option_map};
+
+mod taking;
 
 use crate::global::Global26;
 use iges_directory::Entry;
@@ -84,13 +86,13 @@ impl File {
     }
 
     /// Puts an entry with the values of its record, without the type number, at the end (IGES 5.3, 2.2.4.4 and
-    /// 2.2.4.5). The entry's fields must fit their columns; type 0 has no values; a file has at most 4,999,999 entries
+    /// 2.2.4.5). The entry's fields must fit their columns; type 0 has no values; a file has at most `ENTRY_LIMIT` entries
     /// and at most `FILE_LIMIT` values in all records together (own). Where memory runs out, the values are dropped and
     /// the file is as it was.
     pub fn push(&mut self, entry: Entry, values: Values) -> Result<(), NoMemory>
         requires bounded { IsBounded entry }
         requires unused { IsTrue (int_eq entry.kind (pos 0)) → values ≡ [] }
-        requires entries { length self.old.entries < 4_999_999 }
+        requires entries { length self.old.entries < ENTRY_LIMIT }
         requires few { value_count self.old.entries + length values ≤ FILE_LIMIT }
         ensures ok { OnOk result (self.new ≡ record self.old {
           entries = self.old.entries
@@ -142,7 +144,7 @@ impl File {
     /// How many entries there are, those of type 0 among them (own).
     pub fn entry_count(&self) -> usize
         ensures is { result ≡ length self.now.entries }
-        ensures few { result ≤ 4_999_999 }
+        ensures few { result ≤ ENTRY_LIMIT }
         ensures made { IsMade self.now }
     {
         self.entries.len()

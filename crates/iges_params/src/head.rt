@@ -7,7 +7,9 @@ use iges_fields::{Delimiters, without_front_spaces};
 /// The delimiters that a global's text names, and the text of its values where values follow.
 #[derive(Clone, Copy, Debug)]
 pub struct Head<'t> {
+    /// The two delimiters (IGES 5.3, 2.2.4.3.1 and 2.2.4.3.2).
     pub delims: Delimiters,
+    /// The text after them; None where the record delimiter follows them at once.
     pub values: Option<&'t [u8]>,
 }
 

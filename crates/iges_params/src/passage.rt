@@ -12,7 +12,9 @@ use std::alloc::Global;
 /// A free text at the end of the columns that it lies in, which are joined line by line.
 #[derive(Clone, Copy, Debug)]
 pub struct Passage<'t> {
+    /// The bytes of all lines, `width` of each.
     pub columns: &'t [u8],
+    /// The free text, at the end of `columns`.
     pub text: &'t [u8],
     /// The number of the first line in the file, from 1.
     pub first: u64,
