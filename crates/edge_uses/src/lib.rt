@@ -8,6 +8,7 @@
 mod apart;
 mod before;
 mod building;
+mod cells;
 mod fault;
 mod joining;
 mod law;
@@ -22,6 +23,7 @@ mod tally;
 
 pub use apart::{first_shared, vertices_before};
 pub use before::VerticesBefore;
+pub use cells::Cells;
 pub use fault::PairFault;
 pub use joining::{Unjoined, first_unjoined};
 pub use law::shells_are_definite;
