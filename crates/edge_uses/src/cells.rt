@@ -4,14 +4,10 @@ ghost use Rattle.std.specs.Prelude.{◌≡◌, Contains, MatchOption, Some, slic
 ghost use Rattle.std.specs.List.Sorted.{IsStrictlyIncreasing};
 ghost use Rattle.edge_uses.specs.Cells.{value_count};
 
-use crate::spanning::{Span, span_of};
+use crate::spanning::{Span, is_far, span_of};
 use iges_base::NoMemory;
 use std::alloc::Global;
 use std::marker::Model;
-
-// Each number of the range has a place of its own where these are at most so many for each number
-// that occurs; where they are more, only those that occur have one, and it is searched.
-const VALUES_EACH: usize = 8;
 
 /// A value for each number of a range, to be set where a number is one of some that rise (own). They
 /// take room for no more than a few values for each of these, also where these lie far apart.
@@ -39,7 +35,8 @@ impl<'a, T> Model for Cells<'a, T> {
     ghost invariant = { λ c. AreCells c.far c.numbers.now c.span c.values.items };
 }
 
-fn place_of(numbers: &[u32], n: u32) -> Option<usize>
+/// The place, from 0, of a number in a list that rises, if it is there.
+pub fn place_of(numbers: &[u32], n: u32) -> Option<usize>
     requires { IsStrictlyIncreasing numbers.now }
     ensures { MatchOption result (¬ (Contains numbers.now n)) (λ i. slice_get numbers.now i ≡ Some n) }
 {
@@ -47,10 +44,6 @@ fn place_of(numbers: &[u32], n: u32) -> Option<usize>
         Ok(i) => Some(i),
         Err(_) => None,
     }
-}
-
-fn is_far(numbers: &[u32], span: Span) -> bool {
-    span.count / VALUES_EACH > numbers.len()
 }
 
 fn value_count(far: bool, numbers: &[u32], span: Span) -> usize
@@ -75,7 +68,7 @@ impl<'a, T: Copy> Cells<'a, T> {
         ensures cells { IfOk result (λ c. c.cells ≡ replicate c.span.count blank) }
     {
         let span = span_of(numbers);
-        let far = is_far(numbers, span);
+        let far = is_far(span, numbers.len());
         let values = vec![in alloc; blank; value_count(far, numbers, span)]?;
         Ok(Cells {
             numbers,
