@@ -1,4 +1,5 @@
 pub mod Components
 pub mod Trees
 pub mod Groups
+pub mod Ranks
 pub mod FaceUses

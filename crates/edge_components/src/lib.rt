@@ -4,10 +4,11 @@
 
 mod grouping;
 mod joining;
+mod ranking;
 mod rising;
 mod used;
 
-pub use grouping::{Groups, grouped};
 pub use joining::components;
+pub use ranking::{Groups, grouped};
 pub use rising::rise;
 pub use used::{Used, add_face, nothing_used, used_by};

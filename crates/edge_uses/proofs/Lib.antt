@@ -22,3 +22,4 @@ pub mod Turn
 pub mod Turns
 pub mod RowNumbers
 pub mod Decided
+mod CellSteps

@@ -1,21 +1,23 @@
 -- What has been seen of each edge, row by row.
-use Rattle.std.specs.Prelude.{◌≡◌, ◌≢◌, ◌<◌, ◌≤◌, ◌+◌, ◌-◌, ◌==◌, ◌&&◌, ◌⊎◌, ℕ, zero, suc, Bool, true, false, not, cond, List, [], ◌∷◌, length, slice_set, slice_get, Some}
+use Rattle.std.specs.Prelude.{◌≡◌, ◌≢◌, ◌<◌, ◌≤◌, ◌+◌, ◌-◌, ◌^◌, Contains, replicate, ◌==◌, ◌&&◌, ◌⊎◌, ℕ, zero, suc, Bool, true, false, not, cond, List, [], ◌∷◌, length, slice_set, slice_get, Some}
 use Rattle.std.proofs.Common.{refl, sym, ◌∙◌, ap, subst, arith, inl, inr, get_or, drop}
 use Rattle.std.proofs.lemmas.Bool.Decides.{eqb_tells}
 use Rattle.std.proofs.lemmas.Bool.{eq-eqb}
 use Rattle.std.proofs.lemmas.Option.{slice_get-get_or}
-use Rattle.std.proofs.lemmas.List.{drop_all}
+use Rattle.std.proofs.lemmas.List.{drop_all, get_or-replicate, length-replicate, length-set}
 use Rattle.edge_uses.specs.declared.row.Row.{Row}
 use Rattle.edge_uses.specs.declared.tally.Seen.{Seen}
-use Rattle.edge_uses.specs.ShellRows.{ShellRows}
+use Rattle.edge_uses.specs.ShellRows.{ShellRows, AreRows}
+use Rattle.edge_uses.specs.Cells.{Celled}
 use Rattle.edge_uses.specs.Mates.{RunsOn}
 use Rattle.edge_uses.specs.Tally.{unseen, seen_once_more, seen_of, IsSeen}
-use Rattle.edge_uses.specs.Ranges.{IsWithin}
+use Rattle.edge_uses.specs.Ranges.{IsWithin, IsSpanOf}
 use Rattle.edge_uses.specs.declared.spanning.Span.{Span}
 use Rattle.solid_data.proofs.Members.{total, count_by-total}
 use Rattle.std.specs.List.{AllByRecursion}
 use Rattle.edge_uses.proofs.Joins.{split_drop, at_place}
 use Rattle.edge_uses.proofs.Steps.{default_apart}
+use Rattle.edge_uses.proofs.Mating.{rows_within}
 
 abbrev pub runs : ℕ → Bool → Row → Bool
 runs e true r = (r.edge.0 == e) && r.along
@@ -127,7 +129,7 @@ set_other (x ∷ xs) (suc k) (suc j) v d ne = set_other xs k j v d (λ e. ne (ap
 -- one row is counted
 pub tally_step : (d : ShellRows) (i : ℕ) (span : Span) (rows : List Row) (old : List Seen) (none : Row) (was new : Seen) → rows ≡ d.rows → i < length rows → length old ≡ span.count
     → AllByRecursion (λ (r : Row). IsWithin span r.edge.0) d.rows → ((e : ℕ) → IsWithin span e → SeenBefore d i e (seen_of span old e))
-    → was ≡ get_or old ((get_or rows i none).edge.0 - span.least) was → new ≡ seen_once_more was i (get_or rows i none).along
+    → was ≡ get_or old ((get_or rows i none).edge.0 - span.least) unseen → new ≡ seen_once_more was i (get_or rows i none).along
     → (e : ℕ) → IsWithin span e → SeenBefore d (i + 1) e (seen_of span (slice_set old ((get_or rows i none).edge.0 - span.least) new) e)
 tally_step d i span rows old none was new same lt long below each is_was is_new e within = by_edge (eqb_tells row.edge.0 e)
   where
@@ -150,7 +152,7 @@ tally_step d i span rows old none was new same lt long below each is_was is_new 
     in_old = omega (arith, long, low.0, low.1)
 
     was_known : was ≡ get_or old k unseen
-    was_known = is_was ∙ default_apart old k was unseen in_old
+    was_known = is_was
 
     by_edge : (((row.edge.0 == e) ≡ true) × (row.edge.0 ≡ e)) ⊎ (((row.edge.0 == e) ≡ false) × (row.edge.0 ≢ e)) → SeenBefore d (i + 1) e (get_or (slice_set old k new) (e - span.least) unseen)
     by_edge (inl y) =
@@ -164,13 +166,13 @@ tally_step d i span rows old none was new same lt long below each is_was is_new 
 
 pub tally_few : (d : ShellRows) (i : ℕ) (span : Span) (n : ℕ) (rows : List Row) (old : List Seen) (none : Row) (was : Seen) → rows ≡ d.rows → i < length rows → length old ≡ span.count
     → AllByRecursion (λ (r : Row). IsWithin span r.edge.0) d.rows → ((e : ℕ) → IsWithin span e → SeenBefore d i e (seen_of span old e))
-    → was ≡ get_or old ((get_or rows i none).edge.0 - span.least) was → length d.rows < n → (was.along < n) × (was.against < n)
+    → was ≡ get_or old ((get_or rows i none).edge.0 - span.least) unseen → length d.rows < n → (was.along < n) × (was.against < n)
 tally_few d i span n rows old none was same lt long below each is_was few =
     let row : Row = get_or rows i none in
     let in_rows : i < length d.rows = omega (arith, lt, ap (λ rs. length rs) same) in
     let at : get_or d.rows i row ≡ row = default_apart d.rows i row none in_rows ∙ ap (λ rs. get_or rs i none) (sym same) in
     let low : IsWithin span row.edge.0 = at_place (λ (r : Row). IsWithin span r.edge.0) d.rows row i below in_rows at in
-    let known : was ≡ seen_of span old row.edge.0 = is_was ∙ default_apart old (row.edge.0 - span.least) was unseen (omega (arith, low.0, low.1, long)) in
+    let known : was ≡ seen_of span old row.edge.0 = is_was in
     seen_few d i row.edge.0 was n (subst (SeenBefore d i row.edge.0) (sym known) (each row.edge.0 low)) few
 
 -- the edge of a row lies in the range
@@ -179,3 +181,64 @@ row_within d span rows none i same lt below =
     let row : Row = get_or rows i none in
     let in_rows : i < length d.rows = omega (arith, lt, ap (λ rs. length rs) same) in
     at_place (λ (r : Row). IsWithin span r.edge.0) d.rows row i below in_rows (default_apart d.rows i row none in_rows ∙ ap (λ rs. get_or rs i none) (sym same))
+
+-- what holds of each row holds of the row at a place
+pub row_holds : (P : Row → Type 0) (d : ShellRows) (rows : List Row) (none : Row) (i : ℕ) → rows ≡ d.rows → i < length rows → AllByRecursion P d.rows → P (get_or rows i none)
+row_holds P d rows none i same lt all =
+    let row : Row = get_or rows i none in
+    let in_rows : i < length d.rows = omega (arith, lt, ap (λ rs. length rs) same) in
+    at_place P d.rows row i all in_rows (default_apart d.rows i row none in_rows ∙ ap (λ rs. get_or rs i none) (sym same))
+
+-- what the rows before row i were seen to do
+pub record TallyBefore (d : ShellRows) (i : ℕ) (c : Celled Seen) : Type 0 where
+  pub numbers : c.numbers ≡ d.edges
+  pub span : IsSpanOf c.span d.edges
+  pub blank : c.blank ≡ unseen
+  pub long : length c.cells ≡ c.span.count
+  pub each : (e : ℕ) → IsWithin c.span e → SeenBefore d i e (seen_of c.span c.cells e)
+
+-- the value of an edge, seen once more
+abbrev pub seen_next : Celled Seen → ℕ → Row → Celled Seen
+seen_next c i row = record {
+  numbers = c.numbers;
+  span = c.span;
+  blank = c.blank;
+  cells = slice_set c.cells (row.edge.0 - c.span.least) (seen_once_more (get_or c.cells (row.edge.0 - c.span.least) c.blank) i row.along);
+}
+
+pub tally_first : (d : ShellRows) (c : Celled Seen) → c.numbers ≡ d.edges → IsSpanOf c.span d.edges → c.blank ≡ unseen → c.cells ≡ replicate c.span.count unseen → TallyBefore d 0 c
+tally_first d c numbers span blank cells = record {
+  numbers = numbers;
+  span = span;
+  blank = blank;
+  long = ap (λ xs. length xs) cells ∙ length-replicate c.span.count unseen;
+  each = λ e within. subst (SeenBefore d 0 e) (sym (ap (λ xs. get_or xs (e - c.span.least) unseen) cells ∙ get_or-replicate c.span.count (e - c.span.least) unseen unseen (omega (arith, within)))) (seen_none d e);
+}
+
+module _ (d : ShellRows) (i : ℕ) (c : Celled Seen) (rows : List Row) (none : Row) (kept : AreRows d) (t : TallyBefore d i c) (same : rows ≡ d.rows) (lt : i < length rows) where
+  pub next_known : Contains c.numbers (get_or rows i none).edge.0
+  next_known = subst (λ ns. Contains ns (get_or rows i none).edge.0) (sym t.numbers) (row_holds (λ (r : Row). Contains d.edges r.edge.0) d rows none i same lt kept.edges_hold)
+
+  all_within : AllByRecursion (λ (r : Row). IsWithin c.span r.edge.0) d.rows
+  all_within = rows_within d.edges d.rows c.span kept.edges_hold t.span.holds
+
+  pub next_within : IsWithin c.span (get_or rows i none).edge.0
+  next_within = row_within d c.span rows none i same lt all_within
+
+  abbrev was : Seen
+  was = get_or c.cells ((get_or rows i none).edge.0 - c.span.least) c.blank
+
+  known_was : was ≡ get_or c.cells ((get_or rows i none).edge.0 - c.span.least) unseen
+  known_was = ap (λ b. get_or c.cells ((get_or rows i none).edge.0 - c.span.least) b) t.blank
+
+  pub next_few : (was.along < 2 ^ 29) × (was.against < 2 ^ 29)
+  next_few = tally_few d i c.span (2 ^ 29) rows c.cells none was same lt t.long all_within t.each known_was kept.few
+
+  pub next_seen : (new : Celled Seen) → new ≡ seen_next c i (get_or rows i none) → TallyBefore d (i + 1) new
+  next_seen new is = subst (TallyBefore d (i + 1)) (sym is) (record {
+    numbers = t.numbers;
+    span = t.span;
+    blank = t.blank;
+    long = length-set c.cells ((get_or rows i none).edge.0 - c.span.least) (seen_once_more was i (get_or rows i none).along) ∙ t.long;
+    each = tally_step d i c.span rows c.cells none was (seen_once_more was i (get_or rows i none).along) same lt t.long all_within t.each known_was refl;
+  })

@@ -9,3 +9,4 @@ pub mod Mates
 pub mod Tally
 pub mod Faults
 pub mod Balls
+pub mod Cells

@@ -21,6 +21,11 @@ pub record IsSeen (d : ShellRows) (e : ℕ) (seen : Seen) : Type 0 where
   pub along_row : 0 < seen.along → RunsOn d e true seen.along_row
   pub against_row : 0 < seen.against → RunsOn d e false seen.against_row
 
+-- a range of edges, and what was seen of each
+pub record Tallied : Type 0 where
+  pub span : Span
+  pub seen : List Seen
+
 -- what was seen of an edge of the range
 abbrev pub seen_of : Span → List Seen → ℕ → Seen
 seen_of span tally e = get_or tally (e - span.least) unseen

@@ -8,6 +8,7 @@
 mod apart;
 mod before;
 mod building;
+mod cells;
 mod fault;
 mod joining;
 mod law;
@@ -22,6 +23,7 @@ mod tally;
 
 pub use apart::{first_shared, vertices_before};
 pub use before::VerticesBefore;
+pub use cells::{Cells, place_of};
 pub use fault::PairFault;
 pub use joining::{Unjoined, first_unjoined};
 pub use law::shells_are_definite;
@@ -29,6 +31,6 @@ pub use paired::Paired;
 pub use pairing::pair;
 pub use reading::rows;
 pub use row::Row;
-pub use spanning::Span;
+pub use spanning::{Span, is_far};
 pub use table::Rows;
 pub use tally::{Seen, Tally, tally_of};

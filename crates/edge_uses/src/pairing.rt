@@ -19,17 +19,17 @@ use iges_base::NoMemory;
 use solid_data::EdgeId;
 use std::alloc::Global;
 
-fn is_paired(tally: &Tally, e: u32) -> bool
+fn is_paired(tally: &Tally<'_>, e: u32) -> bool
     requires { IsWithin tally.now.span e }
-    ensures { IsTrue result ↔ ((seen_of tally.now.span tally.now.seen.items e).along ≡ 1)
-        × ((seen_of tally.now.span tally.now.seen.items e).against ≡ 1) }
+    ensures { IsTrue result ↔ ((seen_of tally.now.span tally.now.seen e).along ≡ 1)
+        × ((seen_of tally.now.span tally.now.seen e).against ≡ 1) }
 {
     let seen = tally.of(e);
     seen.along == 1 && seen.against == 1
 }
 
-fn first_unpaired(rows: &Rows, tally: &Tally) -> Option<u32>
-    requires tally { IsTally rows.now tally.now.span tally.now.seen.items }
+fn first_unpaired(rows: &Rows, tally: &Tally<'_>) -> Option<u32>
+    requires tally { IsTally rows.now tally.now.span tally.now.seen }
     requires span { All (IsWithin tally.now.span) rows.now.edges }
     ensures { MatchOption result (AllByRecursion (IsPaired rows.now) rows.now.edges)
         (λ e. FirstNot (IsPaired rows.now) rows.now.edges e) }
@@ -43,9 +43,9 @@ fn first_unpaired(rows: &Rows, tally: &Tally) -> Option<u32>
     None
 }
 
-fn mate_in(tally: &Tally, row: Row) -> u32
+fn mate_in(tally: &Tally<'_>, row: Row) -> u32
     requires { IsWithin tally.now.span row.edge.0 }
-    ensures { let seen = seen_of tally.now.span tally.now.seen.items row.edge.0 in result
+    ensures { let seen = seen_of tally.now.span tally.now.seen row.edge.0 in result
         ≡ (if row.along then seen.against_row else seen.along_row) }
 {
     let seen = tally.of(row.edge.0);
@@ -56,8 +56,8 @@ fn mate_in(tally: &Tally, row: Row) -> u32
     }
 }
 
-fn mates_of(alloc: Global, rows: &Rows, tally: &Tally) -> Result<Vec<u32>, NoMemory>
-    requires tally { IsTally rows.now tally.now.span tally.now.seen.items }
+fn mates_of(alloc: Global, rows: &Rows, tally: &Tally<'_>) -> Result<Vec<u32>, NoMemory>
+    requires tally { IsTally rows.now tally.now.span tally.now.seen }
     requires span { AllByRecursion (λ (r : Row). IsWithin tally.now.span r.edge.0) rows.now.rows }
     requires whole { ArePaired rows.now }
     ensures { IfOk result (λ mates. HaveMates rows.now mates.items) }
@@ -78,7 +78,7 @@ pub fn pair(alloc: Global, rows: &Rows) -> Result<Paired<'_>, PairFault>
     ensures paired { IfOk result (λ _. AllByRecursion (IsPaired rows.now) rows.now.edges) }
     ensures fault { IfErr result (λ fault. IsPairFault rows.now fault) }
 {
-    let tally = tally_of(alloc, rows, rows.edge_span())?;
+    let tally = tally_of(alloc, rows)?;
     if let Some(edge) = first_unpaired(rows, &tally) {
         return Err(PairFault::Unpaired(EdgeId(edge)));
     }

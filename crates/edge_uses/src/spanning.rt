@@ -1,6 +1,6 @@
 //! The range in which some numbers lie.
 
-ghost use Rattle.std.specs.Prelude.{◌≡◌, ◌+◌, ◌≤◌, ◌^◌, [], ◌↔◌, All, Contains, IfSome, IsNone};
+ghost use Rattle.std.specs.Prelude.{◌≡◌, ◌+◌, ◌/◌, ◌≤◌, ◌^◌, [], ◌↔◌, nat_lt, All, Contains, IfSome, IsNone};
 ghost use Rattle.edge_uses.specs.Ranges.{IsSpanOf};
 
 /// The numbers from `least` on, `count` of them (own). Arrays over the edges or vertices of a shell
@@ -9,6 +9,17 @@ ghost use Rattle.edge_uses.specs.Ranges.{IsSpanOf};
 pub struct Span {
     pub least: u32,
     pub count: usize,
+}
+
+// A number that occurs is worth so many places of an array.
+const PLACES_EACH: usize = 8;
+
+/// Whether a range is many times longer than a list, so that an array over the range would take much
+/// more room than the list, and numbers are better searched.
+pub fn is_far(span: Span, len: usize) -> bool
+    ensures { result ≡ nat_lt len (span.count / 8) }
+{
+    len < span.count / PLACES_EACH
 }
 
 fn least_of(numbers: &[u32]) -> Option<u32>

@@ -153,14 +153,16 @@ impl Rows {
         self.rows.as_slice()
     }
 
-    pub(crate) fn edge_slice(&self) -> &[u32]
+    /// The edges that occur in the shell, by rising number (own).
+    pub fn edge_slice(&self) -> &[u32]
         ensures items { result.now ≡ self.now.edges }
         ensures kept { AreRows self.now }
     {
         self.edges.as_slice()
     }
 
-    pub(crate) fn vertex_slice(&self) -> &[u32]
+    /// The vertices that occur in the shell, by rising number (own).
+    pub fn vertex_slice(&self) -> &[u32]
         ensures items { result.now ≡ self.now.vertices }
         ensures kept { AreRows self.now }
     {

@@ -1,15 +1,17 @@
 //! How often each edge of a shell is run along and against.
 
-ghost use Rattle.std.specs.Prelude.{◌≡◌, ◌-◌, ◌<◌, ◌^◌, length, vec_len, IfOk, get_or};
-ghost use Rattle.std.specs.List.{AllByRecursion};
-ghost use Rattle.edge_uses.specs.Ranges.{IsWithin};
-ghost use Rattle.edge_uses.specs.Tally.{unseen, seen_once_more, IsTally};
+ghost use Rattle.std.specs.Prelude.{◌≡◌, ◌<◌, ◌^◌, Contains, IfOk};
+ghost use Rattle.edge_uses.specs.Cells.{cell_of, with_cell};
+ghost use Rattle.edge_uses.specs.Ranges.{IsSpanOf, IsWithin};
+ghost use Rattle.edge_uses.specs.ShellRows.{AreRows};
+ghost use Rattle.edge_uses.specs.Tally.{seen_once_more, IsTally};
 
+use crate::cells::Cells;
 use crate::row::Row;
-use crate::spanning::Span;
 use crate::table::Rows;
 use iges_base::NoMemory;
 use std::alloc::Global;
+use std::marker::Model;
 
 /// How often an edge was run along and against, and by which row last, from 0; where none did, that
 /// row is 0 too.
@@ -32,12 +34,21 @@ const UNSEEN: Seen = Seen {
     against_row: 0,
 };
 
-/// What was seen of each edge of a range.
+/// What was seen of each edge of a range (own).
 #[derive(Drop)]
-pub struct Tally {
-    pub span: Span,
-    pub seen: Vec<Seen>,
-    ghost long: { length seen.items ≡ span.count },
+pub struct Tally<'a> {
+    cells: Cells<'a, Seen>,
+}
+
+impl<'a> Model for Tally<'a> {
+    ghost use Rattle.std.specs.Prelude.{◌≡◌};
+    ghost use Rattle.edge_uses.specs.Tally.{Tallied, unseen};
+
+    ghost Value = { Tallied };
+
+    ghost view = { λ t. record { span = t.cells.span; seen = t.cells.cells } };
+
+    ghost invariant = { λ t. t.cells.blank ≡ unseen };
 }
 
 fn once_more(seen: Seen, r: u32, along: bool) -> Seen
@@ -60,29 +71,44 @@ fn once_more(seen: Seen, r: u32, along: bool) -> Seen
     }
 }
 
-/// What the rows of a shell are seen to do to the edges of a range that has the edges of all of them.
-pub fn tally_of(alloc: Global, rows: &Rows, span: Span) -> Result<Tally, NoMemory>
-    requires { AllByRecursion (λ (r : Row). IsWithin span r.edge.0) rows.now.rows }
-    ensures span { IfOk result (λ tally. tally.span ≡ span) }
-    ensures tally { IfOk result (λ tally. IsTally rows.now tally.span tally.seen.items) }
+fn see(cells: &mut Cells<'_, Seen>, row: Row, r: u32)
+    requires known { Contains cells.old.numbers row.edge.0 }
+    requires within { IsWithin cells.old.span row.edge.0 }
+    requires few { let seen = cell_of cells.old row.edge.0 in
+        (seen.along < 2 ^ 29) × (seen.against < 2 ^ 29) }
+    ensures { cells.new ≡ with_cell cells.old row.edge.0
+        (seen_once_more (cell_of cells.old row.edge.0) r row.along) }
 {
-    let mut seen = vec![in alloc; UNSEEN; span.count]?;
+    let seen = cells.at(row.edge.0);
+    cells.set(row.edge.0, once_more(seen, r, row.along));
+}
+
+/// What the rows of a shell are seen to do to the edges of their range (own). It takes no longer
+/// where they lie far apart.
+pub fn tally_of(alloc: Global, rows: &Rows) -> Result<Tally<'_>, NoMemory>
+    ensures span { IfOk result (λ tally. IsSpanOf tally.span rows.now.edges) }
+    ensures kept { AreRows rows.now }
+    ensures tally { IfOk result (λ tally. IsTally rows.now tally.span tally.seen) }
+{
+    let mut cells = Cells::new(alloc, rows.edge_slice(), UNSEEN)?;
     let count = rows.len();
     let rows = rows.row_slice();
     'rows: for i in 0..count {
-        let row = rows[i];
-        let e = (row.edge.0 - span.least) as usize;
-        seen[e] = once_more(seen[e], i as u32, row.along);
+        see(&mut cells, rows[i], i as u32);
     }
-    Ok(Tally { span, seen })
+    Ok(Tally { cells })
 }
 
-impl Tally {
+impl<'a> Tally<'a> {
+    ghost use Rattle.std.specs.Prelude.{◌≡◌};
+    ghost use Rattle.edge_uses.specs.Ranges.{IsWithin};
+    ghost use Rattle.edge_uses.specs.Tally.{seen_of};
+
     /// What was seen of an edge of the range.
     pub fn of(&self, e: u32) -> Seen
         requires { IsWithin self.now.span e }
-        ensures { result ≡ get_or self.now.seen.items (e - self.now.span.least) unseen }
+        ensures { result ≡ seen_of self.now.span self.now.seen e }
     {
-        self.seen[(e - self.span.least) as usize]
+        self.cells.at(e)
     }
 }
