@@ -12,32 +12,31 @@ use Rattle.iges_fields.specs.declared.value.Value.{Value}
 use Rattle.iges_directory.specs.declared.entry.Entry.{Entry}
 use Rattle.iges_params.specs.Contents.{Contents}
 use Rattle.iges_params.specs.Named.{named, record_values, values_of}
-use Rattle.brep_lists.specs.Record.{EntityKind, solid, shell, face, «loop», edges, vertices, type_number, HasForm, IsRecordOf, Items, items_of}
+use Rattle.brep_lists.specs.Record.{type_number, kind_of_type, HasForm, IsRecordOf, Items, items_of}
+use Rattle.brep_lists.specs.declared.entity_kind.EntityKind.{EntityKind}
+use Rattle.brep_lists.specs.declared.entity_kind.EntityKind.TheVariants.{Solid as solid, Shell as shell, Face as face, Loop as «loop», EdgeList as edges, VertexList as vertices}
 use Rattle.brep_lists.proofs.Decided.{decided}
 use Rattle.brep_walk.specs.Places.{Names, NamesKind, NamesGeometry, HasRecordOf, IsIndex}
-use Rattle.record_values.specs.declared.kind.RecordKind.{RecordKind}
-use Rattle.record_values.specs.declared.kind.RecordKind.TheVariants as kind
 use Rattle.record_values.specs.BadValue.{entry_at, kind_in, is_geometry, is_vertex_list, is_index, names_geometry}
-use Rattle.record_values.specs.Kinds.{entity_kind, kind_of}
 use Rattle.record_values.specs.Told.{told_in}
 
 abbrev told_if : (k : EntityKind) → List Value → Bool → Option (Items k)
 told_if k vs b = if b then Some (items_of k vs) else None
 
-pub kind_known : (k : RecordKind) → kind_of (type_number (entity_kind k)) ≡ Some k
-kind_known kind.Solid = refl
-kind_known kind.Shell = refl
-kind_known kind.Face = refl
-kind_known kind.Loop = refl
-kind_known kind.EdgeList = refl
-kind_known kind.VertexList = refl
+pub kind_known : (k : EntityKind) → kind_of_type (type_number k) ≡ Some k
+kind_known solid = refl
+kind_known shell = refl
+kind_known face = refl
+kind_known «loop» = refl
+kind_known edges = refl
+kind_known vertices = refl
 
-pub at_kind : (f : Contents) (z : ℤ) (k : RecordKind) → NamesKind (entity_kind k) f z → kind_in (entry_at f z) ≡ Some k
+pub at_kind : (f : Contents) (z : ℤ) (k : EntityKind) → NamesKind k f z → kind_in (entry_at f z) ≡ Some k
 at_kind f z k h = by_entry (named f z) h
   where
-    by_entry : (o : Option (Entry × List Value)) → IsSomeAnd o (λ e. (e.0.kind ≡ type_number (entity_kind k)) × HasForm (entity_kind k) e.0.form) → kind_in (option_map (λ (e : Entry × List Value). e.0) o) ≡ Some k
+    by_entry : (o : Option (Entry × List Value)) → IsSomeAnd o (λ e. (e.0.kind ≡ type_number k) × HasForm k e.0.form) → kind_in (option_map (λ (e : Entry × List Value). e.0) o) ≡ Some k
     by_entry None h = absurd h
-    by_entry (Some e) h = ap kind_of h.0 ∙ kind_known k
+    by_entry (Some e) h = ap kind_of_type h.0 ∙ kind_known k
 
 pub record_here : (f : Contents) (z : ℤ) (k : EntityKind) → HasRecordOf k f z → IsRecordOf k (values_of f z)
 record_here f z k h = by_entry (named f z) h
@@ -154,9 +153,9 @@ no_index (pos k) n h =
 
 -- of a curve or a surface
 
-abbrev nest : Bool → Bool → Bool → Bool → Bool → Bool → Option RecordKind
+abbrev nest : Bool → Bool → Bool → Bool → Bool → Bool → Option EntityKind
 nest a b c d e g =
-    if a then Some kind.Solid else (if b then Some kind.Shell else (if c then Some kind.Face else (if d then Some kind.Loop else (if e then Some kind.EdgeList else (if g then Some kind.VertexList else None)))))
+    if a then Some solid else (if b then Some shell else (if c then Some face else (if d then Some «loop» else (if e then Some edges else (if g then Some vertices else None)))))
 
 wrong : {P : Type 0} → false ≡ true → P
 wrong {P} e = absurd cc
@@ -181,10 +180,10 @@ differs z w e same = wrong (sym e ∙ (Decides-int_eq z w).1 same)
 is_other : (z w : ℤ) → z ≢ w → int_eq z w ≡ false
 is_other z w ne = elim (cases_Bool (int_eq z w)) [ inl t ↦ absurd (ne ((Decides-int_eq z w).0 t)) | inr e ↦ e ]
 
-kind_test : (z : ℤ) → Decides (is_none (kind_of z)) ((k : EntityKind) → ¬ (z ≡ type_number k))
+kind_test : (z : ℤ) → Decides (is_none (kind_of_type z)) ((k : EntityKind) → ¬ (z ≡ type_number k))
 kind_test z = (there, back)
   where
-    there : is_none (kind_of z) ≡ true → (k : EntityKind) → ¬ (z ≡ type_number k)
+    there : is_none (kind_of_type z) ≡ true → (k : EntityKind) → ¬ (z ≡ type_number k)
     there e =
         let all = all_false (int_eq z (pos 186)) (int_eq z (pos 514)) (int_eq z (pos 510)) (int_eq z (pos 508)) (int_eq z (pos 504)) (int_eq z (pos 502)) e in
         by_kind all
@@ -197,7 +196,7 @@ kind_test z = (there, back)
         by_kind all edges = differs z (pos 504) all.4
         by_kind all vertices = differs z (pos 502) all.5
 
-    back : ((k : EntityKind) → ¬ (z ≡ type_number k)) → is_none (kind_of z) ≡ true
+    back : ((k : EntityKind) → ¬ (z ≡ type_number k)) → is_none (kind_of_type z) ≡ true
     back h =
         none_of (int_eq z (pos 186)) (int_eq z (pos 514)) (int_eq z (pos 510)) (int_eq z (pos 508)) (int_eq z (pos 504)) (int_eq z (pos 502))
         (is_other z (pos 186) (h solid)) (is_other z (pos 514) (h shell)) (is_other z (pos 510) (h face)) (is_other z (pos 508) (h «loop»)) (is_other z (pos 504) (h edges)) (is_other z (pos 502) (h vertices))

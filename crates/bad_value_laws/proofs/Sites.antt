@@ -7,7 +7,8 @@ use Rattle.std.proofs.lemmas.List.{drop-drop}
 use Rattle.std.proofs.lemmas.List.Sums.{sum_by-cons}
 use Rattle.std.proofs.lemmas.Option.{same_Some, slice_get_within}
 use Rattle.iges_fields.specs.declared.value.Value.{Value}
-use Rattle.brep_lists.specs.Record.{solid, shell, face, «loop», edges, LoopTuple, SolidItems, FaceItems, items_of, int_of, int_at, count_at, groups, pair_read, curve_read, edge_read, tuple_read, tuples_read}
+use Rattle.brep_lists.specs.Record.{LoopTuple, SolidItems, FaceItems, items_of, int_of, int_at, count_at, groups, pair_read, curve_read, edge_read, tuple_read, tuples_read}
+use Rattle.brep_lists.specs.declared.entity_kind.EntityKind.TheVariants.{Solid as solid, Shell as shell, Face as face, Loop as «loop», EdgeList as edges}
 use Rattle.brep_lists.specs.declared.edge_list.EdgeTuple.{EdgeTuple}
 use Rattle.brep_lists.proofs.Views.{item_at, read_at, value_after}
 use Rattle.brep_lists.proofs.Stride.{items_length, loop_read}

@@ -1,7 +1,9 @@
 -- The value that is named where a rule on the records of a solid fails is one that breaks the rule.
 use Rattle.std.specs.Prelude.{◌≡◌, ℕ, ◌+◌, ◌⊎◌, pos, Some, IfSome}
 use Rattle.iges_params.specs.Contents.{Contents}
-use Rattle.brep_lists.specs.Record.{shell, face, «loop», IsRecordOf}
+use Rattle.brep_lists.specs.Record.{IsRecordOf}
+use Rattle.brep_lists.specs.declared.entity_kind.EntityKind.{EntityKind}
+use Rattle.brep_lists.specs.declared.entity_kind.EntityKind.TheVariants.{Shell as shell, Face as face, Loop as «loop»}
 use Rattle.brep_walk.specs.Places.{Names, NamesKind, NamesGeometry, IsIndex, places}
 use Rattle.solid_data.specs.Obligations.{FirstFalse}
 use Rattle.solid_data.specs.declared.verdict.Rule.{Rule}
@@ -9,10 +11,8 @@ use Rattle.solid_data.specs.declared.verdict.Rule.TheVariants as rule
 use Rattle.solid_data.specs.declared.verdict.Failing.{Failing}
 use Rattle.record_values.specs.declared.bad_values.BadValue.{BadValue}
 use Rattle.record_values.specs.declared.due.Due.TheVariants as due
-use Rattle.record_values.specs.declared.kind.RecordKind.{RecordKind}
 use Rattle.record_values.specs.BadValue.{bad_value, entry_at, item_count, kind_in}
 use Rattle.record_values.specs.Begins.{IsFirstMisfit}
-use Rattle.record_values.specs.Kinds.{entity_kind}
 use Rattle.where_records.specs.RecordText.{before, judged, values_in}
 
 -- Each rule by the number that is judged, which is the one in the place of the bad value.
@@ -21,11 +21,11 @@ abbrev pub BreaksBy : Contents → Failing → BadValue → Rule → Type 0
 BreaksBy f x bad rule.NoEntry = ¬ Names f (judged f x.entity bad.place)
 -- the entry that it names isn't of the kind that is said to be due
 BreaksBy f x bad rule.WrongKind =
-    Names f (judged f x.entity bad.place) × ((kind : RecordKind) × (bad.due ≡ Some (due.Record kind)) × (¬ NamesKind (entity_kind kind) f (judged f x.entity bad.place)))
+    Names f (judged f x.entity bad.place) × ((kind : EntityKind) × (bad.due ≡ Some (due.Record kind)) × (¬ NamesKind kind f (judged f x.entity bad.place)))
 -- the record isn't one of its type, and the value is the first with which none goes on
 BreaksBy f x bad rule.BadLayout =
-    (kind : RecordKind) × (kind_in (entry_at f (pos x.entity.0)) ≡ Some kind) × (¬ IsRecordOf (entity_kind kind) (values_in f x.entity))
-    × IfSome bad.place (λ i. IsFirstMisfit (entity_kind kind) (values_in f x.entity) (i + 1))
+    (kind : EntityKind) × (kind_in (entry_at f (pos x.entity.0)) ≡ Some kind) × (¬ IsRecordOf kind (values_in f x.entity))
+    × IfSome bad.place (λ i. IsFirstMisfit kind (values_in f x.entity) (i + 1))
 -- it names a shell, a face or a loop
 BreaksBy f x bad rule.Twice = NamesKind shell f (judged f x.entity bad.place) ⊎ (NamesKind face f (judged f x.entity bad.place) ⊎ NamesKind «loop» f (judged f x.entity bad.place))
 -- it is no index in the list that the number before it names

@@ -4,7 +4,8 @@ use Rattle.std.proofs.Common.{refl, sym, ◌∙◌, ap, subst, arith, ⊎_elim}
 use Rattle.iges_fields.specs.declared.value.Value.{Value}
 use Rattle.iges_fields.specs.declared.value.Value.TheVariants.{Int}
 use Rattle.brep_lists.specs.DueValues.{DueValue, pointer, at_least_one, count, Meets, MayBeMissing, MeetsAll}
-use Rattle.brep_lists.specs.Record.{solid, shell, face, «loop», edges, vertices, SolidItems, FaceItems, LoopTuple, pair_due, curve_due, tuple_due, edge_due, vertex_due, due, int_of, flag_of, count_of, value_or_default, int_at, groups, pair_read, curve_read, edge_read, tuples_read, items_of, FitsOnlyRead}
+use Rattle.brep_lists.specs.Record.{SolidItems, FaceItems, LoopTuple, pair_due, curve_due, tuple_due, edge_due, vertex_due, due, int_of, flag_of, count_of, value_or_default, int_at, groups, pair_read, curve_read, edge_read, tuples_read, items_of, FitsOnlyRead}
+use Rattle.brep_lists.specs.declared.entity_kind.EntityKind.TheVariants.{Solid as solid, Shell as shell, Face as face, Loop as «loop», EdgeList as edges, VertexList as vertices}
 use Rattle.brep_lists.specs.declared.edge_list.EdgeTuple.{EdgeTuple}
 
 int_read : (z : ℤ) (v : Value) → v ≡ Int z → int_of v ≡ z

@@ -5,7 +5,8 @@ use Rattle.std.proofs.Math.Bool.{and-false}
 use Rattle.std.proofs.lemmas.List.{length-map}
 use Rattle.iges_fields.specs.declared.value.Value.{Value}
 use Rattle.brep_lists.specs.DueValues.{DueValue, pointer, at_least_one, count}
-use Rattle.brep_lists.specs.Record.{solid, face, shell, edges, vertices, pair_due, edge_due, vertex_due, count_of, value_or_default, int_at, groups, pair_read, edge_read}
+use Rattle.brep_lists.specs.Record.{pair_due, edge_due, vertex_due, count_of, value_or_default, int_at, groups, pair_read, edge_read}
+use Rattle.brep_lists.specs.declared.entity_kind.EntityKind.TheVariants.{Solid as solid, Shell as shell, Face as face, EdgeList as edges, VertexList as vertices}
 use Rattle.brep_lists.specs.OwnValues.{meets, meets_all, is_record_of}
 use Rattle.brep_lists.specs.Groups.{passes, groups_pass, is_counted, is_solid, is_face}
 use Rattle.brep_lists.specs.declared.groups.Slot.{Slot}

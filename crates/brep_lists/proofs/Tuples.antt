@@ -3,7 +3,8 @@ use Rattle.std.specs.Prelude.{◌≡◌, ℕ, zero, suc, ◌+◌, ◌*◌, ◌&&
 use Rattle.std.proofs.Common.{refl, sym, ◌∙◌, ap, arith}
 use Rattle.iges_fields.specs.declared.value.Value.{Value}
 use Rattle.brep_lists.specs.DueValues.{DueValue, at_least_one, count}
-use Rattle.brep_lists.specs.Record.{«loop», curve_due, tuple_due, count_of, count_at, groups, curve_read, tuples_read}
+use Rattle.brep_lists.specs.Record.{curve_due, tuple_due, count_of, count_at, groups, curve_read, tuples_read}
+use Rattle.brep_lists.specs.declared.entity_kind.EntityKind.TheVariants.{Loop as «loop»}
 use Rattle.brep_lists.specs.OwnValues.{meets, may_be_missing, meets_all, is_record_of}
 use Rattle.brep_lists.specs.Groups.{passes, groups_pass, tuples_pass, is_loop}
 use Rattle.brep_lists.specs.declared.groups.Slot.{Slot}

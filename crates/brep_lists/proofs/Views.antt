@@ -5,7 +5,8 @@ use Rattle.brep_lists.specs.declared.edge_list.EdgeTuple.{EdgeTuple}
 use Rattle.std.proofs.lemmas.List.{length-map, drop-drop}
 use Rattle.std.proofs.lemmas.Option.{slice_get-map, slice_get_past}
 use Rattle.iges_fields.specs.declared.value.Value.{Value}
-use Rattle.brep_lists.specs.Record.{EntityKind, Items, Fits, items_of, int_of, value_or_default, int_at, groups, edge_read, IsRecordOf}
+use Rattle.brep_lists.specs.Record.{Items, Fits, items_of, int_of, value_or_default, int_at, groups, edge_read, IsRecordOf}
+use Rattle.brep_lists.specs.declared.entity_kind.EntityKind.{EntityKind}
 use Rattle.brep_lists.specs.OwnValues.{is_record_of}
 use Rattle.brep_lists.proofs.OnlyRead.{only_read}
 use Rattle.brep_lists.proofs.Decided.{decided}

@@ -6,7 +6,8 @@ use Rattle.std.specs.Str.{bytes_eq}
 use Rattle.iges_fields.specs.declared.value.Value.{Value}
 use Rattle.iges_fields.specs.declared.value.Value.TheVariants.{Default, Int, Real}
 use Rattle.brep_lists.specs.DueValues.{DueValue, pointer, number, flag, at_least_one, count, coordinate}
-use Rattle.brep_lists.specs.Record.{EntityKind, due, items_of, IsRecordOf}
+use Rattle.brep_lists.specs.Record.{due, items_of, IsRecordOf}
+use Rattle.brep_lists.specs.declared.entity_kind.EntityKind.{EntityKind}
 
 abbrev pub is_int : ℤ → Value → Bool
 is_int z (Int n) = int_eq n z

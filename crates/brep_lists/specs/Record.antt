@@ -5,14 +5,8 @@ use Rattle.iges_fields.specs.declared.value.Value.{Value}
 use Rattle.iges_fields.specs.declared.value.Value.TheVariants.{Default, Int}
 use Rattle.brep_lists.specs.DueValues.{DueValue, pointer, number, flag, at_least_one, count, coordinate, MeetsAll}
 use Rattle.brep_lists.specs.declared.edge_list.EdgeTuple.{EdgeTuple}
-
-pub data EntityKind : Type 0 where
-  solid : EntityKind
-  shell : EntityKind
-  face : EntityKind
-  «loop» : EntityKind
-  edges : EntityKind
-  vertices : EntityKind
+use Rattle.brep_lists.specs.declared.entity_kind.EntityKind.{EntityKind}
+use Rattle.brep_lists.specs.declared.entity_kind.EntityKind.TheVariants.{Solid as solid, Shell as shell, Face as face, Loop as «loop», EdgeList as edges, VertexList as vertices}
 
 abbrev pub type_number : EntityKind → ℤ
 type_number solid = pos 186

@@ -1,7 +1,8 @@
 //! A list of edges.
 
 ghost use Rattle.std.specs.Prelude.{◌≡◌, IfSome, IfNone, length, slice_get};
-ghost use Rattle.brep_lists.specs.Record.{Fits, Items, items_of, edges};
+ghost use Rattle.brep_lists.specs.Record.{Fits, Items, items_of};
+ghost use Rattle.brep_lists.specs.declared.entity_kind.EntityKind.TheVariants.{EdgeList as edges};
 
 use crate::groups::{Slot, counted, int_at};
 use iges_fields::Values;
@@ -31,7 +32,8 @@ pub struct EdgeList<'a> {
 }
 
 impl<'a> Model for EdgeList<'a> {
-    ghost use Rattle.brep_lists.specs.Record.{Items, edges, items_of};
+    ghost use Rattle.brep_lists.specs.Record.{Items, items_of};
+    ghost use Rattle.brep_lists.specs.declared.entity_kind.EntityKind.TheVariants.{EdgeList as edges};
     ghost use Rattle.brep_lists.specs.Views.{AreCounted};
 
     ghost Value = { Items edges };

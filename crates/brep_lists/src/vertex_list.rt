@@ -1,7 +1,8 @@
 //! A list of vertices.
 
 ghost use Rattle.std.specs.Prelude.{◌≡◌, IfSome, IfNone, length};
-ghost use Rattle.brep_lists.specs.Record.{Fits, Items, items_of, vertices};
+ghost use Rattle.brep_lists.specs.Record.{Fits, Items, items_of};
+ghost use Rattle.brep_lists.specs.declared.entity_kind.EntityKind.TheVariants.{VertexList as vertices};
 
 use crate::groups::{Slot, counted};
 use iges_fields::Values;
@@ -16,7 +17,8 @@ pub struct VertexList<'a> {
 }
 
 impl<'a> Model for VertexList<'a> {
-    ghost use Rattle.brep_lists.specs.Record.{Items, vertices, items_of};
+    ghost use Rattle.brep_lists.specs.Record.{Items, items_of};
+    ghost use Rattle.brep_lists.specs.declared.entity_kind.EntityKind.TheVariants.{VertexList as vertices};
     ghost use Rattle.brep_lists.specs.Views.{AreCounted};
 
     ghost Value = { Items vertices };

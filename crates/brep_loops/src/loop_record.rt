@@ -1,7 +1,8 @@
 //! The record of a loop.
 
 ghost use Rattle.std.specs.Prelude.{◌≡◌, ◌<◌, ◌^◌, true, false, IfSome, IfNone, MatchOption, length, drop};
-ghost use Rattle.brep_lists.specs.Record.{Fits, Items, items_of, «loop», count_at};
+ghost use Rattle.brep_lists.specs.Record.{Fits, Items, items_of, count_at};
+ghost use Rattle.brep_lists.specs.declared.entity_kind.EntityKind.TheVariants.{Loop as «loop»};
 ghost use Rattle.brep_lists.specs.Groups.{tuples_pass, is_loop};
 
 use crate::ends::checked_ends;
@@ -18,7 +19,8 @@ pub struct LoopRecord<'a> {
 }
 
 impl<'a> Model for LoopRecord<'a> {
-    ghost use Rattle.brep_lists.specs.Record.{Items, «loop», items_of};
+    ghost use Rattle.brep_lists.specs.Record.{Items, items_of};
+    ghost use Rattle.brep_lists.specs.declared.entity_kind.EntityKind.TheVariants.{Loop as «loop»};
     ghost use Rattle.brep_lists.specs.Views.{IsLoop};
 
     ghost Value = { Items «loop» };

@@ -8,7 +8,8 @@ use Rattle.iges_fields.specs.declared.value.Value.{Value}
 use Rattle.iges_directory.specs.declared.entry.Entry.{Entry}
 use Rattle.iges_params.specs.Contents.{Contents}
 use Rattle.iges_params.specs.Named.{named, record_values}
-use Rattle.brep_lists.specs.Record.{solid, shell, face, «loop», edges, LoopTuple, items_of, IsRecordOf}
+use Rattle.brep_lists.specs.Record.{LoopTuple, items_of, IsRecordOf}
+use Rattle.brep_lists.specs.declared.entity_kind.EntityKind.TheVariants.{Solid as solid, Shell as shell, Face as face, Loop as «loop», EdgeList as edges}
 use Rattle.brep_lists.specs.declared.edge_list.EdgeTuple.{EdgeTuple}
 use Rattle.solid_data.specs.Obligations.{Obligation, obligation, AllHold, after_each, entry_number}
 use Rattle.solid_data.specs.declared.verdict.Rule.TheVariants.{Twice, BadGeometry}

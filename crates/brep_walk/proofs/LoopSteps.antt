@@ -2,7 +2,7 @@
 use Rattle.std.specs.Prelude.{◌≡◌, ◌+◌, ℕ, ℤ, List, [], ◌∷◌, ◌++◌, take, slice_get, Contains, Some, Result, IsErrAnd, IfErr}
 use Rattle.std.proofs.Common.{sym, ◌∙◌, ap, subst, append_assoc}
 use Rattle.iges_params.specs.Contents.{Contents}
-use Rattle.brep_lists.specs.Record.{«loop»}
+use Rattle.brep_lists.specs.declared.entity_kind.EntityKind.TheVariants.{Loop as «loop»}
 use Rattle.solid_data.specs.Obligations.{Obligation, AllHold, FirstFalse, obligation, after_each, entry_number}
 use Rattle.solid_data.specs.declared.verdict.Failing.{Failing}
 use Rattle.solid_data.specs.declared.verdict.Rule.TheVariants.{Twice}

@@ -7,7 +7,8 @@ use Rattle.iges_fields.specs.declared.value.Value.{Value}
 use Rattle.iges_directory.specs.declared.entry.Entry.{Entry}
 use Rattle.iges_params.specs.Contents.{Contents}
 use Rattle.iges_params.specs.Named.{named}
-use Rattle.brep_lists.specs.Record.{EntityKind, type_number}
+use Rattle.brep_lists.specs.Record.{type_number}
+use Rattle.brep_lists.specs.declared.entity_kind.EntityKind.{EntityKind}
 use Rattle.brep_walk.specs.Places.{NamesGeometry}
 
 abbrev IsGeometry : Entry → Type 0

@@ -9,7 +9,9 @@ use Rattle.iges_params.specs.Contents.{Contents}
 use Rattle.iges_params.specs.Limits.{FitsLimits}
 use Rattle.iges_params.specs.Named.{named, record_values, values_of}
 use Rattle.brep_lists.specs.DueValues.{DueValue, pointer, number, flag, at_least_one, count, coordinate, MayBeMissing, MeetsAll}
-use Rattle.brep_lists.specs.Record.{EntityKind, solid, shell, face, «loop», edges, vertices, Items, items_of, due, pair_due, tuple_due, edge_due, vertex_due, Fits, IsRecordOf}
+use Rattle.brep_lists.specs.Record.{Items, items_of, due, pair_due, tuple_due, edge_due, vertex_due, Fits, IsRecordOf}
+use Rattle.brep_lists.specs.declared.entity_kind.EntityKind.{EntityKind}
+use Rattle.brep_lists.specs.declared.entity_kind.EntityKind.TheVariants.{Solid as solid, Shell as shell, Face as face, Loop as «loop», EdgeList as edges, VertexList as vertices}
 use Rattle.solid_data.specs.Obligations.{AllHold, FirstFalse, obligation, entry_number}
 use Rattle.solid_data.proofs.ObligationLemmas.{FirstFalse-append_front}
 use Rattle.solid_data.specs.declared.verdict.Failing.{Failing}

@@ -7,7 +7,8 @@ use Rattle.iges_base.specs.declared.entry_no.EntryNo.{EntryNo}
 use Rattle.iges_params.specs.Contents.{Contents}
 use Rattle.iges_params.specs.Limits.{FitsLimits}
 use Rattle.iges_params.specs.Named.{named, values_of}
-use Rattle.brep_lists.specs.Record.{shell, Items, items_of, Fits}
+use Rattle.brep_lists.specs.Record.{Items, items_of, Fits}
+use Rattle.brep_lists.specs.declared.entity_kind.EntityKind.TheVariants.{Shell as shell}
 use Rattle.solid_data.specs.Numbering.{IsNumberedSolid}
 use Rattle.solid_data.specs.Obligations.{obligation, AllHold, FirstFalse, after_each}
 use Rattle.solid_data.specs.declared.solid.Edge.{Edge}

@@ -6,7 +6,8 @@ use Rattle.std.proofs.lemmas.List.{append-nil}
 use Rattle.std.proofs.lemmas.Grind.{flat_map-append}
 use Rattle.indexmap.specs.IndexSet.{insert_key}
 use Rattle.iges_params.specs.Contents.{Contents}
-use Rattle.brep_lists.specs.Record.{LoopTuple, edges}
+use Rattle.brep_lists.specs.Record.{LoopTuple}
+use Rattle.brep_lists.specs.declared.entity_kind.EntityKind.TheVariants.{EdgeList as edges}
 use Rattle.brep_lists.specs.declared.edge_list.EdgeTuple.{EdgeTuple}
 use Rattle.solid_data.specs.Obligations.{AllHold, entry_number}
 use Rattle.solid_data.specs.Ring.{place_of}

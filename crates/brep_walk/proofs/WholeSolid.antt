@@ -4,7 +4,8 @@ use Rattle.std.proofs.Common.{refl, sym, ◌∙◌, ap, subst}
 use Rattle.std.proofs.lemmas.List.{append-nil}
 use Rattle.std.proofs.lemmas.Grind.{flat_map-append}
 use Rattle.iges_params.specs.Contents.{Contents}
-use Rattle.brep_lists.specs.Record.{SolidItems, LoopTuple, solid}
+use Rattle.brep_lists.specs.Record.{SolidItems, LoopTuple}
+use Rattle.brep_lists.specs.declared.entity_kind.EntityKind.TheVariants.{Solid as solid}
 use Rattle.solid_data.specs.Obligations.{AllHold, FirstFalse, after_each}
 use Rattle.solid_data.specs.Ring.{distinct}
 use Rattle.solid_data.specs.SolidData.{same_edge, same_vertex}

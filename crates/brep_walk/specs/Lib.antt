@@ -4,7 +4,6 @@ pub mod Walked
 pub mod Numbered
 pub mod Kept
 pub mod Stands
-pub mod Kinds
 pub mod Placed
 pub mod Slots
 pub mod Keyed

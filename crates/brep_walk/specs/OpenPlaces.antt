@@ -2,7 +2,8 @@
 use Rattle.std.specs.Prelude.{◌≡◌, ℕ, ℤ, pos, true, List, [], ◌∷◌, ◌++◌, ◌⊎◌, IsSomeAnd}
 use Rattle.iges_params.specs.Contents.{Contents}
 use Rattle.iges_params.specs.Named.{named}
-use Rattle.brep_lists.specs.Record.{shell, type_number}
+use Rattle.brep_lists.specs.Record.{type_number}
+use Rattle.brep_lists.specs.declared.entity_kind.EntityKind.TheVariants.{Shell as shell}
 use Rattle.brep_walk.specs.Places.{Names, HasRecordOf, faces, face_places}
 use Rattle.brep_walk.specs.SolidOf.{solid_listing}
 use Rattle.solid_data.specs.Obligations.{Obligation, obligation, after_each}

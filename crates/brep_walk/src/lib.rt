@@ -4,7 +4,6 @@
 mod faces;
 mod fault;
 mod index;
-mod kind;
 mod law;
 mod lists;
 mod loops;

@@ -1,7 +1,7 @@
 //! Lists of edges and of vertices.
 
 ghost use Rattle.std.specs.Prelude.{◌≡◌, ◌∷◌, ◌<◌, ◌^◌, ◌-◌, [], pos, length, slice_get, Some, IfOk, IfErr, OnOk};
-ghost use Rattle.brep_lists.specs.Record.{edges, vertices};
+ghost use Rattle.brep_lists.specs.declared.entity_kind.EntityKind.TheVariants.{EdgeList as edges, VertexList as vertices};
 ghost use Rattle.brep_walk.specs.Kept.{IsVertexList};
 ghost use Rattle.brep_walk.specs.Places.{told, edge_at, edge_places, record_places, item_places, IsIndex};
 ghost use Rattle.brep_walk.specs.SolidOf.{edge_key, vertex_key};

@@ -1,15 +1,17 @@
 //! What the numbers in records name.
 
 ghost use Rattle.std.specs.Prelude.{◌≡◌, ◌↔◌, IsTrue, ◌∷◌, [], pos, MatchOption, IfOk, IfErr, OnOk};
-ghost use Rattle.brep_walk.specs.Kinds.{entity_kind};
+ghost use Rattle.brep_lists.specs.Record.{HasForm, type_number};
+ghost use Rattle.brep_lists.specs.declared.entity_kind.EntityKind.{EntityKind};
 ghost use Rattle.brep_walk.specs.Places.{Names, NamesGeometry, entry_places};
 ghost use Rattle.iges_params.specs.Named.{values_of};
 ghost use Rattle.iges_params.specs.Limits.{FitsLimits};
 ghost use Rattle.solid_data.specs.Obligations.{AllHold, FirstFalse, obligation};
 ghost use Rattle.solid_data.specs.declared.verdict.Rule.TheVariants.{BadGeometry};
 
-use crate::kind::{RecordKind, is_geometry};
 use crate::place::Place;
+use brep_lists::EntityKind;
+use iges_directory::Entry;
 use iges_fields::{EntryNo, Values};
 use iges_params::File;
 use solid_data::{Failing, Rule};
@@ -26,6 +28,20 @@ fn entry_no(file: &File, number: i64) -> Option<EntryNo>
     }
 }
 
+// Whether the entry has the type, and a form that is accepted.
+fn is_of_kind(entry: &Entry, kind: EntityKind) -> bool
+    ensures { IsTrue result ↔ ((entry.now.kind ≡ type_number kind) × HasForm kind entry.now.form) }
+{
+    entry.kind == kind.type_number() && kind.has_form(entry.form)
+}
+
+// Whether the entry's type is none of the six of topology.
+fn is_geometry(entry: &Entry) -> bool
+    ensures { IsTrue result ↔ ((kind : EntityKind) → ¬ (entry.now.kind ≡ type_number kind)) }
+{
+    EntityKind::of_type(entry.kind).is_none()
+}
+
 /// An entry that a number names, and the values of its record.
 #[derive(Clone, Copy, Debug)]
 pub struct Named<'a> {
@@ -34,13 +50,13 @@ pub struct Named<'a> {
 }
 
 /// The entry of a kind that the number at a place names.
-pub fn entry_at(file: &File, at: Place, kind: RecordKind, number: i64) -> Result<Named<'_>, Failing>
+pub fn entry_at(file: &File, at: Place, kind: EntityKind, number: i64) -> Result<Named<'_>, Failing>
     ensures holds { OnOk result (AllHold (entry_places file.now (pos at.entity.0) at.item
-        (entity_kind kind) number)) }
+        kind number)) }
     ensures named { IfOk result (λ named. (number ≡ pos named.no.0)
         × (named.values.now ≡ values_of file.now number)) }
     ensures fails { IfErr result (FirstFalse
-        (entry_places file.now (pos at.entity.0) at.item (entity_kind kind) number)) }
+        (entry_places file.now (pos at.entity.0) at.item kind number)) }
     ensures limits { FitsLimits file.now }
 {
     let Some(no) = entry_no(file, number) else {
@@ -49,7 +65,7 @@ pub fn entry_at(file: &File, at: Place, kind: RecordKind, number: i64) -> Result
     let (Some(entry), Some(values)) = (file.entry(no), file.values(no)) else {
         return Err(at.fails(Rule::NoEntry));
     };
-    if !kind.is_of(entry) {
+    if !is_of_kind(entry, kind) {
         return Err(at.fails(Rule::WrongKind));
     }
     Ok(Named { no, values })

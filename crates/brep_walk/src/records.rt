@@ -1,16 +1,15 @@
 //! The records that numbers at places name.
 
 ghost use Rattle.std.specs.Prelude.{◌≡◌, ◌<◌, ◌^◌, pos, length, IfOk, IfErr, OnOk};
-ghost use Rattle.brep_lists.specs.Record.{solid, shell, face, «loop», edges, vertices};
+ghost use Rattle.brep_lists.specs.declared.entity_kind.EntityKind.TheVariants.{Solid as solid, Shell as shell, Face as face, Loop as «loop», EdgeList as edges, VertexList as vertices};
 ghost use Rattle.brep_walk.specs.Places.{told, record_places};
 ghost use Rattle.iges_params.specs.Limits.{FitsLimits};
 ghost use Rattle.solid_data.specs.Obligations.{AllHold, FirstFalse};
 ghost use Rattle.solid_data.specs.declared.verdict.Rule.TheVariants.{BadLayout};
 
-use crate::kind::RecordKind;
 use crate::naming::{Named, entry_at};
 use crate::place::Place;
-use brep_lists::{EdgeList, VertexList};
+use brep_lists::{EdgeList, EntityKind, VertexList};
 use brep_loops::{FaceRecord, LoopRecord, ShellRecord, SolidRecord};
 use iges_fields::EntryNo;
 use iges_params::File;
@@ -37,7 +36,7 @@ pub fn solid_at(file: &File, at: Place, number: i64) -> Result<(EntryNo, SolidRe
     ensures fails { IfErr result (FirstFalse
         (record_places file.now (pos at.entity.0) at.item solid number)) }
 {
-    let named = entry_at(file, at, RecordKind::Solid, number)?;
+    let named = entry_at(file, at, EntityKind::Solid, number)?;
     match SolidRecord::of(named.values) {
         Some(record) => Ok((named.no, record)),
         None => Err(bad_layout(&named)),
@@ -53,7 +52,7 @@ pub fn shell_at(file: &File, at: Place, number: i64) -> Result<(EntryNo, ShellRe
     ensures fails { IfErr result (FirstFalse
         (record_places file.now (pos at.entity.0) at.item shell number)) }
 {
-    let named = entry_at(file, at, RecordKind::Shell, number)?;
+    let named = entry_at(file, at, EntityKind::Shell, number)?;
     match ShellRecord::of(named.values) {
         Some(record) => Ok((named.no, record)),
         None => Err(bad_layout(&named)),
@@ -69,7 +68,7 @@ pub fn face_at(file: &File, at: Place, number: i64) -> Result<(EntryNo, FaceReco
     ensures fails { IfErr result (FirstFalse
         (record_places file.now (pos at.entity.0) at.item face number)) }
 {
-    let named = entry_at(file, at, RecordKind::Face, number)?;
+    let named = entry_at(file, at, EntityKind::Face, number)?;
     match FaceRecord::of(named.values) {
         Some(record) => Ok((named.no, record)),
         None => Err(bad_layout(&named)),
@@ -85,7 +84,7 @@ pub fn loop_at(file: &File, at: Place, number: i64) -> Result<(EntryNo, LoopReco
     ensures fails { IfErr result (FirstFalse
         (record_places file.now (pos at.entity.0) at.item «loop» number)) }
 {
-    let named = entry_at(file, at, RecordKind::Loop, number)?;
+    let named = entry_at(file, at, EntityKind::Loop, number)?;
     match LoopRecord::of(named.values) {
         Some(record) => Ok((named.no, record)),
         None => Err(bad_layout(&named)),
@@ -101,7 +100,7 @@ pub fn edge_list_at(file: &File, at: Place, number: i64) -> Result<(EntryNo, Edg
     ensures fails { IfErr result (FirstFalse
         (record_places file.now (pos at.entity.0) at.item edges number)) }
 {
-    let named = entry_at(file, at, RecordKind::EdgeList, number)?;
+    let named = entry_at(file, at, EntityKind::EdgeList, number)?;
     match EdgeList::of(named.values) {
         Some(record) => Ok((named.no, record)),
         None => Err(bad_layout(&named)),
@@ -122,7 +121,7 @@ pub fn vertex_list_at(
     ensures fails { IfErr result (FirstFalse
         (record_places file.now (pos at.entity.0) at.item vertices number)) }
 {
-    let named = entry_at(file, at, RecordKind::VertexList, number)?;
+    let named = entry_at(file, at, EntityKind::VertexList, number)?;
     match VertexList::of(named.values) {
         Some(record) => Ok((named.no, record)),
         None => Err(bad_layout(&named)),

@@ -1,7 +1,8 @@
 //! The walk through one shell.
 
 ghost use Rattle.std.specs.Prelude.{◌≡◌, ◌↔◌, ◌<◌, ◌^◌, ◌∷◌, [], IsTrue, ◌⊎◌, IfOk, IfErr, OnOk, Ok, Err, map, flat_map, length, pos, true};
-ghost use Rattle.brep_lists.specs.Record.{shell, type_number};
+ghost use Rattle.brep_lists.specs.Record.{type_number};
+ghost use Rattle.brep_lists.specs.declared.entity_kind.EntityKind.TheVariants.{Shell as shell};
 ghost use Rattle.brep_walk.specs.OpenPlaces.{shell_entry_places, shell_record_places, open_places, shell_solid_of};
 ghost use Rattle.brep_walk.specs.Places.{faces};
 ghost use Rattle.brep_walk.specs.SolidOf.{face_by, edge_by, edges_in, keys_in};

@@ -1,7 +1,7 @@
 //! The walk through a solid.
 
 ghost use Rattle.std.specs.Prelude.{◌≡◌, ◌<◌, ◌^◌, IfOk, IfErr, OnOk, Ok, Err, map, flat_map, length, pos};
-ghost use Rattle.brep_lists.specs.Record.{solid};
+ghost use Rattle.brep_lists.specs.declared.entity_kind.EntityKind.TheVariants.{Solid as solid};
 ghost use Rattle.brep_walk.specs.Places.{told, record_places, places, shells};
 ghost use Rattle.brep_walk.specs.SolidOf.{keys_of, shell_of, edge_of, edge_keys, solid_of};
 ghost use Rattle.brep_walk.specs.Walked.{IsFault, Gives};

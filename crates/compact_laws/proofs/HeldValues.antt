@@ -11,7 +11,8 @@ use Rattle.iges_fields.specs.InLine.{is_value}
 use Rattle.iges_base.proofs.Lists.{list_all-take, list_all-drop, list_all-both}
 use Rattle.iges_params.specs.Contents.{Contents}
 use Rattle.brep_lists.specs.DueValues.{DueValue, pointer, number, flag, at_least_one, count, coordinate}
-use Rattle.brep_lists.specs.Record.{«loop», edges, vertices, LoopTuple, tuple_due, curve_due, edge_due, vertex_due, due, items_of, int_of, natural, value_or_default, int_at, count_at, groups, edge_read, tuples_read}
+use Rattle.brep_lists.specs.Record.{LoopTuple, tuple_due, curve_due, edge_due, vertex_due, due, items_of, int_of, natural, value_or_default, int_at, count_at, groups, edge_read, tuples_read}
+use Rattle.brep_lists.specs.declared.entity_kind.EntityKind.TheVariants.{Loop as «loop», EdgeList as edges, VertexList as vertices}
 use Rattle.brep_lists.specs.OwnValues.{own_count}
 use Rattle.brep_lists.specs.declared.edge_list.EdgeTuple.{EdgeTuple}
 use Rattle.entry_references.specs.Refs.{Record}

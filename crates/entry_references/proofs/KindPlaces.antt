@@ -7,7 +7,9 @@ use Rattle.std.proofs.lemmas.List.{length-map}
 use Rattle.std.proofs.lemmas.List.Elements.{filter_map-append}
 use Rattle.iges_fields.specs.declared.value.Value.{Value}
 use Rattle.brep_lists.specs.DueValues.{DueValue, pointer, number, flag, at_least_one, count, coordinate, MeetsAll}
-use Rattle.brep_lists.specs.Record.{EntityKind, solid, shell, face, «loop», edges, vertices, LoopTuple, Items, SolidItems, FaceItems, pair_due, curve_due, tuple_due, edge_due, vertex_due, kind_of_type, due, items_of, Fits, IsRecordOf}
+use Rattle.brep_lists.specs.Record.{LoopTuple, Items, SolidItems, FaceItems, pair_due, curve_due, tuple_due, edge_due, vertex_due, kind_of_type, due, items_of, Fits, IsRecordOf}
+use Rattle.brep_lists.specs.declared.entity_kind.EntityKind.{EntityKind}
+use Rattle.brep_lists.specs.declared.entity_kind.EntityKind.TheVariants.{Solid as solid, Shell as shell, Face as face, Loop as «loop», EdgeList as edges, VertexList as vertices}
 use Rattle.brep_lists.specs.OwnValues.{if_pointer, is_record_of, own_count, pointer_places}
 use Rattle.brep_lists.specs.declared.edge_list.EdgeTuple.{EdgeTuple}
 use Rattle.brep_lists.proofs.Decided.{decided}

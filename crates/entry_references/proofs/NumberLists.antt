@@ -7,13 +7,12 @@ use Rattle.std.proofs.lemmas.List.{take_more}
 use Rattle.std.proofs.lemmas.List.Elements.{filter-append, filter_map-append}
 use Rattle.iges_fields.specs.declared.value.Value.{Value}
 use Rattle.iges_directory.specs.declared.entry.Entry.{Entry}
-use Rattle.brep_lists.specs.Record.{EntityKind, kind_of_type}
+use Rattle.brep_lists.specs.Record.{kind_of_type}
+use Rattle.brep_lists.specs.declared.entity_kind.EntityKind.{EntityKind}
 use Rattle.brep_lists.proofs.Places.{open_at}
-use Rattle.entry_references.specs.KindNames.{entity_kind}
 use Rattle.entry_references.specs.Layout.{Layout, layout_of}
 use Rattle.entry_references.specs.Refs.{is_listed}
 use Rattle.entry_references.specs.Rows.{layout_of_row}
-use Rattle.entry_references.specs.declared.record_kind.RecordKind.{RecordKind}
 use Rattle.entry_references.specs.declared.layout.Layout.{Layout as Named}
 
 cons_is : {X : Type 0} (o : Option X) (xs : List X) → cons_option o xs ≡ option_to_list o ++ xs
@@ -59,9 +58,6 @@ module _ (p : ℤ → Bool) (h : Value → Option ℤ) (vs : List Value) where
       ∙ (ap (λ (ns : List ℤ). old ++ ns) (sym (opened (count - i) (before + i) v (omega (arith, lt)) e)) ∙ inv))))
 
 -- ---- types
-
-pub kind_none : (z : ℤ) (o : Option RecordKind) → option_map entity_kind o ≡ kind_of_type z → o ≡ None → kind_of_type z ≡ None
-kind_none z o e n = sym e ∙ ap (option_map entity_kind) n
 
 pub layout_known : (e : Entry) (o : Option Named) (l : Named) → option_map layout_of_row o ≡ layout_of e → o ≡ Some l → layout_of e ≡ Some (layout_of_row l)
 layout_known e o l is s = sym is ∙ ap (option_map layout_of_row) s

@@ -1,6 +1,5 @@
 pub mod Layout
 pub mod Rows
-pub mod KindNames
 pub mod Refs
 pub mod ListedTypes
 pub mod PlacesDue

@@ -14,7 +14,6 @@ mod own_kinds;
 mod own_table;
 mod place;
 mod record;
-mod record_kind;
 mod reference_numbers;
 mod referring;
 

@@ -9,7 +9,7 @@ use crate::layout::{Layout, layout_of};
 use crate::own::Own;
 use crate::own_kinds::own_of_kind;
 use crate::own_table::own_in;
-use crate::record_kind::{RecordKind, kind_of_type};
+use brep_lists::EntityKind;
 use iges_directory::Entry;
 use iges_fields::{NoMemory, Values};
 use std::alloc::Global;
@@ -18,7 +18,7 @@ use std::alloc::Global;
 #[derive(Clone, Copy)]
 pub enum ListedType {
     /// One of a solid's own records.
-    Solid(RecordKind),
+    Solid(EntityKind),
     /// A type of the table.
     Other(Layout),
 }
@@ -27,7 +27,7 @@ pub enum ListedType {
 pub fn type_of(entry: &Entry) -> Option<ListedType>
     ensures { MatchOption result (is_listed (entry.now, []) ≡ false) (IsTypeOf entry.now) }
 {
-    if let Some(kind) = kind_of_type(entry.kind) {
+    if let Some(kind) = EntityKind::of_type(entry.kind) {
         return Some(ListedType::Solid(kind));
     }
     match layout_of(entry) {

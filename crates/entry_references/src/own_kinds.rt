@@ -1,7 +1,7 @@
 //! The own values of a record of a solid.
 
-ghost use Rattle.brep_lists.specs.Record.{solid, shell, face, «loop», edges, vertices, tuple_due};
-ghost use Rattle.entry_references.specs.KindNames.{entity_kind};
+ghost use Rattle.brep_lists.specs.Record.{tuple_due};
+ghost use Rattle.brep_lists.specs.declared.entity_kind.EntityKind.TheVariants.{Solid as solid, Shell as shell, Face as face, Loop as «loop», EdgeList as edges, VertexList as vertices};
 ghost use Rattle.entry_references.specs.PlacesDue.{places_due};
 ghost use Rattle.entry_references.specs.Refs.{own_of_kind};
 ghost use Rattle.iges_base.specs.declared.TheConstants.{FILE_LIMIT};
@@ -9,8 +9,7 @@ ghost use Rattle.std.specs.Prelude.{◌≡◌, ◌+◌, ◌*◌, ◌<◌, ◌≤
 
 use crate::group_places::{push_groups, push_tuples};
 use crate::own::{Own, places};
-use crate::record_kind::RecordKind;
-use brep_lists::{EdgeList, VertexList};
+use brep_lists::{EdgeList, EntityKind, VertexList};
 use brep_loops::{FaceRecord, LoopRecord, ShellRecord, SolidRecord};
 use iges_fields::{ItemList, NoMemory, Values};
 use std::alloc::Global;
@@ -92,18 +91,18 @@ fn of_vertex_list(alloc: Global, values: &Values) -> Option<Own>
 /// The own values of a record of a kind; None where the record doesn't fit it (IGES 5.3, 4.49 and 4.145 to 4.149).
 pub fn own_of_kind(
     alloc: Global,
-    kind: RecordKind,
+    kind: EntityKind,
     values: &Values,
 ) -> Result<Option<Own>, NoMemory>
     requires { length values.now ≤ FILE_LIMIT }
-    ensures { IfOk result (λ own. own ≡ own_of_kind (entity_kind kind) values.now) }
+    ensures { IfOk result (λ own. own ≡ own_of_kind kind values.now) }
 {
     match kind {
-        RecordKind::Solid => of_solid(alloc, values),
-        RecordKind::Shell => of_shell(alloc, values),
-        RecordKind::Face => of_face(alloc, values),
-        RecordKind::Loop => of_loop(alloc, values),
-        RecordKind::EdgeList => of_edge_list(alloc, values),
-        RecordKind::VertexList => Ok(of_vertex_list(alloc, values)),
+        EntityKind::Solid => of_solid(alloc, values),
+        EntityKind::Shell => of_shell(alloc, values),
+        EntityKind::Face => of_face(alloc, values),
+        EntityKind::Loop => of_loop(alloc, values),
+        EntityKind::EdgeList => of_edge_list(alloc, values),
+        EntityKind::VertexList => Ok(of_vertex_list(alloc, values)),
     }
 }

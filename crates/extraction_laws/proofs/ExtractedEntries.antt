@@ -13,7 +13,8 @@ use Rattle.iges_fields.specs.declared.value.Value.TheVariants as value
 use Rattle.iges_params.specs.Contents.{Contents}
 use Rattle.iges_params.specs.Named.{named}
 use Rattle.brep_lists.specs.DueValues.{DueValue, pointer, number, flag, at_least_one, count, coordinate, MeetsAll}
-use Rattle.brep_lists.specs.Record.{EntityKind, kind_of_type, due, items_of, IsRecordOf}
+use Rattle.brep_lists.specs.Record.{kind_of_type, due, items_of, IsRecordOf}
+use Rattle.brep_lists.specs.declared.entity_kind.EntityKind.{EntityKind}
 use Rattle.brep_lists.specs.OwnValues.{due_in, own_count, if_pointer, pointer_places}
 use Rattle.solid_data.proofs.Members.{Has, Contains-from_Has, has_left, All-from}
 use Rattle.brep_walk.specs.Places.{Names}

@@ -2,7 +2,8 @@
 use Rattle.std.specs.Prelude.{ℕ, zero, suc, Bool, ℤ, List, [], ◌∷◌, ◌++◌, map, flat_map, slice_get}
 use Rattle.std.specs.List.{AllByRecursion}
 use Rattle.brep_lists.specs.DueValues.{DueValue, pointer, number, flag, at_least_one, count, coordinate}
-use Rattle.brep_lists.specs.Record.{SolidItems, FaceItems, LoopTuple, pair_due, curve_due, tuple_due, edge_due, solid, shell, face, «loop», edges, due}
+use Rattle.brep_lists.specs.Record.{SolidItems, FaceItems, LoopTuple, pair_due, curve_due, tuple_due, edge_due, due}
+use Rattle.brep_lists.specs.declared.entity_kind.EntityKind.TheVariants.{Solid as solid, Shell as shell, Face as face, Loop as «loop», EdgeList as edges}
 use Rattle.brep_lists.specs.declared.edge_list.EdgeTuple.{EdgeTuple}
 use Rattle.solid_data.proofs.Members.{OptionAll}
 use Rattle.extraction_laws.proofs.Renames.{AllPointers}

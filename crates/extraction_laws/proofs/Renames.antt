@@ -4,7 +4,9 @@ use Rattle.std.proofs.Common.{refl, sym, ◌∙◌, ap, subst, inl, inr}
 use Rattle.iges_params.specs.Contents.{Contents}
 use Rattle.iges_params.specs.Named.{named, record_values, values_of}
 use Rattle.brep_lists.specs.DueValues.{DueValue, pointer, number, flag, at_least_one, count, coordinate}
-use Rattle.brep_lists.specs.Record.{EntityKind, solid, shell, face, «loop», edges, vertices, type_number, kind_of_type, HasForm, due, items_of, IsRecordOf}
+use Rattle.brep_lists.specs.Record.{type_number, kind_of_type, HasForm, due, items_of, IsRecordOf}
+use Rattle.brep_lists.specs.declared.entity_kind.EntityKind.{EntityKind}
+use Rattle.brep_lists.specs.declared.entity_kind.EntityKind.TheVariants.{Solid as solid, Shell as shell, Face as face, Loop as «loop», EdgeList as edges, VertexList as vertices}
 use Rattle.brep_walk.specs.Places.{told, Names, NamesKind, HasRecordOf, NamesGeometry}
 use Rattle.solid_data.specs.Obligations.{entry_number}
 use Rattle.entry_references.specs.Refs.{Record}

@@ -9,7 +9,8 @@ use Rattle.std.proofs.lemmas.List.FromFn.{length-enumerate_from}
 use Rattle.std.proofs.lemmas.List.Sums.{sum_by-cons}
 use Rattle.iges_params.specs.Contents.{Contents, value_count}
 use Rattle.iges_params.specs.Made.{IsMade, IsMadeEntry}
-use Rattle.brep_lists.specs.Record.{«loop», edges, vertices, items_of, Fits, IsRecordOf}
+use Rattle.brep_lists.specs.Record.{items_of, Fits, IsRecordOf}
+use Rattle.brep_lists.specs.declared.entity_kind.EntityKind.TheVariants.{Loop as «loop», EdgeList as edges, VertexList as vertices}
 use Rattle.brep_lists.proofs.Decided.{decided}
 use Rattle.brep_lists.proofs.OnlyRead.{only_read}
 use Rattle.solid_data.proofs.Members.{Has, All-at, All-from, has_map}

@@ -15,7 +15,8 @@ use Rattle.solid_data.specs.declared.verdict.Failing.{Failing}
 use Rattle.entry_references.specs.declared.fault.ExtractReason.{ExtractReason}
 use Rattle.solid_extract.specs.Extracted.{new_record, IsExtracted, IsExtractedAs, IsRefused}
 use Rattle.solid_extract.proofs.NewNumbers.{has_kind}
-use Rattle.brep_lists.specs.Record.{edges, vertices, items_of}
+use Rattle.brep_lists.specs.Record.{items_of}
+use Rattle.brep_lists.specs.declared.entity_kind.EntityKind.TheVariants.{EdgeList as edges, VertexList as vertices}
 use Rattle.solid_data.proofs.Members.{Has, All-at}
 use Rattle.entry_references.specs.Refs.{Record}
 use Rattle.solid_extract.proofs.Copies.{one_more}

@@ -7,7 +7,8 @@ use Rattle.std.proofs.lemmas.Option.{none-some, same_Some}
 use Rattle.iges_fields.specs.declared.value.Value.{Value}
 use Rattle.iges_params.specs.Contents.{Contents}
 use Rattle.brep_lists.specs.DueValues.{MeetsAll}
-use Rattle.brep_lists.specs.Record.{edges, vertices, edge_due, vertex_due, due, items_of, IsRecordOf}
+use Rattle.brep_lists.specs.Record.{edge_due, vertex_due, due, items_of, IsRecordOf}
+use Rattle.brep_lists.specs.declared.entity_kind.EntityKind.TheVariants.{EdgeList as edges, VertexList as vertices}
 use Rattle.brep_lists.specs.OwnValues.{own_count}
 use Rattle.brep_lists.specs.declared.edge_list.EdgeTuple.{EdgeTuple}
 use Rattle.entry_references.specs.EntrySets.{marks_set}

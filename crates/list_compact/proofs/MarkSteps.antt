@@ -10,7 +10,9 @@ use Rattle.std.proofs.lemmas.List.{length-set, set_past, map-append, append-nil}
 use Rattle.std.proofs.lemmas.List.Folds.{list_any-append}
 use Rattle.std.proofs.lemmas.Option.{none-some, same_Some, slice_get_within, slice_get-map}
 use Rattle.entry_references.proofs.Marks.{get_set, same_test}
-use Rattle.brep_lists.specs.Record.{EntityKind, «loop», edges, vertices, LoopTuple, Items, kind_of_type, type_number, items_of, Fits, IsRecordOf}
+use Rattle.brep_lists.specs.Record.{LoopTuple, Items, kind_of_type, type_number, items_of, Fits, IsRecordOf}
+use Rattle.brep_lists.specs.declared.entity_kind.EntityKind.{EntityKind}
+use Rattle.brep_lists.specs.declared.entity_kind.EntityKind.TheVariants.{Loop as «loop», EdgeList as edges, VertexList as vertices}
 use Rattle.brep_lists.specs.declared.edge_list.EdgeTuple.{EdgeTuple}
 use Rattle.entry_references.specs.Refs.{Record}
 use Rattle.solid_extract.proofs.Copies.{all_at, one_more}

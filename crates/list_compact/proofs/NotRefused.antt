@@ -10,7 +10,9 @@ use Rattle.iges_fields.specs.declared.value.Value.{Value}
 use Rattle.iges_params.specs.Contents.{Contents}
 use Rattle.iges_params.specs.Named.{named}
 use Rattle.brep_lists.specs.DueValues.{pointer}
-use Rattle.brep_lists.specs.Record.{EntityKind, «loop», edges, vertices, Items, kind_of_type, due, items_of, IsRecordOf}
+use Rattle.brep_lists.specs.Record.{Items, kind_of_type, due, items_of, IsRecordOf}
+use Rattle.brep_lists.specs.declared.entity_kind.EntityKind.{EntityKind}
+use Rattle.brep_lists.specs.declared.entity_kind.EntityKind.TheVariants.{Loop as «loop», EdgeList as edges, VertexList as vertices}
 use Rattle.brep_lists.specs.OwnValues.{due_in, own_count}
 use Rattle.brep_lists.specs.declared.edge_list.EdgeTuple.{EdgeTuple}
 use Rattle.solid_data.specs.Obligations.{entry_number}

@@ -13,7 +13,8 @@ use Rattle.iges_fields.specs.declared.value.Value.{Value}
 use Rattle.iges_fields.specs.declared.value.Value.TheVariants as value
 use Rattle.iges_params.specs.Contents.{Contents}
 use Rattle.brep_lists.specs.DueValues.{DueValue, pointer, number, flag, at_least_one, count, coordinate}
-use Rattle.brep_lists.specs.Record.{EntityKind, kind_of_type, due, items_of, Fits, IsRecordOf}
+use Rattle.brep_lists.specs.Record.{kind_of_type, due, items_of, Fits, IsRecordOf}
+use Rattle.brep_lists.specs.declared.entity_kind.EntityKind.{EntityKind}
 use Rattle.brep_lists.specs.OwnValues.{due_in}
 use Rattle.brep_lists.proofs.Decided.{decided}
 use Rattle.brep_lists.proofs.OnlyRead.{only_read}

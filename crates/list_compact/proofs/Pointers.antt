@@ -9,7 +9,8 @@ use Rattle.iges_fields.specs.declared.value.Value.{Value}
 use Rattle.iges_fields.specs.declared.value.Value.TheVariants as value
 use Rattle.iges_params.specs.Contents.{Contents}
 use Rattle.brep_lists.specs.DueValues.{DueValue, pointer, number, flag, at_least_one, count, coordinate, MeetsAll}
-use Rattle.brep_lists.specs.Record.{edges, vertices, edge_due, vertex_due, due, items_of}
+use Rattle.brep_lists.specs.Record.{edge_due, vertex_due, due, items_of}
+use Rattle.brep_lists.specs.declared.entity_kind.EntityKind.TheVariants.{EdgeList as edges, VertexList as vertices}
 use Rattle.brep_lists.specs.declared.edge_list.EdgeTuple.{EdgeTuple}
 use Rattle.solid_data.proofs.Members.{Has, has_map, has_flat_map, from_flat_map}
 use Rattle.entry_references.specs.Layout.{value_at}

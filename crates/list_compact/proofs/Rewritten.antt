@@ -6,7 +6,9 @@ use Rattle.std.proofs.Math.Seq.{drop-append_seam}
 use Rattle.std.proofs.lemmas.List.{length-map, length-drop}
 use Rattle.iges_fields.specs.declared.value.Value.{Value}
 use Rattle.iges_params.specs.Contents.{Contents}
-use Rattle.brep_lists.specs.Record.{EntityKind, «loop», edges, vertices, LoopTuple, Items, tuple_due, curve_due, due, items_of, Fits, IsRecordOf}
+use Rattle.brep_lists.specs.Record.{LoopTuple, Items, tuple_due, curve_due, due, items_of, Fits, IsRecordOf}
+use Rattle.brep_lists.specs.declared.entity_kind.EntityKind.{EntityKind}
+use Rattle.brep_lists.specs.declared.entity_kind.EntityKind.TheVariants.{Loop as «loop», EdgeList as edges, VertexList as vertices}
 use Rattle.brep_lists.specs.OwnValues.{own_count}
 use Rattle.brep_lists.specs.declared.edge_list.EdgeTuple.{EdgeTuple}
 use Rattle.brep_lists.proofs.OnlyRead.{only_read}

@@ -5,7 +5,8 @@ use Rattle.std.proofs.Common.{refl, sym, ap, subst, arith}
 use Rattle.std.proofs.lemmas.List.{length-map}
 use Rattle.iges_fields.specs.declared.value.Value.{Value}
 use Rattle.brep_lists.specs.DueValues.{DueValue, pointer, number, flag, at_least_one, count, coordinate, IsCoordinate, MayBeMissing, MeetsAll}
-use Rattle.brep_lists.specs.Record.{edges, vertices, «loop», LoopTuple, tuple_due, edge_due, vertex_due, due}
+use Rattle.brep_lists.specs.Record.{LoopTuple, tuple_due, edge_due, vertex_due, due}
+use Rattle.brep_lists.specs.declared.entity_kind.EntityKind.TheVariants.{Loop as «loop», EdgeList as edges, VertexList as vertices}
 use Rattle.brep_lists.specs.declared.edge_list.EdgeTuple.{EdgeTuple}
 use Rattle.list_compact.specs.Dropped.{with_indices, spelled, unless_none}
 

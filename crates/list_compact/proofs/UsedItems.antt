@@ -10,7 +10,9 @@ use Rattle.std.proofs.lemmas.List.{length-map}
 use Rattle.std.proofs.lemmas.Option.{none-some, slice_get-map}
 use Rattle.iges_params.specs.Contents.{Contents}
 use Rattle.iges_params.specs.Named.{named, record_values, values_of}
-use Rattle.brep_lists.specs.Record.{EntityKind, «loop», edges, vertices, type_number, LoopTuple, items_of, IsRecordOf, HasForm}
+use Rattle.brep_lists.specs.Record.{type_number, LoopTuple, items_of, IsRecordOf, HasForm}
+use Rattle.brep_lists.specs.declared.entity_kind.EntityKind.{EntityKind}
+use Rattle.brep_lists.specs.declared.entity_kind.EntityKind.TheVariants.{Loop as «loop», EdgeList as edges, VertexList as vertices}
 use Rattle.brep_lists.specs.declared.edge_list.EdgeTuple.{EdgeTuple}
 use Rattle.solid_data.specs.Obligations.{entry_number}
 use Rattle.solid_data.proofs.Members.{Has, has_get, get_some, has_flat_map}

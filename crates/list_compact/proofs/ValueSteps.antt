@@ -4,7 +4,8 @@ use Rattle.std.proofs.Common.{refl, sym, ◌∙◌, ap, subst, arith, append_ass
 use Rattle.iges_fields.specs.declared.value.Value.{Value}
 use Rattle.iges_params.specs.Contents.{Contents}
 use Rattle.brep_lists.specs.DueValues.{DueValue, pointer, MeetsAll}
-use Rattle.brep_lists.specs.Record.{«loop», LoopTuple, curve_due, tuple_due, due, items_of, IsRecordOf}
+use Rattle.brep_lists.specs.Record.{LoopTuple, curve_due, tuple_due, due, items_of, IsRecordOf}
+use Rattle.brep_lists.specs.declared.entity_kind.EntityKind.TheVariants.{Loop as «loop»}
 use Rattle.brep_lists.specs.declared.edge_list.EdgeTuple.{EdgeTuple}
 use Rattle.brep_lists.proofs.OnlyRead.{missing}
 use Rattle.entry_references.proofs.KindPlaces.{due_few, tuple_length}

@@ -5,7 +5,9 @@ use Rattle.iges_fields.specs.declared.value.Value.{Value}
 use Rattle.iges_fields.specs.declared.value.Value.TheVariants as value
 use Rattle.iges_params.specs.Contents.{Contents}
 use Rattle.brep_lists.specs.DueValues.{DueValue, pointer, number, flag, at_least_one, count, coordinate}
-use Rattle.brep_lists.specs.Record.{EntityKind, «loop», edges, vertices, LoopTuple, Items, due, items_of}
+use Rattle.brep_lists.specs.Record.{LoopTuple, Items, due, items_of}
+use Rattle.brep_lists.specs.declared.entity_kind.EntityKind.{EntityKind}
+use Rattle.brep_lists.specs.declared.entity_kind.EntityKind.TheVariants.{Loop as «loop», EdgeList as edges, VertexList as vertices}
 use Rattle.brep_lists.specs.OwnValues.{own_count}
 use Rattle.brep_lists.specs.declared.edge_list.EdgeTuple.{EdgeTuple}
 use Rattle.entry_references.specs.Refs.{Record}

@@ -5,7 +5,9 @@ use Rattle.std.specs.Ordering.{int_eq}
 use Rattle.iges_fields.specs.declared.value.Value.{Value}
 use Rattle.iges_params.specs.Contents.{Contents}
 use Rattle.iges_params.specs.Named.{named}
-use Rattle.brep_lists.specs.Record.{EntityKind, «loop», edges, vertices, type_number, LoopTuple, items_of}
+use Rattle.brep_lists.specs.Record.{type_number, LoopTuple, items_of}
+use Rattle.brep_lists.specs.declared.entity_kind.EntityKind.{EntityKind}
+use Rattle.brep_lists.specs.declared.entity_kind.EntityKind.TheVariants.{Loop as «loop», EdgeList as edges, VertexList as vertices}
 use Rattle.brep_lists.specs.declared.edge_list.EdgeTuple.{EdgeTuple}
 use Rattle.entry_references.specs.Refs.{Record}
 

@@ -1,6 +1,7 @@
 //! The values of records once unused items are dropped.
 
-ghost use Rattle.brep_lists.specs.Record.{«loop», edges, vertices, items_of, tuple_due, Fits, IsRecordOf};
+ghost use Rattle.brep_lists.specs.Record.{items_of, tuple_due, Fits, IsRecordOf};
+ghost use Rattle.brep_lists.specs.declared.entity_kind.EntityKind.TheVariants.{Loop as «loop», EdgeList as edges, VertexList as vertices};
 ghost use Rattle.entry_references.specs.EntrySets.{marks_set};
 ghost use Rattle.iges_fields.specs.InLine.{is_value};
 ghost use Rattle.iges_base.specs.declared.TheConstants.{FILE_LIMIT};

@@ -4,7 +4,7 @@ use Rattle.std.proofs.Common.{refl, sym, ◌∙◌, ap, subst, inl, inr}
 use Rattle.iges_base.specs.declared.entry_no.EntryNo.{EntryNo}
 use Rattle.iges_params.specs.Contents.{Contents}
 use Rattle.iges_params.specs.Named.{named}
-use Rattle.brep_lists.specs.Record.{shell}
+use Rattle.brep_lists.specs.declared.entity_kind.EntityKind.TheVariants.{Shell as shell}
 use Rattle.brep_walk.specs.OpenPlaces.{NamesShell, open_places, shell_solid_of}
 use Rattle.brep_walk.specs.Places.{NamesKind, shells, faces, loops, numbers, loop_places, face_places, shell_places}
 use Rattle.brep_walk.specs.SolidOf.{shell_by, keys_in, solid_of, solid_listing}

@@ -7,7 +7,9 @@ use Rattle.iges_fields.specs.declared.value.Value.{Value}
 use Rattle.iges_directory.specs.declared.entry.Entry.{Entry}
 use Rattle.iges_params.specs.Contents.{Contents}
 use Rattle.iges_params.specs.Named.{named, record_values, values_of}
-use Rattle.brep_lists.specs.Record.{EntityKind, edges, Items, Fits, items_of, IsRecordOf, edge_read, groups, int_at, count_at}
+use Rattle.brep_lists.specs.Record.{Items, Fits, items_of, IsRecordOf, edge_read, groups, int_at, count_at}
+use Rattle.brep_lists.specs.declared.entity_kind.EntityKind.{EntityKind}
+use Rattle.brep_lists.specs.declared.entity_kind.EntityKind.TheVariants.{EdgeList as edges}
 use Rattle.brep_lists.specs.declared.edge_list.EdgeTuple.{EdgeTuple}
 use Rattle.brep_lists.proofs.Views.{edge_item}
 use Rattle.solid_data.specs.declared.verdict.Failing.{Failing}

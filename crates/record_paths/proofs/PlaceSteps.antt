@@ -2,7 +2,9 @@
 use Rattle.std.specs.Prelude.{◌≡◌, ◌+◌, ℕ, ℤ, pos, Bool, List, [], ◌∷◌, ◌++◌, length, take, slice_get, Option, Some, None, Result, Ok, Err}
 use Rattle.std.proofs.Common.{sym, ◌∙◌, ap, subst, inl, inr, ⊎_elim}
 use Rattle.iges_params.specs.Contents.{Contents}
-use Rattle.brep_lists.specs.Record.{EntityKind, solid, shell, face, «loop», LoopTuple, FaceItems}
+use Rattle.brep_lists.specs.Record.{LoopTuple, FaceItems}
+use Rattle.brep_lists.specs.declared.entity_kind.EntityKind.{EntityKind}
+use Rattle.brep_lists.specs.declared.entity_kind.EntityKind.TheVariants.{Solid as solid, Shell as shell, Face as face, Loop as «loop»}
 use Rattle.brep_walk.specs.Places.{told, shells, faces, loops, tuples, numbers, HasRecordOf, entry_places, tuple_places, tuple_at, places}
 use Rattle.solid_data.specs.Obligations.{Obligation, FirstFalse, obligation}
 use Rattle.solid_data.specs.declared.verdict.Failing.{Failing}

@@ -2,7 +2,8 @@
 use Rattle.std.specs.Prelude.{◌+◌, ℕ, ℤ, pos, Bool, List, [], ◌∷◌, ◌++◌, flat_map, length}
 use Rattle.std.proofs.Common.{refl, sym, ◌∙◌, inl, inr, ⊎_elim}
 use Rattle.iges_params.specs.Contents.{Contents}
-use Rattle.brep_lists.specs.Record.{solid, shell, «loop», LoopTuple}
+use Rattle.brep_lists.specs.Record.{LoopTuple}
+use Rattle.brep_lists.specs.declared.entity_kind.EntityKind.TheVariants.{Solid as solid, Shell as shell, Loop as «loop»}
 use Rattle.brep_walk.specs.Places.{shells, faces, loops, tuples, numbers, HasRecordOf, entry_places, tuple_places, loop_places, face_places, shell_places, places}
 use Rattle.solid_data.specs.Obligations.{Obligation, FirstFalse, obligation, after_each}
 use Rattle.solid_data.specs.declared.verdict.Failing.{Failing}

@@ -2,7 +2,9 @@
 use Rattle.std.specs.Prelude.{◌≡◌, ◌↔◌, IsTrue, ℕ, ℤ, pos, Bool, true, false, List, [], ◌∷◌, ◌++◌, ◌⊎◌, length, All}
 use Rattle.std.proofs.Common.{sym, ◌∙◌, subst, inl, inr, ⊎_elim}
 use Rattle.iges_params.specs.Contents.{Contents}
-use Rattle.brep_lists.specs.Record.{EntityKind, edges, vertices, LoopTuple}
+use Rattle.brep_lists.specs.Record.{LoopTuple}
+use Rattle.brep_lists.specs.declared.entity_kind.EntityKind.{EntityKind}
+use Rattle.brep_lists.specs.declared.entity_kind.EntityKind.TheVariants.{EdgeList as edges, VertexList as vertices}
 use Rattle.brep_walk.specs.Places.{told, NamesGeometry, HasRecordOf, IsIndex, edge_at, item_places, edge_places, used_places, tuple_at}
 use Rattle.solid_data.specs.Obligations.{Obligation, AllHold, FirstFalse, obligation, entry_number}
 use Rattle.solid_data.specs.declared.verdict.Failing.{Failing}

@@ -1,7 +1,9 @@
 -- On which path the obligations on the records of a solid lie.
 use Rattle.std.specs.Prelude.{◌≡◌, ◌↔◌, ⊤, ℕ, ◌+◌, ℤ, pos, Bool, List, [], ◌∷◌, ◌++◌, ◌⊎◌, length, flat_map, Contains, Option, Some, None}
 use Rattle.iges_params.specs.Contents.{Contents}
-use Rattle.brep_lists.specs.Record.{EntityKind, solid, shell, face, «loop», LoopTuple}
+use Rattle.brep_lists.specs.Record.{LoopTuple}
+use Rattle.brep_lists.specs.declared.entity_kind.EntityKind.{EntityKind}
+use Rattle.brep_lists.specs.declared.entity_kind.EntityKind.TheVariants.{Solid as solid, Shell as shell, Face as face, Loop as «loop»}
 use Rattle.brep_walk.specs.Places.{told, shells, faces, loops, tuples, numbers, HasRecordOf, NamesGeometry, entry_places, record_places, tuple_places}
 use Rattle.brep_walk.specs.SolidOf.{entry_no}
 use Rattle.solid_data.specs.Obligations.{Obligation, obligation, entry_number}

@@ -1,7 +1,8 @@
 //! Edges of edge lists.
 
 ghost use Rattle.std.specs.Prelude.{◌≡◌, ◌-◌, ◌≤◌, ◌↔◌, pos, length, slice_get, Some, IfSome, IfNone, IsTrue};
-ghost use Rattle.brep_lists.specs.Record.{IsRecordOf, items_of, edges};
+ghost use Rattle.brep_lists.specs.Record.{IsRecordOf, items_of};
+ghost use Rattle.brep_lists.specs.declared.entity_kind.EntityKind.TheVariants.{EdgeList as edges};
 ghost use Rattle.brep_walk.specs.Places.{HasRecordOf, IsIndex, told, edge_at, edge_places};
 ghost use Rattle.record_paths.specs.Searched.{Bears};
 ghost use Rattle.solid_data.specs.Obligations.{entry_number};

@@ -2,7 +2,7 @@
 
 ghost use Rattle.std.specs.Prelude.{◌≡◌, ◌∷◌, ◌++◌, ◌↔◌, [], ℕ, ℤ, Bool, List, All, Some, pos, IsTrue};
 ghost use Rattle.iges_params.specs.Contents.{Contents};
-ghost use Rattle.brep_lists.specs.Record.{EntityKind};
+ghost use Rattle.brep_lists.specs.declared.entity_kind.EntityKind.{EntityKind};
 ghost use Rattle.brep_walk.specs.Places.{NamesGeometry, item_places, edge_places};
 ghost use Rattle.record_paths.specs.Paths.{naming_places, face_naming};
 ghost use Rattle.record_paths.specs.Searched.{Bears};

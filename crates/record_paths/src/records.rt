@@ -1,7 +1,7 @@
 //! The records that numbers name.
 
 ghost use Rattle.std.specs.Prelude.{◌≡◌, pos, IfSome, IfNone, MatchOption};
-ghost use Rattle.brep_lists.specs.Record.{solid, shell, face, «loop»};
+ghost use Rattle.brep_lists.specs.declared.entity_kind.EntityKind.TheVariants.{Solid as solid, Shell as shell, Face as face, Loop as «loop»};
 ghost use Rattle.brep_walk.specs.Places.{Names, HasRecordOf, told};
 ghost use Rattle.iges_params.specs.Named.{values_of};
 

@@ -1,7 +1,7 @@
 //! The path to the place that fails.
 
 ghost use Rattle.std.specs.Prelude.{◌≡◌, ◌++◌, [], ◌∷◌, pos, Some, None, IsTrue, ◌↔◌};
-ghost use Rattle.brep_lists.specs.Record.{solid};
+ghost use Rattle.brep_lists.specs.declared.entity_kind.EntityKind.TheVariants.{Solid as solid};
 ghost use Rattle.iges_params.specs.Contents.{Contents};
 ghost use Rattle.brep_walk.specs.Places.{HasRecordOf, entry_places, places, shells};
 ghost use Rattle.record_paths.specs.Paths.{on, in_solid, sited, sited_after, shells_sited, IsPathTo};

@@ -4,7 +4,9 @@ use Rattle.std.proofs.Common.{refl, sym, ◌∙◌, ap, arith, append_assoc, app
 use Rattle.std.proofs.lemmas.List.{drop-drop}
 use Rattle.iges_fields.specs.declared.value.Value.{Value}
 use Rattle.brep_lists.specs.DueValues.{at_least_one, count}
-use Rattle.brep_lists.specs.Record.{EntityKind, solid, shell, face, «loop», edges, vertices, count_of}
+use Rattle.brep_lists.specs.Record.{count_of}
+use Rattle.brep_lists.specs.declared.entity_kind.EntityKind.{EntityKind}
+use Rattle.brep_lists.specs.declared.entity_kind.EntityKind.TheVariants.{Solid as solid, Shell as shell, Face as face, Loop as «loop», EdgeList as edges, VertexList as vertices}
 use Rattle.brep_lists.specs.OwnValues.{meets, meets_all, is_record_of}
 use Rattle.brep_lists.specs.Groups.{passes, group_passes, groups_pass, is_counted, is_solid, is_face, is_loop, tuples_pass}
 use Rattle.brep_lists.specs.declared.groups.Slot.{Slot as Standing}

@@ -8,7 +8,8 @@ use Rattle.iges_base.proofs.Lists.{open_at}
 use Rattle.iges_fields.specs.declared.value.Value.{Value}
 use Rattle.iges_params.specs.Contents.{Contents}
 use Rattle.brep_lists.specs.DueValues.{DueValue, MeetsAll}
-use Rattle.brep_lists.specs.Record.{«loop», LoopTuple, curve_due, tuple_due, Fits}
+use Rattle.brep_lists.specs.Record.{LoopTuple, curve_due, tuple_due, Fits}
+use Rattle.brep_lists.specs.declared.entity_kind.EntityKind.TheVariants.{Loop as «loop»}
 use Rattle.brep_lists.proofs.OnlyRead.{missing, curves_only}
 use Rattle.brep_lists.proofs.Places.{none_at}
 use Rattle.solid_data.specs.declared.verdict.Rule.{Rule}

@@ -3,7 +3,8 @@ use Rattle.std.specs.Prelude.{◌≡◌, ℕ, zero, suc, ◌+◌, ◌-◌, ◌^�
 use Rattle.std.proofs.Common.{sym, ◌∙◌, ap, arith, append_assoc}
 use Rattle.std.proofs.lemmas.Option.{slice_get_within}
 use Rattle.iges_fields.specs.declared.value.Value.{Value}
-use Rattle.brep_lists.specs.Record.{EntityKind, count_of, count_at, value_or_default}
+use Rattle.brep_lists.specs.Record.{count_of, count_at, value_or_default}
+use Rattle.brep_lists.specs.declared.entity_kind.EntityKind.{EntityKind}
 use Rattle.brep_lists.proofs.Places.{open_at, none_at, got}
 use Rattle.record_values.specs.declared.due.Counted.{Counted}
 use Rattle.record_values.specs.declared.due.Slot.{Slot}

@@ -4,7 +4,7 @@ use Rattle.std.proofs.Common.{refl, sym, ◌∙◌, ap, subst, arith, inl, inr}
 use Rattle.std.proofs.lemmas.Bool.{cases_Bool}
 use Rattle.iges_fields.specs.declared.value.Value.{Value}
 use Rattle.iges_fields.specs.declared.value.Value.TheVariants.{Int}
-use Rattle.brep_lists.specs.Record.{EntityKind}
+use Rattle.brep_lists.specs.declared.entity_kind.EntityKind.{EntityKind}
 use Rattle.brep_lists.proofs.Decided.{decided}
 use Rattle.record_values.specs.declared.due.Slot.TheVariants as slot
 use Rattle.record_values.specs.declared.due.Counted.TheVariants as counted

@@ -13,7 +13,9 @@ use Rattle.iges_base.proofs.Lists.{open_at}
 use Rattle.iges_fields.specs.declared.value.Value.{Value}
 use Rattle.iges_params.specs.Contents.{Contents}
 use Rattle.iges_params.specs.Named.{values_of}
-use Rattle.brep_lists.specs.Record.{EntityKind, Items, items_of, Fits, solid, shell, face, SolidItems, FaceItems}
+use Rattle.brep_lists.specs.Record.{Items, items_of, Fits, SolidItems, FaceItems}
+use Rattle.brep_lists.specs.declared.entity_kind.EntityKind.{EntityKind}
+use Rattle.brep_lists.specs.declared.entity_kind.EntityKind.TheVariants.{Solid as solid, Shell as shell, Face as face}
 use Rattle.brep_lists.specs.OwnValues.{is_record_of}
 use Rattle.brep_lists.proofs.Decided.{decided}
 use Rattle.brep_lists.proofs.Places.{none_at}

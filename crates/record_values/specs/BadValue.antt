@@ -7,7 +7,9 @@ use Rattle.iges_fields.specs.declared.value.Value.{Value}
 use Rattle.iges_directory.specs.declared.entry.Entry.{Entry}
 use Rattle.iges_params.specs.Contents.{Contents}
 use Rattle.iges_params.specs.Named.{named, values_of}
-use Rattle.brep_lists.specs.Record.{edges, «loop», LoopTuple, count_at}
+use Rattle.brep_lists.specs.Record.{kind_of_type, LoopTuple, count_at}
+use Rattle.brep_lists.specs.declared.entity_kind.EntityKind.{EntityKind}
+use Rattle.brep_lists.specs.declared.entity_kind.EntityKind.TheVariants.{Solid as solid, Shell as shell, Face as face, Loop as «loop», EdgeList as edges, VertexList as vertices}
 use Rattle.brep_lists.specs.declared.edge_list.EdgeTuple.{EdgeTuple}
 use Rattle.solid_data.specs.declared.verdict.Rule.{Rule}
 use Rattle.solid_data.specs.declared.verdict.Rule.TheVariants as rule
@@ -15,12 +17,9 @@ use Rattle.solid_data.specs.declared.verdict.Failing.{Failing}
 use Rattle.record_values.specs.declared.bad_values.BadValue.{BadValue}
 use Rattle.record_values.specs.declared.due.Due.{Due}
 use Rattle.record_values.specs.declared.due.Due.TheVariants as due
-use Rattle.record_values.specs.declared.kind.RecordKind.{RecordKind}
-use Rattle.record_values.specs.declared.kind.RecordKind.TheVariants as kind
 use Rattle.record_values.specs.declared.misfit.Misfit.{Misfit}
 use Rattle.record_values.specs.Expected.{first_misfit}
 use Rattle.record_values.specs.Told.{told_in}
-use Rattle.record_values.specs.Kinds.{entity_kind, kind_of}
 
 -- ---- what numbers name
 
@@ -29,14 +28,14 @@ abbrev pub entry_at : Contents → ℤ → Option Entry
 entry_at f z = option_map (λ (e : Entry × List Value). e.0) (named f z)
 
 -- the kind of record that its type has
-abbrev pub kind_in : Option Entry → Option RecordKind
+abbrev pub kind_in : Option Entry → Option EntityKind
 kind_in None = None
-kind_in (Some e) = kind_of e.kind
+kind_in (Some e) = kind_of_type e.kind
 
 -- it is an entry, and none of the six
 abbrev pub is_geometry : Option Entry → Bool
 is_geometry None = false
-is_geometry (Some e) = is_none (kind_of e.kind)
+is_geometry (Some e) = is_none (kind_of_type e.kind)
 
 -- it is a vertex list, of a form that is due
 abbrev pub is_vertex_list : Option Entry → Bool
@@ -64,7 +63,7 @@ abbrev pub value_at : ℕ → Option Due → BadValue
 value_at place d = record { place = Some place; due = d }
 
 -- what is due where a number must name an entry of this kind
-abbrev pub due_of : Rule → RecordKind → Option Due
+abbrev pub due_of : Rule → EntityKind → Option Due
 due_of rule.NoEntry k = Some (due.Record k)
 due_of rule.WrongKind k = Some (due.Record k)
 due_of rule.BadGeometry k = Some due.Geometry
@@ -87,7 +86,7 @@ abbrev pub in_tuple : Contents → Rule → ℕ → Option LoopTuple → BadValu
 in_tuple f r at None = no_value None
 in_tuple f rule.BadGeometry at (Some t) = value_at (at + 6 + 2 * bad_curve f t) (Some due.Geometry)
 in_tuple f rule.BadIndex at (Some t) = value_at (at + 2) None
-in_tuple f r at (Some t) = value_at (at + 1) (due_of r (if t.is_vertex then kind.VertexList else kind.EdgeList))
+in_tuple f r at (Some t) = value_at (at + 1) (due_of r (if t.is_vertex then vertices else edges))
 
 -- in the i-th tuple of a loop, from 0
 abbrev pub in_tuples : Contents → Rule → ℕ → Option (List LoopTuple) → BadValue
@@ -98,8 +97,8 @@ in_tuples f r i (Some ts) = in_tuple f r (tuple_place ts i) (slice_get ts i)
 abbrev pub in_edge : Contents → Rule → ℕ → Option EdgeTuple → BadValue
 in_edge f r at None = no_value None
 in_edge f rule.BadGeometry at (Some e) = value_at at (Some due.Geometry)
-in_edge f rule.NoEntry at (Some e) = value_at (if is_some (entry_at f e.start_list) then at + 3 else at + 1) (Some (due.Record kind.VertexList))
-in_edge f rule.WrongKind at (Some e) = value_at (if is_vertex_list (entry_at f e.start_list) then at + 3 else at + 1) (Some (due.Record kind.VertexList))
+in_edge f rule.NoEntry at (Some e) = value_at (if is_some (entry_at f e.start_list) then at + 3 else at + 1) (Some (due.Record vertices))
+in_edge f rule.WrongKind at (Some e) = value_at (if is_vertex_list (entry_at f e.start_list) then at + 3 else at + 1) (Some (due.Record vertices))
 in_edge f rule.BadIndex at (Some e) = value_at (if is_index e.start_index (item_count f e.start_list) then at + 4 else at + 2) None
 in_edge f _ at (Some e) = no_value None
 
@@ -109,23 +108,23 @@ in_edges f r i None = no_value None
 in_edges f r i (Some es) = in_edge f r (1 + 5 * i) (slice_get es i)
 
 -- at an item of a record of this kind; that of a face with number 0 is its surface
-abbrev pub in_record : Contents → Rule → ℕ → List Value → RecordKind → BadValue
-in_record f r item vs kind.Solid = value_at (if nat_lt item 2 then 0 else 2 * item - 1) (due_of r kind.Shell)
-in_record f r item vs kind.Shell = value_at (2 * item - 1) (due_of r kind.Face)
-in_record f r item vs kind.Face = value_at (if item == 0 then 0 else item + 2) (due_of r kind.Loop)
-in_record f r item vs kind.Loop = in_tuples f r (item - 1) (told_in «loop» vs)
-in_record f r item vs kind.EdgeList = in_edges f r (item - 1) (told_in edges vs)
-in_record f r item vs kind.VertexList = no_value None
+abbrev pub in_record : Contents → Rule → ℕ → List Value → EntityKind → BadValue
+in_record f r item vs solid = value_at (if nat_lt item 2 then 0 else 2 * item - 1) (due_of r shell)
+in_record f r item vs shell = value_at (2 * item - 1) (due_of r face)
+in_record f r item vs face = value_at (if item == 0 then 0 else item + 2) (due_of r «loop»)
+in_record f r item vs «loop» = in_tuples f r (item - 1) (told_in «loop» vs)
+in_record f r item vs edges = in_edges f r (item - 1) (told_in edges vs)
+in_record f r item vs vertices = no_value None
 
 abbrev pub at_misfit : Misfit → BadValue
 at_misfit m = value_at m.place (Some m.due)
 
-abbrev pub by_rule : Contents → Rule → ℕ → List Value → RecordKind → BadValue
-by_rule f rule.BadLayout item vs k = at_misfit (first_misfit (entity_kind k) vs)
+abbrev pub by_rule : Contents → Rule → ℕ → List Value → EntityKind → BadValue
+by_rule f rule.BadLayout item vs k = at_misfit (first_misfit k vs)
 by_rule f r item vs k = in_record f r item vs k
 
 -- at an item of the record of an entity
-abbrev pub in_entity : Contents → Failing → Option RecordKind → BadValue
+abbrev pub in_entity : Contents → Failing → Option EntityKind → BadValue
 in_entity f x None = no_value None
 in_entity f x (Some k) = by_rule f x.rule x.place (values_of f (pos x.entity.0)) k
 
@@ -140,4 +139,4 @@ is_of_number x = x.place == 0 && speaks_of_entry x.rule
 
 -- The bad value where this fails.
 unfoldable pub bad_value : Contents → Failing → BadValue
-bad_value f x = if is_of_number x then no_value (Some (due.Record kind.Solid)) else in_entity f x (kind_in (entry_at f (pos x.entity.0)))
+bad_value f x = if is_of_number x then no_value (Some (due.Record solid)) else in_entity f x (kind_in (entry_at f (pos x.entity.0)))

@@ -1,7 +1,8 @@
 -- The first value with which no record goes on.
 use Rattle.std.specs.Prelude.{ℕ, ◌+◌, ◌≤◌, ◌<◌, List, ◌++◌, length, take}
 use Rattle.iges_fields.specs.declared.value.Value.{Value}
-use Rattle.brep_lists.specs.Record.{EntityKind, IsRecordOf}
+use Rattle.brep_lists.specs.Record.{IsRecordOf}
+use Rattle.brep_lists.specs.declared.entity_kind.EntityKind.{EntityKind}
 use Rattle.record_values.specs.Expected.{first_misfit}
 
 -- some record of the kind begins with these values

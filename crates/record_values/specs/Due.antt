@@ -1,20 +1,20 @@
 -- The words for what is due at a place of a record.
 use Rattle.std.specs.Prelude.{ℕ, List, codes}
+use Rattle.brep_lists.specs.declared.entity_kind.EntityKind.{EntityKind}
+use Rattle.brep_lists.specs.declared.entity_kind.EntityKind.TheVariants.{Solid as solid, Shell as shell, Face as face, Loop as «loop», EdgeList as edges, VertexList as vertices}
 use Rattle.record_values.specs.declared.due.Due.{Due}
 use Rattle.record_values.specs.declared.due.Due.TheVariants as due
 use Rattle.record_values.specs.declared.due.Slot.{Slot}
 use Rattle.record_values.specs.declared.due.Slot.TheVariants as slot
-use Rattle.record_values.specs.declared.kind.RecordKind.{RecordKind}
-use Rattle.record_values.specs.declared.kind.RecordKind.TheVariants as kind
 
 -- the entity and the forms of which one is due
-abbrev pub kind_word : RecordKind → List ℕ
-kind_word kind.Solid = codes "solid form 0"
-kind_word kind.Shell = codes "shell form 1"
-kind_word kind.Face = codes "face form 0 1"
-kind_word kind.Loop = codes "loop form 0 1"
-kind_word kind.EdgeList = codes "edge-list form 0 1"
-kind_word kind.VertexList = codes "vertex-list form 0 1"
+abbrev pub kind_word : EntityKind → List ℕ
+kind_word solid = codes "solid form 0"
+kind_word shell = codes "shell form 1"
+kind_word face = codes "face form 0 1"
+kind_word «loop» = codes "loop form 0 1"
+kind_word edges = codes "edge-list form 0 1"
+kind_word vertices = codes "vertex-list form 0 1"
 
 abbrev pub slot_word : Slot → List ℕ
 slot_word slot.Pointer = codes "pointer"

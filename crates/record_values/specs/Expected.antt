@@ -2,7 +2,9 @@
 use Rattle.std.specs.Prelude.{◌≡◌, ℕ, zero, suc, ◌+◌, ◌^◌, ◌<◌, Bool, if◌then◌else◌, List, [], ◌∷◌, ◌++◌, drop, Result, Ok, Err}
 use Rattle.iges_fields.specs.declared.value.Value.{Value}
 use Rattle.brep_lists.specs.DueValues.{at_least_one, count}
-use Rattle.brep_lists.specs.Record.{EntityKind, solid, shell, face, «loop», edges, vertices, count_of}
+use Rattle.brep_lists.specs.Record.{count_of}
+use Rattle.brep_lists.specs.declared.entity_kind.EntityKind.{EntityKind}
+use Rattle.brep_lists.specs.declared.entity_kind.EntityKind.TheVariants.{Solid as solid, Shell as shell, Face as face, Loop as «loop», EdgeList as edges, VertexList as vertices}
 use Rattle.brep_lists.specs.OwnValues.{is_filler, meets}
 use Rattle.brep_lists.specs.Groups.{passes}
 use Rattle.brep_lists.specs.declared.groups.Slot.TheVariants as stands

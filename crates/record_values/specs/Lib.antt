@@ -1,4 +1,3 @@
-pub mod Kinds
 pub mod Expected
 pub mod Due
 pub mod Begins

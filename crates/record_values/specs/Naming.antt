@@ -4,7 +4,8 @@ use Rattle.std.specs.List.{enumerate_from}
 use Rattle.std.specs.Ordering.{int_eq}
 use Rattle.iges_params.specs.Contents.{Contents}
 use Rattle.iges_params.specs.Named.{values_of}
-use Rattle.brep_lists.specs.Record.{solid, shell, face, SolidItems, FaceItems}
+use Rattle.brep_lists.specs.Record.{SolidItems, FaceItems}
+use Rattle.brep_lists.specs.declared.entity_kind.EntityKind.TheVariants.{Solid as solid, Shell as shell, Face as face}
 use Rattle.record_values.specs.Told.{told_in}
 use Rattle.record_values.specs.declared.naming.Naming.{Naming}
 

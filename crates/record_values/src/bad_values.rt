@@ -2,17 +2,16 @@
 
 ghost use Rattle.record_values.specs.BadValue.{bad_curve, bad_value, by_rule, due_of, in_edge, in_edges, in_record, in_tuple, in_tuples, is_of_number, no_value, value_at};
 ghost use Rattle.record_values.specs.Told.{told_in};
-ghost use Rattle.brep_lists.specs.Record.{edges, «loop»};
+ghost use Rattle.brep_lists.specs.declared.entity_kind.EntityKind.TheVariants.{Loop as «loop», EdgeList as edges};
 ghost use Rattle.iges_base.specs.declared.TheConstants.{FILE_LIMIT};
 ghost use Rattle.std.specs.Prelude.{◌≡◌, ◌≤◌, ◌+◌, ◌*◌, ◌<◌, ◌^◌, IfSome, Some, length};
 
 use crate::due::Due;
-use crate::kind::RecordKind;
 use crate::misfit::first_misfit;
 use crate::named::{
     entry_named, is_index, item_count, names_geometry, names_vertex_list, values_named,
 };
-use brep_lists::{EdgeList, EdgeTuple};
+use brep_lists::{EdgeList, EdgeTuple, EntityKind};
 use brep_loops::{LoopRecord, LoopTuple};
 use iges_fields::Values;
 use iges_params::File;
@@ -44,7 +43,7 @@ fn value_at(place: usize, due: Option<Due>) -> BadValue
 }
 
 // What is due where a number must name an entry of this kind.
-fn due_of(rule: Rule, kind: RecordKind) -> Option<Due>
+fn due_of(rule: Rule, kind: EntityKind) -> Option<Due>
     ensures { result ≡ due_of rule kind }
 {
     match rule {
@@ -77,8 +76,8 @@ fn in_tuple(file: &File, rule: Rule, at: usize, tuple: &LoopTuple<'_>) -> BadVal
     match rule {
         Rule::BadGeometry => value_at(at + 6 + 2 * bad_curve(file, tuple), Some(Due::Geometry)),
         Rule::BadIndex => value_at(at + 2, None),
-        _ if tuple.is_vertex() => value_at(at + 1, due_of(rule, RecordKind::VertexList)),
-        _ => value_at(at + 1, due_of(rule, RecordKind::EdgeList)),
+        _ if tuple.is_vertex() => value_at(at + 1, due_of(rule, EntityKind::VertexList)),
+        _ => value_at(at + 1, due_of(rule, EntityKind::EdgeList)),
     }
 }
 
@@ -109,7 +108,7 @@ fn in_edge(file: &File, rule: Rule, at: usize, edge: EdgeTuple) -> BadValue
     ensures is { result ≡ in_edge file.now rule at (Some edge) }
     ensures few { IfSome result.place (λ place. place < 2 ^ 63) }
 {
-    let list = Some(Due::Record(RecordKind::VertexList));
+    let list = Some(Due::Record(EntityKind::VertexList));
     match rule {
         Rule::BadGeometry => value_at(at, Some(Due::Geometry)),
         Rule::NoEntry if entry_named(file, edge.start_list).is_some() => value_at(at + 3, list),
@@ -139,29 +138,29 @@ fn in_edges(file: &File, rule: Rule, i: u32, values: &Values) -> BadValue
 }
 
 // At an item of a record of this kind.
-fn in_record(file: &File, rule: Rule, item: u32, values: &Values, kind: RecordKind) -> BadValue
+fn in_record(file: &File, rule: Rule, item: u32, values: &Values, kind: EntityKind) -> BadValue
     requires { length values.now ≤ FILE_LIMIT }
     ensures is { result ≡ in_record file.now rule item values.now kind }
     ensures few { IfSome result.place (λ place. place < 2 ^ 63) }
 {
     let place = item as usize;
     match kind {
-        RecordKind::Solid if place < 2 => value_at(0, due_of(rule, RecordKind::Shell)),
-        RecordKind::Solid => value_at(2 * place - 1, due_of(rule, RecordKind::Shell)),
-        RecordKind::Shell => value_at(
+        EntityKind::Solid if place < 2 => value_at(0, due_of(rule, EntityKind::Shell)),
+        EntityKind::Solid => value_at(2 * place - 1, due_of(rule, EntityKind::Shell)),
+        EntityKind::Shell => value_at(
             (2 * place).saturating_sub(1),
-            due_of(rule, RecordKind::Face),
+            due_of(rule, EntityKind::Face),
         ),
-        RecordKind::Face if place == 0 => value_at(0, due_of(rule, RecordKind::Loop)),
-        RecordKind::Face => value_at(place + 2, due_of(rule, RecordKind::Loop)),
-        RecordKind::Loop => in_loop(file, rule, item.saturating_sub(1), values),
-        RecordKind::EdgeList => in_edges(file, rule, item.saturating_sub(1), values),
-        RecordKind::VertexList => no_value(None),
+        EntityKind::Face if place == 0 => value_at(0, due_of(rule, EntityKind::Loop)),
+        EntityKind::Face => value_at(place + 2, due_of(rule, EntityKind::Loop)),
+        EntityKind::Loop => in_loop(file, rule, item.saturating_sub(1), values),
+        EntityKind::EdgeList => in_edges(file, rule, item.saturating_sub(1), values),
+        EntityKind::VertexList => no_value(None),
     }
 }
 
 // At an item of a record of this kind, or at its first misfit.
-fn by_rule(file: &File, failing: Failing, values: &Values, kind: RecordKind) -> BadValue
+fn by_rule(file: &File, failing: Failing, values: &Values, kind: EntityKind) -> BadValue
     requires { length values.now ≤ FILE_LIMIT }
     ensures is { result ≡ by_rule file.now failing.rule failing.place values.now kind }
     ensures few { IfSome result.place (λ place. place < 2 ^ 63) }
@@ -188,7 +187,7 @@ pub fn bad_value(file: &File, failing: Failing) -> BadValue
     ensures few { IfSome result.place (λ place. place < 2 ^ 63) }
 {
     if is_of_number(failing) {
-        return no_value(Some(Due::Record(RecordKind::Solid)));
+        return no_value(Some(Due::Record(EntityKind::Solid)));
     }
     let number = i64::from(failing.entity.0);
     let Some(entry) = entry_named(file, number) else {
@@ -197,7 +196,7 @@ pub fn bad_value(file: &File, failing: Failing) -> BadValue
     let Some(values) = values_named(file, number) else {
         return no_value(None);
     };
-    match RecordKind::of(entry) {
+    match EntityKind::of_type(entry.kind) {
         Some(kind) => by_rule(file, failing, values, kind),
         None => no_value(None),
     }

@@ -1,9 +1,9 @@
 //! What may be in a place of a record.
 
 ghost use Rattle.std.specs.Prelude.{◌≡◌};
-ghost use Rattle.record_values.specs.Due.{due_word, slot_word};
+ghost use Rattle.record_values.specs.Due.{due_word, kind_word, slot_word};
 
-use crate::kind::RecordKind;
+use brep_lists::EntityKind;
 
 /// One value of a record that is no count (own).
 #[derive(Clone, Copy, Debug, PartialEq, Eq)]
@@ -36,7 +36,7 @@ pub enum Counted {
 #[derive(Clone, Copy, Debug, PartialEq, Eq)]
 pub enum Due {
     /// The number of an entry of this kind.
-    Record(RecordKind),
+    Record(EntityKind),
     /// The number of a curve or of a surface.
     Geometry,
     /// One value that is no count.
@@ -45,6 +45,20 @@ pub enum Due {
     Count,
     /// One of the integers and left-out values that follow the own values of a type.
     CountOrPointer,
+}
+
+// The words for the entity and the forms that are due at a place of a solid (own).
+fn kind_word(kind: EntityKind) -> &'static str
+    ensures { result.now ≡ kind_word kind }
+{
+    match kind {
+        EntityKind::Solid => "solid form 0",
+        EntityKind::Shell => "shell form 1",
+        EntityKind::Face => "face form 0 1",
+        EntityKind::Loop => "loop form 0 1",
+        EntityKind::EdgeList => "edge-list form 0 1",
+        EntityKind::VertexList => "vertex-list form 0 1",
+    }
 }
 
 impl Slot {
@@ -68,7 +82,7 @@ impl Due {
         ensures { result.now ≡ due_word self }
     {
         match self {
-            Due::Record(kind) => kind.word(),
+            Due::Record(kind) => kind_word(kind),
             Due::Geometry => "geometry",
             Due::Single(slot) => slot.word(),
             Due::Count => "count",

@@ -3,7 +3,6 @@
 
 mod bad_values;
 mod due;
-mod kind;
 mod law;
 mod misfit;
 mod named;
@@ -11,7 +10,6 @@ mod naming;
 
 pub use bad_values::{BadValue, bad_value};
 pub use due::{Counted, Due, Slot};
-pub use kind::RecordKind;
 pub use law::misfits_are_first;
 pub use misfit::{Misfit, first_misfit};
 pub use named::{entry_named, item_count, values_named};

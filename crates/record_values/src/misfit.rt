@@ -2,14 +2,13 @@
 
 ghost use Rattle.std.specs.Prelude.{◌≡◌, ℕ, true, false, [], ◌∷◌, ◌≤◌, drop, length, map, MatchOption};
 ghost use Rattle.brep_lists.specs.OwnValues.{is_filler};
-ghost use Rattle.brep_lists.specs.Record.{solid, face, «loop», edges, count_at, value_or_default};
+ghost use Rattle.brep_lists.specs.Record.{count_at, value_or_default};
+ghost use Rattle.brep_lists.specs.declared.entity_kind.EntityKind.TheVariants.{Solid as solid, Face as face, Loop as «loop», EdgeList as edges};
 ghost use Rattle.record_values.specs.Expected.{GoesOn, IsCounted, counted_layout, counts, count_of_items, fills, first_misfit, item_layout, layout, misfit_from, single, times};
-ghost use Rattle.record_values.specs.Kinds.{entity_kind};
 ghost use Rattle.record_values.specs.declared.due.Counted.TheVariants.{Tuples};
 
 use crate::due::{Counted, Due, Slot};
-use crate::kind::RecordKind;
-use brep_lists::{item_count, optional_count};
+use brep_lists::{EntityKind, item_count, optional_count};
 use iges_fields::{Value, Values};
 
 /// The first value of a record with which no record of its type goes on (own).
@@ -165,18 +164,18 @@ fn after_edges(values: &Values) -> Result<usize, Misfit>
 }
 
 // The place after the own values of the kind.
-fn after_own(values: &Values, kind: RecordKind) -> Result<usize, Misfit>
-    ensures { GoesOn values.now 0 (layout (entity_kind kind)) result }
+fn after_own(values: &Values, kind: EntityKind) -> Result<usize, Misfit>
+    ensures { GoesOn values.now 0 (layout kind) result }
 {
     let pair = [Slot::Pointer, Slot::Flag];
     let vertex = [Slot::Coordinate, Slot::Coordinate, Slot::Coordinate];
     match kind {
-        RecordKind::Solid => after_solid(values),
-        RecordKind::Shell => after_items(values, 0, Counted::Faces, &pair),
-        RecordKind::Face => after_face(values),
-        RecordKind::Loop => after_loop(values),
-        RecordKind::EdgeList => after_edges(values),
-        RecordKind::VertexList => after_items(values, 0, Counted::Vertices, &vertex),
+        EntityKind::Solid => after_solid(values),
+        EntityKind::Shell => after_items(values, 0, Counted::Faces, &pair),
+        EntityKind::Face => after_face(values),
+        EntityKind::Loop => after_loop(values),
+        EntityKind::EdgeList => after_edges(values),
+        EntityKind::VertexList => after_items(values, 0, Counted::Vertices, &vertex),
     }
 }
 
@@ -206,8 +205,8 @@ fn after_fillers(values: &Values, from: usize) -> Misfit
 /// The first value with which no record of the kind goes on; the place after all values where they begin a record, as
 /// they do where they are one (own). It goes once over the values, and no further than the record's end, however large
 /// a count is. No memory is taken.
-pub fn first_misfit(values: &Values, kind: RecordKind) -> Misfit
-    ensures is { result ≡ first_misfit (entity_kind kind) values.now }
+pub fn first_misfit(values: &Values, kind: EntityKind) -> Misfit
+    ensures is { result ≡ first_misfit kind values.now }
     ensures within { result.place ≤ length values.now }
 {
     match after_own(values, kind) {

@@ -6,8 +6,7 @@ ghost use Rattle.iges_params.specs.Limits.{FitsLimits};
 ghost use Rattle.iges_params.specs.Named.{named};
 ghost use Rattle.std.specs.Prelude.{◌≡◌, ◌≤◌, IfSome, MatchOption, None, length, option_copied, option_map, pos};
 
-use crate::kind::RecordKind;
-use brep_lists::count_at;
+use brep_lists::{EntityKind, count_at};
 use iges_directory::Entry;
 use iges_fields::{EntryNo, Values};
 use iges_params::File;
@@ -50,7 +49,7 @@ pub fn names_geometry(file: &File, number: i64) -> bool
     ensures { result ≡ is_geometry (entry_at file.now number) }
 {
     match entry_named(file, number) {
-        Some(entry) => RecordKind::of(entry).is_none(),
+        Some(entry) => EntityKind::of_type(entry.kind).is_none(),
         None => false,
     }
 }

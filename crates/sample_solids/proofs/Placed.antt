@@ -8,7 +8,9 @@ use Rattle.std.proofs.lemmas.List.Elements.{All-nil}
 use Rattle.std.proofs.lemmas.Option.{none-some, same_Some, slice_get_within}
 use Rattle.iges_params.specs.Contents.{Contents}
 use Rattle.iges_params.specs.Named.{named}
-use Rattle.brep_lists.specs.Record.{EntityKind, solid, shell, face, «loop», edges, vertices, type_number, HasForm, FaceItems, LoopTuple, IsRecordOf}
+use Rattle.brep_lists.specs.Record.{type_number, HasForm, FaceItems, LoopTuple, IsRecordOf}
+use Rattle.brep_lists.specs.declared.entity_kind.EntityKind.{EntityKind}
+use Rattle.brep_lists.specs.declared.entity_kind.EntityKind.TheVariants.{Solid as solid, Shell as shell, Face as face, Loop as «loop», EdgeList as edges, VertexList as vertices}
 use Rattle.brep_walk.specs.Places.{told, shells, faces, loops, tuples, edge_at, numbers, NamesGeometry, IsIndex, record_places, item_places, edge_places, used_places, tuple_places, loop_places, face_places, shell_places, places}
 use Rattle.solid_data.specs.Obligations.{Obligation, obligation, entry_number, AllHold, after_each}
 use Rattle.solid_data.specs.declared.verdict.Rule.TheVariants.{BadIndex, BadGeometry, Twice}

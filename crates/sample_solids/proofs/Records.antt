@@ -9,7 +9,8 @@ use Rattle.iges_fields.specs.declared.value.Value.{Value}
 use Rattle.iges_directory.specs.Named.{unless_unused}
 use Rattle.iges_params.specs.Named.{kind_of, named}
 use Rattle.brep_lists.specs.DueValues.{MeetsAll}
-use Rattle.brep_lists.specs.Record.{solid, shell, face, «loop», edges, vertices, LoopTuple, pair_due, edge_due, vertex_due, due, items_of, IsRecordOf, groups, pair_read, edge_read}
+use Rattle.brep_lists.specs.Record.{LoopTuple, pair_due, edge_due, vertex_due, due, items_of, IsRecordOf, groups, pair_read, edge_read}
+use Rattle.brep_lists.specs.declared.entity_kind.EntityKind.TheVariants.{Solid as solid, Shell as shell, Face as face, Loop as «loop», EdgeList as edges, VertexList as vertices}
 use Rattle.brep_lists.specs.declared.edge_list.EdgeTuple.{EdgeTuple}
 use Rattle.brep_lists.proofs.Stride.{vertex_read}
 use Rattle.sample_solids.specs.Sample.{squares, vertex_index, across_index, up_index, face_number, whole, entry, face_listed, vertex_listed, edges_listed, shell_record, vertex_record, edge_record, face_record, loop_record, first_entries, face_entries, sample}

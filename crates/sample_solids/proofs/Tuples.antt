@@ -5,7 +5,9 @@ use Rattle.std.proofs.Math.Nat.{mod-eq_of_lt}
 use Rattle.std.proofs.lemmas.List.{append-nil}
 use Rattle.iges_params.specs.Contents.{Contents}
 use Rattle.iges_params.specs.Named.{named, record_values}
-use Rattle.brep_lists.specs.Record.{EntityKind, solid, shell, face, «loop», edges, vertices, SolidItems, FaceItems, LoopTuple, items_of}
+use Rattle.brep_lists.specs.Record.{SolidItems, FaceItems, LoopTuple, items_of}
+use Rattle.brep_lists.specs.declared.entity_kind.EntityKind.{EntityKind}
+use Rattle.brep_lists.specs.declared.entity_kind.EntityKind.TheVariants.{Solid as solid, Shell as shell, Face as face, Loop as «loop», EdgeList as edges, VertexList as vertices}
 use Rattle.brep_walk.specs.Places.{told, shells, faces, loops, tuples, edge_at, numbers}
 use Rattle.brep_walk.specs.SolidOf.{all_tuples}
 use Rattle.solid_data.proofs.Members.{Has}

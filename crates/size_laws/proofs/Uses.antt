@@ -13,7 +13,8 @@ use Rattle.iges_params.specs.Contents.{Contents}
 use Rattle.iges_directory.specs.Named.{unless_unused}
 use Rattle.iges_params.specs.Named.{kind_of, named, record_values, values_of}
 use Rattle.brep_lists.specs.DueValues.{MeetsAll}
-use Rattle.brep_lists.specs.Record.{«loop», LoopTuple, tuple_due, items_of, IsRecordOf}
+use Rattle.brep_lists.specs.Record.{LoopTuple, tuple_due, items_of, IsRecordOf}
+use Rattle.brep_lists.specs.declared.entity_kind.EntityKind.TheVariants.{Loop as «loop»}
 use Rattle.brep_lists.proofs.OnlyRead.{missing, curves_only}
 use Rattle.solid_data.specs.Obligations.{AllHold}
 use Rattle.solid_data.specs.SolidData.{shell_uses}

@@ -7,7 +7,9 @@ use Rattle.iges_params.specs.Contents.{Contents}
 use Rattle.solid_data.specs.Obligations.{AllHold, FirstFalse}
 use Rattle.solid_data.specs.declared.verdict.Rule.TheVariants.{BadIndex, BadGeometry}
 use Rattle.brep_walk.specs.Places.{places, shell_places, face_places, loop_places, tuple_places}
-use Rattle.brep_lists.specs.Record.{EntityKind, solid, shell, face, «loop», edges, vertices, type_number}
+use Rattle.brep_lists.specs.Record.{type_number}
+use Rattle.brep_lists.specs.declared.entity_kind.EntityKind.{EntityKind}
+use Rattle.brep_lists.specs.declared.entity_kind.EntityKind.TheVariants.{Solid as solid, Shell as shell, Face as face, Loop as «loop», EdgeList as edges, VertexList as vertices}
 use Rattle.solid_check.proofs.WorkedFiles.{entry, ball_at_one_vertex}
 
 -- a sphere is none of the six

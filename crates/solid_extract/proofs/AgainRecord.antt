@@ -15,7 +15,8 @@ use Rattle.iges_directory.specs.declared.entry.Entry.{Entry}
 use Rattle.iges_params.specs.Contents.{Contents}
 use Rattle.iges_params.specs.Named.{named, record_values, values_of}
 use Rattle.brep_lists.specs.DueValues.{DueValue, pointer, number, flag, at_least_one, count, coordinate}
-use Rattle.brep_lists.specs.Record.{EntityKind, kind_of_type, due, items_of, IsRecordOf}
+use Rattle.brep_lists.specs.Record.{kind_of_type, due, items_of, IsRecordOf}
+use Rattle.brep_lists.specs.declared.entity_kind.EntityKind.{EntityKind}
 use Rattle.brep_lists.specs.OwnValues.{due_in, own_count, pointer_places}
 use Rattle.entry_references.specs.declared.fault.ExtractReason.{ExtractReason}
 use Rattle.entry_references.specs.declared.fault.ExtractReason.TheVariants as reason

@@ -7,7 +7,9 @@ use Rattle.std.proofs.lemmas.List.{map-append, length-map}
 use Rattle.iges_fields.specs.declared.value.Value.{Value}
 use Rattle.iges_fields.specs.declared.value.Value.TheVariants as value
 use Rattle.brep_lists.specs.DueValues.{DueValue, pointer, number, flag, at_least_one, count, coordinate, IsFiller, Meets, MayBeMissing, MeetsAll}
-use Rattle.brep_lists.specs.Record.{EntityKind, solid, shell, face, «loop», edges, vertices, LoopTuple, Items, pair_due, curve_due, tuple_due, edge_due, vertex_due, due, items_of}
+use Rattle.brep_lists.specs.Record.{LoopTuple, Items, pair_due, curve_due, tuple_due, edge_due, vertex_due, due, items_of}
+use Rattle.brep_lists.specs.declared.entity_kind.EntityKind.{EntityKind}
+use Rattle.brep_lists.specs.declared.entity_kind.EntityKind.TheVariants.{Solid as solid, Shell as shell, Face as face, Loop as «loop», EdgeList as edges, VertexList as vertices}
 use Rattle.brep_lists.specs.OwnValues.{due_in, own_count, pointer_places}
 use Rattle.entry_references.specs.Layout.{Own}
 use Rattle.entry_references.specs.EntrySets.{is_among}

@@ -7,7 +7,8 @@ use Rattle.std.proofs.lemmas.List.Elements.{recursion_from_All}
 use Rattle.iges_fields.proofs.Items.{passes}
 use Rattle.iges_params.specs.Contents.{Contents}
 use Rattle.iges_params.specs.Named.{record_values, values_of}
-use Rattle.brep_lists.specs.Record.{EntityKind, kind_of_type, items_of, Fits, IsRecordOf}
+use Rattle.brep_lists.specs.Record.{kind_of_type, items_of, Fits, IsRecordOf}
+use Rattle.brep_lists.specs.declared.entity_kind.EntityKind.{EntityKind}
 use Rattle.brep_lists.specs.OwnValues.{is_record_of, own_count, pointer_places}
 use Rattle.brep_lists.proofs.Decided.{decided}
 use Rattle.brep_lists.proofs.OnlyRead.{only_read}

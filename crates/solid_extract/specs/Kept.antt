@@ -2,7 +2,9 @@
 use Rattle.std.specs.Prelude.{◌≡◌, ℕ, Bool, ℤ, List, map, Some, Contains, pos}
 use Rattle.iges_params.specs.Contents.{Contents}
 use Rattle.iges_params.specs.Named.{named, values_of}
-use Rattle.brep_lists.specs.Record.{EntityKind, solid, shell, face, «loop», edges, vertices, LoopTuple, Items, kind_of_type, items_of, Fits, IsRecordOf}
+use Rattle.brep_lists.specs.Record.{LoopTuple, Items, kind_of_type, items_of, Fits, IsRecordOf}
+use Rattle.brep_lists.specs.declared.entity_kind.EntityKind.{EntityKind}
+use Rattle.brep_lists.specs.declared.entity_kind.EntityKind.TheVariants.{Solid as solid, Shell as shell, Face as face, Loop as «loop», EdgeList as edges, VertexList as vertices}
 use Rattle.brep_lists.specs.declared.edge_list.EdgeTuple.{EdgeTuple}
 use Rattle.entry_references.specs.Refs.{Record}
 use Rattle.solid_extract.specs.Extracted.{renamed, new_values, new_number, new_record, IsExtracted}

@@ -1,7 +1,7 @@
 use Rattle.std.proofs.Common.{pos}
 use Rattle.std.proofs.lemmas.Int.{to_z-of_z}
 use mir.Syntax.{w64}
-use Rattle.brep_lists.specs.Record.{face}
+use Rattle.brep_lists.specs.declared.entity_kind.EntityKind.TheVariants.{Face as face}
 use Rattle.brep_walk.proofs.Opened.{opened, told_so, not_opened, not_named, items_few}
 use Rattle.brep_walk.proofs.records.face_at.Goals as goal
 

@@ -1,5 +1,6 @@
 use Rattle.std.proofs.Common.{pos, ap, ◌∙◌}
-use Rattle.brep_lists.specs.Record.{shell, items_of}
+use Rattle.brep_lists.specs.Record.{items_of}
+use Rattle.brep_lists.specs.declared.entity_kind.EntityKind.TheVariants.{Shell as shell}
 use Rattle.brep_walk.proofs.Opened.{named_few}
 use Rattle.brep_walk.proofs.ShellSolids.{shell_opened, not_a_shell, shell_not_opened}
 use Rattle.brep_walk.proofs.shell_walking.shell_record.Goals as goal

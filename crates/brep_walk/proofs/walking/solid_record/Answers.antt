@@ -1,7 +1,7 @@
 use Rattle.std.proofs.Common.{◌≡◌, IfOk, IfErr, OnOk, rules, pos, subst}
 use mir.Syntax.{w64}
 use mir.Val.{to_z, of_z}
-use Rattle.brep_lists.specs.Record.{solid}
+use Rattle.brep_lists.specs.declared.entity_kind.EntityKind.TheVariants.{Solid as solid}
 use Rattle.solid_data.specs.Obligations.{AllHold, FirstFalse}
 use Rattle.brep_walk.specs.Places.{told, record_places}
 use Rattle.brep_walk.proofs.walking.solid_record.Goals as goal

@@ -1,5 +1,5 @@
 use Rattle.std.proofs.Common.{◌≤◌, length, arith, ap, Some, ◌∙◌}
-use Rattle.brep_lists.specs.Record.{edges}
+use Rattle.brep_lists.specs.declared.entity_kind.EntityKind.TheVariants.{EdgeList as edges}
 use Rattle.entry_references.proofs.KindPlaces.{no_record, edges_room, edges_own}
 use Rattle.entry_references.proofs.own_kinds.of_edge_list.Goals as goal
 

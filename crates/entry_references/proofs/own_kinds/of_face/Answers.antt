@@ -1,5 +1,5 @@
 use Rattle.std.proofs.Common.{◌≤◌, length, arith, ap, Some, ◌∙◌}
-use Rattle.brep_lists.specs.Record.{face}
+use Rattle.brep_lists.specs.declared.entity_kind.EntityKind.TheVariants.{Face as face}
 use Rattle.entry_references.proofs.KindPlaces.{no_record, face_room, face_own}
 use Rattle.entry_references.proofs.own_kinds.of_face.Goals as goal
 

@@ -1,5 +1,5 @@
 use Rattle.std.proofs.Common.{◌≤◌, length, arith, ap, Some, ◌∙◌}
-use Rattle.brep_lists.specs.Record.{«loop»}
+use Rattle.brep_lists.specs.declared.entity_kind.EntityKind.TheVariants.{Loop as «loop»}
 use Rattle.entry_references.proofs.KindPlaces.{no_record, loop_room, loop_own}
 use Rattle.entry_references.proofs.own_kinds.of_loop.Goals as goal
 

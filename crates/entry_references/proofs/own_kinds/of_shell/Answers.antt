@@ -1,5 +1,5 @@
 use Rattle.std.proofs.Common.{◌≤◌, length, arith, ap, Some, ◌∙◌}
-use Rattle.brep_lists.specs.Record.{shell}
+use Rattle.brep_lists.specs.declared.entity_kind.EntityKind.TheVariants.{Shell as shell}
 use Rattle.entry_references.proofs.KindPlaces.{no_record, shell_room, shell_own}
 use Rattle.entry_references.proofs.own_kinds.of_shell.Goals as goal
 

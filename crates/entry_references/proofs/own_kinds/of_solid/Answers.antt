@@ -1,5 +1,5 @@
 use Rattle.std.proofs.Common.{◌≤◌, length, arith, ap, Some, ◌∙◌}
-use Rattle.brep_lists.specs.Record.{solid}
+use Rattle.brep_lists.specs.declared.entity_kind.EntityKind.TheVariants.{Solid as solid}
 use Rattle.entry_references.proofs.KindPlaces.{no_record, solid_room, solid_own}
 use Rattle.entry_references.proofs.own_kinds.of_solid.Goals as goal
 

@@ -1,5 +1,5 @@
 use Rattle.std.proofs.Common.{◌≤◌, length, arith, ap, Some, ◌∙◌}
-use Rattle.brep_lists.specs.Record.{vertices}
+use Rattle.brep_lists.specs.declared.entity_kind.EntityKind.TheVariants.{VertexList as vertices}
 use Rattle.entry_references.proofs.KindPlaces.{no_record, vertices_room, vertices_own}
 use Rattle.entry_references.proofs.own_kinds.of_vertex_list.Goals as goal
 

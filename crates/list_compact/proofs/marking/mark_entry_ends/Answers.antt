@@ -1,5 +1,5 @@
 use Rattle.std.proofs.Common.{rules}
-use Rattle.brep_lists.specs.Record.{edges}
+use Rattle.brep_lists.specs.declared.entity_kind.EntityKind.TheVariants.{EdgeList as edges}
 use Rattle.list_compact.proofs.MarkSteps.{never_none}
 use Rattle.list_compact.proofs.marking.mark_entry_ends.Goals as goal
 

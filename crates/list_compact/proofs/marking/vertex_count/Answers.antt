@@ -1,5 +1,5 @@
 use Rattle.std.proofs.Common.{rules}
-use Rattle.brep_lists.specs.Record.{vertices}
+use Rattle.brep_lists.specs.declared.entity_kind.EntityKind.TheVariants.{VertexList as vertices}
 use Rattle.list_compact.proofs.MarkSteps.{never_none}
 use Rattle.list_compact.proofs.marking.vertex_count.Goals as goal
 

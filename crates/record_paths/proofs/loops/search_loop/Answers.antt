@@ -1,7 +1,7 @@
 use Rattle.std.proofs.Common.{[], pos}
 use Rattle.std.proofs.lemmas.Int.{to_z-of_z}
 use mir.Syntax.{w64}
-use Rattle.brep_lists.specs.Record.{«loop»}
+use Rattle.brep_lists.specs.declared.entity_kind.EntityKind.TheVariants.{Loop as «loop»}
 use Rattle.brep_walk.specs.Places.{tuples}
 use Rattle.record_paths.specs.Paths.{in_loop, sited_after, tuples_sited}
 use Rattle.record_paths.proofs.PlaceSteps.{place_found, place_lost, place_passed, inside_loop}

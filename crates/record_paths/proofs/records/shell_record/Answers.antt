@@ -1,6 +1,6 @@
 use Rattle.std.proofs.lemmas.Int.{to_z-of_z}
 use mir.Syntax.{w64}
-use Rattle.brep_lists.specs.Record.{shell}
+use Rattle.brep_lists.specs.declared.entity_kind.EntityKind.TheVariants.{Shell as shell}
 use Rattle.record_paths.proofs.Layouts.{not_of_kind}
 use Rattle.record_paths.proofs.records.shell_record.Goals as goal
 

@@ -1,7 +1,7 @@
 use Rattle.std.proofs.Common.{[], pos, flat_map}
 use Rattle.std.proofs.lemmas.Int.{to_z-of_z}
 use mir.Syntax.{w64}
-use Rattle.brep_lists.specs.Record.{shell}
+use Rattle.brep_lists.specs.declared.entity_kind.EntityKind.TheVariants.{Shell as shell}
 use Rattle.brep_walk.specs.Places.{faces, numbers}
 use Rattle.record_paths.specs.Paths.{in_shell, sited_after, faces_sited}
 use Rattle.record_paths.proofs.PlaceSteps.{place_found, place_lost, place_passed, inside_shell}

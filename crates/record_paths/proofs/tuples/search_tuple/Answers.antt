@@ -1,7 +1,7 @@
 use Rattle.std.proofs.Common.{◌≡◌, ◌∙◌, rules, sym, Some, pos, length}
 use mir.Syntax.{w64}
 use mir.Val.{to_z, of_z}
-use Rattle.brep_lists.specs.Record.{edges}
+use Rattle.brep_lists.specs.declared.entity_kind.EntityKind.TheVariants.{EdgeList as edges}
 use Rattle.brep_walk.specs.Places.{HasRecordOf, IsIndex, told, tuple_at}
 use Rattle.record_paths.specs.Searched.{Bears}
 use Rattle.record_paths.proofs.Bearing.{path_on, none_on, on_hold, on_false}

@@ -1,5 +1,5 @@
 use Rattle.std.proofs.Common.{None, Some, ◌+◌, ◌*◌, ap, sym, ◌∙◌}
-use Rattle.brep_lists.specs.Record.{edges}
+use Rattle.brep_lists.specs.declared.entity_kind.EntityKind.TheVariants.{EdgeList as edges}
 use Rattle.record_values.specs.BadValue.{in_edge, in_edges}
 use Rattle.record_values.proofs.Names.{told}
 use Rattle.record_values.proofs.bad_values.in_edges.Goals as goal

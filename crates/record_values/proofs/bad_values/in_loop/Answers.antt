@@ -1,7 +1,7 @@
 use Rattle.std.proofs.Common.{None, Some, ◌≡◌, ◌+◌, ◌-◌, ◌*◌, ◌<◌, ap, sym, ◌∙◌, arith}
 use Rattle.std.specs.Prelude.{sum_by}
 use Rattle.std.proofs.lemmas.List.Sums.{sum_by-cons}
-use Rattle.brep_lists.specs.Record.{«loop»}
+use Rattle.brep_lists.specs.declared.entity_kind.EntityKind.TheVariants.{Loop as «loop»}
 use Rattle.record_values.specs.BadValue.{in_tuples, tuple_size}
 use Rattle.record_values.proofs.Curves.{at_tuple, later_tuple, loop_room}
 use Rattle.record_values.proofs.Names.{told}

@@ -2,7 +2,7 @@ use Rattle.std.proofs.Common.{◌≡◌, ◌+◌, ◌≤◌}
 use Rattle.std.specs.Prelude.{sum_by}
 use Rattle.iges_base.specs.declared.TheConstants.{FILE_LIMIT}
 use Rattle.record_values.specs.BadValue.{in_tuples, tuple_size}
-use Rattle.brep_lists.specs.Record.{«loop»}
+use Rattle.brep_lists.specs.declared.entity_kind.EntityKind.TheVariants.{Loop as «loop»}
 use Rattle.record_values.specs.Told.{told_in}
 use Rattle.record_values.proofs.Curves.{at_tuple}
 use Rattle.record_values.proofs.bad_values.in_loop.Given as goal

@@ -1,6 +1,6 @@
 use Rattle.std.proofs.Common.{◌-◌}
 use Rattle.std.proofs.lemmas.Result.{err_from_is_err_and}
-use Rattle.brep_lists.specs.Record.{«loop»}
+use Rattle.brep_lists.specs.declared.entity_kind.EntityKind.TheVariants.{Loop as «loop»}
 use Rattle.record_values.specs.declared.due.Counted.TheVariants.{Tuples}
 use Rattle.record_values.specs.Expected.{item_layout, layout, times}
 use Rattle.record_values.proofs.Going.{gets_stop, gets_more, one_group}

@@ -1,4 +1,4 @@
-use Rattle.brep_lists.specs.Record.{«loop»}
+use Rattle.brep_lists.specs.declared.entity_kind.EntityKind.TheVariants.{Loop as «loop»}
 use Rattle.record_values.specs.declared.due.Counted.TheVariants.{Tuples}
 use Rattle.record_values.specs.Expected.{item_layout, layout, times}
 use Rattle.record_values.proofs.Going.{Gets}

@@ -2,7 +2,7 @@ use Rattle.std.proofs.Common.{None, refl, sym, ◌∙◌, ap, of_z, to_z}
 use Rattle.std.proofs.lemmas.Int.{to_z-of_z}
 use mir.Syntax.{w64}
 use Rattle.iges_params.specs.Named.{named, values_of}
-use Rattle.brep_lists.specs.Record.{face}
+use Rattle.brep_lists.specs.declared.entity_kind.EntityKind.TheVariants.{Face as face}
 use Rattle.record_values.proofs.EntryValues.{no_values, the_values}
 use Rattle.record_values.proofs.Names.{face_told, told}
 use Rattle.record_values.proofs.naming.face_named.Goals as goal

@@ -2,7 +2,7 @@ use Rattle.std.proofs.Common.{None, refl, sym, ◌∙◌, ap, of_z, to_z}
 use Rattle.std.proofs.lemmas.Int.{to_z-of_z}
 use mir.Syntax.{w64}
 use Rattle.iges_params.specs.Named.{named, values_of}
-use Rattle.brep_lists.specs.Record.{solid}
+use Rattle.brep_lists.specs.declared.entity_kind.EntityKind.TheVariants.{Solid as solid}
 use Rattle.record_values.proofs.EntryValues.{no_values, the_values}
 use Rattle.record_values.proofs.Names.{solid_told, told}
 use Rattle.record_values.proofs.naming.solid_named.Goals as goal

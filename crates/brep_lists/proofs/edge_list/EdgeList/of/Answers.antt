@@ -1,5 +1,5 @@
 use Rattle.std.proofs.Common.{◌∙◌}
-use Rattle.brep_lists.specs.Record.{edges}
+use Rattle.brep_lists.specs.declared.entity_kind.EntityKind.TheVariants.{EdgeList as edges}
 use Rattle.brep_lists.proofs.Stride.{edges_counted}
 use Rattle.brep_lists.proofs.Views.{fits, fits_none}
 use Rattle.brep_lists.proofs.edge_list.EdgeList.of.Goals as goal

@@ -1,5 +1,5 @@
 use Rattle.std.proofs.Common.{◌∙◌}
-use Rattle.brep_lists.specs.Record.{vertices}
+use Rattle.brep_lists.specs.declared.entity_kind.EntityKind.TheVariants.{VertexList as vertices}
 use Rattle.brep_lists.proofs.Stride.{vertices_counted}
 use Rattle.brep_lists.proofs.Views.{fits, fits_none}
 use Rattle.brep_lists.proofs.vertex_list.VertexList.of.Goals as goal

@@ -1,5 +1,5 @@
 use Rattle.std.proofs.Common.{◌∙◌}
-use Rattle.brep_lists.specs.Record.{«loop»}
+use Rattle.brep_lists.specs.declared.entity_kind.EntityKind.TheVariants.{Loop as «loop»}
 use Rattle.brep_lists.proofs.Tuples.{loop_tested}
 use Rattle.brep_lists.proofs.Views.{fits, fits_none}
 use Rattle.brep_loops.proofs.loop_record.LoopRecord.of.Goals as goal

@@ -2,7 +2,7 @@ use Rattle.std.proofs.Common.{pos, subst}
 use Rattle.std.proofs.lemmas.Int.{to_z-of_z}
 use mir.Syntax.{w64}
 use mir.Val.{to_z, of_z}
-use Rattle.brep_lists.specs.Record.{«loop»}
+use Rattle.brep_lists.specs.declared.entity_kind.EntityKind.TheVariants.{Loop as «loop»}
 use Rattle.solid_data.specs.Obligations.{AllHold, FirstFalse}
 use Rattle.brep_walk.specs.Places.{record_places}
 use Rattle.brep_walk.proofs.LoopSteps.{no_loop, loop_twice}
