@@ -1,5 +1,5 @@
 -- The rows of a shell as they are read, loop by loop.
-use Rattle.std.specs.Prelude.{◌≡◌, ℕ, ◌+◌, ◌<◌, ◌^◌, ◌++◌, All, List, [], length, map, flat_map, if◌then◌else◌, Bool, Option, Some, None}
+use Rattle.std.specs.Prelude.{◌≡◌, ℕ, ◌+◌, ◌<◌, ◌++◌, All, List, [], length, map, flat_map, if◌then◌else◌, Bool, Option, Some, None}
 use Rattle.solid_data.specs.Ring.{next_of_each, previous_of_each, numbers_from}
 use Rattle.solid_data.specs.SolidData.{SolidData, PlacedLoop, edge_used, vertices_used, shell_edges, shell_vertices}
 use Rattle.solid_data.specs.declared.solid.LoopAt.{LoopAt}
@@ -8,6 +8,7 @@ use Rattle.solid_data.specs.declared.solid.Shell.{Shell}
 use Rattle.edge_uses.specs.declared.row.Row.{Row}
 use Rattle.edge_uses.specs.declared.building.Built.{Built}
 use Rattle.edge_uses.specs.ShellRows.{loop_rows, follows_from, point_of}
+use Rattle.solid_data.specs.declared.TheConstants.{PART_LIMIT}
 
 abbrev pub uses_in : PlacedLoop → List LoopUse
 uses_in p = p.loop.uses
@@ -39,7 +40,7 @@ pub record HasKnownParts (s : SolidData) (shell : Shell) : Type 0 where
 
 -- there is room for the rows of these loops
 abbrev pub HasRoom : Built → List PlacedLoop → Type 0
-HasRoom old ps = length old.rows.items + length (uses_of ps) < 2 ^ 29
+HasRoom old ps = length old.rows.items + length (uses_of ps) < PART_LIMIT
 
 -- the vertices of a shell that may not be there
 abbrev pub vertices_at : SolidData → Option Shell → List ℕ

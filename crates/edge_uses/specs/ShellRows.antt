@@ -1,5 +1,5 @@
 -- The rows of a shell: its edge uses in file order, numbered from 0.
-use Rattle.std.specs.Prelude.{◌≡◌, ℕ, ◌+◌, ◌<◌, ◌^◌, Bool, true, false, not, Contains, IsPermutation, List, [], ◌∷◌, ◌++◌, length, map, flat_map, filter_map, Option, Some, None, slice_get, if◌then◌else◌}
+use Rattle.std.specs.Prelude.{◌≡◌, ℕ, ◌+◌, ◌<◌, Bool, true, false, not, Contains, IsPermutation, List, [], ◌∷◌, ◌++◌, length, map, flat_map, filter_map, Option, Some, None, slice_get, if◌then◌else◌}
 use Rattle.std.specs.List.{AllByRecursion}
 use Rattle.std.specs.List.Sorted.{IsStrictlyIncreasing}
 use Rattle.solid_data.specs.Ring.{next_of_each, previous_of_each, numbers_from}
@@ -11,6 +11,7 @@ use Rattle.solid_data.specs.declared.solid.LoopUse.{LoopUse}
 use Rattle.solid_data.specs.declared.solid.LoopUse.TheVariants.{EdgeUse, VertexUse}
 use Rattle.solid_data.specs.declared.solid.Shell.{Shell}
 use Rattle.edge_uses.specs.declared.row.Row.{Row}
+use Rattle.solid_data.specs.declared.TheConstants.{PART_LIMIT}
 
 -- the rows of a shell, the row that follows each, how many faces it has, which edges and vertices occur in it, by rising number, and its loops without an edge, each with its vertex
 pub record ShellRows : Type 0 where
@@ -63,9 +64,9 @@ rows_of s (Some shell) = shell_rows s shell
 
 -- what the rows of every shell keep, whatever solid they are of
 pub record AreRows (d : ShellRows) : Type 0 where
-  pub few : length d.rows < 2 ^ 29
-  pub few_faces : d.face_count < 2 ^ 29
-  pub few_points : length d.points < 2 ^ 29
+  pub few : length d.rows < PART_LIMIT
+  pub few_faces : d.face_count < PART_LIMIT
+  pub few_points : length d.points < PART_LIMIT
   pub on_faces : AllByRecursion (λ (r : Row). r.at.face.0 < d.face_count) d.rows
   pub points_on_faces : AllByRecursion (λ (p : LoopAt × ℕ). p.0.face.0 < d.face_count) d.points
   -- two rows of one edge have the same ends, exchanged where their directions differ

@@ -1,6 +1,6 @@
 //! Whether the loops of a shell join.
 
-ghost use Rattle.std.specs.Prelude.{◌≡◌, ◌↔◌, ℕ, ◌+◌, ◌<◌, ◌≤◌, ◌^◌, IsTrue, length, map, slice_get, option_copied, MatchOption, IfSome, IfNone, get_or};
+ghost use Rattle.std.specs.Prelude.{◌≡◌, ◌↔◌, ℕ, ◌+◌, ◌<◌, ◌≤◌, IsTrue, length, map, slice_get, option_copied, MatchOption, IfSome, IfNone, get_or};
 ghost use Rattle.std.specs.List.{enumerate_from};
 ghost use Rattle.solid_data.specs.Ring.{next_of_each};
 ghost use Rattle.solid_data.specs.SolidData.{same_flag, placed_in_face, placed_loops};
@@ -10,6 +10,7 @@ ghost use Rattle.edge_uses.specs.Closed.{begin_of, start_of, end_of, IsJoined};
 ghost use Rattle.edge_uses.specs.ShellRows.{EndsMeet, rows_of};
 ghost use Rattle.edge_uses.specs.ShellObligations.{loop_obligations, join_obligations, IsFirstUnjoined};
 ghost use Rattle.edge_uses.specs.Joining.{AllJoined, IsFirstOpen, IsFewFace, IsFewShell};
+ghost use Rattle.solid_data.specs.declared.TheConstants.{PART_LIMIT};
 
 use solid_data::{Edge, FaceAt, FaceUse, Loop, LoopAt, LoopUse, Shell, ShellAt, Solid, VertexId};
 
@@ -72,7 +73,7 @@ fn ends_where_next_starts(solid: &Solid, uses: &[LoopUse], i: usize) -> bool
 
 // The first tuple of a loop, from 1, that doesn't end where the next one starts.
 fn open_use(solid: &Solid, walk: &Loop) -> Option<u32>
-    requires { length walk.now.uses < 2 ^ 29 }
+    requires { length walk.now.uses < PART_LIMIT }
     ensures { MatchOption result (IsJoined solid.now walk.now)
         (λ place. FirstFalse (loop_obligations solid.now walk.now) (record { rule = RuleUnjoined; entity = walk.now.entity; place = place })) }
 {

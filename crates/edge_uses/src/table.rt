@@ -35,6 +35,7 @@ impl Model for Rows {
 
 impl Rows {
     ghost use Rattle.std.specs.Prelude.{◌≡◌, ℕ, ◌<◌, ◌^◌, length, slice_get, option_map, IfOk};
+    ghost use Rattle.solid_data.specs.declared.TheConstants.{PART_LIMIT};
     ghost use Rattle.solid_data.specs.SolidData.{placed_loops};
     ghost use Rattle.solid_data.specs.declared.solid.LoopAt.{LoopAt as LoopPlace};
     ghost use Rattle.solid_data.specs.declared.solid.VertexId.{VertexId as AnyVertexId};
@@ -172,7 +173,7 @@ impl Rows {
     pub(crate) fn of_shell(alloc: Global, solid: &Solid, shell: &Shell) -> Result<Rows, NoMemory>
         requires known { HasKnownParts solid.now shell.now }
         requires few { IsFewShell shell.now }
-        requires room { length (uses_of (placed_loops shell.now)) < 2 ^ 29 }
+        requires room { length (uses_of (placed_loops shell.now)) < PART_LIMIT }
         requires whole { AreRows (shell_rows solid.now shell.now) }
         ensures { IfOk result (λ r. r ≡ shell_rows solid.now shell.now) }
     {

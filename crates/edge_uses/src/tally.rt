@@ -1,10 +1,11 @@
 //! How often each edge of a shell is run along and against.
 
-ghost use Rattle.std.specs.Prelude.{◌≡◌, ◌<◌, ◌^◌, Contains, IfOk};
+ghost use Rattle.std.specs.Prelude.{◌≡◌, ◌<◌, Contains, IfOk};
 ghost use Rattle.edge_uses.specs.Cells.{cell_of, with_cell};
 ghost use Rattle.edge_uses.specs.Ranges.{IsSpanOf, IsWithin};
 ghost use Rattle.edge_uses.specs.ShellRows.{AreRows};
 ghost use Rattle.edge_uses.specs.Tally.{seen_once_more, IsTally};
+ghost use Rattle.solid_data.specs.declared.TheConstants.{PART_LIMIT};
 
 use crate::cells::Cells;
 use crate::row::Row;
@@ -52,8 +53,8 @@ impl<'a> Model for Tally<'a> {
 }
 
 fn once_more(seen: Seen, r: u32, along: bool) -> Seen
-    requires along { seen.along < 2 ^ 29 }
-    requires against { seen.against < 2 ^ 29 }
+    requires along { seen.along < PART_LIMIT }
+    requires against { seen.against < PART_LIMIT }
     ensures { result ≡ seen_once_more seen r along }
 {
     if along {
@@ -75,7 +76,7 @@ fn see(cells: &mut Cells<'_, Seen>, row: Row, r: u32)
     requires known { Contains cells.old.numbers row.edge.0 }
     requires within { IsWithin cells.old.span row.edge.0 }
     requires few { let seen = cell_of cells.old row.edge.0 in
-        (seen.along < 2 ^ 29) × (seen.against < 2 ^ 29) }
+        (seen.along < PART_LIMIT) × (seen.against < PART_LIMIT) }
     ensures { cells.new ≡ with_cell cells.old row.edge.0
         (seen_once_more (cell_of cells.old row.edge.0) r row.along) }
 {

@@ -1,6 +1,6 @@
 //! Rows that reach the faces of a shell.
 
-ghost use Rattle.std.specs.Prelude.{◌≡◌, ◌<◌, ◌^◌, ℕ, IfOk, IfErr, MatchOption};
+ghost use Rattle.std.specs.Prelude.{◌≡◌, ◌<◌, ℕ, IfOk, IfErr, MatchOption};
 ghost use Rattle.std.specs.List.{AllByRecursion};
 ghost use Rattle.solid_data.specs.Ring.{numbers_from};
 ghost use Rattle.solid_data.specs.Obligations.{FirstNot};
@@ -10,6 +10,7 @@ ghost use Rattle.shell_reach.specs.Faults.{IsReachFault};
 ghost use Rattle.shell_reach.specs.BreadthFirst.{IsBreadthFirst};
 ghost use Rattle.shell_reach.specs.Flood.{IsFlood, IsDone};
 ghost use Rattle.shell_reach.specs.Reaching.{ReachesAll, row_numbers};
+ghost use Rattle.solid_data.specs.declared.TheConstants.{PART_LIMIT};
 
 use crate::faces::face_rows;
 use crate::fault::ReachFault;
@@ -25,7 +26,7 @@ pub type ReachList = RowList;
 
 fn first_unreached(paired: &Paired<'_>, flood: &Flood, count: usize) -> Option<u32>
     requires count { count ≡ paired.now.face_count }
-    requires few { count < 2 ^ 29 }
+    requires few { count < PART_LIMIT }
     requires flood { IsFlood paired.now flood.now.marks.items flood.now.order.items
         (row_numbers flood.now.rows) }
     requires done { (f : ℕ) → Has flood.now.order.items f

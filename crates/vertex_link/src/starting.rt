@@ -1,11 +1,12 @@
 //! How many rows start at each vertex, and how many loops without an edge lie there.
 
-ghost use Rattle.std.specs.Prelude.{◌≡◌, ℕ, ◌<◌, ◌^◌, Some, length, vec_len, slice_get, slice_set, IfOk};
+ghost use Rattle.std.specs.Prelude.{◌≡◌, ℕ, ◌<◌, Some, length, vec_len, slice_get, slice_set, IfOk};
 ghost use Rattle.std.specs.List.{AllByRecursion};
 ghost use Rattle.solid_data.specs.declared.solid.LoopAt.{LoopAt as LoopPlace};
 ghost use Rattle.edge_uses.specs.Ranges.{IsWithin};
 ghost use Rattle.edge_uses.specs.declared.row.Row.{Row as AnyRow};
 ghost use Rattle.vertex_link.specs.Starting.{one_start_more, one_point_more, AreAllStarts, AreAllPoints};
+ghost use Rattle.solid_data.specs.declared.TheConstants.{PART_LIMIT};
 
 use edge_uses::{Row, Rows, Span};
 use iges_base::NoMemory;
@@ -39,7 +40,7 @@ const NO_POINTS: Points = Points {
 
 // Counts one more row that starts at the vertex; the first of them is kept.
 fn one_start(starts: Starts, r: u32) -> Starts
-    requires { starts.count < 2 ^ 29 }
+    requires { starts.count < PART_LIMIT }
     ensures { result ≡ one_start_more starts r }
 {
     Starts {
@@ -50,7 +51,7 @@ fn one_start(starts: Starts, r: u32) -> Starts
 
 // Counts one more loop without an edge; the last of them is kept.
 fn one_point(points: Points, at: LoopAt) -> Points
-    requires { points.count < 2 ^ 29 }
+    requires { points.count < PART_LIMIT }
     ensures { result ≡ one_point_more points at }
 {
     Points {
@@ -62,7 +63,7 @@ fn one_point(points: Points, at: LoopAt) -> Points
 /// The i-th row, i from 0, which there must be.
 pub fn row_at(rows: &Rows, i: usize) -> Row
     requires row { i < length rows.now.rows }
-    requires few { i < 2 ^ 29 }
+    requires few { i < PART_LIMIT }
     ensures { slice_get rows.now.rows i ≡ Some result }
 {
     rows.row(RowId(i as u32)).unwrap()
@@ -101,7 +102,7 @@ pub fn all_starts(alloc: Global, rows: &Rows, span: Span) -> Result<Vec<Starts>,
 /// How many loops without an edge lie at each vertex of a range that holds the vertices of the shell.
 pub fn all_points(alloc: Global, rows: &Rows, span: Span) -> Result<Vec<Points>, NoMemory>
     requires below { AllByRecursion (λ (p : LoopPlace × ℕ). IsWithin span p.1) rows.now.points }
-    requires few { length rows.now.points < 2 ^ 29 }
+    requires few { length rows.now.points < PART_LIMIT }
     ensures len { IfOk result (λ all. vec_len all ≡ span.count) }
     ensures all { IfOk result (λ all. AreAllPoints rows.now span all.items) }
 {
