@@ -32,6 +32,7 @@ use Rattle.solid_extract.specs.declared.fault.Refusal.{Refusal}
 use Rattle.solid_extract.specs.Extracted.{is_solid, Reaches, here, further, IsExtracted, IsExtractedAs, IsRefused, new_number, new_record, new_values}
 use Rattle.solid_extract.specs.Flooding.{fault_at, IsFlooded, IsLeastFault}
 use Rattle.solid_extract.specs.Making.{records_of, IsFaultless, IsExtractFault, GivesFile, GivesRefusal}
+use Rattle.solid_extract.specs.Taking.{IsKept}
 use Rattle.solid_extract.proofs.Copies.{one_more, all_at, zip_length, filter_map_few}
 use Rattle.solid_extract.proofs.KeptValues.{values_few}
 use Rattle.solid_extract.proofs.One.{IsExtracted-unique, IsRefused-unique, IsExtracted-IsRefused}
@@ -83,7 +84,7 @@ module _ (f : Contents) (kept : List ℕ) where
 
 -- ---- rising numbers name different entries
 
-Rises : ℕ → List ℕ → Type 0
+pub Rises : ℕ → List ℕ → Type 0
 Rises k [] = Unit {0}
 Rises k (m ∷ ms) = (k ≤ m) × Rises (m + 1) ms
 
@@ -92,10 +93,14 @@ unfolding Rises
 rises_behind m [] h = tt
 rises_behind m (x ∷ ms) h = let lt : m < x = h 0 (omega arith) in (omega (arith, lt), rises_behind x ms (tail_rises m (x ∷ ms) h))
 
-rises_all : (ms : List ℕ) → IsStrictlyIncreasing ms → Rises 0 ms
+pub rises_all : (ms : List ℕ) → IsStrictlyIncreasing ms → Rises 0 ms
 unfolding Rises
 rises_all [] h = tt
 rises_all (m ∷ ms) h = (omega arith, rises_behind m ms h)
+
+pub first_rises : (k m : ℕ) (ms : List ℕ) → Rises k (m ∷ ms) → (k ≤ m) × Rises (m + 1) ms
+unfolding Rises
+first_rises k m ms h = h
 
 abbrev pub IsNamed : Contents → ℕ → Type 0
 IsNamed f m = IsSome (named f (pos m))
@@ -237,6 +242,19 @@ module _ (f : Contents) (n : ℕ) (ns : List ℕ) (refusal : Option Refusal) (no
       → IsExtractedAs f n new number
   unfolding extracted_is
   extracted_as_is new number es eg ee en = record { extracted = extracted_is new es eg ee; is = en }
+
+module _ (f : Contents) (n : ℕ) (kept : List ℕ) (k : IsKept f n kept) where
+  pub kept_faultless : AllByRecursion (IsFaultless f) kept
+  kept_faultless = subst (AllByRecursion (IsFaultless f)) (sym k.is) (all_faultless f n k.reached None k.numbers k.solid k.flooded refl k.rising)
+
+  pub kept_rising : IsStrictlyIncreasing kept
+  kept_rising = subst IsStrictlyIncreasing (sym k.is) k.rising.rising
+
+  pub kept_as : (new : Contents) (number : ℕ) → new ≡ record f { entries = map (new_record f kept) (records_of f kept) } → number ≡ new_number kept n → IsExtractedAs f n new number
+  kept_as new number e en =
+      extracted_as_is f n k.reached None k.numbers k.solid k.flooded refl k.rising new number (ap (λ (x : Contents). x.start) e) (ap (λ (x : Contents). x.global) e)
+      (ap (λ (x : Contents). x.entries) e ∙ ap (λ (ms : List ℕ). map (new_record f ms) (records_of f ms)) k.is)
+      (en ∙ ap (λ (ms : List ℕ). new_number ms n) k.is)
 
 -- ---- one answer
 

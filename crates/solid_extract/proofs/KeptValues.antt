@@ -4,10 +4,12 @@ use Rattle.std.specs.List.{enumerate_from}
 use Rattle.std.proofs.Common.{refl, sym, ap, ◌∙◌, arith, get_or, length-append, length-take, length-drop, inl, inr}
 use Rattle.std.proofs.Math.Bool.{or-false}
 use Rattle.std.proofs.lemmas.Bool.{cases_lt, ne_eqb, cond-false}
-use Rattle.std.proofs.lemmas.List.{take_more, map-append, length-map, length-set, set_past}
+use Rattle.std.proofs.Math.ListN.{drop_of_length-le}
+use Rattle.std.proofs.lemmas.List.{take_more, take_all, map-append, length-map, length-set, set_past, set_at, set-get_or, append-nil, append_assoc}
 use Rattle.std.proofs.lemmas.List.FromFn.{length-enumerate_from}
 use Rattle.std.proofs.lemmas.List.Sums.{length-filter, count_by-le-length}
 use Rattle.std.proofs.lemmas.Option.{get_or_from_slice_get, slice_get_within}
+use Rattle.iges_base.proofs.Lists.{open_at, some_at}
 use Rattle.iges_fields.specs.declared.value.Value.{Value}
 use Rattle.iges_fields.specs.declared.value.Value.TheVariants as value
 use Rattle.iges_params.specs.Contents.{Contents}
@@ -57,6 +59,14 @@ mark_next ms new ps i count place lt read en h = record {
 
 -- ---- own values
 
+get_seam : {A : Type 0} (xs : List A) (y : A) (ys : List A) (i : ℕ) → length xs ≡ i → slice_get (xs ++ y ∷ ys) i ≡ Some y
+get_seam [] y ys i e = ap (slice_get (y ∷ ys)) (sym e)
+get_seam (x ∷ xs) y ys i e = ap (slice_get (x ∷ xs ++ y ∷ ys)) (sym e) ∙ get_seam xs y ys (length xs) refl
+
+-- a value that isn't an integer stays
+pub set_same : (vs : List Value) (i : ℕ) (v w : Value) → slice_get vs i ≡ Some v → w ≡ v → vs ≡ set vs i w
+set_same vs i v w at e = sym (ap (set vs i) (e ∙ sym (get_or_from_slice_get vs i v v at)) ∙ set-get_or vs i v)
+
 value_is : (kept : List ℕ) (own : Own) (k : ℕ) (p c : Bool) (v : Value) → p ≡ is_among own.pointers k → c ≡ is_among own.cut k → value_as kept p c v ≡ new_value kept own k v
 value_is kept own k p c value.Default ep ec = refl
 value_is kept own k p c (value.Int n) ep ec =
@@ -65,7 +75,7 @@ value_is kept own k p c (value.Int n) ep ec =
 value_is kept own k p c (value.Real w) ep ec = refl
 value_is kept own k p c (value.Text t) ep ec = refl
 
-abbrev as_kept : List ℕ → Own → ℕ × Value → Value
+abbrev pub as_kept : List ℕ → Own → ℕ × Value → Value
 as_kept kept own v = new_value kept own v.0 v.1
 
 pub next_value : (kept : List ℕ) (own : Own) (vs : List Value) (i : ℕ) (v : Value) (p c : Bool) (list new : List Value) → slice_get vs i ≡ Some v → p ≡ is_among own.pointers (i + 1) → c ≡ is_among own.cut (i + 1)
@@ -81,6 +91,38 @@ next_value kept own vs i v p c list new at ep ec inv en =
     ∙ (map-append (as_kept kept own) (enumerate_from 1 (take i vs)) ((1 + length (take i vs), get_or vs i value.Default) ∷ [])
     ∙ (ap (λ (x : Value). map (as_kept kept own) (enumerate_from 1 (take i vs)) ++ new_value kept own (1 + length (take i vs)) x ∷ []) got
     ∙ ap (λ (n : ℕ). map (as_kept kept own) (enumerate_from 1 (take i vs)) ++ new_value kept own n v ∷ []) long))))))
+
+-- the values of which the first i are as they are kept
+module _ (kept : List ℕ) (own : Own) (vs : List Value) where
+  abbrev pub renewed : ℕ → List Value
+  renewed i = map (as_kept kept own) (enumerate_from 1 (take i vs)) ++ drop i vs
+
+  front_long : (i : ℕ) → i ≤ length vs → length (map (as_kept kept own) (enumerate_from 1 (take i vs))) ≡ i
+  front_long i le = omega (arith, length-map (enumerate_from 1 (take i vs)) (as_kept kept own), length-enumerate_from 1 (take i vs), length-take i vs, le)
+
+  pub renewed_long : (i : ℕ) (list : List Value) → i ≤ length vs → list ≡ renewed i → length list ≡ length vs
+  renewed_long i list le e = omega (arith, ap length e, length-append (map (as_kept kept own) (enumerate_from 1 (take i vs))) (drop i vs), front_long i le, length-drop i vs, le)
+
+  pub renewed_next : (i : ℕ) (p c : Bool) (list new : List Value) → i < length vs → p ≡ is_among own.pointers (i + 1) → c ≡ is_among own.cut (i + 1) → list ≡ renewed i
+      → ((v : Value) → slice_get list i ≡ Some v → new ≡ set list i (value_as kept p c v)) → new ≡ renewed (i + 1)
+  renewed_next i p c list new lt ep ec inv put =
+      let q = some_at vs i lt in
+      let front = map (as_kept kept own) (enumerate_from 1 (take i vs)) in
+      let rest = drop (i + 1) vs in
+      let opened : list ≡ map (as_kept kept own) (enumerate_from 1 (take i vs)) ++ q.0 ∷ drop (i + 1) vs = inv ∙ ap (λ (xs : List Value). map (as_kept kept own) (enumerate_from 1 (take i vs)) ++ xs) (open_at vs i q.0 q.1) in
+      let long = front_long i (omega (arith, lt)) in
+      let there : slice_get list i ≡ Some q.0 = ap (λ (xs : List Value). slice_get xs i) opened ∙ get_seam front q.0 rest i long in
+      put q.0 there
+      ∙ (ap (λ (xs : List Value). set xs i (value_as kept p c q.0)) opened
+      ∙ (set_at front q.0 rest (value_as kept p c q.0) i long
+      ∙ (sym (append_assoc front (value_as kept p c q.0 ∷ []) rest)
+      ∙ ap (λ (xs : List Value). xs ++ drop (i + 1) vs) (next_value kept own vs i q.0 p c front (front ++ value_as kept p c q.0 ∷ []) q.1 ep ec refl refl))))
+
+  pub renewed_all : (i : ℕ) (list : List Value) → length vs ≤ i → list ≡ renewed i → list ≡ map (as_kept kept own) (enumerate_from 1 vs)
+  renewed_all i list le e =
+      e ∙ (ap (λ (xs : List Value). map (as_kept kept own) (enumerate_from 1 (take i vs)) ++ xs) (drop_of_length-le vs le)
+      ∙ (append-nil (map (as_kept kept own) (enumerate_from 1 (take i vs)))
+      ∙ ap (λ (xs : List Value). map (as_kept kept own) (enumerate_from 1 xs)) (take_all i vs le)))
 
 -- ---- how many they are
 

@@ -4,7 +4,7 @@ ghost use Rattle.iges_fields.specs.InLine.{is_value};
 ghost use Rattle.iges_params.specs.Global.{have_kinds};
 ghost use Rattle.std.specs.Prelude.{◌≡◌, ◌∷◌, ◌++◌, [], IfOk, IsTrue, OnOk};
 
-use iges_fields::{NoMemory, Value, Values};
+use iges_fields::{Delimiters, NoMemory, Value, Values};
 use iges_params::{File, Global26};
 use std::alloc::Global;
 
@@ -16,7 +16,8 @@ fn push_copy(list: &mut Values, alloc: Global, value: &Value) -> Result<(), NoMe
     list.push(copy)
 }
 
-fn copied_values(alloc: Global, values: &Values) -> Result<Values, NoMemory>
+/// A copy of values.
+pub fn copied_values(alloc: Global, values: &Values) -> Result<Values, NoMemory>
     ensures { IfOk result (λ list. list ≡ values.now) }
 {
     let mut list = Values::with_room(alloc, values.len())?;
@@ -46,4 +47,15 @@ pub fn begun(alloc: Global, file: &File) -> Result<File, NoMemory>
         new.push_start(file.start(i).unwrap())?;
     }
     Ok(new)
+}
+
+/// A file with these delimiters, a blank start line and no entry, which is to take the front of another.
+pub fn blank(alloc: Global, delims: Delimiters) -> Result<File, NoMemory>
+    ensures { IfOk result (λ new. new.entries ≡ []) }
+{
+    let global = Global26 {
+        delims,
+        values: Values::new(alloc),
+    };
+    File::new(alloc, &[b' '; 72], global)
 }

@@ -1,15 +1,17 @@
 //! The file of one solid.
 
 ghost use Rattle.entry_references.specs.declared.fault.ExtractReason.{ExtractReason as Reason};
-ghost use Rattle.iges_base.specs.declared.TheConstants.{FILE_LIMIT};
+ghost use Rattle.iges_base.specs.declared.TheConstants.{ENTRY_LIMIT, FILE_LIMIT};
 ghost use Rattle.iges_params.specs.Contents.{Contents, value_count};
-ghost use Rattle.iges_params.specs.Made.{IsMade};
+ghost use Rattle.iges_params.specs.Named.{named};
 ghost use Rattle.solid_extract.specs.Extracted.{IsExtracted, IsExtractedAs, IsRefused, is_solid, new_record};
 ghost use Rattle.solid_extract.specs.Making.{GivesFile, GivesRefusal, IsExtractFault, IsFaultless, records_of};
+ghost use Rattle.solid_extract.specs.Taking.{IsKept, IsWithout};
 ghost use Rattle.std.specs.List.{AllByRecursion};
-ghost use Rattle.std.specs.Prelude.{◌≡◌, ◌+◌, ◌∷◌, ◌++◌, ◌<◌, ◌≤◌, ℕ, [], IfErr, IfOk, OnOk, length, map};
+ghost use Rattle.std.specs.List.Sorted.{IsStrictlyIncreasing};
+ghost use Rattle.std.specs.Prelude.{◌≡◌, ◌+◌, ◌∷◌, ◌++◌, ◌<◌, ◌≤◌, ℕ, [], IfErr, IfOk, IsSome, OnOk, length, map, pos};
 
-use crate::copying::begun;
+use crate::copying::{begun, blank, copied_values};
 use crate::fault::ExtractFault;
 use crate::new_values::new_values;
 use crate::reaching::reach;
@@ -26,8 +28,8 @@ pub struct Extraction {
     pub no: EntryNo,
 }
 
-// Puts the entry that a number names, as it is kept. It has no fault, so that its shape is given unless memory runs out.
-// `marks` is a scratch buffer.
+// Puts the entry that a number names, as it is kept, with copied values. It has no fault, so that its shape is given unless
+// memory runs out. `marks` is a scratch buffer.
 fn push_kept(
     new: &mut File,
     alloc: Global,
@@ -37,7 +39,7 @@ fn push_kept(
     marks: &mut Vec<bool>,
 ) -> Result<(), NoMemory>
     requires faultless { IsFaultless file.now no.0 }
-    requires entries { length new.old.entries < 4_999_999 }
+    requires entries { length new.old.entries < ENTRY_LIMIT }
     requires values { value_count new.old.entries + value_count (records_of file.now (no.0 ∷ []))
         ≤ FILE_LIMIT }
     ensures { OnOk result (new.new ≡ record new.old {
@@ -49,8 +51,38 @@ fn push_kept(
     let Ok(shape) = shape_of(alloc, record.entry, record.values) else {
         return Err(NoMemory);
     };
-    let values = new_values(alloc, file, renaming, record.values, &shape, marks)?;
+    let copies = copied_values(alloc, record.values)?;
+    let values = new_values(alloc, file, renaming, copies, &shape, marks)?;
     new.push(renaming.entry(record.entry), values)
+}
+
+// The same with the values themselves, which are taken from the file.
+fn push_taken(
+    new: &mut File,
+    alloc: Global,
+    file: &mut File,
+    renaming: &Renaming,
+    no: EntryNo,
+    marks: &mut Vec<bool>,
+) -> Result<(), NoMemory>
+    requires named { IsSome (named file.old (pos no.0)) }
+    requires entries { length new.old.entries < ENTRY_LIMIT }
+    requires values { value_count new.old.entries + value_count (records_of file.old (no.0 ∷ []))
+        ≤ FILE_LIMIT }
+    ensures put { OnOk result (new.new ≡ record new.old {
+      entries = new.old.entries
+          ++ map (new_record file.old renaming.now) (records_of file.old (no.0 ∷ []));
+    }) }
+    ensures taken { OnOk result (IsWithout file.old no.0 file.new) }
+{
+    let record = record_of(file, no).unwrap();
+    let Ok(shape) = shape_of(alloc, record.entry, record.values) else {
+        return Err(NoMemory);
+    };
+    let entry = renaming.entry(record.entry);
+    let taken = file.take_values(alloc, (no.0 / 2) as usize);
+    let values = new_values(alloc, file, renaming, taken, &shape, marks)?;
+    new.push(entry, values)
 }
 
 // The file of the entries that are kept.
@@ -72,6 +104,27 @@ fn kept_file(alloc: Global, file: &File, renaming: &Renaming) -> Result<File, No
     Ok(new)
 }
 
+// The same of a file that isn't needed any more: what is kept of it is moved.
+fn turned_into_kept(alloc: Global, mut file: File, renaming: &Renaming) -> Result<File, NoMemory>
+    requires faultless { AllByRecursion (IsFaultless file) renaming.now }
+    requires rising { IsStrictlyIncreasing renaming.now }
+    requires values { value_count (records_of file renaming.now) ≤ FILE_LIMIT }
+    ensures { IfOk result (λ new. new ≡ record file {
+      entries = map
+          (new_record file renaming.now) (records_of file renaming.now);
+    }) }
+{
+    let mut new = blank(alloc, file.global().delims)?;
+    let kept = renaming.kept();
+    let mut marks = Vec::new(alloc);
+    'entries: for i in 0..kept.len() {
+        let no = kept.get(i).unwrap();
+        push_taken(&mut new, alloc, &mut file, renaming, *no, &mut marks)?;
+    }
+    new.take_front(file);
+    Ok(new)
+}
+
 fn is_solid(file: &File, no: EntryNo) -> bool
     ensures { result ≡ is_solid file.now no.0 }
 {
@@ -81,9 +134,9 @@ fn is_solid(file: &File, no: EntryNo) -> bool
     }
 }
 
-// The file of a solid alone, and the solid's directory number in it.
-fn extracted_as(alloc: Global, file: &File, no: EntryNo) -> Result<Extraction, ExtractFault>
-    ensures found { IfOk result (λ x. IsExtractedAs file.now no.0 x.file x.no.0) }
+// What a solid keeps, with the new numbers.
+fn renaming_of(alloc: Global, file: &File, no: EntryNo) -> Result<Renaming, ExtractFault>
+    ensures found { IfOk result (IsKept file.now no.0) }
     ensures fault { IfErr result (IsExtractFault file.now no.0) }
 {
     if !is_solid(file, no) {
@@ -101,7 +154,27 @@ fn extracted_as(alloc: Global, file: &File, no: EntryNo) -> Result<Extraction, E
     }
     let kept = flood.reached.rising(alloc)?;
     let renaming = Renaming::new(alloc, kept, file.entry_count())?;
+    Ok(renaming)
+}
+
+fn extracted_as(alloc: Global, file: &File, no: EntryNo) -> Result<Extraction, ExtractFault>
+    ensures found { IfOk result (λ x. IsExtractedAs file.now no.0 x.file x.no.0) }
+    ensures fault { IfErr result (IsExtractFault file.now no.0) }
+{
+    let renaming = renaming_of(alloc, file, no)?;
     let new = kept_file(alloc, file, &renaming)?;
+    Ok(Extraction {
+        file: new,
+        no: renaming.number(no),
+    })
+}
+
+fn turned_into_extracted(alloc: Global, file: File, no: EntryNo) -> Result<Extraction, ExtractFault>
+    ensures found { IfOk result (λ x. IsExtractedAs file no.0 x.file x.no.0) }
+    ensures fault { IfErr result (IsExtractFault file no.0) }
+{
+    let renaming = renaming_of(alloc, &file, no)?;
+    let new = turned_into_kept(alloc, file, &renaming)?;
     Ok(Extraction {
         file: new,
         no: renaming.number(no),
@@ -113,6 +186,13 @@ fn extracted(alloc: Global, file: &File, no: EntryNo) -> Result<File, ExtractFau
     ensures fault { IfErr result (IsExtractFault file.now no.0) }
 {
     Ok(extracted_as(alloc, file, no)?.file)
+}
+
+fn extracted_of(alloc: Global, file: File, no: EntryNo) -> Result<File, ExtractFault>
+    ensures found { IfOk result (IsExtracted file no.0) }
+    ensures fault { IfErr result (IsExtractFault file no.0) }
+{
+    Ok(turned_into_extracted(alloc, file, no)?.file)
 }
 
 /// The file of a solid: the entries that a chain of references reaches from it, in rising order, renamed 1, 3, 5 and so
@@ -128,10 +208,34 @@ pub fn extract(alloc: Global, file: &File, no: EntryNo) -> Result<File, ExtractF
     extracted(alloc, file, no)
 }
 
+/// The same as `extract`, of a file that isn't needed any more: the values that are kept stay in their memory (own).
+pub fn into_extract(alloc: Global, file: File, no: EntryNo) -> Result<File, ExtractFault>
+    ensures found { IfOk result (IsExtracted file no.0) }
+    ensures only { (new : Contents) → IsExtracted file no.0 new → GivesFile result new }
+    ensures fault { IfErr result (IsExtractFault file no.0) }
+    ensures only_fault { (entity : ℕ) (reason : Reason) → IsRefused file no.0 entity reason
+        → GivesRefusal result entity reason }
+{
+    extracted_of(alloc, file, no)
+}
+
 /// The file of a solid as `extract` gives it, with the solid's number in it, or the refusal of `extract` (own).
 pub fn extract_numbered(alloc: Global, file: &File, no: EntryNo) -> Result<Extraction, ExtractFault>
     ensures found { IfOk result (λ x. IsExtractedAs file.now no.0 x.file x.no.0) }
     ensures fault { IfErr result (IsExtractFault file.now no.0) }
 {
     extracted_as(alloc, file, no)
+}
+
+/// The same as `extract_numbered`, of a file that isn't needed any more: the values that are kept stay in their memory
+/// (own).
+pub fn into_extract_numbered(
+    alloc: Global,
+    file: File,
+    no: EntryNo,
+) -> Result<Extraction, ExtractFault>
+    ensures found { IfOk result (λ x. IsExtractedAs file no.0 x.file x.no.0) }
+    ensures fault { IfErr result (IsExtractFault file no.0) }
+{
+    turned_into_extracted(alloc, file, no)
 }

@@ -11,7 +11,7 @@ mod renaming;
 
 pub use copying::begun;
 pub use entry_references::{EntryList, ExtractReason, RefFault, references};
-pub use extraction::{Extraction, extract, extract_numbered};
+pub use extraction::{Extraction, extract, extract_numbered, into_extract, into_extract_numbered};
 pub use fault::ExtractFault;
 pub use law::{
     extracted_again, extracted_is_made, items_are_kept, one_extraction, records_are_kept,

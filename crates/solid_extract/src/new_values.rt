@@ -1,12 +1,12 @@
 //! The values that a kept entry has.
 
 ghost use Rattle.entry_references.specs.Refs.{is_name, number_of};
-ghost use Rattle.iges_fields.specs.InLine.{is_value};
+ghost use Rattle.iges_fields.specs.declared.value.Value.{Value as OneValue};
 ghost use Rattle.iges_base.specs.declared.TheConstants.{FILE_LIMIT};
 ghost use Rattle.solid_extract.specs.Extracted.{new_value, renamed};
 ghost use Rattle.solid_extract.specs.NewValues.{AreMarkedPlaces, names_behind, new_numbers, value_as, with_mark};
 ghost use Rattle.std.specs.List.{enumerate_from};
-ghost use Rattle.std.specs.Prelude.{◌≡◌, ◌+◌, ◌∷◌, ◌++◌, ◌<◌, ◌≤◌, ◌^◌, [], IfOk, IsTrue, OnOk, drop, filter, filter_map, if◌then◌else◌, length, map, pos, take};
+ghost use Rattle.std.specs.Prelude.{◌≡◌, ◌+◌, ◌∷◌, ◌++◌, ◌<◌, ◌≤◌, ◌^◌, IfOk, MatchOption, OnOk, Some, drop, filter, filter_map, if◌then◌else◌, length, map, pos, set, slice_get, take};
 
 use crate::renaming::Renaming;
 use entry_references::{Group, Own, Shape, mark_at, push_names};
@@ -49,52 +49,50 @@ fn new_integer(renaming: &Renaming, n: i64, is_pointer: bool, is_cut: bool) -> i
     }
 }
 
-fn push_value(
-    list: &mut Values,
-    alloc: Global,
-    renaming: &Renaming,
-    value: &Value,
-    is_pointer: bool,
-    is_cut: bool,
-) -> Result<(), NoMemory>
-    requires { IsTrue (is_value value.now) }
-    ensures { OnOk result (list.new ≡ list.old ++ value_as renaming.now is_pointer is_cut value.now
-        ∷ []) }
+// The integer that takes the value's place; None where the value stays.
+fn integer_for(renaming: &Renaming, value: &Value, is_pointer: bool, is_cut: bool) -> Option<i64>
+    ensures { MatchOption result (value_as renaming.now is_pointer is_cut value.now ≡ value.now)
+        (λ n. value_as renaming.now is_pointer is_cut value.now ≡ OneValue.Int n) }
 {
     match value {
-        Value::Default => list.push(Value::Default),
-        Value::Int(n) => list.push(Value::Int(new_integer(renaming, *n, is_pointer, is_cut))),
-        _ => {
-            let copy = value.copy(alloc)?;
-            list.push(copy)
-        }
+        Value::Int(n) => Some(new_integer(renaming, *n, is_pointer, is_cut)),
+        _ => None,
     }
 }
 
-// The own values as they are kept. `marks` is a scratch buffer.
-fn own_values(
-    alloc: Global,
+// Puts in place of the i-th value, i from 0, what it is as it is kept.
+fn renew(values: &mut Values, renaming: &Renaming, i: usize, is_pointer: bool, is_cut: bool)
+    requires { i < length values.old }
+    ensures { (v : OneValue) → slice_get values.old i ≡ Some v
+        → values.new ≡ set values.old i (value_as renaming.now is_pointer is_cut v) }
+{
+    let value = values.get(i).unwrap();
+    if let Some(number) = integer_for(renaming, value, is_pointer, is_cut) {
+        values.set(i, Value::Int(number));
+    }
+}
+
+// Keeps the own values alone, each as it is kept. `marks` is a scratch buffer.
+fn renew_own(
+    values: &mut Values,
     renaming: &Renaming,
     own: &Own,
-    values: &Values,
     marks: &mut Vec<bool>,
-) -> Result<Values, NoMemory>
-    ensures { IfOk result (λ list. list ≡ map
-        (λ v. new_value renaming.now own.now v.0 v.1)
-        (enumerate_from 1 (take own.now.count values.now))) }
+) -> Result<(), NoMemory>
+    ensures { OnOk result (values.new ≡ map (λ v. new_value renaming.now own.now v.0 v.1)
+        (enumerate_from 1 (take own.now.count values.old))) }
 {
-    let count = own.count.min(values.len());
+    values.truncate(own.count);
+    let count = values.len();
     mark_places(marks, own.pointers.as_slice(), count)?;
     let pointers = marks.as_slice();
     let cut = own.cut.as_slice();
-    let mut list = Values::with_room(alloc, count)?;
     'values: for i in 0..count {
-        let value = values.get(i).unwrap();
         let is_pointer = mark_at(pointers, i);
         let is_cut = cut.contains(&(i + 1));
-        push_value(&mut list, alloc, renaming, value, is_pointer, is_cut)?;
+        renew(values, renaming, i, is_pointer, is_cut);
     }
-    Ok(list)
+    Ok(())
 }
 
 fn push_renamed(
@@ -147,22 +145,22 @@ fn names_in(
 }
 
 /// The values that a record has where it is kept: its own values, and after them the names, where there are any (own).
-/// `marks` is a scratch buffer.
+/// They take the place of those that it had, in the same memory. `marks` is a scratch buffer.
 pub fn new_values(
     alloc: Global,
     file: &File,
     renaming: &Renaming,
-    values: &Values,
+    mut values: Values,
     shape: &Shape,
     marks: &mut Vec<bool>,
 ) -> Result<Values, NoMemory>
-    requires few { length values.now ≤ FILE_LIMIT }
+    requires few { length values ≤ FILE_LIMIT }
     requires small { shape.now.names.before + shape.now.names.count < 2 ^ 32 }
-    ensures { IfOk result (λ list. list ≡ map (λ v. new_value renaming.now shape.now.own v.0 v.1) (enumerate_from 1 (take shape.now.own.count values.now))
-        ++ names_behind (new_numbers renaming.now (filter (is_name file.now) (filter_map number_of (take shape.now.names.count (drop shape.now.names.before values.now)))))) }
+    ensures { IfOk result (λ list. list ≡ map (λ v. new_value renaming.now shape.now.own v.0 v.1) (enumerate_from 1 (take shape.now.own.count values))
+        ++ names_behind (new_numbers renaming.now (filter (is_name file.now) (filter_map number_of (take shape.now.names.count (drop shape.now.names.before values)))))) }
 {
-    let mut list = own_values(alloc, renaming, &shape.own, values, marks)?;
-    let names = names_in(alloc, file, values, shape.names)?;
-    push_groups(&mut list, renaming, &names)?;
-    Ok(list)
+    let names = names_in(alloc, file, &values, shape.names)?;
+    renew_own(&mut values, renaming, &shape.own, marks)?;
+    push_groups(&mut values, renaming, &names)?;
+    Ok(values)
 }

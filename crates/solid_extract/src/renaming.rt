@@ -1,6 +1,7 @@
 //! The new numbers of the entries that are kept.
 
 ghost use Rattle.entry_references.specs.EntrySets.{IsWithin, numbers_of};
+ghost use Rattle.iges_base.specs.declared.TheConstants.{ENTRY_LIMIT, LINE_LIMIT};
 ghost use Rattle.iges_directory.specs.Bounds.{IsBounded, fits_columns};
 ghost use Rattle.solid_extract.specs.Extracted.{if_number, new_entry, new_number, renamed};
 ghost use Rattle.solid_extract.specs.Renaming.{place_of};
@@ -41,7 +42,7 @@ fn if_number(number: i64) -> i64
 
 // The directory number of the entry at a place, from 0.
 fn number_of_place(place: usize) -> i64
-    requires { place ≤ 4_999_999 }
+    requires { place ≤ ENTRY_LIMIT }
     ensures { result ≡ pos (2 * place + 1) }
 {
     2 * place as i64 + 1
@@ -51,7 +52,7 @@ impl Renaming {
     /// Of a file of so many entries these are kept, in this order.
     pub fn new(alloc: Global, kept: EntryList, size: usize) -> Result<Renaming, NoMemory>
         requires within { AllByRecursion (IsWithin size) (numbers_of kept) }
-        requires few { length kept ≤ 4_999_999 }
+        requires few { length kept ≤ ENTRY_LIMIT }
         ensures { IfOk result (λ renaming. renaming ≡ numbers_of kept) }
     {
         let mut places = vec![in alloc; kept.len(); size]?;
@@ -67,7 +68,7 @@ impl Renaming {
     /// The entries that are kept, by the numbers that they had, in the order of the new ones.
     pub fn kept(&self) -> &EntryList
         ensures is { numbers_of result.now ≡ self.now }
-        ensures few { length self.now ≤ 4_999_999 }
+        ensures few { length self.now ≤ ENTRY_LIMIT }
     {
         &self.kept
     }
@@ -75,7 +76,7 @@ impl Renaming {
     // Where the number is among those that are kept, from 0, or how many these are.
     fn place(&self, number: u64) -> usize
         ensures is { result ≡ place_of self.now number }
-        ensures few { result ≤ 4_999_999 }
+        ensures few { result ≤ ENTRY_LIMIT }
     {
         let at = (number / 2) as usize;
         if number % 2 == 1 && at < self.places.len() {
@@ -95,7 +96,7 @@ impl Renaming {
     /// The new number; 0 stays.
     pub fn renamed(&self, number: i64) -> i64
         ensures is { result ≡ renamed self.now number }
-        ensures few { (n : ℕ) × (result ≡ pos n) × (n ≤ 9_999_999) }
+        ensures few { (n : ℕ) × (result ≡ pos n) × (n ≤ LINE_LIMIT) }
     {
         if number == 0 {
             return 0;
