@@ -1,19 +1,21 @@
 -- The fans that are counted so far at each vertex, and those of the rows that are left.
-use Rattle.std.specs.Prelude.{◌≡◌, ◌≢◌, ◌<◌, ◌≤◌, ◌+◌, ◌-◌, ◌==◌, ◌&&◌, ℕ, suc, Bool, true, false, Contains, List, [], ◌∷◌, ◌++◌, length, Some, slice_get, slice_set, if◌then◌else◌}
+use Rattle.std.specs.Prelude.{◌≡◌, ◌≢◌, ◌<◌, ◌≤◌, ◌+◌, ◌-◌, ◌^◌, ◌==◌, ◌&&◌, ℕ, suc, Bool, true, false, Contains, List, [], ◌∷◌, ◌++◌, length, Some, slice_get, slice_set, replicate, if◌then◌else◌}
 use Rattle.std.proofs.Common.{refl, sym, ◌∙◌, ap, subst, arith, ⊎_elim, get_or, drop}
 use Rattle.std.proofs.lemmas.Bool.Decides.{eqb_tells}
-use Rattle.std.proofs.lemmas.List.{drop_all, length-set}
+use Rattle.std.proofs.lemmas.List.{drop_all, get_or-replicate, length-replicate, length-set}
 use Rattle.std.proofs.lemmas.Option.{slice_get_within, get_or_from_slice_get}
 use Rattle.solid_data.proofs.Members.{All-at, has_get, split_at, count_by-total, Has-from_Contains}
 use Rattle.solid_data.specs.declared.solid.LoopAt.{LoopAt}
 use Rattle.edge_uses.specs.declared.row.Row.{Row}
 use Rattle.edge_uses.specs.declared.spanning.Span.{Span}
+use Rattle.edge_uses.specs.Cells.{Celled}
 use Rattle.edge_uses.specs.Ranges.{IsWithin, IsSpanOf}
 use Rattle.edge_uses.specs.ShellRows.{ShellRows, AreRows}
 use Rattle.edge_uses.proofs.Counting.{times, times_few}
 use Rattle.edge_uses.proofs.Tallies.{one_if, set_same, set_other}
 use Rattle.edge_uses.specs.Closed.{point_count}
 use Rattle.solid_faults.specs.declared.fan.Unlinked.{Unlinked}
+use Rattle.solid_faults.specs.FanCells.{IsOnVertices, counted_more}
 use Rattle.solid_faults.specs.Fans.{fans_from, fan_count, added, AreFanCounts, ArePointCounts, unlinked_at, vertex_unlinked}
 use Rattle.edge_components.proofs.Joined.{has_place}
 
@@ -122,11 +124,84 @@ pub point_within : (d : ShellRows) (span : Span) (i v : ℕ) (at : LoopAt) → A
 point_within d span i v at rows h here = member_within span d.vertices v h (All-at (λ (p : LoopAt × ℕ). Contains d.vertices p.1) d.points rows.points_hold (at, v) (has_get d.points i (at, v) here))
 
 -- what is pushed for a vertex is what is counted there
-pub unlinked_pushed : (d : ShellRows) (span : Span) (leasts fans points : List ℕ) (i v a b : ℕ) (old new : List Unlinked) → IsSpanOf span d.vertices → AreFanCounts d leasts span.least span.count fans → ArePointCounts d span.least span.count points
-    → slice_get d.vertices i ≡ Some v → a ≡ get_or fans (v - span.least) 0 → b ≡ get_or points (v - span.least) 0 → new ≡ old ++ unlinked_at v a b → new ≡ old ++ vertex_unlinked d leasts v
-unlinked_pushed d span leasts fans points i v a b old new is_span is_fans is_points at ea eb e =
-    let w : IsWithin span v = vertex_within d span i v is_span at in
-    let back : span.least + (v - span.least) ≡ v = omega (arith, w.0) in
-    let fan : a ≡ fan_count d leasts v = ea ∙ (is_fans (v - span.least) (omega (arith, w.0, w.1)) ∙ ap (λ n. fan_count d leasts n) back) in
-    let point : b ≡ point_count d v = eb ∙ (is_points (v - span.least) (omega (arith, w.0, w.1)) ∙ ap (λ n. point_count d n) back) in
+pub unlinked_pushed : (d : ShellRows) (leasts : List ℕ) (fans points : Celled ℕ) (i v a b : ℕ) (old new : List Unlinked) → IsOnVertices d fans → AreFanCounts d leasts fans.span.least fans.span.count fans.cells
+    → IsOnVertices d points → ArePointCounts d points.span.least points.span.count points.cells
+    → slice_get d.vertices i ≡ Some v → a ≡ get_or fans.cells (v - fans.span.least) 0 → b ≡ get_or points.cells (v - points.span.least) 0 → new ≡ old ++ unlinked_at v a b → new ≡ old ++ vertex_unlinked d leasts v
+unlinked_pushed d leasts fans points i v a b old new on_fans is_fans on_points is_points at ea eb e =
+    let w : IsWithin fans.span v = vertex_within d fans.span i v on_fans.span at in
+    let u : IsWithin points.span v = vertex_within d points.span i v on_points.span at in
+    let fan : a ≡ fan_count d leasts v = ea ∙ (is_fans (v - fans.span.least) (omega (arith, w.0, w.1)) ∙ ap (λ n. fan_count d leasts n) (let back : fans.span.least + (v - fans.span.least) ≡ v = omega (arith, w.0) in back)) in
+    let point : b ≡ point_count d v = eb ∙ (is_points (v - points.span.least) (omega (arith, u.0, u.1)) ∙ ap (λ n. point_count d n) (let back : points.span.least + (v - points.span.least) ≡ v = omega (arith, u.0) in back)) in
     e ∙ (ap (λ n. old ++ unlinked_at v n b) fan ∙ ap (λ n. old ++ unlinked_at v (fan_count d leasts v) n) point)
+
+-- the same number for each vertex that occurs
+pub on_vertices : (d : ShellRows) (c : Celled ℕ) → AreRows d → c.numbers ≡ d.vertices → IsSpanOf c.span d.vertices → c.blank ≡ 0 → IsOnVertices d c
+on_vertices d c rows numbers span blank = record { rows = rows; numbers = numbers; span = span; blank = blank }
+
+blank_long : (c : Celled ℕ) → c.cells ≡ replicate c.span.count 0 → length c.cells ≡ c.span.count
+blank_long c e = ap (λ xs. length xs) e ∙ length-replicate c.span.count 0
+
+blank_zero : (c : Celled ℕ) (k : ℕ) → c.cells ≡ replicate c.span.count 0 → k < c.span.count → get_or c.cells k 0 ≡ 0
+blank_zero c k e lt = ap (λ xs. get_or xs k 0) e ∙ get_or-replicate c.span.count k 0 0 lt
+
+-- the fans that are counted before row i
+pub record FansBefore (d : ShellRows) (leasts : List ℕ) (i : ℕ) (c : Celled ℕ) : Type 0 where
+  pub on : IsOnVertices d c
+  pub long : length c.cells ≡ c.span.count
+  pub counted : CountedSoFar d leasts c.span.least c.span.count i c.cells
+
+pub fans_first : (d : ShellRows) (leasts : List ℕ) (c : Celled ℕ) → IsOnVertices d c → c.cells ≡ replicate c.span.count 0 → FansBefore d leasts 0 c
+fans_first d leasts c on e = record { on = on; long = blank_long c e; counted = λ k lt. omega (arith, blank_zero c k e lt) }
+
+module _ (d : ShellRows) (leasts : List ℕ) (i : ℕ) (c : Celled ℕ) (row : Row) (t : FansBefore d leasts i c) (at : slice_get d.rows i ≡ Some row) where
+  pub from_known : Contains c.numbers row.from.0
+  from_known = subst (λ ns. Contains ns row.from.0) (sym t.on.numbers) (All-at (λ (r : Row). Contains d.vertices r.from.0 × Contains d.vertices r.to.0) d.rows t.on.rows.vertices_hold row (has_get d.rows i row at)).0
+
+  pub from_inside : IsWithin c.span row.from.0
+  from_inside = from_within d c.span i row t.on.rows t.on.span at
+
+  pub from_few : get_or c.cells (row.from.0 - c.span.least) 0 < 2 ^ 29
+  from_few =
+      let w = from_inside in
+      let few = so_far_few d leasts c.span.least c.span.count i c.cells (row.from.0 - c.span.least) t.counted (omega (arith, w.0, w.1)) in
+      omega (arith, few, t.on.rows.few)
+
+  pub fans_next : (f : ℕ) (wanted : Bool) (new : Celled ℕ) → slice_get leasts i ≡ Some f → wanted ≡ (f == i) → new ≡ counted_more c row.from.0 wanted → FansBefore d leasts (i + 1) new
+  fans_next f wanted new at_least is_wanted is =
+      let w = from_inside in
+      subst (FansBefore d leasts (i + 1)) (sym is) (record {
+        on = record { rows = t.on.rows; numbers = t.on.numbers; span = t.on.span; blank = t.on.blank };
+        long = length-added c.cells (row.from.0 - c.span.least) wanted ∙ t.long;
+        counted = fan_step d leasts c.span.least c.span.count i row f c.cells (added c.cells (row.from.0 - c.span.least) wanted) wanted at at_least t.long w.0 (omega (arith, w.0, w.1)) is_wanted refl t.counted;
+      })
+
+-- the loops without an edge that are counted before the i-th
+pub record PointsBefore (d : ShellRows) (i : ℕ) (c : Celled ℕ) : Type 0 where
+  pub on : IsOnVertices d c
+  pub long : length c.cells ≡ c.span.count
+  pub counted : PointsSoFar d c.span.least c.span.count i c.cells
+
+pub points_first : (d : ShellRows) (c : Celled ℕ) → IsOnVertices d c → c.cells ≡ replicate c.span.count 0 → PointsBefore d 0 c
+points_first d c on e = record { on = on; long = blank_long c e; counted = λ k lt. omega (arith, blank_zero c k e lt) }
+
+module _ (d : ShellRows) (i : ℕ) (c : Celled ℕ) (v : ℕ) (place : LoopAt) (t : PointsBefore d i c) (at : slice_get d.points i ≡ Some (place, v)) where
+  pub point_known : Contains c.numbers v
+  point_known = subst (λ ns. Contains ns v) (sym t.on.numbers) (All-at (λ (p : LoopAt × ℕ). Contains d.vertices p.1) d.points t.on.rows.points_hold (place, v) (has_get d.points i (place, v) at))
+
+  pub point_inside : IsWithin c.span v
+  point_inside = point_within d c.span i v place t.on.rows t.on.span at
+
+  pub point_few : get_or c.cells (v - c.span.least) 0 < 2 ^ 29
+  point_few =
+      let w = point_inside in
+      let few = points_few d c.span.least c.span.count i c.cells (v - c.span.least) t.counted (omega (arith, w.0, w.1)) in
+      omega (arith, few, t.on.rows.few_points)
+
+  pub points_next : (new : Celled ℕ) → new ≡ counted_more c v true → PointsBefore d (i + 1) new
+  points_next new is =
+      let w = point_inside in
+      subst (PointsBefore d (i + 1)) (sym is) (record {
+        on = record { rows = t.on.rows; numbers = t.on.numbers; span = t.on.span; blank = t.on.blank };
+        long = length-added c.cells (v - c.span.least) true ∙ t.long;
+        counted = point_step d c.span.least c.span.count i v place c.cells (added c.cells (v - c.span.least) true) at t.long w.0 (omega (arith, w.0, w.1)) refl t.counted;
+      })

@@ -16,3 +16,4 @@ pub mod Flagged
 pub mod EdgeRows
 pub mod Placed
 pub mod PartSteps
+pub mod LowSteps

@@ -13,8 +13,8 @@ use Rattle.edge_uses.specs.declared.tally.Seen.{Seen}
 use Rattle.edge_uses.specs.Closed.{row_count}
 use Rattle.edge_uses.specs.Mates.{RunsOn}
 use Rattle.edge_uses.specs.Ranges.{IsWithin, IsSpanOf}
-use Rattle.edge_uses.specs.ShellRows.{ShellRows, AreRows}
-use Rattle.edge_uses.specs.Tally.{IsTally, IsSeen, seen_of}
+use Rattle.edge_uses.specs.ShellRows.{ShellRows}
+use Rattle.edge_uses.specs.Tally.{IsSeen, seen_of}
 use Rattle.edge_uses.proofs.Counting.{counted}
 use Rattle.edge_uses.proofs.Turn.{edge_id}
 use Rattle.edge_components.specs.Components.{Linked, AreJoined, AreInside, AreComponents}
@@ -128,6 +128,3 @@ parts_of_labels d span seen labels t h = record {
       let low = least_of_joined (part_pairs d span seen) d.face_count labels f g (pairs_inside d span seen t) h lt (connected_joined d span seen chain.0 f g chain.1) in
       omega (arith, low, get_or_from_slice_get labels f p 0 at);
 }
-
-pub tallied : (d : ShellRows) (span range : Span) (seen : List Seen) → AreRows d → span ≡ range → IsSpanOf range d.edges → IsTally d span seen → AreTallied d span seen
-tallied d span range seen rows same is_span tally = record { rows = rows; span = subst (λ r. IsSpanOf r d.edges) (sym same) is_span; tally = tally }

@@ -1,5 +1,5 @@
 -- The tables of parts, and the parts that are told from them.
-use Rattle.std.specs.Prelude.{◌≡◌, ◌<◌, ◌≤◌, ◌+◌, ◌==◌, ◌&&◌, ◌||◌, ◌⊎◌, ◌^◌, not, ℕ, suc, Bool, true, false, List, [], ◌∷◌, ◌++◌, length, map, flat_map, slice_get, Some, All, if◌then◌else◌}
+use Rattle.std.specs.Prelude.{◌≡◌, ◌<◌, ◌≤◌, ◌+◌, ◌==◌, ◌&&◌, ◌||◌, ◌⊎◌, ◌^◌, not, ℕ, suc, Bool, true, false, List, [], ◌∷◌, ◌++◌, length, map, flat_map, slice_get, Some, All, Contains, if◌then◌else◌}
 use Rattle.std.specs.List.{enumerate_from, list_any}
 use Rattle.std.specs.Option.{option_to_list}
 use Rattle.std.proofs.Common.{refl, sym, ◌∙◌, ap, subst, arith, inl, inr, ⊎_elim, get_or}
@@ -15,12 +15,13 @@ use Rattle.std.proofs.lemmas.Grind.{flat_map-append}
 use Rattle.std.proofs.lemmas.List.{length-append}
 use Rattle.std.proofs.lemmas.Option.{get_or_from_slice_get}
 use Rattle.std.proofs.lemmas.List.Elements.{All-from_recursion}
-use Rattle.solid_data.proofs.Members.{Has, All-from, Contains-from_Has, Has-from_place, has_flat_map, has_map, from_flat_map, get_some}
+use Rattle.solid_data.proofs.Members.{Has, All-from, Contains-from_Has, Has-from_Contains, Has-from_place, has_flat_map, has_map, from_flat_map, get_some}
 use Rattle.solid_data.proofs.Occurring.{length-numbers, occurs}
 use Rattle.solid_data.proofs.Trail.{leads_here}
 use Rattle.edge_uses.specs.declared.spanning.Span.{Span}
 use Rattle.edge_uses.specs.Before.{face_vertices, faces_vertices}
 use Rattle.edge_uses.specs.Building.{HasKnownParts, uses_in}
+use Rattle.edge_uses.specs.Cells.{Celled}
 use Rattle.edge_uses.specs.Closed.{row_count}
 use Rattle.edge_uses.specs.Ranges.{IsWithin, IsSpanOf}
 use Rattle.edge_uses.specs.ShellRows.{ShellRows, shell_rows, rows_of}
@@ -30,7 +31,7 @@ use Rattle.edge_uses.proofs.Whole.{few_edges, vertices_known}
 use Rattle.solid_faults.specs.Edges.{unpaired_at, edge_unpaired, unpaired_of}
 use Rattle.edge_components.specs.FaceUses.{loop_edges, face_edges}
 use Rattle.solid_faults.specs.PartFacts.{faces_where, faces_before, part_faces, part_vertices, part_touching}
-use Rattle.solid_faults.specs.PartTables.{faces_numbered, low_vertex, AreLows}
+use Rattle.solid_faults.specs.PartTables.{faces_numbered, low_vertex, IsLowest}
 use Rattle.edge_components.specs.Groups.{place_if, places_of}
 use Rattle.solid_faults.specs.Parts.{ShareEdge, AreParts}
 use Rattle.edge_components.specs.Trees.{AreTrees}
@@ -126,12 +127,16 @@ unpaired_few s h d us numbered rows is =
     let short : length d.edges ≤ length s.edges = omega (arith, ap (length {A = ℕ}) edges, occurring_short (numbers_from 0 (length s.edges)) (shell_edges h), length-numbers 0 (length s.edges)) in
     omega (arith, long, short, few_edges s numbered)
 
-pub vertices_within : (s : SolidData) (h : Shell) (d : ShellRows) (range : Span) → IsNumberedSolid s → Has s.shells h → d ≡ shell_rows s h → IsSpanOf range d.vertices → All (IsWithin range) (faces_vertices s h)
+-- what a shell's faces use occurs in it
+pub vertices_occur : (s : SolidData) (h : Shell) (d : ShellRows) → IsNumberedSolid s → Has s.shells h → d ≡ shell_rows s h → All (Contains d.vertices) (faces_vertices s h)
 unfolding shell_rows
-vertices_within s h d range numbered has rows span = all_from (IsWithin range) (faces_vertices s h) (λ x m.
+vertices_occur s h d numbered has rows = all_from (Contains d.vertices) (faces_vertices s h) (λ x m.
     let used : Has (shell_vertices s h) x = subst (λ ys. Has ys x) (sym (shell_flat s h)) m in
     let among : Has d.vertices x = subst (λ (e : ShellRows). Has e.vertices x) (sym rows) (occurs (length s.vertices) (shell_vertices s h) x (vertices_known s h numbered has x used) used) in
-    all_at (IsWithin range) d.vertices x span.holds among)
+    Contains-from_Has d.vertices x among)
+
+pub vertices_within : (ns ms : List ℕ) (range : Span) → IsSpanOf range ns → All (Contains ns) ms → All (IsWithin range) ms
+vertices_within ns ms range span occur = all_from (IsWithin range) ms (λ x m. all_at (IsWithin range) ns x span.holds (Has-from_Contains ns x (all_at (Contains ns) ms x occur m)))
 
 pub firsts_each : (s : SolidData) (h : Shell) (d : ShellRows) (firsts : List ℕ) → d ≡ shell_rows s h → AreParts d firsts → length firsts ≡ length h.faces
 unfolding shell_rows
@@ -205,11 +210,11 @@ part_within s h firsts p range within = all_from (IsWithin range) (part_vertices
     all_at (IsWithin range) (faces_vertices s h) x within (part_uses (face_vertices s) h firsts p x (from_occurring (numbers_from 0 (length s.vertices)) (flat_map (face_vertices s) (part_faces h firsts p)) x m)))
 
 -- those that are marked by a part before are those that occur in one
-pub touching_kept : (s : SolidData) (h : Shell) (firsts : List ℕ) (p : ℕ) (range : Span) (marks : List ℕ) → AreLows s h firsts range marks → All (IsWithin range) (part_vertices s h firsts p) → p < 2 ^ 32
-    → flat_map (low_vertex range marks p) (part_vertices s h firsts p) ≡ part_touching s h firsts p
-touching_kept s h firsts p range marks lows within few =
-    sym (kept_occurring (part_vertices s h firsts p) (flat_map (face_vertices s) (faces_before h firsts p)) (low_vertex range marks p) (λ v m.
-    ap (λ b. if b then v ∷ [] else []) (lows.1 v p (all_at (IsWithin range) (part_vertices s h firsts p) v within m) few)))
+pub touching_kept : (s : SolidData) (h : Shell) (firsts : List ℕ) (p : ℕ) (lows : Celled ℕ) → IsLowest s h firsts lows → All (IsWithin lows.span) (part_vertices s h firsts p) → p < 2 ^ 32
+    → flat_map (low_vertex lows p) (part_vertices s h firsts p) ≡ part_touching s h firsts p
+touching_kept s h firsts p lows lowest within few =
+    sym (kept_occurring (part_vertices s h firsts p) (flat_map (face_vertices s) (faces_before h firsts p)) (low_vertex lows p) (λ v m.
+    ap (λ b. if b then v ∷ [] else []) (lowest v p (all_at (IsWithin lows.span) (part_vertices s h firsts p) v within m) few)))
 
 pub rises_to : (n : ℕ) (old new target : List ℕ) → ((m : ℕ) → All (λ k. k < m) old → new ≡ occurring (numbers_from 0 m) old) → old ≡ target → All (λ k. k < n) target → new ≡ occurring (numbers_from 0 n) target
 rises_to n old new target h e below = h n (subst (All (λ k. k < n)) (sym e) below) ∙ ap (occurring (numbers_from 0 n)) e

@@ -17,3 +17,4 @@ pub mod RowPlaces
 pub mod UseCounts
 pub mod PartFacts
 pub mod PartTables
+pub mod FanCells

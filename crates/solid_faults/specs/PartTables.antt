@@ -1,30 +1,38 @@
--- Tables by which the parts of a shell are described.
-use Rattle.std.specs.Prelude.{◌≡◌, ◌==◌, ◌<◌, ◌-◌, ◌^◌, nat_lt, ℕ, Bool, List, [], ◌∷◌, length, map, flat_map, slice_get, All, if◌then◌else◌, get_or}
+-- Tables by which the parts of a shell are told.
+use Rattle.std.specs.Prelude.{◌≡◌, ◌==◌, ◌<◌, ◌^◌, nat_lt, ℕ, Bool, List, [], ◌∷◌, length, map, flat_map, slice_get, All, if◌then◌else◌}
 use Rattle.std.specs.Option.{option_to_list}
 use Rattle.std.specs.List.{list_any}
 use Rattle.solid_data.specs.SolidData.{SolidData}
 use Rattle.solid_data.specs.declared.solid.FaceUse.{FaceUse}
 use Rattle.solid_data.specs.declared.solid.Shell.{Shell}
-use Rattle.edge_uses.specs.declared.spanning.Span.{Span}
 use Rattle.edge_uses.specs.Before.{face_vertices, faces_vertices}
 use Rattle.edge_uses.specs.Building.{HasKnownParts}
-use Rattle.edge_uses.specs.Ranges.{IsWithin}
+use Rattle.edge_uses.specs.Cells.{Celled, cell_of}
+use Rattle.edge_uses.specs.Ranges.{IsWithin, IsSpanOf}
 use Rattle.solid_faults.specs.PartFacts.{faces_before}
 use Rattle.solid_faults.specs.declared.edge.Unpaired.{Unpaired}
 
 -- whether a part before p is marked at the vertex
-abbrev pub is_low : Span → List ℕ → ℕ → ℕ → Bool
-is_low range lows p v = nat_lt (get_or lows (v - range.least) 0) p
+abbrev pub is_low : Celled ℕ → ℕ → ℕ → Bool
+is_low lows p v = nat_lt (cell_of lows v) p
 
-abbrev pub low_vertex : Span → List ℕ → ℕ → ℕ → List ℕ
-low_vertex range lows p v = if is_low range lows p v then v ∷ [] else []
+abbrev pub low_vertex : Celled ℕ → ℕ → ℕ → List ℕ
+low_vertex lows p v = if is_low lows p v then v ∷ [] else []
 
--- each vertex of a range is marked by the least part that has it
-abbrev pub IsLowest : SolidData → Shell → List ℕ → Span → List ℕ → Type 0
-IsLowest s shell firsts range lows = (v p : ℕ) → IsWithin range v → p < 2 ^ 32 → is_low range lows p v ≡ list_any (λ m. m == v) (flat_map (face_vertices s) (faces_before shell firsts p))
+-- each vertex of the range is marked by the least part that has it
+abbrev pub IsLowest : SolidData → Shell → List ℕ → Celled ℕ → Type 0
+IsLowest s shell firsts lows = (v p : ℕ) → IsWithin lows.span v → p < 2 ^ 32 → is_low lows p v ≡ list_any (λ m. m == v) (flat_map (face_vertices s) (faces_before shell firsts p))
 
-abbrev pub AreLows : SolidData → Shell → List ℕ → Span → List ℕ → Type 0
-AreLows s shell firsts range lows = (length lows ≡ range.count) × IsLowest s shell firsts range lows
+-- marks for each of a range of vertices
+pub record AreMarks (lows : Celled ℕ) : Type 0 where
+  pub span : IsSpanOf lows.span lows.numbers
+  pub each : length lows.cells ≡ lows.span.count
+
+-- the same vertices have marks
+pub record AreKept (old new : Celled ℕ) : Type 0 where
+  pub numbers : new.numbers ≡ old.numbers
+  pub span : new.span ≡ old.span
+  pub each : length new.cells ≡ length old.cells
 
 -- the faces of a shell that numbers name
 abbrev pub face_numbered : Shell → ℕ → List FaceUse
@@ -40,10 +48,10 @@ pub record ShellParts : Type 0 where
   pub firsts : List ℕ
   pub unpaired : List Unpaired
 
-pub record ArePartTables (s : SolidData) (shell : Shell) (firsts : List ℕ) (us : List Unpaired) (by_part by_edge : List ℕ) (range : Span) (marks : List ℕ) : Type 0 where
+pub record ArePartTables (s : SolidData) (shell : Shell) (firsts : List ℕ) (us : List Unpaired) (by_part by_edge : List ℕ) (marks : Celled ℕ) : Type 0 where
   pub parts : by_part ≡ firsts
   pub edges : by_edge ≡ map (λ (u : Unpaired). u.edge.0) us
-  pub lows : AreLows s shell firsts range marks
+  pub lows : IsLowest s shell firsts marks
   pub each : length firsts ≡ length shell.faces
-  pub within : All (IsWithin range) (faces_vertices s shell)
+  pub within : All (IsWithin marks.span) (faces_vertices s shell)
   pub known : HasKnownParts s shell

@@ -50,7 +50,7 @@ fn edge_at(rows: &Rows, i: usize) -> EdgeId
 pub fn unpaired_edges(alloc: Global, rows: &Rows) -> Result<Vec<Unpaired>, NoMemory>
     ensures { IfOk result (λ out. out.items ≡ unpaired_of rows.now) }
 {
-    let tally = tally_of(alloc, rows, rows.edge_span())?;
+    let tally = tally_of(alloc, rows)?;
     let mut out = Vec::new(alloc);
     'edges: for i in 0..rows.edge_count() {
         let edge = edge_at(rows, i);

@@ -31,9 +31,9 @@ fn row_at(rows: &Rows, i: usize) -> Row
     rows.row(RowId(i as u32)).unwrap()
 }
 
-fn other_face(rows: &Rows, tally: &Tally, row: Row) -> u32
+fn other_face(rows: &Rows, tally: &Tally<'_>, row: Row) -> u32
     requires within { IsWithin tally.now.span row.edge.0 }
-    ensures { result ≡ chosen_face rows.now tally.now.span tally.now.seen.items row.edge.0 }
+    ensures { result ≡ chosen_face rows.now tally.now.span tally.now.seen row.edge.0 }
 {
     let r = chosen(tally.of(row.edge.0));
     match rows.row(RowId(r)) {
@@ -49,10 +49,10 @@ fn push_pair(out: &mut Vec<(u32, u32)>, a: u32, b: u32) -> Result<(), NoMemory>
     Ok(())
 }
 
-fn pairs_of(alloc: Global, rows: &Rows, tally: &Tally) -> Result<Vec<(u32, u32)>, NoMemory>
-    requires { AreTallied rows.now tally.now.span tally.now.seen.items }
+fn pairs_of(alloc: Global, rows: &Rows, tally: &Tally<'_>) -> Result<Vec<(u32, u32)>, NoMemory>
+    requires { AreTallied rows.now tally.now.span tally.now.seen }
     ensures { IfOk result (λ pairs. pairs.items
-        ≡ part_pairs rows.now tally.now.span tally.now.seen.items) }
+        ≡ part_pairs rows.now tally.now.span tally.now.seen) }
 {
     let mut out = Vec::new(alloc);
     'rows: for i in 0..rows.len() {
@@ -67,7 +67,7 @@ fn pairs_of(alloc: Global, rows: &Rows, tally: &Tally) -> Result<Vec<(u32, u32)>
 pub fn firsts(alloc: Global, rows: &Rows) -> Result<Vec<u32>, NoMemory>
     ensures { IfOk result (λ firsts. AreParts rows.now firsts.items) }
 {
-    let tally = tally_of(alloc, rows, rows.edge_span())?;
+    let tally = tally_of(alloc, rows)?;
     let pairs = pairs_of(alloc, rows, &tally)?;
     let firsts = components(alloc, rows.face_count(), pairs.as_slice())?;
     Ok(firsts)

@@ -1,16 +1,17 @@
 //! What is said of each part of a shell.
 
-ghost use Rattle.std.specs.Prelude.{◌≡◌, ◌<◌, ◌^◌, ◌++◌, ◌∷◌, [], ◌&&◌, ◌||◌, ◌==◌, ◌-◌, nat_lt, ℕ, List, All, Some, IfOk, length, map, flat_map, slice_get, option_copied, if◌then◌else◌};
+ghost use Rattle.std.specs.Prelude.{◌≡◌, ◌<◌, ◌^◌, ◌++◌, ◌∷◌, [], ◌&&◌, ◌||◌, ◌==◌, nat_lt, ℕ, List, All, Contains, Some, IfOk, length, map, flat_map, slice_get, option_copied, if◌then◌else◌};
 ghost use Rattle.std.specs.List.{list_any};
+ghost use Rattle.std.specs.List.Sorted.{IsStrictlyIncreasing};
 ghost use Rattle.solid_data.specs.SolidData.{occurring};
 ghost use Rattle.solid_data.specs.declared.solid.Shell.{Shell as AnyShell};
 ghost use Rattle.edge_uses.specs.Before.{face_vertices, faces_vertices};
-ghost use Rattle.edge_uses.specs.Ranges.{IsWithin};
+ghost use Rattle.edge_uses.specs.Ranges.{IsSpanOf, IsWithin};
 ghost use Rattle.edge_uses.specs.ShellRows.{rows_of};
 ghost use Rattle.solid_faults.specs.Edges.{unpaired_of};
 ghost use Rattle.solid_faults.specs.PartFacts.{parts_of};
 ghost use Rattle.solid_faults.specs.Parts.{AreParts};
-ghost use Rattle.solid_faults.specs.PartTables.{is_low, low_vertex, face_numbered, faces_numbered, AreLows};
+ghost use Rattle.solid_faults.specs.PartTables.{is_low, low_vertex, face_numbered, faces_numbered, AreKept, AreMarks, IsLowest};
 ghost use Rattle.edge_components.specs.FaceUses.{face_edges, AddedFaces};
 ghost use Rattle.edge_components.specs.Trees.{AreTrees};
 ghost use Rattle.solid_data.specs.declared.solid.FaceUse.{FaceUse as AnyFace};
@@ -19,7 +20,7 @@ ghost use Rattle.solid_faults.specs.declared.edge.Unpaired.{Unpaired as AnyUnpai
 
 use crate::edge::Unpaired;
 use edge_components::{Groups, Used, add_face, grouped, nothing_used, rise, used_by};
-use edge_uses::{Rows, Span};
+use edge_uses::{Cells, Rows, Span};
 use iges_base::{EntryNo, NoMemory};
 use solid_data::{FaceUse, Shell, ShellAt, Solid};
 use std::alloc::Global;
@@ -34,8 +35,7 @@ pub struct PartTables<'a> {
     unpaired: &'a [Unpaired],
     by_part: Groups,
     by_edge: Groups,
-    lows: Vec<u32>,
-    range: Span,
+    lows: Cells<'a, u32>,
 }
 
 impl<'a> Model for PartTables<'a> {
@@ -45,9 +45,15 @@ impl<'a> Model for PartTables<'a> {
 
     ghost use Rattle.solid_faults.specs.PartTables.{ArePartTables};
 
-    ghost view = { λ t. record { solid = t.solid.now; shell = t.shell.now; firsts = t.firsts.now; unpaired = t.unpaired.now } };
+    ghost view = { λ t. record {
+      solid = t.solid.now;
+      shell = t.shell.now;
+      firsts = t.firsts.now;
+      unpaired = t.unpaired.now;
+    } };
 
-    ghost invariant = { λ t. ArePartTables t.solid.now t.shell.now t.firsts.now t.unpaired.now t.by_part t.by_edge t.range t.lows.items };
+    ghost invariant = { λ t. ArePartTables t.solid.now t.shell.now t.firsts.now t.unpaired.now
+        t.by_part t.by_edge t.lows };
 }
 
 /// A part of a shell: all faces that chains of shared edges join (own).
@@ -91,53 +97,52 @@ fn numbers_of(alloc: Global, unpaired: &[Unpaired]) -> Result<Vec<u32>, NoMemory
     Ok(edges)
 }
 
-// Notes that a part, named by its first face, has a vertex: of the parts that have it the least is kept.
-fn lower(lows: &mut Vec<u32>, range: Span, vertex: u32, part: u32)
-    requires within { IsWithin range vertex }
-    requires each { length lows.old.items ≡ range.count }
-    ensures each { length lows.new.items ≡ range.count }
-    ensures lows { (v p : ℕ) → IsWithin range v
-        → is_low range lows.new.items p v ≡ (is_low range lows.old.items p v
-        || ((vertex == v) && nat_lt part p)) }
+fn lower(lows: &mut Cells<'_, u32>, vertex: u32, part: u32)
+    requires known { Contains lows.old.numbers vertex }
+    requires within { IsWithin lows.old.span vertex }
+    requires each { length lows.old.cells ≡ lows.old.span.count }
+    ensures kept { AreKept lows.old lows.new }
+    ensures lows { (v p : ℕ) → IsWithin lows.old.span v
+        → is_low lows.new p v ≡ (is_low lows.old p v || ((vertex == v) && nat_lt part p)) }
 {
-    let k = (vertex - range.least) as usize;
-    if part < lows[k] {
-        lows[k] = part;
+    if part < lows.at(vertex) {
+        lows.set(vertex, part);
     }
 }
 
-// The same for all of some vertices.
-fn lower_all(lows: &mut Vec<u32>, range: Span, vertices: &[u32], part: u32)
-    requires within { All (IsWithin range) vertices.now }
-    requires each { length lows.old.items ≡ range.count }
-    ensures each { length lows.new.items ≡ range.count }
-    ensures lows { (v p : ℕ) → IsWithin range v
-        → is_low range lows.new.items p v ≡ (is_low range lows.old.items p v
+fn lower_all(lows: &mut Cells<'_, u32>, vertices: &[u32], part: u32)
+    requires known { All (Contains lows.old.numbers) vertices.now }
+    requires marks { AreMarks lows.old }
+    ensures kept { AreKept lows.old lows.new }
+    ensures lows { (v p : ℕ) → IsWithin lows.old.span v
+        → is_low lows.new p v ≡ (is_low lows.old p v
         || (list_any (λ m. m == v) vertices.now && nat_lt part p)) }
 {
     'vertices: for i in 0..vertices.len() {
-        lower(lows, range, vertices[i], part);
+        lower(lows, vertices[i], part);
     }
 }
 
-// For each vertex of the range the least part that has it, or the greatest number.
-fn lowest_parts(
+// For each vertex of a shell the least part that has it, or the greatest number.
+fn lowest_parts<'a>(
     alloc: Global,
     solid: &Solid,
     shell: &Shell,
     firsts: &[u32],
-    range: Span,
-) -> Result<Vec<u32>, NoMemory>
-    requires within { All (IsWithin range) (faces_vertices solid.now shell.now) }
+    vertices: &'a [u32],
+) -> Result<Cells<'a, u32>, NoMemory>
+    requires rise { IsStrictlyIncreasing vertices.now }
+    requires known { All (Contains vertices.now) (faces_vertices solid.now shell.now) }
     requires each { length firsts.now ≡ length shell.now.faces }
-    ensures { IfOk result (λ lows. AreLows solid.now shell.now firsts.now range lows.items) }
+    ensures span { IfOk result (λ lows. IsSpanOf lows.span vertices.now) }
+    ensures lows { IfOk result (IsLowest solid.now shell.now firsts.now) }
 {
-    let mut lows = vec![in alloc; u32::MAX; range.count]?;
+    let mut lows = Cells::new(alloc, vertices, u32::MAX)?;
     let mut used = nothing_used(alloc);
     let faces = shell.faces.as_slice();
     'faces: for i in 0..faces.len() {
         used_by(solid, &faces[i], &mut used)?;
-        lower_all(&mut lows, range, used.vertices.as_slice(), firsts[i]);
+        lower_all(&mut lows, used.vertices.as_slice(), firsts[i]);
     }
     Ok(lows)
 }
@@ -148,7 +153,7 @@ pub fn part_tables<'a>(
     alloc: Global,
     solid: &'a Solid,
     shell: ShellAt,
-    rows: &Rows,
+    rows: &'a Rows,
     firsts: &'a [u32],
     unpaired: &'a [Unpaired],
 ) -> Result<PartTables<'a>, NoMemory>
@@ -162,10 +167,9 @@ pub fn part_tables<'a>(
 {
     let shell = solid.shell(shell).unwrap();
     let edges = rows.edge_span();
-    let range = rows.vertex_span();
     let by_part = faces_by_part(alloc, firsts)?;
     let by_edge = grouped(alloc, numbers_of(alloc, unpaired)?, edges)?;
-    let lows = lowest_parts(alloc, solid, shell, firsts, range)?;
+    let lows = lowest_parts(alloc, solid, shell, firsts, rows.vertex_slice())?;
     Ok(PartTables {
         solid,
         shell,
@@ -174,7 +178,6 @@ pub fn part_tables<'a>(
         by_part,
         by_edge,
         lows,
-        range,
     })
 }
 
@@ -270,34 +273,26 @@ fn unpaired_among(unpaired: &Groups, edges: &[u32]) -> usize
 }
 
 // Whether a part before has the vertex.
-fn is_before(lows: &[u32], range: Span, vertex: u32, first: u32) -> bool
-    requires within { IsWithin range vertex }
-    requires each { length lows.now ≡ range.count }
-    ensures { result ≡ is_low range lows.now first vertex }
+fn is_before(lows: &Cells<'_, u32>, vertex: u32, first: u32) -> bool
+    requires { IsWithin lows.now.span vertex }
+    ensures { result ≡ is_low lows.now first vertex }
 {
-    lows[(vertex - range.least) as usize] < first
+    lows.at(vertex) < first
 }
 
 // Those of a part's vertices that a part before it has too.
 fn touching(
     alloc: Global,
-    lows: &[u32],
-    range: Span,
+    lows: &Cells<'_, u32>,
     vertices: &[u32],
     first: u32,
 ) -> Result<Vec<u32>, NoMemory>
-    requires within { All (IsWithin range) vertices.now }
-    requires each { length lows.now ≡ range.count }
-    ensures { IfOk result (λ out. out.items ≡ flat_map
-        (low_vertex range lows.now first) vertices.now) }
+    requires { All (IsWithin lows.now.span) vertices.now }
+    ensures { IfOk result (λ out. out.items ≡ flat_map (low_vertex lows.now first) vertices.now) }
 {
     let mut out = Vec::new(alloc);
     'vertices: for i in 0..vertices.len() {
-        push_if(
-            &mut out,
-            is_before(lows, range, vertices[i], first),
-            vertices[i],
-        )?;
+        push_if(&mut out, is_before(lows, vertices[i], first), vertices[i])?;
     }
     Ok(out)
 }
@@ -317,7 +312,7 @@ impl<'a> PartTables<'a> {
         rise(&mut used.vertices);
         let faces = entities(alloc, self.shell, numbers)?;
         let vertices = used.vertices.as_slice();
-        let touching = touching(alloc, self.lows.as_slice(), self.range, vertices, first)?;
+        let touching = touching(alloc, &self.lows, vertices, first)?;
         Ok(Part {
             faces,
             edges: used.edges.len(),

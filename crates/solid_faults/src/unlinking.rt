@@ -1,12 +1,12 @@
 //! Which vertices of a shell aren't linked.
 
-ghost use Rattle.std.specs.Prelude.{◌≡◌, ◌<◌, ◌≤◌, ◌+◌, ◌-◌, ◌==◌, ◌++◌, ◌^◌, Some, length, slice_get, IfOk, get_or};
-ghost use Rattle.edge_uses.specs.Ranges.{IsWithin, IsSpanOf};
-ghost use Rattle.edge_uses.specs.ShellRows.{AreRows};
-ghost use Rattle.solid_faults.specs.Fans.{added, AreFanCounts, ArePointCounts, unlinked_at, unlinked_of};
+ghost use Rattle.std.specs.Prelude.{◌≡◌, ◌<◌, ◌-◌, ◌==◌, ◌++◌, ◌^◌, Contains, Some, length, slice_get, IfOk, get_or};
+ghost use Rattle.edge_uses.specs.Ranges.{IsWithin};
+ghost use Rattle.solid_faults.specs.FanCells.{counted_more, IsOnVertices};
+ghost use Rattle.solid_faults.specs.Fans.{AreFanCounts, ArePointCounts, unlinked_at, unlinked_of};
 
 use crate::fan::Unlinked;
-use edge_uses::{Row, Rows, Span};
+use edge_uses::{Cells, Row, Rows};
 use iges_base::NoMemory;
 use solid_data::{LoopAt, RowId, VertexId};
 use std::alloc::Global;
@@ -32,28 +32,30 @@ fn is_least(least: u32, i: usize) -> bool
     least as usize == i
 }
 
-fn add_at(counts: &mut Vec<u32>, k: usize, wanted: bool)
-    requires inside { k < length counts.old.items }
-    requires few { get_or counts.old.items k 0 < 2 ^ 29 }
-    ensures { counts.new.items ≡ added counts.old.items k wanted }
+fn add_at(counts: &mut Cells<'_, u32>, vertex: u32, wanted: bool)
+    requires known { Contains counts.old.numbers vertex }
+    requires within { IsWithin counts.old.span vertex }
+    requires blank { counts.old.blank ≡ 0 }
+    requires few { get_or counts.old.cells (vertex - counts.old.span.least) 0 < 2 ^ 29 }
+    ensures { counts.new ≡ counted_more counts.old vertex wanted }
 {
     if wanted {
-        counts[k] = counts[k] + 1;
+        let count = counts.at(vertex);
+        counts.set(vertex, count + 1);
     }
 }
 
-fn fan_counts(alloc: Global, rows: &Rows, span: Span, leasts: &[u32]) -> Result<Vec<u32>, NoMemory>
+fn fan_counts<'a>(alloc: Global, rows: &'a Rows, leasts: &[u32]) -> Result<Cells<'a, u32>, NoMemory>
     requires each { length leasts.now ≡ length rows.now.rows }
-    requires span { IsSpanOf span rows.now.vertices }
-    ensures len { IfOk result (λ counts. length counts.items ≡ span.count) }
-    ensures counts { IfOk result
-        (λ counts. AreFanCounts rows.now leasts.now span.least span.count counts.items) }
+    ensures cells { IfOk result (IsOnVertices rows.now) }
+    ensures counts { IfOk result (λ counts. AreFanCounts rows.now leasts.now
+        counts.span.least counts.span.count counts.cells) }
 {
-    let mut counts = vec![in alloc; 0; span.count]?;
+    let mut counts = Cells::new(alloc, rows.vertex_slice(), 0)?;
     'rows: for i in 0..rows.len() {
         let row = row_at(rows, i);
         let wanted = is_least(least_at(leasts, i), i);
-        add_at(&mut counts, (row.from.0 - span.least) as usize, wanted);
+        add_at(&mut counts, row.from.0, wanted);
     }
     Ok(counts)
 }
@@ -65,17 +67,15 @@ fn point_at(rows: &Rows, i: usize) -> (LoopAt, VertexId)
     rows.isolated(i).unwrap()
 }
 
-fn point_counts(alloc: Global, rows: &Rows, span: Span) -> Result<Vec<u32>, NoMemory>
-    requires span { IsSpanOf span rows.now.vertices }
-    ensures len { IfOk result (λ counts. length counts.items ≡ span.count) }
-    ensures counts { IfOk result
-        (λ counts. ArePointCounts rows.now span.least span.count counts.items) }
+fn point_counts(alloc: Global, rows: &Rows) -> Result<Cells<'_, u32>, NoMemory>
+    ensures cells { IfOk result (IsOnVertices rows.now) }
+    ensures counts { IfOk result (λ counts. ArePointCounts rows.now
+        counts.span.least counts.span.count counts.cells) }
 {
-    let _kept = rows.len();
-    let mut counts = vec![in alloc; 0; span.count]?;
+    let mut counts = Cells::new(alloc, rows.vertex_slice(), 0)?;
     'points: for i in 0..rows.isolated_count() {
         let point = point_at(rows, i);
-        add_at(&mut counts, (point.1.0 - span.least) as usize, true);
+        add_at(&mut counts, point.1.0, true);
     }
     Ok(counts)
 }
@@ -87,11 +87,12 @@ fn vertex_at(rows: &Rows, i: usize) -> VertexId
     rows.vertex_at(i).unwrap()
 }
 
-fn count_at(counts: &[u32], k: usize) -> u32
-    requires { k < length counts.now }
-    ensures { result ≡ get_or counts.now k 0 }
+fn count_at(counts: &Cells<'_, u32>, vertex: VertexId) -> u32
+    requires within { IsWithin counts.now.span vertex.0 }
+    requires blank { counts.now.blank ≡ 0 }
+    ensures { result ≡ get_or counts.now.cells (vertex.0 - counts.now.span.least) 0 }
 {
-    counts[k]
+    counts.at(vertex.0)
 }
 
 fn push_unlinked(
@@ -116,28 +117,33 @@ fn push_unlinked(
 fn unlinked_in(
     alloc: Global,
     rows: &Rows,
-    span: Span,
-    fans: &[u32],
-    points: &[u32],
+    fans: &Cells<'_, u32>,
+    points: &Cells<'_, u32>,
     leasts: &[u32],
 ) -> Result<Vec<Unlinked>, NoMemory>
-    requires span { IsSpanOf span rows.now.vertices }
-    requires all_fans { length fans.now ≡ span.count }
-    requires fans { AreFanCounts rows.now leasts.now span.least span.count fans.now }
-    requires all_points { length points.now ≡ span.count }
-    requires points { ArePointCounts rows.now span.least span.count points.now }
+    requires on_fans { IsOnVertices rows.now fans.now }
+    requires fans { AreFanCounts rows.now leasts.now
+        fans.now.span.least fans.now.span.count fans.now.cells }
+    requires on_points { IsOnVertices rows.now points.now }
+    requires points { ArePointCounts rows.now
+        points.now.span.least points.now.span.count points.now.cells }
     ensures { IfOk result (λ out. out.items ≡ unlinked_of rows.now leasts.now) }
 {
     let mut out = Vec::new(alloc);
     'vertices: for i in 0..rows.vertex_count() {
         let vertex = vertex_at(rows, i);
-        let v = (vertex.0 - span.least) as usize;
-        push_unlinked(&mut out, vertex, count_at(fans, v), count_at(points, v))?;
+        push_unlinked(
+            &mut out,
+            vertex,
+            count_at(fans, vertex),
+            count_at(points, vertex),
+        )?;
     }
     Ok(out)
 }
 
-/// The vertices of a shell that aren't linked, by rising number (own).
+/// The vertices of a shell that aren't linked, by rising number (own). It takes no longer where they
+/// lie far apart.
 pub fn unlinked_vertices(
     alloc: Global,
     rows: &Rows,
@@ -146,16 +152,7 @@ pub fn unlinked_vertices(
     requires { length leasts.now ≡ length rows.now.rows }
     ensures { IfOk result (λ out. out.items ≡ unlinked_of rows.now leasts.now) }
 {
-    let _kept = rows.len();
-    let span = rows.vertex_span();
-    let fans = fan_counts(alloc, rows, span, leasts)?;
-    let points = point_counts(alloc, rows, span)?;
-    unlinked_in(
-        alloc,
-        rows,
-        span,
-        fans.as_slice(),
-        points.as_slice(),
-        leasts,
-    )
+    let fans = fan_counts(alloc, rows, leasts)?;
+    let points = point_counts(alloc, rows)?;
+    unlinked_in(alloc, rows, &fans, &points, leasts)
 }

@@ -3,4 +3,4 @@ use Rattle.solid_faults.specs.PartTables.{low_vertex}
 use Rattle.solid_faults.proofs.parting.touching.Given as goal
 
 abbrev pub invariant-vertices : goal.invariant-vertices
-invariant-vertices l = l.out.items ++ flat_map (low_vertex l.range l.lows l.first) (drop l.i l.vertices) ≡ flat_map (low_vertex l.range l.lows l.first) l.vertices
+invariant-vertices l = l.out.items ++ flat_map (low_vertex l.lows l.first) (drop l.i l.vertices) ≡ flat_map (low_vertex l.lows l.first) l.vertices

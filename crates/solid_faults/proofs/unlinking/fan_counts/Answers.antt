@@ -1,18 +1,31 @@
-use Rattle.std.proofs.Common.{◌∙◌, ◌-◌, ap, arith, length}
-use Rattle.solid_faults.proofs.FanSteps.{from_within, so_far_few, fan_step, length-added}
+use Rattle.std.proofs.Common.{◌∙◌, arith, subst}
+use Rattle.edge_uses.specs.Ranges.{IsSpanOf}
+use Rattle.solid_faults.proofs.FanSteps.{fans_done, fans_first, fans_next, from_few, from_inside, from_known, on_vertices}
 use Rattle.solid_faults.proofs.unlinking.fan_counts.Goals as goal
 
+pub rows-init : goal.rows-init
+rows-init c =
+    fans_first c.args.rows.now c.args.leasts.now c.in_ok-counts.counts
+    (on_vertices c.args.rows.now c.in_ok-counts.counts c.vertex_slice.ensures.kept (c.in_ok-counts.ensures.numbers ∙ c.vertex_slice.ensures.items) (subst (IsSpanOf c.in_ok-counts.counts.span) c.vertex_slice.ensures.items c.in_ok-counts.ensures.span) c.in_ok-counts.ensures.blank)
+    c.in_ok-counts.ensures.cells
+
+pub add_at-requires-clause-known : goal.add_at-requires-clause-known
+add_at-requires-clause-known c = from_known c.args.rows.now c.args.leasts.now c.rows.i c.rows.counts c.row_at-row.result c.rows.invariant c.row_at-row.ensures
+
+pub add_at-requires-clause-within : goal.add_at-requires-clause-within
+add_at-requires-clause-within c = from_inside c.args.rows.now c.args.leasts.now c.rows.i c.rows.counts c.row_at-row.result c.rows.invariant c.row_at-row.ensures
+
+pub add_at-requires-clause-blank : goal.add_at-requires-clause-blank
+add_at-requires-clause-blank c = c.rows.invariant.on.blank
+
 pub add_at-requires-clause-few : goal.add_at-requires-clause-few
-add_at-requires-clause-few c =
-    let w = from_within c.args.rows.now c.args.span c.rows.i c.row_at-row.result c.len-i-end.ensures.kept c.requires.span c.row_at-row.ensures in
-    let few = so_far_few c.args.rows.now c.args.leasts.now c.args.span.least c.args.span.count c.rows.i c.rows.counts.items (c.row_at-row.result.from.0 - c.args.span.least) c.rows.invariant.counted (omega (arith, w.0, w.1)) in
-    omega (arith, few, c.len-i-end.ensures.kept.few)
+add_at-requires-clause-few c = from_few c.args.rows.now c.args.leasts.now c.rows.i c.rows.counts c.row_at-row.result c.rows.invariant c.row_at-row.ensures
 
 pub rows-preserved : goal.rows-preserved
-rows-preserved c =
-    let w = from_within c.args.rows.now c.args.span c.rows.i c.row_at-row.result c.len-i-end.ensures.kept c.requires.span c.row_at-row.ensures in
-    record {
-      len = ap (λ xs. length xs) c.add_at.ensures ∙ (length-added c.rows.counts.items (c.row_at-row.result.from.0 - c.args.span.least) c.is_least-wanted.result ∙ c.rows.invariant.len);
-      counted = fan_step c.args.rows.now c.args.leasts.now c.args.span.least c.args.span.count c.rows.i c.row_at-row.result c.least_at.result c.rows.counts.items c.add_at.new.counts.items c.is_least-wanted.result c.row_at-row.ensures c.least_at.ensures c.rows.invariant.len
-          w.0 (omega (arith, w.0, w.1)) c.is_least-wanted.ensures c.add_at.ensures c.rows.invariant.counted;
-    }
+rows-preserved c = fans_next c.args.rows.now c.args.leasts.now c.rows.i c.rows.counts c.row_at-row.result c.rows.invariant c.row_at-row.ensures c.least_at.result c.is_least-wanted.result c.add_at.new.counts c.least_at.ensures c.is_least-wanted.ensures c.add_at.ensures
+
+pub returns-clause-cells : goal.returns-clause-cells
+returns-clause-cells c = c.rows.invariant.on
+
+pub returns-clause-counts : goal.returns-clause-counts
+returns-clause-counts c = fans_done c.args.rows.now c.args.leasts.now c.rows.counts.span.least c.rows.counts.span.count c.rows.i c.rows.counts.cells (omega (arith, c.rows-test.false, c.len-i-end.ensures.count)) c.rows.invariant.counted

@@ -12,8 +12,8 @@ use Rattle.solid_faults.specs.declared.parting.Part.{Part}
 use Rattle.solid_faults.proofs.PartSteps.{part_named, edges_below, vertices_below, part_within, touching_kept, rises_to}
 use Rattle.solid_faults.proofs.parting.PartTables.part.Goals as goal
 
-pub touching-requires-clause-within : goal.touching-requires-clause-within
-touching-requires-clause-within c =
+pub touching-requires : goal.touching-requires
+touching-requires c =
     let s = c.self.inside.solid.now in
     let h = c.self.inside.shell.now in
     let firsts = c.self.inside.firsts.now in
@@ -21,14 +21,14 @@ touching-requires-clause-within c =
     ap (faces_numbered h) (c.places-numbers.ensures ∙ ap (places_of c.args.first) c.self.invariant.parts) ∙ part_named h firsts c.args.first c.self.invariant.each in
     let vertices : c.rise-2.new.numbers.items ≡ part_vertices s h firsts c.args.first =
     rises_to (length s.vertices) c.in_ok-used.used.vertices.items c.rise-2.new.numbers.items (flat_map (face_vertices s) (part_faces h firsts c.args.first)) c.rise-2.ensures (c.in_ok-used.ensures.vertices ∙ ap (flat_map (face_vertices s)) named) (vertices_below s h firsts c.args.first c.self.invariant.known) in
-    subst (All (IsWithin c.self.inside.range)) (sym (c.as_slice-vertices.ensures.value ∙ vertices)) (part_within s h firsts c.args.first c.self.inside.range c.self.invariant.within)
+    subst (All (IsWithin c.self.inside.lows.span)) (sym (c.as_slice-vertices.ensures.value ∙ vertices)) (part_within s h firsts c.args.first c.self.inside.lows.span c.self.invariant.within)
 
 pub returns : goal.returns
 returns c =
     let s = c.self.inside.solid.now in
     let h = c.self.inside.shell.now in
     let firsts = c.self.inside.firsts.now in
-    let range = c.self.inside.range in
+    let lows = c.self.inside.lows in
     let named : faces_numbered h c.places-numbers.result.now ≡ part_faces h firsts c.args.first =
     ap (faces_numbered h) (c.places-numbers.ensures ∙ ap (places_of c.args.first) c.self.invariant.parts) ∙ part_named h firsts c.args.first c.self.invariant.each in
     let edges : c.rise.new.numbers.items ≡ part_edges s h firsts c.args.first =
@@ -40,9 +40,8 @@ returns c =
       faces = c.in_ok-faces.ensures ∙ ap (map (λ (f : FaceUse). f.entity)) named;
       edges = omega (arith, c.len.ensures, ap length edges);
       vertices = vertices;
-      unpaired = c.unpaired_among.ensures ∙ (ap (λ es. length (occurring es c.self.inside.by_edge)) (c.as_slice-2.ensures.value ∙ edges) ∙ ap (λ us. length (occurring (part_edges s h firsts c.args.first) us)) c.self.invariant.edges);
+      unpaired = c.unpaired_among.ensures ∙ (ap (λ es. length (occurring es c.self.inside.by_edge)) (c.as_slice.ensures.value ∙ edges) ∙ ap (λ us. length (occurring (part_edges s h firsts c.args.first) us)) c.self.invariant.edges);
       touching = c.in_ok-touching.ensures
-          ∙ (ap (λ ms. flat_map (low_vertex range ms c.args.first) c.as_slice-vertices.result.now) c.as_slice.ensures.value
-          ∙ (ap (flat_map (low_vertex range c.self.inside.lows.items c.args.first)) (c.as_slice-vertices.ensures.value ∙ vertices)
-          ∙ touching_kept s h firsts c.args.first range c.self.inside.lows.items c.self.invariant.lows (part_within s h firsts c.args.first range c.self.invariant.within) (omega (arith, c.ranges.first.fits))));
+          ∙ (ap (flat_map (low_vertex lows c.args.first)) (c.as_slice-vertices.ensures.value ∙ vertices)
+          ∙ touching_kept s h firsts c.args.first lows c.self.invariant.lows (part_within s h firsts c.args.first lows.span c.self.invariant.within) (omega (arith, c.ranges.first.fits)));
     })
