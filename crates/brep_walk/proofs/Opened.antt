@@ -17,6 +17,7 @@ use Rattle.solid_data.proofs.ObligationLemmas.{FirstFalse-append_front}
 use Rattle.solid_data.specs.declared.verdict.Failing.{Failing}
 use Rattle.solid_data.specs.declared.verdict.Rule.TheVariants.{BadLayout}
 use Rattle.solid_data.proofs.Members.{total, fold-total}
+use Rattle.brep_walk.specs.Counts.{item_count}
 use Rattle.brep_walk.specs.Places.{told, Names, HasRecordOf, entry_places, record_places}
 use Rattle.brep_walk.proofs.Few.{name_parts, each_some}
 
@@ -78,14 +79,6 @@ met_length : (ds : List DueValue) (vs : List Value) → MeetsAll ds vs → lengt
 met_length [] vs h = omega arith
 met_length (d ∷ ds) [] h = omega (arith, missing_last d ds h)
 met_length (d ∷ ds) (v ∷ vs) h = omega (arith, met_length ds vs h.1)
-
-abbrev pub item_count : (kind : EntityKind) → Items kind → ℕ
-item_count solid s = length s.voids
-item_count shell faces = length faces
-item_count face f = length f.loops
-item_count «loop» tuples = length tuples
-item_count edges tuples = length tuples
-item_count vertices triples = length triples
 
 due_length : (kind : EntityKind) (items : Items kind) → item_count kind items ≤ length (due kind items)
 due_length solid s = omega (arith, each_some pair_due s.voids (λ x h. omega arith))

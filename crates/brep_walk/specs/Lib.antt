@@ -8,3 +8,4 @@ pub mod Placed
 pub mod Slots
 pub mod Keyed
 pub mod OpenPlaces
+pub mod Counts

@@ -13,8 +13,8 @@ use crate::loops::LoopWalk;
 use crate::naming::names_geometry;
 use crate::once::Once;
 use crate::place::Place;
-use crate::records::face_at;
-use brep_loops::ShellRecord;
+use crate::records::record_at;
+use brep_loops::{FaceRecord, ShellRecord};
 use iges_fields::EntryNo;
 use iges_params::File;
 use solid_data::{FaceUse, Faces, Rule};
@@ -70,7 +70,7 @@ impl<'a> FaceWalk<'a> {
             (pos at.entity.0) at.item self.old.named number)) }
     {
         let file = self.loops.tuples.lists.file();
-        let (entity, listed) = face_at(file, at, number)?;
+        let (entity, listed) = record_at::<FaceRecord<'_>>(file, at, number)?;
         self.named.note(at, number, entity)?;
         if !names_geometry(file, listed.surface()) {
             let place = Place { entity, item: 0 };

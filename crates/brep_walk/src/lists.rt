@@ -13,9 +13,9 @@ use crate::fault::WalkFault;
 use crate::index::index_in;
 use crate::naming::names_geometry;
 use crate::place::Place;
-use crate::records::{edge_list_at, vertex_list_at};
+use crate::records::record_at;
 use crate::table::ListTable;
-use brep_lists::{EdgeList, EdgeTuple};
+use brep_lists::{EdgeList, EdgeTuple, VertexList};
 use iges_fields::EntryNo;
 use iges_params::File;
 use solid_data::{EdgeKey, Failing, Rule, VertexKey};
@@ -85,7 +85,7 @@ impl<'a> Lists<'a> {
         if let Some(kept) = self.vertices.get(number) {
             return Ok(*kept);
         }
-        let (no, list) = vertex_list_at(self.file, at, number)?;
+        let (no, list) = record_at::<VertexList<'_>>(self.file, at, number)?;
         let count = list.len() as u32;
         self.vertices.keep(no, count)?;
         Ok((no, count))
@@ -125,7 +125,7 @@ impl<'a> Lists<'a> {
         if let Some((no, list)) = self.edges.get(number) {
             return Ok(edge_of(*no, list, at, index)?);
         }
-        let (no, list) = edge_list_at(self.file, at, number)?;
+        let (no, list) = record_at::<EdgeList<'a>>(self.file, at, number)?;
         let edge = edge_of(no, &list, at, index)?;
         self.edges.keep(no, list)?;
         Ok(edge)

@@ -11,9 +11,9 @@ ghost use Rattle.solid_data.specs.Obligations.{AllHold, after_each};
 use crate::fault::WalkFault;
 use crate::once::Once;
 use crate::place::Place;
-use crate::records::loop_at;
+use crate::records::record_at;
 use crate::tuples::TupleWalk;
-use brep_loops::FaceRecord;
+use brep_loops::{FaceRecord, LoopRecord};
 use iges_fields::EntryNo;
 use iges_params::File;
 use solid_data::{Loop, Loops};
@@ -56,7 +56,7 @@ impl<'a> LoopWalk<'a> {
         ensures fault { IfErr result (IsFault (loop_at self.old.tuples.lists
             (pos at.entity.0) at.item self.old.named number)) }
     {
-        let (entity, listed) = loop_at(self.tuples.lists.file(), at, number)?;
+        let (entity, listed) = record_at::<LoopRecord<'_>>(self.tuples.lists.file(), at, number)?;
         self.named.note(at, number, entity)?;
         let uses = self.tuples.walk_all(alloc, entity, &listed)?;
         Ok(Loop { entity, uses })

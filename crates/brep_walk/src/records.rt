@@ -1,7 +1,10 @@
 //! The records that numbers at places name.
 
-ghost use Rattle.std.specs.Prelude.{◌≡◌, ◌<◌, ◌^◌, pos, length, IfOk, IfErr, OnOk};
+ghost use Rattle.std.specs.Prelude.{◌≡◌, ◌<◌, ◌^◌, pos, IfSome, IfNone, IfOk, IfErr, OnOk};
+ghost use Rattle.brep_lists.specs.Record.{Fits, Items, items_of};
+ghost use Rattle.brep_lists.specs.declared.entity_kind.EntityKind.{EntityKind};
 ghost use Rattle.brep_lists.specs.declared.entity_kind.EntityKind.TheVariants.{Solid as solid, Shell as shell, Face as face, Loop as «loop», EdgeList as edges, VertexList as vertices};
+ghost use Rattle.brep_walk.specs.Counts.{item_count};
 ghost use Rattle.brep_walk.specs.Places.{told, record_places};
 ghost use Rattle.iges_params.specs.Limits.{FitsLimits};
 ghost use Rattle.solid_data.specs.Obligations.{AllHold, FirstFalse};
@@ -11,9 +14,122 @@ use crate::naming::{Named, entry_at};
 use crate::place::Place;
 use brep_lists::{EdgeList, EntityKind, VertexList};
 use brep_loops::{FaceRecord, LoopRecord, ShellRecord, SolidRecord};
-use iges_fields::EntryNo;
+use iges_fields::{EntryNo, Values};
 use iges_params::File;
 use solid_data::{Failing, Rule};
+
+/// A view of a record, for each of the six types of entity.
+pub trait Record<'a>: Sized {
+    ghost kind: { EntityKind };
+
+    ghost items: { Self → Items kind };
+
+    /// The type of the entities whose records these are.
+    fn kind() -> EntityKind
+        ensures { result ≡ kind };
+
+    /// What the values tell; None where they don't fit the type.
+    fn of(values: &'a Values) -> Option<Self>
+        ensures some { IfSome result (λ record_of. Fits kind values.now (items record_of)) }
+        ensures read { IfSome result (λ record_of. items record_of ≡ items_of kind values.now) }
+        ensures none { IfNone result ((told : Items kind) → ¬ Fits kind values.now told) };
+}
+
+impl<'a> Record<'a> for SolidRecord<'a> {
+    ghost kind = { solid };
+
+    ghost items = { λ record_of. record_of };
+
+    fn kind() -> EntityKind
+        ensures { result ≡ solid }
+    {
+        EntityKind::Solid
+    }
+
+    fn of(values: &'a Values) -> Option<SolidRecord<'a>> {
+        SolidRecord::of(values)
+    }
+}
+
+impl<'a> Record<'a> for ShellRecord<'a> {
+    ghost kind = { shell };
+
+    ghost items = { λ record_of. record_of };
+
+    fn kind() -> EntityKind
+        ensures { result ≡ shell }
+    {
+        EntityKind::Shell
+    }
+
+    fn of(values: &'a Values) -> Option<ShellRecord<'a>> {
+        ShellRecord::of(values)
+    }
+}
+
+impl<'a> Record<'a> for FaceRecord<'a> {
+    ghost kind = { face };
+
+    ghost items = { λ record_of. record_of };
+
+    fn kind() -> EntityKind
+        ensures { result ≡ face }
+    {
+        EntityKind::Face
+    }
+
+    fn of(values: &'a Values) -> Option<FaceRecord<'a>> {
+        FaceRecord::of(values)
+    }
+}
+
+impl<'a> Record<'a> for LoopRecord<'a> {
+    ghost kind = { «loop» };
+
+    ghost items = { λ record_of. record_of };
+
+    fn kind() -> EntityKind
+        ensures { result ≡ «loop» }
+    {
+        EntityKind::Loop
+    }
+
+    fn of(values: &'a Values) -> Option<LoopRecord<'a>> {
+        LoopRecord::of(values)
+    }
+}
+
+impl<'a> Record<'a> for EdgeList<'a> {
+    ghost kind = { edges };
+
+    ghost items = { λ record_of. record_of };
+
+    fn kind() -> EntityKind
+        ensures { result ≡ edges }
+    {
+        EntityKind::EdgeList
+    }
+
+    fn of(values: &'a Values) -> Option<EdgeList<'a>> {
+        EdgeList::of(values)
+    }
+}
+
+impl<'a> Record<'a> for VertexList<'a> {
+    ghost kind = { vertices };
+
+    ghost items = { λ record_of. record_of };
+
+    fn kind() -> EntityKind
+        ensures { result ≡ vertices }
+    {
+        EntityKind::VertexList
+    }
+
+    fn of(values: &'a Values) -> Option<VertexList<'a>> {
+        VertexList::of(values)
+    }
+}
 
 // That the record of an entry doesn't fit its type.
 fn bad_layout(named: &Named<'_>) -> Failing
@@ -26,6 +142,7 @@ fn bad_layout(named: &Named<'_>) -> Failing
     place.fails(Rule::BadLayout)
 }
 
+<<<<<<< HEAD
 /// The solid that the number at a place names, by its entry and what its record describes.
 pub fn solid_at(file: &File, at: Place, number: i64) -> Result<(EntryNo, SolidRecord<'_>), Failing>
     ensures holds { OnOk result (AllHold (record_places file.now
@@ -110,19 +227,25 @@ pub fn edge_list_at(file: &File, at: Place, number: i64) -> Result<(EntryNo, Edg
 /// The vertex list that the number at a place names.
 pub fn vertex_list_at(
     file: &File,
+=======
+/// The record that the number at a place names, and its entry.
+pub fn record_at<'a, R: Record<'a>>(
+    file: &'a File,
+>>>>>>> f84b1b5db3e1a65091f98e945adec0b67e829b17
     at: Place,
     number: i64,
-) -> Result<(EntryNo, VertexList<'_>), Failing>
+) -> Result<(EntryNo, R), Failing>
     ensures holds { OnOk result (AllHold (record_places file.now
-        (pos at.entity.0) at.item vertices number)) }
+        (pos at.entity.0) at.item R.kind number)) }
     ensures named { IfOk result (λ r. (number ≡ pos r.0.0)
-        × (r.1 ≡ told vertices file.now number)) }
-    ensures few { IfOk result (λ r. length r.1 < 2 ^ 31) }
+        × (R.items r.1 ≡ told R.kind file.now number)) }
+    ensures few { IfOk result (λ r. item_count R.kind (R.items r.1) < 2 ^ 31) }
+    ensures limits { FitsLimits file.now }
     ensures fails { IfErr result (FirstFalse
-        (record_places file.now (pos at.entity.0) at.item vertices number)) }
+        (record_places file.now (pos at.entity.0) at.item R.kind number)) }
 {
-    let named = entry_at(file, at, EntityKind::VertexList, number)?;
-    match VertexList::of(named.values) {
+    let named = entry_at(file, at, R::kind(), number)?;
+    match R::of(named.values) {
         Some(record) => Ok((named.no, record)),
         None => Err(bad_layout(&named)),
     }

@@ -12,8 +12,8 @@ use crate::faces::FaceWalk;
 use crate::fault::WalkFault;
 use crate::once::Once;
 use crate::place::Place;
-use crate::records::shell_at;
-use brep_loops::SolidRecord;
+use crate::records::record_at;
+use brep_loops::{ShellRecord, SolidRecord};
 use iges_fields::EntryNo;
 use iges_params::File;
 use solid_data::{Shell, Shells};
@@ -91,7 +91,7 @@ impl<'a> ShellWalk<'a> {
             (pos at.entity.0) at.item self.old.named number)) }
     {
         let file = self.faces.loops.tuples.lists.file();
-        let (entity, listed) = shell_at(file, at, number)?;
+        let (entity, listed) = record_at::<ShellRecord<'_>>(file, at, number)?;
         self.named.note(at, number, entity)?;
         let faces = self.faces.walk_all(alloc, entity, &listed)?;
         Ok(Shell {

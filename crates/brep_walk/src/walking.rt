@@ -12,7 +12,7 @@ ghost use Rattle.solid_data.specs.declared.verdict.Failing.{Failing as Named};
 use crate::fault::WalkFault;
 use crate::lists::Lists;
 use crate::place::Place;
-use crate::records::solid_at;
+use crate::records::record_at;
 use crate::shells::ShellWalk;
 use crate::walker::Walker;
 use brep_loops::SolidRecord;
@@ -35,7 +35,7 @@ fn solid_record<'a>(lists: &Lists<'a>, no: EntryNo) -> Result<(EntryNo, SolidRec
         entity: no,
         item: 0,
     };
-    solid_at(lists.file(), place, i64::from(no.0))
+    record_at(lists.file(), place, i64::from(no.0))
 }
 
 // The shells of a solid. The walk begins again for it.

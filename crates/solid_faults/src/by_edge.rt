@@ -1,9 +1,10 @@
 //! The rows of a shell, edge by edge.
 
-ghost use Rattle.std.specs.Prelude.{◌≡◌, ℕ, ◌+◌, ◌<◌, ◌≤◌, ◌^◌, IfOk, length, map, slice_get};
+ghost use Rattle.std.specs.Prelude.{◌≡◌, ℕ, ◌+◌, ◌<◌, ◌≤◌, IfOk, length, map, slice_get};
 ghost use Rattle.edge_uses.specs.declared.row.Row.{Row as AnyRow};
 ghost use Rattle.solid_faults.specs.Edges.{rows_on_edge};
 ghost use Rattle.edge_components.specs.Groups.{places_of};
+ghost use Rattle.solid_data.specs.declared.TheConstants.{PART_LIMIT};
 
 use edge_components::{Groups, grouped};
 use edge_uses::{Row, Rows};
@@ -13,7 +14,7 @@ use std::alloc::Global;
 
 fn row_at(rows: &Rows, i: usize) -> Row
     requires row { i < length rows.now.rows }
-    requires few { i < 2 ^ 29 }
+    requires few { i < PART_LIMIT }
     ensures { slice_get rows.now.rows i ≡ Some result }
 {
     rows.row(RowId(i as u32)).unwrap()

@@ -1,10 +1,11 @@
 //! The edges of a shell that aren't paired.
 
-ghost use Rattle.std.specs.Prelude.{◌≡◌, ◌<◌, ◌++◌, ◌^◌, ◌+◌, ◌≤◌, Some, length, slice_get, IfOk, map};
+ghost use Rattle.std.specs.Prelude.{◌≡◌, ◌<◌, ◌++◌, ◌+◌, ◌≤◌, Some, length, slice_get, IfOk, map};
 ghost use Rattle.std.specs.List.{AllByRecursion, enumerate_from};
 ghost use Rattle.edge_uses.specs.Ranges.{IsWithin};
 ghost use Rattle.edge_uses.specs.Tally.{seen_of, IsTally};
 ghost use Rattle.solid_faults.specs.Edges.{unpaired_at, unpaired_of, rows_on_edge, row_on};
+ghost use Rattle.solid_data.specs.declared.TheConstants.{PART_LIMIT};
 
 use edge_uses::{Row, Rows, Tally, tally_of};
 use iges_base::NoMemory;
@@ -62,7 +63,7 @@ pub fn unpaired_edges(alloc: Global, rows: &Rows) -> Result<Vec<Unpaired>, NoMem
 
 fn row_at(rows: &Rows, i: usize) -> Row
     requires row { i < length rows.now.rows }
-    requires few { i < 2 ^ 29 }
+    requires few { i < PART_LIMIT }
     ensures { slice_get rows.now.rows i ≡ Some result }
 {
     rows.row(RowId(i as u32)).unwrap()

@@ -3,6 +3,7 @@
 ghost use Rattle.std.specs.Prelude.{◌≡◌, ◌↔◌, ◌<◌, ◌++◌, ◌∷◌, [], ◌^◌, IsTrue, Some, length, map, slice_get, IfOk};
 ghost use Rattle.solid_data.specs.Numbering.{IsNumberedSolid};
 ghost use Rattle.solid_faults.specs.FaceFlags.{flagged_face as face_flagged, flagged_shell as shell_flagged, flagged_solid, IsClosedFlagged};
+ghost use Rattle.solid_data.specs.declared.TheConstants.{PART_LIMIT};
 
 use crate::closing::is_closed;
 use iges_base::{ItemList, NoMemory};
@@ -78,7 +79,7 @@ fn flagged_shell(alloc: Global, shell: &Shell) -> Result<Shell, NoMemory>
 
 fn shell_at(solid: &Solid, k: usize) -> &Shell
     requires shell { k < length solid.now.shells }
-    requires few { k < 2 ^ 29 }
+    requires few { k < PART_LIMIT }
     ensures { slice_get solid.now.shells k ≡ Some result.now }
 {
     solid.shell(ShellAt(k as u32)).unwrap()
@@ -97,14 +98,14 @@ fn flagged_shells(alloc: Global, solid: &Solid) -> Result<Shells, NoMemory>
 
 fn edge_at(solid: &Solid, e: usize) -> Edge
     requires edge { e < length solid.now.edges }
-    requires few { e < 2 ^ 29 }
+    requires few { e < PART_LIMIT }
     ensures { slice_get solid.now.edges e ≡ Some result }
 {
     *solid.edge(EdgeId(e as u32)).unwrap()
 }
 
 fn copied_edges(alloc: Global, solid: &Solid) -> Result<Edges, NoMemory>
-    requires { length solid.now.edges < 2 ^ 29 }
+    requires { length solid.now.edges < PART_LIMIT }
     ensures { IfOk result (λ copy. copy ≡ solid.now.edges) }
 {
     let mut copy = ItemList::with_room(alloc, solid.edge_count())?;

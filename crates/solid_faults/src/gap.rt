@@ -1,11 +1,12 @@
 //! The gaps of loops.
 
-ghost use Rattle.std.specs.Prelude.{◌≡◌, ◌+◌, ◌<◌, ◌≤◌, ◌^◌, ◌++◌, Bool, length, map, flat_map, slice_get, option_copied, IfOk, IfSome, get_or};
+ghost use Rattle.std.specs.Prelude.{◌≡◌, ◌+◌, ◌<◌, ◌≤◌, ◌++◌, Bool, length, map, flat_map, slice_get, option_copied, IfOk, IfSome, get_or};
 ghost use Rattle.solid_data.specs.Ring.{next_of_each};
 ghost use Rattle.solid_data.specs.SolidData.{same_flag, placed_in_face, placed_loops};
 ghost use Rattle.edge_uses.specs.Closed.{begin_of, start_of, end_of};
 ghost use Rattle.edge_uses.specs.Joining.{IsFewFace, IsFewShell, placed_at};
 ghost use Rattle.solid_faults.specs.Gaps.{gap_at, loop_gaps, gaps_of};
+ghost use Rattle.solid_data.specs.declared.TheConstants.{PART_LIMIT};
 
 use iges_base::{EntryNo, NoMemory};
 use solid_data::{Edge, FaceAt, FaceUse, Loop, LoopAt, LoopUse, Shell, ShellAt, Solid};
@@ -104,7 +105,7 @@ fn push_loop_gaps(
     walk: &Loop,
     out: &mut Vec<Gap>,
 ) -> Result<(), NoMemory>
-    requires { length walk.now.uses < 2 ^ 29 }
+    requires { length walk.now.uses < PART_LIMIT }
     ensures { (f : Bool) → IfOk result (λ _. out.new.items
         ≡ out.old.items
         ++ loop_gaps solid.now (record { at = at; forwards = f; loop = walk.now })) }

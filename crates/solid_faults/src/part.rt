@@ -1,11 +1,12 @@
 //! The parts of a shell.
 
-ghost use Rattle.std.specs.Prelude.{◌≡◌, ◌<◌, ◌++◌, ◌∷◌, [], ◌^◌, Some, length, map, slice_get, IfOk};
+ghost use Rattle.std.specs.Prelude.{◌≡◌, ◌<◌, ◌++◌, ◌∷◌, [], Some, length, map, slice_get, IfOk};
 ghost use Rattle.edge_uses.specs.Ranges.{IsWithin};
 ghost use Rattle.edge_uses.specs.Tally.{seen_of};
 ghost use Rattle.solid_faults.specs.PartPairs.{chosen_row, chosen_face, part_pair, part_pairs};
 ghost use Rattle.solid_faults.specs.Parts.{AreParts};
 ghost use Rattle.solid_faults.specs.Tallied.{AreTallied};
+ghost use Rattle.solid_data.specs.declared.TheConstants.{PART_LIMIT};
 
 use edge_components::components;
 use edge_uses::{Row, Rows, Seen, Tally, tally_of};
@@ -25,7 +26,7 @@ fn chosen(seen: Seen) -> u32
 
 fn row_at(rows: &Rows, i: usize) -> Row
     requires row { i < length rows.now.rows }
-    requires few { i < 2 ^ 29 }
+    requires few { i < PART_LIMIT }
     ensures { slice_get rows.now.rows i ≡ Some result }
 {
     rows.row(RowId(i as u32)).unwrap()

@@ -1,6 +1,6 @@
 //! Where the rows of a shell are in the file.
 
-ghost use Rattle.std.specs.Prelude.{◌≡◌, ◌<◌, ◌^◌, ◌++◌, Bool, List, length, map, flat_map, slice_get, option_copied, IfOk};
+ghost use Rattle.std.specs.Prelude.{◌≡◌, ◌<◌, ◌++◌, Bool, List, length, map, flat_map, slice_get, option_copied, IfOk};
 ghost use Rattle.std.specs.Option.{option_to_list};
 ghost use Rattle.solid_data.specs.SolidData.{same_flag, placed_in_face, placed_loops};
 ghost use Rattle.solid_data.specs.declared.solid.EdgeId.{EdgeId as AnyEdgeId};
@@ -10,6 +10,7 @@ ghost use Rattle.edge_uses.specs.ShellRows.{row_of_edge, rows_of};
 ghost use Rattle.edge_uses.specs.declared.row.Row.{Row as AnyRow};
 ghost use Rattle.solid_faults.specs.declared.placing.RowPlace.{RowPlace as AnyPlace};
 ghost use Rattle.solid_faults.specs.RowPlaces.{place_of_row, use_places, loop_places, face_places, row_places_of, places_in};
+ghost use Rattle.solid_data.specs.declared.TheConstants.{PART_LIMIT};
 
 use iges_base::{EntryNo, NoMemory};
 use solid_data::{Edge, FaceUse, Loop, LoopUse, Shell, ShellAt, Solid};
@@ -100,7 +101,7 @@ fn push_loop_places(
     forwards: bool,
     out: &mut Vec<RowPlace>,
 ) -> Result<(), NoMemory>
-    requires { length walk.now.uses < 2 ^ 29 }
+    requires { length walk.now.uses < PART_LIMIT }
     ensures { (at : LoopPlace) → IfOk result
         (λ _. out.new.items ≡ out.old.items ++ loop_places solid.now face.now
         (record { at = at; forwards = forwards; loop = walk.now })) }

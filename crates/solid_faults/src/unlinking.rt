@@ -1,9 +1,10 @@
 //! Which vertices of a shell aren't linked.
 
-ghost use Rattle.std.specs.Prelude.{◌≡◌, ◌<◌, ◌-◌, ◌==◌, ◌++◌, ◌^◌, Contains, Some, length, slice_get, IfOk, get_or};
+ghost use Rattle.std.specs.Prelude.{◌≡◌, ◌<◌, ◌-◌, ◌==◌, ◌++◌, Contains, Some, length, slice_get, IfOk, get_or};
 ghost use Rattle.edge_uses.specs.Ranges.{IsWithin};
 ghost use Rattle.solid_faults.specs.FanCells.{counted_more, IsOnVertices};
 ghost use Rattle.solid_faults.specs.Fans.{AreFanCounts, ArePointCounts, unlinked_at, unlinked_of};
+ghost use Rattle.solid_data.specs.declared.TheConstants.{PART_LIMIT};
 
 use crate::fan::Unlinked;
 use edge_uses::{Cells, Row, Rows};
@@ -13,7 +14,7 @@ use std::alloc::Global;
 
 fn row_at(rows: &Rows, i: usize) -> Row
     requires row { i < length rows.now.rows }
-    requires few { i < 2 ^ 29 }
+    requires few { i < PART_LIMIT }
     ensures { slice_get rows.now.rows i ≡ Some result }
 {
     rows.row(RowId(i as u32)).unwrap()
@@ -36,7 +37,7 @@ fn add_at(counts: &mut Cells<'_, u32>, vertex: u32, wanted: bool)
     requires known { Contains counts.old.numbers vertex }
     requires within { IsWithin counts.old.span vertex }
     requires blank { counts.old.blank ≡ 0 }
-    requires few { get_or counts.old.cells (vertex - counts.old.span.least) 0 < 2 ^ 29 }
+    requires few { get_or counts.old.cells (vertex - counts.old.span.least) 0 < PART_LIMIT }
     ensures { counts.new ≡ counted_more counts.old vertex wanted }
 {
     if wanted {

@@ -9,17 +9,17 @@ use Rattle.brep_walk.proofs.walking.solid_record.Goals as goal
 pub returns-clause-holds : goal.returns-clause-holds
 returns-clause-holds c =
     let is : to_z w64 (of_z w64 c.from.result) ≡ pos c.args.no.0 = search rules in
-    subst (λ f. OnOk c.solid_at.result (AllHold (record_places f (pos c.args.no.0) 0 solid (pos c.args.no.0)))) c.file.ensures
-    (subst (λ z. OnOk c.solid_at.result (AllHold (record_places c.file.result.now (pos c.args.no.0) 0 solid z))) is c.solid_at.ensures.holds)
+    subst (λ f. OnOk c.record_at.result (AllHold (record_places f (pos c.args.no.0) 0 solid (pos c.args.no.0)))) c.file.ensures
+    (subst (λ z. OnOk c.record_at.result (AllHold (record_places c.file.result.now (pos c.args.no.0) 0 solid z))) is c.record_at.ensures.holds)
 
 pub returns-clause-named : goal.returns-clause-named
 returns-clause-named c =
     let is : to_z w64 (of_z w64 c.from.result) ≡ pos c.args.no.0 = search rules in
-    subst (λ f. IfOk c.solid_at.result (λ r. (pos c.args.no.0 ≡ pos r.0.0) × (r.1 ≡ told solid f (pos c.args.no.0)))) c.file.ensures
-    (subst (λ z. IfOk c.solid_at.result (λ r. (z ≡ pos r.0.0) × (r.1 ≡ told solid c.file.result.now z))) is c.solid_at.ensures.named)
+    subst (λ f. IfOk c.record_at.result (λ r. (pos c.args.no.0 ≡ pos r.0.0) × (r.1 ≡ told solid f (pos c.args.no.0)))) c.file.ensures
+    (subst (λ z. IfOk c.record_at.result (λ r. (z ≡ pos r.0.0) × (r.1 ≡ told solid c.file.result.now z))) is c.record_at.ensures.named)
 
 pub returns-clause-fails : goal.returns-clause-fails
 returns-clause-fails c =
     let is : to_z w64 (of_z w64 c.from.result) ≡ pos c.args.no.0 = search rules in
-    subst (λ f. IfErr c.solid_at.result (FirstFalse (record_places f (pos c.args.no.0) 0 solid (pos c.args.no.0)))) c.file.ensures
-    (subst (λ z. IfErr c.solid_at.result (FirstFalse (record_places c.file.result.now (pos c.args.no.0) 0 solid z))) is c.solid_at.ensures.fails)
+    subst (λ f. IfErr c.record_at.result (FirstFalse (record_places f (pos c.args.no.0) 0 solid (pos c.args.no.0)))) c.file.ensures
+    (subst (λ z. IfErr c.record_at.result (FirstFalse (record_places c.file.result.now (pos c.args.no.0) 0 solid z))) is c.record_at.ensures.fails)
