@@ -142,96 +142,9 @@ fn bad_layout(named: &Named<'_>) -> Failing
     place.fails(Rule::BadLayout)
 }
 
-<<<<<<< HEAD
-/// The solid that the number at a place names, by its entry and what its record describes.
-pub fn solid_at(file: &File, at: Place, number: i64) -> Result<(EntryNo, SolidRecord<'_>), Failing>
-    ensures holds { OnOk result (AllHold (record_places file.now
-        (pos at.entity.0) at.item solid number)) }
-    ensures named { IfOk result (λ r. (number ≡ pos r.0.0) × (r.1 ≡ told solid file.now number)) }
-    ensures few { IfOk result (λ r. length r.1.voids < 2 ^ 31) }
-    ensures limits { FitsLimits file.now }
-    ensures fails { IfErr result (FirstFalse
-        (record_places file.now (pos at.entity.0) at.item solid number)) }
-{
-    let named = entry_at(file, at, EntityKind::Solid, number)?;
-    match SolidRecord::of(named.values) {
-        Some(record) => Ok((named.no, record)),
-        None => Err(bad_layout(&named)),
-    }
-}
-
-/// The shell that the number at a place names.
-pub fn shell_at(file: &File, at: Place, number: i64) -> Result<(EntryNo, ShellRecord<'_>), Failing>
-    ensures holds { OnOk result (AllHold (record_places file.now
-        (pos at.entity.0) at.item shell number)) }
-    ensures named { IfOk result (λ r. (number ≡ pos r.0.0) × (r.1 ≡ told shell file.now number)) }
-    ensures few { IfOk result (λ r. length r.1 < 2 ^ 31) }
-    ensures fails { IfErr result (FirstFalse
-        (record_places file.now (pos at.entity.0) at.item shell number)) }
-{
-    let named = entry_at(file, at, EntityKind::Shell, number)?;
-    match ShellRecord::of(named.values) {
-        Some(record) => Ok((named.no, record)),
-        None => Err(bad_layout(&named)),
-    }
-}
-
-/// The face that the number at a place names.
-pub fn face_at(file: &File, at: Place, number: i64) -> Result<(EntryNo, FaceRecord<'_>), Failing>
-    ensures holds { OnOk result (AllHold (record_places file.now
-        (pos at.entity.0) at.item face number)) }
-    ensures named { IfOk result (λ r. (number ≡ pos r.0.0) × (r.1 ≡ told face file.now number)) }
-    ensures few { IfOk result (λ r. length r.1.loops < 2 ^ 31) }
-    ensures fails { IfErr result (FirstFalse
-        (record_places file.now (pos at.entity.0) at.item face number)) }
-{
-    let named = entry_at(file, at, EntityKind::Face, number)?;
-    match FaceRecord::of(named.values) {
-        Some(record) => Ok((named.no, record)),
-        None => Err(bad_layout(&named)),
-    }
-}
-
-/// The loop that the number at a place names.
-pub fn loop_at(file: &File, at: Place, number: i64) -> Result<(EntryNo, LoopRecord<'_>), Failing>
-    ensures holds { OnOk result (AllHold (record_places file.now
-        (pos at.entity.0) at.item «loop» number)) }
-    ensures named { IfOk result (λ r. (number ≡ pos r.0.0) × (r.1 ≡ told «loop» file.now number)) }
-    ensures few { IfOk result (λ r. length r.1 < 2 ^ 31) }
-    ensures fails { IfErr result (FirstFalse
-        (record_places file.now (pos at.entity.0) at.item «loop» number)) }
-{
-    let named = entry_at(file, at, EntityKind::Loop, number)?;
-    match LoopRecord::of(named.values) {
-        Some(record) => Ok((named.no, record)),
-        None => Err(bad_layout(&named)),
-    }
-}
-
-/// The edge list that the number at a place names.
-pub fn edge_list_at(file: &File, at: Place, number: i64) -> Result<(EntryNo, EdgeList<'_>), Failing>
-    ensures holds { OnOk result (AllHold (record_places file.now
-        (pos at.entity.0) at.item edges number)) }
-    ensures named { IfOk result (λ r. (number ≡ pos r.0.0) × (r.1 ≡ told edges file.now number)) }
-    ensures few { IfOk result (λ r. length r.1 < 2 ^ 31) }
-    ensures fails { IfErr result (FirstFalse
-        (record_places file.now (pos at.entity.0) at.item edges number)) }
-{
-    let named = entry_at(file, at, EntityKind::EdgeList, number)?;
-    match EdgeList::of(named.values) {
-        Some(record) => Ok((named.no, record)),
-        None => Err(bad_layout(&named)),
-    }
-}
-
-/// The vertex list that the number at a place names.
-pub fn vertex_list_at(
-    file: &File,
-=======
 /// The record that the number at a place names, and its entry.
 pub fn record_at<'a, R: Record<'a>>(
     file: &'a File,
->>>>>>> f84b1b5db3e1a65091f98e945adec0b67e829b17
     at: Place,
     number: i64,
 ) -> Result<(EntryNo, R), Failing>

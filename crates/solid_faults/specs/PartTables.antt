@@ -1,4 +1,4 @@
--- Tables by which the parts of a shell are told.
+-- Tables by which the parts of a shell are described.
 use Rattle.std.specs.Prelude.{◌≡◌, ◌==◌, ◌<◌, ◌^◌, nat_lt, ℕ, Bool, List, [], ◌∷◌, length, map, flat_map, slice_get, All, if◌then◌else◌}
 use Rattle.std.specs.Option.{option_to_list}
 use Rattle.std.specs.List.{list_any}

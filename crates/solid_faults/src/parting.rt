@@ -97,6 +97,7 @@ fn numbers_of(alloc: Global, unpaired: &[Unpaired]) -> Result<Vec<u32>, NoMemory
     Ok(edges)
 }
 
+// Notes that a part, named by its first face, has a vertex: of the parts that have it the least is kept.
 fn lower(lows: &mut Cells<'_, u32>, vertex: u32, part: u32)
     requires known { Contains lows.old.numbers vertex }
     requires within { IsWithin lows.old.span vertex }
