@@ -18,13 +18,7 @@ use Rattle.brep_walk.specs.Kept.{AreKept, NamesRecord, IsEdgeList, IsVertexList}
 use Rattle.brep_walk.specs.Places.{told, edge_at, IsIndex, record_places, item_places}
 use Rattle.brep_walk.specs.SolidOf.{edge_key}
 use Rattle.brep_walk.specs.Walked.{IsFault}
-
--- an item of a list with one more is among those before, or it is the last
-pub get_pushed : {A : Type 0} (xs : List A) (x y : A) (i : ℕ) → slice_get (xs ++ x ∷ []) i ≡ Some y → (slice_get xs i ≡ Some y) ⊎ ((i ≡ length xs) × (x ≡ y))
-get_pushed [] x y zero h = inr (refl, same_Some x y h)
-get_pushed [] x y (suc i) h = absurd (none-some y h)
-get_pushed (z ∷ zs) x y zero h = inl h
-get_pushed (z ∷ zs) x y (suc i) h = ⊎_elim (λ old. inl old) (λ last. inr (ap suc last.0, last.1)) (get_pushed zs x y i h)
+use Rattle.item_numbers.proofs.Pushed.{get_pushed}
 
 -- A list that is found is kept. g is the file as the call was given it, and y the number.
 

@@ -23,15 +23,7 @@ use Rattle.solid_data.proofs.Members.{from_enumerated, map_has, from_flat_map, h
 use Rattle.solid_data.proofs.Occurring.{VerticesKnown}
 pub use Rattle.solid_data.proofs.Keys.{to_distinct, from_distinct, from_filter}
 use Rattle.solid_data.proofs.Keys.{place_below}
-
-pub vertex_sound : (a b : VertexKey) → same_vertex a b ≡ true → a ≡ b
-vertex_sound a b h =
-    let parts = and_parts (a.«list».0 == b.«list».0) (a.index == b.index) h in
-    ap (λ n. record a { «list» = record { 0 = n } }) (eqb-true a.«list».0 b.«list».0 parts.0)
-    ∙ ap (λ n. record b { index = n }) (eqb-true a.index b.index parts.1)
-
-pub vertex_itself : (a : VertexKey) → same_vertex a a ≡ true
-vertex_itself a = ap (λ t. t && (a.index == a.index)) (eq-eqb a.«list».0 a.«list».0 refl) ∙ eq-eqb a.index a.index refl
+use Rattle.item_numbers.proofs.SameKeys.{vertex_sound, vertex_itself}
 
 -- a key that a tuple names has a number
 key_known : (f : Contents) (n : ℤ) (t : LoopTuple) (key : VertexKey) → Has (all_tuples f n) t → Has (vertices_named f t) key → place_of same_vertex (vertex_keys f n) key < length (vertex_keys f n)

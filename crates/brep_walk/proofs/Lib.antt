@@ -16,10 +16,6 @@ pub mod Faults
 pub mod EdgeEnds
 pub mod KeptLists
 pub mod PlacedNumbers
-pub mod ListTables
-pub mod KeyedKeys
-pub mod SlotSteps
-pub mod KeyPlaces
 pub mod KnownEdges
 pub mod Decided
 pub mod ShellSolids

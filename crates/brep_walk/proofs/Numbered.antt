@@ -11,7 +11,8 @@ use Rattle.iges_params.specs.Contents.{Contents}
 use Rattle.brep_lists.specs.Record.{LoopTuple}
 use Rattle.brep_lists.specs.declared.edge_list.EdgeTuple.{EdgeTuple}
 use Rattle.brep_walk.specs.Places.{shells, faces, loops, tuples, edge_at, numbers}
-use Rattle.brep_walk.specs.SolidOf.{Keys, edge_key, vertex_key, all_tuples, edge_named, ends_named, vertices_named, use_by, loop_by, face_by, shell_by, numbered_by, edge_by, keys_of, use_of, solid_of, tuples_in, edges_in, vertices_in, keys_in, solid_listing}
+use Rattle.item_numbers.specs.Keys.{Keys}
+use Rattle.brep_walk.specs.SolidOf.{edge_key, vertex_key, all_tuples, edge_named, ends_named, vertices_named, use_by, loop_by, face_by, shell_by, numbered_by, edge_by, keys_of, use_of, solid_of, tuples_in, edges_in, vertices_in, keys_in, solid_listing}
 use Rattle.solid_data.specs.Ring.{distinct, place_of, numbers_from}
 use Rattle.solid_data.specs.Obligations.{entry_number}
 use Rattle.solid_data.specs.Numbering.{InOrderOfAppearance}
@@ -24,7 +25,7 @@ use Rattle.solid_data.specs.declared.solid.LoopUse.{LoopUse}
 use Rattle.solid_data.specs.declared.solid.LoopUse.TheVariants.{EdgeUse, VertexUse}
 use Rattle.solid_data.proofs.Members.{from_flat_map, Has, has_flat_map, length-singles, get_single}
 use Rattle.solid_data.proofs.Keys.{from_filter, to_distinct, from_distinct, at_place}
-use Rattle.brep_walk.proofs.KnownVertices.{vertex_sound, vertex_itself}
+use Rattle.item_numbers.proofs.SameKeys.{edge_sound, edge_itself, vertex_sound, vertex_itself}
 
 -- Places in the list of keys, without repeats, are 0, 1, 2 and so on.
 
@@ -125,15 +126,6 @@ module _ {A : Type 0} (same : A → A → Bool) (sound : (a b : A) → same a b 
       let keys : List A = distinct same xs in
       distinct_of_map (place_of same keys) xs (λ a b h k. place_tells keys a b (to_distinct same sound xs a h) (to_distinct same sound xs b k))
       ∙ places_of_apart keys (distinct_apart xs)
-
-pub edge_sound : (a b : EdgeKey) → same_edge a b ≡ true → a ≡ b
-edge_sound a b h =
-    let parts = and_parts (a.«list».0 == b.«list».0) (a.index == b.index) h in
-    ap (λ n. record a { «list» = record { 0 = n } }) (eqb-true a.«list».0 b.«list».0 parts.0)
-    ∙ ap (λ n. record b { index = n }) (eqb-true a.index b.index parts.1)
-
-pub edge_itself : (a : EdgeKey) → same_edge a a ≡ true
-edge_itself a = ap (λ t. t && (a.index == a.index)) (eq-eqb a.«list».0 a.«list».0 refl) ∙ eq-eqb a.index a.index refl
 
 -- The uses of all shells are those of all tuples.
 

@@ -5,7 +5,5 @@ pub mod Numbered
 pub mod Kept
 pub mod Stands
 pub mod Placed
-pub mod Slots
-pub mod Keyed
 pub mod OpenPlaces
 pub mod Counts

@@ -6,16 +6,12 @@ use Rattle.iges_params.specs.Contents.{Contents}
 use Rattle.brep_lists.specs.Record.{LoopTuple}
 use Rattle.solid_data.specs.Obligations.{AllHold}
 use Rattle.solid_data.specs.SolidData.{same_edge, same_vertex}
-use Rattle.solid_data.specs.declared.solid.Edge.{Edge}
 use Rattle.solid_data.specs.declared.solid.EdgeKey.{EdgeKey}
 use Rattle.solid_data.specs.declared.solid.VertexKey.{VertexKey}
 use Rattle.brep_walk.specs.Places.{faces, loops, tuples, edge_at, edge_places}
-use Rattle.brep_walk.specs.SolidOf.{Keys, edge_named, ends_named, vertices_named, edge_by}
-
--- the keys so far, and the edges of those that are edges
-pub record Numbered : Type 0 where
-  pub keys : Keys
-  pub edges : List Edge
+use Rattle.item_numbers.specs.Keys.{Keys}
+use Rattle.item_numbers.specs.Numbered.{Numbered}
+use Rattle.brep_walk.specs.SolidOf.{edge_named, ends_named, vertices_named, edge_by}
 
 -- Later keys begin with the earlier ones.
 pub record Extends (old new : Keys) : Type 0 where

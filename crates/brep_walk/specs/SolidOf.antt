@@ -4,6 +4,7 @@ use Rattle.iges_base.specs.declared.entry_no.EntryNo.{EntryNo}
 use Rattle.iges_params.specs.Contents.{Contents}
 use Rattle.brep_lists.specs.Record.{LoopTuple}
 use Rattle.brep_lists.specs.declared.edge_list.EdgeTuple.{EdgeTuple}
+use Rattle.item_numbers.specs.Keys.{Keys}
 use Rattle.brep_walk.specs.Places.{shells, faces, loops, tuples, edge_at, numbers}
 use Rattle.solid_data.specs.Ring.{distinct, place_of}
 use Rattle.solid_data.specs.Obligations.{entry_number}
@@ -47,11 +48,6 @@ edge_keys f n = distinct same_edge (flat_map edge_named (all_tuples f n))
 
 abbrev pub vertex_keys : Contents → ℤ → List VertexKey
 vertex_keys f n = distinct same_vertex (flat_map (vertices_named f) (all_tuples f n))
-
--- edges and vertices in an order that numbers them from 0
-pub record Keys : Type 0 where
-  pub edges : List EdgeKey
-  pub vertices : List VertexKey
 
 -- What the records describe, with the edges and the vertices numbered by these keys.
 

@@ -14,12 +14,12 @@ ghost use Rattle.solid_data.specs.declared.verdict.Failing.{Failing as Named};
 
 use crate::faces::FaceWalk;
 use crate::fault::WalkFault;
-use crate::numbering::Numbering;
 use crate::place::Place;
 use brep_loops::ShellRecord;
 use iges_directory::Entry;
 use iges_fields::{EntryNo, Values};
 use iges_params::File;
+use item_numbers::Numbering;
 use solid_data::{Faces, Failing, Rule, Shell, Shells, Solid};
 use std::alloc::Global;
 

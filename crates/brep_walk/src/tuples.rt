@@ -14,12 +14,12 @@ ghost use Rattle.solid_data.specs.SolidData.{same_edge, same_vertex};
 use crate::fault::WalkFault;
 use crate::lists::Lists;
 use crate::naming::names_geometry;
-use crate::numbering::Numbering;
 use crate::place::Place;
 use brep_lists::EdgeTuple;
 use brep_loops::{LoopRecord, LoopTuple};
 use iges_fields::EntryNo;
 use iges_params::File;
+use item_numbers::Numbering;
 use solid_data::{EdgeId, EdgeKey, LoopUse, Rule, Uses};
 use std::alloc::Global;
 

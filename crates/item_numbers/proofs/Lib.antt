@@ -1,0 +1,6 @@
+pub mod SameKeys
+pub mod Pushed
+pub mod KeyPlaces
+pub mod KeyedKeys
+pub mod SlotSteps
+pub mod ListTables

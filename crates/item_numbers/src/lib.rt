@@ -1,0 +1,11 @@
+//! Numbers for the edges and vertices of lists, and lists by the entries that they stand in.
+#![tactic(auto)]
+
+mod numbering;
+mod positions;
+mod slots;
+mod table;
+
+pub use numbering::Numbering;
+pub use positions::{Positions, end_position};
+pub use table::ListTable;
