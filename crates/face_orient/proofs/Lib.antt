@@ -12,3 +12,4 @@ pub mod Apart
 pub mod Digits
 pub mod Lines
 pub mod Worked
+pub mod Tallying

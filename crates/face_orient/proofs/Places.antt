@@ -11,12 +11,11 @@ use Rattle.edge_uses.specs.declared.row.Row.{Row}
 use Rattle.edge_uses.specs.declared.spanning.Span.{Span}
 use Rattle.edge_uses.specs.Ranges.{IsWithin}
 use Rattle.edge_uses.specs.ShellRows.{ShellRows}
-use Rattle.edge_uses.proofs.Steps.{default_apart}
 use Rattle.edge_uses.proofs.Tallies.{set_same, set_other}
 use Rattle.edge_uses.proofs.Turn.{edge_id}
 use Rattle.face_orient.specs.declared.tally.Seen.{Seen}
 use Rattle.face_orient.specs.Partners.{HasTwoRows, AllHaveTwoRows, ArePartners}
-use Rattle.face_orient.specs.Tally.{places_of, last_of, summary, seen_of, IsTally}
+use Rattle.face_orient.specs.Tally.{places_of, last_of, summary, once_more, seen_of, IsTally}
 
 pub length-places : (g n : ℕ) (rows : List Row) → length (places_of g n rows) ≡ total (λ (r : Row). cond (r.edge.0 == g) 1 0) rows
 length-places g n [] = refl
@@ -167,9 +166,6 @@ places_push g n (x ∷ rows) r =
     by_test true h = ap (λ ks. n ∷ ks) h
     by_test false h = h
 
-abbrev pub once_more : Seen → ℕ → Seen
-once_more seen r = record { count = seen.count + 1; first = (if seen.count == 0 then r else seen.first); last = r }
-
 last_push : (x : ℕ) (ys : List ℕ) (z : ℕ) → last_of x (ys ++ z ∷ []) ≡ z
 last_push x [] z = refl
 last_push x (y ∷ ys) z = last_push y ys z
@@ -225,7 +221,7 @@ seen_this d i g seen row at this h =
 
 -- one row is counted
 pub tally_step : (d : ShellRows) (i : ℕ) (span : Span) (old : List Seen) (row : Row) (was new : Seen) → slice_get d.rows i ≡ Some row → length old ≡ span.count → IsWithin span row.edge.0
-    → ((g : ℕ) → IsWithin span g → IsSeen d i g (seen_of span old g)) → was ≡ get_or old (row.edge.0 - span.least) was → new ≡ once_more was i
+    → ((g : ℕ) → IsWithin span g → IsSeen d i g (seen_of span old g)) → was ≡ get_or old (row.edge.0 - span.least) (summary []) → new ≡ once_more was i
     → (g : ℕ) → IsWithin span g → IsSeen d (i + 1) g (seen_of span (slice_set old (row.edge.0 - span.least) new) g)
 tally_step d i span old row was new at long low each is_was is_new g within = by_edge (eqb_tells row.edge.0 g)
   where
@@ -235,13 +231,10 @@ tally_step d i span old row was new at long low each is_was is_new g within = by
     in_old : k < length old
     in_old = omega (arith, long, low.0, low.1)
 
-    was_known : was ≡ get_or old k (summary [])
-    was_known = is_was ∙ default_apart old k was (summary []) in_old
-
     by_edge : (((row.edge.0 == g) ≡ true) × (row.edge.0 ≡ g)) ⊎ (((row.edge.0 == g) ≡ false) × (row.edge.0 ≢ g)) → IsSeen d (i + 1) g (get_or (slice_set old k new) (g - span.least) (summary []))
     by_edge (inl y) =
         let place : k ≡ g - span.least = ap (λ n. n - span.least) y.1 in
-        let before : IsSeen d i g was = was_known ∙ (ap (λ n. get_or old n (summary [])) place ∙ each g within) in
+        let before : IsSeen d i g was = is_was ∙ (ap (λ n. get_or old n (summary [])) place ∙ each g within) in
         let there : get_or (slice_set old k new) (g - span.least) (summary []) ≡ new = subst (λ n. get_or (slice_set old k new) n (summary []) ≡ new) place (set_same old k new (summary []) in_old) in
         (there ∙ is_new) ∙ seen_this d i g was row at y.1 before
     by_edge (inr n) =
@@ -254,11 +247,3 @@ count_told d span tally g told within two = places_two d g (sym (count_places (p
 
 pub count_ne : (d : ShellRows) (span : Span) (tally : List Seen) (g : ℕ) → IsTally d span tally → IsWithin span g → (seen_of span tally g).count ≢ 2 → HasTwoRows d g → ⊥
 count_ne d span tally g told within ne two = ne (ap (λ (s : Seen). s.count) (told g within) ∙ (count_places (places_of g 0 d.rows) ∙ two_places d g two))
-
--- what was seen in an array is few
-pub tally_few : (d : ShellRows) (i : ℕ) (span : Span) (old : List Seen) (row : Row) (was : Seen) → slice_get d.rows i ≡ Some row → length old ≡ span.count → IsWithin span row.edge.0
-    → ((g : ℕ) → IsWithin span g → IsSeen d i g (seen_of span old g)) → was ≡ get_or old (row.edge.0 - span.least) was → was.count ≤ i
-tally_few d i span old row was at long low each is_was =
-    let known : was ≡ seen_of span old row.edge.0 = is_was ∙ default_apart old (row.edge.0 - span.least) was (summary []) (omega (arith, long, low.0, low.1)) in
-    let within : i ≤ length d.rows = omega (arith, slice_get_within d.rows i row at) in
-    omega (arith, seen_few d i row.edge.0 was (known ∙ each row.edge.0 low), length-take-le i d.rows within)

@@ -1,5 +1,5 @@
 -- A shell as steps between its faces.
-use Rattle.std.specs.Prelude.{◌≡◌, ℕ, ◌<◌, ◌^◌, Bool, List, length, slice_get, Some}
+use Rattle.std.specs.Prelude.{◌≡◌, ℕ, ◌<◌, Bool, List, length, slice_get, Some}
 use Rattle.solid_data.specs.SolidData.{SolidData}
 use Rattle.face_orient.specs.declared.crossing.Crossing.{Crossing}
 use Rattle.face_orient.specs.declared.lists.Orientation.{Orientation}
@@ -8,6 +8,7 @@ use Rattle.face_orient.specs.Partners.{AllHaveTwoRows}
 use Rattle.face_orient.specs.Flags.{rows_at, face_flags}
 use Rattle.face_orient.specs.OddRing.{row_numbers}
 use Rattle.face_orient.specs.Crossings.{AreCrossings, IsGraph, AllAgree, IsOddWalk}
+use Rattle.solid_data.specs.declared.TheConstants.{PART_LIMIT}
 
 -- the steps of shell k, how many faces it has, and the first one's flag
 pub record IsGraphOf (s : SolidData) (k : ℕ) (cs : List Crossing) (n : ℕ) (first : Bool) : Type 0 where
@@ -18,8 +19,8 @@ pub record IsGraphOf (s : SolidData) (k : ℕ) (cs : List Crossing) (n : ℕ) (f
   pub counted : n ≡ (rows_at s k).face_count
   pub own : slice_get (face_flags (slice_get s.shells k)) 0 ≡ Some first
   pub some : 0 < n
-  pub few : n < 2 ^ 29
-  pub few_steps : length cs < 2 ^ 29
+  pub few : n < PART_LIMIT
+  pub few_steps : length cs < PART_LIMIT
 
 -- flags that agree with each step
 pub record Suit (cs : List Crossing) (n : ℕ) (first : Bool) (flags : List Bool) : Type 0 where

@@ -20,6 +20,15 @@ abbrev pub summary : List ℕ → Seen
 summary [] = record { count = 0; first = 0; last = 0 }
 summary (x ∷ xs) = record { count = length xs + 1; first = x; last = last_of x xs }
 
+-- row r more
+abbrev pub once_more : Seen → ℕ → Seen
+once_more seen r = record { count = seen.count + 1; first = (if seen.count == 0 then r else seen.first); last = r }
+
+-- a range of edges, and what was seen of each
+pub record Tallied : Type 0 where
+  pub span : Span
+  pub seen : List Seen
+
 -- what was seen of an edge of the range
 abbrev pub seen_of : Span → List Seen → ℕ → Seen
 seen_of span tally e = get_or tally (e - span.least) (summary [])

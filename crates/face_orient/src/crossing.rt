@@ -55,12 +55,12 @@ fn bare(row: &Row, forwards: &[bool]) -> bool
     same(row.along, forwards[row.at.face.0 as usize])
 }
 
-fn step_at(rows: &Rows, tally: &Tally, forwards: &[bool], r: u32) -> Crossing
+fn step_at(rows: &Rows, tally: &Tally<'_>, forwards: &[bool], r: u32) -> Crossing
     requires row { r < length rows.now.rows }
     requires faces { length forwards.now ≡ rows.now.face_count }
     requires whole { AreRows rows.now }
     requires span { IsSpanOf tally.now.span rows.now.edges }
-    requires tally { IsTally rows.now tally.now.span tally.now.seen.items }
+    requires tally { IsTally rows.now tally.now.span tally.now.seen }
     requires two { AllHaveTwoRows rows.now }
     ensures { IsStep rows.now forwards.now r result }
 {
@@ -79,13 +79,13 @@ fn step_at(rows: &Rows, tally: &Tally, forwards: &[bool], r: u32) -> Crossing
 pub(crate) fn steps_of(
     alloc: Global,
     rows: &Rows,
-    tally: &Tally,
+    tally: &Tally<'_>,
     forwards: &[bool],
 ) -> Result<Vec<Crossing>, NoMemory>
     requires faces { length forwards.now ≡ rows.now.face_count }
     requires whole { AreRows rows.now }
     requires span { IsSpanOf tally.now.span rows.now.edges }
-    requires tally { IsTally rows.now tally.now.span tally.now.seen.items }
+    requires tally { IsTally rows.now tally.now.span tally.now.seen }
     requires two { AllHaveTwoRows rows.now }
     ensures each { IfOk result (λ cs. length cs.items ≡ length rows.now.rows) }
     ensures steps { IfOk result (λ cs. (r : ℕ) (c : Crossing) → slice_get cs.items r ≡ Some c

@@ -1,6 +1,6 @@
 //! Flags or a ring, once all faces are reached.
 
-ghost use Rattle.std.specs.Prelude.{◌≡◌, ◌≢◌, ◌<◌, ◌^◌, ℕ, length, map, Some, slice_get, IfOk, MatchOption};
+ghost use Rattle.std.specs.Prelude.{◌≡◌, ◌≢◌, ◌<◌, ℕ, length, map, Some, slice_get, IfOk, MatchOption};
 ghost use Rattle.std.specs.List.{AllByRecursion};
 ghost use Rattle.solid_data.specs.Chain.{LeadsTo};
 ghost use Rattle.solid_data.specs.Obligations.{FirstNot};
@@ -12,6 +12,7 @@ ghost use Rattle.face_orient.specs.Crossings.{IsGraph, Meets, flipped};
 ghost use Rattle.face_orient.specs.Flood.{IsFlood, IsDone, place_of};
 ghost use Rattle.face_orient.specs.Graph.{IsFound};
 ghost use Rattle.face_orient.specs.Steady.{IsSteady};
+ghost use Rattle.solid_data.specs.declared.TheConstants.{PART_LIMIT};
 
 use crate::crossing::Crossing;
 use crate::flood::{Flood, flip};
@@ -27,7 +28,7 @@ pub(crate) fn first_unreached(
     faces: usize,
     first: bool,
 ) -> Option<u32>
-    requires few { faces < 2 ^ 29 }
+    requires few { faces < PART_LIMIT }
     requires flood { IsFlood faces crossings.now first flood.now.places.items flood.now.order.items }
     requires done { (f : ℕ) → Has flood.now.order.items f
         → IsDone crossings.now flood.now.order.items f }
@@ -46,7 +47,7 @@ pub(crate) fn first_unreached(
 /// The least step that leads from the flag of its face to another than that of the other face.
 fn first_unsteady(flood: &Flood, crossings: &[Crossing], faces: usize) -> Option<u32>
     requires graph { IsGraph faces crossings.now }
-    requires few { length crossings.now < 2 ^ 29 }
+    requires few { length crossings.now < PART_LIMIT }
     requires size { length flood.now.places.items ≡ faces }
     ensures { MatchOption result ((r : ℕ) (c : AnyCrossing) → slice_get crossings.now r ≡ Some c → IsSteady flood.now.places.items c)
         (λ r. (c : AnyCrossing) × (slice_get crossings.now r ≡ Some c) × (¬ IsSteady flood.now.places.items c)) }
@@ -81,7 +82,7 @@ pub(crate) fn found(
     first: bool,
 ) -> Result<Orientation, NoMemory>
     requires graph { IsGraph faces crossings.now }
-    requires few { length crossings.now < 2 ^ 29 }
+    requires few { length crossings.now < PART_LIMIT }
     requires flood { IsFlood faces crossings.now first flood.now.places.items flood.now.order.items }
     requires all { (f : ℕ) → f < faces → Has flood.now.order.items f }
     ensures { IfOk result (IsFound crossings.now faces first) }

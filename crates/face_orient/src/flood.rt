@@ -1,6 +1,6 @@
 //! The faces that are reached, with the flag that each must have.
 
-ghost use Rattle.std.specs.Prelude.{◌≡◌, ◌≢◌, ◌<◌, ◌≤◌, ◌^◌, ◌++◌, ◌∷◌, [], ℕ, true, false, length, map, reverse, Some, slice_get, slice_set, IfOk, MatchOption, get_or};
+ghost use Rattle.std.specs.Prelude.{◌≡◌, ◌≢◌, ◌<◌, ◌≤◌, ◌++◌, ◌∷◌, [], ℕ, true, false, length, map, reverse, Some, slice_get, slice_set, IfOk, MatchOption, get_or};
 ghost use Rattle.std.specs.List.{AllByRecursion};
 ghost use Rattle.solid_data.proofs.Members.{Has};
 ghost use Rattle.solid_data.specs.Chain.{LeadsTo};
@@ -9,6 +9,7 @@ ghost use Rattle.solid_data.specs.Obligations.{FirstNot};
 ghost use Rattle.face_orient.specs.Crossings.{IsGraph, Meets, Walk, flipped};
 ghost use Rattle.face_orient.specs.Heads.{AreHeads};
 ghost use Rattle.face_orient.specs.Flood.{IsFlood, IsDone, Grows, place_of};
+ghost use Rattle.solid_data.specs.declared.TheConstants.{PART_LIMIT};
 
 use crate::crossing::Crossing;
 use crate::heads::{Heads, heads_of};
@@ -73,7 +74,7 @@ impl Flood {
         r: u32,
     ) -> Result<(), NoMemory>
         requires graph { IsGraph faces crossings.now }
-        requires few { faces < 2 ^ 29 }
+        requires few { faces < PART_LIMIT }
         requires row { r < length crossings.now }
         requires known { (c : Crossing) → slice_get crossings.now r ≡ Some c
             → Has self.old.order.items c.from }
@@ -108,7 +109,7 @@ impl Flood {
         face: u32,
     ) -> Result<(), NoMemory>
         requires graph { IsGraph faces crossings.now }
-        requires few { faces < 2 ^ 29 }
+        requires few { faces < PART_LIMIT }
         requires table { AreHeads faces crossings.now heads.now.first.items heads.now.next.items }
         requires known { Has self.old.order.items face }
         requires low { face < faces }
@@ -136,7 +137,7 @@ impl Flood {
         q: usize,
     ) -> Result<(), NoMemory>
         requires graph { IsGraph faces crossings.now }
-        requires few { faces < 2 ^ 29 }
+        requires few { faces < PART_LIMIT }
         requires table { AreHeads faces crossings.now heads.now.first.items heads.now.next.items }
         requires flood { IsFlood faces crossings.now first self.old.places.items self.old.order.items }
         ensures flood { IfOk result
@@ -186,8 +187,8 @@ impl Flood {
     ) -> Result<Flood, NoMemory>
         requires graph { IsGraph faces crossings.now }
         requires some { 0 < faces }
-        requires few { faces < 2 ^ 29 }
-        requires few_steps { length crossings.now < 2 ^ 29 }
+        requires few { faces < PART_LIMIT }
+        requires few_steps { length crossings.now < PART_LIMIT }
         ensures flood { IfOk result
             (λ flood. IsFlood faces crossings.now first flood.places.items flood.order.items) }
         ensures done { IfOk result (λ flood. (f : ℕ) → Has flood.order.items f

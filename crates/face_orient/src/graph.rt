@@ -42,7 +42,7 @@ pub(crate) fn graph_of(alloc: Global, solid: &Solid, at: ShellAt) -> Result<Grap
     let _entity = solid.entity();
     let shell = solid.shell(at).unwrap();
     let rows = rows(alloc, solid, at)?;
-    let tally = tally_of(alloc, &rows, rows.edge_span())?;
+    let tally = tally_of(alloc, &rows)?;
     if let Some(edge) = first_miscounted(&rows, &tally) {
         return Err(OrientFault::Fails(miscounted(solid, edge)));
     }

@@ -1,8 +1,9 @@
 //! The steps from each face.
 
-ghost use Rattle.std.specs.Prelude.{◌≡◌, ◌<◌, ◌^◌, length, IfOk};
+ghost use Rattle.std.specs.Prelude.{◌≡◌, ◌<◌, length, IfOk};
 ghost use Rattle.face_orient.specs.Crossings.{IsGraph};
 ghost use Rattle.face_orient.specs.Heads.{AreHeads};
+ghost use Rattle.solid_data.specs.declared.TheConstants.{PART_LIMIT};
 
 use crate::crossing::Crossing;
 use iges_base::NoMemory;
@@ -24,7 +25,7 @@ pub(crate) fn heads_of(
     faces: usize,
 ) -> Result<Heads, NoMemory>
     requires graph { IsGraph faces crossings.now }
-    requires few { length crossings.now < 2 ^ 29 }
+    requires few { length crossings.now < PART_LIMIT }
     ensures { IfOk result (λ t. AreHeads faces crossings.now t.first.items t.next.items) }
 {
     let count = crossings.len();

@@ -1,26 +1,28 @@
-use Rattle.std.proofs.Common.{rules, ◌≡◌, arith, Some, slice_get}
-use Rattle.edge_uses.specs.Ranges.{IsWithin}
-use Rattle.face_orient.proofs.Stepping.{edge_within}
-use Rattle.face_orient.proofs.Places.{tally_step, tally_few}
+use Rattle.std.proofs.Common.{rules, ◌≡◌, ◌∙◌, subst, Some, slice_get}
+use Rattle.edge_uses.specs.Ranges.{IsSpanOf}
+use Rattle.face_orient.proofs.Tallying.{row_few, row_known, row_seen, row_within, tally_first}
 use Rattle.face_orient.proofs.tally.tally_of.Goals as goal
 
-pub once_more-requires : goal.once_more-requires
-once_more-requires c =
-    let at : slice_get c.args.rows.now.rows c.rows.i ≡ Some c.unwrap-row.result = search rules in
-    let low : IsWithin c.args.span c.unwrap-row.result.edge.0 = edge_within c.args.rows.now c.args.span c.rows.i c.unwrap-row.result c.len-i-end.ensures.kept c.requires at in
-    omega (arith, tally_few c.args.rows.now c.rows.i c.args.span c.rows.seen.items c.unwrap-row.result c.index.result.now at (omega (arith, c.rows.invariant.len)) low c.rows.invariant.each c.index.ensures, c.len-i-end.ensures.kept.few, c.len-i-end.ensures.count, c.rows-test.true)
+pub rows-init : goal.rows-init
+rows-init c =
+    tally_first c.args.rows.now c.in_ok-cells.cells (c.in_ok-cells.ensures.numbers ∙ c.edge_slice.ensures.items) (subst (IsSpanOf c.in_ok-cells.cells.span) c.edge_slice.ensures.items c.in_ok-cells.ensures.span) c.in_ok-cells.ensures.blank c.in_ok-cells.ensures.cells
 
-pub index_mut-requires : goal.index_mut-requires
-index_mut-requires c =
-    let at : slice_get c.args.rows.now.rows c.rows.i ≡ Some c.unwrap-row.result = search rules in
-    let low : IsWithin c.args.span c.unwrap-row.result.edge.0 = edge_within c.args.rows.now c.args.span c.rows.i c.unwrap-row.result c.len-i-end.ensures.kept c.requires at in
-    omega (arith, low.0, low.1, c.rows.invariant.len)
+pub see-requires-clause-known : goal.see-requires-clause-known
+see-requires-clause-known c =
+    let at : slice_get c.args.rows.now.rows c.rows.i ≡ Some c.unwrap.result = search rules in
+    row_known c.args.rows.now c.rows.i c.rows.cells c.unwrap.result c.len-i-end.ensures.kept c.rows.invariant at
+
+pub see-requires-clause-within : goal.see-requires-clause-within
+see-requires-clause-within c =
+    let at : slice_get c.args.rows.now.rows c.rows.i ≡ Some c.unwrap.result = search rules in
+    row_within c.args.rows.now c.rows.i c.rows.cells c.unwrap.result c.len-i-end.ensures.kept c.rows.invariant at
+
+pub see-requires-clause-few : goal.see-requires-clause-few
+see-requires-clause-few c =
+    let at : slice_get c.args.rows.now.rows c.rows.i ≡ Some c.unwrap.result = search rules in
+    row_few c.args.rows.now c.rows.i c.rows.cells c.unwrap.result c.len-i-end.ensures.kept c.rows.invariant at
 
 pub rows-preserved : goal.rows-preserved
 rows-preserved c =
-    let at : slice_get c.args.rows.now.rows c.rows.i ≡ Some c.unwrap-row.result = search rules in
-    let low : IsWithin c.args.span c.unwrap-row.result.edge.0 = edge_within c.args.rows.now c.args.span c.rows.i c.unwrap-row.result c.len-i-end.ensures.kept c.requires at in
-    record {
-      len = c.rows.invariant.len;
-      each = tally_step c.args.rows.now c.rows.i c.args.span c.rows.seen.items c.unwrap-row.result c.index.result.now c.once_more.result at (omega (arith, c.rows.invariant.len)) low c.rows.invariant.each c.index.ensures c.once_more.ensures;
-    }
+    let at : slice_get c.args.rows.now.rows c.rows.i ≡ Some c.unwrap.result = search rules in
+    row_seen c.args.rows.now c.rows.i c.rows.cells c.unwrap.result c.len-i-end.ensures.kept c.rows.invariant at c.see.new.cells c.see.ensures
