@@ -32,14 +32,6 @@ const UNSEEN: Seen = Seen {
 
 /// What was seen of each edge of a range.
 #[derive(Drop)]
-<<<<<<< HEAD
-pub struct Tally {
-    /// The range, in numbers of edges of the solid.
-    pub span: Span,
-    /// One item for each edge of the range, that of `span.least` at 0.
-    pub seen: Vec<Seen>,
-    ghost long: { length seen.items ≡ span.count },
-=======
 pub struct Tally<'a> {
     cells: Cells<'a, Seen>,
 }
@@ -53,7 +45,6 @@ impl<'a> Model for Tally<'a> {
     ghost view = { λ t. record { span = t.cells.span; seen = t.cells.cells } };
 
     ghost invariant = { λ t. t.cells.blank ≡ summary [] };
->>>>>>> 9b5ad9b58fe44d9d907ebfeda7950ae548e6d443
 }
 
 fn once_more(seen: Seen, r: u32) -> Seen
