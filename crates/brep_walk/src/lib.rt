@@ -13,6 +13,7 @@ mod place;
 mod records;
 mod shell_walking;
 mod shells;
+mod state;
 mod tuples;
 mod walker;
 mod walking;

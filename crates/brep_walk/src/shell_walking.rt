@@ -12,9 +12,10 @@ ghost use Rattle.iges_params.specs.Named.{values_of};
 ghost use Rattle.solid_data.specs.Obligations.{AllHold, FirstFalse};
 ghost use Rattle.solid_data.specs.declared.verdict.Failing.{Failing as Named};
 
-use crate::faces::FaceWalk;
 use crate::fault::WalkFault;
 use crate::place::Place;
+use crate::state::WalkState;
+use brep_lists::EntityKind;
 use brep_loops::ShellRecord;
 use iges_directory::Entry;
 use iges_fields::{EntryNo, Values};
@@ -28,7 +29,7 @@ fn is_shell(entry: &Entry) -> bool
     ensures { IsTrue result ↔ ((entry.now.kind ≡ type_number shell)
         × ((entry.now.form ≡ pos 1) ⊎ (entry.now.form ≡ pos 2))) }
 {
-    entry.kind == 514 && (entry.form == 1 || entry.form == 2)
+    entry.kind == EntityKind::Shell.type_number() && (entry.form == 1 || entry.form == 2)
 }
 
 // The values of the shell's record.
@@ -89,9 +90,9 @@ fn numbered_faces(alloc: Global, file: &File, no: EntryNo) -> Result<(Faces, Num
     ensures limits { FitsLimits file.now }
 {
     let listed = shell_record(file, no)?;
-    let mut walk = FaceWalk::new(alloc, file);
-    let faces = walk.walk_all(alloc, no, &listed)?;
-    Ok((faces, walk.loops.tuples.numbering))
+    let mut walk = WalkState::new(alloc, file);
+    let faces = walk.walk_faces(alloc, no, &listed)?;
+    Ok((faces, walk.numbering))
 }
 
 // The shell as a solid, or the first place that fails.

@@ -12,23 +12,15 @@ ghost use Rattle.solid_data.specs.Ring.{place_of};
 ghost use Rattle.solid_data.specs.SolidData.{same_edge, same_vertex};
 
 use crate::fault::WalkFault;
-use crate::lists::Lists;
 use crate::naming::names_geometry;
 use crate::place::Place;
+use crate::state::WalkState;
 use brep_lists::EdgeTuple;
 use brep_loops::{LoopRecord, LoopTuple};
 use iges_fields::EntryNo;
 use iges_params::File;
-use item_numbers::Numbering;
 use solid_data::{EdgeId, EdgeKey, LoopUse, Rule, Uses};
 use std::alloc::Global;
-
-/// Walks tuples: what their lists, indices and curves name, and the uses that they are.
-#[derive(Drop)]
-pub struct TupleWalk<'a> {
-    pub lists: Lists<'a>,
-    pub numbering: Numbering,
-}
 
 // Whether the i-th parameter curve of the tuple, from 0, names geometry where there is one.
 fn curve_names_geometry(file: &File, tuple: &LoopTuple<'_>, i: usize) -> bool
@@ -54,18 +46,7 @@ fn curves_name_geometry(file: &File, tuple: &LoopTuple<'_>) -> bool
     true
 }
 
-impl<'a> TupleWalk<'a> {
-    /// A walk through a file in which no edge and no vertex was used yet.
-    pub fn new(alloc: Global, file: &'a File) -> TupleWalk<'a>
-        ensures stands { Stands file.now result.lists result.numbering }
-        ensures keys { result.numbering.keys ≡ record { edges = []; vertices = [] } }
-    {
-        TupleWalk {
-            lists: Lists::new(alloc, file),
-            numbering: Numbering::new(alloc),
-        }
-    }
-
+impl<'a> WalkState<'a> {
     // The use that a tuple of a vertex is.
     fn vertex_use(&mut self, at: Place, tuple: &LoopTuple<'_>) -> Result<LoopUse, WalkFault>
         requires vertex { tuple.now.is_vertex ≡ true }
@@ -74,6 +55,8 @@ impl<'a> TupleWalk<'a> {
         ensures stands { OnOk result (Stands self.old.lists self.new.lists self.new.numbering) }
         ensures keys { OnOk result (self.new.numbering.keys
             ≡ keys_after self.old.lists self.old.numbering.keys (tuple.now ∷ [])) }
+        ensures others { OnOk result ((self.new.loops ≡ self.old.loops)
+            × (self.new.faces ≡ self.old.faces) × (self.new.shells ≡ self.old.shells)) }
         ensures made { IfOk result (IsMadeBy self.new.numbering.keys
             (λ keys. use_by keys tuple.now)) }
         ensures holds { OnOk result (AllHold (used_places self.old.lists
@@ -96,6 +79,8 @@ impl<'a> TupleWalk<'a> {
           edges = insert_key same_edge self.old.numbering.keys.edges key;
           vertices = insert_all same_vertex self.old.numbering.keys.vertices (ends_named (Some ends));
         }) }
+        ensures others { OnOk result ((self.new.loops ≡ self.old.loops)
+            × (self.new.faces ≡ self.old.faces) × (self.new.shells ≡ self.old.shells)) }
         ensures id { IfOk result
             (λ id. id.0 ≡ place_of same_edge self.new.numbering.keys.edges key) }
         ensures holds { OnOk result (AllHold (edge_places self.old.lists
@@ -122,6 +107,8 @@ impl<'a> TupleWalk<'a> {
         ensures stands { OnOk result (Stands self.old.lists self.new.lists self.new.numbering) }
         ensures keys { OnOk result (self.new.numbering.keys
             ≡ keys_after self.old.lists self.old.numbering.keys (tuple.now ∷ [])) }
+        ensures others { OnOk result ((self.new.loops ≡ self.old.loops)
+            × (self.new.faces ≡ self.old.faces) × (self.new.shells ≡ self.old.shells)) }
         ensures made { IfOk result (IsMadeBy self.new.numbering.keys
             (λ keys. use_by keys tuple.now)) }
         ensures holds { OnOk result (AllHold (used_places self.old.lists
@@ -144,6 +131,8 @@ impl<'a> TupleWalk<'a> {
         ensures stands { OnOk result (Stands self.old.lists self.new.lists self.new.numbering) }
         ensures keys { OnOk result (self.new.numbering.keys
             ≡ keys_after self.old.lists self.old.numbering.keys (tuple.now ∷ [])) }
+        ensures others { OnOk result ((self.new.loops ≡ self.old.loops)
+            × (self.new.faces ≡ self.old.faces) × (self.new.shells ≡ self.old.shells)) }
         ensures made { IfOk result (IsMadeBy self.new.numbering.keys
             (λ keys. use_by keys tuple.now)) }
         ensures holds { OnOk result (AllHold (used_places self.old.lists
@@ -159,12 +148,14 @@ impl<'a> TupleWalk<'a> {
     }
 
     /// The use that the tuple at a place is, where all that it names is there.
-    pub fn walk(&mut self, at: Place, tuple: &LoopTuple<'_>) -> Result<LoopUse, WalkFault>
+    pub fn walk_tuple(&mut self, at: Place, tuple: &LoopTuple<'_>) -> Result<LoopUse, WalkFault>
         requires { Stands self.old.lists self.old.lists self.old.numbering }
         ensures file { self.new.lists ≡ self.old.lists }
         ensures stands { OnOk result (Stands self.old.lists self.new.lists self.new.numbering) }
         ensures keys { OnOk result (self.new.numbering.keys
             ≡ keys_after self.old.lists self.old.numbering.keys (tuple.now ∷ [])) }
+        ensures others { OnOk result ((self.new.loops ≡ self.old.loops)
+            × (self.new.faces ≡ self.old.faces) × (self.new.shells ≡ self.old.shells)) }
         ensures made { IfOk result (IsMadeBy self.new.numbering.keys
             (λ keys. use_by keys tuple.now)) }
         ensures holds { OnOk result (AllHold (tuple_at self.old.lists
@@ -180,7 +171,7 @@ impl<'a> TupleWalk<'a> {
     }
 
     /// The uses that the tuples of a loop are.
-    pub fn walk_all(
+    pub fn walk_tuples(
         &mut self,
         alloc: Global,
         no: EntryNo,
@@ -192,6 +183,8 @@ impl<'a> TupleWalk<'a> {
         ensures stands { OnOk result (Stands self.old.lists self.new.lists self.new.numbering) }
         ensures keys { OnOk result (self.new.numbering.keys
             ≡ keys_after self.old.lists self.old.numbering.keys listed.now) }
+        ensures others { OnOk result ((self.new.loops ≡ self.old.loops)
+            × (self.new.faces ≡ self.old.faces) × (self.new.shells ≡ self.old.shells)) }
         ensures made { IfOk result (IsMadeBy self.new.numbering.keys
             (λ keys. map (use_by keys) listed.now)) }
         ensures holds { OnOk result (AllHold (after_each
@@ -203,7 +196,7 @@ impl<'a> TupleWalk<'a> {
         let mut item = 0;
         'tuples: for tuple in listed.tuples() {
             item += 1;
-            let made = self.walk(Place { entity: no, item }, &tuple)?;
+            let made = self.walk_tuple(Place { entity: no, item }, &tuple)?;
             uses.push(made)?;
         }
         Ok(uses)

@@ -8,7 +8,7 @@ ghost use Rattle.solid_data.specs.Obligations.{AllHold, FirstFalse};
 ghost use Rattle.solid_data.specs.declared.verdict.Failing.{Failing as Named};
 
 use crate::fault::WalkFault;
-use crate::shells::ShellWalk;
+use crate::state::WalkState;
 use crate::walking::walk_solid;
 use iges_fields::EntryNo;
 use iges_params::File;
@@ -20,7 +20,7 @@ use std::marker::Model;
 /// all of them, so that a walk costs what its own solid names (own).
 #[derive(Drop)]
 pub struct Walker<'a> {
-    walk: ShellWalk<'a>,
+    walk: WalkState<'a>,
 }
 
 impl<'a> Model for Walker<'a> {
@@ -28,7 +28,7 @@ impl<'a> Model for Walker<'a> {
 
     ghost Value = { Contents };
 
-    ghost view = { λ walker. walker.walk.faces.loops.tuples.lists };
+    ghost view = { λ walker. walker.walk.lists };
 }
 
 impl<'a> Walker<'a> {
@@ -37,7 +37,7 @@ impl<'a> Walker<'a> {
         ensures { result ≡ file.now }
     {
         Walker {
-            walk: ShellWalk::new(alloc, file),
+            walk: WalkState::new(alloc, file),
         }
     }
 

@@ -13,7 +13,7 @@ use crate::fault::WalkFault;
 use crate::lists::Lists;
 use crate::place::Place;
 use crate::records::record_at;
-use crate::shells::ShellWalk;
+use crate::state::WalkState;
 use crate::walker::Walker;
 use brep_loops::SolidRecord;
 use iges_fields::EntryNo;
@@ -40,39 +40,36 @@ fn solid_record<'a>(lists: &Lists<'a>, no: EntryNo) -> Result<(EntryNo, SolidRec
 
 // The shells of a solid. The walk begins again for it.
 fn numbered_shells(
-    walk: &mut ShellWalk<'_>,
+    walk: &mut WalkState<'_>,
     alloc: Global,
     no: EntryNo,
 ) -> Result<Shells, WalkFault>
-    ensures file { walk.new.faces.loops.tuples.lists ≡ walk.old.faces.loops.tuples.lists }
-    ensures holds { OnOk result (AllHold (places walk.old.faces.loops.tuples.lists no.0)) }
-    ensures shells { IfOk result (λ r. r ≡ map
-        (shell_of walk.old.faces.loops.tuples.lists (pos no.0))
-        (shells walk.old.faces.loops.tuples.lists (pos no.0))) }
-    ensures keys { OnOk result (walk.new.faces.loops.tuples.numbering.keys
-        ≡ keys_of walk.old.faces.loops.tuples.lists (pos no.0)) }
-    ensures edges { OnOk result (walk.new.faces.loops.tuples.numbering.edges
-        ≡ flat_map (edge_of walk.old.faces.loops.tuples.lists (pos no.0))
-        (edge_keys walk.old.faces.loops.tuples.lists (pos no.0))) }
-    ensures fault { IfErr result (IsFault (places walk.old.faces.loops.tuples.lists no.0)) }
-    ensures limits { FitsLimits walk.old.faces.loops.tuples.lists }
+    ensures file { walk.new.lists ≡ walk.old.lists }
+    ensures holds { OnOk result (AllHold (places walk.old.lists no.0)) }
+    ensures shells { IfOk result (λ r. r ≡ map (shell_of walk.old.lists (pos no.0))
+        (shells walk.old.lists (pos no.0))) }
+    ensures keys { OnOk result (walk.new.numbering.keys ≡ keys_of walk.old.lists (pos no.0)) }
+    ensures edges { OnOk result (walk.new.numbering.edges
+        ≡ flat_map (edge_of walk.old.lists (pos no.0)) (edge_keys walk.old.lists (pos no.0))) }
+    ensures fault { IfErr result (IsFault (places walk.old.lists no.0)) }
+    ensures limits { FitsLimits walk.old.lists }
 {
-    let (entity, listed) = solid_record(&walk.faces.loops.tuples.lists, no)?;
+    let (entity, listed) = solid_record(&walk.lists, no)?;
     walk.restart(alloc);
-    let shells = walk.walk_all(alloc, entity, &listed)?;
+    let shells = walk.walk_shells(alloc, entity, &listed)?;
     Ok(shells)
 }
 
 /// The solid that a walk through its file finds, or the first place that fails. The walk may have gone through other
 /// solids before, with whatever end.
-pub fn walk_solid(walk: &mut ShellWalk<'_>, alloc: Global, no: EntryNo) -> Result<Solid, WalkFault>
-    ensures file { walk.new.faces.loops.tuples.lists ≡ walk.old.faces.loops.tuples.lists }
-    ensures solid { IfOk result (λ s. s ≡ solid_of walk.old.faces.loops.tuples.lists no.0) }
-    ensures holds { OnOk result (AllHold (places walk.old.faces.loops.tuples.lists no.0)) }
-    ensures fault { IfErr result (IsFault (places walk.old.faces.loops.tuples.lists no.0)) }
+pub fn walk_solid(walk: &mut WalkState<'_>, alloc: Global, no: EntryNo) -> Result<Solid, WalkFault>
+    ensures file { walk.new.lists ≡ walk.old.lists }
+    ensures solid { IfOk result (λ s. s ≡ solid_of walk.old.lists no.0) }
+    ensures holds { OnOk result (AllHold (places walk.old.lists no.0)) }
+    ensures fault { IfErr result (IsFault (places walk.old.lists no.0)) }
 {
     let shells = numbered_shells(walk, alloc, no)?;
-    let numbering = &mut walk.faces.loops.tuples.numbering;
+    let numbering = &mut walk.numbering;
     let vertices = numbering.vertices(alloc)?;
     let edges = numbering.take_edges(alloc);
     Ok(Solid::new(no, shells, edges, vertices))

@@ -1,5 +1,5 @@
 -- Keys that are the same are equal.
-use Rattle.std.specs.Prelude.{◌≡◌, ◌==◌, ◌&&◌, Bool, true}
+use Rattle.std.specs.Prelude.{◌≡◌, ◌==◌, ◌&&◌, true}
 use Rattle.std.proofs.Common.{refl, ◌∙◌, ap}
 use Rattle.std.proofs.lemmas.Bool.{eq-eqb, eqb-true, and_parts}
 use Rattle.solid_data.specs.SolidData.{same_edge, same_vertex}

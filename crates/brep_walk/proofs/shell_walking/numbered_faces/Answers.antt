@@ -7,12 +7,12 @@ returns-in_err-listed-clause-fault c = no_shell_record c.args.file.now c.args.no
 
 pub returns-in_err-faces-clause-fault : goal.returns-in_err-faces-clause-fault
 returns-in_err-faces-clause-fault c =
-    faces_fault c.args.file.now c.args.no.0 _ c.in_ok-listed.ensures.listed _ c.new-walk.ensures.stands.file _ c.new-walk.ensures.named
+    faces_fault c.args.file.now c.args.no.0 _ c.in_ok-listed.ensures.listed _ c.new-walk.ensures.stands.file _ c.new-walk.ensures.faces
     c.from_residual-in_err-faces.result _ c.in_ok-listed.ensures.holds c.in_err-faces.ensures.fault c.from_residual-in_err-faces.ensures.1
 
 pub returns-clause-holds : goal.returns-clause-holds
 returns-clause-holds c =
-    faces_hold_all c.args.file.now c.args.no.0 _ c.in_ok-listed.ensures.listed _ c.new-walk.ensures.stands.file _ c.new-walk.ensures.named c.in_ok-listed.ensures.holds c.in_ok-faces.ensures.holds
+    faces_hold_all c.args.file.now c.args.no.0 _ c.in_ok-listed.ensures.listed _ c.new-walk.ensures.stands.file _ c.new-walk.ensures.faces c.in_ok-listed.ensures.holds c.in_ok-faces.ensures.holds
 
 pub returns-clause-keys : goal.returns-clause-keys
 returns-clause-keys c =

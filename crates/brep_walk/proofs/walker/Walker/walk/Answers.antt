@@ -20,12 +20,12 @@ returns-clause-fault c = subst (λ f. IfErr c.walk_solid.result (IsFault (places
 
 pub returns-clause-only : goal.returns-clause-only
 returns-clause-only c =
-    let f = c.self.inside.walk.faces.loops.tuples.lists in
+    let f = c.self.inside.walk.lists in
     subst (λ g. AllHold (places g c.args.no.0) → Gives c.walk_solid.result (Ok (solid_of g c.args.no.0))) c.self.view_is
     (λ all. only_solid (places f c.args.no.0) (solid_of f c.args.no.0) c.walk_solid.result c.walk_solid.ensures.solid c.walk_solid.ensures.fault all)
 
 pub returns-clause-only_fault : goal.returns-clause-only_fault
 returns-clause-only_fault c x h =
-    let f = c.self.inside.walk.faces.loops.tuples.lists in
+    let f = c.self.inside.walk.lists in
     subst (λ g. FirstFalse (places g c.args.no.0) x → Gives c.walk_solid.result (Err x)) c.self.view_is
     (λ first. only_fault (places f c.args.no.0) (solid_of f c.args.no.0) c.walk_solid.result c.walk_solid.ensures.holds c.walk_solid.ensures.fault x first) h

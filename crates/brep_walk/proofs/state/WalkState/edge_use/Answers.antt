@@ -4,7 +4,7 @@ use mir.Val.{to_z, of_z}
 use Rattle.item_numbers.specs.Keys.{Keys}
 use Rattle.brep_walk.specs.SolidOf.{edge_key}
 use Rattle.brep_walk.proofs.Used.{edge_made, ends_fault}
-use Rattle.brep_walk.proofs.tuples.TupleWalk.edge_use.Goals as goal
+use Rattle.brep_walk.proofs.state.WalkState.edge_use.Goals as goal
 
 pub returns-clause-made : goal.returns-clause-made
 returns-clause-made c later more =

@@ -3,7 +3,7 @@ use Rattle.indexmap.specs.IndexSet.{insert_key}
 use Rattle.solid_data.specs.SolidData.{same_edge, same_vertex}
 use Rattle.brep_walk.proofs.KnownEdges.{put_edge}
 use Rattle.brep_walk.proofs.Used.{edges_put}
-use Rattle.brep_walk.proofs.tuples.TupleWalk.edge_number.Goals as goal
+use Rattle.brep_walk.proofs.state.WalkState.edge_number.Goals as goal
 
 pub returns-clause-stands : goal.returns-clause-stands
 returns-clause-stands c =

@@ -3,7 +3,7 @@ use mir.Syntax.{w64}
 use mir.Val.{to_z, of_z}
 use Rattle.brep_walk.specs.SolidOf.{vertex_key}
 use Rattle.brep_walk.proofs.Used.{vertex_made}
-use Rattle.brep_walk.proofs.tuples.TupleWalk.vertex_use.Goals as goal
+use Rattle.brep_walk.proofs.state.WalkState.vertex_use.Goals as goal
 
 pub returns-clause-made : goal.returns-clause-made
 returns-clause-made c later more =
