@@ -58,7 +58,7 @@ rows_few count (row ∷ rows) (r ∷ rs) e h =
     (omega (arith, here, h r (inl refl)), rows_few count rows rs rest (λ q m. h q (inr m)))
 
 module _ (g : Contents) (records : AreRecords g) (made : IsMade g) where
-  short : (r : Record) → Has g.entries r → length r.1 ≤ 164000000
+  pub short : (r : Record) → Has g.entries r → length r.1 ≤ 164000000
   short r h = let most : value_count g.entries ≤ 164000000 = made.limits.values in omega (arith, most, member_few g.entries r h)
 
   pub edge_rows_few : (rows : List (List Bool)) → sizes rows ≡ edge_sizes g → AllByRecursion (λ (row : List Bool). length row ≤ 164000000) rows

@@ -21,3 +21,4 @@ pub mod RankSteps
 pub mod ValueSteps
 pub mod ListSteps
 pub mod FileSteps
+pub mod Emptied

@@ -70,9 +70,6 @@ reindexed_spelled g (x ∷ xs) = ap (λ vs. edge_spelled (reindexed_edge g x) ++
 rest_taken : (vs : List Value) (n : ℕ) → take (length vs) (drop n vs) ≡ drop n vs
 rest_taken vs n = take_all (length vs) (drop n vs) (omega (arith, length-drop n vs))
 
-pub all_taken : (vs : List Value) (n : ℕ) (list new : List Value) → list ≡ [] → n ≡ length vs → new ≡ list ++ take n (drop 0 vs) → new ≡ vs
-all_taken vs n list new none en e = e ∙ (ap (λ l. l ++ take n (drop 0 vs)) none ∙ (ap (λ m. take m vs) en ∙ take_all (length vs) vs (omega arith)))
-
 pub edges_unused : (g : Contents) (e : ℕ) (vs : List Value) (row : List Bool) (xs : List EdgeTuple) → xs ≡ items_of edges vs → length row ≡ length xs → MarksItems row (is_used_edge g e) → marks_set row ≡ 0 → vs ≡ edge_values g e vs
 edges_unused g e vs row xs ex el m none =
     let long : length (kept_edges g e vs) ≡ length (used_from (is_used_edge g e) 1 (items_of edges vs)) = length-map (used_from (is_used_edge g e) 1 (items_of edges vs)) (reindexed_edge g) in

@@ -4,7 +4,7 @@ use Rattle.std.proofs.Common.{refl, sym, ◌∙◌, ap, subst, arith}
 use Rattle.std.proofs.Math.Seq.{take-set-lt}
 use Rattle.std.proofs.lemmas.Bool.{cond-false, ne_eqb}
 use Rattle.std.proofs.lemmas.Option.{same_Some}
-use Rattle.std.proofs.lemmas.List.{length-drop, length-set, length-take-le, take_all, take-append-le, take-set-le, drop_at, drop-append-le, drop-set-add, drop-set-lt, set-get_or, set_past, length-append, length-replicate}
+use Rattle.std.proofs.lemmas.List.{length-drop, length-take-le, take_all, take-append-le, take-set-le, drop_at, drop-append-le, drop-set-add, drop-set-lt, set-get_or, set_past, length-append, length-replicate}
 use Rattle.list_compact.specs.Rows.{rows_from, AreEnds, start_of}
 
 -- where row i begins, where the first begins at place a

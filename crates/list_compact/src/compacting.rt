@@ -3,41 +3,50 @@
 ghost use Rattle.entry_references.specs.declared.fault.ExtractReason.{ExtractReason as Reason};
 ghost use Rattle.iges_params.specs.Contents.{Contents};
 ghost use Rattle.brep_walk.specs.Places.{places};
+ghost use Rattle.brep_walk.specs.Walked.{IsFault};
 ghost use Rattle.list_compact.specs.Compacted.{GivesFile, GivesPlace, GivesRefusal, IsCompactFault, IsCompacted, IsMisplaced};
 ghost use Rattle.solid_data.specs.declared.verdict.Failing.{Failing as Named};
 ghost use Rattle.solid_data.specs.Obligations.{AllHold};
 ghost use Rattle.solid_extract.specs.Extracted.{IsExtracted, IsExtractedAs, IsRefused};
-ghost use Rattle.std.specs.Prelude.{ℕ, IfErr, IfOk};
+ghost use Rattle.std.specs.Prelude.{ℕ, IfErr, IfOk, OnOk};
 
 use crate::dropping::dropped;
 use crate::fault::CompactFault;
-use brep_walk::walk;
+use brep_walk::{WalkFault, walk};
 use iges_fields::{EntryNo, NoMemory};
 use iges_params::File;
-use solid_extract::{Extraction, extract, extract_numbered};
+use solid_extract::{Extraction, extract_numbered, into_extract, into_extract_numbered};
 use std::alloc::Global;
 
 // The file of a solid that isn't refused: the call errs only where memory runs out.
-fn extracted(alloc: Global, file: &File, no: EntryNo) -> Result<File, NoMemory>
-    requires { (entity : ℕ) (reason : Reason) → ¬ IsRefused file.now no.0 entity reason }
-    ensures { IfOk result (IsExtracted file.now no.0) }
+fn extracted(alloc: Global, file: File, no: EntryNo) -> Result<File, NoMemory>
+    requires { (entity : ℕ) (reason : Reason) → ¬ IsRefused file no.0 entity reason }
+    ensures { IfOk result (IsExtracted file no.0) }
 {
-    match extract(alloc, file, no) {
+    match into_extract(alloc, file, no) {
         Ok(new) => Ok(new),
         Err(_) => Err(NoMemory),
     }
 }
 
-// The rest, once a solid's file is extracted. Each file takes room that the one after the next needs.
+// The rest, once a solid's file is extracted.
 fn finished(alloc: Global, extraction: Extraction) -> Result<File, NoMemory>
     requires { (f : Contents) × (n : ℕ) × IsExtractedAs f n extraction.file extraction.no.0 }
     ensures { (f : Contents) (n : ℕ) → IsExtractedAs f n extraction.file extraction.no.0
         → AllHold (places f n) → IfOk result (IsCompacted f n) }
 {
-    let new = dropped(alloc, &extraction.file)?;
     let number = extraction.no;
-    drop(extraction);
-    Ok(extracted(alloc, &new, number)?)
+    let new = dropped(alloc, extraction.file)?;
+    Ok(extracted(alloc, new, number)?)
+}
+
+// The walk over a solid's records, of which only the fault is told.
+fn walked(alloc: Global, file: &File, no: EntryNo) -> Result<(), WalkFault>
+    ensures holds { OnOk result (AllHold (places file.now no.0)) }
+    ensures fault { IfErr result (IsFault (places file.now no.0)) }
+{
+    walk(alloc, file, no)?;
+    Ok(())
 }
 
 fn compacted(alloc: Global, file: &File, no: EntryNo) -> Result<File, CompactFault>
@@ -45,7 +54,7 @@ fn compacted(alloc: Global, file: &File, no: EntryNo) -> Result<File, CompactFau
     ensures fault { IfErr result (IsCompactFault file.now no.0) }
 {
     let extraction = extract_numbered(alloc, file, no)?;
-    walk(alloc, file, no)?;
+    walked(alloc, file, no)?;
     Ok(finished(alloc, extraction)?)
 }
 
@@ -54,9 +63,9 @@ fn turned_into_compacted(alloc: Global, file: File, no: EntryNo) -> Result<File,
     ensures found { IfOk result (IsCompacted file no.0) }
     ensures fault { IfErr result (IsCompactFault file no.0) }
 {
-    let extraction = extract_numbered(alloc, &file, no)?;
-    walk(alloc, &file, no)?;
-    drop(file);
+    let places = walked(alloc, &file, no);
+    let extraction = into_extract_numbered(alloc, file, no)?;
+    places?;
     Ok(finished(alloc, extraction)?)
 }
 
@@ -74,7 +83,7 @@ pub fn compact(alloc: Global, file: &File, no: EntryNo) -> Result<File, CompactF
     compacted(alloc, file, no)
 }
 
-/// The same as `compact`, of a file that isn't needed any more: its memory is freed before the new file is made (own).
+/// The same as `compact`, of a file that isn't needed any more: the values that are kept stay in their memory (own).
 pub fn into_compact(alloc: Global, file: File, no: EntryNo) -> Result<File, CompactFault>
     ensures found { IfOk result (IsCompacted file no.0) }
     ensures only { (new : Contents) → IsCompacted file no.0 new → GivesFile result new }

@@ -59,16 +59,6 @@ fn push_copies(
     Ok(())
 }
 
-/// A copy of values.
-pub fn copied(alloc: Global, values: &Values) -> Result<Values, NoMemory>
-    ensures { IfOk result (λ list. list ≡ values.now) }
-{
-    let mut list = Values::with_room(alloc, values.len())?;
-    push_copies(&mut list, alloc, values, 0, values.len())?;
-    Ok(list)
-}
-
-// The new index of the edge or the vertex that a tuple names.
 fn tuple_index(ranks: &FileRanks, tuple: &LoopTuple<'_>) -> i64
     ensures { (g : Contents) → AreTables g ranks.now.edges ranks.now.vertices
         → result ≡ tuple_index g tuple.now.is_vertex tuple.now.list tuple.now.index }
@@ -200,11 +190,12 @@ fn push_used_vertex(
     Ok(())
 }
 
-/// The values of a list of edges, of which this row marks those that are used.
-pub fn edge_values(
+// The values of a list of edges, of which this row marks so many.
+fn used_edges(
     alloc: Global,
     ranks: &Ranks,
     row: &[bool],
+    used: usize,
     values: &Values,
     listed: &EdgeList<'_>,
 ) -> Result<Values, NoMemory>
@@ -212,17 +203,15 @@ pub fn edge_values(
     requires is { IsRecordOf edges values.now }
     requires read { listed.now ≡ items_of edges values.now }
     requires size { length row.now ≡ length listed.now }
+    requires used { used ≡ marks_set row.now }
+    requires some { 0 < used }
+    requires few { used ≤ length row.now }
     ensures { (g : Contents) (e : ℕ) → IsVertexTable g ranks.now
         → MarksItems row.now (is_used_edge g e) → IfOk result
         (λ list. list ≡ edge_values g e values.now) }
 {
-    let kept = count_marks(row);
     let mut list = Values::new(alloc);
-    if kept == 0 {
-        push_copies(&mut list, alloc, values, 0, values.len())?;
-        return Ok(list);
-    }
-    push_int(&mut list, kept as i64)?;
+    push_int(&mut list, used as i64)?;
     let count = listed.len();
     'edges: for i in 0..count {
         let edge = listed.tuple(i).unwrap();
@@ -232,10 +221,35 @@ pub fn edge_values(
     Ok(list)
 }
 
-/// The values of a list of vertices, of which this row marks those that are used.
-pub fn vertex_values(
+/// The values of a list of edges, of which this row marks those that are used.
+pub fn edge_values(
+    alloc: Global,
+    ranks: &Ranks,
+    row: &[bool],
+    values: Values,
+) -> Result<Values, NoMemory>
+    requires short { length values ≤ FILE_LIMIT }
+    requires is { IsRecordOf edges values }
+    requires size { length row.now ≡ length (items_of edges values) }
+    ensures { (g : Contents) (e : ℕ) → IsVertexTable g ranks.now
+        → MarksItems row.now (is_used_edge g e) → IfOk result
+        (λ list. list ≡ edge_values g e values) }
+{
+    let used = count_marks(row);
+    if used == 0 {
+        return Ok(values);
+    }
+    let Some(listed) = EdgeList::of(&values) else {
+        return Err(NoMemory);
+    };
+    used_edges(alloc, ranks, row, used, &values, &listed)
+}
+
+// The values of a list of vertices, of which this row marks so many.
+fn used_vertices(
     alloc: Global,
     row: &[bool],
+    used: usize,
     values: &Values,
     listed: &VertexList<'_>,
 ) -> Result<Values, NoMemory>
@@ -243,20 +257,36 @@ pub fn vertex_values(
     requires is { IsRecordOf vertices values.now }
     requires read { listed.now ≡ items_of vertices values.now }
     requires size { length row.now ≡ length listed.now }
+    requires used { used ≡ marks_set row.now }
+    requires some { 0 < used }
+    requires few { used ≤ length row.now }
     ensures { (g : Contents) (v : ℕ) → MarksItems row.now (is_used_vertex g v)
         → IfOk result (λ list. list ≡ vertex_values g v values.now) }
 {
-    let kept = count_marks(row);
     let mut list = Values::new(alloc);
-    if kept == 0 {
-        push_copies(&mut list, alloc, values, 0, values.len())?;
-        return Ok(list);
-    }
-    push_int(&mut list, kept as i64)?;
+    push_int(&mut list, used as i64)?;
     let count = listed.len();
     'vertices: for i in 0..count {
         push_used_vertex(&mut list, alloc, values, mark_at(row, i), 1 + 3 * i)?;
     }
     push_copies(&mut list, alloc, values, 1 + 3 * count, values.len())?;
     Ok(list)
+}
+
+/// The values of a list of vertices, of which this row marks those that are used.
+pub fn vertex_values(alloc: Global, row: &[bool], values: Values) -> Result<Values, NoMemory>
+    requires short { length values ≤ FILE_LIMIT }
+    requires is { IsRecordOf vertices values }
+    requires size { length row.now ≡ length (items_of vertices values) }
+    ensures { (g : Contents) (v : ℕ) → MarksItems row.now (is_used_vertex g v)
+        → IfOk result (λ list. list ≡ vertex_values g v values) }
+{
+    let used = count_marks(row);
+    if used == 0 {
+        return Ok(values);
+    }
+    let Some(listed) = VertexList::of(&values) else {
+        return Err(NoMemory);
+    };
+    used_vertices(alloc, row, used, &values, &listed)
 }

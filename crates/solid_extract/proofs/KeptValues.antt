@@ -92,6 +92,19 @@ next_value kept own vs i v p c list new at ep ec inv en =
     ∙ (ap (λ (x : Value). map (as_kept kept own) (enumerate_from 1 (take i vs)) ++ new_value kept own (1 + length (take i vs)) x ∷ []) got
     ∙ ap (λ (n : ℕ). map (as_kept kept own) (enumerate_from 1 (take i vs)) ++ new_value kept own n v ∷ []) long))))))
 
+-- without a pointer all stay
+pub all_plain : (kept : List ℕ) (own : Own) (k : ℕ) (vs : List Value) → own.pointers ≡ [] → own.cut ≡ [] → map (as_kept kept own) (enumerate_from k vs) ≡ vs
+all_plain kept own k [] ep ec = refl
+all_plain kept own k (v ∷ vs) ep ec =
+    let stays : new_value kept own k v ≡ v = sym (value_is kept own k false false v (sym (ap (λ (ps : List ℕ). is_among ps k) ep)) (sym (ap (λ (ps : List ℕ). is_among ps k) ec))) ∙ plain v in
+    λ j. stays j ∷ all_plain kept own (k + 1) vs ep ec j
+  where
+    plain : (x : Value) → value_as kept false false x ≡ x
+    plain value.Default = refl
+    plain (value.Int n) = refl
+    plain (value.Real w) = refl
+    plain (value.Text t) = refl
+
 -- the values of which the first i are as they are kept
 module _ (kept : List ℕ) (own : Own) (vs : List Value) where
   abbrev pub renewed : ℕ → List Value

@@ -1,5 +1,5 @@
 -- A file from which values are taken: its entries stay, and so does what a greater number names.
-use Rattle.std.specs.Prelude.{◌≡◌, ℕ, zero, suc, ◌+◌, ◌-◌, ◌*◌, ◌/◌, ◌%◌, ◌<◌, ◌≤◌, ◌==◌, Bool, true, false, ◌&&◌, ℤ, pos, negsuc, List, [], ◌∷◌, ◌++◌, length, map, take, drop, set, Option, Some, None, Result, Ok, Err, OnOk, option_map, IsSome, if◌then◌else◌, slice_get, filter, filter_map}
+use Rattle.std.specs.Prelude.{◌≡◌, ℕ, zero, suc, ◌+◌, ◌/◌, ◌%◌, ◌<◌, ◌≤◌, ◌==◌, Bool, true, false, ◌&&◌, ℤ, pos, negsuc, List, [], ◌∷◌, ◌++◌, length, map, take, drop, set, Option, Some, None, Result, Ok, Err, OnOk, option_map, IsSome, if◌then◌else◌, slice_get, filter, filter_map}
 use Rattle.std.specs.List.{cons_option, enumerate_from}
 use Rattle.std.specs.List.Sorted.{IsStrictlyIncreasing}
 use Rattle.std.specs.Ordering.{int_eq}
@@ -87,7 +87,7 @@ values_by p kept own g vs =
 
 -- ---- a file, and the same without the values of an entry
 
-get_later : (es : List Record) (i j : ℕ) (x : Record) → i < j → slice_get (set es i x) j ≡ slice_get es j
+pub get_later : (es : List Record) (i j : ℕ) (x : Record) → i < j → slice_get (set es i x) j ≡ slice_get es j
 get_later [] i j x lt = refl
 get_later (e ∷ es) i zero x lt = absurd (omega (arith, lt))
 get_later (e ∷ es) zero (suc j) x lt = refl

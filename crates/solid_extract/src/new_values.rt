@@ -6,7 +6,7 @@ ghost use Rattle.iges_base.specs.declared.TheConstants.{FILE_LIMIT};
 ghost use Rattle.solid_extract.specs.Extracted.{new_value, renamed};
 ghost use Rattle.solid_extract.specs.NewValues.{AreMarkedPlaces, names_behind, new_numbers, value_as, with_mark};
 ghost use Rattle.std.specs.List.{enumerate_from};
-ghost use Rattle.std.specs.Prelude.{◌≡◌, ◌+◌, ◌∷◌, ◌++◌, ◌<◌, ◌≤◌, ◌^◌, IfOk, MatchOption, OnOk, Some, drop, filter, filter_map, if◌then◌else◌, length, map, pos, set, slice_get, take};
+ghost use Rattle.std.specs.Prelude.{◌≡◌, ◌+◌, ◌∷◌, ◌++◌, ◌<◌, ◌≤◌, ◌^◌, [], IfOk, IsTrue, MatchOption, OnOk, Some, drop, filter, filter_map, if◌then◌else◌, length, map, pos, set, slice_get, take};
 
 use crate::renaming::Renaming;
 use entry_references::{Group, Own, Shape, mark_at, push_names};
@@ -72,6 +72,35 @@ fn renew(values: &mut Values, renaming: &Renaming, i: usize, is_pointer: bool, i
     }
 }
 
+// Puts in place of each of the own values what it is as it is kept. `marks` is a scratch buffer.
+fn renew_all(
+    values: &mut Values,
+    renaming: &Renaming,
+    own: &Own,
+    marks: &mut Vec<bool>,
+) -> Result<(), NoMemory>
+    ensures { OnOk result (values.new ≡ map (λ v. new_value renaming.now own.now v.0 v.1)
+        (enumerate_from 1 values.old)) }
+{
+    let count = values.len();
+    mark_places(marks, own.pointers.as_slice(), count)?;
+    let pointers = marks.as_slice();
+    let cut = own.cut.as_slice();
+    'values: for i in 0..count {
+        let is_pointer = mark_at(pointers, i);
+        let is_cut = cut.contains(&(i + 1));
+        renew(values, renaming, i, is_pointer, is_cut);
+    }
+    Ok(())
+}
+
+// Whether all own values stay as they are.
+fn is_plain(own: &Own) -> bool
+    ensures { IsTrue result → (own.now.pointers ≡ []) × (own.now.cut ≡ []) }
+{
+    own.pointers.as_slice().is_empty() && own.cut.as_slice().is_empty()
+}
+
 // Keeps the own values alone, each as it is kept. `marks` is a scratch buffer.
 fn renew_own(
     values: &mut Values,
@@ -83,16 +112,10 @@ fn renew_own(
         (enumerate_from 1 (take own.now.count values.old))) }
 {
     values.truncate(own.count);
-    let count = values.len();
-    mark_places(marks, own.pointers.as_slice(), count)?;
-    let pointers = marks.as_slice();
-    let cut = own.cut.as_slice();
-    'values: for i in 0..count {
-        let is_pointer = mark_at(pointers, i);
-        let is_cut = cut.contains(&(i + 1));
-        renew(values, renaming, i, is_pointer, is_cut);
+    if is_plain(own) {
+        return Ok(());
     }
-    Ok(())
+    renew_all(values, renaming, own, marks)
 }
 
 fn push_renamed(

@@ -1,33 +1,7 @@
-use Rattle.std.proofs.Common.{◌∙◌, ◌<◌, ◌≤◌, ◌+◌, ◌*◌, ◌∷◌, ◌++◌, [], pos, List, sym, ap, take, drop, length, arith}
-use Rattle.std.proofs.lemmas.List.{take_all}
-use Rattle.brep_lists.specs.declared.edge_list.EdgeTuple.{EdgeTuple}
-use Rattle.list_compact.specs.Dropped.{reindexed_edge}
-use Rattle.list_compact.specs.Marking.{edge_spelled, int_value}
-use Rattle.list_compact.specs.Used.{is_used_edge, used_from}
-use Rattle.list_compact.proofs.ListSteps.{all_taken, edges_unused, items_more, edges_spelled, edges_used, edge_room}
+use Rattle.std.proofs.Common.{◌∙◌, refl, sym}
+use Rattle.brep_lists.specs.Record.{edges, items_of}
+use Rattle.list_compact.proofs.ListSteps.{edges_unused}
 use Rattle.list_compact.proofs.values.edge_values.Goals as goal
 
-pub returns-then-kept-eq0 : goal.returns-then-kept-eq0
-returns-then-kept-eq0 c g e t m =
-    all_taken c.args.values.now c.len.result c.new-list.result c.push_copies.new.list c.new-list.ensures c.len.ensures.is c.in_ok-push_copies.ensures
-    ∙ edges_unused g e c.args.values.now c.args.row.now c.args.listed.now c.requires.read c.requires.size m (sym c.count_marks-kept.ensures.is ∙ c.if-kept-eq0.true)
-
-pub edges-preserved : goal.edges-preserved
-edges-preserved c g e t m =
-    let lt : c.edges.i < length c.args.row.now = omega (arith, c.edges-test.true, c.len-count.ensures, c.requires.size) in
-    items_more (λ (x : EdgeTuple). edge_spelled (reindexed_edge g x)) (is_used_edge g e) c.args.row.now c.edges.i c.mark_at.result c.args.listed.now c.unwrap-edge.result (int_value (pos c.count_marks-kept.result) ∷ []) c.edges.list c.push_used_edge.new.list m lt c.mark_at.ensures
-    (sym c.tuple.ensures ∙ c.unwrap-edge.ensures) (c.edges.invariant g e t m) (c.in_ok-push_used_edge.ensures g t)
-
-pub overflow_mul-count : goal.overflow_mul-count
-overflow_mul-count c = omega (arith, c.len-count.ensures, edge_room c.args.values.now c.args.listed.now c.requires.is c.requires.read c.requires.short)
-
-pub overflow_add-count : goal.overflow_add-count
-overflow_add-count c = omega (arith, c.len-count.ensures, edge_room c.args.values.now c.args.listed.now c.requires.is c.requires.read c.requires.short)
-
-pub returns : goal.returns
-returns c g e t m =
-    let vs = c.args.values.now in
-    let past : length c.args.listed.now ≤ c.edges.i = omega (arith, c.edges-test.false, c.len-count.ensures) in
-    edges_used g e c.args.values.now c.args.row.now c.args.listed.now c.count_marks-kept.result c.edges.list c.push_copies-2.new.list c.requires.read c.requires.size m c.count_marks-kept.ensures.is c.if-kept-eq0.false
-    (c.edges.invariant g e t m ∙ ap (λ (xs : List EdgeTuple). (int_value (pos c.count_marks-kept.result) ∷ []) ++ edges_spelled g (used_from (is_used_edge g e) 1 xs)) (take_all c.edges.i c.args.listed.now past))
-    (c.in_ok-push_copies-2.ensures ∙ (ap (λ n. c.edges.list ++ take n (drop (1 + 5 * c.len-count.result) c.args.values.now)) c.len-2.ensures.is ∙ ap (λ n. c.edges.list ++ take (length c.args.values.now) (drop (1 + 5 * n) c.args.values.now)) c.len-count.ensures))
+pub returns-then-used-eq0 : goal.returns-then-used-eq0
+returns-then-used-eq0 c g e t m = edges_unused g e c.args.values c.args.row.now (items_of edges c.args.values) refl c.requires.size m (sym c.count_marks-used.ensures.is ∙ c.if-used-eq0.true)

@@ -1,39 +1,7 @@
-use Rattle.std.proofs.Common.{◌∙◌, ◌<◌, ◌≤◌, ◌+◌, ◌*◌, ◌∷◌, ◌++◌, [], pos, List, sym, ap, take, drop, length, flat_map, arith}
-use Rattle.std.proofs.lemmas.List.{take_all}
-use Rattle.iges_fields.specs.declared.value.Value.{Value}
-use Rattle.solid_data.proofs.Members.{get_some}
-use Rattle.list_compact.specs.Marking.{vertex_spelled, int_value}
-use Rattle.list_compact.specs.Used.{is_used_vertex, used_from}
-use Rattle.list_compact.proofs.ListSteps.{all_taken, vertices_unused, items_more, vertices_used, vertex_room, vertex_or_none}
+use Rattle.std.proofs.Common.{◌∙◌, refl, sym}
+use Rattle.brep_lists.specs.Record.{vertices, items_of}
+use Rattle.list_compact.proofs.ListSteps.{vertices_unused}
 use Rattle.list_compact.proofs.values.vertex_values.Goals as goal
 
-pub returns-then-kept-eq0 : goal.returns-then-kept-eq0
-returns-then-kept-eq0 c g e m =
-    all_taken c.args.values.now c.len.result c.new-list.result c.push_copies.new.list c.new-list.ensures c.len.ensures.is c.in_ok-push_copies.ensures
-    ∙ vertices_unused g e c.args.values.now c.args.row.now c.args.listed.now c.requires.read c.requires.size m (sym c.count_marks-kept.ensures.is ∙ c.if-kept-eq0.true)
-
-pub overflow_mul-i : goal.overflow_mul-i
-overflow_mul-i c = omega (arith, c.vertices-test.true, c.len-count.ensures, vertex_room c.args.values.now c.args.listed.now c.requires.is c.requires.read c.requires.short)
-
-pub overflow_add-i : goal.overflow_add-i
-overflow_add-i c = omega (arith, c.vertices-test.true, c.len-count.ensures, vertex_room c.args.values.now c.args.listed.now c.requires.is c.requires.read c.requires.short)
-
-pub vertices-preserved : goal.vertices-preserved
-vertices-preserved c g e m =
-    let lt : c.vertices.i < length c.args.row.now = omega (arith, c.vertices-test.true, c.len-count.ensures, c.requires.size) in
-    let x = get_some c.args.listed.now c.vertices.i (omega (arith, c.vertices-test.true, c.len-count.ensures)) in
-    items_more vertex_spelled (is_used_vertex g e) c.args.row.now c.vertices.i c.mark_at.result c.args.listed.now x.0 (int_value (pos c.count_marks-kept.result) ∷ []) c.vertices.list c.push_used_vertex.new.list m lt c.mark_at.ensures x.1 (c.vertices.invariant g e m)
-    (c.in_ok-push_used_vertex.ensures ∙ ap (λ (xs : List Value). c.vertices.list ++ xs) (vertex_or_none c.args.values.now c.args.listed.now c.vertices.i c.mark_at.result x.0 c.requires.is c.requires.read x.1))
-
-pub overflow_mul-count : goal.overflow_mul-count
-overflow_mul-count c = omega (arith, c.len-count.ensures, vertex_room c.args.values.now c.args.listed.now c.requires.is c.requires.read c.requires.short)
-
-pub overflow_add-count : goal.overflow_add-count
-overflow_add-count c = omega (arith, c.len-count.ensures, vertex_room c.args.values.now c.args.listed.now c.requires.is c.requires.read c.requires.short)
-
-pub returns : goal.returns
-returns c g e m =
-    let past : length c.args.listed.now ≤ c.vertices.i = omega (arith, c.vertices-test.false, c.len-count.ensures) in
-    vertices_used g e c.args.values.now c.args.row.now c.args.listed.now c.count_marks-kept.result c.vertices.list c.push_copies-2.new.list c.requires.read c.requires.size m c.count_marks-kept.ensures.is c.if-kept-eq0.false
-    (c.vertices.invariant g e m ∙ ap (λ (xs : List (Value × Value × Value)). (int_value (pos c.count_marks-kept.result) ∷ []) ++ flat_map vertex_spelled (used_from (is_used_vertex g e) 1 xs)) (take_all c.vertices.i c.args.listed.now past))
-    (c.in_ok-push_copies-2.ensures ∙ (ap (λ n. c.vertices.list ++ take n (drop (1 + 3 * c.len-count.result) c.args.values.now)) c.len-2.ensures.is ∙ ap (λ n. c.vertices.list ++ take (length c.args.values.now) (drop (1 + 3 * n) c.args.values.now)) c.len-count.ensures))
+pub returns-then-used-eq0 : goal.returns-then-used-eq0
+returns-then-used-eq0 c g e m = vertices_unused g e c.args.values c.args.row.now (items_of vertices c.args.values) refl c.requires.size m (sym c.count_marks-used.ensures.is ∙ c.if-used-eq0.true)

@@ -1,7 +1,6 @@
-use Rattle.std.proofs.Common.{◌≡◌, ◌++◌, ◌/◌, ◌∙◌, ap, sym, subst, List, Some}
+use Rattle.std.proofs.Common.{◌≡◌, ◌++◌, ◌∙◌, ap, sym, subst, List}
 use Rattle.std.specs.Prelude.{OnOk, option_map}
 use Rattle.std.proofs.lemmas.Option.{same_Some}
-use Rattle.iges_fields.specs.declared.value.Value.{Value}
 use Rattle.entry_references.specs.Refs.{Record}
 use Rattle.entry_references.proofs.NamedRecords.{named_place}
 use Rattle.entry_references.proofs.RefLists.{found_record}

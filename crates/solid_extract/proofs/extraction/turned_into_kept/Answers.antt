@@ -1,4 +1,4 @@
-use Rattle.std.proofs.Common.{◌≡◌, ◌≤◌, ◌∙◌, sym, ap, subst, List, ℕ, length, arith}
+use Rattle.std.proofs.Common.{◌≤◌, ◌∙◌, sym, ap, subst, List, ℕ, length, arith}
 use Rattle.std.specs.List.{AllByRecursion}
 use Rattle.std.specs.List.Sorted.{IsStrictlyIncreasing}
 use Rattle.std.specs.Prelude.{IsSome, option_copied}

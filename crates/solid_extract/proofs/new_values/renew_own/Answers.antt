@@ -1,24 +1,11 @@
-use Rattle.std.proofs.Common.{◌≡◌, ◌+◌, ◌≤◌, ◌∙◌, ap, arith, length, take, Bool, false, List, ℕ}
-use Rattle.std.specs.Prelude.{slice_index_or}
-use Rattle.entry_references.specs.EntrySets.{is_among}
+use Rattle.std.proofs.Common.{◌∙◌, ap, sym, take}
 use Rattle.entry_references.specs.Layout.{Own}
-use Rattle.solid_extract.proofs.KeptValues.{renewed_long, renewed_next}
+use Rattle.solid_extract.proofs.KeptValues.{all_plain}
 use Rattle.solid_extract.proofs.new_values.renew_own.Goals as goal
 
-pub renew-requires : goal.renew-requires
-renew-requires c =
-    let cut : c.truncate.new.self ≡ take c.args.own.now.count c.args.values.now = c.truncate.ensures ∙ ap (λ (o : Own). take o.count c.args.values.now) c.own.view_is in
-    let few : c.values.i + 1 ≤ length (take c.args.own.now.count c.args.values.now) = omega (arith, c.values-test.true, c.len-count.ensures.is, ap length cut) in
-    let long = renewed_long c.args.renaming.now c.args.own.now (take c.args.own.now.count c.args.values.now) c.values.i c.values.values (omega (arith, few)) c.values.invariant in
-    omega (arith, few, long)
-
-pub values-preserved : goal.values-preserved
-values-preserved c =
-    let i = c.values.i in
-    let cut : c.truncate.new.self ≡ take c.args.own.now.count c.args.values.now = c.truncate.ensures ∙ ap (λ (o : Own). take o.count c.args.values.now) c.own.view_is in
-    let few : c.values.i + 1 ≤ length (take c.args.own.now.count c.args.values.now) = omega (arith, c.values-test.true, c.len-count.ensures.is, ap length cut) in
-    renewed_next c.args.renaming.now c.args.own.now (take c.args.own.now.count c.args.values.now) i c.mark_at-is_pointer.result c.contains-is_cut.result c.values.values c.renew.new.values (omega (arith, few))
-    (c.mark_at-is_pointer.ensures ∙ (ap (λ (ms : List Bool). slice_index_or ms i false) c.as_slice-pointers.ensures.value
-    ∙ (c.in_ok-mark_places.ensures.marked i c.values-test.true ∙ ap (λ (ps : List ℕ). is_among ps (i + 1)) (c.as_slice.ensures ∙ ap (λ (o : Own). o.pointers) c.own.view_is))))
-    (c.contains-is_cut.ensures.value ∙ ap (λ (ps : List ℕ). is_among ps (i + 1)) (c.as_slice-cut.ensures ∙ ap (λ (o : Own). o.cut) c.own.view_is))
-    c.values.invariant c.renew.ensures
+pub returns-then-is_plain : goal.returns-then-is_plain
+returns-then-is_plain c =
+    let plain = c.is_plain.ensures c.if-is_plain.true in
+    c.truncate.ensures
+    ∙ (ap (λ (o : Own). take o.count c.args.values.now) c.own.view_is
+    ∙ sym (all_plain c.args.renaming.now c.args.own.now 1 (take c.args.own.now.count c.args.values.now) plain.0 plain.1))

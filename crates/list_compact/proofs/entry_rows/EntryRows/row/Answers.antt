@@ -1,4 +1,4 @@
-use Rattle.std.proofs.Common.{◌≡◌, ◌∙◌, ◌<◌, ◌-◌, ap, arith, length, take, drop}
+use Rattle.std.proofs.Common.{◌∙◌, ◌<◌, ◌-◌, ap, arith, length, take, drop}
 use Rattle.list_compact.specs.Rows.{start_of}
 use Rattle.std.specs.Prelude.{slice_index_or}
 use Rattle.list_compact.proofs.RowSteps.{rows_count, row_bounds, row_told}

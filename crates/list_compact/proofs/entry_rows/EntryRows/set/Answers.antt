@@ -1,4 +1,4 @@
-use Rattle.std.proofs.Common.{◌≡◌, ◌∙◌, ◌<◌, ◌≤◌, ap, arith, rules, length, vec_len}
+use Rattle.std.proofs.Common.{◌≡◌, ◌∙◌, ap, arith, rules, length, vec_len}
 use Rattle.std.specs.Prelude.{slice_index_or}
 use Rattle.list_compact.specs.Rows.{start_of}
 use Rattle.list_compact.proofs.RowSteps.{none_past, none_in_row, one_put, row_bounds}

@@ -1,4 +1,4 @@
-use Rattle.std.proofs.Common.{◌≡◌, ◌∙◌, ◌||◌, ℕ, Bool, List, sym, ap, subst, rules, SFits, w64}
+use Rattle.std.proofs.Common.{◌∙◌, ◌||◌, Bool, List, sym, ap, subst, rules, SFits, w64}
 use Rattle.std.proofs.lemmas.Int.{to_z-of_z}
 use Rattle.list_compact.specs.Marking.{AreMarks, is_at, sizes}
 use Rattle.list_compact.proofs.MarkSteps.{marked_at, sizes_at}
