@@ -1,4 +1,4 @@
--- Counts for the vertices of a shell.
+-- Private: counts for the vertices of a shell.
 use Rattle.std.specs.Prelude.{◌≡◌, ◌-◌, ℕ, Bool}
 use Rattle.edge_uses.specs.Cells.{Celled}
 use Rattle.edge_uses.specs.Ranges.{IsSpanOf}
