@@ -59,6 +59,7 @@ fn push_copies(
     Ok(())
 }
 
+// The new index of the edge or the vertex that a tuple names.
 fn tuple_index(ranks: &FileRanks, tuple: &LoopTuple<'_>) -> i64
     ensures { (g : Contents) → AreTables g ranks.now.edges ranks.now.vertices
         → result ≡ tuple_index g tuple.now.is_vertex tuple.now.list tuple.now.index }

@@ -4,8 +4,11 @@ use Rattle.topo_certificate.specs.Kept.{is_alone}
 use Rattle.topo_certificate.proofs.VertexTallies.{point_within, mapped_more}
 use Rattle.topo_certificate.proofs.tallies.alone_points.Goals as goal
 
-pub alone_at-requires-clause-within : goal.alone_at-requires-clause-within
-alone_at-requires-clause-within c = point_within c.args.rows.now c.args.span c.points.i (c.point_at.result.0, c.point_at.result.1.0) c.requires.within c.point_at.ensures
+pub alone_at-requires-clause-starts : goal.alone_at-requires-clause-starts
+alone_at-requires-clause-starts c = point_within c.args.rows.now c.args.starts.now.span c.points.i (c.point_at.result.0, c.point_at.result.1.0) c.requires.starts.rows c.requires.starts.span c.point_at.ensures
+
+pub alone_at-requires-clause-points : goal.alone_at-requires-clause-points
+alone_at-requires-clause-points c = point_within c.args.rows.now c.args.points.now.span c.points.i (c.point_at.result.0, c.point_at.result.1.0) c.requires.points.rows c.requires.points.span c.point_at.ensures
 
 pub points-preserved : goal.points-preserved
 points-preserved c =

@@ -4,8 +4,11 @@ use Rattle.topo_certificate.specs.Kept.{corner_size}
 use Rattle.topo_certificate.proofs.VertexTallies.{row_within, mapped_more}
 use Rattle.topo_certificate.proofs.tallies.corner_sizes.Goals as goal
 
-pub size_at-requires-clause-within : goal.size_at-requires-clause-within
-size_at-requires-clause-within c = row_within c.args.rows.now c.args.span c.rows.i c.row_at.result c.requires.within c.row_at.ensures
+pub size_at-requires-clause-starts : goal.size_at-requires-clause-starts
+size_at-requires-clause-starts c = row_within c.args.rows.now c.args.starts.now.span c.rows.i c.row_at.result c.requires.starts.rows c.requires.starts.span c.row_at.ensures
+
+pub size_at-requires-clause-points : goal.size_at-requires-clause-points
+size_at-requires-clause-points c = row_within c.args.rows.now c.args.points.now.span c.rows.i c.row_at.result c.requires.points.rows c.requires.points.span c.row_at.ensures
 
 pub rows-preserved : goal.rows-preserved
 rows-preserved c =

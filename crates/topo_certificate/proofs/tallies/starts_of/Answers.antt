@@ -1,25 +1,28 @@
-use Rattle.std.proofs.Common.{arith, ◌<◌, refl}
+use Rattle.std.proofs.Common.{arith}
 use Rattle.edge_uses.specs.declared.row.Row.{Row}
-use Rattle.edge_uses.specs.Ranges.{IsWithin}
-use Rattle.topo_certificate.proofs.VertexTallies.{from_of, row_within, counts_few, counts_step, starts_counted}
+use Rattle.topo_certificate.proofs.VertexTallies.{from_of, on_vertices, counts_none, counts_few, counts_step, row_known, row_within, starts_counted}
 use Rattle.topo_certificate.proofs.tallies.starts_of.Goals as goal
 
-pub overflow_add-seen : goal.overflow_add-seen
-overflow_add-seen c =
-    let within = row_within c.args.rows.now c.args.span c.rows.i c.row_at.result c.requires c.row_at.ensures in
-    let few : c.index-seen.result.now < 536870912 =
-    counts_few Row from_of c.args.rows.now.rows c.rows.i c.row_at.result c.args.span c.rows.starts.items c.index-seen.result.now _ 536870912 within refl c.index-seen.ensures c.rows.invariant c.requires.few_rows in
-    omega (arith, few)
+pub rows-init : goal.rows-init
+rows-init c =
+    counts_none Row from_of c.args.rows.now.rows c.args.rows.now c.in_ok-starts.starts
+    (on_vertices c.args.rows.now c.in_ok-starts.starts c.vertex_slice.result.now c.vertex_slice.ensures.kept c.vertex_slice.ensures.items c.in_ok-starts.ensures.numbers c.in_ok-starts.ensures.span c.in_ok-starts.ensures.blank c.in_ok-starts.ensures.cells) c.in_ok-starts.ensures.cells
 
-pub index_mut-requires : goal.index_mut-requires
-index_mut-requires c =
-    let within : IsWithin c.args.span c.row_at.result.from.0 = row_within c.args.rows.now c.args.span c.rows.i c.row_at.result c.requires c.row_at.ensures in
-    omega (arith, within.0, within.1, c.rows.invariant.long)
+pub add_one-requires-clause-known : goal.add_one-requires-clause-known
+add_one-requires-clause-known c = row_known c.args.rows.now c.rows.i c.row_at.result c.rows.starts c.rows.invariant.on c.row_at.ensures
+
+pub add_one-requires-clause-within : goal.add_one-requires-clause-within
+add_one-requires-clause-within c = row_within c.args.rows.now c.rows.starts.span c.rows.i c.row_at.result c.rows.invariant.on.rows c.rows.invariant.on.span c.row_at.ensures
+
+pub add_one-requires-clause-few : goal.add_one-requires-clause-few
+add_one-requires-clause-few c =
+    counts_few Row from_of c.args.rows.now.rows c.rows.i c.row_at.result c.args.rows.now c.rows.starts 536870912
+    (row_within c.args.rows.now c.rows.starts.span c.rows.i c.row_at.result c.rows.invariant.on.rows c.rows.invariant.on.span c.row_at.ensures) c.rows.invariant c.rows.invariant.on.rows.few
 
 pub rows-preserved : goal.rows-preserved
 rows-preserved c =
-    let within = row_within c.args.rows.now c.args.span c.rows.i c.row_at.result c.requires c.row_at.ensures in
-    counts_step Row from_of c.args.rows.now.rows c.rows.i c.row_at.result c.args.span c.rows.starts.items c.index-seen.result.now _ c.row_at.ensures within refl c.index-seen.ensures c.rows.invariant
+    counts_step Row from_of c.args.rows.now.rows c.rows.i c.row_at.result c.args.rows.now c.rows.starts c.add_one.new.counts c.row_at.ensures
+    (row_within c.args.rows.now c.rows.starts.span c.rows.i c.row_at.result c.rows.invariant.on.rows c.rows.invariant.on.span c.row_at.ensures) c.add_one.ensures c.rows.invariant
 
 pub returns : goal.returns
-returns c = starts_counted c.args.rows.now c.rows.i c.args.span c.rows.starts.items (omega (arith, c.len-i-end.ensures.count)) c.rows.invariant
+returns c = starts_counted c.args.rows.now c.rows.i c.rows.starts (omega (arith, c.len-i-end.ensures.count, c.rows-test.false)) c.rows.invariant

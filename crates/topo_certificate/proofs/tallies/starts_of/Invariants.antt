@@ -3,4 +3,4 @@ use Rattle.topo_certificate.proofs.VertexTallies.{CountsBefore, from_of}
 use Rattle.topo_certificate.proofs.tallies.starts_of.Given as goal
 
 abbrev pub invariant-rows : goal.invariant-rows
-invariant-rows l = CountsBefore Row from_of l.rows.rows l.i l.span l.starts.items
+invariant-rows l = CountsBefore Row from_of l.fn.rows.rows l.i l.fn.rows l.starts
