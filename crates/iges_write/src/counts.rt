@@ -11,9 +11,13 @@ use iges_fields::NoMemory;
 /// How many lines each section has.
 #[derive(Clone, Copy, Debug)]
 pub struct Counts {
+    /// The number of start lines (IGES 5.3, 2.2.4.1).
     pub start: u64,
+    /// The number of global lines (IGES 5.3, 2.2.4.3).
     pub global: u64,
+    /// The number of directory lines, two for each entry (IGES 5.3, 2.2.4.4).
     pub directory: u64,
+    /// The number of parameter lines (IGES 5.3, 2.2.4.5).
     pub params: u64,
 }
 
