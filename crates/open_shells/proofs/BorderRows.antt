@@ -107,10 +107,6 @@ abbrev pub IsWritten : Span → ℕ → Option ℕ → List (Option ℕ) → Lis
 IsWritten span w None old new = new ≡ old
 IsWritten span w (Some h) old new = new ≡ slice_set old (w - span.least) (Some h)
 
-pub written_by : (span : Span) (w : ℕ) (o : Option ℕ) (old new : List (Option ℕ)) (Q : Type 0) → (o ≡ None → new ≡ old) → MatchOption o Q (λ h. new ≡ slice_set old (w - span.least) (Some h)) → IsWritten span w o old new
-written_by span w None old new Q same set = same refl
-written_by span w (Some h) old new Q same set = set
-
 abbrev pub StartBefore : ShellRows → ℕ → ℕ → Option ℕ → Type 0
 StartBefore d i v None = (r : ℕ) → r < i → IsBorder d r → StartsAt d v r → ⊥
 StartBefore d i v (Some r) = IsBorder d r × StartsAt d v r

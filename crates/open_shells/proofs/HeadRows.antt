@@ -63,20 +63,6 @@ pub heads_kept : (d : ShellRows) (i : ℕ) (span : Span) (old new : List (Option
     → ((v : ℕ) → IsWithin span v → HeadBefore d i v (get_or old (v - span.least) None)) → (v : ℕ) → IsWithin span v → HeadBefore d (i + 1) v (get_or new (v - span.least) None)
 heads_kept d i span old new no_border same before v low = subst (λ xs. HeadBefore d (i + 1) v (get_or xs (v - span.least) None)) (sym same) (head_other d i v (get_or old (v - span.least) None) no_border (before v low))
 
--- one row more, whatever is noted of it
-abbrev pub IsNoted : ShellRows → ℕ → Span → Row → Option ℕ → List (Option ℕ) → List (Option ℕ) → Type 0
-IsNoted d i span row None old new = (IsBorder d i → ⊥) × (new ≡ old)
-IsNoted d i span row (Some h) old new = IsBorder d i × Follows d i h × (new ≡ slice_set old (row.to.0 - span.least) (Some h))
-
-pub noted_by : (d : ShellRows) (i : ℕ) (span : Span) (row : Row) (o : Option ℕ) (old new : List (Option ℕ)) (P Q : Type 0) → (o ≡ None → IsBorder d i → ⊥) → MatchOption o P (λ h. IsBorder d i × Follows d i h) → (o ≡ None → new ≡ old) → MatchOption o Q (λ h. new ≡ slice_set old (row.to.0 - span.least) (Some h)) → IsNoted d i span row o old new
-noted_by d i span row None old new P Q no_border is_border same set = (no_border refl, same refl)
-noted_by d i span row (Some h) old new P Q no_border is_border same set = (is_border.0, is_border.1, set)
-
-pub heads_step : (d : ShellRows) (i : ℕ) (span : Span) (row : Row) (o : Option ℕ) (old new : List (Option ℕ)) → slice_get d.rows i ≡ Some row → IsWithin span row.to.0 → length old ≡ span.count → IsNoted d i span row o old new
-    → ((v : ℕ) → IsWithin span v → HeadBefore d i v (get_or old (v - span.least) None)) → (v : ℕ) → IsWithin span v → HeadBefore d (i + 1) v (get_or new (v - span.least) None)
-heads_step d i span row None old new at within long n before = heads_kept d i span old new n.0 n.1 before
-heads_step d i span row (Some h) old new at within long n before = heads_noted d i span row h old new at within long n.0 n.1 n.2 before
-
 pub head_done : (d : ShellRows) (i v : ℕ) (o : Option ℕ) → AreOnce d → length d.rows ≤ i → HeadBefore d i v o → ((m : ℕ) (a : Row) → slice_get d.rows m ≡ Some a → IsBorder d m ⊎ ((t : ℕ) × AreMates d m t)) → IsHeadOf d v o
 head_done d i v None whole past before decide = λ x (row, at, starts).
     let q = follows_onto d whole.rows x row at in

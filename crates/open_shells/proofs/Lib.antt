@@ -33,3 +33,5 @@ pub mod Complete
 pub mod LinesDecided
 pub mod RulesDecided
 pub mod ClosedShells
+pub mod StartCells
+pub mod HeadCells

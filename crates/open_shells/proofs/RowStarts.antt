@@ -13,7 +13,6 @@ use Rattle.edge_uses.specs.Ranges.{IsWithin}
 use Rattle.edge_uses.specs.ShellRows.{ShellRows}
 use Rattle.edge_uses.specs.Closed.{StartsAt}
 use Rattle.solid_data.proofs.Members.{Has, Contains-from_Has, All-at, count_by-total, split_at, has_get}
-use Rattle.edge_uses.proofs.Steps.{default_apart}
 use Rattle.edge_uses.proofs.Tallies.{one_if, set_same, set_other}
 use Rattle.edge_uses.proofs.Counting.{times, times_few}
 use Rattle.open_shells.specs.declared.starting.Starts.{Starts}
@@ -80,7 +79,7 @@ starts_this d i v m row at alike same h = by_count (eqb_tells m.count 0)
 -- one row is counted
 pub starts_step : (d : ShellRows) (i : ℕ) (span : Span) (row : Row) (old : List Starts) (was new : Starts) → slice_get d.rows i ≡ Some row → length old ≡ span.count
     → AllByRecursion (λ (r : Row). IsWithin span r.from.0) d.rows → ((v : ℕ) → IsWithin span v → StartsBefore d i v (get_or old (v - span.least) no_starts))
-    → was ≡ get_or old (row.from.0 - span.least) was → new ≡ one_start_more was i → (v : ℕ) → IsWithin span v → StartsBefore d (i + 1) v (get_or (slice_set old (row.from.0 - span.least) new) (v - span.least) no_starts)
+    → was ≡ get_or old (row.from.0 - span.least) no_starts → new ≡ one_start_more was i → (v : ℕ) → IsWithin span v → StartsBefore d (i + 1) v (get_or (slice_set old (row.from.0 - span.least) new) (v - span.least) no_starts)
 starts_step d i span row old was new at long below each is_was is_new v low = by_vertex (eqb_tells row.from.0 v)
   where
     in_span : IsWithin span row.from.0
@@ -93,7 +92,7 @@ starts_step d i span row old was new at long below each is_was is_new v low = by
     in_old = omega (arith, long, in_span.0, in_span.1)
 
     known : was ≡ get_or old k no_starts
-    known = is_was ∙ default_apart old k was no_starts in_old
+    known = is_was
 
     by_vertex : (((row.from.0 == v) ≡ true) × (row.from.0 ≡ v)) ⊎ (((row.from.0 == v) ≡ false) × (row.from.0 ≢ v)) → StartsBefore d (i + 1) v (get_or (slice_set old (row.from.0 - span.least) new) (v - span.least) no_starts)
     by_vertex (inl y) =
@@ -106,10 +105,10 @@ starts_step d i span row old was new at long below each is_was is_new v low = by
         subst (StartsBefore d (i + 1) v) (sym (set_other old k (v - span.least) new no_starts apart)) (starts_other d i v (get_or old (v - span.least) no_starts) row at n.0 n.1 (each v low))
 
 pub starts_room : (d : ShellRows) (i : ℕ) (span : Span) (n : ℕ) (row : Row) (old : List Starts) (was : Starts) → slice_get d.rows i ≡ Some row → length old ≡ span.count
-    → AllByRecursion (λ (r : Row). IsWithin span r.from.0) d.rows → ((v : ℕ) → IsWithin span v → StartsBefore d i v (get_or old (v - span.least) no_starts)) → was ≡ get_or old (row.from.0 - span.least) was → length d.rows < n → was.count < n
+    → AllByRecursion (λ (r : Row). IsWithin span r.from.0) d.rows → ((v : ℕ) → IsWithin span v → StartsBefore d i v (get_or old (v - span.least) no_starts)) → was ≡ get_or old (row.from.0 - span.least) no_starts → length d.rows < n → was.count < n
 starts_room d i span n row old was at long below each is_was few =
     let low : IsWithin span row.from.0 = All-at (λ (r : Row). IsWithin span r.from.0) d.rows below row (has_get d.rows i row at) in
-    let known : was ≡ get_or old (row.from.0 - span.least) no_starts = is_was ∙ default_apart old (row.from.0 - span.least) was no_starts (omega (arith, low.0, low.1, long)) in
+    let known : was ≡ get_or old (row.from.0 - span.least) no_starts = is_was in
     starts_few d i row.from.0 n was (subst (StartsBefore d i row.from.0) (sym known) (each row.from.0 low)) few
 
 -- Points.
@@ -130,7 +129,7 @@ points_done d i v m past h =
 
 pub points_step : (d : ShellRows) (i : ℕ) (span : Span) (vertex : ℕ) (at : LoopAt) (old : List Points) (was new : Points) → slice_get d.points i ≡ Some (at, vertex) → length old ≡ span.count
     → AllByRecursion (λ (p : LoopAt × ℕ). IsWithin span p.1) d.points → ((v : ℕ) → IsWithin span v → PointsBefore d i v (get_or old (v - span.least) no_points))
-    → was ≡ get_or old (vertex - span.least) was → new ≡ one_point_more was at → (v : ℕ) → IsWithin span v → PointsBefore d (i + 1) v (get_or (slice_set old (vertex - span.least) new) (v - span.least) no_points)
+    → was ≡ get_or old (vertex - span.least) no_points → new ≡ one_point_more was at → (v : ℕ) → IsWithin span v → PointsBefore d (i + 1) v (get_or (slice_set old (vertex - span.least) new) (v - span.least) no_points)
 points_step d i span vertex at old was new here long below each is_was is_new v low = by_vertex (eqb_tells vertex v)
   where
     has : Has d.points (at, vertex)
@@ -146,7 +145,7 @@ points_step d i span vertex at old was new here long below each is_was is_new v 
     in_old = omega (arith, long, in_span.0, in_span.1)
 
     known : was ≡ get_or old k no_points
-    known = is_was ∙ default_apart old k was no_points in_old
+    known = is_was
 
     by_vertex : (((vertex == v) ≡ true) × (vertex ≡ v)) ⊎ (((vertex == v) ≡ false) × (vertex ≢ v)) → PointsBefore d (i + 1) v (get_or (slice_set old (vertex - span.least) new) (v - span.least) no_points)
     by_vertex (inl y) =
@@ -165,10 +164,10 @@ points_step d i span vertex at old was new here long below each is_was is_new v 
         })
 
 pub points_room : (d : ShellRows) (i : ℕ) (span : Span) (n vertex : ℕ) (at : LoopAt) (old : List Points) (was : Points) → slice_get d.points i ≡ Some (at, vertex) → length old ≡ span.count
-    → AllByRecursion (λ (p : LoopAt × ℕ). IsWithin span p.1) d.points → ((v : ℕ) → IsWithin span v → PointsBefore d i v (get_or old (v - span.least) no_points)) → was ≡ get_or old (vertex - span.least) was → length d.points < n → was.count < n
+    → AllByRecursion (λ (p : LoopAt × ℕ). IsWithin span p.1) d.points → ((v : ℕ) → IsWithin span v → PointsBefore d i v (get_or old (v - span.least) no_points)) → was ≡ get_or old (vertex - span.least) no_points → length d.points < n → was.count < n
 points_room d i span n vertex at old was here long below each is_was few =
     let low : IsWithin span vertex = All-at (λ (p : LoopAt × ℕ). IsWithin span p.1) d.points below (at, vertex) (has_get d.points i (at, vertex) here) in
-    let known : was ≡ get_or old (vertex - span.least) no_points = is_was ∙ default_apart old (vertex - span.least) was no_points (omega (arith, low.0, low.1, long)) in
+    let known : was ≡ get_or old (vertex - span.least) no_points = is_was in
     let before : PointsBefore d i vertex was = subst (PointsBefore d i vertex) (sym known) (each vertex low) in
     omega (arith, before.count, few, times_few vertex_of vertex d.points)
 

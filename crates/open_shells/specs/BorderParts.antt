@@ -4,7 +4,8 @@ use Rattle.std.specs.List.{AllByRecursion}
 use Rattle.solid_data.proofs.Members.{Has, NoRepeat, Rises}
 use Rattle.solid_data.proofs.Trail.{Trail}
 use Rattle.edge_uses.specs.declared.spanning.Span.{Span}
-use Rattle.edge_uses.specs.Ranges.{IsWithin}
+use Rattle.edge_uses.specs.Cells.{Celled}
+use Rattle.edge_uses.specs.Ranges.{IsWithin, IsSpanOf}
 use Rattle.edge_uses.specs.ShellRows.{ShellRows}
 use Rattle.edge_uses.specs.Closed.{StartsAt}
 use Rattle.open_shells.specs.Sound.{IsBorder, IsBorderCycleOf, GoesOn}
@@ -20,6 +21,11 @@ IsStartOf d v (Some r) = IsBorder d r × StartsAt d v r
 
 abbrev pub AreStartsOf : ShellRows → Span → List (Option ℕ) → Type 0
 AreStartsOf d span starts = (v : ℕ) → IsWithin span v → IsStartOf d v (get_or starts (v - span.least) None)
+
+pub record AreBorderCells (d : ShellRows) (c : Celled (Option ℕ)) : Type 0 where
+  pub span : IsSpanOf c.span d.vertices
+  pub blank : c.blank ≡ None
+  pub all : AreStartsOf d c.span c.cells
 
 -- From the first on each row leads to the next, and the last to the first, which is there once.
 abbrev pub IsLoop : ShellRows → ℕ → List ℕ → Type 0

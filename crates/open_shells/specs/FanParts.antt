@@ -4,7 +4,8 @@ use Rattle.std.specs.List.{AllByRecursion, AllZip}
 use Rattle.solid_data.specs.Ring.{next_of_each}
 use Rattle.solid_data.specs.Obligations.{FirstNot}
 use Rattle.edge_uses.specs.declared.spanning.Span.{Span}
-use Rattle.edge_uses.specs.Ranges.{IsWithin}
+use Rattle.edge_uses.specs.Cells.{Celled}
+use Rattle.edge_uses.specs.Ranges.{IsWithin, IsSpanOf}
 use Rattle.edge_uses.specs.ShellRows.{ShellRows}
 use Rattle.edge_uses.specs.Closed.{IsPoint, StartsAt, Turns, point_count}
 use Rattle.topo_certificate.specs.Stand.{start_count}
@@ -58,3 +59,8 @@ IsHeadOf d v (Some h) = StartsAt d v h × ((t : ℕ) → ¬ Turns d t h)
 
 abbrev pub AreHeads : ShellRows → Span → List (Option ℕ) → Type 0
 AreHeads d span heads = (v : ℕ) → IsWithin span v → IsHeadOf d v (get_or heads (v - span.least) None)
+
+pub record AreHeadCells (d : ShellRows) (c : Celled (Option ℕ)) : Type 0 where
+  pub span : IsSpanOf c.span d.vertices
+  pub blank : c.blank ≡ None
+  pub all : AreHeads d c.span c.cells

@@ -4,18 +4,16 @@ ghost use Rattle.std.specs.Prelude.{◌≡◌, ◌<◌, ◌+◌, ◌↔◌, ◌�
 ghost use Rattle.solid_data.proofs.Members.{Has};
 ghost use Rattle.solid_data.specs.declared.solid.RowId.{RowId as AnyRowId};
 ghost use Rattle.std.specs.List.{AllByRecursion};
-ghost use Rattle.edge_uses.specs.Ranges.{IsWithin};
-ghost use Rattle.edge_uses.specs.declared.row.Row.{Row as AnyRow};
 ghost use Rattle.open_shells.specs.Sound.{IsBorder, IsFanned};
 ghost use Rattle.open_shells.specs.Mating.{AreOnce};
 ghost use Rattle.open_shells.specs.Reaching.{row_numbers};
-ghost use Rattle.open_shells.specs.BorderParts.{Next, AreStartsOf, IsLoop, IsBordering, AreBorderCycles};
+ghost use Rattle.open_shells.specs.BorderParts.{Next, AreBorderCells, IsLoop, IsBordering, AreBorderCycles};
 
 use crate::heads::note;
 use crate::mated::Mated;
 use crate::mating::row_at;
 use crate::parts::Borders;
-use edge_uses::Span;
+use edge_uses::Cells;
 use iges_base::NoMemory;
 use solid_data::{RowId, RowList};
 use std::alloc::Global;
@@ -33,23 +31,20 @@ fn border_at(mated: &Mated<'_>, r: u32) -> Option<u32>
     }
 }
 
-/// For each vertex of a range a border row that starts there, if there is one.
-pub(crate) fn border_starts(
+/// For each vertex of a shell a border row that starts there, if there is one. It takes no longer where
+/// the vertices lie far apart.
+pub(crate) fn border_starts<'m>(
     alloc: Global,
-    mated: &Mated<'_>,
-    span: Span,
-) -> Result<Vec<Option<u32>>, NoMemory>
-    requires within { AllByRecursion (λ (r : AnyRow). IsWithin span r.from.0) mated.now.rows }
-    requires whole { AreOnce mated.now }
-    ensures len { IfOk result (λ starts. vec_len starts ≡ span.count) }
-    ensures starts { IfOk result (λ starts. AreStartsOf mated.now span starts.items) }
+    mated: &'m Mated<'_>,
+) -> Result<Cells<'m, Option<u32>>, NoMemory>
+    requires { AreOnce mated.now }
+    ensures { IfOk result (AreBorderCells mated.now) }
 {
     let rows = mated.rows();
-    let mut starts = vec![in alloc; None; span.count]?;
+    let mut starts = Cells::new(alloc, rows.vertex_slice(), None)?;
     'rows: for i in 0..rows.len() {
         note(
             &mut starts,
-            span,
             row_at(rows, i).from.0,
             border_at(mated, i as u32),
         );
@@ -58,39 +53,34 @@ pub(crate) fn border_starts(
 }
 
 /// The border row that starts where a border row ends.
-fn next_border(mated: &Mated<'_>, span: Span, starts: &[Option<u32>], at: u32) -> u32
+fn next_border(mated: &Mated<'_>, starts: &Cells<'_, Option<u32>>, row: u32) -> u32
     requires whole { AreOnce mated.now }
-    requires border { IsBorder mated.now at }
-    requires within { AllByRecursion (λ (r : AnyRow). IsWithin span r.to.0) mated.now.rows }
-    requires len { length starts.now ≡ span.count }
-    requires starts { AreStartsOf mated.now span starts.now }
-    ensures { Next mated.now at result }
+    requires border { IsBorder mated.now row }
+    requires starts { AreBorderCells mated.now starts.now }
+    ensures { Next mated.now row result }
 {
-    let to = row_at(mated.rows(), at as usize).to.0;
-    starts[(to - span.least) as usize].unwrap()
+    let to = row_at(mated.rows(), row as usize).to.0;
+    starts.at(to).unwrap()
 }
 
 /// The border rows from one on, each where the one before ends, until the first one comes again.
 pub(crate) fn cycle_from(
     alloc: Global,
     mated: &Mated<'_>,
-    span: Span,
-    starts: &[Option<u32>],
+    starts: &Cells<'_, Option<u32>>,
     first: u32,
 ) -> Result<RowList, NoMemory>
     requires whole { AreOnce mated.now }
     requires fanned { AllByRecursion (IsFanned mated.now) mated.now.vertices }
     requires border { IsBorder mated.now first }
-    requires within { AllByRecursion (λ (r : AnyRow). IsWithin span r.to.0) mated.now.rows }
-    requires len { length starts.now ≡ span.count }
-    requires starts { AreStartsOf mated.now span starts.now }
+    requires starts { AreBorderCells mated.now starts.now }
     ensures { IfOk result (λ rows. IsLoop mated.now first (row_numbers rows)) }
 {
     let mut rows = RowList::new(alloc);
     let mut at = first;
     'cycle: for _i in 0..mated.rows().len() {
         rows.push(RowId(at))?;
-        at = next_border(mated, span, starts, at);
+        at = next_border(mated, starts, at);
         if at == first {
             return Ok(rows);
         }
@@ -114,8 +104,7 @@ fn mark_all(seen: &mut Vec<bool>, rows: &[RowId])
 fn add_cycle(
     alloc: Global,
     mated: &Mated<'_>,
-    span: Span,
-    starts: &[Option<u32>],
+    starts: &Cells<'_, Option<u32>>,
     seen: &mut Vec<bool>,
     cycles: &mut Borders,
     r: u32,
@@ -123,9 +112,7 @@ fn add_cycle(
     requires whole { AreOnce mated.now }
     requires fanned { AllByRecursion (IsFanned mated.now) mated.now.vertices }
     requires there { r < length mated.now.rows }
-    requires within { AllByRecursion (λ (r : AnyRow). IsWithin span r.to.0) mated.now.rows }
-    requires len { length starts.now ≡ span.count }
-    requires starts { AreStartsOf mated.now span starts.now }
+    requires starts { AreBorderCells mated.now starts.now }
     requires cycles { IsBordering mated.now r seen.old.items (map row_numbers cycles.old) }
     ensures { IfOk result (λ _. IsBordering mated.now (r + 1) seen.new.items
         (map row_numbers cycles.new)) }
@@ -136,31 +123,28 @@ fn add_cycle(
     let Some(first) = border_at(mated, r) else {
         return Ok(());
     };
-    let cycle = cycle_from(alloc, mated, span, starts, first)?;
+    let cycle = cycle_from(alloc, mated, starts, first)?;
     mark_all(seen, cycle.as_slice());
     cycles.push(cycle)?;
     Ok(())
 }
 
-/// The cycles of border rows, where these are border rows that start at each vertex of a range.
+/// The cycles of border rows, where these are border rows that start at each vertex.
 fn cycles_of(
     alloc: Global,
     mated: &Mated<'_>,
-    span: Span,
-    starts: &[Option<u32>],
+    starts: &Cells<'_, Option<u32>>,
 ) -> Result<Borders, NoMemory>
     requires whole { AreOnce mated.now }
     requires fanned { AllByRecursion (IsFanned mated.now) mated.now.vertices }
-    requires within { AllByRecursion (λ (r : AnyRow). IsWithin span r.to.0) mated.now.rows }
-    requires len { length starts.now ≡ span.count }
-    requires starts { AreStartsOf mated.now span starts.now }
+    requires starts { AreBorderCells mated.now starts.now }
     ensures { IfOk result (λ cycles. AreBorderCycles mated.now (map row_numbers cycles)) }
 {
     let rows = mated.rows();
     let mut seen = vec![in alloc; false; rows.len()]?;
     let mut cycles = Borders::new(alloc);
     'rows: for r in 0..rows.len() {
-        add_cycle(alloc, mated, span, starts, &mut seen, &mut cycles, r as u32)?;
+        add_cycle(alloc, mated, starts, &mut seen, &mut cycles, r as u32)?;
     }
     Ok(cycles)
 }
@@ -171,8 +155,6 @@ pub(crate) fn border_cycles(alloc: Global, mated: &Mated<'_>) -> Result<Borders,
     requires fanned { AllByRecursion (IsFanned mated.now) mated.now.vertices }
     ensures { IfOk result (λ cycles. AreBorderCycles mated.now (map row_numbers cycles)) }
 {
-    let rows = mated.rows();
-    let span = rows.vertex_span();
-    let starts = border_starts(alloc, mated, span)?;
-    cycles_of(alloc, mated, span, starts.as_slice())
+    let starts = border_starts(alloc, mated)?;
+    cycles_of(alloc, mated, &starts)
 }

@@ -4,16 +4,17 @@ ghost use Rattle.std.specs.Prelude.{◌≡◌, ◌↔◌, ℕ, ◌<◌, ◌++◌
 ghost use Rattle.std.specs.List.{AllByRecursion, AllZip};
 ghost use Rattle.edge_uses.specs.Closed.{point_count};
 ghost use Rattle.edge_uses.specs.Ranges.{IsWithin};
+ghost use Rattle.edge_uses.specs.ShellRows.{ShellRows};
 ghost use Rattle.open_shells.specs.Sound.{IsFan, IsFanned};
 ghost use Rattle.open_shells.specs.Mating.{AreOnce};
-ghost use Rattle.open_shells.specs.Starting.{AreStarts, ArePoints, AreAllStarts, AreAllPoints};
-ghost use Rattle.open_shells.specs.FanParts.{LiesAt, IsFanFault, IsHeadOf, AreHeads};
+ghost use Rattle.open_shells.specs.Starting.{AreStarts, ArePoints, AreStartCells, ArePointCells};
+ghost use Rattle.open_shells.specs.FanParts.{LiesAt, IsFanFault, IsHeadOf, AreHeadCells};
 
 use crate::heads::heads_of;
 use crate::mated::Mated;
 use crate::parts::{OpenCorner, OpenCorners};
 use crate::starting::{Points, Starts, all_points, all_starts, vertex_at};
-use edge_uses::Span;
+use edge_uses::Cells;
 use iges_base::NoMemory;
 use solid_data::{RowId, RowList, VertexId};
 use std::alloc::Global;
@@ -134,23 +135,39 @@ fn push_corner(corners: &mut OpenCorners, corner: OpenCorner) -> Result<(), NoMe
     corners.push(corner)
 }
 
+fn starts_at(starts: &Cells<'_, Starts>, vertex: u32) -> Starts
+    requires { IsWithin starts.now.span vertex }
+    ensures { (d : ShellRows) → AreStartCells d starts.now → AreStarts d vertex result }
+{
+    starts.at(vertex)
+}
+
+fn points_at(points: &Cells<'_, Points>, vertex: u32) -> Points
+    requires { IsWithin points.now.span vertex }
+    ensures { (d : ShellRows) → ArePointCells d points.now → ArePoints d vertex result }
+{
+    points.at(vertex)
+}
+
+fn head_at(heads: &Cells<'_, Option<u32>>, vertex: u32) -> Option<u32>
+    requires { IsWithin heads.now.span vertex }
+    ensures { (d : ShellRows) → AreHeadCells d heads.now → IsHeadOf d vertex result }
+{
+    heads.at(vertex)
+}
+
 // What lies at each vertex that occurs in the shell; it errs at the first vertex that isn't fanned.
 fn corners_of(
     alloc: Global,
     mated: &Mated<'_>,
-    span: Span,
-    starts: &[Starts],
-    points: &[Points],
-    heads: &[Option<u32>],
+    starts: &Cells<'_, Starts>,
+    points: &Cells<'_, Points>,
+    heads: &Cells<'_, Option<u32>>,
 ) -> Result<OpenCorners, FanFault>
     requires whole { AreOnce mated.now }
-    requires starts { AreAllStarts mated.now span starts.now }
-    requires points { AreAllPoints mated.now span points.now }
-    requires heads { AreHeads mated.now span heads.now }
-    requires within { All (IsWithin span) mated.now.vertices }
-    requires all_starts { length starts.now ≡ span.count }
-    requires all_points { length points.now ≡ span.count }
-    requires all_heads { length heads.now ≡ span.count }
+    requires starts { AreStartCells mated.now starts.now }
+    requires points { ArePointCells mated.now points.now }
+    requires heads { AreHeadCells mated.now heads.now }
     ensures corners { IfOk result (AllZip (LiesAt mated.now) mated.now.vertices) }
     ensures fanned { IfOk result (λ _. AllByRecursion (IsFanned mated.now) mated.now.vertices) }
     ensures fault { IfErr result (IsFanFault mated.now) }
@@ -159,8 +176,14 @@ fn corners_of(
     let mut corners = OpenCorners::new(alloc);
     'vertices: for i in 0..rows.vertex_count() {
         let vertex = vertex_at(rows, i);
-        let v = (vertex - span.least) as usize;
-        let corner = corner_at(alloc, mated, vertex, starts[v], points[v], heads[v])?;
+        let corner = corner_at(
+            alloc,
+            mated,
+            vertex,
+            starts_at(starts, vertex),
+            points_at(points, vertex),
+            head_at(heads, vertex),
+        )?;
         let Some(corner) = corner else {
             return Err(FanFault::NotFanned(VertexId(vertex)));
         };
@@ -177,16 +200,8 @@ pub(crate) fn fans(alloc: Global, mated: &Mated<'_>) -> Result<OpenCorners, FanF
     ensures fault { IfErr result (IsFanFault mated.now) }
 {
     let rows = mated.rows();
-    let span = rows.vertex_span();
-    let starts = all_starts(alloc, rows, span)?;
-    let points = all_points(alloc, rows, span)?;
-    let heads = heads_of(alloc, mated, span)?;
-    corners_of(
-        alloc,
-        mated,
-        span,
-        starts.as_slice(),
-        points.as_slice(),
-        heads.as_slice(),
-    )
+    let starts = all_starts(alloc, rows)?;
+    let points = all_points(alloc, rows)?;
+    let heads = heads_of(alloc, mated)?;
+    corners_of(alloc, mated, &starts, &points, &heads)
 }

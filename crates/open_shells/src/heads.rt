@@ -1,17 +1,15 @@
 //! Where the paths of rows round vertices begin.
 
-ghost use Rattle.std.specs.Prelude.{◌≡◌, ◌<◌, ◌-◌, Some, None, length, slice_get, slice_set, vec_len, IfOk, MatchOption};
-ghost use Rattle.std.specs.List.{AllByRecursion};
-ghost use Rattle.edge_uses.specs.Ranges.{IsWithin};
+ghost use Rattle.std.specs.Prelude.{◌≡◌, ◌<◌, Contains, Some, None, length, IfOk, MatchOption};
+ghost use Rattle.edge_uses.specs.Cells.{with_cell};
 ghost use Rattle.edge_uses.specs.Closed.{Follows};
-ghost use Rattle.edge_uses.specs.declared.row.Row.{Row as AnyRow};
 ghost use Rattle.open_shells.specs.Sound.{IsBorder};
 ghost use Rattle.open_shells.specs.Mating.{AreOnce};
-ghost use Rattle.open_shells.specs.FanParts.{AreHeads};
+ghost use Rattle.open_shells.specs.FanParts.{AreHeadCells};
 
 use crate::mated::Mated;
 use crate::mating::row_at;
-use edge_uses::Span;
+use edge_uses::Cells;
 use iges_base::NoMemory;
 use solid_data::RowId;
 use std::alloc::Global;
@@ -30,37 +28,31 @@ fn head_behind(mated: &Mated<'_>, r: u32) -> Option<u32>
     }
 }
 
-/// Keeps a row at a vertex of a range, if there is one.
-pub(crate) fn note(heads: &mut Vec<Option<u32>>, span: Span, vertex: u32, head: Option<u32>)
-    requires within { IsWithin span vertex }
-    requires len { vec_len heads.old ≡ span.count }
-    ensures len { vec_len heads.new ≡ span.count }
-    ensures none { head ≡ None → heads.new.items ≡ heads.old.items }
-    ensures some { MatchOption head (length heads.old.items ≡ length heads.old.items)
-        (λ h. heads.new.items ≡ slice_set heads.old.items (vertex - span.least) (Some h)) }
+/// Keeps a row at a vertex of the shell, if there is one.
+pub(crate) fn note(heads: &mut Cells<'_, Option<u32>>, vertex: u32, head: Option<u32>)
+    requires { Contains heads.old.numbers vertex }
+    ensures { MatchOption head (heads.new ≡ heads.old)
+        (λ h. heads.new ≡ with_cell heads.old vertex (Some h)) }
 {
     if let Some(h) = head {
-        heads[(vertex - span.least) as usize] = Some(h);
+        heads.set(vertex, Some(h));
     }
 }
 
-/// For each vertex of a range the row that starts there and to which no row turns, if there is one: it follows a border row.
-pub(crate) fn heads_of(
+/// For each vertex of a shell the row that starts there and to which no row turns, if there is one: it
+/// follows a border row. It takes no longer where the vertices lie far apart.
+pub(crate) fn heads_of<'m>(
     alloc: Global,
-    mated: &Mated<'_>,
-    span: Span,
-) -> Result<Vec<Option<u32>>, NoMemory>
-    requires within { AllByRecursion (λ (r : AnyRow). IsWithin span r.to.0) mated.now.rows }
-    requires whole { AreOnce mated.now }
-    ensures len { IfOk result (λ heads. vec_len heads ≡ span.count) }
-    ensures heads { IfOk result (λ heads. AreHeads mated.now span heads.items) }
+    mated: &'m Mated<'_>,
+) -> Result<Cells<'m, Option<u32>>, NoMemory>
+    requires { AreOnce mated.now }
+    ensures { IfOk result (AreHeadCells mated.now) }
 {
     let rows = mated.rows();
-    let mut heads = vec![in alloc; None; span.count]?;
+    let mut heads = Cells::new(alloc, rows.vertex_slice(), None)?;
     'rows: for i in 0..rows.len() {
         note(
             &mut heads,
-            span,
             row_at(rows, i).to.0,
             head_behind(mated, i as u32),
         );

@@ -106,7 +106,7 @@ pub(crate) fn with_mates(alloc: Global, rows: &Rows) -> Result<(OpenEdges, Mated
     ensures once { IfOk result (λ _. AllByRecursion (IsOnce rows.now) rows.now.edges) }
     ensures fault { IfErr result (IsEdgeFault rows.now) }
 {
-    let tally = tally_of(alloc, rows, rows.edge_span())?;
+    let tally = tally_of(alloc, rows)?;
     if let Some(edge) = first_not_once(rows, &tally) {
         return Err(EdgeFault::NotOnce(edge));
     }

@@ -51,8 +51,8 @@ pub(crate) fn row_at(rows: &Rows, i: usize) -> Row
 }
 
 /// The least edge that is used neither once nor by mates.
-pub(crate) fn first_not_once(rows: &Rows, tally: &Tally) -> Option<EdgeId>
-    requires tally { IsTally rows.now tally.now.span tally.now.seen.items }
+pub(crate) fn first_not_once(rows: &Rows, tally: &Tally<'_>) -> Option<EdgeId>
+    requires tally { IsTally rows.now tally.now.span tally.now.seen }
     requires span { AllByRecursion (IsWithin tally.now.span) rows.now.edges }
     ensures { MatchOption result (AllByRecursion (IsOnce rows.now) rows.now.edges)
         (λ e. FirstNot (IsOnce rows.now) rows.now.edges e.0) }
@@ -80,8 +80,12 @@ fn rows_of_edge(seen: Seen) -> OpenEdge
 }
 
 /// The rows of each edge, by rising edge.
-pub(crate) fn open_edges(alloc: Global, rows: &Rows, tally: &Tally) -> Result<OpenEdges, NoMemory>
-    requires tally { IsTally rows.now tally.now.span tally.now.seen.items }
+pub(crate) fn open_edges(
+    alloc: Global,
+    rows: &Rows,
+    tally: &Tally<'_>,
+) -> Result<OpenEdges, NoMemory>
+    requires tally { IsTally rows.now tally.now.span tally.now.seen }
     requires span { AllByRecursion (IsWithin tally.now.span) rows.now.edges }
     requires once { AllByRecursion (IsOnce rows.now) rows.now.edges }
     ensures { IfOk result (AllZip (AreRowsOf rows.now) rows.now.edges) }
@@ -122,9 +126,9 @@ fn push_mate(mates: &mut Vec<Option<RowId>>, mate: Option<RowId>) -> Result<(), 
 pub(crate) fn open_mates(
     alloc: Global,
     rows: &Rows,
-    tally: &Tally,
+    tally: &Tally<'_>,
 ) -> Result<Vec<Option<RowId>>, NoMemory>
-    requires tally { IsTally rows.now tally.now.span tally.now.seen.items }
+    requires tally { IsTally rows.now tally.now.span tally.now.seen }
     requires span { AllByRecursion
         (λ (r : AnyRow). IsWithin tally.now.span r.edge.0) rows.now.rows }
     requires whole { AreOnce rows.now }

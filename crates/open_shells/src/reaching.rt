@@ -1,6 +1,6 @@
 //! Rows that reach the faces of a shell.
 
-ghost use Rattle.std.specs.Prelude.{◌≡◌, ◌<◌, ◌^◌, ℕ, IfOk, IfErr, MatchOption};
+ghost use Rattle.std.specs.Prelude.{◌≡◌, ◌<◌, ℕ, IfOk, IfErr, MatchOption};
 ghost use Rattle.std.specs.List.{AllByRecursion};
 ghost use Rattle.solid_data.specs.Ring.{numbers_from};
 ghost use Rattle.solid_data.specs.Obligations.{FirstNot};
@@ -9,6 +9,7 @@ ghost use Rattle.solid_data.proofs.Members.{Has};
 ghost use Rattle.open_shells.specs.ReachFaults.{IsReachFault};
 ghost use Rattle.open_shells.specs.Flood.{IsFlood, IsDone};
 ghost use Rattle.open_shells.specs.Reaching.{ReachesAll, row_numbers};
+ghost use Rattle.solid_data.specs.declared.TheConstants.{PART_LIMIT};
 
 use crate::faces::face_rows;
 use crate::flood::Flood;
@@ -39,7 +40,7 @@ impl From<NoMemory> for ReachFault {
 
 fn first_unreached(paired: &Mated<'_>, flood: &Flood, count: usize) -> Option<u32>
     requires count { count ≡ paired.now.face_count }
-    requires few { count < 2 ^ 29 }
+    requires few { count < PART_LIMIT }
     requires flood { IsFlood paired.now flood.now.marks.items flood.now.order.items
         (row_numbers flood.now.rows) }
     requires done { (f : ℕ) → Has flood.now.order.items f

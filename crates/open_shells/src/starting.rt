@@ -1,14 +1,13 @@
 //! How many rows start at each vertex, and how many loops without an edge lie there.
 
-ghost use Rattle.std.specs.Prelude.{◌≡◌, ℕ, ◌<◌, ◌^◌, Some, length, vec_len, slice_get, slice_set, IfOk};
-ghost use Rattle.std.specs.List.{AllByRecursion};
-ghost use Rattle.solid_data.specs.declared.solid.LoopAt.{LoopAt as LoopPlace};
+ghost use Rattle.std.specs.Prelude.{◌≡◌, ◌<◌, Contains, Some, length, slice_get, IfOk};
+ghost use Rattle.edge_uses.specs.Cells.{cell_of, with_cell};
 ghost use Rattle.edge_uses.specs.Ranges.{IsWithin};
-ghost use Rattle.edge_uses.specs.declared.row.Row.{Row as AnyRow};
-ghost use Rattle.open_shells.specs.Starting.{one_start_more, one_point_more, AreAllStarts, AreAllPoints};
+ghost use Rattle.open_shells.specs.Starting.{one_start_more, one_point_more, AreStartCells, ArePointCells};
+ghost use Rattle.solid_data.specs.declared.TheConstants.{PART_LIMIT};
 
 use crate::mating::row_at;
-use edge_uses::{Rows, Span};
+use edge_uses::{Cells, Rows};
 use iges_base::NoMemory;
 use solid_data::{FaceAt, LoopAt, VertexId};
 use std::alloc::Global;
@@ -39,7 +38,7 @@ const NO_POINTS: Points = Points {
 
 // Counts one more row that starts at the vertex; the first of them is kept.
 fn one_start(starts: Starts, r: u32) -> Starts
-    requires { starts.count < 2 ^ 29 }
+    requires { starts.count < PART_LIMIT }
     ensures { result ≡ one_start_more starts r }
 {
     Starts {
@@ -50,7 +49,7 @@ fn one_start(starts: Starts, r: u32) -> Starts
 
 // Counts one more loop without an edge; the last of them is kept.
 fn one_point(points: Points, at: LoopAt) -> Points
-    requires { points.count < 2 ^ 29 }
+    requires { points.count < PART_LIMIT }
     ensures { result ≡ one_point_more points at }
 {
     Points {
@@ -75,32 +74,51 @@ pub(crate) fn point_at(rows: &Rows, i: usize) -> (LoopAt, VertexId)
     rows.isolated(i).unwrap()
 }
 
-/// How many rows start at each vertex of a range that holds the vertices of the shell.
-pub(crate) fn all_starts(alloc: Global, rows: &Rows, span: Span) -> Result<Vec<Starts>, NoMemory>
-    requires { AllByRecursion (λ (r : AnyRow). IsWithin span r.from.0) rows.now.rows }
-    ensures len { IfOk result (λ all. vec_len all ≡ span.count) }
-    ensures all { IfOk result (λ all. AreAllStarts rows.now span all.items) }
+fn note_start(starts: &mut Cells<'_, Starts>, vertex: VertexId, r: u32)
+    requires known { Contains starts.old.numbers vertex.0 }
+    requires within { IsWithin starts.old.span vertex.0 }
+    requires few { (cell_of starts.old vertex.0).count < PART_LIMIT }
+    ensures { starts.new ≡ with_cell starts.old vertex.0
+        (one_start_more (cell_of starts.old vertex.0) r) }
 {
-    let mut all = vec![in alloc; NO_STARTS; span.count]?;
-    'rows: for i in 0..rows.len() {
-        let v = (row_at(rows, i).from.0 - span.least) as usize;
-        all[v] = one_start(all[v], i as u32);
-    }
-    Ok(all)
+    let seen = starts.at(vertex.0);
+    starts.set(vertex.0, one_start(seen, r));
 }
 
-/// How many loops without an edge lie at each vertex of a range that holds the vertices of the shell.
-pub(crate) fn all_points(alloc: Global, rows: &Rows, span: Span) -> Result<Vec<Points>, NoMemory>
-    requires below { AllByRecursion (λ (p : LoopPlace × ℕ). IsWithin span p.1) rows.now.points }
-    requires few { length rows.now.points < 2 ^ 29 }
-    ensures len { IfOk result (λ all. vec_len all ≡ span.count) }
-    ensures all { IfOk result (λ all. AreAllPoints rows.now span all.items) }
+fn note_point(points: &mut Cells<'_, Points>, vertex: VertexId, at: LoopAt)
+    requires known { Contains points.old.numbers vertex.0 }
+    requires within { IsWithin points.old.span vertex.0 }
+    requires few { (cell_of points.old vertex.0).count < PART_LIMIT }
+    ensures { points.new ≡ with_cell points.old vertex.0
+        (one_point_more (cell_of points.old vertex.0) at) }
 {
-    let mut all = vec![in alloc; NO_POINTS; span.count]?;
+    let seen = points.at(vertex.0);
+    points.set(vertex.0, one_point(seen, at));
+}
+
+/// How many rows start at each vertex of the range in which the vertices of the shell lie. It takes no
+/// longer where they lie far apart.
+pub(crate) fn all_starts(alloc: Global, rows: &Rows) -> Result<Cells<'_, Starts>, NoMemory>
+    ensures { IfOk result (AreStartCells rows.now) }
+{
+    let mut starts = Cells::new(alloc, rows.vertex_slice(), NO_STARTS)?;
+    'rows: for i in 0..rows.len() {
+        note_start(&mut starts, row_at(rows, i).from, i as u32);
+    }
+    Ok(starts)
+}
+
+/// How many loops without an edge lie at each vertex of the range in which the vertices of the shell
+/// lie. It takes no longer where they lie far apart.
+pub(crate) fn all_points(alloc: Global, rows: &Rows) -> Result<Cells<'_, Points>, NoMemory>
+    ensures { IfOk result (ArePointCells rows.now) }
+{
+    // Its clause says that the loops without an edge are few.
+    let _len = rows.len();
+    let mut points = Cells::new(alloc, rows.vertex_slice(), NO_POINTS)?;
     'points: for i in 0..rows.isolated_count() {
         let (at, vertex) = point_at(rows, i);
-        let v = (vertex.0 - span.least) as usize;
-        all[v] = one_point(all[v], at);
+        note_point(&mut points, vertex, at);
     }
-    Ok(all)
+    Ok(points)
 }

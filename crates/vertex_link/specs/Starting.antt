@@ -4,7 +4,8 @@ use Rattle.solid_data.specs.declared.solid.FaceAt.{FaceAt}
 use Rattle.solid_data.specs.declared.solid.LoopAt.{LoopAt}
 use Rattle.edge_uses.specs.declared.row.Row.{Row}
 use Rattle.edge_uses.specs.declared.spanning.Span.{Span}
-use Rattle.edge_uses.specs.Ranges.{IsWithin}
+use Rattle.edge_uses.specs.Cells.{Celled}
+use Rattle.edge_uses.specs.Ranges.{IsWithin, IsSpanOf}
 use Rattle.edge_uses.specs.ShellRows.{ShellRows}
 use Rattle.edge_uses.specs.Closed.{StartsAt, point_count}
 use Rattle.vertex_link.specs.declared.starting.Starts.{Starts}
@@ -25,6 +26,11 @@ pub record AreStarts (d : ShellRows) (v : ℕ) (m : Starts) : Type 0 where
 abbrev pub AreAllStarts : ShellRows → Span → List Starts → Type 0
 AreAllStarts d span all = (v : ℕ) → IsWithin span v → AreStarts d v (get_or all (v - span.least) no_starts)
 
+pub record AreStartCells (d : ShellRows) (c : Celled Starts) : Type 0 where
+  pub span : IsSpanOf c.span d.vertices
+  pub blank : c.blank ≡ no_starts
+  pub all : AreAllStarts d c.span c.cells
+
 abbrev pub no_points : Points
 no_points = record { count = 0; last = record { face = record { 0 = 0 }; place = 0 } }
 
@@ -38,3 +44,8 @@ pub record ArePoints (d : ShellRows) (v : ℕ) (m : Points) : Type 0 where
 
 abbrev pub AreAllPoints : ShellRows → Span → List Points → Type 0
 AreAllPoints d span all = (v : ℕ) → IsWithin span v → ArePoints d v (get_or all (v - span.least) no_points)
+
+pub record ArePointCells (d : ShellRows) (c : Celled Points) : Type 0 where
+  pub span : IsSpanOf c.span d.vertices
+  pub blank : c.blank ≡ no_points
+  pub all : AreAllPoints d c.span c.cells

@@ -1,19 +1,20 @@
 //! What lies round each vertex of a shell.
 
-ghost use Rattle.std.specs.Prelude.{◌≡◌, ◌<◌, All, length, slice_get, IfOk, IfErr, ◌++◌, ◌∷◌, []};
+ghost use Rattle.std.specs.Prelude.{◌≡◌, IfOk, IfErr, ◌++◌, ◌∷◌, []};
 ghost use Rattle.std.specs.List.{AllByRecursion};
 ghost use Rattle.edge_uses.specs.Closed.{IsLinked};
-ghost use Rattle.edge_uses.specs.Ranges.{IsWithin};
 ghost use Rattle.edge_uses.specs.Mates.{ArePaired};
+ghost use Rattle.edge_uses.specs.Ranges.{IsWithin};
+ghost use Rattle.edge_uses.specs.ShellRows.{ShellRows};
 ghost use Rattle.vertex_link.specs.Corners.{AreLinks};
 ghost use Rattle.vertex_link.specs.Faults.{IsLinkFault};
-ghost use Rattle.vertex_link.specs.Starting.{AreAllStarts, AreAllPoints};
+ghost use Rattle.vertex_link.specs.Starting.{AreStartCells, ArePointCells, AreStarts, ArePoints};
 
 use crate::corners::{Corner, Links};
 use crate::fault::LinkFault;
 use crate::starting::{Points, Starts, all_points, all_starts, vertex_at};
 use crate::walking::corner_at;
-use edge_uses::{Paired, Span};
+use edge_uses::{Cells, Paired};
 use iges_base::NoMemory;
 use solid_data::VertexId;
 use std::alloc::Global;
@@ -25,19 +26,29 @@ fn push_corner(corners: &mut Vec<Corner>, corner: Corner) -> Result<(), NoMemory
     Ok(())
 }
 
+fn starts_at(starts: &Cells<'_, Starts>, vertex: u32) -> Starts
+    requires { IsWithin starts.now.span vertex }
+    ensures { (d : ShellRows) → AreStartCells d starts.now → AreStarts d vertex result }
+{
+    starts.at(vertex)
+}
+
+fn points_at(points: &Cells<'_, Points>, vertex: u32) -> Points
+    requires { IsWithin points.now.span vertex }
+    ensures { (d : ShellRows) → ArePointCells d points.now → ArePoints d vertex result }
+{
+    points.at(vertex)
+}
+
 fn corners_of(
     alloc: Global,
     paired: &Paired<'_>,
-    span: Span,
-    starts: &[Starts],
-    points: &[Points],
+    starts: &Cells<'_, Starts>,
+    points: &Cells<'_, Points>,
 ) -> Result<Vec<Corner>, LinkFault>
     requires whole { ArePaired paired.now }
-    requires starts { AreAllStarts paired.now span starts.now }
-    requires points { AreAllPoints paired.now span points.now }
-    requires within { All (IsWithin span) paired.now.vertices }
-    requires all_starts { length starts.now ≡ span.count }
-    requires all_points { length points.now ≡ span.count }
+    requires starts { AreStartCells paired.now starts.now }
+    requires points { ArePointCells paired.now points.now }
     ensures links { IfOk result (λ corners. AreLinks paired.now corners.items) }
     ensures linked { IfOk result (λ _. AllByRecursion (IsLinked paired.now) paired.now.vertices) }
     ensures fault { IfErr result (λ fault. IsLinkFault paired.now fault) }
@@ -46,8 +57,13 @@ fn corners_of(
     let mut corners = Vec::new(alloc);
     'vertices: for i in 0..rows.vertex_count() {
         let vertex = vertex_at(rows, i);
-        let v = (vertex - span.least) as usize;
-        let corner = corner_at(alloc, paired, vertex, starts[v], points[v])?;
+        let corner = corner_at(
+            alloc,
+            paired,
+            vertex,
+            starts_at(starts, vertex),
+            points_at(points, vertex),
+        )?;
         let Some(corner) = corner else {
             return Err(LinkFault::Broken(VertexId(vertex)));
         };
@@ -64,9 +80,8 @@ pub fn links(alloc: Global, paired: &Paired<'_>) -> Result<Links, LinkFault>
     ensures fault { IfErr result (λ fault. IsLinkFault paired.now fault) }
 {
     let rows = paired.rows();
-    let span = rows.vertex_span();
-    let starts = all_starts(alloc, rows, span)?;
-    let points = all_points(alloc, rows, span)?;
-    let corners = corners_of(alloc, paired, span, starts.as_slice(), points.as_slice())?;
+    let starts = all_starts(alloc, rows)?;
+    let points = all_points(alloc, rows)?;
+    let corners = corners_of(alloc, paired, &starts, &points)?;
     Ok(Links::of(corners))
 }

@@ -24,3 +24,12 @@ vertices-preserved c =
 pub returns-clause-corners : goal.returns-clause-corners
 returns-clause-corners c =
     zip_done (LiesAt c.args.mated.now) c.args.mated.now.vertices c.vertices.i c.vertices.corners (omega (arith, c.vertices-test.false, c.vertices.auto.i-end, c.vertex_count-i-end.ensures, ap (λ (d : ShellRows). length d.vertices) c.rows-rows.ensures.rows)) c.vertices.invariant.lie
+
+pub corner_at-requires-clause-starts : goal.corner_at-requires-clause-starts
+corner_at-requires-clause-starts c = c.starts_at.ensures c.args.mated.now c.requires.starts
+
+pub corner_at-requires-clause-points : goal.corner_at-requires-clause-points
+corner_at-requires-clause-points c = c.points_at.ensures c.args.mated.now c.requires.points
+
+pub corner_at-requires-clause-head : goal.corner_at-requires-clause-head
+corner_at-requires-clause-head c = c.head_at.ensures c.args.mated.now c.requires.heads

@@ -1,22 +1,24 @@
 use Rattle.std.proofs.Common.{arith}
-use Rattle.edge_uses.specs.Ranges.{IsWithin}
-use Rattle.open_shells.proofs.RowStarts.{starts_room, starts_step, starts_done, from_low}
+use Rattle.open_shells.specs.Starting.{no_starts}
+use Rattle.open_shells.proofs.StartCells.{on_vertices, rows_first, rows_noted, start_few, start_known, start_noted, start_within}
 use Rattle.open_shells.proofs.starting.all_starts.Goals as goal
 
-pub one_start-requires : goal.one_start-requires
-one_start-requires c =
-    starts_room c.args.rows.now c.rows.i c.args.span 536870912 c.row_at.result c.rows.all.items c.index.result.now c.row_at.ensures (omega (arith, c.rows.invariant.len)) c.requires c.rows.invariant.each c.index.ensures
-    c.len-i-end.ensures.kept.few
+pub rows-init : goal.rows-init
+rows-init c =
+    rows_first c.args.rows.now c.in_ok-starts.starts
+    (on_vertices c.args.rows.now no_starts c.in_ok-starts.starts c.vertex_slice.result.now c.vertex_slice.ensures.kept c.vertex_slice.ensures.items c.in_ok-starts.ensures.numbers c.in_ok-starts.ensures.span c.in_ok-starts.ensures.blank c.in_ok-starts.ensures.cells) c.in_ok-starts.ensures.cells
 
-pub index_mut-requires : goal.index_mut-requires
-index_mut-requires c = let low : IsWithin c.args.span c.row_at.result.from.0 = from_low c.args.rows.now c.rows.i c.args.span c.row_at.result c.row_at.ensures c.requires in omega (arith, low.0, low.1, c.rows.invariant.len)
+pub note_start-requires-clause-known : goal.note_start-requires-clause-known
+note_start-requires-clause-known c = start_known c.args.rows.now c.rows.i c.rows.starts c.row_at.result c.rows.invariant c.row_at.ensures
+
+pub note_start-requires-clause-within : goal.note_start-requires-clause-within
+note_start-requires-clause-within c = start_within c.args.rows.now c.rows.i c.rows.starts c.row_at.result c.rows.invariant c.row_at.ensures
+
+pub note_start-requires-clause-few : goal.note_start-requires-clause-few
+note_start-requires-clause-few c = start_few c.args.rows.now c.rows.i c.rows.starts c.row_at.result c.rows.invariant c.row_at.ensures
 
 pub rows-preserved : goal.rows-preserved
-rows-preserved c = record {
-  len = c.rows.invariant.len;
-  each = starts_step c.args.rows.now c.rows.i c.args.span c.row_at.result c.rows.all.items c.index.result.now c.one_start.result c.row_at.ensures (omega (arith, c.rows.invariant.len)) c.requires c.rows.invariant.each c.index.ensures
-      c.one_start.ensures;
-}
+rows-preserved c = start_noted c.args.rows.now c.rows.i c.rows.starts c.row_at.result c.rows.invariant c.row_at.ensures c.note_start.new.starts c.note_start.ensures
 
-pub returns-clause-all : goal.returns-clause-all
-returns-clause-all c v low = starts_done c.args.rows.now c.rows.i v _ (omega (arith, c.len-i-end.ensures.count)) (c.rows.invariant.each v low)
+pub returns : goal.returns
+returns c = rows_noted c.args.rows.now c.rows.i c.rows.starts (omega (arith, c.len-i-end.ensures.count, c.rows-test.false)) c.rows.invariant

@@ -1,23 +1,24 @@
 use Rattle.std.proofs.Common.{arith}
-use Rattle.edge_uses.specs.Ranges.{IsWithin}
-use Rattle.vertex_link.proofs.Starts.{points_room, points_step, points_done, vertex_low}
+use Rattle.vertex_link.specs.Starting.{no_points}
+use Rattle.vertex_link.proofs.StartCells.{on_vertices, point_few, point_known, point_noted, point_within, points_first, points_noted}
 use Rattle.vertex_link.proofs.starting.all_points.Goals as goal
 
-pub one_point-requires : goal.one_point-requires
-one_point-requires c =
-    points_room c.args.rows.now c.points.i c.args.span 536870912 c.point_at.result.1.0 c.point_at.result.0 c.points.all.items c.index.result.now c.point_at.ensures (omega (arith, c.points.invariant.len)) c.requires.below c.points.invariant.each
-    c.index.ensures c.requires.few
+pub points-init : goal.points-init
+points-init c =
+    points_first c.args.rows.now c.in_ok-points.points
+    (on_vertices c.args.rows.now no_points c.in_ok-points.points c.vertex_slice.result.now c.vertex_slice.ensures.kept c.vertex_slice.ensures.items c.in_ok-points.ensures.numbers c.in_ok-points.ensures.span c.in_ok-points.ensures.blank c.in_ok-points.ensures.cells) c.in_ok-points.ensures.cells
 
-pub index_mut-requires : goal.index_mut-requires
-index_mut-requires c =
-    let low : IsWithin c.args.span c.point_at.result.1.0 = vertex_low c.args.rows.now c.points.i c.args.span c.point_at.result.1.0 c.point_at.result.0 c.point_at.ensures c.requires.below in omega (arith, low.0, low.1, c.points.invariant.len)
+pub note_point-requires-clause-known : goal.note_point-requires-clause-known
+note_point-requires-clause-known c = point_known c.args.rows.now c.points.i c.points.points c.point_at.result.0 c.point_at.result.1.0 c.points.invariant c.point_at.ensures
+
+pub note_point-requires-clause-within : goal.note_point-requires-clause-within
+note_point-requires-clause-within c = point_within c.args.rows.now c.points.i c.points.points c.point_at.result.0 c.point_at.result.1.0 c.points.invariant c.point_at.ensures
+
+pub note_point-requires-clause-few : goal.note_point-requires-clause-few
+note_point-requires-clause-few c = point_few c.args.rows.now c.points.i c.points.points c.point_at.result.0 c.point_at.result.1.0 c.points.invariant c.point_at.ensures
 
 pub points-preserved : goal.points-preserved
-points-preserved c = record {
-  len = c.points.invariant.len;
-  each = points_step c.args.rows.now c.points.i c.args.span c.point_at.result.1.0 c.point_at.result.0 c.points.all.items c.index.result.now c.one_point.result c.point_at.ensures (omega (arith, c.points.invariant.len)) c.requires.below
-      c.points.invariant.each c.index.ensures c.one_point.ensures;
-}
+points-preserved c = point_noted c.args.rows.now c.points.i c.points.points c.point_at.result.0 c.point_at.result.1.0 c.points.invariant c.point_at.ensures c.note_point.new.points c.note_point.ensures
 
-pub returns-clause-all : goal.returns-clause-all
-returns-clause-all c v low = points_done c.args.rows.now c.points.i v _ (omega (arith, c.isolated_count-i-end.ensures)) (c.points.invariant.each v low)
+pub returns : goal.returns
+returns c = points_noted c.args.rows.now c.points.i c.points.points (omega (arith, c.isolated_count-i-end.ensures, c.points-test.false)) c.points.invariant

@@ -1,11 +1,5 @@
-use Rattle.std.proofs.Common.{◌≡◌, ◌-◌, ℕ, get_or, vec_len}
-use Rattle.edge_uses.specs.Ranges.{IsWithin}
-use Rattle.vertex_link.specs.Starting.{no_points}
-use Rattle.vertex_link.proofs.Starts.{PointsBefore}
+use Rattle.vertex_link.proofs.StartCells.{PointsNoted}
 use Rattle.vertex_link.proofs.starting.all_points.Given as goal
 
 abbrev pub invariant-points : goal.invariant-points
-invariant-points l = record {
-  len : vec_len l.all ≡ l.span.count;
-  each : (v : ℕ) → IsWithin l.span v → PointsBefore l.rows l.i v (get_or l.all.items (v - l.span.least) no_points);
-}
+invariant-points l = PointsNoted l.fn.rows l.i l.points
