@@ -5,7 +5,7 @@ use Rattle.cert_lines.specs.declared.version.Version.{Version}
 use Rattle.cert_lines.specs.declared.fault.Illegal.{Illegal}
 use Rattle.cert_lines.specs.declared.fault.Illegal.TheVariants.{Misspelt, Unfit, Missing}
 
--- The certificate begins with the head of this version, and these are the lines behind it.
+-- The certificate begins with the head of this version, and these are the lines after it.
 pub record IsHeaded (certificate : List ℕ) (v : Version) (rest : List (List ℕ)) : Type 0 where
   pub first : List ℕ
   pub cut : cut_lines certificate ≡ first ∷ rest

@@ -16,7 +16,7 @@ pub enum Misfit {
 pub enum Illegal {
     /// The line spells none of the kinds of lines, or has no LF.
     Misspelt { line: u64 },
-    /// The line is spelled but doesn't fit behind the lines before it, or it has too many bytes, whatever they are.
+    /// The line is spelled but doesn't fit after the lines before it, or it has too many bytes, whatever they are.
     Unfit { line: u64 },
     /// The text ends where this line is due.
     Missing { line: u64 },

@@ -49,7 +49,7 @@ fn at_line(misfit: Misfit, line: u64) -> Illegal
     }
 }
 
-/// The version and the solid that a certificate names in its first two lines, and the text behind them; or the first of
+/// The version and the solid that a certificate names in its first two lines, and the text after them; or the first of
 /// the two that is missing, misspelt or unfit (own).
 pub fn read_opening(text: &[u8]) -> Result<(Version, EntryNo, &[u8]), Illegal>
     ensures { MatchResult result (λ p. Opens text.now p.0 p.1.0 (cut_lines p.2.now))

@@ -11,7 +11,7 @@ use Rattle.topo_certificate.specs.declared.line_checker.PartLine.TheVariants as 
 use Rattle.topo_certificate.specs.declared.checker.PartStep.{PartStep}
 use Rattle.topo_certificate.specs.declared.checker.PartStep.TheVariants.{More, Next}
 
--- Lines of the part fit, and behind them a line ends the text that names this solid and begins the next part. The next line has this number, and the checker stands before the line of the solid.
+-- Lines of the part fit, and after them the text ends with a line that names this solid and begins the next part. The line after that has this number, and the checker stands before the line of the solid.
 pub record EndsPart (v : Version) (s : SolidData) (first : ℕ) (text : List ℕ) (n line : ℕ) (c : FedKept) : Type 0 where
   pub good : List (List ℕ)
   pub read : List CertLine
@@ -28,7 +28,7 @@ abbrev pub IsEndedBy : Version → SolidData → ℕ → List ℕ → FedKept �
 IsEndedBy v s first text c part_line.More = IsFedPart v s first text c
 IsEndedBy v s first text c (part_line.Next n line) = EndsPart v s first text n.0 line c
 
--- Behind this text the piece was taken whole, or as far as a line that ends the part.
+-- After this text the piece was taken whole, or as far as a line that ends the part.
 abbrev pub IsPartStep : Version → SolidData → ℕ → List ℕ → List ℕ → FedKept → PartStep → Type 0
 IsPartStep v s first text piece c More = IsFedPart v s first (text ++ piece) c
 IsPartStep v s first text piece c (Next n line used) = (used ≤ length piece) × EndsPart v s first (text ++ take used piece) n.0 line c

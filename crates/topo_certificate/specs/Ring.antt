@@ -5,7 +5,7 @@ use Rattle.edge_uses.specs.ShellRows.{ShellRows}
 use Rattle.cert_lines.specs.Numbers.{AreNumbers}
 use Rattle.topo_certificate.specs.Stand.{Stand, TurnsTo, FitsCorner}
 
--- From r on each row turns to the next, and the last to the first; all behind r are greater than the first.
+-- From r on each row turns to the next, and the last to the first; all after r are greater than the first.
 abbrev pub IsRing : ShellRows → List (ℕ × ℕ) → ℕ → ℕ → List ℕ → Type 0
 IsRing d pairs first r rs = AllZip (TurnsTo d pairs) (r ∷ rs) (rs ++ first ∷ []) × AllByRecursion (λ x. first < x) rs
 

@@ -12,7 +12,7 @@ ghost use Rattle.cert_lines.specs.declared.version.Version.TheVariants.{Two};
 ghost use Rattle.cert_lines.specs.declared.fault.Illegal.TheVariants.{Missing};
 ghost use Rattle.topo_certificate.specs.Stand.{stand_after, FitsLine};
 ghost use Rattle.topo_certificate.specs.Legal.{IsLegal, IsFirstBad, IsPartBad, IsBadLine};
-ghost use Rattle.topo_certificate.specs.Told.{IsOfSame};
+ghost use Rattle.topo_certificate.specs.Matching.{IsOfSame};
 
 use crate::line_checker::{LineChecker, PartLine};
 use crate::uses::limit_of;
@@ -27,12 +27,12 @@ use std::marker::Model;
 pub enum PartStep {
     /// The whole piece was taken, and the part goes on.
     More,
-    /// A line ended the part: the solid that it names, the number of the line behind it, and how many bytes of the piece
+    /// A line ended the part: the solid that it names, the number of the line after it, and how many bytes of the piece
     /// were taken, those up to its LF.
     Next { no: EntryNo, line: u64, used: usize },
 }
 
-/// Judges the lines of a certificate behind its first two, or those of a part of a book, one after the other, against a
+/// Judges the lines of a certificate after its first two, or those of a part of a book, one after the other, against a
 /// solid (own). They come whole by `line`, or in pieces that are cut anywhere: by `feed`, and for a part of a book by
 /// `feed_part`. Each line costs time in proportion to its bytes, and no call takes memory after `new` or `part`: beside
 /// the rows of the shells a checker keeps eight bytes a row, a byte for each face and for each loop without an edge, and
@@ -228,8 +228,8 @@ impl<'a> Checker<'a> {
     }
 
     /// Takes the next bytes of a part of a book, and judges each line at its LF as `feed` does (own). But where END is due
-    /// a line fits too that names a solid with a greater number: it begins the next part, and no byte behind its LF is
-    /// taken. No call may come behind that. A part that END ends is finished by `finish`.
+    /// a line fits too that names a solid with a greater number: it begins the next part, and no byte after its LF is
+    /// taken. No call may come after that. A part that END ends is finished by `finish`.
     pub fn feed_part(&mut self, piece: &[u8]) -> Result<PartStep, Illegal>
         ensures step { (v : Version) (s : SolidData) (first : ℕ) (text : List ℕ)
             → IsFedPart v s first text self.old → MatchResult result
@@ -258,7 +258,7 @@ impl<'a> Checker<'a> {
         Ok(PartStep::More)
     }
 
-    /// Whether END was the last line (own). A rest without LF is misspelt; where END wasn't the last line, the line behind
+    /// Whether END was the last line (own). A rest without LF is misspelt; where END wasn't the last line, the line after
     /// the last one is missing.
     pub fn finish(&mut self) -> Result<(), Illegal>
         ensures fed { (v : Version) (s : SolidData) (first : ℕ) (text : List ℕ)

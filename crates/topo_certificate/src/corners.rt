@@ -16,7 +16,7 @@ use cert_lines::next_number;
 use edge_uses::Rows;
 use solid_data::VertexId;
 
-/// The vertex of a corner line that fits behind one at the last vertex, where these are the mates; None where the text
+/// The vertex of a corner line that fits after one at the last vertex, where these are the mates; None where the text
 /// isn't the numbers of one.
 pub(crate) fn read_corner(
     rows: &Rows,
@@ -49,7 +49,7 @@ pub(crate) fn read_corner(
     }
 }
 
-/// The vertex of a corner line that fits behind one at the last vertex, where these are the mates.
+/// The vertex of a corner line that fits after one at the last vertex, where these are the mates.
 pub fn fitting_corner(
     rows: &Rows,
     sizes: &[u32],
@@ -64,7 +64,7 @@ pub fn fitting_corner(
     read_corner(rows, sizes, mates, last, numbers)
 }
 
-/// The vertex of a point line that fits behind one at the last vertex.
+/// The vertex of a point line that fits after one at the last vertex.
 pub fn fitting_point(
     rows: &Rows,
     alone: &[bool],

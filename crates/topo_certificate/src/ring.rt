@@ -30,7 +30,7 @@ fn goes_on(rows: &Rows, mates: &[u32], first: u32, last: u32, next: u32) -> bool
 }
 
 /// How many rows turn to one another from a first one on, back to it, which is the least. The others are numbers of a
-/// text, each behind a space; None where the text is anything else.
+/// text, each after a space; None where the text is anything else.
 pub(crate) fn ring_len(rows: &Rows, mates: &[u32], first: u32, others: &[u8]) -> Option<usize>
     ensures numbers { IfSome result (λ _. IsSpaced others.now) }
     ensures ring { (pairs : List (ℕ × ℕ)) (rs : List ℕ) → HoldsMates mates.now pairs → AreNumbers others.now rs →

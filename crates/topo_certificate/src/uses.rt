@@ -45,7 +45,7 @@ pub fn use_count(solid: &Solid) -> usize
     count
 }
 
-/// The most bytes that a line behind the first two may have, with its LF.
+/// The most bytes that a line after the first two may have, with its LF.
 pub(crate) fn limit_of(solid: &Solid) -> usize
     ensures { result ≡ line_limit solid.now }
 {
