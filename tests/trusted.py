@@ -152,12 +152,13 @@ def checks(top):
 
 
 def mended(sources, page, crates):
-    """The page with its sentence of numbers and its tables as the sources have them."""
+    """The page with its sentence of numbers and its tables as the sources have them. Rows that it has keep their order."""
     says, needs = {path: text for path, text, _ in ROW.findall(page)}, wanted(sources)
+    order = {path: number for number, path in enumerate(says)}
     tables = []
     for crate in crates:
         rows = ""
-        for path in sorted(path for path in needs if path.split("/")[1] == crate):
+        for path in sorted((path for path in needs if path.split("/")[1] == crate), key=lambda path: (order.get(path, len(order)), path)):
             text = says.get(path, sources[path].splitlines()[0].removeprefix("-- ").rstrip("."))
             rows += f"| [{pathlib.Path(path).stem}](../{path}) | {text} | {needs[path]} |\n"
         if rows:

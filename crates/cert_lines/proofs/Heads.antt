@@ -1,19 +1,26 @@
--- The head by the number behind its word.
-use Rattle.std.specs.Prelude.{◌≡◌, ◌≢◌, ℕ, List, [], ◌∷◌, ◌++◌, codes, Option, Some, None, MatchOption}
-use Rattle.std.proofs.Common.{sym, ◌∙◌, ap, get_or}
-use Rattle.cert_lines.specs.Line.{head, spaced, version_number}
-use Rattle.cert_lines.specs.Numbers.{AreNumbers, Spells}
+-- The heads of the versions, byte by byte.
+use Rattle.std.specs.Prelude.{◌≡◌, ◌≢◌, List, ℕ, codes}
+use Rattle.std.specs.Fmt.{digits}
+use Rattle.std.proofs.Common.{refl}
+use Rattle.cert_lines.specs.Line.{head, words}
+use Rattle.cert_lines.specs.Numbers.{Spells}
 use Rattle.cert_lines.specs.declared.version.Version.{Version}
-use Rattle.cert_lines.proofs.Spelling.{spaced_one, same_front, version_short}
+use Rattle.cert_lines.specs.declared.version.Version.TheVariants.{One, Two, Three}
 
--- a text is one number at most
-number_one : (text : List ℕ) (n m : ℕ) → AreNumbers text (n ∷ []) → AreNumbers text (m ∷ []) → n ≡ m
-number_one text n m a b =
-    ap (λ ns. get_or ns 0 0) (spaced_one (n ∷ []) (m ∷ []) a.short b.short (ap (λ t. t ++ 10 ∷ []) (sym a.text_is ∙ b.text_is)))
+pub head_one : codes "IGESCERT 1" ≡ words (head One)
+unfolding digits
+head_one = refl
 
-pub head_told : (text rest : List ℕ) (n : ℕ) (found : Option Version) → text ≡ codes "IGESCERT" ++ rest → AreNumbers rest (n ∷ [])
-    → MatchOption found ((v : Version) → version_number v ≢ n) (λ v. version_number v ≡ n) → MatchOption found ((v : Version) → ¬ Spells text (head v)) (λ v. Spells text (head v))
-head_told text rest n (Some v) is are found = (tt, is ∙ ap (λ t. codes "IGESCERT" ++ t) (are.text_is ∙ ap (λ m. spaced (m ∷ [])) (sym found)))
-head_told text rest n None is are never = λ v h.
-    let other : rest ≡ spaced (version_number v ∷ []) = same_front (codes "IGESCERT") rest (spaced (version_number v ∷ [])) (sym is ∙ h.1) in
-    never v (number_one rest (version_number v) n (record { short = (version_short v, tt); text_is = other }) are)
+pub head_two : codes "IGESCERT 2" ≡ words (head Two)
+unfolding digits
+head_two = refl
+
+pub head_three : codes "IGESCERT 3" ≡ words (head Three)
+unfolding digits
+head_three = refl
+
+-- a text that is the head of no version
+pub no_head : (text : List ℕ) → text ≢ words (head One) → text ≢ words (head Two) → text ≢ words (head Three) → (v : Version) → ¬ Spells text (head v)
+no_head text one two three One h = one h.1
+no_head text one two three Two h = two h.1
+no_head text one two three Three h = three h.1

@@ -9,7 +9,7 @@ pub record IsFirstEnd (text : List ℕ) (n : ℕ) : Type 0 where
   pub is_end : slice_index text n ≡ 10
   pub before : (k : ℕ) → k < n → slice_index text k ≢ 10
 
--- The text begins with this line, which the first LF ends, and this is after it.
+-- The text begins with this line, which the first LF ends, and this follows it.
 pub record EndsFirst (text line after : List ℕ) : Type 0 where
   pub front : List ℕ
   pub in_line : IsTrue (is_in_line front)

@@ -17,7 +17,7 @@ abbrev pub IsPlain : List ℕ → Type 0
 IsPlain [] = ⊥
 IsPlain (b ∷ bs) = b ≡ 48 → length bs ≡ 0
 
--- The text begins with a space and this number, and after these comes the rest.
+-- The text begins with a space and this number, and after these stands the rest.
 pub record Begins (text : List ℕ) (n : ℕ) (rest : List ℕ) : Type 0 where
   pub short : IsShort n
   pub stops : Stops rest

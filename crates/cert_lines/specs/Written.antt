@@ -2,7 +2,8 @@
 use Rattle.std.specs.Prelude.{ℕ, ◌+◌, List, [], ◌∷◌, ◌++◌, length, map, flat_map}
 use Rattle.std.specs.List.{enumerate_from}
 use Rattle.solid_data.specs.declared.solid.RowId.{RowId}
-use Rattle.cert_lines.specs.Line.{CertLine, Tally, head, solid, shell, edge, corner, point, reach, tally, end, spelling}
+use Rattle.cert_lines.specs.Line.{CertLine, head, solid, shell, edge, corner, point, reach, tally, end, spelling}
+use Rattle.cert_lines.specs.declared.counts.Tally.{Tally}
 use Rattle.cert_lines.specs.declared.version.Version.{Version}
 use Rattle.cert_lines.specs.declared.version.Version.TheVariants.{One, Two, Three}
 use Rattle.cert_lines.specs.declared.parts.CornerLine.{CornerLine}

@@ -1,6 +1,7 @@
 //! The lines of a certificate: how they are spelled, how they are read, and the text of a certificate given by its parts.
 #![tactic(auto)]
 
+mod counts;
 mod cutting;
 mod fault;
 mod law;
@@ -11,6 +12,7 @@ mod version;
 mod words;
 mod writing;
 
+pub use counts::{ShellCounts, Tally};
 pub use cutting::{first_ended, first_line};
 pub use fault::{Illegal, Misfit};
 pub use law::{lines_are_decided, one_line, one_opening};
@@ -19,8 +21,8 @@ pub use opening::{head_line, read_opening, solid_line};
 pub use parts::{
     Certificate, Certificates, CornerLine, Corners, EdgePairs, ReachRows, ShellPart, ShellParts,
 };
-pub use version::Version;
-pub use words::{Judged, ShellWords, TallyWords, Words, after_word, judge};
+pub use version::{Version, head_text};
+pub use words::{Judged, Words, after_word, judge};
 pub use writing::{
     from_one, put_head_line, put_line, put_rows, put_tally_line, write_book, write_certificate,
 };

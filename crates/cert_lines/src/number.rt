@@ -45,7 +45,7 @@ fn is_plain(digits: &[u8]) -> bool
     }
 }
 
-/// The number at the start of a text, after a space, and what follows it; None where none of one to nine digits is
+/// The number at the start of a text, after a space, and what follows it; None where none of one to nine digits stands
 /// there (own).
 pub fn next_number(text: &[u8]) -> Option<(u32, &[u8])>
     ensures { MatchOption result ((n : ℕ) (rest : List ℕ) → ¬ Begins text.now n rest)

@@ -1,8 +1,7 @@
 //! Versions of certificates.
 
-ghost use Rattle.std.specs.Prelude.{◌≡◌, ◌≢◌, MatchOption};
-ghost use Rattle.cert_lines.specs.Line.{version_number};
-ghost use Rattle.cert_lines.specs.declared.version.Version.{Version as Edition};
+ghost use Rattle.std.specs.Prelude.{◌≡◌};
+ghost use Rattle.cert_lines.specs.Line.{words, head};
 
 /// The version of a certificate, which its first line names (own). In version 2 each shell ends in a line of its counts;
 /// version 3 is a book of such certificates, a part for each solid.
@@ -13,26 +12,13 @@ pub enum Version {
     Three,
 }
 
-/// The number of a version in the first line.
-pub(crate) fn number_of(version: Version) -> u64
-    ensures { result ≡ version_number version }
+/// The first line of a certificate of this version, without its LF (own).
+pub fn head_text(version: Version) -> &'static [u8]
+    ensures { result.now ≡ words (head version) }
 {
     match version {
-        Version::One => 1,
-        Version::Two => 2,
-        Version::Three => 3,
-    }
-}
-
-/// The version with this number.
-pub(crate) fn numbered(number: u32) -> Option<Version>
-    ensures { MatchOption result ((v : Edition) → version_number v ≢ number)
-        (λ v. version_number v ≡ number) }
-{
-    match number {
-        1 => Some(Version::One),
-        2 => Some(Version::Two),
-        3 => Some(Version::Three),
-        _ => None,
+        Version::One => b"IGESCERT 1",
+        Version::Two => b"IGESCERT 2",
+        Version::Three => b"IGESCERT 3",
     }
 }

@@ -1,13 +1,16 @@
 //! One line of a certificate, read from its bytes.
 
 ghost use Rattle.std.specs.Prelude.{◌≡◌, ◌≢◌, ℕ, List, [], ◌∷◌, ◌++◌, ◌≤◌, ◌↔◌, IsTrue, IfSome, IfNone, codes, length, MatchOption};
-ghost use Rattle.cert_lines.specs.Line.{CertLine, head, solid, shell, edge, corner, point, reach, tally, end, ShellCounts, Tally, EndsWithLf, IsSpelled, spaced};
+ghost use Rattle.cert_lines.specs.Line.{CertLine, head, solid, shell, edge, corner, point, reach, tally, end, EndsWithLf, IsSpelled, spaced};
 ghost use Rattle.cert_lines.specs.Numbers.{AreNumbers, IsSpaced, Spells};
-ghost use Rattle.cert_lines.specs.Said.{Means, IsRowLine, IsJudged, counts_said, tally_said};
+ghost use Rattle.cert_lines.specs.Said.{Means, IsRowLine, IsJudged};
+ghost use Rattle.cert_lines.specs.declared.counts.ShellCounts.{ShellCounts as Counts};
+ghost use Rattle.cert_lines.specs.declared.counts.Tally.{Tally as Tallied};
 ghost use Rattle.cert_lines.specs.declared.version.Version.{Version as Edition};
 
+use crate::counts::{ShellCounts, Tally};
 use crate::number::{are_numbers, next_number, one_number, two_numbers};
-use crate::version::{Version, numbered};
+use crate::version::{Version, head_text};
 
 /// What a line says (own). Rows, faces and loops count from 1 here, as in the text.
 #[derive(Clone, Copy)]
@@ -16,44 +19,20 @@ pub enum Words<'a> {
     Head(Version),
     /// `SOLID`, and the directory number of the solid.
     Solid(u32),
-    /// `SHELL`, and its numbers.
-    Shell(ShellWords),
+    /// `SHELL`, the number of the shell, and what it has.
+    Shell(u32, ShellCounts),
     /// `E`, the row along an edge, and the one against it.
     Edge(u32, u32),
-    /// `C`. The rows are in this text, each after a space.
+    /// `C`. The rows stand in this text, each after a space.
     Corner(&'a [u8]),
     /// `I`, a face of the shell, and a loop of that face.
     Point(u32, u32),
     /// `R`, and a row.
     Reach(u32),
-    /// `TALLY`, and its numbers.
-    Tally(TallyWords),
+    /// `TALLY`, and what the shell has.
+    Tally(Tally),
     /// `END`.
     End,
-}
-
-/// The numbers of a SHELL line (own): the shell, from 1, and how many rows, edges, corners and faces it has.
-#[derive(Clone, Copy)]
-pub struct ShellWords {
-    /// The shell, from 1; the outer one is 1.
-    pub shell: u32,
-    /// How many edge uses it has.
-    pub rows: u32,
-    /// How many E lines it has, one for each edge that occurs in it.
-    pub edges: u32,
-    /// How many C and I lines it has together, one for each vertex that occurs in it.
-    pub corners: u32,
-    /// How many faces it has.
-    pub faces: u32,
-}
-
-/// The numbers of a TALLY line (own): how many vertices, edges, faces and loops the shell has.
-#[derive(Clone, Copy)]
-pub struct TallyWords {
-    pub vertices: u32,
-    pub edges: u32,
-    pub faces: u32,
-    pub loops: u32,
 }
 
 /// What follows a letter at the start of a text.
@@ -75,9 +54,9 @@ pub fn after_word<'a>(text: &'a [u8], word: &[u8]) -> Option<&'a [u8]>
     text.strip_prefix(word)
 }
 
-fn shell_numbers(text: &[u8]) -> Option<ShellWords>
+fn shell_numbers(text: &[u8]) -> Option<(u32, ShellCounts)>
     ensures { MatchOption result ((a b c d e : ℕ) → ¬ AreNumbers text.now (a ∷ b ∷ c ∷ d ∷ e ∷ []))
-        (λ w. AreNumbers text.now (w.shell ∷ w.rows ∷ w.edges ∷ w.corners ∷ w.faces ∷ [])) }
+        (λ p. AreNumbers text.now (p.0 ∷ p.1.rows ∷ p.1.edges ∷ p.1.corners ∷ p.1.faces ∷ [])) }
 {
     let Some((shell, rest)) = next_number(text) else {
         return None;
@@ -91,16 +70,18 @@ fn shell_numbers(text: &[u8]) -> Option<ShellWords>
     let Some((corners, faces)) = two_numbers(rest) else {
         return None;
     };
-    Some(ShellWords {
+    Some((
         shell,
-        rows,
-        edges,
-        corners,
-        faces,
-    })
+        ShellCounts {
+            rows,
+            edges,
+            corners,
+            faces,
+        },
+    ))
 }
 
-fn tally_numbers(text: &[u8]) -> Option<TallyWords>
+fn tally_numbers(text: &[u8]) -> Option<Tally>
     ensures { MatchOption result ((a b c d : ℕ) → ¬ AreNumbers text.now (a ∷ b ∷ c ∷ d ∷ []))
         (λ w. AreNumbers text.now (w.vertices ∷ w.edges ∷ w.faces ∷ w.loops ∷ [])) }
 {
@@ -113,7 +94,7 @@ fn tally_numbers(text: &[u8]) -> Option<TallyWords>
     let Some((faces, loops)) = two_numbers(rest) else {
         return None;
     };
-    Some(TallyWords {
+    Some(Tally {
         vertices,
         edges,
         faces,
@@ -125,13 +106,16 @@ fn head_words(text: &[u8]) -> Option<Version>
     ensures { MatchOption result ((v : Edition) → ¬ Spells text.now (head v))
         (λ v. Spells text.now (head v)) }
 {
-    let Some(rest) = after_word(text, b"IGESCERT") else {
-        return None;
-    };
-    let Some(number) = one_number(rest) else {
-        return None;
-    };
-    numbered(number)
+    if is_word(text, head_text(Version::One)) {
+        return Some(Version::One);
+    }
+    if is_word(text, head_text(Version::Two)) {
+        return Some(Version::Two);
+    }
+    if is_word(text, head_text(Version::Three)) {
+        return Some(Version::Three);
+    }
+    None
 }
 
 fn solid_words(text: &[u8]) -> Option<u32>
@@ -144,9 +128,9 @@ fn solid_words(text: &[u8]) -> Option<u32>
     }
 }
 
-fn shell_words(text: &[u8]) -> Option<ShellWords>
-    ensures { MatchOption result ((k : ℕ) (c : ShellCounts) → ¬ Spells text.now (shell k c))
-        (λ w. Spells text.now (shell w.shell (counts_said w))) }
+fn shell_words(text: &[u8]) -> Option<(u32, ShellCounts)>
+    ensures { MatchOption result ((k : ℕ) (c : Counts) → ¬ Spells text.now (shell k c))
+        (λ p. Spells text.now (shell p.0 p.1)) }
 {
     match after_word(text, b"SHELL") {
         Some(rest) => shell_numbers(rest),
@@ -184,9 +168,9 @@ fn reach_words(text: &[u8]) -> Option<u32>
     }
 }
 
-fn tally_words(text: &[u8]) -> Option<TallyWords>
-    ensures { MatchOption result ((t : Tally) → ¬ Spells text.now (tally t))
-        (λ w. Spells text.now (tally (tally_said w))) }
+fn tally_words(text: &[u8]) -> Option<Tally>
+    ensures { MatchOption result ((t : Tallied) → ¬ Spells text.now (tally t))
+        (λ t. Spells text.now (tally t)) }
 {
     match after_word(text, b"TALLY") {
         Some(rest) => tally_numbers(rest),
@@ -223,8 +207,8 @@ fn read_words(text: &[u8]) -> Option<Words<'_>>
     if let Some(words) = read_row_words(text) {
         return Some(words);
     }
-    if let Some(counts) = shell_words(text) {
-        return Some(Words::Shell(counts));
+    if let Some((number, counts)) = shell_words(text) {
+        return Some(Words::Shell(number, counts));
     }
     if let Some(number) = solid_words(text) {
         return Some(Words::Solid(number));
@@ -276,7 +260,7 @@ fn read_line(line: &[u8]) -> Option<Words<'_>>
     read_words(text)
 }
 
-/// A line, as far as its bytes and its length say (own).
+/// A line, as far as its bytes and its length show (own).
 #[derive(Clone, Copy)]
 pub enum Judged<'a> {
     /// The line is one of the kinds of lines, and isn't long.

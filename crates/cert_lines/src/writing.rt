@@ -6,7 +6,7 @@ ghost use Rattle.cert_lines.specs.Line.{HasSpelling, head, tally, cut_lines, spa
 ghost use Rattle.cert_lines.specs.Written.{row_number, edge_line, corner_line, reach_line, shell_line, tally_line, tally_of, tally_lines, shell_lines, solid_lines, certificate_lines, book_lines, text_of};
 
 use crate::parts::{Certificate, Certificates, CornerLine, ShellPart};
-use crate::version::{Version, number_of};
+use crate::version::{Version, head_text};
 use iges_base::{Bytes, NoMemory, Out, write_number};
 use solid_data::RowId;
 use std::alloc::Global;
@@ -143,7 +143,8 @@ fn put_counts(out: &mut Out, part: &ShellPart) -> Result<(), NoMemory>
 pub fn put_head_line(out: &mut Out, version: Version) -> Result<(), NoMemory>
     ensures { IfOk result (λ _. out.new ≡ out.old ++ spelling (head version)) }
 {
-    put_head(out, version)
+    out.put(head_text(version))?;
+    out.put(b"\n")
 }
 
 /// In versions 2 and 3 the line of the shell's counts.
@@ -178,12 +179,6 @@ fn put_shells(out: &mut Out, version: Version, parts: &[ShellPart]) -> Result<()
     Ok(())
 }
 
-fn put_head(out: &mut Out, version: Version) -> Result<(), NoMemory>
-    ensures { IfOk result (λ _. out.new ≡ out.old ++ spelling (head version)) }
-{
-    put_line(out, b"IGESCERT", &[number_of(version)])
-}
-
 /// The lines of one solid: the one that names it, and those of its shells.
 fn put_solid(out: &mut Out, c: &Certificate) -> Result<(), NoMemory>
     ensures { IfOk result (λ _. out.new ≡ out.old ++ text_of (solid_lines c.now)) }
@@ -212,7 +207,7 @@ pub fn write_certificate(alloc: Global, c: &Certificate) -> Result<Bytes, NoMemo
         → IfOk result (λ text. cut_lines text ≡ map spelling (certificate_lines c.now)) }
 {
     let mut out = Out::new(alloc);
-    put_head(&mut out, c.version)?;
+    put_head_line(&mut out, c.version)?;
     put_solid(&mut out, c)?;
     out.put(b"END\n")?;
     Ok(out.into_bytes())
@@ -226,7 +221,7 @@ pub fn write_book(alloc: Global, parts: &Certificates) -> Result<Bytes, NoMemory
         → IfOk result (λ text. cut_lines text ≡ map spelling (book_lines parts.now)) }
 {
     let mut out = Out::new(alloc);
-    put_head(&mut out, Version::Three)?;
+    put_head_line(&mut out, Version::Three)?;
     put_solids(&mut out, parts.as_slice())?;
     out.put(b"END\n")?;
     Ok(out.into_bytes())

@@ -16,13 +16,15 @@ use Rattle.edge_uses.specs.Closed.{AreMates, StartsAt}
 use Rattle.edge_uses.specs.Mates.{RunsOn}
 use Rattle.vertex_link.specs.Cycles.{IsCycle}
 use Rattle.shell_reach.specs.Reaching.{ReachFrom, ReachesOne, row_numbers}
-use Rattle.cert_lines.specs.Line.{CertLine, ShellCounts, Tally, tally, shell, edge, corner, point, reach, end, spelling, IsShort, HasSpelling}
+use Rattle.cert_lines.specs.Line.{CertLine, tally, shell, edge, corner, point, reach, end, spelling, IsShort, HasSpelling}
+use Rattle.cert_lines.specs.declared.counts.ShellCounts.{ShellCounts}
+use Rattle.cert_lines.specs.declared.counts.Tally.{Tally}
 use Rattle.cert_lines.specs.declared.version.Version.{Version}
 use Rattle.cert_lines.specs.declared.version.Version.TheVariants.{One, Two, Three}
 use Rattle.topo_certificate.specs.Legal.{IsLegal}
-use Rattle.topo_certificate.specs.Behind.{IsLegalBehind}
+use Rattle.topo_certificate.specs.After.{IsLegalAfter}
 use Rattle.topo_certificate.proofs.Forward.{legal_forward}
-use Rattle.topo_certificate.specs.Stand.{tallies, loops_of, loops_of_shell, stand_behind, FitsLine, IsAbove, first_of, row_start, row_face, point_named, rows_of_shell, start_count, IsMate, TurnsTo}
+use Rattle.topo_certificate.specs.Stand.{tallies, loops_of, loops_of_shell, stand_from_latest, FitsLine, IsAbove, first_of, row_start, row_face, point_named, rows_of_shell, start_count, IsMate, TurnsTo}
 use Rattle.cert_lines.specs.Written.{tally_line, tally_lines, row_number, edge_line, corner_line, reach_line, shell_line, shell_lines}
 use Rattle.cert_lines.specs.declared.parts.CornerLine.{CornerLine}
 use Rattle.cert_lines.specs.declared.parts.CornerLine.TheVariants.{Cycle, Point}
@@ -34,10 +36,10 @@ use Rattle.cert_maker.specs.Parts.{AreItsRows, LiesRound, IsPart, AreParts}
 
 -- Behind the lines before, the latest first: each line is spelled and fits, and the last is END.
 abbrev pub GoesOn : Version → SolidData → List CertLine → List CertLine → Type 0
-GoesOn version s before [] = (stand_behind version s before).ended ≡ true
-GoesOn version s before (l ∷ ls) = IsReadable s l × FitsLine s (stand_behind version s before) l × GoesOn version s (l ∷ before) ls
+GoesOn version s before [] = (stand_from_latest version s before).ended ≡ true
+GoesOn version s before (l ∷ ls) = IsReadable s l × FitsLine s (stand_from_latest version s before) l × GoesOn version s (l ∷ before) ls
 
-goes_legal : (version : Version) (s : SolidData) (before ls : List CertLine) → GoesOn version s before ls → IsLegalBehind version s before (map spelling ls)
+goes_legal : (version : Version) (s : SolidData) (before ls : List CertLine) → GoesOn version s before ls → IsLegalAfter version s before (map spelling ls)
 goes_legal version s before [] h = h
 goes_legal version s before (l ∷ ls) h = (l, h.0, h.1, goes_legal version s (l ∷ before) ls h.2)
 
@@ -252,7 +254,7 @@ parts_go version s ready j (x ∷ left) (p ∷ parts) same count h done =
     (parts_go version s ready (suc j) left parts (λ i. let e : j + suc i ≡ suc j + i = omega arith in same (suc i) ∙ ap (slice_get s.shells) e) (omega (arith, count)) h.1 next)))
 
 from_nothing : (version : Version) (s : SolidData) (rest : List CertLine) → ((done : Done version s 0) → GoesOn version s done.lines rest) → GoesOn version s [] rest
-unfolding stand_behind
+unfolding stand_from_latest
 from_nothing version s rest on = on (record { lines = []; fit = tt; short = tt; begun = refl; shells = refl; nothing = record { edges = refl; corners = refl; reach = refl; tally = refl } })
 
 -- Where the rows of each shell are ready, the lines of the parts are legal, and each is spelled.

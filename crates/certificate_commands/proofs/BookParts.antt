@@ -1,5 +1,5 @@
 -- The parts of a book, one after another.
-use Rattle.std.proofs.Common.{◌≡◌, ◌∙◌, ℕ, suc, ◌+◌, ◌≤◌, ◌<◌, codes, false, inl, inr, List, [], ◌∷◌, ◌++◌, flat_map, length, refl, sym, ap, subst, arith, append_assoc}
+use Rattle.std.proofs.Common.{◌≡◌, ◌∙◌, ℕ, suc, ◌+◌, ◌≤◌, ◌<◌, false, inl, inr, List, [], ◌∷◌, ◌++◌, flat_map, length, refl, sym, ap, subst, arith, append_assoc}
 use Rattle.std.specs.Fmt.{digits}
 use Rattle.std.specs.List.{AllByRecursion, AllZip}
 use Rattle.std.specs.List.Sorted.{IsStrictlyIncreasing}
@@ -16,7 +16,7 @@ use Rattle.brep_walk.specs.SolidOf.{solid_of}
 use Rattle.cert_lines.specs.Line.{CertLine, head, solid, end, words, spelling, cut_lines, IsSpelled, IsLine, line_limit}
 use Rattle.cert_lines.specs.Opening.{Opens, IsHeaded}
 use Rattle.cert_lines.specs.declared.fault.Illegal.{Illegal}
-use Rattle.cert_lines.specs.declared.version.Version.TheVariants.{Two, Three}
+use Rattle.cert_lines.specs.declared.version.Version.TheVariants.{One, Two, Three}
 use Rattle.cert_lines.proofs.CutLines.{cut_spelled}
 use Rattle.topo_certificate.specs.declared.TheConstants.{CERT_LIMIT}
 use Rattle.topo_certificate.specs.Stand.{stand_after, FitsLine}
@@ -148,12 +148,12 @@ opened_front c n rest o =
       },
     )
 
-three_not : starts_with (codes "IGESCERT 1") (spelling (head Three)) ≡ false
+three_not : starts_with (words (head One)) (spelling (head Three)) ≡ false
 unfolding digits
 three_not = refl
 
 kept_three : (s : SolidData) (c : List ℕ) (lines : List (List ℕ)) → IsHeaded c Three lines → upgraded s c ≡ c
-kept_three s c lines h = sym (kept_other s c h.first lines h.cut (ap (starts_with (codes "IGESCERT 1")) h.is_head.1.1 ∙ three_not))
+kept_three s c lines h = sym (kept_other s c h.first lines h.cut (ap (starts_with (words (head One))) h.is_head.1.1 ∙ three_not))
 
 -- a book is given back as it is, whatever solids it names
 pub book_kept : (f : Contents) (c : List ℕ) (lines : List (List ℕ)) (ns : List ℕ) → IsHeaded c Three lines → upgraded_for f c ns ≡ c

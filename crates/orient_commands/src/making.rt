@@ -1,6 +1,6 @@
 //! The text of an orientation.
 
-ghost use Rattle.std.specs.Prelude.{◌≡◌, ◌+◌, ◌++◌, ◌<◌, ◌^◌, ℕ, suc, length, map, IfOk, IfErr, OnOk};
+ghost use Rattle.std.specs.Prelude.{◌≡◌, ◌+◌, ◌++◌, ◌<◌, ℕ, suc, length, map, IfOk, IfErr, OnOk};
 ghost use Rattle.std.specs.Bool.{MatchBool};
 ghost use Rattle.std.specs.List.{AllByRecursion};
 ghost use Rattle.command_replies.specs.declared.answer.Answer.TheVariants as answer;
@@ -12,6 +12,7 @@ ghost use Rattle.orient_commands.specs.Reading.{IsBegun};
 ghost use Rattle.orient_commands.specs.Shells.{IsReady, OfAllShells, IsFirstUnready};
 ghost use Rattle.orient_commands.specs.Text.{FitsAs};
 ghost use Rattle.solid_data.specs.SolidData.{SolidData};
+ghost use Rattle.solid_data.specs.declared.TheConstants.{PART_LIMIT};
 
 use command_replies::{Answer, Reply};
 use face_orient::{NumberList, OrientFault, OrientLine, Orientation, orient, write_orient_line};
@@ -21,7 +22,7 @@ use std::alloc::Global;
 
 /// The numbers of rows, which count from 1.
 fn numbers_of(alloc: Global, rows: &[RowId]) -> Result<NumberList, NoMemory>
-    requires { AllByRecursion (λ r. r < 2 ^ 29) (row_numbers rows.now) }
+    requires { AllByRecursion (λ r. r < PART_LIMIT) (row_numbers rows.now) }
     ensures { IfOk result (λ numbers. numbers ≡ map suc (row_numbers rows.now)) }
 {
     let mut numbers = NumberList::new(alloc);

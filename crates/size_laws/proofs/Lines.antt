@@ -12,12 +12,14 @@ use Rattle.solid_data.specs.declared.solid.LoopUse.TheVariants.{EdgeUse, VertexU
 use Rattle.solid_data.specs.declared.solid.Shell.{Shell}
 use Rattle.edge_uses.specs.declared.row.Row.{Row}
 use Rattle.edge_uses.specs.ShellRows.{ShellRows, row_of, loop_rows, point_of, shell_rows, rows_of}
-use Rattle.cert_lines.specs.Line.{CertLine, ShellCounts, Tally, head, solid, shell, edge, corner, point, reach, tally, end, spaced, spelling, HasSpelling, put_before, cut_lines}
+use Rattle.cert_lines.specs.Line.{CertLine, head, solid, shell, edge, corner, point, reach, tally, end, spaced, spelling, HasSpelling, put_before, cut_lines}
+use Rattle.cert_lines.specs.declared.counts.ShellCounts.{ShellCounts}
+use Rattle.cert_lines.specs.declared.counts.Tally.{Tally}
 use Rattle.cert_lines.specs.declared.version.Version.{Version}
 use Rattle.cert_lines.specs.declared.version.Version.TheVariants.{One, Two, Three}
-use Rattle.topo_certificate.specs.Stand.{Stand, NoneDue, stand_behind, tallies, row_edge, rows_of_shell, IsAbove, FitsShell, FitsEdge, FitsCorner, FitsPoint, FitsReach, FitsLine}
+use Rattle.topo_certificate.specs.Stand.{Stand, NoneDue, stand_from_latest, tallies, row_edge, rows_of_shell, IsAbove, FitsShell, FitsEdge, FitsCorner, FitsPoint, FitsReach, FitsLine}
 use Rattle.topo_certificate.specs.Legal.{IsLegal}
-use Rattle.topo_certificate.specs.Behind.{IsLegalBehind}
+use Rattle.topo_certificate.specs.After.{IsLegalAfter}
 use Rattle.topo_certificate.proofs.Short.{length-spaced}
 use Rattle.topo_certificate.proofs.Forward.{legal_behind}
 use Rattle.topo_certificate.proofs.Standing.{edge_stand, corner_stand, point_stand, reach_stand, tally_stand, shell_stand, end_stand, first_stand}
@@ -108,16 +110,16 @@ abbrev stand_room : SolidData → Stand → ℕ
 stand_room s at = 22 * at.due.edges + corners_room (rows_of_shell s at.shell) at.last_vertex + 12 * at.due.reach + 46 * at.due.tally + shells_room s (drop at.shell s.shells) + end_room at.ended
 
 abbrev Shortens : Version → SolidData → List CertLine → CertLine → Type 0
-Shortens v s lines line = length (spelling line) + stand_room s (stand_behind v s (line ∷ lines)) ≤ stand_room s (stand_behind v s lines)
+Shortens v s lines line = length (spelling line) + stand_room s (stand_from_latest v s (line ∷ lines)) ≤ stand_room s (stand_from_latest v s lines)
 
 tallies_one : (v : Version) → tallies v ≤ 1
 tallies_one One = omega arith
 tallies_one Two = omega arith
 tallies_one Three = omega arith
 
-shell_shortens : (v : Version) (s : SolidData) (lines : List CertLine) (k : ℕ) (c : ShellCounts) → NoneDue (stand_behind v s lines).due × FitsShell s (stand_behind v s lines) k c → HasSpelling (shell k c) → Shortens v s lines (shell k c)
+shell_shortens : (v : Version) (s : SolidData) (lines : List CertLine) (k : ℕ) (c : ShellCounts) → NoneDue (stand_from_latest v s lines).due × FitsShell s (stand_from_latest v s lines) k c → HasSpelling (shell k c) → Shortens v s lines (shell k c)
 shell_shortens v s lines k c fits spelled =
-    let at : Stand = stand_behind v s lines in
+    let at : Stand = stand_from_latest v s lines in
     let next : k ≡ at.shell + 1 = fits.1.next in
     let here = get_some s.shells at.shell (omega (arith, next, fits.1.there)) in
     let d : ShellRows = shell_rows s here.0 in
@@ -129,15 +131,15 @@ shell_shortens v s lines k c fits spelled =
     let left = ap (shells_room s) (split_at s.shells at.shell here.0 here.1) in
     omega (arith, after, left, now, rows, faces, fits.1.two_rows_each, above_all row_start_of d.rows, above_all point_vertex d.points, shell_long k c spelled, tallies_one v)
 
-edge_shortens : (v : Version) (s : SolidData) (lines : List CertLine) (a b : ℕ) → (let at : Stand = stand_behind v s lines in (0 < at.due.edges) × FitsEdge (rows_of_shell s at.shell) at a b) → HasSpelling (edge a b) → Shortens v s lines (edge a b)
+edge_shortens : (v : Version) (s : SolidData) (lines : List CertLine) (a b : ℕ) → (let at : Stand = stand_from_latest v s lines in (0 < at.due.edges) × FitsEdge (rows_of_shell s at.shell) at a b) → HasSpelling (edge a b) → Shortens v s lines (edge a b)
 edge_shortens v s lines a b fits spelled =
-    let at : Stand = stand_behind v s lines in
+    let at : Stand = stand_from_latest v s lines in
     let after = ap (stand_room s) (edge_stand v s lines a b fits.1.along_row.edge.0 (ap row_edge fits.1.at_a)) in
     omega (arith, after, fits.0, edge_long a b spelled)
 
-corner_shortens : (v : Version) (s : SolidData) (lines : List CertLine) (r : ℕ) (rs : List ℕ) → (let at : Stand = stand_behind v s lines in FitsCorner (rows_of_shell s at.shell) at r rs) → HasSpelling (corner (r ∷ rs)) → Shortens v s lines (corner (r ∷ rs))
+corner_shortens : (v : Version) (s : SolidData) (lines : List CertLine) (r : ℕ) (rs : List ℕ) → (let at : Stand = stand_from_latest v s lines in FitsCorner (rows_of_shell s at.shell) at r rs) → HasSpelling (corner (r ∷ rs)) → Shortens v s lines (corner (r ∷ rs))
 corner_shortens v s lines r rs fits spelled =
-    let at : Stand = stand_behind v s lines in
+    let at : Stand = stand_from_latest v s lines in
     let d : ShellRows = rows_of_shell s at.shell in
     let after = ap (stand_room s) (corner_stand v s lines (r ∷ rs) fits.vertex fits.lies_at) in
     omega (
@@ -149,9 +151,9 @@ corner_shortens v s lines r rs fits spelled =
       above_less point_vertex at.last_vertex fits.vertex d.points fits.rises,
     )
 
-point_shortens : (v : Version) (s : SolidData) (lines : List CertLine) (face l : ℕ) → (let at : Stand = stand_behind v s lines in FitsPoint (rows_of_shell s at.shell) at face l) → HasSpelling (point face l) → Shortens v s lines (point face l)
+point_shortens : (v : Version) (s : SolidData) (lines : List CertLine) (face l : ℕ) → (let at : Stand = stand_from_latest v s lines in FitsPoint (rows_of_shell s at.shell) at face l) → HasSpelling (point face l) → Shortens v s lines (point face l)
 point_shortens v s lines face l fits spelled =
-    let at : Stand = stand_behind v s lines in
+    let at : Stand = stand_from_latest v s lines in
     let d : ShellRows = rows_of_shell s at.shell in
     let after = ap (stand_room s) (point_stand v s lines face l fits.vertex fits.lies_at) in
     omega (
@@ -163,24 +165,24 @@ point_shortens v s lines face l fits spelled =
       above_less point_vertex at.last_vertex fits.vertex d.points fits.rises,
     )
 
-reach_shortens : (v : Version) (s : SolidData) (lines : List CertLine) (r : ℕ) → (let at : Stand = stand_behind v s lines in (0 < at.due.reach) × FitsReach (rows_of_shell s at.shell) at r) → HasSpelling (reach r) → Shortens v s lines (reach r)
+reach_shortens : (v : Version) (s : SolidData) (lines : List CertLine) (r : ℕ) → (let at : Stand = stand_from_latest v s lines in (0 < at.due.reach) × FitsReach (rows_of_shell s at.shell) at r) → HasSpelling (reach r) → Shortens v s lines (reach r)
 reach_shortens v s lines r fits spelled =
     let after = ap (stand_room s) (reach_stand v s lines r fits.1.face fits.1.on_face) in
     omega (arith, after, fits.0, reach_long r spelled)
 
-tally_shortens : (v : Version) (s : SolidData) (lines : List CertLine) (t : Tally) → 0 < (stand_behind v s lines).due.tally → HasSpelling (tally t) → Shortens v s lines (tally t)
+tally_shortens : (v : Version) (s : SolidData) (lines : List CertLine) (t : Tally) → 0 < (stand_from_latest v s lines).due.tally → HasSpelling (tally t) → Shortens v s lines (tally t)
 tally_shortens v s lines t due spelled =
     let after = ap (stand_room s) (tally_stand v s lines t) in
     omega (arith, after, due, tally_long t spelled)
 
-end_shortens : (v : Version) (s : SolidData) (lines : List CertLine) → (stand_behind v s lines).ended ≡ false → Shortens v s lines end
+end_shortens : (v : Version) (s : SolidData) (lines : List CertLine) → (stand_from_latest v s lines).ended ≡ false → Shortens v s lines end
 end_shortens v s lines open_still =
     let after = ap (stand_room s) (end_stand v s lines) in
     let four = ap end_room open_still in
     omega (arith, after, four)
 
 -- A line that fits takes no more bytes than those by which it shortens the lines that may come.
-line_shortens : (v : Version) (s : SolidData) (lines : List CertLine) (line : CertLine) → FitsLine s (stand_behind v s lines) line → HasSpelling line → Shortens v s lines line
+line_shortens : (v : Version) (s : SolidData) (lines : List CertLine) (line : CertLine) → FitsLine s (stand_from_latest v s lines) line → HasSpelling line → Shortens v s lines line
 line_shortens v s lines (head w) fits spelled = absurd fits.1
 line_shortens v s lines (solid n) fits spelled = absurd fits.1
 line_shortens v s lines (shell k c) fits spelled = shell_shortens v s lines k c fits.1 spelled
@@ -197,7 +199,7 @@ line_shortens v s lines end fits spelled = end_shortens v s lines fits.0
 abbrev pub lines_long : List (List ℕ) → ℕ
 lines_long lines = total (λ (l : List ℕ). length l) lines
 
-lines_within : (v : Version) (s : SolidData) (before : List CertLine) (lines : List (List ℕ)) → IsLegalBehind v s before lines → lines_long lines ≤ stand_room s (stand_behind v s before)
+lines_within : (v : Version) (s : SolidData) (before : List CertLine) (lines : List (List ℕ)) → IsLegalAfter v s before lines → lines_long lines ≤ stand_room s (stand_from_latest v s before)
 lines_within v s before [] h = omega arith
 lines_within v s before (bytes ∷ rest) (line, is, fits, more) =
     let long : length bytes ≡ length (spelling line) = ap length is.1.1 in

@@ -10,8 +10,9 @@ use Rattle.edge_uses.specs.ShellRows.{ShellRows}
 use Rattle.edge_uses.specs.Closed.{IsPaired}
 use Rattle.cert_lines.specs.Line.{CertLine, head, solid, shell, edge, corner, point, reach, tally, end}
 use Rattle.cert_lines.specs.declared.version.Version.{Version}
-use Rattle.topo_certificate.specs.Stand.{Stand, Due, stand_behind, NoneDue, edge_of, vertex_of, is_shell, is_edge, is_corner_or_point, number_of, since_shell, rows_of_shell, current_rows, row_named, row_start, point_named}
-use Rattle.topo_certificate.specs.Behind.{IsLegalBehind}
+use Rattle.topo_certificate.specs.Stand.{Stand, stand_from_latest, NoneDue, edge_of, vertex_of, is_shell, is_edge, is_corner_or_point, number_of, since_shell, rows_of_shell, current_rows, row_named, row_start, point_named}
+use Rattle.topo_certificate.specs.declared.due.Due.{Due}
+use Rattle.topo_certificate.specs.After.{IsLegalAfter}
 use Rattle.topo_certificate.proofs.Segment.{falls_none}
 use Rattle.topo_certificate.proofs.Shells.{AllFit, Facts, Good, facts_of, facts_paired}
 use Rattle.solid_check.proofs.Nexts.{Leads, leads_none, leads_less}
@@ -45,8 +46,8 @@ begun_point s (suc k) face l v h = (k, refl)
 
 module _ (version : Version) (s : SolidData) (good : Good s) where
   -- Where nothing is due, all have come.
-  all_came : (lines : List CertLine) (d : ShellRows) → Facts version s lines d → NoneDue (stand_behind version s lines).due → LeadOn s lines d
-  unfolding stand_behind
+  all_came : (lines : List CertLine) (d : ShellRows) → Facts version s lines d → NoneDue (stand_from_latest version s lines).due → LeadOn s lines d
+  unfolding stand_from_latest
   all_came lines d facts none =
       let edges : length d.edges - number_of is_edge (since_shell lines) ≡ 0 = sym (ap (λ (a : Due). a.edges - number_of is_edge (since_shell lines)) facts.asks) ∙ none.edges in
       let vertices : length d.vertices - number_of is_corner_or_point (since_shell lines) ≡ 0 = sym (ap (λ (a : Due). a.corners - number_of is_corner_or_point (since_shell lines)) facts.asks) ∙ none.corners in
@@ -67,9 +68,9 @@ module _ (version : Version) (s : SolidData) (good : Good s) where
     paired = paired;
   }
 
-  pub lead_on : (before : List CertLine) (k : ℕ) → number_of is_shell before ≡ suc k → AllFit version s before → (lines : List (List ℕ)) → IsLegalBehind version s before lines → (stand_behind version s before).ended ≡ false → LeadOn s before (current_rows s before)
-  unfolding stand_behind
-  lead_on before k number fit [] ended going = absurd (going_not_ended (stand_behind version s before) going ended)
+  pub lead_on : (before : List CertLine) (k : ℕ) → number_of is_shell before ≡ suc k → AllFit version s before → (lines : List (List ℕ)) → IsLegalAfter version s before lines → (stand_from_latest version s before).ended ≡ false → LeadOn s before (current_rows s before)
+  unfolding stand_from_latest
+  lead_on before k number fit [] ended going = absurd (going_not_ended (stand_from_latest version s before) going ended)
   lead_on before k number fit (bytes ∷ lines) (head v, is, fits, more) going = absurd fits.1
   lead_on before k number fit (bytes ∷ lines) (solid n, is, fits, more) going = absurd fits.1
   lead_on before k number fit (bytes ∷ lines) (shell j c, is, fits, more) going = all_came before (current_rows s before) (facts_of version s good before k number fit) fits.1.0

@@ -6,7 +6,8 @@ use Rattle.solid_data.specs.SolidData.{SolidData}
 use Rattle.edge_uses.specs.ShellRows.{ShellRows}
 use Rattle.cert_lines.specs.Line.{CertLine, head, solid, shell, edge, corner, point, reach, tally, end}
 use Rattle.cert_lines.specs.declared.version.Version.{Version}
-use Rattle.topo_certificate.specs.Stand.{Stand, Due, stand_behind, asked, mates_of, edge_of, vertex_of, first_of, is_shell, is_edge, is_corner_or_point, is_reach, is_tally, is_last, number_of, since_shell, rows_of_shell, current_rows}
+use Rattle.topo_certificate.specs.Stand.{Stand, stand_from_latest, asked, mates_of, edge_of, vertex_of, first_of, is_shell, is_edge, is_corner_or_point, is_reach, is_tally, is_last, number_of, since_shell, rows_of_shell, current_rows}
+use Rattle.topo_certificate.specs.declared.due.Due.{Due}
 
 -- the line, but for the row that a reach line names
 abbrev pub plain : CertLine → CertLine
@@ -112,8 +113,8 @@ since_number kind alike ls = ap (number_of kind) (since_plain ls) ∙ number_pla
 since_map : {A : Type 0} (f : CertLine → Option A) → ((r s : ℕ) → f (reach r) ≡ f (reach s)) → (ls : List CertLine) → filter_map f (since_shell (map plain ls)) ≡ filter_map f (since_shell ls)
 since_map f alike ls = ap (filter_map f) (since_plain ls) ∙ filter_map_plain f alike (since_shell ls)
 
-stand_plain : (v : Version) (s : SolidData) (ls : List CertLine) → but_reached (stand_behind v s (map plain ls)) ≡ but_reached (stand_behind v s ls)
-unfolding stand_behind
+stand_plain : (v : Version) (s : SolidData) (ls : List CertLine) → but_reached (stand_from_latest v s (map plain ls)) ≡ but_reached (stand_from_latest v s ls)
+unfolding stand_from_latest
 stand_plain v s ls =
     let shells : number_of is_shell (map plain ls) ≡ number_of is_shell ls = number_plain is_shell (λ r t. refl) ls in
     let asks : asked v (find is_shell (map plain ls)) ≡ asked v (find is_shell ls) = ap (asked v) (find_plain ls) in
@@ -128,5 +129,5 @@ stand_plain v s ls =
     (ap (λ (d : ShellRows). first_of (filter_map (vertex_of d) (since_shell (map plain ls)))) rows ∙ ap first_of (since_map (vertex_of (current_rows s ls)) (λ r t. refl) ls))
 
 -- Behind lines that are plainly the same the stands are the same, but for the faces that are reached.
-pub plain_stands : (v : Version) (s : SolidData) (xs ys : List CertLine) → map plain xs ≡ map plain ys → but_reached (stand_behind v s xs) ≡ but_reached (stand_behind v s ys)
-plain_stands v s xs ys same = sym (stand_plain v s xs) ∙ (ap (λ ls. but_reached (stand_behind v s ls)) same ∙ stand_plain v s ys)
+pub plain_stands : (v : Version) (s : SolidData) (xs ys : List CertLine) → map plain xs ≡ map plain ys → but_reached (stand_from_latest v s xs) ≡ but_reached (stand_from_latest v s ys)
+plain_stands v s xs ys same = sym (stand_plain v s xs) ∙ (ap (λ ls. but_reached (stand_from_latest v s ls)) same ∙ stand_plain v s ys)

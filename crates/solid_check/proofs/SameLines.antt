@@ -8,8 +8,8 @@ use Rattle.edge_uses.specs.declared.row.Row.{Row}
 use Rattle.edge_uses.specs.ShellRows.{ShellRows}
 use Rattle.cert_lines.specs.Line.{CertLine, head, solid, shell, edge, corner, point, reach, tally, end, spelling, IsSpelled}
 use Rattle.cert_lines.specs.declared.version.Version.{Version}
-use Rattle.topo_certificate.specs.Stand.{Stand, stand_behind, FitsLine, edge_of, vertex_of, is_shell, number_of, since_shell, rows_of_shell, current_rows, row_edge}
-use Rattle.topo_certificate.specs.Behind.{IsLegalBehind}
+use Rattle.topo_certificate.specs.Stand.{Stand, stand_from_latest, FitsLine, edge_of, vertex_of, is_shell, number_of, since_shell, rows_of_shell, current_rows, row_edge}
+use Rattle.topo_certificate.specs.After.{IsLegalAfter}
 use Rattle.topo_certificate.proofs.Segment.{named_has, paired_rows, start_known, point_known}
 use Rattle.topo_certificate.proofs.Shells.{AllFit, Good, facts_of}
 use Rattle.solid_check.specs.Laws.{AlikeButReach}
@@ -24,9 +24,9 @@ module _ (version : Version) (s : SolidData) (good : Good s) where
   rows_at at = rows_of_shell s at.shell
 
   -- What an edge line, a corner line and a point line are, where they fit and legal lines follow.
-  edge_side : (before : List CertLine) (a b : ℕ) → AllFit version s before → FitsLine s (stand_behind version s before) (edge a b) → (lines : List (List ℕ)) → IsLegalBehind version s (edge a b ∷ before) lines
-      → EdgeSide (rows_at (stand_behind version s before)) (stand_behind version s before).last_edge a b
-  unfolding stand_behind
+  edge_side : (before : List CertLine) (a b : ℕ) → AllFit version s before → FitsLine s (stand_from_latest version s before) (edge a b) → (lines : List (List ℕ)) → IsLegalAfter version s (edge a b ∷ before) lines
+      → EdgeSide (rows_at (stand_from_latest version s before)) (stand_from_latest version s before).last_edge a b
+  unfolding stand_from_latest
   edge_side before a b fit fits lines legal =
       let d : ShellRows = current_rows s before in
       let h = fits.1.1 in
@@ -46,9 +46,9 @@ module _ (version : Version) (s : SolidData) (good : Good s) where
         paired = lead.paired h.along_row.edge.0 known;
       }
 
-  corner_side : (before : List CertLine) (r : ℕ) (rs : List ℕ) → AllFit version s before → FitsLine s (stand_behind version s before) (corner (r ∷ rs)) → (lines : List (List ℕ)) → IsLegalBehind version s (corner (r ∷ rs) ∷ before) lines
-      → CornerSide (rows_at (stand_behind version s before)) (stand_behind version s before).mates (stand_behind version s before).last_vertex r rs
-  unfolding stand_behind
+  corner_side : (before : List CertLine) (r : ℕ) (rs : List ℕ) → AllFit version s before → FitsLine s (stand_from_latest version s before) (corner (r ∷ rs)) → (lines : List (List ℕ)) → IsLegalAfter version s (corner (r ∷ rs) ∷ before) lines
+      → CornerSide (rows_at (stand_from_latest version s before)) (stand_from_latest version s before).mates (stand_from_latest version s before).last_vertex r rs
+  unfolding stand_from_latest
   corner_side before r rs fit fits lines legal =
       let d : ShellRows = current_rows s before in
       let h = fits.1.1 in
@@ -68,9 +68,9 @@ module _ (version : Version) (s : SolidData) (good : Good s) where
         good = rows;
       }
 
-  point_side : (before : List CertLine) (face l : ℕ) → AllFit version s before → FitsLine s (stand_behind version s before) (point face l) → (lines : List (List ℕ)) → IsLegalBehind version s (point face l ∷ before) lines
-      → PointSide (rows_at (stand_behind version s before)) (stand_behind version s before).last_vertex face l
-  unfolding stand_behind
+  point_side : (before : List CertLine) (face l : ℕ) → AllFit version s before → FitsLine s (stand_from_latest version s before) (point face l) → (lines : List (List ℕ)) → IsLegalAfter version s (point face l ∷ before) lines
+      → PointSide (rows_at (stand_from_latest version s before)) (stand_from_latest version s before).last_vertex face l
+  unfolding stand_from_latest
   point_side before face l fit fits lines legal =
       let d : ShellRows = current_rows s before in
       let h = fits.1.1 in
@@ -88,10 +88,10 @@ module _ (version : Version) (s : SolidData) (good : Good s) where
   -- behind lines that are plainly the same
   module _ (us ws : List CertLine) (fit_a : AllFit version s us) (fit_b : AllFit version s ws) (same : map plain us ≡ map plain ws) where
     abbrev here : Stand
-    here = stand_behind version s us
+    here = stand_from_latest version s us
 
     abbrev there : Stand
-    there = stand_behind version s ws
+    there = stand_from_latest version s ws
 
     stands : but_reached here ≡ but_reached there
     stands = plain_stands version s us ws same
@@ -122,7 +122,7 @@ module _ (version : Version) (s : SolidData) (good : Good s) where
 
     -- The next lines are plainly the same too: their kind is told by what is due.
     next_same : (x y : CertLine) → FitsLine s here x → FitsLine s there y → (xs ys : List (List ℕ))
-        → IsLegalBehind version s (x ∷ us) xs → IsLegalBehind version s (y ∷ ws) ys → plain x ≡ plain y
+        → IsLegalAfter version s (x ∷ us) xs → IsLegalAfter version s (y ∷ ws) ys → plain x ≡ plain y
     next_same (head v) y f g xs ys p q = absurd f.1
     next_same (solid n) y f g xs ys p q = absurd f.1
     next_same (corner []) y f g xs ys p q = absurd f.1
@@ -209,7 +209,7 @@ module _ (version : Version) (s : SolidData) (good : Good s) where
   true_false h = cc
 
   -- Behind lines that are plainly the same, legal lines are alike but for reach lines.
-  pub lines_alike : (us ws : List CertLine) → AllFit version s us → AllFit version s ws → map plain us ≡ map plain ws → (xs ys : List (List ℕ)) → IsLegalBehind version s us xs → IsLegalBehind version s ws ys → AllZip AlikeButReach xs ys
+  pub lines_alike : (us ws : List CertLine) → AllFit version s us → AllFit version s ws → map plain us ≡ map plain ws → (xs ys : List (List ℕ)) → IsLegalAfter version s us xs → IsLegalAfter version s ws ys → AllZip AlikeButReach xs ys
   lines_alike us ws fit_a fit_b same [] [] h k = tt
   lines_alike us ws fit_a fit_b same [] (y ∷ ys) ended (b, is_b, g, more) = absurd (true_false (sym ended ∙ (ap (λ (t : Stand). t.ended) (plain_stands version s us ws same) ∙ g.0)))
   lines_alike us ws fit_a fit_b same (x ∷ xs) [] (a, is_a, f, more) ended = absurd (true_false (sym ended ∙ (sym (ap (λ (t : Stand). t.ended) (plain_stands version s us ws same)) ∙ f.0)))

@@ -1,5 +1,5 @@
 -- What is accepted stays accepted when it is upgraded.
-use Rattle.std.specs.Prelude.{◌≡◌, ℕ, true, false, List, [], ◌∷◌, ◌++◌, map, flat_map, codes, Contains}
+use Rattle.std.specs.Prelude.{◌≡◌, ℕ, true, false, List, [], ◌∷◌, ◌++◌, map, flat_map, Contains}
 use Rattle.std.specs.List.{AllByRecursion, AllZip}
 use Rattle.std.specs.Fmt.{digits}
 use Rattle.std.proofs.Common.{refl, sym, ◌∙◌, ap, subst, ⊎_elim}
@@ -9,7 +9,7 @@ use Rattle.solid_data.specs.SolidData.{SolidData}
 use Rattle.solid_data.proofs.Members.{has_get, Has-from_Contains}
 use Rattle.brep_walk.specs.SolidOf.{solid_of}
 use Rattle.brep_walk.proofs.Few.{has_few_parts}
-use Rattle.cert_lines.specs.Line.{CertLine, head, solid, spelling, HasSpelling, IsLine, cut_lines}
+use Rattle.cert_lines.specs.Line.{CertLine, head, solid, words, spelling, HasSpelling, IsLine, cut_lines}
 use Rattle.cert_lines.specs.declared.version.Version.{Version}
 use Rattle.cert_lines.specs.declared.version.Version.TheVariants.{One, Two, Three}
 use Rattle.cert_lines.proofs.CutLines.{cut_spelled}
@@ -36,21 +36,21 @@ joined_spelled : (ls : List CertLine) → joined (map spelling ls) ≡ flat_map 
 joined_spelled [] = refl
 joined_spelled (l ∷ ls) = ap (λ xs. spelling l ++ xs) (joined_spelled ls)
 
-one_first : starts_with (codes "IGESCERT 1") (spelling (head One)) ≡ true
+one_first : starts_with (words (head One)) (spelling (head One)) ≡ true
 unfolding digits
 one_first = refl
 
-two_not : starts_with (codes "IGESCERT 1") (spelling (head Two)) ≡ false
+two_not : starts_with (words (head One)) (spelling (head Two)) ≡ false
 unfolding digits
 two_not = refl
 
-three_not : starts_with (codes "IGESCERT 1") (spelling (head Three)) ≡ false
+three_not : starts_with (words (head One)) (spelling (head Three)) ≡ false
 unfolding digits
 three_not = refl
 
 -- a certificate of another version is kept
-kept : (s : SolidData) (certificate first : List ℕ) (lines : List (List ℕ)) (v : Version) → cut_lines certificate ≡ first ∷ lines → first ≡ spelling (head v) → starts_with (codes "IGESCERT 1") (spelling (head v)) ≡ false → certificate ≡ upgraded s certificate
-kept s certificate first lines v cut is no_ = kept_other s certificate first lines cut (ap (starts_with (codes "IGESCERT 1")) is ∙ no_)
+kept : (s : SolidData) (certificate first : List ℕ) (lines : List (List ℕ)) (v : Version) → cut_lines certificate ≡ first ∷ lines → first ≡ spelling (head v) → starts_with (words (head One)) (spelling (head v)) ≡ false → certificate ≡ upgraded s certificate
+kept s certificate first lines v cut is no_ = kept_other s certificate first lines cut (ap (starts_with (words (head One))) is ∙ no_)
 
 tallies_read : (f : Contents) (n : ℕ) (rest : List (List ℕ)) → FitsLimits f → Certify One f n rest → TalliesRead (solid_of f n)
 tallies_read f n rest limits a k h at =
@@ -65,7 +65,7 @@ upgraded_alone f n certificate limits a =
     let named : a.opens.second ≡ spelling (solid n) = a.opens.names.1.1 in
     let spelled = lines_spelled _ (with_tallies s 0 a.rest) legal.read legal.fitting.spelled in
     let all : List CertLine = head Two ∷ solid n ∷ legal.read in
-    let begun : starts_with (codes "IGESCERT 1") a.opens.first ≡ true = ap (starts_with (codes "IGESCERT 1")) a.opens.is_head.1.1 ∙ one_first in
+    let begun : starts_with (words (head One)) a.opens.first ≡ true = ap (starts_with (words (head One))) a.opens.is_head.1.1 ∙ one_first in
     let text : spelling (head Two) ++ joined (with_tallies s 0 (a.opens.second ∷ a.rest)) ≡ upgraded s certificate = upgraded_one s certificate a.opens.first (a.opens.second ∷ a.rest) (spelling (head Two)) (spelling (head Two) ++ joined (with_tallies s 0 (a.opens.second ∷ a.rest))) a.opens.cut begun refl refl in
     let second : joined (with_tallies s 0 (a.opens.second ∷ a.rest)) ≡ spelling (solid n) ++ joined (with_tallies s 0 a.rest) = ap (λ x. joined (with_tallies s 0 (x ∷ a.rest))) named in
     let further : joined (with_tallies s 0 a.rest) ≡ flat_map spelling legal.read = ap joined spelled.0 ∙ joined_spelled legal.read in

@@ -10,9 +10,9 @@ use Rattle.cert_lines.specs.declared.version.Version.TheVariants.{Two}
 use Rattle.cert_lines.specs.declared.fault.Illegal.{Illegal}
 use Rattle.cert_lines.specs.declared.fault.Illegal.TheVariants.{Unfit, Missing}
 use Rattle.cert_lines.proofs.Spelling.{line_one}
-use Rattle.topo_certificate.specs.Stand.{Stand, stand_behind, FitsLine}
+use Rattle.topo_certificate.specs.Stand.{Stand, stand_from_latest, FitsLine}
 use Rattle.topo_certificate.specs.Legal.{FitsPart}
-use Rattle.topo_certificate.specs.Behind.{IsLegalBehind, IsFirstBadBehind}
+use Rattle.topo_certificate.specs.After.{IsLegalAfter, IsFirstBadAfter}
 use Rattle.topo_certificate.proofs.Forward.{legal_behind, bad_forward}
 use Rattle.solid_check.specs.Accepted.{Part, part_lines, IsGoodPart}
 use Rattle.solid_check.specs.Book.{illegal, IsBookBad}
@@ -25,13 +25,13 @@ pub no_part : (f : Contents) → IsBookBad f (spelling end ∷ []) (illegal (Unf
 no_part f = second_refused f (spelling end ∷ []) (Unfit 2) (inr (inr (end, ((omega arith), (tt, refl)), λ (n, e). cc), refl))
 
 -- Behind lines that are legal with END in its place, something else is bad.
-front_bad : (v : Version) (s : SolidData) (first : ℕ) (before : List CertLine) (front rest : List (List ℕ)) (bad : Illegal) → IsLegalBehind v s before (front ++ spelling end ∷ [])
-    → ((at : List CertLine) → length at ≡ length before + length front → FitsLine s (stand_behind v s at) end → IsFirstBadBehind v s (FitsPart s) first at rest bad) → IsFirstBadBehind v s (FitsPart s) first before (front ++ rest) bad
-front_bad v s first before [] rest bad (line, is, fits, ended) on = on before (omega arith) (subst (FitsLine s (stand_behind v s before)) (line_one (spelling end) line end is.1 (tt, refl)) fits)
+front_bad : (v : Version) (s : SolidData) (first : ℕ) (before : List CertLine) (front rest : List (List ℕ)) (bad : Illegal) → IsLegalAfter v s before (front ++ spelling end ∷ [])
+    → ((at : List CertLine) → length at ≡ length before + length front → FitsLine s (stand_from_latest v s at) end → IsFirstBadAfter v s (FitsPart s) first at rest bad) → IsFirstBadAfter v s (FitsPart s) first before (front ++ rest) bad
+front_bad v s first before [] rest bad (line, is, fits, ended) on = on before (omega arith) (subst (FitsLine s (stand_from_latest v s before)) (line_one (spelling end) line end is.1 (tt, refl)) fits)
 front_bad v s first before (x ∷ front) rest bad (line, is, fits, more) on = inr (line, is, fits, front_bad v s first (line ∷ before) front rest bad more (λ at e. on at (omega (arith, e))))
 
 book_bad : (f : Contents) (p : Part) (rest : List (List ℕ)) (bad : Illegal) → IsGoodPart f p
-    → ((at : List CertLine) → length at ≡ 0 + length p.further → FitsLine (solid_of f p.solid) (stand_behind Two (solid_of f p.solid) at) end → IsFirstBadBehind Two (solid_of f p.solid) (FitsPart (solid_of f p.solid)) 3 at rest bad)
+    → ((at : List CertLine) → length at ≡ 0 + length p.further → FitsLine (solid_of f p.solid) (stand_from_latest Two (solid_of f p.solid) at) end → IsFirstBadAfter Two (solid_of f p.solid) (FitsPart (solid_of f p.solid)) 3 at rest bad)
     → IsBookBad f (part_lines p ++ rest) (illegal bad)
 book_bad f p rest bad good on =
     let s : SolidData = solid_of f p.solid in
@@ -48,8 +48,8 @@ not_above f p bytes n others good names below = book_bad f p (bytes ∷ others) 
     unfit : (at : Stand) → FitsPart s at (solid n) → ⊥
     unfit at fits = ⊎_elim (λ h. h.1) (λ (m, e, h). omega (arith, h.1, solid_entity f p.solid, same_solid n m e, below)) fits
 
-    here : (at : List CertLine) → length at ≡ 0 + length p.further → FitsLine s (stand_behind Two s at) end → IsFirstBadBehind Two s (FitsPart s) 3 at (bytes ∷ others) (Unfit (3 + length p.further))
-    here at e fits = let number : 3 + length p.further ≡ 3 + length at = omega (arith, e) in inl (inr (inr (solid n, solid_line s bytes n names, unfit (stand_behind Two s at)), ap Unfit number))
+    here : (at : List CertLine) → length at ≡ 0 + length p.further → FitsLine s (stand_from_latest Two s at) end → IsFirstBadAfter Two s (FitsPart s) 3 at (bytes ∷ others) (Unfit (3 + length p.further))
+    here at e fits = let number : 3 + length p.further ≡ 3 + length at = omega (arith, e) in inl (inr (inr (solid n, solid_line s bytes n names, unfit (stand_from_latest Two s at)), ap Unfit number))
 
 -- Behind the last part END is missing.
 pub not_ended : (f : Contents) (p : Part) → IsGoodPart f p → IsBookBad f (part_lines p ++ []) (illegal (Missing (3 + length p.further)))
@@ -64,8 +64,8 @@ ended_twice f p good = book_bad f p (spelling end ∷ spelling end ∷ []) (Unfi
     s : SolidData
     s = solid_of f p.solid
 
-    unfit : (at : List CertLine) → FitsPart s (stand_behind Two s (end ∷ at)) end → ⊥
+    unfit : (at : List CertLine) → FitsPart s (stand_from_latest Two s (end ∷ at)) end → ⊥
     unfit at fits = ⊎_elim (λ h. (let clash : true ≡ false = sym (end_ends Two s at) ∙ h.0 in cc)) (λ (m, e, h). cc) fits
 
-    here : (at : List CertLine) → length at ≡ 0 + length p.further → FitsLine s (stand_behind Two s at) end → IsFirstBadBehind Two s (FitsPart s) 3 at (spelling end ∷ spelling end ∷ []) (Unfit (4 + length p.further))
+    here : (at : List CertLine) → length at ≡ 0 + length p.further → FitsLine s (stand_from_latest Two s at) end → IsFirstBadAfter Two s (FitsPart s) 3 at (spelling end ∷ spelling end ∷ []) (Unfit (4 + length p.further))
     here at e fits = let number : 4 + length p.further ≡ 3 + length (end ∷ at) = omega (arith, e) in inr (end, end_is_line s, fits, inl (inr (inr (end, end_is_line s, unfit at), ap Unfit number)))

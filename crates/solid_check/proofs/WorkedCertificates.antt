@@ -1,6 +1,7 @@
 -- Certificates of worked files.
 use Rattle.std.specs.Prelude.{ℕ, List, [], ◌∷◌}
-use Rattle.cert_lines.specs.Line.{CertLine, ShellCounts, head, solid, shell, edge, corner, point, reach, end}
+use Rattle.cert_lines.specs.Line.{CertLine, head, solid, shell, edge, corner, point, reach, end}
+use Rattle.cert_lines.specs.declared.counts.ShellCounts.{ShellCounts}
 use Rattle.cert_lines.specs.declared.version.Version.TheVariants.{One}
 
 abbrev pub counts : ℕ → ℕ → ℕ → ℕ → ShellCounts

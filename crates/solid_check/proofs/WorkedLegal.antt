@@ -5,9 +5,9 @@ use Rattle.std.proofs.lemmas.Map.Made.{Contains-tail}
 use Rattle.std.specs.Fmt.{digits}
 use Rattle.topo_certificate.specs.Upgraded.{with_tallies}
 use Rattle.cert_lines.specs.Line.{CertLine, shell, edge, corner, point, reach, tally, end, spelling}
-use Rattle.topo_certificate.specs.Stand.{stand_behind, NoneDue}
+use Rattle.topo_certificate.specs.Stand.{stand_from_latest, NoneDue}
 use Rattle.topo_certificate.specs.Legal.{IsLegal}
-use Rattle.topo_certificate.specs.Behind.{IsLegalBehind}
+use Rattle.topo_certificate.specs.After.{IsLegalAfter}
 use Rattle.topo_certificate.proofs.Forward.{legal_forward}
 use Rattle.cert_lines.specs.declared.version.Version.TheVariants.{One, Two}
 use Rattle.brep_walk.specs.SolidOf.{solid_of}
@@ -24,8 +24,8 @@ not_nil q c = omega (arith, c.1)
 not_cons : (x q : ℕ) (xs : List ℕ) → x ≢ q → ¬ Contains xs q → ¬ Contains (x ∷ xs) q
 not_cons x q xs ne h c = h (Contains-tail x xs q ne c)
 
-ball_at_one_vertex_behind : IsLegalBehind One (solid_of ball_at_one_vertex 1) [] (map spelling (drop 2 ball_at_one_vertex_lines))
-unfolding stand_behind solid_of shell_rows digits
+ball_at_one_vertex_behind : IsLegalAfter One (solid_of ball_at_one_vertex 1) [] (map spelling (drop 2 ball_at_one_vertex_lines))
+unfolding stand_from_latest solid_of shell_rows digits
 ball_at_one_vertex_behind = (
   (shell 1 (counts 0 0 1 1)),
   (lit≤ tt, ((lit< tt, (lit< tt, (lit< tt, (lit< tt, (lit< tt, tt))))), refl)),
@@ -43,8 +43,8 @@ ball_at_one_vertex_behind = (
   ),
 )
 
-ball_with_seam_behind : IsLegalBehind One (solid_of ball_with_seam 1) [] (map spelling (drop 2 ball_with_seam_lines))
-unfolding stand_behind solid_of shell_rows digits
+ball_with_seam_behind : IsLegalAfter One (solid_of ball_with_seam 1) [] (map spelling (drop 2 ball_with_seam_lines))
+unfolding stand_from_latest solid_of shell_rows digits
 ball_with_seam_behind = (
   (shell 1 (counts 2 1 2 1)),
   (lit≤ tt, ((lit< tt, (lit< tt, (lit< tt, (lit< tt, (lit< tt, tt))))), refl)),
@@ -72,8 +72,8 @@ ball_with_seam_behind = (
   ),
 )
 
-cylinder_behind : IsLegalBehind One (solid_of cylinder 1) [] (map spelling (drop 2 cylinder_lines))
-unfolding stand_behind solid_of shell_rows digits
+cylinder_behind : IsLegalAfter One (solid_of cylinder 1) [] (map spelling (drop 2 cylinder_lines))
+unfolding stand_from_latest solid_of shell_rows digits
 cylinder_behind = (
   (shell 1 (counts 6 3 2 3)),
   (lit≤ tt, ((lit< tt, (lit< tt, (lit< tt, (lit< tt, (lit< tt, tt))))), refl)),
@@ -121,8 +121,8 @@ cylinder_behind = (
   ),
 )
 
-cube_behind : IsLegalBehind One (solid_of cube 1) [] (map spelling (drop 2 cube_lines))
-unfolding stand_behind solid_of shell_rows digits
+cube_behind : IsLegalAfter One (solid_of cube 1) [] (map spelling (drop 2 cube_lines))
+unfolding stand_from_latest solid_of shell_rows digits
 cube_behind = (
   (shell 1 (counts 24 12 8 6)),
   (lit≤ tt, ((lit< tt, (lit< tt, (lit< tt, (lit< tt, (lit< tt, tt))))), refl)),
@@ -281,8 +281,8 @@ ball_in_version_two =
     ∷ end
     ∷ []
 
-ball_in_version_two_behind : IsLegalBehind Two (solid_of ball_at_one_vertex 1) [] (map spelling ball_in_version_two)
-unfolding stand_behind solid_of shell_rows digits
+ball_in_version_two_behind : IsLegalAfter Two (solid_of ball_at_one_vertex 1) [] (map spelling ball_in_version_two)
+unfolding stand_from_latest solid_of shell_rows digits
 ball_in_version_two_behind = (
   (shell 1 (counts 0 0 1 1)),
   (lit≤ tt, ((lit< tt, (lit< tt, (lit< tt, (lit< tt, (lit< tt, tt))))), refl)),

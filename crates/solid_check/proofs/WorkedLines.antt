@@ -3,7 +3,7 @@ use Rattle.std.proofs.Common.{refl}
 use Rattle.std.specs.Prelude.{◌≡◌, false, [], ◌∷◌, ◌++◌, map, flat_map, codes, take, drop, Some}
 use Rattle.std.specs.Fmt.{digits}
 use Rattle.cert_lines.specs.Line.{words, spelling, cut_lines, line_limit}
-use Rattle.topo_certificate.specs.Stand.{stand_behind, stand_after}
+use Rattle.topo_certificate.specs.Stand.{stand_from_latest, stand_after}
 use Rattle.cert_lines.specs.declared.version.Version.TheVariants.{One}
 use Rattle.brep_walk.specs.SolidOf.{solid_of}
 use Rattle.edge_uses.specs.ShellRows.{shell_rows}
@@ -36,7 +36,7 @@ pub cylinder_stand : stand_after One (solid_of cylinder 1) (take 8 (drop 2 cylin
   last_vertex = Some 1;
   reached = 0 ∷ 2 ∷ 1 ∷ [];
 }
-unfolding stand_behind solid_of shell_rows
+unfolding stand_from_latest solid_of shell_rows
 cylinder_stand = refl
 
 -- the stand behind the edges and two corners
@@ -49,7 +49,7 @@ pub cube_stand : stand_after One (solid_of cube 1) (take 15 (drop 2 cube_lines))
   last_vertex = Some 1;
   reached = 0 ∷ [];
 }
-unfolding stand_behind solid_of shell_rows
+unfolding stand_from_latest solid_of shell_rows
 cube_stand = refl
 
 pub cube_limit : line_limit (solid_of cube 1) ≡ 304

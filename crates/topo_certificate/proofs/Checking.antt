@@ -4,8 +4,9 @@ use Rattle.std.proofs.Common.{refl, sym, ◌∙◌, ap, subst, arith, inl, inr, 
 use Rattle.std.proofs.lemmas.Option.{same_Some}
 use Rattle.solid_data.specs.SolidData.{SolidData}
 use Rattle.edge_uses.specs.ShellRows.{ShellRows}
-use Rattle.cert_lines.specs.Line.{CertLine, ShellCounts, head, solid, shell, edge, corner, point, reach, tally, end, IsLine, IsSpelled, IsLong, line_limit}
-use Rattle.topo_certificate.specs.Stand.{Stand, Due, stand_behind, rows_of_shell, loops_of_shell, NoneDue, FitsOpen, FitsLine}
+use Rattle.cert_lines.specs.Line.{CertLine, head, solid, shell, edge, corner, point, reach, tally, end, IsLine, IsSpelled, IsLong, line_limit}
+use Rattle.cert_lines.specs.declared.counts.ShellCounts.{ShellCounts}
+use Rattle.topo_certificate.specs.Stand.{Stand, stand_from_latest, rows_of_shell, loops_of_shell, NoneDue, FitsOpen, FitsLine}
 use Rattle.cert_lines.proofs.Spelling.{line_one}
 use Rattle.cert_lines.specs.Said.{IsRowLine, Means, IsJudged}
 use Rattle.cert_lines.specs.declared.words.Judged.{Judged}
@@ -15,28 +16,29 @@ use Rattle.cert_lines.specs.declared.fault.Illegal.{Illegal}
 use Rattle.cert_lines.specs.declared.fault.Illegal.TheVariants.{Unfit}
 use Rattle.topo_certificate.specs.Legal.{IsBadLine, BeginsNext, FitsPart}
 use Rattle.cert_lines.specs.declared.version.Version.{Version}
-use Rattle.topo_certificate.specs.Kept.{KeptShell, IsFresh, AreCounts, HoldsMates, HoldsFaces}
-use Rattle.topo_certificate.specs.Told.{TellsShell, TellsCurrent, Takes, AreWaiting, Kept, IsAt}
+use Rattle.topo_certificate.specs.Kept.{KeptShell, IsFresh, AreCounts, HoldsMates, HoldsFaces, all_due, lines_due}
+use Rattle.topo_certificate.specs.Matching.{MatchesShell, MatchesCurrent, Takes, AreWaiting, Kept, IsAt}
 use Rattle.topo_certificate.specs.Room.{dues_of, HasRoom, TakesLine}
 use Rattle.topo_certificate.proofs.UseSizes.{few_shells}
 use Rattle.solid_data.specs.Numbering.{IsNumberedSolid}
+use Rattle.topo_certificate.proofs.Shells.{asked_is}
 use Rattle.topo_certificate.proofs.Standing.{stand_of, shell_stand, end_stand, first_stand}
 
 -- nothing is due exactly where nothing is kept as due
-none_due : (s : SolidData) (at : Stand) (o : Option KeptShell) → TellsCurrent s at o → dues_of o ≡ 0 → NoneDue at.due
+none_due : (s : SolidData) (at : Stand) (o : Option KeptShell) → MatchesCurrent s at o → dues_of o ≡ 0 → NoneDue at.due
 none_due s at None h none = h.1
-none_due s at (Some k) h none = record { edges = omega (arith, h.edges_due, none); corners = omega (arith, h.corners_due, none); reach = omega (arith, h.reach_due, none); tally = omega (arith, h.tally_due, none) }
+none_due s at (Some k) h none = subst NoneDue h.due (record { edges = omega (arith, none); corners = omega (arith, none); reach = omega (arith, none); tally = omega (arith, none) })
 
-dues_none : (s : SolidData) (at : Stand) (o : Option KeptShell) → TellsCurrent s at o → NoneDue at.due → dues_of o ≡ 0
+dues_none : (s : SolidData) (at : Stand) (o : Option KeptShell) → MatchesCurrent s at o → NoneDue at.due → dues_of o ≡ 0
 dues_none s at None h none = refl
-dues_none s at (Some k) h none = omega (arith, h.edges_due, h.corners_due, h.reach_due, h.tally_due, none.edges, none.corners, none.reach, none.tally)
+dues_none s at (Some k) h none = ap lines_due h.due ∙ omega (arith, none.edges, none.corners, none.reach, none.tally)
 
 -- Where something is due no shell begins, and the end doesn't come.
 pub still_due : (old new : Kept) (k : ℕ) (counts : ShellCounts) → (dues_of old.current ≡ 0 → ⊥) → TakesLine old new (shell k counts) false
-still_due old new k counts due first lines at fits = due (dues_none old.solid (stand_behind old.version old.solid lines) old.current at.current fits.1.0)
+still_due old new k counts due first lines at fits = due (dues_none old.solid (stand_from_latest old.version old.solid lines) old.current at.current fits.1.0)
 
 pub still_due_end : (old new : Kept) → (dues_of old.current ≡ 0 → ⊥) → TakesLine old new end false
-still_due_end old new due first lines at fits = due (dues_none old.solid (stand_behind old.version old.solid lines) old.current at.current fits.1.0)
+still_due_end old new due first lines at fits = due (dues_none old.solid (stand_from_latest old.version old.solid lines) old.current at.current fits.1.0)
 
 pub other_shell : (old new : Kept) (k : ℕ) (counts : ShellCounts) → (k ≡ old.shell + 1 → ⊥) → TakesLine old new (shell k counts) false
 other_shell old new k counts other first lines at fits = other (omega (arith, fits.1.1.next, at.shell))
@@ -81,7 +83,7 @@ pub shell_begins : (old : Kept) (left : List KeptShell) (next : KeptShell) (k : 
     → n ≡ old.number + 1 → TakesLine old (with_shell old left next k n) (shell k counts) true
 shell_begins old left next k counts n going none is_k e are more first lines at =
     let s : SolidData = old.solid in
-    let here : Stand = stand_behind old.version s lines in
+    let here : Stand = stand_from_latest old.version s lines in
     let fresh = next_fresh old first lines left next at e in
     let is_d : rows_of_shell s k ≡ next.rows = ap (rows_of_shell s) is_k ∙ sym fresh.rows in
     let long : length old.waiting ≡ length left + 1 = omega (arith, ap (λ xs. length xs) e, length-append left (next ∷ [])) in
@@ -107,14 +109,11 @@ shell_begins old left next k counts n going none is_k e are more first lines at 
         number = omega (arith, more, at.number);
         ended = at.ended ∙ sym (ap (λ (x : Stand). x.ended) stand);
         shell = omega (arith, is_k, at.shell, ap (λ (x : Stand). x.shell) stand);
-        current = subst (λ x. TellsShell s x next) (sym stand) (record {
+        current = subst (λ x. MatchesShell s x next) (sym stand) (record {
           begun = omega arith;
           rows = fresh.rows ∙ ap (rows_of_shell s) (sym next_shell);
           loops = fresh.loops ∙ ap (loops_of_shell s) (sym next_shell);
-          edges_due = fresh.edges_due ∙ (ap (λ (d : ShellRows). length d.edges) (sym fresh.rows) ∙ sym are.edges_counted);
-          corners_due = fresh.corners_due ∙ (ap (λ (d : ShellRows). length d.vertices) (sym fresh.rows) ∙ sym are.corners_counted);
-          reach_due = fresh.reach_due ∙ (ap (λ (d : ShellRows). d.face_count - 1) (sym fresh.rows) ∙ ap (λ x. x - 1) (sym are.faces_counted));
-          tally_due = fresh.tally_due;
+          due = fresh.due ∙ ap (all_due old.version) (sym fresh.rows) ∙ sym (asked_is old.version next.rows counts are.edges_counted are.corners_counted are.faces_counted);
           last_edge = fresh.last_edge;
           last_vertex = fresh.last_vertex;
           mates = fresh.mates;
@@ -136,16 +135,13 @@ abbrev pub with_end : Kept → ℕ → Kept
 with_end old n = record old { number = n; ended = true }
 
 same_current : (s : SolidData) (a b : Stand) (o : Option KeptShell) → a.shell ≡ b.shell → a.due ≡ b.due → a.mates ≡ b.mates → a.last_edge ≡ b.last_edge → a.last_vertex ≡ b.last_vertex
-    → a.reached ≡ b.reached → TellsCurrent s a o → TellsCurrent s b o
+    → a.reached ≡ b.reached → MatchesCurrent s a o → MatchesCurrent s b o
 same_current s a b None k e ms le lv fs h = (sym k ∙ h.0, subst NoneDue e h.1)
 same_current s a b (Some x) k e ms le lv fs h = record {
   begun = subst (λ n. 0 < n) k h.begun;
   rows = h.rows ∙ ap (rows_of_shell s) k;
   loops = h.loops ∙ ap (loops_of_shell s) k;
-  edges_due = h.edges_due ∙ ap (λ (d : Due). d.edges) e;
-  corners_due = h.corners_due ∙ ap (λ (d : Due). d.corners) e;
-  reach_due = h.reach_due ∙ ap (λ (d : Due). d.reach) e;
-  tally_due = h.tally_due ∙ ap (λ (d : Due). d.tally) e;
+  due = h.due ∙ e;
   last_edge = h.last_edge ∙ le;
   last_vertex = h.last_vertex ∙ lv;
   mates = subst (HoldsMates x.mates) ms h.mates;
@@ -155,7 +151,7 @@ same_current s a b (Some x) k e ms le lv fs h = record {
 pub end_comes : (old : Kept) (n : ℕ) → old.ended ≡ false → dues_of old.current ≡ 0 → length old.waiting ≡ 0 → n ≡ old.number + 1 → TakesLine old (with_end old n) end true
 end_comes old n going none left more first lines at =
     let s : SolidData = old.solid in
-    let here : Stand = stand_behind old.version s lines in
+    let here : Stand = stand_from_latest old.version s lines in
     let stand = end_stand old.version s lines in (
       (sym at.ended ∙ going, (none_due s here old.current at.current none, omega (arith, left, at.waiting.count, at.shell))),
       record {
@@ -163,7 +159,7 @@ end_comes old n going none left more first lines at =
         number = omega (arith, more, at.number);
         ended = sym (ap (λ (x : Stand). x.ended) stand);
         shell = at.shell ∙ sym (ap (λ (x : Stand). x.shell) stand);
-        current = subst (λ x. TellsCurrent s x old.current) (sym stand) (same_current s here (stand_of true here.shell here.due here.mates here.last_edge here.last_vertex here.reached) old.current refl refl refl refl refl refl at.current);
+        current = subst (λ x. MatchesCurrent s x old.current) (sym stand) (same_current s here (stand_of true here.shell here.due here.mates here.last_edge here.last_vertex here.reached) old.current refl refl refl refl refl refl at.current);
         waiting = at.waiting;
       },
     )
@@ -174,8 +170,8 @@ abbrev pub with_current : Kept → KeptShell → ℕ → Kept
 with_current old k n = record old { number = n; current = Some k }
 
 -- a line of rows changes neither the shell nor whether END came
-row_line : (version : Version) (s : SolidData) (lines : List CertLine) (line : CertLine) → IsRowLine line → ((stand_behind version s (line ∷ lines)).ended ≡ (stand_behind version s lines).ended) × ((stand_behind version s (line ∷ lines)).shell ≡ (stand_behind version s lines).shell)
-unfolding stand_behind
+row_line : (version : Version) (s : SolidData) (lines : List CertLine) (line : CertLine) → IsRowLine line → ((stand_from_latest version s (line ∷ lines)).ended ≡ (stand_from_latest version s lines).ended) × ((stand_from_latest version s (line ∷ lines)).shell ≡ (stand_from_latest version s lines).shell)
+unfolding stand_from_latest
 row_line version s lines (head v) h = absurd h
 row_line version s lines (solid n) h = absurd h
 row_line version s lines (shell k c) h = absurd h
@@ -189,7 +185,7 @@ row_line version s lines end h = absurd h
 pub row_line_taken : (old : Kept) (k new : KeptShell) (line : CertLine) (n : ℕ) → old.ended ≡ false → old.current ≡ Some k → IsRowLine line → Takes k new line true → n ≡ old.number + 1 → TakesLine old (with_current old new n) line true
 row_line_taken old k new line n going is_k kind takes more first lines at =
     let s : SolidData = old.solid in
-    let t : TellsShell s (stand_behind old.version s lines) k = subst (TellsCurrent s (stand_behind old.version s lines)) is_k at.current in
+    let t : MatchesShell s (stand_from_latest old.version s lines) k = subst (MatchesCurrent s (stand_from_latest old.version s lines)) is_k at.current in
     let r = takes old.version s lines t in
     let l = row_line old.version s lines line kind in (
       (sym at.ended ∙ going, r.0),
@@ -204,7 +200,7 @@ row_line_taken old k new line n going is_k kind takes more first lines at =
     )
 
 pub row_line_refused : (old new : Kept) (k now : KeptShell) (line : CertLine) → old.current ≡ Some k → Takes k now line false → TakesLine old new line false
-row_line_refused old new k now line is_k takes first lines at fits = takes old.version old.solid lines (subst (TellsCurrent old.solid (stand_behind old.version old.solid lines)) is_k at.current) fits.1
+row_line_refused old new k now line is_k takes first lines at fits = takes old.version old.solid lines (subst (MatchesCurrent old.solid (stand_from_latest old.version old.solid lines)) is_k at.current) fits.1
 
 no_row_line : (s : SolidData) (at : Stand) (line : CertLine) → NoneDue at.due → IsRowLine line → FitsOpen s at line → ⊥
 no_row_line s at (head v) none kind fits = kind
@@ -220,8 +216,8 @@ no_row_line s at end none kind fits = kind
 
 pub no_shell_begun : (old new : Kept) (line : CertLine) → old.current ≡ None → IsRowLine line → TakesLine old new line false
 no_shell_begun old new line none kind first lines at fits =
-    let t = subst (TellsCurrent old.solid (stand_behind old.version old.solid lines)) none at.current in
-    no_row_line old.solid (stand_behind old.version old.solid lines) line t.1 kind fits.1
+    let t = subst (MatchesCurrent old.solid (stand_from_latest old.version old.solid lines)) none at.current in
+    no_row_line old.solid (stand_from_latest old.version old.solid lines) line t.1 kind fits.1
 
 pub ended_already : (old new : Kept) (line : CertLine) → old.ended ≡ true → TakesLine old new line false
 ended_already old new line over first lines at fits = let e : true ≡ false = sym over ∙ (at.ended ∙ fits.0) in cc
@@ -243,7 +239,7 @@ begins first c legal number going shell_is none waiting =
       number = omega (arith, number);
       ended = going ∙ sym (ap (λ (x : Stand). x.ended) stand);
       shell = shell_is ∙ sym (ap (λ (x : Stand). x.shell) stand);
-      current = subst (TellsCurrent s (stand_behind version s [])) (sym none) (ap (λ (x : Stand). x.shell) stand, record { edges = ap (λ (x : Stand). x.due.edges) stand; corners = ap (λ (x : Stand). x.due.corners) stand; reach = ap (λ (x : Stand). x.due.reach) stand; tally = ap (λ (x : Stand). x.due.tally) stand });
+      current = subst (MatchesCurrent s (stand_from_latest version s [])) (sym none) (ap (λ (x : Stand). x.shell) stand, record { edges = ap (λ (x : Stand). x.due.edges) stand; corners = ap (λ (x : Stand). x.due.corners) stand; reach = ap (λ (x : Stand). x.due.reach) stand; tally = ap (λ (x : Stand). x.due.tally) stand });
       waiting = subst (λ n. AreWaiting version s n c.waiting) (sym shell_is) waiting;
     }
 
@@ -295,22 +291,22 @@ room_at_first version s limit first waiting numbered is_limit low w = record { l
 
 -- A line that is spelled and not taken is unfit.
 pub line_refused : (old new : Kept) (bytes : List ℕ) (l : CertLine) (number : ℕ) (r : Result (Unit {0}) Illegal) (Good : Unit {0} → Type 0) (first : ℕ) (lines : List CertLine) → IsAt first old lines → IsLine (line_limit old.solid) bytes l
-    → (FitsLine old.solid (stand_behind old.version old.solid lines) l → ⊥) → number ≡ old.number → r ≡ Err (Unfit number) → new.failed ≡ Some (Unfit number)
-    → MatchResult r Good (λ bad. IsBadLine old.solid (FitsLine old.solid (stand_behind old.version old.solid lines)) (first + length lines) bytes bad × (new.failed ≡ Some bad))
+    → (FitsLine old.solid (stand_from_latest old.version old.solid lines) l → ⊥) → number ≡ old.number → r ≡ Err (Unfit number) → new.failed ≡ Some (Unfit number)
+    → MatchResult r Good (λ bad. IsBadLine old.solid (FitsLine old.solid (stand_from_latest old.version old.solid lines)) (first + length lines) bytes bad × (new.failed ≡ Some bad))
 line_refused old new bytes l number r Good first lines at is never same is_r failed =
     let n : Unfit number ≡ Unfit (first + length lines) = ap (λ k. Unfit k) (same ∙ at.number) in
-    subst (λ x. MatchResult x Good (λ bad. IsBadLine old.solid (FitsLine old.solid (stand_behind old.version old.solid lines)) (first + length lines) bytes bad × (new.failed ≡ Some bad))) (sym is_r)
+    subst (λ x. MatchResult x Good (λ bad. IsBadLine old.solid (FitsLine old.solid (stand_from_latest old.version old.solid lines)) (first + length lines) bytes bad × (new.failed ≡ Some bad))) (sym is_r)
     (inr (inr (l, is, never), n), failed)
 
 -- The line that begins the next part of a book.
 
 -- END may come where nothing is kept as due and no shell waits
-pub end_may_come : (c : Kept) (first : ℕ) (lines : List CertLine) → IsAt first c lines → c.ended ≡ false → dues_of c.current ≡ 0 → length c.waiting ≡ 0 → FitsLine c.solid (stand_behind c.version c.solid lines) end
-end_may_come c first lines at going none left = (sym at.ended ∙ going, (none_due c.solid (stand_behind c.version c.solid lines) c.current at.current none, omega (arith, left, at.waiting.count, at.shell)))
+pub end_may_come : (c : Kept) (first : ℕ) (lines : List CertLine) → IsAt first c lines → c.ended ≡ false → dues_of c.current ≡ 0 → length c.waiting ≡ 0 → FitsLine c.solid (stand_from_latest c.version c.solid lines) end
+end_may_come c first lines at going none left = (sym at.ended ∙ going, (none_due c.solid (stand_from_latest c.version c.solid lines) c.current at.current none, omega (arith, left, at.waiting.count, at.shell)))
 
-pub end_may_not : (c : Kept) (first : ℕ) (lines : List CertLine) → IsAt first c lines → (c.ended ≡ false → dues_of c.current ≡ 0 → length c.waiting ≡ 0 → ⊥) → FitsLine c.solid (stand_behind c.version c.solid lines) end → ⊥
+pub end_may_not : (c : Kept) (first : ℕ) (lines : List CertLine) → IsAt first c lines → (c.ended ≡ false → dues_of c.current ≡ 0 → length c.waiting ≡ 0 → ⊥) → FitsLine c.solid (stand_from_latest c.version c.solid lines) end → ⊥
 end_may_not c first lines at never fits =
-    never (at.ended ∙ fits.0) (dues_none c.solid (stand_behind c.version c.solid lines) c.current at.current fits.1.0) (omega (arith, at.waiting.count, at.shell, fits.1.1))
+    never (at.ended ∙ fits.0) (dues_none c.solid (stand_from_latest c.version c.solid lines) c.current at.current fits.1.0) (omega (arith, at.waiting.count, at.shell, fits.1.1))
 
 -- what fits neither as a line nor as the first one of the next part is bad in a part
 pub bad_in_part : (s : SolidData) (at : Stand) (number : ℕ) (bytes : List ℕ) (bad : Illegal) → ((n : ℕ) → IsLine (line_limit s) bytes (solid n) → BeginsNext s at n → ⊥) → IsBadLine s (FitsLine s at) number bytes bad → IsBadLine s (FitsPart s at) number bytes bad

@@ -7,12 +7,14 @@ use Rattle.solid_data.specs.SolidData.{SolidData}
 use Rattle.edge_uses.specs.ShellRows.{ShellRows}
 use Rattle.edge_uses.specs.Closed.{AreMates}
 use Rattle.edge_uses.proofs.Counting.{two_rows_each}
-use Rattle.cert_lines.specs.Line.{CertLine, ShellCounts, Tally, shell, tally, end, spelling, HasSpelling}
+use Rattle.cert_lines.specs.Line.{CertLine, shell, tally, end, spelling, HasSpelling}
+use Rattle.cert_lines.specs.declared.counts.ShellCounts.{ShellCounts}
+use Rattle.cert_lines.specs.declared.counts.Tally.{Tally}
 use Rattle.topo_certificate.specs.Legal.{IsLegal}
-use Rattle.topo_certificate.specs.Behind.{IsLegalBehind}
+use Rattle.topo_certificate.specs.After.{IsLegalAfter}
 use Rattle.cert_lines.specs.declared.version.Version.{Version}
 use Rattle.cert_lines.specs.declared.version.Version.TheVariants.{One, Two, Three}
-use Rattle.topo_certificate.specs.Stand.{stand_behind, loops_of_shell, tallies, NoneDue, IsAbove, first_of, is_shell, is_last, number_of, rows_of_shell, IsMate}
+use Rattle.topo_certificate.specs.Stand.{stand_from_latest, loops_of_shell, tallies, NoneDue, IsAbove, first_of, is_shell, is_last, number_of, rows_of_shell, IsMate}
 use Rattle.solid_data.proofs.Members.{Rises, rises_none}
 use Rattle.topo_certificate.proofs.Segment.{AreGoodRows}
 use Rattle.topo_certificate.proofs.Forward.{legal_forward}
@@ -39,7 +41,7 @@ pub record Done (version : Version) (s : SolidData) (j : ℕ) : Type 0 where
   pub short : AllByRecursion (IsReadable s) lines
   pub begun : list_any is_last lines ≡ false
   pub shells : number_of is_shell lines ≡ j
-  pub nothing : NoneDue (stand_behind version s lines).due
+  pub nothing : NoneDue (stand_from_latest version s lines).due
 
 pub any_above : (xs : List ℕ) → AllByRecursion (λ z. IsAbove (first_of []) z) xs
 any_above [] = tt
@@ -53,7 +55,7 @@ tally_of s k = record { vertices = length (rows_of_shell s k).vertices; edges = 
 
 pub begin_shell : (version : Version) (s : SolidData) (j : ℕ) → j < length s.shells → AreReady s (rows_of_shell s (suc j)) (loops_of_shell s (suc j)) → (done : Done version s j)
     → Stage version s (shell (suc j) (counts_of (rows_of_shell s (suc j))) ∷ done.lines) (suc j) (rows_of_shell s (suc j)) [] [] [] []
-unfolding stand_behind
+unfolding stand_from_latest
 begin_shell version s j lt ready done =
     let d : ShellRows = rows_of_shell s (suc j) in
     record {
@@ -130,7 +132,7 @@ one_more version s j lt ready done =
     closes version s (suc j) r.lines e.es c.vs r.fs e.ms r.stage edges_done corners_done r.all ready.small ready.few_loops
 
 nothing_at_first : (version : Version) (s : SolidData) → Done version s 0
-unfolding stand_behind
+unfolding stand_from_latest
 nothing_at_first version s = record { lines = []; fit = tt; short = tt; begun = refl; shells = refl; nothing = record { edges = refl; corners = refl; reach = refl; tally = refl } }
 
 upto : (version : Version) (s : SolidData) → ((j : ℕ) → j < length s.shells → AreReady s (rows_of_shell s (suc j)) (loops_of_shell s (suc j))) → (j : ℕ) → j ≤ length s.shells → Done version s j
@@ -138,15 +140,15 @@ upto version s ready zero le = nothing_at_first version s
 upto version s ready (suc j) le = one_more version s j (omega (arith, le)) (ready j (omega (arith, le))) (upto version s ready j (omega (arith, le)))
 
 pub end_fits : (version : Version) (s : SolidData) (done : Done version s (length s.shells)) → AllFit version s (end ∷ done.lines)
-unfolding stand_behind
+unfolding stand_from_latest
 end_fits version s done = ((done.begun, (done.nothing, done.shells)), done.fit)
 
-pub ended : (version : Version) (s : SolidData) (lines : List CertLine) → (stand_behind version s (end ∷ lines)).ended ≡ true
-unfolding stand_behind
+pub ended : (version : Version) (s : SolidData) (lines : List CertLine) → (stand_from_latest version s (end ∷ lines)).ended ≡ true
+unfolding stand_from_latest
 ended version s lines = refl
 
 -- Where the rows of each shell are ready, lines that fit go up to END.
-pub closed_has_lines : (version : Version) (s : SolidData) → ((j : ℕ) → j < length s.shells → AreReady s (rows_of_shell s (suc j)) (loops_of_shell s (suc j))) → (lines : List CertLine) × AllFit version s lines × ((stand_behind version s lines).ended ≡ true) × AllByRecursion (IsReadable s) lines
+pub closed_has_lines : (version : Version) (s : SolidData) → ((j : ℕ) → j < length s.shells → AreReady s (rows_of_shell s (suc j)) (loops_of_shell s (suc j))) → (lines : List CertLine) × AllFit version s lines × ((stand_from_latest version s lines).ended ≡ true) × AllByRecursion (IsReadable s) lines
 closed_has_lines version s ready =
     let done = upto version s ready (length s.shells) (omega arith) in
     (end ∷ done.lines, end_fits version s done, ended version s done.lines, (readable_end s, done.short))
@@ -156,12 +158,12 @@ all_then P [] x h p = (p, tt)
 all_then P (y ∷ xs) x h p = (h.0, all_then P xs x h.1 p)
 
 -- the lines as bytes, in the order of the file
-legal_from_fit : (version : Version) (s : SolidData) (lines : List CertLine) → AllFit version s lines → AllByRecursion (IsReadable s) lines → (rest : List (List ℕ)) → IsLegalBehind version s lines rest
-    → (bytes : List CertLine) × IsLegalBehind version s [] (map spelling bytes ++ rest) × AllByRecursion HasSpelling bytes
+legal_from_fit : (version : Version) (s : SolidData) (lines : List CertLine) → AllFit version s lines → AllByRecursion (IsReadable s) lines → (rest : List (List ℕ)) → IsLegalAfter version s lines rest
+    → (bytes : List CertLine) × IsLegalAfter version s [] (map spelling bytes ++ rest) × AllByRecursion HasSpelling bytes
 legal_from_fit version s [] fit short rest legal = ([], legal, tt)
 legal_from_fit version s (l ∷ lines) fit short rest legal =
     let before = legal_from_fit version s lines fit.1 short.1 (spelling l ∷ rest) (l, short.0, fit.0, legal) in
-    (before.0 ++ l ∷ [], subst (IsLegalBehind version s []) (regroup before.0 l rest) before.1, all_then HasSpelling before.0 l before.2 short.0.1.0)
+    (before.0 ++ l ∷ [], subst (IsLegalAfter version s []) (regroup before.0 l rest) before.1, all_then HasSpelling before.0 l before.2 short.0.1.0)
   where
     regroup : (ls : List CertLine) (l : CertLine) (rest : List (List ℕ)) → map spelling ls ++ spelling l ∷ rest ≡ map spelling (ls ++ l ∷ []) ++ rest
     regroup [] l rest = refl
@@ -172,4 +174,4 @@ pub closed_has_legal : (version : Version) (s : SolidData) → ((j : ℕ) → j 
 closed_has_legal version s ready =
     let h = closed_has_lines version s ready in
     let k = legal_from_fit version s h.0 h.1 h.3 [] h.2 in
-    (k.0, legal_forward version s (map spelling k.0) (subst (IsLegalBehind version s []) (append-nil (map spelling k.0)) k.1), k.2)
+    (k.0, legal_forward version s (map spelling k.0) (subst (IsLegalAfter version s []) (append-nil (map spelling k.0)) k.1), k.2)

@@ -10,14 +10,17 @@ use Rattle.solid_data.proofs.Decisions.{Decided, decided_alike, decided_same, de
 use Rattle.edge_uses.specs.declared.row.Row.{Row}
 use Rattle.edge_uses.specs.ShellRows.{ShellRows}
 use Rattle.edge_uses.specs.Closed.{point_count}
-use Rattle.cert_lines.specs.Line.{CertLine, ShellCounts, Tally, head, solid, shell, edge, corner, point, reach, tally, end, IsLine, IsLong, IsMisspelt, line_limit}
+use Rattle.cert_lines.specs.Line.{CertLine, head, solid, shell, edge, corner, point, reach, tally, end, IsLine, IsLong, IsMisspelt, line_limit}
+use Rattle.cert_lines.specs.declared.counts.ShellCounts.{ShellCounts}
+use Rattle.cert_lines.specs.declared.counts.Tally.{Tally}
 use Rattle.cert_lines.specs.declared.version.Version.{Version}
 use Rattle.cert_lines.specs.declared.fault.Illegal.{Illegal}
 use Rattle.cert_lines.specs.declared.fault.Illegal.TheVariants.{Misspelt, Unfit, Missing}
 use Rattle.cert_lines.proofs.Decided.{lines_are_decided}
-use Rattle.topo_certificate.specs.Stand.{Stand, Due, NoneDue, CornerDue, ReachDue, TallyDue, FitsShell, FitsEdge, FitsCorner, FitsPoint, FitsReach, FitsTally, FitsOpen, FitsLine, IsAbove, IsMate, TurnsTo, FollowsAsNamed, row_named, row_start, row_face, point_named, start_count, rows_of_shell, loops_of_shell, stand_behind}
+use Rattle.topo_certificate.specs.Stand.{Stand, NoneDue, CornerDue, ReachDue, TallyDue, FitsShell, FitsEdge, FitsCorner, FitsPoint, FitsReach, FitsTally, FitsOpen, FitsLine, IsAbove, IsMate, TurnsTo, FollowsAsNamed, row_named, row_start, row_face, point_named, start_count, rows_of_shell, loops_of_shell, stand_from_latest}
+use Rattle.topo_certificate.specs.declared.due.Due.{Due}
 use Rattle.topo_certificate.specs.Legal.{IsLegal, IsFirstBad, BeginsNext, FitsPart}
-use Rattle.topo_certificate.specs.Behind.{IsLegalBehind, IsFirstBadBehind}
+use Rattle.topo_certificate.specs.After.{IsLegalAfter, IsFirstBadAfter}
 use Rattle.topo_certificate.proofs.CornerFits.{named_below}
 use Rattle.topo_certificate.proofs.Forward.{legal_forward, bad_forward}
 
@@ -202,14 +205,14 @@ part_decided s at l = decided_either (line_decided s at l) (next_decided s at l)
 
 -- Behind lines before, the lines are legal or have a first bad one.
 abbrev Answers : Version → SolidData → ℕ → List CertLine → List (List ℕ) → Type 0
-Answers version s first before lines = IsLegalBehind version s before lines ⊎ ((bad : Illegal) × IsFirstBadBehind version s (FitsLine s) first before lines bad)
+Answers version s first before lines = IsLegalAfter version s before lines ⊎ ((bad : Illegal) × IsFirstBadAfter version s (FitsLine s) first before lines bad)
 
-by_end : (version : Version) (s : SolidData) (first : ℕ) (before : List CertLine) (b : Bool) → (stand_behind version s before).ended ≡ b → Answers version s first before []
+by_end : (version : Version) (s : SolidData) (first : ℕ) (before : List CertLine) (b : Bool) → (stand_from_latest version s before).ended ≡ b → Answers version s first before []
 by_end version s first before true e = inl e
 by_end version s first before false e = inr (Missing (first + length before), (e, refl))
 
 by_later : (version : Version) (s : SolidData) (first : ℕ) (before : List CertLine) (bytes : List ℕ) (lines : List (List ℕ)) (l : CertLine)
-    → IsLine (line_limit s) bytes l → FitsLine s (stand_behind version s before) l → Answers version s first (l ∷ before) lines → Answers version s first before (bytes ∷ lines)
+    → IsLine (line_limit s) bytes l → FitsLine s (stand_from_latest version s before) l → Answers version s first (l ∷ before) lines → Answers version s first before (bytes ∷ lines)
 by_later version s first before bytes lines l is fits (inl legal) = inl (l, is, fits, legal)
 by_later version s first before bytes lines l is fits (inr (bad, h)) = inr (bad, inr (l, is, fits, h))
 
@@ -218,16 +221,16 @@ by_other version s first before bytes lines (inl long) = inr (Unfit (first + len
 by_other version s first before bytes lines (inr misspelt) = inr (Misspelt (first + length before), inl (inl (misspelt, refl)))
 
 legal_or_bad : (version : Version) (s : SolidData) (first : ℕ) (before : List CertLine) (lines : List (List ℕ)) → Answers version s first before lines
-legal_or_bad version s first before [] = by_end version s first before (stand_behind version s before).ended refl
+legal_or_bad version s first before [] = by_end version s first before (stand_from_latest version s before).ended refl
 legal_or_bad version s first before (bytes ∷ lines) =
     ⊎_elim
-    (λ (l, is). ⊎_elim (λ fits. by_later version s first before bytes lines l is fits (legal_or_bad version s first (l ∷ before) lines)) (λ other. inr (Unfit (first + length before), inl (inr (inr (l, is, other), refl)))) (line_decided s (stand_behind version s before) l))
+    (λ (l, is). ⊎_elim (λ fits. by_later version s first before bytes lines l is fits (legal_or_bad version s first (l ∷ before) lines)) (λ other. inr (Unfit (first + length before), inl (inr (inr (l, is, other), refl)))) (line_decided s (stand_from_latest version s before) l))
     (λ other. by_other version s first before bytes lines other)
     (lines_are_decided (line_limit s) bytes)
 
 pub legal_or_first_bad : (version : Version) (s : SolidData) (first : ℕ) (lines : List (List ℕ)) → IsLegal version s lines ⊎ ((bad : Illegal) × IsFirstBad version s first lines bad)
 legal_or_first_bad version s first lines = forward (legal_or_bad version s first [] lines)
   where
-    forward : IsLegalBehind version s [] lines ⊎ ((bad : Illegal) × IsFirstBadBehind version s (FitsLine s) first [] lines bad) → IsLegal version s lines ⊎ ((bad : Illegal) × IsFirstBad version s first lines bad)
+    forward : IsLegalAfter version s [] lines ⊎ ((bad : Illegal) × IsFirstBadAfter version s (FitsLine s) first [] lines bad) → IsLegal version s lines ⊎ ((bad : Illegal) × IsFirstBad version s first lines bad)
     forward (inl legal) = inl (legal_forward version s lines legal)
     forward (inr (bad, h)) = inr (bad, bad_forward version s (FitsLine s) first lines bad h)

@@ -11,10 +11,10 @@ use Rattle.cert_lines.specs.Line.{CertLine, solid as solid_line, cut_lines, IsLi
 use Rattle.cert_lines.specs.declared.fault.Illegal.{Illegal}
 use Rattle.cert_lines.specs.declared.fault.Illegal.TheVariants.{Misspelt, Missing}
 use Rattle.cert_lines.proofs.Ends.{cut_begun, last_cut, misspelt_rest, kept_line, kept_is_line, kept_is_long, kept_is_misspelt}
-use Rattle.topo_certificate.specs.Stand.{Stand, stand_behind, stand_after, FitsLine}
+use Rattle.topo_certificate.specs.Stand.{Stand, stand_from_latest, stand_after, FitsLine}
 use Rattle.cert_lines.specs.declared.version.Version.{Version}
 use Rattle.topo_certificate.specs.Legal.{AreFitting, IsLegal, HasFirstBad, IsUnfit, IsBadLine, FitsPart, BeginsNext}
-use Rattle.topo_certificate.specs.Told.{Kept, IsAt, IsOfSame}
+use Rattle.topo_certificate.specs.Matching.{Kept, IsAt, IsOfSame}
 use Rattle.topo_certificate.specs.Feeding.{FedKept, IsKeptOf, StandsAfter, IsFedLines, IsFedPart}
 use Rattle.topo_certificate.specs.Part.{IsPartLine}
 use Rattle.topo_certificate.specs.PartEnds.{EndsPart, IsEndedBy}
@@ -75,14 +75,14 @@ Fitness = SolidData → Stand → CertLine → Type 0
 -- what a checker of whole lines says of its next line
 abbrev pub Judges : Fitness → Kept → List ℕ → Kept → Answer → Type 0
 Judges Fits old bytes new r = (first : ℕ) (lines : List CertLine) → IsAt first old lines → MatchResult r
-    (λ _. (l : CertLine) × IsLine (line_limit old.solid) bytes l × FitsLine old.solid (stand_behind old.version old.solid lines) l × IsAt first new (l ∷ lines))
-    (λ bad. IsBadLine old.solid (Fits old.solid (stand_behind old.version old.solid lines)) (first + length lines) bytes bad)
+    (λ _. (l : CertLine) × IsLine (line_limit old.solid) bytes l × FitsLine old.solid (stand_from_latest old.version old.solid lines) l × IsAt first new (l ∷ lines))
+    (λ bad. IsBadLine old.solid (Fits old.solid (stand_from_latest old.version old.solid lines)) (first + length lines) bytes bad)
 
 -- what it says of the end
 abbrev pub Finishes : Kept → Answer → Type 0
 Finishes old r = (first : ℕ) (lines : List CertLine) → IsAt first old lines → MatchResult r
-    (λ _. (stand_behind old.version old.solid lines).ended ≡ true)
-    (λ bad. ((stand_behind old.version old.solid lines).ended ≡ false) × (bad ≡ Missing (first + length lines)))
+    (λ _. (stand_from_latest old.version old.solid lines).ended ≡ true)
+    (λ bad. ((stand_from_latest old.version old.solid lines).ended ≡ false) × (bad ≡ Missing (first + length lines)))
 
 -- what holds of the version and the solid of a checker holds of these
 of_these : (v : Version) (s : SolidData) (c : Kept) (P : Version → SolidData → Type 0) → c.version ≡ v → c.solid ≡ s → P c.version c.solid → P v s
@@ -317,7 +317,7 @@ left_kept Fits old piece now new left v s first text none still same h kept k fe
 abbrev pub JudgesPart : Kept → List ℕ → Kept → Result PartLine Illegal → Type 0
 JudgesPart old bytes new r = (first : ℕ) (lines : List CertLine) → IsAt first old lines → MatchResult r
     (IsPartLine old new first lines bytes)
-    (λ bad. IsBadLine old.solid (FitsPart old.solid (stand_behind old.version old.solid lines)) (first + length lines) bytes bad)
+    (λ bad. IsBadLine old.solid (FitsPart old.solid (stand_from_latest old.version old.solid lines)) (first + length lines) bytes bad)
 
 -- nothing of the line is kept, or its fault is
 abbrev pub IsPartDone : FedKept → Result PartLine Illegal → Type 0

@@ -19,7 +19,7 @@ use Rattle.cert_lines.specs.declared.fault.Misfit.TheVariants as misfit
 use Rattle.cert_lines.proofs.Ends.{cut_begun, last_cut, misspelt_rest}
 use Rattle.topo_certificate.specs.declared.opening.Stage.{Stage}
 use Rattle.topo_certificate.specs.declared.opening.Stage.TheVariants as stage
-use Rattle.topo_certificate.specs.OpeningFed.{Opened, StandsForRest, HasHead, Shows, IsOpening, IsWaiting, StageBehind}
+use Rattle.topo_certificate.specs.OpeningFed.{Opened, StandsForRest, HasHead, Shows, IsOpening, IsWaiting, StageAfter}
 use Rattle.topo_certificate.proofs.FedLines.{SameLine, same_whole, same_kept, take_front, front_of, nil}
 
 -- ---- the bytes that are kept
@@ -61,7 +61,7 @@ none_kept : StandsForRest [] []
 none_kept = (refl, refl)
 
 -- the first line ends
-first_next : (kept text front bytes : List ℕ) (new : Stage) → StandsForRest kept text → is_in_line front ≡ true → SameLine first_limit bytes (ended (text ++ front)) → StageBehind stage.First bytes new → Shows new [] (text ++ ended front)
+first_next : (kept text front bytes : List ℕ) (new : Stage) → StandsForRest kept text → is_in_line front ≡ true → SameLine first_limit bytes (ended (text ++ front)) → StageAfter stage.First bytes new → Shows new [] (text ++ ended front)
 first_next kept text front bytes stage.First s h same b = absurd b
 first_next kept text front bytes (stage.Second v) s h same b = record {
   first = text ++ front;
@@ -83,7 +83,7 @@ two_whole v kept text front more s =
     ∙ append_assoc (ended s.first) (ended (s.rest ++ front)) more
 
 -- the second line ends
-second_next : (v : Version) (kept text front bytes : List ℕ) (new : Stage) (s : HasHead v kept text) → is_in_line front ≡ true → SameLine first_limit bytes (ended (s.rest ++ front)) → StageBehind (stage.Second v) bytes new → Shows new [] (text ++ ended front)
+second_next : (v : Version) (kept text front bytes : List ℕ) (new : Stage) (s : HasHead v kept text) → is_in_line front ≡ true → SameLine first_limit bytes (ended (s.rest ++ front)) → StageAfter (stage.Second v) bytes new → Shows new [] (text ++ ended front)
 second_next v kept text front bytes stage.First s h same b = absurd b
 second_next v kept text front bytes (stage.Second w) s h same b = absurd b
 second_next v kept text front bytes (stage.Done w n) s h same b = λ more. subst (λ (x : Version). Opens ((text ++ ended front) ++ more) x n.0 (cut_lines more)) (sym b.0) (record {
@@ -98,10 +98,10 @@ second_next v kept text front bytes (stage.Failed bad) s h same b = λ more.
     (inr (v, s.is_head, same_wrong IsSolid 2 bytes (ended (s.rest ++ front)) bad same b))
 
 pub next_shows : (old : Opened) (text front bytes : List ℕ) (new : Stage) → IsWaiting old.stage → is_in_line front ≡ true
-    → ((rest : List ℕ) → StandsForRest old.kept rest → SameLine first_limit bytes (ended (rest ++ front))) → StageBehind old.stage bytes new → IsOpening old text → Shows new [] (text ++ ended front)
+    → ((rest : List ℕ) → StandsForRest old.kept rest → SameLine first_limit bytes (ended (rest ++ front))) → StageAfter old.stage bytes new → IsOpening old text → Shows new [] (text ++ ended front)
 next_shows old text front bytes new waiting h same behind shows = by_stage old.stage waiting behind shows
   where
-    by_stage : (o : Stage) → IsWaiting o → StageBehind o bytes new → Shows o old.kept text → Shows new [] (text ++ ended front)
+    by_stage : (o : Stage) → IsWaiting o → StageAfter o bytes new → Shows o old.kept text → Shows new [] (text ++ ended front)
     by_stage stage.First w b s = first_next old.kept text front bytes new s h (same text s) b
     by_stage (stage.Second v) w b s = second_next v old.kept text front bytes new s h (same s.rest s.stands) b
     by_stage (stage.Done v n) w b s = absurd w
@@ -110,13 +110,13 @@ next_shows old text front bytes new waiting h same behind shows = by_stage old.s
 none_rest : (kept rest : List ℕ) → StandsForRest kept rest → length kept ≤ 0 → rest ≡ []
 none_rest kept rest s h = nil rest (omega (arith, h, ap length s.0, length-take 64 rest))
 
-pub whole_line : (old : Opened) (text front line : List ℕ) (new : Stage) → IsWaiting old.stage → length old.kept ≤ 0 → is_in_line front ≡ true → line ≡ ended front → StageBehind old.stage line new → IsOpening old text → Shows new [] (text ++ line)
+pub whole_line : (old : Opened) (text front line : List ℕ) (new : Stage) → IsWaiting old.stage → length old.kept ≤ 0 → is_in_line front ≡ true → line ≡ ended front → StageAfter old.stage line new → IsOpening old text → Shows new [] (text ++ line)
 whole_line old text front line new waiting empty h is behind shows =
     subst (λ (l : List ℕ). Shows new [] (text ++ l)) (sym is)
     (next_shows old text front line new waiting h (λ rest s. same_whole first_limit line (ended (rest ++ front)) (is ∙ ap (λ (x : List ℕ). ended (x ++ front)) (sym (none_rest old.kept rest s empty)))) behind shows)
 
 pub joined_line : (old : Opened) (text front line mid bytes : List ℕ) (new : Stage) → IsWaiting old.stage → is_in_line front ≡ true → line ≡ ended front → mid ≡ take first_limit (old.kept ++ take (length line - 1) line) → bytes ≡ ended mid
-    → StageBehind old.stage bytes new → IsOpening old text → Shows new [] (text ++ line)
+    → StageAfter old.stage bytes new → IsOpening old text → Shows new [] (text ++ line)
 joined_line old text front line mid bytes new waiting h is kept bytes-is behind shows =
     subst (λ (l : List ℕ). Shows new [] (text ++ l)) (sym is)
     (next_shows old text front bytes new waiting h (λ rest s. same_kept first_limit bytes (rest ++ front) (bytes-is ∙ ap ended (kept ∙ ap (λ (x : List ℕ). take first_limit (old.kept ++ x)) (front_of front line is)

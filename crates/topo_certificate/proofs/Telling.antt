@@ -6,19 +6,20 @@ use Rattle.std.proofs.lemmas.Option.{same_Some}
 use Rattle.solid_data.specs.SolidData.{SolidData}
 use Rattle.edge_uses.specs.declared.row.Row.{Row}
 use Rattle.edge_uses.specs.ShellRows.{ShellRows}
-use Rattle.cert_lines.specs.Line.{Tally, edge, corner, point, reach, tally}
-use Rattle.topo_certificate.specs.Stand.{Stand, stand_behind, rows_of_shell, loops_of_shell, row_named, edge_of, vertex_of, face_of, IsAbove, CornerDue, FitsOpen, FitsEdge, FitsPoint, FitsReach, FitsTally}
+use Rattle.cert_lines.specs.Line.{edge, corner, point, reach, tally}
+use Rattle.cert_lines.specs.declared.counts.Tally.{Tally}
+use Rattle.topo_certificate.specs.Stand.{Stand, stand_from_latest, rows_of_shell, loops_of_shell, row_named, edge_of, vertex_of, face_of, IsAbove, EdgeDue, CornerDue, ReachDue, TallyDue, FitsOpen, FitsEdge, FitsPoint, FitsReach, FitsTally}
 use Rattle.topo_certificate.specs.Kept.{KeptShell, IsKept, IsTally, HoldsMates, HoldsFaces}
 use Rattle.topo_certificate.specs.Ring.{FitsCornerLine}
-use Rattle.topo_certificate.specs.Told.{TellsShell, Takes}
-use Rattle.topo_certificate.proofs.Standing.{due_of, stand_of, edge_stand, corner_stand, point_stand, reach_stand, tally_stand, reached_is, others_reached}
+use Rattle.topo_certificate.specs.Matching.{MatchesShell, Takes}
+use Rattle.topo_certificate.proofs.Standing.{due_of, without_edge, without_corner, without_reach, without_tally, stand_of, edge_stand, corner_stand, point_stand, reach_stand, tally_stand, reached_is, others_reached}
 use Rattle.topo_certificate.proofs.Arrays.{CanMate, MateCases, with_mates, mate_cases, mates_more, faces_more}
 use Rattle.topo_certificate.proofs.CornerFits.{named_below}
 
 -- Edge lines.
 
-abbrev pub with_edge : KeptShell → ℕ → ℕ → ℕ → ℕ → KeptShell
-with_edge k a b e n = record k { edges_due = n; mates = with_mates k.mates a b; last_edge = Some e }
+abbrev pub with_edge : KeptShell → ℕ → ℕ → ℕ → KeptShell
+with_edge k a b e = record k { due = without_edge k.due; mates = with_mates k.mates a b; last_edge = Some e }
 
 -- where an edge line fits behind the last edge
 pub record FitsBehind (k : KeptShell) (a b e : ℕ) : Type 0 where
@@ -63,14 +64,14 @@ can_mate k a b e kept h = by_fit (h.fits (stand_at k.last_edge) (stand_at_last k
               omega (arith, q, one, not_passed k.last_edge f.along_row.edge.0 p.0.edge.0 above p.2));
         }
 
-pub edge_kept : (k : KeptShell) (a b e n : ℕ) → IsKept k → FitsBehind k a b e → n ≤ k.edges_due → IsKept (with_edge k a b e n)
-edge_kept k a b e n kept h less = record {
+pub edge_kept : (k : KeptShell) (a b e : ℕ) → IsKept k → FitsBehind k a b e → IsKept (with_edge k a b e)
+edge_kept k a b e kept h = record {
   sizes = kept.sizes;
   alone = kept.alone;
   in_order = kept.in_order;
   each_row = length-set (slice_set k.mates (a - 1) b) (b - 1) a ∙ (length-set k.mates (a - 1) b ∙ kept.each_row);
   each_face = kept.each_face;
-  few = omega (arith, kept.few, less);
+  few = omega (arith, kept.few);
   passed = λ r m is. by_case r m (h.fits (stand_at k.last_edge) (stand_at_last k.last_edge)) (mate_cases k.mates a b r m (can_mate k a b e kept h) is);
 }
   where
@@ -87,21 +88,18 @@ edge_kept k a b e n kept h less = record {
         edge_at None = None
         edge_at (Some x) = Some x.edge.0
 
-pub edge_takes : (k : KeptShell) (a b e n : ℕ) → IsKept k → 0 < k.edges_due → n ≡ k.edges_due - 1 → FitsBehind k a b e → Takes k (with_edge k a b e n) (edge a b) true
-edge_takes k a b e n kept due less h version s lines t =
-    let at : Stand = stand_behind version s lines in
+pub edge_takes : (k : KeptShell) (a b e : ℕ) → IsKept k → EdgeDue k.due → FitsBehind k a b e → Takes k (with_edge k a b e) (edge a b) true
+edge_takes k a b e kept due h version s lines t =
+    let at : Stand = stand_from_latest version s lines in
     let f = h.fits at (sym t.last_edge) in
     let held = mates_more k.mates at.mates a b (can_mate k a b e kept h) t.mates in
     let stand = edge_stand version s lines a b e (subst (λ d. edge_of d (edge a b) ≡ Some e) t.rows f.1) in (
-      (omega (arith, due, t.edges_due), subst (λ d. FitsEdge d at a b) t.rows f.0),
-      subst (λ x. TellsShell s x (with_edge k a b e n)) (sym stand) (record {
+      (subst EdgeDue t.due due, subst (λ d. FitsEdge d at a b) t.rows f.0),
+      subst (λ x. MatchesShell s x (with_edge k a b e)) (sym stand) (record {
         begun = t.begun;
         rows = t.rows;
         loops = t.loops;
-        edges_due = less ∙ ap (λ x. x - 1) t.edges_due;
-        corners_due = t.corners_due;
-        reach_due = t.reach_due;
-        tally_due = t.tally_due;
+        due = ap without_edge t.due;
         last_edge = refl;
         last_vertex = t.last_vertex;
         mates = held;
@@ -109,13 +107,16 @@ edge_takes k a b e n kept due less h version s lines t =
       }),
     )
 
+pub edge_not_due : (k new : KeptShell) (a b : ℕ) → ¬ EdgeDue k.due → Takes k new (edge a b) false
+edge_not_due k new a b never version s lines t f = never (subst EdgeDue (sym t.due) f.0)
+
 pub edge_unfit : (k new : KeptShell) (a b : ℕ) → ((at : Stand) → at.last_edge ≡ k.last_edge → FitsEdge k.rows at a b → ⊥) → Takes k new (edge a b) false
-edge_unfit k new a b never version s lines t f = never (stand_behind version s lines) (sym t.last_edge) (subst (λ d. FitsEdge d (stand_behind version s lines) a b) (sym t.rows) f.1)
+edge_unfit k new a b never version s lines t f = never (stand_from_latest version s lines) (sym t.last_edge) (subst (λ d. FitsEdge d (stand_from_latest version s lines) a b) (sym t.rows) f.1)
 
 -- Corner and point lines.
 
-abbrev pub with_vertex : KeptShell → ℕ → ℕ → KeptShell
-with_vertex k v n = record k { corners_due = n; last_vertex = Some v }
+abbrev pub with_vertex : KeptShell → ℕ → KeptShell
+with_vertex k v = record k { due = without_corner k.due; last_vertex = Some v }
 
 corner_open : (s : SolidData) (at : Stand) (rs : List ℕ) → CornerDue at.due → FitsCornerLine (rows_of_shell s at.shell) at rs → FitsOpen s at (corner rs)
 corner_open s at [] due h = h
@@ -125,76 +126,71 @@ corner_line : (s : SolidData) (at : Stand) (rs : List ℕ) → FitsOpen s at (co
 corner_line s at [] h = absurd h
 corner_line s at (r ∷ rs) h = h
 
-vertex_told : (s : SolidData) (at : Stand) (k : KeptShell) (v n : ℕ) → TellsShell s at k → n ≡ k.corners_due - 1
-    → TellsShell s (stand_of at.ended at.shell (due_of at.due.edges (at.due.corners - 1) at.due.reach at.due.tally) at.mates at.last_edge (Some v) at.reached) (with_vertex k v n)
-vertex_told s at k v n t less = record {
+vertex_told : (s : SolidData) (at : Stand) (k : KeptShell) (v : ℕ) → MatchesShell s at k
+    → MatchesShell s (stand_of at.ended at.shell (without_corner at.due) at.mates at.last_edge (Some v) at.reached) (with_vertex k v)
+vertex_told s at k v t = record {
   begun = t.begun;
   rows = t.rows;
   loops = t.loops;
-  edges_due = t.edges_due;
-  corners_due = less ∙ ap (λ x. x - 1) t.corners_due;
-  reach_due = t.reach_due;
-  tally_due = t.tally_due;
+  due = ap without_corner t.due;
   last_edge = t.last_edge;
   last_vertex = refl;
   mates = t.mates;
   reached = t.reached;
 }
 
-pub corner_takes : (k : KeptShell) (rs : List ℕ) (v n : ℕ) → k.edges_due ≡ 0 → 0 < k.corners_due → n ≡ k.corners_due - 1
-    → ((at : Stand) → HoldsMates k.mates at.mates → at.last_vertex ≡ k.last_vertex → FitsCornerLine k.rows at rs × (vertex_of k.rows (corner rs) ≡ Some v)) → Takes k (with_vertex k v n) (corner rs) true
-corner_takes k rs v n none due less fit version s lines t =
-    let at : Stand = stand_behind version s lines in
+pub corner_takes : (k : KeptShell) (rs : List ℕ) (v : ℕ) → CornerDue k.due
+    → ((at : Stand) → HoldsMates k.mates at.mates → at.last_vertex ≡ k.last_vertex → FitsCornerLine k.rows at rs × (vertex_of k.rows (corner rs) ≡ Some v)) → Takes k (with_vertex k v) (corner rs) true
+corner_takes k rs v due fit version s lines t =
+    let at : Stand = stand_from_latest version s lines in
     let f = fit at t.mates (sym t.last_vertex) in
     let stand = corner_stand version s lines rs v (subst (λ d. vertex_of d (corner rs) ≡ Some v) t.rows f.1) in (
-      corner_open s at rs (omega (arith, none, t.edges_due), omega (arith, due, t.corners_due)) (subst (λ d. FitsCornerLine d at rs) t.rows f.0),
-      subst (λ x. TellsShell s x (with_vertex k v n)) (sym stand) (vertex_told s at k v n t less),
+      corner_open s at rs (subst CornerDue t.due due) (subst (λ d. FitsCornerLine d at rs) t.rows f.0),
+      subst (λ x. MatchesShell s x (with_vertex k v)) (sym stand) (vertex_told s at k v t),
     )
 
 pub corner_unfit : (k new : KeptShell) (rs : List ℕ) → ((at : Stand) → HoldsMates k.mates at.mates → at.last_vertex ≡ k.last_vertex → FitsCornerLine k.rows at rs → ⊥) → Takes k new (corner rs) false
 corner_unfit k new rs never version s lines t f =
-    let at : Stand = stand_behind version s lines in
+    let at : Stand = stand_from_latest version s lines in
     never at t.mates (sym t.last_vertex) (subst (λ d. FitsCornerLine d at rs) (sym t.rows) (corner_line s at rs f).1)
 
-pub corner_not_due : (k new : KeptShell) (rs : List ℕ) → (k.edges_due ≡ 0 → 0 < k.corners_due → ⊥) → Takes k new (corner rs) false
-corner_not_due k new rs never version s lines t f =
-    let c = (corner_line s (stand_behind version s lines) rs f).0 in
-    never (omega (arith, c.0, t.edges_due)) (omega (arith, c.1, t.corners_due))
+pub corner_not_due : (k new : KeptShell) (rs : List ℕ) → ¬ CornerDue k.due → Takes k new (corner rs) false
+corner_not_due k new rs never version s lines t f = never (subst CornerDue (sym t.due) (corner_line s (stand_from_latest version s lines) rs f).0)
 
-pub point_takes : (k : KeptShell) (face place v n : ℕ) → k.edges_due ≡ 0 → 0 < k.corners_due → n ≡ k.corners_due - 1
-    → ((at : Stand) → at.last_vertex ≡ k.last_vertex → FitsPoint k.rows at face place × (vertex_of k.rows (point face place) ≡ Some v)) → Takes k (with_vertex k v n) (point face place) true
-point_takes k face place v n none due less fit version s lines t =
-    let at : Stand = stand_behind version s lines in
+pub point_takes : (k : KeptShell) (face place v : ℕ) → CornerDue k.due
+    → ((at : Stand) → at.last_vertex ≡ k.last_vertex → FitsPoint k.rows at face place × (vertex_of k.rows (point face place) ≡ Some v)) → Takes k (with_vertex k v) (point face place) true
+point_takes k face place v due fit version s lines t =
+    let at : Stand = stand_from_latest version s lines in
     let f = fit at (sym t.last_vertex) in
     let stand = point_stand version s lines face place v (subst (λ d. vertex_of d (point face place) ≡ Some v) t.rows f.1) in (
-      ((omega (arith, none, t.edges_due), omega (arith, due, t.corners_due)), subst (λ d. FitsPoint d at face place) t.rows f.0),
-      subst (λ x. TellsShell s x (with_vertex k v n)) (sym stand) (vertex_told s at k v n t less),
+      (subst CornerDue t.due due, subst (λ d. FitsPoint d at face place) t.rows f.0),
+      subst (λ x. MatchesShell s x (with_vertex k v)) (sym stand) (vertex_told s at k v t),
     )
 
+pub point_not_due : (k new : KeptShell) (face place : ℕ) → ¬ CornerDue k.due → Takes k new (point face place) false
+point_not_due k new face place never version s lines t f = never (subst CornerDue (sym t.due) f.0)
+
 pub point_unfit : (k new : KeptShell) (face place : ℕ) → ((at : Stand) → at.last_vertex ≡ k.last_vertex → FitsPoint k.rows at face place → ⊥) → Takes k new (point face place) false
-point_unfit k new face place never version s lines t f = let at : Stand = stand_behind version s lines in never at (sym t.last_vertex) (subst (λ d. FitsPoint d at face place) (sym t.rows) f.1)
+point_unfit k new face place never version s lines t f = let at : Stand = stand_from_latest version s lines in never at (sym t.last_vertex) (subst (λ d. FitsPoint d at face place) (sym t.rows) f.1)
 
 -- Reach lines.
 
-abbrev pub with_face : KeptShell → ℕ → ℕ → KeptShell
-with_face k f n = record k { reached = slice_set k.reached f true; reach_due = n }
+abbrev pub with_face : KeptShell → ℕ → KeptShell
+with_face k f = record k { reached = slice_set k.reached f true; due = without_reach k.due }
 
-pub reach_takes : (k : KeptShell) (r f n : ℕ) → f < length k.reached → k.edges_due ≡ 0 → k.corners_due ≡ 0 → 0 < k.reach_due → n ≡ k.reach_due - 1
-    → ((at : Stand) → HoldsMates k.mates at.mates → HoldsFaces k.reached at.reached → FitsReach k.rows at r × (face_of k.rows (reach r) ≡ Some f)) → Takes k (with_face k f n) (reach r) true
-reach_takes k r f n within no_edges no_corners due less fit version s lines t =
-    let at : Stand = stand_behind version s lines in
+pub reach_takes : (k : KeptShell) (r f : ℕ) → f < length k.reached → ReachDue k.due
+    → ((at : Stand) → HoldsMates k.mates at.mates → HoldsFaces k.reached at.reached → FitsReach k.rows at r × (face_of k.rows (reach r) ≡ Some f)) → Takes k (with_face k f) (reach r) true
+reach_takes k r f within due fit version s lines t =
+    let at : Stand = stand_from_latest version s lines in
     let g = fit at t.mates t.reached in
     let stand = reach_stand version s lines r f (subst (λ d. face_of d (reach r) ≡ Some f) t.rows g.1) in
     let held : HoldsFaces (slice_set k.reached f true) (0 ∷ f ∷ others_reached s lines) = faces_more k.reached 0 f (others_reached s lines) within (subst (HoldsFaces k.reached) (reached_is version s lines) t.reached) in (
-      ((omega (arith, no_edges, t.edges_due), omega (arith, no_corners, t.corners_due), omega (arith, due, t.reach_due)), subst (λ d. FitsReach d at r) t.rows g.0),
-      subst (λ x. TellsShell s x (with_face k f n)) (sym stand) (record {
+      (subst ReachDue t.due due, subst (λ d. FitsReach d at r) t.rows g.0),
+      subst (λ x. MatchesShell s x (with_face k f)) (sym stand) (record {
         begun = t.begun;
         rows = t.rows;
         loops = t.loops;
-        edges_due = t.edges_due;
-        corners_due = t.corners_due;
-        reach_due = less ∙ ap (λ x. x - 1) t.reach_due;
-        tally_due = t.tally_due;
+        due = ap without_reach t.due;
         last_edge = t.last_edge;
         last_vertex = t.last_vertex;
         mates = t.mates;
@@ -202,13 +198,16 @@ reach_takes k r f n within no_edges no_corners due less fit version s lines t =
       }),
     )
 
+pub reach_not_due : (k new : KeptShell) (r : ℕ) → ¬ ReachDue k.due → Takes k new (reach r) false
+reach_not_due k new r never version s lines t f = never (subst ReachDue (sym t.due) f.0)
+
 pub reach_unfit : (k new : KeptShell) (r : ℕ) → ((at : Stand) → HoldsMates k.mates at.mates → HoldsFaces k.reached at.reached → FitsReach k.rows at r → ⊥) → Takes k new (reach r) false
-reach_unfit k new r never version s lines t f = let at : Stand = stand_behind version s lines in never at t.mates t.reached (subst (λ d. FitsReach d at r) (sym t.rows) f.1)
+reach_unfit k new r never version s lines t f = let at : Stand = stand_from_latest version s lines in never at t.mates t.reached (subst (λ d. FitsReach d at r) (sym t.rows) f.1)
 
 -- TALLY lines.
 
-abbrev pub with_tally : KeptShell → ℕ → KeptShell
-with_tally k n = record k { tally_due = n }
+abbrev pub with_tally : KeptShell → KeptShell
+with_tally k = record k { due = without_tally k.due }
 
 tally_is : (s : SolidData) (k : ℕ) (d : ShellRows) (loops : ℕ) (t : Tally) → d ≡ rows_of_shell s k → loops ≡ loops_of_shell s k → IsTally d loops t → FitsTally s k t
 tally_is s k d loops t is_d is_loops h = record {
@@ -226,19 +225,16 @@ is_tally s k d loops t is_d is_loops h = record {
   loops_counted = h.loops_counted ∙ sym is_loops;
 }
 
-pub tally_takes : (k : KeptShell) (w : Tally) (n : ℕ) → k.edges_due ≡ 0 → k.corners_due ≡ 0 → k.reach_due ≡ 0 → 0 < k.tally_due → n ≡ k.tally_due - 1 → IsTally k.rows k.loops w → Takes k (with_tally k n) (tally w) true
-tally_takes k w n no_edges no_corners no_reach due less counts version s lines t =
-    let at : Stand = stand_behind version s lines in
+pub tally_takes : (k : KeptShell) (w : Tally) → TallyDue k.due → IsTally k.rows k.loops w → Takes k (with_tally k) (tally w) true
+tally_takes k w due counts version s lines t =
+    let at : Stand = stand_from_latest version s lines in
     let stand = tally_stand version s lines w in (
-      ((omega (arith, no_edges, t.edges_due), omega (arith, no_corners, t.corners_due), omega (arith, no_reach, t.reach_due), omega (arith, due, t.tally_due)), tally_is s at.shell k.rows k.loops w t.rows t.loops counts),
-      subst (λ x. TellsShell s x (with_tally k n)) (sym stand) (record {
+      (subst TallyDue t.due due, tally_is s at.shell k.rows k.loops w t.rows t.loops counts),
+      subst (λ x. MatchesShell s x (with_tally k)) (sym stand) (record {
         begun = t.begun;
         rows = t.rows;
         loops = t.loops;
-        edges_due = t.edges_due;
-        corners_due = t.corners_due;
-        reach_due = t.reach_due;
-        tally_due = less ∙ ap (λ x. x - 1) t.tally_due;
+        due = ap without_tally t.due;
         last_edge = t.last_edge;
         last_vertex = t.last_vertex;
         mates = t.mates;
@@ -247,7 +243,7 @@ tally_takes k w n no_edges no_corners no_reach due less counts version s lines t
     )
 
 pub tally_unfit : (k new : KeptShell) (w : Tally) → (IsTally k.rows k.loops w → ⊥) → Takes k new (tally w) false
-tally_unfit k new w never version s lines t f = never (is_tally s (stand_behind version s lines).shell k.rows k.loops w t.rows t.loops f.1)
+tally_unfit k new w never version s lines t f = never (is_tally s (stand_from_latest version s lines).shell k.rows k.loops w t.rows t.loops f.1)
 
-pub tally_not_due : (k new : KeptShell) (w : Tally) → (k.edges_due ≡ 0 → k.corners_due ≡ 0 → k.reach_due ≡ 0 → 0 < k.tally_due → ⊥) → Takes k new (tally w) false
-tally_not_due k new w never version s lines t f = never (omega (arith, f.0.0, t.edges_due)) (omega (arith, f.0.1, t.corners_due)) (omega (arith, f.0.2, t.reach_due)) (omega (arith, f.0.3, t.tally_due))
+pub tally_not_due : (k new : KeptShell) (w : Tally) → ¬ TallyDue k.due → Takes k new (tally w) false
+tally_not_due k new w never version s lines t f = never (subst TallyDue (sym t.due) f.0)

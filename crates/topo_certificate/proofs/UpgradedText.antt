@@ -5,8 +5,8 @@ use Rattle.std.proofs.lemmas.Bool.{eq-eqb, eqb-true}
 use Rattle.std.proofs.lemmas.Grind.{flat_map-append}
 use Rattle.solid_data.specs.SolidData.{SolidData}
 use Rattle.solid_data.specs.declared.solid.Shell.{Shell}
-use Rattle.cert_lines.specs.Line.{head, spelling, tally, cut_lines}
-use Rattle.cert_lines.specs.declared.version.Version.TheVariants.{Two}
+use Rattle.cert_lines.specs.Line.{head, words, spelling, tally, cut_lines}
+use Rattle.cert_lines.specs.declared.version.Version.TheVariants.{One, Two}
 use Rattle.topo_certificate.specs.Upgraded.{starts_with, tally_of_shell, tally_lines_of, tally_before, with_tallies, joined, upgraded_from, upgraded}
 
 pub starts_so : (word rest : List ℕ) → starts_with word (word ++ rest) ≡ true
@@ -84,13 +84,13 @@ pub kept_empty : (s : SolidData) (text : List ℕ) → text ≡ [] → text ≡ 
 unfolding upgraded
 kept_empty s text e = e ∙ ap (λ t. upgraded_from s t (cut_lines t)) (sym e)
 
-pub kept_other : (s : SolidData) (text first : List ℕ) (lines : List (List ℕ)) → cut_lines text ≡ first ∷ lines → starts_with (codes "IGESCERT 1") first ≡ false → text ≡ upgraded s text
+pub kept_other : (s : SolidData) (text first : List ℕ) (lines : List (List ℕ)) → cut_lines text ≡ first ∷ lines → starts_with (words (head One)) first ≡ false → text ≡ upgraded s text
 unfolding upgraded
 kept_other s text first lines cut no_ =
     sym (ap (λ b. if b then joined (spelling (head Two) ∷ with_tallies s 0 lines) else text) no_) ∙ ap (upgraded_from s text) (sym cut)
 
 -- one of version 1, with another head and TALLY lines
-pub upgraded_one : (s : SolidData) (text first : List ℕ) (lines : List (List ℕ)) (o1 o2 : List ℕ) → cut_lines text ≡ first ∷ lines → starts_with (codes "IGESCERT 1") first ≡ true → o1 ≡ spelling (head Two) → o2 ≡ o1 ++ joined (with_tallies s 0 lines) → o2 ≡ upgraded s text
+pub upgraded_one : (s : SolidData) (text first : List ℕ) (lines : List (List ℕ)) (o1 o2 : List ℕ) → cut_lines text ≡ first ∷ lines → starts_with (words (head One)) first ≡ true → o1 ≡ spelling (head Two) → o2 ≡ o1 ++ joined (with_tallies s 0 lines) → o2 ≡ upgraded s text
 unfolding upgraded
 upgraded_one s text first lines o1 o2 cut yes_ h1 h2 =
     h2 ∙ (ap (λ o. o ++ joined (with_tallies s 0 lines)) h1 ∙ (sym (ap (λ b. if b then joined (spelling (head Two) ∷ with_tallies s 0 lines) else text) yes_) ∙ ap (upgraded_from s text) (sym cut)))

@@ -7,11 +7,13 @@ use Rattle.std.proofs.Common.{refl, sym, ◌∙◌, ap, subst, arith}
 use Rattle.solid_data.specs.SolidData.{SolidData}
 use Rattle.solid_data.specs.declared.solid.Shell.{Shell}
 use Rattle.edge_uses.specs.ShellRows.{ShellRows, rows_of}
-use Rattle.cert_lines.specs.Line.{CertLine, ShellCounts, Tally, head, solid, shell, edge, corner, point, reach, tally, end, spelling, IsLine, line_limit}
+use Rattle.cert_lines.specs.Line.{CertLine, head, solid, shell, edge, corner, point, reach, tally, end, spelling, IsLine, line_limit}
+use Rattle.cert_lines.specs.declared.counts.ShellCounts.{ShellCounts}
+use Rattle.cert_lines.specs.declared.counts.Tally.{Tally}
 use Rattle.cert_lines.specs.declared.version.Version.TheVariants.{One, Two}
-use Rattle.topo_certificate.specs.Stand.{Stand, first_of, edge_of, vertex_of, face_of, mates_of, IsAbove, IsMate, TurnsTo, CornerDue, ReachDue, stand_behind, is_shell, is_last, is_tally, is_edge, is_corner_or_point, is_reach, number_of, since_shell, asked, loops_of, rows_of_shell, FitsLine, FitsTally, FitsShell, FitsEdge, FitsCorner, FitsPoint, FitsReach, NoneDue}
+use Rattle.topo_certificate.specs.Stand.{Stand, first_of, edge_of, vertex_of, face_of, mates_of, IsAbove, IsMate, TurnsTo, CornerDue, ReachDue, stand_from_latest, is_shell, is_last, is_tally, is_edge, is_corner_or_point, is_reach, number_of, since_shell, asked, loops_of, rows_of_shell, FitsLine, FitsTally, FitsShell, FitsEdge, FitsCorner, FitsPoint, FitsReach, NoneDue}
 use Rattle.topo_certificate.specs.Legal.{IsLegal}
-use Rattle.topo_certificate.specs.Behind.{IsLegalBehind}
+use Rattle.topo_certificate.specs.After.{IsLegalAfter}
 use Rattle.topo_certificate.specs.Upgraded.{tally_of_shell, tally_lines_of, tally_before, with_tallies}
 use Rattle.topo_certificate.proofs.Forward.{legal_forward, legal_behind}
 use Rattle.topo_certificate.proofs.Short.{IsReadable}
@@ -96,8 +98,8 @@ abbrev reached_in : ShellRows → List CertLine → List ℕ
 reached_in d ls = 0 ∷ filter_map (face_of d) ls
 
 -- the stand of version 2, as one of version 1 would be read
-same_stand : (s : SolidData) (before new : List CertLine) → Alike before new → SameStand (stand_behind One s before) (stand_behind Two s new)
-unfolding stand_behind
+same_stand : (s : SolidData) (before new : List CertLine) → Alike before new → SameStand (stand_from_latest One s before) (stand_from_latest Two s new)
+unfolding stand_from_latest
 same_stand s before new h = record {
   ended = h.ended;
   shell = h.shells;
@@ -111,8 +113,8 @@ same_stand s before new h = record {
 }
 
 -- no TALLY line fits in version 1
-no_tally : (s : SolidData) (before : List CertLine) → (stand_behind One s before).due.tally ≡ 0
-unfolding stand_behind
+no_tally : (s : SolidData) (before : List CertLine) → (stand_from_latest One s before).due.tally ≡ 0
+unfolding stand_from_latest
 no_tally s before = let h : (asked One (find is_shell before)).tally ≡ 0 = asked_tally (find is_shell before) in omega (arith, h)
 
 -- What fits the one stand fits the other.
@@ -168,8 +170,8 @@ tally_there s k h at = record {
 }
 
 -- nothing is due before the first shell
-none_at_first : (s : SolidData) (new : List CertLine) → number_of is_shell new ≡ 0 → NoneDue (stand_behind Two s new).due
-unfolding stand_behind
+none_at_first : (s : SolidData) (new : List CertLine) → number_of is_shell new ≡ 0 → NoneDue (stand_from_latest Two s new).due
+unfolding stand_from_latest
 none_at_first s new none =
     let e = no_shell_found new none in
     record {
@@ -181,8 +183,8 @@ none_at_first s new none =
 
 -- where nothing but a TALLY line is due of a shell, it fits, and nothing is due after it
 tally_next : (s : SolidData) (before new : List CertLine) (k : ℕ) (h : Shell) → Alike before new → number_of is_shell before ≡ suc k → number_of is_tally (since_shell new) ≡ 0 → slice_get s.shells k ≡ Some h
-    → (stand_behind One s before).ended ≡ false → NoneDue (stand_behind One s before).due → FitsLine s (stand_behind Two s new) (tally (tally_of_shell s h))
-unfolding stand_behind
+    → (stand_from_latest One s before).ended ≡ false → NoneDue (stand_from_latest One s before).due → FitsLine s (stand_from_latest Two s new) (tally (tally_of_shell s h))
+unfolding stand_from_latest
 tally_next s before new k h alike number no_tallies at going none =
     let same = same_stand s before new alike in
     let found = found_shell new k (alike.shells ∙ number) in
@@ -191,9 +193,9 @@ tally_next s before new k h alike number no_tallies at going none =
       ((same.edges ∙ none.edges, same.corners ∙ none.corners, same.reach ∙ none.reach, omega (arith, due)), subst (λ n. FitsTally s n (tally_of_shell s h)) (sym (alike.shells ∙ number)) (tally_there s k h at)),
     )
 
-none_behind_tally : (s : SolidData) (before new : List CertLine) (k : ℕ) (t : Tally) → Alike before new → number_of is_shell before ≡ suc k → number_of is_tally (since_shell new) ≡ 0 → NoneDue (stand_behind One s before).due
-    → NoneDue (stand_behind Two s (tally t ∷ new)).due
-unfolding stand_behind
+none_behind_tally : (s : SolidData) (before new : List CertLine) (k : ℕ) (t : Tally) → Alike before new → number_of is_shell before ≡ suc k → number_of is_tally (since_shell new) ≡ 0 → NoneDue (stand_from_latest One s before).due
+    → NoneDue (stand_from_latest Two s (tally t ∷ new)).due
+unfolding stand_from_latest
 none_behind_tally s before new k t alike number no_tallies none =
     let same = same_stand s before new alike in
     let found = found_shell new k (alike.shells ∙ number) in
@@ -201,23 +203,23 @@ none_behind_tally s before new k t alike number no_tallies none =
     record { edges = same.edges ∙ none.edges; corners = same.corners ∙ none.corners; reach = same.reach ∙ none.reach; tally = left }
 
 -- a line that begins a shell, or ends the certificate, after what ended the shell before
-ended_kept : (s : SolidData) (t : Tally) (ls : List CertLine) → ((stand_behind Two s (tally t ∷ ls)).ended ≡ (stand_behind Two s ls).ended) × ((stand_behind Two s (tally t ∷ ls)).shell ≡ (stand_behind Two s ls).shell)
-unfolding stand_behind
+ended_kept : (s : SolidData) (t : Tally) (ls : List CertLine) → ((stand_from_latest Two s (tally t ∷ ls)).ended ≡ (stand_from_latest Two s ls).ended) × ((stand_from_latest Two s (tally t ∷ ls)).shell ≡ (stand_from_latest Two s ls).shell)
+unfolding stand_from_latest
 ended_kept s t ls = (refl, refl)
 
 shell_fits : (s : SolidData) (a b : Stand) (k : ℕ) (c : ShellCounts) → b.shell ≡ a.shell → FitsShell s a k c → FitsShell s b k c
 shell_fits s a b k c e f = record { next = omega (arith, f.next, e); there = f.there; rows_counted = f.rows_counted; edges_counted = f.edges_counted; corners_counted = f.corners_counted; faces_counted = f.faces_counted; two_rows_each = f.two_rows_each }
 
-going_on : (s : SolidData) (before : List CertLine) → (stand_behind One s (end ∷ before)).ended ≡ false → ⊥
-unfolding stand_behind
+going_on : (s : SolidData) (before : List CertLine) → (stand_from_latest One s (end ∷ before)).ended ≡ false → ⊥
+unfolding stand_from_latest
 going_on s before h = cc
 
-shells_told : (s : SolidData) (ls : List CertLine) → (stand_behind One s ls).shell ≡ number_of is_shell ls
-unfolding stand_behind
+shells_told : (s : SolidData) (ls : List CertLine) → (stand_from_latest One s ls).shell ≡ number_of is_shell ls
+unfolding stand_from_latest
 shells_told s ls = refl
 
-end_there : (s : SolidData) (ls : List CertLine) → (stand_behind Two s (end ∷ ls)).ended ≡ true
-unfolding stand_behind
+end_there : (s : SolidData) (ls : List CertLine) → (stand_from_latest Two s (end ∷ ls)).ended ≡ true
+unfolding stand_from_latest
 end_there s ls = refl
 
 -- each TALLY line that is put is spelled, and not long
@@ -230,13 +232,13 @@ module _ (s : SolidData) (read : TalliesRead s) where
 
   -- a shell begins
   shell_step : (before new : List CertLine) (n k : ℕ) (c : ShellCounts) (lines : List (List ℕ)) → Alike before new → number_of is_shell before ≡ n → number_of is_tally (since_shell new) ≡ 0 → IsReadable s (shell k c)
-      → FitsLine s (stand_behind One s before) (shell k c) → ((new' : List CertLine) → Alike (shell k c ∷ before) new' → number_of is_tally (since_shell new') ≡ 0 → IsLegalBehind Two s new' lines)
-      → IsLegalBehind Two s new (tally_before s n ++ spelling (shell k c) ∷ lines)
+      → FitsLine s (stand_from_latest One s before) (shell k c) → ((new' : List CertLine) → Alike (shell k c ∷ before) new' → number_of is_tally (since_shell new') ≡ 0 → IsLegalAfter Two s new' lines)
+      → IsLegalAfter Two s new (tally_before s n ++ spelling (shell k c) ∷ lines)
   shell_step before new zero k c lines alike number no_tallies is fits on =
       let same = same_stand s before new alike in (
         shell k c,
         is,
-        (same.ended ∙ fits.0, (none_at_first s new (alike.shells ∙ number), shell_fits s (stand_behind One s before) (stand_behind Two s new) k c same.shell fits.1.1)),
+        (same.ended ∙ fits.0, (none_at_first s new (alike.shells ∙ number), shell_fits s (stand_from_latest One s before) (stand_from_latest Two s new) k c same.shell fits.1.1)),
         on (shell k c ∷ new) (record { ended = alike.ended; shells = ap suc alike.shells; asks = refl; since = refl }) refl,
       )
   shell_step before new (suc n) k c lines alike number no_tallies is fits on =
@@ -245,21 +247,21 @@ module _ (s : SolidData) (read : TalliesRead s) where
       let t : Tally = tally_of_shell s at.0 in
       let same = same_stand s before new alike in
       let kept = ended_kept s t new in
-      subst (λ o. IsLegalBehind Two s new (tally_lines_of s o ++ spelling (shell k c) ∷ lines)) (sym at.1) (
+      subst (λ o. IsLegalAfter Two s new (tally_lines_of s o ++ spelling (shell k c) ∷ lines)) (sym at.1) (
         tally t,
         one_tally n at.0 at.1,
         tally_next s before new n at.0 alike number no_tallies at.1 fits.0 fits.1.0,
         (
           shell k c,
           is,
-          (kept.0 ∙ (same.ended ∙ fits.0), (none_behind_tally s before new n t alike number no_tallies fits.1.0, shell_fits s (stand_behind One s before) (stand_behind Two s (tally t ∷ new)) k c (kept.1 ∙ same.shell) fits.1.1)),
+          (kept.0 ∙ (same.ended ∙ fits.0), (none_behind_tally s before new n t alike number no_tallies fits.1.0, shell_fits s (stand_from_latest One s before) (stand_from_latest Two s (tally t ∷ new)) k c (kept.1 ∙ same.shell) fits.1.1)),
           on (shell k c ∷ tally t ∷ new) (record { ended = alike.ended; shells = ap suc alike.shells; asks = refl; since = refl }) refl,
         ),
       )
 
   -- END comes
-  end_step : (before new : List CertLine) (n : ℕ) → Alike before new → number_of is_shell before ≡ n → number_of is_tally (since_shell new) ≡ 0 → FitsLine s (stand_behind One s before) end
-      → IsReadable s end → IsLegalBehind Two s new (tally_before s n ++ spelling end ∷ [])
+  end_step : (before new : List CertLine) (n : ℕ) → Alike before new → number_of is_shell before ≡ n → number_of is_tally (since_shell new) ≡ 0 → FitsLine s (stand_from_latest One s before) end
+      → IsReadable s end → IsLegalAfter Two s new (tally_before s n ++ spelling end ∷ [])
   end_step before new zero alike number no_tallies fits is =
       let same = same_stand s before new alike in
       (end, is, (same.ended ∙ fits.0, (none_at_first s new (alike.shells ∙ number), same.shell ∙ fits.1.1)), end_there s new)
@@ -269,31 +271,31 @@ module _ (s : SolidData) (read : TalliesRead s) where
       let t : Tally = tally_of_shell s at.0 in
       let same = same_stand s before new alike in
       let kept = ended_kept s t new in
-      subst (λ o. IsLegalBehind Two s new (tally_lines_of s o ++ spelling end ∷ [])) (sym at.1) (
+      subst (λ o. IsLegalAfter Two s new (tally_lines_of s o ++ spelling end ∷ [])) (sym at.1) (
         tally t,
         one_tally n at.0 at.1,
         tally_next s before new n at.0 alike number no_tallies at.1 fits.0 fits.1.0,
         (end, is, (kept.0 ∙ (same.ended ∙ fits.0), (none_behind_tally s before new n t alike number no_tallies fits.1.0, kept.1 ∙ (same.shell ∙ fits.1.1))), end_there s (tally t ∷ new)),
       )
 
-  upgrade_behind : (before new : List CertLine) (n : ℕ) (lines : List (List ℕ)) → Alike before new → number_of is_shell before ≡ n → number_of is_tally (since_shell new) ≡ 0 → IsLegalBehind One s before lines → IsLegalBehind Two s new (with_tallies s n lines)
+  upgrade_behind : (before new : List CertLine) (n : ℕ) (lines : List (List ℕ)) → Alike before new → number_of is_shell before ≡ n → number_of is_tally (since_shell new) ≡ 0 → IsLegalAfter One s before lines → IsLegalAfter Two s new (with_tallies s n lines)
   upgrade_behind before new n [] alike number no_tallies legal = ended_too alike legal
     where
-      ended_too : Alike before new → (stand_behind One s before).ended ≡ true → (stand_behind Two s new).ended ≡ true
+      ended_too : Alike before new → (stand_from_latest One s before).ended ≡ true → (stand_from_latest Two s new).ended ≡ true
       ended_too a h = (same_stand s before new a).ended ∙ h
   upgrade_behind before new n (bytes ∷ lines) alike number no_tallies (l, is_l, fits, more) =
-      subst (λ b. IsLegalBehind Two s new (with_tallies s n (b ∷ lines))) (sym is_l.1.1) (by_line l (subst (λ b. IsLine (line_limit s) b l) is_l.1.1 is_l) fits more (λ new' m a b c d. upgrade_behind (l ∷ before) new' m lines a b c d))
+      subst (λ b. IsLegalAfter Two s new (with_tallies s n (b ∷ lines))) (sym is_l.1.1) (by_line l (subst (λ b. IsLine (line_limit s) b l) is_l.1.1 is_l) fits more (λ new' m a b c d. upgrade_behind (l ∷ before) new' m lines a b c d))
     where
-      same : SameStand (stand_behind One s before) (stand_behind Two s new)
+      same : SameStand (stand_from_latest One s before) (stand_from_latest Two s new)
       same = same_stand s before new alike
 
-      here : rows_of_shell s (stand_behind One s before).shell ≡ rows_of_shell s (stand_behind Two s new).shell
+      here : rows_of_shell s (stand_from_latest One s before).shell ≡ rows_of_shell s (stand_from_latest Two s new).shell
       here = ap (rows_of_shell s) (sym same.shell)
 
       Later : CertLine → Type 0
-      Later l = (new' : List CertLine) (m : ℕ) → Alike (l ∷ before) new' → number_of is_shell (l ∷ before) ≡ m → number_of is_tally (since_shell new') ≡ 0 → IsLegalBehind One s (l ∷ before) lines → IsLegalBehind Two s new' (with_tallies s m lines)
+      Later l = (new' : List CertLine) (m : ℕ) → Alike (l ∷ before) new' → number_of is_shell (l ∷ before) ≡ m → number_of is_tally (since_shell new') ≡ 0 → IsLegalAfter One s (l ∷ before) lines → IsLegalAfter Two s new' (with_tallies s m lines)
 
-      by_line : (l : CertLine) → IsReadable s l → FitsLine s (stand_behind One s before) l → IsLegalBehind One s (l ∷ before) lines → Later l → IsLegalBehind Two s new (with_tallies s n (spelling l ∷ lines))
+      by_line : (l : CertLine) → IsReadable s l → FitsLine s (stand_from_latest One s before) l → IsLegalAfter One s (l ∷ before) lines → Later l → IsLegalAfter Two s new (with_tallies s n (spelling l ∷ lines))
       by_line (head v) is fits more later = absurd fits.1
       by_line (solid m) is fits more later = absurd fits.1
       by_line (shell k c) is fits more later =
@@ -301,33 +303,33 @@ module _ (s : SolidData) (read : TalliesRead s) where
           (λ new' a t. let m : number_of is_shell (shell k c ∷ before) ≡ n + 1 = omega (arith, number) in later new' (n + 1) a m t more)
       by_line (edge a b) is fits more later =
           let next : Alike (edge a b ∷ before) (edge a b ∷ new) = record { ended = alike.ended; shells = alike.shells; asks = alike.asks; since = ap (λ ls. edge a b ∷ ls) alike.since } in
-          (edge a b, is, (same.ended ∙ fits.0, (subst (λ x. 0 < x) (sym same.edges) fits.1.0, subst (λ d. FitsEdge d (stand_behind Two s new) a b) here (fits_edge _ (stand_behind One s before) (stand_behind Two s new) a b same fits.1.1))), later (edge a b ∷ new) n next number no_tallies more)
+          (edge a b, is, (same.ended ∙ fits.0, (subst (λ x. 0 < x) (sym same.edges) fits.1.0, subst (λ d. FitsEdge d (stand_from_latest Two s new) a b) here (fits_edge _ (stand_from_latest One s before) (stand_from_latest Two s new) a b same fits.1.1))), later (edge a b ∷ new) n next number no_tallies more)
       by_line (corner []) is fits more later = absurd fits.1
       by_line (corner (r ∷ rs)) is fits more later =
           let next : Alike (corner (r ∷ rs) ∷ before) (corner (r ∷ rs) ∷ new) = record { ended = alike.ended; shells = alike.shells; asks = alike.asks; since = ap (λ ls. corner (r ∷ rs) ∷ ls) alike.since } in (
             corner (r ∷ rs),
             is,
-            (same.ended ∙ fits.0, (corner_due (stand_behind One s before) (stand_behind Two s new) same fits.1.0, subst (λ d. FitsCorner d (stand_behind Two s new) r rs) here (fits_corner _ (stand_behind One s before) (stand_behind Two s new) r rs same fits.1.1))),
+            (same.ended ∙ fits.0, (corner_due (stand_from_latest One s before) (stand_from_latest Two s new) same fits.1.0, subst (λ d. FitsCorner d (stand_from_latest Two s new) r rs) here (fits_corner _ (stand_from_latest One s before) (stand_from_latest Two s new) r rs same fits.1.1))),
             later (corner (r ∷ rs) ∷ new) n next number no_tallies more,
           )
       by_line (point a b) is fits more later =
           let next : Alike (point a b ∷ before) (point a b ∷ new) = record { ended = alike.ended; shells = alike.shells; asks = alike.asks; since = ap (λ ls. point a b ∷ ls) alike.since } in (
             point a b,
             is,
-            (same.ended ∙ fits.0, (corner_due (stand_behind One s before) (stand_behind Two s new) same fits.1.0, subst (λ d. FitsPoint d (stand_behind Two s new) a b) here (fits_point _ (stand_behind One s before) (stand_behind Two s new) a b same fits.1.1))),
+            (same.ended ∙ fits.0, (corner_due (stand_from_latest One s before) (stand_from_latest Two s new) same fits.1.0, subst (λ d. FitsPoint d (stand_from_latest Two s new) a b) here (fits_point _ (stand_from_latest One s before) (stand_from_latest Two s new) a b same fits.1.1))),
             later (point a b ∷ new) n next number no_tallies more,
           )
       by_line (reach r) is fits more later =
           let next : Alike (reach r ∷ before) (reach r ∷ new) = record { ended = alike.ended; shells = alike.shells; asks = alike.asks; since = ap (λ ls. reach r ∷ ls) alike.since } in (
             reach r,
             is,
-            (same.ended ∙ fits.0, (reach_due (stand_behind One s before) (stand_behind Two s new) same fits.1.0, subst (λ d. FitsReach d (stand_behind Two s new) r) here (fits_reach _ (stand_behind One s before) (stand_behind Two s new) r same fits.1.1))),
+            (same.ended ∙ fits.0, (reach_due (stand_from_latest One s before) (stand_from_latest Two s new) same fits.1.0, subst (λ d. FitsReach d (stand_from_latest Two s new) r) here (fits_reach _ (stand_from_latest One s before) (stand_from_latest Two s new) r same fits.1.1))),
             later (reach r ∷ new) n next number no_tallies more,
           )
       by_line (tally t) is fits more later = absurd (omega (arith, fits.1.0.3, no_tally s before))
       by_line end is fits more later = last lines more
         where
-          last : (ls : List (List ℕ)) → IsLegalBehind One s (end ∷ before) ls → IsLegalBehind Two s new (with_tallies s n (spelling end ∷ ls))
+          last : (ls : List (List ℕ)) → IsLegalAfter One s (end ∷ before) ls → IsLegalAfter Two s new (with_tallies s n (spelling end ∷ ls))
           last [] h = end_step before new n alike number no_tallies fits is
           last (b ∷ ls) (m, is_m, fits_m, more_m) = absurd (going_on s before fits_m.0)
 

@@ -8,9 +8,9 @@ use Rattle.cert_lines.specs.declared.version.Version.{Version}
 use Rattle.cert_lines.specs.declared.fault.Illegal.{Illegal}
 use Rattle.topo_certificate.specs.Stand.{Stand, FitsLine}
 use Rattle.topo_certificate.specs.Legal.{AreFitting, HasFirstBad, FitsPart}
-use Rattle.topo_certificate.specs.Told.{Kept, IsAt}
+use Rattle.topo_certificate.specs.Matching.{Kept, IsAt}
 
--- what it keeps: what it says of whole lines, the bytes of an unfinished line, and the fault that was found
+-- what it keeps: what it knows from whole lines, the bytes of an unfinished line, and the fault that was found
 pub record FedKept : Type 0 where
   pub checker : Kept
   pub kept : List ℕ

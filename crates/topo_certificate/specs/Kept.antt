@@ -4,8 +4,10 @@ use Rattle.solid_data.specs.declared.solid.LoopAt.{LoopAt}
 use Rattle.edge_uses.specs.declared.row.Row.{Row}
 use Rattle.edge_uses.specs.ShellRows.{ShellRows}
 use Rattle.edge_uses.specs.Closed.{point_count}
-use Rattle.cert_lines.specs.Line.{ShellCounts, Tally}
+use Rattle.cert_lines.specs.declared.counts.ShellCounts.{ShellCounts}
+use Rattle.cert_lines.specs.declared.counts.Tally.{Tally}
 use Rattle.cert_lines.specs.declared.version.Version.{Version}
+use Rattle.topo_certificate.specs.declared.due.Due.{Due}
 use Rattle.topo_certificate.specs.Stand.{IsMate, row_named, start_count, tallies}
 
 -- 0 stands for none
@@ -18,11 +20,11 @@ abbrev pub mate_in : List ℕ → ℕ → Option ℕ
 mate_in mates zero = None
 mate_in mates (suc r) = above_zero (slice_get mates r)
 
--- the array has the mates of these pairs
+-- the array gives each row of these pairs the other as its mate, and no row another
 abbrev pub HoldsMates : List ℕ → List (ℕ × ℕ) → Type 0
 HoldsMates mates pairs = (r m : ℕ) → IsMate pairs r m ↔ (mate_in mates r ≡ Some m)
 
--- the array has these faces
+-- the array is true at these faces and at no other
 abbrev pub HoldsFaces : List Bool → List ℕ → Type 0
 HoldsFaces reached faces = (f : ℕ) → Contains faces f ↔ (slice_get reached f ≡ Some true)
 
@@ -53,11 +55,11 @@ is_alone d v = (start_count d v == 0) && (point_count d v == 1)
 abbrev pub Precedes : LoopAt → LoopAt → Type 0
 Precedes p q = (p.face.0 ≤ q.face.0) × (p.face.0 ≡ q.face.0 → p.place < q.place)
 
--- each comes before all after it
+-- each stands before all that follow it
 abbrev pub InFileOrder : List (LoopAt × ℕ) → Type 0
 InFileOrder points = (i j : ℕ) (p q : LoopAt × ℕ) → i < j → slice_get points i ≡ Some p → slice_get points j ≡ Some q → Precedes p.0 q.0
 
--- Of a shell: its rows; how many loops it has; how many rows a corner line has that starts with a row; which loops without an edge are alone at their vertex; the mate of each row; which faces are reached; how many lines of each kind are due; the last edge and the last vertex.
+-- Of a shell: its rows; how many loops it has; how many rows a corner line has that starts with a row; which loops without an edge are alone at their vertex; the mate of each row; which faces are reached; the lines that are due; the last edge and the last vertex.
 pub record KeptShell : Type 0 where
   pub rows : ShellRows
   pub loops : ℕ
@@ -65,15 +67,17 @@ pub record KeptShell : Type 0 where
   pub alone : List Bool
   pub mates : List ℕ
   pub reached : List Bool
-  pub edges_due : ℕ
-  pub corners_due : ℕ
-  pub reach_due : ℕ
-  pub tally_due : ℕ
+  pub due : Due
   pub last_edge : Option ℕ
   pub last_vertex : Option ℕ
 
-abbrev pub dues : KeptShell → ℕ
-dues k = k.edges_due + k.corners_due + k.reach_due + k.tally_due
+-- how many lines are due, of whatever kind
+abbrev pub lines_due : Due → ℕ
+lines_due due = due.edges + due.corners + due.reach + due.tally
+
+-- all lines of a shell with these rows
+abbrev pub all_due : Version → ShellRows → Due
+all_due v d = record { edges = length d.edges; corners = length d.vertices; reach = d.face_count - 1; tally = tallies v }
 
 -- what is kept of a shell whatever the lines are
 pub record IsKept (k : KeptShell) : Type 0 where
@@ -82,7 +86,7 @@ pub record IsKept (k : KeptShell) : Type 0 where
   pub in_order : InFileOrder k.rows.points
   pub each_row : length k.mates ≡ length k.rows.rows
   pub each_face : length k.reached ≡ k.rows.face_count
-  pub few : dues k < 2 ^ 34
+  pub few : lines_due k.due < 2 ^ 34
   -- a row that has a mate has no greater edge than the last one
   pub passed : (r m : ℕ) → mate_in k.mates r ≡ Some m → (row : Row) × (row_named k.rows r ≡ Some row) × IsSomeAnd k.last_edge (λ e. row.edge.0 ≤ e)
 
@@ -90,10 +94,7 @@ pub record IsKept (k : KeptShell) : Type 0 where
 pub record IsFresh (v : Version) (d : ShellRows) (loop_count : ℕ) (k : KeptShell) : Type 0 where
   pub rows : k.rows ≡ d
   pub loops : k.loops ≡ loop_count
-  pub edges_due : k.edges_due ≡ length d.edges
-  pub corners_due : k.corners_due ≡ length d.vertices
-  pub reach_due : k.reach_due ≡ d.face_count - 1
-  pub tally_due : k.tally_due ≡ tallies v
+  pub due : k.due ≡ all_due v d
   pub last_edge : k.last_edge ≡ None
   pub last_vertex : k.last_vertex ≡ None
   pub mates : HoldsMates k.mates []

@@ -1,10 +1,10 @@
 pub mod Stand
 pub mod Legal
-pub mod Behind
+pub mod After
 pub mod Kept
 pub mod Upgraded
 pub mod Upgrades
-pub mod Told
+pub mod Matching
 pub mod Part
 pub mod Room
 pub mod Ring

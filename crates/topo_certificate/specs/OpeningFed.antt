@@ -52,12 +52,12 @@ IsStep new text piece step.More = IsWaiting new.stage × IsOpening new (text ++ 
 IsStep new text piece (step.Solid v number used) = (new.stage ≡ stage.Done v number) × (used ≤ length piece) × IsOpening new (text ++ take used piece)
 
 -- how far it has come after a line
-abbrev pub StageBehind : Stage → List ℕ → Stage → Type 0
-StageBehind stage.First line (stage.Second v) = IsLine first_limit line (head v)
-StageBehind stage.First line (stage.Failed bad) = IsWrong IsHead 1 line bad
-StageBehind (stage.Second v) line (stage.Done w number) = (w ≡ v) × IsLine first_limit line (solid number.0)
-StageBehind (stage.Second v) line (stage.Failed bad) = IsWrong IsSolid 2 line bad
-StageBehind _ line new = ⊥
+abbrev pub StageAfter : Stage → List ℕ → Stage → Type 0
+StageAfter stage.First line (stage.Second v) = IsLine first_limit line (head v)
+StageAfter stage.First line (stage.Failed bad) = IsWrong IsHead 1 line bad
+StageAfter (stage.Second v) line (stage.Done w number) = (w ≡ v) × IsLine first_limit line (solid number.0)
+StageAfter (stage.Second v) line (stage.Failed bad) = IsWrong IsSolid 2 line bad
+StageAfter _ line new = ⊥
 
 -- Once both lines have come, or one was bad, the answer is the same and nothing changes.
 abbrev pub Stays : Opened → Opened → Result OpeningStep Illegal → Type 0

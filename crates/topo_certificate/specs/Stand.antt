@@ -1,4 +1,4 @@
--- How far a certificate of a version has come after some of its lines, and which line fits there. The lines are those after the head and the line of the solid.
+-- Where a certificate stands after some of its lines, and which line fits there. The lines are those after the head and the line of the solid.
 use Rattle.std.specs.Prelude.{◌≡◌, ℕ, zero, suc, ◌+◌, ◌-◌, ◌*◌, ◌<◌, ◌==◌, ◌&&◌, ◌⊎◌, Bool, true, false, List, [], ◌∷◌, length, reverse, sum_by, filter_map, find, filter, count_by, Contains, Option, Some, None, slice_get, option_map, IfSome, if◌then◌else◌}
 use Rattle.std.specs.List.{AllByRecursion, AllZip, list_any}
 use Rattle.solid_data.specs.Ring.{next_of_each}
@@ -9,9 +9,14 @@ use Rattle.solid_data.specs.declared.solid.LoopAt.{LoopAt}
 use Rattle.edge_uses.specs.declared.row.Row.{Row}
 use Rattle.edge_uses.specs.ShellRows.{ShellRows, rows_of}
 use Rattle.edge_uses.specs.Closed.{Follows, point_count}
-use Rattle.cert_lines.specs.Line.{CertLine, ShellCounts, Tally, head, solid, shell, edge, corner, point, reach, tally, end}
+use Rattle.cert_lines.specs.Line.{CertLine, head, solid, shell, edge, corner, point, reach, tally, end}
+use Rattle.cert_lines.specs.declared.counts.ShellCounts.{ShellCounts}
+use Rattle.cert_lines.specs.declared.counts.Tally.{Tally}
 use Rattle.cert_lines.specs.declared.version.Version.{Version}
+use Rattle.topo_certificate.specs.declared.due.Due.{Due}
 use Rattle.cert_lines.specs.declared.version.Version.TheVariants.{One, Two, Three}
+
+-- ---- the kinds of lines
 
 abbrev pub is_shell : CertLine → Bool
 is_shell (shell k counts) = true
@@ -47,12 +52,7 @@ abbrev pub since_shell : List CertLine → List CertLine
 since_shell [] = []
 since_shell (line ∷ lines) = if is_shell line then [] else line ∷ since_shell lines
 
--- how many lines of each kind are due; corner and point lines are one kind
-pub record Due : Type 0 where
-  pub edges : ℕ
-  pub corners : ℕ
-  pub reach : ℕ
-  pub tally : ℕ
+-- ---- the lines that are due
 
 -- how many TALLY lines end a shell
 abbrev pub tallies : Version → ℕ
@@ -60,12 +60,12 @@ tallies One = 0
 tallies Two = 1
 tallies Three = 1
 
--- what a SHELL line asks for
+-- the lines that the last SHELL line asks for, or none where none has come
 abbrev pub asked : Version → Option CertLine → Due
 asked v (Some (shell k counts)) = record { edges = counts.edges; corners = counts.corners; reach = counts.faces - 1; tally = tallies v }
 asked v _ = record { edges = 0; corners = 0; reach = 0; tally = 0 }
 
--- what a SHELL line asks for, less what these lines after it are
+-- what is left of them after these lines
 abbrev pub left_due : Due → List CertLine → Due
 left_due a lines = record {
   edges = a.edges - number_of is_edge lines;
@@ -74,15 +74,38 @@ left_due a lines = record {
   tally = a.tally - number_of is_tally lines;
 }
 
--- rows, faces and loops are numbered from 1 in a line
+-- no line is due
+pub record NoneDue (due : Due) : Type 0 where
+  pub edges : due.edges ≡ 0
+  pub corners : due.corners ≡ 0
+  pub reach : due.reach ≡ 0
+  pub tally : due.tally ≡ 0
+
+-- The lines of a shell come kind by kind: a line of a kind is due only where none of the kinds before it is.
+abbrev pub EdgeDue : Due → Type 0
+EdgeDue due = 0 < due.edges
+
+abbrev pub CornerDue : Due → Type 0
+CornerDue due = (due.edges ≡ 0) × (0 < due.corners)
+
+abbrev pub ReachDue : Due → Type 0
+ReachDue due = (due.edges ≡ 0) × (due.corners ≡ 0) × (0 < due.reach)
+
+abbrev pub TallyDue : Due → Type 0
+TallyDue due = (due.edges ≡ 0) × (due.corners ≡ 0) × (due.reach ≡ 0) × (0 < due.tally)
+
+-- ---- what a line names of a shell with these rows: in a line rows, faces and loops are numbered from 1
+
 abbrev pub row_named : ShellRows → ℕ → Option Row
 row_named d zero = None
 row_named d (suc r) = slice_get d.rows r
 
+-- the second of the rows so named follows the first
 abbrev pub FollowsAsNamed : ShellRows → ℕ → ℕ → Type 0
 FollowsAsNamed d (suc r) (suc s) = Follows d r s
 FollowsAsNamed d _ _ = ⊥
 
+-- the loop without an edge that is so named, and its vertex
 abbrev pub point_named : ShellRows → ℕ → ℕ → Option (LoopAt × ℕ)
 point_named d face l = find (λ (p : LoopAt × ℕ). (p.0.face.0 + 1 == face) && (p.0.place + 1 == l)) d.points
 
@@ -95,10 +118,12 @@ row_start row = option_map (λ (r : Row). r.from.0) row
 abbrev pub row_face : Option Row → Option ℕ
 row_face row = option_map (λ (r : Row). r.at.face.0) row
 
+-- the two rows that an edge line names
 abbrev pub mates_of : CertLine → Option (ℕ × ℕ)
 mates_of (edge a b) = Some (a, b)
 mates_of _ = None
 
+-- the edge that an edge line is about, the vertex that a corner or point line is about, and the face that a reach line reaches
 abbrev pub edge_of : ShellRows → CertLine → Option ℕ
 edge_of d (edge a b) = row_edge (row_named d a)
 edge_of d _ = None
@@ -111,19 +136,6 @@ vertex_of d _ = None
 abbrev pub face_of : ShellRows → CertLine → Option ℕ
 face_of d (reach r) = row_face (row_named d r)
 face_of d _ = None
-
--- whether END came, the number of the shell, what is still due of it, the mates, the last edge, the last vertex, and the faces reached
-pub record Stand : Type 0 where
-  pub ended : Bool
-  pub shell : ℕ
-  pub due : Due
-  pub mates : List (ℕ × ℕ)
-  pub last_edge : Option ℕ
-  pub last_vertex : Option ℕ
-  pub reached : List ℕ
-
-abbrev pub first_of : List ℕ → Option ℕ
-first_of ns = slice_get ns 0
 
 -- the rows of the shell with this number, from 1
 abbrev pub rows_of_shell : SolidData → ℕ → ShellRows
@@ -142,9 +154,30 @@ abbrev pub loops_of_shell : SolidData → ℕ → ℕ
 loops_of_shell s zero = 0
 loops_of_shell s (suc k) = loops_of (slice_get s.shells k)
 
--- Each part is read off all lines so far, which are given the latest first: so the first one found is the last in the certificate.
-unfoldable pub stand_behind : Version → SolidData → List CertLine → Stand
-stand_behind v s lines = record {
+-- ---- the stand
+
+pub record Stand : Type 0 where
+  -- whether END has come
+  pub ended : Bool
+  -- how many shells have begun, the last of which is the shell at hand
+  pub shell : ℕ
+  -- the lines of this shell that are still due
+  pub due : Due
+  -- the pairs of its rows that edge lines have named
+  pub mates : List (ℕ × ℕ)
+  -- the edge of its last edge line
+  pub last_edge : Option ℕ
+  -- the vertex of its last corner or point line
+  pub last_vertex : Option ℕ
+  -- its faces that are reached, from 0: the first, and those of its reach lines
+  pub reached : List ℕ
+
+abbrev pub first_of : List ℕ → Option ℕ
+first_of ns = slice_get ns 0
+
+-- The stand after lines that are given the latest first. Each part is read off all of them: the first one found is the last in the certificate.
+unfoldable pub stand_from_latest : Version → SolidData → List CertLine → Stand
+stand_from_latest v s lines = record {
   ended = list_any is_last lines;
   shell = number_of is_shell lines;
   due = left_due (asked v (find is_shell lines)) (since_shell lines);
@@ -154,14 +187,17 @@ stand_behind v s lines = record {
   reached = 0 ∷ filter_map (face_of (current_rows s lines)) (since_shell lines);
 }
 
--- the stand after these lines
+-- the stand after these lines, in the order of the certificate
 abbrev pub stand_after : Version → SolidData → List CertLine → Stand
-stand_after v s lines = stand_behind v s (reverse lines)
+stand_after v s lines = stand_from_latest v s (reverse lines)
+
+-- ---- which line fits
 
 -- above the last one, if there is one
 abbrev pub IsAbove : Option ℕ → ℕ → Type 0
 IsAbove last n = IfSome last (λ m. m < n)
 
+-- an edge line has named the two rows
 abbrev pub IsMate : List (ℕ × ℕ) → ℕ → ℕ → Type 0
 IsMate mates r m = Contains mates (r, m) ⊎ Contains mates (m, r)
 
@@ -169,10 +205,11 @@ IsMate mates r m = Contains mates (r, m) ⊎ Contains mates (m, r)
 abbrev pub TurnsTo : ShellRows → List (ℕ × ℕ) → ℕ → ℕ → Type 0
 TurnsTo d mates r s = (m : ℕ) × IsMate mates r m × FollowsAsNamed d m s
 
+-- how many rows start at a vertex
 abbrev pub start_count : ShellRows → ℕ → ℕ
 start_count d v = count_by (λ (r : Row). r.from.0 == v) d.rows
 
--- the next shell begins: nothing is due of the one before, and the counts are those of the shell
+-- the number is that of the next shell, and the counts are those of its rows
 pub record FitsShell (s : SolidData) (at : Stand) (k : ℕ) (counts : ShellCounts) : Type 0 where
   pub next : k ≡ at.shell + 1
   pub there : k < length s.shells + 1
@@ -222,36 +259,19 @@ pub record FitsReach (d : ShellRows) (at : Stand) (r : ℕ) : Type 0 where
   pub new : ¬ Contains at.reached face
   pub old : Contains at.reached known
 
--- the counts of the shell
+-- the counts are those of the shell with this number
 pub record FitsTally (s : SolidData) (k : ℕ) (t : Tally) : Type 0 where
   pub vertices_counted : t.vertices ≡ length (rows_of_shell s k).vertices
   pub edges_counted : t.edges ≡ length (rows_of_shell s k).edges
   pub faces_counted : t.faces ≡ (rows_of_shell s k).face_count
   pub loops_counted : t.loops ≡ loops_of_shell s k
 
--- Nothing is due of the shell.
-pub record NoneDue (due : Due) : Type 0 where
-  pub edges : due.edges ≡ 0
-  pub corners : due.corners ≡ 0
-  pub reach : due.reach ≡ 0
-  pub tally : due.tally ≡ 0
-
--- The lines of a shell come kind by kind: a line of a kind is due where none of a kind before it is.
-abbrev pub CornerDue : Due → Type 0
-CornerDue due = (due.edges ≡ 0) × (0 < due.corners)
-
-abbrev pub ReachDue : Due → Type 0
-ReachDue due = (due.edges ≡ 0) × (due.corners ≡ 0) × (0 < due.reach)
-
-abbrev pub TallyDue : Due → Type 0
-TallyDue due = (due.edges ≡ 0) × (due.corners ≡ 0) × (due.reach ≡ 0) × (0 < due.tally)
-
--- The line fits the stand, where END has not come.
+-- The line is of a kind that is due, and fits, where END has not come.
 abbrev pub FitsOpen : SolidData → Stand → CertLine → Type 0
 FitsOpen s at (head v) = ⊥
 FitsOpen s at (solid n) = ⊥
 FitsOpen s at (shell k counts) = NoneDue at.due × FitsShell s at k counts
-FitsOpen s at (edge a b) = (0 < at.due.edges) × FitsEdge (rows_of_shell s at.shell) at a b
+FitsOpen s at (edge a b) = EdgeDue at.due × FitsEdge (rows_of_shell s at.shell) at a b
 FitsOpen s at (corner []) = ⊥
 FitsOpen s at (corner (r ∷ rs)) = CornerDue at.due × FitsCorner (rows_of_shell s at.shell) at r rs
 FitsOpen s at (point face l) = CornerDue at.due × FitsPoint (rows_of_shell s at.shell) at face l
@@ -259,5 +279,6 @@ FitsOpen s at (reach r) = ReachDue at.due × FitsReach (rows_of_shell s at.shell
 FitsOpen s at (tally t) = TallyDue at.due × FitsTally s at.shell t
 FitsOpen s at end = NoneDue at.due × (at.shell ≡ length s.shells)
 
+-- The line fits after the lines so far.
 abbrev pub FitsLine : SolidData → Stand → CertLine → Type 0
 FitsLine s at line = (at.ended ≡ false) × FitsOpen s at line

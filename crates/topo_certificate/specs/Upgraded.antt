@@ -3,8 +3,9 @@ use Rattle.std.specs.Prelude.{ℕ, zero, suc, ◌+◌, ◌==◌, ◌&&◌, Bool,
 use Rattle.solid_data.specs.SolidData.{SolidData}
 use Rattle.solid_data.specs.declared.solid.Shell.{Shell}
 use Rattle.edge_uses.specs.ShellRows.{shell_rows}
-use Rattle.cert_lines.specs.Line.{Tally, head, tally, spelling, cut_lines}
-use Rattle.cert_lines.specs.declared.version.Version.TheVariants.{Two}
+use Rattle.cert_lines.specs.Line.{head, tally, words, spelling, cut_lines}
+use Rattle.cert_lines.specs.declared.counts.Tally.{Tally}
+use Rattle.cert_lines.specs.declared.version.Version.TheVariants.{One, Two}
 use Rattle.topo_certificate.specs.Stand.{loops_of}
 
 -- the bytes begin with the word
@@ -13,7 +14,7 @@ starts_with [] bytes = true
 starts_with (w ∷ word) [] = false
 starts_with (w ∷ word) (b ∷ bytes) = (w == b) && starts_with word bytes
 
--- what the TALLY line of a shell says
+-- the counts in the TALLY line of a shell
 abbrev pub tally_of_shell : SolidData → Shell → Tally
 tally_of_shell s h = record { vertices = length (shell_rows s h).vertices; edges = length (shell_rows s h).edges; faces = (shell_rows s h).face_count; loops = loops_of (Some h) }
 
@@ -38,7 +39,7 @@ joined lines = flat_map (λ (line : List ℕ). line) lines
 
 abbrev pub upgraded_from : SolidData → List ℕ → List (List ℕ) → List ℕ
 upgraded_from s certificate [] = certificate
-upgraded_from s certificate (first ∷ lines) = if starts_with (codes "IGESCERT 1") first then joined (spelling (head Two) ∷ with_tallies s 0 lines) else certificate
+upgraded_from s certificate (first ∷ lines) = if starts_with (words (head One)) first then joined (spelling (head Two) ∷ with_tallies s 0 lines) else certificate
 
 -- A certificate of version 1 with the head of version 2 and with TALLY lines; any other as it is.
 unfoldable pub upgraded : SolidData → List ℕ → List ℕ

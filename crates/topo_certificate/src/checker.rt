@@ -12,7 +12,7 @@ ghost use Rattle.cert_lines.specs.declared.version.Version.TheVariants.{Two};
 ghost use Rattle.cert_lines.specs.declared.fault.Illegal.TheVariants.{Missing};
 ghost use Rattle.topo_certificate.specs.Stand.{stand_after, FitsLine};
 ghost use Rattle.topo_certificate.specs.Legal.{IsLegal, IsFirstBad, IsPartBad, IsBadLine};
-ghost use Rattle.topo_certificate.specs.Told.{IsOfSame};
+ghost use Rattle.topo_certificate.specs.Matching.{IsOfSame};
 
 use crate::line_checker::{LineChecker, PartLine};
 use crate::uses::limit_of;

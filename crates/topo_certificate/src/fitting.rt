@@ -3,10 +3,9 @@
 ghost use Rattle.std.specs.Prelude.{◌≡◌, ◌↔◌, ℕ, ◌+◌, ◌-◌, ◌<◌, ◌≤◌, List, IsTrue, IfSome, MatchOption, Some, true, length, slice_get};
 ghost use Rattle.cert_lines.specs.Line.{edge, reach};
 ghost use Rattle.topo_certificate.specs.Stand.{Stand, row_named, edge_of, face_of, IsAbove, TurnsTo, FitsEdge, FitsReach};
-ghost use Rattle.cert_lines.specs.Said.{counts_said, tally_said};
 ghost use Rattle.topo_certificate.specs.Kept.{mate_in, HoldsMates, HoldsFaces, AreCounts, IsTally};
 
-use cert_lines::{ShellWords, TallyWords, from_one};
+use cert_lines::{ShellCounts, Tally, from_one};
 use edge_uses::{Row, Rows};
 use solid_data::{EdgeId, FaceAt, RowId};
 
@@ -52,24 +51,24 @@ pub fn fitting_edge(rows: &Rows, last: Option<u32>, along: u32, against: u32) ->
 }
 
 /// Whether these are the counts of a shell.
-pub(crate) fn fits_counts(rows: &Rows, words: &ShellWords) -> bool
-    ensures { IsTrue result ↔ AreCounts rows.now (counts_said words.now) }
+pub(crate) fn fits_counts(rows: &Rows, counts: &ShellCounts) -> bool
+    ensures { IsTrue result ↔ AreCounts rows.now counts.now }
 {
-    words.rows as usize == rows.len()
-        && words.edges as usize == rows.edge_count()
-        && words.corners as usize == rows.vertex_count()
-        && words.faces as usize == rows.face_count()
-        && 2 * u64::from(words.edges) == u64::from(words.rows)
+    counts.rows as usize == rows.len()
+        && counts.edges as usize == rows.edge_count()
+        && counts.corners as usize == rows.vertex_count()
+        && counts.faces as usize == rows.face_count()
+        && 2 * u64::from(counts.edges) == u64::from(counts.rows)
 }
 
 /// Whether these are the counts of a shell with so many loops.
-pub(crate) fn fits_tally(rows: &Rows, loops: u64, words: &TallyWords) -> bool
-    ensures { IsTrue result ↔ IsTally rows.now loops (tally_said words.now) }
+pub(crate) fn fits_tally(rows: &Rows, loops: u64, counts: &Tally) -> bool
+    ensures { IsTrue result ↔ IsTally rows.now loops counts.now }
 {
-    words.vertices as usize == rows.vertex_count()
-        && words.edges as usize == rows.edge_count()
-        && words.faces as usize == rows.face_count()
-        && u64::from(words.loops) == loops
+    counts.vertices as usize == rows.vertex_count()
+        && counts.edges as usize == rows.edge_count()
+        && counts.faces as usize == rows.face_count()
+        && u64::from(counts.loops) == loops
 }
 
 /// The mate of a row, both from 1.

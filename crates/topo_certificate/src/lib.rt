@@ -3,6 +3,7 @@
 
 mod checker;
 mod corners;
+mod due;
 mod fitting;
 mod law;
 mod line_checker;
@@ -23,6 +24,7 @@ pub use cert_lines::{
 };
 pub use checker::{Checker, PartStep};
 pub use corners::{fitting_corner, fitting_point};
+pub use due::Due;
 pub use fitting::{fitting_edge, fitting_face, is_above, named_row, turn_of};
 pub use law::{legal_or_first_bad, one_bad_in_part};
 pub use opening::{Opening, OpeningStep};

@@ -2,7 +2,7 @@
 
 use crate::shell_state::ShellState;
 use crate::uses::{limit_of, loop_count};
-use cert_lines::{Illegal, Judged, ShellWords, Version, Words, judge};
+use cert_lines::{Illegal, Judged, ShellCounts, Version, Words, judge};
 use edge_uses::rows;
 use iges_base::{EntryNo, NoMemory};
 use solid_data::{ShellAt, Solid};
@@ -34,7 +34,7 @@ pub(crate) struct LineChecker<'a> {
 }
 
 impl<'a> Model for LineChecker<'a> {
-    ghost use Rattle.topo_certificate.specs.Told.{Kept};
+    ghost use Rattle.topo_certificate.specs.Matching.{Kept};
 
     ghost Value = { Kept };
 
@@ -51,7 +51,7 @@ ghost use Rattle.cert_lines.specs.Line.{CertLine, IsLine, solid as solid_named};
 ghost use Rattle.cert_lines.specs.Said.{Means};
 ghost use Rattle.topo_certificate.specs.Stand.{rows_of_shell, loops_of_shell};
 ghost use Rattle.topo_certificate.specs.Kept.{IsFresh};
-ghost use Rattle.topo_certificate.specs.Told.{AreWaiting};
+ghost use Rattle.topo_certificate.specs.Matching.{AreWaiting};
 
 // The directory number on a SOLID line; None for any other line.
 fn solid_in(words: Words<'_>) -> Option<u32>
@@ -62,7 +62,7 @@ fn solid_in(words: Words<'_>) -> Option<u32>
     match words {
         Words::Solid(number) => Some(number),
         Words::Head(_)
-        | Words::Shell(_)
+        | Words::Shell(..)
         | Words::Edge(..)
         | Words::Corner(_)
         | Words::Point(..)
@@ -88,13 +88,13 @@ fn corner_text(line: &[u8]) -> Option<&[u8]>
     ensures { MatchOption result ((text : List ℕ) → line.now ≢ 67 ∷ text ++ 10 ∷ [])
         (λ text. line.now ≡ 67 ∷ text.now ++ 10 ∷ []) }
 {
-    let Some((letter, behind)) = line.split_first() else {
+    let Some((letter, rest)) = line.split_first() else {
         return None;
     };
     if *letter != b'C' {
         return None;
     }
-    match behind.split_last() {
+    match rest.split_last() {
         Some((last, text)) if *last == b'\n' => Some(text),
         _ => None,
     }
@@ -142,11 +142,11 @@ impl<'a> LineChecker<'a> {
     ghost use Rattle.std.specs.Prelude.{◌≡◌, ◌↔◌, ◌+◌, ℕ, ◌<◌, ◌≤◌, ◌^◌, List, [], ◌∷◌, length, IsTrue, IfOk, IfSome, MatchOption, MatchResult, Err, Some, true, false};
     ghost use Rattle.std.specs.Bool.{MatchBool};
     ghost use Rattle.cert_lines.specs.Line.{CertLine, HasSpelling, IsLine, line_limit, solid, shell, end};
-    ghost use Rattle.cert_lines.specs.Said.{Means, IsRowLine, counts_said};
-    ghost use Rattle.topo_certificate.specs.Stand.{stand_behind, FitsLine};
+    ghost use Rattle.cert_lines.specs.Said.{Means, IsRowLine};
+    ghost use Rattle.topo_certificate.specs.Stand.{stand_from_latest, FitsLine};
     ghost use Rattle.topo_certificate.specs.Legal.{IsBadLine, BeginsNext, FitsPart};
     ghost use Rattle.topo_certificate.specs.Part.{IsPartLine};
-    ghost use Rattle.topo_certificate.specs.Told.{IsAt, IsOfSame};
+    ghost use Rattle.topo_certificate.specs.Matching.{IsAt, IsOfSame};
     ghost use Rattle.topo_certificate.specs.Room.{dues_of, TakesLine};
     ghost use Rattle.cert_lines.specs.declared.fault.Illegal.TheVariants.{Missing as IsMissing};
 
@@ -198,24 +198,23 @@ impl<'a> LineChecker<'a> {
     }
 
     // Whether a SHELL line fits; where it does, its shell is the one at hand.
-    fn take_shell(&mut self, words: &ShellWords) -> bool
+    fn take_shell(&mut self, number: u32, counts: &ShellCounts) -> bool
         requires { self.old.ended ≡ false }
-        ensures line { TakesLine self.old self.new
-            (shell words.now.shell (counts_said words.now)) result }
+        ensures line { TakesLine self.old self.new (shell number counts.now) result }
         ensures same { IsOfSame self.old self.new }
         ensures number { result ≡ false → self.new.number ≡ self.old.number }
     {
-        if !self.is_done() || words.shell != self.shell + 1 {
+        if !self.is_done() || number != self.shell + 1 {
             return false;
         }
         let Some(next) = self.waiting.pop() else {
             return false;
         };
-        if !next.has_counts(words) {
+        if !next.has_counts(counts) {
             return false;
         }
         self.current = Some(next);
-        self.shell = words.shell;
+        self.shell = number;
         self.number += 1;
         true
     }
@@ -265,7 +264,7 @@ impl<'a> LineChecker<'a> {
         }
         match words {
             Words::Head(_) | Words::Solid(_) => false,
-            Words::Shell(counts) => self.take_shell(&counts),
+            Words::Shell(number, counts) => self.take_shell(number, &counts),
             Words::End => self.take_end(),
             Words::Edge(..)
             | Words::Corner(_)
@@ -285,7 +284,7 @@ impl<'a> LineChecker<'a> {
     /// Takes a corner line where one fits, in one pass over its bytes; any other line is left.
     fn take_corner_line(&mut self, line: &[u8]) -> bool
         ensures line { (first : ℕ) (lines : List CertLine) → IsAt first self.old lines → IsTrue result →
-            (l : CertLine) × IsLine (line_limit self.old.solid) line.now l × FitsLine self.old.solid (stand_behind self.old.version self.old.solid lines) l × IsAt first self.new (l ∷ lines) }
+            (l : CertLine) × IsLine (line_limit self.old.solid) line.now l × FitsLine self.old.solid (stand_from_latest self.old.version self.old.solid lines) l × IsAt first self.new (l ∷ lines) }
         ensures same { IsOfSame self.old self.new }
         ensures refused { result ≡ false → self.new ≡ self.old }
     {
@@ -308,8 +307,8 @@ impl<'a> LineChecker<'a> {
     /// Judges a line as `line` does, where no fault was found.
     fn judge_line(&mut self, line: &[u8]) -> Result<(), Illegal>
         ensures line { (first : ℕ) (lines : List CertLine) → IsAt first self.old lines → MatchResult result
-            (λ _. (l : CertLine) × IsLine (line_limit self.old.solid) line.now l × FitsLine self.old.solid (stand_behind self.old.version self.old.solid lines) l × IsAt first self.new (l ∷ lines))
-            (λ bad. IsBadLine self.old.solid (FitsLine self.old.solid (stand_behind self.old.version self.old.solid lines)) (first + length lines) line.now bad × (self.new.failed ≡ Some bad)) }
+            (λ _. (l : CertLine) × IsLine (line_limit self.old.solid) line.now l × FitsLine self.old.solid (stand_from_latest self.old.version self.old.solid lines) l × IsAt first self.new (l ∷ lines))
+            (λ bad. IsBadLine self.old.solid (FitsLine self.old.solid (stand_from_latest self.old.version self.old.solid lines)) (first + length lines) line.now bad × (self.new.failed ≡ Some bad)) }
         ensures same { IsOfSame self.old self.new }
     {
         match judge(line, self.limit) {
@@ -329,8 +328,8 @@ impl<'a> LineChecker<'a> {
     /// that is misspelt or unfit.
     pub(crate) fn line(&mut self, line: &[u8]) -> Result<(), Illegal>
         ensures line { (first : ℕ) (lines : List CertLine) → IsAt first self.old lines → MatchResult result
-            (λ _. (l : CertLine) × IsLine (line_limit self.old.solid) line.now l × FitsLine self.old.solid (stand_behind self.old.version self.old.solid lines) l × IsAt first self.new (l ∷ lines))
-            (λ bad. IsBadLine self.old.solid (FitsLine self.old.solid (stand_behind self.old.version self.old.solid lines)) (first + length lines) line.now bad × (self.new.failed ≡ Some bad)) }
+            (λ _. (l : CertLine) × IsLine (line_limit self.old.solid) line.now l × FitsLine self.old.solid (stand_from_latest self.old.version self.old.solid lines) l × IsAt first self.new (l ∷ lines))
+            (λ bad. IsBadLine self.old.solid (FitsLine self.old.solid (stand_from_latest self.old.version self.old.solid lines)) (first + length lines) line.now bad × (self.new.failed ≡ Some bad)) }
         ensures stays { IfSome self.old.failed (λ bad. (result ≡ Err bad) × (self.new ≡ self.old)) }
         ensures same { IsOfSame self.old self.new }
     {
@@ -347,7 +346,7 @@ impl<'a> LineChecker<'a> {
     /// Whether END may come now.
     fn may_end(&self) -> bool
         ensures { (first : ℕ) (lines : List CertLine) → IsAt first self.now lines → IsTrue result
-            ↔ FitsLine self.now.solid (stand_behind self.now.version self.now.solid lines) end }
+            ↔ FitsLine self.now.solid (stand_from_latest self.now.version self.now.solid lines) end }
     {
         !self.ended && self.is_done() && self.waiting.is_empty()
     }
@@ -355,8 +354,8 @@ impl<'a> LineChecker<'a> {
     /// The solid that a line names which begins the next part of a book.
     fn next_part(&self, line: &[u8]) -> Option<EntryNo>
         ensures { (first : ℕ) (lines : List CertLine) → IsAt first self.now lines → MatchOption result
-            ((n : ℕ) → IsLine (line_limit self.now.solid) line.now (solid n) → ¬ BeginsNext self.now.solid (stand_behind self.now.version self.now.solid lines) n)
-            (λ no. IsLine (line_limit self.now.solid) line.now (solid no.0) × BeginsNext self.now.solid (stand_behind self.now.version self.now.solid lines) no.0) }
+            ((n : ℕ) → IsLine (line_limit self.now.solid) line.now (solid n) → ¬ BeginsNext self.now.solid (stand_from_latest self.now.version self.now.solid lines) n)
+            (λ no. IsLine (line_limit self.now.solid) line.now (solid no.0) × BeginsNext self.now.solid (stand_from_latest self.now.version self.now.solid lines) no.0) }
     {
         // Nearly every line stops here, and so is judged once.
         if !self.may_end() {
@@ -377,7 +376,7 @@ impl<'a> LineChecker<'a> {
     pub(crate) fn line_of_part(&mut self, line: &[u8]) -> Result<PartLine, Illegal>
         ensures line { (first : ℕ) (lines : List CertLine) → IsAt first self.old lines → MatchResult result
             (IsPartLine self.old self.new first lines line.now)
-            (λ bad. IsBadLine self.old.solid (FitsPart self.old.solid (stand_behind self.old.version self.old.solid lines)) (first + length lines) line.now bad × (self.new.failed ≡ Some bad)) }
+            (λ bad. IsBadLine self.old.solid (FitsPart self.old.solid (stand_from_latest self.old.version self.old.solid lines)) (first + length lines) line.now bad × (self.new.failed ≡ Some bad)) }
         ensures stays { IfSome self.old.failed (λ bad. (result ≡ Err bad) × (self.new ≡ self.old)) }
         ensures same { IsOfSame self.old self.new }
     {
@@ -397,8 +396,8 @@ impl<'a> LineChecker<'a> {
     /// Whether END was the last line. Where it wasn't, the line after the last one is missing.
     pub(crate) fn finish(&mut self) -> Result<(), Illegal>
         ensures ended { (first : ℕ) (lines : List CertLine) → IsAt first self.old lines → MatchResult result
-            (λ _. (stand_behind self.old.version self.old.solid lines).ended ≡ true)
-            (λ bad. ((stand_behind self.old.version self.old.solid lines).ended ≡ false) × (bad ≡ IsMissing (first + length lines))) }
+            (λ _. (stand_from_latest self.old.version self.old.solid lines).ended ≡ true)
+            (λ bad. ((stand_from_latest self.old.version self.old.solid lines).ended ≡ false) × (bad ≡ IsMissing (first + length lines))) }
         ensures stays_ok { IfOk result (λ _. self.new ≡ self.old) }
         ensures stays { IfSome self.old.failed (λ bad. (result ≡ Err bad) × (self.new ≡ self.old)) }
         ensures same { IsOfSame self.old self.new }

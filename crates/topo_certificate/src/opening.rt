@@ -8,7 +8,7 @@ ghost use Rattle.cert_lines.specs.Misfits.{illegal_at};
 ghost use Rattle.cert_lines.specs.Opening.{Opens, IsBadOpening};
 ghost use Rattle.cert_lines.specs.declared.version.Version.{Version as Edition};
 ghost use Rattle.cert_lines.specs.declared.fault.Illegal.TheVariants.{Missing, Misspelt};
-ghost use Rattle.topo_certificate.specs.OpeningFed.{HasCome, IsOpening, IsStep, IsWaiting, StageBehind, Stays, StaysAtEnd};
+ghost use Rattle.topo_certificate.specs.OpeningFed.{HasCome, IsOpening, IsStep, IsWaiting, StageAfter, Stays, StaysAtEnd};
 
 use crate::line_start::LineStart;
 use cert_lines::{Illegal, Misfit, Version, first_ended, head_line, solid_line};
@@ -71,9 +71,9 @@ fn at_line(misfit: Misfit, line: u64) -> Illegal
 }
 
 // How far the opening has come after a line.
-fn behind(stage: Stage, line: &[u8]) -> Stage
+fn stage_after(stage: Stage, line: &[u8]) -> Stage
     requires { IsWaiting stage }
-    ensures { StageBehind stage line.now result }
+    ensures { StageAfter stage line.now result }
 {
     match stage {
         Stage::First => match head_line(line) {
@@ -108,12 +108,12 @@ impl Opening {
             → IsOpening self.old text → IsOpening self.new (text ++ line.now) }
     {
         if self.start.len() == 0 {
-            self.stage = behind(self.stage, line);
+            self.stage = stage_after(self.stage, line);
             return;
         }
         self.start.keep(&line[..line.len() - 1]);
         self.start.push(b'\n');
-        self.stage = behind(self.stage, self.start.as_slice());
+        self.stage = stage_after(self.stage, self.start.as_slice());
         self.start.clear();
     }
 

@@ -1,9 +1,10 @@
 //! How far the lines of a shell have come.
 
 use crate::corners::{fitting_point, read_corner};
+use crate::due::Due;
 use crate::fitting::{fits_counts, fits_tally, fitting_edge, fitting_face};
 use crate::tallies::sizes_of;
-use cert_lines::{ShellWords, TallyWords, Version, Words};
+use cert_lines::{ShellCounts, Tally, Version, Words};
 use edge_uses::Rows;
 use iges_base::NoMemory;
 use std::alloc::Global;
@@ -24,14 +25,7 @@ pub(crate) struct ShellState {
     mates: Vec<u32>,
     /// For each face whether it is reached.
     reached: Vec<bool>,
-    /// How many edge lines are due.
-    edges_due: u32,
-    /// How many corner and point lines are due.
-    corners_due: u32,
-    /// How many reach lines are due.
-    reach_due: u32,
-    /// How many TALLY lines are due.
-    tally_due: u32,
+    due: Due,
     /// The edge of the last edge line, from 0; None before the first.
     last_edge: Option<u32>,
     /// The vertex of the last corner or point line, from 0; None before the first.
@@ -43,13 +37,12 @@ impl Model for ShellState {
 
     ghost Value = { KeptShell };
 
-    ghost view = { λ k. record { rows = k.rows; loops = k.loops; sizes = k.sizes.items; alone = k.alone.items; mates = k.mates.items; reached = k.reached.items; edges_due = k.edges_due; corners_due = k.corners_due; reach_due = k.reach_due; tally_due = k.tally_due; last_edge = k.last_edge; last_vertex = k.last_vertex } };
+    ghost view = { λ k. record { rows = k.rows; loops = k.loops; sizes = k.sizes.items; alone = k.alone.items; mates = k.mates.items; reached = k.reached.items; due = k.due; last_edge = k.last_edge; last_vertex = k.last_vertex } };
 
-    ghost invariant = { λ k. IsKept (record { rows = k.rows; loops = k.loops; sizes = k.sizes.items; alone = k.alone.items; mates = k.mates.items; reached = k.reached.items; edges_due = k.edges_due; corners_due = k.corners_due; reach_due = k.reach_due; tally_due = k.tally_due; last_edge = k.last_edge; last_vertex = k.last_vertex }) };
+    ghost invariant = { λ k. IsKept (record { rows = k.rows; loops = k.loops; sizes = k.sizes.items; alone = k.alone.items; mates = k.mates.items; reached = k.reached.items; due = k.due; last_edge = k.last_edge; last_vertex = k.last_vertex }) };
 }
 
 ghost use Rattle.std.specs.Prelude.{◌≡◌, ◌<◌, IfOk, length, replicate, ◌∷◌, []};
-ghost use Rattle.topo_certificate.specs.Stand.{tallies as tallies_of};
 ghost use Rattle.topo_certificate.specs.Kept.{HoldsFaces};
 
 // One number for each row: its mate, from 1, or 0 while no line has named one.
@@ -70,24 +63,14 @@ fn first_reached(alloc: Global, faces: usize) -> Result<Vec<bool>, NoMemory>
     Ok(reached)
 }
 
-/// How many TALLY lines end a shell.
-fn tallies(version: Version) -> u32
-    ensures { result ≡ tallies_of version }
-{
-    match version {
-        Version::One => 0,
-        Version::Two | Version::Three => 1,
-    }
-}
-
 impl ShellState {
     ghost use Rattle.std.specs.Prelude.{◌≡◌, ◌↔◌, ℕ, ◌+◌, ◌<◌, ◌^◌, List, IsTrue, IfOk, false, length};
     ghost use Rattle.cert_lines.specs.Line.{CertLine, HasSpelling, edge, corner, point, reach, tally};
     ghost use Rattle.cert_lines.specs.Numbers.{AreNumbers};
-    ghost use Rattle.cert_lines.specs.Said.{Means, IsRowLine, counts_said, tally_said};
-    ghost use Rattle.topo_certificate.specs.Kept.{KeptShell, IsFresh, InFileOrder, AreCounts, IsTally, dues};
+    ghost use Rattle.cert_lines.specs.Said.{Means, IsRowLine};
+    ghost use Rattle.topo_certificate.specs.Kept.{KeptShell, IsFresh, InFileOrder, AreCounts, IsTally, lines_due};
     ghost use Rattle.topo_certificate.specs.Ring.{IsCornerText};
-    ghost use Rattle.topo_certificate.specs.Told.{Takes};
+    ghost use Rattle.topo_certificate.specs.Matching.{Takes};
 
     /// A shell of which no line was read.
     pub(crate) fn of(
@@ -105,9 +88,7 @@ impl ShellState {
         let sizes = sizes_of(alloc, &rows)?;
         let mates = no_mates(alloc, rows.len())?;
         let reached = first_reached(alloc, rows.face_count())?;
-        let edges_due = rows.edge_count() as u32;
-        let corners_due = rows.vertex_count() as u32;
-        let reach_due = rows.face_count() as u32 - 1;
+        let due = Due::of_shell(version, &rows);
         Ok(ShellState {
             rows,
             loops,
@@ -115,36 +96,33 @@ impl ShellState {
             alone: sizes.alone,
             mates,
             reached,
-            edges_due,
-            corners_due,
-            reach_due,
-            tally_due: tallies(version),
+            due,
             last_edge: None,
             last_vertex: None,
         })
     }
 
     /// Whether these are the shell's counts.
-    pub(crate) fn has_counts(&self, words: &ShellWords) -> bool
-        ensures { IsTrue result ↔ AreCounts self.now.rows (counts_said words.now) }
+    pub(crate) fn has_counts(&self, counts: &ShellCounts) -> bool
+        ensures { IsTrue result ↔ AreCounts self.now.rows counts.now }
     {
-        fits_counts(&self.rows, words)
+        fits_counts(&self.rows, counts)
     }
 
     /// Whether no line of the shell is due.
     pub(crate) fn is_done(&self) -> bool
-        ensures { IsTrue result ↔ (dues self.now ≡ 0) }
+        ensures { IsTrue result ↔ (lines_due self.now.due ≡ 0) }
     {
-        self.edges_due == 0 && self.corners_due == 0 && self.reach_due == 0 && self.tally_due == 0
+        self.due.is_none()
     }
 
     // Takes an E line of two rows, from 1, where it fits; else the state stays as it was.
     fn take_edge(&mut self, along: u32, against: u32) -> bool
         ensures line { Takes self.old self.new (edge along against) result }
-        ensures due { IsTrue result → dues self.new + 1 ≡ dues self.old }
+        ensures due { IsTrue result → lines_due self.new.due + 1 ≡ lines_due self.old.due }
         ensures refused { result ≡ false → self.new ≡ self.old }
     {
-        if self.edges_due == 0 {
+        if !self.due.has_edge() {
             return false;
         }
         let Some(edge) = fitting_edge(&self.rows, self.last_edge, along, against) else {
@@ -152,7 +130,7 @@ impl ShellState {
         };
         self.mates[along as usize - 1] = against;
         self.mates[against as usize - 1] = along;
-        self.edges_due -= 1;
+        self.due.edges -= 1;
         self.last_edge = Some(edge.0);
         true
     }
@@ -162,17 +140,17 @@ impl ShellState {
         ensures numbers { IsTrue result → IsCornerText text.now }
         ensures line { (rs : List ℕ) → AreNumbers text.now rs
             → Takes self.old self.new (corner rs) result }
-        ensures due { IsTrue result → dues self.new + 1 ≡ dues self.old }
+        ensures due { IsTrue result → lines_due self.new.due + 1 ≡ lines_due self.old.due }
         ensures refused { result ≡ false → self.new ≡ self.old }
     {
-        if self.edges_due != 0 || self.corners_due == 0 {
+        if !self.due.has_corner() {
             return false;
         }
         let Some(vertex) = read_corner(&self.rows, &self.sizes, &self.mates, self.last_vertex, text)
         else {
             return false;
         };
-        self.corners_due -= 1;
+        self.due.corners -= 1;
         self.last_vertex = Some(vertex.0);
         true
     }
@@ -180,17 +158,17 @@ impl ShellState {
     // Takes an I line of a face and a loop of it, both from 1, where it fits; else the state stays as it was.
     fn take_point(&mut self, face: u32, place: u32) -> bool
         ensures line { Takes self.old self.new (point face place) result }
-        ensures due { IsTrue result → dues self.new + 1 ≡ dues self.old }
+        ensures due { IsTrue result → lines_due self.new.due + 1 ≡ lines_due self.old.due }
         ensures refused { result ≡ false → self.new ≡ self.old }
     {
-        if self.edges_due != 0 || self.corners_due == 0 {
+        if !self.due.has_corner() {
             return false;
         }
         let Some(vertex) = fitting_point(&self.rows, &self.alone, self.last_vertex, face, place)
         else {
             return false;
         };
-        self.corners_due -= 1;
+        self.due.corners -= 1;
         self.last_vertex = Some(vertex.0);
         true
     }
@@ -198,33 +176,30 @@ impl ShellState {
     // Takes an R line of a row, from 1, where it fits; else the state stays as it was.
     fn take_reach(&mut self, row: u32) -> bool
         ensures line { Takes self.old self.new (reach row) result }
-        ensures due { IsTrue result → dues self.new + 1 ≡ dues self.old }
+        ensures due { IsTrue result → lines_due self.new.due + 1 ≡ lines_due self.old.due }
         ensures refused { result ≡ false → self.new ≡ self.old }
     {
-        if self.edges_due != 0 || self.corners_due != 0 || self.reach_due == 0 {
+        if !self.due.has_reach() {
             return false;
         }
         let Some(face) = fitting_face(&self.rows, &self.mates, &self.reached, row) else {
             return false;
         };
         self.reached[face.0 as usize] = true;
-        self.reach_due -= 1;
+        self.due.reach -= 1;
         true
     }
 
     // Takes a TALLY line where it is due and its counts are the shell's; else the state stays as it was.
-    fn take_tally(&mut self, words: &TallyWords) -> bool
-        ensures line { Takes self.old self.new (tally (tally_said words.now)) result }
-        ensures due { IsTrue result → dues self.new + 1 ≡ dues self.old }
+    fn take_tally(&mut self, counts: &Tally) -> bool
+        ensures line { Takes self.old self.new (tally counts.now) result }
+        ensures due { IsTrue result → lines_due self.new.due + 1 ≡ lines_due self.old.due }
         ensures refused { result ≡ false → self.new ≡ self.old }
     {
-        if self.edges_due != 0 || self.corners_due != 0 || self.reach_due != 0 {
+        if !self.due.has_tally() || !fits_tally(&self.rows, self.loops, counts) {
             return false;
         }
-        if self.tally_due == 0 || !fits_tally(&self.rows, self.loops, words) {
-            return false;
-        }
-        self.tally_due -= 1;
+        self.due.tally -= 1;
         true
     }
 
@@ -232,7 +207,7 @@ impl ShellState {
     pub(crate) fn take(&mut self, words: Words<'_>) -> bool
         ensures line { (line : CertLine) → Means words.entry line → HasSpelling line
             → IsRowLine line → Takes self.old self.new line result }
-        ensures due { IsTrue result → dues self.new + 1 ≡ dues self.old }
+        ensures due { IsTrue result → lines_due self.new.due + 1 ≡ lines_due self.old.due }
         ensures refused { result ≡ false → self.new ≡ self.old }
     {
         match words {
@@ -241,7 +216,7 @@ impl ShellState {
             Words::Point(face, place) => self.take_point(face, place),
             Words::Reach(row) => self.take_reach(row),
             Words::Tally(counts) => self.take_tally(&counts),
-            Words::Head(_) | Words::Solid(_) | Words::Shell(_) | Words::End => false,
+            Words::Head(_) | Words::Solid(_) | Words::Shell(..) | Words::End => false,
         }
     }
 }

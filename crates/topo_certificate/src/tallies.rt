@@ -1,6 +1,6 @@
 //! How many rows start at each vertex of a shell, and how many loops without an edge lie there.
 
-ghost use Rattle.std.specs.Prelude.{◌≡◌, ℕ, ◌+◌, ◌<◌, ◌^◌, Contains, Some, length, map, slice_get, IfOk};
+ghost use Rattle.std.specs.Prelude.{◌≡◌, ℕ, ◌+◌, ◌<◌, Contains, Some, length, map, slice_get, IfOk};
 ghost use Rattle.solid_data.specs.declared.solid.LoopAt.{LoopAt as LoopPlace};
 ghost use Rattle.edge_uses.specs.declared.row.Row.{Row as AnyRow};
 ghost use Rattle.edge_uses.specs.Cells.{cell_of, with_cell};
@@ -8,6 +8,7 @@ ghost use Rattle.edge_uses.specs.Ranges.{IsWithin};
 ghost use Rattle.edge_uses.specs.ShellRows.{ShellRows};
 ghost use Rattle.topo_certificate.specs.Kept.{corner_size, is_alone};
 ghost use Rattle.topo_certificate.specs.Tallied.{AreStarts, ArePoints};
+ghost use Rattle.solid_data.specs.declared.TheConstants.{PART_LIMIT};
 
 use crate::points::point_at;
 use edge_uses::{Cells, Row, Rows};
@@ -17,7 +18,7 @@ use std::alloc::Global;
 
 fn row_at(rows: &Rows, i: usize) -> Row
     requires row { i < length rows.now.rows }
-    requires few { i < 2 ^ 29 }
+    requires few { i < PART_LIMIT }
     ensures { slice_get rows.now.rows i ≡ Some result }
 {
     rows.row(RowId(i as u32)).unwrap()
@@ -26,7 +27,7 @@ fn row_at(rows: &Rows, i: usize) -> Row
 fn add_one(counts: &mut Cells<'_, u32>, vertex: VertexId)
     requires known { Contains counts.old.numbers vertex.0 }
     requires within { IsWithin counts.old.span vertex.0 }
-    requires few { cell_of counts.old vertex.0 < 2 ^ 29 }
+    requires few { cell_of counts.old vertex.0 < PART_LIMIT }
     ensures { counts.new ≡ with_cell counts.old vertex.0 (cell_of counts.old vertex.0 + 1) }
 {
     let count = counts.at(vertex.0);

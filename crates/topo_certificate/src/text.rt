@@ -6,7 +6,7 @@ ghost use Rattle.cert_lines.specs.declared.version.Version.{Version};
 ghost use Rattle.solid_data.specs.SolidData.{SolidData};
 ghost use Rattle.topo_certificate.specs.Legal.{IsLegal, IsFirstBad};
 ghost use Rattle.topo_certificate.specs.Feeding.{IsFed};
-ghost use Rattle.topo_certificate.specs.Told.{IsOfSame};
+ghost use Rattle.topo_certificate.specs.Matching.{IsOfSame};
 
 use crate::checker::Checker;
 use cert_lines::Illegal;

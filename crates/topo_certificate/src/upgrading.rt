@@ -6,7 +6,7 @@ ghost use Rattle.topo_certificate.specs.Upgraded.{starts_with, tally_of_shell, t
 ghost use Rattle.topo_certificate.specs.Upgrades.{IsUpgradeFault};
 
 use crate::uses::loop_count;
-use cert_lines::{Version, after_word, first_line, put_head_line, put_tally_line};
+use cert_lines::{Version, after_word, first_line, head_text, put_head_line, put_tally_line};
 use edge_uses::rows;
 use iges_base::{Bytes, NoMemory, Out};
 use solid_data::{Shell, ShellAt, Solid};
@@ -89,7 +89,7 @@ fn put_tally_before(
     Ok(())
 }
 
-/// Puts a line after which so many shells have begun, and what comes before it; the result is how many shells have
+/// Puts a line before which so many shells have begun, and what stands before it; the result is how many shells have
 /// begun then.
 fn put_line(
     alloc: Global,
@@ -137,7 +137,7 @@ fn upgraded_text(alloc: Global, solid: &Solid, text: &[u8]) -> Result<Bytes, NoM
     let Some((first, rest)) = first_line(text) else {
         return Bytes::copy(alloc, text);
     };
-    if !begins(first, b"IGESCERT 1") {
+    if !begins(first, head_text(Version::One)) {
         return Bytes::copy(alloc, text);
     }
     let mut out = Out::new(alloc);

@@ -7,12 +7,13 @@ ghost use Rattle.std.specs.Prelude.{Some, sum_by};
 ghost use Rattle.solid_data.specs.declared.solid.FaceUse.{FaceUse as Face};
 ghost use Rattle.topo_certificate.specs.Stand.{loops_of};
 ghost use Rattle.topo_certificate.specs.Uses.{loops_size, faces_size};
+ghost use Rattle.solid_data.specs.declared.TheConstants.{PART_LIMIT};
 
 use solid_data::{FaceUse, Shell, ShellAt, Solid};
 
 // How many uses the loops of a face have.
 fn uses_of_face(face: &FaceUse) -> usize
-    requires { loops_size face.now.loops < 2 ^ 29 }
+    requires { loops_size face.now.loops < PART_LIMIT }
     ensures { result ≡ loops_size face.now.loops }
 {
     let mut count = 0;
@@ -25,7 +26,7 @@ fn uses_of_face(face: &FaceUse) -> usize
 
 // How many uses the loops of a shell have.
 fn uses_of_shell(shell: &Shell) -> usize
-    requires { faces_size shell.now.faces < 2 ^ 29 }
+    requires { faces_size shell.now.faces < PART_LIMIT }
     ensures { result ≡ faces_size shell.now.faces }
 {
     let mut count = 0;
@@ -68,7 +69,7 @@ fn loops_in(faces: &[FaceUse]) -> u64
 
 /// How many loops a shell has (own).
 pub fn loop_count(shell: &Shell) -> u64
-    requires { loops_of (Some shell.now) < 2 ^ 29 }
+    requires { loops_of (Some shell.now) < PART_LIMIT }
     ensures { result ≡ loops_of (Some shell.now) }
 {
     loops_in(shell.faces.as_slice())

@@ -3,8 +3,9 @@
 ghost use Rattle.iges_fields.specs.Word.{is_empty};
 ghost use Rattle.solid_data.specs.Numbering.{IsNumberedSolid};
 ghost use Rattle.solid_faults.specs.Parts.{faces_apart};
-ghost use Rattle.std.specs.Prelude.{◌≡◌, ◌++◌, ◌∷◌, [], IfOk, OnOk, ◌<◌, ◌^◌, Some, length, option_copied, slice_get, if◌then◌else◌};
+ghost use Rattle.std.specs.Prelude.{◌≡◌, ◌++◌, ◌∷◌, [], IfOk, OnOk, ◌<◌, Some, length, option_copied, slice_get, if◌then◌else◌};
 ghost use Rattle.where_solids.specs.AllFaults.{AreAllFaults, failing_shells, is_failing, none_unlinked};
+ghost use Rattle.solid_data.specs.declared.TheConstants.{PART_LIMIT};
 
 use edge_uses::rows;
 use iges_fields::{ItemList, NoMemory};
@@ -18,7 +19,7 @@ pub type AllFaults = ItemList<ShellFaults>;
 /// The shell at a place, from 0.
 pub fn shell_at(solid: &Solid, k: usize) -> &Shell
     requires shell { k < length solid.now.shells }
-    requires few { k < 2 ^ 29 }
+    requires few { k < PART_LIMIT }
     ensures is { slice_get solid.now.shells k ≡ Some result.now }
     ensures numbered { IsNumberedSolid solid.now }
 {
@@ -73,7 +74,7 @@ fn push_if(list: &mut Vec<u32>, wanted: bool, k: u32) -> Result<(), NoMemory>
 /// The numbers of the shells in which a rule fails, from 0 (own).
 #[tactic(auto, unfolding(crate::specs::AllFaults::failing_shells))]
 pub fn failing_shells(alloc: Global, all: &AllFaults) -> Result<Vec<u32>, NoMemory>
-    requires { length all.now < 2 ^ 29 }
+    requires { length all.now < PART_LIMIT }
     ensures { IfOk result (λ list. list.items ≡ failing_shells all.now) }
 {
     let faults = all.as_slice();

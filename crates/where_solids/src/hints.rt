@@ -4,9 +4,10 @@ ghost use Rattle.solid_faults.specs.FaceFlags.{IsClosedFlagged};
 ghost use Rattle.iges_base.specs.declared.entry_no.EntryNo.{EntryNo as AnyEntryNo};
 ghost use Rattle.solid_data.specs.declared.solid.FaceUse.{FaceUse as AnyFace};
 ghost use Rattle.solid_data.specs.declared.solid.Shell.{Shell as AnyShell};
-ghost use Rattle.std.specs.Prelude.{◌≡◌, ◌++◌, ◌<◌, ◌^◌, ◌↔◌, IfOk, IfSome, IsTrue, List, OnOk, count_by, decimal, flat_map, length, not, option_copied, slice_get, ℕ};
+ghost use Rattle.std.specs.Prelude.{◌≡◌, ◌++◌, ◌<◌, ◌↔◌, IfOk, IfSome, IsTrue, List, OnOk, count_by, decimal, flat_map, length, not, option_copied, slice_get, ℕ};
 ghost use Rattle.where_solids.specs.Hints.{IsFlagsHint, flags_hint, flags_sentence, has_unpaired, no_solid_hint, pair_fails, solids_hint, solids_sentence, unset_flags};
 ghost use Rattle.where_text.specs.Spelled.{space_word};
+ghost use Rattle.solid_data.specs.declared.TheConstants.{PART_LIMIT};
 
 use crate::all_faults::{AllFaults, shell_at};
 use iges_fields::{EntryNo, NoMemory, Out};
@@ -39,7 +40,7 @@ fn unset_in(faces: &[FaceUse]) -> usize
 // How many faces of a shell have the flag 0; shells count from 0.
 fn unset_at(solid: &Solid, k: usize) -> usize
     requires shell { k < length solid.now.shells }
-    requires few { k < 2 ^ 29 }
+    requires few { k < PART_LIMIT }
     ensures { IfSome (slice_get solid.now.shells k)
         (λ (h : AnyShell). result ≡ count_by (λ (face : AnyFace). not face.flag) h.faces) }
 {

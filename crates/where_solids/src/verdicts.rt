@@ -9,8 +9,9 @@ ghost use Rattle.solid_faults.specs.Fans.{unlinked_failing};
 ghost use Rattle.solid_faults.specs.Faults.{failing_of, failing_vertices};
 ghost use Rattle.solid_faults.specs.Gaps.{gap_failing};
 ghost use Rattle.solid_faults.specs.Parts.{failing_faces};
-ghost use Rattle.std.specs.Prelude.{◌≡◌, ◌∷◌, ◌<◌, ◌^◌, [], List, Some, MatchOption, length, map, option_copied, slice_get};
+ghost use Rattle.std.specs.Prelude.{◌≡◌, ◌∷◌, ◌<◌, [], List, Some, MatchOption, length, map, option_copied, slice_get};
 ghost use Rattle.where_solids.specs.AllFaults.{AreAllFaults};
+ghost use Rattle.solid_data.specs.declared.TheConstants.{PART_LIMIT};
 
 use crate::all_faults::{AllFaults, shell_at};
 use iges_fields::EntryNo;
@@ -151,7 +152,7 @@ fn first_failing(solid: &Solid, shell: &Shell, faults: &ShellFaults) -> Option<F
 // The first that fails in a shell, given by its place.
 fn failing_at(solid: &Solid, all: &AllFaults, k: usize) -> Option<Failing>
     requires shell { k < length solid.now.shells }
-    requires few { k < 2 ^ 29 }
+    requires few { k < PART_LIMIT }
     requires faults { AreAllFaults solid.now all.now }
     ensures { (h : AnyShell) → slice_get solid.now.shells k ≡ Some h →
         MatchOption result (AllHold (shell_obligations solid.now (k, h))) (FirstFalse (shell_obligations solid.now (k, h))) }

@@ -1,5 +1,5 @@
 use Rattle.std.proofs.Common.{◌≡◌, length, None}
-use Rattle.topo_certificate.specs.Told.{IsOfSame}
+use Rattle.topo_certificate.specs.Matching.{IsOfSame}
 use Rattle.topo_certificate.specs.Stand.{FitsLine}
 use Rattle.topo_certificate.proofs.FedLines.{IsLeft}
 use Rattle.topo_certificate.proofs.checker.Checker.feed.Given as goal

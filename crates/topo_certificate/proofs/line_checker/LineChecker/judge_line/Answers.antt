@@ -1,6 +1,6 @@
 use Rattle.std.proofs.Common.{arith, refl, ap, ◌∙◌, ◌≡◌, ◌≤◌, length}
 use Rattle.cert_lines.specs.Line.{line_limit}
-use Rattle.topo_certificate.specs.Told.{Kept}
+use Rattle.topo_certificate.specs.Matching.{Kept}
 use Rattle.topo_certificate.proofs.Checking.{line_refused}
 use Rattle.topo_certificate.proofs.line_checker.LineChecker.judge_line.Goals as goal
 

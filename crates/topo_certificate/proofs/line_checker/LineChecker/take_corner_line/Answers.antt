@@ -1,6 +1,6 @@
 use Rattle.std.proofs.Common.{arith, refl, ap, ◌∙◌, subst, ◌≡◌, ◌≤◌, ◌+◌, ◌∷◌, ◌++◌, [], List, ℕ, length, true}
 use Rattle.cert_lines.specs.Line.{corner, line_limit, IsSpelled}
-use Rattle.topo_certificate.specs.Told.{Kept}
+use Rattle.topo_certificate.specs.Matching.{Kept}
 use Rattle.topo_certificate.specs.Room.{TakesLine}
 use Rattle.topo_certificate.proofs.Checking.{with_current, row_line_taken}
 use Rattle.topo_certificate.proofs.line_checker.LineChecker.take_corner_line.Goals as goal

@@ -1,6 +1,6 @@
 use Rattle.std.proofs.Common.{rules, refl, ap, ◌∙◌, subst, ◌≡◌, ◌+◌, length, true, false}
 use Rattle.cert_lines.specs.Line.{end}
-use Rattle.topo_certificate.specs.Told.{Kept}
+use Rattle.topo_certificate.specs.Matching.{Kept}
 use Rattle.topo_certificate.specs.Room.{dues_of, TakesLine}
 use Rattle.topo_certificate.proofs.Checking.{with_end, end_comes}
 use Rattle.topo_certificate.proofs.line_checker.LineChecker.take_end.Goals as goal

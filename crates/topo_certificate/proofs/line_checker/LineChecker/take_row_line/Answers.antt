@@ -1,5 +1,5 @@
 use Rattle.std.proofs.Common.{refl, ap, ◌∙◌, subst, ◌≡◌, ◌+◌, true, false}
-use Rattle.topo_certificate.specs.Told.{Kept}
+use Rattle.topo_certificate.specs.Matching.{Kept}
 use Rattle.topo_certificate.specs.Room.{TakesLine}
 use Rattle.topo_certificate.proofs.Checking.{with_current, row_line_taken, row_line_refused}
 use Rattle.topo_certificate.proofs.line_checker.LineChecker.take_row_line.Goals as goal

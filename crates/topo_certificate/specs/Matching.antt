@@ -1,32 +1,29 @@
--- When what a checker keeps is what the lines so far say.
+-- When what a checker keeps is where the lines so far lead.
 use Rattle.std.specs.Prelude.{◌≡◌, ℕ, ◌+◌, ◌-◌, ◌<◌, Bool, List, ◌∷◌, length, Option, Some, None, slice_get}
 use Rattle.std.specs.Bool.{MatchBool}
 use Rattle.solid_data.specs.SolidData.{SolidData}
 use Rattle.cert_lines.specs.Line.{CertLine}
-use Rattle.topo_certificate.specs.Stand.{Stand, stand_behind, rows_of_shell, loops_of_shell, NoneDue, FitsOpen}
+use Rattle.topo_certificate.specs.Stand.{Stand, stand_from_latest, rows_of_shell, loops_of_shell, NoneDue, FitsOpen}
 use Rattle.topo_certificate.specs.Kept.{KeptShell, HoldsMates, HoldsFaces, IsFresh}
 use Rattle.cert_lines.specs.declared.version.Version.{Version}
 use Rattle.cert_lines.specs.declared.fault.Illegal.{Illegal}
 
 -- what is kept of the shell at hand is its stand
-pub record TellsShell (s : SolidData) (at : Stand) (k : KeptShell) : Type 0 where
+pub record MatchesShell (s : SolidData) (at : Stand) (k : KeptShell) : Type 0 where
   pub begun : 0 < at.shell
   pub rows : k.rows ≡ rows_of_shell s at.shell
   pub loops : k.loops ≡ loops_of_shell s at.shell
-  pub edges_due : k.edges_due ≡ at.due.edges
-  pub corners_due : k.corners_due ≡ at.due.corners
-  pub reach_due : k.reach_due ≡ at.due.reach
-  pub tally_due : k.tally_due ≡ at.due.tally
+  pub due : k.due ≡ at.due
   pub last_edge : k.last_edge ≡ at.last_edge
   pub last_vertex : k.last_vertex ≡ at.last_vertex
   pub mates : HoldsMates k.mates at.mates
   pub reached : HoldsFaces k.reached at.reached
 
--- After any lines that it speaks of, the line is taken exactly where it fits, and then what is kept speaks of the line too.
+-- After any lines with whose stand what is kept agrees, the line is taken exactly where it fits, and then what is kept agrees with the stand after the line.
 abbrev pub Takes : KeptShell → KeptShell → CertLine → Bool → Type 0
 Takes old new line taken =
-    (v : Version) (s : SolidData) (lines : List CertLine) → TellsShell s (stand_behind v s lines) old →
-    MatchBool taken (FitsOpen s (stand_behind v s lines) line × TellsShell s (stand_behind v s (line ∷ lines)) new) (¬ FitsOpen s (stand_behind v s lines) line)
+    (v : Version) (s : SolidData) (lines : List CertLine) → MatchesShell s (stand_from_latest v s lines) old →
+    MatchBool taken (FitsOpen s (stand_from_latest v s lines) line × MatchesShell s (stand_from_latest v s (line ∷ lines)) new) (¬ FitsOpen s (stand_from_latest v s lines) line)
 
 -- The shells that are not begun, the next one last.
 pub record AreWaiting (v : Version) (s : SolidData) (shell : ℕ) (waiting : List KeptShell) : Type 0 where
@@ -45,17 +42,17 @@ pub record Kept : Type 0 where
   pub waiting : List KeptShell
 
 -- nothing is due where no shell is begun
-abbrev pub TellsCurrent : SolidData → Stand → Option KeptShell → Type 0
-TellsCurrent s at None = (at.shell ≡ 0) × NoneDue at.due
-TellsCurrent s at (Some k) = TellsShell s at k
+abbrev pub MatchesCurrent : SolidData → Stand → Option KeptShell → Type 0
+MatchesCurrent s at None = (at.shell ≡ 0) × NoneDue at.due
+MatchesCurrent s at (Some k) = MatchesShell s at k
 
--- The checker has advanced past these lines, the latest first, which all fit and are numbered from this number on.
+-- The checker stands after these lines, the latest first, which all fit and are numbered from this number on.
 pub record IsAt (first : ℕ) (c : Kept) (lines : List CertLine) : Type 0 where
   pub legal : c.failed ≡ None
   pub number : c.number ≡ first + length lines
-  pub ended : c.ended ≡ (stand_behind c.version c.solid lines).ended
-  pub shell : c.shell ≡ (stand_behind c.version c.solid lines).shell
-  pub current : TellsCurrent c.solid (stand_behind c.version c.solid lines) c.current
+  pub ended : c.ended ≡ (stand_from_latest c.version c.solid lines).ended
+  pub shell : c.shell ≡ (stand_from_latest c.version c.solid lines).shell
+  pub current : MatchesCurrent c.solid (stand_from_latest c.version c.solid lines) c.current
   pub waiting : AreWaiting c.version c.solid c.shell c.waiting
 
 -- The version and the solid stay the same.

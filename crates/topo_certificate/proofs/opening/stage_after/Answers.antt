@@ -1,6 +1,6 @@
 use Rattle.std.proofs.Common.{refl}
 use Rattle.topo_certificate.proofs.OpeningLines.{head_wrong, solid_wrong}
-use Rattle.topo_certificate.proofs.opening.behind.Goals as goal
+use Rattle.topo_certificate.proofs.opening.stage_after.Goals as goal
 
 pub returns-in-Ok : goal.returns-in-Ok
 returns-in-Ok c = rw c.in-First.is (c.in-Ok.ensures {u = tt})

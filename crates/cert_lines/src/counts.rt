@@ -1,0 +1,19 @@
+//! The counts of a shell in its lines.
+
+/// The counts of a SHELL line (own): how many rows, edges, corner and point lines, and faces the shell has.
+#[derive(Clone, Copy, Debug, PartialEq, Eq)]
+pub struct ShellCounts {
+    pub rows: u32,
+    pub edges: u32,
+    pub corners: u32,
+    pub faces: u32,
+}
+
+/// The counts of a TALLY line (own): how many vertices, edges, faces and loops the shell has.
+#[derive(Clone, Copy, Debug, PartialEq, Eq)]
+pub struct Tally {
+    pub vertices: u32,
+    pub edges: u32,
+    pub faces: u32,
+    pub loops: u32,
+}
