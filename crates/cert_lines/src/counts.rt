@@ -3,9 +3,13 @@
 /// The counts of a SHELL line (own): how many rows, edges, corner and point lines, and faces the shell has.
 #[derive(Clone, Copy, Debug, PartialEq, Eq)]
 pub struct ShellCounts {
+    /// How many edge uses it has.
     pub rows: u32,
+    /// How many E lines it has, one for each edge that occurs in it.
     pub edges: u32,
+    /// How many C and I lines it has together, one for each vertex that occurs in it.
     pub corners: u32,
+    /// How many faces it has.
     pub faces: u32,
 }
 
