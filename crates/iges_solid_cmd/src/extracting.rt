@@ -7,7 +7,7 @@ use entry_references::ExtractReason;
 use iges_fields::{EntryNo, FILE_LIMIT, NoMemory, Out, write_number};
 use iges_params::File;
 use iges_write::{WriteFileFault, write_file};
-use solid_extract::{ExtractFault, extract};
+use solid_extract::{ExtractFault, into_extract};
 use std::alloc::Global;
 
 fn word_of(reason: ExtractReason) -> &'static str
@@ -56,12 +56,10 @@ pub fn written(alloc: Global, file: File) -> Result<Reply, NoMemory>
 pub fn extract_solid(alloc: Global, file: File, no: u32) -> Result<Reply, NoMemory>
     ensures { IfOk result (λ reply. OfExtract no file reply.answer reply.text) }
 {
-    let extracted = match extract(alloc, &file, EntryNo(no)) {
+    let extracted = match into_extract(alloc, file, EntryNo(no)) {
         Ok(extracted) => extracted,
         Err(ExtractFault::Refused { entity, reason }) => return refused(alloc, entity, reason),
         Err(ExtractFault::NoMemory) => return Err(NoMemory),
     };
-    // The text needs the room that the file takes.
-    drop(file);
     written(alloc, extracted)
 }
