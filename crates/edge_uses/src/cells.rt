@@ -38,7 +38,8 @@ impl<'a, T> Model for Cells<'a, T> {
 /// The place, from 0, of a number in a list that rises, if it is there.
 pub fn place_of(numbers: &[u32], n: u32) -> Option<usize>
     requires { IsStrictlyIncreasing numbers.now }
-    ensures { MatchOption result (¬ (Contains numbers.now n)) (λ i. slice_get numbers.now i ≡ Some n) }
+    ensures { MatchOption result (¬ (Contains numbers.now n))
+        (λ i. slice_get numbers.now i ≡ Some n) }
 {
     match numbers.binary_search(&n) {
         Ok(i) => Some(i),
