@@ -1,4 +1,4 @@
-use Rattle.std.proofs.Common.{◌≡◌, ◌∙◌, subst, sym, true, false}
+use Rattle.std.proofs.Common.{subst, true}
 use Rattle.cert_lines.specs.Line.{tally}
 use Rattle.topo_certificate.specs.Matching.{Takes}
 use Rattle.topo_certificate.specs.contracts.shell_state.ShellState.{the_view}
