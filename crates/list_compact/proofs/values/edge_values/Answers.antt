@@ -1,5 +1,6 @@
 use Rattle.std.proofs.Common.{◌∙◌, refl, sym}
-use Rattle.brep_lists.specs.Record.{edges, items_of}
+use Rattle.brep_lists.specs.Record.{items_of}
+use Rattle.brep_lists.specs.declared.entity_kind.EntityKind.TheVariants.{EdgeList as edges}
 use Rattle.list_compact.proofs.ListSteps.{edges_unused}
 use Rattle.list_compact.proofs.values.edge_values.Goals as goal
 

@@ -1,5 +1,6 @@
 use Rattle.std.proofs.Common.{◌∙◌, refl, sym}
-use Rattle.brep_lists.specs.Record.{vertices, items_of}
+use Rattle.brep_lists.specs.Record.{items_of}
+use Rattle.brep_lists.specs.declared.entity_kind.EntityKind.TheVariants.{VertexList as vertices}
 use Rattle.list_compact.proofs.ListSteps.{vertices_unused}
 use Rattle.list_compact.proofs.values.vertex_values.Goals as goal
 
