@@ -1,20 +1,20 @@
 -- The table of the faces at each vertex, and what is told from it.
-use Rattle.std.specs.Prelude.{◌≡◌, ◌<◌, ◌≤◌, ◌+◌, ◌*◌, ◌==◌, ◌||◌, ◌⊎◌, ◌^◌, nat_lt, ℕ, zero, suc, Bool, true, false, List, [], ◌∷◌, ◌++◌, length, map, flat_map, slice_get, Option, Some, None, All, if◌then◌else◌}
+use Rattle.std.specs.Prelude.{◌≡◌, ◌<◌, ◌≤◌, ◌+◌, ◌*◌, ◌==◌, ◌⊎◌, ◌^◌, nat_lt, ℕ, zero, suc, Bool, true, false, List, [], ◌∷◌, ◌++◌, length, map, flat_map, slice_get, Option, Some, None, All, if◌then◌else◌}
 use Rattle.std.specs.List.{enumerate_from, list_any}
-use Rattle.std.proofs.Common.{refl, sym, ◌∙◌, ap, subst, arith, inl, inr, ⊎_elim, drop}
+use Rattle.std.proofs.Common.{refl, sym, ◌∙◌, ap, subst, arith, inl, inr, ⊎_elim}
 use Rattle.std.proofs.lemmas.Bool.Decides.{eqb_tells}
 use Rattle.std.proofs.lemmas.Grind.{flat_map-append}
 use Rattle.std.proofs.lemmas.List.{append-nil, length-append, length-map}
 use Rattle.iges_base.specs.declared.entry_no.EntryNo.{EntryNo}
 use Rattle.solid_data.specs.Numbering.{IsNumberedSolid}
 use Rattle.solid_data.specs.Ring.{numbers_from}
-use Rattle.solid_data.specs.SolidData.{SolidData, occurring, shell_uses, shell_vertices, vertices_used, ends_of}
+use Rattle.solid_data.specs.SolidData.{SolidData, occurring, shell_uses, vertices_used, ends_of}
 use Rattle.solid_data.specs.declared.solid.Edge.{Edge}
 use Rattle.solid_data.specs.declared.solid.FaceUse.{FaceUse}
 use Rattle.solid_data.specs.declared.solid.LoopUse.{LoopUse}
 use Rattle.solid_data.specs.declared.solid.LoopUse.TheVariants.{EdgeUse, VertexUse}
 use Rattle.solid_data.specs.declared.solid.Shell.{Shell}
-use Rattle.solid_data.proofs.Members.{Has, Rises, rises_none, no_longer, has_get, has_map, from_flat_map}
+use Rattle.solid_data.proofs.Members.{Has, rises_none, no_longer, has_get, has_map, from_flat_map}
 use Rattle.solid_data.proofs.Occurring.{numbers_rise, occurring_rises, number_below}
 use Rattle.edge_uses.specs.Before.{face_vertices, faces_vertices}
 use Rattle.edge_uses.specs.Ranges.{IsWithin}
@@ -22,16 +22,24 @@ use Rattle.edge_uses.specs.declared.spanning.Span.{Span}
 use Rattle.edge_uses.proofs.Above.{shell_flat}
 use Rattle.edge_uses.proofs.Occurs.{from_occurring}
 use Rattle.edge_uses.proofs.Whole.{vertices_known}
-use Rattle.solid_faults.specs.Groups.{place_if, places_of}
-use Rattle.solid_faults.proofs.GapSteps.{flat_of_map, flat_of_flat}
+use Rattle.solid_faults.specs.Groups.{places_of}
+use Rattle.solid_faults.proofs.GapSteps.{flat_of_map}
 use Rattle.solid_faults.proofs.PartSteps.{all_from}
 use Rattle.vertex_facts.proofs.Placing.{places_read}
-use Rattle.vertex_facts.specs.FaceTable.{at_vertex, face_touches, shell_touches, touches_of, vertex_of, kept_at, kept_from}
-use Rattle.vertex_facts.specs.VertexFaces.{face_if, faces_at, numbered_faces, faces_up_to}
+use Rattle.vertex_facts.specs.FaceTable.{at_vertex, face_touches, shell_touches, touches_of, vertex_of}
+use Rattle.vertex_facts.specs.VertexFaces.{face_if, numbered_faces, faces_up_to}
 use Rattle.vertex_facts.specs.declared.faces.FaceAtVertex.{FaceAtVertex}
 
 pub known_vertices : (s : SolidData) (k : ℕ) (h : Shell) → IsNumberedSolid s → slice_get s.shells k ≡ Some h → All (λ v. v < length s.vertices) (faces_vertices s h)
 known_vertices s k h numbered at = all_from (λ v. v < length s.vertices) (faces_vertices s h) (λ x m. vertices_known s h numbered (has_get s.shells k h at) x (subst (λ ys. Has ys x) (sym (shell_flat s h)) m))
+
+-- a face that is there, where its shell isn't after the last one
+abbrev pub kept_at : ℕ → Option FaceAtVertex → List (ℕ × EntryNo)
+kept_at last None = []
+kept_at last (Some t) = if nat_lt last t.shell then [] else (t.shell, t.face) ∷ []
+
+abbrev pub kept_from : ℕ → List FaceAtVertex → ℕ → List (ℕ × EntryNo)
+kept_from last ts n = kept_at last (slice_get ts n)
 
 -- a touch at this vertex, of a shell up to k
 abbrev pub touch_if : ℕ → ℕ → FaceAtVertex → List (ℕ × EntryNo)

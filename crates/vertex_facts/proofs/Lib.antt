@@ -1,3 +1,4 @@
 pub mod Placing
 pub mod FaceSteps
+pub mod UpTo
 pub mod TurnSteps

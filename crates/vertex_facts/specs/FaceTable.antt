@@ -1,5 +1,5 @@
 -- The faces of a solid, each at each vertex that it touches.
-use Rattle.std.specs.Prelude.{◌≡◌, ◌<◌, ◌^◌, ◌==◌, ℕ, List, [], ◌∷◌, ◌++◌, length, map, flat_map, Option, Some, None, slice_get, if◌then◌else◌, nat_lt}
+use Rattle.std.specs.Prelude.{ℕ, List, [], ◌∷◌, length, map, flat_map, Option, Some, None, slice_get}
 use Rattle.std.specs.List.{enumerate_from}
 use Rattle.iges_base.specs.declared.entry_no.EntryNo.{EntryNo}
 use Rattle.solid_data.specs.Ring.{numbers_from}
@@ -27,10 +27,19 @@ touches_of s = flat_map (shell_touches s) (enumerate_from 0 s.shells)
 abbrev pub vertex_of : FaceAtVertex → ℕ
 vertex_of t = t.vertex
 
--- a face that is there, where its shell isn't after the last one
-abbrev pub kept_at : ℕ → Option FaceAtVertex → List (ℕ × EntryNo)
-kept_at last None = []
-kept_at last (Some t) = if nat_lt last t.shell then [] else (t.shell, t.face) ∷ []
+-- a face that is there, after the number of its shell
+abbrev pub listed_at : Option FaceAtVertex → List (ℕ × EntryNo)
+listed_at None = []
+listed_at (Some t) = (t.shell, t.face) ∷ []
 
-abbrev pub kept_from : ℕ → List FaceAtVertex → ℕ → List (ℕ × EntryNo)
-kept_from last ts n = kept_at last (slice_get ts n)
+-- the face at a place of the table
+abbrev pub listed_from : List FaceAtVertex → ℕ → List (ℕ × EntryNo)
+listed_from ts n = listed_at (slice_get ts n)
+
+abbrev pub shell_if : Option FaceAtVertex → ℕ
+shell_if None = 0
+shell_if (Some t) = t.shell
+
+-- the shell of the face at a place of the table; 0 past its end
+abbrev pub shell_there : List FaceAtVertex → ℕ → ℕ
+shell_there ts n = shell_if (slice_get ts n)

@@ -1,5 +1,5 @@
 -- Which faces touch a vertex.
-use Rattle.std.specs.Prelude.{◌≡◌, ◌==◌, nat_lt, ℕ, List, [], ◌∷◌, map, flat_map, if◌then◌else◌}
+use Rattle.std.specs.Prelude.{◌==◌, nat_lt, ℕ, List, [], ◌∷◌, map, flat_map, if◌then◌else◌}
 use Rattle.std.specs.List.{enumerate_from, list_any}
 use Rattle.iges_base.specs.declared.entry_no.EntryNo.{EntryNo}
 use Rattle.solid_data.specs.SolidData.{SolidData}

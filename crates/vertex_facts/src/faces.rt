@@ -1,10 +1,9 @@
 //! The faces at each vertex of a solid.
 
-ghost use Rattle.std.specs.Prelude.{◌≡◌, ◌<◌, ◌≤◌, ◌^◌, ◌++◌, ◌∷◌, [], ℕ, All, IfOk, Some, length, map, flat_map, slice_get};
-ghost use Rattle.std.specs.List.{enumerate_from};
+ghost use Rattle.std.specs.Prelude.{◌≡◌, ◌<◌, ◌≤◌, ◌^◌, ◌++◌, ◌∷◌, [], All, IfOk, Some, get_or, length, map, slice_get};
+ghost use Rattle.std.specs.List.Sorted.{IsNonDecreasingBy, IsPartitionPoint};
 ghost use Rattle.edge_uses.specs.Before.{face_vertices, faces_vertices};
-ghost use Rattle.vertex_facts.specs.FaceTable.{at_vertex, face_touches, kept_at, kept_from, shell_touches, touches_of, vertex_of};
-ghost use Rattle.vertex_facts.specs.VertexFaces.{faces_up_to};
+ghost use Rattle.vertex_facts.specs.FaceTable.{at_vertex, face_touches, shell_there, shell_touches, listed_from, touches_of, vertex_of};
 
 use edge_uses::Span;
 use iges_base::{EntryNo, NoMemory};
@@ -41,6 +40,25 @@ impl Model for VertexFaces {
     ghost view = { λ t. t.touches.items };
 
     ghost invariant = { λ t. t.by_vertex ≡ map vertex_of t.touches.items };
+}
+
+/// The faces at a vertex in the first shells of a solid (own). It looks into the table of all faces.
+#[derive(Drop)]
+pub struct FacesUpTo<'a> {
+    touches: &'a [FaceAtVertex],
+    places: &'a [u32],
+}
+
+impl<'a> Model for FacesUpTo<'a> {
+    ghost use Rattle.std.specs.Prelude.{◌<◌, ℕ, List, All, length, flat_map};
+    ghost use Rattle.iges_base.specs.declared.entry_no.EntryNo.{EntryNo as AnyEntryNo};
+    ghost use Rattle.vertex_facts.specs.FaceTable.{listed_from};
+
+    ghost Value = { List (ℕ × AnyEntryNo) };
+
+    ghost view = { λ f. flat_map (listed_from f.touches.now) f.places.now };
+
+    ghost invariant = { λ f. All (λ n. n < length f.touches.now) f.places.now };
 }
 
 // Appends the face once for each of these vertices.
@@ -144,68 +162,73 @@ pub fn faces_by_vertex(alloc: Global, solid: &Solid) -> Result<VertexFaces, NoMe
     Ok(VertexFaces { touches, by_vertex })
 }
 
-// Appends a face with its shell, unless the shell is after `last`.
-fn push_kept(
-    out: &mut Vec<(u32, EntryNo)>,
-    last: u32,
-    touch: Option<FaceAtVertex>,
-) -> Result<(), NoMemory>
-    ensures { IfOk result (λ _. out.new.items ≡ out.old.items ++ kept_at last touch) }
+// The shell of the face at a place of the table; 0 past its end.
+fn shell_at_place(touches: &[FaceAtVertex], place: u32) -> u32
+    ensures { result ≡ shell_there touches.now place }
 {
-    match touch {
-        Some(touch) if touch.shell <= last => {
-            out.push((touch.shell, touch.face))?;
-            Ok(())
-        }
-        _ => Ok(()),
+    match touches.get(place as usize) {
+        Some(touch) => touch.shell,
+        None => 0,
     }
 }
 
-fn push_place(
-    out: &mut Vec<(u32, EntryNo)>,
-    last: u32,
-    touches: &[FaceAtVertex],
-    place: u32,
-) -> Result<(), NoMemory>
-    ensures { IfOk result (λ _. out.new.items ≡ out.old.items ++ kept_from last touches.now place) }
+// How many of these places have a shell up to `last`: the first ones, where the shells rise along the places.
+fn count_up_to(touches: &[FaceAtVertex], places: &[u32], last: u32) -> usize
+    ensures within { result ≤ length places.now }
+    ensures point { IsNonDecreasingBy (shell_there touches.now) places.now
+        → IsPartitionPoint (λ n. shell_there touches.now n ≤ last)
+        (λ n. last < shell_there touches.now n) places.now result }
 {
-    push_kept(out, last, touches.get(place as usize).copied())
+    places.partition_point(|place| shell_at_place(touches, *place) <= last)
 }
 
-// The faces at these places, with their shells, as far as shell `last`.
-fn kept(
-    alloc: Global,
-    touches: &[FaceAtVertex],
-    places: &[u32],
-    last: u32,
-) -> Result<Vec<(u32, EntryNo)>, NoMemory>
-    ensures { IfOk result (λ out. out.items ≡ flat_map (kept_from last touches.now) places.now) }
+// The face at the i-th of these places, after the number of its shell.
+fn face_at(touches: &[FaceAtVertex], places: &[u32], i: usize) -> (u32, EntryNo)
+    requires place { i < length places.now }
+    requires touch { get_or places.now i 0 < length touches.now }
+    ensures { listed_from touches.now (get_or places.now i 0) ≡ result ∷ [] }
 {
-    let mut out = Vec::new(alloc);
-    'places: for i in 0..places.len() {
-        push_place(&mut out, last, touches, places[i])?;
-    }
-    Ok(out)
+    let touch = touches[places[i] as usize];
+    (touch.shell, touch.face)
 }
 
 impl VertexFaces {
-    ghost use Rattle.std.specs.Prelude.{◌≡◌, ◌<◌, length, IfOk};
+    ghost use Rattle.std.specs.Prelude.{◌≡◌, ◌<◌, length};
     ghost use Rattle.solid_data.specs.SolidData.{SolidData};
     ghost use Rattle.vertex_facts.specs.FaceTable.{touches_of};
     ghost use Rattle.vertex_facts.specs.VertexFaces.{faces_up_to};
 
-    /// The faces at a vertex in a shell and in the shells before it, each with its shell's number, from 0: shell by
-    /// shell, and in each as listed (own).
-    pub fn up_to(
-        &self,
-        alloc: Global,
-        shell: ShellAt,
-        vertex: VertexId,
-    ) -> Result<Vec<(u32, EntryNo)>, NoMemory>
+    /// The faces at a vertex in a shell and in the shells before it: shell by shell, and in each as listed (own). Where
+    /// they end is found by halving, and none is copied.
+    pub fn up_to(&self, shell: ShellAt, vertex: VertexId) -> FacesUpTo<'_>
         ensures { (s : SolidData) → self.now ≡ touches_of s → vertex.0 < length s.vertices
-            → IfOk result (λ out. out.items ≡ faces_up_to s shell.0 vertex.0) }
+            → result ≡ faces_up_to s shell.0 vertex.0 }
     {
+        let touches = self.touches.as_slice();
         let places = self.by_vertex.places(vertex.0);
-        kept(alloc, self.touches.as_slice(), places, shell.0)
+        let count = count_up_to(touches, places, shell.0);
+        FacesUpTo {
+            touches,
+            places: &places[..count],
+        }
+    }
+}
+
+impl<'a> FacesUpTo<'a> {
+    ghost use Rattle.std.specs.Prelude.{◌≡◌, ◌<◌, Some, length, slice_get};
+
+    /// How many faces there are.
+    pub fn len(&self) -> usize
+        ensures { result ≡ length self.now }
+    {
+        self.places.len()
+    }
+
+    /// The face at a place of this list, from 0, after the number of its shell, from 0 (own).
+    pub fn face(&self, i: usize) -> (u32, EntryNo)
+        requires { i < length self.now }
+        ensures { slice_get self.now i ≡ Some result }
+    {
+        face_at(self.touches, self.places, i)
     }
 }

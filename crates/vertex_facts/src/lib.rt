@@ -4,5 +4,5 @@
 mod faces;
 mod turning;
 
-pub use faces::{VertexFaces, faces_by_vertex};
+pub use faces::{FacesUpTo, VertexFaces, faces_by_vertex};
 pub use turning::{AtVertex, VertexTables, around, vertex_tables};

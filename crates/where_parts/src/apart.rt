@@ -1,6 +1,6 @@
 //! The paragraph on vertices that a shell shares with shells before it.
 
-ghost use Rattle.std.specs.Prelude.{◌≡◌, ◌<◌, ◌+◌, ◌-◌, ◌++◌, ◌∷◌, [], ℕ, All, length, map, flat_map, take, slice_get, OnOk};
+ghost use Rattle.std.specs.Prelude.{◌≡◌, ◌<◌, ◌≤◌, ◌+◌, ◌-◌, ◌++◌, ◌∷◌, [], ℕ, All, length, map, flat_map, take, slice_get, OnOk};
 ghost use Rattle.edge_uses.specs.ShellRows.{rows_of};
 ghost use Rattle.iges_base.specs.declared.entry_no.EntryNo.{EntryNo as AnyEntryNo};
 ghost use Rattle.solid_faults.specs.Edges.{shared_of};
@@ -12,8 +12,7 @@ use crate::lines::{put_count, put_head, put_vertex_line};
 use iges_base::{EntryNo, NoMemory, Out};
 use iges_params::File;
 use solid_data::{Rule, ShellAt, Solid, VertexId};
-use std::alloc::Global;
-use vertex_facts::VertexFaces;
+use vertex_facts::{FacesUpTo, VertexFaces};
 use where_text::{EntryNumbers, Listing, put_face, put_more_facts, put_more_items};
 
 // A line for a face, given with the number of its shell from 0.
@@ -33,18 +32,22 @@ fn put_in_shell(
     out.put(b"\n")
 }
 
+// Lines for so many of the faces, the first ones.
 fn put_in_shells(
     out: &mut Out,
     named: &mut EntryNumbers,
     file: &File,
-    faces: &[(u32, EntryNo)],
+    faces: &FacesUpTo,
+    count: usize,
 ) -> Result<(), NoMemory>
-    ensures text { OnOk result (out.new ≡ out.old ++ flat_map (in_shell_line file.now) faces.now) }
-    ensures named { OnOk result (named.new ≡ named.old
-        ++ map (λ (x : ℕ × AnyEntryNo). x.1) faces.now) }
+    requires { count ≤ length faces.now }
+    ensures text { OnOk result (out.new
+        ≡ out.old ++ flat_map (in_shell_line file.now) (take count faces.now)) }
+    ensures named { OnOk result (named.new
+        ≡ named.old ++ map (λ (x : ℕ × AnyEntryNo). x.1) (take count faces.now)) }
 {
-    'faces: for i in 0..faces.len() {
-        put_in_shell(out, named, file, faces[i])?;
+    'faces: for i in 0..count {
+        put_in_shell(out, named, file, faces.face(i))?;
     }
     Ok(())
 }
@@ -56,7 +59,7 @@ fn put_shared_lines(
     file: &File,
     solid: &Solid,
     vertex: u32,
-    faces: &[(u32, EntryNo)],
+    faces: &FacesUpTo,
     listing: Listing,
 ) -> Result<(), NoMemory>
     ensures text { OnOk result (out.new ≡ out.old
@@ -66,12 +69,11 @@ fn put_shared_lines(
 {
     let count = listing.count(faces.len());
     put_vertex_line(out, file, solid, "vertex", vertex)?;
-    put_in_shells(out, named, file, &faces[..count])?;
+    put_in_shells(out, named, file, faces, count)?;
     put_more_facts(out, faces.len() - count)
 }
 
 fn put_shared(
-    alloc: Global,
     out: &mut Out,
     named: &mut EntryNumbers,
     file: &File,
@@ -88,12 +90,11 @@ fn put_shared(
     ensures named { OnOk result (named.new ≡ named.old
         ++ shared_named listing solid.now shell.0 vertex) }
 {
-    let faces = faces.up_to(alloc, shell, VertexId(vertex))?;
-    put_shared_lines(out, named, file, solid, vertex, faces.as_slice(), listing)
+    let faces = faces.up_to(shell, VertexId(vertex));
+    put_shared_lines(out, named, file, solid, vertex, &faces, listing)
 }
 
 fn put_each_shared(
-    alloc: Global,
     out: &mut Out,
     named: &mut EntryNumbers,
     file: &File,
@@ -111,16 +112,13 @@ fn put_each_shared(
         ++ flat_map (shared_named listing solid.now shell.0) shared.now) }
 {
     'vertices: for i in 0..shared.len() {
-        put_shared(
-            alloc, out, named, file, solid, shell, faces, shared[i], listing,
-        )?;
+        put_shared(out, named, file, solid, shell, faces, shared[i], listing)?;
     }
     Ok(())
 }
 
 #[tactic(auto, unfolding(crate::specs::Apart::apart_lines))]
 fn put_apart_lines(
-    alloc: Global,
     out: &mut Out,
     named: &mut EntryNumbers,
     file: &File,
@@ -140,7 +138,6 @@ fn put_apart_lines(
     let count = listing.count(shared.len());
     put_head(out, Rule::Shared, shell, shared.len())?;
     put_each_shared(
-        alloc,
         out,
         named,
         file,
@@ -156,7 +153,6 @@ fn put_apart_lines(
 /// Appends the paragraph on the vertices that a shell shares with shells before it, for a solid whose faces at each vertex
 /// are given (own); nothing where there are none.
 pub fn put_apart(
-    alloc: Global,
     out: &mut Out,
     named: &mut EntryNumbers,
     file: &File,
@@ -177,7 +173,5 @@ pub fn put_apart(
     if shared.is_empty() {
         return Ok(());
     }
-    put_apart_lines(
-        alloc, out, named, file, solid, shell, faces, shared, listing,
-    )
+    put_apart_lines(out, named, file, solid, shell, faces, shared, listing)
 }

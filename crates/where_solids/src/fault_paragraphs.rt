@@ -97,5 +97,5 @@ pub fn put_faults(
     let linking = faults.linking();
     put_linking(alloc, out, named, file, solid, at, rows, linking, listing)?;
     let shared = faults.shared();
-    put_apart(alloc, out, named, file, solid, at, faces, shared, listing)
+    put_apart(out, named, file, solid, at, faces, shared, listing)
 }

@@ -1,4 +1,4 @@
-use Rattle.std.proofs.Common.{arith, slice_get}
+use Rattle.std.proofs.Common.{arith}
 use Rattle.std.proofs.lemmas.Option.{get_or_from_slice_get, slice_get_within}
 use Rattle.solid_faults.proofs.Definite.{few_shells}
 use Rattle.solid_faults.proofs.GapSteps.{item_step}

@@ -1,4 +1,4 @@
-use Rattle.std.proofs.Common.{◌∙◌, ap, arith, refl, map, length, ℕ}
+use Rattle.std.proofs.Common.{◌∙◌, ap, arith, refl, map}
 use Rattle.vertex_facts.specs.FaceTable.{vertex_of}
 use Rattle.vertex_facts.proofs.FaceSteps.{few_touches, touches_within}
 use Rattle.vertex_facts.proofs.faces.faces_by_vertex.Goals as goal

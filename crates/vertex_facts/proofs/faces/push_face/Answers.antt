@@ -1,4 +1,4 @@
-use Rattle.std.proofs.Common.{◌≡◌, ◌++◌, ◌∙◌, ap, subst, length, map}
+use Rattle.std.proofs.Common.{◌≡◌, ◌++◌, ◌∙◌, subst, length, map}
 use Rattle.std.specs.Prelude.{IfOk}
 use Rattle.edge_uses.specs.Before.{face_vertices}
 use Rattle.solid_faults.proofs.PartSteps.{rises_to}

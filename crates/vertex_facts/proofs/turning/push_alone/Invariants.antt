@@ -1,5 +1,5 @@
 use Rattle.std.proofs.Common.{◌≡◌, ◌++◌, drop, flat_map}
-use Rattle.vertex_facts.specs.FanFacts.{alone_if, alone_numbered}
+use Rattle.vertex_facts.specs.FanFacts.{alone_numbered}
 use Rattle.vertex_facts.proofs.turning.push_alone.Given as goal
 
 abbrev pub invariant-points : goal.invariant-points

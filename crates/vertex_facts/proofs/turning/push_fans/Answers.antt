@@ -1,4 +1,4 @@
-use Rattle.std.proofs.Common.{ℕ, ◌≡◌, ◌++◌, ◌∙◌, ap, arith, refl, sym, get_or, flat_map}
+use Rattle.std.proofs.Common.{ℕ, ◌++◌, ◌∙◌, ap, arith, refl, sym, get_or, flat_map}
 use Rattle.solid_faults.specs.Groups.{places_of}
 use Rattle.vertex_facts.specs.FanFacts.{least_if, on_fans}
 use Rattle.vertex_facts.proofs.TurnSteps.{fan_step, least_short, row_split, rows_inside}
