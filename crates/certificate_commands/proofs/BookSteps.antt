@@ -25,8 +25,7 @@ use Rattle.command_replies.specs.declared.reply.Reply.{Reply}
 use Rattle.command_replies.specs.Texts.{accepted_line, accepted_lines, illegal_line, solid_fail_text}
 use Rattle.command_replies.specs.Due.{Exactly, Owed, OfText}
 use Rattle.certificate_commands.specs.Due.{OfCertificate, OfUpgrade, OfVerify, upgraded_for}
-use Rattle.certificate_commands.specs.Judging.{IsChecked, TellsFalse}
-use Rattle.certificate_commands.specs.Judging.{HasTooMany}
+use Rattle.certificate_commands.specs.Judging.{HasTooMany, IsChecked, IsDecided, TellsFalse}
 use Rattle.command_replies.specs.Outcome.{ReadsCertificate}
 use Rattle.command_replies.specs.Replies.{IsReply, TakesWithin}
 use Rattle.certificate_commands.specs.Books.{BeginsPart, GoesOn, HasBegun, IsNextBegun, IsPartLast, IsPlace, held}
@@ -96,7 +95,7 @@ rest_behind f certificate ns n line rest next few (front, whole, begins) (some, 
 
 module _ (f : Contents) (ns : List ℕ) (before left : Option (List ℕ)) (buffer : List ℕ) (b : Begun) (h : HasBegun f ns before left buffer b) where
   -- what is checked of the solid fails
-  pub refused_part : (reply : Reply) → TellsFalse (solid_fail_text b.no.0) f b.no.0 reply → (more : List ℕ) → length ((h.front ++ held buffer b) ++ more) ≤ CERT_LIMIT → OfVerify ((h.front ++ held buffer b) ++ more) f reply.answer reply.text
+  pub refused_part : (reply : Reply) → TellsFalse (solid_fail_text b.no.0) f b.no.0 reply → IsDecided f (h.front ++ held buffer b) reply
   refused_part reply (x, first, exact) more few =
       let same = append_assoc h.front (held buffer b) more in
       subst (λ (c : List ℕ). OfVerify c f reply.answer reply.text) (sym same)

@@ -18,7 +18,6 @@ use Rattle.topo_certificate.specs.Legal.{IsLegal, IsFirstBad}
 use Rattle.topo_certificate.specs.Feeding.{FedKept, IsFed}
 use Rattle.command_replies.specs.declared.answer.Answer.TheVariants.{Done, No, TooLarge}
 use Rattle.command_replies.specs.declared.reply.Reply.{Reply}
-use Rattle.certificate_commands.specs.declared.judging.Judging.{Judging}
 use Rattle.certificate_commands.specs.declared.opening.Opened.{Opened}
 use Rattle.command_replies.specs.Texts.{accepted_line, accepted_lines, fail_line, illegal_line}
 use Rattle.certificate_commands.specs.declared.books.Begun.{Begun}
@@ -26,7 +25,7 @@ use Rattle.command_replies.specs.Due.{Owed, Exactly}
 use Rattle.certificate_commands.specs.Due.{OfCertificate, OfVerify}
 use Rattle.command_replies.specs.Replies.{IsReply}
 use Rattle.certificate_commands.specs.Books.{HasBegun}
-use Rattle.certificate_commands.specs.Judging.{IsChecked, IsOfOne, TellsFalse, HasChecked, IsJudged, IsRestJudged, HasTooMany, HasOpened, EndsEarly}
+use Rattle.certificate_commands.specs.Judging.{IsChecked, IsOfOne, TellsFalse, HasChecked, IsDecided, IsRestFed, IsRestRead, HasTooMany, HasOpened, EndsEarly}
 use Rattle.certificate_commands.proofs.BookParts.{book_begins}
 use Rattle.certificate_commands.proofs.BookReads.{between_long}
 use Rattle.certificate_commands.proofs.VerifyAnswers.{bad_owed, false_owed, legal_owed}
@@ -43,14 +42,7 @@ accepted_more ns n = flat_map-append accepted_line ns (n ∷ []) ∙ ap (λ (t :
 
 -- ---- more of the text
 
--- a reply that is decided stays so
-pub decided_more : (f : Contents) (text piece : List ℕ) (reply : Reply) → ((more : List ℕ) → length (text ++ more) ≤ CERT_LIMIT → OfVerify (text ++ more) f reply.answer reply.text)
-    → (more : List ℕ) → length ((text ++ piece) ++ more) ≤ CERT_LIMIT → OfVerify ((text ++ piece) ++ more) f reply.answer reply.text
-decided_more f text piece reply owed more few =
-    let same = append_assoc text piece more in
-    subst (λ (c : List ℕ). OfVerify c f reply.answer reply.text) (sym same) (owed (piece ++ more) (subst (λ (c : List ℕ). length c ≤ CERT_LIMIT) same few))
-
-pub checked_more : (f : Contents) (n : ℕ) (text piece : List ℕ) (old new : FedKept) → ((v : Version) → (t : List ℕ) → IsFed v (solid_of f n) 3 t old → IsFed v (solid_of f n) 3 (t ++ piece) new) → HasChecked f n text old → HasChecked f n (text ++ piece) new
+pub checked_more : (f : Contents) (n : ℕ) (text piece : List ℕ) (old new : FedKept) → ((v : Version) (s : SolidData) (first : ℕ) (t : List ℕ) → IsFed v s first t old → IsFed v s first (t ++ piece) new) → HasChecked f n text old → HasChecked f n (text ++ piece) new
 checked_more f n text piece old new fed h = record {
   version = h.version;
   one = h.one;
@@ -59,15 +51,10 @@ checked_more f n text piece old new fed h = record {
   rest = h.rest ++ piece;
   whole = ap (λ (t : List ℕ). t ++ piece) h.whole ∙ append_assoc h.front h.rest piece;
   opens = h.opens;
-  fed = fed h.version h.rest h.fed;
+  fed = fed h.version (solid_of f n) 3 h.rest h.fed;
 }
 
 -- ---- the reply
-
-pub decided_reply : (f : Contents) (text : List ℕ) (reply : Reply) → ((more : List ℕ) → length (text ++ more) ≤ CERT_LIMIT → OfVerify (text ++ more) f reply.answer reply.text) → length text ≤ CERT_LIMIT → OfVerify text f reply.answer reply.text
-decided_reply f text reply owed few =
-    let same = append-nil text in
-    subst (λ (c : List ℕ). OfVerify c f reply.answer reply.text) same (owed [] (subst (λ (c : List ℕ). length c ≤ CERT_LIMIT) (sym same) few))
 
 -- what a checker says at the end of the lines that it was fed
 abbrev pub Says : FedKept → Result (Unit {0}) Illegal → Type 0
@@ -88,47 +75,55 @@ illegal_reply f n text c bad reply first exact h few =
 
 -- ---- reading the rest
 
--- so many bytes of the rest were taken off and judged
-pub record IsJudgedSoFar (before now : Option (List ℕ)) (came so_far : ℕ) (old new : Judging) : Type 0 where
+-- so many bytes of the rest were taken off
+pub record IsReadSoFar (before now : Option (List ℕ)) (came so_far : ℕ) : Type 0 where
   pub bytes : List ℕ
   pub taken : Consumes before now bytes
   pub long : came + length bytes ≡ so_far
-  pub judged : (f : Contents) (text : List ℕ) → IsJudged f text old → IsJudged f (text ++ bytes) new
 
-pub judged_none : (left : Option (List ℕ)) (came : ℕ) (j : Judging) → IsJudgedSoFar left left came came j j
-judged_none left came j = record {
-  bytes = [];
-  taken = consumes_none left;
-  long = omega arith;
-  judged = λ f text h. subst (λ (t : List ℕ). IsJudged f t j) (sym (append-nil text)) h;
-}
+abbrev pub read_none : (left : Option (List ℕ)) (came : ℕ) → IsReadSoFar left left came came
+read_none left came = record { bytes = []; taken = consumes_none left; long = omega arith }
 
-pub judged_more : (a b c : Option (List ℕ)) (came so_far count : ℕ) (old mid new : Judging) (x : List ℕ) → IsJudgedSoFar a b came so_far old mid → Consumes b c x → length x ≡ count → ((f : Contents) (text : List ℕ) → IsJudged f text mid → IsJudged f (text ++ x) new)
-    → IsJudgedSoFar a c came (so_far + count) old new
-judged_more a b c came so_far count old mid new x s k is next =
-    let long = s.long in
-    record {
-      bytes = s.bytes ++ x;
-      taken = consumes_more a b c s.bytes x s.taken k;
-      long = omega (arith, long, is, length-append s.bytes x);
-      judged = λ f text h. subst (λ (t : List ℕ). IsJudged f t new) (append_assoc text s.bytes x) (next f (text ++ s.bytes) (s.judged f text h));
-    }
+module _ (a b c : Option (List ℕ)) (came so_far : ℕ) (s : IsReadSoFar a b came so_far) where
+  abbrev pub read_more : (count : ℕ) (x : List ℕ) → Consumes b c x → length x ≡ count → IsReadSoFar a c came (so_far + count)
+  read_more count x k is =
+      let long = s.long in
+      record { bytes = s.bytes ++ x; taken = consumes_more a b c s.bytes x s.taken k; long = omega (arith, long, is, length-append s.bytes x) }
 
-pub judged_whole : (a b c : Option (List ℕ)) (came so_far : ℕ) (old new : Judging) → IsJudgedSoFar a b came so_far old new → so_far ≤ CERT_LIMIT → Consumes b c [] → IsAtEnd c → IsRestJudged a c came old new
-judged_whole a b c came so_far old new s few k e =
-    let long = s.long in
-    record {
-      bytes = s.bytes;
-      taken = subst (Consumes a c) (append-nil s.bytes) (consumes_more a b c s.bytes [] s.taken k);
-      ended = e;
-      few = (let h : came + length s.bytes ≤ CERT_LIMIT = omega (arith, long, few) in h);
-      judged = s.judged;
-    }
+  abbrev pub read_whole : so_far ≤ CERT_LIMIT → Consumes b c [] → IsAtEnd c → IsRestRead a c came
+  read_whole few k e =
+      let long = s.long in
+      record {
+        bytes = s.bytes;
+        taken = subst (Consumes a c) (append-nil s.bytes) (consumes_more a b c s.bytes [] s.taken k);
+        ended = e;
+        few = (let h : came + length s.bytes ≤ CERT_LIMIT = omega (arith, long, few) in h);
+      }
 
-pub judged_too_many : (a b c : Option (List ℕ)) (came so_far : ℕ) (old new : Judging) (x : List ℕ) → IsJudgedSoFar a b came so_far old new → Consumes b c x → CERT_LIMIT < so_far + length x → HasTooMany a c came
-judged_too_many a b c came so_far old new x s k above =
-    let long = s.long in
-    (s.bytes ++ x, consumes_more a b c s.bytes x s.taken k, (let h : CERT_LIMIT < came + length (s.bytes ++ x) = omega (arith, long, above, length-append s.bytes x) in h))
+  pub read_too_many : (x : List ℕ) → Consumes b c x → CERT_LIMIT < so_far + length x → HasTooMany a c came
+  read_too_many x k above =
+      let long = s.long in
+      (s.bytes ++ x, consumes_more a b c s.bytes x s.taken k, (let h : CERT_LIMIT < came + length (s.bytes ++ x) = omega (arith, long, above, length-append s.bytes x) in h))
+
+-- the same, and the checker was fed them
+pub record IsFedSoFar (before now : Option (List ℕ)) (came so_far : ℕ) (old new : FedKept) : Type 0 where
+  pub read : IsReadSoFar before now came so_far
+  pub fed : (v : Version) (s : SolidData) (first : ℕ) (text : List ℕ) → IsFed v s first text old → IsFed v s first (text ++ read.bytes) new
+
+pub fed_none : (left : Option (List ℕ)) (came : ℕ) (k : FedKept) → IsFedSoFar left left came came k k
+fed_none left came k = record { read = read_none left came; fed = λ v s first text h. subst (λ (t : List ℕ). IsFed v s first t k) (sym (append-nil text)) h }
+
+module _ (a b c : Option (List ℕ)) (came so_far : ℕ) (old mid : FedKept) (r : IsFedSoFar a b came so_far old mid) where
+  pub fed_more : (new : FedKept) (count : ℕ) (x : List ℕ) → Consumes b c x → length x ≡ count → ((v : Version) (s : SolidData) (first : ℕ) (text : List ℕ) → IsFed v s first text mid → IsFed v s first (text ++ x) new) → IsFedSoFar a c came (so_far + count) old new
+  fed_more new count x k is next = record {
+    read = read_more a b c came so_far r.read count x k is;
+    fed = λ v s first text h. subst (λ (t : List ℕ). IsFed v s first t new) (append_assoc text r.read.bytes x) (next v s first (text ++ r.read.bytes) (r.fed v s first text h));
+  }
+
+  pub fed_whole : so_far ≤ CERT_LIMIT → Consumes b c [] → IsAtEnd c → IsRestFed a c came old mid
+  fed_whole few k e =
+      let whole = read_whole a b c came so_far r.read few k e in
+      record { bytes = whole.bytes; taken = whole.taken; ended = whole.ended; few = whole.few; fed = r.fed }
 
 -- ---- the reply behind a part that was read
 
@@ -142,28 +137,35 @@ pub rest_too_large : (f : Contents) (a b c : Option (List ℕ)) (text : List ℕ
 rest_too_large f a b c text came reply k long many exact =
     too_large_owed OfYes f a (text ++ many.0) c reply (consumes_more a b c text many.0 k many.1) (omega (arith, long, many.2, length-append text many.0)) exact
 
-pub rest_owed : (f : Contents) (a b c : Option (List ℕ)) (text : List ℕ) (came : ℕ) (old new : Judging) (reply : Reply) → Consumes a b text → length text ≡ came → IsJudged f text old → IsRestJudged b c came old new
-    → ((f : Contents) (text : List ℕ) → IsJudged f text new → length text ≤ CERT_LIMIT → OfVerify text f reply.answer reply.text) → IsReply (λ certificate. OfVerify certificate f) a reply
-rest_owed f a b c text came old new reply k long judged rest owed =
+pub decided_owed : (f : Contents) (a b c : Option (List ℕ)) (text : List ℕ) (came : ℕ) (reply : Reply) → Consumes a b text → length text ≡ came → IsDecided f text reply → IsRestRead b c came → IsReply (λ certificate. OfVerify certificate f) a reply
+decided_owed f a b c text came reply k long decided rest =
     let few = rest.few in
     record {
       bytes = text ++ rest.bytes;
       told = told_all a c (text ++ rest.bytes) (consumes_more a b c text rest.bytes k rest.taken) rest.ended;
-      owed = owed f (text ++ rest.bytes) (rest.judged f text judged) (omega (arith, long, few, length-append text rest.bytes));
+      owed = decided rest.bytes (omega (arith, long, few, length-append text rest.bytes));
+    }
+
+pub rest_owed : (f : Contents) (a b c : Option (List ℕ)) (text : List ℕ) (came n : ℕ) (old new : FedKept) (reply : Reply) → Consumes a b text → length text ≡ came → HasChecked f n text old → IsRestFed b c came old new
+    → ((f : Contents) (text : List ℕ) → HasChecked f n text new → length text ≤ CERT_LIMIT → OfVerify text f reply.answer reply.text) → IsReply (λ certificate. OfVerify certificate f) a reply
+rest_owed f a b c text came n old new reply k long checked rest owed =
+    let few = rest.few in
+    record {
+      bytes = text ++ rest.bytes;
+      told = told_all a c (text ++ rest.bytes) (consumes_more a b c text rest.bytes k rest.taken) rest.ended;
+      owed = owed f (text ++ rest.bytes) (checked_more f n text rest.bytes old new rest.fed checked) (omega (arith, long, few, length-append text rest.bytes));
     }
 
 -- ---- behind the first two lines
 
-pub bad_opening_judged : (f : Contents) (text : List ℕ) (bad : Illegal) (reply : Reply) → ((more : List ℕ) → IsBadOpening (text ++ more) bad) → (reply.answer ≡ No) × (reply.text ≡ illegal_line bad)
-    → (more : List ℕ) → length (text ++ more) ≤ CERT_LIMIT → OfVerify (text ++ more) f reply.answer reply.text
-bad_opening_judged f text bad reply always exact more few = inr (inl (few, bad, always more, exact))
+pub bad_opening_decides : (f : Contents) (text : List ℕ) (bad : Illegal) (reply : Reply) → ((more : List ℕ) → IsBadOpening (text ++ more) bad) → (reply.answer ≡ No) × (reply.text ≡ illegal_line bad) → IsDecided f text reply
+bad_opening_decides f text bad reply always exact more few = inr (inl (few, bad, always more, exact))
 
 pub early_owed : (f : Contents) (a b : Option (List ℕ)) (bad : Illegal) (reply : Reply) → EndsEarly a b bad → (reply.answer ≡ No) × (reply.text ≡ illegal_line bad) → IsReply (λ certificate. OfVerify certificate f) a reply
 early_owed f a b bad reply h exact = record { bytes = h.bytes; told = told_all a b h.bytes h.taken h.ended; owed = inr (inl (h.few, bad, h.wrong, exact)) }
 
-pub refused_judged : (f : Contents) (a b : Option (List ℕ)) (buffer : List ℕ) (o : Opened) (reply : Reply) (h : HasOpened a b buffer o) → IsOfOne o.version → TellsFalse fail_line f o.no.0 reply
-    → (more : List ℕ) → length ((h.front ++ h.rest) ++ more) ≤ CERT_LIMIT → OfVerify ((h.front ++ h.rest) ++ more) f reply.answer reply.text
-refused_judged f a b buffer o reply h one (x, first, exact) more few =
+pub refusal_decides : (f : Contents) (a b : Option (List ℕ)) (buffer : List ℕ) (o : Opened) (reply : Reply) (h : HasOpened a b buffer o) → IsOfOne o.version → TellsFalse fail_line f o.no.0 reply → IsDecided f (h.front ++ h.rest) reply
+refusal_decides f a b buffer o reply h one (x, first, exact) more few =
     let same = append_assoc h.front h.rest more in
     subst (λ (c : List ℕ). OfVerify c f reply.answer reply.text) (sym same)
     (false_owed OfYes f (h.front ++ (h.rest ++ more)) o.version o.no.0 (cut_lines (h.rest ++ more)) reply.answer reply.text (subst (λ (c : List ℕ). length c ≤ CERT_LIMIT) same few) (h.opens (h.rest ++ more)) one x first exact)

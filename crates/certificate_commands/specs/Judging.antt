@@ -15,8 +15,6 @@ use Rattle.topo_certificate.specs.declared.TheConstants.{CERT_LIMIT}
 use Rattle.topo_certificate.specs.Feeding.{FedKept, IsFed}
 use Rattle.solid_check.specs.Checked.{checked}
 use Rattle.command_replies.specs.declared.reply.Reply.{Reply}
-use Rattle.certificate_commands.specs.declared.judging.Judging.{Judging}
-use Rattle.certificate_commands.specs.declared.judging.Judging.TheVariants as judging
 use Rattle.certificate_commands.specs.declared.opening.Opened.{Opened}
 use Rattle.certificate_commands.specs.declared.opening.OpeningEnd.{OpeningEnd}
 use Rattle.certificate_commands.specs.declared.opening.OpeningEnd.TheVariants as opening
@@ -50,18 +48,24 @@ pub record HasChecked (f : Contents) (n : ℕ) (text : List ℕ) (c : FedKept) :
   pub opens : (more : List ℕ) → Opens (front ++ more) version n (cut_lines more)
   pub fed : IsFed version (solid_of f n) 3 rest c
 
--- What was judged stands for this text, the certificate so far: the reply is owed whatever comes, or its lines are judged.
-abbrev pub IsJudged : Contents → List ℕ → Judging → Type 0
-IsJudged f text (judging.Decided reply) = (more : List ℕ) → length (text ++ more) ≤ CERT_LIMIT → OfVerify (text ++ more) f reply.answer reply.text
-IsJudged f text (judging.Lines checker named) = HasChecked f named.0 text checker
+-- This text, the certificate so far, decides the reply: it is owed whatever comes.
+abbrev pub IsDecided : Contents → List ℕ → Reply → Type 0
+IsDecided f text reply = (more : List ℕ) → length (text ++ more) ≤ CERT_LIMIT → OfVerify (text ++ more) f reply.answer reply.text
 
--- The rest of a certificate, of which so many bytes had come, was read to its end and judged.
-pub record IsRestJudged (before after : Option (List ℕ)) (came : ℕ) (old new : Judging) : Type 0 where
+-- The rest of a certificate, of which so many bytes had come, was read to its end.
+pub record IsRestRead (before after : Option (List ℕ)) (came : ℕ) : Type 0 where
   pub bytes : List ℕ
   pub taken : Consumes before after bytes
   pub ended : IsAtEnd after
   pub few : came + length bytes ≤ CERT_LIMIT
-  pub judged : (f : Contents) (text : List ℕ) → IsJudged f text old → IsJudged f (text ++ bytes) new
+
+-- The rest was, and the checker was fed it.
+pub record IsRestFed (before after : Option (List ℕ)) (came : ℕ) (old new : FedKept) : Type 0 where
+  pub bytes : List ℕ
+  pub taken : Consumes before after bytes
+  pub ended : IsAtEnd after
+  pub few : came + length bytes ≤ CERT_LIMIT
+  pub fed : (v : Version) (s : SolidData) (first : ℕ) (text : List ℕ) → IsFed v s first text old → IsFed v s first (text ++ bytes) new
 
 -- More bytes than the limit came.
 abbrev pub HasTooMany : Option (List ℕ) → Option (List ℕ) → ℕ → Type 0

@@ -2,21 +2,25 @@
 
 ghost use Rattle.certificate_commands.specs.Books.{EndsInside, HasBegun, HasNext, IsInPart, IsPartEnd, IsPartJudged, IsPlace, Leaves, held};
 ghost use Rattle.certificate_commands.specs.Due.{OfVerify};
+ghost use Rattle.certificate_commands.specs.Judging.{IsChecked};
 ghost use Rattle.command_replies.specs.Outcome.{ReadsCertificate};
 ghost use Rattle.command_replies.specs.Replies.{CountAfterCall, IsReply, TakesWithin};
+ghost use Rattle.iges_params.specs.Contents.{Contents};
 ghost use Rattle.solid_data.specs.SolidData.{SolidData};
 ghost use Rattle.std.specs.Prelude.{◌≡◌, ◌-◌, ◌≤◌, ◌++◌, [], List, ℕ, Option, MatchOption, length, take, IfOk, IfSome};
 ghost use Rattle.topo_certificate.specs.Feeding.{IsFedPart};
 ghost use Rattle.topo_certificate.specs.PartEnds.{EndsPart};
 ghost use Rattle.cert_lines.specs.declared.version.Version.{Version as Edition};
+ghost use Rattle.cert_lines.specs.declared.version.Version.TheVariants.{Two};
 
 use crate::checking::part_solid;
-use crate::judging::{Judging, rest_reply};
+use crate::decided::decided_reply;
 use brep_walk::Walker;
 use command_replies::{Answer, Reply, Stop, illegal, put_accepted, too_large};
 use iges_base::{EntryNo, NoMemory, Out};
 use iges_io::{NextPiece, PIECE, Source, next_piece};
 use iges_params::File;
+use solid_data::Solid;
 use std::alloc::Global;
 use topo_certificate::{CERT_LIMIT, Checker, PartStep};
 
@@ -128,6 +132,63 @@ fn read_part<C: Source>(
     }
 }
 
+// Judges the lines of the part that has begun, by a checker that was given none of them.
+fn part_outcome<C: Source>(
+    alloc: Global,
+    checker: &mut Checker<'_>,
+    cert: &mut C,
+    piece: &mut [u8],
+    begun: Begun,
+) -> Result<PartJudged, Stop>
+    requires ready { C.can_read cert.old }
+    requires room { length piece.old ≡ PIECE }
+    requires place { IsPlace piece.old begun }
+    requires starts { (s : SolidData) × IsFedPart Two s begun.line [] checker.old }
+    ensures found { (f : Contents) (s : SolidData) (ns : List ℕ) (before : Option (List ℕ))
+        → HasBegun f ns before (C.left cert.old) piece.old begun
+        → IsChecked f begun.no.0 s → IsFedPart Two s begun.line [] checker.old
+        → IfOk result (IsPartJudged f ns begun.no.0 before (C.left cert.new) piece.new) }
+    ensures leaves { IfOk result (Leaves (C.left cert.old) (C.left cert.new) piece.new begun) }
+    ensures count { CountAfterCall (C.faults cert.old) (C.faults cert.new) result }
+    ensures taken { TakesWithin (CERT_LIMIT - begun.came) (C.left cert.old)
+        (C.left cert.new) result }
+    ensures more { IfOk result (λ judged. HasNext judged → C.can_read cert.new) }
+{
+    match read_part(cert, piece, checker, begun)? {
+        PartEnd::Next(next) => Ok(PartJudged::Next(next)),
+        PartEnd::Last => match checker.finish() {
+            Ok(()) => Ok(PartJudged::Last),
+            Err(bad) => Ok(PartJudged::Decided(illegal(alloc, bad)?)),
+        },
+        PartEnd::TooLarge => Ok(PartJudged::Decided(too_large(alloc))),
+    }
+}
+
+// Judges the lines of the part that has begun, for its solid.
+fn judge_part_lines<C: Source>(
+    alloc: Global,
+    solid: &Solid,
+    cert: &mut C,
+    piece: &mut [u8],
+    begun: Begun,
+) -> Result<PartJudged, Stop>
+    requires ready { C.can_read cert.old }
+    requires room { length piece.old ≡ PIECE }
+    requires place { IsPlace piece.old begun }
+    ensures found { (f : Contents) (ns : List ℕ) (before : Option (List ℕ))
+        → HasBegun f ns before (C.left cert.old) piece.old begun
+        → IsChecked f begun.no.0 solid.now
+        → IfOk result (IsPartJudged f ns begun.no.0 before (C.left cert.new) piece.new) }
+    ensures leaves { IfOk result (Leaves (C.left cert.old) (C.left cert.new) piece.new begun) }
+    ensures count { CountAfterCall (C.faults cert.old) (C.faults cert.new) result }
+    ensures taken { TakesWithin (CERT_LIMIT - begun.came) (C.left cert.old)
+        (C.left cert.new) result }
+    ensures more { IfOk result (λ judged. HasNext judged → C.can_read cert.new) }
+{
+    let mut checker = Checker::part(alloc, solid, begun.line)?;
+    part_outcome(alloc, &mut checker, cert, piece, begun)
+}
+
 // Judges the part that has begun.
 fn judge_part<C: Source>(
     alloc: Global,
@@ -152,19 +213,11 @@ fn judge_part<C: Source>(
     let solid = match part_solid(alloc, walker, begun.no)? {
         Ok(solid) => solid,
         Err(reply) => {
-            let reply = rest_reply(alloc, cert, piece, begun.came, Judging::Decided(reply))?;
+            let reply = decided_reply(alloc, cert, piece, begun.came, reply)?;
             return Ok(PartJudged::Decided(reply));
         }
     };
-    let mut checker = Checker::part(alloc, &solid, begun.line)?;
-    match read_part(cert, piece, &mut checker, begun)? {
-        PartEnd::Next(next) => Ok(PartJudged::Next(next)),
-        PartEnd::Last => match checker.finish() {
-            Ok(()) => Ok(PartJudged::Last),
-            Err(bad) => Ok(PartJudged::Decided(illegal(alloc, bad)?)),
-        },
-        PartEnd::TooLarge => Ok(PartJudged::Decided(too_large(alloc))),
-    }
+    judge_part_lines(alloc, &solid, cert, piece, begun)
 }
 
 /// The reply for a book whose first part has begun. It is judged while it comes, one solid at a time, and is read to its

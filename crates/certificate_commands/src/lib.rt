@@ -3,6 +3,7 @@
 
 mod books;
 mod checking;
+mod decided;
 mod held_book;
 mod judging;
 mod opening;

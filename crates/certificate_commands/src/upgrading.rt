@@ -6,7 +6,8 @@ ghost use Rattle.certificate_commands.specs.Due.{OfUpgrade};
 ghost use Rattle.certificate_commands.specs.Judging.{IsOfOne};
 ghost use Rattle.command_replies.specs.Outcome.{ReadsCertificate};
 ghost use Rattle.command_replies.specs.Replies.{CountAfterCall, IsReply, TakesWithin};
-ghost use Rattle.std.specs.Prelude.{◌≤◌, length, IfOk};
+ghost use Rattle.std.specs.Prelude.{◌≤◌, length, IfOk, MatchResult};
+ghost use Rattle.topo_certificate.specs.Legal.{IsFirstBad, IsLegal};
 ghost use Rattle.topo_certificate.specs.Upgraded.{upgraded};
 
 use crate::checking::named_solid;
@@ -19,7 +20,7 @@ use iges_io::Source;
 use iges_params::File;
 use solid_data::Solid;
 use std::alloc::Global;
-use topo_certificate::{CERT_LIMIT, Checker, UpgradeFault, Version, check, upgrade};
+use topo_certificate::{CERT_LIMIT, Checker, Illegal, UpgradeFault, Version, check, upgrade};
 
 // The reply with the text of version 2.
 fn upgraded_reply(alloc: Global, solid: &Solid, certificate: &[u8]) -> Result<Reply, NoMemory>
@@ -34,6 +35,21 @@ fn upgraded_reply(alloc: Global, solid: &Solid, certificate: &[u8]) -> Result<Re
         Err(UpgradeFault::TooLarge) => Ok(too_large(alloc)),
         Err(UpgradeFault::NoMemory) => Err(NoMemory),
     }
+}
+
+// Whether the lines of this rest of a certificate, of which the first is line 3, are legal for a solid.
+fn judge_lines(
+    alloc: Global,
+    solid: &Solid,
+    version: Version,
+    rest: &[u8],
+) -> Result<Result<(), Illegal>, NoMemory>
+    ensures { IfOk result (λ judged. MatchResult judged
+        (λ _. IsLegal version solid.now (cut_lines rest.now))
+        (λ bad. IsFirstBad version solid.now 3 (cut_lines rest.now) bad)) }
+{
+    let mut checker = Checker::new(alloc, solid, version)?;
+    Ok(check(&mut checker, rest))
 }
 
 // The reply for a certificate of one solid, of this version, that has this rest after its first two lines.
@@ -54,8 +70,7 @@ fn upgrade_alone(
         Ok(solid) => solid,
         Err(reply) => return Ok(reply),
     };
-    let mut checker = Checker::new(alloc, &solid, version)?;
-    match check(&mut checker, rest) {
+    match judge_lines(alloc, &solid, version, rest)? {
         Ok(()) => upgraded_reply(alloc, &solid, certificate),
         Err(bad) => illegal(alloc, bad),
     }

@@ -1,6 +1,6 @@
 use Rattle.std.proofs.Common.{◌++◌, arith}
 use Rattle.topo_certificate.specs.declared.TheConstants.{CERT_LIMIT}
-use Rattle.certificate_commands.proofs.Judged.{OfYes, too_large_owed, early_owed, bad_opening_judged, opened_holds}
+use Rattle.certificate_commands.proofs.Judged.{OfYes, too_large_owed, early_owed, bad_opening_decides, opened_holds}
 use Rattle.command_replies.proofs.Taken.{within_behind}
 use Rattle.certificate_commands.proofs.verifying.verify_certificate.Goals as goal
 
@@ -12,7 +12,7 @@ returns-in-TooLarge-clause-found g c =
 pub returns-in_ok-reply-in-Bad-clause-found : goal.returns-in_ok-reply-in-Bad-clause-found
 returns-in_ok-reply-in-Bad-clause-found g c =
     let opened = rw c.in-Bad.is at (c.in_ok-opening_in.ensures {u = tt}).found in
-    c.rest_reply.ensures.found c.args.file _ opened.bytes opened.taken opened.long (bad_opening_judged c.args.file opened.bytes c.in-Bad.bad c.in_ok-reply-in-Bad.reply opened.always (c.in_ok-reply-in-Bad.ensures {u = tt}))
+    c.decided_reply.ensures.found c.args.file _ opened.bytes opened.taken opened.long (bad_opening_decides c.args.file opened.bytes c.in-Bad.bad c.in_ok-reply-in-Bad.reply opened.always (c.in_ok-reply-in-Bad.ensures {u = tt}))
 
 pub returns-in-Both-clause-found : goal.returns-in-Both-clause-found
 returns-in-Both-clause-found g c =
@@ -27,7 +27,7 @@ returns-in_ok-illegal-in-Ended-clause-found g c =
 pub returns-in_ok-reply-in-Bad-clause-taken : goal.returns-in_ok-reply-in-Bad-clause-taken
 returns-in_ok-reply-in-Bad-clause-taken g c =
     let opened = rw c.in-Bad.is at (c.in_ok-opening_in.ensures {u = tt}).found in
-    within_behind _ _ _ opened.bytes c.in-Bad.came CERT_LIMIT c.rest_reply.result opened.taken opened.long opened.few c.rest_reply.ensures.taken
+    within_behind _ _ _ opened.bytes c.in-Bad.came CERT_LIMIT c.decided_reply.result opened.taken opened.long opened.few c.decided_reply.ensures.taken
 
 pub returns-in-Both-clause-taken : goal.returns-in-Both-clause-taken
 returns-in-Both-clause-taken g c =

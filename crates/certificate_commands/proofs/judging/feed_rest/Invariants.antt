@@ -1,13 +1,13 @@
 use Rattle.std.proofs.Common.{◌≡◌, ◌≤◌, ◌-◌, length}
 use Rattle.topo_certificate.specs.declared.TheConstants.{CERT_LIMIT}
 use Rattle.iges_io.specs.declared.reading.TheConstants.{PIECE}
-use Rattle.certificate_commands.proofs.Judged.{IsJudgedSoFar}
-use Rattle.certificate_commands.proofs.judging.read_rest.Given as goal
+use Rattle.certificate_commands.proofs.Judged.{IsFedSoFar}
+use Rattle.certificate_commands.proofs.judging.feed_rest.Given as goal
 
 abbrev pub invariant-reads : goal.invariant-reads
 invariant-reads g l = record {
   within : l.came ≤ CERT_LIMIT;
-  judged : IsJudgedSoFar (g.C.Source.left l.fn.cert) (g.C.Source.left l.cert) l.fn.came l.came l.fn.judging l.judging;
+  fed : IsFedSoFar (g.C.Source.left l.fn.cert) (g.C.Source.left l.cert) l.fn.came l.came l.fn.checker l.checker;
   count : g.C.Source.faults l.cert ≡ g.C.Source.faults l.fn.cert;
   room : length l.piece ≡ PIECE;
   ready : g.C.Source.can_read l.cert;
