@@ -106,7 +106,7 @@ contents_due (of_file.Certificate c) certificate f bytes few is = certificate_du
 
 whole_verdict : (c : WholeCommand) (f : Contents) (a : Answer) (t : List ℕ) → OfWhole c f a t → IsFileVerdict a
 whole_verdict of_whole.Solids f a t owed = exactly_so Done (solids_text f) tt a t owed
-whole_verdict of_whole.CertifyAll f a t = certify_all_verdict f a t
+whole_verdict of_whole.CertifyAll f a t owed = certify_all_verdict f a t owed
 
 entity_verdict : (c : EntityCommand) (n : ℕ) (f : Contents) (a : Answer) (t : List ℕ) → OfEntity c n f a t → IsFileVerdict a
 entity_verdict of_entity.Show n f a t = show_verdict n f a t
@@ -119,8 +119,8 @@ entity_verdict of_entity.Compact n f a t = compact_verdict n f a t
 certificate_verdict_of : (c : CertificateCommand) (certificate : List ℕ) (f : Contents) (a : Answer) (t : List ℕ) → OfCertificate c certificate f a t → IsFileVerdict a
 certificate_verdict_of of_certificate.Verify certificate f a t owed = certificate_verdict (λ ns. Exactly Done (accepted_lines ns)) (λ ns. exactly_so Done (accepted_lines ns) tt) certificate f a t owed
 certificate_verdict_of of_certificate.Upgrade certificate f a t owed = certificate_verdict (λ ns. OfText (upgraded_for f certificate ns)) (λ ns. text_verdict (upgraded_for f certificate ns)) certificate f a t owed
-certificate_verdict_of of_certificate.OpenVerify certificate f a t = open_verify_verdict certificate f a t
-certificate_verdict_of of_certificate.OrientVerify certificate f a t = orient_verify_verdict certificate f a t
+certificate_verdict_of of_certificate.OpenVerify certificate f a t owed = open_verify_verdict certificate f a t owed
+certificate_verdict_of of_certificate.OrientVerify certificate f a t owed = orient_verify_verdict certificate f a t owed
 
 pub contents_verdict : (c : FileCommand) (certificate : List ℕ) (f : Contents) (a : Answer) (t : List ℕ) → OfContents c certificate f a t → IsFileVerdict a
 contents_verdict (of_file.Whole c) certificate f = whole_verdict c f
