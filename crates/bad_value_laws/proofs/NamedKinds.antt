@@ -16,20 +16,13 @@ use Rattle.brep_lists.specs.Record.{type_number, kind_of_type, HasForm, IsRecord
 use Rattle.brep_lists.specs.declared.entity_kind.EntityKind.{EntityKind}
 use Rattle.brep_lists.specs.declared.entity_kind.EntityKind.TheVariants.{Solid as solid, Shell as shell, Face as face, Loop as «loop», EdgeList as edges, VertexList as vertices}
 use Rattle.brep_lists.proofs.Decided.{decided}
+use Rattle.brep_lists.proofs.Kinds.{kind_known}
 use Rattle.brep_walk.specs.Places.{Names, NamesKind, NamesGeometry, HasRecordOf, IsIndex}
 use Rattle.record_values.specs.BadValue.{entry_at, kind_in, is_geometry, is_vertex_list, is_index, names_geometry}
 use Rattle.record_values.specs.Told.{told_in}
 
 abbrev told_if : (k : EntityKind) → List Value → Bool → Option (Items k)
 told_if k vs b = if b then Some (items_of k vs) else None
-
-pub kind_known : (k : EntityKind) → kind_of_type (type_number k) ≡ Some k
-kind_known solid = refl
-kind_known shell = refl
-kind_known face = refl
-kind_known «loop» = refl
-kind_known edges = refl
-kind_known vertices = refl
 
 pub at_kind : (f : Contents) (z : ℤ) (k : EntityKind) → NamesKind k f z → kind_in (entry_at f z) ≡ Some k
 at_kind f z k h = by_entry (named f z) h

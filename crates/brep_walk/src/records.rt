@@ -28,7 +28,7 @@ pub trait Record<'a>: Sized {
     fn kind() -> EntityKind
         ensures { result ≡ kind };
 
-    /// What the values tell; None where they don't fit the type.
+    /// What the values say; None where they don't fit the type.
     fn of(values: &'a Values) -> Option<Self>
         ensures some { IfSome result (λ record_of. Fits kind values.now (items record_of)) }
         ensures read { IfSome result (λ record_of. items record_of ≡ items_of kind values.now) }

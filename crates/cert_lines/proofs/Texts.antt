@@ -8,10 +8,10 @@ use Rattle.cert_lines.specs.Line.{CertLine, head, solid, end, spelling}
 use Rattle.cert_lines.specs.declared.version.Version.{Version}
 use Rattle.cert_lines.specs.declared.parts.Certificate.{Certificate}
 use Rattle.cert_lines.specs.Written.{edge_line, corner_line, reach_line, shell_lines, solid_lines, text_of}
-use Rattle.cert_lines.specs.declared.parts.CornerLine.{CornerLine}
+use Rattle.solid_data.specs.declared.linked.Corner.{Corner}
 use Rattle.cert_lines.specs.declared.parts.ShellPart.{ShellPart}
 
-pub shell_text : (line : CertLine) (es : List (RowId × RowId)) (cs : List CornerLine) (rs : List RowId) (ts : List CertLine) (old o1 o2 o3 o4 o5 : List ℕ)
+pub shell_text : (line : CertLine) (es : List (RowId × RowId)) (cs : List Corner) (rs : List RowId) (ts : List CertLine) (old o1 o2 o3 o4 o5 : List ℕ)
     → o1 ≡ old ++ spelling line → o2 ≡ o1 ++ flat_map (λ p. spelling (edge_line p)) es → o3 ≡ o2 ++ flat_map (λ l. spelling (corner_line l)) cs → o4 ≡ o3 ++ flat_map (λ r. spelling (reach_line r)) rs → o5 ≡ o4 ++ text_of ts
     → o5 ≡ old ++ text_of (line ∷ (map edge_line es ++ (map corner_line cs ++ (map reach_line rs ++ ts))))
 shell_text line es cs rs ts old o1 o2 o3 o4 o5 h1 h2 h3 h4 h5 =

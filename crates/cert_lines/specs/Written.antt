@@ -6,8 +6,8 @@ use Rattle.cert_lines.specs.Line.{CertLine, head, solid, shell, edge, corner, po
 use Rattle.cert_lines.specs.declared.counts.Tally.{Tally}
 use Rattle.cert_lines.specs.declared.version.Version.{Version}
 use Rattle.cert_lines.specs.declared.version.Version.TheVariants.{One, Two, Three}
-use Rattle.cert_lines.specs.declared.parts.CornerLine.{CornerLine}
-use Rattle.cert_lines.specs.declared.parts.CornerLine.TheVariants.{Cycle, Point}
+use Rattle.solid_data.specs.declared.linked.Corner.{Corner}
+use Rattle.solid_data.specs.declared.linked.Corner.TheVariants.{Cycle, Point}
 use Rattle.cert_lines.specs.declared.parts.ShellPart.{ShellPart}
 use Rattle.cert_lines.specs.declared.parts.Certificate.{Certificate}
 
@@ -17,7 +17,7 @@ row_number r = r.0 + 1
 abbrev pub edge_line : RowId × RowId → CertLine
 edge_line p = edge (row_number p.0) (row_number p.1)
 
-abbrev pub corner_line : CornerLine → CertLine
+abbrev pub corner_line : Corner → CertLine
 corner_line (Cycle rows) = corner (map row_number rows)
 corner_line (Point at) = point (at.face.0 + 1) (at.place + 1)
 

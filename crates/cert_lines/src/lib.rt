@@ -18,9 +18,8 @@ pub use fault::{Illegal, Misfit};
 pub use law::{lines_are_decided, one_line, one_opening};
 pub use number::{are_numbers, next_number, one_number, two_numbers};
 pub use opening::{head_line, read_opening, solid_line};
-pub use parts::{
-    Certificate, Certificates, CornerLine, Corners, EdgePairs, ReachRows, ShellPart, ShellParts,
-};
+pub use parts::{Certificate, Certificates, EdgePairs, ReachRows, ShellPart, ShellParts};
+pub use solid_data::{Corner as CornerLine, Corners};
 pub use version::{Version, head_text};
 pub use words::{Judged, Words, after_word, judge};
 pub use writing::{

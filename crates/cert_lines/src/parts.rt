@@ -2,22 +2,10 @@
 
 use crate::version::Version;
 use iges_base::{EntryNo, ItemList};
-use solid_data::{LoopAt, RowId, RowList};
+use solid_data::{Corners, RowId, RowList};
 
 /// The two rows of each edge that occurs in a shell, the one along it first, by rising edge (own).
 pub type EdgePairs = ItemList<(RowId, RowId)>;
-
-/// The rows round a vertex, from the least one on by turns, or its one loop without an edge (own).
-#[derive(Drop)]
-pub enum CornerLine {
-    /// The rows that start at the vertex.
-    Cycle(RowList),
-    /// The loop without an edge that lies at the vertex.
-    Point(LoopAt),
-}
-
-/// What lies at each vertex that occurs in a shell, by rising number (own).
-pub type Corners = ItemList<CornerLine>;
 
 /// Rows by which the faces but the first are reached, in a fitting order (own).
 pub type ReachRows = RowList;
@@ -29,7 +17,7 @@ pub struct ShellPart {
     pub rows: u32,
     /// As many pairs as edges occur in the shell; each row is numbered within the shell, from 0.
     pub edges: EdgePairs,
-    /// As many as vertices occur in the shell, those of loops without an edge among them.
+    /// What lies at each vertex that occurs in the shell, those of loops without an edge among them.
     pub corners: Corners,
     /// How many faces the shell has.
     pub faces: u32,

@@ -1,14 +1,14 @@
 //! The text of a certificate.
 
-ghost use Rattle.std.specs.Prelude.{◌≡◌, ℕ, ◌+◌, ◌<◌, ◌^◌, ◌++◌, ◌∷◌, [], decimal, length, map, flat_map, IfOk};
+ghost use Rattle.std.specs.Prelude.{◌≡◌, ℕ, ◌+◌, ◌<◌, ◌^◌, ◌++◌, ◌∷◌, [], length, map, flat_map, IfOk};
 ghost use Rattle.std.specs.List.{AllByRecursion, enumerate_from};
 ghost use Rattle.cert_lines.specs.Line.{HasSpelling, head, tally, cut_lines, spaced, spelling};
 ghost use Rattle.cert_lines.specs.Written.{row_number, edge_line, corner_line, reach_line, shell_line, tally_line, tally_of, tally_lines, shell_lines, solid_lines, certificate_lines, book_lines, text_of};
 
-use crate::parts::{Certificate, Certificates, CornerLine, ShellPart};
+use crate::parts::{Certificate, Certificates, ShellPart};
 use crate::version::{Version, head_text};
-use iges_base::{Bytes, NoMemory, Out, write_number};
-use solid_data::RowId;
+use iges_base::{Bytes, NoMemory, Out, put_number};
+use solid_data::{Corner, RowId};
 use std::alloc::Global;
 
 /// The number in a line of a row, a face or a loop: they count from 1 there, and from 0 in the types (own).
@@ -16,13 +16,6 @@ pub fn from_one(number: u32) -> u64
     ensures { result ≡ number + 1 }
 {
     u64::from(number) + 1
-}
-
-fn put_number(out: &mut Out, number: u64) -> Result<(), NoMemory>
-    ensures { IfOk result (λ _. out.new ≡ out.old ++ 32 ∷ decimal number) }
-{
-    out.put(b" ")?;
-    write_number(out, number)
 }
 
 fn put_numbers(out: &mut Out, numbers: &[u64]) -> Result<(), NoMemory>
@@ -65,20 +58,20 @@ fn put_edges(out: &mut Out, edges: &[(RowId, RowId)]) -> Result<(), NoMemory>
     Ok(())
 }
 
-fn put_corner(out: &mut Out, corner: &CornerLine) -> Result<(), NoMemory>
+fn put_corner(out: &mut Out, corner: &Corner) -> Result<(), NoMemory>
     ensures { IfOk result (λ _. out.new ≡ out.old ++ spelling (corner_line corner.now)) }
 {
     match corner {
-        CornerLine::Cycle(rows) => {
+        Corner::Cycle(rows) => {
             out.put(b"C")?;
             put_rows(out, rows.as_slice())?;
             out.put(b"\n")
         }
-        CornerLine::Point(at) => { put_line(out, b"I", &[from_one(at.face.0), from_one(at.place)]) }
+        Corner::Point(at) => { put_line(out, b"I", &[from_one(at.face.0), from_one(at.place)]) }
     }
 }
 
-fn put_corners(out: &mut Out, corners: &[CornerLine]) -> Result<(), NoMemory>
+fn put_corners(out: &mut Out, corners: &[Corner]) -> Result<(), NoMemory>
     ensures { IfOk result (λ _. out.new ≡ out.old
         ++ flat_map (λ l. spelling (corner_line l)) corners.now) }
 {

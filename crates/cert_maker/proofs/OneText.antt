@@ -22,11 +22,12 @@ use Rattle.cert_lines.specs.Written.{certificate_lines, text_of}
 use Rattle.cert_lines.specs.declared.version.Version.{Version}
 use Rattle.cert_lines.specs.declared.version.Version.TheVariants.{Two}
 use Rattle.cert_lines.specs.declared.parts.Certificate.{Certificate}
-use Rattle.cert_lines.specs.declared.parts.CornerLine.{CornerLine}
-use Rattle.cert_lines.specs.declared.parts.CornerLine.TheVariants.{Cycle, Point}
+use Rattle.solid_data.specs.declared.linked.Corner.{Corner}
+use Rattle.solid_data.specs.declared.linked.Corner.TheVariants.{Cycle, Point}
 use Rattle.cert_lines.specs.declared.parts.ShellPart.{ShellPart}
 use Rattle.solid_check.specs.Accepted.{IsAccepted}
-use Rattle.cert_maker.specs.Parts.{AreItsRows, LiesRound, IsPart}
+use Rattle.vertex_link.specs.Corners.{LiesAt}
+use Rattle.cert_maker.specs.Parts.{AreItsRows, IsPart}
 use Rattle.cert_maker.specs.Certified.{IsCertificate}
 use Rattle.cert_maker.specs.Laws.{CertificateTextIsAccepted, OneCertificateText}
 use Rattle.cert_maker.proofs.Certifying.{certificate_accepted}
@@ -97,7 +98,7 @@ module _ (d : ShellRows) (whole : ArePaired d) where
       let test : LoopAt × ℕ → Bool = λ p. p.1 == v in
       ap (λ (p : LoopAt × ℕ). p.0) (one_passes test d.points (a, v) (b, v) (sym (count_by-total test d.points) ∙ one) (Has-from_Contains d.points (a, v) h) (Has-from_Contains d.points (b, v) k) (eq-eqb v v refl) (eq-eqb v v refl))
 
-  one_corner : (v : ℕ) (a b : CornerLine) → LiesRound d v a → LiesRound d v b → a ≡ b
+  one_corner : (v : ℕ) (a b : Corner) → LiesAt d v a → LiesAt d v b → a ≡ b
   one_corner v (Cycle xs) (Cycle ys) h k = ap Cycle (rows_are xs ys (one_cycle v (row_numbers xs) (row_numbers ys) h k))
   one_corner v (Cycle xs) (Point b) h k = absurd (omega (arith, no_point v (row_numbers xs) h, k.0.one_point))
   one_corner v (Point a) (Cycle ys) h k = absurd (omega (arith, no_point v (row_numbers ys) k, h.0.one_point))
@@ -120,7 +121,7 @@ one_part d n p q h k =
     same_part p q
     (h.rows ∙ sym k.rows)
     (one_zip (AreItsRows d) (one_pair d whole) d.edges p.edges q.edges h.edges k.edges)
-    (one_zip (LiesRound d) (one_corner d whole) d.vertices p.corners q.corners h.corners k.corners)
+    (one_zip (LiesAt d) (one_corner d whole) d.vertices p.corners q.corners h.corners k.corners)
     (h.faces ∙ sym k.faces)
     (rows_are p.reach q.reach (one_order d (row_numbers p.reach) (row_numbers q.reach) h.reach h.order k.reach k.order))
     (h.vertices ∙ sym k.vertices)

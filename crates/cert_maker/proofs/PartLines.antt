@@ -26,13 +26,14 @@ use Rattle.topo_certificate.specs.After.{IsLegalAfter}
 use Rattle.topo_certificate.proofs.Forward.{legal_forward}
 use Rattle.topo_certificate.specs.Stand.{tallies, loops_of, loops_of_shell, stand_from_latest, FitsLine, IsAbove, first_of, row_start, row_face, point_named, rows_of_shell, start_count, IsMate, TurnsTo}
 use Rattle.cert_lines.specs.Written.{tally_line, tally_lines, row_number, edge_line, corner_line, reach_line, shell_line, shell_lines}
-use Rattle.cert_lines.specs.declared.parts.CornerLine.{CornerLine}
-use Rattle.cert_lines.specs.declared.parts.CornerLine.TheVariants.{Cycle, Point}
+use Rattle.solid_data.specs.declared.linked.Corner.{Corner}
+use Rattle.solid_data.specs.declared.linked.Corner.TheVariants.{Cycle, Point}
 use Rattle.cert_lines.specs.declared.parts.ShellPart.{ShellPart}
 use Rattle.topo_certificate.proofs.Short.{IsSmall, IsReadable, readable_edge, readable_corner, readable_point, readable_reach, readable_tally, readable_end, row_short, starts_few}
 use Rattle.topo_certificate.proofs.Build.{Stage, add_edge, add_corner, add_point, add_reach, nothing_due, tally_fits, none_after_tally, MatedAt, mates_listed, PointsDiffer, zip_suc, map-suc-append, above_suc, find_some, none_start}
 use Rattle.topo_certificate.proofs.Complete.{AreReady, Done, counts_of, tally_of, begin_shell, any_above, end_fits, ended}
-use Rattle.cert_maker.specs.Parts.{AreItsRows, LiesRound, IsPart, AreParts}
+use Rattle.vertex_link.specs.Corners.{LiesAt}
+use Rattle.cert_maker.specs.Parts.{AreItsRows, IsPart, AreParts}
 
 -- Behind the lines before, the latest first: each line is spelled and fits, and the last is END.
 abbrev pub GoesOn : Version → SolidData → List CertLine → List CertLine → Type 0
@@ -106,7 +107,7 @@ module _ (version : Version) (s : SolidData) (k : ℕ) (d : ShellRows) (small : 
 
   -- The lines of the vertices fit, if those behind them do.
   pub corners_go : (es : List ℕ) (ms : List (ℕ × ℕ)) → PointsDiffer d → ((r m : ℕ) → AreMates d r m → IsMate ms (suc r) (suc m)) → length d.edges ≤ length es
-      → (rest : List CertLine) (left vs : List ℕ) (corners : List CornerLine) (lines : List CertLine) → Stage version s lines k d es vs [] ms → length vs + length left ≡ length d.vertices → AllByRecursion (λ z. IsAbove (first_of vs) z) left → Rises left → AllZip (LiesRound d) left corners
+      → (rest : List CertLine) (left vs : List ℕ) (corners : List Corner) (lines : List CertLine) → Stage version s lines k d es vs [] ms → length vs + length left ≡ length d.vertices → AllByRecursion (λ z. IsAbove (first_of vs) z) left → Rises left → AllZip (LiesAt d) left corners
       → ((vs' : List ℕ) (lines' : List CertLine) → Stage version s lines' k d es vs' [] ms → length d.vertices ≤ length vs' → GoesOn version s lines' rest)
       → GoesOn version s lines (map corner_line corners ++ rest)
   corners_go es ms differ listed done rest [] vs [] lines stage count above rises lie on = on vs lines stage (omega (arith, count))
@@ -164,7 +165,7 @@ part_counts : (s : SolidData) (k : ℕ) (part : ShellPart) → IsPart (rows_of_s
 part_counts s k part p =
     let d : ShellRows = rows_of_shell s k in
     ap (shell k) (same_counts (length d.rows) part.rows (length d.edges) (length part.edges) (length d.vertices) (length part.corners) d.face_count part.faces
-    (sym p.rows) (zip_length (AreItsRows d) d.edges part.edges p.edges) (zip_length (LiesRound d) d.vertices part.corners p.corners) (sym p.faces))
+    (sym p.rows) (zip_length (AreItsRows d) d.edges part.edges p.edges) (zip_length (LiesAt d) d.vertices part.corners p.corners) (sym p.faces))
 
 part_tally : (s : SolidData) (k : ℕ) (part : ShellPart) → IsPart (rows_of_shell s k) (loops_of_shell s k) part → tally (tally_of s k) ≡ tally_line part
 part_tally s k part p =

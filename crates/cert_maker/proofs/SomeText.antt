@@ -31,15 +31,16 @@ use Rattle.shell_reach.specs.Reaching.{ReachesAll}
 use Rattle.shell_reach.proofs.SomeOrder.{some_order}
 use Rattle.cert_lines.specs.Written.{certificate_lines, text_of}
 use Rattle.cert_lines.specs.declared.parts.Certificate.{Certificate}
-use Rattle.cert_lines.specs.declared.parts.CornerLine.{CornerLine}
-use Rattle.cert_lines.specs.declared.parts.CornerLine.TheVariants.{Cycle, Point}
+use Rattle.solid_data.specs.declared.linked.Corner.{Corner}
+use Rattle.solid_data.specs.declared.linked.Corner.TheVariants.{Cycle, Point}
 use Rattle.cert_lines.specs.declared.parts.ShellPart.{ShellPart}
 use Rattle.cert_lines.specs.declared.version.Version.TheVariants.{Two}
 use Rattle.topo_certificate.specs.Stand.{loops_of}
 use Rattle.topo_certificate.proofs.Build.{found_point}
 use Rattle.topo_certificate.proofs.PointOrder.{faces_of_rows}
 use Rattle.solid_check.proofs.Ready.{closed_at}
-use Rattle.cert_maker.specs.Parts.{AreItsRows, LiesRound, IsPart, AreParts}
+use Rattle.vertex_link.specs.Corners.{LiesAt}
+use Rattle.cert_maker.specs.Parts.{AreItsRows, IsPart, AreParts}
 use Rattle.cert_maker.specs.Laws.{ClosedHasText}
 use Rattle.cert_maker.proofs.Certifying.{certificate_made}
 
@@ -95,7 +96,7 @@ numbers_back : (ns : List ℕ) → row_numbers (row_ids ns) ≡ ns
 numbers_back [] = refl
 numbers_back (n ∷ ns) = ap (λ l. n ∷ l) (numbers_back ns)
 
-some_corner : (d : ShellRows) (v : ℕ) → ArePaired d → IsLinked d v → (c : CornerLine) × LiesRound d v c
+some_corner : (d : ShellRows) (v : ℕ) → ArePaired d → IsLinked d v → (c : Corner) × LiesAt d v c
 some_corner d v whole (inl corner) = let c = some_cycle d v whole corner in (Cycle (row_ids (c.0 ∷ c.1)), subst (IsCycleOf d v) (sym (numbers_back (c.0 ∷ c.1))) c.2)
 some_corner d v whole (inr point) =
     let f = found_point (λ (p : LoopAt × ℕ). p.1 == v) d.points (omega (arith, point.one_point, count_by-total (λ (p : LoopAt × ℕ). p.1 == v) d.points)) in
@@ -112,7 +113,7 @@ some_edge d e paired =
 some_part : (d : ShellRows) (loops : ℕ) → ArePaired d → 0 < d.face_count → AllByRecursion (IsReached d) (numbers_from 0 d.face_count) → AllByRecursion (IsLinked d) d.vertices → (part : ShellPart) × IsPart d loops part
 some_part d loops whole some reached linked =
     let edges = some_zip (AreItsRows d) d.edges (λ e h. some_edge d e (All-at (IsPaired d) d.edges whole.paired e h)) in
-    let corners = some_zip (LiesRound d) d.vertices (λ v h. some_corner d v whole (All-at (IsLinked d) d.vertices linked v h)) in
+    let corners = some_zip (LiesAt d) d.vertices (λ v h. some_corner d v whole (All-at (IsLinked d) d.vertices linked v h)) in
     let order = some_order d whole some reached in
     let same = sym (numbers_back order.0) in (
       record {

@@ -8,20 +8,11 @@ ghost use Rattle.edge_uses.specs.declared.row.Row.{Row as AnyRow};
 ghost use Rattle.cert_maker.specs.Parts.{AreItsRows};
 ghost use Rattle.cert_maker.specs.Along.{RunAlong};
 
-use edge_uses::{Paired, Row, Rows, Span};
+use edge_uses::{Paired, Row, Rows, Span, row_at};
 use iges_fields::NoMemory;
 use solid_data::RowId;
 use std::alloc::Global;
 use topo_certificate::EdgePairs;
-
-fn row_at(rows: &Rows, i: usize) -> Row
-    requires { i < length rows.now.rows }
-    ensures { slice_get rows.now.rows i ≡ Some result }
-{
-    // Its clause says that the rows are fewer than 2^32.
-    let _len = rows.len();
-    rows.row(RowId(i as u32)).unwrap()
-}
 
 /// Keeps that row i runs along its edge, if it does.
 fn note(along: &mut Vec<u32>, span: Span, row: Row, i: usize)

@@ -7,6 +7,7 @@ use Rattle.brep_lists.specs.DueValues.{DueValue, pointer, number, flag, at_least
 use Rattle.brep_lists.specs.Record.{type_number, kind_of_type, HasForm, due, items_of, IsRecordOf}
 use Rattle.brep_lists.specs.declared.entity_kind.EntityKind.{EntityKind}
 use Rattle.brep_lists.specs.declared.entity_kind.EntityKind.TheVariants.{Solid as solid, Shell as shell, Face as face, Loop as «loop», EdgeList as edges, VertexList as vertices}
+use Rattle.brep_lists.proofs.Kinds.{kind_known}
 use Rattle.brep_walk.specs.Places.{told, Names, NamesKind, HasRecordOf, NamesGeometry}
 use Rattle.solid_data.specs.Obligations.{entry_number}
 use Rattle.entry_references.specs.Refs.{Record}
@@ -87,14 +88,6 @@ module _ (f q : Contents) (K : ℕ → Type 0) (new : ℕ → ℕ) (g : ℤ → 
   is_entity z (inl e) n = let no : false ≡ true = subst (Names f) e n in absurd cc
   is_entity z (inr k) n = k
 
-  own_kind : (kind : EntityKind) → kind_of_type (type_number kind) ≡ Some kind
-  own_kind solid = refl
-  own_kind shell = refl
-  own_kind face = refl
-  own_kind «loop» = refl
-  own_kind edges = refl
-  own_kind vertices = refl
-
   -- what an entity of a kind tells
   pub record Tells (kind : EntityKind) (z : ℤ) : Type 0 where
     pub before : HasRecordOf kind f z
@@ -113,7 +106,7 @@ module _ (f q : Contents) (K : ℕ → Type 0) (new : ℕ → ℕ) (g : ℤ → 
       by_entry : (o : Option Record) → named f (pos e.0) ≡ o → IsSomeAnd o (λ x. (x.0.kind ≡ type_number kind) × HasForm kind x.0.form) → Tells kind (pos e.0)
       by_entry None s k = absurd k
       by_entry (Some r) s k =
-          let of_kind : kind_of_type r.0.kind ≡ Some kind = ap kind_of_type k.0 ∙ own_kind kind in
+          let of_kind : kind_of_type r.0.kind ≡ Some kind = ap kind_of_type k.0 ∙ kind_known kind in
           let all = h.records e.0 r kind e.2 s of_kind in
           let new_name : pos (new e.0) ≡ g (pos e.0) = sym (h.something e.0 e.2) in
           let after : HasRecordOf kind q (pos (new e.0)) = has_record (named f (pos e.0)) (named q (pos (new e.0))) (h.entry e.0 e.2) r s all.1 in

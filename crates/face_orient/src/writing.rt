@@ -1,24 +1,17 @@
 //! The text of a line.
 
-ghost use Rattle.std.specs.Prelude.{◌≡◌, ◌++◌, ◌∷◌, [], decimal, map, IfOk};
+ghost use Rattle.std.specs.Prelude.{◌≡◌, ◌++◌, ◌∷◌, [], map, IfOk};
 ghost use Rattle.face_orient.specs.Line.{HasSpelling, IsSpelled, flag_number, spaced, spelling};
 
 use crate::line::OrientLine;
-use iges_base::{Bytes, NoMemory, Out, write_number};
+use iges_base::{Bytes, NoMemory, Out, put_number};
 use std::alloc::Global;
-
-fn put_number(out: &mut Out, number: u32) -> Result<(), NoMemory>
-    ensures { IfOk result (λ _. out.new ≡ out.old ++ 32 ∷ decimal number) }
-{
-    out.put(b" ")?;
-    write_number(out, u64::from(number))
-}
 
 fn put_numbers(out: &mut Out, numbers: &[u32]) -> Result<(), NoMemory>
     ensures { IfOk result (λ _. out.new ≡ out.old ++ spaced numbers.now) }
 {
     'numbers: for i in 0..numbers.len() {
-        put_number(out, numbers[i])?;
+        put_number(out, u64::from(numbers[i]))?;
     }
     Ok(())
 }
@@ -27,7 +20,7 @@ fn put_flags(out: &mut Out, flags: &[bool]) -> Result<(), NoMemory>
     ensures { IfOk result (λ _. out.new ≡ out.old ++ spaced (map flag_number flags.now)) }
 {
     'flags: for i in 0..flags.len() {
-        put_number(out, if flags[i] { 1 } else { 0 })?;
+        put_number(out, u64::from(flags[i]))?;
     }
     Ok(())
 }
@@ -38,18 +31,18 @@ fn put_line(out: &mut Out, line: &OrientLine) -> Result<(), NoMemory>
     match line {
         OrientLine::Head(no) => {
             out.put(b"ORIENT")?;
-            put_number(out, no.0)?;
+            put_number(out, u64::from(no.0))?;
             out.put(b"\n")
         }
         OrientLine::Flags { shell, flags } => {
             out.put(b"F")?;
-            put_number(out, *shell)?;
+            put_number(out, u64::from(*shell))?;
             put_flags(out, flags.as_slice())?;
             out.put(b"\n")
         }
         OrientLine::Ring { shell, rows } => {
             out.put(b"O")?;
-            put_number(out, *shell)?;
+            put_number(out, u64::from(*shell))?;
             put_numbers(out, rows.as_slice())?;
             out.put(b"\n")
         }

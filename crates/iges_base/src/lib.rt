@@ -12,7 +12,7 @@ pub use bytes::Bytes;
 pub use entry_no::EntryNo;
 pub use list::ItemList;
 pub use no_memory::NoMemory;
-pub use out::{Out, write_number};
+pub use out::{Out, put_number, write_number};
 
 /// The most bytes that a file may have, read or written: 2,000,000 lines of 82 bytes (own).
 pub const FILE_LIMIT: u64 = 164_000_000;

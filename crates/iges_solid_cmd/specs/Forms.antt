@@ -2,6 +2,7 @@
 use Rattle.std.specs.Prelude.{ℕ, ◌≤◌, Bool, true, false, ◌&&◌, nat_eq, nat_le, List, [], ◌∷◌, ◌++◌, length, map, flat_map, zip, Option, Some, None, option_map, option_and_then, unwrap_or, find, position, slice_get, bytes_eq, codes}
 use Rattle.std.specs.List.{list_any, list_all}
 use Rattle.std.specs.Str.Parse.{digits_value}
+use Rattle.iges_base.specs.declared.TheConstants.{LINE_LIMIT}
 use Rattle.iges_fields.specs.Word.{are_digits}
 use Rattle.iges_solid_cmd.specs.declared.form.Command.{Command}
 use Rattle.iges_solid_cmd.specs.declared.form.Command.TheVariants as command
@@ -27,7 +28,7 @@ pub record Form : Type 0 where
   pub command : ℕ → Command
 
 abbrev pub entry_number : Slot
-entry_number = number 7 1 9999999
+entry_number = number 7 1 LINE_LIMIT
 
 abbrev pub sample_number : Slot
 sample_number = number 3 3 200

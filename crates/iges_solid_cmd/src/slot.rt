@@ -6,7 +6,9 @@ ghost use Rattle.std.specs.List.{list_all};
 ghost use Rattle.std.specs.Prelude.{◌≡◌, ◌&&◌, MatchOption, Some, false, length, nat_le, true};
 ghost use Rattle.std.specs.Str.Parse.{digits_value};
 
-/// What a word of a form stands for (own).
+use iges_base::LINE_LIMIT;
+
+/// What a word of a form is (own).
 #[derive(Clone, Copy, Debug)]
 pub enum Slot {
     /// This very word.
@@ -31,11 +33,11 @@ pub enum Operand {
     Number,
 }
 
-/// The directory number of an entry (IGES 5.3, 2.2.4.4).
+/// The directory number of an entry: that of the first of its two lines (IGES 5.3, 2.2.4.4).
 pub const ENTRY_NUMBER: Slot = Slot::Number {
     digits: 7,
     least: 1,
-    greatest: 9_999_999,
+    greatest: LINE_LIMIT as u32,
 };
 
 /// The size of a sample (own).

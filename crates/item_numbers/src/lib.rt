@@ -1,4 +1,4 @@
-//! Numbers for the edges and vertices of lists, and lists by the entries that they stand in.
+//! Numbers for the edges and vertices of lists, and lists by the entries that hold them.
 #![tactic(auto)]
 
 mod numbering;

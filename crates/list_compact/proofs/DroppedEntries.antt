@@ -14,6 +14,7 @@ use Rattle.iges_params.specs.Named.{kind_of, named, record_values, values_of}
 use Rattle.brep_lists.specs.Record.{type_number, kind_of_type}
 use Rattle.brep_lists.specs.declared.entity_kind.EntityKind.{EntityKind}
 use Rattle.brep_lists.specs.declared.entity_kind.EntityKind.TheVariants.{Solid as solid, Shell as shell, Face as face, Loop as «loop», EdgeList as edges, VertexList as vertices}
+use Rattle.brep_lists.proofs.Kinds.{kind_known}
 use Rattle.solid_data.specs.Obligations.{entry_number}
 use Rattle.entry_references.specs.Refs.{Record}
 use Rattle.list_compact.specs.Used.{is_kind}
@@ -108,16 +109,8 @@ module _ (g : Contents) (e : ℕ) (r : Record) where
 
 -- ---- kinds by types
 
-pub own_kind : (kind : EntityKind) → kind_of_type (type_number kind) ≡ Some kind
-own_kind solid = refl
-own_kind shell = refl
-own_kind face = refl
-own_kind «loop» = refl
-own_kind edges = refl
-own_kind vertices = refl
-
 pub kind_is : (kind : EntityKind) (r : Record) → is_kind kind r ≡ true → kind_of_type r.0.kind ≡ Some kind
-kind_is kind r t = ap kind_of_type ((Decides-int_eq r.0.kind (type_number kind)).0 t) ∙ own_kind kind
+kind_is kind r t = ap kind_of_type ((Decides-int_eq r.0.kind (type_number kind)).0 t) ∙ kind_known kind
 
 pub kind_test : (kind : EntityKind) (r : Record) → r.0.kind ≡ type_number kind → is_kind kind r ≡ true
 kind_test kind r e = (Decides-int_eq r.0.kind (type_number kind)).1 e

@@ -19,7 +19,8 @@ use Rattle.solid_extract.proofs.Copies.{all_at, one_more}
 use Rattle.list_compact.specs.Used.{is_kind, tuples_in, edges_in, vertices_in, used_from, names_edge, names_vertex, has_end}
 use Rattle.list_compact.specs.Marking.{AreMarks, IsOfItsKind, MarksItems, is_at, sizes}
 use Rattle.solid_data.proofs.Members.{get_some}
-use Rattle.list_compact.proofs.DroppedEntries.{own_kind, kind_test}
+use Rattle.brep_lists.proofs.Kinds.{kind_known}
+use Rattle.list_compact.proofs.DroppedEntries.{kind_test}
 use Rattle.list_compact.proofs.RowSteps.{row_is}
 
 get_same : {X : Type 0} (xs : List X) (k : ℕ) (y : X) → k < length xs → slice_get (set xs k y) k ≡ Some y
@@ -271,7 +272,7 @@ not_kind kind r n = by_test (is_kind kind r) refl
 
 -- an entry of the type is a record of its kind
 pub is_list : (kind : EntityKind) (r : Record) → IsOfItsKind r → r.0.kind ≡ type_number kind → IsRecordOf kind r.1
-is_list kind r of_kind e = of_kind kind (ap kind_of_type e ∙ own_kind kind)
+is_list kind r of_kind e = of_kind kind (ap kind_of_type e ∙ kind_known kind)
 
 no_items : {X : Type 0} (b : Bool) (xs : List X) → b ≡ false → (if b then xs else []) ≡ []
 no_items b xs e = ap (λ c. if c then xs else []) e

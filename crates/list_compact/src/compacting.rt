@@ -40,7 +40,7 @@ fn finished(alloc: Global, extraction: Extraction) -> Result<File, NoMemory>
     Ok(extracted(alloc, new, number)?)
 }
 
-// The walk over a solid's records, of which only the fault is told.
+// The walk over a solid's records, of which only the fault is given.
 fn walked(alloc: Global, file: &File, no: EntryNo) -> Result<(), WalkFault>
     ensures holds { OnOk result (AllHold (places file.now no.0)) }
     ensures fault { IfErr result (IsFault (places file.now no.0)) }

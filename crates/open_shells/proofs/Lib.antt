@@ -17,7 +17,6 @@ pub mod Borders
 pub mod OnceMates
 pub mod FaceHeads
 pub mod Floods
-pub mod RowStarts
 pub mod FanWalks
 pub mod HeadRows
 pub mod Placed
@@ -33,5 +32,4 @@ pub mod Complete
 pub mod LinesDecided
 pub mod RulesDecided
 pub mod ClosedShells
-pub mod StartCells
 pub mod HeadCells

@@ -15,7 +15,6 @@ pub mod ReachFaults
 pub mod Reaching
 pub mod Flood
 pub mod FaceRows
-pub mod Starting
 pub mod FanParts
 pub mod BorderParts
 pub mod Listed

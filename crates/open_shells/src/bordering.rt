@@ -11,9 +11,8 @@ ghost use Rattle.open_shells.specs.BorderParts.{Next, AreBorderCells, IsLoop, Is
 
 use crate::heads::note;
 use crate::mated::Mated;
-use crate::mating::row_at;
 use crate::parts::Borders;
-use edge_uses::Cells;
+use edge_uses::{Cells, row_at};
 use iges_base::NoMemory;
 use solid_data::{RowId, RowList};
 use std::alloc::Global;

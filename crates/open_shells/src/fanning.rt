@@ -7,17 +7,17 @@ ghost use Rattle.edge_uses.specs.Ranges.{IsWithin};
 ghost use Rattle.edge_uses.specs.ShellRows.{ShellRows};
 ghost use Rattle.open_shells.specs.Sound.{IsFan, IsFanned};
 ghost use Rattle.open_shells.specs.Mating.{AreOnce};
-ghost use Rattle.open_shells.specs.Starting.{AreStarts, ArePoints, AreStartCells, ArePointCells};
+ghost use Rattle.vertex_starts.specs.Starting.{AreStarts, ArePoints, AreStartCells, ArePointCells};
 ghost use Rattle.open_shells.specs.FanParts.{LiesAt, IsFanFault, IsHeadOf, AreHeadCells};
 
 use crate::heads::heads_of;
 use crate::mated::Mated;
 use crate::parts::{OpenCorner, OpenCorners};
-use crate::starting::{Points, Starts, all_points, all_starts, vertex_at};
-use edge_uses::Cells;
+use edge_uses::{Cells, vertex_at};
 use iges_base::NoMemory;
 use solid_data::{RowId, RowList, VertexId};
 use std::alloc::Global;
+use vertex_starts::{Points, Starts, all_points, all_starts, points_at, starts_at};
 
 /// Why vertices have no fans.
 #[derive(Clone, Copy, Debug, PartialEq, Eq)]
@@ -135,20 +135,6 @@ fn push_corner(corners: &mut OpenCorners, corner: OpenCorner) -> Result<(), NoMe
     corners.push(corner)
 }
 
-fn starts_at(starts: &Cells<'_, Starts>, vertex: u32) -> Starts
-    requires { IsWithin starts.now.span vertex }
-    ensures { (d : ShellRows) → AreStartCells d starts.now → AreStarts d vertex result }
-{
-    starts.at(vertex)
-}
-
-fn points_at(points: &Cells<'_, Points>, vertex: u32) -> Points
-    requires { IsWithin points.now.span vertex }
-    ensures { (d : ShellRows) → ArePointCells d points.now → ArePoints d vertex result }
-{
-    points.at(vertex)
-}
-
 fn head_at(heads: &Cells<'_, Option<u32>>, vertex: u32) -> Option<u32>
     requires { IsWithin heads.now.span vertex }
     ensures { (d : ShellRows) → AreHeadCells d heads.now → IsHeadOf d vertex result }
@@ -179,13 +165,13 @@ fn corners_of(
         let corner = corner_at(
             alloc,
             mated,
-            vertex,
-            starts_at(starts, vertex),
-            points_at(points, vertex),
-            head_at(heads, vertex),
+            vertex.0,
+            starts_at(starts, vertex.0),
+            points_at(points, vertex.0),
+            head_at(heads, vertex.0),
         )?;
         let Some(corner) = corner else {
-            return Err(FanFault::NotFanned(VertexId(vertex)));
+            return Err(FanFault::NotFanned(vertex));
         };
         push_corner(&mut corners, corner)?;
     }

@@ -8,8 +8,7 @@ ghost use Rattle.open_shells.specs.Mating.{AreOnce};
 ghost use Rattle.open_shells.specs.FanParts.{AreHeadCells};
 
 use crate::mated::Mated;
-use crate::mating::row_at;
-use edge_uses::Cells;
+use edge_uses::{Cells, row_at};
 use iges_base::NoMemory;
 use solid_data::RowId;
 use std::alloc::Global;

@@ -22,7 +22,6 @@ mod naming;
 mod opening;
 mod parts;
 mod reaching;
-mod starting;
 mod state;
 mod verdict;
 mod words;

@@ -11,7 +11,7 @@ ghost use Rattle.open_shells.specs.Sound.{IsOnce};
 ghost use Rattle.open_shells.specs.Mating.{AreRowsOf, IsMateOf, AreOnce, HaveOpenMates};
 
 use crate::parts::{OpenEdge, OpenEdges};
-use edge_uses::{Row, Rows, Seen, Tally};
+use edge_uses::{Row, Rows, Seen, Tally, row_at};
 use iges_base::NoMemory;
 use solid_data::{EdgeId, RowId};
 use std::alloc::Global;
@@ -38,16 +38,6 @@ fn edge_at(rows: &Rows, i: usize) -> u32
     ensures { slice_get rows.now.edges i ≡ Some result }
 {
     rows.edge_at(i).unwrap().0
-}
-
-/// The i-th row, i from 0, which there must be.
-pub(crate) fn row_at(rows: &Rows, i: usize) -> Row
-    requires { i < length rows.now.rows }
-    ensures { slice_get rows.now.rows i ≡ Some result }
-{
-    // Its clause says that the rows are fewer than 2^32.
-    let _len = rows.len();
-    rows.row(RowId(i as u32)).unwrap()
 }
 
 /// The least edge that is used neither once nor by mates.

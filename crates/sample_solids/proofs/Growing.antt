@@ -3,7 +3,7 @@ use Rattle.std.specs.Prelude.{◌≡◌, ℕ, ◌+◌, ◌*◌, ◌<◌, ◌≤�
 use Rattle.std.proofs.Common.{refl, sym, ◌∙◌, ap, subst, arith, append_assoc}
 use Rattle.std.proofs.lemmas.List.{take-append-drop, append-nil}
 use Rattle.std.proofs.lemmas.List.Concat.{flat_map-append}
-use Rattle.iges_base.specs.declared.TheConstants.{FILE_LIMIT}
+use Rattle.iges_base.specs.declared.TheConstants.{ENTRY_LIMIT, FILE_LIMIT}
 use Rattle.iges_fields.specs.declared.value.Value.{Value}
 use Rattle.iges_directory.specs.declared.entry.Entry.{Entry}
 use Rattle.iges_params.specs.Contents.{Contents, value_count}
@@ -26,7 +26,7 @@ put_more f g es kind form v ns before is values = is ∙ (ap (λ c. grown c (pla
 
 -- a front of the sample's entries has room for the next one
 pub put_fits : (n : ℕ) (f : Contents) (es rest : List AnEntry) (kind form : ℕ) (v : List Value) (ns : List ℕ) → n ≤ 200 → f ≡ holding es → v ≡ map whole ns
-    → es ++ entry kind form ns ∷ rest ≡ (sample n).entries → (length f.entries < 4_999_999) × (value_count f.entries + length v ≤ FILE_LIMIT)
+    → es ++ entry kind form ns ∷ rest ≡ (sample n).entries → (length f.entries < ENTRY_LIMIT) × (value_count f.entries + length v ≤ FILE_LIMIT)
 put_fits n f es rest kind form v ns few before values front =
     let a = fronts_fit n es rest (entry kind form ns) few front in
     let b : length f.entries ≡ length es = ap (λ (c : Contents). length c.entries) before in

@@ -3,7 +3,7 @@ use Rattle.std.specs.Prelude.{◌≡◌, ℕ, ◌+◌, ◌*◌, ◌<◌, ◌≤�
 use Rattle.std.proofs.Common.{refl, ◌∙◌, ap, arith, length-append}
 use Rattle.std.proofs.lemmas.Nat.{mul-le}
 use Rattle.std.proofs.lemmas.List.{length-map}
-use Rattle.iges_base.specs.declared.TheConstants.{FILE_LIMIT}
+use Rattle.iges_base.specs.declared.TheConstants.{ENTRY_LIMIT, FILE_LIMIT}
 use Rattle.iges_fields.specs.declared.value.Value.{Value}
 use Rattle.iges_directory.specs.declared.entry.Entry.{Entry}
 use Rattle.iges_params.specs.Contents.{value_count}
@@ -66,7 +66,7 @@ fits n few = record {
 
 -- and so does each front of it, with one entry more
 pub fronts_fit : (n : ℕ) (es rest : List (Entry × List Value)) (e : Entry × List Value) → n ≤ 200 → es ++ e ∷ rest ≡ (sample n).entries
-    → (length es < 4_999_999) × (value_count es + length e.1 ≤ FILE_LIMIT)
+    → (length es < ENTRY_LIMIT) × (value_count es + length e.1 ≤ FILE_LIMIT)
 fronts_fit n es rest e few is =
     let a = few_squares n few in
     let long : length (es ++ e ∷ rest) ≡ 6 + 2 * (n * n) = ap (λ xs. length xs) is ∙ sample_length n in

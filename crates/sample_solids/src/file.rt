@@ -1,7 +1,7 @@
 //! The file of a sample.
 
 ghost use Rattle.iges_directory.specs.Bounds.{IsBounded};
-ghost use Rattle.iges_base.specs.declared.TheConstants.{FILE_LIMIT};
+ghost use Rattle.iges_base.specs.declared.TheConstants.{ENTRY_LIMIT, FILE_LIMIT};
 ghost use Rattle.iges_params.specs.Contents.{value_count};
 ghost use Rattle.std.specs.Prelude.{◌≡◌, ◌∷◌, ◌++◌, [], ◌+◌, ◌*◌, ◌<◌, ◌≤◌, IfOk, OnOk, length};
 ghost use Rattle.sample_solids.specs.Sample.{plain, sample, no_values, start_line};
@@ -64,7 +64,7 @@ fn put(file: &mut File, kind: u32, form: u32, values: Values) -> Result<(), NoMe
     requires used { 0 < kind }
     requires kind { kind < 1000 }
     requires form { form < 1000 }
-    requires entries { length file.old.entries < 4_999_999 }
+    requires entries { length file.old.entries < ENTRY_LIMIT }
     requires few { value_count file.old.entries + length values ≤ FILE_LIMIT }
     ensures { OnOk result (file.new ≡ record file.old {
       entries = file.old.entries

@@ -7,18 +7,9 @@ ghost use Rattle.edge_components.specs.Groups.{places_of};
 ghost use Rattle.solid_data.specs.declared.TheConstants.{PART_LIMIT};
 
 use edge_components::{Groups, grouped};
-use edge_uses::{Row, Rows};
+use edge_uses::{Rows, row_at};
 use iges_base::NoMemory;
-use solid_data::RowId;
 use std::alloc::Global;
-
-fn row_at(rows: &Rows, i: usize) -> Row
-    requires row { i < length rows.now.rows }
-    requires few { i < PART_LIMIT }
-    ensures { slice_get rows.now.rows i ≡ Some result }
-{
-    rows.row(RowId(i as u32)).unwrap()
-}
 
 fn edges_of_rows(alloc: Global, rows: &Rows) -> Result<Vec<u32>, NoMemory>
     ensures { IfOk result (λ edges. edges.items ≡ map (λ (r : AnyRow). r.edge.0) rows.now.rows) }

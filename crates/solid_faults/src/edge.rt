@@ -7,9 +7,9 @@ ghost use Rattle.edge_uses.specs.Tally.{seen_of, IsTally};
 ghost use Rattle.solid_faults.specs.Edges.{unpaired_at, unpaired_of, rows_on_edge, row_on};
 ghost use Rattle.solid_data.specs.declared.TheConstants.{PART_LIMIT};
 
-use edge_uses::{Row, Rows, Tally, tally_of};
+use edge_uses::{Row, Rows, row_at, tally_of};
 use iges_base::NoMemory;
-use solid_data::{EdgeId, RowId};
+use solid_data::EdgeId;
 use std::alloc::Global;
 
 /// An edge that hasn't exactly one row along it and one against it, and how many rows run along it
@@ -59,14 +59,6 @@ pub fn unpaired_edges(alloc: Global, rows: &Rows) -> Result<Vec<Unpaired>, NoMem
         push_unpaired(&mut out, edge, seen.along, seen.against)?;
     }
     Ok(out)
-}
-
-fn row_at(rows: &Rows, i: usize) -> Row
-    requires row { i < length rows.now.rows }
-    requires few { i < PART_LIMIT }
-    ensures { slice_get rows.now.rows i ≡ Some result }
-{
-    rows.row(RowId(i as u32)).unwrap()
 }
 
 fn push_if(out: &mut Vec<u32>, row: Row, i: u32, edge: EdgeId) -> Result<(), NoMemory>

@@ -9,7 +9,7 @@ ghost use Rattle.solid_faults.specs.Tallied.{AreTallied};
 ghost use Rattle.solid_data.specs.declared.TheConstants.{PART_LIMIT};
 
 use edge_components::components;
-use edge_uses::{Row, Rows, Seen, Tally, tally_of};
+use edge_uses::{Row, Rows, Seen, Tally, row_at, tally_of};
 use iges_base::NoMemory;
 use solid_data::RowId;
 use std::alloc::Global;
@@ -22,14 +22,6 @@ fn chosen(seen: Seen) -> u32
     } else {
         seen.along_row
     }
-}
-
-fn row_at(rows: &Rows, i: usize) -> Row
-    requires row { i < length rows.now.rows }
-    requires few { i < PART_LIMIT }
-    ensures { slice_get rows.now.rows i ≡ Some result }
-{
-    rows.row(RowId(i as u32)).unwrap()
 }
 
 fn other_face(rows: &Rows, tally: &Tally<'_>, row: Row) -> u32

@@ -11,17 +11,10 @@ ghost use Rattle.edge_uses.specs.Before.{AreBelow};
 ghost use Rattle.edge_uses.specs.ShellRows.{rows_of};
 ghost use Rattle.solid_faults.specs.Edges.{shared_of};
 
-use edge_uses::{Rows, rows};
+use edge_uses::{Rows, rows, vertex_at};
 use iges_base::NoMemory;
 use solid_data::{ShellAt, Solid, VertexId};
 use std::alloc::Global;
-
-fn vertex_at(rows: &Rows, i: usize) -> VertexId
-    requires { i < length rows.now.vertices }
-    ensures { slice_get rows.now.vertices i ≡ Some result.0 }
-{
-    rows.vertex_at(i).unwrap()
-}
 
 fn push_if(out: &mut Vec<u32>, wanted: bool, n: u32) -> Result<(), NoMemory>
     ensures { IfOk result (λ _. out.new.items ≡ out.old.items ++ (if wanted then n ∷ [] else [])) }

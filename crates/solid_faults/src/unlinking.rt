@@ -7,18 +7,10 @@ ghost use Rattle.solid_faults.specs.Fans.{AreFanCounts, ArePointCounts, unlinked
 ghost use Rattle.solid_data.specs.declared.TheConstants.{PART_LIMIT};
 
 use crate::fan::Unlinked;
-use edge_uses::{Cells, Row, Rows};
+use edge_uses::{Cells, Rows, point_at, row_at, vertex_at};
 use iges_base::NoMemory;
-use solid_data::{LoopAt, RowId, VertexId};
+use solid_data::VertexId;
 use std::alloc::Global;
-
-fn row_at(rows: &Rows, i: usize) -> Row
-    requires row { i < length rows.now.rows }
-    requires few { i < PART_LIMIT }
-    ensures { slice_get rows.now.rows i ≡ Some result }
-{
-    rows.row(RowId(i as u32)).unwrap()
-}
 
 fn least_at(leasts: &[u32], i: usize) -> u32
     requires { i < length leasts.now }
@@ -61,13 +53,6 @@ fn fan_counts<'a>(alloc: Global, rows: &'a Rows, leasts: &[u32]) -> Result<Cells
     Ok(counts)
 }
 
-fn point_at(rows: &Rows, i: usize) -> (LoopAt, VertexId)
-    requires { i < length rows.now.points }
-    ensures { slice_get rows.now.points i ≡ Some (result.0, result.1.0) }
-{
-    rows.isolated(i).unwrap()
-}
-
 fn point_counts(alloc: Global, rows: &Rows) -> Result<Cells<'_, u32>, NoMemory>
     ensures cells { IfOk result (IsOnVertices rows.now) }
     ensures counts { IfOk result (λ counts. ArePointCounts rows.now
@@ -79,13 +64,6 @@ fn point_counts(alloc: Global, rows: &Rows) -> Result<Cells<'_, u32>, NoMemory>
         add_at(&mut counts, point.1.0, true);
     }
     Ok(counts)
-}
-
-fn vertex_at(rows: &Rows, i: usize) -> VertexId
-    requires { i < length rows.now.vertices }
-    ensures { slice_get rows.now.vertices i ≡ Some result.0 }
-{
-    rows.vertex_at(i).unwrap()
 }
 
 fn count_at(counts: &Cells<'_, u32>, vertex: VertexId) -> u32

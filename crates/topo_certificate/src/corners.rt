@@ -10,10 +10,10 @@ ghost use Rattle.topo_certificate.specs.Kept.{HoldsMates, InFileOrder, corner_si
 ghost use Rattle.topo_certificate.specs.Ring.{FitsCornerLine, IsCornerText};
 
 use crate::fitting::{is_above, named_row};
-use crate::points::{point_at, point_place};
+use crate::points::point_place;
 use crate::ring::ring_len;
 use cert_lines::next_number;
-use edge_uses::Rows;
+use edge_uses::{Rows, point_at};
 use solid_data::VertexId;
 
 /// The vertex of a corner line that fits after one at the last vertex, where these are the mates; None where the text

@@ -6,8 +6,8 @@ ghost use Rattle.topo_certificate.specs.Kept.{InFileOrder};
 ghost use Rattle.topo_certificate.specs.Places.{IsNamed, IsBefore, IsNamedAt};
 
 use cert_lines::from_one;
-use edge_uses::Rows;
-use solid_data::{LoopAt, VertexId};
+use edge_uses::{Rows, point_at};
+use solid_data::LoopAt;
 
 /// Whether a loop is the one that a line names, by face and place from 1.
 fn is_named(at: LoopAt, face: u32, place: u32) -> bool
@@ -23,14 +23,6 @@ fn is_before(at: LoopAt, face: u32, place: u32) -> bool
     let here = from_one(at.face.0);
     let there = u64::from(face);
     here < there || here == there && from_one(at.place) < u64::from(place)
-}
-
-// The i-th loop without an edge, i from 0, and its vertex.
-pub(crate) fn point_at(rows: &Rows, i: usize) -> (LoopAt, VertexId)
-    requires { i < length rows.now.points }
-    ensures { slice_get rows.now.points i ≡ Some (result.0, result.1.0) }
-{
-    rows.isolated(i).unwrap()
 }
 
 /// Which of the loops without an edge a line names, by face and place from 1; they are in file order.

@@ -10,19 +10,10 @@ ghost use Rattle.topo_certificate.specs.Kept.{corner_size, is_alone};
 ghost use Rattle.topo_certificate.specs.Tallied.{AreStarts, ArePoints};
 ghost use Rattle.solid_data.specs.declared.TheConstants.{PART_LIMIT};
 
-use crate::points::point_at;
-use edge_uses::{Cells, Row, Rows};
+use edge_uses::{Cells, Rows, point_at, row_at};
 use iges_base::NoMemory;
-use solid_data::{RowId, VertexId};
+use solid_data::VertexId;
 use std::alloc::Global;
-
-fn row_at(rows: &Rows, i: usize) -> Row
-    requires row { i < length rows.now.rows }
-    requires few { i < PART_LIMIT }
-    ensures { slice_get rows.now.rows i ≡ Some result }
-{
-    rows.row(RowId(i as u32)).unwrap()
-}
 
 fn add_one(counts: &mut Cells<'_, u32>, vertex: VertexId)
     requires known { Contains counts.old.numbers vertex.0 }

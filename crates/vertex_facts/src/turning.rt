@@ -8,7 +8,7 @@ ghost use Rattle.vertex_facts.specs.FanFacts.{turn_of, by_turns, on_fan, on_fans
 ghost use Rattle.edge_uses.specs.Mates.{ArePaired, AreInvolution};
 ghost use Rattle.solid_faults.specs.Trees.{AreTrees};
 
-use edge_uses::{Paired, Row, Rows, Span};
+use edge_uses::{Paired, Rows, Span, point_at, row_at};
 use iges_base::NoMemory;
 use solid_data::{LoopAt, RowId, VertexId};
 use solid_faults::{Groups, grouped};
@@ -32,14 +32,6 @@ pub struct VertexTables {
     points: Groups,
 }
 
-fn row_at(rows: &Rows, i: usize) -> Row
-    requires row { i < length rows.now.rows }
-    requires few { i < 2 ^ 29 }
-    ensures { slice_get rows.now.rows i ≡ Some result }
-{
-    rows.row(RowId(i as u32)).unwrap()
-}
-
 fn starts_of(alloc: Global, rows: &Rows) -> Result<Vec<u32>, NoMemory>
     ensures { IfOk result (λ starts. starts.items ≡ map (λ (r : AnyRow). r.from.0) rows.now.rows) }
 {
@@ -48,13 +40,6 @@ fn starts_of(alloc: Global, rows: &Rows) -> Result<Vec<u32>, NoMemory>
         starts.push(row_at(rows, i).from.0)?;
     }
     Ok(starts)
-}
-
-fn point_at(rows: &Rows, i: usize) -> (LoopAt, VertexId)
-    requires { i < length rows.now.points }
-    ensures { slice_get rows.now.points i ≡ Some (result.0, result.1.0) }
-{
-    rows.isolated(i).unwrap()
 }
 
 fn points_of(alloc: Global, rows: &Rows) -> Result<Vec<u32>, NoMemory>

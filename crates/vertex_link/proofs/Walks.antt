@@ -7,7 +7,7 @@ use Rattle.std.proofs.lemmas.List.{append-nil, drop_all}
 use Rattle.std.proofs.lemmas.Option.{same_Some}
 use Rattle.solid_data.specs.Obligations.{FirstNot}
 use Rattle.edge_uses.proofs.FirstOf.{LeftIn}
-use Rattle.vertex_link.specs.declared.corners.Corner.{Corner}
+use Rattle.solid_data.specs.declared.linked.Corner.{Corner}
 use Rattle.vertex_link.specs.Corners.{LiesAt, AreLinks}
 use Rattle.edge_uses.specs.declared.row.Row.{Row}
 use Rattle.edge_uses.specs.ShellRows.{ShellRows}
@@ -18,10 +18,10 @@ use Rattle.solid_data.proofs.Trail.{Trail, trail_from_zip, trail_keeps, no_repea
 use Rattle.edge_uses.proofs.Cycle.{AreTurning, on_trail, cycle_of_corner, zip_from_trail}
 use Rattle.edge_uses.proofs.Turn.{turning}
 use Rattle.edge_uses.proofs.RowNumbers.{starting, length-starting, starting_has, starting_none, starting_is}
-use Rattle.vertex_link.specs.declared.starting.Starts.{Starts}
-use Rattle.vertex_link.specs.declared.starting.Points.{Points}
+use Rattle.vertex_starts.specs.declared.starting.Starts.{Starts}
+use Rattle.vertex_starts.specs.declared.starting.Points.{Points}
 use Rattle.vertex_link.specs.Cycles.{IsCycle, IsCycleOf}
-use Rattle.vertex_link.specs.Starting.{AreStarts, ArePoints}
+use Rattle.vertex_starts.specs.Starting.{AreStarts, ArePoints}
 
 abbrev rows_at : ShellRows → ℕ → List ℕ
 rows_at d v = starting v 0 d.rows

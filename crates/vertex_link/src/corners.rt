@@ -1,38 +1,28 @@
 //! What lies round each vertex.
 
-use solid_data::{LoopAt, RowList};
+use solid_data::{Corner, Corners};
 use std::marker::Model;
-
-/// What lies round a vertex (own).
-#[derive(Drop)]
-pub enum Corner {
-    /// The rows that start there, each once: from the least one on each turns to the next, and the
-    /// last to the first. No loop without an edge lies there.
-    Cycle(RowList),
-    /// The one loop without an edge that lies there. No row starts there.
-    Point(LoopAt),
-}
 
 /// A corner for each vertex of a shell, by rising number (own).
 #[derive(Drop)]
 pub struct Links {
-    corners: Vec<Corner>,
+    corners: Corners,
 }
 
 impl Model for Links {
     ghost use Rattle.std.specs.Prelude.{List};
-    ghost use Rattle.vertex_link.specs.declared.corners.Corner.{Corner};
+    ghost use Rattle.solid_data.specs.declared.linked.Corner.{Corner};
 
     ghost Value = { List Corner };
 
-    ghost view = { λ l. l.corners.items };
+    ghost view = { λ l. l.corners };
 }
 
 impl Links {
     ghost use Rattle.std.specs.Prelude.{◌≡◌, length, slice_get, option_copied};
 
-    pub(crate) fn of(corners: Vec<Corner>) -> Links
-        ensures { result ≡ corners.items }
+    pub(crate) fn of(corners: Corners) -> Links
+        ensures { result ≡ corners }
     {
         Links { corners }
     }
@@ -53,8 +43,8 @@ impl Links {
     }
 
     /// What lies round each vertex, by rising number (own).
-    pub fn into_corners(self) -> Vec<Corner>
-        ensures { result.items ≡ self }
+    pub fn into_corners(self) -> Corners
+        ensures { result ≡ self }
     {
         self.corners
     }

@@ -8,9 +8,9 @@
 mod corners;
 mod fault;
 mod linking;
-mod starting;
 mod walking;
 
-pub use corners::{Corner, Links};
+pub use corners::Links;
 pub use fault::LinkFault;
 pub use linking::links;
+pub use solid_data::Corner;

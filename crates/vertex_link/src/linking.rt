@@ -4,40 +4,23 @@ ghost use Rattle.std.specs.Prelude.{◌≡◌, IfOk, IfErr, ◌++◌, ◌∷◌,
 ghost use Rattle.std.specs.List.{AllByRecursion};
 ghost use Rattle.edge_uses.specs.Closed.{IsLinked};
 ghost use Rattle.edge_uses.specs.Mates.{ArePaired};
-ghost use Rattle.edge_uses.specs.Ranges.{IsWithin};
-ghost use Rattle.edge_uses.specs.ShellRows.{ShellRows};
 ghost use Rattle.vertex_link.specs.Corners.{AreLinks};
 ghost use Rattle.vertex_link.specs.Faults.{IsLinkFault};
-ghost use Rattle.vertex_link.specs.Starting.{AreStartCells, ArePointCells, AreStarts, ArePoints};
+ghost use Rattle.vertex_starts.specs.Starting.{AreStartCells, ArePointCells};
 
-use crate::corners::{Corner, Links};
+use crate::corners::Links;
 use crate::fault::LinkFault;
-use crate::starting::{Points, Starts, all_points, all_starts, vertex_at};
 use crate::walking::corner_at;
-use edge_uses::{Cells, Paired};
+use edge_uses::{Cells, Paired, vertex_at};
 use iges_base::NoMemory;
-use solid_data::VertexId;
+use solid_data::{Corner, Corners};
 use std::alloc::Global;
+use vertex_starts::{Points, Starts, all_points, all_starts, points_at, starts_at};
 
-fn push_corner(corners: &mut Vec<Corner>, corner: Corner) -> Result<(), NoMemory>
-    ensures { IfOk result (λ _. corners.new.items ≡ corners.old.items ++ corner ∷ []) }
+fn push_corner(corners: &mut Corners, corner: Corner) -> Result<(), NoMemory>
+    ensures { IfOk result (λ _. corners.new ≡ corners.old ++ corner ∷ []) }
 {
-    corners.push(corner)?;
-    Ok(())
-}
-
-fn starts_at(starts: &Cells<'_, Starts>, vertex: u32) -> Starts
-    requires { IsWithin starts.now.span vertex }
-    ensures { (d : ShellRows) → AreStartCells d starts.now → AreStarts d vertex result }
-{
-    starts.at(vertex)
-}
-
-fn points_at(points: &Cells<'_, Points>, vertex: u32) -> Points
-    requires { IsWithin points.now.span vertex }
-    ensures { (d : ShellRows) → ArePointCells d points.now → ArePoints d vertex result }
-{
-    points.at(vertex)
+    corners.push(corner)
 }
 
 fn corners_of(
@@ -45,27 +28,27 @@ fn corners_of(
     paired: &Paired<'_>,
     starts: &Cells<'_, Starts>,
     points: &Cells<'_, Points>,
-) -> Result<Vec<Corner>, LinkFault>
+) -> Result<Corners, LinkFault>
     requires whole { ArePaired paired.now }
     requires starts { AreStartCells paired.now starts.now }
     requires points { ArePointCells paired.now points.now }
-    ensures links { IfOk result (λ corners. AreLinks paired.now corners.items) }
+    ensures links { IfOk result (λ corners. AreLinks paired.now corners) }
     ensures linked { IfOk result (λ _. AllByRecursion (IsLinked paired.now) paired.now.vertices) }
     ensures fault { IfErr result (λ fault. IsLinkFault paired.now fault) }
 {
     let rows = paired.rows();
-    let mut corners = Vec::new(alloc);
+    let mut corners = Corners::new(alloc);
     'vertices: for i in 0..rows.vertex_count() {
         let vertex = vertex_at(rows, i);
         let corner = corner_at(
             alloc,
             paired,
-            vertex,
-            starts_at(starts, vertex),
-            points_at(points, vertex),
+            vertex.0,
+            starts_at(starts, vertex.0),
+            points_at(points, vertex.0),
         )?;
         let Some(corner) = corner else {
-            return Err(LinkFault::Broken(VertexId(vertex)));
+            return Err(LinkFault::Broken(vertex));
         };
         push_corner(&mut corners, corner)?;
     }

@@ -8,8 +8,9 @@ ghost use Rattle.where_text.specs.Spelled.{space_word, spelled};
 
 use crate::listing::EntryNumbers;
 use crate::types::put_type;
-use crate::words::{put_number, put_value};
+use crate::words::put_value;
 use brep_lists::int_at;
+use iges_base::put_number;
 use iges_fields::{EntryNo, NoMemory, Out};
 use iges_params::File;
 use solid_data::VertexKey;

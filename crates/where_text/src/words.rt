@@ -1,10 +1,10 @@
 //! Words, numbers and values of a line.
 
-ghost use Rattle.std.specs.Prelude.{◌≡◌, ◌++◌, OnOk, decimal, option_copied};
+ghost use Rattle.std.specs.Prelude.{◌≡◌, ◌++◌, OnOk, option_copied};
 ghost use Rattle.where_text.specs.Spelled.{signed, space_word, spelled, spelled_if};
 
 use crate::masking::put_masked;
-use iges_fields::{NoMemory, Out, Value, write_number};
+use iges_fields::{NoMemory, Out, Value};
 use itoa::Buffer;
 
 /// Appends a space and the word (own).
@@ -13,14 +13,6 @@ pub fn put_word(out: &mut Out, word: &str) -> Result<(), NoMemory>
 {
     out.put(b" ")?;
     out.put(word.as_bytes())
-}
-
-/// Appends a space and the number's digits (own).
-pub fn put_number(out: &mut Out, n: u64) -> Result<(), NoMemory>
-    ensures text { OnOk result (out.new ≡ out.old ++ space_word (decimal n)) }
-{
-    out.put(b" ")?;
-    write_number(out, n)
 }
 
 /// Appends a space and the number's digits, after a minus where it is negative (own).

@@ -2,9 +2,8 @@ use Rattle.std.proofs.Common.{ℕ, refl, sym, ◌∙◌, ap, subst, length, List
 use Rattle.std.specs.List.{AllZip}
 use Rattle.edge_uses.specs.ShellRows.{ShellRows}
 use Rattle.vertex_link.specs.Corners.{LiesAt}
-use Rattle.vertex_link.specs.declared.corners.Corner.{Corner}
-use Rattle.vertex_link.specs.declared.corners.Corner.TheVariants.{Cycle, Point}
-use Rattle.cert_lines.specs.declared.parts.CornerLine.{CornerLine}
+use Rattle.solid_data.specs.declared.linked.Corner.{Corner}
+use Rattle.solid_data.specs.declared.linked.Corner.TheVariants.{Cycle, Point}
 use Rattle.cert_maker.specs.Parts.{LiesRound, line_for}
 use Rattle.cert_maker.proofs.Zipping.{zip_map}
 use Rattle.cert_maker.proofs.shell_part.part_of.Goals as goal
@@ -19,7 +18,7 @@ returns c =
     record {
       rows = c.len.ensures.count ∙ ap (λ (e : ShellRows). length e.rows) c.rows-rows.ensures.rows;
       edges = c.in_ok-edges.ensures;
-      corners = subst (λ (cs : List CornerLine). AllZip (LiesRound d) d.vertices cs) (sym c.in_ok-corners.ensures) (zip_map (LiesAt d) (LiesRound d) line_for (lies d) d.vertices c.args.links c.requires.links);
+      corners = subst (λ (cs : List Corner). AllZip (LiesRound d) d.vertices cs) (sym c.in_ok-corners.ensures) (zip_map (LiesAt d) (LiesRound d) line_for (lies d) d.vertices c.args.links c.requires.links);
       faces = c.face_count.ensures ∙ ap (λ (e : ShellRows). e.face_count) c.rows-rows.ensures.rows;
       reach = c.requires.reach;
       order = c.requires.order;

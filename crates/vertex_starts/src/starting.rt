@@ -1,24 +1,25 @@
 //! How many rows start at each vertex, and how many loops without an edge lie there.
 
-ghost use Rattle.std.specs.Prelude.{◌≡◌, ◌<◌, Contains, Some, length, slice_get, IfOk};
+ghost use Rattle.std.specs.Prelude.{◌≡◌, ◌<◌, Contains, IfOk};
 ghost use Rattle.edge_uses.specs.Cells.{cell_of, with_cell};
 ghost use Rattle.edge_uses.specs.Ranges.{IsWithin};
-ghost use Rattle.vertex_link.specs.Starting.{one_start_more, one_point_more, AreStartCells, ArePointCells};
+ghost use Rattle.edge_uses.specs.ShellRows.{ShellRows};
+ghost use Rattle.vertex_starts.specs.Starting.{one_start_more, one_point_more, AreStartCells, ArePointCells, AreStarts, ArePoints};
 ghost use Rattle.solid_data.specs.declared.TheConstants.{PART_LIMIT};
 
-use edge_uses::{Cells, Row, Rows};
+use edge_uses::{Cells, Rows, point_at, row_at};
 use iges_base::NoMemory;
-use solid_data::{FaceAt, LoopAt, RowId, VertexId};
+use solid_data::{FaceAt, LoopAt, VertexId};
 use std::alloc::Global;
 
-/// How many rows start at a vertex, and the first of them, from 0; 0 too where none does.
+/// How many rows start at a vertex, and the first of them, from 0; 0 too where none does (own).
 #[derive(Clone, Copy)]
 pub struct Starts {
     pub count: u32,
     pub first: u32,
 }
 
-/// How many loops without an edge lie at a vertex, and the last of them.
+/// How many loops without an edge lie at a vertex, and the last of them (own).
 #[derive(Clone, Copy)]
 pub struct Points {
     pub count: u32,
@@ -58,31 +59,6 @@ fn one_point(points: Points, at: LoopAt) -> Points
     }
 }
 
-/// The i-th row, i from 0, which there must be.
-pub fn row_at(rows: &Rows, i: usize) -> Row
-    requires row { i < length rows.now.rows }
-    requires few { i < PART_LIMIT }
-    ensures { slice_get rows.now.rows i ≡ Some result }
-{
-    rows.row(RowId(i as u32)).unwrap()
-}
-
-/// The number of the i-th vertex that occurs in the shell, i from 0, which there must be.
-pub fn vertex_at(rows: &Rows, i: usize) -> u32
-    requires { i < length rows.now.vertices }
-    ensures { slice_get rows.now.vertices i ≡ Some result }
-{
-    rows.vertex_at(i).unwrap().0
-}
-
-/// The i-th loop without an edge, i from 0, which there must be, and its vertex.
-pub fn point_at(rows: &Rows, i: usize) -> (LoopAt, VertexId)
-    requires { i < length rows.now.points }
-    ensures { slice_get rows.now.points i ≡ Some (result.0, result.1.0) }
-{
-    rows.isolated(i).unwrap()
-}
-
 fn note_start(starts: &mut Cells<'_, Starts>, vertex: VertexId, r: u32)
     requires known { Contains starts.old.numbers vertex.0 }
     requires within { IsWithin starts.old.span vertex.0 }
@@ -105,8 +81,8 @@ fn note_point(points: &mut Cells<'_, Points>, vertex: VertexId, at: LoopAt)
     points.set(vertex.0, one_point(seen, at));
 }
 
-/// How many rows start at each vertex of the range in which the vertices of the shell lie. It takes no
-/// longer where they lie far apart.
+/// How many rows start at each vertex of the range in which the vertices of the shell lie (own). It takes no longer where
+/// they lie far apart.
 pub fn all_starts(alloc: Global, rows: &Rows) -> Result<Cells<'_, Starts>, NoMemory>
     ensures { IfOk result (AreStartCells rows.now) }
 {
@@ -117,8 +93,8 @@ pub fn all_starts(alloc: Global, rows: &Rows) -> Result<Cells<'_, Starts>, NoMem
     Ok(starts)
 }
 
-/// How many loops without an edge lie at each vertex of the range in which the vertices of the shell
-/// lie. It takes no longer where they lie far apart.
+/// How many loops without an edge lie at each vertex of the range in which the vertices of the shell lie (own). It takes no
+/// longer where they lie far apart.
 pub fn all_points(alloc: Global, rows: &Rows) -> Result<Cells<'_, Points>, NoMemory>
     ensures { IfOk result (ArePointCells rows.now) }
 {
@@ -130,4 +106,20 @@ pub fn all_points(alloc: Global, rows: &Rows) -> Result<Cells<'_, Points>, NoMem
         note_point(&mut points, vertex, at);
     }
     Ok(points)
+}
+
+/// How many rows start at a vertex of the range, and the first of them (own).
+pub fn starts_at(starts: &Cells<'_, Starts>, vertex: u32) -> Starts
+    requires { IsWithin starts.now.span vertex }
+    ensures { (d : ShellRows) → AreStartCells d starts.now → AreStarts d vertex result }
+{
+    starts.at(vertex)
+}
+
+/// How many loops without an edge lie at a vertex of the range, and the last of them (own).
+pub fn points_at(points: &Cells<'_, Points>, vertex: u32) -> Points
+    requires { IsWithin points.now.span vertex }
+    ensures { (d : ShellRows) → ArePointCells d points.now → ArePoints d vertex result }
+{
+    points.at(vertex)
 }

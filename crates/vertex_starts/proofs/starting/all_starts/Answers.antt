@@ -1,7 +1,7 @@
 use Rattle.std.proofs.Common.{arith}
-use Rattle.vertex_link.specs.Starting.{no_starts}
-use Rattle.vertex_link.proofs.StartCells.{on_vertices, rows_first, rows_noted, start_few, start_known, start_noted, start_within}
-use Rattle.vertex_link.proofs.starting.all_starts.Goals as goal
+use Rattle.vertex_starts.specs.Starting.{no_starts}
+use Rattle.vertex_starts.proofs.StartCells.{on_vertices, rows_first, rows_noted, start_few, start_known, start_noted, start_within}
+use Rattle.vertex_starts.proofs.starting.all_starts.Goals as goal
 
 pub rows-init : goal.rows-init
 rows-init c =

@@ -15,9 +15,9 @@ use Rattle.edge_uses.specs.Closed.{StartsAt}
 use Rattle.solid_data.proofs.Members.{Has, Contains-from_Has, All-at, count_by-total, split_at, has_get}
 use Rattle.edge_uses.proofs.Tallies.{one_if, set_same, set_other}
 use Rattle.edge_uses.proofs.Counting.{times, times_few}
-use Rattle.open_shells.specs.declared.starting.Starts.{Starts}
-use Rattle.open_shells.specs.declared.starting.Points.{Points}
-use Rattle.open_shells.specs.Starting.{no_starts, one_start_more, AreStarts, no_points, one_point_more, ArePoints}
+use Rattle.vertex_starts.specs.declared.starting.Starts.{Starts}
+use Rattle.vertex_starts.specs.declared.starting.Points.{Points}
+use Rattle.vertex_starts.specs.Starting.{no_starts, one_start_more, AreStarts, no_points, one_point_more, ArePoints}
 
 split_times : {A : Type 0} (f : A → ℕ) (v : ℕ) (xs : List A) (i : ℕ) (x : A) → slice_get xs i ≡ Some x → times f v (drop i xs) ≡ one_if (f x == v) + times f v (drop (i + 1) xs)
 split_times f v xs i x h = ap (times f v) (split_at xs i x h)

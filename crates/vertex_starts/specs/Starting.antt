@@ -1,5 +1,6 @@
 -- Private: how many rows start at a vertex, and which first; how many loops without an edge lie there, and which last.
 use Rattle.std.specs.Prelude.{◌≡◌, ◌<◌, ◌≤◌, ◌+◌, ◌-◌, ◌==◌, ℕ, List, count_by, Contains, if◌then◌else◌, get_or}
+use Rattle.solid_data.specs.declared.solid.FaceAt.{FaceAt}
 use Rattle.solid_data.specs.declared.solid.LoopAt.{LoopAt}
 use Rattle.edge_uses.specs.declared.row.Row.{Row}
 use Rattle.edge_uses.specs.declared.spanning.Span.{Span}
@@ -7,8 +8,8 @@ use Rattle.edge_uses.specs.Cells.{Celled}
 use Rattle.edge_uses.specs.Ranges.{IsWithin, IsSpanOf}
 use Rattle.edge_uses.specs.ShellRows.{ShellRows}
 use Rattle.edge_uses.specs.Closed.{StartsAt, point_count}
-use Rattle.open_shells.specs.declared.starting.Starts.{Starts}
-use Rattle.open_shells.specs.declared.starting.Points.{Points}
+use Rattle.vertex_starts.specs.declared.starting.Starts.{Starts}
+use Rattle.vertex_starts.specs.declared.starting.Points.{Points}
 
 abbrev pub no_starts : Starts
 no_starts = record { count = 0; first = 0 }

@@ -1,7 +1,7 @@
 use Rattle.std.proofs.Common.{arith}
-use Rattle.open_shells.specs.Starting.{no_points}
-use Rattle.open_shells.proofs.StartCells.{on_vertices, point_few, point_known, point_noted, point_within, points_first, points_noted}
-use Rattle.open_shells.proofs.starting.all_points.Goals as goal
+use Rattle.vertex_starts.specs.Starting.{no_points}
+use Rattle.vertex_starts.proofs.StartCells.{on_vertices, point_few, point_known, point_noted, point_within, points_first, points_noted}
+use Rattle.vertex_starts.proofs.starting.all_points.Goals as goal
 
 pub points-init : goal.points-init
 points-init c =

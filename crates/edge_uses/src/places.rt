@@ -1,0 +1,36 @@
+//! The rows, the vertices and the loops without an edge of a shell, by place.
+
+ghost use Rattle.std.specs.Prelude.{◌≡◌, ◌<◌, Some, length, slice_get};
+
+use crate::row::Row;
+use crate::table::Rows;
+use solid_data::{LoopAt, RowId, VertexId};
+
+/// The i-th row, from 0, which there must be (own).
+#[inline(always)]
+pub fn row_at(rows: &Rows, i: usize) -> Row
+    requires { i < length rows.now.rows }
+    ensures { slice_get rows.now.rows i ≡ Some result }
+{
+    // Its clause says that the rows are fewer than 2^32.
+    let _len = rows.len();
+    rows.row(RowId(i as u32)).unwrap()
+}
+
+/// The i-th vertex that occurs in the shell, by rising number, i from 0, which there must be (own).
+#[inline(always)]
+pub fn vertex_at(rows: &Rows, i: usize) -> VertexId
+    requires { i < length rows.now.vertices }
+    ensures { slice_get rows.now.vertices i ≡ Some result.0 }
+{
+    rows.vertex_at(i).unwrap()
+}
+
+/// The i-th loop without an edge, in file order, i from 0, which there must be, and its vertex (own).
+#[inline(always)]
+pub fn point_at(rows: &Rows, i: usize) -> (LoopAt, VertexId)
+    requires { i < length rows.now.points }
+    ensures { slice_get rows.now.points i ≡ Some (result.0, result.1.0) }
+{
+    rows.isolated(i).unwrap()
+}

@@ -1,5 +1,0 @@
-use Rattle.open_shells.proofs.StartCells.{RowsNoted}
-use Rattle.open_shells.proofs.starting.all_starts.Given as goal
-
-abbrev pub invariant-rows : goal.invariant-rows
-invariant-rows l = RowsNoted l.fn.rows l.i l.starts
