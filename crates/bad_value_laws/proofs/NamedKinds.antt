@@ -16,7 +16,7 @@ use Rattle.brep_lists.specs.Record.{type_number, kind_of_type, HasForm, IsRecord
 use Rattle.brep_lists.specs.declared.entity_kind.EntityKind.{EntityKind}
 use Rattle.brep_lists.specs.declared.entity_kind.EntityKind.TheVariants.{Solid as solid, Shell as shell, Face as face, Loop as «loop», EdgeList as edges, VertexList as vertices}
 use Rattle.brep_lists.proofs.Decided.{decided}
-use Rattle.brep_lists.proofs.Kinds.{kind_known}
+use Rattle.brep_lists.proofs.KindTypes.{kind_known}
 use Rattle.brep_walk.specs.Places.{Names, NamesKind, NamesGeometry, HasRecordOf, IsIndex}
 use Rattle.record_values.specs.BadValue.{entry_at, kind_in, is_geometry, is_vertex_list, is_index, names_geometry}
 use Rattle.record_values.specs.Told.{told_in}

@@ -7,7 +7,7 @@ use Rattle.brep_lists.specs.DueValues.{DueValue, pointer, number, flag, at_least
 use Rattle.brep_lists.specs.Record.{type_number, kind_of_type, HasForm, due, items_of, IsRecordOf}
 use Rattle.brep_lists.specs.declared.entity_kind.EntityKind.{EntityKind}
 use Rattle.brep_lists.specs.declared.entity_kind.EntityKind.TheVariants.{Solid as solid, Shell as shell, Face as face, Loop as «loop», EdgeList as edges, VertexList as vertices}
-use Rattle.brep_lists.proofs.Kinds.{kind_known}
+use Rattle.brep_lists.proofs.KindTypes.{kind_known}
 use Rattle.brep_walk.specs.Places.{told, Names, NamesKind, HasRecordOf, NamesGeometry}
 use Rattle.solid_data.specs.Obligations.{entry_number}
 use Rattle.entry_references.specs.Refs.{Record}

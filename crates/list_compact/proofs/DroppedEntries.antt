@@ -14,7 +14,7 @@ use Rattle.iges_params.specs.Named.{kind_of, named, record_values, values_of}
 use Rattle.brep_lists.specs.Record.{type_number, kind_of_type}
 use Rattle.brep_lists.specs.declared.entity_kind.EntityKind.{EntityKind}
 use Rattle.brep_lists.specs.declared.entity_kind.EntityKind.TheVariants.{Solid as solid, Shell as shell, Face as face, Loop as «loop», EdgeList as edges, VertexList as vertices}
-use Rattle.brep_lists.proofs.Kinds.{kind_known}
+use Rattle.brep_lists.proofs.KindTypes.{kind_known}
 use Rattle.solid_data.specs.Obligations.{entry_number}
 use Rattle.entry_references.specs.Refs.{Record}
 use Rattle.list_compact.specs.Used.{is_kind}

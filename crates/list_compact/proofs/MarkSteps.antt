@@ -19,7 +19,7 @@ use Rattle.solid_extract.proofs.Copies.{all_at, one_more}
 use Rattle.list_compact.specs.Used.{is_kind, tuples_in, edges_in, vertices_in, used_from, names_edge, names_vertex, has_end}
 use Rattle.list_compact.specs.Marking.{AreMarks, IsOfItsKind, MarksItems, is_at, sizes}
 use Rattle.solid_data.proofs.Members.{get_some}
-use Rattle.brep_lists.proofs.Kinds.{kind_known}
+use Rattle.brep_lists.proofs.KindTypes.{kind_known}
 use Rattle.list_compact.proofs.DroppedEntries.{kind_test}
 use Rattle.list_compact.proofs.RowSteps.{row_is}
 
