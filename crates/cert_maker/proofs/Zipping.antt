@@ -1,5 +1,5 @@
 -- Two lists that are made to agree item by item.
-use Rattle.std.specs.Prelude.{◌≡◌, ℕ, suc, ◌+◌, ◌≤◌, List, [], ◌∷◌, ◌++◌, length, map, Some, slice_get}
+use Rattle.std.specs.Prelude.{◌≡◌, ℕ, suc, ◌+◌, ◌≤◌, List, [], ◌∷◌, ◌++◌, length, Some, slice_get}
 use Rattle.std.specs.List.{AllZip}
 use Rattle.std.proofs.Common.{refl, sym, ◌∙◌, ap, subst, append_assoc, drop}
 use Rattle.std.proofs.lemmas.List.{append-nil, drop_all}
@@ -18,12 +18,6 @@ agree_more R xs i x y old new at here made agree rest h =
 
 pub agree_done : {A B : Type 0} (R : A → B → Type 0) (xs : List A) (i : ℕ) (made : List B) → length xs ≤ i → AgreeUpTo R xs i made → AllZip R xs made
 agree_done R xs i made past agree = subst (AllZip R xs) (append-nil made) (agree [] (subst (λ zs. AllZip R zs []) (sym (drop_all i xs past)) tt))
-
-pub zip_map : {A B C : Type 0} (R : A → B → Type 0) (S : A → C → Type 0) (f : B → C) → ((x : A) (y : B) → R x y → S x (f y)) → (xs : List A) (ys : List B) → AllZip R xs ys → AllZip S xs (map f ys)
-zip_map R S f each [] [] h = tt
-zip_map R S f each [] (y ∷ ys) h = absurd h
-zip_map R S f each (x ∷ xs) [] h = absurd h
-zip_map R S f each (x ∷ xs) (y ∷ ys) h = (each x y h.0, zip_map R S f each xs ys h.1)
 
 pub zip_length : {A B : Type 0} (R : A → B → Type 0) (xs : List A) (ys : List B) → AllZip R xs ys → length xs ≡ length ys
 zip_length R [] [] h = refl

@@ -2,7 +2,6 @@
 #![tactic(auto)]
 
 mod book;
-mod corners;
 mod deciding;
 mod fault;
 mod judging;

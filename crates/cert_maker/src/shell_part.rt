@@ -12,7 +12,6 @@ ghost use Rattle.solid_check.specs.Faults.{IsCheckFault};
 ghost use Rattle.topo_certificate.specs.Stand.{loops_of};
 ghost use Rattle.cert_maker.specs.Parts.{IsPart};
 
-use crate::corners::corner_lines;
 use crate::fault::MakeFault;
 use crate::judging::{linked, mated, reached};
 use crate::pairs::edge_pairs;
@@ -41,11 +40,10 @@ fn part_of(
 {
     let rows = paired.rows();
     let edges = edge_pairs(alloc, paired)?;
-    let corners = corner_lines(alloc, links)?;
     Ok(ShellPart {
         rows: rows.len() as u32,
         edges,
-        corners,
+        corners: links.into_corners(),
         faces: rows.face_count() as u32,
         reach,
         vertices: rows.vertex_count() as u32,

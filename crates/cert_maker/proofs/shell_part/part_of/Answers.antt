@@ -3,14 +3,7 @@ use Rattle.std.specs.List.{AllZip}
 use Rattle.edge_uses.specs.ShellRows.{ShellRows}
 use Rattle.vertex_link.specs.Corners.{LiesAt}
 use Rattle.solid_data.specs.declared.linked.Corner.{Corner}
-use Rattle.solid_data.specs.declared.linked.Corner.TheVariants.{Cycle, Point}
-use Rattle.cert_maker.specs.Parts.{LiesRound, line_for}
-use Rattle.cert_maker.proofs.Zipping.{zip_map}
 use Rattle.cert_maker.proofs.shell_part.part_of.Goals as goal
-
-lies : (d : ShellRows) (v : ℕ) (corner : Corner) → LiesAt d v corner → LiesRound d v (line_for corner)
-lies d v (Cycle rows) h = h
-lies d v (Point at) h = h
 
 pub returns : goal.returns
 returns c =
@@ -18,7 +11,7 @@ returns c =
     record {
       rows = c.len.ensures.count ∙ ap (λ (e : ShellRows). length e.rows) c.rows-rows.ensures.rows;
       edges = c.in_ok-edges.ensures;
-      corners = subst (λ (cs : List Corner). AllZip (LiesRound d) d.vertices cs) (sym c.in_ok-corners.ensures) (zip_map (LiesAt d) (LiesRound d) line_for (lies d) d.vertices c.args.links c.requires.links);
+      corners = subst (λ (cs : List Corner). AllZip (LiesAt d) d.vertices cs) (sym c.into_corners.ensures) c.requires.links;
       faces = c.face_count.ensures ∙ ap (λ (e : ShellRows). e.face_count) c.rows-rows.ensures.rows;
       reach = c.requires.reach;
       order = c.requires.order;
