@@ -22,27 +22,27 @@ open_fail_line x = fail_text (rule_name x.rule) x.entity.0 x.place
 
 -- what is owed of certifying shell n
 pub data OfOpen (n : ℕ) (f : Contents) : Answer → List ℕ → Type 0 where
-  -- what its verdict names of its records
+  -- a place is false: what its verdict names
   open_misplaced : (x : Failing) → IsOpenVerdict f n (misplaced x) → OfOpen n f No (fail_line x)
-  -- what its verdict names of the shell
+  -- a rule of open shells fails: what its verdict names
   open_unsound : (x : OpenFailing) → IsOpenVerdict f n (unsound x) → OfOpen n f No (open_fail_line x)
-  -- the text of some certificate that is accepted and names it
+  -- it is sound: the text of some certificate that is accepted and names it
   open_certified : (text : List ℕ) → IsOpenVerdict f n sound → IsOpenAcceptedFor f text n → OfOpen n f Done text
 
 -- what is owed of a certificate that names shell n and has these lines from line 2 on
 pub data OfShellLines (n : ℕ) (lines : List (List ℕ)) (f : Contents) : Answer → List ℕ → Type 0 where
-  -- the first that is false of all that is checked
+  -- something that is checked is false: the first that is
   place_fails : (x : Failing) → FirstFalse (open_checked f n) x → OfShellLines n lines f No (fail_line x)
-  -- the first bad line
+  -- a line is bad: the first that is
   line_bad : AllHold (open_checked f n) → (bad : Illegal) → IsOpenFirstBad (shell_solid_of f n) lines bad → OfShellLines n lines f No (illegal_line bad)
-  -- that it is accepted
+  -- it is accepted
   lines_accepted : AllHold (open_checked f n) → IsOpenLegal (shell_solid_of f n) lines → OfShellLines n lines f Done (accepted_line n)
 
 -- what is owed of verifying a certificate
 pub data OfOpenVerify (certificate : List ℕ) (f : Contents) : Answer → List ℕ → Type 0 where
-  -- that it is too large
+  -- it is too large
   certificate_too_large : CERT_LIMIT < length certificate → OfOpenVerify certificate f TooLarge []
-  -- what is wrong with line 1 or 2 by itself
+  -- line 1 or 2 is bad by itself
   opening_bad : length certificate ≤ CERT_LIMIT → (bad : Illegal) → IsBadOpening certificate bad → OfOpenVerify certificate f No (illegal_line bad)
-  -- what is owed of the shell that it names and of its lines
+  -- both are good: by the shell that it names and its lines
   opened : (a : Answer) (text : List ℕ) → length certificate ≤ CERT_LIMIT → (n : ℕ) (lines : List (List ℕ)) → OpensShell certificate n lines → OfShellLines n lines f a text → OfOpenVerify certificate f a text

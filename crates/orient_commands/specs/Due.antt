@@ -44,29 +44,29 @@ pub record IsOriented (s : SolidData) (n : ℕ) (a : Answer) (text : List ℕ) :
 
 -- what is owed of orienting solid n
 pub data OfOrient (n : ℕ) (f : Contents) : Answer → List ℕ → Type 0 where
-  -- the first place that is false
+  -- a place is false: the first that is
   misplaced : (x : Failing) → FirstFalse (places f n) x → OfOrient n f answer.No (fail_line x)
-  -- the first rule that fails of a shell
+  -- a rule fails of a shell: the first that does
   unready : AllHold (places f n) → (x : OrientFailing) → IsFirstUnready (solid_of f n) x → OfOrient n f answer.No (orient_fail_line x)
-  -- an orientation
+  -- none does: an orientation
   oriented : (a : Answer) (text : List ℕ) → AllHold (places f n) → OfAllShells IsReady (solid_of f n) → IsOriented (solid_of f n) n a text → OfOrient n f a text
 
 -- what is owed of lines from line 2 on, after one that names solid n
 pub data OfOrientLines (n : ℕ) (lines : List (List ℕ)) (f : Contents) : Answer → List ℕ → Type 0 where
-  -- the first place that is false
+  -- a place is false: the first that is
   place_fails : (x : Failing) → FirstFalse (places f n) x → OfOrientLines n lines f answer.No (fail_line x)
-  -- the first shell's COUNT that fails
+  -- the COUNT of a shell fails: the first that does
   uncounted : AllHold (places f n) → (x : OrientFailing) → IsFirstUncounted (solid_of f n) x → OfOrientLines n lines f answer.No (orient_fail_line x)
-  -- the first bad line
+  -- a line is bad: the first that is
   line_bad : AllHold (places f n) → OfAllShells IsCounted (solid_of f n) → (bad : Illegal) → IsFirstBad (solid_of f n) 2 lines bad → OfOrientLines n lines f answer.No (illegal_line bad)
-  -- that they are accepted
+  -- they are accepted
   lines_accepted : AllHold (places f n) → OfAllShells IsCounted (solid_of f n) → AreWhole (solid_of f n) 2 lines → OfOrientLines n lines f answer.Done (accepted_line n)
 
 -- what is owed of verifying the text of an orientation
 pub data OfOrientVerify (text : List ℕ) (f : Contents) : Answer → List ℕ → Type 0 where
-  -- that it is too large
+  -- it is too large
   text_too_large : CERT_LIMIT < length text → OfOrientVerify text f answer.TooLarge []
-  -- what is wrong with line 1
+  -- line 1 is bad
   head_bad : length text ≤ CERT_LIMIT → (bad : Illegal) → IsBadHead text bad → OfOrientVerify text f answer.No (illegal_line bad)
-  -- what is owed of the lines after it
+  -- it is good: by the lines after it
   named : (a : Answer) (t : List ℕ) → length text ≤ CERT_LIMIT → (n : ℕ) (lines : List (List ℕ)) → Names text n lines → OfOrientLines n lines f a t → OfOrientVerify text f a t
