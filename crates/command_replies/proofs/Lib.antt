@@ -3,3 +3,4 @@ pub mod Taken
 pub mod One
 pub mod SomeDue
 pub mod Verdicts
+pub mod Owing

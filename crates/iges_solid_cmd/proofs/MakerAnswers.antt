@@ -1,5 +1,5 @@
 -- What is owed of certifying a solid, by what the walk and the maker answer.
-use Rattle.std.proofs.Common.{◌≡◌, inl, inr, ℕ, List, subst}
+use Rattle.std.proofs.Common.{◌≡◌, ℕ, List, subst}
 use Rattle.solid_data.specs.Obligations.{AllHold, FirstFalse}
 use Rattle.solid_data.specs.SolidData.{SolidData}
 use Rattle.solid_data.specs.declared.verdict.Failing.{Failing}
@@ -13,22 +13,24 @@ use Rattle.cert_maker.specs.Laws.{IsCertificateText}
 use Rattle.command_replies.specs.declared.answer.Answer.{Answer}
 use Rattle.command_replies.specs.declared.answer.Answer.TheVariants.{Done, No}
 use Rattle.command_replies.specs.Texts.{fail_line}
-use Rattle.iges_solid_cmd.specs.Due.{OfCertify}
+use Rattle.command_replies.proofs.Owing.{owed_so}
+use Rattle.iges_solid_cmd.specs.Due.{OfCertify, fails, certified}
 
-module _ (f : Contents) (n : ℕ) (a : Answer) (t : List ℕ) where
+module _ (f : Contents) (n : ℕ) where
   -- a place is false
-  pub misplaced : (x : Failing) → FirstFalse (places f n) x → (a ≡ No) × (t ≡ fail_line x) → OfCertify n f a t
+  pub misplaced_owed : (a : Answer) (t : List ℕ) (x : Failing) → FirstFalse (places f n) x → (a ≡ No) × (t ≡ fail_line x) → OfCertify n f a t
   unfolding obligations
-  misplaced x first exact = inl (x, FirstFalse-append_front (places f n) (solid_obligations (solid_of f n)) x first, exact)
+  misplaced_owed a t x first exact = owed_so (OfCertify n f) _ _ _ _ (fails x (FirstFalse-append_front (places f n) (solid_obligations (solid_of f n)) x first)) exact.0 exact.1
 
   -- a rule on the shells fails
-  pub unclosed : (x : Failing) (s : SolidData) → AllHold (places f n) → s ≡ solid_of f n → FirstFalse (solid_obligations s) x → (a ≡ No) × (t ≡ fail_line x) → OfCertify n f a t
+  pub unclosed_owed : (a : Answer) (t : List ℕ) (x : Failing) (s : SolidData) → AllHold (places f n) → s ≡ solid_of f n → FirstFalse (solid_obligations s) x → (a ≡ No) × (t ≡ fail_line x) → OfCertify n f a t
   unfolding obligations
-  unclosed x s placed is first exact =
-      inl (x, FirstFalse-append_rest (places f n) (solid_obligations (solid_of f n)) x placed (subst (λ (d : SolidData). FirstFalse (solid_obligations d) x) is first), exact)
+  unclosed_owed a t x s placed is first exact =
+      let bad = FirstFalse-append_rest (places f n) (solid_obligations (solid_of f n)) x placed (subst (λ (d : SolidData). FirstFalse (solid_obligations d) x) is first) in
+      owed_so (OfCertify n f) _ _ _ _ (fails x bad) exact.0 exact.1
 
   -- a certificate was made
-  pub certified : (s : SolidData) → AllHold (places f n) → s ≡ solid_of f n → AllHold (solid_obligations s) → a ≡ Done → IsCertificateText f n t → OfCertify n f a t
+  pub certified_owed : (t : List ℕ) (s : SolidData) → AllHold (places f n) → s ≡ solid_of f n → AllHold (solid_obligations s) → IsCertificateText f n t → OfCertify n f Done t
   unfolding obligations
-  certified s placed is closed done made =
-      inr (AllHold-append (places f n) (solid_obligations (solid_of f n)) placed (subst (λ (d : SolidData). AllHold (solid_obligations d)) is closed), made, done)
+  certified_owed t s placed is closed made =
+      certified t (AllHold-append (places f n) (solid_obligations (solid_of f n)) placed (subst (λ (d : SolidData). AllHold (solid_obligations d)) is closed)) made
