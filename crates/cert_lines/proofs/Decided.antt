@@ -3,44 +3,16 @@ use Rattle.std.specs.Prelude.{◌≡◌, ℕ, ◌<◌, ◌≤◌, ◌^◌, ◌�
 use Rattle.std.specs.List.{AllByRecursion}
 use Rattle.std.proofs.Common.{refl, sym, ◌∙◌, ap, subst, arith, inl, inr, ⊎_elim, length-append}
 use Rattle.std.proofs.lemmas.Slice.Eq.{bytes_eq-Decides}
-use Rattle.solid_data.proofs.Decisions.{Decided, decided_alike, decided_by, decided_same, decided_below, decided_within, decided_both, decided_all, decided_bounded, decided_list}
-use Rattle.cert_lines.specs.Line.{CertLine, head, solid, shell, edge, corner, point, reach, tally, end, words, spaced, spelling, IsShort, HasSpelling, IsSpelled, EndsWithLf, IsLine, IsLong, IsMisspelt, cut_lines, first_limit}
+use Rattle.solid_data.proofs.Decisions.{Decided, decided_alike, decided_by, decided_same, decided_below, decided_within, decided_both, decided_bounded, decided_list}
+use Rattle.cert_lines.specs.Line.{CertLine, head, solid, end, words, spaced, spelling, IsShort, IsSpelled, EndsWithLf, IsLine, IsLong, IsMisspelt, cut_lines, first_limit}
 use Rattle.cert_lines.specs.Opening.{Opens, IsHead, IsSolid, IsWrong, IsSecondWrong, IsFirstWrong, IsBadOpening}
 use Rattle.cert_lines.specs.declared.version.Version.{Version}
 use Rattle.cert_lines.specs.declared.fault.Illegal.{Illegal}
 use Rattle.cert_lines.specs.declared.fault.Illegal.TheVariants.{Misspelt, Unfit, Missing}
-use Rattle.cert_lines.proofs.Spelling.{kind_of, numbers_in, prefix_of, line_from, rebuilt, spelling_parts, numbers_short}
-
-short_decided : (n : ℕ) → Decided (IsShort n)
-short_decided n = decided_below n (10 ^ 9)
-
-numbers_decided : (ns : List ℕ) → Decided (AllByRecursion IsShort ns)
-numbers_decided ns = decided_all IsShort short_decided ns
-
-has_spelling_decided : (l : CertLine) → Decided (HasSpelling l)
-has_spelling_decided (head v) = inl tt
-has_spelling_decided (solid n) = short_decided n
-has_spelling_decided (shell k c) = numbers_decided (k ∷ c.rows ∷ c.edges ∷ c.corners ∷ c.faces ∷ [])
-has_spelling_decided (edge a b) = decided_both (short_decided a) (short_decided b)
-has_spelling_decided (corner rs) = decided_both (numbers_decided rs) (decided_below 0 (length rs))
-has_spelling_decided (point face l) = decided_both (short_decided face) (short_decided l)
-has_spelling_decided (reach r) = short_decided r
-has_spelling_decided (tally t) = numbers_decided (t.vertices ∷ t.edges ∷ t.faces ∷ t.loops ∷ [])
-has_spelling_decided end = inl tt
+use Rattle.cert_lines.proofs.LineKinds.{kind_of, numbers_in, prefix_of, line_from, rebuilt, spelling_parts, numbers_short, has_spelling_decided, kind_below, head_decided, solid_decided}
 
 spelled_decided : (bytes : List ℕ) (l : CertLine) → Decided (IsSpelled bytes l)
 spelled_decided bytes l = decided_both (has_spelling_decided l) (decided_by _ (bytes_eq-Decides bytes (spelling l)))
-
-kind_below : (l : CertLine) → kind_of l < 9
-kind_below (head v) = omega arith
-kind_below (solid n) = omega arith
-kind_below (shell k c) = omega arith
-kind_below (edge a b) = omega arith
-kind_below (corner rs) = omega arith
-kind_below (point face l) = omega arith
-kind_below (reach r) = omega arith
-kind_below (tally t) = omega arith
-kind_below end = omega arith
 
 spaced_longer : (ns : List ℕ) → length ns ≤ length (spaced ns)
 spaced_longer [] = omega arith
@@ -98,28 +70,6 @@ lines_are_decided limit bytes = by_long (long_decided limit bytes) (some_line_de
     by_long (inr never) (inl (l, h)) (inl short) = inl (l, (short, h))
     by_long (inr never) (inl (l, h)) (inr longer) = absurd (never (spelled_long limit bytes l h (omega (arith, longer))))
     by_long (inr never) (inr none) short = inr (inr (record { not_long = never; none = λ l h. none (l, h) }))
-
-head_decided : (l : CertLine) → Decided (IsHead l)
-head_decided (head v) = inl (v, refl)
-head_decided (solid n) = inr (λ (v, e). cc)
-head_decided (shell k c) = inr (λ (v, e). cc)
-head_decided (edge a b) = inr (λ (v, e). cc)
-head_decided (corner rs) = inr (λ (v, e). cc)
-head_decided (point face l) = inr (λ (v, e). cc)
-head_decided (reach r) = inr (λ (v, e). cc)
-head_decided (tally t) = inr (λ (v, e). cc)
-head_decided end = inr (λ (v, e). cc)
-
-solid_decided : (l : CertLine) → Decided (IsSolid l)
-solid_decided (head v) = inr (λ (n, e). cc)
-solid_decided (solid n) = inl (n, refl)
-solid_decided (shell k c) = inr (λ (n, e). cc)
-solid_decided (edge a b) = inr (λ (n, e). cc)
-solid_decided (corner rs) = inr (λ (n, e). cc)
-solid_decided (point face l) = inr (λ (n, e). cc)
-solid_decided (reach r) = inr (λ (n, e). cc)
-solid_decided (tally t) = inr (λ (n, e). cc)
-solid_decided end = inr (λ (n, e). cc)
 
 -- The line is the one that is wanted, or something is wrong with it.
 wanted_or_wrong : (Wanted : CertLine → Type 0) → ((l : CertLine) → Decided (Wanted l)) → (number : ℕ) (bytes : List ℕ)

@@ -11,7 +11,7 @@ use Rattle.std.proofs.lemmas.Int.Digits.{digits_value-lt, digits_value_more}
 use Rattle.std.proofs.lemmas.Fmt.{decimal_digit, decimal_is_IsNumeral, decimal-digits_value, length-decimal-le, first_decimal, decimal_injective}
 use Rattle.cert_lines.specs.Line.{IsShort, spaced, corner}
 use Rattle.cert_lines.specs.Numbers.{IsWord, IsPlain, Stops, Begins, AreNumbers, IsSpaced, Spells}
-use Rattle.cert_lines.proofs.Spelling.{first_or, rest_of, split_digits, decimal_digits}
+use Rattle.cert_lines.proofs.Spacing.{first_or, rest_of, split_digits, decimal_digits}
 
 pub few_digits : (bs : List ℕ) (i : ℕ) → AllDigits 10 (take i bs) → i ≤ length bs → i < 9 → digits_value 10 (take i bs) < 100000000
 few_digits bs i digits within few =

@@ -1,3 +1,5 @@
+pub mod Spacing
+pub mod LineKinds
 pub mod Spelling
 pub mod Heads
 pub mod Openings

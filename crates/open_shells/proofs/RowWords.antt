@@ -3,7 +3,7 @@ use Rattle.std.specs.Prelude.{◌≡◌, ℕ, List, [], ◌∷◌, ◌++◌, len
 use Rattle.std.proofs.Common.{sym, ◌∙◌, ap, arith}
 use Rattle.cert_lines.specs.Line.{spaced}
 use Rattle.cert_lines.specs.Numbers.{IsSpaced}
-use Rattle.cert_lines.proofs.Spelling.{same_front}
+use Rattle.cert_lines.proofs.Spacing.{same_front}
 use Rattle.open_shells.specs.Said.{IsRowsBehind}
 
 rest_is : (text word rest rs : List ℕ) → text ≡ word ++ rest → IsRowsBehind text word rs → rest ≡ spaced rs

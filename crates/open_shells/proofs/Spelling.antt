@@ -3,8 +3,9 @@ use Rattle.std.specs.Prelude.{◌≡◌, ◌≢◌, ℕ, ◌==◌, List, [], ◌
 use Rattle.std.specs.List.{AllByRecursion}
 use Rattle.std.proofs.Common.{refl, sym, ◌∙◌, ap, arith, append_assoc, get_or}
 use Rattle.cert_lines.specs.Line.{spaced, cut_lines}
-use Rattle.cert_lines.proofs.Spelling.{spaced_one, same_front}
-use Rattle.cert_lines.proofs.CutLines.{cut_piece, spaced_no_break}
+use Rattle.cert_lines.proofs.Spacing.{spaced_one, same_front}
+use Rattle.cert_lines.proofs.CutLines.{cut_piece}
+use Rattle.cert_lines.proofs.Spacing.{spaced_no_break}
 use Rattle.open_shells.specs.Line.{OpenLine, head, shell, edge, lone, cycle, path, point, reach, border, end, words, spelling, numbers_of, HasSpelling, IsSpelled}
 
 -- A line is its kind and its numbers.

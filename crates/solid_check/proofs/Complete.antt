@@ -26,7 +26,7 @@ use Rattle.topo_certificate.specs.Stand.{loops_of}
 use Rattle.topo_certificate.proofs.UseSizes.{loops_placed}
 use Rattle.cert_lines.specs.declared.version.Version.{Version}
 use Rattle.cert_lines.specs.declared.version.Version.TheVariants.{Two}
-use Rattle.cert_lines.proofs.Spelling.{version_short}
+use Rattle.cert_lines.proofs.LineKinds.{version_short}
 use Rattle.topo_certificate.proofs.Complete.{closed_has_legal}
 use Rattle.topo_certificate.proofs.PointOrder.{faces_of_rows}
 use Rattle.brep_walk.specs.SolidOf.{solid_of}

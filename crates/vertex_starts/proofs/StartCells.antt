@@ -15,7 +15,7 @@ use Rattle.edge_uses.specs.declared.spanning.Span.{Span}
 use Rattle.vertex_starts.specs.Starting.{no_starts, one_start_more, AreStarts, no_points, one_point_more, ArePoints, AreStartCells, ArePointCells}
 use Rattle.vertex_starts.specs.declared.starting.Starts.{Starts}
 use Rattle.vertex_starts.specs.declared.starting.Points.{Points}
-use Rattle.vertex_starts.proofs.Starts.{StartsBefore, PointsBefore, starts_none, starts_room, starts_step, starts_done, points_none, points_room, points_step, points_done}
+use Rattle.vertex_starts.proofs.StartCounts.{StartsBefore, PointsBefore, starts_none, starts_room, starts_step, starts_done, points_none, points_room, points_step, points_done}
 
 -- cells that are blank but for vertices of the shell
 pub record IsOnVertices {T : Type 0} (d : ShellRows) (blank : T) (c : Celled T) : Type 0 where
