@@ -81,8 +81,8 @@ permitted_is (Some x) h e = by_test (are_permitted x.delims) e
     by_test true k = k
     by_test false k = absurd cc
 
-pub head_behind : (text : List ℕ) (h : Head) (rest : List ℕ) → head text ≡ Some h → h.values ≡ Some rest → Behind text rest
-head_behind text h rest e v = let all : ValuesBehind text (Some h) = subst (ValuesBehind text) (permitted_is (any_head text) h e) (start_behind text) in all rest v
+pub head_after : (text : List ℕ) (h : Head) (rest : List ℕ) → head text ≡ Some h → h.values ≡ Some rest → Behind text rest
+head_after text h rest e v = let all : ValuesBehind text (Some h) = subst (ValuesBehind text) (permitted_is (any_head text) h e) (start_behind text) in all rest v
 
 pub behind_in_line : (text rest : List ℕ) → Behind text rest → is_in_line text ≡ true → is_in_line rest ≡ true
 behind_in_line text rest (front, is) h = (front_in_line front rest (subst (λ x. is_in_line x ≡ true) is h)).1

@@ -26,7 +26,7 @@ use Rattle.iges_params.specs.Contents.{value_count}
 use Rattle.iges_params.specs.Global.{HasValues, GlobalText, global_text}
 use Rattle.iges_params.specs.Made.{is_start_line, IsMadeEntry}
 use Rattle.iges_params.specs.Records.{record_lines, record_text, IsRecord, HasRecord, AreRecords}
-use Rattle.iges_params.proofs.Behind.{head_behind, behind_in_line, behind_length}
+use Rattle.iges_params.proofs.Behind.{head_after, behind_in_line, behind_length}
 use Rattle.iges_params.proofs.GlobalExact.{permitted}
 use Rattle.iges_params.proofs.Owned.{all_owned, all_owned-few, record_few}
 use Rattle.iges_write.specs.Writable.{IsHeld, CanBeMade}
@@ -75,7 +75,7 @@ global_made text g t h lt = by_values t.start.values refl t.values
     by_values : (o : Option (List ℕ)) → t.start.values ≡ o → HasValues t.start.delims o g.values → list_all is_value g.values ≡ true
     by_values None e v = ap (list_all is_value) v
     by_values (Some rest) e v =
-        let b = head_behind text t.start rest t.head_is e in
+        let b = head_after text t.start rest t.head_is e in
         free_text_values t.start.delims rest g.values v.0 v.1 (behind_in_line text rest b h) (omega (arith, behind_length text rest b, lt))
 
 -- ---- the entries and their records

@@ -49,8 +49,8 @@ behind d whole p row at =
     let g = whole.rows.followed p row at in
     (g.0, g.2, (g.1, g.3, ap (λ (w : VertexId). w.0) (sym (whole.meet p g.0 row g.1 g.2 at g.3))))
 
-pub no_turn_behind : (d : ShellRows) → AreOnce d → (p h t : ℕ) → IsBorder d p → Follows d p h → Turns d t h → ⊥
-no_turn_behind d whole p h t border follows turn =
+pub no_turn_before : (d : ShellRows) → AreOnce d → (p h t : ℕ) → IsBorder d p → Follows d p h → Turns d t h → ⊥
+no_turn_before d whole p h t border follows turn =
     let same : turn.0 ≡ p = follows_apart d whole.rows turn.0 p h turn.2 follows in
     lone_no_mate d p t border.0 border.1 border.2 (mates_back d t p (subst (AreMates d t) same turn.1))
 
@@ -68,7 +68,7 @@ next_apart d whole fanned a b c (border_a, border_c, (x, z, at_a, at_c, meet)) (
     let v_a : x.to.0 ≡ z.from.0 = ap (λ (i : VertexId). i.0) meet in
     let v_b : y.to.0 ≡ z.from.0 = ap (λ (i : VertexId). i.0) (join ∙ ap (λ (r : Row). r.from) (sym same)) in
     let heads : ha.0 ≡ hb.0 = by_fan z.from.0 (vertex_fanned d whole fanned c z at_c) ha.0 hb.0 (subst (λ v. StartsAt d v ha.0) v_a ha.2) (subst (λ v. StartsAt d v hb.0) v_b hb.2)
-    (λ t turn. no_turn_behind d whole a ha.0 t border_a ha.1 turn) (λ t turn. no_turn_behind d whole b hb.0 t border_b hb.1 turn) in
+    (λ t turn. no_turn_before d whole a ha.0 t border_a ha.1 turn) (λ t turn. no_turn_before d whole b hb.0 t border_b hb.1 turn) in
     follows_apart d whole.rows a b hb.0 (subst (Follows d a) heads ha.1) hb.1
   where
     by_fan : (v : ℕ) → IsFanned d v → (h k : ℕ) → StartsAt d v h → StartsAt d v k → ((t : ℕ) → Turns d t h → ⊥) → ((t : ℕ) → Turns d t k → ⊥) → h ≡ k
@@ -94,7 +94,7 @@ pub start_there : (d : ShellRows) (v p : ℕ) (row : Row) → AreOnce d → IsBo
 start_there d v p row whole border at ends none =
     let h = behind d whole p row at in
     let start : StartsAt d v h.0 = subst (λ w. StartsAt d w h.0) ends h.2 in
-    let head : (t : ℕ) → Turns d t h.0 → ⊥ = λ t turn. no_turn_behind d whole p h.0 t border h.1 turn in
+    let head : (t : ℕ) → Turns d t h.0 → ⊥ = λ t turn. no_turn_before d whole p h.0 t border h.1 turn in
     let k = forward d v h.0 whole none start (length (rows_at d v)) in
     let back = trail_back (Turns d) h.0 k.0 k.1 k.2 in
     let without : Has back.0 h.0 → ⊥ = λ m. (let q = prev_on (Turns d) h.0 k.0 k.1 k.2 h.0 (inl (back.3 h.0 m)) in head q.0 q.1) in

@@ -18,8 +18,8 @@ use Rattle.topo_certificate.specs.Stand.{row_named, first_of, IsAbove}
 use Rattle.topo_certificate.proofs.Segment.{AreGoodRows, Falls, falls_more, named_has}
 use Rattle.open_shells.specs.Sound.{IsBorder, IsBorderCycle, IsBorderCycleOf, IsFanned, GoesOn, row_total}
 use Rattle.open_shells.specs.Line.{OpenLine, head, shell, edge, lone, cycle, path, point, reach, border, end, IsSpelled}
-use Rattle.open_shells.specs.Stand.{stand_behind, shell_of, GoesOnTo, FitsLine, lone_in, mates_in, edge_in, is_edge, number_of, border_in, border_rows}
-use Rattle.open_shells.specs.Legal.{IsLegalBehind, IsOpenLegal}
+use Rattle.open_shells.specs.Stand.{stand_from_latest, shell_of, GoesOnTo, FitsLine, lone_in, mates_in, edge_in, is_edge, number_of, border_in, border_rows}
+use Rattle.open_shells.specs.Legal.{IsLegalAfter, IsOpenLegal}
 use Rattle.open_shells.specs.Laws.{cycle_in, rows_in, AreAllBorders, BordersAreCycles}
 use Rattle.open_shells.proofs.Spelling.{line_one}
 use Rattle.open_shells.proofs.Once.{lone_border, border_listed}
@@ -77,8 +77,8 @@ above_first : (r : ℕ) (rs : List ℕ) → AllByRecursion (λ x. r < x) rs → 
 above_first r rs all x (inl e) = omega (arith, e)
 above_first r rs all x (inr m) = let lt : r < x = All-at (λ y. r < y) rs all x m in omega (arith, lt)
 
-not_behind : (r : ℕ) (rs : List ℕ) → AllByRecursion (λ x. r < x) rs → Has rs r → ⊥
-not_behind r rs all m = let lt : r < r = All-at (λ y. r < y) rs all r m in omega (arith, lt)
+not_after : (r : ℕ) (rs : List ℕ) → AllByRecursion (λ x. r < x) rs → Has rs r → ⊥
+not_after r rs all m = let lt : r < r = All-at (λ y. r < y) rs all r m in omega (arith, lt)
 
 -- what border lines show of the rows that they list
 pub record RingFacts (d : ShellRows) (alone firsts rows : List ℕ) : Type 0 where
@@ -110,7 +110,7 @@ ring_step d alone firsts rows r rs starts facts all goes least rises =
     let R : ℕ → ℕ → Type 0 = Goes d alone in
     let one : (x y z : ℕ) → R x y → R x z → y ≡ z = goes_one d alone starts in
     let trail : Trail R r rs r = ring_trail d alone r rs r all all.0 goes in
-    let none : NoRepeat (r ∷ rs) = no_repeat R one r rs r trail (not_behind r rs least) in
+    let none : NoRepeat (r ∷ rs) = no_repeat R one r rs r trail (not_after r rs least) in
     let ring_closed : (x y : ℕ) → Has (r ∷ rs) x → R x y → Has (r ∷ rs) y =
     λ x y m g. (let k = next_on R r rs r trail x m in
     let same : k.0 ≡ y = one x k.0 y k.1 g in
@@ -134,7 +134,7 @@ ring_step d alone firsts rows r rs starts facts all goes least rises =
 -- all lines that fit
 rings_of : (s : SolidData) (alone : List ℕ) (lines : List OpenLine) → StartApart (shell_of s) alone → AllFit s lines → ((a : ℕ) → Contains (filter_map lone_in lines) a → Contains alone a)
     → RingFacts (shell_of s) alone (filter_map border_in lines) (flat_map border_rows lines)
-unfolding stand_behind
+unfolding stand_from_latest
 rings_of s alone [] starts fit into = no_rings (shell_of s) alone
 rings_of s alone (head ∷ lines) starts fit into = absurd fit.0.1
 rings_of s alone (shell n a b c d e ∷ lines) starts fit into = rings_of s alone lines starts fit.1 into
@@ -187,7 +187,7 @@ cycle_of_line d alone r rs borders all goes least = record {
 
 -- each border line that fits is a cycle
 border_line_cycle : (s : SolidData) (alone : List ℕ) (lines : List OpenLine) → AreBorder (shell_of s) alone → AllFit s lines → ((a : ℕ) → Contains (filter_map lone_in lines) a → Contains alone a) → (rs : List ℕ) → Has lines (border rs) → IsBorderCycleOf (shell_of s) (map before rs)
-unfolding stand_behind
+unfolding stand_from_latest
 border_line_cycle s alone [] borders fit into rs m = absurd m
 border_line_cycle s alone (l ∷ lines) borders fit into rs (inr m) = border_line_cycle s alone lines borders fit.1 (λ a c. into a (more l a c)) rs m
   where
@@ -202,9 +202,9 @@ border_line_cycle s alone (l ∷ lines) borders fit into rs (inr m) = border_lin
     more (reach b) a c = c
     more (border qs) a c = c
     more end a c = c
-border_line_cycle s alone (l ∷ lines) borders fit into rs (inl e) = at_line rs (subst (λ k. FitsLine s (stand_behind s lines) k) e fit.0) (λ a c. into a (subst (λ k. Contains (filter_map lone_in (k ∷ lines)) a) (sym e) c))
+border_line_cycle s alone (l ∷ lines) borders fit into rs (inl e) = at_line rs (subst (λ k. FitsLine s (stand_from_latest s lines) k) e fit.0) (λ a c. into a (subst (λ k. Contains (filter_map lone_in (k ∷ lines)) a) (sym e) c))
   where
-    at_line : (qs : List ℕ) → FitsLine s (stand_behind s lines) (border qs) → ((a : ℕ) → Contains (filter_map lone_in lines) a → Contains alone a) → IsBorderCycleOf (shell_of s) (map before qs)
+    at_line : (qs : List ℕ) → FitsLine s (stand_from_latest s lines) (border qs) → ((a : ℕ) → Contains (filter_map lone_in lines) a → Contains alone a) → IsBorderCycleOf (shell_of s) (map before qs)
     at_line [] fits in_all = absurd fits.1
     at_line (r ∷ qs) fits in_all =
         let h = fits.1.1 in
@@ -216,13 +216,13 @@ abbrev pub turned : List OpenLine → List OpenLine → List OpenLine
 turned [] before = before
 turned (l ∷ ls) before = turned ls (l ∷ before)
 
-pub fit_turned : (s : SolidData) (before : List OpenLine) (texts : List (List ℕ)) (lines : List OpenLine) → AllFit s before → IsLegalBehind s before texts → AllZip IsSpelled texts lines → AllFit s (turned lines before) × ((stand_behind s (turned lines before)).ended ≡ true)
+pub fit_turned : (s : SolidData) (before : List OpenLine) (texts : List (List ℕ)) (lines : List OpenLine) → AllFit s before → IsLegalAfter s before texts → AllZip IsSpelled texts lines → AllFit s (turned lines before) × ((stand_from_latest s (turned lines before)).ended ≡ true)
 fit_turned s before [] [] fit legal zip = (fit, legal)
 fit_turned s before [] (l ∷ lines) fit legal zip = absurd zip
 fit_turned s before (t ∷ texts) [] fit legal zip = absurd zip
 fit_turned s before (t ∷ texts) (l ∷ lines) fit (m, is_m, fits, more) zip =
     let same : m ≡ l = line_one t m l is_m zip.0 in
-    fit_turned s (l ∷ before) texts lines (subst (FitsLine s (stand_behind s before)) same fits, fit) (subst (λ k. IsLegalBehind s (k ∷ before) texts) same more) zip.1
+    fit_turned s (l ∷ before) texts lines (subst (FitsLine s (stand_from_latest s before)) same fits, fit) (subst (λ k. IsLegalAfter s (k ∷ before) texts) same more) zip.1
 
 has_turned : (lines before : List OpenLine) (x : OpenLine) → Has lines x ⊎ Has before x → Has (turned lines before) x
 has_turned [] before x (inl m) = absurd m
@@ -288,7 +288,7 @@ each_cycle d (end ∷ lines) h = each_cycle d lines (λ rs m. h rs (inr m))
 
 -- Lines but END that fit, with nothing due, hold each border row once.
 borders_of : (s : SolidData) (f : FitsAll s) (lines : List OpenLine) → AreGoodRows (shell_of s) → turned lines [] ≡ end ∷ f.lines → AreAllBorders (shell_of s) (filter_map cycle_in lines)
-unfolding stand_behind
+unfolding stand_from_latest
 borders_of s f lines good is_all =
     let d : ShellRows = shell_of s in
     let alone : List ℕ = filter_map lone_in f.lines in

@@ -6,8 +6,8 @@ use Rattle.open_shells.specs.Said.{IsRowLine}
 use Rattle.solid_data.specs.SolidData.{SolidData}
 use Rattle.solid_data.specs.declared.solid.Shell.{Shell}
 use Rattle.open_shells.specs.Accepted.{IsOpenShell}
-use Rattle.open_shells.specs.Stand.{stand_behind, IsDone}
-use Rattle.open_shells.specs.Kept.{KeptOpen, TellsLines, Takes, KeptChecker, IsAt, TakesLine}
+use Rattle.open_shells.specs.Stand.{stand_from_latest, IsDone}
+use Rattle.open_shells.specs.Kept.{KeptOpen, MatchesLines, Takes, KeptChecker, IsAt, TakesLine}
 
 -- each line but END leaves it open whether END came
 abbrev pub IsOngoing : OpenLine → Type 0
@@ -26,12 +26,12 @@ row_goes_on (reach a) h = tt
 row_goes_on (border rs) h = tt
 row_goes_on end h = h
 
-next_number : (s : SolidData) (lines : List OpenLine) (line : OpenLine) → (stand_behind s (line ∷ lines)).number ≡ (stand_behind s lines).number + 1
-unfolding stand_behind
+next_number : (s : SolidData) (lines : List OpenLine) (line : OpenLine) → (stand_from_latest s (line ∷ lines)).number ≡ (stand_from_latest s lines).number + 1
+unfolding stand_from_latest
 next_number s lines line = omega arith
 
-still_open : (s : SolidData) (lines : List OpenLine) (line : OpenLine) → IsOngoing line → (stand_behind s (line ∷ lines)).ended ≡ (stand_behind s lines).ended
-unfolding stand_behind
+still_open : (s : SolidData) (lines : List OpenLine) (line : OpenLine) → IsOngoing line → (stand_from_latest s (line ∷ lines)).ended ≡ (stand_from_latest s lines).ended
+unfolding stand_from_latest
 still_open s lines head h = refl
 still_open s lines (shell n a b c d e) h = refl
 still_open s lines (edge a b) h = refl
@@ -62,8 +62,8 @@ line_taken old new line n going kind takes more lines at =
 pub line_refused : (old new : KeptChecker) (now : KeptOpen) (line : OpenLine) → Takes old.shell now line false → TakesLine old new line false
 line_refused old new now line takes lines at fits = takes old.solid lines at.shell fits.1
 
-end_told : (s : SolidData) (lines : List OpenLine) (k : KeptOpen) → TellsLines s lines k → k.begun ≡ true → TellsLines s (end ∷ lines) k
-unfolding stand_behind
+end_told : (s : SolidData) (lines : List OpenLine) (k : KeptOpen) → MatchesLines s lines k → k.begun ≡ true → MatchesLines s (end ∷ lines) k
+unfolding stand_from_latest
 end_told s lines k t begun = record {
   entity = t.entity;
   rows = t.rows;
@@ -84,14 +84,14 @@ end_told s lines k t begun = record {
   last_border = t.last_border;
 }
 
-now_ended : (s : SolidData) (lines : List OpenLine) → (stand_behind s (end ∷ lines)).ended ≡ true
-unfolding stand_behind
+now_ended : (s : SolidData) (lines : List OpenLine) → (stand_from_latest s (end ∷ lines)).ended ≡ true
+unfolding stand_from_latest
 now_ended s lines = refl
 
 abbrev pub with_end : KeptChecker → ℕ → KeptChecker
 with_end old n = record old { number = n; ended = true }
 
-pub end_comes : (old : KeptChecker) (n : ℕ) → old.ended ≡ false → ((s : SolidData) (lines : List OpenLine) → TellsLines s lines old.shell → IsDone (stand_behind s lines)) → n ≡ old.number + 1 → TakesLine old (with_end old n) end true
+pub end_comes : (old : KeptChecker) (n : ℕ) → old.ended ≡ false → ((s : SolidData) (lines : List OpenLine) → MatchesLines s lines old.shell → IsDone (stand_from_latest s lines)) → n ≡ old.number + 1 → TakesLine old (with_end old n) end true
 end_comes old n going done more lines at =
     let s : SolidData = old.solid in
     let d = done s lines at.shell in (
@@ -104,18 +104,18 @@ end_comes old n going done more lines at =
       },
     )
 
-pub end_refused : (old new : KeptChecker) → ((s : SolidData) (lines : List OpenLine) → TellsLines s lines old.shell → IsDone (stand_behind s lines) → ⊥) → TakesLine old new end false
+pub end_refused : (old new : KeptChecker) → ((s : SolidData) (lines : List OpenLine) → MatchesLines s lines old.shell → IsDone (stand_from_latest s lines) → ⊥) → TakesLine old new end false
 end_refused old new never lines at fits = never old.solid lines at.shell fits.1
 
-first_number : (s : SolidData) → (stand_behind s []).number ≡ 2
-unfolding stand_behind
+first_number : (s : SolidData) → (stand_from_latest s []).number ≡ 2
+unfolding stand_from_latest
 first_number s = omega arith
 
-first_open : (s : SolidData) → (stand_behind s []).ended ≡ false
-unfolding stand_behind
+first_open : (s : SolidData) → (stand_from_latest s []).ended ≡ false
+unfolding stand_from_latest
 first_open s = refl
 
-pub begins : (c : KeptChecker) → c.failed ≡ None → c.number ≡ 2 → c.ended ≡ false → TellsLines c.solid [] c.shell → IsAt c []
+pub begins : (c : KeptChecker) → c.failed ≡ None → c.number ≡ 2 → c.ended ≡ false → MatchesLines c.solid [] c.shell → IsAt c []
 begins c legal number ended tells = record { legal = legal; number = number ∙ sym (first_number c.solid); ended = ended ∙ sym (first_open c.solid); shell = tells }
 
 -- an open shell's solid has its first shell

@@ -17,8 +17,8 @@ use Rattle.cert_lines.specs.declared.fault.Illegal.TheVariants.{Misspelt, Unfit,
 use Rattle.topo_certificate.specs.Stand.{Stand, row_named, row_start, start_count, IsAbove, IsMate, FollowsAsNamed, TurnsTo, FitsEdge, FitsCorner, FitsPoint, FitsReach}
 use Rattle.topo_certificate.proofs.Decided.{line_decided as closed_line_decided}
 use Rattle.open_shells.specs.Line.{OpenLine, head, shell, edge, lone, cycle, path, point, reach, border, end, spelling, numbers_of, HasRows, HasSpelling, IsSpelled, IsMisspelt}
-use Rattle.open_shells.specs.Stand.{OpenStand, shell_of, shared, stand_behind, FitsShell, ListsAll, FitsLone, IsChain, last_of, FitsPath, GoesOnTo, FitsBorder, CornerDue, ReachDue, BorderDue, IsDone, FitsOpen, FitsLine}
-use Rattle.open_shells.specs.Legal.{IsLegalBehind, IsFirstBadBehind, IsOpenLegal, IsOpenFirstBad}
+use Rattle.open_shells.specs.Stand.{OpenStand, shell_of, shared, stand_from_latest, FitsShell, ListsAll, FitsLone, IsChain, last_of, FitsPath, GoesOnTo, FitsBorder, CornerDue, ReachDue, BorderDue, IsDone, FitsOpen, FitsLine}
+use Rattle.open_shells.specs.Legal.{IsLegalAfter, IsFirstBadAfter, IsOpenLegal, IsOpenFirstBad}
 use Rattle.open_shells.proofs.Spelling.{kind_of, prefix_of, line_from, rebuilt, spelling_parts}
 
 -- Spelling.
@@ -213,22 +213,22 @@ line_decided s at l = decided_both (decided_bool at.ended false) (open_decided s
 
 -- Behind lines before, the lines are legal or have a first bad one.
 abbrev Answers : SolidData → List OpenLine → List (List ℕ) → Type 0
-Answers s before lines = IsLegalBehind s before lines ⊎ ((bad : Illegal) × IsFirstBadBehind s before lines bad)
+Answers s before lines = IsLegalAfter s before lines ⊎ ((bad : Illegal) × IsFirstBadAfter s before lines bad)
 
-by_end : (s : SolidData) (before : List OpenLine) (b : Bool) → (stand_behind s before).ended ≡ b → Answers s before []
+by_end : (s : SolidData) (before : List OpenLine) (b : Bool) → (stand_from_latest s before).ended ≡ b → Answers s before []
 by_end s before true e = inl e
-by_end s before false e = inr (Missing (stand_behind s before).number, (e, refl))
+by_end s before false e = inr (Missing (stand_from_latest s before).number, (e, refl))
 
-by_later : (s : SolidData) (before : List OpenLine) (bytes : List ℕ) (lines : List (List ℕ)) (l : OpenLine) → IsSpelled bytes l → FitsLine s (stand_behind s before) l → Answers s (l ∷ before) lines → Answers s before (bytes ∷ lines)
+by_later : (s : SolidData) (before : List OpenLine) (bytes : List ℕ) (lines : List (List ℕ)) (l : OpenLine) → IsSpelled bytes l → FitsLine s (stand_from_latest s before) l → Answers s (l ∷ before) lines → Answers s before (bytes ∷ lines)
 by_later s before bytes lines l is fits (inl legal) = inl (l, is, fits, legal)
 by_later s before bytes lines l is fits (inr (bad, h)) = inr (bad, inr (l, is, fits, h))
 
 legal_or_bad : (s : SolidData) (before : List OpenLine) (lines : List (List ℕ)) → Answers s before lines
-legal_or_bad s before [] = by_end s before (stand_behind s before).ended refl
+legal_or_bad s before [] = by_end s before (stand_from_latest s before).ended refl
 legal_or_bad s before (bytes ∷ lines) =
     ⊎_elim
-    (λ (l, is). ⊎_elim (λ fits. by_later s before bytes lines l is fits (legal_or_bad s (l ∷ before) lines)) (λ other. inr (Unfit (stand_behind s before).number, inl (inr ((l, is, other), refl)))) (line_decided s (stand_behind s before) l))
-    (λ none. inr (Misspelt (stand_behind s before).number, inl (inl ((λ l h. none (l, h)), refl))))
+    (λ (l, is). ⊎_elim (λ fits. by_later s before bytes lines l is fits (legal_or_bad s (l ∷ before) lines)) (λ other. inr (Unfit (stand_from_latest s before).number, inl (inr ((l, is, other), refl)))) (line_decided s (stand_from_latest s before) l))
+    (λ none. inr (Misspelt (stand_from_latest s before).number, inl (inl ((λ l h. none (l, h)), refl))))
     (some_line_decided bytes)
 
 pub legal_or_first_bad : (s : SolidData) (lines : List (List ℕ)) → IsOpenLegal s lines ⊎ ((bad : Illegal) × IsOpenFirstBad s lines bad)

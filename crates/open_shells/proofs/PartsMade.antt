@@ -31,7 +31,7 @@ use Rattle.open_shells.specs.declared.parts.OpenCorner.TheVariants.{Cycle, Path,
 use Rattle.open_shells.proofs.Fans.{lone_no_mate}
 use Rattle.open_shells.proofs.OnceMates.{border_or_mate}
 use Rattle.open_shells.proofs.FanWalks.{turn_same, rows_at, at_listed, listed_at, counted_rows, Walked, walked_more, back_early, not_back, back_in_time, path_whole, Begins, path_short, back_least}
-use Rattle.open_shells.proofs.BorderRows.{no_turn_behind, start_there, next_is, Passed, passed_more, loop_closed, never_back}
+use Rattle.open_shells.proofs.BorderRows.{no_turn_before, start_there, next_is, Passed, passed_more, loop_closed, never_back}
 use Rattle.open_shells.proofs.BorderLoops.{bordering_skips, bordering_adds, bordering_done, bordering_none, marks_more}
 
 abbrev ids_of : List ℕ → List RowId
@@ -90,7 +90,7 @@ find_head d whole v [] start = inr (λ x m. absurd m)
 find_head d whole v (x ∷ xs) start =
     let at_v : StartsAt d v x = start x (inl refl) in
     let q = follows_onto d whole.rows x at_v.0 at_v.1 in
-    ⊎_elim (λ border. inl (x, (at_v, λ t turn. no_turn_behind d whole q.0 x t border q.2 turn)))
+    ⊎_elim (λ border. inl (x, (at_v, λ t turn. no_turn_before d whole q.0 x t border q.2 turn)))
     (λ m. ⊎_elim (λ h. inl h) (λ all. inr (λ y k. ⊎_elim (λ e. subst (λ z. (t : ℕ) × Turns d t z) e (m.0, (q.0, mates_back d q.0 m.0 m.1, q.2))) (λ h. all y h) k)) (find_head d whole v xs (λ y k. start y (inr k))))
     (border_or_mate d whole q.0 q.1 q.3)
 

@@ -9,7 +9,7 @@ use Rattle.cert_lines.specs.declared.fault.Illegal.{Illegal}
 use Rattle.topo_certificate.specs.Stand.{row_named}
 use Rattle.topo_certificate.specs.Kept.{mate_in, HoldsMates, HoldsFaces, InFileOrder, corner_size, is_alone}
 use Rattle.open_shells.specs.Line.{OpenLine}
-use Rattle.open_shells.specs.Stand.{stand_behind, shell_of, FitsOpen, FitsLine}
+use Rattle.open_shells.specs.Stand.{stand_from_latest, shell_of, FitsOpen, FitsLine}
 
 -- a row, from 1, is marked in an array by row from 0
 abbrev pub IsMarked : List Bool → ℕ → Type 0
@@ -72,30 +72,30 @@ pub record IsKept (k : KeptOpen) : Type 0 where
   pub passed : (r m : ℕ) → mate_in k.mates r ≡ Some m → (row : Row) × (row_named k.rows r ≡ Some row) × IsSomeAnd k.last_edge (λ e. row.edge.0 ≤ e)
 
 -- what is kept of the shell is what the lines say
-pub record TellsLines (s : SolidData) (lines : List OpenLine) (k : KeptOpen) : Type 0 where
+pub record MatchesLines (s : SolidData) (lines : List OpenLine) (k : KeptOpen) : Type 0 where
   pub entity : k.entity ≡ s.entity.0
   pub rows : k.rows ≡ shell_of s
   pub first : k.begun ≡ false → lines ≡ []
-  pub begun : k.begun ≡ (stand_behind s lines).begun
-  pub mates : HoldsMates k.mates (stand_behind s lines).mates
-  pub lone : HoldsRows k.lone (stand_behind s lines).lone
-  pub lone_count : k.lone_count ≡ length (stand_behind s lines).lone
-  pub reached : HoldsFaces k.reached (stand_behind s lines).reached
-  pub edges_due : k.edges_due ≡ (stand_behind s lines).edges_due
-  pub corners_due : k.corners_due ≡ (stand_behind s lines).corners_due
-  pub reach_due : k.reach_due ≡ (stand_behind s lines).reach_due
-  pub borders_due : k.borders_due ≡ (stand_behind s lines).borders_due
-  pub listed : k.listed ≡ (stand_behind s lines).listed
-  pub bordered : k.bordered ≡ min (length (stand_behind s lines).bordered) count_limit
-  pub last_edge : k.last_edge ≡ (stand_behind s lines).last_edge
-  pub last_vertex : k.last_vertex ≡ (stand_behind s lines).last_vertex
-  pub last_border : k.last_border ≡ (stand_behind s lines).last_border
+  pub begun : k.begun ≡ (stand_from_latest s lines).begun
+  pub mates : HoldsMates k.mates (stand_from_latest s lines).mates
+  pub lone : HoldsRows k.lone (stand_from_latest s lines).lone
+  pub lone_count : k.lone_count ≡ length (stand_from_latest s lines).lone
+  pub reached : HoldsFaces k.reached (stand_from_latest s lines).reached
+  pub edges_due : k.edges_due ≡ (stand_from_latest s lines).edges_due
+  pub corners_due : k.corners_due ≡ (stand_from_latest s lines).corners_due
+  pub reach_due : k.reach_due ≡ (stand_from_latest s lines).reach_due
+  pub borders_due : k.borders_due ≡ (stand_from_latest s lines).borders_due
+  pub listed : k.listed ≡ (stand_from_latest s lines).listed
+  pub bordered : k.bordered ≡ min (length (stand_from_latest s lines).bordered) count_limit
+  pub last_edge : k.last_edge ≡ (stand_from_latest s lines).last_edge
+  pub last_vertex : k.last_vertex ≡ (stand_from_latest s lines).last_vertex
+  pub last_border : k.last_border ≡ (stand_from_latest s lines).last_border
 
 -- After any lines that it speaks of, the line is taken exactly where it fits, and then what is kept speaks of the line too.
 abbrev pub Takes : KeptOpen → KeptOpen → OpenLine → Bool → Type 0
 Takes old new line taken =
-    (s : SolidData) (lines : List OpenLine) → TellsLines s lines old →
-    MatchBool taken (FitsOpen s (stand_behind s lines) line × TellsLines s (line ∷ lines) new) (¬ FitsOpen s (stand_behind s lines) line)
+    (s : SolidData) (lines : List OpenLine) → MatchesLines s lines old →
+    MatchBool taken (FitsOpen s (stand_from_latest s lines) line × MatchesLines s (line ∷ lines) new) (¬ FitsOpen s (stand_from_latest s lines) line)
 
 -- What a checker keeps: the solid, the fault that it found, the number of the next line, whether END came, and what it keeps of the shell.
 pub record KeptChecker : Type 0 where
@@ -108,9 +108,9 @@ pub record KeptChecker : Type 0 where
 -- The checker has advanced past these lines, the latest first, which all fit.
 pub record IsAt (c : KeptChecker) (lines : List OpenLine) : Type 0 where
   pub legal : c.failed ≡ None
-  pub number : c.number ≡ (stand_behind c.solid lines).number
-  pub ended : c.ended ≡ (stand_behind c.solid lines).ended
-  pub shell : TellsLines c.solid lines c.shell
+  pub number : c.number ≡ (stand_from_latest c.solid lines).number
+  pub ended : c.ended ≡ (stand_from_latest c.solid lines).ended
+  pub shell : MatchesLines c.solid lines c.shell
 
 -- What a checker keeps whatever the lines are, so that the line's number has room.
 pub record HasRoom (c : KeptChecker) : Type 0 where
@@ -122,4 +122,4 @@ pub record HasRoom (c : KeptChecker) : Type 0 where
 abbrev pub TakesLine : KeptChecker → KeptChecker → OpenLine → Bool → Type 0
 TakesLine old new line taken =
     (lines : List OpenLine) → IsAt old lines →
-    MatchBool taken (FitsLine old.solid (stand_behind old.solid lines) line × IsAt new (line ∷ lines)) (¬ FitsLine old.solid (stand_behind old.solid lines) line)
+    MatchBool taken (FitsLine old.solid (stand_from_latest old.solid lines) line × IsAt new (line ∷ lines)) (¬ FitsLine old.solid (stand_from_latest old.solid lines) line)

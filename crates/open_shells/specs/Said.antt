@@ -30,7 +30,7 @@ IsRowLine end = ⊥
 IsRowLine _ = ⊤
 
 -- the text is a word and these numbers, of which there is at least one
-pub record IsRowsBehind (text word : List ℕ) (rs : List ℕ) : Type 0 where
+pub record HasRowsAfter (text word : List ℕ) (rs : List ℕ) : Type 0 where
   pub short : AllByRecursion IsShort rs
   pub some : 0 < length rs
   pub text_is : text ≡ word ++ spaced rs

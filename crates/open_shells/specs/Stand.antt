@@ -101,8 +101,8 @@ abbrev pub shell_of : SolidData → ShellRows
 shell_of s = rows_of_shell s 1
 
 -- Each part is read off all lines so far.
-unfoldable pub stand_behind : SolidData → List OpenLine → OpenStand
-stand_behind s lines = record {
+unfoldable pub stand_from_latest : SolidData → List OpenLine → OpenStand
+stand_from_latest s lines = record {
   number = 2 + length lines;
   ended = list_any is_last lines;
   begun = list_any is_shell lines;

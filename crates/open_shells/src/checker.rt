@@ -34,12 +34,12 @@ impl<'a> Model for OpenChecker<'a> {
 
 ghost use Rattle.std.specs.Prelude.{◌≡◌, [], IfOk, false};
 ghost use Rattle.open_shells.specs.Accepted.{IsOpenShell};
-ghost use Rattle.open_shells.specs.Kept.{TellsLines, dues};
+ghost use Rattle.open_shells.specs.Kept.{MatchesLines, dues};
 
 /// The shell of the solid, of which no line was read.
 fn state_of(alloc: Global, solid: &Solid) -> Result<OpenState, NoMemory>
     requires { IsOpenShell solid.now }
-    ensures tells { IfOk result (λ k. TellsLines solid.now [] k) }
+    ensures tells { IfOk result (λ k. MatchesLines solid.now [] k) }
     ensures dues { IfOk result (λ k. dues k ≡ 0) }
     ensures begun { IfOk result (λ k. k.begun ≡ false) }
 {
@@ -54,7 +54,7 @@ impl<'a> OpenChecker<'a> {
     ghost use Rattle.open_shells.specs.Accepted.{IsOpenShell, AllJoin};
     ghost use Rattle.open_shells.specs.Line.{OpenLine, HasSpelling, IsSpelled, shell, end};
     ghost use Rattle.open_shells.specs.Said.{Means, IsRowLine};
-    ghost use Rattle.open_shells.specs.Stand.{stand_behind, FitsLine};
+    ghost use Rattle.open_shells.specs.Stand.{stand_from_latest, FitsLine};
     ghost use Rattle.open_shells.specs.Legal.{IsBadLine};
     ghost use Rattle.open_shells.specs.Kept.{IsAt, TakesLine};
     ghost use Rattle.cert_lines.specs.declared.fault.Illegal.TheVariants.{Missing as IsMissing};
@@ -158,7 +158,7 @@ impl<'a> OpenChecker<'a> {
     /// that is misspelt or unfit. Once a line was Illegal, or `finish` found one missing, each call answers the same.
     pub fn line(&mut self, line: &[u8]) -> Result<(), Illegal>
         ensures line { (lines : List OpenLine) → IsAt self.old lines → MatchResult result
-            (λ _. (l : OpenLine) × IsSpelled line.now l × FitsLine self.old.solid (stand_behind self.old.solid lines) l × IsAt self.new (l ∷ lines))
+            (λ _. (l : OpenLine) × IsSpelled line.now l × FitsLine self.old.solid (stand_from_latest self.old.solid lines) l × IsAt self.new (l ∷ lines))
             (λ bad. IsBadLine self.old.solid lines line.now bad × (self.new.failed ≡ Some bad)) }
         ensures stays { IfSome self.old.failed (λ bad. (result ≡ Err bad) × (self.new ≡ self.old)) }
         ensures solid { self.new.solid ≡ self.old.solid }
@@ -181,8 +181,8 @@ impl<'a> OpenChecker<'a> {
     /// Whether END was the last line (own). Where it wasn't, the line after the last one is missing.
     pub fn finish(&mut self) -> Result<(), Illegal>
         ensures ended { (lines : List OpenLine) → IsAt self.old lines → MatchResult result
-            (λ _. ((stand_behind self.old.solid lines).ended ≡ true) × (self.new ≡ self.old))
-            (λ bad. ((stand_behind self.old.solid lines).ended ≡ false) × (bad ≡ IsMissing (stand_behind self.old.solid lines).number) × (self.new.failed ≡ Some bad)) }
+            (λ _. ((stand_from_latest self.old.solid lines).ended ≡ true) × (self.new ≡ self.old))
+            (λ bad. ((stand_from_latest self.old.solid lines).ended ≡ false) × (bad ≡ IsMissing (stand_from_latest self.old.solid lines).number) × (self.new.failed ≡ Some bad)) }
         ensures stays { IfSome self.old.failed (λ bad. (result ≡ Err bad) × (self.new ≡ self.old)) }
         ensures solid { self.new.solid ≡ self.old.solid }
     {

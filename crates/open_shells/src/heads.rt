@@ -14,7 +14,7 @@ use solid_data::RowId;
 use std::alloc::Global;
 
 /// The row that follows a border row; none where the row has a mate.
-fn head_behind(mated: &Mated<'_>, r: u32) -> Option<u32>
+fn head_after(mated: &Mated<'_>, r: u32) -> Option<u32>
     requires there { r < length mated.now.rows }
     requires whole { AreOnce mated.now }
     ensures none { result ≡ None → ¬ IsBorder mated.now r }
@@ -53,7 +53,7 @@ pub(crate) fn heads_of<'m>(
         note(
             &mut heads,
             row_at(rows, i).to.0,
-            head_behind(mated, i as u32),
+            head_after(mated, i as u32),
         );
     }
     Ok(heads)

@@ -92,9 +92,9 @@ impl OpenState {
     ghost use Rattle.cert_lines.specs.Numbers.{AreNumbers};
     ghost use Rattle.topo_certificate.specs.Kept.{InFileOrder};
     ghost use Rattle.open_shells.specs.Line.{OpenLine, HasSpelling, shell, edge, lone, cycle, path, point, reach, border};
-    ghost use Rattle.open_shells.specs.Stand.{OpenStand, stand_behind, shell_of, IsDone};
+    ghost use Rattle.open_shells.specs.Stand.{OpenStand, stand_from_latest, shell_of, IsDone};
     ghost use Rattle.open_shells.specs.Said.{Means, IsRowLine};
-    ghost use Rattle.open_shells.specs.Kept.{Takes, TellsLines, dues};
+    ghost use Rattle.open_shells.specs.Kept.{Takes, MatchesLines, dues};
 
     /// A shell of which no line was read.
     pub(crate) fn of(alloc: Global, entity: EntryNo, rows: Rows) -> Result<OpenState, NoMemory>
@@ -103,7 +103,7 @@ impl OpenState {
         requires few_edges { length rows.edges < 2 ^ 30 }
         requires few_vertices { length rows.vertices < 2 ^ 30 }
         ensures tells { IfOk result (λ k. (s : SolidData) → entity ≡ s.entity → rows ≡ shell_of s
-            → TellsLines s [] k) }
+            → MatchesLines s [] k) }
         ensures dues { IfOk result (λ k. dues k ≡ 0) }
         ensures begun { IfOk result (λ k. k.begun ≡ false) }
     {
@@ -136,8 +136,8 @@ impl OpenState {
     /// Whether END fits.
     pub(crate) fn is_done(&self) -> bool
         ensures begun { IsTrue result → self.now.begun ≡ true }
-        ensures done { (s : SolidData) (lines : List OpenLine) → TellsLines s lines self.now
-            → IsTrue result ↔ IsDone (stand_behind s lines) }
+        ensures done { (s : SolidData) (lines : List OpenLine) → MatchesLines s lines self.now
+            → IsTrue result ↔ IsDone (stand_from_latest s lines) }
     {
         self.begun
             && self.edges_due == 0

@@ -4,7 +4,7 @@ ghost use Rattle.std.specs.Prelude.{◌≡◌, ◌≢◌, ℕ, List, [], ◌∷�
 ghost use Rattle.cert_lines.specs.Line.{spaced};
 ghost use Rattle.cert_lines.specs.Numbers.{AreNumbers, IsSpaced};
 ghost use Rattle.open_shells.specs.Line.{OpenLine, head, shell, edge, lone, cycle, path, point, reach, border, end, IsSpelled};
-ghost use Rattle.open_shells.specs.Said.{Means, IsRowLine, Spells, IsRowsBehind};
+ghost use Rattle.open_shells.specs.Said.{Means, IsRowLine, Spells, HasRowsAfter};
 
 use cert_lines::{after_word, are_numbers, next_number, one_number, two_numbers};
 
@@ -130,8 +130,8 @@ fn reach_words(text: &[u8]) -> Option<u32>
 
 /// The numbers after a word, as text, of which there is at least one.
 fn row_words<'a>(text: &'a [u8], word: &[u8]) -> Option<&'a [u8]>
-    ensures { MatchOption result ((rs : List ℕ) → ¬ IsRowsBehind text.now word.now rs)
-        (λ rest. (rs : List ℕ) × (rest.now ≡ spaced rs) × IsRowsBehind text.now word.now rs) }
+    ensures { MatchOption result ((rs : List ℕ) → ¬ HasRowsAfter text.now word.now rs)
+        (λ rest. (rs : List ℕ) × (rest.now ≡ spaced rs) × HasRowsAfter text.now word.now rs) }
 {
     let Some(rest) = after_word(text, word) else {
         return None;

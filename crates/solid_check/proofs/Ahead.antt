@@ -1,6 +1,6 @@
 -- What the lines to come show of those before them, in a legal certificate.
-use Rattle.std.specs.Prelude.{◌≡◌, ℕ, zero, suc, ◌-◌, true, false, List, [], ◌∷◌, length, filter_map, option_map, Some}
-use Rattle.std.specs.List.{cons_option}
+use Rattle.std.specs.Prelude.{◌≡◌, ℕ, zero, suc, ◌-◌, true, false, List, [], ◌∷◌, length, filter_map, option_map, Some, ◌||◌, Bool, cond}
+use Rattle.std.specs.List.{cons_option, list_any}
 use Rattle.std.proofs.Common.{refl, sym, ◌∙◌, ap, arith}
 use Rattle.solid_data.specs.SolidData.{SolidData}
 use Rattle.solid_data.specs.declared.solid.LoopAt.{LoopAt}
@@ -8,13 +8,14 @@ use Rattle.solid_data.proofs.Members.{Has, covers}
 use Rattle.edge_uses.specs.declared.row.Row.{Row}
 use Rattle.edge_uses.specs.ShellRows.{ShellRows}
 use Rattle.edge_uses.specs.Closed.{IsPaired}
-use Rattle.cert_lines.specs.Line.{CertLine, head, solid, shell, edge, corner, point, reach, tally, end}
+use Rattle.cert_lines.specs.Line.{CertLine, shell, edge, end}
 use Rattle.cert_lines.specs.declared.version.Version.{Version}
-use Rattle.topo_certificate.specs.Stand.{Stand, stand_from_latest, NoneDue, edge_of, vertex_of, is_shell, is_edge, is_corner_or_point, number_of, since_shell, rows_of_shell, current_rows, row_named, row_start, point_named}
+use Rattle.topo_certificate.specs.Stand.{Stand, stand_from_latest, NoneDue, edge_of, vertex_of, is_shell, is_edge, is_corner_or_point, number_of, since_shell, rows_of_shell, current_rows, row_named, row_start, point_named, FitsLine, is_last}
 use Rattle.topo_certificate.specs.declared.due.Due.{Due}
 use Rattle.topo_certificate.specs.After.{IsLegalAfter}
 use Rattle.topo_certificate.proofs.Segment.{falls_none}
-use Rattle.topo_certificate.proofs.Shells.{AllFit, Facts, Good, facts_of, facts_paired}
+use Rattle.topo_certificate.proofs.Facts.{AllFit, Facts, Good, facts_paired}
+use Rattle.topo_certificate.proofs.LineKinds.{facts_of, number_same, shell_line, end_line}
 use Rattle.solid_check.proofs.Nexts.{Leads, leads_none, leads_less}
 
 -- The edges and the vertices that the lines since the SHELL line name lead to all of the shell, and its edges are paired.
@@ -68,15 +69,38 @@ module _ (version : Version) (s : SolidData) (good : Good s) where
     paired = paired;
   }
 
-  pub lead_on : (before : List CertLine) (k : ℕ) → number_of is_shell before ≡ suc k → AllFit version s before → (lines : List (List ℕ)) → IsLegalAfter version s before lines → (stand_from_latest version s before).ended ≡ false → LeadOn s before (current_rows s before)
+  -- what leads on behind a line, where that begins no shell and doesn't end the certificate, leads on before it
+  before_line : (line : CertLine) (before : List CertLine) → is_shell line ≡ false → LeadOn s (line ∷ before) (current_rows s (line ∷ before)) → LeadOn s before (current_rows s before)
+  before_line line before e h =
+      let rows : current_rows s (line ∷ before) ≡ current_rows s before = ap (rows_of_shell s) (number_same is_shell line before e) in
+      let since : since_shell (line ∷ before) ≡ line ∷ since_shell before = ap (λ b. cond b [] (line ∷ since_shell before)) e in
+      let lead : LeadOn s (line ∷ before) (current_rows s before) = subst (LeadOn s (line ∷ before)) rows h in
+      let d : ShellRows = current_rows s before in
+      one_less line before d (subst (λ ls. Leads d.edges (filter_map (edge_of d) ls)) since lead.edges) (subst (λ ls. Leads d.vertices (filter_map (vertex_of d) ls)) since lead.vertices) lead.paired
+
+  -- the next line begins a shell, ends the certificate, or goes on
+  lead_over : (before : List CertLine) (k : ℕ) → number_of is_shell before ≡ suc k → AllFit version s before → (line : CertLine) → FitsLine s (stand_from_latest version s before) line
+      → (is_shell line ≡ false → is_last line ≡ false → LeadOn s (line ∷ before) (current_rows s (line ∷ before))) → LeadOn s before (current_rows s before)
+  lead_over before k number fit line fits later = by_tests (is_shell line) (is_last line) refl refl
+    where
+      done : NoneDue (stand_from_latest version s before).due → LeadOn s before (current_rows s before)
+      done none = all_came before (current_rows s before) (facts_of version s good before k number fit) none
+
+      by_tests : (a b : Bool) → is_shell line ≡ a → is_last line ≡ b → LeadOn s before (current_rows s before)
+      by_tests true b e f =
+          let begun = shell_line line e in
+          let here : FitsLine s (stand_from_latest version s before) (shell begun.0 begun.1) = subst (FitsLine s (stand_from_latest version s before)) begun.2 fits in
+          done here.1.0
+      by_tests false true e f =
+          let here : FitsLine s (stand_from_latest version s before) end = subst (FitsLine s (stand_from_latest version s before)) (end_line line f) fits in
+          done here.1.0
+      by_tests false false e f = before_line line before e (later e f)
+
+  still_going : (line : CertLine) (before : List CertLine) → is_last line ≡ false → (stand_from_latest version s before).ended ≡ false → (stand_from_latest version s (line ∷ before)).ended ≡ false
   unfolding stand_from_latest
+  still_going line before f going = ap (λ b. b || list_any is_last before) f ∙ going
+
+  pub lead_on : (before : List CertLine) (k : ℕ) → number_of is_shell before ≡ suc k → AllFit version s before → (lines : List (List ℕ)) → IsLegalAfter version s before lines → (stand_from_latest version s before).ended ≡ false → LeadOn s before (current_rows s before)
   lead_on before k number fit [] ended going = absurd (going_not_ended (stand_from_latest version s before) going ended)
-  lead_on before k number fit (bytes ∷ lines) (head v, is, fits, more) going = absurd fits.1
-  lead_on before k number fit (bytes ∷ lines) (solid n, is, fits, more) going = absurd fits.1
-  lead_on before k number fit (bytes ∷ lines) (shell j c, is, fits, more) going = all_came before (current_rows s before) (facts_of version s good before k number fit) fits.1.0
-  lead_on before k number fit (bytes ∷ lines) (edge a b, is, fits, more) going = let h = lead_on (edge a b ∷ before) k number (fits, fit) lines more going in one_less (edge a b) before (current_rows s before) h.edges h.vertices h.paired
-  lead_on before k number fit (bytes ∷ lines) (corner rs, is, fits, more) going = let h = lead_on (corner rs ∷ before) k number (fits, fit) lines more going in one_less (corner rs) before (current_rows s before) h.edges h.vertices h.paired
-  lead_on before k number fit (bytes ∷ lines) (point face l, is, fits, more) going = let h = lead_on (point face l ∷ before) k number (fits, fit) lines more going in one_less (point face l) before (current_rows s before) h.edges h.vertices h.paired
-  lead_on before k number fit (bytes ∷ lines) (reach r, is, fits, more) going = let h = lead_on (reach r ∷ before) k number (fits, fit) lines more going in one_less (reach r) before (current_rows s before) h.edges h.vertices h.paired
-  lead_on before k number fit (bytes ∷ lines) (tally t, is, fits, more) going = let h = lead_on (tally t ∷ before) k number (fits, fit) lines more going in one_less (tally t) before (current_rows s before) h.edges h.vertices h.paired
-  lead_on before k number fit (bytes ∷ lines) (end, is, fits, more) going = all_came before (current_rows s before) (facts_of version s good before k number fit) fits.1.0
+  lead_on before k number fit (bytes ∷ lines) (line, is, fits, more) going =
+      lead_over before k number fit line fits (λ e f. lead_on (line ∷ before) k (number_same is_shell line before e ∙ number) (fits, fit) lines more (still_going line before f going))

@@ -1,36 +1,14 @@
 -- Which rows the reach lines name matters for the faces that are reached, and for nothing else where the lines stand.
-use Rattle.std.specs.Prelude.{◌≡◌, ℕ, suc, ◌-◌, ◌⊎◌, ◌||◌, Bool, true, false, cond, List, [], ◌∷◌, length, map, find, filter, filter_map, Option}
+use Rattle.std.specs.Prelude.{◌≡◌, ℕ, suc, ◌-◌, ◌⊎◌, ◌||◌, Bool, true, false, cond, List, [], ◌∷◌, length, map, find, filter, filter_map, Option, Some}
 use Rattle.std.specs.List.{cons_option, list_any}
 use Rattle.std.proofs.Common.{refl, sym, ◌∙◌, ap, inl, inr}
 use Rattle.solid_data.specs.SolidData.{SolidData}
 use Rattle.edge_uses.specs.ShellRows.{ShellRows}
-use Rattle.cert_lines.specs.Line.{CertLine, head, solid, shell, edge, corner, point, reach, tally, end}
+use Rattle.cert_lines.specs.Line.{CertLine, shell, reach, tally}
 use Rattle.cert_lines.specs.declared.version.Version.{Version}
 use Rattle.topo_certificate.specs.Stand.{Stand, stand_from_latest, asked, mates_of, edge_of, vertex_of, first_of, is_shell, is_edge, is_corner_or_point, is_reach, is_tally, is_last, number_of, since_shell, rows_of_shell, current_rows}
 use Rattle.topo_certificate.specs.declared.due.Due.{Due}
-
--- the line, but for the row that a reach line names
-abbrev pub plain : CertLine → CertLine
-plain (head v) = head v
-plain (solid n) = solid n
-plain (shell k c) = shell k c
-plain (edge a b) = edge a b
-plain (corner rs) = corner rs
-plain (point face l) = point face l
-plain (reach r) = reach 0
-plain (tally t) = tally t
-plain end = end
-
-plain_or_reach : (l : CertLine) → (plain l ≡ l) ⊎ ((r : ℕ) × (l ≡ reach r))
-plain_or_reach (head v) = inl refl
-plain_or_reach (solid n) = inl refl
-plain_or_reach (shell k c) = inl refl
-plain_or_reach (edge a b) = inl refl
-plain_or_reach (corner rs) = inl refl
-plain_or_reach (point face l) = inl refl
-plain_or_reach (reach r) = inr (r, refl)
-plain_or_reach (tally t) = inl refl
-plain_or_reach end = inl refl
+use Rattle.topo_certificate.proofs.LineKinds.{plain, plain_or_reach, plainly, shell_line}
 
 -- Lines that are plainly the same are the same, or both are reach lines.
 pub same_or_reach : (a b : CertLine) → plain a ≡ plain b → (a ≡ b) ⊎ ((r : ℕ) × (s : ℕ) × (a ≡ reach r) × (b ≡ reach s))
@@ -41,18 +19,6 @@ same_or_reach a b same = by_kind (plain_or_reach a) (plain_or_reach b)
     by_kind (inl p) (inr (s, q)) = inr (0, s, sym p ∙ (same ∙ ap plain q), q)
     by_kind (inr (r, p)) (inl q) = inr (r, 0, p, sym q ∙ (sym same ∙ ap plain p))
     by_kind (inr (r, p)) (inr (s, q)) = inr (r, s, p, q)
-
--- what is alike for all reach lines is told by the plain line
-plainly : {A : Type 0} (f : CertLine → A) → ((r s : ℕ) → f (reach r) ≡ f (reach s)) → (l : CertLine) → f (plain l) ≡ f l
-plainly f alike (head v) = refl
-plainly f alike (solid n) = refl
-plainly f alike (shell k c) = refl
-plainly f alike (edge a b) = refl
-plainly f alike (corner rs) = refl
-plainly f alike (point face l) = refl
-plainly f alike (reach r) = alike 0 r
-plainly f alike (tally t) = refl
-plainly f alike end = refl
 
 number_plain : (kind : CertLine → Bool) → ((r s : ℕ) → kind (reach r) ≡ kind (reach s)) → (ls : List CertLine) → number_of kind (map plain ls) ≡ number_of kind ls
 number_plain kind alike [] = refl
@@ -74,27 +40,19 @@ ended_plain (l ∷ ls) = ap (λ b. b || list_any is_last (map plain ls)) (plainl
 
 since_plain : (ls : List CertLine) → since_shell (map plain ls) ≡ map plain (since_shell ls)
 since_plain [] = refl
-since_plain (head v ∷ ls) = ap (λ xs. head v ∷ xs) (since_plain ls)
-since_plain (solid n ∷ ls) = ap (λ xs. solid n ∷ xs) (since_plain ls)
-since_plain (shell k c ∷ ls) = refl
-since_plain (edge a b ∷ ls) = ap (λ xs. edge a b ∷ xs) (since_plain ls)
-since_plain (corner rs ∷ ls) = ap (λ xs. corner rs ∷ xs) (since_plain ls)
-since_plain (point face l ∷ ls) = ap (λ xs. point face l ∷ xs) (since_plain ls)
-since_plain (reach r ∷ ls) = ap (λ xs. reach 0 ∷ xs) (since_plain ls)
-since_plain (tally t ∷ ls) = ap (λ xs. tally t ∷ xs) (since_plain ls)
-since_plain (end ∷ ls) = ap (λ xs. end ∷ xs) (since_plain ls)
+since_plain (l ∷ ls) = ap (λ b. cond b [] (plain l ∷ since_shell (map plain ls))) (plainly is_shell (λ r s. refl) l) ∙ by_test (is_shell l) (since_shell (map plain ls)) (since_shell ls) (since_plain ls)
+  where
+    by_test : (b : Bool) (xs ys : List CertLine) → xs ≡ map plain ys → cond b [] (plain l ∷ xs) ≡ map plain (cond b [] (l ∷ ys))
+    by_test true xs ys h = refl
+    by_test false xs ys h = ap (λ zs. plain l ∷ zs) h
 
 find_plain : (ls : List CertLine) → find is_shell (map plain ls) ≡ find is_shell ls
 find_plain [] = refl
-find_plain (head v ∷ ls) = find_plain ls
-find_plain (solid n ∷ ls) = find_plain ls
-find_plain (shell k c ∷ ls) = refl
-find_plain (edge a b ∷ ls) = find_plain ls
-find_plain (corner rs ∷ ls) = find_plain ls
-find_plain (point face l ∷ ls) = find_plain ls
-find_plain (reach r ∷ ls) = find_plain ls
-find_plain (tally t ∷ ls) = find_plain ls
-find_plain (end ∷ ls) = find_plain ls
+find_plain (l ∷ ls) = ap (λ b. cond b (Some (plain l)) (find is_shell (map plain ls))) (plainly is_shell (λ r s. refl) l) ∙ by_test (is_shell l) refl (find is_shell (map plain ls)) (find is_shell ls) (find_plain ls)
+  where
+    by_test : (b : Bool) → is_shell l ≡ b → (xs ys : Option CertLine) → xs ≡ ys → cond b (Some (plain l)) xs ≡ cond b (Some l) ys
+    by_test true e xs ys h = let begun = shell_line l e in ap (λ x. Some (plain x)) begun.2 ∙ ap (λ x. Some x) (sym begun.2)
+    by_test false e xs ys h = h
 
 -- a stand, but for the faces that are reached
 abbrev pub but_reached : Stand → Stand

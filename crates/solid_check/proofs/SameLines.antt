@@ -11,11 +11,12 @@ use Rattle.cert_lines.specs.declared.version.Version.{Version}
 use Rattle.topo_certificate.specs.Stand.{Stand, stand_from_latest, FitsLine, edge_of, vertex_of, is_shell, number_of, since_shell, rows_of_shell, current_rows, row_edge}
 use Rattle.topo_certificate.specs.After.{IsLegalAfter}
 use Rattle.topo_certificate.proofs.Segment.{named_has, paired_rows, start_known, point_known}
-use Rattle.topo_certificate.proofs.Shells.{AllFit, Good, facts_of}
+use Rattle.topo_certificate.proofs.Facts.{AllFit, Good}
+use Rattle.topo_certificate.proofs.LineKinds.{facts_of, plain}
 use Rattle.solid_check.specs.Laws.{AlikeButReach}
 use Rattle.solid_check.proofs.Nexts.{Leads, next_is}
 use Rattle.solid_check.proofs.Ahead.{LeadOn, lead_on, begun_row, begun_start, begun_point}
-use Rattle.solid_check.proofs.Plain.{plain, same_or_reach, but_reached, plain_stands}
+use Rattle.solid_check.proofs.Plain.{same_or_reach, but_reached, plain_stands}
 use Rattle.solid_check.proofs.Sides.{EdgeSide, CornerSide, PointSide, edge_one, corner_one, point_one, corner_no_point, shell_one, tally_one}
 
 module _ (version : Version) (s : SolidData) (good : Good s) where

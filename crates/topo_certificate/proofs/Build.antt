@@ -21,7 +21,7 @@ use Rattle.topo_certificate.specs.Stand.{Stand, stand_from_latest, tallies, is_t
 use Rattle.topo_certificate.specs.declared.due.Due.{Due}
 use Rattle.solid_data.proofs.Occurring.{numbers_rise, number_below, length-numbers}
 use Rattle.topo_certificate.proofs.Segment.{AreGoodRows, row_has}
-use Rattle.topo_certificate.proofs.Shells.{AllFit}
+use Rattle.topo_certificate.proofs.Facts.{AllFit}
 use Rattle.topo_certificate.proofs.Short.{IsSmall, IsReadable, readable_edge, readable_corner, readable_point, readable_reach, row_short, starts_few}
 use Rattle.topo_certificate.proofs.Corner.{starts_listed}
 use Rattle.edge_uses.proofs.Cycle.{same_or_not, zip_from_trail, IsCycle, AreTurning, cycle_of_corner}

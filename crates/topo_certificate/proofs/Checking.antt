@@ -1,12 +1,12 @@
 -- Where a checker stands behind one more line.
-use Rattle.std.specs.Prelude.{◌≡◌, ℕ, zero, suc, ◌+◌, ◌-◌, ◌<◌, ◌≤◌, ◌⊎◌, ◌^◌, Bool, true, false, List, [], ◌∷◌, ◌++◌, length, Option, Some, None, Result, Err, MatchOption, MatchResult, slice_get}
+use Rattle.std.specs.Prelude.{◌≡◌, ℕ, zero, suc, ◌+◌, ◌-◌, ◌<◌, ◌≤◌, ◌⊎◌, ◌^◌, Bool, true, false, List, [], ◌∷◌, ◌++◌, length, Option, Some, None, Result, Err, MatchOption, MatchResult, slice_get, ◌||◌}
 use Rattle.std.proofs.Common.{refl, sym, ◌∙◌, ap, subst, arith, inl, inr, ⊎_elim, length-append}
 use Rattle.std.proofs.lemmas.Option.{same_Some}
 use Rattle.solid_data.specs.SolidData.{SolidData}
 use Rattle.edge_uses.specs.ShellRows.{ShellRows}
-use Rattle.cert_lines.specs.Line.{CertLine, head, solid, shell, edge, corner, point, reach, tally, end, IsLine, IsSpelled, IsLong, line_limit}
+use Rattle.cert_lines.specs.Line.{CertLine, head, solid, shell, reach, tally, end, IsLine, IsSpelled, IsLong, line_limit}
 use Rattle.cert_lines.specs.declared.counts.ShellCounts.{ShellCounts}
-use Rattle.topo_certificate.specs.Stand.{Stand, stand_from_latest, rows_of_shell, loops_of_shell, NoneDue, FitsOpen, FitsLine}
+use Rattle.topo_certificate.specs.Stand.{Stand, stand_from_latest, rows_of_shell, loops_of_shell, NoneDue, FitsLine, is_shell, is_last}
 use Rattle.cert_lines.proofs.Spelling.{line_one}
 use Rattle.cert_lines.specs.Said.{IsRowLine, Means, IsJudged}
 use Rattle.cert_lines.specs.declared.words.Judged.{Judged}
@@ -21,8 +21,10 @@ use Rattle.topo_certificate.specs.Matching.{MatchesShell, MatchesCurrent, Takes,
 use Rattle.topo_certificate.specs.Room.{dues_of, HasRoom, TakesLine}
 use Rattle.topo_certificate.proofs.UseSizes.{few_shells}
 use Rattle.solid_data.specs.Numbering.{IsNumberedSolid}
-use Rattle.topo_certificate.proofs.Shells.{asked_is}
+use Rattle.topo_certificate.proofs.Facts.{asked_is}
 use Rattle.topo_certificate.proofs.Standing.{stand_of, shell_stand, end_stand, first_stand}
+use Rattle.std.specs.List.{list_any}
+use Rattle.topo_certificate.proofs.LineKinds.{no_row_line, row_kind, number_same}
 
 -- nothing is due exactly where nothing is kept as due
 none_due : (s : SolidData) (at : Stand) (o : Option KeptShell) → MatchesCurrent s at o → dues_of o ≡ 0 → NoneDue at.due
@@ -172,15 +174,9 @@ with_current old k n = record old { number = n; current = Some k }
 -- a line of rows changes neither the shell nor whether END came
 row_line : (version : Version) (s : SolidData) (lines : List CertLine) (line : CertLine) → IsRowLine line → ((stand_from_latest version s (line ∷ lines)).ended ≡ (stand_from_latest version s lines).ended) × ((stand_from_latest version s (line ∷ lines)).shell ≡ (stand_from_latest version s lines).shell)
 unfolding stand_from_latest
-row_line version s lines (head v) h = absurd h
-row_line version s lines (solid n) h = absurd h
-row_line version s lines (shell k c) h = absurd h
-row_line version s lines (edge a b) h = (refl, refl)
-row_line version s lines (corner rs) h = (refl, refl)
-row_line version s lines (point a b) h = (refl, refl)
-row_line version s lines (reach a) h = (refl, refl)
-row_line version s lines (tally t) h = (refl, refl)
-row_line version s lines end h = absurd h
+row_line version s lines line h =
+    let kind = row_kind line h in
+    (ap (λ b. b || list_any is_last lines) kind.1, number_same is_shell line lines kind.0)
 
 pub row_line_taken : (old : Kept) (k new : KeptShell) (line : CertLine) (n : ℕ) → old.ended ≡ false → old.current ≡ Some k → IsRowLine line → Takes k new line true → n ≡ old.number + 1 → TakesLine old (with_current old new n) line true
 row_line_taken old k new line n going is_k kind takes more first lines at =
@@ -201,18 +197,6 @@ row_line_taken old k new line n going is_k kind takes more first lines at =
 
 pub row_line_refused : (old new : Kept) (k now : KeptShell) (line : CertLine) → old.current ≡ Some k → Takes k now line false → TakesLine old new line false
 row_line_refused old new k now line is_k takes first lines at fits = takes old.version old.solid lines (subst (MatchesCurrent old.solid (stand_from_latest old.version old.solid lines)) is_k at.current) fits.1
-
-no_row_line : (s : SolidData) (at : Stand) (line : CertLine) → NoneDue at.due → IsRowLine line → FitsOpen s at line → ⊥
-no_row_line s at (head v) none kind fits = kind
-no_row_line s at (solid n) none kind fits = kind
-no_row_line s at (shell k c) none kind fits = kind
-no_row_line s at (edge a b) none kind fits = omega (arith, none.edges, fits.0)
-no_row_line s at (corner []) none kind fits = fits
-no_row_line s at (corner (r ∷ rs)) none kind fits = omega (arith, none.corners, fits.0.1)
-no_row_line s at (point a b) none kind fits = omega (arith, none.corners, fits.0.1)
-no_row_line s at (reach a) none kind fits = omega (arith, none.reach, fits.0.2)
-no_row_line s at (tally t) none kind fits = omega (arith, none.tally, fits.0.3)
-no_row_line s at end none kind fits = kind
 
 pub no_shell_begun : (old new : Kept) (line : CertLine) → old.current ≡ None → IsRowLine line → TakesLine old new line false
 no_shell_begun old new line none kind first lines at fits =

@@ -18,7 +18,8 @@ use Rattle.topo_certificate.specs.Stand.{stand_from_latest, loops_of_shell, tall
 use Rattle.solid_data.proofs.Members.{Rises, rises_none}
 use Rattle.topo_certificate.proofs.Segment.{AreGoodRows}
 use Rattle.topo_certificate.proofs.Forward.{legal_forward}
-use Rattle.topo_certificate.proofs.Shells.{AllFit, AreProper}
+use Rattle.topo_certificate.proofs.Facts.{AllFit}
+use Rattle.topo_certificate.proofs.Shells.{AreProper}
 use Rattle.edge_uses.proofs.Cycle.{AreTurning}
 use Rattle.topo_certificate.proofs.Short.{IsSmall, IsReadable, readable_shell, readable_tally, readable_end}
 use Rattle.topo_certificate.proofs.Build.{Stage, nothing_due, tally_fits, none_after_tally, PointsDiffer, EdgesBuilt, CornersBuilt, ReachBuilt, build_edges, build_corners, build_reach, mates_listed}

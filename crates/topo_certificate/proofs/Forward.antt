@@ -1,18 +1,19 @@
 -- Legal lines and the first bad one, read from the first line on, are those that the recursion tells.
 use Rattle.std.specs.Prelude.{◌≡◌, ℕ, zero, suc, ◌+◌, true, false, List, [], ◌∷◌, ◌++◌, length, reverse, take, Some, slice_get}
-use Rattle.std.specs.List.{AllZip}
+use Rattle.std.specs.List.{AllZip, list_any}
 use Rattle.std.proofs.Common.{refl, sym, ◌∙◌, ap, subst, arith, inl, inr, append_assoc}
 use Rattle.std.proofs.lemmas.Grind.{reverse_onto}
 use Rattle.std.proofs.lemmas.List.{append-nil, reverse-append, reverse-reverse}
 use Rattle.std.proofs.lemmas.Option.{same_Some}
 use Rattle.solid_data.specs.SolidData.{SolidData}
-use Rattle.cert_lines.specs.Line.{CertLine, head, solid, shell, edge, corner, point, reach, tally, end, IsLine, line_limit}
+use Rattle.cert_lines.specs.Line.{CertLine, end, IsLine, line_limit}
 use Rattle.cert_lines.specs.declared.version.Version.{Version}
-use Rattle.topo_certificate.specs.Stand.{Stand, stand_from_latest, stand_after, FitsLine}
+use Rattle.topo_certificate.specs.Stand.{Stand, stand_from_latest, stand_after, FitsLine, is_last}
 use Rattle.topo_certificate.specs.Legal.{AreFitting, IsLegal, IsBadNext, HasFirstBad}
 use Rattle.topo_certificate.specs.After.{IsLegalAfter, IsFirstBadAfter}
-use Rattle.topo_certificate.proofs.Shells.{AllFit}
+use Rattle.topo_certificate.proofs.Facts.{AllFit}
 use Rattle.cert_lines.specs.declared.fault.Illegal.{Illegal}
+use Rattle.topo_certificate.proofs.LineKinds.{end_line, first_true}
 
 -- the latest first: a line more, and then others
 pub behind_more : (line : CertLine) (read before : List CertLine) → reverse read ++ (line ∷ before) ≡ reverse (line ∷ read) ++ before
@@ -93,15 +94,7 @@ false_true h = cc
 -- where the lines fit, END has come exactly where it is the last
 ended_end : (version : Version) (s : SolidData) (l : CertLine) (ls : List CertLine) → FitsLine s (stand_from_latest version s ls) l → (stand_from_latest version s (l ∷ ls)).ended ≡ true → l ≡ end
 unfolding stand_from_latest
-ended_end version s (head v) ls fits ended = absurd fits.1
-ended_end version s (solid n) ls fits ended = absurd fits.1
-ended_end version s (shell k c) ls fits ended = absurd (false_true (sym fits.0 ∙ ended))
-ended_end version s (edge a b) ls fits ended = absurd (false_true (sym fits.0 ∙ ended))
-ended_end version s (corner rs) ls fits ended = absurd (false_true (sym fits.0 ∙ ended))
-ended_end version s (point a b) ls fits ended = absurd (false_true (sym fits.0 ∙ ended))
-ended_end version s (reach r) ls fits ended = absurd (false_true (sym fits.0 ∙ ended))
-ended_end version s (tally t) ls fits ended = absurd (false_true (sym fits.0 ∙ ended))
-ended_end version s end ls fits ended = refl
+ended_end version s l ls fits ended = end_line l (first_true (is_last l) (list_any is_last ls) fits.0 ended)
 
 none_ended : (version : Version) (s : SolidData) → (stand_from_latest version s []).ended ≡ true → ⊥
 unfolding stand_from_latest

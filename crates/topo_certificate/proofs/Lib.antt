@@ -1,5 +1,9 @@
 pub mod Corner
 pub mod Segment
+pub mod Facts
+pub mod FitsDecided
+pub mod SameStand
+pub mod LineKinds
 pub mod Shells
 pub mod Build
 pub mod Complete

@@ -22,7 +22,7 @@ abbrev pub with_edge : KeptShell → ℕ → ℕ → ℕ → KeptShell
 with_edge k a b e = record k { due = without_edge k.due; mates = with_mates k.mates a b; last_edge = Some e }
 
 -- where an edge line fits behind the last edge
-pub record FitsBehind (k : KeptShell) (a b e : ℕ) : Type 0 where
+pub record EdgeFits (k : KeptShell) (a b e : ℕ) : Type 0 where
   pub fits : (at : Stand) → at.last_edge ≡ k.last_edge → FitsEdge k.rows at a b × (edge_of k.rows (edge a b) ≡ Some e)
 
 -- a stand with this last edge
@@ -37,7 +37,7 @@ pub not_passed : (last : Option ℕ) (e f : ℕ) → IsAbove last e → IsSomeAn
 not_passed None e f above passed = absurd passed
 not_passed (Some m) e f above passed = omega (arith, above, passed)
 
-pub can_mate : (k : KeptShell) (a b e : ℕ) → IsKept k → FitsBehind k a b e → CanMate k.mates a b
+pub can_mate : (k : KeptShell) (a b e : ℕ) → IsKept k → EdgeFits k a b e → CanMate k.mates a b
 can_mate k a b e kept h = by_fit (h.fits (stand_at k.last_edge) (stand_at_last k.last_edge)).0
   where
     by_fit : FitsEdge k.rows (stand_at k.last_edge) a b → CanMate k.mates a b
@@ -64,7 +64,7 @@ can_mate k a b e kept h = by_fit (h.fits (stand_at k.last_edge) (stand_at_last k
               omega (arith, q, one, not_passed k.last_edge f.along_row.edge.0 p.0.edge.0 above p.2));
         }
 
-pub edge_kept : (k : KeptShell) (a b e : ℕ) → IsKept k → FitsBehind k a b e → IsKept (with_edge k a b e)
+pub edge_kept : (k : KeptShell) (a b e : ℕ) → IsKept k → EdgeFits k a b e → IsKept (with_edge k a b e)
 edge_kept k a b e kept h = record {
   sizes = kept.sizes;
   alone = kept.alone;
@@ -88,7 +88,7 @@ edge_kept k a b e kept h = record {
         edge_at None = None
         edge_at (Some x) = Some x.edge.0
 
-pub edge_takes : (k : KeptShell) (a b e : ℕ) → IsKept k → EdgeDue k.due → FitsBehind k a b e → Takes k (with_edge k a b e) (edge a b) true
+pub edge_takes : (k : KeptShell) (a b e : ℕ) → IsKept k → EdgeDue k.due → EdgeFits k a b e → Takes k (with_edge k a b e) (edge a b) true
 edge_takes k a b e kept due h version s lines t =
     let at : Stand = stand_from_latest version s lines in
     let f = h.fits at (sym t.last_edge) in

@@ -1,22 +1,24 @@
 -- Legal lines of version 1 are legal in version 2 with TALLY lines.
-use Rattle.std.specs.Prelude.{◌≡◌, ℕ, zero, suc, ◌+◌, ◌-◌, ◌<◌, true, false, List, [], ◌∷◌, ◌++◌, length, find, filter_map, Contains, Option, Some, None, slice_get}
-use Rattle.std.specs.List.{AllZip, list_any}
-use Rattle.solid_data.specs.Ring.{next_of_each}
+use Rattle.std.specs.Prelude.{◌≡◌, ℕ, zero, suc, ◌+◌, ◌-◌, ◌<◌, true, false, List, [], ◌∷◌, ◌++◌, length, find, filter_map, Option, Some, None, slice_get, ◌||◌, Bool, cond}
+use Rattle.std.specs.List.{list_any}
 use Rattle.solid_data.proofs.Members.{get_some}
 use Rattle.std.proofs.Common.{refl, sym, ◌∙◌, ap, subst, arith}
 use Rattle.solid_data.specs.SolidData.{SolidData}
 use Rattle.solid_data.specs.declared.solid.Shell.{Shell}
 use Rattle.edge_uses.specs.ShellRows.{ShellRows, rows_of}
-use Rattle.cert_lines.specs.Line.{CertLine, head, solid, shell, edge, corner, point, reach, tally, end, spelling, IsLine, line_limit}
+use Rattle.cert_lines.specs.Line.{CertLine, shell, reach, tally, end, spelling, IsLine, line_limit}
 use Rattle.cert_lines.specs.declared.counts.ShellCounts.{ShellCounts}
 use Rattle.cert_lines.specs.declared.counts.Tally.{Tally}
 use Rattle.cert_lines.specs.declared.version.Version.TheVariants.{One, Two}
-use Rattle.topo_certificate.specs.Stand.{Stand, first_of, edge_of, vertex_of, face_of, mates_of, IsAbove, IsMate, TurnsTo, CornerDue, ReachDue, stand_from_latest, is_shell, is_last, is_tally, is_edge, is_corner_or_point, is_reach, number_of, since_shell, asked, loops_of, rows_of_shell, FitsLine, FitsTally, FitsShell, FitsEdge, FitsCorner, FitsPoint, FitsReach, NoneDue}
+use Rattle.topo_certificate.specs.Stand.{Stand, first_of, edge_of, vertex_of, face_of, mates_of, stand_from_latest, is_shell, is_last, is_tally, is_edge, is_corner_or_point, is_reach, number_of, since_shell, asked, loops_of, rows_of_shell, FitsLine, FitsTally, FitsShell, NoneDue}
 use Rattle.topo_certificate.specs.Legal.{IsLegal}
 use Rattle.topo_certificate.specs.After.{IsLegalAfter}
 use Rattle.topo_certificate.specs.Upgraded.{tally_of_shell, tally_lines_of, tally_before, with_tallies}
 use Rattle.topo_certificate.proofs.Forward.{legal_forward, legal_behind}
 use Rattle.topo_certificate.proofs.Short.{IsReadable}
+use Rattle.topo_certificate.specs.declared.due.Due.{Due}
+use Rattle.topo_certificate.proofs.SameStand.{SameStand}
+use Rattle.topo_certificate.proofs.LineKinds.{asked_none, end_line, fits_too, kept_there, number_more, number_same, shell_line, tally_line}
 
 -- the latest first: what a stand is read off is the same, with TALLY lines of shells before the one at hand and without
 record Alike (before new : List CertLine) : Type 0 where
@@ -25,65 +27,28 @@ record Alike (before new : List CertLine) : Type 0 where
   pub asks : find is_shell new ≡ find is_shell before
   pub since : since_shell new ≡ since_shell before
 
--- stands that differ at most in TALLY lines that are due
-record SameStand (a b : Stand) : Type 0 where
-  pub ended : b.ended ≡ a.ended
-  pub shell : b.shell ≡ a.shell
-  pub edges : b.due.edges ≡ a.due.edges
-  pub corners : b.due.corners ≡ a.due.corners
-  pub reach : b.due.reach ≡ a.due.reach
-  pub mates : b.mates ≡ a.mates
-  pub last_edge : b.last_edge ≡ a.last_edge
-  pub last_vertex : b.last_vertex ≡ a.last_vertex
-  pub reached : b.reached ≡ a.reached
+-- what a SHELL line asks for in version 1, and a TALLY line too in version 2
+record AskedAlike (o : Option CertLine) : Type 0 where
+  pub edges : (asked Two o).edges ≡ (asked One o).edges
+  pub corners : (asked Two o).corners ≡ (asked One o).corners
+  pub reach : (asked Two o).reach ≡ (asked One o).reach
+  pub tally : (asked One o).tally ≡ 0
 
-asked_edges : (o : Option CertLine) → (asked Two o).edges ≡ (asked One o).edges
-asked_edges None = refl
-asked_edges (Some (head v)) = refl
-asked_edges (Some (solid n)) = refl
-asked_edges (Some (shell k c)) = refl
-asked_edges (Some (edge a b)) = refl
-asked_edges (Some (corner rs)) = refl
-asked_edges (Some (point a b)) = refl
-asked_edges (Some (reach r)) = refl
-asked_edges (Some (tally t)) = refl
-asked_edges (Some end) = refl
-
-asked_corners : (o : Option CertLine) → (asked Two o).corners ≡ (asked One o).corners
-asked_corners None = refl
-asked_corners (Some (head v)) = refl
-asked_corners (Some (solid n)) = refl
-asked_corners (Some (shell k c)) = refl
-asked_corners (Some (edge a b)) = refl
-asked_corners (Some (corner rs)) = refl
-asked_corners (Some (point a b)) = refl
-asked_corners (Some (reach r)) = refl
-asked_corners (Some (tally t)) = refl
-asked_corners (Some end) = refl
-
-asked_reach : (o : Option CertLine) → (asked Two o).reach ≡ (asked One o).reach
-asked_reach None = refl
-asked_reach (Some (head v)) = refl
-asked_reach (Some (solid n)) = refl
-asked_reach (Some (shell k c)) = refl
-asked_reach (Some (edge a b)) = refl
-asked_reach (Some (corner rs)) = refl
-asked_reach (Some (point a b)) = refl
-asked_reach (Some (reach r)) = refl
-asked_reach (Some (tally t)) = refl
-asked_reach (Some end) = refl
-
-asked_tally : (o : Option CertLine) → (asked One o).tally ≡ 0
-asked_tally None = refl
-asked_tally (Some (head v)) = refl
-asked_tally (Some (solid n)) = refl
-asked_tally (Some (shell k c)) = refl
-asked_tally (Some (edge a b)) = refl
-asked_tally (Some (corner rs)) = refl
-asked_tally (Some (point a b)) = refl
-asked_tally (Some (reach r)) = refl
-asked_tally (Some (tally t)) = refl
-asked_tally (Some end) = refl
+asked_alike : (o : Option CertLine) → AskedAlike o
+asked_alike None = record { edges = refl; corners = refl; reach = refl; tally = refl }
+asked_alike (Some l) = by_test (is_shell l) refl
+  where
+    by_test : (b : Bool) → is_shell l ≡ b → AskedAlike (Some l)
+    by_test true e = subst (λ x. AskedAlike (Some x)) (sym (shell_line l e).2) (record { edges = refl; corners = refl; reach = refl; tally = refl })
+    by_test false e =
+        let one : asked One (Some l) ≡ asked One None = asked_none One l e in
+        let two : asked Two (Some l) ≡ asked Two None = asked_none Two l e in
+        record {
+          edges = ap (λ (a : Due). a.edges) two ∙ sym (ap (λ (a : Due). a.edges) one);
+          corners = ap (λ (a : Due). a.corners) two ∙ sym (ap (λ (a : Due). a.corners) one);
+          reach = ap (λ (a : Due). a.reach) two ∙ sym (ap (λ (a : Due). a.reach) one);
+          tally = ap (λ (a : Due). a.tally) one;
+        }
 
 abbrev mates_in : List CertLine → List (ℕ × ℕ)
 mates_in ls = filter_map mates_of ls
@@ -103,9 +68,9 @@ unfolding stand_from_latest
 same_stand s before new h = record {
   ended = h.ended;
   shell = h.shells;
-  edges = ap (λ ls. (asked Two (find is_shell new)).edges - number_of is_edge ls) h.since ∙ ap (λ n. n - number_of is_edge (since_shell before)) (ap (λ o. (asked Two o).edges) h.asks ∙ asked_edges (find is_shell before));
-  corners = ap (λ ls. (asked Two (find is_shell new)).corners - number_of is_corner_or_point ls) h.since ∙ ap (λ n. n - number_of is_corner_or_point (since_shell before)) (ap (λ o. (asked Two o).corners) h.asks ∙ asked_corners (find is_shell before));
-  reach = ap (λ ls. (asked Two (find is_shell new)).reach - number_of is_reach ls) h.since ∙ ap (λ n. n - number_of is_reach (since_shell before)) (ap (λ o. (asked Two o).reach) h.asks ∙ asked_reach (find is_shell before));
+  edges = ap (λ ls. (asked Two (find is_shell new)).edges - number_of is_edge ls) h.since ∙ ap (λ n. n - number_of is_edge (since_shell before)) (ap (λ o. (asked Two o).edges) h.asks ∙ (asked_alike (find is_shell before)).edges);
+  corners = ap (λ ls. (asked Two (find is_shell new)).corners - number_of is_corner_or_point ls) h.since ∙ ap (λ n. n - number_of is_corner_or_point (since_shell before)) (ap (λ o. (asked Two o).corners) h.asks ∙ (asked_alike (find is_shell before)).corners);
+  reach = ap (λ ls. (asked Two (find is_shell new)).reach - number_of is_reach ls) h.since ∙ ap (λ n. n - number_of is_reach (since_shell before)) (ap (λ o. (asked Two o).reach) h.asks ∙ (asked_alike (find is_shell before)).reach);
   mates = ap (λ ls. mates_in ls) h.since;
   last_edge = ap (λ ls. last_edge_in (rows_of_shell s (number_of is_shell new)) ls) h.since ∙ ap (λ n. last_edge_in (rows_of_shell s n) (since_shell before)) h.shells;
   last_vertex = ap (λ ls. last_vertex_in (rows_of_shell s (number_of is_shell new)) ls) h.since ∙ ap (λ n. last_vertex_in (rows_of_shell s n) (since_shell before)) h.shells;
@@ -115,51 +80,39 @@ same_stand s before new h = record {
 -- no TALLY line fits in version 1
 no_tally : (s : SolidData) (before : List CertLine) → (stand_from_latest One s before).due.tally ≡ 0
 unfolding stand_from_latest
-no_tally s before = let h : (asked One (find is_shell before)).tally ≡ 0 = asked_tally (find is_shell before) in omega (arith, h)
+no_tally s before = let h : (asked One (find is_shell before)).tally ≡ 0 = (asked_alike (find is_shell before)).tally in omega (arith, h)
 
--- What fits the one stand fits the other.
-fits_edge : (d : ShellRows) (a b : Stand) (x y : ℕ) → SameStand a b → FitsEdge d a x y → FitsEdge d b x y
-fits_edge d a b x y h f = record { along_row = f.along_row; against_row = f.against_row; at_a = f.at_a; at_b = f.at_b; one_edge = f.one_edge; along = f.along; against = f.against; rises = subst (λ o. IsAbove o f.along_row.edge.0) (sym h.last_edge) f.rises }
+-- where a shell is begun, its line is the last one found
+found_on : (l : CertLine) (ls : List CertLine) (n : ℕ) → number_of is_shell (l ∷ ls) ≡ suc n → (number_of is_shell ls ≡ suc n → (k : ℕ) × (c : ShellCounts) × (find is_shell ls ≡ Some (shell k c)))
+    → (k : ℕ) × (c : ShellCounts) × (find is_shell (l ∷ ls) ≡ Some (shell k c))
+found_on l ls n h later = by_test (is_shell l) refl
+  where
+    by_test : (b : Bool) → is_shell l ≡ b → (k : ℕ) × (c : ShellCounts) × (find is_shell (l ∷ ls) ≡ Some (shell k c))
+    by_test true e =
+        let begun = shell_line l e in
+        let here : find is_shell (l ∷ ls) ≡ Some l = ap (λ b. cond b (Some l) (find is_shell ls)) e in
+        (begun.0, begun.1, here ∙ ap (λ x. Some x) begun.2)
+    by_test false e =
+        let there = later (sym (number_same is_shell l ls e) ∙ h) in
+        let on : find is_shell (l ∷ ls) ≡ find is_shell ls = ap (λ b. cond b (Some l) (find is_shell ls)) e in
+        (there.0, there.1, on ∙ there.2)
 
-fits_corner : (d : ShellRows) (a b : Stand) (r : ℕ) (rs : List ℕ) → SameStand a b → FitsCorner d a r rs → FitsCorner d b r rs
-fits_corner d a b r rs h f = record { vertex = f.vertex; lies_at = f.lies_at; turns = subst (λ ms. AllZip (TurnsTo d ms) (r ∷ rs) (next_of_each (r ∷ rs))) (sym h.mates) f.turns; least = f.least; whole = f.whole; no_point = f.no_point; rises = subst (λ o. IsAbove o f.vertex) (sym h.last_vertex) f.rises }
-
-fits_point : (d : ShellRows) (a b : Stand) (x y : ℕ) → SameStand a b → FitsPoint d a x y → FitsPoint d b x y
-fits_point d a b x y h f = record { vertex = f.vertex; lies_at = f.lies_at; no_row = f.no_row; one_point = f.one_point; rises = subst (λ o. IsAbove o f.vertex) (sym h.last_vertex) f.rises }
-
-fits_reach : (d : ShellRows) (a b : Stand) (r : ℕ) → SameStand a b → FitsReach d a r → FitsReach d b r
-fits_reach d a b r h f = record { mate = f.mate; face = f.face; known = f.known; mates = subst (λ ms. IsMate ms r f.mate) (sym h.mates) f.mates; on_face = f.on_face; on_known = f.on_known; new = λ c. f.new (subst (λ xs. Contains xs f.face) h.reached c); old = subst (λ xs. Contains xs f.known) (sym h.reached) f.old }
-
-corner_due : (a b : Stand) → SameStand a b → CornerDue a.due → CornerDue b.due
-corner_due a b h d = (h.edges ∙ d.0, subst (λ n. 0 < n) (sym h.corners) d.1)
-
-reach_due : (a b : Stand) → SameStand a b → ReachDue a.due → ReachDue b.due
-reach_due a b h d = (h.edges ∙ d.0, h.corners ∙ d.1, subst (λ n. 0 < n) (sym h.reach) d.2)
-
--- Where a shell is begun, its line is the last one found.
 found_shell : (ls : List CertLine) (n : ℕ) → number_of is_shell ls ≡ suc n → (k : ℕ) × (c : ShellCounts) × (find is_shell ls ≡ Some (shell k c))
 found_shell [] n h = absurd (omega (arith, h))
-found_shell (head v ∷ ls) n h = found_shell ls n h
-found_shell (solid m ∷ ls) n h = found_shell ls n h
-found_shell (shell k c ∷ ls) n h = (k, c, refl)
-found_shell (edge a b ∷ ls) n h = found_shell ls n h
-found_shell (corner rs ∷ ls) n h = found_shell ls n h
-found_shell (point a b ∷ ls) n h = found_shell ls n h
-found_shell (reach r ∷ ls) n h = found_shell ls n h
-found_shell (tally t ∷ ls) n h = found_shell ls n h
-found_shell (end ∷ ls) n h = found_shell ls n h
+found_shell (l ∷ ls) n h = found_on l ls n h (found_shell ls n)
+
+none_on : (l : CertLine) (ls : List CertLine) → number_of is_shell (l ∷ ls) ≡ 0 → (number_of is_shell ls ≡ 0 → find is_shell ls ≡ None) → find is_shell (l ∷ ls) ≡ None
+none_on l ls h later = by_test (is_shell l) refl
+  where
+    by_test : (b : Bool) → is_shell l ≡ b → find is_shell (l ∷ ls) ≡ None
+    by_test true e = absurd (let never : suc (number_of is_shell ls) ≡ 0 = sym (number_more is_shell l ls e) ∙ h in omega (arith, never))
+    by_test false e =
+        let on : find is_shell (l ∷ ls) ≡ find is_shell ls = ap (λ b. cond b (Some l) (find is_shell ls)) e in
+        on ∙ later (sym (number_same is_shell l ls e) ∙ h)
 
 no_shell_found : (ls : List CertLine) → number_of is_shell ls ≡ 0 → find is_shell ls ≡ None
 no_shell_found [] h = refl
-no_shell_found (head v ∷ ls) h = no_shell_found ls h
-no_shell_found (solid m ∷ ls) h = no_shell_found ls h
-no_shell_found (shell k c ∷ ls) h = absurd (omega (arith, h))
-no_shell_found (edge a b ∷ ls) h = no_shell_found ls h
-no_shell_found (corner rs ∷ ls) h = no_shell_found ls h
-no_shell_found (point a b ∷ ls) h = no_shell_found ls h
-no_shell_found (reach r ∷ ls) h = no_shell_found ls h
-no_shell_found (tally t ∷ ls) h = no_shell_found ls h
-no_shell_found (end ∷ ls) h = no_shell_found ls h
+no_shell_found (l ∷ ls) h = none_on l ls h (no_shell_found ls)
 
 tally_there : (s : SolidData) (k : ℕ) (h : Shell) → slice_get s.shells k ≡ Some h → FitsTally s (suc k) (tally_of_shell s h)
 tally_there s k h at = record {
@@ -289,49 +242,49 @@ module _ (s : SolidData) (read : TalliesRead s) where
       same : SameStand (stand_from_latest One s before) (stand_from_latest Two s new)
       same = same_stand s before new alike
 
-      here : rows_of_shell s (stand_from_latest One s before).shell ≡ rows_of_shell s (stand_from_latest Two s new).shell
-      here = ap (rows_of_shell s) (sym same.shell)
-
       Later : CertLine → Type 0
       Later l = (new' : List CertLine) (m : ℕ) → Alike (l ∷ before) new' → number_of is_shell (l ∷ before) ≡ m → number_of is_tally (since_shell new') ≡ 0 → IsLegalAfter One s (l ∷ before) lines → IsLegalAfter Two s new' (with_tallies s m lines)
 
-      by_line : (l : CertLine) → IsReadable s l → FitsLine s (stand_from_latest One s before) l → IsLegalAfter One s (l ∷ before) lines → Later l → IsLegalAfter Two s new (with_tallies s n (spelling l ∷ lines))
-      by_line (head v) is fits more later = absurd fits.1
-      by_line (solid m) is fits more later = absurd fits.1
-      by_line (shell k c) is fits more later =
+      Follows : CertLine → Type 0
+      Follows l = IsReadable s l → FitsLine s (stand_from_latest One s before) l → IsLegalAfter One s (l ∷ before) lines → Later l → IsLegalAfter Two s new (with_tallies s n (spelling l ∷ lines))
+
+      at_shell : (k : ℕ) (c : ShellCounts) → Follows (shell k c)
+      at_shell k c is fits more later =
           shell_step before new n k c (with_tallies s (n + 1) lines) alike number no_tallies is fits
           (λ new' a t. let m : number_of is_shell (shell k c ∷ before) ≡ n + 1 = omega (arith, number) in later new' (n + 1) a m t more)
-      by_line (edge a b) is fits more later =
-          let next : Alike (edge a b ∷ before) (edge a b ∷ new) = record { ended = alike.ended; shells = alike.shells; asks = alike.asks; since = ap (λ ls. edge a b ∷ ls) alike.since } in
-          (edge a b, is, (same.ended ∙ fits.0, (subst (λ x. 0 < x) (sym same.edges) fits.1.0, subst (λ d. FitsEdge d (stand_from_latest Two s new) a b) here (fits_edge _ (stand_from_latest One s before) (stand_from_latest Two s new) a b same fits.1.1))), later (edge a b ∷ new) n next number no_tallies more)
-      by_line (corner []) is fits more later = absurd fits.1
-      by_line (corner (r ∷ rs)) is fits more later =
-          let next : Alike (corner (r ∷ rs) ∷ before) (corner (r ∷ rs) ∷ new) = record { ended = alike.ended; shells = alike.shells; asks = alike.asks; since = ap (λ ls. corner (r ∷ rs) ∷ ls) alike.since } in (
-            corner (r ∷ rs),
-            is,
-            (same.ended ∙ fits.0, (corner_due (stand_from_latest One s before) (stand_from_latest Two s new) same fits.1.0, subst (λ d. FitsCorner d (stand_from_latest Two s new) r rs) here (fits_corner _ (stand_from_latest One s before) (stand_from_latest Two s new) r rs same fits.1.1))),
-            later (corner (r ∷ rs) ∷ new) n next number no_tallies more,
-          )
-      by_line (point a b) is fits more later =
-          let next : Alike (point a b ∷ before) (point a b ∷ new) = record { ended = alike.ended; shells = alike.shells; asks = alike.asks; since = ap (λ ls. point a b ∷ ls) alike.since } in (
-            point a b,
-            is,
-            (same.ended ∙ fits.0, (corner_due (stand_from_latest One s before) (stand_from_latest Two s new) same fits.1.0, subst (λ d. FitsPoint d (stand_from_latest Two s new) a b) here (fits_point _ (stand_from_latest One s before) (stand_from_latest Two s new) a b same fits.1.1))),
-            later (point a b ∷ new) n next number no_tallies more,
-          )
-      by_line (reach r) is fits more later =
-          let next : Alike (reach r ∷ before) (reach r ∷ new) = record { ended = alike.ended; shells = alike.shells; asks = alike.asks; since = ap (λ ls. reach r ∷ ls) alike.since } in (
-            reach r,
-            is,
-            (same.ended ∙ fits.0, (reach_due (stand_from_latest One s before) (stand_from_latest Two s new) same fits.1.0, subst (λ d. FitsReach d (stand_from_latest Two s new) r) here (fits_reach _ (stand_from_latest One s before) (stand_from_latest Two s new) r same fits.1.1))),
-            later (reach r ∷ new) n next number no_tallies more,
-          )
-      by_line (tally t) is fits more later = absurd (omega (arith, fits.1.0.3, no_tally s before))
-      by_line end is fits more later = last lines more
+
+      at_tally : (t : Tally) → Follows (tally t)
+      at_tally t is fits more later = absurd (omega (arith, fits.1.0.3, no_tally s before))
+
+      at_end : Follows end
+      at_end is fits more later = last lines more
         where
           last : (ls : List (List ℕ)) → IsLegalAfter One s (end ∷ before) ls → IsLegalAfter Two s new (with_tallies s n (spelling end ∷ ls))
           last [] h = end_step before new n alike number no_tallies fits is
           last (b ∷ ls) (m, is_m, fits_m, more_m) = absurd (going_on s before fits_m.0)
+
+      at_row : (l : CertLine) → is_shell l ≡ false → is_last l ≡ false → is_tally l ≡ false → Follows l
+      at_row l e f g is fits more later =
+          let next : Alike (l ∷ before) (l ∷ new) = record {
+            ended = ap (λ b. is_last l || b) alike.ended;
+            shells = number_same is_shell l new e ∙ (alike.shells ∙ sym (number_same is_shell l before e));
+            asks = ap (λ o. cond (is_shell l) (Some l) o) alike.asks;
+            since = ap (λ ls. cond (is_shell l) [] (l ∷ ls)) alike.since;
+          } in
+          let counted : number_of is_shell (l ∷ before) ≡ n = number_same is_shell l before e ∙ number in
+          let begun : since_shell (l ∷ new) ≡ l ∷ since_shell new = ap (λ b. cond b [] (l ∷ since_shell new)) e in
+          let untold : number_of is_tally (since_shell (l ∷ new)) ≡ 0 = ap (number_of is_tally) begun ∙ (number_same is_tally l (since_shell new) g ∙ no_tallies) in
+          subst (IsLegalAfter Two s new) (sym (kept_there s n l lines e f))
+          (l, is, (same.ended ∙ fits.0, fits_too s (stand_from_latest One s before) (stand_from_latest Two s new) l e f g same fits.1), later (l ∷ new) n next counted untold more)
+
+      by_tests : (l : CertLine) (a b c : Bool) → is_shell l ≡ a → is_last l ≡ b → is_tally l ≡ c → Follows l
+      by_tests l true b c e f g = let begun = shell_line l e in subst Follows (sym begun.2) (at_shell begun.0 begun.1)
+      by_tests l false true c e f g = subst Follows (sym (end_line l f)) at_end
+      by_tests l false false true e f g = let counts = tally_line l g in subst Follows (sym counts.1) (at_tally counts.0)
+      by_tests l false false false e f g = at_row l e f g
+
+      by_line : (l : CertLine) → Follows l
+      by_line l = by_tests l (is_shell l) (is_last l) (is_tally l) refl refl refl
 
   -- Legal lines of version 1, with TALLY lines, are legal in version 2.
   pub upgrade_legal : (lines : List (List ℕ)) → IsLegal One s lines → IsLegal Two s (with_tallies s 0 lines)

@@ -1,4 +1,4 @@
--- Private: how many rows start at a vertex, and which first; how many loops without an edge lie there, and which last.
+-- How many rows start at a vertex, and which first; how many loops without an edge lie there, and which last.
 use Rattle.std.specs.Prelude.{◌≡◌, ◌<◌, ◌≤◌, ◌+◌, ◌-◌, ◌==◌, ℕ, List, count_by, Contains, if◌then◌else◌, get_or}
 use Rattle.solid_data.specs.declared.solid.FaceAt.{FaceAt}
 use Rattle.solid_data.specs.declared.solid.LoopAt.{LoopAt}

@@ -19,7 +19,7 @@ note-requires c =
 pub rows-preserved : goal.rows-preserved
 rows-preserved c =
     let at : slice_get c.args.mated.now.rows c.rows.i ≡ Some c.row_at.result = ap (λ (d : ShellRows). slice_get d.rows c.rows.i) (sym c.rows-rows.ensures.rows) ∙ c.row_at.ensures in
-    heads_more c.args.mated.now c.rows.i c.rows.heads c.note.new.heads c.row_at.result c.head_behind.result _ c.rows.invariant at c.head_behind.ensures.none c.head_behind.ensures.some c.note.ensures
+    heads_more c.args.mated.now c.rows.i c.rows.heads c.note.new.heads c.row_at.result c.head_after.result _ c.rows.invariant at c.head_after.ensures.none c.head_after.ensures.some c.note.ensures
 
 pub returns : goal.returns
 returns c = heads_all c.args.mated.now c.rows.i c.rows.heads c.requires (omega (arith, c.rows-test.false, c.rows.auto.i-end, c.len-i-end.ensures.count, ap (λ (d : ShellRows). length d.rows) c.rows-rows.ensures.rows)) c.rows.invariant (border_or_mate c.args.mated.now c.requires)
