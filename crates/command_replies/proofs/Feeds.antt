@@ -8,8 +8,6 @@ use Rattle.iges_lines.specs.Feeding.{Fed, IsFed}
 use Rattle.command_replies.specs.Replies.{IsFedTold, IsReply, IsTooLarge}
 use Rattle.command_replies.specs.declared.answer.Answer.TheVariants.{TooLarge}
 use Rattle.command_replies.specs.declared.reply.Reply.{Reply}
-use Rattle.command_replies.specs.Due.{Owed}
-use Rattle.command_replies.proofs.Owing.{owed_so}
 
 -- so many bytes were taken off, and the feed stands for them
 pub record IsFedSoFar (before now : Option (List ℕ)) (feed : Fed) (came : ℕ) : Type 0 where
@@ -36,14 +34,6 @@ too_many limit a b c feed came x reply s k above exact =
     let long = s.long in
     let t = told_above a b c s.bytes x limit s.taken k (let h : limit < length s.bytes + length x = omega (arith, above, long) in h) in
     record { bytes = t.0; told = t.1; owed = (t.2, exact) }
-
--- a reply that bytes are too many is one that is owed of them
-pub large_owed : (owed : List ℕ → Owed) (limit : ℕ) (left : Option (List ℕ)) (reply : Reply) → ((bytes : List ℕ) → limit < length bytes → owed bytes TooLarge []) → IsReply (IsTooLarge limit) left reply → IsReply owed left reply
-large_owed owed limit left reply row large = record {
-  bytes = large.bytes;
-  told = large.told;
-  owed = owed_so (owed large.bytes) TooLarge reply.answer [] reply.text (row large.bytes large.owed.0) large.owed.1.0 large.owed.1.1;
-}
 
 pub read_long : (buf : List ℕ) (count : ℕ) → count ≤ length buf → length (take count buf) ≡ count
 read_long buf count h = omega (arith, h, length-take count buf)

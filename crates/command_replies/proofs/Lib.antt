@@ -1,3 +1,4 @@
+pub mod Replying
 pub mod Feeds
 pub mod Taken
 pub mod One

@@ -10,24 +10,21 @@ use Rattle.brep_walk.specs.SolidOf.{solid_of}
 use Rattle.iges_params.specs.Contents.{Contents}
 use Rattle.solid_check.specs.Closed.{obligations}
 use Rattle.cert_maker.specs.Laws.{IsCertificateText}
-use Rattle.command_replies.specs.declared.answer.Answer.{Answer}
 use Rattle.command_replies.specs.declared.answer.Answer.TheVariants.{Done, No}
 use Rattle.command_replies.specs.Texts.{fail_line}
-use Rattle.command_replies.proofs.Owing.{owed_so}
 use Rattle.iges_solid_cmd.specs.Due.{OfCertify, fails, certified}
 
 module _ (f : Contents) (n : ℕ) where
   -- a place is false
-  pub misplaced_owed : (a : Answer) (t : List ℕ) (x : Failing) → FirstFalse (places f n) x → (a ≡ No) × (t ≡ fail_line x) → OfCertify n f a t
+  pub misplaced_owed : (x : Failing) → FirstFalse (places f n) x → OfCertify n f No (fail_line x)
   unfolding obligations
-  misplaced_owed a t x first exact = owed_so (OfCertify n f) _ _ _ _ (fails x (FirstFalse-append_front (places f n) (solid_obligations (solid_of f n)) x first)) exact.0 exact.1
+  misplaced_owed x first = fails x (FirstFalse-append_front (places f n) (solid_obligations (solid_of f n)) x first)
 
   -- a rule on the shells fails
-  pub unclosed_owed : (a : Answer) (t : List ℕ) (x : Failing) (s : SolidData) → AllHold (places f n) → s ≡ solid_of f n → FirstFalse (solid_obligations s) x → (a ≡ No) × (t ≡ fail_line x) → OfCertify n f a t
+  pub unclosed_owed : (x : Failing) (s : SolidData) → AllHold (places f n) → s ≡ solid_of f n → FirstFalse (solid_obligations s) x → OfCertify n f No (fail_line x)
   unfolding obligations
-  unclosed_owed a t x s placed is first exact =
-      let bad = FirstFalse-append_rest (places f n) (solid_obligations (solid_of f n)) x placed (subst (λ (d : SolidData). FirstFalse (solid_obligations d) x) is first) in
-      owed_so (OfCertify n f) _ _ _ _ (fails x bad) exact.0 exact.1
+  unclosed_owed x s placed is first =
+      fails x (FirstFalse-append_rest (places f n) (solid_obligations (solid_of f n)) x placed (subst (λ (d : SolidData). FirstFalse (solid_obligations d) x) is first))
 
   -- a certificate was made
   pub certified_owed : (t : List ℕ) (s : SolidData) → AllHold (places f n) → s ≡ solid_of f n → AllHold (solid_obligations s) → IsCertificateText f n t → OfCertify n f Done t

@@ -1,14 +1,14 @@
 use Rattle.std.proofs.Common.{rules}
 use Rattle.std.proofs.lemmas.Result.{IfOk-weaker}
 use Rattle.solid_extract.specs.Extracted.{IsExtracted, IsRefused}
-use Rattle.command_replies.proofs.Owing.{owed_so}
+use Rattle.command_replies.proofs.Replying.{reply_owed}
 use Rattle.iges_solid_cmd.specs.Due.{OfExtract, not_extracted, extracted}
 use Rattle.iges_solid_cmd.proofs.extracting.extract_solid.Goals as goal
 
 pub returns-in-Err-Refused : goal.returns-in-Err-Refused
 returns-in-Err-Refused c =
     let fault : IsRefused c.args.file c.args.no c.in-Err-Refused.entity.0 c.in-Err-Refused.reason = search rules in
-    IfOk-weaker c.refused.result _ _ (λ reply exact. owed_so (OfExtract c.args.no c.args.file) _ _ _ _ (not_extracted c.in-Err-Refused.entity.0 c.in-Err-Refused.reason fault) exact.0 exact.1) c.refused.ensures
+    reply_owed (OfExtract c.args.no c.args.file) _ _ c.refused.result (not_extracted c.in-Err-Refused.entity.0 c.in-Err-Refused.reason fault) c.refused.ensures
 
 pub returns : goal.returns
 returns c =

@@ -1,10 +1,10 @@
 use Rattle.std.proofs.Common.{rules}
-use Rattle.std.proofs.lemmas.Result.{IfOk-weaker}
 use Rattle.solid_data.specs.Obligations.{AllHold, FirstFalse}
 use Rattle.brep_walk.specs.Places.{places}
 use Rattle.brep_walk.specs.SolidOf.{solid_of}
 use Rattle.iges_solid_cmd.specs.Texts.{show_text}
 use Rattle.command_replies.proofs.Owing.{owed_so}
+use Rattle.command_replies.proofs.Replying.{reply_owed}
 use Rattle.iges_solid_cmd.specs.Due.{OfShow, unplaced, shown}
 use Rattle.command_replies.specs.declared.answer.Answer.TheVariants.{Done}
 use Rattle.iges_solid_cmd.proofs.showing.show_solid.Goals as goal
@@ -12,7 +12,7 @@ use Rattle.iges_solid_cmd.proofs.showing.show_solid.Goals as goal
 pub returns-in-Err-Fails : goal.returns-in-Err-Fails
 returns-in-Err-Fails c =
     let first : FirstFalse (places c.args.file.now c.args.no) c.in-Err-Fails.failing = search rules in
-    IfOk-weaker c.failed.result _ _ (λ reply exact. owed_so (OfShow c.args.no c.args.file.now) _ _ _ _ (unplaced c.in-Err-Fails.failing first) exact.0 exact.1) c.failed.ensures
+    reply_owed (OfShow c.args.no c.args.file.now) _ _ c.failed.result (unplaced c.in-Err-Fails.failing first) c.failed.ensures
 
 pub returns : goal.returns
 returns c = search (rules, shown, owed_so)
