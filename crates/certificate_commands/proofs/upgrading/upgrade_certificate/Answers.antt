@@ -5,5 +5,5 @@ use Rattle.certificate_commands.proofs.upgrading.upgrade_certificate.Goals as go
 
 pub returns-in-Err-clause-found : goal.returns-in-Err-clause-found
 returns-in-Err-clause-found g c =
-    let large = rw c.in-Err.is at (c.in_ok-bytes_in.ensures {u = tt}).found in
+    let large = rw c.in-Err.is at (c.in_ok-bytes.ensures {u = tt}).found in
     too_large_owed CERT_LIMIT (λ certificate. OfUpgrade certificate c.args.file) _ c.in-Err.reply (λ bytes many. certificate_too_large many) large

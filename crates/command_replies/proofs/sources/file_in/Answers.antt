@@ -5,5 +5,5 @@ use Rattle.command_replies.proofs.sources.file_in.Goals as goal
 
 pub returns-in-Err-clause-found : goal.returns-in-Err-clause-found
 returns-in-Err-clause-found g c =
-    let large = rw c.in-Err.is at (c.in_ok-lines_in.ensures {u = tt}).found in
+    let large = rw c.in-Err.is at (c.in_ok-feed.ensures {u = tt}).found in
     too_large_owed FILE_LIMIT OfNoFile _ c.in-Err.reply (λ bytes many. file_too_large many) large
