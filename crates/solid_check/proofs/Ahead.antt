@@ -1,7 +1,7 @@
 -- What the lines to come show of those before them, in a legal certificate.
 use Rattle.std.specs.Prelude.{◌≡◌, ℕ, zero, suc, ◌-◌, true, false, List, [], ◌∷◌, length, filter_map, option_map, Some, ◌||◌, Bool, cond}
 use Rattle.std.specs.List.{cons_option, list_any}
-use Rattle.std.proofs.Common.{refl, sym, ◌∙◌, ap, arith}
+use Rattle.std.proofs.Common.{refl, sym, ◌∙◌, ap, subst, arith}
 use Rattle.solid_data.specs.SolidData.{SolidData}
 use Rattle.solid_data.specs.declared.solid.LoopAt.{LoopAt}
 use Rattle.solid_data.proofs.Members.{Has, covers}
