@@ -1,5 +1,5 @@
 -- The parts of a book, one after another.
-use Rattle.std.proofs.Common.{◌≡◌, ◌∙◌, ℕ, suc, ◌+◌, ◌≤◌, ◌<◌, false, inl, inr, List, [], ◌∷◌, ◌++◌, flat_map, length, refl, sym, ap, subst, arith, append_assoc}
+use Rattle.std.proofs.Common.{◌≡◌, ◌∙◌, ℕ, suc, ◌+◌, ◌≤◌, ◌<◌, false, inr, List, [], ◌∷◌, ◌++◌, flat_map, length, refl, sym, ap, subst, arith, append_assoc}
 use Rattle.std.specs.Fmt.{digits}
 use Rattle.std.specs.List.{AllByRecursion, AllZip}
 use Rattle.std.specs.List.Sorted.{IsStrictlyIncreasing}

@@ -14,7 +14,6 @@ use Rattle.command_replies.specs.Due.{Exactly, OfFile, Owed}
 use Rattle.iges_solid_cmd.specs.Due.{OfContents, OfSample, sampled, DueOf}
 use Rattle.iges_solid_cmd.specs.OneAnswer.{MayDiffer, OneAnswerIsOwed}
 use Rattle.command_replies.proofs.One.{IsOne, no_file, no_file_one, owed_none}
-use Rattle.iges_params.specs.IsFile.{IsFile}
 use Rattle.iges_solid_cmd.specs.declared.form.Command.TheVariants as command
 use Rattle.command_replies.specs.declared.answer.Answer.TheVariants as answer
 use Rattle.iges_solid_cmd.proofs.Commands.{IsAlike, alike, contents_one}

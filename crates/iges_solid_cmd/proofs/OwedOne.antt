@@ -13,7 +13,6 @@ use Rattle.cert_maker.proofs.OneText.{one_text as one_certificate}
 use Rattle.command_replies.specs.Texts.{fail_line, solid_fail_text}
 use Rattle.iges_solid_cmd.specs.Due.{OfShow, unplaced, shown, OfCertify, fails, certified, OfCertifyAll, no_solid, one_fails, too_many, all_certified}
 use Rattle.command_replies.proofs.One.{IsOne}
-use Rattle.solid_data.specs.Obligations.{FirstFalse}
 use Rattle.cert_maker.specs.declared.book.BookFault.TheVariants as maker
 
 pub show_one : (n : ℕ) (f : Contents) → IsOne (OfShow n f)
