@@ -16,9 +16,9 @@ use Rattle.open_shells.specs.Sound.{IsBorder, IsFan, IsFanned}
 use Rattle.open_shells.specs.Stand.{IsChain, last_of}
 use Rattle.open_shells.specs.Mating.{AreOnce}
 use Rattle.open_shells.specs.FanParts.{IsCycle, IsPath, IsCycleOf, IsPathOf, IsHeadOf}
-use Rattle.vertex_starts.specs.Starting.{AreStarts, ArePoints}
-use Rattle.vertex_starts.specs.declared.starting.Starts.{Starts}
-use Rattle.vertex_starts.specs.declared.starting.Points.{Points}
+use Rattle.shell_tables.specs.Starting.{AreStarts, ArePoints}
+use Rattle.shell_tables.specs.declared.starting.Starts.{Starts}
+use Rattle.shell_tables.specs.declared.starting.Points.{Points}
 use Rattle.open_shells.proofs.OnceMates.{row_once}
 use Rattle.open_shells.proofs.Fans.{one_mate_of, lone_no_mate, chain_no_repeat, chain_leads}
 

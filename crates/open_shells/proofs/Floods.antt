@@ -23,9 +23,9 @@ use Rattle.open_shells.specs.Sound.{IsBorder}
 use Rattle.edge_uses.proofs.Tallies.{set_same, set_other}
 use Rattle.edge_uses.proofs.Turns.{mates_back}
 use Rattle.open_shells.specs.Reaching.{ReachesOne, ReachFrom, ReachesAll}
-use Rattle.open_shells.specs.FaceRows.{IsHead, AreFaceRows}
+use Rattle.shell_tables.specs.FaceRows.{IsHead, AreFaceRows}
 use Rattle.open_shells.specs.Flood.{IsFlood, IsDone, Grows}
-use Rattle.open_shells.proofs.FaceHeads.{one_face, face_low}
+use Rattle.shell_tables.proofs.FaceHeads.{one_face, face_low}
 
 to_reverse : (xs : List ℕ) (y : ℕ) → Has xs y → Has (reverse xs) y
 to_reverse [] y h = absurd h

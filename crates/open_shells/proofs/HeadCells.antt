@@ -11,7 +11,7 @@ use Rattle.open_shells.specs.Sound.{IsBorder}
 use Rattle.open_shells.specs.Mating.{AreOnce}
 use Rattle.open_shells.specs.FanParts.{IsHeadOf, AreHeadCells}
 use Rattle.open_shells.specs.BorderParts.{IsStartOf, AreBorderCells}
-use Rattle.vertex_starts.proofs.StartCells.{IsOnVertices, blank_there, member_within, with_kept}
+use Rattle.shell_tables.proofs.StartCells.{IsOnVertices, blank_there, member_within, with_kept}
 use Rattle.open_shells.proofs.HeadRows.{HeadBefore, head_none, heads_kept, heads_noted, head_done}
 use Rattle.open_shells.proofs.BorderRows.{StartBefore, start_none, starts_step, start_done}
 

@@ -15,7 +15,6 @@ pub mod OpenLists
 pub mod Sound
 pub mod Borders
 pub mod OnceMates
-pub mod FaceHeads
 pub mod Floods
 pub mod FanWalks
 pub mod HeadRows

@@ -14,7 +14,6 @@ pub mod EdgeFaults
 pub mod ReachFaults
 pub mod Reaching
 pub mod Flood
-pub mod FaceRows
 pub mod FanParts
 pub mod BorderParts
 pub mod Listed

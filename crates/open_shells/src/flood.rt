@@ -4,13 +4,13 @@ ghost use Rattle.std.specs.Prelude.{◌≡◌, ◌<◌, ◌≤◌, ◌++◌, ◌
 ghost use Rattle.edge_uses.specs.Closed.{OnFace, AreMates};
 ghost use Rattle.open_shells.specs.Mating.{AreOnce};
 ghost use Rattle.solid_data.proofs.Members.{Has};
-ghost use Rattle.open_shells.specs.FaceRows.{AreFaceRows};
+ghost use Rattle.shell_tables.specs.FaceRows.{AreFaceRows};
 ghost use Rattle.open_shells.specs.Reaching.{row_numbers};
 ghost use Rattle.open_shells.specs.Flood.{IsFlood, IsDone, Grows};
 
-use crate::faces::{FaceRows, face_of};
 use crate::mated::Mated;
 use iges_base::NoMemory;
+use shell_tables::{FaceRows, face_of};
 use solid_data::{RowId, RowList};
 use std::alloc::Global;
 

@@ -7,7 +7,6 @@
 
 mod bordering;
 mod checker;
-mod faces;
 mod fanning;
 mod fault;
 mod fitting;

@@ -11,10 +11,10 @@ ghost use Rattle.open_shells.specs.Flood.{IsFlood, IsDone};
 ghost use Rattle.open_shells.specs.Reaching.{ReachesAll, row_numbers};
 ghost use Rattle.solid_data.specs.declared.TheConstants.{PART_LIMIT};
 
-use crate::faces::face_rows;
 use crate::flood::Flood;
 use crate::mated::Mated;
 use iges_base::NoMemory;
+use shell_tables::face_rows;
 use solid_data::{FaceAt, RowList};
 use std::alloc::Global;
 

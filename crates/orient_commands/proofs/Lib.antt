@@ -5,3 +5,4 @@ pub mod OneOwed
 pub mod Turning
 pub mod OrientDecided
 pub mod SomeOwed
+pub mod Owing

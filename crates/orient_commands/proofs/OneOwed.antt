@@ -22,9 +22,10 @@ use Rattle.face_orient.proofs.Answered.{first_not_all, first_not_one, only_memor
 use Rattle.face_orient.proofs.Lawful.{one_fit, refuses}
 use Rattle.face_orient.proofs.Lines.{line_one}
 use Rattle.command_replies.specs.declared.answer.Answer.{Answer}
-use Rattle.command_replies.specs.Texts.{fail_line, illegal_line}
+use Rattle.command_replies.specs.declared.answer.Answer.TheVariants as answer
+use Rattle.command_replies.specs.Texts.{accepted_line, fail_line, illegal_line}
 use Rattle.command_replies.proofs.One.{IsOne}
-use Rattle.orient_commands.specs.Due.{IsRingLine, HasRing, IsAnswerOf, IsOriented, OfOrientLines, orient_fail_line}
+use Rattle.orient_commands.specs.Due.{IsRingLine, HasRing, IsAnswerOf, IsOriented, OfOrientLines, orient_fail_line, misplaced, unready, oriented, place_fails, uncounted, line_bad, lines_accepted, text_too_large, head_bad, named}
 use Rattle.orient_commands.specs.Laws.{AreSameOrRings, OneOrientation, OneVerifying, OrientationIsAccepted}
 use Rattle.orient_commands.specs.Shells.{IsReady, IsCounted, OfAllShells, FailsInShell}
 use Rattle.orient_commands.specs.Text.{FitsAs, Fits, AreWhole, IsWrong, IsFirstBad, Names, IsBadFirst, IsBadHead}
@@ -108,34 +109,34 @@ names_not text n ls a p bad = first_not n p.head ls a (subst (λ (x : List (List
 -- Verifying.
 
 lines_one : (n : ℕ) (ls : List (List ℕ)) (f : Contents) → IsOne (OfOrientLines n ls f)
-lines_one n ls f a b t u (inl (x, p, e)) (inl (y, q, d)) = (e.0 ∙ sym d.0, e.1 ∙ ap fail_line (FirstFalse-one (places f n) x y p q) ∙ sym d.1)
-lines_one n ls f a b t u (inl (x, p, e)) (inr (inl q)) = absurd (FirstFalse-not_all (places f n) x p q.0)
-lines_one n ls f a b t u (inl (x, p, e)) (inr (inr (inl q))) = absurd (FirstFalse-not_all (places f n) x p q.0)
-lines_one n ls f a b t u (inl (x, p, e)) (inr (inr (inr q))) = absurd (FirstFalse-not_all (places f n) x p q.0)
-lines_one n ls f a b t u (inr (inl p)) (inl (y, q, d)) = absurd (FirstFalse-not_all (places f n) y q p.0)
-lines_one n ls f a b t u (inr (inr (inl p))) (inl (y, q, d)) = absurd (FirstFalse-not_all (places f n) y q p.0)
-lines_one n ls f a b t u (inr (inr (inr p))) (inl (y, q, d)) = absurd (FirstFalse-not_all (places f n) y q p.0)
-lines_one n ls f a b t u (inr (inl (all, x, p, e))) (inr (inl (every, y, q, d))) = (e.0 ∙ sym d.0, e.1 ∙ ap orient_fail_line (shells_one IsCounted CountFails count_one count_not (solid_of f n) x y p q) ∙ sym d.1)
-lines_one n ls f a b t u (inr (inl (all, x, p, e))) (inr (inr (inl q))) = absurd (shells_none IsCounted CountFails count_one count_not (solid_of f n) x p q.1)
-lines_one n ls f a b t u (inr (inl (all, x, p, e))) (inr (inr (inr q))) = absurd (shells_none IsCounted CountFails count_one count_not (solid_of f n) x p q.1)
-lines_one n ls f a b t u (inr (inr (inl p))) (inr (inl (every, y, q, d))) = absurd (shells_none IsCounted CountFails count_one count_not (solid_of f n) y q p.1)
-lines_one n ls f a b t u (inr (inr (inr p))) (inr (inl (every, y, q, d))) = absurd (shells_none IsCounted CountFails count_one count_not (solid_of f n) y q p.1)
-lines_one n ls f a b t u (inr (inr (inl (all, two, bad, p, e)))) (inr (inr (inl (every, both, worse, q, d)))) = (e.0 ∙ sym d.0, e.1 ∙ ap illegal_line (bad_one (solid_of f n) 2 ls bad worse p q) ∙ sym d.1)
-lines_one n ls f a b t u (inr (inr (inl (all, two, bad, p, e)))) (inr (inr (inr (every, both, w, d)))) = absurd (bad_not (solid_of f n) 2 ls bad p w)
-lines_one n ls f a b t u (inr (inr (inr (all, two, w, e)))) (inr (inr (inl (every, both, bad, q, d)))) = absurd (bad_not (solid_of f n) 2 ls bad q w)
-lines_one n ls f a b t u (inr (inr (inr (all, two, w, e)))) (inr (inr (inr (every, both, v, d)))) = (e.0 ∙ sym d.0, e.1 ∙ sym d.1)
+lines_one n ls f a b t u (place_fails x p) (place_fails y q) = (refl, ap fail_line (FirstFalse-one (places f n) x y p q))
+lines_one n ls f a b t u (place_fails x p) (uncounted all y q) = absurd (FirstFalse-not_all (places f n) x p all)
+lines_one n ls f a b t u (place_fails x p) (line_bad all two bad q) = absurd (FirstFalse-not_all (places f n) x p all)
+lines_one n ls f a b t u (place_fails x p) (lines_accepted all two w) = absurd (FirstFalse-not_all (places f n) x p all)
+lines_one n ls f a b t u (uncounted all x p) (place_fails y q) = absurd (FirstFalse-not_all (places f n) y q all)
+lines_one n ls f a b t u (uncounted all x p) (uncounted every y q) = (refl, ap orient_fail_line (shells_one IsCounted CountFails count_one count_not (solid_of f n) x y p q))
+lines_one n ls f a b t u (uncounted all x p) (line_bad every two bad q) = absurd (shells_none IsCounted CountFails count_one count_not (solid_of f n) x p two)
+lines_one n ls f a b t u (uncounted all x p) (lines_accepted every two w) = absurd (shells_none IsCounted CountFails count_one count_not (solid_of f n) x p two)
+lines_one n ls f a b t u (line_bad all two bad p) (place_fails y q) = absurd (FirstFalse-not_all (places f n) y q all)
+lines_one n ls f a b t u (line_bad all two bad p) (uncounted every y q) = absurd (shells_none IsCounted CountFails count_one count_not (solid_of f n) y q two)
+lines_one n ls f a b t u (line_bad all two bad p) (line_bad every both worse q) = (refl, ap illegal_line (bad_one (solid_of f n) 2 ls bad worse p q))
+lines_one n ls f a b t u (line_bad all two bad p) (lines_accepted every both w) = absurd (bad_not (solid_of f n) 2 ls bad p w)
+lines_one n ls f a b t u (lines_accepted all two w) (place_fails y q) = absurd (FirstFalse-not_all (places f n) y q all)
+lines_one n ls f a b t u (lines_accepted all two w) (uncounted every y q) = absurd (shells_none IsCounted CountFails count_one count_not (solid_of f n) y q two)
+lines_one n ls f a b t u (lines_accepted all two w) (line_bad every both bad q) = absurd (bad_not (solid_of f n) 2 ls bad q w)
+lines_one n ls f a b t u (lines_accepted all two w) (lines_accepted every both v) = (refl, refl)
 
 pub verifying_one : OneVerifying
-verifying_one text f a b t u (inl p) (inl q) = (p.1.0 ∙ sym q.1.0, p.1.1 ∙ sym q.1.1)
-verifying_one text f a b t u (inl p) (inr (inl q)) = absurd (omega (arith, p.0, q.0))
-verifying_one text f a b t u (inl p) (inr (inr q)) = absurd (omega (arith, p.0, q.0))
-verifying_one text f a b t u (inr (inl p)) (inl q) = absurd (omega (arith, p.0, q.0))
-verifying_one text f a b t u (inr (inr p)) (inl q) = absurd (omega (arith, p.0, q.0))
-verifying_one text f a b t u (inr (inl (few, bad, p, e))) (inr (inl (less, worse, q, d))) = (e.0 ∙ sym d.0, e.1 ∙ ap illegal_line (first_one (cut_lines text) bad worse p q) ∙ sym d.1)
-verifying_one text f a b t u (inr (inl (few, bad, p, e))) (inr (inr (less, m, ms, named, q))) = absurd (names_not text m ms bad named p)
-verifying_one text f a b t u (inr (inr (few, n, ls, names, p))) (inr (inl (less, bad, q, d))) = absurd (names_not text n ls bad names q)
-verifying_one text f a b t u (inr (inr (few, n, ls, names, p))) (inr (inr (less, m, ms, named, q))) =
-    let same = names_one text n m ls ms names named in
+verifying_one text f a b t u (text_too_large p) (text_too_large q) = (refl, refl)
+verifying_one text f a b t u (text_too_large p) (head_bad few bad q) = absurd (omega (arith, p, few))
+verifying_one text f a b t u (text_too_large p) (named _ _ few m ms names q) = absurd (omega (arith, p, few))
+verifying_one text f a b t u (head_bad few bad p) (text_too_large q) = absurd (omega (arith, few, q))
+verifying_one text f a b t u (head_bad few bad p) (head_bad less worse q) = (refl, ap illegal_line (first_one (cut_lines text) bad worse p q))
+verifying_one text f a b t u (head_bad few bad p) (named _ _ less m ms names q) = absurd (names_not text m ms bad names p)
+verifying_one text f a b t u (named _ _ few n ls names p) (text_too_large q) = absurd (omega (arith, few, q))
+verifying_one text f a b t u (named _ _ few n ls names p) (head_bad less bad q) = absurd (names_not text n ls bad names q)
+verifying_one text f a b t u (named _ _ few n ls names p) (named _ _ less m ms other q) =
+    let same = names_one text n m ls ms names other in
     lines_one m ms f a b t u (subst (λ k. OfOrientLines k ms f a t) same.0 (subst (λ (x : List (List ℕ)). OfOrientLines n x f a t) same.1 p)) q
 
 -- Orienting.
@@ -214,24 +215,24 @@ oriented_one s n a b t u ready p q =
       subst (λ (ls : List (List ℕ)). AllZip AreSameOrRings ls (cut_lines u)) (sym p.names.cut) (subst (AllZip AreSameOrRings (p.names.head ∷ p.lines)) (sym q.names.cut) (inl heads, z)),
     )
 
-same_text : (a b : Answer) (t u : List ℕ) → a ≡ b → t ≡ u → (a ≡ b) × AllZip AreSameOrRings (cut_lines t) (cut_lines u)
-same_text a b t u e d = (e, subst (λ (x : List ℕ). AllZip AreSameOrRings (cut_lines t) (cut_lines x)) d (zip_same (cut_lines t)))
+same_text : (t u : List ℕ) → t ≡ u → AllZip AreSameOrRings (cut_lines t) (cut_lines u)
+same_text t u e = subst (λ (x : List ℕ). AllZip AreSameOrRings (cut_lines t) (cut_lines x)) e (zip_same (cut_lines t))
 
 pub orienting_one : OneOrientation
-orienting_one n f a b t u (inl (x, p, e)) (inl (y, q, d)) = same_text a b t u (e.0 ∙ sym d.0) (e.1 ∙ ap fail_line (FirstFalse-one (places f n) x y p q) ∙ sym d.1)
-orienting_one n f a b t u (inl (x, p, e)) (inr (inl q)) = absurd (FirstFalse-not_all (places f n) x p q.0)
-orienting_one n f a b t u (inl (x, p, e)) (inr (inr q)) = absurd (FirstFalse-not_all (places f n) x p q.0)
-orienting_one n f a b t u (inr (inl p)) (inl (y, q, d)) = absurd (FirstFalse-not_all (places f n) y q p.0)
-orienting_one n f a b t u (inr (inr p)) (inl (y, q, d)) = absurd (FirstFalse-not_all (places f n) y q p.0)
-orienting_one n f a b t u (inr (inl (all, x, p, e))) (inr (inl (every, y, q, d))) = same_text a b t u (e.0 ∙ sym d.0) (e.1 ∙ ap orient_fail_line (shells_one IsReady IsFirstFailing failing_one failing_not (solid_of f n) x y p q) ∙ sym d.1)
-orienting_one n f a b t u (inr (inl (all, x, p, e))) (inr (inr (every, ready, q))) = absurd (shells_none IsReady IsFirstFailing failing_one failing_not (solid_of f n) x p ready)
-orienting_one n f a b t u (inr (inr (all, ready, p))) (inr (inl (every, y, q, d))) = absurd (shells_none IsReady IsFirstFailing failing_one failing_not (solid_of f n) y q ready)
-orienting_one n f a b t u (inr (inr (all, ready, p))) (inr (inr (every, also, q))) = oriented_one (solid_of f n) n a b t u ready p q
+orienting_one n f a b t u (misplaced x p) (misplaced y q) = (refl, same_text t u (ap fail_line (FirstFalse-one (places f n) x y p q)))
+orienting_one n f a b t u (misplaced x p) (unready all y q) = absurd (FirstFalse-not_all (places f n) x p all)
+orienting_one n f a b t u (misplaced x p) (oriented _ _ all ready q) = absurd (FirstFalse-not_all (places f n) x p all)
+orienting_one n f a b t u (unready all x p) (misplaced y q) = absurd (FirstFalse-not_all (places f n) y q all)
+orienting_one n f a b t u (unready all x p) (unready every y q) = (refl, same_text t u (ap orient_fail_line (shells_one IsReady IsFirstFailing failing_one failing_not (solid_of f n) x y p q)))
+orienting_one n f a b t u (unready all x p) (oriented _ _ every ready q) = absurd (shells_none IsReady IsFirstFailing failing_one failing_not (solid_of f n) x p ready)
+orienting_one n f a b t u (oriented _ _ all ready p) (misplaced y q) = absurd (FirstFalse-not_all (places f n) y q all)
+orienting_one n f a b t u (oriented _ _ all ready p) (unready every y q) = absurd (shells_none IsReady IsFirstFailing failing_one failing_not (solid_of f n) y q ready)
+orienting_one n f a b t u (oriented _ _ all ready p) (oriented _ _ every also q) = oriented_one (solid_of f n) n a b t u ready p q
 
 -- What is owed is accepted.
 
 pub orientation_accepted : OrientationIsAccepted
-orientation_accepted n f a text all ready (inl (x, p, e)) few = absurd (FirstFalse-not_all (places f n) x p all)
-orientation_accepted n f a text all ready (inr (inl (holds, x, p, e))) few = absurd (shells_none IsReady IsFirstFailing failing_one failing_not (solid_of f n) x p ready)
-orientation_accepted n f a text all ready (inr (inr (holds, also, o))) few =
-    inr (inr (few, n, o.lines, o.names, inr (inr (inr (all, (λ k lt. (ready k lt).counted), o.whole, (refl, refl))))))
+orientation_accepted n f a text all ready (misplaced x p) few = absurd (FirstFalse-not_all (places f n) x p all)
+orientation_accepted n f a text all ready (unready holds x p) few = absurd (shells_none IsReady IsFirstFailing failing_one failing_not (solid_of f n) x p ready)
+orientation_accepted n f a text all ready (oriented _ _ holds also o) few =
+    named answer.Done (accepted_line n) few n o.lines o.names (lines_accepted all (λ k lt. (ready k lt).counted) o.whole)

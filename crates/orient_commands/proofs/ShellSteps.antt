@@ -1,7 +1,7 @@
 -- What is first false of the shells, and lines of a shell.
 use Rattle.std.specs.Prelude.{◌≡◌, ◌↔◌, ℕ, suc, zero, ◌+◌, ◌<◌, ◌^◌, Bool, List, [], ◌∷◌, length, map, drop, Option, None, Some, slice_get, Result, Ok, Err, IfOk, IsTrue}
 use Rattle.std.specs.List.{AllByRecursion, AllZip}
-use Rattle.std.proofs.Common.{refl, sym, ◌∙◌, ap, subst, arith, inr, ⊎_elim, get_or}
+use Rattle.std.proofs.Common.{refl, sym, ◌∙◌, ap, subst, arith, ⊎_elim, get_or}
 use Rattle.std.proofs.lemmas.Bool.{cases_order}
 use Rattle.std.proofs.lemmas.List.{length-map}
 use Rattle.std.proofs.lemmas.Option.{slice_get_within}
@@ -33,7 +33,7 @@ use Rattle.face_orient.specs.declared.line.OrientLine.{OrientLine}
 use Rattle.face_orient.specs.declared.line.OrientLine.TheVariants.{Flags, Ring}
 use Rattle.face_orient.proofs.Answered.{some_faces}
 use Rattle.command_replies.specs.declared.answer.Answer.{Answer}
-use Rattle.orient_commands.specs.Due.{IsOriented, OfOrient}
+use Rattle.orient_commands.specs.Due.{IsOriented, OfOrient, oriented}
 use Rattle.orient_commands.specs.Shells.{IsReady, OfAllShells, FailsInShell}
 use Rattle.orient_commands.specs.Text.{FitsAs, NameOddRing}
 
@@ -153,4 +153,4 @@ flags_spelled s k flags numbered lt fit =
 pub orient_owed : (f : Contents) (n : ℕ) (s : SolidData) (a : Answer) (t : List ℕ) → s ≡ solid_of f n → AllHold (places f n) → OfAllShells IsReady s → IsOriented s s.entity.0 a t → OfOrient n f a t
 unfolding solid_of
 orient_owed f n s a t e holds ready text =
-    inr (inr (holds, subst (OfAllShells IsReady) e ready, subst (λ (x : SolidData). IsOriented x x.entity.0 a t) e text))
+    oriented a t holds (subst (OfAllShells IsReady) e ready) (subst (λ (x : SolidData). IsOriented x x.entity.0 a t) e text)

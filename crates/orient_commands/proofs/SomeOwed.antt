@@ -35,7 +35,7 @@ use Rattle.face_orient.proofs.Lawful.{flags_or}
 use Rattle.command_replies.specs.declared.answer.Answer.TheVariants as answer
 use Rattle.command_replies.specs.Texts.{fail_line, illegal_line, accepted_line}
 use Rattle.command_replies.proofs.SomeDue.{longer}
-use Rattle.orient_commands.specs.Due.{IsOriented, OfOrient, OfOrientLines, OfOrientVerify, orient_fail_line}
+use Rattle.orient_commands.specs.Due.{IsOriented, OfOrient, OfOrientLines, OfOrientVerify, orient_fail_line, misplaced, unready, place_fails, uncounted, line_bad, lines_accepted, text_too_large, head_bad, named}
 use Rattle.orient_commands.specs.Laws.{IsSome, SomeOrientation, SomeVerifying}
 use Rattle.orient_commands.specs.Reading.{IsBegun}
 use Rattle.orient_commands.specs.Shells.{IsReady, IsCounted, OfAllShells, FailsInShell}
@@ -135,24 +135,24 @@ lines_due : (n : ℕ) (lines : List (List ℕ)) (f : Contents) → IsSome (OfOri
 lines_due n lines f = by_places (all_or_first_false (places f n) (places_decided f n))
   where
     by_lines : AllHold (places f n) → OfAllShells IsCounted (solid_of f n) → AreWhole (solid_of f n) 2 lines ⊎ ((bad : Illegal) × IsFirstBad (solid_of f n) 2 lines bad) → IsSome (OfOrientLines n lines f)
-    by_lines all two (inl whole) = (answer.Done, accepted_line n, inr (inr (inr (all, two, whole, (refl, refl)))))
-    by_lines all two (inr (bad, first)) = (answer.No, illegal_line bad, inr (inr (inl (all, two, bad, first, (refl, refl)))))
+    by_lines all two (inl whole) = (answer.Done, accepted_line n, lines_accepted all two whole)
+    by_lines all two (inr (bad, first)) = (answer.No, illegal_line bad, line_bad all two bad first)
 
     by_shells : AllHold (places f n) → OfAllShells IsCounted (solid_of f n) ⊎ ((x : OrientFailing) × FailsInShell IsCounted CountFails (solid_of f n) x) → IsSome (OfOrientLines n lines f)
     by_shells all (inl two) = by_lines all two (whole_or_bad (solid_of f n) lines)
-    by_shells all (inr (x, fails)) = (answer.No, orient_fail_line x, inr (inl (all, x, fails, (refl, refl))))
+    by_shells all (inr (x, fails)) = (answer.No, orient_fail_line x, uncounted all x fails)
 
     by_places : AllHold (places f n) ⊎ ((x : Failing) × FirstFalse (places f n) x) → IsSome (OfOrientLines n lines f)
     by_places (inl all) = by_shells all (shells_or_fail IsCounted CountFails (solid_of f n) (count_or_fail (solid_of f n)))
-    by_places (inr (x, bad)) = (answer.No, fail_line x, inl (x, bad, (refl, refl)))
+    by_places (inr (x, bad)) = (answer.No, fail_line x, place_fails x bad)
 
 pub verifying_due : SomeVerifying
 verifying_due text f = by_limit (decided_within (length text) CERT_LIMIT) (head_or_bad text (cut_lines text) refl)
   where
     by_limit : Decided (length text ≤ CERT_LIMIT) → ((n : ℕ) × (lines : List (List ℕ)) × Names text n lines) ⊎ ((bad : Illegal) × IsBadHead text bad) → IsSome (OfOrientVerify text f)
-    by_limit (inr more) head = (answer.TooLarge, [], inl (longer (length text) CERT_LIMIT more, (refl, refl)))
-    by_limit (inl few) (inr (bad, wrong)) = (answer.No, illegal_line bad, inr (inl (few, bad, wrong, (refl, refl))))
-    by_limit (inl few) (inl (n, lines, names)) = let due = lines_due n lines f in (due.0, due.1, inr (inr (few, n, lines, names, due.2)))
+    by_limit (inr more) head = (answer.TooLarge, [], text_too_large (longer (length text) CERT_LIMIT more))
+    by_limit (inl few) (inr (bad, wrong)) = (answer.No, illegal_line bad, head_bad few bad wrong)
+    by_limit (inl few) (inl (n, lines, names)) = let due = lines_due n lines f in (due.0, due.1, named due.0 due.1 few n lines names due.2)
 
 -- Orienting.
 
@@ -192,8 +192,8 @@ orienting_due n f limits = by_places (all_or_first_false (places f n) (places_de
     by_shells all (inl ready) =
         let text = some_text (solid_of f n) (solid_is_numbered f n all (has_few_parts f n limits all)) ready in
         (text.0, text.1, orient_owed f n (solid_of f n) text.0 text.1 refl all ready text.2)
-    by_shells all (inr (x, fails)) = (answer.No, orient_fail_line x, inr (inl (all, x, fails, (refl, refl))))
+    by_shells all (inr (x, fails)) = (answer.No, orient_fail_line x, unready all x fails)
 
     by_places : AllHold (places f n) ⊎ ((x : Failing) × FirstFalse (places f n) x) → IsSome (OfOrient n f)
     by_places (inl all) = by_shells all (shells_or_fail IsReady IsFirstFailing (solid_of f n) (ready_or_fail (solid_of f n)))
-    by_places (inr (x, bad)) = (answer.No, fail_line x, inl (x, bad, (refl, refl)))
+    by_places (inr (x, bad)) = (answer.No, fail_line x, misplaced x bad)

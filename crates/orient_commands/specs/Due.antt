@@ -14,7 +14,6 @@ use Rattle.face_orient.specs.declared.fault.OrientFailing.{OrientFailing}
 use Rattle.face_orient.specs.declared.line.OrientLine.TheVariants.{Ring}
 use Rattle.command_replies.specs.declared.answer.Answer.{Answer}
 use Rattle.command_replies.specs.declared.answer.Answer.TheVariants as answer
-use Rattle.command_replies.specs.Due.{Owed, Exactly}
 use Rattle.command_replies.specs.Texts.{accepted_line, fail_line, fail_text, illegal_line}
 use Rattle.orient_commands.specs.Shells.{IsReady, IsCounted, OfAllShells, IsFirstUnready, IsFirstUncounted}
 use Rattle.orient_commands.specs.Text.{AreWhole, IsFirstBad, Names, IsBadHead}
@@ -43,24 +42,31 @@ pub record IsOriented (s : SolidData) (n : ℕ) (a : Answer) (text : List ℕ) :
   pub whole : AreWhole s 2 lines
   pub answer : IsAnswerOf lines a
 
--- what is owed of orienting solid n: the first place that is false, the first rule that fails of a shell, or an orientation
-abbrev pub OfOrient : ℕ → Contents → Owed
-OfOrient n f a t =
-    ((x : Failing) × FirstFalse (places f n) x × Exactly answer.No (fail_line x) a t)
-    ⊎ (AllHold (places f n) × (x : OrientFailing) × IsFirstUnready (solid_of f n) x × Exactly answer.No (orient_fail_line x) a t)
-    ⊎ (AllHold (places f n) × OfAllShells IsReady (solid_of f n) × IsOriented (solid_of f n) n a t)
+-- what is owed of orienting solid n
+pub data OfOrient (n : ℕ) (f : Contents) : Answer → List ℕ → Type 0 where
+  -- the first place that is false
+  misplaced : (x : Failing) → FirstFalse (places f n) x → OfOrient n f answer.No (fail_line x)
+  -- the first rule that fails of a shell
+  unready : AllHold (places f n) → (x : OrientFailing) → IsFirstUnready (solid_of f n) x → OfOrient n f answer.No (orient_fail_line x)
+  -- an orientation
+  oriented : (a : Answer) (text : List ℕ) → AllHold (places f n) → OfAllShells IsReady (solid_of f n) → IsOriented (solid_of f n) n a text → OfOrient n f a text
 
--- what is owed of lines from line 2 on, after one that names solid n: the first place that is false, the first shell's COUNT that fails, the first bad line, or that they are accepted
-abbrev pub OfOrientLines : ℕ → List (List ℕ) → Contents → Owed
-OfOrientLines n lines f a t =
-    ((x : Failing) × FirstFalse (places f n) x × Exactly answer.No (fail_line x) a t)
-    ⊎ (AllHold (places f n) × (x : OrientFailing) × IsFirstUncounted (solid_of f n) x × Exactly answer.No (orient_fail_line x) a t)
-    ⊎ (AllHold (places f n) × OfAllShells IsCounted (solid_of f n) × (bad : Illegal) × IsFirstBad (solid_of f n) 2 lines bad × Exactly answer.No (illegal_line bad) a t)
-    ⊎ (AllHold (places f n) × OfAllShells IsCounted (solid_of f n) × AreWhole (solid_of f n) 2 lines × Exactly answer.Done (accepted_line n) a t)
+-- what is owed of lines from line 2 on, after one that names solid n
+pub data OfOrientLines (n : ℕ) (lines : List (List ℕ)) (f : Contents) : Answer → List ℕ → Type 0 where
+  -- the first place that is false
+  place_fails : (x : Failing) → FirstFalse (places f n) x → OfOrientLines n lines f answer.No (fail_line x)
+  -- the first shell's COUNT that fails
+  uncounted : AllHold (places f n) → (x : OrientFailing) → IsFirstUncounted (solid_of f n) x → OfOrientLines n lines f answer.No (orient_fail_line x)
+  -- the first bad line
+  line_bad : AllHold (places f n) → OfAllShells IsCounted (solid_of f n) → (bad : Illegal) → IsFirstBad (solid_of f n) 2 lines bad → OfOrientLines n lines f answer.No (illegal_line bad)
+  -- that they are accepted
+  lines_accepted : AllHold (places f n) → OfAllShells IsCounted (solid_of f n) → AreWhole (solid_of f n) 2 lines → OfOrientLines n lines f answer.Done (accepted_line n)
 
--- what is owed of verifying the text of an orientation: that it is too large, what is wrong with line 1, or what is owed of the lines after it
-abbrev pub OfOrientVerify : List ℕ → Contents → Owed
-OfOrientVerify text f a t =
-    ((CERT_LIMIT < length text) × Exactly answer.TooLarge [] a t)
-    ⊎ ((length text ≤ CERT_LIMIT) × (bad : Illegal) × IsBadHead text bad × Exactly answer.No (illegal_line bad) a t)
-    ⊎ ((length text ≤ CERT_LIMIT) × (n : ℕ) × (lines : List (List ℕ)) × Names text n lines × OfOrientLines n lines f a t)
+-- what is owed of verifying the text of an orientation
+pub data OfOrientVerify (text : List ℕ) (f : Contents) : Answer → List ℕ → Type 0 where
+  -- that it is too large
+  text_too_large : CERT_LIMIT < length text → OfOrientVerify text f answer.TooLarge []
+  -- what is wrong with line 1
+  head_bad : length text ≤ CERT_LIMIT → (bad : Illegal) → IsBadHead text bad → OfOrientVerify text f answer.No (illegal_line bad)
+  -- what is owed of the lines after it
+  named : (a : Answer) (t : List ℕ) → length text ≤ CERT_LIMIT → (n : ℕ) (lines : List (List ℕ)) → Names text n lines → OfOrientLines n lines f a t → OfOrientVerify text f a t

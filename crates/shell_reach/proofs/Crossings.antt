@@ -17,7 +17,7 @@ use Rattle.edge_uses.specs.Closed.{AreMates, OnFace}
 use Rattle.edge_uses.specs.Mates.{ArePaired, HaveMates}
 use Rattle.edge_uses.proofs.Steps.{numbers_more}
 use Rattle.edge_uses.proofs.Turn.{one_mate, has_mate, paired_rows}
-use Rattle.shell_reach.specs.FaceRows.{IsHead}
+use Rattle.shell_tables.specs.FaceRows.{IsHead}
 use Rattle.shell_reach.specs.BreadthFirst.{face_of, across, on_new_faces, IsBreadthFirst}
 use Rattle.shell_reach.specs.Flood.{IsFlood, Grows, HasCrossed, Crosses, mate_at, across_place, across_all}
 

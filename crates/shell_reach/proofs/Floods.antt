@@ -21,9 +21,9 @@ use Rattle.edge_uses.proofs.Turn.{one_mate, paired_rows}
 use Rattle.edge_uses.proofs.Tallies.{set_same, set_other}
 use Rattle.edge_uses.proofs.Turns.{mates_back}
 use Rattle.shell_reach.specs.Reaching.{ReachesOne, ReachFrom, ReachesAll}
-use Rattle.shell_reach.specs.FaceRows.{IsHead, AreFaceRows}
+use Rattle.shell_tables.specs.FaceRows.{IsHead, AreFaceRows}
 use Rattle.shell_reach.specs.Flood.{IsFlood, IsDone, Grows}
-use Rattle.shell_reach.proofs.FaceHeads.{one_face, face_low}
+use Rattle.shell_tables.proofs.FaceHeads.{one_face, face_low}
 
 to_reverse : (xs : List ℕ) (y : ℕ) → Has xs y → Has (reverse xs) y
 to_reverse [] y h = absurd h

@@ -4,14 +4,14 @@ ghost use Rattle.std.specs.Prelude.{◌≡◌, ◌<◌, ◌≤◌, ◌++◌, ◌
 ghost use Rattle.edge_uses.specs.Closed.{OnFace, AreMates};
 ghost use Rattle.edge_uses.specs.Mates.{ArePaired};
 ghost use Rattle.solid_data.proofs.Members.{Has};
-ghost use Rattle.shell_reach.specs.FaceRows.{AreFaceRows};
+ghost use Rattle.shell_tables.specs.FaceRows.{AreFaceRows};
 ghost use Rattle.shell_reach.specs.Reaching.{row_numbers};
 ghost use Rattle.shell_reach.specs.BreadthFirst.{across};
 ghost use Rattle.shell_reach.specs.Flood.{IsFlood, IsDone, Grows, HasCrossed, Crosses, mate_at, across_place, across_all};
 
-use crate::faces::{FaceRows, face_of};
 use edge_uses::Paired;
 use iges_base::NoMemory;
+use shell_tables::{FaceRows, face_of};
 use solid_data::{RowId, RowList};
 use std::alloc::Global;
 

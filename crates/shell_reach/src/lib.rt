@@ -4,7 +4,6 @@
 //! face is a neighbour of another where a row of the one has its mate on the other.
 #![tactic(auto)]
 
-mod faces;
 mod fault;
 mod flood;
 mod law;

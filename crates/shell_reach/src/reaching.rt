@@ -12,11 +12,11 @@ ghost use Rattle.shell_reach.specs.Flood.{IsFlood, IsDone};
 ghost use Rattle.shell_reach.specs.Reaching.{ReachesAll, row_numbers};
 ghost use Rattle.solid_data.specs.declared.TheConstants.{PART_LIMIT};
 
-use crate::faces::face_rows;
 use crate::fault::ReachFault;
 use crate::flood::Flood;
 use edge_uses::Paired;
 use iges_base::NoMemory;
+use shell_tables::face_rows;
 use solid_data::{FaceAt, RowList};
 use std::alloc::Global;
 

@@ -18,10 +18,10 @@ use Rattle.solid_data.proofs.Trail.{Trail, trail_from_zip, trail_keeps, no_repea
 use Rattle.edge_uses.proofs.Cycle.{AreTurning, on_trail, cycle_of_corner, zip_from_trail}
 use Rattle.edge_uses.proofs.Turn.{turning}
 use Rattle.edge_uses.proofs.RowNumbers.{starting, length-starting, starting_has, starting_none, starting_is}
-use Rattle.vertex_starts.specs.declared.starting.Starts.{Starts}
-use Rattle.vertex_starts.specs.declared.starting.Points.{Points}
+use Rattle.shell_tables.specs.declared.starting.Starts.{Starts}
+use Rattle.shell_tables.specs.declared.starting.Points.{Points}
 use Rattle.vertex_link.specs.Cycles.{IsCycle, IsCycleOf}
-use Rattle.vertex_starts.specs.Starting.{AreStarts, ArePoints}
+use Rattle.shell_tables.specs.Starting.{AreStarts, ArePoints}
 
 abbrev rows_at : ShellRows → ℕ → List ℕ
 rows_at d v = starting v 0 d.rows

@@ -6,16 +6,16 @@ ghost use Rattle.edge_uses.specs.Closed.{IsLinked};
 ghost use Rattle.edge_uses.specs.Mates.{ArePaired};
 ghost use Rattle.vertex_link.specs.Corners.{AreLinks};
 ghost use Rattle.vertex_link.specs.Faults.{IsLinkFault};
-ghost use Rattle.vertex_starts.specs.Starting.{AreStartCells, ArePointCells};
+ghost use Rattle.shell_tables.specs.Starting.{AreStartCells, ArePointCells};
 
 use crate::corners::Links;
 use crate::fault::LinkFault;
 use crate::walking::corner_at;
 use edge_uses::{Cells, Paired, vertex_at};
 use iges_base::NoMemory;
+use shell_tables::{Points, Starts, all_points, all_starts, points_at, starts_at};
 use solid_data::{Corner, Corners};
 use std::alloc::Global;
-use vertex_starts::{Points, Starts, all_points, all_starts, points_at, starts_at};
 
 fn push_corner(corners: &mut Corners, corner: Corner) -> Result<(), NoMemory>
     ensures { IfOk result (λ _. corners.new ≡ corners.old ++ corner ∷ []) }

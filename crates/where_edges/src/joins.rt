@@ -7,13 +7,14 @@ ghost use Rattle.where_edges.specs.Join.{face_number, faces_in, gap_face, gap_he
 
 use crate::lines::{
     key_of, put_curve_words, put_edge_words, put_face_fact, put_rule_words, put_vertex_fact,
-    shown_members, vertex_key,
 };
 use iges_base::{EntryNo, NoMemory, Out};
 use iges_params::File;
 use solid_data::{FaceUse, Loop, LoopAt, LoopUse, Rule, ShellAt, Solid};
-use solid_faults::{Gap, ends_at, starts_at};
-use where_text::{EntryNumbers, Listing, put_more_items, put_number, put_rule_sentence, put_word};
+use solid_faults::{Gap, ends_at, starts_at, vertex_name};
+use where_text::{
+    EntryNumbers, Listing, put_more_items, put_number, put_rule_sentence, put_word, shown_members,
+};
 
 fn put_use_words(out: &mut Out, file: &File, solid: &Solid, item: LoopUse) -> Result<(), NoMemory>
     ensures { OnOk result (out.new ≡ out.old ++ use_words file.now solid.now item) }
@@ -28,7 +29,7 @@ fn put_use_words(out: &mut Out, file: &File, solid: &Solid, item: LoopUse) -> Re
             put_curve_words(out, file, key)
         }
         LoopUse::VertexUse { vertex } => {
-            let key = vertex_key(solid, vertex.0);
+            let key = vertex_name(solid, vertex.0);
             out.put(b" vertex")?;
             put_number(out, u64::from(key.list.0))?;
             put_number(out, u64::from(key.index))

@@ -10,10 +10,9 @@ ghost use Rattle.where_text.specs.Listing.{shown, shown_count};
 use brep_lists::int_at;
 use iges_base::{EntryNo, NoMemory, Out};
 use iges_params::File;
-use solid_data::{Edge, EdgeKey, ShellAt, Solid, VertexId, VertexKey};
-use where_text::{
-    EntryNumbers, Listing, put_face, put_number, put_signed, put_type, put_vertex, put_word,
-};
+use solid_data::{Edge, EdgeKey, ShellAt, Solid};
+use solid_faults::vertex_name;
+use where_text::{EntryNumbers, put_face, put_number, put_signed, put_type, put_vertex, put_word};
 
 /// The head of a rule's paragraph up to the count of its faults.
 pub fn put_rule_words(
@@ -39,19 +38,6 @@ pub fn key_of(edge: Option<&Edge>) -> EdgeKey
     match edge {
         Some(edge) => edge.key,
         None => EdgeKey {
-            list: EntryNo(0),
-            index: 0,
-        },
-    }
-}
-
-/// What a vertex is in the file; the list 0 where the solid hasn't the vertex.
-pub fn vertex_key(solid: &Solid, vertex: u32) -> VertexKey
-    ensures { result ≡ vertex_name (slice_get solid.now.vertices vertex) }
-{
-    match solid.vertex(VertexId(vertex)) {
-        Some(key) => key,
-        None => VertexKey {
             list: EntryNo(0),
             index: 0,
         },
@@ -117,21 +103,6 @@ pub fn put_vertex_fact(
 {
     out.put(b" ")?;
     put_word(out, word)?;
-    put_vertex(out, file, vertex_key(solid, vertex))?;
+    put_vertex(out, file, vertex_name(solid, vertex))?;
     out.put(b"\n")
-}
-
-fn shown_length(listing: Listing, len: usize) -> usize
-    ensures count { result ≡ shown_count listing len }
-    ensures few { result ≤ len }
-{
-    listing.count(len)
-}
-
-/// The members of a list that are written, the first ones.
-pub fn shown_members<T>(listing: Listing, members: &[T]) -> &[T]
-    ensures { result.now ≡ shown listing members.now }
-{
-    let count = shown_length(listing, members.len());
-    &members[..count]
 }

@@ -8,9 +8,7 @@ ghost use Rattle.solid_faults.specs.RowPlaces.{places_in};
 ghost use Rattle.std.specs.Prelude.{◌≡◌, ℕ, ◌<◌, ◌++◌, ◌∷◌, [], OnOk, flat_map, length, option_copied, slice_get};
 ghost use Rattle.where_edges.specs.Pair.{count_words, edge_facts, edge_head, edge_named, edge_text, edges_named, edges_text, flag_in, flag_words, pair_named, pair_text, place_fact, row_fact, row_facts, row_named, rows_named, tuple_words, way_word};
 
-use crate::lines::{
-    key_of, put_curve_words, put_edge_words, put_rule_words, put_vertex_fact, shown_members,
-};
+use crate::lines::{key_of, put_curve_words, put_edge_words, put_rule_words, put_vertex_fact};
 use edge_uses::Rows;
 use iges_base::{NoMemory, Out};
 use iges_params::File;
@@ -19,7 +17,7 @@ use solid_faults::{Groups, RowPlace, Unpaired, begins_at, row_places, rows_by_ed
 use std::alloc::Global;
 use where_text::{
     EntryNumbers, Listing, put_face, put_more_facts, put_more_items, put_number, put_rule_sentence,
-    put_word,
+    put_word, shown_members,
 };
 
 fn way_word(along: bool) -> &'static str

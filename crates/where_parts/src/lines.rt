@@ -6,7 +6,8 @@ ghost use Rattle.where_parts.specs.Lines.{count_words, face_line, head_lines, ru
 
 use iges_base::{EntryNo, NoMemory, Out};
 use iges_params::File;
-use solid_data::{Rule, ShellAt, Solid, VertexId, VertexKey};
+use solid_data::{Rule, ShellAt, Solid};
+use solid_faults::vertex_name;
 use where_text::{EntryNumbers, put_face, put_number, put_rule_sentence, put_vertex, put_word};
 
 /// A word, and how many.
@@ -37,19 +38,6 @@ pub fn put_head(out: &mut Out, rule: Rule, shell: ShellAt, faults: usize) -> Res
     put_rule_sentence(out, rule)
 }
 
-/// What a vertex of the solid is in the file; a key of zeros for a number that it hasn't.
-pub fn key_of(solid: &Solid, vertex: u32) -> VertexKey
-    ensures { result ≡ vertex_name (slice_get solid.now.vertices vertex) }
-{
-    match solid.vertex(VertexId(vertex)) {
-        Some(key) => key,
-        None => VertexKey {
-            list: EntryNo(0),
-            index: 0,
-        },
-    }
-}
-
 /// A vertex after a word.
 pub fn put_vertex_line(
     out: &mut Out,
@@ -61,7 +49,7 @@ pub fn put_vertex_line(
     ensures { OnOk result (out.new ≡ out.old ++ vertex_line word.now file.now solid.now vertex) }
 {
     out.put(word.as_bytes())?;
-    put_vertex(out, file, key_of(solid, vertex))?;
+    put_vertex(out, file, vertex_name(solid, vertex))?;
     out.put(b"\n")
 }
 

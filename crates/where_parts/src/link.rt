@@ -9,12 +9,12 @@ ghost use Rattle.where_text.specs.Listing.{shown};
 ghost use Rattle.vertex_facts.specs.FanFacts.{AreVertexTables};
 ghost use Rattle.where_parts.specs.Link.{edge_words, fact_faces, fact_line, faces_in, link_lines, link_named, link_text, loop_words, place_faces, place_words, point_line, row_line, row_words, unlinked_lines, unlinked_named, unlinked_text, walk_faces, walk_words};
 
-use crate::lines::{key_of, put_count, put_head};
+use crate::lines::{put_count, put_head};
 use edge_uses::{Paired, Row, Rows};
-use iges_base::{EntryNo, NoMemory, Out};
+use iges_base::{NoMemory, Out};
 use iges_params::File;
-use solid_data::{EdgeId, EdgeKey, FaceUse, Loop, LoopAt, RowId, Rule, ShellAt, Solid};
-use solid_faults::{Linking, RowPlace, Unlinked, row_places};
+use solid_data::{EdgeKey, FaceUse, Loop, LoopAt, RowId, Rule, ShellAt, Solid};
+use solid_faults::{Linking, RowPlace, Unlinked, edge_name, row_places, vertex_name};
 use std::alloc::Global;
 use vertex_facts::{AtVertex, VertexTables, around, vertex_tables};
 use where_text::{
@@ -40,18 +40,6 @@ fn put_place(
     put_count(out, " tuple", place.tuple as usize)
 }
 
-fn edge_key(solid: &Solid, edge: EdgeId) -> EdgeKey
-    ensures { result ≡ edge_name (slice_get solid.now.edges edge.0) }
-{
-    match solid.edge(edge) {
-        Some(edge) => edge.key,
-        None => EdgeKey {
-            list: EntryNo(0),
-            index: 0,
-        },
-    }
-}
-
 fn put_edge(out: &mut Out, key: EdgeKey) -> Result<(), NoMemory>
     ensures { OnOk result (out.new ≡ out.old ++ edge_words key) }
 {
@@ -66,9 +54,9 @@ fn put_row(out: &mut Out, file: &File, solid: &Solid, row: Option<Row>) -> Resul
     let Some(row) = row else {
         return Ok(());
     };
-    put_edge(out, edge_key(solid, row.edge))?;
+    put_edge(out, edge_name(solid, row.edge))?;
     out.put(b" to")?;
-    put_vertex(out, file, key_of(solid, row.to.0))
+    put_vertex(out, file, vertex_name(solid, row.to.0))
 }
 
 fn put_loop(out: &mut Out, walk: Option<&Loop>) -> Result<(), NoMemory>
@@ -215,7 +203,7 @@ fn put_unlinked_lines(
 {
     let count = listing.count(facts.len());
     out.put(b"vertex")?;
-    put_vertex(out, file, key_of(solid, vertex.vertex.0))?;
+    put_vertex(out, file, vertex_name(solid, vertex.vertex.0))?;
     put_count(out, " fans", vertex.fans as usize)?;
     put_count(out, " points", vertex.points as usize)?;
     out.put(b"\n")?;

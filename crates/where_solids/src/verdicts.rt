@@ -14,11 +14,8 @@ ghost use Rattle.where_solids.specs.AllFaults.{AreAllFaults};
 ghost use Rattle.solid_data.specs.declared.TheConstants.{PART_LIMIT};
 
 use crate::all_faults::{AllFaults, shell_at};
-use iges_fields::EntryNo;
-use solid_data::{
-    EdgeId, EdgeKey, FaceUse, Failing, Rule, Shell, Solid, Verdict, VertexId, VertexKey,
-};
-use solid_faults::{Gap, Linking, ShellFaults, Unlinked, Unpaired};
+use solid_data::{FaceUse, Failing, Rule, Shell, Solid, Verdict};
+use solid_faults::{Gap, Linking, ShellFaults, Unlinked, Unpaired, edge_name, vertex_name};
 
 fn first_gap(gaps: &[Gap]) -> Option<Failing>
     ensures { MatchOption result (map gap_failing gaps.now ≡ [])
@@ -32,19 +29,6 @@ fn first_gap(gaps: &[Gap]) -> Option<Failing>
         entity: gap.entity,
         place: gap.tuple,
     })
-}
-
-// The list and the index of an edge; both are 0 where the solid hasn't got it.
-fn edge_name(solid: &Solid, edge: EdgeId) -> EdgeKey
-    ensures { result ≡ edge_name (slice_get solid.now.edges edge.0) }
-{
-    match solid.edge(edge) {
-        Some(edge) => edge.key,
-        None => EdgeKey {
-            list: EntryNo(0),
-            index: 0,
-        },
-    }
 }
 
 fn first_unpaired(solid: &Solid, unpaired: &[Unpaired]) -> Option<Failing>
@@ -78,19 +62,6 @@ fn first_apart(faces: &[FaceUse], firsts: &[u32]) -> Option<Failing>
         }
     }
     None
-}
-
-// The list and the index of a vertex; both are 0 where the solid hasn't got it.
-fn vertex_name(solid: &Solid, vertex: u32) -> VertexKey
-    ensures { result ≡ vertex_name (slice_get solid.now.vertices vertex) }
-{
-    match solid.vertex(VertexId(vertex)) {
-        Some(key) => key,
-        None => VertexKey {
-            list: EntryNo(0),
-            index: 0,
-        },
-    }
 }
 
 // That a rule fails at a vertex: the entity is its list, the place its index.

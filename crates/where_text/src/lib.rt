@@ -9,10 +9,10 @@ mod type_names;
 mod types;
 mod words;
 
+pub use iges_base::put_number;
 pub use listing::{EntryNumbers, Listing, put_more_facts, put_more_items, shown_members};
 pub use masking::put_masked;
 pub use places::{put_face, put_vertex};
 pub use sentences::{put_reason_sentence, put_rule_sentence};
 pub use types::{entry_no, put_type, put_type_word};
-pub use iges_base::put_number;
 pub use words::{put_signed, put_value, put_word};

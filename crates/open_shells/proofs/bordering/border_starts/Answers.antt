@@ -1,7 +1,7 @@
 use Rattle.std.proofs.Common.{arith, sym, ap, ◌∙◌, ◌≡◌, length}
 use Rattle.std.specs.Prelude.{None, Some, slice_get}
 use Rattle.edge_uses.specs.ShellRows.{ShellRows}
-use Rattle.vertex_starts.proofs.StartCells.{on_vertices}
+use Rattle.shell_tables.proofs.StartCells.{on_vertices}
 use Rattle.open_shells.proofs.HeadCells.{borders_first, border_known, borders_more, borders_all}
 use Rattle.open_shells.proofs.bordering.border_starts.Goals as goal
 

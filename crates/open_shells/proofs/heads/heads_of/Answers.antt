@@ -2,7 +2,7 @@ use Rattle.std.proofs.Common.{arith, sym, ap, ◌∙◌, ◌≡◌, length}
 use Rattle.std.specs.Prelude.{None, Some, slice_get}
 use Rattle.edge_uses.specs.ShellRows.{ShellRows}
 use Rattle.open_shells.proofs.OnceMates.{border_or_mate}
-use Rattle.vertex_starts.proofs.StartCells.{on_vertices}
+use Rattle.shell_tables.proofs.StartCells.{on_vertices}
 use Rattle.open_shells.proofs.HeadCells.{heads_first, head_known, heads_more, heads_all}
 use Rattle.open_shells.proofs.heads.heads_of.Goals as goal
 

@@ -6,7 +6,7 @@ use Rattle.solid_data.proofs.Members.{Has}
 use Rattle.edge_uses.proofs.Steps.{default_apart, ok_weaker}
 use Rattle.edge_uses.proofs.RowNumbers.{numbers_pushed}
 use Rattle.open_shells.specs.Reaching.{row_numbers}
-use Rattle.open_shells.proofs.FaceHeads.{face_low}
+use Rattle.shell_tables.proofs.FaceHeads.{face_low}
 use Rattle.open_shells.proofs.Floods.{crossed_before, crossed_now, flood_more, flood_as, ok_three, none_beyond}
 use Rattle.open_shells.proofs.flood.Flood.cross.Goals as goal
 

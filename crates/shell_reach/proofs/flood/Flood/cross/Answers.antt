@@ -5,7 +5,7 @@ use Rattle.solid_data.proofs.Members.{Has}
 use Rattle.edge_uses.proofs.Steps.{default_apart, ok_weaker}
 use Rattle.edge_uses.proofs.RowNumbers.{numbers_pushed}
 use Rattle.shell_reach.specs.Reaching.{row_numbers}
-use Rattle.shell_reach.proofs.FaceHeads.{face_low}
+use Rattle.shell_tables.proofs.FaceHeads.{face_low}
 use Rattle.shell_reach.proofs.Floods.{crossed_before, crossed_now, flood_more, flood_as, ok_three}
 use Rattle.shell_reach.proofs.Crossings.{crosses_old, crosses_new}
 use Rattle.shell_reach.proofs.flood.Flood.cross.Goals as goal

@@ -1,6 +1,0 @@
-use Rattle.std.specs.Prelude.{◌-◌, length}
-use Rattle.open_shells.proofs.FaceHeads.{HeadsFrom}
-use Rattle.open_shells.proofs.faces.face_rows.Given as goal
-
-abbrev pub invariant-rows : goal.invariant-rows
-invariant-rows l = HeadsFrom l.fn.rows (length l.fn.rows.rows - l.k) l.first.items l.next.items

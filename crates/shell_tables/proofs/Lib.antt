@@ -1,0 +1,3 @@
+pub mod FaceHeads
+pub mod StartCounts
+pub mod StartCells

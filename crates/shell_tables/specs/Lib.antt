@@ -1,0 +1,2 @@
+pub mod FaceRows
+pub mod Starting

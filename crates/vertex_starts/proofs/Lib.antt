@@ -1,2 +1,0 @@
-pub mod StartCounts
-pub mod StartCells

@@ -1,5 +1,0 @@
-use Rattle.vertex_starts.proofs.StartCells.{start_there}
-use Rattle.vertex_starts.proofs.starting.starts_at.Goals as goal
-
-pub returns : goal.returns
-returns c d h = start_there d c.args.starts.now c.args.vertex c.at.result h c.requires c.at.ensures
