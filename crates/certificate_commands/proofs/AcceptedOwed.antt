@@ -1,5 +1,5 @@
 -- Done is owed of a certificate exactly where it is accepted.
-use Rattle.std.proofs.Common.{◌≤◌, inl, inr, ℕ, List, [], ◌∷◌, ◌++◌, flat_map, length, refl, subst, arith}
+use Rattle.std.proofs.Common.{◌≤◌, ℕ, List, [], ◌∷◌, ◌++◌, flat_map, length, refl, subst, arith}
 use Rattle.iges_params.specs.Contents.{Contents}
 use Rattle.cert_lines.specs.Opening.{Opens}
 use Rattle.cert_lines.specs.declared.version.Version.{Version}
@@ -11,7 +11,7 @@ use Rattle.solid_check.proofs.PartOutcomes.{solid_short}
 use Rattle.command_replies.specs.declared.answer.Answer.TheVariants.{Done}
 use Rattle.topo_certificate.specs.declared.TheConstants.{CERT_LIMIT}
 use Rattle.command_replies.specs.Due.{Owed}
-use Rattle.certificate_commands.specs.Due.{OfBook, OfLines, OfCertificate, OfVersion}
+use Rattle.certificate_commands.specs.Due.{OfBook, parts_accepted, OfLines, lines_accepted, OfCertificate, opened, OfVersion}
 
 -- what is owed as done is owed of a certificate that is accepted, by the solids that it names
 abbrev pub Then : (List ℕ → Owed) → Contents → List ℕ → List ℕ → Type 0
@@ -26,14 +26,10 @@ book_opens f c (p ∷ ps) h =
 
 module _ (granted : List ℕ → Owed) (f : Contents) (c text : List ℕ) where
   pub lines_done : (v : Version) (n : ℕ) (lines : List (List ℕ)) → Opens c v n lines → OfLines (granted (n ∷ [])) v n lines f Done text → IsAcceptedAlone v f n c × granted (n ∷ []) Done text
-  lines_done v n lines opens (inl p) = absurd (let done = p.2.0 in cc)
-  lines_done v n lines opens (inr (inl p)) = absurd (let done = p.3.0 in cc)
-  lines_done v n lines opens (inr (inr (hold, legal, owed))) = ((accepted_is_checked v f n c).1 (lines, opens, hold, legal), owed)
+  lines_done v n lines opens (lines_accepted hold legal owed) = ((accepted_is_checked v f n c).1 (lines, opens, hold, legal), owed)
 
   pub book_done : (lines : List (List ℕ)) → OfBook granted c lines f Done text → Then granted f c text
-  book_done lines (inl p) = absurd (let done = p.3.0 in cc)
-  book_done lines (inr (inl p)) = absurd (let done = p.2.0 in cc)
-  book_done lines (inr (inr (parts, accepted, owed))) = (Three, solids_named parts, (parts, refl, accepted), owed)
+  book_done lines (parts_accepted parts accepted owed) = (Three, solids_named parts, (parts, refl, accepted), owed)
 
   pub version_then : (v : Version) (n : ℕ) (lines : List (List ℕ)) → Opens c v n lines → OfVersion granted c v n lines f Done text → Then granted f c text
   version_then One n lines opens owed = let done = lines_done One n lines opens owed in (One, n ∷ [], (n, refl, done.0), done.1)
@@ -41,17 +37,15 @@ module _ (granted : List ℕ → Owed) (f : Contents) (c text : List ℕ) where
   version_then Three n lines opens (all, headed, owed) = book_done all owed
 
   pub accepted_then : OfCertificate granted c f Done text → Then granted f c text
-  accepted_then (inl p) = absurd (let done = p.1.0 in cc)
-  accepted_then (inr (inl p)) = absurd (let done = p.3.0 in cc)
-  accepted_then (inr (inr (few, v, n, lines, opens, owed))) = version_then v n lines opens owed
+  accepted_then (opened few v n lines opens owed) = version_then v n lines opens owed
 
   pub accepted_owed : (v : Version) (ns : List ℕ) → length c ≤ CERT_LIMIT → IsAccepted f c v ns → granted ns Done text → OfCertificate granted c f Done text
   accepted_owed One ns few (n, same, alone) owed =
       let made = (accepted_is_checked One f n c).0 alone in
-      inr (inr (few, One, n, made.0, made.1, inr (inr (made.2, made.3, subst (λ (ms : List ℕ). granted ms Done text) same owed))))
+      opened few One n made.0 made.1 (lines_accepted made.2 made.3 (subst (λ (ms : List ℕ). granted ms Done text) same owed))
   accepted_owed Two ns few (n, same, alone) owed =
       let made = (accepted_is_checked Two f n c).0 alone in
-      inr (inr (few, Two, n, made.0, made.1, inr (inr (made.2, made.3, subst (λ (ms : List ℕ). granted ms Done text) same owed))))
+      opened few Two n made.0 made.1 (lines_accepted made.2 made.3 (subst (λ (ms : List ℕ). granted ms Done text) same owed))
   accepted_owed Three ns few (parts, same, book) owed =
       let opens = book_opens f c parts book in
-      inr (inr (few, Three, opens.0, opens.1, opens.2, (flat_map part_lines parts ++ spelling end ∷ [], book.headed, inr (inr (parts, book, subst (λ (ms : List ℕ). granted ms Done text) same owed)))))
+      opened few Three opens.0 opens.1 opens.2 (flat_map part_lines parts ++ spelling end ∷ [], book.headed, parts_accepted parts book (subst (λ (ms : List ℕ). granted ms Done text) same owed))

@@ -1,5 +1,5 @@
 -- The parts of a book, one after another.
-use Rattle.std.proofs.Common.{◌≡◌, ◌∙◌, ℕ, suc, ◌+◌, ◌≤◌, ◌<◌, false, inl, inr, List, [], ◌∷◌, ◌++◌, flat_map, length, refl, sym, ap, subst, arith, append_assoc}
+use Rattle.std.proofs.Common.{◌≡◌, ◌∙◌, ℕ, suc, ◌+◌, ◌≤◌, ◌<◌, false, inr, List, [], ◌∷◌, ◌++◌, flat_map, length, refl, sym, ap, subst, arith, append_assoc}
 use Rattle.std.specs.Fmt.{digits}
 use Rattle.std.specs.List.{AllByRecursion, AllZip}
 use Rattle.std.specs.List.Sorted.{IsStrictlyIncreasing}
@@ -33,7 +33,8 @@ use Rattle.command_replies.specs.declared.answer.Answer.{Answer}
 use Rattle.command_replies.specs.declared.answer.Answer.TheVariants.{No}
 use Rattle.command_replies.specs.Texts.{illegal_line, solid_fail_text}
 use Rattle.command_replies.specs.Due.{Owed}
-use Rattle.certificate_commands.specs.Due.{OfCertificate, upgraded_for}
+use Rattle.command_replies.proofs.Owing.{owed_so}
+use Rattle.certificate_commands.specs.Due.{OfCertificate, opened, part_bad, part_fails, parts_accepted, upgraded_for}
 use Rattle.certificate_commands.specs.Books.{BeginsPart}
 use Rattle.solid_check.proofs.CheckedParts.{checked_certified}
 use Rattle.certificate_commands.proofs.CutText.{cut_behind, joined, joined_cut, some_bytes}
@@ -249,15 +250,15 @@ module _ (f : Contents) (ns : List ℕ) (text : List ℕ) (n line : ℕ) (h : Be
     pub fails_owed : (x : Failing) → FirstFalse (checked f n) x → (a ≡ No) × (t ≡ solid_fail_text n x) → OfCertificate OfAccepted (text ++ more) f a t
     fails_owed x first exact =
         let o = h.opens more in
-        inr (inr (few, Three, o.0, o.1, o.2, (all ++ h.first ∷ cut_lines more, h.headed more, inl (n, x, book_fails x first more, exact))))
+        owed_so (OfCertificate OfAccepted (text ++ more) f) _ _ _ _ (opened few Three o.0 o.1 o.2 (all ++ h.first ∷ cut_lines more, h.headed more, part_fails n x (book_fails x first more))) exact.0 exact.1
 
     pub illegal_owed : AllHold (checked f n) → (bad : Illegal) → IsPartBad Two (solid_of f n) line (cut_lines more) bad → (a ≡ No) × (t ≡ illegal_line bad) → OfCertificate OfAccepted (text ++ more) f a t
     illegal_owed holds bad wrong exact =
         let o = h.opens more in
-        inr (inr (few, Three, o.0, o.1, o.2, (all ++ h.first ∷ cut_lines more, h.headed more, inr (inl (bad, book_illegal holds more bad wrong, exact)))))
+        owed_so (OfCertificate OfAccepted (text ++ more) f) _ _ _ _ (opened few Three o.0 o.1 o.2 (all ++ h.first ∷ cut_lines more, h.headed more, part_bad bad (book_illegal holds more bad wrong))) exact.0 exact.1
 
     pub last_owed : AllHold (checked f n) → IsLegal Two (solid_of f n) (cut_lines more) → OfAccepted (ns ++ n ∷ []) a t → OfCertificate OfAccepted (text ++ more) f a t
     last_owed holds legal owed =
         let o = h.opens more in
         let b = book_accepted holds more legal in
-        inr (inr (few, Three, o.0, o.1, o.2, (all ++ h.first ∷ cut_lines more, h.headed more, inr (inr (b.0, b.1, subst (λ (ms : List ℕ). OfAccepted ms a t) (sym b.2) owed)))))
+        opened few Three o.0 o.1 o.2 (all ++ h.first ∷ cut_lines more, h.headed more, parts_accepted b.0 b.1 (subst (λ (ms : List ℕ). OfAccepted ms a t) (sym b.2) owed))

@@ -1,5 +1,5 @@
 -- A certificate that is judged while it comes.
-use Rattle.std.proofs.Common.{◌≡◌, ℕ, ◌+◌, ◌-◌, ◌≤◌, ◌<◌, List, [], ◌∷◌, ◌++◌, length, Option, Result, refl, sym, ap, subst, ◌∙◌, arith, inl, inr, append_assoc}
+use Rattle.std.proofs.Common.{◌≡◌, ℕ, ◌+◌, ◌-◌, ◌≤◌, ◌<◌, List, [], ◌∷◌, ◌++◌, length, Option, Result, refl, sym, ap, subst, ◌∙◌, arith, append_assoc}
 use Rattle.std.specs.Prelude.{MatchResult}
 use Rattle.std.proofs.lemmas.List.{append-nil, length-append}
 use Rattle.std.proofs.lemmas.Grind.{flat_map-append}
@@ -22,7 +22,8 @@ use Rattle.certificate_commands.specs.declared.opening.Opened.{Opened}
 use Rattle.command_replies.specs.Texts.{accepted_line, accepted_lines, fail_line, illegal_line}
 use Rattle.certificate_commands.specs.declared.books.Begun.{Begun}
 use Rattle.command_replies.specs.Due.{Owed, Exactly}
-use Rattle.certificate_commands.specs.Due.{OfCertificate, OfVerify}
+use Rattle.command_replies.proofs.Owing.{owed_so}
+use Rattle.certificate_commands.specs.Due.{OfCertificate, certificate_too_large, opening_bad, OfVerify}
 use Rattle.command_replies.specs.Replies.{IsReply}
 use Rattle.certificate_commands.specs.Books.{HasBegun}
 use Rattle.certificate_commands.specs.Judging.{IsChecked, IsOfOne, TellsFalse, HasChecked, IsDecided, IsRestFed, IsRestRead, HasTooMany, HasOpened, EndsEarly}
@@ -131,7 +132,7 @@ module _ (a b c : Option (List ℕ)) (came so_far : ℕ) (old mid : FedKept) (r 
 pub too_large_owed : (OfAccepted : List ℕ → Owed) (f : Contents) (a : Option (List ℕ)) (bytes : List ℕ) (c : Option (List ℕ)) (reply : Reply) → Consumes a c bytes → CERT_LIMIT < length bytes → (reply.answer ≡ TooLarge) × (reply.text ≡ []) → IsReply (λ certificate. OfCertificate OfAccepted certificate f) a reply
 too_large_owed OfAccepted f a bytes c reply k above exact =
     let t = told_more a c bytes k in
-    record { bytes = t.0; told = t.1; owed = inl (omega (arith, above, t.2), exact) }
+    record { bytes = t.0; told = t.1; owed = owed_so (OfCertificate OfAccepted t.0 f) _ _ _ _ (certificate_too_large (omega (arith, above, t.2))) exact.0 exact.1 }
 
 pub rest_too_large : (f : Contents) (a b c : Option (List ℕ)) (text : List ℕ) (came : ℕ) (reply : Reply) → Consumes a b text → length text ≡ came → HasTooMany b c came → (reply.answer ≡ TooLarge) × (reply.text ≡ []) → IsReply (λ certificate. OfVerify certificate f) a reply
 rest_too_large f a b c text came reply k long many exact =
@@ -159,10 +160,10 @@ rest_owed f a b c text came n old new reply k long checked rest owed =
 -- ---- behind the first two lines
 
 pub bad_opening_decides : (f : Contents) (text : List ℕ) (bad : Illegal) (reply : Reply) → ((more : List ℕ) → IsBadOpening (text ++ more) bad) → (reply.answer ≡ No) × (reply.text ≡ illegal_line bad) → IsDecided f text reply
-bad_opening_decides f text bad reply always exact more few = inr (inl (few, bad, always more, exact))
+bad_opening_decides f text bad reply always exact more few = owed_so (OfVerify (text ++ more) f) _ _ _ _ (opening_bad few bad (always more)) exact.0 exact.1
 
 pub early_owed : (f : Contents) (a b : Option (List ℕ)) (bad : Illegal) (reply : Reply) → EndsEarly a b bad → (reply.answer ≡ No) × (reply.text ≡ illegal_line bad) → IsReply (λ certificate. OfVerify certificate f) a reply
-early_owed f a b bad reply h exact = record { bytes = h.bytes; told = told_all a b h.bytes h.taken h.ended; owed = inr (inl (h.few, bad, h.wrong, exact)) }
+early_owed f a b bad reply h exact = record { bytes = h.bytes; told = told_all a b h.bytes h.taken h.ended; owed = owed_so (OfVerify h.bytes f) _ _ _ _ (opening_bad h.few bad h.wrong) exact.0 exact.1 }
 
 pub refusal_decides : (f : Contents) (a b : Option (List ℕ)) (buffer : List ℕ) (o : Opened) (reply : Reply) (h : HasOpened a b buffer o) → IsOfOne o.version → TellsFalse fail_line f o.no.0 reply → IsDecided f (h.front ++ h.rest) reply
 refusal_decides f a b buffer o reply h one (x, first, exact) more few =

@@ -1,5 +1,5 @@
 -- What is owed of a certificate of one solid, by what is checked of this and what the checker answers.
-use Rattle.std.proofs.Common.{◌≡◌, ◌≤◌, inl, inr, ℕ, List, [], ◌∷◌, length, subst}
+use Rattle.std.proofs.Common.{◌≡◌, ◌≤◌, ℕ, List, [], ◌∷◌, length, subst}
 use Rattle.solid_data.specs.Obligations.{AllHold, FirstFalse}
 use Rattle.solid_data.specs.SolidData.{SolidData}
 use Rattle.solid_data.specs.declared.verdict.Failing.{Failing}
@@ -18,7 +18,8 @@ use Rattle.command_replies.specs.declared.answer.Answer.TheVariants.{No}
 use Rattle.command_replies.specs.declared.reply.Reply.{Reply}
 use Rattle.command_replies.specs.Texts.{fail_line, illegal_line}
 use Rattle.command_replies.specs.Due.{Owed, OfText}
-use Rattle.certificate_commands.specs.Due.{OfCertificate, OfLines, OfUpgrade, OfVersion, upgraded_for}
+use Rattle.command_replies.proofs.Owing.{owed_so}
+use Rattle.certificate_commands.specs.Due.{OfCertificate, opened, OfLines, place_fails, line_bad, lines_accepted, OfUpgrade, OfVersion, upgraded_for}
 use Rattle.certificate_commands.specs.Judging.{IsChecked, IsOfOne, TellsFalse}
 
 -- what is owed of the lines is owed of the version
@@ -30,15 +31,15 @@ by_lines OfAccepted c Three n lines f a t one owed = absurd one
 module _ (OfAccepted : List ℕ → Owed) (f : Contents) (c : List ℕ) (v : Version) (n : ℕ) (lines : List (List ℕ)) (a : Answer) (t : List ℕ) (few : length c ≤ CERT_LIMIT) (opens : Opens c v n lines) (one : IsOfOne v) where
   -- what is checked of the solid fails
   pub false_owed : (x : Failing) → FirstFalse (checked f n) x → (a ≡ No) × (t ≡ fail_line x) → OfCertificate OfAccepted c f a t
-  false_owed x first exact = inr (inr (few, v, n, lines, opens, by_lines OfAccepted c v n lines f a t one (inl (x, first, exact))))
+  false_owed x first exact = owed_so (OfCertificate OfAccepted c f) _ _ _ _ (opened few v n lines opens (by_lines OfAccepted c v n lines f _ _ one (place_fails x first))) exact.0 exact.1
 
   -- the lines are legal for the solid
   pub legal_owed : AllHold (checked f n) → IsLegal v (solid_of f n) lines → OfAccepted (n ∷ []) a t → OfCertificate OfAccepted c f a t
-  legal_owed holds legal owed = inr (inr (few, v, n, lines, opens, by_lines OfAccepted c v n lines f a t one (inr (inr (holds, legal, owed)))))
+  legal_owed holds legal owed = opened few v n lines opens (by_lines OfAccepted c v n lines f a t one (lines_accepted holds legal owed))
 
   -- one of them is bad
   pub bad_owed : AllHold (checked f n) → (bad : Illegal) → IsFirstBad v (solid_of f n) 3 lines bad → (a ≡ No) × (t ≡ illegal_line bad) → OfCertificate OfAccepted c f a t
-  bad_owed holds bad first exact = inr (inr (few, v, n, lines, opens, by_lines OfAccepted c v n lines f a t one (inr (inl (holds, bad, first, exact)))))
+  bad_owed holds bad first exact = owed_so (OfCertificate OfAccepted c f) _ _ _ _ (opened few v n lines opens (by_lines OfAccepted c v n lines f _ _ one (line_bad holds bad first))) exact.0 exact.1
 
 module _ (f : Contents) (c : List ℕ) (v : Version) (n : ℕ) (lines : List (List ℕ)) (few : length c ≤ CERT_LIMIT) (opens : Opens c v n lines) (one : IsOfOne v) where
   abbrev Ups : List ℕ → Owed

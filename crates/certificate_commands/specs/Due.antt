@@ -1,5 +1,5 @@
 -- What is owed for the bytes of a certificate, of a file.
-use Rattle.std.specs.Prelude.{◌⊎◌, ℕ, ◌<◌, ◌≤◌, List, [], ◌∷◌, length}
+use Rattle.std.specs.Prelude.{ℕ, ◌<◌, ◌≤◌, List, [], ◌∷◌, length}
 use Rattle.iges_params.specs.Contents.{Contents}
 use Rattle.solid_data.specs.Obligations.{AllHold, FirstFalse}
 use Rattle.solid_data.specs.declared.verdict.Failing.{Failing}
@@ -15,23 +15,28 @@ use Rattle.solid_check.specs.Accepted.{IsAcceptedBook, Part, solids_named}
 use Rattle.solid_check.specs.Book.{IsBookBad}
 use Rattle.solid_check.specs.Book as book
 use Rattle.solid_check.specs.Checked.{checked}
+use Rattle.command_replies.specs.declared.answer.Answer.{Answer}
 use Rattle.command_replies.specs.declared.answer.Answer.TheVariants as answer
 use Rattle.command_replies.specs.Texts.{accepted_lines, fail_line, illegal_line, solid_fail_text}
 use Rattle.command_replies.specs.Due.{Exactly, OfText, Owed}
 
--- what is owed of a certificate of this version that names solid n and has these lines from line 3 on: the first that is false of all that is checked, the first bad line, or what is owed of one that is accepted
-abbrev pub OfLines : Owed → Version → ℕ → List (List ℕ) → Contents → Owed
-OfLines OfAccepted v n lines f a t =
-    ((x : Failing) × FirstFalse (checked f n) x × Exactly answer.No (fail_line x) a t)
-    ⊎ (AllHold (checked f n) × (bad : Illegal) × IsFirstBad v (solid_of f n) 3 lines bad × Exactly answer.No (illegal_line bad) a t)
-    ⊎ (AllHold (checked f n) × IsLegal v (solid_of f n) lines × OfAccepted a t)
+-- what is owed of a certificate of this version that names solid n and has these lines from line 3 on
+pub data OfLines (OfAccepted : Owed) (v : Version) (n : ℕ) (lines : List (List ℕ)) (f : Contents) : Answer → List ℕ → Type 0 where
+  -- something that is checked is false: the first that is
+  place_fails : (x : Failing) → FirstFalse (checked f n) x → OfLines OfAccepted v n lines f answer.No (fail_line x)
+  -- a line is bad: the first that is
+  line_bad : AllHold (checked f n) → (bad : Illegal) → IsFirstBad v (solid_of f n) 3 lines bad → OfLines OfAccepted v n lines f answer.No (illegal_line bad)
+  -- it is accepted
+  lines_accepted : {a : Answer} {t : List ℕ} → AllHold (checked f n) → IsLegal v (solid_of f n) lines → OfAccepted a t → OfLines OfAccepted v n lines f a t
 
--- what is owed of a book with these lines after its head: what is false of a solid that a part names, the first bad line, or what is owed of one that is accepted, by the solids that it names
-abbrev pub OfBook : (List ℕ → Owed) → List ℕ → List (List ℕ) → Contents → Owed
-OfBook OfAccepted certificate lines f a t =
-    ((n : ℕ) × (x : Failing) × IsBookBad f lines (book.fails n x) × Exactly answer.No (solid_fail_text n x) a t)
-    ⊎ ((bad : Illegal) × IsBookBad f lines (book.illegal bad) × Exactly answer.No (illegal_line bad) a t)
-    ⊎ ((parts : List Part) × IsAcceptedBook f certificate parts × OfAccepted (solids_named parts) a t)
+-- what is owed of a book with these lines after its head
+pub data OfBook (OfAccepted : List ℕ → Owed) (certificate : List ℕ) (lines : List (List ℕ)) (f : Contents) : Answer → List ℕ → Type 0 where
+  -- something is false of a solid that a part names
+  part_fails : (n : ℕ) (x : Failing) → IsBookBad f lines (book.fails n x) → OfBook OfAccepted certificate lines f answer.No (solid_fail_text n x)
+  -- a line is bad
+  part_bad : (bad : Illegal) → IsBookBad f lines (book.illegal bad) → OfBook OfAccepted certificate lines f answer.No (illegal_line bad)
+  -- it is accepted: by the solids that its parts name
+  parts_accepted : {a : Answer} {t : List ℕ} (parts : List Part) → IsAcceptedBook f certificate parts → OfAccepted (solids_named parts) a t → OfBook OfAccepted certificate lines f a t
 
 -- what is owed of a certificate of this version whose line 2 names solid n and has these lines after it: one of version 3 is a book, any other is of solid n alone
 abbrev pub OfVersion : (List ℕ → Owed) → List ℕ → Version → ℕ → List (List ℕ) → Contents → Owed
@@ -39,12 +44,15 @@ OfVersion OfAccepted certificate One n lines f a t = OfLines (OfAccepted (n ∷ 
 OfVersion OfAccepted certificate Two n lines f a t = OfLines (OfAccepted (n ∷ [])) Two n lines f a t
 OfVersion OfAccepted certificate Three n lines f a t = (all : List (List ℕ)) × IsHeaded certificate Three all × OfBook OfAccepted certificate all f a t
 
--- what is owed of a certificate: that it is too large, what is wrong with line 1 or 2, or what is owed by its version; and of an accepted one, by the solids that it names
-abbrev pub OfCertificate : (List ℕ → Owed) → List ℕ → Contents → Owed
-OfCertificate OfAccepted certificate f a t =
-    ((CERT_LIMIT < length certificate) × Exactly answer.TooLarge [] a t)
-    ⊎ ((length certificate ≤ CERT_LIMIT) × (bad : Illegal) × IsBadOpening certificate bad × Exactly answer.No (illegal_line bad) a t)
-    ⊎ ((length certificate ≤ CERT_LIMIT) × (v : Version) × (n : ℕ) × (lines : List (List ℕ)) × Opens certificate v n lines × OfVersion OfAccepted certificate v n lines f a t)
+-- what is owed of a certificate, and of an accepted one by the solids that it names
+pub data OfCertificate (OfAccepted : List ℕ → Owed) (certificate : List ℕ) (f : Contents) : Answer → List ℕ → Type 0 where
+  -- it is too large
+  certificate_too_large : CERT_LIMIT < length certificate → OfCertificate OfAccepted certificate f answer.TooLarge []
+  -- line 1 or 2 is bad
+  opening_bad : length certificate ≤ CERT_LIMIT → (bad : Illegal) → IsBadOpening certificate bad → OfCertificate OfAccepted certificate f answer.No (illegal_line bad)
+  -- both are good: by the version
+  opened : {a : Answer} {t : List ℕ} → length certificate ≤ CERT_LIMIT → (v : Version) (n : ℕ) (lines : List (List ℕ)) → Opens certificate v n lines → OfVersion OfAccepted certificate v n lines f a t
+      → OfCertificate OfAccepted certificate f a t
 
 -- what is owed of verifying a certificate: of an accepted one a line for each solid that it names
 abbrev pub OfVerify : List ℕ → Contents → Owed

@@ -1,8 +1,8 @@
 -- The answers that are owed of a file.
-use Rattle.std.proofs.Common.{inl, inr, ℕ, List, [], sym, subst}
+use Rattle.std.proofs.Common.{ℕ, List, sym, subst}
 use Rattle.command_replies.specs.declared.answer.Answer.{Answer}
 use Rattle.command_replies.specs.declared.answer.Answer.TheVariants.{Done, No, NoExtract, TooLarge}
-use Rattle.command_replies.specs.Due.{Exactly, OfText}
+use Rattle.command_replies.specs.Due.{Exactly, OfText, text_too_large, text_done}
 
 -- the answers that are owed of a file
 abbrev pub IsFileVerdict : Answer → Type 0
@@ -16,5 +16,5 @@ pub exactly_so : (a : Answer) (text : List ℕ) → IsFileVerdict a → (b : Ans
 exactly_so a text verdict b t owed = subst IsFileVerdict (sym owed.0) verdict
 
 pub text_verdict : (text : List ℕ) (a : Answer) (t : List ℕ) → OfText text a t → IsFileVerdict a
-text_verdict text a t (inl p) = exactly_so TooLarge [] tt a t p.1
-text_verdict text a t (inr p) = exactly_so Done text tt a t p.1
+text_verdict text a t (text_too_large many) = tt
+text_verdict text a t (text_done few) = tt

@@ -4,14 +4,14 @@ use Rattle.iges_params.specs.Contents.{Contents}
 use Rattle.iges_solid_cmd.proofs.WrittenFiles.{one_extract, one_compact, some_extract, some_compact}
 use Rattle.iges_solid_cmd.specs.declared.form.Command.{Command}
 use Rattle.iges_solid_cmd.specs.declared.form.FileCommand.{FileCommand}
-use Rattle.command_replies.specs.Texts.{accepted_lines}
+use Rattle.command_replies.specs.Texts.{accepted_lines, fail_line}
 use Rattle.iges_solid_cmd.specs.Texts.{solids_text}
 use Rattle.command_replies.specs.declared.answer.Answer.{Answer}
 use Rattle.command_replies.specs.Due.{Exactly, Owed, OfText}
 use Rattle.iges_solid_cmd.specs.Due.{OfSolids, OfShow, OfCertify, OfCertifyAll, OfExtract, OfCompact, OfContents}
 use Rattle.iges_solid_cmd.specs.OneAnswer.{MayDiffer}
 use Rattle.command_replies.proofs.One.{IsOne, exactly_one}
-use Rattle.open_commands.specs.Due.{OfOpen, OfOpenVerify}
+use Rattle.open_commands.specs.Due.{OfOpen, open_misplaced, open_unsound, open_certified, OfOpenVerify, open_fail_line}
 use Rattle.open_commands.proofs.One.{one_open, one_verify}
 use Rattle.orient_commands.specs.Due.{OfOrient, OfOrientVerify}
 use Rattle.orient_commands.proofs.OneOwed.{orienting_one, verifying_one}
@@ -24,7 +24,7 @@ use Rattle.open_commands.proofs.SomeDue.{some_open, some_verify}
 use Rattle.orient_commands.proofs.SomeOwed.{orienting_due, verifying_due}
 use Rattle.command_replies.proofs.SomeDue.{IsSome}
 use Rattle.certificate_commands.proofs.SomeDue.{verify_due, upgrade_due}
-use Rattle.command_replies.specs.declared.answer.Answer.TheVariants.{Done}
+use Rattle.command_replies.specs.declared.answer.Answer.TheVariants.{Done, No}
 use Rattle.command_replies.proofs.Verdicts.{IsFileVerdict, exactly_so, text_verdict}
 use Rattle.certificate_commands.proofs.Verdicts.{certificate_verdict}
 use Rattle.iges_solid_cmd.specs.declared.form.WholeCommand.{WholeCommand}
@@ -49,9 +49,9 @@ pub alike : (c : Command) (owed : Owed) → IsOne owed → IsAlike c owed
 alike c owed one a b t u p q = let same = one a b t u p q in (same.0, inl same.1)
 
 open_alike : (n : ℕ) (f : Contents) → IsAlike (command.File (of_file.Entity of_entity.Open n)) (OfOpen n f)
-open_alike n f a b t u (inl p) q = let same = one_open n f a b t u (inl p) q in (same.0, inl (same.1 p.2.0))
-open_alike n f a b t u (inr (inl p)) q = let same = one_open n f a b t u (inr (inl p)) q in (same.0, inl (same.1 p.2.0))
-open_alike n f a b t u (inr (inr p)) q = let same = one_open n f a b t u (inr (inr p)) q in (same.0, inr p.2)
+open_alike n f a b t u (open_misplaced x h) q = let same = one_open n f No b (fail_line x) u (open_misplaced x h) q in (same.0, inl (same.1 refl))
+open_alike n f a b t u (open_unsound x h) q = let same = one_open n f No b (open_fail_line x) u (open_unsound x h) q in (same.0, inl (same.1 refl))
+open_alike n f a b t u (open_certified text h accepted) q = let same = one_open n f Done b text u (open_certified text h accepted) q in (same.0, inr refl)
 
 orient_alike : (n : ℕ) (f : Contents) → IsAlike (command.File (of_file.Entity of_entity.Orient n)) (OfOrient n f)
 orient_alike n f a b t u p q = let same = orienting_one n f a b t u p q in (same.0, inr same.1)

@@ -1,5 +1,5 @@
 -- What is owed is one answer with one text.
-use Rattle.std.proofs.Common.{◌≡◌, ◌⊎◌, length, inl, inr, ℕ, List, Option, Some, None, sym, ap, subst, ◌∙◌}
+use Rattle.std.proofs.Common.{◌≡◌, ◌⊎◌, length, inl, inr, ℕ, List, Option, Some, None, refl, sym, ap, subst, ◌∙◌}
 use Rattle.std.specs.Prelude.{◌*◌, MatchOption, IsSomeAnd}
 use Rattle.iges_params.specs.Contents.{Contents}
 use Rattle.iges_params.proofs.Answers.{ok_is}
@@ -11,10 +11,9 @@ use Rattle.iges_solid_cmd.specs.declared.form.Command.{Command}
 use Rattle.iges_solid_cmd.specs.Forms.{command_of, usage_line}
 use Rattle.iges_solid_cmd.specs.Texts.{sample_line}
 use Rattle.command_replies.specs.Due.{Exactly, OfFile, Owed}
-use Rattle.iges_solid_cmd.specs.Due.{OfContents, OfSample, DueOf}
+use Rattle.iges_solid_cmd.specs.Due.{OfContents, OfSample, sampled, DueOf}
 use Rattle.iges_solid_cmd.specs.OneAnswer.{MayDiffer, OneAnswerIsOwed}
 use Rattle.command_replies.proofs.One.{IsOne, no_file, no_file_one, owed_none}
-use Rattle.iges_params.specs.IsFile.{IsFile}
 use Rattle.iges_solid_cmd.specs.declared.form.Command.TheVariants as command
 use Rattle.command_replies.specs.declared.answer.Answer.TheVariants as answer
 use Rattle.iges_solid_cmd.proofs.Commands.{IsAlike, alike, contents_one}
@@ -30,11 +29,11 @@ file_alike c bytes owed one a b t u (inr p) (inr q) =
 
 -- the lengths of one text and of one certificate
 sample_one : (n : ℕ) → IsOne (OfSample n)
-sample_one n a b t u p q =
-    let texts = ap (λ (xs : List ℕ). length xs) (text_is (sample n) p.0 q.0 p.2 q.2) in
-    let certificates = ap (λ (xs : List ℕ). length xs) (one_certificate (sample n) 1 p.1 q.1 p.3 q.3) in
+sample_one n a b t u (sampled text certificate is made) (sampled other second at formed) =
+    let texts = ap (λ (xs : List ℕ). length xs) (text_is (sample n) text other is at) in
+    let certificates = ap (λ (xs : List ℕ). length xs) (one_certificate (sample n) 1 certificate second made formed) in
     let line : ℕ → ℕ → List ℕ = sample_line n (n * n) (2 * n * n) (n * n) in
-    (p.4.0 ∙ sym q.4.0, p.4.1 ∙ (ap (λ k. line k (length p.1)) texts ∙ (ap (line (length q.0)) certificates ∙ sym q.4.1)))
+    (refl, ap (λ k. line k (length certificate)) texts ∙ ap (line (length other)) certificates)
 
 due_of_one : (c : Command) (file certificate : List ℕ) → IsAlike c (DueOf c file certificate)
 due_of_one (command.File c) file certificate = file_alike (command.File c) file (OfContents c certificate) (contents_one c certificate)

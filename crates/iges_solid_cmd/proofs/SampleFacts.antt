@@ -30,7 +30,8 @@ use Rattle.command_replies.specs.declared.answer.Answer.{Answer}
 use Rattle.command_replies.specs.declared.answer.Answer.TheVariants.{Done}
 use Rattle.iges_solid_cmd.specs.Forms.{IsSize}
 use Rattle.iges_solid_cmd.specs.Texts.{sample_line}
-use Rattle.iges_solid_cmd.specs.Due.{OfSample}
+use Rattle.command_replies.proofs.Owing.{owed_so}
+use Rattle.iges_solid_cmd.specs.Due.{OfSample, sampled}
 
 module _ (n : ℕ) (size : IsSize n) where
   mesh : IsClosedMesh (sample n) n
@@ -63,7 +64,7 @@ module _ (n : ℕ) (size : IsSize n) where
       ∙ ap (λ k. sample_line n k (length (solid_of (sample n) 1).edges) (length (solid_of (sample n) 1).vertices) (length text) (length certificate)) mesh.faces
       ∙ ap (λ k. sample_line n (n * n) k (length (solid_of (sample n) 1).vertices) (length text) (length certificate)) mesh.edges
       ∙ ap (λ k. sample_line n (n * n) (2 * n * n) k (length text) (length certificate)) mesh.vertices in
-      (text, certificate, canonical, made, (done, told ∙ counts))
+      owed_so (OfSample n) _ _ _ _ (sampled text certificate canonical made) done (told ∙ counts)
 
 -- an accepted certificate opens
 pub opens_well : (f : Contents) (k : ℕ) (certificate : List ℕ) (bad : Illegal) → IsAccepted f certificate Two (k ∷ []) → IsBadOpening certificate bad → ⊥

@@ -6,7 +6,7 @@ use Rattle.iges_solid_cmd.specs.declared.form.Command.{Command}
 use Rattle.iges_solid_cmd.specs.Forms.{command_of, usage_line, IsSized}
 use Rattle.iges_solid_cmd.specs.Texts.{sample_line}
 use Rattle.command_replies.specs.Due.{Exactly}
-use Rattle.iges_solid_cmd.specs.Due.{OfContents, OfSample, DueOf}
+use Rattle.iges_solid_cmd.specs.Due.{OfContents, OfSample, sampled, DueOf}
 use Rattle.iges_solid_cmd.specs.OneAnswer.{SomeAnswerIsOwed}
 use Rattle.cert_maker.proofs.SomeText.{some_text}
 use Rattle.sample_solids.proofs.Closed.{closed}
@@ -22,7 +22,7 @@ sample_due n low high =
     let text = has_text n low high in
     let mesh = closed n low high in
     let certificate = some_text (sample n) 1 mesh.made.limits mesh.closed in
-    (answer.Done, sample_line n (n * n) (2 * n * n) (n * n) (length text.0) (length certificate.0), (text.0, certificate.0, text.1, certificate.1, (refl, refl)))
+    (answer.Done, sample_line n (n * n) (2 * n * n) (n * n) (length text.0) (length certificate.0), sampled text.0 certificate.0 text.1 certificate.1)
 
 command_due : (c : Command) → IsSized c → (file certificate : List ℕ) → IsSome (DueOf c file certificate)
 command_due (command.File c) size file certificate = file_due file (OfContents c certificate) (λ f few is. contents_due c certificate f file few is)

@@ -22,7 +22,7 @@ use Rattle.command_replies.specs.declared.answer.Answer.{Answer}
 use Rattle.command_replies.specs.declared.answer.Answer.TheVariants as answer
 use Rattle.command_replies.specs.Texts.{fail_line}
 use Rattle.iges_solid_cmd.specs.Texts.{no_extract_line}
-use Rattle.iges_solid_cmd.specs.Due.{OfRefused, OfWritten, OfExtract, OfCompact}
+use Rattle.iges_solid_cmd.specs.Due.{OfWritten, too_large, written, OfExtract, not_extracted, extracted, OfCompact, not_compacted, misplaced, compacted}
 use Rattle.iges_solid_cmd.proofs.ExtractionDecided.{extracted_or_refused}
 
 -- ---- two that are owed are one
@@ -32,34 +32,35 @@ pub text_is : (f : Contents) (t u : List ℕ) → IsText f t → IsText f u → 
 text_is f t u p q = let one = one_text f in one.2 t p ∙ sym (one.2 u q)
 
 one_written : (f : Contents) (a b : Answer) (t u : List ℕ) → OfWritten f a t → OfWritten f b u → (a ≡ b) × (t ≡ u)
-one_written f a b t u (inl p) (inl q) = (p.3.0 ∙ sym q.3.0, p.3.1 ∙ sym q.3.1)
-one_written f a b t u (inl p) (inr q) = let same = ap (λ (xs : List ℕ). length xs) (text_is f p.0 q.0 p.1 q.1) in absurd (omega (arith, p.2, q.2, same))
-one_written f a b t u (inr p) (inl q) = let same = ap (λ (xs : List ℕ). length xs) (text_is f p.0 q.0 p.1 q.1) in absurd (omega (arith, p.2, q.2, same))
-one_written f a b t u (inr p) (inr q) = (p.3.0 ∙ sym q.3.0, p.3.1 ∙ text_is f p.0 q.0 p.1 q.1 ∙ sym q.3.1)
+one_written f a b t u (too_large text is many) (too_large other at more) = (refl, refl)
+one_written f a b t u (too_large text is many) (written other at few) = let same = ap (λ (xs : List ℕ). length xs) (text_is f text other is at) in absurd (omega (arith, many, few, same))
+one_written f a b t u (written text is few) (too_large other at many) = let same = ap (λ (xs : List ℕ). length xs) (text_is f text other is at) in absurd (omega (arith, many, few, same))
+one_written f a b t u (written text is few) (written other at fewer) = (refl, text_is f text other is at)
 
-one_refused : (n : ℕ) (f : Contents) (a b : Answer) (t u : List ℕ) → OfRefused n f a t → OfRefused n f b u → (a ≡ b) × (t ≡ u)
-one_refused n f a b t u (e, r, p, x) (k, s, q, y) =
+-- a refusal has one line
+refused_line : (n : ℕ) (f : Contents) (e k : ℕ) (r s : ExtractReason) → IsRefused f n e r → IsRefused f n k s → no_extract_line e r ≡ no_extract_line k s
+refused_line n f e k r s p q =
     let same = IsRefused-unique f n e k r s p q in
-    (x.0 ∙ sym y.0, x.1 ∙ ap (λ i. no_extract_line i r) same.0 ∙ ap (no_extract_line k) same.1 ∙ sym y.1)
+    ap (λ i. no_extract_line i r) same.0 ∙ ap (no_extract_line k) same.1
 
 -- two answers that are owed of extracting a solid agree
 pub one_extract : (n : ℕ) (f : Contents) (a b : Answer) (t u : List ℕ) → OfExtract n f a t → OfExtract n f b u → (a ≡ b) × (t ≡ u)
-one_extract n f a b t u (inl p) (inl q) = one_refused n f a b t u p q
-one_extract n f a b t u (inl p) (inr (new, x, owed)) = absurd (IsExtracted-IsRefused f n new p.0 p.1 x p.2)
-one_extract n f a b t u (inr (new, x, owed)) (inl q) = absurd (IsExtracted-IsRefused f n new q.0 q.1 x q.2)
-one_extract n f a b t u (inr (new, x, owed)) (inr (other, y, due)) = one_written other a b t u (subst (λ (g : Contents). OfWritten g a t) (IsExtracted-unique f n new other x y) owed) due
+one_extract n f a b t u (not_extracted e r p) (not_extracted k s q) = (refl, refused_line n f e k r s p q)
+one_extract n f a b t u (not_extracted e r p) (extracted new x owed) = absurd (IsExtracted-IsRefused f n new e r x p)
+one_extract n f a b t u (extracted new x owed) (not_extracted k s q) = absurd (IsExtracted-IsRefused f n new k s x q)
+one_extract n f a b t u (extracted new x owed) (extracted other y due) = one_written other a b t u (subst (λ (g : Contents). OfWritten g a t) (IsExtracted-unique f n new other x y) owed) due
 
 -- two answers that are owed of compacting a solid agree
 pub one_compact : (n : ℕ) (f : Contents) (a b : Answer) (t u : List ℕ) → OfCompact n f a t → OfCompact n f b u → (a ≡ b) × (t ≡ u)
-one_compact n f a b t u (inl p) (inl q) = one_refused n f a b t u p q
-one_compact n f a b t u (inl p) (inr (inl (y, q, d))) = absurd (IsExtracted-IsRefused f n q.«between» p.0 p.1 q.extracted p.2)
-one_compact n f a b t u (inl p) (inr (inr (new, q, due))) = absurd (IsExtracted-IsRefused f n q.«between» p.0 p.1 q.extracted p.2)
-one_compact n f a b t u (inr (inl (x, p, e))) (inl q) = absurd (IsExtracted-IsRefused f n p.«between» q.0 q.1 p.extracted q.2)
-one_compact n f a b t u (inr (inl (x, p, e))) (inr (inl (y, q, d))) = (e.0 ∙ sym d.0, e.1 ∙ ap fail_line (FirstFalse-one (places f n) x y p.places q.places) ∙ sym d.1)
-one_compact n f a b t u (inr (inl (x, p, e))) (inr (inr (new, q, due))) = absurd (FirstFalse-not_all (places f n) x p.places q.places)
-one_compact n f a b t u (inr (inr (new, p, owed))) (inl q) = absurd (IsExtracted-IsRefused f n p.«between» q.0 q.1 p.extracted q.2)
-one_compact n f a b t u (inr (inr (new, p, owed))) (inr (inl (y, q, d))) = absurd (FirstFalse-not_all (places f n) y q.places p.places)
-one_compact n f a b t u (inr (inr (new, p, owed))) (inr (inr (other, q, due))) = one_written other a b t u (subst (λ (g : Contents). OfWritten g a t) (only_file f n (Ok new) other p tt q) owed) due
+one_compact n f a b t u (not_compacted e r p) (not_compacted k s q) = (refl, refused_line n f e k r s p q)
+one_compact n f a b t u (not_compacted e r p) (misplaced y q) = absurd (IsExtracted-IsRefused f n q.«between» e r q.extracted p)
+one_compact n f a b t u (not_compacted e r p) (compacted new q due) = absurd (IsExtracted-IsRefused f n q.«between» e r q.extracted p)
+one_compact n f a b t u (misplaced x p) (not_compacted k s q) = absurd (IsExtracted-IsRefused f n p.«between» k s p.extracted q)
+one_compact n f a b t u (misplaced x p) (misplaced y q) = (refl, ap fail_line (FirstFalse-one (places f n) x y p.places q.places))
+one_compact n f a b t u (misplaced x p) (compacted new q due) = absurd (FirstFalse-not_all (places f n) x p.places q.places)
+one_compact n f a b t u (compacted new p owed) (not_compacted k s q) = absurd (IsExtracted-IsRefused f n p.«between» k s p.extracted q)
+one_compact n f a b t u (compacted new p owed) (misplaced y q) = absurd (FirstFalse-not_all (places f n) y q.places p.places)
+one_compact n f a b t u (compacted new p owed) (compacted other q due) = one_written other a b t u (subst (λ (g : Contents). OfWritten g a t) (only_file f n (Ok new) other p tt q) owed) due
 
 -- ---- something is owed
 
@@ -67,16 +68,16 @@ some_written : (f : Contents) → (a : Answer) × (t : List ℕ) × OfWritten f 
 some_written f = by_limit (one_text f).0 (one_text f).1 (decided_within (length (one_text f).0) FILE_LIMIT)
   where
     by_limit : (text : List ℕ) → IsText f text → Decided (length text ≤ FILE_LIMIT) → (a : Answer) × (t : List ℕ) × OfWritten f a t
-    by_limit text is (inl few) = (answer.Done, text, inr (text, is, few, (refl, refl)))
-    by_limit text is (inr more) = let above : FILE_LIMIT < length text = omega (arith, more) in (answer.TooLarge, [], inl (text, is, above, (refl, refl)))
+    by_limit text is (inl few) = (answer.Done, text, written text is few)
+    by_limit text is (inr more) = let above : FILE_LIMIT < length text = omega (arith, more) in (answer.TooLarge, [], too_large text is above)
 
 -- some answer is owed of extracting a solid
 pub some_extract : (n : ℕ) (f : Contents) → (a : Answer) × (t : List ℕ) × OfExtract n f a t
 some_extract n f = by_answer (extracted_or_refused f n)
   where
     by_answer : ((new : Contents) × IsExtracted f n new) ⊎ ((entity : ℕ) × (why : ExtractReason) × IsRefused f n entity why) → (a : Answer) × (t : List ℕ) × OfExtract n f a t
-    by_answer (inr (entity, why, refused)) = (answer.NoExtract, no_extract_line entity why, inl (entity, why, refused, (refl, refl)))
-    by_answer (inl (new, extracted)) = let owed = some_written new in (owed.0, owed.1, inr (new, extracted, owed.2))
+    by_answer (inr (entity, why, refused)) = (answer.NoExtract, no_extract_line entity why, not_extracted entity why refused)
+    by_answer (inl (new, found)) = let owed = some_written new in (owed.0, owed.1, extracted new found owed.2)
 
 -- once its unused items are dropped, an extracted solid is extracted again
 again : (f g : Contents) (n : ℕ) (x : IsExtracted f n g) → (new : Contents) × IsExtracted (dropped g) (new_number x.kept n) new
@@ -92,9 +93,9 @@ pub some_compact : (n : ℕ) (f : Contents) → (a : Answer) × (t : List ℕ) �
 some_compact n f = by_answer (extracted_or_refused f n) (all_or_first_false (places f n) (places_decided f n))
   where
     by_answer : ((new : Contents) × IsExtracted f n new) ⊎ ((entity : ℕ) × (why : ExtractReason) × IsRefused f n entity why) → AllHold (places f n) ⊎ ((x : Failing) × FirstFalse (places f n) x) → (a : Answer) × (t : List ℕ) × OfCompact n f a t
-    by_answer (inr (entity, why, refused)) holds = (answer.NoExtract, no_extract_line entity why, inl (entity, why, refused, (refl, refl)))
-    by_answer (inl (g, extracted)) (inr (x, bad)) = (answer.No, fail_line x, inr (inl (x, record { «between» = g; extracted = extracted; places = bad }, (refl, refl))))
-    by_answer (inl (g, extracted)) (inl all) =
-        let new = again f g n extracted in
+    by_answer (inr (entity, why, refused)) holds = (answer.NoExtract, no_extract_line entity why, not_compacted entity why refused)
+    by_answer (inl (g, found)) (inr (x, bad)) = (answer.No, fail_line x, misplaced x (record { «between» = g; extracted = found; places = bad }))
+    by_answer (inl (g, found)) (inl all) =
+        let new = again f g n found in
         let owed = some_written new.0 in
-        (owed.0, owed.1, inr (inr (new.0, record { «between» = g; extracted = extracted; places = all; again = new.1 }, owed.2)))
+        (owed.0, owed.1, compacted new.0 (record { «between» = g; extracted = found; places = all; again = new.1 }) owed.2)

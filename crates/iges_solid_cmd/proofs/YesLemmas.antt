@@ -1,5 +1,5 @@
 -- When verifying answers yes.
-use Rattle.std.proofs.Common.{◌≡◌, inl, inr, ℕ, List, [], ◌∷◌, refl, sym, subst}
+use Rattle.std.proofs.Common.{◌≡◌, inl, ℕ, List, [], ◌∷◌, refl, sym, subst}
 use Rattle.iges_params.specs.Contents.{Contents}
 use Rattle.cert_lines.specs.declared.version.Version.{Version}
 use Rattle.cert_lines.specs.declared.version.Version.TheVariants.{One, Two, Three}
@@ -15,8 +15,9 @@ use Rattle.iges_params.specs.Limits.{FitsLimits}
 use Rattle.solid_check.specs.Laws.{upgraded_version}
 use Rattle.solid_check.proofs.UpgradedLaw.{upgraded_is_accepted}
 use Rattle.solid_data.proofs.Members.{Contains-from_Has}
-use Rattle.command_replies.specs.Due.{OfText}
+use Rattle.command_replies.specs.Due.{OfText, text_done}
 use Rattle.certificate_commands.specs.Due.{OfVerify, upgraded_for}
+use Rattle.iges_solid_cmd.specs.Due.{certified, all_certified}
 use Rattle.iges_solid_cmd.specs.Yes.{BookIsVerified, YesIsAccepted, YesIsClosed, CertifiedIsVerified, UpgradedIsVerified}
 use Rattle.certificate_commands.proofs.Judged.{OfYes, one_accepted}
 use Rattle.certificate_commands.proofs.AcceptedOwed.{accepted_owed, accepted_then}
@@ -32,8 +33,7 @@ yes_is_closed f c text owed = let then = yes_then f c text owed in (then.1, acce
 
 -- what certifying writes, verifying accepts
 pub certified_is_verified : CertifiedIsVerified
-certified_is_verified n bytes f text few is (inl (x, p, exact)) = absurd (let done = exact.0 in cc)
-certified_is_verified n bytes f text few is (inr (all, made, done)) =
+certified_is_verified n bytes f text few is (certified whole all made) =
     let accepted = text_accepted f n text ((closed_is_all_hold_of_file f n).1 all).placed made in
     accepted_owed OfYes f text (accepted_line n) Two (n ∷ []) (accepted_is_small bytes f Two n text few is (is_alone f text n accepted)) accepted (refl, sym (one_accepted n))
   where
@@ -41,14 +41,10 @@ certified_is_verified n bytes f text few is (inr (all, made, done)) =
     is_alone f c n (m, e, a) = let same : n ≡ m = cc in subst (λ (k : ℕ). IsAcceptedAlone Two f k c) (sym same) a
 
 pub book_is_verified : BookIsVerified
-book_is_verified f text few (inl p) = absurd (let done = p.1.0 in cc)
-book_is_verified f text few (inr (inl (n, x, p, exact))) = absurd (let done = exact.0 in cc)
-book_is_verified f text few (inr (inr (inl (n, p, exact)))) = absurd (let done = exact.0 in cc)
-book_is_verified f text few (inr (inr (inr (some, made, book, done)))) = accepted_owed OfYes f text (accepted_lines (solids_of f)) Three (solids_of f) few (book_text_accepted f text some book) (refl, refl)
+book_is_verified f text few (all_certified whole some made book) = accepted_owed OfYes f text (accepted_lines (solids_of f)) Three (solids_of f) few (book_text_accepted f text some book) (refl, refl)
 
 text_is : (whole text : List ℕ) → OfText whole Done text → text ≡ whole
-text_is whole text (inl p) = absurd (let done = p.1.0 in cc)
-text_is whole text (inr p) = p.1.1
+text_is whole text (text_done few) = refl
 
 -- what is upgraded for the first solid that it names stays accepted
 upgraded_for_accepted : (f : Contents) (c : List ℕ) (v : Version) (ns : List ℕ) → FitsLimits f → IsAccepted f c v ns → IsAccepted f (upgraded_for f c ns) (upgraded_version v) ns
