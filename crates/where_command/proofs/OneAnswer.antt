@@ -37,7 +37,7 @@ use Rattle.where_solids.specs.Told.{IsOfRecords, IsOfShells, IsToldOf, record_re
 use Rattle.where_command.specs.declared.asked.Asked.{Asked}
 use Rattle.where_command.specs.declared.asked.Asked.TheVariants as asked
 use Rattle.where_command.specs.Asked.{asked_of, usage_line}
-use Rattle.where_command.specs.Due.{DueOf, OfContents, OfNoFile, OfOverview, OfSolid, answer_to, answer_where, bad_file_text}
+use Rattle.where_command.specs.Due.{DueOf, OfContents, OfNoFile, OfOverview, OfSolid, answer_to, answer_where, bad_file, bad_file_text, file_too_large}
 use Rattle.where_command.specs.Laws.{OneAnswerIsOwed}
 use Rattle.where_command.proofs.OneFaults.{one_of_all, same_list}
 
@@ -104,16 +104,15 @@ contents_one (asked.Solid n listing) f a b t u p q =
     (p.2 ∙ (ap answer_to same.0 ∙ sym q.2), same.1)
 
 no_file_one : (bytes : List ℕ) → IsOne (OfNoFile bytes)
-no_file_one bytes a b t u (inl p) (inl q) = (p.1.0 ∙ sym q.1.0, p.1.1 ∙ sym q.1.1)
-no_file_one bytes a b t u (inl p) (inr q) = absurd (omega (arith, p.0, q.0))
-no_file_one bytes a b t u (inr p) (inl q) = absurd (omega (arith, p.0, q.0))
-no_file_one bytes a b t u (inr p) (inr q) =
-    let same : p.1 ≡ q.1 = err_is {X = Contents} p.1 q.1 (sym (Refusal-read_file bytes p.1 p.2) ∙ Refusal-read_file bytes q.1 q.2) in
-    (p.3.0 ∙ sym q.3.0, p.3.1 ∙ (ap bad_file_text same ∙ sym q.3.1))
+no_file_one bytes a b t u (file_too_large p) (file_too_large q) = (refl, refl)
+no_file_one bytes a b t u (file_too_large p) (bad_file few fault q) = absurd (omega (arith, p, few))
+no_file_one bytes a b t u (bad_file few fault p) (file_too_large q) = absurd (omega (arith, few, q))
+no_file_one bytes a b t u (bad_file few fault p) (bad_file less other q) =
+    (refl, ap bad_file_text (err_is {X = Contents} fault other (sym (Refusal-read_file bytes fault p) ∙ Refusal-read_file bytes other q)))
 
 owed_none : (bytes : List ℕ) (a : Answer) (t : List ℕ) → OfNoFile bytes a t → IsNoFile bytes
-owed_none bytes a t (inl p) = inl p.0
-owed_none bytes a t (inr p) = inr (p.0, p.1, p.2)
+owed_none bytes a t (file_too_large p) = inl p
+owed_none bytes a t (bad_file few fault p) = inr (few, fault, p)
 
 due_of_one : (q : Asked) (bytes : List ℕ) → IsOne (DueOf q bytes)
 due_of_one c bytes a b t u (inl p) (inl q) = no_file_one bytes a b t u p q

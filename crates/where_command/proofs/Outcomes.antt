@@ -16,7 +16,7 @@ use Rattle.where_solids.specs.Overview.{all_close}
 use Rattle.where_command.specs.declared.asked.Asked.{Asked}
 use Rattle.where_command.specs.declared.asked.Asked.TheVariants as asked
 use Rattle.where_command.specs.Asked.{asked_of, usage_line}
-use Rattle.where_command.specs.Due.{DueOf, OfContents, OfNoFile, answer_to, answer_where, bad_file_text}
+use Rattle.where_command.specs.Due.{DueOf, OfContents, OfNoFile, answer_to, answer_where, bad_file, file_too_large}
 use Rattle.where_command.specs.Outcome.{Finishes, IsComplete, IsOwed, Outcome}
 
 some_told : (left : Option (List ℕ)) → (bytes : List ℕ) × Told left bytes
@@ -70,8 +70,8 @@ contents_judgement asked.Overview f a t owed = subst IsJudgement (sym owed.2) (w
 contents_judgement (asked.Solid n listing) f a t owed = subst IsJudgement (sym owed.2) (to_judgement owed.0)
 
 no_file_judgement : (bytes : List ℕ) (a : Answer) (t : List ℕ) → OfNoFile bytes a t → IsJudgement a
-no_file_judgement bytes a t (inl p) = subst IsJudgement (sym p.1.0) tt
-no_file_judgement bytes a t (inr p) = subst IsJudgement (sym p.3.0) tt
+no_file_judgement bytes a t (file_too_large p) = tt
+no_file_judgement bytes a t (bad_file few fault p) = tt
 
 due_judgement : (q : Asked) (bytes : List ℕ) (a : Answer) (t : List ℕ) → DueOf q bytes a t → IsJudgement a
 due_judgement q bytes a t (inl p) = no_file_judgement bytes a t p

@@ -24,11 +24,12 @@ use Rattle.where_command.specs.Asked.{asked_of, usage_line}
 abbrev pub bad_file_text : LineFault → List ℕ
 bad_file_text fault = bad_file_line fault ++ reason_sentence fault.reason
 
--- what is owed of bytes that are no file to be judged: that they are too many, or what is wrong with the file
-abbrev pub OfNoFile : List ℕ → Owed
-OfNoFile bytes a t =
-    ((FILE_LIMIT < length bytes) × Exactly answer.TooLarge [] a t)
-    ⊎ ((length bytes ≤ FILE_LIMIT) × (fault : LineFault) × Refusal bytes fault × Exactly answer.BadFile (bad_file_text fault) a t)
+-- what is owed of bytes that are no file to be judged
+pub data OfNoFile (bytes : List ℕ) : Answer → List ℕ → Type 0 where
+  -- that they are too many
+  file_too_large : FILE_LIMIT < length bytes → OfNoFile bytes answer.TooLarge []
+  -- what is wrong with the file
+  bad_file : length bytes ≤ FILE_LIMIT → (fault : LineFault) → Refusal bytes fault → OfNoFile bytes answer.BadFile (bad_file_text fault)
 
 abbrev pub answer_to : Verdict → Answer
 answer_to Closed = answer.Done
