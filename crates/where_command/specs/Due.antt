@@ -26,9 +26,9 @@ bad_file_text fault = bad_file_line fault ++ reason_sentence fault.reason
 
 -- what is owed of bytes that are no file to be judged
 pub data OfNoFile (bytes : List ℕ) : Answer → List ℕ → Type 0 where
-  -- that they are too many
+  -- there are too many
   file_too_large : FILE_LIMIT < length bytes → OfNoFile bytes answer.TooLarge []
-  -- what is wrong with the file
+  -- a line is bad
   bad_file : length bytes ≤ FILE_LIMIT → (fault : LineFault) → Refusal bytes fault → OfNoFile bytes answer.BadFile (bad_file_text fault)
 
 abbrev pub answer_to : Verdict → Answer
