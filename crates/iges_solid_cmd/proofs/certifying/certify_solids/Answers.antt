@@ -19,7 +19,7 @@ returns-in-Err-NoSolid c =
 pub returns-in-Err-TooMany : goal.returns-in-Err-TooMany
 returns-in-Err-TooMany c =
     let first = rw c.in-Err-TooMany.field-0-is at c.in-Err-TooMany.ensures.fault in
-    owed_so (OfCertifyAll c.args.file) _ _ _ _ (too_many c.in-Err-TooMany.solid first) c.too_large.ensures.0 c.too_large.ensures.1
+    owed_so (OfCertifyAll c.args.file) _ _ _ _ (too_many c.in-Err-TooMany.field-0-0 first) c.too_large.ensures.0 c.too_large.ensures.1
 
 pub returns : goal.returns
 returns c =
