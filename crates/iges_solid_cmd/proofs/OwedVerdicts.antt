@@ -54,17 +54,17 @@ open_verdict n f a t (shell.open_certified text sound accepted) = tt
 pub open_verify_verdict : (certificate : List ℕ) (f : Contents) (a : Answer) (t : List ℕ) → OfOpenVerify certificate f a t → IsFileVerdict a
 open_verify_verdict certificate f a t (shell.certificate_too_large many) = tt
 open_verify_verdict certificate f a t (shell.opening_bad few bad wrong) = tt
-open_verify_verdict certificate f a t (shell.opened b u few m lines opens owed) = shell_lines_verdict m lines f b u owed
+open_verify_verdict certificate f a t (shell.opened few m lines opens owed) = shell_lines_verdict m lines f a t owed
 
 pub orient_verdict : (n : ℕ) (f : Contents) (a : Answer) (t : List ℕ) → OfOrient n f a t → IsFileVerdict a
 orient_verdict n f a t (orient.misplaced x first) = tt
 orient_verdict n f a t (orient.unready holds x first) = tt
-orient_verdict n f a t (orient.oriented b u holds ready is) = oriented_verdict is.lines b is.answer
+orient_verdict n f a t (orient.oriented holds ready is) = oriented_verdict is.lines a is.answer
 
 pub orient_verify_verdict : (certificate : List ℕ) (f : Contents) (a : Answer) (t : List ℕ) → OfOrientVerify certificate f a t → IsFileVerdict a
 orient_verify_verdict certificate f a t (orient.text_too_large many) = tt
 orient_verify_verdict certificate f a t (orient.head_bad few bad wrong) = tt
-orient_verify_verdict certificate f a t (orient.named b u few m lines names owed) = orient_lines_verdict m lines f b u owed
+orient_verify_verdict certificate f a t (orient.named few m lines names owed) = orient_lines_verdict m lines f a t owed
 
 pub compact_verdict : (n : ℕ) (f : Contents) (a : Answer) (t : List ℕ) → OfCompact n f a t → IsFileVerdict a
 compact_verdict n f a t (not_compacted entity why refused) = tt

@@ -54,12 +54,12 @@ lines_one n lines f a b t u (lines_accepted all legal) (lines_accepted every als
 pub one_verify : OneVerifyAnswer
 one_verify c f a b t u (certificate_too_large p) (certificate_too_large q) = (refl, refl)
 one_verify c f a b t u (certificate_too_large p) (opening_bad few bad q) = absurd (omega (arith, p, few))
-one_verify c f a b t u (certificate_too_large p) (opened _ _ few m lines opens q) = absurd (omega (arith, p, few))
+one_verify c f a b t u (certificate_too_large p) (opened few m lines opens q) = absurd (omega (arith, p, few))
 one_verify c f a b t u (opening_bad few bad p) (certificate_too_large q) = absurd (omega (arith, few, q))
 one_verify c f a b t u (opening_bad few bad p) (opening_bad also worse q) = (refl, ap illegal_line (one_bad_opening c bad worse p q))
-one_verify c f a b t u (opening_bad few bad p) (opened _ _ also m lines opens q) = absurd (opens_or_bad c m lines bad opens p)
-one_verify c f a b t u (opened _ _ few n lines opens p) (certificate_too_large q) = absurd (omega (arith, few, q))
-one_verify c f a b t u (opened _ _ few n lines opens p) (opening_bad also bad q) = absurd (opens_or_bad c n lines bad opens q)
-one_verify c f a b t u (opened _ _ few n lines opens p) (opened _ _ also m other opens_q q) =
+one_verify c f a b t u (opening_bad few bad p) (opened also m lines opens q) = absurd (opens_or_bad c m lines bad opens p)
+one_verify c f a b t u (opened few n lines opens p) (certificate_too_large q) = absurd (omega (arith, few, q))
+one_verify c f a b t u (opened few n lines opens p) (opening_bad also bad q) = absurd (opens_or_bad c n lines bad opens q)
+one_verify c f a b t u (opened few n lines opens p) (opened also m other opens_q q) =
     let same = one_opening c n m lines other opens opens_q in
     lines_one m other f a b t u (subst (λ k. OfShellLines k other f a t) same.0 (subst (λ ls. OfShellLines n ls f a t) same.1 p)) q

@@ -58,4 +58,4 @@ some_verify certificate f = by_limit (decided_within (length certificate) CERT_L
     by_limit : Decided (length certificate ≤ CERT_LIMIT) → ((n : ℕ) × (lines : List (List ℕ)) × OpensShell certificate n lines) ⊎ ((bad : Illegal) × IsBadOpening certificate bad) → IsSome (OfOpenVerify certificate f)
     by_limit (inr more) any = (TooLarge, [], certificate_too_large (longer (length certificate) CERT_LIMIT more))
     by_limit (inl few) (inr (bad, wrong)) = (No, illegal_line bad, opening_bad few bad wrong)
-    by_limit (inl few) (inl (n, lines, opens)) = let due = lines_due n lines f in (due.0, due.1, opened due.0 due.1 few n lines opens due.2)
+    by_limit (inl few) (inl (n, lines, opens)) = let due = lines_due n lines f in (due.0, due.1, opened few n lines opens due.2)

@@ -129,13 +129,13 @@ lines_one n ls f a b t u (lines_accepted all two w) (lines_accepted every both v
 pub verifying_one : OneVerifying
 verifying_one text f a b t u (text_too_large p) (text_too_large q) = (refl, refl)
 verifying_one text f a b t u (text_too_large p) (head_bad few bad q) = absurd (omega (arith, p, few))
-verifying_one text f a b t u (text_too_large p) (named _ _ few m ms names q) = absurd (omega (arith, p, few))
+verifying_one text f a b t u (text_too_large p) (named few m ms names q) = absurd (omega (arith, p, few))
 verifying_one text f a b t u (head_bad few bad p) (text_too_large q) = absurd (omega (arith, few, q))
 verifying_one text f a b t u (head_bad few bad p) (head_bad less worse q) = (refl, ap illegal_line (first_one (cut_lines text) bad worse p q))
-verifying_one text f a b t u (head_bad few bad p) (named _ _ less m ms names q) = absurd (names_not text m ms bad names p)
-verifying_one text f a b t u (named _ _ few n ls names p) (text_too_large q) = absurd (omega (arith, few, q))
-verifying_one text f a b t u (named _ _ few n ls names p) (head_bad less bad q) = absurd (names_not text n ls bad names q)
-verifying_one text f a b t u (named _ _ few n ls names p) (named _ _ less m ms other q) =
+verifying_one text f a b t u (head_bad few bad p) (named less m ms names q) = absurd (names_not text m ms bad names p)
+verifying_one text f a b t u (named few n ls names p) (text_too_large q) = absurd (omega (arith, few, q))
+verifying_one text f a b t u (named few n ls names p) (head_bad less bad q) = absurd (names_not text n ls bad names q)
+verifying_one text f a b t u (named few n ls names p) (named less m ms other q) =
     let same = names_one text n m ls ms names other in
     lines_one m ms f a b t u (subst (λ k. OfOrientLines k ms f a t) same.0 (subst (λ (x : List (List ℕ)). OfOrientLines n x f a t) same.1 p)) q
 
@@ -221,18 +221,18 @@ same_text t u e = subst (λ (x : List ℕ). AllZip AreSameOrRings (cut_lines t) 
 pub orienting_one : OneOrientation
 orienting_one n f a b t u (misplaced x p) (misplaced y q) = (refl, same_text t u (ap fail_line (FirstFalse-one (places f n) x y p q)))
 orienting_one n f a b t u (misplaced x p) (unready all y q) = absurd (FirstFalse-not_all (places f n) x p all)
-orienting_one n f a b t u (misplaced x p) (oriented _ _ all ready q) = absurd (FirstFalse-not_all (places f n) x p all)
+orienting_one n f a b t u (misplaced x p) (oriented all ready q) = absurd (FirstFalse-not_all (places f n) x p all)
 orienting_one n f a b t u (unready all x p) (misplaced y q) = absurd (FirstFalse-not_all (places f n) y q all)
 orienting_one n f a b t u (unready all x p) (unready every y q) = (refl, same_text t u (ap orient_fail_line (shells_one IsReady IsFirstFailing failing_one failing_not (solid_of f n) x y p q)))
-orienting_one n f a b t u (unready all x p) (oriented _ _ every ready q) = absurd (shells_none IsReady IsFirstFailing failing_one failing_not (solid_of f n) x p ready)
-orienting_one n f a b t u (oriented _ _ all ready p) (misplaced y q) = absurd (FirstFalse-not_all (places f n) y q all)
-orienting_one n f a b t u (oriented _ _ all ready p) (unready every y q) = absurd (shells_none IsReady IsFirstFailing failing_one failing_not (solid_of f n) y q ready)
-orienting_one n f a b t u (oriented _ _ all ready p) (oriented _ _ every also q) = oriented_one (solid_of f n) n a b t u ready p q
+orienting_one n f a b t u (unready all x p) (oriented every ready q) = absurd (shells_none IsReady IsFirstFailing failing_one failing_not (solid_of f n) x p ready)
+orienting_one n f a b t u (oriented all ready p) (misplaced y q) = absurd (FirstFalse-not_all (places f n) y q all)
+orienting_one n f a b t u (oriented all ready p) (unready every y q) = absurd (shells_none IsReady IsFirstFailing failing_one failing_not (solid_of f n) y q ready)
+orienting_one n f a b t u (oriented all ready p) (oriented every also q) = oriented_one (solid_of f n) n a b t u ready p q
 
 -- What is owed is accepted.
 
 pub orientation_accepted : OrientationIsAccepted
 orientation_accepted n f a text all ready (misplaced x p) few = absurd (FirstFalse-not_all (places f n) x p all)
 orientation_accepted n f a text all ready (unready holds x p) few = absurd (shells_none IsReady IsFirstFailing failing_one failing_not (solid_of f n) x p ready)
-orientation_accepted n f a text all ready (oriented _ _ holds also o) few =
-    named answer.Done (accepted_line n) few n o.lines o.names (lines_accepted all (λ k lt. (ready k lt).counted) o.whole)
+orientation_accepted n f a text all ready (oriented holds also o) few =
+    named few n o.lines o.names (lines_accepted all (λ k lt. (ready k lt).counted) o.whole)

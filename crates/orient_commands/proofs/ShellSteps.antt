@@ -153,4 +153,4 @@ flags_spelled s k flags numbered lt fit =
 pub orient_owed : (f : Contents) (n : ℕ) (s : SolidData) (a : Answer) (t : List ℕ) → s ≡ solid_of f n → AllHold (places f n) → OfAllShells IsReady s → IsOriented s s.entity.0 a t → OfOrient n f a t
 unfolding solid_of
 orient_owed f n s a t e holds ready text =
-    oriented a t holds (subst (OfAllShells IsReady) e ready) (subst (λ (x : SolidData). IsOriented x x.entity.0 a t) e text)
+    oriented holds (subst (OfAllShells IsReady) e ready) (subst (λ (x : SolidData). IsOriented x x.entity.0 a t) e text)

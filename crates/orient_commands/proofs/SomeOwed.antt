@@ -152,7 +152,7 @@ verifying_due text f = by_limit (decided_within (length text) CERT_LIMIT) (head_
     by_limit : Decided (length text ≤ CERT_LIMIT) → ((n : ℕ) × (lines : List (List ℕ)) × Names text n lines) ⊎ ((bad : Illegal) × IsBadHead text bad) → IsSome (OfOrientVerify text f)
     by_limit (inr more) head = (answer.TooLarge, [], text_too_large (longer (length text) CERT_LIMIT more))
     by_limit (inl few) (inr (bad, wrong)) = (answer.No, illegal_line bad, head_bad few bad wrong)
-    by_limit (inl few) (inl (n, lines, names)) = let due = lines_due n lines f in (due.0, due.1, named due.0 due.1 few n lines names due.2)
+    by_limit (inl few) (inl (n, lines, names)) = let due = lines_due n lines f in (due.0, due.1, named few n lines names due.2)
 
 -- Orienting.
 

@@ -49,7 +49,7 @@ pub data OfOrient (n : ℕ) (f : Contents) : Answer → List ℕ → Type 0 wher
   -- a rule fails of a shell: the first that does
   unready : AllHold (places f n) → (x : OrientFailing) → IsFirstUnready (solid_of f n) x → OfOrient n f answer.No (orient_fail_line x)
   -- none does: an orientation
-  oriented : (a : Answer) (text : List ℕ) → AllHold (places f n) → OfAllShells IsReady (solid_of f n) → IsOriented (solid_of f n) n a text → OfOrient n f a text
+  oriented : {a : Answer} {text : List ℕ} → AllHold (places f n) → OfAllShells IsReady (solid_of f n) → IsOriented (solid_of f n) n a text → OfOrient n f a text
 
 -- what is owed of lines from line 2 on, after one that names solid n
 pub data OfOrientLines (n : ℕ) (lines : List (List ℕ)) (f : Contents) : Answer → List ℕ → Type 0 where
@@ -69,4 +69,4 @@ pub data OfOrientVerify (text : List ℕ) (f : Contents) : Answer → List ℕ �
   -- line 1 is bad
   head_bad : length text ≤ CERT_LIMIT → (bad : Illegal) → IsBadHead text bad → OfOrientVerify text f answer.No (illegal_line bad)
   -- it is good: by the lines after it
-  named : (a : Answer) (t : List ℕ) → length text ≤ CERT_LIMIT → (n : ℕ) (lines : List (List ℕ)) → Names text n lines → OfOrientLines n lines f a t → OfOrientVerify text f a t
+  named : {a : Answer} {t : List ℕ} → length text ≤ CERT_LIMIT → (n : ℕ) (lines : List (List ℕ)) → Names text n lines → OfOrientLines n lines f a t → OfOrientVerify text f a t

@@ -16,4 +16,4 @@ returns-in-Err c =
 pub returns : goal.returns
 returns c =
     let opens : OpensShell c.args.certificate.now c.in-Ok.opening.0.0 (cut_lines c.in-Ok.opening.1.now) = search rules in
-    IfOk-weaker c.lines_reply.result _ _ (λ reply owed. opened reply.answer reply.text c.requires _ _ opens owed) c.lines_reply.ensures
+    IfOk-weaker c.lines_reply.result _ _ (λ reply owed. opened c.requires _ _ opens owed) c.lines_reply.ensures

@@ -11,7 +11,7 @@ use Rattle.orient_commands.proofs.verifying.text_reply.Goals as goal
 pub returns-in-Ok : goal.returns-in-Ok
 returns-in-Ok c =
     let names : Names c.args.text.now c.in-Ok.no.0 (cut_lines c.in-Ok.rest.now) = search rules in
-    IfOk-weaker c.solid_reply.result _ _ (λ reply owed. named reply.answer reply.text c.requires _ _ names owed) c.solid_reply.ensures
+    IfOk-weaker c.solid_reply.result _ _ (λ reply owed. named c.requires _ _ names owed) c.solid_reply.ensures
 
 pub returns-in-Err-Bad : goal.returns-in-Err-Bad
 returns-in-Err-Bad c =
