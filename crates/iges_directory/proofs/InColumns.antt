@@ -89,6 +89,9 @@ some_fits field (Some z) le e = column_fits field z le (sym e)
 pub read_fits : (k : ℕ) (line : List ℕ) (z : ℤ) → SFits w64 z → Holds k line z → IsTrue (fits_columns (to_z w64 (of_z w64 z)))
 read_fits k line z fits e = subst (λ (n : ℤ). IsTrue (fits_columns n)) (sym (to_z-of_z w64 z fits)) (column_fits (field k line) z (field_short k line) e)
 
+pub read_holds : (k : ℕ) (line : List ℕ) (z : ℤ) → SFits w64 z → Holds k line z → Holds k line (to_z w64 (of_z w64 z))
+read_holds k line z fits e = subst (Holds k line) (sym (to_z-of_z w64 z fits)) e
+
 -- a number that the program has read stands in its field
 pub held : (k : ℕ) (line : List ℕ) (z : ℤ) → SFits w64 z → Some z ≡ column_number (field k line) → Holds k line (to_z w64 (of_z w64 z))
 held k line z fits e = subst (Holds k line) (sym (to_z-of_z w64 z fits)) (sym e)

@@ -71,7 +71,7 @@ pub point_no_digit : (b : ℕ) → is_point b ≡ true → is_ascii_digit b ≡ 
 point_no_digit b e = subst (λ (x : ℕ). is_ascii_digit x ≡ false) (sym (eqb-true b 46 e)) refl
 
 -- among digits and points is a digit where not all are points
-digit_among : (xs : List ℕ) → list_all is_mantissa_byte xs ≡ true → list_any is_ascii_digit xs ≡ nat_lt (count_by is_point xs) (length xs)
+pub digit_among : (xs : List ℕ) → list_all is_mantissa_byte xs ≡ true → list_any is_ascii_digit xs ≡ nat_lt (count_by is_point xs) (length xs)
 digit_among [] all = refl
 digit_among (x ∷ xs) all =
     let parts = and_parts (is_mantissa_byte x) (list_all is_mantissa_byte xs) all in

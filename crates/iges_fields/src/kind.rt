@@ -40,8 +40,8 @@ fn negative(value: u64) -> WordKind
     }
 }
 
-// The kind of an integer's word, whose digits write this value, or one past 64 bits.
-fn whole_kind(word: &[u8], value: u64) -> WordKind
+/// The kind of an integer's word, whose digits write this value, or one past 64 bits.
+pub fn whole_kind(word: &[u8], value: u64) -> WordKind
     requires word { IsTrue (is_integer word.now) }
     requires value { value ≡ up_to_past (digits_value 10 (without_leading_sign word.now)) }
     ensures { IsKindOf word.now result }

@@ -54,6 +54,7 @@ impl LineList {
     }
 
     /// Puts the line at the end.
+    #[inline(always)]
     pub fn push(&mut self, line: &[u8]) -> Result<(), NoMemory>
         requires { length line.now ≡ 80 }
         ensures ok { OnOk result (self.new ≡ self.old ++ line.now ∷ []) }

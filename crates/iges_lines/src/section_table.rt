@@ -234,6 +234,7 @@ impl SectionTable {
     }
 
     /// Puts the line at the end of its section.
+    #[inline(always)]
     pub fn add(&mut self, kind: Kind, line: &[u8]) -> Result<(), NoMemory>
         requires { length line.now ≡ 80 }
         ensures ok { OnOk result (self.new ≡ added self.old kind line.now) }

@@ -15,3 +15,4 @@ pub mod GlobalExact
 pub mod RecordsExact
 pub mod FileExact
 pub mod FilePass
+mod Pointers

@@ -89,6 +89,7 @@ impl File {
     /// 2.2.4.5). The entry's fields must fit their columns; type 0 has no values; a file has at most `ENTRY_LIMIT` entries
     /// and at most `FILE_LIMIT` values in all records together (own). Where memory runs out, the values are dropped and
     /// the file is as it was.
+    #[inline(always)]
     pub fn push(&mut self, entry: Entry, values: Values) -> Result<(), NoMemory>
         requires bounded { IsBounded entry }
         requires unused { IsTrue (int_eq entry.kind (pos 0)) → values ≡ [] }

@@ -10,6 +10,7 @@ mod kinds;
 mod law;
 mod part;
 mod passage;
+mod pointer;
 mod reading;
 mod record;
 

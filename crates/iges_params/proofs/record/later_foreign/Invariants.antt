@@ -2,7 +2,7 @@ use Rattle.std.proofs.Common.{◌≡◌, ◌+◌, drop, not}
 use Rattle.std.specs.Prelude.{slice_range}
 use Rattle.std.specs.List.{position_from}
 use Rattle.iges_params.specs.Records.{points_back}
-use Rattle.iges_params.proofs.record.first_foreign.Given as goal
+use Rattle.iges_params.proofs.record.later_foreign.Given as goal
 
 abbrev pub invariant-lines : goal.invariant-lines
 invariant-lines l =
