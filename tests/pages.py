@@ -12,18 +12,20 @@ PAGES = "README.md", "examples/README.md", "examples/no/README.md"
 COMMANDS = "README.md", "docs/COMMANDS.md"
 RULE = re.compile(r'(?m)^rule_name .*= codes "(.*)"$')
 SECONDS = 120
-# The indexes: a row has the rule, definitions, functions, edits and examples.
+# The indexes: a row has the rule, definitions, functions and examples.
 INDEXED = "docs/FORMAT.md", "docs/CERTIFICATE.md"
 INDEX = re.compile(r"(?m)^\| Rule \| Definition \| Function \| .*\n\|[-|]+\n((?:\|.*\n?)+)")
 DEFINITION = re.compile(r"\[`(\w+)`\]\(\.\./(crates/\w+/specs/\w+\.antt)\)")
 FUNCTION = re.compile(r"`(\w+)(?:::\w+)?::(\w+)`")
-EDIT = re.compile(r"\[(\w+)\]\(\.\./(crates/\w+/must-fail/(\w+)\.edit)\)")
 EXAMPLE = re.compile(r"\[([\w.]+)\]\(\.\./((?:examples|tests/inputs)/(?:\w+/)*([\w.]+))\)")
 # A certificate of the page with its table of changes, and the changes that are spelled out.
 CERTIFICATE = re.compile(r"(?s)```\n((?:IGESCERT|IGESOPEN|ORIENT) [^`]*)```\n(?:(?!```).)*?\n\| Change \| Answer \|\n\|[-|]+\n((?:\|.*?\n)+)")
 CHANGE = re.compile(r"`([^`]+)` as line (\d+)|no line (\d+)|no `END`")
 VERIFIERS = {"IGESCERT": "verify", "IGESOPEN": "open-verify", "ORIENT": "orient-verify"}
 FEWEST_CHANGES = 25
+# A crate with its edits in the table of wrong bodies in docs/DECISIONS.md.
+PLANTED = re.compile(r"`(\w+)`: ([^;|]+)")
+MOST_EDITS = 120
 # What stands for the launcher: it runs the program, or that which tells where solids fail.
 LAUNCHED = """#!/bin/sh
 [ "$1" != where ] || {{ shift; exec '{where}' "$@"; }}
@@ -89,7 +91,6 @@ def indexes(top):
     tests = (
         (DEFINITION, lambda m: (top / m[2]).exists() and defines((top / m[2]).read_text(), m[1])),
         (FUNCTION, lambda m: re.search(rf"\bfn {m[2]}\b", code.get(m[1], "")) is not None),
-        (EDIT, lambda m: m[1] == m[3] and (top / m[2]).exists()),
         (EXAMPLE, lambda m: m[1] == m[3] and (top / m[2]).exists()),
     )
     ruled = set()
@@ -103,6 +104,17 @@ def indexes(top):
     rules = {word for words in ruled for word in words}
     for word in sorted(printed_words(top) - {"missing", "misspelt", "unfit"}):
         yield f"docs/FORMAT.md: {word} in the index", word in rules
+
+
+def edits(top):
+    """Each edit that the table of wrong bodies names is there, and there are no more than the page says."""
+    page = (top / "docs" / "DECISIONS.md").read_text()
+    table = re.search(r"\| Wrong body \| Edits \|\n\|[-|]+\n((?:\|.*\n)+)", page)[1]
+    for crate, names in PLANTED.findall(table):
+        for name in names.strip().split(", "):
+            path = top / "crates" / crate / "must-fail" / f"{name.replace(' ', '_')}.edit"
+            yield f"docs/DECISIONS.md: {crate}: {name}", path.exists()
+    yield "docs/DECISIONS.md: how many edits", len(list(top.glob("crates/*/must-fail/*.edit"))) <= MOST_EDITS
 
 
 def changed_lines(lines, change):
@@ -152,4 +164,5 @@ def checks(folder, top, program, where, forms):
     yield from measured(top, program)
     yield from links(top)
     yield from indexes(top)
+    yield from edits(top)
     yield from changed_certificates(folder, top, program)
