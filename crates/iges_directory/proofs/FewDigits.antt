@@ -8,11 +8,11 @@ use Rattle.std.specs.Str.Parse.{digits_value}
 use Rattle.std.proofs.lemmas.Bool.{and_from, le-leb}
 use Rattle.std.proofs.lemmas.Int.{to_z_pos}
 use Rattle.std.proofs.lemmas.Str.{digit_value_digit}
-use Rattle.iges_fields.specs.Word.{column_number, spaces, after_spaces}
-use Rattle.iges_fields.proofs.Columns.{spaced_digits}
-use Rattle.iges_fields.proofs.Spaces.{after_spaces-spaces, after_spaces-other}
+use Rattle.iges_base.specs.Word.{column_number, spaces, after_spaces}
+use Rattle.iges_base.proofs.Columns.{spaced_digits}
+use Rattle.iges_base.proofs.Spaces.{after_spaces-spaces, after_spaces-other}
 use Rattle.std.proofs.lemmas.Bool.{not-true}
-use Rattle.iges_fields.proofs.Words.{digit_is_not}
+use Rattle.iges_base.proofs.DigitFronts.{digit_is_not}
 
 pub cons_is : (x y : ℕ) (xs ys : List ℕ) → x ≡ y → xs ≡ ys → x ∷ xs ≡ y ∷ ys
 cons_is x y xs ys e f = ap₂ (λ (z : ℕ) (zs : List ℕ). z ∷ zs) e f

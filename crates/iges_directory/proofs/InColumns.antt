@@ -12,9 +12,9 @@ use mir.Val.{SFits, of_z, to_z}
 use mir.Syntax.{w64}
 use Rattle.std.proofs.lemmas.Int.Digits.{digits_value-lt}
 use Rattle.std.proofs.Math.Nat.{one-le-pow, pow-le-pow_right}
-use Rattle.iges_fields.specs.Word.{is_empty, trim, are_digits, is_integer, integer, column_number}
-use Rattle.iges_fields.proofs.Eight.{all_digits}
-use Rattle.iges_fields.proofs.Spaces.{trim_shorter}
+use Rattle.iges_base.specs.Word.{is_empty, trim, are_digits, is_integer, integer, column_number}
+use Rattle.iges_base.proofs.Eight.{all_digits}
+use Rattle.iges_base.proofs.Spaces.{trim_shorter}
 use Rattle.iges_fields.proofs.Words.{integer_is}
 use Rattle.iges_directory.specs.Bounds.{fits_columns, IsBounded}
 use Rattle.iges_directory.specs.declared.entry.Placed.{Placed}

@@ -3,7 +3,7 @@ use Rattle.std.proofs.Common.{◌≡◌, ℕ, zero, suc, ◌+◌, ◌<◌, ◌%�
 use mir.Val.{hbits, to_z}
 use Rattle.std.specs.Int.{to_be_bytes}
 use Rattle.std.proofs.lemmas.Int.{to_z_pos}
-use Rattle.iges_fields.specs.Word.{column_number}
+use Rattle.iges_base.specs.Word.{column_number}
 
 digit_at : (d : ℕ) → d < 10 → column_number (to_be_bytes w64 (2314885530818453552 + d)) ≡ Some (pos d)
 digit_at zero h = refl

@@ -1,6 +1,6 @@
 ghost use Rattle.iges_directory.specs.Bounds.{fits_columns};
 ghost use Rattle.iges_directory.specs.Entries.{field, status_of};
-ghost use Rattle.iges_fields.specs.Word.{column_number};
+ghost use Rattle.iges_base.specs.Word.{column_number};
 ghost use Rattle.std.specs.Char.{is_ascii_digit};
 ghost use Rattle.std.specs.Int.{to_be_bytes, w64};
 ghost use Rattle.std.specs.List.{list_all};

@@ -2,7 +2,7 @@ ghost use Rattle.iges_directory.specs.Bounds.{fits_columns};
 ghost use Rattle.iges_directory.specs.DirectoryFaults.{first_fields, second_fields};
 ghost use Rattle.iges_directory.specs.Entries.{field, Holds, has_record};
 ghost use Rattle.iges_directory.specs.Halves.{IsFirstHalf, IsSecondHalf, AnswersPair, placed_from};
-ghost use Rattle.iges_fields.specs.Word.{column_number};
+ghost use Rattle.iges_base.specs.Word.{column_number};
 ghost use Rattle.std.specs.Ordering.{int_eq};
 ghost use Rattle.std.specs.Prelude.{◌≡◌, ◌<◌, ◌^◌, length, IsTrue, IsFalse, IfSome, IfNone};
 

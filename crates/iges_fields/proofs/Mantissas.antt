@@ -13,9 +13,8 @@ use Rattle.std.proofs.lemmas.Str.{digit_value_digit}
 use Rattle.iges_fields.specs.declared.mantissa.Mantissa.{Mantissa}
 use Rattle.iges_fields.specs.Fronts.{is_mantissa_byte, up_to_past, IsMantissa}
 use Rattle.iges_fields.specs.Word.{is_point, is_mantissa}
-use Rattle.iges_fields.proofs.DigitFronts.{digit_range}
+use Rattle.iges_base.proofs.DigitFronts.{digit_range, digit_is_not}
 use Rattle.iges_base.proofs.Lists.{list_all-take_while}
-use Rattle.iges_fields.proofs.Words.{digit_is_not}
 
 -- ---- byte by byte
 

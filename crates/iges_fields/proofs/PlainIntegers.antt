@@ -15,14 +15,14 @@ use Rattle.iges_fields.specs.declared.value.Value.TheVariants as value
 use Rattle.iges_fields.specs.Delims.{Delims, are_permitted}
 use Rattle.iges_fields.specs.FreeText.{begins_text, fits_64_bits, is_delimiter_of}
 use Rattle.iges_fields.specs.Reading.{read_item, word_item}
-use Rattle.iges_fields.specs.Word.{after_spaces, are_digits, is_empty, is_integer, trim}
-use Rattle.iges_fields.proofs.DigitFronts.{digit_range}
+use Rattle.iges_base.specs.Word.{after_spaces, are_digits, is_empty, is_integer, trim}
+use Rattle.iges_base.proofs.DigitFronts.{digit_range, digit_is_not}
 use Rattle.iges_fields.proofs.ItemFronts.{trim_plain, unsigned_plain}
-use Rattle.iges_fields.proofs.Spaces.{after_spaces-other}
-use Rattle.iges_base.proofs.Lists.{prefix_len-front}
+use Rattle.iges_base.proofs.Spaces.{after_spaces-other}
+use Rattle.iges_base.proofs.Lists.{prefix_len-front, list_all-implies}
 use Rattle.iges_fields.proofs.Steps.{item_is_word, no_H_behind, word_default, word_from, word_int}
 use Rattle.iges_fields.proofs.WordKinds.{digit_mantissa}
-use Rattle.iges_fields.proofs.Words.{digit_is_not, digit_number_byte, list_all-implies, number_byte_no_space, number_byte_no_stop, stop_no_H, stop_no_space}
+use Rattle.iges_fields.proofs.Words.{digit_number_byte, number_byte_no_space, number_byte_no_stop, stop_no_H, stop_no_space}
 
 -- ---- digit by digit
 

@@ -17,12 +17,14 @@ use Rattle.iges_fields.specs.Delims.{Delims, are_permitted}
 use Rattle.iges_fields.specs.FreeText.{Spells, fits_64_bits, item_fault}
 use Rattle.iges_fields.specs.Fronts.{AreDigits, IsPlainFront, is_mantissa_byte, is_power, value_of, up_to_past}
 use Rattle.iges_fields.specs.Reading.{good_item, read_at, unless_fault}
-use Rattle.iges_fields.specs.Word.{after_spaces, are_digits, is_empty, is_exponent_letter, is_integer, is_mantissa, is_point, is_real, spaces}
+use Rattle.iges_base.specs.Word.{after_spaces, are_digits, is_empty, is_integer, spaces}
+use Rattle.iges_fields.specs.Word.{is_exponent_letter, is_mantissa, is_point, is_real}
 use Rattle.iges_fields.proofs.Again.{item_again}
 use Rattle.iges_fields.proofs.Mantissas.{count_point, digit_among}
-use Rattle.iges_fields.proofs.Spaces.{after_spaces-is}
+use Rattle.iges_base.proofs.Spaces.{after_spaces-is}
 use Rattle.iges_fields.proofs.WordKinds.{digit_mantissa, mantissa_no_letter, no_points, plain_real_is, real_behind}
-use Rattle.iges_fields.proofs.Words.{digit_is_not, list_all-implies}
+use Rattle.iges_base.proofs.DigitFronts.{digit_is_not}
+use Rattle.iges_base.proofs.Lists.{list_all-implies}
 
 -- ---- behind a sign
 

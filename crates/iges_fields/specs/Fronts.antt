@@ -11,7 +11,8 @@ use Rattle.iges_fields.specs.declared.value.Value.{Value}
 use Rattle.iges_fields.specs.declared.value.Value.TheVariants as value
 use Rattle.iges_fields.specs.Delims.{Delims}
 use Rattle.iges_fields.specs.FreeText.{Spells, is_delimiter_of}
-use Rattle.iges_fields.specs.Word.{is_point, is_exponent_letter, is_integer}
+use Rattle.iges_base.specs.Word.{is_integer}
+use Rattle.iges_fields.specs.Word.{is_point, is_exponent_letter}
 
 abbrev pub is_mantissa_byte : ℕ → Bool
 is_mantissa_byte b = is_ascii_digit b || is_point b

@@ -1,7 +1,7 @@
 //! Items that a delimiter follows at once, without spaces between: most items of a file are these.
 
 ghost use Rattle.iges_fields.specs.FreeText.{Spells};
-ghost use Rattle.iges_fields.specs.Word.{after_spaces};
+ghost use Rattle.iges_base.specs.Word.{after_spaces};
 ghost use Rattle.iges_fields.specs.Fronts.{AreDigits, IsPlainFront, value_of};
 ghost use Rattle.std.specs.Char.{is_ascii_digit};
 ghost use Rattle.std.specs.List.{list_all};
@@ -9,10 +9,10 @@ ghost use Rattle.std.specs.Prelude.{◌≡◌, ◌∷◌, ◌≤◌, IfSome, IsT
 ghost use Rattle.std.specs.Str.Parse.{without_leading_sign};
 
 use crate::delimiters::Delimiters;
-use crate::digits::unsigned;
 use crate::kind::{WordKind, whole_kind};
 use crate::plain::{Digits, digits_of};
 use crate::reals::{digits_len, power_len};
+use iges_base::unsigned;
 
 /// What a word without spaces is.
 #[derive(Clone, Copy, Debug)]

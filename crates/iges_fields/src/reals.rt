@@ -6,7 +6,7 @@ ghost use Rattle.std.specs.Char.{is_ascii_digit};
 ghost use Rattle.std.specs.List.{list_all};
 ghost use Rattle.std.specs.Prelude.{◌≡◌, ◌≤◌, IsTrue, length, take};
 
-use crate::digits::unsigned;
+use iges_base::unsigned;
 
 // Whether eight bytes are digits, each of which is looked at: eight at once where the processor can.
 #[inline(always)]

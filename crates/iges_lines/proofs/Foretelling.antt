@@ -9,7 +9,7 @@ use Rattle.std.proofs.lemmas.List.{nil_from_length, length-set}
 use Rattle.std.proofs.lemmas.Nat.{le_bytes_8}
 use Rattle.std.proofs.lemmas.Str.{digit_value_digit}
 use Rattle.iges_base.specs.First.{first_failing}
-use Rattle.iges_fields.specs.Word.{column_number, is_empty}
+use Rattle.iges_base.specs.Word.{column_number, is_empty}
 use Rattle.iges_lines.specs.declared.kind.Kind.{Kind}
 use Rattle.iges_lines.specs.declared.kind.Kind.TheVariants as kind
 use Rattle.iges_lines.specs.Foretold.{Foretells, AreNextDigits, IsNextEnding}
@@ -17,7 +17,7 @@ use Rattle.iges_lines.specs.Kinds.{IsKind, added, is_last}
 use Rattle.iges_lines.specs.Lines.{SectionLines, sections, columns, letter}
 use Rattle.iges_lines.specs.LineFaults.{section_place, tests_at, line_tests}
 use Rattle.iges_lines.specs.Sectioned.{IsNumbered}
-use Rattle.iges_fields.proofs.Items.{passes}
+use Rattle.iges_base.proofs.Tests.{passes}
 use Rattle.iges_lines.proofs.Numerals.{next_number}
 use Rattle.iges_lines.proofs.SixTests.{place_is}
 use Rattle.iges_lines.proofs.Walk.{says_S, says_G, says_D, says_P, pass_S, pass_G, pass_D, pass_P}

@@ -9,9 +9,9 @@ use Rattle.std.proofs.lemmas.List.{append-nil, length-reverse, reverse-append, r
 use Rattle.std.proofs.lemmas.List.Folds.{list_all-append}
 use Rattle.std.proofs.lemmas.Option.{none-some, same_Some}
 use Rattle.iges_base.proofs.Lists.{prefix_len-pass, list_all-reverse}
-use Rattle.iges_fields.specs.Word.{after_spaces, are_digits, column_number, integer, is_empty, is_integer, is_space, trim}
-use Rattle.iges_fields.proofs.Spaces.{after_spaces-other}
-use Rattle.iges_fields.proofs.Words.{digit_is_not}
+use Rattle.iges_base.specs.Word.{after_spaces, are_digits, column_number, integer, is_empty, is_integer, is_space, trim}
+use Rattle.iges_base.proofs.Spaces.{after_spaces-other}
+use Rattle.iges_base.proofs.DigitFronts.{digit_is_not}
 use Rattle.iges_lines.specs.Foretold.{AreNextDigits}
 
 AllDigits : List ℕ → Type 0

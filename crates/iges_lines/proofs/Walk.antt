@@ -11,9 +11,9 @@ use Rattle.std.proofs.lemmas.List.{append-nil, take_at, take_all}
 use Rattle.std.proofs.lemmas.List.Elements.{filter-append}
 use Rattle.std.proofs.lemmas.List.Folds.{list_any-append}
 use Rattle.std.proofs.lemmas.Option.{slice_get_past}
-use Rattle.iges_fields.specs.Word.{is_empty, column_number}
+use Rattle.iges_base.specs.Word.{is_empty, column_number}
 use Rattle.iges_base.specs.First.{first_failing}
-use Rattle.iges_fields.proofs.Items.{passes, passed}
+use Rattle.iges_base.proofs.Tests.{passes, passed}
 use Rattle.iges_base.proofs.Lists.{prefix_len-pass}
 use Rattle.iges_lines.specs.declared.reason.Reason.TheVariants.{Missing, After}
 use Rattle.iges_lines.specs.Lines.{SectionLines, sections, joined, columns, letter, has_number}

@@ -15,7 +15,7 @@ use crate::pieces::{first_ended, stripped};
 use crate::section_table::SectionTable;
 use crate::table::Sections;
 use crate::taken_lines::TakenLines;
-use iges_fields::NoMemory;
+use iges_base::NoMemory;
 use std::alloc::Global;
 use std::marker::Model;
 

@@ -17,7 +17,7 @@ use crate::line::letter_of;
 use crate::pieces::{first_ended, stripped};
 use crate::reason::Reason;
 use crate::section_table::{LineCounts, SectionTable};
-use iges_fields::NoMemory;
+use iges_base::NoMemory;
 use std::alloc::Global;
 use std::marker::Model;
 

@@ -7,8 +7,8 @@ use Rattle.iges_lines.proofs.Walk.{is-has_number}
 use Rattle.std.specs.Prelude.{IfSome}
 use Rattle.std.specs.Str.Parse.{digits_value}
 use Rattle.std.proofs.lemmas.Bool.{and_from}
-use Rattle.iges_fields.specs.Word.{after_spaces, column_number, integer, is_empty, trim}
-use Rattle.iges_fields.proofs.Spaces.{after_spaces-space}
+use Rattle.iges_base.specs.Word.{after_spaces, column_number, integer, is_empty, trim}
+use Rattle.iges_base.proofs.Spaces.{after_spaces-space}
 use Rattle.iges_directory.proofs.FewDigits.{cons_is, is_digit, value_of, spaced}
 use Rattle.iges_lines.specs.Lines.{columns, has_number}
 use Rattle.iges_params.specs.Records.{points_back}

@@ -1,4 +1,4 @@
-ghost use Rattle.iges_fields.specs.Word.{column_number};
+ghost use Rattle.iges_base.specs.Word.{column_number};
 ghost use Rattle.iges_lines.specs.Lines.{columns};
 ghost use Rattle.iges_params.specs.Records.{points_back};
 ghost use Rattle.std.specs.Int.{to_be_bytes, w64};

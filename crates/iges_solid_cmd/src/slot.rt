@@ -1,4 +1,4 @@
-ghost use Rattle.iges_fields.specs.Word.{are_digits};
+ghost use Rattle.iges_base.specs.Word.{are_digits};
 ghost use Rattle.iges_solid_cmd.specs.Forms.{fits, holds, number};
 ghost use Rattle.iges_solid_cmd.specs.FormTable.{slot_meant};
 ghost use Rattle.std.specs.Char.{is_ascii_digit};

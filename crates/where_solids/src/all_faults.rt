@@ -1,6 +1,6 @@
 //! All that fails in a solid, shell by shell.
 
-ghost use Rattle.iges_fields.specs.Word.{is_empty};
+ghost use Rattle.iges_base.specs.Word.{is_empty};
 ghost use Rattle.solid_data.specs.Numbering.{IsNumberedSolid};
 ghost use Rattle.solid_faults.specs.Parts.{faces_apart};
 ghost use Rattle.std.specs.Prelude.{◌≡◌, ◌++◌, ◌∷◌, [], IfOk, OnOk, ◌<◌, Some, length, option_copied, slice_get, if◌then◌else◌};

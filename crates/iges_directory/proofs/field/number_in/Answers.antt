@@ -1,7 +1,7 @@
 use Rattle.std.proofs.Common.{sym, ap, ◌∙◌, rules}
 use mir.Val.{SFits}
 use mir.Syntax.{w64}
-use Rattle.iges_fields.specs.Word.{column_number}
+use Rattle.iges_base.specs.Word.{column_number}
 use Rattle.iges_directory.proofs.InColumns.{some_fits, read_fits, field_short}
 use Rattle.iges_directory.proofs.field.number_in.Goals as goal
 

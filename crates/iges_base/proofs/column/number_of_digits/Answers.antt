@@ -1,6 +1,6 @@
 use Rattle.std.proofs.Common.{sym, ◌∙◌, ap, ◌+◌, ◌*◌, ℕ}
-use Rattle.iges_fields.proofs.Columns.{digit_more}
-use Rattle.iges_fields.proofs.column.number_of_digits.Goals as goal
+use Rattle.iges_base.proofs.Columns.{digit_more}
+use Rattle.iges_base.proofs.column.number_of_digits.Goals as goal
 
 pub bytes-preserved : goal.bytes-preserved
 bytes-preserved c =
