@@ -9,7 +9,7 @@ use iges_fields::Values;
 use std::marker::Model;
 
 /// The record of a vertex list: a count and so many triples of coordinates (IGES 5.3, 4.145).
-/// A coordinate is a real, an integer or left out (own).
+/// A coordinate is a real, an integer or left out.
 #[derive(Drop)]
 pub struct VertexList<'a> {
     values: &'a Values,

@@ -3,7 +3,7 @@
 ghost use Rattle.std.specs.Prelude.{◌≡◌, ◌+◌, ◌/◌, ◌≤◌, ◌^◌, [], ◌↔◌, nat_lt, All, Contains, IfSome, IsNone};
 ghost use Rattle.edge_uses.specs.Ranges.{IsSpanOf};
 
-/// The numbers from `least` on, `count` of them (own). Arrays over the edges or vertices of a shell
+/// The numbers from `least` on, `count` of them. Arrays over the edges or vertices of a shell
 /// start at its least one, so that they are no longer than the shell where it shares none.
 #[derive(Clone, Copy, Debug, PartialEq, Eq)]
 pub struct Span {

@@ -35,7 +35,7 @@ const UNSEEN: Seen = Seen {
     against_row: 0,
 };
 
-/// What was seen of each edge of a range (own).
+/// What was seen of each edge of a range.
 #[derive(Drop)]
 pub struct Tally<'a> {
     cells: Cells<'a, Seen>,
@@ -84,7 +84,7 @@ fn see(cells: &mut Cells<'_, Seen>, row: Row, r: u32)
     cells.set(row.edge.0, once_more(seen, r, row.along));
 }
 
-/// What the rows of a shell are seen to do to the edges of their range (own). It takes no longer
+/// What the rows of a shell are seen to do to the edges of their range. It takes no longer
 /// where they lie far apart.
 pub fn tally_of(alloc: Global, rows: &Rows) -> Result<Tally<'_>, NoMemory>
     ensures span { IfOk result (λ tally. IsSpanOf tally.span rows.now.edges) }

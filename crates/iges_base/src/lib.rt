@@ -20,7 +20,7 @@ pub use list::ItemList;
 pub use no_memory::NoMemory;
 pub use out::{Out, put_number, write_number};
 
-/// The most bytes that a file may have, read or written: 2,000,000 lines of 82 bytes (own).
+/// The most bytes that a file may have, read or written: 2,000,000 lines of 82 bytes.
 pub const FILE_LIMIT: u64 = 164_000_000;
 
 /// The most lines that a section may have: columns 74 to 80 of a line hold its number in its section, counted from 1

@@ -161,7 +161,7 @@ fn few_digits(word: u64) -> Option<i64>
 }
 
 /// The number in eight columns, of which the last is the lowest byte, where they are spaces and then one to six
-/// digits. None may also be said of others that hold a number (own).
+/// digits. None may also be said of others that hold a number.
 #[inline(always)]
 pub fn short_number(word: u64) -> Option<i64>
     ensures { IfSome result (λ n. column_number (to_be_bytes w64 word) ≡ Some n) }

@@ -16,7 +16,7 @@ use std::alloc::Global;
 use std::marker::Model;
 use std::mem::replace;
 
-/// The edges and the vertices that were used so far, each numbered from 0 in the order of first appearance (own). The
+/// The edges and the vertices that were used so far, each numbered from 0 in the order of first appearance. The
 /// maps are keyed by the numbers, and the number of a key is found by its slot, so no file can choose what is hashed.
 #[derive(Drop)]
 pub struct Numbering {

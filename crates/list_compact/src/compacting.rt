@@ -71,7 +71,7 @@ fn turned_into_compacted(alloc: Global, file: File, no: EntryNo) -> Result<File,
 
 /// The compacted file of a solid: what `extract` gives, with lists of edges and of vertices that hold only what is used
 /// and indices to match, and extracted again. Where the solid isn't extracted, the refusal; else where an obligation on
-/// the records' places doesn't hold, the first one (own).
+/// the records' places doesn't hold, the first one.
 pub fn compact(alloc: Global, file: &File, no: EntryNo) -> Result<File, CompactFault>
     ensures found { IfOk result (IsCompacted file.now no.0) }
     ensures only { (new : Contents) → IsCompacted file.now no.0 new → GivesFile result new }
@@ -83,7 +83,7 @@ pub fn compact(alloc: Global, file: &File, no: EntryNo) -> Result<File, CompactF
     compacted(alloc, file, no)
 }
 
-/// The same as `compact`, of a file that isn't needed any more: the values that are kept stay in their memory (own).
+/// The same as `compact`, of a file that isn't needed any more: the values that are kept stay in their memory.
 pub fn into_compact(alloc: Global, file: File, no: EntryNo) -> Result<File, CompactFault>
     ensures found { IfOk result (IsCompacted file no.0) }
     ensures only { (new : Contents) → IsCompacted file no.0 new → GivesFile result new }

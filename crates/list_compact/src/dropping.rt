@@ -52,7 +52,7 @@ fn record_values(
 }
 
 /// The file whose lists of edges and of vertices hold only what is used, in order, with indices to match; a list of which
-/// nothing is used stays whole (own). The values of all other records are moved.
+/// nothing is used stays whole. The values of all other records are moved.
 pub fn dropped(alloc: Global, mut file: File) -> Result<File, NoMemory>
     requires { AreRecords file }
     ensures { IfOk result (λ new. new ≡ dropped file) }

@@ -7,7 +7,7 @@ use iges_base::{EntryNo, ItemList, NoMemory};
 use solid_data::{LoopUse, Solid, VertexId};
 use std::alloc::Global;
 
-/// A ball, whose loop runs along a seam from pole to pole and back (own).
+/// A ball, whose loop runs along a seam from pole to pole and back.
 pub fn seamed_ball(alloc: Global) -> Result<Solid, NoMemory>
     ensures { IfOk result (λ s. length s.shells ≡ 1) }
 {
@@ -18,7 +18,7 @@ pub fn seamed_ball(alloc: Global) -> Result<Solid, NoMemory>
     Ok(Solid::new(EntryNo(13), shells, edges, vertices))
 }
 
-/// A face, whose loop runs along its one edge twice (own).
+/// A face, whose loop runs along its one edge twice.
 pub fn twice_along(alloc: Global) -> Result<Solid, NoMemory>
     ensures { IfOk result (λ s. length s.shells ≡ 1) }
 {
@@ -29,7 +29,7 @@ pub fn twice_along(alloc: Global) -> Result<Solid, NoMemory>
     Ok(Solid::new(EntryNo(13), shells, edges, vertices))
 }
 
-/// A sheet, whose loop runs along one edge and doesn't return (own).
+/// A sheet, whose loop runs along one edge and doesn't return.
 pub fn open_sheet(alloc: Global) -> Result<Solid, NoMemory>
     ensures { IfOk result (λ s. length s.shells ≡ 1) }
 {
@@ -40,7 +40,7 @@ pub fn open_sheet(alloc: Global) -> Result<Solid, NoMemory>
     Ok(Solid::new(EntryNo(13), shells, edges, vertices))
 }
 
-/// A ball, whose loop is a pole (own).
+/// A ball, whose loop is a pole.
 pub fn pole_ball(alloc: Global) -> Result<Solid, NoMemory>
     ensures { IfOk result (λ s. length s.shells ≡ 1) }
 {

@@ -7,7 +7,7 @@ use iges_base::{EntryNo, ItemList, NoMemory};
 use solid_data::{LoopUse, Solid, VertexId};
 use std::alloc::Global;
 
-/// Two faces whose loops both run along one edge, from vertex to vertex (own).
+/// Two faces whose loops both run along one edge, from vertex to vertex.
 pub fn alike_faces(alloc: Global) -> Result<Solid, NoMemory>
     ensures { IfOk result (λ s. length s.shells ≡ 1) }
 {
@@ -20,7 +20,7 @@ pub fn alike_faces(alloc: Global) -> Result<Solid, NoMemory>
 }
 
 /// A ball of two halves, with one edge round it that begins and ends at one vertex. The second half
-/// has the flag 0 (own).
+/// has the flag 0.
 pub fn half_turned_ball(alloc: Global) -> Result<Solid, NoMemory>
     ensures { IfOk result (λ s. length s.shells ≡ 1) }
 {
@@ -32,7 +32,7 @@ pub fn half_turned_ball(alloc: Global) -> Result<Solid, NoMemory>
     Ok(Solid::new(EntryNo(13), shells, edges, vertices))
 }
 
-/// Two faces that share a vertex alone (own).
+/// Two faces that share a vertex alone.
 pub fn touching_faces(alloc: Global) -> Result<Solid, NoMemory>
     ensures { IfOk result (λ s. length s.shells ≡ 1) }
 {

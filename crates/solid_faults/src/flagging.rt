@@ -145,7 +145,7 @@ fn flagged(alloc: Global, solid: &Solid) -> Result<Solid, NoMemory>
     Ok(Solid::new(entity, shells, edges, vertices))
 }
 
-/// Whether a solid is closed where every flag of a face in its shell is read as 1 (own). Where a
+/// Whether a solid is closed where every flag of a face in its shell is read as 1. Where a
 /// solid isn't closed and this is true, no face is missing: either faces are turned, or who wrote
 /// the file let these flags speak of the surface alone. It copies the solid.
 pub fn is_closed_flagged(alloc: Global, solid: &Solid) -> Result<bool, NoMemory>
