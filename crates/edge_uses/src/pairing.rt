@@ -62,8 +62,8 @@ fn mates_of(alloc: Global, rows: &Rows, tally: &Tally<'_>) -> Result<Vec<u32>, N
     requires whole { ArePaired rows.now }
     ensures { IfOk result (λ mates. HaveMates rows.now mates.items) }
 {
-    let mut mates = Vec::new(alloc);
     let rows = rows.row_slice();
+    let mut mates = Vec::with_capacity(alloc, rows.len())?;
     'rows: for i in 0..rows.len() {
         mates.push(mate_in(tally, rows[i]))?;
     }

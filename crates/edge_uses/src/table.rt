@@ -1,6 +1,6 @@
 //! The rows of a shell.
 
-use crate::building::Built;
+use crate::building::{Built, use_count};
 use crate::occurring::occurring_numbers;
 use crate::row::Row;
 use crate::spanning::{Span, span_of};
@@ -176,13 +176,7 @@ impl Rows {
         requires whole { AreRows (shell_rows solid.now shell.now) }
         ensures { IfOk result (λ r. r ≡ shell_rows solid.now shell.now) }
     {
-        let mut built = Built {
-            rows: Vec::new(alloc),
-            next: Vec::new(alloc),
-            points: Vec::new(alloc),
-            edges: Vec::new(alloc),
-            vertices: Vec::new(alloc),
-        };
+        let mut built = Built::with_room(alloc, use_count(shell))?;
         built.add_shell(solid, shell)?;
         let edges = occurring_numbers(alloc, built.edges.as_slice())?;
         let vertices = occurring_numbers(alloc, built.vertices.as_slice())?;
