@@ -10,6 +10,7 @@ pub mod Passes
 pub mod Behind
 pub mod Globals
 pub mod NamedEntries
+pub mod SolidNumbers
 pub mod Answers
 pub mod GlobalExact
 pub mod RecordsExact

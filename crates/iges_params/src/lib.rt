@@ -13,6 +13,7 @@ mod passage;
 mod pointer;
 mod reading;
 mod record;
+mod solids;
 
 pub use fault::ReadFileFault;
 pub use file::File;
