@@ -116,4 +116,4 @@ fn move_one(one: &mut Option<Loop>, many: &mut Vec<Loop>) -> Result<(), NoMemory
     Ok(())
 }
 
-const _: () = prove!(size_of::<Loops>() == 120);
+const _: () = prove!(size_of::<Loops>() == 96);

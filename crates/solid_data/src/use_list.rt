@@ -1,6 +1,7 @@
 //! The uses of a loop, of which few take no memory.
 
 ghost use Rattle.std.specs.Prelude.{◌≡◌, ◌<◌, ◌^◌, ◌↔◌, ◌∷◌, ◌++◌, [], length, IfOk, IsSome, IfSome, OnOk, OnErr, option_copied, slice_get};
+ghost use Rattle.solid_data.specs.HeldUses.{uses_held, HoldsFew};
 
 use crate::solid::{LoopUse, VertexId};
 use iges_base::NoMemory;
@@ -15,22 +16,71 @@ const BLANK: LoopUse = LoopUse::VertexUse {
     vertex: VertexId(0),
 };
 
+#[derive(Debug, Drop)]
+struct Few {
+    count: u32,
+    uses: [LoopUse; 4],
+}
+
+#[derive(Debug, Drop)]
+enum Held {
+    Few(Few),
+    Many(Vec<LoopUse>),
+}
+
 /// The uses of a loop, in the order of the loop's record (IGES 5.3, 4.147). Up to four of them take no memory.
 #[derive(Debug, Drop)]
 pub struct Uses {
-    few: [LoopUse; 4],
-    // How many of the few there are, or more than FEW where the uses are the many.
-    count: usize,
-    many: Vec<LoopUse>,
+    alloc: Global,
+    held: Held,
 }
 
 impl Model for Uses {
-    ghost use Rattle.std.specs.Prelude.{◌==◌, List, if◌then◌else◌, nat_lt, take};
+    ghost use Rattle.std.specs.Prelude.{List};
+    ghost use Rattle.solid_data.specs.HeldUses.{uses_held, HoldsFew};
     ghost use Rattle.solid_data.specs.declared.solid.LoopUse.{LoopUse as OneUse};
 
     ghost Value = { List OneUse };
 
-    ghost view = { λ u. if nat_lt 4 u.count then u.many.items else take u.count u.few };
+    ghost view = { λ u. uses_held u.held };
+
+    ghost invariant = { λ u. HoldsFew u.held };
+}
+
+fn slice_of(held: &Held) -> &[LoopUse]
+    requires { HoldsFew held.now }
+    ensures { result.now ≡ uses_held held.now }
+{
+    match held {
+        Held::Few(few) => &few.uses[..few.count as usize],
+        Held::Many(uses) => uses.as_slice(),
+    }
+}
+
+// Some uses and one more, as the many.
+fn spilled(alloc: Global, uses: &[LoopUse], item: LoopUse) -> Result<Vec<LoopUse>, NoMemory>
+    ensures { IfOk result (λ many. many.items ≡ uses.now ++ item ∷ []) }
+{
+    let mut many = Vec::with_capacity(alloc, 2 * FEW)?;
+    many.extend_from_slice(uses)?;
+    many.push(item)?;
+    Ok(many)
+}
+
+// Puts a use among the many. Where memory runs out, the uses are as they were.
+fn push_many(alloc: Global, held: &mut Held, item: LoopUse) -> Result<(), NoMemory>
+    requires { HoldsFew held.old }
+    ensures kept { HoldsFew held.new }
+    ensures ok { OnOk result (uses_held held.new ≡ uses_held held.old ++ item ∷ []) }
+    ensures err { OnErr result (uses_held held.new ≡ uses_held held.old) }
+{
+    if let Held::Many(many) = held {
+        many.push(item)?;
+        return Ok(());
+    }
+    let many = spilled(alloc, slice_of(held), item)?;
+    *held = Held::Many(many);
+    Ok(())
 }
 
 impl Uses {
@@ -39,9 +89,11 @@ impl Uses {
         ensures { result ≡ [] }
     {
         Uses {
-            few: [BLANK; 4],
-            count: 0,
-            many: Vec::new(alloc),
+            alloc,
+            held: Held::Few(Few {
+                count: 0,
+                uses: [BLANK; 4],
+            }),
         }
     }
 
@@ -49,11 +101,13 @@ impl Uses {
     pub fn with_room(alloc: Global, count: usize) -> Result<Uses, NoMemory>
         ensures { IfOk result (λ list. list ≡ []) }
     {
-        let mut uses = Uses::new(alloc);
-        if count > FEW {
-            uses.many = Vec::with_capacity(alloc, count)?;
+        if count <= FEW {
+            return Ok(Uses::new(alloc));
         }
-        Ok(uses)
+        Ok(Uses {
+            alloc,
+            held: Held::Many(Vec::with_capacity(alloc, count)?),
+        })
     }
 
     /// Puts a use at the end. Where memory runs out, the list is as it was.
@@ -62,18 +116,15 @@ impl Uses {
         ensures ok { OnOk result (self.new ≡ self.old ++ item ∷ []) }
         ensures err { OnErr result (self.new ≡ self.old) }
     {
-        if self.count < FEW {
-            self.few[self.count] = item;
-            self.count += 1;
-            return Ok(());
+        if let Held::Few(few) = &mut self.held {
+            let at = few.count as usize;
+            if at < FEW {
+                few.uses[at] = item;
+                few.count += 1;
+                return Ok(());
+            }
         }
-        if self.count == FEW {
-            spill(&self.few[..self.count], item, &mut self.many)?;
-            self.count = FEW + 1;
-            return Ok(());
-        }
-        self.many.push(item)?;
-        Ok(())
+        push_many(self.alloc, &mut self.held, item)
     }
 
     /// How many uses there are.
@@ -88,10 +139,7 @@ impl Uses {
     pub fn as_slice(&self) -> &[LoopUse]
         ensures { result.now ≡ self.now }
     {
-        if self.count > FEW {
-            return self.many.as_slice();
-        }
-        &self.few[..self.count]
+        slice_of(&self.held)
     }
 
     /// The i-th use, counted from 0; None past the end.
@@ -108,15 +156,4 @@ impl Uses {
     }
 }
 
-// Makes the few and one more the many.
-fn spill(few: &[LoopUse], item: LoopUse, many: &mut Vec<LoopUse>) -> Result<(), NoMemory>
-    ensures { OnOk result (many.new.items ≡ few.now ++ item ∷ []) }
-{
-    many.clear();
-    many.reserve(2 * FEW)?;
-    many.extend_from_slice(few)?;
-    many.push(item)?;
-    Ok(())
-}
-
-const _: () = prove!(size_of::<Uses>() == 80);
+const _: () = prove!(size_of::<Uses>() == 56);

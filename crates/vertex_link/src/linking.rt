@@ -37,7 +37,7 @@ fn corners_of(
     ensures fault { IfErr result (λ fault. IsLinkFault paired.now fault) }
 {
     let rows = paired.rows();
-    let mut corners = Corners::new(alloc);
+    let mut corners = Corners::with_room(alloc, rows.vertex_slice().len())?;
     'vertices: for i in 0..rows.vertex_count() {
         let vertex = vertex_at(rows, i);
         let corner = corner_at(
