@@ -81,8 +81,7 @@ fn above_shells(solid: &Solid, shell: ShellAt) -> usize
     above
 }
 
-/// The vertices of the shells before a shell. It takes no memory, and goes over all uses
-/// before the shell.
+/// The vertices of the shells before a shell. It takes no memory, and goes over all uses before the shell.
 pub fn vertices_before(solid: &Solid, shell: ShellAt) -> VerticesBefore
     requires { shell.0 ≤ length solid.now.shells }
     ensures { AreBelow solid.now shell.0 result }

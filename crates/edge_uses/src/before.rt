@@ -4,9 +4,9 @@ use crate::table::Rows;
 use solid_data::VertexId;
 use std::marker::Model;
 
-/// The vertices of the first shells of a solid. They are the ones below a number, since
-/// vertices are numbered by first appearance; so whoever goes over the shells in order keeps this
-/// number alone, and judges each shell in one comparison.
+/// The vertices of the first shells of a solid. They are the ones below a number, since vertices are numbered by first
+/// appearance; so whoever goes over the shells in order keeps this number alone, and judges each shell in one
+/// comparison.
 #[derive(Clone, Copy)]
 pub struct VerticesBefore {
     below: usize,

@@ -15,8 +15,8 @@ use iges_base::NoMemory;
 use solid_data::{Edge, EdgeId, FaceAt, FaceUse, Loop, LoopAt, LoopUse, Shell, Solid};
 use std::alloc::Global;
 
-/// What has been read of a shell, column by column as in `Rows`, but that each edge and each vertex
-/// is there once for each use.
+/// What has been read of a shell, column by column as in `Rows`, but that each edge and each vertex is there once for
+/// each use.
 #[derive(Drop)]
 pub struct Built {
     /// The edge uses, in file order.

@@ -9,8 +9,8 @@ use iges_base::NoMemory;
 use std::alloc::Global;
 use std::marker::Model;
 
-/// A value for each number of a range, to be set where a number is one of some that rise. They
-/// take room for no more than a few values for each of these, also where these lie far apart.
+/// A value for each number of a range, to be set where a number is one of some that rise. They take room for no more
+/// than a few values for each of these, also where these lie far apart.
 #[derive(Drop)]
 pub struct Cells<'a, T> {
     numbers: &'a [u32],

@@ -4,8 +4,7 @@ use crate::table::Rows;
 use solid_data::RowId;
 use std::marker::Model;
 
-/// The rows of a shell of which each has one mate: the row that runs on its edge in the other
-/// direction.
+/// The rows of a shell of which each has one mate: the row that runs on its edge in the other direction.
 #[derive(Drop)]
 pub struct Paired<'a> {
     rows: &'a Rows,

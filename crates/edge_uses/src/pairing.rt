@@ -70,8 +70,8 @@ fn mates_of(alloc: Global, rows: &Rows, tally: &Tally<'_>) -> Result<Vec<u32>, N
     Ok(mates)
 }
 
-/// The rows with their mates, where each edge has two rows, one along it and one against it.
-/// Each row ends where the row that follows it starts; the rows of a shell whose loops join do.
+/// The rows with their mates, where each edge has two rows, one along it and one against it. Each row ends where the
+/// row that follows it starts; the rows of a shell whose loops join do.
 pub fn pair(alloc: Global, rows: &Rows) -> Result<Paired<'_>, PairFault>
     requires { EndsMeet rows.now }
     ensures rows { IfOk result (λ p. p ≡ rows.now) }

@@ -9,8 +9,8 @@ use solid_data::{EdgeId, LoopAt, RowId, Shell, Solid, VertexId};
 use std::alloc::Global;
 use std::marker::Model;
 
-/// The edge uses of a shell in file order, and what occurs in the shell. Rows are flat: the
-/// next row of each is a number beside it, and nothing is taken for a loop or a row of its own.
+/// The edge uses of a shell in file order, and what occurs in the shell. Rows are flat: the next row of each is a
+/// number beside it, and nothing is taken for a loop or a row of its own.
 #[derive(Drop)]
 pub struct Rows {
     rows: Vec<Row>,
@@ -61,8 +61,8 @@ impl Rows {
         self.rows.get(r.0 as usize).copied()
     }
 
-    /// The row that follows a row: the next of its loop, cyclically, vertex uses passed over, or
-    /// the one before in a loop that is walked backwards. None past the end.
+    /// The row that follows a row: the next of its loop, cyclically, vertex uses passed over, or the one before in a
+    /// loop that is walked backwards. None past the end.
     pub fn follows(&self, r: RowId) -> Option<RowId>
         ensures { option_map (λ (t : AnyRowId). t.0) result ≡ slice_get self.now.follows r.0 }
     {
@@ -135,8 +135,7 @@ impl Rows {
         self.points.len()
     }
 
-    /// The i-th loop without an edge, in file order, i from 0, and the vertex of its first use;
-    /// None past the end.
+    /// The i-th loop without an edge, in file order, i from 0, and the vertex of its first use; None past the end.
     pub fn isolated(&self, i: usize) -> Option<(LoopAt, VertexId)>
         ensures { option_map (λ (p : LoopPlace × AnyVertexId). (p.0, p.1.0)) result
             ≡ slice_get self.now.points i }
