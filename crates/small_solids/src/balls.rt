@@ -2,7 +2,7 @@
 
 ghost use Rattle.std.specs.Prelude.{◌≡◌, length, IfOk};
 
-use crate::parts::{edge_to, one, shell_of, two, use_of, vertex};
+use crate::parts::{edge_to, one, one_use, shell_of, two, two_uses, use_of, vertex};
 use iges_base::{EntryNo, ItemList, NoMemory};
 use solid_data::{LoopUse, Solid, VertexId};
 use std::alloc::Global;
@@ -11,7 +11,7 @@ use std::alloc::Global;
 pub fn seamed_ball(alloc: Global) -> Result<Solid, NoMemory>
     ensures { IfOk result (λ s. length s.shells ≡ 1) }
 {
-    let uses = two(alloc, use_of(true), use_of(false))?;
+    let uses = two_uses(alloc, use_of(true), use_of(false))?;
     let shells = shell_of(alloc, uses)?;
     let edges = one(alloc, edge_to(1))?;
     let vertices = two(alloc, vertex(1), vertex(2))?;
@@ -22,7 +22,7 @@ pub fn seamed_ball(alloc: Global) -> Result<Solid, NoMemory>
 pub fn twice_along(alloc: Global) -> Result<Solid, NoMemory>
     ensures { IfOk result (λ s. length s.shells ≡ 1) }
 {
-    let uses = two(alloc, use_of(true), use_of(true))?;
+    let uses = two_uses(alloc, use_of(true), use_of(true))?;
     let shells = shell_of(alloc, uses)?;
     let edges = one(alloc, edge_to(1))?;
     let vertices = two(alloc, vertex(1), vertex(2))?;
@@ -33,7 +33,7 @@ pub fn twice_along(alloc: Global) -> Result<Solid, NoMemory>
 pub fn open_sheet(alloc: Global) -> Result<Solid, NoMemory>
     ensures { IfOk result (λ s. length s.shells ≡ 1) }
 {
-    let uses = one(alloc, use_of(true))?;
+    let uses = one_use(alloc, use_of(true))?;
     let shells = shell_of(alloc, uses)?;
     let edges = one(alloc, edge_to(1))?;
     let vertices = two(alloc, vertex(1), vertex(2))?;
@@ -47,7 +47,7 @@ pub fn pole_ball(alloc: Global) -> Result<Solid, NoMemory>
     let pole = LoopUse::VertexUse {
         vertex: VertexId(0),
     };
-    let uses = one(alloc, pole)?;
+    let uses = one_use(alloc, pole)?;
     let shells = shell_of(alloc, uses)?;
     let vertices = one(alloc, vertex(1))?;
     Ok(Solid::new(EntryNo(13), shells, ItemList::new(alloc), vertices))

@@ -6,7 +6,7 @@ ghost use Rattle.solid_data.specs.declared.solid.LoopUse.TheVariants.{EdgeUse};
 
 use iges_base::{EntryNo, ItemList, NoMemory};
 use solid_data::{
-    Edge, EdgeId, EdgeKey, FaceUse, Loop, LoopUse, Shell, Shells, Uses, VertexId, VertexKey,
+    Edge, EdgeId, EdgeKey, FaceUse, Loop, LoopUse, Loops, Shell, Shells, Uses, VertexId, VertexKey,
 };
 use std::alloc::Global;
 
@@ -28,19 +28,35 @@ pub fn two<T: Drop>(alloc: Global, first: T, second: T) -> Result<ItemList<T>, N
     Ok(list)
 }
 
+/// The list of one use.
+pub fn one_use(alloc: Global, item: LoopUse) -> Result<Uses, NoMemory>
+    ensures { IfOk result (λ uses. uses ≡ item ∷ []) }
+{
+    let mut uses = Uses::new(alloc);
+    uses.push(item)?;
+    Ok(uses)
+}
+
+/// The list of two uses.
+pub fn two_uses(alloc: Global, first: LoopUse, second: LoopUse) -> Result<Uses, NoMemory>
+    ensures { IfOk result (λ uses. uses ≡ first ∷ second ∷ []) }
+{
+    let mut uses = one_use(alloc, first)?;
+    uses.push(second)?;
+    Ok(uses)
+}
+
 /// A face with one loop.
 pub fn face(alloc: Global, number: u32, flag: bool, uses: Uses) -> Result<FaceUse, NoMemory>
     ensures { IfOk result
         (λ face. face
         ≡ record { entity = record { 0 = number }; flag = flag; loops = record { entity = record { 0 = 7 }; uses = uses } ∷ [] }) }
 {
-    let loops = one(
-        alloc,
-        Loop {
-            entity: EntryNo(7),
-            uses,
-        },
-    )?;
+    let mut loops = Loops::new(alloc);
+    loops.push(Loop {
+        entity: EntryNo(7),
+        uses,
+    })?;
     Ok(FaceUse {
         entity: EntryNo(number),
         flag,

@@ -16,7 +16,7 @@ use std::alloc::Global;
 fn copied_uses(alloc: Global, uses: &[LoopUse]) -> Result<Uses, NoMemory>
     ensures { IfOk result (λ copy. copy ≡ uses.now) }
 {
-    let mut copy = ItemList::with_room(alloc, uses.len())?;
+    let mut copy = Uses::with_room(alloc, uses.len())?;
     'uses: for i in 0..uses.len() {
         copy.push(uses[i])?;
     }
@@ -36,7 +36,7 @@ fn copied_loop(alloc: Global, walk: &Loop) -> Result<Loop, NoMemory>
 fn copied_loops(alloc: Global, loops: &[Loop]) -> Result<Loops, NoMemory>
     ensures { IfOk result (λ copy. copy ≡ loops.now) }
 {
-    let mut copy = ItemList::with_room(alloc, loops.len())?;
+    let mut copy = Loops::with_room(alloc, loops.len())?;
     'loops: for i in 0..loops.len() {
         copy.push(copied_loop(alloc, &loops[i])?)?;
     }
