@@ -12,6 +12,7 @@ ghost use Rattle.std.specs.Prelude.{ℕ, IfErr, IfOk, OnOk};
 
 use crate::dropping::dropped;
 use crate::fault::CompactFault;
+use crate::marking::used_items;
 use brep_walk::{WalkFault, walk};
 use iges_fields::{EntryNo, NoMemory};
 use iges_params::File;
@@ -29,14 +30,19 @@ fn extracted(alloc: Global, file: File, no: EntryNo) -> Result<File, NoMemory>
     }
 }
 
-// The rest, once a solid's file is extracted.
+// The rest, once a solid's file is extracted. Where each item of its lists is used, nothing is dropped, and the second
+// extraction would give the same file.
 fn finished(alloc: Global, extraction: Extraction) -> Result<File, NoMemory>
     requires { (f : Contents) × (n : ℕ) × IsExtractedAs f n extraction.file extraction.no.0 }
     ensures { (f : Contents) (n : ℕ) → IsExtractedAs f n extraction.file extraction.no.0
         → AllHold (places f n) → IfOk result (IsCompacted f n) }
 {
     let number = extraction.no;
-    let new = dropped(alloc, extraction.file)?;
+    let marks = used_items(alloc, &extraction.file)?;
+    if marks.are_all() {
+        return Ok(extraction.file);
+    }
+    let new = dropped(alloc, extraction.file, &marks)?;
     Ok(extracted(alloc, new, number)?)
 }
 

@@ -1,6 +1,6 @@
 use Rattle.std.proofs.Common.{◌≡◌, ◌+◌, ◌≤◌, drop}
 use Rattle.entry_references.specs.EntrySets.{marks_set}
-use Rattle.list_compact.proofs.values.count_marks.Given as goal
+use Rattle.list_compact.proofs.marks.count_marks.Given as goal
 
 abbrev pub invariant-marks : goal.invariant-marks
 invariant-marks l = record {
