@@ -52,8 +52,13 @@ fn record_values(
 }
 
 /// The file whose lists of edges and of vertices hold only what is used, in order, with indices to match; a list of which
-/// The file whose lists of edges and of vertices hold only what is used, in order, with indices to match; a list of which
 /// nothing is used stays whole. The values of all other records are moved. The marks are those of its used items.
+pub fn dropped(alloc: Global, mut file: File, marks: &FileMarks) -> Result<File, NoMemory>
+    requires records { AreRecords file }
+    requires edges { AreMarks marks.now.edges (is_used_edge file) }
+    requires vertices { AreMarks marks.now.vertices (is_used_vertex file) }
+    requires edge_sizes { sizes marks.now.edges ≡ edge_sizes file }
+    requires vertex_sizes { sizes marks.now.vertices ≡ vertex_sizes file }
     ensures { IfOk result (λ new. new ≡ dropped file) }
 {
     let count = file.entry_count();
