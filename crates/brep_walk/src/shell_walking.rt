@@ -17,10 +17,10 @@ use crate::place::Place;
 use crate::state::WalkState;
 use brep_lists::EntityKind;
 use brep_loops::ShellRecord;
+use brep_numbering::Numbering;
 use iges_directory::Entry;
 use iges_fields::{EntryNo, Values};
 use iges_params::File;
-use item_numbers::Numbering;
 use solid_data::{Faces, Failing, Rule, Shell, Shells, Solid};
 use std::alloc::Global;
 
