@@ -68,25 +68,28 @@ def of_run(faults, run, call, size, error):
 def failing(call):
     """The table of one call, for all commands on all small files."""
 
-    def checks(runner, folder, forms):
-        if shutil.which("gcc") is None:
-            return
+    def table(runner, folder, forms):
         faults = Faults(runner, folder)
         for run in Runs(runner, folder, forms).all():
             for size, error in SETTINGS[call]:
                 yield from of_run(faults, run, call, size, error)
 
-    checks.__name__ = f"failing_{call}"
-    return checks
+    return table
 
 
 def covered(runner, folder, forms):
     """Each call of the C library that the program makes is one that faults.c covers, or takes no memory and does no input or output."""
-    if shutil.which("gcc") is None:
-        return
     defined = elf.File(Faults(runner, folder).library.read_bytes()).symbols(is_defined=True)
     for name in sorted(elf.File(open(runner.program, "rb").read()).symbols(is_defined=False)):
         yield f"the call of {name} is covered", name in defined | HARMLESS | START
 
 
 TABLES = [*(failing(call) for call in SETTINGS), covered]
+
+
+def checks(runner, new_folder, forms, skipped):
+    if shutil.which("gcc") is None:
+        skipped("calls of the C library that fail, since gcc isn't installed")
+        return
+    for table in TABLES:
+        yield from table(runner, new_folder(), forms)

@@ -109,7 +109,7 @@ def fifos(runner, folder, forms):
                 thread.join()
 
 
-def unreadable(runner, folder, forms):
+def unreadable(runner, folder, forms, skipped):
     """A file and a certificate that the user may not read."""
     program = shutil.copy(runner.program, folder / "program")
     folder.chmod(0o755)
@@ -120,7 +120,7 @@ def unreadable(runner, folder, forms):
     try:
         subprocess.run([program], capture_output=True, **user)
     except PermissionError:
-        print("skipped: files that may not be read, since the temporary folder is one that others don't see")
+        skipped("files that may not be read, since the temporary folder is one that others don't see")
         return
     for run in runs_of(runner, folder, forms):
         for name, path in (("file", run.file), ("certificate", run.certificate)):
@@ -196,4 +196,10 @@ def ended_pipe(runner, folder, forms):
             yield f"{run.name}, into a pipe whose reader has ended", (done.returncode, done.stderr) == (UNWRITTEN, b"")
 
 
-TABLES = [odd_files, endless, fifos, unreadable, growing, odd_outputs, closed, ended_pipe]
+TABLES = [odd_files, fifos, growing, odd_outputs, closed, ended_pipe]
+
+
+def checks(runner, new_folder, forms, skipped):
+    for table in TABLES:
+        yield from table(runner, new_folder(), forms)
+    yield from unreadable(runner, new_folder(), forms, skipped)

@@ -7,7 +7,9 @@ import pathlib
 import random
 import re
 import sys
+import tempfile
 
+import programs
 from changes import changed_file
 from second_checker import answer, where
 from second_checker.answering import file_of
@@ -15,7 +17,6 @@ from spawned import Runner
 from surfaces import surface_text
 
 TOP = pathlib.Path(__file__).resolve().parent.parent
-PROGRAM = TOP / "crates" / "igesolid_where" / "out" / "igesolid_where"
 PAGE = TOP / "docs" / "WHERE.md"
 LARGEST, RANDOM_CASES = 60_000, 400
 USAGE = b"usage: igesolid-where FILE [N [all]]\n"
@@ -142,7 +143,7 @@ def words_checks(runner, file):
     yield "where of no file", runner.run([f"{file}.none", "1"]) == (4, b"", b"")
 
 
-def checks(folder, program=PROGRAM, certifier=TOP / "crates" / "igesolid" / "out" / "igesolid", count=RANDOM_CASES, seed=1):
+def checks(folder, certifier, program, count=RANDOM_CASES, seed=1):
     """Names of checks, and whether each holds."""
     wheres = Wheres(folder, program, certifier)
     for name, data in [*files(), *random_files(count, seed)]:
@@ -154,16 +155,13 @@ def main():
     parser = argparse.ArgumentParser(description=__doc__.split("\n", maxsplit=1)[0])
     parser.add_argument("--count", type=int, default=RANDOM_CASES)
     parser.add_argument("--seed", type=int, default=1)
-    parser.add_argument("--program", type=pathlib.Path, default=PROGRAM)
-    parser.add_argument("--certifier", type=pathlib.Path, default=TOP / "crates" / "igesolid" / "out" / "igesolid")
     options = parser.parse_args()
-    folder = TOP / "bench" / "out"
-    folder.mkdir(exist_ok=True)
     passed = failed = 0
-    for name, held in checks(folder, options.program, options.certifier, options.count, options.seed):
-        passed, failed = passed + bool(held), failed + (not held)
-        if not held:
-            print(name)
+    with tempfile.TemporaryDirectory(prefix="igesolid-where-") as folder:
+        for name, held in checks(pathlib.Path(folder), *programs.chosen()[:2], options.count, options.seed):
+            passed, failed = passed + bool(held), failed + (not held)
+            if not held:
+                print(name)
     print(f"{passed} passed, {failed} failed")
     return 1 if failed else 0
 

@@ -1,0 +1,133 @@
+"""The parts of the tests.
+
+The checks of a part are a function that gets a Context and yields pairs: the name of a check, and whether it holds. The name of a
+check that fails is printed as it is, so it may have further lines that say what was wanted and what came. A further part is a
+further entry of PARTS. Those that take long stand first, so that the others run beside them.
+"""
+import itertools
+from typing import Callable, NamedTuple
+
+import argument_tests
+import arrival_tests
+import browser_tests
+import certificate_tests
+import clone
+import compact_tests
+import examples
+import extract_tests
+import faults
+import fresh
+import fuzz
+import hostile
+import largest_tests
+import launcher
+import layers
+import limits
+import many
+import no_examples
+import odd
+import open_tests
+import orient_tests
+import packages
+import pages
+import picture_tests
+import protections
+import quoted
+import rows
+import sample_tests
+import theorem
+import trusted
+import where
+from programs import FORMS, SECONDS, TOP, Program
+from spawned import Runner
+
+DEFAULT, LARGE, BY_NAME = "default", "large", "by name"
+
+
+class Context:
+    """What a part gets: a folder of its own, the programs, and `skipped`, which is called with what is left out and why."""
+
+    def __init__(self, folder, programs, skipped):
+        self.folder, self.programs, self.skipped, self.numbers = folder, programs, skipped, itertools.count(1)
+
+    def new_folder(self):
+        """An empty folder, which other users may enter."""
+        folder = self.folder / str(next(self.numbers))
+        folder.mkdir()
+        folder.chmod(0o755)
+        return folder
+
+    def program(self):
+        """igesolid, run on texts."""
+        return Program(self.programs.igesolid, self.new_folder())
+
+    def clone(self):
+        """A copy of the repository, with a kit that is played."""
+        return clone.Clone(TOP, self.new_folder(), *self.programs[:2])
+
+
+class Part(NamedTuple):
+    name: str
+    about: str
+    checks: Callable
+    kind: str = DEFAULT
+
+
+def of_program(*functions):
+    """Checks of igesolid on texts."""
+    return lambda context: (check for function in functions for check in function(context.program()))
+
+
+def of_shells(module):
+    """Checks of surfaces made at random and of the examples."""
+    return lambda context: module.checks(context.program(), examples.named())
+
+
+def of_tables(*tables):
+    """Checks of every command on inputs that a table makes."""
+    return lambda context: (check for table in tables for check in table(Runner(context.programs.igesolid, SECONDS), context.new_folder(), FORMS))
+
+
+def of_odd_runs(module):
+    """The same, of a module that needs a command or a right that may be missing."""
+    return lambda context: module.checks(Runner(context.programs.igesolid, SECONDS), context.new_folder, FORMS, context.skipped)
+
+
+def of_pages(context):
+    yield from pages.checks(context.new_folder(), TOP, *context.programs[:2], FORMS)
+    yield from no_examples.checks(TOP, context.programs.igesolid)
+    for module in (quoted, theorem, trusted, layers):
+        yield from module.checks(TOP)
+
+
+PARTS = (
+    Part("rows", "worked rows (tests/rows), the certificates of the examples, and lines of a million numbers", of_program(rows.checks)),
+    Part("rows-judged", "the worked rows by the second checker", lambda context: rows.by_the_second_checker()),
+    Part("extract", "each solid of the examples, extracted", of_program(extract_tests.checks)),
+    Part("certificates", "certificates and books of the examples, verified and upgraded", of_program(certificate_tests.checks)),
+    Part("certificates-changed", "certificates and books changed at random, beside the second checker", of_program(certificate_tests.changes)),
+    Part("open", "open shells, made at random and of the examples, beside the second checker", of_shells(open_tests)),
+    Part("orient", "orientations, likewise", of_shells(orient_tests)),
+    Part("compact", "compact files, likewise", of_shells(compact_tests)),
+    Part("samples", "samples of 3, 100 and 200, and words that aren't UTF-8", of_program(sample_tests.checks, argument_tests.checks)),
+    Part("arrivals", "files and certificates that arrive in pieces", of_program(arrival_tests.checks)),
+    Part("uses", "solids of the most loop uses", of_program(largest_tests.uses)),
+    Part("where", "igesolid-where, beside the second checker", lambda context: where.checks(context.new_folder(), *context.programs[:2])),
+    Part("pictures", "pages and marks", lambda context: picture_tests.checks(context.new_folder(), *context.programs[:2])),
+    Part("pages", "README and docs: what they say of the program, the sources and the examples", of_pages),
+    Part("launcher", "the launcher and dist/, in a copy of the repository", lambda context: launcher.checks(context.clone(), FORMS, context.skipped)),
+    Part("packages", "the installer and the Debian package, likewise", lambda context: packages.checks(context.clone(), context.skipped)),
+    Part("many", "the recipes of docs/MANY.md, likewise", lambda context: many.checks(context.clone(), context.skipped)),
+    Part("cuts", "files and certificates cut at each byte or changed in one place", of_tables(*hostile.TABLES)),
+    Part("faults", "each call of the C library failing in turn", of_odd_runs(faults)),
+    Part("limits", "limits of the system", of_tables(*limits.TABLES)),
+    Part("odd", "odd files and outputs", of_odd_runs(odd)),
+    Part("protections", "the protections of the program's headers", of_tables(*protections.TABLES)),
+    Part("fuzz", "2,000 inputs changed at random, beside the second checker and the baseline", lambda context: fuzz.checks(context, 2_000)),
+    Part("file-limit", "files of 164 MB, and files without an end", of_tables(limits.file_limit, odd.endless), LARGE),
+    Part("certificate-memory", "certificates of 400 MB and more, and the memory of verify", of_program(largest_tests.verified_certificates), LARGE),
+    Part("certificate-limit", "certificates of 537 MB for the commands that hold them", of_program(largest_tests.held_certificates), LARGE),
+    Part("browser", "pages in headless Chromium", lambda context: browser_tests.checks(context.new_folder(), context.skipped), LARGE),
+    Part("fuzz-long", "20,000 more inputs changed at random", lambda context: fuzz.checks(context, 20_000, seed=2), LARGE),
+    Part("fresh", "README's first commands in a fresh clone, without the kit", fresh.checks, BY_NAME),
+)
