@@ -55,7 +55,7 @@ def examples(folder, top):
 
 def script_by_status(folder, top):
     """The script of README, of a file that is closed, of two that aren't, of one that is no file, and of none."""
-    script = re.search(r"(?s)```sh\n(.*?)```", (top / "README.md").read_text())[1]
+    script = re.search(r"(?s)```sh\n(igesolid .*?)```", (top / "README.md").read_text())[1]
     part, certificate = folder / "part.igs", folder / "part.cert"
     for example, text in (
         ("two_solids.igs", ""),

@@ -5,6 +5,7 @@ check that fails is printed as it is, so it may have further lines that say what
 further entry of PARTS. Those that take long stand first, so that the others run beside them.
 """
 import itertools
+import re
 from typing import Callable, NamedTuple
 
 import argument_tests
@@ -93,6 +94,14 @@ def of_odd_runs(module):
     return lambda context: module.checks(Runner(context.programs.igesolid, SECONDS), context.new_folder, FORMS, context.skipped)
 
 
+def of_gate(context):
+    """.ci/run runs the default parts, and names each other part: it runs it, or says why not."""
+    gate = (TOP / ".ci" / "run").read_text()
+    yield ".ci/run: the default parts", "\ntests/run ||" in gate
+    for part in PARTS:
+        yield f".ci/run: {part.name}", part.kind == DEFAULT or re.search(rf"(?<![\w-]){part.name}(?![\w-])", gate) is not None
+
+
 def of_pages(context):
     yield from pages.checks(context.new_folder(), TOP, *context.programs[:2], FORMS)
     yield from no_examples.checks(TOP, context.programs.igesolid)
@@ -115,6 +124,7 @@ PARTS = (
     Part("where", "igesolid-where, beside the second checker", lambda context: where.checks(context.new_folder(), *context.programs[:2])),
     Part("pictures", "pages and marks", lambda context: picture_tests.checks(context.new_folder(), *context.programs[:2])),
     Part("pages", "README and docs: what they say of the program, the sources and the examples", of_pages),
+    Part("gate", ".ci/run: that it runs all parts", of_gate),
     Part("launcher", "the launcher and dist/, in a copy of the repository", lambda context: launcher.checks(context.clone(), FORMS, context.skipped)),
     Part("packages", "the installer and the Debian package, likewise", lambda context: packages.checks(context.clone(), context.skipped)),
     Part("many", "the recipes of docs/MANY.md, likewise", lambda context: many.checks(context.clone(), context.skipped)),
