@@ -1,18 +1,11 @@
-"""The parts of the tests.
+"""The parts of the tests, by name: what each tests, and its checks (see Part). A further part is a further line of PARTS.
 
-The checks of a part are a function that gets a Context and yields pairs: the name of a check, and whether it holds. The name of a
-check that fails is printed as it is, so it may have further lines that say what was wanted and what came. A further part is a
-further entry of PARTS. Those that take long stand first, so that the others run beside them.
+Parts start in this order, so those that take long stand first.
 """
-import itertools
-import re
-from typing import Callable, NamedTuple
-
 import argument_tests
 import arrival_tests
 import browser_tests
 import certificate_tests
-import clone
 import compact_tests
 import examples
 import extract_tests
@@ -35,44 +28,14 @@ import picture_tests
 import protections
 import quoted
 import rows
+import running_tests
 import sample_tests
 import theorem
 import trusted
 import where
-from programs import FORMS, SECONDS, TOP, Program
+from part import BY_NAME, LARGE, Part
+from programs import FORMS, SECONDS, TOP
 from spawned import Runner
-
-DEFAULT, LARGE, BY_NAME = "default", "large", "by name"
-
-
-class Context:
-    """What a part gets: a folder of its own, the programs, and `skipped`, which is called with what is left out and why."""
-
-    def __init__(self, folder, programs, skipped):
-        self.folder, self.programs, self.skipped, self.numbers = folder, programs, skipped, itertools.count(1)
-
-    def new_folder(self):
-        """An empty folder, which other users may enter."""
-        folder = self.folder / str(next(self.numbers))
-        folder.mkdir()
-        folder.chmod(0o755)
-        return folder
-
-    def program(self):
-        """igesolid, run on texts."""
-        return Program(self.programs.igesolid, self.new_folder())
-
-    def clone(self):
-        """A copy of the repository, with a kit that is played."""
-        return clone.Clone(TOP, self.new_folder(), *self.programs[:2])
-
-
-class Part(NamedTuple):
-    name: str
-    about: str
-    checks: Callable
-    kind: str = DEFAULT
-
 
 def of_program(*functions):
     """Checks of igesolid on texts."""
@@ -92,14 +55,6 @@ def of_tables(*tables):
 def of_odd_runs(module):
     """The same, of a module that needs a command or a right that may be missing."""
     return lambda context: module.checks(Runner(context.programs.igesolid, SECONDS), context.new_folder, FORMS, context.skipped)
-
-
-def of_gate(context):
-    """.ci/run runs the default parts, and names each other part: it runs it, or says why not."""
-    gate = (TOP / ".ci" / "run").read_text()
-    yield ".ci/run: the default parts", "\ntests/run ||" in gate
-    for part in PARTS:
-        yield f".ci/run: {part.name}", part.kind == DEFAULT or re.search(rf"(?<![\w-]){part.name}(?![\w-])", gate) is not None
 
 
 def of_pages(context):
@@ -124,7 +79,7 @@ PARTS = (
     Part("where", "igesolid-where, beside the second checker", lambda context: where.checks(context.new_folder(), *context.programs[:2])),
     Part("pictures", "pages and marks", lambda context: picture_tests.checks(context.new_folder(), *context.programs[:2])),
     Part("pages", "README and docs: what they say of the program, the sources and the examples", of_pages),
-    Part("gate", ".ci/run: that it runs all parts", of_gate),
+    Part("testing", "tests/run itself, its choice of the programs, and that .ci/run has every part", lambda context: running_tests.checks(context, PARTS)),
     Part("launcher", "the launcher and dist/, in a copy of the repository", lambda context: launcher.checks(context.clone(), FORMS, context.skipped)),
     Part("packages", "the installer and the Debian package, likewise", lambda context: packages.checks(context.clone(), context.skipped)),
     Part("many", "the recipes of docs/MANY.md, likewise", lambda context: many.checks(context.clone(), context.skipped)),

@@ -6,12 +6,13 @@ import os
 import pathlib
 import resource
 import shutil
+import signal
 import sys
 import tempfile
 import time
 import traceback
 
-from parts import Context
+from part import Context
 
 INTERVAL = 0.2
 START = multiprocessing.get_context("fork")
@@ -60,9 +61,10 @@ class Reporter:
     """Tells the process that started a part what the part finds: each check that fails, and now and then how many held."""
 
     def __init__(self, connection):
-        self.connection, self.passed, self.told = connection, 0, time.monotonic()
+        self.connection, self.passed, self.told, self.is_empty = connection, 0, time.monotonic(), True
 
     def check(self, name, held):
+        self.is_empty = False
         if held:
             self.passed += 1
         else:
@@ -75,6 +77,7 @@ class Reporter:
         self.passed, self.told = 0, time.monotonic()
 
     def skipped(self, what):
+        self.is_empty = False
         self.connection.send((SKIPPED, what))
 
     def end(self):
@@ -84,7 +87,8 @@ class Reporter:
 
 
 def run_part(part, programs, folder, connection):
-    """Runs a part in this process, which was started for it."""
+    """Runs a part in this process, which was started for it and ends with it, or by the interrupt that ends the whole run."""
+    signal.signal(signal.SIGINT, signal.SIG_DFL)
     os.environ["TMPDIR"] = tempfile.tempdir = str(folder)
     os.chdir(folder)
     reporter = Reporter(connection)
@@ -93,6 +97,8 @@ def run_part(part, programs, folder, connection):
             reporter.check(name, held)
     except Exception:
         reporter.check(f"{part.name}: {traceback.format_exc()}", False)
+    if reporter.is_empty:
+        reporter.check(f"{part.name}: nothing was checked", False)
     reporter.end()
 
 
