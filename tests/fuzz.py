@@ -4,8 +4,8 @@ import subprocess
 from programs import TOP
 
 
-def checks(context, count, seed=1):
-    words = "--count", str(count), "--seed", str(seed), "--program", context.programs.igesolid
+def checks(context, count, seed, jobs):
+    words = "--count", str(count), "--seed", str(seed), "--jobs", str(jobs), "--program", context.programs.igesolid
     done = subprocess.run([TOP / "bench" / "fuzz", *words], capture_output=True, text=True)
     for line in done.stdout.splitlines():
         if line.startswith("skipped: "):

@@ -1,6 +1,5 @@
 """Odd files, odd outputs and descriptors that are closed, for each command."""
 import os
-import pathlib
 import shutil
 import signal
 import subprocess

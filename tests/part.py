@@ -3,7 +3,8 @@ import itertools
 from typing import Callable, NamedTuple
 
 import clone
-from programs import TOP, Program
+from programs import SECONDS, TOP, Program
+from spawned import Runner
 
 DEFAULT, LARGE, BY_NAME = "default", "large", "by name"
 
@@ -33,6 +34,10 @@ class Context:
         folder.mkdir()
         folder.chmod(0o755)
         return folder
+
+    def runner(self):
+        """igesolid, run on files."""
+        return Runner(self.programs.igesolid, SECONDS)
 
     def program(self):
         """igesolid, run on texts."""

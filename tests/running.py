@@ -27,7 +27,7 @@ class Screen:
 
     def change(self, text):
         if self.is_terminal:
-            width = os.get_terminal_size(sys.stderr.fileno()).columns
+            width = os.get_terminal_size(sys.stderr.fileno()).columns or 80
             sys.stderr.write(f"\r\033[K{text[: width - 1]}")
             sys.stderr.flush()
 
