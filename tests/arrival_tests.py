@@ -4,8 +4,9 @@ import random
 import examples
 import pieces
 from changes import changed, changed_book
-from programs import SECONDS, TOP
+from programs import TOP
 from sample_file import sample_text
+from spawned import SECONDS
 from versions import as_version_1
 
 

@@ -12,7 +12,8 @@ import sys
 import tempfile
 import time
 
-SECONDS = 60
+from spawned import SECONDS
+
 NAMES = "chromium", "chromium-browser", "google-chrome"
 WORDS = (
     "--headless=new", "--no-sandbox", "--disable-gpu", "--hide-scrollbars", "--no-first-run", "--disable-background-networking", "--disable-component-update",

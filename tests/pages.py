@@ -6,12 +6,12 @@ import re
 import subprocess
 
 from no_examples import printed_words
+from spawned import SECONDS
 from theorem import defines
 
 PAGES = "README.md", "examples/README.md", "examples/no/README.md"
 COMMANDS = "README.md", "docs/COMMANDS.md"
 RULE = re.compile(r'(?m)^rule_name .*= codes "(.*)"$')
-SECONDS = 120
 # The indexes: a row has the rule, definitions, functions, edits and examples.
 INDEXED = "docs/FORMAT.md", "docs/CERTIFICATE.md"
 INDEX = re.compile(r"(?m)^\| Rule \| Definition \| Function \| .*\n\|[-|]+\n((?:\|.*\n?)+)")

@@ -3,7 +3,7 @@ import itertools
 from typing import Callable, NamedTuple
 
 import clone
-from programs import SECONDS, TOP, Program
+from programs import TOP, Program
 from spawned import Runner
 
 DEFAULT, LARGE, BY_NAME = "default", "large", "by name"
@@ -37,7 +37,7 @@ class Context:
 
     def runner(self):
         """igesolid, run on files."""
-        return Runner(self.programs.igesolid, SECONDS)
+        return Runner(self.programs.igesolid)
 
     def program(self):
         """igesolid, run on texts."""

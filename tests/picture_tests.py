@@ -15,9 +15,9 @@ sys.path.insert(0, str(TOP / "companion"))
 from pictures import answers, hints, iges, overlay, page, scene, solids  # noqa: E402
 from pictures.curves import Curves  # noqa: E402
 from sample_file import text_of  # noqa: E402
+from spawned import SECONDS  # noqa: E402
 from surfaces import surface_text  # noqa: E402
 
-SECONDS = 60
 # A program whose text has a line that isn't one of igesolid-where.
 ODD = """#!/bin/sh
 echo 'fail PAIR 1 1'

@@ -13,7 +13,6 @@ from spawned import Runner
 
 TOP = pathlib.Path(__file__).resolve().parent.parent
 DIST = TOP / "dist"
-SECONDS = 120
 FORMS = (
     "solids FILE", "show FILE N", "certify FILE N", "verify FILE CERT", "extract FILE N", "sample N", "upgrade FILE CERT", "certify FILE all",
     "open FILE N", "open-verify FILE CERT", "orient FILE N", "orient-verify FILE CERT", "compact FILE N",
@@ -70,7 +69,7 @@ class Program:
     """
 
     def __init__(self, path, folder):
-        self.path, self.folder, self.lying, self.runner = path, folder, {}, Runner(path, SECONDS)
+        self.path, self.folder, self.lying, self.runner = path, folder, {}, Runner(path)
         self.paths = {"FILE": folder / "file", "CERT": folder / "certificate"}
 
     def lay(self, path, text):

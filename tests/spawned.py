@@ -2,6 +2,8 @@
 import os
 import select
 
+# After so many seconds a run counts as one that has no end: far more than any takes, on a busy machine too.
+SECONDS = 600
 DEVNULL = os.open(os.devnull, os.O_RDONLY | os.O_CLOEXEC)
 
 
@@ -11,7 +13,7 @@ class Runner:
     `seconds` is how long a run may take; then it is ended, and its status is None.
     """
 
-    def __init__(self, program, seconds=60):
+    def __init__(self, program, seconds=SECONDS):
         self.program, self.seconds, self.environment = os.fspath(program), seconds, dict(os.environ)
         self.kept = [os.memfd_create(name, os.MFD_CLOEXEC) for name in ("output", "error")]
 
