@@ -87,8 +87,9 @@ class Reporter:
 
 
 def run_part(part, programs, folder, connection):
-    """Runs a part in this process, which was started for it and ends with it, or by the interrupt that ends the whole run."""
-    signal.signal(signal.SIGINT, signal.SIG_DFL)
+    """Runs a part in this process, which was started for it and ends with it, or by the signal that ends the whole run."""
+    for number in (signal.SIGINT, signal.SIGTERM):
+        signal.signal(number, signal.SIG_DFL)
     os.environ["TMPDIR"] = tempfile.tempdir = str(folder)
     os.chdir(folder)
     reporter = Reporter(connection)
@@ -165,4 +166,7 @@ def run(parts, programs):
     try:
         return Run(parts, programs, folder).all()
     finally:
+        for process in multiprocessing.active_children():
+            process.terminate()
+            process.join()
         shutil.rmtree(folder, ignore_errors=True)
