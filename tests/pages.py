@@ -6,12 +6,12 @@ import re
 import subprocess
 
 from no_examples import printed_words
+from spawned import SECONDS
 from theorem import defines
 
 PAGES = "README.md", "examples/README.md", "examples/no/README.md"
 COMMANDS = "README.md", "docs/COMMANDS.md"
 RULE = re.compile(r'(?m)^rule_name .*= codes "(.*)"$')
-SECONDS = 120
 # The indexes: a row has the rule, definitions, functions and examples.
 INDEXED = "docs/FORMAT.md", "docs/CERTIFICATE.md"
 INDEX = re.compile(r"(?m)^\| Rule \| Definition \| Function \| .*\n\|[-|]+\n((?:\|.*\n?)+)")
@@ -57,7 +57,7 @@ def examples(folder, top):
 
 def script_by_status(folder, top):
     """The script of README, of a file that is closed, of two that aren't, of one that is no file, and of none."""
-    script = re.search(r"(?s)```sh\n(.*?)```", (top / "README.md").read_text())[1]
+    script = re.search(r"(?s)```sh\n(igesolid .*?)```", (top / "README.md").read_text())[1]
     part, certificate = folder / "part.igs", folder / "part.cert"
     for example, text in (
         ("two_solids.igs", ""),
