@@ -5,10 +5,13 @@ import shutil
 import subprocess
 
 import clone
+import command_table
 
 INSTALLED = (
-    "bin/igesolid", "lib/igesolid/igesolid", "lib/igesolid/igesolid-where", "lib/igesolid/BUILT", "share/man/man1/igesolid.1",
-    "lib/igesolid/companion/page", "lib/igesolid/companion/marks", "lib/igesolid/companion/pictures/page.html", "lib/igesolid/companion/pictures/iges.py",
+    "bin/igesolid", "lib/igesolid/BUILT", "lib/igesolid/commands.tsv", "lib/igesolid/launcher/causes.sh", "share/man/man1/igesolid.1",
+    *(f"lib/igesolid/{name}" for name in command_table.programs()),
+    *(f"lib/igesolid/companion/{row.words.split()[0]}" for row in command_table.of_kind("python")),
+    "lib/igesolid/companion/pictures/page.html", "lib/igesolid/companion/pictures/iges.py",
 )  # fmt: skip
 PAGES = (
     *(f"docs/{name}.md" for name in ("THEOREM", "PROOFS", "COMMANDS", "FORMAT", "CERTIFICATE")),
