@@ -1,7 +1,5 @@
 # shellcheck shell=sh disable=SC2154
 # Why a run failed, for the launcher igesolid: what the program reports by its status alone.
-file_limit=164000000
-certificate_limit=536870912
 
 # Whether words are those of a form; sets the file and the certificate among them.
 fits() {
@@ -43,29 +41,49 @@ find_form() {
     return 1
 }
 
+# What a file is called in messages.
+name_of() {
+    case $1 in
+    -) echo 'standard input' ;;
+    *) printf %s "$1" ;;
+    esac
+}
+
 # Why a file can't be read, found by trying it again; nothing if it can be read, or can't be tried twice.
 cause_of() {
-    if [ -d "$1" ]; then
+    if [ "$1" = - ]; then
+        if (exec 3<&0) 2>/dev/null; then
+            cause_of /dev/stdin
+        else
+            echo 'is closed'
+        fi
+    elif [ -d "$1" ]; then
         echo 'is a folder'
-    elif [ -p "$1" ] || [ -c "$1" ]; then
+    elif [ -p "$1" ] || [ -c "$1" ] || [ -b "$1" ]; then
         return
     elif ! (exec <"$1") 2>/dev/null; then
-        failure=$(LC_ALL=C cat -- "$1" 2>&1 >/dev/null </dev/null)
-        echo "can't be opened: ${failure##*: }"
+        echo "can't be opened: $(failure_of "$1")"
     else
-        failure=$(LC_ALL=C cat -- "$1" 2>&1 >/dev/null </dev/null) || echo "a read failed: ${failure##*: }"
+        failure=$(failure_of "$1")
+        [ -z "$failure" ] || echo "a read failed: $failure"
     fi
+}
+
+# What the system says where a file is read, as far as the program reads it. Its name is never -, so no other input is read.
+failure_of() {
+    failure=$(LC_ALL=C head -c "$certificate_limit" -- "$1" 2>&1 >/dev/null)
+    printf %s "${failure##*: }"
 }
 
 say_unread() {
     for it in "$file" ${certificate:+"$certificate"}; do
         cause=$(cause_of "$it")
         if [ -n "$cause" ]; then
-            say "$it: $cause"
+            say "$(name_of "$it"): $cause"
             return
         fi
     done
-    say "$file${certificate:+ or $certificate}: a read failed"
+    say "$(name_of "$file")${certificate:+ or $(name_of "$certificate")}: a read failed"
 }
 
 # Whether a file is within a limit: yes, no, or unknown if it isn't a regular file.
@@ -87,11 +105,11 @@ say_too_large() {
     is_file="the file has more than 164,000,000 bytes"
     is_certificate="the certificate has more than 536,870,912 bytes"
     if [ "$of_file" = no ]; then
-        say "$file: $is_file"
+        say "$(name_of "$file"): $is_file"
         return
     fi
     if [ "$of_certificate" = no ]; then
-        say "$certificate: $is_certificate"
+        say "$(name_of "$certificate"): $is_certificate"
         return
     fi
     [ "$of_file" != yes ] || is_file=
@@ -107,29 +125,34 @@ say_too_large() {
     for it in "$is_file" "$is_certificate" "$is_text"; do
         [ -z "$it" ] || causes="$causes${causes:+, or }$it"
     done
-    say "$file: $causes"
+    say "$(name_of "$file"): $causes"
 }
 
-# Arguments that aren't UTF-8 match no form, so the program prints its usage line for them.
-say_words() {
-    for it; do
-        if ! is_utf8 "$it"; then
-            say "$it: this argument isn't UTF-8"
-            return
-        fi
-    done
+# Asks whether a certificate belongs to the file, where the answer is that it names a solid or a shell that isn't so in the file.
+ask_about_certificate() {
+    [ -f "$file" ] && [ -f "$certificate" ] || return 0
+    case $("$program" "$@" 2>/dev/null </dev/null) in
+    'line '[234]' unfit' | *'fail ENTRY '*' 0' | *'fail TYPE '*' 0')
+        say "$certificate: does this certificate belong to $file? It is of a solid or shell that isn't so in this file"
+        ;;
+    esac
 }
 
-# Prints the cause of a status with which the program writes nothing or only a part; and that an argument isn't UTF-8.
+# Prints the cause of a status with which the program writes nothing or only a part, what is wrong with the words of a run, and
+# a question about a certificate that isn't accepted.
 explain() {
     code=$1
     shift
     find_form "$@" || :
     case $code in
-    2) say_words "$@" ;;
+    1) [ -z "$certificate" ] || ask_about_certificate "$@" ;;
+    2)
+        more usage
+        say_wrong_words "$@"
+        ;;
     4) say_unread ;;
-    5) fail_output "$file" ;;
-    6) say "${file:+$file: }out of memory" ;;
+    5) fail_output "$(name_of "$file")" ;;
+    6) say "${file:+$(name_of "$file"): }out of memory" ;;
     8) say_too_large ;;
     9) say "the system doesn't provide the program's arguments" ;;
     esac
