@@ -111,10 +111,31 @@ def builds(copy):
     yield "build: a crate that isn't proved", (status, text) == (125, b"") and "crate brep_walk could not be built" in error
     yield "build: none above it", "run igesolid" not in copy.calls()
     yield "build: not built yet", b"not built yet" in copy.run("./igesolid", "--version")[1]
-    status, told = clone.on_terminal(solids, cwd=copy.top, env=copy.environment(kit=True, KIT_DELAY="0.05"))
     # The first crates may be proved before a line is shown.
+    yield from failed_runs(copy, solids)
+    copy.unbuild()
+    status, told = clone.on_terminal(solids, cwd=copy.top, env=copy.environment(kit=True, KIT_DELAY="0.05"))
     yield "build: one line that changes", status == 0 and re.search(rf"\r\x1b\[Kigesolid: \d+ of {count} crates proved, now \w+", told) is not None
     copy.unbuild()
+
+
+def failed_runs(copy, solids):
+    """A build whose last run fails doesn't count, though the program is there; what was there before stays until it is replaced."""
+    kit = copy.folder / "kit" / "rt"
+    text = kit.read_text()
+    copy.unbuild()
+    for crate, command in (("igesolid", solids[1:]), ("igesolid_where", ["where", "examples/cube.igs"])):
+        copy.write(kit, f"{text}\n[ \"$1\" != run ] || exit 1\n")
+        status, _, error = copy.run("./igesolid", "--built", *command, kit=True)
+        failed = status == 125 and f"crate {crate} could not be built" in error
+        yield f"build: a failed run of {crate}", failed and copy.built(crate).exists() and not copy.built(crate).with_name(f"{crate}.from").exists()
+        copy.write(kit, text.replace("lib | run)", "lib | run)\n    [ \"$1\" != run ] || echo \"$@\" >words"))
+        status, _, error = copy.run("./igesolid", "--built", *command, kit=True)
+        folder = copy.top / "crates" / crate
+        words = (folder / "words").read_text().split()
+        (folder / "words").unlink()
+        yield f"build: the trial of {crate}", status == 0 and subprocess.run([copy.built(crate), *words[2:]], cwd=folder, stdout=subprocess.DEVNULL).returncode == 0
+    copy.write(kit, text)
 
 
 def heed_interrupts():
