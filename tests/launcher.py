@@ -436,7 +436,29 @@ def places(copy):
     yield "message: a control character that isn't UTF-8", told[2] == "igesolid: a?b\ufffd: this argument isn't UTF-8\n"
 
 
+def surprises(copy):
+    """What docs/RELIABILITY.md says of the program: it opens a certificate before it reads the file, and wants a blocking output."""
+    fifo = copy.folder / "fifo"
+    os.mkfifo(fifo)
+    process = subprocess.Popen([copy.program, "verify", "missing.igs", fifo], cwd=copy.top, stdout=subprocess.PIPE)
+    # Opening it for writing waits until the program opens it.
+    fifo.open("wb").close()
+    yield "reliability: a certificate is opened first", process.wait(timeout=clone.SECONDS) == 4
+    process.stdout.close()
+    fifo.unlink()
+    (copy.top / "sample.igs").write_bytes(sample_text(30))
+    reader, writer = os.pipe()
+    os.set_blocking(writer, False)
+    done = subprocess.run([copy.program, "extract", "sample.igs", "1"], cwd=copy.top, stdout=writer, timeout=clone.SECONDS)
+    os.close(writer)
+    with open(reader, "rb") as pipe:
+        part = pipe.read()
+    yield "reliability: a non-blocking output", done.returncode == 5 and 0 < len(part) and sample_text(30).startswith(part)
+    (copy.top / "sample.igs").unlink()
+
+
 def checks(copy, forms, skipped):
+    yield from surprises(copy)
     yield from pictures(copy)
     yield from inputs(copy)
     yield from outputs(copy)
