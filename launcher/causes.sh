@@ -6,10 +6,15 @@ fits() {
     file=
     certificate=
     for part in $1; do
+        [ "$part" != .. ] || return 0
         [ $# -gt 1 ] || return 1
         shift
         case $part in
-        FILE*) file=$1 ;;
+        *..*)
+            file=$1
+            return 0
+            ;;
+        FILE) file=$1 ;;
         CERT) certificate=$1 ;;
         N) is_number "$1" || return 1 ;;
         *) [ "$part" = "$1" ] || return 1 ;;

@@ -100,7 +100,10 @@ say_wrong_arguments() {
     missing=
     verb=is
     for part in $close; do
-        if [ $# -eq 0 ]; then
+        if [ "$part" = .. ]; then
+            set --
+            break
+        elif [ $# -eq 0 ]; then
             [ -z "$missing" ] || verb=are
             missing="$missing${missing:+ and }$part"
             continue

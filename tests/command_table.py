@@ -92,9 +92,9 @@ def pages(copy):
     for row in of_kind("option"):
         if row.owner == "everywhere":
             yield f"man page: {row.words}", row.words.split()[0] in plain(man)
-    for number in statuses():
+    for number, meaning in statuses().items():
         yield f"man page: status {number}", f"\n.TP\n.B {number}\n" in man
-        yield f"docs/COMMANDS.md: status {number}", f"\n| {number} |" in commands
+        yield f"docs/COMMANDS.md: status {number}", f"\n| {number} | {meaning}" in commands
 
 
 def helps(copy):

@@ -1,4 +1,5 @@
 """The launcher and dist/: a first run without the kit, builds by a kit that is played, and what the launcher says."""
+import hashlib
 import os
 import pathlib
 import re
@@ -225,9 +226,12 @@ def messages(copy):
         (["verify", "/dev/null", "/dev/null"], f"/dev/null: {IS_BIG_FILE}, or {IS_BIG_CERTIFICATE}"),
     ):
         yield f"message of status 8: {words}", copy.run("./igesolid", *words, STATUS=8) == (8, b"", f"igesolid: {said}\n")
-    for status in (4, 6, 9):
-        error = copy.run("./igesolid", "verify", cube, certificate, STATUS=status)[2]
-        yield f"message of status {status}: one line", error.startswith("igesolid: ") and error.count("\n") == 1
+    for row in command_table.of_kind("status"):
+        error = copy.run("./igesolid", "verify", cube, certificate, STATUS=row.owner)[2] if row.owner != "125" else ""
+        if row.words == "always" and row.owner != "125":
+            yield f"message of status {row.owner}: one line", error.startswith("igesolid: ") and error.count("\n") == 1
+        elif row.words == "never":
+            yield f"message of status {row.owner}: none", error == ""
     for name in ("big.igs", "big.cert", "sample.igs"):
         (copy.top / name).unlink()
     copy.ship(copy.program)
@@ -457,7 +461,48 @@ def surprises(copy):
     (copy.top / "sample.igs").unlink()
 
 
+# A further program with two commands, and another command of a program that is there, as lines of the table.
+FURTHER = """program\tigesolid-repair\tall\trepairs
+command\tigesolid-repair\trelayout FILE\ta file of the fixed form
+command\tigesolid-repair\treorient FILE N\ta file with other flags
+command\tigesolid-where\twhere --json FILE ..\tthe same as JSON
+"""
+REPAIR = """#!/bin/sh
+[ $# -gt 0 ] || { echo 'usage: igesolid-repair ..'; exit 2; }
+echo "$@"
+exit "${STATUS:-0}"
+"""
+
+
+def further_program(copy):
+    """A program that is added to the table and to dist/ is run, explained, helped, completed and installed without another change."""
+    table, sums = copy.top / "commands.tsv", copy.top / "dist" / "SHA256SUMS"
+    text, lines = table.read_text(), sums.read_text()
+    program = copy.top / "dist" / "igesolid-repair-x86_64-linux"
+    table.write_text(text + FURTHER)
+    copy.write(program, REPAIR)
+    sums.write_text(lines + f"{hashlib.sha256(REPAIR.encode()).hexdigest()}  {program.name}\n")
+    yield "further program: run", copy.run("./igesolid", "relayout", "a.igs") == (0, b"relayout a.igs\n", "")
+    status, _, error = copy.run("./igesolid", "reorient", "a.igs", "1", STATUS=4)
+    yield "further program: a cause", (status, error) == (4, "igesolid: a.igs: can't be opened: No such file or directory\n")
+    status, _, error = copy.run("./igesolid", "reorient", "a.igs", STATUS=2)
+    yield "further program: wrong words", status == 2 and error.startswith("igesolid: N is missing: the words are igesolid reorient FILE N\n")
+    status, _, error = copy.run("./igesolid", "relayuot", "a.igs")
+    yield "further program: the nearest", error == "igesolid: relayuot isn't a command; the nearest is relayout: igesolid relayout FILE\n"
+    yield "further program: --program", copy.run("./igesolid", "--program", "relayout") == (0, f"{program}\n".encode(), "")
+    yield "further program: --help", b"\n\n  igesolid relayout FILE " in copy.run("./igesolid", "--help")[1]
+    for shell in ("bash", "zsh", "fish"):
+        yield f"further program: {shell}", b"relayout" in copy.run("packaging/completions", shell)[1]
+    prefix = copy.folder / "further"
+    yield "further program: installed", copy.run("./install", prefix)[0] == 0 and copy.run(prefix / "bin" / "igesolid", "relayout", "b")[:2] == (0, b"relayout b\n")
+    shutil.rmtree(prefix)
+    table.write_text(text)
+    sums.write_text(lines)
+    program.unlink()
+
+
 def checks(copy, forms, skipped):
+    yield from further_program(copy)
     yield from surprises(copy)
     yield from pictures(copy)
     yield from inputs(copy)
