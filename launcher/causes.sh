@@ -10,10 +10,7 @@ fits() {
         [ $# -gt 1 ] || return 1
         shift
         case $part in
-        *..*)
-            file=$1
-            return 0
-            ;;
+        *..*) return 0 ;;
         FILE) file=$1 ;;
         CERT) certificate=$1 ;;
         N) is_number "$1" || return 1 ;;
@@ -149,6 +146,8 @@ explain() {
     code=$1
     shift
     find_form "$@" || :
+    # Python explains what it does with files that the launcher doesn't know.
+    [ "$kind" != python ] || [ -n "$file" ] || return 0
     case $code in
     1) [ -z "$certificate" ] || ask_about_certificate "$@" ;;
     2)

@@ -8,12 +8,25 @@ perform_in_python() {
     shift
     case $form in
     *' FILE N') run_on_file "$@" ;;
-    *) run_script "$@" ;;
+    *) run_on_words "$@" ;;
     esac
 }
 
 run_script() {
     attend python3 -B "$script" --program "$program" -- "$@"
+}
+
+# Words may be options here. Of several programs the others are given as --NAME-program, with what follows igesolid- as NAME.
+run_on_words() {
+    first=$program
+    while [ -n "$others" ]; do
+        others=${others#,}
+        mean "${others%%,*}"
+        others=${others#"$name"}
+        need
+        set -- "--${name#igesolid-}-program" "$program" "$@"
+    done
+    attend python3 -B "$script" --program "$first" "$@"
 }
 
 # A file that can be read once is copied first, for the program and Python each read it.

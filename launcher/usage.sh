@@ -100,7 +100,7 @@ say_wrong_arguments() {
     missing=
     verb=is
     for part in $close; do
-        if [ "$part" = .. ]; then
+        if [ "${part%..}" != "$part" ]; then
             set --
             break
         elif [ $# -eq 0 ]; then

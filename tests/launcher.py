@@ -461,11 +461,16 @@ def surprises(copy):
     (copy.top / "sample.igs").unlink()
 
 
-# A further program with two commands, and another command of a program that is there, as lines of the table.
+# A further program with two commands, another command of a program that is there, and one in Python, as lines of the table.
 FURTHER = """program\tigesolid-repair\tall\trepairs
 command\tigesolid-repair\trelayout FILE\ta file of the fixed form
 command\tigesolid-repair\treorient FILE N\ta file with other flags
 command\tigesolid-where\twhere --json FILE ..\tthe same as JSON
+python\tigesolid,igesolid-where\treport [OPTION..] FILE|FOLDER..\ta report of many files
+"""
+REPORT = """import sys
+print(*sys.argv[1:])
+sys.exit(4)
 """
 REPAIR = """#!/bin/sh
 [ $# -gt 0 ] || { echo 'usage: igesolid-repair ..'; exit 2; }
@@ -491,6 +496,10 @@ def further_program(copy):
     yield "further program: the nearest", error == "igesolid: relayuot isn't a command; the nearest is relayout: igesolid relayout FILE\n"
     yield "further program: --program", copy.run("./igesolid", "--program", "relayout") == (0, f"{program}\n".encode(), "")
     yield "further program: --help", b"\n\n  igesolid relayout FILE " in copy.run("./igesolid", "--help")[1]
+    (copy.top / "companion" / "report").write_text(REPORT)
+    paths = [copy.top / "dist" / f"{name}-x86_64-linux" for name in ("igesolid", "igesolid-where")]
+    wanted = f"--program {paths[0]} --where-program {paths[1]} --json a b\n".encode()
+    yield "further program: in Python", copy.run("./igesolid", "report", "--json", "a", "b") == (4, wanted, "")
     for shell in ("bash", "zsh", "fish"):
         yield f"further program: {shell}", b"relayout" in copy.run("packaging/completions", shell)[1]
     prefix = copy.folder / "further"
@@ -499,6 +508,7 @@ def further_program(copy):
     table.write_text(text)
     sums.write_text(lines)
     program.unlink()
+    (copy.top / "companion" / "report").unlink()
 
 
 def checks(copy, forms, skipped):
