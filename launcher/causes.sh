@@ -47,6 +47,7 @@ find_form() {
 name_of() {
     case $1 in
     -) echo 'standard input' ;;
+    '') echo 'an empty name' ;;
     *) printf %s "$1" ;;
     esac
 }
@@ -155,7 +156,7 @@ explain() {
         say_wrong_words "$@"
         ;;
     4) say_unread ;;
-    5) fail_output "$(name_of "$file")" ;;
+    5) fail_output "${file:+$(name_of "$file")}" ;;
     6) say "${file:+$(name_of "$file"): }out of memory" ;;
     8) say_too_large ;;
     9) say "the system doesn't provide the program's arguments" ;;

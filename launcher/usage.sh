@@ -76,7 +76,7 @@ say_unknown() {
     elif [ -f "$1" ]; then
         say "$1 is a file, and a command comes before it, as in: igesolid certify $1 all"
     else
-        say "$1 isn't a command; igesolid --help lists the commands"
+        say "${1:-an empty word} isn't a command; igesolid --help lists the commands"
     fi
 }
 

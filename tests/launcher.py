@@ -179,6 +179,7 @@ def messages(copy):
     os.truncate(copy.top / "big.cert", BIG_CERTIFICATE)
     for words, status, said in (
         (["solids", "none.igs"], 4, "none.igs: can't be opened: No such file or directory"),
+        (["solids", ""], 4, "an empty name: can't be opened: No such file or directory"),
         (["solids", "two\nlines"], 4, "two?lines: can't be opened: No such file or directory"),
         (["show", "examples", "1"], 4, "examples: is a folder"),
         (["verify", cube, "none.cert"], 4, "none.cert: can't be opened: No such file or directory"),
@@ -311,7 +312,7 @@ def inputs(copy):
 
 def outputs(copy):
     """Words of the launcher's own, and pages, with a standard output that fails."""
-    for words in ("--help", "-h", "help", "--version", "--program", "solids examples/cube.igs", "page examples/no/fail_pair.igs 1"):
+    for words in ("--help", "-h", "help", "--version", "--program", "sample 3", "solids examples/cube.igs", "page examples/no/fail_pair.igs 1"):
         for output in (">/dev/full", ">&-"):
             status, text, error = run_in(copy, f"./igesolid {words} {output}")
             yield f"{words} {output}", (status, text) == (5, "") and error.endswith("standard output failed, so the answer is cut short or missing\n") and error.count("\n") == 1
