@@ -9,15 +9,13 @@ import subprocess
 import sys
 from typing import NamedTuple
 
+import command_table
 from spawned import Runner
 
 TOP = pathlib.Path(__file__).resolve().parent.parent
 DIST = TOP / "dist"
-FORMS = (
-    "solids FILE", "show FILE N", "certify FILE N", "verify FILE CERT", "extract FILE N", "sample N", "upgrade FILE CERT", "certify FILE all",
-    "open FILE N", "open-verify FILE CERT", "orient FILE N", "orient-verify FILE CERT", "compact FILE N",
-)  # fmt: skip
-USAGE = f"usage: igesolid {' | '.join(FORMS)}\n"
+FORMS = command_table.forms()
+USAGE = command_table.usage()
 NONE_FITS = (
     "no programs of these sources: those built here are missing or older than a source, and dist/ holds those of other sources; build"
     " them with the kit (rt ci, or ./igesolid --built and ./igesolid --built where), or then run dist/make, which puts them into dist/"
