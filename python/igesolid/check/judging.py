@@ -9,17 +9,9 @@ from ..content import Content, content_of_file, content_of_path
 from ..engine import Engine
 from ..errors import Error, NotRead, TooLarge
 from ..files import File, Solid
-from .report import NOT_WRITTEN, Fault, Report, SolidReport, fault_of
+from .report import NOT_WRITTEN, STANDARD_INPUT, Fault, Report, SolidReport, fault_of
 from .table import Key, Table
 from .writing import write_whole
-
-STANDARD_INPUT = "-"
-
-
-class NotWritten(Error):
-    """A certificate can't be written."""
-
-    status = NOT_WRITTEN
 
 
 class Judge:
@@ -49,7 +41,7 @@ class Judge:
         found = self.table.by_key.get(Key(self.program, content.size, content.sha256)) if self.table else None
         if found is None or (self.has_certificates and not _has_certificates(name, found)):
             return None
-        return found._replace(file=name)
+        return found._replace(file=name, is_remembered=True)
 
     def _judged(self, name: str, content: Content) -> Report:
         report = Report(name, content.size, content.sha256, self.program)
@@ -78,7 +70,8 @@ def certificate_path(name: str, number: int) -> pathlib.Path:
 
 def _has_certificates(name: str, report: Report) -> bool:
     """Whether the certificate that was written of each closed solid lies beside the file."""
-    return all(_sum_of(certificate_path(name, it.number)) == it.certificate is not None for it in report.solids if it.verdict.is_closed)
+    closed = [it for it in report.solids if it.verdict.is_closed]
+    return all(it.certificate and it.certificate == _sum_of(certificate_path(name, it.number)) for it in closed)
 
 
 def _sum_of(path: pathlib.Path) -> Optional[str]:
@@ -98,10 +91,10 @@ def _with_certificates(report: Report, solids: List[Solid]) -> Report:
         for number, path in _certificates_beside(report.file):
             if number not in written:
                 path.unlink()
-    except OSError as fault:
-        report = report._replace(fault=Fault(NOT_WRITTEN, f"certificate: {fault.strerror or fault}"))
     except (Error, MemoryError) as fault:
         report = report._replace(fault=fault_of(fault))
+    except OSError as fault:
+        report = report._replace(fault=Fault(NOT_WRITTEN, f"certificate: {fault.strerror or fault}"))
     return report._replace(solids=tuple(it._replace(certificate=written.get(it.number)) for it in report.solids))
 
 

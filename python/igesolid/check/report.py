@@ -8,6 +8,8 @@ CLOSED, NOT_CLOSED, NOT_WRITTEN = 0, 1, 5
 WORDS = {BadFile.status: "bad file", NotRead.status: "not read", NOT_WRITTEN: "not written", NoMemory.status: "no memory", TooLarge.status: "too large"}
 STATUSES = {word: status for status, word in WORDS.items()}
 NOT_JUDGED = "not judged"
+# The name of standard input.
+STANDARD_INPUT = "-"
 COLUMNS = "file", "bytes", "sha256", "program", "solid", "verdict", "rule", "entity", "place", "certificate", "line", "reason"
 Row = Dict[str, str]
 
@@ -33,7 +35,8 @@ class SolidReport(NamedTuple):
 
 
 class Report(NamedTuple):
-    """A file; the size and SHA-256 of its bytes, and the program's SHA-256, if it was judged; its solids, and what went wrong."""
+    """A file; the size and SHA-256 of its bytes, and the program's SHA-256, if it was judged; its solids; what went wrong;
+    whether all this comes from the table of an earlier run."""
 
     file: str
     size: Optional[int] = None
@@ -41,6 +44,7 @@ class Report(NamedTuple):
     program: Optional[str] = None
     solids: Tuple[SolidReport, ...] = ()
     fault: Optional[Fault] = None
+    is_remembered: bool = False
 
     @property
     def failing(self) -> List[SolidReport]:
@@ -83,7 +87,7 @@ def dict_of(report: Report) -> Dict[str, Any]:
     ]
     fault = report.fault._asdict() if report.fault else {}
     head = dict(file=report.file, bytes=report.size, sha256=report.sha256, program=report.program, verdict=report.word, line=fault.get("line"))
-    return {**_given({**head, "reason": fault.get("reason")}), "status": report.status, "solids": solids}
+    return {**_given({**head, "reason": fault.get("reason")}), "status": report.status, "remembered": report.is_remembered, "solids": solids}
 
 
 def report_of_dict(told: Dict[str, Any]) -> Report:

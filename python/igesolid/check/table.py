@@ -11,7 +11,7 @@ CODING: Any = dict(newline="", encoding="utf-8", errors="surrogateescape")
 
 
 class NoTable(Exception):
-    """What is there isn't a table of this command."""
+    """The table can't be used."""
 
 
 class Key(NamedTuple):
@@ -30,13 +30,15 @@ def write_rows(out: Any, reports: Iterable[Report]) -> None:
 
 
 def _reports_in(path: pathlib.Path) -> List[Report]:
+    if not path.exists() or (path.is_file() and path.stat().st_size == 0):
+        return []
     with open(path, **CODING) as rows:
         reader = csv.DictReader(rows)
         if tuple(reader.fieldnames or ()) != COLUMNS:
             raise NoTable(f"{path} isn't a table that igesolid check wrote, so it stays as it is")
         try:
             return [report_of_rows(group) for _, group in itertools.groupby(reader, lambda row: row["file"])]
-        except (ValueError, KeyError, TypeError, csv.Error):
+        except (ValueError, KeyError, TypeError):
             raise NoTable(f"{path}: line {reader.line_num} isn't a row of igesolid check, so the table stays as it is") from None
 
 
@@ -45,7 +47,12 @@ class Table:
 
     def __init__(self, path: pathlib.Path):
         self.path = path
-        earlier = _reports_in(path) if path.exists() else []
+        try:
+            earlier = _reports_in(path)
+        except OSError as fault:
+            raise NoTable(f"{path}: {fault.strerror}") from fault
+        except csv.Error as fault:
+            raise NoTable(f"{path} isn't a table that igesolid check wrote, so it stays as it is: {fault}") from None
         self.by_key: Dict[Key, Report] = {Key(it.program, it.size, it.sha256): it for it in earlier if it.is_judged}
         self.by_file: Dict[str, Report] = {it.file: it for it in earlier}
         self.sizes = {key.size for key in self.by_key}
