@@ -68,7 +68,7 @@ class Cluster:
     def _submit(self, names: List[str], events: "Events[Event]") -> None:
         how = dict(stdin=subprocess.DEVNULL, stdout=subprocess.PIPE, stderr=subprocess.PIPE, pure=False, retries=RETRIES)
         futures = {self.client.submit(subprocess.run, [*self.command, os.path.abspath(name)], **how): name for name in names}
-        for future in self.distributed.as_completed(list(futures)):
+        for future in self.distributed.as_completed(list(futures), loop=self.client.loop):
             name = futures.pop(future)
             events.put(Done(name, _report_of(name, future)))
 
