@@ -6,7 +6,7 @@ from typing import Callable, List, Optional
 from .events import Done, Event, Events
 from .report import Report
 
-SECONDS_TO_END = 10
+SECONDS_TO_END = 2
 
 
 class Threads:
