@@ -54,8 +54,8 @@ def sum_of(data):
 class Parts:
     """A folder of files, and what the program says of them."""
 
-    def __init__(self, copy):
-        self.copy, self.folder = copy, copy.folder / "many"
+    def __init__(self, copy, prefix):
+        self.copy, self.folder, self.launcher = copy, copy.folder / "many", prefix / "bin" / "igesolid"
         self.parts = self.folder / "parts"
         self.fill()
 
@@ -74,9 +74,9 @@ class Parts:
         status, text = self.run("solids", file)
         return [(int(number), *self.run("certify", file, number)) for number in text.decode().split()] if status == 0 else []
 
-    def check(self, *words, program=None, **more):
+    def check(self, *words, **more):
         """The status, standard output and standard error of `igesolid check`."""
-        return self.copy.run(program or self.copy.top / "igesolid", "check", *words, cwd=self.folder, **more)
+        return self.copy.run(self.launcher, "check", *words, cwd=self.folder, **more)
 
     def json(self, *words, **more):
         """The object of a run whose status is the one that it tells."""
@@ -137,7 +137,7 @@ def texts(parts):
         yield f"check: one file, {name}", parts.check(f"parts/{name}") == (status, text.encode(), "")
     shutil.copy(parts.parts / "no" / "tetrahedra.iges", parts.folder / "it's.igs")
     command = re.search(r"; (igesolid where .*)", parts.check("it's.igs")[1].decode())[1]
-    path = f"{parts.copy.top}:{clone.PLAIN_PATH}"
+    path = f"{parts.launcher.parent}:{clone.PLAIN_PATH}"
     yield "check: the command that shows more", parts.copy.run("sh", "-c", command, cwd=parts.folder, PATH=path)[1].startswith(b"fail REACH 29 0\n")
     some = parts.check("parts/cube.igs", "parts/below", "parts/cube.igs")
     yield "check: files and folders, each once", some == (0, b"parts/cube.igs: closed, 1 solid\nparts/below/TWO SOLIDS.IGS: closed, 2 solids\n2 files: 2 closed; 3 solids, 3 closed\n", "")
@@ -148,7 +148,7 @@ def texts(parts):
     shutil.copy(parts.parts / "cube.igs", os.path.join(os.fsencode(parts.folder), odd))
     yield "check: an odd name", parts.check(odd, "parts/cube.igs")[1].startswith(b"a?b\xff.igs: closed, 1 solid\n")
     yield "check: an odd name in JSON", parts.json(odd)["files"][0]["file"] == os.fsdecode(odd)
-    piped = subprocess.run([parts.copy.top / "igesolid", "check", "-"], input=(parts.parts / "cube.igs").read_bytes(), stdout=subprocess.PIPE, env=parts.copy.environment())
+    piped = subprocess.run([parts.launcher, "check", "-"], input=(parts.parts / "cube.igs").read_bytes(), stdout=subprocess.PIPE, env=parts.copy.environment())
     yield "check: standard input", (piped.returncode, piped.stdout) == (0, b"solid 1: closed\n1 solid, 1 closed\n")
 
 
@@ -212,7 +212,7 @@ def statuses(parts):
     yield "check: no program", told[:2] == (125, b"") and "/none: No such file or directory" in told[2]
     status, text, _ = parts.check("--help")
     yield "check: --help", status == 0 and text.startswith(b"usage: igesolid check ")
-    yield "check: no caches are left", not any(parts.copy.top.rglob("__pycache__"))
+    yield "check: no caches are left", not any(parts.launcher.parent.parent.rglob("__pycache__"))
 
 
 def remembered(told):
@@ -288,7 +288,7 @@ def started(parts, *words, **more):
     """`igesolid check` with a terminal as standard error, and the terminal."""
     master, terminal = os.openpty()
     process = subprocess.Popen(
-        [parts.copy.top / "igesolid", "check", *words], cwd=parts.folder, stdin=subprocess.DEVNULL, stdout=subprocess.PIPE, stderr=terminal,
+        [parts.launcher, "check", *words], cwd=parts.folder, stdin=subprocess.DEVNULL, stdout=subprocess.PIPE, stderr=terminal,
         env=parts.copy.environment(**more), start_new_session=True, preexec_fn=lambda: signal.signal(signal.SIGINT, signal.SIG_DFL),
     )  # fmt: skip
     os.close(terminal)
@@ -371,13 +371,16 @@ def early_interrupts(parts):
 
 
 def progress(parts):
-    command = [parts.copy.top / "igesolid", "check", "parts", "--jobs", "1"]
+    command = [parts.launcher, "check", "parts", "--jobs", "1"]
     status, told = clone.on_terminal(command, cwd=parts.folder, env=parts.copy.environment())
     lines = [f"\r\x1b[Kigesolid: {n} of 7 files, " for n in range(8)]
     yield "check: one line that changes", status == 3 and [it in told for it in lines] == [True] * 8 and told.endswith("7 of 7 files, 3 not closed\r\x1b[K")
 
 
 def launched(parts):
+    told = parts.copy.run("./igesolid", "check", "examples/cube.igs")
+    yield "check: in a clone", told == (0, b"solid 1: closed\n1 solid, 1 closed\n", "")
+    yield "check: no caches are left", not any(parts.copy.top.rglob("__pycache__"))
     plain = parts.copy.folder / "without python 3"
     plain.mkdir()
     for folder in map(pathlib.Path, clone.PLAIN_PATH.split(":")):
@@ -396,9 +399,9 @@ def blocks(parts):
     return lambda word: next(it for it in found if word in it)
 
 
-def recipes(parts, prefix, skipped):
+def recipes(parts, skipped):
     block = blocks(parts)
-    path = f"{prefix}/bin:{clone.PLAIN_PATH}"
+    path = f"{parts.launcher.parent}:{clone.PLAIN_PATH}"
     run = lambda recipe, **more: parts.copy.run("sh", "-c", recipe, cwd=parts.folder, PATH=path, HOME=parts.folder, **more)
     wanted = {f"{name}.answer": parts.run("certify", f"parts/{name}", "all")[1] for name in FILES}
     written = lambda: {str(it.relative_to(parts.parts)): it.read_bytes() for it in parts.parts.rglob("*.answer")}
@@ -422,12 +425,12 @@ def slurm(parts, block, path, skipped):
         skipped(f"the recipe of Slurm: {lacking}")
         return
     parts.fill()
-    listing = block("find parts -type f")
+    listing = re.search(r"(?m)^find .*$", block("sort >files.txt"))[0]
     (parts.folder / "check.sbatch").write_text(block("#SBATCH"))
     with slurm_cluster.one_node() as own:
         environment = {**own, "PATH": path, "HOME": parts.folder}
         run = lambda *words: parts.copy.run(*words, cwd=parts.folder, **environment)
-        run("sh", "-c", re.search(r"(?m)^find .*$", listing)[0])
+        run("sh", "-c", listing)
         status, _, error = run("sbatch", "--wait", "--array=0-2", "check.sbatch")
         yield "recipe: Slurm, the array", (status, error) == (0, "")
         tables = sorted(parts.folder.glob("answers.*.csv"))
@@ -438,7 +441,7 @@ def slurm(parts, block, path, skipped):
         yield "recipe: Slurm, the answers", sorted(told, key=str) == sorted(wanted_rows(parts.all_wanted()), key=str)
 
 
-def dask(parts, prefix, skipped):
+def dask(parts, skipped):
     """On a real cluster: the same report, also if a worker is killed or none can run the program."""
     python = shutil.which("python3", path=clone.PLAIN_PATH)
     (parts.folder / "none").mkdir()
@@ -448,37 +451,37 @@ def dask(parts, prefix, skipped):
     if python is None or not dask_cluster.is_there(python):
         skipped("igesolid check --dask: Debian's python3-distributed isn't installed")
         return
-    launcher = prefix / "bin" / "igesolid"
     with dask_cluster.cluster(python, parts.folder / "dask", parts.copy.environment()) as cluster:
-        yield from on_cluster(parts, launcher, cluster)
-        yield from killed_worker(parts, launcher, cluster)
-        yield from interrupted_cluster(parts, launcher, cluster)
-        yield from lost_scheduler(parts, launcher, cluster)
+        yield from on_cluster(parts, cluster)
+        yield from killed_worker(parts, cluster)
+        yield from interrupted_cluster(parts, cluster)
+        yield from lost_scheduler(parts, cluster)
 
 
-def on_cluster(parts, launcher, cluster):
+def on_cluster(parts, cluster):
     here = parts.json("parts")
-    yield "check: --dask", parts.json("parts", "--dask", cluster.address, program=launcher) == here
-    yield "check: --dask by the scheduler's file", parts.json("parts", "--dask", cluster.file, program=launcher) == here
-    told = parts.json("parts", "--dask", cluster.address, "--certificates", "--table", "dask.csv", program=launcher)
+    yield "check: --dask", parts.json("parts", "--dask", cluster.address) == here
+    yield "check: --dask by the scheduler's file", parts.json("parts", "--dask", cluster.file) == here
+    told = parts.json("parts", "--dask", cluster.address, "--certificates", "--table", "dask.csv")
     yield "check: --dask --certificates --table", told["files"] == parts.all_wanted(has_certificates=True)
     found = {name: sum_of(text) for name, text in parts.certificates().items()}
     yield "check: --dask, a certificate", found.get("cube.igs.1.cert") == told["files"][1]["solids"][0]["certificate"]
-    again = parts.json("parts", "--dask", cluster.address, "--certificates", "--table", "dask.csv", program=launcher)
+    again = parts.json("parts", "--dask", cluster.address, "--certificates", "--table", "dask.csv")
     yield "check: --dask, remembered", remembered(again) == sorted(FILES)
-    status, told = clone.on_terminal([launcher, "check", "parts", "--dask", cluster.address], cwd=parts.folder, env=parts.copy.environment())
+    status, told = clone.on_terminal([parts.launcher, "check", "parts", "--dask", cluster.address], cwd=parts.folder, env=parts.copy.environment())
     yield "check: --dask, progress", status == 3 and "igesolid: 7 of 7 files, 3 not closed" in told
-    told = parts.json("parts/cube.igs", "--dask", cluster.address, "--worker-program", "/none", program=launcher)["files"][0]
+    print(parts.check("parts/cube.igs", "--dask", cluster.address, "--worker-program", "/none"))
+    told = parts.json("parts/cube.igs", "--dask", cluster.address, "--worker-program", "/none")["files"][0]
     yield "check: --dask, no program there", (told["status"], told["verdict"]) == (125, "not judged") and "'/none'" in told["reason"]
 
 
-def waiting(parts, launcher):
+def waiting(parts):
     """A launcher for the workers whose first run waits, and a word that says how to go on."""
     for name in ("worker", "first"):
         path = parts.folder / name
         shutil.rmtree(path) if path.is_dir() else path.unlink(missing_ok=True)
     script = parts.folder / "waiting"
-    clone.Clone.write(script, WAITING.format(folder=parts.folder, launcher=launcher))
+    clone.Clone.write(script, WAITING.format(folder=parts.folder, launcher=parts.launcher))
     return script
 
 
@@ -490,10 +493,10 @@ def worker_of_first(parts):
     return int((parts.folder / "worker").read_text())
 
 
-def killed_worker(parts, launcher, cluster):
+def killed_worker(parts, cluster):
     here = parts.json("parts")
-    script = waiting(parts, launcher)
-    command = [launcher, "check", "--json", "parts", "--dask", cluster.address, "--worker-program", script]
+    script = waiting(parts)
+    command = [parts.launcher, "check", "--json", "parts", "--dask", cluster.address, "--worker-program", script]
     process = subprocess.Popen(command, cwd=parts.folder, stdin=subprocess.DEVNULL, stdout=subprocess.PIPE, stderr=subprocess.PIPE, env=parts.copy.environment())
     victim = worker_of_first(parts)
     mine = [it for it in cluster.workers if it.pid == victim]
@@ -508,8 +511,8 @@ def killed_worker(parts, launcher, cluster):
     cluster.add_worker()
 
 
-def interrupted_cluster(parts, launcher, cluster):
-    script = waiting(parts, launcher)
+def interrupted_cluster(parts, cluster):
+    script = waiting(parts)
     process, master = started(parts, "parts", "--dask", cluster.address, "--worker-program", script, "--table", "part.csv")
     told = read_until(master, b"6 of 7 files")
     process.terminate()
@@ -521,8 +524,8 @@ def interrupted_cluster(parts, launcher, cluster):
     yield "check: --dask, interrupted: what is done", text.count(b"\n") == 7 and len({row["file"] for row in rows_in((parts.folder / "part.csv").read_text())}) == 6
 
 
-def lost_scheduler(parts, launcher, cluster):
-    script = waiting(parts, launcher)
+def lost_scheduler(parts, cluster):
+    script = waiting(parts)
     process, master = started(parts, "--json", "parts", "--dask", cluster.address, "--worker-program", script)
     read_until(master, b"6 of 7 files")
     cluster.scheduler.kill()
@@ -646,13 +649,13 @@ def image(parts, skipped):
 def checks(copy, skipped):
     prefix = copy.folder / "prefix"
     copy.run("./install", prefix)
-    parts = Parts(copy)
+    parts = Parts(copy, prefix)
     for part in (texts, forms, statuses, tables, certificates, interrupts, progress, launched, package):
         parts.fill()
         yield from part(parts)
     for part in (recipes, dask):
         parts.fill()
-        yield from part(parts, prefix, skipped)
+        yield from part(parts, skipped)
     parts.fill()
     yield from installed_package(parts, prefix)
     yield from image(parts, skipped)

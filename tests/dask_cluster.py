@@ -4,7 +4,7 @@ import json
 import subprocess
 import time
 
-SECONDS_TO_START = 60
+SECONDS_TO_START = 300
 
 
 def is_there(python):

@@ -10,7 +10,7 @@ import time
 
 PROGRAMS = "munged", "slurmctld", "slurmd", "sinfo", "sbatch"
 SYSTEM_PATH = "/usr/bin:/bin:/usr/sbin:/sbin"
-SECONDS_TO_START = 60
+SECONDS_TO_START = 300
 CONFIGURATION = """ClusterName=one
 SlurmctldHost={host}(127.0.0.1)
 SlurmctldPort={controller_port}

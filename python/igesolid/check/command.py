@@ -149,8 +149,8 @@ class Run:
             return json_of(reports, status, is_interrupted)
         if self.given.csv:
             return csv_of(reports)
-        is_one = not self.given.files_from and self.given.words == self.meant.files and len(reports) == 1
-        return text_of_one(reports[0]) if is_one else text_of(reports)
+        is_one_file = not self.given.files_from and self.given.words == self.meant.files and len(self.meant.files) == 1
+        return text_of_one(reports[0]) if is_one_file and reports else text_of(reports)
 
 
 def status_of(reports: List[Report]) -> int:
