@@ -19,8 +19,6 @@ class Cluster:
         self.file, self.log = folder / "scheduler.json", folder / "dask.log"
         self.workers = []
         self.scheduler = self.start("dask_scheduler", "--host", "127.0.0.1", "--port", "0", "--scheduler-file", self.file)
-        self.wait()
-        self.address = json.loads(self.file.read_text())["address"]
 
     def start(self, program, *words):
         with open(self.log, "ab") as out:
@@ -34,11 +32,13 @@ class Cluster:
         self.workers.append(worker)
 
     def wait(self):
+        """Until the scheduler has written its address."""
         end = time.monotonic() + SECONDS_TO_START
         while not (self.file.exists() and self.file.read_text().strip().endswith("}")):
             if time.monotonic() > end or self.scheduler.poll() is not None:
                 raise RuntimeError(f"the scheduler doesn't start:\n{self.log.read_text()[-3_000:]}")
             time.sleep(0.05)
+        self.address = json.loads(self.file.read_text())["address"]
 
     def stop(self):
         for process in (*self.workers, self.scheduler):
@@ -56,6 +56,7 @@ def cluster(python, folder, environment, workers=2):
     folder.mkdir()
     found = Cluster(python, folder, environment)
     try:
+        found.wait()
         for _ in range(workers):
             found.add_worker()
         yield found
