@@ -5,6 +5,7 @@ import argument_tests
 import arrival_tests
 import browser_tests
 import certificate_tests
+import check_tests
 import compact_tests
 import examples
 import extract_tests
@@ -16,7 +17,6 @@ import largest_tests
 import launcher
 import layers
 import limits
-import many
 import no_examples
 import odd
 import open_tests
@@ -87,7 +87,8 @@ PARTS = (
     Part("pages", "README and docs: what they say of the programs, the sources and the examples", of_pages),
     Part("launcher", "the launcher and dist/, in a copy of the repository", lambda context: launcher.checks(context.clone(), FORMS, context.skipped)),
     Part("packages", "the installer and the Debian package, likewise", lambda context: packages.checks(context.clone(), context.skipped)),
-    Part("many", "the recipes of docs/MANY.md, likewise", lambda context: many.checks(context.clone(), context.skipped)),
+    Part("check", "igesolid check, the Python package and the recipes of docs/MANY.md, likewise", lambda context: check_tests.checks(context.clone(), context.skipped)),
+    Part("clusters", "the recipe for Slurm and check --dask, on clusters of this machine", lambda context: check_tests.clusters(context.clone(), context.skipped), LARGE),
     Part("testing", "tests/run itself, its choice of the programs, and that .ci/run has every part", lambda context: running_tests.checks(context, PARTS)),
     Part("fresh", "README's first commands in a fresh clone, without the kit", fresh.checks, BY_NAME),
     Part("cuts", "files cut at one byte in five, certificates at each, and files changed in one place", of_tables(*hostile.TABLES)),
