@@ -1,8 +1,10 @@
 // Makes solids with Open CASCADE and writes them as IGES B-reps, and says what Open CASCADE reads in such files.
 //
 //   real_solids list               a line for each file that can be made: its name, and the verdict that it was made for
-//   real_solids make FOLDER NAME.. writes FOLDER/NAME.igs
-//   real_solids read FILE..        a row for each manifold solid (entity 186), of tab-separated values, as COLUMNS names them
+//   real_solids make FOLDER NAME.. writes FOLDER/NAME.igs, and prints a row for each solid as it is in memory
+//   real_solids read FILE..        prints a row for each manifold solid (entity 186) as it is read
+//
+// Rows are of tab-separated values, as COLUMNS names them.
 #include "real_solids.hpp"
 
 #include <BRepBndLib.hxx>
@@ -21,6 +23,10 @@
 #include <IGESControl_Writer.hxx>
 #include <IGESData_IGESEntity.hxx>
 #include <IGESData_IGESModel.hxx>
+#include <IGESSolid_Face.hxx>
+#include <IGESSolid_Loop.hxx>
+#include <IGESSolid_ManifoldSolid.hxx>
+#include <IGESSolid_Shell.hxx>
 #include <Interface_Static.hxx>
 #include <Message.hxx>
 #include <Message_Messenger.hxx>
@@ -50,10 +56,11 @@
 #include <numeric>
 #include <set>
 #include <sstream>
+#include <tuple>
 
 namespace {
 
-const char *COLUMNS = "file\tsolid\tclosed\tvalid\tfaults\tsolids\tshells\tfaces\tedges\tvertices\tvolume\tarea\tbox\tmost uses\tpinched\tshared\tname\tcolours";
+const char *COLUMNS = "file\tsolid\tclosed\tvalid\tfaults\tsolids\tshells\tfaces\tedges\tvertices\tvolume\tarea\tbox\tmost uses\tpinched\tshared\tname\tcolours\trecorded shells\tturned edges";
 const int MANIFOLD_SOLID = 186;
 
 Handle(TDocStd_Document) new_document() {
@@ -71,36 +78,6 @@ void add(const Handle(TDocStd_Document) & document, const Part &part) {
   TopTools_IndexedMapOfShape faces;
   TopExp::MapShapes(part.shape, TopAbs_FACE, faces);
   if (part.face > 0) colours->SetColor(shapes->AddSubShape(label, faces(part.face)), Quantity_Color(Quantity_NOC_ORANGE), XCAFDoc_ColorSurf);
-}
-
-bool write(const Recipe &recipe, const std::string &path) {
-  if (recipe.make) {
-    IGESControl_Writer writer("MM", 1);
-    return writer.AddShape(recipe.make()) && writer.Write(path.c_str());
-  }
-  Handle(TDocStd_Document) document = new_document();
-  for (const auto &part : recipe.parts()) add(document, part);
-  IGESCAFControl_Writer writer;
-  return writer.Transfer(document) && writer.Write(path.c_str());
-}
-
-int make(const std::string &folder, const std::set<std::string> &names) {
-  int failed = 0;
-  for (const auto &recipe : recipes()) {
-    if (!names.count(recipe.name)) continue;
-    std::string fault = "it wasn't written";
-    bool done = false;
-    try {
-      done = write(recipe, folder + "/" + recipe.name + ".igs");
-    } catch (const Standard_Failure &thrown) {
-      fault = thrown.GetMessageString();
-    } catch (const std::exception &thrown) {
-      fault = thrown.what();
-    }
-    if (!done) fprintf(stderr, "real_solids: %s: %s\n", recipe.name.c_str(), fault.c_str());
-    failed += !done;
-  }
-  return failed ? 1 : 0;
 }
 
 int count(const TopoDS_Shape &shape, TopAbs_ShapeEnum kind) {
@@ -249,7 +226,42 @@ std::string colours_of(const TopoDS_Shape &shape, const Handle(TDocStd_Document)
   return text;
 }
 
-void tell(const std::string &file, int solid, const TopoDS_Shape &shape, const std::string &name, const std::string &colours) {
+// What the records of the file say of a solid, before Open CASCADE heals it.
+class Records {
+ public:
+  int shells = 0;
+
+  explicit Records(const Handle(IGESSolid_ManifoldSolid) & solid) {
+    add(solid->Shell(), solid->OrientationFlag());
+    for (int i = 1; i <= solid->NbVoidShells(); i++) add(solid->VoidShell(i), solid->VoidOrientationFlag(i));
+  }
+
+  // How many edges two uses of one shell run through in the same direction.
+  int turned_edges() const {
+    int found = 0;
+    for (const auto &[edge, directions] : uses) found += directions.size() == 2 && directions[0] == directions[1];
+    return found;
+  }
+
+ private:
+  using Edge = std::tuple<int, Standard_Transient *, int>;
+
+  void add(const Handle(IGESSolid_Shell) & shell, bool flag) {
+    shells++;
+    for (int i = 1; i <= shell->NbFaces(); i++)
+      for (int k = 1; k <= shell->Face(i)->NbLoops(); k++) add(shell->Face(i)->Loop(k), flag == shell->Orientation(i));
+  }
+
+  void add(const Handle(IGESSolid_Loop) & loop, bool flag) {
+    const int of_vertex = 1;
+    for (int i = 1; i <= loop->NbEdges(); i++)
+      if (loop->EdgeType(i) != of_vertex) uses[Edge(shells, loop->Edge(i).get(), loop->ListIndex(i))].push_back(flag == loop->Orientation(i));
+  }
+
+  std::map<Edge, std::vector<bool>> uses;
+};
+
+void tell(const std::string &file, int solid, const TopoDS_Shape &shape, const std::string &name = "", const std::string &more = "\t\t") {
   BRepCheck_Analyzer analyzer(shape);
   GProp_GProps volume, area;
   BRepGProp::VolumeProperties(shape, volume);
@@ -257,8 +269,43 @@ void tell(const std::string &file, int solid, const TopoDS_Shape &shape, const s
   bool valid = analyzer.IsValid();
   printf("%s\t%d\t%d\t%d\t%s\t%d\t%d\t%d\t%d\t%d\t%.15g\t%.15g\t%s\t%d\t%d\t%d\t%s\t%s\n", file.c_str(), solid, is_closed(shape), valid,
          valid ? "" : faults_of(shape, analyzer).c_str(), count(shape, TopAbs_SOLID), count(shape, TopAbs_SHELL), count(shape, TopAbs_FACE), count(shape, TopAbs_EDGE),
-         count(shape, TopAbs_VERTEX), volume.Mass(), area.Mass(), box_of(shape).c_str(), most_uses(shape), pinched(shape), shared(shape), name.c_str(), colours.c_str());
+         count(shape, TopAbs_VERTEX), volume.Mass(), area.Mass(), box_of(shape).c_str(), most_uses(shape), pinched(shape), shared(shape), name.c_str(), more.c_str());
   fflush(stdout);
+}
+
+bool write(const Recipe &recipe, const std::string &path) {
+  std::vector<Part> parts = recipe.parts ? recipe.parts() : std::vector<Part>{{recipe.make(), "", 0, 0, 0}};
+  int solids = 0;
+  for (const auto &part : parts)
+    for (TopExp_Explorer solid(part.shape, TopAbs_SOLID); solid.More(); solid.Next()) tell(recipe.name, ++solids, solid.Current());
+  if (!recipe.parts) {
+    IGESControl_Writer writer("MM", 1);
+    return writer.AddShape(parts[0].shape) && writer.Write(path.c_str());
+  }
+  Handle(TDocStd_Document) document = new_document();
+  for (const auto &part : parts) add(document, part);
+  IGESCAFControl_Writer writer;
+  return writer.Transfer(document) && writer.Write(path.c_str());
+}
+
+int make(const std::string &folder, const std::set<std::string> &names) {
+  int failed = 0;
+  puts(COLUMNS);
+  for (const auto &recipe : recipes()) {
+    if (!names.count(recipe.name)) continue;
+    std::string fault = "it wasn't written";
+    bool done = false;
+    try {
+      done = write(recipe, folder + "/" + recipe.name + ".igs");
+    } catch (const Standard_Failure &thrown) {
+      fault = thrown.GetMessageString();
+    } catch (const std::exception &thrown) {
+      fault = thrown.what();
+    }
+    if (!done) fprintf(stderr, "real_solids: %s: %s\n", recipe.name.c_str(), fault.c_str());
+    failed += !done;
+  }
+  return failed ? 1 : 0;
 }
 
 bool read(const std::string &file) {
@@ -272,10 +319,13 @@ bool read(const std::string &file) {
     Handle(IGESData_IGESEntity) entity = model->Entity(i);
     if (entity->TypeNumber() != MANIFOLD_SOLID) continue;
     TopoDS_Shape shape = TransferBRep::ShapeResult(process->Find(entity));
-    if (shape.IsNull())
+    if (shape.IsNull()) {
       printf("%s\t%d\n", file.c_str(), 2 * i - 1);
-    else
-      tell(file, 2 * i - 1, shape, name_of(entity), colours_of(shape, document));
+      continue;
+    }
+    Records records(Handle(IGESSolid_ManifoldSolid)::DownCast(entity));
+    std::string more = colours_of(shape, document) + "\t" + std::to_string(records.shells) + "\t" + std::to_string(records.turned_edges());
+    tell(file, 2 * i - 1, shape, name_of(entity), more);
   }
   return true;
 }
