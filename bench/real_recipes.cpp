@@ -11,7 +11,6 @@
 #include <BRepBuilderAPI_MakeFace.hxx>
 #include <BRepBuilderAPI_MakePolygon.hxx>
 #include <BRepBuilderAPI_MakeSolid.hxx>
-#include <BRepBuilderAPI_MakeVertex.hxx>
 #include <BRepBuilderAPI_MakeWire.hxx>
 #include <BRepBuilderAPI_NurbsConvert.hxx>
 #include <BRepBuilderAPI_Sewing.hxx>
@@ -48,7 +47,6 @@
 #include <TopExp_Explorer.hxx>
 #include <TopTools_IndexedMapOfShape.hxx>
 #include <TopoDS.hxx>
-#include <TopoDS_CompSolid.hxx>
 #include <TopoDS_Compound.hxx>
 #include <gp_Circ.hxx>
 #include <gp_Elips.hxx>
@@ -194,7 +192,13 @@ TopoDS_Shape polyhedron(const Points &points, const std::vector<std::vector<int>
 
 TopoDS_Shape tetrahedron(const gp_Pnt &apex, double size) {
   double x = apex.X(), y = apex.Y(), z = apex.Z();
-  return polyhedron({apex, gp_Pnt(x + size, y + size, z), gp_Pnt(x + size, y, z + size), gp_Pnt(x, y + size, z + size)}, {{0, 1, 2}, {0, 2, 3}, {0, 3, 1}, {1, 2, 3}});
+  Points points = {apex, gp_Pnt(x + size, y + size, z), gp_Pnt(x + size, y, z + size), gp_Pnt(x, y + size, z + size)};
+  return polyhedron(points, {{0, 1, 2}, {0, 2, 3}, {0, 3, 1}, {1, 2, 3}});
+}
+
+TopoDS_Shape pyramid() {
+  Points points = {gp_Pnt(0, 0, 0), gp_Pnt(9, 0, 0), gp_Pnt(9, 9, 0), gp_Pnt(0, 9, 0), gp_Pnt(4, 4, 8)};
+  return polyhedron(points, {{0, 1, 2, 3}, {0, 1, 4}, {1, 2, 4}, {2, 3, 4}, {3, 0, 4}});
 }
 
 // A solid with this outer shell and these shapes as its voids.
@@ -246,6 +250,8 @@ TopoDS_Shape hollowed(const TopoDS_Shape &shape, const TopoDS_Shape &opening, do
   hollow.MakeThickSolidByJoin(shape, open, -thickness, 1e-3);
   return hollow.Shape();
 }
+
+TopoDS_Shape without_last_wall(const TopoDS_Shape &shape, double thickness) { return hollowed(shape, faces_of(shape).back(), thickness); }
 
 TopoDS_Shape drafted() {
   TopoDS_Shape block = box(0, 0, 0, 20, 20, 10);
@@ -311,7 +317,8 @@ TopoDS_Shape knot() {
 // A thread on a cylinder: a triangle along a helix, with its tip outside of this radius, or inside where the height is negative.
 TopoDS_Shape thread(double radius, double height, double pitch, double turns) {
   double root = radius - height / 4;
-  TopoDS_Solid made = TopoDS::Solid(swept(helix(radius, pitch, turns), polygon({gp_Pnt(radius + height, 0, 0), gp_Pnt(root, 0, 0.4 * pitch), gp_Pnt(root, 0, -0.4 * pitch)})));
+  TopoDS_Wire tooth = polygon({gp_Pnt(radius + height, 0, 0), gp_Pnt(root, 0, 0.4 * pitch), gp_Pnt(root, 0, -0.4 * pitch)});
+  TopoDS_Solid made = TopoDS::Solid(swept(helix(radius, pitch, turns), tooth));
   BRepLib::OrientClosedSolid(made);
   return moved(made, translation(0, 0, pitch));
 }
@@ -328,15 +335,46 @@ TopoDS_Shape nut(double radius, double height) {
   return fuse(drilled, {thread(radius, -0.8, 2, height / 2 - 2)});
 }
 
+TopoDS_Wire rectangle(double x, double y, double a, double b) {
+  return polygon({gp_Pnt(x, y, 0), gp_Pnt(x + a, y, 0), gp_Pnt(x + a, y + b, 0), gp_Pnt(x, y + b, 0)});
+}
+
 TopoDS_Shape plate(int rows, double step, bool round) {
   double side = rows * step;
-  BRepBuilderAPI_MakeFace face(polygon({gp_Pnt(0, 0, 0), gp_Pnt(side, 0, 0), gp_Pnt(side, side, 0), gp_Pnt(0, side, 0)}));
+  BRepBuilderAPI_MakeFace face(rectangle(0, 0, side, side));
   for (int i = 0; i < rows * rows; i++) {
     double x = (i % rows + 0.5) * step, y = (i / rows + 0.5) * step, r = step / 4;
-    TopoDS_Wire hole = round ? circle(axes(x, y, 0), r) : polygon({gp_Pnt(x - r, y - r, 0), gp_Pnt(x + r, y - r, 0), gp_Pnt(x + r, y + r, 0), gp_Pnt(x - r, y + r, 0)});
+    TopoDS_Wire hole = round ? circle(axes(x, y, 0), r) : rectangle(x - r, y - r, 2 * r, 2 * r);
     face.Add(TopoDS::Wire(hole.Reversed()));
   }
   return extruded(face.Face(), 2);
+}
+
+TopoDS_Shape crossed_holes() {
+  return cut(cube(20), {cylinder(axes(10, 10, -1), 4, 30), cylinder(axes(-1, 10, 10, X), 4, 30), cylinder(axes(10, -1, 10, Y), 4, 30)});
+}
+
+TopoDS_Shape bracket() {
+  TopoDS_Shape rib = moved(prism({gp_Pnt(4, 4, 0), gp_Pnt(30, 4, 0), gp_Pnt(4, 24, 0)}, 3), rotation(X, M_PI / 2));
+  return fuse(box(0, 0, 0, 40, 20, 4), {box(0, 0, 0, 4, 20, 30), moved(rib, translation(0, 12, 0))});
+}
+
+TopoDS_Shape heat_sink() {
+  Shapes fins;
+  for (int i = 0; i < 12; i++) fins.push_back(box(4 * i, 0, 3, 1.5, 30, 20));
+  return fuse(box(-2, 0, 0, 50, 30, 3), fins);
+}
+
+TopoDS_Shape mirrored() {
+  gp_Trsf mirror;
+  mirror.SetMirror(gp_Ax2(ORIGIN, X));
+  return moved(cut(cube(20), {cylinder(axes(5, 5, -1), 3, 30)}), mirror);
+}
+
+TopoDS_Shape scaled() {
+  gp_Trsf scale;
+  scale.SetScale(ORIGIN, 2.54);
+  return moved(filleted(cube(20), 3, 4), scale);
 }
 
 TopoDS_Shape flange() {
@@ -347,8 +385,8 @@ TopoDS_Shape flange() {
 
 TopoDS_Shape bottle() {
   Points side = {gp_Pnt(-25, 0, 0), gp_Pnt(-25, -8, 0), gp_Pnt(25, -8, 0), gp_Pnt(25, 0, 0)};
-  BRepBuilderAPI_MakeWire half(BRepBuilderAPI_MakeEdge(side[0], side[1]), BRepBuilderAPI_MakeEdge(GC_MakeArcOfCircle(side[1], gp_Pnt(0, -15, 0), side[2]).Value()),
-                               BRepBuilderAPI_MakeEdge(side[2], side[3]));
+  TopoDS_Edge arc = BRepBuilderAPI_MakeEdge(GC_MakeArcOfCircle(side[1], gp_Pnt(0, -15, 0), side[2]).Value());
+  BRepBuilderAPI_MakeWire half(BRepBuilderAPI_MakeEdge(side[0], side[1]), arc, BRepBuilderAPI_MakeEdge(side[2], side[3]));
   gp_Trsf mirror;
   mirror.SetMirror(gp_Ax1(ORIGIN, X));
   BRepBuilderAPI_MakeWire whole;
@@ -358,7 +396,7 @@ TopoDS_Shape bottle() {
   body = fuse(body, {cylinder(axes(0, 0, 70), 7.5, 7)});
   TopoDS_Shape top;
   for (const auto &face : faces_of(body))
-    if (std::abs(BRep_Tool::Pnt(TopoDS::Vertex(first(face, TopAbs_VERTEX))).Z() - 77) < 1e-6 && all(face, TopAbs_EDGE).size() == 1) top = face;
+    if (all(face, TopAbs_EDGE).size() == 1 && std::abs(BRep_Tool::Pnt(TopoDS::Vertex(first(face, TopAbs_VERTEX))).Z() - 77) < 1e-6) top = face;
   return hollowed(body, top, 1);
 }
 
@@ -394,6 +432,10 @@ TopoDS_Shape vase() {
                                BRepBuilderAPI_MakeEdge(gp_Pnt(0, 0, 32), ORIGIN));
   return revolved(filled(wire.Wire()), 2 * M_PI);
 }
+
+TopoDS_Shape ring(double angle) { return revolved(filled(polygon({gp_Pnt(10, 0, 0), gp_Pnt(14, 0, 0), gp_Pnt(12, 0, 6)})), angle); }
+
+TopoDS_Shape ellipse() { return filled(BRepBuilderAPI_MakeWire(BRepBuilderAPI_MakeEdge(gp_Elips(axes(0, 0, 0), 12, 5))).Wire()); }
 
 TopoDS_Shape cam() {
   BRepBuilderAPI_MakeWire wire(spline({gp_Pnt(0, 0, 0), gp_Pnt(12, 2, 0), gp_Pnt(20, 10, 0), gp_Pnt(14, 22, 0), gp_Pnt(0, 20, 0)}),
@@ -473,6 +515,10 @@ Shapes grid(int count) {
   return parts;
 }
 
+TopoDS_Shape three_times(const TopoDS_Shape &one) {
+  return compound({one, one.Moved(TopLoc_Location(translation(80, 0, 0))), one.Moved(TopLoc_Location(rotation(X, 1)))});
+}
+
 Shapes three_solids() { return {cube(10), cylinder(axes(30, 0, 0), 5, 12), ball(60, 0, 0, 6)}; }
 
 const std::string CLOSED = "closed";
@@ -486,7 +532,7 @@ std::vector<Recipe> primitives() {
       {"box_huge", CLOSED, [] { return cube(100000); }},
       {"wedge", CLOSED, [] { return BRepPrimAPI_MakeWedge(20, 10, 15, 8).Shape(); }},
       {"tetrahedron", CLOSED, [] { return tetrahedron(ORIGIN, 12); }},
-      {"pyramid", CLOSED, [] { return polyhedron({gp_Pnt(0, 0, 0), gp_Pnt(9, 0, 0), gp_Pnt(9, 9, 0), gp_Pnt(0, 9, 0), gp_Pnt(4, 4, 8)}, {{0, 1, 2, 3}, {0, 1, 4}, {1, 2, 4}, {2, 3, 4}, {3, 0, 4}}); }},
+      {"pyramid", CLOSED, pyramid},
       {"prism_hexagonal", CLOSED, [] { return hexagon(8, 0, 20); }},
       {"cylinder", CLOSED, [] { return cylinder(axes(0, 0, 0), 5, 20); }},
       {"cylinder_sector", CLOSED, [] { return BRepPrimAPI_MakeCylinder(5, 20, 1.2).Shape(); }},
@@ -511,8 +557,8 @@ std::vector<Recipe> dressed() {
       {"chamfer_all_edges", CLOSED, [] { return chamfered(cube(20), 3, 100); }},
       {"chamfer_two_edges", CLOSED, [] { return chamfered(cube(20), 3, 2); }},
       {"draft", CLOSED, drafted},
-      {"hollow_box", CLOSED, [] { TopoDS_Shape it = cube(20); return hollowed(it, faces_of(it).back(), 2); }},
-      {"hollow_cylinder", CLOSED, [] { TopoDS_Shape it = cylinder(axes(0, 0, 0), 8, 20); return hollowed(it, faces_of(it).back(), 1); }},
+      {"hollow_box", CLOSED, [] { return without_last_wall(cube(20), 2); }},
+      {"hollow_cylinder", CLOSED, [] { return without_last_wall(cylinder(axes(0, 0, 0), 8, 20), 1); }},
       {"bottle", CLOSED, bottle},
   };
 }
@@ -522,7 +568,7 @@ std::vector<Recipe> combinations() {
       {"box_with_hole", CLOSED, [] { return cut(cube(20), {cylinder(axes(10, 10, -1), 4, 30)}); }},
       {"box_with_blind_hole", CLOSED, [] { return cut(cube(20), {cylinder(axes(10, 10, 8), 4, 30)}); }},
       {"box_with_counterbore", CLOSED, [] { return cut(cube(20), {cylinder(axes(10, 10, -1), 3, 30), cylinder(axes(10, 10, 14), 6, 30)}); }},
-      {"box_with_crossed_holes", CLOSED, [] { return cut(cube(20), {cylinder(axes(10, 10, -1), 4, 30), cylinder(axes(-1, 10, 10, X), 4, 30), cylinder(axes(10, -1, 10, Y), 4, 30)}); }},
+      {"box_with_crossed_holes", CLOSED, crossed_holes},
       {"plate_with_square_holes", CLOSED, [] { return plate(12, 8, false); }},
       {"plate_with_round_holes", CLOSED, [] { return plate(14, 8, true); }},
       {"tube", CLOSED, [] { return cut(cylinder(axes(0, 0, 0), 10, 50), {cylinder(axes(0, 0, -1), 8, 60)}); }},
@@ -535,21 +581,21 @@ std::vector<Recipe> combinations() {
       {"flange", CLOSED, flange},
       {"washer", CLOSED, [] { return cut(cylinder(axes(0, 0, 0), 10, 1), {cylinder(axes(0, 0, -1), 5, 3)}); }},
       {"gear", CLOSED, [] { return cut(prism(star(80, {20, 20, 24, 24}), 6), {cylinder(axes(0, 0, -1), 6, 10)}); }},
-      {"bracket", CLOSED, [] { return fuse(box(0, 0, 0, 40, 20, 4), {box(0, 0, 0, 4, 20, 30), moved(prism({gp_Pnt(4, 4, 0), gp_Pnt(30, 4, 0), gp_Pnt(4, 24, 0)}, 3), rotation(X, M_PI / 2)).Moved(TopLoc_Location(translation(0, 12, 0)))}); }},
-      {"heat_sink", CLOSED, [] { Shapes fins; for (int i = 0; i < 12; i++) fins.push_back(box(4 * i, 0, 3, 1.5, 30, 20)); return fuse(box(-2, 0, 0, 50, 30, 3), fins); }},
-      {"mirrored", CLOSED, [] { gp_Trsf mirror; mirror.SetMirror(gp_Ax2(ORIGIN, X)); return moved(cut(cube(20), {cylinder(axes(5, 5, -1), 3, 30)}), mirror); }},
-      {"scaled", CLOSED, [] { gp_Trsf scale; scale.SetScale(ORIGIN, 2.54); return moved(filleted(cube(20), 3, 4), scale); }},
+      {"bracket", CLOSED, bracket},
+      {"heat_sink", CLOSED, heat_sink},
+      {"mirrored", CLOSED, mirrored},
+      {"scaled", CLOSED, scaled},
   };
 }
 
 std::vector<Recipe> swept_solids() {
   return {
       {"extruded_star", CLOSED, [] { return prism(star(10, {10, 4}), 7); }},
-      {"extruded_ellipse", CLOSED, [] { return extruded(filled(BRepBuilderAPI_MakeWire(BRepBuilderAPI_MakeEdge(gp_Elips(axes(0, 0, 0), 12, 5))).Wire()), 9); }},
+      {"extruded_ellipse", CLOSED, [] { return extruded(ellipse(), 9); }},
       {"extruded_cam", CLOSED, cam},
       {"staircase", CLOSED, [] { return staircase(15); }},
-      {"revolved_ring", CLOSED, [] { return revolved(filled(polygon({gp_Pnt(10, 0, 0), gp_Pnt(14, 0, 0), gp_Pnt(12, 0, 6)})), 2 * M_PI); }},
-      {"revolved_part", CLOSED, [] { return revolved(filled(polygon({gp_Pnt(10, 0, 0), gp_Pnt(14, 0, 0), gp_Pnt(12, 0, 6)})), 2); }},
+      {"revolved_ring", CLOSED, [] { return ring(2 * M_PI); }},
+      {"revolved_part", CLOSED, [] { return ring(2); }},
       {"revolved_vase", CLOSED, vase},
       {"revolved_at_axis", CLOSED, [] { return revolved(filled(polygon({gp_Pnt(0, 0, 0), gp_Pnt(8, 0, 0), gp_Pnt(0, 0, 12)})), 1.5); }},
       {"loft_ruled", CLOSED, [] { return lofted({square(10, 0, 0), circle(axes(0, 0, 15), 4)}, true); }},
@@ -609,19 +655,31 @@ std::vector<Recipe> of_several_solids() {
       {"solids_27", CLOSED, [] { return compound(grid(3)); }},
       {"two_rooms", CLOSED, two_rooms},
       {"compound_of_compounds", CLOSED, [] { return compound({compound(three_solids()), compound(grid(2))}); }},
-      {"one_solid_three_times", CLOSED, [] { TopoDS_Shape one = flange(); return compound({one, one.Moved(TopLoc_Location(translation(80, 0, 0))), one.Moved(TopLoc_Location(rotation(X, 1)))}); }},
+      {"one_solid_three_times", CLOSED, [] { return three_times(flange()); }},
       {"bolt_and_nut", CLOSED, [] { return compound({bolt(4, 10), moved(nut(4.5, 8), translation(30, 0, 0))}); }},
   };
 }
 
+using Parts = std::vector<Part>;
+
+Parts named_three() {
+  Shapes it = three_solids();
+  return {{it[0], "left", 1, 0, 0}, {it[1], "middle", 0, 1, 0}, {it[2], "right", 0.2, 0.3, 0.9}};
+}
+
+Parts coloured_faces() {
+  TopoDS_Shape hollow = cut(box(40, 0, 0, 20, 20, 20), {ball(50, 10, 10, 6)});
+  return {{filleted(cube(20), 3, 100), "cushion", 0.9, 0.9, 0, 5}, {hollow, "hollow", 0, 0.5, 0, 1}};
+}
+
 std::vector<Recipe> with_colours_and_names() {
   return {
-      {"named_box", CLOSED, nullptr, [] { return std::vector<Part>{{cube(10), "housing", 0.8, 0.1, 0.1}}; }},
-      {"named_three", CLOSED, nullptr, [] { auto it = three_solids(); return std::vector<Part>{{it[0], "left", 1, 0, 0}, {it[1], "middle", 0, 1, 0}, {it[2], "right", 0.2, 0.3, 0.9}}; }},
-      {"named_flange", CLOSED, nullptr, [] { return std::vector<Part>{{flange(), "flange DN 20", 0.5, 0.5, 0.55, 3}}; }},
-      {"named_long", CLOSED, nullptr, [] { return std::vector<Part>{{cube(4), std::string(150, 'n'), 0.1, 0.7, 0.7}}; }},
-      {"named_coloured_faces", CLOSED, nullptr, [] { return std::vector<Part>{{filleted(cube(20), 3, 100), "cushion", 0.9, 0.9, 0, 5}, {cut(box(40, 0, 0, 20, 20, 20), {ball(50, 10, 10, 6)}), "hollow", 0, 0.5, 0, 1}}; }},
-      {"named_open", "PAIR", nullptr, [] { return std::vector<Part>{{without_faces(cube(10), 1), "lidless", 0.3, 0.3, 0.3}}; }},
+      {"named_box", CLOSED, nullptr, [] { return Parts{{cube(10), "housing", 0.8, 0.1, 0.1}}; }},
+      {"named_three", CLOSED, nullptr, named_three},
+      {"named_flange", CLOSED, nullptr, [] { return Parts{{flange(), "flange DN 20", 0.5, 0.5, 0.55, 3}}; }},
+      {"named_long", CLOSED, nullptr, [] { return Parts{{cube(4), std::string(150, 'n'), 0.1, 0.7, 0.7}}; }},
+      {"named_coloured_faces", CLOSED, nullptr, coloured_faces},
+      {"named_open", "PAIR", nullptr, [] { return Parts{{without_faces(cube(10), 1), "lidless", 0.3, 0.3, 0.3}}; }},
   };
 }
 
@@ -629,7 +687,9 @@ std::vector<Recipe> with_colours_and_names() {
 
 std::vector<Recipe> recipes() {
   std::vector<Recipe> all;
-  for (const auto &some : {primitives(), dressed(), combinations(), swept_solids(), of_several_shells(), faulty(), of_several_solids(), with_colours_and_names()})
-    all.insert(all.end(), some.begin(), some.end());
+  for (auto some : {primitives, dressed, combinations, swept_solids, of_several_shells, faulty, of_several_solids, with_colours_and_names}) {
+    std::vector<Recipe> found = some();
+    all.insert(all.end(), found.begin(), found.end());
+  }
   return all;
 }

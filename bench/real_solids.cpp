@@ -60,7 +60,9 @@
 
 namespace {
 
-const char *COLUMNS = "file\tsolid\tclosed\tvalid\tfaults\tsolids\tshells\tfaces\tedges\tvertices\tvolume\tarea\tbox\tmost uses\tpinched\tshared\tname\tcolours\trecorded shells\tturned edges";
+const char *COLUMNS =
+    "file\tsolid\tclosed\tvalid\tfaults\tsolids\tshells\tfaces\tedges\tvertices\tvolume\tarea\tbox\tmost uses\tpinched\tshared\tname\tcolours"
+    "\trecorded shells\tturned edges";
 const int MANIFOLD_SOLID = 186;
 
 Handle(TDocStd_Document) new_document() {
@@ -267,9 +269,10 @@ void tell(const std::string &file, int solid, const TopoDS_Shape &shape, const s
   BRepGProp::VolumeProperties(shape, volume);
   BRepGProp::SurfaceProperties(shape, area);
   bool valid = analyzer.IsValid();
-  printf("%s\t%d\t%d\t%d\t%s\t%d\t%d\t%d\t%d\t%d\t%.15g\t%.15g\t%s\t%d\t%d\t%d\t%s\t%s\n", file.c_str(), solid, is_closed(shape), valid,
-         valid ? "" : faults_of(shape, analyzer).c_str(), count(shape, TopAbs_SOLID), count(shape, TopAbs_SHELL), count(shape, TopAbs_FACE), count(shape, TopAbs_EDGE),
-         count(shape, TopAbs_VERTEX), volume.Mass(), area.Mass(), box_of(shape).c_str(), most_uses(shape), pinched(shape), shared(shape), name.c_str(), more.c_str());
+  printf("%s\t%d\t%d\t%d\t%s", file.c_str(), solid, is_closed(shape), valid, valid ? "" : faults_of(shape, analyzer).c_str());
+  for (auto kind : {TopAbs_SOLID, TopAbs_SHELL, TopAbs_FACE, TopAbs_EDGE, TopAbs_VERTEX}) printf("\t%d", count(shape, kind));
+  printf("\t%.15g\t%.15g\t%s", volume.Mass(), area.Mass(), box_of(shape).c_str());
+  printf("\t%d\t%d\t%d\t%s\t%s\n", most_uses(shape), pinched(shape), shared(shape), name.c_str(), more.c_str());
   fflush(stdout);
 }
 
@@ -318,7 +321,9 @@ bool read(const std::string &file) {
   for (int i = 1; i <= model->NbEntities(); i++) {
     Handle(IGESData_IGESEntity) entity = model->Entity(i);
     if (entity->TypeNumber() != MANIFOLD_SOLID) continue;
-    TopoDS_Shape shape = TransferBRep::ShapeResult(process->Find(entity));
+    Handle(Transfer_Binder) binder = process->Find(entity);
+    TopoDS_Shape shape;
+    if (!binder.IsNull()) shape = TransferBRep::ShapeResult(binder);
     if (shape.IsNull()) {
       printf("%s\t%d\n", file.c_str(), 2 * i - 1);
       continue;

@@ -18,10 +18,10 @@ DIFFERING = {
 }
 # What a wrong program does in place of the right one, on which solid, and what is to be found.
 WRONG = (
-    ("a wrong verdict", 'certify) echo "fail PAIR 1 1"; exit 1 ;;', "box", r"wrong verdict: box 1: fail PAIR 1 1; .*; it was made for closed; no cause is known\n"),
-    ("a missing fault", 'certify) echo; exit 0 ;;', "open_box", r"wrong verdict: open_box 1: closed; .*; it was made for PAIR; no cause is known\n"),
-    ("another solid", 'compact) exec "$program" compact "$2" 121 ;;', "three_solids", r"three_solids\.3\.compact\.igs isn't read back the same: faces 3 in place of 6, "),
-    ("another size", """extract) "$program" "$@" | sed 's/10\\./11./g'; exit ;;""", "box", r"box\.1\.extract\.igs isn't read back the same: .*volume 1331 in place of 1000, "),
+    ("a wrong verdict", 'certify) echo "fail PAIR 1 1"; exit 1 ;;', "box", r"wrong verdict: box 1: fail PAIR 1 1; .*; made for closed; no cause is known\n"),
+    ("a missing fault", "certify) echo; exit 0 ;;", "open_box", r"wrong verdict: open_box 1: closed; .*; made for PAIR; no cause is known\n"),
+    ("another solid", 'compact) exec "$program" compact "$2" 121 ;;', "three_solids", r"three_solids\.3\.compact\.igs isn't .*: faces 3 in place of 6, "),
+    ("another size", "extract) \"$program\" \"$@\" | sed 's/10\\./11./g'; exit ;;", "box", r"box\.1\.extract\.igs isn't .*: .*volume 1331 in place of 1000, "),
     ("no file", 'extract) echo "no extract 1 unlisted"; exit 7 ;;', "box", r"box 1: extract writes nothing: no extract 1 unlisted\n"),
     ("no IGES file", "compact) echo nothing; exit ;;", "box", r"box\.1\.compact\.igs isn't read back the same: 0 solids in place of 1\n"),
     ("no solid", "solids) exit ;;", "box", r"box: the solids are , for Open CASCADE 1\n"),
