@@ -203,5 +203,4 @@ def pages(copy, skipped):
 def checks(copy, skipped):
     yield from installs(copy)
     yield from packages(copy, skipped)
-    yield from completions(copy, skipped)
     yield from pages(copy, skipped)

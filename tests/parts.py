@@ -26,6 +26,7 @@ import pages
 import picture_tests
 import protections
 import quoted
+import real_solids
 import rows
 import running_tests
 import sample_tests
@@ -87,6 +88,7 @@ PARTS = (
     Part("pages", "README and docs: what they say of the programs, the sources and the examples", of_pages),
     Part("launcher", "the launcher and dist/, in a copy of the repository", lambda context: launcher.checks(context.clone(), FORMS, context.skipped)),
     Part("packages", "the installer and the Debian package, likewise", lambda context: packages.checks(context.clone(), context.skipped)),
+    Part("completion", "completion in bash, zsh and fish, likewise", lambda context: packages.completions(context.clone(), context.skipped)),
     Part("check", "igesolid check, the Python package and the recipes of docs/MANY.md, likewise", lambda context: check_tests.checks(context.clone(), context.skipped)),
     Part("clusters", "the recipe for Slurm and check --dask, on clusters of this machine", lambda context: check_tests.clusters(context.clone(), context.skipped), LARGE),
     Part("testing", "tests/run itself, its choice of the programs, and that .ci/run has every part", lambda context: running_tests.checks(context, PARTS)),
@@ -100,6 +102,7 @@ PARTS = (
     Part("endless", "files of 164 MB, and files without an end", of_tables(limits.file_limit, odd.endless), LARGE),
     Part("certificates-held", "certificates of 537 MB for the commands that hold them", of_program(largest_tests.held_certificates), LARGE),
     Part("certificates-passed", "the same for verify, which needs no memory for them", of_program(largest_tests.verified_certificates), LARGE),
+    Part("real-solids", "solids that Open CASCADE makes and reads back, by bench/real", real_solids.checks, LARGE),
     Part("protections", "the protections of the program's headers", of_tables(*protections.TABLES)),
     Part("fuzz", "2,000 inputs changed at random, beside the second checker and the baseline", lambda context: fuzz.checks(context, 2_000, 1, 1)),
     Part("fuzz-more", "20,000 others", lambda context: fuzz.checks(context, 20_000, 2, len(os.sched_getaffinity(0))), LARGE),

@@ -1,11 +1,10 @@
 """bench/real on a few solids, on a given file, and with programs that are made to answer wrongly. Needs g++ and Open CASCADE."""
-import pathlib
 import re
 import subprocess
 import sys
 
-TOP = pathlib.Path(__file__).resolve().parent.parent
-PROGRAM = TOP / "crates" / "igesolid" / "out" / "igesolid"
+from programs import TOP
+
 MISSING = 2
 AGREEING = "sphere", "void_sphere", "open_box", "named_three"
 DIFFERING = {
@@ -69,13 +68,14 @@ def given(program):
     yield "real solids: no such solid", (status, error) == (1, "bench/real: no such solid: bax\n")
 
 
-def checks(folder, skipped, program=PROGRAM):
+def checks(context):
     """Names of checks, and whether each holds."""
+    program, folder = context.programs.igesolid, context.new_folder()
     status, text, error = real(env={"PATH": ""})
     yield "real solids: no compiler", (status, text, error.count("\n")) == (MISSING, "", 1) and "g++ is missing" in error
     status, _, error = real("--program", program, "--no-made")
     if status == MISSING:
-        skipped(f"real solids: {error.strip()}")
+        context.skipped(f"real solids: {error.strip()}")
         return
     yield from right(folder, program)
     yield from wrong(folder, program)
