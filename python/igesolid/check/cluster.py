@@ -1,4 +1,6 @@
 """Files judged by the workers of a Dask cluster, each by a run of `igesolid check --json` there."""
+import asyncio
+import contextlib
 import json
 import logging
 import os
@@ -25,9 +27,9 @@ def _distributed() -> Any:
         import distributed
     except ImportError as fault:
         raise NoCluster(f"--dask needs the Python package distributed (Debian: python3-distributed): {fault}") from None
-    # What fails is in the reports; what the library logs would stand between them.
-    logging.getLogger("distributed").setLevel(logging.CRITICAL)
-    warnings.filterwarnings("ignore", module="distributed")
+    # What fails is in the reports; what the library logs and warns of would come between them.
+    logging.disable(logging.CRITICAL)
+    warnings.simplefilter("ignore")
     return distributed
 
 
@@ -45,7 +47,9 @@ class Cluster:
 
     def stop(self) -> None:
         if self.client is not None:
-            self.client.close(timeout=2)
+            # It doesn't matter here whether a scheduler that is lost says goodbye.
+            with contextlib.suppress(Exception, asyncio.CancelledError):
+                self.client.close(timeout=2)
 
     def _work(self, names: List[str], events: "Events[Event]") -> None:
         try:
@@ -67,20 +71,32 @@ class Cluster:
 
     def _submit(self, names: List[str], events: "Events[Event]") -> None:
         how = dict(stdin=subprocess.DEVNULL, stdout=subprocess.PIPE, stderr=subprocess.PIPE, pure=False, retries=RETRIES)
-        futures = {self.client.submit(subprocess.run, [*self.command, os.path.abspath(name)], **how): name for name in names}
-        for future in self.distributed.as_completed(list(futures), loop=self.client.loop):
-            name = futures.pop(future)
-            events.put(Done(name, _report_of(name, future)))
+        left = {self.client.submit(subprocess.run, [*self.command, os.path.abspath(name)], **how): name for name in names}
+        try:
+            for future in self.distributed.as_completed(list(left), loop=self.client.loop):
+                name = left.pop(future)
+                events.put(Done(name, _report_of(name, future)))
+        except BaseException as fault:
+            for name in left.values():
+                events.put(Done(name, _not_judged(name, f"on the cluster: {_named(fault)}")))
+
+
+def _named(cause: BaseException) -> str:
+    return f"{type(cause).__name__}: {cause}"
+
+
+def _not_judged(name: str, reason: str) -> Report:
+    return Report(name, fault=Fault(NoCluster.status, reason))
 
 
 def _report_of(name: str, future: Any) -> Report:
     """The report on a file from what its run on a worker wrote."""
-    if future.status != "finished":
-        cause = future.exception() if future.status == "error" else future.status
-        return Report(name, fault=Fault(NoCluster.status, f"on the cluster: {type(cause).__name__}: {cause}"))
-    done = future.result()
+    try:
+        done = future.result()
+    except (Exception, asyncio.CancelledError) as fault:
+        return _not_judged(name, f"on the cluster: {_named(fault)}")
     try:
         return report_of_dict(json.loads(done.stdout)["files"][0])._replace(file=name)
     except (ValueError, LookupError, TypeError):
         said = done.stderr.decode("utf-8", "replace").strip().splitlines()
-        return Report(name, fault=Fault(NoCluster.status, f"on a worker: {said[-1] if said else f'status {done.returncode}'}"))
+        return _not_judged(name, f"on a worker: {said[-1] if said else f'status {done.returncode}'}")
