@@ -58,6 +58,7 @@ def statuses():
 
 KINDS = "program", "command", "python", "option", "status"
 SYNOPSIS = re.compile(r"(?s)\.nf\n(.*?)\.fi")
+BLOCK = re.compile(r"(?ms)^```\n(igesolid solids .*?)^```$")
 LISTED = re.compile(r"(?m)^igesolid (.*?)  +\S")
 
 
@@ -81,8 +82,7 @@ def plain(page):
 def pages(copy):
     """README's list has each command, in the order of the table, and so has the man page; docs/COMMANDS.md has each."""
     readme, commands, man = ((copy.top / name).read_text() for name in ("README.md", "docs/COMMANDS.md", "man/igesolid.1"))
-    block = next(text for text in re.findall(r"(?s)```\n(.*?)```", readme) if text.startswith("igesolid solids"))
-    listed = LISTED.findall(block)
+    listed = LISTED.findall(BLOCK.search(readme)[1])
     yield "README: no command that isn't in commands.tsv", set(listed) <= set(all_forms())
     for form in all_forms():
         yield f"README: {form}", form in listed
