@@ -24,8 +24,9 @@ CERTIFICATE = re.compile(r"(?s)```\n((?:IGESCERT|IGESOPEN|ORIENT) [^`]*)```\n(?:
 CHANGE = re.compile(r"`([^`]+)` as line (\d+)|no line (\d+)|no `END`")
 VERIFIERS = {"IGESCERT": "verify", "IGESOPEN": "open-verify", "ORIENT": "orient-verify"}
 FEWEST_CHANGES = 25
-# What stands for the launcher: it runs the program, or that which tells where solids fail.
+# What stands for the launcher: it runs the program, or that which tells where solids fail, or the command that asks both.
 LAUNCHED = """#!/bin/sh
+[ "$1" != check ] || {{ shift; exec python3 -B '{top}/companion/check' --program '{program}' --where-program '{where}' "$@"; }}
 [ "$1" != where ] || {{ shift; exec '{where}' "$@"; }}
 exec '{program}' "$@"
 """
@@ -144,7 +145,7 @@ def links(top):
 
 def checks(folder, top, program, where, forms):
     (folder / "examples").symlink_to(top / "examples")
-    (folder / "igesolid").write_text(LAUNCHED.format(program=program, where=where))
+    (folder / "igesolid").write_text(LAUNCHED.format(top=top, program=program, where=where))
     (folder / "igesolid").chmod(0o755)
     yield from tables(top, forms)
     yield from examples(folder, top)
