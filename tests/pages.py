@@ -26,8 +26,9 @@ FEWEST_CHANGES = 25
 # A crate with its edits in the table of wrong bodies in docs/DECISIONS.md.
 PLANTED = re.compile(r"`(\w+)`: ([^;|]+)")
 MOST_EDITS = 120
-# What stands for the launcher: it runs the program, or that which tells where solids fail.
+# What stands for the launcher: it runs the program, or that which tells where solids fail, or the command that asks both.
 LAUNCHED = """#!/bin/sh
+[ "$1" != check ] || {{ shift; exec python3 -B '{top}/companion/check' --program '{program}' --where-program '{where}' "$@"; }}
 [ "$1" != where ] || {{ shift; exec '{where}' "$@"; }}
 exec '{program}' "$@"
 """
@@ -156,7 +157,7 @@ def links(top):
 
 def checks(folder, top, program, where, forms):
     (folder / "examples").symlink_to(top / "examples")
-    (folder / "igesolid").write_text(LAUNCHED.format(program=program, where=where))
+    (folder / "igesolid").write_text(LAUNCHED.format(top=top, program=program, where=where))
     (folder / "igesolid").chmod(0o755)
     yield from tables(top, forms)
     yield from examples(folder, top)
