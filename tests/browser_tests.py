@@ -6,8 +6,9 @@ import chromium
 from picture_tests import RECORDED, answers, example, iges, page, recorded
 from sample_file import text_of
 
-MOST_SECONDS = 3
 SIDE = 160
+# How many calls a drawing may take beside one to begin and one to end each edge, and how many lines it may paint one by one.
+MORE_CALLS, MOST_STROKES = 100, 100
 CRUEL = "</script><script>document.title = 'x'</script><img src=x onerror=\"document.title='x'\"><b>"
 WITHIN = "labels.every(it => it.x >= 0 && it.y >= 0 && it.x + it.width <= width && it.y + it.height <= height)"
 # Where the button of a fault is, when it was scrolled into view; and how many pixels of the picture are as red as what fails.
@@ -23,6 +24,15 @@ RED_PIXELS = """(() => {
     for (let k = 0; k < pixels.length; k += 4) count += pixels[k] > 180 && pixels[k + 1] < 60 && pixels[k + 2] < 60;
     return count;
 })()"""
+# Run before a page's own script: counts the calls of each function that draws.
+COUNTING = """
+window.calls = {};
+for (const [name, { value }] of Object.entries(Object.getOwnPropertyDescriptors(CanvasRenderingContext2D.prototype))) {
+    if (typeof value === "function") CanvasRenderingContext2D.prototype[name] = function (...words) {
+        calls[name] = (calls[name] || 0) + 1;
+        return value.apply(this, words);
+    };
+}"""
 NO_NETWORK = re.compile(r"(file|data|about):")
 
 
@@ -138,33 +148,24 @@ def torus(side):
 
 
 def of_many_edges(browser, folder):
-    """A page of 51,200 edges opens within seconds, at best of three times, and its label is in view."""
+    """A page of 51,200 edges is drawn once when it opens, each edge by one line, and its label is in view."""
     data, text = torus(SIDE)
-    path = written(folder, "torus", 1, text, iges.lines_of(data))
-    seconds = min(browser.open(path) for _ in range(3))
-    yield "browser: 51,200 edges", is_quiet(browser) and browser.run("edgeCount") == 2 * SIDE * SIDE and browser.run(f"labels.length > 0 && {WITHIN}")
-    yield f"browser: 51,200 edges within {MOST_SECONDS} seconds: {seconds:.1f}", seconds < MOST_SECONDS
+    edges = 2 * SIDE * SIDE
+    browser.call("Page.addScriptToEvaluateOnNewDocument", source=COUNTING)
+    browser.open(written(folder, "torus", 1, text, iges.lines_of(data)))
+    yield "browser: 51,200 edges", is_quiet(browser) and browser.run("edgeCount") == edges and browser.run(f"labels.length > 0 && {WITHIN}")
+    calls = browser.run("calls")
+    is_short = edges <= calls["lineTo"] <= calls["moveTo"] + calls["lineTo"] <= 2 * edges + MORE_CALLS and calls["stroke"] <= MOST_STROKES
+    yield f"browser: 51,200 edges are drawn once: {calls}", calls["clearRect"] == 1 and is_short
 
 
 def checks(folder, skipped):
     if chromium.found() is None:
         skipped("pages in a browser: Chromium isn't installed")
         return
-    room = folder / "browser"
-    room.mkdir()
     browser = chromium.Browser()
     try:
         for run in (of_recorded, of_pinched_edge, of_markup, of_many_edges):
-            yield from run(browser, room)
+            yield from run(browser, folder)
     finally:
         browser.close()
-
-
-if __name__ == "__main__":
-    import pathlib
-    import tempfile
-
-    with tempfile.TemporaryDirectory() as made_folder:
-        held = list(checks(pathlib.Path(made_folder), print))
-    print(*(name for name, good in held if not good), sep="\n")
-    print(f"{sum(bool(good) for _, good in held)} of {len(held)}")

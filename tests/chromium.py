@@ -12,7 +12,8 @@ import sys
 import tempfile
 import time
 
-SECONDS = 60
+from spawned import SECONDS
+
 NAMES = "chromium", "chromium-browser", "google-chrome"
 WORDS = (
     "--headless=new", "--no-sandbox", "--disable-gpu", "--hide-scrollbars", "--no-first-run", "--disable-background-networking", "--disable-component-update",
@@ -90,14 +91,13 @@ class Browser:
         return message["result"]
 
     def open(self, path, at=""):
-        """Opens a page, and the seconds until it is drawn."""
-        self.faults, self.requests, start = [], [], time.monotonic()
+        """Opens a page, and waits until it is drawn."""
+        self.faults, self.requests = [], []
         self.call("Page.navigate", url="about:blank")
         self.call("Page.navigate", url=pathlib.Path(path).resolve().as_uri() + at)
         while self.run("document.readyState") != "complete" or self.run("location.href") == "about:blank":
             time.sleep(0.01)
         self.run("new Promise(done => requestAnimationFrame(() => requestAnimationFrame(done)))")
-        return time.monotonic() - start
 
     def run(self, script):
         """The value of a script in the page."""

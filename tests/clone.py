@@ -5,7 +5,8 @@ import shutil
 import subprocess
 import time
 
-SECONDS = 120
+from spawned import SECONDS
+
 # Where the kit isn't, if it isn't installed among the system's own commands.
 PLAIN_PATH = "/usr/bin:/bin:/usr/sbin:/sbin"
 LEFT_OUT = shutil.ignore_patterns("out", ".git", "__pycache__")

@@ -3,12 +3,13 @@
 The program is the built one; tests/faults.c, preloaded, makes its calls fail. Needs gcc.
 """
 import errno
+import itertools
 import os
 import shutil
 import subprocess
 
 import elf
-from commands import TOP, Runs
+from commands import SMALL, TOP, Runs
 
 DONE, UNREAD, UNWRITTEN, NO_MEMORY = 0, 4, 5, 6
 REPORT = 200
@@ -65,28 +66,35 @@ def of_run(faults, run, call, size, error):
             number += 1
 
 
-def failing(call):
-    """The table of one call, for all commands on all small files."""
-
-    def checks(runner, folder, forms):
-        if shutil.which("gcc") is None:
-            return
-        faults = Faults(runner, folder)
-        for run in Runs(runner, folder, forms).all():
-            for size, error in SETTINGS[call]:
-                yield from of_run(faults, run, call, size, error)
-
-    checks.__name__ = f"failing_{call}"
-    return checks
-
-
-def covered(runner, folder, forms):
+def covered(faults):
     """Each call of the C library that the program makes is one that faults.c covers, or takes no memory and does no input or output."""
-    if shutil.which("gcc") is None:
-        return
-    defined = elf.File(Faults(runner, folder).library.read_bytes()).symbols(is_defined=True)
-    for name in sorted(elf.File(open(runner.program, "rb").read()).symbols(is_defined=False)):
+    defined = elf.File(faults.library.read_bytes()).symbols(is_defined=True)
+    for name in sorted(elf.File(open(faults.runner.program, "rb").read()).symbols(is_defined=False)):
         yield f"the call of {name} is covered", name in defined | HARMLESS | START
 
 
-TABLES = [*(failing(call) for call in SETTINGS), covered]
+# The small files that show most, and the others.
+FIRST, OTHERS = (SMALL[0], SMALL[1], SMALL[4]), (SMALL[2], SMALL[3])
+
+
+def of_smalls(runner, new_folder, forms, skipped, smalls):
+    """Each call fails in turn, in each command on small files."""
+    if shutil.which("gcc") is None:
+        skipped("calls of the C library that fail, since gcc isn't installed")
+        return
+    faults, runs = Faults(runner, new_folder()), Runs(runner, new_folder(), forms)
+    for small, command in itertools.product(smalls, runs.commands):
+        for run in runs.of(small, command):
+            for call, settings in SETTINGS.items():
+                for size, error in settings:
+                    yield from of_run(faults, run, call, size, error)
+    if smalls == FIRST:
+        yield from covered(faults)
+
+
+def checks(*given):
+    return of_smalls(*given, FIRST)
+
+
+def more_checks(*given):
+    return of_smalls(*given, OTHERS)

@@ -24,28 +24,41 @@ def of_cut_certificate(text):
     return NO, b"line %d %s\n" % (len(lines), b"missing" if lines[-1] == b"" else b"misspelt")
 
 
-def with_cuts(path):
+def is_telling(length):
+    """Whether a cut is near the end of a line, or one of those between that stand for the others."""
+    return length % LINE in (0, 1, LINE - 2, LINE - 1) or length % 7 == 0
+
+
+def is_other(length):
+    return not is_telling(length)
+
+
+def with_cuts(path, is_wanted=lambda length: True):
     """The lengths that a file has in turn, from its own less one down to 0, and is cut to; then it is whole again."""
     text = path.read_bytes()
-    for length in reversed(range(len(text))):
+    for length in filter(is_wanted, reversed(range(len(text)))):
         with open(path, "r+b") as file:
             file.truncate(length)
         yield text[:length], len(text)
     path.write_bytes(text)
 
 
-def cut_files(runner, folder, forms):
-    """The cube's file cut at each byte, for `solids`, and the point's, for each other command that reads one."""
-    runs = Runs(runner, folder, forms)
-    for command in runs.commands:
-        small = CUBE if command.form == "solids FILE" else SMALL[1]
-        for run in list(runs.of(small, command))[:1]:
-            if run.file is None:
-                continue
-            full = runner.run(run.words)
-            for text, whole in with_cuts(run.file):
-                wanted = of_cut_file(len(text), whole) or full[:2]
-                yield f"{run.name}, the file cut to {len(text)} bytes", runner.run(run.words) == (*wanted, b"")
+def cut_files(is_wanted):
+    """The table of the cube's file cut to these lengths, for `solids`, and of the point's, for each other command that reads one."""
+
+    def table(runner, folder, forms):
+        runs = Runs(runner, folder, forms)
+        for command in runs.commands:
+            small = CUBE if command.form == "solids FILE" else SMALL[1]
+            for run in list(runs.of(small, command))[:1]:
+                if run.file is None:
+                    continue
+                full = runner.run(run.words)
+                for text, whole in with_cuts(run.file, is_wanted):
+                    wanted = of_cut_file(len(text), whole) or full[:2]
+                    yield f"{run.name}, the file cut to {len(text)} bytes", runner.run(run.words) == (*wanted, b"")
+
+    return table
 
 
 def cut_certificates(runner, folder, forms):
@@ -105,4 +118,4 @@ def changes(runner, folder, forms):
                     yield f"{run.name}, {name}", (status, error) == (wanted[0], b"") and wanted[1] in (None, text)
 
 
-TABLES = [cut_files, cut_certificates, changes]
+TABLES, MORE_TABLES = [cut_files(is_telling), cut_certificates, changes], [cut_files(is_other)]

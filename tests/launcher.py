@@ -1,14 +1,17 @@
 """The launcher and dist/: a first run without the kit, builds by a kit that is played, and what the launcher says."""
+import hashlib
 import os
 import pathlib
 import re
 import resource
 import shutil
 import signal
+import socket
 import subprocess
 import time
 
 import clone
+import command_table
 from sample_file import sample_text
 
 BIG_FILE, BIG_CERTIFICATE = 164_000_001, 536_870_913
@@ -20,15 +23,14 @@ def first_runs(copy, skipped):
     """What the launcher does of a clone whose dist/ holds the program, without the kit."""
     cube = ["./igesolid", "certify", "examples/cube.igs", "1"]
     wanted = subprocess.run([copy.program, *cube[1:]], cwd=copy.top, stdout=subprocess.PIPE).stdout
-    start = time.monotonic()
     yield "launcher: the first command", copy.run(*cube) == (0, wanted, "")
-    yield "launcher: within a second", time.monotonic() - start < 1
+    yield "launcher: by few commands of the shell", 0 < copy.run("sh", "-x", *cube)[2].count("\n+ ") < 200
     yield "launcher: from another folder", copy.run(copy.top / "igesolid", "solids", "cube.igs", cwd=copy.top / "examples") == (0, b"1\n", "")
     piped = subprocess.run(
         ["./igesolid", "solids", "/dev/stdin"], cwd=copy.top, input=(copy.top / "examples" / "cube.igs").read_bytes(), stdout=subprocess.PIPE, env=copy.environment()
     )
     yield "launcher: a file on standard input", (piped.returncode, piped.stdout) == (0, b"1\n")
-    yield "launcher: no words", copy.run("./igesolid")[::2] == (2, "")
+    yield "launcher: no words", copy.run("./igesolid")[::2] == (2, "igesolid: a command is missing; igesolid --help lists the commands\n")
     sources = copy.run("dist/sources")[1].decode()
     shipped = copy.top / "dist" / "igesolid-x86_64-linux"
     status, text, error = copy.run("./igesolid", "--version")
@@ -50,7 +52,7 @@ def first_runs(copy, skipped):
     with open(copy.top / "crates.txt", "a") as file:
         file.write("# changed\n")
     status, _, error = copy.run(*cube)
-    yield "launcher: a changed source without the kit", status == 125 and "holds no program built from these sources" in error
+    yield "launcher: a changed source without the kit", status == 125 and "holds no program built from these sources, and rt" in error
 
 
 def pictures(copy):
@@ -58,7 +60,7 @@ def pictures(copy):
     wanted = (copy.top / "tests" / "recorded" / "fail_pair.1.txt").read_bytes()
     words = "examples/no/fail_pair.igs", "1"
     yield "launcher: where", copy.run("./igesolid", "where", *words) == (1, wanted, "")
-    yield "launcher: where without words", copy.run("./igesolid", "where")[::2] == (2, "")
+    yield "launcher: where without words", copy.run("./igesolid", "where")[:2] == copy.run(copy.where)[:2]
     yield "launcher: --program where", copy.run("./igesolid", "--program", "where") == (0, f"{copy.top / 'dist' / 'igesolid-where-x86_64-linux'}\n".encode(), "")
     status, text, error = copy.run("./igesolid", "page", *words)
     yield "launcher: page", (status, text[:15], error) == (1, b"<!doctype html>", "") and b"fail PAIR 7 1" in text
@@ -69,27 +71,17 @@ def pictures(copy):
         told = copy.run("./igesolid", command, "none.igs", "1")
         yield f"launcher: {command} of no file", told == (4, b"", "igesolid: none.igs: can't be opened: No such file or directory\n")
     yield "launcher: no caches are left", not any(copy.top.rglob("__pycache__"))
-    plain = copy.folder / "without python"
-    plain.mkdir()
-    for folder in map(pathlib.Path, clone.PLAIN_PATH.split(":")):
-        for it in folder.iterdir() if folder.is_dir() else ():
-            if not it.name.startswith("python") and not (plain / it.name).exists():
-                (plain / it.name).symlink_to(it)
+    plain = without_commands(copy, "python")
     told = copy.run("./igesolid", "page", *words, PATH=plain)
     yield "launcher: page without Python", told == (125, b"", "igesolid: page needs Python 3.8 or later, and python3 isn't on PATH\n")
     shutil.rmtree(plain)
 
 
-def helps(copy, forms):
-    """--help and the man page have each form and each word of the launcher."""
-    forms = *forms, "where FILE", "where FILE N", "where FILE N all", "page FILE N", "marks FILE N"
-    status, text, error = copy.run("./igesolid", "--help")
-    page = (copy.top / "man" / "igesolid.1").read_text()
-    plain = page.replace("\\-", "-").replace("\\fB", "").replace("\\fI", "").replace("\\fR", "")
+def helps(copy):
+    """--help ends well, and the man page is of this version."""
+    status, _, error = copy.run("./igesolid", "--help")
     yield "launcher: --help", (status, error) == (0, "")
-    for form in [*forms, "--help", "--version", "--program"]:
-        yield f"--help: {form}", f"igesolid {form} " in text.decode()
-        yield f"man page: {form}", form in plain
+    page = (copy.top / "man" / "igesolid.1").read_text()
     version = re.search(r"(?m)^version=(.*)$", (copy.top / "igesolid").read_text())[1]
     yield "man page: the version", f'"igesolid {version}"' in page
 
@@ -119,9 +111,31 @@ def builds(copy):
     yield "build: a crate that isn't proved", (status, text) == (125, b"") and "crate brep_walk could not be built" in error
     yield "build: none above it", "run igesolid" not in copy.calls()
     yield "build: not built yet", b"not built yet" in copy.run("./igesolid", "--version")[1]
-    status, told = clone.on_terminal(solids, cwd=copy.top, env=copy.environment(kit=True, KIT_DELAY="0.05"))
-    yield "build: one line that changes", status == 0 and f"\r\x1b[Kigesolid: 0 of {count} crates proved, now iges_base" in told
+    # The first crates may be proved before a line is shown.
+    yield from failed_runs(copy, solids)
     copy.unbuild()
+    status, told = clone.on_terminal(solids, cwd=copy.top, env=copy.environment(kit=True, KIT_DELAY="0.05"))
+    yield "build: one line that changes", status == 0 and re.search(rf"\r\x1b\[Kigesolid: \d+ of {count} crates proved, now \w+", told) is not None
+    copy.unbuild()
+
+
+def failed_runs(copy, solids):
+    """A build whose last run fails doesn't count, though the program is there; what was there before stays until it is replaced."""
+    kit = copy.folder / "kit" / "rt"
+    text = kit.read_text()
+    copy.unbuild()
+    for crate, command in (("igesolid", solids[1:]), ("igesolid_where", ["where", "examples/cube.igs"])):
+        copy.write(kit, f"{text}\n[ \"$1\" != run ] || exit 1\n")
+        status, _, error = copy.run("./igesolid", "--built", *command, kit=True)
+        failed = status == 125 and f"crate {crate} could not be built" in error
+        yield f"build: a failed run of {crate}", failed and copy.built(crate).exists() and not copy.built(crate).with_name(f"{crate}.from").exists()
+        copy.write(kit, text.replace("lib | run)", "lib | run)\n    [ \"$1\" != run ] || echo \"$@\" >words"))
+        status, _, error = copy.run("./igesolid", "--built", *command, kit=True)
+        folder = copy.top / "crates" / crate
+        words = (folder / "words").read_text().split()
+        (folder / "words").unlink()
+        yield f"build: the trial of {crate}", status == 0 and subprocess.run([copy.built(crate), *words[2:]], cwd=folder, stdout=subprocess.DEVNULL).returncode == 0
+    copy.write(kit, text)
 
 
 def heed_interrupts():
@@ -164,6 +178,7 @@ def messages(copy):
     os.truncate(copy.top / "big.cert", BIG_CERTIFICATE)
     for words, status, said in (
         (["solids", "none.igs"], 4, "none.igs: can't be opened: No such file or directory"),
+        (["solids", ""], 4, "an empty name: can't be opened: No such file or directory"),
         (["solids", "two\nlines"], 4, "two?lines: can't be opened: No such file or directory"),
         (["show", "examples", "1"], 4, "examples: is a folder"),
         (["verify", cube, "none.cert"], 4, "none.cert: can't be opened: No such file or directory"),
@@ -190,11 +205,11 @@ def messages(copy):
     yield "message: no memory", told == (6, b"", "igesolid: sample.igs: out of memory\n")
     tetrahedra = "examples/two_tetrahedra.igs"
     for words in (
-        *(["certify", tetrahedra, number] for number in ("1", "all")), ["solids", "crates.txt"], ["extract", cube, "3"], ["solids"],
+        *(["certify", tetrahedra, number] for number in ("1", "all")), ["solids", "crates.txt"], ["extract", cube, "3"],
         ["open", cube, "1"], ["orient", cube, "2"], ["compact", cube, "3"],
     ):  # fmt: skip
         status, _, error = copy.run("./igesolid", *words)
-        yield f"no message: {words}", status in (1, 2, 3, 7) and error == ""
+        yield f"no message: {words}", status in (1, 3, 7) and error == ""
     copy.ship_script(clone.ENDING)
     for words, said in (
         (["extract", cube, "1"], f"{cube}: the extracted text would have more than 164,000,000 bytes"),
@@ -211,9 +226,12 @@ def messages(copy):
         (["verify", "/dev/null", "/dev/null"], f"/dev/null: {IS_BIG_FILE}, or {IS_BIG_CERTIFICATE}"),
     ):
         yield f"message of status 8: {words}", copy.run("./igesolid", *words, STATUS=8) == (8, b"", f"igesolid: {said}\n")
-    for status in (4, 6, 9):
-        error = copy.run("./igesolid", "verify", cube, certificate, STATUS=status)[2]
-        yield f"message of status {status}: one line", error.startswith("igesolid: ") and error.count("\n") == 1
+    for row in command_table.of_kind("status"):
+        error = copy.run("./igesolid", "verify", cube, certificate, STATUS=row.owner)[2] if row.owner != "125" else ""
+        if row.words == "always" and row.owner != "125":
+            yield f"message of status {row.owner}: one line", error.startswith("igesolid: ") and error.count("\n") == 1
+        elif row.words == "never":
+            yield f"message of status {row.owner}: none", error == ""
     for name in ("big.igs", "big.cert", "sample.igs"):
         (copy.top / name).unlink()
     copy.ship(copy.program)
@@ -248,10 +266,264 @@ def comparisons(copy, skipped):
     copy.unbuild()
 
 
+def run_in(copy, script, **more):
+    """The status, standard output and standard error of a script of the shell, whose words say what its commands read and write."""
+    done = subprocess.run(["bash", "-c", script], cwd=copy.top, capture_output=True, env=copy.environment(**more), timeout=clone.SECONDS)
+    return done.returncode, done.stdout.decode(), done.stderr.decode(errors="replace")
+
+
+def inputs(copy):
+    """Standard input in the place of a file, and files by descriptors of the caller."""
+    cube, pair = "examples/cube.igs", "examples/no/fail_pair.igs"
+    closed = "igesolid: standard input: is closed\n"
+    for name, script, wanted in (
+        ("a file", f"./igesolid solids - <{cube}", (0, "1\n", "")),
+        ("a pipe", f"cat {cube} | ./igesolid solids -", (0, "1\n", "")),
+        ("what is left of a file", f"{{ echo first; cat {cube}; }} >part; {{ read line; ./igesolid solids -; }} <part; rm part", (0, "1\n", "")),
+        ("FILE of two", f"./igesolid verify - examples/cube.cert2 <{cube}", (0, "accepted 1\n", "")),
+        ("CERT", f"./igesolid verify {cube} - <examples/cube.cert2", (0, "accepted 1\n", "")),
+        ("where", f"./igesolid where - <{pair}", (1, "solids 1 failing 1\nsolid 1 fail PAIR 7 1\n", "")),
+        ("closed", "./igesolid solids - <&-", (4, "", closed)),
+        ("closed, page", "./igesolid page - 1 <&-", (4, "", closed)),
+        ("a folder", "./igesolid solids - <docs", (4, "", "igesolid: standard input: is a folder\n")),
+        ("a file of that name", f"cp {cube} ./-; ./igesolid solids ./-; rm ./-", (0, "1\n", "")),
+        ("no file, in a loop", "printf '1\\n2\\n' | while read n; do ./igesolid solids none 2>&-; echo $n; done", (0, "1\n2\n", "")),
+        ("too large", "truncate -s 164000001 big; ./igesolid solids - <big; rm big", (0, "", f"igesolid: standard input: {IS_BIG_FILE}\n")),
+    ):
+        yield f"standard input: {name}", run_in(copy, script) == wanted
+    status, text, error = run_in(copy, "./igesolid verify - - </dev/null")
+    yield "standard input: twice", (status, text, error) == (2, command_table.usage(), "igesolid: standard input (-) can be given once only\n")
+    wanted = copy.run("./igesolid", "page", pair, "1")[1].decode().replace("fail_pair.igs, solid", "standard input, solid")
+    yield "standard input: page", run_in(copy, f"./igesolid page - 1 <{pair}")[:2] == (1, wanted)
+    status, text, _ = run_in(copy, f"TMPDIR=$PWD/docs ./igesolid marks <(cat {pair}) 1")
+    yield "marks: a pipe", status == 1 and text.startswith("Faults of solid 1 of ") and len(list((copy.top / "docs").glob("tmp.*"))) == 0
+    ours, theirs = socket.socketpair()
+    process = subprocess.Popen(["./igesolid", "solids", "-"], cwd=copy.top, env=copy.environment(), stdin=theirs, stdout=subprocess.PIPE)
+    theirs.close()
+    ours.sendall((copy.top / cube).read_bytes())
+    ours.close()
+    yield "standard input: a socket", (process.communicate(timeout=clone.SECONDS)[0], process.returncode) == (b"1\n", 0)
+    for number in (3, 4, 9, 10, 11, 20):
+        yield f"descriptor {number}", run_in(copy, f"./igesolid solids /dev/fd/{number} {number}<{cube}") == (0, "1\n", "")
+    others = " ".join(f"{number}</dev/null" for number in range(4, 10))
+    yield "descriptors: none is left", run_in(copy, f"cat {cube} | ./igesolid verify /dev/stdin /dev/fd/3 3<examples/cube.cert2 {others}") == (0, "accepted 1\n", "")
+
+
+def outputs(copy):
+    """Words of the launcher's own, and pages, with a standard output that fails."""
+    for words in ("--help", "-h", "help", "--version", "--program", "sample 3", "solids examples/cube.igs", "page examples/no/fail_pair.igs 1"):
+        for output in (">/dev/full", ">&-"):
+            status, text, error = run_in(copy, f"./igesolid {words} {output}")
+            yield f"{words} {output}", (status, text) == (5, "") and error.endswith("standard output failed, so the answer is cut short or missing\n") and error.count("\n") == 1
+    texts = {copy.run("./igesolid", word)[:2] for word in ("--help", "-h", "help")}
+    yield "-h and help", len(texts) == 1 and texts.pop()[0] == 0
+
+
+def wrong_words(copy):
+    """Which words are wrong, on standard error; the program's own usage line and status stay."""
+    certify = "the words are igesolid certify FILE N, or igesolid certify FILE all\n"
+    solid = "igesolid: N is the directory number of a solid, of 1 to 7 digits: igesolid solids FILE lists them\n"
+    for words, said in (
+        ("certfy a.igs 1", "certfy isn't a command; the nearest is certify: igesolid certify FILE N, or igesolid certify FILE all\n"),
+        ("extrct a.igs 1", "extrct isn't a command; the nearest is extract: igesolid extract FILE N\n"),
+        ("verfy a.igs b", "verfy isn't a command; the nearest is verify: igesolid verify FILE CERT\n"),
+        ("wehre a.igs", "wehre isn't a command; the nearest is where: igesolid where FILE, or igesolid where FILE N, or igesolid where FILE N all\n"),
+        ("--hepl", "--hepl isn't a command; the nearest is --help: igesolid --help\n"),
+        ("something", "something isn't a command; igesolid --help lists the commands\n"),
+        ("examples/cube.igs", "examples/cube.igs is a file, and a command comes before it, as in: igesolid certify examples/cube.igs all\n"),
+        ("certify", f"FILE and N are missing: {certify}{solid}"),
+        ("certify a.igs", f"N is missing: {certify}{solid}"),
+        ("certify a.igs first", f"first isn't a number N: {certify}{solid}"),
+        ("certify a.igs 0", f"0 isn't a number N: {certify}{solid}"),
+        ("certify a.igs 12345678", f"12345678 isn't a number N: {certify}{solid}"),
+        ("certify a.igs 1 2", f"2 is a word too many: {certify}"),
+        ("verify a.igs", "CERT is missing: the words are igesolid verify FILE CERT\n"),
+        ("open a.igs", "N is missing: the words are igesolid open FILE N\nigesolid: N is the directory number of a shell, of 1 to 7 digits\n"),
+        ("sample 2", "2 isn't a number N: the words are igesolid sample N\nigesolid: N is from 3 to 200\n"),
+    ):
+        yield f"wrong words: {words}", copy.run("./igesolid", *words.split()) == (2, command_table.usage().encode(), f"igesolid: {said}")
+    status, text, error = copy.run("./igesolid", "where", "a.igs", "1", "al")
+    yield "wrong words: where", (status, text) == copy.run(copy.where)[:2] and error.startswith("igesolid: al isn't all: the words are igesolid where FILE, or ")
+
+
+def foreign_certificates(copy):
+    """A certificate of another file gets a question, once, and a changed one of the same file none."""
+    cube, certificate, cylinder = "examples/cube.igs", "examples/cube.cert2", "examples/cylinder.igs"
+    sheet, turned = "examples/sheet.open1", "examples/turned.orient"
+    for words, text in (
+        (["verify", cylinder, certificate], b"line 3 unfit\n"),
+        (["upgrade", cylinder, certificate], b"line 3 unfit\n"),
+        (["verify", cylinder, "examples/two_solids.cert3"], b"line 3 unfit\n"),
+        (["open-verify", cube, sheet], b"fail TYPE 1 0\n"),
+        (["orient-verify", cylinder, turned], b"line 2 unfit\n"),
+    ):
+        question = f"igesolid: {words[2]}: does this certificate belong to {words[1]}? It is of a solid or shell that isn't so in this file\n"
+        yield f"another file's certificate: {words}", copy.run("./igesolid", *words) == (1, text, question)
+    lines = (copy.top / certificate).read_text().splitlines()
+    (copy.top / "changed.cert").write_text("\n".join([*lines[:-2], "E 1 1", *lines[-2:], ""]))
+    status, _, error = copy.run("./igesolid", "verify", cube, "changed.cert")
+    yield "no question: a changed certificate", (status, error) == (1, "")
+    (copy.top / "changed.cert").unlink()
+
+
+def without_commands(copy, *names):
+    """A folder of the system's commands without those of these names."""
+    plain = copy.folder / f"without {names[0]}"
+    plain.mkdir()
+    for folder in map(pathlib.Path, clone.PLAIN_PATH.split(":")):
+        for it in folder.iterdir() if folder.is_dir() else ():
+            if not it.name.startswith(names) and not (plain / it.name).exists():
+                (plain / it.name).symlink_to(it)
+    return plain
+
+
+def causes(copy, skipped):
+    """What keeps dist/ from being used is named, and one program that is missing doesn't stop the other."""
+    solids, where = ["./igesolid", "solids", "examples/cube.igs"], ["./igesolid", "where", "examples/cube.igs"]
+    plain = without_commands(copy, "sha256sum")
+    told = copy.run(*solids, PATH=plain)
+    yield "cause: no sha256sum", told == (125, b"", "igesolid: sha256sum isn't on PATH, so the program can't be compared with the sources\n")
+    shutil.rmtree(plain)
+    other = copy.top / "dist" / "igesolid-where-x86_64-linux"
+    other.rename(copy.folder / "elsewhere")
+    yield "cause: the other program is missing", copy.run(*solids) == (0, b"1\n", "")
+    yield "cause: the program is missing", copy.run(*where)[0] == 125 and f"{other} is missing" in copy.run(*where)[2]
+    (copy.folder / "elsewhere").rename(other)
+    other.chmod(0o644)
+    yield "cause: not executable", copy.run(*where)[0] == 125 and f"{other} isn't executable (chmod +x makes it so)" in copy.run(*where)[2]
+    other.chmod(0o755)
+    whole = other.read_bytes()
+    other.write_bytes(whole[:-1])
+    yield "cause: another program", "isn't the program of dist/SHA256SUMS" in copy.run(*where)[2] and copy.run(*solids)[0] == 0
+    other.write_bytes(whole)
+    yield "cause: none", copy.run(*where)[::2] == (0, "")
+    if shutil.which("git", path=clone.PLAIN_PATH) is None:
+        skipped("sources that git doesn't know: git isn't installed")
+    else:
+        yield from causes_by_git(copy, solids)
+
+
+def causes_by_git(copy, solids):
+    copy.run("git", "init", "--quiet")
+    copy.run("git", "add", "--all")
+    copy.run("git", "-c", "user.name=tests", "-c", "user.email=tests@localhost", "commit", "--quiet", "--message=all")
+    stray, changed = copy.top / "crates" / "iges_io" / "notes", copy.top / "crates.txt"
+    stray.touch()
+    yield "cause: a stray file", "since git doesn't know crates/iges_io/notes (remove it, or build)" in copy.run(*solids)[2]
+    stray.unlink()
+    text = changed.read_text()
+    changed.write_text(text + "# changed\n")
+    yield "cause: a changed file", "since crates.txt was changed (git checkout restores it)" in copy.run(*solids)[2]
+    changed.write_text(text)
+    yield "cause: none by git", copy.run(*solids) == (0, b"1\n", "")
+    shutil.rmtree(copy.top / ".git")
+
+
+def places(copy):
+    """A clone whose folder has a line feed at its end, one that a link leads to, and control characters in a name."""
+    cube = str(copy.top / "examples" / "cube.igs")
+    odd = copy.folder / "line feed\n"
+    copy.top.rename(odd)
+    own = odd / "igesolid"
+    yield "launcher: a folder with a line feed", copy.run(own, "solids", odd / "examples" / "cube.igs", cwd=copy.folder) == (0, b"1\n", "")
+    odd.rename(copy.top)
+    link = copy.folder / "link"
+    link.symlink_to(copy.top / "igesolid")
+    yield "launcher: by a link", copy.run(link, "solids", cube, cwd=copy.folder) == (0, b"1\n", "")
+    link.unlink()
+    yield "launcher: by sh", copy.run("sh", "igesolid", "solids", cube) == (0, b"1\n", "")
+    yield "launcher: beside CDPATH", copy.run("sh", "clone/igesolid", "solids", cube, cwd=copy.folder, CDPATH="/tmp") == (0, b"1\n", "")
+    for name, shown in (("a\u0085b", "a?b"), ("a\x1b[31mb", "a?[31mb"), ("\u00c0\u00e9", "\u00c0\u00e9")):
+        told = copy.run("./igesolid", "solids", name)
+        yield f"message: {name!r}", told == (4, b"", f"igesolid: {shown}: can't be opened: No such file or directory\n")
+    told = copy.run("./igesolid", "solids", b"a\x9bb\xe9")
+    yield "message: a control character that isn't UTF-8", told[2] == "igesolid: a?b\ufffd: this argument isn't UTF-8\n"
+
+
+def surprises(copy):
+    """What docs/RELIABILITY.md says of the program: it opens a certificate before it reads the file, and wants a blocking output."""
+    fifo = copy.folder / "fifo"
+    os.mkfifo(fifo)
+    process = subprocess.Popen([copy.program, "verify", "missing.igs", fifo], cwd=copy.top, stdout=subprocess.PIPE)
+    # Opening it for writing waits until the program opens it.
+    fifo.open("wb").close()
+    yield "reliability: a certificate is opened first", process.wait(timeout=clone.SECONDS) == 4
+    process.stdout.close()
+    fifo.unlink()
+    (copy.top / "sample.igs").write_bytes(sample_text(30))
+    reader, writer = os.pipe()
+    os.set_blocking(writer, False)
+    done = subprocess.run([copy.program, "extract", "sample.igs", "1"], cwd=copy.top, stdout=writer, timeout=clone.SECONDS)
+    os.close(writer)
+    with open(reader, "rb") as pipe:
+        part = pipe.read()
+    yield "reliability: a non-blocking output", done.returncode == 5 and 0 < len(part) and sample_text(30).startswith(part)
+    (copy.top / "sample.igs").unlink()
+
+
+# A further program with two commands, another command of a program that is there, and one in Python, as lines of the table.
+FURTHER = """program\tigesolid-repair\tall\trepairs
+command\tigesolid-repair\trelayout FILE\ta file of the fixed form
+command\tigesolid-repair\treorient FILE N\ta file with other flags
+command\tigesolid-where\twhere --json FILE ..\tthe same as JSON
+python\tigesolid,igesolid-where\treport [OPTION..] FILE|FOLDER..\ta report of many files
+"""
+REPORT = """import sys
+print(*sys.argv[1:])
+sys.exit(4)
+"""
+REPAIR = """#!/bin/sh
+[ $# -gt 0 ] || { echo 'usage: igesolid-repair ..'; exit 2; }
+echo "$@"
+exit "${STATUS:-0}"
+"""
+
+
+def further_program(copy):
+    """A program that is added to the table and to dist/ is run, explained, helped, completed and installed without another change."""
+    table, sums = copy.top / "commands.tsv", copy.top / "dist" / "SHA256SUMS"
+    text, lines = table.read_text(), sums.read_text()
+    program = copy.top / "dist" / "igesolid-repair-x86_64-linux"
+    table.write_text(text + FURTHER)
+    copy.write(program, REPAIR)
+    sums.write_text(lines + f"{hashlib.sha256(REPAIR.encode()).hexdigest()}  {program.name}\n")
+    yield "further program: run", copy.run("./igesolid", "relayout", "a.igs") == (0, b"relayout a.igs\n", "")
+    status, _, error = copy.run("./igesolid", "reorient", "a.igs", "1", STATUS=4)
+    yield "further program: a cause", (status, error) == (4, "igesolid: a.igs: can't be opened: No such file or directory\n")
+    status, _, error = copy.run("./igesolid", "reorient", "a.igs", STATUS=2)
+    yield "further program: wrong words", status == 2 and error.startswith("igesolid: N is missing: the words are igesolid reorient FILE N\n")
+    status, _, error = copy.run("./igesolid", "relayuot", "a.igs")
+    yield "further program: the nearest", error == "igesolid: relayuot isn't a command; the nearest is relayout: igesolid relayout FILE\n"
+    yield "further program: --program", copy.run("./igesolid", "--program", "relayout") == (0, f"{program}\n".encode(), "")
+    yield "further program: --help", b"\n\n  igesolid relayout FILE " in copy.run("./igesolid", "--help")[1]
+    (copy.top / "companion" / "report").write_text(REPORT)
+    paths = [copy.top / "dist" / f"{name}-x86_64-linux" for name in ("igesolid", "igesolid-where")]
+    wanted = f"--program {paths[0]} --where-program {paths[1]} --json a b\n".encode()
+    yield "further program: in Python", copy.run("./igesolid", "report", "--json", "a", "b") == (4, wanted, "")
+    for shell in ("bash", "zsh", "fish"):
+        yield f"further program: {shell}", b"relayout" in copy.run("packaging/completions", shell)[1]
+    prefix = copy.folder / "further"
+    yield "further program: installed", copy.run("./install", prefix)[0] == 0 and copy.run(prefix / "bin" / "igesolid", "relayout", "b")[:2] == (0, b"relayout b\n")
+    shutil.rmtree(prefix)
+    table.write_text(text)
+    sums.write_text(lines)
+    program.unlink()
+    (copy.top / "companion" / "report").unlink()
+
+
 def checks(copy, forms, skipped):
+    yield from further_program(copy)
+    yield from surprises(copy)
     yield from pictures(copy)
+    yield from inputs(copy)
+    yield from outputs(copy)
+    yield from wrong_words(copy)
+    yield from foreign_certificates(copy)
+    yield from causes(copy, skipped)
+    yield from places(copy)
     yield from first_runs(copy, skipped)
-    yield from helps(copy, forms)
+    yield from command_table.checks(copy)
+    yield from helps(copy)
     yield from builds(copy)
     yield from stopped(copy)
     yield from messages(copy)

@@ -118,4 +118,4 @@ def file_limit(runner, folder, forms):
         yield f"solids of a file of 164,000,000 bytes, {name}", shell.run(["-c", script, runner.program]) == wanted
 
 
-TABLES = [file_limit, address_space, file_size, open_files]
+TABLES = [address_space, file_size, open_files]

@@ -2,10 +2,11 @@
 import re
 import subprocess
 
+from spawned import SECONDS
+
 ROW = re.compile(r"(?m)^\| `igesolid (.*?)` \| *(.*?) *\| (\d) \| .+ \|$")
 # The definitions whose words are printed: of a bad file, of a solid, of a certificate and of an extraction.
 PRINTED = re.compile(r'(?m)^(?:reason_word|rule_name|illegal_word|extract_word) .*= codes "(.*)"$')
-SECONDS = 60
 
 
 def printed_words(top):

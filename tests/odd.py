@@ -1,6 +1,5 @@
 """Odd files, odd outputs and descriptors that are closed, for each command."""
 import os
-import pathlib
 import shutil
 import signal
 import subprocess
@@ -11,7 +10,6 @@ from commands import SMALL, Runs
 from spawned import Runner
 
 BAD_FILE, UNREAD, UNWRITTEN, NO_MEMORY, TOO_LARGE = 3, 4, 5, 6, 8
-SECONDS = 60
 GROWTHS = 1_000
 NOBODY = 65_534
 # A command that holds its certificate gets that much of address space, in KB, where the certificate has no end.
@@ -59,14 +57,13 @@ def odd_files(runner, folder, forms):
 
 
 def endless(runner, folder, forms):
-    """/dev/zero in place of the file, of the certificate and of both: too large, in seconds; no memory where a command holds it."""
-    shell = Runner("/bin/sh", SECONDS)
-    timed = Runner(runner.program, SECONDS)
+    """/dev/zero in place of the file, of the certificate and of both: too large; no memory where a command holds it."""
+    shell = Runner("/bin/sh")
     too_large = TOO_LARGE, b"", b""
     for run in runs_of(runner, folder, forms):
         if run.file is None:
             continue
-        yield f"{run.name}, /dev/zero as FILE", timed.run(placed(run, file="/dev/zero")) == too_large
+        yield f"{run.name}, /dev/zero as FILE", runner.run(placed(run, file="/dev/zero")) == too_large
         if run.certificate is None:
             continue
         words = placed(run, certificate="/dev/zero")
@@ -74,9 +71,9 @@ def endless(runner, folder, forms):
             got = shell.run(["-c", 'ulimit -v "$0" && exec "$@"', str(ROOM), runner.program, *words])
             yield f"{run.name}, /dev/zero as CERT and {ROOM} KB", got == (NO_MEMORY, b"", b"")
         else:
-            yield f"{run.name}, /dev/zero as CERT", timed.run(words) == too_large
-        yield f"{run.name}, a bad file and /dev/zero as CERT", timed.run(placed(run, "/dev/null", "/dev/zero")) == MISSING
-        yield f"{run.name}, /dev/zero as both", timed.run(placed(run, "/dev/zero", "/dev/zero")) == too_large
+            yield f"{run.name}, /dev/zero as CERT", runner.run(words) == too_large
+        yield f"{run.name}, a bad file and /dev/zero as CERT", runner.run(placed(run, "/dev/null", "/dev/zero")) == MISSING
+        yield f"{run.name}, /dev/zero as both", runner.run(placed(run, "/dev/zero", "/dev/zero")) == too_large
 
 
 def fed(path, text):
@@ -109,7 +106,7 @@ def fifos(runner, folder, forms):
                 thread.join()
 
 
-def unreadable(runner, folder, forms):
+def unreadable(runner, folder, forms, skipped):
     """A file and a certificate that the user may not read."""
     program = shutil.copy(runner.program, folder / "program")
     folder.chmod(0o755)
@@ -120,7 +117,7 @@ def unreadable(runner, folder, forms):
     try:
         subprocess.run([program], capture_output=True, **user)
     except PermissionError:
-        print("skipped: files that may not be read, since the temporary folder is one that others don't see")
+        skipped("files that may not be read, since the temporary folder is one that others don't see")
         return
     for run in runs_of(runner, folder, forms):
         for name, path in (("file", run.file), ("certificate", run.certificate)):
@@ -196,4 +193,10 @@ def ended_pipe(runner, folder, forms):
             yield f"{run.name}, into a pipe whose reader has ended", (done.returncode, done.stderr) == (UNWRITTEN, b"")
 
 
-TABLES = [odd_files, endless, fifos, unreadable, growing, odd_outputs, closed, ended_pipe]
+TABLES = [odd_files, fifos, growing, odd_outputs, closed, ended_pipe]
+
+
+def checks(runner, new_folder, forms, skipped):
+    for table in TABLES:
+        yield from table(runner, new_folder(), forms)
+    yield from unreadable(runner, new_folder(), forms, skipped)

@@ -5,10 +5,14 @@ import shutil
 import subprocess
 
 import clone
+import command_table
 
 INSTALLED = (
-    "bin/igesolid", "lib/igesolid/igesolid", "lib/igesolid/igesolid-where", "lib/igesolid/BUILT", "share/man/man1/igesolid.1",
-    "lib/igesolid/companion/page", "lib/igesolid/companion/marks", "lib/igesolid/companion/pictures/page.html", "lib/igesolid/companion/pictures/iges.py",
+    "bin/igesolid", "lib/igesolid/BUILT", "lib/igesolid/commands.tsv", "lib/igesolid/launcher/causes.sh", "share/man/man1/igesolid.1",
+    "share/bash-completion/completions/igesolid", "share/zsh/site-functions/_igesolid", "share/fish/vendor_completions.d/igesolid.fish",
+    *(f"lib/igesolid/{name}" for name in command_table.programs()),
+    *(f"lib/igesolid/companion/{row.words.split()[0]}" for row in command_table.of_kind("python")),
+    "lib/igesolid/companion/pictures/page.html", "lib/igesolid/companion/pictures/iges.py",
 )  # fmt: skip
 PAGES = (
     *(f"docs/{name}.md" for name in ("THEOREM", "PROOFS", "COMMANDS", "FORMAT", "CERTIFICATE")),
@@ -46,6 +50,13 @@ def installs(copy):
     yield "install: --built", copy.run(prefix / "bin" / "igesolid", "--built")[0] == 125
     status, text, _ = copy.run(prefix / "bin" / "igesolid", "--help")
     yield "install: --help names the pages", status == 0 and f"Documentation: {prefix}/share/doc/igesolid\n" in text.decode()
+    where = prefix / "lib" / "igesolid" / "igesolid-where"
+    where.rename(prefix / "elsewhere")
+    cube = copy.top / "examples" / "cube.igs"
+    status, _, error = copy.run(prefix / "bin" / "igesolid", "where", cube)
+    yield "install: a missing program is named", status == 125 and "/igesolid-where is missing or not executable: install igesolid again" in error
+    yield "install: the other one runs", copy.run(prefix / "bin" / "igesolid", "solids", cube) == (0, b"1\n", "")
+    (prefix / "elsewhere").rename(where)
     yield "install: a second time", copy.run("./install", prefix)[0] == 0 and files_in(prefix) == found
     kept = prefix / "share" / "doc" / "igesolid" / "notes"
     kept.write_text("of somebody else\n")
@@ -92,10 +103,93 @@ def packages(copy, skipped):
         copy.run("dpkg", f"--root={root}", "--force-script-chrootless", "--purge", "igesolid")
         yield "package: removed", not (root / "usr").exists() or files_in(root / "usr") == []
     shutil.rmtree(root)
+    yield from reproduced(copy, skipped)
     if shutil.which("lintian") is None:
         skipped("the Debian package's look by lintian, which isn't installed")
     else:
-        yield "package: lintian", copy.run("lintian", "--allow-root", "--fail-on", "error", package)[0] == 0
+        yield "package: lintian", copy.run("lintian", "--allow-root", "--fail-on", "error,warning", package)[0] == 0
+
+
+def reproduced(copy, skipped):
+    """Two clones of a commit make the same bytes, at different times, with different rights; so do files with other dates."""
+    if shutil.which("git", path=clone.PLAIN_PATH) is None:
+        skipped("packages of one commit: git isn't installed")
+        return
+    copy.run("git", "init", "--quiet")
+    copy.run("git", "add", "--all")
+    own = "-c", "user.name=tests", "-c", "user.email=tests@localhost"
+    copy.run("git", *own, "commit", "--quiet", "--message=all", GIT_COMMITTER_DATE="1700000000 +0000")
+    other = copy.folder / "another clone"
+    copy.run("git", "clone", "--quiet", copy.top, other, limit=lambda: os.umask(0o077))
+    packages = []
+    for top in (copy.top, other):
+        (top / "made").mkdir()
+        environment = copy.environment()
+        environment.pop("SOURCE_DATE_EPOCH", None)
+        done = subprocess.run([top / "packaging" / "deb", top / "made"], stdout=subprocess.PIPE, env=environment, timeout=clone.SECONDS)
+        packages.append(open(done.stdout.decode().strip(), "rb").read())
+    yield "package: the same bytes of one commit", packages[0] == packages[1]
+    shutil.rmtree(other)
+    shutil.rmtree(copy.top / "made")
+    shutil.rmtree(copy.top / ".git")
+
+
+# A line to complete, without its first word, and what is offered for its last word: all of it, or one of many.
+COMPLETED = (
+    (("certi",), {"certify"}),
+    (("verify", "examples/two_solids.i"), {"examples/two_solids.igs"}),
+    (("certify", "examples/two_solids.igs", ""), {"1", "11", "all"}),
+    (("where", "examples/two_solids.igs", "1", ""), {"all"}),
+    (("--vers",), {"--version"}),
+)
+BY_BASH = """. "$1"; shift
+COMP_WORDS=(igesolid "$@"); COMP_CWORD=$#
+_igesolid
+printf '%s\\n' "${COMPREPLY[@]}"
+"""
+BY_ZSH = """source_file=$1; shift
+_describe() { print -l ${commands%%:*} }
+_files() { print -l -- $words[CURRENT]*(N) }
+compadd() { shift; print -l -- $* }
+words=(igesolid "$@"); CURRENT=$#words
+complete_words() { . $source_file }
+complete_words
+"""
+
+
+def completed(copy, shell, script, words):
+    """What the completion of a shell offers for the last of these words; where it offers all words, those that begin so."""
+    folder = copy.folder / "path"
+    if shell == "fish":
+        line = " ".join(["igesolid", *words])
+        status, text, error = copy.run("fish", "-c", f"source '{script}'; complete -C '{line}'", PATH=f"{folder}:{clone.PLAIN_PATH}", HOME=folder)
+    else:
+        options = ["-f"] if shell == "zsh" else ["--norc"]
+        text_of = {"bash": BY_BASH, "zsh": BY_ZSH}[shell]
+        status, text, error = copy.run(shell, *options, "-c", text_of, shell, script, *words, PATH=f"{folder}:{clone.PLAIN_PATH}")
+    offered = {line.split("\t")[0] for line in text.decode().splitlines()}
+    return {it for it in offered if it.startswith(words[-1])}, error
+
+
+def completions(copy, skipped):
+    """What each shell offers: commands, files and the numbers of a file's solids."""
+    (copy.folder / "path").mkdir()
+    (copy.folder / "path" / "igesolid").symlink_to(copy.top / "igesolid")
+    for shell in ("bash", "zsh", "fish"):
+        status, text, error = copy.run("packaging/completions", shell)
+        yield f"completion: {shell}", (status, error) == (0, "")
+        if shutil.which(shell, path=clone.PLAIN_PATH) is None:
+            skipped(f"the completion of {shell}, which isn't installed")
+            continue
+        script = copy.folder / "completion"
+        script.write_bytes(text)
+        for words, wanted in COMPLETED:
+            yield f"completion: {shell}: {words}", completed(copy, shell, script, words) == (wanted, "")
+        for row in command_table.of_kind("command", "python"):
+            command = row.words.split()[0]
+            yield f"completion: {shell}: {command}", command in completed(copy, shell, script, (command,))[0]
+    yield "completion: of no shell", copy.run("packaging/completions", "csh")[0] == 2
+    shutil.rmtree(copy.folder / "path")
 
 
 def pages(copy, skipped):

@@ -6,12 +6,12 @@ import re
 import subprocess
 
 from no_examples import printed_words
+from spawned import SECONDS
 from theorem import defines
 
 PAGES = "README.md", "examples/README.md", "examples/no/README.md"
 COMMANDS = "README.md", "docs/COMMANDS.md"
 RULE = re.compile(r'(?m)^rule_name .*= codes "(.*)"$')
-SECONDS = 120
 # The indexes: a row has the rule, definitions, functions and examples.
 INDEXED = "docs/FORMAT.md", "docs/CERTIFICATE.md"
 INDEX = re.compile(r"(?m)^\| Rule \| Definition \| Function \| .*\n\|[-|]+\n((?:\|.*\n?)+)")
@@ -26,8 +26,9 @@ FEWEST_CHANGES = 25
 # A crate with its edits in the table of wrong bodies in docs/DECISIONS.md.
 PLANTED = re.compile(r"`(\w+)`: ([^;|]+)")
 MOST_EDITS = 120
-# What stands for the launcher: it runs the program, or that which tells where solids fail.
+# What stands for the launcher: it runs the program, or that which tells where solids fail, or the command that asks both.
 LAUNCHED = """#!/bin/sh
+[ "$1" != check ] || {{ shift; exec python3 -B '{top}/companion/check' --program '{program}' --where-program '{where}' "$@"; }}
 [ "$1" != where ] || {{ shift; exec '{where}' "$@"; }}
 exec '{program}' "$@"
 """
@@ -57,7 +58,7 @@ def examples(folder, top):
 
 def script_by_status(folder, top):
     """The script of README, of a file that is closed, of two that aren't, of one that is no file, and of none."""
-    script = re.search(r"(?s)```sh\n(.*?)```", (top / "README.md").read_text())[1]
+    script = re.search(r"(?s)```sh\n(igesolid .*?)```", (top / "README.md").read_text())[1]
     part, certificate = folder / "part.igs", folder / "part.cert"
     for example, text in (
         ("two_solids.igs", ""),
@@ -156,7 +157,7 @@ def links(top):
 
 def checks(folder, top, program, where, forms):
     (folder / "examples").symlink_to(top / "examples")
-    (folder / "igesolid").write_text(LAUNCHED.format(program=program, where=where))
+    (folder / "igesolid").write_text(LAUNCHED.format(top=top, program=program, where=where))
     (folder / "igesolid").chmod(0o755)
     yield from tables(top, forms)
     yield from examples(folder, top)

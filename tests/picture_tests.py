@@ -1,6 +1,6 @@
 """`page` and `marks`: the text of `igesolid-where` is read by its grammar, curves are where they should be, a page holds no markup of the
-file, and marks are a file. Many runs are on texts in tests/recorded, which a program that is played prints; others on files made at random,
-by the texts of `igesolid-where` or, if that isn't built, of the second checker."""
+file, and marks are a file. Many checks are on texts in tests/recorded, which `igesolid-where` prints still; others on files made at random.
+"""
 import json
 import math
 import pathlib
@@ -15,21 +15,13 @@ sys.path.insert(0, str(TOP / "companion"))
 from pictures import answers, hints, iges, overlay, page, scene, solids  # noqa: E402
 from pictures.curves import Curves  # noqa: E402
 from sample_file import text_of  # noqa: E402
-from second_checker import where as second  # noqa: E402
+from spawned import SECONDS  # noqa: E402
 from surfaces import surface_text  # noqa: E402
 
-SECONDS = 60
-# It prints what was recorded for the file of this name and the number.
-PLAYED = """#!/bin/sh
-[ $# -gt 0 ] || { echo 'usage: igesolid-where ..'; exit 2; }
-[ -f "$1" ] || exit 4
-told=%s/$(basename "$1" .igs).$2.txt
-[ -f "$told" ] || exit 2
-cat "$told"
-case $(cat "$told") in
-closed*) exit 0 ;;
-bad*) exit 3 ;;
-esac
+# A program whose text has a line that isn't one of igesolid-where.
+ODD = """#!/bin/sh
+echo 'fail PAIR 1 1'
+echo 'a line of another shape'
 exit 1
 """
 # The hints of each recorded text, those that it tells too.
@@ -284,43 +276,31 @@ def random_geometry():
     yield "pictures: geometry changed at random", held == count > 0
 
 
-def played_program(folder):
-    """The path of a program that prints the recorded texts."""
-    program = folder / "igesolid-where"
-    program.write_text(PLAYED % RECORDED)
-    program.chmod(0o755)
-    return program
+def run_command(command, program, *words, **how):
+    """What `page` or `marks` gives of a program's text: the status, standard output and standard error."""
+    how = {"stdin": subprocess.DEVNULL, "stdout": subprocess.PIPE, "stderr": subprocess.PIPE, "timeout": SECONDS, **how}
+    done = subprocess.run([TOP / "companion" / command, "--program", program, *words], **how)
+    return done.returncode, done.stdout, done.stderr.decode()
 
 
-class Played:
-    """The commands, with a program that prints the recorded texts."""
-
-    def __init__(self, folder):
-        self.folder, self.program = folder, played_program(folder)
-
-    def run(self, command, *words, **how):
-        how = {"stdin": subprocess.DEVNULL, "stdout": subprocess.PIPE, "stderr": subprocess.PIPE, "timeout": SECONDS, **how}
-        done = subprocess.run([TOP / "companion" / command, "--program", self.program, *words], **how)
-        return done.returncode, done.stdout, done.stderr.decode()
-
-
-def commands(folder):
+def commands(folder, where):
     """The statuses and what is said."""
-    played, pinched = Played(folder), example("77_pinched_edge")
+    pinched = example("77_pinched_edge")
     for command in ("page", "marks"):
         for name, number, status in (("cube", 1, 0), ("77_pinched_edge", 3, 1), ("bad_length", 1, 3)):
-            told = played.run(command, example(name), str(number))
+            told = run_command(command, where, example(name), str(number))
             yield f"{command} of {name}", told[0] == status and (command == "marks" or told[2] == "")
-        yield f"{command} of a file that isn't there", played.run(command, "none.igs", "1") == (4, b"", "")
-        yield f"{command} without a number", played.run(command, pinched)[:2] == (2, b"")
-        yield f"{command} of a number that is none", played.run(command, pinched, "x")[:2] == (2, b"")
+        yield f"{command} of a file that isn't there", run_command(command, where, "none.igs", "1") == (4, b"", "")
+        yield f"{command} without a number", run_command(command, where, pinched)[:2] == (2, b"")
+        yield f"{command} of a number that is none", run_command(command, where, pinched, "x")[:2] == (2, b"")
         with open("/dev/full", "wb") as full:
-            yield f"{command} to a full disk", played.run(command, pinched, "3", stdout=full)[0] == 5
-    told = played.run("marks", example("bad_length"), "1")
+            yield f"{command} to a full disk", run_command(command, where, pinched, "3", stdout=full)[0] == 5
+    told = run_command("marks", where, example("bad_length"), "1")
     yield "marks of a bad file", told == (3, b"", "igesolid: bad_length.igs: bad file line 2 length, so nothing is marked\n")
-    (folder / "strange").mkdir()
-    played.program.write_text("#!/bin/sh\necho 'fail PAIR 1 1'\necho 'a line of another shape'\nexit 1\n")
-    status, text, said = played.run("page", pinched, "3")
+    odd = folder / "odd"
+    odd.write_text(ODD)
+    odd.chmod(0o755)
+    status, text, said = run_command("page", odd, pinched, "3")
     yield "page of a text that isn't understood", (status, text) == (125, b"") and "isn't understood: a line of another shape" in said
 
 
@@ -367,12 +347,9 @@ def overlays(program):
 
 
 def told_by(where, file, number):
-    """What the program tells with all faults, or the second checker if it isn't built."""
-    if where.exists():
-        done = subprocess.run([where, file, str(number), "all"], capture_output=True, timeout=SECONDS)
-        return done.returncode, done.stdout.decode("utf-8", "replace")
-    status, text = second.answer([str(number), "all"], file.read_bytes())
-    return status, text.decode("utf-8", "replace")
+    """What igesolid-where tells with all faults."""
+    done = subprocess.run([where, file, str(number), "all"], capture_output=True, timeout=SECONDS)
+    return done.returncode, done.stdout.decode("utf-8", "replace")
 
 
 def recorded_anew(where):
@@ -414,25 +391,11 @@ def of_program(folder, program, where):
             yield f"pictures: {path.name} {number}", status in (0, 1, 3) and counts and drawn and is_read and (solid is None) == (told["picture"] is None)
 
 
-def checks(folder, program, where, skipped):
-    room = folder / "pictures"
-    room.mkdir()
+def checks(folder, program, where):
     for run in (grammar, causes, curves, moved, values, pages, scenes, random_geometry):
         yield from run()
-    yield from commands(room)
+    yield from commands(folder, where)
     yield from marks(program)
     yield from overlays(program)
-    if not where.exists():
-        skipped("pictures by igesolid-where, which isn't built: the second checker stands for it")
-    second.sentences((TOP / "docs" / "WHERE.md").read_text())
     yield from recorded_anew(where)
-    yield from of_program(room, program, where)
-
-
-if __name__ == "__main__":
-    import tempfile
-
-    with tempfile.TemporaryDirectory() as made_folder:
-        found = list(checks(pathlib.Path(made_folder), *(pathlib.Path(it).resolve() for it in sys.argv[1:3]), print))
-    print(*(name for name, held in found if not held), sep="\n")
-    print(f"{sum(bool(held) for _, held in found)} of {len(found)}")
+    yield from of_program(folder, program, where)

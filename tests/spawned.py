@@ -2,8 +2,9 @@
 import os
 import select
 
+# After so many seconds a run counts as one that has no end: far more than any takes, on a busy machine too.
+SECONDS = 600
 DEVNULL = os.open(os.devnull, os.O_RDONLY | os.O_CLOEXEC)
-LONGEST = 1 << 30
 
 
 class Runner:
@@ -12,8 +13,8 @@ class Runner:
     `seconds` is how long a run may take; then it is ended, and its status is None.
     """
 
-    def __init__(self, program, seconds=60):
-        self.program, self.seconds = os.fspath(program), seconds
+    def __init__(self, program, seconds=SECONDS):
+        self.program, self.seconds, self.environment = os.fspath(program), seconds, dict(os.environ)
         self.kept = [os.memfd_create(name, os.MFD_CLOEXEC) for name in ("output", "error")]
 
     def close(self):
@@ -31,10 +32,10 @@ class Runner:
         standard = DEVNULL, self.kept[0] if output is None else output, self.kept[1]
         actions = [(os.POSIX_SPAWN_DUP2, descriptor, number) for number, descriptor in enumerate(standard)]
         actions += [(os.POSIX_SPAWN_DUP2, descriptor, number) for descriptor, number in more]
-        environment = os.environ if environment is None else environment
+        environment = self.environment if environment is None else environment
         process = os.posix_spawn(self.program, [self.program, *words], environment, file_actions=actions)
         status = self.status_of(process)
-        return (status, *(os.pread(descriptor, LONGEST, 0) for descriptor in self.kept))
+        return (status, *(os.pread(descriptor, os.fstat(descriptor).st_size, 0) for descriptor in self.kept))
 
     def status_of(self, process):
         handle = os.pidfd_open(process)

@@ -47,10 +47,11 @@ def sources_of(top):
 
 
 def names(top):
-    """Each name that a page tells is one of a crate or of a folder of tests, or occurs in the sources of a crate or its lemmas."""
+    """Each name that a page tells is one of a crate or of a folder of tests, or occurs in the sources or lemmas of a crate or of the Python package."""
     known = {path.name for folder in ("crates", "tests") for path in top.glob(f"{folder}/*")} | {"itoa", "indexmap"}
     lemmas = (path.read_text() for path in sorted(top.glob("crates/*/proofs/*.antt")))
-    known.update(word for source in (*sources_of(top).values(), *lemmas) for word in re.findall(r"\w+", source))
+    package = (path.read_text() for path in sorted(top.glob("python/**/*.py")))
+    known.update(word for source in (*sources_of(top).values(), *lemmas, *package) for word in re.findall(r"\w+", source))
     for page in NAMING:
         text = re.sub(r"(?s)```.*?```", "", (top / page).read_text())
         for name in sorted({part for parts in NAME.findall(text) for part in parts if part}):

@@ -7,7 +7,9 @@ import pathlib
 import random
 import re
 import sys
+import tempfile
 
+import programs
 from changes import changed_file
 from second_checker import answer, where
 from second_checker.answering import file_of
@@ -15,9 +17,8 @@ from spawned import Runner
 from surfaces import surface_text
 
 TOP = pathlib.Path(__file__).resolve().parent.parent
-PROGRAM = TOP / "crates" / "igesolid_where" / "out" / "igesolid_where"
 PAGE = TOP / "docs" / "WHERE.md"
-LARGEST, RANDOM_CASES = 60_000, 400
+LARGEST, RANDOM_CASES, MORE_CASES = 60_000, 200, 200
 USAGE = b"usage: igesolid-where FILE [N [all]]\n"
 
 N = r"(?:0|[1-9][0-9]*)"
@@ -127,9 +128,9 @@ def files():
             yield path.name, path.read_bytes()
 
 
-def random_files(count, seed):
+def random_files(cases, seed):
     kept = [data for _, data in files() if data]
-    for case in range(count):
+    for case in cases:
         rng = random.Random(f"where {seed} {case}")
         data = surface_text(rng) if rng.random() < 0.5 else rng.choice(kept)
         yield f"case {case} of seed {seed}", data if rng.random() < 0.3 else changed_file(rng, data)
@@ -142,28 +143,37 @@ def words_checks(runner, file):
     yield "where of no file", runner.run([f"{file}.none", "1"]) == (4, b"", b"")
 
 
-def checks(folder, program=PROGRAM, certifier=TOP / "crates" / "igesolid" / "out" / "igesolid", count=RANDOM_CASES, seed=1):
-    """Names of checks, and whether each holds."""
-    wheres = Wheres(folder, program, certifier)
-    for name, data in [*files(), *random_files(count, seed)]:
+def random_checks(wheres, cases, seed=1):
+    for name, data in random_files(cases, seed):
         yield from wheres.checks(name, data)
+
+
+def checks(folder, certifier, program):
+    wheres = Wheres(folder, program, certifier)
+    for name, data in files():
+        yield from wheres.checks(name, data)
+    yield from random_checks(wheres, range(RANDOM_CASES))
     yield from words_checks(wheres.runner, wheres.file)
 
 
+def more_checks(folder, certifier, program):
+    """Further cases."""
+    return random_checks(Wheres(folder, program, certifier), range(RANDOM_CASES, RANDOM_CASES + MORE_CASES))
+
+
 def main():
-    parser = argparse.ArgumentParser(description=__doc__.split("\n", maxsplit=1)[0])
-    parser.add_argument("--count", type=int, default=RANDOM_CASES)
+    parser = argparse.ArgumentParser(description="Runs random cases alone: case I of seed S is always the same.")
+    parser.add_argument("--count", type=int, default=RANDOM_CASES + MORE_CASES)
     parser.add_argument("--seed", type=int, default=1)
-    parser.add_argument("--program", type=pathlib.Path, default=PROGRAM)
-    parser.add_argument("--certifier", type=pathlib.Path, default=TOP / "crates" / "igesolid" / "out" / "igesolid")
     options = parser.parse_args()
-    folder = TOP / "bench" / "out"
-    folder.mkdir(exist_ok=True)
     passed = failed = 0
-    for name, held in checks(folder, options.program, options.certifier, options.count, options.seed):
-        passed, failed = passed + bool(held), failed + (not held)
-        if not held:
-            print(name)
+    with tempfile.TemporaryDirectory(prefix="igesolid-where-") as folder:
+        chosen = programs.chosen()
+        wheres = Wheres(pathlib.Path(folder), chosen.where, chosen.igesolid)
+        for name, held in random_checks(wheres, range(options.count), options.seed):
+            passed, failed = passed + bool(held), failed + (not held)
+            if not held:
+                print(name)
     print(f"{passed} passed, {failed} failed")
     return 1 if failed else 0
 

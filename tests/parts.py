@@ -1,0 +1,109 @@
+"""The parts of the tests, by name: what each tests, and its checks (see Part). A further part is a further line of PARTS."""
+import os
+
+import argument_tests
+import arrival_tests
+import browser_tests
+import certificate_tests
+import check_tests
+import compact_tests
+import examples
+import extract_tests
+import faults
+import fresh
+import fuzz
+import hostile
+import largest_tests
+import launcher
+import layers
+import limits
+import no_examples
+import odd
+import open_tests
+import orient_tests
+import packages
+import pages
+import picture_tests
+import protections
+import quoted
+import real_solids
+import rows
+import running_tests
+import sample_tests
+import theorem
+import trusted
+import where
+from part import BY_NAME, LARGE, Part
+from programs import FORMS, TOP
+
+
+def of_program(*functions):
+    """Checks of igesolid on texts."""
+    return lambda context: (check for function in functions for check in function(context.program()))
+
+
+def of_shells(module):
+    """Checks of surfaces made at random and of the examples."""
+    return lambda context: module.checks(context.program(), examples.named())
+
+
+def of_tables(*tables):
+    """Checks of every command on inputs that a table makes."""
+    return lambda context: (check for table in tables for check in table(context.runner(), context.new_folder(), FORMS))
+
+
+def of_rights(checks):
+    """The same, where a command or a right may be missing."""
+    return lambda context: checks(context.runner(), context.new_folder, FORMS, context.skipped)
+
+
+def of_both(checks):
+    """Checks of both programs."""
+    return lambda context: checks(context.new_folder(), *context.programs[:2])
+
+
+def of_pages(context):
+    yield from pages.checks(context.new_folder(), TOP, *context.programs[:2], FORMS)
+    yield from no_examples.checks(TOP, context.programs.igesolid)
+    for module in (quoted, theorem, trusted, layers):
+        yield from module.checks(TOP)
+
+
+PARTS = (
+    Part("rows", "worked rows (tests/rows), the certificates of the examples, and lines of a million numbers", of_program(rows.checks)),
+    Part("rows-judged", "the worked rows by the second checker", lambda context: rows.by_the_second_checker()),
+    Part("extract", "each solid of the examples, extracted", of_program(extract_tests.checks)),
+    Part("certificates", "certificates and books of the examples, verified and upgraded", of_program(certificate_tests.checks)),
+    Part("certificates-changed", "certificates and books changed at random, beside the second checker", of_program(certificate_tests.changes)),
+    Part("open", "open shells, made at random and of the examples, beside the second checker", of_shells(open_tests)),
+    Part("orient", "orientations, likewise", of_shells(orient_tests)),
+    Part("compact", "compact files, likewise", of_shells(compact_tests)),
+    Part("samples", "samples of 3, 100 and 200, and words that aren't UTF-8", of_program(sample_tests.checks, argument_tests.checks)),
+    Part("arrivals", "files and certificates that arrive in pieces", of_program(arrival_tests.checks)),
+    Part("uses", "solids of the most loop uses", of_program(largest_tests.uses)),
+    Part("where", "igesolid-where, beside the second checker", of_both(where.checks)),
+    Part("where-more", "200 more cases", of_both(where.more_checks), LARGE),
+    Part("pictures", "pages and marks", of_both(picture_tests.checks)),
+    Part("browser", "pages in headless Chromium", lambda context: browser_tests.checks(context.new_folder(), context.skipped), LARGE),
+    Part("pages", "README and docs: what they say of the programs, the sources and the examples", of_pages),
+    Part("launcher", "the launcher and dist/, in a copy of the repository", lambda context: launcher.checks(context.clone(), FORMS, context.skipped)),
+    Part("packages", "the installer and the Debian package, likewise", lambda context: packages.checks(context.clone(), context.skipped)),
+    Part("completion", "completion in bash, zsh and fish, likewise", lambda context: packages.completions(context.clone(), context.skipped)),
+    Part("check", "igesolid check, the Python package and the recipes of docs/MANY.md, likewise", lambda context: check_tests.checks(context.clone(), context.skipped)),
+    Part("clusters", "the recipe for Slurm and check --dask, on clusters of this machine", lambda context: check_tests.clusters(context.clone(), context.skipped), LARGE),
+    Part("testing", "tests/run itself, its choice of the programs, and that .ci/run has every part", lambda context: running_tests.checks(context, PARTS)),
+    Part("fresh", "README's first commands in a fresh clone, without the kit", fresh.checks, BY_NAME),
+    Part("cuts", "files cut at one byte in five, certificates at each, and files changed in one place", of_tables(*hostile.TABLES)),
+    Part("cuts-more", "files cut at the other bytes", of_tables(*hostile.MORE_TABLES), LARGE),
+    Part("faults", "each call of the C library failing in turn, on three small files", of_rights(faults.checks)),
+    Part("faults-more", "the same on two more", of_rights(faults.more_checks), LARGE),
+    Part("limits", "limits of the system", of_tables(*limits.TABLES)),
+    Part("odd", "odd files and outputs", of_rights(odd.checks)),
+    Part("endless", "files of 164 MB, and files without an end", of_tables(limits.file_limit, odd.endless), LARGE),
+    Part("certificates-held", "certificates of 537 MB for the commands that hold them", of_program(largest_tests.held_certificates), LARGE),
+    Part("certificates-passed", "the same for verify, which needs no memory for them", of_program(largest_tests.verified_certificates), LARGE),
+    Part("real-solids", "solids that Open CASCADE makes and reads back, by bench/real", real_solids.checks, LARGE),
+    Part("protections", "the protections of the program's headers", of_tables(*protections.TABLES)),
+    Part("fuzz", "2,000 inputs changed at random, beside the second checker and the baseline", lambda context: fuzz.checks(context, 2_000, 1, 1)),
+    Part("fuzz-more", "20,000 others", lambda context: fuzz.checks(context, 20_000, 2, len(os.sched_getaffinity(0))), LARGE),
+)
