@@ -3,12 +3,12 @@
 ghost use Rattle.brep_lists.specs.OwnValues.{RecordsAreDecided};
 ghost use Rattle.brep_lists.specs.Record.{FitsOnlyRead};
 
-/// A record has no other items than those that are in the places of its layout.
+/// A record has no other items than those that are in the places of its layout (own).
 pub fn items_are_one()
     ensures { FitsOnlyRead }
 {}
 
-/// Whether a record fits a kind of entity can be tested.
+/// Whether a record fits a kind of entity can be tested (own).
 pub fn records_are_decided()
     ensures { RecordsAreDecided }
 {}

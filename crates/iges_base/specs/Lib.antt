@@ -1,4 +1,3 @@
 pub mod Ended
 pub mod First
 pub mod InLine
-pub mod Word

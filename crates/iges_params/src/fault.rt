@@ -1,4 +1,4 @@
 use iges_lines::PassFault;
 
-/// Why a file was not read: a reason from 1 to 17, or that memory ran out.
+/// Why a file was not read: a reason from 1 to 17, or that memory ran out (own).
 pub type ReadFileFault = PassFault;

@@ -22,5 +22,3 @@ pub mod ValueSteps
 pub mod ListSteps
 pub mod FileSteps
 pub mod Emptied
-pub mod AllMarked
-pub mod AllUsed

@@ -2,12 +2,12 @@
 
 ghost use Rattle.shell_reach.specs.Laws.{OneReachOrder, SomeReachOrder};
 
-/// A shell has one list of rows that reaches all its faces breadth first: that of `reach`.
+/// A shell has one list of rows that reaches all its faces breadth first: that of `reach`. (own)
 pub fn one_reach_order()
     ensures { OneReachOrder }
 {}
 
-/// A shell with a face, whose edges are paired and whose faces are all reached, has such a list.
+/// A shell with a face, whose edges are paired and whose faces are all reached, has such a list. (own)
 pub fn some_reach_order()
     ensures { SomeReachOrder }
 {}
