@@ -5,11 +5,11 @@ use Rattle.brep_walk.proofs.lists.Lists.vertex_list.Goals as goal
 
 pub returns-in-Some-clause-list : goal.returns-in-Some-clause-list
 returns-in-Some-clause-list c =
-    kept_vertices _ _ c.self.view_is c.self.inside.edges c.self.inside.vertices c.self.invariant c.args.number _ (to_z-of_z w64 c.args.number c.ranges.number) c.in-Some.kept.now c.in-Some.ensures
+    kept_vertices _ _ c.self.view_is c.self.inside.edges c.self.inside.vertices c.self.invariant.0 c.args.number _ (to_z-of_z w64 c.args.number c.ranges.number) c.in-Some.kept.now c.in-Some.ensures
 
 pub returns-in-Some-clause-holds : goal.returns-in-Some-clause-holds
 returns-in-Some-clause-holds c =
-    (kept_vertices _ _ c.self.view_is c.self.inside.edges c.self.inside.vertices c.self.invariant c.args.number _ (to_z-of_z w64 c.args.number c.ranges.number) c.in-Some.kept.now c.in-Some.ensures).holds
+    (kept_vertices _ _ c.self.view_is c.self.inside.edges c.self.inside.vertices c.self.invariant.0 c.args.number _ (to_z-of_z w64 c.args.number c.ranges.number) c.in-Some.kept.now c.in-Some.ensures).holds
 
 pub invariant_of-self-2 : goal.invariant_of-self-2
 invariant_of-self-2 c =
