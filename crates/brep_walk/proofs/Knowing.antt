@@ -16,6 +16,7 @@ use Rattle.item_numbers.proofs.Pushed.{get_pushed}
 use Rattle.solid_data.specs.Obligations.{AllHold, FirstFalse, obligation, entry_number}
 use Rattle.solid_data.specs.declared.verdict.Failing.{Failing}
 use Rattle.solid_data.specs.declared.verdict.Rule.TheVariants.{BadLayout}
+use Rattle.solid_data.proofs.ObligationLemmas.{FirstFalse-append_front}
 use Rattle.brep_walk.specs.declared.fault.WalkFault.{WalkFault}
 use Rattle.brep_walk.specs.declared.fault.WalkFault.TheVariants as faults
 use Rattle.brep_walk.specs.declared.marks.Mark.{Mark}
@@ -25,7 +26,7 @@ use Rattle.brep_walk.specs.Marked.{mark_of}
 use Rattle.brep_walk.specs.Known.{uses_places, HasItsRecord, LacksItsRecord, Says, AreKnown}
 use Rattle.brep_walk.specs.Places.{told, Names, NamesKind, HasRecordOf, entry_places, record_places}
 use Rattle.brep_walk.specs.Walked.{IsFault}
-use Rattle.brep_walk.proofs.Faults.{fault_rest, handed}
+use Rattle.brep_walk.proofs.Faults.{fault_rest, handed, handed_failing}
 use Rattle.brep_walk.proofs.Opened.{record_of, no_record, named_few}
 
 -- An entry is of one kind.
@@ -101,6 +102,12 @@ found_failed f g file ms failed all z y at x h =
     subst (λ h. FirstFalse (uses_places h z) x.1) file (subst (λ w. FirstFalse (uses_places f w) x.1) (sym h.0 ∙ at) (all.fails h.1.0 x h.1.1))
 
 -- The record that a number names. y is the number as a callee was given it.
+
+pub entry_fails : (kind : EntityKind) (f : Contents) (entity : ℤ) (place : ℕ) (z y : ℤ) → y ≡ z → {T : Type 0} (r : Result T WalkFault) (x : Failing) → FirstFalse (entry_places f entity place kind y) x
+    → IsErrAnd r (λ e. e ≡ faults.Fails x) → IfErr r (IsFault (record_places f entity place kind z))
+entry_fails kind f entity place z y same r x h = handed_failing (record_places f entity place kind z) r x (subst (λ w. FirstFalse (record_places f entity place kind w) x) same
+    (FirstFalse-append_front (entry_places f entity place kind y) (obligation BadLayout (entry_number y) 0 (HasRecordOf kind f y) ∷ []) x h))
+
 module _ (kind : EntityKind) (f : Contents) (entity : ℤ) (place : ℕ) (z y : ℤ) (same : y ≡ z) (n : ℕ) (is : y ≡ pos n) (here : AllHold (entry_places f entity place kind y)) where
   pub of_kind : NamesKind kind f (pos n)
   of_kind = subst (NamesKind kind f) is here.1.0
