@@ -41,8 +41,8 @@ returns-in_err-made-clause-fault c =
     (subst (λ g. IsFault (tuple_at g (pos c.args.no.0) (c.tuples.item + 1) c.in-Some.tuple) c.in_err-made.field-0.0) i.stands.file c.in_err-made.ensures.fault)))
     c.from_residual.ensures.1
 
-pub walk_tuple-made-requires-clause-known : goal.walk_tuple-made-requires-clause-known
-walk_tuple-made-requires-clause-known c is_known =
+pub walk_tuple-requires-clause-known : goal.walk_tuple-requires-clause-known
+walk_tuple-requires-clause-known c is_known =
     let i = c.tuples.invariant in
     let place : c.tuples.item + 1 ≡ length c.tuples.yielded + 1 = ap (λ n. n + 1) i.count in
     subst (λ g. AllHold (tuple_at g (pos c.args.no.0) (c.tuples.item + 1) c.in-Some.tuple)) (sym i.stands.file)
