@@ -12,7 +12,7 @@ use Rattle.iges_params.specs.Named.{named, record_values, values_of}
 use Rattle.brep_lists.proofs.KindTypes.{kind_known}
 use Rattle.brep_lists.specs.Record.{Items, HasForm, items_of, kind_of_type, type_number, Fits, IsRecordOf}
 use Rattle.brep_lists.specs.declared.entity_kind.EntityKind.{EntityKind}
-use Rattle.item_numbers.proofs.Pushed.{get_pushed}
+use Rattle.brep_numbering.proofs.Pushed.{get_pushed}
 use Rattle.solid_data.specs.Obligations.{AllHold, FirstFalse, obligation, entry_number}
 use Rattle.solid_data.specs.declared.verdict.Failing.{Failing}
 use Rattle.solid_data.specs.declared.verdict.Rule.TheVariants.{BadLayout}
