@@ -87,7 +87,7 @@ PARTS = (
     Part("browser", "pages in headless Chromium", lambda context: browser_tests.checks(context.new_folder(), context.skipped), LARGE),
     Part("pages", "README and docs: what they say of the programs, the sources and the examples", of_pages),
     Part("launcher", "the launcher and dist/, in a copy of the repository", lambda context: launcher.checks(context.clone(), FORMS, context.skipped)),
-    Part("packages", "the installer and the Debian package, likewise", lambda context: packages.checks(context.clone(), context.skipped)),
+    Part("packages", "the installer and the Debian package, likewise", lambda context: packages.checks(context.clone(), context.skipped), LARGE),
     Part("completion", "completion in bash, zsh and fish, likewise", lambda context: packages.completions(context.clone(), context.skipped)),
     Part("check", "igesolid check, the Python package and the recipes of docs/MANY.md, likewise", lambda context: check_tests.checks(context.clone(), context.skipped)),
     Part("clusters", "the recipe for Slurm and check --dask, on clusters of this machine", lambda context: check_tests.clusters(context.clone(), context.skipped), LARGE),
