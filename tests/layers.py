@@ -1,11 +1,25 @@
 #!/usr/bin/env python3
-"""docs/ARCHITECTURE.md against crates.txt: each crate has one row, and depends on no crate that the row says it must not know."""
+"""crates.txt against docs/ARCHITECTURE.md, the sources and the limits.
+
+Each crate has one row in docs/ARCHITECTURE.md, and depends on no crate that the row says it must not know. crates.txt lists each
+crate below what it depends on, and nothing that the crate doesn't name. No chain of crates is longer than `CHAIN` crates, and no
+crate has more than `LINES` lines or `FUNCTIONS` functions, contracts included; tests, and the programs, which are `main` alone,
+aren't counted.
+"""
+import functools
 import pathlib
 import re
 import sys
 
 CRATE = re.compile(r"(?m)^(\w+): (.*)$")
 ROW = re.compile(r"(?m)^\| `(\w+)` \| .*\|(.*)\|$")
+NAMED = re.compile(r"\bRattle\.(\w+)|(?<![\w:.])(\w+)::")
+FUNCTION = re.compile(r"(?m)^ *(?:pub(?:\(\w+\))? )?(?:const )?fn \w+")
+CHAIN, LINES, FUNCTIONS = 8, 1500, 100
+# The longer chain: its text goes through record_paths and where_records, which say in which face a record fails. See docs/DECISIONS.md.
+LONGER = {"where_command": 9}
+# Still larger than the limits: a checker and a maker together, or all faults of a shell together. These are to be parted.
+LARGER = {"topo_certificate", "open_shells", "face_orient", "solid_faults"}
 
 
 def below(crates, crate):
@@ -18,13 +32,60 @@ def below(crates, crate):
     return found
 
 
-def checks(top):
-    crates = {name: needs.split() for name, needs in CRATE.findall((top / "crates.txt").read_text())}
-    rows = ROW.findall((top / "docs" / "ARCHITECTURE.md").read_text())
+def chain_length(crates, crate):
+    """How many crates the longest chain has that ends in this one."""
+
+    @functools.cache
+    def length(name):
+        return 1 + max((length(other) for other in crates[name] if other in crates), default=0)
+
+    return length(crate)
+
+
+def sources(top, crate):
+    """The code of a crate, and its code, definitions and proofs."""
+    code = "".join(path.read_text() for path in sorted((top / "crates" / crate / "src").rglob("*.rt")))
+    rest = [path.read_text() for part in ("specs", "proofs") for path in sorted((top / "crates" / crate / part).rglob("*.antt"))]
+    return code, "\n".join([code, *rest])
+
+
+def rows_checks(crates, page):
+    rows = ROW.findall(page)
     yield "docs/ARCHITECTURE.md: a row for each crate", sorted(name for name, _ in rows) == sorted(crates)
     for name, others in rows:
         for other in re.findall(r"`(\w+)`", others):
             yield f"docs/ARCHITECTURE.md: {name} doesn't know {other}", other in crates and other not in below(crates, name)
+
+
+def needs_checks(top, crates):
+    listed = list(crates)
+    for at, (name, needs) in enumerate(crates.items()):
+        named = {crate or call for crate, call in NAMED.findall(sources(top, name)[1])}
+        for other in needs:
+            yield f"crates.txt: {name} names {other}", other in named
+            yield f"crates.txt: {other} comes before {name}", other not in crates or other in listed[:at]
+
+
+def limits_checks(top, crates, tests):
+    for name in crates:
+        if name in tests or (top / "crates" / name / "src" / "main.rt").exists():
+            continue
+        code, _ = sources(top, name)
+        length, most = chain_length(crates, name), LONGER.get(name, CHAIN)
+        yield f"crates.txt: the chain to {name} has {length} crates; {most} at most", length <= most
+        lines, functions = len(code.splitlines()), len(FUNCTION.findall(code))
+        fits = lines <= LINES and functions <= FUNCTIONS
+        yield f"crates/{name}: {lines} lines and {functions} functions; {LINES} and {FUNCTIONS} at most", fits or name in LARGER
+        yield f"tests/layers.py: {name} is no longer larger than the limits", not (fits and name in LARGER)
+
+
+def checks(top):
+    text = (top / "crates.txt").read_text()
+    crates = {name: needs.split() for name, needs in CRATE.findall(text)}
+    tests = {name for name, _ in CRATE.findall(text.split("# tests: ")[-1])}
+    yield from rows_checks(crates, (top / "docs" / "ARCHITECTURE.md").read_text())
+    yield from needs_checks(top, crates)
+    yield from limits_checks(top, crates, tests)
 
 
 def main():

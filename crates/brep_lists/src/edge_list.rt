@@ -1,10 +1,10 @@
 //! A list of edges.
 
 ghost use Rattle.std.specs.Prelude.{◌≡◌, IfSome, IfNone, length, slice_get};
-ghost use Rattle.brep_lists.specs.Record.{Fits, Items, items_of};
+ghost use Rattle.brep_lists.specs.Record.{Fits, Items, IsRecordOf, items_of};
 ghost use Rattle.brep_lists.specs.declared.entity_kind.EntityKind.TheVariants.{EdgeList as edges};
 
-use crate::groups::{Slot, counted, int_at};
+use crate::groups::{Slot, counted, int_at, known_count};
 use iges_fields::Values;
 use std::marker::Model;
 
@@ -62,6 +62,17 @@ impl<'a> EdgeList<'a> {
             return None;
         };
         Some(EdgeList { values, count })
+    }
+
+    /// The list that a record that fits describes. Only the count is read.
+    pub fn fitting(values: &'a Values) -> EdgeList<'a>
+        requires { IsRecordOf edges values.now }
+        ensures { result ≡ items_of edges values.now }
+    {
+        EdgeList {
+            values,
+            count: known_count(values, 0),
+        }
     }
 
     /// How many edges there are, which is at least one (IGES 5.3, 4.146).

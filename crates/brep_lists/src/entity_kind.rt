@@ -33,7 +33,7 @@ impl EntityKind {
     }
 
     /// Whether an entity of this type may have that form: a shell is closed, of form 1 (IGES 5.3, 4.149); a list, a
-    /// loop and a face have form 1, for which form 0 is taken too (own).
+    /// loop and a face have form 1, for which form 0 is taken too.
     pub fn has_form(self, form: i64) -> bool
         ensures { IsTrue result ↔ HasForm self form }
     {

@@ -1,15 +1,15 @@
 //! A list of vertices.
 
 ghost use Rattle.std.specs.Prelude.{◌≡◌, IfSome, IfNone, length};
-ghost use Rattle.brep_lists.specs.Record.{Fits, Items, items_of};
+ghost use Rattle.brep_lists.specs.Record.{Fits, Items, IsRecordOf, items_of};
 ghost use Rattle.brep_lists.specs.declared.entity_kind.EntityKind.TheVariants.{VertexList as vertices};
 
-use crate::groups::{Slot, counted};
+use crate::groups::{Slot, counted, known_count};
 use iges_fields::Values;
 use std::marker::Model;
 
 /// The record of a vertex list: a count and so many triples of coordinates (IGES 5.3, 4.145).
-/// A coordinate is a real, an integer or left out (own).
+/// A coordinate is a real, an integer or left out.
 #[derive(Drop)]
 pub struct VertexList<'a> {
     values: &'a Values,
@@ -41,6 +41,17 @@ impl<'a> VertexList<'a> {
             return None;
         };
         Some(VertexList { values, count })
+    }
+
+    /// The list that a record that fits describes. Only the count is read.
+    pub fn fitting(values: &'a Values) -> VertexList<'a>
+        requires { IsRecordOf vertices values.now }
+        ensures { result ≡ items_of vertices values.now }
+    {
+        VertexList {
+            values,
+            count: known_count(values, 0),
+        }
     }
 
     /// How many vertices there are, which is at least one (IGES 5.3, 4.145).

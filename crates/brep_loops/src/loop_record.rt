@@ -1,13 +1,13 @@
 //! The record of a loop.
 
 ghost use Rattle.std.specs.Prelude.{◌≡◌, ◌<◌, ◌^◌, true, false, IfSome, IfNone, MatchOption, length, drop};
-ghost use Rattle.brep_lists.specs.Record.{Fits, Items, items_of, count_at};
+ghost use Rattle.brep_lists.specs.Record.{Fits, Items, IsRecordOf, items_of, count_at};
 ghost use Rattle.brep_lists.specs.declared.entity_kind.EntityKind.TheVariants.{Loop as «loop»};
 ghost use Rattle.brep_lists.specs.Groups.{tuples_pass, is_loop};
 
 use crate::ends::checked_ends;
 use crate::loop_tuples::LoopTuples;
-use brep_lists::{are_fillers, item_count};
+use brep_lists::{are_fillers, item_count, known_count};
 use iges_fields::Values;
 use std::marker::Model;
 
@@ -65,6 +65,17 @@ impl<'a> LoopRecord<'a> {
             return None;
         };
         Some(LoopRecord { values, count })
+    }
+
+    /// The loop that a record that fits describes. Only the count is read.
+    pub fn fitting(values: &'a Values) -> LoopRecord<'a>
+        requires { IsRecordOf «loop» values.now }
+        ensures { result ≡ items_of «loop» values.now }
+    {
+        LoopRecord {
+            values,
+            count: known_count(values, 0),
+        }
     }
 
     /// The tuples, in order (IGES 5.3, 4.147).

@@ -56,7 +56,7 @@ impl<'a> LoopTuple<'a> {
         flag_at(self.values, self.at + 3)
     }
 
-    /// How many parameter curves there are. A count that is left out, or missing at the record's end, is 0 (own).
+    /// How many parameter curves there are. A count that is left out, or missing at the record's end, is 0.
     pub fn curve_count(&self) -> usize
         ensures { result ≡ length self.now.curves }
     {

@@ -17,7 +17,7 @@ use Rattle.brep_walk.specs.Kept.{AreKept, NamesRecord, IsEdgeList, IsVertexList}
 use Rattle.brep_walk.specs.Places.{told, edge_at, IsIndex, record_places, item_places}
 use Rattle.brep_walk.specs.SolidOf.{edge_key}
 use Rattle.brep_walk.specs.Walked.{IsFault}
-use Rattle.item_numbers.proofs.Pushed.{get_pushed}
+use Rattle.brep_numbering.proofs.Pushed.{get_pushed}
 
 -- A list that is found is kept. g is the file as the call was given it, and y the number.
 

@@ -12,11 +12,11 @@ use Rattle.solid_data.specs.declared.solid.EdgeKey.{EdgeKey}
 use Rattle.solid_data.specs.declared.solid.VertexKey.{VertexKey}
 use Rattle.brep_walk.specs.Numbered.{AreNumbered, IsKnownEdge, AreKnownEdges}
 use Rattle.brep_walk.specs.Places.{edge_at, edge_places}
-use Rattle.item_numbers.specs.Keys.{Keys}
+use Rattle.brep_numbering.specs.Keys.{Keys}
 use Rattle.brep_walk.specs.SolidOf.{ends_named}
-use Rattle.item_numbers.proofs.KeyPlaces.{any_append, inserted, insert_all_more}
-use Rattle.item_numbers.proofs.SameKeys.{vertex_itself}
-use Rattle.item_numbers.proofs.SameKeys.{edge_sound}
+use Rattle.brep_numbering.proofs.KeyPlaces.{any_append, inserted, insert_all_more}
+use Rattle.brep_numbering.proofs.SameKeys.{vertex_itself}
+use Rattle.brep_numbering.proofs.SameKeys.{edge_sound}
 
 -- a key among those with one more
 among : {A : Type 0} (same : A → A → Bool) (ks : List A) (k x : A) → list_any (same x) (insert_key same ks k) ≡ true → (list_any (same x) ks ≡ true) ⊎ (same x k ≡ true)

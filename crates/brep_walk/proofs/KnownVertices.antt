@@ -22,7 +22,7 @@ use Rattle.solid_data.proofs.Members.{from_enumerated, map_has, from_flat_map, h
 use Rattle.solid_data.proofs.Occurring.{VerticesKnown}
 pub use Rattle.solid_data.proofs.Keys.{to_distinct, from_distinct, from_filter}
 use Rattle.solid_data.proofs.Keys.{place_below}
-use Rattle.item_numbers.proofs.SameKeys.{vertex_sound, vertex_itself}
+use Rattle.brep_numbering.proofs.SameKeys.{vertex_sound, vertex_itself}
 
 -- a key that a tuple names has a number
 key_known : (f : Contents) (n : ℤ) (t : LoopTuple) (key : VertexKey) → Has (all_tuples f n) t → Has (vertices_named f t) key → place_of same_vertex (vertex_keys f n) key < length (vertex_keys f n)

@@ -11,7 +11,7 @@ use Rattle.iges_params.specs.Contents.{Contents}
 use Rattle.brep_lists.specs.Record.{LoopTuple}
 use Rattle.brep_lists.specs.declared.edge_list.EdgeTuple.{EdgeTuple}
 use Rattle.brep_walk.specs.Places.{shells, faces, loops, tuples, edge_at, numbers}
-use Rattle.item_numbers.specs.Keys.{Keys}
+use Rattle.brep_numbering.specs.Keys.{Keys}
 use Rattle.brep_walk.specs.SolidOf.{edge_key, vertex_key, all_tuples, edge_named, ends_named, vertices_named, use_by, loop_by, face_by, shell_by, numbered_by, edge_by, keys_of, use_of, solid_of, tuples_in, edges_in, vertices_in, keys_in, solid_listing}
 use Rattle.solid_data.specs.Ring.{distinct, place_of, numbers_from}
 use Rattle.solid_data.specs.Obligations.{entry_number}
@@ -25,7 +25,7 @@ use Rattle.solid_data.specs.declared.solid.LoopUse.{LoopUse}
 use Rattle.solid_data.specs.declared.solid.LoopUse.TheVariants.{EdgeUse, VertexUse}
 use Rattle.solid_data.proofs.Members.{from_flat_map, Has, has_flat_map, length-singles, get_single}
 use Rattle.solid_data.proofs.Keys.{from_filter, to_distinct, from_distinct, at_place}
-use Rattle.item_numbers.proofs.SameKeys.{edge_sound, edge_itself, vertex_sound, vertex_itself}
+use Rattle.brep_numbering.proofs.SameKeys.{edge_sound, edge_itself, vertex_sound, vertex_itself}
 
 -- Places in the list of keys, without repeats, are 0, 1, 2 and so on.
 

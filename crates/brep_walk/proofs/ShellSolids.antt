@@ -21,11 +21,11 @@ use Rattle.solid_data.proofs.Members.{Has}
 use Rattle.solid_data.proofs.ObligationLemmas.{AllHold-append, AllHold-append_right, FirstFalse-append_front}
 use Rattle.brep_walk.specs.declared.fault.WalkFault.{WalkFault}
 use Rattle.brep_walk.specs.declared.fault.WalkFault.TheVariants.{Fails}
-use Rattle.item_numbers.specs.Numbered.{Numbered}
+use Rattle.brep_numbering.specs.Numbered.{Numbered}
 use Rattle.brep_walk.specs.Numbered.{IsMadeBy, AreEdges, keys_after, face_tuples}
 use Rattle.brep_walk.specs.OpenPlaces.{shell_entry_places, shell_record_places, open_places, shell_solid_of}
 use Rattle.brep_walk.specs.Places.{HasRecordOf, Names, faces, loops, tuples, numbers, face_places}
-use Rattle.item_numbers.specs.Keys.{Keys}
+use Rattle.brep_numbering.specs.Keys.{Keys}
 use Rattle.brep_walk.specs.SolidOf.{face_by, edge_by, tuples_in, edges_in, keys_in, solid_listing}
 use Rattle.brep_walk.specs.Walked.{IsFault}
 use Rattle.brep_walk.proofs.Faults.{fault_front, fault_rest, handed, handed_failing}

@@ -18,17 +18,17 @@ use Rattle.solid_data.specs.declared.solid.VertexId.{VertexId}
 use Rattle.solid_data.specs.declared.solid.VertexKey.{VertexKey}
 use Rattle.solid_data.specs.declared.solid.LoopUse.TheVariants.{EdgeUse, VertexUse}
 use Rattle.brep_walk.specs.declared.fault.WalkFault.{WalkFault}
-use Rattle.item_numbers.specs.Numbered.{Numbered}
+use Rattle.brep_numbering.specs.Numbered.{Numbered}
 use Rattle.brep_walk.specs.Numbered.{Extends, AreEdges}
 use Rattle.brep_walk.specs.Places.{told, edge_at, item_places, edge_places, used_places}
-use Rattle.item_numbers.specs.Keys.{Keys}
+use Rattle.brep_numbering.specs.Keys.{Keys}
 use Rattle.brep_walk.specs.SolidOf.{edge_key, vertex_key, use_by, numbered_by, edge_by}
 use Rattle.brep_walk.specs.Walked.{IsFault}
 use Rattle.brep_walk.proofs.Faults.{fault_rest, handed}
-use Rattle.item_numbers.proofs.KeyPlaces.{any_append, place_stays, inserted, insert_more}
-use Rattle.item_numbers.proofs.SameKeys.{vertex_itself}
+use Rattle.brep_numbering.proofs.KeyPlaces.{any_append, place_stays, inserted, insert_more}
+use Rattle.brep_numbering.proofs.SameKeys.{vertex_itself}
 use Rattle.brep_walk.proofs.Numbered.{by_key}
-use Rattle.item_numbers.proofs.SameKeys.{edge_itself}
+use Rattle.brep_numbering.proofs.SameKeys.{edge_itself}
 
 pub Extends-trans : (a b c : Keys) → Extends a b → Extends b c → Extends a c
 Extends-trans a b c x y = record {

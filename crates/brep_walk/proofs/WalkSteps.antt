@@ -13,11 +13,11 @@ use Rattle.solid_data.proofs.Members.{split_at}
 use Rattle.brep_walk.specs.declared.fault.WalkFault.{WalkFault}
 use Rattle.brep_walk.specs.Numbered.{Extends, IsMadeBy, keys_after}
 use Rattle.brep_walk.specs.Places.{tuple_at, tuple_places}
-use Rattle.item_numbers.specs.Keys.{Keys}
+use Rattle.brep_numbering.specs.Keys.{Keys}
 use Rattle.brep_walk.specs.SolidOf.{edge_named, vertices_named}
 use Rattle.brep_walk.specs.Walked.{IsFault}
 use Rattle.brep_walk.proofs.Faults.{fault_front, fault_of}
-use Rattle.item_numbers.proofs.KeyPlaces.{insert_all-append, insert_all_more}
+use Rattle.brep_numbering.proofs.KeyPlaces.{insert_all-append, insert_all_more}
 use Rattle.indexmap.specs.IndexSet.{insert_all}
 use Rattle.brep_walk.proofs.Used.{Extends-trans}
 

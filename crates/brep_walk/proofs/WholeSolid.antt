@@ -17,16 +17,16 @@ use Rattle.solid_data.specs.declared.verdict.Failing.{Failing}
 use Rattle.solid_data.proofs.ObligationLemmas.{AllHold-append}
 use Rattle.brep_walk.specs.declared.fault.WalkFault.{WalkFault}
 use Rattle.brep_walk.specs.declared.fault.WalkFault.TheVariants.{Fails}
-use Rattle.item_numbers.specs.Numbered.{Numbered}
+use Rattle.brep_numbering.specs.Numbered.{Numbered}
 use Rattle.brep_walk.specs.Numbered.{Extends, IsMadeBy, AreEdges, keys_after, face_tuples, shell_tuples}
 use Rattle.brep_walk.specs.Places.{told, shells, faces, loops, tuples, numbers, record_places, shell_places, places}
-use Rattle.item_numbers.specs.Keys.{Keys}
+use Rattle.brep_numbering.specs.Keys.{Keys}
 use Rattle.brep_walk.specs.SolidOf.{edge_named, vertices_named, all_tuples, edge_keys, keys_of, shell_by, shell_of, edge_by, edge_of, solid_of}
 use Rattle.brep_walk.specs.Walked.{IsFault}
 use Rattle.brep_walk.proofs.Distinct.{insert_all-distinct}
 use Rattle.brep_walk.proofs.Faults.{fault_front, fault_rest, handed, handed_failing}
-use Rattle.item_numbers.proofs.SameKeys.{vertex_sound, vertex_itself}
-use Rattle.item_numbers.proofs.SameKeys.{edge_sound, edge_itself}
+use Rattle.brep_numbering.proofs.SameKeys.{vertex_sound, vertex_itself}
+use Rattle.brep_numbering.proofs.SameKeys.{edge_sound, edge_itself}
 
 -- The tuples of all shells are all tuples.
 

@@ -9,8 +9,8 @@ use Rattle.solid_data.specs.SolidData.{same_edge, same_vertex}
 use Rattle.solid_data.specs.declared.solid.EdgeKey.{EdgeKey}
 use Rattle.solid_data.specs.declared.solid.VertexKey.{VertexKey}
 use Rattle.brep_walk.specs.Places.{faces, loops, tuples, edge_at, edge_places}
-use Rattle.item_numbers.specs.Keys.{Keys}
-use Rattle.item_numbers.specs.Numbered.{Numbered}
+use Rattle.brep_numbering.specs.Keys.{Keys}
+use Rattle.brep_numbering.specs.Numbered.{Numbered}
 use Rattle.brep_walk.specs.SolidOf.{edge_named, ends_named, vertices_named, edge_by}
 
 -- Later keys begin with the earlier ones.

@@ -4,7 +4,7 @@ use Rattle.iges_base.specs.declared.entry_no.EntryNo.{EntryNo}
 use Rattle.iges_params.specs.Contents.{Contents}
 use Rattle.brep_lists.specs.Record.{LoopTuple}
 use Rattle.brep_lists.specs.declared.edge_list.EdgeTuple.{EdgeTuple}
-use Rattle.item_numbers.specs.Keys.{Keys}
+use Rattle.brep_numbering.specs.Keys.{Keys}
 use Rattle.brep_walk.specs.Places.{shells, faces, loops, tuples, edge_at, numbers}
 use Rattle.solid_data.specs.Ring.{distinct, place_of}
 use Rattle.solid_data.specs.Obligations.{entry_number}

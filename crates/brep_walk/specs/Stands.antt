@@ -1,7 +1,7 @@
 -- Private: what a walk has kept so far is true of the file.
 use Rattle.std.specs.Prelude.{◌≡◌}
 use Rattle.iges_params.specs.Contents.{Contents}
-use Rattle.item_numbers.specs.Numbered.{Numbered}
+use Rattle.brep_numbering.specs.Numbered.{Numbered}
 use Rattle.brep_walk.specs.Numbered.{AreEdges, AreKnownEdges}
 
 -- lists is the file whose lists the walk looks at

@@ -4,7 +4,7 @@ use iges_fields::NoMemory;
 use solid_data::Failing;
 use std::alloc::{AllocError, AllocFailed};
 
-/// Why a walk ended without a solid (own).
+/// Why a walk ended without a solid.
 #[derive(Clone, Copy, Debug, PartialEq, Eq)]
 pub enum WalkFault {
     /// The first obligation on the records' places that doesn't hold, depth first.

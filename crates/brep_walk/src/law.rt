@@ -10,7 +10,7 @@ ghost use Rattle.solid_data.specs.Numbering.{IsNumberedSolid};
 ghost use Rattle.solid_data.specs.Obligations.{AllHold, FirstFalse};
 ghost use Rattle.solid_data.specs.declared.verdict.Failing.{Failing as Named};
 
-/// The places of a solid all hold, or there is exactly one first false obligation, and never both (own).
+/// The places of a solid all hold, or there is exactly one first false obligation, and never both.
 pub fn places_are_definite()
     ensures one { (f : Contents) (n : ℕ) (x y : Named) → FirstFalse (places f n) x
         → FirstFalse (places f n) y → x ≡ y }
@@ -21,13 +21,13 @@ pub fn places_are_definite()
 {}
 
 /// The solid of a file within its limits, whose places hold, is numbered by first appearance, and keeps what every
-/// solid keeps (own).
+/// solid keeps.
 pub fn solid_is_numbered()
     ensures { (f : Contents) (n : ℕ) → FitsLimits f → AllHold (places f n)
         → IsNumberedSolid (solid_of f n) }
 {}
 
-/// The places of a shell that may be open all hold, or there is exactly one first false obligation, and never both (own).
+/// The places of a shell that may be open all hold, or there is exactly one first false obligation, and never both.
 pub fn open_places_are_definite()
     ensures one { (f : Contents) (n : ℕ) (x y : Named) → FirstFalse (open_places f n) x
         → FirstFalse (open_places f n) y → x ≡ y }
@@ -38,7 +38,7 @@ pub fn open_places_are_definite()
 {}
 
 /// The solid that is one shell of a file within its limits, whose places hold, is numbered by first appearance, and
-/// keeps what every solid keeps (own).
+/// keeps what every solid keeps.
 pub fn shell_solid_is_numbered()
     ensures { (f : Contents) (n : ℕ) → FitsLimits f → AllHold (open_places f n)
         → IsNumberedSolid (shell_solid_of f n) }

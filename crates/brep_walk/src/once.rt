@@ -7,8 +7,8 @@ ghost use Rattle.solid_data.specs.declared.verdict.Rule.TheVariants.{Twice};
 
 use crate::fault::WalkFault;
 use crate::place::Place;
+use brep_numbering::{Positions, end_position};
 use iges_fields::EntryNo;
-use item_numbers::{Positions, end_position};
 use solid_data::Rule;
 use std::alloc::Global;
 use std::marker::Model;

@@ -5,7 +5,7 @@ ghost use Rattle.std.specs.Prelude.{◌≡◌};
 use iges_fields::EntryNo;
 use solid_data::{Failing, Rule};
 
-/// A place that may name an entry: an item of an entity's record, from 1, or 0 for the entity itself (own).
+/// A place that may name an entry: an item of an entity's record, from 1, or 0 for the entity itself.
 #[derive(Clone, Copy, Debug, PartialEq, Eq)]
 pub struct Place {
     pub entity: EntryNo,

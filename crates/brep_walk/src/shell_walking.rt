@@ -17,10 +17,10 @@ use crate::place::Place;
 use crate::state::WalkState;
 use brep_lists::EntityKind;
 use brep_loops::ShellRecord;
+use brep_numbering::Numbering;
 use iges_directory::Entry;
 use iges_fields::{EntryNo, Values};
 use iges_params::File;
-use item_numbers::Numbering;
 use solid_data::{Faces, Failing, Rule, Shell, Shells, Solid};
 use std::alloc::Global;
 
@@ -113,9 +113,9 @@ fn shell_solid(alloc: Global, file: &File, no: EntryNo) -> Result<Solid, WalkFau
 }
 
 /// One shell as a solid of its own number: the shell with flag true, its faces, loops and uses as its records list them
-/// (IGES 5.3, 4.145 to 4.149), and the edges and the vertices that it uses numbered by first appearance (own). The shell
+/// (IGES 5.3, 4.145 to 4.149), and the edges and the vertices that it uses numbered by first appearance. The shell
 /// may be of form 1, closed, or 2, open. Where an obligation on the records' places doesn't hold, the first one that
-/// doesn't, depth first, is the fault (own).
+/// doesn't, depth first, is the fault.
 pub fn walk_shell(alloc: Global, file: &File, no: EntryNo) -> Result<Solid, WalkFault>
     ensures solid { IfOk result (λ s. s ≡ shell_solid_of file.now no.0) }
     ensures holds { OnOk result (AllHold (open_places file.now no.0)) }

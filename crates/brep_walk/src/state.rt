@@ -5,8 +5,8 @@ ghost use Rattle.brep_walk.specs.Stands.{Stands};
 
 use crate::lists::Lists;
 use crate::once::Once;
+use brep_numbering::Numbering;
 use iges_params::File;
-use item_numbers::Numbering;
 use std::alloc::Global;
 
 /// What a walk has looked at, numbered and named so far. No loop, no face and no shell may be named twice.

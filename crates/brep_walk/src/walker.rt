@@ -17,7 +17,7 @@ use std::alloc::Global;
 use std::marker::Model;
 
 /// Walks solids of one file, one after another. What is sized by the file, and the lists that were looked at, serve for
-/// all of them, so that a walk costs what its own solid names (own).
+/// all of them, so that a walk costs what its own solid names.
 #[derive(Drop)]
 pub struct Walker<'a> {
     walk: WalkState<'a>,

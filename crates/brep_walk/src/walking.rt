@@ -76,8 +76,8 @@ pub fn walk_solid(walk: &mut WalkState<'_>, alloc: Global, no: EntryNo) -> Resul
 }
 
 /// The solid of an entry: the shells, faces, loops and uses as its records list them (IGES 5.3, 4.49 and 4.145 to
-/// 4.149), with the edges and the vertices that are used numbered by first appearance (own). Where an obligation on the
-/// records' places doesn't hold, the first one that doesn't, depth first, is the fault (own). Its arrays reach to the
+/// 4.149), with the edges and the vertices that are used numbered by first appearance. Where an obligation on the
+/// records' places doesn't hold, the first one that doesn't, depth first, is the fault. Its arrays reach to the
 /// largest number that it comes upon, so where many solids of a file are walked, a `Walker` serves.
 pub fn walk(alloc: Global, file: &File, no: EntryNo) -> Result<Solid, WalkFault>
     ensures solid { IfOk result (λ s. s ≡ solid_of file.now no.0) }

@@ -1,6 +1,6 @@
 //! The counts of a shell in its lines.
 
-/// The counts of a SHELL line (own): how many rows, edges, corner and point lines, and faces the shell has.
+/// The counts of a SHELL line: how many rows, edges, corner and point lines, and faces the shell has.
 #[derive(Clone, Copy, Debug, PartialEq, Eq)]
 pub struct ShellCounts {
     /// How many edge uses it has.
@@ -13,7 +13,7 @@ pub struct ShellCounts {
     pub faces: u32,
 }
 
-/// The counts of a TALLY line (own): how many vertices, edges, faces and loops the shell has.
+/// The counts of a TALLY line: how many vertices, edges, faces and loops the shell has.
 #[derive(Clone, Copy, Debug, PartialEq, Eq)]
 pub struct Tally {
     pub vertices: u32,

@@ -26,7 +26,7 @@ fn line_len(text: &[u8]) -> usize
     }
 }
 
-/// The first line of a text, with its LF, and what follows it: a text without LF is one line (own). None where no byte is
+/// The first line of a text, with its LF, and what follows it: a text without LF is one line. None where no byte is
 /// left.
 pub fn first_line(text: &[u8]) -> Option<(&[u8], &[u8])>
     ensures { MatchOption result (text.now ≡ [])
@@ -40,7 +40,7 @@ pub fn first_line(text: &[u8]) -> Option<(&[u8], &[u8])>
     Some((&text[..end], &text[end..]))
 }
 
-/// The first line of a text that an LF ends, with its LF, and what follows it (own). None where there is no LF.
+/// The first line of a text that an LF ends, with its LF, and what follows it. None where there is no LF.
 pub fn first_ended(text: &[u8]) -> Option<(&[u8], &[u8])>
     ensures { MatchOption result (IsTrue (is_in_line text.now))
         (λ p. EndsFirst text.now p.0.now p.1.now) }

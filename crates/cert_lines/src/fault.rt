@@ -1,7 +1,7 @@
 //! What is wrong with the lines of a certificate.
 
 /// What is wrong with line 1 or 2 of a certificate: it is spelled as no line, or it is too long or another line than is
-/// due (own).
+/// due.
 #[derive(Clone, Copy, Debug, PartialEq, Eq)]
 pub enum Misfit {
     /// The bytes spell none of the kinds of lines, or have no LF.
@@ -11,7 +11,7 @@ pub enum Misfit {
 }
 
 /// The first line that keeps a certificate from being legal, by its number from 1: it is spelled as no line, it
-/// doesn't fit where it is, or it isn't there (own).
+/// doesn't fit where it is, or it isn't there.
 #[derive(Clone, Copy, Debug, PartialEq, Eq)]
 pub enum Illegal {
     /// The line spells none of the kinds of lines, or has no LF.

@@ -6,13 +6,13 @@ ghost use Rattle.cert_lines.specs.Opening.{Opens, IsBadOpening};
 ghost use Rattle.cert_lines.specs.declared.version.Version.{Version as Edition};
 ghost use Rattle.cert_lines.specs.declared.fault.Illegal.{Illegal as Fault};
 
-/// Bytes spell at most one line (own).
+/// Bytes spell at most one line.
 pub fn one_line()
     ensures { (bytes : List ℕ) (l m : CertLine) → IsSpelled bytes l → IsSpelled bytes m → l ≡ m }
 {}
 
 /// Bytes are a line, or are too long, or spell no line, and only one of these, whatever they are and however many may come
-/// in a line (own).
+/// in a line.
 pub fn lines_are_decided()
     ensures always { (limit : ℕ) (bytes : List ℕ)
         → ((line : CertLine) × IsLine limit bytes line)
@@ -23,7 +23,7 @@ pub fn lines_are_decided()
 {}
 
 /// A certificate opens with the head of one version and one solid, in one way, or has one first bad line among its first two,
-/// and never both (own).
+/// and never both.
 pub fn one_opening()
     ensures opens { (c : List ℕ) (v w : Edition) (n m : ℕ) (r t : List (List ℕ)) → Opens c v n r
         → Opens c w m t → (v ≡ w) × (n ≡ m) × (r ≡ t) }

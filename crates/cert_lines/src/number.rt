@@ -46,7 +46,7 @@ fn is_plain(digits: &[u8]) -> bool
 }
 
 /// The number at the start of a text, after a space, and what follows it; None where none of one to nine digits stands
-/// there (own).
+/// there.
 pub fn next_number(text: &[u8]) -> Option<(u32, &[u8])>
     ensures { MatchOption result ((n : ℕ) (rest : List ℕ) → ¬ Begins text.now n rest)
         (λ p. Begins text.now p.0 p.1.now) }
@@ -68,7 +68,7 @@ pub fn next_number(text: &[u8]) -> Option<(u32, &[u8])>
     Some((number, rest))
 }
 
-/// Whether the text is numbers alone, each of one to nine digits after a space; none at all will do (own).
+/// Whether the text is numbers alone, each of one to nine digits after a space; none at all will do.
 pub fn are_numbers(text: &[u8]) -> bool
     ensures { IsTrue result ↔ IsSpaced text.now }
 {
@@ -82,7 +82,7 @@ pub fn are_numbers(text: &[u8]) -> bool
     true
 }
 
-/// The number of a text that is one number of one to nine digits after a space (own).
+/// The number of a text that is one number of one to nine digits after a space.
 pub fn one_number(text: &[u8]) -> Option<u32>
     ensures { MatchOption result ((a : ℕ) → ¬ AreNumbers text.now (a ∷ []))
         (λ a. AreNumbers text.now (a ∷ [])) }
@@ -93,7 +93,7 @@ pub fn one_number(text: &[u8]) -> Option<u32>
     if rest.is_empty() { Some(a) } else { None }
 }
 
-/// The numbers of a text that is two numbers of one to nine digits, each after a space (own).
+/// The numbers of a text that is two numbers of one to nine digits, each after a space.
 pub fn two_numbers(text: &[u8]) -> Option<(u32, u32)>
     ensures { MatchOption result ((a b : ℕ) → ¬ AreNumbers text.now (a ∷ b ∷ []))
         (λ p. AreNumbers text.now (p.0 ∷ p.1 ∷ [])) }

@@ -14,7 +14,7 @@ use iges_base::EntryNo;
 /// The most bytes that line 1 or 2 may have.
 const FIRST_LIMIT: usize = 64;
 
-/// The version that line 1 of a certificate names; the line is given with its LF, without which it is misspelt (own).
+/// The version that line 1 of a certificate names; the line is given with its LF, without which it is misspelt.
 /// Takes no memory.
 pub fn head_line(line: &[u8]) -> Result<Version, Misfit>
     ensures { MatchResult result (λ v. IsLine first_limit line.now (head v))
@@ -27,7 +27,7 @@ pub fn head_line(line: &[u8]) -> Result<Version, Misfit>
     }
 }
 
-/// The solid that line 2 of a certificate names; the line is given with its LF, without which it is misspelt (own).
+/// The solid that line 2 of a certificate names; the line is given with its LF, without which it is misspelt.
 /// Takes no memory.
 pub fn solid_line(line: &[u8]) -> Result<EntryNo, Misfit>
     ensures { MatchResult result (λ n. IsLine first_limit line.now (solid n.0))
@@ -50,7 +50,7 @@ fn at_line(misfit: Misfit, line: u64) -> Illegal
 }
 
 /// The version and the solid that a certificate names in its first two lines, and the text after them; or the first of
-/// the two that is missing, misspelt or unfit (own).
+/// the two that is missing, misspelt or unfit.
 pub fn read_opening(text: &[u8]) -> Result<(Version, EntryNo, &[u8]), Illegal>
     ensures { MatchResult result (λ p. Opens text.now p.0 p.1.0 (cut_lines p.2.now))
         (λ bad. IsBadOpening text.now bad) }

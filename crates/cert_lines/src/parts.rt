@@ -4,13 +4,13 @@ use crate::version::Version;
 use iges_base::{EntryNo, ItemList};
 use solid_data::{Corners, RowId, RowList};
 
-/// The two rows of each edge that occurs in a shell, the one along it first, by rising edge (own).
+/// The two rows of each edge that occurs in a shell, the one along it first, by rising edge.
 pub type EdgePairs = ItemList<(RowId, RowId)>;
 
-/// Rows by which the faces but the first are reached, in a fitting order (own).
+/// Rows by which the faces but the first are reached, in a fitting order.
 pub type ReachRows = RowList;
 
-/// What a certificate says of a shell: how many rows, vertices, faces and loops it has, and its lines (own).
+/// What a certificate says of a shell: how many rows, vertices, faces and loops it has, and its lines.
 #[derive(Drop)]
 pub struct ShellPart {
     /// How many edge uses the shell has.
@@ -29,10 +29,10 @@ pub struct ShellPart {
     pub loops: u32,
 }
 
-/// The parts of the shells, the outer one first (own).
+/// The parts of the shells, the outer one first.
 pub type ShellParts = ItemList<ShellPart>;
 
-/// A certificate: its version, the solid that it names, and a part for each of its shells (own).
+/// A certificate: its version, the solid that it names, and a part for each of its shells.
 #[derive(Drop)]
 pub struct Certificate {
     /// The version whose lines are written.
@@ -43,5 +43,5 @@ pub struct Certificate {
     pub shells: ShellParts,
 }
 
-/// The certificates that are the parts of a book, by rising solid (own).
+/// The certificates that are the parts of a book, by rising solid.
 pub type Certificates = ItemList<Certificate>;

@@ -3,7 +3,7 @@
 ghost use Rattle.std.specs.Prelude.{◌≡◌};
 ghost use Rattle.cert_lines.specs.Line.{words, head};
 
-/// The version of a certificate, which its first line names (own). In version 2 each shell ends in a line of its counts;
+/// The version of a certificate, which its first line names. In version 2 each shell ends in a line of its counts;
 /// version 3 is a book of such certificates, a part for each solid.
 #[derive(Clone, Copy, Debug, PartialEq, Eq)]
 pub enum Version {
@@ -12,7 +12,7 @@ pub enum Version {
     Three,
 }
 
-/// The first line of a certificate of this version, without its LF (own).
+/// The first line of a certificate of this version, without its LF.
 pub fn head_text(version: Version) -> &'static [u8]
     ensures { result.now ≡ words (head version) }
 {

@@ -12,7 +12,7 @@ use crate::counts::{ShellCounts, Tally};
 use crate::number::{are_numbers, next_number, one_number, two_numbers};
 use crate::version::{Version, head_text};
 
-/// What a line says (own). Rows, faces and loops count from 1 here, as in the text.
+/// What a line says. Rows, faces and loops count from 1 here, as in the text.
 #[derive(Clone, Copy)]
 pub enum Words<'a> {
     /// `IGESCERT`, and the number of the version.
@@ -46,7 +46,7 @@ fn after_letter(text: &[u8], letter: u8) -> Option<&[u8]>
     }
 }
 
-/// What follows a word at the start of a text; None where the text doesn't begin with it (own).
+/// What follows a word at the start of a text; None where the text doesn't begin with it.
 pub fn after_word<'a>(text: &'a [u8], word: &[u8]) -> Option<&'a [u8]>
     ensures { MatchOption result ((rest : List ℕ) → text.now ≢ word.now ++ rest)
         (λ rest. text.now ≡ word.now ++ rest.now) }
@@ -260,7 +260,7 @@ fn read_line(line: &[u8]) -> Option<Words<'_>>
     read_words(text)
 }
 
-/// A line, as far as its bytes and its length show (own).
+/// A line, as far as its bytes and its length show.
 #[derive(Clone, Copy)]
 pub enum Judged<'a> {
     /// The line is one of the kinds of lines, and isn't long.
@@ -281,7 +281,7 @@ fn ends_with_lf(line: &[u8]) -> bool
     }
 }
 
-/// Reads a line that may have at most so many bytes, its LF among them (own).
+/// Reads a line that may have at most so many bytes, its LF among them.
 pub fn judge(line: &[u8], limit: usize) -> Judged<'_>
     ensures { IsJudged limit line.now result }
 {

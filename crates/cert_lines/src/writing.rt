@@ -11,7 +11,7 @@ use iges_base::{Bytes, NoMemory, Out, put_number};
 use solid_data::{Corner, RowId};
 use std::alloc::Global;
 
-/// The number in a line of a row, a face or a loop: they count from 1 there, and from 0 in the types (own).
+/// The number in a line of a row, a face or a loop: they count from 1 there, and from 0 in the types.
 pub fn from_one(number: u32) -> u64
     ensures { result ≡ number + 1 }
 {
@@ -27,7 +27,7 @@ fn put_numbers(out: &mut Out, numbers: &[u64]) -> Result<(), NoMemory>
     Ok(())
 }
 
-/// Appends the numbers of some rows, from 1, each after a space (own).
+/// Appends the numbers of some rows, from 1, each after a space.
 pub fn put_rows(out: &mut Out, rows: &[RowId]) -> Result<(), NoMemory>
     ensures { IfOk result (λ _. out.new ≡ out.old ++ spaced (map row_number rows.now)) }
 {
@@ -37,7 +37,7 @@ pub fn put_rows(out: &mut Out, rows: &[RowId]) -> Result<(), NoMemory>
     Ok(())
 }
 
-/// Appends a line: its word, its numbers, each after a space, and LF (own).
+/// Appends a line: its word, its numbers, each after a space, and LF.
 pub fn put_line(out: &mut Out, word: &[u8], numbers: &[u64]) -> Result<(), NoMemory>
     ensures { IfOk result (λ _. out.new ≡ out.old
         ++ ((word.now ++ spaced numbers.now) ++ 10 ∷ [])) }
@@ -106,7 +106,7 @@ fn put_shell_line(out: &mut Out, number: u64, part: &ShellPart) -> Result<(), No
     put_line(out, b"SHELL", &numbers)
 }
 
-/// The TALLY line of these counts, with its LF (own).
+/// The TALLY line of these counts, with its LF.
 pub fn put_tally_line(
     out: &mut Out,
     vertices: u64,
@@ -132,7 +132,7 @@ fn put_counts(out: &mut Out, part: &ShellPart) -> Result<(), NoMemory>
     )
 }
 
-/// The first line of a certificate of this version, with its LF (own).
+/// The first line of a certificate of this version, with its LF.
 pub fn put_head_line(out: &mut Out, version: Version) -> Result<(), NoMemory>
     ensures { IfOk result (λ _. out.new ≡ out.old ++ spelling (head version)) }
 {
@@ -191,8 +191,8 @@ fn put_solids(out: &mut Out, parts: &[Certificate]) -> Result<(), NoMemory>
     Ok(())
 }
 
-/// The text of a certificate: the lines of its parts in order, after the head of its version and the line of its solid
-/// (own). The counts of edges and of corners in a shell line are the lengths of the two lists. Where every number has at
+/// The text of a certificate: the lines of its parts in order, after the head of its version and the line of its solid.
+/// The counts of edges and of corners in a shell line are the lengths of the two lists. Where every number has at
 /// most nine digits and no cycle is empty, each line is spelled.
 pub fn write_certificate(alloc: Global, c: &Certificate) -> Result<Bytes, NoMemory>
     ensures text { IfOk result (λ text. text ≡ text_of (certificate_lines c.now)) }
@@ -206,7 +206,7 @@ pub fn write_certificate(alloc: Global, c: &Certificate) -> Result<Bytes, NoMemo
     Ok(out.into_bytes())
 }
 
-/// The text of a book, version 3: the lines of each part in order, after the head and before END (own). Where every
+/// The text of a book, version 3: the lines of each part in order, after the head and before END. Where every
 /// number has at most nine digits and no cycle is empty, each line is spelled.
 pub fn write_book(alloc: Global, parts: &Certificates) -> Result<Bytes, NoMemory>
     ensures text { IfOk result (λ text. text ≡ text_of (book_lines parts.now)) }

@@ -24,10 +24,10 @@ use topo_certificate::{Certificate, Certificates, use_count};
 /// The entity type of a manifold solid B-rep object.
 const SOLID: i64 = 186;
 
-/// The most loop uses that the solids of a book may have together (own).
+/// The most loop uses that the solids of a book may have together.
 const USE_LIMIT: u64 = 6_000_000;
 
-/// Why not all solids of a file are certified (own).
+/// Why not all solids of a file are certified.
 #[derive(Clone, Copy, Debug, PartialEq, Eq)]
 pub enum BookFault {
     /// The file has no solid.
@@ -110,7 +110,7 @@ fn is_solid(file: &File, i: usize) -> bool
 
 /// The certificates of all solids of a file, of version 2, in directory order; or the first solid that can't be
 /// certified: one that isn't closed, or with which there are more than 6,000,000 loop uses. Their text as a book is
-/// accepted and names all solids of the file. (own)
+/// accepted and names all solids of the file.
 pub fn certify_all(alloc: Global, file: &File) -> Result<Certificates, BookFault>
     ensures parts { IfOk result (AllZip (IsCertificateOf file.now) (solids_of file.now)) }
     ensures some { IfOk result (λ parts. 0 < length parts) }

@@ -26,7 +26,7 @@ fn shells_verdict(alloc: Global, solid: &Solid) -> Result<Verdict, NoMemory>
 }
 
 /// The verdict on the solid of an entry: closed, or the first rule that fails, with the entity and its item that break
-/// it. The rules on records and their places come before those on shells. (own)
+/// it. The rules on records and their places come before those on shells.
 pub fn verdict(alloc: Global, file: &File, no: EntryNo) -> Result<Verdict, NoMemory>
     ensures verdict { IfOk result (IsVerdictOn file.now no.0) }
     ensures only { (v : Word) → IsVerdictOn file.now no.0 v → IfOk result (λ w. w ≡ v) }

@@ -1,5 +1,5 @@
 //! Why no certificate was made.
 
-/// Why no certificate of a solid was made (own): the solid isn't closed, with the first rule on its shells that fails and
+/// Why no certificate of a solid was made: the solid isn't closed, with the first rule on its shells that fails and
 /// where; or memory ran out.
 pub use solid_check::CheckFault as MakeFault;

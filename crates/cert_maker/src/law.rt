@@ -4,40 +4,39 @@ ghost use Rattle.cert_maker.specs.BookLaws.{BookTextIsAccepted, MadeHasBook, Mad
 ghost use Rattle.cert_maker.specs.Laws.{CertificateTextIsAccepted, ClosedHasText, OneCertificateText};
 
 /// The text of the certificate that `certify` makes of a solid of a file whose places hold is accepted, and names the
-/// solid alone. (own)
+/// solid alone.
 pub fn certificate_text_is_accepted()
     ensures { CertificateTextIsAccepted }
 {}
 
-/// A solid of a file has one text of the certificate that `certify` makes. (own)
+/// A solid of a file has one text of the certificate that `certify` makes.
 pub fn one_certificate()
     ensures { OneCertificateText }
 {}
 
-/// In a file within its limits, a closed solid has a text of the certificate that `certify` makes. (own)
+/// In a file within its limits, a closed solid has a text of the certificate that `certify` makes.
 pub fn closed_has_certificate()
     ensures { ClosedHasText }
 {}
 
 /// The text of the book with the certificates of all solids of a file, which `certify_all` makes, is accepted and names
-/// them all, where there is one. (own)
+/// them all, where there is one.
 pub fn book_text_is_accepted()
     ensures { BookTextIsAccepted }
 {}
 
 /// In a file within its limits whose solids can all be certified, there is a text of the book with their certificates.
-/// (own)
 pub fn made_has_book()
     ensures { MadeHasBook }
 {}
 
-/// A file has one text of the book with the certificates of all its solids. (own)
+/// A file has one text of the book with the certificates of all its solids.
 pub fn one_book_text()
     ensures { OneBookText }
 {}
 
 /// Of the solids of a file all can be certified together, or one is the first that can't, for one reason, and never
-/// both. (own)
+/// both.
 pub fn one_unmade()
     ensures one { OneUnmade }
     ensures none { NoneUnmadeWhereMade }

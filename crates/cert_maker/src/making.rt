@@ -51,7 +51,7 @@ fn shell_parts(alloc: Global, solid: &Solid) -> Result<ShellParts, MakeFault>
 /// The certificate of a closed solid, of version 2, or the first rule on its shells that fails, with the entity and its item that
 /// break it: shell by shell JOIN of the loops, PAIR of the edges, REACH of the faces, LINK and then APART of the
 /// vertices, by rising number. For each file whose solid this is, its text is accepted, and the one text that may be
-/// made of it. (own)
+/// made of it.
 pub fn certify(alloc: Global, solid: &Solid) -> Result<Certificate, MakeFault>
     ensures certificate { IfOk result (IsCertificate solid.now) }
     ensures text { IfOk result (λ c. (f : Contents) (n : ℕ) → solid.now ≡ solid_of f n

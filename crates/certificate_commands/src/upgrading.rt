@@ -112,7 +112,7 @@ fn upgrade_text(alloc: Global, file: File, certificate: &[u8]) -> Result<Reply, 
     upgrade_book(alloc, &file, certificate, no, rest)
 }
 
-/// The certificate of a source upgraded, where it is accepted for the file; else what verifying it says (own). It is held
+/// The certificate of a source upgraded, where it is accepted for the file; else what verifying it says. It is held
 /// whole. It errs where a read fails or memory runs out.
 pub fn upgrade_certificate<C: Source>(
     alloc: Global,

@@ -139,7 +139,7 @@ fn verify_opened<C: Source>(
     book_reply(alloc, file, cert, piece, begun)
 }
 
-/// Whether the certificate of a source is accepted for the file; else the first that keeps it from being so (own). The
+/// Whether the certificate of a source is accepted for the file; else the first that keeps it from being so. The
 /// certificate is judged while it comes, and is read to its end whatever is found. It errs where a read fails or memory
 /// runs out.
 pub fn verify_certificate<C: Source>(alloc: Global, file: File, cert: &mut C) -> Result<Reply, Stop>

@@ -4,7 +4,7 @@ ghost use Rattle.std.specs.Prelude.{IfOk};
 ghost use Rattle.open_shells.specs.Accepted.{IsOpenShell};
 
 use iges_base::{EntryNo, ItemList, NoMemory};
-use small_solids::{edge_to, one, shell_of, use_of, vertex};
+use small_solids::{edge_to, one, one_use, shell_of, use_of, vertex};
 use solid_data::{LoopUse, Solid, VertexId};
 use std::alloc::Global;
 
@@ -12,7 +12,7 @@ use std::alloc::Global;
 pub fn lid(alloc: Global) -> Result<Solid, NoMemory>
     ensures { IfOk result (λ solid. IsOpenShell solid) }
 {
-    let uses = one(alloc, use_of(true))?;
+    let uses = one_use(alloc, use_of(true))?;
     let shells = shell_of(alloc, uses)?;
     let edges = one(alloc, edge_to(0))?;
     let vertices = one(alloc, vertex(1))?;
@@ -26,7 +26,7 @@ pub fn ball(alloc: Global) -> Result<Solid, NoMemory>
     let pole = LoopUse::VertexUse {
         vertex: VertexId(0),
     };
-    let uses = one(alloc, pole)?;
+    let uses = one_use(alloc, pole)?;
     let shells = shell_of(alloc, uses)?;
     let vertices = one(alloc, vertex(1))?;
     Ok(Solid::new(EntryNo(11), shells, ItemList::new(alloc), vertices))

@@ -1,4 +1,4 @@
-/// How a command ended (own).
+/// How a command ended.
 #[derive(Clone, Copy, Debug, PartialEq, Eq)]
 pub enum Answer {
     /// Status 0: what was asked for is written.
@@ -25,7 +25,7 @@ impl Answer {
     ghost use Rattle.std.specs.Prelude.{◌≡◌};
     ghost use Rattle.command_replies.specs.Answer.{code_of};
 
-    /// The status with which the program ends, from 0 to 8 (own).
+    /// The status with which the program ends, from 0 to 8.
     pub fn code(&self) -> u8
         ensures { result ≡ code_of self.now }
     {

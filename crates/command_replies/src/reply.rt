@@ -8,7 +8,7 @@ use solid_data::Failing;
 use std::alloc::Global;
 use topo_certificate::Illegal;
 
-/// What is to be answered, and the text that is to be written (own).
+/// What is to be answered, and the text that is to be written.
 #[derive(Debug, Drop)]
 pub struct Reply {
     /// How the command ends, where the text can be written.
@@ -17,7 +17,7 @@ pub struct Reply {
     pub text: Bytes,
 }
 
-/// Why there is no reply (own).
+/// Why there is no reply.
 #[derive(Clone, Copy, Debug, PartialEq, Eq)]
 pub enum Stop {
     /// A read of the file or of the certificate failed.
@@ -37,7 +37,7 @@ impl From<NoMemory> for Stop {
     }
 }
 
-/// The reply for more bytes than a limit (own).
+/// The reply for more bytes than a limit.
 pub fn too_large(alloc: Global) -> Reply
     ensures { (result.answer ≡ Answer.TooLarge) × (result.text ≡ []) }
 {
@@ -47,7 +47,7 @@ pub fn too_large(alloc: Global) -> Reply
     }
 }
 
-/// The reply for a bad file (own). It errs only where memory runs out.
+/// The reply for a bad file. It errs only where memory runs out.
 pub fn bad_file(alloc: Global, fault: LineFault) -> Result<Reply, NoMemory>
     ensures { IfOk result (λ reply. (reply.answer ≡ Answer.BadFile)
         × (reply.text ≡ bad_file_line fault)) }
@@ -77,7 +77,7 @@ fn put_failing(out: &mut Out, name: &str, entity: EntryNo, place: u32) -> Result
     out.put(b"\n")
 }
 
-/// The reply for a rule of this name that fails of an entity, at a place (own). It errs only where memory runs out.
+/// The reply for a rule of this name that fails of an entity, at a place. It errs only where memory runs out.
 pub fn failed_by(
     alloc: Global,
     name: &'static str,
@@ -95,14 +95,14 @@ pub fn failed_by(
     })
 }
 
-/// The reply for a rule that fails (own). It errs only where memory runs out.
+/// The reply for a rule that fails. It errs only where memory runs out.
 pub fn failed(alloc: Global, failing: Failing) -> Result<Reply, NoMemory>
     ensures { IfOk result (λ reply. (reply.answer ≡ Answer.No) × (reply.text ≡ fail_line failing)) }
 {
     failed_by(alloc, failing.rule.name(), failing.entity, failing.place)
 }
 
-/// The reply for a rule that fails of one among many solids (own). It errs only where memory runs out.
+/// The reply for a rule that fails of one among many solids. It errs only where memory runs out.
 pub fn solid_failed(alloc: Global, no: EntryNo, failing: Failing) -> Result<Reply, NoMemory>
     ensures { IfOk result (λ reply. (reply.answer ≡ Answer.No)
         × (reply.text ≡ solid_fail_text no.0 failing)) }
@@ -118,7 +118,7 @@ pub fn solid_failed(alloc: Global, no: EntryNo, failing: Failing) -> Result<Repl
     })
 }
 
-/// The reply for a file without a solid (own). It errs only where memory runs out.
+/// The reply for a file without a solid. It errs only where memory runs out.
 pub fn no_solid(alloc: Global) -> Result<Reply, NoMemory>
     ensures { IfOk result (λ reply. (reply.answer ≡ Answer.No) × (reply.text ≡ no_solid_line)) }
 {
@@ -148,7 +148,7 @@ fn line_of(bad: Illegal) -> u64
     }
 }
 
-/// The reply for a line of a certificate that is bad (own). It errs only where memory runs out.
+/// The reply for a line of a certificate that is bad. It errs only where memory runs out.
 pub fn illegal(alloc: Global, bad: Illegal) -> Result<Reply, NoMemory>
     ensures { IfOk result (λ reply. (reply.answer ≡ Answer.No) × (reply.text ≡ illegal_line bad)) }
 {
@@ -164,7 +164,7 @@ pub fn illegal(alloc: Global, bad: Illegal) -> Result<Reply, NoMemory>
     })
 }
 
-/// Puts the line of a solid for which a certificate is accepted (own). It errs only where memory runs out.
+/// Puts the line of a solid for which a certificate is accepted. It errs only where memory runs out.
 pub fn put_accepted(out: &mut Out, no: EntryNo) -> Result<(), NoMemory>
     ensures { IfOk result (λ _. out.new ≡ out.old ++ accepted_line no.0) }
 {
@@ -173,7 +173,7 @@ pub fn put_accepted(out: &mut Out, no: EntryNo) -> Result<(), NoMemory>
     out.put(b"\n")
 }
 
-/// The reply for a certificate that is accepted for one solid (own). It errs only where memory runs out.
+/// The reply for a certificate that is accepted for one solid. It errs only where memory runs out.
 pub fn accepted(alloc: Global, no: EntryNo) -> Result<Reply, NoMemory>
     ensures { IfOk result (λ reply. (reply.answer ≡ Answer.Done)
         × (reply.text ≡ accepted_line no.0)) }

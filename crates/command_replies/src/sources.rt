@@ -18,14 +18,14 @@ use iges_lines::LineFeed;
 use iges_params::{File, ReadFileFault, take_sections};
 use std::alloc::Global;
 
-/// A buffer for what one read gives (own). It errs only where memory runs out.
+/// A buffer for what one read gives. It errs only where memory runs out.
 pub fn buffer(alloc: Global) -> Result<Vec<u8>, NoMemory>
     ensures { IfOk result (λ room. vec_len room ≡ PIECE) }
 {
     Ok(piece_room(alloc)?)
 }
 
-/// All bytes of a source, or the reply where they are more than the limit (own). It errs where a read fails or memory runs
+/// All bytes of a source, or the reply where they are more than the limit. It errs where a read fails or memory runs
 /// out.
 pub fn bytes_in<S: Source>(
     alloc: Global,
@@ -106,7 +106,7 @@ fn file_of(alloc: Global, feed: LineFeed) -> Result<Result<File, Reply>, NoMemor
     }
 }
 
-/// The file of a source, which is read as lines while it comes, or the reply where its bytes are too many or none (own). It
+/// The file of a source, which is read as lines while it comes, or the reply where its bytes are too many or none. It
 /// errs where a read fails or memory runs out.
 pub fn file_in<F: Source>(alloc: Global, source: &mut F) -> Result<Result<File, Reply>, Stop>
     requires { F.can_read source.old }

@@ -121,7 +121,7 @@ fn numbers(alloc: Global, count: usize) -> Result<Vec<u32>, NoMemory>
     Ok(out)
 }
 
-/// For each node, from 0 to `count`, the least one that chains of pairs join it to (own). It goes once
+/// For each node, from 0 to `count`, the least one that chains of pairs join it to. It goes once
 /// over the pairs, and takes little more than constant time for each.
 pub fn components(alloc: Global, count: usize, pairs: &[(u32, u32)]) -> Result<Vec<u32>, NoMemory>
     requires few { count < 2 ^ 32 }

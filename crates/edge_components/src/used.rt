@@ -9,7 +9,7 @@ use iges_base::NoMemory;
 use solid_data::{Edge, FaceUse, Loop, LoopUse, Solid};
 use std::alloc::Global;
 
-/// The edges and the vertices of some faces, each once for each use (own).
+/// The edges and the vertices of some faces, each once for each use.
 #[derive(Drop)]
 pub struct Used {
     /// Numbers of edges of the solid, from 0: one for each edge use.

@@ -81,8 +81,7 @@ fn above_shells(solid: &Solid, shell: ShellAt) -> usize
     above
 }
 
-/// The vertices of the shells before a shell (own). It takes no memory, and goes over all uses
-/// before the shell.
+/// The vertices of the shells before a shell. It takes no memory, and goes over all uses before the shell.
 pub fn vertices_before(solid: &Solid, shell: ShellAt) -> VerticesBefore
     requires { shell.0 ≤ length solid.now.shells }
     ensures { AreBelow solid.now shell.0 result }
@@ -92,7 +91,7 @@ pub fn vertices_before(solid: &Solid, shell: ShellAt) -> VerticesBefore
     VerticesBefore::below(above_shells(solid, shell))
 }
 
-/// The least vertex of a shell that is a vertex of one before it. (own)
+/// The least vertex of a shell that is a vertex of one before it.
 pub fn first_shared(
     alloc: Global,
     solid: &Solid,

@@ -4,9 +4,9 @@ use crate::table::Rows;
 use solid_data::VertexId;
 use std::marker::Model;
 
-/// The vertices of the first shells of a solid (own). They are the ones below a number, since
-/// vertices are numbered by first appearance; so whoever goes over the shells in order keeps this
-/// number alone, and judges each shell in one comparison.
+/// The vertices of the first shells of a solid. They are the ones below a number, since vertices are numbered by first
+/// appearance; so whoever goes over the shells in order keeps this number alone, and judges each shell in one
+/// comparison.
 #[derive(Clone, Copy)]
 pub struct VerticesBefore {
     below: usize,
@@ -38,14 +38,14 @@ impl VerticesBefore {
         VerticesBefore { below }
     }
 
-    /// No vertices, as before the first shell (own).
+    /// No vertices, as before the first shell.
     pub fn none() -> VerticesBefore
         ensures { (s : SolidData) → AreBelow s 0 result }
     {
         VerticesBefore { below: 0 }
     }
 
-    /// The least vertex of the next shell, whose rows are given, that is one of these (own).
+    /// The least vertex of the next shell, whose rows are given, that is one of these.
     pub fn first_shared(self, rows: &Rows) -> Option<VertexId>
         ensures { (s : SolidData) (k : ℕ) → AreBelow s k self → rows.now ≡ rows_of s (slice_get s.shells k) →
             MatchOption result (AllByRecursion (IsApart s k) rows.now.vertices) (λ v. FirstNot (IsApart s k) rows.now.vertices v.0) }
@@ -58,7 +58,7 @@ impl VerticesBefore {
         }
     }
 
-    /// These vertices and those of the next shell, whose rows are given (own).
+    /// These vertices and those of the next shell, whose rows are given.
     pub fn with(self, rows: &Rows) -> VerticesBefore
         ensures { (s : SolidData) (k : ℕ) → IsNumberedSolid s → k < length s.shells → AreBelow s k self → rows.now ≡ rows_of s (slice_get s.shells k) →
             AreBelow s (k + 1) result }

@@ -15,8 +15,8 @@ use iges_base::NoMemory;
 use solid_data::{Edge, EdgeId, FaceAt, FaceUse, Loop, LoopAt, LoopUse, Shell, Solid};
 use std::alloc::Global;
 
-/// What has been read of a shell, column by column as in `Rows`, but that each edge and each vertex
-/// is there once for each use.
+/// What has been read of a shell, column by column as in `Rows`, but that each edge and each vertex is there once for
+/// each use.
 #[derive(Drop)]
 pub struct Built {
     /// The edge uses, in file order.
@@ -222,7 +222,43 @@ fn push_point(points: &mut Vec<(LoopAt, u32)>, point: Option<(LoopAt, u32)>) -> 
     Ok(())
 }
 
+fn face_use_count(face: &FaceUse) -> usize {
+    let mut count = 0usize;
+    let loops = face.loops.as_slice();
+    'loops: for i in 0..loops.len() {
+        count = count.saturating_add(loops[i].uses.len());
+    }
+    count
+}
+
+/// How many uses the loops of a shell have, as a hint of the memory to take at once.
+pub fn use_count(shell: &Shell) -> usize {
+    let mut count = 0usize;
+    let faces = shell.faces.as_slice();
+    'faces: for i in 0..faces.len() {
+        count = count.saturating_add(face_use_count(&faces[i]));
+    }
+    count
+}
+
 impl Built {
+    /// Nothing that was read, with memory for so many uses of edges.
+    pub fn with_room(alloc: Global, uses: usize) -> Result<Built, NoMemory>
+        ensures rows { IfOk result (λ b. b.rows.items ≡ []) }
+        ensures next { IfOk result (λ b. b.next.items ≡ []) }
+        ensures points { IfOk result (λ b. b.points.items ≡ []) }
+        ensures edges { IfOk result (λ b. b.edges.items ≡ []) }
+        ensures vertices { IfOk result (λ b. b.vertices.items ≡ []) }
+    {
+        Ok(Built {
+            rows: Vec::with_capacity(alloc, uses)?,
+            next: Vec::with_capacity(alloc, uses)?,
+            points: Vec::new(alloc),
+            edges: Vec::with_capacity(alloc, uses)?,
+            vertices: Vec::with_capacity(alloc, uses.saturating_mul(2))?,
+        })
+    }
+
     fn add_loop(
         &mut self,
         solid: &Solid,

@@ -9,8 +9,8 @@ use iges_base::NoMemory;
 use std::alloc::Global;
 use std::marker::Model;
 
-/// A value for each number of a range, to be set where a number is one of some that rise (own). They
-/// take room for no more than a few values for each of these, also where these lie far apart.
+/// A value for each number of a range, to be set where a number is one of some that rise. They take room for no more
+/// than a few values for each of these, also where these lie far apart.
 #[derive(Drop)]
 pub struct Cells<'a, T> {
     numbers: &'a [u32],
@@ -59,7 +59,7 @@ impl<'a, T: Copy> Cells<'a, T> {
     ghost use Rattle.edge_uses.specs.Cells.{cell_of, with_cell};
     ghost use Rattle.edge_uses.specs.Ranges.{IsSpanOf, IsWithin};
 
-    /// The same value for each number of the range of some that rise (own).
+    /// The same value for each number of the range of some that rise.
     pub fn new(alloc: Global, numbers: &'a [u32], blank: T) -> Result<Cells<'a, T>, NoMemory>
         requires rise { IsStrictlyIncreasing numbers.now }
         requires clones { (x : T) → T.is_clone blank x → x ≡ blank }
@@ -80,14 +80,14 @@ impl<'a, T: Copy> Cells<'a, T> {
         })
     }
 
-    /// The range (own).
+    /// The range.
     pub fn span(&self) -> Span
         ensures { result ≡ self.now.span }
     {
         self.span
     }
 
-    /// The value of a number of the range (own).
+    /// The value of a number of the range.
     pub fn at(&self, n: u32) -> T
         requires { IsWithin self.now.span n }
         ensures { result ≡ cell_of self.now n }
@@ -101,7 +101,7 @@ impl<'a, T: Copy> Cells<'a, T> {
         }
     }
 
-    /// Gives one of the numbers another value (own).
+    /// Gives one of the numbers another value.
     pub fn set(&mut self, n: u32, value: T)
         requires { Contains self.old.numbers n }
         ensures { self.new ≡ with_cell self.old n value }

@@ -3,7 +3,7 @@
 use iges_base::NoMemory;
 use solid_data::EdgeId;
 
-/// Why the rows of a shell weren't paired (own).
+/// Why the rows of a shell weren't paired.
 #[derive(Clone, Copy, Debug, PartialEq, Eq)]
 pub enum PairFault {
     /// The least edge that hasn't exactly two rows, one along it and one against it.

@@ -14,8 +14,7 @@ ghost use Rattle.solid_data.specs.declared.TheConstants.{PART_LIMIT};
 
 use solid_data::{Edge, FaceAt, FaceUse, Loop, LoopAt, LoopUse, Shell, ShellAt, Solid, VertexId};
 
-/// A loop that doesn't join, and the tuple of its first use that doesn't end where the next one
-/// starts, from 1 (own).
+/// A loop that doesn't join, and the tuple of its first use that doesn't end where the next one starts, from 1.
 #[derive(Clone, Copy, Debug, PartialEq, Eq)]
 pub struct Unjoined {
     /// The loop, by its face in the shell and its place in the face, both from 0.
@@ -120,9 +119,9 @@ fn open_in_shell(solid: &Solid, shell: &Shell) -> Option<Unjoined>
     None
 }
 
-/// The first loop of a shell that doesn't join, with its first open use. It takes no memory.
-/// In a loop's own order and by its own flags alone each use ends where the next one starts, the
-/// last where the first does; a vertex use starts and ends at its vertex (own).
+/// The first loop of a shell that doesn't join, with its first open use. It takes no memory. In a loop's own order and
+/// by its own flags alone each use ends where the next one starts, the last where the first does; a vertex use starts
+/// and ends at its vertex.
 pub fn first_unjoined(solid: &Solid, shell: ShellAt) -> Option<Unjoined>
     requires { shell.0 < length solid.now.shells }
     ensures first { IfSome (slice_get solid.now.shells shell.0)

@@ -7,8 +7,8 @@ ghost use Rattle.solid_data.specs.declared.verdict.Failing.{Failing as Named};
 ghost use Rattle.edge_uses.specs.Closed.{IsClosedSolid};
 ghost use Rattle.edge_uses.specs.ShellObligations.{solid_obligations};
 
-/// The shells of a solid are closed exactly where each obligation on them holds, and where not all hold there is exactly one
-/// first false obligation. (own)
+/// The shells of a solid are closed exactly where each obligation on them holds, and where not all hold there is
+/// exactly one first false obligation.
 pub fn shells_are_definite()
     ensures closed { (s : SolidData) → IsClosedSolid s ↔ AllHold (solid_obligations s) }
     ensures one { (s : SolidData) (x y : Named) → FirstFalse (solid_obligations s) x

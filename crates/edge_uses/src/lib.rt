@@ -1,8 +1,7 @@
 //! The edge uses of a shell: which follow one another, which are mates, and what shells share.
 //!
-//! A row is a use of an edge by a loop (a coedge or half-edge); its mate is the opposite one, on
-//! the same edge. A turn leads from a row to the next one about the vertex where it starts: the row
-//! that follows its mate.
+//! A row is a use of an edge by a loop (a coedge or half-edge); its mate is the opposite one, on the same edge. A turn
+//! leads from a row to the next one about the vertex where it starts: the row that follows its mate.
 #![tactic(auto)]
 
 mod apart;

@@ -4,8 +4,7 @@ use crate::table::Rows;
 use solid_data::RowId;
 use std::marker::Model;
 
-/// The rows of a shell of which each has one mate: the row that runs on its edge in the other
-/// direction (own).
+/// The rows of a shell of which each has one mate: the row that runs on its edge in the other direction.
 #[derive(Drop)]
 pub struct Paired<'a> {
     rows: &'a Rows,
@@ -36,7 +35,7 @@ impl<'a> Paired<'a> {
         Paired { rows, mates }
     }
 
-    /// The rows that were paired (own).
+    /// The rows that were paired.
     pub fn rows(&self) -> &Rows
         ensures rows { result.now ≡ self.now }
         ensures whole { ArePaired self.now }
@@ -46,7 +45,7 @@ impl<'a> Paired<'a> {
         self.rows
     }
 
-    /// The row that runs on the same edge in the other direction; none past the end (own).
+    /// The row that runs on the same edge in the other direction; none past the end.
     pub fn mate(&self, r: RowId) -> Option<RowId>
         ensures { MatchOption result (length self.now.rows ≤ r.0) (λ m. AreMates self.now r.0 m.0) }
     {
@@ -56,7 +55,7 @@ impl<'a> Paired<'a> {
         }
     }
 
-    /// The row that follows the mate of a row; none past the end (own). Both start at one vertex.
+    /// The row that follows the mate of a row; none past the end. Both start at one vertex.
     pub fn turn(&self, r: RowId) -> Option<RowId>
         ensures { MatchOption result (length self.now.rows ≤ r.0) (λ t. Turns self.now r.0 t.0) }
     {

@@ -62,16 +62,16 @@ fn mates_of(alloc: Global, rows: &Rows, tally: &Tally<'_>) -> Result<Vec<u32>, N
     requires whole { ArePaired rows.now }
     ensures { IfOk result (λ mates. HaveMates rows.now mates.items) }
 {
-    let mut mates = Vec::new(alloc);
     let rows = rows.row_slice();
+    let mut mates = Vec::with_capacity(alloc, rows.len())?;
     'rows: for i in 0..rows.len() {
         mates.push(mate_in(tally, rows[i]))?;
     }
     Ok(mates)
 }
 
-/// The rows with their mates, where each edge has two rows, one along it and one against it (own).
-/// Each row ends where the row that follows it starts; the rows of a shell whose loops join do.
+/// The rows with their mates, where each edge has two rows, one along it and one against it. Each row ends where the
+/// row that follows it starts; the rows of a shell whose loops join do.
 pub fn pair(alloc: Global, rows: &Rows) -> Result<Paired<'_>, PairFault>
     requires { EndsMeet rows.now }
     ensures rows { IfOk result (λ p. p ≡ rows.now) }

@@ -6,7 +6,7 @@ use crate::row::Row;
 use crate::table::Rows;
 use solid_data::{LoopAt, RowId, VertexId};
 
-/// The i-th row, from 0, which there must be (own).
+/// The i-th row, from 0, which there must be.
 #[inline(always)]
 pub fn row_at(rows: &Rows, i: usize) -> Row
     requires { i < length rows.now.rows }
@@ -17,7 +17,7 @@ pub fn row_at(rows: &Rows, i: usize) -> Row
     rows.row(RowId(i as u32)).unwrap()
 }
 
-/// The i-th vertex that occurs in the shell, by rising number, i from 0, which there must be (own).
+/// The i-th vertex that occurs in the shell, by rising number, i from 0, which there must be.
 #[inline(always)]
 pub fn vertex_at(rows: &Rows, i: usize) -> VertexId
     requires { i < length rows.now.vertices }
@@ -26,7 +26,7 @@ pub fn vertex_at(rows: &Rows, i: usize) -> VertexId
     rows.vertex_at(i).unwrap()
 }
 
-/// The i-th loop without an edge, in file order, i from 0, which there must be, and its vertex (own).
+/// The i-th loop without an edge, in file order, i from 0, which there must be, and its vertex.
 #[inline(always)]
 pub fn point_at(rows: &Rows, i: usize) -> (LoopAt, VertexId)
     requires { i < length rows.now.points }

@@ -3,8 +3,8 @@
 ghost use Rattle.std.specs.Prelude.{◌≡◌, ◌+◌, ◌/◌, ◌≤◌, ◌^◌, [], ◌↔◌, nat_lt, All, Contains, IfSome, IsNone};
 ghost use Rattle.edge_uses.specs.Ranges.{IsSpanOf};
 
-/// The numbers from `least` on, `count` of them (own). Arrays over the edges or vertices of a shell
-/// start at its least one, so that they are no longer than the shell where it shares none.
+/// The numbers from `least` on, `count` of them. Arrays over the edges or vertices of a shell start at its least one,
+/// so that they are no longer than the shell where it shares none.
 #[derive(Clone, Copy, Debug, PartialEq, Eq)]
 pub struct Span {
     pub least: u32,
@@ -14,8 +14,8 @@ pub struct Span {
 // A number that occurs is worth so many places of an array.
 const PLACES_EACH: usize = 8;
 
-/// Whether a range is many times longer than a list, so that an array over the range would take much
-/// more room than the list, and numbers are better searched.
+/// Whether a range is many times longer than a list, so that an array over the range would take much more room than the
+/// list, and numbers are better searched.
 pub fn is_far(span: Span, len: usize) -> bool
     ensures { result ≡ nat_lt len (span.count / 8) }
 {

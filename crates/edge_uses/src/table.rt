@@ -1,6 +1,6 @@
 //! The rows of a shell.
 
-use crate::building::Built;
+use crate::building::{Built, use_count};
 use crate::occurring::occurring_numbers;
 use crate::row::Row;
 use crate::spanning::{Span, span_of};
@@ -9,8 +9,8 @@ use solid_data::{EdgeId, LoopAt, RowId, Shell, Solid, VertexId};
 use std::alloc::Global;
 use std::marker::Model;
 
-/// The edge uses of a shell in file order, and what occurs in the shell (own). Rows are flat: the
-/// next row of each is a number beside it, and nothing is taken for a loop or a row of its own.
+/// The edge uses of a shell in file order, and what occurs in the shell. Rows are flat: the next row of each is a
+/// number beside it, and nothing is taken for a loop or a row of its own.
 #[derive(Drop)]
 pub struct Rows {
     rows: Vec<Row>,
@@ -46,7 +46,7 @@ impl Rows {
     ghost use Rattle.edge_uses.specs.ShellRows.{AreRows, shell_rows, rows_of};
     ghost use Rattle.edge_uses.specs.Building.{uses_of, HasKnownParts};
 
-    /// How many rows there are (own).
+    /// How many rows there are.
     pub fn len(&self) -> usize
         ensures count { result ≡ length self.now.rows }
         ensures kept { AreRows self.now }
@@ -54,15 +54,15 @@ impl Rows {
         self.rows.len()
     }
 
-    /// A row, from 0 in file order; none past the end (own).
+    /// A row, from 0 in file order; none past the end.
     pub fn row(&self, r: RowId) -> Option<Row>
         ensures { result ≡ slice_get self.now.rows r.0 }
     {
         self.rows.get(r.0 as usize).copied()
     }
 
-    /// The row that follows a row: the next of its loop, cyclically, vertex uses passed over, or
-    /// the one before in a loop that is walked backwards (own). None past the end.
+    /// The row that follows a row: the next of its loop, cyclically, vertex uses passed over, or the one before in a
+    /// loop that is walked backwards. None past the end.
     pub fn follows(&self, r: RowId) -> Option<RowId>
         ensures { option_map (λ (t : AnyRowId). t.0) result ≡ slice_get self.now.follows r.0 }
     {
@@ -72,29 +72,28 @@ impl Rows {
         }
     }
 
-    /// How many edges occur in the shell (own).
+    /// How many edges occur in the shell.
     pub fn edge_count(&self) -> usize
         ensures { result ≡ length self.now.edges }
     {
         self.edges.len()
     }
 
-    /// How many vertices occur in the shell, those of vertex uses among them (own).
+    /// How many vertices occur in the shell, those of vertex uses among them.
     pub fn vertex_count(&self) -> usize
         ensures { result ≡ length self.now.vertices }
     {
         self.vertices.len()
     }
 
-    /// How many faces the shell has (own).
+    /// How many faces the shell has.
     pub fn face_count(&self) -> usize
         ensures { result ≡ self.now.face_count }
     {
         self.faces as usize
     }
 
-    /// The i-th vertex that occurs in the shell, by rising number, i from 0; None past the end
-    /// (own).
+    /// The i-th vertex that occurs in the shell, by rising number, i from 0; None past the end.
     pub fn vertex_at(&self, i: usize) -> Option<VertexId>
         ensures { option_map (λ (v : AnyVertexId). v.0) result ≡ slice_get self.now.vertices i }
     {
@@ -104,7 +103,7 @@ impl Rows {
         }
     }
 
-    /// The i-th edge that occurs in the shell, by rising number, i from 0; None past the end (own).
+    /// The i-th edge that occurs in the shell, by rising number, i from 0; None past the end.
     pub fn edge_at(&self, i: usize) -> Option<EdgeId>
         ensures { option_map (λ (e : AnyEdgeId). e.0) result ≡ slice_get self.now.edges i }
     {
@@ -114,7 +113,7 @@ impl Rows {
         }
     }
 
-    /// The shortest range that holds the edges that occur in the shell (own).
+    /// The shortest range that holds the edges that occur in the shell.
     pub fn edge_span(&self) -> Span
         ensures span { IsSpanOf result self.now.edges }
         ensures kept { AreRows self.now }
@@ -122,22 +121,21 @@ impl Rows {
         span_of(self.edge_slice())
     }
 
-    /// The shortest range that holds the vertices that occur in the shell (own).
+    /// The shortest range that holds the vertices that occur in the shell.
     pub fn vertex_span(&self) -> Span
         ensures { IsSpanOf result self.now.vertices }
     {
         span_of(self.vertex_slice())
     }
 
-    /// How many loops have no edge, but vertex uses alone (own).
+    /// How many loops have no edge, but vertex uses alone.
     pub fn isolated_count(&self) -> usize
         ensures { result ≡ length self.now.points }
     {
         self.points.len()
     }
 
-    /// The i-th loop without an edge, in file order, i from 0, and the vertex of its first use;
-    /// None past the end (own).
+    /// The i-th loop without an edge, in file order, i from 0, and the vertex of its first use; None past the end.
     pub fn isolated(&self, i: usize) -> Option<(LoopAt, VertexId)>
         ensures { option_map (λ (p : LoopPlace × AnyVertexId). (p.0, p.1.0)) result
             ≡ slice_get self.now.points i }
@@ -154,7 +152,7 @@ impl Rows {
         self.rows.as_slice()
     }
 
-    /// The edges that occur in the shell, by rising number (own).
+    /// The edges that occur in the shell, by rising number.
     pub fn edge_slice(&self) -> &[u32]
         ensures items { result.now ≡ self.now.edges }
         ensures kept { AreRows self.now }
@@ -162,7 +160,7 @@ impl Rows {
         self.edges.as_slice()
     }
 
-    /// The vertices that occur in the shell, by rising number (own).
+    /// The vertices that occur in the shell, by rising number.
     pub fn vertex_slice(&self) -> &[u32]
         ensures items { result.now ≡ self.now.vertices }
         ensures kept { AreRows self.now }
@@ -177,13 +175,7 @@ impl Rows {
         requires whole { AreRows (shell_rows solid.now shell.now) }
         ensures { IfOk result (λ r. r ≡ shell_rows solid.now shell.now) }
     {
-        let mut built = Built {
-            rows: Vec::new(alloc),
-            next: Vec::new(alloc),
-            points: Vec::new(alloc),
-            edges: Vec::new(alloc),
-            vertices: Vec::new(alloc),
-        };
+        let mut built = Built::with_room(alloc, use_count(shell))?;
         built.add_shell(solid, shell)?;
         let edges = occurring_numbers(alloc, built.edges.as_slice())?;
         let vertices = occurring_numbers(alloc, built.vertices.as_slice())?;

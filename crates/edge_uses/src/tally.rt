@@ -14,8 +14,7 @@ use iges_base::NoMemory;
 use std::alloc::Global;
 use std::marker::Model;
 
-/// How often an edge was run along and against, and by which row last, from 0; where none did, that
-/// row is 0 too.
+/// How often an edge was run along and against, and by which row last, from 0; where none did, that row is 0 too.
 #[derive(Clone, Copy)]
 pub struct Seen {
     /// How many rows run along the edge.
@@ -35,7 +34,7 @@ const UNSEEN: Seen = Seen {
     against_row: 0,
 };
 
-/// What was seen of each edge of a range (own).
+/// What was seen of each edge of a range.
 #[derive(Drop)]
 pub struct Tally<'a> {
     cells: Cells<'a, Seen>,
@@ -84,8 +83,7 @@ fn see(cells: &mut Cells<'_, Seen>, row: Row, r: u32)
     cells.set(row.edge.0, once_more(seen, r, row.along));
 }
 
-/// What the rows of a shell are seen to do to the edges of their range (own). It takes no longer
-/// where they lie far apart.
+/// What the rows of a shell are seen to do to the edges of their range. It takes no longer where they lie far apart.
 pub fn tally_of(alloc: Global, rows: &Rows) -> Result<Tally<'_>, NoMemory>
     ensures span { IfOk result (λ tally. IsSpanOf tally.span rows.now.edges) }
     ensures kept { AreRows rows.now }

@@ -25,7 +25,7 @@ fn add_number(set: &mut EntrySet, file: &File, number: i64) -> Result<(), NoMemo
     }
 }
 
-/// Puts the entries that the numbers name (own). Where memory runs out, some of the first of them may have been put,
+/// Puts the entries that the numbers name. Where memory runs out, some of the first of them may have been put,
 /// and no more.
 pub fn add_numbers(set: &mut EntrySet, file: &File, numbers: &ItemList<i64>) -> Result<(), NoMemory>
     requires size { set.old.size ≡ length file.now.entries }

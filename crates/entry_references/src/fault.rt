@@ -3,7 +3,7 @@
 use iges_fields::NoMemory;
 use std::alloc::{AllocError, AllocFailed};
 
-/// Why the references of an entry aren't given (own). Of the first three the first that holds is reported.
+/// Why the references of an entry aren't given. Of the first three the first that holds is reported.
 #[derive(Clone, Copy, Debug, PartialEq, Eq)]
 pub enum RefFault {
     /// The type of the entry isn't one that extraction follows.
@@ -16,7 +16,7 @@ pub enum RefFault {
     NoMemory,
 }
 
-/// Why a solid isn't extracted (own).
+/// Why a solid isn't extracted.
 #[derive(Clone, Copy, Debug, PartialEq, Eq)]
 pub enum ExtractReason {
     /// The number names no solid.

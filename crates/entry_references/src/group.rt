@@ -75,7 +75,7 @@ fn group_at(values: &Values, before: usize) -> Option<Group>
     })
 }
 
-/// The second of the two groups after the own values, where nothing else is there; a group may be missing (own).
+/// The second of the two groups after the own values, where nothing else is there; a group may be missing.
 pub fn second_group(own: &Own, values: &Values) -> Option<Group>
     requires { length values.now ≤ FILE_LIMIT }
     ensures { MatchOption result (are_groups own.now values.now ≡ false)

@@ -34,7 +34,7 @@ pub enum Layout {
 pub enum Forms {
     /// One layout in each form.
     Every(Layout),
-    /// One layout in form 1, and another in form 0, as which each other form is read (own).
+    /// One layout in form 1, and another in form 0, as which each other form is read.
     First(Layout, Layout),
 }
 
@@ -131,8 +131,8 @@ fn is_other_property(entry: &Entry) -> bool
     entry.kind == 406 && entry.form != 15
 }
 
-/// The layout of a type in a form (IGES 5.3, chapter 4); None where the type isn't listed (own). Of the analytic
-/// surfaces each form but 1 is read as 0, and of the properties only the name is listed (own).
+/// The layout of a type in a form (IGES 5.3, chapter 4); None where the type isn't listed. Of the analytic
+/// surfaces each form but 1 is read as 0, and of the properties only the name is listed.
 pub fn layout_of(entry: &Entry) -> Option<Layout>
     ensures { option_map layout_of_row result ≡ layout_of entry.now }
 {

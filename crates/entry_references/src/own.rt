@@ -10,7 +10,7 @@ use std::alloc::Global;
 use std::marker::Model;
 
 /// How many values of a record are its own, which come before the groups of pointers (IGES 5.3, 2.2.4.5.2), and the
-/// places of pointers among them, from 1: of those that are followed, and of those that are cut (own).
+/// places of pointers among them, from 1: of those that are followed, and of those that are cut.
 #[derive(Drop)]
 pub struct Own {
     /// How many own values there are, the type number not counted.

@@ -72,7 +72,7 @@ fn of_spline_curve(alloc: Global, values: &Values) -> Option<Own>
     Some(Own::plain(alloc, 4 + (segments + 1) + 12 * segments + 12))
 }
 
-// Point (type 116; IGES 5.3, 4.16): 3 coordinates, and a display symbol, which is cut (own).
+// Point (type 116; IGES 5.3, 4.16): 3 coordinates, and a display symbol, which is cut.
 fn of_point(alloc: Global, values: &Values) -> Result<Option<Own>, NoMemory>
     ensures { IfOk result (λ own. own ≡ own_in (layout_of_row Point) values.now) }
 {
@@ -121,7 +121,7 @@ fn of_rational_surface(alloc: Global, values: &Values) -> Option<Own>
     ))
 }
 
-/// The own values by a layout (IGES 5.3, chapter 4); None where the record doesn't fit it (own). Each count is at
+/// The own values by a layout (IGES 5.3, chapter 4); None where the record doesn't fit it. Each count is at
 /// most the number of values, so that no product passes 64 bits.
 pub fn own_in(alloc: Global, layout: Layout, values: &Values) -> Result<Option<Own>, NoMemory>
     requires { length values.now ≤ FILE_LIMIT }

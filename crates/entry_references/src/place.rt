@@ -1,4 +1,4 @@
-//! Values of a record by their places, counted from 1 without the type number (own); `brep_lists` counts them from 0.
+//! Values of a record by their places, counted from 1 without the type number; `brep_lists` counts them from 0.
 
 ghost use Rattle.entry_references.specs.Layout.{value_at, count_of, is_count, is_choice, is_pointer};
 ghost use Rattle.entry_references.specs.PointForms.{form_number};

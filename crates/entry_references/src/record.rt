@@ -10,14 +10,14 @@ use iges_directory::Entry;
 use iges_fields::{EntryNo, Values};
 use iges_params::File;
 
-/// An entry and the values of its record (own).
+/// An entry and the values of its record.
 #[derive(Clone, Copy)]
 pub struct Record<'a> {
     pub entry: &'a Entry,
     pub values: &'a Values,
 }
 
-/// The entry that a number names, with its values; None where it names none (own).
+/// The entry that a number names, with its values; None where it names none.
 pub fn record_of(file: &File, no: EntryNo) -> Option<Record<'_>>
     ensures { MatchOption result (named file.now (pos no.0) ≡ None)
         (λ r. (named file.now (pos no.0) ≡ Some (r.entry.now, r.values.now)) × IsBounded r.entry.now × (length r.values.now ≤ FILE_LIMIT) × IsWithin (length file.now.entries) no.0) }

@@ -17,7 +17,7 @@ use iges_fields::{ItemList, Values};
 use iges_params::File;
 use std::alloc::Global;
 
-/// How the values of a record are laid out (own).
+/// How the values of a record are laid out.
 #[derive(Drop)]
 pub struct Shape {
     /// The own values.
@@ -26,7 +26,7 @@ pub struct Shape {
     pub names: Group,
 }
 
-/// How the values of a record are laid out, or the first of the faults that they have (own).
+/// How the values of a record are laid out, or the first of the faults that they have.
 pub fn shape_of(alloc: Global, entry: &Entry, values: &Values) -> Result<Shape, RefFault>
     requires { length values.now ≤ FILE_LIMIT }
     ensures ok { IfOk result (λ shape. HasShape (entry.now, values.now) shape.own shape.names) }
@@ -44,7 +44,7 @@ pub fn shape_of(alloc: Global, entry: &Entry, values: &Values) -> Result<Shape, 
     Ok(Shape { own, names })
 }
 
-/// The numbers that an entry refers to, as its values and fields list them, or the first of its faults (own).
+/// The numbers that an entry refers to, as its values and fields list them, or the first of its faults.
 pub fn refs(
     alloc: Global,
     file: &File,

@@ -29,7 +29,7 @@ fn rising_references(alloc: Global, file: &File, no: EntryNo) -> Result<EntryLis
 
 /// The entries that an entry refers to, in rising order, each once: those that the pointers among its own values name
 /// (IGES 5.3, 4), its transformation matrix (2.2.4.4.7), its colour where that is an entry (2.2.4.4.13), and the names
-/// among its properties (2.2.4.5.2). The first of its faults is given in their place (own).
+/// among its properties (2.2.4.5.2). The first of its faults is given in their place.
 pub fn references(alloc: Global, file: &File, no: EntryNo) -> Result<EntryList, RefFault>
     requires { IsSome (named file.now (pos no.0)) }
     ensures found { IfOk result (AreReferences file.now no.0) }

@@ -13,7 +13,7 @@ use Rattle.solid_data.specs.declared.solid.VertexKey.{VertexKey}
 use Rattle.solid_data.specs.declared.solid.LoopUse.TheVariants.{EdgeUse, VertexUse}
 use Rattle.solid_data.proofs.Members.{All-at, all_flat_map}
 use Rattle.brep_walk.specs.Places.{shells, faces, loops, tuples, edge_at, numbers, NamesKind, places}
-use Rattle.item_numbers.specs.Keys.{Keys}
+use Rattle.brep_numbering.specs.Keys.{Keys}
 use Rattle.brep_walk.specs.SolidOf.{edge_key, vertex_key, all_tuples, edge_named, ends_named, vertices_named, edge_keys, vertex_keys, use_by, loop_by, face_by, shell_by, numbered_by, edge_by, keys_of, solid_of}
 use Rattle.solid_extract.specs.Kept.{renamed_pair, renamed_tuple, renamed_edge}
 use Rattle.extraction_laws.specs.Relabelled.{Names, renumbered, IsRelabelledLoop, IsRelabelledFace, IsRelabelledShell, IsRelabelledEdge, IsRelabelled}

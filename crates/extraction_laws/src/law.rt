@@ -7,7 +7,7 @@ ghost use Rattle.extraction_laws.specs.Written.{ExtractedIsWritable, WrittenAgai
 
 /// Solids that differ only in the names of entities, edges and vertices, list and index, fail the rules of a closed
 /// shell at the same loops, edges, faces and vertices: the rules read names only to say what fails. Where no two names
-/// become one, the new name of what fails gives the old one. (own)
+/// become one, the new name of what fails gives the old one.
 pub fn relabelled_solids_fail_alike()
     ensures items { RenamedFailAlike }
     ensures verdict { RenamedKeepsVerdict }
@@ -15,41 +15,40 @@ pub fn relabelled_solids_fail_alike()
 {}
 
 /// The places of a solid in its extracted file are those that it had, with entities renamed, up to the first false one.
-/// (own)
 pub fn places_are_kept()
     ensures items { PlacesAreAlike }
     ensures verdict { PlacesAreKept }
 {}
 
-/// Where the places of a solid hold, its extracted file describes the same solid, with directory numbers renamed. (own)
+/// Where the places of a solid hold, its extracted file describes the same solid, with directory numbers renamed.
 pub fn solid_is_kept()
     ensures { SolidIsKept }
 {}
 
-/// An extracted solid has the verdict that it had in its file, with the entity renamed. (own)
+/// An extracted solid has the verdict that it had in its file, with the entity renamed.
 pub fn verdict_is_kept()
     ensures verdict { VerdictIsKept }
     ensures only { NoOtherVerdict }
     ensures closed { ClosedIsKept }
 {}
 
-/// What is extracted of a file whose canonical text reads back has a text that reads back. (own)
+/// What is extracted of a file whose canonical text reads back has a text that reads back.
 pub fn extracted_is_writable()
     ensures { ExtractedIsWritable }
 {}
 
 /// The canonical text of what is extracted of a file that was read, where it has at most `FILE_LIMIT` bytes, is read as
-/// exactly what was extracted. (own)
+/// exactly what was extracted.
 pub fn written_is_extracted()
     ensures { WrittenIsExtracted }
 {}
 
-/// That text is exactly one file, and the solid has the verdict there that it had, with the entity renamed. (own)
+/// That text is exactly one file, and the solid has the verdict there that it had, with the entity renamed.
 pub fn written_keeps_verdict()
     ensures { WrittenKeepsVerdict }
 {}
 
-/// Extracted again from that text, the solid gives the same file and the same text. (own)
+/// Extracted again from that text, the solid gives the same file and the same text.
 pub fn written_again()
     ensures { WrittenAgain }
 {}

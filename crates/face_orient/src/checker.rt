@@ -8,7 +8,7 @@ use solid_data::{RowList, ShellAt, Solid};
 use std::alloc::Global;
 use std::marker::Model;
 
-/// Judges flags and rings of one shell of a solid (own). It takes all its memory when it is made.
+/// Judges flags and rings of one shell of a solid. It takes all its memory when it is made.
 #[derive(Drop)]
 pub struct OrientChecker<'a> {
     solid: &'a Solid,
@@ -55,7 +55,7 @@ impl<'a> OrientChecker<'a> {
         })
     }
 
-    /// A checker of a shell, or the first edge that hasn't exactly two rows (own).
+    /// A checker of a shell, or the first edge that hasn't exactly two rows.
     pub fn new(
         alloc: Global,
         solid: &'a Solid,
@@ -72,7 +72,7 @@ impl<'a> OrientChecker<'a> {
     }
 
     /// Whether the flags are one for each face, the first one the first face's own, and the two rows of each edge run in
-    /// opposite directions under them (own). It takes no memory.
+    /// opposite directions under them. It takes no memory.
     pub fn flags(&self, x: &FlagList) -> bool
         ensures { IsTrue result ↔ FlagsFit self.now.solid self.now.shell x.now }
     {
@@ -86,7 +86,7 @@ impl<'a> OrientChecker<'a> {
     }
 
     /// Whether each row goes on in the face of the partner of the one before, the first in that of the last's, and an odd
-    /// number of them run as their partners do, by the flags of their loops' tuples alone (own). It takes no memory.
+    /// number of them run as their partners do, by the flags of their loops' tuples alone. It takes no memory.
     pub fn ring(&self, rows: &RowList) -> bool
         ensures { IsTrue result ↔ OddRing self.now.solid self.now.shell (row_numbers rows.now) }
     {

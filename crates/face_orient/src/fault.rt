@@ -2,7 +2,7 @@
 
 use iges_base::{EntryNo, NoMemory};
 
-/// What the edges and the faces of a shell keep before flags are sought (own).
+/// What the edges and the faces of a shell keep before flags are sought.
 #[derive(Clone, Copy, Debug, PartialEq, Eq)]
 pub enum OrientRule {
     /// Exactly two rows have the edge.
@@ -15,7 +15,7 @@ impl OrientRule {
     ghost use Rattle.std.specs.Prelude.{◌≡◌};
     ghost use Rattle.face_orient.specs.RuleNames.{rule_name};
 
-    /// The word that is printed for the rule (own).
+    /// The word that is printed for the rule.
     pub fn name(self) -> &'static str
         ensures { result.now ≡ rule_name self }
     {
@@ -26,7 +26,7 @@ impl OrientRule {
     }
 }
 
-/// A rule that fails, the entity, and the item of that entity's record, from 1, or 0 for the entity itself (own).
+/// A rule that fails, the entity, and the item of that entity's record, from 1, or 0 for the entity itself.
 #[derive(Clone, Copy, Debug, PartialEq, Eq)]
 pub struct OrientFailing {
     pub rule: OrientRule,
@@ -34,7 +34,7 @@ pub struct OrientFailing {
     pub place: u32,
 }
 
-/// Why neither flags nor a ring were given (own).
+/// Why neither flags nor a ring were given.
 #[derive(Clone, Copy, Debug, PartialEq, Eq)]
 pub enum OrientFault {
     /// The first rule that fails, and where: COUNT over the edges that occur in the shell, by number, and then REACH over

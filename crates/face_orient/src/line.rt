@@ -3,7 +3,7 @@
 use crate::lists::{FlagList, NumberList};
 use iges_base::{EntryNo, NoMemory};
 
-/// A line of an orientation's text (own). Shells and rows are numbered from 1 in a line.
+/// A line of an orientation's text. Shells and rows are numbered from 1 in a line.
 #[derive(Drop)]
 pub enum OrientLine {
     /// `ORIENT`, and the directory number of the solid.
@@ -16,7 +16,7 @@ pub enum OrientLine {
     End,
 }
 
-/// Why bytes were not read as a line (own).
+/// Why bytes were not read as a line.
 #[derive(Clone, Copy, Debug, PartialEq, Eq)]
 pub enum OrientLineFault {
     /// The bytes spell none of the four kinds of lines, or have no LF at their end.

@@ -6,10 +6,10 @@ use solid_data::RowList;
 /// A flag for each face of a shell, in the order of the shell's record; 1 means that directions agree (IGES 5.3, 4.149).
 pub type FlagList = ItemList<bool>;
 
-/// The numbers of a line as they are printed, rows counted from 1 (own).
+/// The numbers of a line as they are printed, rows counted from 1.
 pub type NumberList = ItemList<u32>;
 
-/// What is found of a shell (own).
+/// What is found of a shell.
 #[derive(Drop)]
 pub enum Orientation {
     /// Flags under which the two rows of each edge run in opposite directions, the first face's its own.

@@ -35,7 +35,7 @@ fn oriented(alloc: Global, solid: &Solid, shell: ShellAt) -> Result<Orientation,
 
 /// Flags for the faces of a shell, the first face's its own, under which the two rows of each edge run in opposite
 /// directions; or a ring of rows that no flags satisfy. Where an edge hasn't exactly two rows, or else a face isn't
-/// reached over such pairs, the first that fails is named. (own)
+/// reached over such pairs, the first that fails is named.
 pub fn orient(alloc: Global, solid: &Solid, shell: ShellAt) -> Result<Orientation, OrientFault>
     requires { shell.0 < length solid.now.shells }
     ensures found { IfOk result (IsOrientation solid.now shell.0) }

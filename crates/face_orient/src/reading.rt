@@ -163,7 +163,7 @@ fn read_line(alloc: Global, line: &[u8]) -> Result<OrientLine, OrientLineFault>
     read_words(alloc, text)
 }
 
-/// The line that bytes spell with their LF. Misspelt comes exactly where they spell none. (own)
+/// The line that bytes spell with their LF. Misspelt comes exactly where they spell none.
 pub fn orient_line(alloc: Global, line: &[u8]) -> Result<OrientLine, OrientLineFault>
     ensures found { IfOk result (IsSpelled line.now) }
     ensures fault { IfErr result (IsLineFault line.now) }

@@ -51,7 +51,7 @@ fn put_line(out: &mut Out, line: &OrientLine) -> Result<(), NoMemory>
 }
 
 /// The text of a line, with its LF. Where every number has at most nine digits and no list is empty, the line is spelled
-/// so. (own)
+/// so.
 pub fn write_orient_line(alloc: Global, line: &OrientLine) -> Result<Bytes, NoMemory>
     ensures text { IfOk result (λ text. text ≡ spelling line.now) }
     ensures spelled { HasSpelling line.now → IfOk result (λ text. IsSpelled text line.now) }

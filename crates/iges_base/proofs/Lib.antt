@@ -1,3 +1,10 @@
 pub mod Lists
 pub mod InLines
 pub mod Ended
+pub mod Tests
+pub mod Answers
+pub mod Spaces
+pub mod EndTrim
+pub mod DigitFronts
+pub mod Eight
+pub mod Columns

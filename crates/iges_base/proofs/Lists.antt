@@ -1,11 +1,11 @@
 -- Lists whose items pass a test, and what stands at a place.
-use Rattle.std.proofs.Common.{◌≡◌, inl, inr, ℕ, zero, suc, ◌+◌, ◌<◌, ◌≤◌, Bool, true, false, cond, not, List, [], ◌∷◌, ◌++◌, length, take, drop, reverse, Some, refl, sym, ap, subst, ◌∙◌, append_assoc, arith, length-append}
+use Rattle.std.proofs.Common.{◌≡◌, inl, inr, ℕ, zero, suc, ◌+◌, ◌<◌, Bool, true, false, cond, List, [], ◌∷◌, ◌++◌, length, take, drop, reverse, Some, refl, sym, ap, ◌∙◌, arith}
 use Rattle.std.specs.Prelude.{set, slice_get, take_while}
 use Rattle.std.specs.List.{AllByRecursion, list_all, prefix_len}
-use Rattle.std.proofs.Math.Numerals.{one-add, add-one}
+use Rattle.std.proofs.Math.Numerals.{one-add}
 use Rattle.std.proofs.lemmas.Option.{get_or_from_slice_get, slice_get_cases, slice_get_within}
-use Rattle.std.proofs.lemmas.Bool.{eqb-true, and_parts, and_from, cases_Bool, both_ways}
-use Rattle.std.proofs.lemmas.List.{append-nil, drop_more, take-append-drop, take_at, reverse-append, reverse-reverse, replicate-append-replicate}
+use Rattle.std.proofs.lemmas.Bool.{and_parts, and_from, cases_Bool}
+use Rattle.std.proofs.lemmas.List.{drop_more, take-append-drop, take_at, reverse-append}
 use Rattle.std.proofs.lemmas.List.Folds.{length-prefix_len, list_all-append}
 
 module _ {X : Type 0} (p : X → Bool) where
@@ -71,6 +71,10 @@ module _ {X : Type 0} (p : X → Bool) where
   list_all-drop zero xs h = h
   list_all-drop (suc n) [] h = refl
   list_all-drop (suc n) (x ∷ xs) h = list_all-drop n xs (and_parts (p x) (list_all p xs) h).1
+
+pub list_all-implies : {X : Type 0} (p q : X → Bool) → ((x : X) → p x ≡ true → q x ≡ true) → (xs : List X) → list_all p xs ≡ true → list_all q xs ≡ true
+list_all-implies p q imp [] h = refl
+list_all-implies p q imp (x ∷ xs) h = let parts = and_parts (p x) (list_all p xs) h in and_from (q x) (list_all q xs) (imp x parts.0) (list_all-implies p q imp xs parts.1)
 
 pub all_append : {X : Type 0} (P : X → Type 0) (xs ys : List X) → AllByRecursion P xs → AllByRecursion P ys → AllByRecursion P (xs ++ ys)
 all_append P [] ys h k = k

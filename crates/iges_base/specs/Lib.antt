@@ -1,3 +1,4 @@
 pub mod Ended
 pub mod First
 pub mod InLine
+pub mod Word

@@ -1,20 +1,26 @@
-//! What all crates share: bytes, a text that grows, a list, the number of an entry, that memory ran out, and how large a
-//! file may be.
+//! What all crates share: bytes, a text that grows, a list, spaces and integers in a text, the number of an entry, that
+//! memory ran out, and how large a file may be.
 #![tactic(auto)]
 
 mod bytes;
+mod column;
+mod digits;
 mod entry_no;
+mod front;
 mod list;
 mod no_memory;
 mod out;
 
 pub use bytes::Bytes;
+pub use column::column_number;
+pub use digits::{is_digits, unsigned};
 pub use entry_no::EntryNo;
+pub use front::{trimmed, without_front_spaces};
 pub use list::ItemList;
 pub use no_memory::NoMemory;
 pub use out::{Out, put_number, write_number};
 
-/// The most bytes that a file may have, read or written: 2,000,000 lines of 82 bytes (own).
+/// The most bytes that a file may have, read or written: 2,000,000 lines of 82 bytes.
 pub const FILE_LIMIT: u64 = 164_000_000;
 
 /// The most lines that a section may have: columns 74 to 80 of a line hold its number in its section, counted from 1

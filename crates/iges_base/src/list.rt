@@ -6,7 +6,7 @@ use crate::no_memory::NoMemory;
 use std::alloc::Global;
 use std::marker::Model;
 
-/// A list that grows at its end, seen as the list of its items (own).
+/// A list that grows at its end, seen as the list of its items.
 #[derive(Debug, Drop)]
 pub struct ItemList<T> {
     items: Vec<T>,
@@ -21,7 +21,7 @@ impl<T> Model for ItemList<T> {
 }
 
 impl<T: Drop> ItemList<T> {
-    /// A list of no items, which takes no memory yet (own).
+    /// A list of no items, which takes no memory yet.
     pub fn new(alloc: Global) -> ItemList<T>
         ensures { result ≡ [] }
     {
@@ -30,7 +30,7 @@ impl<T: Drop> ItemList<T> {
         }
     }
 
-    /// A list of no items, with room for so many (own). It errs only where memory runs out.
+    /// A list of no items, with room for so many. It errs only where memory runs out.
     pub fn with_room(alloc: Global, count: usize) -> Result<ItemList<T>, NoMemory>
         ensures { IfOk result (λ list. list ≡ []) }
     {
@@ -39,7 +39,7 @@ impl<T: Drop> ItemList<T> {
         })
     }
 
-    /// Puts an item at the end (own). Where memory runs out, the item is dropped and the list is as it was.
+    /// Puts an item at the end. Where memory runs out, the item is dropped and the list is as it was.
     #[inline(always)]
     pub fn push(&mut self, item: T) -> Result<(), NoMemory>
         ensures ok { OnOk result (self.new ≡ self.old ++ item ∷ []) }
@@ -49,28 +49,28 @@ impl<T: Drop> ItemList<T> {
         Ok(())
     }
 
-    /// Gives back the room that no item needs (own). Where memory for a smaller block runs out, the room stays.
+    /// Gives back the room that no item needs. Where memory for a smaller block runs out, the room stays.
     pub fn fit(&mut self)
         ensures { self.new ≡ self.old }
     {
         self.items.shrink_to_fit();
     }
 
-    /// How many items there are (own).
+    /// How many items there are.
     pub fn len(&self) -> usize
         ensures { result ≡ length self.now }
     {
         self.items.len()
     }
 
-    /// The items in their order (own).
+    /// The items in their order.
     pub fn as_slice(&self) -> &[T]
         ensures { result.now ≡ self.now }
     {
         self.items.as_slice()
     }
 
-    /// The i-th item, counted from 0; None past the end (own).
+    /// The i-th item, counted from 0; None past the end.
     pub fn get(&self, i: usize) -> Option<&T>
         ensures item { option_copied result ≡ slice_get self.now i }
         ensures within { IsSome result ↔ (i < length self.now) }

@@ -5,10 +5,10 @@ use Rattle.std.specs.Char.{is_ascii_digit}
 use Rattle.std.specs.List.{list_all}
 use Rattle.std.specs.Cmp.{signed_Decides}
 use Rattle.std.proofs.lemmas.Bool.{and_parts, and_from, cases_lt}
-use Rattle.iges_fields.specs.Word.{column_number}
+use Rattle.iges_base.specs.Word.{column_number}
 use Rattle.iges_base.specs.First.{first_failing}
-use Rattle.iges_fields.proofs.Answers.{ok_is, err_is, clash}
-use Rattle.iges_fields.proofs.Items.{passes, passed}
+use Rattle.iges_base.proofs.Answers.{ok_is, err_is, clash}
+use Rattle.iges_base.proofs.Tests.{passes, passed}
 use Rattle.iges_lines.specs.declared.reason.Reason.{Reason}
 use Rattle.iges_lines.specs.declared.fault.LineFault.{LineFault}
 use Rattle.iges_lines.specs.Lines.{SectionLines}

@@ -9,7 +9,7 @@ use mir.Val.{SFits, of_z, to_z}
 use mir.Syntax.{w64}
 use Rattle.std.proofs.lemmas.Bool.{and_from}
 use Rattle.std.proofs.lemmas.Int.{to_z-of_z}
-use Rattle.iges_fields.specs.Word.{column_number}
+use Rattle.iges_base.specs.Word.{column_number}
 use Rattle.iges_base.specs.First.{first_failing}
 use Rattle.iges_lines.specs.declared.reason.Reason.{Reason}
 use Rattle.iges_lines.specs.declared.reason.Reason.TheVariants as reason

@@ -3,7 +3,7 @@ use Rattle.std.specs.Prelude.{◌≡◌, ℕ, zero, suc, ◌+◌, Bool, true, fa
 use Rattle.std.specs.Char.{is_ascii_digit}
 use Rattle.std.specs.List.{list_all}
 use Rattle.std.specs.Ordering.{int_eq}
-use Rattle.iges_fields.specs.Word.{column_number}
+use Rattle.iges_base.specs.Word.{column_number}
 use Rattle.iges_base.specs.First.{first_failing, IsFirst}
 use Rattle.iges_lines.specs.declared.reason.Reason.{Reason}
 use Rattle.iges_lines.specs.declared.reason.Reason.TheVariants.{Unpaired, Field, TypesDiffer, Range}

@@ -3,7 +3,7 @@ use Rattle.std.specs.Prelude.{◌≡◌, ℕ, ◌+◌, ◌-◌, ◌*◌, Bool, �
 use Rattle.std.specs.Char.{is_ascii_digit}
 use Rattle.std.specs.List.{list_all}
 use Rattle.std.specs.Ordering.{int_eq}
-use Rattle.iges_fields.specs.Word.{column_number}
+use Rattle.iges_base.specs.Word.{column_number}
 use Rattle.iges_lines.specs.Lines.{columns}
 use Rattle.iges_directory.specs.declared.entry.Placed.{Placed}
 

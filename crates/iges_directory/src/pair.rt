@@ -1,12 +1,13 @@
 ghost use Rattle.iges_directory.specs.Bounds.{fits_columns};
 ghost use Rattle.iges_directory.specs.DirectoryFaults.{first_fields, second_fields};
-ghost use Rattle.iges_directory.specs.Entries.{has_record};
+ghost use Rattle.iges_directory.specs.Entries.{field, Holds, has_record};
 ghost use Rattle.iges_directory.specs.Halves.{IsFirstHalf, IsSecondHalf, AnswersPair, placed_from};
+ghost use Rattle.iges_base.specs.Word.{column_number};
 ghost use Rattle.std.specs.Ordering.{int_eq};
 ghost use Rattle.std.specs.Prelude.{◌≡◌, ◌<◌, ◌^◌, length, IsTrue, IsFalse, IfSome, IfNone};
 
 use crate::entry::{Entry, Placed};
-use crate::field::{bytes_in, number_in, status_in};
+use crate::field::{bytes_in, number_in, status_in, word_in};
 use crate::half::{FirstHalf, SecondHalf};
 use iges_lines::Reason;
 
@@ -35,13 +36,30 @@ fn first_half(line: &[u8]) -> Option<FirstHalf>
     })
 }
 
-fn second_half(line: &[u8]) -> Option<SecondHalf>
-    requires { length line.now ≡ 80 }
+// The entity type in the second line, of which the first holds this type.
+#[inline(always)]
+fn kind_again(first: &[u8], kind: i64, line: &[u8]) -> Option<i64>
+    requires first { length first.now ≡ 80 }
+    requires held { Holds 1 first.now kind }
+    requires long { length line.now ≡ 80 }
+    ensures { result ≡ column_number (field 1 line.now) }
+{
+    // In nearly all entries both lines write it alike.
+    if word_in(first, 1) == word_in(line, 1) {
+        return Some(kind);
+    }
+    number_in(line, 1)
+}
+
+fn second_half(first: &[u8], kind: i64, line: &[u8]) -> Option<SecondHalf>
+    requires first { length first.now ≡ 80 }
+    requires held { Holds 1 first.now kind }
+    requires long { length line.now ≡ 80 }
     ensures none { IfNone result (IsFalse (second_fields line.now)) }
     ensures some { IfSome result (IsSecondHalf line.now) }
 {
     Some(SecondHalf {
-        kind: number_in(line, 1)?,
+        kind: kind_again(first, kind, line)?,
         weight: number_in(line, 2)?,
         colour: number_in(line, 3)?,
         record_count: number_in(line, 4)?,
@@ -103,7 +121,7 @@ pub fn entry_of(first: &[u8], second: &[u8], params: usize) -> Result<Placed, Pa
     let Some(one) = first_half(first) else {
         return Err(PairFault::First(Reason::Field));
     };
-    let Some(two) = second_half(second) else {
+    let Some(two) = second_half(first, one.kind, second) else {
         return Err(PairFault::Second(Reason::Field));
     };
     if !have_one_type(&one, &two) {

@@ -1,21 +1,7 @@
--- Answers that are a value or a fault, or that may be none.
-use Rattle.std.proofs.Common.{◌≡◌, ◌⊎◌, inl, inr, Option, Some, None, Result, Ok, Err, refl, ap}
+-- Answers that are a value or a fault, one after the other.
+use Rattle.std.proofs.Common.{◌≡◌, ◌⊎◌, inl, inr, Result, Ok, Err, refl, ap}
+use Rattle.iges_base.proofs.Answers.{done, failed, err_is, clash}
 use Rattle.iges_fields.specs.Reading.{◌>>=◌}
-
-abbrev pub done : {X F : Type 0} → X → Result X F
-done x = Ok x
-
-abbrev pub failed : {X F : Type 0} → F → Result X F
-failed f = Err f
-
-pub ok_is : {X F : Type 0} (u v : X) → done {F = F} u ≡ done v → u ≡ v
-ok_is {X} {F} u v e = ap (λ (r : Result X F). elim r as (λ _. X) [ Ok x ↦ x | Err f ↦ u ]) e
-
-pub err_is : {X F : Type 0} (f g : F) → failed {X = X} f ≡ failed g → f ≡ g
-err_is {X} {F} f g e = ap (λ (r : Result X F). elim r as (λ _. F) [ Ok x ↦ f | Err h ↦ h ]) e
-
-pub clash : {X F : Type 0} (f : F) (x : X) → failed f ≡ done x → ⊥
-clash f x e = absurd cc
 
 pub bind_ok : {A B F : Type 0} (r : Result A F) (k : A → Result B F) (y : B) → (r >>= k) ≡ done y → (x : A) × (r ≡ done x) × (k x ≡ done y)
 bind_ok (Ok x) k y e = (x, refl, e)
@@ -24,7 +10,3 @@ bind_ok (Err f) k y e = absurd (clash f y e)
 pub bind_err : {A B F : Type 0} (r : Result A F) (k : A → Result B F) (f : F) → (r >>= k) ≡ failed f → (r ≡ failed f) ⊎ ((x : A) × (r ≡ done x) × (k x ≡ failed f))
 bind_err (Ok x) k f e = inr (x, refl, e)
 bind_err {A} {B} (Err g) k f e = inl (ap (λ h. failed h) (err_is {X = B} g f e))
-
-pub cases_option : {A : Type 0} (o : Option A) → (o ≡ None) ⊎ ((x : A) × (o ≡ Some x))
-cases_option None = inl refl
-cases_option (Some x) = inr (x, refl)

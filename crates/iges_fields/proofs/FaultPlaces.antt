@@ -10,7 +10,7 @@ use Rattle.iges_fields.specs.Delims.{Delims}
 use Rattle.iges_base.specs.First.{first_failing}
 use Rattle.iges_fields.specs.FreeText.{begins_text, text_size, behind_H, text_tests, word_tests, item_fault, IsFieldFault}
 use Rattle.iges_fields.specs.Gives.{IfField}
-use Rattle.iges_fields.specs.Word.{after_spaces}
+use Rattle.iges_base.specs.Word.{after_spaces}
 
 -- the places of these tests' faults
 abbrev Within : ℕ → List (Bool × FieldFault) → Type 0

@@ -1,11 +1,8 @@
 -- What holds of a whole text without LF holds of its parts.
-use Rattle.std.proofs.Common.{◌≡◌, ℕ, ◌<◌, ◌^◌, Bool, not, true, List, [], ◌∷◌, ◌++◌, length, Option, Some, None, refl, sym, ap, subst, ◌∙◌, arith, length-append, Bor}
+use Rattle.std.proofs.Common.{◌≡◌, ℕ, ◌<◌, ◌^◌, not, true, List, [], ◌∷◌, ◌++◌, length, Option, Some, None, refl, sym, ap, subst, ◌∙◌, arith, length-append, Bor}
 use Rattle.std.specs.Prelude.{IfSome, IsTrue, slice_get, option_copied, nat_lt, ◌==◌}
 use Rattle.std.specs.List.{list_all, AllZip}
 use Rattle.std.proofs.lemmas.Bool.{and_from, and_parts, lt-ltb}
-use Rattle.std.proofs.lemmas.List.Elements.{All-get_or}
-use Rattle.std.proofs.lemmas.List.Sums.{AllPass-from_list_all}
-use Rattle.std.proofs.lemmas.Option.{get_or_from_slice_get, slice_get_within}
 use Rattle.iges_fields.specs.declared.value.Value.{Value}
 use Rattle.iges_fields.specs.declared.value.Value.TheVariants as value
 use Rattle.iges_fields.specs.Delims.{Delims}
@@ -13,8 +10,8 @@ use Rattle.iges_fields.specs.FreeText.{Spells, IsItem, FreeText, delimited}
 use Rattle.iges_base.specs.InLine.{is_in_line}
 use Rattle.iges_base.proofs.InLines.{slice_get-all, front_in_line}
 use Rattle.iges_fields.specs.InLine.{stays_in_line, is_value}
-use Rattle.iges_fields.specs.Word.{is_real, spaces}
-use Rattle.iges_base.proofs.Lists.{list_all-parts, list_all-both}
+use Rattle.iges_base.specs.Word.{spaces}
+use Rattle.iges_fields.specs.Word.{is_real}
 
 -- ---- what is got of a list
 

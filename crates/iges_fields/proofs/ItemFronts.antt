@@ -11,12 +11,14 @@ use Rattle.iges_fields.specs.declared.mantissa.Mantissa.{Mantissa}
 use Rattle.iges_fields.specs.Delims.{Delims, are_permitted}
 use Rattle.iges_fields.specs.Fronts.{is_mantissa_byte, up_to_past, IsMantissa}
 use Rattle.iges_fields.specs.FreeText.{is_delimiter_of, begins_with, begins_text, behind_H, text_size}
-use Rattle.iges_fields.specs.Word.{is_empty, is_point, is_space, trim}
-use Rattle.iges_fields.proofs.Spaces.{trim-word}
-use Rattle.iges_base.proofs.Lists.{prefix_len-pass, prefix_len-stop}
+use Rattle.iges_base.specs.Word.{is_empty, is_space, trim}
+use Rattle.iges_fields.specs.Word.{is_point}
+use Rattle.iges_base.proofs.Spaces.{trim-word}
+use Rattle.iges_base.proofs.Lists.{prefix_len-pass, prefix_len-stop, list_all-implies}
 use Rattle.iges_fields.proofs.Mantissas.{count_point, mantissa_bytes, point_no_digit}
 use Rattle.iges_fields.proofs.Steps.{begins_is, no_digits, no_byte_behind, no_H_behind, text_front_from}
-use Rattle.iges_fields.proofs.Words.{digit_is_not, list_all-implies, mantissa_byte, number_byte_no_space, number_byte_no_stop}
+use Rattle.iges_base.proofs.DigitFronts.{digit_is_not}
+use Rattle.iges_fields.proofs.Words.{mantissa_byte, number_byte_no_space, number_byte_no_stop}
 use Rattle.iges_fields.proofs.WordKinds.{digit_mantissa, only_digits}
 
 -- ---- fronts

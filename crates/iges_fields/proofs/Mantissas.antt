@@ -13,9 +13,8 @@ use Rattle.std.proofs.lemmas.Str.{digit_value_digit}
 use Rattle.iges_fields.specs.declared.mantissa.Mantissa.{Mantissa}
 use Rattle.iges_fields.specs.Fronts.{is_mantissa_byte, up_to_past, IsMantissa}
 use Rattle.iges_fields.specs.Word.{is_point, is_mantissa}
-use Rattle.iges_fields.proofs.DigitFronts.{digit_range}
+use Rattle.iges_base.proofs.DigitFronts.{digit_range, digit_is_not}
 use Rattle.iges_base.proofs.Lists.{list_all-take_while}
-use Rattle.iges_fields.proofs.Words.{digit_is_not}
 
 -- ---- byte by byte
 
@@ -71,7 +70,7 @@ pub point_no_digit : (b : ℕ) → is_point b ≡ true → is_ascii_digit b ≡ 
 point_no_digit b e = subst (λ (x : ℕ). is_ascii_digit x ≡ false) (sym (eqb-true b 46 e)) refl
 
 -- among digits and points is a digit where not all are points
-digit_among : (xs : List ℕ) → list_all is_mantissa_byte xs ≡ true → list_any is_ascii_digit xs ≡ nat_lt (count_by is_point xs) (length xs)
+pub digit_among : (xs : List ℕ) → list_all is_mantissa_byte xs ≡ true → list_any is_ascii_digit xs ≡ nat_lt (count_by is_point xs) (length xs)
 digit_among [] all = refl
 digit_among (x ∷ xs) all =
     let parts = and_parts (is_mantissa_byte x) (list_all is_mantissa_byte xs) all in

@@ -1,30 +1,28 @@
 -- Digits at the front of a text, behind which a delimiter stands.
-use Rattle.std.proofs.Common.{◌≡◌, ℕ, zero, suc, ◌+◌, ◌-◌, ◌*◌, ◌^◌, ◌<◌, ◌≤◌, Bool, true, false, not, List, [], ◌∷◌, ◌++◌, length, take, drop, get_or, ℤ, pos, Result, Ok, refl, sym, ap, subst, ◌∙◌, arith, length-append}
-use Rattle.std.specs.Prelude.{◌==◌, nat_le, neg_ℤ}
+use Rattle.std.proofs.Common.{◌≡◌, ℕ, zero, suc, ◌+◌, ◌-◌, ◌*◌, ◌^◌, ◌<◌, ◌≤◌, Bool, true, false, not, List, [], ◌∷◌, ◌++◌, length, take, drop, get_or, ℤ, pos, Ok, refl, sym, ap, subst, ◌∙◌, arith}
+use Rattle.std.specs.Prelude.{◌==◌, neg_ℤ}
 use Rattle.std.specs.Char.{is_ascii_digit}
 use Rattle.std.specs.List.{list_all, prefix_len}
 use Rattle.std.specs.Str.Parse.{digits_value, signed_digits_value, without_leading_sign}
 use Rattle.std.proofs.Math.Nat.{pow-le-pow_right, pow-suc}
 use Rattle.std.proofs.Math.Seq.{drop-cons}
-use Rattle.std.proofs.lemmas.Bool.{and_from, and_parts, both_ways, cond-false, false_from_ne_true, le-leb, not-true, not_from_false, eqb-true}
+use Rattle.std.proofs.lemmas.Bool.{and_from, and_parts, both_ways, cond-false, false_from_ne_true, le-leb, not-true}
 use Rattle.std.proofs.lemmas.Int.Digits.{digits_value_more}
 use Rattle.std.proofs.lemmas.List.{length-drop, length-take-le, take-append-drop}
 use Rattle.std.proofs.lemmas.List.Folds.{list_all_more}
 use Rattle.std.proofs.lemmas.Str.{digit_value_digit}
-use Rattle.iges_fields.specs.declared.value.Value.{Value}
 use Rattle.iges_fields.specs.declared.value.Value.TheVariants as value
-use Rattle.iges_fields.specs.declared.fault.FieldFault.{FieldFault}
 use Rattle.iges_fields.specs.Delims.{Delims, are_permitted}
 use Rattle.iges_fields.specs.FreeText.{begins_text, fits_64_bits, is_delimiter_of}
 use Rattle.iges_fields.specs.Reading.{read_item, word_item}
-use Rattle.iges_fields.specs.Word.{after_spaces, are_digits, is_empty, is_integer, is_space, trim}
-use Rattle.iges_fields.proofs.DigitFronts.{digit_range}
+use Rattle.iges_base.specs.Word.{after_spaces, are_digits, is_empty, is_integer, trim}
+use Rattle.iges_base.proofs.DigitFronts.{digit_range, digit_is_not}
 use Rattle.iges_fields.proofs.ItemFronts.{trim_plain, unsigned_plain}
-use Rattle.iges_fields.proofs.Spaces.{after_spaces-other}
-use Rattle.iges_base.proofs.Lists.{prefix_len-front}
+use Rattle.iges_base.proofs.Spaces.{after_spaces-other}
+use Rattle.iges_base.proofs.Lists.{prefix_len-front, list_all-implies}
 use Rattle.iges_fields.proofs.Steps.{item_is_word, no_H_behind, word_default, word_from, word_int}
 use Rattle.iges_fields.proofs.WordKinds.{digit_mantissa}
-use Rattle.iges_fields.proofs.Words.{digit_is_not, digit_number_byte, list_all-implies, number_byte_no_space, number_byte_no_stop, stop_no_H, stop_no_space}
+use Rattle.iges_fields.proofs.Words.{digit_number_byte, number_byte_no_space, number_byte_no_stop, stop_no_H, stop_no_space}
 
 -- ---- digit by digit
 
@@ -69,6 +67,13 @@ module _ (text : List ℕ) (len value : ℕ) (so_far : IsDigitsSoFar text len va
       power_next : (n : ℕ) → 10 ^ (n + 1) ≡ 10 ^ n * 10
       power_next n = let next : n + 1 ≡ suc n = omega arith in ap (λ (m : ℕ). 10 ^ m) next ∙ pow-suc 10 n
 
+-- digits are no spaces
+pub no_space_first : (t : List ℕ) (m : ℕ) → 0 < m → m ≤ length t → list_all is_ascii_digit (take m t) ≡ true → t ≡ after_spaces t
+no_space_first [] m a b all = absurd (omega (arith, a, b))
+no_space_first (c ∷ t) zero a b all = absurd (omega (arith, a))
+no_space_first (c ∷ t) (suc m) a b all =
+    sym (after_spaces-other c t (not-true _ (number_byte_no_space c (digit_number_byte c (and_parts (is_ascii_digit c) (list_all is_ascii_digit (take m t)) all).0))))
+
 -- ---- the item
 
 module _ (d : Delims) (ok : are_permitted d ≡ true) (text : List ℕ) (n : ℕ) (within : n ≤ length text) (digits : list_all is_ascii_digit (take n text) ≡ true)
@@ -105,12 +110,6 @@ module _ (d : Delims) (ok : are_permitted d ≡ true) (text : List ℕ) (n : ℕ
   no_text =
       no_H_behind text n digits_end (subst (λ (t : List ℕ). 1 ≤ length t) behind-is more)
       (λ e. both_ways (first == 72) (stop_no_H d ok first stop) (ap (λ (b : ℕ). b == 72) (ap (λ (t : List ℕ). get_or t 0 0) behind-is ∙ e)))
-
-  no_space_first : (t : List ℕ) (m : ℕ) → 0 < m → m ≤ length t → list_all is_ascii_digit (take m t) ≡ true → t ≡ after_spaces t
-  no_space_first [] m a b all = absurd (omega (arith, a, b))
-  no_space_first (c ∷ t) zero a b all = absurd (omega (arith, a))
-  no_space_first (c ∷ t) (suc m) a b all =
-      sym (after_spaces-other c t (not-true _ (number_byte_no_space c (digit_number_byte c (and_parts (is_ascii_digit c) (list_all is_ascii_digit (take m t)) all).0))))
 
   body_is : 0 < n → text ≡ after_spaces text
   body_is some = no_space_first text n some within digits

@@ -13,23 +13,25 @@ use Rattle.iges_fields.specs.declared.kind.WordKind.{WordKind}
 use Rattle.iges_fields.specs.declared.kind.WordKind.TheVariants as kind
 use Rattle.iges_fields.specs.Gives.{IsKindOf}
 use Rattle.iges_fields.specs.Fronts.{is_mantissa_byte, up_to_past, IsMantissa}
-use Rattle.iges_fields.specs.Word.{is_empty, are_digits, is_integer, is_point, is_exponent_letter, is_mantissa, is_real}
-use Rattle.iges_base.proofs.Lists.{prefix_len-pass, take_while-front}
+use Rattle.iges_base.specs.Word.{is_empty, are_digits, is_integer}
+use Rattle.iges_fields.specs.Word.{is_point, is_exponent_letter, is_mantissa, is_real}
+use Rattle.iges_base.proofs.Lists.{prefix_len-pass, take_while-front, list_all-implies}
 use Rattle.iges_fields.proofs.Mantissas.{count_point, mantissa_bytes}
-use Rattle.iges_fields.proofs.Words.{digit_is_not, digits_all, list_all-implies, no_letter, no_point, real_no_integer, stop_is}
+use Rattle.iges_base.proofs.DigitFronts.{digit_is_not}
+use Rattle.iges_fields.proofs.Words.{digits_all, no_letter, no_point, real_no_integer, stop_is}
 
 -- ---- bytes
 
 abbrev no_exponent : ℕ → Bool
 no_exponent b = not (is_exponent_letter b)
 
-mantissa_no_letter : (b : ℕ) → is_mantissa_byte b ≡ true → no_exponent b ≡ true
+pub mantissa_no_letter : (b : ℕ) → is_mantissa_byte b ≡ true → no_exponent b ≡ true
 mantissa_no_letter b e = elim (or_cases (is_ascii_digit b) (is_point b) e) [ inl h ↦ no_letter b h | inr h ↦ subst (λ (x : ℕ). no_exponent x ≡ true) (sym (eqb-true b 46 h)) refl ]
 
 pub digit_mantissa : (b : ℕ) → is_ascii_digit b ≡ true → is_mantissa_byte b ≡ true
 digit_mantissa b e = or_left (is_ascii_digit b) (is_point b) e
 
-no_points : (ds : List ℕ) → list_all is_ascii_digit ds ≡ true → count_by is_point ds ≡ 0
+pub no_points : (ds : List ℕ) → list_all is_ascii_digit ds ≡ true → count_by is_point ds ≡ 0
 no_points [] all = refl
 no_points (x ∷ ds) all =
     let parts = and_parts (is_ascii_digit x) (list_all is_ascii_digit ds) all in
@@ -77,7 +79,7 @@ module _ (word : List ℕ) where
   abbrev u : List ℕ
   u = without_leading_sign word
 
-  plain_real_is : list_all is_mantissa_byte u ≡ true → is_real word ≡ (is_mantissa u && list_any is_point u)
+  pub plain_real_is : list_all is_mantissa_byte u ≡ true → is_real word ≡ (is_mantissa u && list_any is_point u)
   plain_real_is all =
       ap (real_by u) (digits_all no_exponent u (list_all-implies is_mantissa_byte no_exponent mantissa_no_letter u all))
       ∙ ap (λ (e : List ℕ). is_mantissa u && cond (is_empty e) (list_any is_point u) (is_integer (drop 1 e))) (drop_all (length u) u (omega arith))
@@ -129,7 +131,7 @@ module _ (word : List ℕ) where
   fails_inside : (p : ℕ → Bool) (xs : List ℕ) (x : ℕ) (ys : List ℕ) → p x ≡ false → list_all p (xs ++ x ∷ ys) ≡ false
   fails_inside p xs x ys e = list_all-append p xs (x ∷ ys) ∙ and_right (list_all p xs) (list_all p (x ∷ ys)) (and_left (p x) (list_all p ys) e)
 
-  real_behind : (xs : List ℕ) (x : ℕ) (ys : List ℕ) → u ≡ xs ++ x ∷ ys → list_all is_mantissa_byte xs ≡ true → is_mantissa_byte x ≡ false
+  pub real_behind : (xs : List ℕ) (x : ℕ) (ys : List ℕ) → u ≡ xs ++ x ∷ ys → list_all is_mantissa_byte xs ≡ true → is_mantissa_byte x ≡ false
       → is_real word ≡ (is_mantissa xs && (is_exponent_letter x && is_integer ys))
   real_behind xs x ys split all stop =
       let letters = list_all-implies is_mantissa_byte no_exponent mantissa_no_letter xs all in

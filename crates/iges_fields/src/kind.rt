@@ -1,11 +1,12 @@
 ghost use Rattle.iges_fields.specs.Fronts.{IsMantissa, up_to_past};
 ghost use Rattle.iges_fields.specs.Gives.{IsKindOf, IsSigned};
-ghost use Rattle.iges_fields.specs.Word.{is_exponent_letter, is_integer};
+ghost use Rattle.iges_base.specs.Word.{is_integer};
+ghost use Rattle.iges_fields.specs.Word.{is_exponent_letter};
 ghost use Rattle.std.specs.Prelude.{◌≡◌, ◌&&◌, IsTrue, length, pos, neg_ℤ};
 ghost use Rattle.std.specs.Str.Parse.{digits_value, without_leading_sign};
 
-use crate::digits::{is_digits, unsigned};
 use crate::mantissa::{Mantissa, mantissa_of};
+use iges_base::{is_digits, unsigned};
 
 /// What a word of free text is (IGES 5.3, 2.2.2.1 and 2.2.2.2).
 #[derive(Clone, Copy, Debug)]
@@ -40,8 +41,8 @@ fn negative(value: u64) -> WordKind
     }
 }
 
-// The kind of an integer's word, whose digits write this value, or one past 64 bits.
-fn whole_kind(word: &[u8], value: u64) -> WordKind
+/// The kind of an integer's word, whose digits write this value, or one past 64 bits.
+pub fn whole_kind(word: &[u8], value: u64) -> WordKind
     requires word { IsTrue (is_integer word.now) }
     requires value { value ≡ up_to_past (digits_value 10 (without_leading_sign word.now)) }
     ensures { IsKindOf word.now result }

@@ -22,7 +22,7 @@ pub struct Digits {
 
 /// The digits at the front of the text, no more than eighteen.
 #[inline(always)]
-fn digits_of(text: &[u8]) -> Digits
+pub fn digits_of(text: &[u8]) -> Digits
     ensures { AreDigits text.now result }
 {
     let most = text.len().min(MOST);
@@ -38,11 +38,15 @@ fn digits_of(text: &[u8]) -> Digits
 /// The value at the front of the text if it is omitted or an integer of digits alone, and the text from its delimiter on.
 /// None says nothing of the text.
 #[inline(always)]
-pub fn plain_value<'t>(delims: &Delimiters, text: &'t [u8]) -> Option<(Value, &'t [u8])>
-    requires { IsTrue (are_permitted delims.now) }
+pub fn plain_value<'t>(
+    delims: &Delimiters,
+    text: &'t [u8],
+    digits: Digits,
+) -> Option<(Value, &'t [u8])>
+    requires permitted { IsTrue (are_permitted delims.now) }
+    requires digits { AreDigits text.now digits }
     ensures { IfSome result (λ x. read_item delims.now text.now ≡ Ok (x.0, x.1.now)) }
 {
-    let digits = digits_of(text);
     let (_, rest) = text.split_at(digits.len);
     let [stop, ..] = rest else {
         return None;

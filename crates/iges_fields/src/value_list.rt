@@ -30,7 +30,7 @@ impl Model for Values {
 }
 
 impl Values {
-    /// A list of no values, which takes no memory yet (own).
+    /// A list of no values, which takes no memory yet.
     pub fn new(alloc: Global) -> Values
         ensures { result ≡ [] }
     {
@@ -39,7 +39,7 @@ impl Values {
         }
     }
 
-    /// A list of no values, with room for so many (own). It errs only where memory runs out.
+    /// A list of no values, with room for so many. It errs only where memory runs out.
     pub fn with_room(alloc: Global, count: usize) -> Result<Values, NoMemory>
         ensures { IfOk result (λ values. values ≡ []) }
     {
@@ -48,7 +48,7 @@ impl Values {
         })
     }
 
-    /// Puts the value at the end (own). Where memory runs out, the value is dropped and the list is as it was.
+    /// Puts the value at the end. Where memory runs out, the value is dropped and the list is as it was.
     #[inline(always)]
     pub fn push(&mut self, value: Value) -> Result<(), NoMemory>
         requires { IsTrue (stays_in_line value) }
@@ -58,14 +58,14 @@ impl Values {
         self.values.push(value)
     }
 
-    /// Gives back the room that no value needs (own). Where memory for a smaller block runs out, the room stays.
+    /// Gives back the room that no value needs. Where memory for a smaller block runs out, the room stays.
     pub fn fit(&mut self)
         ensures { self.new ≡ self.old }
     {
         self.values.fit();
     }
 
-    /// How many values there are (own).
+    /// How many values there are.
     pub fn len(&self) -> usize
         ensures is { result ≡ length self.now }
         ensures values { IsTrue (list_all is_value self.now) }
@@ -73,7 +73,7 @@ impl Values {
         self.values.len()
     }
 
-    /// The values in their order (own).
+    /// The values in their order.
     pub fn as_slice(&self) -> &[Value]
         ensures is { result.now ≡ self.now }
         ensures values { IsTrue (list_all is_value self.now) }
@@ -81,7 +81,7 @@ impl Values {
         self.values.as_slice()
     }
 
-    /// The i-th value, counted from 0; None past the end (own).
+    /// The i-th value, counted from 0; None past the end.
     pub fn get(&self, i: usize) -> Option<&Value>
         ensures value { option_copied result ≡ slice_get self.now i }
         ensures within { IsSome result ↔ (i < length self.now) }

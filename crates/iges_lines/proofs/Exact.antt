@@ -1,7 +1,7 @@
 -- Sections are read as they are defined, and so is the first fault.
 use Rattle.std.proofs.Common.{◌≡◌, inl, inr, ℕ, ◌+◌, ◌≤◌, List, length, Option, Some, None, Ok, Err, refl, sym, ap, subst, ◌∙◌, arith}
 use Rattle.std.proofs.lemmas.Bool.{cases_lt}
-use Rattle.iges_fields.proofs.Answers.{ok_is, err_is, clash}
+use Rattle.iges_base.proofs.Answers.{ok_is, err_is, clash}
 use Rattle.iges_lines.specs.declared.reason.Reason.{Reason}
 use Rattle.iges_lines.specs.declared.fault.LineFault.{LineFault}
 use Rattle.iges_lines.specs.Lines.{SectionLines, lines}

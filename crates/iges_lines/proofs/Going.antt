@@ -7,7 +7,7 @@ use Rattle.std.proofs.lemmas.List.{append-nil, take-append-le}
 use Rattle.std.proofs.lemmas.List.Elements.{filter-append}
 use Rattle.std.proofs.lemmas.List.Folds.{list_any-append}
 use Rattle.iges_base.specs.First.{first_failing, IsFirst}
-use Rattle.iges_fields.proofs.Items.{passes}
+use Rattle.iges_base.proofs.Tests.{passes}
 use Rattle.iges_lines.specs.declared.reason.Reason.{Reason}
 use Rattle.iges_lines.specs.declared.reason.Reason.TheVariants.{Missing, After}
 use Rattle.iges_lines.specs.declared.fault.LineFault.{LineFault}

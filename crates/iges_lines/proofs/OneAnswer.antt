@@ -1,6 +1,6 @@
 -- What a function reads exactly has one reading.
 use Rattle.std.proofs.Common.{◌≡◌, inl, inr, Result, Ok, Err, refl, sym, ◌∙◌}
-use Rattle.iges_fields.proofs.Answers.{ok_is, err_is, clash}
+use Rattle.iges_base.proofs.Answers.{ok_is, err_is, clash}
 use Rattle.iges_lines.specs.OneReading.{HasOneReading}
 
 module _ {X F : Type 0} (IsRight : X → Type 0) (IsFault : F → Type 0) (read : Result X F) (right : (x : X) → read ≡ Ok x → IsRight x) (all_right : (x : X) → IsRight x → read ≡ Ok x)

@@ -5,7 +5,7 @@ use Rattle.std.proofs.lemmas.Bool.{eq-eqb, ne_eqb}
 use Rattle.std.proofs.lemmas.Option.{slice_get_past}
 use Rattle.std.proofs.lemmas.List.{take-append-le, drop-append-le, take-take, drop-take, take_all, nil_from_length}
 use Rattle.std.proofs.Math.Nat.{suc-mul}
-use Rattle.iges_fields.specs.Word.{is_empty}
+use Rattle.iges_base.specs.Word.{is_empty}
 use Rattle.iges_lines.specs.Rows.{rows}
 
 pub length-rows : (w n : ℕ) (text : List ℕ) → length (rows w n text) ≡ n

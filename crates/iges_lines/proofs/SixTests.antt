@@ -3,7 +3,7 @@ use Rattle.std.proofs.Common.{◌≡◌, ℕ, suc, ◌+◌, Bool, true, false, n
 use Rattle.std.specs.Prelude.{◌==◌, nat_lt, nat_le, slice_index_or}
 use Rattle.std.specs.List.{list_all}
 use Rattle.std.proofs.lemmas.Bool.{not_from_false, eq-eqb, ne_eqb}
-use Rattle.iges_fields.specs.Word.{is_empty}
+use Rattle.iges_base.specs.Word.{is_empty}
 use Rattle.iges_base.specs.First.{first_failing}
 use Rattle.iges_lines.specs.declared.reason.Reason.{Reason}
 use Rattle.iges_lines.specs.declared.reason.Reason.TheVariants.{NotFixed, Length, Letter, Number, Counts, Missing}

@@ -11,9 +11,9 @@ use Rattle.std.proofs.lemmas.List.{append-nil, take_at, take_all}
 use Rattle.std.proofs.lemmas.List.Elements.{filter-append}
 use Rattle.std.proofs.lemmas.List.Folds.{list_any-append}
 use Rattle.std.proofs.lemmas.Option.{slice_get_past}
-use Rattle.iges_fields.specs.Word.{is_empty, column_number}
+use Rattle.iges_base.specs.Word.{is_empty, column_number}
 use Rattle.iges_base.specs.First.{first_failing}
-use Rattle.iges_fields.proofs.Items.{passes, passed}
+use Rattle.iges_base.proofs.Tests.{passes, passed}
 use Rattle.iges_base.proofs.Lists.{prefix_len-pass}
 use Rattle.iges_lines.specs.declared.reason.Reason.TheVariants.{Missing, After}
 use Rattle.iges_lines.specs.Lines.{SectionLines, sections, joined, columns, letter, has_number}
@@ -159,14 +159,14 @@ is_count : (x : ℕ) (ls : Lines) (field : List ℕ) → IsCount x (length ls) f
 is_count x ls field h = and_from _ _ (eq-eqb _ _ h.0) (is-has_number (drop 1 field) (length ls) h.1)
 
 module _ (s : SectionLines) (l : List ℕ) where
-  says_S : letter l ≡ 83 → first_failing (tests_at s 0 l) ≡ None → IsNumbered 83 (length s.start + 1) l × (s.global ≡ []) × (s.directory ≡ []) × (s.param ≡ [])
+  pub says_S : letter l ≡ 83 → first_failing (tests_at s 0 l) ≡ None → IsNumbered 83 (length s.start + 1) l × (s.global ≡ []) × (s.directory ≡ []) × (s.param ≡ [])
   says_S is e =
       let t = passes (tests_at s 0 l) e in
       let later = and_parts (is_empty s.global) (is_empty s.directory && (is_empty s.param && true)) t.1.1.0 in
       let more = and_parts (is_empty s.directory) (is_empty s.param && true) later.1 in
       (numbered_by 83 (length s.start + 1) l is t.1.0 t.1.1.1.1.0, nil_from_empty _ later.0, nil_from_empty _ more.0, nil_from_empty _ (and_parts (is_empty s.param) true more.1).0)
 
-  says_G : letter l ≡ 71 → first_failing (tests_at s 1 l) ≡ None → IsNumbered 71 (length s.global + 1) l × (s.directory ≡ []) × (s.param ≡ []) × (list_all is_empty (sections s) ≡ false)
+  pub says_G : letter l ≡ 71 → first_failing (tests_at s 1 l) ≡ None → IsNumbered 71 (length s.global + 1) l × (s.directory ≡ []) × (s.param ≡ []) × (list_all is_empty (sections s) ≡ false)
   says_G is e =
       let t = passes (tests_at s 1 l) e in
       let later = and_parts (is_empty s.directory) (is_empty s.param && true) t.1.1.0 in
@@ -180,15 +180,15 @@ module _ (s : SectionLines) (l : List ℕ) where
       let p = and_parts (not (list_all is_empty (sections s)) || false) (false || not (is_empty s.global)) h in
       (elim (or_cases (not (list_all is_empty (sections s))) false p.0) [ inl k ↦ not-true _ k | inr k ↦ absurd cc ], some_from_not_empty s.global p.1)
 
-  says_D : letter l ≡ 68 → first_failing (tests_at s 2 l) ≡ None → IsNumbered 68 (length s.directory + 1) l × (s.param ≡ []) × (list_all is_empty (sections s) ≡ false)
+  pub says_D : letter l ≡ 68 → first_failing (tests_at s 2 l) ≡ None → IsNumbered 68 (length s.directory + 1) l × (s.param ≡ []) × (list_all is_empty (sections s) ≡ false) × (0 < length s.global)
   says_D is e =
       let t = passes (tests_at s 2 l) e in
-      (numbered_by 68 (length s.directory + 1) l is t.1.0 t.1.1.1.1.0, nil_from_empty _ (and_parts (is_empty s.param) true t.1.1.0).0, (says_later 2 t.1.1.1.0).0)
+      (numbered_by 68 (length s.directory + 1) l is t.1.0 t.1.1.1.1.0, nil_from_empty _ (and_parts (is_empty s.param) true t.1.1.0).0, (says_later 2 t.1.1.1.0).0, (says_later 2 t.1.1.1.0).1)
 
-  says_P : letter l ≡ 80 → first_failing (tests_at s 3 l) ≡ None → IsNumbered 80 (length s.param + 1) l × (list_all is_empty (sections s) ≡ false)
+  pub says_P : letter l ≡ 80 → first_failing (tests_at s 3 l) ≡ None → IsNumbered 80 (length s.param + 1) l × (list_all is_empty (sections s) ≡ false) × (0 < length s.global)
   says_P is e =
       let t = passes (tests_at s 3 l) e in
-      (numbered_by 80 (length s.param + 1) l is t.1.0 t.1.1.1.1.0, (says_later 3 t.1.1.1.0).0)
+      (numbered_by 80 (length s.param + 1) l is t.1.0 t.1.1.1.1.0, (says_later 3 t.1.1.1.0).0, (says_later 3 t.1.1.1.0).1)
 
   says_T : letter l ≡ 84 → first_failing (tests_at s 4 l) ≡ None → IsTerminate s l × (list_all is_empty (sections s) ≡ false) × (0 < length s.global)
   says_T is e =
@@ -215,10 +215,10 @@ module _ (s : SectionLines) (l : List ℕ) where
   fixed : (x : ℕ) → letter l ≡ x → (x == 66 || x == 67) ≡ false → not (list_all is_empty (sections s) && (letter l == 66 || letter l == 67)) ≡ true
   fixed x is e = not_from_false _ (and_right (list_all is_empty (sections s)) _ (ap (λ (b : ℕ). b == 66 || b == 67) is ∙ e))
 
-  later_some : 0 < length s.start → 0 < length s.global → ((not (list_all is_empty (sections s)) || false) && (false || not (is_empty s.global))) ≡ true
-  later_some h k = and_from _ _ (or_left (not (list_all is_empty (sections s))) false (not_from_false _ (not_first h))) (not_empty_from_some s.global k)
+  later_some : list_all is_empty (sections s) ≡ false → 0 < length s.global → ((not (list_all is_empty (sections s)) || false) && (false || not (is_empty s.global))) ≡ true
+  later_some h k = and_from _ _ (or_left (not (list_all is_empty (sections s))) false (not_from_false _ h)) (not_empty_from_some s.global k)
 
-  pass_S : IsNumbered 83 (length s.start + 1) l → (s.global ≡ []) → (s.directory ≡ []) → (s.param ≡ []) → first_failing (line_tests s l) ≡ None
+  pub pass_S : IsNumbered 83 (length s.start + 1) l → (s.global ≡ []) → (s.directory ≡ []) → (s.param ≡ []) → first_failing (line_tests s l) ≡ None
   pass_S h e f g =
       ap (λ (p : ℕ). first_failing (tests_at s p l)) (ap section_place h.letter_is)
       ∙ passed (tests_at s 0 l) (
@@ -232,7 +232,7 @@ module _ (s : SectionLines) (l : List ℕ) where
         ),
       )
 
-  pass_G : IsNumbered 71 (length s.global + 1) l → (s.directory ≡ []) → (s.param ≡ []) → 0 < length s.start → first_failing (line_tests s l) ≡ None
+  pub pass_G : IsNumbered 71 (length s.global + 1) l → (s.directory ≡ []) → (s.param ≡ []) → list_all is_empty (sections s) ≡ false → first_failing (line_tests s l) ≡ None
   pass_G h f g some =
       ap (λ (p : ℕ). first_failing (tests_at s p l)) (ap section_place h.letter_is)
       ∙ passed (tests_at s 1 l) (
@@ -241,12 +241,12 @@ module _ (s : SectionLines) (l : List ℕ) where
           eq-eqb _ _ h.long,
           (
             and_from _ _ (ap is_empty f) (and_from _ _ (ap is_empty g) refl),
-            (and_from _ _ (or_left (not (list_all is_empty (sections s))) false (not_from_false _ (not_first some))) refl, (is-has_number (columns 74 80 l) (length s.global + 1) h.number_is, (refl, tt))),
+            (and_from _ _ (or_left (not (list_all is_empty (sections s))) false (not_from_false _ some)) refl, (is-has_number (columns 74 80 l) (length s.global + 1) h.number_is, (refl, tt))),
           ),
         ),
       )
 
-  pass_D : IsNumbered 68 (length s.directory + 1) l → (s.param ≡ []) → 0 < length s.start → 0 < length s.global → first_failing (line_tests s l) ≡ None
+  pub pass_D : IsNumbered 68 (length s.directory + 1) l → (s.param ≡ []) → list_all is_empty (sections s) ≡ false → 0 < length s.global → first_failing (line_tests s l) ≡ None
   pass_D h g some any =
       ap (λ (p : ℕ). first_failing (tests_at s p l)) (ap section_place h.letter_is)
       ∙ passed (tests_at s 2 l) (
@@ -260,7 +260,7 @@ module _ (s : SectionLines) (l : List ℕ) where
         ),
       )
 
-  pass_P : IsNumbered 80 (length s.param + 1) l → 0 < length s.start → 0 < length s.global → first_failing (line_tests s l) ≡ None
+  pub pass_P : IsNumbered 80 (length s.param + 1) l → list_all is_empty (sections s) ≡ false → 0 < length s.global → first_failing (line_tests s l) ≡ None
   pass_P h some any =
       ap (λ (p : ℕ). first_failing (tests_at s p l)) (ap section_place h.letter_is)
       ∙ passed (tests_at s 3 l) (
@@ -274,7 +274,7 @@ module _ (s : SectionLines) (l : List ℕ) where
         ),
       )
 
-  pass_T : IsTerminate s l → 0 < length s.start → 0 < length s.global → first_failing (line_tests s l) ≡ None
+  pass_T : IsTerminate s l → list_all is_empty (sections s) ≡ false → 0 < length s.global → first_failing (line_tests s l) ≡ None
   pass_T h some any =
       ap (λ (p : ℕ). first_failing (tests_at s p l)) (ap section_place h.numbered.letter_is)
       ∙ passed (tests_at s 4 l) (
@@ -436,7 +436,7 @@ all_P (l ∷ todo) k s more sec some any is h done =
     let s' : SectionLines = record s { param = s.param ++ l ∷ [] } in
     let sec' : Sections s' = record { start = sec.start; global = sec.global; directory = sec.directory; param = g.0 } in
     let tail : Faultless (joined s') (todo ++ more) = all_P todo (k + 1) s' more sec' some any g.1 h.1 (subst (λ (x : Lines). Faultless (s.start ++ s.global ++ s.directory ++ x) more) (sym (append_assoc s.param (l ∷ []) todo)) done) in (
-      fault_line s l sec ∙ pass_P s l (subst (λ (n : ℕ). IsNumbered 80 n l) (is ∙ omega arith) h.0) some any,
+      fault_line s l sec ∙ pass_P s l (subst (λ (n : ℕ). IsNumbered 80 n l) (is ∙ omega arith) h.0) (not_first s l some) any,
       subst (λ (x : Lines). Faultless x (todo ++ more)) (sym (join_P s.start s.global s.directory s.param l)) tail,
     )
 
@@ -449,7 +449,7 @@ all_D (l ∷ todo) k s more sec p some any is h done =
     let s' : SectionLines = record s { directory = s.directory ++ l ∷ [] } in
     let sec' : Sections s' = record { start = sec.start; global = sec.global; directory = g.0; param = sec.param } in
     let tail : Faultless (joined s') (todo ++ more) = all_D todo (k + 1) s' more sec' p some any g.1 h.1 (subst (λ (x : Lines). Faultless (s.start ++ s.global ++ x ++ s.param) more) (sym (append_assoc s.directory (l ∷ []) todo)) done) in (
-      fault_line s l sec ∙ pass_D s l (subst (λ (n : ℕ). IsNumbered 68 n l) (is ∙ omega arith) h.0) p some any,
+      fault_line s l sec ∙ pass_D s l (subst (λ (n : ℕ). IsNumbered 68 n l) (is ∙ omega arith) h.0) p (not_first s l some) any,
       subst (λ (x : Lines). Faultless x (todo ++ more)) (sym (join_D s.start s.global s.directory s.param l p)) tail,
     )
 
@@ -462,7 +462,7 @@ all_G (l ∷ todo) k s more sec d p some is h done =
     let s' : SectionLines = record s { global = s.global ++ l ∷ [] } in
     let sec' : Sections s' = record { start = sec.start; global = g.0; directory = sec.directory; param = sec.param } in
     let tail : Faultless (joined s') (todo ++ more) = all_G todo (k + 1) s' more sec' d p some g.1 h.1 (subst (λ (x : Lines). Faultless (s.start ++ x ++ s.directory ++ s.param) more) (sym (append_assoc s.global (l ∷ []) todo)) done) in (
-      fault_line s l sec ∙ pass_G s l (subst (λ (n : ℕ). IsNumbered 71 n l) (is ∙ omega arith) h.0) d p some,
+      fault_line s l sec ∙ pass_G s l (subst (λ (n : ℕ). IsNumbered 71 n l) (is ∙ omega arith) h.0) d p (not_first s l some),
       subst (λ (x : Lines). Faultless x (todo ++ more)) (sym (join_G s.start s.global s.directory s.param l d p)) tail,
     )
 
@@ -484,7 +484,7 @@ unfolding Faultless
 complete ls s h =
     let sec : Sections s = record { start = h.start; global = h.global; directory = h.directory; param = h.param } in
     let ended : is_terminated (joined s ++ h.last ∷ []) ≡ true = list_any-append (λ x. letter x == 84) (joined s) (h.last ∷ []) ∙ or_right (is_terminated (joined s)) _ (or_left (letter h.last == 84) false (eq-eqb _ _ h.terminate.numbered.letter_is)) in
-    let last : Faultless (joined s) (h.last ∷ h.after) = (fault_line s h.last sec ∙ pass_T s h.last h.terminate h.some_start h.some_global, behind_blank (joined s ++ h.last ∷ []) h.after ended h.blank) in
+    let last : Faultless (joined s) (h.last ∷ h.after) = (fault_line s h.last sec ∙ pass_T s h.last h.terminate (not_first s h.last h.some_start) h.some_global, behind_blank (joined s ++ h.last ∷ []) h.after ended h.blank) in
     let p : Faultless (s.start ++ s.global ++ s.directory ++ []) (s.param ++ h.last ∷ h.after) =
     all_P s.param 1 (record_of s.start s.global s.directory []) (h.last ∷ h.after) (record { start = h.start; global = h.global; directory = h.directory; param = tt }) h.some_start h.some_global refl h.param last in
     let d : Faultless (s.start ++ s.global ++ [] ++ []) (s.directory ++ (s.param ++ h.last ∷ h.after)) =

@@ -15,12 +15,12 @@ use crate::pieces::{first_ended, stripped};
 use crate::section_table::SectionTable;
 use crate::table::Sections;
 use crate::taken_lines::TakenLines;
-use iges_fields::NoMemory;
+use iges_base::NoMemory;
 use std::alloc::Global;
 use std::marker::Model;
 
 /// The lines of a file that comes piece by piece (IGES 5.3, 2.2.4). A line is judged as soon as its LF has come, and
-/// after the first that fails no more are kept (own).
+/// after the first that fails no more are kept.
 #[derive(Drop)]
 pub struct LineFeed {
     alloc: Global,
@@ -96,7 +96,7 @@ fn take_piece(
 }
 
 impl LineFeed {
-    /// A feed of no bytes (own).
+    /// A feed of no bytes.
     pub fn new(alloc: Global) -> LineFeed
         ensures fed { IsFed result [] }
         ensures len { result.len ≡ 0 }
@@ -109,7 +109,7 @@ impl LineFeed {
         }
     }
 
-    /// Takes the next bytes, cut anywhere (own). Where memory runs out, the feed is as it was.
+    /// Takes the next bytes, cut anywhere. Where memory runs out, the feed is as it was.
     pub fn feed(&mut self, piece: &[u8]) -> Result<(), NoMemory>
         requires { self.old.len + length piece.now ≤ FILE_LIMIT }
         ensures ok { OnOk result ((bytes : List ℕ) → IsFed self.old bytes
@@ -166,7 +166,7 @@ impl LineFeed {
     }
 
     /// The lines by section, as `sections` gives them of all bytes that came, or the first line at which they fail, and
-    /// why (own).
+    /// why.
     pub fn finish(self) -> Result<Sections, SectionsFault>
         ensures found { (bytes : List ℕ) → IsFed self bytes → IfOk result (IsSectioned bytes) }
         ensures only { (bytes : List ℕ) → IsFed self bytes → (s : SectionLines)

@@ -1,5 +1,5 @@
 ghost use Rattle.iges_base.specs.First.{first_failing};
-ghost use Rattle.iges_fields.specs.Word.{is_empty};
+ghost use Rattle.iges_base.specs.Word.{is_empty};
 ghost use Rattle.iges_lines.specs.Judged.{tests_behind};
 ghost use Rattle.iges_lines.specs.LineFaults.{line_tests};
 ghost use Rattle.iges_lines.specs.Lines.{sections};

@@ -1,7 +1,7 @@
-ghost use Rattle.iges_fields.specs.Word.{is_empty};
+ghost use Rattle.iges_base.specs.Word.{is_empty};
 ghost use Rattle.std.specs.Prelude.{◌≡◌, ◌↔◌, ◌<◌, ◌^◌, [], ◌∷◌, ◌++◌, OnOk, OnErr, length, take, slice_get, option_copied, IsSome, IfSome};
 
-use iges_fields::NoMemory;
+use iges_base::NoMemory;
 use std::alloc::Global;
 use std::marker::Model;
 
@@ -54,6 +54,7 @@ impl LineList {
     }
 
     /// Puts the line at the end.
+    #[inline(always)]
     pub fn push(&mut self, line: &[u8]) -> Result<(), NoMemory>
         requires { length line.now ≡ 80 }
         ensures ok { OnOk result (self.new ≡ self.old ++ line.now ∷ []) }

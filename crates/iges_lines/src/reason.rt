@@ -1,7 +1,7 @@
 ghost use Rattle.iges_lines.specs.Reasons.{reason_number, reason_word};
 ghost use Rattle.std.specs.Prelude.{◌≡◌};
 
-/// Why a file is refused (own). Reasons 1 to 7 are of the pass over the lines, 8 to 11 of that over
+/// Why a file is refused. Reasons 1 to 7 are of the pass over the lines, 8 to 11 of that over
 /// the directory, 12 to 14 of that over the global section, and 15 to 17 of that over the records.
 #[derive(Clone, Copy, Debug, PartialEq, Eq)]
 pub enum Reason {
@@ -42,14 +42,14 @@ pub enum Reason {
 }
 
 impl Reason {
-    /// The number that the format's description gives the reason, from 1 (own).
+    /// The number that the format's description gives the reason, from 1.
     pub fn number(self) -> u8
         ensures { result ≡ reason_number self }
     {
         self as u8
     }
 
-    /// The word that is printed for the reason (own).
+    /// The word that is printed for the reason.
     pub fn word(self) -> &'static [u8]
         ensures { result.now ≡ reason_word self }
     {

@@ -1,4 +1,4 @@
-ghost use Rattle.iges_fields.specs.Word.{is_empty};
+ghost use Rattle.iges_base.specs.Word.{is_empty};
 ghost use Rattle.iges_lines.specs.Kinds.{added, place_of};
 ghost use Rattle.iges_lines.specs.Extending.{counts_of};
 ghost use Rattle.iges_lines.specs.LineFaults.{has_count};
@@ -9,7 +9,7 @@ ghost use Rattle.std.specs.Prelude.{◌≡◌, ◌↔◌, ◌+◌, ◌<◌, ◌�
 use crate::kind::Kind;
 use crate::line::{columns, holds_count};
 use crate::line_list::LineList;
-use iges_fields::NoMemory;
+use iges_base::NoMemory;
 use std::alloc::Global;
 use std::marker::Model;
 
@@ -234,6 +234,7 @@ impl SectionTable {
     }
 
     /// Puts the line at the end of its section.
+    #[inline(always)]
     pub fn add(&mut self, kind: Kind, line: &[u8]) -> Result<(), NoMemory>
         requires { length line.now ≡ 80 }
         ensures ok { OnOk result (self.new ≡ added self.old kind line.now) }

@@ -1,19 +1,23 @@
 ghost use Rattle.iges_lines.specs.Extending.{Extends, mark_of};
 ghost use Rattle.iges_lines.specs.Feeding.{Taken, AreTaken, StandsFor};
 ghost use Rattle.iges_lines.specs.Gives.{Gives};
-ghost use Rattle.iges_lines.specs.Judged.{IsAdded};
-ghost use Rattle.iges_lines.specs.Lines.{lines};
+ghost use Rattle.iges_base.specs.First.{first_failing};
+ghost use Rattle.iges_lines.specs.Foretold.{IsNextEnding};
+ghost use Rattle.iges_lines.specs.Kinds.{is_last};
+ghost use Rattle.iges_lines.specs.LineFaults.{line_tests};
+ghost use Rattle.iges_lines.specs.Lines.{columns, lines};
 ghost use Rattle.iges_lines.specs.Reading.{read_sections};
-ghost use Rattle.std.specs.Prelude.{◌≡◌, ◌+◌, ◌≤◌, ◌<◌, ◌^◌, List, [], ◌∷◌, ◌++◌, None, false, ℕ, length, IfOk, IsFalse, IsTrue, OnOk, OnErr, is_some};
+ghost use Rattle.std.specs.Prelude.{◌≡◌, ◌+◌, ◌≤◌, ◌<◌, ◌^◌, List, [], ◌∷◌, ◌++◌, None, false, ℕ, length, IfOk, IfSome, IsFalse, IsTrue, OnOk, OnErr, is_some};
 
+use crate::due::{ending_of, is_due, next_ending};
 use crate::fault::{LineFault, SectionsFault};
 use crate::judging::fault_of;
-use crate::kind::{is_last_kind, kind_of};
+use crate::kind::{Kind, is_last_kind, kind_of};
 use crate::line::letter_of;
 use crate::pieces::{first_ended, stripped};
 use crate::reason::Reason;
 use crate::section_table::{LineCounts, SectionTable};
-use iges_fields::NoMemory;
+use iges_base::NoMemory;
 use std::alloc::Global;
 use std::marker::Model;
 
@@ -24,14 +28,18 @@ pub struct TakenLines {
     terminated: bool,
     number: u64,
     fault: Option<LineFault>,
+    due: Option<[u8; 8]>,
 }
 
 impl Model for TakenLines {
     ghost use Rattle.iges_lines.specs.Feeding.{Taken};
+    ghost use Rattle.iges_lines.specs.Foretold.{IsForetold};
 
     ghost Value = { Taken };
 
     ghost view = { λ t. record { sections = t.table; terminated = t.terminated; number = t.number; fault = t.fault } };
+
+    ghost invariant = { λ t. IsForetold (record { sections = t.table; terminated = t.terminated; number = t.number; fault = t.fault }) t.due };
 }
 
 /// How far the lines had come.
@@ -43,18 +51,17 @@ pub struct Mark {
     fault: Option<LineFault>,
 }
 
-// Takes a line without a fault, and says whether a terminate line has come.
-fn add(table: &mut SectionTable, terminated: bool, line: &[u8]) -> Result<bool, NoMemory>
-    requires { IsFalse terminated → length line.now ≡ 80 }
-    ensures ok { IfOk result (IsAdded table.old terminated line.now table.new) }
-    ensures err { OnErr result (table.new ≡ table.old) }
+// The ending of the line after this one, where it is known.
+#[inline(always)]
+fn due_after(kind: Kind, line: &[u8]) -> Option<[u8; 8]>
+    requires { length line.now ≡ 80 }
+    ensures { IfSome result (λ ending. IsFalse (is_last kind)
+        × IsNextEnding (columns 73 80 line.now) ending) }
 {
-    if terminated {
-        return Ok(true);
+    if is_last_kind(kind) {
+        return None;
     }
-    let kind = kind_of(letter_of(line));
-    table.add(kind, line)?;
-    Ok(is_last_kind(kind))
+    next_ending(ending_of(line))
 }
 
 impl TakenLines {
@@ -69,6 +76,7 @@ impl TakenLines {
             terminated: false,
             number: 1,
             fault: None,
+            due: None,
         }
     }
 
@@ -100,10 +108,33 @@ impl TakenLines {
         self.terminated = mark.terminated;
         self.number = mark.number;
         self.fault = mark.fault;
+        self.due = None;
     }
 
-    /// Judges the next line, and takes it where no line has failed.
-    pub fn take(&mut self, line: &[u8]) -> Result<(), NoMemory>
+    // Takes a line that passes, where no terminate line has come.
+    #[inline(always)]
+    fn put(&mut self, line: &[u8]) -> Result<(), NoMemory>
+        requires few { self.old.number < 2 ^ 63 }
+        requires long { length line.now ≡ 80 }
+        requires going { (self.old.terminated ≡ false) × (self.old.fault ≡ None) }
+        requires passes { None ≡ first_failing (line_tests self.old.sections line.now) }
+        ensures ok { OnOk result ((ls : List (List ℕ)) → AreTaken ls self.old
+            → AreTaken (ls ++ line.now ∷ []) self.new) }
+        ensures err { OnErr result (self.new ≡ self.old) }
+        ensures extends { Extends self.old.sections self.new.sections }
+        ensures number { self.new.number ≤ self.old.number + 1 }
+    {
+        let kind = kind_of(letter_of(line));
+        self.table.add(kind, line)?;
+        self.terminated = is_last_kind(kind);
+        self.number += 1;
+        self.due = due_after(kind, line);
+        Ok(())
+    }
+
+    // Judges the next line, and takes it where no line has failed.
+    #[inline(never)]
+    fn take_judged(&mut self, line: &[u8]) -> Result<(), NoMemory>
         requires { self.old.number < 2 ^ 63 }
         ensures ok { OnOk result ((ls : List (List ℕ)) → AreTaken ls self.old
             → AreTaken (ls ++ line.now ∷ []) self.new) }
@@ -119,11 +150,31 @@ impl TakenLines {
                 line: self.number,
                 reason,
             });
+            self.due = None;
             return Ok(());
         }
-        self.terminated = add(&mut self.table, self.terminated, line)?;
-        self.number += 1;
-        Ok(())
+        if self.terminated {
+            self.number += 1;
+            return Ok(());
+        }
+        self.put(line)
+    }
+
+    /// Judges the next line, and takes it where no line has failed.
+    #[inline(always)]
+    pub fn take(&mut self, line: &[u8]) -> Result<(), NoMemory>
+        requires { self.old.number < 2 ^ 63 }
+        ensures ok { OnOk result ((ls : List (List ℕ)) → AreTaken ls self.old
+            → AreTaken (ls ++ line.now ∷ []) self.new) }
+        ensures err { OnErr result (self.new ≡ self.old) }
+        ensures extends { Extends self.old.sections self.new.sections }
+        ensures number { self.new.number ≤ self.old.number + 1 }
+    {
+        // Most lines end with the number that is due.
+        if is_due(line, self.due) {
+            return self.put(line);
+        }
+        self.take_judged(line)
     }
 
     /// Takes the lines that have ended, and gives what is after them. After a line that fails none is taken, and nothing is

@@ -6,9 +6,9 @@ use Rattle.std.proofs.lemmas.Option.{same_Some}
 use Rattle.iges_fields.specs.Delims.{are_permitted}
 use Rattle.iges_fields.specs.FreeText.{begins_with}
 use Rattle.iges_base.specs.InLine.{is_in_line}
-use Rattle.iges_fields.specs.Word.{spaces, after_spaces}
+use Rattle.iges_base.specs.Word.{spaces, after_spaces}
 use Rattle.iges_base.proofs.InLines.{front_in_line}
-use Rattle.iges_fields.proofs.Spaces.{after_spaces-is}
+use Rattle.iges_base.proofs.Spaces.{after_spaces-is}
 use Rattle.iges_params.specs.Global.{Head, delimiter_at, behind_byte, head_end, head_with, head_start, any_head, if_permitted, head}
 
 -- a text without some bytes at its front

@@ -10,8 +10,10 @@ pub mod Passes
 pub mod Behind
 pub mod Globals
 pub mod NamedEntries
+pub mod SolidNumbers
 pub mod Answers
 pub mod GlobalExact
 pub mod RecordsExact
 pub mod FileExact
 pub mod FilePass
+mod Pointers

@@ -4,7 +4,7 @@ use Rattle.std.specs.List.{list_all, starts_with}
 use Rattle.iges_fields.specs.declared.value.Value.{Value}
 use Rattle.iges_fields.specs.declared.value.Value.TheVariants as value
 use Rattle.iges_fields.specs.declared.fault.FieldFault.{FieldFault}
-use Rattle.iges_fields.specs.Word.{after_spaces}
+use Rattle.iges_base.specs.Word.{after_spaces}
 use Rattle.iges_fields.specs.Delims.{Delims, are_permitted}
 use Rattle.iges_fields.specs.FreeText.{begins_with, FreeText, IsFieldFault}
 use Rattle.iges_lines.specs.declared.reason.Reason.{Reason}

@@ -1,5 +1,6 @@
 pub mod Contents
 pub mod Named
+pub mod Solids
 pub mod Limits
 pub mod Global
 pub mod Made

@@ -1,4 +1,4 @@
 use iges_lines::PassFault;
 
-/// Why a file was not read: a reason from 1 to 17, or that memory ran out (own).
+/// Why a file was not read: a reason from 1 to 17, or that memory ran out.
 pub type ReadFileFault = PassFault;

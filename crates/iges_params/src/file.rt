@@ -19,7 +19,7 @@ use std::marker::Model;
 const WIDTH: usize = 72;
 
 /// A file: the start lines, columns 1 to 72 of each, the global, and the entries of the directory in order, each with
-/// the values of its record without the type number. An entry of type 0 has no record (own).
+/// the values of its record without the type number. An entry of type 0 has no record.
 #[derive(Drop)]
 pub struct File {
     start: Vec<[u8; WIDTH]>,
@@ -87,8 +87,9 @@ impl File {
 
     /// Puts an entry with the values of its record, without the type number, at the end (IGES 5.3, 2.2.4.4 and
     /// 2.2.4.5). The entry's fields must fit their columns; type 0 has no values; a file has at most `ENTRY_LIMIT` entries
-    /// and at most `FILE_LIMIT` values in all records together (own). Where memory runs out, the values are dropped and
+    /// and at most `FILE_LIMIT` values in all records together. Where memory runs out, the values are dropped and
     /// the file is as it was.
+    #[inline(always)]
     pub fn push(&mut self, entry: Entry, values: Values) -> Result<(), NoMemory>
         requires bounded { IsBounded entry }
         requires unused { IsTrue (int_eq entry.kind (pos 0)) → values ≡ [] }
@@ -141,7 +142,7 @@ impl File {
         &self.global
     }
 
-    /// How many entries there are, those of type 0 among them (own).
+    /// How many entries there are, those of type 0 among them.
     pub fn entry_count(&self) -> usize
         ensures is { result ≡ length self.now.entries }
         ensures few { result ≤ ENTRY_LIMIT }
@@ -150,7 +151,7 @@ impl File {
         self.entries.len()
     }
 
-    /// The i-th entry, i from 0 and those of type 0 among them; None past the end (own).
+    /// The i-th entry, i from 0 and those of type 0 among them; None past the end.
     pub fn entry_at(&self, i: usize) -> Option<&Entry>
         ensures entry { option_copied result ≡ option_map
             (λ e. e.0) (slice_get self.now.entries i) }
@@ -181,7 +182,7 @@ impl File {
     }
 
     /// The entry that a number names, which is that of its first line in the directory section, from 1 (IGES 5.3,
-    /// 2.2.4.4). None where it names none; an entry of type 0 has no name (own).
+    /// 2.2.4.4). None where it names none; an entry of type 0 has no name.
     pub fn entry(&self, no: EntryNo) -> Option<&Entry>
         ensures named { option_copied result ≡ option_map (λ e. e.0) (named self.now (pos no.0)) }
         ensures bounded { IfSome result (λ entry. IsBounded entry.now) }

@@ -39,7 +39,7 @@ const KINDS: [Kind; 24] = [
     Kind::Text,
 ];
 
-// Whether the value is of the kind: a value that is left out is of each, and an integer stands for a real too (own).
+// Whether the value is of the kind: a value that is left out is of each, and an integer stands for a real too.
 fn has_kind(kind: Kind, value: &Value) -> bool
     ensures { result ≡ has_kind kind value.now }
 {

@@ -1,6 +1,6 @@
 ghost use Rattle.iges_params.specs.Refusal.{OneReading};
 
-/// All bytes are exactly one file, or are refused with exactly one line and reason (own).
+/// All bytes are exactly one file, or are refused with exactly one line and reason.
 pub fn every_text_has_one_reading()
     ensures { OneReading }
 {}

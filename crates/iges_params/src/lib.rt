@@ -10,8 +10,10 @@ mod kinds;
 mod law;
 mod part;
 mod passage;
+mod pointer;
 mod reading;
 mod record;
+mod solids;
 
 pub use fault::ReadFileFault;
 pub use file::File;

@@ -30,6 +30,7 @@ fn line(sections: &Sections, part: Part, i: usize) -> Option<&[u8]>
 const ROOM: usize = 65_536;
 
 /// Puts columns 1 to `width` of so many lines of a part, from a place on, in place of the text.
+#[inline(always)]
 pub fn put_text(
     text: &mut Vec<u8>,
     sections: &Sections,

@@ -115,7 +115,7 @@ fn read_taken(alloc: Global, mut lines: Sections) -> Result<File, ReadFileFault>
 }
 
 /// The file of the lines: global, directory and records are read in this order, and the first fault of the first pass
-/// that fails is reported, with its line in the file, from 1 (own). It answers what `read_file` answers of any bytes that
+/// that fails is reported, with its line in the file, from 1. It answers what `read_file` answers of any bytes that
 /// have these lines.
 pub fn read_sections(alloc: Global, lines: &Sections) -> Result<File, ReadFileFault>
     ensures found { (bytes : List ℕ) → IsSectioned bytes lines.now → IfOk result (IsFile bytes) }
@@ -129,7 +129,7 @@ pub fn read_sections(alloc: Global, lines: &Sections) -> Result<File, ReadFileFa
 }
 
 /// The same, of lines that aren't needed any more: the memory of the directory's lines is given back as soon as they are
-/// read (own).
+/// read.
 pub fn take_sections(alloc: Global, lines: Sections) -> Result<File, ReadFileFault>
     ensures found { (bytes : List ℕ) → IsSectioned bytes lines → IfOk result (IsFile bytes) }
     ensures only { (bytes : List ℕ) (f : Contents) → IsSectioned bytes lines → IsFile bytes f
@@ -142,8 +142,8 @@ pub fn take_sections(alloc: Global, lines: Sections) -> Result<File, ReadFileFau
 }
 
 /// The file that the bytes are (IGES 5.3, 2.2.4). Lines, global, directory and records are read in this order, and the
-/// first fault of the first pass that fails is reported, with its line in the file, from 1 (own). Parameter lines that no
-/// entry claims aren't read, and a value may cross a line (own).
+/// first fault of the first pass that fails is reported, with its line in the file, from 1. Parameter lines that no
+/// entry claims aren't read, and a value may cross a line.
 pub fn read_file(alloc: Global, bytes: &[u8]) -> Result<File, ReadFileFault>
     requires { length bytes.now ≤ FILE_LIMIT }
     ensures found { IfOk result (IsFile bytes.now) }

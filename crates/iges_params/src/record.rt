@@ -1,19 +1,53 @@
 ghost use Rattle.iges_directory.specs.Entries.{has_record};
 ghost use Rattle.iges_fields.specs.Delims.{are_permitted};
+ghost use Rattle.iges_base.specs.InLine.{is_in_line};
 ghost use Rattle.iges_base.specs.declared.TheConstants.{FILE_LIMIT};
 ghost use Rattle.iges_lines.specs.Gives.{Gives};
+ghost use Rattle.iges_lines.specs.Lines.{columns};
 ghost use Rattle.iges_params.specs.Reading.{above, read_record, used_values, without_type};
 ghost use Rattle.iges_params.specs.Records.{is_number, points_back, record_lines};
 ghost use Rattle.std.specs.List.{position_from};
 ghost use Rattle.std.specs.Ordering.{int_eq};
-ghost use Rattle.std.specs.Prelude.{◌≡◌, ◌+◌, ◌-◌, ◌*◌, ◌<◌, ◌≤◌, ◌^◌, ◌∷◌, IfSome, IsTrue, length, not, pos, slice_range, unsigned_abs};
+ghost use Rattle.std.specs.Prelude.{◌≡◌, ◌+◌, ◌-◌, ◌*◌, ◌<◌, ◌≤◌, ◌^◌, ◌∷◌, IfOk, IfSome, IsTrue, Some, flat_map, length, not, pos, slice_get, slice_range, unsigned_abs};
 
 use crate::part::{Part, put_text};
 use crate::passage::{Passage, bad, parted_passage};
+use crate::pointer::{carries, carries_too};
 use iges_directory::{Entry, Placed};
-use iges_fields::{Delimiters, FILE_LIMIT, Value, Values};
-use iges_lines::{PassFault, Reason, Sections, columns, holds_number};
+use iges_fields::{Delimiters, FILE_LIMIT, NoMemory, Value, Values};
+use iges_lines::{PassFault, Reason, Sections, columns};
 use std::alloc::Global;
+
+// The first of so many parameter lines, from a place on, that doesn't carry the number of the entry, counted from 0; the
+// first of them does.
+fn later_foreign(
+    sections: &Sections,
+    from: usize,
+    count: usize,
+    number: usize,
+    known: &[u8],
+) -> Option<usize>
+    requires within { from + count ≤ length sections.now.param }
+    requires few { from + count < 2 ^ 64 }
+    requires number { number < 2 ^ 63 }
+    requires some { 0 < count }
+    requires long { length known.now ≡ 80 }
+    requires first { slice_get sections.now.param from ≡ Some known.now }
+    requires back { IsTrue (points_back number known.now) }
+    ensures place { result ≡ position_from (λ l. not (points_back number l)) 0
+        (slice_range sections.now.param from (from + count)) }
+    ensures within { IfSome result (λ i. i < count) }
+{
+    'lines: for i in 1..count {
+        let Some(line) = sections.param(from + i) else {
+            unreachable!();
+        };
+        if !carries_too(known, line, number) {
+            return Some(i);
+        }
+    }
+    None
+}
 
 // The first of so many parameter lines, from a place on, that doesn't carry the number of the entry, counted from 0.
 fn first_foreign(sections: &Sections, from: usize, count: usize, number: usize) -> Option<usize>
@@ -24,15 +58,40 @@ fn first_foreign(sections: &Sections, from: usize, count: usize, number: usize) 
         (slice_range sections.now.param from (from + count)) }
     ensures within { IfSome result (λ i. i < count) }
 {
-    'lines: for i in 0..count {
-        let Some(line) = sections.param(from + i) else {
+    if count == 0 {
+        return None;
+    }
+    let Some(line) = sections.param(from) else {
+        unreachable!();
+    };
+    if !carries(line, number) {
+        return Some(0);
+    }
+    later_foreign(sections, from, count, number, line)
+}
+
+// Columns 1 to 64 of so many parameter lines, from a place on. They are put in place of `text` unless they are those of
+// one line.
+fn record_text<'t>(
+    sections: &'t Sections,
+    from: usize,
+    count: usize,
+    text: &'t mut Vec<u8>,
+) -> Result<&'t [u8], NoMemory>
+    requires within { from + count ≤ length sections.now.param }
+    requires few { from + count < 2 ^ 64 }
+    ensures text { IfOk result (λ t. t.now ≡ flat_map (columns 1 64)
+        (slice_range sections.now.param from (from + count))) }
+    ensures in_line { IfOk result (λ t. IsTrue (is_in_line t.now)) }
+{
+    if count == 1 {
+        let Some(line) = sections.param(from) else {
             unreachable!();
         };
-        if !holds_number(columns(line, 66, 72), number) {
-            return Some(i);
-        }
+        return Ok(columns(line, 1, 64));
     }
-    None
+    put_text(text, sections, Part::Param, 64, from, count)?;
+    Ok(text.as_slice())
 }
 
 // Whether the value is this integer.
@@ -100,8 +159,7 @@ fn used_values(
     if let Some(i) = first_foreign(sections, place - 1, count, number) {
         return Err(bad(first + i as u64, Reason::BackPointer));
     }
-    put_text(text, sections, Part::Param, 64, place - 1, count)?;
-    let columns = text.as_slice();
+    let columns = record_text(sections, place - 1, count, text)?;
     let passage = Passage {
         columns,
         text: columns,

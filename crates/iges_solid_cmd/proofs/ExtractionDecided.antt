@@ -5,7 +5,7 @@ use Rattle.std.specs.Ordering.{int_eq}
 use Rattle.std.proofs.Common.{refl, sym, ◌∙◌, ap, subst, arith, inl, inr, ⊎_elim}
 use Rattle.std.proofs.lemmas.Bool.{and_from, lt-ltb, cases_order}
 use Rattle.std.proofs.lemmas.List.Elements.{All-from_recursion}
-use Rattle.iges_fields.proofs.Answers.{ok_is}
+use Rattle.iges_base.proofs.Answers.{ok_is}
 use Rattle.iges_params.specs.Contents.{Contents}
 use Rattle.iges_params.specs.Named.{named}
 use Rattle.solid_data.specs.Chain.{Steps, LeadsTo}

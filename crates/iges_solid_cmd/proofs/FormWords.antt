@@ -8,7 +8,7 @@ use Rattle.std.proofs.lemmas.Simd.{map-map}
 use Rattle.std.proofs.lemmas.List.Folds.{list_all-map}
 use Rattle.std.proofs.lemmas.Bool.{and_from, and_parts, eqb-true, le-leb, leb-true}
 use Rattle.std.proofs.lemmas.Option.{slice_get-map}
-use Rattle.iges_fields.specs.Word.{are_digits}
+use Rattle.iges_base.specs.Word.{are_digits}
 use Prim.Native.Nat.compare
 use Rattle.iges_solid_cmd.specs.declared.form.Command.{Command}
 use Rattle.iges_solid_cmd.specs.declared.slot.Operand.{Operand}

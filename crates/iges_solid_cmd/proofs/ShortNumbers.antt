@@ -6,8 +6,8 @@ use Rattle.std.specs.List.{list_all}
 use Rattle.std.specs.Str.Parse.{ParsesUnsigned, digits_value}
 use Rattle.std.proofs.lemmas.Bool.{and_parts, and_from, le-leb, leb-true}
 use Rattle.std.proofs.lemmas.Str.Parse.{IsDigitsTest, IsNumeralModel, numerals_by_value, parse_gives}
-use Rattle.iges_fields.specs.Word.{are_digits, is_empty}
-use Rattle.iges_fields.proofs.DigitFronts.{digit_range}
+use Rattle.iges_base.specs.Word.{are_digits, is_empty}
+use Rattle.iges_base.proofs.DigitFronts.{digit_range}
 use Rattle.iges_solid_cmd.specs.Forms.{fits, number}
 
 abbrev AreAllDigits : List ℕ → Type 0

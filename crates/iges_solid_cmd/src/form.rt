@@ -6,7 +6,7 @@ ghost use Rattle.std.specs.Str.Parse.{digits_value};
 
 use crate::slot::{ENTRY_NUMBER, Operand, SAMPLE_NUMBER, Slot};
 
-/// A command for all of a file (own).
+/// A command for all of a file.
 #[derive(Clone, Copy, Debug, PartialEq, Eq)]
 pub enum WholeCommand {
     /// The directory numbers of the solids of a file.
@@ -15,7 +15,7 @@ pub enum WholeCommand {
     CertifyAll,
 }
 
-/// A command for a solid or a shell of a file (own).
+/// A command for a solid or a shell of a file.
 #[derive(Clone, Copy, Debug, PartialEq, Eq)]
 pub enum EntityCommand {
     /// What the shells of a solid are made of.
@@ -33,7 +33,7 @@ pub enum EntityCommand {
     Compact,
 }
 
-/// A command for a file and a certificate (own).
+/// A command for a file and a certificate.
 #[derive(Clone, Copy, Debug, PartialEq, Eq)]
 pub enum CertificateCommand {
     /// Whether a certificate is accepted for a file.
@@ -46,7 +46,7 @@ pub enum CertificateCommand {
     OrientVerify,
 }
 
-/// A command for a file (own).
+/// A command for a file.
 #[derive(Clone, Copy, Debug, PartialEq, Eq)]
 pub enum FileCommand {
     /// One for all of it.
@@ -57,7 +57,7 @@ pub enum FileCommand {
     Certificate(CertificateCommand),
 }
 
-/// A command that the words ask for (own).
+/// A command that the words ask for.
 #[derive(Clone, Copy, Debug, PartialEq, Eq)]
 pub enum Command {
     /// One for a file.
@@ -66,7 +66,7 @@ pub enum Command {
     Sample(u32),
 }
 
-/// Which command a form asks for, without its number (own).
+/// Which command a form asks for, without its number.
 #[derive(Clone, Copy, Debug)]
 pub enum CommandKind {
     Whole(WholeCommand),
@@ -75,7 +75,7 @@ pub enum CommandKind {
     Sample,
 }
 
-/// What the words of a command line may be, one by one, and the command that they ask for (own).
+/// What the words of a command line may be, one by one, and the command that they ask for.
 #[derive(Clone, Copy, Debug)]
 pub struct Form {
     /// One for each word, in the order of the words.
@@ -227,7 +227,7 @@ fn first_form(forms: &[Form], words: &[String]) -> Option<Form>
     forms.iter().copied().find(|form| form.fits(words))
 }
 
-/// The listed forms, in the order of the usage line (own).
+/// The listed forms, in the order of the usage line.
 pub fn listed() -> &'static [Form]
     ensures { map form_meant result.now ≡ forms }
 {
@@ -241,7 +241,7 @@ fn form_of(words: &[String]) -> Option<Form>
     first_form(listed(), words)
 }
 
-/// The command of the first listed form that the words have (own).
+/// The command of the first listed form that the words have.
 pub fn command_in(words: &[String]) -> Option<Command>
     ensures { result ≡ command_of (map string_bytes words.now) }
 {
@@ -249,7 +249,7 @@ pub fn command_in(words: &[String]) -> Option<Command>
     Some(form.kind.command(form.number(words).unwrap_or(0)))
 }
 
-/// The word in the first slot for such of the form that the words have; None where they have none (own).
+/// The word in the first slot for such of the form that the words have; None where they have none.
 pub fn named_in<'a>(what: Operand, words: &'a [String]) -> Option<&'a str>
     ensures { MatchOption result (named what (map string_bytes words.now) ≡ None)
         (λ word. named what (map string_bytes words.now) ≡ Some word.now) }

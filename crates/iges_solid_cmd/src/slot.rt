@@ -1,4 +1,4 @@
-ghost use Rattle.iges_fields.specs.Word.{are_digits};
+ghost use Rattle.iges_base.specs.Word.{are_digits};
 ghost use Rattle.iges_solid_cmd.specs.Forms.{fits, holds, number};
 ghost use Rattle.iges_solid_cmd.specs.FormTable.{slot_meant};
 ghost use Rattle.std.specs.Char.{is_ascii_digit};
@@ -8,7 +8,7 @@ ghost use Rattle.std.specs.Str.Parse.{digits_value};
 
 use iges_base::LINE_LIMIT;
 
-/// What a word of a form is (own).
+/// What a word of a form is.
 #[derive(Clone, Copy, Debug)]
 pub enum Slot {
     /// This very word.
@@ -25,7 +25,7 @@ pub enum Slot {
     },
 }
 
-/// What a command takes from the words (own).
+/// What a command takes from the words.
 #[derive(Clone, Copy, Debug, PartialEq, Eq)]
 pub enum Operand {
     File,
@@ -40,7 +40,7 @@ pub const ENTRY_NUMBER: Slot = Slot::Number {
     greatest: LINE_LIMIT as u32,
 };
 
-/// The size of a sample (own).
+/// The size of a sample.
 pub const SAMPLE_NUMBER: Slot = Slot::Number {
     digits: 3,
     least: 3,
@@ -79,7 +79,7 @@ fn number_in(word: &str, digits: usize, least: u32, greatest: u32) -> Option<u32
 }
 
 impl Slot {
-    /// Whether a word may be in the slot (own).
+    /// Whether a word may be in the slot.
     pub fn fits(self, word: &str) -> bool
         ensures { result ≡ fits (slot_meant self) word.now }
     {
@@ -94,7 +94,7 @@ impl Slot {
         }
     }
 
-    /// Whether the slot is for such a word (own).
+    /// Whether the slot is for such a word.
     pub fn holds(self, what: Operand) -> bool
         ensures { result ≡ holds what (slot_meant self) }
     {
@@ -106,7 +106,7 @@ impl Slot {
         }
     }
 
-    /// The number that a fitting word writes; None where the slot is not for numbers (own).
+    /// The number that a fitting word writes; None where the slot is not for numbers.
     pub fn number(self, word: &str) -> Option<u32>
         ensures { holds Operand.Number (slot_meant self) ≡ true
             → fits (slot_meant self) word.now ≡ true → result ≡ Some (digits_value 10 word.now) }

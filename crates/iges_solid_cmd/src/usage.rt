@@ -53,7 +53,7 @@ fn put_joined<T: Shown>(out: &mut Out, shown: &[T], between: &[u8]) -> Result<()
     Ok(())
 }
 
-/// The usage line: the listed forms in their order, with a line feed at the end (own). It errs only where memory runs out.
+/// The usage line: the listed forms in their order, with a line feed at the end. It errs only where memory runs out.
 pub fn usage_text(alloc: Global) -> Result<Bytes, NoMemory>
     ensures { IfOk result (λ text. text ≡ usage_line) }
 {

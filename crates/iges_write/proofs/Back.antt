@@ -9,7 +9,7 @@ use Rattle.std.proofs.lemmas.List.{append-nil, take-append-drop, length-take}
 use Rattle.iges_fields.specs.declared.value.Value.{Value}
 use Rattle.iges_fields.specs.declared.value.Value.TheVariants as value
 use Rattle.iges_fields.specs.Delims.{Delims}
-use Rattle.iges_fields.specs.Word.{spaces}
+use Rattle.iges_base.specs.Word.{spaces}
 use Rattle.iges_fields.specs.FreeText.{Spells, IsItem, delimited, FreeText}
 use Rattle.iges_fields.specs.Spelled.{spelling}
 use Rattle.iges_base.proofs.Lists.{all_append}

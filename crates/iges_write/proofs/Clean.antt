@@ -11,10 +11,12 @@ use Rattle.std.proofs.lemmas.List.{append-nil, take-append-drop, length-replicat
 use Rattle.std.proofs.lemmas.List.Folds.{list_all-append, concat-append}
 use Rattle.iges_fields.specs.declared.value.Value.{Value}
 use Rattle.iges_fields.specs.declared.value.Value.TheVariants as value
-use Rattle.iges_fields.specs.Word.{is_empty, spaces}
+use Rattle.iges_base.specs.Word.{is_empty, spaces}
 use Rattle.iges_fields.specs.Delims.{Delims, is_delimiter, are_permitted}
 use Rattle.iges_fields.specs.FreeText.{is_delimiter_of, fits_64_bits}
-use Rattle.iges_fields.proofs.Words.{list_all-implies, is_number_byte, number_byte-passes, digit_is_not, digits_number_bytes, integer_is, integer_number_bytes, real_number_bytes, stop_is_delimiter, end_stops, param_stops}
+use Rattle.iges_base.proofs.DigitFronts.{digit_is_not}
+use Rattle.iges_base.proofs.Lists.{list_all-implies}
+use Rattle.iges_fields.proofs.Words.{is_number_byte, number_byte-passes, digits_number_bytes, integer_is, integer_number_bytes, real_number_bytes, stop_is_delimiter, end_stops, param_stops}
 use Rattle.iges_base.proofs.InLines.{both_in_line}
 use Rattle.iges_fields.specs.Spelled.{spelling}
 use Rattle.iges_write.specs.Parts.{single_parts, word_parts, value_parts, parts}

@@ -7,10 +7,11 @@ use Rattle.std.specs.Str.Lines.{strip_carriage_return}
 use Rattle.std.proofs.lemmas.Bool.{and_parts, and_from, cond-false, leb-true, le-leb, not-true}
 use Rattle.std.proofs.lemmas.Fmt.{length-decimal-le}
 use Rattle.std.proofs.lemmas.List.{append-nil, take_at, drop_at, take_all, length-drop, length-replicate}
-use Rattle.iges_fields.specs.Word.{is_empty, is_space, spaces, trim, is_integer, integer, column_number}
+use Rattle.iges_base.specs.Word.{is_empty, is_space, spaces, trim, is_integer, integer, column_number}
 use Rattle.iges_fields.specs.FreeText.{fits_64_bits}
-use Rattle.iges_fields.proofs.Spaces.{trim-word, has_no_space}
-use Rattle.iges_fields.proofs.Words.{list_all-implies, is_number_byte, number_byte_no_space, integer_is, integer_number_bytes}
+use Rattle.iges_base.proofs.Spaces.{trim-word, has_no_space}
+use Rattle.iges_base.proofs.Lists.{list_all-implies}
+use Rattle.iges_fields.proofs.Words.{is_number_byte, number_byte_no_space, integer_is, integer_number_bytes}
 use Rattle.iges_fields.proofs.Steps.{nonempty}
 use Rattle.iges_lines.specs.Lines.{columns, pieces, cut, lines}
 use Rattle.iges_lines.specs.Sectioned.{IsNumbered, AreNumbered}

@@ -8,7 +8,7 @@ use Rattle.std.specs.Ordering.{int_eq}
 use Rattle.std.proofs.lemmas.Bool.{and_parts, and_from, cond-true, cond-false, cases_Bool, or_left, or_right, le-leb, ne_eqb}
 use Rattle.std.proofs.lemmas.List.{append-nil, take_at}
 use Rattle.iges_fields.specs.declared.value.Value.{Value}
-use Rattle.iges_fields.specs.Word.{spaces, column_number}
+use Rattle.iges_base.specs.Word.{spaces, column_number}
 use Rattle.iges_lines.specs.Lines.{SectionLines}
 use Rattle.iges_lines.specs.Sectioned.{IsCount, IsTerminate}
 use Rattle.iges_directory.specs.declared.entry.Entry.{Entry}

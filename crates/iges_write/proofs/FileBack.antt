@@ -9,11 +9,11 @@ use Rattle.std.proofs.lemmas.Fmt.{length-decimal-le}
 use Rattle.iges_base.specs.declared.TheConstants.{FILE_LIMIT}
 use Rattle.iges_fields.specs.declared.value.Value.{Value}
 use Rattle.iges_fields.specs.declared.value.Value.TheVariants as value
-use Rattle.iges_fields.specs.Word.{spaces}
+use Rattle.iges_base.specs.Word.{spaces}
 use Rattle.iges_fields.specs.Delims.{Delims, is_delimiter, are_permitted}
 use Rattle.iges_base.proofs.InLines.{both_in_line}
-use Rattle.iges_base.proofs.Lists.{all_append}
-use Rattle.iges_fields.proofs.Words.{list_all-implies, digit_number_byte}
+use Rattle.iges_base.proofs.Lists.{all_append, list_all-implies}
+use Rattle.iges_fields.proofs.Words.{digit_number_byte}
 use Rattle.iges_lines.specs.Lines.{SectionLines, joined, lines}
 use Rattle.iges_lines.specs.Sectioned.{AreSectioned}
 use Rattle.iges_directory.specs.declared.entry.Entry.{Entry}

@@ -6,10 +6,10 @@ use Rattle.std.specs.List.{AllZip, starts_with}
 use Rattle.std.proofs.lemmas.Bool.{cond-true, cond-false, eq-eqb, lt-ltb}
 use Rattle.iges_fields.specs.declared.value.Value.{Value}
 use Rattle.iges_fields.specs.declared.value.Value.TheVariants as value
-use Rattle.iges_fields.specs.Word.{spaces, after_spaces}
+use Rattle.iges_base.specs.Word.{spaces, after_spaces}
 use Rattle.iges_fields.specs.Delims.{Delims, are_permitted}
 use Rattle.iges_fields.specs.FreeText.{is_delimiter_of, begins_with, delimited}
-use Rattle.iges_fields.proofs.Spaces.{after_spaces-spaces, after_spaces-other}
+use Rattle.iges_base.proofs.Spaces.{after_spaces-spaces, after_spaces-other}
 use Rattle.iges_fields.proofs.Whole.{few_items}
 use Rattle.iges_fields.proofs.Words.{stop_no_space, end_stops, param_stops, param_is_no_end}
 use Rattle.iges_params.specs.declared.global.Global26.{Global26}

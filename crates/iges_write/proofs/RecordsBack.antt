@@ -9,7 +9,7 @@ use Rattle.iges_fields.specs.declared.value.Value.{Value}
 use Rattle.iges_fields.specs.declared.value.Value.TheVariants as value
 use Rattle.iges_fields.specs.Delims.{Delims}
 use Rattle.iges_fields.specs.FreeText.{FreeText, fits_64_bits}
-use Rattle.iges_fields.specs.Word.{column_number}
+use Rattle.iges_base.specs.Word.{column_number}
 use Rattle.iges_lines.specs.Lines.{columns}
 use Rattle.iges_lines.proofs.Walk.{is-has_number}
 use Rattle.iges_directory.specs.declared.entry.Entry.{Entry}

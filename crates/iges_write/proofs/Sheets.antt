@@ -11,7 +11,7 @@ use Rattle.std.proofs.lemmas.Result.{err_from_is_err_and}
 use Rattle.iges_fields.specs.declared.value.Value.{Value}
 use Rattle.iges_fields.specs.declared.value.Value.TheVariants as value
 use Rattle.iges_fields.specs.Delims.{Delims}
-use Rattle.iges_fields.specs.Word.{spaces}
+use Rattle.iges_base.specs.Word.{spaces}
 use Rattle.iges_write.specs.declared.fault.WriteFileFault.{WriteFileFault}
 use Rattle.iges_write.specs.declared.fault.WriteFileFault.TheVariants as fault
 use Rattle.iges_write.specs.Filled.{padded}

@@ -10,7 +10,7 @@ use Rattle.std.proofs.lemmas.Str.Parse.{digit_from_value}
 use Rattle.std.proofs.lemmas.Bool.{and_parts, and_from, cond-true, cond-false, le-leb, leb-true, ltb-true, ne_eqb}
 use Rattle.iges_fields.specs.declared.value.Value.{Value}
 use Rattle.iges_fields.specs.declared.value.Value.TheVariants as value
-use Rattle.iges_fields.specs.Word.{are_digits, is_integer, integer}
+use Rattle.iges_base.specs.Word.{are_digits, is_integer, integer}
 use Rattle.iges_fields.specs.FreeText.{Spells, fits_64_bits}
 use Rattle.iges_fields.specs.Spelled.{spelling}
 use Rattle.iges_base.specs.InLine.{is_in_line}

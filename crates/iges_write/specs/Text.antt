@@ -6,7 +6,7 @@ use Rattle.std.specs.Ordering.{int_eq}
 use Rattle.iges_fields.specs.declared.value.Value.{Value}
 use Rattle.iges_fields.specs.declared.value.Value.TheVariants as value
 use Rattle.iges_fields.specs.Delims.{Delims}
-use Rattle.iges_fields.specs.Word.{spaces}
+use Rattle.iges_base.specs.Word.{spaces}
 use Rattle.iges_directory.specs.declared.entry.Entry.{Entry}
 use Rattle.iges_params.specs.declared.global.Global26.{Global26}
 use Rattle.iges_params.specs.Contents.{Contents}

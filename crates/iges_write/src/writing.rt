@@ -83,7 +83,7 @@ fn write(alloc: Global, file: &File, limit: u64) -> Result<Bytes, WriteFileFault
     Ok(page.into_bytes())
 }
 
-/// The canonical text of a file (own; its sections and lines are those of IGES 5.3, 2.2.4), which reads as this file. It
+/// The canonical text of a file (its sections and lines are those of IGES 5.3, 2.2.4), which reads as this file. It
 /// errs where the text has more than `limit` bytes, and where memory runs out.
 pub fn write_file(alloc: Global, file: &File, limit: u64) -> Result<Bytes, WriteFileFault>
     requires { limit ≤ FILE_LIMIT }

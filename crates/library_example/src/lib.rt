@@ -14,7 +14,7 @@ use std::alloc::Global;
 #[cfg(test)]
 mod tests;
 
-/// What is said of a solid (own).
+/// What is said of a solid.
 #[derive(Clone, Copy, Debug, PartialEq, Eq)]
 pub enum Finding {
     /// The solid is closed.
@@ -29,7 +29,7 @@ pub enum Finding {
     NoMemory,
 }
 
-/// What is said of the solid of the entry `no` in the file that the bytes are (own).
+/// What is said of the solid of the entry `no` in the file that the bytes are.
 pub fn judge(alloc: Global, bytes: &[u8], no: EntryNo) -> Finding
     ensures { Finds bytes.now no.0 result }
 {

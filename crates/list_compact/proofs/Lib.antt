@@ -22,3 +22,5 @@ pub mod ValueSteps
 pub mod ListSteps
 pub mod FileSteps
 pub mod Emptied
+pub mod AllMarked
+pub mod AllUsed

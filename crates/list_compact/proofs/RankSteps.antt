@@ -52,7 +52,7 @@ ranks_long n (false ∷ bs) = ap suc (ranks_long n bs)
 
 -- ---- all rows
 
-marks_of : (rows : List (List Bool)) (k : ℕ) (row : List ℤ) → slice_get (map (ranks_of 0) rows) k ≡ Some row → (marks : List Bool) × (slice_get rows k ≡ Some marks) × (ranks_of 0 marks ≡ row)
+pub marks_of : (rows : List (List Bool)) (k : ℕ) (row : List ℤ) → slice_get (map (ranks_of 0) rows) k ≡ Some row → (marks : List Bool) × (slice_get rows k ≡ Some marks) × (ranks_of 0 marks ≡ row)
 marks_of rows k row at = by_option (slice_get rows k) refl (sym (slice_get-map (ranks_of 0) rows k) ∙ at)
   where
     by_option : (o : Option (List Bool)) → slice_get rows k ≡ o → option_map (ranks_of 0) o ≡ Some row → (marks : List Bool) × (slice_get rows k ≡ Some marks) × (ranks_of 0 marks ≡ row)

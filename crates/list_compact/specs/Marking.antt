@@ -27,6 +27,10 @@ pub record AreRecords (g : Contents) : Type 0 where
 abbrev pub AreMarks : List (List Bool) → (ℕ → ℕ → Bool) → Type 0
 AreMarks rows used = (k i : ℕ) (row : List Bool) → slice_get rows k ≡ Some row → i < length row → slice_index_or row i false ≡ used (2 * k + 1) (i + 1)
 
+-- each item is marked
+abbrev pub AreAllMarked : List (List Bool) → Type 0
+AreAllMarked rows = (k i : ℕ) (row : List Bool) → slice_get rows k ≡ Some row → i < length row → slice_index_or row i false ≡ true
+
 -- the numbers name this item
 abbrev pub is_at : ℤ → ℤ → ℕ → ℕ → Bool
 is_at z j e i = int_eq z (pos e) && int_eq j (pos i)

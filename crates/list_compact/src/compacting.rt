@@ -12,6 +12,7 @@ ghost use Rattle.std.specs.Prelude.{ℕ, IfErr, IfOk, OnOk};
 
 use crate::dropping::dropped;
 use crate::fault::CompactFault;
+use crate::marking::used_items;
 use brep_walk::{WalkFault, walk};
 use iges_fields::{EntryNo, NoMemory};
 use iges_params::File;
@@ -29,14 +30,19 @@ fn extracted(alloc: Global, file: File, no: EntryNo) -> Result<File, NoMemory>
     }
 }
 
-// The rest, once a solid's file is extracted.
+// The rest, once a solid's file is extracted. Where each item of its lists is used, nothing is dropped, and the second
+// extraction would give the same file.
 fn finished(alloc: Global, extraction: Extraction) -> Result<File, NoMemory>
     requires { (f : Contents) × (n : ℕ) × IsExtractedAs f n extraction.file extraction.no.0 }
     ensures { (f : Contents) (n : ℕ) → IsExtractedAs f n extraction.file extraction.no.0
         → AllHold (places f n) → IfOk result (IsCompacted f n) }
 {
     let number = extraction.no;
-    let new = dropped(alloc, extraction.file)?;
+    let marks = used_items(alloc, &extraction.file)?;
+    if marks.are_all() {
+        return Ok(extraction.file);
+    }
+    let new = dropped(alloc, extraction.file, &marks)?;
     Ok(extracted(alloc, new, number)?)
 }
 
@@ -71,7 +77,7 @@ fn turned_into_compacted(alloc: Global, file: File, no: EntryNo) -> Result<File,
 
 /// The compacted file of a solid: what `extract` gives, with lists of edges and of vertices that hold only what is used
 /// and indices to match, and extracted again. Where the solid isn't extracted, the refusal; else where an obligation on
-/// the records' places doesn't hold, the first one (own).
+/// the records' places doesn't hold, the first one.
 pub fn compact(alloc: Global, file: &File, no: EntryNo) -> Result<File, CompactFault>
     ensures found { IfOk result (IsCompacted file.now no.0) }
     ensures only { (new : Contents) → IsCompacted file.now no.0 new → GivesFile result new }
@@ -83,7 +89,7 @@ pub fn compact(alloc: Global, file: &File, no: EntryNo) -> Result<File, CompactF
     compacted(alloc, file, no)
 }
 
-/// The same as `compact`, of a file that isn't needed any more: the values that are kept stay in their memory (own).
+/// The same as `compact`, of a file that isn't needed any more: the values that are kept stay in their memory.
 pub fn into_compact(alloc: Global, file: File, no: EntryNo) -> Result<File, CompactFault>
     ensures found { IfOk result (IsCompacted file no.0) }
     ensures only { (new : Contents) → IsCompacted file no.0 new → GivesFile result new }

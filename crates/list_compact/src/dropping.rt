@@ -3,11 +3,11 @@
 ghost use Rattle.iges_base.specs.declared.TheConstants.{FILE_LIMIT};
 ghost use Rattle.iges_params.specs.Contents.{Contents};
 ghost use Rattle.list_compact.specs.Dropped.{dropped, dropped_values};
-ghost use Rattle.list_compact.specs.Marking.{AreRecords, AreTables, IsOfItsKind, MarksItems};
+ghost use Rattle.list_compact.specs.Marking.{AreMarks, AreRecords, AreTables, IsOfItsKind, MarksItems, edge_sizes, sizes, vertex_sizes};
 ghost use Rattle.list_compact.specs.Used.{edges_in, is_used_edge, is_used_vertex, vertices_in};
 ghost use Rattle.std.specs.Prelude.{◌≡◌, ◌≤◌, ℕ, IfOk, length};
 
-use crate::marking::used_items;
+use crate::marking::FileMarks;
 use crate::rank_table::ranks_by;
 use crate::values::{FileRanks, edge_values, loop_values, vertex_values};
 use brep_loops::LoopRecord;
@@ -52,13 +52,16 @@ fn record_values(
 }
 
 /// The file whose lists of edges and of vertices hold only what is used, in order, with indices to match; a list of which
-/// nothing is used stays whole (own). The values of all other records are moved.
-pub fn dropped(alloc: Global, mut file: File) -> Result<File, NoMemory>
-    requires { AreRecords file }
+/// nothing is used stays whole. The values of all other records are moved. The marks are those of its used items.
+pub fn dropped(alloc: Global, mut file: File, marks: &FileMarks) -> Result<File, NoMemory>
+    requires records { AreRecords file }
+    requires edges { AreMarks marks.now.edges (is_used_edge file) }
+    requires vertices { AreMarks marks.now.vertices (is_used_vertex file) }
+    requires edge_sizes { sizes marks.now.edges ≡ edge_sizes file }
+    requires vertex_sizes { sizes marks.now.vertices ≡ vertex_sizes file }
     ensures { IfOk result (λ new. new ≡ dropped file) }
 {
     let count = file.entry_count();
-    let marks = used_items(alloc, &file)?;
     let ranks = FileRanks {
         edges: ranks_by(alloc, &marks.edges)?,
         vertices: ranks_by(alloc, &marks.vertices)?,

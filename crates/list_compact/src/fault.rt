@@ -6,15 +6,15 @@ use iges_fields::{EntryNo, NoMemory};
 use solid_data::Failing;
 use solid_extract::ExtractFault;
 
-/// Why a solid isn't compacted (own).
+/// Why a solid isn't compacted.
 #[derive(Clone, Copy, Debug, PartialEq, Eq)]
 pub enum CompactFault {
-    /// The entity for which the solid isn't extracted, and why (own).
+    /// The entity for which the solid isn't extracted, and why.
     Refused {
         entity: EntryNo,
         reason: ExtractReason,
     },
-    /// The first obligation on the records' places that doesn't hold, depth first (own).
+    /// The first obligation on the records' places that doesn't hold, depth first.
     Fails(Failing),
     /// Memory ran out.
     NoMemory,

@@ -1,9 +1,9 @@
 //! Which items of a file's lists are used.
 
-ghost use Rattle.list_compact.specs.Marking.{AreMarks, AreRecords, IsOfItsKind, MarksItems, edge_sizes, ends_by, sizes, vertex_sizes};
+ghost use Rattle.list_compact.specs.Marking.{AreAllMarked, AreMarks, AreRecords, IsOfItsKind, MarksItems, edge_sizes, ends_by, sizes, vertex_sizes};
 ghost use Rattle.list_compact.specs.Used.{all_uses, edges_in, has_end, is_used_edge, is_used_vertex, names_edge, names_vertex, tuples_in, used_from, vertices_in};
 ghost use Rattle.std.specs.List.{list_any};
-ghost use Rattle.std.specs.Prelude.{◌≡◌, ◌∷◌, ◌||◌, ℕ, Bool, [], false, if◌then◌else◌, IfOk, length};
+ghost use Rattle.std.specs.Prelude.{◌≡◌, ◌∷◌, ◌||◌, ℕ, Bool, [], false, if◌then◌else◌, IfOk, IsTrue, length};
 
 use crate::marks::Marks;
 use crate::record_at::record_at;
@@ -22,6 +22,16 @@ pub struct FileMarks {
     pub edges: Marks,
     /// Of the items of vertex lists; other entries have no marks here.
     pub vertices: Marks,
+}
+
+impl FileMarks {
+    /// Whether each item is marked.
+    pub fn are_all(&self) -> bool
+        ensures edges { IsTrue result → AreAllMarked self.now.edges }
+        ensures vertices { IsTrue result → AreAllMarked self.now.vertices }
+    {
+        self.edges.are_all() && self.vertices.are_all()
+    }
 }
 
 // Marks the edge or the vertex that a tuple names.

@@ -1,7 +1,8 @@
 //! Marks of the items of a file's lists.
 
-ghost use Rattle.list_compact.specs.Marking.{AreMarks, is_at, sizes};
-ghost use Rattle.std.specs.Prelude.{◌≡◌, ◌∷◌, ◌++◌, ◌||◌, ◌<◌, ℕ, Bool, [], Some, false, OnOk, length, replicate, slice_get};
+ghost use Rattle.entry_references.specs.EntrySets.{marks_set};
+ghost use Rattle.list_compact.specs.Marking.{AreAllMarked, AreMarks, is_at, sizes};
+ghost use Rattle.std.specs.Prelude.{◌≡◌, ◌∷◌, ◌++◌, ◌||◌, ◌<◌, ◌≤◌, ℕ, Bool, [], Some, false, true, IsTrue, OnOk, length, replicate, slice_get, slice_index_or};
 
 use crate::entry_rows::EntryRows;
 use crate::place::place_of;
@@ -21,6 +22,27 @@ impl Model for Marks {
     ghost Value = { List (List Bool) };
 
     ghost view = { λ marks. marks.rows };
+}
+
+/// How many of these are marked.
+pub fn count_marks(row: &[bool]) -> usize
+    ensures is { result ≡ marks_set row.now }
+    ensures few { result ≤ length row.now }
+{
+    let mut count = 0;
+    'marks: for mark in row {
+        if *mark {
+            count += 1;
+        }
+    }
+    count
+}
+
+// Whether all these are marked.
+fn are_marked(row: &[bool]) -> bool
+    ensures { IsTrue result → (i : ℕ) → i < length row.now → slice_index_or row.now i false ≡ true }
+{
+    count_marks(row) == row.len()
 }
 
 impl Marks {
@@ -56,6 +78,20 @@ impl Marks {
         ensures { result ≡ length self.now }
     {
         self.rows.len()
+    }
+
+    /// Whether each item is marked.
+    pub fn are_all(&self) -> bool
+        ensures { IsTrue result → AreAllMarked self.now }
+    {
+        let count = self.len();
+        'rows: for i in 0..count {
+            let is_whole = are_marked(self.row(i));
+            if !is_whole {
+                return false;
+            }
+        }
+        true
     }
 
     /// The marks of the list in a place of the directory.

@@ -11,6 +11,7 @@ ghost use Rattle.list_compact.specs.Marking.{AreTables, IsVertexTable, MarksItem
 ghost use Rattle.list_compact.specs.Used.{is_used_edge, is_used_vertex};
 ghost use Rattle.std.specs.Prelude.{◌≡◌, ◌+◌, ◌-◌, ◌*◌, ◌<◌, ◌≤◌, ◌^◌, ◌∷◌, ◌++◌, ℕ, [], IfOk, IsTrue, OnOk, drop, if◌then◌else◌, length, take};
 
+use crate::marks::count_marks;
 use crate::rank_table::Ranks;
 use brep_lists::{EdgeList, EdgeTuple, VertexList};
 use brep_loops::{LoopRecord, LoopTuple};
@@ -142,19 +143,6 @@ pub fn loop_values(
     }
     push_copies(&mut list, alloc, values, at, values.len())?;
     Ok(list)
-}
-
-fn count_marks(row: &[bool]) -> usize
-    ensures is { result ≡ marks_set row.now }
-    ensures few { result ≤ length row.now }
-{
-    let mut count = 0;
-    'marks: for mark in row {
-        if *mark {
-            count += 1;
-        }
-    }
-    count
 }
 
 // Puts the five values of an edge with its new indices, where the edge is used.

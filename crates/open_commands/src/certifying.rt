@@ -11,7 +11,7 @@ use open_shells::{OpenFault, open_certify, write_open};
 use std::alloc::Global;
 
 /// The certificate of a shell that is sound as an open one, or the first rule that fails: on its records, then JOIN of the
-/// loops, EDGE of the edges, REACH of the faces and FAN of the vertices (own). It errs only where memory runs out.
+/// loops, EDGE of the edges, REACH of the faces and FAN of the vertices. It errs only where memory runs out.
 pub fn certify_shell(alloc: Global, file: File, no: u32) -> Result<Reply, NoMemory>
     ensures { IfOk result (λ reply. OfOpen no file reply.answer reply.text) }
 {

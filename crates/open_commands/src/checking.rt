@@ -15,7 +15,7 @@ use std::alloc::Global;
 
 /// The shell of an entry as a solid, where all holds of it that the lines of a certificate don't show: the rules on its
 /// records, and that its loops join. Errs with the first of these that fails. The file's room is given back before the
-/// loops are judged. (own)
+/// loops are judged.
 pub(crate) fn checked_shell(alloc: Global, file: File, no: EntryNo) -> Result<Solid, CheckFault>
     ensures solid { IfOk result (λ s. s ≡ shell_solid_of file no.0) }
     ensures holds { OnOk result (AllHold (open_checked file no.0)) }

@@ -8,8 +8,8 @@ ghost use Rattle.open_shells.specs.Legal.{IsOpenLegal, IsOpenFirstBad};
 use cert_lines::first_line;
 use open_shells::{Illegal, OpenChecker};
 
-/// Judges the lines of a text by a checker that has judged none: whether they are legal, or which is the first bad one
-/// (own). A rest without LF is misspelt.
+/// Judges the lines of a text by a checker that has judged none: whether they are legal, or which is the first bad one.
+/// A rest without LF is misspelt.
 pub(crate) fn judge_lines(checker: &mut OpenChecker<'_>, text: &[u8]) -> Result<(), Illegal>
     requires { IsAt checker.old [] }
     ensures { MatchResult result (λ _. IsOpenLegal checker.old.solid (cut_lines text.now))

@@ -7,7 +7,7 @@ ghost use Rattle.open_commands.specs.Due.{OfOpen, OfOpenVerify};
 ghost use Rattle.open_commands.specs.Laws.{AcceptedIsChecked, SoundExactlyWhereAccepted, BordersAreCycles, ShellsHavePlaces, ClosedIsSound, OneOpenAnswer, SomeOpenAnswer, OneVerifyAnswer, SomeVerifyAnswer};
 ghost use Rattle.open_commands.specs.Verdict.{OpenVerdict, IsOpenVerdict};
 
-/// An open shell of a file has exactly one verdict. (own)
+/// An open shell of a file has exactly one verdict.
 pub fn one_verdict()
     ensures one { (f : Contents) (n : ℕ) (a b : OpenVerdict) → IsOpenVerdict f n a
         → IsOpenVerdict f n b → a ≡ b }
@@ -15,38 +15,37 @@ pub fn one_verdict()
 {}
 
 /// Soundness and completeness: in a file within its limits, an open shell is sound exactly where some certificate that names
-/// it is accepted. (own)
+/// it is accepted.
 pub fn sound_exactly_where_accepted()
     ensures { SoundExactlyWhereAccepted }
 {}
 
-/// The border lines of an accepted certificate are cycles of border rows, and hold each border row of the shell once. (own)
+/// The border lines of an accepted certificate are cycles of border rows, and hold each border row of the shell once.
 pub fn borders_are_cycles()
     ensures { BordersAreCycles }
 {}
 
 /// A certificate is accepted exactly where it opens with the shell's number, the places hold, the loops join, and the lines
-/// from line 2 on are legal. (own)
+/// from line 2 on are legal.
 pub fn accepted_is_checked()
     ensures { AcceptedIsChecked }
 {}
 
 /// A closed shell is an open one without a border: where the places of a solid hold so do those of each of its shells, and the
-/// shell of a closed solid that has it alone, with flag 1, is sound and has no border row. (own)
+/// shell of a closed solid that has it alone, with flag 1, is sound and has no border row.
 pub fn closed_is_sound()
     ensures places { ShellsHavePlaces }
     ensures sound { ClosedIsSound }
 {}
 
 /// Of certifying an open shell one answer is owed, and one text where the answer is No; of verifying a certificate one
-/// answer and one text. (own)
+/// answer and one text.
 pub fn one_open_answer()
     ensures certify { OneOpenAnswer }
     ensures verify { OneVerifyAnswer }
 {}
 
 /// Of certifying an open shell of a file within its limits, and of verifying a certificate, some answer and text are owed.
-/// (own)
 pub fn some_open_answer()
     ensures certify { SomeOpenAnswer }
     ensures verify { SomeVerifyAnswer }

@@ -19,7 +19,7 @@ fn at_line(misfit: Misfit, line: u64) -> Illegal
 }
 
 /// The shell that a certificate names in its second line, and the text from that line on; or the first of the first two
-/// lines that is missing, misspelt or unfit (own).
+/// lines that is missing, misspelt or unfit.
 pub(crate) fn read_opening(text: &[u8]) -> Result<(EntryNo, &[u8]), Illegal>
     ensures { MatchResult result (λ p. OpensShell text.now p.0.0 (cut_lines p.1.now))
         (λ bad. IsBadOpening text.now bad) }

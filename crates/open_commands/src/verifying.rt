@@ -48,7 +48,7 @@ fn text_reply(alloc: Global, file: File, certificate: &[u8]) -> Result<Reply, No
 }
 
 /// What verifying the certificate of an open shell that a source gives says of a file: the solid's number where it is
-/// accepted, else the first thing that is wrong (own). The certificate is read to its end and held whole.
+/// accepted, else the first thing that is wrong. The certificate is read to its end and held whole.
 pub fn verify_shell<C: Source>(alloc: Global, file: File, cert: &mut C) -> Result<Reply, Stop>
     requires { C.can_read cert.old }
     ensures found { IfOk result (IsReply (λ certificate. OfOpenVerify certificate file)

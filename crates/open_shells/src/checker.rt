@@ -9,7 +9,7 @@ use solid_data::{ShellAt, Solid};
 use std::alloc::Global;
 use std::marker::Model;
 
-/// Judges the lines of a certificate of an open shell after its first, one after the other (own). Each line costs time in
+/// Judges the lines of a certificate of an open shell after its first, one after the other. Each line costs time in
 /// proportion to its bytes, and none takes memory. Once a line was Illegal, each call answers the same.
 #[derive(Drop)]
 pub struct OpenChecker<'a> {
@@ -59,7 +59,7 @@ impl<'a> OpenChecker<'a> {
     ghost use Rattle.open_shells.specs.Kept.{IsAt, TakesLine};
     ghost use Rattle.cert_lines.specs.declared.fault.Illegal.TheVariants.{Missing as IsMissing};
 
-    /// A checker of which the next line is line 2 (own). The solid has one shell, whose entity is the solid's own, and whose
+    /// A checker of which the next line is line 2. The solid has one shell, whose entity is the solid's own, and whose
     /// loops join: without that the lines that are taken don't show that the shell is sound. It takes all the memory that a
     /// check needs, and errs only where memory runs out.
     pub fn new(alloc: Global, solid: &'a Solid) -> Result<OpenChecker<'a>, NoMemory>
@@ -154,7 +154,7 @@ impl<'a> OpenChecker<'a> {
         }
     }
 
-    /// Judges the next line, given with its LF (own): it is spelled and fits after the lines before it, or it is the first
+    /// Judges the next line, given with its LF: it is spelled and fits after the lines before it, or it is the first
     /// that is misspelt or unfit. Once a line was Illegal, or `finish` found one missing, each call answers the same.
     pub fn line(&mut self, line: &[u8]) -> Result<(), Illegal>
         ensures line { (lines : List OpenLine) → IsAt self.old lines → MatchResult result
@@ -178,7 +178,7 @@ impl<'a> OpenChecker<'a> {
         }
     }
 
-    /// Whether END was the last line (own). Where it wasn't, the line after the last one is missing.
+    /// Whether END was the last line. Where it wasn't, the line after the last one is missing.
     pub fn finish(&mut self) -> Result<(), Illegal>
         ensures ended { (lines : List OpenLine) → IsAt self.old lines → MatchResult result
             (λ _. ((stand_from_latest self.old.solid lines).ended ≡ true) × (self.new ≡ self.old))

@@ -3,7 +3,7 @@
 use crate::verdict::OpenFailing;
 use iges_base::NoMemory;
 
-/// Why no certificate of an open shell was made (own).
+/// Why no certificate of an open shell was made.
 #[derive(Clone, Copy, Debug, PartialEq, Eq)]
 pub enum OpenFault {
     /// The shell isn't sound: the first rule that fails, and where.

@@ -9,13 +9,13 @@ ghost use Rattle.open_shells.specs.Obligations.{open_obligations, AllHold, First
 ghost use Rattle.open_shells.specs.Laws.{AcceptedIsSound, BordersAreCycles, ClosedIsSound, SoundExactlyWhereAccepted};
 ghost use Rattle.open_shells.specs.declared.verdict.OpenFailing.{OpenFailing as Named};
 
-/// Bytes spell at most one line (own).
+/// Bytes spell at most one line.
 pub fn one_line()
     ensures { (bytes : List ℕ) (l m : OpenLine) → IsSpelled bytes l → IsSpelled bytes m → l ≡ m }
 {}
 
 /// Whatever the lines are, either they are legal or one of them is the first bad one; that is one line alone, and legal lines
-/// have none (own).
+/// have none.
 pub fn legal_or_first_bad()
     ensures none { (s : SolidData) (lines : List (List ℕ)) (bad : Fault) → IsOpenLegal s lines
         → ¬ IsOpenFirstBad s lines bad }
@@ -25,7 +25,7 @@ pub fn legal_or_first_bad()
         → IsOpenLegal s lines ⊎ ((bad : Fault) × IsOpenFirstBad s lines bad) }
 {}
 
-/// Either all obligations hold or one of them is the first false one; that is one alone, and where all hold there is none (own).
+/// Either all obligations hold or one of them is the first false one; that is one alone, and where all hold there is none.
 pub fn one_first_false()
     ensures none { (s : SolidData) (x : Named) → AllHold (open_obligations s)
         → ¬ FirstFalse (open_obligations s) x }
@@ -35,22 +35,22 @@ pub fn one_first_false()
         ⊎ ((x : Named) × FirstFalse (open_obligations s) x) }
 {}
 
-/// Soundness: whatever made a certificate, the open shell that it is accepted for is sound. (own)
+/// Soundness: whatever made a certificate, the open shell that it is accepted for is sound.
 pub fn soundness()
     ensures { AcceptedIsSound }
 {}
 
-/// The border lines of legal lines are cycles of border rows, and hold each border row of the shell once. (own)
+/// The border lines of legal lines are cycles of border rows, and hold each border row of the shell once.
 pub fn borders_are_cycles()
     ensures { BordersAreCycles }
 {}
 
-/// Soundness and completeness: an open shell is sound exactly where some certificate is accepted for it. (own)
+/// Soundness and completeness: an open shell is sound exactly where some certificate is accepted for it.
 pub fn sound_exactly_where_accepted()
     ensures { SoundExactlyWhereAccepted }
 {}
 
-/// A closed shell of a solid is sound as an open one, and has no border row. (own)
+/// A closed shell of a solid is sound as an open one, and has no border row.
 pub fn closed_is_sound()
     ensures { ClosedIsSound }
 {}

@@ -73,7 +73,7 @@ pub(crate) fn listed_parts(alloc: Global, solid: &Solid) -> Result<OpenCertifica
     shell_parts(alloc, solid, solid.shell(ShellAt(0)).unwrap())
 }
 
-/// The certificate of a solid that is one open shell (own). Where the shell isn't sound, the fault is its first rule that
+/// The certificate of a solid that is one open shell. Where the shell isn't sound, the fault is its first rule that
 /// fails: JOIN of the loops, EDGE of the edges, REACH of the faces, FAN of the vertices. On a sound shell nothing but memory
 /// can fail.
 pub fn open_certify(alloc: Global, solid: &Solid) -> Result<OpenCertificate, OpenFault>

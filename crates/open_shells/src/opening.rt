@@ -8,7 +8,7 @@ use crate::words::{OpenWords, read_line};
 use cert_lines::Misfit;
 use iges_base::EntryNo;
 
-/// Whether these bytes are line 1 of an open shell's certificate, with its LF, without which they are misspelt (own). Takes
+/// Whether these bytes are line 1 of an open shell's certificate, with its LF, without which they are misspelt. Takes
 /// no memory.
 pub fn open_head(line: &[u8]) -> Result<(), Misfit>
     ensures { MatchResult result (λ _. IsSpelled line.now head)
@@ -21,8 +21,8 @@ pub fn open_head(line: &[u8]) -> Result<(), Misfit>
     }
 }
 
-/// The shell that line 2 of an open shell's certificate names; the line is given with its LF, without which it is misspelt
-/// (own). Takes no memory.
+/// The shell that line 2 of an open shell's certificate names; the line is given with its LF, without which it is misspelt.
+/// Takes no memory.
 pub fn shell_number(line: &[u8]) -> Result<EntryNo, Misfit>
     ensures { MatchResult result (λ n. IsOf (NamesShell n.0) line.now)
         (λ misfit. IsMisfit IsShell line.now misfit) }

@@ -4,7 +4,7 @@ use iges_base::{EntryNo, ItemList};
 use solid_data::{LoopAt, RowId, RowList};
 use topo_certificate::ReachRows;
 
-/// The rows of an edge (own).
+/// The rows of an edge.
 #[derive(Clone, Copy, Debug, PartialEq, Eq)]
 pub enum OpenEdge {
     /// The only one, which is a border row.
@@ -13,10 +13,10 @@ pub enum OpenEdge {
     Two(RowId, RowId),
 }
 
-/// The rows of each edge that occurs in the shell, by rising edge (own).
+/// The rows of each edge that occurs in the shell, by rising edge.
 pub type OpenEdges = ItemList<OpenEdge>;
 
-/// What lies at a vertex (own).
+/// What lies at a vertex.
 #[derive(Drop)]
 pub enum OpenCorner {
     /// The rows that start there, from the least one on by turns; the last turns to the first.
@@ -27,13 +27,13 @@ pub enum OpenCorner {
     Point(LoopAt),
 }
 
-/// What lies at each vertex that occurs in the shell, by rising number (own).
+/// What lies at each vertex that occurs in the shell, by rising number.
 pub type OpenCorners = ItemList<OpenCorner>;
 
-/// The cycles of border rows, by their least rows; each from its least row on (own).
+/// The cycles of border rows, by their least rows; each from its least row on.
 pub type Borders = ItemList<RowList>;
 
-/// A certificate of an open shell (own): the shell, how many rows and faces it has, and its lines.
+/// A certificate of an open shell: the shell, how many rows and faces it has, and its lines.
 #[derive(Drop)]
 pub struct OpenCertificate {
     /// The shell's directory number (IGES 5.3, 2.2.4.4).

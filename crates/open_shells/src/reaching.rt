@@ -57,7 +57,7 @@ fn first_unreached(paired: &Mated<'_>, flood: &Flood, count: usize) -> Option<u3
 }
 
 /// Rows that reach each face of a shell but the first, once: each lies on a face that isn't
-/// reached before it, and its mate on one that is (own).
+/// reached before it, and its mate on one that is.
 pub(crate) fn reach(alloc: Global, paired: &Mated<'_>) -> Result<RowList, ReachFault>
     ensures rows { IfOk result (λ rows. ReachesAll paired.now (row_numbers rows)) }
     ensures fault { IfErr result (λ fault. IsReachFault paired.now fault) }

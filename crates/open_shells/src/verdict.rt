@@ -6,7 +6,7 @@ ghost use Rattle.open_shells.specs.Obligations.{rule_name};
 use iges_base::EntryNo;
 use std::fmt;
 
-/// What a sound open shell keeps (own).
+/// What a sound open shell keeps.
 #[derive(Clone, Copy, Debug, PartialEq, Eq)]
 pub enum OpenRule {
     /// In a loop each use ends where the next one starts.
@@ -20,7 +20,7 @@ pub enum OpenRule {
 }
 
 impl OpenRule {
-    /// The word that is printed for the rule (own).
+    /// The word that is printed for the rule.
     pub fn name(self) -> &'static str
         ensures { result.now ≡ rule_name self }
     {
@@ -45,7 +45,7 @@ impl fmt::Display for OpenRule {
     }
 }
 
-/// A rule that fails, the entity, and the item of that entity's record, from 1, or 0 for the entity itself (own).
+/// A rule that fails, the entity, and the item of that entity's record, from 1, or 0 for the entity itself.
 #[derive(Clone, Copy, Debug, PartialEq, Eq)]
 pub struct OpenFailing {
     pub rule: OpenRule,

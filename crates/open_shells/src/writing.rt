@@ -115,7 +115,7 @@ fn put_shell_line(out: &mut Out, c: &OpenCertificate) -> Result<(), NoMemory>
     put_line(out, b"SHELL", &numbers)
 }
 
-/// The text of an open shell's certificate: the lines of its parts in order, after the head (own). The counts of edges, of
+/// The text of an open shell's certificate: the lines of its parts in order, after the head. The counts of edges, of
 /// corners and of border lines in the shell line are the lengths of the lists. Where every number has at most nine digits
 /// and no cycle, path or border is empty, each line is spelled.
 pub fn write_open(alloc: Global, c: &OpenCertificate) -> Result<Bytes, NoMemory>

@@ -22,7 +22,7 @@ pub(crate) fn shell_failed(alloc: Global, failing: OrientFailing) -> Result<Repl
 
 /// An orientation of a solid: for each shell flags for its faces, the first face's its own, under which the two uses of
 /// each edge run in opposite directions, or a ring of rows that no flags satisfy. It is Done where all shells have flags.
-/// What is first false of the solid's records, or first fails of a shell, is reported instead (own). The file's room is given
+/// What is first false of the solid's records, or first fails of a shell, is reported instead. The file's room is given
 /// back before the shells are oriented. It errs only where memory runs out.
 pub fn orient_solid(alloc: Global, file: File, no: u32) -> Result<Reply, NoMemory>
     ensures { IfOk result (λ reply. OfOrient no file reply.answer reply.text) }

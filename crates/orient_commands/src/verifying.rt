@@ -68,7 +68,7 @@ fn text_reply(alloc: Global, file: File, text: &[u8]) -> Result<Reply, NoMemory>
 
 /// Whether the text of a source is an orientation of the solid that it names: it is accepted, rings included, or the
 /// first thing that is wrong with its line 1, with the solid's records, with a shell's edges or with a further line is
-/// reported (own). The text is held whole.
+/// reported. The text is held whole.
 pub fn verify_orientation<C: Source>(alloc: Global, file: File, cert: &mut C) -> Result<Reply, Stop>
     requires { C.can_read cert.old }
     ensures found { IfOk result (IsReply (λ text. OfOrientVerify text file) (C.left cert.old)) }

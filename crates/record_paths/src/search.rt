@@ -45,7 +45,7 @@ fn search_solid(file: &File, name: Failing, no: EntryNo) -> Result<(), Ended>
 }
 
 /// The path to the place of a solid's records that fails first: through the shell, the face and the loop among whose
-/// own obligations the failing one is (own). What a record's item owes, and the surface of a face, belong to the record
+/// own obligations the failing one is. What a record's item owes, and the surface of a face, belong to the record
 /// that has the item; None where the number names no solid. It takes no memory, and one pass over the records up to
 /// the place.
 pub fn path_of(file: &File, no: EntryNo, failing: Failing) -> Option<Path>

@@ -31,7 +31,7 @@ fn put_step(
 }
 
 /// Appends the facts that describe a path: a line for the solid, and one for each step, with the number of its entity and
-/// the item that names it. The numbers join those that facts name (own). Where memory runs out, both may have grown.
+/// the item that names it. The numbers join those that facts name. Where memory runs out, both may have grown.
 #[tactic(auto, unfolding(crate::specs::Texts::path_text, crate::specs::Texts::path_named, crate::specs::Texts::solid_line))]
 pub fn put_path(
     out: &mut Out,

@@ -17,7 +17,7 @@ use iges_fields::Values;
 use iges_params::File;
 use solid_data::{Failing, Rule};
 
-/// The bad value at a failing place, and what is due there (own).
+/// The bad value at a failing place, and what is due there.
 #[derive(Clone, Copy, Debug, PartialEq, Eq)]
 pub struct BadValue {
     /// The place of the value in the record of the failing entity, from 0 and without the type number. None where no
@@ -179,7 +179,7 @@ fn is_of_number(failing: Failing) -> bool
     failing.place == 0 && matches!(failing.rule, Rule::NoEntry | Rule::WrongKind)
 }
 
-/// The bad value where a rule on the records of a solid fails, and what is due there (own): the pointer, the index or
+/// The bad value where a rule on the records of a solid fails, and what is due there: the pointer, the index or
 /// the curve that the place names, and where a record doesn't fit its type the first value with which none goes on.
 /// It goes once over the record of the failing entity. No memory is taken.
 pub fn bad_value(file: &File, failing: Failing) -> BadValue

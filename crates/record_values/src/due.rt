@@ -5,7 +5,7 @@ ghost use Rattle.record_values.specs.Due.{due_word, kind_word, slot_word};
 
 use brep_lists::EntityKind;
 
-/// One value of a record that is no count (own).
+/// One value of a record that is no count.
 #[derive(Clone, Copy, Debug, PartialEq, Eq)]
 pub enum Slot {
     /// The number of an entry: an integer.
@@ -20,7 +20,7 @@ pub enum Slot {
     Coordinate,
 }
 
-/// What a count of a record counts (own).
+/// What a count of a record counts.
 #[derive(Clone, Copy, Debug, PartialEq, Eq)]
 pub enum Counted {
     Voids,
@@ -32,7 +32,7 @@ pub enum Counted {
     Vertices,
 }
 
-/// What is due at a place of a record (own).
+/// What is due at a place of a record.
 #[derive(Clone, Copy, Debug, PartialEq, Eq)]
 pub enum Due {
     /// The number of an entry of this kind.
@@ -47,7 +47,7 @@ pub enum Due {
     CountOrPointer,
 }
 
-// The words for the entity and the forms that are due at a place of a solid (own).
+// The words for the entity and the forms that are due at a place of a solid.
 fn kind_word(kind: EntityKind) -> &'static str
     ensures { result.now ≡ kind_word kind }
 {
@@ -62,7 +62,7 @@ fn kind_word(kind: EntityKind) -> &'static str
 }
 
 impl Slot {
-    /// The word that is printed (own).
+    /// The word that is printed.
     pub fn word(self) -> &'static str
         ensures { result.now ≡ slot_word self }
     {
@@ -77,7 +77,7 @@ impl Slot {
 }
 
 impl Due {
-    /// The words that are printed (own).
+    /// The words that are printed.
     pub fn word(self) -> &'static str
         ensures { result.now ≡ due_word self }
     {

@@ -11,7 +11,7 @@ use crate::due::{Counted, Due, Slot};
 use brep_lists::{EntityKind, item_count, optional_count};
 use iges_fields::{Value, Values};
 
-/// The first value of a record with which no record of its type goes on (own).
+/// The first value of a record with which no record of its type goes on.
 #[derive(Clone, Copy, Debug, PartialEq, Eq)]
 pub struct Misfit {
     /// The place of the value, from 0 and without the type number. It is the number of values where the record ends too
@@ -203,7 +203,7 @@ fn after_fillers(values: &Values, from: usize) -> Misfit
 }
 
 /// The first value with which no record of the kind goes on; the place after all values where they begin a record, as
-/// they do where they are one (own). It goes once over the values, and no further than the record's end, however large
+/// they do where they are one. It goes once over the values, and no further than the record's end, however large
 /// a count is. No memory is taken.
 pub fn first_misfit(values: &Values, kind: EntityKind) -> Misfit
     ensures is { result ≡ first_misfit kind values.now }

@@ -65,7 +65,7 @@ pub fn names_vertex_list(file: &File, number: i64) -> bool
 }
 
 /// How many items the list has that a number names (IGES 5.3, 4.145 and 4.146): the first value of its record, or 0
-/// where that is no count (own).
+/// where that is no count.
 pub fn item_count(file: &File, number: i64) -> usize
     ensures { result ≡ item_count file.now number }
 {

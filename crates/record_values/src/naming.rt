@@ -7,7 +7,7 @@ use crate::named::values_named;
 use brep_loops::{FaceRecord, ShellRecord, SolidRecord};
 use iges_params::File;
 
-/// A place that names a shell, a face or a loop (own).
+/// A place that names a shell, a face or a loop.
 #[derive(Clone, Copy, Debug, PartialEq, Eq)]
 pub struct Naming {
     /// The solid, the shell or the face whose record names it.
@@ -96,7 +96,7 @@ fn first_in_shell(file: &File, shell: i64, number: i64) -> Option<Naming>
 }
 
 /// The first place of a solid that names the number as a shell, a face or a loop: depth first, each shell before its
-/// faces, and each face before its loops (own). It stops there; a record that doesn't fit its type names nothing.
+/// faces, and each face before its loops. It stops there; a record that doesn't fit its type names nothing.
 pub fn first_naming(file: &File, solid: i64, number: i64) -> Option<Naming>
     ensures { result ≡ first_naming file.now solid number }
 {

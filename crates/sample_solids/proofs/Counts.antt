@@ -7,8 +7,8 @@ use Rattle.std.proofs.lemmas.Nat.{mul-add-lt}
 use Rattle.std.proofs.lemmas.List.{length-map, append-nil}
 use Rattle.std.proofs.lemmas.List.Elements.{All-contains, filter_passes}
 use Rattle.brep_walk.specs.SolidOf.{all_tuples, edge_named, vertices_named, edge_keys, vertex_keys, solid_of}
-use Rattle.item_numbers.proofs.SameKeys.{vertex_itself, vertex_sound}
-use Rattle.item_numbers.proofs.SameKeys.{edge_itself, edge_sound}
+use Rattle.brep_numbering.proofs.SameKeys.{vertex_itself, vertex_sound}
+use Rattle.brep_numbering.proofs.SameKeys.{edge_itself, edge_sound}
 use Rattle.solid_data.specs.Ring.{distinct, numbers_from}
 use Rattle.solid_data.specs.SolidData.{same_edge, same_vertex}
 use Rattle.solid_data.specs.declared.solid.EdgeKey.{EdgeKey}

@@ -6,8 +6,8 @@ use Rattle.std.proofs.lemmas.Nat.{div-add-mod', div_below}
 use Rattle.brep_lists.specs.Record.{LoopTuple}
 use Rattle.brep_walk.specs.Places.{edge_at}
 use Rattle.brep_walk.specs.SolidOf.{edge_key, vertex_key, all_tuples, edge_named, ends_named, vertices_named, edge_keys, vertex_keys, keys_of, numbered_by, edge_of as edge_of_key, solid_of}
-use Rattle.item_numbers.proofs.SameKeys.{vertex_sound, vertex_itself}
-use Rattle.item_numbers.proofs.SameKeys.{edge_sound, edge_itself}
+use Rattle.brep_numbering.proofs.SameKeys.{vertex_sound, vertex_itself}
+use Rattle.brep_numbering.proofs.SameKeys.{edge_sound, edge_itself}
 use Rattle.solid_data.specs.Ring.{place_of}
 use Rattle.solid_data.specs.SolidData.{same_edge, same_vertex}
 use Rattle.solid_data.specs.declared.solid.Edge.{Edge}

@@ -110,7 +110,7 @@ fn put_square(alloc: Global, file: &mut File, n: u32, k: u32) -> Result<(), NoMe
 }
 
 /// The sample of n, from 3 to 200: a file whose solid, entry 1, is a mesh of n times n squares that closes to a torus,
-/// with 2 n n edges and n n vertices. All its values are integers. It errs only where memory runs out. (own)
+/// with 2 n n edges and n n vertices. All its values are integers. It errs only where memory runs out.
 pub fn sample_file(alloc: Global, n: u32) -> Result<File, NoMemory>
     requires low { 3 ≤ n }
     requires high { n ≤ 200 }

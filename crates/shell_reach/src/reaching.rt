@@ -20,8 +20,7 @@ use shell_tables::face_rows;
 use solid_data::{FaceAt, RowList};
 use std::alloc::Global;
 
-/// Rows that reach the faces of a shell but the first, each on a face that isn't reached before it
-/// (own).
+/// Rows that reach the faces of a shell but the first, each on a face that isn't reached before it.
 pub type ReachList = RowList;
 
 fn first_unreached(paired: &Paired<'_>, flood: &Flood, count: usize) -> Option<u32>
@@ -44,8 +43,7 @@ fn first_unreached(paired: &Paired<'_>, flood: &Flood, count: usize) -> Option<u
 
 /// Rows that reach each face of a shell but the first, once: each lies on a face that isn't
 /// reached before it, and its mate on one that is. They go breadth first: across the rows of the
-/// first face by rising number, then across those of each face in the order in which it is reached
-/// (own).
+/// first face by rising number, then across those of each face in the order in which it is reached.
 pub fn reach(alloc: Global, paired: &Paired<'_>) -> Result<ReachList, ReachFault>
     ensures rows { IfOk result (λ rows. ReachesAll paired.now (row_numbers rows)) }
     ensures order { IfOk result (λ rows. IsBreadthFirst paired.now (row_numbers rows)) }

@@ -12,14 +12,14 @@ use iges_base::NoMemory;
 use solid_data::{FaceAt, LoopAt, VertexId};
 use std::alloc::Global;
 
-/// How many rows start at a vertex, and the first of them, from 0; 0 too where none does (own).
+/// How many rows start at a vertex, and the first of them, from 0; 0 too where none does.
 #[derive(Clone, Copy)]
 pub struct Starts {
     pub count: u32,
     pub first: u32,
 }
 
-/// How many loops without an edge lie at a vertex, and the last of them (own).
+/// How many loops without an edge lie at a vertex, and the last of them.
 #[derive(Clone, Copy)]
 pub struct Points {
     pub count: u32,
@@ -81,7 +81,7 @@ fn note_point(points: &mut Cells<'_, Points>, vertex: VertexId, at: LoopAt)
     points.set(vertex.0, one_point(seen, at));
 }
 
-/// How many rows start at each vertex of the range in which the vertices of the shell lie (own). It takes no longer where
+/// How many rows start at each vertex of the range in which the vertices of the shell lie. It takes no longer where
 /// they lie far apart.
 pub fn all_starts(alloc: Global, rows: &Rows) -> Result<Cells<'_, Starts>, NoMemory>
     ensures { IfOk result (AreStartCells rows.now) }
@@ -93,7 +93,7 @@ pub fn all_starts(alloc: Global, rows: &Rows) -> Result<Cells<'_, Starts>, NoMem
     Ok(starts)
 }
 
-/// How many loops without an edge lie at each vertex of the range in which the vertices of the shell lie (own). It takes no
+/// How many loops without an edge lie at each vertex of the range in which the vertices of the shell lie. It takes no
 /// longer where they lie far apart.
 pub fn all_points(alloc: Global, rows: &Rows) -> Result<Cells<'_, Points>, NoMemory>
     ensures { IfOk result (ArePointCells rows.now) }
@@ -108,7 +108,7 @@ pub fn all_points(alloc: Global, rows: &Rows) -> Result<Cells<'_, Points>, NoMem
     Ok(points)
 }
 
-/// How many rows start at a vertex of the range, and the first of them (own).
+/// How many rows start at a vertex of the range, and the first of them.
 pub fn starts_at(starts: &Cells<'_, Starts>, vertex: u32) -> Starts
     requires { IsWithin starts.now.span vertex }
     ensures { (d : ShellRows) → AreStartCells d starts.now → AreStarts d vertex result }
@@ -116,7 +116,7 @@ pub fn starts_at(starts: &Cells<'_, Starts>, vertex: u32) -> Starts
     starts.at(vertex)
 }
 
-/// How many loops without an edge lie at a vertex of the range, and the last of them (own).
+/// How many loops without an edge lie at a vertex of the range, and the last of them.
 pub fn points_at(points: &Cells<'_, Points>, vertex: u32) -> Points
     requires { IsWithin points.now.span vertex }
     ensures { (d : ShellRows) → ArePointCells d points.now → ArePoints d vertex result }

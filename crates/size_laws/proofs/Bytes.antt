@@ -9,7 +9,7 @@ use Rattle.iges_fields.specs.declared.value.Value.TheVariants as value
 use Rattle.iges_base.specs.declared.TheConstants.{FILE_LIMIT}
 use Rattle.iges_fields.specs.Delims.{Delims}
 use Rattle.iges_fields.specs.FreeText.{IsItem, delimited, FreeText}
-use Rattle.iges_fields.specs.Word.{spaces, integer}
+use Rattle.iges_base.specs.Word.{spaces, integer}
 use Rattle.iges_lines.specs.Lines.{SectionLines, columns}
 use Rattle.iges_lines.proofs.InLines.{columns_short}
 use Rattle.iges_lines.proofs.Kept.{sections_kept}

@@ -22,7 +22,7 @@ use Rattle.solid_data.specs.declared.solid.FaceUse.{FaceUse}
 use Rattle.solid_data.specs.declared.solid.Shell.{Shell}
 use Rattle.solid_data.proofs.Members.{from_flat_map, has_map, Has, has_left, NoRepeat, total}
 use Rattle.brep_walk.specs.Places.{HasRecordOf, Names, shells, faces, loops, tuples, numbers, loop_places, places}
-use Rattle.item_numbers.specs.Keys.{Keys}
+use Rattle.brep_numbering.specs.Keys.{Keys}
 use Rattle.brep_walk.specs.SolidOf.{all_tuples, use_of, loop_by, face_by, shell_by, keys_of, solid_of}
 use Rattle.brep_walk.proofs.Numbered.{all_uses}
 use Rattle.brep_walk.proofs.Found.{shells_of, shells_hold, faces_hold, loops_hold, loop_record}

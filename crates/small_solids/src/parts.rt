@@ -6,11 +6,11 @@ ghost use Rattle.solid_data.specs.declared.solid.LoopUse.TheVariants.{EdgeUse};
 
 use iges_base::{EntryNo, ItemList, NoMemory};
 use solid_data::{
-    Edge, EdgeId, EdgeKey, FaceUse, Loop, LoopUse, Shell, Shells, Uses, VertexId, VertexKey,
+    Edge, EdgeId, EdgeKey, FaceUse, Loop, LoopUse, Loops, Shell, Shells, Uses, VertexId, VertexKey,
 };
 use std::alloc::Global;
 
-/// The list of one item (own).
+/// The list of one item.
 pub fn one<T: Drop>(alloc: Global, item: T) -> Result<ItemList<T>, NoMemory>
     ensures { IfOk result (λ list. list ≡ item ∷ []) }
 {
@@ -19,7 +19,7 @@ pub fn one<T: Drop>(alloc: Global, item: T) -> Result<ItemList<T>, NoMemory>
     Ok(list)
 }
 
-/// The list of two items (own).
+/// The list of two items.
 pub fn two<T: Drop>(alloc: Global, first: T, second: T) -> Result<ItemList<T>, NoMemory>
     ensures { IfOk result (λ list. list ≡ first ∷ second ∷ []) }
 {
@@ -28,19 +28,35 @@ pub fn two<T: Drop>(alloc: Global, first: T, second: T) -> Result<ItemList<T>, N
     Ok(list)
 }
 
-/// A face with one loop (own).
+/// The list of one use.
+pub fn one_use(alloc: Global, item: LoopUse) -> Result<Uses, NoMemory>
+    ensures { IfOk result (λ uses. uses ≡ item ∷ []) }
+{
+    let mut uses = Uses::new(alloc);
+    uses.push(item)?;
+    Ok(uses)
+}
+
+/// The list of two uses.
+pub fn two_uses(alloc: Global, first: LoopUse, second: LoopUse) -> Result<Uses, NoMemory>
+    ensures { IfOk result (λ uses. uses ≡ first ∷ second ∷ []) }
+{
+    let mut uses = one_use(alloc, first)?;
+    uses.push(second)?;
+    Ok(uses)
+}
+
+/// A face with one loop.
 pub fn face(alloc: Global, number: u32, flag: bool, uses: Uses) -> Result<FaceUse, NoMemory>
     ensures { IfOk result
         (λ face. face
         ≡ record { entity = record { 0 = number }; flag = flag; loops = record { entity = record { 0 = 7 }; uses = uses } ∷ [] }) }
 {
-    let loops = one(
-        alloc,
-        Loop {
-            entity: EntryNo(7),
-            uses,
-        },
-    )?;
+    let mut loops = Loops::new(alloc);
+    loops.push(Loop {
+        entity: EntryNo(7),
+        uses,
+    })?;
     Ok(FaceUse {
         entity: EntryNo(number),
         flag,
@@ -48,7 +64,7 @@ pub fn face(alloc: Global, number: u32, flag: bool, uses: Uses) -> Result<FaceUs
     })
 }
 
-/// One shell with one face with one loop (own).
+/// One shell with one face with one loop.
 pub fn shell_of(alloc: Global, uses: Uses) -> Result<Shells, NoMemory>
     ensures { IfOk result (λ shells. shells ≡ one_loop uses) }
 {
@@ -63,7 +79,7 @@ pub fn shell_of(alloc: Global, uses: Uses) -> Result<Shells, NoMemory>
     )
 }
 
-/// One shell with two faces (own).
+/// One shell with two faces.
 pub fn shell_of_two(alloc: Global, first: FaceUse, second: FaceUse) -> Result<Shells, NoMemory>
     ensures { IfOk result
         (λ shells. shells ≡ record {
@@ -84,7 +100,7 @@ pub fn shell_of_two(alloc: Global, first: FaceUse, second: FaceUse) -> Result<Sh
     )
 }
 
-/// The vertex of an index of the list 3 (own).
+/// The vertex of an index of the list 3.
 pub fn vertex(index: u32) -> VertexKey
     ensures { result ≡ vertex_key index }
 {
@@ -94,7 +110,7 @@ pub fn vertex(index: u32) -> VertexKey
     }
 }
 
-/// A use of the solid's first edge (own).
+/// A use of the solid's first edge.
 pub fn use_of(along: bool) -> LoopUse
     ensures { result ≡ EdgeUse (record { 0 = 0 }) along }
 {
@@ -104,7 +120,7 @@ pub fn use_of(along: bool) -> LoopUse
     }
 }
 
-/// The edge from a solid's first vertex to another one, or back to the first (own).
+/// The edge from a solid's first vertex to another one, or back to the first.
 pub fn edge_to(to: u32) -> Edge
     ensures { result
         ≡ record { key = record { «list» = record { 0 = 5 }; index = 1 }; from = record { 0 = 0 }; to = record { 0 = to } } }

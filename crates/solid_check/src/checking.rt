@@ -16,7 +16,7 @@ use std::alloc::Global;
 
 /// The solid of an entry, where all holds of it that the lines of a certificate don't show: the rules on its records, that
 /// its loops join, and that its shells share no vertex. Errs with the first of these that fails. The file's room is given
-/// back before the shells are judged. (own)
+/// back before the shells are judged.
 pub fn checked_solid(alloc: Global, file: File, no: EntryNo) -> Result<Solid, CheckFault>
     ensures solid { IfOk result (λ s. s ≡ solid_of file no.0) }
     ensures holds { OnOk result (AllHold (checked file no.0)) }

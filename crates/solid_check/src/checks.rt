@@ -13,7 +13,7 @@ use edge_uses::{VerticesBefore, rows};
 use solid_data::{Shell, ShellAt, Solid};
 use std::alloc::Global;
 
-/// The shell at a place (own).
+/// The shell at a place.
 pub fn shell_at(solid: &Solid, at: ShellAt) -> &Shell
     requires { at.0 < length solid.now.shells }
     ensures { slice_get solid.now.shells at.0 ≡ Some result.now }
@@ -75,7 +75,7 @@ fn check_only(solid: &Solid) -> Result<(), CheckFault>
 }
 
 /// Judges what the lines of a certificate don't show: shell by shell that each loop joins, and then that no vertex is
-/// one of a shell before. Errs with the first of these rules that fails, and where. (own)
+/// one of a shell before. Errs with the first of these rules that fails, and where.
 pub fn check_shells(alloc: Global, solid: &Solid) -> Result<(), CheckFault>
     ensures holds { OnOk result (AllHold (checked_obligations solid.now)) }
     ensures fault { IfErr result (IsCheckFault (checked_obligations solid.now)) }

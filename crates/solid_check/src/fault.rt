@@ -3,7 +3,7 @@
 use iges_fields::NoMemory;
 use solid_data::Failing;
 
-/// Why a solid does not pass what is judged of it (own).
+/// Why a solid does not pass what is judged of it.
 #[derive(Clone, Copy, Debug, PartialEq, Eq)]
 pub enum CheckFault {
     /// The first rule that fails, and where.

@@ -10,7 +10,7 @@ use crate::naming::{at_vertex, unjoined};
 use edge_uses::{Rows, VerticesBefore, first_unjoined};
 use solid_data::{Failing, Rule, Shell, ShellAt, Solid};
 
-/// Whether each loop of a shell joins; else JOIN, with the first loop that does not (own).
+/// Whether each loop of a shell joins; else JOIN, with the first loop that does not.
 pub fn join(solid: &Solid, at: ShellAt, shell: &Shell) -> Result<(), Failing>
     requires { slice_get solid.now.shells at.0 ≡ Some shell.now }
     ensures holds { OnOk result (AllHold (join_obligations solid.now shell.now)) }
@@ -23,7 +23,7 @@ pub fn join(solid: &Solid, at: ShellAt, shell: &Shell) -> Result<(), Failing>
     }
 }
 
-/// Whether no vertex of a shell is one of a shell before; else APART, with the least vertex that is (own).
+/// Whether no vertex of a shell is one of a shell before; else APART, with the least vertex that is.
 pub fn apart(solid: &Solid, at: ShellAt, before: VerticesBefore, rows: &Rows) -> Result<(), Failing>
     requires before { AreBelow solid.now at.0 before }
     requires rows { rows.now ≡ rows_of solid.now (slice_get solid.now.shells at.0) }

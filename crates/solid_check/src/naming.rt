@@ -24,7 +24,7 @@ pub(crate) fn unjoined(shell: &Shell, gap: Unjoined) -> Failing
     }
 }
 
-/// What LINK and APART name of a vertex: the vertex list, and the index of the vertex in it, from 1 (own).
+/// What LINK and APART name of a vertex: the vertex list, and the index of the vertex in it, from 1.
 pub fn at_vertex(solid: &Solid, rule: Rule, vertex: VertexId) -> Failing
     ensures { let key = vertex_name (slice_get solid.now.vertices vertex.0) in result
         ≡ failing rule key.list.0 key.index }

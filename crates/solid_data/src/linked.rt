@@ -4,7 +4,7 @@ use crate::lists::RowList;
 use crate::solid::LoopAt;
 use iges_base::ItemList;
 
-/// What lies round a vertex (own).
+/// What lies round a vertex.
 #[derive(Drop)]
 pub enum Corner {
     /// The rows that start there, each once: from the least one on each turns to the next, and the last to the first. No loop
@@ -14,5 +14,5 @@ pub enum Corner {
     Point(LoopAt),
 }
 
-/// A corner for each vertex of a shell, by rising number (own).
+/// A corner for each vertex of a shell, by rising number.
 pub type Corners = ItemList<Corner>;

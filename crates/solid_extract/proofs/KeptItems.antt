@@ -4,7 +4,7 @@ use Rattle.std.specs.Prelude.{◌==◌, slice_get}
 use Rattle.std.specs.List.{list_all, position_or_len}
 use Rattle.std.proofs.lemmas.Bool.{cond-false}
 use Rattle.std.proofs.lemmas.List.Elements.{recursion_from_All}
-use Rattle.iges_fields.proofs.Items.{passes}
+use Rattle.iges_base.proofs.Tests.{passes}
 use Rattle.iges_params.specs.Contents.{Contents}
 use Rattle.iges_params.specs.Named.{record_values, values_of}
 use Rattle.brep_lists.specs.Record.{kind_of_type, items_of, Fits, IsRecordOf}

@@ -21,7 +21,7 @@ use iges_fields::{EntryNo, NoMemory};
 use iges_params::File;
 use std::alloc::Global;
 
-/// The file of a solid, and the number that the solid has in it (own).
+/// The file of a solid, and the number that the solid has in it.
 #[derive(Drop)]
 pub struct Extraction {
     pub file: File,
@@ -196,8 +196,8 @@ fn extracted_of(alloc: Global, file: File, no: EntryNo) -> Result<File, ExtractF
 }
 
 /// The file of a solid: the entries that a chain of references reaches from it, in rising order, renamed 1, 3, 5 and so
-/// on, with the start section and the global as they are (own). Structure, view and label display are cut, and so are a
-/// line font and a level that are entries; groups after the own values keep the names alone (own).
+/// on, with the start section and the global as they are. Structure, view and label display are cut, and so are a
+/// line font and a level that are entries; groups after the own values keep the names alone.
 pub fn extract(alloc: Global, file: &File, no: EntryNo) -> Result<File, ExtractFault>
     ensures found { IfOk result (IsExtracted file.now no.0) }
     ensures only { (new : Contents) → IsExtracted file.now no.0 new → GivesFile result new }
@@ -208,7 +208,7 @@ pub fn extract(alloc: Global, file: &File, no: EntryNo) -> Result<File, ExtractF
     extracted(alloc, file, no)
 }
 
-/// The same as `extract`, of a file that isn't needed any more: the values that are kept stay in their memory (own).
+/// The same as `extract`, of a file that isn't needed any more: the values that are kept stay in their memory.
 pub fn into_extract(alloc: Global, file: File, no: EntryNo) -> Result<File, ExtractFault>
     ensures found { IfOk result (IsExtracted file no.0) }
     ensures only { (new : Contents) → IsExtracted file no.0 new → GivesFile result new }
@@ -219,7 +219,7 @@ pub fn into_extract(alloc: Global, file: File, no: EntryNo) -> Result<File, Extr
     extracted_of(alloc, file, no)
 }
 
-/// The file of a solid as `extract` gives it, with the solid's number in it, or the refusal of `extract` (own).
+/// The file of a solid as `extract` gives it, with the solid's number in it, or the refusal of `extract`.
 pub fn extract_numbered(alloc: Global, file: &File, no: EntryNo) -> Result<Extraction, ExtractFault>
     ensures found { IfOk result (λ x. IsExtractedAs file.now no.0 x.file x.no.0) }
     ensures fault { IfErr result (IsExtractFault file.now no.0) }
@@ -227,8 +227,7 @@ pub fn extract_numbered(alloc: Global, file: &File, no: EntryNo) -> Result<Extra
     extracted_as(alloc, file, no)
 }
 
-/// The same as `extract_numbered`, of a file that isn't needed any more: the values that are kept stay in their memory
-/// (own).
+/// The same as `extract_numbered`, of a file that isn't needed any more: the values that are kept stay in their memory.
 pub fn into_extract_numbered(
     alloc: Global,
     file: File,

@@ -10,11 +10,11 @@ pub struct Refusal {
     pub reason: ExtractReason,
 }
 
-/// Why a solid isn't extracted (own).
+/// Why a solid isn't extracted.
 #[derive(Clone, Copy, Debug, PartialEq, Eq)]
 pub enum ExtractFault {
     /// The entity for which it isn't, and why: of the entities that are reached and have a fault the one with the least
-    /// number (own).
+    /// number.
     Refused {
         entity: EntryNo,
         reason: ExtractReason,

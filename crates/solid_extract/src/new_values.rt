@@ -167,7 +167,7 @@ fn names_in(
     Ok(names)
 }
 
-/// The values that a record has where it is kept: its own values, and after them the names, where there are any (own).
+/// The values that a record has where it is kept: its own values, and after them the names, where there are any.
 /// They take the place of those that it had, in the same memory. `marks` is a scratch buffer.
 pub fn new_values(
     alloc: Global,

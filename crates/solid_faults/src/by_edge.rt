@@ -21,7 +21,7 @@ fn edges_of_rows(alloc: Global, rows: &Rows) -> Result<Vec<u32>, NoMemory>
     Ok(edges)
 }
 
-/// The numbers of a shell's rows by the edges that they have, those of an edge in file order (own). It goes once over the
+/// The numbers of a shell's rows by the edges that they have, those of an edge in file order. It goes once over the
 /// rows, where `rows_of_edge` does so for each edge.
 pub fn rows_by_edge(alloc: Global, rows: &Rows) -> Result<Groups, NoMemory>
     ensures { IfOk result (λ groups. (e : ℕ) → places_of e groups ≡ rows_on_edge rows.now e) }

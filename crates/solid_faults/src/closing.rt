@@ -12,7 +12,7 @@ use iges_base::NoMemory;
 use solid_data::{ShellAt, Solid};
 use std::alloc::Global;
 
-/// Whether each shell of a solid is closed: whether nothing fails in it (own).
+/// Whether each shell of a solid is closed: whether nothing fails in it.
 pub fn is_closed(alloc: Global, solid: &Solid) -> Result<bool, NoMemory>
     ensures { IfOk result (λ b. IsTrue b ↔ IsClosedSolid solid.now) }
 {

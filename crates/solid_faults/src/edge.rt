@@ -13,7 +13,7 @@ use solid_data::EdgeId;
 use std::alloc::Global;
 
 /// An edge that hasn't exactly one row along it and one against it, and how many rows run along it
-/// and against it (own).
+/// and against it.
 #[derive(Clone, Copy, Debug, PartialEq, Eq)]
 pub struct Unpaired {
     pub edge: EdgeId,
@@ -47,7 +47,7 @@ fn edge_at(rows: &Rows, i: usize) -> EdgeId
 }
 
 /// The edges of a shell that haven't exactly one row along them and one against them, by rising
-/// number (own).
+/// number.
 pub fn unpaired_edges(alloc: Global, rows: &Rows) -> Result<Vec<Unpaired>, NoMemory>
     ensures { IfOk result (λ out. out.items ≡ unpaired_of rows.now) }
 {
@@ -70,7 +70,7 @@ fn push_if(out: &mut Vec<u32>, row: Row, i: u32, edge: EdgeId) -> Result<(), NoM
     Ok(())
 }
 
-/// The numbers of the rows that have an edge, in file order (own). It goes once over the rows.
+/// The numbers of the rows that have an edge, in file order. It goes once over the rows.
 pub fn rows_of_edge(alloc: Global, rows: &Rows, edge: EdgeId) -> Result<Vec<u32>, NoMemory>
     ensures { IfOk result (λ out. out.items ≡ rows_on_edge rows.now edge.0) }
 {

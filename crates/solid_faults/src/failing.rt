@@ -22,7 +22,7 @@ use solid_data::{ShellAt, Solid};
 use std::alloc::Global;
 use std::marker::Model;
 
-/// For each row the least one of its fan, and the vertices that aren't linked (own).
+/// For each row the least one of its fan, and the vertices that aren't linked.
 #[derive(Drop)]
 pub struct Linking {
     leasts: Vec<u32>,
@@ -40,14 +40,14 @@ impl Model for Linking {
 impl Linking {
     ghost use Rattle.std.specs.Prelude.{◌≡◌};
 
-    /// For each row the least row of its fan (own).
+    /// For each row the least row of its fan.
     pub fn leasts(&self) -> &[u32]
         ensures { result.now ≡ self.now.leasts }
     {
         self.leasts.as_slice()
     }
 
-    /// The vertices that aren't linked, by rising number (own).
+    /// The vertices that aren't linked, by rising number.
     pub fn unlinked(&self) -> &[Unlinked]
         ensures { result.now ≡ self.now.unlinked }
     {
@@ -55,7 +55,7 @@ impl Linking {
     }
 }
 
-/// All that fails in a shell, rule by rule (own).
+/// All that fails in a shell, rule by rule.
 #[derive(Drop)]
 pub struct ShellFaults {
     gaps: Vec<Gap>,
@@ -85,7 +85,7 @@ fn no_other_part(firsts: &[u32]) -> bool
     true
 }
 
-/// How many faces lie outside of the first part, by the first face of the part of each (own).
+/// How many faces lie outside of the first part, by the first face of the part of each.
 pub fn apart_in(firsts: &[u32]) -> usize
     ensures { result ≡ length (faces_apart firsts.now) }
 {
@@ -113,7 +113,7 @@ impl ShellFaults {
     ghost use Rattle.solid_faults.specs.Faults.{IsFaultless};
     ghost use Rattle.solid_faults.specs.Parts.{faces_apart};
 
-    /// Whether nothing fails: no list holds anything, and there is one part (own).
+    /// Whether nothing fails: no list holds anything, and there is one part.
     pub fn is_empty(&self) -> bool
         ensures { IsTrue result ↔ IsFaultless self.now }
     {
@@ -124,28 +124,28 @@ impl ShellFaults {
             && self.shared.as_slice().is_empty()
     }
 
-    /// The gaps of loops, in file order (own).
+    /// The gaps of loops, in file order.
     pub fn gaps(&self) -> &[Gap]
         ensures { result.now ≡ self.now.gaps }
     {
         self.gaps.as_slice()
     }
 
-    /// The edges that aren't paired, by rising number (own).
+    /// The edges that aren't paired, by rising number.
     pub fn unpaired(&self) -> &[Unpaired]
         ensures { result.now ≡ self.now.unpaired }
     {
         self.unpaired.as_slice()
     }
 
-    /// For each face the first face of its part (own).
+    /// For each face the first face of its part.
     pub fn firsts(&self) -> &[u32]
         ensures { result.now ≡ self.now.firsts }
     {
         self.firsts.as_slice()
     }
 
-    /// How many faces lie outside of the first part (own).
+    /// How many faces lie outside of the first part.
     pub fn apart_count(&self) -> usize
         ensures { result ≡ length (faces_apart self.now.firsts) }
     {
@@ -153,14 +153,14 @@ impl ShellFaults {
     }
 
     /// The fans; None where a loop has a gap or an edge isn't paired, since turns aren't definite
-    /// there (own).
+    /// there.
     pub fn linking(&self) -> Option<&Linking>
         ensures { option_copied result ≡ self.now.linking }
     {
         self.linking.as_ref()
     }
 
-    /// The vertices that an earlier shell has, by rising number (own).
+    /// The vertices that an earlier shell has, by rising number.
     pub fn shared(&self) -> &[u32]
         ensures { result.now ≡ self.now.shared }
     {
@@ -205,7 +205,7 @@ fn has_gap(gaps: &[Gap]) -> bool
 }
 
 /// All that fails in a shell, whose rows are given with the number that the vertices of the shells
-/// before it lie below (own).
+/// before it lie below.
 pub fn faults_of(
     alloc: Global,
     solid: &Solid,
@@ -233,7 +233,7 @@ pub fn faults_of(
     })
 }
 
-/// All that fails in a shell (own). It goes once over the uses of the shells before, for their
+/// All that fails in a shell. It goes once over the uses of the shells before, for their
 /// vertices; whoever goes over all shells carries the number of these, and calls `faults_of`.
 pub fn faults(alloc: Global, solid: &Solid, shell: ShellAt) -> Result<ShellFaults, NoMemory>
     requires { shell.0 < length solid.now.shells }

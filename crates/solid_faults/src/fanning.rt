@@ -38,7 +38,7 @@ fn turns_of(alloc: Global, paired: &Paired<'_>) -> Result<Vec<(u32, u32)>, NoMem
     Ok(out)
 }
 
-/// For each row the least row of its fan: of the rows that turns lead to from it (own).
+/// For each row the least row of its fan: of the rows that turns lead to from it.
 pub fn fan_leasts(alloc: Global, paired: &Paired<'_>) -> Result<Vec<u32>, NoMemory>
     ensures { IfOk result (λ leasts. AreFans paired.now leasts.items) }
 {

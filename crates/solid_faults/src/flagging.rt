@@ -16,7 +16,7 @@ use std::alloc::Global;
 fn copied_uses(alloc: Global, uses: &[LoopUse]) -> Result<Uses, NoMemory>
     ensures { IfOk result (λ copy. copy ≡ uses.now) }
 {
-    let mut copy = ItemList::with_room(alloc, uses.len())?;
+    let mut copy = Uses::with_room(alloc, uses.len())?;
     'uses: for i in 0..uses.len() {
         copy.push(uses[i])?;
     }
@@ -36,7 +36,7 @@ fn copied_loop(alloc: Global, walk: &Loop) -> Result<Loop, NoMemory>
 fn copied_loops(alloc: Global, loops: &[Loop]) -> Result<Loops, NoMemory>
     ensures { IfOk result (λ copy. copy ≡ loops.now) }
 {
-    let mut copy = ItemList::with_room(alloc, loops.len())?;
+    let mut copy = Loops::with_room(alloc, loops.len())?;
     'loops: for i in 0..loops.len() {
         copy.push(copied_loop(alloc, &loops[i])?)?;
     }
@@ -145,7 +145,7 @@ fn flagged(alloc: Global, solid: &Solid) -> Result<Solid, NoMemory>
     Ok(Solid::new(entity, shells, edges, vertices))
 }
 
-/// Whether a solid is closed where every flag of a face in its shell is read as 1 (own). Where a
+/// Whether a solid is closed where every flag of a face in its shell is read as 1. Where a
 /// solid isn't closed and this is true, no face is missing: either faces are turned, or who wrote
 /// the file let these flags speak of the surface alone. It copies the solid.
 pub fn is_closed_flagged(alloc: Global, solid: &Solid) -> Result<bool, NoMemory>

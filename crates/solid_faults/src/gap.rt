@@ -12,7 +12,7 @@ use iges_base::{EntryNo, NoMemory};
 use solid_data::{Edge, FaceAt, FaceUse, Loop, LoopAt, LoopUse, Shell, ShellAt, Solid};
 use std::alloc::Global;
 
-/// A use of a loop that ends at another vertex than the next one starts at (own).
+/// A use of a loop that ends at another vertex than the next one starts at.
 #[derive(Clone, Copy, Debug, PartialEq, Eq)]
 pub struct Gap {
     /// The loop, by its face in the shell and its place in the face, both from 0.
@@ -23,7 +23,7 @@ pub struct Gap {
     pub tuple: u32,
 }
 
-/// The vertex where an edge begins that is walked along it or against it; 0 where there is no edge (own).
+/// The vertex where an edge begins that is walked along it or against it; 0 where there is no edge.
 pub fn begins_at(edge: Option<&Edge>, along: bool) -> u32
     ensures { result ≡ begin_of (option_copied edge.entry) along }
 {
@@ -33,7 +33,7 @@ pub fn begins_at(edge: Option<&Edge>, along: bool) -> u32
     }
 }
 
-/// The vertex where a use starts, by the flag of its tuple alone; 0 where the solid hasn't its edge (own).
+/// The vertex where a use starts, by the flag of its tuple alone; 0 where the solid hasn't its edge.
 pub fn starts_at(solid: &Solid, item: LoopUse) -> u32
     ensures { result ≡ start_of solid.now item }
 {
@@ -43,7 +43,7 @@ pub fn starts_at(solid: &Solid, item: LoopUse) -> u32
     }
 }
 
-/// The vertex where a use ends, by the flag of its tuple alone; 0 where the solid hasn't its edge (own).
+/// The vertex where a use ends, by the flag of its tuple alone; 0 where the solid hasn't its edge.
 pub fn ends_at(solid: &Solid, item: LoopUse) -> u32
     ensures { result ≡ end_of solid.now item }
 {
@@ -154,7 +154,7 @@ fn push_shell_gaps(solid: &Solid, shell: &Shell, out: &mut Vec<Gap>) -> Result<(
 }
 
 /// The gaps of a shell's loops, in file order. In a loop's own order and by its own flags alone each
-/// use is to end where the next one starts, the last where the first does (own).
+/// use is to end where the next one starts, the last where the first does.
 pub fn gaps(alloc: Global, solid: &Solid, shell: ShellAt) -> Result<Vec<Gap>, NoMemory>
     requires { shell.0 < length solid.now.shells }
     ensures { IfOk result (λ gaps. IfSome (slice_get solid.now.shells shell.0)

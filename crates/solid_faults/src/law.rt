@@ -13,7 +13,7 @@ ghost use Rattle.solid_faults.specs.Naming.{AreNamed};
 
 /// Each list of a shell's faults names exactly the failing obligations of its rule, in order, of
 /// REACH and LINK where loops join and edges are paired. The first of all that is found is the
-/// first false obligation of the shell, and nothing is found exactly where all hold. (own)
+/// first false obligation of the shell, and nothing is found exactly where all hold.
 pub fn faults_are_definite()
     ensures named { (s : SolidData) (k : ℕ) (h : AnyShell) (x : Faults) → IsNumberedSolid s
         → Has s.shells h → AreFaults s k h x → AreNamed s k h x }

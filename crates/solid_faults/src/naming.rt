@@ -6,7 +6,7 @@ ghost use Rattle.edge_uses.specs.ShellObligations.{edge_name, vertex_name};
 use iges_base::EntryNo;
 use solid_data::{EdgeId, EdgeKey, Solid, VertexId, VertexKey};
 
-/// The list and the index of an edge; both are 0 where the solid hasn't got it (own).
+/// The list and the index of an edge; both are 0 where the solid hasn't got it.
 pub fn edge_name(solid: &Solid, edge: EdgeId) -> EdgeKey
     ensures { result ≡ edge_name (slice_get solid.now.edges edge.0) }
 {
@@ -19,7 +19,7 @@ pub fn edge_name(solid: &Solid, edge: EdgeId) -> EdgeKey
     }
 }
 
-/// The list and the index of a vertex, by its number, from 0; both are 0 where the solid hasn't got it (own).
+/// The list and the index of a vertex, by its number, from 0; both are 0 where the solid hasn't got it.
 pub fn vertex_name(solid: &Solid, vertex: u32) -> VertexKey
     ensures { result ≡ vertex_name (slice_get solid.now.vertices vertex) }
 {

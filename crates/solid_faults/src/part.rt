@@ -56,7 +56,7 @@ fn pairs_of(alloc: Global, rows: &Rows, tally: &Tally<'_>) -> Result<Vec<(u32, u
     Ok(out)
 }
 
-/// For each face of a shell the first face of its part (own).
+/// For each face of a shell the first face of its part.
 pub fn firsts(alloc: Global, rows: &Rows) -> Result<Vec<u32>, NoMemory>
     ensures { IfOk result (λ firsts. AreParts rows.now firsts.items) }
 {

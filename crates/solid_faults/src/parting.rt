@@ -26,7 +26,7 @@ use solid_data::{FaceUse, Shell, ShellAt, Solid};
 use std::alloc::Global;
 use std::marker::Model;
 
-/// The parts of a shell, with tables by which each is described, made once (own).
+/// The parts of a shell, with tables by which each is described, made once.
 #[derive(Drop)]
 pub struct PartTables<'a> {
     solid: &'a Solid,
@@ -56,7 +56,7 @@ impl<'a> Model for PartTables<'a> {
         t.by_part t.by_edge t.lows };
 }
 
-/// A part of a shell: all faces that chains of shared edges join (own).
+/// A part of a shell: all faces that chains of shared edges join.
 #[derive(Drop)]
 pub struct Part {
     /// The faces, as the shell lists them.
@@ -148,7 +148,7 @@ fn lowest_parts<'a>(
     Ok(lows)
 }
 
-/// The parts of a shell, whose rows, first faces of parts and edges that aren't paired are given (own). It goes
+/// The parts of a shell, whose rows, first faces of parts and edges that aren't paired are given. It goes
 /// once over the uses of the shell.
 pub fn part_tables<'a>(
     alloc: Global,
@@ -191,7 +191,7 @@ fn push_if(out: &mut Vec<u32>, wanted: bool, n: u32) -> Result<(), NoMemory>
     Ok(())
 }
 
-/// The parts of a shell, of which each face has the first one of its part: each by its first face, in order (own).
+/// The parts of a shell, of which each face has the first one of its part: each by its first face, in order.
 pub fn parts(alloc: Global, firsts: &[u32]) -> Result<Vec<u32>, NoMemory>
     ensures { IfOk result (λ parts. parts.items ≡ parts_of firsts.now) }
 {
@@ -302,7 +302,7 @@ impl<'a> PartTables<'a> {
     ghost use Rattle.std.specs.Prelude.{◌≡◌, IfOk};
     ghost use Rattle.solid_faults.specs.PartFacts.{IsPart};
 
-    /// A part, by its first face (own). It goes over the uses of the part's faces, and sorts what they use.
+    /// A part, by its first face. It goes over the uses of the part's faces, and sorts what they use.
     pub fn part(&self, alloc: Global, first: u32) -> Result<Part, NoMemory>
         ensures { IfOk result
             (λ p. IsPart self.now.solid self.now.shell self.now.firsts self.now.unpaired first p) }

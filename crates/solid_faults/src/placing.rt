@@ -145,7 +145,7 @@ fn push_shell_places(solid: &Solid, shell: &Shell, out: &mut Vec<RowPlace>) -> R
     Ok(())
 }
 
-/// Where each row of a shell is in the file, in the order of the rows (own).
+/// Where each row of a shell is in the file, in the order of the rows.
 pub fn row_places(alloc: Global, solid: &Solid, shell: ShellAt) -> Result<Vec<RowPlace>, NoMemory>
     requires { shell.0 < length solid.now.shells }
     ensures places { IfOk result (λ out. out.items

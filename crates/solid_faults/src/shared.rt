@@ -26,7 +26,7 @@ fn push_if(out: &mut Vec<u32>, wanted: bool, n: u32) -> Result<(), NoMemory>
 }
 
 /// One more than the greatest vertex of the shells before and of the next one, whose rows are given:
-/// the vertices of all these are the ones below it (own).
+/// the vertices of all these are the ones below it.
 pub fn below_next(below: usize, rows: &Rows) -> usize
     ensures { (s : SolidData) (k : ℕ) → IsNumberedSolid s → k < length s.shells → AreBelow s k below → rows.now ≡ rows_of s (slice_get s.shells k) →
         AreBelow s (k + 1) result }
@@ -40,7 +40,7 @@ pub fn below_next(below: usize, rows: &Rows) -> usize
     below.max(last.0 as usize + 1)
 }
 
-/// The number that the vertices of the shells before a shell lie below (own). It goes once over the
+/// The number that the vertices of the shells before a shell lie below. It goes once over the
 /// uses of these, and holds the rows of one at a time.
 pub fn below_shell(alloc: Global, solid: &Solid, shell: ShellAt) -> Result<usize, NoMemory>
     requires { shell.0 ≤ length solid.now.shells }
@@ -65,7 +65,7 @@ fn is_below(vertex: VertexId, below: usize) -> bool
 }
 
 /// The vertices of the next shell, whose rows are given, that are among those of the shells before,
-/// which are the ones below a number; by rising number (own).
+/// which are the ones below a number; by rising number.
 pub fn shared_vertices(alloc: Global, below: usize, rows: &Rows) -> Result<Vec<u32>, NoMemory>
     ensures { IfOk result (λ out. (s : SolidData) (k : ℕ) → AreBelow s k below
         → out.items ≡ shared_of s k rows.now) }

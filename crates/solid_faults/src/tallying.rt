@@ -5,7 +5,7 @@ ghost use Rattle.solid_faults.specs.UseCounts.{use_count, once_count, same_way_c
 
 use crate::edge::Unpaired;
 
-/// How many of some edges that aren't paired have one row, two and more (own).
+/// How many of some edges that aren't paired have one row, two and more.
 #[derive(Clone, Copy, Debug, PartialEq, Eq)]
 pub struct UseCounts {
     /// With one row.
@@ -32,7 +32,7 @@ fn one_more(counts: UseCounts, edge: Unpaired) -> UseCounts
     }
 }
 
-/// How many of these edges have one row, two and more (own).
+/// How many of these edges have one row, two and more.
 pub fn use_counts(unpaired: &[Unpaired]) -> UseCounts
     ensures once { result.once ≡ once_count unpaired.now }
     ensures same_way { result.same_way ≡ same_way_count unpaired.now }

@@ -121,7 +121,7 @@ fn unlinked_in(
     Ok(out)
 }
 
-/// The vertices of a shell that aren't linked, by rising number (own). It takes no longer where they
+/// The vertices of a shell that aren't linked, by rising number. It takes no longer where they
 /// lie far apart.
 pub fn unlinked_vertices(
     alloc: Global,

@@ -22,7 +22,7 @@ use solid_data::Solid;
 use std::alloc::Global;
 use std::marker::Model;
 
-/// What a checker says of a piece of a part of a book (own).
+/// What a checker says of a piece of a part of a book.
 #[derive(Clone, Copy, Debug, PartialEq, Eq)]
 pub enum PartStep {
     /// The whole piece was taken, and the part goes on.
@@ -33,7 +33,7 @@ pub enum PartStep {
 }
 
 /// Judges the lines of a certificate after its first two, or those of a part of a book, one after the other, against a
-/// solid (own). They come whole by `line`, or in pieces that are cut anywhere: by `feed`, and for a part of a book by
+/// solid. They come whole by `line`, or in pieces that are cut anywhere: by `feed`, and for a part of a book by
 /// `feed_part`. Each line costs time in proportion to its bytes, and no call takes memory after `new` or `part`: beside
 /// the rows of the shells a checker keeps eight bytes a row, a byte for each face and for each loop without an edge, and
 /// of an unfinished line as many bytes as a line may have. Once a line was Illegal, each call answers the same.
@@ -81,7 +81,7 @@ impl<'a> Checker<'a> {
         })
     }
 
-    /// A checker of the lines of a certificate of this version, of which the next one is line 3 (own). It takes all the
+    /// A checker of the lines of a certificate of this version, of which the next one is line 3. It takes all the
     /// memory that a check needs, and errs only where memory runs out.
     pub fn new(alloc: Global, solid: &'a Solid, version: Version) -> Result<Checker<'a>, NoMemory>
         ensures stands { IfOk result (λ c. StandsAfter version solid.now 3 [] [] c) }
@@ -90,7 +90,7 @@ impl<'a> Checker<'a> {
         Checker::from_line(alloc, solid, version, 3)
     }
 
-    /// A checker of the lines of a part of a book, of which the next one has this number, from 1 (own). It takes all the
+    /// A checker of the lines of a part of a book, of which the next one has this number, from 1. It takes all the
     /// memory that a check of the part needs, and errs only where memory runs out.
     pub fn part(alloc: Global, solid: &'a Solid, first: u64) -> Result<Checker<'a>, NoMemory>
         requires { first ≤ 2 ^ 32 }
@@ -127,7 +127,7 @@ impl<'a> Checker<'a> {
         Err(bad)
     }
 
-    /// Judges the next line, given whole with its LF (own): it is spelled and fits after the lines before it, or it is the
+    /// Judges the next line, given whole with its LF: it is spelled and fits after the lines before it, or it is the
     /// first that is misspelt or unfit. It is for lines that begin where `feed` has left none unfinished.
     pub fn line(&mut self, line: &[u8]) -> Result<(), Illegal>
         ensures line { (v : Version) (s : SolidData) (first : ℕ) (read : List CertLine) → StandsAfter v s first read [] self.old → MatchResult result
@@ -174,7 +174,7 @@ impl<'a> Checker<'a> {
         }
     }
 
-    /// Takes the next bytes, and judges each line at its LF (own). A fault is that of the first line that is misspelt or
+    /// Takes the next bytes, and judges each line at its LF. A fault is that of the first line that is misspelt or
     /// unfit.
     pub fn feed(&mut self, piece: &[u8]) -> Result<(), Illegal>
         ensures fed { (v : Version) (s : SolidData) (first : ℕ) (text : List ℕ)
@@ -228,7 +228,7 @@ impl<'a> Checker<'a> {
         }
     }
 
-    /// Takes the next bytes of a part of a book, and judges each line at its LF as `feed` does (own). But where END is due
+    /// Takes the next bytes of a part of a book, and judges each line at its LF as `feed` does. But where END is due
     /// a line fits too that names a solid with a greater number: it begins the next part, and no byte after its LF is
     /// taken. No call may come after that. A part that END ends is finished by `finish`.
     pub fn feed_part(&mut self, piece: &[u8]) -> Result<PartStep, Illegal>
@@ -259,7 +259,7 @@ impl<'a> Checker<'a> {
         Ok(PartStep::More)
     }
 
-    /// Whether END was the last line (own). A rest without LF is misspelt; where END wasn't the last line, the line after
+    /// Whether END was the last line. A rest without LF is misspelt; where END wasn't the last line, the line after
     /// the last one is missing.
     pub fn finish(&mut self) -> Result<(), Illegal>
         ensures fed { (v : Version) (s : SolidData) (first : ℕ) (text : List ℕ)

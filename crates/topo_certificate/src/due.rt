@@ -7,7 +7,7 @@ ghost use Rattle.topo_certificate.specs.Kept.{all_due, lines_due};
 use cert_lines::Version;
 use edge_uses::Rows;
 
-/// How many lines of each kind are still due of a shell; corner and point lines are one kind (own). The kinds come one
+/// How many lines of each kind are still due of a shell; corner and point lines are one kind. The kinds come one
 /// after the other, in the order of the fields.
 #[derive(Clone, Copy, Debug, PartialEq, Eq)]
 pub struct Due {

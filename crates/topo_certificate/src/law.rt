@@ -7,7 +7,7 @@ ghost use Rattle.cert_lines.specs.declared.version.Version.{Version as Edition};
 ghost use Rattle.cert_lines.specs.declared.fault.Illegal.{Illegal as Fault};
 
 /// Whatever the lines are, either they are legal or one of them is the first bad one; that is one line alone, and legal lines
-/// have none (own).
+/// have none.
 pub fn legal_or_first_bad()
     ensures none { (v : Edition) (s : SolidData) (first : ℕ) (lines : List (List ℕ)) (bad : Fault)
         → IsLegal v s lines → ¬ IsFirstBad v s first lines bad }
@@ -17,7 +17,7 @@ pub fn legal_or_first_bad()
         → IsLegal v s lines ⊎ ((bad : Fault) × IsFirstBad v s first lines bad) }
 {}
 
-/// In a part of a book too there is one first bad line at most (own).
+/// In a part of a book too there is one first bad line at most.
 pub fn one_bad_in_part()
     ensures { (v : Edition) (s : SolidData) (first : ℕ) (lines : List (List ℕ)) (x y : Fault)
         → IsPartBad v s first lines x → IsPartBad v s first lines y → x ≡ y }

@@ -34,5 +34,5 @@ pub use text::check;
 pub use upgrading::{UpgradeFault, upgrade};
 pub use uses::{loop_count, use_count};
 
-/// The most bytes that a certificate may have to be read (own).
+/// The most bytes that a certificate may have to be read.
 pub const CERT_LIMIT: u64 = 536_870_912;

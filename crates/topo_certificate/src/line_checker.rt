@@ -9,7 +9,7 @@ use solid_data::{ShellAt, Solid};
 use std::alloc::Global;
 use std::marker::Model;
 
-/// What a line of a part of a book is (own).
+/// What a line of a part of a book is.
 #[derive(Clone, Copy, Debug, PartialEq, Eq)]
 pub(crate) enum PartLine {
     /// It is a line of the part.

@@ -28,7 +28,7 @@ pub enum Stage {
     Failed(Illegal),
 }
 
-/// What an opening says of a piece (own).
+/// What an opening says of a piece.
 #[derive(Clone, Copy)]
 pub enum OpeningStep {
     /// The whole piece was taken, and line 2 hasn't ended.
@@ -41,7 +41,7 @@ pub enum OpeningStep {
     },
 }
 
-/// Judges the first two lines of a certificate, whose text comes in pieces that are cut anywhere (own). It takes no
+/// Judges the first two lines of a certificate, whose text comes in pieces that are cut anywhere. It takes no
 /// memory.
 #[derive(Drop)]
 pub struct Opening {
@@ -89,7 +89,7 @@ fn stage_after(stage: Stage, line: &[u8]) -> Stage
 }
 
 impl Opening {
-    /// Before line 1 (own).
+    /// Before line 1.
     pub fn new() -> Opening
         ensures stands { IsOpening result [] }
         ensures waiting { IsWaiting result.stage }
@@ -138,7 +138,7 @@ impl Opening {
         }
     }
 
-    /// Takes the next bytes up to the end of line 2, and judges each of the two lines at its LF (own). Once both have come
+    /// Takes the next bytes up to the end of line 2, and judges each of the two lines at its LF. Once both have come
     /// each call takes none and answers the same solid; once one was bad each call answers the same.
     pub fn feed(&mut self, piece: &[u8]) -> Result<OpeningStep, Illegal>
         ensures step { (text : List ℕ) → IsOpening self.old text
@@ -191,7 +191,7 @@ impl Opening {
         Err(bad)
     }
 
-    /// Whether both lines have come (own). A line without LF is misspelt, and a line that isn't there is missing.
+    /// Whether both lines have come. A line without LF is misspelt, and a line that isn't there is missing.
     pub fn finish(&mut self) -> Result<(), Illegal>
         ensures said { (text : List ℕ) → IsOpening self.old text
             → MatchResult result (λ _. (v : Edition) × (n : ℕ) × Opens text v n [])

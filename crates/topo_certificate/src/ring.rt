@@ -10,7 +10,7 @@ use crate::fitting::turn_of;
 use cert_lines::next_number;
 use edge_uses::Rows;
 
-/// Whether a row turns to another, both from 1 (own).
+/// Whether a row turns to another, both from 1.
 pub fn turns_to(rows: &Rows, mates: &[u32], row: u32, next: u32) -> bool
     ensures { (pairs : List (ℕ × ℕ)) → HoldsMates mates.now pairs → IsTrue result
         ↔ TurnsTo rows.now pairs row next }

@@ -12,8 +12,8 @@ use crate::checker::Checker;
 use cert_lines::Illegal;
 
 /// Judges all further lines of a certificate, whose text is given, and whether END is the last of them. Where the
-/// checker has judged no line yet, that is whether the lines are legal for its solid, or which is the first bad one
-/// (own). A rest without LF is misspelt.
+/// checker has judged no line yet, that is whether the lines are legal for its solid, or which is the first bad one.
+/// A rest without LF is misspelt.
 pub fn check(checker: &mut Checker<'_>, text: &[u8]) -> Result<(), Illegal>
     ensures whole { (v : Version) (s : SolidData) (first : ℕ) → IsFed v s first [] checker.old
         → MatchResult result (λ _. IsLegal v s (cut_lines text.now))

@@ -12,7 +12,7 @@ use iges_base::{Bytes, NoMemory, Out};
 use solid_data::{Shell, ShellAt, Solid};
 use std::alloc::Global;
 
-/// Why a certificate isn't upgraded (own).
+/// Why a certificate isn't upgraded.
 #[derive(Clone, Copy, Debug, PartialEq, Eq)]
 pub enum UpgradeFault {
     /// The upgraded text has more bytes than were asked for.
@@ -148,7 +148,7 @@ fn upgraded_text(alloc: Global, solid: &Solid, text: &[u8]) -> Result<Bytes, NoM
 
 /// A certificate of version 1 as one of version 2: the head of version 2, and the line of the counts of each shell after
 /// its lines. A certificate of another version is given back as it is. What is accepted for the solid stays accepted.
-/// TooLarge comes exactly where the text would have more bytes than the limit. (own)
+/// TooLarge comes exactly where the text would have more bytes than the limit.
 pub fn upgrade(alloc: Global, solid: &Solid, text: &[u8], limit: u64) -> Result<Bytes, UpgradeFault>
     ensures text { IfOk result (λ t. t ≡ upgraded solid.now text.now) }
     ensures within { IfOk result (λ t. length t ≤ limit) }

@@ -37,7 +37,7 @@ fn uses_of_shell(shell: &Shell) -> usize
     count
 }
 
-/// How many uses the loops of a solid have (own).
+/// How many uses the loops of a solid have.
 pub fn use_count(solid: &Solid) -> usize
     ensures { result ≡ length (flat_map shell_uses solid.now.shells) }
 {
@@ -67,7 +67,7 @@ fn loops_in(faces: &[FaceUse]) -> u64
     count
 }
 
-/// How many loops a shell has (own).
+/// How many loops a shell has.
 pub fn loop_count(shell: &Shell) -> u64
     requires { loops_of (Some shell.now) < PART_LIMIT }
     ensures { result ≡ loops_of (Some shell.now) }

@@ -12,7 +12,7 @@ use solid_faults::{Groups, Used, grouped, nothing_used, rise, used_by};
 use std::alloc::Global;
 use std::marker::Model;
 
-/// A face at a vertex that one of its uses touches, by the number of its shell, from 0 (own).
+/// A face at a vertex that one of its uses touches, by the number of its shell, from 0.
 #[derive(Clone, Copy, Debug, PartialEq, Eq)]
 pub struct FaceAtVertex {
     /// The vertex's number in the solid, from 0.
@@ -23,7 +23,7 @@ pub struct FaceAtVertex {
     pub face: EntryNo,
 }
 
-/// The faces of a solid at each of its vertices (own).
+/// The faces of a solid at each of its vertices.
 #[derive(Drop)]
 pub struct VertexFaces {
     touches: Vec<FaceAtVertex>,
@@ -42,7 +42,7 @@ impl Model for VertexFaces {
     ghost invariant = { λ t. t.by_vertex ≡ map vertex_of t.touches.items };
 }
 
-/// The faces at a vertex in the first shells of a solid (own). It looks into the table of all faces.
+/// The faces at a vertex in the first shells of a solid. It looks into the table of all faces.
 #[derive(Drop)]
 pub struct FacesUpTo<'a> {
     touches: &'a [FaceAtVertex],
@@ -146,7 +146,7 @@ fn vertices_of(alloc: Global, touches: &[FaceAtVertex]) -> Result<Vec<u32>, NoMe
     Ok(out)
 }
 
-/// The faces of a solid at each of its vertices (own). It goes once over all uses.
+/// The faces of a solid at each of its vertices. It goes once over all uses.
 pub fn faces_by_vertex(alloc: Global, solid: &Solid) -> Result<VertexFaces, NoMemory>
     ensures { IfOk result (λ faces. faces ≡ touches_of solid.now) }
 {
@@ -198,7 +198,7 @@ impl VertexFaces {
     ghost use Rattle.vertex_facts.specs.FaceTable.{touches_of};
     ghost use Rattle.vertex_facts.specs.VertexFaces.{faces_up_to};
 
-    /// The faces at a vertex in a shell and in the shells before it: shell by shell, and in each as listed (own). Where
+    /// The faces at a vertex in a shell and in the shells before it: shell by shell, and in each as listed. Where
     /// they end is found by halving, and none is copied.
     pub fn up_to(&self, shell: ShellAt, vertex: VertexId) -> FacesUpTo<'_>
         ensures { (s : SolidData) → self.now ≡ touches_of s → vertex.0 < length s.vertices
@@ -224,7 +224,7 @@ impl<'a> FacesUpTo<'a> {
         self.places.len()
     }
 
-    /// The face at a place of this list, from 0, after the number of its shell, from 0 (own).
+    /// The face at a place of this list, from 0, after the number of its shell, from 0.
     pub fn face(&self, i: usize) -> (u32, EntryNo)
         requires { i < length self.now }
         ensures { slice_get self.now i ≡ Some result }

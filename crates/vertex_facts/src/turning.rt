@@ -14,7 +14,7 @@ use solid_data::{LoopAt, RowId, VertexId};
 use solid_faults::{Groups, grouped};
 use std::alloc::Global;
 
-/// What lies at a vertex: a row of a fan, or a loop without an edge (own).
+/// What lies at a vertex: a row of a fan, or a loop without an edge.
 #[derive(Clone, Copy, Debug, PartialEq, Eq)]
 pub enum AtVertex {
     /// A row that starts there, and the number of its fan among the vertex's, from 1.
@@ -24,7 +24,7 @@ pub enum AtVertex {
 }
 
 /// Tables of a shell by which its fans are described, each made once: the rows by the vertices where they start, the
-/// rows by their fans, and the loops without an edge by their vertices (own).
+/// rows by their fans, and the loops without an edge by their vertices.
 #[derive(Drop)]
 pub struct VertexTables {
     starts: Groups,
@@ -67,7 +67,7 @@ fn rows_by_fan(alloc: Global, leasts: &[u32]) -> Result<Groups, NoMemory>
     grouped(alloc, numbers, range)
 }
 
-/// The tables of a shell, whose rows are given with the least row of the fan of each (own).
+/// The tables of a shell, whose rows are given with the least row of the fan of each.
 pub fn vertex_tables(
     alloc: Global,
     paired: &Paired<'_>,
@@ -206,7 +206,7 @@ fn push_alone(
 }
 
 /// What lies at a vertex: its fans, by their least rows, each from its least row on by turns, and then the loops
-/// without an edge, in file order (own).
+/// without an edge, in file order.
 pub fn around(
     alloc: Global,
     paired: &Paired<'_>,

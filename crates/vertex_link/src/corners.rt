@@ -3,7 +3,7 @@
 use solid_data::{Corner, Corners};
 use std::marker::Model;
 
-/// A corner for each vertex of a shell, by rising number (own).
+/// A corner for each vertex of a shell, by rising number.
 #[derive(Drop)]
 pub struct Links {
     corners: Corners,
@@ -27,22 +27,21 @@ impl Links {
         Links { corners }
     }
 
-    /// How many vertices occur in the shell (own).
+    /// How many vertices occur in the shell.
     pub fn len(&self) -> usize
         ensures { result ≡ length self.now }
     {
         self.corners.len()
     }
 
-    /// What lies round the i-th vertex of the shell, by rising number, i from 0; None past the end
-    /// (own).
+    /// What lies round the i-th vertex of the shell, by rising number, i from 0; None past the end.
     pub fn corner(&self, i: usize) -> Option<&Corner>
         ensures { option_copied result ≡ slice_get self.now i }
     {
         self.corners.get(i)
     }
 
-    /// What lies round each vertex, by rising number (own).
+    /// What lies round each vertex, by rising number.
     pub fn into_corners(self) -> Corners
         ensures { result ≡ self }
     {

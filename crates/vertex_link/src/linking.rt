@@ -37,7 +37,7 @@ fn corners_of(
     ensures fault { IfErr result (λ fault. IsLinkFault paired.now fault) }
 {
     let rows = paired.rows();
-    let mut corners = Corners::new(alloc);
+    let mut corners = Corners::with_room(alloc, rows.vertex_slice().len())?;
     'vertices: for i in 0..rows.vertex_count() {
         let vertex = vertex_at(rows, i);
         let corner = corner_at(
@@ -56,7 +56,7 @@ fn corners_of(
 }
 
 /// For each vertex of a shell, by rising number, the cycle of the rows that start there, from the
-/// least one on by turns, or its one loop without an edge (own).
+/// least one on by turns, or its one loop without an edge.
 pub fn links(alloc: Global, paired: &Paired<'_>) -> Result<Links, LinkFault>
     ensures links { IfOk result (λ links. AreLinks paired.now links) }
     ensures linked { IfOk result (λ _. AllByRecursion (IsLinked paired.now) paired.now.vertices) }

@@ -1,7 +1,7 @@
 -- What the words of a command line ask for.
 use Rattle.std.specs.Prelude.{ℕ, Bool, true, false, ◌&&◌, nat_le, List, [], ◌∷◌, length, Option, Some, None, bytes_eq, codes, if◌then◌else◌}
 use Rattle.std.specs.Str.Parse.{digits_value}
-use Rattle.iges_fields.specs.Word.{are_digits}
+use Rattle.iges_base.specs.Word.{are_digits}
 use Rattle.where_text.specs.declared.listing.Listing.{Listing}
 use Rattle.where_text.specs.declared.listing.Listing.TheVariants as listing
 use Rattle.where_command.specs.declared.asked.Asked.{Asked}

@@ -1,5 +1,5 @@
 ghost use Rattle.std.specs.Prelude.{◌≡◌, ◌&&◌, None, MatchOption, bytes_eq, codes, false, if◌then◌else◌, length, map, nat_le, string_bytes, true};
-ghost use Rattle.iges_fields.specs.Word.{are_digits};
+ghost use Rattle.iges_base.specs.Word.{are_digits};
 ghost use Rattle.std.specs.Char.{is_ascii_digit};
 ghost use Rattle.std.specs.List.{list_all};
 ghost use Rattle.std.specs.Str.Parse.{digits_value};
@@ -7,7 +7,7 @@ ghost use Rattle.where_command.specs.Asked.{asked_of, is_number, one_asked};
 
 use where_text::Listing;
 
-/// What the words of a command line ask for (own).
+/// What the words of a command line ask for.
 #[derive(Clone, Copy, Debug, PartialEq, Eq)]
 pub enum Asked {
     /// The verdict on each solid of the file.

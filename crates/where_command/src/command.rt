@@ -59,7 +59,7 @@ fn finish<O: Sink>(out: &mut O, reply: Reply) -> Answer
     }
 }
 
-/// Runs what these words ask for: reads the file, forms the whole text that is due, and then writes it (own).
+/// Runs what these words ask for: reads the file, forms the whole text that is due, and then writes it.
 ///
 /// The answer says how the run ended; its `code` is the program's status.
 pub fn run_where<F: Source, O: Sink>(

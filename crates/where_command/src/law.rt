@@ -1,11 +1,11 @@
 ghost use Rattle.where_command.specs.Laws.{ClosedIsTold, OneAnswerIsOwed};
 
-/// For given words and bytes at most one answer is owed, and one text with it (own).
+/// For given words and bytes at most one answer is owed, and one text with it.
 pub fn one_answer()
     ensures { OneAnswerIsOwed }
 {}
 
-/// Of a solid yes is answered exactly where it is closed (own).
+/// Of a solid yes is answered exactly where it is closed.
 pub fn closed_is_told()
     ensures { ClosedIsTold }
 {}

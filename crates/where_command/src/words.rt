@@ -8,7 +8,7 @@ use std::alloc::Global;
 use std::env::Args;
 use std::marker::Model;
 
-/// The words of a command line, without the program's name (own).
+/// The words of a command line, without the program's name.
 #[derive(Debug, Drop)]
 pub struct Words {
     alloc: Global,
@@ -35,7 +35,7 @@ fn first_of(words: &[String]) -> Option<&str>
 }
 
 impl Words {
-    /// No words, as where there is the program's name alone (own).
+    /// No words, as where there is the program's name alone.
     pub fn new(alloc: Global) -> Words
         ensures { result ≡ [] }
     {
@@ -45,7 +45,7 @@ impl Words {
         }
     }
 
-    /// All words that the system gives but the first, which is the program's name (own). It errs only where memory runs
+    /// All words that the system gives but the first, which is the program's name. It errs only where memory runs
     /// out.
     pub fn behind_name(alloc: Global, args: Args) -> Result<Words, NoMemory>
         ensures { IfOk result (λ words. words ≡ drop 1 (map string_bytes (into_iter_items args))) }
@@ -54,7 +54,7 @@ impl Words {
         Ok(Words { alloc, words })
     }
 
-    /// Puts a word at the end (own). Where memory runs out, the words stay as they were.
+    /// Puts a word at the end. Where memory runs out, the words stay as they were.
     pub fn push(&mut self, word: &str) -> Result<(), NoMemory>
         ensures ok { OnOk result (self.new ≡ self.old ++ word.now ∷ []) }
         ensures err { OnErr result (self.new ≡ self.old) }
@@ -64,14 +64,14 @@ impl Words {
         Ok(())
     }
 
-    /// What the words ask for; None where they have no listed form (own).
+    /// What the words ask for; None where they have no listed form.
     pub fn asked(&self) -> Option<Asked>
         ensures { result ≡ asked_of self.now }
     {
         asked_in(self.words.as_slice())
     }
 
-    /// The name of the file that the words name; None where they have no listed form (own).
+    /// The name of the file that the words name; None where they have no listed form.
     pub fn file(&self) -> Option<&str>
         ensures { MatchOption result (file_named self.now ≡ None)
             (λ name. file_named self.now ≡ Some name.now) }

@@ -191,7 +191,7 @@ fn put_gaps(
 }
 
 /// Appends the paragraph on the gaps of a shell's loops: the rule, its sentence, and for each gap its loop and tuple, its
-/// face, the two tuples, and where one ends and the other starts; nothing where there is no gap (own). The faces join the
+/// face, the two tuples, and where one ends and the other starts; nothing where there is no gap. The faces join the
 /// numbers that facts name.
 #[tactic(auto, unfolding(crate::specs::Join::join_text, crate::specs::Join::join_named))]
 pub fn put_join(

@@ -255,7 +255,7 @@ fn put_edges_of_shell(
 
 /// Appends the paragraph on the edges of a shell that aren't paired: the rule, how many of them are used once, twice and more
 /// often, its sentence, and for each edge its rows by direction, its curve, its ends, and each row with its face, loop and
-/// tuple and its flags; nothing where there is no such edge (own). The faces join the numbers that facts name. It goes once
+/// tuple and its flags; nothing where there is no such edge. The faces join the numbers that facts name. It goes once
 /// over the shell's uses.
 #[tactic(auto, unfolding(crate::specs::Pair::pair_text, crate::specs::Pair::pair_named))]
 pub fn put_pair(

@@ -49,7 +49,7 @@ fn push_if(
     Ok(())
 }
 
-/// Of these numbers those that name an entry, by rising number, each once (own).
+/// Of these numbers those that name an entry, by rising number, each once.
 #[tactic(auto, unfolding(crate::specs::Entities::described))]
 pub fn described(
     alloc: Global,

@@ -102,7 +102,7 @@ fn put_paragraphs(
 
 /// Appends the part of a text that describes entities: of these numbers those that name an entry, by rising number, each
 /// once. It is an empty line, a line with how many there are, and for each a line with its type and its facts; nothing where
-/// there are none (own).
+/// there are none.
 #[tactic(auto, unfolding(crate::specs::Entities::entities_text))]
 pub fn put_entities(
     alloc: Global,

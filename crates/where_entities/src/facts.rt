@@ -68,7 +68,7 @@ pub fn put_facts(
 }
 
 /// Appends the facts of the entity that a number names, each a line after two spaces: its level, colour, matrix, label,
-/// subscript and names, each where it is there (IGES 5.3, 2.2.4.4). Nothing where the number names none (own).
+/// subscript and names, each where it is there (IGES 5.3, 2.2.4.4). Nothing where the number names none.
 pub fn put_entity_facts(
     alloc: Global,
     out: &mut Out,

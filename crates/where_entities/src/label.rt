@@ -1,6 +1,6 @@
 //! The label of an entity.
 
-ghost use Rattle.iges_fields.specs.Word.{trim};
+ghost use Rattle.iges_base.specs.Word.{trim};
 ghost use Rattle.std.specs.Prelude.{◌≡◌, ◌++◌, OnOk};
 ghost use Rattle.where_entities.specs.Facts.{label_fact};
 

@@ -104,7 +104,7 @@ fn put_each(out: &mut Out, file: &File, names: &ItemList<i64>) -> Result<(), NoM
 }
 
 /// Appends a fact for each name of an entity of which a solid is made: each property of form 15 in the second group after
-/// its own values (IGES 5.3, 2.2.4.5.2 and type 406). There are none where the record doesn't fit its type (own).
+/// its own values (IGES 5.3, 2.2.4.5.2 and type 406). There are none where the record doesn't fit its type.
 pub fn put_names(
     alloc: Global,
     out: &mut Out,

@@ -151,7 +151,7 @@ fn put_apart_lines(
 }
 
 /// Appends the paragraph on the vertices that a shell shares with shells before it, for a solid whose faces at each vertex
-/// are given (own); nothing where there are none.
+/// are given; nothing where there are none.
 pub fn put_apart(
     out: &mut Out,
     named: &mut EntryNumbers,

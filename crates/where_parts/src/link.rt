@@ -341,7 +341,7 @@ fn put_link_lines(
     put_more_items(out, vertices.len() - count)
 }
 
-/// Appends the paragraph on the vertices of a shell that aren't linked, whose rows and fans are given (own); nothing where
+/// Appends the paragraph on the vertices of a shell that aren't linked, whose rows and fans are given; nothing where
 /// there are none.
 pub fn put_link(
     alloc: Global,

@@ -199,7 +199,7 @@ fn put_reach_lines(
 }
 
 /// Appends the paragraph on a shell that falls into parts, whose rows, first faces of parts and edges that aren't paired
-/// are given (own); nothing where it is one part.
+/// are given; nothing where it is one part.
 pub fn put_reach(
     alloc: Global,
     out: &mut Out,

@@ -179,7 +179,7 @@ fn put_rule_facts(
     }
 }
 
-/// Appends the facts about the bad value of a solid's record (own). It errs only where memory runs out; then some of
+/// Appends the facts about the bad value of a solid's record. It errs only where memory runs out; then some of
 /// them may have been appended.
 #[tactic(auto, unfolding(crate::specs::RecordText::bad_facts))]
 pub fn put_bad_facts(

@@ -44,7 +44,7 @@ fn put_path_lines(
 
 /// Appends the paragraph of a rule on the records of a solid that fails, with its empty line: the rule and its
 /// sentence, the entity and the place, the bad value and what is due there, what the rule says of it, and the path to
-/// it, if there is one (own). The entity and those on the path join those that facts name. It errs only where memory
+/// it, if there is one. The entity and those on the path join those that facts name. It errs only where memory
 /// runs out; then some of the paragraph may have been appended. It goes once over the record of the failing entity,
 /// and for a shell, a face or a loop that is named twice once over the solid's records up to the first place.
 #[tactic(auto, unfolding(crate::specs::RecordText::record_text, crate::specs::RecordText::record_named))]

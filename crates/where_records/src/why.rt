@@ -5,7 +5,7 @@ ghost use Rattle.where_records.specs.RecordText.{why_word};
 
 use iges_params::File;
 
-/// Why the number names no entry (IGES 5.3, 2.2.4.4), where it doesn't; the first reason that holds (own).
+/// Why the number names no entry (IGES 5.3, 2.2.4.4), where it doesn't; the first reason that holds.
 pub fn why(file: &File, number: i64) -> &'static str
     ensures { result.now ≡ why_word file.now number }
 {

@@ -1,6 +1,6 @@
 -- All that fails in a solid, shell by shell.
 use Rattle.std.specs.Prelude.{◌≡◌, ℕ, ◌+◌, Bool, true, false, not, ◌&&◌, List, [], ◌∷◌, ◌++◌, length, Option, Some, None, slice_get, if◌then◌else◌}
-use Rattle.iges_fields.specs.Word.{is_empty}
+use Rattle.iges_base.specs.Word.{is_empty}
 use Rattle.solid_data.specs.SolidData.{SolidData}
 use Rattle.solid_data.specs.declared.solid.Shell.{Shell}
 use Rattle.solid_faults.specs.Faults.{Faults, Linking, AreFaults}

@@ -2,7 +2,7 @@
 use Rattle.std.specs.Prelude.{◌≡◌, ◌⊎◌, ℕ, ◌<◌, Bool, false, not, List, [], ◌∷◌, ◌++◌, flat_map, Option, Some, None, IsTrue, count_by, slice_get, codes, decimal}
 use Rattle.std.specs.List.{list_any}
 use Rattle.iges_base.specs.declared.entry_no.EntryNo.{EntryNo}
-use Rattle.iges_fields.specs.Word.{is_empty}
+use Rattle.iges_base.specs.Word.{is_empty}
 use Rattle.solid_data.specs.SolidData.{SolidData}
 use Rattle.solid_data.specs.declared.solid.FaceUse.{FaceUse}
 use Rattle.solid_data.specs.declared.solid.Shell.{Shell}

@@ -1,6 +1,6 @@
 //! All that fails in a solid, shell by shell.
 
-ghost use Rattle.iges_fields.specs.Word.{is_empty};
+ghost use Rattle.iges_base.specs.Word.{is_empty};
 ghost use Rattle.solid_data.specs.Numbering.{IsNumberedSolid};
 ghost use Rattle.solid_faults.specs.Parts.{faces_apart};
 ghost use Rattle.std.specs.Prelude.{◌≡◌, ◌++◌, ◌∷◌, [], IfOk, OnOk, ◌<◌, Some, length, option_copied, slice_get, if◌then◌else◌};
@@ -13,7 +13,7 @@ use solid_data::{Shell, ShellAt, Solid};
 use solid_faults::{Linking, ShellFaults, below_next, faults_of};
 use std::alloc::Global;
 
-/// All that fails in each shell of a solid, in order (own).
+/// All that fails in each shell of a solid, in order.
 pub type AllFaults = ItemList<ShellFaults>;
 
 /// The shell at a place, from 0.
@@ -26,7 +26,7 @@ pub fn shell_at(solid: &Solid, k: usize) -> &Shell
     solid.shell(ShellAt(k as u32)).unwrap()
 }
 
-/// All that fails in the shells of a solid (own). It goes once over the uses of each.
+/// All that fails in the shells of a solid. It goes once over the uses of each.
 pub fn all_faults(alloc: Global, solid: &Solid) -> Result<AllFaults, NoMemory>
     ensures { IfOk result (λ all. AreAllFaults solid.now all) }
 {
@@ -71,7 +71,7 @@ fn push_if(list: &mut Vec<u32>, wanted: bool, k: u32) -> Result<(), NoMemory>
     Ok(())
 }
 
-/// The numbers of the shells in which a rule fails, from 0 (own).
+/// The numbers of the shells in which a rule fails, from 0.
 #[tactic(auto, unfolding(crate::specs::AllFaults::failing_shells))]
 pub fn failing_shells(alloc: Global, all: &AllFaults) -> Result<Vec<u32>, NoMemory>
     requires { length all.now < PART_LIMIT }

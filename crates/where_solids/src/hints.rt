@@ -109,7 +109,7 @@ fn put_flags(out: &mut Out, unset: usize) -> Result<(), NoMemory>
 }
 
 /// Appends the hint on face flags where edges aren't paired in a shell that is described, a face has the flag 0, and with all
-/// face flags 1 the solid is closed (own). It copies the solid.
+/// face flags 1 the solid is closed. It copies the solid.
 pub fn put_flags_hint(
     alloc: Global,
     out: &mut Out,

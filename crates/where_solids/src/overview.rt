@@ -20,7 +20,7 @@ use std::alloc::Global;
 use where_entities::put_entity_facts;
 use where_text::{EntryNumbers, put_number};
 
-/// Whether there are solids and all are closed, and a text that speaks of each (own).
+/// Whether there are solids and all are closed, and a text that speaks of each.
 #[derive(Drop)]
 pub struct Overview {
     pub all_closed: bool,
@@ -162,7 +162,7 @@ fn all_closed(solids: usize, failing: usize) -> bool
     solids > 0 && failing == 0
 }
 
-/// Says of each solid of a file, in directory order, whether it is closed, or the first rule that fails (own). It errs only
+/// Says of each solid of a file, in directory order, whether it is closed, or the first rule that fails. It errs only
 /// where memory runs out. Each solid's records are walked once.
 pub fn tell_all(alloc: Global, file: &File) -> Result<Overview, NoMemory>
     ensures { IfOk result (λ told. (vs : List AnyVerdict) × IsOverview file.now vs told.text

@@ -35,7 +35,7 @@ fn put_start(
 }
 
 /// Appends what follows the verdict on a solid of which a rule on the records fails: the units, or where the number names no
-/// solid which do; the paragraph of the rule, and those of the entities that it names (own).
+/// solid which do; the paragraph of the rule, and those of the entities that it names.
 #[tactic(auto, unfolding(crate::specs::Told::record_rest))]
 pub fn put_record_rest(
     alloc: Global,

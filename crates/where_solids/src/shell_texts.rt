@@ -68,7 +68,7 @@ fn put_shell(
 }
 
 /// The lines of these shells, given by their numbers from 0, and their paragraphs; beside them the entities that the
-/// paragraphs name, and before these the solid itself (own).
+/// paragraphs name, and before these the solid itself.
 pub fn shell_texts(
     alloc: Global,
     file: &File,

@@ -27,7 +27,7 @@ use std::alloc::Global;
 use where_entities::put_entities;
 use where_text::{Listing, put_more_items, shown_members};
 
-/// The verdict on a solid, and a text that says where it fails (own).
+/// The verdict on a solid, and a text that says where it fails.
 #[derive(Drop)]
 pub struct Told {
     pub verdict: Verdict,
@@ -135,7 +135,7 @@ fn of_shells(
 }
 
 /// The verdict on the solid with this number, and where it fails. Where a rule on its records fails, that is reported
-/// alone; else all that fails in its shells (own). It errs only where memory runs out. The solid's records are walked once,
+/// alone; else all that fails in its shells. It errs only where memory runs out. The solid's records are walked once,
 /// and the uses of each failing shell that is described a few times.
 pub fn tell(alloc: Global, file: &File, no: EntryNo, listing: Listing) -> Result<Told, NoMemory>
     ensures { IfOk result (λ told. IsToldOf listing file.now no told.verdict told.text) }

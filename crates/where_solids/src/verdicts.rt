@@ -133,7 +133,7 @@ fn failing_at(solid: &Solid, all: &AllFaults, k: usize) -> Option<Failing>
     first_failing(solid, shell, faults)
 }
 
-/// The verdict on a solid, of which each obligation on its records holds and this is all that fails in its shells (own).
+/// The verdict on a solid, of which each obligation on its records holds and this is all that fails in its shells.
 pub fn verdict(solid: &Solid, all: &AllFaults) -> Verdict
     requires { AreAllFaults solid.now all.now }
     ensures { IsVerdict (solid_obligations solid.now) result }

@@ -5,10 +5,10 @@ ghost use Rattle.where_text.specs.Listing.{left_line, shown, shown_count};
 
 use iges_fields::{EntryNo, ItemList, NoMemory, Out, write_number};
 
-/// How many members of a list are written where only few are (own).
+/// How many members of a list are written where only few are.
 const LIMIT: usize = 20;
 
-/// How many members of each list are written (own).
+/// How many members of each list are written.
 #[derive(Clone, Copy, Debug, PartialEq, Eq)]
 pub enum Listing {
     /// The first 20 members.
@@ -21,7 +21,7 @@ impl Listing {
     ghost use Rattle.std.specs.Prelude.{◌≡◌};
     ghost use Rattle.where_text.specs.Listing.{shown_count};
 
-    /// How many members of a list of so many are written: the first ones (own).
+    /// How many members of a list of so many are written: the first ones.
     pub fn count(self, len: usize) -> usize
         ensures { result ≡ shown_count self len }
     {
@@ -40,7 +40,7 @@ fn shown_length(listing: Listing, len: usize) -> usize
     listing.count(len)
 }
 
-/// The members of a list that are written: the first ones (own).
+/// The members of a list that are written: the first ones.
 pub fn shown_members<T>(listing: Listing, members: &[T]) -> &[T]
     ensures { result.now ≡ shown listing members.now }
 {
@@ -48,7 +48,7 @@ pub fn shown_members<T>(listing: Listing, members: &[T]) -> &[T]
     &members[..count]
 }
 
-/// Numbers of entries that written facts name, in the order of writing, with repeats (own).
+/// Numbers of entries that written facts name, in the order of writing, with repeats.
 pub type EntryNumbers = ItemList<EntryNo>;
 
 // The line that says how many more there are; nothing where there are none.
@@ -65,14 +65,14 @@ fn put_left(out: &mut Out, indent: &str, left: usize) -> Result<(), NoMemory>
     out.put(b"\n")
 }
 
-/// Appends the line that says how many paragraphs of a list aren't written; nothing where all are (own).
+/// Appends the line that says how many paragraphs of a list aren't written; nothing where all are.
 pub fn put_more_items(out: &mut Out, left: usize) -> Result<(), NoMemory>
     ensures text { OnOk result (out.new ≡ out.old ++ left_line [] left) }
 {
     put_left(out, "", left)
 }
 
-/// Appends the line that says how many facts of a list aren't written; nothing where all are (own).
+/// Appends the line that says how many facts of a list aren't written; nothing where all are.
 pub fn put_more_facts(out: &mut Out, left: usize) -> Result<(), NoMemory>
     ensures text { OnOk result (out.new ≡ out.old ++ left_line (codes "  ") left) }
 {

@@ -12,7 +12,7 @@ fn masked_byte(b: u8) -> u8
     if b < 32 || b == 127 { b'?' } else { b }
 }
 
-/// Appends the bytes, each below 32 and each 127 as `?`, so that no line of the text is broken by them (own).
+/// Appends the bytes, each below 32 and each 127 as `?`, so that no line of the text is broken by them.
 pub fn put_masked(out: &mut Out, bytes: &[u8]) -> Result<(), NoMemory>
     ensures text { OnOk result (out.new ≡ out.old ++ masked bytes.now) }
 {

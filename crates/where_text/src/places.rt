@@ -29,7 +29,7 @@ fn put_coordinate(out: &mut Out, file: &File, key: VertexKey, axis: usize) -> Re
 }
 
 /// Appends a vertex: the number of its list, its index there from 1, and its coordinates as the list's record spells them,
-/// `-` where it has none (IGES 5.3, 4.145). Each of the five words comes after a space (own).
+/// `-` where it has none (IGES 5.3, 4.145). Each of the five words comes after a space.
 #[tactic(auto, unfolding(crate::specs::Places::vertex_words))]
 pub fn put_vertex(out: &mut Out, file: &File, key: VertexKey) -> Result<(), NoMemory>
     ensures text { OnOk result (out.new ≡ out.old ++ vertex_words file.now key) }
@@ -52,7 +52,7 @@ fn surface_of(file: &File, face: EntryNo) -> i64
 }
 
 /// Appends a face: its number and the word for the type of its surface, each after a space (IGES 5.3, 4.148). The face's
-/// number joins the numbers that facts name (own).
+/// number joins the numbers that facts name.
 #[tactic(auto, unfolding(crate::specs::Places::face_words))]
 pub fn put_face(
     out: &mut Out,

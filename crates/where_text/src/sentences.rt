@@ -79,14 +79,14 @@ fn reason_sentence(reason: Reason) -> &'static str
     }
 }
 
-/// Appends the sentence of a rule as facts of at most 78 columns (own).
+/// Appends the sentence of a rule as facts of at most 78 columns.
 pub fn put_rule_sentence(out: &mut Out, rule: Rule) -> Result<(), NoMemory>
     ensures text { OnOk result (out.new ≡ out.old ++ rule_sentence rule) }
 {
     out.put(rule_sentence(rule).as_bytes())
 }
 
-/// Appends the sentence of a reason for which a file is refused, as facts of at most 78 columns (own).
+/// Appends the sentence of a reason for which a file is refused, as facts of at most 78 columns.
 pub fn put_reason_sentence(out: &mut Out, reason: Reason) -> Result<(), NoMemory>
     ensures text { OnOk result (out.new ≡ out.old ++ reason_sentence reason) }
 {

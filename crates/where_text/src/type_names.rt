@@ -6,7 +6,7 @@ ghost use Rattle.where_text.specs.Spelled.{signed};
 ghost use Rattle.where_text.specs.Types.{type_names, type_word};
 ghost use Rattle.where_text.specs.TypeTable.{name_meant};
 
-/// An entity type, by its number, and the word for it (own).
+/// An entity type, by its number, and the word for it.
 #[derive(Clone, Copy, Debug)]
 pub struct TypeName(pub i64, pub &'static str);
 
@@ -71,7 +71,7 @@ fn listed() -> &'static [TypeName]
     TYPE_NAMES
 }
 
-/// The word of a type that has one of its own (own).
+/// The word of a type that has one of its own.
 pub fn known_word(kind: i64) -> Option<&'static str>
     ensures { MatchOption result (type_word kind ≡ codes "type-" ++ signed kind)
         (λ word. type_word kind ≡ word.now) }

@@ -11,7 +11,7 @@ use iges_params::File;
 use itoa::Buffer;
 
 /// The number as an entry's, unless it lies outside the directory (IGES 5.3, 2.2.4.4). An entry of type 0 counts as
-/// within it (own).
+/// within it.
 pub fn entry_no(file: &File, number: i64) -> Option<EntryNo>
     ensures { MatchOption result (named file.now number ≡ None) (λ no. number ≡ pos no.0) }
 {
@@ -38,7 +38,7 @@ fn put_name(out: &mut Out, kind: i64) -> Result<(), NoMemory>
     }
 }
 
-/// Appends a space and the word of a type (own).
+/// Appends a space and the word of a type.
 pub fn put_type_word(out: &mut Out, kind: i64) -> Result<(), NoMemory>
     ensures text { OnOk result (out.new ≡ out.old ++ space_word (type_word kind)) }
 {
@@ -46,7 +46,7 @@ pub fn put_type_word(out: &mut Out, kind: i64) -> Result<(), NoMemory>
     put_name(out, kind)
 }
 
-/// Appends a space and the word for the type of the entry that the number names; `-` where it names none (own).
+/// Appends a space and the word for the type of the entry that the number names; `-` where it names none.
 #[tactic(auto, unfolding(crate::specs::Types::type_of))]
 pub fn put_type(out: &mut Out, file: &File, number: i64) -> Result<(), NoMemory>
     ensures text { OnOk result (out.new ≡ out.old ++ space_word (type_of file.now number)) }

@@ -7,7 +7,7 @@ use crate::masking::put_masked;
 use iges_fields::{NoMemory, Out, Value};
 use itoa::Buffer;
 
-/// Appends a space and the word (own).
+/// Appends a space and the word.
 pub fn put_word(out: &mut Out, word: &str) -> Result<(), NoMemory>
     ensures text { OnOk result (out.new ≡ out.old ++ space_word word.now) }
 {
@@ -15,7 +15,7 @@ pub fn put_word(out: &mut Out, word: &str) -> Result<(), NoMemory>
     out.put(word.as_bytes())
 }
 
-/// Appends a space and the number's digits, after a minus where it is negative (own).
+/// Appends a space and the number's digits, after a minus where it is negative.
 pub fn put_signed(out: &mut Out, n: i64) -> Result<(), NoMemory>
     ensures text { OnOk result (out.new ≡ out.old ++ space_word (signed n)) }
 {
@@ -36,7 +36,7 @@ fn put_spelled(out: &mut Out, value: &Value) -> Result<(), NoMemory>
 }
 
 /// Appends a space and the value as it is shown: an integer by its digits, a real by its word as it was read, a text by its
-/// bytes, each that isn't printed as `?`; `-` for none and for a value that is left out (own).
+/// bytes, each that isn't printed as `?`; `-` for none and for a value that is left out.
 pub fn put_value(out: &mut Out, value: Option<&Value>) -> Result<(), NoMemory>
     ensures text { OnOk result (out.new ≡ out.old
         ++ space_word (spelled_if (option_copied value.entry))) }

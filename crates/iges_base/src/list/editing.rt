@@ -3,7 +3,7 @@ ghost use Rattle.std.specs.Prelude.{◌≡◌, ◌<◌, length, set, take};
 use crate::list::ItemList;
 
 impl<T: Drop> ItemList<T> {
-    /// Puts an item in the place of the i-th, counted from 0, which is dropped (own).
+    /// Puts an item in the place of the i-th, counted from 0, which is dropped.
     #[inline(always)]
     pub fn set(&mut self, i: usize, item: T)
         requires { i < length self.old }
@@ -12,7 +12,7 @@ impl<T: Drop> ItemList<T> {
         self.items[i] = item;
     }
 
-    /// Drops all items after the first so many (own).
+    /// Drops all items after the first so many.
     pub fn truncate(&mut self, count: usize)
         ensures { self.new ≡ take count self.old }
     {

@@ -5,7 +5,7 @@ use crate::value::Value;
 use crate::value_list::Values;
 
 impl Values {
-    /// Puts a value in the place of the i-th, counted from 0, which is dropped (own).
+    /// Puts a value in the place of the i-th, counted from 0, which is dropped.
     #[inline(always)]
     pub fn set(&mut self, i: usize, value: Value)
         requires within { i < length self.old }
@@ -15,7 +15,7 @@ impl Values {
         self.values.set(i, value);
     }
 
-    /// Drops all values after the first so many (own).
+    /// Drops all values after the first so many.
     pub fn truncate(&mut self, count: usize)
         ensures { self.new ≡ take count self.old }
     {

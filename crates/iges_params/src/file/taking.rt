@@ -7,7 +7,7 @@ use std::alloc::Global;
 use std::mem;
 
 impl File {
-    /// Takes the values of the record of the i-th entry, i from 0, which has none from then on (own).
+    /// Takes the values of the record of the i-th entry, i from 0, which has none from then on.
     pub fn take_values(&mut self, alloc: Global, i: usize) -> Values
         requires { i < length self.old.entries }
         ensures taken { option_map (λ e. e.1) (slice_get self.old.entries i) ≡ Some result }

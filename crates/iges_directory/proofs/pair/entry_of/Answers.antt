@@ -1,9 +1,16 @@
 use Rattle.std.proofs.Common.{◌∙◌, sym, rules}
 use mir.Val.{SFits}
 use mir.Syntax.{w64}
-use Rattle.iges_directory.proofs.InColumns.{read_fits}
-use Rattle.iges_directory.proofs.Pairs.{types_differ, out_of_range, in_range, lies_read}
+use Rattle.iges_directory.proofs.InColumns.{read_fits, read_holds}
+use Rattle.iges_directory.proofs.Pairs.{second_fails, types_differ, out_of_range, in_range, lies_read}
 use Rattle.iges_directory.proofs.pair.entry_of.Goals as goal
+
+pub second_half-requires-clause-held : goal.second_half-requires-clause-held
+second_half-requires-clause-held c =
+    let fits : SFits w64 c.in-Some.one.kind = search rules in read_holds 1 c.args.first.now _ fits c.in-Some.ensures.some.kind
+
+pub returns-in_default-second_half : goal.returns-in_default-second_half
+returns-in_default-second_half c = second_fails c.args.params c.args.first.now c.args.second.now c.in-Some.one c.in-Some.ensures.some c.in_default-second_half.ensures.none
 
 pub returns-then-not-have_one_type : goal.returns-then-not-have_one_type
 returns-then-not-have_one_type c =

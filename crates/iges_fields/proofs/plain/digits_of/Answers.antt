@@ -1,5 +1,5 @@
 use Rattle.std.proofs.Common.{◌≡◌, ℕ, ◌+◌, ◌*◌, ◌^◌, subst, sym, ◌∙◌, refl, arith}
-use Rattle.iges_fields.proofs.PlainIntegers.{IsDigitsSoFar, digits_few, digit_next, digit_small}
+use Rattle.iges_fields.proofs.PlainIntegers.{IsDigitsSoFar, digits_few, digit_next}
 use Rattle.iges_fields.proofs.plain.digits_of.Goals as goal
 
 pub overflow_mul-value : goal.overflow_mul-value

@@ -1,5 +1,3 @@
-use Rattle.std.proofs.Common.{ap}
-use Rattle.iges_fields.specs.Reading.{values_of}
 use Rattle.iges_fields.proofs.Loop.{parted_fault, parted_found}
 use Rattle.iges_fields.proofs.FaultPlaces.{places_within}
 use Rattle.iges_fields.proofs.Whole.{FreeText-read_values, IsFieldFault-read_values}

@@ -11,16 +11,16 @@ returns-in-Some c =
 pub returns-in_err-number : goal.returns-in_err-number
 returns-in_err-number c =
     let p = err_from_is_err_and c.from_residual-in_err-number.result c.from_residual-in_err-number.ensures.1 in
-    let put = c.in_ok-put_text.ensures {u = tt} in
+    let put = c.in_ok-columns.ensures {u = tt} in
     let none = sym c.in_default.is ∙ c.first_foreign.ensures.place in
     rw (p.1, p.2) (
-    text_fails c.args.above c.args.sections.now.param c.args.delims c.args.number c.args.placed.now _ _ _ c.magnitude-place.ensures c.magnitude-count.ensures refl none c.as_slice-columns.result.now (c.as_slice-columns.ensures.value ∙ put.text) _
+    text_fails c.args.above c.args.sections.now.param c.args.delims c.args.number c.args.placed.now _ _ _ c.magnitude-place.ensures c.magnitude-count.ensures refl none c.in_ok-columns.columns.now put.text _
     (c.in_err-number.ensures {u = tt}).err
     )
 
 pub returns : goal.returns
 returns c =
-    let put = c.in_ok-put_text.ensures {u = tt} in
+    let put = c.in_ok-columns.ensures {u = tt} in
     let none = sym c.in_default.is ∙ c.first_foreign.ensures.place in
-    text_goes_on c.args.above c.args.sections.now.param c.args.delims c.args.number c.args.placed.now _ _ _ c.magnitude-place.ensures c.magnitude-count.ensures refl none c.as_slice-columns.result.now (c.as_slice-columns.ensures.value ∙ put.text) _ _
+    text_goes_on c.args.above c.args.sections.now.param c.args.delims c.args.number c.args.placed.now _ _ _ c.magnitude-place.ensures c.magnitude-count.ensures refl none c.in_ok-columns.columns.now put.text _ _
     (c.in_ok-number.ensures {u = tt}).ok c.behind_type.ensures

@@ -1,5 +1,5 @@
 use Rattle.std.proofs.Common.{sym, ◌∙◌, arith}
-use Rattle.iges_fields.proofs.EndTrim.{end_trim-space}
+use Rattle.iges_base.proofs.EndTrim.{end_trim-space}
 use Rattle.where_entities.proofs.label.trimmed.Goals as goal
 
 pub spaces-preserved : goal.spaces-preserved

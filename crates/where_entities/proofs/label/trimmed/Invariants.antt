@@ -1,5 +1,5 @@
 use Rattle.std.proofs.Common.{length, ◌≡◌, ◌≤◌, take}
-use Rattle.iges_fields.proofs.EndTrim.{end_trim}
+use Rattle.iges_base.proofs.EndTrim.{end_trim}
 use Rattle.where_entities.proofs.label.trimmed.Given as goal
 
 abbrev pub invariant-spaces : goal.invariant-spaces

@@ -1,7 +1,7 @@
 use Rattle.std.proofs.Common.{◌≡◌, ◌∙◌, ap, pos, rules}
 use mir.Syntax.{w64}
 use mir.Val.{to_z, of_z}
-use Rattle.item_numbers.specs.Keys.{Keys}
+use Rattle.brep_numbering.specs.Keys.{Keys}
 use Rattle.brep_walk.specs.SolidOf.{edge_key}
 use Rattle.brep_walk.proofs.Used.{edge_made, ends_fault}
 use Rattle.brep_walk.proofs.state.WalkState.edge_use.Goals as goal

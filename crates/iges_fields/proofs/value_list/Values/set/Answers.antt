@@ -1,6 +1,6 @@
-use Rattle.std.proofs.Common.{◌≡◌, true, rules, ap, sym, ◌∙◌}
+use Rattle.std.proofs.Common.{◌≡◌, true, rules, ap, ◌∙◌}
 use Rattle.std.specs.List.{list_all}
-use Rattle.iges_fields.specs.InLine.{is_value, stays_in_line}
+use Rattle.iges_fields.specs.InLine.{is_value}
 use Rattle.iges_base.proofs.Lists.{list_all-set}
 use Rattle.iges_fields.proofs.value_list.Values.set.Goals as goal
 

@@ -1,9 +1,0 @@
--- Edges and vertices as they are numbered.
-use Rattle.std.specs.Prelude.{List}
-use Rattle.solid_data.specs.declared.solid.Edge.{Edge}
-use Rattle.item_numbers.specs.Keys.{Keys}
-
--- the keys so far, and the edges of those that are edges
-pub record Numbered : Type 0 where
-  pub keys : Keys
-  pub edges : List Edge
