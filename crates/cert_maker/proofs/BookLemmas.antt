@@ -8,7 +8,7 @@ use Rattle.iges_params.specs.Contents.{Contents}
 use Rattle.solid_data.proofs.Members.{split_at, get_some}
 use Rattle.solid_data.specs.SolidData.{SolidData, shell_uses}
 use Rattle.solid_data.specs.Obligations.{AllHold, FirstFalse}
-use Rattle.edge_uses.specs.ShellObligations.{solid_obligations}
+use Rattle.shell_rules.specs.ShellObligations.{solid_obligations}
 use Rattle.brep_walk.specs.Places.{places}
 use Rattle.brep_walk.specs.SolidOf.{solid_of}
 use Rattle.cert_lines.specs.declared.parts.Certificate.{Certificate}

@@ -10,9 +10,9 @@ use Rattle.brep_walk.specs.SolidOf.{solid_of}
 use Rattle.solid_data.specs.SolidData.{SolidData}
 use Rattle.solid_data.specs.Numbering.{IsNumberedSolid}
 use Rattle.solid_data.specs.Obligations.{AllHold}
-use Rattle.edge_uses.specs.Closed.{IsClosedSolid}
-use Rattle.edge_uses.specs.ShellObligations.{solid_obligations}
-use Rattle.edge_uses.proofs.ClosedLemmas.{closed_is_all_hold}
+use Rattle.shell_rules.specs.Closed.{IsClosedSolid}
+use Rattle.shell_rules.specs.ShellObligations.{solid_obligations}
+use Rattle.shell_rules.proofs.ClosedLemmas.{closed_is_all_hold}
 use Rattle.edge_uses.proofs.Whole.{vertices_known}
 use Rattle.cert_lines.specs.Line.{head, solid, spaced, spelling}
 use Rattle.cert_lines.specs.Written.{certificate_lines, text_of}

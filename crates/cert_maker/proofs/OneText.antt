@@ -11,7 +11,7 @@ use Rattle.solid_data.specs.declared.solid.RowId.{RowId}
 use Rattle.solid_data.specs.declared.solid.Shell.{Shell}
 use Rattle.solid_data.proofs.Members.{Has, Has-from_Contains, All-at, total, count_by-total}
 use Rattle.edge_uses.specs.ShellRows.{ShellRows, shell_rows}
-use Rattle.edge_uses.specs.Closed.{IsPaired, Turns, point_count}
+use Rattle.edge_uses.specs.RowRelations.{IsPaired, Turns, point_count}
 use Rattle.edge_uses.specs.Mates.{ArePaired, RunsOn}
 use Rattle.edge_uses.proofs.Turn.{one_of_edge, pair_counts, paired_rows, turns_to_one}
 use Rattle.vertex_link.specs.Cycles.{IsCycle, IsCycleOf}

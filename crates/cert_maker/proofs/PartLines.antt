@@ -12,7 +12,7 @@ use Rattle.solid_data.specs.declared.solid.RowId.{RowId}
 use Rattle.solid_data.specs.declared.solid.Shell.{Shell}
 use Rattle.solid_data.proofs.Members.{Has, Has-from_Contains, Contains-from_Has, Rises}
 use Rattle.edge_uses.specs.ShellRows.{ShellRows, rows_of}
-use Rattle.edge_uses.specs.Closed.{AreMates, StartsAt}
+use Rattle.edge_uses.specs.RowRelations.{AreMates, StartsAt}
 use Rattle.edge_uses.specs.Mates.{RunsOn}
 use Rattle.vertex_link.specs.Cycles.{IsCycle}
 use Rattle.shell_reach.specs.Reaching.{ReachFrom, ReachesOne, row_numbers}

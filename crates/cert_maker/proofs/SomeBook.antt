@@ -5,7 +5,7 @@ use Rattle.std.proofs.Common.{refl}
 use Rattle.iges_params.specs.Contents.{Contents}
 use Rattle.iges_params.specs.Limits.{FitsLimits}
 use Rattle.brep_walk.specs.SolidOf.{solid_of}
-use Rattle.edge_uses.proofs.ClosedLemmas.{closed_is_all_hold}
+use Rattle.shell_rules.proofs.ClosedLemmas.{closed_is_all_hold}
 use Rattle.cert_lines.specs.Written.{book_lines, text_of}
 use Rattle.cert_lines.specs.declared.parts.Certificate.{Certificate}
 use Rattle.cert_maker.specs.Book.{uses_of, solids_of, AllMade, IsCertificateOf}

@@ -16,18 +16,19 @@ use Rattle.solid_data.specs.declared.solid.Shell.{Shell}
 use Rattle.solid_data.proofs.Members.{Has, All-at, All-from, Contains-from_Has, count_by-total, no_longer}
 use Rattle.edge_uses.specs.declared.row.Row.{Row}
 use Rattle.edge_uses.specs.ShellRows.{ShellRows, shell_rows}
-use Rattle.edge_uses.specs.Closed.{StartsAt, Turns, IsCorner, IsPaired, IsLinked, IsReached, IsClosedShell, IsClosedSolid}
+use Rattle.edge_uses.specs.RowRelations.{StartsAt, Turns, IsPaired}
+use Rattle.shell_rules.specs.Closed.{IsCorner, IsLinked, IsReached, IsClosedShell, IsClosedSolid}
 use Rattle.edge_uses.specs.Mates.{ArePaired}
-use Rattle.edge_uses.proofs.ClosedLemmas.{closed_is_all_hold}
-use Rattle.edge_uses.proofs.Cycle.{cycle_of_corner, zip_from_trail}
+use Rattle.shell_rules.proofs.ClosedLemmas.{closed_is_all_hold}
+use Rattle.edge_uses.proofs.Cycle.{zip_from_trail}
+use Rattle.shell_rules.proofs.CornerCycle.{cycle_of_corner}
 use Rattle.edge_uses.proofs.RowLemmas.{ends_meet}
 use Rattle.edge_uses.proofs.RowNumbers.{starting, length-starting, starting_has, starting_none, starting_is}
 use Rattle.edge_uses.proofs.Turn.{row_of_edge_along, row_of_edge_against, turning}
 use Rattle.edge_uses.proofs.Whole.{are_rows}
 use Rattle.vertex_link.specs.Cycles.{IsCycle, IsCycleOf}
-use Rattle.shell_reach.specs.Reaching.{row_numbers}
+use Rattle.shell_reach.specs.Reaching.{row_numbers, ReachesAll}
 use Rattle.shell_reach.specs.BreadthFirst.{IsBreadthFirst}
-use Rattle.shell_reach.specs.Reaching.{ReachesAll}
 use Rattle.shell_reach.proofs.SomeOrder.{some_order}
 use Rattle.cert_lines.specs.Written.{certificate_lines, text_of}
 use Rattle.cert_lines.specs.declared.parts.Certificate.{Certificate}

@@ -11,8 +11,8 @@ use Rattle.solid_data.specs.declared.verdict.Failing.{Failing}
 use Rattle.solid_data.proofs.Decisions.{Decided, decided_within}
 use Rattle.solid_data.proofs.ObligationLemmas.{FirstFalse-one, FirstFalse-not_all}
 use Rattle.solid_data.proofs.ObligationsDecided.{all_or_first_false}
-use Rattle.edge_uses.specs.ShellObligations.{solid_obligations}
-use Rattle.edge_uses.proofs.Decided.{solid_decided}
+use Rattle.shell_rules.specs.ShellObligations.{solid_obligations}
+use Rattle.shell_rules.proofs.Decided.{solid_decided}
 use Rattle.cert_maker.specs.Book.{uses_of, use_limit, IsMade, IsUnmade}
 use Rattle.cert_maker.specs.BookLaws.{OneUnmade, NoneUnmadeWhereMade, MadeOrUnmade}
 use Rattle.cert_maker.specs.declared.book.BookFault.{BookFault}

@@ -9,7 +9,7 @@ use Rattle.brep_walk.specs.Places.{places}
 use Rattle.brep_walk.specs.SolidOf.{solid_of}
 use Rattle.solid_data.specs.SolidData.{shell_uses}
 use Rattle.solid_data.specs.Obligations.{Obligation, AllHold, FirstFalse}
-use Rattle.edge_uses.specs.ShellObligations.{solid_obligations}
+use Rattle.shell_rules.specs.ShellObligations.{solid_obligations}
 use Rattle.cert_lines.specs.Written.{book_lines, text_of}
 use Rattle.cert_lines.specs.declared.parts.Certificate.{Certificate}
 use Rattle.cert_maker.specs.Certified.{IsCertificate}

@@ -5,7 +5,7 @@ ghost use Rattle.std.specs.List.{AllZip};
 ghost use Rattle.brep_walk.specs.Places.{places};
 ghost use Rattle.brep_walk.specs.SolidOf.{solid_of};
 ghost use Rattle.solid_data.specs.Obligations.{AllHold};
-ghost use Rattle.edge_uses.specs.ShellObligations.{solid_obligations};
+ghost use Rattle.shell_rules.specs.ShellObligations.{solid_obligations};
 ghost use Rattle.cert_lines.specs.Written.{book_lines, text_of};
 ghost use Rattle.cert_lines.specs.declared.version.Version.TheVariants.{Three as EditionThree};
 ghost use Rattle.solid_check.specs.Accepted.{IsAccepted};

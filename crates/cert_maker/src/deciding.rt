@@ -3,7 +3,7 @@
 ghost use Rattle.std.specs.Prelude.{◌≡◌, IfOk};
 ghost use Rattle.solid_data.specs.Obligations.{IsVerdict};
 ghost use Rattle.solid_data.specs.declared.verdict.Verdict.{Verdict as Word};
-ghost use Rattle.edge_uses.specs.ShellObligations.{solid_obligations};
+ghost use Rattle.shell_rules.specs.ShellObligations.{solid_obligations};
 ghost use Rattle.solid_check.specs.Closed.{IsVerdictOn};
 
 use crate::fault::MakeFault;

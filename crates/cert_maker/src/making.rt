@@ -6,7 +6,7 @@ ghost use Rattle.brep_walk.specs.Places.{places};
 ghost use Rattle.brep_walk.specs.SolidOf.{solid_of};
 ghost use Rattle.solid_data.specs.Obligations.{AllHold, FirstFalse};
 ghost use Rattle.solid_data.specs.declared.verdict.Failing.{Failing as Named};
-ghost use Rattle.edge_uses.specs.ShellObligations.{solid_obligations};
+ghost use Rattle.shell_rules.specs.ShellObligations.{solid_obligations};
 ghost use Rattle.cert_lines.specs.declared.version.Version.TheVariants.{Two as EditionTwo};
 ghost use Rattle.cert_lines.specs.Written.{certificate_lines, text_of};
 ghost use Rattle.solid_check.specs.Accepted.{IsAccepted};

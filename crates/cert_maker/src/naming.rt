@@ -4,7 +4,7 @@ ghost use Rattle.std.specs.Prelude.{◌≡◌, Some, slice_get};
 ghost use Rattle.solid_data.specs.declared.solid.FaceUse.{FaceUse as AnyFace};
 ghost use Rattle.solid_data.specs.declared.verdict.Rule.{Rule as AnyRule};
 ghost use Rattle.solid_data.specs.SolidData.{edge_name};
-ghost use Rattle.solid_check.specs.Naming.{failing};
+ghost use Rattle.shell_rules.specs.Naming.{failing};
 
 use solid_data::{EdgeId, FaceAt, Failing, Rule, Shell, Solid};
 

@@ -4,7 +4,7 @@ ghost use Rattle.std.specs.Prelude.{◌≡◌, ◌+◌, ◌<◌, ◌^◌, length
 ghost use Rattle.solid_data.specs.Obligations.{AllHold};
 ghost use Rattle.edge_uses.specs.Before.{AreBelow};
 ghost use Rattle.edge_uses.specs.ShellRows.{shell_rows};
-ghost use Rattle.edge_uses.specs.ShellObligations.{shell_obligations};
+ghost use Rattle.shell_rules.specs.ShellObligations.{shell_obligations};
 ghost use Rattle.vertex_link.specs.Corners.{AreLinks};
 ghost use Rattle.shell_reach.specs.Reaching.{ReachesAll, row_numbers};
 ghost use Rattle.shell_reach.specs.BreadthFirst.{IsBreadthFirst};

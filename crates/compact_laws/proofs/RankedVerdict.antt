@@ -9,7 +9,7 @@ use Rattle.solid_data.specs.declared.verdict.Failing.{Failing}
 use Rattle.solid_data.specs.declared.verdict.Rule.{Rule}
 use Rattle.solid_data.specs.declared.verdict.Rule.TheVariants.{NoEntry, WrongKind, BadLayout, Twice, BadIndex, BadGeometry, Unjoined, Unpaired, Unreached, Unlinked, Shared}
 use Rattle.solid_data.proofs.ObligationLemmas.{AllHold-append, AllHold-append_right, FirstFalse-append_rest}
-use Rattle.edge_uses.specs.ShellObligations.{solid_obligations}
+use Rattle.shell_rules.specs.ShellObligations.{solid_obligations}
 use Rattle.list_compact.specs.Dropped.{dropped}
 use Rattle.list_compact.proofs.StillHold.{still_hold}
 use Rattle.extraction_laws.specs.Alike.{KeepsVerdictAs}

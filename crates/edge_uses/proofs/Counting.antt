@@ -6,7 +6,7 @@ use Rattle.std.proofs.lemmas.Bool.Decides.{eqb_tells}
 use Rattle.std.proofs.lemmas.Option.{same_Some}
 use Rattle.edge_uses.specs.declared.row.Row.{Row}
 use Rattle.edge_uses.specs.ShellRows.{ShellRows}
-use Rattle.edge_uses.specs.Closed.{row_count}
+use Rattle.edge_uses.specs.RowRelations.{row_count}
 use Rattle.solid_data.proofs.Members.{Has, NoRepeat, total, count_by-total, total-plus, total-zero, total-same, all_two, all_of_two}
 
 -- a row that passes is there where one is counted

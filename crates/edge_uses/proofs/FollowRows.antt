@@ -3,13 +3,13 @@ use Rattle.std.specs.Prelude.{◌≡◌, ℕ, ◌+◌, ◌<◌, Bool, true, fals
 use Rattle.std.proofs.Common.{refl, ◌∙◌, arith, inl, inr, ⊎_elim, length-append}
 use Rattle.std.proofs.lemmas.List.{length-reverse}
 use Rattle.std.proofs.lemmas.Option.{slice_get_within}
-use Rattle.edge_uses.proofs.ClosedLemmas.{length-next}
+use Rattle.edge_uses.proofs.JoinLemmas.{length-next}
 use Rattle.solid_data.specs.Ring.{next_of_each, previous_of_each, numbers_from}
 use Rattle.solid_data.specs.SolidData.{SolidData, PlacedLoop, placed_loops}
 use Rattle.solid_data.specs.declared.solid.Shell.{Shell}
 use Rattle.edge_uses.specs.declared.row.Row.{Row}
 use Rattle.edge_uses.specs.ShellRows.{ShellRows, loop_rows, follows_from, shell_rows}
-use Rattle.edge_uses.specs.Closed.{Follows}
+use Rattle.edge_uses.specs.RowRelations.{Follows}
 use Rattle.solid_data.proofs.Members.{has_append, Has, has_get, get_some, has_reverse}
 use Rattle.solid_data.proofs.Occurring.{number_below, length-numbers}
 

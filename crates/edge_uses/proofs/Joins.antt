@@ -17,12 +17,11 @@ use Rattle.solid_data.specs.declared.solid.Shell.{Shell}
 use Rattle.solid_data.specs.declared.verdict.Rule.TheVariants.{Unjoined as RuleUnjoined}
 use Rattle.solid_data.proofs.ObligationLemmas.{Remains, FirstFalse-not_all, of_each-AllHold, AllByRecursion-weaker}
 use Rattle.edge_uses.specs.declared.joining.Unjoined.{Unjoined}
-use Rattle.edge_uses.specs.Closed.{start_of, end_of, IsJoined}
+use Rattle.edge_uses.specs.Joins.{start_of, end_of, IsJoined, ends_and_starts, loop_obligations, join_obligations, IsFirstUnjoined}
 use Rattle.edge_uses.specs.ShellRows.{EndsMeet, rows_of}
 use Rattle.edge_uses.proofs.RowLemmas.{ends_meet}
-use Rattle.edge_uses.specs.ShellObligations.{ends_and_starts, loop_obligations, join_obligations, IsFirstUnjoined}
 use Rattle.edge_uses.specs.Joining.{placed_at, AllJoined, IsFirstOpen, LeftOf}
-use Rattle.edge_uses.proofs.ClosedLemmas.{joined_from_hold, hold_from_joined, length-next}
+use Rattle.edge_uses.proofs.JoinLemmas.{joined_from_hold, hold_from_joined, length-next}
 use Rattle.solid_data.proofs.Members.{Has-from_place, All-at}
 
 abbrev pub ends_of_uses : SolidData → Loop → List ℕ

@@ -1,4 +1,4 @@
-pub mod ClosedLemmas
+pub mod JoinLemmas
 pub mod RowLemmas
 pub mod Counting
 pub mod FollowRows
@@ -21,5 +21,4 @@ pub mod Mating
 pub mod Turn
 pub mod Turns
 pub mod RowNumbers
-pub mod Decided
 mod CellSteps

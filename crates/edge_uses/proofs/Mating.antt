@@ -6,7 +6,7 @@ use Rattle.std.proofs.lemmas.Option.{slice_get-get_or, same_Some}
 use Rattle.edge_uses.specs.declared.row.Row.{Row}
 use Rattle.edge_uses.specs.declared.tally.Seen.{Seen}
 use Rattle.edge_uses.specs.ShellRows.{ShellRows}
-use Rattle.edge_uses.specs.Closed.{IsPaired, AreMates}
+use Rattle.edge_uses.specs.RowRelations.{IsPaired, AreMates}
 use Rattle.edge_uses.specs.Mates.{ArePaired, RunsOn}
 use Rattle.edge_uses.specs.Tally.{seen_of, IsSeen, IsTally}
 use Rattle.edge_uses.specs.Ranges.{IsWithin}

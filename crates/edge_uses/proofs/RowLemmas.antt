@@ -15,7 +15,7 @@ use Rattle.solid_data.specs.declared.solid.LoopUse.TheVariants.{EdgeUse, VertexU
 use Rattle.solid_data.specs.declared.solid.Shell.{Shell}
 use Rattle.edge_uses.specs.declared.row.Row.{Row}
 use Rattle.edge_uses.specs.ShellRows.{row_of_edge, row_of, loop_rows, follows_from, shell_rows, EndsMeet}
-use Rattle.edge_uses.specs.Closed.{begin_of, start_of, end_of, IsJoined}
+use Rattle.edge_uses.specs.Joins.{begin_of, start_of, end_of, IsJoined}
 
 -- Chains of things with a start and an end.
 

@@ -12,7 +12,7 @@ use Rattle.solid_data.specs.declared.solid.LoopUse.TheVariants.{EdgeUse, VertexU
 use Rattle.solid_data.specs.declared.solid.Shell.{Shell}
 use Rattle.edge_uses.specs.declared.row.Row.{Row}
 use Rattle.edge_uses.specs.ShellRows.{ShellRows, row_of_edge, row_of, loop_rows, shell_rows}
-use Rattle.edge_uses.specs.Closed.{begin_of}
+use Rattle.edge_uses.specs.Joins.{begin_of}
 
 -- the row runs along its edge of the solid, or against it
 abbrev pub HasShape : SolidData → Row → Type 0

@@ -7,7 +7,7 @@ use Rattle.solid_data.specs.declared.solid.EdgeId.{EdgeId}
 use Rattle.solid_data.specs.declared.solid.VertexId.{VertexId}
 use Rattle.edge_uses.specs.declared.row.Row.{Row}
 use Rattle.edge_uses.specs.ShellRows.{ShellRows, EndsMeet}
-use Rattle.edge_uses.specs.Closed.{AreMates, Turns, IsPaired, row_count}
+use Rattle.edge_uses.specs.RowRelations.{AreMates, Turns, IsPaired, row_count}
 use Rattle.edge_uses.specs.Mates.{ArePaired}
 use Rattle.solid_data.proofs.Members.{Has-from_Contains, All-at, count_by-total, has_get}
 use Rattle.edge_uses.proofs.Counting.{found_row, one_place}

@@ -14,7 +14,7 @@ use Rattle.solid_data.proofs.Occurring.{numbers_have, numbers_above, length-numb
 use Rattle.solid_data.proofs.ObligationLemmas.{AllByRecursion-weaker}
 use Rattle.edge_uses.specs.declared.row.Row.{Row}
 use Rattle.edge_uses.specs.ShellRows.{ShellRows, AreRows}
-use Rattle.edge_uses.specs.Closed.{AreMates, Follows}
+use Rattle.edge_uses.specs.RowRelations.{AreMates, Follows}
 use Rattle.edge_uses.specs.Mates.{ArePaired, AreInvolution, TurnsPermute}
 use Rattle.edge_uses.proofs.Turn.{one_mate, has_mate, paired_rows, turning, not-not}
 

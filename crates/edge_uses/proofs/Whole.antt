@@ -19,7 +19,7 @@ use Rattle.solid_data.proofs.ObligationLemmas.{AllByRecursion-weaker}
 use Rattle.edge_uses.specs.declared.row.Row.{Row}
 use Rattle.edge_uses.specs.ShellRows.{ShellRows, shell_rows, loop_rows, point_of, AreRows}
 use Rattle.edge_uses.specs.Building.{point_in, HasKnownParts}
-use Rattle.edge_uses.specs.Closed.{begin_of}
+use Rattle.edge_uses.specs.Joins.{begin_of}
 use Rattle.solid_data.proofs.Members.{Has, Has-from_place, Contains-from_Has, has_flat_map, all_flat_map, all_has, Rises}
 use Rattle.solid_data.proofs.Occurring.{VerticesKnown, number_below, length-numbers}
 use Rattle.solid_data.proofs.Keys.{to_distinct}

@@ -5,6 +5,10 @@ use Rattle.solid_data.specs.declared.solid.FaceUse.{FaceUse}
 use Rattle.solid_data.specs.declared.solid.Loop.{Loop}
 use Rattle.solid_data.specs.declared.solid.Shell.{Shell}
 
+-- the vertex is in no shell before shell k
+abbrev pub IsApart : SolidData → ℕ → ℕ → Type 0
+IsApart s k v = ¬ Contains (flat_map (shell_vertices s) (take k s.shells)) v
+
 -- The vertices of the first k shells are the ones below n.
 abbrev pub AreBelow : SolidData → ℕ → ℕ → Type 0
 AreBelow s k n = (v : ℕ) → Contains (flat_map (shell_vertices s) (take k s.shells)) v ↔ (v < n)

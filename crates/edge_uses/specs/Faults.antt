@@ -2,7 +2,7 @@
 use Rattle.std.specs.Prelude.{ℕ, ⊤}
 use Rattle.solid_data.specs.Obligations.{FirstNot}
 use Rattle.edge_uses.specs.ShellRows.{ShellRows}
-use Rattle.edge_uses.specs.Closed.{IsPaired}
+use Rattle.edge_uses.specs.RowRelations.{IsPaired}
 use Rattle.edge_uses.specs.declared.fault.PairFault.{PairFault}
 use Rattle.edge_uses.specs.declared.fault.PairFault.TheVariants.{Unpaired, NoMemory}
 

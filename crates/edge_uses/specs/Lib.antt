@@ -1,6 +1,6 @@
 pub mod ShellRows
-pub mod Closed
-pub mod ShellObligations
+pub mod Joins
+pub mod RowRelations
 pub mod Ranges
 pub mod Before
 pub mod Joining

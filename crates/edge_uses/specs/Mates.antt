@@ -5,7 +5,7 @@ use Rattle.solid_data.specs.Obligations.{FirstNot}
 use Rattle.solid_data.specs.declared.solid.EdgeId.{EdgeId}
 use Rattle.edge_uses.specs.declared.row.Row.{Row}
 use Rattle.edge_uses.specs.ShellRows.{ShellRows, EndsMeet, AreRows}
-use Rattle.edge_uses.specs.Closed.{IsPaired, AreMates, Turns, StartsAt}
+use Rattle.edge_uses.specs.RowRelations.{IsPaired, AreMates, Turns, StartsAt}
 
 -- rows of which each ends where the next starts, and each edge is paired
 pub record ArePaired (d : ShellRows) : Type 0 where

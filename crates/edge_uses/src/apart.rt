@@ -4,8 +4,7 @@ ghost use Rattle.std.specs.Prelude.{◌≡◌, ◌+◌, ◌<◌, ◌≤◌, leng
 ghost use Rattle.std.specs.List.{AllByRecursion};
 ghost use Rattle.solid_data.specs.SolidData.{ends_of, vertices_used, shell_vertices};
 ghost use Rattle.solid_data.specs.Obligations.{FirstNot};
-ghost use Rattle.edge_uses.specs.Before.{AreBelow, above_of, loop_vertices, face_vertices, faces_vertices};
-ghost use Rattle.edge_uses.specs.Closed.{IsApart};
+ghost use Rattle.edge_uses.specs.Before.{AreBelow, above_of, loop_vertices, face_vertices, faces_vertices, IsApart};
 ghost use Rattle.edge_uses.specs.ShellRows.{rows_of};
 
 use crate::before::VerticesBefore;

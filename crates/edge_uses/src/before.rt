@@ -28,8 +28,7 @@ impl VerticesBefore {
     ghost use Rattle.solid_data.specs.Numbering.{IsNumberedSolid};
     ghost use Rattle.solid_data.specs.Obligations.{FirstNot};
     ghost use Rattle.solid_data.specs.SolidData.{SolidData};
-    ghost use Rattle.edge_uses.specs.Before.{AreBelow};
-    ghost use Rattle.edge_uses.specs.Closed.{IsApart};
+    ghost use Rattle.edge_uses.specs.Before.{AreBelow, IsApart};
     ghost use Rattle.edge_uses.specs.ShellRows.{rows_of};
 
     pub(crate) fn below(below: usize) -> VerticesBefore

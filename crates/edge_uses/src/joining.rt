@@ -6,9 +6,8 @@ ghost use Rattle.solid_data.specs.Ring.{next_of_each};
 ghost use Rattle.solid_data.specs.SolidData.{same_flag, placed_in_face, placed_loops};
 ghost use Rattle.solid_data.specs.Obligations.{AllHold, FirstFalse};
 ghost use Rattle.solid_data.specs.declared.verdict.Rule.TheVariants.{Unjoined as RuleUnjoined};
-ghost use Rattle.edge_uses.specs.Closed.{begin_of, start_of, end_of, IsJoined};
+ghost use Rattle.edge_uses.specs.Joins.{begin_of, start_of, end_of, IsJoined, loop_obligations, join_obligations, IsFirstUnjoined};
 ghost use Rattle.edge_uses.specs.ShellRows.{EndsMeet, rows_of};
-ghost use Rattle.edge_uses.specs.ShellObligations.{loop_obligations, join_obligations, IsFirstUnjoined};
 ghost use Rattle.edge_uses.specs.Joining.{AllJoined, IsFirstOpen, IsFewFace, IsFewShell};
 ghost use Rattle.solid_data.specs.declared.TheConstants.{PART_LIMIT};
 

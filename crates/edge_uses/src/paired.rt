@@ -25,7 +25,7 @@ impl<'a> Model for Paired<'a> {
 
 impl<'a> Paired<'a> {
     ghost use Rattle.std.specs.Prelude.{◌≡◌, ◌≤◌, length, MatchOption};
-    ghost use Rattle.edge_uses.specs.Closed.{AreMates, Turns};
+    ghost use Rattle.edge_uses.specs.RowRelations.{AreMates, Turns};
     ghost use Rattle.edge_uses.specs.Mates.{ArePaired, HaveMates, AreInvolution, TurnsPermute};
 
     pub(crate) fn of(rows: &'a Rows, mates: Vec<u32>) -> Paired<'a>

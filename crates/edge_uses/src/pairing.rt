@@ -4,7 +4,7 @@ ghost use Rattle.std.specs.Prelude.{◌≡◌, ◌↔◌, IsTrue, All, IfOk, IfE
 ghost use Rattle.std.specs.List.{AllByRecursion};
 ghost use Rattle.solid_data.specs.Obligations.{FirstNot};
 ghost use Rattle.edge_uses.specs.ShellRows.{EndsMeet};
-ghost use Rattle.edge_uses.specs.Closed.{IsPaired};
+ghost use Rattle.edge_uses.specs.RowRelations.{IsPaired};
 ghost use Rattle.edge_uses.specs.Mates.{ArePaired, HaveMates};
 ghost use Rattle.edge_uses.specs.Faults.{IsPairFault};
 ghost use Rattle.edge_uses.specs.Ranges.{IsWithin};

@@ -20,8 +20,11 @@ use Rattle.solid_data.proofs.Members.{Has, get_some}
 use Rattle.solid_data.proofs.Occurring.{number_below}
 use Rattle.edge_uses.specs.declared.row.Row.{Row}
 use Rattle.edge_uses.specs.ShellRows.{ShellRows, row_of_edge, row_of, loop_rows, follows_from, point_of, shell_rows}
-use Rattle.edge_uses.specs.Closed.{begin_of, start_of, end_of, IsPaired, IsReached, IsLinked, IsApart}
-use Rattle.edge_uses.specs.ShellObligations.{ends_and_starts, loop_obligations, at_edge, at_vertex, join_obligations, pair_obligations, reach_obligations, link_obligations, apart_obligations, shell_obligations, solid_obligations}
+use Rattle.edge_uses.specs.Before.{IsApart}
+use Rattle.edge_uses.specs.Joins.{begin_of, start_of, end_of, ends_and_starts, loop_obligations, join_obligations}
+use Rattle.edge_uses.specs.RowRelations.{IsPaired}
+use Rattle.shell_rules.specs.Closed.{IsReached, IsLinked}
+use Rattle.shell_rules.specs.ShellObligations.{at_edge, at_vertex, pair_obligations, reach_obligations, link_obligations, apart_obligations, shell_obligations, solid_obligations}
 use Rattle.solid_extract.proofs.Copies.{zip_length}
 use Rattle.extraction_laws.specs.Alike.{FailAlike}
 use Rattle.extraction_laws.specs.Relabelled.{Names, IsRelabelledLoop, IsRelabelledFace, IsRelabelledShell, IsRelabelledEdge, IsRelabelled, AreNamed, AreNamedAlike}

@@ -7,7 +7,7 @@ use Rattle.solid_data.specs.declared.solid.VertexKey.{VertexKey}
 use Rattle.solid_data.specs.declared.verdict.Failing.{Failing}
 use Rattle.solid_data.specs.declared.verdict.Rule.{Rule}
 use Rattle.solid_data.specs.declared.verdict.Rule.TheVariants.{NoEntry, WrongKind, BadLayout, Twice, BadIndex, BadGeometry, Unjoined, Unpaired, Unreached, Unlinked, Shared}
-use Rattle.edge_uses.specs.ShellObligations.{solid_obligations}
+use Rattle.shell_rules.specs.ShellObligations.{solid_obligations}
 use Rattle.extraction_laws.specs.Alike.{FailAlike, KeepsVerdictAs}
 use Rattle.extraction_laws.specs.Relabelled.{renumbered, AreNamed, AreNamedAlike}
 use Rattle.extraction_laws.specs.Renamed.{Renaming, new_names, renamed_place, under_new_name, RenamedFailAlike, RenamedKeepsVerdict, IsOneToOne, RenamedTellsPlace}

@@ -7,7 +7,7 @@ use Rattle.solid_data.specs.declared.solid.VertexKey.{VertexKey}
 use Rattle.solid_data.specs.declared.verdict.Failing.{Failing}
 use Rattle.solid_data.specs.declared.verdict.Rule.{Rule}
 use Rattle.solid_data.specs.declared.verdict.Rule.TheVariants.{Unpaired, Unlinked, Shared}
-use Rattle.edge_uses.specs.ShellObligations.{solid_obligations}
+use Rattle.shell_rules.specs.ShellObligations.{solid_obligations}
 use Rattle.extraction_laws.specs.Alike.{FailAlike, KeepsVerdictAs}
 use Rattle.extraction_laws.specs.Relabelled.{Names, IsRelabelled, AreNamedAlike}
 

@@ -11,7 +11,7 @@ use Rattle.solid_data.specs.declared.solid.Shell.{Shell}
 use Rattle.solid_data.proofs.Members.{All-at, has_get, get_some}
 use Rattle.edge_uses.specs.declared.row.Row.{Row}
 use Rattle.edge_uses.specs.ShellRows.{ShellRows, shell_rows, rows_of}
-use Rattle.edge_uses.specs.Closed.{OnFace}
+use Rattle.edge_uses.specs.RowRelations.{OnFace}
 use Rattle.edge_uses.proofs.RowFacts.{faces_known}
 use Rattle.face_orient.specs.declared.crossing.Crossing.{Crossing}
 use Rattle.face_orient.specs.Partners.{ArePartners, Adjoin, IsReached}

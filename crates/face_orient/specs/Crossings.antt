@@ -3,7 +3,7 @@ use Rattle.std.specs.Prelude.{◌≡◌, ℕ, ◌<◌, Bool, true, false, not, L
 use Rattle.solid_data.specs.SolidData.{SolidData, same_flag}
 use Rattle.edge_uses.specs.declared.row.Row.{Row}
 use Rattle.edge_uses.specs.ShellRows.{ShellRows}
-use Rattle.edge_uses.specs.Closed.{OnFace}
+use Rattle.edge_uses.specs.RowRelations.{OnFace}
 use Rattle.face_orient.specs.Partners.{ArePartners}
 use Rattle.face_orient.specs.Flags.{rows_at}
 use Rattle.face_orient.specs.OddRing.{bare_rows}

@@ -8,7 +8,7 @@ use Rattle.solid_data.specs.declared.solid.RowId.{RowId}
 use Rattle.solid_data.specs.declared.solid.Shell.{Shell}
 use Rattle.edge_uses.specs.declared.row.Row.{Row}
 use Rattle.edge_uses.specs.ShellRows.{ShellRows, rows_of}
-use Rattle.edge_uses.specs.Closed.{OnFace}
+use Rattle.edge_uses.specs.RowRelations.{OnFace}
 use Rattle.face_orient.specs.Partners.{ArePartners}
 use Rattle.face_orient.specs.Flags.{rows_at}
 

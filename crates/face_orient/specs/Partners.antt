@@ -5,7 +5,7 @@ use Rattle.solid_data.specs.Chain.{LeadsTo}
 use Rattle.solid_data.specs.Ring.{numbers_from}
 use Rattle.edge_uses.specs.declared.row.Row.{Row}
 use Rattle.edge_uses.specs.ShellRows.{ShellRows}
-use Rattle.edge_uses.specs.Closed.{OnFace}
+use Rattle.edge_uses.specs.RowRelations.{OnFace}
 
 -- COUNT: exactly two rows have the edge.
 abbrev pub HasTwoRows : ShellRows → ℕ → Type 0

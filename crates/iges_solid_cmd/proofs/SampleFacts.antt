@@ -7,8 +7,8 @@ use Rattle.solid_data.specs.SolidData.{SolidData}
 use Rattle.solid_data.specs.declared.verdict.Failing.{Failing}
 use Rattle.solid_data.proofs.Members.{split_at}
 use Rattle.solid_data.proofs.ObligationLemmas.{FirstFalse-not_all}
-use Rattle.edge_uses.specs.ShellObligations.{solid_obligations}
-use Rattle.edge_uses.proofs.ClosedLemmas.{closed_is_all_hold}
+use Rattle.shell_rules.specs.ShellObligations.{solid_obligations}
+use Rattle.shell_rules.proofs.ClosedLemmas.{closed_is_all_hold}
 use Rattle.brep_walk.specs.Places.{places}
 use Rattle.brep_walk.specs.SolidOf.{solid_of}
 use Rattle.iges_params.specs.Contents.{Contents}

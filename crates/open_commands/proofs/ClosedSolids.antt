@@ -15,7 +15,7 @@ use Rattle.solid_data.specs.declared.solid.Shell.{Shell}
 use Rattle.solid_data.proofs.Members.{Has, Has-from_Contains, Contains-from_Has, has_left, has_right, has_append, has_flat_map, from_flat_map}
 use Rattle.solid_data.proofs.ObligationLemmas.{AllHold-append, AllHold-append_left, AllHold-append_right}
 use Rattle.edge_uses.specs.ShellRows.{shell_rows}
-use Rattle.edge_uses.specs.Closed.{IsClosedShell, IsClosedSolid}
+use Rattle.shell_rules.specs.Closed.{IsClosedShell, IsClosedSolid}
 use Rattle.open_shells.specs.Sound.{IsBorder, IsSoundShell}
 use Rattle.open_shells.specs.Stand.{shell_of}
 use Rattle.open_shells.proofs.ClosedShells.{closed_is_sound}

@@ -12,9 +12,8 @@ use Rattle.solid_data.specs.declared.verdict.Failing.{Failing}
 use Rattle.solid_data.proofs.Members.{All-at, All-from, all_flat_map, has_flat_map}
 use Rattle.solid_data.proofs.ObligationLemmas.{AllHold-append, AllHold-append_left, AllHold-append_right, FirstFalse-append_front, FirstFalse-append_rest, AllHold-of_each, of_each-AllHold, AllByRecursion-weaker}
 use Rattle.solid_data.proofs.ObligationsDecided.{AreDecided, decided-append, decided-of_each}
-use Rattle.edge_uses.specs.Closed.{IsJoined}
-use Rattle.edge_uses.specs.ShellObligations.{loop_obligations, join_obligations}
-use Rattle.edge_uses.proofs.ClosedLemmas.{joined_from_hold, hold_from_joined}
+use Rattle.edge_uses.specs.Joins.{IsJoined, loop_obligations, join_obligations}
+use Rattle.edge_uses.proofs.JoinLemmas.{joined_from_hold, hold_from_joined}
 use Rattle.open_shells.specs.Accepted.{AllJoin}
 use Rattle.open_shells.proofs.RulesDecided.{join_decided}
 use Rattle.open_commands.specs.Checked.{joins, open_checked}

@@ -4,7 +4,7 @@ use Rattle.iges_params.specs.Contents.{Contents}
 use Rattle.brep_walk.specs.OpenPlaces.{open_places, shell_solid_of}
 use Rattle.solid_data.specs.Obligations.{Obligation, of_each}
 use Rattle.solid_data.specs.SolidData.{SolidData}
-use Rattle.edge_uses.specs.ShellObligations.{join_obligations}
+use Rattle.edge_uses.specs.Joins.{join_obligations}
 
 -- each loop joins
 abbrev pub joins : SolidData → List Obligation

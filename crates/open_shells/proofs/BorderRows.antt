@@ -15,7 +15,7 @@ use Rattle.edge_uses.specs.declared.row.Row.{Row}
 use Rattle.edge_uses.specs.declared.spanning.Span.{Span}
 use Rattle.edge_uses.specs.Ranges.{IsWithin}
 use Rattle.edge_uses.specs.ShellRows.{ShellRows}
-use Rattle.edge_uses.specs.Closed.{StartsAt, Turns, AreMates, Follows}
+use Rattle.edge_uses.specs.RowRelations.{StartsAt, Turns, AreMates, Follows}
 use Rattle.edge_uses.proofs.Tallies.{set_same, set_other}
 use Rattle.edge_uses.proofs.Turns.{mates_back, follows_apart}
 use Rattle.open_shells.specs.Sound.{IsBorder, IsFanned}

@@ -12,7 +12,7 @@ use Rattle.solid_data.proofs.Members.{Has, NoRepeat, total, count_by-total, cove
 use Rattle.solid_data.proofs.Trail.{Trail, leads_on, next_on, no_repeat}
 use Rattle.edge_uses.specs.declared.row.Row.{Row}
 use Rattle.edge_uses.specs.ShellRows.{ShellRows}
-use Rattle.edge_uses.specs.Closed.{Turns, StartsAt}
+use Rattle.edge_uses.specs.RowRelations.{Turns, StartsAt}
 use Rattle.edge_uses.proofs.Counting.{mark, mark-same, mark-other, marks-one}
 use Rattle.topo_certificate.specs.Stand.{row_named, first_of, IsAbove}
 use Rattle.topo_certificate.proofs.Segment.{AreGoodRows, Falls, falls_more, named_has}

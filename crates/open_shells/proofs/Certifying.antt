@@ -13,7 +13,7 @@ use Rattle.solid_data.specs.declared.solid.Shell.{Shell}
 use Rattle.solid_data.proofs.Members.{Has, Has-from_Contains, Contains-from_Has, NoRepeat, no_longer, Rises, rises_none, All-at, has_map, map_has, from_flat_map}
 use Rattle.solid_data.proofs.Occurring.{numbers_have, length-numbers}
 use Rattle.edge_uses.specs.ShellRows.{ShellRows, shell_rows}
-use Rattle.edge_uses.specs.Closed.{AreMates}
+use Rattle.edge_uses.specs.RowRelations.{AreMates}
 use Rattle.edge_uses.proofs.Counting.{uses-all}
 use Rattle.edge_uses.proofs.RowFacts.{edges_rise, vertices_rise}
 use Rattle.topo_certificate.specs.Stand.{IsMate}

@@ -7,7 +7,8 @@ use Rattle.solid_data.proofs.Members.{All-at, has_get}
 use Rattle.solid_data.proofs.ObligationLemmas.{AllByRecursion-weaker}
 use Rattle.edge_uses.specs.declared.row.Row.{Row}
 use Rattle.edge_uses.specs.ShellRows.{ShellRows, shell_rows}
-use Rattle.edge_uses.specs.Closed.{IsPaired, IsLinked, IsClosedShell}
+use Rattle.edge_uses.specs.RowRelations.{IsPaired}
+use Rattle.shell_rules.specs.Closed.{IsLinked, IsClosedShell}
 use Rattle.edge_uses.proofs.RowFacts.{edges_known}
 use Rattle.open_shells.specs.Laws.{ClosedIsSound}
 use Rattle.open_shells.specs.Sound.{IsOnce, IsFanned, IsBorder}

@@ -8,7 +8,7 @@ use Rattle.solid_data.specs.Numbering.{IsNumberedSolid}
 use Rattle.solid_data.specs.declared.solid.Shell.{Shell}
 use Rattle.solid_data.proofs.Members.{Has}
 use Rattle.edge_uses.specs.ShellRows.{ShellRows, shell_rows}
-use Rattle.edge_uses.specs.Closed.{IsReached}
+use Rattle.shell_rules.specs.Closed.{IsReached}
 use Rattle.edge_uses.proofs.RowLemmas.{ends_meet}
 use Rattle.edge_uses.proofs.Whole.{are_rows}
 use Rattle.topo_certificate.proofs.PointOrder.{faces_of_rows}

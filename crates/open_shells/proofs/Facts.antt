@@ -6,7 +6,7 @@ use Rattle.solid_data.specs.SolidData.{SolidData}
 use Rattle.solid_data.specs.declared.solid.LoopAt.{LoopAt}
 use Rattle.edge_uses.specs.declared.row.Row.{Row}
 use Rattle.edge_uses.specs.ShellRows.{ShellRows}
-use Rattle.edge_uses.specs.Closed.{IsReached}
+use Rattle.shell_rules.specs.Closed.{IsReached}
 use Rattle.solid_data.proofs.Members.{Has, covers}
 use Rattle.topo_certificate.specs.Stand.{IsAbove, first_of, row_named, row_start, point_named}
 use Rattle.topo_certificate.proofs.Segment.{AreGoodRows, Falls, falls_none, falls_more, ReachFacts, reach_step, faces_reached, start_known, point_known, point_from_line}

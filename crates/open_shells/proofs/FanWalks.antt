@@ -5,7 +5,8 @@ use Rattle.std.proofs.lemmas.Option.{same_Some}
 use Rattle.solid_data.specs.Chain.{Steps, LeadsTo}
 use Rattle.edge_uses.specs.declared.row.Row.{Row}
 use Rattle.edge_uses.specs.ShellRows.{ShellRows}
-use Rattle.edge_uses.specs.Closed.{StartsAt, Turns, AreMates, IsPoint, point_count}
+use Rattle.edge_uses.specs.RowRelations.{StartsAt, Turns, AreMates, point_count}
+use Rattle.shell_rules.specs.Closed.{IsPoint}
 use Rattle.solid_data.proofs.Members.{Has, NoRepeat, covers, no_longer, count_by-total, All-from, has_last}
 use Rattle.solid_data.proofs.Trail.{Trail, trail_keeps, no_repeat, leads_to, leads_on, leads_trans}
 use Rattle.solid_data.specs.declared.solid.VertexId.{VertexId}

@@ -7,7 +7,7 @@ use Rattle.solid_data.specs.Chain.{LeadsTo}
 use Rattle.solid_data.specs.declared.solid.EdgeId.{EdgeId}
 use Rattle.edge_uses.specs.declared.row.Row.{Row}
 use Rattle.edge_uses.specs.ShellRows.{ShellRows, EndsMeet}
-use Rattle.edge_uses.specs.Closed.{AreMates, StartsAt, row_count}
+use Rattle.edge_uses.specs.RowRelations.{AreMates, StartsAt, row_count}
 use Rattle.solid_data.proofs.Members.{Has, NoRepeat, covers, count_by-total}
 use Rattle.solid_data.proofs.Trail.{Trail, trail_from_zip, leads_trans, leads_to, leads_on, leads_one, leads_here, no_repeat}
 use Rattle.edge_uses.proofs.RowShape.{EndsExchanged}

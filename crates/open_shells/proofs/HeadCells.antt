@@ -5,7 +5,7 @@ use Rattle.solid_data.proofs.Members.{All-at, has_get}
 use Rattle.edge_uses.specs.Cells.{Celled, cell_of, with_cell}
 use Rattle.edge_uses.specs.Ranges.{IsWithin, IsSpanOf}
 use Rattle.edge_uses.specs.ShellRows.{ShellRows, AreRows}
-use Rattle.edge_uses.specs.Closed.{AreMates, Follows}
+use Rattle.edge_uses.specs.RowRelations.{AreMates, Follows}
 use Rattle.edge_uses.specs.declared.row.Row.{Row}
 use Rattle.open_shells.specs.Sound.{IsBorder}
 use Rattle.open_shells.specs.Mating.{AreOnce}

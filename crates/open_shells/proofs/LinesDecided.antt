@@ -10,7 +10,7 @@ use Rattle.solid_data.specs.declared.solid.VertexId.{VertexId}
 use Rattle.solid_data.proofs.Decisions.{Decided, decided_alike, decided_by, decided_same, decided_some, decided_pair, decided_below, decided_bool, decided_both, decided_three, decided_four, decided_either, decided_implies, decided_found, decided_bounded, decided_all, decided_zip, decided_contains, decided_list}
 use Rattle.edge_uses.specs.declared.row.Row.{Row}
 use Rattle.edge_uses.specs.ShellRows.{ShellRows}
-use Rattle.edge_uses.specs.Closed.{point_count}
+use Rattle.edge_uses.specs.RowRelations.{point_count}
 use Rattle.cert_lines.specs.Line.{spaced, IsShort, edge as edge_line, corner as corner_line, point as point_line, reach as reach_line}
 use Rattle.cert_lines.specs.declared.fault.Illegal.{Illegal}
 use Rattle.cert_lines.specs.declared.fault.Illegal.TheVariants.{Misspelt, Unfit, Missing}

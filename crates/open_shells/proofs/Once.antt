@@ -7,7 +7,7 @@ use Rattle.solid_data.specs.declared.solid.EdgeId.{EdgeId}
 use Rattle.solid_data.proofs.Members.{Has, NoRepeat, total, Has-from_Contains, Contains-from_Has, covers, count_by-total}
 use Rattle.edge_uses.specs.declared.row.Row.{Row}
 use Rattle.edge_uses.specs.ShellRows.{ShellRows}
-use Rattle.edge_uses.specs.Closed.{row_count}
+use Rattle.edge_uses.specs.RowRelations.{row_count}
 use Rattle.edge_uses.proofs.Counting.{uses_of_edge, uses-most, counts_of_edge, one_place}
 use Rattle.topo_certificate.specs.Stand.{Stand, FitsEdge, IsAbove, first_of, row_named, row_edge}
 use Rattle.topo_certificate.proofs.Corner.{AreNamedMates, MatesHold}

@@ -12,7 +12,7 @@ use Rattle.edge_uses.specs.declared.tally.Seen.{Seen}
 use Rattle.edge_uses.specs.declared.spanning.Span.{Span}
 use Rattle.edge_uses.specs.Ranges.{IsWithin}
 use Rattle.edge_uses.specs.ShellRows.{ShellRows}
-use Rattle.edge_uses.specs.Closed.{AreMates, IsPaired, row_count}
+use Rattle.edge_uses.specs.RowRelations.{AreMates, IsPaired, row_count}
 use Rattle.edge_uses.specs.Mates.{RunsOn}
 use Rattle.edge_uses.specs.Tally.{IsSeen, IsTally, unseen}
 use Rattle.edge_uses.proofs.Counting.{counts_of_edge}

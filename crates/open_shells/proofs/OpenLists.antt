@@ -8,9 +8,11 @@ use Rattle.solid_data.specs.declared.solid.Shell.{Shell}
 use Rattle.solid_data.specs.declared.verdict.Failing.{Failing}
 use Rattle.solid_data.proofs.ObligationLemmas.{AllHold-of_each, of_each-AllHold, AllHold-map, map-AllHold, AllByRecursion-weaker}
 use Rattle.edge_uses.specs.ShellRows.{ShellRows, shell_rows}
-use Rattle.edge_uses.specs.Closed.{IsJoined, IsReached}
-use Rattle.edge_uses.specs.ShellObligations.{loop_obligations, join_obligations, reach_obligations}
-use Rattle.edge_uses.proofs.ClosedLemmas.{joined_from_hold, hold_from_joined, numbered_from_enumerated, enumerated_from_numbered}
+use Rattle.edge_uses.specs.Joins.{IsJoined, loop_obligations, join_obligations}
+use Rattle.shell_rules.specs.Closed.{IsReached}
+use Rattle.shell_rules.specs.ShellObligations.{reach_obligations}
+use Rattle.edge_uses.proofs.JoinLemmas.{joined_from_hold, hold_from_joined}
+use Rattle.shell_rules.proofs.ClosedLemmas.{numbered_from_enumerated, enumerated_from_numbered}
 use Rattle.open_shells.specs.Sound.{IsSoundShell}
 use Rattle.open_shells.specs.Obligations.{OpenObligation, AllHold, FirstFalse, open_failing, as_open, edge_obligation, fan_obligation, open_shell_obligations}
 use Rattle.open_shells.specs.declared.verdict.OpenRule.{OpenRule}

@@ -14,9 +14,10 @@ use Rattle.solid_data.specs.declared.verdict.Rule.TheVariants.{Unjoined, Unreach
 use Rattle.solid_data.proofs.Members.{Has, Contains-from_Has}
 use Rattle.solid_data.proofs.ObligationLemmas.{FirstFalse-append_front, FirstFalse-append_rest}
 use Rattle.edge_uses.specs.ShellRows.{ShellRows, shell_rows}
-use Rattle.edge_uses.specs.Closed.{IsJoined, IsReached}
-use Rattle.edge_uses.specs.ShellObligations.{loop_obligations, IsFirstUnjoined, join_obligations, reach_obligations}
-use Rattle.edge_uses.proofs.ClosedLemmas.{hold_from_joined}
+use Rattle.edge_uses.specs.Joins.{IsJoined, loop_obligations, IsFirstUnjoined, join_obligations}
+use Rattle.shell_rules.specs.Closed.{IsReached}
+use Rattle.shell_rules.specs.ShellObligations.{reach_obligations}
+use Rattle.edge_uses.proofs.JoinLemmas.{hold_from_joined}
 use Rattle.open_shells.specs.Sound.{IsOnce, IsFanned}
 use Rattle.open_shells.specs.Obligations.{OpenObligation, AllHold, FirstFalse, open_failing, as_open, edge_obligation, fan_obligation, open_shell_obligations}
 use Rattle.open_shells.specs.Certified.{IsOpenFault}

@@ -17,7 +17,7 @@ use Rattle.solid_data.specs.declared.solid.Shell.{Shell}
 use Rattle.solid_data.proofs.Members.{map_has, from_flat_map, has_map, Has, All-at, no_longer, count_by-total, total, Rises, rises_none, has_left, has_right, all_has, has_get}
 use Rattle.edge_uses.specs.declared.row.Row.{Row}
 use Rattle.edge_uses.specs.ShellRows.{ShellRows, row_of, loop_rows, point_of, shell_rows}
-use Rattle.edge_uses.specs.Closed.{point_count}
+use Rattle.edge_uses.specs.RowRelations.{point_count}
 use Rattle.edge_uses.proofs.RowFacts.{loops_below, edges_rise, vertices_rise, edges_known}
 use Rattle.edge_uses.proofs.Adding.{rows_shorter}
 use Rattle.edge_uses.proofs.Few.{part_shorter}

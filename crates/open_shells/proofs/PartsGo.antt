@@ -11,7 +11,7 @@ use Rattle.solid_data.specs.declared.solid.RowId.{RowId}
 use Rattle.solid_data.proofs.Members.{Has, Has-from_Contains, Contains-from_Has, NoRepeat, Rises, rises_none, total, count_by-total}
 use Rattle.edge_uses.specs.declared.row.Row.{Row}
 use Rattle.edge_uses.specs.ShellRows.{ShellRows}
-use Rattle.edge_uses.specs.Closed.{AreMates, StartsAt, Turns}
+use Rattle.edge_uses.specs.RowRelations.{AreMates, StartsAt, Turns}
 use Rattle.edge_uses.specs.Mates.{RunsOn}
 use Rattle.edge_uses.proofs.Counting.{uses_of_edge, counts_of_edge, one_place}
 use Rattle.edge_uses.proofs.Turn.{edge_id}

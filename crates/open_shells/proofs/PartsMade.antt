@@ -14,7 +14,8 @@ use Rattle.std.proofs.lemmas.Option.{slice_get_within}
 use Rattle.solid_data.proofs.Trail.{trail_keeps}
 use Rattle.edge_uses.specs.declared.row.Row.{Row}
 use Rattle.edge_uses.specs.ShellRows.{ShellRows}
-use Rattle.edge_uses.specs.Closed.{AreMates, Turns, StartsAt, OnFace, AreNeighbours, IsReached}
+use Rattle.edge_uses.specs.RowRelations.{AreMates, Turns, StartsAt, OnFace}
+use Rattle.shell_rules.specs.Closed.{AreNeighbours, IsReached}
 use Rattle.edge_uses.proofs.Counting.{found_row}
 use Rattle.edge_uses.proofs.Cycle.{same_or_not}
 use Rattle.edge_uses.proofs.Turns.{mates_back, follows_onto}

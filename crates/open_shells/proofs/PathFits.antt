@@ -4,7 +4,7 @@ use Rattle.std.proofs.Common.{sym, ◌∙◌, ap, subst, arith}
 use Rattle.std.proofs.lemmas.Option.{same_Some}
 use Rattle.edge_uses.specs.declared.row.Row.{Row}
 use Rattle.edge_uses.specs.ShellRows.{ShellRows}
-use Rattle.edge_uses.specs.Closed.{point_count}
+use Rattle.edge_uses.specs.RowRelations.{point_count}
 use Rattle.cert_lines.specs.Numbers.{Begins, AreNumbers}
 use Rattle.topo_certificate.specs.Stand.{IsAbove, TurnsTo, row_named, row_start, start_count}
 use Rattle.topo_certificate.specs.Kept.{corner_size}

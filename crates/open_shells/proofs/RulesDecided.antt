@@ -15,9 +15,11 @@ use Rattle.solid_data.proofs.ChainsDecided.{leads_decided}
 use Rattle.solid_data.proofs.ObligationsDecided.{AreDecided, decided-map, decided-of_each}
 use Rattle.edge_uses.specs.declared.row.Row.{Row}
 use Rattle.edge_uses.specs.ShellRows.{ShellRows, shell_rows}
-use Rattle.edge_uses.specs.Closed.{point_count, AreMates, Follows, Turns, StartsAt, IsPoint, IsReached}
-use Rattle.edge_uses.specs.ShellObligations.{loop_obligations, join_obligations, reach_obligations}
-use Rattle.edge_uses.proofs.Decided.{edge_id_decided, paired_decided, reached_decided}
+use Rattle.edge_uses.specs.RowRelations.{point_count, AreMates, Follows, Turns, StartsAt}
+use Rattle.shell_rules.specs.Closed.{IsPoint, IsReached}
+use Rattle.edge_uses.specs.Joins.{loop_obligations, join_obligations}
+use Rattle.shell_rules.specs.ShellObligations.{reach_obligations}
+use Rattle.shell_rules.proofs.Decided.{edge_id_decided, paired_decided, reached_decided}
 use Rattle.open_shells.specs.Sound.{row_total, IsOnce, IsFan, IsFanned}
 use Rattle.open_shells.specs.Obligations.{OpenObligation, AllHold, FirstFalse, as_open, edge_obligation, fan_obligation, open_shell_obligations, of_shells, open_obligations}
 use Rattle.open_shells.specs.declared.verdict.OpenRule.{OpenRule}

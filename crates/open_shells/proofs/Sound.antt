@@ -10,7 +10,8 @@ use Rattle.solid_data.specs.declared.solid.Shell.{Shell}
 use Rattle.solid_data.proofs.Members.{Has, All-from}
 use Rattle.solid_data.proofs.Occurring.{number_below}
 use Rattle.edge_uses.specs.ShellRows.{shell_rows, rows_of}
-use Rattle.edge_uses.specs.Closed.{IsJoined, IsReached}
+use Rattle.edge_uses.specs.Joins.{IsJoined}
+use Rattle.shell_rules.specs.Closed.{IsReached}
 use Rattle.edge_uses.proofs.RowLemmas.{ends_meet}
 use Rattle.edge_uses.proofs.RowShape.{ends_exchanged}
 use Rattle.edge_uses.proofs.RowFacts.{edges_known, starts_known, points_known, faces_known}

@@ -3,7 +3,7 @@ use Rattle.std.specs.Prelude.{◌≡◌, ℕ, List, [], ◌∷◌, flat_map}
 use Rattle.std.specs.List.{AllByRecursion}
 use Rattle.solid_data.specs.SolidData.{SolidData, PlacedLoop, placed_loops}
 use Rattle.solid_data.specs.declared.solid.Shell.{Shell}
-use Rattle.edge_uses.specs.Closed.{IsJoined}
+use Rattle.edge_uses.specs.Joins.{IsJoined}
 use Rattle.cert_lines.specs.Line.{cut_lines}
 use Rattle.open_shells.specs.Line.{head, IsSpelled}
 use Rattle.open_shells.specs.Legal.{IsOpenLegal}

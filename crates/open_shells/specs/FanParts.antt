@@ -7,7 +7,8 @@ use Rattle.edge_uses.specs.declared.spanning.Span.{Span}
 use Rattle.edge_uses.specs.Cells.{Celled}
 use Rattle.edge_uses.specs.Ranges.{IsWithin, IsSpanOf}
 use Rattle.edge_uses.specs.ShellRows.{ShellRows}
-use Rattle.edge_uses.specs.Closed.{IsPoint, StartsAt, Turns, point_count}
+use Rattle.edge_uses.specs.RowRelations.{StartsAt, Turns, point_count}
+use Rattle.shell_rules.specs.Closed.{IsPoint}
 use Rattle.topo_certificate.specs.Stand.{start_count}
 use Rattle.open_shells.specs.Sound.{IsBorder, IsFanned}
 use Rattle.open_shells.specs.Stand.{IsChain, last_of}

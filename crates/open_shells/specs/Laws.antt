@@ -4,7 +4,7 @@ use Rattle.std.specs.List.{AllByRecursion, AllZip}
 use Rattle.solid_data.specs.Numbering.{IsNumberedSolid}
 use Rattle.solid_data.specs.SolidData.{SolidData}
 use Rattle.solid_data.specs.declared.solid.Shell.{Shell}
-use Rattle.edge_uses.specs.Closed.{IsClosedShell}
+use Rattle.shell_rules.specs.Closed.{IsClosedShell}
 use Rattle.edge_uses.specs.ShellRows.{ShellRows, shell_rows}
 use Rattle.open_shells.specs.Sound.{IsBorder, IsBorderCycleOf, IsSoundShell}
 use Rattle.open_shells.specs.Line.{OpenLine, border, IsSpelled}

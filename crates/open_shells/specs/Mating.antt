@@ -3,7 +3,7 @@ use Rattle.std.specs.Prelude.{◌≡◌, ℕ, Bool, true, false, List, length, O
 use Rattle.std.specs.List.{AllByRecursion}
 use Rattle.solid_data.specs.declared.solid.RowId.{RowId}
 use Rattle.edge_uses.specs.ShellRows.{ShellRows, AreRows, EndsMeet}
-use Rattle.edge_uses.specs.Closed.{AreMates}
+use Rattle.edge_uses.specs.RowRelations.{AreMates}
 use Rattle.edge_uses.specs.Mates.{RunsOn}
 use Rattle.open_shells.specs.Sound.{row_total, IsBorder, IsOnce}
 use Rattle.open_shells.specs.declared.parts.OpenEdge.{OpenEdge}

@@ -5,7 +5,8 @@ use Rattle.solid_data.specs.SolidData.{SolidData, edge_name, vertex_name}
 use Rattle.solid_data.specs.Obligations.{Obligation}
 use Rattle.solid_data.specs.declared.solid.Shell.{Shell}
 use Rattle.edge_uses.specs.ShellRows.{ShellRows, shell_rows}
-use Rattle.edge_uses.specs.ShellObligations.{join_obligations, reach_obligations}
+use Rattle.edge_uses.specs.Joins.{join_obligations}
+use Rattle.shell_rules.specs.ShellObligations.{reach_obligations}
 use Rattle.open_shells.specs.Sound.{IsOnce, IsFanned}
 use Rattle.open_shells.specs.declared.verdict.OpenRule.{OpenRule}
 use Rattle.open_shells.specs.declared.verdict.OpenRule.TheVariants.{Join, Edge, Reach, Fan}

@@ -7,7 +7,9 @@ use Rattle.solid_data.specs.SolidData.{SolidData, PlacedLoop, placed_loops}
 use Rattle.solid_data.specs.declared.solid.Shell.{Shell}
 use Rattle.edge_uses.specs.declared.row.Row.{Row}
 use Rattle.edge_uses.specs.ShellRows.{ShellRows, shell_rows}
-use Rattle.edge_uses.specs.Closed.{IsJoined, IsPaired, IsPoint, IsReached, StartsAt, Turns, point_count}
+use Rattle.edge_uses.specs.Joins.{IsJoined}
+use Rattle.edge_uses.specs.RowRelations.{IsPaired, StartsAt, Turns, point_count}
+use Rattle.shell_rules.specs.Closed.{IsPoint, IsReached}
 
 -- how many rows have the edge
 abbrev pub row_total : ShellRows → ℕ → ℕ

@@ -5,7 +5,7 @@ use Rattle.solid_data.specs.Ring.{next_of_each}
 use Rattle.solid_data.specs.SolidData.{SolidData}
 use Rattle.edge_uses.specs.declared.row.Row.{Row}
 use Rattle.edge_uses.specs.ShellRows.{ShellRows}
-use Rattle.edge_uses.specs.Closed.{point_count}
+use Rattle.edge_uses.specs.RowRelations.{point_count}
 use Rattle.topo_certificate.specs.Stand.{Stand, rows_of_shell, row_named, row_edge, row_start, row_face, point_named, first_of, start_count, IsAbove, TurnsTo, FitsEdge, FitsCorner, FitsPoint, FitsReach}
 use Rattle.solid_data.specs.declared.solid.LoopAt.{LoopAt}
 use Rattle.open_shells.specs.Line.{OpenLine, head, shell, edge, lone, cycle, path, point, reach, border, end}

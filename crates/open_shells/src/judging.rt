@@ -3,7 +3,8 @@
 ghost use Rattle.std.specs.Prelude.{◌≡◌, Some, IfOk, IfErr, OnOk, length, map, slice_get};
 ghost use Rattle.std.specs.List.{AllByRecursion, AllZip};
 ghost use Rattle.edge_uses.specs.ShellRows.{EndsMeet, shell_rows};
-ghost use Rattle.edge_uses.specs.ShellObligations.{join_obligations, reach_obligations};
+ghost use Rattle.edge_uses.specs.Joins.{join_obligations};
+ghost use Rattle.shell_rules.specs.ShellObligations.{reach_obligations};
 ghost use Rattle.open_shells.specs.Sound.{IsFanned};
 ghost use Rattle.open_shells.specs.Obligations.{AllHold, FirstFalse, as_open, edge_obligation, fan_obligation};
 ghost use Rattle.open_shells.specs.Mating.{AreRowsOf};

@@ -49,7 +49,7 @@ impl<'a> Model for Mated<'a> {
 
 impl<'a> Mated<'a> {
     ghost use Rattle.std.specs.Prelude.{◌≡◌, ◌<◌, length, MatchOption};
-    ghost use Rattle.edge_uses.specs.Closed.{AreMates, Turns};
+    ghost use Rattle.edge_uses.specs.RowRelations.{AreMates, Turns};
     ghost use Rattle.open_shells.specs.Sound.{IsBorder};
     ghost use Rattle.open_shells.specs.Mating.{AreOnce, HaveOpenMates};
 

@@ -10,8 +10,8 @@ use Rattle.solid_data.proofs.Decisions.{Decided, decided_alike, decided_by, deci
 use Rattle.solid_data.proofs.ChainsDecided.{leads_decided}
 use Rattle.edge_uses.specs.declared.row.Row.{Row}
 use Rattle.edge_uses.specs.ShellRows.{ShellRows}
-use Rattle.edge_uses.specs.Closed.{OnFace}
-use Rattle.edge_uses.proofs.Decided.{edge_id_decided}
+use Rattle.edge_uses.specs.RowRelations.{OnFace}
+use Rattle.shell_rules.proofs.Decided.{edge_id_decided}
 use Rattle.face_orient.specs.Partners.{HasTwoRows, ArePartners, Adjoin, IsReached}
 use Rattle.face_orient.specs.Flags.{FlagsFit, PartnersDiffer, face_flags, rows_at, rows_with}
 use Rattle.face_orient.specs.OddRing.{OddRing, GoesOn, RunsAlike, OddlyMany, bare_rows}

@@ -18,8 +18,9 @@ use Rattle.solid_data.specs.declared.solid.Shell.{Shell}
 use Rattle.solid_data.proofs.Members.{count_by-total}
 use Rattle.solid_data.proofs.ObligationLemmas.{AllByRecursion-weaker}
 use Rattle.edge_uses.specs.declared.row.Row.{Row}
-use Rattle.edge_uses.specs.Closed.{row_count, IsPaired, AreMates, OnFace, AreNeighbours, IsClosedShell}
-use Rattle.edge_uses.specs.Closed as closed
+use Rattle.edge_uses.specs.RowRelations.{row_count, IsPaired, AreMates, OnFace}
+use Rattle.shell_rules.specs.Closed.{AreNeighbours, IsClosedShell}
+use Rattle.shell_rules.specs.Closed as closed
 use Rattle.edge_uses.specs.ShellRows.{ShellRows, row_of, loop_rows, shell_rows, rows_of}
 use Rattle.edge_uses.proofs.Counting.{counted, counts_of_edge, found_row}
 use Rattle.face_orient.specs.Partners.{HasTwoRows, AllHaveTwoRows, Adjoin, IsReached, AllReached}

@@ -6,7 +6,7 @@ use Rattle.iges_params.specs.Limits.{FitsLimits}
 use Rattle.solid_data.specs.Obligations.{AllHold}
 use Rattle.solid_data.specs.SolidData.{SolidData}
 use Rattle.solid_data.specs.declared.solid.Shell.{Shell}
-use Rattle.edge_uses.specs.Closed.{IsClosedSolid}
+use Rattle.shell_rules.specs.Closed.{IsClosedSolid}
 use Rattle.brep_walk.specs.Places.{places}
 use Rattle.brep_walk.specs.SolidOf.{solid_of}
 use Rattle.cert_lines.specs.Line.{cut_lines}

@@ -3,7 +3,9 @@ use Rattle.std.specs.Prelude.{◌≡◌, ℕ, Bool, List, [], ◌∷◌, length,
 use Rattle.std.specs.List.{AllByRecursion}
 use Rattle.solid_data.specs.SolidData.{SolidData, PlacedLoop, placed_loops}
 use Rattle.solid_data.specs.declared.solid.Shell.{Shell}
-use Rattle.edge_uses.specs.Closed.{IsJoined, IsLinked, IsApart}
+use Rattle.edge_uses.specs.Before.{IsApart}
+use Rattle.edge_uses.specs.Joins.{IsJoined}
+use Rattle.shell_rules.specs.Closed.{IsLinked}
 use Rattle.edge_uses.specs.ShellRows.{shell_rows}
 use Rattle.face_orient.specs.Flags.{FlagsFit, shell_with}
 

@@ -21,7 +21,9 @@ use Rattle.solid_data.specs.declared.solid.LoopUse.TheVariants.{EdgeUse}
 use Rattle.solid_data.specs.declared.solid.Shell.{Shell}
 use Rattle.edge_uses.specs.declared.row.Row.{Row}
 use Rattle.edge_uses.specs.ShellRows.{ShellRows, row_of_edge, loop_rows, follows_from, point_of, shell_rows}
-use Rattle.edge_uses.specs.Closed.{begin_of, start_of as starts_at, end_of as ends_at, IsJoined, IsReached, IsApart, IsClosedShell, IsClosedSolid}
+use Rattle.edge_uses.specs.Before.{IsApart}
+use Rattle.edge_uses.specs.Joins.{begin_of, start_of as starts_at, end_of as ends_at, IsJoined}
+use Rattle.shell_rules.specs.Closed.{IsReached, IsClosedShell, IsClosedSolid}
 use Rattle.solid_data.proofs.Members.{Has, All-from, from_flat_map, has_map, from_enumerated}
 use Rattle.edge_uses.proofs.Occurs.{from_occurring}
 use Rattle.sample_solids.specs.Sample.{squares, face_number, sample}

@@ -13,7 +13,7 @@ use Rattle.solid_data.proofs.Members.{Has, get_some}
 use Rattle.solid_data.proofs.Occurring.{found}
 use Rattle.edge_uses.specs.declared.row.Row.{Row}
 use Rattle.edge_uses.specs.ShellRows.{ShellRows}
-use Rattle.edge_uses.specs.Closed.{AreMates, OnFace}
+use Rattle.edge_uses.specs.RowRelations.{AreMates, OnFace}
 use Rattle.edge_uses.specs.Mates.{ArePaired, HaveMates}
 use Rattle.edge_uses.proofs.Steps.{numbers_more}
 use Rattle.edge_uses.proofs.Turn.{one_mate, has_mate, paired_rows}

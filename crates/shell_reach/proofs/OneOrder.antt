@@ -10,7 +10,7 @@ use Rattle.solid_data.specs.Ring.{numbers_from}
 use Rattle.solid_data.proofs.Members.{Has, Has-from_Contains, Contains-from_Has, has_left, has_right, has_last, has_flat_map, map_has}
 use Rattle.solid_data.proofs.Occurring.{number_within}
 use Rattle.edge_uses.specs.ShellRows.{ShellRows}
-use Rattle.edge_uses.specs.Closed.{AreMates, OnFace}
+use Rattle.edge_uses.specs.RowRelations.{AreMates, OnFace}
 use Rattle.edge_uses.specs.Mates.{HaveMates}
 use Rattle.edge_uses.proofs.Turn.{one_mate, paired_rows}
 use Rattle.edge_uses.proofs.Turns.{mates_back}

@@ -1,7 +1,7 @@
 //! The faces that are reached so far.
 
 ghost use Rattle.std.specs.Prelude.{◌≡◌, ◌<◌, ◌≤◌, ◌++◌, ◌∷◌, [], ℕ, true, length, Some, slice_get, slice_set, IfOk};
-ghost use Rattle.edge_uses.specs.Closed.{OnFace, AreMates};
+ghost use Rattle.edge_uses.specs.RowRelations.{OnFace, AreMates};
 ghost use Rattle.edge_uses.specs.Mates.{ArePaired};
 ghost use Rattle.solid_data.proofs.Members.{Has};
 ghost use Rattle.shell_tables.specs.FaceRows.{AreFaceRows};

@@ -11,7 +11,7 @@ use Rattle.edge_uses.specs.declared.row.Row.{Row}
 use Rattle.edge_uses.specs.declared.spanning.Span.{Span}
 use Rattle.edge_uses.specs.Ranges.{IsWithin}
 use Rattle.edge_uses.specs.ShellRows.{ShellRows}
-use Rattle.edge_uses.specs.Closed.{StartsAt}
+use Rattle.edge_uses.specs.RowRelations.{StartsAt}
 use Rattle.solid_data.proofs.Members.{Has, Contains-from_Has, All-at, count_by-total, split_at, has_get}
 use Rattle.edge_uses.proofs.Tallies.{one_if, set_same, set_other}
 use Rattle.edge_uses.proofs.Counting.{times, times_few}

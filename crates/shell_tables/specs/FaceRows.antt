@@ -1,7 +1,7 @@
 -- The rows of each face, linked from the first to the last.
 use Rattle.std.specs.Prelude.{◌≡◌, ◌<◌, ◌≤◌, ◌+◌, ℕ, List, length, get_or}
 use Rattle.edge_uses.specs.ShellRows.{ShellRows}
-use Rattle.edge_uses.specs.Closed.{OnFace}
+use Rattle.edge_uses.specs.RowRelations.{OnFace}
 
 -- the first row of the face from row i on, or the number of rows
 pub record IsHead (d : ShellRows) (face i head : ℕ) : Type 0 where

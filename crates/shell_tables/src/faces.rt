@@ -1,7 +1,7 @@
 //! The rows of each face.
 
 ghost use Rattle.std.specs.Prelude.{◌≡◌, ◌<◌, length, IfOk};
-ghost use Rattle.edge_uses.specs.Closed.{OnFace};
+ghost use Rattle.edge_uses.specs.RowRelations.{OnFace};
 ghost use Rattle.shell_tables.specs.FaceRows.{AreFaceRows};
 
 use edge_uses::Rows;

@@ -12,9 +12,10 @@ use Rattle.solid_data.specs.declared.verdict.Failing.{Failing}
 use Rattle.solid_data.proofs.Members.{All-at, All-from, all_flat_map}
 use Rattle.solid_data.proofs.ObligationLemmas.{AllHold-append, AllHold-append_left, AllHold-append_right, FirstFalse-append_front, FirstFalse-append_rest, AllHold-of_each, of_each-AllHold, AllHold-map, map-AllHold, AllByRecursion-weaker}
 use Rattle.edge_uses.specs.ShellRows.{shell_rows}
-use Rattle.edge_uses.specs.Closed.{IsJoined, IsApart}
-use Rattle.edge_uses.specs.ShellObligations.{loop_obligations, join_obligations, apart_obligations, checked_of_shell, checked_obligations}
-use Rattle.edge_uses.proofs.ClosedLemmas.{joined_from_hold, hold_from_joined}
+use Rattle.edge_uses.specs.Before.{IsApart}
+use Rattle.edge_uses.specs.Joins.{IsJoined, loop_obligations, join_obligations}
+use Rattle.shell_rules.specs.ShellObligations.{apart_obligations, checked_of_shell, checked_obligations}
+use Rattle.edge_uses.proofs.JoinLemmas.{joined_from_hold, hold_from_joined}
 use Rattle.cert_lines.specs.declared.version.Version.{Version}
 use Rattle.topo_certificate.specs.Legal.{IsLegal}
 use Rattle.solid_check.specs.Accepted.{AllJoin, AllApart, Certify}

@@ -8,8 +8,9 @@ use Rattle.solid_data.specs.declared.solid.Shell.{Shell}
 use Rattle.solid_data.specs.declared.verdict.Failing.{Failing}
 use Rattle.solid_data.proofs.ObligationLemmas.{AllHold-append, FirstFalse-append_front, FirstFalse-append_rest}
 use Rattle.edge_uses.specs.ShellRows.{ShellRows, shell_rows}
-use Rattle.edge_uses.specs.Closed.{IsApart}
-use Rattle.edge_uses.specs.ShellObligations.{join_obligations, apart_obligations, checked_of_shell, checked_obligations}
+use Rattle.edge_uses.specs.Before.{IsApart}
+use Rattle.edge_uses.specs.Joins.{join_obligations}
+use Rattle.shell_rules.specs.ShellObligations.{apart_obligations, checked_of_shell, checked_obligations}
 use Rattle.solid_check.specs.declared.fault.CheckFault.TheVariants.{Fails}
 use Rattle.solid_check.proofs.Rules.{apart_holds}
 use Rattle.solid_check.proofs.Shells.{checked_from_first, one_shell, shell_fails, all_shells}

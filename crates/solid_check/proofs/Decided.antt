@@ -5,8 +5,8 @@ use Rattle.brep_walk.specs.Places.{places}
 use Rattle.brep_walk.specs.SolidOf.{solid_of}
 use Rattle.brep_walk.proofs.Decided.{places_decided}
 use Rattle.solid_data.proofs.ObligationsDecided.{AreDecided, decided-append}
-use Rattle.edge_uses.specs.ShellObligations.{solid_obligations, checked_obligations}
-use Rattle.edge_uses.proofs.Decided.{solid_decided, checked_decided}
+use Rattle.shell_rules.specs.ShellObligations.{solid_obligations, checked_obligations}
+use Rattle.shell_rules.proofs.Decided.{solid_decided, checked_decided}
 use Rattle.solid_check.specs.Closed.{obligations}
 use Rattle.solid_check.specs.Checked.{checked}
 

@@ -7,7 +7,8 @@ use Rattle.solid_data.specs.declared.solid.Shell.{Shell}
 use Rattle.solid_data.specs.declared.verdict.Failing.{Failing}
 use Rattle.solid_data.proofs.ObligationLemmas.{AllHold-append, FirstFalse-append_front, FirstFalse-append_rest}
 use Rattle.edge_uses.specs.ShellRows.{ShellRows, rows_of, shell_rows}
-use Rattle.edge_uses.specs.ShellObligations.{join_obligations, pair_obligations, reach_obligations, link_obligations, apart_obligations, shell_obligations}
+use Rattle.edge_uses.specs.Joins.{join_obligations}
+use Rattle.shell_rules.specs.ShellObligations.{pair_obligations, reach_obligations, link_obligations, apart_obligations, shell_obligations}
 use Rattle.solid_check.specs.Faults.{IsCheckFault}
 use Rattle.solid_check.specs.declared.fault.CheckFault.{CheckFault}
 use Rattle.solid_check.specs.declared.fault.CheckFault.TheVariants.{Fails, NoMemory}

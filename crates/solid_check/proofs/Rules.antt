@@ -13,10 +13,13 @@ use Rattle.solid_data.specs.declared.verdict.Rule.TheVariants.{Unjoined, Unpaire
 use Rattle.solid_data.proofs.Members.{Has, Contains-from_Has}
 use Rattle.solid_data.proofs.ObligationLemmas.{FirstFalse-append_front, FirstFalse-append_rest, FirstNot-map, map-AllHold}
 use Rattle.edge_uses.specs.ShellRows.{ShellRows}
-use Rattle.edge_uses.specs.Closed.{IsJoined, IsPaired, IsReached, IsLinked, IsApart}
-use Rattle.edge_uses.specs.ShellObligations.{loop_obligations, IsFirstUnjoined, join_obligations, pair_obligations, reach_obligations, link_obligations, apart_obligations, at_edge, at_vertex}
-use Rattle.edge_uses.proofs.ClosedLemmas.{hold_from_joined}
-use Rattle.solid_check.specs.Naming.{failing}
+use Rattle.edge_uses.specs.Before.{IsApart}
+use Rattle.edge_uses.specs.Joins.{IsJoined, loop_obligations, IsFirstUnjoined, join_obligations}
+use Rattle.edge_uses.specs.RowRelations.{IsPaired}
+use Rattle.shell_rules.specs.Closed.{IsReached, IsLinked}
+use Rattle.shell_rules.specs.ShellObligations.{pair_obligations, reach_obligations, link_obligations, apart_obligations, at_edge, at_vertex}
+use Rattle.edge_uses.proofs.JoinLemmas.{hold_from_joined}
+use Rattle.shell_rules.specs.Naming.{failing}
 use Rattle.solid_check.proofs.Placed.{IsPlace}
 
 FirstNot-has : {A : Type 0} (P : A → Type 0) (xs : List A) (x : A) → FirstNot P xs x → Has xs x

@@ -9,7 +9,7 @@ use Rattle.solid_data.specs.declared.solid.Shell.{Shell}
 use Rattle.solid_data.specs.declared.verdict.Failing.{Failing}
 use Rattle.solid_data.proofs.ObligationLemmas.{Remains, Remains-all, Remains-less, Remains-fails, FirstFalse-not_all, FirstFalse-one}
 use Rattle.solid_data.proofs.Members.{split_at}
-use Rattle.edge_uses.specs.ShellObligations.{shell_obligations, solid_obligations, checked_of_shell, checked_obligations}
+use Rattle.shell_rules.specs.ShellObligations.{shell_obligations, solid_obligations, checked_of_shell, checked_obligations}
 use Rattle.solid_check.specs.Faults.{IsCheckFault, IsNoMemory, FailsSo}
 use Rattle.solid_check.specs.declared.fault.CheckFault.{CheckFault}
 use Rattle.solid_check.specs.declared.fault.CheckFault.TheVariants.{Fails, NoMemory}

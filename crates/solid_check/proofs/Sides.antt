@@ -12,7 +12,7 @@ use Rattle.solid_data.proofs.Members.{Has, NoRepeat, All-at, covers, total, coun
 use Rattle.solid_data.proofs.Trail.{Trail, trail_from_zip, no_repeat}
 use Rattle.edge_uses.specs.declared.row.Row.{Row}
 use Rattle.edge_uses.specs.ShellRows.{ShellRows}
-use Rattle.edge_uses.specs.Closed.{IsPaired, row_count, point_count}
+use Rattle.edge_uses.specs.RowRelations.{IsPaired, row_count, point_count}
 use Rattle.edge_uses.proofs.Turn.{PairedRows, pair_counts, one_of_edge}
 use Rattle.edge_uses.proofs.RowNumbers.{starting, length-starting}
 use Rattle.cert_lines.specs.Line.{shell, edge, corner, point, tally}

@@ -7,7 +7,10 @@ use Rattle.solid_data.specs.Ring.{numbers_from}
 use Rattle.solid_data.specs.SolidData.{SolidData, PlacedLoop, placed_loops}
 use Rattle.solid_data.specs.declared.solid.Shell.{Shell}
 use Rattle.edge_uses.specs.ShellRows.{rows_of, shell_rows}
-use Rattle.edge_uses.specs.Closed.{IsJoined, IsPaired, IsReached, IsLinked, IsApart, IsClosedShell, IsClosedSolid}
+use Rattle.edge_uses.specs.Before.{IsApart}
+use Rattle.edge_uses.specs.Joins.{IsJoined}
+use Rattle.edge_uses.specs.RowRelations.{IsPaired}
+use Rattle.shell_rules.specs.Closed.{IsReached, IsLinked, IsClosedShell, IsClosedSolid}
 use Rattle.edge_uses.proofs.RowLemmas.{ends_meet}
 use Rattle.solid_data.proofs.Members.{Has, All-at, All-from, has_flat_map, has_get}
 use Rattle.topo_certificate.specs.Stand.{rows_of_shell}
@@ -21,15 +24,14 @@ use Rattle.topo_certificate.proofs.Forward.{legal_behind}
 use Rattle.topo_certificate.proofs.PointOrder.{faces_of_rows}
 use Rattle.cert_lines.specs.declared.version.Version.{Version}
 use Rattle.cert_lines.specs.declared.version.Version.TheVariants.{One, Two, Three}
-use Rattle.solid_check.specs.Closed.{IsClosed}
+use Rattle.solid_check.specs.Closed.{IsClosed, obligations}
 use Rattle.iges_params.specs.Contents.{Contents}
 use Rattle.cert_lines.specs.Line.{end, spelling}
 use Rattle.brep_walk.specs.Places.{places}
 use Rattle.brep_walk.specs.SolidOf.{solid_of}
 use Rattle.solid_data.proofs.ObligationLemmas.{AllHold-append, AllHold-append_left, AllHold-append_right}
-use Rattle.edge_uses.specs.ShellObligations.{solid_obligations}
-use Rattle.edge_uses.proofs.ClosedLemmas.{closed_is_all_hold}
-use Rattle.solid_check.specs.Closed.{obligations}
+use Rattle.shell_rules.specs.ShellObligations.{solid_obligations}
+use Rattle.shell_rules.proofs.ClosedLemmas.{closed_is_all_hold}
 use Rattle.solid_check.specs.Accepted.{AllJoin, AllApart, Certify, Part, IsGoodPart, solids_named}
 use Rattle.solid_check.specs.Laws.{AcceptedIsClosed, ClosedIsAllHold}
 use Rattle.brep_walk.proofs.KnownVertices.{vertices_known}

@@ -10,7 +10,7 @@ use Rattle.solid_data.specs.declared.verdict.Failing.{Failing}
 use Rattle.solid_data.specs.declared.verdict.Verdict.{Verdict}
 use Rattle.solid_data.specs.declared.verdict.Verdict.TheVariants.{Closed, Fails}
 use Rattle.solid_data.proofs.ObligationLemmas.{FirstFalse-one, FirstFalse-not_all, FirstFalse-append_front, FirstFalse-append_rest, AllHold-append}
-use Rattle.edge_uses.specs.ShellObligations.{solid_obligations}
+use Rattle.shell_rules.specs.ShellObligations.{solid_obligations}
 use Rattle.solid_check.specs.Closed.{obligations, IsVerdictOn}
 
 pub IsVerdict-one : (os : List Obligation) (a b : Verdict) → IsVerdict os a → IsVerdict os b → a ≡ b

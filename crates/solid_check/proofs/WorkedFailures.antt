@@ -10,8 +10,8 @@ use Rattle.solid_data.specs.declared.verdict.Rule.TheVariants.{Unjoined, Unpaire
 use Rattle.brep_walk.specs.SolidOf.{solid_of}
 use Rattle.solid_data.specs.Chain.{Steps}
 use Rattle.edge_uses.specs.ShellRows.{ShellRows, shell_rows}
-use Rattle.edge_uses.specs.Closed.{AreNeighbours}
-use Rattle.edge_uses.specs.ShellObligations.{shell_obligations, solid_obligations}
+use Rattle.shell_rules.specs.Closed.{AreNeighbours}
+use Rattle.shell_rules.specs.ShellObligations.{shell_obligations, solid_obligations}
 use Rattle.solid_check.proofs.WorkedFiles.{entry, ball_at_one_vertex, ball_with_seam, cylinder}
 
 abbrev ints : List ℕ → List Value

@@ -9,7 +9,8 @@ use Rattle.solid_data.specs.SolidData.{SolidData, PlacedLoop, placed_loops}
 use Rattle.solid_data.specs.Obligations.{AllHold}
 use Rattle.solid_data.specs.declared.solid.Shell.{Shell}
 use Rattle.edge_uses.specs.ShellRows.{shell_rows}
-use Rattle.edge_uses.specs.Closed.{IsJoined, IsApart}
+use Rattle.edge_uses.specs.Before.{IsApart}
+use Rattle.edge_uses.specs.Joins.{IsJoined}
 use Rattle.cert_lines.specs.Line.{solid, end, spelling, IsSpelled}
 use Rattle.cert_lines.specs.Opening.{Opens, IsHeaded}
 use Rattle.topo_certificate.specs.Legal.{IsLegal}

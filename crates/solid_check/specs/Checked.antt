@@ -4,7 +4,7 @@ use Rattle.iges_params.specs.Contents.{Contents}
 use Rattle.brep_walk.specs.Places.{places}
 use Rattle.brep_walk.specs.SolidOf.{solid_of}
 use Rattle.solid_data.specs.Obligations.{Obligation, AllHold}
-use Rattle.edge_uses.specs.ShellObligations.{checked_obligations}
+use Rattle.shell_rules.specs.ShellObligations.{checked_obligations}
 use Rattle.cert_lines.specs.Opening.{Opens}
 use Rattle.topo_certificate.specs.Legal.{IsLegal}
 use Rattle.cert_lines.specs.declared.version.Version.{Version}

@@ -5,4 +5,3 @@ pub mod Checked
 pub mod Book
 pub mod BookLaws
 pub mod Faults
-pub mod Naming

@@ -4,7 +4,7 @@ ghost use Rattle.std.specs.Prelude.{◌≡◌, ◌+◌, ◌<◌, Some, length, s
 ghost use Rattle.solid_data.specs.Obligations.{AllHold, FirstFalse};
 ghost use Rattle.solid_data.specs.declared.verdict.Failing.{Failing as Named};
 ghost use Rattle.edge_uses.specs.Before.{AreBelow};
-ghost use Rattle.edge_uses.specs.ShellObligations.{checked_of_shell, checked_obligations};
+ghost use Rattle.shell_rules.specs.ShellObligations.{checked_of_shell, checked_obligations};
 ghost use Rattle.solid_check.specs.Faults.{IsCheckFault, IsNoMemory, FailsSo};
 
 use crate::fault::CheckFault;

@@ -4,7 +4,8 @@ ghost use Rattle.std.specs.Prelude.{◌≡◌, Some, IfErr, OnOk, slice_get};
 ghost use Rattle.solid_data.specs.Obligations.{AllHold, FirstFalse};
 ghost use Rattle.edge_uses.specs.Before.{AreBelow};
 ghost use Rattle.edge_uses.specs.ShellRows.{EndsMeet, shell_rows, rows_of};
-ghost use Rattle.edge_uses.specs.ShellObligations.{join_obligations, apart_obligations};
+ghost use Rattle.edge_uses.specs.Joins.{join_obligations};
+ghost use Rattle.shell_rules.specs.ShellObligations.{apart_obligations};
 
 use crate::naming::{at_vertex, unjoined};
 use edge_uses::{Rows, VerticesBefore, first_unjoined};

@@ -2,7 +2,7 @@
 
 ghost use Rattle.std.specs.Prelude.{◌≡◌, Contains, slice_get};
 ghost use Rattle.solid_data.specs.SolidData.{PlacedLoop, placed_loops, vertex_name};
-ghost use Rattle.solid_check.specs.Naming.{failing};
+ghost use Rattle.shell_rules.specs.Naming.{failing};
 
 use edge_uses::Unjoined;
 use solid_data::{Failing, Rule, Shell, Solid, VertexId};

@@ -6,10 +6,11 @@ use Rattle.solid_data.specs.Obligations.{AllHold, FirstNot}
 use Rattle.solid_data.specs.SolidData.{SolidData, PlacedLoop, placed_loops}
 use Rattle.solid_data.specs.declared.solid.Shell.{Shell}
 use Rattle.solid_data.proofs.ObligationLemmas.{AllByRecursion-weaker, AllHold-of_each, map-AllHold, AllHold-map}
-use Rattle.edge_uses.specs.Closed.{IsJoined, IsPaired}
+use Rattle.edge_uses.specs.Joins.{IsJoined, loop_obligations, join_obligations}
+use Rattle.edge_uses.specs.RowRelations.{IsPaired}
 use Rattle.edge_uses.specs.ShellRows.{ShellRows, EndsMeet, shell_rows, rows_of}
-use Rattle.edge_uses.specs.ShellObligations.{loop_obligations, join_obligations, pair_obligations}
-use Rattle.edge_uses.proofs.ClosedLemmas.{joined_from_hold}
+use Rattle.shell_rules.specs.ShellObligations.{pair_obligations}
+use Rattle.edge_uses.proofs.JoinLemmas.{joined_from_hold}
 use Rattle.edge_uses.proofs.RowLemmas.{ends_meet}
 use Rattle.solid_faults.specs.declared.gap.Gap.{Gap}
 use Rattle.solid_faults.specs.declared.edge.Unpaired.{Unpaired}

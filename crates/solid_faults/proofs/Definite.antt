@@ -11,11 +11,13 @@ use Rattle.solid_data.specs.declared.solid.Shell.{Shell}
 use Rattle.solid_data.specs.declared.verdict.Failing.{Failing}
 use Rattle.solid_data.proofs.Members.{Has, split_at}
 use Rattle.solid_data.proofs.ObligationLemmas.{AllHold-append, AllHold-append_left, AllHold-append_right, FirstFalse-append_front, FirstFalse-append_rest, AllHold-of_each, AllHold-map, AllByRecursion-weaker}
-use Rattle.edge_uses.specs.Closed.{IsJoined, IsClosedSolid}
+use Rattle.edge_uses.specs.Joins.{IsJoined, loop_obligations, join_obligations}
+use Rattle.shell_rules.specs.Closed.{IsClosedSolid}
 use Rattle.edge_uses.specs.Mates.{ArePaired}
 use Rattle.edge_uses.specs.ShellRows.{ShellRows, shell_rows}
-use Rattle.edge_uses.specs.ShellObligations.{loop_obligations, join_obligations, pair_obligations, reach_obligations, link_obligations, apart_obligations, shell_obligations, solid_obligations}
-use Rattle.edge_uses.proofs.ClosedLemmas.{joined_from_hold, closed_is_all_hold}
+use Rattle.shell_rules.specs.ShellObligations.{pair_obligations, reach_obligations, link_obligations, apart_obligations, shell_obligations, solid_obligations}
+use Rattle.edge_uses.proofs.JoinLemmas.{joined_from_hold}
+use Rattle.shell_rules.proofs.ClosedLemmas.{closed_is_all_hold}
 use Rattle.edge_uses.proofs.RowLemmas.{ends_meet}
 use Rattle.edge_uses.proofs.Turn.{paired_rows}
 use Rattle.edge_uses.proofs.Whole.{are_rows}

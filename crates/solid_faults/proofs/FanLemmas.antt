@@ -6,7 +6,7 @@ use Rattle.solid_data.specs.Chain.{Steps, LeadsTo}
 use Rattle.solid_data.proofs.Members.{Has, All-from, get_some, has_get}
 use Rattle.solid_data.proofs.Trail.{leads_here, leads_one, leads_trans}
 use Rattle.edge_uses.specs.ShellRows.{ShellRows}
-use Rattle.edge_uses.specs.Closed.{Turns}
+use Rattle.edge_uses.specs.RowRelations.{Turns}
 use Rattle.edge_uses.specs.Mates.{ArePaired}
 use Rattle.edge_uses.proofs.Turns.{turns_permute}
 use Rattle.edge_components.specs.Components.{Linked, AreJoined, AreInside, AreComponents}

@@ -13,7 +13,7 @@ use Rattle.edge_uses.specs.Ranges.{IsWithin, IsSpanOf}
 use Rattle.edge_uses.specs.ShellRows.{ShellRows, AreRows}
 use Rattle.edge_uses.proofs.Counting.{times, times_few}
 use Rattle.edge_uses.proofs.Tallies.{one_if, set_same, set_other}
-use Rattle.edge_uses.specs.Closed.{point_count}
+use Rattle.edge_uses.specs.RowRelations.{point_count}
 use Rattle.solid_faults.specs.declared.fan.Unlinked.{Unlinked}
 use Rattle.solid_faults.specs.FanCells.{IsOnVertices, counted_more}
 use Rattle.solid_faults.specs.Fans.{fans_from, fan_count, added, AreFanCounts, ArePointCounts, unlinked_at, vertex_unlinked}

@@ -7,9 +7,8 @@ use Rattle.std.proofs.lemmas.Grind.{flat_map-append}
 use Rattle.std.proofs.Math.Seq.{drop-cons}
 use Rattle.solid_data.specs.Ring.{next_of_each}
 use Rattle.solid_data.specs.SolidData.{SolidData, PlacedLoop, placed_in_face}
-use Rattle.edge_uses.specs.Closed.{start_of, end_of}
-use Rattle.edge_uses.specs.ShellObligations.{ends_and_starts}
-use Rattle.edge_uses.proofs.ClosedLemmas.{length-next}
+use Rattle.edge_uses.specs.Joins.{start_of, end_of, ends_and_starts}
+use Rattle.edge_uses.proofs.JoinLemmas.{length-next}
 use Rattle.solid_data.specs.declared.solid.FaceUse.{FaceUse}
 use Rattle.solid_data.specs.declared.solid.Loop.{Loop}
 use Rattle.solid_data.proofs.Members.{split_at}

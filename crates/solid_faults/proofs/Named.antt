@@ -11,9 +11,11 @@ use Rattle.solid_data.specs.declared.solid.Shell.{Shell}
 use Rattle.solid_data.specs.declared.verdict.Rule.TheVariants.{Unjoined, Unpaired as RuleUnpaired, Shared}
 use Rattle.solid_data.proofs.Members.{Has, Has-from_Contains, Contains-from_Has}
 use Rattle.solid_data.proofs.Occurring.{found}
-use Rattle.edge_uses.specs.Closed.{start_of, end_of, row_count, IsPaired, IsApart}
+use Rattle.edge_uses.specs.Before.{IsApart}
+use Rattle.edge_uses.specs.Joins.{start_of, end_of, ends_and_starts, loop_obligations, join_obligations}
+use Rattle.edge_uses.specs.RowRelations.{row_count, IsPaired}
 use Rattle.edge_uses.specs.ShellRows.{ShellRows}
-use Rattle.edge_uses.specs.ShellObligations.{ends_and_starts, loop_obligations, join_obligations, pair_obligations, apart_obligations, at_edge, at_vertex}
+use Rattle.shell_rules.specs.ShellObligations.{pair_obligations, apart_obligations, at_edge, at_vertex}
 use Rattle.solid_faults.specs.Failing.{AreFailing}
 use Rattle.solid_faults.specs.Gaps.{gap_at, loop_gaps, gaps_of, gap_failing}
 use Rattle.solid_faults.specs.Edges.{edge_unpaired, unpaired_of, unpaired_failing, shared_of, shared_failing}

@@ -10,7 +10,7 @@ use Rattle.solid_data.proofs.Trail.{leads_here, leads_one, leads_trans}
 use Rattle.edge_uses.specs.declared.row.Row.{Row}
 use Rattle.edge_uses.specs.declared.spanning.Span.{Span}
 use Rattle.edge_uses.specs.declared.tally.Seen.{Seen}
-use Rattle.edge_uses.specs.Closed.{row_count}
+use Rattle.edge_uses.specs.RowRelations.{row_count}
 use Rattle.edge_uses.specs.Mates.{RunsOn}
 use Rattle.edge_uses.specs.Ranges.{IsWithin, IsSpanOf}
 use Rattle.edge_uses.specs.ShellRows.{ShellRows}

@@ -22,7 +22,7 @@ use Rattle.edge_uses.specs.declared.spanning.Span.{Span}
 use Rattle.edge_uses.specs.Before.{face_vertices, faces_vertices}
 use Rattle.edge_uses.specs.Building.{HasKnownParts, uses_in}
 use Rattle.edge_uses.specs.Cells.{Celled}
-use Rattle.edge_uses.specs.Closed.{row_count}
+use Rattle.edge_uses.specs.RowRelations.{row_count}
 use Rattle.edge_uses.specs.Ranges.{IsWithin, IsSpanOf}
 use Rattle.edge_uses.specs.ShellRows.{ShellRows, shell_rows, rows_of}
 use Rattle.edge_uses.proofs.Above.{shell_flat}

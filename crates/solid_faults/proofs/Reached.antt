@@ -11,9 +11,10 @@ use Rattle.solid_data.specs.declared.solid.Shell.{Shell}
 use Rattle.solid_data.specs.declared.verdict.Rule.TheVariants.{Unreached}
 use Rattle.solid_data.proofs.Trail.{leads_here, leads_one, leads_last}
 use Rattle.edge_uses.specs.declared.row.Row.{Row}
-use Rattle.edge_uses.specs.Closed.{AreMates, AreNeighbours, IsReached}
+use Rattle.edge_uses.specs.RowRelations.{AreMates}
+use Rattle.shell_rules.specs.Closed.{AreNeighbours, IsReached}
 use Rattle.edge_uses.specs.ShellRows.{ShellRows}
-use Rattle.edge_uses.specs.ShellObligations.{reach_obligations}
+use Rattle.shell_rules.specs.ShellObligations.{reach_obligations}
 use Rattle.edge_uses.proofs.Turn.{PairedRows, one_of_edge, pair_counts}
 use Rattle.solid_faults.specs.Failing.{AreFailing}
 use Rattle.solid_faults.specs.Parts.{ShareEdge, AreConnected, AreParts, failing_faces}

@@ -9,7 +9,7 @@ use Rattle.solid_data.proofs.Members.{Has, NoRepeat, no_longer}
 use Rattle.solid_data.proofs.Occurring.{number_within, length-numbers}
 use Rattle.solid_data.proofs.Trail.{leads_here, leads_last}
 use Rattle.edge_uses.specs.ShellRows.{ShellRows}
-use Rattle.edge_uses.specs.Closed.{Turns, StartsAt}
+use Rattle.edge_uses.specs.RowRelations.{Turns, StartsAt}
 use Rattle.edge_uses.specs.Mates.{ArePaired, TurnsPermute}
 use Rattle.edge_uses.proofs.Turns.{turns_permute}
 

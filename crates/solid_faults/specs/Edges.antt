@@ -8,7 +8,7 @@ use Rattle.solid_data.specs.declared.verdict.Failing.{Failing}
 use Rattle.solid_data.specs.declared.verdict.Rule.{Rule}
 use Rattle.solid_data.specs.declared.verdict.Rule.TheVariants.{Unpaired as RuleUnpaired, Shared}
 use Rattle.edge_uses.specs.declared.row.Row.{Row}
-use Rattle.edge_uses.specs.Closed.{row_count}
+use Rattle.edge_uses.specs.RowRelations.{row_count}
 use Rattle.edge_uses.specs.ShellRows.{ShellRows}
 use Rattle.solid_faults.specs.declared.edge.Unpaired.{Unpaired}
 

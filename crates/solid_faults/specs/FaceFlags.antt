@@ -3,7 +3,7 @@ use Rattle.std.specs.Prelude.{true, map}
 use Rattle.solid_data.specs.SolidData.{SolidData}
 use Rattle.solid_data.specs.declared.solid.FaceUse.{FaceUse}
 use Rattle.solid_data.specs.declared.solid.Shell.{Shell}
-use Rattle.edge_uses.specs.Closed.{IsClosedSolid}
+use Rattle.shell_rules.specs.Closed.{IsClosedSolid}
 
 abbrev pub flagged_face : FaceUse → FaceUse
 flagged_face f = record { entity = f.entity; flag = true; loops = f.loops }

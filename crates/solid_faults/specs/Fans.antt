@@ -5,7 +5,7 @@ use Rattle.solid_data.specs.SolidData.{SolidData, vertex_name}
 use Rattle.solid_data.specs.declared.verdict.Failing.{Failing}
 use Rattle.solid_data.specs.declared.verdict.Rule.TheVariants.{Unlinked as RuleUnlinked}
 use Rattle.edge_uses.specs.declared.row.Row.{Row}
-use Rattle.edge_uses.specs.Closed.{Turns, point_count}
+use Rattle.edge_uses.specs.RowRelations.{Turns, point_count}
 use Rattle.edge_uses.specs.ShellRows.{ShellRows}
 use Rattle.solid_faults.specs.declared.fan.Unlinked.{Unlinked}
 use Rattle.solid_faults.specs.Edges.{named_vertex}

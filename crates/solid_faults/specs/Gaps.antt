@@ -5,8 +5,7 @@ use Rattle.solid_data.specs.SolidData.{SolidData, PlacedLoop, placed_loops}
 use Rattle.solid_data.specs.declared.solid.Shell.{Shell}
 use Rattle.solid_data.specs.declared.verdict.Failing.{Failing}
 use Rattle.solid_data.specs.declared.verdict.Rule.TheVariants.{Unjoined}
-use Rattle.edge_uses.specs.Closed.{start_of, end_of}
-use Rattle.edge_uses.specs.ShellObligations.{ends_and_starts}
+use Rattle.edge_uses.specs.Joins.{start_of, end_of, ends_and_starts}
 use Rattle.solid_faults.specs.declared.gap.Gap.{Gap}
 
 -- a use by its number, with where it ends and where the next one starts

@@ -3,7 +3,8 @@ use Rattle.std.specs.Prelude.{◌≡◌, ℕ, [], map}
 use Rattle.solid_data.specs.SolidData.{SolidData}
 use Rattle.solid_data.specs.declared.solid.Shell.{Shell}
 use Rattle.edge_uses.specs.ShellRows.{shell_rows}
-use Rattle.edge_uses.specs.ShellObligations.{join_obligations, pair_obligations, reach_obligations, link_obligations, apart_obligations}
+use Rattle.edge_uses.specs.Joins.{join_obligations}
+use Rattle.shell_rules.specs.ShellObligations.{pair_obligations, reach_obligations, link_obligations, apart_obligations}
 use Rattle.solid_faults.specs.Failing.{AreFailing}
 use Rattle.solid_faults.specs.Faults.{Faults, failing_vertices}
 use Rattle.solid_faults.specs.Gaps.{gap_failing}

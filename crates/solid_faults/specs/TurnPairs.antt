@@ -1,6 +1,6 @@
 -- Private: for each row the row that it turns to.
 use Rattle.std.specs.Prelude.{◌≡◌, ℕ, List, length, Some, slice_get}
-use Rattle.edge_uses.specs.Closed.{Turns}
+use Rattle.edge_uses.specs.RowRelations.{Turns}
 use Rattle.edge_uses.specs.ShellRows.{ShellRows}
 
 -- at place r are r and the row that it turns to

@@ -2,7 +2,7 @@
 
 ghost use Rattle.std.specs.Prelude.{◌≡◌, ◌↔◌, ◌<◌, ◌^◌, IsTrue, length, Some, slice_get, IfOk, false, ℕ};
 ghost use Rattle.edge_uses.specs.Before.{AreBelow};
-ghost use Rattle.edge_uses.specs.Closed.{IsClosedSolid};
+ghost use Rattle.shell_rules.specs.Closed.{IsClosedSolid};
 ghost use Rattle.edge_uses.specs.ShellRows.{rows_of};
 
 use crate::failing::faults_of;

@@ -1,7 +1,7 @@
 //! The fans of rows round the vertices of a shell.
 
 ghost use Rattle.std.specs.Prelude.{◌≡◌, ◌<◌, ◌++◌, ◌∷◌, [], ◌^◌, length, IfOk};
-ghost use Rattle.edge_uses.specs.Closed.{Turns};
+ghost use Rattle.edge_uses.specs.RowRelations.{Turns};
 ghost use Rattle.edge_uses.specs.Mates.{ArePaired};
 ghost use Rattle.solid_faults.specs.Fans.{AreFans};
 ghost use Rattle.solid_faults.specs.TurnPairs.{AreTurns};

@@ -3,7 +3,7 @@
 ghost use Rattle.std.specs.Prelude.{◌≡◌, ◌+◌, ◌<◌, ◌≤◌, ◌++◌, Bool, length, map, flat_map, slice_get, option_copied, IfOk, IfSome, get_or};
 ghost use Rattle.solid_data.specs.Ring.{next_of_each};
 ghost use Rattle.solid_data.specs.SolidData.{same_flag, placed_in_face, placed_loops};
-ghost use Rattle.edge_uses.specs.Closed.{begin_of, start_of, end_of};
+ghost use Rattle.edge_uses.specs.Joins.{begin_of, start_of, end_of};
 ghost use Rattle.edge_uses.specs.Joining.{IsFewFace, IsFewShell, placed_at};
 ghost use Rattle.solid_faults.specs.Gaps.{gap_at, loop_gaps, gaps_of};
 ghost use Rattle.solid_data.specs.declared.TheConstants.{PART_LIMIT};

@@ -7,7 +7,7 @@ ghost use Rattle.solid_data.specs.SolidData.{SolidData};
 ghost use Rattle.solid_data.specs.declared.solid.Shell.{Shell as AnyShell};
 ghost use Rattle.solid_data.specs.declared.verdict.Failing.{Failing as Named};
 ghost use Rattle.solid_data.proofs.Members.{Has};
-ghost use Rattle.edge_uses.specs.ShellObligations.{shell_obligations};
+ghost use Rattle.shell_rules.specs.ShellObligations.{shell_obligations};
 ghost use Rattle.solid_faults.specs.Faults.{Faults, AreFaults, IsFaultless, failing_of};
 ghost use Rattle.solid_faults.specs.Naming.{AreNamed};
 

@@ -5,7 +5,7 @@ use Rattle.std.proofs.Common.{refl, ap, subst, arith, inl}
 use Rattle.std.proofs.lemmas.List.{append-nil}
 use Rattle.solid_data.specs.SolidData.{SolidData}
 use Rattle.edge_uses.specs.ShellRows.{ShellRows}
-use Rattle.edge_uses.specs.Closed.{AreMates}
+use Rattle.edge_uses.specs.RowRelations.{AreMates}
 use Rattle.edge_uses.proofs.Counting.{two_rows_each}
 use Rattle.cert_lines.specs.Line.{CertLine, shell, tally, end, spelling, HasSpelling}
 use Rattle.cert_lines.specs.declared.counts.ShellCounts.{ShellCounts}

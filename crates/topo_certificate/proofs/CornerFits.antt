@@ -8,7 +8,7 @@ use Rattle.std.proofs.lemmas.List.{length-map}
 use Rattle.solid_data.specs.declared.solid.LoopAt.{LoopAt}
 use Rattle.edge_uses.specs.declared.row.Row.{Row}
 use Rattle.edge_uses.specs.ShellRows.{ShellRows}
-use Rattle.edge_uses.specs.Closed.{point_count}
+use Rattle.edge_uses.specs.RowRelations.{point_count}
 use Rattle.cert_lines.specs.Line.{corner, point}
 use Rattle.cert_lines.specs.Numbers.{Begins, AreNumbers}
 use Rattle.topo_certificate.specs.Stand.{Stand, FitsCorner, FitsPoint, IsAbove, row_named, row_start, vertex_of, point_named, start_count}

@@ -3,7 +3,7 @@ use Rattle.std.specs.Prelude.{◌≡◌, ℕ, suc, ◌-◌, ◌*◌, ◌<◌, Li
 use Rattle.std.proofs.Common.{refl, sym, ◌∙◌, ap, subst, arith}
 use Rattle.solid_data.specs.SolidData.{SolidData}
 use Rattle.edge_uses.specs.ShellRows.{ShellRows}
-use Rattle.edge_uses.specs.Closed.{IsPaired}
+use Rattle.edge_uses.specs.RowRelations.{IsPaired}
 use Rattle.solid_data.proofs.Members.{Has}
 use Rattle.cert_lines.specs.Line.{CertLine, shell, edge, corner, point, reach}
 use Rattle.cert_lines.specs.declared.counts.ShellCounts.{ShellCounts}

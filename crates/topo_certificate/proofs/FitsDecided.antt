@@ -9,7 +9,7 @@ use Rattle.solid_data.specs.declared.solid.LoopAt.{LoopAt}
 use Rattle.solid_data.proofs.Decisions.{Decided, decided_alike, decided_same, decided_some, decided_pair, decided_below, decided_bool, decided_both, decided_three, decided_four, decided_either, decided_not, decided_bounded, decided_all, decided_zip, decided_contains}
 use Rattle.edge_uses.specs.declared.row.Row.{Row}
 use Rattle.edge_uses.specs.ShellRows.{ShellRows}
-use Rattle.edge_uses.specs.Closed.{point_count}
+use Rattle.edge_uses.specs.RowRelations.{point_count}
 use Rattle.cert_lines.specs.Line.{shell, edge, corner, reach, tally}
 use Rattle.cert_lines.specs.declared.counts.ShellCounts.{ShellCounts}
 use Rattle.cert_lines.specs.declared.counts.Tally.{Tally}

@@ -3,7 +3,7 @@ use Rattle.std.specs.Prelude.{◌≡◌, ℕ}
 use Rattle.edge_uses.specs.Cells.{Celled, cell_of}
 use Rattle.edge_uses.specs.Ranges.{IsWithin, IsSpanOf}
 use Rattle.edge_uses.specs.ShellRows.{ShellRows, AreRows}
-use Rattle.edge_uses.specs.Closed.{point_count}
+use Rattle.edge_uses.specs.RowRelations.{point_count}
 use Rattle.topo_certificate.specs.Stand.{start_count}
 
 -- a count for each of the range of the shell's vertices

@@ -12,7 +12,7 @@ use Rattle.solid_data.proofs.Members.{Has, Has-from_Contains, Has-from_place, al
 use Rattle.solid_data.proofs.Trail.{leads_here}
 use Rattle.edge_uses.specs.declared.row.Row.{Row}
 use Rattle.edge_uses.specs.declared.spanning.Span.{Span}
-use Rattle.edge_uses.specs.Closed.{AreMates, Turns}
+use Rattle.edge_uses.specs.RowRelations.{AreMates, Turns}
 use Rattle.edge_uses.specs.Mates.{AreInvolution}
 use Rattle.edge_uses.specs.Ranges.{IsWithin, IsSpanOf}
 use Rattle.edge_uses.specs.ShellRows.{ShellRows, AreRows}

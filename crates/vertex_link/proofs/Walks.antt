@@ -1,8 +1,7 @@
 -- The walk from the least row of a vertex comes back after as many turns as rows start there, or the vertex is no corner.
 use Rattle.std.specs.Prelude.{◌≡◌, ◌≢◌, ◌<◌, ◌≤◌, ◌+◌, ◌==◌, ℕ, Bool, true, false, List, [], ◌∷◌, ◌++◌, length, slice_get, Option, Some, None, count_by, IsTrue, MatchOption}
 use Rattle.std.specs.List.{AllZip}
-use Rattle.std.proofs.Common.{refl, sym, ◌∙◌, ap, subst, arith, inl, inr, ⊎_elim}
-use Rattle.std.proofs.Common.{append_assoc, drop}
+use Rattle.std.proofs.Common.{refl, sym, ◌∙◌, ap, subst, arith, inl, inr, ⊎_elim, append_assoc, drop}
 use Rattle.std.proofs.lemmas.List.{append-nil, drop_all}
 use Rattle.std.proofs.lemmas.Option.{same_Some}
 use Rattle.solid_data.specs.Obligations.{FirstNot}
@@ -11,11 +10,13 @@ use Rattle.solid_data.specs.declared.linked.Corner.{Corner}
 use Rattle.vertex_link.specs.Corners.{LiesAt, AreLinks}
 use Rattle.edge_uses.specs.declared.row.Row.{Row}
 use Rattle.edge_uses.specs.ShellRows.{ShellRows}
-use Rattle.edge_uses.specs.Closed.{StartsAt, Turns, IsCorner, IsPoint, IsLinked, point_count}
+use Rattle.edge_uses.specs.RowRelations.{StartsAt, Turns, point_count}
+use Rattle.shell_rules.specs.Closed.{IsCorner, IsPoint, IsLinked}
 use Rattle.edge_uses.specs.Mates.{ArePaired}
 use Rattle.solid_data.proofs.Members.{Has, NoRepeat, covers, no_longer, count_by-total, All-at, All-from, Has-from_Contains, Contains-from_Has, has_last, split_at}
 use Rattle.solid_data.proofs.Trail.{Trail, trail_from_zip, trail_keeps, no_repeat, leads_to, leads_on, leads_trans}
-use Rattle.edge_uses.proofs.Cycle.{AreTurning, on_trail, cycle_of_corner, zip_from_trail}
+use Rattle.edge_uses.proofs.Cycle.{AreTurning, on_trail, zip_from_trail}
+use Rattle.shell_rules.proofs.CornerCycle.{cycle_of_corner}
 use Rattle.edge_uses.proofs.Turn.{turning}
 use Rattle.edge_uses.proofs.RowNumbers.{starting, length-starting, starting_has, starting_none, starting_is}
 use Rattle.shell_tables.specs.declared.starting.Starts.{Starts}

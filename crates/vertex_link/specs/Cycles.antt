@@ -4,7 +4,7 @@ use Rattle.std.specs.List.{AllByRecursion, AllZip}
 use Rattle.solid_data.specs.Ring.{next_of_each}
 use Rattle.edge_uses.specs.declared.row.Row.{Row}
 use Rattle.edge_uses.specs.ShellRows.{ShellRows}
-use Rattle.edge_uses.specs.Closed.{Turns, StartsAt, point_count}
+use Rattle.edge_uses.specs.RowRelations.{Turns, StartsAt, point_count}
 
 -- The rows that start at the vertex, each once: from the least one on, each turns to the next, and the last to the first. No loop without an edge lies there.
 pub record IsCycle (d : ShellRows) (v r : ℕ) (rs : List ℕ) : Type 0 where

@@ -9,8 +9,8 @@ use Rattle.solid_data.specs.declared.verdict.Verdict.{Verdict}
 use Rattle.solid_data.specs.declared.verdict.Verdict.TheVariants.{Closed, Fails}
 use Rattle.solid_data.proofs.ObligationLemmas.{AllHold-append, AllHold-append_left, AllHold-append_right, FirstFalse-not_all}
 use Rattle.solid_check.specs.Closed.{IsClosed, IsVerdictOn, obligations}
-use Rattle.edge_uses.specs.ShellObligations.{solid_obligations}
-use Rattle.edge_uses.proofs.ClosedLemmas.{closed_is_all_hold}
+use Rattle.shell_rules.specs.ShellObligations.{solid_obligations}
+use Rattle.shell_rules.proofs.ClosedLemmas.{closed_is_all_hold}
 use Rattle.command_replies.specs.declared.answer.Answer.{Answer}
 use Rattle.command_replies.specs.declared.answer.Answer.TheVariants.{Done, No}
 use Rattle.where_command.specs.Due.{answer_to}

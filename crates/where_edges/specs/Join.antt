@@ -12,7 +12,7 @@ use Rattle.solid_data.specs.declared.solid.LoopUse.TheVariants.{EdgeUse, VertexU
 use Rattle.solid_data.specs.declared.solid.Shell.{Shell}
 use Rattle.solid_data.specs.declared.solid.VertexKey.{VertexKey}
 use Rattle.solid_data.specs.declared.verdict.Rule.TheVariants.{Unjoined}
-use Rattle.edge_uses.specs.Closed.{start_of, end_of}
+use Rattle.edge_uses.specs.Joins.{start_of, end_of}
 use Rattle.solid_faults.specs.declared.gap.Gap.{Gap}
 use Rattle.where_text.specs.declared.listing.Listing.{Listing}
 use Rattle.where_text.specs.Listing.{shown, more_items}

@@ -8,7 +8,7 @@ use Rattle.solid_data.specs.declared.solid.Edge.{Edge}
 use Rattle.solid_data.specs.declared.solid.EdgeKey.{EdgeKey}
 use Rattle.solid_data.specs.declared.solid.Shell.{Shell}
 use Rattle.solid_data.specs.declared.verdict.Rule.TheVariants.{Unpaired as RuleUnpaired}
-use Rattle.edge_uses.specs.Closed.{begin_of}
+use Rattle.edge_uses.specs.Joins.{begin_of}
 use Rattle.edge_uses.specs.ShellRows.{ShellRows, rows_of}
 use Rattle.solid_faults.specs.declared.edge.Unpaired.{Unpaired}
 use Rattle.solid_faults.specs.declared.placing.RowPlace.{RowPlace}

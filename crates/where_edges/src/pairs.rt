@@ -1,6 +1,6 @@
 //! The paragraph on the edges of a shell that aren't paired.
 
-ghost use Rattle.edge_uses.specs.Closed.{begin_of};
+ghost use Rattle.edge_uses.specs.Joins.{begin_of};
 ghost use Rattle.edge_uses.specs.ShellRows.{rows_of};
 ghost use Rattle.solid_faults.specs.Edges.{rows_on_edge};
 ghost use Rattle.solid_faults.specs.Groups.{places_of};

@@ -13,7 +13,7 @@ use Rattle.solid_data.specs.declared.verdict.Rule.TheVariants.{Unreached}
 use Rattle.solid_faults.specs.declared.fan.Unlinked.{Unlinked}
 use Rattle.solid_data.proofs.Decisions.{Decided, decided_within}
 use Rattle.solid_data.proofs.Members.{has_get}
-use Rattle.edge_uses.specs.ShellObligations.{shell_obligations}
+use Rattle.shell_rules.specs.ShellObligations.{shell_obligations}
 use Rattle.edge_uses.specs.ShellRows.{ShellRows, shell_rows}
 use Rattle.solid_faults.specs.Edges.{shared_failing, unpaired_failing}
 use Rattle.solid_faults.specs.Faults.{AreFaults, AreLinked, AreLinkings, Faults, IsFaultless, Linking, failing_of, failing_vertices}

@@ -11,7 +11,7 @@ use Rattle.solid_data.specs.declared.verdict.Verdict.{Verdict}
 use Rattle.solid_data.specs.declared.verdict.Verdict.TheVariants.{Closed, Fails}
 use Rattle.solid_data.proofs.Members.{split_at}
 use Rattle.solid_data.proofs.ObligationLemmas.{AllHold-append, FirstFalse-append_front, FirstFalse-append_rest}
-use Rattle.edge_uses.specs.ShellObligations.{shell_obligations, solid_obligations}
+use Rattle.shell_rules.specs.ShellObligations.{shell_obligations, solid_obligations}
 
 pub verdict_rest : (os ps : List Obligation) (v : Verdict) → AllHold os → IsVerdict ps v → IsVerdict (os ++ ps) v
 verdict_rest os ps Closed h k = AllHold-append os ps h k

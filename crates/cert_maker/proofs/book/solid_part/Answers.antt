@@ -2,7 +2,7 @@ use Rattle.std.proofs.Common.{refl, subst, ap, ◌≡◌, ◌≤◌, ◌+◌, ar
 use Rattle.std.proofs.lemmas.Result.{err_from_is_err_and}
 use Rattle.solid_data.specs.SolidData.{SolidData}
 use Rattle.solid_data.specs.Obligations.{AllHold}
-use Rattle.edge_uses.specs.ShellObligations.{solid_obligations}
+use Rattle.shell_rules.specs.ShellObligations.{solid_obligations}
 use Rattle.cert_maker.specs.Book.{uses_of, use_limit}
 use Rattle.cert_maker.proofs.BookLemmas.{uses_are, shells_fault}
 use Rattle.cert_maker.proofs.book.solid_part.Goals as goal

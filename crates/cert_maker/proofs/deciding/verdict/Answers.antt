@@ -2,7 +2,7 @@ use Rattle.std.proofs.Common.{◌≡◌}
 use Rattle.solid_data.specs.Obligations.{IsVerdict}
 use Rattle.solid_data.specs.declared.verdict.Verdict.{Verdict}
 use Rattle.solid_data.specs.declared.verdict.Verdict.TheVariants.{Fails}
-use Rattle.edge_uses.specs.ShellObligations.{solid_obligations}
+use Rattle.shell_rules.specs.ShellObligations.{solid_obligations}
 use Rattle.edge_uses.proofs.Steps.{ok_weaker}
 use Rattle.solid_check.specs.Closed.{IsVerdictOn}
 use Rattle.solid_check.proofs.Verdicts.{place_fails, on_file, one_on_file}

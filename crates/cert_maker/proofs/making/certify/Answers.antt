@@ -1,7 +1,7 @@
 use Rattle.std.proofs.Common.{refl, subst}
 use Rattle.std.proofs.lemmas.Result.{err_from_is_err_and}
 use Rattle.cert_lines.specs.declared.version.Version.TheVariants.{Two}
-use Rattle.edge_uses.specs.ShellObligations.{solid_obligations}
+use Rattle.shell_rules.specs.ShellObligations.{solid_obligations}
 use Rattle.cert_lines.specs.declared.parts.Certificate.{Certificate}
 use Rattle.cert_maker.specs.Certified.{IsCertificate}
 use Rattle.cert_maker.proofs.Certifying.{certificate_made, certificate_accepted}

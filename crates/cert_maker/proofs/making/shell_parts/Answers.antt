@@ -3,7 +3,7 @@ use Rattle.topo_certificate.specs.Stand.{loops_of}
 use Rattle.std.proofs.lemmas.Result.{err_from_is_err_and}
 use Rattle.solid_data.specs.declared.solid.Shell.{Shell}
 use Rattle.edge_uses.specs.ShellRows.{shell_rows}
-use Rattle.edge_uses.specs.ShellObligations.{shell_obligations, solid_obligations}
+use Rattle.shell_rules.specs.ShellObligations.{shell_obligations, solid_obligations}
 use Rattle.cert_lines.specs.declared.parts.ShellPart.{ShellPart}
 use Rattle.cert_maker.specs.Parts.{IsPart}
 use Rattle.solid_check.proofs.Few.{few_parts}

@@ -4,7 +4,7 @@ use Rattle.std.proofs.lemmas.Option.{slice_get_within}
 use Rattle.topo_certificate.proofs.PointOrder.{faces_of_rows, can_check}
 use Rattle.solid_data.specs.Obligations.{AllHold}
 use Rattle.edge_uses.specs.ShellRows.{ShellRows, shell_rows}
-use Rattle.edge_uses.specs.ShellObligations.{pair_obligations, apart_obligations}
+use Rattle.shell_rules.specs.ShellObligations.{pair_obligations, apart_obligations}
 use Rattle.solid_check.specs.Faults.{IsCheckFault}
 use Rattle.std.specs.Prelude.{Some}
 use Rattle.topo_certificate.specs.Stand.{loops_of}

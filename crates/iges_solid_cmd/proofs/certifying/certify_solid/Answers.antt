@@ -1,6 +1,6 @@
 use Rattle.std.proofs.Common.{rules, sym, subst}
 use Rattle.solid_data.specs.Obligations.{FirstFalse}
-use Rattle.edge_uses.specs.ShellObligations.{solid_obligations}
+use Rattle.shell_rules.specs.ShellObligations.{solid_obligations}
 use Rattle.brep_walk.specs.Places.{places}
 use Rattle.cert_maker.specs.Laws.{IsCertificateText}
 use Rattle.command_replies.proofs.Replying.{reply_owed}

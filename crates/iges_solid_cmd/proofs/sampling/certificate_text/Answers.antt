@@ -1,7 +1,7 @@
 use Rattle.std.proofs.Common.{rules}
 use Rattle.std.proofs.lemmas.Result.{IfOk-weaker}
 use Rattle.solid_data.specs.Obligations.{FirstFalse}
-use Rattle.edge_uses.specs.ShellObligations.{solid_obligations}
+use Rattle.shell_rules.specs.ShellObligations.{solid_obligations}
 use Rattle.iges_solid_cmd.proofs.SampleFacts.{no_rule_fails, made_text}
 use Rattle.iges_solid_cmd.proofs.sampling.certificate_text.Goals as goal
 

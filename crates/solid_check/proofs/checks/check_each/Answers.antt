@@ -1,6 +1,6 @@
 use Rattle.std.proofs.Common.{◌<◌, arith, length}
 use Rattle.std.proofs.lemmas.Result.{err_from_is_err_and}
-use Rattle.edge_uses.specs.ShellObligations.{checked_of_shell, checked_obligations}
+use Rattle.shell_rules.specs.ShellObligations.{checked_of_shell, checked_obligations}
 use Rattle.solid_check.proofs.Few.{few_parts}
 use Rattle.solid_check.proofs.Shells.{checked_from_first, one_shell, shell_fails, all_shells, only_memory, only_so, never}
 use Rattle.solid_check.proofs.checks.check_each.Goals as goal

@@ -1,5 +1,5 @@
 use Rattle.edge_uses.specs.Before.{AreBelow}
-use Rattle.edge_uses.specs.ShellObligations.{checked_of_shell, checked_obligations}
+use Rattle.shell_rules.specs.ShellObligations.{checked_of_shell, checked_obligations}
 use Rattle.solid_check.proofs.Shells.{RemainFrom}
 use Rattle.solid_check.proofs.checks.check_each.Given as goal
 

@@ -1,5 +1,5 @@
 use Rattle.std.proofs.lemmas.Result.{err_from_is_err_and}
-use Rattle.edge_uses.specs.ShellObligations.{checked_obligations}
+use Rattle.shell_rules.specs.ShellObligations.{checked_obligations}
 use Rattle.solid_check.specs.declared.fault.CheckFault.TheVariants.{Fails}
 use Rattle.solid_check.proofs.CheckedShell.{only_shell_holds, only_shell_fails}
 use Rattle.solid_check.proofs.Shells.{only_memory, only_so, never}

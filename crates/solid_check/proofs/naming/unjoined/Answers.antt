@@ -1,7 +1,7 @@
 use Rattle.std.proofs.Common.{sym, ◌∙◌, ap, option_copied}
 use Rattle.solid_data.specs.declared.solid.Loop.{Loop}
 use Rattle.solid_data.specs.declared.verdict.Rule.TheVariants.{Unjoined}
-use Rattle.solid_check.specs.Naming.{failing}
+use Rattle.shell_rules.specs.Naming.{failing}
 use Rattle.solid_check.proofs.Placed.{face_below, loop_below, named_loop}
 use Rattle.solid_check.proofs.naming.unjoined.Goals as goal
 

@@ -1,5 +1,5 @@
 use Rattle.std.proofs.Common.{◌≡◌, ℕ, Some, slice_get, length}
-use Rattle.edge_uses.specs.Closed.{Turns}
+use Rattle.edge_uses.specs.RowRelations.{Turns}
 use Rattle.solid_faults.proofs.fanning.turns_of.Given as goal
 
 abbrev pub invariant-rows : goal.invariant-rows

@@ -1,7 +1,7 @@
 use Rattle.std.proofs.Common.{◌∙◌, ap, map, get_or, ◌++◌, ◌+◌, arith, length}
 use Rattle.solid_data.specs.Ring.{next_of_each}
 use Rattle.solid_data.specs.declared.solid.LoopUse.{LoopUse}
-use Rattle.edge_uses.specs.Closed.{end_of, start_of}
+use Rattle.edge_uses.specs.Joins.{end_of, start_of}
 use Rattle.solid_faults.specs.Gaps.{gap_at}
 use Rattle.solid_faults.proofs.GapSteps.{gap_step, gaps_done}
 use Rattle.solid_faults.proofs.gap.push_loop_gaps.Goals as goal

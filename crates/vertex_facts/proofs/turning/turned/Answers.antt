@@ -1,7 +1,7 @@
 use Rattle.std.proofs.Common.{◌≤◌, length, subst}
 use Rattle.std.specs.Prelude.{MatchOption, Option}
 use Rattle.solid_data.specs.declared.solid.RowId.{RowId}
-use Rattle.edge_uses.specs.Closed.{Turns}
+use Rattle.edge_uses.specs.RowRelations.{Turns}
 use Rattle.vertex_facts.proofs.TurnSteps.{turn_is, turn_inside}
 use Rattle.vertex_facts.proofs.turning.turned.Goals as goal
 

@@ -1,7 +1,7 @@
 use Rattle.std.proofs.Common.{◌∙◌, sym, subst, arith, false, ◌<◌, length}
 use Rattle.std.proofs.lemmas.Option.{slice_get_within}
 use Rattle.edge_uses.specs.ShellRows.{ShellRows}
-use Rattle.edge_uses.specs.Closed.{OnFace}
+use Rattle.edge_uses.specs.RowRelations.{OnFace}
 use Rattle.solid_data.proofs.Members.{Has}
 use Rattle.edge_uses.proofs.Steps.{default_apart, ok_weaker}
 use Rattle.edge_uses.proofs.RowNumbers.{numbers_pushed}

@@ -1,5 +1,5 @@
 use Rattle.std.proofs.Common.{◌<◌, ◌+◌, length, arith}
-use Rattle.edge_uses.specs.Closed.{OnFace}
+use Rattle.edge_uses.specs.RowRelations.{OnFace}
 use Rattle.shell_tables.specs.FaceRows.{IsHead}
 use Rattle.open_shells.proofs.Floods.{left_none, left_more, left_all, first_head, next_head, grows_none, grows_more, still_has}
 use Rattle.open_shells.proofs.flood.Flood.leave.Goals as goal

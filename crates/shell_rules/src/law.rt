@@ -4,8 +4,8 @@ ghost use Rattle.std.specs.Prelude.{◌≡◌, ◌↔◌, ◌⊎◌};
 ghost use Rattle.solid_data.specs.Obligations.{AllHold, FirstFalse};
 ghost use Rattle.solid_data.specs.SolidData.{SolidData};
 ghost use Rattle.solid_data.specs.declared.verdict.Failing.{Failing as Named};
-ghost use Rattle.edge_uses.specs.Closed.{IsClosedSolid};
-ghost use Rattle.edge_uses.specs.ShellObligations.{solid_obligations};
+ghost use Rattle.shell_rules.specs.Closed.{IsClosedSolid};
+ghost use Rattle.shell_rules.specs.ShellObligations.{solid_obligations};
 
 /// The shells of a solid are closed exactly where each obligation on them holds, and where not all hold there is
 /// exactly one first false obligation.

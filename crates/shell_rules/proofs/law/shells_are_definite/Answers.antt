@@ -1,9 +1,9 @@
-use Rattle.edge_uses.specs.ShellObligations.{solid_obligations}
+use Rattle.shell_rules.specs.ShellObligations.{solid_obligations}
 use Rattle.solid_data.proofs.ObligationLemmas.{FirstFalse-one}
 use Rattle.solid_data.proofs.ObligationsDecided.{all_or_first_false}
-use Rattle.edge_uses.proofs.ClosedLemmas.{closed_is_all_hold}
-use Rattle.edge_uses.proofs.Decided.{solid_decided}
-use Rattle.edge_uses.proofs.law.shells_are_definite.Goals as goal
+use Rattle.shell_rules.proofs.ClosedLemmas.{closed_is_all_hold}
+use Rattle.shell_rules.proofs.Decided.{solid_decided}
+use Rattle.shell_rules.proofs.law.shells_are_definite.Goals as goal
 
 pub returns-clause-closed : goal.returns-clause-closed
 returns-clause-closed c = closed_is_all_hold

@@ -16,8 +16,11 @@ use Rattle.solid_data.proofs.ChainsDecided.{leads_decided}
 use Rattle.solid_data.proofs.ObligationsDecided.{AreDecided, decided-append, decided-map, decided-of_each}
 use Rattle.edge_uses.specs.declared.row.Row.{Row}
 use Rattle.edge_uses.specs.ShellRows.{ShellRows, shell_rows}
-use Rattle.edge_uses.specs.Closed.{row_count, point_count, AreMates, Follows, Turns, StartsAt, IsCorner, IsPoint, IsLinked, OnFace, AreNeighbours, IsReached, IsApart, IsPaired}
-use Rattle.edge_uses.specs.ShellObligations.{at_edge, at_vertex, loop_obligations, join_obligations, pair_obligations, reach_obligations, link_obligations, apart_obligations, shell_obligations, solid_obligations, checked_of_shell, checked_obligations}
+use Rattle.edge_uses.specs.Before.{IsApart}
+use Rattle.edge_uses.specs.RowRelations.{row_count, point_count, AreMates, Follows, Turns, StartsAt, OnFace, IsPaired}
+use Rattle.shell_rules.specs.Closed.{IsCorner, IsPoint, IsLinked, AreNeighbours, IsReached}
+use Rattle.edge_uses.specs.Joins.{loop_obligations, join_obligations}
+use Rattle.shell_rules.specs.ShellObligations.{at_edge, at_vertex, pair_obligations, reach_obligations, link_obligations, apart_obligations, shell_obligations, solid_obligations, checked_of_shell, checked_obligations}
 
 pub edge_id_decided : (a b : EdgeId) → Decided (a ≡ b)
 edge_id_decided a b = decided_alike (λ e. (let same : ◌≡◌ {A = EdgeId} (record { 0 = a.0 }) (record { 0 = b.0 }) = ap (λ (n : ℕ). record { 0 = n }) e in same)) (λ e. ap (λ (x : EdgeId). x.0) e) (decided_same a.0 b.0)
