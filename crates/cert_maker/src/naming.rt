@@ -3,7 +3,7 @@
 ghost use Rattle.std.specs.Prelude.{◌≡◌, Some, slice_get};
 ghost use Rattle.solid_data.specs.declared.solid.FaceUse.{FaceUse as AnyFace};
 ghost use Rattle.solid_data.specs.declared.verdict.Rule.{Rule as AnyRule};
-ghost use Rattle.edge_uses.specs.ShellObligations.{edge_name};
+ghost use Rattle.solid_data.specs.SolidData.{edge_name};
 ghost use Rattle.solid_check.specs.Naming.{failing};
 
 use iges_fields::EntryNo;

@@ -4,7 +4,7 @@ use Rattle.std.specs.List.{enumerate_from}
 use Rattle.std.proofs.Common.{refl, ap, subst}
 use Rattle.std.proofs.lemmas.Option.{slice_get_within}
 use Rattle.solid_data.specs.Chain.{LeadsTo}
-use Rattle.solid_data.specs.SolidData.{SolidData, PlacedLoop, placed_loops, shell_vertices}
+use Rattle.solid_data.specs.SolidData.{SolidData, PlacedLoop, placed_loops, shell_vertices, edge_name, vertex_name}
 use Rattle.solid_data.specs.declared.solid.EdgeId.{EdgeId}
 use Rattle.solid_data.specs.declared.solid.FaceUse.{FaceUse}
 use Rattle.solid_data.specs.declared.solid.Loop.{Loop}
@@ -17,7 +17,7 @@ use Rattle.solid_data.proofs.ObligationsDecided.{AreDecided, decided-append, dec
 use Rattle.edge_uses.specs.declared.row.Row.{Row}
 use Rattle.edge_uses.specs.ShellRows.{ShellRows, shell_rows}
 use Rattle.edge_uses.specs.Closed.{row_count, point_count, AreMates, Follows, Turns, StartsAt, IsCorner, IsPoint, IsLinked, OnFace, AreNeighbours, IsReached, IsApart, IsPaired}
-use Rattle.edge_uses.specs.ShellObligations.{edge_name, vertex_name, at_edge, at_vertex, loop_obligations, join_obligations, pair_obligations, reach_obligations, link_obligations, apart_obligations, shell_obligations, solid_obligations, checked_of_shell, checked_obligations}
+use Rattle.edge_uses.specs.ShellObligations.{at_edge, at_vertex, loop_obligations, join_obligations, pair_obligations, reach_obligations, link_obligations, apart_obligations, shell_obligations, solid_obligations, checked_of_shell, checked_obligations}
 
 pub edge_id_decided : (a b : EdgeId) → Decided (a ≡ b)
 edge_id_decided a b = decided_alike (λ e. (let same : ◌≡◌ {A = EdgeId} (record { 0 = a.0 }) (record { 0 = b.0 }) = ap (λ (n : ℕ). record { 0 = n }) e in same)) (λ e. ap (λ (x : EdgeId). x.0) e) (decided_same a.0 b.0)

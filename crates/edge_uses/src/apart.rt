@@ -86,8 +86,7 @@ pub fn vertices_before(solid: &Solid, shell: ShellAt) -> VerticesBefore
     requires { shell.0 ≤ length solid.now.shells }
     ensures { AreBelow solid.now shell.0 result }
 {
-    // Its clause says that the solid's vertices are numbered by first appearance.
-    let _entity = solid.entity();
+    solid.recall_numbering();
     VerticesBefore::below(above_shells(solid, shell))
 }
 

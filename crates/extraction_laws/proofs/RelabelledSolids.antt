@@ -3,7 +3,7 @@ use Rattle.std.specs.Prelude.{◌≡◌, ◌↔◌, ℕ, ◌+◌, Bool, true, fa
 use Rattle.std.specs.List.{AllZip, enumerate_from}
 use Rattle.std.proofs.Common.{refl, sym, ◌∙◌, ap, subst, arith, inl, inr}
 use Rattle.solid_data.specs.Ring.{next_of_each, previous_of_each, numbers_from}
-use Rattle.solid_data.specs.SolidData.{SolidData, PlacedLoop, placed_in_face, placed_loops, shell_uses, edge_used, ends_of, vertices_used, shell_edges, shell_vertices, same_flag, occurring}
+use Rattle.solid_data.specs.SolidData.{SolidData, PlacedLoop, placed_in_face, placed_loops, shell_uses, edge_used, ends_of, vertices_used, shell_edges, shell_vertices, same_flag, occurring, edge_name, vertex_name}
 use Rattle.solid_data.specs.Obligations.{obligation}
 use Rattle.solid_data.specs.declared.solid.Edge.{Edge}
 use Rattle.solid_data.specs.declared.solid.EdgeId.{EdgeId}
@@ -21,7 +21,7 @@ use Rattle.solid_data.proofs.Occurring.{number_below}
 use Rattle.edge_uses.specs.declared.row.Row.{Row}
 use Rattle.edge_uses.specs.ShellRows.{ShellRows, row_of_edge, row_of, loop_rows, follows_from, point_of, shell_rows}
 use Rattle.edge_uses.specs.Closed.{begin_of, start_of, end_of, IsPaired, IsReached, IsLinked, IsApart}
-use Rattle.edge_uses.specs.ShellObligations.{ends_and_starts, loop_obligations, edge_name, vertex_name, at_edge, at_vertex, join_obligations, pair_obligations, reach_obligations, link_obligations, apart_obligations, shell_obligations, solid_obligations}
+use Rattle.edge_uses.specs.ShellObligations.{ends_and_starts, loop_obligations, at_edge, at_vertex, join_obligations, pair_obligations, reach_obligations, link_obligations, apart_obligations, shell_obligations, solid_obligations}
 use Rattle.solid_extract.proofs.Copies.{zip_length}
 use Rattle.extraction_laws.specs.Alike.{FailAlike}
 use Rattle.extraction_laws.specs.Relabelled.{Names, IsRelabelledLoop, IsRelabelledFace, IsRelabelledShell, IsRelabelledEdge, IsRelabelled, AreNamed, AreNamedAlike}

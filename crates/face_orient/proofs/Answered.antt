@@ -7,13 +7,12 @@ use Rattle.solid_data.specs.Chain.{LeadsTo}
 use Rattle.solid_data.specs.Numbering.{IsNumberedSolid}
 use Rattle.solid_data.specs.Obligations.{FirstNot}
 use Rattle.solid_data.specs.Ring.{numbers_from}
-use Rattle.solid_data.specs.SolidData.{SolidData, same_flag}
+use Rattle.solid_data.specs.SolidData.{SolidData, same_flag, edge_name}
 use Rattle.solid_data.specs.declared.solid.FaceUse.{FaceUse}
 use Rattle.solid_data.specs.declared.solid.Shell.{Shell}
 use Rattle.solid_data.proofs.Members.{Has, get_some}
 use Rattle.solid_data.proofs.Occurring.{number_below}
 use Rattle.edge_uses.specs.ShellRows.{ShellRows, AreRows, rows_of, shell_rows}
-use Rattle.edge_uses.specs.ShellObligations.{edge_name}
 use Rattle.face_orient.specs.declared.crossing.Crossing.{Crossing}
 use Rattle.face_orient.specs.declared.fault.OrientFailing.{OrientFailing}
 use Rattle.face_orient.specs.declared.fault.OrientFault.{OrientFault}

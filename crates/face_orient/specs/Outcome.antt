@@ -2,10 +2,9 @@
 use Rattle.std.specs.Prelude.{◌≡◌, ℕ, ◌⊎◌, ⊤, Some, slice_get, Result, Ok, Err}
 use Rattle.solid_data.specs.Obligations.{FirstNot}
 use Rattle.solid_data.specs.Ring.{numbers_from}
-use Rattle.solid_data.specs.SolidData.{SolidData}
+use Rattle.solid_data.specs.SolidData.{SolidData, edge_name}
 use Rattle.solid_data.specs.declared.solid.FaceUse.{FaceUse}
 use Rattle.solid_data.specs.declared.solid.Shell.{Shell}
-use Rattle.edge_uses.specs.ShellObligations.{edge_name}
 use Rattle.face_orient.specs.Partners.{HasTwoRows, AllHaveTwoRows, IsReached}
 use Rattle.face_orient.specs.Flags.{rows_at, FlagsFit}
 use Rattle.face_orient.specs.OddRing.{OddRing, row_numbers}

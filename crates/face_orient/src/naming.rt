@@ -2,7 +2,7 @@
 
 ghost use Rattle.std.specs.Prelude.{◌≡◌, Some, slice_get};
 ghost use Rattle.solid_data.specs.declared.solid.FaceUse.{FaceUse as AnyFace};
-ghost use Rattle.edge_uses.specs.ShellObligations.{edge_name};
+ghost use Rattle.solid_data.specs.SolidData.{edge_name};
 
 use crate::fault::{OrientFailing, OrientRule};
 use iges_base::EntryNo;

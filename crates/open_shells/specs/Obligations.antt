@@ -1,11 +1,11 @@
 -- The obligations on an open shell, in order, and the first that is false.
 use Rattle.std.specs.Prelude.{◌≡◌, ℕ, List, [], ◌∷◌, ◌++◌, ◌⊎◌, ⊤, map, codes, slice_get}
 use Rattle.iges_base.specs.declared.entry_no.EntryNo.{EntryNo}
-use Rattle.solid_data.specs.SolidData.{SolidData}
+use Rattle.solid_data.specs.SolidData.{SolidData, edge_name, vertex_name}
 use Rattle.solid_data.specs.Obligations.{Obligation}
 use Rattle.solid_data.specs.declared.solid.Shell.{Shell}
 use Rattle.edge_uses.specs.ShellRows.{ShellRows, shell_rows}
-use Rattle.edge_uses.specs.ShellObligations.{edge_name, vertex_name, join_obligations, reach_obligations}
+use Rattle.edge_uses.specs.ShellObligations.{join_obligations, reach_obligations}
 use Rattle.open_shells.specs.Sound.{IsOnce, IsFanned}
 use Rattle.open_shells.specs.declared.verdict.OpenRule.{OpenRule}
 use Rattle.open_shells.specs.declared.verdict.OpenRule.TheVariants.{Join, Edge, Reach, Fan}

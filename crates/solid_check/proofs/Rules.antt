@@ -3,7 +3,7 @@ use Rattle.std.specs.Prelude.{◌≡◌, ℕ, suc, ◌+◌, List, [], ◌∷◌,
 use Rattle.std.specs.List.{AllByRecursion, enumerate_from}
 use Rattle.std.proofs.Common.{refl, sym, ◌∙◌, subst, arith, inl, inr, ⊎_elim}
 use Rattle.solid_data.specs.Ring.{numbers_from}
-use Rattle.solid_data.specs.SolidData.{SolidData, PlacedLoop, placed_loops}
+use Rattle.solid_data.specs.SolidData.{SolidData, PlacedLoop, placed_loops, edge_name, vertex_name}
 use Rattle.solid_data.specs.Obligations.{Obligation, obligation, AllHold, FirstFalse, FirstNot, of_each}
 use Rattle.solid_data.specs.declared.solid.FaceUse.{FaceUse}
 use Rattle.solid_data.specs.declared.solid.LoopAt.{LoopAt}
@@ -14,7 +14,7 @@ use Rattle.solid_data.proofs.Members.{Has, Contains-from_Has}
 use Rattle.solid_data.proofs.ObligationLemmas.{FirstFalse-append_front, FirstFalse-append_rest, FirstNot-map, map-AllHold}
 use Rattle.edge_uses.specs.ShellRows.{ShellRows}
 use Rattle.edge_uses.specs.Closed.{IsJoined, IsPaired, IsReached, IsLinked, IsApart}
-use Rattle.edge_uses.specs.ShellObligations.{loop_obligations, IsFirstUnjoined, join_obligations, pair_obligations, reach_obligations, link_obligations, apart_obligations, edge_name, vertex_name, at_edge, at_vertex}
+use Rattle.edge_uses.specs.ShellObligations.{loop_obligations, IsFirstUnjoined, join_obligations, pair_obligations, reach_obligations, link_obligations, apart_obligations, at_edge, at_vertex}
 use Rattle.edge_uses.proofs.ClosedLemmas.{hold_from_joined}
 use Rattle.solid_check.specs.Naming.{failing}
 use Rattle.solid_check.proofs.Placed.{IsPlace}

@@ -1,8 +1,7 @@
 //! What a rule names where it fails.
 
 ghost use Rattle.std.specs.Prelude.{◌≡◌, Contains, slice_get};
-ghost use Rattle.solid_data.specs.SolidData.{PlacedLoop, placed_loops};
-ghost use Rattle.edge_uses.specs.ShellObligations.{vertex_name};
+ghost use Rattle.solid_data.specs.SolidData.{PlacedLoop, placed_loops, vertex_name};
 ghost use Rattle.solid_check.specs.Naming.{failing};
 
 use edge_uses::Unjoined;

@@ -24,6 +24,15 @@ same_vertex a b = (a.list.0 == b.list.0) && (a.index == b.index)
 abbrev pub same_edge : EdgeKey → EdgeKey → Bool
 same_edge a b = (a.list.0 == b.list.0) && (a.index == b.index)
 
+-- What an edge is in the file, and what a vertex is; list 0 and index 0 where the solid hasn't got it.
+abbrev pub edge_name : Option Edge → EdgeKey
+edge_name None = record { «list» = record { 0 = 0 }; index = 0 }
+edge_name (Some e) = e.key
+
+abbrev pub vertex_name : Option VertexKey → VertexKey
+vertex_name None = record { «list» = record { 0 = 0 }; index = 0 }
+vertex_name (Some key) = key
+
 abbrev pub same_flag : Bool → Bool → Bool
 same_flag true b = b
 same_flag false b = not b

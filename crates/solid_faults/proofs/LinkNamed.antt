@@ -5,14 +5,14 @@ use Rattle.std.proofs.lemmas.Bool.{eq-eqb, eqb-true, cases_lt}
 use Rattle.std.proofs.lemmas.Option.{slice_get_within}
 use Rattle.solid_data.specs.Chain.{Steps, LeadsTo}
 use Rattle.solid_data.specs.Obligations.{Obligation}
-use Rattle.solid_data.specs.SolidData.{SolidData}
+use Rattle.solid_data.specs.SolidData.{SolidData, vertex_name}
 use Rattle.solid_data.specs.declared.verdict.Rule.TheVariants.{Unlinked as RuleUnlinked}
 use Rattle.solid_data.proofs.Members.{get_some}
 use Rattle.solid_data.proofs.Trail.{leads_here, leads_trans}
 use Rattle.edge_uses.specs.Closed.{Turns, StartsAt, IsCorner, IsPoint, IsLinked, point_count}
 use Rattle.edge_uses.specs.Mates.{ArePaired, TurnsPermute}
 use Rattle.edge_uses.specs.ShellRows.{ShellRows}
-use Rattle.edge_uses.specs.ShellObligations.{link_obligations, at_vertex, vertex_name}
+use Rattle.edge_uses.specs.ShellObligations.{link_obligations, at_vertex}
 use Rattle.edge_uses.proofs.Turns.{turns_permute}
 use Rattle.solid_faults.specs.Failing.{AreFailing}
 use Rattle.solid_faults.specs.Fans.{AreFans, fan_count, vertex_unlinked, unlinked_of, unlinked_failing}

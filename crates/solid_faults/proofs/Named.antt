@@ -5,7 +5,7 @@ use Rattle.std.proofs.Common.{refl, sym, ◌∙◌, ap, subst, inl, inr, ⊎_eli
 use Rattle.std.proofs.lemmas.Bool.Decides.{eqb_tells}
 use Rattle.std.proofs.lemmas.Bool.{eqb-true}
 use Rattle.solid_data.specs.Ring.{next_of_each}
-use Rattle.solid_data.specs.SolidData.{SolidData, PlacedLoop, placed_loops, shell_vertices, occurring}
+use Rattle.solid_data.specs.SolidData.{SolidData, PlacedLoop, placed_loops, shell_vertices, occurring, edge_name, vertex_name}
 use Rattle.solid_data.specs.Obligations.{Obligation, obligation}
 use Rattle.solid_data.specs.declared.solid.Shell.{Shell}
 use Rattle.solid_data.specs.declared.verdict.Rule.TheVariants.{Unjoined, Unpaired as RuleUnpaired, Shared}
@@ -13,7 +13,7 @@ use Rattle.solid_data.proofs.Members.{Has, Has-from_Contains, Contains-from_Has}
 use Rattle.solid_data.proofs.Occurring.{found}
 use Rattle.edge_uses.specs.Closed.{start_of, end_of, row_count, IsPaired, IsApart}
 use Rattle.edge_uses.specs.ShellRows.{ShellRows}
-use Rattle.edge_uses.specs.ShellObligations.{ends_and_starts, loop_obligations, join_obligations, pair_obligations, apart_obligations, at_edge, at_vertex, edge_name, vertex_name}
+use Rattle.edge_uses.specs.ShellObligations.{ends_and_starts, loop_obligations, join_obligations, pair_obligations, apart_obligations, at_edge, at_vertex}
 use Rattle.solid_faults.specs.Failing.{AreFailing}
 use Rattle.solid_faults.specs.Gaps.{gap_at, loop_gaps, gaps_of, gap_failing}
 use Rattle.solid_faults.specs.Edges.{edge_unpaired, unpaired_of, unpaired_failing, shared_of, shared_failing}

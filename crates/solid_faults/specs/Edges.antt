@@ -1,7 +1,7 @@
 -- Edges that aren't paired, and vertices that an earlier shell has.
 use Rattle.std.specs.Prelude.{ℕ, ◌==◌, ◌&&◌, List, [], ◌∷◌, flat_map, slice_get, take, if◌then◌else◌, true, false}
 use Rattle.std.specs.List.{enumerate_from}
-use Rattle.solid_data.specs.SolidData.{SolidData, shell_vertices, occurring}
+use Rattle.solid_data.specs.SolidData.{SolidData, shell_vertices, occurring, edge_name, vertex_name}
 use Rattle.solid_data.specs.declared.solid.EdgeKey.{EdgeKey}
 use Rattle.solid_data.specs.declared.solid.VertexKey.{VertexKey}
 use Rattle.solid_data.specs.declared.verdict.Failing.{Failing}
@@ -10,7 +10,6 @@ use Rattle.solid_data.specs.declared.verdict.Rule.TheVariants.{Unpaired as RuleU
 use Rattle.edge_uses.specs.declared.row.Row.{Row}
 use Rattle.edge_uses.specs.Closed.{row_count}
 use Rattle.edge_uses.specs.ShellRows.{ShellRows}
-use Rattle.edge_uses.specs.ShellObligations.{edge_name, vertex_name}
 use Rattle.solid_faults.specs.declared.edge.Unpaired.{Unpaired}
 
 -- an edge, and how many rows run along it and against it

@@ -1,13 +1,12 @@
 -- The fans round a vertex: the cycles of turns among the rows that start there. They are judged where loops join and edges are paired.
 use Rattle.std.specs.Prelude.{◌≡◌, ◌≤◌, ◌<◌, Bool, slice_set, ◌+◌, ◌==◌, ◌&&◌, ◌||◌, ℕ, List, [], ◌∷◌, length, flat_map, Some, slice_get, if◌then◌else◌, get_or}
 use Rattle.solid_data.specs.Chain.{LeadsTo}
-use Rattle.solid_data.specs.SolidData.{SolidData}
+use Rattle.solid_data.specs.SolidData.{SolidData, vertex_name}
 use Rattle.solid_data.specs.declared.verdict.Failing.{Failing}
 use Rattle.solid_data.specs.declared.verdict.Rule.TheVariants.{Unlinked as RuleUnlinked}
 use Rattle.edge_uses.specs.declared.row.Row.{Row}
 use Rattle.edge_uses.specs.Closed.{Turns, point_count}
 use Rattle.edge_uses.specs.ShellRows.{ShellRows}
-use Rattle.edge_uses.specs.ShellObligations.{vertex_name}
 use Rattle.solid_faults.specs.declared.fan.Unlinked.{Unlinked}
 use Rattle.solid_faults.specs.Edges.{named_vertex}
 

@@ -1,7 +1,7 @@
 //! What the edges and the vertices of a solid are in its file.
 
 ghost use Rattle.std.specs.Prelude.{◌≡◌, slice_get};
-ghost use Rattle.edge_uses.specs.ShellObligations.{edge_name, vertex_name};
+ghost use Rattle.solid_data.specs.SolidData.{edge_name, vertex_name};
 
 use iges_base::EntryNo;
 use solid_data::{EdgeId, EdgeKey, Solid, VertexId, VertexKey};

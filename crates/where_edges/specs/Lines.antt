@@ -4,9 +4,8 @@ use Rattle.iges_base.specs.declared.entry_no.EntryNo.{EntryNo}
 use Rattle.iges_params.specs.Contents.{Contents}
 use Rattle.iges_params.specs.Named.{values_of}
 use Rattle.brep_lists.specs.Record.{int_at}
-use Rattle.solid_data.specs.SolidData.{SolidData}
+use Rattle.solid_data.specs.SolidData.{SolidData, vertex_name}
 use Rattle.solid_data.specs.declared.solid.EdgeKey.{EdgeKey}
-use Rattle.edge_uses.specs.ShellObligations.{vertex_name}
 use Rattle.where_text.specs.Places.{face_words, vertex_words}
 use Rattle.where_text.specs.Spelled.{space_word, signed}
 use Rattle.where_text.specs.Types.{type_of}

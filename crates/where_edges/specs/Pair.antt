@@ -3,13 +3,12 @@ use Rattle.std.specs.Prelude.{ℕ, Bool, true, false, List, [], ◌∷◌, ◌++
 use Rattle.iges_base.specs.declared.entry_no.EntryNo.{EntryNo}
 use Rattle.iges_params.specs.Contents.{Contents}
 use Rattle.solid_data.specs.RuleNames.{rule_name}
-use Rattle.solid_data.specs.SolidData.{SolidData}
+use Rattle.solid_data.specs.SolidData.{SolidData, edge_name}
 use Rattle.solid_data.specs.declared.solid.Edge.{Edge}
 use Rattle.solid_data.specs.declared.solid.EdgeKey.{EdgeKey}
 use Rattle.solid_data.specs.declared.solid.Shell.{Shell}
 use Rattle.solid_data.specs.declared.verdict.Rule.TheVariants.{Unpaired as RuleUnpaired}
 use Rattle.edge_uses.specs.Closed.{begin_of}
-use Rattle.edge_uses.specs.ShellObligations.{edge_name}
 use Rattle.edge_uses.specs.ShellRows.{ShellRows, rows_of}
 use Rattle.solid_faults.specs.declared.edge.Unpaired.{Unpaired}
 use Rattle.solid_faults.specs.declared.placing.RowPlace.{RowPlace}

@@ -1,7 +1,7 @@
 //! The paragraph on the gaps of a shell's loops.
 
 ghost use Rattle.edge_uses.specs.Closed.{end_of, start_of};
-ghost use Rattle.edge_uses.specs.ShellObligations.{edge_name, vertex_name};
+ghost use Rattle.solid_data.specs.SolidData.{edge_name, vertex_name};
 ghost use Rattle.std.specs.Prelude.{◌≡◌, ◌<◌, ◌-◌, ◌++◌, ◌∷◌, [], OnOk, Some, flat_map, length, map, option_copied, slice_get};
 ghost use Rattle.where_edges.specs.Join.{face_number, faces_in, gap_face, gap_head, gap_text, join_named, join_text, loop_at, loop_facts, loop_in, meeting_facts, tuple_after, tuple_fact, use_words, uses_in};
 

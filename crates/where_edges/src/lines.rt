@@ -1,7 +1,7 @@
 //! How edges, their curves and their ends are named in a line.
 
 ghost use Rattle.brep_lists.specs.Record.{int_at};
-ghost use Rattle.edge_uses.specs.ShellObligations.{edge_name, vertex_name};
+ghost use Rattle.solid_data.specs.SolidData.{edge_name, vertex_name};
 ghost use Rattle.iges_params.specs.Named.{values_of};
 ghost use Rattle.std.specs.Prelude.{◌≡◌, ◌≤◌, ◌+◌, ◌-◌, ◌*◌, ◌++◌, ◌∷◌, [], OnOk, length, option_copied, pos, slice_get, take};
 ghost use Rattle.where_edges.specs.Lines.{curve_of, curve_words, edge_words, face_fact, rule_words, vertex_fact};

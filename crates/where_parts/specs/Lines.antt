@@ -3,9 +3,8 @@ use Rattle.std.specs.Prelude.{ℕ, ◌+◌, List, ◌++◌, codes, decimal, slic
 use Rattle.iges_base.specs.declared.entry_no.EntryNo.{EntryNo}
 use Rattle.iges_params.specs.Contents.{Contents}
 use Rattle.solid_data.specs.RuleNames.{rule_name}
-use Rattle.solid_data.specs.SolidData.{SolidData}
+use Rattle.solid_data.specs.SolidData.{SolidData, vertex_name}
 use Rattle.solid_data.specs.declared.verdict.Rule.{Rule}
-use Rattle.edge_uses.specs.ShellObligations.{vertex_name}
 use Rattle.where_text.specs.Places.{vertex_words, face_words}
 use Rattle.where_text.specs.Sentences.{rule_sentence}
 use Rattle.where_text.specs.Spelled.{space_word}

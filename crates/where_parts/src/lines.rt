@@ -1,7 +1,7 @@
 //! Lines on faces and vertices.
 
 ghost use Rattle.std.specs.Prelude.{◌≡◌, ◌<◌, ◌^◌, ◌++◌, ◌∷◌, [], OnOk, flat_map, slice_get};
-ghost use Rattle.edge_uses.specs.ShellObligations.{vertex_name};
+ghost use Rattle.solid_data.specs.SolidData.{vertex_name};
 ghost use Rattle.where_parts.specs.Lines.{count_words, face_line, head_lines, rule_words, vertex_line};
 
 use iges_base::{EntryNo, NoMemory, Out};

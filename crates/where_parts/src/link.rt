@@ -1,7 +1,7 @@
 //! The paragraph on vertices that aren't linked.
 
 ghost use Rattle.std.specs.Prelude.{◌≡◌, ◌<◌, ◌+◌, ◌-◌, ◌++◌, ◌∷◌, [], length, flat_map, take, slice_get, option_copied, OnOk};
-ghost use Rattle.edge_uses.specs.ShellObligations.{edge_name};
+ghost use Rattle.solid_data.specs.SolidData.{edge_name};
 ghost use Rattle.edge_uses.specs.ShellRows.{rows_of};
 ghost use Rattle.solid_faults.specs.Fans.{AreFans};
 ghost use Rattle.solid_faults.specs.RowPlaces.{places_in};

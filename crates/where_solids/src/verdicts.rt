@@ -1,6 +1,7 @@
 //! The verdict on a solid, by what fails in its shells.
 
-ghost use Rattle.edge_uses.specs.ShellObligations.{edge_name, shell_obligations, solid_obligations, vertex_name};
+ghost use Rattle.edge_uses.specs.ShellObligations.{shell_obligations, solid_obligations};
+ghost use Rattle.solid_data.specs.SolidData.{edge_name, vertex_name};
 ghost use Rattle.solid_data.specs.Obligations.{AllHold, FirstFalse, IsVerdict};
 ghost use Rattle.solid_data.specs.declared.solid.Shell.{Shell as AnyShell};
 ghost use Rattle.solid_data.specs.declared.verdict.Failing.{Failing as Named};
