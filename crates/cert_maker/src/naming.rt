@@ -6,21 +6,14 @@ ghost use Rattle.solid_data.specs.declared.verdict.Rule.{Rule as AnyRule};
 ghost use Rattle.solid_data.specs.SolidData.{edge_name};
 ghost use Rattle.solid_check.specs.Naming.{failing};
 
-use iges_fields::EntryNo;
-use solid_data::{EdgeId, EdgeKey, FaceAt, Failing, Rule, Shell, Solid};
+use solid_data::{EdgeId, FaceAt, Failing, Rule, Shell, Solid};
 
 /// PAIR names the edge list, and the index of the edge in it, from 1.
 pub(crate) fn unpaired(solid: &Solid, edge: EdgeId) -> Failing
     ensures { let key = edge_name (slice_get solid.now.edges edge.0) in result
         ≡ failing Rule.Unpaired key.list.0 key.index }
 {
-    let key = match solid.edge(edge) {
-        Some(edge) => edge.key,
-        None => EdgeKey {
-            list: EntryNo(0),
-            index: 0,
-        },
-    };
+    let key = solid.edge_key(edge);
     Failing {
         rule: Rule::Unpaired,
         entity: key.list,

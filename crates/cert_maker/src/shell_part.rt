@@ -56,8 +56,7 @@ fn loops_in(solid: &Solid, at: ShellAt, shell: &Shell) -> u32
     requires at { slice_get solid.now.shells at.0 ≡ Some shell.now }
     ensures { result ≡ loops_of (Some shell.now) }
 {
-    // Its clause says that a solid has few loops.
-    let _entity = solid.entity();
+    solid.recall_numbering();
     loop_count(shell) as u32
 }
 
@@ -78,8 +77,7 @@ pub(crate) fn shell_part(
     ensures holds { OnOk result (AllHold (shell_obligations solid.now (at.0, shell.now))) }
     ensures fails { IfErr result (IsCheckFault (shell_obligations solid.now (at.0, shell.now))) }
 {
-    // Its clause says that the solid's vertices are numbered by first appearance.
-    let _entity = solid.entity();
+    solid.recall_numbering();
     join(solid, at, shell)?;
     let rows = rows(alloc, solid, at)?;
     let paired = mated(alloc, solid, &rows)?;

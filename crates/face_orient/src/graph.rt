@@ -39,7 +39,7 @@ pub(crate) fn graph_of(alloc: Global, solid: &Solid, at: ShellAt) -> Result<Grap
     ensures graph { IfOk result (λ g. IsGraphOf solid.now at.0 g.crossings.items g.faces g.first) }
     ensures fault { IfErr result (IsFault (CountFails solid.now at.0)) }
 {
-    let _entity = solid.entity();
+    solid.recall_numbering();
     let shell = solid.shell(at).unwrap();
     let rows = rows(alloc, solid, at)?;
     let tally = tally_of(alloc, &rows)?;

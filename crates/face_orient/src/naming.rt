@@ -5,21 +5,14 @@ ghost use Rattle.solid_data.specs.declared.solid.FaceUse.{FaceUse as AnyFace};
 ghost use Rattle.solid_data.specs.SolidData.{edge_name};
 
 use crate::fault::{OrientFailing, OrientRule};
-use iges_base::EntryNo;
-use solid_data::{EdgeId, EdgeKey, Shell, Solid};
+use solid_data::{EdgeId, Shell, Solid};
 
 /// COUNT names the edge list, and the index of the edge in it, from 1.
 pub(crate) fn miscounted(solid: &Solid, edge: u32) -> OrientFailing
     ensures { let key = edge_name (slice_get solid.now.edges edge) in result
         ≡ record { rule = OrientRule.Count; entity = key.list; place = key.index } }
 {
-    let key = match solid.edge(EdgeId(edge)) {
-        Some(edge) => edge.key,
-        None => EdgeKey {
-            list: EntryNo(0),
-            index: 0,
-        },
-    };
+    let key = solid.edge_key(EdgeId(edge));
     OrientFailing {
         rule: OrientRule::Count,
         entity: key.list,

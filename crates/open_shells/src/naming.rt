@@ -8,8 +8,7 @@ ghost use Rattle.open_shells.specs.Obligations.{open_failing, edge_obligation, f
 
 use crate::verdict::{OpenFailing, OpenRule};
 use edge_uses::Unjoined;
-use iges_base::EntryNo;
-use solid_data::{EdgeId, EdgeKey, FaceAt, Shell, Solid, VertexId, VertexKey};
+use solid_data::{EdgeId, FaceAt, Shell, Solid, VertexId};
 
 /// JOIN names the loop, and its first tuple, from 1, whose use doesn't end where the next one starts.
 pub(crate) fn unjoined(shell: &Shell, gap: Unjoined) -> OpenFailing
@@ -30,13 +29,7 @@ pub(crate) fn unjoined(shell: &Shell, gap: Unjoined) -> OpenFailing
 pub(crate) fn not_once(solid: &Solid, edge: EdgeId) -> OpenFailing
     ensures { (d : ShellRows) → result ≡ (edge_obligation solid.now d edge.0).failing }
 {
-    let key = match solid.edge(edge) {
-        Some(edge) => edge.key,
-        None => EdgeKey {
-            list: EntryNo(0),
-            index: 0,
-        },
-    };
+    let key = solid.edge_key(edge);
     OpenFailing {
         rule: OpenRule::Edge,
         entity: key.list,
@@ -62,13 +55,7 @@ pub(crate) fn unreached(shell: &Shell, at: FaceAt) -> OpenFailing
 pub(crate) fn not_fanned(solid: &Solid, vertex: VertexId) -> OpenFailing
     ensures { (d : ShellRows) → result ≡ (fan_obligation solid.now d vertex.0).failing }
 {
-    let key = match solid.vertex(vertex) {
-        Some(key) => key,
-        None => VertexKey {
-            list: EntryNo(0),
-            index: 0,
-        },
-    };
+    let key = solid.vertex_key(vertex);
     OpenFailing {
         rule: OpenRule::Fan,
         entity: key.list,

@@ -35,8 +35,7 @@ fn check_shell(
     ensures holds { OnOk result (AllHold (checked_of_shell solid.now (at.0, shell.now))) }
     ensures fails { IfErr result (IsCheckFault (checked_of_shell solid.now (at.0, shell.now))) }
 {
-    // Its clause says that the solid's vertices are numbered by first appearance.
-    let _entity = solid.entity();
+    solid.recall_numbering();
     join(solid, at, shell)?;
     let rows = rows(alloc, solid, at)?;
     apart(solid, at, before, &rows)?;

@@ -5,8 +5,7 @@ ghost use Rattle.solid_data.specs.SolidData.{PlacedLoop, placed_loops, vertex_na
 ghost use Rattle.solid_check.specs.Naming.{failing};
 
 use edge_uses::Unjoined;
-use iges_fields::EntryNo;
-use solid_data::{Failing, Rule, Shell, Solid, VertexId, VertexKey};
+use solid_data::{Failing, Rule, Shell, Solid, VertexId};
 
 /// JOIN names the loop, and its first tuple, from 1, whose use doesn't end where the next one starts.
 pub(crate) fn unjoined(shell: &Shell, gap: Unjoined) -> Failing
@@ -28,13 +27,7 @@ pub fn at_vertex(solid: &Solid, rule: Rule, vertex: VertexId) -> Failing
     ensures { let key = vertex_name (slice_get solid.now.vertices vertex.0) in result
         ≡ failing rule key.list.0 key.index }
 {
-    let key = match solid.vertex(vertex) {
-        Some(key) => key,
-        None => VertexKey {
-            list: EntryNo(0),
-            index: 0,
-        },
-    };
+    let key = solid.vertex_key(vertex);
     Failing {
         rule,
         entity: key.list,

@@ -46,8 +46,7 @@ pub fn below_shell(alloc: Global, solid: &Solid, shell: ShellAt) -> Result<usize
     requires { shell.0 ≤ length solid.now.shells }
     ensures { IfOk result (λ below. AreBelow solid.now shell.0 below) }
 {
-    // Its clause says that the solid's vertices are numbered by first appearance.
-    let _entity = solid.entity();
+    solid.recall_numbering();
     let mut below = 0;
     'shells: for k in 0..shell.0 {
         let rows = rows(alloc, solid, ShellAt(k))?;

@@ -105,7 +105,7 @@ fn loops_at(solid: &Solid, shell: u32) -> u64
     requires { shell < length solid.now.shells }
     ensures { result ≡ loops_of_shell solid.now (shell + 1) }
 {
-    let _entity = solid.entity();
+    solid.recall_numbering();
     loop_count(solid.shell(ShellAt(shell)).unwrap())
 }
 
@@ -120,7 +120,7 @@ fn state_of(
     ensures { IfOk result (λ k. IsFresh version (rows_of_shell solid.now (shell + 1))
         (loops_of_shell solid.now (shell + 1)) k) }
 {
-    let _entity = solid.entity();
+    solid.recall_numbering();
     let rows = rows(alloc, solid, ShellAt(shell))?;
     let loops = loops_at(solid, shell);
     ShellState::of(alloc, version, rows, loops)
@@ -162,7 +162,7 @@ impl<'a> LineChecker<'a> {
         ensures solid { IfOk result (λ c. c.solid ≡ solid.now) }
         ensures begun { IfOk result (λ c. IsAt first c []) }
     {
-        let _entity = solid.entity();
+        solid.recall_numbering();
         let waiting = states_of(alloc, version, solid)?;
         Ok(LineChecker {
             version,

@@ -54,8 +54,7 @@ fn put_tally_of(
     ensures { IfOk result (λ _. out.new ≡ out.old
         ++ spelling (tally (tally_of_shell solid.now shell.now))) }
 {
-    // Its clause says that a solid has few loops.
-    let _entity = solid.entity();
+    solid.recall_numbering();
     let rows = rows(alloc, solid, at)?;
     let vertices = rows.vertex_count() as u64;
     let edges = rows.edge_count() as u64;

@@ -52,7 +52,7 @@ pub fn use_count(solid: &Solid) -> usize
 pub(crate) fn limit_of(solid: &Solid) -> usize
     ensures { result ≡ line_limit solid.now }
 {
-    let _entity = solid.entity();
+    solid.recall_numbering();
     64 + 10 * use_count(solid)
 }
 

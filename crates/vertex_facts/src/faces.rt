@@ -150,8 +150,7 @@ fn vertices_of(alloc: Global, touches: &[FaceAtVertex]) -> Result<Vec<u32>, NoMe
 pub fn faces_by_vertex(alloc: Global, solid: &Solid) -> Result<VertexFaces, NoMemory>
     ensures { IfOk result (λ faces. faces ≡ touches_of solid.now) }
 {
-    // Its clause says that the solid has few uses.
-    let _entity = solid.entity();
+    solid.recall_numbering();
     let range = Span {
         least: 0,
         count: solid.vertex_count(),

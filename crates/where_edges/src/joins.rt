@@ -6,12 +6,12 @@ ghost use Rattle.std.specs.Prelude.{◌≡◌, ◌<◌, ◌-◌, ◌++◌, ◌�
 ghost use Rattle.where_edges.specs.Join.{face_number, faces_in, gap_face, gap_head, gap_text, join_named, join_text, loop_at, loop_facts, loop_in, meeting_facts, tuple_after, tuple_fact, use_words, uses_in};
 
 use crate::lines::{
-    key_of, put_curve_words, put_edge_words, put_face_fact, put_rule_words, put_vertex_fact,
+    put_curve_words, put_edge_words, put_face_fact, put_rule_words, put_vertex_fact,
 };
 use iges_base::{EntryNo, NoMemory, Out};
 use iges_params::File;
 use solid_data::{FaceUse, Loop, LoopAt, LoopUse, Rule, ShellAt, Solid};
-use solid_faults::{Gap, ends_at, starts_at, vertex_name};
+use solid_faults::{Gap, ends_at, starts_at};
 use where_text::{
     EntryNumbers, Listing, put_more_items, put_number, put_rule_sentence, put_word, shown_members,
 };
@@ -21,7 +21,7 @@ fn put_use_words(out: &mut Out, file: &File, solid: &Solid, item: LoopUse) -> Re
 {
     match item {
         LoopUse::EdgeUse { edge, along } => {
-            let key = key_of(solid.edge(edge));
+            let key = solid.edge_key(edge);
             out.put(b" edge")?;
             put_edge_words(out, key)?;
             out.put(b" flag")?;
@@ -29,7 +29,7 @@ fn put_use_words(out: &mut Out, file: &File, solid: &Solid, item: LoopUse) -> Re
             put_curve_words(out, file, key)
         }
         LoopUse::VertexUse { vertex } => {
-            let key = vertex_name(solid, vertex.0);
+            let key = solid.vertex_key(vertex);
             out.put(b" vertex")?;
             put_number(out, u64::from(key.list.0))?;
             put_number(out, u64::from(key.index))

@@ -1,7 +1,7 @@
 //! How edges, their curves and their ends are named in a line.
 
 ghost use Rattle.brep_lists.specs.Record.{int_at};
-ghost use Rattle.solid_data.specs.SolidData.{edge_name, vertex_name};
+ghost use Rattle.solid_data.specs.SolidData.{vertex_name};
 ghost use Rattle.iges_params.specs.Named.{values_of};
 ghost use Rattle.std.specs.Prelude.{◌≡◌, ◌≤◌, ◌+◌, ◌-◌, ◌*◌, ◌++◌, ◌∷◌, [], OnOk, length, option_copied, pos, slice_get, take};
 ghost use Rattle.where_edges.specs.Lines.{curve_of, curve_words, edge_words, face_fact, rule_words, vertex_fact};
@@ -10,8 +10,7 @@ ghost use Rattle.where_text.specs.Listing.{shown, shown_count};
 use brep_lists::int_at;
 use iges_base::{EntryNo, NoMemory, Out};
 use iges_params::File;
-use solid_data::{Edge, EdgeKey, ShellAt, Solid};
-use solid_faults::vertex_name;
+use solid_data::{EdgeKey, ShellAt, Solid, VertexId};
 use where_text::{EntryNumbers, put_face, put_number, put_signed, put_type, put_vertex, put_word};
 
 /// The head of a rule's paragraph up to the count of its faults.
@@ -29,19 +28,6 @@ pub fn put_rule_words(
     put_number(out, u64::from(shell.0) + 1)?;
     out.put(b" faults")?;
     put_number(out, faults as u64)
-}
-
-/// What an edge is in the file; the list 0 where there is no edge.
-pub fn key_of(edge: Option<&Edge>) -> EdgeKey
-    ensures { result ≡ edge_name (option_copied edge.entry) }
-{
-    match edge {
-        Some(edge) => edge.key,
-        None => EdgeKey {
-            list: EntryNo(0),
-            index: 0,
-        },
-    }
 }
 
 /// An edge: the number of its list, and its index there.
@@ -103,6 +89,6 @@ pub fn put_vertex_fact(
 {
     out.put(b" ")?;
     put_word(out, word)?;
-    put_vertex(out, file, vertex_name(solid, vertex))?;
+    put_vertex(out, file, solid.vertex_key(VertexId(vertex)))?;
     out.put(b"\n")
 }

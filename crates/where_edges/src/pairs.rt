@@ -8,11 +8,11 @@ ghost use Rattle.solid_faults.specs.RowPlaces.{places_in};
 ghost use Rattle.std.specs.Prelude.{◌≡◌, ℕ, ◌<◌, ◌++◌, ◌∷◌, [], OnOk, flat_map, length, option_copied, slice_get};
 ghost use Rattle.where_edges.specs.Pair.{count_words, edge_facts, edge_head, edge_named, edge_text, edges_named, edges_text, flag_in, flag_words, pair_named, pair_text, place_fact, row_fact, row_facts, row_named, rows_named, tuple_words, way_word};
 
-use crate::lines::{key_of, put_curve_words, put_edge_words, put_rule_words, put_vertex_fact};
+use crate::lines::{put_curve_words, put_edge_words, put_rule_words, put_vertex_fact};
 use edge_uses::Rows;
 use iges_base::{NoMemory, Out};
 use iges_params::File;
-use solid_data::{Edge, EdgeKey, Rule, ShellAt, Solid};
+use solid_data::{EdgeId, EdgeKey, Rule, ShellAt, Solid};
 use solid_faults::{Groups, RowPlace, Unpaired, begins_at, row_places, rows_by_edge, use_counts};
 use std::alloc::Global;
 use where_text::{
@@ -135,20 +135,16 @@ fn put_edge_head(out: &mut Out, key: EdgeKey, unpaired: Unpaired) -> Result<(), 
 }
 
 #[tactic(auto, unfolding(crate::specs::Pair::edge_facts))]
-fn put_edge_facts(
-    out: &mut Out,
-    file: &File,
-    solid: &Solid,
-    edge: Option<&Edge>,
-) -> Result<(), NoMemory>
+fn put_edge_facts(out: &mut Out, file: &File, solid: &Solid, edge: EdgeId) -> Result<(), NoMemory>
     ensures { OnOk result (out.new ≡ out.old
-        ++ edge_facts file.now solid.now (option_copied edge.entry)) }
+        ++ edge_facts file.now solid.now (slice_get solid.now.edges edge.0)) }
 {
     out.put(b" ")?;
-    put_curve_words(out, file, key_of(edge))?;
+    put_curve_words(out, file, solid.edge_key(edge))?;
     out.put(b"\n")?;
-    put_vertex_fact(out, "start", file, solid, begins_at(edge, true))?;
-    put_vertex_fact(out, "end", file, solid, begins_at(edge, false))
+    let ends = solid.edge(edge);
+    put_vertex_fact(out, "start", file, solid, begins_at(ends, true))?;
+    put_vertex_fact(out, "end", file, solid, begins_at(ends, false))
 }
 
 /// The rows of a shell, where each is, and which each edge has.
@@ -175,9 +171,8 @@ fn put_edge(
     ensures named { OnOk result (named.new ≡ named.old
         ++ edge_named listing known.now.rows.now known.now.places.items unpaired) }
 {
-    let edge = solid.edge(unpaired.edge);
-    put_edge_head(out, key_of(edge), unpaired)?;
-    put_edge_facts(out, file, solid, edge)?;
+    put_edge_head(out, solid.edge_key(unpaired.edge), unpaired)?;
+    put_edge_facts(out, file, solid, unpaired.edge)?;
     let rows = known.by_edge.places(unpaired.edge.0);
     put_rows(
         out,

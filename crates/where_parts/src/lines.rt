@@ -6,8 +6,7 @@ ghost use Rattle.where_parts.specs.Lines.{count_words, face_line, head_lines, ru
 
 use iges_base::{EntryNo, NoMemory, Out};
 use iges_params::File;
-use solid_data::{Rule, ShellAt, Solid};
-use solid_faults::vertex_name;
+use solid_data::{Rule, ShellAt, Solid, VertexId};
 use where_text::{EntryNumbers, put_face, put_number, put_rule_sentence, put_vertex, put_word};
 
 /// A word, and how many.
@@ -49,7 +48,7 @@ pub fn put_vertex_line(
     ensures { OnOk result (out.new ≡ out.old ++ vertex_line word.now file.now solid.now vertex) }
 {
     out.put(word.as_bytes())?;
-    put_vertex(out, file, vertex_name(solid, vertex))?;
+    put_vertex(out, file, solid.vertex_key(VertexId(vertex)))?;
     out.put(b"\n")
 }
 

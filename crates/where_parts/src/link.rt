@@ -14,7 +14,7 @@ use edge_uses::{Paired, Row, Rows};
 use iges_base::{NoMemory, Out};
 use iges_params::File;
 use solid_data::{EdgeKey, FaceUse, Loop, LoopAt, RowId, Rule, ShellAt, Solid};
-use solid_faults::{Linking, RowPlace, Unlinked, edge_name, row_places, vertex_name};
+use solid_faults::{Linking, RowPlace, Unlinked, row_places};
 use std::alloc::Global;
 use vertex_facts::{AtVertex, VertexTables, around, vertex_tables};
 use where_text::{
@@ -54,9 +54,9 @@ fn put_row(out: &mut Out, file: &File, solid: &Solid, row: Option<Row>) -> Resul
     let Some(row) = row else {
         return Ok(());
     };
-    put_edge(out, edge_name(solid, row.edge))?;
+    put_edge(out, solid.edge_key(row.edge))?;
     out.put(b" to")?;
-    put_vertex(out, file, vertex_name(solid, row.to.0))
+    put_vertex(out, file, solid.vertex_key(row.to))
 }
 
 fn put_loop(out: &mut Out, walk: Option<&Loop>) -> Result<(), NoMemory>
@@ -203,7 +203,7 @@ fn put_unlinked_lines(
 {
     let count = listing.count(facts.len());
     out.put(b"vertex")?;
-    put_vertex(out, file, vertex_name(solid, vertex.vertex.0))?;
+    put_vertex(out, file, solid.vertex_key(vertex.vertex))?;
     put_count(out, " fans", vertex.fans as usize)?;
     put_count(out, " points", vertex.points as usize)?;
     out.put(b"\n")?;

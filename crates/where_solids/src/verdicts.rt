@@ -15,8 +15,8 @@ ghost use Rattle.where_solids.specs.AllFaults.{AreAllFaults};
 ghost use Rattle.solid_data.specs.declared.TheConstants.{PART_LIMIT};
 
 use crate::all_faults::{AllFaults, shell_at};
-use solid_data::{FaceUse, Failing, Rule, Shell, Solid, Verdict};
-use solid_faults::{Gap, Linking, ShellFaults, Unlinked, Unpaired, edge_name, vertex_name};
+use solid_data::{FaceUse, Failing, Rule, Shell, Solid, Verdict, VertexId};
+use solid_faults::{Gap, Linking, ShellFaults, Unlinked, Unpaired};
 
 fn first_gap(gaps: &[Gap]) -> Option<Failing>
     ensures { MatchOption result (map gap_failing gaps.now ≡ [])
@@ -39,7 +39,7 @@ fn first_unpaired(solid: &Solid, unpaired: &[Unpaired]) -> Option<Failing>
     let [first, ..] = unpaired else {
         return None;
     };
-    let key = edge_name(solid, first.edge);
+    let key = solid.edge_key(first.edge);
     Some(Failing {
         rule: Rule::Unpaired,
         entity: key.list,
@@ -69,7 +69,7 @@ fn first_apart(faces: &[FaceUse], firsts: &[u32]) -> Option<Failing>
 fn at_vertex(solid: &Solid, rule: Rule, vertex: u32) -> Failing
     ensures { result ≡ named_vertex rule (vertex_name (slice_get solid.now.vertices vertex)) }
 {
-    let key = vertex_name(solid, vertex);
+    let key = solid.vertex_key(VertexId(vertex));
     Failing {
         rule,
         entity: key.list,

@@ -59,7 +59,7 @@ returns-clause-part c =
 
 pub returns-clause-before : goal.returns-clause-before
 returns-clause-before c =
-    c.with.ensures c.args.solid.now c.args.at.0 c.entity-entity.ensures.numbered (slice_get_within c.args.solid.now.shells c.args.at.0 c.args.shell.now c.requires.at) c.requires.before c.in_ok-rows.ensures
+    c.with.ensures c.args.solid.now c.args.at.0 c.recall_numbering.ensures.numbered (slice_get_within c.args.solid.now.shells c.args.at.0 c.args.shell.now c.requires.at) c.requires.before c.in_ok-rows.ensures
 
 pub returns-clause-holds : goal.returns-clause-holds
 returns-clause-holds c =
@@ -69,5 +69,5 @@ returns-clause-holds c =
 
 pub part_of-requires-clause-few : goal.part_of-requires-clause-few
 part_of-requires-clause-few c =
-    let can = can_check c.args.solid.now c.args.at.0 c.in_ok-rows.rows c.entity-entity.ensures.numbered (slice_get_within c.args.solid.now.shells c.args.at.0 c.args.shell.now c.requires.at) c.in_ok-rows.ensures in
+    let can = can_check c.args.solid.now c.args.at.0 c.in_ok-rows.rows c.recall_numbering.ensures.numbered (slice_get_within c.args.solid.now.shells c.args.at.0 c.args.shell.now c.requires.at) c.in_ok-rows.ensures in
     omega (arith, can.few_vertices, ap (λ (d : ShellRows). length d.vertices) c.in_ok-paired.ensures.rows)

@@ -20,7 +20,7 @@ returns-in_err-apart-clause-fails c =
 
 pub returns-clause-before : goal.returns-clause-before
 returns-clause-before c =
-    c.with.ensures c.args.solid.now c.args.at.0 c.entity-entity.ensures.numbered (slice_get_within c.args.solid.now.shells c.args.at.0 c.args.shell.now c.requires.at) c.requires.before c.in_ok-rows.ensures
+    c.with.ensures c.args.solid.now c.args.at.0 c.recall_numbering.ensures.numbered (slice_get_within c.args.solid.now.shells c.args.at.0 c.args.shell.now c.requires.at) c.requires.before c.in_ok-rows.ensures
 
 pub returns-clause-holds : goal.returns-clause-holds
 returns-clause-holds c =

@@ -9,5 +9,5 @@ grouped-requires-clause-within c =
 
 pub grouped-requires-clause-few : goal.grouped-requires-clause-few
 grouped-requires-clause-few c =
-    let few = few_touches c.args.solid.now c.in_ok-vertices.vertices.items c.in_ok-touches.touches.items c.entity-entity.ensures.numbered c.in_ok-touches.ensures (c.in_ok-vertices.ensures ∙ ap (map vertex_of) c.as_slice.ensures.value) in
+    let few = few_touches c.args.solid.now c.in_ok-vertices.vertices.items c.in_ok-touches.touches.items c.recall_numbering.ensures.numbered c.in_ok-touches.ensures (c.in_ok-vertices.ensures ∙ ap (map vertex_of) c.as_slice.ensures.value) in
     omega (arith, few)
