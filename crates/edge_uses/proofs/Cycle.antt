@@ -29,7 +29,8 @@ zip_from_trail R x [] z t = (t, tt)
 zip_from_trail R x (y ∷ ys) z t = (t.0, zip_from_trail R y ys z t.1)
 
 -- what R leads to from the first is on the trail that comes back to it
-pub on_trail : (R : ℕ → ℕ → Type 0) → ((x y z : ℕ) → R x y → R x z → y ≡ z) → (r : ℕ) (rs : List ℕ) → Trail R r rs r → (n a x : ℕ) → Has (r ∷ rs) a → Steps R n a x → Has (r ∷ rs) x
+pub on_trail : (R : ℕ → ℕ → Type 0) → ((x y z : ℕ) → R x y → R x z → y ≡ z) → (r : ℕ) (rs : List ℕ) → Trail R r rs r → (n a x : ℕ) → Has (r ∷ rs) a
+    → Steps R n a x → Has (r ∷ rs) x
 on_trail R one r rs t zero a x h e = subst (Has (r ∷ rs)) e h
 on_trail R one r rs t (suc n) a x h (c, s, rest) =
     let k = next_on R r rs r t a h in
@@ -39,7 +40,8 @@ on_trail R one r rs t (suc n) a x h (c, s, rest) =
 
 -- the least row of a vertex
 abbrev FirstStart : ℕ → List Row → Type 0
-FirstStart v rows = (r : ℕ) × ((a : Row) × (slice_get rows r ≡ Some a) × (a.from.0 ≡ v)) × ((x : ℕ) (b : Row) → slice_get rows x ≡ Some b → b.from.0 ≡ v → r ≤ x)
+FirstStart v rows = (r : ℕ) × ((a : Row) × (slice_get rows r ≡ Some a) × (a.from.0 ≡ v))
+    × ((x : ℕ) (b : Row) → slice_get rows x ≡ Some b → b.from.0 ≡ v → r ≤ x)
 
 after_other : (v : ℕ) (y : Row) (rows : List Row) → y.from.0 ≢ v → FirstStart v rows → FirstStart v (y ∷ rows)
 after_other v y rows ne rest = (suc rest.0, rest.1, above)
@@ -51,7 +53,8 @@ after_other v y rows ne rest = (suc rest.0, rest.1, above)
 first_start : (v : ℕ) (rows : List Row) (k : ℕ) (row : Row) → slice_get rows k ≡ Some row → row.from.0 ≡ v → FirstStart v rows
 first_start v [] k row at e = absurd (let h : None ≡ Some row = at in cc)
 first_start v (y ∷ rows) zero row at e = (zero, (y, refl, ap (λ (r : Row). r.from.0) (same_Some y row at) ∙ e), λ x b h k. omega arith)
-first_start v (y ∷ rows) (suc k) row at e = ⊎_elim (λ same. (zero, (y, refl, same.1), λ x b h k. omega arith)) (λ other. after_other v y rows other.1 (first_start v rows k row at e)) (eqb_tells y.from.0 v)
+first_start v (y ∷ rows) (suc k) row at e = ⊎_elim (λ same. (zero, (y, refl, same.1), λ x b h k. omega arith))
+    (λ other. after_other v y rows other.1 (first_start v rows k row at e)) (eqb_tells y.from.0 v)
 
 -- a cycle of turns: each row of the vertex, once, from the least on
 pub record IsCycle (d : ShellRows) (v r : ℕ) (rs : List ℕ) : Type 0 where
