@@ -79,8 +79,8 @@ record_false f entity item k number x s h =
     (λ a. subst (Breaks f) (sym a.1) (breaks_by f (fail rule.NoEntry e item) _ (s.entry a.0) (λ n. a.0 (subst (Names f) s.there n))))
     (λ r. ⊎_elim
     (λ b. subst (Breaks f) (sym b.1)
-        (breaks_by f (fail rule.WrongKind e item) _ (s.kind_due b.0)
-        (subst (Names f) (sym s.there) r.0, (k, refl, λ n. b.0 (subst (NamesKind k f) s.there n)))))
+    (breaks_by f (fail rule.WrongKind e item) _ (s.kind_due b.0)
+    (subst (Names f) (sym s.there) r.0, (k, refl, λ n. b.0 (subst (NamesKind k f) s.there n)))))
     (λ q. ⊎_elim (λ c. subst (Breaks f) (sym c.1) (layout_false f number k q.0 c.0)) (λ p. absurd p.1) q.1)
     r.1)
     h
@@ -109,15 +109,15 @@ named_level f entity item k number known more x s twice three h =
 
 index_false : (f : Contents) (e item place : ℕ) (number index : ℤ) (count : ℕ) → bad_value f (fail rule.BadIndex e item) ≡ value_at place None
     → int_at (values_of f (pos e)) place ≡ index → int_at (values_of f (pos e)) (place - 1) ≡ number → item_count f number ≡ count → ¬ IsIndex index count
-        → Breaks f (fail rule.BadIndex e item)
+    → Breaks f (fail rule.BadIndex e item)
 index_false f e item place number index count b i n c broken =
     breaks_by f (fail rule.BadIndex e item) _ b
     (λ h. broken (subst (λ m. IsIndex index m) (ap (item_count f) n ∙ c)
-        (subst (λ z. IsIndex z (item_count f (int_at (values_of f (pos e)) (place - 1)))) i h)))
+    (subst (λ z. IsIndex z (item_count f (int_at (values_of f (pos e)) (place - 1)))) i h)))
 
 item_false : (f : Contents) (entity : ℤ) (item : ℕ) (k : EntityKind) (number index : ℤ) (count : ℕ) (x : Failing) → Site f (entry_number entity) item k number
     → (¬ IsIndex index count → Breaks f (fail rule.BadIndex (entry_number entity) item)) → FirstFalse (item_places f entity item k number index count) x
-        → Breaks f x
+    → Breaks f x
 item_false f entity item k number index count x s bad h =
     ⊎_elim
     (λ front. record_false f entity item k number x s front)
@@ -137,7 +137,7 @@ edge_bad : (f : Contents) (m i : ℕ) (t : EdgeTuple) (r : Rule) → HasRecordOf
 edge_bad f m i t r hr there =
     let less : suc i - 1 ≡ i = omega arith in
     ap (λ j. in_edges f r j (told_in edges (values_of f (pos m)))) less ∙ ap (in_edges f r i) (told_here f (pos m) edges hr)
-        ∙ ap (in_edge f r (1 + 5 * i)) there
+    ∙ ap (in_edge f r (1 + 5 * i)) there
 
 abbrev list_due : ℕ → BadValue
 list_due place = value_at place (Some (due.Record vertices))
@@ -178,7 +178,7 @@ end_site f m i t nk hr there start = record {
 
 end_index : (f : Contents) (m i : ℕ) (t : EdgeTuple) → NamesKind edges f (pos m) → HasRecordOf edges f (pos m) → slice_get (told edges f (pos m)) i ≡ Some t
     → IsIndex t.start_index (length (told vertices f t.start_list)) → ¬ IsIndex t.end_index (length (told vertices f t.end_list))
-        → Breaks f (fail rule.BadIndex m (suc i))
+    → Breaks f (fail rule.BadIndex m (suc i))
 end_index f m i t nk hr there start broken =
     let some : IsIndex t.start_index (item_count f t.start_list) = subst (λ n. IsIndex t.start_index n) (sym (vertices_counted f t.start_list)) start in
     let before : 1 + 5 * i + 4 - 1 ≡ 1 + 5 * i + 3 = omega arith in
@@ -205,12 +205,12 @@ one_edge f m i x (Some t) nk hr there h =
     (λ b. absurd b.1)
     g)
     (λ s. item_false f (pos m) (suc i) vertices t.start_list t.start_index (length (told vertices f t.start_list)) x (start_site f m i t nk hr there)
-        (start_index f m i t nk hr there) s.1)
+    (start_index f m i t nk hr there) s.1)
     (split geometry start x front))
     (λ rest.
     let held = AllHold-append_right geometry start rest.0 in
     item_false f (pos m) (suc i) vertices t.end_list t.end_index (length (told vertices f t.end_list)) x (end_site f m i t nk hr there held.1.0)
-        (end_index f m i t nk hr there held.1.1.1.0) rest.1)
+    (end_index f m i t nk hr there held.1.1.1.0) rest.1)
     (split (geometry ++ start) end x h)
 
 edge_false : (f : Contents) (e index : ℤ) (count : ℕ) (x : Failing) → NamesKind edges f e → HasRecordOf edges f e → IsIndex index count
@@ -230,7 +230,7 @@ tuple_bad : (f : Contents) (m i : ℕ) (t : LoopTuple) (r : Rule) → HasRecordO
 tuple_bad f m i t r hr there =
     let less : suc i - 1 ≡ i = omega arith in
     ap (λ j. in_tuples f r j (told_in «loop» (values_of f (pos m)))) less ∙ ap (in_tuples f r i) (told_here f (pos m) «loop» hr)
-        ∙ ap (in_tuple f r (tuple_place (tuples f (pos m)) i)) there
+    ∙ ap (in_tuple f r (tuple_place (tuples f (pos m)) i)) there
 
 abbrev list_kind : Bool → EntityKind
 list_kind b = if b then vertices else edges
@@ -280,7 +280,7 @@ used_false f m i t x false nk hr there e h =
     let place = item_places f (pos m) (suc i) edges t.«list» t.index count in
     ⊎_elim
     (λ front. item_false f (pos m) (suc i) edges t.«list» t.index count x
-        (subst (λ b. Site f m (suc i) (list_kind b) t.«list») e (tuple_site f m i t nk hr there))
+    (subst (λ b. Site f m (suc i) (list_kind b) t.«list») e (tuple_site f m i t nk hr there))
     (tuple_index_false f m i t count nk hr there (edges_counted f t.«list»)) front)
     (λ rest. edge_false f t.«list» t.index count x rest.0.1.0 rest.0.1.1.0 rest.0.1.1.1.0 rest.1)
     (split place (edge_places f t.«list» (entry_number t.index) (edge_at f t.«list» (entry_number t.index))) x h)
@@ -292,7 +292,7 @@ tuple_false f m i t x nk hr there h =
     (λ front. used_false f m i t x t.is_vertex nk hr there refl front)
     (λ rest. ⊎_elim (λ a. subst (Breaks f) (sym a.1) (curves_false f m i t nk hr there a.0)) (λ b. absurd b.1) rest.1)
     (split (used_places f (pos m) (suc i) t.«list» t.index t.is_vertex)
-        (obligation rule.BadGeometry m (suc i) (All (λ (c : Bool × ℤ). NamesGeometry f c.1) t.curves) ∷ []) x h)
+    (obligation rule.BadGeometry m (suc i) (All (λ (c : Bool × ℤ). NamesGeometry f c.1) t.curves) ∷ []) x h)
 
 tuples_false : (f : Contents) (l : ℤ) (x : Failing) → NamesKind «loop» f l → HasRecordOf «loop» f l
     → FirstFalse (after_each (tuple_places f l) [] (tuples f l)) x → Breaks f x
@@ -326,7 +326,7 @@ loop_false f m i known l x nk there h =
     ⊎_elim
     (λ front. ⊎_elim (λ b. b) (λ n. absurd n.1)
     (named_level f (pos m) (suc i) «loop» l known [] x (loop_site f m i l nk there)
-        (bad_at f m face rule.Twice (suc i) nk (not_number rule.Twice m i) ∙ loop_place i None) (λ n. inr (inr n)) front))
+    (bad_at f m face rule.Twice (suc i) nk (not_number rule.Twice m i) ∙ loop_place i None) (λ n. inr (inr n)) front))
     (λ rest. let held = AllHold-append_left place once rest.0 in tuples_false f l x held.1.0 held.1.1.0 rest.1)
     (split (place ++ once) (after_each (tuple_places f l) [] (tuples f l)) x h)
 
@@ -363,7 +363,7 @@ face_false f m i known c x nk there h =
     ⊎_elim
     (λ front. ⊎_elim (λ b. b) (λ n. ⊎_elim (λ a. subst (Breaks f) (sym a.1) (surface_false f c.0 n.0 a.0)) (λ b. absurd b.1) n.1)
     (named_level f (pos m) (suc i) face c.0 known surface x (face_site f m i c nk there) (bad_at f m shell rule.Twice (suc i) nk (not_number rule.Twice m i))
-        (λ n. inr (inl n)) front))
+    (λ n. inr (inl n)) front))
     (λ rest. let held = AllHold-append_left place once rest.0 in loops_false f c.0 (flat_map (loops f) known) x held.1.0 rest.1)
     (split (place ++ once) (after_each (loop_places f c.0 (flat_map (loops f) known)) [] (loops f c.0)) x h)
 
@@ -376,7 +376,7 @@ faces_false f (pos m) used x nk h =
     let counted = a.counted in
     let place : length a.before + 1 ≡ suc a.place = omega (arith, counted) in
     face_false f m a.place (used ++ numbers a.before) a.item x nk a.there
-        (subst (λ p. FirstFalse (face_at f (pos m) p (used ++ numbers a.before) a.item.0) x) place a.false_here)
+    (subst (λ p. FirstFalse (face_at f (pos m) p (used ++ numbers a.before) a.item.0) x) place a.false_here)
 
 shell_site : (f : Contents) (n i : ℕ) (s : ℤ × Bool) → NamesKind solid f (pos n) → slice_get (shells f (pos n)) i ≡ Some s → Site f n (suc i) shell s.0
 shell_site f n i s nk there = record {
@@ -396,7 +396,7 @@ shell_false f n i known s x nk there h =
     ⊎_elim
     (λ front. ⊎_elim (λ b. b) (λ m. absurd m.1)
     (named_level f (pos n) (suc i) shell s.0 known [] x (shell_site f n i s nk there) (bad_at f n solid rule.Twice (suc i) nk (not_number rule.Twice n i))
-        (λ m. inl m) front))
+    (λ m. inl m) front))
     (λ rest. let held = AllHold-append_left place once rest.0 in faces_false f s.0 used x held.1.0 rest.1)
     (split (place ++ once) (after_each (face_places f s.0 used) [] (faces f s.0)) x h)
 
@@ -408,7 +408,7 @@ shells_false f n x nk h =
     let counted = a.counted in
     let place : length a.before + 1 ≡ suc a.place = omega (arith, counted) in
     shell_false f n a.place (numbers a.before) a.item x nk a.there
-        (subst (λ p. FirstFalse (shell_at f (pos n) p (numbers a.before) a.item.0) x) place a.false_here)
+    (subst (λ p. FirstFalse (shell_at f (pos n) p (numbers a.before) a.item.0) x) place a.false_here)
 
 -- the number that was asked for
 asked : (f : Contents) (n : ℕ) → Site f n 0 solid (pos n)

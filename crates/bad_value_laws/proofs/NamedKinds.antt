@@ -100,15 +100,17 @@ list_test e = (there, back)
   where
     there : test_of e ≡ true → (e.kind ≡ pos 502) × HasForm vertices e.form
     there t =
-        let p = and_true (int_eq e.kind (pos 502)) _ t in
-        ((Decides-int_eq e.kind (pos 502)).0 p.0, ⊎_elim (λ a. inl ((Decides-int_eq e.form (pos 0)).0 a)) (λ b. inr ((Decides-int_eq e.form (pos 1)).0 b))
-            (or_true (int_eq e.form (pos 0)) (int_eq e.form (pos 1)) p.1))
+        let p = and_true (int_eq e.kind (pos 502)) _ t in (
+          (Decides-int_eq e.kind (pos 502)).0 p.0,
+          ⊎_elim (λ a. inl ((Decides-int_eq e.form (pos 0)).0 a)) (λ b. inr ((Decides-int_eq e.form (pos 1)).0 b))
+              (or_true (int_eq e.form (pos 0)) (int_eq e.form (pos 1)) p.1),
+        )
 
     back : (e.kind ≡ pos 502) × HasForm vertices e.form → test_of e ≡ true
     back h =
         ap (λ b. b && (int_eq e.form (pos 0) || int_eq e.form (pos 1))) ((Decides-int_eq e.kind (pos 502)).1 h.0)
         ∙ ⊎_elim (λ a. or_left (int_eq e.form (pos 0)) (int_eq e.form (pos 1)) ((Decides-int_eq e.form (pos 0)).1 a))
-            (λ b. or_right (int_eq e.form (pos 0)) (int_eq e.form (pos 1)) ((Decides-int_eq e.form (pos 1)).1 b)) h.1
+        (λ b. or_right (int_eq e.form (pos 0)) (int_eq e.form (pos 1)) ((Decides-int_eq e.form (pos 1)).1 b)) h.1
 
 pub a_vertex_list : (f : Contents) (z : ℤ) → NamesKind vertices f z → is_vertex_list (entry_at f z) ≡ true
 a_vertex_list f z h = by_entry (named f z) h
@@ -156,7 +158,7 @@ no_index (pos k) n h =
 abbrev nest : Bool → Bool → Bool → Bool → Bool → Bool → Option EntityKind
 nest a b c d e g =
     if a then Some solid else
-        (if b then Some shell else (if c then Some face else (if d then Some «loop» else (if e then Some edges else (if g then Some vertices else None)))))
+    (if b then Some shell else (if c then Some face else (if d then Some «loop» else (if e then Some edges else (if g then Some vertices else None)))))
 
 wrong : {P : Type 0} → false ≡ true → P
 wrong {P} e = absurd cc
@@ -174,7 +176,7 @@ none_of : (a b c d e g : Bool) → a ≡ false → b ≡ false → c ≡ false �
 none_of a b c d e g p q r s t u =
     ap (λ x. is_none (nest x b c d e g)) p ∙ ap (λ x. is_none (nest false x c d e g)) q ∙ ap (λ x. is_none (nest false false x d e g)) r
     ∙ ap (λ x. is_none (nest false false false x e g)) s ∙ ap (λ x. is_none (nest false false false false x g)) t
-        ∙ ap (λ x. is_none (nest false false false false false x)) u
+    ∙ ap (λ x. is_none (nest false false false false false x)) u
 
 differs : (z w : ℤ) → int_eq z w ≡ false → z ≢ w
 differs z w e same = wrong (sym e ∙ (Decides-int_eq z w).1 same)
@@ -203,7 +205,7 @@ kind_test z = (there, back)
     back h =
         none_of (int_eq z (pos 186)) (int_eq z (pos 514)) (int_eq z (pos 510)) (int_eq z (pos 508)) (int_eq z (pos 504)) (int_eq z (pos 502))
         (is_other z (pos 186) (h solid)) (is_other z (pos 514) (h shell)) (is_other z (pos 510) (h face)) (is_other z (pos 508) (h «loop»))
-            (is_other z (pos 504) (h edges)) (is_other z (pos 502) (h vertices))
+        (is_other z (pos 504) (h edges)) (is_other z (pos 502) (h vertices))
 
 pub geometry_test : (f : Contents) (z : ℤ) → Decides (names_geometry f z) (NamesGeometry f z)
 geometry_test f z = by_entry (named f z)

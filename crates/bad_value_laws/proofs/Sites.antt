@@ -68,7 +68,7 @@ tuple_from (suc n) (suc i) b vs t e =
     let sum = sum_by-cons tuple_size (tuple_read ws) (take i (tuples_read n (drop (5 + 2 * c) ws))) in
     let same = ap (λ us. sum_by tuple_size (take i (tuples_read n us))) on in
     let place : b + (5 + 2 * c) + sum_by tuple_size (take i (tuples_read n (drop (b + (5 + 2 * c)) vs))) ≡ b
-          + sum_by tuple_size (take (suc i) (tuples_read (suc n) ws))
+    + sum_by tuple_size (take (suc i) (tuples_read (suc n) ws))
     = omega (arith, size, sum, same) in
     tuple_from n i (b + (5 + 2 * c)) vs t (ap (λ us. slice_get (tuples_read n us) i) (sym on) ∙ e) ∙ ap (λ k. tuple_read (drop k vs)) place
 
@@ -89,7 +89,7 @@ tuple_curve vs at j t c e h =
     let read = item_read curve_read 2 (count_at (drop at vs) 4) j 5 (drop at vs) c here in
     let place : at + 6 + 2 * j ≡ at + (5 + j * 2 + 1) = omega arith in
     ap (int_at vs) place ∙ sym (ap int_of (value_after at (5 + j * 2 + 1) vs)) ∙ sym (int_in_group 2 (5 + j * 2) 1 (drop at vs) (lit< tt))
-        ∙ sym (ap (λ (p : Bool × ℤ). p.1) read)
+    ∙ sym (ap (λ (p : Bool × ℤ). p.1) read)
 
 -- ---- edges
 

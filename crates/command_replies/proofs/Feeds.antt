@@ -23,14 +23,24 @@ pub so_far_more : (a b c : Option (List ℕ)) (old new : Fed) (came count : ℕ)
     → ((bytes : List ℕ) → IsFed old bytes → IsFed new (bytes ++ x)) → IsFedSoFar a c new (came + count)
 so_far_more a b c old new came count x s k is next =
     let long = s.long in
-    record { bytes = s.bytes ++ x; taken = consumes_more a b c s.bytes x s.taken k; fed = next s.bytes s.fed; long =
-        omega (arith, long, is, length-append s.bytes x) }
+    record {
+      bytes = s.bytes ++ x;
+      taken = consumes_more a b c s.bytes x s.taken k;
+      fed = next s.bytes s.fed;
+      long =
+          omega (arith, long, is, length-append s.bytes x);
+    }
 
 pub fed_told : (a b c : Option (List ℕ)) (feed : Fed) (came : ℕ) → IsFedSoFar a b feed came → came ≤ FILE_LIMIT → Consumes b c [] → IsAtEnd c → IsFedTold a feed
 fed_told a b c feed came s h k e =
     let long = s.long in
-    record { bytes = s.bytes; told = told_all a c s.bytes (subst (Consumes a c) (append-nil s.bytes) (consumes_more a b c s.bytes [] s.taken k)) e; few =
-        (let f : length s.bytes ≤ FILE_LIMIT = omega (arith, long, h) in f); fed = s.fed }
+    record {
+      bytes = s.bytes;
+      told = told_all a c s.bytes (subst (Consumes a c) (append-nil s.bytes) (consumes_more a b c s.bytes [] s.taken k)) e;
+      few =
+          (let f : length s.bytes ≤ FILE_LIMIT = omega (arith, long, h) in f);
+      fed = s.fed;
+    }
 
 pub too_many : (limit : ℕ) (a b c : Option (List ℕ)) (feed : Fed) (came : ℕ) (x : List ℕ) (reply : Reply) → IsFedSoFar a b feed came → Consumes b c x
     → limit < came + length x → (reply.answer ≡ TooLarge) × (reply.text ≡ []) → IsReply (IsTooLarge limit) a reply

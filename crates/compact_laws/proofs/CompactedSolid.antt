@@ -107,9 +107,9 @@ module _ (f : Contents) (n : ℕ) (new : Contents) (c : IsCompacted f n new) whe
   solid_is : IsRelabelled (compacted_names f n new c) (solid_of f n) (solid_of new (number_after f n new c n))
   solid_is =
       relabelled_then First Rest (compacted_names f n new c) whole (solid_of f n) (solid_of g n1) (solid_of new (number_after f n new c n))
-          (solid_told f g n c.extracted c.places)
+      (solid_told f g n c.extracted c.places)
       (relabelled_then (ranks.ranked_names g) Second Rest rest (solid_of g n1) (solid_of d n1) (solid_of new (number_after f n new c n))
-          (solid_ranked g n1 places_between)
+      (solid_ranked g n1 places_between)
       (solid_told d new n1 c.again places_dropped))
 
   -- ---- the verdict

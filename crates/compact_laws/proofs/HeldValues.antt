@@ -37,7 +37,7 @@ smaller : (m n : ℕ) → m ≤ n → IsInteger (pos n) → IsInteger (pos m)
 smaller m n le h =
     let p = and_parts (int_le (negsuc 9223372036854775807) (pos n)) (int_le (pos n) (pos 9223372036854775807)) h in
     and_from (int_le (negsuc 9223372036854775807) (pos m)) (int_le (pos m) (pos 9223372036854775807)) refl
-        (le-leb m 9223372036854775807 (omega (arith, le, leb-true n 9223372036854775807 p.1)))
+    (le-leb m 9223372036854775807 (omega (arith, le, leb-true n 9223372036854775807 p.1)))
 
 count_few : (used : ℕ → Bool) (k n : ℕ) → count_from used k n ≤ n
 count_few used k zero = omega arith
@@ -130,9 +130,11 @@ module _ (g : Contents) where
   reindexed_fit (t ∷ ts) h = (index_fits t.is_vertex t.list t.index h.0, reindexed_fit ts h.1)
 
   loop_held : (vs : List Value) → AreValues vs → AreValues (loop_values g vs)
-  loop_held vs h = indices_held (due «loop» (map (reindexed_tuple g) (items_of «loop» vs))) vs
-      (tt, tuples_fit (map (reindexed_tuple g) (items_of «loop» vs))
-      (reindexed_fit (items_of «loop» vs) (tuples_held (count_at vs 0) (drop 1 vs) (list_all-drop is_value 1 vs h)))) h
+  loop_held vs h = indices_held (due «loop» (map (reindexed_tuple g) (items_of «loop» vs))) vs (
+    tt,
+    tuples_fit (map (reindexed_tuple g) (items_of «loop» vs))
+        (reindexed_fit (items_of «loop» vs) (tuples_held (count_at vs 0) (drop 1 vs) (list_all-drop is_value 1 vs h))),
+  ) h
 
 -- ---- lists: other items in place of the own values
 
@@ -197,9 +199,19 @@ module _ (g : Contents) where
   ends_fit : (es : List EdgeTuple) → AllByRecursion EdgeFits es → AllByRecursion EdgeFits (map (reindexed_edge g) es)
   ends_fit [] h = tt
   ends_fit (e ∷ es) h =
-      let k = h.0 in
-      ((k.0, (k.1.0, (ranked_fits (is_used_vertex g (entry_number e.start_list)) e.start_index k.1.1.0,
-          (k.1.1.1.0, (ranked_fits (is_used_vertex g (entry_number e.end_list)) e.end_index k.1.1.1.1.0, tt))))), ends_fit es h.1)
+      let k = h.0 in (
+        (
+          k.0,
+          (
+            k.1.0,
+            (
+              ranked_fits (is_used_vertex g (entry_number e.start_list)) e.start_index k.1.1.0,
+              (k.1.1.1.0, (ranked_fits (is_used_vertex g (entry_number e.end_list)) e.end_index k.1.1.1.1.0, tt)),
+            ),
+          ),
+        ),
+        ends_fit es h.1,
+      )
 
   kept_edges_fit : (e : ℕ) (vs : List Value) → AreValues vs → AllByRecursion EdgeFits (kept_edges g e vs)
   kept_edges_fit e vs h = ends_fit (used_from (is_used_edge g e) 1 (items_of edges vs))
@@ -212,20 +224,34 @@ module _ (g : Contents) where
   edge_values_held : (e : ℕ) (vs : List Value) → AreValues vs → AreValues (edge_values g e vs)
   edge_values_held e vs h =
       let few : length (kept_edges g e vs) ≤ count_at vs 0 =
-      omega (arith, length-map (used_from (is_used_edge g e) 1 (items_of edges vs)) (reindexed_edge g), used_few (is_used_edge g e) 1 (items_of edges vs),
-          length-map (groups 5 (count_at vs 0) (drop 1 vs)) edge_read, groups_length 5 (count_at vs 0) (drop 1 vs)) in
-      list_held (kept_edges g e vs) (due edges (kept_edges g e vs)) (own_count edges vs) vs
-      (count_fits vs (length (kept_edges g e vs)) few h, all_flat_map DueFits edge_due (kept_edges g e vs)
-          (λ x m. All-at EdgeFits (kept_edges g e vs) (kept_edges_fit e vs h) x m)) h
+      omega (
+        arith,
+        length-map (used_from (is_used_edge g e) 1 (items_of edges vs)) (reindexed_edge g),
+        used_few (is_used_edge g e) 1 (items_of edges vs),
+        length-map (groups 5 (count_at vs 0) (drop 1 vs)) edge_read,
+        groups_length 5 (count_at vs 0) (drop 1 vs),
+      ) in
+      list_held (kept_edges g e vs) (due edges (kept_edges g e vs)) (own_count edges vs) vs (
+        count_fits vs (length (kept_edges g e vs)) few h,
+        all_flat_map DueFits edge_due (kept_edges g e vs)
+            (λ x m. All-at EdgeFits (kept_edges g e vs) (kept_edges_fit e vs h) x m),
+      ) h
 
   vertex_values_held : (v : ℕ) (vs : List Value) → AreValues vs → AreValues (vertex_values g v vs)
   vertex_values_held v vs h =
       let few : length (kept_vertices g v vs) ≤ count_at vs 0 =
-      omega (arith, used_few (is_used_vertex g v) 1 (items_of vertices vs), length-map (groups 3 (count_at vs 0) (drop 1 vs)) vertex_read, groups_length 3
-          (count_at vs 0) (drop 1 vs)) in
-      list_held (kept_vertices g v vs) (due vertices (kept_vertices g v vs)) (own_count vertices vs) vs
-      (count_fits vs (length (kept_vertices g v vs)) few h, all_flat_map DueFits vertex_due (kept_vertices g v vs)
-          (λ x m. All-at VertexFits (kept_vertices g v vs) (kept_vertices_fit v vs h) x m)) h
+      omega (
+        arith,
+        used_few (is_used_vertex g v) 1 (items_of vertices vs),
+        length-map (groups 3 (count_at vs 0) (drop 1 vs)) vertex_read,
+        groups_length 3
+            (count_at vs 0) (drop 1 vs),
+      ) in
+      list_held (kept_vertices g v vs) (due vertices (kept_vertices g v vs)) (own_count vertices vs) vs (
+        count_fits vs (length (kept_vertices g v vs)) few h,
+        all_flat_map DueFits vertex_due (kept_vertices g v vs)
+            (λ x m. All-at VertexFits (kept_vertices g v vs) (kept_vertices_fit v vs h) x m),
+      ) h
 
   pub dropped_held : (e : ℕ) (r : Record) → AreValues r.1 → AreValues (dropped_values g e r)
   dropped_held e r h = by_kinds (is_kind «loop» r) (is_kind edges r) (is_kind vertices r)

@@ -54,8 +54,13 @@ all_weaker P Q (x ∷ xs) f all = (f x all.0, all_weaker P Q xs f all.1)
 -- ---- what the records tell, by keys
 
 abbrev solid_by : Contents → ℕ → Keys → SolidData
-solid_by f n keys = record { entity = record { 0 = n }; shells = map (shell_by f keys) (shells f (pos n)); edges =
-    flat_map (edge_by f keys) keys.edges; vertices = keys.vertices }
+solid_by f n keys = record {
+  entity = record { 0 = n };
+  shells = map (shell_by f keys) (shells f (pos n));
+  edges =
+      flat_map (edge_by f keys) keys.edges;
+  vertices = keys.vertices;
+}
 
 solid_is : (f : Contents) (n : ℕ) → solid_of f n ≡ solid_by f n (keys_of f (pos n))
 unfolding solid_of
@@ -152,7 +157,7 @@ module _ (g : Contents) where
   vertex_keys_known false z j k =
       let s : EdgeStill g z j = k.still in
       subst (λ o. AllByRecursion KnownVertexKey (ends_named o)) (sym s.before)
-          (vertex_known s.edge.start_list s.edge.start_index k.start, (vertex_known s.edge.end_list s.edge.end_index k.end, tt))
+      (vertex_known s.edge.start_list s.edge.start_index k.start, (vertex_known s.edge.end_list s.edge.end_index k.end, tt))
 
   edges_named_new : (b : Bool) (z j : ℤ) → KnownUse g b z j → (if b then [] else edge_key z (tuple_index g b z j) ∷ [])
       ≡ map ranked_edge (if b then [] else edge_key z j ∷ [])
@@ -161,13 +166,13 @@ module _ (g : Contents) where
 
   vertices_named_new : (b : Bool) (z j : ℤ) → KnownUse g b z j
       → (if b then vertex_key z (tuple_index g b z j) ∷ [] else ends_named (edge_at d z (entry_number (tuple_index g b z j))))
-          ≡ map ranked_vertex (if b then vertex_key z j ∷ [] else ends_named (edge_at g z (entry_number j)))
+      ≡ map ranked_vertex (if b then vertex_key z j ∷ [] else ends_named (edge_at g z (entry_number j)))
   vertices_named_new true z j k = ap (λ key. key ∷ []) (vertex_key_new z j k)
   vertices_named_new false z j k =
       let s : EdgeStill g z j = k.still in
       ap ends_named s.after
       ∙ (ap (λ key. key ∷ vertex_key s.edge.end_list (vertex_index g s.edge.end_list s.edge.end_index) ∷ [])
-          (vertex_key_new s.edge.start_list s.edge.start_index k.start)
+      (vertex_key_new s.edge.start_list s.edge.start_index k.start)
       ∙ (ap (λ key. ranked_vertex (vertex_key s.edge.start_list s.edge.start_index) ∷ key ∷ []) (vertex_key_new s.edge.end_list s.edge.end_index k.end)
       ∙ ap (λ o. map ranked_vertex (ends_named o)) (sym s.before)))
 
@@ -189,19 +194,19 @@ module _ (g : Contents) where
     tuples_all =
         all_flat_map (KnownTuple g) (tuples g) (flat_map (loops g) (flat_map (λ s. numbers (faces g s)) (numbers (shells g n))))
         (λ l m. let k : SameLoop g l = All-at (SameLoop g) (flat_map (loops g) (flat_map (λ s. numbers (faces g s)) (numbers (shells g n)))) loops_all l m
-            in k.uses)
+        in k.uses)
 
     all_tuples_new : all_tuples d n ≡ map (reindexed_tuple g) (all_tuples g n)
     all_tuples_new =
         ap (λ is. flat_map (tuples d) (flat_map (loops d) (flat_map (λ s. numbers (faces d s)) (numbers is)))) known.same
         ∙ (ap (λ zs. flat_map (tuples d) (flat_map (loops d) zs))
-            (flat_same (λ s. numbers (faces g s)) (λ s. numbers (faces d s)) (numbers (shells g n))
-            (all_weaker (SameShell g) (λ s. numbers (faces d s) ≡ numbers (faces g s)) (numbers (shells g n)) (λ s k. ap numbers k.same) shells_all))
+        (flat_same (λ s. numbers (faces g s)) (λ s. numbers (faces d s)) (numbers (shells g n))
+        (all_weaker (SameShell g) (λ s. numbers (faces d s) ≡ numbers (faces g s)) (numbers (shells g n)) (λ s k. ap numbers k.same) shells_all))
         ∙ (ap (λ zs. flat_map (tuples d) zs)
-            (flat_same (loops g) (loops d) (flat_map (λ s. numbers (faces g s)) (numbers (shells g n)))
-            (all_weaker (SameFace g) (λ c. loops d c ≡ loops g c) (flat_map (λ s. numbers (faces g s)) (numbers (shells g n))) (λ c k. k.same) faces_all))
+        (flat_same (loops g) (loops d) (flat_map (λ s. numbers (faces g s)) (numbers (shells g n)))
+        (all_weaker (SameFace g) (λ c. loops d c ≡ loops g c) (flat_map (λ s. numbers (faces g s)) (numbers (shells g n))) (λ c k. k.same) faces_all))
         ∙ flat_renamed (SameLoop g) (tuples g) (tuples d) (reindexed_tuple g) (λ l k. k.same)
-            (flat_map (loops g) (flat_map (λ s. numbers (faces g s)) (numbers (shells g n)))) loops_all))
+        (flat_map (loops g) (flat_map (λ s. numbers (faces g s)) (numbers (shells g n)))) loops_all))
 
     edges_all : AllByRecursion KnownEdgeKey (flat_map edge_named (all_tuples g n))
     edges_all =
@@ -217,16 +222,16 @@ module _ (g : Contents) where
     edge_keys_new =
         ap (λ ts. distinct same_edge (flat_map edge_named ts)) all_tuples_new
         ∙ (ap (distinct same_edge)
-            (flat_known (KnownTuple g) (reindexed_tuple g) edge_named edge_named ranked_edge (λ t k. edges_named_new t.is_vertex t.«list» t.index k)
-            (all_tuples g n) tuples_all)
+        (flat_known (KnownTuple g) (reindexed_tuple g) edge_named edge_named ranked_edge (λ t k. edges_named_new t.is_vertex t.«list» t.index k)
+        (all_tuples g n) tuples_all)
         ∙ distinct_renamed same_edge KnownEdgeKey ranked_edge same_edges (flat_map edge_named (all_tuples g n)) edges_all)
 
     vertex_keys_new : vertex_keys d n ≡ map ranked_vertex (vertex_keys g n)
     vertex_keys_new =
         ap (λ ts. distinct same_vertex (flat_map (vertices_named d) ts)) all_tuples_new
         ∙ (ap (distinct same_vertex)
-            (flat_known (KnownTuple g) (reindexed_tuple g) (vertices_named g) (vertices_named d) ranked_vertex
-            (λ t k. vertices_named_new t.is_vertex t.«list» t.index k) (all_tuples g n) tuples_all)
+        (flat_known (KnownTuple g) (reindexed_tuple g) (vertices_named g) (vertices_named d) ranked_vertex
+        (λ t k. vertices_named_new t.is_vertex t.«list» t.index k) (all_tuples g n) tuples_all)
         ∙ distinct_renamed same_vertex KnownVertexKey ranked_vertex same_vertices (flat_map (vertices_named g) (all_tuples g n)) vertices_all)
 
     keys_new : keys_of d n ≡ ranked_keys (keys_of g n)
@@ -257,9 +262,9 @@ module _ (g : Contents) where
 
     use_new : (b flag : Bool) (z j : ℤ) → KnownUse g b z j
         → (if b then VertexUse (record { 0 = place_of same_vertex (map ranked_vertex keys.vertices) (vertex_key z (tuple_index g b z j)) }) else EdgeUse
-            (record { 0 = place_of same_edge (map ranked_edge keys.edges) (edge_key z (tuple_index g b z j)) }) flag)
+        (record { 0 = place_of same_edge (map ranked_edge keys.edges) (edge_key z (tuple_index g b z j)) }) flag)
         ≡ (if b then VertexUse (record { 0 = place_of same_vertex keys.vertices (vertex_key z j) }) else EdgeUse
-            (record { 0 = place_of same_edge keys.edges (edge_key z j) }) flag)
+        (record { 0 = place_of same_edge keys.edges (edge_key z j) }) flag)
     use_new true flag z j k = ap (λ m. VertexUse (record { 0 = m })) (vertex_place z j k)
     use_new false flag z j k = ap (λ m. EdgeUse (record { 0 = m }) flag) (edge_place z j k)
 
@@ -269,7 +274,7 @@ module _ (g : Contents) where
       uses =
           sym (ap (map (use_by (ranked_keys keys))) k.same
           ∙ map_known (KnownTuple g) (reindexed_tuple g) (use_by keys) (use_by (ranked_keys keys)) (λ t m. use_new t.is_vertex t.flag t.«list» t.index m)
-              (tuples g l) k.uses);
+          (tuples g l) k.uses);
     }
 
     face_new : (i : ℤ × Bool) → SameFace g i.0 → IsRelabelledFace N (face_by g keys i) (face_by d (ranked_keys keys) i)
@@ -288,7 +293,7 @@ module _ (g : Contents) where
       faces =
           subst (λ is. AllZip (IsRelabelledFace N) (map (face_by g keys) (faces g i.0)) (map (face_by d (ranked_keys keys)) is)) (sym k.same)
           (zip_each (λ (c : ℤ × Bool). SameFace g c.0) (IsRelabelledFace N) (face_by g keys) (face_by d (ranked_keys keys)) face_new (faces g i.0)
-              (from_numbers (faces g i.0) k.faces_same));
+          (from_numbers (faces g i.0) k.faces_same));
     }
       where
         from_numbers : (items : List (ℤ × Bool)) → AllByRecursion (SameFace g) (numbers items) → AllByRecursion (λ (c : ℤ × Bool). SameFace g c.0) items
@@ -312,7 +317,7 @@ module _ (g : Contents) where
     edges_new [] all = tt
     edges_new (key ∷ ks) all =
         zip_append (IsRelabelledEdge N) (edge_by g keys key) (flat_map (edge_by g keys) ks) (edge_by d (ranked_keys keys) (ranked_edge key))
-            (flat_map (edge_by d (ranked_keys keys)) (map ranked_edge ks))
+        (flat_map (edge_by d (ranked_keys keys)) (map ranked_edge ks))
         (one_edge_new key all.0) (edges_new ks all.1)
 
     vertices_new : (ks : List VertexKey) → AllByRecursion KnownVertexKey ks → AllZip (IsRankedVertex g) ks (map ranked_vertex ks)
@@ -325,7 +330,7 @@ module _ (g : Contents) where
       shells =
           subst (λ is. AllZip (IsRelabelledShell N) (map (shell_by g keys) (shells g (pos n))) (map (shell_by d (ranked_keys keys)) is)) (sym known.same)
           (zip_each (λ (i : ℤ × Bool). SameShell g i.0) (IsRelabelledShell N) (shell_by g keys) (shell_by d (ranked_keys keys)) shell_new (shells g (pos n))
-              known.shells_same);
+          known.shells_same);
       edges = edges_new keys.edges known_edges;
       vertices = vertices_new keys.vertices known_vertices;
     }

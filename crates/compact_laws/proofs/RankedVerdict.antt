@@ -53,7 +53,7 @@ verdict_ranked g n all = record {
   );
   fails = λ x bad.
       FirstFalse-append_rest (places (dropped g) n) (solid_obligations (solid_of (dropped g) n)) (ranked_failing g x) still
-          (one.fails x (first_behind (places g n) (solid_obligations (solid_of g n)) x all bad));
+      (one.fails x (first_behind (places g n) (solid_obligations (solid_of g n)) x all bad));
   only = λ y bad.
       let k = one.only y (first_behind (places (dropped g) n) (solid_obligations (solid_of (dropped g) n)) y still bad) in
       (k.0, k.1, FirstFalse-append_rest (places g n) (solid_obligations (solid_of g n)) k.0 all k.2);

@@ -43,7 +43,7 @@ set_kept pairs count labels x v h lt le joined = record {
       (λ other. subst (λ w. w ≤ y) (sym (set_other labels x y v 0 other.1)) (h.low y in_y)) (eqb_tells x y);
   joined = λ y in_y. ⊎_elim
       (λ same. subst (λ z. AreJoined pairs z (get_or (slice_set labels x v) z 0)) same.1
-          (subst (λ w. AreJoined pairs x w) (sym (set_same labels x v 0 (omega (arith, lt, h.each)))) joined))
+      (subst (λ w. AreJoined pairs x w) (sym (set_same labels x v 0 (omega (arith, lt, h.each)))) joined))
       (λ other. subst (λ w. AreJoined pairs y w) (sym (set_other labels x y v 0 other.1)) (h.joined y in_y)) (eqb_tells x y);
 }
 
@@ -121,7 +121,7 @@ way_joined pairs old new n x at to h set in_at long joined =
 -- after both ways, the top x of one node hangs at the top v of the other
 pub hung : (old mid new : List ℕ) (a b x v : ℕ) → AreRehung old mid → get_or mid x 0 ≡ x → x < length old → v ≤ x → AreInOneTree mid a x → AreInOneTree mid b v
     → ((pairs : List (ℕ × ℕ)) → AreLabels pairs (length old) old → AreJoined pairs a x)
-        → ((pairs : List (ℕ × ℕ)) → AreLabels pairs (length old) old → AreJoined pairs b v)
+    → ((pairs : List (ℕ × ℕ)) → AreLabels pairs (length old) old → AreJoined pairs b v)
     → new ≡ slice_set mid x v → AreHung old new a b
 hung old mid new a b x v h top in_x le one_a one_b to_x to_v set =
     let in_mid : x < length mid = omega (arith, in_x, h.each) in
@@ -135,13 +135,19 @@ hung old mid new a b x v h top in_x le one_a one_b to_x to_v set =
       one_tree = λ f even. one_a f (kept f even) ∙ (sym (hung_alike mid x v f in_mid (subst (λ ls. IsEven ls f) set even)) ∙ sym (one_b f (kept f even)));
       labels = λ pairs link m. subst (AreLabels pairs (length old)) (sym set)
           (set_kept pairs (length old) mid x v (h.labels pairs m) in_x le
-              (joined_on pairs x a v (joined_back pairs a x (to_x pairs m)) (leads_one (Linked pairs) a b v link (to_v pairs m))));
+          (joined_on pairs x a v (joined_back pairs a x (to_x pairs m)) (leads_one (Linked pairs) a b v link (to_v pairs m))));
     }
 
 pub hung_back : (old new : List ℕ) (a b : ℕ) → AreHung old new b a → AreHung old new a b
 hung_back old new a b h =
-    record { each = h.each; low = h.low; kept = h.kept; one_tree = λ f even. sym (h.one_tree f even); labels =
-    λ pairs link. h.labels pairs (linked_back pairs a b link) }
+    record {
+      each = h.each;
+      low = h.low;
+      kept = h.kept;
+      one_tree = λ f even. sym (h.one_tree f even);
+      labels =
+          λ pairs link. h.labels pairs (linked_back pairs a b link);
+    }
 
 -- where all hang at tops, nodes of one tree are marked alike
 pub settled_alike : (labels : List ℕ) (count a b : ℕ) → length labels ≡ count → AreSettled labels count → AreInOneTree labels a b
@@ -160,7 +166,7 @@ label_top old i to trees in_i before is apart =
 set_to : (old : List ℕ) (i to : ℕ) → i < length old → (i ≢ to → get_or old to 0 ≡ to) → get_or (slice_set old i to) to 0 ≡ to
 set_to old i to in_i top =
     ⊎_elim (λ same. subst (λ z. get_or (slice_set old i to) z 0 ≡ to) same.1 (set_same old i to 0 in_i))
-        (λ other. set_other old i to to 0 other.1 ∙ top other.1) (eqb_tells i to)
+    (λ other. set_other old i to to 0 other.1 ∙ top other.1) (eqb_tells i to)
 
 settled_other : (old : List ℕ) (i to x : ℕ) → AreTrees old → i < length old → AreSettled old i → x < i
     → get_or (slice_set old i to) (get_or (slice_set old i to) x 0) 0 ≡ get_or (slice_set old i to) x 0
@@ -180,7 +186,7 @@ settled_more old new i to trees in_i before is set x in_x =
     subst (λ ls. get_or ls (get_or ls x 0) 0 ≡ get_or ls x 0) (sym set)
     (⊎_elim
     (λ same. subst (λ z. get_or (slice_set old i to) (get_or (slice_set old i to) z 0) 0 ≡ get_or (slice_set old i to) z 0) same.1
-        (ap (λ n. get_or (slice_set old i to) n 0) at_i ∙ (there ∙ sym at_i)))
+    (ap (λ n. get_or (slice_set old i to) n 0) at_i ∙ (there ∙ sym at_i)))
     (λ other. settled_other old i to x trees in_i before (omega (arith, in_x, other.1)))
     (eqb_tells i x))
 
@@ -201,7 +207,7 @@ linked_same pairs count labels a b h link = ⊎_elim (λ x. h.settled a b x) (λ
 linked_inside : (pairs : List (ℕ × ℕ)) (count a b : ℕ) → AreInside pairs count → Linked pairs a b → b < count
 linked_inside pairs count a b inside link =
     ⊎_elim (λ x. (All-at (λ (p : ℕ × ℕ). (p.0 < count) × (p.1 < count)) pairs inside (a, b) x).1)
-        (λ y. (All-at (λ (p : ℕ × ℕ). (p.0 < count) × (p.1 < count)) pairs inside (b, a) y).0) link
+    (λ y. (All-at (λ (p : ℕ × ℕ). (p.0 < count) × (p.1 < count)) pairs inside (b, a) y).0) link
 
 same_steps : (pairs : List (ℕ × ℕ)) (count : ℕ) (labels : List ℕ) (n a b : ℕ) → AreComponents pairs count labels → Steps (Linked pairs) n a b
     → get_or labels a 0 ≡ get_or labels b 0

@@ -40,7 +40,7 @@ pub above_more : {A : Type 0} (f : A → List ℕ) (xs : List A) (x : A) (i old 
     → new ≡ max old (above_of (f x)) → max new (above_of (flat_map f (drop (i + 1) xs))) ≡ all
 above_more f xs x i old new all lt at h n =
     let e : above_of (flat_map f (drop i xs)) ≡ above_of (f x ++ flat_map f (drop (i + 1) xs)) = ap (λ ys. above_of (flat_map f ys)) (split_drop xs x i lt at)
-        in
+    in
     omega (arith, h, n, e, above-append (f x) (flat_map f (drop (i + 1) xs)))
 
 pub above_done : {A : Type 0} (f : A → List ℕ) (xs : List A) (i now all : ℕ) → length xs ≤ i → max now (above_of (flat_map f (drop i xs))) ≡ all → now ≡ all
@@ -52,13 +52,13 @@ above_done f xs i now all past h =
 
 loops_flat : (s : SolidData) (face : ℕ) (flag : Bool) (i : ℕ) (ls : List Loop)
     → flat_map (vertices_used s)
-        (flat_map uses_in (map (λ (l : ℕ × Loop). record { at = record { face = record { 0 = face }; place = l.0 }; forwards = flag; loop = l.1 })
-        (enumerate_from i ls))) ≡ flat_map (loop_vertices s) ls
+    (flat_map uses_in (map (λ (l : ℕ × Loop). record { at = record { face = record { 0 = face }; place = l.0 }; forwards = flag; loop = l.1 })
+    (enumerate_from i ls))) ≡ flat_map (loop_vertices s) ls
 loops_flat s face flag i [] = refl
 loops_flat s face flag i (l ∷ ls) =
     let rest : List LoopUse =
-          flat_map uses_in (map (λ (l : ℕ × Loop). record { at = record { face = record { 0 = face }; place = l.0 }; forwards = flag; loop = l.1 })
-          (enumerate_from (i + 1) ls)) in
+    flat_map uses_in (map (λ (l : ℕ × Loop). record { at = record { face = record { 0 = face }; place = l.0 }; forwards = flag; loop = l.1 })
+    (enumerate_from (i + 1) ls)) in
     flat_map-append (vertices_used s) l.uses rest ∙ ap (λ vs. loop_vertices s l ++ vs) (loops_flat s face flag (i + 1) ls)
 
 faces_flat : (s : SolidData) (flag : Bool) (i : ℕ) (fs : List FaceUse)
@@ -90,7 +90,7 @@ pub above_next : (s : SolidData) (k old new : ℕ) (h : Shell) → slice_get s.s
     → new ≡ above_of (flat_map (shell_vertices s) (take (k + 1) s.shells))
 above_next s k old new h at is n =
     let e : above_of (flat_map (shell_vertices s) (take (k + 1) s.shells)) ≡ above_of (flat_map (shell_vertices s) (take k s.shells) ++ shell_vertices s h) =
-          ap above_of (shells_more s s.shells k h at) in
+    ap above_of (shells_more s s.shells k h at) in
     omega (arith, is, n, e, above-append (flat_map (shell_vertices s) (take k s.shells)) (shell_vertices s h))
 
 -- What is below that number, where numbers go by first appearance.
@@ -250,9 +250,11 @@ pub none_shared : (s : SolidData) (k n least : ℕ) (vs : List ℕ) → IsStrict
 none_shared s k n least [] rise h e le = tt
 none_shared s k n least (v ∷ vs) rise h e le =
     let same : v ≡ least = same_Some v least e in
-    let r = rises (v ∷ vs) rise in
-    (apart_below s k n v h (omega (arith, same, le)), All-from (IsApart s k) vs
-        (λ x m. let lt : v < x = all_has (λ z. v < z) vs x r.0 m in apart_below s k n x h (omega (arith, same, le, lt))))
+    let r = rises (v ∷ vs) rise in (
+      apart_below s k n v h (omega (arith, same, le)),
+      All-from (IsApart s k) vs
+          (λ x m. let lt : v < x = all_has (λ z. v < z) vs x r.0 m in apart_below s k n x h (omega (arith, same, le, lt))),
+    )
 
 pub least_shared : (s : SolidData) (k n least : ℕ) (vs : List ℕ) → AreBelow s k n → slice_get vs 0 ≡ Some least → least < n → FirstNot (IsApart s k) vs least
 least_shared s k n least [] h e lt = absurd cc

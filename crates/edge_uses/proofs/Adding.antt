@@ -37,8 +37,14 @@ rows_shorter s p (u ∷ us) = shorter_option (row_of s p u) (filter_map (row_of 
 pub all_rows_shorter : (s : SolidData) (ps : List PlacedLoop) → length (flat_map (loop_rows s) ps) ≤ length (uses_of ps)
 all_rows_shorter s [] = omega arith
 all_rows_shorter s (p ∷ ps) =
-    omega (arith, all_rows_shorter s ps, rows_shorter s p p.loop.uses, length-append (loop_rows s p) (flat_map (loop_rows s) ps), length-append p.loop.uses
-        (uses_of ps))
+    omega (
+      arith,
+      all_rows_shorter s ps,
+      rows_shorter s p p.loop.uses,
+      length-append (loop_rows s p) (flat_map (loop_rows s) ps),
+      length-append p.loop.uses
+          (uses_of ps),
+    )
 
 -- those added so far and those left are all
 pub record Adds (s : SolidData) (old now : Built) (left all : List PlacedLoop) : Type 0 where
@@ -60,7 +66,7 @@ more_used f old now new ps qs h k = more_of f old now new (uses_of ps) (uses_of 
 pub added_both : (s : SolidData) (old now new : Built) (ps qs : List PlacedLoop) → Added s old now ps → Added s now new qs → Added s old new (ps ++ qs)
 added_both s old now new ps qs a b =
     let n : length now.rows.items ≡ length old.rows.items + length (flat_map (loop_rows s) ps) = ap (λ ys. length ys) a.rows
-          ∙ length-append old.rows.items (flat_map (loop_rows s) ps) in
+    ∙ length-append old.rows.items (flat_map (loop_rows s) ps) in
     let f : List ℕ = follows_from s (length old.rows.items) ps in
     let g : List ℕ = follows_from s (length now.rows.items) qs in
     record {
@@ -78,9 +84,9 @@ adds_more s old now new ps left all h a = record {
   whole = λ last b. h.whole last (added_both s now new last ps left a b);
   room = λ n lt.
       let grown : length new.rows.items ≡ length now.rows.items + length (flat_map (loop_rows s) ps) = ap (λ ys. length ys) a.rows
-            ∙ length-append now.rows.items (flat_map (loop_rows s) ps) in
+      ∙ length-append now.rows.items (flat_map (loop_rows s) ps) in
       let both : length (uses_of (ps ++ left)) ≡ length (uses_of ps) + length (uses_of left) = ap (λ ys. length ys) (flat_map-append uses_in ps left)
-            ∙ length-append (uses_of ps) (uses_of left) in
+      ∙ length-append (uses_of ps) (uses_of left) in
       omega (arith, h.room n lt, grown, both, all_rows_shorter s ps);
 }
 
@@ -88,7 +94,7 @@ pub adds_room : (s : SolidData) (old now : Built) (ps left all : List PlacedLoop
     → length old.rows.items + length (uses_of all) < n → length now.rows.items + length (uses_of ps) < n
 adds_room s old now ps left all n h lt =
     let both : length (uses_of (ps ++ left)) ≡ length (uses_of ps) + length (uses_of left) = ap (λ ys. length ys) (flat_map-append uses_in ps left)
-          ∙ length-append (uses_of ps) (uses_of left) in
+    ∙ length-append (uses_of ps) (uses_of left) in
     omega (arith, h.room n lt, both)
 
 pub added_none : (s : SolidData) (now : Built) → Added s now now []
@@ -112,7 +118,7 @@ pub added_loop : (s : SolidData) (old new : Built) (p : PlacedLoop) → new.rows
     → Added s old new (p ∷ [])
 added_loop s old new p rows next points edges vertices =
     let grown : length new.rows.items ≡ length old.rows.items + length (loop_rows s p) = ap (λ ys. length ys) rows
-          ∙ length-append old.rows.items (loop_rows s p) in
+    ∙ length-append old.rows.items (loop_rows s p) in
     let n : length new.rows.items - length old.rows.items ≡ length (loop_rows s p) = omega (arith, grown) in
     record {
       rows = rows ∙ ap (λ ys. old.rows.items ++ ys) (sym (append-nil (loop_rows s p)));
@@ -135,15 +141,15 @@ pub loop_room : (s : SolidData) (old now : Built) (face : ℕ) (forwards f : Boo
     → length now.rows.items + length (uses_of (placed_at face f (i, l) ∷ [])) < n
 loop_room s old now face forwards f ls l i n all lt e h room =
     adds_room s old now (placed_at face forwards (i, l) ∷ []) (loops_left face forwards ls (i + 1)) all n
-        (subst (λ ps. Adds s old now ps all) (split_loops face forwards ls l i lt e) h) room
+    (subst (λ ps. Adds s old now ps all) (split_loops face forwards ls l i lt e) h) room
 
 pub loop_added : (s : SolidData) (old now new : Built) (face : ℕ) (forwards f : Bool) (ls : List Loop) (l : Loop) (i : ℕ) (all : List PlacedLoop)
     → i < length ls → get_or ls i l ≡ l → f ≡ forwards
     → Adds s old now (loops_left face forwards ls i) all → Added s now new (placed_at face f (i, l) ∷ [])
-        → Adds s old new (loops_left face forwards ls (i + 1)) all
+    → Adds s old new (loops_left face forwards ls (i + 1)) all
 loop_added s old now new face forwards f ls l i all lt e same h a =
     adds_more s old now new (placed_at face forwards (i, l) ∷ []) (loops_left face forwards ls (i + 1)) all
-        (subst (λ ps. Adds s old now ps all) (split_loops face forwards ls l i lt e) h)
+    (subst (λ ps. Adds s old now ps all) (split_loops face forwards ls l i lt e) h)
     (subst (λ b. Added s now new (placed_at face b (i, l) ∷ [])) same a)
 
 pub loops_added : (s : SolidData) (old now : Built) (face : ℕ) (forwards : Bool) (ls : List Loop) (i : ℕ) (all : List PlacedLoop) → length ls ≤ i
@@ -154,10 +160,10 @@ loops_added s old now face forwards ls i all past h =
 pub face_room : (s : SolidData) (old now : Built) (flag : Bool) (fs : List FaceUse) (f : FaceUse) (i n : ℕ) (all : List PlacedLoop) → i < length fs
     → get_or fs i f ≡ f
     → Adds s old now (faces_left flag fs i) all → length old.rows.items + length (uses_of all) < n
-        → length now.rows.items + length (uses_of (placed_in_face flag (i, f))) < n
+    → length now.rows.items + length (uses_of (placed_in_face flag (i, f))) < n
 face_room s old now flag fs f i n all lt e h room =
     adds_room s old now (placed_in_face flag (i, f)) (faces_left flag fs (i + 1)) all n (subst (λ ps. Adds s old now ps all) (split_faces flag fs f i lt e) h)
-        room
+    room
 
 pub face_added : (s : SolidData) (old now new : Built) (flag : Bool) (fs : List FaceUse) (f : FaceUse) (i : ℕ) (all : List PlacedLoop) → i < length fs
     → get_or fs i f ≡ f

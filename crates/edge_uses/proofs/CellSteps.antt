@@ -24,7 +24,7 @@ beside_there blank d (m ∷ ms) (v ∷ vs) (suc i) n r long at =
     let above : m < n = All-at (λ y. m < y) ms r.0 n (has_get ms i n at) in
     ⊎_elim (λ y. absurd (omega (arith, above, y.1)))
     (λ no_. beside_there blank d ms vs i n r.1 (let e : length vs ≡ length ms = omega (arith, long) in e) at ∙ ap (λ b. if b then v else beside blank ms vs n)
-        (sym no_.0)) (eqb_tells m n)
+    (sym no_.0)) (eqb_tells m n)
 
 -- beside no place stands the blank value
 pub beside_none : {T : Type 0} (blank : T) (ms : List ℕ) (vs : List T) (n : ℕ) → (Has ms n → ⊥) → beside blank ms vs n ≡ blank
@@ -43,7 +43,7 @@ beside_set blank value (m ∷ ms) (v ∷ vs) zero n k r long at =
     let same : m ≡ n = same_Some m n at in
     ⊎_elim
     (λ y. ap (λ b. if b then value else beside blank ms vs k) y.0 ∙ ap (λ b. if b then value else (if m == k then v else beside blank ms vs k))
-        (sym (eq-eqb n k (sym same ∙ y.1))))
+    (sym (eq-eqb n k (sym same ∙ y.1))))
     (λ no_. by_other same no_.0) (eqb_tells m k)
   where
     by_other : m ≡ n → (m == k) ≡ false → (if m == k then value else beside blank ms vs k)
@@ -86,7 +86,7 @@ map_set f g value low (suc count) zero each lt =
     rest base (suc n) above =
         let apart : (low + 0 == base) ≡ false = ⊎_elim (λ y. absurd (omega (arith, above, y.1))) (λ no_. no_.0) (eqb_tells (low + 0) base) in
         ap (λ x. x ∷ map g (numbers_from (base + 1) n)) (each base ∙ ap (λ b. if b then value else f base) apart)
-            ∙ ap (λ xs. f base ∷ xs) (rest (base + 1) n (omega (arith, above)))
+        ∙ ap (λ xs. f base ∷ xs) (rest (base + 1) n (omega (arith, above)))
 map_set f g value low (suc count) (suc k) each lt =
     let apart : (low + suc k == low) ≡ false = ⊎_elim (λ y. absurd (omega (arith, y.1))) (λ no_. no_.0) (eqb_tells (low + suc k) low) in
     let e : low + suc k ≡ low + 1 + k = omega arith in
@@ -122,7 +122,7 @@ far_set ns span blank value values i n c at =
     let e : n ≡ span.least + (n - span.least) = omega (arith, within) in
     map_set (beside blank ns values) (beside blank ns (slice_set values i value)) value span.least span.count (n - span.least)
     (λ x. beside_set blank value ns values i n x (rises ns c.rise) c.long at ∙ ap (λ m. if m == x then value else beside blank ns values x) e)
-        (omega (arith, within))
+    (omega (arith, within))
   where
     span_at : (ns : List ℕ) (span : Span) (i n : ℕ) → IsSpanOf span ns → slice_get ns i ≡ Some n → IsWithin span n
     span_at ns span i n is at = subst (IsWithin span) (get_or_from_slice_get ns i n n at) (is.holds i n (slice_get_within ns i n at))
@@ -154,7 +154,7 @@ pub searched_none : (ns : List ℕ) (n i : ℕ) → ((k : ℕ) → k < i → get
 searched_none ns n i low high c =
     let p = place ns (Has-from_Contains ns n c) in
     ⊎_elim (λ before. let a = low p.0 before in absurd (omega (arith, a, p.2))) (λ above. let a = high p.0 above p.1 in absurd (omega (arith, a, p.2)))
-        (split p.0 i)
+    (split p.0 i)
   where
     place : (ns : List ℕ) → Has ns n → (k : ℕ) × (k < length ns) × (get_or ns k 0 ≡ n)
     place [] h = absurd h
@@ -191,16 +191,16 @@ pub at_none : {T : Type 0} (w : Celled T) (far : Bool) (ns : List ℕ) (span : S
     → far ≡ true → IsWithin w.span n → (Contains ns n → ⊥) → blank ≡ get_or w.cells (n - w.span.least) w.blank
 at_none {T} w true ns span blank values n is far within none =
     subst (λ (x : Celled T). blank ≡ get_or x.cells (n - x.span.least) x.blank) (sym is)
-        (far_none ns span blank values n (subst (λ (x : Celled T). IsWithin x.span n) is within) none)
+    (far_none ns span blank values n (subst (λ (x : Celled T). IsWithin x.span n) is within) none)
 at_none w false ns span blank values n is far within none = absurd cc
 
 pub set_found : {T : Type 0} (w : Celled T) (far : Bool) (ns : List ℕ) (span : Span) (blank value : T) (values : List T) (i n : ℕ)
     → w ≡ celled far ns span blank values → far ≡ true → AreCells far ns span values → slice_get ns i ≡ Some n
     → celled far ns span blank (slice_set values i value)
-        ≡ record { numbers = w.numbers; span = w.span; blank = w.blank; cells = slice_set w.cells (n - w.span.least) value }
+    ≡ record { numbers = w.numbers; span = w.span; blank = w.blank; cells = slice_set w.cells (n - w.span.least) value }
 set_found {T} w true ns span blank value values i n is far c at =
     subst (λ (x : Celled T). celled true ns span blank (slice_set values i value)
-        ≡ record { numbers = x.numbers; span = x.span; blank = x.blank; cells = slice_set x.cells (n - x.span.least) value }) (sym is)
+    ≡ record { numbers = x.numbers; span = x.span; blank = x.blank; cells = slice_set x.cells (n - x.span.least) value }) (sym is)
     (ap (λ (vs : List T). (let made : Celled T = record { numbers = ns; span = span; blank = blank; cells = vs } in made))
-        (far_set ns span blank value values i n c at))
+    (far_set ns span blank value values i n c at))
 set_found w false ns span blank value values i n is far c at = absurd cc

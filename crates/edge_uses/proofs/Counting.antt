@@ -88,7 +88,7 @@ counts_of_edge d e =
     let b = count_by-total (λ (r : Row). (r.edge.0 == e) && not r.along) d.rows in
     let both = total-plus (λ (r : Row). cond ((r.edge.0 == e) && r.along) 1 0) (λ (r : Row). cond ((r.edge.0 == e) && not r.along) 1 0) d.rows in
     let one = total-same (λ (r : Row). cond ((r.edge.0 == e) && r.along) 1 0 + cond ((r.edge.0 == e) && not r.along) 1 0) (λ (r : Row). mark r.edge.0 e)
-          (λ r. both_ways (r.edge.0 == e) r.along) d.rows in
+    (λ r. both_ways (r.edge.0 == e) r.along) d.rows in
     omega (arith, a, b, both, one)
 
 -- Where each of the edges has a row along it and one against it, and there are two rows for each edge, these are all.

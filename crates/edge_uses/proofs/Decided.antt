@@ -37,7 +37,7 @@ mates_decided d r m =
     (λ h. (h.row, h.at_r, (h.mate, h.at_m, (h.one_edge, h.opposite))))
     (decided_found (slice_get d.rows r) (λ row. (mate : Row) × (slice_get d.rows m ≡ Some mate) × AreOpposite row mate)
     (λ row. decided_found (slice_get d.rows m) (AreOpposite row)
-        (λ mate. decided_both (edge_id_decided row.edge mate.edge) (decided_bool row.along (not mate.along)))))
+    (λ mate. decided_both (edge_id_decided row.edge mate.edge) (decided_bool row.along (not mate.along)))))
 
 starts_decided : (d : ShellRows) (v r : ℕ) → Decided (StartsAt d v r)
 starts_decided d v r = decided_found (slice_get d.rows r) (λ (row : Row). row.from.0 ≡ v) (λ row. decided_same row.from.0 v)
@@ -86,7 +86,7 @@ some_start d v = decided_alike (λ (r, lt, h). (r, h)) (λ (r, h). (r, starts_wi
 corner_decided : (d : ShellRows) (v : ℕ) → Decided (IsCorner d v)
 corner_decided d v =
     decided_alike (λ (some, cycle, none).
-        record { some = some; one_cycle = λ r s at_r at_s. cycle r (starts_within d v r at_r) s (starts_within d v s at_s) at_r at_s; no_point = none })
+    record { some = some; one_cycle = λ r s at_r at_s. cycle r (starts_within d v r at_r) s (starts_within d v s at_s) at_r at_s; no_point = none })
     (λ h. (h.some, (λ r lt s below at_r at_s. h.one_cycle r s at_r at_s), h.no_point))
     (decided_three (some_start d v) (decided_each (OneCycleFrom d v) (one_cycle_from d v) (length d.rows)) (decided_same (point_count d v) 0))
 
@@ -107,10 +107,10 @@ neighbours_decided : (d : ShellRows) (a b : ℕ) → Decided (AreNeighbours d a 
 neighbours_decided d a b =
     decided_alike (λ (r, lt, (m, below, (mates, on_a, on_b))). (r, m, mates, on_a, on_b))
     (λ (r, m, mates, on_a, on_b).
-        (r, slice_get_within d.rows r mates.row mates.at_r, (m, slice_get_within d.rows m mates.mate mates.at_m, (mates, on_a, on_b))))
+    (r, slice_get_within d.rows r mates.row mates.at_r, (m, slice_get_within d.rows m mates.mate mates.at_m, (mates, on_a, on_b))))
     (decided_bounded (HasMateOn d a b)
-        (λ r. decided_bounded (λ m. AreMates d r m × OnFace d a r × OnFace d b m)
-        (λ m. decided_three (mates_decided d r m) (on_face_decided d a r) (on_face_decided d b m)) (length d.rows)) (length d.rows))
+    (λ r. decided_bounded (λ m. AreMates d r m × OnFace d a r × OnFace d b m)
+    (λ m. decided_three (mates_decided d r m) (on_face_decided d a r) (on_face_decided d b m)) (length d.rows)) (length d.rows))
 
 face_number : Row → ℕ
 face_number row = row.at.face.0
@@ -153,7 +153,7 @@ shell_decided s (k, shell) =
     (decided-append (joins ++ pairs ++ reaches) links
     (decided-append (joins ++ pairs) reaches
     (decided-append joins pairs (join_decided s shell)
-        (decided-map (λ e. at_edge Unpaired (edge_name (slice_get s.edges e)) (IsPaired d e)) (paired_decided d) d.edges))
+    (decided-map (λ e. at_edge Unpaired (edge_name (slice_get s.edges e)) (IsPaired d e)) (paired_decided d) d.edges))
     (decided-map (λ (f : ℕ × FaceUse). obligation Unreached f.1.entity.0 0 (IsReached d f.0)) (λ f. reached_decided d f.0) (enumerate_from 0 shell.faces)))
     (decided-map (λ v. at_vertex Unlinked (vertex_name (slice_get s.vertices v)) (IsLinked d v)) (linked_decided d) d.vertices))
     (apart_list_decided s k d)

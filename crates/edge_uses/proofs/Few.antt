@@ -57,7 +57,7 @@ all_both n (f ∷ fs) a b = ((a.0, b.0), all_both n fs a.1 b.1)
 
 few_by : (n : ℕ) (s : SolidData) (h : Shell) → Has s.shells h → length (flat_map shell_uses s.shells) < n → length (flat_map placed_loops s.shells) < n
     → length (flat_map (λ (h : Shell). h.faces) s.shells) < n
-        → (length h.faces < n) × AllByRecursion (λ (f : FaceUse). (length f.loops < n) × AllByRecursion (λ (l : Loop). length l.uses < n) f.loops) h.faces
+    → (length h.faces < n) × AllByRecursion (λ (f : FaceUse). (length f.loops < n) × AllByRecursion (λ (l : Loop). length l.uses < n) f.loops) h.faces
 few_by n s h has uses loops faces = (
   omega (arith, faces, part_shorter (λ (h : Shell). h.faces) s.shells h has),
   all_both n h.faces (loops_of_faces n h.flag 0 h.faces (omega (arith, loops, part_shorter placed_loops s.shells h has)))

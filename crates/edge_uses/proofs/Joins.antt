@@ -96,8 +96,13 @@ pub left_less : (s : SolidData) (ps rest all : List PlacedLoop) → LeftOf s (ps
 left_less s ps rest all l a = record {
   join = λ h. l.join (all_joined_append s ps rest a h);
   opens = λ at place h. l.opens at place
-      (record { placed = h.placed; first = first_not_rest (λ (p : PlacedLoop). IsJoined s p.loop) ps rest h.placed a h.first; is_at = h.is_at; is_place =
-      h.is_place });
+      (record {
+        placed = h.placed;
+        first = first_not_rest (λ (p : PlacedLoop). IsJoined s p.loop) ps rest h.placed a h.first;
+        is_at = h.is_at;
+        is_place =
+            h.is_place;
+      });
 }
 
 pub left_opens : (s : SolidData) (ps rest all : List PlacedLoop) (at : LoopAt) (place : ℕ) → LeftOf s (ps ++ rest) all → IsFirstOpen s ps at place
@@ -134,8 +139,12 @@ pub loop_opens : (s : SolidData) (face : ℕ) (forwards : Bool) (ls : List Loop)
 loop_opens s face forwards ls l i place all lt e left bad =
     left_opens s (placed_at face forwards (i, l) ∷ []) (loops_left face forwards ls (i + 1)) all _ place
     (subst (λ us. LeftOf s us all) (split_loops face forwards ls l i lt e) left)
-    (record { placed = placed_at face forwards (i, l); first = inl ((λ h. FirstFalse-not_all (loop_obligations s l) _ bad (hold_from_joined s l h)), refl);
-        is_at = refl; is_place = bad })
+    (record {
+      placed = placed_at face forwards (i, l);
+      first = inl ((λ h. FirstFalse-not_all (loop_obligations s l) _ bad (hold_from_joined s l h)), refl);
+      is_at = refl;
+      is_place = bad;
+    })
 
 pub face_opens : (s : SolidData) (flag : Bool) (fs : List FaceUse) (f : FaceUse) (i place : ℕ) (at : LoopAt) (all : List PlacedLoop) → i < length fs
     → get_or fs i f ≡ f
@@ -171,7 +180,7 @@ pub ends_next : (s : SolidData) (us : List LoopUse) (i next : ℕ) (d : LoopUse)
     → (i + 1 < length us → next ≡ i + 1) → (length us ≤ i + 1 → next ≡ 0)
     → a ≡ end_of s (get_or us i d) → b ≡ start_of s (get_or us next d)
     → (a ≡ b → get_or (map (end_of s) us) i 0 ≡ get_or (next_of_each (map (start_of s) us)) i 0)
-        × (get_or (map (end_of s) us) i 0 ≡ get_or (next_of_each (map (start_of s) us)) i 0 → a ≡ b)
+    × (get_or (map (end_of s) us) i 0 ≡ get_or (next_of_each (map (start_of s) us)) i 0 → a ≡ b)
 ends_next s us i next d a b lt low more last ea eb =
     let x : a ≡ get_or (map (end_of s) us) i 0 = ea ∙ sym (map_get (end_of s) us i d lt) in
     let y : b ≡ get_or (next_of_each (map (start_of s) us)) i 0 = eb ∙ sym (next_start s us i next d lt low more last) in
@@ -183,7 +192,7 @@ first_open_is : (s : SolidData) (h : Shell) (r : Option Unjoined)
 first_open_is s h None a =
     of_each-AllHold (λ (p : PlacedLoop). loop_obligations s p.loop) (placed_loops h)
     (AllByRecursion-weaker (λ (p : PlacedLoop). IsJoined s p.loop) (λ (p : PlacedLoop). AllHold (loop_obligations s p.loop)) (placed_loops h)
-        (λ p. hold_from_joined s p.loop) a)
+    (λ p. hold_from_joined s p.loop) a)
 first_open_is s h (Some u) a = record { placed = a.placed; first = a.first; is_at = a.is_at; is_place = a.is_place }
 
 pub first_at_shell : (s : SolidData) (k : ℕ) (h : Shell) (r : Option Unjoined) → slice_get s.shells k ≡ Some h

@@ -52,7 +52,7 @@ follows_permute s base (p ∷ ps) =
     ap (numbers_from base) (length-append (loop_rows s p) (flat_map (loop_rows s) ps)) ∙ numbers-append base n m in
     subst (λ xs. IsPermutation xs (follows_from s base (p ∷ ps))) (sym both)
     (IsPermutation-append ring (if p.forwards then next_of_each ring else previous_of_each ring) (numbers_from (base + n) m) (follows_from s (base + n) ps)
-        (ring_permutes p.forwards ring) (follows_permute s (base + n) ps))
+    (ring_permutes p.forwards ring) (follows_permute s (base + n) ps))
 
 pub rows_permuted : (s : SolidData) (shell : Shell) → IsPermutation (numbers_from 0 (length (shell_rows s shell).rows)) (shell_rows s shell).follows
 unfolding shell_rows
@@ -105,9 +105,11 @@ one_loop s f g tells (p ∷ ps) =
     let rows = loop_rows s p in
     let named : AllByRecursion (λ (r : Row). r.at ≡ p.at) rows = all_filter_map (λ (r : Row). r.at ≡ p.at) (row_of s p) p.loop.uses (λ u m. of_use s p u) in
     let same : map f rows ≡ alike (g p.at) (length rows) =
-          all_alike f (g p.at) rows (AllByRecursion-weaker (λ (r : Row). r.at ≡ p.at) (λ (r : Row). f r ≡ g p.at) rows (λ r e. tells r ∙ ap g e) named) in
-    (subst (λ xs. xs ≡ (if p.forwards then next_of_each xs else previous_of_each xs)) (sym same) (alike_ring (g p.at) (length rows) p.forwards), one_loop s f g
-        tells ps)
+    all_alike f (g p.at) rows (AllByRecursion-weaker (λ (r : Row). r.at ≡ p.at) (λ (r : Row). f r ≡ g p.at) rows (λ r e. tells r ∙ ap g e) named) in (
+      subst (λ xs. xs ≡ (if p.forwards then next_of_each xs else previous_of_each xs)) (sym same) (alike_ring (g p.at) (length rows) p.forwards),
+      one_loop s f g
+          tells ps,
+    )
 
 loop_at : (a b : LoopAt) → a.face.0 ≡ b.face.0 → a.place ≡ b.place → a ≡ b
 loop_at a b face place = ap (λ n. record { face = record { 0 = n }; place = a.place }) face ∙ ap (λ n. record { face = b.face; place = n }) place

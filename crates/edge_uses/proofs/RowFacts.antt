@@ -106,7 +106,7 @@ points_known s shell known =
     of_loop p (VertexUse vertex ∷ us) (e ∷ es) m = tt
     of_loop p (VertexUse vertex ∷ us) [] m =
         let used : Has (shell_vertices s shell) vertex.0 = has_flat_map (vertices_used s) (shell_uses shell) (VertexUse vertex) vertex.0
-              (m (VertexUse vertex) (inl refl)) (inl refl) in
+        (m (VertexUse vertex) (inl refl)) (inl refl) in
         (occurs (length s.vertices) (shell_vertices s shell) vertex.0 (known vertex.0 used) used, tt)
 
 -- each loop is placed on a face of the shell
@@ -125,7 +125,7 @@ loops_below shell =
     all_flat_map (λ (p : PlacedLoop). p.at.face.0 < length shell.faces) (placed_in_face shell.flag) (enumerate_from 0 shell.faces)
     (λ f m. all_map (λ (p : PlacedLoop). p.at.face.0 < length shell.faces) _ (enumerate_from 0 f.1.loops)
     (λ l. let below : f.0 < 0 + length shell.faces = all_has (λ (g : ℕ × FaceUse). g.0 < 0 + length shell.faces) (enumerate_from 0 shell.faces) f
-                (enumerated_below 0 shell.faces) m in omega (arith, below)))
+    (enumerated_below 0 shell.faces) m in omega (arith, below)))
 
 pub faces_known : (s : SolidData) (shell : Shell) → AllByRecursion (λ (r : Row). r.at.face.0 < length shell.faces) (shell_rows s shell).rows
 unfolding shell_rows

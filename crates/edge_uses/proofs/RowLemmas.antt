@@ -95,14 +95,14 @@ forwards_use : (s : SolidData) (p : PlacedLoop) → p.forwards ≡ true → (u :
 forwards_use s p h (EdgeUse edge along) =
     let o : Option Edge = slice_get s.edges edge.0 in
     subst (λ f. RowFits row_from row_to (row_of_edge p.at edge (same_flag along f) o) (begin_of o along) (begin_of o (not along))) (sym h)
-        (forwards_edge p.at edge along o)
+    (forwards_edge p.at edge along o)
 forwards_use s p h (VertexUse vertex) = refl
 
 backwards_use : (s : SolidData) (p : PlacedLoop) → p.forwards ≡ false → (u : LoopUse) → RowFits row_to row_from (row_of s p u) (start_of s u) (end_of s u)
 backwards_use s p h (EdgeUse edge along) =
     let o : Option Edge = slice_get s.edges edge.0 in
     subst (λ f. RowFits row_to row_from (row_of_edge p.at edge (same_flag along f) o) (begin_of o along) (begin_of o (not along))) (sym h)
-        (backwards_edge p.at edge along o)
+    (backwards_edge p.at edge along o)
 backwards_use s p h (VertexUse vertex) = refl
 
 previous-next : (xs : List ℕ) → previous_of_each (next_of_each xs) ≡ xs
@@ -130,7 +130,7 @@ map-reverse_ℕ : (g : ℕ → ℕ) (xs : List ℕ) → map g (reverse xs) ≡ r
 map-reverse_ℕ g [] = refl
 map-reverse_ℕ g (x ∷ xs) =
     ap (map g) (reverse-append (x ∷ []) xs)
-        ∙ (map-append g (reverse xs) (x ∷ []) ∙ (ap (λ ys. ys ++ g x ∷ []) (map-reverse_ℕ g xs) ∙ sym (reverse-append (g x ∷ []) (map g xs))))
+    ∙ (map-append g (reverse xs) (x ∷ []) ∙ (ap (λ ys. ys ++ g x ∷ []) (map-reverse_ℕ g xs) ∙ sym (reverse-append (g x ∷ []) (map g xs))))
 
 map-ordered : (g : ℕ → ℕ) (forwards : Bool) (xs : List ℕ) → map g (ordered forwards xs) ≡ ordered forwards (map g xs)
 map-ordered g true xs = map-next g xs
@@ -180,7 +180,7 @@ follows_read s f g before (p ∷ ps) each =
     map-ordered told p.forwards ring ∙ (ap (ordered p.forwards) (reads_loop f before mid after) ∙ sym each.0) in
     let counted : length (before ++ mid) ≡ length before + length mid = length-append before mid in
     let later : map (told_at f (before ++ mid ++ after)) (follows_from s (length (before ++ mid)) ps) ≡ map g after =
-          follows_read s f g (before ++ mid) ps each.1 in
+    follows_read s f g (before ++ mid) ps each.1 in
     let rest : map told (follows_from s (length before + length mid) ps) ≡ map g after =
     subst (λ rows. map (told_at f rows) (follows_from s (length before + length mid) ps) ≡ map g after) (append_assoc before mid after)
     (subst (λ n. map (told_at f (before ++ mid ++ after)) (follows_from s n ps) ≡ map g after) counted later) in
@@ -202,7 +202,7 @@ slice_index-map g (x ∷ ns) (suc n) m h = slice_index-map g ns n m h
 -- what g tells of a row f tells of the row that follows it
 pub follows_tell : (s : SolidData) (f g : Row → ℕ) (ps : List PlacedLoop) (r t : ℕ) (a b : Row) → AllByRecursion (EachFollows s f g) ps
     → slice_get (follows_from s 0 ps) r ≡ Some t → slice_get (flat_map (loop_rows s) ps) r ≡ Some a → slice_get (flat_map (loop_rows s) ps) t ≡ Some b
-        → g a ≡ f b
+    → g a ≡ f b
 follows_tell s f g ps r t a b each follows at_r at_t =
     let rows : List Row = flat_map (loop_rows s) ps in
     sym (slice_get-map g rows r a at_r)

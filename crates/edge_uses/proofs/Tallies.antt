@@ -165,12 +165,12 @@ tally_step d i span rows old none was new same lt long below each is_was is_new 
         let place : k ≡ e - span.least = ap (λ n. n - span.least) y.1 in
         let before : SeenBefore d i e was = subst (SeenBefore d i e) (sym (was_known ∙ ap (λ n. get_or old n unseen) place)) (each e within) in
         let there : get_or (slice_set old k new) (e - span.least) unseen ≡ new = subst (λ n. get_or (slice_set old k new) n unseen ≡ new) place
-              (set_same old k new unseen in_old) in
+        (set_same old k new unseen in_old) in
         subst (SeenBefore d (i + 1) e) (sym (there ∙ is_new)) (seen_this d i e was row in_rows at y.1 before)
     by_edge (inr n) =
         let apart : k ≢ e - span.least = λ h. n.1 (omega (arith, h, low.0, within.0)) in
         subst (SeenBefore d (i + 1) e) (sym (set_other old k (e - span.least) new unseen apart))
-            (seen_other d i e (get_or old (e - span.least) unseen) row in_rows at n.0 (each e within))
+        (seen_other d i e (get_or old (e - span.least) unseen) row in_rows at n.0 (each e within))
 
 pub tally_few : (d : ShellRows) (i : ℕ) (span : Span) (n : ℕ) (rows : List Row) (old : List Seen) (none : Row) (was : Seen) → rows ≡ d.rows → i < length rows
     → length old ≡ span.count

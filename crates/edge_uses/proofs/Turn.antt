@@ -34,11 +34,11 @@ pub one_of_edge : (d : ShellRows) (e : ℕ) (b : Bool) (n m : ℕ) (x y : Row) �
 one_of_edge d e true n m x y one at_n at_m ex ey bx by =
     let p : Row → Bool = λ r. (r.edge.0 == e) && r.along in
     one_place p d.rows (sym (count_by-total p d.rows) ∙ one) n m x y at_n at_m (and_from (x.edge.0 == e) x.along (eq-eqb x.edge.0 e ex) bx)
-        (and_from (y.edge.0 == e) y.along (eq-eqb y.edge.0 e ey) by)
+    (and_from (y.edge.0 == e) y.along (eq-eqb y.edge.0 e ey) by)
 one_of_edge d e false n m x y one at_n at_m ex ey bx by =
     let p : Row → Bool = λ r. (r.edge.0 == e) && not r.along in
     one_place p d.rows (sym (count_by-total p d.rows) ∙ one) n m x y at_n at_m (and_from (x.edge.0 == e) (not x.along) (eq-eqb x.edge.0 e ex) (ap not bx))
-        (and_from (y.edge.0 == e) (not y.along) (eq-eqb y.edge.0 e ey) (ap not by))
+    (and_from (y.edge.0 == e) (not y.along) (eq-eqb y.edge.0 e ey) (ap not by))
 
 -- a row has one mate
 pub one_mate : (d : ShellRows) → PairedRows d → (r m k : ℕ) → AreMates d r m → AreMates d r k → m ≡ k

@@ -97,7 +97,7 @@ module _ (f q : Contents) (n : ℕ) (x : IsExtracted f n q) where
   kept : (m : ℕ) → IsKept m → Kept f m
   kept m c =
       let r = zip_at (λ (k : ℕ) (r : Record). named f (pos k) ≡ Some r) x.kept x.records (place_of x.kept m) m x.each_named
-            (place_found x.kept m (in_from x.kept m c)) in
+      (place_found x.kept m (in_from x.kept m c)) in
       let faultless = recursion_from_All (λ q. entry_fault f q ≡ None) x.records x.faultless in
       record { record_at = r.0; at = r.2; good = all_at (λ q. entry_fault f q ≡ None) x.records (place_of x.kept m) r.0 faultless r.1 }
 
@@ -115,7 +115,7 @@ module _ (f q : Contents) (n : ℕ) (x : IsExtracted f n q) where
   same_place m k a b e =
       let places : position_or_len (λ j. j == m) x.kept ≡ position_or_len (λ j. j == k) x.kept = omega (arith, e) in
       let both : Some m ≡ Some k = sym (place_found x.kept m (in_from x.kept m a)) ∙ (ap (slice_get x.kept) places ∙ place_found x.kept k (in_from x.kept k b))
-          in
+      in
       same_Some m k both
 
   entry_new : (m : ℕ) → IsKept m → OptionZip IsSameKind (named f (pos m)) (named q (pos (new_number x.kept m)))
@@ -137,9 +137,14 @@ module _ (f q : Contents) (n : ℕ) (x : IsExtracted f n q) where
       by_sign : (w : ℤ) → Has (pointers_of r) w → names_entry f w ≡ true → IsEntity IsKept w
       by_sign (negsuc k) i e = absurd cc
       by_sign (pos k) i e =
-          let refers : RefersTo f m k =
-                (r, pointers_of r ++ names_of f r, at, read, Contains-from_Has (pointers_of r ++ names_of f r) (pos k)
-                (has_left (pointers_of r) (names_of f r) (pos k) i)) in
+          let refers : RefersTo f m k = (
+            r,
+            pointers_of r ++ names_of f r,
+            at,
+            read,
+            Contains-from_Has (pointers_of r ++ names_of f r) (pos k)
+                (has_left (pointers_of r) (names_of f r) (pos k) i),
+          ) in
           (k, refl, (x.reached k).1 (further ((x.reached m).0 c) refers))
 
   pointers_kept : (m : ℕ) (r : Record) (kind : EntityKind) → IsKept m → named f (pos m) ≡ Some r → kind_of_type r.0.kind ≡ Some kind
@@ -151,7 +156,7 @@ module _ (f q : Contents) (n : ℕ) (x : IsExtracted f n q) where
       let is : IsRecordOf kind r.1 = (items_kept f q n x m r kind c at e).0 in
       pointers_met (IsEntity IsKept) (value_at r.1) 1 (due_in kind r.1) r.1 is (agrees_itself r.1)
       (All-from (IsEntity IsKept) (followed (IsEntity IsKept) (value_at r.1) 1 (due_in kind r.1))
-          (λ z h. pointer_kept m r c at good z (among z (own_is r kind e is) h)))
+      (λ z h. pointer_kept m r c at good z (among z (own_is r kind e is) h)))
     where
       among : (z : ℤ) → own_of r ≡ Some (record { count = own_count kind r.1; pointers = pointer_places kind r.1; cut = [] })
           → Has (followed (IsEntity IsKept) (value_at r.1) 1 (due_in kind r.1)) z → Has (pointers_of r) z
@@ -160,7 +165,7 @@ module _ (f q : Contents) (n : ℕ) (x : IsExtracted f n q) where
           let matrix : List ℤ = if int_eq r.0.matrix (pos 0) then [] else r.0.matrix ∷ [] in
           let colour : List ℤ = if int_lt r.0.colour (pos 0) then neg_ℤ r.0.colour ∷ [] else [] in
           subst (λ (o : Option Own). Has
-              (elim o as (λ _. List ℤ) [ Some w ↦ filter_map (λ j. number_of (value_at r.1 j)) w.pointers | None ↦ [] ] ++ matrix ++ colour) z) (sym own)
+          (elim o as (λ _. List ℤ) [ Some w ↦ filter_map (λ j. number_of (value_at r.1 j)) w.pointers | None ↦ [] ] ++ matrix ++ colour) z) (sym own)
           (has_left (own_pointers ++ matrix) colour z (has_left own_pointers matrix z h))
 
   pub extraction_renames : Renames f q IsKept (new_number x.kept) (renamed x.kept)

@@ -60,9 +60,9 @@ module _ (N : Names) where
   placed_face a b same x y h =
       zip_map (Numbered (IsRelabelledLoop N)) (IsRelabelledPlaced N)
       (λ (l : ℕ × Loop). let p : PlacedLoop = record { at = record { face = record { 0 = x.0 }; place = l.0 }; forwards = same_flag x.1.flag a; loop = l.1 }
-          in p)
+      in p)
       (λ (l : ℕ × Loop). let p : PlacedLoop = record { at = record { face = record { 0 = y.0 }; place = l.0 }; forwards = same_flag y.1.flag b; loop = l.1 }
-          in p)
+      in p)
       (enumerate_from 0 x.1.loops) (enumerate_from 0 y.1.loops)
       (zip_enumerate (IsRelabelledLoop N) 0 x.1.loops y.1.loops h.1.loops)
       (λ l m k. record {
@@ -75,7 +75,7 @@ module _ (N : Names) where
   placed : (a b : Shell) → IsRelabelledShell N a b → AllZip (IsRelabelledPlaced N) (placed_loops a) (placed_loops b)
   placed a b h =
       zip_flat_map (Numbered (IsRelabelledFace N)) (IsRelabelledPlaced N) (placed_in_face a.flag) (placed_in_face b.flag) (enumerate_from 0 a.faces)
-          (enumerate_from 0 b.faces)
+      (enumerate_from 0 b.faces)
       (zip_enumerate (IsRelabelledFace N) 0 a.faces b.faces h.faces) (placed_face a.flag b.flag h.flag)
 
   uses_same : (a b : Shell) → IsRelabelledShell N a b → shell_uses a ≡ shell_uses b
@@ -126,7 +126,7 @@ module _ (N : Names) (s t : SolidData) (h : IsRelabelled N s t) where
   loop_alike l m k =
       subst (λ us. FailAlike (AreNamedAlike N) (loop_obligations s l) (map (λ (u : ℕ × ℕ × ℕ). obligation Unjoined m.entity.0 u.0 (u.1 ≡ u.2)) us)) same
       (map_same_alike (AreNamedAlike N) (λ (u : ℕ × ℕ × ℕ). obligation Unjoined l.entity.0 u.0 (u.1 ≡ u.2))
-          (λ (u : ℕ × ℕ × ℕ). obligation Unjoined m.entity.0 u.0 (u.1 ≡ u.2))
+      (λ (u : ℕ × ℕ × ℕ). obligation Unjoined m.entity.0 u.0 (u.1 ≡ u.2))
       (steps s l.uses) (λ u there. (record { rule = refl; named = (k.entity, refl) }, (λ e. e, λ e. e))))
     where
       steps : SolidData → List LoopUse → List (ℕ × ℕ × ℕ)
@@ -171,11 +171,11 @@ module _ (N : Names) (s t : SolidData) (h : IsRelabelled N s t) where
   follows_same base (p ∷ ps) [] z = absurd z
   follows_same base (p ∷ ps) (q ∷ qs) z =
       ap (λ c. (if c then next_of_each (numbers_from base (length (loop_rows s p))) else previous_of_each (numbers_from base (length (loop_rows s p))))
-          ++ follows_from s (base + length (loop_rows s p)) ps) z.0.forwards
+      ++ follows_from s (base + length (loop_rows s p)) ps) z.0.forwards
       ∙ (ap (λ n. (if q.forwards then next_of_each (numbers_from base n) else previous_of_each (numbers_from base n)) ++ follows_from s (base + n) ps)
-          (ap length (rows_same p q z.0))
+      (ap length (rows_same p q z.0))
       ∙ ap (λ ns. (if q.forwards then next_of_each (numbers_from base (length (loop_rows t q))) else previous_of_each
-          (numbers_from base (length (loop_rows t q)))) ++ ns) (follows_same (base + length (loop_rows t q)) ps qs z.1))
+      (numbers_from base (length (loop_rows t q)))) ++ ns) (follows_same (base + length (loop_rows t q)) ps qs z.1))
 
   point_same : (p q : PlacedLoop) → p.at ≡ q.at → (us : List LoopUse) (es : List ℕ) → point_of p us es ≡ point_of q us es
   point_same p q e [] es = refl
@@ -241,30 +241,32 @@ module _ (N : Names) (s t : SolidData) (h : IsRelabelled N s t) where
   join_alike : (a b : Shell) → IsRelabelledShell N a b → FailAlike (AreNamedAlike N) (join_obligations s a) (join_obligations t b)
   join_alike a b k =
       of_each_alike (AreNamedAlike N) (IsRelabelledPlaced N) (λ (p : PlacedLoop). loop_obligations s p.loop) (λ (p : PlacedLoop). loop_obligations t p.loop)
-          (placed_loops a) (placed_loops b) (placed N a b k)
+      (placed_loops a) (placed_loops b) (placed N a b k)
       (λ p q m. loop_alike p.loop q.loop m.loop)
 
   pair_alike : (a : Shell) → FailAlike (AreNamedAlike N) (pair_obligations s (shell_rows s a)) (pair_obligations t (shell_rows s a))
   pair_alike a =
       map_same_alike (AreNamedAlike N) (λ e. at_edge Unpaired (edge_name (slice_get s.edges e)) (IsPaired (shell_rows s a) e))
-          (λ e. at_edge Unpaired (edge_name (slice_get t.edges e)) (IsPaired (shell_rows s a) e)) (shell_rows s a).edges
+      (λ e. at_edge Unpaired (edge_name (slice_get t.edges e)) (IsPaired (shell_rows s a) e)) (shell_rows s a).edges
       (λ e m. let x = edge_there a e m in edge_alike (IsPaired (shell_rows s a) e) (slice_get s.edges e) x.0 x.1 (slice_get t.edges e) (edge_zip e))
 
   reach_alike : (a b : Shell) → IsRelabelledShell N a b
       → FailAlike (AreNamedAlike N) (reach_obligations a (shell_rows s a)) (reach_obligations b (shell_rows s a))
   reach_alike a b k =
       map_alike (AreNamedAlike N) (Numbered (IsRelabelledFace N)) (λ (f : ℕ × FaceUse). obligation Unreached f.1.entity.0 0 (IsReached (shell_rows s a) f.0))
-          (λ (f : ℕ × FaceUse). obligation Unreached f.1.entity.0 0 (IsReached (shell_rows s a) f.0))
+      (λ (f : ℕ × FaceUse). obligation Unreached f.1.entity.0 0 (IsReached (shell_rows s a) f.0))
       (enumerate_from 0 a.faces) (enumerate_from 0 b.faces) (zip_enumerate (IsRelabelledFace N) 0 a.faces b.faces k.faces)
-      (λ f g m. (record { rule = refl; named = (m.1.entity, refl) },
-          (λ c. subst (IsReached (shell_rows s a)) m.0 c, λ c. subst (IsReached (shell_rows s a)) (sym m.0) c)))
+      (λ f g m. (
+        record { rule = refl; named = (m.1.entity, refl) },
+        (λ c. subst (IsReached (shell_rows s a)) m.0 c, λ c. subst (IsReached (shell_rows s a)) (sym m.0) c),
+      ))
 
   link_alike : (a : Shell) → FailAlike (AreNamedAlike N) (link_obligations s (shell_rows s a)) (link_obligations t (shell_rows s a))
   link_alike a =
       map_same_alike (AreNamedAlike N) (λ v. at_vertex Unlinked (vertex_name (slice_get s.vertices v)) (IsLinked (shell_rows s a) v))
-          (λ v. at_vertex Unlinked (vertex_name (slice_get t.vertices v)) (IsLinked (shell_rows s a) v)) (shell_rows s a).vertices
+      (λ v. at_vertex Unlinked (vertex_name (slice_get t.vertices v)) (IsLinked (shell_rows s a) v)) (shell_rows s a).vertices
       (λ v m. let x = vertex_there a v m in vertex_alike Unlinked (λ a b h. h) (IsLinked (shell_rows s a) v) (IsLinked (shell_rows s a) v) (λ c. c, λ c. c)
-          (slice_get s.vertices v) x.0 x.1 (slice_get t.vertices v) (vertex_zip v))
+      (slice_get s.vertices v) x.0 x.1 (slice_get t.vertices v) (vertex_zip v))
 
   before_same : (k : ℕ) → flat_map (shell_vertices s) (take k s.shells) ≡ flat_map (shell_vertices t) (take k t.shells)
   before_same k = zip_same (IsRelabelledShell N) (shell_vertices s) (shell_vertices t) (take k s.shells) (take k t.shells)
@@ -279,25 +281,25 @@ module _ (N : Names) (s t : SolidData) (h : IsRelabelled N s t) where
   apart_alike : (i j : ℕ) → i ≡ j → (a : Shell) → FailAlike (AreNamedAlike N) (apart_obligations s i (shell_rows s a)) (apart_obligations t j (shell_rows s a))
   apart_alike i j e a =
       map_same_alike (AreNamedAlike N) (λ v. at_vertex Shared (vertex_name (slice_get s.vertices v)) (IsApart s i v))
-          (λ v. at_vertex Shared (vertex_name (slice_get t.vertices v)) (IsApart t j v)) (shell_rows s a).vertices
+      (λ v. at_vertex Shared (vertex_name (slice_get t.vertices v)) (IsApart t j v)) (shell_rows s a).vertices
       (λ v m. let x = vertex_there a v m in vertex_alike Shared (λ a b h. h) (IsApart s i v) (IsApart t j v) (apart_same i j e v) (slice_get s.vertices v) x.0
-          x.1 (slice_get t.vertices v) (vertex_zip v))
+      x.1 (slice_get t.vertices v) (vertex_zip v))
 
   shell_alike : (x y : ℕ × Shell) → Numbered (IsRelabelledShell N) x y → FailAlike (AreNamedAlike N) (shell_obligations s x) (shell_obligations t y)
   unfolding shell_obligations
   shell_alike x y k =
       subst (λ d. FailAlike (AreNamedAlike N) (shell_obligations s x)
-          (join_obligations t y.1 ++ pair_obligations t d ++ reach_obligations y.1 d ++ link_obligations t d ++ apart_obligations t y.0 d))
-          (shell_rows_same x.1 y.1 k.1)
+      (join_obligations t y.1 ++ pair_obligations t d ++ reach_obligations y.1 d ++ link_obligations t d ++ apart_obligations t y.0 d))
+      (shell_rows_same x.1 y.1 k.1)
       (append_alike (AreNamedAlike N) (join_obligations s x.1 ++ pair_obligations s d ++ reach_obligations x.1 d ++ link_obligations s d)
-          (apart_obligations s x.0 d) (join_obligations t y.1 ++ pair_obligations t d ++ reach_obligations y.1 d ++ link_obligations t d)
-          (apart_obligations t y.0 d)
+      (apart_obligations s x.0 d) (join_obligations t y.1 ++ pair_obligations t d ++ reach_obligations y.1 d ++ link_obligations t d)
+      (apart_obligations t y.0 d)
       (append_alike (AreNamedAlike N) (join_obligations s x.1 ++ pair_obligations s d ++ reach_obligations x.1 d) (link_obligations s d)
-          (join_obligations t y.1 ++ pair_obligations t d ++ reach_obligations y.1 d) (link_obligations t d)
+      (join_obligations t y.1 ++ pair_obligations t d ++ reach_obligations y.1 d) (link_obligations t d)
       (append_alike (AreNamedAlike N) (join_obligations s x.1 ++ pair_obligations s d) (reach_obligations x.1 d)
-          (join_obligations t y.1 ++ pair_obligations t d) (reach_obligations y.1 d)
+      (join_obligations t y.1 ++ pair_obligations t d) (reach_obligations y.1 d)
       (append_alike (AreNamedAlike N) (join_obligations s x.1) (pair_obligations s d) (join_obligations t y.1) (pair_obligations t d) (join_alike x.1 y.1 k.1)
-          (λ all. pair_alike x.1))
+      (λ all. pair_alike x.1))
       (λ all. reach_alike x.1 y.1 k.1))
       (λ all. link_alike x.1))
       (λ all. apart_alike x.0 y.0 k.0 x.1))
@@ -309,5 +311,5 @@ pub solids_alike : (N : Names) (s t : SolidData) → IsRelabelled N s t → Fail
 unfolding solid_obligations
 solids_alike N s t h =
     of_each_alike (AreNamedAlike N) (Numbered (IsRelabelledShell N)) (shell_obligations s) (shell_obligations t) (enumerate_from 0 s.shells)
-        (enumerate_from 0 t.shells)
+    (enumerate_from 0 t.shells)
     (zip_enumerate (IsRelabelledShell N) 0 s.shells t.shells h.shells) (shell_alike N s t h)

@@ -28,8 +28,8 @@ module _ {A : Type 0} (same : A → A → Bool) (P : A → Type 0) (change : A �
   distinct_renamed (x ∷ xs) all =
       ap (λ ys. change x ∷ filter (λ y. not (same (change x) y)) ys) (distinct_renamed xs all.1)
       ∙ ap (λ ys. change x ∷ ys)
-          (filter_renamed (λ y. not (same (change x) y)) (λ y. not (same x y)) change (distinct same xs)
-          (λ y m. ap not (kept x y all.0 (All-at P (distinct same xs) (all_distinct xs all.1) y m))))
+      (filter_renamed (λ y. not (same (change x) y)) (λ y. not (same x y)) change (distinct same xs)
+      (λ y m. ap not (kept x y all.0 (All-at P (distinct same xs) (all_distinct xs all.1) y m))))
 
   pub place_renamed : (xs : List A) (k : A) → AllByRecursion P xs → P k → place_of same (map change xs) (change k) ≡ place_of same xs k
   place_renamed [] k all p = refl

@@ -120,11 +120,11 @@ module _ (r : Renaming) where
     names_apart x y e =
         let rule : x.rule ≡ y.rule = ap (λ (z : Failing). z.rule) e in
         let there : ((renamed_place r x.rule x.entity.0 x.place).0 ≡ (renamed_place r y.rule y.entity.0 y.place).0)
-              × ((renamed_place r x.rule x.entity.0 x.place).1 ≡ (renamed_place r y.rule y.entity.0 y.place).1)
+        × ((renamed_place r x.rule x.entity.0 x.place).1 ≡ (renamed_place r y.rule y.entity.0 y.place).1)
         = (ap (λ (z : Failing). z.entity.0) e, ap (λ (z : Failing). z.place) e) in
         let same = places_apart x.rule x.entity.0 x.place y.entity.0 y.place
         (subst (λ w. ((renamed_place r x.rule x.entity.0 x.place).0 ≡ (renamed_place r w y.entity.0 y.place).0)
-            × ((renamed_place r x.rule x.entity.0 x.place).1 ≡ (renamed_place r w y.entity.0 y.place).1)) (sym rule) there) in
+        × ((renamed_place r x.rule x.entity.0 x.place).1 ≡ (renamed_place r w y.entity.0 y.place).1)) (sym rule) there) in
         failing_is y x (sym rule) (sym same.0) (sym same.1)
 
 -- ---- the laws

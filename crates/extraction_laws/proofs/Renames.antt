@@ -46,7 +46,7 @@ pub record Renames (f q : Contents) (K : ℕ → Type 0) (new : ℕ → ℕ) (g 
   pub there : (m : ℕ) → K m → Names f (pos m)
   pub records : (m : ℕ) (r : Record) (kind : EntityKind) → K m → named f (pos m) ≡ Some r → kind_of_type r.0.kind ≡ Some kind
       → IsRecordOf kind r.1 × IsRecordOf kind (values_of q (pos (new m)))
-          × (items_of kind (values_of q (pos (new m))) ≡ renamed_items g kind (items_of kind r.1))
+      × (items_of kind (values_of q (pos (new m))) ≡ renamed_items g kind (items_of kind r.1))
   pub pointers : (m : ℕ) (r : Record) (kind : EntityKind) → K m → named f (pos m) ≡ Some r → kind_of_type r.0.kind ≡ Some kind
       → AllPointers (IsPointer K) (due kind (items_of kind r.1))
 

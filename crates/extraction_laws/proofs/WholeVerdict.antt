@@ -23,7 +23,7 @@ obligations_alike : (f q : Contents) (n : ℕ) (x : IsExtracted f n q)
 unfolding obligations
 obligations_alike f q n x =
     append_alike (AreNamedAlike (kept_names x.kept)) (places f n) (solid_obligations (solid_of f n)) (places q (new_number x.kept n))
-        (solid_obligations (solid_of q (new_number x.kept n))) (places_alike f q n x)
+    (solid_obligations (solid_of q (new_number x.kept n))) (places_alike f q n x)
     (λ all. solids_alike (kept_names x.kept) (solid_of f n) (solid_of q (new_number x.kept n)) (solid_told f q n x all))
 
 obligations_kept : (f q : Contents) (n : ℕ) (x : IsExtracted f n q) → KeepsVerdict x.kept (obligations f n) (obligations q (new_number x.kept n))

@@ -51,8 +51,8 @@ some_faces s k h numbered at = subst (λ (x : Shell). 0 < length x.faces) (get_o
 pub graph_is : (s : SolidData) (k : ℕ) (h : Shell) (d : ShellRows) (cs : List Crossing) (forwards read : List Bool) (n : ℕ) (first : Bool) → IsNumberedSolid s
     → slice_get s.shells k ≡ Some h → d ≡ rows_at s k → AreRows d → AllHaveTwoRows d
     → read ≡ forwards → forwards ≡ map (λ (f : FaceUse). same_flag f.flag h.flag) h.faces → length cs ≡ length d.rows
-        → ((r : ℕ) (c : Crossing) → slice_get cs r ≡ Some c → IsStep d read r c) → n ≡ d.face_count → slice_get (face_flags (Some h)) 0 ≡ Some first
-        → IsGraphOf s k cs n first
+    → ((r : ℕ) (c : Crossing) → slice_get cs r ≡ Some c → IsStep d read r c) → n ≡ d.face_count → slice_get (face_flags (Some h)) 0 ≡ Some first
+    → IsGraphOf s k cs n first
 graph_is s k h d cs forwards read n first numbered at e whole two is_read is_forwards each steps count own =
     let all : AreCrossings s k cs = record {
       each = each ∙ ap (λ (x : ShellRows). length x.rows) e;
@@ -158,7 +158,7 @@ reach_one s k x y a b =
     let shells : a.shell ≡ b.shell = same_Some a.shell b.shell (sym a.at ∙ b.at) in
     let same : a.number ≡ b.number = first_not_one (IsReached (rows_at s k)) (numbers_from 0 (rows_at s k).face_count) a.number b.number a.first b.first in
     let faces : a.face ≡ b.face =
-          same_Some a.face b.face (sym a.face_at ∙ (ap (λ (h : Shell). slice_get h.faces a.number) shells ∙ (ap (slice_get b.shell.faces) same ∙ b.face_at))) in
+    same_Some a.face b.face (sym a.face_at ∙ (ap (λ (h : Shell). slice_get h.faces a.number) shells ∙ (ap (slice_get b.shell.faces) same ∙ b.face_at))) in
     a.named ∙ (ap (λ (f : FaceUse). record { rule = Reach; entity = f.entity; place = 0 }) faces ∙ sym b.named)
 
 count_not : (s : SolidData) (k : ℕ) (x : OrientFailing) → CountFails s k x → AllHaveTwoRows (rows_at s k) → ⊥
@@ -221,12 +221,12 @@ flags_iff s k v cs read n first flags told B view g e d h =
 pub ring_iff : (s : SolidData) (k : ℕ) (v : ShellOf) (cs read : List Crossing) (n : ℕ) (first : Bool) (rows told : List RowId) (B : Type 0)
     → record { solid = s; shell = k } ≡ v → IsGraphOf s k cs n first → read ≡ cs → told ≡ rows
     → (B → IsOddWalk read (row_numbers told)) × (IsOddWalk read (row_numbers told) → B) → (B → OddRing v.solid v.shell (row_numbers rows))
-        × (OddRing v.solid v.shell (row_numbers rows) → B)
+    × (OddRing v.solid v.shell (row_numbers rows) → B)
 ring_iff s k v cs read n first rows told B view g e d h =
     let there : IsOddWalk read (row_numbers told) → IsOddWalk cs (row_numbers rows) =
-          λ x. subst (λ r. IsOddWalk cs (row_numbers r)) d (subst (λ y. IsOddWalk y (row_numbers told)) e x) in
+    λ x. subst (λ r. IsOddWalk cs (row_numbers r)) d (subst (λ y. IsOddWalk y (row_numbers told)) e x) in
     let back : IsOddWalk cs (row_numbers rows) → IsOddWalk read (row_numbers told) =
-          λ x. subst (λ y. IsOddWalk y (row_numbers told)) (sym e) (subst (λ r. IsOddWalk cs (row_numbers r)) (sym d) x) in (
+    λ x. subst (λ y. IsOddWalk y (row_numbers told)) (sym e) (subst (λ r. IsOddWalk cs (row_numbers r)) (sym d) x) in (
       (λ b. subst (λ (w : ShellOf). OddRing w.solid w.shell (row_numbers rows)) view (walk_ring s k cs g.crossings (row_numbers rows) (there (h.0 b)))),
       (λ f. h.1 (back (ring_walk s k cs g.crossings (row_numbers rows) (subst (λ (w : ShellOf). OddRing w.solid w.shell (row_numbers rows)) (sym view) f)))),
     )

@@ -52,6 +52,6 @@ spaced_one (n ∷ ns) (m ∷ ms) a b h =
     let tails : decimal n ++ (spaced ns ++ 10 ∷ []) ≡ decimal m ++ (spaced ms ++ 10 ∷ []) =
     sym (append_assoc (decimal n) (spaced ns) (10 ∷ [])) ∙ (ap rest_of h ∙ append_assoc (decimal m) (spaced ms) (10 ∷ [])) in
     let parts = split_digits (decimal n) (decimal m) (spaced ns ++ 10 ∷ []) (spaced ms ++ 10 ∷ []) (decimal_digits n a.0) (decimal_digits m b.0)
-          (spaced_stops ns) (spaced_stops ms) tails in
+    (spaced_stops ns) (spaced_stops ms) tails in
     let same : n ≡ m = decimal_injective n m (omega (arith, a.0)) (omega (arith, b.0)) parts.0 in
     ap (λ z. z ∷ ns) same ∙ ap (λ zs. m ∷ zs) (spaced_one ns ms a.1 b.1 parts.1)

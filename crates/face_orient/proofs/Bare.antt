@@ -71,7 +71,7 @@ told_loops : (F : ℕ → Bool) (s : SolidData) (face : ℕ) (forwards : Bool) (
 told_loops F s face forwards [] h = tt
 told_loops F s face forwards (l ∷ ls) h =
     zip_append (Told F) (loop_rows s (placed face forwards l)) (loop_rows s (placed face true l)) (flat_map (loop_rows s) (map (placed face forwards) ls))
-        (flat_map (loop_rows s) (map (placed face true) ls))
+    (flat_map (loop_rows s) (map (placed face true) ls))
     (told_uses F s face forwards l l.1.uses h) (told_loops F s face forwards ls h)
 
 abbrev bare_face : FaceUse → FaceUse
@@ -80,7 +80,7 @@ bare_face f = record { entity = f.entity; flag = true; loops = f.loops }
 told_faces : (F : ℕ → Bool) (s : SolidData) (flag : Bool) (n : ℕ) (fs : List FaceUse)
     → ((j : ℕ) (f : FaceUse) → slice_get fs j ≡ Some f → F (n + j) ≡ same_flag f.flag flag)
     → AllZip (Told F) (flat_map (loop_rows s) (flat_map (placed_in_face flag) (enumerate_from n fs)))
-        (flat_map (loop_rows s) (flat_map (placed_in_face true) (enumerate_from n (map bare_face fs))))
+    (flat_map (loop_rows s) (flat_map (placed_in_face true) (enumerate_from n (map bare_face fs))))
 told_faces F s flag n [] h = tt
 told_faces F s flag n (f ∷ fs) h =
     let here : F n ≡ same_flag f.flag flag = subst (λ k. F k ≡ same_flag f.flag flag) (omega arith) (h zero f refl) in
@@ -88,11 +88,11 @@ told_faces F s flag n (f ∷ fs) h =
     let one = told_loops F s n (same_flag f.flag flag) (enumerate_from 0 f.loops) here in
     let left = flat_map-append (loop_rows s) (placed_in_face flag (n, f)) (flat_map (placed_in_face flag) (enumerate_from (n + 1) fs)) in
     let right = flat_map-append (loop_rows s) (placed_in_face true (n, bare_face f))
-          (flat_map (placed_in_face true) (enumerate_from (n + 1) (map bare_face fs))) in
+    (flat_map (placed_in_face true) (enumerate_from (n + 1) (map bare_face fs))) in
     subst (λ xs. AllZip (Told F) xs (flat_map (loop_rows s) (flat_map (placed_in_face true) (enumerate_from n (map bare_face (f ∷ fs)))))) (sym left)
     (subst (λ ys. AllZip (Told F)
-        (flat_map (loop_rows s) (placed_in_face flag (n, f)) ++ flat_map (loop_rows s) (flat_map (placed_in_face flag) (enumerate_from (n + 1) fs))) ys)
-        (sym right)
+    (flat_map (loop_rows s) (placed_in_face flag (n, f)) ++ flat_map (loop_rows s) (flat_map (placed_in_face flag) (enumerate_from (n + 1) fs))) ys)
+    (sym right)
     (zip_append (Told F) (flat_map (loop_rows s) (placed_in_face flag (n, f))) (flat_map (loop_rows s) (placed_in_face true (n, bare_face f))) _ _ one rest))
 
 -- which faces are walked as they stand

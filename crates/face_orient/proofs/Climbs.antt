@@ -32,7 +32,7 @@ child_of n cs first places order f flood m deep = ⊎_elim (λ (o : IsOrigin fir
 pub climb_up : (n : ℕ) (cs : List Crossing) (first : Bool) (places : List Place) (order : List ℕ) (f b : ℕ) (t : Bool) (path new : List ℕ) (p : Place)
     → IsFlood n cs first places order → (child : IsChild cs places f) → p ≡ place_of places f → new ≡ path ++ p.up ∷ []
     → Climb cs b t path f (place_of places f).flag → Has order (get_or cs p.up no_step).from × Climb cs b t new (get_or cs p.up no_step).from
-        (place_of places (get_or cs p.up no_step).from).flag
+    (place_of places (get_or cs p.up no_step).from).flag
 climb_up n cs first places order f b t path new p flood child same e climbed =
     let at : slice_get cs p.up ≡ Some child.step = ap (λ (x : Place). slice_get cs x.up) same ∙ child.at in
     let step : get_or cs p.up no_step ≡ child.step = get_or_from_slice_get cs p.up child.step no_step at in
@@ -46,7 +46,7 @@ pub climb_done : (n : ℕ) (cs : List Crossing) (first : Bool) (places : List Pl
     → IsFlood n cs first places order → Has order f → (place_of places f).depth ≡ 0 → Climb cs b t path f (place_of places f).flag → Climb cs b t path 0 first
 climb_done n cs first places order f b t path flood m flat climbed =
     ⊎_elim (λ (o : IsOrigin first places f). subst (λ g. Climb cs b t path g first) o.is_first (subst (Climb cs b t path f) o.flag climbed))
-        (λ (o : IsChild cs places f). absurd (omega (arith, flat, o.deeper))) (flood.known f m)
+    (λ (o : IsChild cs places f). absurd (omega (arith, flat, o.deeper))) (flood.known f m)
 
 -- the last row of a climb
 pub climb_pop : (cs : List Crossing) (path : List ℕ) (r b : ℕ) (t : Bool) (a : ℕ) (s : Bool) → Climb cs b t (path ++ r ∷ []) a s

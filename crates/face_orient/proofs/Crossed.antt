@@ -101,9 +101,12 @@ graph_made s k cs n all e = record {
   where
     low : (f r : ℕ) → OnFace (rows_at s k) f r → f < n
     low f r (row, at, is) =
-        subst (λ x. x < n) is (omega
-        (arith, e, All-at (λ (x : Row). x.at.face.0 < (rows_at s k).face_count) (rows_at s k).rows (faces_low s (slice_get s.shells k)) row
-        (has_get (rows_at s k).rows r row at)))
+        subst (λ x. x < n) is (omega (
+          arith,
+          e,
+          All-at (λ (x : Row). x.at.face.0 < (rows_at s k).face_count) (rows_at s k).rows (faces_low s (slice_get s.shells k)) row
+              (has_get (rows_at s k).rows r row at),
+        ))
 
     back : (r : ℕ) (c : Crossing) → slice_get cs r ≡ Some c → HasWayBack cs r c
     back r c at =
@@ -184,7 +187,7 @@ pub agree_made : (sf xa xb a b ua ub f : Bool) → same_flag a (same_flag xa sf)
 agree_made sf xa xb a b ua ub f p q is ne =
     let first : same_flag (not b) (same_flag xa sf) ≡ ua = ap (λ x. same_flag x (same_flag xa sf)) (sym ne) ∙ p in
     agree_core sf xa xb b ∙ (ap (λ u. flipped (same_flag u (same_flag b (same_flag xb sf))) xa) first
-        ∙ (ap (λ u. flipped (same_flag ua u) xa) q ∙ ap (λ g. flipped g xa) (sym is)))
+    ∙ (ap (λ u. flipped (same_flag ua u) xa) q ∙ ap (λ g. flipped g xa) (sym is)))
 
 not_self : (x : Bool) → x ≡ not x → ⊥
 not_self true e = let k : true ≡ false = e in absurd (cc)
@@ -205,8 +208,8 @@ differ_made sf xa xb a b ua ub f p q is agree = by_case (alike_or a b)
     by_case (inl e) =
         let first : same_flag b (same_flag xa sf) ≡ ua = ap (λ x. same_flag x (same_flag xa sf)) (sym e) ∙ p in
         let other : xb ≡ not (flipped f xa) = alike_core sf xa xb b
-              ∙ (ap (λ u. not (flipped (same_flag u (same_flag b (same_flag xb sf))) xa)) first
-              ∙ (ap (λ u. not (flipped (same_flag ua u) xa)) q ∙ ap (λ g. not (flipped g xa)) (sym is))) in
+        ∙ (ap (λ u. not (flipped (same_flag u (same_flag b (same_flag xb sf))) xa)) first
+        ∙ (ap (λ u. not (flipped (same_flag ua u) xa)) q ∙ ap (λ g. not (flipped g xa)) (sym is))) in
         absurd (not_self (flipped f xa) (sym agree ∙ other))
 
 abbrev shell_flag : Option Shell → Bool
@@ -218,7 +221,7 @@ told_with : (s : SolidData) (o : Option Shell) (flags : List Bool) → length fl
 told_with s None flags e = tt
 told_with s (Some h) flags e =
     subst (λ g. AllZip (Told (walks (Some (shell_with flags h)))) (rows_of s (Some (shell_with flags h))).rows (rows_of s (Some g)).rows)
-        (bare_with flags h (e ∙ length-faces h.faces)) (told_rows s (Some (shell_with flags h)))
+    (bare_with flags h (e ∙ length-faces h.faces)) (told_rows s (Some (shell_with flags h)))
 
 walks_o : (o : Option Shell) (flags : List Bool) (i : ℕ) → length flags ≡ length (face_flags o) → i < length flags → walks (option_map (shell_with flags) o) i
     ≡ same_flag (get_or flags i false) (shell_flag o)
@@ -247,7 +250,7 @@ same_face : (s : SolidData) (k : ℕ) (flags : List Bool) → length flags ≡ l
     → slice_get (rows_with s k flags).rows r ≡ Some row → slice_get (rows_at s k).rows r ≡ Some base → row.at.face.0 ≡ base.at.face.0
 same_face s k flags each r row base at_row at_base =
     let x = zip_get (Told (walks (option_map (shell_with flags) (slice_get s.shells k)))) (rows_with s k flags).rows (bare_rows s k).rows r row
-          (zips s k flags each) at_row in
+    (zips s k flags each) at_row in
     let w = bare_at s k r base at_base in
     let same : x.0.at ≡ w.0.at = ap (λ (q : Row). q.at) (same_Some x.0 w.0 (sym x.1 ∙ w.1)) in
     let at : row.at ≡ base.at = x.2.at ∙ (same ∙ sym w.2.at) in
@@ -314,7 +317,7 @@ sides : (s : SolidData) (k : ℕ) (cs : List Crossing) (n : ℕ) (flags : List B
     → n ≡ length (face_flags (slice_get s.shells k)) → length flags ≡ n → (r : ℕ) (c : Crossing) → slice_get cs r ≡ Some c → Sides s k flags r c
 sides s k cs n flags all graph counted long r c at =
     sides_of s k cs n flags graph (long ∙ counted) long r c at (all.tell r c at)
-        (partners_with s k flags (long ∙ counted) r c.partner (all.tell r c at).partners)
+    (partners_with s k flags (long ∙ counted) r c.partner (all.tell r c at).partners)
 
 -- flags that agree with each step fit
 pub fits_made : (s : SolidData) (k : ℕ) (cs : List Crossing) (n : ℕ) (flags : List Bool) → AreCrossings s k cs → IsGraph n cs
@@ -325,7 +328,7 @@ fits_made s k cs n flags all graph counted long own agree = record { each = long
     rows_long : length (rows_with s k flags).rows ≡ length cs
     rows_long =
         zip_long (Told (walks (option_map (shell_with flags) (slice_get s.shells k)))) (rows_with s k flags).rows (bare_rows s k).rows
-            (zips s k flags (long ∙ counted))
+        (zips s k flags (long ∙ counted))
         ∙ (sym (zip_long (Told (walks (slice_get s.shells k))) (rows_at s k).rows (bare_rows s k).rows (told_rows s (slice_get s.shells k))) ∙ sym all.each)
 
     differ : PartnersDiffer (rows_with s k flags)
@@ -337,7 +340,7 @@ fits_made s k cs n flags all graph counted long own agree = record { each = long
         let is_b : t.b ≡ b = same_Some t.b b (sym t.at_m ∙ (ap (slice_get (rows_with s k flags).rows) same ∙ at_b)) in
         let ne : t.a.along ≡ not t.b.along =
         differ_made (shell_flag (slice_get s.shells k)) (get_or flags c.0.from false) (get_or flags c.0.to false) t.a.along t.b.along t.ua t.ub c.0.flips
-            t.from t.to t.flips (agree r c.0 c.1) in
+        t.from t.to t.flips (agree r c.0 c.1) in
         ap (λ (x : Row). x.along) (sym is_a) ∙ (ne ∙ ap (λ (x : Row). not x.along) is_b)
 
 -- flags that fit agree with each step
@@ -346,7 +349,7 @@ pub fits_agree : (s : SolidData) (k : ℕ) (cs : List Crossing) (n : ℕ) (flags
 fits_agree s k cs n flags all graph counted fit r c at =
     let t : Sides s k flags r c = sides s k cs n flags all graph counted (fit.each ∙ sym counted) r c at in
     agree_made (shell_flag (slice_get s.shells k)) (get_or flags c.from false) (get_or flags c.to false) t.a.along t.b.along t.ua t.ub c.flips t.from t.to
-        t.flips (fit.differ r c.partner t.a t.b t.partners t.at_r t.at_m)
+    t.flips (fit.differ r c.partner t.a t.b t.partners t.at_r t.at_m)
 
 -- whether the row runs as its partner does
 self_flag : (a : Bool) → same_flag a a ≡ true
@@ -372,8 +375,16 @@ flips_alike s k cs all r c at h =
     let t : IsCrossing s k r c = all.tell r c at in
     let a = bare_at s k r t.partners.row t.partners.at_r in
     let b = bare_at s k c.partner t.partners.partner t.partners.at_m in
-    record { m = c.partner; a = a.0; b = b.0; partners = t.partners; at_r = a.1; at_m = b.1; alike =
-        true_flag a.0.along b.0.along (sym (t.flips a.0 b.0 a.1 b.1) ∙ h) }
+    record {
+      m = c.partner;
+      a = a.0;
+      b = b.0;
+      partners = t.partners;
+      at_r = a.1;
+      at_m = b.1;
+      alike =
+          true_flag a.0.along b.0.along (sym (t.flips a.0 b.0 a.1 b.1) ∙ h);
+    }
 
 true_or : (b : Bool) → (b ≡ true) ⊎ (b ≡ false)
 true_or true = inl refl
@@ -428,7 +439,7 @@ to_walk s k cs all odd s0 x (y ∷ ys) z c cz at at_z ((m, face, p, on_m, on_y),
           let f : c.flips ≡ true = alike_flips s k cs all x c at h.0 in
           subst (λ g. Walk cs cy.0.from (flipped g s0) (y ∷ ys) cz.from (flipped odd s0)) (sym f)
           (subst (Walk cs cy.0.from (flipped true s0) (y ∷ ys) cz.from) (flipped_on odd s0)
-              (to_walk s k cs all (not odd) (flipped true s0) y ys z cy.0 cz cy.1 at_z rest h.1)))
+          (to_walk s k cs all (not odd) (flipped true s0) y ys z cy.0 cz cy.1 at_z rest h.1)))
           (λ (h : (¬ RunsAlike s k x) × OddlyMany (RunsAlike s k) odd (y ∷ ys)).
           let f : c.flips ≡ false = unlike_flips s k cs all x c at h.0 in
           subst (λ g. Walk cs cy.0.from (flipped g s0) (y ∷ ys) cz.from (flipped odd s0)) (sym f) (to_walk s k cs all odd s0 y ys z cy.0 cz cy.1 at_z rest h.1))
@@ -466,7 +477,7 @@ from_walk s k cs all odd s0 x (y ∷ ys) z a b cz at_z from_z (c, at, from, (cy,
     (λ (e : c.flips ≡ true).
     let more : Walk cs c.to (flipped true s0) (y ∷ ys) b (flipped (not odd) (flipped true s0)) =
     subst (Walk cs c.to (flipped true s0) (y ∷ ys) b) (sym (flipped_on odd s0))
-        (subst (λ g. Walk cs c.to (flipped g s0) (y ∷ ys) b (flipped odd s0)) e (cy, at_y, from_y, rest)) in
+    (subst (λ g. Walk cs c.to (flipped g s0) (y ∷ ys) b (flipped odd s0)) e (cy, at_y, from_y, rest)) in
     let h = from_walk s k cs all (not odd) (flipped true s0) y ys z c.to b cz at_z from_z more in
     (((c.partner, c.to, t.partners, t.to, on_y), h.0), inl (flips_alike s k cs all x c at e, h.1)))
     (λ (e : c.flips ≡ false).

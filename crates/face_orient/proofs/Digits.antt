@@ -36,9 +36,11 @@ pub numeral_word : (word : List ℕ) (n : ℕ) → IsNumeral 10 word → n ≡ d
 numeral_word word n numeral e few lead =
     let below = digits_value-lt 10 word numeral.1 in
     let bound : 10 ^ length word ≤ 10 ^ 9 = pow-le-pow_right (lit< tt) few in
-    let small : digits_value 10 word < 10 ^ 9 = omega (arith, below, bound) in
-    (omega (arith, small, e), sym
-        (ap decimal e ∙ decimal-digits_value (numerals_by_value (AllDigits 10) (search rules)) word numeral.1 numeral.0 lead (omega (arith, small))))
+    let small : digits_value 10 word < 10 ^ 9 = omega (arith, below, bound) in (
+      omega (arith, small, e),
+      sym
+          (ap decimal e ∙ decimal-digits_value (numerals_by_value (AllDigits 10) (search rules)) word numeral.1 numeral.0 lead (omega (arith, small))),
+    )
 
 pub decimal_short : (n : ℕ) → IsShort n → length (decimal n) ≤ 9
 decimal_short n short = length-decimal-le 9 n (omega arith) short (omega (arith, short))
@@ -66,7 +68,7 @@ pub begins_tail : (text rest ms : List ℕ) (n m : ℕ) → Begins text n rest �
 begins_tail text rest ms n m b a =
     let same : decimal n ++ rest ≡ decimal m ++ spaced ms = ap rest_of (sym b.text_is ∙ a.text_is) in
     let parts = split_digits (decimal n) (decimal m) rest (spaced ms) (decimal_digits n b.short) (decimal_digits m a.short.0) (stops_first rest b.stops)
-          (stops_first (spaced ms) (spaced_stops ms)) same in
+    (stops_first (spaced ms) (spaced_stops ms)) same in
     (sym (decimal_injective n m (omega (arith, b.short)) (omega (arith, a.short.0)) parts.0), record { short = a.short.1; text_is = parts.1 })
 
 pub begins_some : (text rest : List ℕ) (n : ℕ) → Begins text n rest → AreNumbers text [] → ⊥
@@ -94,4 +96,4 @@ pub word_of : (after ns : List ℕ) (n k : ℕ) → k ≤ length after → IsWor
 word_of after ns n k within word stops a =
     let same : take k after ++ drop k after ≡ decimal n ++ spaced ns = take-append-drop k after ∙ ap rest_of a.text_is in
     (split_digits (take k after) (decimal n) (drop k after) (spaced ns) word (decimal_digits n a.short.0) (stops_first (drop k after) stops)
-        (stops_first (spaced ns) (spaced_stops ns)) same).0
+    (stops_first (spaced ns) (spaced_stops ns)) same).0

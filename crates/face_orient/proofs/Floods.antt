@@ -48,7 +48,7 @@ listed_low n cs first places order f h m = omega (arith, reached_low places f (h
 pub flood_more : (n : ℕ) (cs : List Crossing) (first : Bool) (places : List Place) (order : List ℕ) (r : ℕ) (c : Crossing) (p : Place) → IsGraph n cs
     → IsFlood n cs first places order → slice_get cs r ≡ Some c → Has order c.from
     → (place_of places c.to).reached ≡ false → p.reached ≡ true → p.flag ≡ flipped c.flips (place_of places c.from).flag
-        → p.depth ≡ (place_of places c.from).depth + 1 → p.up ≡ r
+    → p.depth ≡ (place_of places c.from).depth + 1 → p.up ≡ r
     → IsFlood n cs first (slice_set places c.to p) (order ++ c.to ∷ [])
 flood_more n cs first places order r c p graph flood at known unmarked is_reached is_flag is_depth is_up = record {
   size = length-set places c.to p ∙ flood.size;
@@ -62,7 +62,7 @@ flood_more n cs first places order r c p graph flood at known unmarked is_reache
   shallow = λ f h. ⊎_elim
       (λ a. omega (arith, ap (λ (x : Place). x.depth) (keeps f a), flood.shallow f a, length-append order (c.to ∷ [])))
       (λ e. subst (λ k. (place_of (slice_set places c.to p) k).depth < length (order ++ c.to ∷ [])) e
-          (omega (arith, ap (λ (x : Place). x.depth) here, is_depth, flood.shallow c.from known, length-append order (c.to ∷ []))))
+      (omega (arith, ap (λ (x : Place). x.depth) here, is_depth, flood.shallow c.from known, length-append order (c.to ∷ []))))
       (has_last order c.to f h);
   apart = none_last order c.to flood.apart new;
 }
@@ -287,8 +287,8 @@ listed_reached n cs first places order h zero f deep m = ⊎_elim (λ (o : IsOri
 listed_reached n cs first places order h (suc d) f deep m =
     ⊎_elim (λ (o : IsOrigin first places f). subst (LeadsTo (Meets cs) 0) (sym o.is_first) (zero, refl))
     (λ (o : IsChild cs places f). leads_last (Meets cs) 0 o.step.from f
-        (listed_reached n cs first places order h d o.step.from (omega (arith, deep, o.deeper)) (h.listed o.step.from o.parent))
-        ((place_of places f).up, o.step, o.at, refl, o.to))
+    (listed_reached n cs first places order h d o.step.from (omega (arith, deep, o.deeper)) (h.listed o.step.from o.parent))
+    ((place_of places f).up, o.step, o.at, refl, o.to))
     (h.known f m)
 
 pub crossed_now : (old new : List ℕ) (c k : Crossing) → new ≡ old ++ c.to ∷ [] → c ≡ k → Has new k.to

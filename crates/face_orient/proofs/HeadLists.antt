@@ -93,7 +93,7 @@ heads_step n cs j i f was first next whole after on is_was h = record {
         let there : get_or (slice_set next i was) i 0 ≡ get_or first f 0 = set_same next i was 0 i_low ∙ known in
         let head : IsHead cs f (i + 1) (get_or first f 0) = subst (λ k. IsHead cs f k (get_or first f 0)) after (h.heads f (face_low n cs f i whole on)) in
         subst (λ k. IsHead cs face (k + 1) (get_or (slice_set next i was) k 0)) e
-            (subst (IsHead cs face (i + 1)) (sym there) (subst (λ k. IsHead cs k (i + 1) (get_or first f 0)) same head))
+        (subst (IsHead cs face (i + 1)) (sym there) (subst (λ k. IsHead cs k (i + 1) (get_or first f 0)) same head))
     by_row r face on_r (inr later) =
         let apart : i ≢ r = λ e. absurd (omega (arith, e, later)) in
         subst (IsHead cs face (r + 1)) (sym (set_other next i r was 0 apart)) (h.nexts r face (omega (arith, later, after)) on_r)

@@ -57,7 +57,7 @@ crossing s k two r lt =
         to = (p.1.partner, p.1.at_m, refl);
         flips = λ x y at_x at_y.
             ap (λ (w : Row). same_flag w.along b.0.along) (same_Some a.0 x (sym a.1 ∙ at_x)) ∙ ap (λ (w : Row). same_flag x.along w.along)
-                (same_Some b.0 y (sym b.1 ∙ at_y));
+            (same_Some b.0 y (sym b.1 ∙ at_y));
       },
     )
 
@@ -71,7 +71,7 @@ refuses s k rows flags two ring fit =
     let cs = crossings s k two in
     let graph : IsGraph (rows_at s k).face_count cs.0 = graph_made s k cs.0 (rows_at s k).face_count cs.1 refl in
     none_agree cs.0 flags rows (fits_agree s k cs.0 (rows_at s k).face_count flags cs.1 graph (faces_counted s (slice_get s.shells k)) fit)
-        (ring_walk s k cs.0 cs.1 rows ring)
+    (ring_walk s k cs.0 cs.1 rows ring)
 
 -- two lists that are alike at each place
 same_lists : (xs ys : List Bool) → length xs ≡ length ys → ((i : ℕ) → i < length xs → get_or xs i false ≡ get_or ys i false) → xs ≡ ys
@@ -135,7 +135,7 @@ one_fit s k two reached x y fx fy =
     let ay : AllAgree y cs.0 = fits_agree s k cs.0 n y cs.1 graph counted fy in
     same_lists x y (fx.each ∙ sym fy.each) (λ f lt.
     let chain = leads_from s k cs.0 cs.1 f
-          (All-at (IsReached (rows_at s k)) (numbers_from 0 n) reached f (number_within 0 n f (omega arith) (omega (arith, lt, fx.each, counted)))) in
+    (All-at (IsReached (rows_at s k)) (numbers_from 0 n) reached f (number_within 0 n f (omega arith) (omega (arith, lt, fx.each, counted)))) in
     alike_along cs.0 x y ax ay chain.0 0 f chain.1 (same_first x y (fx.first ∙ sym fy.first)))
 
 pub flags_or : FlagsOrRing
@@ -168,7 +168,7 @@ flags_or s k two reached = by_all (every_or_one (Agrees x) (λ c. flag_or (get_o
         → ExactlyOne (FlagsFit s k) ⊎ ((rows : List ℕ) × OddRing s k rows)
     by_all (inl agree) =
         let own : slice_get x 0 ≡ slice_get (face_flags (slice_get s.shells k)) 0 = first_same x (face_flags (slice_get s.shells k)) (all.1 ∙ counted)
-              (λ lt. (all.2 0 (get_or x 0 false) (get_at x 0 lt)).0 refl) in
+        (λ lt. (all.2 0 (get_or x 0 false) (get_at x 0 lt)).0 refl) in
         let fit : FlagsFit s k x = fits_made s k cs.0 n x cs.1 graph counted all.1 own agree in
         inl (x, fit, λ y fy. one_fit s k two reached y x fy fit)
     by_all (inr (r, c, at, ne)) =

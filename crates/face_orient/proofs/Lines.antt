@@ -103,7 +103,7 @@ numbers_one text ns ms a b = spaced_one ns ms a.short b.short (ap (λ t. t ++ 10
 pub listed_told : {A : Type 0} (text letter rest : List ℕ) (o : Option A) (number : A → ℕ) (after : A → List ℕ) → text ≡ letter ++ rest
     → MatchOption o ((n : ℕ) (ns : List ℕ) → ¬ AreNumbers rest (n ∷ ns)) (λ p. Begins rest (number p) (after p))
     → MatchOption o ((k : ℕ) (ns front : List ℕ) → text ≡ letter ++ front → ¬ AreNumbers front (k ∷ ns))
-        (λ p. (front : List ℕ) × (text ≡ letter ++ front) × Begins front (number p) (after p))
+    (λ p. (front : List ℕ) × (text ≡ letter ++ front) × Begins front (number p) (after p))
 listed_told text letter rest None number after e h =
     λ k ns front is a. h k ns (subst (λ t. AreNumbers t (k ∷ ns)) (same_front letter front rest (sym is ∙ e)) a)
 listed_told text letter rest (Some p) number after e h = (rest, e, h)

@@ -155,7 +155,7 @@ pub has_partner : (d : ShellRows) → AllHaveTwoRows d → AllByRecursion (λ (r
     → slice_get d.rows r ≡ Some row → (m : ℕ) × ArePartners d r m
 has_partner d all known r row at =
     let two : HasTwoRows d row.edge.0 =
-          All-at (HasTwoRows d) d.edges all row.edge.0 (All-at (λ (x : Row). Has d.edges x.edge.0) d.rows known row (has_get d.rows r row at)) in
+    All-at (HasTwoRows d) d.edges all row.edge.0 (All-at (λ (x : Row). Has d.edges x.edge.0) d.rows known row (has_get d.rows r row at)) in
     let m : ℕ = other_in (summary (places_of row.edge.0 0 d.rows)) r in
     let t = partner_made d r row at two m refl in
     (m, record { row = row; partner = t.0; at_r = at; at_m = t.1; one_edge = t.2; apart = t.3; two = two })
@@ -167,12 +167,12 @@ places_push g n [] r = ap (λ k. if r.edge.0 == g then k ∷ [] else []) (omega 
 places_push g n (x ∷ rows) r =
     let number : n + 1 + length rows ≡ n + suc (length rows) = omega arith in
     by_test (x.edge.0 == g)
-        (subst (λ k. places_of g (n + 1) (rows ++ r ∷ []) ≡ places_of g (n + 1) rows ++ (if r.edge.0 == g then k ∷ [] else [])) number
-        (places_push g (n + 1) rows r))
+    (subst (λ k. places_of g (n + 1) (rows ++ r ∷ []) ≡ places_of g (n + 1) rows ++ (if r.edge.0 == g then k ∷ [] else [])) number
+    (places_push g (n + 1) rows r))
   where
     by_test : (b : Bool) → places_of g (n + 1) (rows ++ r ∷ []) ≡ places_of g (n + 1) rows ++ (if r.edge.0 == g then (n + suc (length rows)) ∷ [] else [])
         → (if b then n ∷ places_of g (n + 1) (rows ++ r ∷ []) else places_of g (n + 1) (rows ++ r ∷ []))
-            ≡ (if b then n ∷ places_of g (n + 1) rows else places_of g (n + 1) rows) ++ (if r.edge.0 == g then (n + suc (length rows)) ∷ [] else [])
+        ≡ (if b then n ∷ places_of g (n + 1) rows else places_of g (n + 1) rows) ++ (if r.edge.0 == g then (n + suc (length rows)) ∷ [] else [])
     by_test true h = ap (λ ks. n ∷ ks) h
     by_test false h = h
 
@@ -187,7 +187,7 @@ summary_push (x ∷ xs) z =
     let some : (length xs + 1 == 0) ≡ false = by_length (eqb_tells (length xs + 1) 0) in
     ap (λ n. record { count = n; first = x; last = last_of x (xs ++ z ∷ []) }) counted
     ∙ (ap (λ l. record { count = length xs + 1 + 1; first = x; last = l }) (last_push x xs z)
-        ∙ ap (λ b. record { count = length xs + 1 + 1; first = (if b then z else x); last = z }) (sym some))
+    ∙ ap (λ b. record { count = length xs + 1 + 1; first = (if b then z else x); last = z }) (sym some))
   where
     by_length : (((length xs + 1 == 0) ≡ true) × (length xs + 1 ≡ 0)) ⊎ (((length xs + 1 == 0) ≡ false) × (length xs + 1 ≢ 0)) → (length xs + 1 == 0) ≡ false
     by_length (inl t) = absurd (omega (arith, t.1))
@@ -203,8 +203,15 @@ IsSeen d i g seen = seen ≡ summary (places_of g 0 (take i d.rows))
 
 pub seen_few : (d : ShellRows) (i g : ℕ) (seen : Seen) → IsSeen d i g seen → seen.count ≤ length (take i d.rows)
 seen_few d i g seen h =
-    omega (arith, ap (λ (x : Seen). x.count) h, count_places (places_of g 0 (take i d.rows)), length-places g 0 (take i d.rows), count_by-total
-    (λ (r : Row). r.edge.0 == g) (take i d.rows), few (take i d.rows))
+    omega (
+      arith,
+      ap (λ (x : Seen). x.count) h,
+      count_places (places_of g 0 (take i d.rows)),
+      length-places g 0 (take i d.rows),
+      count_by-total
+          (λ (r : Row). r.edge.0 == g) (take i d.rows),
+      few (take i d.rows),
+    )
   where
     few : (rows : List Row) → total (λ (r : Row). cond (r.edge.0 == g) 1 0) rows ≤ length rows
     few [] = omega arith
@@ -219,15 +226,15 @@ taken : (d : ShellRows) (i g : ℕ) (row : Row) → slice_get d.rows i ≡ Some 
     ++ (if row.edge.0 == g then (0 + length (take i d.rows)) ∷ [] else [])
 taken d i g row at =
     ap (places_of g 0) (take_more d.rows i row (slice_get_within d.rows i row at)
-        ∙ ap (λ r. take i d.rows ++ r ∷ []) (get_or_from_slice_get d.rows i row row at))
+    ∙ ap (λ r. take i d.rows ++ r ∷ []) (get_or_from_slice_get d.rows i row row at))
     ∙ places_push g 0 (take i d.rows) row
 
 pub seen_other : (d : ShellRows) (i g : ℕ) (seen : Seen) (row : Row) → slice_get d.rows i ≡ Some row → (row.edge.0 == g) ≡ false → IsSeen d i g seen
     → IsSeen d (i + 1) g seen
 seen_other d i g seen row at other h =
     h ∙ ap summary (sym (taken d i g row at
-        ∙ (ap (λ b. places_of g 0 (take i d.rows) ++ (if b then (0 + length (take i d.rows)) ∷ [] else [])) other
-        ∙ append-nil (places_of g 0 (take i d.rows)))))
+    ∙ (ap (λ b. places_of g 0 (take i d.rows) ++ (if b then (0 + length (take i d.rows)) ∷ [] else [])) other
+    ∙ append-nil (places_of g 0 (take i d.rows)))))
 
 pub seen_this : (d : ShellRows) (i g : ℕ) (seen : Seen) (row : Row) → slice_get d.rows i ≡ Some row → row.edge.0 ≡ g → IsSeen d i g seen
     → IsSeen d (i + 1) g (once_more seen i)
@@ -235,8 +242,8 @@ seen_this d i g seen row at this h =
     let number : 0 + length (take i d.rows) ≡ i = omega (arith, length-take-le i d.rows (within (slice_get_within d.rows i row at))) in
     ap (λ s. once_more s i) h ∙ (sym (summary_push (places_of g 0 (take i d.rows)) i)
     ∙ ap summary (sym (taken d i g row at
-        ∙ (ap (λ b. places_of g 0 (take i d.rows) ++ (if b then (0 + length (take i d.rows)) ∷ [] else [])) (eq-eqb row.edge.0 g this)
-        ∙ ap (λ k. places_of g 0 (take i d.rows) ++ k ∷ []) number))))
+    ∙ (ap (λ b. places_of g 0 (take i d.rows) ++ (if b then (0 + length (take i d.rows)) ∷ [] else [])) (eq-eqb row.edge.0 g this)
+    ∙ ap (λ k. places_of g 0 (take i d.rows) ++ k ∷ []) number))))
   where
     within : i < length d.rows → i ≤ length d.rows
     within lt = omega (arith, lt)
@@ -260,7 +267,7 @@ tally_step d i span old row was new at long low each is_was is_new g within = by
         let place : k ≡ g - span.least = ap (λ n. n - span.least) y.1 in
         let before : IsSeen d i g was = is_was ∙ (ap (λ n. get_or old n (summary [])) place ∙ each g within) in
         let there : get_or (slice_set old k new) (g - span.least) (summary []) ≡ new = subst (λ n. get_or (slice_set old k new) n (summary []) ≡ new) place
-              (set_same old k new (summary []) in_old) in
+        (set_same old k new (summary []) in_old) in
         (there ∙ is_new) ∙ seen_this d i g was row at y.1 before
     by_edge (inr n) =
         let apart : k ≢ g - span.least = λ h. n.1 (omega (arith, h, low.0, within.0)) in

@@ -26,7 +26,7 @@ row_low d r row whole at = All-at (λ (x : Row). x.at.face.0 < d.face_count) d.r
 pub edge_two : (d : ShellRows) (r : ℕ) (row : Row) → AreRows d → AllHaveTwoRows d → slice_get d.rows r ≡ Some row → HasTwoRows d row.edge.0
 edge_two d r row whole two at =
     All-at (HasTwoRows d) d.edges two row.edge.0
-        (Has-from_Contains d.edges row.edge.0 (All-at (λ (x : Row). Contains d.edges x.edge.0) d.rows whole.edges_hold row (has_get d.rows r row at)))
+    (Has-from_Contains d.edges row.edge.0 (All-at (λ (x : Row). Contains d.edges x.edge.0) d.rows whole.edges_hold row (has_get d.rows r row at)))
 
 pub partner_told : (d : ShellRows) (span : Span) (tally : List Seen) (r m : ℕ) (row : Row) → AreRows d → IsSpanOf span d.edges → IsTally d span tally
     → AllHaveTwoRows d → slice_get d.rows r ≡ Some row → m ≡ other_in (seen_of span tally row.edge.0) r
@@ -43,8 +43,16 @@ step_made d span tally forwards r m row other flips a b whole is told two at e a
     let t = partner_told d span tally r m row whole is told two at e in
     let same : t.0 ≡ other = same_Some t.0 other (sym t.1 ∙ at_m) in
     record {
-      partners = record { row = row; partner = other; at_r = at; at_m = at_m; one_edge = t.2 ∙ ap (λ (x : Row). x.edge) same; apart = t.3; two =
-          edge_two d r row whole two at };
+      partners = record {
+        row = row;
+        partner = other;
+        at_r = at;
+        at_m = at_m;
+        one_edge = t.2 ∙ ap (λ (x : Row). x.edge) same;
+        apart = t.3;
+        two =
+            edge_two d r row whole two at;
+      };
       from = (row, at, refl);
       to = (other, at_m, refl);
       flips = is_flips ∙ (ap (λ x. same_flag x b) is_a ∙ ap (same_flag (same_flag row.along (get_or forwards row.at.face.0 true))) is_b);

@@ -45,8 +45,13 @@ module _ (d : ShellRows) (i : ℕ) (c : Celled Seen) (row : Row) (whole : AreRow
   pub row_few : (cell_of c row.edge.0).count < 2 ^ 29
   row_few =
       let lt : i < length d.rows = slice_get_within d.rows i row at in
-      omega (arith, lt, seen_few d i row.edge.0 (cell_of c row.edge.0) (was_seen ∙ t.each row.edge.0 row_within), length-take-le i d.rows (omega (arith, lt)),
-          whole.few)
+      omega (
+        arith,
+        lt,
+        seen_few d i row.edge.0 (cell_of c row.edge.0) (was_seen ∙ t.each row.edge.0 row_within),
+        length-take-le i d.rows (omega (arith, lt)),
+        whole.few,
+      )
 
   pub row_seen : (new : Celled Seen) → new ≡ with_cell c row.edge.0 (once_more (cell_of c row.edge.0) i) → TallyBefore d (i + 1) new
   row_seen new is = subst (TallyBefore d (i + 1)) (sym is) (record {

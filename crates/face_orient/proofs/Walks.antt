@@ -89,7 +89,7 @@ pub walk_agrees : (cs : List Crossing) (flags : List Bool) → AllAgree flags cs
 walk_agrees cs flags agree [] a s b t (e, k) h = subst (λ x. get_or flags x false ≡ t) e (h ∙ k)
 walk_agrees cs flags agree (r ∷ rows) a s b t (st, at, from, rest) h =
     walk_agrees cs flags agree rows st.to (flipped st.flips s) b t rest
-        (agree r st at ∙ ap (flipped st.flips) (subst (λ x. get_or flags x false ≡ s) (sym from) h))
+    (agree r st at ∙ ap (flipped st.flips) (subst (λ x. get_or flags x false ≡ s) (sym from) h))
 
 pub none_agree : (cs : List Crossing) (flags : List Bool) (rows : List ℕ) → AllAgree flags cs → IsOddWalk cs rows → ⊥
 none_agree cs flags rows agree odd = by_flag (get_or flags odd.face false) refl
@@ -97,7 +97,7 @@ none_agree cs flags rows agree odd = by_flag (get_or flags odd.face false) refl
     by_flag : (b : Bool) → get_or flags odd.face false ≡ b → ⊥
     by_flag false e = let k : false ≡ true = sym e ∙ walk_agrees cs flags agree rows odd.face false odd.face true odd.walk e in absurd (cc)
     by_flag true e = let k : true ≡ false = sym e ∙ walk_agrees cs flags agree rows odd.face true odd.face false
-                           (walk_other cs rows odd.face false odd.face true odd.walk) e in absurd (cc)
+        (walk_other cs rows odd.face false odd.face true odd.walk) e in absurd (cc)
 
 -- along steps there is a climb back
 pub climb_steps : (cs : List Crossing) (m a b : ℕ) (s : Bool) → Steps (Meets cs) m a b → (t : Bool) × (path : List ℕ) × Climb cs b t path a s

@@ -85,14 +85,22 @@ two_rows rows a b e p q r m x y ne at_x at_y = by_place r m ne (ap (λ rs. slice
 -- the seam needs no change
 pub seam_fits : FlagsFit seam 0 (true ∷ [])
 unfolding shell_rows
-seam_fits = record { each = refl; first = refl; differ = λ r m a b p at_a at_b. two_rows (rows_with seam 0 (true ∷ [])).rows _ _ refl refl refl r m a b p.apart
-    at_a at_b }
+seam_fits = record {
+  each = refl;
+  first = refl;
+  differ = λ r m a b p at_a at_b. two_rows (rows_with seam 0 (true ∷ [])).rows _ _ refl refl refl r m a b p.apart
+      at_a at_b;
+}
 
 -- of two alike faces the second is turned
 pub alike_fits : FlagsFit alike 0 (true ∷ false ∷ [])
 unfolding shell_rows
-alike_fits = record { each = refl; first = refl; differ = λ r m a b p at_a at_b. two_rows (rows_with alike 0 (true ∷ false ∷ [])).rows _ _ refl refl refl r m a
-    b p.apart at_a at_b }
+alike_fits = record {
+  each = refl;
+  first = refl;
+  differ = λ r m a b p at_a at_b. two_rows (rows_with alike 0 (true ∷ false ∷ [])).rows _ _ refl refl refl r m a
+      b p.apart at_a at_b;
+}
 
 alike_partners : ArePartners (rows_at alike 0) 0 1
 unfolding shell_rows

@@ -56,8 +56,16 @@ module _ (f : Contents) (n : ℕ) (certificate : List ℕ) where
       let named = legal_names (shell_solid_of f n) a.rest a.legal in
       record {
         lines = a.rest;
-        opens = record { first = a.first; second = named.0; rest = named.1; cut = a.cut; behind = named.2; is_head = a.is_head; names =
-            subst (λ k. IsOf (NamesShell k) named.0) (entity_is f n) named.3 };
+        opens = record {
+          first = a.first;
+          second = named.0;
+          rest = named.1;
+          cut = a.cut;
+          behind = named.2;
+          is_head = a.is_head;
+          names =
+              subst (λ k. IsOf (NamesShell k) named.0) (entity_is f n) named.3;
+        };
         placed = placed;
         joined = a.joined;
         legal = a.legal;

@@ -26,12 +26,12 @@ Joins s p = IsJoined s p.loop
 join_from : (s : SolidData) (h : Shell) → AllHold (join_obligations s h) → AllByRecursion (Joins s) (placed_loops h)
 join_from s h all =
     AllByRecursion-weaker (λ (p : PlacedLoop). AllHold (loop_obligations s p.loop)) (Joins s) (placed_loops h) (λ p. joined_from_hold s p.loop)
-        (AllHold-of_each (λ (p : PlacedLoop). loop_obligations s p.loop) (placed_loops h) all)
+    (AllHold-of_each (λ (p : PlacedLoop). loop_obligations s p.loop) (placed_loops h) all)
 
 join_to : (s : SolidData) (h : Shell) → AllByRecursion (Joins s) (placed_loops h) → AllHold (join_obligations s h)
 join_to s h all =
     of_each-AllHold (λ (p : PlacedLoop). loop_obligations s p.loop) (placed_loops h)
-        (AllByRecursion-weaker (Joins s) (λ (p : PlacedLoop). AllHold (loop_obligations s p.loop)) (placed_loops h) (λ p. hold_from_joined s p.loop) all)
+    (AllByRecursion-weaker (Joins s) (λ (p : PlacedLoop). AllHold (loop_obligations s p.loop)) (placed_loops h) (λ p. hold_from_joined s p.loop) all)
 
 joins_from : (s : SolidData) → AllHold (joins s) → AllJoin s
 joins_from s all =
@@ -72,11 +72,11 @@ module _ (f : Contents) (n : ℕ) (s : SolidData) (same : s ≡ shell_solid_of f
   loops_hold all =
       AllHold-append (open_places f n) (joins (shell_solid_of f n)) placed
       (subst (λ t. AllHold (joins t)) same
-          (subst (λ hs. AllHold (of_each (join_obligations s) hs)) (sym alone) (AllHold-append (join_obligations s h) [] all tt)))
+      (subst (λ hs. AllHold (of_each (join_obligations s) hs)) (sym alone) (AllHold-append (join_obligations s h) [] all tt)))
 
   pub loops_fault : (x : Failing) → FirstFalse (join_obligations s h) x → FirstFalse (open_checked f n) x
   unfolding open_checked
   loops_fault x bad =
       FirstFalse-append_rest (open_places f n) (joins (shell_solid_of f n)) x placed
       (subst (λ t. FirstFalse (joins t) x) same
-          (subst (λ hs. FirstFalse (of_each (join_obligations s) hs) x) (sym alone) (FirstFalse-append_front (join_obligations s h) [] x bad)))
+      (subst (λ hs. FirstFalse (of_each (join_obligations s) hs) x) (sym alone) (FirstFalse-append_front (join_obligations s h) [] x bad)))

@@ -25,7 +25,7 @@ module _ (s : SolidData) (text : List ℕ) (now : KeptChecker) (rest : List ℕ)
   module _ (line after : List ℕ) (cut : cut_lines rest ≡ line ∷ cut_lines after) where
     pub one_more : (new : KeptChecker) → new.solid ≡ now.solid
         → (l : OpenLine) × IsSpelled line l × FitsLine now.solid (stand_from_latest now.solid j.lines) l × IsAt new (l ∷ j.lines)
-            → IsJudgedSoFar s text new after
+        → IsJudgedSoFar s text new after
     one_more new same (l, spelled, fits, stands) =
         let fits_here : FitsLine s (stand_from_latest s j.lines) l = subst (λ t. FitsLine t (stand_from_latest t j.lines) l) j.solid fits in
         record {

@@ -142,13 +142,25 @@ opening_of certificate (first ∷ lines) cut = by_first (wanted_or_wrong IsHead 
   where
     by_first : IsOf IsHead first ⊎ ((x : Illegal) × IsWrong IsHead 1 first x)
         → ((second : List ℕ) × (rest : List (List ℕ)) × (n : ℕ) × (lines ≡ second ∷ rest) × IsOf (NamesShell n) second)
-            ⊎ ((x : Illegal) × IsSecondWrong lines x)
+        ⊎ ((x : Illegal) × IsSecondWrong lines x)
         → ((n : ℕ) × (behind : List (List ℕ)) × OpensShell certificate n behind) ⊎ ((x : Illegal) × IsFirstWrong (first ∷ lines) x)
     by_first (inr (x, wrong)) second = inr (x, inl wrong)
     by_first (inl (l, is, e)) (inr (x, wrong)) = inr (x, inr (subst (IsSpelled first) e is, wrong))
     by_first (inl (l, is, e)) (inl (second, rest, n, behind, names)) =
-        inl (n, lines, record { first = first; second = second; rest = rest; cut = cut; behind = behind; is_head = subst (IsSpelled first) e is; names =
-            names })
+        inl (
+          n,
+          lines,
+          record {
+            first = first;
+            second = second;
+            rest = rest;
+            cut = cut;
+            behind = behind;
+            is_head = subst (IsSpelled first) e is;
+            names =
+                names;
+          },
+        )
 
 -- A certificate opens with the head and a shell, or has a first bad line among these two.
 pub openings_are_decided : (certificate : List ℕ) → ((n : ℕ) × (lines : List (List ℕ)) × OpensShell certificate n lines)

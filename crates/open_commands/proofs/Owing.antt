@@ -16,4 +16,4 @@ pub sound_owed : (f : Contents) (n : ℕ) (t : List ℕ) (s : SolidData) → All
     → IsOpenAccepted s t → OfOpen n f Done t
 sound_owed f n t s placed is rules accepted =
     open_certified t (placed, subst (λ (d : SolidData). AllRulesHold (open_obligations d)) is rules)
-        (accepted_for f n t placed (subst (λ (d : SolidData). IsOpenAccepted d t) is accepted))
+    (accepted_for f n t placed (subst (λ (d : SolidData). IsOpenAccepted d t) is accepted))

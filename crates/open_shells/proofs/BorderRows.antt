@@ -70,7 +70,7 @@ next_apart d whole fanned a b c (border_a, border_c, (x, z, at_a, at_c, meet)) (
     let v_a : x.to.0 ≡ z.from.0 = ap (λ (i : VertexId). i.0) meet in
     let v_b : y.to.0 ≡ z.from.0 = ap (λ (i : VertexId). i.0) (join ∙ ap (λ (r : Row). r.from) (sym same)) in
     let heads : ha.0 ≡ hb.0 = by_fan z.from.0 (vertex_fanned d whole fanned c z at_c) ha.0 hb.0 (subst (λ v. StartsAt d v ha.0) v_a ha.2)
-          (subst (λ v. StartsAt d v hb.0) v_b hb.2)
+    (subst (λ v. StartsAt d v hb.0) v_b hb.2)
     (λ t turn. no_turn_before d whole a ha.0 t border_a ha.1 turn) (λ t turn. no_turn_before d whole b hb.0 t border_b hb.1 turn) in
     follows_apart d whole.rows a b hb.0 (subst (Follows d a) heads ha.1) hb.1
   where
@@ -108,7 +108,7 @@ start_there d v p row whole border at ends none =
     let without : Has back.0 h.0 → ⊥ = λ m. (let q = prev_on (Turns d) h.0 k.0 k.1 k.2 h.0 (inl (back.3 h.0 m)) in head q.0 q.1) in
     let apart : NoRepeat (k.1 ∷ back.0) = no_repeat (λ a b. Turns d b a) (λ a b c s t. turn_apart d whole b c a s t) k.1 back.0 h.0 back.1 without in
     too_many d v (k.1 ∷ back.0) apart (λ y m. ⊎_elim (λ e. subst (StartsAt d v) e k.4) (λ j. each_on d whole v h.0 k.0 k.1 k.2 start y (inr (back.3 y j))) m)
-        (omega (arith, back.2, k.3))
+    (omega (arith, back.2, k.3))
 
 -- An array by vertex, of which one place is written.
 
@@ -136,7 +136,7 @@ pub starts_step : (d : ShellRows) (i : ℕ) (span : Span) (row : Row) (o : Optio
     → IsWithin span row.from.0 → length old ≡ span.count → (o ≡ None → IsBorder d i → ⊥) → MatchOption o P (λ b. IsBorder d i × (b ≡ i))
     → IsWritten span row.from.0 o old new
     → ((v : ℕ) → IsWithin span v → StartBefore d i v (get_or old (v - span.least) None)) → (v : ℕ) → IsWithin span v
-        → StartBefore d (i + 1) v (get_or new (v - span.least) None)
+    → StartBefore d (i + 1) v (get_or new (v - span.least) None)
 starts_step d i span row None old new P at within long none some same before v low = subst (λ xs. StartBefore d (i + 1) v (get_or xs (v - span.least) None))
     (sym same) (start_less d i v row (get_or old (v - span.least) None) at (λ border e. none refl border) (before v low))
 starts_step d i span row (Some h) old new P at within long none some is_new before v low = by_vertex (eqb_tells row.from.0 v)
@@ -146,13 +146,13 @@ starts_step d i span row (Some h) old new P at within long none some is_new befo
     by_vertex (inl y) =
         let place : v - span.least ≡ row.from.0 - span.least = ap (λ n. n - span.least) (sym y.1) in
         let e : get_or new (v - span.least) None ≡ Some h = ap (λ xs. get_or xs (v - span.least) None) is_new
-              ∙ (ap (λ n. get_or (slice_set old (row.from.0 - span.least) (Some h)) n None) place ∙ set_same old (row.from.0 - span.least) (Some h) None
-              (omega (arith, within.0, within.1, long))) in
+        ∙ (ap (λ n. get_or (slice_set old (row.from.0 - span.least) (Some h)) n None) place ∙ set_same old (row.from.0 - span.least) (Some h) None
+        (omega (arith, within.0, within.1, long))) in
         subst (StartBefore d (i + 1) v) (sym e) (subst (λ r. IsBorder d r × StartsAt d v r) (sym some.1) (some.0, (row, at, y.1)))
     by_vertex (inr n) =
         let other : row.from.0 - span.least ≢ v - span.least = λ e. n.1 (omega (arith, e, within.0, low.0)) in
         let e : get_or new (v - span.least) None ≡ get_or old (v - span.least) None = ap (λ xs. get_or xs (v - span.least) None) is_new
-              ∙ set_other old (row.from.0 - span.least) (v - span.least) (Some h) None other in
+        ∙ set_other old (row.from.0 - span.least) (v - span.least) (Some h) None other in
         subst (StartBefore d (i + 1) v) (sym e) (start_less d i v row (get_or old (v - span.least) None) at (λ border same. n.1 same) (before v low))
 
 pub start_done : (d : ShellRows) (i v : ℕ) (o : Option ℕ) → length d.rows ≤ i → StartBefore d i v o → IsStartOf d v o
@@ -205,14 +205,14 @@ never_back d first [] at whole fanned border border_at long away w = omega (arit
 never_back d first (x ∷ xs) at whole fanned border border_at long away w =
     let k = trail_back (Next d) first xs at w.1 in
     let none : NoRepeat (at ∷ k.0) = no_repeat (λ a b. Next d b a) (λ a b c p q. next_apart d whole fanned b c a p q) at k.0 first k.1 (λ h. w.2 (k.3 first h))
-        in
+    in
     let apart : NoRepeat (first ∷ at ∷ k.0) = ((λ h. ⊎_elim (λ e. away (omega arith) e) (λ m. w.2 (k.3 first m)) h), none) in
     let each : (y : ℕ) → Has (first ∷ at ∷ k.0) y → Has (numbers_from 0 (length d.rows)) y =
     λ y m. (let zero_more : 0 + y ≡ y = omega arith in
     subst (Has (numbers_from 0 (length d.rows))) zero_more
-        (numbers_have 0 (length d.rows) y
-        (⊎_elim (λ e. row_below d y (subst (IsBorder d) e border))
-        (λ j. ⊎_elim (λ e. row_below d y (subst (IsBorder d) e border_at)) (λ h. row_below d y (passed_border xs at w.1 y (k.3 y h))) j) m))) in
+    (numbers_have 0 (length d.rows) y
+    (⊎_elim (λ e. row_below d y (subst (IsBorder d) e border))
+    (λ j. ⊎_elim (λ e. row_below d y (subst (IsBorder d) e border_at)) (λ h. row_below d y (passed_border xs at w.1 y (k.3 y h))) j) m))) in
     omega (arith, long, no_longer (first ∷ at ∷ k.0) (numbers_from 0 (length d.rows)) apart each, length-numbers 0 (length d.rows), k.2)
   where
     passed_border : (ys : List ℕ) (z : ℕ) → Trail (Next d) first ys z → (y : ℕ) → Has ys y → IsBorder d y

@@ -70,7 +70,7 @@ border_ring d at first ms fits = (fits.lone, fits.goes_on, fits.least)
 pub border_fits : (d : ShellRows) (at : OpenStand) (text others : List ℕ) (first len : ℕ) (rs : List ℕ) → Begins text first others → AreNumbers text rs
     → IsAbove at.last_border first
     → ((ms : List ℕ) → AreNumbers others ms → IsBorderRing d at.lone first first ms × (len ≡ length (first ∷ ms)))
-        → (ms : List ℕ) × (rs ≡ first ∷ ms) × FitsBorder d at first ms × (length (first ∷ ms) ≡ len)
+    → (ms : List ℕ) × (rs ≡ first ∷ ms) × FitsBorder d at first ms × (length (first ∷ ms) ≡ len)
 border_fits d at text others first len rs b h above ring =
     let n = next_left text others first rs b h in
     let r = ring n.0 n.2 in

@@ -230,7 +230,7 @@ border_line_cycle s alone (l ∷ lines) borders fit into rs (inl e) = at_line rs
     at_line (r ∷ qs) fits in_all =
         let h = fits.1.1 in
         cycle_of_line (shell_of s) alone r qs borders
-            (All-from (Contains alone) (r ∷ qs) (λ x m. in_all x (All-at (Contains (filter_map lone_in lines)) (r ∷ qs) h.lone x m))) h.goes_on h.least
+        (All-from (Contains alone) (r ∷ qs) (λ x m. in_all x (All-at (Contains (filter_map lone_in lines)) (r ∷ qs) h.lone x m))) h.goes_on h.least
 
 -- The lines in order, and the latest first.
 
@@ -246,7 +246,7 @@ fit_turned s before (t ∷ texts) [] fit legal zip = absurd zip
 fit_turned s before (t ∷ texts) (l ∷ lines) fit (m, is_m, fits, more) zip =
     let same : m ≡ l = line_one t m l is_m zip.0 in
     fit_turned s (l ∷ before) texts lines (subst (FitsLine s (stand_from_latest s before)) same fits, fit)
-        (subst (λ k. IsLegalAfter s (k ∷ before) texts) same more) zip.1
+    (subst (λ k. IsLegalAfter s (k ∷ before) texts) same more) zip.1
 
 has_turned : (lines before : List OpenLine) (x : OpenLine) → Has lines x ⊎ Has before x → Has (turned lines before) x
 has_turned [] before x (inl m) = absurd m
@@ -263,8 +263,13 @@ total_turned : (f : ℕ → ℕ) (lines before : List OpenLine) → total f (fla
     + total f (flat_map border_rows before)
 total_turned f [] before = omega arith
 total_turned f (l ∷ lines) before =
-    omega (arith, total_turned f lines (l ∷ before), total_append f (border_rows l) (flat_map border_rows before), total_append f (border_rows l)
-        (flat_map border_rows lines))
+    omega (
+      arith,
+      total_turned f lines (l ∷ before),
+      total_append f (border_rows l) (flat_map border_rows before),
+      total_append f (border_rows l)
+          (flat_map border_rows lines),
+    )
 
 -- how often a row is listed, by its number from 0 and from 1
 marked_before : (r x : ℕ) → 0 < x → mark r (before x) ≡ mark (suc r) x
@@ -324,7 +329,7 @@ borders_of s f lines good is_all =
     let rows : List ℕ = flat_map border_rows f.lines in
     let listed = facts_listed s f.lines d f.facts f.done.no_edge in
     let borders : AreBorder d alone = λ a c. lone_border d (filter_map mates_in f.lines) alone (filter_map (edge_in d) f.lines) (number_of is_edge f.lines) a
-          listed c in
+    listed c in
     let starts : StartApart d alone = start_apart d alone good (proper_of s f).fanned borders in
     let rings : RingFacts d alone (filter_map border_in f.lines) rows = rings_of s alone f.lines starts f.fit (λ a c. c) in
     let whole : length rows ≡ length alone = f.done.all_bordered in
@@ -337,13 +342,13 @@ borders_of s f lines good is_all =
           (λ rs m. ⊎_elim (λ e. absurd (end_border rs e)) (λ k. border_line_cycle s alone f.lines borders f.fit (λ a c. c) rs k) (among (border rs) m));
       once = λ r is_border.
           let there : Has alone (suc r) =
-                Has-from_Contains alone (suc r)
-                (border_listed d (filter_map mates_in f.lines) alone (filter_map (edge_in d) f.lines) (number_of is_edge f.lines) good listed r is_border) in
+          Has-from_Contains alone (suc r)
+          (border_listed d (filter_map mates_in f.lines) alone (filter_map (edge_in d) f.lines) (number_of is_edge f.lines) good listed r is_border) in
           let here : Has rows (suc r) = covers rows alone rings.apart (λ x m. Has-from_Contains alone x (rings.within x m)) (omega (arith, whole)) (suc r)
-                there in
+          there in
           let one : total (mark (suc r)) rows ≡ 1 = marks-one (suc r) rows rings.apart here in
           let all : total (mark (suc r)) (flat_map border_rows (turned lines [])) ≡ 1 = ap (λ ls. total (mark (suc r)) (flat_map border_rows ls)) is_all ∙ one
-              in
+          in
           let cycles : List ℕ = flat_map rows_in (filter_map cycle_in lines) in
           let counts : count_by (λ x. r == x) cycles ≡ total (mark r) cycles = count_by-total (λ x. r == x) cycles in
           omega (arith, counts, total_cycles r lines above, total_turned (mark (suc r)) lines [], all);

@@ -73,7 +73,7 @@ borders_few d cycles h =
     let n : ℕ = length d.rows in
     let into : (y : ℕ) → Has (flat cycles) y → Has (numbers_from 0 n) y =
     λ y m. let row = each_border d cycles h.each y m in let same : 0 + y ≡ y = omega arith in subst (Has (numbers_from 0 n)) same
-        (numbers_have 0 n y (slice_get_within d.rows y row.0 row.1)) in
+    (numbers_have 0 n y (slice_get_within d.rows y row.0 row.1)) in
     omega (arith, cycles_few d cycles h.each, no_longer (flat cycles) (numbers_from 0 n) h.apart into, length-numbers 0 n)
 
 -- as many rows are bordered as are the only ones of their edges
@@ -81,17 +81,22 @@ flat_count : (d : ShellRows) (ls : List ℕ) (cycles : List (List ℕ)) → AreB
     → length (flat cycles) ≡ length ls
 flat_count d ls cycles h ok bordered =
     let into : (x : ℕ) → Has (map suc (flat cycles)) x
-          → Has ls x = λ x m. let k = has_map suc (flat cycles) x m in subst (Has ls) k.2 (bordered k.0 (each_border d cycles h.each k.0 k.1)) in
+    → Has ls x = λ x m. let k = has_map suc (flat cycles) x m in subst (Has ls) k.2 (bordered k.0 (each_border d cycles h.each k.0 k.1)) in
     let back : (x : ℕ) → Has ls x → Has (map suc (flat cycles)) x = λ x m. let k = ok.each x m in subst (Has (map suc (flat cycles))) (sym k.2)
-          (map_has suc (flat cycles) k.0 (h.all k.0 (k.1, k.3, k.4))) in
-    omega (arith, no_longer (map suc (flat cycles)) ls (none_suc (flat cycles) h.apart) into, no_longer ls (map suc (flat cycles)) ok.none back, length-map
-        (flat cycles) suc)
+    (map_has suc (flat cycles) k.0 (h.all k.0 (k.1, k.3, k.4))) in
+    omega (
+      arith,
+      no_longer (map suc (flat cycles)) ls (none_suc (flat cycles) h.apart) into,
+      no_longer ls (map suc (flat cycles)) ok.none back,
+      length-map
+          (flat cycles) suc,
+    )
 
 -- The lines of a sound shell's parts fit, from the one on that names the shell.
 parts_follow : (s : SolidData) (h : Shell) (c : OpenCertificate) → IsNumberedSolid s → s.shells ≡ h ∷ [] → AreOnce (shell_of s) → IsSoundShell s h
     → AreListedParts (shell_of s) c.edges c.corners c.reach c.borders
     → Follow s (shell s.entity.0 (length (shell_of s).rows) (length (shell_of s).edges) (length (shell_of s).vertices) (shell_of s).face_count
-        (length c.borders) ∷ []) (map edge_line c.edges ++ (map corner_line c.corners ++ (map reach_line c.reach ++ (map border_line c.borders ++ end ∷ []))))
+    (length c.borders) ∷ []) (map edge_line c.edges ++ (map corner_line c.corners ++ (map reach_line c.reach ++ (map border_line c.borders ++ end ∷ []))))
 parts_follow s h c numbered alone once sound parts =
     let d : ShellRows = shell_of s in
     let b : ℕ = length c.borders in
@@ -105,28 +110,28 @@ parts_follow s h c numbered alone once sound parts =
     let reach_lines : List OpenLine = map reach_line c.reach ++ border_lines in
     let corner_lines : List OpenLine = map corner_line c.corners ++ reach_lines in
     edges_go s b small corner_lines d.edges [] c.edges [] [] _ (shell_stage s b) (omega arith)
-        (omega (arith, uses-all d.rows d.edges (rises_none d.edges edges_up) good.edges)) (any_above d.edges) edges_up parts.each_edge once.once
+    (omega (arith, uses-all d.rows d.edges (rises_none d.edges edges_up) good.edges)) (any_above d.edges) edges_up parts.each_edge once.once
     (record { none = tt; each = λ a m. absurd m }) (λ x m. inl m)
     (λ es ms ls lines stage edges_done ok listed.
     let mates : (r m : ℕ) → AreMates d r m → IsMate ms (suc r) (suc m) = listed_mates d ms ls once good listed in
     let bordered : (r : ℕ) → IsBorder d r → Has ls (suc r) = listed_border d ms ls good listed in
     corners_go s b small es ms ls differ mates bordered edges_done reach_lines d.vertices [] c.corners lines stage (omega arith) (any_above d.vertices)
-        vertices_up parts.each_vertex
+    vertices_up parts.each_vertex
     (λ vs lines' stage' corners_done.
     reach_go s b small es vs ms ls mates edges_done corners_done border_lines c.reach (0 ∷ []) [] lines' stage'
-        (omega (arith, parts.each_face.count, length-map c.reach (λ (r : RowId). r.0))) parts.each_face.order
+    (omega (arith, parts.each_face.count, length-map c.reach (λ (r : RowId). r.0))) parts.each_face.order
     (λ f m. Has-from_Contains (0 ∷ []) f m) (λ f m. Contains-from_Has (0 ∷ []) f m)
     (λ fs lines'' stage'' reach_done.
     borders_go s b small es vs fs ms ls bordered edges_done corners_done reach_done (end ∷ []) c.borders [] [] lines'' stage'' (omega arith)
-        parts.each_border.each (any_above (map suc (map first_in (map row_numbers c.borders)))) parts.each_border.rises
+    parts.each_border.each (any_above (map suc (map first_in (map row_numbers c.borders)))) parts.each_border.rises
     (λ bs rows lines''' stage''' borders_done size.
     end_fits s lines''' b es vs fs bs ms ls rows stage''' edges_done corners_done reach_done borders_done
-        (omega (arith, size, flat_count d ls (map row_numbers c.borders) parts.each_border ok bordered))))))
+    (omega (arith, size, flat_count d ls (map row_numbers c.borders) parts.each_border ok bordered))))))
 
 same_shell : (n r e c f n' r' e' c' f' b : ℕ) → n ≡ n' → r ≡ r' → e ≡ e' → c ≡ c' → f ≡ f' → shell n r e c f b ≡ shell n' r' e' c' f' b
 same_shell n r e c f n' r' e' c' f' b p q t u v =
     ap (λ x. shell x r e c f b) p
-        ∙ (ap (λ x. shell n' x e c f b) q ∙ (ap (λ x. shell n' r' x c f b) t ∙ (ap (λ x. shell n' r' e' x f b) u ∙ ap (λ x. shell n' r' e' c' x b) v)))
+    ∙ (ap (λ x. shell n' x e c f b) q ∙ (ap (λ x. shell n' r' x c f b) t ∙ (ap (λ x. shell n' r' e' x f b) u ∙ ap (λ x. shell n' r' e' c' x b) v)))
 
 -- Parts of a sound shell make a certificate.
 pub certificate_made : (s : SolidData) (h : Shell) (c : OpenCertificate) → IsNumberedSolid s → s.shells ≡ h ∷ [] → AreOnce (shell_of s)
@@ -143,11 +148,11 @@ certificate_made s h c numbered alone once all parts names rows faces =
     let same : shell s.entity.0 (length d.rows) (length d.edges) (length d.vertices) d.face_count b ≡ shell_line c =
     same_shell s.entity.0 (length d.rows) (length d.edges) (length d.vertices) d.face_count c.shell.0 c.rows (length c.edges) (length c.corners) c.faces b
     (ap (λ (x : EntryNo). x.0) (sym names)) (sym rows) (zip_length _ d.edges c.edges parts.each_edge) (zip_length _ d.vertices c.corners parts.each_vertex)
-        (sym faces) in
+    (sym faces) in
     let short : HasSpelling (shell s.entity.0 (length d.rows) (length d.edges) (length d.vertices) d.face_count b) =
-          ((numbered.number, (omega (arith, small.rows), (small.edges, (small.vertices, (small.faces, (omega (arith, few, small.rows), tt)))))), tt) in
+    ((numbered.number, (omega (arith, small.rows), (small.edges, (small.vertices, (small.faces, (omega (arith, few, small.rows), tt)))))), tt) in
     let whole : Follow s [] (further_lines c) =
-          subst (λ l. Follow s [] (l ∷ rest)) same (short, shell_fits s b, parts_follow s h c numbered alone once sound parts) in
+    subst (λ l. Follow s [] (l ∷ rest)) same (short, shell_fits s b, parts_follow s h c numbered alone once sound parts) in
     record {
       names = names;
       spelled = ((tt, tt), follow_spelled s [] (further_lines c) whole);

@@ -44,12 +44,20 @@ has_certificate s h numbered alone all =
     let reach = reach_made d whole (subst (λ n. AllByRecursion (IsReached d) (numbers_from 0 n)) (sym (faces_of_rows s h)) sound.reached) in
     let borders = borders_made d whole sound.fanned in
     let parts : AreListedParts d edges.0 corners.0 reach.0 borders.0 =
-          record { each_edge = edges.1; each_vertex = corners.1; each_face = reach.1; each_border = borders.1 } in
+    record { each_edge = edges.1; each_vertex = corners.1; each_face = reach.1; each_border = borders.1 } in
     let c : OpenCertificate =
-          record { shell = s.entity; rows = length (shell_of s).rows; edges = edges.0; corners = corners.0; faces = (shell_of s).face_count; reach =
-          reach.0; borders = borders.0 } in
+    record {
+      shell = s.entity;
+      rows = length (shell_of s).rows;
+      edges = edges.0;
+      corners = corners.0;
+      faces = (shell_of s).face_count;
+      reach =
+          reach.0;
+      borders = borders.0;
+    } in
     let made = certificate_made s h c numbered alone (subst AreOnce back whole) all
-          (subst (λ x. AreListedParts x edges.0 corners.0 reach.0 borders.0) back parts) refl refl refl in
+    (subst (λ x. AreListedParts x edges.0 corners.0 reach.0 borders.0) back parts) refl refl refl in
     (text_of (open_lines c), certificate_accepted s h c alone all made)
 
 -- A solid that is one open shell is sound exactly where some certificate is accepted for it.

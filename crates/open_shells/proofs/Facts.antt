@@ -102,8 +102,8 @@ facts_edge s lines a b good facts fits =
       edge_facts = edge_step d (shared (stand_from_latest s lines)) (filter_map mates_in lines) (filter_map lone_in lines) (filter_map (edge_in d) lines)
           (number_of is_edge lines) a b good facts.edge_facts refl fits.1;
       listed = λ all. (let h = lists_more ((asked (find is_shell lines)).0 - number_of is_edge lines) ((asked (find is_shell lines)).0)
-                             (number_of is_edge lines) (length d.edges) (2 * length (filter_map mates_in lines) + length (filter_map lone_in lines)) 2
-                             (length d.rows) refl facts.asks_edges fits.0 fits.2 all in omega (arith, h));
+          (number_of is_edge lines) (length d.edges) (2 * length (filter_map mates_in lines) + length (filter_map lone_in lines)) 2
+          (length d.rows) refl facts.asks_edges fits.0 fits.2 all in omega (arith, h));
       fan_facts = facts.fan_facts;
       reach_facts = facts.reach_facts;
       begun = facts.begun;
@@ -120,8 +120,8 @@ facts_lone s lines a good facts fits =
       edge_facts = lone_step d (stand_from_latest s lines) (filter_map mates_in lines) (filter_map lone_in lines) (filter_map (edge_in d) lines)
           (number_of is_edge lines) a good facts.edge_facts refl fits.1;
       listed = λ all. (let h = lists_more ((asked (find is_shell lines)).0 - number_of is_edge lines) ((asked (find is_shell lines)).0)
-                             (number_of is_edge lines) (length d.edges) (2 * length (filter_map mates_in lines) + length (filter_map lone_in lines)) 1
-                             (length d.rows) refl facts.asks_edges fits.0 fits.2 all in omega (arith, h));
+          (number_of is_edge lines) (length d.edges) (2 * length (filter_map mates_in lines) + length (filter_map lone_in lines)) 1
+          (length d.rows) refl facts.asks_edges fits.0 fits.2 all in omega (arith, h));
       fan_facts = facts.fan_facts;
       reach_facts = facts.reach_facts;
       begun = facts.begun;
@@ -137,7 +137,7 @@ facts_cycle s lines r rs good facts fits =
     let d : ShellRows = shell_of s in
     let h = fits.1 in
     let fan = fan_from_cycle d (shared (stand_from_latest s lines)) r rs good.meet good.exchanged facts.edge_facts.hold
-          (once_rows d good (facts_once s lines d facts fits.0.0)) h in
+    (once_rows d good (facts_once s lines d facts fits.0.0)) h in
     record {
       edge_facts = facts.edge_facts;
       listed = facts.listed;
@@ -158,7 +158,7 @@ facts_path s lines r rs good facts fits =
     let h = fits.1 in
     let all = facts_listed s lines d facts fits.0.0 in
     let fan = fan_from_path d (stand_from_latest s lines) r rs good.meet good.exchanged facts.edge_facts.hold
-          (once_rows d good (facts_once s lines d facts fits.0.0))
+    (once_rows d good (facts_once s lines d facts fits.0.0))
     (λ a c. lone_border d (filter_map mates_in lines) (filter_map lone_in lines) (filter_map (edge_in d) lines) (number_of is_edge lines) a all c) h in
     record {
       edge_facts = facts.edge_facts;
@@ -210,13 +210,31 @@ facts_reach s lines r good facts fits =
 
 facts_border : (s : SolidData) (lines : List OpenLine) (rs : List ℕ) → Facts s lines (shell_of s) → Facts s (border rs ∷ lines) (shell_of s)
 facts_border s lines rs facts =
-    record { edge_facts = facts.edge_facts; listed = facts.listed; fan_facts = facts.fan_facts; reach_facts = facts.reach_facts; begun =
-    facts.begun; asks_edges = facts.asks_edges; asks_corners = facts.asks_corners; asks_reach = facts.asks_reach }
+    record {
+      edge_facts = facts.edge_facts;
+      listed = facts.listed;
+      fan_facts = facts.fan_facts;
+      reach_facts = facts.reach_facts;
+      begun =
+          facts.begun;
+      asks_edges = facts.asks_edges;
+      asks_corners = facts.asks_corners;
+      asks_reach = facts.asks_reach;
+    }
 
 facts_end : (s : SolidData) (lines : List OpenLine) → Facts s lines (shell_of s) → Facts s (end ∷ lines) (shell_of s)
 facts_end s lines facts =
-    record { edge_facts = facts.edge_facts; listed = facts.listed; fan_facts = facts.fan_facts; reach_facts = facts.reach_facts; begun =
-    facts.begun; asks_edges = facts.asks_edges; asks_corners = facts.asks_corners; asks_reach = facts.asks_reach }
+    record {
+      edge_facts = facts.edge_facts;
+      listed = facts.listed;
+      fan_facts = facts.fan_facts;
+      reach_facts = facts.reach_facts;
+      begun =
+          facts.begun;
+      asks_edges = facts.asks_edges;
+      asks_corners = facts.asks_corners;
+      asks_reach = facts.asks_reach;
+    }
 
 false_is_not_true : false ≡ true → ⊥
 false_is_not_true h = cc

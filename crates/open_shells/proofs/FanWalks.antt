@@ -139,7 +139,7 @@ back_early d v first count (x ∷ xs) at whole start counted some early back w f
     let t : Trail (Turns d) first xs first = subst (λ y. Trail (Turns d) first xs y) back w.1 in
     let into : (y : ℕ) → StartsAt d v y → Has (first ∷ xs) y =
     λ y at_y. ⊎_elim (λ c. on_trail (Turns d) (turn_one d whole) first xs t c.0 first y (inl refl) c.1)
-        (λ c. back_on_trail (Turns d) (turn_apart d whole) first xs t c.0 y first (inl refl) c.1) (fan.one_fan first y start at_y) in
+    (λ c. back_on_trail (Turns d) (turn_apart d whole) first xs t c.0 y first (inl refl) c.1) (fan.one_fan first y start at_y) in
     too_few d v (first ∷ xs) into (omega (arith, early, counted, counted_rows d v))
 
 -- A trail read from its end.
@@ -164,7 +164,7 @@ not_back d v first count (x ∷ xs) at whole start counted some long away at_v w
     let apart : NoRepeat (first ∷ at ∷ k.0) = ((λ h. ⊎_elim away (λ m. w.2 (k.3 first m)) h), none) in
     too_many d v (first ∷ at ∷ k.0) apart
     (λ y m. ⊎_elim (λ e. subst (StartsAt d v) e start)
-        (λ j. ⊎_elim (λ e. subst (StartsAt d v) e at_v) (λ h. each_on d whole v first xs at w.1 start y (inr (k.3 y h))) j) m)
+    (λ j. ⊎_elim (λ e. subst (StartsAt d v) e at_v) (λ h. each_on d whole v first xs at w.1 start y (inr (k.3 y h))) j) m)
     (omega (arith, long, counted, counted_rows d v, k.2))
 
 -- The walk came back with all rows of the vertex.
@@ -229,7 +229,7 @@ no_border : (d : ShellRows) (v b : ℕ) → AreOnce d → ((x : ℕ) → StartsA
 no_border d v b whole each start border =
     let k = chain_before d v b whole each start (length (rows_at d v)) in
     let none : NoRepeat (k.0 ∷ k.1) =
-          chain_no_repeat (Turns d) (turn_one d whole) k.0 k.1 k.2 (λ w t. border_stuck d b w border (subst (λ y. Turns d y w) k.3 t)) in
+    chain_no_repeat (Turns d) (turn_one d whole) k.0 k.1 k.2 (λ w t. border_stuck d b w border (subst (λ y. Turns d y w) k.3 t)) in
     too_many d v (k.0 ∷ k.1) none k.5 (omega (arith, k.4))
 
 -- the chain of the rows passed so far, and of the row at hand
@@ -270,8 +270,14 @@ path_whole d v first count rs all at whole start counted long border w is_all no
         (at_listed d v y at_y)
 
     path : IsPath d v first k.0
-    path = record { starts = All-from (StartsAt d v) (first ∷ k.0) each; once = omega (arith, many, counted); turns = k.2; ends =
-        subst (IsBorder d) (sym k.3) border; no_point = none }
+    path = record {
+      starts = All-from (StartsAt d v) (first ∷ k.0) each;
+      once = omega (arith, many, counted);
+      turns = k.2;
+      ends =
+          subst (IsBorder d) (sym k.3) border;
+      no_point = none;
+    }
 
     fan : IsFan d v
     fan = record { some = (first, start); one_fan = λ a b at_a at_b. chain_leads (Turns d) first k.0 k.2 a b (all_in a at_a) (all_in b at_b); no_point = none }
@@ -298,7 +304,7 @@ path_short d v first count (Some h) rs at whole start head begins counted short 
     let into : (y : ℕ) → StartsAt d v y → Has (first ∷ k.0) y =
     λ y at_y. ⊎_elim (λ c. subst (Has (first ∷ k.0)) (stays d at y border c) last_in)
     (λ c. back_on_chain (Turns d) (turn_apart d whole) first k.0 k.2 (λ t r. head.1 t (subst (Turns d t) (sym begins) r)) c.0 y at last_in c.1)
-        (fan.one_fan at y at_v at_y) in
+    (fan.one_fan at y at_v at_y) in
     too_few d v (first ∷ k.0) into (omega (arith, many, short, counted, counted_rows d v))
   where
     has_end : (x : ℕ) (xs : List ℕ) → Has (x ∷ xs) (last_of x xs)

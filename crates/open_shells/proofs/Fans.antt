@@ -40,8 +40,8 @@ one_mate_of d once r m k a b =
     let way_a : a.mate.along ≡ not a.row.along = not-not a.row.along a.mate.along a.opposite in
     let way_b : b.mate.along ≡ not a.row.along = not-not b.row.along b.mate.along b.opposite ∙ ap not (sym (ap (λ (x : Row). x.along) same)) in
     one_of_edge d a.row.edge.0 (not a.row.along) m k a.mate b.mate
-        (way_one d a.row.edge.0 (not a.row.along) one (counted_way d a.row.edge.0 (not a.row.along) m a.mate a.at_m edge_a way_a)) a.at_m b.at_m edge_a edge_b
-        way_a way_b
+    (way_one d a.row.edge.0 (not a.row.along) one (counted_way d a.row.edge.0 (not a.row.along) m a.mate a.at_m edge_a way_a)) a.at_m b.at_m edge_a edge_b
+    way_a way_b
 
 pub one_mate : (d : ShellRows) → OnceRows d → (r m k : ℕ) → AreNamedMates d r m → AreNamedMates d r k → m ≡ k
 one_mate d once zero m k a b = absurd (let h : None ≡ Some a.row = a.at_r in cc)
@@ -184,7 +184,7 @@ fan_from_path d at r rs meet exchanged hold once lone h =
     let R : ℕ → ℕ → Type 0 = TurnsTo d at.mates in
     let end = lone (last_of r rs) h.ends in
     let none : NoRepeat (r ∷ rs) = chain_no_repeat R (turns_one d at.mates hold once) r rs h.turns
-          (λ w t. lone_no_turn d at.mates hold (last_of r rs) w end.0 end.1 end.2 t) in
+    (λ w t. lone_no_turn d at.mates hold (last_of r rs) w end.0 end.1 end.2 t) in
     let start : (x : ℕ) → Has (r ∷ rs) x → StartsNamed d h.vertex x = path_starts d at.mates meet exchanged hold h.vertex r rs end.0 h.turns end.1 h.lies_at in
     let few : length (starting h.vertex 1 d.rows) ≤ length (r ∷ rs) =
     omega (arith, h.whole, length-starting h.vertex 1 d.rows, count_by-total (λ (x : Row). x.from.0 == h.vertex) d.rows) in

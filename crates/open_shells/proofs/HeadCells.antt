@@ -49,8 +49,12 @@ heads_more d i c new row (Some h) P t at no_border is_border e = subst (HeadsNot
 pub heads_all : (d : ShellRows) (i : ℕ) (c : Celled (Option ℕ)) → AreOnce d → length d.rows ≤ i → HeadsNoted d i c
     → ((m : ℕ) (a : Row) → slice_get d.rows m ≡ Some a → IsBorder d m ⊎ ((t : ℕ) × AreMates d m t)) → AreHeadCells d c
 heads_all d i c whole past t decide =
-    record { span = t.on.span; blank = t.on.blank_is; all = λ v within. head_done d i v (get_or c.cells (v - c.span.least) None) whole past (t.each v within)
-    decide }
+    record {
+      span = t.on.span;
+      blank = t.on.blank_is;
+      all = λ v within. head_done d i v (get_or c.cells (v - c.span.least) None) whole past (t.each v within)
+          decide;
+    }
 
 pub head_there : (d : ShellRows) (c : Celled (Option ℕ)) (v : ℕ) (o : Option ℕ) → AreHeadCells d c → IsWithin c.span v → o ≡ cell_of c v → IsHeadOf d v o
 head_there d c v o h within e = subst (IsHeadOf d v) (sym (e ∙ ap (λ b. get_or c.cells (v - c.span.least) b) h.blank)) (h.all v within)

@@ -47,7 +47,7 @@ head_away d i v row (Some h) at away before = before
 pub heads_noted : (d : ShellRows) (i : ℕ) (span : Span) (row : Row) (h : ℕ) (old new : List (Option ℕ)) → slice_get d.rows i ≡ Some row
     → IsWithin span row.to.0 → length old ≡ span.count → IsBorder d i → Follows d i h → new ≡ slice_set old (row.to.0 - span.least) (Some h)
     → ((v : ℕ) → IsWithin span v → HeadBefore d i v (get_or old (v - span.least) None)) → (v : ℕ) → IsWithin span v
-        → HeadBefore d (i + 1) v (get_or new (v - span.least) None)
+    → HeadBefore d (i + 1) v (get_or new (v - span.least) None)
 heads_noted d i span row h old new at within long border follows is_new before v low = by_vertex (eqb_tells row.to.0 v)
   where
     k : ℕ
@@ -58,18 +58,18 @@ heads_noted d i span row h old new at within long border follows is_new before v
     by_vertex (inl y) =
         let place : v - span.least ≡ row.to.0 - span.least = ap (λ n. n - span.least) (sym y.1) in
         let e : get_or new (v - span.least) None ≡ Some h = ap (λ xs. get_or xs (v - span.least) None) is_new
-              ∙ (ap (λ n. get_or (slice_set old (row.to.0 - span.least) (Some h)) n None) place ∙ set_same old (row.to.0 - span.least) (Some h) None
-              (omega (arith, within.0, within.1, long))) in
+        ∙ (ap (λ n. get_or (slice_set old (row.to.0 - span.least) (Some h)) n None) place ∙ set_same old (row.to.0 - span.least) (Some h) None
+        (omega (arith, within.0, within.1, long))) in
         subst (HeadBefore d (i + 1) v) (sym e) (i, border, follows, (row, at, y.1))
     by_vertex (inr n) =
         let other : row.to.0 - span.least ≢ v - span.least = λ e. n.1 (omega (arith, e, within.0, low.0)) in
         let e : get_or new (v - span.least) None ≡ get_or old (v - span.least) None = ap (λ xs. get_or xs (v - span.least) None) is_new
-              ∙ set_other old (row.to.0 - span.least) (v - span.least) (Some h) None other in
+        ∙ set_other old (row.to.0 - span.least) (v - span.least) (Some h) None other in
         subst (HeadBefore d (i + 1) v) (sym e) (head_away d i v row (get_or old (v - span.least) None) at n.1 (before v low))
 
 pub heads_kept : (d : ShellRows) (i : ℕ) (span : Span) (old new : List (Option ℕ)) → (IsBorder d i → ⊥) → new ≡ old
     → ((v : ℕ) → IsWithin span v → HeadBefore d i v (get_or old (v - span.least) None)) → (v : ℕ) → IsWithin span v
-        → HeadBefore d (i + 1) v (get_or new (v - span.least) None)
+    → HeadBefore d (i + 1) v (get_or new (v - span.least) None)
 heads_kept d i span old new no_border same before v low = subst (λ xs. HeadBefore d (i + 1) v (get_or xs (v - span.least) None)) (sym same)
     (head_other d i v (get_or old (v - span.least) None) no_border (before v low))
 

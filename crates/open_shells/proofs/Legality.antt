@@ -18,7 +18,7 @@ good_bad : (s : SolidData) (before : List OpenLine) (bytes : List ℕ) (l : Open
     → FitsLine s (stand_from_latest s before) l → IsBadLine s before bytes bad → ⊥
 good_bad s before bytes l bad is_l fits b =
     ⊎_elim (λ misspelt. misspelt.0 l is_l)
-        (λ unfit. unfit.0.2 (subst (FitsLine s (stand_from_latest s before)) (line_one bytes l unfit.0.0 is_l unfit.0.1) fits)) b
+    (λ unfit. unfit.0.2 (subst (FitsLine s (stand_from_latest s before)) (line_one bytes l unfit.0.0 is_l unfit.0.1) fits)) b
 
 -- a line is bad in one way
 one_badness : (s : SolidData) (before : List OpenLine) (bytes : List ℕ) (x y : Illegal) → IsBadLine s before bytes x → IsBadLine s before bytes y → x ≡ y

@@ -16,7 +16,7 @@ rows_more marks rows zero pos within holds r = absurd (omega (arith, pos))
 rows_more marks rows (suc k) pos within holds r =
     let place : suc k - 1 ≡ k = omega arith in
     subst (λ n. (Contains (suc k ∷ rows) r → IsMarked (slice_set marks n true) r) × (IsMarked (slice_set marks n true) r → Contains (suc k ∷ rows) r))
-        (sym place) (to r, from r)
+    (sym place) (to r, from r)
   where
     was : (x : ℕ) → Has rows x → IsMarked (slice_set marks k true) x
     was x m = by_row x ((holds x).0 (Contains-from_Has rows x m))

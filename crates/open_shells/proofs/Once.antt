@@ -81,8 +81,12 @@ edge_step d at mates alone es n a b good facts last h =
     let listed : row_edge (row_named d a) ≡ Some e = ap row_edge h.at_a in
     let here : IsEntry d (e, 2) = record {
       known = named_has (λ (r : Row). Has d.edges r.edge.0) d a h.along_row good.edges h.at_a;
-      ways = inr (refl, along_here d a h.along_row e h.at_a refl h.along, against_here d b h.against_row e h.at_b (ap (λ (x : EdgeId). x.0) (sym h.one_edge))
-          h.against);
+      ways = inr (
+        refl,
+        along_here d a h.along_row e h.at_a refl h.along,
+        against_here d b h.against_row e h.at_b (ap (λ (x : EdgeId). x.0) (sym h.one_edge))
+            h.against,
+      );
     } in
     subst (λ o. EdgeFacts d ((a, b) ∷ mates) alone (cons_option o es) (suc n)) (sym listed) (record {
       falls = (falls_more es e (subst (λ o. IsAbove o e) last h.rises) facts.falls, facts.falls);
@@ -155,8 +159,8 @@ from_map (x ∷ xs) e (inr h) = let k = from_map xs e h in (k.0, inr k.1, k.2)
 pub all_once : (d : ShellRows) (mates : List (ℕ × ℕ)) (alone es : List ℕ) (n : ℕ) → AreListed d mates alone es n → (e : ℕ) → Has d.edges e → IsOnce d e
 all_once d mates alone es n h e m =
     let into : (x : ℕ) → Has es x
-          → Has d.edges x = λ x k.
-          (let y = from_map h.facts.entries x (subst (λ xs. Has xs x) (sym h.facts.edges_are) k) in subst (Has d.edges) y.2 (h.facts.each y.0 y.1).known) in
+    → Has d.edges x = λ x k.
+    (let y = from_map h.facts.entries x (subst (λ xs. Has xs x) (sym h.facts.edges_are) k) in subst (Has d.edges) y.2 (h.facts.each y.0 y.1).known) in
     let listed : Has es e = covers es d.edges (falls_none es h.facts.falls) into (omega (arith, h.facts.number, h.each_edge)) e m in
     let x = from_map h.facts.entries e (subst (λ xs. Has xs e) (sym h.facts.edges_are) listed) in
     subst (IsOnce d) x.2 (by_ways x.0 (exact d mates alone es n h x.0 x.1) (h.facts.each x.0 x.1).ways)
@@ -195,8 +199,8 @@ pub border_listed : (d : ShellRows) (mates : List (ℕ × ℕ)) (alone es : List
 border_listed d mates alone es n good h r (row, at, one) =
     let e : ℕ = row.edge.0 in
     let into : (x : ℕ) → Has es x
-          → Has d.edges x = λ x k.
-          (let y = from_map h.facts.entries x (subst (λ xs. Has xs x) (sym h.facts.edges_are) k) in subst (Has d.edges) y.2 (h.facts.each y.0 y.1).known) in
+    → Has d.edges x = λ x k.
+    (let y = from_map h.facts.entries x (subst (λ xs. Has xs x) (sym h.facts.edges_are) k) in subst (Has d.edges) y.2 (h.facts.each y.0 y.1).known) in
     let known : Has d.edges e = row_has (λ (x : Row). Has d.edges x.edge.0) d.rows r row good.edges at in
     let listed : Has es e = covers es d.edges (falls_none es h.facts.falls) into (omega (arith, h.facts.number, h.each_edge)) e known in
     let x = from_map h.facts.entries e (subst (λ xs. Has xs e) (sym h.facts.edges_are) listed) in
@@ -209,4 +213,4 @@ border_listed d mates alone es n good h r (row, at, one) =
     same_row (suc k) x at_a is_e =
         let p : Row → Bool = λ y. y.edge.0 == row.edge.0 in
         ap suc (one_place p d.rows (sym (count_by-total p d.rows) ∙ one) k r x row at_a at (eq-eqb x.edge.0 row.edge.0 is_e)
-            (eq-eqb row.edge.0 row.edge.0 refl))
+        (eq-eqb row.edge.0 row.edge.0 refl))

@@ -115,7 +115,7 @@ pub mate_pushed : (d : ShellRows) (i : ℕ) (old new : List (Option RowId)) (mat
     → ((r : ℕ) (o : Option RowId) → slice_get old r ≡ Some o → IsMateOf d r o) → (r : ℕ) (o : Option RowId) → slice_get new r ≡ Some o → IsMateOf d r o
 mate_pushed d i old new mate long is_mate e all r o at =
     ⊎_elim (λ h. all r o h) (λ h. subst (IsMateOf d r) h.1 (subst (λ n. IsMateOf d n mate) (sym (h.0 ∙ long)) is_mate))
-        (get_pushed_of old mate r o (ap (λ xs. slice_get xs r) (sym e) ∙ at))
+    (get_pushed_of old mate r o (ap (λ xs. slice_get xs r) (sym e) ∙ at))
 
 -- each row is a border row or has a mate
 pub border_or_mate : (d : ShellRows) → AreOnce d → (m : ℕ) (a : Row) → slice_get d.rows m ≡ Some a → IsBorder d m ⊎ ((t : ℕ) × AreMates d m t)

@@ -75,10 +75,10 @@ hold_from_sound s shell sound =
     (as_open_hold Join (join_obligations s shell)
     (of_each-AllHold (λ (p : PlacedLoop). loop_obligations s p.loop) (placed_loops shell)
     (AllByRecursion-weaker (λ (p : PlacedLoop). IsJoined s p.loop) (λ (p : PlacedLoop). AllHoldClosed (loop_obligations s p.loop)) (placed_loops shell)
-        (λ p. hold_from_joined s p.loop) sound.joined)))
+    (λ p. hold_from_joined s p.loop) sound.joined)))
     (hold_map (edge_obligation s d) d.edges sound.once))
     (as_open_hold Reach (reach_obligations shell d)
-        (map-AllHold _ (enumerate_from 0 shell.faces) (enumerated_from_numbered (IsReached d) 0 shell.faces sound.reached))))
+    (map-AllHold _ (enumerate_from 0 shell.faces) (enumerated_from_numbered (IsReached d) 0 shell.faces sound.reached))))
     (hold_map (fan_obligation s d) d.vertices sound.fanned)
 
 pub sound_from_hold : (s : SolidData) (shell : Shell) → AllHold (open_shell_obligations s shell) → IsSoundShell s shell
@@ -95,7 +95,7 @@ sound_from_hold s shell all =
       joined = AllByRecursion-weaker (λ (p : PlacedLoop). AllHoldClosed (loop_obligations s p.loop)) (λ (p : PlacedLoop). IsJoined s p.loop)
           (placed_loops shell) (λ p. joined_from_hold s p.loop)
           (AllHold-of_each (λ (p : PlacedLoop). loop_obligations s p.loop) (placed_loops shell)
-              (hold_as_open Join (join_obligations s shell) (hold_left a b ab)));
+          (hold_as_open Join (join_obligations s shell) (hold_left a b ab)));
       once = map_hold (edge_obligation s d) d.edges (hold_right a b ab);
       reached = numbered_from_enumerated (IsReached d) 0 shell.faces
           (AllHold-map _ (enumerate_from 0 shell.faces) (hold_as_open Reach (reach_obligations shell d) (hold_right (a ++ b) c abc)));

@@ -52,7 +52,7 @@ unfolding open_place
 joins_fail s h at place x u named =
     let there = open_place s h at place u in
     of_each_fails (λ (p : PlacedLoop). IsJoined s p.loop) (λ (p : PlacedLoop). loop_obligations s p.loop) (λ p. hold_from_joined s p.loop) (placed_loops h)
-        u.placed x u.first
+    u.placed x u.first
     (subst (FirstFalseClosed (loop_obligations s u.placed.loop)) (sym (named u.placed there.1 u.is_at)) u.is_place)
 
 faces_hold : (d : ShellRows) (base : ℕ) (fs : List FaceUse) → AllByRecursion (IsReached d) (numbers_from base (length fs))
@@ -70,8 +70,11 @@ faces_fail : (d : ShellRows) (base : ℕ) (fs : List FaceUse) (f : ℕ) (x : Fai
 faces_fail d base [] f x h named = absurd h
 faces_fail d base (g ∷ fs) f x h named =
     ⊎_elim (λ here. let e : base ≡ base + 0 = omega arith in inl (here.0, named g 0 (here.1 ∙ e) refl))
-    (λ rest. inr (rest.0, faces_fail d (base + 1) fs f x rest.1
-        (λ y i e at. let same : base + 1 + i ≡ base + suc i = omega arith in named y (suc i) (e ∙ same) at))) h
+    (λ rest. inr (
+      rest.0,
+      faces_fail d (base + 1) fs f x rest.1
+          (λ y i e at. let same : base + 1 + i ≡ base + suc i = omega arith in named y (suc i) (e ∙ same) at),
+    )) h
 
 reaches_fail : (h : Shell) (d : ShellRows) (f : ℕ) (x : Failing) → d.face_count ≡ length h.faces → FirstNot (IsReached d) (numbers_from 0 d.face_count) f
     → ((g : FaceUse) → slice_get h.faces f ≡ Some g → x ≡ failing Unreached g.entity.0 0) → FirstFalseClosed (reach_obligations h d) x
@@ -105,11 +108,11 @@ unfolding open_place
 join_fails s h at place x u named =
     let there = open_place s h at place u in
     let bad = joins_fail s h at place (failing Unjoined u.placed.loop.entity.0 place) u
-          (λ p c same. let a = named p c same in let b = named u.placed there.1 u.is_at in
+    (λ p c same. let a = named p c same in let b = named u.placed there.1 u.is_at in
     let e : open_failing Join p.loop.entity place ≡ open_failing Join u.placed.loop.entity place = sym a ∙ b in
     ap (λ (z : OpenFailing). failing Unjoined z.entity.0 place) (sym e)) in
     subst (FirstFalse (map (as_open Join) (join_obligations s h))) (sym (named u.placed there.1 u.is_at))
-        (as_open_false Join (join_obligations s h) (failing Unjoined u.placed.loop.entity.0 place) bad)
+    (as_open_false Join (join_obligations s h) (failing Unjoined u.placed.loop.entity.0 place) bad)
 
 pub join_holds : (s : SolidData) (h : Shell) → AllHoldClosed (join_obligations s h) → AllHold (map (as_open Join) (join_obligations s h))
 join_holds s h all = as_open_hold Join (join_obligations s h) all
@@ -141,7 +144,7 @@ reach_fails h d f x count bad named =
     let e : open_failing Reach g.entity 0 ≡ open_failing Reach there.0.entity 0 = sym (named g at) ∙ named there.0 there.1 in
     ap (λ (z : OpenFailing). failing Unreached z.entity.0 0) (sym e)) in
     subst (FirstFalse (map (as_open Reach) (reach_obligations h d))) (sym (named there.0 there.1))
-        (as_open_false Reach (reach_obligations h d) (failing Unreached there.0.entity.0 0) first)
+    (as_open_false Reach (reach_obligations h d) (failing Unreached there.0.entity.0 0) first)
 
 -- The rules in order.
 
@@ -155,7 +158,7 @@ module _ (s : SolidData) (h : Shell) (d : ShellRows) (is : d ≡ shell_rows s h)
   joined_not x bad =
       let r : ShellRows = shell_rows s h in
       false_front (map (as_open Join) (join_obligations s h) ++ map (edge_obligation s r) r.edges ++ map (as_open Reach) (reach_obligations h r))
-          (map (fan_obligation s r) r.vertices) x
+      (map (fan_obligation s r) r.vertices) x
       (false_front (map (as_open Join) (join_obligations s h) ++ map (edge_obligation s r) r.edges) (map (as_open Reach) (reach_obligations h r)) x
       (false_front (map (as_open Join) (join_obligations s h)) (map (edge_obligation s r) r.edges) x bad))
 
@@ -166,7 +169,7 @@ module _ (s : SolidData) (h : Shell) (d : ShellRows) (is : d ≡ shell_rows s h)
       let r : ShellRows = shell_rows s h in
       fault_of (map (edge_obligation s r) r.edges) (open_shell_obligations s h)
       (λ x b. false_front (map (as_open Join) (join_obligations s h) ++ map (edge_obligation s r) r.edges ++ map (as_open Reach) (reach_obligations h r))
-          (map (fan_obligation s r) r.vertices) x
+      (map (fan_obligation s r) r.vertices) x
       (false_front (map (as_open Join) (join_obligations s h) ++ map (edge_obligation s r) r.edges) (map (as_open Reach) (reach_obligations h r)) x
       (false_rest (map (as_open Join) (join_obligations s h)) (map (edge_obligation s r) r.edges) x joins b)))
       e (subst (λ z. IsOpenFault (map (edge_obligation s z) z.edges) e) is bad)
@@ -177,10 +180,10 @@ module _ (s : SolidData) (h : Shell) (d : ShellRows) (is : d ≡ shell_rows s h)
   reached_not joins edges e bad =
       let r : ShellRows = shell_rows s h in
       let front = hold_append (map (as_open Join) (join_obligations s h)) (map (edge_obligation s r) r.edges) joins
-            (subst (λ z. AllHold (map (edge_obligation s z) z.edges)) is edges) in
+      (subst (λ z. AllHold (map (edge_obligation s z) z.edges)) is edges) in
       fault_of (map (as_open Reach) (reach_obligations h r)) (open_shell_obligations s h)
       (λ x b. false_front (map (as_open Join) (join_obligations s h) ++ map (edge_obligation s r) r.edges ++ map (as_open Reach) (reach_obligations h r))
-          (map (fan_obligation s r) r.vertices) x
+      (map (fan_obligation s r) r.vertices) x
       (false_rest (map (as_open Join) (join_obligations s h) ++ map (edge_obligation s r) r.edges) (map (as_open Reach) (reach_obligations h r)) x front b))
       e (subst (λ z. IsOpenFault (map (as_open Reach) (reach_obligations h z)) e) is bad)
 
@@ -191,12 +194,12 @@ module _ (s : SolidData) (h : Shell) (d : ShellRows) (is : d ≡ shell_rows s h)
   fanned_not joins edges reach e bad =
       let r : ShellRows = shell_rows s h in
       let front = hold_append (map (as_open Join) (join_obligations s h)) (map (edge_obligation s r) r.edges) joins
-            (subst (λ z. AllHold (map (edge_obligation s z) z.edges)) is edges) in
+      (subst (λ z. AllHold (map (edge_obligation s z) z.edges)) is edges) in
       let more = hold_append (map (as_open Join) (join_obligations s h) ++ map (edge_obligation s r) r.edges) (map (as_open Reach) (reach_obligations h r))
-            front (subst (λ z. AllHold (map (as_open Reach) (reach_obligations h z))) is reach) in
+      front (subst (λ z. AllHold (map (as_open Reach) (reach_obligations h z))) is reach) in
       fault_of (map (fan_obligation s r) r.vertices) (open_shell_obligations s h)
       (λ x b. false_rest (map (as_open Join) (join_obligations s h) ++ map (edge_obligation s r) r.edges ++ map (as_open Reach) (reach_obligations h r))
-          (map (fan_obligation s r) r.vertices) x more b)
+      (map (fan_obligation s r) r.vertices) x more b)
       e (subst (λ z. IsOpenFault (map (fan_obligation s z) z.vertices) e) is bad)
 
   pub all_hold : AllHold (map (as_open Join) (join_obligations s h)) → AllHold (map (edge_obligation s d) d.edges)
@@ -205,8 +208,8 @@ module _ (s : SolidData) (h : Shell) (d : ShellRows) (is : d ≡ shell_rows s h)
   all_hold joins edges reach fans =
       let r : ShellRows = shell_rows s h in
       let front = hold_append (map (as_open Join) (join_obligations s h)) (map (edge_obligation s r) r.edges) joins
-            (subst (λ z. AllHold (map (edge_obligation s z) z.edges)) is edges) in
+      (subst (λ z. AllHold (map (edge_obligation s z) z.edges)) is edges) in
       let more = hold_append (map (as_open Join) (join_obligations s h) ++ map (edge_obligation s r) r.edges) (map (as_open Reach) (reach_obligations h r))
-            front (subst (λ z. AllHold (map (as_open Reach) (reach_obligations h z))) is reach) in
+      front (subst (λ z. AllHold (map (as_open Reach) (reach_obligations h z))) is reach) in
       hold_append (map (as_open Join) (join_obligations s h) ++ map (edge_obligation s r) r.edges ++ map (as_open Reach) (reach_obligations h r))
-          (map (fan_obligation s r) r.vertices) more (subst (λ z. AllHold (map (fan_obligation s z) z.vertices)) is fans)
+      (map (fan_obligation s r) r.vertices) more (subst (λ z. AllHold (map (fan_obligation s z) z.vertices)) is fans)

@@ -56,7 +56,7 @@ placed_one shell p q h k face place =
     let place_l : l.0.0 ≡ p.at.place = ap (λ (r : PlacedLoop). r.at.place) l.2 in
     let place_m : m.0.0 ≡ q.at.place = ap (λ (r : PlacedLoop). r.at.place) m.2 in
     let one_loop : l.0 ≡ m.0 = enum_one g.0.1.loops l.0 m.0 (subst (λ (z : ℕ × FaceUse). Has (enumerate_from 0 z.1.loops) l.0) one_face l.1) m.1
-          (place_l ∙ (place ∙ sym place_m)) in
+    (place_l ∙ (place ∙ sym place_m)) in
     sym l.2 ∙ (ap (λ (z : ℕ × FaceUse). make z l.0) one_face ∙ (ap (λ z. make g.0 z) one_loop ∙ m.2))
   where
     make : ℕ × FaceUse → ℕ × Loop → PlacedLoop
@@ -111,8 +111,15 @@ loops_size : (s : SolidData) (ps : List PlacedLoop)
 loops_size s [] = omega arith
 loops_size s (p ∷ ps) =
     let points : PlacedLoop → List (LoopAt × ℕ) = λ q. point_of q q.loop.uses (map (λ (r : Row). r.edge.0) (loop_rows s q)) in
-    omega (arith, loop_size s p p.loop.uses, loops_size s ps, length-append (loop_rows s p) (flat_map (loop_rows s) ps), length-append (points p)
-        (flat_map points ps), length-append p.loop.uses (flat_map (λ (q : PlacedLoop). q.loop.uses) ps))
+    omega (
+      arith,
+      loop_size s p p.loop.uses,
+      loops_size s ps,
+      length-append (loop_rows s p) (flat_map (loop_rows s) ps),
+      length-append (points p)
+          (flat_map points ps),
+      length-append p.loop.uses (flat_map (λ (q : PlacedLoop). q.loop.uses) ps),
+    )
 
 rows_and_points : (s : SolidData) (h : Shell) → length (shell_rows s h).rows + length (shell_rows s h).points ≤ length (shell_uses h)
 unfolding shell_rows
@@ -126,11 +133,17 @@ vertices_size d rises fanned =
     let into : (v : ℕ) → Has d.vertices v → Has (starts ++ lone) v =
     λ v m. ⊎_elim
     (λ c. has_left starts lone v
-        (subst (Has starts) c.some.1.2 (map_has (λ (r : Row). r.from.0) d.rows c.some.1.0 (has_get d.rows c.some.0 c.some.1.0 c.some.1.1))))
+    (subst (Has starts) c.some.1.2 (map_has (λ (r : Row). r.from.0) d.rows c.some.1.0 (has_get d.rows c.some.0 c.some.1.0 c.some.1.1))))
     (λ p. has_right starts lone v (point_there v p.one_point))
     (All-at (IsFanned d) d.vertices fanned v m) in
-    omega (arith, no_longer d.vertices (starts ++ lone) (rises_none d.vertices rises) into, length-append starts lone, length-map d.rows
-        (λ (r : Row). r.from.0), length-map d.points (λ (p : LoopAt × ℕ). p.1))
+    omega (
+      arith,
+      no_longer d.vertices (starts ++ lone) (rises_none d.vertices rises) into,
+      length-append starts lone,
+      length-map d.rows
+          (λ (r : Row). r.from.0),
+      length-map d.points (λ (p : LoopAt × ℕ). p.1),
+    )
   where
     point_there : (v : ℕ) → point_count d v ≡ 1 → Has (map (λ (p : LoopAt × ℕ). p.1) d.points) v
     point_there v one =

@@ -124,13 +124,22 @@ module _ (s : SolidData) (lines : List OpenLine) (b : ℕ) (es vs fs bs : List �
   pub edge_fits : (a c e : ℕ) (x y : Row) → length es < length (shell_of s).edges → row_named (shell_of s) a ≡ Some x → row_named (shell_of s) c ≡ Some y
       → x.edge.0 ≡ e → x.edge ≡ y.edge → x.along ≡ true → y.along ≡ false → IsAbove (first_of es) e
       → (length (shell_of s).edges ≡ suc (length es) → 2 * length ms + length ls + 2 ≡ length (shell_of s).rows)
-          → FitsLine s (stand_from_latest s lines) (edge a c)
+      → FitsLine s (stand_from_latest s lines) (edge a c)
   edge_fits a c e x y left at_a at_c is_e same along against above last = (
     not_ended,
     (
       omega (arith, left, edges_left),
-      record { along_row = x; against_row = y; at_a = at_a; at_b = at_c; one_edge = same; along = along; against = against; rises =
-          subst (λ o. IsAbove o x.edge.0) (sym edge_before) (subst (λ n. IsAbove (first_of es) n) (sym is_e) above) },
+      record {
+        along_row = x;
+        against_row = y;
+        at_a = at_a;
+        at_b = at_c;
+        one_edge = same;
+        along = along;
+        against = against;
+        rises =
+            subst (λ o. IsAbove o x.edge.0) (sym edge_before) (subst (λ n. IsAbove (first_of es) n) (sym is_e) above);
+      },
       λ due. let l = last (omega (arith, due, left, edges_left)) in omega (arith, l, listed_before),
     ),
   )
@@ -157,7 +166,7 @@ module _ (s : SolidData) (lines : List OpenLine) (b : ℕ) (es vs fs bs : List �
   -- a line for an edge with one row
   pub lone_fits : (a e : ℕ) (x : Row) → length es < length (shell_of s).edges → row_named (shell_of s) a ≡ Some x → x.edge.0 ≡ e → IsAbove (first_of es) e
       → (length (shell_of s).edges ≡ suc (length es) → 2 * length ms + length ls + 1 ≡ length (shell_of s).rows)
-          → FitsLine s (stand_from_latest s lines) (lone a)
+      → FitsLine s (stand_from_latest s lines) (lone a)
   lone_fits a e x left at_a is_e above last = (
     not_ended,
     (
@@ -189,27 +198,42 @@ module _ (s : SolidData) (lines : List OpenLine) (b : ℕ) (es vs fs bs : List �
   pub cycle_fits : (v r : ℕ) (rs : List ℕ) → length (shell_of s).edges ≤ length es → length vs < length (shell_of s).vertices
       → row_start (row_named (shell_of s) r) ≡ Some v → AllZip (TurnsTo (shell_of s) ms) (r ∷ rs) (next_of_each (r ∷ rs)) → AllByRecursion (λ x. r < x) rs
       → length (r ∷ rs) ≡ start_count (shell_of s) v → point_count (shell_of s) v ≡ 0 → IsAbove (first_of vs) v
-          → FitsLine s (stand_from_latest s lines) (cycle (r ∷ rs))
+      → FitsLine s (stand_from_latest s lines) (cycle (r ∷ rs))
   cycle_fits v r rs edges_done left starts turns least whole no_point above = (
     not_ended,
     (
       (omega (arith, edges_done, edges_left), omega (arith, left, corners_left)),
-      record { vertex = v; lies_at = starts; turns = subst (λ m. AllZip (TurnsTo (shell_of s) m) (r ∷ rs) (next_of_each (r ∷ rs))) (sym mates_before) turns;
-          least = least; whole = whole; no_point = no_point; rises = subst (λ o. IsAbove o v) (sym vertex_before) above },
+      record {
+        vertex = v;
+        lies_at = starts;
+        turns = subst (λ m. AllZip (TurnsTo (shell_of s) m) (r ∷ rs) (next_of_each (r ∷ rs))) (sym mates_before) turns;
+        least = least;
+        whole = whole;
+        no_point = no_point;
+        rises = subst (λ o. IsAbove o v) (sym vertex_before) above;
+      },
     ),
   )
 
   pub path_fits : (v r : ℕ) (rs : List ℕ) → length (shell_of s).edges ≤ length es → length vs < length (shell_of s).vertices
       → row_start (row_named (shell_of s) r) ≡ Some v → IsChain (TurnsTo (shell_of s) ms) r rs → Contains ls (last_of r rs)
       → length (r ∷ rs) ≡ start_count (shell_of s) v → point_count (shell_of s) v ≡ 0 → IsAbove (first_of vs) v
-          → FitsLine s (stand_from_latest s lines) (path (r ∷ rs))
+      → FitsLine s (stand_from_latest s lines) (path (r ∷ rs))
   path_fits v r rs edges_done left starts turns ends whole no_point above = (
     not_ended,
     (
       (omega (arith, edges_done, edges_left), omega (arith, left, corners_left)),
-      record { vertex = v; lies_at = starts; turns = subst (λ m. IsChain (TurnsTo (shell_of s) m) r rs) (sym mates_before) turns; ends =
-          subst (λ m. Contains m (last_of r rs)) (sym lone_before) ends; whole = whole; no_point = no_point; rises =
-          subst (λ o. IsAbove o v) (sym vertex_before) above },
+      record {
+        vertex = v;
+        lies_at = starts;
+        turns = subst (λ m. IsChain (TurnsTo (shell_of s) m) r rs) (sym mates_before) turns;
+        ends =
+            subst (λ m. Contains m (last_of r rs)) (sym lone_before) ends;
+        whole = whole;
+        no_point = no_point;
+        rises =
+            subst (λ o. IsAbove o v) (sym vertex_before) above;
+      },
     ),
   )
 
@@ -229,8 +253,8 @@ module _ (s : SolidData) (lines : List OpenLine) (b : ℕ) (es vs fs bs : List �
   pub corner_stage : (line : OpenLine) (v : ℕ) → ((xs : List OpenLine) → list_any is_last (line ∷ xs) ≡ list_any is_last xs)
       → ((xs : List OpenLine) → list_any is_shell (line ∷ xs) ≡ list_any is_shell xs) → ((xs : List OpenLine) → find is_shell (line ∷ xs) ≡ find is_shell xs)
       → edge_in (shell_of s) line ≡ None → is_edge line ≡ false → mates_in line ≡ None → lone_in line ≡ None → vertex_in (shell_of s) line ≡ Some v
-          → is_corner line ≡ true → face_in (shell_of s) line ≡ None → is_reach line ≡ false → border_in line ≡ None → is_border line ≡ false
-          → border_rows line ≡ []
+      → is_corner line ≡ true → face_in (shell_of s) line ≡ None → is_reach line ≡ false → border_in line ≡ None → is_border line ≡ false
+      → border_rows line ≡ []
       → Stage s (line ∷ lines) b es (v ∷ vs) fs bs ms ls rows
   corner_stage line v h0 h1 h2 h3 h4 h5 h6 h7 h8 h9 h10 h11 h12 h13 = record {
     begun = h0 lines ∙ stage.begun;
@@ -306,10 +330,20 @@ module _ (s : SolidData) (lines : List OpenLine) (b : ℕ) (es vs fs bs : List �
   border_fits r rs edges_done corners_done reach_done left listed goes least above = (
     not_ended,
     (
-      (omega (arith, edges_done, edges_left), omega (arith, corners_done, corners_left), omega (arith, reach_done, reach_left), omega
-          (arith, left, borders_left)),
-      record { lone = subst (λ m. AllByRecursion (Contains m) (r ∷ rs)) (sym lone_before) listed; goes_on = goes; least = least; rises =
-          subst (λ o. IsAbove o r) (sym border_before) above },
+      (
+        omega (arith, edges_done, edges_left),
+        omega (arith, corners_done, corners_left),
+        omega (arith, reach_done, reach_left),
+        omega
+            (arith, left, borders_left),
+      ),
+      record {
+        lone = subst (λ m. AllByRecursion (Contains m) (r ∷ rs)) (sym lone_before) listed;
+        goes_on = goes;
+        least = least;
+        rises =
+            subst (λ o. IsAbove o r) (sym border_before) above;
+      },
     ),
   )
 

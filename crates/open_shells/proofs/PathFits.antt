@@ -34,7 +34,7 @@ path_low d at first ms row last h same low fits =
 pub path_fits : (d : ShellRows) (at : OpenStand) (text others : List ℕ) (first end : ℕ) (rs : List ℕ) (row : Row) (last : Option ℕ) (len : ℕ)
     → Begins text first others → AreNumbers text rs → row_named d first ≡ Some row → at.last_vertex ≡ last → IsAbove last row.from.0
     → Contains at.lone end → ((ms : List ℕ) → AreNumbers others ms → IsChain (TurnsTo d at.mates) first ms × (end ≡ last_of first ms)
-        × (len ≡ length (first ∷ ms))) → corner_size d row.from.0 ≡ len
+    × (len ≡ length (first ∷ ms))) → corner_size d row.from.0 ≡ len
     → FitsPathLine d at rs × (vertex_in d (path rs) ≡ Some row.from.0)
 path_fits d at text others first end rs row last len b h is_row same above lone chain size =
     let n = next_left text others first rs b h in

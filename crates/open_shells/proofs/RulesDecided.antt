@@ -33,9 +33,9 @@ mates_decided d r m =
     decided_alike (λ (row, at_r, (mate, at_m, (one, other))). record { row = row; mate = mate; at_r = at_r; at_m = at_m; one_edge = one; opposite = other })
     (λ h. (h.row, h.at_r, (h.mate, h.at_m, (h.one_edge, h.opposite))))
     (decided_found (slice_get d.rows r)
-        (λ (row : Row). (mate : Row) × (slice_get d.rows m ≡ Some mate) × ((row.edge ≡ mate.edge) × (row.along ≡ not mate.along)))
+    (λ (row : Row). (mate : Row) × (slice_get d.rows m ≡ Some mate) × ((row.edge ≡ mate.edge) × (row.along ≡ not mate.along)))
     (λ row. decided_found (slice_get d.rows m) (λ (mate : Row). (row.edge ≡ mate.edge) × (row.along ≡ not mate.along))
-        (λ mate. decided_both (edge_id_decided row.edge mate.edge) (decided_bool row.along (not mate.along)))))
+    (λ mate. decided_both (edge_id_decided row.edge mate.edge) (decided_bool row.along (not mate.along)))))
 
 follows_decided : (d : ShellRows) (r s : ℕ) → Decided (Follows d r s)
 follows_decided d r s = decided_alike (λ (x, e, same). subst (λ z. slice_get d.follows r ≡ Some z) same e) (λ e. (s, e, refl))
@@ -75,16 +75,16 @@ InOneFan d v r s = StartsAt d v r → StartsAt d v s → LeadsTo (Turns d) r s �
 one_fan_from : (d : ShellRows) (v r : ℕ) → Decided ((s : ℕ) → s < length d.rows → InOneFan d v r s)
 one_fan_from d v r =
     decided_each (InOneFan d v r)
-        (λ s. decided_implies (starts_decided d v r) (decided_implies (starts_decided d v s) (decided_either (chains_decided d r s) (chains_decided d s r))))
-        (length d.rows)
+    (λ s. decided_implies (starts_decided d v r) (decided_implies (starts_decided d v s) (decided_either (chains_decided d r s) (chains_decided d s r))))
+    (length d.rows)
 
 fan_decided : (d : ShellRows) (v : ℕ) → Decided (IsFan d v)
 fan_decided d v =
     decided_alike (λ (some, fan, none).
-        record { some = some; one_fan = λ r s at_r at_s. fan r (starts_within d v r at_r) s (starts_within d v s at_s) at_r at_s; no_point = none })
+    record { some = some; one_fan = λ r s at_r at_s. fan r (starts_within d v r at_r) s (starts_within d v s at_s) at_r at_s; no_point = none })
     (λ h. (h.some, (λ r lt s below at_r at_s. h.one_fan r s at_r at_s), h.no_point))
     (decided_three (some_start d v) (decided_each (λ r. (s : ℕ) → s < length d.rows → InOneFan d v r s) (one_fan_from d v) (length d.rows))
-        (decided_same (point_count d v) 0))
+    (decided_same (point_count d v) 0))
 
 point_decided : (d : ShellRows) (v : ℕ) → Decided (IsPoint d v)
 point_decided d v =
@@ -135,7 +135,7 @@ shell_decided s h =
     (append_decided (joins ++ edges) reaches
     (append_decided joins edges (as_open_decided Join (join_obligations s h) (join_decided s h)) (map_decided (edge_obligation s d) (once_decided d) d.edges))
     (as_open_decided Reach (reach_obligations h d)
-        (decided-map (λ (f : ℕ × FaceUse). obligation Unreached f.1.entity.0 0 (IsReached d f.0)) (λ f. reached_decided d f.0) (enumerate_from 0 h.faces))))
+    (decided-map (λ (f : ℕ × FaceUse). obligation Unreached f.1.entity.0 0 (IsReached d f.0)) (λ f. reached_decided d f.0) (enumerate_from 0 h.faces))))
     (map_decided (fan_obligation s d) (fanned_decided d) d.vertices)
 
 shells_decided : (s : SolidData) (hs : List Shell) → AreAllDecided (of_shells s hs)

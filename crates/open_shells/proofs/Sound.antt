@@ -34,13 +34,13 @@ pub shell_joins : (s : SolidData) (shell : Shell) → s.shells ≡ shell ∷ [] 
     → AllByRecursion (λ (p : PlacedLoop). IsJoined s p.loop) (placed_loops shell)
 shell_joins s shell alone joined =
     subst (AllByRecursion (λ (p : PlacedLoop). IsJoined s p.loop)) (append-nil (placed_loops shell))
-        (subst (λ hs. AllByRecursion (λ (p : PlacedLoop). IsJoined s p.loop) (flat_map placed_loops hs)) alone joined)
+    (subst (λ hs. AllByRecursion (λ (p : PlacedLoop). IsJoined s p.loop) (flat_map placed_loops hs)) alone joined)
 
 pub joins_shell : (s : SolidData) (shell : Shell) → s.shells ≡ shell ∷ [] → AllByRecursion (λ (p : PlacedLoop). IsJoined s p.loop) (placed_loops shell)
     → AllJoin s
 joins_shell s shell alone joined =
     subst (λ hs. AllByRecursion (λ (p : PlacedLoop). IsJoined s p.loop) (flat_map placed_loops hs)) (sym alone)
-        (subst (AllByRecursion (λ (p : PlacedLoop). IsJoined s p.loop)) (sym (append-nil (placed_loops shell))) joined)
+    (subst (AllByRecursion (λ (p : PlacedLoop). IsJoined s p.loop)) (sym (append-nil (placed_loops shell))) joined)
 
 pub good_shell : (s : SolidData) (shell : Shell) → IsNumberedSolid s → s.shells ≡ shell ∷ [] → AllJoin s → AreGoodRows (shell_of s)
 good_shell s shell numbered alone joined =
@@ -67,7 +67,7 @@ pub legal_is_sound : (s : SolidData) (shell : Shell) (lines : List (List ℕ)) �
 unfolding IsOpenLegal
 legal_is_sound s shell lines numbered alone joined legal =
     let proper : AreProper (shell_rows s shell) =
-          subst AreProper (rows_are s shell alone) (legal_is_proper s (good_shell s shell numbered alone joined) lines legal) in
+    subst AreProper (rows_are s shell alone) (legal_is_proper s (good_shell s shell numbered alone joined) lines legal) in
     record {
       joined = shell_joins s shell alone joined;
       once = All-from (IsOnce (shell_rows s shell)) (shell_rows s shell).edges proper.once;

@@ -37,9 +37,9 @@ edge_from (a ∷ b ∷ ns) = edge a b
 abbrev pub line_from : ℕ → List ℕ → OpenLine
 line_from k ns = if k == 0 then head else (if k == 1 then shell (get_or ns 0 0) (get_or ns 1 0) (get_or ns 2 0) (get_or ns 3 0) (get_or ns 4 0) (get_or ns 5 0)
     else (if k == 2 then edge_from ns else
-        (if k == 3 then cycle ns else
-        (if k == 4 then path ns else
-        (if k == 5 then point (get_or ns 0 0) (get_or ns 1 0) else (if k == 6 then reach (get_or ns 0 0) else (if k == 7 then border ns else end)))))))
+    (if k == 3 then cycle ns else
+    (if k == 4 then path ns else
+    (if k == 5 then point (get_or ns 0 0) (get_or ns 1 0) else (if k == 6 then reach (get_or ns 0 0) else (if k == 7 then border ns else end)))))))
 
 pub rebuilt : (l : OpenLine) → line_from (kind_of l) (numbers_of l) ≡ l
 rebuilt head = refl

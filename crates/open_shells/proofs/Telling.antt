@@ -118,8 +118,12 @@ edge_takes k a b e n l kept due less more all h s lines t =
     let held = mates_more k.mates at.mates a b (can_mate k a b e kept h) t.mates in
     let is_e : edge_in (shell_of s) (edge a b) ≡ Some e = subst (λ d. edge_of d (pair_edge a b) ≡ Some e) t.rows f.1 in
     let rows : length k.rows.rows ≡ length (shell_of s).rows = ap (λ (d : ShellRows). length d.rows) t.rows in (
-      (omega (arith, due, t.edges_due), subst (λ d. FitsEdge d (shared at) a b) t.rows f.0, λ one. omega
-          (arith, all (omega (arith, one, t.edges_due)), t.listed, rows)),
+      (
+        omega (arith, due, t.edges_due),
+        subst (λ d. FitsEdge d (shared at) a b) t.rows f.0,
+        λ one. omega
+            (arith, all (omega (arith, one, t.edges_due)), t.listed, rows),
+      ),
       record {
         entity = t.entity;
         rows = t.rows;
@@ -160,8 +164,24 @@ pub record LoneFits (k : KeptOpen) (a e : ℕ) : Type 0 where
 
 -- an open shell's stand with this last edge
 open_at : Option ℕ → OpenStand
-open_at last = record { number = 0; ended = false; begun = false; edges_due = 0; corners_due = 0; reach_due = 0; borders_due = 0; mates = []; lone =
-    []; listed = 0; last_edge = last; last_vertex = None; reached = []; last_border = None; bordered = [] }
+open_at last = record {
+  number = 0;
+  ended = false;
+  begun = false;
+  edges_due = 0;
+  corners_due = 0;
+  reach_due = 0;
+  borders_due = 0;
+  mates = [];
+  lone =
+      [];
+  listed = 0;
+  last_edge = last;
+  last_vertex = None;
+  reached = [];
+  last_border = None;
+  bordered = [];
+}
 
 open_at_last : (last : Option ℕ) → (open_at last).last_edge ≡ last
 unfolding open_at
@@ -350,7 +370,7 @@ vertex_told s lines _ k v n kind kept due t less is_v = absurd kind
 
 pub cycle_takes : (k : KeptOpen) (rs : List ℕ) (v n : ℕ) → IsKept k → k.edges_due ≡ 0 → 0 < k.corners_due → n ≡ k.corners_due - 1
     → ((at : Stand) → HoldsMates k.mates at.mates → at.last_vertex ≡ k.last_vertex
-        → FitsCornerLine k.rows at rs × (vertex_of k.rows (pair_corner rs) ≡ Some v)) → Takes k (with_vertex k v n) (cycle rs) true
+    → FitsCornerLine k.rows at rs × (vertex_of k.rows (pair_corner rs) ≡ Some v)) → Takes k (with_vertex k v n) (cycle rs) true
 cycle_takes k rs v n kept none due less fit s lines t =
     let at : OpenStand = stand_from_latest s lines in
     let f = fit (shared at) t.mates (sym t.last_vertex) in (
@@ -371,7 +391,7 @@ cycle_not_due k new rs never s lines t f =
 
 pub path_takes : (k : KeptOpen) (rs : List ℕ) (v n : ℕ) → IsKept k → k.edges_due ≡ 0 → 0 < k.corners_due → n ≡ k.corners_due - 1
     → ((at : OpenStand) → HoldsMates k.mates at.mates → HoldsRows k.lone at.lone → at.last_vertex ≡ k.last_vertex
-        → FitsPathLine k.rows at rs × (vertex_in k.rows (path rs) ≡ Some v)) → Takes k (with_vertex k v n) (path rs) true
+    → FitsPathLine k.rows at rs × (vertex_in k.rows (path rs) ≡ Some v)) → Takes k (with_vertex k v n) (path rs) true
 path_takes k rs v n kept none due less fit s lines t =
     let at : OpenStand = stand_from_latest s lines in
     let f = fit at t.mates t.lone (sym t.last_vertex) in (
@@ -393,7 +413,7 @@ path_not_due k new rs never s lines t f =
 
 pub point_takes : (k : KeptOpen) (face place v n : ℕ) → IsKept k → k.edges_due ≡ 0 → 0 < k.corners_due → n ≡ k.corners_due - 1
     → ((at : Stand) → at.last_vertex ≡ k.last_vertex → FitsPoint k.rows at face place × (vertex_of k.rows (pair_point face place) ≡ Some v))
-        → Takes k (with_vertex k v n) (point face place) true
+    → Takes k (with_vertex k v n) (point face place) true
 point_takes k face place v n kept none due less fit s lines t =
     let at : OpenStand = stand_from_latest s lines in
     let f = fit (shared at) (sym t.last_vertex) in (
@@ -429,7 +449,7 @@ face_kept k f n kept due less = record {
 
 pub reach_takes : (k : KeptOpen) (r f n : ℕ) → IsKept k → f < length k.reached → k.edges_due ≡ 0 → k.corners_due ≡ 0 → 0 < k.reach_due → n ≡ k.reach_due - 1
     → ((at : Stand) → HoldsMates k.mates at.mates → HoldsFaces k.reached at.reached → FitsReach k.rows at r × (face_of k.rows (pair_reach r) ≡ Some f))
-        → Takes k (with_face k f n) (reach r) true
+    → Takes k (with_face k f n) (reach r) true
 unfolding stand_from_latest
 reach_takes k r f n kept within no_edges no_corners due less fit s lines t =
     let at : OpenStand = stand_from_latest s lines in
@@ -437,8 +457,11 @@ reach_takes k r f n kept within no_edges no_corners due less fit s lines t =
     let others : List ℕ = filter_map (face_in (shell_of s)) lines in
     let is_f : face_in (shell_of s) (reach r) ≡ Some f = subst (λ d. face_of d (pair_reach r) ≡ Some f) t.rows g.1 in
     let held : HoldsFaces (slice_set k.reached f true) (0 ∷ f ∷ others) = faces_more k.reached 0 f others within t.reached in (
-      ((omega (arith, no_edges, t.edges_due), omega (arith, no_corners, t.corners_due), omega (arith, due, t.reach_due)), subst
-          (λ d. FitsReach d (shared at) r) t.rows g.0),
+      (
+        (omega (arith, no_edges, t.edges_due), omega (arith, no_corners, t.corners_due), omega (arith, due, t.reach_due)),
+        subst
+            (λ d. FitsReach d (shared at) r) t.rows g.0,
+      ),
       record {
         entity = t.entity;
         rows = t.rows;
@@ -512,13 +535,18 @@ border_open s at (r ∷ rs) due h = (due, h)
 pub border_takes : (k : KeptOpen) (rs : List ℕ) (r len n c : ℕ) → IsKept k → k.edges_due ≡ 0 → k.corners_due ≡ 0 → k.reach_due ≡ 0 → 0 < k.borders_due
     → n ≡ k.borders_due - 1 → c ≡ min (k.bordered + len) count_limit
     → ((at : OpenStand) → HoldsRows k.lone at.lone → at.last_border ≡ k.last_border → FitsBorderLine k.rows at rs × (border_in (border rs) ≡ Some r)
-        × (length rs ≡ len)) → Takes k (with_border k r n c) (border rs) true
+    × (length rs ≡ len)) → Takes k (with_border k r n c) (border rs) true
 unfolding stand_from_latest
 border_takes k rs r len n c kept no_edges no_corners no_reach due less counted fit s lines t =
     let at : OpenStand = stand_from_latest s lines in
     let f = fit at t.lone (sym t.last_border) in (
-      border_open s at rs (omega (arith, no_edges, t.edges_due), omega (arith, no_corners, t.corners_due), omega (arith, no_reach, t.reach_due), omega
-          (arith, due, t.borders_due)) (subst (λ d. FitsBorderLine d at rs) t.rows f.0),
+      border_open s at rs (
+        omega (arith, no_edges, t.edges_due),
+        omega (arith, no_corners, t.corners_due),
+        omega (arith, no_reach, t.reach_due),
+        omega
+            (arith, due, t.borders_due),
+      ) (subst (λ d. FitsBorderLine d at rs) t.rows f.0),
       record {
         entity = t.entity;
         rows = t.rows;
@@ -566,7 +594,7 @@ shell_takes k n rows edges corners faces borders kept fresh named counts s lines
   where
     at_first : (ls : List OpenLine) → ls ≡ [] → MatchesLines s ls k
         → ((((stand_from_latest s ls).begun ≡ false) × FitsShell s n rows edges corners faces) × MatchesLines s (shell n rows edges corners faces borders ∷ ls)
-            (with_shell k edges corners (faces - 1) borders))
+        (with_shell k edges corners (faces - 1) borders))
     at_first (l ∷ ls) e t = absurd (let h : l ∷ ls ≡ [] = e in cc)
     at_first [] e t = (
       (

@@ -126,4 +126,4 @@ abbrev pub TakesLine : KeptChecker → KeptChecker → OpenLine → Bool → Typ
 TakesLine old new line taken =
     (lines : List OpenLine) → IsAt old lines →
     MatchBool taken (FitsLine old.solid (stand_from_latest old.solid lines) line × IsAt new (line ∷ lines))
-        (¬ FitsLine old.solid (stand_from_latest old.solid lines) line)
+    (¬ FitsLine old.solid (stand_from_latest old.solid lines) line)

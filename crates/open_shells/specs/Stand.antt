@@ -126,8 +126,16 @@ stand_from_latest s lines = record {
 
 -- as a stand of a closed solid's certificate, by which the conditions are stated that both kinds of certificates share
 abbrev pub shared : OpenStand → Stand
-shared at = record { ended = at.ended; shell = 1; due = record { edges = at.edges_due; corners = at.corners_due; reach = at.reach_due; tally = 0 }; mates =
-    at.mates; last_edge = at.last_edge; last_vertex = at.last_vertex; reached = at.reached }
+shared at = record {
+  ended = at.ended;
+  shell = 1;
+  due = record { edges = at.edges_due; corners = at.corners_due; reach = at.reach_due; tally = 0 };
+  mates =
+      at.mates;
+  last_edge = at.last_edge;
+  last_vertex = at.last_vertex;
+  reached = at.reached;
+}
 
 -- the shell's number and its counts; how many border lines come is free
 pub record FitsShell (s : SolidData) (n rows edges corners faces : ℕ) : Type 0 where

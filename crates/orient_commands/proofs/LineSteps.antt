@@ -56,7 +56,7 @@ pub misspelt_text : (s : SolidData) (i : ℕ) (text line : List ℕ) (rest : Lis
     → IsTextFault (λ bad. ((l : OrientLine) → IsSpelled line l → ⊥) × (bad ≡ Misspelt i)) e → IsTextFault (IsFirstBad s i (cut_lines text)) e
 misspelt_text s i text line rest e cut h =
     fault_from (λ bad. ((l : OrientLine) → IsSpelled line l → ⊥) × (bad ≡ Misspelt i)) (IsFirstBad s i (cut_lines text)) e
-        (λ bad w. subst (λ ls. IsFirstBad s i ls bad) (sym cut) (misspelt_here s i line rest bad w.0 w.1)) h
+    (λ bad w. subst (λ ls. IsFirstBad s i ls bad) (sym cut) (misspelt_here s i line rest bad w.0 w.1)) h
 
 pub unfit_text : (s : SolidData) (i : ℕ) (text bytes : List ℕ) (rest : List (List ℕ)) (line : OrientLine) → cut_lines text ≡ bytes ∷ rest
     → IsSpelled bytes line → (FitsAs s i line → ⊥) → IsFirstBad s i (cut_lines text) (Unfit i)

@@ -217,7 +217,7 @@ oriented_one s n a b t u ready p q =
     let y = q.whole.ended in
     let z = zip_fits s ready 2 p.lines q.lines (omega (arith, x, y)) p.whole.each q.whole.each in
     let heads : p.names.head ≡ q.names.head = spelled_same p.names.head q.names.head (Head (record { 0 = n })) (Head (record { 0 = n })) p.names.names
-          q.names.names refl in (
+    q.names.names refl in (
       answer_one p.lines q.lines a b z p.answer q.answer,
       subst (λ (ls : List (List ℕ)). AllZip AreSameOrRings ls (cut_lines u)) (sym p.names.cut)
           (subst (AllZip AreSameOrRings (p.names.head ∷ p.lines)) (sym q.names.cut) (inl heads, z)),

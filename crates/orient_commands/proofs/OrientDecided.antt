@@ -112,7 +112,7 @@ some_line_decided bytes =
     decided_alike (λ (k, lt, (ns, few, short, h)). (line_from k ns, h))
     (λ (l, h). (kind_of l, kind_below l, (numbers_in l, few_numbers bytes l h, numbers_short l h.0, subst (IsSpelled bytes) (sym (rebuilt l)) h)))
     (decided_bounded (SpellsKind bytes)
-        (λ k. decided_list (λ ns. IsSpelled bytes (line_from k ns)) (λ ns. spelled_decided bytes (line_from k ns)) (10 ^ 9) (length bytes)) 4)
+    (λ k. decided_list (λ ns. IsSpelled bytes (line_from k ns)) (λ ns. spelled_decided bytes (line_from k ns)) (10 ^ 9) (length bytes)) 4)
 
 -- Partners.
 
@@ -125,11 +125,11 @@ AreTwo d r m row partner = (row.edge ≡ partner.edge) × (r ≢ m) × HasTwoRow
 partners_decided : (d : ShellRows) (r m : ℕ) → Decided (ArePartners d r m)
 partners_decided d r m =
     decided_alike (λ (row, at_r, (partner, at_m, (one, apart, two))).
-        record { row = row; partner = partner; at_r = at_r; at_m = at_m; one_edge = one; apart = apart; two = two })
+    record { row = row; partner = partner; at_r = at_r; at_m = at_m; one_edge = one; apart = apart; two = two })
     (λ h. (h.row, h.at_r, (h.partner, h.at_m, (h.one_edge, h.apart, h.two))))
     (decided_found (slice_get d.rows r) (λ row. (partner : Row) × (slice_get d.rows m ≡ Some partner) × AreTwo d r m row partner)
     (λ row. decided_found (slice_get d.rows m) (AreTwo d r m row)
-        (λ partner. decided_three (edge_id_decided row.edge partner.edge) (decided_not (decided_same r m)) (two_decided d row.edge.0))))
+    (λ partner. decided_three (edge_id_decided row.edge partner.edge) (decided_not (decided_same r m)) (two_decided d row.edge.0))))
 
 on_face_decided : (d : ShellRows) (face r : ℕ) → Decided (OnFace d face r)
 on_face_decided d face r = decided_found (slice_get d.rows r) (λ (row : Row). row.at.face.0 ≡ face) (λ row. decided_same row.at.face.0 face)
@@ -140,10 +140,10 @@ adjoin_decided : (d : ShellRows) (a b : ℕ) → Decided (Adjoin d a b)
 adjoin_decided d a b =
     decided_alike (λ (r, lt, (m, below, (partners, on_a, on_b))). (r, m, partners, on_a, on_b))
     (λ (r, m, partners, on_a, on_b).
-        (r, slice_get_within d.rows r partners.row partners.at_r, (m, slice_get_within d.rows m partners.partner partners.at_m, (partners, on_a, on_b))))
+    (r, slice_get_within d.rows r partners.row partners.at_r, (m, slice_get_within d.rows m partners.partner partners.at_m, (partners, on_a, on_b))))
     (decided_bounded (λ r. (m : ℕ) × (m < length d.rows) × (ArePartners d r m × OnFace d a r × OnFace d b m))
-        (λ r. decided_bounded (λ m. ArePartners d r m × OnFace d a r × OnFace d b m)
-        (λ m. decided_three (partners_decided d r m) (on_face_decided d a r) (on_face_decided d b m)) (length d.rows)) (length d.rows))
+    (λ r. decided_bounded (λ m. ArePartners d r m × OnFace d a r × OnFace d b m)
+    (λ m. decided_three (partners_decided d r m) (on_face_decided d a r) (on_face_decided d b m)) (length d.rows)) (length d.rows))
 
 face_number : Row → ℕ
 face_number row = row.at.face.0
@@ -178,7 +178,7 @@ differ_decided d =
     decided_alike (λ f r m a b p at_r at_m. f r (slice_get_within d.rows r a at_r) m (slice_get_within d.rows m b at_m) a b p at_r at_m)
     (λ f r lt m below a b p at_r at_m. f r m a b p at_r at_m)
     (decided_each (λ r. (m : ℕ) → m < length d.rows → DifferAt d r m) (λ r. decided_each (DifferAt d r) (differ_at_decided d r) (length d.rows))
-        (length d.rows))
+    (length d.rows))
 
 option_decided : (o p : Option Bool) → Decided (o ≡ p)
 option_decided None None = inl refl
@@ -190,7 +190,7 @@ fit_decided : (s : SolidData) (k : ℕ) (flags : List Bool) → Decided (FlagsFi
 fit_decided s k flags =
     decided_alike (λ (each, first, differ). record { each = each; first = first; differ = differ }) (λ h. (h.each, h.first, h.differ))
     (decided_three (decided_same (length flags) (length (face_flags (slice_get s.shells k))))
-        (option_decided (slice_get flags 0) (slice_get (face_flags (slice_get s.shells k)) 0)) (differ_decided (rows_with s k flags)))
+    (option_decided (slice_get flags 0) (slice_get (face_flags (slice_get s.shells k)) 0)) (differ_decided (rows_with s k flags)))
 
 -- Rings.
 
@@ -200,8 +200,8 @@ goes_decided d r next =
     (λ (m, face, partners, on, at). (m, slice_get_within d.rows m partners.partner partners.at_m, (face, on_below d face m on, (partners, on, at))))
     (decided_bounded (λ m. (face : ℕ) × (face < above_all face_number d.rows) × (ArePartners d r m × OnFace d face m × OnFace d face next))
     (λ m. decided_bounded (λ face. ArePartners d r m × OnFace d face m × OnFace d face next)
-        (λ face. decided_three (partners_decided d r m) (on_face_decided d face m) (on_face_decided d face next)) (above_all face_number d.rows))
-        (length d.rows))
+    (λ face. decided_three (partners_decided d r m) (on_face_decided d face m) (on_face_decided d face next)) (above_all face_number d.rows))
+    (length d.rows))
 
 abbrev AlikeAt : SolidData → ℕ → ℕ → ℕ → Type 0
 AlikeAt s k r m = ArePartners (rows_at s k) r m
@@ -210,11 +210,11 @@ AlikeAt s k r m = ArePartners (rows_at s k) r m
 alike_decided : (s : SolidData) (k r : ℕ) → Decided (RunsAlike s k r)
 alike_decided s k r =
     decided_alike (λ (m, lt, (partners, (a, at_r, (b, at_m, alike)))).
-        record { m = m; a = a; b = b; partners = partners; at_r = at_r; at_m = at_m; alike = alike })
+    record { m = m; a = a; b = b; partners = partners; at_r = at_r; at_m = at_m; alike = alike })
     (λ h. (h.m, slice_get_within (rows_at s k).rows h.m h.partners.partner h.partners.at_m, (h.partners, (h.a, h.at_r, (h.b, h.at_m, h.alike)))))
     (decided_bounded (AlikeAt s k r)
-        (λ m. decided_both (partners_decided (rows_at s k) r m)
-        (decided_found (slice_get (bare_rows s k).rows r) (λ a. (b : Row) × (slice_get (bare_rows s k).rows m ≡ Some b) × (a.along ≡ b.along))
+    (λ m. decided_both (partners_decided (rows_at s k) r m)
+    (decided_found (slice_get (bare_rows s k).rows r) (λ a. (b : Row) × (slice_get (bare_rows s k).rows m ≡ Some b) × (a.along ≡ b.along))
     (λ a. decided_found (slice_get (bare_rows s k).rows m) (λ b. a.along ≡ b.along) (λ b. decided_bool a.along b.along)))) (length (rows_at s k).rows))
 
 oddly_decided : (P : ℕ → Type 0) → ((x : ℕ) → Decided (P x)) → (odd : Bool) (xs : List ℕ) → Decided (OddlyMany P odd xs)
@@ -229,7 +229,7 @@ ring_decided : (s : SolidData) (k : ℕ) (rows : List ℕ) → Decided (OddRing 
 ring_decided s k rows =
     decided_alike (λ (some, closed, odd). record { some = some; closed = closed; odd = odd }) (λ h. (h.some, h.closed, h.odd))
     (decided_three (decided_below 0 (length rows)) (decided_zip (GoesOn (rows_at s k)) (goes_decided (rows_at s k)) rows (next_of_each rows))
-        (oddly_decided (RunsAlike s k) (alike_decided s k) true rows))
+    (oddly_decided (RunsAlike s k) (alike_decided s k) true rows))
 
 rows_named : (numbers : List ℕ) → ((rows : List ℕ) × (numbers ≡ map suc rows)) ⊎ ((rows : List ℕ) → numbers ≡ map suc rows → ⊥)
 rows_named [] = inl ([], refl)

@@ -157,7 +157,7 @@ flags_spelled s k flags numbered lt fit =
     let faces = some_faces s k shell.0 numbered shell.1 in
     let each = fit.each in
     let long : length (face_flags (slice_get s.shells k)) ≡ length shell.0.faces = ap (λ (o : Option Shell). length (face_flags o)) shell.1
-          ∙ length-map shell.0.faces (λ (f : FaceUse). f.flag) in
+    ∙ length-map shell.0.faces (λ (f : FaceUse). f.flag) in
     (omega (arith, few, lt), omega (arith, each, long, faces))
 
 -- What is owed of orienting.

@@ -79,7 +79,7 @@ whole_or_bad s lines = by_lines (all_or_not (Fits s) (fits_decided s) (enumerate
         let most = few_lines s 2 lines (omega arith) all in
         ⊎_elim (λ e. inl (record { each = all; ended = e }))
         (λ other. ⊎_elim (λ lt. inr (Missing (2 + length lines), inr (record { each = all; unended = lt; missing = refl })))
-            (λ gt. absurd (omega (arith, most, gt))) other)
+        (λ gt. absurd (omega (arith, most, gt))) other)
         (cases_order (2 + length lines) (length s.shells + 3))
 
     by_lines : AllByRecursion (Fits s) (enumerate_from 2 lines) ⊎ ((l : ℕ × List ℕ) × FirstNot (Fits s) (enumerate_from 2 lines) l)
@@ -124,7 +124,7 @@ reach_or_fail s k lt = ⊎_elim inl (λ (number, first). inr (missed number firs
         let shell = get_some s.shells k lt in
         let long = shell_faces s k shell.0 (rows_at s k) refl shell.1 in
         let low = low_number 0 (rows_at s k).face_count number (first_not_has (IsReached (rows_at s k)) (numbers_from 0 (rows_at s k).face_count) number first)
-            in
+        in
         let face = get_some shell.0.faces number (omega (arith, long, low)) in
         (_, record { shell = shell.0; at = shell.1; number = number; first = first; face = face.0; face_at = face.1; named = refl })
 
@@ -139,7 +139,7 @@ module _ (Holds : SolidData → ℕ → Type 0) (FailsOf : SolidData → ℕ →
   below_or_fail zero le = inl (λ j lt. absurd (omega (arith, lt)))
   below_or_fail (suc k) le = ⊎_elim
       (λ below. ⊎_elim (λ holds. inl (below_next Holds s k (suc k) (let next : suc k ≡ k + 1 = omega arith in next) below holds))
-          (λ (x, fails). inr (x, record { shell = k; within = omega (arith, le); before = below; fails = fails })) (each k (omega (arith, le))))
+      (λ (x, fails). inr (x, record { shell = k; within = omega (arith, le); before = below; fails = fails })) (each k (omega (arith, le))))
       (λ fails. inr fails) (below_or_fail k (omega (arith, le)))
 
   shells_or_fail : OfAllShells Holds s ⊎ ((x : OrientFailing) × FailsInShell Holds FailsOf s x)
@@ -182,15 +182,21 @@ module _ (s : SolidData) (numbered : IsNumberedSolid s) (ready : OfAllShells IsR
   one_more : (k : ℕ) → k < length s.shells → Text k → ExactlyOne (FlagsFit s k) ⊎ ((rows : List ℕ) × OddRing s k rows) → Text (k + 1)
   one_more k lt (ringed, text, begun) (inl (x, fit, one)) =
       let line : OrientLine = Flags (k + 1) x in
-      let spelled = flags_spelled s k x numbered lt fit in
-      (ringed, text ++ spelling line, begun_flags s s.entity.0 k ringed text (text ++ spelling line) line begun spelled refl
-          (k, record { within = lt; numbered = refl; at = refl }, fit) (no_ring line spelled (λ shell rows e. cc)))
+      let spelled = flags_spelled s k x numbered lt fit in (
+        ringed,
+        text ++ spelling line,
+        begun_flags s s.entity.0 k ringed text (text ++ spelling line) line begun spelled refl
+            (k, record { within = lt; numbered = refl; at = refl }, fit) (no_ring line spelled (λ shell rows e. cc)),
+      )
   one_more k lt (ringed, text, begun) (inr (rows, ring)) =
       let line : OrientLine = Ring (k + 1) (map suc rows) in
       let spelled = ring_spelled s k rows (map suc rows) numbered lt refl ring in
-      let short : AllByRecursion IsShort ((k + 1) ∷ map suc rows) = (spelled.0.0, spelled.0.1) in
-      (true, text ++ spelling line, begun_ring s s.entity.0 k ringed text (text ++ spelling line) line begun (short, spelled.1) refl
-          (k, record { within = lt; numbered = refl; at = refl }, (rows, refl, ring)) (k + 1, map suc rows, ((short, spelled.1), refl)))
+      let short : AllByRecursion IsShort ((k + 1) ∷ map suc rows) = (spelled.0.0, spelled.0.1) in (
+        true,
+        text ++ spelling line,
+        begun_ring s s.entity.0 k ringed text (text ++ spelling line) line begun (short, spelled.1) refl
+            (k, record { within = lt; numbered = refl; at = refl }, (rows, refl, ring)) (k + 1, map suc rows, ((short, spelled.1), refl)),
+      )
 
   text_of : (k : ℕ) → k ≤ length s.shells → Text k
   text_of zero le = (false, spelling (Head s.entity), begun_first s s.entity [] (spelling (Head s.entity)) refl numbered.number refl refl)

@@ -50,9 +50,9 @@ alike_with : (s : SolidData) (h : Shell) (flags : List Bool) → length flags �
     → AllZip Alike (shell_rows s h).rows (shell_rows s (shell_with flags h)).rows
 alike_with s h flags e =
     zip_alike (walks (Some h)) (walks (Some (shell_with flags h))) (shell_rows s h).rows (shell_rows s (shell_with flags h)).rows
-        (shell_rows s (bare_shell h)).rows (told_rows s (Some h))
+    (shell_rows s (bare_shell h)).rows (told_rows s (Some h))
     (subst (λ (g : Shell). AllZip (Told (walks (Some (shell_with flags h)))) (shell_rows s (shell_with flags h)).rows (shell_rows s g).rows)
-        (bare_with flags h e) (told_rows s (Some (shell_with flags h))))
+    (bare_with flags h e) (told_rows s (Some (shell_with flags h))))
 
 -- The uses with other flags.
 
@@ -72,7 +72,7 @@ faces_uses flag n [] = refl
 faces_uses flag n (f ∷ fs) =
     flat_map-append (λ (p : PlacedLoop). p.loop.uses) (placed_in_face flag (n, f)) (flat_map (placed_in_face flag) (enumerate_from (n + 1) fs))
     ∙ ap (λ (us : List LoopUse). us ++ flat_map (λ (p : PlacedLoop). p.loop.uses) (flat_map (placed_in_face flag) (enumerate_from (n + 1) fs)))
-        (loops_uses (same_flag f.flag flag) n 0 f.loops)
+    (loops_uses (same_flag f.flag flag) n 0 f.loops)
     ∙ ap (λ (us : List LoopUse). face_uses f ++ us) (faces_uses flag (n + 1) fs)
 
 uses_with : (flags : List Bool) (fs : List FaceUse) → length flags ≡ length fs → flat_map face_uses (faces_with flags fs) ≡ flat_map face_uses fs
@@ -107,7 +107,7 @@ loops_rows : (s : SolidData) (flags : List (List Bool)) (ps : List PlacedLoop) �
 loops_rows s flags [] = refl
 loops_rows s flags (p ∷ ps) =
     ap (λ (rs : List Row). rs ++ flat_map (loop_rows (solid_with flags s)) ps) (uses_rows s flags p p.loop.uses) ∙ ap (λ (rs : List Row). loop_rows s p ++ rs)
-        (loops_rows s flags ps)
+    (loops_rows s flags ps)
 
 rows_in : (s : SolidData) (flags : List (List Bool)) (h : Shell) → (shell_rows (solid_with flags s) h).rows ≡ (shell_rows s h).rows
 unfolding shell_rows
@@ -175,8 +175,15 @@ module _ (c d : ShellRows) (alike : AllZip Alike c.rows d.rows) (differ : Partne
   neighbours a b (r, m, partners, on_a, on_b) =
       let p = partners_alike c d r m alike partners in
       let mates : AreMates d r m =
-            record { row = p.row; mate = p.partner; at_r = p.at_r; at_m = p.at_m; one_edge = p.one_edge; opposite =
-            differ r m p.row p.partner p p.at_r p.at_m } in
+      record {
+        row = p.row;
+        mate = p.partner;
+        at_r = p.at_r;
+        at_m = p.at_m;
+        one_edge = p.one_edge;
+        opposite =
+            differ r m p.row p.partner p p.at_r p.at_m;
+      } in
       (r, m, mates, face_alike a r on_a, face_alike b m on_b)
 
   reached_face : (face : ℕ) → IsReached c face → closed.IsReached d face
@@ -228,13 +235,13 @@ module _ (s : SolidData) (all : List (List Bool)) (k : ℕ) (h : Shell) (flags :
   new_paired =
       subst (AllByRecursion (IsPaired new)) (sym (edges_in s all turned ∙ edges_with s h flags long))
       (AllByRecursion-weaker (HasTwoRows old) (IsPaired new) old.edges (λ e two. paired_edge new new_differ e (two_rows_alike old new e rows_alike two))
-          old_two)
+      old_two)
 
   new_reached : AllByRecursion (closed.IsReached new) (numbers_from 0 (length turned.faces))
   new_reached =
       subst (λ n. AllByRecursion (closed.IsReached new) (numbers_from 0 n)) (faces_in s h ∙ sym (length-with flags h.faces long))
       (AllByRecursion-weaker (IsReached old) (closed.IsReached new) (numbers_from 0 old.face_count)
-          (λ face reached. reached_face old new rows_alike new_differ face reached) old_reached)
+      (λ face reached. reached_face old new rows_alike new_differ face reached) old_reached)
 
   turned_closed : JoinsAndLinks (solid_with all s) k turned → IsClosedShell (solid_with all s) k turned
   turned_closed j = record { joined = j.joined; paired = new_paired; reached = new_reached; linked = j.linked; apart = j.apart }
@@ -243,9 +250,9 @@ module _ (s : SolidData) (all : List (List Bool)) (k : ℕ) (h : Shell) (flags :
 
 turned_shells : (s : SolidData) (all : List (List Bool)) → OfAllShells IsReady s → (n : ℕ) (flags : List (List Bool)) (shells : List Shell)
     → ((j : ℕ) (x : List Bool) → slice_get flags j ≡ Some x → FlagsFit s (n + j) x)
-        → ((j : ℕ) (h : Shell) → slice_get shells j ≡ Some h → slice_get s.shells (n + j) ≡ Some h)
+    → ((j : ℕ) (h : Shell) → slice_get shells j ≡ Some h → slice_get s.shells (n + j) ≡ Some h)
     → AllByRecursion (λ (h : ℕ × Shell). JoinsAndLinks (solid_with all s) h.0 h.1) (enumerate_from n (shells_with flags shells))
-        → AllByRecursion (λ (h : ℕ × Shell). IsClosedShell (solid_with all s) h.0 h.1) (enumerate_from n (shells_with flags shells))
+    → AllByRecursion (λ (h : ℕ × Shell). IsClosedShell (solid_with all s) h.0 h.1) (enumerate_from n (shells_with flags shells))
 turned_shells s all ready n [] shells fit at j = tt
 turned_shells s all ready n (x ∷ flags) [] fit at j = tt
 turned_shells s all ready n (x ∷ flags) (h ∷ shells) fit at (here, j) =

@@ -87,8 +87,16 @@ module _ (s : SolidData) (n count : ℕ) (ringed : Bool) (text new : List ℕ) (
   long_longer = let long = b.counted in omega (arith, long, length-append b.lines (spelling line ∷ []))
 
   pub begun_ring : IsRingLine (spelling line) → IsBegun s n (count + 1) true new
-  begun_ring ring = record { head = b.head; lines = longer; cut = cut_longer; names = b.names; each = each_longer; counted = long_longer; rings =
-      ring_last b.lines (spelling line) ring }
+  begun_ring ring = record {
+    head = b.head;
+    lines = longer;
+    cut = cut_longer;
+    names = b.names;
+    each = each_longer;
+    counted = long_longer;
+    rings =
+        ring_last b.lines (spelling line) ring;
+  }
 
   kept_rings : (r : Bool) → MatchBool r (HasRing b.lines) (HasRing b.lines → ⊥) → (IsRingLine (spelling line) → ⊥)
       → MatchBool r (HasRing longer) (HasRing longer → ⊥)
@@ -96,8 +104,16 @@ module _ (s : SolidData) (n count : ℕ) (ringed : Bool) (text new : List ℕ) (
   kept_rings false h never = λ g. ⊎_elim h never (ring_of b.lines (spelling line) g)
 
   pub begun_flags : (IsRingLine (spelling line) → ⊥) → IsBegun s n (count + 1) ringed new
-  begun_flags never = record { head = b.head; lines = longer; cut = cut_longer; names = b.names; each = each_longer; counted = long_longer; rings =
-      kept_rings ringed b.rings never }
+  begun_flags never = record {
+    head = b.head;
+    lines = longer;
+    cut = cut_longer;
+    names = b.names;
+    each = each_longer;
+    counted = long_longer;
+    rings =
+        kept_rings ringed b.rings never;
+  }
 
 -- the line of no ring: other lines spell none
 pub no_ring : (line : OrientLine) → HasSpelling line → ((shell : ℕ) (rows : List ℕ) → line ≢ Ring shell rows) → IsRingLine (spelling line) → ⊥

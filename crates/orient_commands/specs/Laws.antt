@@ -53,4 +53,4 @@ SomeVerifying = (text : List ℕ) (f : Contents) → IsSome (OfOrientVerify text
 abbrev pub FittingFlagsClose : Type 0
 FittingFlagsClose = (s : SolidData) (flags : List (List Bool)) → OfAllShells IsReady s → AllFlagsFit s flags
     → AllByRecursion (λ (h : ℕ × Shell). JoinsAndLinks (solid_with flags s) h.0 h.1) (enumerate_from 0 (solid_with flags s).shells)
-        → IsClosedSolid (solid_with flags s)
+    → IsClosedSolid (solid_with flags s)

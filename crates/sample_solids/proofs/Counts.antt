@@ -45,7 +45,7 @@ apart same itself g (x ∷ xs) tell = (
       let one : k.0 ≡ x = tell k.0 x listed (inl refl) k.2 in
       let alike : same x k.0 ≡ true = ap (same x) one ∙ itself x in
       let apart : not (same x k.0) ≡ true = All-contains (λ y. not (same x y) ≡ true) (filter (λ y. not (same x y)) (distinct same xs)) k.0
-            (filter_passes (λ y. not (same x y)) (distinct same xs)) (Contains-from_Has (filter (λ y. not (same x y)) (distinct same xs)) k.0 k.1) in
+      (filter_passes (λ y. not (same x y)) (distinct same xs)) (Contains-from_Has (filter (λ y. not (same x y)) (distinct same xs)) k.0 k.1) in
       false≢true (sym (ap not alike) ∙ apart)),
   filtered_apart g (λ y. not (same x y)) (distinct same xs) (apart same itself g xs (λ a b h m. tell a b (inr h) (inr m))),
 )
@@ -60,7 +60,7 @@ counted g keys m none within all =
     let e : 1 + (k - 1) ≡ k = omega (arith, b, a.2) in
     subst (Has (numbers_from 1 m)) e (numbers_have 1 m (k - 1) (omega (arith, b, a.2)))) in
     let high : length (numbers_from 1 m) ≤ length (map g keys) = no_longer (numbers_from 1 m) (map g keys) (rises_none (numbers_from 1 m) (numbers_rise 1 m))
-          (λ k h.
+    (λ k h.
     let b = number_below 1 m k h in
     all k b.0 (omega (arith, b.1))) in
     omega (arith, low, high, length-numbers 1 m, length-map keys g)
@@ -85,14 +85,14 @@ edges_apart n = apart same_edge edge_itself (λ (k : EdgeKey). k.index) (flat_ma
 edge_keys_many : (n : ℕ) → 0 < n → length (edge_keys (sample n) (pos 1)) ≡ 2 * (n * n)
 edge_keys_many n some = counted (λ (k : EdgeKey). k.index) (edge_keys (sample n) (pos 1)) (2 * (n * n)) (edges_apart n)
     (λ k h. let s = key_is n k h in let r = edge_range n s.0 s.1 s.2 s.3 s.4 in let e : edge_of n s.0 s.1 s.2 ≡ k.index = ap (λ (q : EdgeKey). q.index) s.5
-        in (omega (arith, r, e), omega (arith, r, e)))
+    in (omega (arith, r, e), omega (arith, r, e)))
     (λ k low high.
     let a : ℕ = (k - 1) / 2 in
     let b : ℕ = 1 + (k - 1) % 2 in
     let e : 2 * a + b ≡ k = omega (arith, low) in
     subst (Has (map (λ (q : EdgeKey). q.index) (edge_keys (sample n) (pos 1)))) e
     (map_has (λ (q : EdgeKey). q.index) (edge_keys (sample n) (pos 1)) (key_of (2 * a + b))
-        (number_listed n a b some (omega (arith, low, high)) (omega arith) (omega arith))))
+    (number_listed n a b some (omega (arith, low, high)) (omega arith) (omega arith))))
 
 -- The solid has two edges for each square,
 pub edge_number : (n : ℕ) → 0 < n → length (the_solid n).edges ≡ 2 * n * n
@@ -113,7 +113,7 @@ points_apart n = apart same_vertex vertex_itself (λ (k : VertexKey). k.index) (
 vertex_keys_many : (n : ℕ) → 0 < n → length (vertex_keys (sample n) (pos 1)) ≡ n * n
 vertex_keys_many n some = counted (λ (k : VertexKey). k.index) (vertex_keys (sample n) (pos 1)) (n * n) (points_apart n)
     (λ k h. let s = point_is n k h in let r = mul-add-lt s.0 n s.1 n s.2 s.3 in let e : vertex n s.0 s.1 ≡ k.index = ap (λ (q : VertexKey). q.index) s.4
-        in (omega (arith, r, e), omega (arith, r, e)))
+    in (omega (arith, r, e), omega (arith, r, e)))
     (λ k low high.
     let e : k - 1 + 1 ≡ k = omega (arith, low) in
     subst (Has (map (λ (q : VertexKey). q.index) (vertex_keys (sample n) (pos 1)))) e

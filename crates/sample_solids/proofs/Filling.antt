@@ -71,14 +71,19 @@ delimiter_parts : (b delimiter : ℕ) → length (value_parts 72 (value.Text (b 
 delimiter_parts b delimiter =
     let word = decimal 1 ++ 72 ∷ [] in
     let short : length word ≤ 72 = let one = length-decimal-le 1 1 (lit< tt) (lit< tt) (omega arith) in omega (arith, one, length-append (decimal 1) (72 ∷ []))
-        in
+    in
     ap (λ xs. length (xs ++ single_parts (b ∷ delimiter ∷ []))) (cond-true (nat_le (length word) 72) _ _ (le-leb (length word) 72 short))
 
 -- a global without values has two
 pub length-global : (d : Delims) → length (parts 72 d (global_values (record { delims = d; values = [] }))) ≡ 6
 length-global d =
-    omega (arith, delimiter_parts d.param d.param, delimiter_parts d.end d.end, length-append (value_parts 72 (value.Text (d.param ∷ [])) d.param)
-        (value_parts 72 (value.Text (d.end ∷ [])) d.end))
+    omega (
+      arith,
+      delimiter_parts d.param d.param,
+      delimiter_parts d.end d.end,
+      length-append (value_parts 72 (value.Text (d.param ∷ [])) d.param)
+          (value_parts 72 (value.Text (d.end ∷ [])) d.end),
+    )
 
 -- ---- the lines of a record
 

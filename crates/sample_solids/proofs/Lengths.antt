@@ -30,8 +30,12 @@ length-directory : (first : ℕ) (es : Entries) (rs : List Lines) → length (di
 length-directory first [] rs = omega arith
 length-directory first (e ∷ es) [] = omega arith
 length-directory first (e ∷ es) (r ∷ rs) =
-    omega (arith, length-directory (first + length r) es rs, length-append (entry_lines e.0 (first_of e.0 first) (length r))
-    (directory_lines (first + length r) es rs))
+    omega (
+      arith,
+      length-directory (first + length r) es rs,
+      length-append (entry_lines e.0 (first_of e.0 first) (length r))
+          (directory_lines (first + length r) es rs),
+    )
 
 -- ---- the records
 

@@ -143,19 +143,19 @@ module _ (d : ShellRows) (n : ℕ) (edge point : ℕ → ℕ) (mesh : IsMesh d n
   same_across : (i j a b : ℕ) → i < n → j < n → a < n → b < n → edge (across n i j) ≡ edge (across n a b) → (i ≡ a) × (j ≡ b)
   same_across i j a b li lj la lb e =
       let w : 2 * (i * n + j) + 1 ≡ 2 * (a * n + b) + 1 = mesh.one_edge (i * n + j) (a * n + b) (mul-add-lt i n j n li lj) (mul-add-lt a n b n la lb) 1 1
-            (omega arith) (omega arith) (omega arith) (omega arith) e in
+      (omega arith) (omega arith) (omega arith) (omega arith) e in
       same_from_place i j a b n lj lb (omega (arith, w))
 
   same_up : (i j a b : ℕ) → i < n → j < n → a < n → b < n → edge (up n i j) ≡ edge (up n a b) → (i ≡ a) × (j ≡ b)
   same_up i j a b li lj la lb e =
       let w : 2 * (i * n + j) + 2 ≡ 2 * (a * n + b) + 2 = mesh.one_edge (i * n + j) (a * n + b) (mul-add-lt i n j n li lj) (mul-add-lt a n b n la lb) 2 2
-            (omega arith) (omega arith) (omega arith) (omega arith) e in
+      (omega arith) (omega arith) (omega arith) (omega arith) e in
       same_from_place i j a b n lj lb (omega (arith, w))
 
   other_kind : (i j a b : ℕ) → i < n → j < n → a < n → b < n → edge (up n i j) ≡ edge (across n a b) → ⊥
   other_kind i j a b li lj la lb e =
       let w : 2 * (i * n + j) + 2 ≡ 2 * (a * n + b) + 1 = mesh.one_edge (i * n + j) (a * n + b) (mul-add-lt i n j n li lj) (mul-add-lt a n b n la lb) 2 1
-            (omega arith) (omega arith) (omega arith) (omega arith) e in
+      (omega arith) (omega arith) (omega arith) (omega arith) e in
       omega (arith, w)
 
   same_vertex : (i j a b : ℕ) → i < n → j < n → a < n → b < n → point (vertex n i j) ≡ point (vertex n a b) → (i ≡ a) × (j ≡ b)
@@ -288,14 +288,21 @@ module _ (d : ShellRows) (n : ℕ) (edge point : ℕ → ℕ) (mesh : IsMesh d n
   turn_near a b la lb = (number n (back n a) b far, mate_near a b la lb, mesh.follows (back n a) b far (back_in a la) lb)
 
   turn_left : (a b : ℕ) → a < n → b < n → Turns d (corner a b left) (corner a b far)
-  turn_left a b la lb = (number n (back n a) (back n b) right, mate_left (back n a) b (back_in a la) lb, mesh.follows (back n a) (back n b) right
-      (back_in a la) (back_in b lb))
+  turn_left a b la lb = (
+    number n (back n a) (back n b) right,
+    mate_left (back n a) b (back_in a la) lb,
+    mesh.follows (back n a) (back n b) right
+        (back_in a la) (back_in b lb),
+  )
 
   turn_far : (a b : ℕ) → a < n → b < n → Turns d (corner a b far) (corner a b right)
   turn_far a b la lb =
-      subst (λ k. Turns d (corner a b far) (number n k (back n b) right)) (next_back n a la)
-      (number n (next n (back n a)) (back n b) near, mate_far (back n a) (back n b) (back_in a la) (back_in b lb), mesh.follows (next n (back n a)) (back n b)
-          near (next_in (back n a)) (back_in b lb))
+      subst (λ k. Turns d (corner a b far) (number n k (back n b) right)) (next_back n a la) (
+        number n (next n (back n a)) (back n b) near,
+        mate_far (back n a) (back n b) (back_in a la) (back_in b lb),
+        mesh.follows (next n (back n a)) (back n b)
+            near (next_in (back n a)) (back_in b lb),
+      )
 
   turn_right : (a b : ℕ) → a < n → b < n → Turns d (corner a b right) (corner a b near)
   turn_right a b la lb =
@@ -354,7 +361,7 @@ module _ (d : ShellRows) (n : ℕ) (edge point : ℕ → ℕ) (mesh : IsMesh d n
         let y = start_is a b la lb s at_s in
         let chain : LeadsTo (Turns d) (corner a b x.0) (corner a b y.0) =
         leads_trans (Turns d) (corner a b x.0) (corner a b near) (corner a b y.0) (to_near a b x.0 la lb).0 (to_near a b x.0 la lb).1 (from_near a b y.0 la lb)
-            in
+        in
         subst (λ k. LeadsTo (Turns d) k s) (sym x.1) (subst (λ k. LeadsTo (Turns d) (corner a b x.0) k) (sym y.1) chain);
     no_point = ap (λ (ps : List (LoopAt × ℕ)). count_by (λ (p : LoopAt × ℕ). p.1 == point (vertex n a b)) ps) mesh.points;
   })
@@ -380,7 +387,7 @@ module _ (d : ShellRows) (n : ℕ) (edge point : ℕ → ℕ) (mesh : IsMesh d n
       let low : i < n = omega (arith, lt) in
       let step : next n i ≡ suc i = next_small n i (omega (arith, lt)) ∙ omega arith in
       leads_last (AreNeighbours d) 0 (i * n + 0) (suc i * n + 0) (reach_up i low)
-          (subst (λ k. AreNeighbours d (i * n + 0) (k * n + 0)) step (above i 0 low mesh.some))
+      (subst (λ k. AreNeighbours d (i * n + 0) (k * n + 0)) step (above i 0 low mesh.some))
 
   reach : (i j : ℕ) → i < n → j < n → IsReached d (i * n + j)
   reach i zero li lj = reach_up i li
@@ -388,7 +395,7 @@ module _ (d : ShellRows) (n : ℕ) (edge point : ℕ → ℕ) (mesh : IsMesh d n
       let low : j < n = omega (arith, lj) in
       let step : next n j ≡ suc j = next_small n j (omega (arith, lj)) ∙ omega arith in
       leads_last (AreNeighbours d) 0 (i * n + j) (i * n + suc j) (reach i j li low)
-          (subst (λ k. AreNeighbours d (i * n + j) (i * n + k)) step (beside i j li low))
+      (subst (λ k. AreNeighbours d (i * n + j) (i * n + k)) step (beside i j li low))
 
   -- Each face is reached.
   pub mesh_reached : AllByRecursion (IsReached d) (numbers_from 0 (n * n))

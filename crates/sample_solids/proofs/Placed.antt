@@ -121,7 +121,7 @@ end_holds : (n i j : ℕ) (s : Side) → i < n → j < n → (entity : ℤ) (pla
 end_holds n i j s li lj entity place k h =
     let v = end_is (λ m. m) n i j s li lj k h in
     item_holds (sample n) entity place vertices (pos 5) (pos k) (length (told vertices (sample n) (pos 5))) (vertices_hold n (omega (arith, li)) entity place)
-        (vertex_within n v.0 v.1 k v.2 v.3 v.4)
+    (vertex_within n v.0 v.1 k v.2 v.3 v.4)
 
 edge_holds : (n i j : ℕ) (s : Side) → i < n → j < n → (m : ℕ) → AllHold (edge_places (sample n) (pos 7) m (edge_at (sample n) (pos 7) (edge_of n i j s)))
 edge_holds n i j s li lj m =
@@ -145,7 +145,7 @@ side_holds n i j s li lj l before =
     AllHold-append (used_places f l k (pos 7) (pos e) false) (obligation BadGeometry (entry_number l) k (All (λ (c : Bool × ℤ). NamesGeometry f c.1) []) ∷ [])
     (AllHold-append (item_places f l k edges (pos 7) (pos e) (length (told edges f (pos 7)))) (edge_places f (pos 7) e (edge_at f (pos 7) e))
     (item_holds f l k edges (pos 7) (pos e) (length (told edges f (pos 7))) (edges_hold n (omega (arith, li)) l k)
-        (e, refl, range.0, omega (arith, range.1, edges_told_many n)))
+    (e, refl, range.0, omega (arith, range.1, edges_told_many n)))
     (edge_holds n i j s li lj e))
     (All-nil (λ (c : Bool × ℤ). NamesGeometry f c.1), tt)
 
@@ -160,7 +160,7 @@ loop_holds n i j li lj used before fresh =
     let l : ℤ = pos (face_number n i j + 2) in
     let k : ℕ = length before + 1 in
     AllHold-append (record_places f c k «loop» l)
-        (obligation Twice (entry_number c) k (¬ Contains (used ++ before) l) ∷ after_each (tuple_places f l) [] (tuples f l))
+    (obligation Twice (entry_number c) k (¬ Contains (used ++ before) l) ∷ after_each (tuple_places f l) [] (tuples f l))
     (record_holds f c k «loop» l (entry 508 1 (loop_record n (i, j))) (loop_named n i j li lj) refl (inr refl) (loop_fits n (i, j))) (
       fresh,
       subst (λ ts. AllHold (after_each (tuple_places f l) [] ts)) (sym (tuples_are n i j li lj))
@@ -212,7 +212,7 @@ loop_fresh n k i j some at h =
     let c = from_flat_map (loops f) (numbers (take k (map (face_item n) (squares n)))) l there in
     let x = lesser n k c.0 some c.1 in
     let listed : Has (pos (face_number n x.0 x.1 + 2) ∷ []) l =
-          subst (λ ls. Has ls l) (loops_are n x.0 x.1 x.3 x.4) (subst (λ z. Has (loops f z) l) (sym x.5) c.2) in
+    subst (λ ls. Has ls l) (loops_are n x.0 x.1 x.3 x.4) (subst (λ z. Has (loops f z) l) (sym x.5) c.2) in
     let e = pos_same (face_number n x.0 x.1 + 2) (face_number n i j + 2) (only_one (pos (face_number n x.0 x.1 + 2)) l listed) in
     omega (arith, e, at, x.6, x.7)
 
@@ -228,7 +228,7 @@ face_holds n k i j li lj at =
     let used : List ℤ = flat_map (loops f) (numbers before) in
     AllHold-append (record_places f (pos 3) m face c)
     (obligation Twice 3 m (¬ Contains (numbers before) c) ∷ obligation BadGeometry (entry_number c) 0
-        (let items = told face f c in NamesGeometry f items.surface) ∷ after_each (loop_places f c used) [] (loops f c))
+    (let items = told face f c in NamesGeometry f items.surface) ∷ after_each (loop_places f c used) [] (loops f c))
     (record_holds f (pos 3) m face c (entry 510 1 (face_record n (i, j))) (face_named n i j li lj) refl (inr refl) (face_fits n (i, j))) (
       face_fresh n k i j some at,
       (
@@ -248,7 +248,7 @@ unfolding shell_places
 shell_holds n some =
     let f : Contents = sample n in
     AllHold-append (record_places f (pos 1) 1 shell (pos 3))
-        (obligation Twice 1 1 (¬ Contains [] (pos 3)) ∷ after_each (face_places f (pos 3) []) [] (faces f (pos 3)))
+    (obligation Twice 1 1 (¬ Contains [] (pos 3)) ∷ after_each (face_places f (pos 3) []) [] (faces f (pos 3)))
     (record_holds f (pos 1) 1 shell (pos 3) (entry 514 1 (shell_record n)) (shell_named n) refl refl (shell_fits n some)) (
       none_in_nothing (pos 3),
       subst (λ cs. AllHold (after_each (face_places f (pos 3) []) [] cs)) (sym (faces_are n))

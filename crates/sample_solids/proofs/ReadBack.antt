@@ -76,8 +76,13 @@ global_parts n = length-global no_values.delims
 
 pub writable : (n : ℕ) → 0 < n → n ≤ 200 → IsWritable (sample n)
 unfolding sample
-writable n some few = record { made = made n few; delims = refl; global_values = refl; held =
-    all_held no_values.delims (sample n).entries (all_short no_values.delims n some few) }
+writable n some few = record {
+  made = made n few;
+  delims = refl;
+  global_values = refl;
+  held =
+      all_held no_values.delims (sample n).entries (all_short no_values.delims n some few);
+}
 
 pub within : SamplesAreWithin
 within n low high text t =

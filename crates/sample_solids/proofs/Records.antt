@@ -66,13 +66,13 @@ pub face_named : (n i j : ℕ) → i < n → j < n → named (sample n) (pos (fa
 face_named n i j li lj =
     let e = square_small n i j li lj in
     named_at n (face_number n i j) (6 + (2 * (i * n + j) + 0)) (entry 510 1 (face_record n (i, j))) (omega (arith, e))
-        (square_entry n i j 0 li lj (omega arith)) refl
+    (square_entry n i j 0 li lj (omega arith)) refl
 
 pub loop_named : (n i j : ℕ) → i < n → j < n → named (sample n) (pos (face_number n i j + 2)) ≡ Some (entry 508 1 (loop_record n (i, j)))
 loop_named n i j li lj =
     let e = square_small n i j li lj in
     named_at n (face_number n i j + 2) (6 + (2 * (i * n + j) + 1)) (entry 508 1 (loop_record n (i, j))) (omega (arith, e))
-        (square_entry n i j 1 li lj (omega arith)) refl
+    (square_entry n i j 1 li lj (omega arith)) refl
 
 -- ---- the items of the records
 
@@ -165,7 +165,7 @@ vertices_fit n some =
     let count : length (map vertex_item (squares n)) ≡ n * n = length-map (squares n) vertex_item ∙ length_squares n in
     let many : 0 < length (map vertex_item (squares n)) = omega (arith, count, some_squares n some) in
     subst (λ items. MeetsAll (due vertices items) (map whole (vertex_record n))) (sym (vertex_items n))
-        ((ap whole (sym count), many), vertices_meet (squares n))
+    ((ap whole (sym count), many), vertices_meet (squares n))
 
 edges_meet : (n : ℕ) (ss : List (ℕ × ℕ)) → MeetsAll (flat_map edge_due (flat_map (edge_items_of n) ss)) (map whole (flat_map (edges_listed n) ss))
 edges_meet n [] = tt
@@ -187,6 +187,17 @@ face_fits n s = (refl, ((refl, omega arith), (refl, (refl, tt))))
 pub loop_fits : (n : ℕ) (s : ℕ × ℕ) → IsRecordOf «loop» (map whole (loop_record n s))
 loop_fits n s = (
   (refl, omega arith),
-  (refl, (refl, (refl, (refl,
-      (inl refl, (refl, (refl, (refl, (refl, (inl refl, (refl, (refl, (refl, (refl, (inl refl, (refl, (refl, (refl, (refl, (inl refl, tt)))))))))))))))))))),
+  (
+    refl,
+    (
+      refl,
+      (
+        refl,
+        (
+          refl,
+          (inl refl, (refl, (refl, (refl, (refl, (inl refl, (refl, (refl, (refl, (refl, (inl refl, (refl, (refl, (refl, (refl, (inl refl, tt)))))))))))))))),
+        ),
+      ),
+    ),
+  ),
 )

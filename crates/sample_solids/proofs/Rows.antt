@@ -69,10 +69,14 @@ face_placed : (n base : ℕ) (p : ℕ × ℕ) → p.0 < n → p.1 < n → placed
 face_placed n base p li lj =
     let f : Contents = sample n in
     ap (λ (ls : List ℤ). placed_in_face true
-        (base, record { entity = entry_no (pos (face_number n p.0 p.1)); flag = true; loops = map (loop_of f (pos 1)) ls })) (loops_are n p.0 p.1 li lj)
+    (base, record { entity = entry_no (pos (face_number n p.0 p.1)); flag = true; loops = map (loop_of f (pos 1)) ls })) (loops_are n p.0 p.1 li lj)
     ∙ ap (λ (ts : List LoopTuple).
-        record { at = record { face = record { 0 = base }; place = 0 }; forwards = true; loop =
-        record { entity = entry_no (pos (face_number n p.0 p.1 + 2)); uses = map (use_of f (pos 1)) ts } } ∷ [])
+    record {
+      at = record { face = record { 0 = base }; place = 0 };
+      forwards = true;
+      loop =
+          record { entity = entry_no (pos (face_number n p.0 p.1 + 2)); uses = map (use_of f (pos 1)) ts };
+    } ∷ [])
     (tuples_are n p.0 p.1 li lj)
 
 placed_from : (n base : ℕ) (ss : List (ℕ × ℕ)) → ((s : ℕ × ℕ) → Has ss s → (s.0 < n) × (s.1 < n))
@@ -81,7 +85,7 @@ placed_from n base [] below = refl
 placed_from n base (s ∷ ss) below =
     let here = below s (inl refl) in
     ap (λ ps. ps ++ flat_map (placed_in_face true) (enumerate_from (base + 1) (map (face_of (sample n) (pos 1)) (map (face_item n) ss))))
-        (face_placed n base s here.0 here.1)
+    (face_placed n base s here.0 here.1)
     ∙ ap (λ ps. placed n (base, s) ∷ ps) (placed_from n (base + 1) ss (λ t h. below t (inr h)))
 
 abbrev pub the_loops : ℕ → List PlacedLoop
@@ -90,7 +94,7 @@ the_loops n = map (placed n) (enumerate_from 0 (squares n))
 pub placed_are : (n : ℕ) → placed_loops (the_shell n) ≡ the_loops n
 placed_are n =
     ap (λ cs. flat_map (placed_in_face true) (enumerate_from 0 (map (face_of (sample n) (pos 1)) cs))) (faces_are n)
-        ∙ placed_from n 0 (squares n) (squares_below n)
+    ∙ placed_from n 0 (squares n) (squares_below n)
 
 loop_is : (n : ℕ) (p : PlacedLoop) → Has (the_loops n) p → (q : ℕ × (ℕ × ℕ)) × (q.1.0 < n) × (q.1.1 < n) × (placed n q ≡ p)
 loop_is n p h =
@@ -169,7 +173,7 @@ unfolding shell_rows
 row_get n i j s li lj =
     ap (λ ps. slice_get (flat_map (loop_rows (the_solid n)) ps) (number n i j s)) (placed_are n)
     ∙ (get_chunk (loop_rows (the_solid n)) 4 (the_loops n) (four_each n) (i * n + j) (place s) (number n i j s) (placed n (i * n + j, (i, j)))
-        (loop_get n i j li lj) (place_below s) refl
+    (loop_get n i j li lj) (place_below s) refl
     ∙ (ap (λ rs. slice_get rs (place s)) (rows_are n (i * n + j) i j li lj) ∙ row_got n (i * n + j) i j s))
 
 pub rows_many : (n : ℕ) → length (the_rows n).rows ≡ 4 * (n * n)
@@ -225,7 +229,7 @@ follows_get s (p ∷ ps) four ahead base k c lt =
     by_number (suc k) later lt =
         let f : base + 4 + (4 * k + place (after c)) ≡ base + (4 * suc k + place (after c)) = omega arith in
         get_right (next_of_each (numbers_from base 4)) (follows_from s (base + 4) ps) (4 * suc k + place c) (4 * k + place c) (omega arith)
-            ∙ (later k c (omega (arith, lt)) ∙ ap Some f)
+        ∙ (later k c (omega (arith, lt)) ∙ ap Some f)
 
 all_ahead : (n : ℕ) (p : PlacedLoop) → Has (the_loops n) p → p.forwards ≡ true
 all_ahead n p h = let q = loop_is n p h in sym (ap (λ (x : PlacedLoop). x.forwards) q.3)
@@ -260,7 +264,7 @@ no_points n =
     subst (λ x. points_of n x ≡ []) q.3
     (edge_first (placed n q.0) (record { 0 = edge_id n (edge_of n q.0.1.0 q.0.1.1 near) }) true
     (side_use n q.0.1.0 q.0.1.1 right ∷ side_use n q.0.1.0 q.0.1.1 far ∷ side_use n q.0.1.0 q.0.1.1 left ∷ [])
-        (map (λ (r : Row). r.edge.0) (loop_rows (the_solid n) (placed n q.0)))))
+    (map (λ (r : Row). r.edge.0) (loop_rows (the_solid n) (placed n q.0)))))
 
 -- ---- which edges and vertices occur
 
@@ -275,7 +279,7 @@ edge_occurs : (n e : ℕ) → Has (the_rows n).edges e → (i j : ℕ) × (s : S
 unfolding shell_rows
 edge_occurs n e h =
     let u = from_flat_map edge_used (shell_uses (the_shell n)) e (from_occurring (numbers_from 0 (length (the_solid n).edges)) (shell_edges (the_shell n)) e h)
-        in
+    in
     let s = use_is n u.0 u.1 in
     (s.0, s.1, s.2, s.3, s.4, only_one (edge_id n (edge_of n s.0 s.1 s.2)) e (subst (λ w. Has (edge_used w) e) (sym s.5) u.2))
 
@@ -283,10 +287,10 @@ vertex_occurs : (n v : ℕ) → Has (the_rows n).vertices v → (i j : ℕ) × (
 unfolding shell_rows
 vertex_occurs n v h =
     let u = from_flat_map (vertices_used (the_solid n)) (shell_uses (the_shell n)) v
-          (from_occurring (numbers_from 0 (length (the_solid n).vertices)) (shell_vertices (the_solid n) (the_shell n)) v h) in
+    (from_occurring (numbers_from 0 (length (the_solid n).vertices)) (shell_vertices (the_solid n) (the_shell n)) v h) in
     let s = use_is n u.0 u.1 in
     let at_end : Has (ends_of (slice_get (the_solid n).edges (edge_id n (edge_of n s.0 s.1 s.2)))) v =
-          subst (λ w. Has (vertices_used (the_solid n) w) v) (sym s.5) u.2 in
+    subst (λ w. Has (vertices_used (the_solid n) w) v) (sym s.5) u.2 in
     end_is (point_id n) n s.0 s.1 s.2 s.3 s.4 v (subst (λ o. Has (ends_of o) v) (edge_found n s.0 s.1 s.2 s.3 s.4) at_end)
 
 -- The rows of a sample are those of a mesh.

@@ -46,14 +46,14 @@ unfolding sample
 sample_total n =
     let a = total_append values_in (first_entries n) (flat_map (face_entries n) (squares n)) in
     let b : total values_in (flat_map (face_entries n) (squares n)) ≡ 25 * length (squares n) =
-          total_chunks values_in (face_entries n) 25 (squares n) (λ s. refl) in
+    total_chunks values_in (face_entries n) 25 (squares n) (λ s. refl) in
     omega (arith, a, b, first_total n, length_squares n)
 
 pub sample_length : (n : ℕ) → length (sample n).entries ≡ 6 + 2 * (n * n)
 unfolding sample
 sample_length n =
     let a : length (first_entries n ++ flat_map (face_entries n) (squares n)) ≡ length (first_entries n) + length (flat_map (face_entries n) (squares n)) =
-          length-append (first_entries n) (flat_map (face_entries n) (squares n)) in
+    length-append (first_entries n) (flat_map (face_entries n) (squares n)) in
     let b : length (flat_map (face_entries n) (squares n)) ≡ 2 * length (squares n) = length_chunks (face_entries n) 2 (squares n) (λ s h. refl) in
     omega (arith, a, b, length_squares n)
 

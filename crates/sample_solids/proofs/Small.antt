@@ -55,7 +55,7 @@ module _ (n : ℕ) (some : 0 < n) (few : n ≤ 200) where
     omega (arith, few_squares n few, mul_assoc 2 n n),
     all_flat_map IsSmall (edges_listed n) (squares n) (λ s h.
         all_append IsSmall (edge_between (vertex_index n s.0 s.1) (vertex_index n s.0 (s.1 + 1)))
-            (edge_between (vertex_index n s.0 s.1) (vertex_index n (s.0 + 1) s.1))
+        (edge_between (vertex_index n s.0 s.1) (vertex_index n (s.0 + 1) s.1))
         (edge_small _ _ (vertex_few s.0 s.1) (vertex_few s.0 (s.1 + 1))) (edge_small _ _ (vertex_few s.0 s.1) (vertex_few (s.0 + 1) s.1))),
   )
 
@@ -72,7 +72,7 @@ module _ (n : ℕ) (some : 0 < n) (few : n ≤ 200) where
         all_append IsSmall ((a ++ b) ++ c) d
             (all_append IsSmall (a ++ b) c
             (all_append IsSmall a b (use_small (across_index n s.0 s.1) 1 (across_few s.0 s.1) (omega arith))
-                (use_small (up_index n s.0 (s.1 + 1)) 1 (up_few s.0 (s.1 + 1)) (omega arith)))
+            (use_small (up_index n s.0 (s.1 + 1)) 1 (up_few s.0 (s.1 + 1)) (omega arith)))
             (use_small (across_index n (s.0 + 1) s.1) 0 (across_few (s.0 + 1) s.1) (omega arith)))
             (use_small (up_index n s.0 s.1) 0 (up_few s.0 s.1) (omega arith)),
       )

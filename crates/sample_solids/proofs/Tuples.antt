@@ -38,7 +38,7 @@ square_tuples n s = side_tuple n s.0 s.1 near ∷ side_tuple n s.0 s.1 right ∷
 
 four_tuples : (a b c d x y z w : ℕ) → a ≡ x → b ≡ y → c ≡ z → d ≡ w
     → ◌≡◌ {A = List LoopTuple} (use_tuple a true ∷ use_tuple b true ∷ use_tuple c false ∷ use_tuple d false ∷ [])
-        (use_tuple x true ∷ use_tuple y true ∷ use_tuple z false ∷ use_tuple w false ∷ [])
+    (use_tuple x true ∷ use_tuple y true ∷ use_tuple z false ∷ use_tuple w false ∷ [])
 four_tuples a b c d x y z w e f g h = λ t. use_tuple (e t) true ∷ use_tuple (f t) true ∷ use_tuple (g t) false ∷ use_tuple (h t) false ∷ []
 
 tuples_same : (n i j : ℕ) → i < n → j < n → loop_tuples n (i, j) ≡ square_tuples n (i, j)
@@ -108,10 +108,10 @@ pub across_at : (n i j : ℕ) → i < n → j < n → edge_at (sample n) (pos 7)
 across_at n i j li lj =
     edge_got n i j 0 (across n i j) li lj (omega arith) (omega arith)
     ∙ tuple_same (vertex_index n i j) (vertex_index n i (j + 1)) (vertex n i j) (vertex n i (next n j)) (ap (λ k. k + 1) (square_small n i j li lj))
-        (ap (λ k. k + 1) (square_next n i j li))
+    (ap (λ k. k + 1) (square_next n i j li))
 
 pub up_at : (n i j : ℕ) → i < n → j < n → edge_at (sample n) (pos 7) (up n i j) ≡ Some (edge_tuple (vertex n i j) (vertex n (next n i) j))
 up_at n i j li lj =
     edge_got n i j 1 (up n i j) li lj (omega arith) (omega arith)
     ∙ tuple_same (vertex_index n i j) (vertex_index n (i + 1) j) (vertex n i j) (vertex n (next n i) j) (ap (λ k. k + 1) (square_small n i j li lj))
-        (ap (λ k. k + 1) (next_square n i j lj))
+    (ap (λ k. k + 1) (next_square n i j lj))

@@ -88,7 +88,7 @@ no_row_between d face a b t =
     let e : b ≡ a + (b - a) = omega (arith, t.low) in
     ap (λ k. filter (λ r. face_of d r == face) (numbers_from 0 k)) e
     ∙ none_between (λ r. face_of d r == face) a (b - a)
-        (λ x low high. not_on d face x (omega (arith, high, e, t.high)) (λ on. let late : b ≤ x = t.all x on low in omega (arith, late, high, e)))
+    (λ x low high. not_on d face x (omega (arith, high, e, t.high)) (λ on. let late : b ≤ x = t.all x on low in omega (arith, late, high, e)))
 
 -- the mates of the rows on a face up to a row
 abbrev pub across_below : ShellRows → ℕ → ℕ → List ℕ → List ℕ
@@ -178,7 +178,7 @@ crosses_new d marks order os rows rs r mate other flood pair on unmarked new_ord
     crossed_new d crossed order rows mate h (λ old. let e : true ≡ false = sym (flood.marked other (subst (Has order) face old)) ∙ unmarked in absurd (cc)) in
     let at_mate : HasCrossed d (crossed ++ mate ∷ []) os rs =
     subst (λ k. HasCrossed d (crossed ++ mate ∷ []) os k) (sym new_rows)
-        (subst (λ k. HasCrossed d (crossed ++ mate ∷ []) k (rows ++ mate ∷ [])) (ap (λ f. order ++ f ∷ []) face ∙ sym new_order) more) in
+    (subst (λ k. HasCrossed d (crossed ++ mate ∷ []) k (rows ++ mate ∷ [])) (ap (λ f. order ++ f ∷ []) face ∙ sym new_order) more) in
     subst (λ m. HasCrossed d (crossed ++ m ∷ []) os rs) (mate_is d mates r mate have pair) at_mate
 
 pub crosses_none : (d : ShellRows) (those : List ℕ → List ℕ) (order rows : List ℕ) → ((mates : List ℕ) → those mates ≡ [])
@@ -190,7 +190,7 @@ pub crosses_both : (d : ShellRows) (xs ys zs : List ℕ → List ℕ) (o1 r1 o2 
     → ((mates : List ℕ) → zs mates ≡ xs mates ++ ys mates) → Crosses d zs o1 r1 o3 r3
 crosses_both d xs ys zs o1 r1 o2 r2 o3 r3 f g e mates crossed have h =
     subst (λ k. HasCrossed d k o3 r3) (append_assoc crossed (xs mates) (ys mates) ∙ ap (λ k. crossed ++ k) (sym (e mates)))
-        (g mates (crossed ++ xs mates) have (f mates crossed have h))
+    (g mates (crossed ++ xs mates) have (f mates crossed have h))
 
 pub crosses_as : (d : ShellRows) (xs ys : List ℕ → List ℕ) (o1 r1 o2 r2 : List ℕ) → Crosses d xs o1 r1 o2 r2 → ((mates : List ℕ) → ys mates ≡ xs mates)
     → Crosses d ys o1 r1 o2 r2
@@ -221,7 +221,7 @@ place_more d old new q mates grows same = ap (λ xs. flat_map (across d mates) x
     by_place (inr high) =
         ap (take (q + 1)) (same high)
         ∙ (take_all (q + 1) old (omega (arith, high))
-            ∙ (sym (take_all q old high) ∙ (sym (append-nil (take q old)) ∙ ap (λ o. take q old ++ option_to_list o) (sym (slice_get_past old q high)))))
+        ∙ (sym (take_all q old high) ∙ (sym (append-nil (take q old)) ∙ ap (λ o. take q old ++ option_to_list o) (sym (slice_get_past old q high)))))
 
 -- rows that all mates lead to are breadth first
 pub breadth_first : (d : ShellRows) (start_order start_rows order rows : List ℕ) → ArePaired d → HasCrossed d [] start_order start_rows

@@ -202,8 +202,11 @@ in_numbers n f lt = number_within 0 n f (omega arith) (omega (arith, lt))
 
 pub order_few : (d : ShellRows) (marks : List Bool) (order rows : List ℕ) → IsFlood d marks order rows → length order ≤ d.face_count
 order_few d marks order rows h =
-    omega (arith, no_longer order (numbers_from 0 d.face_count) h.apart (λ f m. in_numbers d.face_count f (listed_low d marks order rows f h m)),
-    length-numbers 0 d.face_count)
+    omega (
+      arith,
+      no_longer order (numbers_from 0 d.face_count) h.apart (λ f m. in_numbers d.face_count f (listed_low d marks order rows f h m)),
+      length-numbers 0 d.face_count,
+    )
 
 -- all places are done, so all faces are
 pub each_done : (d : ShellRows) (marks : List Bool) (order rows : List ℕ) (q : ℕ) → IsFlood d marks order rows → d.face_count ≤ q
@@ -251,7 +254,7 @@ pub face_missed : (d : ShellRows) (i : ℕ) → i < d.face_count → LeftIn (IsR
 face_missed d i lt l ne =
     subst (FirstNot (IsReached d) (numbers_from 0 d.face_count)) (number_at d.face_count i lt)
     (left_in_fails (IsReached d) (numbers_from 0 d.face_count) (numbers_from 0 d.face_count) i 0 (number_in d.face_count i lt) l
-        (λ h. ne (subst (IsReached d) (number_at d.face_count i lt) h)))
+    (λ h. ne (subst (IsReached d) (number_at d.face_count i lt) h)))
 
 pub faces_done : (d : ShellRows) (i : ℕ) → d.face_count ≤ i → LeftIn (IsReached d) (drop i (numbers_from 0 d.face_count)) (numbers_from 0 d.face_count)
     → AllByRecursion (IsReached d) (numbers_from 0 d.face_count)

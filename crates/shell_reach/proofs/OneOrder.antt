@@ -23,7 +23,7 @@ one_mates : (d : ShellRows) (a b : List ℕ) → HaveMates d a → HaveMates d b
 one_mates d a b h k =
     ext_get_or 0 a b (h.each ∙ sym k.each)
     (λ i low. one_mate d (paired_rows d h.whole) i (get_or a i 0) (get_or b i 0) (h.mate i (get_or a i 0) (slice_get-get_or a i 0 low))
-        (k.mate i (get_or b i 0) (slice_get-get_or b i 0 (omega (arith, low, h.each, k.each)))))
+    (k.mate i (get_or b i 0) (slice_get-get_or b i 0 (omega (arith, low, h.each, k.each)))))
 
 passes : (p : ℕ → Bool) (xs : List ℕ) (x : ℕ) → Has xs x → p x ≡ true → Has (filter p xs) x
 passes p [] x h e = absurd h
@@ -40,9 +40,9 @@ is_across d mates from r m have pair on =
     let low : m < length d.rows = slice_get_within d.rows m pair.mate pair.at_m in
     let there : Has (filter (λ x. face_of d x == from) (numbers_from 0 (length d.rows))) m =
     passes (λ x. face_of d x == from) (numbers_from 0 (length d.rows)) m (number_within 0 (length d.rows) m (omega arith) (omega (arith, low)))
-        (eq-eqb (face_of d m) from (face_is d from m on)) in
+    (eq-eqb (face_of d m) from (face_is d from m on)) in
     subst (Has (across d mates from)) (sym (mate_is d mates m r have (mates_back d r m pair)))
-        (map_has (λ x. get_or mates x 0) (filter (λ x. face_of d x == from) (numbers_from 0 (length d.rows))) m there)
+    (map_has (λ x. get_or mates x 0) (filter (λ x. face_of d x == from) (numbers_from 0 (length d.rows))) m there)
 
 has_any : (n : ℕ) (ids : List ℕ) → list_any (λ m. m == n) ids ≡ true → Has ids n
 has_any n [] h = absurd cc
@@ -76,7 +76,7 @@ split [] (y ∷ q) x xs t e = let same : y ≡ x = ap (λ l. get_or l 0 0) (sym 
 split (z ∷ p) (y ∷ q) x xs t e =
     let same : y ≡ z = ap (λ l. get_or l 0 0) (sym e) in
     ⊎_elim (λ a. inl (a.0, ap (λ w. w ∷ q) same ∙ ap (λ l. z ∷ l) a.1)) (λ b. inr (b.0, ap (λ w. w ∷ p) (sym same) ∙ ap (λ l. y ∷ l) b.1))
-        (split p q x xs t (ap (drop 1) e))
+    (split p q x xs t (ap (drop 1) e))
 
 -- the rows that are kept when all rows across the faces of these rows are crossed
 abbrev kept_of : ShellRows → List ℕ → List ℕ → List ℕ
@@ -86,7 +86,7 @@ kept_of d mates rows = on_new_faces (face_of d) (0 ∷ []) (flat_map (across d m
 next_kept : (d : ShellRows) (mates p known : List ℕ) (x : ℕ) (xs : List ℕ) (face : ℕ) → HaveMates d mates → p ++ x ∷ xs ≡ kept_of d mates (p ++ x ∷ xs)
     → ReachesOne d known x face
     → ((g : ℕ) → Has known g → Has (0 ∷ map (face_of d) p) g) → ((g : ℕ) → Has (0 ∷ map (face_of d) p) g → Has known g)
-        → (r : List ℕ) × (kept_of d mates p ≡ p ++ x ∷ r)
+    → (r : List ℕ) × (kept_of d mates p ≡ p ++ x ∷ r)
 next_kept d mates p known x xs face have order one into back = ⊎_elim (λ a. a) (λ b. absurd (before b.0 b.1)) (split p (kept_of d mates p) x xs more whole)
   where
     crossed : List ℕ
@@ -112,10 +112,10 @@ next_kept d mates p known x xs face have order one into back = ⊎_elim (λ a. a
     before : (r : List ℕ) → p ≡ kept_of d mates p ++ r → ⊥
     before r e =
         let faces : map (face_of d) p ≡ map (face_of d) (kept_of d mates p) ++ map (face_of d) r = ap (map (face_of d)) e
-              ∙ map-append (face_of d) (kept_of d mates p) r in
+        ∙ map-append (face_of d) (kept_of d mates p) r in
         let old : Has (0 ∷ map (face_of d) (kept_of d mates p)) (face_of d x) = faces_kept (face_of d) (0 ∷ []) crossed x there in
         let all : Has (0 ∷ map (face_of d) p) (face_of d x) =
-              subst (λ fs. Has (0 ∷ fs) (face_of d x)) (sym faces) (has_left (0 ∷ map (face_of d) (kept_of d mates p)) (map (face_of d) r) (face_of d x) old) in
+        subst (λ fs. Has (0 ∷ fs) (face_of d x)) (sym faces) (has_left (0 ∷ map (face_of d) (kept_of d mates p)) (map (face_of d) r) (face_of d x) old) in
         one.new (Contains-from_Has known face (back face (subst (Has (0 ∷ map (face_of d) p)) (face_is d face x one.on_face) all)))
 
 abbrev AreKnown : ShellRows → List ℕ → List ℕ → Type 0
@@ -147,10 +147,10 @@ same_from d mates p known (a ∷ xs) (b ∷ ys) have long order_a order_b (f, on
     let face_a : face_of d a ≡ f = face_is d f a one_a.on_face in
     let face : g ≡ f = sym (face_is d g b one_b.on_face) ∙ (ap (face_of d) same ∙ face_a) in
     let shift : (cs : List ℕ) → p ++ a ∷ cs ≡ kept_of d mates (p ++ a ∷ cs) → (p ++ a ∷ []) ++ cs ≡ kept_of d mates ((p ++ a ∷ []) ++ cs) =
-          λ cs e. subst (λ l. l ≡ kept_of d mates l) (sym (append_assoc p (a ∷ []) cs)) e in
+    λ cs e. subst (λ l. l ≡ kept_of d mates l) (sym (append_assoc p (a ∷ []) cs)) e in
     let rest : xs ≡ ys =
     same_from d mates (p ++ a ∷ []) (f ∷ known) xs ys have (omega (arith, long)) (shift xs order_a)
-        (shift ys (subst (λ z. p ++ z ∷ ys ≡ kept_of d mates (p ++ z ∷ ys)) same order_b))
+    (shift ys (subst (λ z. p ++ z ∷ ys ≡ kept_of d mates (p ++ z ∷ ys)) same order_b))
     rest_a (subst (λ h. ReachFrom d (h ∷ known) ys) face rest_b) (one_more_known d p known a f face_a k) in
     ap (λ l. a ∷ l) rest ∙ ap (λ z. z ∷ ys) (sym same)
 
@@ -158,4 +158,4 @@ pub one_order : OneReachOrder
 one_order d a b all_a first_a all_b first_b =
     let same : first_b.mates ≡ first_a.mates = one_mates d first_b.mates first_a.mates first_b.paired first_a.paired in
     same_from d first_a.mates [] (0 ∷ []) a b first_a.paired (all_a.count ∙ sym all_b.count) first_a.order (first_b.order ∙ ap (λ ms. kept_of d ms b) same)
-        all_a.order all_b.order ((λ g h. h), (λ g h. h))
+    all_a.order all_b.order ((λ g h. h), (λ g h. h))

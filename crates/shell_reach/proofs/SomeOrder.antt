@@ -48,8 +48,13 @@ cross_row d mates have crossed order face r known on s = by_mark (get_or s.marks
     by_mark true e = (
       order,
       grows_none order,
-      record { marks = s.marks; rows = s.rows; flood = s.flood; kept = crosses_old d s.marks order s.rows r pair.0 other s.flood pair.1 there e mates crossed
-          have s.kept },
+      record {
+        marks = s.marks;
+        rows = s.rows;
+        flood = s.flood;
+        kept = crosses_old d s.marks order s.rows r pair.0 other s.flood pair.1 there e mates crossed
+            have s.kept;
+      },
       crossed_before d s.marks order s.rows r pair.0 other have.whole s.flood pair.1 there e,
     )
     by_mark false e = (
@@ -69,13 +74,13 @@ cross_row d mates have crossed order face r known on s = by_mark (get_or s.marks
 cross_rows : (d : ShellRows) (mates : List ℕ) → HaveMates d mates → (crossed order : List ℕ) (face : ℕ) (rs : List ℕ) → ((x : ℕ) → Has rs x → OnFace d face x)
     → Has order face → Flooded d crossed order
     → (new : List ℕ) × Grows order new × Flooded d (crossed ++ map (λ r. get_or mates r 0) rs) new
-        × ((x m g : ℕ) → Has rs x → AreMates d x m → OnFace d g m → Has new g)
+    × ((x m g : ℕ) → Has rs x → AreMates d x m → OnFace d g m → Has new g)
 cross_rows d mates have crossed order face [] on known s =
     (order, grows_none order, subst (λ c. Flooded d c order) (sym (append-nil crossed)) s, λ x m g h pair at. absurd h)
 cross_rows d mates have crossed order face (r ∷ rs) on known s =
     let one = cross_row d mates have crossed order face r known (on r (inl refl)) s in
     let rest = cross_rows d mates have (crossed ++ get_or mates r 0 ∷ []) one.0 face rs (λ x h. on x (inr h)) (still_has order one.0 face one.1 known) one.2
-        in (
+    in (
       rest.0,
       grows_more order one.0 rest.0 one.1 rest.1,
       subst (λ c. Flooded d c rest.0) (append_assoc crossed (get_or mates r 0 ∷ []) (map (λ x. get_or mates x 0) rs)) rest.2,
@@ -119,7 +124,7 @@ cross_face d mates have crossed order face known s =
     crossed_so r at =
         let low = slice_get_within d.rows r at.0 at.1 in
         passes (λ x. face_of d x == face) (numbers_from 0 (length d.rows)) r (number_within 0 (length d.rows) r (omega arith) (omega (arith, low)))
-            (eq-eqb (face_of d r) face (face_is d face r at))
+        (eq-eqb (face_of d r) face (face_is d face r at))
 
 -- the faces at the first places are left
 record Left (d : ShellRows) (mates : List ℕ) (q : ℕ) : Type 0 where

@@ -99,7 +99,7 @@ heads_step d j i f was first next whole after on is_was h = record {
         let there : get_or (slice_set next i was) i 0 ≡ get_or first f 0 = set_same next i was 0 i_low ∙ known in
         let head : IsHead d f (i + 1) (get_or first f 0) = subst (λ k. IsHead d f k (get_or first f 0)) after (h.heads f (face_low d f i whole on)) in
         subst (λ k. IsHead d face (k + 1) (get_or (slice_set next i was) k 0)) e
-            (subst (IsHead d face (i + 1)) (sym there) (subst (λ k. IsHead d k (i + 1) (get_or first f 0)) same head))
+        (subst (IsHead d face (i + 1)) (sym there) (subst (λ k. IsHead d k (i + 1) (get_or first f 0)) same head))
     by_row r face on_r (inr later) =
         let apart : i ≢ r = λ e. absurd (omega (arith, e, later)) in
         subst (IsHead d face (r + 1)) (sym (set_other next i r was 0 apart)) (h.nexts r face (omega (arith, later, after)) on_r)

@@ -55,7 +55,7 @@ member_within ns span v all h = subst (IsWithin span) h.2 (all h.0 v h.1)
 rows_in : (d : ShellRows) (span : Span) → AreRows d → IsSpanOf span d.vertices → AllByRecursion (λ (r : Row). IsWithin span r.from.0) d.rows
 rows_in d span rows is =
     AllByRecursion-weaker (λ (r : Row). Contains d.vertices r.from.0 × Contains d.vertices r.to.0) (λ (r : Row). IsWithin span r.from.0) d.rows
-        (λ r h. member_within d.vertices span r.from.0 is.holds h.0) rows.vertices_hold
+    (λ r h. member_within d.vertices span r.from.0 is.holds h.0) rows.vertices_hold
 
 points_in : (d : ShellRows) (span : Span) → AreRows d → IsSpanOf span d.vertices → AllByRecursion (λ (p : LoopAt × ℕ). IsWithin span p.1) d.points
 points_in d span rows is = AllByRecursion-weaker (λ (p : LoopAt × ℕ). Contains d.vertices p.1) (λ (p : LoopAt × ℕ). IsWithin span p.1) d.points

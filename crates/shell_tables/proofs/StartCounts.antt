@@ -77,17 +77,17 @@ starts_this d i v m row at alike same h = by_count (eqb_tells m.count 0)
     })
     by_count (inr n) = let p : 0 < m.count = omega (arith, n.1) in subst
         (λ b. StartsBefore d (i + 1) v (record { count = m.count + 1; first = (if b then i else m.first) })) (sym n.0) (record {
-      count = counted;
-      first = λ q. ((h.first p).0, omega (arith, (h.first p).1));
-      least = λ x lt s. (omega arith, old_first x lt s p);
-    })
+          count = counted;
+          first = λ q. ((h.first p).0, omega (arith, (h.first p).1));
+          least = λ x lt s. (omega arith, old_first x lt s p);
+        })
 
 -- one row is counted
 pub starts_step : (d : ShellRows) (i : ℕ) (span : Span) (row : Row) (old : List Starts) (was new : Starts) → slice_get d.rows i ≡ Some row
     → length old ≡ span.count
     → AllByRecursion (λ (r : Row). IsWithin span r.from.0) d.rows → ((v : ℕ) → IsWithin span v → StartsBefore d i v (get_or old (v - span.least) no_starts))
     → was ≡ get_or old (row.from.0 - span.least) no_starts → new ≡ one_start_more was i → (v : ℕ) → IsWithin span v
-        → StartsBefore d (i + 1) v (get_or (slice_set old (row.from.0 - span.least) new) (v - span.least) no_starts)
+    → StartsBefore d (i + 1) v (get_or (slice_set old (row.from.0 - span.least) new) (v - span.least) no_starts)
 starts_step d i span row old was new at long below each is_was is_new v low = by_vertex (eqb_tells row.from.0 v)
   where
     in_span : IsWithin span row.from.0
@@ -108,17 +108,17 @@ starts_step d i span row old was new at long below each is_was is_new v low = by
         let place : k ≡ v - span.least = ap (λ n. n - span.least) y.1 in
         let before : StartsBefore d i v was = subst (StartsBefore d i v) (sym (known ∙ ap (λ n. get_or old n no_starts) place)) (each v low) in
         let there : get_or (slice_set old k new) (v - span.least) no_starts ≡ new = subst (λ n. get_or (slice_set old k new) n no_starts ≡ new) place
-              (set_same old k new no_starts in_old) in
+        (set_same old k new no_starts in_old) in
         subst (StartsBefore d (i + 1) v) (sym (there ∙ is_new)) (starts_this d i v was row at y.0 y.1 before)
     by_vertex (inr n) =
         let apart : k ≢ v - span.least = λ e. n.1 (omega (arith, e, in_span.0, low.0)) in
         subst (StartsBefore d (i + 1) v) (sym (set_other old k (v - span.least) new no_starts apart))
-            (starts_other d i v (get_or old (v - span.least) no_starts) row at n.0 n.1 (each v low))
+        (starts_other d i v (get_or old (v - span.least) no_starts) row at n.0 n.1 (each v low))
 
 pub starts_room : (d : ShellRows) (i : ℕ) (span : Span) (n : ℕ) (row : Row) (old : List Starts) (was : Starts) → slice_get d.rows i ≡ Some row
     → length old ≡ span.count
     → AllByRecursion (λ (r : Row). IsWithin span r.from.0) d.rows → ((v : ℕ) → IsWithin span v → StartsBefore d i v (get_or old (v - span.least) no_starts))
-        → was ≡ get_or old (row.from.0 - span.least) no_starts → length d.rows < n → was.count < n
+    → was ≡ get_or old (row.from.0 - span.least) no_starts → length d.rows < n → was.count < n
 starts_room d i span n row old was at long below each is_was few =
     let low : IsWithin span row.from.0 = All-at (λ (r : Row). IsWithin span r.from.0) d.rows below row (has_get d.rows i row at) in
     let known : was ≡ get_or old (row.from.0 - span.least) no_starts = is_was in
@@ -138,14 +138,14 @@ points_none d v = record { count = omega arith; last = λ h. absurd (omega (arit
 pub points_done : (d : ShellRows) (i v : ℕ) (m : Points) → length d.points ≤ i → PointsBefore d i v m → ArePoints d v m
 points_done d i v m past h =
     let k : m.count + 0 ≡ times vertex_of v d.points = subst (λ ps. m.count + times vertex_of v ps ≡ times vertex_of v d.points) (drop_all i d.points past)
-          h.count in
+    h.count in
     record { count = omega (arith, k, count_by-total (λ (p : LoopAt × ℕ). p.1 == v) d.points); last = h.last }
 
 pub points_step : (d : ShellRows) (i : ℕ) (span : Span) (vertex : ℕ) (at : LoopAt) (old : List Points) (was new : Points)
     → slice_get d.points i ≡ Some (at, vertex) → length old ≡ span.count
     → AllByRecursion (λ (p : LoopAt × ℕ). IsWithin span p.1) d.points → ((v : ℕ) → IsWithin span v → PointsBefore d i v (get_or old (v - span.least) no_points))
     → was ≡ get_or old (vertex - span.least) no_points → new ≡ one_point_more was at → (v : ℕ) → IsWithin span v
-        → PointsBefore d (i + 1) v (get_or (slice_set old (vertex - span.least) new) (v - span.least) no_points)
+    → PointsBefore d (i + 1) v (get_or (slice_set old (vertex - span.least) new) (v - span.least) no_points)
 points_step d i span vertex at old was new here long below each is_was is_new v low = by_vertex (eqb_tells vertex v)
   where
     has : Has d.points (at, vertex)
@@ -169,7 +169,7 @@ points_step d i span vertex at old was new here long below each is_was is_new v 
         let place : k ≡ v - span.least = ap (λ n. n - span.least) y.1 in
         let before : PointsBefore d i v was = subst (PointsBefore d i v) (sym (known ∙ ap (λ n. get_or old n no_points) place)) (each v low) in
         let there : get_or (slice_set old k new) (v - span.least) no_points ≡ new = subst (λ n. get_or (slice_set old k new) n no_points ≡ new) place
-              (set_same old k new no_points in_old) in
+        (set_same old k new no_points in_old) in
         subst (PointsBefore d (i + 1) v) (sym (there ∙ is_new)) (record {
           count = omega (arith, before.count, split_times vertex_of v d.points i (at, vertex) here, ap one_if y.0);
           last = λ p. Contains-from_Has d.points (at, v) (subst (λ n. Has d.points (at, n)) y.1 has);
@@ -184,8 +184,8 @@ points_step d i span vertex at old was new here long below each is_was is_new v 
 pub points_room : (d : ShellRows) (i : ℕ) (span : Span) (n vertex : ℕ) (at : LoopAt) (old : List Points) (was : Points)
     → slice_get d.points i ≡ Some (at, vertex) → length old ≡ span.count
     → AllByRecursion (λ (p : LoopAt × ℕ). IsWithin span p.1) d.points
-        → ((v : ℕ) → IsWithin span v → PointsBefore d i v (get_or old (v - span.least) no_points)) → was ≡ get_or old (vertex - span.least) no_points
-        → length d.points < n → was.count < n
+    → ((v : ℕ) → IsWithin span v → PointsBefore d i v (get_or old (v - span.least) no_points)) → was ≡ get_or old (vertex - span.least) no_points
+    → length d.points < n → was.count < n
 points_room d i span n vertex at old was here long below each is_was few =
     let low : IsWithin span vertex = All-at (λ (p : LoopAt × ℕ). IsWithin span p.1) d.points below (at, vertex) (has_get d.points i (at, vertex) here) in
     let known : was ≡ get_or old (vertex - span.least) no_points = is_was in

@@ -165,6 +165,6 @@ file_fits bytes f limit h =
     let within = entries_room bytes f limit h in
     let counted = entries_count f.entries in
     let summed : value_count f.entries ≡ 0 + total (λ (e : Entry × List Value). length e.1) f.entries =
-          fold-total (λ (e : Entry × List Value). length e.1) 0 f.entries in
+    fold-total (λ (e : Entry × List Value). length e.1) 0 f.entries in
     let values : value_count f.entries ≤ 164000000 = omega (arith, within, counted, summed) in
     record { entries = omega (arith, within, counted); values = values }

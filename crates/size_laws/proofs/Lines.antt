@@ -132,11 +132,22 @@ shell_shortens v s lines k c fits spelled =
     let rows : c.rows ≡ length d.rows = fits.1.rows_counted ∙ ap (λ (x : ShellRows). length x.rows) is in
     let faces : c.faces ≡ d.face_count = fits.1.faces_counted ∙ ap (λ (x : ShellRows). x.face_count) is in
     let now : corners_room (rows_of_shell s (at.shell + 1)) None ≡ corners_room d None =
-          ap (λ (x : ShellRows). corners_room x None) (ap (rows_of_shell s) (sym next) ∙ is) in
+    ap (λ (x : ShellRows). corners_room x None) (ap (rows_of_shell s) (sym next) ∙ is) in
     let after = ap (stand_room s) (shell_stand v s lines k c) in
     let left = ap (shells_room s) (split_at s.shells at.shell here.0 here.1) in
-    omega (arith, after, left, now, rows, faces, fits.1.two_rows_each, above_all row_start_of d.rows, above_all point_vertex d.points, shell_long k c spelled,
-        tallies_one v)
+    omega (
+      arith,
+      after,
+      left,
+      now,
+      rows,
+      faces,
+      fits.1.two_rows_each,
+      above_all row_start_of d.rows,
+      above_all point_vertex d.points,
+      shell_long k c spelled,
+      tallies_one v,
+    )
 
 edge_shortens : (v : Version) (s : SolidData) (lines : List CertLine) (a b : ℕ)
     → (let at : Stand = stand_from_latest v s lines in (0 < at.due.edges) × FitsEdge (rows_of_shell s at.shell) at a b) → HasSpelling (edge a b)

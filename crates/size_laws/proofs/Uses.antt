@@ -202,9 +202,9 @@ one_loop : (f : Contents) (l : ℤ) → IsKnown f l → 160 + 8 * length (tuples
 one_loop f l known =
     let name : IsNamed f l = known.name in
     let at : get_or (rooms f) (place_of_number l) 0 ≡ entry_room name.entry = ap (λ z. get_or (rooms f) (place_of_number z) 0) name.is
-          ∙ room_at f.entries (name.number / 2) name.entry name.there in
+    ∙ room_at f.entries (name.number / 2) name.entry name.there in
     let values : values_room (values_of f l) ≤ values_room name.entry.1 = subst (λ z. values_room (values_of f z) ≤ values_room name.entry.1) (sym name.is)
-          (values_there f name.number name.entry name.there) in
+    (values_there f name.number name.entry name.there) in
     omega (arith, at, values, loop_room f l known.told)
 
 loops_taken : (f : Contents) (ls : List ℤ) → ((l : ℤ) → Has ls l → IsKnown f l) → 160 * length ls + 8 * length (flat_map (tuples f) ls)
@@ -288,5 +288,5 @@ pub uses_within : (f : Contents) (n : ℕ) → AllHold (places f n)
     → 160 * face_total (solid_of f n).shells + 8 * length (flat_map shell_uses (solid_of f n).shells) ≤ total entry_room f.entries
 uses_within f n all =
     let uses : length (flat_map shell_uses (solid_of f n).shells) ≡ length (all_tuples f (pos n)) = ap (λ us. length us) (all_uses f n)
-          ∙ length-map (all_tuples f (pos n)) (use_of f (pos n)) in
+    ∙ length-map (all_tuples f (pos n)) (use_of f (pos n)) in
     omega (arith, uses, loops_within f n all, solid_loops f n, faces_few f n all)

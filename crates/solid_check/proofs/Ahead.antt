@@ -53,9 +53,9 @@ module _ (version : Version) (s : SolidData) (good : Good s) where
   unfolding stand_from_latest
   all_came lines d facts none =
       let edges : length d.edges - number_of is_edge (since_shell lines) ≡ 0 =
-            sym (ap (λ (a : Due). a.edges - number_of is_edge (since_shell lines)) facts.asks) ∙ none.edges in
+      sym (ap (λ (a : Due). a.edges - number_of is_edge (since_shell lines)) facts.asks) ∙ none.edges in
       let vertices : length d.vertices - number_of is_corner_or_point (since_shell lines) ≡ 0 =
-            sym (ap (λ (a : Due). a.corners - number_of is_corner_or_point (since_shell lines)) facts.asks) ∙ none.corners in
+      sym (ap (λ (a : Due). a.corners - number_of is_corner_or_point (since_shell lines)) facts.asks) ∙ none.corners in
       let es : List ℕ = filter_map (edge_of d) (since_shell lines) in
       let vs : List ℕ = filter_map (vertex_of d) (since_shell lines) in
       record {
@@ -88,7 +88,7 @@ module _ (version : Version) (s : SolidData) (good : Good s) where
       let lead : LeadOn s (line ∷ before) (current_rows s before) = subst (LeadOn s (line ∷ before)) rows h in
       let d : ShellRows = current_rows s before in
       one_less line before d (subst (λ ls. Leads d.edges (filter_map (edge_of d) ls)) since lead.edges)
-          (subst (λ ls. Leads d.vertices (filter_map (vertex_of d) ls)) since lead.vertices) lead.paired
+      (subst (λ ls. Leads d.vertices (filter_map (vertex_of d) ls)) since lead.vertices) lead.paired
 
   -- the next line begins a shell, ends the certificate, or goes on
   lead_over : (before : List CertLine) (k : ℕ) → number_of is_shell before ≡ suc k → AllFit version s before → (line : CertLine)
@@ -103,7 +103,7 @@ module _ (version : Version) (s : SolidData) (good : Good s) where
       by_tests true b e f =
           let begun = shell_line line e in
           let here : FitsLine s (stand_from_latest version s before) (shell begun.0 begun.1) = subst (FitsLine s (stand_from_latest version s before)) begun.2
-                fits in
+          fits in
           done here.1.0
       by_tests false true e f =
           let here : FitsLine s (stand_from_latest version s before) end = subst (FitsLine s (stand_from_latest version s before)) (end_line line f) fits in
@@ -120,4 +120,4 @@ module _ (version : Version) (s : SolidData) (good : Good s) where
   lead_on before k number fit [] ended going = absurd (going_not_ended (stand_from_latest version s before) going ended)
   lead_on before k number fit (bytes ∷ lines) (line, is, fits, more) going =
       lead_over before k number fit line fits
-          (λ e f. lead_on (line ∷ before) k (number_same is_shell line before e ∙ number) (fits, fit) lines more (still_going line before f going))
+      (λ e f. lead_on (line ∷ before) k (number_same is_shell line before e ∙ number) (fits, fit) lines more (still_going line before f going))

@@ -47,8 +47,8 @@ module _ (f : Contents) (n number : ℕ) (text : List ℕ) (m line : ℕ) (c : F
       let p : Part = made_part n first ends.good in
       let counted : length (flat_map part_lines (before ++ p ∷ [])) ≡ length (flat_map part_lines before) + length (part_lines p) =
       ap (λ (ls : List (List ℕ)). length ls)
-          (sym (append-nil (flat_map part_lines (before ++ p ∷ [])))
-          ∙ (lines_more before p [] ∙ ap (λ (ls : List (List ℕ)). flat_map part_lines before ++ first ∷ ls) (append-nil ends.good)))
+      (sym (append-nil (flat_map part_lines (before ++ p ∷ [])))
+      ∙ (lines_more before p [] ∙ ap (λ (ls : List (List ℕ)). flat_map part_lines before ++ first ∷ ls) (append-nil ends.good)))
       ∙ length-append (flat_map part_lines before) (part_lines p) in
       omega (arith, same, counted, ends.number, zip_length (line_limit (solid_of f n)) ends.good ends.read ends.fitting.spelled)
 
@@ -57,6 +57,6 @@ pub part_told : (f : Contents) (n : ℕ) (lines : List (List ℕ)) (before : Lis
     → AllHold (checked f n) → Reaches f lines before n first rest
     → MatchResult told (λ _. IsLegal Two (solid_of f n) rest) (λ bad. IsPartBad Two (solid_of f n) (part_number before) rest bad)
     → MatchResult told (λ _. (parts : List Part) × IsBookOf f lines parts × (solids_named parts ≡ solids_named before ++ n ∷ []))
-        (λ bad. IsBookBad f lines (illegal bad))
+    (λ bad. IsBookBad f lines (illegal bad))
 part_told f n lines before first rest (Ok done) all r legal = part_ends f lines before n first rest r all legal
 part_told f n lines before first rest (Err bad) all r wrong = part_refused f lines before n first rest (illegal bad) r (all, wrong)

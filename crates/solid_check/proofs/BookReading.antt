@@ -100,7 +100,7 @@ lines_more [] p rest = ap (λ (ls : Lines). p.first ∷ (ls ++ rest)) (append-ni
 lines_more (q ∷ qs) p rest =
     append_assoc (part_lines q) (flat_map part_lines (qs ++ p ∷ [])) rest
     ∙ (ap (λ (ls : Lines). part_lines q ++ ls) (lines_more qs p rest)
-        ∙ sym (append_assoc (part_lines q) (flat_map part_lines qs) (p.first ∷ (p.further ++ rest))))
+    ∙ sym (append_assoc (part_lines q) (flat_map part_lines qs) (p.first ∷ (p.further ++ rest))))
 
 pub solid_entity : (f : Contents) (n : ℕ) → (solid_of f n).entity.0 ≡ n
 unfolding solid_of
@@ -131,16 +131,16 @@ same_number a b n m e x y = same_solid n m (line_one b (solid n) (solid m) (subs
 not_last : (f : Contents) (n : ℕ) (first : List ℕ) (rest : Lines) (q : Part) (qs : List Part) (m : ℕ) (second : List ℕ) (others : Lines)
     → IsSpelled first (solid n) → Stays f n rest
     → AllByRecursion (IsGoodPart f) (q ∷ qs) → IsSpelled second (solid m) → Rises (solids_named (q ∷ qs) ++ m ∷ [])
-        → first ∷ rest ≡ flat_map part_lines (q ∷ qs) ++ second ∷ others → ⊥
+    → first ∷ rest ≡ flat_map part_lines (q ∷ qs) ++ second ∷ others → ⊥
 not_last f n first rest q qs m second others names stays good names_m rise e =
     let behind : Lines = (q.further ++ flat_map part_lines qs) ++ second ∷ others in
     let number : n ≡ q.solid = same_number first q.first n q.solid (same_head first q.first rest behind e) names good.0.names in
     let cut : rest ≡ q.further ++ (flat_map part_lines qs ++ second ∷ others) = same_tail first q.first rest behind e
-          ∙ append_assoc q.further (flat_map part_lines qs) (second ∷ others) in
+    ∙ append_assoc q.further (flat_map part_lines qs) (second ∷ others) in
     let moved : Stays f q.solid (q.further ++ (flat_map part_lines qs ++ second ∷ others)) =
-          subst (λ k. Stays f k (q.further ++ (flat_map part_lines qs ++ second ∷ others))) number (subst (Stays f n) cut stays) in
+    subst (λ k. Stays f k (q.further ++ (flat_map part_lines qs ++ second ∷ others))) number (subst (Stays f n) cut stays) in
     moved (certified_checked Two f q.solid (q.further ++ spelling end ∷ []) good.0.certified) (length q.further) (lead qs m)
-        (begins_behind f q qs m second others good.0 good.1 names_m rise)
+    (begins_behind f q qs m second others good.0 good.1 names_m rise)
 
 -- Good parts and then a part whose lines stay in it are there in one way.
 abbrev SameReach : List Part → ℕ → List ℕ → Lines → List Part → ℕ → List ℕ → Lines → Type 0
@@ -165,16 +165,16 @@ same_reach f (p ∷ ps) n first rest (q ∷ qs) m second others good names rise 
     let heads : p.first ≡ q.first = same_head p.first q.first x_all y_all e in
     let number : p.solid ≡ q.solid = same_number p.first q.first p.solid q.solid heads good.0.names good_m.0.names in
     let tails : p.further ++ x ≡ q.further ++ y = sym (append_assoc p.further (flat_map part_lines ps) (first ∷ rest))
-          ∙ (same_tail p.first q.first x_all y_all e ∙ append_assoc q.further (flat_map part_lines qs) (second ∷ others)) in
+    ∙ (same_tail p.first q.first x_all y_all e ∙ append_assoc q.further (flat_map part_lines qs) (second ∷ others)) in
     let one : BeginsAt Two (solid_of f p.solid) [] (p.further ++ x) (length p.further) (lead ps n) = begins_behind f p ps n first rest good.0 good.1 names rise
-        in
+    in
     let other : BeginsAt Two (solid_of f q.solid) [] (q.further ++ y) (length q.further) (lead qs m) =
-          begins_behind f q qs m second others good_m.0 good_m.1 names_m rise_m in
+    begins_behind f q qs m second others good_m.0 good_m.1 names_m rise_m in
     let moved : BeginsAt Two (solid_of f p.solid) [] (p.further ++ x) (length q.further) (lead qs m) =
     subst (λ ls. BeginsAt Two (solid_of f p.solid) [] ls (length q.further) (lead qs m)) (sym tails)
-        (subst (λ k. BeginsAt Two (solid_of f k) [] (q.further ++ y) (length q.further) (lead qs m)) (sym number) other) in
+    (subst (λ k. BeginsAt Two (solid_of f k) [] (q.further ++ y) (length q.further) (lead qs m)) (sym number) other) in
     let lengths : length p.further ≡ length q.further =
-          (one_beginning Two (solid_of f p.solid) [] (p.further ++ x) (length p.further) (lead ps n) (length q.further) (lead qs m) one moved).0 in
+    (one_beginning Two (solid_of f p.solid) [] (p.further ++ x) (length p.further) (lead ps n) (length q.further) (lead qs m) one moved).0 in
     let parts = same_front p.further q.further x y lengths tails in
     let later = same_reach f ps n first rest qs m second others good.1 names rise.1 stays good_m.1 names_m rise_m.1 stays_m parts.1 in
     (same_parts p q ps qs (same_part p q number heads parts.0) later.0, later.1, later.2, later.3)
@@ -182,7 +182,7 @@ same_reach f (p ∷ ps) n first rest (q ∷ qs) m second others good names rise 
 pub one_reaching : (f : Contents) (lines : List (List ℕ)) (before : List Part) (n : ℕ) (first : List ℕ) (rest : List (List ℕ)) (after : List Part) (m : ℕ)
     (second : List ℕ) (others : List (List ℕ))
     → Reaches f lines before n first rest → Stays f n rest → Reaches f lines after m second others → Stays f m others
-        → SameReach before n first rest after m second others
+    → SameReach before n first rest after m second others
 one_reaching f lines before n first rest after m second others a stays_a b stays_b = same_reach f before n first rest after m second others a.good a.names
     a.increase stays_a b.good b.names b.increase stays_b (sym a.cut ∙ b.cut)
 
@@ -227,8 +227,8 @@ part_ends f lines before n first rest r all legal =
     let last = last_line _ rest legal.before (subst (AllZip (IsLine _) rest) legal.ended legal.fitting.spelled) in
     let p : Part = made_part n first last.0 in
     let good : IsGoodPart f p =
-          record { names = r.names; certified = checked_certified Two f n (last.0 ++ spelling end ∷ []) all (subst (IsLegal Two (solid_of f n)) last.1 legal) }
-          in (
+    record { names = r.names; certified = checked_certified Two f n (last.0 ++ spelling end ∷ []) all (subst (IsLegal Two (solid_of f n)) last.1 legal) }
+    in (
       before ++ p ∷ [],
       record {
         cut = r.cut ∙ (ap (λ (ls : Lines). flat_map part_lines before ++ first ∷ ls) last.1 ∙ sym (lines_more before p (spelling end ∷ [])));
@@ -243,7 +243,7 @@ part_ends f lines before n first rest r all legal =
 pub next_reached : (f : Contents) (lines : List (List ℕ)) (before : List Part) (n : ℕ) (first : List ℕ) (further : List (List ℕ)) (bytes : List ℕ) (m : ℕ)
     (rest : List (List ℕ)) → Reaches f lines before n first (further ++ bytes ∷ rest) → AllHold (checked f n)
     → IsLegal Two (solid_of f n) (further ++ spelling end ∷ []) → IsSpelled bytes (solid m) → n < m
-        → Reaches f lines (before ++ made_part n first further ∷ []) m bytes rest
+    → Reaches f lines (before ++ made_part n first further ∷ []) m bytes rest
 next_reached f lines before n first further bytes m rest r all legal names above =
     let p : Part = made_part n first further in
     record {
@@ -272,7 +272,7 @@ read_on (suc fuel) f lines before n first rest lt r =
     let shorter : length b.rest < fuel = omega (arith, lt, ap (λ (ls : Lines). length ls) b.cut, length-append (take k rest) (b.bytes ∷ b.rest)) in
     read_on fuel f lines (before ++ made_part n first (take k rest) ∷ []) m b.bytes b.rest shorter
     (next_reached f lines before n first (take k rest) b.bytes m b.rest (subst (Reaches f lines before n first) b.cut r) all
-        (begins_legal Two (solid_of f n) rest k m next) b.names above)) other)
+    (begins_legal Two (solid_of f n) rest k m next) b.names above)) other)
     (part_comes_to Two (solid_of f n) (part_number before) rest))
     (λ (x, bad). inr (fails n x, part_refused f lines before n first rest (fails n x) r (refl, bad)))
     (all_or_first_false (checked f n) (checks_decided f n))
@@ -306,7 +306,7 @@ second_refused f lines bad wrong = record { before = []; good = tt; rest = lines
 answered : (f : Contents) (certificate : List ℕ) (lines : Lines) → IsHeaded certificate Three lines → Answer f lines
 answered f certificate lines headed =
     ⊎_elim (λ (bytes, n, rest, cut, names). read_on (suc (length rest)) f lines [] n bytes rest (omega arith)
-        (subst (λ ls. Reaches f ls [] n bytes rest) (sym cut) (first_reached f bytes n rest names)))
+    (subst (λ ls. Reaches f ls [] n bytes rest) (sym cut) (first_reached f bytes n rest names)))
     (λ (bad, wrong). inr (illegal bad, second_refused f lines bad wrong))
     (second_decided certificate lines headed)
 
@@ -343,16 +343,27 @@ bad_shows f lines a h = by_rest h.bad
       number = p.solid;
       first = p.first;
       rest = p.further;
-      reaches = record { good = h.good; cut = h.cut ∙ ap (λ (ls : Lines). flat_map part_lines h.before ++ ls) cut; names = names; increase =
-          subst Rises (named_more h.before p) (rises (solids_named (h.before ++ p ∷ [])) rise) };
+      reaches = record {
+        good = h.good;
+        cut = h.cut ∙ ap (λ (ls : Lines). flat_map part_lines h.before ++ ls) cut;
+        names = names;
+        increase =
+            subst Rises (named_more h.before p) (rises (solids_named (h.before ++ p ∷ [])) rise);
+      };
       fault = fault;
     })
 
 opens_with : (certificate : List ℕ) (lines : Lines) (bytes : List ℕ) (rest : Lines) (n : ℕ) → IsHeaded certificate Three lines → lines ≡ bytes ∷ rest
     → IsSpelled bytes (solid n) → Opens certificate Three n rest
 opens_with certificate lines bytes rest n headed cut names =
-    record { first = headed.first; second = bytes; cut = headed.cut ∙ ap (λ (ls : Lines). headed.first ∷ ls) cut; is_head = headed.is_head; names =
-    (solid_short bytes n names, names) }
+    record {
+      first = headed.first;
+      second = bytes;
+      cut = headed.cut ∙ ap (λ (ls : Lines). headed.first ∷ ls) cut;
+      is_head = headed.is_head;
+      names =
+          (solid_short bytes n names, names);
+    }
 
 opens_badly : (certificate : List ℕ) (lines : Lines) (bad : Illegal) → IsHeaded certificate Three lines → IsSecondWrong lines bad → IsBadOpening certificate bad
 opens_badly certificate lines bad headed wrong = subst (λ ls. IsFirstWrong ls bad) (sym headed.cut) (inr (Three, headed.is_head, wrong))
@@ -364,8 +375,8 @@ second_good f certificate lines [] n first rest bad headed r wrong =
     opens_or_bad certificate Three n rest bad (opens_with certificate lines first rest n headed r.cut r.names) (opens_badly certificate lines bad headed wrong)
 second_good f certificate lines (q ∷ qs) n first rest bad headed r wrong =
     opens_or_bad certificate Three q.solid ((q.further ++ flat_map part_lines qs) ++ first ∷ rest) bad
-        (opens_with certificate lines q.first ((q.further ++ flat_map part_lines qs) ++ first ∷ rest) q.solid headed r.cut r.good.0.names)
-        (opens_badly certificate lines bad headed wrong)
+    (opens_with certificate lines q.first ((q.further ++ flat_map part_lines qs) ++ first ∷ rest) q.solid headed r.cut r.good.0.names)
+    (opens_badly certificate lines bad headed wrong)
 
 fault_stays : (f : Contents) (n number : ℕ) (rest : Lines) (a : BookRefusal) → IsPartFault f n number rest a → Stays f n rest
 fault_stays f n number rest (fails m x) h = λ all k i next. FirstFalse-not_all (checked f n) x h.1 all
@@ -400,9 +411,9 @@ one_refusal f certificate lines a b headed p q = by_cases (bad_shows f lines a p
     by_cases (inr x) (inl y) = absurd (second_good f certificate lines x.before x.number x.first x.rest y.0 headed x.reaches y.2)
     by_cases (inr x) (inr y) =
         let same = one_reaching f lines x.before x.number x.first x.rest y.before y.number y.first y.rest x.reaches
-              (fault_stays f x.number (part_number x.before) x.rest a x.fault) y.reaches (fault_stays f y.number (part_number y.before) y.rest b y.fault) in
+        (fault_stays f x.number (part_number x.before) x.rest a x.fault) y.reaches (fault_stays f y.number (part_number y.before) y.rest b y.fault) in
         one_fault f x.number (part_number x.before) x.rest a b x.fault
-            (moved_fault f b x.before x.number x.first x.rest y.before y.number y.first y.rest same y.fault)
+        (moved_fault f b x.before x.number x.first x.rest y.before y.number y.first y.rest same y.fault)
 
 -- The last part of an accepted book.
 
@@ -427,7 +438,7 @@ book_ends f certificate lines parts headed book =
     let good : AllByRecursion (IsGoodPart f) (before ++ last ∷ []) = subst (AllByRecursion (IsGoodPart f)) are book.good in
     let last_good : IsGoodPart f last = (all_behind (IsGoodPart f) before (last ∷ []) good).0 in
     let cut : lines ≡ flat_map part_lines parts ++ spelling end ∷ [] =
-          same_tail headed.first book.headed.first lines (flat_map part_lines parts ++ spelling end ∷ []) (sym headed.cut ∙ book.headed.cut) in
+    same_tail headed.first book.headed.first lines (flat_map part_lines parts ++ spelling end ∷ []) (sym headed.cut ∙ book.headed.cut) in
     record {
       before = before;
       last = last;
@@ -457,9 +468,9 @@ none_bad f certificate lines parts a headed book bad = by_cases (bad_shows f lin
     by_cases (inl x) = second_good f certificate lines ends.before ends.last.solid ends.last.first closing x.0 headed ends.reaches x.2
     by_cases (inr x) =
         let same = one_reaching f lines ends.before ends.last.solid ends.last.first closing x.before x.number x.first x.rest ends.reaches
-              (end_stays f ends.last.solid closing ends.certified) x.reaches (fault_stays f x.number (part_number x.before) x.rest a x.fault) in
+        (end_stays f ends.last.solid closing ends.certified) x.reaches (fault_stays f x.number (part_number x.before) x.rest a x.fault) in
         no_fault f ends.last.solid (part_number ends.before) closing a ends.certified
-            (moved_fault f a ends.before ends.last.solid ends.last.first closing x.before x.number x.first x.rest same x.fault)
+        (moved_fault f a ends.before ends.last.solid ends.last.first closing x.before x.number x.first x.rest same x.fault)
 
 pub one_reading : OneReading
 one_reading f certificate p q a b =
@@ -467,7 +478,7 @@ one_reading f certificate p q a b =
     let x : BookEnds f lines p = book_ends f certificate lines p a.headed a in
     let y : BookEnds f lines q = book_ends f certificate lines q a.headed b in
     let same = one_reaching f lines x.before x.last.solid x.last.first (x.last.further ++ spelling end ∷ []) y.before y.last.solid y.last.first
-          (y.last.further ++ spelling end ∷ []) x.reaches (end_stays f x.last.solid (x.last.further ++ spelling end ∷ []) x.certified)
+    (y.last.further ++ spelling end ∷ []) x.reaches (end_stays f x.last.solid (x.last.further ++ spelling end ∷ []) x.certified)
     y.reaches (end_stays f y.last.solid (y.last.further ++ spelling end ∷ []) y.certified) in
     let last : x.last ≡ y.last = same_part x.last y.last same.1 same.2 (append_cancel_right x.last.further y.last.further (spelling end ∷ []) same.3) in
     x.are ∙ (ap (λ (ps : List Part). ps ++ x.last ∷ []) same.0 ∙ (ap (λ (z : Part). y.before ++ z ∷ []) last ∙ sym y.are))

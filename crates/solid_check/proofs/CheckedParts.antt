@@ -43,14 +43,14 @@ ShellApart s h = AllByRecursion (IsApart s h.0) (shell_rows s h.1).vertices
 join_from : (s : SolidData) (shell : Shell) → AllHold (join_obligations s shell) → ShellJoins s shell
 join_from s shell all =
     AllByRecursion-weaker (λ (p : PlacedLoop). AllHold (loop_obligations s p.loop)) (λ (p : PlacedLoop). IsJoined s p.loop) (placed_loops shell)
-        (λ p. joined_from_hold s p.loop)
+    (λ p. joined_from_hold s p.loop)
     (AllHold-of_each (λ (p : PlacedLoop). loop_obligations s p.loop) (placed_loops shell) all)
 
 join_to : (s : SolidData) (shell : Shell) → ShellJoins s shell → AllHold (join_obligations s shell)
 join_to s shell joins =
     of_each-AllHold (λ (p : PlacedLoop). loop_obligations s p.loop) (placed_loops shell)
     (AllByRecursion-weaker (λ (p : PlacedLoop). IsJoined s p.loop) (λ (p : PlacedLoop). AllHold (loop_obligations s p.loop)) (placed_loops shell)
-        (λ p. hold_from_joined s p.loop) joins)
+    (λ p. hold_from_joined s p.loop) joins)
 
 both_parts : (P Q R : ℕ × Shell → Type 0) (xs : List (ℕ × Shell)) → ((h : ℕ × Shell) → P h → Q h → R h) → AllByRecursion P xs → AllByRecursion Q xs
     → AllByRecursion R xs
@@ -71,11 +71,11 @@ parts_from : (s : SolidData) → AllHold (checked_obligations s) → AllJoin s �
 unfolding checked_obligations
 parts_from s all =
     let each : AllByRecursion (λ h. AllHold (checked_of_shell s h)) (enumerate_from 0 s.shells) =
-          AllHold-of_each (checked_of_shell s) (enumerate_from 0 s.shells) all in
+    AllHold-of_each (checked_of_shell s) (enumerate_from 0 s.shells) all in
     let joins : AllByRecursion (ShellJoins s) s.shells =
     from_places (ShellJoins s) 0 s.shells
-        (AllByRecursion-weaker (λ h. AllHold (checked_of_shell s h)) (λ h. ShellJoins s h.1) (enumerate_from 0 s.shells) (λ h a. (shell_from s h a).0) each)
-        in (
+    (AllByRecursion-weaker (λ h. AllHold (checked_of_shell s h)) (λ h. ShellJoins s h.1) (enumerate_from 0 s.shells) (λ h a. (shell_from s h a).0) each)
+    in (
       all_flat_map (λ (p : PlacedLoop). IsJoined s p.loop) placed_loops s.shells (λ shell here. All-at (ShellJoins s) s.shells joins shell here),
       AllByRecursion-weaker (λ h. AllHold (checked_of_shell s h)) (ShellApart s) (enumerate_from 0 s.shells) (λ h a. (shell_from s h a).1) each,
     )

@@ -39,7 +39,7 @@ module _ (s : SolidData) (h : Shell) (at : slice_get s.shells 0 ≡ Some h) wher
   only_shell_holds one joined =
       let holds = both_hold s 0 h (shell_rows s h) refl joined (apart_holds s 0 (shell_rows s h) (none_before s (shell_rows s h).vertices)) in
       all_shells (checked_of_shell s) (checked_obligations s) s.shells 1 (omega (arith, one))
-          (one_shell (checked_of_shell s) (checked_obligations s) s.shells 0 h at (checked_from_first s) holds)
+      (one_shell (checked_of_shell s) (checked_obligations s) s.shells 0 h at (checked_from_first s) holds)
 
   pub only_shell_fails : (x : Failing) → FirstFalse (join_obligations s h) x → FirstFalse (checked_obligations s) x
   only_shell_fails x bad = shell_fails (checked_of_shell s) (checked_obligations s) s.shells 0 h (Fails x) at (checked_from_first s) (open_fails s 0 h x bad)

@@ -63,8 +63,15 @@ loops_size : (s : SolidData) (ps : List PlacedLoop)
 loops_size s [] = omega arith
 loops_size s (p ∷ ps) =
     let points : PlacedLoop → List (LoopAt × ℕ) = λ q. point_of q q.loop.uses (map (λ (r : Row). r.edge.0) (loop_rows s q)) in
-    omega (arith, loop_size s p p.loop.uses, loops_size s ps, length-append (loop_rows s p) (flat_map (loop_rows s) ps), length-append (points p)
-        (flat_map points ps), length-append p.loop.uses (flat_map (λ (q : PlacedLoop). q.loop.uses) ps))
+    omega (
+      arith,
+      loop_size s p p.loop.uses,
+      loops_size s ps,
+      length-append (loop_rows s p) (flat_map (loop_rows s) ps),
+      length-append (points p)
+          (flat_map points ps),
+      length-append p.loop.uses (flat_map (λ (q : PlacedLoop). q.loop.uses) ps),
+    )
 
 rows_and_points : (s : SolidData) (h : Shell) → length (shell_rows s h).rows + length (shell_rows s h).points ≤ length (shell_uses h)
 unfolding shell_rows
@@ -78,11 +85,17 @@ vertices_size d rises linked =
     let into : (v : ℕ) → Has d.vertices v → Has (starts ++ lone) v =
     λ v m. ⊎_elim
     (λ c. has_left starts lone v
-        (subst (Has starts) c.some.1.2 (map_has (λ (r : Row). r.from.0) d.rows c.some.1.0 (has_get d.rows c.some.0 c.some.1.0 c.some.1.1))))
+    (subst (Has starts) c.some.1.2 (map_has (λ (r : Row). r.from.0) d.rows c.some.1.0 (has_get d.rows c.some.0 c.some.1.0 c.some.1.1))))
     (λ p. has_right starts lone v (point_there v p.one_point))
     (All-at (IsLinked d) d.vertices linked v m) in
-    omega (arith, no_longer d.vertices (starts ++ lone) (rises_none d.vertices rises) into, length-append starts lone, length-map d.rows
-        (λ (r : Row). r.from.0), length-map d.points (λ (p : LoopAt × ℕ). p.1))
+    omega (
+      arith,
+      no_longer d.vertices (starts ++ lone) (rises_none d.vertices rises) into,
+      length-append starts lone,
+      length-map d.rows
+          (λ (r : Row). r.from.0),
+      length-map d.points (λ (p : LoopAt × ℕ). p.1),
+    )
   where
     point_there : (v : ℕ) → point_count d v ≡ 1 → Has (map (λ (p : LoopAt × ℕ). p.1) d.points) v
     point_there v one =

@@ -19,7 +19,7 @@ certified_alike : (v : Version) (f : Contents) (n : ℕ) (xs ys : List (List ℕ
 unfolding solid_of
 certified_alike v f n xs ys a b =
     lines_alike v (solid_of f n) (good_rows (solid_of f n) a.joined (vertices_known f n)) [] [] tt tt refl xs ys (legal_behind v (solid_of f n) xs a.legal)
-        (legal_behind v (solid_of f n) ys b.legal)
+    (legal_behind v (solid_of f n) ys b.legal)
 
 -- certificates of one solid
 alone_alike : (v : Version) (f : Contents) (n : ℕ) (a b : List ℕ) → IsAcceptedAlone v f n a → IsAcceptedAlone v f n b
@@ -69,7 +69,7 @@ same_others n m ns ms h = cc
 part_alike : (f : Contents) (p q : Part) → p.solid ≡ q.solid → IsGoodPart f p → IsGoodPart f q → AllZip AlikeButReach (part_lines p) (part_lines q)
 part_alike f p q same h g =
     let there : Certify Two f p.solid (q.further ++ spelling end ∷ []) = subst (λ n. Certify Two f n (q.further ++ spelling end ∷ [])) (sym same) g.certified
-        in (
+    in (
       inl (h.names.1 ∙ (ap (λ n. spelling (solid n)) same ∙ sym g.names.1)),
       zip_less AlikeButReach p.further q.further (spelling end) (spelling end)
           (certified_alike Two f p.solid (p.further ++ spelling end ∷ []) (q.further ++ spelling end ∷ []) h.certified there),
@@ -82,7 +82,7 @@ parts_alike f [] (q ∷ qs) same h g = absurd (none_named q.solid (solids_named 
 parts_alike f (p ∷ ps) [] same h g = absurd (named_none p.solid (solids_named ps) same)
 parts_alike f (p ∷ ps) (q ∷ qs) same h g =
     zip_both AlikeButReach (part_lines p) (part_lines q) (flat_map part_lines ps) (flat_map part_lines qs)
-        (part_alike f p q (same_first p.solid q.solid (solids_named ps) (solids_named qs) same) h.0 g.0)
+    (part_alike f p q (same_first p.solid q.solid (solids_named ps) (solids_named qs) same) h.0 g.0)
     (parts_alike f ps qs (same_others p.solid q.solid (solids_named ps) (solids_named qs) same) h.1 g.1)
 
 book_alike : (f : Contents) (a b : List ℕ) (ps qs : List Part) → solids_named ps ≡ solids_named qs → IsAcceptedBook f a ps → IsAcceptedBook f b qs

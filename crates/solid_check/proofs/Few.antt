@@ -17,7 +17,11 @@ few_parts s numbered = record {
   few_uses = numbered.few_uses;
   few_loops = numbered.few_loops;
   few_faces = numbered.few_faces;
-  few_shells = omega (arith, numbered.few_faces, each_has_one s.shells
-      (λ h m. All-contains (λ (x : Shell). 0 < length x.faces) s.shells h numbered.each_shell (Contains-from_Has s.shells h m)));
+  few_shells = omega (
+    arith,
+    numbered.few_faces,
+    each_has_one s.shells
+        (λ h m. All-contains (λ (x : Shell). 0 < length x.faces) s.shells h numbered.each_shell (Contains-from_Has s.shells h m)),
+  );
   number = numbered.number;
 }

@@ -29,7 +29,7 @@ module _ (s : SolidData) (k : ℕ) (h : Shell) (d : ShellRows) (is : d ≡ shell
       FirstFalse-append_front (join_obligations s h ++ pair_obligations s e ++ reach_obligations h e ++ link_obligations s e) (apart_obligations s k e) x
       (FirstFalse-append_front (join_obligations s h ++ pair_obligations s e ++ reach_obligations h e) (link_obligations s e) x
       (FirstFalse-append_front (join_obligations s h ++ pair_obligations s e) (reach_obligations h e) x
-          (FirstFalse-append_front (join_obligations s h) (pair_obligations s e) x bad)))
+      (FirstFalse-append_front (join_obligations s h) (pair_obligations s e) x bad)))
 
   pub paired_not : AllHold (join_obligations s h) → (e : CheckFault) → IsCheckFault (pair_obligations s d) e → IsCheckFault (shell_obligations s (k, h)) e
   unfolding shell_obligations
@@ -37,10 +37,10 @@ module _ (s : SolidData) (k : ℕ) (h : Shell) (d : ShellRows) (is : d ≡ shell
       let r : ShellRows = shell_rows s h in
       fault_of (pair_obligations s r) (shell_obligations s (k, h))
       (λ x b. FirstFalse-append_front (join_obligations s h ++ pair_obligations s r ++ reach_obligations h r ++ link_obligations s r) (apart_obligations s k r)
-          x
+      x
       (FirstFalse-append_front (join_obligations s h ++ pair_obligations s r ++ reach_obligations h r) (link_obligations s r) x
       (FirstFalse-append_front (join_obligations s h ++ pair_obligations s r) (reach_obligations h r) x
-          (FirstFalse-append_rest (join_obligations s h) (pair_obligations s r) x joins b))))
+      (FirstFalse-append_rest (join_obligations s h) (pair_obligations s r) x joins b))))
       e (subst (λ z. IsCheckFault (pair_obligations s z) e) is bad)
 
   pub reached_not : AllHold (join_obligations s h) → AllHold (pair_obligations s d) → (e : CheckFault) → IsCheckFault (reach_obligations h d) e
@@ -51,7 +51,7 @@ module _ (s : SolidData) (k : ℕ) (h : Shell) (d : ShellRows) (is : d ≡ shell
       let front = AllHold-append (join_obligations s h) (pair_obligations s r) joins (subst (λ z. AllHold (pair_obligations s z)) is pairs) in
       fault_of (reach_obligations h r) (shell_obligations s (k, h))
       (λ x b. FirstFalse-append_front (join_obligations s h ++ pair_obligations s r ++ reach_obligations h r ++ link_obligations s r) (apart_obligations s k r)
-          x
+      x
       (FirstFalse-append_front (join_obligations s h ++ pair_obligations s r ++ reach_obligations h r) (link_obligations s r) x
       (FirstFalse-append_rest (join_obligations s h ++ pair_obligations s r) (reach_obligations h r) x front b)))
       e (subst (λ z. IsCheckFault (reach_obligations h z) e) is bad)
@@ -63,10 +63,10 @@ module _ (s : SolidData) (k : ℕ) (h : Shell) (d : ShellRows) (is : d ≡ shell
       let r : ShellRows = shell_rows s h in
       let front = AllHold-append (join_obligations s h) (pair_obligations s r) joins (subst (λ z. AllHold (pair_obligations s z)) is pairs) in
       let more = AllHold-append (join_obligations s h ++ pair_obligations s r) (reach_obligations h r) front
-            (subst (λ z. AllHold (reach_obligations h z)) is reach) in
+      (subst (λ z. AllHold (reach_obligations h z)) is reach) in
       fault_of (link_obligations s r) (shell_obligations s (k, h))
       (λ x b. FirstFalse-append_front (join_obligations s h ++ pair_obligations s r ++ reach_obligations h r ++ link_obligations s r) (apart_obligations s k r)
-          x
+      x
       (FirstFalse-append_rest (join_obligations s h ++ pair_obligations s r ++ reach_obligations h r) (link_obligations s r) x more b))
       e (subst (λ z. IsCheckFault (link_obligations s z) e) is bad)
 
@@ -77,7 +77,7 @@ module _ (s : SolidData) (k : ℕ) (h : Shell) (d : ShellRows) (is : d ≡ shell
       AllHold-append (join_obligations s h ++ pair_obligations s r ++ reach_obligations h r) (link_obligations s r)
       (AllHold-append (join_obligations s h ++ pair_obligations s r) (reach_obligations h r)
       (AllHold-append (join_obligations s h) (pair_obligations s r) joins (subst (λ z. AllHold (pair_obligations s z)) is pairs))
-          (subst (λ z. AllHold (reach_obligations h z)) is reach))
+      (subst (λ z. AllHold (reach_obligations h z)) is reach))
       (subst (λ z. AllHold (link_obligations s z)) is links)
 
   pub apart_not : AllHold (join_obligations s h) → AllHold (pair_obligations s d) → AllHold (reach_obligations h d) → AllHold (link_obligations s d)
@@ -86,7 +86,7 @@ module _ (s : SolidData) (k : ℕ) (h : Shell) (d : ShellRows) (is : d ≡ shell
   apart_not joins pairs reach links x bad =
       let r : ShellRows = shell_rows s h in
       FirstFalse-append_rest (join_obligations s h ++ pair_obligations s r ++ reach_obligations h r ++ link_obligations s r) (apart_obligations s k r) x
-          (all_but_last joins pairs reach links)
+      (all_but_last joins pairs reach links)
       (subst (λ z. FirstFalse (apart_obligations s k z) x) is bad)
 
   pub all_hold : AllHold (join_obligations s h) → AllHold (pair_obligations s d) → AllHold (reach_obligations h d) → AllHold (link_obligations s d)
@@ -95,5 +95,5 @@ module _ (s : SolidData) (k : ℕ) (h : Shell) (d : ShellRows) (is : d ≡ shell
   all_hold joins pairs reach links apart =
       let r : ShellRows = shell_rows s h in
       AllHold-append (join_obligations s h ++ pair_obligations s r ++ reach_obligations h r ++ link_obligations s r) (apart_obligations s k r)
-          (all_but_last joins pairs reach links)
+      (all_but_last joins pairs reach links)
       (subst (λ z. AllHold (apart_obligations s k z)) is apart)

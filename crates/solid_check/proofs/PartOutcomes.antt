@@ -43,7 +43,7 @@ one_beginning v s before (bytes ∷ lines) (suc k) m zero n (line, is, fits, lat
     absurd (solid_unfit s (stand_from_latest v s before) bytes n line b.0 is fits)
 one_beginning v s before (bytes ∷ lines) (suc k) m (suc i) n (line, is, fits, later) (other, is_other, fits_other, later_other) =
     let both = one_beginning v s (line ∷ before) lines k m i n later
-          (subst (λ l. BeginsAt v s (l ∷ before) lines i n) (line_one bytes other line is_other.1 is.1) later_other) in
+    (subst (λ l. BeginsAt v s (l ∷ before) lines i n) (line_one bytes other line is_other.1 is.1) later_other) in
     (ap suc both.0, both.1)
 
 legal_begins : (v : Version) (s : SolidData) (before : List CertLine) (lines : List (List ℕ)) (k m : ℕ) → IsLegalAfter v s before lines
@@ -75,7 +75,7 @@ legal_bad v s first before (bytes ∷ lines) bad (line, is, fits, more) (inl h) 
     (inl fits) h
 legal_bad v s first before (bytes ∷ lines) bad (line, is, fits, more) (inr (other, is_other, fits_other, later)) =
     legal_bad v s first (line ∷ before) lines bad more
-        (subst (λ l. IsFirstBadAfter v s (FitsPart s) first (l ∷ before) lines bad) (line_one bytes other line is_other.1 is.1) later)
+    (subst (λ l. IsFirstBadAfter v s (FitsPart s) first (l ∷ before) lines bad) (line_one bytes other line is_other.1 is.1) later)
 
 -- Legal lines don't come to a next part, nor do lines of which one is bad, and legal lines have no bad one.
 pub legal_begins_none : (v : Version) (s : SolidData) (lines : List (List ℕ)) (k m : ℕ) → IsLegal v s lines → BeginsAt v s [] lines k m → ⊥
@@ -99,7 +99,7 @@ by_end v s first before false e = inr (inl (Missing (first + length before), (e,
 
 by_later : (v : Version) (s : SolidData) (first : ℕ) (before : List CertLine) (bytes : List ℕ) (lines : List (List ℕ)) (line : CertLine)
     → IsLine (line_limit s) bytes line → FitsLine s (stand_from_latest v s before) line → ComesTo v s first (line ∷ before) lines
-        → ComesTo v s first before (bytes ∷ lines)
+    → ComesTo v s first before (bytes ∷ lines)
 by_later v s first before bytes lines line is fits (inl legal) = inl (line, is, fits, legal)
 by_later v s first before bytes lines line is fits (inr (inl (bad, h))) = inr (inl (bad, inr (line, is, fits, h)))
 by_later v s first before bytes lines line is fits (inr (inr (k, m, next))) = inr (inr (suc k, m, (line, is, fits, next)))
@@ -107,7 +107,7 @@ by_later v s first before bytes lines line is fits (inr (inr (k, m, next))) = in
 by_line : (v : Version) (s : SolidData) (first : ℕ) (before : List CertLine) (bytes : List ℕ) (lines : List (List ℕ)) (line : CertLine)
     → IsLine (line_limit s) bytes line
     → (FitsLine s (stand_from_latest v s before) line → ComesTo v s first (line ∷ before) lines) → Decided (FitsPart s (stand_from_latest v s before) line)
-        → ComesTo v s first before (bytes ∷ lines)
+    → ComesTo v s first before (bytes ∷ lines)
 by_line v s first before bytes lines line is on (inl (inl fits)) = by_later v s first before bytes lines line is fits (on fits)
 by_line v s first before bytes lines line is on (inl (inr (m, names, begins))) = inr (inr (0, m, (subst (IsLine (line_limit s) bytes) names is, begins)))
 by_line v s first before bytes lines line is on (inr other) = inr (inl (Unfit (first + length before), inl (inr (inr (line, is, other), refl))))
@@ -122,7 +122,7 @@ comes_to v s first before [] = by_end v s first before (stand_from_latest v s be
 comes_to v s first before (bytes ∷ lines) =
     ⊎_elim
     (λ (line, is). by_line v s first before bytes lines line is (λ fits. comes_to v s first (line ∷ before) lines)
-        (part_decided s (stand_from_latest v s before) line))
+    (part_decided s (stand_from_latest v s before) line))
     (λ other. by_other v s first before bytes lines other)
     (lines_are_decided (line_limit s) bytes)
 

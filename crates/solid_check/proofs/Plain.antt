@@ -64,8 +64,16 @@ find_plain (l ∷ ls) = ap (λ b. cond b (Some (plain l)) (find is_shell (map pl
 
 -- a stand, but for the faces that are reached
 abbrev pub but_reached : Stand → Stand
-but_reached at = record { ended = at.ended; shell = at.shell; due = at.due; mates = at.mates; last_edge = at.last_edge; last_vertex = at.last_vertex; reached =
-    [] }
+but_reached at = record {
+  ended = at.ended;
+  shell = at.shell;
+  due = at.due;
+  mates = at.mates;
+  last_edge = at.last_edge;
+  last_vertex = at.last_vertex;
+  reached =
+      [];
+}
 
 abbrev stand_from : Bool → ℕ → ℕ → ℕ → ℕ → ℕ → List (ℕ × ℕ) → Option ℕ → Option ℕ → Stand
 stand_from b k e c r t ms le lv =
@@ -92,18 +100,18 @@ stand_plain v s ls =
     let rows : current_rows s (map plain ls) ≡ current_rows s ls = ap (rows_of_shell s) shells in
     same_stand _ _ _ _ _ _ _ _ _ _ _ _ _ _ _ _ _ _ (ended_plain ls) shells
     (ap (λ (a : Due). a.edges - number_of is_edge (since_shell (map plain ls))) asks ∙ ap (λ n. (asked v (find is_shell ls)).edges - n)
-        (since_number is_edge (λ r t. refl) ls))
+    (since_number is_edge (λ r t. refl) ls))
     (ap (λ (a : Due). a.corners - number_of is_corner_or_point (since_shell (map plain ls))) asks ∙ ap (λ n. (asked v (find is_shell ls)).corners - n)
-        (since_number is_corner_or_point (λ r t. refl) ls))
+    (since_number is_corner_or_point (λ r t. refl) ls))
     (ap (λ (a : Due). a.reach - number_of is_reach (since_shell (map plain ls))) asks ∙ ap (λ n. (asked v (find is_shell ls)).reach - n)
-        (since_number is_reach (λ r t. refl) ls))
+    (since_number is_reach (λ r t. refl) ls))
     (ap (λ (a : Due). a.tally - number_of is_tally (since_shell (map plain ls))) asks ∙ ap (λ n. (asked v (find is_shell ls)).tally - n)
-        (since_number is_tally (λ r t. refl) ls))
+    (since_number is_tally (λ r t. refl) ls))
     (since_map mates_of (λ r t. refl) ls)
     (ap (λ (d : ShellRows). first_of (filter_map (edge_of d) (since_shell (map plain ls)))) rows
-        ∙ ap first_of (since_map (edge_of (current_rows s ls)) (λ r t. refl) ls))
+    ∙ ap first_of (since_map (edge_of (current_rows s ls)) (λ r t. refl) ls))
     (ap (λ (d : ShellRows). first_of (filter_map (vertex_of d) (since_shell (map plain ls)))) rows
-        ∙ ap first_of (since_map (vertex_of (current_rows s ls)) (λ r t. refl) ls))
+    ∙ ap first_of (since_map (vertex_of (current_rows s ls)) (λ r t. refl) ls))
 
 -- Behind lines that are plainly the same the stands are the same, but for the faces that are reached.
 pub plain_stands : (v : Version) (s : SolidData) (xs ys : List CertLine) → map plain xs ≡ map plain ys

@@ -56,7 +56,7 @@ placed_one shell p q h k face place =
     let place_l : l.0.0 ≡ p.at.place = ap (λ (r : PlacedLoop). r.at.place) l.2 in
     let place_m : m.0.0 ≡ q.at.place = ap (λ (r : PlacedLoop). r.at.place) m.2 in
     let one_loop : l.0 ≡ m.0 = enum_one g.0.1.loops l.0 m.0 (subst (λ (z : ℕ × FaceUse). Has (enumerate_from 0 z.1.loops) l.0) one_face l.1) m.1
-          (place_l ∙ (place ∙ sym place_m)) in
+    (place_l ∙ (place ∙ sym place_m)) in
     sym l.2 ∙ (ap (λ (z : ℕ × FaceUse). make z l.0) one_face ∙ (ap (λ z. make g.0 z) one_loop ∙ m.2))
   where
     make : ℕ × FaceUse → ℕ × Loop → PlacedLoop
@@ -102,7 +102,7 @@ shell_ready s k shell small good closed =
         paired = All-at (IsPaired d) d.edges closed.paired;
         reached = λ f lt. All-at (IsReached d) (numbers_from 0 (length shell.faces)) closed.reached f
             (subst (Has (numbers_from 0 (length shell.faces))) (zero_more f)
-                (numbers_have 0 (length shell.faces) f (subst (λ n. f < n) (faces_of_rows s shell) lt)));
+            (numbers_have 0 (length shell.faces) f (subst (λ n. f < n) (faces_of_rows s shell) lt)));
         linked = All-at (IsLinked d) d.vertices closed.linked;
       };
       turning = are_turning d (paired_rows_of d good closed.paired) good.meet good.exchanged (each_is_followed s shell);
@@ -152,4 +152,4 @@ closed_is_ready s small known closed j lt = at_shell (slice_get s.shells j) refl
     at_shell (Some shell) e =
         let good : AreGoodRows (rows_of s (slice_get s.shells j)) = good_rows s (closed_joins s closed) known (suc j) in
         shell_ready s (0 + j) shell (small shell (has_get s.shells j shell e) closed) (subst (λ o. AreGoodRows (rows_of s o)) e good)
-            (closed_at s 0 s.shells closed j shell e)
+        (closed_at s 0 s.shells closed j shell e)

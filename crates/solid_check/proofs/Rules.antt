@@ -42,7 +42,7 @@ unfolding open_place
 join_fails s h at place x u named =
     let there = open_place s h at place u in
     of_each_fails (λ (p : PlacedLoop). IsJoined s p.loop) (λ (p : PlacedLoop). loop_obligations s p.loop) (λ p. hold_from_joined s p.loop) (placed_loops h)
-        u.placed x u.first
+    u.placed x u.first
     (subst (FirstFalse (loop_obligations s u.placed.loop)) (sym (named u.placed there.1 u.is_at)) u.is_place)
 
 pub pair_holds : (s : SolidData) (d : ShellRows) → AllByRecursion (IsPaired d) d.edges → AllHold (pair_obligations s d)
@@ -86,8 +86,11 @@ faces_fail : (d : ShellRows) (base : ℕ) (fs : List FaceUse) (f : ℕ) (x : Fai
 faces_fail d base [] f x h named = absurd h
 faces_fail d base (g ∷ fs) f x h named =
     ⊎_elim (λ here. let e : base ≡ base + 0 = omega arith in inl (here.0, named g 0 (here.1 ∙ e) refl))
-    (λ rest. inr (rest.0, faces_fail d (base + 1) fs f x rest.1
-        (λ y i e at. let same : base + 1 + i ≡ base + suc i = omega arith in named y (suc i) (e ∙ same) at))) h
+    (λ rest. inr (
+      rest.0,
+      faces_fail d (base + 1) fs f x rest.1
+          (λ y i e at. let same : base + 1 + i ≡ base + suc i = omega arith in named y (suc i) (e ∙ same) at),
+    )) h
 
 pub reach_fails : (h : Shell) (d : ShellRows) (f : ℕ) (x : Failing) → d.face_count ≡ length h.faces → FirstNot (IsReached d) (numbers_from 0 d.face_count) f
     → ((g : FaceUse) → slice_get h.faces f ≡ Some g → x ≡ failing Unreached g.entity.0 0) → FirstFalse (reach_obligations h d) x

@@ -36,7 +36,7 @@ module _ (version : Version) (s : SolidData) (good : Good s) where
       let k = begun_row s (number_of is_shell before) a h.along_row h.at_a in
       let lead : LeadOn s (edge a b ∷ before) d = lead_on version s good (edge a b ∷ before) k.0 k.1 (fits, fit) lines legal fits.0 in
       let known : Has d.edges h.along_row.edge.0 = named_has (λ (r : Row). Has d.edges r.edge.0) d a h.along_row (good (number_of is_shell before)).edges
-            h.at_a in
+      h.at_a in
       let es : List ℕ = filter_map (edge_of d) (since_shell before) in
       record {
         along_row = h.along_row;
@@ -53,7 +53,7 @@ module _ (version : Version) (s : SolidData) (good : Good s) where
   corner_side : (before : List CertLine) (r : ℕ) (rs : List ℕ) → AllFit version s before → FitsLine s (stand_from_latest version s before) (corner (r ∷ rs))
       → (lines : List (List ℕ)) → IsLegalAfter version s (corner (r ∷ rs) ∷ before) lines
       → CornerSide (rows_at (stand_from_latest version s before)) (stand_from_latest version s before).mates (stand_from_latest version s before).last_vertex r
-          rs
+      rs
   unfolding stand_from_latest
   corner_side before r rs fit fits lines legal =
       let d : ShellRows = current_rows s before in

@@ -71,9 +71,9 @@ rows_listed d mates last r rs c x h =
     let trail : Trail R r rs r = trail_from_zip R r rs r c.turns in
     let none : NoRepeat (r ∷ rs) = no_repeat R (turns_one d mates c.hold c.paired) r rs r trail (above_least r rs c.least) in
     let start : (y : ℕ) → Has (r ∷ rs) y → StartsNamed d c.vertex y = corner_starts d mates c.good.meet c.good.exchanged c.hold c.vertex r rs r trail c.lies_at
-        in
+    in
     let few : length (starting c.vertex 1 d.rows) ≤ length (r ∷ rs) =
-          omega (arith, c.whole, length-starting c.vertex 1 d.rows, count_by-total (λ (y : Row). y.from.0 == c.vertex) d.rows) in
+    omega (arith, c.whole, length-starting c.vertex 1 d.rows, count_by-total (λ (y : Row). y.from.0 == c.vertex) d.rows) in
     covers (r ∷ rs) (starting c.vertex 1 d.rows) none (λ y m. starts_listed d c.vertex y (start y m)) few x (starts_listed d c.vertex x h)
 
 least_of : (r : ℕ) (rs : List ℕ) (x : ℕ) → AllByRecursion (λ y. r < y) rs → Has (r ∷ rs) x → r ≤ x
@@ -103,7 +103,7 @@ corner_one d mates last r rs q qs c e =
     let long : length rs ≡ length qs = omega (arith, c.whole, e.whole, counts) in
     let trail : Trail R q qs q = trail_from_zip R q qs q e.turns in
     let rest : rs ≡ qs = trail_one R (turns_one d mates c.hold c.paired) r rs qs r q (trail_from_zip R r rs r c.turns)
-          (subst (λ n. Trail R n qs q) (sym first) trail) long in
+    (subst (λ n. Trail R n qs q) (sym first) trail) long in
     ap (λ n. corner (n ∷ rs)) first ∙ ap (λ ns. corner (q ∷ ns)) rest
 
 -- the only loop without an edge at the least vertex above the last, where no row starts
@@ -142,8 +142,14 @@ named_point d face l v h = at_point (point_named d face l) refl h
     at_point (Some p) e h =
         let found = found_has (λ (q : LoopAt × ℕ). (q.0.face.0 + 1 == face) && (q.0.place + 1 == l)) d.points p e in
         let both = and_parts (p.0.face.0 + 1 == face) (p.0.place + 1 == l) found.1 in
-        record { point = p; here = found.0; face_is = eqb-true (p.0.face.0 + 1) face both.0; place_is = eqb-true (p.0.place + 1) l both.1; lies_at =
-            same_Some p.1 v h }
+        record {
+          point = p;
+          here = found.0;
+          face_is = eqb-true (p.0.face.0 + 1) face both.0;
+          place_is = eqb-true (p.0.place + 1) l both.1;
+          lies_at =
+              same_Some p.1 v h;
+        }
 
 counted_one : {A : Type 0} (test : A → Bool) (xs : List A) (x : A) → Has xs x → test x ≡ true → 1 ≤ total (λ y. cond (test y) 1 0) xs
 counted_one test [] x m passes = absurd m
@@ -170,7 +176,7 @@ point_one d last face l face2 l2 h k =
     let q : NamedPoint d face2 l2 k.vertex = named_point d face2 l2 k.vertex k.lies_at in
     let test : LoopAt × ℕ → Bool = λ x. x.1 == h.vertex in
     let same : p.point ≡ q.point = one_passes test d.points p.point q.point (sym (count_by-total test d.points) ∙ h.one_point) p.here q.here
-          (eq-eqb p.point.1 h.vertex p.lies_at) (eq-eqb q.point.1 h.vertex (q.lies_at ∙ v)) in
+    (eq-eqb p.point.1 h.vertex p.lies_at) (eq-eqb q.point.1 h.vertex (q.lies_at ∙ v)) in
     let faces : face ≡ face2 = sym p.face_is ∙ (ap (λ (x : LoopAt × ℕ). x.0.face.0 + 1) same ∙ q.face_is) in
     let places : l ≡ l2 = sym p.place_is ∙ (ap (λ (x : LoopAt × ℕ). x.0.place + 1) same ∙ q.place_is) in
     ap (λ x. point x l) faces ∙ ap (λ x. point face2 x) places
@@ -193,9 +199,9 @@ shell_one s at bt k k2 c c2 same h g =
     let d : k ≡ k2 → rows_of_shell s k ≡ rows_of_shell s k2 = ap (rows_of_shell s) in
     let counts : c ≡ c2 = same_counts c.rows c2.rows c.edges c2.edges c.corners c2.corners c.faces c2.faces
     (h.rows_counted ∙ (ap (λ (x : ShellRows). length x.rows) (d n) ∙ sym g.rows_counted))
-        (h.edges_counted ∙ (ap (λ (x : ShellRows). length x.edges) (d n) ∙ sym g.edges_counted))
+    (h.edges_counted ∙ (ap (λ (x : ShellRows). length x.edges) (d n) ∙ sym g.edges_counted))
     (h.corners_counted ∙ (ap (λ (x : ShellRows). length x.vertices) (d n) ∙ sym g.corners_counted))
-        (h.faces_counted ∙ (ap (λ (x : ShellRows). x.face_count) (d n) ∙ sym g.faces_counted)) in
+    (h.faces_counted ∙ (ap (λ (x : ShellRows). x.face_count) (d n) ∙ sym g.faces_counted)) in
     ap (λ x. shell x c) n ∙ ap (λ x. shell k2 x) counts
 
 same_tally : (v v2 e e2 f f2 l l2 : ℕ) → v ≡ v2 → e ≡ e2 → f ≡ f2 → l ≡ l2
@@ -207,6 +213,6 @@ tally_one s k k2 t t2 n h g =
     let d : rows_of_shell s k ≡ rows_of_shell s k2 = ap (rows_of_shell s) n in
     let same : t ≡ t2 = same_tally t.vertices t2.vertices t.edges t2.edges t.faces t2.faces t.loops t2.loops
     (h.vertices_counted ∙ (ap (λ (x : ShellRows). length x.vertices) d ∙ sym g.vertices_counted))
-        (h.edges_counted ∙ (ap (λ (x : ShellRows). length x.edges) d ∙ sym g.edges_counted))
+    (h.edges_counted ∙ (ap (λ (x : ShellRows). length x.edges) d ∙ sym g.edges_counted))
     (h.faces_counted ∙ (ap (λ (x : ShellRows). x.face_count) d ∙ sym g.faces_counted)) (h.loops_counted ∙ (ap (loops_of_shell s) n ∙ sym g.loops_counted)) in
     ap tally same

@@ -91,16 +91,16 @@ pub legal_is_closed : (version : Version) (s : SolidData) (lines : List (List �
     → IsClosedSolid s
 legal_is_closed version s lines known joined apart legal =
     both_all (λ (h : ℕ × Shell). slice_get s.shells h.0 ≡ Some h.1) (λ (h : ℕ × Shell). AllByRecursion (IsApart s h.0) (shell_rows s h.1).vertices)
-        (λ (h : ℕ × Shell). IsClosedShell s h.0 h.1)
+    (λ (h : ℕ × Shell). IsClosedShell s h.0 h.1)
     (enumerate_from 0 s.shells) closed_at
     (enumerated 0 s.shells (λ (h : ℕ × Shell). slice_get s.shells h.0 ≡ Some h.1)
-        (λ k x e. let same : k ≡ 0 + k = omega arith in subst (λ n. slice_get s.shells n ≡ Some x) same e))
+    (λ k x e. let same : k ≡ 0 + k = omega arith in subst (λ n. slice_get s.shells n ≡ Some x) same e))
     apart
   where
     closed_at : (h : ℕ × Shell) → slice_get s.shells h.0 ≡ Some h.1 → AllByRecursion (IsApart s h.0) (shell_rows s h.1).vertices → IsClosedShell s h.0 h.1
     closed_at h at each_apart =
         let proper : AreProper (rows_of s (slice_get s.shells h.0)) = legal_is_proper version s (good_rows s joined known) lines
-              (legal_behind version s lines legal) h.0 (slice_get_within s.shells h.0 h.1 at) in
+        (legal_behind version s lines legal) h.0 (slice_get_within s.shells h.0 h.1 at) in
         let here : AreProper (shell_rows s h.1) = subst (λ o. AreProper (rows_of s o)) at proper in
         record {
           joined = shell_joined s h.1 joined (has_get s.shells h.0 h.1 at);
@@ -134,6 +134,9 @@ pub closed_is_all_hold_of_file : ClosedIsAllHold
 unfolding obligations
 closed_is_all_hold_of_file f n = (
   λ c. AllHold-append (places f n) (solid_obligations (solid_of f n)) c.placed ((closed_is_all_hold (solid_of f n)).0 c.closed),
-  λ h. record { placed = AllHold-append_left (places f n) (solid_obligations (solid_of f n)) h; closed =
-      (closed_is_all_hold (solid_of f n)).1 (AllHold-append_right (places f n) (solid_obligations (solid_of f n)) h) },
+  λ h. record {
+    placed = AllHold-append_left (places f n) (solid_obligations (solid_of f n)) h;
+    closed =
+        (closed_is_all_hold (solid_of f n)).1 (AllHold-append_right (places f n) (solid_obligations (solid_of f n)) h);
+  },
 )

@@ -70,13 +70,13 @@ upgraded_alone f n certificate limits a =
     let all : List CertLine = head Two ∷ solid n ∷ legal.read in
     let begun : starts_with (words (head One)) a.opens.first ≡ true = ap (starts_with (words (head One))) a.opens.is_head.1.1 ∙ one_first in
     let text : spelling (head Two) ++ joined (with_tallies s 0 (a.opens.second ∷ a.rest)) ≡ upgraded s certificate =
-          upgraded_one s certificate a.opens.first (a.opens.second ∷ a.rest) (spelling (head Two))
-          (spelling (head Two) ++ joined (with_tallies s 0 (a.opens.second ∷ a.rest))) a.opens.cut begun refl refl in
+    upgraded_one s certificate a.opens.first (a.opens.second ∷ a.rest) (spelling (head Two))
+    (spelling (head Two) ++ joined (with_tallies s 0 (a.opens.second ∷ a.rest))) a.opens.cut begun refl refl in
     let second : joined (with_tallies s 0 (a.opens.second ∷ a.rest)) ≡ spelling (solid n) ++ joined (with_tallies s 0 a.rest) =
-          ap (λ x. joined (with_tallies s 0 (x ∷ a.rest))) named in
+    ap (λ x. joined (with_tallies s 0 (x ∷ a.rest))) named in
     let further : joined (with_tallies s 0 a.rest) ≡ flat_map spelling legal.read = ap joined spelled.0 ∙ joined_spelled legal.read in
     let whole : upgraded s certificate ≡ flat_map spelling all =
-          sym text ∙ ap (λ x. spelling (head Two) ++ x) (second ∙ ap (λ x. spelling (solid n) ++ x) further) in
+    sym text ∙ ap (λ x. spelling (head Two) ++ x) (second ∙ ap (λ x. spelling (solid n) ++ x) further) in
     record {
       rest = with_tallies s 0 a.rest;
       opens = record {
@@ -94,8 +94,11 @@ pub upgraded_is_accepted : UpgradedIsAccepted
 upgraded_is_accepted f certificate One ns n limits named (m, is, a) =
     let same : n ≡ m = ⊎_elim (λ e. sym e) (λ h. absurd h) (Has-from_Contains (m ∷ []) n (subst (λ xs. Contains xs n) is named)) in
     (m, is, subst (λ x. IsAcceptedAlone Two f m (upgraded (solid_of f x) certificate)) (sym same) (upgraded_alone f m certificate limits a))
-upgraded_is_accepted f certificate Two ns n limits named (m, is, a) =
-    (m, is, subst (IsAcceptedAlone Two f m)
-        (kept (solid_of f n) certificate a.opens.first (a.opens.second ∷ a.rest) Two a.opens.cut a.opens.is_head.1.1 two_not) a)
+upgraded_is_accepted f certificate Two ns n limits named (m, is, a) = (
+  m,
+  is,
+  subst (IsAcceptedAlone Two f m)
+      (kept (solid_of f n) certificate a.opens.first (a.opens.second ∷ a.rest) Two a.opens.cut a.opens.is_head.1.1 two_not) a,
+)
 upgraded_is_accepted f certificate Three ns n limits named (parts, is, a) =
     (parts, is, subst (λ c. IsAcceptedBook f c parts) (kept (solid_of f n) certificate a.headed.first _ Three a.headed.cut a.headed.is_head.1.1 three_not) a)

@@ -28,7 +28,7 @@ no_part f = second_refused f (spelling end ∷ []) (Unfit 2) (inr (inr (end, ((o
 front_bad : (v : Version) (s : SolidData) (first : ℕ) (before : List CertLine) (front rest : List (List ℕ)) (bad : Illegal)
     → IsLegalAfter v s before (front ++ spelling end ∷ [])
     → ((at : List CertLine) → length at ≡ length before + length front → FitsLine s (stand_from_latest v s at) end
-        → IsFirstBadAfter v s (FitsPart s) first at rest bad) → IsFirstBadAfter v s (FitsPart s) first before (front ++ rest) bad
+    → IsFirstBadAfter v s (FitsPart s) first at rest bad) → IsFirstBadAfter v s (FitsPart s) first before (front ++ rest) bad
 front_bad v s first before [] rest bad (line, is, fits, ended) on =
     on before (omega arith) (subst (FitsLine s (stand_from_latest v s before)) (line_one (spelling end) line end is.1 (tt, refl)) fits)
 front_bad v s first before (x ∷ front) rest bad (line, is, fits, more) on =
@@ -36,13 +36,15 @@ front_bad v s first before (x ∷ front) rest bad (line, is, fits, more) on =
 
 book_bad : (f : Contents) (p : Part) (rest : List (List ℕ)) (bad : Illegal) → IsGoodPart f p
     → ((at : List CertLine) → length at ≡ 0 + length p.further → FitsLine (solid_of f p.solid) (stand_from_latest Two (solid_of f p.solid) at) end
-        → IsFirstBadAfter Two (solid_of f p.solid) (FitsPart (solid_of f p.solid)) 3 at rest bad)
+    → IsFirstBadAfter Two (solid_of f p.solid) (FitsPart (solid_of f p.solid)) 3 at rest bad)
     → IsBookBad f (part_lines p ++ rest) (illegal bad)
 book_bad f p rest bad good on =
     let s : SolidData = solid_of f p.solid in
-    part_refused f (part_lines p ++ rest) [] p.solid p.first (p.further ++ rest) (illegal bad) (first_reached f p.first p.solid (p.further ++ rest) good.names)
-    (certified_checked Two f p.solid (p.further ++ spelling end ∷ []) good.certified, bad_forward Two s (FitsPart s) 3 (p.further ++ rest) bad
-        (front_bad Two s 3 [] p.further rest bad (legal_behind Two s (p.further ++ spelling end ∷ []) good.certified.legal) on))
+    part_refused f (part_lines p ++ rest) [] p.solid p.first (p.further ++ rest) (illegal bad) (first_reached f p.first p.solid (p.further ++ rest) good.names) (
+      certified_checked Two f p.solid (p.further ++ spelling end ∷ []) good.certified,
+      bad_forward Two s (FitsPart s) 3 (p.further ++ rest) bad
+          (front_bad Two s 3 [] p.further rest bad (legal_behind Two s (p.further ++ spelling end ∷ []) good.certified.legal) on),
+    )
 
 -- Behind a good part a solid is named that is not above it: that line is unfit. So it is with two parts that are changed about, and with one that is there
 -- twice.

@@ -20,9 +20,10 @@ ints (n ∷ ns) = Int (pos n) ∷ ints ns
 
 -- the seam is used along twice: the second use starts at the wrong pole
 abbrev pub twisted_ball : Contents
-twisted_ball = record ball_with_seam
-    { entries = slice_set ball_with_seam.entries 5
-    (entry 508 1, ints (4 ∷ 0 ∷ 7 ∷ 1 ∷ 1 ∷ 0 ∷ 1 ∷ 5 ∷ 2 ∷ 1 ∷ 0 ∷ 0 ∷ 7 ∷ 1 ∷ 1 ∷ 0 ∷ 1 ∷ 5 ∷ 1 ∷ 1 ∷ 0 ∷ [])) }
+twisted_ball = record ball_with_seam {
+  entries = slice_set ball_with_seam.entries 5
+      (entry 508 1, ints (4 ∷ 0 ∷ 7 ∷ 1 ∷ 1 ∷ 0 ∷ 1 ∷ 5 ∷ 2 ∷ 1 ∷ 0 ∷ 0 ∷ 7 ∷ 1 ∷ 1 ∷ 0 ∷ 1 ∷ 5 ∷ 1 ∷ 1 ∷ 0 ∷ []));
+}
 
 pub twisted_ball_fails : FirstFalse (solid_obligations (solid_of twisted_ball 1)) (record { rule = Unjoined; entity = record { 0 = 11 }; place = 2 })
 unfolding solid_obligations shell_obligations solid_of shell_rows

@@ -30,7 +30,7 @@ abbrev pub IsRestBad : Contents → List Part → ℕ → List (List ℕ) → Bo
 IsRestBad f before number rest fault =
     ((before ≡ []) × ((bad : Illegal) × (fault ≡ illegal bad) × IsSecondWrong rest bad))
     ⊎ ((p : Part) × (rest ≡ part_lines p) × IsSpelled p.first (solid p.solid) × IsStrictlyIncreasing (solids_named (before ++ p ∷ []))
-        × IsPartFault f p.solid (number + 1) p.further fault)
+    × IsPartFault f p.solid (number + 1) p.further fault)
 
 -- The lines of a book after its head, from line 2 on: good parts, and then a rest that is bad.
 pub record IsBookBad (f : Contents) (lines : List (List ℕ)) (fault : BookRefusal) : Type 0 where

@@ -45,17 +45,17 @@ first_generic a b c e g (n ∷ p) q r t u fa fb rest fg y ys is =
     let same : n ≡ y = ap (λ zs. get_or zs 0 n) is in
     subst (FirstFalse (a ++ b ++ c ++ e ++ g)) same
     (FirstFalse-append_front (a ++ b ++ c ++ e) g n
-        (FirstFalse-append_front (a ++ b ++ c) e n (FirstFalse-append_front (a ++ b) c n (FirstFalse-append_front a b n (first_fails a n p fa)))))
+    (FirstFalse-append_front (a ++ b ++ c) e n (FirstFalse-append_front (a ++ b) c n (FirstFalse-append_front a b n (first_fails a n p fa)))))
 first_generic a b c e g [] (n ∷ q) r t u fa fb rest fg y ys is =
     let same : n ≡ y = ap (λ zs. get_or zs 0 n) is in
     subst (FirstFalse (a ++ b ++ c ++ e ++ g)) same
     (FirstFalse-append_front (a ++ b ++ c ++ e) g n
-        (FirstFalse-append_front (a ++ b ++ c) e n
-        (FirstFalse-append_front (a ++ b) c n (FirstFalse-append_rest a b n (none_fails a fa) (first_fails b n q fb)))))
+    (FirstFalse-append_front (a ++ b ++ c) e n
+    (FirstFalse-append_front (a ++ b) c n (FirstFalse-append_rest a b n (none_fails a fa) (first_fails b n q fb)))))
 first_generic a b c e g [] [] r t u fa fb rest fg y ys is =
     let k = rest refl refl in
     let all = failing_append (a ++ b ++ c ++ e) g (r ++ t) u
-          (failing_append (a ++ b ++ c) e r t (failing_append (a ++ b) c [] r (failing_append a b [] [] fa fb) k.0) k.1) fg in
+    (failing_append (a ++ b ++ c) e r t (failing_append (a ++ b) c [] r (failing_append a b [] [] fa fb) k.0) k.1) fg in
     first_fails (a ++ b ++ c ++ e ++ g) y ys (subst (AreFailing (a ++ b ++ c ++ e ++ g)) is all)
 
 -- Loops that join, and edges that are paired.
@@ -64,11 +64,11 @@ judged : (s : SolidData) (k : ℕ) (shell : Shell) (x : Faults) → IsNumberedSo
 judged s k shell x numbered has h no_gap no_edge =
     let d : ShellRows = shell_rows s shell in
     let join : AllHold (join_obligations s shell) =
-          none_fails (join_obligations s shell)
-          (subst (λ gs. AreFailing (join_obligations s shell) (map gap_failing gs)) (sym h.gaps ∙ no_gap) (gaps_named s shell)) in
+    none_fails (join_obligations s shell)
+    (subst (λ gs. AreFailing (join_obligations s shell) (map gap_failing gs)) (sym h.gaps ∙ no_gap) (gaps_named s shell)) in
     let pair : AllHold (pair_obligations s d) =
-          none_fails (pair_obligations s d)
-          (subst (λ us. AreFailing (pair_obligations s d) (map (unpaired_failing s) us)) (sym h.unpaired ∙ no_edge) (unpaired_named s d)) in
+    none_fails (pair_obligations s d)
+    (subst (λ us. AreFailing (pair_obligations s d) (map (unpaired_failing s) us)) (sym h.unpaired ∙ no_edge) (unpaired_named s d)) in
     record {
       rows = are_rows s shell numbered has;
       meet = ends_meet s shell
@@ -108,9 +108,12 @@ first_named s k shell x numbered has h y ys is =
     let n : AreNamed s k shell x = are_named s k shell x numbered has h in
     first_generic (join_obligations s shell) (pair_obligations s d) (reach_obligations shell d) (link_obligations s d) (apart_obligations s k d)
     (map gap_failing x.gaps) (map (unpaired_failing s) x.unpaired) (failing_faces shell.faces x.firsts) (failing_vertices s x.linking)
-        (map (shared_failing s) x.shared) n.join n.pair
-    (λ a b. (n.reach (map_none gap_failing x.gaps a) (map_none (unpaired_failing s) x.unpaired b), n.link (map_none gap_failing x.gaps a)
-        (map_none (unpaired_failing s) x.unpaired b))) n.apart y ys is
+    (map (shared_failing s) x.shared) n.join n.pair
+    (λ a b. (
+      n.reach (map_none gap_failing x.gaps a) (map_none (unpaired_failing s) x.unpaired b),
+      n.link (map_none gap_failing x.gaps a)
+          (map_none (unpaired_failing s) x.unpaired b),
+    )) n.apart y ys is
 
 no_face_apart : (fs : List FaceUse) (ps : List ℕ) (i : ℕ) → length fs ≡ length ps → failing_faces fs ps ≡ [] → apart_from i ps ≡ []
 no_face_apart [] [] i long e = refl
@@ -143,16 +146,16 @@ faultless_holds s k shell x numbered has h none =
     let n : AreNamed s k shell x = are_named s k shell x numbered has h in
     let join : AllHold (join_obligations s shell) = none_fails _ (subst (λ gs. AreFailing (join_obligations s shell) (map gap_failing gs)) none.gaps n.join) in
     let pair : AllHold (pair_obligations s d) =
-          none_fails _ (subst (λ us. AreFailing (pair_obligations s d) (map (unpaired_failing s) us)) none.unpaired n.pair) in
+    none_fails _ (subst (λ us. AreFailing (pair_obligations s d) (map (unpaired_failing s) us)) none.unpaired n.pair) in
     let reach : AllHold (reach_obligations shell d) =
-          none_fails _ (subst (λ fs. AreFailing (reach_obligations shell d) fs) (none_apart shell.faces x.firsts 0 none.one_part)
-          (n.reach none.gaps none.unpaired)) in
+    none_fails _ (subst (λ fs. AreFailing (reach_obligations shell d) fs) (none_apart shell.faces x.firsts 0 none.one_part)
+    (n.reach none.gaps none.unpaired)) in
     let link : AllHold (link_obligations s d) = none_fails _ (no_vertex s (link_obligations s d) x.linking none.linked (n.link none.gaps none.unpaired)) in
     let apart : AllHold (apart_obligations s k d) =
-          none_fails _ (subst (λ vs. AreFailing (apart_obligations s k d) (map (shared_failing s) vs)) none.shared n.apart) in
+    none_fails _ (subst (λ vs. AreFailing (apart_obligations s k d) (map (shared_failing s) vs)) none.shared n.apart) in
     AllHold-append _ (apart_obligations s k d)
-        (AllHold-append _ (link_obligations s d)
-        (AllHold-append _ (reach_obligations shell d) (AllHold-append (join_obligations s shell) (pair_obligations s d) join pair) reach) link) apart
+    (AllHold-append _ (link_obligations s d)
+    (AllHold-append _ (reach_obligations shell d) (AllHold-append (join_obligations s shell) (pair_obligations s d) join pair) reach) link) apart
 
 pub holds_faultless : (s : SolidData) (k : ℕ) (shell : Shell) (x : Faults) → IsNumberedSolid s → Has s.shells shell → AreFaults s k shell x
     → AllHold (shell_obligations s (k, shell)) → IsFaultless x
@@ -214,8 +217,13 @@ shells_done s i past left =
 shells_fewer : (hs : List Shell) → All (λ (h : Shell). 0 < length h.faces) hs → length hs ≤ length (flat_map (λ (h : Shell). h.faces) hs)
 shells_fewer [] all = omega arith
 shells_fewer (h ∷ hs) all =
-    omega (arith, all 0 h (omega arith), shells_fewer hs (λ i x lt. all (suc i) x (omega (arith, lt))), length-append h.faces
-    (flat_map (λ (h : Shell). h.faces) hs))
+    omega (
+      arith,
+      all 0 h (omega arith),
+      shells_fewer hs (λ i x lt. all (suc i) x (omega (arith, lt))),
+      length-append h.faces
+          (flat_map (λ (h : Shell). h.faces) hs),
+    )
 
 pub few_shells : (s : SolidData) → IsNumberedSolid s → length s.shells < 2 ^ 29
 few_shells s numbered = omega (arith, shells_fewer s.shells numbered.each_shell, numbered.few_faces)

@@ -24,7 +24,7 @@ here_tests : (v i : ℕ) (r : Row) (rs : List Row) (f : ℕ) (fs : List ℕ) →
 here_tests v i r rs f fs h =
     let e : i + 0 ≡ i = omega arith in
     and_from (r.from.0 == v) (f == i) (eq-eqb r.from.0 v (ap (λ (x : Row). x.from.0) (same_Some r h.row h.at) ∙ h.starts))
-        (eq-eqb f i (same_Some f (i + 0) h.least ∙ e))
+    (eq-eqb f i (same_Some f (i + 0) h.least ∙ e))
 
 tests_here : (v i : ℕ) (r : Row) (rs : List Row) (f : ℕ) (fs : List ℕ) → ((r.from.0 == v) && (f == i)) ≡ true → FanAt v i (r ∷ rs) (f ∷ fs) zero
 tests_here v i r rs f fs h =
@@ -61,7 +61,7 @@ one_fan v i (r ∷ rs) (f ∷ fs) (suc j) zero one h g =
     absurd (omega (arith, one, one_if ((r.from.0 == v) && (f == i)) (here_tests v i r rs f fs g), counted_fan v (i + 1) rs fs j (sooner v i r rs f fs j h)))
 one_fan v i (r ∷ rs) (f ∷ fs) (suc j) (suc k) one h g =
     ap suc (one_fan v (i + 1) rs fs j k (omega (arith, one, counted_fan v (i + 1) rs fs j (sooner v i r rs f fs j h))) (sooner v i r rs f fs j h)
-        (sooner v i r rs f fs k g))
+    (sooner v i r rs f fs k g))
 
 pub few_fans : (v i : ℕ) (rs : List Row) (fs : List ℕ) → ((j k : ℕ) → FanAt v i rs fs j → FanAt v i rs fs k → j ≡ k) → fans_from v i rs fs ≤ 1
 few_fans v i [] fs same = omega arith
@@ -74,7 +74,7 @@ few_fans v i (r ∷ rs) (f ∷ fs) same =
     by_test true e few =
         ⊎_elim
         (λ some. let k = found_fan v (i + 1) rs fs (omega (arith, some))
-            in let clash : zero ≡ suc k.0 = same zero (suc k.0) (tests_here v i r rs f fs e) (later v i r rs f fs k.0 k.1) in absurd (omega (arith, clash)))
+        in let clash : zero ≡ suc k.0 = same zero (suc k.0) (tests_here v i r rs f fs e) (later v i r rs f fs k.0 k.1) in absurd (omega (arith, clash)))
         (λ none. omega (arith, none))
         (cases_lt 0 (fans_from v (i + 1) rs fs))
     by_test false e few = omega (arith, few)

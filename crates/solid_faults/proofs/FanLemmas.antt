@@ -64,7 +64,7 @@ fans_of_labels d pairs labels whole h k = record {
       subst (λ n. LeadsTo (Turns d) n r) (get_or_from_slice_get labels r f 0 at) (joined_leads d pairs j.0 (get_or labels r 0) r whole h j.1);
   least = λ r f q at chain.
       let low = least_of_joined pairs (length d.rows) labels r q (turns_inside d pairs whole h) k (omega (arith, slice_get_within labels r f at, k.marks.each))
-            (leads_joined d pairs chain.0 r q whole h chain.1) in
+      (leads_joined d pairs chain.0 r q whole h chain.1) in
       omega (arith, low, get_or_from_slice_get labels r f 0 at);
 }
 

@@ -51,13 +51,13 @@ added_at counts low from f i k count long le inside lt true e =
     let at : from - low ≡ k = omega (arith, same.1, le) in
     let new : get_or (slice_set counts (from - low) (get_or counts (from - low) 0 + 1)) k 0 ≡ get_or counts k 0 + 1 =
     subst (λ n. get_or (slice_set counts (from - low) (get_or counts (from - low) 0 + 1)) n 0 ≡ get_or counts n 0 + 1) at
-        (set_same counts (from - low) (get_or counts (from - low) 0 + 1) 0 (omega (arith, inside, long))) in
+    (set_same counts (from - low) (get_or counts (from - low) 0 + 1) 0 (omega (arith, inside, long))) in
     new ∙ ap (λ b. get_or counts k 0 + (if b then 1 else 0)) (sym (ap (λ b. b && (f == i)) same.0 ∙ sym e)))
     (λ other.
     let apart : (from - low) ≢ k = λ h. other.1 (omega (arith, h, le)) in
     let none : get_or counts k 0 ≡ get_or counts k 0 + 0 = omega arith in
     set_other counts (from - low) k (get_or counts (from - low) 0 + 1) 0 apart
-        ∙ (none ∙ ap (λ b. get_or counts k 0 + (if b then 1 else 0)) (sym (ap (λ b. b && (f == i)) other.0))))
+    ∙ (none ∙ ap (λ b. get_or counts k 0 + (if b then 1 else 0)) (sym (ap (λ b. b && (f == i)) other.0))))
     (eqb_tells from (low + k))
 added_at counts low from f i k count long le inside lt false e =
     let none : get_or counts k 0 ≡ get_or counts k 0 + 0 = omega arith in
@@ -66,12 +66,12 @@ added_at counts low from f i k count long le inside lt false e =
 pub fan_step : (d : ShellRows) (leasts : List ℕ) (low count i : ℕ) (row : Row) (f : ℕ) (old new : List ℕ) (wanted : Bool) → slice_get d.rows i ≡ Some row
     → slice_get leasts i ≡ Some f → length old ≡ count
     → low ≤ row.from.0 → row.from.0 - low < count → wanted ≡ (f == i) → new ≡ added old (row.from.0 - low) wanted → CountedSoFar d leasts low count i old
-        → CountedSoFar d leasts low count (i + 1) new
+    → CountedSoFar d leasts low count (i + 1) new
 fan_step d leasts low count i row f old new wanted at_row at_least long le inside is e h k lt =
     let one : ℕ = if (row.from.0 == low + k) && (f == i) then 1 else 0 in
     let split : fans_from (low + k) i (drop i d.rows) (drop i leasts) ≡ one + fans_from (low + k) (i + 1) (drop (i + 1) d.rows) (drop (i + 1) leasts) =
     ap (λ rs. fans_from (low + k) i rs (drop i leasts)) (split_at d.rows i row at_row) ∙ ap (λ fs. fans_from (low + k) i (row ∷ drop (i + 1) d.rows) fs)
-        (split_at leasts i f at_least) in
+    (split_at leasts i f at_least) in
     let more : get_or new k 0 ≡ get_or old k 0 + one = ap (λ xs. get_or xs k 0) e ∙ added_at old low row.from.0 f i k count long le inside lt wanted is in
     omega (arith, h k lt, split, more)
 
@@ -97,7 +97,7 @@ pub from_within : (d : ShellRows) (span : Span) (i : ℕ) (row : Row) → AreRow
     → IsWithin span row.from.0
 from_within d span i row rows h at =
     member_within span d.vertices row.from.0 h
-        (All-at (λ (r : Row). Contains d.vertices r.from.0 × Contains d.vertices r.to.0) d.rows rows.vertices_hold row (has_get d.rows i row at)).0
+    (All-at (λ (r : Row). Contains d.vertices r.from.0 × Contains d.vertices r.to.0) d.rows rows.vertices_hold row (has_get d.rows i row at)).0
 
 pub length-added : (counts : List ℕ) (k : ℕ) (wanted : Bool) → length (added counts k wanted) ≡ length counts
 length-added counts k true = length-set counts k (get_or counts k 0 + 1)
@@ -120,11 +120,11 @@ pub point_step : (d : ShellRows) (low count i v : ℕ) (at : LoopAt) (old new : 
     → PointsSoFar d low count (i + 1) new
 point_step d low count i v at old new here long le inside e h k lt =
     let split : times vertex_of (low + k) (drop i d.points) ≡ one_if (v == low + k) + times vertex_of (low + k) (drop (i + 1) d.points) =
-          ap (times vertex_of (low + k)) (split_at d.points i (at, v) here) in
+    ap (times vertex_of (low + k)) (split_at d.points i (at, v) here) in
     let more : get_or new k 0 ≡ get_or old k 0 + one_if (v == low + k) =
     ap (λ xs. get_or xs k 0) e
     ∙ (added_at old low v 0 0 k count long le inside lt true refl
-        ∙ (ap (λ b. get_or old k 0 + (if b then 1 else 0)) (and_true (v == low + k)) ∙ ap (λ n. get_or old k 0 + n) (one_more_point (v == low + k)))) in
+    ∙ (ap (λ b. get_or old k 0 + (if b then 1 else 0)) (and_true (v == low + k)) ∙ ap (λ n. get_or old k 0 + n) (one_more_point (v == low + k)))) in
     omega (arith, h k lt, split, more)
 
 pub points_done : (d : ShellRows) (low count i : ℕ) (counts : List ℕ) → length d.points ≤ i → PointsSoFar d low count i counts
@@ -147,16 +147,16 @@ pub unlinked_pushed : (d : ShellRows) (leasts : List ℕ) (fans points : Celled 
     → AreFanCounts d leasts fans.span.least fans.span.count fans.cells
     → IsOnVertices d points → ArePointCounts d points.span.least points.span.count points.cells
     → slice_get d.vertices i ≡ Some v → a ≡ get_or fans.cells (v - fans.span.least) 0 → b ≡ get_or points.cells (v - points.span.least) 0
-        → new ≡ old ++ unlinked_at v a b → new ≡ old ++ vertex_unlinked d leasts v
+    → new ≡ old ++ unlinked_at v a b → new ≡ old ++ vertex_unlinked d leasts v
 unlinked_pushed d leasts fans points i v a b old new on_fans is_fans on_points is_points at ea eb e =
     let w : IsWithin fans.span v = vertex_within d fans.span i v on_fans.span at in
     let u : IsWithin points.span v = vertex_within d points.span i v on_points.span at in
     let fan : a ≡ fan_count d leasts v =
-          ea ∙ (is_fans (v - fans.span.least) (omega (arith, w.0, w.1))
-          ∙ ap (λ n. fan_count d leasts n) (let back : fans.span.least + (v - fans.span.least) ≡ v = omega (arith, w.0) in back)) in
+    ea ∙ (is_fans (v - fans.span.least) (omega (arith, w.0, w.1))
+    ∙ ap (λ n. fan_count d leasts n) (let back : fans.span.least + (v - fans.span.least) ≡ v = omega (arith, w.0) in back)) in
     let point : b ≡ point_count d v =
-          eb ∙ (is_points (v - points.span.least) (omega (arith, u.0, u.1))
-          ∙ ap (λ n. point_count d n) (let back : points.span.least + (v - points.span.least) ≡ v = omega (arith, u.0) in back)) in
+    eb ∙ (is_points (v - points.span.least) (omega (arith, u.0, u.1))
+    ∙ ap (λ n. point_count d n) (let back : points.span.least + (v - points.span.least) ≡ v = omega (arith, u.0) in back)) in
     e ∙ (ap (λ n. old ++ unlinked_at v n b) fan ∙ ap (λ n. old ++ unlinked_at v (fan_count d leasts v) n) point)
 
 -- the same number for each vertex that occurs

@@ -72,7 +72,7 @@ all_placed hs =
 shell_uses_flagged : (h : Shell) → shell_uses (flagged_shell h) ≡ shell_uses h
 shell_uses_flagged h =
     sym (flat_map-map uses_of loop_of (placed_loops (flagged_shell h)))
-        ∙ (ap (λ (ls : List Loop). flat_map uses_of ls) (placed_flagged h) ∙ flat_map-map uses_of loop_of (placed_loops h))
+    ∙ (ap (λ (ls : List Loop). flat_map uses_of ls) (placed_flagged h) ∙ flat_map-map uses_of loop_of (placed_loops h))
 
 shell_edges_flagged : (h : Shell) → shell_edges (flagged_shell h) ≡ shell_edges h
 shell_edges_flagged h = ap (λ (us : List LoopUse). flat_map edge_used us) (shell_uses_flagged h)
@@ -107,12 +107,12 @@ shells_each hs h =
     All-map (λ (h : Shell). 0 < length h.faces) flagged_shell hs
     (All-from_recursion (λ (h : Shell). 0 < length (map flagged_face h.faces)) hs
     (AllByRecursion-weaker (λ (h : Shell). 0 < length h.faces) (λ (h : Shell). 0 < length (map flagged_face h.faces)) hs
-        (λ h lt. omega (arith, lt, length-map h.faces flagged_face)) (recursion_from_All (λ (h : Shell). 0 < length h.faces) hs h)))
+    (λ h lt. omega (arith, lt, length-map h.faces flagged_face)) (recursion_from_All (λ (h : Shell). 0 < length h.faces) hs h)))
 
 loop_count : (hs : List Shell) → length (flat_map placed_loops (map flagged_shell hs)) ≡ length (flat_map placed_loops hs)
 loop_count hs =
     sym (length-map (flat_map placed_loops (map flagged_shell hs)) loop_of)
-        ∙ (ap (λ (ls : List Loop). length ls) (all_placed hs) ∙ length-map (flat_map placed_loops hs) loop_of)
+    ∙ (ap (λ (ls : List Loop). length ls) (all_placed hs) ∙ length-map (flat_map placed_loops hs) loop_of)
 
 pub flagged_numbered : (s : SolidData) → IsNumberedSolid s → IsNumberedSolid (flagged_solid s)
 flagged_numbered s n = record {
@@ -140,7 +140,7 @@ flagged_parts s entity shells edges vertices is_entity is_shells is_edges is_ver
     (subst (λ hs. IsNumberedSolid (record { entity = s.entity; shells = hs; edges = edges; vertices = vertices })) (sym is_shells)
     (subst (λ es. IsNumberedSolid (record { entity = s.entity; shells = map flagged_shell s.shells; edges = es; vertices = vertices })) (sym is_edges)
     (subst (λ vs. IsNumberedSolid (record { entity = s.entity; shells = map flagged_shell s.shells; edges = s.edges; vertices = vs })) (sym is_vertices)
-        (flagged_numbered s n))))
+    (flagged_numbered s n))))
 
 -- one item more is copied, or mapped
 pub copied_step : {A : Type 0} (xs : List A) (x : A) (i : ℕ) (old new : List A) → slice_get xs i ≡ Some x → old ++ drop i xs ≡ xs → new ≡ old ++ x ∷ []

@@ -82,7 +82,7 @@ corner_counts d leasts v whole h corner =
 point_counts : (d : ShellRows) (leasts : List ℕ) (v : ℕ) → IsPoint d v → fan_count d leasts v ≡ 0
 point_counts d leasts v point =
     ⊎_elim (λ some. let j = found_fan v 0 d.rows leasts (omega (arith, some)) in absurd (point.no_row j.0 (fan_start d leasts v j.0 j.1)))
-        (λ none. omega (arith, none)) (cases_lt 0 (fan_count d leasts v))
+    (λ none. omega (arith, none)) (cases_lt 0 (fan_count d leasts v))
 
 link_test : (a b c e : Bool) → ((a && b) || (c && e)) ≡ true → ((a ≡ true) × (b ≡ true)) ⊎ ((c ≡ true) × (e ≡ true))
 link_test true true c e h = inl (refl, refl)
@@ -127,7 +127,7 @@ vertex_linked s d leasts whole h v =
 
     by_test : (b : Bool) → (((fan_count d leasts v == 1) && (point_count d v == 0)) || ((fan_count d leasts v == 0) && (point_count d v == 1))) ≡ b
         → AreFailing (o ∷ []) (map (unlinked_failing s)
-            (if b then [] else record { vertex = record { 0 = v }; fans = fan_count d leasts v; points = point_count d v } ∷ []))
+        (if b then [] else record { vertex = record { 0 = v }; fans = fan_count d leasts v; points = point_count d v } ∷ []))
     by_test true e = holds_too o [] [] (test_linked d leasts v whole h e) refl
     by_test false e = fails_too o [] o.failing [] (λ linked. absurd (let clash : true ≡ false = sym (linked_test d leasts v whole h linked) ∙ e in cc)) refl
         refl

@@ -44,7 +44,7 @@ one_more false false y c = refl
 pub low_step : (mid new : Celled ℕ) (vs : List ℕ) (i part v p : ℕ) (target : Bool) → i < length vs
     → is_low new p v ≡ (is_low mid p v || ((get_or vs i 0 == v) && nat_lt part p))
     → (is_low mid p v || (list_any (λ m. m == v) (drop i vs) && nat_lt part p)) ≡ target
-        → (is_low new p v || (list_any (λ m. m == v) (drop (i + 1) vs) && nat_lt part p)) ≡ target
+    → (is_low new p v || (list_any (λ m. m == v) (drop (i + 1) vs) && nat_lt part p)) ≡ target
 low_step mid new vs i part v p target lt e before =
     ap (λ b. b || (list_any (λ m. m == v) (drop (i + 1) vs) && nat_lt part p)) e
     ∙ (one_more (is_low mid p v) (get_or vs i 0 == v) (list_any (λ m. m == v) (drop (i + 1) vs)) (nat_lt part p)
@@ -53,7 +53,7 @@ low_step mid new vs i part v p target lt e before =
 
 face_more : (s : SolidData) (f : FaceUse) (fs : List FaceUse) (a b : Bool) (v : ℕ)
     → ((a || (list_any (λ m. m == v) (face_vertices s f) && b)) || list_any (λ m. m == v) (flat_map (face_vertices s) fs))
-        ≡ (a || list_any (λ m. m == v) (flat_map (face_vertices s) (if b then f ∷ fs else fs)))
+    ≡ (a || list_any (λ m. m == v) (flat_map (face_vertices s) (if b then f ∷ fs else fs)))
 face_more s f fs a true v =
     joined a (list_any (λ m. m == v) (face_vertices s f)) (list_any (λ m. m == v) (flat_map (face_vertices s) fs))
     ∙ ap (λ t. a || t) (sym (list_any-append (λ m. m == v) (face_vertices s f) (flat_map (face_vertices s) fs)))

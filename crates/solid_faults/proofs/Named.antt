@@ -26,9 +26,9 @@ use_named p u =
     let o : Obligation = obligation Unjoined p.loop.entity.0 u.0 (u.1 ≡ u.2) in
     ⊎_elim
     (λ same. subst (λ b. AreFailing (o ∷ []) (map gap_failing (if b then [] else record { at = p.at; entity = p.loop.entity; tuple = u.0 } ∷ []))) (sym same.0)
-        (holds_too o [] [] same.1 refl))
+    (holds_too o [] [] same.1 refl))
     (λ other. subst (λ b. AreFailing (o ∷ []) (map gap_failing (if b then [] else record { at = p.at; entity = p.loop.entity; tuple = u.0 } ∷ [])))
-        (sym other.0) (fails_too o [] o.failing [] other.1 refl refl))
+    (sym other.0) (fails_too o [] o.failing [] other.1 refl refl))
     (eqb_tells u.1 u.2)
 
 pub gaps_named : (s : SolidData) (shell : Shell) → AreFailing (join_obligations s shell) (map gap_failing (gaps_of s shell))
@@ -80,11 +80,11 @@ vertex_named : (s : SolidData) (k v : ℕ) (vs before : List ℕ) (b : Bool) →
     → list_any (λ m. m == v) before ≡ b
     → AreFailing (map (λ w. at_vertex Shared (vertex_name (slice_get s.vertices w)) (IsApart s k w)) vs) (map (shared_failing s) (occurring vs before))
     → AreFailing (map (λ w. at_vertex Shared (vertex_name (slice_get s.vertices w)) (IsApart s k w)) (v ∷ vs))
-        (map (shared_failing s) (if b then v ∷ occurring vs before else occurring vs before))
+    (map (shared_failing s) (if b then v ∷ occurring vs before else occurring vs before))
 vertex_named s k v vs before true is e rest =
     let o : ℕ → Obligation = λ w. at_vertex Shared (vertex_name (slice_get s.vertices w)) (IsApart s k w) in
     fails_too (o v) (map o vs) (shared_failing s v) (map (shared_failing s) (occurring vs before))
-        (λ h. h (subst (λ xs. Contains xs v) is (Contains-from_Has before v (any_has v before e)))) refl rest
+    (λ h. h (subst (λ xs. Contains xs v) is (Contains-from_Has before v (any_has v before e)))) refl rest
 vertex_named s k v vs before false is e rest =
     let o : ℕ → Obligation = λ w. at_vertex Shared (vertex_name (slice_get s.vertices w)) (IsApart s k w) in
     holds_too (o v) (map o vs) (map (shared_failing s) (occurring vs before))

@@ -37,8 +37,12 @@ count_of_row d r row true at is =
     omega (arith, count_by-total p d.rows, counted p d.rows r row at (and_from (row.edge.0 == row.edge.0) row.along (eq-eqb row.edge.0 row.edge.0 refl) is))
 count_of_row d r row false at is =
     let p : Row → Bool = λ x. (x.edge.0 == row.edge.0) && not x.along in
-    omega (arith, count_by-total p d.rows, counted p d.rows r row at
-        (and_from (row.edge.0 == row.edge.0) (not row.along) (eq-eqb row.edge.0 row.edge.0 refl) (ap not is)))
+    omega (
+      arith,
+      count_by-total p d.rows,
+      counted p d.rows r row at
+          (and_from (row.edge.0 == row.edge.0) (not row.along) (eq-eqb row.edge.0 row.edge.0 refl) (ap not is)),
+    )
 
 -- the chosen row of a row's edge has the edge
 chosen_on_edge : (d : ShellRows) (r : ℕ) (row : Row) (seen : Seen) → slice_get d.rows r ≡ Some row → IsSeen d row.edge.0 seen
@@ -64,7 +68,7 @@ chosen : (d : ShellRows) (span : Span) (seen : List Seen) (r : ℕ) (row : Row) 
     → OnEdge d row.edge.0 (chosen_row (seen_of span seen row.edge.0))
 chosen d span seen r row t at =
     let known : Has d.edges row.edge.0 = Has-from_Contains d.edges row.edge.0 (All-at (λ (x : Row). _) d.rows t.rows.edges_hold row (has_get d.rows r row at))
-        in
+    in
     chosen_on_edge d r row (seen_of span seen row.edge.0) at (t.tally row.edge.0 (edge_within d span row.edge.0 t.span known))
 
 -- a pair shares an edge
@@ -106,9 +110,9 @@ share_joined d span seen a b h =
     let c : ℕ = chosen_face d span seen h.row.edge.0 in
     let here : Has (part_pairs d span seen) (a, c) = row_pair d span seen h.r h.row a h.at_r h.on_a in
     let there : Has (part_pairs d span seen) (b, c) = subst (λ (e : _). Has (part_pairs d span seen) (b, chosen_face d span seen e))
-          (ap (λ (e : _). e.0) (sym h.one_edge)) (row_pair d span seen h.q h.other b h.at_q h.on_b) in
+    (ap (λ (e : _). e.0) (sym h.one_edge)) (row_pair d span seen h.q h.other b h.at_q h.on_b) in
     leads_one (Linked (part_pairs d span seen)) a c b (inl here)
-        (leads_one (Linked (part_pairs d span seen)) c b b (inr there) (leads_here (Linked (part_pairs d span seen)) b))
+    (leads_one (Linked (part_pairs d span seen)) c b b (inr there) (leads_here (Linked (part_pairs d span seen)) b))
 
 connected_joined : (d : ShellRows) (span : Span) (seen : List Seen) (n a b : ℕ) → Steps (ShareEdge d) n a b → AreJoined (part_pairs d span seen) a b
 connected_joined d span seen zero a b e = subst (λ x. AreJoined (part_pairs d span seen) a x) e (leads_here (Linked (part_pairs d span seen)) a)
@@ -138,6 +142,6 @@ parts_of_labels d span seen labels t h = record {
   least = λ f p g at chain.
       let lt : f < d.face_count = omega (arith, slice_get_within labels f p at, h.marks.each) in
       let low = least_of_joined (part_pairs d span seen) d.face_count labels f g (pairs_inside d span seen t) h lt
-            (connected_joined d span seen chain.0 f g chain.1) in
+      (connected_joined d span seen chain.0 f g chain.1) in
       omega (arith, low, get_or_from_slice_get labels f p 0 at);
 }

@@ -110,7 +110,7 @@ pub unpaired_within : (d : ShellRows) (us : List Unpaired) (ns : List ℕ) (rang
 unpaired_within d us ns range is are span = all_from (IsWithin range) ns (λ x m.
     let from : (u : Unpaired) × Has us u × (u.edge.0 ≡ x) = has_map (λ (u : Unpaired). u.edge.0) us x (subst (λ ys. Has ys x) are m) in
     let at : (e : ℕ) × Has d.edges e × Has (edge_unpaired d e) from.0 = from_flat_map (edge_unpaired d) d.edges from.0 (subst (λ vs. Has vs from.0) is from.1)
-        in
+    in
     let e : at.0 ≡ x = sym (unpaired_edge at.0 (row_count d at.0 true) (row_count d at.0 false) from.0 at.2) ∙ from.2 in
     all_at (IsWithin range) d.edges x span.holds (subst (Has d.edges) e at.1))
 
@@ -124,8 +124,13 @@ at_most_one e along against = by_test ((along == 1) && (against == 1))
 unpaired_short : (d : ShellRows) (es : List ℕ) → length (flat_map (edge_unpaired d) es) ≤ length es
 unpaired_short d [] = omega arith
 unpaired_short d (e ∷ es) =
-    omega (arith, length-append (edge_unpaired d e) (flat_map (edge_unpaired d) es), at_most_one e (row_count d e true) (row_count d e false), unpaired_short d
-        es)
+    omega (
+      arith,
+      length-append (edge_unpaired d e) (flat_map (edge_unpaired d) es),
+      at_most_one e (row_count d e true) (row_count d e false),
+      unpaired_short d
+          es,
+    )
 
 pub unpaired_few : (s : SolidData) (h : Shell) (d : ShellRows) (us : List Unpaired) → IsNumberedSolid s → d ≡ shell_rows s h → us ≡ unpaired_of d
     → length us < 2 ^ 32
@@ -134,7 +139,7 @@ unpaired_few s h d us numbered rows is =
     let edges : d.edges ≡ occurring (numbers_from 0 (length s.edges)) (shell_edges h) = ap (λ (x : ShellRows). x.edges) rows in
     let long : length us ≤ length d.edges = subst (λ xs. length xs ≤ length d.edges) (sym is) (unpaired_short d d.edges) in
     let short : length d.edges ≤ length s.edges =
-          omega (arith, ap (length {A = ℕ}) edges, occurring_short (numbers_from 0 (length s.edges)) (shell_edges h), length-numbers 0 (length s.edges)) in
+    omega (arith, ap (length {A = ℕ}) edges, occurring_short (numbers_from 0 (length s.edges)) (shell_edges h), length-numbers 0 (length s.edges)) in
     omega (arith, long, short, few_edges s numbered)
 
 -- what a shell's faces use occurs in it
@@ -144,8 +149,8 @@ unfolding shell_rows
 vertices_occur s h d numbered has rows = all_from (Contains d.vertices) (faces_vertices s h) (λ x m.
     let used : Has (shell_vertices s h) x = subst (λ ys. Has ys x) (sym (shell_flat s h)) m in
     let among : Has d.vertices x =
-          subst (λ (e : ShellRows). Has e.vertices x) (sym rows)
-          (occurs (length s.vertices) (shell_vertices s h) x (vertices_known s h numbered has x used) used) in
+    subst (λ (e : ShellRows). Has e.vertices x) (sym rows)
+    (occurs (length s.vertices) (shell_vertices s h) x (vertices_known s h numbered has x used) used) in
     Contains-from_Has d.vertices x among)
 
 pub vertices_within : (ns ms : List ℕ) (range : Span) → IsSpanOf range ns → All (Contains ns) ms → All (IsWithin range) ms
@@ -171,7 +176,7 @@ where_from p i (f ∷ fs) all (q ∷ ps) e at =
     by_test : (b : Bool) → option_to_list (slice_get all i) ≡ f ∷ []
         → flat_map (λ n. option_to_list (slice_get all n)) (flat_map (place_if p) (enumerate_from (i + 1) ps)) ≡ faces_where (λ q. q == p) fs ps
         → flat_map (λ n. option_to_list (slice_get all n)) ((if b then i ∷ [] else []) ++ flat_map (place_if p) (enumerate_from (i + 1) ps))
-            ≡ (if b then f ∷ faces_where (λ q. q == p) fs ps else faces_where (λ q. q == p) fs ps)
+        ≡ (if b then f ∷ faces_where (λ q. q == p) fs ps else faces_where (λ q. q == p) fs ps)
     by_test true h r = ap (λ xs. xs ++ flat_map (λ n. option_to_list (slice_get all n)) (flat_map (place_if p) (enumerate_from (i + 1) ps))) h
         ∙ ap (λ xs. f ∷ xs) r
     by_test false h r = r
@@ -199,13 +204,13 @@ part_uses g h firsts p x m =
 
 loops_edges : (face : ℕ) (flag : Bool) (i : ℕ) (ls : List Loop)
     → flat_map edge_used (flat_map uses_in
-        (map (λ (l : ℕ × Loop). record { at = record { face = record { 0 = face }; place = l.0 }; forwards = flag; loop = l.1 }) (enumerate_from i ls)))
-        ≡ flat_map loop_edges ls
+    (map (λ (l : ℕ × Loop). record { at = record { face = record { 0 = face }; place = l.0 }; forwards = flag; loop = l.1 }) (enumerate_from i ls)))
+    ≡ flat_map loop_edges ls
 loops_edges face flag i [] = refl
 loops_edges face flag i (l ∷ ls) =
     let rest : List LoopUse =
-          flat_map uses_in (map (λ (l : ℕ × Loop). record { at = record { face = record { 0 = face }; place = l.0 }; forwards = flag; loop = l.1 })
-          (enumerate_from (i + 1) ls)) in
+    flat_map uses_in (map (λ (l : ℕ × Loop). record { at = record { face = record { 0 = face }; place = l.0 }; forwards = flag; loop = l.1 })
+    (enumerate_from (i + 1) ls)) in
     flat_map-append edge_used l.uses rest ∙ ap (λ es. loop_edges l ++ es) (loops_edges face flag (i + 1) ls)
 
 faces_edges : (flag : Bool) (i : ℕ) (fs : List FaceUse) → flat_map edge_used (flat_map uses_in (flat_map (placed_in_face flag) (enumerate_from i fs)))
@@ -224,21 +229,21 @@ pub edges_below : (s : SolidData) (h : Shell) (firsts : List ℕ) (p : ℕ) → 
     → All (λ e. e < length s.edges) (flat_map face_edges (part_faces h firsts p))
 edges_below s h firsts p known = all_from (λ e. e < length s.edges) (flat_map face_edges (part_faces h firsts p)) (λ x m.
     all_at (λ e. e < length s.edges) (shell_edges h) x known.edges
-        (subst (λ ys. Has ys x) (sym (faces_edges h.flag 0 h.faces)) (part_uses face_edges h firsts p x m)))
+    (subst (λ ys. Has ys x) (sym (faces_edges h.flag 0 h.faces)) (part_uses face_edges h firsts p x m)))
 
 pub vertices_below : (s : SolidData) (h : Shell) (firsts : List ℕ) (p : ℕ) → HasKnownParts s h
     → All (λ v. v < length s.vertices) (flat_map (face_vertices s) (part_faces h firsts p))
 vertices_below s h firsts p known = all_from (λ v. v < length s.vertices) (flat_map (face_vertices s) (part_faces h firsts p)) (λ x m.
     all_at (λ v. v < length s.vertices) (shell_vertices s h) x known.vertices
-        (subst (λ ys. Has ys x) (sym (shell_flat s h)) (part_uses (face_vertices s) h firsts p x m)))
+    (subst (λ ys. Has ys x) (sym (shell_flat s h)) (part_uses (face_vertices s) h firsts p x m)))
 
 -- the vertices that occur in a part lie in the range of its shell's
 pub part_within : (s : SolidData) (h : Shell) (firsts : List ℕ) (p : ℕ) (range : Span) → All (IsWithin range) (faces_vertices s h)
     → All (IsWithin range) (part_vertices s h firsts p)
 part_within s h firsts p range within = all_from (IsWithin range) (part_vertices s h firsts p) (λ x m.
     all_at (IsWithin range) (faces_vertices s h) x within
-        (part_uses (face_vertices s) h firsts p x
-        (from_occurring (numbers_from 0 (length s.vertices)) (flat_map (face_vertices s) (part_faces h firsts p)) x m)))
+    (part_uses (face_vertices s) h firsts p x
+    (from_occurring (numbers_from 0 (length s.vertices)) (flat_map (face_vertices s) (part_faces h firsts p)) x m)))
 
 -- those that are marked by a part before are those that occur in one
 pub touching_kept : (s : SolidData) (h : Shell) (firsts : List ℕ) (p : ℕ) (lows : Celled ℕ) → IsLowest s h firsts lows

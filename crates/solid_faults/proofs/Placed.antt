@@ -23,16 +23,16 @@ use Rattle.solid_faults.proofs.GapSteps.{piece_more}
 -- a row that is made of an edge runs along it by the flag
 pub placed_edge : (f : FaceUse) (p : PlacedLoop) (t : ℕ) (flag : Bool) (at : LoopAt) (id : EdgeId) (along : Bool) (e : Edge)
     → place_of_row f p t flag (row_of_edge at id along (Some e))
-        ≡ record { along = along; face = f.entity; face_flag = f.flag; walk = p.loop.entity; tuple = t; flag = flag } ∷ []
+    ≡ record { along = along; face = f.entity; face_flag = f.flag; walk = p.loop.entity; tuple = t; flag = flag } ∷ []
 placed_edge f p t flag at id true e = refl
 placed_edge f p t flag at id false e = refl
 
 pub tuple_step : {A B : Type 0} (f : ℕ × A → List B) (xs : List A) (x : A) (i : ℕ) (old new all : List B) → i < length xs → get_or xs i x ≡ x
     → old ++ flat_map f (enumerate_from (i + 1) (drop i xs)) ≡ all → new ≡ old ++ f (i + 1, x)
-        → new ++ flat_map f (enumerate_from (i + 1 + 1) (drop (i + 1) xs)) ≡ all
+    → new ++ flat_map f (enumerate_from (i + 1 + 1) (drop (i + 1) xs)) ≡ all
 tuple_step f xs x i old new all lt at h e =
     piece_more old new (f (i + 1, x)) (flat_map f (enumerate_from (i + 1 + 1) (drop (i + 1) xs))) all
-        (ap (λ ys. old ++ flat_map f (enumerate_from (i + 1) ys)) (sym (split_drop xs x i lt at)) ∙ h) e
+    (ap (λ ys. old ++ flat_map f (enumerate_from (i + 1) ys)) (sym (split_drop xs x i lt at)) ∙ h) e
 
 pub tuples_done : {A B : Type 0} (f : ℕ × A → List B) (xs : List A) (i : ℕ) (now all : List B) → length xs ≤ i
     → now ++ flat_map f (enumerate_from (i + 1) (drop i xs)) ≡ all → now ≡ all
@@ -69,7 +69,7 @@ ways_of_uses : (s : SolidData) (f : FaceUse) (p : PlacedLoop) (n : ℕ) (us : Li
 ways_of_uses s f p n [] = refl
 ways_of_uses s f p n (u ∷ us) =
     ways_more f p n (flag_of_use u) (row_of s p u) (flat_map (use_places s f p) (enumerate_from (n + 1) us)) (filter_map (row_of s p) us)
-        (ways_of_uses s f p (n + 1) us)
+    (ways_of_uses s f p (n + 1) us)
 
 ways_of_loops : (s : SolidData) (f : FaceUse) (ps : List PlacedLoop) → map place_way (flat_map (loop_places s f) ps) ≡ map row_way (flat_map (loop_rows s) ps)
 ways_of_loops s f [] = refl

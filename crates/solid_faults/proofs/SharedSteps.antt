@@ -25,7 +25,7 @@ pub occurring_step : (vs : List ℕ) (i v : ℕ) (before : List ℕ) (wanted : B
 occurring_step vs i v before wanted old new all at test h e =
     let rest : List ℕ = occurring (drop (i + 1) vs) before in
     let split : occurring (drop i vs) before ≡ (if list_any (λ m. m == v) before then v ∷ rest else rest) = ap (λ xs. occurring xs before) (split_at vs i v at)
-        in
+    in
     let same : list_any (λ m. m == v) before ≡ wanted = tests_agree v before wanted (list_any (λ m. m == v) before) test refl in
     ap (λ xs. xs ++ rest) e
     ∙ (sym (one_more v wanted old rest)

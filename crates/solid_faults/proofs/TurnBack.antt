@@ -75,6 +75,11 @@ pub turn_back : (d : ShellRows) (v r s : ℕ) → ArePaired d → StartsAt d v r
 turn_back d v r s whole at turn =
     let p : TurnsPermute d = turns_permute d whole in
     walk_ends (length d.rows) d v r s s [] p turn
-    (record { none = ((λ h. h), tt); starts = λ x has. ⊎_elim (λ e. subst (StartsAt d v) e (p.stays v r s at turn)) (λ h. absurd h) has; from =
-        λ x has. ⊎_elim (λ e. inl (sym e)) (λ h. absurd h) has; reached = leads_here (Turns d) s })
+    (record {
+      none = ((λ h. h), tt);
+      starts = λ x has. ⊎_elim (λ e. subst (StartsAt d v) e (p.stays v r s at turn)) (λ h. absurd h) has;
+      from =
+          λ x has. ⊎_elim (λ e. inl (sym e)) (λ h. absurd h) has;
+      reached = leads_here (Turns d) s;
+    })
     (omega arith)

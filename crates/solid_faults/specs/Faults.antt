@@ -47,7 +47,7 @@ failing_vertices s (Some l) = map (unlinked_failing s) l.unlinked
 abbrev pub failing_of : SolidData → Shell → Faults → List Failing
 failing_of s shell x =
     map gap_failing x.gaps ++ map (unpaired_failing s) x.unpaired ++ failing_faces shell.faces x.firsts ++ failing_vertices s x.linking
-        ++ map (shared_failing s) x.shared
+    ++ map (shared_failing s) x.shared
 
 -- fans are judged, and each vertex is linked
 abbrev pub AreLinked : Option Linking → Type 0

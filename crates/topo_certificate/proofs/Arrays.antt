@@ -114,7 +114,7 @@ mates_more ms pairs a b can holds r m = (to, from)
         by_case (inr (inl p)) = inr (Contains-from_Has ((a, b) ∷ pairs) (m, r) (inl (same_pair a b m r p.1 p.0)))
         by_case (inr (inr k)) =
             ⊎_elim (λ c. inl (Contains-from_Has ((a, b) ∷ pairs) (r, m) (inr (Has-from_Contains pairs (r, m) c))))
-                (λ c. inr (Contains-from_Has ((a, b) ∷ pairs) (m, r) (inr (Has-from_Contains pairs (m, r) c)))) ((holds r m).1 k)
+            (λ c. inr (Contains-from_Has ((a, b) ∷ pairs) (m, r) (inr (Has-from_Contains pairs (m, r) c)))) ((holds r m).1 k)
 
 -- an array of zeros tells no mate
 no_above : (ms : List ℕ) (r m : ℕ) → ((k : ℕ) → get_or ms k 0 ≡ 0) → above_zero (slice_get ms r) ≡ Some m → ⊥
@@ -131,8 +131,11 @@ none_in_zeros ms zero m all e = absurd cc
 none_in_zeros ms (suc r) m all e = no_above ms r m all e
 
 pub no_mates : (ms : List ℕ) → ((k : ℕ) → get_or ms k 0 ≡ 0) → HoldsMates ms []
-no_mates ms all r m = (λ h. absurd (⊎_elim (λ c. Has-from_Contains [] (r, m) c) (λ c. Has-from_Contains [] (m, r) c) h), λ e. absurd
-    (none_in_zeros ms r m all e))
+no_mates ms all r m = (
+  λ h. absurd (⊎_elim (λ c. Has-from_Contains [] (r, m) c) (λ c. Has-from_Contains [] (m, r) c) h),
+  λ e. absurd
+      (none_in_zeros ms r m all e),
+)
 
 -- the faces, with one more
 pub faces_more : (reached : List Bool) (first f : ℕ) (others : List ℕ) → f < length reached → HoldsFaces reached (first ∷ others)

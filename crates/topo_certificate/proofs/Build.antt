@@ -100,8 +100,13 @@ module _ (version : Version) (s : SolidData) (lines : List CertLine) (k : ℕ) (
   pub nothing_due : tallies version ≡ 0 → length d.edges ≤ length es → length d.vertices ≤ length vs → d.face_count - 1 ≤ length fs
       → NoneDue (stand_from_latest version s lines).due
   nothing_due none a b c =
-      record { edges = omega (arith, a, edges_left); corners = omega (arith, b, corners_left); reach = omega (arith, c, reach_left); tally =
-      omega (arith, none, tally_left) }
+      record {
+        edges = omega (arith, a, edges_left);
+        corners = omega (arith, b, corners_left);
+        reach = omega (arith, c, reach_left);
+        tally =
+            omega (arith, none, tally_left);
+      }
 
   number_here : (stand_from_latest version s lines).shell ≡ k
   unfolding stand_from_latest
@@ -110,9 +115,14 @@ module _ (version : Version) (s : SolidData) (lines : List CertLine) (k : ℕ) (
   -- where one TALLY line ends a shell, and nothing else is due, that of the shell fits, and nothing is due after it
   pub tally_fits : (t : Tally) → tallies version ≡ 1 → length d.edges ≤ length es → length d.vertices ≤ length vs → d.face_count - 1 ≤ length fs
       → FitsTally s k t → FitsLine s (stand_from_latest version s lines) (tally t)
-  tally_fits t one a b c fits =
-      (not_ended, ((omega (arith, a, edges_left), omega (arith, b, corners_left), omega (arith, c, reach_left), omega (arith, one, tally_left)), subst
-          (λ n. FitsTally s n t) (sym number_here) fits))
+  tally_fits t one a b c fits = (
+    not_ended,
+    (
+      (omega (arith, a, edges_left), omega (arith, b, corners_left), omega (arith, c, reach_left), omega (arith, one, tally_left)),
+      subst
+          (λ n. FitsTally s n t) (sym number_here) fits,
+    ),
+  )
 
   pub none_after_tally : (t : Tally) → tallies version ≡ 1 → length d.edges ≤ length es → length d.vertices ≤ length vs → d.face_count - 1 ≤ length fs
       → NoneDue (stand_from_latest version s (tally t ∷ lines)).due
@@ -133,8 +143,17 @@ module _ (version : Version) (s : SolidData) (lines : List CertLine) (k : ℕ) (
   add_edge a b e x y left at_a at_b is_e one along against above ok =
       let listed : row_edge (row_named d a) ≡ Some e = ap row_edge at_a ∙ ap Some is_e in
       let fits : FitsEdge d (stand_from_latest version s lines) a b =
-            record { along_row = x; against_row = y; at_a = at_a; at_b = at_b; one_edge = one; along = along; against = against; rises =
-            subst (λ o. IsAbove o x.edge.0) (sym edge_before) (subst (λ n. IsAbove (first_of es) n) (sym is_e) above) } in
+      record {
+        along_row = x;
+        against_row = y;
+        at_a = at_a;
+        at_b = at_b;
+        one_edge = one;
+        along = along;
+        against = against;
+        rises =
+            subst (λ o. IsAbove o x.edge.0) (sym edge_before) (subst (λ n. IsAbove (first_of es) n) (sym is_e) above);
+      } in
       record {
         rows = stage.rows;
         begun = stage.begun;
@@ -148,8 +167,10 @@ module _ (version : Version) (s : SolidData) (lines : List CertLine) (k : ℕ) (
         faces = stage.faces;
         reach_count = stage.reach_count;
         tally_count = stage.tally_count;
-        fit = ((not_ended, (omega (arith, left, edges_left), subst (λ c. FitsEdge c (stand_from_latest version s lines) a b) (sym shell_here) fits)),
-            stage.fit);
+        fit = (
+          (not_ended, (omega (arith, left, edges_left), subst (λ c. FitsEdge c (stand_from_latest version s lines) a b) (sym shell_here) fits)),
+          stage.fit,
+        );
         short = (ok, stage.short);
       }
 
@@ -157,11 +178,19 @@ module _ (version : Version) (s : SolidData) (lines : List CertLine) (k : ℕ) (
   pub add_corner : (v r : ℕ) (rs : List ℕ) → length d.edges ≤ length es → length vs < length d.vertices → row_start (row_named d r) ≡ Some v
       → AllZip (TurnsTo d ms) (r ∷ rs) (next_of_each (r ∷ rs)) → AllByRecursion (λ x. r < x) rs
       → length (r ∷ rs) ≡ start_count d v → point_count d v ≡ 0 → IsAbove (first_of vs) v → IsReadable s (corner (r ∷ rs))
-          → Stage version s (corner (r ∷ rs) ∷ lines) k d es (v ∷ vs) fs ms
+      → Stage version s (corner (r ∷ rs) ∷ lines) k d es (v ∷ vs) fs ms
   add_corner v r rs edges_done left starts turns least whole no_point above ok =
       let fits : FitsCorner d (stand_from_latest version s lines) r rs =
-            record { vertex = v; lies_at = starts; turns = subst (λ m. AllZip (TurnsTo d m) (r ∷ rs) (next_of_each (r ∷ rs))) (sym mates_before) turns; least =
-            least; whole = whole; no_point = no_point; rises = subst (λ o. IsAbove o v) (sym vertex_before) above } in
+      record {
+        vertex = v;
+        lies_at = starts;
+        turns = subst (λ m. AllZip (TurnsTo d m) (r ∷ rs) (next_of_each (r ∷ rs))) (sym mates_before) turns;
+        least =
+            least;
+        whole = whole;
+        no_point = no_point;
+        rises = subst (λ o. IsAbove o v) (sym vertex_before) above;
+      } in
       record {
         rows = stage.rows;
         begun = stage.begun;
@@ -175,8 +204,17 @@ module _ (version : Version) (s : SolidData) (lines : List CertLine) (k : ℕ) (
         faces = stage.faces;
         reach_count = stage.reach_count;
         tally_count = stage.tally_count;
-        fit = ((not_ended, ((omega (arith, edges_done, edges_left), omega (arith, left, corners_left)), subst
-            (λ c. FitsCorner c (stand_from_latest version s lines) r rs) (sym shell_here) fits)), stage.fit);
+        fit = (
+          (
+            not_ended,
+            (
+              (omega (arith, edges_done, edges_left), omega (arith, left, corners_left)),
+              subst
+                  (λ c. FitsCorner c (stand_from_latest version s lines) r rs) (sym shell_here) fits,
+            ),
+          ),
+          stage.fit,
+        );
         short = (ok, stage.short);
       }
 
@@ -186,7 +224,7 @@ module _ (version : Version) (s : SolidData) (lines : List CertLine) (k : ℕ) (
       → IsReadable s (point face l) → Stage version s (point face l ∷ lines) k d es (v ∷ vs) fs ms
   add_point v face l edges_done left lies no_row one above ok =
       let fits : FitsPoint d (stand_from_latest version s lines) face l =
-            record { vertex = v; lies_at = lies; no_row = no_row; one_point = one; rises = subst (λ o. IsAbove o v) (sym vertex_before) above } in
+      record { vertex = v; lies_at = lies; no_row = no_row; one_point = one; rises = subst (λ o. IsAbove o v) (sym vertex_before) above } in
       record {
         rows = stage.rows;
         begun = stage.begun;
@@ -200,8 +238,17 @@ module _ (version : Version) (s : SolidData) (lines : List CertLine) (k : ℕ) (
         faces = stage.faces;
         reach_count = stage.reach_count;
         tally_count = stage.tally_count;
-        fit = ((not_ended, ((omega (arith, edges_done, edges_left), omega (arith, left, corners_left)), subst
-            (λ c. FitsPoint c (stand_from_latest version s lines) face l) (sym shell_here) fits)), stage.fit);
+        fit = (
+          (
+            not_ended,
+            (
+              (omega (arith, edges_done, edges_left), omega (arith, left, corners_left)),
+              subst
+                  (λ c. FitsPoint c (stand_from_latest version s lines) face l) (sym shell_here) fits,
+            ),
+          ),
+          stage.fit,
+        );
         short = (ok, stage.short);
       }
 
@@ -233,8 +280,17 @@ module _ (version : Version) (s : SolidData) (lines : List CertLine) (k : ℕ) (
         faces = ap (λ o. cons_option o (filter_map (face_of d) (since_shell lines))) on_f ∙ ap (λ xs. f ∷ xs) stage.faces;
         reach_count = ap suc stage.reach_count;
         tally_count = stage.tally_count;
-        fit = ((not_ended, ((omega (arith, edges_done, edges_left), omega (arith, corners_done, corners_left), omega (arith, left, reach_left)), subst
-            (λ c. FitsReach c (stand_from_latest version s lines) r) (sym shell_here) fits)), stage.fit);
+        fit = (
+          (
+            not_ended,
+            (
+              (omega (arith, edges_done, edges_left), omega (arith, corners_done, corners_left), omega (arith, left, reach_left)),
+              subst
+                  (λ c. FitsReach c (stand_from_latest version s lines) r) (sym shell_here) fits,
+            ),
+          ),
+          stage.fit,
+        );
         short = (ok, stage.short);
       }
 
@@ -265,8 +321,8 @@ build_edges version s k d small (e ∷ left) es ms lines stage count above rises
     let here : MatedAt d ((suc a.0, suc b.0) ∷ ms) e = (a.0, b.0, a.1, b.1, inl refl, a.2, b.2, a.3, b.3, a.4, b.4) in
     build_edges version s k d small left (e ∷ es) ((suc a.0, suc b.0) ∷ ms) (edge (suc a.0) (suc b.0) ∷ lines)
     (add_edge version s lines k d es [] [] ms stage (suc a.0) (suc b.0) e a.1 b.1 (omega (arith, count)) a.2 b.2 a.3
-        (edge_id a.1.edge b.1.edge (a.3 ∙ sym b.3)) a.4 b.4 above.0
-        (readable_edge s (suc a.0) (suc b.0) (row_short s d small a.0 a.1 a.2) (row_short s d small b.0 b.1 b.2)))
+    (edge_id a.1.edge b.1.edge (a.3 ∙ sym b.3)) a.4 b.4 above.0
+    (readable_edge s (suc a.0) (suc b.0) (row_short s d small a.0 a.1 a.2) (row_short s d small b.0 b.1 b.2)))
     (omega (arith, count)) rises.0 rises.1 (λ x m. paired x (inr m))
     (λ x m. ⊎_elim
     (λ h. ⊎_elim (λ same. inr (subst (MatedAt d ((suc a.0, suc b.0) ∷ ms)) same here)) (λ t. inl t) h)
@@ -288,7 +344,7 @@ mates_listed d ms good paired mated r m h =
     by_way k p me true w =
         let first : k.0 ≡ r = one_of_edge d h.row.edge.0 true k.0 r k.2 h.row p.0 k.5 h.at_r k.7 refl k.9 w in
         let second : k.1 ≡ m = one_of_edge d h.row.edge.0 false k.1 m k.3 h.mate p.1 k.6 h.at_m k.8 me k.10
-              (not-back h.row.along h.mate.along h.opposite true w) in
+        (not-back h.row.along h.mate.along h.opposite true w) in
         inl (Contains-from_Has ms (suc r, suc m) (subst (λ x. Has ms (suc x, suc m)) first (subst (λ y. Has ms (suc k.0, suc y)) second k.4)))
       where
         not-back : (b c : Bool) → b ≡ not c → (t : Bool) → b ≡ t → c ≡ not t
@@ -416,7 +472,7 @@ pub record CornersBuilt (version : Version) (s : SolidData) (k : ℕ) (d : Shell
 pub build_corners : (version : Version) (s : SolidData) (k : ℕ) (d : ShellRows) (es : List ℕ) (ms : List (ℕ × ℕ)) → IsSmall s d → AreTurning d → PointsDiffer d
     → ((r m : ℕ) → AreMates d r m → IsMate ms (suc r) (suc m)) → length d.edges ≤ length es
     → (left vs : List ℕ) (lines : List CertLine) → Stage version s lines k d es vs [] ms → length vs + length left ≡ length d.vertices
-        → AllByRecursion (λ z. IsAbove (first_of vs) z) left → Rises left → ((v : ℕ) → Has left v → IsLinked d v)
+    → AllByRecursion (λ z. IsAbove (first_of vs) z) left → Rises left → ((v : ℕ) → Has left v → IsLinked d v)
     → CornersBuilt version s k d es ms
 build_corners version s k d es ms small turning differ listed done [] vs lines stage count above rises linked =
     record { lines = lines; vs = vs; stage = stage; all = omega (arith, count) }
@@ -427,20 +483,20 @@ build_corners version s k d es ms small turning differ listed done (v ∷ left) 
     let cycle : IsCycle d v c.0 c.1 = c.2 in
     let zipped : AllZip (Turns d) (c.0 ∷ c.1) (c.1 ++ c.0 ∷ []) = zip_from_trail (Turns d) c.0 c.1 c.0 cycle.trail in
     let turns : AllZip (TurnsTo d ms) (suc c.0 ∷ map suc c.1) (map suc c.1 ++ suc c.0 ∷ []) = subst (λ ys. AllZip (TurnsTo d ms) (suc c.0 ∷ map suc c.1) ys)
-          (map-suc-append c.1 c.0) (zip_suc d ms listed (c.0 ∷ c.1) (c.1 ++ c.0 ∷ []) zipped) in
+    (map-suc-append c.1 c.0) (zip_suc d ms listed (c.0 ∷ c.1) (c.1 ++ c.0 ∷ []) zipped) in
     build_corners version s k d es ms small turning differ listed done left (v ∷ vs) (corner (suc c.0 ∷ map suc c.1) ∷ lines)
     (add_corner version s lines k d es vs [] ms stage v (suc c.0) (map suc c.1) done (omega (arith, count))
-        (ap row_start cycle.starts.1 ∙ ap Some cycle.starts.2) turns (above_suc c.0 c.1 cycle.least) (cycle_whole d v c.0 c.1 cycle) is_corner.no_point above.0
+    (ap row_start cycle.starts.1 ∙ ap Some cycle.starts.2) turns (above_suc c.0 c.1 cycle.least) (cycle_whole d v c.0 c.1 cycle) is_corner.no_point above.0
     (readable_corner s (suc c.0) (map suc c.1)
     (All-from IsShort (suc c.0 ∷ map suc c.1)
-        (λ x m. let q = from_suc (c.0 ∷ c.1) x m in let at = cycle.each q.0 q.2 in subst IsShort (sym q.1) (row_short s d small q.0 at.0 at.1)))
+    (λ x m. let q = from_suc (c.0 ∷ c.1) x m in let at = cycle.each q.0 q.2 in subst IsShort (sym q.1) (row_short s d small q.0 at.0 at.1)))
     (omega (arith, cycle_whole d v c.0 c.1 cycle, starts_few s d small v))))
     (omega (arith, count)) rises.0 rises.1 (λ x m. linked x (inr m)))
     (λ point_there.
     let p = named_point s d v small differ point_there in
     build_corners version s k d es ms small turning differ listed done left (v ∷ vs) (point p.0 p.1 ∷ lines)
     (add_point version s lines k d es vs [] ms stage v p.0 p.1 done (omega (arith, count)) p.2 (none_start d v point_there.no_row) point_there.one_point
-        above.0 (readable_point s p.0 p.1 p.3 p.4))
+    above.0 (readable_point s p.0 p.1 p.3 p.4))
     (omega (arith, count)) rises.0 rises.1 (λ x m. linked x (inr m)))
     (linked v (inl refl))
 
@@ -473,7 +529,7 @@ pub record ReachBuilt (version : Version) (s : SolidData) (k : ℕ) (d : ShellRo
 pub build_reach : (version : Version) (s : SolidData) (k : ℕ) (d : ShellRows) (es vs : List ℕ) (ms : List (ℕ × ℕ)) → IsSmall s d
     → ((r m : ℕ) → AreMates d r m → IsMate ms (suc r) (suc m)) → length d.edges ≤ length es → length d.vertices ≤ length vs
     → ((f : ℕ) → f < d.face_count → IsReached d f) → (left : ℕ) (fs : List ℕ) (lines : List CertLine) → Stage version s lines k d es vs fs ms
-        → d.face_count - 1 ≤ length fs + left → ReachBuilt version s k d es vs ms
+    → d.face_count - 1 ≤ length fs + left → ReachBuilt version s k d es vs ms
 build_reach version s k d es vs ms small listed edges_done corners_done reached zero fs lines stage count =
     record { lines = lines; fs = fs; stage = stage; all = omega (arith, count) }
 build_reach version s k d es vs ms small listed edges_done corners_done reached (suc left) fs lines stage count =
@@ -490,7 +546,7 @@ build_reach version s k d es vs ms small listed edges_done corners_done reached 
       where
         all_in : ((x : ℕ) → Has (numbers_from 0 d.face_count) x → Has (0 ∷ fs) x) → ReachBuilt version s k d es vs ms
         all_in into = absurd (let h = no_longer (numbers_from 0 d.face_count) (0 ∷ fs) (rises_none (numbers_from 0 d.face_count) (numbers_rise 0 d.face_count))
-                                    into in omega (arith, h, length-numbers 0 d.face_count, more))
+            into in omega (arith, h, length-numbers 0 d.face_count, more))
 
         new : (x : ℕ) × Has (numbers_from 0 d.face_count) x × (Has (0 ∷ fs) x → ⊥) → ReachBuilt version s k d es vs ms
         new (x, there, none) =
@@ -503,6 +559,6 @@ build_reach version s k d es vs ms small listed edges_done corners_done reached 
             let mate : IsMate ms (suc c.4.1) (suc c.4.0) = ⊎_elim (λ m. inr m) (λ m. inl m) (listed c.4.0 c.4.1 mates) in
             next (c.1 ∷ fs) (reach (suc c.4.1) ∷ lines)
             (add_reach version s lines k d es vs fs ms stage (suc c.4.1) (suc c.4.0) c.1 c.0 edges_done corners_done more mate
-                (ap row_face on_h.1 ∙ ap Some on_h.2) (ap row_face on_g.1 ∙ ap Some on_g.2) c.3 c.2
-                (readable_reach s (suc c.4.1) (row_short s d small c.4.1 on_h.0 on_h.1)))
+            (ap row_face on_h.1 ∙ ap Some on_h.2) (ap row_face on_g.1 ∙ ap Some on_g.2) c.3 c.2
+            (readable_reach s (suc c.4.1) (row_short s d small c.4.1 on_h.0 on_h.1)))
             (omega (arith, count))

@@ -238,10 +238,16 @@ begins first c legal number going shell_is none waiting =
       number = omega (arith, number);
       ended = going ∙ sym (ap (λ (x : Stand). x.ended) stand);
       shell = shell_is ∙ sym (ap (λ (x : Stand). x.shell) stand);
-      current = subst (MatchesCurrent s (stand_from_latest version s [])) (sym none)
-          (ap (λ (x : Stand). x.shell) stand,
-          record { edges = ap (λ (x : Stand). x.due.edges) stand; corners = ap (λ (x : Stand). x.due.corners) stand; reach =
-          ap (λ (x : Stand). x.due.reach) stand; tally = ap (λ (x : Stand). x.due.tally) stand });
+      current = subst (MatchesCurrent s (stand_from_latest version s [])) (sym none) (
+        ap (λ (x : Stand). x.shell) stand,
+        record {
+          edges = ap (λ (x : Stand). x.due.edges) stand;
+          corners = ap (λ (x : Stand). x.due.corners) stand;
+          reach =
+              ap (λ (x : Stand). x.due.reach) stand;
+          tally = ap (λ (x : Stand). x.due.tally) stand;
+        },
+      );
       waiting = subst (λ n. AreWaiting version s n c.waiting) (sym shell_is) waiting;
     }
 
@@ -267,9 +273,9 @@ waits_more version s k n waiting new t w lt is_n fresh e = record {
       let l : 0 + length waiting ≡ k = omega (arith, w.count) in
       subst (λ m. IsFresh version (rows_of_shell s (length s.shells - m)) (loops_of_shell s (length s.shells - m)) x) z
       (in_either waiting 0 i x
-          (λ j y g. let b : j ≡ 0 + j = omega arith in subst
-          (λ m. IsFresh version (rows_of_shell s (length s.shells - m)) (loops_of_shell s (length s.shells - m)) y) b (w.fresh j y g)) l
-          (sym (ap (λ xs. slice_get xs i) e) ∙ h));
+      (λ j y g. let b : j ≡ 0 + j = omega arith in subst
+      (λ m. IsFresh version (rows_of_shell s (length s.shells - m)) (loops_of_shell s (length s.shells - m)) y) b (w.fresh j y g)) l
+      (sym (ap (λ xs. slice_get xs i) e) ∙ h));
 }
   where
     last_fresh : IsFresh version (rows_of_shell s (length s.shells - k)) (loops_of_shell s (length s.shells - k)) t
@@ -280,11 +286,11 @@ waits_more version s k n waiting new t w lt is_n fresh e = record {
         → ((j : ℕ) (y : KeptShell) → slice_get xs j ≡ Some y
         → IsFresh version (rows_of_shell s (length s.shells - (base + j))) (loops_of_shell s (length s.shells - (base + j))) y) → base + length xs ≡ k
         → slice_get (xs ++ t ∷ []) i ≡ Some x
-            → IsFresh version (rows_of_shell s (length s.shells - (base + i))) (loops_of_shell s (length s.shells - (base + i))) x
+        → IsFresh version (rows_of_shell s (length s.shells - (base + i))) (loops_of_shell s (length s.shells - (base + i))) x
     in_either [] base zero x each long h =
         let place : length s.shells - k ≡ length s.shells - (base + 0) = omega (arith, long) in
         subst (λ m. IsFresh version (rows_of_shell s m) (loops_of_shell s m) x) place
-            (subst (IsFresh version (rows_of_shell s (length s.shells - k)) (loops_of_shell s (length s.shells - k))) (same_Some t x h) last_fresh)
+        (subst (IsFresh version (rows_of_shell s (length s.shells - k)) (loops_of_shell s (length s.shells - k))) (same_Some t x h) last_fresh)
     in_either [] base (suc i) x each long h = absurd (none_there i x h)
       where
         none_there : (i : ℕ) (x : KeptShell) → slice_get [] i ≡ Some x → ⊥
@@ -294,9 +300,9 @@ waits_more version s k n waiting new t w lt is_n fresh e = record {
         let a : base + 1 + i ≡ base + suc i = omega arith in
         subst (λ m. IsFresh version (rows_of_shell s (length s.shells - m)) (loops_of_shell s (length s.shells - m)) x) a
         (in_either xs (base + 1) i x
-            (λ j z g. let b : base + suc j ≡ base + 1 + j = omega arith in subst
-            (λ m. IsFresh version (rows_of_shell s (length s.shells - m)) (loops_of_shell s (length s.shells - m)) z) b (each (suc j) z g))
-            (omega (arith, long)) h)
+        (λ j z g. let b : base + suc j ≡ base + 1 + j = omega arith in subst
+        (λ m. IsFresh version (rows_of_shell s (length s.shells - m)) (loops_of_shell s (length s.shells - m)) z) b (each (suc j) z g))
+        (omega (arith, long)) h)
 
 pub waits_all : (version : Version) (s : SolidData) (k : ℕ) (waiting : List KeptShell) → Waits version s k waiting → length s.shells ≡ k
     → AreWaiting version s 0 waiting
@@ -312,14 +318,14 @@ room_at_first version s limit first waiting numbered is_limit low w =
 pub line_refused : (old new : Kept) (bytes : List ℕ) (l : CertLine) (number : ℕ) (r : Result (Unit {0}) Illegal) (Good : Unit {0} → Type 0) (first : ℕ)
     (lines : List CertLine) → IsAt first old lines → IsLine (line_limit old.solid) bytes l
     → (FitsLine old.solid (stand_from_latest old.version old.solid lines) l → ⊥) → number ≡ old.number → r ≡ Err (Unfit number)
-        → new.failed ≡ Some (Unfit number)
+    → new.failed ≡ Some (Unfit number)
     → MatchResult r Good (λ bad. IsBadLine old.solid (FitsLine old.solid (stand_from_latest old.version old.solid lines)) (first + length lines) bytes bad
-        × (new.failed ≡ Some bad))
+    × (new.failed ≡ Some bad))
 line_refused old new bytes l number r Good first lines at is never same is_r failed =
     let n : Unfit number ≡ Unfit (first + length lines) = ap (λ k. Unfit k) (same ∙ at.number) in
     subst (λ x. MatchResult x Good
-        (λ bad. IsBadLine old.solid (FitsLine old.solid (stand_from_latest old.version old.solid lines)) (first + length lines) bytes bad
-        × (new.failed ≡ Some bad))) (sym is_r)
+    (λ bad. IsBadLine old.solid (FitsLine old.solid (stand_from_latest old.version old.solid lines)) (first + length lines) bytes bad
+    × (new.failed ≡ Some bad))) (sym is_r)
     (inr (inr (l, is, never), n), failed)
 
 -- The line that begins the next part of a book.
@@ -327,15 +333,20 @@ line_refused old new bytes l number r Good first lines at is never same is_r fai
 -- END may come where nothing is kept as due and no shell waits
 pub end_may_come : (c : Kept) (first : ℕ) (lines : List CertLine) → IsAt first c lines → c.ended ≡ false → dues_of c.current ≡ 0 → length c.waiting ≡ 0
     → FitsLine c.solid (stand_from_latest c.version c.solid lines) end
-end_may_come c first lines at going none left =
-    (sym at.ended ∙ going, (none_due c.solid (stand_from_latest c.version c.solid lines) c.current at.current none, omega
-    (arith, left, at.waiting.count, at.shell)))
+end_may_come c first lines at going none left = (
+  sym at.ended ∙ going,
+  (
+    none_due c.solid (stand_from_latest c.version c.solid lines) c.current at.current none,
+    omega
+        (arith, left, at.waiting.count, at.shell),
+  ),
+)
 
 pub end_may_not : (c : Kept) (first : ℕ) (lines : List CertLine) → IsAt first c lines → (c.ended ≡ false → dues_of c.current ≡ 0 → length c.waiting ≡ 0 → ⊥)
     → FitsLine c.solid (stand_from_latest c.version c.solid lines) end → ⊥
 end_may_not c first lines at never fits =
     never (at.ended ∙ fits.0) (dues_none c.solid (stand_from_latest c.version c.solid lines) c.current at.current fits.1.0)
-        (omega (arith, at.waiting.count, at.shell, fits.1.1))
+    (omega (arith, at.waiting.count, at.shell, fits.1.1))
 
 -- what fits neither as a line nor as the first one of the next part is bad in a part
 pub bad_in_part : (s : SolidData) (at : Stand) (number : ℕ) (bytes : List ℕ) (bad : Illegal)
@@ -360,7 +371,7 @@ one_solid bytes n m a b = ap number_in (line_one bytes (solid n) (solid m) a b)
 -- a line that says what the words say names a solid exactly where they do
 pub solid_told : (limit : ℕ) (bytes : List ℕ) (w : Words) (found : Option ℕ) → (line : CertLine) × Means w line × IsLine limit bytes line
     → MatchOption found ((line : CertLine) (n : ℕ) → Means w line → line ≡ solid n → ⊥) (λ n. (line : CertLine) → Means w line → line ≡ solid n)
-        → MatchOption found ((n : ℕ) → ¬ IsLine limit bytes (solid n)) (λ n. IsLine limit bytes (solid n))
+    → MatchOption found ((n : ℕ) → ¬ IsLine limit bytes (solid n)) (λ n. IsLine limit bytes (solid n))
 solid_told limit bytes w (Some n) (l, means, is) told = subst (IsLine limit bytes) (told l means) is
 solid_told limit bytes w None (l, means, is) never = λ n h. never l n means (line_one bytes l (solid n) is.1 h.1)
 

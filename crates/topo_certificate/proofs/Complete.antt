@@ -54,8 +54,13 @@ abbrev pub counts_of : ShellRows → ShellCounts
 counts_of d = record { rows = length d.rows; edges = length d.edges; corners = length d.vertices; faces = d.face_count }
 
 abbrev pub tally_of : SolidData → ℕ → Tally
-tally_of s k = record { vertices = length (rows_of_shell s k).vertices; edges = length (rows_of_shell s k).edges; faces =
-    (rows_of_shell s k).face_count; loops = loops_of_shell s k }
+tally_of s k = record {
+  vertices = length (rows_of_shell s k).vertices;
+  edges = length (rows_of_shell s k).edges;
+  faces =
+      (rows_of_shell s k).face_count;
+  loops = loops_of_shell s k;
+}
 
 pub begin_shell : (version : Version) (s : SolidData) (j : ℕ) → j < length s.shells → AreReady s (rows_of_shell s (suc j)) (loops_of_shell s (suc j))
     → (done : Done version s j)
@@ -94,20 +99,26 @@ begin_shell version s j lt ready done =
         ),
         done.fit,
       );
-      short = (readable_shell s (suc j) (counts_of d) (omega (arith, lt, ready.small.shells)) (omega (arith, ready.small.rows, ready.small.few))
-          ready.small.edges ready.small.vertices ready.small.faces, done.short);
+      short = (
+        readable_shell s (suc j) (counts_of d) (omega (arith, lt, ready.small.shells)) (omega (arith, ready.small.rows, ready.small.few))
+            ready.small.edges ready.small.vertices ready.small.faces,
+        done.short,
+      );
     }
 
 pub with_tally : (version : Version) (s : SolidData) (k : ℕ) (lines : List CertLine) (es vs fs : List ℕ) (ms : List (ℕ × ℕ))
     → Stage version s lines k (rows_of_shell s k) es vs fs ms → tallies version ≡ 1
     → length (rows_of_shell s k).edges ≤ length es → length (rows_of_shell s k).vertices ≤ length vs → (rows_of_shell s k).face_count - 1 ≤ length fs
-        → IsSmall s (rows_of_shell s k) → loops_of_shell s k < 10 ^ 9 → Done version s k
+    → IsSmall s (rows_of_shell s k) → loops_of_shell s k < 10 ^ 9 → Done version s k
 with_tally version s k lines es vs fs ms stage one a b c small few =
     let d : ShellRows = rows_of_shell s k in
     record {
       lines = tally (tally_of s k) ∷ lines;
-      fit = (tally_fits version s lines k d es vs fs ms stage (tally_of s k) one a b c
-          (record { vertices_counted = refl; edges_counted = refl; faces_counted = refl; loops_counted = refl }), stage.fit);
+      fit = (
+        tally_fits version s lines k d es vs fs ms stage (tally_of s k) one a b c
+            (record { vertices_counted = refl; edges_counted = refl; faces_counted = refl; loops_counted = refl }),
+        stage.fit,
+      );
       short = (readable_tally s (tally_of s k) small.vertices small.edges small.faces few, stage.short);
       begun = stage.begun;
       shells = stage.shells;
@@ -118,7 +129,7 @@ with_tally version s k lines es vs fs ms stage one a b c small few =
 pub closes : (version : Version) (s : SolidData) (k : ℕ) (lines : List CertLine) (es vs fs : List ℕ) (ms : List (ℕ × ℕ))
     → Stage version s lines k (rows_of_shell s k) es vs fs ms
     → length (rows_of_shell s k).edges ≤ length es → length (rows_of_shell s k).vertices ≤ length vs → (rows_of_shell s k).face_count - 1 ≤ length fs
-        → IsSmall s (rows_of_shell s k) → loops_of_shell s k < 10 ^ 9 → Done version s k
+    → IsSmall s (rows_of_shell s k) → loops_of_shell s k < 10 ^ 9 → Done version s k
 closes One s k lines es vs fs ms stage a b c small few = record {
   lines = lines;
   fit = stage.fit;
@@ -136,14 +147,14 @@ one_more version s j lt ready done =
     let d : ShellRows = rows_of_shell s (suc j) in
     let started = begin_shell version s j lt ready done in
     let e : EdgesBuilt version s (suc j) d = build_edges version s (suc j) d ready.small d.edges [] [] _ started (omega arith) (any_above d.edges)
-          ready.edges_rise ready.proper.paired (λ x m. inl m) in
+    ready.edges_rise ready.proper.paired (λ x m. inl m) in
     let listed : (r m : ℕ) → AreMates d r m → IsMate e.ms (suc r) (suc m) = mates_listed d e.ms ready.good ready.proper.paired e.mated in
     let edges_done : length d.edges ≤ length e.es = omega (arith, e.all) in
     let c : CornersBuilt version s (suc j) d e.es e.ms = build_corners version s (suc j) d e.es e.ms ready.small ready.turning ready.differ listed edges_done
-          d.vertices [] e.lines e.stage (omega arith) (any_above d.vertices) ready.vertices_rise ready.proper.linked in
+    d.vertices [] e.lines e.stage (omega arith) (any_above d.vertices) ready.vertices_rise ready.proper.linked in
     let corners_done : length d.vertices ≤ length c.vs = omega (arith, c.all) in
     let r : ReachBuilt version s (suc j) d e.es c.vs e.ms = build_reach version s (suc j) d e.es c.vs e.ms ready.small listed edges_done corners_done
-          ready.proper.reached (d.face_count - 1) [] c.lines c.stage (omega arith) in
+    ready.proper.reached (d.face_count - 1) [] c.lines c.stage (omega arith) in
     closes version s (suc j) r.lines e.es c.vs r.fs e.ms r.stage edges_done corners_done r.all ready.small ready.few_loops
 
 nothing_at_first : (version : Version) (s : SolidData) → Done version s 0

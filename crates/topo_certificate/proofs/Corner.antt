@@ -26,8 +26,15 @@ pub record AreNamedMates (d : ShellRows) (r m : ℕ) : Type 0 where
   pub opposite : row.along ≡ not mate.along
 
 pub mates_back : (d : ShellRows) (r m : ℕ) → AreNamedMates d r m → AreNamedMates d m r
-mates_back d r m h = record { row = h.mate; mate = h.row; at_r = h.at_m; at_m = h.at_r; one_edge = sym h.one_edge; opposite =
-    not-not h.row.along h.mate.along h.opposite }
+mates_back d r m h = record {
+  row = h.mate;
+  mate = h.row;
+  at_r = h.at_m;
+  at_m = h.at_r;
+  one_edge = sym h.one_edge;
+  opposite =
+      not-not h.row.along h.mate.along h.opposite;
+}
 
 -- the listed pairs are mates
 abbrev pub MatesHold : ShellRows → List (ℕ × ℕ) → Type 0
@@ -109,7 +116,7 @@ one_mate d paired (suc n) (suc m) (suc k) a b =
     let way_a : a.mate.along ≡ not a.row.along = not-not a.row.along a.mate.along a.opposite in
     let way_b : b.mate.along ≡ not a.row.along = not-not b.row.along b.mate.along b.opposite ∙ ap not (sym (ap (λ (r : Row). r.along) same)) in
     ap suc (one_of_edge d a.row.edge.0 (not a.row.along) m k a.mate b.mate (pair_counts d a.row.edge.0 (not a.row.along) pair) a.at_m b.at_m edge_a edge_b
-        way_a way_b)
+    way_a way_b)
 
 pub follows_one : (d : ShellRows) (m x y : ℕ) → FollowsAsNamed d m x → FollowsAsNamed d m y → x ≡ y
 follows_one d zero x y f g = absurd f

@@ -59,7 +59,7 @@ size_there d sizes zero z row is h = absurd cc
 size_there d sizes (suc k) z row is h =
     let e : suc k - 1 ≡ k = omega arith in
     let at : slice_get sizes k ≡ Some (corner_size d row.from.0) = ap (λ xs. slice_get xs k) is
-          ∙ (slice_get-map (λ (r : Row). corner_size d r.from.0) d.rows k ∙ ap (option_map (λ (r : Row). corner_size d r.from.0)) h) in
+    ∙ (slice_get-map (λ (r : Row). corner_size d r.from.0) d.rows k ∙ ap (option_map (λ (r : Row). corner_size d r.from.0)) h) in
     ap (λ n. get_or sizes n z) e ∙ get_or_from_slice_get sizes k (corner_size d row.from.0) z at
 
 pub size_below : (d : ShellRows) (sizes : List ℕ) (first : ℕ) (row : Row) → sizes ≡ map (λ (r : Row). corner_size d r.from.0) d.rows
@@ -71,7 +71,7 @@ size_below d sizes first row is h =
 pub corner_fits : (d : ShellRows) (at : Stand) (text others : List ℕ) (first : ℕ) (rs : List ℕ) (row : Row) (last : Option ℕ) (len : ℕ)
     → Begins text first others → AreNumbers text rs → row_named d first ≡ Some row → at.last_vertex ≡ last → IsAbove last row.from.0
     → ((ms : List ℕ) → AreNumbers others ms → IsRing d at.mates first first ms × (len ≡ length (first ∷ ms))) → corner_size d row.from.0 ≡ len
-        → FitsCornerLine d at rs × (vertex_of d (corner rs) ≡ Some row.from.0)
+    → FitsCornerLine d at rs × (vertex_of d (corner rs) ≡ Some row.from.0)
 corner_fits d at text others first rs row last len b h is_row same above ring size =
     let n = next_left text others first rs b h in
     let r = ring n.0 n.2 in
@@ -112,7 +112,7 @@ pub alone_there : (d : ShellRows) (alone : List Bool) (i : ℕ) (p : LoopAt × �
     → slice_get d.points i ≡ Some p → get_or alone i z ≡ is_alone d p.1
 alone_there d alone i p z is h =
     let at : slice_get alone i ≡ Some (is_alone d p.1) = ap (λ xs. slice_get xs i) is
-          ∙ (slice_get-map (λ (p : LoopAt × ℕ). is_alone d p.1) d.points i ∙ ap (option_map (λ (p : LoopAt × ℕ). is_alone d p.1)) h) in
+    ∙ (slice_get-map (λ (p : LoopAt × ℕ). is_alone d p.1) d.points i ∙ ap (option_map (λ (p : LoopAt × ℕ). is_alone d p.1)) h) in
     get_or_from_slice_get alone i (is_alone d p.1) z at
 
 pub alone_below : (d : ShellRows) (alone : List Bool) (i : ℕ) (p : LoopAt × ℕ) → alone ≡ map (λ (p : LoopAt × ℕ). is_alone d p.1) d.points
@@ -129,9 +129,10 @@ pub point_fits : (d : ShellRows) (at : Stand) (alone : List Bool) (face place i 
     → slice_get d.points i ≡ Some p → is_alone d p.1 ≡ true → at.last_vertex ≡ last → IsAbove last p.1
     → FitsPoint d at face place × (vertex_of d (point face place) ≡ Some p.1)
 point_fits d at alone face place i p last n h single same above =
-    let t = alone_tells d p.1 single in
-    (record { vertex = p.1; lies_at = named_vertex d face place i p n h; no_row = t.0; one_point = t.1; rises = subst (λ o. IsAbove o p.1) (sym same) above },
-        named_vertex d face place i p n h)
+    let t = alone_tells d p.1 single in (
+      record { vertex = p.1; lies_at = named_vertex d face place i p n h; no_row = t.0; one_point = t.1; rises = subst (λ o. IsAbove o p.1) (sym same) above },
+      named_vertex d face place i p n h,
+    )
 
 pub point_vertex : (d : ShellRows) (at : Stand) (face place i : ℕ) (p : LoopAt × ℕ) → IsNamedAt d face place i → slice_get d.points i ≡ Some p
     → (fits : FitsPoint d at face place) → fits.vertex ≡ p.1

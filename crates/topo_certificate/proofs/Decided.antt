@@ -44,7 +44,7 @@ by_end version s first before false e = inr (Missing (first + length before), (e
 
 by_later : (version : Version) (s : SolidData) (first : ℕ) (before : List CertLine) (bytes : List ℕ) (lines : List (List ℕ)) (l : CertLine)
     → IsLine (line_limit s) bytes l → FitsLine s (stand_from_latest version s before) l → Answers version s first (l ∷ before) lines
-        → Answers version s first before (bytes ∷ lines)
+    → Answers version s first before (bytes ∷ lines)
 by_later version s first before bytes lines l is fits (inl legal) = inl (l, is, fits, legal)
 by_later version s first before bytes lines l is fits (inr (bad, h)) = inr (bad, inr (l, is, fits, h))
 
@@ -58,7 +58,7 @@ legal_or_bad version s first before [] = by_end version s first before (stand_fr
 legal_or_bad version s first before (bytes ∷ lines) =
     ⊎_elim
     (λ (l, is). ⊎_elim (λ fits. by_later version s first before bytes lines l is fits (legal_or_bad version s first (l ∷ before) lines))
-        (λ other. inr (Unfit (first + length before), inl (inr (inr (l, is, other), refl)))) (line_decided s (stand_from_latest version s before) l))
+    (λ other. inr (Unfit (first + length before), inl (inr (inr (l, is, other), refl)))) (line_decided s (stand_from_latest version s before) l))
     (λ other. by_other version s first before bytes lines other)
     (lines_are_decided (line_limit s) bytes)
 

@@ -65,9 +65,9 @@ pub facts_paired : (version : Version) (s : SolidData) (lines : List CertLine) (
 unfolding stand_from_latest
 facts_paired version s lines d facts none =
     let due : length d.edges - number_of is_edge (since_shell lines) ≡ 0 = sym (ap (λ (a : Due). a.edges - number_of is_edge (since_shell lines)) facts.asks)
-          ∙ none in
+    ∙ none in
     edges_paired d (filter_map mates_of (since_shell lines)) (filter_map (edge_of d) (since_shell lines)) (number_of is_edge (since_shell lines))
-        facts.edge_facts (omega (arith, due)) facts.twice
+    facts.edge_facts (omega (arith, due)) facts.twice
 
 pub facts_edge : (version : Version) (s : SolidData) (lines : List CertLine) (d : ShellRows) (a b : ℕ) → AreGoodRows d → d ≡ current_rows s lines
     → Facts version s lines d → 0 < (stand_from_latest version s lines).due.edges → FitsOpen s (stand_from_latest version s lines) (edge a b)
@@ -80,7 +80,7 @@ facts_edge version s lines d a b good here facts due fits =
       edge_facts = edge_step d (stand_from_latest version s lines) (filter_map mates_of (since_shell lines)) (filter_map (edge_of d) (since_shell lines))
           (number_of is_edge (since_shell lines)) a b good facts.edge_facts more
           (ap (λ c. slice_get (filter_map (edge_of c) (since_shell lines)) 0) (sym here))
-              (subst (λ c. FitsEdge c (stand_from_latest version s lines) a b) (sym here) fits.1);
+          (subst (λ c. FitsEdge c (stand_from_latest version s lines) a b) (sym here) fits.1);
       corner_facts = facts.corner_facts;
       reach_facts = facts.reach_facts;
       asks = facts.asks;
@@ -97,7 +97,7 @@ facts_corner version s lines d r rs good here facts fits =
           (number_of is_corner_or_point (since_shell lines)) r rs good facts.edge_facts.hold
           (paired_rows d good (facts_paired version s lines d facts fits.0.0)) facts.corner_facts
           (ap (λ c. slice_get (filter_map (vertex_of c) (since_shell lines)) 0) (sym here))
-              (subst (λ c. FitsCorner c (stand_from_latest version s lines) r rs) (sym here) fits.1);
+          (subst (λ c. FitsCorner c (stand_from_latest version s lines) r rs) (sym here) fits.1);
       reach_facts = facts.reach_facts;
       asks = facts.asks;
       twice = facts.twice;
@@ -112,7 +112,7 @@ facts_point version s lines d face l good here facts fits =
       corner_facts = point_step d (stand_from_latest version s lines) (filter_map (vertex_of d) (since_shell lines))
           (number_of is_corner_or_point (since_shell lines)) face l good facts.corner_facts
           (ap (λ c. slice_get (filter_map (vertex_of c) (since_shell lines)) 0) (sym here))
-              (subst (λ c. FitsPoint c (stand_from_latest version s lines) face l) (sym here) fits.1);
+          (subst (λ c. FitsPoint c (stand_from_latest version s lines) face l) (sym here) fits.1);
       reach_facts = facts.reach_facts;
       asks = facts.asks;
       twice = facts.twice;
@@ -128,7 +128,7 @@ facts_reach version s lines d r good here facts fits =
       reach_facts = reach_step d (stand_from_latest version s lines) (filter_map (face_of d) (since_shell lines)) (number_of is_reach (since_shell lines)) r
           good facts.edge_facts.hold facts.reach_facts
           (ap (λ c. 0 ∷ filter_map (face_of c) (since_shell lines)) (sym here))
-              (subst (λ c. FitsReach c (stand_from_latest version s lines) r) (sym here) fits.1);
+          (subst (λ c. FitsReach c (stand_from_latest version s lines) r) (sym here) fits.1);
       asks = facts.asks;
       twice = facts.twice;
     }

@@ -79,7 +79,7 @@ Fitness = SolidData → Stand → CertLine → Type 0
 abbrev pub Judges : Fitness → Kept → List ℕ → Kept → Answer → Type 0
 Judges Fits old bytes new r = (first : ℕ) (lines : List CertLine) → IsAt first old lines → MatchResult r
     (λ _. (l : CertLine) × IsLine (line_limit old.solid) bytes l × FitsLine old.solid (stand_from_latest old.version old.solid lines) l
-        × IsAt first new (l ∷ lines))
+    × IsAt first new (l ∷ lines))
     (λ bad. IsBadLine old.solid (Fits old.solid (stand_from_latest old.version old.solid lines)) (first + length lines) bytes bad)
 
 -- what it says of the end
@@ -112,7 +112,7 @@ module _ (v : Version) (s : SolidData) (Fits : Fitness) (first : ℕ) where
       let j = judges first (reverse read) stands.at in
       let is : IsLine (line_limit s) bytes j.0 = subst (λ (z : SolidData). IsLine (line_limit z) bytes j.0) stands.solid j.1 in
       let fits : FitsLine s (stand_after v s read) j.0 = of_these v s old.checker (λ w z. FitsLine z (stand_after w z read) j.0) stands.version stands.solid
-            j.2 in (
+      j.2 in (
         j.0,
         is,
         fits,
@@ -138,7 +138,7 @@ module _ (v : Version) (s : SolidData) (Fits : Fitness) (first : ℕ) where
       → IsOfSame old.checker new.checker → new.kept ≡ old.kept → MatchResult r (λ _. new.failed ≡ None) (λ bad. new.failed ≡ Some bad)
       → Judges Fits old.checker bytes new.checker r
       → MatchResult r (λ _. (l : CertLine) × IsLine (line_limit s) bytes l × FitsLine s (stand_after v s read) l × StandsAfter v s first (read ++ l ∷ []) []
-          new)
+      new)
       (λ bad. IsBadLine s (Fits s (stand_after v s read)) (first + length read) bytes bad × (new.failed ≡ Some bad))
   line_answer old new read bytes (Ok u) stands same kept none judges = taken old new read [] bytes u stands same none (kept ∙ stands.kept.0, refl) judges
   line_answer old new read bytes (Err bad) stands same kept some judges = (refused old new.checker read [] bytes bad stands judges, some)
@@ -149,13 +149,13 @@ module _ (v : Version) (s : SolidData) (Fits : Fitness) (first : ℕ) where
       → (read : List CertLine) × AreFitting v s (map ended h.pieces) read × StandsAfter v s first read h.rest c
   standing c text h none =
       subst (λ (o : Option Illegal). MatchOption o ((read : List CertLine) × AreFitting v s (map ended h.pieces) read × StandsAfter v s first read h.rest c)
-          (λ bad. (more : Lines) → HasFirstBad v s (Fits s) first (map ended h.pieces ++ more) bad)) none h.judged
+      (λ bad. (more : Lines) → HasFirstBad v s (Fits s) first (map ended h.pieces ++ more) bad)) none h.judged
 
   failing : (c : FedKept) (text : List ℕ) (bad : Illegal) (h : IsFedLines v s (Fits s) first text c) → c.failed ≡ Some bad → (more : Lines)
       → HasFirstBad v s (Fits s) first (map ended h.pieces ++ more) bad
   failing c text bad h some =
       subst (λ (o : Option Illegal). MatchOption o ((read : List CertLine) × AreFitting v s (map ended h.pieces) read × StandsAfter v s first read h.rest c)
-          (λ bad. (more : Lines) → HasFirstBad v s (Fits s) first (map ended h.pieces ++ more) bad)) some h.judged
+      (λ bad. (more : Lines) → HasFirstBad v s (Fits s) first (map ended h.pieces ++ more) bad)) some h.judged
 
   fed_standing : (c : FedKept) (text : List ℕ) (ps : Lines) (rest : List ℕ) (read : List CertLine) → IsBegun text ps rest → AreFitting v s (map ended ps) read
       → StandsAfter v s first read rest c → IsFedLines v s (Fits s) first text c
@@ -231,38 +231,38 @@ module _ (v : Version) (s : SolidData) (Fits : Fitness) (first : ℕ) where
   next_fed : (old new : FedKept) (text front bytes : List ℕ) (r : Answer) (fed : IsFedLines v s (Fits s) first text old) → old.failed ≡ None
       → is_in_line front ≡ true → IsOfSame old.checker new.checker
       → SameLine (line_limit s) bytes (ended (fed.rest ++ front)) → Judges Fits old.checker bytes new.checker r → IsDone new r
-          → IsFedLines v s (Fits s) first (text ++ ended front) new
+      → IsFedLines v s (Fits s) first (text ++ ended front) new
   next_fed old new text front bytes (Ok u) fed none h same_as same judges done =
       let (read, fitting, stands) = standing old text fed none in
       let (l, is, fits, after) = taken old new read fed.rest bytes u stands same_as done.0 (done.1 ∙ sym (take_all (line_limit s) [] (omega arith)), refl)
-            judges in
+      judges in
       let line = fed.rest ++ front in
       fed_standing new (text ++ ended front) (fed.pieces ++ line ∷ []) [] (read ++ l ∷ [])
-          (ended_begun text front fed.pieces fed.rest fed.begun stands.kept.1 h)
+      (ended_begun text front fed.pieces fed.rest fed.begun stands.kept.1 h)
       (subst (λ (ls : Lines). AreFitting v s ls (read ++ l ∷ [])) (sym (map-append ended fed.pieces (line ∷ [])))
-          (fitting_more v s (map ended fed.pieces) read (ended line) l fitting (same.line l is) fits)) after
+      (fitting_more v s (map ended fed.pieces) read (ended line) l fitting (same.line l is) fits)) after
   next_fed old new text front bytes (Err bad) fed none h same_as same judges failed =
       let (read, fitting, stands) = standing old text fed none in
       let line = fed.rest ++ front in
       let bad_line = same_bad s (Fits s (stand_after v s read)) (first + length read) bytes (ended line) bad same
-            (refused old new.checker read fed.rest bytes bad stands judges) in
+      (refused old new.checker read fed.rest bytes bad stands judges) in
       fed_failing new (text ++ ended front) (fed.pieces ++ line ∷ []) [] bad (same_as.0 ∙ fed.version) (same_as.1 ∙ fed.solid) failed
-          (ended_begun text front fed.pieces fed.rest fed.begun stands.kept.1 h)
+      (ended_begun text front fed.pieces fed.rest fed.begun stands.kept.1 h)
       (λ more. subst (λ (ls : Lines). HasFirstBad v s (Fits s) first ls bad)
-          (sym (ap (λ (ls : Lines). ls ++ more) (map-append ended fed.pieces (line ∷ [])) ∙ append_assoc (map ended fed.pieces) (ended line ∷ []) more))
+      (sym (ap (λ (ls : Lines). ls ++ more) (map-append ended fed.pieces (line ∷ [])) ∙ append_assoc (map ended fed.pieces) (ended line ∷ []) more))
       (first_bad (map ended fed.pieces) read (ended line) bad fitting bad_line more))
 
   -- a line that lies whole in the piece
   pub whole_line : (old new : FedKept) (text front line : List ℕ) (r : Answer) → old.failed ≡ None → length old.kept ≤ 0 → is_in_line front ≡ true
       → line ≡ ended front
       → IsOfSame old.checker new.checker → Judges Fits old.checker line new.checker r → IsDone new r → IsFedLines v s (Fits s) first text old
-          → IsFedLines v s (Fits s) first (text ++ line) new
+      → IsFedLines v s (Fits s) first (text ++ line) new
   whole_line old new text front line r none empty h is same judges done fed =
       let (read, fitting, stands) = standing old text fed none in
       let rest = none_kept s old.kept fed.rest stands.kept.0 empty in
       subst (λ (l : List ℕ). IsFedLines v s (Fits s) first (text ++ l) new) (sym is)
       (next_fed old new text front line r fed none h same
-          (same_whole (line_limit s) line (ended (fed.rest ++ front)) (is ∙ ap (λ (x : List ℕ). ended (x ++ front)) (sym rest))) judges done)
+      (same_whole (line_limit s) line (ended (fed.rest ++ front)) (is ∙ ap (λ (x : List ℕ). ended (x ++ front)) (sym rest))) judges done)
 
   -- the whole of it, where nothing was kept
   pub whole_is : (old : FedKept) (text front line : List ℕ) (fed : IsFedLines v s (Fits s) first text old) → old.failed ≡ None → length old.kept ≤ 0
@@ -275,23 +275,23 @@ module _ (v : Version) (s : SolidData) (Fits : Fitness) (first : ℕ) where
   -- the bytes that are kept of it
   pub joined_is : (old mid : FedKept) (text front line bytes : List ℕ) (fed : IsFedLines v s (Fits s) first text old) → old.failed ≡ None → line ≡ ended front
       → mid.kept ≡ take (line_limit old.checker.solid) (old.kept ++ take (length line - 1) line) → bytes ≡ ended mid.kept
-          → bytes ≡ kept_line (line_limit s) (fed.rest ++ front)
+      → bytes ≡ kept_line (line_limit s) (fed.rest ++ front)
   joined_is old mid text front line bytes fed none is kept bytes-is =
       let (read, fitting, stands) = standing old text fed none in
       let limit = line_limit s in
       bytes-is ∙ ap ended (kept ∙ ap (λ (x : List ℕ). take (line_limit old.checker.solid) (old.kept ++ x)) (front_of front line is)
       ∙ ap (λ (z : SolidData). take (line_limit z) (old.kept ++ front)) fed.solid ∙ ap (λ (x : List ℕ). take limit (x ++ front)) stands.kept.0
-          ∙ take_front limit fed.rest front)
+      ∙ take_front limit fed.rest front)
 
   pub joined_line : (old mid new : FedKept) (text front line bytes : List ℕ) (r : Answer) → old.failed ≡ None → is_in_line front ≡ true → line ≡ ended front
       → mid.kept ≡ take (line_limit old.checker.solid) (old.kept ++ take (length line - 1) line) → mid.checker ≡ old.checker → bytes ≡ ended mid.kept
       → IsOfSame mid.checker new.checker → Judges Fits mid.checker bytes new.checker r → IsDone new r → IsFedLines v s (Fits s) first text old
-          → IsFedLines v s (Fits s) first (text ++ line) new
+      → IsFedLines v s (Fits s) first (text ++ line) new
   joined_line old mid new text front line bytes r none h is kept same bytes-is same_as judges done fed =
       let e = joined_is old mid text front line bytes fed none is kept bytes-is in
       subst (λ (l : List ℕ). IsFedLines v s (Fits s) first (text ++ l) new) (sym is)
       (next_fed old new text front bytes r fed none h (same_as.0 ∙ ap (λ (c : Kept). c.version) same, same_as.1 ∙ ap (λ (c : Kept). c.solid) same)
-          (same_kept (line_limit s) bytes (fed.rest ++ front) e)
+      (same_kept (line_limit s) bytes (fed.rest ++ front) e)
       (subst (λ (c : Kept). Judges Fits c bytes new.checker r) same judges) done)
 
   -- ---- the end
@@ -309,7 +309,7 @@ module _ (v : Version) (s : SolidData) (Fits : Fitness) (first : ℕ) where
       let long : 0 < length h.rest = omega (arith, some, ap length stands.kept.0, length-take (line_limit s) h.rest) in
       let number : bad ≡ Misspelt (first + length read) = is ∙ ap Misspelt (stands.at.number ∙ ap (λ (n : ℕ). first + n) (length-reverse read)) in
       subst (λ (ls : Lines). HasFirstBad v s (Fits s) first ls bad)
-          (sym (cut_begun text h.pieces h.rest h.begun ∙ ap (λ (ls : Lines). map ended h.pieces ++ ls) (last_cut h.rest stands.kept.1 long)))
+      (sym (cut_begun text h.pieces h.rest h.begun ∙ ap (λ (ls : Lines). map ended h.pieces ++ ls) (last_cut h.rest stands.kept.1 long)))
       (first_bad (map ended h.pieces) read h.rest bad fitting (inl (misspelt_rest (line_limit s) h.rest stands.kept.1, number)) [])
 
   pub end_stands : (c : FedKept) (read : List CertLine) (rest : List ℕ) (r : Answer) → Finishes c.checker r → StandsAfter v s first read rest c
@@ -317,9 +317,11 @@ module _ (v : Version) (s : SolidData) (Fits : Fitness) (first : ℕ) where
   end_stands c read rest (Ok u) finishes stands = of_these v s c.checker (λ w z. (stand_after w z read).ended ≡ true) stands.version stands.solid
       (finishes first (reverse read) stands.at)
   end_stands c read rest (Err bad) finishes stands =
-      let f = finishes first (reverse read) stands.at in
-      (of_these v s c.checker (λ w z. (stand_after w z read).ended ≡ false) stands.version stands.solid f.0, f.1
-          ∙ ap (λ (n : ℕ). Missing (first + n)) (length-reverse read))
+      let f = finishes first (reverse read) stands.at in (
+        of_these v s c.checker (λ w z. (stand_after w z read).ended ≡ false) stands.version stands.solid f.0,
+        f.1
+            ∙ ap (λ (n : ℕ). Missing (first + n)) (length-reverse read),
+      )
 
   -- END was the last line, or it is missing
   pub end_done : (c : FedKept) (text : List ℕ) (r : Answer) → c.failed ≡ None → length c.kept ≤ 0 → Finishes c.checker r → IsFedLines v s (Fits s) first text c
@@ -327,7 +329,7 @@ module _ (v : Version) (s : SolidData) (Fits : Fitness) (first : ℕ) where
   end_done c text r none empty finishes h =
       let (read, fitting, stands) = standing c text h none in
       let cut : cut_lines text ≡ map ended h.pieces = cut_begun text h.pieces h.rest h.begun
-            ∙ (ap (λ (x : List ℕ). map ended h.pieces ++ cut_lines x) (none_kept s c.kept h.rest stands.kept.0 empty) ∙ append-nil (map ended h.pieces)) in
+      ∙ (ap (λ (x : List ℕ). map ended h.pieces ++ cut_lines x) (none_kept s c.kept h.rest stands.kept.0 empty) ∙ append-nil (map ended h.pieces)) in
       by_answer r (map ended h.pieces) read cut fitting (end_stands c read h.rest r finishes stands)
     where
       by_answer : (r : Answer) (lines : Lines) (read : List CertLine) → cut_lines text ≡ lines → AreFitting v s lines read
@@ -367,10 +369,10 @@ left_bad Fits old piece new after bad v s first text some k fed = let x = k v s 
 pub left_kept : (Fits : Fitness) (old : FedKept) (piece : List ℕ) (now new : FedKept) (left : List ℕ) (v : Version) (s : SolidData) (first : ℕ) (text : List ℕ)
     → now.failed ≡ None → new.failed ≡ None → new.checker ≡ now.checker → is_in_line left ≡ true
     → new.kept ≡ take (line_limit now.checker.solid) (now.kept ++ left) → IsLeft Fits old piece now left → IsFedLines v s (Fits s) first text old
-        → IsFedLines v s (Fits s) first (text ++ piece) new
+    → IsFedLines v s (Fits s) first (text ++ piece) new
 left_kept Fits old piece now new left v s first text none still same h kept k fed =
     let x = k v s first text fed in subst (λ (t : List ℕ). IsFedLines v s (Fits s) first t new) (sym x.1)
-        (fed_more v s Fits first now new x.0 left none still same h kept x.2)
+    (fed_more v s Fits first now new x.0 left none still same h kept x.2)
 
 -- ---- a line of a part of a book
 
@@ -388,7 +390,7 @@ IsPartDone new r = MatchResult r (λ _. (new.failed ≡ None) × (new.kept ≡ [
 next_part_ends : (v : Version) (s : SolidData) (first : ℕ) (old new : FedKept) (text front bytes : List ℕ) (n : EntryNo) (number : ℕ)
     (fed : IsFedPart v s first text old) → old.failed ≡ None → is_in_line front ≡ true
     → SameLine (line_limit s) bytes (ended (fed.rest ++ front)) → JudgesPart old.checker bytes new.checker (Ok (Next n number)) → new.failed ≡ None
-        → new.kept ≡ [] → EndsPart v s first (text ++ ended front) n.0 number new
+    → new.kept ≡ [] → EndsPart v s first (text ++ ended front) n.0 number new
 next_part_ends v s first old new text front bytes n number fed none h same judges still kept =
     let (read, fitting, stands) = standing v s FitsPart first old text fed none in
     let j = judges first (reverse read) stands.at in
@@ -434,7 +436,7 @@ part_line v s first old mid new text front line bytes r none h is kept same byte
     let e = joined_is v s FitsPart first old mid text front line bytes fed none is kept bytes-is in
     subst (λ (l : List ℕ). MatchResult r (IsEndedBy v s first (text ++ l) new) (λ _. IsFedPart v s first (text ++ l) new)) (sym is)
     (part_fed v s first old new text front bytes r fed none h (same_as.0 ∙ ap (λ (c : Kept). c.version) same, same_as.1 ∙ ap (λ (c : Kept). c.solid) same)
-        (same_kept (line_limit s) bytes (fed.rest ++ front) e)
+    (same_kept (line_limit s) bytes (fed.rest ++ front) e)
     (subst (λ (c : Kept). JudgesPart c bytes new.checker r) same judges) done)
 
 -- a line that lies whole in the piece
@@ -459,12 +461,12 @@ after_shorter left front after whole = omega (arith, ap length whole, length-app
 pub left_next_part : (old : FedKept) (piece : List ℕ) (now new : FedKept) (left line after front : List ℕ) (n : EntryNo) (number used : ℕ) (v : Version)
     (s : SolidData) (first : ℕ) (text : List ℕ) → is_in_line front ≡ true → line ≡ ended front
     → left ≡ front ++ 10 ∷ after → used + length after ≡ length piece → EndsPartLine now line new (Next n number) → IsLeft FitsPart old piece now left
-        → IsFedPart v s first text old → EndsPart v s first (text ++ take used piece) n.0 number new
+    → IsFedPart v s first text old → EndsPart v s first (text ++ take used piece) n.0 number new
 left_next_part old piece now new left line after front n number used v s first text h is whole used-is next k fed =
     let x = k v s first text fed in
     let e : left ≡ line ++ after = whole ∙ sym (append_assoc front (10 ∷ []) after) ∙ ap (λ (l : List ℕ). l ++ after) (sym is) in
     let all : text ++ piece ≡ (x.0 ++ line) ++ after = x.1 ∙ ap (λ (l : List ℕ). x.0 ++ l) e ∙ sym (append_assoc x.0 line after) in
     let many : length text + used ≡ length (x.0 ++ line) = omega (arith, ap length all, used-is, length-append text piece, length-append (x.0 ++ line) after) in
     let front_is : text ++ take used piece ≡ x.0 ++ line = sym (take-append-add text piece used)
-          ∙ (ap (λ (l : List ℕ). take (length text + used) l) all ∙ take_at (x.0 ++ line) after (length text + used) (sym many)) in
+    ∙ (ap (λ (l : List ℕ). take (length text + used) l) all ∙ take_at (x.0 ++ line) after (length text + used) (sym many)) in
     subst (λ (t : List ℕ). EndsPart v s first t n.0 number new) (sym front_is) (next v s first x.0 front h is x.2)

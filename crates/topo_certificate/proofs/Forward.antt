@@ -32,7 +32,7 @@ none_read version s before = record { spelled = tt; fit = λ i line h. absurd (n
 
 read_more : (version : Version) (s : SolidData) (before : List CertLine) (bytes : List ℕ) (lines : List (List ℕ)) (line : CertLine) (read : List CertLine)
     → IsLine (line_limit s) bytes line → FitsLine s (stand_from_latest version s before) line → AreRead version s (line ∷ before) lines read
-        → AreRead version s before (bytes ∷ lines) (line ∷ read)
+    → AreRead version s before (bytes ∷ lines) (line ∷ read)
 read_more version s before bytes lines line read is fits more = record { spelled = (is, more.spelled); fit = each }
   where
     each : (i : ℕ) (x : CertLine) → slice_get (line ∷ read) i ≡ Some x → FitsLine s (stand_from_latest version s (reverse (take i (line ∷ read)) ++ before)) x
@@ -42,29 +42,40 @@ read_more version s before bytes lines line read is fits more = record { spelled
 read_first : (version : Version) (s : SolidData) (before : List CertLine) (bytes : List ℕ) (lines : List (List ℕ)) (line : CertLine) (read : List CertLine)
     → AreRead version s before (bytes ∷ lines) (line ∷ read)
     → IsLine (line_limit s) bytes line × FitsLine s (stand_from_latest version s before) line × AreRead version s (line ∷ before) lines read
-read_first version s before bytes lines line read h =
-    (h.spelled.0, h.fit 0 line refl,
-    record { spelled = h.spelled.1; fit = λ i x at. subst (λ ls. FitsLine s (stand_from_latest version s ls) x) (sym (behind_more line (take i read) before))
-    (h.fit (suc i) x at) })
+read_first version s before bytes lines line read h = (
+  h.spelled.0,
+  h.fit 0 line refl,
+  record {
+    spelled = h.spelled.1;
+    fit = λ i x at. subst (λ ls. FitsLine s (stand_from_latest version s ls) x) (sym (behind_more line (take i read) before))
+        (h.fit (suc i) x at);
+  },
+)
 
 -- behind no line that is reading as the definitions have it
 read_fitting : (version : Version) (s : SolidData) (lines : List (List ℕ)) (read : List CertLine) → AreRead version s [] lines read
     → AreFitting version s lines read
 read_fitting version s lines read h =
-    record { spelled = h.spelled; fit = λ i line at. subst (λ ls. FitsLine s (stand_from_latest version s ls) line) (append-nil (reverse (take i read)))
-    (h.fit i line at) }
+    record {
+      spelled = h.spelled;
+      fit = λ i line at. subst (λ ls. FitsLine s (stand_from_latest version s ls) line) (append-nil (reverse (take i read)))
+          (h.fit i line at);
+    }
 
 fitting_read : (version : Version) (s : SolidData) (lines : List (List ℕ)) (read : List CertLine) → AreFitting version s lines read
     → AreRead version s [] lines read
 fitting_read version s lines read h =
-    record { spelled = h.spelled; fit = λ i line at. subst (λ ls. FitsLine s (stand_from_latest version s ls) line) (sym (append-nil (reverse (take i read))))
-    (h.fit i line at) }
+    record {
+      spelled = h.spelled;
+      fit = λ i line at. subst (λ ls. FitsLine s (stand_from_latest version s ls) line) (sym (append-nil (reverse (take i read))))
+          (h.fit i line at);
+    }
 
 -- one line more is read
 read_on : (version : Version) (s : SolidData) (before : List CertLine) (lines : List (List ℕ)) (read : List CertLine) (bytes : List ℕ) (line : CertLine)
     → AreRead version s before lines read
     → IsLine (line_limit s) bytes line → FitsLine s (stand_from_latest version s (reverse read ++ before)) line
-        → AreRead version s before (lines ++ bytes ∷ []) (read ++ line ∷ [])
+    → AreRead version s before (lines ++ bytes ∷ []) (read ++ line ∷ [])
 read_on version s before [] [] bytes line are is fits = read_more version s before bytes [] line [] is fits (none_read version s (line ∷ before))
 read_on version s before [] (l ∷ read) bytes line are is fits = absurd are.spelled
 read_on version s before (b ∷ lines) [] bytes line are is fits = absurd are.spelled
@@ -72,7 +83,7 @@ read_on version s before (b ∷ lines) (l ∷ read) bytes line are is fits =
     let one = read_first version s before b lines l read are in
     read_more version s before b (lines ++ bytes ∷ []) l (read ++ line ∷ []) one.0 one.1
     (read_on version s (l ∷ before) lines read bytes line one.2 is
-        (subst (λ ls. FitsLine s (stand_from_latest version s ls) line) (sym (behind_more l read before)) fits))
+    (subst (λ ls. FitsLine s (stand_from_latest version s ls) line) (sym (behind_more l read before)) fits))
 
 pub fitting_none : (version : Version) (s : SolidData) → AreFitting version s [] []
 fitting_none version s = read_fitting version s [] [] (none_read version s [])
@@ -83,7 +94,7 @@ pub fitting_more : (version : Version) (s : SolidData) (lines : List (List ℕ))
 fitting_more version s lines read bytes line fitting is fits =
     read_fitting version s (lines ++ bytes ∷ []) (read ++ line ∷ [])
     (read_on version s [] lines read bytes line (fitting_read version s lines read fitting) is
-        (subst (λ ls. FitsLine s (stand_from_latest version s ls) line) (sym (append-nil (reverse read))) fits))
+    (subst (λ ls. FitsLine s (stand_from_latest version s ls) line) (sym (append-nil (reverse read))) fits))
 
 -- all lines of a legal certificate
 record AllRead (version : Version) (s : SolidData) (before : List CertLine) (lines : List (List ℕ)) : Type 0 where
@@ -141,17 +152,21 @@ legal_from_read version s before [] [] are ended = ended
 legal_from_read version s before [] (l ∷ read) are ended = absurd are.spelled
 legal_from_read version s before (bytes ∷ lines) [] are ended = absurd are.spelled
 legal_from_read version s before (bytes ∷ lines) (l ∷ read) are ended =
-    let first = read_first version s before bytes lines l read are in
-    (l, first.0, first.1, legal_from_read version s (l ∷ before) lines read first.2
-        (subst (λ ls. (stand_from_latest version s ls).ended ≡ true) (sym (behind_more l read before)) ended))
+    let first = read_first version s before bytes lines l read are in (
+      l,
+      first.0,
+      first.1,
+      legal_from_read version s (l ∷ before) lines read first.2
+          (subst (λ ls. (stand_from_latest version s ls).ended ≡ true) (sym (behind_more l read before)) ended),
+    )
 
 -- lines that fit are legal where END has come
 pub legal_ended : (version : Version) (s : SolidData) (lines : List (List ℕ)) (read : List CertLine) → AreFitting version s lines read
     → (stand_after version s read).ended ≡ true → IsLegal version s lines
 legal_ended version s lines read fitting ended =
     legal_forward version s lines
-        (legal_from_read version s [] lines read (fitting_read version s lines read fitting)
-        (subst (λ ls. (stand_from_latest version s ls).ended ≡ true) (sym (append-nil (reverse read))) ended))
+    (legal_from_read version s [] lines read (fitting_read version s lines read fitting)
+    (subst (λ ls. (stand_from_latest version s ls).ended ≡ true) (sym (append-nil (reverse read))) ended))
 
 end_ends : (version : Version) (s : SolidData) (ls : List CertLine) → (stand_from_latest version s (end ∷ ls)).ended ≡ true
 unfolding stand_from_latest
@@ -160,9 +175,9 @@ end_ends version s ls = refl
 pub legal_behind : (version : Version) (s : SolidData) (lines : List (List ℕ)) → IsLegal version s lines → IsLegalAfter version s [] lines
 legal_behind version s lines h =
     let same : reverse h.read ++ [] ≡ end ∷ reverse h.before = append-nil (reverse h.read)
-          ∙ (ap (λ ls. reverse ls) h.ended ∙ reverse-append h.before (end ∷ [])) in
+    ∙ (ap (λ ls. reverse ls) h.ended ∙ reverse-append h.before (end ∷ [])) in
     legal_from_read version s [] lines h.read (fitting_read version s lines h.read h.fitting)
-        (subst (λ ls. (stand_from_latest version s ls).ended ≡ true) (sym same) (end_ends version s (reverse h.before)))
+    (subst (λ ls. (stand_from_latest version s ls).ended ≡ true) (sym same) (end_ends version s (reverse h.before)))
 
 -- The first bad one.
 record BadRead (version : Version) (s : SolidData) (Fits : Stand → CertLine → Type 0) (first : ℕ) (before : List CertLine) (lines : List (List ℕ))
@@ -178,12 +193,26 @@ bad_read : (version : Version) (s : SolidData) (Fits : Stand → CertLine → Ty
     → IsFirstBadAfter version s Fits first before lines bad → BadRead version s Fits first before lines bad
 bad_read version s Fits first before [] bad h =
     let n : first + length before ≡ first + (length before + 0) = omega arith in
-    record { good = []; read = []; are = none_read version s before; rest = []; cut = refl; next =
-        subst (λ k. IsBadNext s Fits (stand_from_latest version s before) k [] bad) n h }
+    record {
+      good = [];
+      read = [];
+      are = none_read version s before;
+      rest = [];
+      cut = refl;
+      next =
+          subst (λ k. IsBadNext s Fits (stand_from_latest version s before) k [] bad) n h;
+    }
 bad_read version s Fits first before (bytes ∷ lines) bad (inl h) =
     let n : first + length before ≡ first + (length before + 0) = omega arith in
-    record { good = []; read = []; are = none_read version s before; rest = bytes ∷ lines; cut = refl; next =
-        subst (λ k. IsBadNext s Fits (stand_from_latest version s before) k (bytes ∷ lines) bad) n h }
+    record {
+      good = [];
+      read = [];
+      are = none_read version s before;
+      rest = bytes ∷ lines;
+      cut = refl;
+      next =
+          subst (λ k. IsBadNext s Fits (stand_from_latest version s before) k (bytes ∷ lines) bad) n h;
+    }
 bad_read version s Fits first before (bytes ∷ lines) bad (inr (line, is, fits, later)) =
     let more : BadRead version s Fits first (line ∷ before) lines bad = bad_read version s Fits first (line ∷ before) lines bad later in
     let same : reverse more.read ++ (line ∷ before) ≡ reverse (line ∷ more.read) ++ before = behind_more line more.read before in
@@ -216,7 +245,7 @@ bad_forward version s Fits first lines bad h =
 bad_from_read : (version : Version) (s : SolidData) (Fits : Stand → CertLine → Type 0) (first : ℕ) (before : List CertLine) (good rest : List (List ℕ))
     (read : List CertLine) (bad : Illegal) → AreRead version s before good read
     → IsBadNext s Fits (stand_from_latest version s (reverse read ++ before)) (first + (length before + length read)) rest bad
-        → IsFirstBadAfter version s Fits first before (good ++ rest) bad
+    → IsFirstBadAfter version s Fits first before (good ++ rest) bad
 bad_from_read version s Fits first before [] rest [] bad are next =
     here rest (let n : first + (length before + 0) ≡ first + length before = omega arith in subst
     (λ k. IsBadNext s Fits (stand_from_latest version s before) k rest bad) n next)
@@ -232,8 +261,13 @@ bad_from_read version s Fits first before (bytes ∷ good) rest (l ∷ read) bad
     let same : reverse (l ∷ read) ++ before ≡ reverse read ++ (l ∷ before) = sym (behind_more l read before) in
     let n : first + (length before + suc (length read)) ≡ first + (suc (length before) + length read) = omega arith in
     let there = subst (λ ls. IsBadNext s Fits (stand_from_latest version s ls) (first + (length before + suc (length read))) rest bad) same next in
-    inr (l, one.0, one.1, bad_from_read version s Fits first (l ∷ before) good rest read bad one.2
-        (subst (λ k. IsBadNext s Fits (stand_from_latest version s (reverse read ++ (l ∷ before))) k rest bad) n there))
+    inr (
+      l,
+      one.0,
+      one.1,
+      bad_from_read version s Fits first (l ∷ before) good rest read bad one.2
+          (subst (λ k. IsBadNext s Fits (stand_from_latest version s (reverse read ++ (l ∷ before))) k rest bad) n there),
+    )
 
 pub bad_behind : (version : Version) (s : SolidData) (Fits : Stand → CertLine → Type 0) (first : ℕ) (lines : List (List ℕ)) (bad : Illegal)
     → HasFirstBad version s Fits first lines bad → IsFirstBadAfter version s Fits first [] lines bad
@@ -242,4 +276,4 @@ bad_behind version s Fits first lines bad h =
     let there = subst (λ ls. IsBadNext s Fits (stand_from_latest version s ls) (first + length h.read) h.rest bad) (sym (append-nil (reverse h.read))) h.next in
     subst (λ ls. IsFirstBadAfter version s Fits first [] ls bad) (sym h.cut)
     (bad_from_read version s Fits first [] h.good h.rest h.read bad (fitting_read version s h.good h.read h.fitting)
-        (subst (λ k. IsBadNext s Fits (stand_from_latest version s (reverse h.read ++ [])) k h.rest bad) n there))
+    (subst (λ k. IsBadNext s Fits (stand_from_latest version s (reverse h.read ++ [])) k h.rest bad) n there))

@@ -40,9 +40,11 @@ reach_iff d at mates reached row m x y holds faces is hx hy = (
   λ h. (let e = reach_mate d at mates row m holds is h in
       let ef : h.face ≡ x.at.face.0 = same_Some h.face x.at.face.0 (sym h.on_face ∙ ap row_face hx) in
       let on : row_face (row_named d m) ≡ Some h.known = subst (λ z. row_face (row_named d z) ≡ Some h.known) e h.on_known in
-      let ek : h.known ≡ y.at.face.0 = same_Some h.known y.at.face.0 (sym on ∙ ap row_face hy) in
-      ((λ k. h.new (subst (Contains at.reached) (sym ef) ((faces x.at.face.0).1 k))), subst (λ z. slice_get reached z ≡ Some true) ek
-          ((faces h.known).0 h.old))),
+      let ek : h.known ≡ y.at.face.0 = same_Some h.known y.at.face.0 (sym on ∙ ap row_face hy) in (
+        (λ k. h.new (subst (Contains at.reached) (sym ef) ((faces x.at.face.0).1 k))),
+        subst (λ z. slice_get reached z ≡ Some true) ek
+            ((faces h.known).0 h.old),
+      )),
   λ p. record {
     mate = m;
     face = x.at.face.0;
@@ -96,7 +98,7 @@ turn_iff d pairs mates row m n s holds is next = (
 pub reach_on : (d : ShellRows) (at : Stand) (mates : List ℕ) (reached : List Bool) (row m : ℕ) (x y : Row) → HoldsMates mates at.mates
     → HoldsFaces reached at.reached
     → mate_in mates row ≡ Some m → row_named d row ≡ Some x → row_named d m ≡ Some y → (slice_get reached x.at.face.0 ≡ Some true → ⊥)
-        → slice_get reached y.at.face.0 ≡ Some true
+    → slice_get reached y.at.face.0 ≡ Some true
     → FitsReach d at row × (row_face (row_named d row) ≡ Some x.at.face.0)
 reach_on d at mates reached row m x y holds faces is hx hy new old =
     ((reach_iff d at mates reached row m x y holds faces is hx hy).1 (new, old), ap row_face hx)

@@ -48,7 +48,7 @@ no_bad version s Fits first covers before (bytes ∷ rest) bad (l, is_l, fits, m
     bad is_l (covers (stand_from_latest version s before) l fits) h
 no_bad version s Fits first covers before (bytes ∷ rest) bad (l, is_l, fits, more) (inr (m, is_m, fits_m, later)) =
     no_bad version s Fits first covers (l ∷ before) rest bad more
-        (subst (λ x. IsFirstBadAfter version s Fits first (x ∷ before) rest bad) (line_one bytes m l is_m.1 is_l.1) later)
+    (subst (λ x. IsFirstBadAfter version s Fits first (x ∷ before) rest bad) (line_one bytes m l is_m.1 is_l.1) later)
 
 -- There is one first bad one at most.
 one_bad : (version : Version) (s : SolidData) (Fits : Stand → CertLine → Type 0) (first : ℕ) → Covers s Fits
@@ -63,7 +63,7 @@ one_bad version s Fits first covers before (bytes ∷ rest) x y (inr (l, is_l, f
     absurd (bad_good s (Fits (stand_from_latest version s before)) _ bytes l y is_l (covers (stand_from_latest version s before) l fits) q)
 one_bad version s Fits first covers before (bytes ∷ rest) x y (inr (l, is_l, fits, later)) (inr (m, is_m, fits_m, later_m)) =
     one_bad version s Fits first covers (l ∷ before) rest x y later
-        (subst (λ z. IsFirstBadAfter version s Fits first (z ∷ before) rest y) (line_one bytes m l is_m.1 is_l.1) later_m)
+    (subst (λ z. IsFirstBadAfter version s Fits first (z ∷ before) rest y) (line_one bytes m l is_m.1 is_l.1) later_m)
 
 covers_lines : (s : SolidData) → Covers s (FitsLine s)
 unfolding Covers

@@ -119,7 +119,7 @@ facts_of version s good (solid n ∷ lines) k number fit = absurd fit.0.1
 facts_of version s good (shell j c ∷ lines) k number fit = facts_begin version s lines j c fit.0.1.1
 facts_of version s good (edge a b ∷ lines) k number fit =
     facts_edge version s lines (current_rows s lines) a b (good (number_of is_shell lines)) refl (facts_of version s good lines k number fit.1) fit.0.1.0
-        fit.0.1
+    fit.0.1
 facts_of version s good (corner [] ∷ lines) k number fit = absurd fit.0.1
 facts_of version s good (corner (r ∷ rs) ∷ lines) k number fit = facts_corner version s lines (current_rows s lines) r rs (good (number_of is_shell lines))
     refl (facts_of version s good lines k number fit.1) fit.0.1

@@ -32,7 +32,7 @@ kept_all old bytes now i is past few =
 pub kept_full : (old bytes now : List ℕ) (i : ℕ) → now ≡ old ++ take i bytes → length now ≡ 64 → now ≡ take 64 (old ++ bytes)
 kept_full old bytes now i is full =
     let whole : old ++ bytes ≡ now ++ drop i bytes = ap (λ (x : List ℕ). old ++ x) (sym (take-append-drop i bytes))
-          ∙ sym (append_assoc old (take i bytes) (drop i bytes)) ∙ ap (λ (x : List ℕ). x ++ drop i bytes) (sym is) in
+    ∙ sym (append_assoc old (take i bytes) (drop i bytes)) ∙ ap (λ (x : List ℕ). x ++ drop i bytes) (sym is) in
     sym (ap (take 64) whole ∙ take_at now (drop i bytes) 64 full)
 
 -- ---- what a line shows
@@ -85,8 +85,8 @@ two_whole : (v : Version) (kept text front more : List ℕ) (s : HasHead v kept 
     ++ (ended (s.rest ++ front) ++ more)
 two_whole v kept text front more s =
     ap (λ (x : List ℕ). (x ++ ended front) ++ more) s.whole
-        ∙ ap (λ (x : List ℕ). x ++ more)
-        (append_assoc (ended s.first) s.rest (ended front) ∙ ap (λ (x : List ℕ). ended s.first ++ x) (sym (append_assoc s.rest front (10 ∷ []))))
+    ∙ ap (λ (x : List ℕ). x ++ more)
+    (append_assoc (ended s.first) s.rest (ended front) ∙ ap (λ (x : List ℕ). ended s.first ++ x) (sym (append_assoc s.rest front (10 ∷ []))))
     ∙ append_assoc (ended s.first) (ended (s.rest ++ front)) more
 
 -- the second line ends
@@ -96,20 +96,20 @@ second_next v kept text front bytes stage.First s h same b = absurd b
 second_next v kept text front bytes (stage.Second w) s h same b = absurd b
 second_next v kept text front bytes (stage.Done w n) s h same b = λ more. subst (λ (x : Version). Opens ((text ++ ended front) ++ more) x n.0 (cut_lines more))
     (sym b.0) (record {
-  first = ended s.first;
-  second = ended (s.rest ++ front);
-  cut = ap cut_lines (two_whole v kept text front more s) ∙ two_lines s.first (s.rest ++ front) more s.in_line (both_in_line s.rest front s.stands.1 h);
-  is_head = s.is_head;
-  names = same.line (solid n.0) b.1;
-})
+      first = ended s.first;
+      second = ended (s.rest ++ front);
+      cut = ap cut_lines (two_whole v kept text front more s) ∙ two_lines s.first (s.rest ++ front) more s.in_line (both_in_line s.rest front s.stands.1 h);
+      is_head = s.is_head;
+      names = same.line (solid n.0) b.1;
+    })
 second_next v kept text front bytes (stage.Failed bad) s h same b = λ more.
     subst (λ (ls : List (List ℕ)). IsFirstWrong ls bad)
-        (sym (ap cut_lines (two_whole v kept text front more s) ∙ two_lines s.first (s.rest ++ front) more s.in_line (both_in_line s.rest front s.stands.1 h)))
+    (sym (ap cut_lines (two_whole v kept text front more s) ∙ two_lines s.first (s.rest ++ front) more s.in_line (both_in_line s.rest front s.stands.1 h)))
     (inr (v, s.is_head, same_wrong IsSolid 2 bytes (ended (s.rest ++ front)) bad same b))
 
 pub next_shows : (old : Opened) (text front bytes : List ℕ) (new : Stage) → IsWaiting old.stage → is_in_line front ≡ true
     → ((rest : List ℕ) → StandsForRest old.kept rest → SameLine first_limit bytes (ended (rest ++ front))) → StageAfter old.stage bytes new
-        → IsOpening old text → Shows new [] (text ++ ended front)
+    → IsOpening old text → Shows new [] (text ++ ended front)
 next_shows old text front bytes new waiting h same behind shows = by_stage old.stage waiting behind shows
   where
     by_stage : (o : Stage) → IsWaiting o → StageAfter o bytes new → Shows o old.kept text → Shows new [] (text ++ ended front)
@@ -126,8 +126,8 @@ pub whole_line : (old : Opened) (text front line : List ℕ) (new : Stage) → I
 whole_line old text front line new waiting empty h is behind shows =
     subst (λ (l : List ℕ). Shows new [] (text ++ l)) (sym is)
     (next_shows old text front line new waiting h
-        (λ rest s. same_whole first_limit line (ended (rest ++ front)) (is ∙ ap (λ (x : List ℕ). ended (x ++ front)) (sym (none_rest old.kept rest s empty))))
-        behind shows)
+    (λ rest s. same_whole first_limit line (ended (rest ++ front)) (is ∙ ap (λ (x : List ℕ). ended (x ++ front)) (sym (none_rest old.kept rest s empty))))
+    behind shows)
 
 pub joined_line : (old : Opened) (text front line mid bytes : List ℕ) (new : Stage) → IsWaiting old.stage → is_in_line front ≡ true → line ≡ ended front
     → mid ≡ take first_limit (old.kept ++ take (length line - 1) line) → bytes ≡ ended mid
@@ -135,8 +135,8 @@ pub joined_line : (old : Opened) (text front line mid bytes : List ℕ) (new : S
 joined_line old text front line mid bytes new waiting h is kept bytes-is behind shows =
     subst (λ (l : List ℕ). Shows new [] (text ++ l)) (sym is)
     (next_shows old text front bytes new waiting h
-        (λ rest s. same_kept first_limit bytes (rest ++ front)
-        (bytes-is ∙ ap ended (kept ∙ ap (λ (x : List ℕ). take first_limit (old.kept ++ x)) (front_of front line is)
+    (λ rest s. same_kept first_limit bytes (rest ++ front)
+    (bytes-is ∙ ap ended (kept ∙ ap (λ (x : List ℕ). take first_limit (old.kept ++ x)) (front_of front line is)
     ∙ ap (λ (x : List ℕ). take first_limit (x ++ front)) s.0 ∙ take_front first_limit rest front))) behind shows)
 
 -- the rest grows
@@ -165,7 +165,7 @@ few_kept now xs e = omega (arith, ap length e, length-take 64 xs)
 pub line_front : (text line after : List ℕ) → EndsFirst text line after → take (length line) text ≡ line
 line_front text line after e =
     ap (take (length line)) (e.whole ∙ sym (append_assoc e.front (10 ∷ []) after) ∙ ap (λ (l : List ℕ). l ++ after) (sym e.line_is))
-        ∙ take_at line after (length line) refl
+    ∙ take_at line after (length line) refl
 
 -- ---- step by step
 
@@ -185,13 +185,13 @@ pub fed_next : (old : Opened) (piece : List ℕ) (now new : Opened) (used len : 
     → IsFedTo old piece new (used + len)
 fed_next old piece now new used len rest is fed next = λ text shows.
     subst (IsOpening new) (append_assoc text (take used piece) (take len rest) ∙ ap (λ (r : List ℕ). text ++ (take used piece ++ take len r)) is
-        ∙ ap (λ (r : List ℕ). text ++ r) (take_more piece used len)) (next (text ++ take used piece) (fed text shows))
+    ∙ ap (λ (r : List ℕ). text ++ r) (take_more piece used len)) (next (text ++ take used piece) (fed text shows))
 
 pub fed_all : (old : Opened) (piece : List ℕ) (now new : Opened) (used : ℕ) (rest text : List ℕ) → rest ≡ drop used piece → IsFedTo old piece now used
     → ((text : List ℕ) → IsOpening now text → IsOpening new (text ++ rest)) → IsOpening old text → IsOpening new (text ++ piece)
 fed_all old piece now new used rest text is fed next shows =
     subst (IsOpening new) (append_assoc text (take used piece) rest ∙ ap (λ (r : List ℕ). text ++ (take used piece ++ r)) is
-        ∙ ap (λ (r : List ℕ). text ++ r) (take-append-drop used piece)) (next (text ++ take used piece) (fed text shows))
+    ∙ ap (λ (r : List ℕ). text ++ r) (take-append-drop used piece)) (next (text ++ take used piece) (fed text shows))
 
 -- a line was bad: the bytes behind it don't matter
 pub fed_failed : (old : Opened) (piece : List ℕ) (new : Opened) (used : ℕ) (bad : Illegal) (text : List ℕ) → new.stage ≡ stage.Failed bad
@@ -200,10 +200,10 @@ fed_failed old piece new used bad text is fed shows =
     let h = fed text shows in
     let k : Shows (stage.Failed bad) new.kept (text ++ take used piece) = subst (λ (o : Stage). Shows o new.kept (text ++ take used piece)) is h in
     let m : Shows (stage.Failed bad) new.kept ((text ++ take used piece) ++ drop used piece) =
-          failed_more bad new.kept (text ++ take used piece) (drop used piece) k in
+    failed_more bad new.kept (text ++ take used piece) (drop used piece) k in
     subst (λ (o : Stage). Shows o new.kept (text ++ piece)) (sym is)
     (subst (λ (t : List ℕ). Shows (stage.Failed bad) new.kept t)
-        (append_assoc text (take used piece) (drop used piece) ∙ ap (λ (r : List ℕ). text ++ r) (take-append-drop used piece)) m)
+    (append_assoc text (take used piece) (drop used piece) ∙ ap (λ (r : List ℕ). text ++ r) (take-append-drop used piece)) m)
 
 pub within_more : (piece rest : List ℕ) (used len : ℕ) → used ≤ length piece → rest ≡ drop used piece → len ≤ length rest → used + len ≤ length piece
 within_more piece rest used len h is k = omega (arith, h, k, ap length is, length-drop used piece)
@@ -236,9 +236,9 @@ end_second v kept text s = by_test (length kept == 0) refl
     by_test : (t : Bool) → (length kept == 0) ≡ t → IsBadOpening text (if t then Missing 2 else Misspelt 2)
     by_test true e =
         subst (λ (ls : List (List ℕ)). IsFirstWrong ls (Missing 2))
-            (sym (cut ∙ ap (λ (x : List ℕ). ended s.first ∷ cut_lines x) (none_rest kept s.rest s.stands (omega (arith, eqb-true (length kept) 0 e)))))
-            (inr (v, s.is_head, refl))
+        (sym (cut ∙ ap (λ (x : List ℕ). ended s.first ∷ cut_lines x) (none_rest kept s.rest s.stands (omega (arith, eqb-true (length kept) 0 e)))))
+        (inr (v, s.is_head, refl))
     by_test false e =
         subst (λ (ls : List (List ℕ)). IsFirstWrong ls (Misspelt 2))
-            (sym (cut ∙ ap (λ (ls : List (List ℕ)). ended s.first ∷ ls) (last_cut s.rest s.stands.1 (some_rest kept s.rest s.stands e))))
+        (sym (cut ∙ ap (λ (ls : List (List ℕ)). ended s.first ∷ ls) (last_cut s.rest s.stands.1 (some_rest kept s.rest s.stands e))))
         (inr (v, s.is_head, inl (misspelt_rest first_limit s.rest s.stands.1, refl)))

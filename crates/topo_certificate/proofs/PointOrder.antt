@@ -136,9 +136,11 @@ Follow f (x ∷ xs) = AllByRecursion (λ y. Precedes (f x) (f y)) xs × Follow f
 follow_append : {A : Type 0} (f : A → LoopAt) (xs ys : List A) → Follow f xs → Follow f ys → ((x y : A) → Has xs x → Has ys y → Precedes (f x) (f y))
     → Follow f (xs ++ ys)
 follow_append f [] ys a b all = b
-follow_append f (x ∷ xs) ys a b all =
-    (all_append (λ y. Precedes (f x) (f y)) xs ys a.0 (All-from (λ y. Precedes (f x) (f y)) ys (λ y m. all x y (inl refl) m)), follow_append f xs ys a.1 b
-        (λ z y m k. all z y (inr m) k))
+follow_append f (x ∷ xs) ys a b all = (
+  all_append (λ y. Precedes (f x) (f y)) xs ys a.0 (All-from (λ y. Precedes (f x) (f y)) ys (λ y m. all x y (inl refl) m)),
+  follow_append f xs ys a.1 b
+      (λ z y m k. all z y (inr m) k),
+)
 
 follow_at : {A : Type 0} (f : A → LoopAt) (xs : List A) (i j : ℕ) (x y : A) → Follow f xs → i < j → slice_get xs i ≡ Some x → slice_get xs j ≡ Some y
     → Precedes (f x) (f y)
@@ -170,16 +172,16 @@ in_faces : (flag : Bool) (base : ℕ) (fs : List FaceUse) (p : PlacedLoop) → H
 in_faces flag base [] p h = absurd h
 in_faces flag base (f ∷ fs) p h =
     ⊎_elim (λ here. let k = in_face base (same_flag f.flag flag) 0 f.loops p here in omega (arith, k.0))
-        (λ there. let k = in_faces flag (base + 1) fs p there in omega (arith, k))
+    (λ there. let k = in_faces flag (base + 1) fs p there in omega (arith, k))
     (has_append (placed_in_face flag (base, f)) (flat_map (placed_in_face flag) (enumerate_from (base + 1) fs)) p h)
 
 faces_follow : (flag : Bool) (base : ℕ) (fs : List FaceUse) → Follow at_of (flat_map (placed_in_face flag) (enumerate_from base fs))
 faces_follow flag base [] = tt
 faces_follow flag base (f ∷ fs) =
     follow_append at_of (placed_in_face flag (base, f)) (flat_map (placed_in_face flag) (enumerate_from (base + 1) fs))
-        (loops_follow base (same_flag f.flag flag) 0 f.loops) (faces_follow flag (base + 1) fs)
+    (loops_follow base (same_flag f.flag flag) 0 f.loops) (faces_follow flag (base + 1) fs)
     (λ p q m k. let a = in_face base (same_flag f.flag flag) 0 f.loops p m in let b = in_faces flag (base + 1) fs q k
-        in (omega (arith, a.0, b), λ same. absurd (omega (arith, same, a.0, b))))
+    in (omega (arith, a.0, b), λ same. absurd (omega (arith, same, a.0, b))))
 
 abbrev place_of : LoopAt × ℕ → LoopAt
 place_of q = q.0
@@ -237,8 +239,13 @@ few_edges_occur s shell numbered =
 pub few_vertices_occur : (s : SolidData) (shell : Shell) → IsNumberedSolid s → length (shell_rows s shell).vertices < 2 ^ 30
 unfolding shell_rows
 few_vertices_occur s shell numbered =
-    omega (arith, few_vertices s numbered, occurring_shorter (numbers_from 0 (length s.vertices)) (shell_vertices s shell), length-numbers 0
-    (length s.vertices))
+    omega (
+      arith,
+      few_vertices s numbered,
+      occurring_shorter (numbers_from 0 (length s.vertices)) (shell_vertices s shell),
+      length-numbers 0
+          (length s.vertices),
+    )
 
 pub faces_of_rows : (s : SolidData) (shell : Shell) → (shell_rows s shell).face_count ≡ length shell.faces
 unfolding shell_rows

@@ -78,7 +78,7 @@ edge_step d at mates es n a b good facts more last h =
       counted_named (λ (r : Row). (r.edge.0 == e) && r.along) d a h.along_row h.at_a (and_from (e == e) h.along_row.along (eq-eqb e e refl) h.along),
       counted_named (λ (r : Row). (r.edge.0 == e) && not r.along) d b h.against_row h.at_b
           (and_from (h.against_row.edge.0 == e) (not h.against_row.along) (eq-eqb h.against_row.edge.0 e (ap (λ (x : EdgeId). x.0) (sym h.one_edge)))
-              (ap not h.against)),
+          (ap not h.against)),
     ) in
     subst (λ o. EdgeFacts d ((a, b) ∷ mates) (cons_option o es) (suc n)) (sym listed) (record {
       falls = (falls_more es e (subst (λ o. IsAbove o e) last h.rises) facts.falls, facts.falls);
@@ -142,9 +142,13 @@ point_known d good face l v h = at_point (point_named d face l) refl h
 
 pub point_from_line : (d : ShellRows) (at : Stand) (face l : ℕ) → (h : FitsPoint d at face l) → IsPoint d h.vertex
 point_from_line d at face l h = record {
-  no_row = λ r (row, at_r, e). omega
-      (arith, h.no_row, counted (λ (x : Row). x.from.0 == h.vertex) d.rows r row at_r (eq-eqb row.from.0 h.vertex e), count_by-total
-      (λ (x : Row). x.from.0 == h.vertex) d.rows);
+  no_row = λ r (row, at_r, e). omega (
+    arith,
+    h.no_row,
+    counted (λ (x : Row). x.from.0 == h.vertex) d.rows r row at_r (eq-eqb row.from.0 h.vertex e),
+    count_by-total
+        (λ (x : Row). x.from.0 == h.vertex) d.rows,
+  );
   one_point = h.one_point;
 }
 
@@ -153,14 +157,14 @@ pub corner_step : (d : ShellRows) (at : Stand) (vs : List ℕ) (n r : ℕ) (rs :
     → FitsCorner d at r rs → CornerFacts d (cons_option (row_start (row_named d r)) vs) (suc n)
 corner_step d at vs n r rs good hold paired facts last h =
     vertex_step d vs n h.vertex (row_start (row_named d r)) facts h.lies_at (subst (λ o. IsAbove o h.vertex) last h.rises)
-        (start_known d good r h.vertex h.lies_at)
+    (start_known d good r h.vertex h.lies_at)
     (inl (corner_from_line d at r rs good.meet good.exchanged hold paired h))
 
 pub point_step : (d : ShellRows) (at : Stand) (vs : List ℕ) (n face l : ℕ) → AreGoodRows d → CornerFacts d vs n → at.last_vertex ≡ first_of vs
     → FitsPoint d at face l → CornerFacts d (cons_option (option_map (λ (p : LoopAt × ℕ). p.1) (point_named d face l)) vs) (suc n)
 point_step d at vs n face l good facts last h =
     vertex_step d vs n h.vertex (option_map (λ (p : LoopAt × ℕ). p.1) (point_named d face l)) facts h.lies_at (subst (λ o. IsAbove o h.vertex) last h.rises)
-        (point_known d good face l h.vertex h.lies_at)
+    (point_known d good face l h.vertex h.lies_at)
     (inr (point_from_line d at face l h))
 
 pub vertices_linked : (d : ShellRows) (vs : List ℕ) (n : ℕ) → CornerFacts d vs n → length d.vertices ≤ n → (v : ℕ) → Has d.vertices v → IsLinked d v
@@ -200,7 +204,7 @@ pub reach_step : (d : ShellRows) (at : Stand) (fs : List ℕ) (n r : ℕ) → Ar
     → FitsReach d at r → ReachFacts d (cons_option (row_face (row_named d r)) fs) (suc n)
 reach_step d at fs n r good hold facts reached h =
     let known : IsReached d h.known = ⊎_elim (λ e. subst (IsReached d) e (first_reached d)) (λ m. (facts.each h.known m).1)
-          (subst (λ xs. Has xs h.known) reached (Has-from_Contains at.reached h.known h.old)) in
+    (subst (λ xs. Has xs h.known) reached (Has-from_Contains at.reached h.known h.old)) in
     let a : AreNamedMates d r h.mate = mates_named d at.mates r h.mate hold h.mates in
     let now : IsReached d h.face = leads_last (AreNeighbours d) 0 h.known h.face known (neighbours_of_mates d r h.mate h.face h.known a h.on_face h.on_known) in
     let new : Has (0 ∷ fs) h.face → ⊥ = λ m. h.new (Contains-from_Has at.reached h.face (subst (λ xs. Has xs h.face) (sym reached) m)) in
@@ -214,9 +218,9 @@ pub faces_reached : (d : ShellRows) (fs : List ℕ) (n : ℕ) → ReachFacts d f
 faces_reached d fs n facts all f lt =
     let zero_more : (k : ℕ) → 0 + k ≡ k = λ k. omega arith in
     let listed : (k : ℕ) → k < d.face_count → Has (numbers_from 0 d.face_count) k = λ k less. subst (Has (numbers_from 0 d.face_count)) (zero_more k)
-          (numbers_have 0 d.face_count k less) in
+    (numbers_have 0 d.face_count k less) in
     let into : (k : ℕ) → Has (0 ∷ fs) k → Has (numbers_from 0 d.face_count) k =
-          λ k m. ⊎_elim (λ e. listed k (omega (arith, e, lt))) (λ j. listed k (facts.each k j).0) m in
+    λ k m. ⊎_elim (λ e. listed k (omega (arith, e, lt))) (λ j. listed k (facts.each k j).0) m in
     let here : Has (0 ∷ fs) f = covers (0 ∷ fs) (numbers_from 0 d.face_count) facts.none into (omega (arith, all, facts.number, length-numbers 0 d.face_count))
-          f (listed f lt) in
+    f (listed f lt) in
     ⊎_elim (λ e. subst (IsReached d) e (first_reached d)) (λ m. (facts.each f m).1) here

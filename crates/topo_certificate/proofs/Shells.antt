@@ -28,9 +28,9 @@ proper_from_facts : (version : Version) (s : SolidData) (lines : List CertLine) 
 unfolding stand_from_latest
 proper_from_facts version s lines d facts none =
     let vertices : length d.vertices - number_of is_corner_or_point (since_shell lines) ≡ 0 =
-          sym (ap (λ (a : Due). a.corners - number_of is_corner_or_point (since_shell lines)) facts.asks) ∙ none.corners in
+    sym (ap (λ (a : Due). a.corners - number_of is_corner_or_point (since_shell lines)) facts.asks) ∙ none.corners in
     let faces : d.face_count - 1 - number_of is_reach (since_shell lines) ≡ 0 =
-          sym (ap (λ (a : Due). a.reach - number_of is_reach (since_shell lines)) facts.asks) ∙ none.reach in
+    sym (ap (λ (a : Due). a.reach - number_of is_reach (since_shell lines)) facts.asks) ∙ none.reach in
     record {
       paired = facts_paired version s lines d facts none.edges;
       reached = faces_reached d (filter_map (face_of d) (since_shell lines)) (number_of is_reach (since_shell lines)) facts.reach_facts (omega (arith, faces));
@@ -55,7 +55,7 @@ earlier version s P l lines fit j less before = by_test (is_shell l) refl
     by_test true e =
         let begun = shell_line l e in
         let fits : FitsLine s (stand_from_latest version s lines) (shell begun.0 begun.1) = subst (FitsLine s (stand_from_latest version s lines)) begun.2 fit
-            in
+        in
         let below : suc j < suc (number_of is_shell lines) = subst (λ n. suc j < n) (number_more is_shell l lines e) less in
         before (omega (arith, below)) (λ x. fits.1.0)
     by_test false e =
@@ -74,7 +74,7 @@ proper_upto version s good (l ∷ lines) fit j lt due = by_place (cases_lt (suc 
 
     by_place : (suc j < number_of is_shell (l ∷ lines)) ⊎ (number_of is_shell (l ∷ lines) ≤ suc j)
         → (j < number_of is_shell lines → (suc j ≡ number_of is_shell lines → NoneDue (stand_from_latest version s lines).due)
-            → AreProper (rows_of_shell s (suc j))) → AreProper (rows_of_shell s (suc j))
+        → AreProper (rows_of_shell s (suc j))) → AreProper (rows_of_shell s (suc j))
     by_place (inr most) before = here (omega (arith, most, lt))
     by_place (inl less) before = earlier version s (AreProper (rows_of_shell s (suc j))) l lines fit.0 j less before
 
@@ -90,7 +90,7 @@ pub last_is_end : (version : Version) (s : SolidData) (l : CertLine) (lines : Li
 unfolding stand_from_latest
 last_is_end version s l lines fit ended =
     let fits : FitsLine s (stand_from_latest version s lines) end =
-          subst (FitsLine s (stand_from_latest version s lines)) (end_line l (first_true (is_last l) (list_any is_last lines) fit.0 ended)) fit in
+    subst (FitsLine s (stand_from_latest version s lines)) (end_line l (first_true (is_last l) (list_any is_last lines) fit.0 ended)) fit in
     (fits.1.0, fits.1.1)
 
 -- Legal lines show that the rows of each shell are proper.

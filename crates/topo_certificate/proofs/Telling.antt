@@ -145,7 +145,7 @@ vertex_told s at k v t = record {
 
 pub corner_takes : (k : KeptShell) (rs : List ℕ) (v : ℕ) → CornerDue k.due
     → ((at : Stand) → HoldsMates k.mates at.mates → at.last_vertex ≡ k.last_vertex → FitsCornerLine k.rows at rs × (vertex_of k.rows (corner rs) ≡ Some v))
-        → Takes k (with_vertex k v) (corner rs) true
+    → Takes k (with_vertex k v) (corner rs) true
 corner_takes k rs v due fit version s lines t =
     let at : Stand = stand_from_latest version s lines in
     let f = fit at t.mates (sym t.last_vertex) in
@@ -165,7 +165,7 @@ corner_not_due k new rs never version s lines t f = never (subst CornerDue (sym 
 
 pub point_takes : (k : KeptShell) (face place v : ℕ) → CornerDue k.due
     → ((at : Stand) → at.last_vertex ≡ k.last_vertex → FitsPoint k.rows at face place × (vertex_of k.rows (point face place) ≡ Some v))
-        → Takes k (with_vertex k v) (point face place) true
+    → Takes k (with_vertex k v) (point face place) true
 point_takes k face place v due fit version s lines t =
     let at : Stand = stand_from_latest version s lines in
     let f = fit at (sym t.last_vertex) in
@@ -189,13 +189,13 @@ with_face k f = record k { reached = slice_set k.reached f true; due = without_r
 
 pub reach_takes : (k : KeptShell) (r f : ℕ) → f < length k.reached → ReachDue k.due
     → ((at : Stand) → HoldsMates k.mates at.mates → HoldsFaces k.reached at.reached → FitsReach k.rows at r × (face_of k.rows (reach r) ≡ Some f))
-        → Takes k (with_face k f) (reach r) true
+    → Takes k (with_face k f) (reach r) true
 reach_takes k r f within due fit version s lines t =
     let at : Stand = stand_from_latest version s lines in
     let g = fit at t.mates t.reached in
     let stand = reach_stand version s lines r f (subst (λ d. face_of d (reach r) ≡ Some f) t.rows g.1) in
     let held : HoldsFaces (slice_set k.reached f true) (0 ∷ f ∷ others_reached s lines) =
-          faces_more k.reached 0 f (others_reached s lines) within (subst (HoldsFaces k.reached) (reached_is version s lines) t.reached) in (
+    faces_more k.reached 0 f (others_reached s lines) within (subst (HoldsFaces k.reached) (reached_is version s lines) t.reached) in (
       (subst ReachDue t.due due, subst (λ d. FitsReach d at r) t.rows g.0),
       subst (λ x. MatchesShell s x (with_face k f)) (sym stand) (record {
         begun = t.begun;

@@ -42,12 +42,12 @@ tally_joined s k h at = sym (append_nil (spelling (tally (tally_of_shell s h))))
 pub line_put : (s : SolidData) (k n : ℕ) (line : List ℕ) (out with new : List ℕ) (ls : List (List ℕ)) → with ≡ out ++ joined (tally_before s k)
     → new ≡ with ++ line
     → joined (with_tallies s k (line ∷ ls)) ≡ joined (tally_before s k ++ line ∷ with_tallies s n ls) → new ++ joined (with_tallies s n ls) ≡ out
-        ++ joined (with_tallies s k (line ∷ ls))
+    ++ joined (with_tallies s k (line ∷ ls))
 line_put s k n line out with new ls h1 h2 e =
     let t = joined (tally_before s k) in
     let f = joined (with_tallies s n ls) in
     let whole : joined (tally_before s k ++ line ∷ with_tallies s n ls) ≡ t ++ (line ++ f) =
-          flat_map-append (λ (l : List ℕ). l) (tally_before s k) (line ∷ with_tallies s n ls) in
+    flat_map-append (λ (l : List ℕ). l) (tally_before s k) (line ∷ with_tallies s n ls) in
     ap (λ o. o ++ f) (h2 ∙ ap (λ o. o ++ line) h1) ∙ (append_assoc (out ++ t) line f ∙ (append_assoc out t (line ++ f) ∙ ap (λ x. out ++ x) (sym (e ∙ whole))))
 
 pub shell_line_is : (s : SolidData) (k : ℕ) (line : List ℕ) (ls : List (List ℕ)) → starts_with (codes "SHELL") line ≡ true
@@ -110,4 +110,4 @@ pub upgraded_one : (s : SolidData) (text first : List ℕ) (lines : List (List �
 unfolding upgraded
 upgraded_one s text first lines o1 o2 cut yes_ h1 h2 =
     h2 ∙ (ap (λ o. o ++ joined (with_tallies s 0 lines)) h1
-        ∙ (sym (ap (λ b. if b then joined (spelling (head Two) ∷ with_tallies s 0 lines) else text) yes_) ∙ ap (upgraded_from s text) (sym cut)))
+    ∙ (sym (ap (λ b. if b then joined (spelling (head Two) ∷ with_tallies s 0 lines) else text) yes_) ∙ ap (upgraded_from s text) (sym cut)))

@@ -149,16 +149,19 @@ none_at_first s new none =
 tally_next : (s : SolidData) (before new : List CertLine) (k : ℕ) (h : Shell) → Alike before new → number_of is_shell before ≡ suc k
     → number_of is_tally (since_shell new) ≡ 0 → slice_get s.shells k ≡ Some h
     → (stand_from_latest One s before).ended ≡ false → NoneDue (stand_from_latest One s before).due
-        → FitsLine s (stand_from_latest Two s new) (tally (tally_of_shell s h))
+    → FitsLine s (stand_from_latest Two s new) (tally (tally_of_shell s h))
 unfolding stand_from_latest
 tally_next s before new k h alike number no_tallies at going none =
     let same = same_stand s before new alike in
     let found = found_shell new k (alike.shells ∙ number) in
     let due : (asked Two (find is_shell new)).tally - number_of is_tally (since_shell new) ≡ 1 =
-          ap (λ o. (asked Two o).tally - number_of is_tally (since_shell new)) found.2 ∙ omega (arith, no_tallies) in (
+    ap (λ o. (asked Two o).tally - number_of is_tally (since_shell new)) found.2 ∙ omega (arith, no_tallies) in (
       same.ended ∙ going,
-      ((same.edges ∙ none.edges, same.corners ∙ none.corners, same.reach ∙ none.reach, omega (arith, due)), subst (λ n. FitsTally s n (tally_of_shell s h))
-          (sym (alike.shells ∙ number)) (tally_there s k h at)),
+      (
+        (same.edges ∙ none.edges, same.corners ∙ none.corners, same.reach ∙ none.reach, omega (arith, due)),
+        subst (λ n. FitsTally s n (tally_of_shell s h))
+            (sym (alike.shells ∙ number)) (tally_there s k h at),
+      ),
     )
 
 none_behind_tally : (s : SolidData) (before new : List CertLine) (k : ℕ) (t : Tally) → Alike before new → number_of is_shell before ≡ suc k
@@ -169,7 +172,7 @@ none_behind_tally s before new k t alike number no_tallies none =
     let same = same_stand s before new alike in
     let found = found_shell new k (alike.shells ∙ number) in
     let left : (asked Two (find is_shell new)).tally - suc (number_of is_tally (since_shell new)) ≡ 0 =
-          ap (λ o. (asked Two o).tally - suc (number_of is_tally (since_shell new))) found.2 ∙ omega arith in
+    ap (λ o. (asked Two o).tally - suc (number_of is_tally (since_shell new))) found.2 ∙ omega arith in
     record { edges = same.edges ∙ none.edges; corners = same.corners ∙ none.corners; reach = same.reach ∙ none.reach; tally = left }
 
 -- a line that begins a shell, or ends the certificate, after what ended the shell before
@@ -180,8 +183,16 @@ ended_kept s t ls = (refl, refl)
 
 shell_fits : (s : SolidData) (a b : Stand) (k : ℕ) (c : ShellCounts) → b.shell ≡ a.shell → FitsShell s a k c → FitsShell s b k c
 shell_fits s a b k c e f =
-    record { next = omega (arith, f.next, e); there = f.there; rows_counted = f.rows_counted; edges_counted = f.edges_counted; corners_counted =
-    f.corners_counted; faces_counted = f.faces_counted; two_rows_each = f.two_rows_each }
+    record {
+      next = omega (arith, f.next, e);
+      there = f.there;
+      rows_counted = f.rows_counted;
+      edges_counted = f.edges_counted;
+      corners_counted =
+          f.corners_counted;
+      faces_counted = f.faces_counted;
+      two_rows_each = f.two_rows_each;
+    }
 
 going_on : (s : SolidData) (before : List CertLine) → (stand_from_latest One s (end ∷ before)).ended ≡ false → ⊥
 unfolding stand_from_latest
@@ -207,14 +218,20 @@ module _ (s : SolidData) (read : TalliesRead s) where
   shell_step : (before new : List CertLine) (n k : ℕ) (c : ShellCounts) (lines : List (List ℕ)) → Alike before new → number_of is_shell before ≡ n
       → number_of is_tally (since_shell new) ≡ 0 → IsReadable s (shell k c)
       → FitsLine s (stand_from_latest One s before) (shell k c)
-          → ((new' : List CertLine) → Alike (shell k c ∷ before) new' → number_of is_tally (since_shell new') ≡ 0 → IsLegalAfter Two s new' lines)
+      → ((new' : List CertLine) → Alike (shell k c ∷ before) new' → number_of is_tally (since_shell new') ≡ 0 → IsLegalAfter Two s new' lines)
       → IsLegalAfter Two s new (tally_before s n ++ spelling (shell k c) ∷ lines)
   shell_step before new zero k c lines alike number no_tallies is fits on =
       let same = same_stand s before new alike in (
         shell k c,
         is,
-        (same.ended ∙ fits.0, (none_at_first s new (alike.shells ∙ number), shell_fits s (stand_from_latest One s before) (stand_from_latest Two s new) k c
-            same.shell fits.1.1)),
+        (
+          same.ended ∙ fits.0,
+          (
+            none_at_first s new (alike.shells ∙ number),
+            shell_fits s (stand_from_latest One s before) (stand_from_latest Two s new) k c
+                same.shell fits.1.1,
+          ),
+        ),
         on (shell k c ∷ new) (record { ended = alike.ended; shells = ap suc alike.shells; asks = refl; since = refl }) refl,
       )
   shell_step before new (suc n) k c lines alike number no_tallies is fits on =
@@ -230,9 +247,14 @@ module _ (s : SolidData) (read : TalliesRead s) where
         (
           shell k c,
           is,
-          (kept.0 ∙ (same.ended ∙ fits.0),
-              (none_behind_tally s before new n t alike number no_tallies fits.1.0, shell_fits s (stand_from_latest One s before)
-              (stand_from_latest Two s (tally t ∷ new)) k c (kept.1 ∙ same.shell) fits.1.1)),
+          (
+            kept.0 ∙ (same.ended ∙ fits.0),
+            (
+              none_behind_tally s before new n t alike number no_tallies fits.1.0,
+              shell_fits s (stand_from_latest One s before)
+                  (stand_from_latest Two s (tally t ∷ new)) k c (kept.1 ∙ same.shell) fits.1.1,
+            ),
+          ),
           on (shell k c ∷ tally t ∷ new) (record { ended = alike.ended; shells = ap suc alike.shells; asks = refl; since = refl }) refl,
         ),
       )
@@ -254,8 +276,12 @@ module _ (s : SolidData) (read : TalliesRead s) where
         tally t,
         one_tally n at.0 at.1,
         tally_next s before new n at.0 alike number no_tallies at.1 fits.0 fits.1.0,
-        (end, is, (kept.0 ∙ (same.ended ∙ fits.0), (none_behind_tally s before new n t alike number no_tallies fits.1.0, kept.1 ∙ (same.shell ∙ fits.1.1))),
-            end_there s (tally t ∷ new)),
+        (
+          end,
+          is,
+          (kept.0 ∙ (same.ended ∙ fits.0), (none_behind_tally s before new n t alike number no_tallies fits.1.0, kept.1 ∙ (same.shell ∙ fits.1.1))),
+          end_there s (tally t ∷ new),
+        ),
       )
 
   upgrade_behind : (before new : List CertLine) (n : ℕ) (lines : List (List ℕ)) → Alike before new → number_of is_shell before ≡ n
@@ -266,7 +292,7 @@ module _ (s : SolidData) (read : TalliesRead s) where
       ended_too a h = (same_stand s before new a).ended ∙ h
   upgrade_behind before new n (bytes ∷ lines) alike number no_tallies (l, is_l, fits, more) =
       subst (λ b. IsLegalAfter Two s new (with_tallies s n (b ∷ lines))) (sym is_l.1.1)
-          (by_line l (subst (λ b. IsLine (line_limit s) b l) is_l.1.1 is_l) fits more (λ new' m a b c d. upgrade_behind (l ∷ before) new' m lines a b c d))
+      (by_line l (subst (λ b. IsLine (line_limit s) b l) is_l.1.1 is_l) fits more (λ new' m a b c d. upgrade_behind (l ∷ before) new' m lines a b c d))
     where
       same : SameStand (stand_from_latest One s before) (stand_from_latest Two s new)
       same = same_stand s before new alike
@@ -305,10 +331,14 @@ module _ (s : SolidData) (read : TalliesRead s) where
           let counted : number_of is_shell (l ∷ before) ≡ n = number_same is_shell l before e ∙ number in
           let begun : since_shell (l ∷ new) ≡ l ∷ since_shell new = ap (λ b. cond b [] (l ∷ since_shell new)) e in
           let untold : number_of is_tally (since_shell (l ∷ new)) ≡ 0 = ap (number_of is_tally) begun
-                ∙ (number_same is_tally l (since_shell new) g ∙ no_tallies) in
-          subst (IsLegalAfter Two s new) (sym (kept_there s n l lines e f))
-          (l, is, (same.ended ∙ fits.0, fits_too s (stand_from_latest One s before) (stand_from_latest Two s new) l e f g same fits.1), later (l ∷ new) n next
-              counted untold more)
+          ∙ (number_same is_tally l (since_shell new) g ∙ no_tallies) in
+          subst (IsLegalAfter Two s new) (sym (kept_there s n l lines e f)) (
+            l,
+            is,
+            (same.ended ∙ fits.0, fits_too s (stand_from_latest One s before) (stand_from_latest Two s new) l e f g same fits.1),
+            later (l ∷ new) n next
+                counted untold more,
+          )
 
       by_tests : (l : CertLine) (a b c : Bool) → is_shell l ≡ a → is_last l ≡ b → is_tally l ≡ c → Follows l
       by_tests l true b c e f g = let begun = shell_line l e in subst Follows (sym begun.2) (at_shell begun.0 begun.1)
@@ -323,4 +353,4 @@ module _ (s : SolidData) (read : TalliesRead s) where
   pub upgrade_legal : (lines : List (List ℕ)) → IsLegal One s lines → IsLegal Two s (with_tallies s 0 lines)
   upgrade_legal lines legal =
       legal_forward Two s (with_tallies s 0 lines)
-          (upgrade_behind [] [] 0 lines (record { ended = refl; shells = refl; asks = refl; since = refl }) refl refl (legal_behind One s lines legal))
+      (upgrade_behind [] [] 0 lines (record { ended = refl; shells = refl; asks = refl; since = refl }) refl refl (legal_behind One s lines legal))

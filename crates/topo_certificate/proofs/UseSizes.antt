@@ -81,7 +81,7 @@ loops_placed flag base (f ∷ fs) =
     let own : length here ≡ length f.loops = length-map (enumerate_from 0 f.loops) (placed_at base (same_flag f.flag flag)) ∙ length-enumerate_from 0 f.loops in
     let parts : length (flat_map (placed_in_face flag) (enumerate_from base (f ∷ fs))) ≡ length here + length more = length-append here more in
     let counted : sum_by (λ (x : FaceUse). length x.loops) (f ∷ fs) ≡ length f.loops + sum_by (λ (x : FaceUse). length x.loops) fs =
-          sum_by-cons (λ (x : FaceUse). length x.loops) f fs in
+    sum_by-cons (λ (x : FaceUse). length x.loops) f fs in
     omega (arith, parts, counted, own, loops_placed flag (base + 1) fs)
 
 -- a shell has no more loops than the solid

@@ -44,7 +44,7 @@ counts_none A f xs d c on e = record {
   on = on;
   each = λ v within.
       let zero_there : cell_of c v ≡ 0 = ap (λ t. get_or t (v - c.span.least) c.blank) e ∙ get_or-replicate c.span.count (v - c.span.least) 0 c.blank
-            (omega (arith, within.0, within.1)) in
+      (omega (arith, within.0, within.1)) in
       omega (arith, zero_there);
 }
 
@@ -73,14 +73,14 @@ counts_step A f xs i x d c new at within is h = subst (CountsBefore A f xs (i + 
     by_vertex v w (inl y) =
         let place : v - c.span.least ≡ k = omega (arith, y.1) in
         let there : get_or (slice_set c.cells k (seen + 1)) (v - c.span.least) c.blank ≡ seen + 1 = ap (λ n. get_or (slice_set c.cells k (seen + 1)) n c.blank)
-              place ∙ set_same c.cells k (seen + 1) c.blank in_cells in
+        place ∙ set_same c.cells k (seen + 1) c.blank in_cells in
         let was : seen ≡ cell_of c v = ap (λ n. cell_of c n) y.1 in
         let one : one_if (f x == v) ≡ 1 = ap one_if y.0 in
         omega (arith, there, was, one, split v, h.each v w)
     by_vertex v w (inr n) =
         let apart : k ≢ v - c.span.least = λ e. n.1 (omega (arith, e, within.0, w.0)) in
         let there : get_or (slice_set c.cells k (seen + 1)) (v - c.span.least) c.blank ≡ cell_of c v =
-              set_other c.cells k (v - c.span.least) (seen + 1) c.blank apart in
+        set_other c.cells k (v - c.span.least) (seen + 1) c.blank apart in
         let none : one_if (f x == v) ≡ 0 = ap one_if n.0 in
         omega (arith, there, none, split v, h.each v w)
 
@@ -102,13 +102,21 @@ lies_of p = p.1
 
 pub starts_counted : (d : ShellRows) (i : ℕ) (c : Celled ℕ) → length d.rows ≤ i → CountsBefore Row from_of d.rows i d c → AreStarts d c
 starts_counted d i c past h =
-    record { rows = h.on.rows; span = h.on.span; each = λ v w. counts_done Row from_of d.rows i d c v past h w
-    ∙ sym (count_by-total (λ (r : Row). r.from.0 == v) d.rows) }
+    record {
+      rows = h.on.rows;
+      span = h.on.span;
+      each = λ v w. counts_done Row from_of d.rows i d c v past h w
+          ∙ sym (count_by-total (λ (r : Row). r.from.0 == v) d.rows);
+    }
 
 pub points_counted : (d : ShellRows) (i : ℕ) (c : Celled ℕ) → length d.points ≤ i → CountsBefore (LoopAt × ℕ) lies_of d.points i d c → ArePoints d c
 points_counted d i c past h =
-    record { rows = h.on.rows; span = h.on.span; each = λ v w. counts_done (LoopAt × ℕ) lies_of d.points i d c v past h w
-        ∙ sym (count_by-total (λ (p : LoopAt × ℕ). p.1 == v) d.points) }
+    record {
+      rows = h.on.rows;
+      span = h.on.span;
+      each = λ v w. counts_done (LoopAt × ℕ) lies_of d.points i d c v past h w
+          ∙ sym (count_by-total (λ (p : LoopAt × ℕ). p.1 == v) d.points);
+    }
 
 row_occurs : (d : ShellRows) (i : ℕ) (r : Row) → AreRows d → slice_get d.rows i ≡ Some r → Contains d.vertices r.from.0
 row_occurs d i r rows at =

@@ -19,4 +19,4 @@ IsFirstBadAfter v s Fits first before [] bad = ((stand_from_latest v s before).e
 IsFirstBadAfter v s Fits first before (bytes ∷ rest) bad =
     IsBadLine s (Fits (stand_from_latest v s before)) (first + length before) bytes bad
     ⊎ ((line : CertLine) × IsLine (line_limit s) bytes line × FitsLine s (stand_from_latest v s before) line × IsFirstBadAfter v s Fits first (line ∷ before)
-        rest bad)
+    rest bad)

@@ -24,7 +24,7 @@ abbrev pub Takes : KeptShell → KeptShell → CertLine → Bool → Type 0
 Takes old new line taken =
     (v : Version) (s : SolidData) (lines : List CertLine) → MatchesShell s (stand_from_latest v s lines) old →
     MatchBool taken (FitsOpen s (stand_from_latest v s lines) line × MatchesShell s (stand_from_latest v s (line ∷ lines)) new)
-        (¬ FitsOpen s (stand_from_latest v s lines) line)
+    (¬ FitsOpen s (stand_from_latest v s lines) line)
 
 -- The shells that are not begun, the next one last.
 pub record AreWaiting (v : Version) (s : SolidData) (shell : ℕ) (waiting : List KeptShell) : Type 0 where

@@ -24,4 +24,4 @@ abbrev pub TakesLine : Kept → Kept → CertLine → Bool → Type 0
 TakesLine old new line taken =
     (first : ℕ) (lines : List CertLine) → IsAt first old lines →
     MatchBool taken (FitsLine old.solid (stand_from_latest old.version old.solid lines) line × IsAt first new (line ∷ lines))
-        (¬ FitsLine old.solid (stand_from_latest old.version old.solid lines) line)
+    (¬ FitsLine old.solid (stand_from_latest old.version old.solid lines) line)

@@ -17,8 +17,13 @@ starts_with (w ∷ word) (b ∷ bytes) = (w == b) && starts_with word bytes
 
 -- the counts in the TALLY line of a shell
 abbrev pub tally_of_shell : SolidData → Shell → Tally
-tally_of_shell s h = record { vertices = length (shell_rows s h).vertices; edges = length (shell_rows s h).edges; faces = (shell_rows s h).face_count; loops =
-    loops_of (Some h) }
+tally_of_shell s h = record {
+  vertices = length (shell_rows s h).vertices;
+  edges = length (shell_rows s h).edges;
+  faces = (shell_rows s h).face_count;
+  loops =
+      loops_of (Some h);
+}
 
 abbrev pub tally_lines_of : SolidData → Option Shell → List (List ℕ)
 tally_lines_of s None = []

@@ -60,7 +60,7 @@ none_of v base (suc m) xs y lt = by_test (list_any (λ a. a == base) xs) (none_o
     by_test : (b : Bool) → flat_map (λ w. if w == v then y else []) (occurring (numbers_from (base + 1) m) xs) ≡ []
         → (((base == v) ≡ true) × (base ≡ v)) ⊎ (((base == v) ≡ false) × (base ≡ v → ⊥))
         → flat_map (λ w. if w == v then y else []) (if b then base ∷ occurring (numbers_from (base + 1) m) xs else occurring (numbers_from (base + 1) m) xs)
-            ≡ []
+        ≡ []
     by_test false r h = r
     by_test true r (inl h) = absurd (omega (arith, h.1, lt))
     by_test true r (inr h) = ap (λ b. (if b then y else []) ++ flat_map (λ w. if w == v then y else []) (occurring (numbers_from (base + 1) m) xs)) h.0 ∙ r
@@ -70,7 +70,7 @@ one_of : {B : Type 0} (v base m : ℕ) (xs : List ℕ) (y : List B) → base ≤
 one_of v base zero xs y le lt = absurd (omega (arith, le, lt))
 one_of v base (suc m) xs y le lt = ⊎_elim
     (λ same. subst (λ n. flat_map (λ w. if w == n then y else []) (occurring (numbers_from base (suc m)) xs) ≡ (if list_any (λ a. a == n) xs then y else []))
-        same.1
+    same.1
     (here (list_any (λ a. a == base) xs) (none_of base (base + 1) m xs y (omega arith)) (self base)))
     (λ other. there (list_any (λ a. a == base) xs) other.0 (one_of v (base + 1) m xs y (omega (arith, le, other.1)) (omega (arith, lt))))
     (eqb_tells base v)
@@ -80,7 +80,7 @@ one_of v base (suc m) xs y le lt = ⊎_elim
 
     here : (b : Bool) → flat_map (λ w. if w == base then y else []) (occurring (numbers_from (base + 1) m) xs) ≡ [] → (base == base) ≡ true
         → flat_map (λ w. if w == base then y else []) (if b then base ∷ occurring (numbers_from (base + 1) m) xs else occurring (numbers_from (base + 1) m) xs)
-            ≡ (if b then y else [])
+        ≡ (if b then y else [])
     here true r e = ap (λ b. (if b then y else []) ++ flat_map (λ w. if w == base then y else []) (occurring (numbers_from (base + 1) m) xs)) e
         ∙ (ap (λ zs. y ++ zs) r ∙ append-nil y)
     here false r e = r
@@ -88,7 +88,7 @@ one_of v base (suc m) xs y le lt = ⊎_elim
     there : (b : Bool) → (base == v) ≡ false → flat_map (λ w. if w == v then y else []) (occurring (numbers_from (base + 1) m) xs)
         ≡ (if list_any (λ a. a == v) xs then y else [])
         → flat_map (λ w. if w == v then y else []) (if b then base ∷ occurring (numbers_from (base + 1) m) xs else occurring (numbers_from (base + 1) m) xs)
-            ≡ (if list_any (λ a. a == v) xs then y else [])
+        ≡ (if list_any (λ a. a == v) xs then y else [])
     there true e r = ap (λ b. (if b then y else []) ++ flat_map (λ w. if w == v then y else []) (occurring (numbers_from (base + 1) m) xs)) e ∙ r
     there false e r = r
 
@@ -131,8 +131,8 @@ faces_told s k v j (f ∷ fs) lt =
     by_test : (b : Bool) → map {B = ℕ × EntryNo} (λ (e : EntryNo). (j, e)) (face_if s v f ++ flat_map (face_if s v) fs)
         ≡ map {B = ℕ × EntryNo} (λ (e : EntryNo). (j, e)) (face_if s v f) ++ map {B = ℕ × EntryNo} (λ (e : EntryNo). (j, e)) (flat_map (face_if s v) fs)
         → (if b then [] else map {B = ℕ × EntryNo} (λ (e : EntryNo). (j, e)) (face_if s v f))
-            ++ (if b then [] else map {B = ℕ × EntryNo} (λ (e : EntryNo). (j, e)) (flat_map (face_if s v) fs))
-            ≡ (if b then [] else map {B = ℕ × EntryNo} (λ (e : EntryNo). (j, e)) (face_if s v f ++ flat_map (face_if s v) fs))
+        ++ (if b then [] else map {B = ℕ × EntryNo} (λ (e : EntryNo). (j, e)) (flat_map (face_if s v) fs))
+        ≡ (if b then [] else map {B = ℕ × EntryNo} (λ (e : EntryNo). (j, e)) (face_if s v f ++ flat_map (face_if s v) fs))
     by_test true e = refl
     by_test false e = sym e
 
@@ -158,7 +158,7 @@ told_up_to s k v touches places are at lt =
 occurring_fits : (n : ℕ) (xs : List ℕ) → length (occurring (numbers_from 0 n) xs) ≤ length xs
 occurring_fits n xs =
     no_longer (occurring (numbers_from 0 n) xs) xs (rises_none (occurring (numbers_from 0 n) xs) (occurring_rises (numbers_from 0 n) xs (numbers_rise 0 n)))
-        (λ x m. from_occurring (numbers_from 0 n) xs x m)
+    (λ x m. from_occurring (numbers_from 0 n) xs x m)
 
 -- what occurs is one of the numbers that are looked for
 occurring_from : (ns xs : List ℕ) (v : ℕ) → Has (occurring ns xs) v → Has ns v
@@ -173,9 +173,16 @@ occurring_from (n ∷ ns) xs v h = by_test (list_any (λ m. m == n) xs) h (λ m.
 faces_fit : (s : SolidData) (j : ℕ) (fs : List FaceUse) → length (flat_map (face_touches s j) fs) ≤ length (flat_map (face_vertices s) fs)
 faces_fit s j [] = omega arith
 faces_fit s j (f ∷ fs) =
-    omega (arith, faces_fit s j fs, occurring_fits (length s.vertices) (face_vertices s f), length-map
-        (occurring (numbers_from 0 (length s.vertices)) (face_vertices s f)) (at_vertex j f.entity), length-append (face_touches s j f)
-        (flat_map (face_touches s j) fs), length-append (face_vertices s f) (flat_map (face_vertices s) fs))
+    omega (
+      arith,
+      faces_fit s j fs,
+      occurring_fits (length s.vertices) (face_vertices s f),
+      length-map
+          (occurring (numbers_from 0 (length s.vertices)) (face_vertices s f)) (at_vertex j f.entity),
+      length-append (face_touches s j f)
+          (flat_map (face_touches s j) fs),
+      length-append (face_vertices s f) (flat_map (face_vertices s) fs),
+    )
 
 ends_short : (o : Option Edge) → length (ends_of o) ≤ 2
 ends_short None = omega arith
@@ -192,8 +199,16 @@ uses_short s (u ∷ us) = omega (arith, uses_short s us, use_short s u, length-a
 shells_fit : (s : SolidData) (i : ℕ) (hs : List Shell) → length (flat_map (shell_touches s) (enumerate_from i hs)) ≤ 2 * length (flat_map shell_uses hs)
 shells_fit s i [] = omega arith
 shells_fit s i (h ∷ hs) =
-    omega (arith, shells_fit s (i + 1) hs, faces_fit s i h.faces, ap (length {A = ℕ}) (shell_flat s h), uses_short s (shell_uses h), length-append
-        (shell_touches s (i, h)) (flat_map (shell_touches s) (enumerate_from (i + 1) hs)), length-append (shell_uses h) (flat_map shell_uses hs))
+    omega (
+      arith,
+      shells_fit s (i + 1) hs,
+      faces_fit s i h.faces,
+      ap (length {A = ℕ}) (shell_flat s h),
+      uses_short s (shell_uses h),
+      length-append
+          (shell_touches s (i, h)) (flat_map (shell_touches s) (enumerate_from (i + 1) hs)),
+      length-append (shell_uses h) (flat_map shell_uses hs),
+    )
 
 pub few_touches : (s : SolidData) (vertices : List ℕ) (touches : List FaceAtVertex) → IsNumberedSolid s → touches ≡ touches_of s
     → vertices ≡ map vertex_of touches → length vertices < 2 ^ 32
@@ -205,12 +220,12 @@ pub touches_within : (s : SolidData) (vertices : List ℕ) (touches : List FaceA
 touches_within s vertices touches range low count are is = all_from (IsWithin range) vertices (λ x m.
     let from : (t : FaceAtVertex) × Has touches t × (vertex_of t ≡ x) = has_map vertex_of touches x (subst (λ ys. Has ys x) is m) in
     let at : (h : ℕ × Shell) × Has (enumerate_from 0 s.shells) h × Has (shell_touches s h) from.0 = from_flat_map (shell_touches s) (enumerate_from 0 s.shells)
-          from.0 (subst (λ ts. Has ts from.0) are from.1) in
+    from.0 (subst (λ ts. Has ts from.0) are from.1) in
     let face : (f : FaceUse) × Has at.0.1.faces f × Has (face_touches s at.0.0 f) from.0 = from_flat_map (face_touches s at.0.0) at.0.1.faces from.0 at.2 in
     let vertex : (v : ℕ) × Has (occurring (numbers_from 0 (length s.vertices)) (face_vertices s face.0)) v × (at_vertex at.0.0 face.0.entity v ≡ from.0) =
     has_map (at_vertex at.0.0 face.0.entity) (occurring (numbers_from 0 (length s.vertices)) (face_vertices s face.0)) from.0 face.2 in
     let e : vertex.0 ≡ x = ap vertex_of vertex.2 ∙ from.2 in
     let b : x < 0 + length s.vertices =
-          subst (λ n. n < 0 + length s.vertices) e
-          (number_below 0 (length s.vertices) vertex.0 (occurring_from (numbers_from 0 (length s.vertices)) (face_vertices s face.0) vertex.0 vertex.1)).1 in
+    subst (λ n. n < 0 + length s.vertices) e
+    (number_below 0 (length s.vertices) vertex.0 (occurring_from (numbers_from 0 (length s.vertices)) (face_vertices s face.0) vertex.0 vertex.1)).1 in
     (omega (arith, low), omega (arith, b, low, count)))

@@ -20,7 +20,7 @@ read_from v i key g (t ∷ ts) all at =
     by_test : (b : Bool) → g (slice_get all i) ≡ g (Some t) → flat_map (λ n. g (slice_get all n)) (flat_map (place_if v) (enumerate_from (i + 1) (map key ts)))
         ≡ flat_map (λ t. if key t == v then g (Some t) else []) ts
         → flat_map (λ n. g (slice_get all n)) ((if b then i ∷ [] else []) ++ flat_map (place_if v) (enumerate_from (i + 1) (map key ts)))
-            ≡ (if b then g (Some t) else []) ++ flat_map (λ t. if key t == v then g (Some t) else []) ts
+        ≡ (if b then g (Some t) else []) ++ flat_map (λ t. if key t == v then g (Some t) else []) ts
     by_test true h r = ap (λ xs. xs ++ flat_map (λ n. g (slice_get all n)) (flat_map (place_if v) (enumerate_from (i + 1) (map key ts)))) h
         ∙ ap (λ xs. g (Some t) ++ xs) r
     by_test false h r = r

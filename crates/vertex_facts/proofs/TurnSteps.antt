@@ -81,7 +81,7 @@ mates_have d r m h =
     let z : 0 + m ≡ m = omega arith in
     subst (λ o. Has (mates_of d o) m) (sym h.at_r)
     (has_flat_map (mate_if h.row) (enumerate_from 0 d.rows) (m, h.mate) m
-        (subst (λ n. Has (enumerate_from 0 d.rows) (n, h.mate)) z (enumerated_has 0 m d.rows h.mate h.at_m)) (mate_among h.row h.mate m h.one_edge h.opposite))
+    (subst (λ n. Has (enumerate_from 0 d.rows) (n, h.mate)) z (enumerated_has 0 m d.rows h.mate h.at_m)) (mate_among h.row h.mate m h.one_edge h.opposite))
 
 mates_are : (d : ShellRows) (r x : ℕ) (row : Row) → slice_get d.rows r ≡ Some row → Has (mates_of d (Some row)) x → AreMates d r x
 mates_are d r x row at m =
@@ -109,7 +109,7 @@ turn_is d r t mates turn =
     let h : AreMates d r m = turn.1 in
     let first : get_or (mates_of d (slice_get d.rows r)) 0 0 ≡ m =
     first_is (mates_of d (slice_get d.rows r)) m (mates_have d r m h)
-        (λ x k. mates.one r x m (mates_are d r x h.row h.at_r (subst (λ o. Has (mates_of d o) x) h.at_r k)) h) in
+    (λ x k. mates.one r x m (mates_are d r x h.row h.at_r (subst (λ o. Has (mates_of d o) x) h.at_r k)) h) in
     sym (ap (λ n. get_or d.follows n 0) first ∙ get_or_from_slice_get d.follows m t 0 turn.2)
 
 pub turn_inside : (d : ShellRows) (r t : ℕ) → AreRows d → Turns d r t → t < length d.rows
@@ -156,7 +156,7 @@ turn_step d fan left row next old new all some h e is =
     let one : left ≡ suc (left - 1) = omega (arith, some) in
     ap (λ n. new ++ map (on_fan fan) (by_turns d (left - 1) n)) is
     ∙ piece_more old new (on_fan fan row ∷ []) (map (on_fan fan) (by_turns d (left - 1) (turn_of d row))) all
-        (ap (λ n. old ++ map (on_fan fan) (by_turns d n row)) (sym one) ∙ h) e
+    (ap (λ n. old ++ map (on_fan fan) (by_turns d n row)) (sym one) ∙ h) e
 
 -- one row more that starts at the vertex
 pub fan_step : (d : ShellRows) (leasts : List ℕ) (fan next r : ℕ) (rest : List ℕ) (old new all : List AtVertex)
@@ -175,7 +175,7 @@ pub rows_inside : (v i r : ℕ) (d : ShellRows) (rows : List ℕ) → rows ≡ p
     → r < length d.rows
 rows_inside v i r d rows are lt at =
     let h : r < length (map (λ (r : Row). r.from.0) d.rows) =
-          place_below v r (map (λ (r : Row). r.from.0) d.rows) (subst (λ rs. Has rs r) are (Has-from_place rows r i lt (default_apart rows i r 0 lt ∙ at))) in
+    place_below v r (map (λ (r : Row). r.from.0) d.rows) (subst (λ rs. Has rs r) are (Has-from_place rows r i lt (default_apart rows i r 0 lt ∙ at))) in
     omega (arith, h, length-map d.rows (λ (r : Row). r.from.0))
 
 pub least_short : (leasts : List ℕ) (r : ℕ) → length (least_if leasts r) ≤ 1

@@ -86,7 +86,7 @@ places_rise : (s : SolidData) (v : ℕ) (touches : List FaceAtVertex) → touche
 places_rise s v touches are =
     along_rises (shell_there touches) 0 (places_of v (map vertex_of touches))
     (places_along v 0 0 touches touches (λ j. let z : 0 + j ≡ j = omega arith in ap (λ n. slice_get touches n) z)
-        (subst (Along shell_of 0) (sym are) (touches_rise s 0 s.shells)))
+    (subst (Along shell_of 0) (sym are) (touches_rise s 0 s.shells)))
 
 -- a face, unless its shell comes later
 abbrev unless_later : FaceAtVertex → Bool → List (ℕ × EntryNo)
@@ -105,7 +105,7 @@ none_kept : (k : ℕ) (ts : List FaceAtVertex) (ns : List ℕ) → ((j d : ℕ) 
 none_kept k ts [] high = refl
 none_kept k ts (n ∷ ns) high =
     ap (λ xs. xs ++ flat_map (kept_from k ts) ns) (high_kept k (slice_get ts n) (high 0 n (omega arith)))
-        ∙ none_kept k ts ns (λ j d lt. high (suc j) d (omega (arith, lt)))
+    ∙ none_kept k ts ns (λ j d lt. high (suc j) d (omega (arith, lt)))
 
 -- what is kept of the places is what the first ones list
 first_kept : (k : ℕ) (ts : List FaceAtVertex) (ns : List ℕ) (c : ℕ) → IsPartitionPoint (λ n. shell_there ts n ≤ k) (λ n. k < shell_there ts n) ns c
@@ -116,8 +116,10 @@ first_kept k ts (n ∷ ns) zero p = none_kept k ts (n ∷ ns) (λ j d lt. p.1 j 
 first_kept k ts (n ∷ ns) (suc c) p =
     ap (λ xs. xs ++ flat_map (kept_from k ts) ns) (low_kept k (slice_get ts n) (p.0 0 n (omega arith) (omega arith)))
     ∙ ap (λ xs. listed_from ts n ++ xs)
-        (first_kept k ts ns c ((λ j d low high. p.0 (suc j) d (omega arith) (omega (arith, high))),
-        (λ j d low high. p.1 (suc j) d (omega (arith, low)) (omega (arith, high)))))
+    (first_kept k ts ns c (
+      (λ j d low high. p.0 (suc j) d (omega arith) (omega (arith, high))),
+      (λ j d low high. p.1 (suc j) d (omega (arith, low)) (omega (arith, high))),
+    ))
 
 -- the first places of a vertex give the faces up to a shell
 pub first_listed : (s : SolidData) (k v : ℕ) (touches : List FaceAtVertex) (places : List ℕ) (c : ℕ) → touches ≡ touches_of s
@@ -126,7 +128,7 @@ pub first_listed : (s : SolidData) (k v : ℕ) (touches : List FaceAtVertex) (pl
     → flat_map (listed_from touches) (take c places) ≡ faces_up_to s k v
 first_listed s k v touches places c are at lt point =
     sym (first_kept k touches places c (point (subst (IsNonDecreasingBy (shell_there touches)) (sym at) (places_rise s v touches are))))
-        ∙ told_up_to s k v touches places are at lt
+    ∙ told_up_to s k v touches places are at lt
 
 -- each of them is a place of the table
 pub first_within : (v c : ℕ) (touches : List FaceAtVertex) (places : List ℕ) → places ≡ places_of v (map vertex_of touches)

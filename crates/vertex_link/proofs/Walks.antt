@@ -63,7 +63,7 @@ back_early d v m (x ∷ xs) at whole starts some early back w corner =
     let t : Trail (Turns d) m.first xs m.first = subst (λ y. Trail (Turns d) m.first xs y) back w.1 in
     let into : (y : ℕ) → Has (rows_at d v) y → Has (m.first ∷ xs) y =
     λ y h. let chain = corner.one_cycle m.first y first (listed_at d v y h) in on_trail (Turns d) (turning d whole).one m.first xs t chain.0 m.first y
-        (inl refl) chain.1 in
+    (inl refl) chain.1 in
     omega (arith, no_longer (rows_at d v) (m.first ∷ xs) (starting_none v 0 d.rows) into, counted_rows d v, starts.count, early)
 
 -- the walk came back with all rows of the vertex
@@ -124,7 +124,7 @@ not_back d v m (x ∷ xs) at whole starts some long away w corner =
     let cs : List ℕ = c.1 in
     let low : m.first ≤ r = (starts.least r c.2.starts).1 in
     let high : r ≤ m.first = ⊎_elim (λ e. omega (arith, e)) (λ h. let l : r < m.first = All-at (λ y. r < y) cs c.2.least m.first h in omega (arith, l))
-          (c.2.all m.first (starts.first some)) in
+    (c.2.all m.first (starts.first some)) in
     let same : r ≡ m.first = omega (arith, low, high) in
     let t : Trail (Turns d) m.first cs m.first = subst (λ y. Trail (Turns d) y cs y) same c.2.trail in
     let more : length xs < length cs = longer (Turns d) turn.one m.first xs cs at m.first w.1 t w.2 away in
@@ -180,10 +180,10 @@ first_broken d i v at l ne = (subst (λ vs. LeftIn (IsLinked d) vs d.vertices) (
 pub one_corner : (d : ShellRows) (i v : ℕ) (corner : Corner) (old new : List Corner) → slice_get d.vertices i ≡ Some v → LiesAt d v corner
     → new ≡ old ++ corner ∷ []
     → ((rest : List Corner) → AllZip (LiesAt d) (drop i d.vertices) rest → AreLinks d (old ++ rest)) → (rest : List Corner)
-        → AllZip (LiesAt d) (drop (i + 1) d.vertices) rest → AreLinks d (new ++ rest)
+    → AllZip (LiesAt d) (drop (i + 1) d.vertices) rest → AreLinks d (new ++ rest)
 one_corner d i v corner old new at lies e all rest h =
     let there : AreLinks d (old ++ corner ∷ rest) =
-          all (corner ∷ rest) (subst (λ vs. AllZip (LiesAt d) vs (corner ∷ rest)) (sym (split_at d.vertices i v at)) (lies, h)) in
+    all (corner ∷ rest) (subst (λ vs. AllZip (LiesAt d) vs (corner ∷ rest)) (sym (split_at d.vertices i v at)) (lies, h)) in
     subst (AreLinks d) (sym (ap (λ cs. cs ++ rest) e ∙ append_assoc old (corner ∷ []) rest)) there
 
 pub corners_done : (d : ShellRows) (i : ℕ) (corners : List Corner) → length d.vertices ≤ i

@@ -77,7 +77,7 @@ module _ (listing : Listing) (f : Contents) (n : EntryNo) where
       let hint : a.hint ≡ b.hint = one_hint s (pair_fails b.faults (shown listing (failing_shells b.faults))) a.hint b.hint
       (subst (λ ys. IsFlagsHint s (pair_fails ys (shown listing (failing_shells ys))) a.hint) xs a.is_hint) b.is_hint in
       a.rest_is ∙ (ap (λ ys. shell_lines listing f s ys ++ a.hint ++ shell_texts listing f s ys) xs
-          ∙ (ap (λ h. shell_lines listing f s b.faults ++ h ++ shell_texts listing f s b.faults) hint ∙ sym b.rest_is))
+      ∙ (ap (λ h. shell_lines listing f s b.faults ++ h ++ shell_texts listing f s b.faults) hint ∙ sym b.rest_is))
 
   one_rest : (r t : List ℕ) → IsOfRecords listing f n r ⊎ IsOfShells listing f n r → IsOfRecords listing f n t ⊎ IsOfShells listing f n t → r ≡ t
   one_rest r t (inl a) (inl b) = one_records r t a b
@@ -87,9 +87,11 @@ module _ (listing : Listing) (f : Contents) (n : EntryNo) where
 
   one_told : (v w : Verdict) (t u : List ℕ) → IsToldOf listing f n v t → IsToldOf listing f n w u → (v ≡ w) × (t ≡ u)
   one_told v w t u a b =
-      let same : v ≡ w = one_verdict (obligations f n.0) v w a.judged b.judged in
-      (same, a.text_is ∙ (ap (λ x. verdict_line n.0 x ++ a.rest) same
-          ∙ (ap (λ r. verdict_line n.0 w ++ r) (one_rest a.rest b.rest a.told b.told) ∙ sym b.text_is)))
+      let same : v ≡ w = one_verdict (obligations f n.0) v w a.judged b.judged in (
+        same,
+        a.text_is ∙ (ap (λ x. verdict_line n.0 x ++ a.rest) same
+            ∙ (ap (λ r. verdict_line n.0 w ++ r) (one_rest a.rest b.rest a.told b.told) ∙ sym b.text_is)),
+      )
 
 one_verdicts : (f : Contents) (ns : List EntryNo) (vs ws : List Verdict) → AreVerdicts f ns vs → AreVerdicts f ns ws → vs ≡ ws
 one_verdicts f ns vs ws a b =

@@ -47,7 +47,7 @@ one_faults s k h x y a b =
     let unpaired : x.unpaired ≡ y.unpaired = a.unpaired ∙ sym b.unpaired in
     let firsts : x.firsts ≡ y.firsts = one_parts d x.firsts y.firsts a.firsts b.firsts in
     let there : AreLinkings d y.gaps y.unpaired x.linking =
-          subst (λ us. AreLinkings d y.gaps us x.linking) unpaired (subst (λ gs. AreLinkings d gs x.unpaired x.linking) gaps a.linking) in
+    subst (λ us. AreLinkings d y.gaps us x.linking) unpaired (subst (λ gs. AreLinkings d gs x.unpaired x.linking) gaps a.linking) in
     let linking : x.linking ≡ y.linking = one_linking d y.gaps y.unpaired x.linking y.linking there b.linking in
     let shared : x.shared ≡ y.shared = a.shared ∙ sym b.shared in
     ap (λ z. record { gaps = z; unpaired = x.unpaired; firsts = x.firsts; linking = x.linking; shared = x.shared }) gaps

@@ -74,7 +74,7 @@ edge_facts f s edge = codes " " ++ curve_words f (edge_name edge) ++ codes "\n" 
 abbrev pub edge_text : Listing → Contents → SolidData → Bool → ShellRows → List RowPlace → Unpaired → List ℕ
 edge_text listing f s shell_flag d places u =
     edge_head (edge_name (slice_get s.edges u.edge.0)) u ++ edge_facts f s (slice_get s.edges u.edge.0)
-        ++ row_facts listing f shell_flag places (rows_on_edge d u.edge.0)
+    ++ row_facts listing f shell_flag places (rows_on_edge d u.edge.0)
 
 abbrev pub edge_named : Listing → ShellRows → List RowPlace → Unpaired → List EntryNo
 edge_named listing d places u = rows_named listing places (rows_on_edge d u.edge.0)
@@ -96,7 +96,7 @@ unfoldable pub pair_text : Listing → Contents → SolidData → ℕ → List U
 pair_text listing f s k [] = []
 pair_text listing f s k us =
     rule_words (rule_name RuleUnpaired) k (length us) ++ count_words us ++ rule_sentence RuleUnpaired ++ edges_text listing f s (slice_get s.shells k)
-        (shown listing us) ++ more_items listing (length us)
+    (shown listing us) ++ more_items listing (length us)
 
 -- the faces that its written facts name
 unfoldable pub pair_named : Listing → SolidData → ℕ → List Unpaired → List EntryNo

@@ -40,4 +40,4 @@ returns-in_err-feed-clause-taken g c =
     let read = rw c.in-Bytes.is at (c.in-Ok.ensures {u = tt}).read in
     let fed = c.reads.invariant.fed in
     within_few FILE_LIMIT _ _ c.from_residual-in_err-feed.result
-        (takes_piece _ _ _ fed.bytes c.next_piece.new.buffer c.reads.came c.in-Bytes.count FILE_LIMIT fed.taken fed.long read.0 read.3)
+    (takes_piece _ _ _ fed.bytes c.next_piece.new.buffer c.reads.came c.in-Bytes.count FILE_LIMIT fed.taken fed.long read.0 read.3)

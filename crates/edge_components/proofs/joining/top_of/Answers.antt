@@ -8,7 +8,7 @@ ways-preserved c =
     let inside : c.ways.at < length c.ways.labels.items = omega (arith, c.ways.invariant.low, c.requires.inside, c.ways.invariant.rehung.each) in
     let in_all : c.ways.at < length c.args.labels.now.items = omega (arith, inside, c.ways.invariant.rehung.each) in
     let rehung : AreRehung c.args.labels.now.items c.climb-at.new.labels.items =
-          rehung_on c.args.labels.now.items c.ways.labels.items c.climb-at.new.labels.items c.ways.invariant.rehung c.climb-at.ensures.rehung in
+    rehung_on c.args.labels.now.items c.ways.labels.items c.climb-at.new.labels.items c.ways.invariant.rehung c.climb-at.ensures.rehung in
     record {
       rehung = rehung;
       tops = λ y top. c.climb-at.ensures.tops y (c.ways.invariant.tops y top);

@@ -22,7 +22,7 @@ see-requires-clause-few c = next_few c.args.rows.now c.rows.i c.rows.cells c.row
 pub rows-preserved : goal.rows-preserved
 rows-preserved c =
     next_seen c.args.rows.now c.rows.i c.rows.cells c.row_slice-rows.result.now _ c.len-count.ensures.kept c.rows.invariant c.row_slice-rows.ensures
-        (omega (arith, c.rows-test.true, c.len-count.ensures.count, ap (λ rs. length rs) c.row_slice-rows.ensures))
+    (omega (arith, c.rows-test.true, c.len-count.ensures.count, ap (λ rs. length rs) c.row_slice-rows.ensures))
     c.see.new.cells c.see.ensures
 
 pub returns-clause-tally : goal.returns-clause-tally

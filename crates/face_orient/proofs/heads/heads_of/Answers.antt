@@ -12,9 +12,9 @@ steps-preserved c =
     let low : i < length c.args.crossings.now = omega (arith, c.steps-test.true) in
     let st : Crossing = get_or c.args.crossings.now i no_step in
     subst (λ n. HeadsFrom c.args.faces c.args.crossings.now n (slice_set c.steps.first.items st.from i) (slice_set c.steps.next.items i c.index.result.now))
-        here
+    here
     (heads_step c.args.faces c.args.crossings.now (length c.args.crossings.now - c.steps.k) i st.from c.index.result.now c.steps.first.items c.steps.next.items
-        c.requires.graph (omega (arith, c.steps-test.true))
+    c.requires.graph (omega (arith, c.steps-test.true))
     (st, slice_get-get_or c.args.crossings.now i no_step low, refl) c.index.ensures c.steps.invariant)
 
 pub returns : goal.returns

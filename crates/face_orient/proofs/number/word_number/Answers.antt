@@ -10,7 +10,7 @@ returns-then-word-gt9 c = λ n short e. omega (arith, ap length e, decimal_short
 pub returns-in_default : goal.returns-in_default
 returns-in_default c =
     let none : (n : ℕ) → IsShort n → c.args.word.now ≢ decimal n =
-          λ n short e. (let numeral : IsNumeral 10 c.args.word.now = subst (IsNumeral 10) (sym e) (decimal_numeral n short) in search (rules, numeral)) in
+    λ n short e. (let numeral : IsNumeral 10 c.args.word.now = subst (IsNumeral 10) (sym e) (decimal_numeral n short) in search (rules, numeral)) in
     search (rules, none)
 
 pub returns-then-word-gt1 : goal.returns-then-word-gt1

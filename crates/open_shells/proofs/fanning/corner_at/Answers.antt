@@ -10,7 +10,7 @@ returns-then-points-ne1 c = not_point c.args.mated.now c.args.vertex c.args.star
 pub returns-then-starts-eq0 : goal.returns-then-starts-eq0
 returns-then-starts-eq0 c =
     let p : IsPoint c.args.mated.now c.args.vertex = is_point c.args.mated.now c.args.vertex c.args.starts c.args.points c.requires.starts c.requires.points
-          c.if-starts-eq0.true c.if-points-ne1.false in
+    c.if-starts-eq0.true c.if-points-ne1.false in
     ((p, c.requires.points.last (omega arith)), inr p)
 
 pub returns-then-points-ne0 : goal.returns-then-points-ne0

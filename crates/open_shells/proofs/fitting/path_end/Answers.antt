@@ -20,7 +20,7 @@ turns-preserved c = record {
   walked = λ pairs rs hm h.
       let on = (c.turns_to.ensures pairs hm).0 c.if-not-turns_to.false in
       walked_step c.args.rows.now pairs c.args.first c.turns.last c.in-Some.next c.turns.rest.now c.in-Some.after.now rs c.turns.count c.in-Some.ensures on
-          (c.turns.invariant.walked pairs rs hm h);
+      (c.turns.invariant.walked pairs rs hm h);
 }
 
 pub returns : goal.returns

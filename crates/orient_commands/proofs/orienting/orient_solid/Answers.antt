@@ -25,4 +25,4 @@ returns-in-Err-Fails-orientation c =
     let x = c.in-Err-Fails-orientation.failing in
     let first : IsFirstUnready (solid_of c.args.file c.args.no) x = search rules in
     reply_owed (OfOrient c.args.no c.args.file) answer.No (orient_fail_line x) c.shell_failed.result (unready c.in-Ok.ensures.holds x first)
-        c.shell_failed.ensures
+    c.shell_failed.ensures

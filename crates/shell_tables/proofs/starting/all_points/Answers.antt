@@ -7,7 +7,7 @@ pub points-init : goal.points-init
 points-init c =
     points_first c.args.rows.now c.in_ok-points.points
     (on_vertices c.args.rows.now no_points c.in_ok-points.points c.vertex_slice.result.now c.vertex_slice.ensures.kept c.vertex_slice.ensures.items
-        c.in_ok-points.ensures.numbers c.in_ok-points.ensures.span c.in_ok-points.ensures.blank c.in_ok-points.ensures.cells) c.in_ok-points.ensures.cells
+    c.in_ok-points.ensures.numbers c.in_ok-points.ensures.span c.in_ok-points.ensures.blank c.in_ok-points.ensures.cells) c.in_ok-points.ensures.cells
 
 pub note_point-requires-clause-known : goal.note_point-requires-clause-known
 note_point-requires-clause-known c = point_known c.args.rows.now c.points.i c.points.points c.point_at.result.0 c.point_at.result.1.0 c.points.invariant

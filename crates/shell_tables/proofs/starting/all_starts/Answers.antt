@@ -7,7 +7,7 @@ pub rows-init : goal.rows-init
 rows-init c =
     rows_first c.args.rows.now c.in_ok-starts.starts
     (on_vertices c.args.rows.now no_starts c.in_ok-starts.starts c.vertex_slice.result.now c.vertex_slice.ensures.kept c.vertex_slice.ensures.items
-        c.in_ok-starts.ensures.numbers c.in_ok-starts.ensures.span c.in_ok-starts.ensures.blank c.in_ok-starts.ensures.cells) c.in_ok-starts.ensures.cells
+    c.in_ok-starts.ensures.numbers c.in_ok-starts.ensures.span c.in_ok-starts.ensures.blank c.in_ok-starts.ensures.cells) c.in_ok-starts.ensures.cells
 
 pub note_start-requires-clause-known : goal.note_start-requires-clause-known
 note_start-requires-clause-known c = start_known c.args.rows.now c.rows.i c.rows.starts c.row_at.result c.rows.invariant c.row_at.ensures

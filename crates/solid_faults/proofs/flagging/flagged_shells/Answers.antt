@@ -11,4 +11,4 @@ shell_at-requires-clause-few c =
 pub shells-preserved : goal.shells-preserved
 shells-preserved c =
     mapped_step flagged_shell c.args.solid.now.shells c.shell_at.result.now c.shells.k c.shells.copy c.push.new.self _ c.shell_at.ensures c.shells.invariant
-        (c.in_ok-push.ensures.ok ∙ ap (λ h. c.shells.copy ++ h ∷ []) c.in_ok-flagged_shell.ensures)
+    (c.in_ok-push.ensures.ok ∙ ap (λ h. c.shells.copy ++ h ∷ []) c.in_ok-flagged_shell.ensures)

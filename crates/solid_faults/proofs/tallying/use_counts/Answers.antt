@@ -10,13 +10,23 @@ one_more-counts-requires-clause-once c =
 
 pub one_more-counts-requires-clause-same_way : goal.one_more-counts-requires-clause-same_way
 one_more-counts-requires-clause-same_way c =
-    omega (arith, c.edges-test.true, c.edges.invariant.same_way, counted_few (λ (u : Unpaired). use_count u == 2) c.args.unpaired.now c.edges.i
-    c.edges.auto.i-end)
+    omega (
+      arith,
+      c.edges-test.true,
+      c.edges.invariant.same_way,
+      counted_few (λ (u : Unpaired). use_count u == 2) c.args.unpaired.now c.edges.i
+          c.edges.auto.i-end,
+    )
 
 pub one_more-counts-requires-clause-many : goal.one_more-counts-requires-clause-many
 one_more-counts-requires-clause-many c =
-    omega (arith, c.edges-test.true, c.edges.invariant.many, counted_few (λ (u : Unpaired). nat_lt 2 (use_count u)) c.args.unpaired.now c.edges.i
-    c.edges.auto.i-end)
+    omega (
+      arith,
+      c.edges-test.true,
+      c.edges.invariant.many,
+      counted_few (λ (u : Unpaired). nat_lt 2 (use_count u)) c.args.unpaired.now c.edges.i
+          c.edges.auto.i-end,
+    )
 
 pub edges-preserved : goal.edges-preserved
 edges-preserved c = record {

@@ -7,7 +7,7 @@ pub rows-init : goal.rows-init
 rows-init c =
     fans_first c.args.rows.now c.args.leasts.now c.in_ok-counts.counts
     (on_vertices c.args.rows.now c.in_ok-counts.counts c.vertex_slice.ensures.kept (c.in_ok-counts.ensures.numbers ∙ c.vertex_slice.ensures.items)
-        (subst (IsSpanOf c.in_ok-counts.counts.span) c.vertex_slice.ensures.items c.in_ok-counts.ensures.span) c.in_ok-counts.ensures.blank)
+    (subst (IsSpanOf c.in_ok-counts.counts.span) c.vertex_slice.ensures.items c.in_ok-counts.ensures.span) c.in_ok-counts.ensures.blank)
     c.in_ok-counts.ensures.cells
 
 pub add_at-requires-clause-known : goal.add_at-requires-clause-known

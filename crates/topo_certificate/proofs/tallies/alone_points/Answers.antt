@@ -15,5 +15,5 @@ alone_at-requires-clause-points c = point_within c.args.rows.now c.args.points.n
 pub points-preserved : goal.points-preserved
 points-preserved c =
     mapped_more (λ (p : LoopAt × ℕ). is_alone c.args.rows.now p.1) c.args.rows.now.points c.points.i (c.point_at.result.0, c.point_at.result.1.0)
-        c.points.alone.items _ _ c.point_at.ensures c.points.invariant
+    c.points.alone.items _ _ c.point_at.ensures c.points.invariant
     (c.in_ok-push.ensures.items ∙ ap (λ b. c.points.alone.items ++ b ∷ []) (c.alone_at.ensures c.args.rows.now c.requires.starts c.requires.points))

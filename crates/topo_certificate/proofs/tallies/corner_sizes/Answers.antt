@@ -15,5 +15,5 @@ size_at-requires-clause-points c = row_within c.args.rows.now c.args.points.now.
 pub rows-preserved : goal.rows-preserved
 rows-preserved c =
     mapped_more (λ (r : Row). corner_size c.args.rows.now r.from.0) c.args.rows.now.rows c.rows.i c.row_at.result c.rows.sizes.items _ _ c.row_at.ensures
-        c.rows.invariant
+    c.rows.invariant
     (c.in_ok-push.ensures.items ∙ ap (λ n. c.rows.sizes.items ++ n ∷ []) (c.size_at.ensures c.args.rows.now c.requires.starts c.requires.points))

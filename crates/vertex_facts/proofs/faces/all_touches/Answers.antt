@@ -15,6 +15,6 @@ overflow_cast-k c = omega (arith, c.shells-test.true, c.shell_count-k-end.ensure
 pub shells-preserved : goal.shells-preserved
 shells-preserved c =
     item_step (shell_touches c.args.solid.now) c.args.solid.now.shells c.shell_at.result.now c.shells.k c.shells.out.items c.push_shell.new.out.items _
-        (slice_get_within c.args.solid.now.shells c.shells.k c.shell_at.result.now c.shell_at.ensures.shell)
+    (slice_get_within c.args.solid.now.shells c.shells.k c.shell_at.result.now c.shell_at.ensures.shell)
     (get_or_from_slice_get c.args.solid.now.shells c.shells.k c.shell_at.result.now c.shell_at.result.now c.shell_at.ensures.shell) c.shells.invariant
-        c.in_ok-push_shell.ensures
+    c.in_ok-push_shell.ensures

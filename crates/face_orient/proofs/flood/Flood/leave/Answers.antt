@@ -20,22 +20,22 @@ cross-requires-clause-known c = λ k at.
     let low : c.steps.r < length c.args.crossings.now = omega (arith, c.steps-test.true, c.requires.table.steps) in
     let same : c.args.face ≡ k.from = one_face c.args.crossings.now c.args.face k.from c.steps.r (c.steps.invariant.left.here low) (k, at, refl) in
     subst (Has c.steps.self.order.items) same
-        (still_has c.args.self.now.order.items c.steps.self.order.items c.args.face c.steps.invariant.grows c.requires.known)
+    (still_has c.args.self.now.order.items c.steps.self.order.items c.args.face c.steps.invariant.grows c.requires.known)
 
 pub steps-smaller : goal.steps-smaller
 steps-smaller c =
     let low : c.steps.r < length c.args.crossings.now = omega (arith, c.steps-test.true, c.requires.table.steps) in
     let head : IsHead c.args.crossings.now c.args.face (c.steps.r + 1) c.index-r-in-steps.result.now =
-          next_head c.args.faces c.args.crossings.now c.args.face c.steps.r c.index-r-in-steps.result.now c.args.heads.now.first.items
-          c.args.heads.now.next.items c.requires.table (c.steps.invariant.left.here low) c.index-r-in-steps.ensures in
+    next_head c.args.faces c.args.crossings.now c.args.face c.steps.r c.index-r-in-steps.result.now c.args.heads.now.first.items
+    c.args.heads.now.next.items c.requires.table (c.steps.invariant.left.here low) c.index-r-in-steps.ensures in
     omega (arith, head.low, low)
 
 pub steps-preserved : goal.steps-preserved
 steps-preserved c =
     let low : c.steps.r < length c.args.crossings.now = omega (arith, c.steps-test.true, c.requires.table.steps) in
     let head : IsHead c.args.crossings.now c.args.face (c.steps.r + 1) c.index-r-in-steps.result.now =
-          next_head c.args.faces c.args.crossings.now c.args.face c.steps.r c.index-r-in-steps.result.now c.args.heads.now.first.items
-          c.args.heads.now.next.items c.requires.table (c.steps.invariant.left.here low) c.index-r-in-steps.ensures in
+    next_head c.args.faces c.args.crossings.now c.args.face c.steps.r c.index-r-in-steps.result.now c.args.heads.now.first.items
+    c.args.heads.now.next.items c.requires.table (c.steps.invariant.left.here low) c.index-r-in-steps.ensures in
     record {
       flood = c.in_ok-cross.ensures.flood;
       grows = grows_more c.args.self.now.order.items c.steps.self.order.items c.cross.new.self.order.items c.steps.invariant.grows c.in_ok-cross.ensures.grows;

@@ -20,8 +20,8 @@ pub rows-smaller : goal.rows-smaller
 rows-smaller c =
     let low : c.rows.r < length c.args.paired.now.rows = omega (arith, c.rows-test.true, c.requires.table.rows) in
     let head : IsHead c.args.paired.now c.args.face (c.rows.r + 1) c.index-r-in-rows.result.now =
-          next_head c.args.paired.now c.args.face c.rows.r c.index-r-in-rows.result.now c.args.faces.now.first.items c.args.faces.now.next.items
-          c.requires.table (c.rows.invariant.left.here low) c.index-r-in-rows.ensures in
+    next_head c.args.paired.now c.args.face c.rows.r c.index-r-in-rows.result.now c.args.faces.now.first.items c.args.faces.now.next.items
+    c.requires.table (c.rows.invariant.left.here low) c.index-r-in-rows.ensures in
     omega (arith, head.low, low)
 
 pub rows-preserved : goal.rows-preserved
@@ -29,8 +29,8 @@ rows-preserved c =
     let low : c.rows.r < length c.args.paired.now.rows = omega (arith, c.rows-test.true, c.requires.table.rows) in
     let on : OnFace c.args.paired.now c.args.face c.rows.r = c.rows.invariant.left.here low in
     let head : IsHead c.args.paired.now c.args.face (c.rows.r + 1) c.index-r-in-rows.result.now =
-          next_head c.args.paired.now c.args.face c.rows.r c.index-r-in-rows.result.now c.args.faces.now.first.items c.args.faces.now.next.items
-          c.requires.table on c.index-r-in-rows.ensures in
+    next_head c.args.paired.now c.args.face c.rows.r c.index-r-in-rows.result.now c.args.faces.now.first.items c.args.faces.now.next.items
+    c.requires.table on c.index-r-in-rows.ensures in
     record {
       flood = c.in_ok-cross.ensures.flood;
       grows = grows_more c.args.self.now.order.items c.rows.self.order.items c.cross.new.self.order.items c.rows.invariant.grows c.in_ok-cross.ensures.grows;

@@ -13,4 +13,4 @@ places-preserved c = record {
 pub returns-clause-done : goal.returns-clause-done
 returns-clause-done c =
     each_done c.args.paired.now c.places.self.marks.items c.places.self.order.items (row_numbers c.places.self.rows) c.places.q c.places.invariant.flood
-        (omega (arith, c.requires.count)) c.places.invariant.done
+    (omega (arith, c.requires.count)) c.places.invariant.done

@@ -9,7 +9,7 @@ returns-in_err-end_line-clause-fed c =
     let done = c.in_err-end_line.ensures {u = tt} in
     λ v s first text fed. left_bad FitsLine c.args.self.now c.args.piece.now c.end_line.new.self c.in-Some-first_ended.after.now _ v s first text done.kept
     (left_next FitsLine c.args.self.now c.args.piece.now c.lines.self c.end_line.new.self c.lines.rest.now c.in-Some-first_ended.line.now
-        c.in-Some-first_ended.after.now ends.front ends.in_line ends.line_is ends.whole done.fed c.lines.invariant.left) fed
+    c.in-Some-first_ended.after.now ends.front ends.in_line ends.line_is ends.whole done.fed c.lines.invariant.left) fed
 
 pub lines-preserved : goal.lines-preserved
 lines-preserved c =

@@ -9,9 +9,9 @@ returns-in_err-told-clause-step c =
     let p = err_from_is_err_and c.from_residual.result c.from_residual.ensures.1 in
     let ends = c.in-Some-first_ended.ensures {u = tt} in
     rw p.1 (λ v s first text fed. left_bad FitsPart c.args.self.now c.args.piece.now c.end_part_line.new.self c.in-Some-first_ended.after.now _ v s first text
-        c.in_err-told.ensures.kept
+    c.in_err-told.ensures.kept
     (left_next FitsPart c.args.self.now c.args.piece.now c.lines.self c.end_part_line.new.self c.lines.left.now c.in-Some-first_ended.line.now
-        c.in-Some-first_ended.after.now ends.front ends.in_line ends.line_is ends.whole c.in_err-told.ensures.fed c.lines.invariant.left)
+    c.in-Some-first_ended.after.now ends.front ends.in_line ends.line_is ends.whole c.in_err-told.ensures.fed c.lines.invariant.left)
     fed)
 
 pub returns-in-Next-clause-step : goal.returns-in-Next-clause-step
@@ -20,7 +20,7 @@ returns-in-Next-clause-step c =
     let piece = c.args.piece.now in
     let after = c.in-Some-first_ended.after.now in
     let used : (length piece - length after) + length after ≡ length piece =
-          omega (arith, after_shorter c.lines.left.now ends.front after ends.whole, c.lines.invariant.within) in
+    omega (arith, after_shorter c.lines.left.now ends.front after ends.whole, c.lines.invariant.within) in
     let within : length piece - length after ≤ length piece = omega arith in
     let next = subst (EndsPartLine c.lines.self c.in-Some-first_ended.line.now c.end_part_line.new.self) c.in-Next.is c.in_ok-told.ensures.fed in
     λ v s first text fed. (

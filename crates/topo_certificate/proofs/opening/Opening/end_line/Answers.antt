@@ -11,7 +11,7 @@ returns-then-len-eq0 c =
     rw (sym c.self.view_is) (λ text front h is shows.
     subst (λ (k : List ℕ). Shows c.stage_after-self-inside.result k (text ++ c.args.line.now)) (sym (nil c.self.inside.start empty))
     (whole_line (record { kept = c.self.inside.start; stage = c.self.inside.stage }) text front c.args.line.now c.stage_after-self-inside.result waiting empty
-        h is c.stage_after-self-inside.ensures shows))
+    h is c.stage_after-self-inside.ensures shows))
 
 pub push-requires : goal.push-requires
 push-requires c = omega (arith, few_kept c.keep.new.self _ c.keep.ensures)
@@ -22,5 +22,5 @@ returns c =
     rw (sym c.self.view_is) (λ text front h is shows.
     subst (λ (k : List ℕ). Shows c.stage_after-self-inside-2.result k (text ++ c.args.line.now)) (sym c.clear.ensures)
     (joined_line (record { kept = c.self.inside.start; stage = c.self.inside.stage }) text front c.args.line.now c.keep.new.self c.as_slice.result.now
-        c.stage_after-self-inside-2.result waiting h is c.keep.ensures
+    c.stage_after-self-inside-2.result waiting h is c.keep.ensures
     (c.as_slice.ensures ∙ c.push.ensures) c.stage_after-self-inside-2.ensures shows))

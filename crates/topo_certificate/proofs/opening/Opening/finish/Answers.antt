@@ -17,10 +17,10 @@ pub returns-in-First-clause-said : goal.returns-in-First-clause-said
 returns-in-First-clause-said c =
     let said = rw (sym c.self.view_is) at c.end.ensures.said in
     rw (said, sym c.self.view_is)
-        (λ text shows. end_first c.self.inside.start text (subst (λ (o : Stage). Shows o c.self.inside.start text) c.in-First.is shows))
+    (λ text shows. end_first c.self.inside.start text (subst (λ (o : Stage). Shows o c.self.inside.start text) c.in-First.is shows))
 
 pub returns-in-Second-clause-said : goal.returns-in-Second-clause-said
 returns-in-Second-clause-said c =
     let said = rw (sym c.self.view_is) at c.end-in-Second.ensures.said in
     rw (said, sym c.self.view_is)
-        (λ text shows. end_second _ c.self.inside.start text (subst (λ (o : Stage). Shows o c.self.inside.start text) c.in-Second.is shows))
+    (λ text shows. end_second _ c.self.inside.start text (subst (λ (o : Stage). Shows o c.self.inside.start text) c.in-Second.is shows))
