@@ -1,5 +1,6 @@
 -- What a number names, as a test and as a fact.
-use Rattle.std.specs.Prelude.{◌≡◌, ◌≢◌, ℕ, suc, ◌+◌, ◌≤◌, nat_lt, nat_le, ◌&&◌, ◌||◌, not, IsSome, IsSomeAnd, Bool, true, false, if◌then◌else◌, ℤ, pos, negsuc, List, [], ◌∷◌, All, Option, Some, None, option_map, slice_get, ◌⊎◌}
+use Rattle.std.specs.Prelude.{◌≡◌, ◌≢◌, ℕ, suc, ◌+◌, ◌≤◌, nat_lt, nat_le, ◌&&◌, ◌||◌, not, IsSome, IsSomeAnd, Bool, true, false, if◌then◌else◌, ℤ, pos, negsuc}
+use Rattle.std.specs.Prelude.{List, [], ◌∷◌, All, Option, Some, None, option_map, slice_get, ◌⊎◌}
 use Rattle.std.specs.Bool.{Decides}
 use Rattle.std.specs.List.{AllByRecursion, position_from}
 use Rattle.std.specs.Option.{is_some, is_none}
@@ -14,7 +15,8 @@ use Rattle.iges_params.specs.Contents.{Contents}
 use Rattle.iges_params.specs.Named.{named, record_values, values_of}
 use Rattle.brep_lists.specs.Record.{type_number, kind_of_type, HasForm, IsRecordOf, Items, items_of}
 use Rattle.brep_lists.specs.declared.entity_kind.EntityKind.{EntityKind}
-use Rattle.brep_lists.specs.declared.entity_kind.EntityKind.TheVariants.{Solid as solid, Shell as shell, Face as face, Loop as «loop», EdgeList as edges, VertexList as vertices}
+use Rattle.brep_lists.specs.declared.entity_kind.EntityKind.TheVariants.{Solid as solid, Shell as shell, Face as face, Loop as «loop», EdgeList as edges}
+use Rattle.brep_lists.specs.declared.entity_kind.EntityKind.TheVariants.{VertexList as vertices}
 use Rattle.brep_lists.proofs.Decided.{decided}
 use Rattle.brep_lists.proofs.KindTypes.{kind_known}
 use Rattle.brep_walk.specs.Places.{Names, NamesKind, NamesGeometry, HasRecordOf, IsIndex}
@@ -27,7 +29,8 @@ told_if k vs b = if b then Some (items_of k vs) else None
 pub at_kind : (f : Contents) (z : ℤ) (k : EntityKind) → NamesKind k f z → kind_in (entry_at f z) ≡ Some k
 at_kind f z k h = by_entry (named f z) h
   where
-    by_entry : (o : Option (Entry × List Value)) → IsSomeAnd o (λ e. (e.0.kind ≡ type_number k) × HasForm k e.0.form) → kind_in (option_map (λ (e : Entry × List Value). e.0) o) ≡ Some k
+    by_entry : (o : Option (Entry × List Value)) → IsSomeAnd o (λ e. (e.0.kind ≡ type_number k) × HasForm k e.0.form)
+        → kind_in (option_map (λ (e : Entry × List Value). e.0) o) ≡ Some k
     by_entry None h = absurd h
     by_entry (Some e) h = ap kind_of_type h.0 ∙ kind_known k
 
@@ -97,25 +100,31 @@ list_test e = (there, back)
   where
     there : test_of e ≡ true → (e.kind ≡ pos 502) × HasForm vertices e.form
     there t =
-        let p = and_true (int_eq e.kind (pos 502)) _ t in
-        ((Decides-int_eq e.kind (pos 502)).0 p.0, ⊎_elim (λ a. inl ((Decides-int_eq e.form (pos 0)).0 a)) (λ b. inr ((Decides-int_eq e.form (pos 1)).0 b)) (or_true (int_eq e.form (pos 0)) (int_eq e.form (pos 1)) p.1))
+        let p = and_true (int_eq e.kind (pos 502)) _ t in (
+          (Decides-int_eq e.kind (pos 502)).0 p.0,
+          ⊎_elim (λ a. inl ((Decides-int_eq e.form (pos 0)).0 a)) (λ b. inr ((Decides-int_eq e.form (pos 1)).0 b))
+              (or_true (int_eq e.form (pos 0)) (int_eq e.form (pos 1)) p.1),
+        )
 
     back : (e.kind ≡ pos 502) × HasForm vertices e.form → test_of e ≡ true
     back h =
         ap (λ b. b && (int_eq e.form (pos 0) || int_eq e.form (pos 1))) ((Decides-int_eq e.kind (pos 502)).1 h.0)
-        ∙ ⊎_elim (λ a. or_left (int_eq e.form (pos 0)) (int_eq e.form (pos 1)) ((Decides-int_eq e.form (pos 0)).1 a)) (λ b. or_right (int_eq e.form (pos 0)) (int_eq e.form (pos 1)) ((Decides-int_eq e.form (pos 1)).1 b)) h.1
+        ∙ ⊎_elim (λ a. or_left (int_eq e.form (pos 0)) (int_eq e.form (pos 1)) ((Decides-int_eq e.form (pos 0)).1 a))
+        (λ b. or_right (int_eq e.form (pos 0)) (int_eq e.form (pos 1)) ((Decides-int_eq e.form (pos 1)).1 b)) h.1
 
 pub a_vertex_list : (f : Contents) (z : ℤ) → NamesKind vertices f z → is_vertex_list (entry_at f z) ≡ true
 a_vertex_list f z h = by_entry (named f z) h
   where
-    by_entry : (o : Option (Entry × List Value)) → IsSomeAnd o (λ e. (e.0.kind ≡ pos 502) × HasForm vertices e.0.form) → is_vertex_list (option_map (λ (e : Entry × List Value). e.0) o) ≡ true
+    by_entry : (o : Option (Entry × List Value)) → IsSomeAnd o (λ e. (e.0.kind ≡ pos 502) × HasForm vertices e.0.form)
+        → is_vertex_list (option_map (λ (e : Entry × List Value). e.0) o) ≡ true
     by_entry None h = absurd h
     by_entry (Some e) h = (list_test e.0).1 h
 
 pub no_vertex_list : (f : Contents) (z : ℤ) → ¬ NamesKind vertices f z → is_vertex_list (entry_at f z) ≡ false
 no_vertex_list f z h = by_entry (named f z) h
   where
-    by_entry : (o : Option (Entry × List Value)) → ¬ IsSomeAnd o (λ e. (e.0.kind ≡ pos 502) × HasForm vertices e.0.form) → is_vertex_list (option_map (λ (e : Entry × List Value). e.0) o) ≡ false
+    by_entry : (o : Option (Entry × List Value)) → ¬ IsSomeAnd o (λ e. (e.0.kind ≡ pos 502) × HasForm vertices e.0.form)
+        → is_vertex_list (option_map (λ (e : Entry × List Value). e.0) o) ≡ false
     by_entry None h = refl
     by_entry (Some e) h = elim (cases_Bool (test_of e.0)) [ inl t ↦ absurd (h ((list_test e.0).0 t)) | inr n ↦ n ]
 
@@ -148,7 +157,8 @@ no_index (pos k) n h =
 
 abbrev nest : Bool → Bool → Bool → Bool → Bool → Bool → Option EntityKind
 nest a b c d e g =
-    if a then Some solid else (if b then Some shell else (if c then Some face else (if d then Some «loop» else (if e then Some edges else (if g then Some vertices else None)))))
+    if a then Some solid else
+    (if b then Some shell else (if c then Some face else (if d then Some «loop» else (if e then Some edges else (if g then Some vertices else None)))))
 
 wrong : {P : Type 0} → false ≡ true → P
 wrong {P} e = absurd cc
@@ -165,7 +175,8 @@ all_false false false false false false false h = (refl, refl, refl, refl, refl,
 none_of : (a b c d e g : Bool) → a ≡ false → b ≡ false → c ≡ false → d ≡ false → e ≡ false → g ≡ false → is_none (nest a b c d e g) ≡ true
 none_of a b c d e g p q r s t u =
     ap (λ x. is_none (nest x b c d e g)) p ∙ ap (λ x. is_none (nest false x c d e g)) q ∙ ap (λ x. is_none (nest false false x d e g)) r
-    ∙ ap (λ x. is_none (nest false false false x e g)) s ∙ ap (λ x. is_none (nest false false false false x g)) t ∙ ap (λ x. is_none (nest false false false false false x)) u
+    ∙ ap (λ x. is_none (nest false false false x e g)) s ∙ ap (λ x. is_none (nest false false false false x g)) t
+    ∙ ap (λ x. is_none (nest false false false false false x)) u
 
 differs : (z w : ℤ) → int_eq z w ≡ false → z ≢ w
 differs z w e same = wrong (sym e ∙ (Decides-int_eq z w).1 same)
@@ -181,7 +192,8 @@ kind_test z = (there, back)
         let all = all_false (int_eq z (pos 186)) (int_eq z (pos 514)) (int_eq z (pos 510)) (int_eq z (pos 508)) (int_eq z (pos 504)) (int_eq z (pos 502)) e in
         by_kind all
       where
-        by_kind : (int_eq z (pos 186) ≡ false) × (int_eq z (pos 514) ≡ false) × (int_eq z (pos 510) ≡ false) × (int_eq z (pos 508) ≡ false) × (int_eq z (pos 504) ≡ false) × (int_eq z (pos 502) ≡ false) → (k : EntityKind) → ¬ (z ≡ type_number k)
+        by_kind : (int_eq z (pos 186) ≡ false) × (int_eq z (pos 514) ≡ false) × (int_eq z (pos 510) ≡ false) × (int_eq z (pos 508) ≡ false)
+            × (int_eq z (pos 504) ≡ false) × (int_eq z (pos 502) ≡ false) → (k : EntityKind) → ¬ (z ≡ type_number k)
         by_kind all solid = differs z (pos 186) all.0
         by_kind all shell = differs z (pos 514) all.1
         by_kind all face = differs z (pos 510) all.2
@@ -192,12 +204,14 @@ kind_test z = (there, back)
     back : ((k : EntityKind) → ¬ (z ≡ type_number k)) → is_none (kind_of_type z) ≡ true
     back h =
         none_of (int_eq z (pos 186)) (int_eq z (pos 514)) (int_eq z (pos 510)) (int_eq z (pos 508)) (int_eq z (pos 504)) (int_eq z (pos 502))
-        (is_other z (pos 186) (h solid)) (is_other z (pos 514) (h shell)) (is_other z (pos 510) (h face)) (is_other z (pos 508) (h «loop»)) (is_other z (pos 504) (h edges)) (is_other z (pos 502) (h vertices))
+        (is_other z (pos 186) (h solid)) (is_other z (pos 514) (h shell)) (is_other z (pos 510) (h face)) (is_other z (pos 508) (h «loop»))
+        (is_other z (pos 504) (h edges)) (is_other z (pos 502) (h vertices))
 
 pub geometry_test : (f : Contents) (z : ℤ) → Decides (names_geometry f z) (NamesGeometry f z)
 geometry_test f z = by_entry (named f z)
   where
-    by_entry : (o : Option (Entry × List Value)) → Decides (is_geometry (option_map (λ (e : Entry × List Value). e.0) o)) (IsSomeAnd o (λ e. (k : EntityKind) → ¬ (e.0.kind ≡ type_number k)))
+    by_entry : (o : Option (Entry × List Value))
+        → Decides (is_geometry (option_map (λ (e : Entry × List Value). e.0) o)) (IsSomeAnd o (λ e. (k : EntityKind) → ¬ (e.0.kind ≡ type_number k)))
     by_entry None = ((λ e. absurd (let g : false ≡ true = e in cc)), (λ h. absurd h))
     by_entry (Some e) = kind_test e.0.kind
 
@@ -225,7 +239,8 @@ first_bad f base (c ∷ cs) =
             place = suc b.place;
             curve = b.curve;
             there = b.there;
-            found = ap (λ t. if not t then Some base else position_from (λ (x : Bool × ℤ). not (names_geometry f x.1)) (base + 1) cs) good ∙ b.found ∙ ap Some next;
+            found = ap (λ t. if not t then Some base else position_from (λ (x : Bool × ℤ). not (names_geometry f x.1)) (base + 1) cs) good ∙ b.found
+                ∙ ap Some next;
             bad = b.bad;
           }))
           (first_bad f (base + 1) cs)
@@ -234,7 +249,8 @@ first_bad f base (c ∷ cs) =
             place = 0;
             curve = c;
             there = refl;
-            found = ap (λ t. if not t then Some base else position_from (λ (x : Bool × ℤ). not (names_geometry f x.1)) (base + 1) cs) bad ∙ (let e : base ≡ base + 0 = omega arith in ap Some e);
+            found = ap (λ t. if not t then Some base else position_from (λ (x : Bool × ℤ). not (names_geometry f x.1)) (base + 1) cs) bad
+                ∙ (let e : base ≡ base + 0 = omega arith in ap Some e);
             bad = λ h. wrong (sym bad ∙ (geometry_test f c.1).1 h);
           })
     ]

@@ -18,14 +18,30 @@ pub record IsAtItem {A : Type 0} (g : List A → A → List Obligation) (xs : Li
   pub there : slice_get xs place ≡ Some item
   pub false_here : FirstFalse (g before item) x
 
-pub at_item : {A : Type 0} (g : List A → A → List Obligation) (before xs : List A) (x : Failing) → FirstFalse (after_each g before xs) x → IsAtItem g xs (length before) x
+pub at_item : {A : Type 0} (g : List A → A → List Obligation) (before xs : List A) (x : Failing) → FirstFalse (after_each g before xs) x
+    → IsAtItem g xs (length before) x
 at_item {A} g before [] x h = absurd h
 at_item {A} g before (y ∷ ys) x h =
     ⊎_elim
-    (λ here. record { place = 0; before = before; counted = (let e : length before ≡ length before + 0 = omega arith in e); item = y; there = refl; false_here = here })
+    (λ here. record {
+      place = 0;
+      before = before;
+      counted = (let e : length before ≡ length before + 0 = omega arith in e);
+      item = y;
+      there =
+          refl;
+      false_here = here;
+    })
     (λ later.
     let r = at_item g (before ++ y ∷ []) ys x later.1 in
     let more = length-append before (y ∷ []) in
     let counted = r.counted in
-    record { place = suc r.place; before = r.before; counted = (let e : length r.before ≡ length before + suc r.place = omega (arith, more, counted) in e); item = r.item; there = r.there; false_here = r.false_here })
+    record {
+      place = suc r.place;
+      before = r.before;
+      counted = (let e : length r.before ≡ length before + suc r.place = omega (arith, more, counted) in e);
+      item = r.item;
+      there = r.there;
+      false_here = r.false_here;
+    })
     (split (g before y) (after_each g (before ++ y ∷ []) ys) x h)

@@ -27,7 +27,8 @@ BreaksBy f x bad rule.BadLayout =
     (kind : EntityKind) × (kind_in (entry_at f (pos x.entity.0)) ≡ Some kind) × (¬ IsRecordOf kind (values_in f x.entity))
     × IfSome bad.place (λ i. IsFirstMisfit kind (values_in f x.entity) (i + 1))
 -- it names a shell, a face or a loop
-BreaksBy f x bad rule.Twice = NamesKind shell f (judged f x.entity bad.place) ⊎ (NamesKind face f (judged f x.entity bad.place) ⊎ NamesKind «loop» f (judged f x.entity bad.place))
+BreaksBy f x bad rule.Twice = NamesKind shell f (judged f x.entity bad.place)
+    ⊎ (NamesKind face f (judged f x.entity bad.place) ⊎ NamesKind «loop» f (judged f x.entity bad.place))
 -- it is no index in the list that the number before it names
 BreaksBy f x bad rule.BadIndex = ¬ IsIndex (judged f x.entity bad.place) (item_count f (judged f x.entity (before bad.place)))
 -- it names no curve and no surface

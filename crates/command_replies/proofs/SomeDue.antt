@@ -27,7 +27,8 @@ text_due text = by_limit (decided_within (length text) CERT_LIMIT)
     by_limit (inl few) = (answer.Done, text, text_done few)
     by_limit (inr more) = (answer.TooLarge, [], text_too_large (longer (length text) CERT_LIMIT more))
 
-pub file_due : (bytes : List ℕ) (owed : Contents → Owed) → ((f : Contents) → length bytes ≤ FILE_LIMIT → IsFile bytes f → IsSome (owed f)) → IsSome (OfFile bytes owed)
+pub file_due : (bytes : List ℕ) (owed : Contents → Owed) → ((f : Contents) → length bytes ≤ FILE_LIMIT → IsFile bytes f → IsSome (owed f))
+    → IsSome (OfFile bytes owed)
 file_due bytes owed each = by_limit (decided_within (length bytes) FILE_LIMIT) (one_reading bytes)
   where
     by_limit : Decided (length bytes ≤ FILE_LIMIT) → HasOneReading bytes → IsSome (OfFile bytes owed)

@@ -28,11 +28,18 @@ module _ (f : Contents) (n : ℕ) (new : Contents) (c : IsCompacted f n new) whe
   is_extracted : (again : Contents) → IsCompacted new m again → IsExtracted (dropped new) m again
   is_extracted again h =
       let middle : h.«between» ≡ new = IsExtracted-unique new m h.«between» new h.extracted itself.extracted in
-      let number : new_number h.extracted.kept m ≡ m = ap (λ ms. new_number ms m) (one_kept new h.«between» new m h.extracted itself.extracted) ∙ sym itself.is in
+      let number : new_number h.extracted.kept m ≡ m = ap (λ ms. new_number ms m) (one_kept new h.«between» new m h.extracted itself.extracted) ∙ sym itself.is
+      in
       subst (λ g. IsExtracted (dropped g) m again) middle (subst (λ k. IsExtracted (dropped h.«between») k again) number h.again)
 
   is_compacted : (again : Contents) → IsExtracted (dropped new) m again → IsCompacted new m again
-  is_compacted again x = record { «between» = new; extracted = itself.extracted; places = places_hold; again = subst (λ k. IsExtracted (dropped new) k again) itself.is x }
+  is_compacted again x = record {
+    «between» = new;
+    extracted = itself.extracted;
+    places = places_hold;
+    again =
+        subst (λ k. IsExtracted (dropped new) k again) itself.is x;
+  }
 
   stays : dropped new ≡ new → (again : Contents) → IsCompacted new m again ↔ again ≡ new
   stays same again = (

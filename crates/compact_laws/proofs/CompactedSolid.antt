@@ -21,7 +21,8 @@ use Rattle.list_compact.specs.Used.{rank, is_used_edge, is_used_vertex}
 use Rattle.list_compact.specs.Dropped.{dropped}
 use Rattle.list_compact.specs.Compacted.{IsCompacted}
 use Rattle.list_compact.proofs.StillHold.{still_hold}
-use Rattle.compact_laws.specs.Compacted.{number_between, number_after, IsNumbered, compacted_names, ranked_verdict, compacted_verdict, SolidIsCompacted, VerdictIsCompacted, NoOtherVerdict, ClosedIsCompacted}
+use Rattle.compact_laws.specs.Compacted.{number_between, number_after, IsNumbered, compacted_names, ranked_verdict, compacted_verdict, SolidIsCompacted}
+use Rattle.compact_laws.specs.Compacted.{VerdictIsCompacted, NoOtherVerdict, ClosedIsCompacted}
 use Rattle.compact_laws.specs.Ranked as ranks
 use Rattle.extraction_laws.specs.Relabelled.{Names, IsRelabelled}
 use Rattle.compact_laws.proofs.Composed.{Compose, relabelled_then}
@@ -105,8 +106,10 @@ module _ (f : Contents) (n : ℕ) (new : Contents) (c : IsCompacted f n new) whe
 
   solid_is : IsRelabelled (compacted_names f n new c) (solid_of f n) (solid_of new (number_after f n new c n))
   solid_is =
-      relabelled_then First Rest (compacted_names f n new c) whole (solid_of f n) (solid_of g n1) (solid_of new (number_after f n new c n)) (solid_told f g n c.extracted c.places)
-      (relabelled_then (ranks.ranked_names g) Second Rest rest (solid_of g n1) (solid_of d n1) (solid_of new (number_after f n new c n)) (solid_ranked g n1 places_between)
+      relabelled_then First Rest (compacted_names f n new c) whole (solid_of f n) (solid_of g n1) (solid_of new (number_after f n new c n))
+      (solid_told f g n c.extracted c.places)
+      (relabelled_then (ranks.ranked_names g) Second Rest rest (solid_of g n1) (solid_of d n1) (solid_of new (number_after f n new c n))
+      (solid_ranked g n1 places_between)
       (solid_told d new n1 c.again places_dropped))
 
   -- ---- the verdict

@@ -11,7 +11,8 @@ use Rattle.solid_data.specs.declared.solid.FaceUse.{FaceUse}
 use Rattle.solid_data.specs.declared.solid.Shell.{Shell}
 use Rattle.extraction_laws.specs.Relabelled.{Names, IsRelabelledLoop, IsRelabelledFace, IsRelabelledShell, IsRelabelledEdge, IsRelabelled}
 
-zip_then : {A B C : Type 0} (P : A → B → Type 0) (Q : B → C → Type 0) (T : A → C → Type 0) → ((x : A) (y : B) (z : C) → P x y → Q y z → T x z) → (xs : List A) (ys : List B) (zs : List C) → AllZip P xs ys → AllZip Q ys zs → AllZip T xs zs
+zip_then : {A B C : Type 0} (P : A → B → Type 0) (Q : B → C → Type 0) (T : A → C → Type 0) → ((x : A) (y : B) (z : C) → P x y → Q y z → T x z)
+    → (xs : List A) (ys : List B) (zs : List C) → AllZip P xs ys → AllZip Q ys zs → AllZip T xs zs
 zip_then P Q T f [] [] [] h k = tt
 zip_then P Q T f [] [] (z ∷ zs) h k = absurd k
 zip_then P Q T f [] (y ∷ ys) zs h k = absurd h

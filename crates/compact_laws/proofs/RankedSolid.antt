@@ -17,12 +17,14 @@ use Rattle.solid_data.proofs.Members.{All-at, all_flat_map}
 use Rattle.entry_references.proofs.Marks.{same_test}
 use Rattle.brep_walk.specs.Places.{shells, faces, loops, tuples, edge_at, numbers}
 use Rattle.brep_numbering.specs.Keys.{Keys}
-use Rattle.brep_walk.specs.SolidOf.{edge_key, vertex_key, all_tuples, edge_named, ends_named, vertices_named, edge_keys, vertex_keys, use_by, loop_by, face_by, shell_by, numbered_by, edge_by, keys_of, solid_of}
+use Rattle.brep_walk.specs.SolidOf.{edge_key, vertex_key, all_tuples, edge_named, ends_named, vertices_named, edge_keys, vertex_keys, use_by, loop_by, face_by}
+use Rattle.brep_walk.specs.SolidOf.{shell_by, numbered_by, edge_by, keys_of, solid_of}
 use Rattle.list_compact.specs.Used.{rank, is_used_edge, is_used_vertex}
 use Rattle.list_compact.specs.Dropped.{edge_index, vertex_index, tuple_index, reindexed_tuple, reindexed_edge, dropped}
 use Rattle.list_compact.proofs.Ranks.{rank_apart}
 use Rattle.list_compact.proofs.UsedItems.{EdgeStill, VertexStill}
-use Rattle.list_compact.proofs.StillHold.{flat_same, numbers_all, KnownEdge, KnownUse, KnownTuple, SameLoop, SameFace, SameShell, SameSolid, faces_known, solid_holds}
+use Rattle.list_compact.proofs.StillHold.{flat_same, numbers_all, KnownEdge, KnownUse, KnownTuple, SameLoop, SameFace, SameShell, SameSolid, faces_known}
+use Rattle.list_compact.proofs.StillHold.{solid_holds}
 use Rattle.extraction_laws.specs.Relabelled.{Names, IsRelabelledLoop, IsRelabelledFace, IsRelabelledShell, IsRelabelledEdge, IsRelabelled}
 use Rattle.compact_laws.specs.Ranked.{IsRankedVertex, ranked_names, SolidIsRanked}
 use Rattle.extraction_laws.proofs.KeptPlaces.{flat_known}
@@ -32,14 +34,16 @@ use Rattle.extraction_laws.proofs.Zips.{zip_append}
 -- ---- lists
 
 -- the same items, what each gives renamed
-flat_renamed : {A C D : Type 0} (Known : A → Type 0) (F : A → List C) (G : A → List D) (rename : C → D) → ((x : A) → Known x → G x ≡ map rename (F x)) → (xs : List A) → AllByRecursion Known xs → flat_map G xs ≡ map rename (flat_map F xs)
+flat_renamed : {A C D : Type 0} (Known : A → Type 0) (F : A → List C) (G : A → List D) (rename : C → D) → ((x : A) → Known x → G x ≡ map rename (F x))
+    → (xs : List A) → AllByRecursion Known xs → flat_map G xs ≡ map rename (flat_map F xs)
 flat_renamed Known F G rename same [] known = refl
 flat_renamed Known F G rename same (x ∷ xs) known =
     ap (λ zs. zs ++ flat_map G xs) (same x known.0)
     ∙ (ap (λ zs. map rename (F x) ++ zs) (flat_renamed Known F G rename same xs known.1)
     ∙ sym (map-append rename (F x) (flat_map F xs)))
 
-zip_each : {A C D : Type 0} (Known : A → Type 0) (Q : C → D → Type 0) (u : A → C) (v : A → D) → ((x : A) → Known x → Q (u x) (v x)) → (xs : List A) → AllByRecursion Known xs → AllZip Q (map u xs) (map v xs)
+zip_each : {A C D : Type 0} (Known : A → Type 0) (Q : C → D → Type 0) (u : A → C) (v : A → D) → ((x : A) → Known x → Q (u x) (v x)) → (xs : List A)
+    → AllByRecursion Known xs → AllZip Q (map u xs) (map v xs)
 zip_each Known Q u v same [] all = tt
 zip_each Known Q u v same (x ∷ xs) all = (same x all.0, zip_each Known Q u v same xs all.1)
 
@@ -50,7 +54,13 @@ all_weaker P Q (x ∷ xs) f all = (f x all.0, all_weaker P Q xs f all.1)
 -- ---- what the records tell, by keys
 
 abbrev solid_by : Contents → ℕ → Keys → SolidData
-solid_by f n keys = record { entity = record { 0 = n }; shells = map (shell_by f keys) (shells f (pos n)); edges = flat_map (edge_by f keys) keys.edges; vertices = keys.vertices }
+solid_by f n keys = record {
+  entity = record { 0 = n };
+  shells = map (shell_by f keys) (shells f (pos n));
+  edges =
+      flat_map (edge_by f keys) keys.edges;
+  vertices = keys.vertices;
+}
 
 solid_is : (f : Contents) (n : ℕ) → solid_of f n ≡ solid_by f n (keys_of f (pos n))
 unfolding solid_of
@@ -117,7 +127,8 @@ module _ (g : Contents) where
         end = k.end;
       }
 
-  ranks_tell : (u : ℕ → ℕ → Bool) (e f i j : ℕ) → u e i ≡ true → u f j ≡ true → 1 ≤ i → 1 ≤ j → ((e == f) && (rank (u e) i == rank (u f) j)) ≡ ((e == f) && (i == j))
+  ranks_tell : (u : ℕ → ℕ → Bool) (e f i j : ℕ) → u e i ≡ true → u f j ≡ true → 1 ≤ i → 1 ≤ j → ((e == f) && (rank (u e) i == rank (u f) j))
+      ≡ ((e == f) && (i == j))
   ranks_tell u e f i j ui uj il jl = by_test (e == f) refl
     where
       by_test : (b : Bool) → (e == f) ≡ b → (b && (rank (u e) i == rank (u f) j)) ≡ (b && (i == j))
@@ -140,23 +151,28 @@ module _ (g : Contents) where
   edge_keys_known true z j k = tt
   edge_keys_known false z j k = (edge_known z j k, tt)
 
-  vertex_keys_known : (b : Bool) (z j : ℤ) → KnownUse g b z j → AllByRecursion KnownVertexKey (if b then vertex_key z j ∷ [] else ends_named (edge_at g z (entry_number j)))
+  vertex_keys_known : (b : Bool) (z j : ℤ) → KnownUse g b z j
+      → AllByRecursion KnownVertexKey (if b then vertex_key z j ∷ [] else ends_named (edge_at g z (entry_number j)))
   vertex_keys_known true z j k = (vertex_known z j k, tt)
   vertex_keys_known false z j k =
       let s : EdgeStill g z j = k.still in
-      subst (λ o. AllByRecursion KnownVertexKey (ends_named o)) (sym s.before) (vertex_known s.edge.start_list s.edge.start_index k.start, (vertex_known s.edge.end_list s.edge.end_index k.end, tt))
+      subst (λ o. AllByRecursion KnownVertexKey (ends_named o)) (sym s.before)
+      (vertex_known s.edge.start_list s.edge.start_index k.start, (vertex_known s.edge.end_list s.edge.end_index k.end, tt))
 
-  edges_named_new : (b : Bool) (z j : ℤ) → KnownUse g b z j → (if b then [] else edge_key z (tuple_index g b z j) ∷ []) ≡ map ranked_edge (if b then [] else edge_key z j ∷ [])
+  edges_named_new : (b : Bool) (z j : ℤ) → KnownUse g b z j → (if b then [] else edge_key z (tuple_index g b z j) ∷ [])
+      ≡ map ranked_edge (if b then [] else edge_key z j ∷ [])
   edges_named_new true z j k = refl
   edges_named_new false z j k = ap (λ key. key ∷ []) (edge_key_new z j k.still)
 
   vertices_named_new : (b : Bool) (z j : ℤ) → KnownUse g b z j
-      → (if b then vertex_key z (tuple_index g b z j) ∷ [] else ends_named (edge_at d z (entry_number (tuple_index g b z j)))) ≡ map ranked_vertex (if b then vertex_key z j ∷ [] else ends_named (edge_at g z (entry_number j)))
+      → (if b then vertex_key z (tuple_index g b z j) ∷ [] else ends_named (edge_at d z (entry_number (tuple_index g b z j))))
+      ≡ map ranked_vertex (if b then vertex_key z j ∷ [] else ends_named (edge_at g z (entry_number j)))
   vertices_named_new true z j k = ap (λ key. key ∷ []) (vertex_key_new z j k)
   vertices_named_new false z j k =
       let s : EdgeStill g z j = k.still in
       ap ends_named s.after
-      ∙ (ap (λ key. key ∷ vertex_key s.edge.end_list (vertex_index g s.edge.end_list s.edge.end_index) ∷ []) (vertex_key_new s.edge.start_list s.edge.start_index k.start)
+      ∙ (ap (λ key. key ∷ vertex_key s.edge.end_list (vertex_index g s.edge.end_list s.edge.end_index) ∷ [])
+      (vertex_key_new s.edge.start_list s.edge.start_index k.start)
       ∙ (ap (λ key. ranked_vertex (vertex_key s.edge.start_list s.edge.start_index) ∷ key ∷ []) (vertex_key_new s.edge.end_list s.edge.end_index k.end)
       ∙ ap (λ o. map ranked_vertex (ends_named o)) (sym s.before)))
 
@@ -177,14 +193,20 @@ module _ (g : Contents) where
     tuples_all : AllByRecursion (KnownTuple g) (all_tuples g n)
     tuples_all =
         all_flat_map (KnownTuple g) (tuples g) (flat_map (loops g) (flat_map (λ s. numbers (faces g s)) (numbers (shells g n))))
-        (λ l m. let k : SameLoop g l = All-at (SameLoop g) (flat_map (loops g) (flat_map (λ s. numbers (faces g s)) (numbers (shells g n)))) loops_all l m in k.uses)
+        (λ l m. let k : SameLoop g l = All-at (SameLoop g) (flat_map (loops g) (flat_map (λ s. numbers (faces g s)) (numbers (shells g n)))) loops_all l m
+        in k.uses)
 
     all_tuples_new : all_tuples d n ≡ map (reindexed_tuple g) (all_tuples g n)
     all_tuples_new =
         ap (λ is. flat_map (tuples d) (flat_map (loops d) (flat_map (λ s. numbers (faces d s)) (numbers is)))) known.same
-        ∙ (ap (λ zs. flat_map (tuples d) (flat_map (loops d) zs)) (flat_same (λ s. numbers (faces g s)) (λ s. numbers (faces d s)) (numbers (shells g n)) (all_weaker (SameShell g) (λ s. numbers (faces d s) ≡ numbers (faces g s)) (numbers (shells g n)) (λ s k. ap numbers k.same) shells_all))
-        ∙ (ap (λ zs. flat_map (tuples d) zs) (flat_same (loops g) (loops d) (flat_map (λ s. numbers (faces g s)) (numbers (shells g n))) (all_weaker (SameFace g) (λ c. loops d c ≡ loops g c) (flat_map (λ s. numbers (faces g s)) (numbers (shells g n))) (λ c k. k.same) faces_all))
-        ∙ flat_renamed (SameLoop g) (tuples g) (tuples d) (reindexed_tuple g) (λ l k. k.same) (flat_map (loops g) (flat_map (λ s. numbers (faces g s)) (numbers (shells g n)))) loops_all))
+        ∙ (ap (λ zs. flat_map (tuples d) (flat_map (loops d) zs))
+        (flat_same (λ s. numbers (faces g s)) (λ s. numbers (faces d s)) (numbers (shells g n))
+        (all_weaker (SameShell g) (λ s. numbers (faces d s) ≡ numbers (faces g s)) (numbers (shells g n)) (λ s k. ap numbers k.same) shells_all))
+        ∙ (ap (λ zs. flat_map (tuples d) zs)
+        (flat_same (loops g) (loops d) (flat_map (λ s. numbers (faces g s)) (numbers (shells g n)))
+        (all_weaker (SameFace g) (λ c. loops d c ≡ loops g c) (flat_map (λ s. numbers (faces g s)) (numbers (shells g n))) (λ c k. k.same) faces_all))
+        ∙ flat_renamed (SameLoop g) (tuples g) (tuples d) (reindexed_tuple g) (λ l k. k.same)
+        (flat_map (loops g) (flat_map (λ s. numbers (faces g s)) (numbers (shells g n)))) loops_all))
 
     edges_all : AllByRecursion KnownEdgeKey (flat_map edge_named (all_tuples g n))
     edges_all =
@@ -199,13 +221,17 @@ module _ (g : Contents) where
     edge_keys_new : edge_keys d n ≡ map ranked_edge (edge_keys g n)
     edge_keys_new =
         ap (λ ts. distinct same_edge (flat_map edge_named ts)) all_tuples_new
-        ∙ (ap (distinct same_edge) (flat_known (KnownTuple g) (reindexed_tuple g) edge_named edge_named ranked_edge (λ t k. edges_named_new t.is_vertex t.«list» t.index k) (all_tuples g n) tuples_all)
+        ∙ (ap (distinct same_edge)
+        (flat_known (KnownTuple g) (reindexed_tuple g) edge_named edge_named ranked_edge (λ t k. edges_named_new t.is_vertex t.«list» t.index k)
+        (all_tuples g n) tuples_all)
         ∙ distinct_renamed same_edge KnownEdgeKey ranked_edge same_edges (flat_map edge_named (all_tuples g n)) edges_all)
 
     vertex_keys_new : vertex_keys d n ≡ map ranked_vertex (vertex_keys g n)
     vertex_keys_new =
         ap (λ ts. distinct same_vertex (flat_map (vertices_named d) ts)) all_tuples_new
-        ∙ (ap (distinct same_vertex) (flat_known (KnownTuple g) (reindexed_tuple g) (vertices_named g) (vertices_named d) ranked_vertex (λ t k. vertices_named_new t.is_vertex t.«list» t.index k) (all_tuples g n) tuples_all)
+        ∙ (ap (distinct same_vertex)
+        (flat_known (KnownTuple g) (reindexed_tuple g) (vertices_named g) (vertices_named d) ranked_vertex
+        (λ t k. vertices_named_new t.is_vertex t.«list» t.index k) (all_tuples g n) tuples_all)
         ∙ distinct_renamed same_vertex KnownVertexKey ranked_vertex same_vertices (flat_map (vertices_named g) (all_tuples g n)) vertices_all)
 
     keys_new : keys_of d n ≡ ranked_keys (keys_of g n)
@@ -222,19 +248,23 @@ module _ (g : Contents) where
   -- ---- what is told by keys
 
   module _ (keys : Keys) (known_edges : AllByRecursion KnownEdgeKey keys.edges) (known_vertices : AllByRecursion KnownVertexKey keys.vertices) where
-    edge_place : (z j : ℤ) → KnownEdge g z j → place_of same_edge (map ranked_edge keys.edges) (edge_key z (edge_index g z j)) ≡ place_of same_edge keys.edges (edge_key z j)
+    edge_place : (z j : ℤ) → KnownEdge g z j → place_of same_edge (map ranked_edge keys.edges) (edge_key z (edge_index g z j))
+        ≡ place_of same_edge keys.edges (edge_key z j)
     edge_place z j k =
         ap (place_of same_edge (map ranked_edge keys.edges)) (edge_key_new z j k.still)
         ∙ place_renamed same_edge KnownEdgeKey ranked_edge same_edges keys.edges (edge_key z j) known_edges (edge_known z j k)
 
-    vertex_place : (z j : ℤ) → VertexStill g z j → place_of same_vertex (map ranked_vertex keys.vertices) (vertex_key z (vertex_index g z j)) ≡ place_of same_vertex keys.vertices (vertex_key z j)
+    vertex_place : (z j : ℤ) → VertexStill g z j → place_of same_vertex (map ranked_vertex keys.vertices) (vertex_key z (vertex_index g z j))
+        ≡ place_of same_vertex keys.vertices (vertex_key z j)
     vertex_place z j s =
         ap (place_of same_vertex (map ranked_vertex keys.vertices)) (vertex_key_new z j s)
         ∙ place_renamed same_vertex KnownVertexKey ranked_vertex same_vertices keys.vertices (vertex_key z j) known_vertices (vertex_known z j s)
 
     use_new : (b flag : Bool) (z j : ℤ) → KnownUse g b z j
-        → (if b then VertexUse (record { 0 = place_of same_vertex (map ranked_vertex keys.vertices) (vertex_key z (tuple_index g b z j)) }) else EdgeUse (record { 0 = place_of same_edge (map ranked_edge keys.edges) (edge_key z (tuple_index g b z j)) }) flag)
-        ≡ (if b then VertexUse (record { 0 = place_of same_vertex keys.vertices (vertex_key z j) }) else EdgeUse (record { 0 = place_of same_edge keys.edges (edge_key z j) }) flag)
+        → (if b then VertexUse (record { 0 = place_of same_vertex (map ranked_vertex keys.vertices) (vertex_key z (tuple_index g b z j)) }) else EdgeUse
+        (record { 0 = place_of same_edge (map ranked_edge keys.edges) (edge_key z (tuple_index g b z j)) }) flag)
+        ≡ (if b then VertexUse (record { 0 = place_of same_vertex keys.vertices (vertex_key z j) }) else EdgeUse
+        (record { 0 = place_of same_edge keys.edges (edge_key z j) }) flag)
     use_new true flag z j k = ap (λ m. VertexUse (record { 0 = m })) (vertex_place z j k)
     use_new false flag z j k = ap (λ m. EdgeUse (record { 0 = m }) flag) (edge_place z j k)
 
@@ -243,7 +273,8 @@ module _ (g : Contents) where
       entity = refl;
       uses =
           sym (ap (map (use_by (ranked_keys keys))) k.same
-          ∙ map_known (KnownTuple g) (reindexed_tuple g) (use_by keys) (use_by (ranked_keys keys)) (λ t m. use_new t.is_vertex t.flag t.«list» t.index m) (tuples g l) k.uses);
+          ∙ map_known (KnownTuple g) (reindexed_tuple g) (use_by keys) (use_by (ranked_keys keys)) (λ t m. use_new t.is_vertex t.flag t.«list» t.index m)
+          (tuples g l) k.uses);
     }
 
     face_new : (i : ℤ × Bool) → SameFace g i.0 → IsRelabelledFace N (face_by g keys i) (face_by d (ranked_keys keys) i)
@@ -261,7 +292,8 @@ module _ (g : Contents) where
       flag = refl;
       faces =
           subst (λ is. AllZip (IsRelabelledFace N) (map (face_by g keys) (faces g i.0)) (map (face_by d (ranked_keys keys)) is)) (sym k.same)
-          (zip_each (λ (c : ℤ × Bool). SameFace g c.0) (IsRelabelledFace N) (face_by g keys) (face_by d (ranked_keys keys)) face_new (faces g i.0) (from_numbers (faces g i.0) k.faces_same));
+          (zip_each (λ (c : ℤ × Bool). SameFace g c.0) (IsRelabelledFace N) (face_by g keys) (face_by d (ranked_keys keys)) face_new (faces g i.0)
+          (from_numbers (faces g i.0) k.faces_same));
     }
       where
         from_numbers : (items : List (ℤ × Bool)) → AllByRecursion (SameFace g) (numbers items) → AllByRecursion (λ (c : ℤ × Bool). SameFace g c.0) items
@@ -280,10 +312,12 @@ module _ (g : Contents) where
           tt,
         ))
 
-    edges_new : (ks : List EdgeKey) → AllByRecursion KnownEdgeKey ks → AllZip (IsRelabelledEdge N) (flat_map (edge_by g keys) ks) (flat_map (edge_by d (ranked_keys keys)) (map ranked_edge ks))
+    edges_new : (ks : List EdgeKey) → AllByRecursion KnownEdgeKey ks
+        → AllZip (IsRelabelledEdge N) (flat_map (edge_by g keys) ks) (flat_map (edge_by d (ranked_keys keys)) (map ranked_edge ks))
     edges_new [] all = tt
     edges_new (key ∷ ks) all =
-        zip_append (IsRelabelledEdge N) (edge_by g keys key) (flat_map (edge_by g keys) ks) (edge_by d (ranked_keys keys) (ranked_edge key)) (flat_map (edge_by d (ranked_keys keys)) (map ranked_edge ks))
+        zip_append (IsRelabelledEdge N) (edge_by g keys key) (flat_map (edge_by g keys) ks) (edge_by d (ranked_keys keys) (ranked_edge key))
+        (flat_map (edge_by d (ranked_keys keys)) (map ranked_edge ks))
         (one_edge_new key all.0) (edges_new ks all.1)
 
     vertices_new : (ks : List VertexKey) → AllByRecursion KnownVertexKey ks → AllZip (IsRankedVertex g) ks (map ranked_vertex ks)
@@ -295,7 +329,8 @@ module _ (g : Contents) where
       entity = refl;
       shells =
           subst (λ is. AllZip (IsRelabelledShell N) (map (shell_by g keys) (shells g (pos n))) (map (shell_by d (ranked_keys keys)) is)) (sym known.same)
-          (zip_each (λ (i : ℤ × Bool). SameShell g i.0) (IsRelabelledShell N) (shell_by g keys) (shell_by d (ranked_keys keys)) shell_new (shells g (pos n)) known.shells_same);
+          (zip_each (λ (i : ℤ × Bool). SameShell g i.0) (IsRelabelledShell N) (shell_by g keys) (shell_by d (ranked_keys keys)) shell_new (shells g (pos n))
+          known.shells_same);
       edges = edges_new keys.edges known_edges;
       vertices = vertices_new keys.vertices known_vertices;
     }

@@ -7,7 +7,8 @@ use Rattle.brep_walk.specs.SolidOf.{solid_of}
 use Rattle.solid_data.specs.Obligations.{Obligation, AllHold, FirstFalse}
 use Rattle.solid_data.specs.declared.verdict.Failing.{Failing}
 use Rattle.solid_data.specs.declared.verdict.Rule.{Rule}
-use Rattle.solid_data.specs.declared.verdict.Rule.TheVariants.{NoEntry, WrongKind, BadLayout, Twice, BadIndex, BadGeometry, Unjoined, Unpaired, Unreached, Unlinked, Shared}
+use Rattle.solid_data.specs.declared.verdict.Rule.TheVariants.{NoEntry, WrongKind, BadLayout, Twice, BadIndex, BadGeometry, Unjoined, Unpaired, Unreached}
+use Rattle.solid_data.specs.declared.verdict.Rule.TheVariants.{Unlinked, Shared}
 use Rattle.solid_data.proofs.ObligationLemmas.{AllHold-append, AllHold-append_right, FirstFalse-append_rest}
 use Rattle.shell_rules.specs.ShellObligations.{solid_obligations}
 use Rattle.list_compact.specs.Dropped.{dropped}
@@ -45,11 +46,14 @@ first_behind (p ∷ ps) qs x all (inr rest) = first_behind ps qs x all.1 rest.1
 pub verdict_ranked : VerdictIsRanked
 verdict_ranked g n all = record {
   all = (
-    λ h. AllHold-append (places (dropped g) n) (solid_obligations (solid_of (dropped g) n)) still (one.all.0 (AllHold-append_right (places g n) (solid_obligations (solid_of g n)) h)),
-    λ h. AllHold-append (places g n) (solid_obligations (solid_of g n)) all (one.all.1 (AllHold-append_right (places (dropped g) n) (solid_obligations (solid_of (dropped g) n)) h)),
+    λ h. AllHold-append (places (dropped g) n) (solid_obligations (solid_of (dropped g) n)) still
+        (one.all.0 (AllHold-append_right (places g n) (solid_obligations (solid_of g n)) h)),
+    λ h. AllHold-append (places g n) (solid_obligations (solid_of g n)) all
+        (one.all.1 (AllHold-append_right (places (dropped g) n) (solid_obligations (solid_of (dropped g) n)) h)),
   );
   fails = λ x bad.
-      FirstFalse-append_rest (places (dropped g) n) (solid_obligations (solid_of (dropped g) n)) (ranked_failing g x) still (one.fails x (first_behind (places g n) (solid_obligations (solid_of g n)) x all bad));
+      FirstFalse-append_rest (places (dropped g) n) (solid_obligations (solid_of (dropped g) n)) (ranked_failing g x) still
+      (one.fails x (first_behind (places g n) (solid_obligations (solid_of g n)) x all bad));
   only = λ y bad.
       let k = one.only y (first_behind (places (dropped g) n) (solid_obligations (solid_of (dropped g) n)) y still bad) in
       (k.0, k.1, FirstFalse-append_rest (places g n) (solid_obligations (solid_of g n)) k.0 all k.2);
@@ -59,4 +63,5 @@ verdict_ranked g n all = record {
     still = still_hold g n all
 
     one : KeepsVerdictAs (ranked_failing g) (solid_obligations (solid_of g n)) (solid_obligations (solid_of (dropped g) n))
-    one = keeps_as (AreNamedAlike (ranked_names g)) (ranked_failing g) (is_ranked g) (solid_obligations (solid_of g n)) (solid_obligations (solid_of (dropped g) n)) (solids_alike (ranked_names g) (solid_of g n) (solid_of (dropped g) n) (solid_ranked g n all))
+    one = keeps_as (AreNamedAlike (ranked_names g)) (ranked_failing g) (is_ranked g) (solid_obligations (solid_of g n))
+        (solid_obligations (solid_of (dropped g) n)) (solids_alike (ranked_names g) (solid_of g n) (solid_of (dropped g) n) (solid_ranked g n all))

@@ -33,10 +33,12 @@ dropped_writable f g n w x =
     record { made = dropped_made f g n w.made x; delims = old.delims; global_values = old.global_values; held = entries_held g 0 g.entries old.held }
 
 pub compacted_is_made : CompactedIsMade
-compacted_is_made f new n made c = extracted_is_made (dropped c.«between») new (number_between f n new c n) (dropped_made f c.«between» n made c.extracted) c.again
+compacted_is_made f new n made c = extracted_is_made (dropped c.«between») new (number_between f n new c n) (dropped_made f c.«between» n made c.extracted)
+    c.again
 
 pub compacted_is_writable : CompactedIsWritable
-compacted_is_writable f new n w c = extracted_is_writable (dropped c.«between») new (number_between f n new c n) (dropped_writable f c.«between» n w c.extracted) c.again
+compacted_is_writable f new n w c = extracted_is_writable (dropped c.«between») new (number_between f n new c n)
+    (dropped_writable f c.«between» n w c.extracted) c.again
 
 pub written_is_compacted : WrittenIsCompacted
 written_is_compacted bytes text f new n w =

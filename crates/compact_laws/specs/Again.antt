@@ -10,12 +10,16 @@ use Rattle.compact_laws.specs.Compacted.{number_after}
 
 -- A compacted file is what is extracted of it, and its places hold: it can be compacted again.
 abbrev pub CompactedIsExtracted : Type 0
-CompactedIsExtracted = (f : Contents) (n : ℕ) (new : Contents) (c : IsCompacted f n new) → IsExtracted new (number_after f n new c n) new × AllHold (places new (number_after f n new c n))
+CompactedIsExtracted = (f : Contents) (n : ℕ) (new : Contents) (c : IsCompacted f n new) → IsExtracted new (number_after f n new c n) new
+    × AllHold (places new (number_after f n new c n))
 
--- Compacted again it is what is extracted once its own unused items are dropped. There may be some: those that only loops used which the second extraction left out.
+-- Compacted again it is what is extracted once its own unused items are dropped. There may be some: those that only loops used which the second extraction left
+-- out.
 abbrev pub CompactedAgain : Type 0
-CompactedAgain = (f : Contents) (n : ℕ) (new : Contents) (c : IsCompacted f n new) (again : Contents) → IsCompacted new (number_after f n new c n) again ↔ IsExtracted (dropped new) (number_after f n new c n) again
+CompactedAgain = (f : Contents) (n : ℕ) (new : Contents) (c : IsCompacted f n new) (again : Contents)
+    → IsCompacted new (number_after f n new c n) again ↔ IsExtracted (dropped new) (number_after f n new c n) again
 
 -- Where there are none, it is the same file, and no other.
 abbrev pub CompactedStays : Type 0
-CompactedStays = (f : Contents) (n : ℕ) (new : Contents) (c : IsCompacted f n new) → dropped new ≡ new → (again : Contents) → IsCompacted new (number_after f n new c n) again ↔ again ≡ new
+CompactedStays = (f : Contents) (n : ℕ) (new : Contents) (c : IsCompacted f n new) → dropped new ≡ new → (again : Contents)
+    → IsCompacted new (number_after f n new c n) again ↔ again ≡ new

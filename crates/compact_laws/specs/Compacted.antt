@@ -52,15 +52,18 @@ compacted_verdict f n new c v = renamed_verdict c.again.kept (ranked_verdict c.�
 
 -- The compacted file describes the solid of the file, with each directory number renamed by the two extractions and each list index by its rank.
 abbrev pub SolidIsCompacted : Type 0
-SolidIsCompacted = (f : Contents) (n : ℕ) (new : Contents) (c : IsCompacted f n new) → IsRelabelled (compacted_names f n new c) (solid_of f n) (solid_of new (number_after f n new c n))
+SolidIsCompacted = (f : Contents) (n : ℕ) (new : Contents) (c : IsCompacted f n new)
+    → IsRelabelled (compacted_names f n new c) (solid_of f n) (solid_of new (number_after f n new c n))
 
 -- What is the verdict on the solid in its file is, with the entity renamed and the place by its rank, the verdict in the compacted one.
 abbrev pub VerdictIsCompacted : Type 0
-VerdictIsCompacted = (f : Contents) (n : ℕ) (new : Contents) (c : IsCompacted f n new) (v : Verdict) → IsVerdictOn f n v → IsVerdictOn new (number_after f n new c n) (compacted_verdict f n new c v)
+VerdictIsCompacted = (f : Contents) (n : ℕ) (new : Contents) (c : IsCompacted f n new) (v : Verdict) → IsVerdictOn f n v
+    → IsVerdictOn new (number_after f n new c n) (compacted_verdict f n new c v)
 
 -- Each verdict on it there is such a one.
 abbrev pub NoOtherVerdict : Type 0
-NoOtherVerdict = (f : Contents) (n : ℕ) (new : Contents) (c : IsCompacted f n new) (w : Verdict) → IsVerdictOn new (number_after f n new c n) w → (v : Verdict) × (w ≡ compacted_verdict f n new c v) × IsVerdictOn f n v
+NoOtherVerdict = (f : Contents) (n : ℕ) (new : Contents) (c : IsCompacted f n new) (w : Verdict) → IsVerdictOn new (number_after f n new c n) w
+    → (v : Verdict) × (w ≡ compacted_verdict f n new c v) × IsVerdictOn f n v
 
 -- It is closed in the one exactly where it is closed in the other.
 abbrev pub ClosedIsCompacted : Type 0

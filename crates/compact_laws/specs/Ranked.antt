@@ -46,4 +46,5 @@ ranked_failing g x = record x { place = ranked_place g x.rule x.entity.0 x.place
 
 -- So the solid has the verdict that it had, at the rank of the place.
 abbrev pub VerdictIsRanked : Type 0
-VerdictIsRanked = (g : Contents) (n : ℕ) → AllHold (places g n) → KeepsVerdictAs (ranked_failing g) (places g n ++ solid_obligations (solid_of g n)) (places (dropped g) n ++ solid_obligations (solid_of (dropped g) n))
+VerdictIsRanked = (g : Contents) (n : ℕ) → AllHold (places g n) → KeepsVerdictAs (ranked_failing g) (places g n ++ solid_obligations (solid_of g n))
+    (places (dropped g) n ++ solid_obligations (solid_of (dropped g) n))

@@ -34,14 +34,16 @@ pub joined_on : (pairs : List (ℕ × ℕ)) (a b c : ℕ) → AreJoined pairs a 
 joined_on pairs a b c h k = leads_trans (Linked pairs) a b c h.0 h.1 k
 
 -- one label is set to a lower one
-pub set_kept : (pairs : List (ℕ × ℕ)) (count : ℕ) (labels : List ℕ) (x v : ℕ) → AreLabels pairs count labels → x < count → v ≤ x → AreJoined pairs x v → AreLabels pairs count (slice_set labels x v)
+pub set_kept : (pairs : List (ℕ × ℕ)) (count : ℕ) (labels : List ℕ) (x v : ℕ) → AreLabels pairs count labels → x < count → v ≤ x → AreJoined pairs x v
+    → AreLabels pairs count (slice_set labels x v)
 set_kept pairs count labels x v h lt le joined = record {
   each = length-set labels x v ∙ h.each;
   low = λ y in_y. ⊎_elim
       (λ same. subst (λ z. get_or (slice_set labels x v) z 0 ≤ z) same.1 (subst (λ w. w ≤ x) (sym (set_same labels x v 0 (omega (arith, lt, h.each)))) le))
       (λ other. subst (λ w. w ≤ y) (sym (set_other labels x y v 0 other.1)) (h.low y in_y)) (eqb_tells x y);
   joined = λ y in_y. ⊎_elim
-      (λ same. subst (λ z. AreJoined pairs z (get_or (slice_set labels x v) z 0)) same.1 (subst (λ w. AreJoined pairs x w) (sym (set_same labels x v 0 (omega (arith, lt, h.each)))) joined))
+      (λ same. subst (λ z. AreJoined pairs z (get_or (slice_set labels x v) z 0)) same.1
+      (subst (λ w. AreJoined pairs x w) (sym (set_same labels x v 0 (omega (arith, lt, h.each)))) joined))
       (λ other. subst (λ w. AreJoined pairs y w) (sym (set_other labels x y v 0 other.1)) (h.joined y in_y)) (eqb_tells x y);
 }
 
@@ -60,7 +62,8 @@ hung_other : (labels : List ℕ) (x v y : ℕ) (f : ℕ → ℕ) → x ≢ y →
 hung_other labels x v y f apart in_y even = sym (ap f (set_other labels x y v 0 apart)) ∙ even y (omega (arith, in_y, length-set labels x v))
 
 -- x hangs one step higher: where its label hangs
-climbed_even : (labels : List ℕ) (x : ℕ) (f : ℕ → ℕ) → AreTrees labels → x < length labels → IsEven (slice_set labels x (get_or labels (get_or labels x 0) 0)) f → f (get_or labels x 0) ≡ f x
+climbed_even : (labels : List ℕ) (x : ℕ) (f : ℕ → ℕ) → AreTrees labels → x < length labels
+    → IsEven (slice_set labels x (get_or labels (get_or labels x 0) 0)) f → f (get_or labels x 0) ≡ f x
 climbed_even labels x f trees in_x even =
     let l : ℕ = get_or labels x 0 in
     let t : ℕ = get_or labels l 0 in
@@ -76,7 +79,8 @@ climbed labels x trees in_x =
     record {
       each = length-set labels x t;
       low = set_trees labels x t trees in_x le;
-      kept = λ f even y in_y. ⊎_elim (λ same. subst (λ z. f (get_or labels z 0) ≡ f z) same.1 (climbed_even labels x f trees in_x even)) (λ other. hung_other labels x t y f other.1 in_y even) (eqb_tells x y);
+      kept = λ f even y in_y. ⊎_elim (λ same. subst (λ z. f (get_or labels z 0) ≡ f z) same.1 (climbed_even labels x f trees in_x even))
+          (λ other. hung_other labels x t y f other.1 in_y even) (eqb_tells x y);
       labels = λ pairs h. set_kept pairs (length labels) labels x t h in_x le (joined_on pairs x l t (h.joined x in_x) (h.joined l in_l));
     }
 
@@ -108,14 +112,16 @@ pub way_on : (old new : List ℕ) (x at to : ℕ) → AreRehung old new → new 
 way_on old new x at to h set in_at one f even =
     one f (h.kept f even) ∙ sym (hung_alike old at to f in_at (subst (λ ls. IsEven ls f) set even))
 
-pub way_joined : (pairs : List (ℕ × ℕ)) (old new : List ℕ) (n x at to : ℕ) → AreLabels pairs n new → new ≡ slice_set old at to → at < n → n ≡ length old → AreJoined pairs x at → AreJoined pairs x to
+pub way_joined : (pairs : List (ℕ × ℕ)) (old new : List ℕ) (n x at to : ℕ) → AreLabels pairs n new → new ≡ slice_set old at to → at < n → n ≡ length old
+    → AreJoined pairs x at → AreJoined pairs x to
 way_joined pairs old new n x at to h set in_at long joined =
     let label : get_or new at 0 ≡ to = ap (λ ls. get_or ls at 0) set ∙ set_same old at to 0 (omega (arith, in_at, long)) in
     joined_on pairs x at to joined (subst (λ y. AreJoined pairs at y) label (h.joined at in_at))
 
 -- after both ways, the top x of one node hangs at the top v of the other
 pub hung : (old mid new : List ℕ) (a b x v : ℕ) → AreRehung old mid → get_or mid x 0 ≡ x → x < length old → v ≤ x → AreInOneTree mid a x → AreInOneTree mid b v
-    → ((pairs : List (ℕ × ℕ)) → AreLabels pairs (length old) old → AreJoined pairs a x) → ((pairs : List (ℕ × ℕ)) → AreLabels pairs (length old) old → AreJoined pairs b v)
+    → ((pairs : List (ℕ × ℕ)) → AreLabels pairs (length old) old → AreJoined pairs a x)
+    → ((pairs : List (ℕ × ℕ)) → AreLabels pairs (length old) old → AreJoined pairs b v)
     → new ≡ slice_set mid x v → AreHung old new a b
 hung old mid new a b x v h top in_x le one_a one_b to_x to_v set =
     let in_mid : x < length mid = omega (arith, in_x, h.each) in
@@ -128,14 +134,24 @@ hung old mid new a b x v h top in_x le one_a one_b to_x to_v set =
       kept = λ f even. h.kept f (kept f even);
       one_tree = λ f even. one_a f (kept f even) ∙ (sym (hung_alike mid x v f in_mid (subst (λ ls. IsEven ls f) set even)) ∙ sym (one_b f (kept f even)));
       labels = λ pairs link m. subst (AreLabels pairs (length old)) (sym set)
-          (set_kept pairs (length old) mid x v (h.labels pairs m) in_x le (joined_on pairs x a v (joined_back pairs a x (to_x pairs m)) (leads_one (Linked pairs) a b v link (to_v pairs m))));
+          (set_kept pairs (length old) mid x v (h.labels pairs m) in_x le
+          (joined_on pairs x a v (joined_back pairs a x (to_x pairs m)) (leads_one (Linked pairs) a b v link (to_v pairs m))));
     }
 
 pub hung_back : (old new : List ℕ) (a b : ℕ) → AreHung old new b a → AreHung old new a b
-hung_back old new a b h = record { each = h.each; low = h.low; kept = h.kept; one_tree = λ f even. sym (h.one_tree f even); labels = λ pairs link. h.labels pairs (linked_back pairs a b link) }
+hung_back old new a b h =
+    record {
+      each = h.each;
+      low = h.low;
+      kept = h.kept;
+      one_tree = λ f even. sym (h.one_tree f even);
+      labels =
+          λ pairs link. h.labels pairs (linked_back pairs a b link);
+    }
 
 -- where all hang at tops, nodes of one tree are marked alike
-pub settled_alike : (labels : List ℕ) (count a b : ℕ) → length labels ≡ count → AreSettled labels count → AreInOneTree labels a b → get_or labels a 0 ≡ get_or labels b 0
+pub settled_alike : (labels : List ℕ) (count a b : ℕ) → length labels ≡ count → AreSettled labels count → AreInOneTree labels a b
+    → get_or labels a 0 ≡ get_or labels b 0
 settled_alike labels count a b long settled one = one (λ x. get_or labels x 0) (λ x in_x. settled x (omega (arith, in_x, long)))
 
 -- where the label of i's label is a top
@@ -149,9 +165,11 @@ label_top old i to trees in_i before is apart =
 
 set_to : (old : List ℕ) (i to : ℕ) → i < length old → (i ≢ to → get_or old to 0 ≡ to) → get_or (slice_set old i to) to 0 ≡ to
 set_to old i to in_i top =
-    ⊎_elim (λ same. subst (λ z. get_or (slice_set old i to) z 0 ≡ to) same.1 (set_same old i to 0 in_i)) (λ other. set_other old i to to 0 other.1 ∙ top other.1) (eqb_tells i to)
+    ⊎_elim (λ same. subst (λ z. get_or (slice_set old i to) z 0 ≡ to) same.1 (set_same old i to 0 in_i))
+    (λ other. set_other old i to to 0 other.1 ∙ top other.1) (eqb_tells i to)
 
-settled_other : (old : List ℕ) (i to x : ℕ) → AreTrees old → i < length old → AreSettled old i → x < i → get_or (slice_set old i to) (get_or (slice_set old i to) x 0) 0 ≡ get_or (slice_set old i to) x 0
+settled_other : (old : List ℕ) (i to x : ℕ) → AreTrees old → i < length old → AreSettled old i → x < i
+    → get_or (slice_set old i to) (get_or (slice_set old i to) x 0) 0 ≡ get_or (slice_set old i to) x 0
 settled_other old i to x trees in_i before low =
     let apart : i ≢ x = λ e. absurd (omega (arith, e, low)) in
     let below : get_or old x 0 ≤ x = trees x (omega (arith, low, in_i)) in
@@ -160,13 +178,15 @@ settled_other old i to x trees in_i before low =
     ap (λ n. get_or (slice_set old i to) n 0) label ∙ (set_other old i (get_or old x 0) to 0 apart_label ∙ (before x low ∙ sym label))
 
 -- one node more hangs at a top
-pub settled_more : (old new : List ℕ) (i to : ℕ) → AreTrees old → i < length old → AreSettled old i → to ≡ get_or old (get_or old i 0) 0 → new ≡ slice_set old i to → AreSettled new (i + 1)
+pub settled_more : (old new : List ℕ) (i to : ℕ) → AreTrees old → i < length old → AreSettled old i → to ≡ get_or old (get_or old i 0) 0
+    → new ≡ slice_set old i to → AreSettled new (i + 1)
 settled_more old new i to trees in_i before is set x in_x =
     let there : get_or (slice_set old i to) to 0 ≡ to = set_to old i to in_i (label_top old i to trees in_i before is) in
     let at_i : get_or (slice_set old i to) i 0 ≡ to = set_same old i to 0 in_i in
     subst (λ ls. get_or ls (get_or ls x 0) 0 ≡ get_or ls x 0) (sym set)
     (⊎_elim
-    (λ same. subst (λ z. get_or (slice_set old i to) (get_or (slice_set old i to) z 0) 0 ≡ get_or (slice_set old i to) z 0) same.1 (ap (λ n. get_or (slice_set old i to) n 0) at_i ∙ (there ∙ sym at_i)))
+    (λ same. subst (λ z. get_or (slice_set old i to) (get_or (slice_set old i to) z 0) 0 ≡ get_or (slice_set old i to) z 0) same.1
+    (ap (λ n. get_or (slice_set old i to) n 0) at_i ∙ (there ∙ sym at_i)))
     (λ other. settled_other old i to x trees in_i before (omega (arith, in_x, other.1)))
     (eqb_tells i x))
 
@@ -174,19 +194,23 @@ pub numbers_are_labels : (pairs : List (ℕ × ℕ)) (count : ℕ) → AreLabels
 numbers_are_labels pairs count = record {
   each = length-numbers 0 count;
   low = λ x lt. omega (arith, number_get 0 count x 0 lt);
-  joined = λ x lt. let e : x ≡ get_or (numbers_from 0 count) x 0 = omega (arith, number_get 0 count x 0 lt) in subst (λ y. AreJoined pairs x y) e (leads_here (Linked pairs) x);
+  joined = λ x lt. let e : x ≡ get_or (numbers_from 0 count) x 0 = omega (arith, number_get 0 count x 0 lt) in subst (λ y. AreJoined pairs x y) e
+      (leads_here (Linked pairs) x);
 }
 
 -- Joined nodes are marked alike.
 
-linked_same : (pairs : List (ℕ × ℕ)) (count : ℕ) (labels : List ℕ) (a b : ℕ) → AreComponents pairs count labels → Linked pairs a b → get_or labels a 0 ≡ get_or labels b 0
+linked_same : (pairs : List (ℕ × ℕ)) (count : ℕ) (labels : List ℕ) (a b : ℕ) → AreComponents pairs count labels → Linked pairs a b
+    → get_or labels a 0 ≡ get_or labels b 0
 linked_same pairs count labels a b h link = ⊎_elim (λ x. h.settled a b x) (λ y. sym (h.settled b a y)) link
 
 linked_inside : (pairs : List (ℕ × ℕ)) (count a b : ℕ) → AreInside pairs count → Linked pairs a b → b < count
 linked_inside pairs count a b inside link =
-    ⊎_elim (λ x. (All-at (λ (p : ℕ × ℕ). (p.0 < count) × (p.1 < count)) pairs inside (a, b) x).1) (λ y. (All-at (λ (p : ℕ × ℕ). (p.0 < count) × (p.1 < count)) pairs inside (b, a) y).0) link
+    ⊎_elim (λ x. (All-at (λ (p : ℕ × ℕ). (p.0 < count) × (p.1 < count)) pairs inside (a, b) x).1)
+    (λ y. (All-at (λ (p : ℕ × ℕ). (p.0 < count) × (p.1 < count)) pairs inside (b, a) y).0) link
 
-same_steps : (pairs : List (ℕ × ℕ)) (count : ℕ) (labels : List ℕ) (n a b : ℕ) → AreComponents pairs count labels → Steps (Linked pairs) n a b → get_or labels a 0 ≡ get_or labels b 0
+same_steps : (pairs : List (ℕ × ℕ)) (count : ℕ) (labels : List ℕ) (n a b : ℕ) → AreComponents pairs count labels → Steps (Linked pairs) n a b
+    → get_or labels a 0 ≡ get_or labels b 0
 same_steps pairs count labels zero a b h e = ap (λ x. get_or labels x 0) e
 same_steps pairs count labels (suc n) a b h (c, link, rest) = linked_same pairs count labels a c h link ∙ same_steps pairs count labels n c b h rest
 
@@ -195,7 +219,8 @@ inside_steps pairs count zero a b inside lt e = subst (λ x. x < count) e lt
 inside_steps pairs count (suc n) a b inside lt (c, link, rest) = inside_steps pairs count n c b inside (linked_inside pairs count a c inside link) rest
 
 -- so each is marked by the least of them
-pub least_of_joined : (pairs : List (ℕ × ℕ)) (count : ℕ) (labels : List ℕ) (a b : ℕ) → AreInside pairs count → AreComponents pairs count labels → a < count → AreJoined pairs a b → get_or labels a 0 ≤ b
+pub least_of_joined : (pairs : List (ℕ × ℕ)) (count : ℕ) (labels : List ℕ) (a b : ℕ) → AreInside pairs count → AreComponents pairs count labels → a < count
+    → AreJoined pairs a b → get_or labels a 0 ≤ b
 least_of_joined pairs count labels a b inside h lt joined =
     omega (arith, same_steps pairs count labels joined.0 a b h joined.1, h.marks.low b (inside_steps pairs count joined.0 a b inside lt joined.1))
 
@@ -203,14 +228,16 @@ pub number_pushed_last : (i : ℕ) (out new : List ℕ) → out ≡ numbers_from
 number_pushed_last i out new h e = let z : i ≡ 0 + i = omega arith in number_pushed out [] new 0 i h (e ∙ ap (λ n. out ++ n ∷ []) z)
 
 -- what is shown of each pair up to the end is shown of all
-pub all_joined : (pairs : List (ℕ × ℕ)) (labels : List ℕ) (i : ℕ) → length pairs ≤ i → ((j : ℕ) (p : ℕ × ℕ) → j < i → slice_get pairs j ≡ Some p → AreInOneTree labels p.0 p.1)
+pub all_joined : (pairs : List (ℕ × ℕ)) (labels : List ℕ) (i : ℕ) → length pairs ≤ i
+    → ((j : ℕ) (p : ℕ × ℕ) → j < i → slice_get pairs j ≡ Some p → AreInOneTree labels p.0 p.1)
     → (a b : ℕ) → Has pairs (a, b) → AreInOneTree labels a b
 all_joined pairs labels i past h a b has =
     let k = has_place pairs (a, b) has in
     h k.0 (a, b) (omega (arith, slice_get_within pairs k.0 (a, b) k.1, past)) k.1
 
 -- one pair more is in one tree
-pub pair_joined : (pairs : List (ℕ × ℕ)) (old new : List ℕ) (i : ℕ) (pair : ℕ × ℕ) → slice_get pairs i ≡ Some pair → AreInOneTree new pair.0 pair.1 → ((f : ℕ → ℕ) → IsEven new f → IsEven old f)
+pub pair_joined : (pairs : List (ℕ × ℕ)) (old new : List ℕ) (i : ℕ) (pair : ℕ × ℕ) → slice_get pairs i ≡ Some pair → AreInOneTree new pair.0 pair.1
+    → ((f : ℕ → ℕ) → IsEven new f → IsEven old f)
     → ((j : ℕ) (p : ℕ × ℕ) → j < i → slice_get pairs j ≡ Some p → AreInOneTree old p.0 p.1)
     → (j : ℕ) (p : ℕ × ℕ) → j < i + 1 → slice_get pairs j ≡ Some p → AreInOneTree new p.0 p.1
 pair_joined pairs old new i pair at here kept before j p lt at_j =
@@ -222,7 +249,8 @@ pair_joined pairs old new i pair at here kept before j p lt at_j =
     (eqb_tells j i)
 
 -- where all pairs are in one tree, and then each node hangs at its top
-pub joined_components : (pairs : List (ℕ × ℕ)) (count : ℕ) (old mid new : List ℕ) → length old ≡ count → AreLabels pairs (length old) mid → ((a b : ℕ) → Has pairs (a, b) → AreInOneTree mid a b) → AreRehung mid new → AreSettled new (length mid)
+pub joined_components : (pairs : List (ℕ × ℕ)) (count : ℕ) (old mid new : List ℕ) → length old ≡ count → AreLabels pairs (length old) mid
+    → ((a b : ℕ) → Has pairs (a, b) → AreInOneTree mid a b) → AreRehung mid new → AreSettled new (length mid)
     → AreComponents pairs count new
 joined_components pairs count old mid new long kept one rehung settled = record {
   marks = subst (λ n. AreLabels pairs n new) (kept.each ∙ long) (rehung.labels pairs (subst (λ n. AreLabels pairs n mid) (sym kept.each) kept));

@@ -1,5 +1,6 @@
 -- The vertices that appear in the first shells are the ones below a number.
-use Rattle.std.specs.Prelude.{◌≡◌, ◌<◌, ◌≤◌, ◌+◌, ◌-◌, ◌==◌, ◌⊎◌, ℕ, zero, suc, Bool, not, List, [], ◌∷◌, ◌++◌, length, map, flat_map, filter, max, take, drop, slice_get, slice_index, Some, None}
+use Rattle.std.specs.Prelude.{◌≡◌, ◌<◌, ◌≤◌, ◌+◌, ◌-◌, ◌==◌, ◌⊎◌, ℕ, zero, suc, Bool, not, List, [], ◌∷◌, ◌++◌, length, map, flat_map, filter, max, take, drop}
+use Rattle.std.specs.Prelude.{slice_get, slice_index, Some, None}
 use Rattle.std.specs.List.{AllByRecursion, enumerate_from}
 use Rattle.std.specs.List.Sorted.{IsStrictlyIncreasing}
 use Rattle.std.proofs.Common.{refl, sym, ◌∙◌, ap, subst, arith, inl, inr, ⊎_elim, append_assoc, get_or}
@@ -33,10 +34,12 @@ above-append [] ys = omega arith
 above-append (x ∷ xs) ys = omega (arith, above-append xs ys)
 
 -- what is found so far, and what is left
-pub above_more : {A : Type 0} (f : A → List ℕ) (xs : List A) (x : A) (i old new all : ℕ) → i < length xs → get_or xs i x ≡ x → max old (above_of (flat_map f (drop i xs))) ≡ all
+pub above_more : {A : Type 0} (f : A → List ℕ) (xs : List A) (x : A) (i old new all : ℕ) → i < length xs → get_or xs i x ≡ x
+    → max old (above_of (flat_map f (drop i xs))) ≡ all
     → new ≡ max old (above_of (f x)) → max new (above_of (flat_map f (drop (i + 1) xs))) ≡ all
 above_more f xs x i old new all lt at h n =
-    let e : above_of (flat_map f (drop i xs)) ≡ above_of (f x ++ flat_map f (drop (i + 1) xs)) = ap (λ ys. above_of (flat_map f ys)) (split_drop xs x i lt at) in
+    let e : above_of (flat_map f (drop i xs)) ≡ above_of (f x ++ flat_map f (drop (i + 1) xs)) = ap (λ ys. above_of (flat_map f ys)) (split_drop xs x i lt at)
+    in
     omega (arith, h, n, e, above-append (f x) (flat_map f (drop (i + 1) xs)))
 
 pub above_done : {A : Type 0} (f : A → List ℕ) (xs : List A) (i now all : ℕ) → length xs ≤ i → max now (above_of (flat_map f (drop i xs))) ≡ all → now ≡ all
@@ -47,13 +50,18 @@ above_done f xs i now all past h =
 -- The vertices of a shell, face by face.
 
 loops_flat : (s : SolidData) (face : ℕ) (flag : Bool) (i : ℕ) (ls : List Loop)
-    → flat_map (vertices_used s) (flat_map uses_in (map (λ (l : ℕ × Loop). record { at = record { face = record { 0 = face }; place = l.0 }; forwards = flag; loop = l.1 }) (enumerate_from i ls))) ≡ flat_map (loop_vertices s) ls
+    → flat_map (vertices_used s)
+    (flat_map uses_in (map (λ (l : ℕ × Loop). record { at = record { face = record { 0 = face }; place = l.0 }; forwards = flag; loop = l.1 })
+    (enumerate_from i ls))) ≡ flat_map (loop_vertices s) ls
 loops_flat s face flag i [] = refl
 loops_flat s face flag i (l ∷ ls) =
-    let rest : List LoopUse = flat_map uses_in (map (λ (l : ℕ × Loop). record { at = record { face = record { 0 = face }; place = l.0 }; forwards = flag; loop = l.1 }) (enumerate_from (i + 1) ls)) in
+    let rest : List LoopUse =
+    flat_map uses_in (map (λ (l : ℕ × Loop). record { at = record { face = record { 0 = face }; place = l.0 }; forwards = flag; loop = l.1 })
+    (enumerate_from (i + 1) ls)) in
     flat_map-append (vertices_used s) l.uses rest ∙ ap (λ vs. loop_vertices s l ++ vs) (loops_flat s face flag (i + 1) ls)
 
-faces_flat : (s : SolidData) (flag : Bool) (i : ℕ) (fs : List FaceUse) → flat_map (vertices_used s) (flat_map uses_in (flat_map (placed_in_face flag) (enumerate_from i fs))) ≡ flat_map (face_vertices s) fs
+faces_flat : (s : SolidData) (flag : Bool) (i : ℕ) (fs : List FaceUse)
+    → flat_map (vertices_used s) (flat_map uses_in (flat_map (placed_in_face flag) (enumerate_from i fs))) ≡ flat_map (face_vertices s) fs
 faces_flat s flag i [] = refl
 faces_flat s flag i (f ∷ fs) =
     let here : List PlacedLoop = placed_in_face flag (i, f) in
@@ -66,7 +74,8 @@ faces_flat s flag i (f ∷ fs) =
 pub shell_flat : (s : SolidData) (h : Shell) → shell_vertices s h ≡ faces_vertices s h
 shell_flat s h = faces_flat s h.flag 0 h.faces
 
-pub shells_more : (s : SolidData) (hs : List Shell) (k : ℕ) (h : Shell) → slice_get hs k ≡ Some h → flat_map (shell_vertices s) (take (k + 1) hs) ≡ flat_map (shell_vertices s) (take k hs) ++ shell_vertices s h
+pub shells_more : (s : SolidData) (hs : List Shell) (k : ℕ) (h : Shell) → slice_get hs k ≡ Some h → flat_map (shell_vertices s) (take (k + 1) hs)
+    ≡ flat_map (shell_vertices s) (take k hs) ++ shell_vertices s h
 shells_more s [] k h at = absurd cc
 shells_more s (x ∷ hs) zero h at = append-nil (shell_vertices s x) ∙ ap (λ y. shell_vertices s y) (same_Some x h at)
 shells_more s (x ∷ hs) (suc k) h at =
@@ -75,10 +84,12 @@ shells_more s (x ∷ hs) (suc k) h at =
     ∙ (ap (λ ys. shell_vertices s x ++ ys) (shells_more s hs k h at)
     ∙ sym (append_assoc (shell_vertices s x) (flat_map (shell_vertices s) (take k hs)) (shell_vertices s h)))
 
-pub above_next : (s : SolidData) (k old new : ℕ) (h : Shell) → slice_get s.shells k ≡ Some h → old ≡ above_of (flat_map (shell_vertices s) (take k s.shells)) → new ≡ max old (above_of (shell_vertices s h))
+pub above_next : (s : SolidData) (k old new : ℕ) (h : Shell) → slice_get s.shells k ≡ Some h → old ≡ above_of (flat_map (shell_vertices s) (take k s.shells))
+    → new ≡ max old (above_of (shell_vertices s h))
     → new ≡ above_of (flat_map (shell_vertices s) (take (k + 1) s.shells))
 above_next s k old new h at is n =
-    let e : above_of (flat_map (shell_vertices s) (take (k + 1) s.shells)) ≡ above_of (flat_map (shell_vertices s) (take k s.shells) ++ shell_vertices s h) = ap above_of (shells_more s s.shells k h at) in
+    let e : above_of (flat_map (shell_vertices s) (take (k + 1) s.shells)) ≡ above_of (flat_map (shell_vertices s) (take k s.shells) ++ shell_vertices s h) =
+    ap above_of (shells_more s s.shells k h at) in
     omega (arith, is, n, e, above-append (flat_map (shell_vertices s) (take k s.shells)) (shell_vertices s h))
 
 -- What is below that number, where numbers go by first appearance.
@@ -153,7 +164,8 @@ above_is s k n h = both (top (above_of xs) refl) (low n refl)
 
     top : (m : ℕ) → above_of xs ≡ m → m ≤ n
     top zero e = omega arith
-    top (suc g) e = let one : above_of xs ≡ g + 1 = omega (arith, e) in let lt : g < n = (h g).0 (Contains-from_Has xs g (greatest_has xs g one)) in omega (arith, lt)
+    top (suc g) e = let one : above_of xs ≡ g + 1 = omega (arith, e) in let lt : g < n = (h g).0 (Contains-from_Has xs g (greatest_has xs g one)) in omega
+        (arith, lt)
 
     low : (m : ℕ) → n ≡ m → n ≤ above_of xs
     low zero e = omega (arith, e)
@@ -175,7 +187,8 @@ rows_above s h numbered has =
     (λ v m. from_occurring (numbers_from 0 (length s.vertices)) (shell_vertices s h) v m)
     (λ v m. occurs (length s.vertices) (shell_vertices s h) v (vertices_known s h numbered has v m) m)
 
-pub next_below : (s : SolidData) (k n new : ℕ) (d : ShellRows) → IsNumberedSolid s → k < length s.shells → AreBelow s k n → d ≡ rows_of s (slice_get s.shells k) → new ≡ max n (above_of d.vertices) → AreBelow s (k + 1) new
+pub next_below : (s : SolidData) (k n new : ℕ) (d : ShellRows) → IsNumberedSolid s → k < length s.shells → AreBelow s k n
+    → d ≡ rows_of s (slice_get s.shells k) → new ≡ max n (above_of d.vertices) → AreBelow s (k + 1) new
 next_below s k n new d numbered lt below rows is =
     let at = get_some s.shells k lt in
     let same : above_of d.vertices ≡ above_of (shell_vertices s at.0) =
@@ -231,12 +244,16 @@ none_above (x ∷ xs) e =
 pub apart_below : (s : SolidData) (k n v : ℕ) → AreBelow s k n → n ≤ v → IsApart s k v
 apart_below s k n v h le c = let lt : v < n = (h v).0 c in omega (arith, lt, le)
 
-pub none_shared : (s : SolidData) (k n least : ℕ) (vs : List ℕ) → IsStrictlyIncreasing vs → AreBelow s k n → slice_get vs 0 ≡ Some least → n ≤ least → AllByRecursion (IsApart s k) vs
+pub none_shared : (s : SolidData) (k n least : ℕ) (vs : List ℕ) → IsStrictlyIncreasing vs → AreBelow s k n → slice_get vs 0 ≡ Some least → n ≤ least
+    → AllByRecursion (IsApart s k) vs
 none_shared s k n least [] rise h e le = tt
 none_shared s k n least (v ∷ vs) rise h e le =
     let same : v ≡ least = same_Some v least e in
-    let r = rises (v ∷ vs) rise in
-    (apart_below s k n v h (omega (arith, same, le)), All-from (IsApart s k) vs (λ x m. let lt : v < x = all_has (λ z. v < z) vs x r.0 m in apart_below s k n x h (omega (arith, same, le, lt))))
+    let r = rises (v ∷ vs) rise in (
+      apart_below s k n v h (omega (arith, same, le)),
+      All-from (IsApart s k) vs
+          (λ x m. let lt : v < x = all_has (λ z. v < z) vs x r.0 m in apart_below s k n x h (omega (arith, same, le, lt))),
+    )
 
 pub least_shared : (s : SolidData) (k n least : ℕ) (vs : List ℕ) → AreBelow s k n → slice_get vs 0 ≡ Some least → least < n → FirstNot (IsApart s k) vs least
 least_shared s k n least [] h e lt = absurd cc

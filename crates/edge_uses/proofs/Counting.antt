@@ -31,11 +31,13 @@ pub mark-same : (k e : ℕ) → e ≡ k → mark k e ≡ 1
 mark-same k e same = ⊎_elim (λ y. ap (λ b. cond b 1 0) y.0) (λ n. absurd (n.1 (sym same))) (eqb_tells k e)
 
 mark-most : (k e : ℕ) → mark k e ≤ 1
-mark-most k e = ⊎_elim (λ same. let h : mark k e ≡ 1 = ap (λ b. cond b 1 0) same.0 in omega (arith, h)) (λ other. let h : mark k e ≡ 0 = ap (λ b. cond b 1 0) other.0 in omega (arith, h)) (eqb_tells k e)
+mark-most k e = ⊎_elim (λ same. let h : mark k e ≡ 1 = ap (λ b. cond b 1 0) same.0 in omega (arith, h))
+    (λ other. let h : mark k e ≡ 0 = ap (λ b. cond b 1 0) other.0 in omega (arith, h)) (eqb_tells k e)
 
 marks-none : (k : ℕ) (es : List ℕ) → (Has es k → ⊥) → total (mark k) es ≡ 0
 marks-none k [] without = refl
-marks-none k (e ∷ es) without = let here = mark-other k e (λ h. without (inl h)) in let there = marks-none k es (λ h. without (inr h)) in omega (arith, here, there)
+marks-none k (e ∷ es) without = let here = mark-other k e (λ h. without (inl h)) in let there = marks-none k es (λ h. without (inr h)) in omega
+    (arith, here, there)
 
 marks-most : (k : ℕ) (es : List ℕ) → NoRepeat es → total (mark k) es ≤ 1
 marks-most k [] none = omega arith
@@ -85,7 +87,8 @@ counts_of_edge d e =
     let a = count_by-total (λ (r : Row). (r.edge.0 == e) && r.along) d.rows in
     let b = count_by-total (λ (r : Row). (r.edge.0 == e) && not r.along) d.rows in
     let both = total-plus (λ (r : Row). cond ((r.edge.0 == e) && r.along) 1 0) (λ (r : Row). cond ((r.edge.0 == e) && not r.along) 1 0) d.rows in
-    let one = total-same (λ (r : Row). cond ((r.edge.0 == e) && r.along) 1 0 + cond ((r.edge.0 == e) && not r.along) 1 0) (λ (r : Row). mark r.edge.0 e) (λ r. both_ways (r.edge.0 == e) r.along) d.rows in
+    let one = total-same (λ (r : Row). cond ((r.edge.0 == e) && r.along) 1 0 + cond ((r.edge.0 == e) && not r.along) 1 0) (λ (r : Row). mark r.edge.0 e)
+    (λ r. both_ways (r.edge.0 == e) r.along) d.rows in
     omega (arith, a, b, both, one)
 
 -- Where each of the edges has a row along it and one against it, and there are two rows for each edge, these are all.
@@ -120,7 +123,8 @@ one_place p (x ∷ rows) one (suc n) (suc m) a b at_n at_m yes_a yes_b =
     ap suc (one_place p rows (omega (arith, one, rest)) n m a b at_n at_m yes_a yes_b)
 
 -- Where all edges are paired, there are two rows for each.
-pub two_rows_each : (d : ShellRows) → NoRepeat d.edges → AllByRecursion (λ (r : Row). Has d.edges r.edge.0) d.rows → ((e : ℕ) → Has d.edges e → (row_count d e true ≡ 1) × (row_count d e false ≡ 1)) → 2 * length d.edges ≡ length d.rows
+pub two_rows_each : (d : ShellRows) → NoRepeat d.edges → AllByRecursion (λ (r : Row). Has d.edges r.edge.0) d.rows
+    → ((e : ℕ) → Has d.edges e → (row_count d e true ≡ 1) × (row_count d e false ≡ 1)) → 2 * length d.edges ≡ length d.rows
 two_rows_each d none known paired =
     let two : (e : ℕ) → Has d.edges e → uses_of_edge d.rows e ≡ 2 = λ e m. let p = paired e m in omega (arith, p.0, p.1, counts_of_edge d e) in
     omega (arith, all_of_two (uses_of_edge d.rows) d.edges two, uses-all d.rows d.edges none known)

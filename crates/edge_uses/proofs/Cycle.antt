@@ -18,7 +18,8 @@ zip_from_trail R x [] z t = (t, tt)
 zip_from_trail R x (y ∷ ys) z t = (t.0, zip_from_trail R y ys z t.1)
 
 -- what R leads to from the first is on the trail that comes back to it
-pub on_trail : (R : ℕ → ℕ → Type 0) → ((x y z : ℕ) → R x y → R x z → y ≡ z) → (r : ℕ) (rs : List ℕ) → Trail R r rs r → (n a x : ℕ) → Has (r ∷ rs) a → Steps R n a x → Has (r ∷ rs) x
+pub on_trail : (R : ℕ → ℕ → Type 0) → ((x y z : ℕ) → R x y → R x z → y ≡ z) → (r : ℕ) (rs : List ℕ) → Trail R r rs r → (n a x : ℕ) → Has (r ∷ rs) a
+    → Steps R n a x → Has (r ∷ rs) x
 on_trail R one r rs t zero a x h e = subst (Has (r ∷ rs)) e h
 on_trail R one r rs t (suc n) a x h (c, s, rest) =
     let k = next_on R r rs r t a h in

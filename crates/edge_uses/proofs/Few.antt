@@ -20,7 +20,8 @@ part_shorter f [] x h = absurd h
 part_shorter f (y ∷ ys) x (inl e) = subst (λ z. length (f z) ≤ length (f y ++ flat_map f ys)) e (omega (arith, length-append (f y) (flat_map f ys)))
 part_shorter f (y ∷ ys) x (inr h) = omega (arith, part_shorter f ys x h, length-append (f y) (flat_map f ys))
 
-uses_of_loops : (n face : ℕ) (forwards : Bool) (base : ℕ) (ls : List Loop) → length (flat_map uses_in (map (placed_at face forwards) (enumerate_from base ls))) < n
+uses_of_loops : (n face : ℕ) (forwards : Bool) (base : ℕ) (ls : List Loop) → length (flat_map uses_in (map (placed_at face forwards) (enumerate_from base ls)))
+    < n
     → AllByRecursion (λ (l : Loop). length l.uses < n) ls
 uses_of_loops n face forwards base [] h = tt
 uses_of_loops n face forwards base (l ∷ ls) h =
@@ -48,13 +49,15 @@ loops_of_faces n flag base (f ∷ fs) h =
     let k : length here ≡ length f.loops = length-map (enumerate_from 0 f.loops) (placed_at base (same_flag f.flag flag)) ∙ length-enumerate_from 0 f.loops in
     (omega (arith, h, e, k), loops_of_faces n flag (base + 1) fs (omega (arith, h, e)))
 
-all_both : (n : ℕ) (fs : List FaceUse) → AllByRecursion (λ (f : FaceUse). length f.loops < n) fs → AllByRecursion (λ (f : FaceUse). AllByRecursion (λ (l : Loop). length l.uses < n) f.loops) fs
+all_both : (n : ℕ) (fs : List FaceUse) → AllByRecursion (λ (f : FaceUse). length f.loops < n) fs
+    → AllByRecursion (λ (f : FaceUse). AllByRecursion (λ (l : Loop). length l.uses < n) f.loops) fs
     → AllByRecursion (λ (f : FaceUse). (length f.loops < n) × AllByRecursion (λ (l : Loop). length l.uses < n) f.loops) fs
 all_both n [] a b = tt
 all_both n (f ∷ fs) a b = ((a.0, b.0), all_both n fs a.1 b.1)
 
 few_by : (n : ℕ) (s : SolidData) (h : Shell) → Has s.shells h → length (flat_map shell_uses s.shells) < n → length (flat_map placed_loops s.shells) < n
-    → length (flat_map (λ (h : Shell). h.faces) s.shells) < n → (length h.faces < n) × AllByRecursion (λ (f : FaceUse). (length f.loops < n) × AllByRecursion (λ (l : Loop). length l.uses < n) f.loops) h.faces
+    → length (flat_map (λ (h : Shell). h.faces) s.shells) < n
+    → (length h.faces < n) × AllByRecursion (λ (f : FaceUse). (length f.loops < n) × AllByRecursion (λ (l : Loop). length l.uses < n) f.loops) h.faces
 few_by n s h has uses loops faces = (
   omega (arith, faces, part_shorter (λ (h : Shell). h.faces) s.shells h has),
   all_both n h.faces (loops_of_faces n h.flag 0 h.faces (omega (arith, loops, part_shorter placed_loops s.shells h has)))

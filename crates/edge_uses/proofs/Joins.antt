@@ -1,5 +1,6 @@
 -- What is left of the loops and uses of a shell.
-use Rattle.std.specs.Prelude.{◌≡◌, ◌<◌, ◌≤◌, ◌+◌, ℕ, zero, suc, Bool, List, [], ◌∷◌, ◌++◌, ◌⊎◌, length, map, flat_map, slice_get, Option, Some, None, MatchOption, IfSome, IfNone}
+use Rattle.std.specs.Prelude.{◌≡◌, ◌<◌, ◌≤◌, ◌+◌, ℕ, zero, suc, Bool, List, [], ◌∷◌, ◌++◌, ◌⊎◌, length, map, flat_map, slice_get, Option, Some, None}
+use Rattle.std.specs.Prelude.{MatchOption, IfSome, IfNone}
 use Rattle.std.specs.List.{AllByRecursion, enumerate_from}
 use Rattle.std.proofs.Common.{refl, sym, ◌∙◌, ap, subst, arith, inl, inr, ⊎_elim, get_or, drop}
 use Rattle.std.proofs.lemmas.List.{get_or-append-add, length-map, drop_all}
@@ -93,11 +94,21 @@ left_all s all = record { join = λ h. h; opens = λ at place h. h }
 pub left_less : (s : SolidData) (ps rest all : List PlacedLoop) → LeftOf s (ps ++ rest) all → AllJoined s ps → LeftOf s rest all
 left_less s ps rest all l a = record {
   join = λ h. l.join (all_joined_append s ps rest a h);
-  opens = λ at place h. l.opens at place (record { placed = h.placed; first = first_not_rest (λ (p : PlacedLoop). IsJoined s p.loop) ps rest h.placed a h.first; is_at = h.is_at; is_place = h.is_place });
+  opens = λ at place h. l.opens at place
+      (record {
+        placed = h.placed;
+        first = first_not_rest (λ (p : PlacedLoop). IsJoined s p.loop) ps rest h.placed a h.first;
+        is_at = h.is_at;
+        is_place =
+            h.is_place;
+      });
 }
 
-pub left_opens : (s : SolidData) (ps rest all : List PlacedLoop) (at : LoopAt) (place : ℕ) → LeftOf s (ps ++ rest) all → IsFirstOpen s ps at place → IsFirstOpen s all at place
-left_opens s ps rest all at place l h = l.opens at place (record { placed = h.placed; first = first_not_front (λ (p : PlacedLoop). IsJoined s p.loop) ps rest h.placed h.first; is_at = h.is_at; is_place = h.is_place })
+pub left_opens : (s : SolidData) (ps rest all : List PlacedLoop) (at : LoopAt) (place : ℕ) → LeftOf s (ps ++ rest) all → IsFirstOpen s ps at place
+    → IsFirstOpen s all at place
+left_opens s ps rest all at place l h =
+    l.opens at place (record
+    { placed = h.placed; first = first_not_front (λ (p : PlacedLoop). IsJoined s p.loop) ps rest h.placed h.first; is_at = h.is_at; is_place = h.is_place })
 
 -- the loops of a face from i on
 abbrev pub loops_left : ℕ → Bool → List Loop → ℕ → List PlacedLoop
@@ -120,22 +131,30 @@ split_faces flag fs f i lt e = ap (λ us. flat_map (placed_in_face flag) (enumer
 pub at_place : {A : Type 0} (P : A → Type 0) (xs : List A) (x : A) (i : ℕ) → AllByRecursion P xs → i < length xs → get_or xs i x ≡ x → P x
 at_place P xs x i all lt e = All-at P xs all x (Has-from_place xs x i lt e)
 
-pub loop_opens : (s : SolidData) (face : ℕ) (forwards : Bool) (ls : List Loop) (l : Loop) (i place : ℕ) (all : List PlacedLoop) → i < length ls → get_or ls i l ≡ l
+pub loop_opens : (s : SolidData) (face : ℕ) (forwards : Bool) (ls : List Loop) (l : Loop) (i place : ℕ) (all : List PlacedLoop) → i < length ls
+    → get_or ls i l ≡ l
     → LeftOf s (loops_left face forwards ls i) all → FirstFalse (loop_obligations s l) (record { rule = RuleUnjoined; entity = l.entity; place = place })
     → IsFirstOpen s all (record { face = record { 0 = face }; place = i }) place
 loop_opens s face forwards ls l i place all lt e left bad =
     left_opens s (placed_at face forwards (i, l) ∷ []) (loops_left face forwards ls (i + 1)) all _ place
     (subst (λ us. LeftOf s us all) (split_loops face forwards ls l i lt e) left)
-    (record { placed = placed_at face forwards (i, l); first = inl ((λ h. FirstFalse-not_all (loop_obligations s l) _ bad (hold_from_joined s l h)), refl); is_at = refl; is_place = bad })
+    (record {
+      placed = placed_at face forwards (i, l);
+      first = inl ((λ h. FirstFalse-not_all (loop_obligations s l) _ bad (hold_from_joined s l h)), refl);
+      is_at = refl;
+      is_place = bad;
+    })
 
-pub face_opens : (s : SolidData) (flag : Bool) (fs : List FaceUse) (f : FaceUse) (i place : ℕ) (at : LoopAt) (all : List PlacedLoop) → i < length fs → get_or fs i f ≡ f
+pub face_opens : (s : SolidData) (flag : Bool) (fs : List FaceUse) (f : FaceUse) (i place : ℕ) (at : LoopAt) (all : List PlacedLoop) → i < length fs
+    → get_or fs i f ≡ f
     → LeftOf s (faces_left flag fs i) all → IsFirstOpen s (placed_in_face flag (i, f)) at place → IsFirstOpen s all at place
 face_opens s flag fs f i place at all lt e left bad =
     left_opens s (placed_in_face flag (i, f)) (faces_left flag fs (i + 1)) all at place (subst (λ us. LeftOf s us all) (split_faces flag fs f i lt e) left) bad
 
 pub face_joins : (s : SolidData) (flag : Bool) (fs : List FaceUse) (f : FaceUse) (i : ℕ) (all : List PlacedLoop) → i < length fs → get_or fs i f ≡ f
     → LeftOf s (faces_left flag fs i) all → AllJoined s (placed_in_face flag (i, f)) → LeftOf s (faces_left flag fs (i + 1)) all
-face_joins s flag fs f i all lt e left ok = left_less s (placed_in_face flag (i, f)) (faces_left flag fs (i + 1)) all (subst (λ us. LeftOf s us all) (split_faces flag fs f i lt e) left) ok
+face_joins s flag fs f i all lt e left ok = left_less s (placed_in_face flag (i, f)) (faces_left flag fs (i + 1)) all
+    (subst (λ us. LeftOf s us all) (split_faces flag fs f i lt e) left) ok
 
 pub map_get : {A : Type 0} (f : A → ℕ) (us : List A) (i : ℕ) (d : A) → i < length us → get_or (map f us) i 0 ≡ f (get_or us i d)
 map_get f [] i d h = absurd (omega (arith, h))
@@ -143,7 +162,8 @@ map_get f (u ∷ us) zero d h = refl
 map_get f (u ∷ us) (suc i) d h = map_get f us i d (omega (arith, h))
 
 -- the start of the use that comes next
-next_start : (s : SolidData) (us : List LoopUse) (i next : ℕ) (d : LoopUse) → i < length us → next < length us → (i + 1 < length us → next ≡ i + 1) → (length us ≤ i + 1 → next ≡ 0)
+next_start : (s : SolidData) (us : List LoopUse) (i next : ℕ) (d : LoopUse) → i < length us → next < length us → (i + 1 < length us → next ≡ i + 1)
+    → (length us ≤ i + 1 → next ≡ 0)
     → get_or (next_of_each (map (start_of s) us)) i 0 ≡ start_of s (get_or us next d)
 next_start s us i next d lt low more last = by_place (cases_lt (i + 1) (length us))
   where
@@ -155,28 +175,34 @@ next_start s us i next d lt low more last = by_place (cases_lt (i + 1) (length u
         next_last (map (start_of s) us) i (omega (arith, lt, length-map us (start_of s))) (omega (arith, h, length-map us (start_of s)))
         ∙ (ap (λ n. get_or (map (start_of s) us) n 0) (sym (last h)) ∙ map_get (start_of s) us next d low)
 
-pub ends_next : (s : SolidData) (us : List LoopUse) (i next : ℕ) (d : LoopUse) (a b : ℕ) → i < length us → next < length us → (i + 1 < length us → next ≡ i + 1) → (length us ≤ i + 1 → next ≡ 0)
+pub ends_next : (s : SolidData) (us : List LoopUse) (i next : ℕ) (d : LoopUse) (a b : ℕ) → i < length us → next < length us
+    → (i + 1 < length us → next ≡ i + 1) → (length us ≤ i + 1 → next ≡ 0)
     → a ≡ end_of s (get_or us i d) → b ≡ start_of s (get_or us next d)
-    → (a ≡ b → get_or (map (end_of s) us) i 0 ≡ get_or (next_of_each (map (start_of s) us)) i 0) × (get_or (map (end_of s) us) i 0 ≡ get_or (next_of_each (map (start_of s) us)) i 0 → a ≡ b)
+    → (a ≡ b → get_or (map (end_of s) us) i 0 ≡ get_or (next_of_each (map (start_of s) us)) i 0)
+    × (get_or (map (end_of s) us) i 0 ≡ get_or (next_of_each (map (start_of s) us)) i 0 → a ≡ b)
 ends_next s us i next d a b lt low more last ea eb =
     let x : a ≡ get_or (map (end_of s) us) i 0 = ea ∙ sym (map_get (end_of s) us i d lt) in
     let y : b ≡ get_or (next_of_each (map (start_of s) us)) i 0 = eb ∙ sym (next_start s us i next d lt low more last) in
     ((λ e. sym x ∙ (e ∙ y)), (λ e. x ∙ (e ∙ sym y)))
 
-first_open_is : (s : SolidData) (h : Shell) (r : Option Unjoined) → MatchOption r (AllJoined s (placed_loops h)) (λ u. IsFirstOpen s (placed_loops h) u.at u.place)
+first_open_is : (s : SolidData) (h : Shell) (r : Option Unjoined)
+    → MatchOption r (AllJoined s (placed_loops h)) (λ u. IsFirstOpen s (placed_loops h) u.at u.place)
     → MatchOption r (AllHold (join_obligations s h)) (λ u. IsFirstUnjoined s h u.at u.place)
 first_open_is s h None a =
     of_each-AllHold (λ (p : PlacedLoop). loop_obligations s p.loop) (placed_loops h)
-    (AllByRecursion-weaker (λ (p : PlacedLoop). IsJoined s p.loop) (λ (p : PlacedLoop). AllHold (loop_obligations s p.loop)) (placed_loops h) (λ p. hold_from_joined s p.loop) a)
+    (AllByRecursion-weaker (λ (p : PlacedLoop). IsJoined s p.loop) (λ (p : PlacedLoop). AllHold (loop_obligations s p.loop)) (placed_loops h)
+    (λ p. hold_from_joined s p.loop) a)
 first_open_is s h (Some u) a = record { placed = a.placed; first = a.first; is_at = a.is_at; is_place = a.is_place }
 
-pub first_at_shell : (s : SolidData) (k : ℕ) (h : Shell) (r : Option Unjoined) → slice_get s.shells k ≡ Some h → MatchOption r (AllJoined s (placed_loops h)) (λ u. IsFirstOpen s (placed_loops h) u.at u.place)
+pub first_at_shell : (s : SolidData) (k : ℕ) (h : Shell) (r : Option Unjoined) → slice_get s.shells k ≡ Some h
+    → MatchOption r (AllJoined s (placed_loops h)) (λ u. IsFirstOpen s (placed_loops h) u.at u.place)
     → IfSome (slice_get s.shells k) (λ h. MatchOption r (AllHold (join_obligations s h)) (λ u. IsFirstUnjoined s h u.at u.place))
 first_at_shell s k h r e a =
     subst (λ o. IfSome o (λ h. MatchOption r (AllHold (join_obligations s h)) (λ u. IsFirstUnjoined s h u.at u.place))) (sym e) (first_open_is s h r a)
 
 -- where no loop is open, the rows' ends meet
-pub meet_at_shell : (s : SolidData) (k : ℕ) (h : Shell) (r : Option Unjoined) → slice_get s.shells k ≡ Some h → MatchOption r (AllJoined s (placed_loops h)) (λ u. IsFirstOpen s (placed_loops h) u.at u.place)
+pub meet_at_shell : (s : SolidData) (k : ℕ) (h : Shell) (r : Option Unjoined) → slice_get s.shells k ≡ Some h
+    → MatchOption r (AllJoined s (placed_loops h)) (λ u. IsFirstOpen s (placed_loops h) u.at u.place)
     → IfNone r (EndsMeet (rows_of s (slice_get s.shells k)))
 meet_at_shell s k h None at joined = subst (λ o. EndsMeet (rows_of s o)) (sym at) (ends_meet s h joined)
 meet_at_shell s k h (Some u) at opens = tt

@@ -1,9 +1,11 @@
 -- The rows that follow are the rows of each loop in another order.
-use Rattle.std.specs.Prelude.{◌≡◌, ℕ, zero, suc, ◌+◌, Bool, true, false, List, [], ◌∷◌, ◌++◌, length, map, flat_map, reverse, Option, Some, None, slice_get, IsPermutation, if◌then◌else◌}
+use Rattle.std.specs.Prelude.{◌≡◌, ℕ, zero, suc, ◌+◌, Bool, true, false, List, [], ◌∷◌, ◌++◌, length, map, flat_map, reverse, Option, Some, None, slice_get}
+use Rattle.std.specs.Prelude.{IsPermutation, if◌then◌else◌}
 use Rattle.std.specs.List.{AllByRecursion}
 use Rattle.std.proofs.Common.{refl, sym, ◌∙◌, ap, subst, arith, length-append}
 use Rattle.std.proofs.lemmas.List.{reverse-append}
-use Rattle.std.proofs.lemmas.List.Sorted.{IsPermutation-refl, IsPermutation-sym, IsPermutation-trans, IsPermutation-append, IsPermutation-reverse, IsPermutation-to_front}
+use Rattle.std.proofs.lemmas.List.Sorted.{IsPermutation-refl, IsPermutation-sym, IsPermutation-trans, IsPermutation-append, IsPermutation-reverse}
+use Rattle.std.proofs.lemmas.List.Sorted.{IsPermutation-to_front}
 use Rattle.solid_data.specs.Ring.{next_of_each, previous_of_each, numbers_from}
 use Rattle.solid_data.specs.SolidData.{SolidData, PlacedLoop, placed_loops, same_flag}
 use Rattle.solid_data.specs.declared.solid.Edge.{Edge}
@@ -39,7 +41,8 @@ numbers-append base (suc n) m =
     let b : base + 1 + n ≡ base + suc n = omega arith in
     ap (numbers_from base) a ∙ ap (λ xs. base ∷ xs) (numbers-append (base + 1) n m ∙ ap (λ k. numbers_from (base + 1) n ++ numbers_from k m) b)
 
-follows_permute : (s : SolidData) (base : ℕ) (ps : List PlacedLoop) → IsPermutation (numbers_from base (length (flat_map (loop_rows s) ps))) (follows_from s base ps)
+follows_permute : (s : SolidData) (base : ℕ) (ps : List PlacedLoop)
+    → IsPermutation (numbers_from base (length (flat_map (loop_rows s) ps))) (follows_from s base ps)
 follows_permute s base [] = IsPermutation-refl []
 follows_permute s base (p ∷ ps) =
     let n : ℕ = length (loop_rows s p) in
@@ -48,7 +51,8 @@ follows_permute s base (p ∷ ps) =
     let both : numbers_from base (length (loop_rows s p ++ flat_map (loop_rows s) ps)) ≡ ring ++ numbers_from (base + n) m =
     ap (numbers_from base) (length-append (loop_rows s p) (flat_map (loop_rows s) ps)) ∙ numbers-append base n m in
     subst (λ xs. IsPermutation xs (follows_from s base (p ∷ ps))) (sym both)
-    (IsPermutation-append ring (if p.forwards then next_of_each ring else previous_of_each ring) (numbers_from (base + n) m) (follows_from s (base + n) ps) (ring_permutes p.forwards ring) (follows_permute s (base + n) ps))
+    (IsPermutation-append ring (if p.forwards then next_of_each ring else previous_of_each ring) (numbers_from (base + n) m) (follows_from s (base + n) ps)
+    (ring_permutes p.forwards ring) (follows_permute s (base + n) ps))
 
 pub rows_permuted : (s : SolidData) (shell : Shell) → IsPermutation (numbers_from 0 (length (shell_rows s shell).rows)) (shell_rows s shell).follows
 unfolding shell_rows
@@ -100,13 +104,18 @@ one_loop s f g tells [] = tt
 one_loop s f g tells (p ∷ ps) =
     let rows = loop_rows s p in
     let named : AllByRecursion (λ (r : Row). r.at ≡ p.at) rows = all_filter_map (λ (r : Row). r.at ≡ p.at) (row_of s p) p.loop.uses (λ u m. of_use s p u) in
-    let same : map f rows ≡ alike (g p.at) (length rows) = all_alike f (g p.at) rows (AllByRecursion-weaker (λ (r : Row). r.at ≡ p.at) (λ (r : Row). f r ≡ g p.at) rows (λ r e. tells r ∙ ap g e) named) in
-    (subst (λ xs. xs ≡ (if p.forwards then next_of_each xs else previous_of_each xs)) (sym same) (alike_ring (g p.at) (length rows) p.forwards), one_loop s f g tells ps)
+    let same : map f rows ≡ alike (g p.at) (length rows) =
+    all_alike f (g p.at) rows (AllByRecursion-weaker (λ (r : Row). r.at ≡ p.at) (λ (r : Row). f r ≡ g p.at) rows (λ r e. tells r ∙ ap g e) named) in (
+      subst (λ xs. xs ≡ (if p.forwards then next_of_each xs else previous_of_each xs)) (sym same) (alike_ring (g p.at) (length rows) p.forwards),
+      one_loop s f g
+          tells ps,
+    )
 
 loop_at : (a b : LoopAt) → a.face.0 ≡ b.face.0 → a.place ≡ b.place → a ≡ b
 loop_at a b face place = ap (λ n. record { face = record { 0 = n }; place = a.place }) face ∙ ap (λ n. record { face = b.face; place = n }) place
 
-pub follows_in_loop : (s : SolidData) (shell : Shell) (r t : ℕ) (a b : Row) → slice_get (shell_rows s shell).follows r ≡ Some t → slice_get (shell_rows s shell).rows r ≡ Some a → slice_get (shell_rows s shell).rows t ≡ Some b → a.at ≡ b.at
+pub follows_in_loop : (s : SolidData) (shell : Shell) (r t : ℕ) (a b : Row) → slice_get (shell_rows s shell).follows r ≡ Some t
+    → slice_get (shell_rows s shell).rows r ≡ Some a → slice_get (shell_rows s shell).rows t ≡ Some b → a.at ≡ b.at
 unfolding shell_rows
 follows_in_loop s shell r t a b follows at_r at_t =
     let face : Row → ℕ = λ (x : Row). x.at.face.0 in

@@ -1,5 +1,6 @@
 -- Where the loops of a shell join, each row ends where the row that follows it starts.
-use Rattle.std.specs.Prelude.{◌≡◌, ℕ, zero, suc, ◌+◌, ◌<◌, Bool, true, false, not, List, [], ◌∷◌, ◌++◌, length, map, flat_map, filter_map, reverse, slice_index, slice_get, Option, Some, None, if◌then◌else◌}
+use Rattle.std.specs.Prelude.{◌≡◌, ℕ, zero, suc, ◌+◌, ◌<◌, Bool, true, false, not, List, [], ◌∷◌, ◌++◌, length, map, flat_map, filter_map, reverse, slice_index}
+use Rattle.std.specs.Prelude.{slice_get, Option, Some, None, if◌then◌else◌}
 use Rattle.std.specs.List.{AllByRecursion, cons_option}
 use Rattle.std.proofs.Common.{refl, sym, ◌∙◌, ap, subst, arith, length-append, append_assoc}
 use Rattle.std.proofs.lemmas.List.{map-append, reverse-append, reverse-reverse, get_or-append-add, length-map}
@@ -55,17 +56,22 @@ abbrev RowFits : (Row → ℕ) → (Row → ℕ) → Option Row → ℕ → ℕ 
 RowFits rs re None a b = a ≡ b
 RowFits rs re (Some r) a b = (rs r ≡ a) × (re r ≡ b)
 
-filtered_step : (rs re : Row → ℕ) (o : Option Row) (a x y b : ℕ) (rows : List Row) → RowFits rs re o x y → a ≡ x → Linked rs re y rows b → Linked rs re a (cons_option o rows) b
+filtered_step : (rs re : Row → ℕ) (o : Option Row) (a x y b : ℕ) (rows : List Row) → RowFits rs re o x y → a ≡ x → Linked rs re y rows b
+    → Linked rs re a (cons_option o rows) b
 filtered_step rs re None a x y b rows fits e h = subst (λ z. Linked rs re z rows b) (sym (e ∙ fits)) h
 filtered_step rs re (Some r) a x y b rows fits e h = (e ∙ sym fits.0, subst (λ z. Linked rs re z rows b) (sym fits.1) h)
 
-filtered : {A : Type 0} (rs re : Row → ℕ) (st en : A → ℕ) (g : A → Option Row) → ((u : A) → RowFits rs re (g u) (st u) (en u)) → (a b : ℕ) (us : List A) → Linked st en a us b → Linked rs re a (filter_map g us) b
+filtered : {A : Type 0} (rs re : Row → ℕ) (st en : A → ℕ) (g : A → Option Row) → ((u : A) → RowFits rs re (g u) (st u) (en u)) → (a b : ℕ) (us : List A)
+    → Linked st en a us b → Linked rs re a (filter_map g us) b
 filtered rs re st en g fits a b [] h = h
-filtered rs re st en g fits a b (u ∷ us) h = filtered_step rs re (g u) a (st u) (en u) b (filter_map g us) (fits u) h.0 (filtered rs re st en g fits (en u) b us h.1)
+filtered rs re st en g fits a b (u ∷ us) h = filtered_step rs re (g u) a (st u) (en u) b (filter_map g us) (fits u) h.0
+    (filtered rs re st en g fits (en u) b us h.1)
 
-filtered_ring : {A : Type 0} (rs re : Row → ℕ) (st en : A → ℕ) (g : A → Option Row) → ((u : A) → RowFits rs re (g u) (st u) (en u)) → (us : List A) → IsRing st en us → IsRing rs re (filter_map g us)
+filtered_ring : {A : Type 0} (rs re : Row → ℕ) (st en : A → ℕ) (g : A → Option Row) → ((u : A) → RowFits rs re (g u) (st u) (en u)) → (us : List A)
+    → IsRing st en us → IsRing rs re (filter_map g us)
 filtered_ring rs re st en g fits [] h = refl
-filtered_ring rs re st en g fits (u ∷ us) h = ring_from_closed rs re (st u) (filter_map g (u ∷ us)) (filtered rs re st en g fits (st u) (st u) (u ∷ us) (closed_from_ring st en u us h))
+filtered_ring rs re st en g fits (u ∷ us) h =
+    ring_from_closed rs re (st u) (filter_map g (u ∷ us)) (filtered rs re st en g fits (st u) (st u) (u ∷ us) (closed_from_ring st en u us h))
 
 abbrev pub row_from : Row → ℕ
 row_from r = r.from.0
@@ -73,12 +79,14 @@ row_from r = r.from.0
 abbrev pub row_to : Row → ℕ
 row_to r = r.to.0
 
-forwards_edge : (at : LoopAt) (edge : EdgeId) (along : Bool) (o : Option Edge) → RowFits row_from row_to (row_of_edge at edge (same_flag along true) o) (begin_of o along) (begin_of o (not along))
+forwards_edge : (at : LoopAt) (edge : EdgeId) (along : Bool) (o : Option Edge)
+    → RowFits row_from row_to (row_of_edge at edge (same_flag along true) o) (begin_of o along) (begin_of o (not along))
 forwards_edge at edge along None = refl
 forwards_edge at edge true (Some e) = (refl, refl)
 forwards_edge at edge false (Some e) = (refl, refl)
 
-backwards_edge : (at : LoopAt) (edge : EdgeId) (along : Bool) (o : Option Edge) → RowFits row_to row_from (row_of_edge at edge (same_flag along false) o) (begin_of o along) (begin_of o (not along))
+backwards_edge : (at : LoopAt) (edge : EdgeId) (along : Bool) (o : Option Edge)
+    → RowFits row_to row_from (row_of_edge at edge (same_flag along false) o) (begin_of o along) (begin_of o (not along))
 backwards_edge at edge along None = refl
 backwards_edge at edge true (Some e) = (refl, refl)
 backwards_edge at edge false (Some e) = (refl, refl)
@@ -86,13 +94,15 @@ backwards_edge at edge false (Some e) = (refl, refl)
 forwards_use : (s : SolidData) (p : PlacedLoop) → p.forwards ≡ true → (u : LoopUse) → RowFits row_from row_to (row_of s p u) (start_of s u) (end_of s u)
 forwards_use s p h (EdgeUse edge along) =
     let o : Option Edge = slice_get s.edges edge.0 in
-    subst (λ f. RowFits row_from row_to (row_of_edge p.at edge (same_flag along f) o) (begin_of o along) (begin_of o (not along))) (sym h) (forwards_edge p.at edge along o)
+    subst (λ f. RowFits row_from row_to (row_of_edge p.at edge (same_flag along f) o) (begin_of o along) (begin_of o (not along))) (sym h)
+    (forwards_edge p.at edge along o)
 forwards_use s p h (VertexUse vertex) = refl
 
 backwards_use : (s : SolidData) (p : PlacedLoop) → p.forwards ≡ false → (u : LoopUse) → RowFits row_to row_from (row_of s p u) (start_of s u) (end_of s u)
 backwards_use s p h (EdgeUse edge along) =
     let o : Option Edge = slice_get s.edges edge.0 in
-    subst (λ f. RowFits row_to row_from (row_of_edge p.at edge (same_flag along f) o) (begin_of o along) (begin_of o (not along))) (sym h) (backwards_edge p.at edge along o)
+    subst (λ f. RowFits row_to row_from (row_of_edge p.at edge (same_flag along f) o) (begin_of o along) (begin_of o (not along))) (sym h)
+    (backwards_edge p.at edge along o)
 backwards_use s p h (VertexUse vertex) = refl
 
 previous-next : (xs : List ℕ) → previous_of_each (next_of_each xs) ≡ xs
@@ -105,7 +115,8 @@ previous-next (x ∷ xs) =
 abbrev ordered : Bool → List ℕ → List ℕ
 ordered forwards ring = if forwards then next_of_each ring else previous_of_each ring
 
-loop_ring : (s : SolidData) (p : PlacedLoop) (forwards : Bool) → p.forwards ≡ forwards → IsJoined s p.loop → map row_to (loop_rows s p) ≡ ordered forwards (map row_from (loop_rows s p))
+loop_ring : (s : SolidData) (p : PlacedLoop) (forwards : Bool) → p.forwards ≡ forwards → IsJoined s p.loop
+    → map row_to (loop_rows s p) ≡ ordered forwards (map row_from (loop_rows s p))
 loop_ring s p true h joined = filtered_ring row_from row_to (start_of s) (end_of s) (row_of s p) (forwards_use s p h) p.loop.uses joined
 loop_ring s p false h joined =
     let ring = filtered_ring row_to row_from (start_of s) (end_of s) (row_of s p) (backwards_use s p h) p.loop.uses joined in
@@ -118,7 +129,8 @@ map-next g (x ∷ xs) = map-append g xs (x ∷ [])
 map-reverse_ℕ : (g : ℕ → ℕ) (xs : List ℕ) → map g (reverse xs) ≡ reverse (map g xs)
 map-reverse_ℕ g [] = refl
 map-reverse_ℕ g (x ∷ xs) =
-    ap (map g) (reverse-append (x ∷ []) xs) ∙ (map-append g (reverse xs) (x ∷ []) ∙ (ap (λ ys. ys ++ g x ∷ []) (map-reverse_ℕ g xs) ∙ sym (reverse-append (g x ∷ []) (map g xs))))
+    ap (map g) (reverse-append (x ∷ []) xs)
+    ∙ (map-append g (reverse xs) (x ∷ []) ∙ (ap (λ ys. ys ++ g x ∷ []) (map-reverse_ℕ g xs) ∙ sym (reverse-append (g x ∷ []) (map g xs))))
 
 map-ordered : (g : ℕ → ℕ) (forwards : Bool) (xs : List ℕ) → map g (ordered forwards xs) ≡ ordered forwards (map g xs)
 map-ordered g true xs = map-next g xs
@@ -167,7 +179,8 @@ follows_read s f g before (p ∷ ps) each =
     let here : map told (ordered p.forwards ring) ≡ map g mid =
     map-ordered told p.forwards ring ∙ (ap (ordered p.forwards) (reads_loop f before mid after) ∙ sym each.0) in
     let counted : length (before ++ mid) ≡ length before + length mid = length-append before mid in
-    let later : map (told_at f (before ++ mid ++ after)) (follows_from s (length (before ++ mid)) ps) ≡ map g after = follows_read s f g (before ++ mid) ps each.1 in
+    let later : map (told_at f (before ++ mid ++ after)) (follows_from s (length (before ++ mid)) ps) ≡ map g after =
+    follows_read s f g (before ++ mid) ps each.1 in
     let rest : map told (follows_from s (length before + length mid) ps) ≡ map g after =
     subst (λ rows. map (told_at f rows) (follows_from s (length before + length mid) ps) ≡ map g after) (append_assoc before mid after)
     (subst (λ n. map (told_at f (before ++ mid ++ after)) (follows_from s n ps) ≡ map g after) counted later) in
@@ -188,7 +201,8 @@ slice_index-map g (x ∷ ns) (suc n) m h = slice_index-map g ns n m h
 
 -- what g tells of a row f tells of the row that follows it
 pub follows_tell : (s : SolidData) (f g : Row → ℕ) (ps : List PlacedLoop) (r t : ℕ) (a b : Row) → AllByRecursion (EachFollows s f g) ps
-    → slice_get (follows_from s 0 ps) r ≡ Some t → slice_get (flat_map (loop_rows s) ps) r ≡ Some a → slice_get (flat_map (loop_rows s) ps) t ≡ Some b → g a ≡ f b
+    → slice_get (follows_from s 0 ps) r ≡ Some t → slice_get (flat_map (loop_rows s) ps) r ≡ Some a → slice_get (flat_map (loop_rows s) ps) t ≡ Some b
+    → g a ≡ f b
 follows_tell s f g ps r t a b each follows at_r at_t =
     let rows : List Row = flat_map (loop_rows s) ps in
     sym (slice_get-map g rows r a at_r)
@@ -196,7 +210,8 @@ follows_tell s f g ps r t a b each follows at_r at_t =
     ∙ (slice_index-map (told_at f rows) (follows_from s 0 ps) r t follows
     ∙ slice_get-map f rows t b at_t))
 
-each_joined : (s : SolidData) (ps : List PlacedLoop) → AllByRecursion (λ (p : PlacedLoop). IsJoined s p.loop) ps → AllByRecursion (EachFollows s row_from row_to) ps
+each_joined : (s : SolidData) (ps : List PlacedLoop) → AllByRecursion (λ (p : PlacedLoop). IsJoined s p.loop) ps
+    → AllByRecursion (EachFollows s row_from row_to) ps
 each_joined s [] joined = tt
 each_joined s (p ∷ ps) joined = (loop_ring s p p.forwards refl joined.0, each_joined s ps joined.1)
 

@@ -57,7 +57,8 @@ starting_none v n (r ∷ rows) = by_test (r.from.0 == v) (starting_none v (n + 1
 
 pub starting_is : (v n x : ℕ) (rows : List Row) → Has (starting v n rows) x → (k : ℕ) × (r : Row) × (x ≡ n + k) × (slice_get rows k ≡ Some r) × (r.from.0 ≡ v)
 starting_is v n x [] h = absurd h
-starting_is v n x (r ∷ rows) h = by_test (r.from.0 == v) (eqb_tells r.from.0 v) refl h (λ m. let t = starting_is v (n + 1) x rows m in (suc t.0, t.1, omega (arith, t.2), t.3, t.4))
+starting_is v n x (r ∷ rows) h =
+    by_test (r.from.0 == v) (eqb_tells r.from.0 v) refl h (λ m. let t = starting_is v (n + 1) x rows m in (suc t.0, t.1, omega (arith, t.2), t.3, t.4))
   where
     by_test : (b : Bool) → (((r.from.0 == v) ≡ true) × (r.from.0 ≡ v)) ⊎ (((r.from.0 == v) ≡ false) × (r.from.0 ≢ v)) → (r.from.0 == v) ≡ b
         → Has (cond b (n ∷ starting v (n + 1) rows) (starting v (n + 1) rows)) x
@@ -69,5 +70,6 @@ starting_is v n x (r ∷ rows) h = by_test (r.from.0 == v) (eqb_tells r.from.0 v
     by_test false w e m later = later m
 
 -- one row more in a list of rows
-pub numbers_pushed : (rows new : List RowId) (at : ℕ) → new ≡ rows ++ record { 0 = at } ∷ [] → map (λ (r : RowId). r.0) new ≡ map (λ (r : RowId). r.0) rows ++ at ∷ []
+pub numbers_pushed : (rows new : List RowId) (at : ℕ) → new ≡ rows ++ record { 0 = at } ∷ [] → map (λ (r : RowId). r.0) new ≡ map (λ (r : RowId). r.0) rows
+    ++ at ∷ []
 numbers_pushed rows new at e = ap (map (λ (r : RowId). r.0)) e ∙ map-append (λ (r : RowId). r.0) rows (record { 0 = at } ∷ [])

@@ -22,7 +22,8 @@ abbrev OptionShape : SolidData → Option Row → Type 0
 OptionShape s None = Unit {0}
 OptionShape s (Some r) = HasShape s r
 
-edge_shape : (s : SolidData) (at : LoopAt) (edge : EdgeId) (along : Bool) (o : Option Edge) → slice_get s.edges edge.0 ≡ o → OptionShape s (row_of_edge at edge along o)
+edge_shape : (s : SolidData) (at : LoopAt) (edge : EdgeId) (along : Bool) (o : Option Edge) → slice_get s.edges edge.0 ≡ o
+    → OptionShape s (row_of_edge at edge along o)
 edge_shape s at edge along None h = tt
 edge_shape s at edge true (Some e) h = (e, h, refl, refl)
 edge_shape s at edge false (Some e) h = (e, h, refl, refl)
@@ -31,7 +32,8 @@ use_shape : (s : SolidData) (p : PlacedLoop) (u : LoopUse) → OptionShape s (ro
 use_shape s p (EdgeUse edge along) = edge_shape s p.at edge (same_flag along p.forwards) (slice_get s.edges edge.0) refl
 use_shape s p (VertexUse vertex) = tt
 
-add_shape : (s : SolidData) (o : Option Row) (rows : List Row) → OptionShape s o → AllByRecursion (HasShape s) rows → AllByRecursion (HasShape s) (cons_option o rows)
+add_shape : (s : SolidData) (o : Option Row) (rows : List Row) → OptionShape s o → AllByRecursion (HasShape s) rows
+    → AllByRecursion (HasShape s) (cons_option o rows)
 add_shape s None rows h all = all
 add_shape s (Some r) rows h all = (h, all)
 
@@ -54,7 +56,8 @@ shape_at s (x ∷ rows) (suc n) r all at = shape_at s rows n r all.1 at
 
 -- rows of one edge in opposite directions: the one starts where the other ends
 abbrev pub EndsExchanged : ShellRows → Type 0
-EndsExchanged d = (n m : ℕ) (a b : Row) → slice_get d.rows n ≡ Some a → slice_get d.rows m ≡ Some b → a.edge ≡ b.edge → a.along ≡ not b.along → a.from.0 ≡ b.to.0
+EndsExchanged d = (n m : ℕ) (a b : Row) → slice_get d.rows n ≡ Some a → slice_get d.rows m ≡ Some b → a.edge ≡ b.edge → a.along ≡ not b.along
+    → a.from.0 ≡ b.to.0
 
 pub ends_exchanged : (s : SolidData) (shell : Shell) → EndsExchanged (shell_rows s shell)
 unfolding shell_rows

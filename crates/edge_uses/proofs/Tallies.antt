@@ -1,5 +1,6 @@
 -- What has been seen of each edge, row by row.
-use Rattle.std.specs.Prelude.{◌≡◌, ◌≢◌, ◌<◌, ◌≤◌, ◌+◌, ◌-◌, ◌^◌, Contains, replicate, ◌==◌, ◌&&◌, ◌⊎◌, ℕ, zero, suc, Bool, true, false, not, cond, List, [], ◌∷◌, length, slice_set, slice_get, Some}
+use Rattle.std.specs.Prelude.{◌≡◌, ◌≢◌, ◌<◌, ◌≤◌, ◌+◌, ◌-◌, ◌^◌, Contains, replicate, ◌==◌, ◌&&◌, ◌⊎◌, ℕ, zero, suc, Bool, true, false, not, cond, List, []}
+use Rattle.std.specs.Prelude.{◌∷◌, length, slice_set, slice_get, Some}
 use Rattle.std.proofs.Common.{refl, sym, ◌∙◌, ap, subst, arith, inl, inr, get_or, drop}
 use Rattle.std.proofs.lemmas.Bool.Decides.{eqb_tells}
 use Rattle.std.proofs.lemmas.Bool.{eq-eqb}
@@ -64,7 +65,8 @@ seen_done d i e seen past h =
     }
 
 -- the sums, at the next row
-split_times : (d : ShellRows) (i e : ℕ) (way : Bool) (row : Row) → i < length d.rows → get_or d.rows i row ≡ row → times e way (drop i d.rows) ≡ one_if (runs e way row) + times e way (drop (i + 1) d.rows)
+split_times : (d : ShellRows) (i e : ℕ) (way : Bool) (row : Row) → i < length d.rows → get_or d.rows i row ≡ row
+    → times e way (drop i d.rows) ≡ one_if (runs e way row) + times e way (drop (i + 1) d.rows)
 split_times d i e way row lt at = ap (times e way) (split_drop d.rows row i lt at)
 
 not_this : (e : ℕ) (way : Bool) (row : Row) → (row.edge.0 == e) ≡ false → one_if (runs e way row) ≡ 0
@@ -72,7 +74,8 @@ not_this e true row h = ap (λ b. one_if (b && row.along)) h
 not_this e false row h = ap (λ b. one_if (b && not row.along)) h
 
 -- the row has another edge
-pub seen_other : (d : ShellRows) (i e : ℕ) (seen : Seen) (row : Row) → i < length d.rows → get_or d.rows i row ≡ row → (row.edge.0 == e) ≡ false → SeenBefore d i e seen → SeenBefore d (i + 1) e seen
+pub seen_other : (d : ShellRows) (i e : ℕ) (seen : Seen) (row : Row) → i < length d.rows → get_or d.rows i row ≡ row → (row.edge.0 == e) ≡ false
+    → SeenBefore d i e seen → SeenBefore d (i + 1) e seen
 seen_other d i e seen row lt at other h = record {
   along = omega (arith, h.along, split_times d i e true row lt at, not_this e true row other);
   against = omega (arith, h.against, split_times d i e false row lt at, not_this e false row other);
@@ -90,7 +93,8 @@ this_way e row same false h = (
   ap (λ b. one_if (b && row.along)) (eq-eqb row.edge.0 e same) ∙ ap (λ b. one_if (true && b)) h,
 )
 
-pub seen_this : (d : ShellRows) (i e : ℕ) (seen : Seen) (row : Row) → i < length d.rows → get_or d.rows i row ≡ row → row.edge.0 ≡ e → SeenBefore d i e seen → SeenBefore d (i + 1) e (seen_once_more seen i row.along)
+pub seen_this : (d : ShellRows) (i e : ℕ) (seen : Seen) (row : Row) → i < length d.rows → get_or d.rows i row ≡ row → row.edge.0 ≡ e → SeenBefore d i e seen
+    → SeenBefore d (i + 1) e (seen_once_more seen i row.along)
 seen_this d i e seen row lt at same h = by_way row.along refl
   where
     here : slice_get d.rows i ≡ Some row
@@ -127,7 +131,8 @@ set_other (x ∷ xs) (suc k) zero v d ne = refl
 set_other (x ∷ xs) (suc k) (suc j) v d ne = set_other xs k j v d (λ e. ne (ap suc e))
 
 -- one row is counted
-pub tally_step : (d : ShellRows) (i : ℕ) (span : Span) (rows : List Row) (old : List Seen) (none : Row) (was new : Seen) → rows ≡ d.rows → i < length rows → length old ≡ span.count
+pub tally_step : (d : ShellRows) (i : ℕ) (span : Span) (rows : List Row) (old : List Seen) (none : Row) (was new : Seen) → rows ≡ d.rows → i < length rows
+    → length old ≡ span.count
     → AllByRecursion (λ (r : Row). IsWithin span r.edge.0) d.rows → ((e : ℕ) → IsWithin span e → SeenBefore d i e (seen_of span old e))
     → was ≡ get_or old ((get_or rows i none).edge.0 - span.least) unseen → new ≡ seen_once_more was i (get_or rows i none).along
     → (e : ℕ) → IsWithin span e → SeenBefore d (i + 1) e (seen_of span (slice_set old ((get_or rows i none).edge.0 - span.least) new) e)
@@ -154,17 +159,21 @@ tally_step d i span rows old none was new same lt long below each is_was is_new 
     was_known : was ≡ get_or old k unseen
     was_known = is_was
 
-    by_edge : (((row.edge.0 == e) ≡ true) × (row.edge.0 ≡ e)) ⊎ (((row.edge.0 == e) ≡ false) × (row.edge.0 ≢ e)) → SeenBefore d (i + 1) e (get_or (slice_set old k new) (e - span.least) unseen)
+    by_edge : (((row.edge.0 == e) ≡ true) × (row.edge.0 ≡ e)) ⊎ (((row.edge.0 == e) ≡ false) × (row.edge.0 ≢ e))
+        → SeenBefore d (i + 1) e (get_or (slice_set old k new) (e - span.least) unseen)
     by_edge (inl y) =
         let place : k ≡ e - span.least = ap (λ n. n - span.least) y.1 in
         let before : SeenBefore d i e was = subst (SeenBefore d i e) (sym (was_known ∙ ap (λ n. get_or old n unseen) place)) (each e within) in
-        let there : get_or (slice_set old k new) (e - span.least) unseen ≡ new = subst (λ n. get_or (slice_set old k new) n unseen ≡ new) place (set_same old k new unseen in_old) in
+        let there : get_or (slice_set old k new) (e - span.least) unseen ≡ new = subst (λ n. get_or (slice_set old k new) n unseen ≡ new) place
+        (set_same old k new unseen in_old) in
         subst (SeenBefore d (i + 1) e) (sym (there ∙ is_new)) (seen_this d i e was row in_rows at y.1 before)
     by_edge (inr n) =
         let apart : k ≢ e - span.least = λ h. n.1 (omega (arith, h, low.0, within.0)) in
-        subst (SeenBefore d (i + 1) e) (sym (set_other old k (e - span.least) new unseen apart)) (seen_other d i e (get_or old (e - span.least) unseen) row in_rows at n.0 (each e within))
+        subst (SeenBefore d (i + 1) e) (sym (set_other old k (e - span.least) new unseen apart))
+        (seen_other d i e (get_or old (e - span.least) unseen) row in_rows at n.0 (each e within))
 
-pub tally_few : (d : ShellRows) (i : ℕ) (span : Span) (n : ℕ) (rows : List Row) (old : List Seen) (none : Row) (was : Seen) → rows ≡ d.rows → i < length rows → length old ≡ span.count
+pub tally_few : (d : ShellRows) (i : ℕ) (span : Span) (n : ℕ) (rows : List Row) (old : List Seen) (none : Row) (was : Seen) → rows ≡ d.rows → i < length rows
+    → length old ≡ span.count
     → AllByRecursion (λ (r : Row). IsWithin span r.edge.0) d.rows → ((e : ℕ) → IsWithin span e → SeenBefore d i e (seen_of span old e))
     → was ≡ get_or old ((get_or rows i none).edge.0 - span.least) unseen → length d.rows < n → (was.along < n) × (was.against < n)
 tally_few d i span n rows old none was same lt long below each is_was few =
@@ -176,14 +185,16 @@ tally_few d i span n rows old none was same lt long below each is_was few =
     seen_few d i row.edge.0 was n (subst (SeenBefore d i row.edge.0) (sym known) (each row.edge.0 low)) few
 
 -- the edge of a row lies in the range
-pub row_within : (d : ShellRows) (span : Span) (rows : List Row) (none : Row) (i : ℕ) → rows ≡ d.rows → i < length rows → AllByRecursion (λ (r : Row). IsWithin span r.edge.0) d.rows → IsWithin span (get_or rows i none).edge.0
+pub row_within : (d : ShellRows) (span : Span) (rows : List Row) (none : Row) (i : ℕ) → rows ≡ d.rows → i < length rows
+    → AllByRecursion (λ (r : Row). IsWithin span r.edge.0) d.rows → IsWithin span (get_or rows i none).edge.0
 row_within d span rows none i same lt below =
     let row : Row = get_or rows i none in
     let in_rows : i < length d.rows = omega (arith, lt, ap (λ rs. length rs) same) in
     at_place (λ (r : Row). IsWithin span r.edge.0) d.rows row i below in_rows (default_apart d.rows i row none in_rows ∙ ap (λ rs. get_or rs i none) (sym same))
 
 -- what holds of each row holds of the row at a place
-pub row_holds : (P : Row → Type 0) (d : ShellRows) (rows : List Row) (none : Row) (i : ℕ) → rows ≡ d.rows → i < length rows → AllByRecursion P d.rows → P (get_or rows i none)
+pub row_holds : (P : Row → Type 0) (d : ShellRows) (rows : List Row) (none : Row) (i : ℕ) → rows ≡ d.rows → i < length rows → AllByRecursion P d.rows
+    → P (get_or rows i none)
 row_holds P d rows none i same lt all =
     let row : Row = get_or rows i none in
     let in_rows : i < length d.rows = omega (arith, lt, ap (λ rs. length rs) same) in
@@ -206,18 +217,23 @@ seen_next c i row = record {
   cells = slice_set c.cells (row.edge.0 - c.span.least) (seen_once_more (get_or c.cells (row.edge.0 - c.span.least) c.blank) i row.along);
 }
 
-pub tally_first : (d : ShellRows) (c : Celled Seen) → c.numbers ≡ d.edges → IsSpanOf c.span d.edges → c.blank ≡ unseen → c.cells ≡ replicate c.span.count unseen → TallyBefore d 0 c
+pub tally_first : (d : ShellRows) (c : Celled Seen) → c.numbers ≡ d.edges → IsSpanOf c.span d.edges → c.blank ≡ unseen
+    → c.cells ≡ replicate c.span.count unseen → TallyBefore d 0 c
 tally_first d c numbers span blank cells = record {
   numbers = numbers;
   span = span;
   blank = blank;
   long = ap (λ xs. length xs) cells ∙ length-replicate c.span.count unseen;
-  each = λ e within. subst (SeenBefore d 0 e) (sym (ap (λ xs. get_or xs (e - c.span.least) unseen) cells ∙ get_or-replicate c.span.count (e - c.span.least) unseen unseen (omega (arith, within)))) (seen_none d e);
+  each = λ e within. subst (SeenBefore d 0 e)
+      (sym (ap (λ xs. get_or xs (e - c.span.least) unseen) cells ∙ get_or-replicate c.span.count (e - c.span.least) unseen unseen (omega (arith, within))))
+      (seen_none d e);
 }
 
-module _ (d : ShellRows) (i : ℕ) (c : Celled Seen) (rows : List Row) (none : Row) (kept : AreRows d) (t : TallyBefore d i c) (same : rows ≡ d.rows) (lt : i < length rows) where
+module _ (d : ShellRows) (i : ℕ) (c : Celled Seen) (rows : List Row) (none : Row) (kept : AreRows d) (t : TallyBefore d i c) (same : rows ≡ d.rows)
+    (lt : i < length rows) where
   pub next_known : Contains c.numbers (get_or rows i none).edge.0
-  next_known = subst (λ ns. Contains ns (get_or rows i none).edge.0) (sym t.numbers) (row_holds (λ (r : Row). Contains d.edges r.edge.0) d rows none i same lt kept.edges_hold)
+  next_known = subst (λ ns. Contains ns (get_or rows i none).edge.0) (sym t.numbers)
+      (row_holds (λ (r : Row). Contains d.edges r.edge.0) d rows none i same lt kept.edges_hold)
 
   all_within : AllByRecursion (λ (r : Row). IsWithin c.span r.edge.0) d.rows
   all_within = rows_within d.edges d.rows c.span kept.edges_hold t.span.holds

@@ -29,13 +29,16 @@ pub pair_counts : (d : ShellRows) (e : ℕ) (b : Bool) → IsPaired d e → row_
 pair_counts d e true h = h.0
 pair_counts d e false h = h.1
 
-pub one_of_edge : (d : ShellRows) (e : ℕ) (b : Bool) (n m : ℕ) (x y : Row) → row_count d e b ≡ 1 → slice_get d.rows n ≡ Some x → slice_get d.rows m ≡ Some y → x.edge.0 ≡ e → y.edge.0 ≡ e → x.along ≡ b → y.along ≡ b → n ≡ m
+pub one_of_edge : (d : ShellRows) (e : ℕ) (b : Bool) (n m : ℕ) (x y : Row) → row_count d e b ≡ 1 → slice_get d.rows n ≡ Some x → slice_get d.rows m ≡ Some y
+    → x.edge.0 ≡ e → y.edge.0 ≡ e → x.along ≡ b → y.along ≡ b → n ≡ m
 one_of_edge d e true n m x y one at_n at_m ex ey bx by =
     let p : Row → Bool = λ r. (r.edge.0 == e) && r.along in
-    one_place p d.rows (sym (count_by-total p d.rows) ∙ one) n m x y at_n at_m (and_from (x.edge.0 == e) x.along (eq-eqb x.edge.0 e ex) bx) (and_from (y.edge.0 == e) y.along (eq-eqb y.edge.0 e ey) by)
+    one_place p d.rows (sym (count_by-total p d.rows) ∙ one) n m x y at_n at_m (and_from (x.edge.0 == e) x.along (eq-eqb x.edge.0 e ex) bx)
+    (and_from (y.edge.0 == e) y.along (eq-eqb y.edge.0 e ey) by)
 one_of_edge d e false n m x y one at_n at_m ex ey bx by =
     let p : Row → Bool = λ r. (r.edge.0 == e) && not r.along in
-    one_place p d.rows (sym (count_by-total p d.rows) ∙ one) n m x y at_n at_m (and_from (x.edge.0 == e) (not x.along) (eq-eqb x.edge.0 e ex) (ap not bx)) (and_from (y.edge.0 == e) (not y.along) (eq-eqb y.edge.0 e ey) (ap not by))
+    one_place p d.rows (sym (count_by-total p d.rows) ∙ one) n m x y at_n at_m (and_from (x.edge.0 == e) (not x.along) (eq-eqb x.edge.0 e ex) (ap not bx))
+    (and_from (y.edge.0 == e) (not y.along) (eq-eqb y.edge.0 e ey) (ap not by))
 
 -- a row has one mate
 pub one_mate : (d : ShellRows) → PairedRows d → (r m k : ℕ) → AreMates d r m → AreMates d r k → m ≡ k

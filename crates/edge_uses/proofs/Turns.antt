@@ -19,7 +19,15 @@ use Rattle.edge_uses.specs.Mates.{ArePaired, AreInvolution, TurnsPermute}
 use Rattle.edge_uses.proofs.Turn.{one_mate, has_mate, paired_rows, turning, not-not}
 
 pub mates_back : (d : ShellRows) (r m : ℕ) → AreMates d r m → AreMates d m r
-mates_back d r m h = record { row = h.mate; mate = h.row; at_r = h.at_m; at_m = h.at_r; one_edge = sym h.one_edge; opposite = not-not h.row.along h.mate.along h.opposite }
+mates_back d r m h = record {
+  row = h.mate;
+  mate = h.row;
+  at_r = h.at_m;
+  at_m = h.at_r;
+  one_edge = sym h.one_edge;
+  opposite =
+      not-not h.row.along h.mate.along h.opposite;
+}
 
 pub mates_involute : (d : ShellRows) → ArePaired d → AreInvolution d
 mates_involute d whole = record {
@@ -34,8 +42,11 @@ differs x y lt = ⊎_elim (λ k. absurd (omega (arith, k.1, lt))) (λ k. k.0) (e
 numbers_distinct : (base n : ℕ) → IsDistinct ◌==◌ (numbers_from base n)
 unfolding IsDistinct
 numbers_distinct base zero = tt
-numbers_distinct base (suc n) =
-    (AllByRecursion-weaker (λ y. base < y) (λ y. (base == y) ≡ false) (numbers_from (base + 1) n) (λ y. differs base y) (numbers_above base (base + 1) n (omega arith)), numbers_distinct (base + 1) n)
+numbers_distinct base (suc n) = (
+  AllByRecursion-weaker (λ y. base < y) (λ y. (base == y) ≡ false) (numbers_from (base + 1) n) (λ y. differs base y)
+      (numbers_above base (base + 1) n (omega arith)),
+  numbers_distinct (base + 1) n,
+)
 
 flips : (x y : ℕ) → (x == y) ≡ (y == x)
 flips x y = by_test (x == y) refl (y == x) refl
@@ -57,20 +68,24 @@ not_before xs q r t distinct at_q at_r lt =
 -- no row follows two
 pub follows_apart : (d : ShellRows) → AreRows d → (q r t : ℕ) → Follows d q t → Follows d r t → q ≡ r
 follows_apart d rows q r t f g =
-    let distinct : IsDistinct ◌==◌ d.follows = IsDistinct-IsPermutation ◌==◌ flips (numbers_from 0 (length d.rows)) d.follows rows.permuted (numbers_distinct 0 (length d.rows)) in
+    let distinct : IsDistinct ◌==◌ d.follows = IsDistinct-IsPermutation ◌==◌ flips (numbers_from 0 (length d.rows)) d.follows rows.permuted
+    (numbers_distinct 0 (length d.rows)) in
     let a : r ≤ q = ⊎_elim (λ lt. absurd (not_before d.follows q r t distinct f g lt)) (λ le. le) (cases_lt q r) in
     let b : q ≤ r = ⊎_elim (λ lt. absurd (not_before d.follows r q t distinct g f lt)) (λ le. le) (cases_lt r q) in
     omega (arith, a, b)
 
 -- each row follows one
-pub follows_onto : (d : ShellRows) → AreRows d → (t : ℕ) (b : Row) → slice_get d.rows t ≡ Some b → (m : ℕ) × (a : Row) × Follows d m t × (slice_get d.rows m ≡ Some a)
+pub follows_onto : (d : ShellRows) → AreRows d → (t : ℕ) (b : Row) → slice_get d.rows t ≡ Some b
+    → (m : ℕ) × (a : Row) × Follows d m t × (slice_get d.rows m ≡ Some a)
 follows_onto d rows t b at =
     let low : t < length d.rows = slice_get_within d.rows t b at in
     let zero_more : 0 + t ≡ t = omega arith in
     let listed : Contains (numbers_from 0 (length d.rows)) t =
-    Contains-from_Has (numbers_from 0 (length d.rows)) t (subst (λ n. Has (numbers_from 0 (length d.rows)) n) zero_more (numbers_have 0 (length d.rows) t low)) in
+    Contains-from_Has (numbers_from 0 (length d.rows)) t (subst (λ n. Has (numbers_from 0 (length d.rows)) n) zero_more (numbers_have 0 (length d.rows) t low))
+    in
     let c : Contains d.follows t = Contains-permutation (numbers_from 0 (length d.rows)) d.follows t rows.permuted listed in
-    let long : length d.follows ≡ length d.rows = length_permutation (numbers_from 0 (length d.rows)) d.follows rows.permuted ∙ length-numbers 0 (length d.rows) in
+    let long : length d.follows ≡ length d.rows = length_permutation (numbers_from 0 (length d.rows)) d.follows rows.permuted
+    ∙ length-numbers 0 (length d.rows) in
     let here : Follows d c.0 t = slice_get-get_or d.follows c.0 t c.1 ∙ ap Some c.2 in
     (c.0, get_or d.rows c.0 b, here, slice_get-get_or d.rows c.0 b (omega (arith, c.1, long)))
 

@@ -1,5 +1,6 @@
 -- What the rows of a shell of a solid keep.
-use Rattle.std.specs.Prelude.{◌≡◌, ◌<◌, ◌≤◌, ◌+◌, ◌*◌, ◌^◌, ◌==◌, ℕ, zero, suc, Bool, true, false, not, cond, List, [], ◌∷◌, length, map, flat_map, filter, All, Contains, Option, Some, None, slice_get, slice_index}
+use Rattle.std.specs.Prelude.{◌≡◌, ◌<◌, ◌≤◌, ◌+◌, ◌*◌, ◌^◌, ◌==◌, ℕ, zero, suc, Bool, true, false, not, cond, List, [], ◌∷◌, length, map, flat_map, filter, All}
+use Rattle.std.specs.Prelude.{Contains, Option, Some, None, slice_get, slice_index}
 use Rattle.std.specs.List.{AllByRecursion}
 use Rattle.std.specs.List.Sorted.{IsStrictlyIncreasing}
 use Rattle.std.proofs.Common.{sym, ◌∙◌, ap, subst, arith, length-append, get_or}
@@ -63,27 +64,57 @@ vertices_shorter s (u ∷ us) = omega (arith, vertices_shorter s us, use_short s
 shells_edges : (hs : List Shell) → length (flat_map shell_edges hs) ≤ length (flat_map shell_uses hs)
 shells_edges [] = omega arith
 shells_edges (h ∷ hs) =
-    omega (arith, shells_edges hs, edges_shorter (shell_uses h), length-append (shell_edges h) (flat_map shell_edges hs), length-append (shell_uses h) (flat_map shell_uses hs))
+    omega (
+      arith,
+      shells_edges hs,
+      edges_shorter (shell_uses h),
+      length-append (shell_edges h) (flat_map shell_edges hs),
+      length-append (shell_uses h)
+          (flat_map shell_uses hs),
+    )
 
 shells_vertices : (s : SolidData) (hs : List Shell) → length (flat_map (shell_vertices s) hs) ≤ 2 * length (flat_map shell_uses hs)
 shells_vertices s [] = omega arith
 shells_vertices s (h ∷ hs) =
-    omega (arith, shells_vertices s hs, vertices_shorter s (shell_uses h), length-append (shell_vertices s h) (flat_map (shell_vertices s) hs), length-append (shell_uses h) (flat_map shell_uses hs))
+    omega (
+      arith,
+      shells_vertices s hs,
+      vertices_shorter s (shell_uses h),
+      length-append (shell_vertices s h) (flat_map (shell_vertices s) hs),
+      length-append
+          (shell_uses h) (flat_map shell_uses hs),
+    )
 
 pub few_edges : (s : SolidData) → IsNumberedSolid s → length s.edges < 2 ^ 29
 few_edges s numbered =
-    omega (arith, numbered.few_uses, shells_edges s.shells, distinct_shorter (flat_map shell_edges s.shells), ap (λ xs. length xs) numbered.edges, length-numbers 0 (length s.edges))
+    omega (
+      arith,
+      numbered.few_uses,
+      shells_edges s.shells,
+      distinct_shorter (flat_map shell_edges s.shells),
+      ap (λ xs. length xs) numbered.edges,
+      length-numbers 0 (length s.edges),
+    )
 
 pub few_vertices : (s : SolidData) → IsNumberedSolid s → length s.vertices < 2 ^ 30
 few_vertices s numbered =
-    omega (arith, numbered.few_uses, shells_vertices s s.shells, distinct_shorter (flat_map (shell_vertices s) s.shells), ap (λ xs. length xs) numbered.vertices, length-numbers 0 (length s.vertices))
+    omega (
+      arith,
+      numbered.few_uses,
+      shells_vertices s s.shells,
+      distinct_shorter (flat_map (shell_vertices s) s.shells),
+      ap (λ xs. length xs)
+          numbered.vertices,
+      length-numbers 0 (length s.vertices),
+    )
 
 all_from : (P : ℕ → Type 0) (xs : List ℕ) → ((x : ℕ) → Has xs x → P x) → All P xs
 all_from P xs f i d lt = f (get_or xs i d) (Has-from_place xs (get_or xs i d) i lt (default_apart xs i (get_or xs i d) d lt))
 
 pub vertices_known : (s : SolidData) (shell : Shell) → IsNumberedSolid s → Has s.shells shell → VerticesKnown s shell
 vertices_known s shell numbered has v m =
-    let all : Has (distinct ◌==◌ (flat_map (shell_vertices s) s.shells)) v = to_distinct ◌==◌ eqb-true (flat_map (shell_vertices s) s.shells) v (has_flat_map (shell_vertices s) s.shells shell v has m) in
+    let all : Has (distinct ◌==◌ (flat_map (shell_vertices s) s.shells)) v = to_distinct ◌==◌ eqb-true (flat_map (shell_vertices s) s.shells) v
+    (has_flat_map (shell_vertices s) s.shells shell v has m) in
     let b = number_below 0 (length s.vertices) v (subst (λ xs. Has xs v) numbered.vertices all) in
     omega (arith, b.1)
 
@@ -91,7 +122,8 @@ vertices_known s shell numbered has v m =
 pub known_parts : (s : SolidData) (shell : Shell) → IsNumberedSolid s → Has s.shells shell → HasKnownParts s shell
 known_parts s shell numbered has = record {
   edges = all_from (λ e. e < length s.edges) (shell_edges shell) (λ e m.
-      let all : Has (distinct ◌==◌ (flat_map shell_edges s.shells)) e = to_distinct ◌==◌ eqb-true (flat_map shell_edges s.shells) e (has_flat_map shell_edges s.shells shell e has m) in
+      let all : Has (distinct ◌==◌ (flat_map shell_edges s.shells)) e = to_distinct ◌==◌ eqb-true (flat_map shell_edges s.shells) e
+      (has_flat_map shell_edges s.shells shell e has m) in
       let b = number_below 0 (length s.edges) e (subst (λ xs. Has xs e) numbered.edges all) in
       omega (arith, b.1));
   vertices = all_from (λ v. v < length s.vertices) (shell_vertices s shell) (vertices_known s shell numbered has);
@@ -108,9 +140,16 @@ points_short p (VertexUse vertex ∷ us) (e ∷ es) = omega arith
 all_points_short : (s : SolidData) (ps : List PlacedLoop) → length (flat_map (point_in s) ps) ≤ length ps
 all_points_short s [] = omega arith
 all_points_short s (p ∷ ps) =
-    omega (arith, all_points_short s ps, points_short p p.loop.uses (map (λ (r : Row). r.edge.0) (loop_rows s p)), length-append (point_in s p) (flat_map (point_in s) ps))
+    omega (
+      arith,
+      all_points_short s ps,
+      points_short p p.loop.uses (map (λ (r : Row). r.edge.0) (loop_rows s p)),
+      length-append (point_in s p)
+          (flat_map (point_in s) ps),
+    )
 
-point_on_face : (n : ℕ) (p : PlacedLoop) (us : List LoopUse) (es : List ℕ) → p.at.face.0 < n → AllByRecursion (λ (q : LoopAt × ℕ). q.0.face.0 < n) (point_of p us es)
+point_on_face : (n : ℕ) (p : PlacedLoop) (us : List LoopUse) (es : List ℕ) → p.at.face.0 < n
+    → AllByRecursion (λ (q : LoopAt × ℕ). q.0.face.0 < n) (point_of p us es)
 point_on_face n p [] [] h = tt
 point_on_face n p [] (e ∷ es) h = tt
 point_on_face n p (EdgeUse edge along ∷ us) [] h = tt
@@ -118,10 +157,12 @@ point_on_face n p (EdgeUse edge along ∷ us) (e ∷ es) h = tt
 point_on_face n p (VertexUse vertex ∷ us) [] h = (h, tt)
 point_on_face n p (VertexUse vertex ∷ us) (e ∷ es) h = tt
 
-points_on_faces : (s : SolidData) (shell : Shell) → AllByRecursion (λ (q : LoopAt × ℕ). q.0.face.0 < length shell.faces) (flat_map (point_in s) (placed_loops shell))
+points_on_faces : (s : SolidData) (shell : Shell)
+    → AllByRecursion (λ (q : LoopAt × ℕ). q.0.face.0 < length shell.faces) (flat_map (point_in s) (placed_loops shell))
 points_on_faces s shell =
     all_flat_map (λ (q : LoopAt × ℕ). q.0.face.0 < length shell.faces) (point_in s) (placed_loops shell)
-    (λ p m. point_on_face (length shell.faces) p p.loop.uses (map (λ (r : Row). r.edge.0) (loop_rows s p)) (all_has (λ (q : PlacedLoop). q.at.face.0 < length shell.faces) (placed_loops shell) p (loops_below shell) m))
+    (λ p m. point_on_face (length shell.faces) p p.loop.uses (map (λ (r : Row). r.edge.0) (loop_rows s p))
+    (all_has (λ (q : PlacedLoop). q.at.face.0 < length shell.faces) (placed_loops shell) p (loops_below shell) m))
 
 vertex_id : (a b : VertexId) → a.0 ≡ b.0 → a ≡ b
 vertex_id a b h = ap (λ n. record { 0 = n }) h
@@ -130,8 +171,10 @@ not_back : (a b : Bool) → a ≡ not b → not a ≡ b
 not_back a true h = ap not h
 not_back a false h = ap not h
 
-one_edge : (s : SolidData) (rows : List Row) (n m : ℕ) (a b : Row) → AllByRecursion (HasShape s) rows → slice_get rows n ≡ Some a → slice_get rows m ≡ Some b → a.edge ≡ b.edge
-    → (e : Edge) × (a.from.0 ≡ begin_of (Some e) a.along) × (a.to.0 ≡ begin_of (Some e) (not a.along)) × (b.from.0 ≡ begin_of (Some e) b.along) × (b.to.0 ≡ begin_of (Some e) (not b.along))
+one_edge : (s : SolidData) (rows : List Row) (n m : ℕ) (a b : Row) → AllByRecursion (HasShape s) rows → slice_get rows n ≡ Some a → slice_get rows m ≡ Some b
+    → a.edge ≡ b.edge
+    → (e : Edge) × (a.from.0 ≡ begin_of (Some e) a.along) × (a.to.0 ≡ begin_of (Some e) (not a.along)) × (b.from.0 ≡ begin_of (Some e) b.along)
+    × (b.to.0 ≡ begin_of (Some e) (not b.along))
 one_edge s rows n m a b all at_n at_m one =
     let x = shape_at s rows n a all at_n in
     let y = shape_at s rows m b all at_m in
@@ -145,9 +188,11 @@ first_below x (y ∷ xs) h lt = h.0
 pub rising : (xs : List ℕ) → Rises xs → IsStrictlyIncreasing xs
 rising [] h k lt = absurd (omega (arith, lt))
 rising (x ∷ xs) h zero lt = first_below x xs h.0 (omega (arith, lt))
-rising (x ∷ xs) h (suc k) lt = let e : suc k + 1 ≡ suc (k + 1) = omega arith in subst (λ n. slice_index xs k < slice_index (x ∷ xs) n) (sym e) (rising xs h.1 k (omega (arith, lt)))
+rising (x ∷ xs) h (suc k) lt = let e : suc k + 1 ≡ suc (k + 1) = omega arith in subst (λ n. slice_index xs k < slice_index (x ∷ xs) n) (sym e)
+    (rising xs h.1 k (omega (arith, lt)))
 
-both_hold : (rows : List Row) (vs : List ℕ) → AllByRecursion (λ (r : Row). Has vs r.from.0) rows → AllByRecursion (λ (r : Row). Has vs r.to.0) rows → AllByRecursion (λ (r : Row). Contains vs r.from.0 × Contains vs r.to.0) rows
+both_hold : (rows : List Row) (vs : List ℕ) → AllByRecursion (λ (r : Row). Has vs r.from.0) rows → AllByRecursion (λ (r : Row). Has vs r.to.0) rows
+    → AllByRecursion (λ (r : Row). Contains vs r.from.0 × Contains vs r.to.0) rows
 both_hold [] vs a b = tt
 both_hold (r ∷ rows) vs a b = ((Contains-from_Has vs r.from.0 a.0, Contains-from_Has vs r.to.0 b.0), both_hold rows vs a.1 b.1)
 
@@ -163,17 +208,25 @@ are_rows s shell numbered has =
       on_faces = faces_known s shell;
       points_on_faces = points_on_faces s shell;
       same_ends = λ n m a b at_n at_m one way.
-          let k = one_edge s d.rows n m a b (all_shapes s (placed_loops shell)) at_n at_m one in
-          (vertex_id a.from b.from (k.1 ∙ (ap (begin_of (Some k.0)) way ∙ sym k.3)), vertex_id a.to b.to (k.2 ∙ (ap (λ w. begin_of (Some k.0) (not w)) way ∙ sym k.4)));
+          let k = one_edge s d.rows n m a b (all_shapes s (placed_loops shell)) at_n at_m one in (
+            vertex_id a.from b.from (k.1 ∙ (ap (begin_of (Some k.0)) way ∙ sym k.3)),
+            vertex_id a.to b.to
+                (k.2 ∙ (ap (λ w. begin_of (Some k.0) (not w)) way ∙ sym k.4)),
+          );
       exchanged_ends = λ n m a b at_n at_m one way.
-          let k = one_edge s d.rows n m a b (all_shapes s (placed_loops shell)) at_n at_m one in
-          (vertex_id a.from b.to (k.1 ∙ (ap (begin_of (Some k.0)) way ∙ sym k.4)), vertex_id a.to b.from (k.2 ∙ (ap (begin_of (Some k.0)) (not_back a.along b.along way) ∙ sym k.3)));
+          let k = one_edge s d.rows n m a b (all_shapes s (placed_loops shell)) at_n at_m one in (
+            vertex_id a.from b.to (k.1 ∙ (ap (begin_of (Some k.0)) way ∙ sym k.4)),
+            vertex_id a.to b.from
+                (k.2 ∙ (ap (begin_of (Some k.0)) (not_back a.along b.along way) ∙ sym k.3)),
+          );
       permuted = rows_permuted s shell;
       in_loop = follows_in_loop s shell;
       followed = each_is_followed s shell;
       edges_rise = rising d.edges (edges_rise s shell);
-      edges_hold = AllByRecursion-weaker (λ (r : Row). Has d.edges r.edge.0) (λ (r : Row). Contains d.edges r.edge.0) d.rows (λ r. Contains-from_Has d.edges r.edge.0) (edges_known s shell);
+      edges_hold = AllByRecursion-weaker (λ (r : Row). Has d.edges r.edge.0) (λ (r : Row). Contains d.edges r.edge.0) d.rows
+          (λ r. Contains-from_Has d.edges r.edge.0) (edges_known s shell);
       vertices_rise = rising d.vertices (vertices_rise s shell);
       vertices_hold = both_hold d.rows d.vertices (starts_known s shell known) (stops_known s shell known);
-      points_hold = AllByRecursion-weaker (λ (p : LoopAt × ℕ). Has d.vertices p.1) (λ (p : LoopAt × ℕ). Contains d.vertices p.1) d.points (λ p. Contains-from_Has d.vertices p.1) (points_known s shell known);
+      points_hold = AllByRecursion-weaker (λ (p : LoopAt × ℕ). Has d.vertices p.1) (λ (p : LoopAt × ℕ). Contains d.vertices p.1) d.points
+          (λ p. Contains-from_Has d.vertices p.1) (points_known s shell known);
     }

@@ -7,7 +7,12 @@ use Rattle.solid_data.specs.declared.solid.VertexKey.{VertexKey}
 
 -- one shell with one face with one loop
 abbrev pub one_loop : List LoopUse → List Shell
-one_loop uses = record { entity = record { 0 = 11 }; flag = true; faces = record { entity = record { 0 = 9 }; flag = true; loops = record { entity = record { 0 = 7 }; uses = uses } ∷ [] } ∷ [] } ∷ []
+one_loop uses = record {
+  entity = record { 0 = 11 };
+  flag = true;
+  faces =
+      record { entity = record { 0 = 9 }; flag = true; loops = record { entity = record { 0 = 7 }; uses = uses } ∷ [] } ∷ [];
+} ∷ []
 
 abbrev pub vertex_key : ℕ → VertexKey
 vertex_key index = record { «list» = record { 0 = 3 }; index = index }

@@ -1,5 +1,6 @@
 -- The rows of a shell: its edge uses in file order, numbered from 0.
-use Rattle.std.specs.Prelude.{◌≡◌, ℕ, ◌+◌, ◌<◌, Bool, true, false, not, Contains, IsPermutation, List, [], ◌∷◌, ◌++◌, length, map, flat_map, filter_map, Option, Some, None, slice_get, if◌then◌else◌}
+use Rattle.std.specs.Prelude.{◌≡◌, ℕ, ◌+◌, ◌<◌, Bool, true, false, not, Contains, IsPermutation, List, [], ◌∷◌, ◌++◌, length, map, flat_map, filter_map, Option}
+use Rattle.std.specs.Prelude.{Some, None, slice_get, if◌then◌else◌}
 use Rattle.std.specs.List.{AllByRecursion}
 use Rattle.std.specs.List.Sorted.{IsStrictlyIncreasing}
 use Rattle.solid_data.specs.Ring.{next_of_each, previous_of_each, numbers_from}
@@ -13,7 +14,8 @@ use Rattle.solid_data.specs.declared.solid.Shell.{Shell}
 use Rattle.edge_uses.specs.declared.row.Row.{Row}
 use Rattle.solid_data.specs.declared.TheConstants.{PART_LIMIT}
 
--- the rows of a shell, the row that follows each, how many faces it has, which edges and vertices occur in it, by rising number, and its loops without an edge, each with its vertex
+-- the rows of a shell, the row that follows each, how many faces it has, which edges and vertices occur in it, by rising number, and its loops without an edge,
+-- each with its vertex
 pub record ShellRows : Type 0 where
   pub rows : List Row
   pub follows : List ℕ
@@ -35,7 +37,8 @@ row_of s p (VertexUse vertex) = None
 abbrev pub loop_rows : SolidData → PlacedLoop → List Row
 loop_rows s p = filter_map (row_of s p) p.loop.uses
 
--- For loops whose rows are numbered from base on: after each row the next of its loop, after the last the first. In a loop that is walked backwards it is the one before.
+-- For loops whose rows are numbered from base on: after each row the next of its loop, after the last the first. In a loop that is walked backwards it is the
+-- one before.
 abbrev pub follows_from : SolidData → ℕ → List PlacedLoop → List ℕ
 follows_from s base [] = []
 follows_from s base (p ∷ ps) =
@@ -70,8 +73,10 @@ pub record AreRows (d : ShellRows) : Type 0 where
   pub on_faces : AllByRecursion (λ (r : Row). r.at.face.0 < d.face_count) d.rows
   pub points_on_faces : AllByRecursion (λ (p : LoopAt × ℕ). p.0.face.0 < d.face_count) d.points
   -- two rows of one edge have the same ends, exchanged where their directions differ
-  pub same_ends : (n m : ℕ) (a b : Row) → slice_get d.rows n ≡ Some a → slice_get d.rows m ≡ Some b → a.edge ≡ b.edge → a.along ≡ b.along → (a.from ≡ b.from) × (a.to ≡ b.to)
-  pub exchanged_ends : (n m : ℕ) (a b : Row) → slice_get d.rows n ≡ Some a → slice_get d.rows m ≡ Some b → a.edge ≡ b.edge → a.along ≡ not b.along → (a.from ≡ b.to) × (a.to ≡ b.from)
+  pub same_ends : (n m : ℕ) (a b : Row) → slice_get d.rows n ≡ Some a → slice_get d.rows m ≡ Some b → a.edge ≡ b.edge → a.along ≡ b.along
+      → (a.from ≡ b.from) × (a.to ≡ b.to)
+  pub exchanged_ends : (n m : ℕ) (a b : Row) → slice_get d.rows n ≡ Some a → slice_get d.rows m ≡ Some b → a.edge ≡ b.edge → a.along ≡ not b.along
+      → (a.from ≡ b.to) × (a.to ≡ b.from)
   -- each row follows one, in its own loop
   pub permuted : IsPermutation (numbers_from 0 (length d.rows)) d.follows
   pub in_loop : (r s : ℕ) (a b : Row) → slice_get d.follows r ≡ Some s → slice_get d.rows r ≡ Some a → slice_get d.rows s ≡ Some b → a.at ≡ b.at

@@ -29,14 +29,16 @@ all_back Q [] (q ∷ qs) h a = absurd h
 all_back Q (p ∷ ps) [] h a = absurd h
 all_back Q (p ∷ ps) (q ∷ qs) h a = let here : p.holds = h.1.1 a.0 in (here, all_back Q ps qs (h.2 here) a.1)
 
-first_alike : (Q : Failing → Failing → Type 0) (ps qs : List Obligation) → FailAlike Q ps qs → (x : Failing) → FirstFalse ps x → (y : Failing) × Q x y × FirstFalse qs y
+first_alike : (Q : Failing → Failing → Type 0) (ps qs : List Obligation) → FailAlike Q ps qs → (x : Failing) → FirstFalse ps x
+    → (y : Failing) × Q x y × FirstFalse qs y
 first_alike Q [] [] h x bad = absurd bad
 first_alike Q [] (q ∷ qs) h x bad = absurd h
 first_alike Q (p ∷ ps) [] h x bad = absurd h
 first_alike Q (p ∷ ps) (q ∷ qs) h x (inl bad) = (q.failing, subst (λ z. Q z q.failing) (sym bad.1) h.0, inl ((λ holds. bad.0 (h.1.1 holds)), refl))
 first_alike Q (p ∷ ps) (q ∷ qs) h x (inr rest) = let k = first_alike Q ps qs (h.2 rest.0) x rest.1 in (k.0, k.1, inr (h.1.0 rest.0, k.2))
 
-first_back : (Q : Failing → Failing → Type 0) (ps qs : List Obligation) → FailAlike Q ps qs → (y : Failing) → FirstFalse qs y → (x : Failing) × Q x y × FirstFalse ps x
+first_back : (Q : Failing → Failing → Type 0) (ps qs : List Obligation) → FailAlike Q ps qs → (y : Failing) → FirstFalse qs y
+    → (x : Failing) × Q x y × FirstFalse ps x
 first_back Q [] [] h y bad = absurd bad
 first_back Q [] (q ∷ qs) h y bad = absurd h
 first_back Q (p ∷ ps) [] h y bad = absurd h
@@ -49,24 +51,28 @@ first_back Q (p ∷ ps) (q ∷ qs) h y (inr rest) =
 pub one_verdict : (Q : Failing → Failing → Type 0) (ps qs : List Obligation) → FailAlike Q ps qs → HaveOneVerdict Q ps qs
 one_verdict Q ps qs h = record { all = (all_alike Q ps qs h, all_back Q ps qs h); fails = first_alike Q ps qs h; only = first_back Q ps qs h }
 
-pub append_alike : (Q : Failing → Failing → Type 0) (ps ms qs ns : List Obligation) → FailAlike Q ps qs → (AllHold ps → FailAlike Q ms ns) → FailAlike Q (ps ++ ms) (qs ++ ns)
+pub append_alike : (Q : Failing → Failing → Type 0) (ps ms qs ns : List Obligation) → FailAlike Q ps qs → (AllHold ps → FailAlike Q ms ns)
+    → FailAlike Q (ps ++ ms) (qs ++ ns)
 append_alike Q [] ms [] ns h f = f tt
 append_alike Q [] ms (q ∷ qs) ns h f = absurd h
 append_alike Q (p ∷ ps) ms [] ns h f = absurd h
 append_alike Q (p ∷ ps) ms (q ∷ qs) ns h f = (h.0, h.1, λ here. append_alike Q ps ms qs ns (h.2 here) (λ all. f (here, all)))
 
-pub map_alike : {A B : Type 0} (Q : Failing → Failing → Type 0) (Z : A → B → Type 0) (f : A → Obligation) (g : B → Obligation) (xs : List A) (ys : List B) → AllZip Z xs ys → ((x : A) (y : B) → Z x y → OneAlike Q (f x) (g y)) → FailAlike Q (map f xs) (map g ys)
+pub map_alike : {A B : Type 0} (Q : Failing → Failing → Type 0) (Z : A → B → Type 0) (f : A → Obligation) (g : B → Obligation) (xs : List A) (ys : List B)
+    → AllZip Z xs ys → ((x : A) (y : B) → Z x y → OneAlike Q (f x) (g y)) → FailAlike Q (map f xs) (map g ys)
 map_alike Q Z f g [] [] z h = tt
 map_alike Q Z f g [] (y ∷ ys) z h = absurd z
 map_alike Q Z f g (x ∷ xs) [] z h = absurd z
 map_alike Q Z f g (x ∷ xs) (y ∷ ys) z h = let k = h x y z.0 in (k.0, k.1, λ here. map_alike Q Z f g xs ys z.1 h)
 
 -- the obligations of one list, by two readings
-pub map_same_alike : {A : Type 0} (Q : Failing → Failing → Type 0) (f g : A → Obligation) (xs : List A) → ((x : A) → Has xs x → OneAlike Q (f x) (g x)) → FailAlike Q (map f xs) (map g xs)
+pub map_same_alike : {A : Type 0} (Q : Failing → Failing → Type 0) (f g : A → Obligation) (xs : List A) → ((x : A) → Has xs x → OneAlike Q (f x) (g x))
+    → FailAlike Q (map f xs) (map g xs)
 map_same_alike Q f g [] h = tt
 map_same_alike Q f g (x ∷ xs) h = let k = h x (inl refl) in (k.0, k.1, λ here. map_same_alike Q f g xs (λ y m. h y (inr m)))
 
-pub of_each_alike : {A B : Type 0} (Q : Failing → Failing → Type 0) (Z : A → B → Type 0) (f : A → List Obligation) (g : B → List Obligation) (xs : List A) (ys : List B) → AllZip Z xs ys → ((x : A) (y : B) → Z x y → FailAlike Q (f x) (g y)) → FailAlike Q (of_each f xs) (of_each g ys)
+pub of_each_alike : {A B : Type 0} (Q : Failing → Failing → Type 0) (Z : A → B → Type 0) (f : A → List Obligation) (g : B → List Obligation) (xs : List A)
+    (ys : List B) → AllZip Z xs ys → ((x : A) (y : B) → Z x y → FailAlike Q (f x) (g y)) → FailAlike Q (of_each f xs) (of_each g ys)
 of_each_alike Q Z f g [] [] z h = tt
 of_each_alike Q Z f g [] (y ∷ ys) z h = absurd z
 of_each_alike Q Z f g (x ∷ xs) [] z h = absurd z

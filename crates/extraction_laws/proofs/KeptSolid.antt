@@ -14,13 +14,15 @@ use Rattle.solid_data.specs.declared.solid.LoopUse.TheVariants.{EdgeUse, VertexU
 use Rattle.solid_data.proofs.Members.{All-at, all_flat_map}
 use Rattle.brep_walk.specs.Places.{shells, faces, loops, tuples, edge_at, numbers, NamesKind, places}
 use Rattle.brep_numbering.specs.Keys.{Keys}
-use Rattle.brep_walk.specs.SolidOf.{edge_key, vertex_key, all_tuples, edge_named, ends_named, vertices_named, edge_keys, vertex_keys, use_by, loop_by, face_by, shell_by, numbered_by, edge_by, keys_of, solid_of}
+use Rattle.brep_walk.specs.SolidOf.{edge_key, vertex_key, all_tuples, edge_named, ends_named, vertices_named, edge_keys, vertex_keys, use_by, loop_by, face_by}
+use Rattle.brep_walk.specs.SolidOf.{shell_by, numbered_by, edge_by, keys_of, solid_of}
 use Rattle.solid_extract.specs.Kept.{renamed_pair, renamed_tuple, renamed_edge}
 use Rattle.extraction_laws.specs.Relabelled.{Names, renumbered, IsRelabelledLoop, IsRelabelledFace, IsRelabelledShell, IsRelabelledEdge, IsRelabelled}
 use Rattle.extraction_laws.proofs.Zips.{zip_append}
 use Rattle.extraction_laws.proofs.Renames.{IsEntity, IsNew, Renames, number_new, becomes_entity}
 use Rattle.extraction_laws.proofs.RenamedLists.{all_distinct, distinct_renamed, place_renamed, same_number, map_known, zip_known}
-use Rattle.extraction_laws.proofs.KeptPlaces.{KnownUse, KnownTuple, KnownLoop, KnownFace, KnownShell, KnownSolid, flat_known, numbers_all, numbers_renamed, tuples_new, loops_new, faces_new, shells_new, edge_new, loops_known, faces_known, all_faces_known, solid_known}
+use Rattle.extraction_laws.proofs.KeptPlaces.{KnownUse, KnownTuple, KnownLoop, KnownFace, KnownShell, KnownSolid, flat_known, numbers_all, numbers_renamed}
+use Rattle.extraction_laws.proofs.KeptPlaces.{tuples_new, loops_new, faces_new, shells_new, edge_new, loops_known, faces_known, all_faces_known, solid_known}
 
 -- keys under new numbers
 abbrev new_edge_key : (ℕ → ℕ) → EdgeKey → EdgeKey
@@ -34,7 +36,13 @@ new_keys new keys = record { edges = map (new_edge_key new) keys.edges; vertices
 
 -- what the records tell, by these keys
 abbrev solid_by : Contents → ℕ → ℤ → Keys → SolidData
-solid_by f n z keys = record { entity = record { 0 = n }; shells = map (shell_by f keys) (shells f z); edges = flat_map (edge_by f keys) keys.edges; vertices = keys.vertices }
+solid_by f n z keys = record {
+  entity = record { 0 = n };
+  shells = map (shell_by f keys) (shells f z);
+  edges = flat_map (edge_by f keys) keys.edges;
+  vertices =
+      keys.vertices;
+}
 
 solid_is : (f : Contents) (n : ℕ) → solid_of f n ≡ solid_by f n (pos n) (keys_of f (pos n))
 unfolding solid_of
@@ -70,10 +78,12 @@ module _ (f q : Contents) (K : ℕ → Type 0) (new : ℕ → ℕ) (g : ℤ → 
   same_vertices : (a b : VertexKey) → KnownVertexKey a → KnownVertexKey b → same_vertex (new_vertex_key new a) (new_vertex_key new b) ≡ same_vertex a b
   same_vertices a b x y = ap (λ c. c && (a.index == b.index)) (same_number K new h.apart a.«list».0 b.«list».0 x y)
 
-  edge_after : (z j : ℤ) (x : EdgeTuple) → IsEntity K z → NamesKind edges f z → edge_at f z (entry_number j) ≡ Some x → edge_at q (g z) (entry_number j) ≡ Some (renamed_edge g x)
+  edge_after : (z j : ℤ) (x : EdgeTuple) → IsEntity K z → NamesKind edges f z → edge_at f z (entry_number j) ≡ Some x
+      → edge_at q (g z) (entry_number j) ≡ Some (renamed_edge g x)
   edge_after z j x e n at = edge_new f q K new g h z (entry_number j) e n ∙ ap (option_map (renamed_edge g)) at
 
-  edge_known : (z j : ℤ) (x : EdgeTuple) → IsEntity K z → NamesKind edges f z → edge_at f z (entry_number j) ≡ Some x → IsEntity K x.start_list → IsEntity K x.end_list → KnownEdgeKey (edge_key z j)
+  edge_known : (z j : ℤ) (x : EdgeTuple) → IsEntity K z → NamesKind edges f z → edge_at f z (entry_number j) ≡ Some x → IsEntity K x.start_list
+      → IsEntity K x.end_list → KnownEdgeKey (edge_key z j)
   edge_known z j x e n at s t = record {
     entity = (number_new f q K new g h z e).0;
     edge = x;
@@ -87,16 +97,20 @@ module _ (f q : Contents) (K : ℕ → Type 0) (new : ℕ → ℕ) (g : ℤ → 
   edge_keys_known true z j k = tt
   edge_keys_known false z j k = (edge_known z j k.0 k.1 k.2 k.3 k.4 k.5, tt)
 
-  vertex_keys_known : (b : Bool) (z j : ℤ) → KnownUse f K b z j → AllByRecursion KnownVertexKey (if b then vertex_key z j ∷ [] else ends_named (edge_at f z (entry_number j)))
+  vertex_keys_known : (b : Bool) (z j : ℤ) → KnownUse f K b z j
+      → AllByRecursion KnownVertexKey (if b then vertex_key z j ∷ [] else ends_named (edge_at f z (entry_number j)))
   vertex_keys_known true z j k = ((number_new f q K new g h z k).0, tt)
-  vertex_keys_known false z j k = subst (λ o. AllByRecursion KnownVertexKey (ends_named o)) (sym k.3) ((number_new f q K new g h k.0.start_list k.4).0, ((number_new f q K new g h k.0.end_list k.5).0, tt))
+  vertex_keys_known false z j k = subst (λ o. AllByRecursion KnownVertexKey (ends_named o)) (sym k.3)
+      ((number_new f q K new g h k.0.start_list k.4).0, ((number_new f q K new g h k.0.end_list k.5).0, tt))
 
-  edges_named_new : (b : Bool) (z j : ℤ) → KnownUse f K b z j → (if b then [] else edge_key (g z) j ∷ []) ≡ map (new_edge_key new) (if b then [] else edge_key z j ∷ [])
+  edges_named_new : (b : Bool) (z j : ℤ) → KnownUse f K b z j → (if b then [] else edge_key (g z) j ∷ [])
+      ≡ map (new_edge_key new) (if b then [] else edge_key z j ∷ [])
   edges_named_new true z j k = refl
   edges_named_new false z j k = ap (λ key. key ∷ []) (edge_key_new z j k.1)
 
   vertices_named_new : (b : Bool) (z j : ℤ) → KnownUse f K b z j
-      → (if b then vertex_key (g z) j ∷ [] else ends_named (edge_at q (g z) (entry_number j))) ≡ map (new_vertex_key new) (if b then vertex_key z j ∷ [] else ends_named (edge_at f z (entry_number j)))
+      → (if b then vertex_key (g z) j ∷ [] else ends_named (edge_at q (g z) (entry_number j)))
+      ≡ map (new_vertex_key new) (if b then vertex_key z j ∷ [] else ends_named (edge_at f z (entry_number j)))
   vertices_named_new true z j k = ap (λ key. key ∷ []) (vertex_key_new z j k)
   vertices_named_new false z j k =
       ap ends_named (edge_after z j k.0 k.1 k.2 k.3)
@@ -121,15 +135,18 @@ module _ (f q : Contents) (K : ℕ → Type 0) (new : ℕ → ℕ) (g : ℤ → 
     tuples_all : AllByRecursion (KnownTuple f K) (all_tuples f n)
     tuples_all =
         all_flat_map (KnownTuple f K) (tuples f) (flat_map (loops f) (flat_map (λ s. numbers (faces f s)) (numbers (shells f n))))
-        (λ l m. let k : KnownLoop f K l = All-at (KnownLoop f K) (flat_map (loops f) (flat_map (λ s. numbers (faces f s)) (numbers (shells f n)))) loops_all l m in k.tuples)
+        (λ l m. let k : KnownLoop f K l = All-at (KnownLoop f K) (flat_map (loops f) (flat_map (λ s. numbers (faces f s)) (numbers (shells f n)))) loops_all l
+        m in k.tuples)
 
     all_tuples_new : all_tuples q (g n) ≡ map (renamed_tuple g) (all_tuples f n)
     all_tuples_new =
-        ap (λ is. flat_map (tuples q) (flat_map (loops q) (flat_map (λ s. numbers (faces q s)) (numbers is)))) (shells_new f q K new g h n known.entity known.kind)
+        ap (λ is. flat_map (tuples q) (flat_map (loops q) (flat_map (λ s. numbers (faces q s)) (numbers is))))
+        (shells_new f q K new g h n known.entity known.kind)
         ∙ (ap (λ zs. flat_map (tuples q) (flat_map (loops q) (flat_map (λ s. numbers (faces q s)) zs))) (numbers_renamed g (shells f n))
         ∙ (ap (λ zs. flat_map (tuples q) (flat_map (loops q) zs)) (faces_known f q K new g h (numbers (shells f n)) shells_all)
         ∙ (ap (λ zs. flat_map (tuples q) zs) (loops_known f q K new g h (flat_map (λ s. numbers (faces f s)) (numbers (shells f n))) faces_all)
-        ∙ flat_known (KnownLoop f K) g (tuples f) (tuples q) (renamed_tuple g) (λ l k. tuples_new f q K new g h l k.entity k.kind) (flat_map (loops f) (flat_map (λ s. numbers (faces f s)) (numbers (shells f n)))) loops_all)))
+        ∙ flat_known (KnownLoop f K) g (tuples f) (tuples q) (renamed_tuple g) (λ l k. tuples_new f q K new g h l k.entity k.kind)
+        (flat_map (loops f) (flat_map (λ s. numbers (faces f s)) (numbers (shells f n)))) loops_all)))
 
     edges_all : AllByRecursion KnownEdgeKey (flat_map edge_named (all_tuples f n))
     edges_all =
@@ -144,13 +161,17 @@ module _ (f q : Contents) (K : ℕ → Type 0) (new : ℕ → ℕ) (g : ℤ → 
     edge_keys_new : edge_keys q (g n) ≡ map (new_edge_key new) (edge_keys f n)
     edge_keys_new =
         ap (λ ts. distinct same_edge (flat_map edge_named ts)) all_tuples_new
-        ∙ (ap (distinct same_edge) (flat_known (KnownTuple f K) (renamed_tuple g) edge_named edge_named (new_edge_key new) (λ t k. edges_named_new t.is_vertex t.«list» t.index k) (all_tuples f n) tuples_all)
+        ∙ (ap (distinct same_edge)
+        (flat_known (KnownTuple f K) (renamed_tuple g) edge_named edge_named (new_edge_key new) (λ t k. edges_named_new t.is_vertex t.«list» t.index k)
+        (all_tuples f n) tuples_all)
         ∙ distinct_renamed same_edge KnownEdgeKey (new_edge_key new) same_edges (flat_map edge_named (all_tuples f n)) edges_all)
 
     vertex_keys_new : vertex_keys q (g n) ≡ map (new_vertex_key new) (vertex_keys f n)
     vertex_keys_new =
         ap (λ ts. distinct same_vertex (flat_map (vertices_named q) ts)) all_tuples_new
-        ∙ (ap (distinct same_vertex) (flat_known (KnownTuple f K) (renamed_tuple g) (vertices_named f) (vertices_named q) (new_vertex_key new) (λ t k. vertices_named_new t.is_vertex t.«list» t.index k) (all_tuples f n) tuples_all)
+        ∙ (ap (distinct same_vertex)
+        (flat_known (KnownTuple f K) (renamed_tuple g) (vertices_named f) (vertices_named q) (new_vertex_key new)
+        (λ t k. vertices_named_new t.is_vertex t.«list» t.index k) (all_tuples f n) tuples_all)
         ∙ distinct_renamed same_vertex KnownVertexKey (new_vertex_key new) same_vertices (flat_map (vertices_named f) (all_tuples f n)) vertices_all)
 
     keys_new : keys_of q (g n) ≡ new_keys new (keys_of f n)
@@ -167,19 +188,24 @@ module _ (f q : Contents) (K : ℕ → Type 0) (new : ℕ → ℕ) (g : ℤ → 
   -- ---- what is told by keys
 
   module _ (keys : Keys) (known_edges : AllByRecursion KnownEdgeKey keys.edges) (known_vertices : AllByRecursion KnownVertexKey keys.vertices) where
-    edge_place : (z j : ℤ) → KnownEdgeKey (edge_key z j) → IsEntity K z → place_of same_edge (map (new_edge_key new) keys.edges) (edge_key (g z) j) ≡ place_of same_edge keys.edges (edge_key z j)
+    edge_place : (z j : ℤ) → KnownEdgeKey (edge_key z j) → IsEntity K z → place_of same_edge (map (new_edge_key new) keys.edges) (edge_key (g z) j)
+        ≡ place_of same_edge keys.edges (edge_key z j)
     edge_place z j k e =
         ap (place_of same_edge (map (new_edge_key new) keys.edges)) (edge_key_new z j e)
         ∙ place_renamed same_edge KnownEdgeKey (new_edge_key new) same_edges keys.edges (edge_key z j) known_edges k
 
-    vertex_place : (z j : ℤ) → IsEntity K z → place_of same_vertex (map (new_vertex_key new) keys.vertices) (vertex_key (g z) j) ≡ place_of same_vertex keys.vertices (vertex_key z j)
+    vertex_place : (z j : ℤ) → IsEntity K z → place_of same_vertex (map (new_vertex_key new) keys.vertices) (vertex_key (g z) j)
+        ≡ place_of same_vertex keys.vertices (vertex_key z j)
     vertex_place z j e =
         ap (place_of same_vertex (map (new_vertex_key new) keys.vertices)) (vertex_key_new z j e)
-        ∙ place_renamed same_vertex KnownVertexKey (new_vertex_key new) same_vertices keys.vertices (vertex_key z j) known_vertices (number_new f q K new g h z e).0
+        ∙ place_renamed same_vertex KnownVertexKey (new_vertex_key new) same_vertices keys.vertices (vertex_key z j) known_vertices
+        (number_new f q K new g h z e).0
 
     use_new : (b flag : Bool) (z j : ℤ) → KnownUse f K b z j
-        → (if b then VertexUse (record { 0 = place_of same_vertex (map (new_vertex_key new) keys.vertices) (vertex_key (g z) j) }) else EdgeUse (record { 0 = place_of same_edge (map (new_edge_key new) keys.edges) (edge_key (g z) j) }) flag)
-        ≡ (if b then VertexUse (record { 0 = place_of same_vertex keys.vertices (vertex_key z j) }) else EdgeUse (record { 0 = place_of same_edge keys.edges (edge_key z j) }) flag)
+        → (if b then VertexUse (record { 0 = place_of same_vertex (map (new_vertex_key new) keys.vertices) (vertex_key (g z) j) }) else EdgeUse
+        (record { 0 = place_of same_edge (map (new_edge_key new) keys.edges) (edge_key (g z) j) }) flag)
+        ≡ (if b then VertexUse (record { 0 = place_of same_vertex keys.vertices (vertex_key z j) }) else EdgeUse
+        (record { 0 = place_of same_edge keys.edges (edge_key z j) }) flag)
     use_new true flag z j k = ap (λ m. VertexUse (record { 0 = m })) (vertex_place z j k)
     use_new false flag z j k = ap (λ m. EdgeUse (record { 0 = m }) flag) (edge_place z j (edge_known z j k.0 k.1 k.2 k.3 k.4 k.5) k.1)
 
@@ -188,7 +214,8 @@ module _ (f q : Contents) (K : ℕ → Type 0) (new : ℕ → ℕ) (g : ℤ → 
       entity = number_new f q K new g h l k.entity;
       uses =
           sym (ap (map (use_by (new_keys new keys))) (tuples_new f q K new g h l k.entity k.kind)
-          ∙ map_known (KnownTuple f K) (renamed_tuple g) (use_by keys) (use_by (new_keys new keys)) (λ t m. use_new t.is_vertex t.flag t.«list» t.index m) (tuples f l) k.tuples);
+          ∙ map_known (KnownTuple f K) (renamed_tuple g) (use_by keys) (use_by (new_keys new keys)) (λ t m. use_new t.is_vertex t.flag t.«list» t.index m)
+          (tuples f l) k.tuples);
     }
 
     face_new : (i : ℤ × Bool) → KnownFace f K i.0 → IsRelabelledFace N (face_by f keys i) (face_by q (new_keys new keys) (renamed_pair g i))
@@ -196,7 +223,8 @@ module _ (f q : Contents) (K : ℕ → Type 0) (new : ℕ → ℕ) (g : ℤ → 
       entity = number_new f q K new g h i.0 k.entity;
       flag = refl;
       loops =
-          subst (λ ls. AllZip (IsRelabelledLoop N) (map (loop_by f keys) (loops f i.0)) (map (loop_by q (new_keys new keys)) ls)) (sym (loops_new f q K new g h i.0 k.entity k.kind))
+          subst (λ ls. AllZip (IsRelabelledLoop N) (map (loop_by f keys) (loops f i.0)) (map (loop_by q (new_keys new keys)) ls))
+          (sym (loops_new f q K new g h i.0 k.entity k.kind))
           (zip_known (KnownLoop f K) (IsRelabelledLoop N) g (loop_by f keys) (loop_by q (new_keys new keys)) loop_new (loops f i.0) k.loops);
     }
 
@@ -205,8 +233,10 @@ module _ (f q : Contents) (K : ℕ → Type 0) (new : ℕ → ℕ) (g : ℤ → 
       entity = number_new f q K new g h i.0 k.entity;
       flag = refl;
       faces =
-          subst (λ is. AllZip (IsRelabelledFace N) (map (face_by f keys) (faces f i.0)) (map (face_by q (new_keys new keys)) is)) (sym (faces_new f q K new g h i.0 k.entity k.kind))
-          (zip_known (λ (c : ℤ × Bool). KnownFace f K c.0) (IsRelabelledFace N) (renamed_pair g) (face_by f keys) (face_by q (new_keys new keys)) face_new (faces f i.0) k.faces);
+          subst (λ is. AllZip (IsRelabelledFace N) (map (face_by f keys) (faces f i.0)) (map (face_by q (new_keys new keys)) is))
+          (sym (faces_new f q K new g h i.0 k.entity k.kind))
+          (zip_known (λ (c : ℤ × Bool). KnownFace f K c.0) (IsRelabelledFace N) (renamed_pair g) (face_by f keys) (face_by q (new_keys new keys)) face_new
+          (faces f i.0) k.faces);
     }
 
     one_edge_new : (key : EdgeKey) → KnownEdgeKey key → AllZip (IsRelabelledEdge N) (edge_by f keys key) (edge_by q (new_keys new keys) (new_edge_key new key))
@@ -221,10 +251,12 @@ module _ (f q : Contents) (K : ℕ → Type 0) (new : ℕ → ℕ) (g : ℤ → 
           tt,
         ))
 
-    edges_new : (ks : List EdgeKey) → AllByRecursion KnownEdgeKey ks → AllZip (IsRelabelledEdge N) (flat_map (edge_by f keys) ks) (flat_map (edge_by q (new_keys new keys)) (map (new_edge_key new) ks))
+    edges_new : (ks : List EdgeKey) → AllByRecursion KnownEdgeKey ks
+        → AllZip (IsRelabelledEdge N) (flat_map (edge_by f keys) ks) (flat_map (edge_by q (new_keys new keys)) (map (new_edge_key new) ks))
     edges_new [] all = tt
     edges_new (key ∷ ks) all =
-        zip_append (IsRelabelledEdge N) (edge_by f keys key) (flat_map (edge_by f keys) ks) (edge_by q (new_keys new keys) (new_edge_key new key)) (flat_map (edge_by q (new_keys new keys)) (map (new_edge_key new) ks))
+        zip_append (IsRelabelledEdge N) (edge_by f keys key) (flat_map (edge_by f keys) ks) (edge_by q (new_keys new keys) (new_edge_key new key))
+        (flat_map (edge_by q (new_keys new keys)) (map (new_edge_key new) ks))
         (one_edge_new key all.0) (edges_new ks all.1)
 
     vertices_new : (ks : List VertexKey) → AllByRecursion KnownVertexKey ks → AllZip N.vertex ks (map (new_vertex_key new) ks)
@@ -235,8 +267,10 @@ module _ (f q : Contents) (K : ℕ → Type 0) (new : ℕ → ℕ) (g : ℤ → 
     by_keys n k known = record {
       entity = (k, refl);
       shells =
-          subst (λ is. AllZip (IsRelabelledShell N) (map (shell_by f keys) (shells f (pos n))) (map (shell_by q (new_keys new keys)) is)) (sym (shells_new f q K new g h (pos n) known.entity known.kind))
-          (zip_known (λ (i : ℤ × Bool). KnownShell f K i.0) (IsRelabelledShell N) (renamed_pair g) (shell_by f keys) (shell_by q (new_keys new keys)) shell_new (shells f (pos n)) known.shells);
+          subst (λ is. AllZip (IsRelabelledShell N) (map (shell_by f keys) (shells f (pos n))) (map (shell_by q (new_keys new keys)) is))
+          (sym (shells_new f q K new g h (pos n) known.entity known.kind))
+          (zip_known (λ (i : ℤ × Bool). KnownShell f K i.0) (IsRelabelledShell N) (renamed_pair g) (shell_by f keys) (shell_by q (new_keys new keys)) shell_new
+          (shells f (pos n)) known.shells);
       edges = edges_new keys.edges known_edges;
       vertices = vertices_new keys.vertices known_vertices;
     }

@@ -20,7 +20,8 @@ place_is : (ms : List ℕ) (m j : ℕ) → slice_get ms (position_or_len (λ k. 
 place_is [] m j e = absurd cc
 place_is (x ∷ ms) m j e = by_test (x == m) refl e (λ h. place_is ms m j h)
   where
-    by_test : (b : Bool) → (x == m) ≡ b → slice_get (x ∷ ms) (position_or_len (λ k. k == m) (x ∷ ms)) ≡ Some j → (slice_get ms (position_or_len (λ k. k == m) ms) ≡ Some j → j ≡ m) → j ≡ m
+    by_test : (b : Bool) → (x == m) ≡ b → slice_get (x ∷ ms) (position_or_len (λ k. k == m) (x ∷ ms)) ≡ Some j
+        → (slice_get ms (position_or_len (λ k. k == m) ms) ≡ Some j → j ≡ m) → j ≡ m
     by_test true t h on = sym (same_Some x j (sym (ap (slice_get (x ∷ ms)) (place_step x m ms true t)) ∙ h)) ∙ eqb-true x m t
     by_test false t h on = on (sym (ap (slice_get (x ∷ ms)) (place_step x m ms false t)) ∙ h)
 
@@ -47,4 +48,5 @@ keeps_verdict kept ps qs h = record {
     one = one_verdict (AreNamedAlike (kept_names kept)) ps qs h
 
     is_renamed : (x y : Failing) → AreNamedAlike (kept_names kept) x y → y ≡ renamed_failing kept x
-    is_renamed x y k = let n = renumbered_parts (IsNewNumber kept) x.rule x.entity.0 x.place y.entity.0 y.place k.named in failing_is y (renamed_failing kept x) (sym k.rule) n.0.1 (sym n.1)
+    is_renamed x y k = let n = renumbered_parts (IsNewNumber kept) x.rule x.entity.0 x.place y.entity.0 y.place k.named in failing_is y
+        (renamed_failing kept x) (sym k.rule) n.0.1 (sym n.1)

@@ -23,7 +23,8 @@ module _ (P : ℤ → Type 0) where
   pointers_parts (count n ∷ ds) es h = pointers_parts ds es h
   pointers_parts (coordinate w ∷ ds) es h = pointers_parts ds es h
 
-  each_pointed : {A : Type 0} (d : A → List DueValue) (Q : A → Type 0) → ((x : A) → AllPointers P (d x) → Q x) → (xs : List A) → AllPointers P (flat_map d xs) → AllByRecursion Q xs
+  each_pointed : {A : Type 0} (d : A → List DueValue) (Q : A → Type 0) → ((x : A) → AllPointers P (d x) → Q x) → (xs : List A) → AllPointers P (flat_map d xs)
+      → AllByRecursion Q xs
   each_pointed d Q one [] h = tt
   each_pointed d Q one (x ∷ xs) h = let parts = pointers_parts (d x) (flat_map d xs) h in (one x parts.0, each_pointed d Q one xs parts.1)
 
@@ -59,7 +60,8 @@ module _ (P : ℤ → Type 0) where
   loops_pointed c h = loops_each c.loops h.1
 
   pub tuples_pointed : (ts : List LoopTuple) → AllPointers P (due «loop» ts) → AllByRecursion PointedTuple ts
-  tuples_pointed ts h = each_pointed tuple_due PointedTuple (λ t k. record { names = k.0; curves = each_pointed curve_due PointedCurve (λ c m. m.0) t.curves k.1 }) ts h
+  tuples_pointed ts h = each_pointed tuple_due PointedTuple
+      (λ t k. record { names = k.0; curves = each_pointed curve_due PointedCurve (λ c m. m.0) t.curves k.1 }) ts h
 
   pub edges_pointed : (ts : List EdgeTuple) → AllPointers P (due edges ts) → AllByRecursion PointedEdge ts
   edges_pointed ts h = each_pointed edge_due PointedEdge (λ t k. record { curve = k.0; start = k.1.0; end = k.1.1.0 }) ts h

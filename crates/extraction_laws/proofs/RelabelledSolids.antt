@@ -1,9 +1,11 @@
 -- The obligations on the shells of relabelled solids.
-use Rattle.std.specs.Prelude.{◌≡◌, ◌↔◌, ℕ, ◌+◌, Bool, true, false, not, List, [], ◌∷◌, ◌++◌, length, map, flat_map, filter_map, take, Contains, Option, Some, None, slice_get, if◌then◌else◌}
+use Rattle.std.specs.Prelude.{◌≡◌, ◌↔◌, ℕ, ◌+◌, Bool, true, false, not, List, [], ◌∷◌, ◌++◌, length, map, flat_map, filter_map, take, Contains, Option, Some}
+use Rattle.std.specs.Prelude.{None, slice_get, if◌then◌else◌}
 use Rattle.std.specs.List.{AllZip, enumerate_from}
 use Rattle.std.proofs.Common.{refl, sym, ◌∙◌, ap, subst, arith, inl, inr}
 use Rattle.solid_data.specs.Ring.{next_of_each, previous_of_each, numbers_from}
-use Rattle.solid_data.specs.SolidData.{SolidData, PlacedLoop, placed_in_face, placed_loops, shell_uses, edge_used, ends_of, vertices_used, shell_edges, shell_vertices, same_flag, occurring, edge_name, vertex_name}
+use Rattle.solid_data.specs.SolidData.{SolidData, PlacedLoop, placed_in_face, placed_loops, shell_uses, edge_used, ends_of, vertices_used, shell_edges}
+use Rattle.solid_data.specs.SolidData.{shell_vertices, same_flag, occurring, edge_name, vertex_name}
 use Rattle.solid_data.specs.Obligations.{obligation}
 use Rattle.solid_data.specs.declared.solid.Edge.{Edge}
 use Rattle.solid_data.specs.declared.solid.EdgeId.{EdgeId}
@@ -24,10 +26,12 @@ use Rattle.edge_uses.specs.Before.{IsApart}
 use Rattle.edge_uses.specs.Joins.{begin_of, start_of, end_of, ends_and_starts, loop_obligations, join_obligations}
 use Rattle.edge_uses.specs.RowRelations.{IsPaired}
 use Rattle.shell_rules.specs.Closed.{IsReached, IsLinked}
-use Rattle.shell_rules.specs.ShellObligations.{at_edge, at_vertex, pair_obligations, reach_obligations, link_obligations, apart_obligations, shell_obligations, solid_obligations}
+use Rattle.shell_rules.specs.ShellObligations.{at_edge, at_vertex, pair_obligations, reach_obligations}
+use Rattle.shell_rules.specs.ShellObligations.{link_obligations, apart_obligations, shell_obligations, solid_obligations}
 use Rattle.solid_extract.proofs.Copies.{zip_length}
 use Rattle.extraction_laws.specs.Alike.{FailAlike}
-use Rattle.extraction_laws.specs.Relabelled.{Names, IsRelabelledLoop, IsRelabelledFace, IsRelabelledShell, IsRelabelledEdge, IsRelabelled, AreNamed, AreNamedAlike}
+use Rattle.extraction_laws.specs.Relabelled.{Names, IsRelabelledLoop, IsRelabelledFace, IsRelabelledShell, IsRelabelledEdge, IsRelabelled, AreNamed}
+use Rattle.extraction_laws.specs.Relabelled.{AreNamedAlike}
 use Rattle.extraction_laws.proofs.AlikeLists.{OneAlike, append_alike, map_alike, map_same_alike, of_each_alike}
 use Rattle.extraction_laws.proofs.Zips.{OptionZip, zip_get, zip_map, zip_flat_map, Numbered, zip_enumerate, zip_take, zip_same}
 
@@ -54,26 +58,32 @@ pub record IsRelabelledPlaced (N : Names) (p q : PlacedLoop) : Type 0 where
   pub loop : IsRelabelledLoop N p.loop q.loop
 
 module _ (N : Names) where
-  placed_face : (a b : Bool) → a ≡ b → (x y : ℕ × FaceUse) → Numbered (IsRelabelledFace N) x y → AllZip (IsRelabelledPlaced N) (placed_in_face a x) (placed_in_face b y)
+  placed_face : (a b : Bool) → a ≡ b → (x y : ℕ × FaceUse) → Numbered (IsRelabelledFace N) x y
+      → AllZip (IsRelabelledPlaced N) (placed_in_face a x) (placed_in_face b y)
   placed_face a b same x y h =
       zip_map (Numbered (IsRelabelledLoop N)) (IsRelabelledPlaced N)
-      (λ (l : ℕ × Loop). let p : PlacedLoop = record { at = record { face = record { 0 = x.0 }; place = l.0 }; forwards = same_flag x.1.flag a; loop = l.1 } in p)
-      (λ (l : ℕ × Loop). let p : PlacedLoop = record { at = record { face = record { 0 = y.0 }; place = l.0 }; forwards = same_flag y.1.flag b; loop = l.1 } in p)
+      (λ (l : ℕ × Loop). let p : PlacedLoop = record { at = record { face = record { 0 = x.0 }; place = l.0 }; forwards = same_flag x.1.flag a; loop = l.1 }
+      in p)
+      (λ (l : ℕ × Loop). let p : PlacedLoop = record { at = record { face = record { 0 = y.0 }; place = l.0 }; forwards = same_flag y.1.flag b; loop = l.1 }
+      in p)
       (enumerate_from 0 x.1.loops) (enumerate_from 0 y.1.loops)
       (zip_enumerate (IsRelabelledLoop N) 0 x.1.loops y.1.loops h.1.loops)
       (λ l m k. record {
-        at = ap (λ (n : ℕ). let p : LoopAt = record { face = record { 0 = n }; place = l.0 } in p) h.0 ∙ ap (λ (n : ℕ). let p : LoopAt = record { face = record { 0 = y.0 }; place = n } in p) k.0;
+        at = ap (λ (n : ℕ). let p : LoopAt = record { face = record { 0 = n }; place = l.0 } in p) h.0
+            ∙ ap (λ (n : ℕ). let p : LoopAt = record { face = record { 0 = y.0 }; place = n } in p) k.0;
         forwards = ap (λ c. same_flag c a) h.1.flag ∙ ap (λ c. same_flag y.1.flag c) same;
         loop = k.1;
       })
 
   placed : (a b : Shell) → IsRelabelledShell N a b → AllZip (IsRelabelledPlaced N) (placed_loops a) (placed_loops b)
   placed a b h =
-      zip_flat_map (Numbered (IsRelabelledFace N)) (IsRelabelledPlaced N) (placed_in_face a.flag) (placed_in_face b.flag) (enumerate_from 0 a.faces) (enumerate_from 0 b.faces)
+      zip_flat_map (Numbered (IsRelabelledFace N)) (IsRelabelledPlaced N) (placed_in_face a.flag) (placed_in_face b.flag) (enumerate_from 0 a.faces)
+      (enumerate_from 0 b.faces)
       (zip_enumerate (IsRelabelledFace N) 0 a.faces b.faces h.faces) (placed_face a.flag b.flag h.flag)
 
   uses_same : (a b : Shell) → IsRelabelledShell N a b → shell_uses a ≡ shell_uses b
-  uses_same a b h = zip_same (IsRelabelledPlaced N) (λ (p : PlacedLoop). p.loop.uses) (λ (p : PlacedLoop). p.loop.uses) (placed_loops a) (placed_loops b) (placed a b h) (λ p q k. k.loop.uses)
+  uses_same a b h = zip_same (IsRelabelledPlaced N) (λ (p : PlacedLoop). p.loop.uses) (λ (p : PlacedLoop). p.loop.uses) (placed_loops a) (placed_loops b)
+      (placed a b h) (λ p q k. k.loop.uses)
 
   begin_same : (a b : Option Edge) → OptionZip (IsRelabelledEdge N) a b → (along : Bool) → begin_of a along ≡ begin_of b along
   begin_same None None h along = refl
@@ -118,13 +128,15 @@ module _ (N : Names) (s t : SolidData) (h : IsRelabelled N s t) where
   loop_alike : (l m : Loop) → IsRelabelledLoop N l m → FailAlike (AreNamedAlike N) (loop_obligations s l) (loop_obligations t m)
   loop_alike l m k =
       subst (λ us. FailAlike (AreNamedAlike N) (loop_obligations s l) (map (λ (u : ℕ × ℕ × ℕ). obligation Unjoined m.entity.0 u.0 (u.1 ≡ u.2)) us)) same
-      (map_same_alike (AreNamedAlike N) (λ (u : ℕ × ℕ × ℕ). obligation Unjoined l.entity.0 u.0 (u.1 ≡ u.2)) (λ (u : ℕ × ℕ × ℕ). obligation Unjoined m.entity.0 u.0 (u.1 ≡ u.2))
+      (map_same_alike (AreNamedAlike N) (λ (u : ℕ × ℕ × ℕ). obligation Unjoined l.entity.0 u.0 (u.1 ≡ u.2))
+      (λ (u : ℕ × ℕ × ℕ). obligation Unjoined m.entity.0 u.0 (u.1 ≡ u.2))
       (steps s l.uses) (λ u there. (record { rule = refl; named = (k.entity, refl) }, (λ e. e, λ e. e))))
     where
       steps : SolidData → List LoopUse → List (ℕ × ℕ × ℕ)
       steps r us = ends_and_starts 1 (map (end_of r) us) (next_of_each (map (start_of r) us))
 
-      same : ends_and_starts 1 (map (end_of s) l.uses) (next_of_each (map (start_of s) l.uses)) ≡ ends_and_starts 1 (map (end_of t) m.uses) (next_of_each (map (start_of t) m.uses))
+      same : ends_and_starts 1 (map (end_of s) l.uses) (next_of_each (map (start_of s) l.uses)) ≡ ends_and_starts 1 (map (end_of t) m.uses)
+          (next_of_each (map (start_of t) m.uses))
       same =
           ap (λ us. ends_and_starts 1 (map (end_of s) us) (next_of_each (map (start_of s) us))) k.uses
           ∙ (ap (λ f. ends_and_starts 1 (map f m.uses) (next_of_each (map (start_of s) m.uses))) ends_same
@@ -133,7 +145,8 @@ module _ (N : Names) (s t : SolidData) (h : IsRelabelled N s t) where
   row_same : (p q : PlacedLoop) → IsRelabelledPlaced N p q → row_of s p ≡ row_of t q
   row_same p q k = λ i u. at u i
     where
-      of_edge : (x y : LoopAt) → x ≡ y → (e : EdgeId) (along : Bool) (a b : Option Edge) → OptionZip (IsRelabelledEdge N) a b → row_of_edge x e along a ≡ row_of_edge y e along b
+      of_edge : (x y : LoopAt) → x ≡ y → (e : EdgeId) (along : Bool) (a b : Option Edge) → OptionZip (IsRelabelledEdge N) a b
+          → row_of_edge x e along a ≡ row_of_edge y e along b
       of_edge x y same e along None None z = refl
       of_edge x y same e along None (Some c) z = absurd z
       of_edge x y same e along (Some a) None z = absurd z
@@ -160,9 +173,12 @@ module _ (N : Names) (s t : SolidData) (h : IsRelabelled N s t) where
   follows_same base [] (q ∷ qs) z = absurd z
   follows_same base (p ∷ ps) [] z = absurd z
   follows_same base (p ∷ ps) (q ∷ qs) z =
-      ap (λ c. (if c then next_of_each (numbers_from base (length (loop_rows s p))) else previous_of_each (numbers_from base (length (loop_rows s p)))) ++ follows_from s (base + length (loop_rows s p)) ps) z.0.forwards
-      ∙ (ap (λ n. (if q.forwards then next_of_each (numbers_from base n) else previous_of_each (numbers_from base n)) ++ follows_from s (base + n) ps) (ap length (rows_same p q z.0))
-      ∙ ap (λ ns. (if q.forwards then next_of_each (numbers_from base (length (loop_rows t q))) else previous_of_each (numbers_from base (length (loop_rows t q)))) ++ ns) (follows_same (base + length (loop_rows t q)) ps qs z.1))
+      ap (λ c. (if c then next_of_each (numbers_from base (length (loop_rows s p))) else previous_of_each (numbers_from base (length (loop_rows s p))))
+      ++ follows_from s (base + length (loop_rows s p)) ps) z.0.forwards
+      ∙ (ap (λ n. (if q.forwards then next_of_each (numbers_from base n) else previous_of_each (numbers_from base n)) ++ follows_from s (base + n) ps)
+      (ap length (rows_same p q z.0))
+      ∙ ap (λ ns. (if q.forwards then next_of_each (numbers_from base (length (loop_rows t q))) else previous_of_each
+      (numbers_from base (length (loop_rows t q)))) ++ ns) (follows_same (base + length (loop_rows t q)) ps qs z.1))
 
   point_same : (p q : PlacedLoop) → p.at ≡ q.at → (us : List LoopUse) (es : List ℕ) → point_of p us es ≡ point_of q us es
   point_same p q e [] es = refl
@@ -170,7 +186,8 @@ module _ (N : Names) (s t : SolidData) (h : IsRelabelled N s t) where
   point_same p q e (VertexUse vertex ∷ us) [] = ap (λ (a : LoopAt). (a, vertex.0) ∷ []) e
   point_same p q e (VertexUse vertex ∷ us) (x ∷ es) = refl
 
-  points_same : (p q : PlacedLoop) → IsRelabelledPlaced N p q → point_of p p.loop.uses (map (λ (r : Row). r.edge.0) (loop_rows s p)) ≡ point_of q q.loop.uses (map (λ (r : Row). r.edge.0) (loop_rows t q))
+  points_same : (p q : PlacedLoop) → IsRelabelledPlaced N p q → point_of p p.loop.uses (map (λ (r : Row). r.edge.0) (loop_rows s p))
+      ≡ point_of q q.loop.uses (map (λ (r : Row). r.edge.0) (loop_rows t q))
   points_same p q k =
       point_same p q k.at p.loop.uses (map (λ (r : Row). r.edge.0) (loop_rows s p))
       ∙ (ap (λ us. point_of q us (map (λ (r : Row). r.edge.0) (loop_rows s p))) k.loop.uses
@@ -190,13 +207,15 @@ module _ (N : Names) (s t : SolidData) (h : IsRelabelled N s t) where
     face_count = zip_length (IsRelabelledFace N) a.faces b.faces k.faces i;
     edges = occurring (numbers_from 0 (zip_length (IsRelabelledEdge N) s.edges t.edges h.edges i)) (shell_edges_same a b k i);
     vertices = occurring (numbers_from 0 (zip_length N.vertex s.vertices t.vertices h.vertices i)) (shell_vertices_same a b k i);
-    points = zip_same (IsRelabelledPlaced N) (λ (p : PlacedLoop). point_of p p.loop.uses (map (λ (r : Row). r.edge.0) (loop_rows s p))) (λ (p : PlacedLoop). point_of p p.loop.uses (map (λ (r : Row). r.edge.0) (loop_rows t p)))
+    points = zip_same (IsRelabelledPlaced N) (λ (p : PlacedLoop). point_of p p.loop.uses (map (λ (r : Row). r.edge.0) (loop_rows s p)))
+        (λ (p : PlacedLoop). point_of p p.loop.uses (map (λ (r : Row). r.edge.0) (loop_rows t p)))
         (placed_loops a) (placed_loops b) (placed N a b k) points_same i;
   }
 
   -- ---- what is said of the rows
 
-  edge_alike : (holds : Type 0) (o : Option Edge) (x : Edge) → o ≡ Some x → (p : Option Edge) → OptionZip (IsRelabelledEdge N) o p → OneAlike (AreNamedAlike N) (at_edge Unpaired (edge_name o) holds) (at_edge Unpaired (edge_name p) holds)
+  edge_alike : (holds : Type 0) (o : Option Edge) (x : Edge) → o ≡ Some x → (p : Option Edge) → OptionZip (IsRelabelledEdge N) o p
+      → OneAlike (AreNamedAlike N) (at_edge Unpaired (edge_name o) holds) (at_edge Unpaired (edge_name p) holds)
   edge_alike holds None x e p z = absurd cc
   edge_alike holds (Some w) x e None z = absurd z
   edge_alike holds (Some w) x e (Some y) z = (record { rule = refl; named = z.key }, (λ c. c, λ c. c))
@@ -205,7 +224,8 @@ module _ (N : Names) (s t : SolidData) (h : IsRelabelled N s t) where
   abbrev NamesVertex : Rule → Type 0
   NamesVertex rule = (a b : VertexKey) → N.vertex a b → AreNamed N rule a.«list».0 a.index b.«list».0 b.index
 
-  vertex_alike : (rule : Rule) → NamesVertex rule → (one other : Type 0) → one ↔ other → (o : Option VertexKey) (x : VertexKey) → o ≡ Some x → (p : Option VertexKey) → OptionZip N.vertex o p → OneAlike (AreNamedAlike N) (at_vertex rule (vertex_name o) one) (at_vertex rule (vertex_name p) other)
+  vertex_alike : (rule : Rule) → NamesVertex rule → (one other : Type 0) → one ↔ other → (o : Option VertexKey) (x : VertexKey) → o ≡ Some x
+      → (p : Option VertexKey) → OptionZip N.vertex o p → OneAlike (AreNamedAlike N) (at_vertex rule (vertex_name o) one) (at_vertex rule (vertex_name p) other)
   vertex_alike rule names one other same None x e p z = absurd cc
   vertex_alike rule names one other same (Some w) x e None z = absurd z
   vertex_alike rule names one other same (Some w) x e (Some y) z = (record { rule = refl; named = names w y z }, same)
@@ -223,27 +243,37 @@ module _ (N : Names) (s t : SolidData) (h : IsRelabelled N s t) where
 
   join_alike : (a b : Shell) → IsRelabelledShell N a b → FailAlike (AreNamedAlike N) (join_obligations s a) (join_obligations t b)
   join_alike a b k =
-      of_each_alike (AreNamedAlike N) (IsRelabelledPlaced N) (λ (p : PlacedLoop). loop_obligations s p.loop) (λ (p : PlacedLoop). loop_obligations t p.loop) (placed_loops a) (placed_loops b) (placed N a b k)
+      of_each_alike (AreNamedAlike N) (IsRelabelledPlaced N) (λ (p : PlacedLoop). loop_obligations s p.loop) (λ (p : PlacedLoop). loop_obligations t p.loop)
+      (placed_loops a) (placed_loops b) (placed N a b k)
       (λ p q m. loop_alike p.loop q.loop m.loop)
 
   pair_alike : (a : Shell) → FailAlike (AreNamedAlike N) (pair_obligations s (shell_rows s a)) (pair_obligations t (shell_rows s a))
   pair_alike a =
-      map_same_alike (AreNamedAlike N) (λ e. at_edge Unpaired (edge_name (slice_get s.edges e)) (IsPaired (shell_rows s a) e)) (λ e. at_edge Unpaired (edge_name (slice_get t.edges e)) (IsPaired (shell_rows s a) e)) (shell_rows s a).edges
+      map_same_alike (AreNamedAlike N) (λ e. at_edge Unpaired (edge_name (slice_get s.edges e)) (IsPaired (shell_rows s a) e))
+      (λ e. at_edge Unpaired (edge_name (slice_get t.edges e)) (IsPaired (shell_rows s a) e)) (shell_rows s a).edges
       (λ e m. let x = edge_there a e m in edge_alike (IsPaired (shell_rows s a) e) (slice_get s.edges e) x.0 x.1 (slice_get t.edges e) (edge_zip e))
 
-  reach_alike : (a b : Shell) → IsRelabelledShell N a b → FailAlike (AreNamedAlike N) (reach_obligations a (shell_rows s a)) (reach_obligations b (shell_rows s a))
+  reach_alike : (a b : Shell) → IsRelabelledShell N a b
+      → FailAlike (AreNamedAlike N) (reach_obligations a (shell_rows s a)) (reach_obligations b (shell_rows s a))
   reach_alike a b k =
-      map_alike (AreNamedAlike N) (Numbered (IsRelabelledFace N)) (λ (f : ℕ × FaceUse). obligation Unreached f.1.entity.0 0 (IsReached (shell_rows s a) f.0)) (λ (f : ℕ × FaceUse). obligation Unreached f.1.entity.0 0 (IsReached (shell_rows s a) f.0))
+      map_alike (AreNamedAlike N) (Numbered (IsRelabelledFace N)) (λ (f : ℕ × FaceUse). obligation Unreached f.1.entity.0 0 (IsReached (shell_rows s a) f.0))
+      (λ (f : ℕ × FaceUse). obligation Unreached f.1.entity.0 0 (IsReached (shell_rows s a) f.0))
       (enumerate_from 0 a.faces) (enumerate_from 0 b.faces) (zip_enumerate (IsRelabelledFace N) 0 a.faces b.faces k.faces)
-      (λ f g m. (record { rule = refl; named = (m.1.entity, refl) }, (λ c. subst (IsReached (shell_rows s a)) m.0 c, λ c. subst (IsReached (shell_rows s a)) (sym m.0) c)))
+      (λ f g m. (
+        record { rule = refl; named = (m.1.entity, refl) },
+        (λ c. subst (IsReached (shell_rows s a)) m.0 c, λ c. subst (IsReached (shell_rows s a)) (sym m.0) c),
+      ))
 
   link_alike : (a : Shell) → FailAlike (AreNamedAlike N) (link_obligations s (shell_rows s a)) (link_obligations t (shell_rows s a))
   link_alike a =
-      map_same_alike (AreNamedAlike N) (λ v. at_vertex Unlinked (vertex_name (slice_get s.vertices v)) (IsLinked (shell_rows s a) v)) (λ v. at_vertex Unlinked (vertex_name (slice_get t.vertices v)) (IsLinked (shell_rows s a) v)) (shell_rows s a).vertices
-      (λ v m. let x = vertex_there a v m in vertex_alike Unlinked (λ a b h. h) (IsLinked (shell_rows s a) v) (IsLinked (shell_rows s a) v) (λ c. c, λ c. c) (slice_get s.vertices v) x.0 x.1 (slice_get t.vertices v) (vertex_zip v))
+      map_same_alike (AreNamedAlike N) (λ v. at_vertex Unlinked (vertex_name (slice_get s.vertices v)) (IsLinked (shell_rows s a) v))
+      (λ v. at_vertex Unlinked (vertex_name (slice_get t.vertices v)) (IsLinked (shell_rows s a) v)) (shell_rows s a).vertices
+      (λ v m. let x = vertex_there a v m in vertex_alike Unlinked (λ a b h. h) (IsLinked (shell_rows s a) v) (IsLinked (shell_rows s a) v) (λ c. c, λ c. c)
+      (slice_get s.vertices v) x.0 x.1 (slice_get t.vertices v) (vertex_zip v))
 
   before_same : (k : ℕ) → flat_map (shell_vertices s) (take k s.shells) ≡ flat_map (shell_vertices t) (take k t.shells)
-  before_same k = zip_same (IsRelabelledShell N) (shell_vertices s) (shell_vertices t) (take k s.shells) (take k t.shells) (zip_take (IsRelabelledShell N) k s.shells t.shells h.shells) shell_vertices_same
+  before_same k = zip_same (IsRelabelledShell N) (shell_vertices s) (shell_vertices t) (take k s.shells) (take k t.shells)
+      (zip_take (IsRelabelledShell N) k s.shells t.shells h.shells) shell_vertices_same
 
   apart_same : (i j : ℕ) → i ≡ j → (v : ℕ) → IsApart s i v ↔ IsApart t j v
   apart_same i j e v = (
@@ -253,17 +283,26 @@ module _ (N : Names) (s t : SolidData) (h : IsRelabelled N s t) where
 
   apart_alike : (i j : ℕ) → i ≡ j → (a : Shell) → FailAlike (AreNamedAlike N) (apart_obligations s i (shell_rows s a)) (apart_obligations t j (shell_rows s a))
   apart_alike i j e a =
-      map_same_alike (AreNamedAlike N) (λ v. at_vertex Shared (vertex_name (slice_get s.vertices v)) (IsApart s i v)) (λ v. at_vertex Shared (vertex_name (slice_get t.vertices v)) (IsApart t j v)) (shell_rows s a).vertices
-      (λ v m. let x = vertex_there a v m in vertex_alike Shared (λ a b h. h) (IsApart s i v) (IsApart t j v) (apart_same i j e v) (slice_get s.vertices v) x.0 x.1 (slice_get t.vertices v) (vertex_zip v))
+      map_same_alike (AreNamedAlike N) (λ v. at_vertex Shared (vertex_name (slice_get s.vertices v)) (IsApart s i v))
+      (λ v. at_vertex Shared (vertex_name (slice_get t.vertices v)) (IsApart t j v)) (shell_rows s a).vertices
+      (λ v m. let x = vertex_there a v m in vertex_alike Shared (λ a b h. h) (IsApart s i v) (IsApart t j v) (apart_same i j e v) (slice_get s.vertices v) x.0
+      x.1 (slice_get t.vertices v) (vertex_zip v))
 
   shell_alike : (x y : ℕ × Shell) → Numbered (IsRelabelledShell N) x y → FailAlike (AreNamedAlike N) (shell_obligations s x) (shell_obligations t y)
   unfolding shell_obligations
   shell_alike x y k =
-      subst (λ d. FailAlike (AreNamedAlike N) (shell_obligations s x) (join_obligations t y.1 ++ pair_obligations t d ++ reach_obligations y.1 d ++ link_obligations t d ++ apart_obligations t y.0 d)) (shell_rows_same x.1 y.1 k.1)
-      (append_alike (AreNamedAlike N) (join_obligations s x.1 ++ pair_obligations s d ++ reach_obligations x.1 d ++ link_obligations s d) (apart_obligations s x.0 d) (join_obligations t y.1 ++ pair_obligations t d ++ reach_obligations y.1 d ++ link_obligations t d) (apart_obligations t y.0 d)
-      (append_alike (AreNamedAlike N) (join_obligations s x.1 ++ pair_obligations s d ++ reach_obligations x.1 d) (link_obligations s d) (join_obligations t y.1 ++ pair_obligations t d ++ reach_obligations y.1 d) (link_obligations t d)
-      (append_alike (AreNamedAlike N) (join_obligations s x.1 ++ pair_obligations s d) (reach_obligations x.1 d) (join_obligations t y.1 ++ pair_obligations t d) (reach_obligations y.1 d)
-      (append_alike (AreNamedAlike N) (join_obligations s x.1) (pair_obligations s d) (join_obligations t y.1) (pair_obligations t d) (join_alike x.1 y.1 k.1) (λ all. pair_alike x.1))
+      subst (λ d. FailAlike (AreNamedAlike N) (shell_obligations s x)
+      (join_obligations t y.1 ++ pair_obligations t d ++ reach_obligations y.1 d ++ link_obligations t d ++ apart_obligations t y.0 d))
+      (shell_rows_same x.1 y.1 k.1)
+      (append_alike (AreNamedAlike N) (join_obligations s x.1 ++ pair_obligations s d ++ reach_obligations x.1 d ++ link_obligations s d)
+      (apart_obligations s x.0 d) (join_obligations t y.1 ++ pair_obligations t d ++ reach_obligations y.1 d ++ link_obligations t d)
+      (apart_obligations t y.0 d)
+      (append_alike (AreNamedAlike N) (join_obligations s x.1 ++ pair_obligations s d ++ reach_obligations x.1 d) (link_obligations s d)
+      (join_obligations t y.1 ++ pair_obligations t d ++ reach_obligations y.1 d) (link_obligations t d)
+      (append_alike (AreNamedAlike N) (join_obligations s x.1 ++ pair_obligations s d) (reach_obligations x.1 d)
+      (join_obligations t y.1 ++ pair_obligations t d) (reach_obligations y.1 d)
+      (append_alike (AreNamedAlike N) (join_obligations s x.1) (pair_obligations s d) (join_obligations t y.1) (pair_obligations t d) (join_alike x.1 y.1 k.1)
+      (λ all. pair_alike x.1))
       (λ all. reach_alike x.1 y.1 k.1))
       (λ all. link_alike x.1))
       (λ all. apart_alike x.0 y.0 k.0 x.1))
@@ -274,5 +313,6 @@ module _ (N : Names) (s t : SolidData) (h : IsRelabelled N s t) where
 pub solids_alike : (N : Names) (s t : SolidData) → IsRelabelled N s t → FailAlike (AreNamedAlike N) (solid_obligations s) (solid_obligations t)
 unfolding solid_obligations
 solids_alike N s t h =
-    of_each_alike (AreNamedAlike N) (Numbered (IsRelabelledShell N)) (shell_obligations s) (shell_obligations t) (enumerate_from 0 s.shells) (enumerate_from 0 t.shells)
+    of_each_alike (AreNamedAlike N) (Numbered (IsRelabelledShell N)) (shell_obligations s) (shell_obligations t) (enumerate_from 0 s.shells)
+    (enumerate_from 0 t.shells)
     (zip_enumerate (IsRelabelledShell N) 0 s.shells t.shells h.shells) (shell_alike N s t h)

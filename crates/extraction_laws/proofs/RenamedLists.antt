@@ -7,7 +7,8 @@ use Rattle.solid_data.proofs.Members.{Has, All-at, All-from}
 use Rattle.solid_data.proofs.Keys.{from_distinct}
 use Rattle.entry_references.proofs.Marks.{same_test}
 
-filter_renamed : {A : Type 0} (p r : A → Bool) (change : A → A) (xs : List A) → ((x : A) → Has xs x → p (change x) ≡ r x) → filter p (map change xs) ≡ map change (filter r xs)
+filter_renamed : {A : Type 0} (p r : A → Bool) (change : A → A) (xs : List A) → ((x : A) → Has xs x → p (change x) ≡ r x)
+    → filter p (map change xs) ≡ map change (filter r xs)
 filter_renamed p r change [] same = refl
 filter_renamed p r change (x ∷ xs) same =
     ap (λ b. cond b (change x ∷ filter p (map change xs)) (filter p (map change xs))) (same x (inl refl))
@@ -26,7 +27,9 @@ module _ {A : Type 0} (same : A → A → Bool) (P : A → Type 0) (change : A �
   distinct_renamed [] all = refl
   distinct_renamed (x ∷ xs) all =
       ap (λ ys. change x ∷ filter (λ y. not (same (change x) y)) ys) (distinct_renamed xs all.1)
-      ∙ ap (λ ys. change x ∷ ys) (filter_renamed (λ y. not (same (change x) y)) (λ y. not (same x y)) change (distinct same xs) (λ y m. ap not (kept x y all.0 (All-at P (distinct same xs) (all_distinct xs all.1) y m))))
+      ∙ ap (λ ys. change x ∷ ys)
+      (filter_renamed (λ y. not (same (change x) y)) (λ y. not (same x y)) change (distinct same xs)
+      (λ y m. ap not (kept x y all.0 (All-at P (distinct same xs) (all_distinct xs all.1) y m))))
 
   pub place_renamed : (xs : List A) (k : A) → AllByRecursion P xs → P k → place_of same (map change xs) (change k) ≡ place_of same xs k
   place_renamed [] k all p = refl
@@ -38,10 +41,13 @@ module _ {A : Type 0} (same : A → A → Bool) (P : A → Type 0) (change : A �
 pub same_number : (K : ℕ → Type 0) (new : ℕ → ℕ) → ((m k : ℕ) → K m → K k → new m ≡ new k → m ≡ k) → (m k : ℕ) → K m → K k → (new m == new k) ≡ (m == k)
 same_number K new apart m k a b = same_test (new m) (new k) m k (apart m k a b) (ap new)
 
-pub map_known : {A B C : Type 0} (Known : A → Type 0) (change : A → B) (u : A → C) (v : B → C) → ((x : A) → Known x → v (change x) ≡ u x) → (xs : List A) → AllByRecursion Known xs → map v (map change xs) ≡ map u xs
+pub map_known : {A B C : Type 0} (Known : A → Type 0) (change : A → B) (u : A → C) (v : B → C) → ((x : A) → Known x → v (change x) ≡ u x) → (xs : List A)
+    → AllByRecursion Known xs → map v (map change xs) ≡ map u xs
 map_known Known change u v same [] all = refl
-map_known Known change u v same (x ∷ xs) all = ap (λ y. y ∷ map v (map change xs)) (same x all.0) ∙ ap (λ ys. u x ∷ ys) (map_known Known change u v same xs all.1)
+map_known Known change u v same (x ∷ xs) all = ap (λ y. y ∷ map v (map change xs)) (same x all.0)
+    ∙ ap (λ ys. u x ∷ ys) (map_known Known change u v same xs all.1)
 
-pub zip_known : {A B C D : Type 0} (Known : A → Type 0) (Q : C → D → Type 0) (change : A → B) (u : A → C) (v : B → D) → ((x : A) → Known x → Q (u x) (v (change x))) → (xs : List A) → AllByRecursion Known xs → AllZip Q (map u xs) (map v (map change xs))
+pub zip_known : {A B C D : Type 0} (Known : A → Type 0) (Q : C → D → Type 0) (change : A → B) (u : A → C) (v : B → D)
+    → ((x : A) → Known x → Q (u x) (v (change x))) → (xs : List A) → AllByRecursion Known xs → AllZip Q (map u xs) (map v (map change xs))
 zip_known Known Q change u v same [] all = tt
 zip_known Known Q change u v same (x ∷ xs) all = (same x all.0, zip_known Known Q change u v same xs all.1)

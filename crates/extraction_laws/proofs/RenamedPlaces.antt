@@ -6,11 +6,13 @@ use Rattle.solid_data.specs.declared.solid.EdgeKey.{EdgeKey}
 use Rattle.solid_data.specs.declared.solid.VertexKey.{VertexKey}
 use Rattle.solid_data.specs.declared.verdict.Failing.{Failing}
 use Rattle.solid_data.specs.declared.verdict.Rule.{Rule}
-use Rattle.solid_data.specs.declared.verdict.Rule.TheVariants.{NoEntry, WrongKind, BadLayout, Twice, BadIndex, BadGeometry, Unjoined, Unpaired, Unreached, Unlinked, Shared}
+use Rattle.solid_data.specs.declared.verdict.Rule.TheVariants.{NoEntry, WrongKind, BadLayout, Twice, BadIndex, BadGeometry, Unjoined, Unpaired, Unreached}
+use Rattle.solid_data.specs.declared.verdict.Rule.TheVariants.{Unlinked, Shared}
 use Rattle.shell_rules.specs.ShellObligations.{solid_obligations}
 use Rattle.extraction_laws.specs.Alike.{FailAlike, KeepsVerdictAs}
 use Rattle.extraction_laws.specs.Relabelled.{renumbered, AreNamed, AreNamedAlike}
-use Rattle.extraction_laws.specs.Renamed.{Renaming, new_names, renamed_place, under_new_name, RenamedFailAlike, RenamedKeepsVerdict, IsOneToOne, RenamedTellsPlace}
+use Rattle.extraction_laws.specs.Renamed.{Renaming, new_names, renamed_place, under_new_name, RenamedFailAlike, RenamedKeepsVerdict, IsOneToOne}
+use Rattle.extraction_laws.specs.Renamed.{RenamedTellsPlace}
 use Rattle.extraction_laws.proofs.AlikeLists.{HaveOneVerdict, one_verdict}
 use Rattle.extraction_laws.proofs.RelabelledSolids.{solids_alike}
 
@@ -21,7 +23,8 @@ failing_is x y r e p =
     ∙ ap (λ w. let z : Failing = record { rule = y.rule; entity = y.entity; place = w } in z) p)
 
 -- Where each of one list is named like one of the other exactly as `change` renames it, the verdict is renamed by it.
-pub keeps_as : (Q : Failing → Failing → Type 0) (change : Failing → Failing) → ((x y : Failing) → Q x y → y ≡ change x) → (ps qs : List Obligation) → FailAlike Q ps qs → KeepsVerdictAs change ps qs
+pub keeps_as : (Q : Failing → Failing → Type 0) (change : Failing → Failing) → ((x y : Failing) → Q x y → y ≡ change x) → (ps qs : List Obligation)
+    → FailAlike Q ps qs → KeepsVerdictAs change ps qs
 keeps_as Q change is ps qs h = record {
   all = one.all;
   fails = λ x bad. let k = one.fails x bad in subst (FirstFalse qs) (is x k.0 k.1) k.2;
@@ -80,20 +83,27 @@ module _ (r : Renaming) where
   is_renamed x y k = let n = place_is x.rule x.entity.0 x.place y.entity.0 y.place k.named in failing_is y (under_new_name r x) (sym k.rule) n.0 n.1
 
   edge_key_is : (a b : EdgeKey) → a.«list».0 ≡ b.«list».0 → a.index ≡ b.index → a ≡ b
-  edge_key_is a b l i = ap (λ n. let k : EdgeKey = record { «list» = record { 0 = n }; index = a.index } in k) l ∙ ap (λ n. let k : EdgeKey = record { «list» = b.«list»; index = n } in k) i
+  edge_key_is a b l i = ap (λ n. let k : EdgeKey = record { «list» = record { 0 = n }; index = a.index } in k) l
+      ∙ ap (λ n. let k : EdgeKey = record { «list» = b.«list»; index = n } in k) i
 
   vertex_key_is : (a b : VertexKey) → a.«list».0 ≡ b.«list».0 → a.index ≡ b.index → a ≡ b
-  vertex_key_is a b l i = ap (λ n. let k : VertexKey = record { «list» = record { 0 = n }; index = a.index } in k) l ∙ ap (λ n. let k : VertexKey = record { «list» = b.«list»; index = n } in k) i
+  vertex_key_is a b l i = ap (λ n. let k : VertexKey = record { «list» = record { 0 = n }; index = a.index } in k) l
+      ∙ ap (λ n. let k : VertexKey = record { «list» = b.«list»; index = n } in k) i
 
   module _ (one : IsOneToOne r) where
-    edges_apart : (a b : EdgeKey) → (let x = r.edge a in let y = r.edge b in (x.«list».0 ≡ y.«list».0) × (x.index ≡ y.index)) → (a.«list».0 ≡ b.«list».0) × (a.index ≡ b.index)
-    edges_apart a b h = let e = one.edge a b (edge_key_is (r.edge a) (r.edge b) h.0 h.1) in (ap (λ (k : EdgeKey). k.«list».0) e, ap (λ (k : EdgeKey). k.index) e)
+    edges_apart : (a b : EdgeKey) → (let x = r.edge a in let y = r.edge b in (x.«list».0 ≡ y.«list».0) × (x.index ≡ y.index))
+        → (a.«list».0 ≡ b.«list».0) × (a.index ≡ b.index)
+    edges_apart a b h = let e = one.edge a b (edge_key_is (r.edge a) (r.edge b) h.0 h.1)
+        in (ap (λ (k : EdgeKey). k.«list».0) e, ap (λ (k : EdgeKey). k.index) e)
 
-    vertices_apart : (a b : VertexKey) → (let x = r.vertex a in let y = r.vertex b in (x.«list».0 ≡ y.«list».0) × (x.index ≡ y.index)) → (a.«list».0 ≡ b.«list».0) × (a.index ≡ b.index)
-    vertices_apart a b h = let e = one.vertex a b (vertex_key_is (r.vertex a) (r.vertex b) h.0 h.1) in (ap (λ (k : VertexKey). k.«list».0) e, ap (λ (k : VertexKey). k.index) e)
+    vertices_apart : (a b : VertexKey) → (let x = r.vertex a in let y = r.vertex b in (x.«list».0 ≡ y.«list».0) × (x.index ≡ y.index))
+        → (a.«list».0 ≡ b.«list».0) × (a.index ≡ b.index)
+    vertices_apart a b h = let e = one.vertex a b (vertex_key_is (r.vertex a) (r.vertex b) h.0 h.1)
+        in (ap (λ (k : VertexKey). k.«list».0) e, ap (λ (k : VertexKey). k.index) e)
 
     -- two places of one rule with one new name
-    places_apart : (rule : Rule) (e i f j : ℕ) → ((renamed_place r rule e i).0 ≡ (renamed_place r rule f j).0) × ((renamed_place r rule e i).1 ≡ (renamed_place r rule f j).1) → (e ≡ f) × (i ≡ j)
+    places_apart : (rule : Rule) (e i f j : ℕ) → ((renamed_place r rule e i).0 ≡ (renamed_place r rule f j).0)
+        × ((renamed_place r rule e i).1 ≡ (renamed_place r rule f j).1) → (e ≡ f) × (i ≡ j)
     places_apart Unpaired e i f j h = edges_apart (record { «list» = record { 0 = e }; index = i }) (record { «list» = record { 0 = f }; index = j }) h
     places_apart Unlinked e i f j h = vertices_apart (record { «list» = record { 0 = e }; index = i }) (record { «list» = record { 0 = f }; index = j }) h
     places_apart Shared e i f j h = vertices_apart (record { «list» = record { 0 = e }; index = i }) (record { «list» = record { 0 = f }; index = j }) h
@@ -109,10 +119,12 @@ module _ (r : Renaming) where
     names_apart : (x y : Failing) → under_new_name r x ≡ under_new_name r y → y ≡ x
     names_apart x y e =
         let rule : x.rule ≡ y.rule = ap (λ (z : Failing). z.rule) e in
-        let there : ((renamed_place r x.rule x.entity.0 x.place).0 ≡ (renamed_place r y.rule y.entity.0 y.place).0) × ((renamed_place r x.rule x.entity.0 x.place).1 ≡ (renamed_place r y.rule y.entity.0 y.place).1)
+        let there : ((renamed_place r x.rule x.entity.0 x.place).0 ≡ (renamed_place r y.rule y.entity.0 y.place).0)
+        × ((renamed_place r x.rule x.entity.0 x.place).1 ≡ (renamed_place r y.rule y.entity.0 y.place).1)
         = (ap (λ (z : Failing). z.entity.0) e, ap (λ (z : Failing). z.place) e) in
         let same = places_apart x.rule x.entity.0 x.place y.entity.0 y.place
-        (subst (λ w. ((renamed_place r x.rule x.entity.0 x.place).0 ≡ (renamed_place r w y.entity.0 y.place).0) × ((renamed_place r x.rule x.entity.0 x.place).1 ≡ (renamed_place r w y.entity.0 y.place).1)) (sym rule) there) in
+        (subst (λ w. ((renamed_place r x.rule x.entity.0 x.place).0 ≡ (renamed_place r w y.entity.0 y.place).0)
+        × ((renamed_place r x.rule x.entity.0 x.place).1 ≡ (renamed_place r w y.entity.0 y.place).1)) (sym rule) there) in
         failing_is y x (sym rule) (sym same.0) (sym same.1)
 
 -- ---- the laws
@@ -121,7 +133,8 @@ pub renamed_alike : RenamedFailAlike
 renamed_alike r s t h = solids_alike (new_names r) s t h
 
 pub renamed_verdict : RenamedKeepsVerdict
-renamed_verdict r s t h = keeps_as (AreNamedAlike (new_names r)) (under_new_name r) (is_renamed r) (solid_obligations s) (solid_obligations t) (solids_alike (new_names r) s t h)
+renamed_verdict r s t h = keeps_as (AreNamedAlike (new_names r)) (under_new_name r) (is_renamed r) (solid_obligations s) (solid_obligations t)
+    (solids_alike (new_names r) s t h)
 
 pub renamed_tells_place : RenamedTellsPlace
 renamed_tells_place r s t one h x bad =

@@ -6,7 +6,8 @@ use Rattle.iges_params.specs.Named.{named, record_values, values_of}
 use Rattle.brep_lists.specs.DueValues.{DueValue, pointer, number, flag, at_least_one, count, coordinate}
 use Rattle.brep_lists.specs.Record.{type_number, kind_of_type, HasForm, due, items_of, IsRecordOf}
 use Rattle.brep_lists.specs.declared.entity_kind.EntityKind.{EntityKind}
-use Rattle.brep_lists.specs.declared.entity_kind.EntityKind.TheVariants.{Solid as solid, Shell as shell, Face as face, Loop as «loop», EdgeList as edges, VertexList as vertices}
+use Rattle.brep_lists.specs.declared.entity_kind.EntityKind.TheVariants.{Solid as solid, Shell as shell, Face as face, Loop as «loop», EdgeList as edges}
+use Rattle.brep_lists.specs.declared.entity_kind.EntityKind.TheVariants.{VertexList as vertices}
 use Rattle.brep_lists.proofs.KindTypes.{kind_known}
 use Rattle.brep_walk.specs.Places.{told, Names, NamesKind, HasRecordOf, NamesGeometry}
 use Rattle.solid_data.specs.Obligations.{entry_number}
@@ -44,8 +45,10 @@ pub record Renames (f q : Contents) (K : ℕ → Type 0) (new : ℕ → ℕ) (g 
   pub entry : (m : ℕ) → K m → OptionZip IsSameKind (named f (pos m)) (named q (pos (new m)))
   pub there : (m : ℕ) → K m → Names f (pos m)
   pub records : (m : ℕ) (r : Record) (kind : EntityKind) → K m → named f (pos m) ≡ Some r → kind_of_type r.0.kind ≡ Some kind
-      → IsRecordOf kind r.1 × IsRecordOf kind (values_of q (pos (new m))) × (items_of kind (values_of q (pos (new m))) ≡ renamed_items g kind (items_of kind r.1))
-  pub pointers : (m : ℕ) (r : Record) (kind : EntityKind) → K m → named f (pos m) ≡ Some r → kind_of_type r.0.kind ≡ Some kind → AllPointers (IsPointer K) (due kind (items_of kind r.1))
+      → IsRecordOf kind r.1 × IsRecordOf kind (values_of q (pos (new m)))
+      × (items_of kind (values_of q (pos (new m))) ≡ renamed_items g kind (items_of kind r.1))
+  pub pointers : (m : ℕ) (r : Record) (kind : EntityKind) → K m → named f (pos m) ≡ Some r → kind_of_type r.0.kind ≡ Some kind
+      → AllPointers (IsPointer K) (due kind (items_of kind r.1))
 
 -- an entry is kept, and this is its new number
 abbrev pub IsNew : (ℕ → Type 0) → (ℕ → ℕ) → ℕ → ℕ → Type 0
@@ -53,8 +56,10 @@ IsNew K new m k = K m × (k ≡ new m)
 
 module _ (f q : Contents) (K : ℕ → Type 0) (new : ℕ → ℕ) (g : ℤ → ℤ) (h : Renames f q K new g) where
   entry_zip : (z : ℤ) → IsPointer K z → OptionZip IsSameKind (named f z) (named q (g z))
-  entry_zip z (inl e) = subst (λ w. OptionZip IsSameKind (named f w) (named q (g w))) (sym e) (subst (λ w. OptionZip IsSameKind (named f (pos 0)) (named q w)) (sym h.nothing) tt)
-  entry_zip z (inr k) = subst (λ w. OptionZip IsSameKind (named f w) (named q (g w))) (sym k.1) (subst (λ w. OptionZip IsSameKind (named f (pos k.0)) (named q w)) (sym (h.something k.0 k.2)) (h.entry k.0 k.2))
+  entry_zip z (inl e) = subst (λ w. OptionZip IsSameKind (named f w) (named q (g w))) (sym e)
+      (subst (λ w. OptionZip IsSameKind (named f (pos 0)) (named q w)) (sym h.nothing) tt)
+  entry_zip z (inr k) = subst (λ w. OptionZip IsSameKind (named f w) (named q (g w))) (sym k.1)
+      (subst (λ w. OptionZip IsSameKind (named f (pos k.0)) (named q w)) (sym (h.something k.0 k.2)) (h.entry k.0 k.2))
 
   pub names_same : (z : ℤ) → IsPointer K z → Names f z ↔ Names q (g z)
   names_same z p = by_entries (named f z) (named q (g z)) (entry_zip z p)
@@ -68,7 +73,8 @@ module _ (f q : Contents) (K : ℕ → Type 0) (new : ℕ → ℕ) (g : ℤ → 
   pub kind_same : (kind : EntityKind) (z : ℤ) → IsPointer K z → NamesKind kind f z ↔ NamesKind kind q (g z)
   kind_same kind z p = by_entries (named f z) (named q (g z)) (entry_zip z p)
     where
-      by_entries : (a b : Option Record) → OptionZip IsSameKind a b → IsSomeAnd a (λ e. (e.0.kind ≡ type_number kind) × HasForm kind e.0.form) ↔ IsSomeAnd b (λ e. (e.0.kind ≡ type_number kind) × HasForm kind e.0.form)
+      by_entries : (a b : Option Record) → OptionZip IsSameKind a b → IsSomeAnd a (λ e. (e.0.kind ≡ type_number kind) × HasForm kind e.0.form) ↔ IsSomeAnd b
+          (λ e. (e.0.kind ≡ type_number kind) × HasForm kind e.0.form)
       by_entries None None k = (λ x. x, λ x. x)
       by_entries None (Some y) k = absurd k
       by_entries (Some x) None k = absurd k
@@ -77,7 +83,8 @@ module _ (f q : Contents) (K : ℕ → Type 0) (new : ℕ → ℕ) (g : ℤ → 
   pub geometry_same : (z : ℤ) → IsPointer K z → NamesGeometry f z ↔ NamesGeometry q (g z)
   geometry_same z p = by_entries (named f z) (named q (g z)) (entry_zip z p)
     where
-      by_entries : (a b : Option Record) → OptionZip IsSameKind a b → IsSomeAnd a (λ e. (kind : EntityKind) → ¬ (e.0.kind ≡ type_number kind)) ↔ IsSomeAnd b (λ e. (kind : EntityKind) → ¬ (e.0.kind ≡ type_number kind))
+      by_entries : (a b : Option Record) → OptionZip IsSameKind a b → IsSomeAnd a (λ e. (kind : EntityKind) → ¬ (e.0.kind ≡ type_number kind)) ↔ IsSomeAnd b
+          (λ e. (kind : EntityKind) → ¬ (e.0.kind ≡ type_number kind))
       by_entries None None k = (λ x. x, λ x. x)
       by_entries None (Some y) k = absurd k
       by_entries (Some x) None k = absurd k
@@ -98,7 +105,8 @@ module _ (f q : Contents) (K : ℕ → Type 0) (new : ℕ → ℕ) (g : ℤ → 
   pub tells : (kind : EntityKind) (z : ℤ) → IsEntity K z → NamesKind kind f z → Tells kind z
   tells kind z e n = subst (Tells kind) (sym e.1) (by_entry (named f (pos e.0)) refl (subst (NamesKind kind f) e.1 n))
     where
-      has_record : (o p : Option Record) → OptionZip IsSameKind o p → (r : Record) → o ≡ Some r → IsRecordOf kind (record_values p) → IsSomeAnd p (λ x. IsRecordOf kind x.1)
+      has_record : (o p : Option Record) → OptionZip IsSameKind o p → (r : Record) → o ≡ Some r → IsRecordOf kind (record_values p)
+          → IsSomeAnd p (λ x. IsRecordOf kind x.1)
       has_record None p k r s is = absurd cc
       has_record (Some x) None k r s is = absurd k
       has_record (Some x) (Some y) k r s is = is
@@ -114,7 +122,8 @@ module _ (f q : Contents) (K : ℕ → Type 0) (new : ℕ → ℕ) (g : ℤ → 
           record {
             before = subst (λ o. IsSomeAnd o (λ x. IsRecordOf kind x.1)) (sym s) all.0;
             after = subst (HasRecordOf kind q) new_name after;
-            same = subst (λ w. told kind q w ≡ renamed_items g kind (told kind f (pos e.0))) new_name (all.2 ∙ ap (λ vs. renamed_items g kind (items_of kind vs)) (sym values));
+            same = subst (λ w. told kind q w ≡ renamed_items g kind (told kind f (pos e.0))) new_name
+                (all.2 ∙ ap (λ vs. renamed_items g kind (items_of kind vs)) (sym values));
             pointers = subst (λ vs. AllPointers (IsPointer K) (due kind (items_of kind vs))) (sym values) (h.pointers e.0 r kind e.2 s of_kind);
           }
 

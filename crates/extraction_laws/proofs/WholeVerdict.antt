@@ -18,10 +18,12 @@ use Rattle.extraction_laws.proofs.RelabelledSolids.{solids_alike}
 use Rattle.extraction_laws.proofs.ExtractedSolid.{places_alike, solid_told}
 use Rattle.extraction_laws.proofs.KeptVerdicts.{keeps_verdict}
 
-obligations_alike : (f q : Contents) (n : ℕ) (x : IsExtracted f n q) → FailAlike (AreNamedAlike (kept_names x.kept)) (obligations f n) (obligations q (new_number x.kept n))
+obligations_alike : (f q : Contents) (n : ℕ) (x : IsExtracted f n q)
+    → FailAlike (AreNamedAlike (kept_names x.kept)) (obligations f n) (obligations q (new_number x.kept n))
 unfolding obligations
 obligations_alike f q n x =
-    append_alike (AreNamedAlike (kept_names x.kept)) (places f n) (solid_obligations (solid_of f n)) (places q (new_number x.kept n)) (solid_obligations (solid_of q (new_number x.kept n))) (places_alike f q n x)
+    append_alike (AreNamedAlike (kept_names x.kept)) (places f n) (solid_obligations (solid_of f n)) (places q (new_number x.kept n))
+    (solid_obligations (solid_of q (new_number x.kept n))) (places_alike f q n x)
     (λ all. solids_alike (kept_names x.kept) (solid_of f n) (solid_of q (new_number x.kept n)) (solid_told f q n x all))
 
 obligations_kept : (f q : Contents) (n : ℕ) (x : IsExtracted f n q) → KeepsVerdict x.kept (obligations f n) (obligations q (new_number x.kept n))

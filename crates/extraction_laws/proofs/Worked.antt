@@ -44,7 +44,13 @@ behind_false = (record { rule = refl; named = refl }, (λ h. h, λ h. h), λ h. 
 ball : ℕ → ℕ → ℕ → ℕ → ℕ → ℕ → SolidData
 ball solid shell face round list index = record {
   entity = record { 0 = solid };
-  shells = record { entity = record { 0 = shell }; flag = true; faces = record { entity = record { 0 = face }; flag = true; loops = record { entity = record { 0 = round }; uses = VertexUse (record { 0 = 0 }) ∷ [] } ∷ [] } ∷ [] } ∷ [];
+  shells = record {
+    entity = record { 0 = shell };
+    flag = true;
+    faces =
+        record { entity = record { 0 = face }; flag = true; loops = record { entity = record { 0 = round }; uses = VertexUse (record { 0 = 0 }) ∷ [] } ∷ [] }
+        ∷ [];
+  } ∷ [];
   edges = [];
   vertices = record { «list» = record { 0 = list }; index = index } ∷ [];
 }
@@ -61,7 +67,10 @@ ball_is_relabelled : IsRelabelled (new_names moved) (ball 13 11 9 7 3 1) (ball 1
 unfolding ball moved
 ball_is_relabelled = record {
   entity = refl;
-  shells = (record { entity = refl; flag = refl; faces = (record { entity = refl; flag = refl; loops = (record { entity = refl; uses = refl }, tt) }, tt) }, tt);
+  shells = (
+    record { entity = refl; flag = refl; faces = (record { entity = refl; flag = refl; loops = (record { entity = refl; uses = refl }, tt) }, tt) },
+    tt,
+  );
   edges = tt;
   vertices = (refl, tt);
 }

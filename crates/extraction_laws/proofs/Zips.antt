@@ -23,13 +23,15 @@ zip_append Q [] us (y ∷ ys) vs z w = absurd z
 zip_append Q (x ∷ xs) us [] vs z w = absurd z
 zip_append Q (x ∷ xs) us (y ∷ ys) vs z w = (z.0, zip_append Q xs us ys vs z.1 w)
 
-pub zip_map : {A B C D : Type 0} (Q : A → B → Type 0) (P : C → D → Type 0) (f : A → C) (g : B → D) (xs : List A) (ys : List B) → AllZip Q xs ys → ((x : A) (y : B) → Q x y → P (f x) (g y)) → AllZip P (map f xs) (map g ys)
+pub zip_map : {A B C D : Type 0} (Q : A → B → Type 0) (P : C → D → Type 0) (f : A → C) (g : B → D) (xs : List A) (ys : List B) → AllZip Q xs ys
+    → ((x : A) (y : B) → Q x y → P (f x) (g y)) → AllZip P (map f xs) (map g ys)
 zip_map Q P f g [] [] z h = tt
 zip_map Q P f g [] (y ∷ ys) z h = absurd z
 zip_map Q P f g (x ∷ xs) [] z h = absurd z
 zip_map Q P f g (x ∷ xs) (y ∷ ys) z h = (h x y z.0, zip_map Q P f g xs ys z.1 h)
 
-pub zip_flat_map : {A B C D : Type 0} (Q : A → B → Type 0) (P : C → D → Type 0) (f : A → List C) (g : B → List D) (xs : List A) (ys : List B) → AllZip Q xs ys → ((x : A) (y : B) → Q x y → AllZip P (f x) (g y)) → AllZip P (flat_map f xs) (flat_map g ys)
+pub zip_flat_map : {A B C D : Type 0} (Q : A → B → Type 0) (P : C → D → Type 0) (f : A → List C) (g : B → List D) (xs : List A) (ys : List B) → AllZip Q xs ys
+    → ((x : A) (y : B) → Q x y → AllZip P (f x) (g y)) → AllZip P (flat_map f xs) (flat_map g ys)
 zip_flat_map Q P f g [] [] z h = tt
 zip_flat_map Q P f g [] (y ∷ ys) z h = absurd z
 zip_flat_map Q P f g (x ∷ xs) [] z h = absurd z
@@ -39,7 +41,8 @@ zip_flat_map Q P f g (x ∷ xs) (y ∷ ys) z h = zip_append P (f x) (flat_map f 
 abbrev pub Numbered : {A B : Type 0} → (A → B → Type 0) → ℕ × A → ℕ × B → Type 0
 Numbered Q x y = (x.0 ≡ y.0) × Q x.1 y.1
 
-pub zip_enumerate : {A B : Type 0} (Q : A → B → Type 0) (n : ℕ) (xs : List A) (ys : List B) → AllZip Q xs ys → AllZip (Numbered Q) (enumerate_from n xs) (enumerate_from n ys)
+pub zip_enumerate : {A B : Type 0} (Q : A → B → Type 0) (n : ℕ) (xs : List A) (ys : List B) → AllZip Q xs ys
+    → AllZip (Numbered Q) (enumerate_from n xs) (enumerate_from n ys)
 zip_enumerate Q n [] [] z = tt
 zip_enumerate Q n [] (y ∷ ys) z = absurd z
 zip_enumerate Q n (x ∷ xs) [] z = absurd z
@@ -53,7 +56,8 @@ zip_take Q (suc n) (x ∷ xs) [] z = absurd z
 zip_take Q (suc n) (x ∷ xs) (y ∷ ys) z = (z.0, zip_take Q n xs ys z.1)
 
 -- what related items give alike, the lists give alike
-pub zip_same : {A B C : Type 0} (Q : A → B → Type 0) (f : A → List C) (g : B → List C) (xs : List A) (ys : List B) → AllZip Q xs ys → ((x : A) (y : B) → Q x y → f x ≡ g y) → flat_map f xs ≡ flat_map g ys
+pub zip_same : {A B C : Type 0} (Q : A → B → Type 0) (f : A → List C) (g : B → List C) (xs : List A) (ys : List B) → AllZip Q xs ys
+    → ((x : A) (y : B) → Q x y → f x ≡ g y) → flat_map f xs ≡ flat_map g ys
 zip_same Q f g [] [] z h = refl
 zip_same Q f g [] (y ∷ ys) z h = absurd z
 zip_same Q f g (x ∷ xs) [] z h = absurd z

@@ -29,7 +29,8 @@ pub record KeepsVerdict (kept : List ℕ) (ps qs : List Obligation) : Type 0 whe
 
 -- Item by item the places of the extracted solid are those that it had.
 abbrev pub PlacesAreAlike : Type 0
-PlacesAreAlike = (f new : Contents) (n : ℕ) (x : IsExtracted f n new) → FailAlike (AreNamedAlike (kept_names x.kept)) (places f n) (places new (new_number x.kept n))
+PlacesAreAlike = (f new : Contents) (n : ℕ) (x : IsExtracted f n new)
+    → FailAlike (AreNamedAlike (kept_names x.kept)) (places f n) (places new (new_number x.kept n))
 
 -- So they have its first false one.
 abbrev pub PlacesAreKept : Type 0
@@ -37,4 +38,5 @@ PlacesAreKept = (f new : Contents) (n : ℕ) (x : IsExtracted f n new) → Keeps
 
 -- Where the places hold, the extracted file describes the solid that its file described, with each number renamed.
 abbrev pub SolidIsKept : Type 0
-SolidIsKept = (f new : Contents) (n : ℕ) (x : IsExtracted f n new) → AllHold (places f n) → IsRelabelled (kept_names x.kept) (solid_of f n) (solid_of new (new_number x.kept n))
+SolidIsKept = (f new : Contents) (n : ℕ) (x : IsExtracted f n new) → AllHold (places f n)
+    → IsRelabelled (kept_names x.kept) (solid_of f n) (solid_of new (new_number x.kept n))

@@ -23,7 +23,8 @@ new_names r = record { entity = λ a b. b ≡ r.entity a; edge = λ a b. b ≡ r
 
 -- They fail alike item by item.
 abbrev pub RenamedFailAlike : Type 0
-RenamedFailAlike = (r : Renaming) (s t : SolidData) → IsRelabelled (new_names r) s t → FailAlike (AreNamedAlike (new_names r)) (solid_obligations s) (solid_obligations t)
+RenamedFailAlike = (r : Renaming) (s t : SolidData) → IsRelabelled (new_names r) s t
+    → FailAlike (AreNamedAlike (new_names r)) (solid_obligations s) (solid_obligations t)
 
 -- what the rule names at this place of this entity, an edge, a vertex or the place itself, under its new name
 abbrev pub renamed_place : Renaming → Rule → ℕ → ℕ → ℕ × ℕ
@@ -37,7 +38,8 @@ under_new_name r x = let named = renamed_place r x.rule x.entity.0 x.place in re
 
 -- So a solid under new names fails the rule that it failed, at the new name of the same place.
 abbrev pub RenamedKeepsVerdict : Type 0
-RenamedKeepsVerdict = (r : Renaming) (s t : SolidData) → IsRelabelled (new_names r) s t → KeepsVerdictAs (under_new_name r) (solid_obligations s) (solid_obligations t)
+RenamedKeepsVerdict = (r : Renaming) (s t : SolidData) → IsRelabelled (new_names r) s t
+    → KeepsVerdictAs (under_new_name r) (solid_obligations s) (solid_obligations t)
 
 -- no two names become one
 pub record IsOneToOne (r : Renaming) : Type 0 where
@@ -47,4 +49,5 @@ pub record IsOneToOne (r : Renaming) : Type 0 where
 
 -- Where no two names become one, the new name of a place says which place failed.
 abbrev pub RenamedTellsPlace : Type 0
-RenamedTellsPlace = (r : Renaming) (s t : SolidData) → IsOneToOne r → IsRelabelled (new_names r) s t → (x : Failing) → FirstFalse (solid_obligations t) (under_new_name r x) → FirstFalse (solid_obligations s) x
+RenamedTellsPlace = (r : Renaming) (s t : SolidData) → IsOneToOne r → IsRelabelled (new_names r) s t → (x : Failing)
+    → FirstFalse (solid_obligations t) (under_new_name r x) → FirstFalse (solid_obligations s) x

@@ -18,15 +18,21 @@ use Rattle.face_orient.specs.Steady.{IsSteady}
 use Rattle.face_orient.proofs.Walks.{climb_push, odd_walk}
 use Rattle.face_orient.proofs.Floods.{listed_low, all_listed}
 
-pub known_place : (n : ℕ) (cs : List Crossing) (first : Bool) (places : List Place) (order : List ℕ) (f : ℕ) (p : Place) → IsFlood n cs first places order → Has order f → p ≡ get_or places f p → p ≡ place_of places f
-known_place n cs first places order f p flood m e = e ∙ default_apart places f p unreached (omega (arith, listed_low n cs first places order f flood m, flood.size))
+pub known_place : (n : ℕ) (cs : List Crossing) (first : Bool) (places : List Place) (order : List ℕ) (f : ℕ) (p : Place) → IsFlood n cs first places order
+    → Has order f → p ≡ get_or places f p → p ≡ place_of places f
+known_place n cs first places order f p flood m e =
+    e ∙ default_apart places f p unreached (omega (arith, listed_low n cs first places order f flood m, flood.size))
 
-pub child_of : (n : ℕ) (cs : List Crossing) (first : Bool) (places : List Place) (order : List ℕ) (f : ℕ) → IsFlood n cs first places order → Has order f → 0 < (place_of places f).depth → IsChild cs places f
-child_of n cs first places order f flood m deep = ⊎_elim (λ (o : IsOrigin first places f). absurd (omega (arith, deep, o.depth))) (λ (o : IsChild cs places f). o) (flood.known f m)
+pub child_of : (n : ℕ) (cs : List Crossing) (first : Bool) (places : List Place) (order : List ℕ) (f : ℕ) → IsFlood n cs first places order → Has order f
+    → 0 < (place_of places f).depth → IsChild cs places f
+child_of n cs first places order f flood m deep = ⊎_elim (λ (o : IsOrigin first places f). absurd (omega (arith, deep, o.depth)))
+    (λ (o : IsChild cs places f). o) (flood.known f m)
 
 -- the face before, and the climb to it
-pub climb_up : (n : ℕ) (cs : List Crossing) (first : Bool) (places : List Place) (order : List ℕ) (f b : ℕ) (t : Bool) (path new : List ℕ) (p : Place) → IsFlood n cs first places order → (child : IsChild cs places f) → p ≡ place_of places f → new ≡ path ++ p.up ∷ []
-    → Climb cs b t path f (place_of places f).flag → Has order (get_or cs p.up no_step).from × Climb cs b t new (get_or cs p.up no_step).from (place_of places (get_or cs p.up no_step).from).flag
+pub climb_up : (n : ℕ) (cs : List Crossing) (first : Bool) (places : List Place) (order : List ℕ) (f b : ℕ) (t : Bool) (path new : List ℕ) (p : Place)
+    → IsFlood n cs first places order → (child : IsChild cs places f) → p ≡ place_of places f → new ≡ path ++ p.up ∷ []
+    → Climb cs b t path f (place_of places f).flag → Has order (get_or cs p.up no_step).from × Climb cs b t new (get_or cs p.up no_step).from
+    (place_of places (get_or cs p.up no_step).from).flag
 climb_up n cs first places order f b t path new p flood child same e climbed =
     let at : slice_get cs p.up ≡ Some child.step = ap (λ (x : Place). slice_get cs x.up) same ∙ child.at in
     let step : get_or cs p.up no_step ≡ child.step = get_or_from_slice_get cs p.up child.step no_step at in
@@ -36,19 +42,23 @@ climb_up n cs first places order f b t path new p flood child same e climbed =
     (flood.listed child.step.from child.parent, subst (λ rs. Climb cs b t rs child.step.from (place_of places child.step.from).flag) (sym e) on)
 
 -- at the end of a climb lies the first face
-pub climb_done : (n : ℕ) (cs : List Crossing) (first : Bool) (places : List Place) (order : List ℕ) (f b : ℕ) (t : Bool) (path : List ℕ) → IsFlood n cs first places order → Has order f → (place_of places f).depth ≡ 0 → Climb cs b t path f (place_of places f).flag → Climb cs b t path 0 first
+pub climb_done : (n : ℕ) (cs : List Crossing) (first : Bool) (places : List Place) (order : List ℕ) (f b : ℕ) (t : Bool) (path : List ℕ)
+    → IsFlood n cs first places order → Has order f → (place_of places f).depth ≡ 0 → Climb cs b t path f (place_of places f).flag → Climb cs b t path 0 first
 climb_done n cs first places order f b t path flood m flat climbed =
-    ⊎_elim (λ (o : IsOrigin first places f). subst (λ g. Climb cs b t path g first) o.is_first (subst (Climb cs b t path f) o.flag climbed)) (λ (o : IsChild cs places f). absurd (omega (arith, flat, o.deeper))) (flood.known f m)
+    ⊎_elim (λ (o : IsOrigin first places f). subst (λ g. Climb cs b t path g first) o.is_first (subst (Climb cs b t path f) o.flag climbed))
+    (λ (o : IsChild cs places f). absurd (omega (arith, flat, o.deeper))) (flood.known f m)
 
 -- the last row of a climb
-pub climb_pop : (cs : List Crossing) (path : List ℕ) (r b : ℕ) (t : Bool) (a : ℕ) (s : Bool) → Climb cs b t (path ++ r ∷ []) a s → (c : Crossing) × (slice_get cs r ≡ Some c) × Climb cs b t path c.to (flipped c.flips s)
+pub climb_pop : (cs : List Crossing) (path : List ℕ) (r b : ℕ) (t : Bool) (a : ℕ) (s : Bool) → Climb cs b t (path ++ r ∷ []) a s
+    → (c : Crossing) × (slice_get cs r ≡ Some c) × Climb cs b t path c.to (flipped c.flips s)
 climb_pop cs [] r b t a s (c, u, at, to, flag, (e, k)) = (c, at, (sym to, flag ∙ ap (flipped c.flips) k))
 climb_pop cs (x ∷ path) r b t a s (c, u, at, to, flag, rest) =
     let h = climb_pop cs path r c.from u a s rest in
     (h.0, h.1, (c, u, at, to, flag, h.2))
 
 take_front : (front : List ℕ) (r : ℕ) → take (length (front ++ r ∷ []) - 1) (front ++ r ∷ []) ≡ front
-take_front front r = let n : length (front ++ r ∷ []) - 1 ≡ length front = omega (arith, length-append front (r ∷ [])) in ap (λ k. take k (front ++ r ∷ [])) n ∙ fronts front
+take_front front r = let n : length (front ++ r ∷ []) - 1 ≡ length front = omega (arith, length-append front (r ∷ [])) in ap (λ k. take k (front ++ r ∷ [])) n
+    ∙ fronts front
   where
     fronts : (xs : List ℕ) → take (length xs) (xs ++ r ∷ []) ≡ xs
     fronts [] = refl
@@ -57,7 +67,8 @@ take_front front r = let n : length (front ++ r ∷ []) - 1 ≡ length front = o
 popped : (old new front : List ℕ) (r : ℕ) → old ≡ front ++ r ∷ [] → new ≡ take (length old - 1) old → new ≡ front
 popped old new front r e is = is ∙ (ap (λ xs. take (length xs - 1) xs) e ∙ take_front front r)
 
-pub common_dropped : (down up down2 up2 : List ℕ) (n m : ℕ) → EndAlike down up → n ≡ length down → m ≡ length up → down2 ≡ take (n - 1) down → up2 ≡ take (m - 1) up → (cs : List Crossing) (a b : ℕ) (p q : Bool) → LeadUpTo cs a p down b q up → LeadUpTo cs a p down2 b q up2
+pub common_dropped : (down up down2 up2 : List ℕ) (n m : ℕ) → EndAlike down up → n ≡ length down → m ≡ length up → down2 ≡ take (n - 1) down
+    → up2 ≡ take (m - 1) up → (cs : List Crossing) (a b : ℕ) (p q : Bool) → LeadUpTo cs a p down b q up → LeadUpTo cs a p down2 b q up2
 common_dropped down up down2 up2 n m ends e k is_down is_up cs a b p q l =
     let x = climb_pop cs ends.before_down ends.row a p l.face l.flag (subst (λ rs. Climb cs a p rs l.face l.flag) ends.is_down l.from_a) in
     let y = climb_pop cs ends.before_up ends.row b q l.face l.flag (subst (λ rs. Climb cs b q rs l.face l.flag) ends.is_up l.from_b) in
@@ -65,8 +76,11 @@ common_dropped down up down2 up2 n m ends e k is_down is_up cs a b p q l =
     record {
       face = x.0.to;
       flag = flipped x.0.flips l.flag;
-      from_a = subst (λ rs. Climb cs a p rs x.0.to (flipped x.0.flips l.flag)) (sym (popped down down2 ends.before_down ends.row ends.is_down (is_down ∙ ap (λ i. take (i - 1) down) e))) x.2;
-      from_b = subst (λ rs. Climb cs b q rs x.0.to (flipped x.0.flips l.flag)) (sym (popped up up2 ends.before_up ends.row ends.is_up (is_up ∙ ap (λ i. take (i - 1) up) k))) (subst (λ (k : Crossing). Climb cs b q ends.before_up k.to (flipped k.flips l.flag)) same y.2);
+      from_a = subst (λ rs. Climb cs a p rs x.0.to (flipped x.0.flips l.flag))
+          (sym (popped down down2 ends.before_down ends.row ends.is_down (is_down ∙ ap (λ i. take (i - 1) down) e))) x.2;
+      from_b = subst (λ rs. Climb cs b q rs x.0.to (flipped x.0.flips l.flag))
+          (sym (popped up up2 ends.before_up ends.row ends.is_up (is_up ∙ ap (λ i. take (i - 1) up) k)))
+          (subst (λ (k : Crossing). Climb cs b q ends.before_up k.to (flipped k.flips l.flag)) same y.2);
     }
 
 pub climb_low : (cs : List Crossing) (path : List ℕ) (b : ℕ) (t : Bool) (a : ℕ) (s : Bool) → Climb cs b t path a s → AllByRecursion (λ r. r < length cs) path
@@ -74,11 +88,13 @@ climb_low cs [] b t a s h = tt
 climb_low cs (r ∷ path) b t a s (c, u, at, to, flag, rest) = (slice_get_within cs r c at, climb_low cs path c.from u a s rest)
 
 -- Two climbs from the faces of a step that disagrees, less what they have in common, make an odd walk.
-pub ring_made : (n : ℕ) (cs : List Crossing) → IsGraph n cs → (r : ℕ) (c : Crossing) (p q : Bool) (down up : List ℕ) → slice_get cs r ≡ Some c → LeadUpTo cs c.from p down c.to q up → q ≢ flipped c.flips p → (rows : List ℕ) → rows ≡ reverse down ++ r ∷ map (partner_of cs) up → IsOddWalk cs rows
+pub ring_made : (n : ℕ) (cs : List Crossing) → IsGraph n cs → (r : ℕ) (c : Crossing) (p q : Bool) (down up : List ℕ) → slice_get cs r ≡ Some c
+    → LeadUpTo cs c.from p down c.to q up → q ≢ flipped c.flips p → (rows : List ℕ) → rows ≡ reverse down ++ r ∷ map (partner_of cs) up → IsOddWalk cs rows
 ring_made n cs graph r c p q down up at l ne rows e = subst (IsOddWalk cs) (sym e) (odd_walk n cs graph r c p q down up l.face l.flag at l.from_a l.from_b ne)
 
 -- all faces are listed, where all are reached
-pub all_known : (n : ℕ) (cs : List Crossing) (first : Bool) (places : List Place) (order : List ℕ) → IsFlood n cs first places order → ((g : ℕ) → Has order g → IsDone cs order g) → AllByRecursion (LeadsTo (Meets cs) 0) (numbers_from 0 n) → (f : ℕ) → f < n → Has order f
+pub all_known : (n : ℕ) (cs : List Crossing) (first : Bool) (places : List Place) (order : List ℕ) → IsFlood n cs first places order
+    → ((g : ℕ) → Has order g → IsDone cs order g) → AllByRecursion (LeadsTo (Meets cs) 0) (numbers_from 0 n) → (f : ℕ) → f < n → Has order f
 all_known n cs first places order flood done all f lt =
     let chain = All-at (LeadsTo (Meets cs) 0) (numbers_from 0 n) all f (number_within 0 n f (omega arith) (omega (arith, lt))) in
     all_listed cs order done chain.0 0 f flood.begun chain.1
@@ -97,9 +113,11 @@ first_flag [] h = absurd (omega (arith, h))
 first_flag (b ∷ bs) h = refl
 
 -- the flags of steady places suit
-pub flags_suit : (n : ℕ) (cs : List Crossing) (first : Bool) (places : List Place) (order : List ℕ) (flags : List Bool) → IsFlood n cs first places order → ((r : ℕ) (c : Crossing) → slice_get cs r ≡ Some c → IsSteady places c) → flags ≡ map (λ (p : Place). p.flag) places → Suit cs n first flags
+pub flags_suit : (n : ℕ) (cs : List Crossing) (first : Bool) (places : List Place) (order : List ℕ) (flags : List Bool) → IsFlood n cs first places order
+    → ((r : ℕ) (c : Crossing) → slice_get cs r ≡ Some c → IsSteady places c) → flags ≡ map (λ (p : Place). p.flag) places → Suit cs n first flags
 flags_suit n cs first places order flags flood steady e = subst (Suit cs n first) (sym e) (record {
   each = length-flags places ∙ flood.size;
-  own = first_flag (map (λ (p : Place). p.flag) places) (omega (arith, length-flags places, flood.size, listed_low n cs first places order 0 flood flood.begun)) ∙ ap Some (flag_at places 0 ∙ flood.origin.flag);
+  own = first_flag (map (λ (p : Place). p.flag) places)
+      (omega (arith, length-flags places, flood.size, listed_low n cs first places order 0 flood flood.begun)) ∙ ap Some (flag_at places 0 ∙ flood.origin.flag);
   agree = λ r c at. flag_at places c.to ∙ (steady r c at ∙ ap (flipped c.flips) (sym (flag_at places c.from)));
 })

@@ -1,5 +1,6 @@
 -- What a front of some digits is worth, and the texts of numbers.
-use Rattle.std.proofs.Common.{rules, ◌≡◌, ℕ, zero, suc, ◌+◌, ◌-◌, ◌*◌, ◌<◌, ◌≤◌, ◌^◌, List, [], ◌∷◌, ◌++◌, length, take, drop, get_or, arith, length-take, lit<, refl, sym, ◌∙◌, ap, take-append-drop}
+use Rattle.std.proofs.Common.{rules, ◌≡◌, ℕ, zero, suc, ◌+◌, ◌-◌, ◌*◌, ◌<◌, ◌≤◌, ◌^◌, List, [], ◌∷◌, ◌++◌, length, take, drop, get_or, arith, length-take, lit<}
+use Rattle.std.proofs.Common.{refl, sym, ◌∙◌, ap, take-append-drop}
 use Rattle.std.proofs.Math.Nat.{pow-le-pow_right}
 use Rattle.std.specs.Prelude.{decimal, ◌↔◌}
 use Rattle.std.specs.Str.Parse.{AllDigits, IsNumeral, digits_value}
@@ -30,12 +31,16 @@ more_digits bs i v d within value digit inside =
     omega (arith, digits_value_more 10 bs i within, worth (get_or bs i 0) inside)
 
 -- a word of digits that doesn't begin with a needless 0 is its number's
-pub numeral_word : (word : List ℕ) (n : ℕ) → IsNumeral 10 word → n ≡ digits_value 10 word → length word ≤ 9 → (get_or word 0 0 ≡ 48 → length word ≡ 1) → IsShort n × (word ≡ decimal n)
+pub numeral_word : (word : List ℕ) (n : ℕ) → IsNumeral 10 word → n ≡ digits_value 10 word → length word ≤ 9 → (get_or word 0 0 ≡ 48 → length word ≡ 1)
+    → IsShort n × (word ≡ decimal n)
 numeral_word word n numeral e few lead =
     let below = digits_value-lt 10 word numeral.1 in
     let bound : 10 ^ length word ≤ 10 ^ 9 = pow-le-pow_right (lit< tt) few in
-    let small : digits_value 10 word < 10 ^ 9 = omega (arith, below, bound) in
-    (omega (arith, small, e), sym (ap decimal e ∙ decimal-digits_value (numerals_by_value (AllDigits 10) (search rules)) word numeral.1 numeral.0 lead (omega (arith, small))))
+    let small : digits_value 10 word < 10 ^ 9 = omega (arith, below, bound) in (
+      omega (arith, small, e),
+      sym
+          (ap decimal e ∙ decimal-digits_value (numerals_by_value (AllDigits 10) (search rules)) word numeral.1 numeral.0 lead (omega (arith, small))),
+    )
 
 pub decimal_short : (n : ℕ) → IsShort n → length (decimal n) ≤ 9
 decimal_short n short = length-decimal-le 9 n (omega arith) short (omega (arith, short))
@@ -62,7 +67,8 @@ begins_cons text rest ns n b a = record { short = (b.short, a.short); text_is = 
 pub begins_tail : (text rest ms : List ℕ) (n m : ℕ) → Begins text n rest → AreNumbers text (m ∷ ms) → (m ≡ n) × AreNumbers rest ms
 begins_tail text rest ms n m b a =
     let same : decimal n ++ rest ≡ decimal m ++ spaced ms = ap rest_of (sym b.text_is ∙ a.text_is) in
-    let parts = split_digits (decimal n) (decimal m) rest (spaced ms) (decimal_digits n b.short) (decimal_digits m a.short.0) (stops_first rest b.stops) (stops_first (spaced ms) (spaced_stops ms)) same in
+    let parts = split_digits (decimal n) (decimal m) rest (spaced ms) (decimal_digits n b.short) (decimal_digits m a.short.0) (stops_first rest b.stops)
+    (stops_first (spaced ms) (spaced_stops ms)) same in
     (sym (decimal_injective n m (omega (arith, b.short)) (omega (arith, a.short.0)) parts.0), record { short = a.short.1; text_is = parts.1 })
 
 pub begins_some : (text rest : List ℕ) (n : ℕ) → Begins text n rest → AreNumbers text [] → ⊥
@@ -85,7 +91,9 @@ empty_spaced [] h = record { short = tt; text_is = refl }
 empty_spaced (b ∷ bs) h = absurd (omega (arith, h))
 
 -- A text that begins so is cut at its word's end.
-pub word_of : (after ns : List ℕ) (n k : ℕ) → k ≤ length after → IsWord (take k after) → Stops (drop k after) → AreNumbers (32 ∷ after) (n ∷ ns) → take k after ≡ decimal n
+pub word_of : (after ns : List ℕ) (n k : ℕ) → k ≤ length after → IsWord (take k after) → Stops (drop k after) → AreNumbers (32 ∷ after) (n ∷ ns)
+    → take k after ≡ decimal n
 word_of after ns n k within word stops a =
     let same : take k after ++ drop k after ≡ decimal n ++ spaced ns = take-append-drop k after ∙ ap rest_of a.text_is in
-    (split_digits (take k after) (decimal n) (drop k after) (spaced ns) word (decimal_digits n a.short.0) (stops_first (drop k after) stops) (stops_first (spaced ns) (spaced_stops ns)) same).0
+    (split_digits (take k after) (decimal n) (drop k after) (spaced ns) word (decimal_digits n a.short.0) (stops_first (drop k after) stops)
+    (stops_first (spaced ns) (spaced_stops ns)) same).0

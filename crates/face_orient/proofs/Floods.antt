@@ -1,5 +1,6 @@
 -- One face more is reached, or it was before.
-use Rattle.std.specs.Prelude.{◌≡◌, ◌≢◌, ◌<◌, ◌≤◌, ◌+◌, ◌==◌, ◌⊎◌, ℕ, zero, suc, Bool, true, false, List, [], ◌∷◌, ◌++◌, length, slice_set, slice_get, Some, Result, Ok, Err, IfOk}
+use Rattle.std.specs.Prelude.{◌≡◌, ◌≢◌, ◌<◌, ◌≤◌, ◌+◌, ◌==◌, ◌⊎◌, ℕ, zero, suc, Bool, true, false, List, [], ◌∷◌, ◌++◌, length, slice_set, slice_get, Some}
+use Rattle.std.specs.Prelude.{Result, Ok, Err, IfOk}
 use Rattle.std.specs.List.{AllByRecursion}
 use Rattle.std.proofs.Common.{refl, sym, ◌∙◌, ap, subst, arith, inl, inr, ⊎_elim, get_or, drop, append_assoc, length-append}
 use Rattle.std.proofs.lemmas.Bool.Decides.{eqb_tells}
@@ -39,23 +40,29 @@ reached_low [] f h = let e : false ≡ true = h in absurd (cc)
 reached_low (p ∷ ps) zero h = omega arith
 reached_low (p ∷ ps) (suc f) h = omega (arith, reached_low ps f h)
 
-pub listed_low : (n : ℕ) (cs : List Crossing) (first : Bool) (places : List Place) (order : List ℕ) (f : ℕ) → IsFlood n cs first places order → Has order f → f < n
+pub listed_low : (n : ℕ) (cs : List Crossing) (first : Bool) (places : List Place) (order : List ℕ) (f : ℕ) → IsFlood n cs first places order → Has order f
+    → f < n
 listed_low n cs first places order f h m = omega (arith, reached_low places f (h.marked f m), h.size)
 
 -- the other face is new
-pub flood_more : (n : ℕ) (cs : List Crossing) (first : Bool) (places : List Place) (order : List ℕ) (r : ℕ) (c : Crossing) (p : Place) → IsGraph n cs → IsFlood n cs first places order → slice_get cs r ≡ Some c → Has order c.from
-    → (place_of places c.to).reached ≡ false → p.reached ≡ true → p.flag ≡ flipped c.flips (place_of places c.from).flag → p.depth ≡ (place_of places c.from).depth + 1 → p.up ≡ r
+pub flood_more : (n : ℕ) (cs : List Crossing) (first : Bool) (places : List Place) (order : List ℕ) (r : ℕ) (c : Crossing) (p : Place) → IsGraph n cs
+    → IsFlood n cs first places order → slice_get cs r ≡ Some c → Has order c.from
+    → (place_of places c.to).reached ≡ false → p.reached ≡ true → p.flag ≡ flipped c.flips (place_of places c.from).flag
+    → p.depth ≡ (place_of places c.from).depth + 1 → p.up ≡ r
     → IsFlood n cs first (slice_set places c.to p) (order ++ c.to ∷ [])
 flood_more n cs first places order r c p graph flood at known unmarked is_reached is_flag is_depth is_up = record {
   size = length-set places c.to p ∙ flood.size;
   listed = λ f h. listed f (eqb_tells c.to f) h;
-  marked = λ f h. ⊎_elim (λ a. ap (λ (x : Place). x.reached) (keeps f a) ∙ flood.marked f a) (λ e. subst (λ k. (place_of (slice_set places c.to p) k).reached ≡ true) e (ap (λ (x : Place). x.reached) here ∙ is_reached)) (has_last order c.to f h);
+  marked = λ f h. ⊎_elim (λ a. ap (λ (x : Place). x.reached) (keeps f a) ∙ flood.marked f a)
+      (λ e. subst (λ k. (place_of (slice_set places c.to p) k).reached ≡ true) e (ap (λ (x : Place). x.reached) here ∙ is_reached)) (has_last order c.to f h);
   begun = has_left order (c.to ∷ []) 0 flood.begun;
   origin = origin 0 flood.begun flood.origin;
-  known = λ f h. ⊎_elim (λ a. old f a (flood.known f a)) (λ e. subst (λ k. IsOrigin first (slice_set places c.to p) k ⊎ IsChild cs (slice_set places c.to p) k) e (inr this)) (has_last order c.to f h);
+  known = λ f h. ⊎_elim (λ a. old f a (flood.known f a))
+      (λ e. subst (λ k. IsOrigin first (slice_set places c.to p) k ⊎ IsChild cs (slice_set places c.to p) k) e (inr this)) (has_last order c.to f h);
   shallow = λ f h. ⊎_elim
       (λ a. omega (arith, ap (λ (x : Place). x.depth) (keeps f a), flood.shallow f a, length-append order (c.to ∷ [])))
-      (λ e. subst (λ k. (place_of (slice_set places c.to p) k).depth < length (order ++ c.to ∷ [])) e (omega (arith, ap (λ (x : Place). x.depth) here, is_depth, flood.shallow c.from known, length-append order (c.to ∷ []))))
+      (λ e. subst (λ k. (place_of (slice_set places c.to p) k).depth < length (order ++ c.to ∷ [])) e
+      (omega (arith, ap (λ (x : Place). x.depth) here, is_depth, flood.shallow c.from known, length-append order (c.to ∷ []))))
       (has_last order c.to f h);
   apart = none_last order c.to flood.apart new;
 }
@@ -72,7 +79,8 @@ flood_more n cs first places order r c p graph flood at known unmarked is_reache
     keeps : (f : ℕ) → Has order f → place_of (slice_set places c.to p) f ≡ place_of places f
     keeps f h = set_other places c.to f p unreached (λ e. new (subst (Has order) (sym e) h))
 
-    listed : (f : ℕ) → (((c.to == f) ≡ true) × (c.to ≡ f)) ⊎ (((c.to == f) ≡ false) × (c.to ≢ f)) → (place_of (slice_set places c.to p) f).reached ≡ true → Has (order ++ c.to ∷ []) f
+    listed : (f : ℕ) → (((c.to == f) ≡ true) × (c.to ≡ f)) ⊎ (((c.to == f) ≡ false) × (c.to ≢ f)) → (place_of (slice_set places c.to p) f).reached ≡ true
+        → Has (order ++ c.to ∷ []) f
     listed f (inl y) h = has_right order (c.to ∷ []) f (inl y.1)
     listed f (inr m) h = has_left order (c.to ∷ []) f (flood.listed f (ap (λ (x : Place). x.reached) (sym (set_other places c.to f p unreached m.1)) ∙ h))
 
@@ -83,7 +91,8 @@ flood_more n cs first places order r c p graph flood at known unmarked is_reache
       flag = ap (λ (x : Place). x.flag) (keeps f a) ∙ o.flag;
     }
 
-    old : (f : ℕ) → Has order f → IsOrigin first places f ⊎ IsChild cs places f → IsOrigin first (slice_set places c.to p) f ⊎ IsChild cs (slice_set places c.to p) f
+    old : (f : ℕ) → Has order f → IsOrigin first places f ⊎ IsChild cs places f → IsOrigin first (slice_set places c.to p) f
+        ⊎ IsChild cs (slice_set places c.to p) f
     old f a (inl o) = inl (origin f a o)
     old f a (inr o) =
         let above : place_of (slice_set places c.to p) o.step.from ≡ place_of places o.step.from = keeps o.step.from (flood.listed o.step.from o.parent) in
@@ -112,10 +121,12 @@ in_numbers : (n f : ℕ) → f < n → Has (numbers_from 0 n) f
 in_numbers n f lt = number_within 0 n f (omega arith) (omega (arith, lt))
 
 pub order_few : (n : ℕ) (cs : List Crossing) (first : Bool) (places : List Place) (order : List ℕ) → IsFlood n cs first places order → length order ≤ n
-order_few n cs first places order h = omega (arith, no_longer order (numbers_from 0 n) h.apart (λ f m. in_numbers n f (listed_low n cs first places order f h m)), length-numbers 0 n)
+order_few n cs first places order h =
+    omega (arith, no_longer order (numbers_from 0 n) h.apart (λ f m. in_numbers n f (listed_low n cs first places order f h m)), length-numbers 0 n)
 
 -- the depth of a face that is reached
-pub depth_low : (n : ℕ) (cs : List Crossing) (first : Bool) (places : List Place) (order : List ℕ) (f : ℕ) → IsFlood n cs first places order → Has order f → (place_of places f).depth < n
+pub depth_low : (n : ℕ) (cs : List Crossing) (first : Bool) (places : List Place) (order : List ℕ) (f : ℕ) → IsFlood n cs first places order → Has order f
+    → (place_of places f).depth < n
 depth_low n cs first places order f h m = omega (arith, h.shallow f m, order_few n cs first places order h)
 
 -- Leaving a face: of its steps all below this one are crossed.
@@ -129,7 +140,8 @@ left_none cs face at order t = record {
   all = λ x c is from below. absurd (omega (arith, below, t.all x (c, is, from) (omega arith)));
 }
 
-pub left_more : (cs : List Crossing) (face r at : ℕ) (order new : List ℕ) → LeftTo cs face r order → IsHead cs face (r + 1) at → Grows order new → ((c : Crossing) → slice_get cs r ≡ Some c → Has new c.to) → LeftTo cs face at new
+pub left_more : (cs : List Crossing) (face r at : ℕ) (order new : List ℕ) → LeftTo cs face r order → IsHead cs face (r + 1) at → Grows order new
+    → ((c : Crossing) → slice_get cs r ≡ Some c → Has new c.to) → LeftTo cs face at new
 left_more cs face r at order new left t grows there = record {
   here = t.here;
   all = λ x c is from below. by_step x c is from below (three x r);
@@ -157,25 +169,32 @@ pub ok_two : {T E : Type 0} (r : Result T E) (P Q S : T → Type 0) → ((x : T)
 ok_two (Ok x) P Q S f p q = f x p q
 ok_two (Err e) P Q S f p q = p
 
-pub flood_as : (n : ℕ) (cs : List Crossing) (first : Bool) (places ps : List Place) (order os : List ℕ) → IsFlood n cs first places order → ps ≡ places → os ≡ order → IsFlood n cs first ps os
+pub flood_as : (n : ℕ) (cs : List Crossing) (first : Bool) (places ps : List Place) (order os : List ℕ) → IsFlood n cs first places order → ps ≡ places
+    → os ≡ order → IsFlood n cs first ps os
 flood_as n cs first places ps order os h a b = subst (λ x. IsFlood n cs first ps x) (sym b) (subst (λ x. IsFlood n cs first x order) (sym a) h)
 
-pub first_head : (n : ℕ) (cs : List Crossing) (face a : ℕ) (first next : List ℕ) → AreHeads n cs first next → face < n → a ≡ get_or first face a → IsHead cs face 0 a
+pub first_head : (n : ℕ) (cs : List Crossing) (face a : ℕ) (first next : List ℕ) → AreHeads n cs first next → face < n → a ≡ get_or first face a
+    → IsHead cs face 0 a
 first_head n cs face a first next t low e = subst (IsHead cs face 0) (sym (e ∙ default_apart first face a 0 (omega (arith, low, t.faces)))) (t.heads face low)
 
-pub next_head : (n : ℕ) (cs : List Crossing) (face r a : ℕ) (first next : List ℕ) → AreHeads n cs first next → Leaves cs face r → a ≡ get_or next r a → IsHead cs face (r + 1) a
-next_head n cs face r a first next t on e = subst (IsHead cs face (r + 1)) (sym (e ∙ default_apart next r a 0 (omega (arith, slice_get_within cs r on.0 on.1, t.steps)))) (t.nexts r face on)
+pub next_head : (n : ℕ) (cs : List Crossing) (face r a : ℕ) (first next : List ℕ) → AreHeads n cs first next → Leaves cs face r → a ≡ get_or next r a
+    → IsHead cs face (r + 1) a
+next_head n cs face r a first next t on e =
+    subst (IsHead cs face (r + 1)) (sym (e ∙ default_apart next r a 0 (omega (arith, slice_get_within cs r on.0 on.1, t.steps)))) (t.nexts r face on)
 
 -- the first face
-pub flood_first : (n : ℕ) (cs : List Crossing) (first : Bool) (places : List Place) (p : Place) → length places ≡ n → 0 < n → ((f : ℕ) → (place_of places f).reached ≡ false) → p.reached ≡ true → p.flag ≡ first → p.depth ≡ 0 → IsFlood n cs first (slice_set places 0 p) (0 ∷ [])
+pub flood_first : (n : ℕ) (cs : List Crossing) (first : Bool) (places : List Place) (p : Place) → length places ≡ n → 0 < n
+    → ((f : ℕ) → (place_of places f).reached ≡ false) → p.reached ≡ true → p.flag ≡ first → p.depth ≡ 0 → IsFlood n cs first (slice_set places 0 p) (0 ∷ [])
 flood_first n cs first places p long some clear is_reached is_flag is_depth = record {
   size = length-set places 0 p ∙ long;
   listed = λ f h. listed f (eqb_tells 0 f) h;
-  marked = λ f h. ⊎_elim (λ e. subst (λ k. (place_of (slice_set places 0 p) k).reached ≡ true) e (ap (λ (x : Place). x.reached) here ∙ is_reached)) (λ x. absurd x) h;
+  marked = λ f h. ⊎_elim (λ e. subst (λ k. (place_of (slice_set places 0 p) k).reached ≡ true) e (ap (λ (x : Place). x.reached) here ∙ is_reached))
+      (λ x. absurd x) h;
   begun = inl refl;
   origin = origin;
   known = λ f h. ⊎_elim (λ e. inl (subst (IsOrigin first (slice_set places 0 p)) e origin)) (λ x. absurd x) h;
-  shallow = λ f h. ⊎_elim (λ e. subst (λ k. (place_of (slice_set places 0 p) k).depth < 1) e (omega (arith, ap (λ (x : Place). x.depth) here, is_depth))) (λ x. absurd x) h;
+  shallow = λ f h. ⊎_elim (λ e. subst (λ k. (place_of (slice_set places 0 p) k).depth < 1) e (omega (arith, ap (λ (x : Place). x.depth) here, is_depth)))
+      (λ x. absurd x) h;
   apart = ((λ h. h), tt);
 }
   where
@@ -194,7 +213,8 @@ flood_first n cs first places p long some clear is_reached is_flag is_depth = re
     listed f (inr m) h = let e : true ≡ false = sym h ∙ (ap (λ (x : Place). x.reached) (set_other places 0 f p unreached m.1) ∙ clear f) in absurd (cc)
 
 -- all faces that are reached are listed, once each is done
-pub all_listed : (cs : List Crossing) (order : List ℕ) → ((f : ℕ) → Has order f → IsDone cs order f) → (m a b : ℕ) → Has order a → Steps (Meets cs) m a b → Has order b
+pub all_listed : (cs : List Crossing) (order : List ℕ) → ((f : ℕ) → Has order f → IsDone cs order f) → (m a b : ℕ) → Has order a → Steps (Meets cs) m a b
+    → Has order b
 all_listed cs order done zero a b h e = subst (Has order) e h
 all_listed cs order done (suc m) a b h (c, r, rest) = all_listed cs order done m c b (done a h c r) rest
 
@@ -204,7 +224,8 @@ has_at (y ∷ ys) x (inl e) = (zero, omega arith, ap Some e)
 has_at (y ∷ ys) x (inr h) = let k = has_at ys x h in (suc k.0, omega (arith, k.1), k.2)
 
 -- all places are done, so all faces are
-pub each_done : (n : ℕ) (cs : List Crossing) (first : Bool) (places : List Place) (order : List ℕ) (q : ℕ) → IsFlood n cs first places order → n ≤ q → ((j f : ℕ) → j < q → slice_get order j ≡ Some f → IsDone cs order f) → (f : ℕ) → Has order f → IsDone cs order f
+pub each_done : (n : ℕ) (cs : List Crossing) (first : Bool) (places : List Place) (order : List ℕ) (q : ℕ) → IsFlood n cs first places order → n ≤ q
+    → ((j f : ℕ) → j < q → slice_get order j ≡ Some f → IsDone cs order f) → (f : ℕ) → Has order f → IsDone cs order f
 each_done n cs first places order q h past done f m = let k = has_at order f m in done k.0 f (omega (arith, k.1, past, order_few n cs first places order h)) k.2
 
 front_same : (xs more : List ℕ) (j f : ℕ) → j < length xs → slice_get (xs ++ more) j ≡ Some f → slice_get xs j ≡ Some f
@@ -213,7 +234,8 @@ front_same (x ∷ xs) more zero f lt h = h
 front_same (x ∷ xs) more (suc j) f lt h = front_same xs more j f (omega (arith, lt)) h
 
 -- one place more is done
-pub place_done : (cs : List Crossing) (old new : List ℕ) (q : ℕ) → Grows old new → (length old ≤ q → new ≡ old) → ((f : ℕ) → slice_get new q ≡ Some f → IsDone cs new f)
+pub place_done : (cs : List Crossing) (old new : List ℕ) (q : ℕ) → Grows old new → (length old ≤ q → new ≡ old)
+    → ((f : ℕ) → slice_get new q ≡ Some f → IsDone cs new f)
     → ((j f : ℕ) → j < q → slice_get old j ≡ Some f → IsDone cs old f) → (j f : ℕ) → j < q + 1 → slice_get new j ≡ Some f → IsDone cs new f
 place_done cs old new q grows same here before j f lt at = by_place (cases_lt j q)
   where
@@ -240,7 +262,8 @@ number_in : (n i : ℕ) → i < n → i < length (numbers_from 0 n)
 number_in n i lt = omega (arith, lt, length-numbers 0 n)
 
 -- of the faces from 0 on this one is reached, or the first that isn't
-pub face_reached : (P : ℕ → Type 0) (n i : ℕ) → i < n → LeftIn P (drop i (numbers_from 0 n)) (numbers_from 0 n) → P i → LeftIn P (drop (i + 1) (numbers_from 0 n)) (numbers_from 0 n)
+pub face_reached : (P : ℕ → Type 0) (n i : ℕ) → i < n → LeftIn P (drop i (numbers_from 0 n)) (numbers_from 0 n) → P i
+    → LeftIn P (drop (i + 1) (numbers_from 0 n)) (numbers_from 0 n)
 face_reached P n i lt l h = left_in_less P (numbers_from 0 n) (numbers_from 0 n) i 0 (number_in n i lt) l (subst P (sym (number_at n i lt)) h)
 
 pub face_missed : (P : ℕ → Type 0) (n i : ℕ) → i < n → LeftIn P (drop i (numbers_from 0 n)) (numbers_from 0 n) → (P i → ⊥) → FirstNot P (numbers_from 0 n) i
@@ -251,16 +274,23 @@ face_missed P n i lt l ne =
 pub faces_done : (P : ℕ → Type 0) (n i : ℕ) → n ≤ i → LeftIn P (drop i (numbers_from 0 n)) (numbers_from 0 n) → AllByRecursion P (numbers_from 0 n)
 faces_done P n i past l = left_in_done P (numbers_from 0 n) (numbers_from 0 n) i (omega (arith, past, length-numbers 0 n)) l
 
-pub unmarked_not : (n : ℕ) (cs : List Crossing) (first : Bool) (places : List Place) (order : List ℕ) (f : ℕ) → IsFlood n cs first places order → ((g : ℕ) → Has order g → IsDone cs order g) → (place_of places f).reached ≡ false → LeadsTo (Meets cs) 0 f → ⊥
-unmarked_not n cs first places order f h done no_mark chain = let e : true ≡ false = sym (h.marked f (all_listed cs order done chain.0 0 f h.begun chain.1)) ∙ no_mark in absurd (cc)
+pub unmarked_not : (n : ℕ) (cs : List Crossing) (first : Bool) (places : List Place) (order : List ℕ) (f : ℕ) → IsFlood n cs first places order
+    → ((g : ℕ) → Has order g → IsDone cs order g) → (place_of places f).reached ≡ false → LeadsTo (Meets cs) 0 f → ⊥
+unmarked_not n cs first places order f h done no_mark chain =
+    let e : true ≡ false = sym (h.marked f (all_listed cs order done chain.0 0 f h.begun chain.1)) ∙ no_mark in absurd (cc)
 
 -- a face that is listed is reached, by its depth
-pub listed_reached : (n : ℕ) (cs : List Crossing) (first : Bool) (places : List Place) (order : List ℕ) → IsFlood n cs first places order → (d f : ℕ) → (place_of places f).depth ≡ d → Has order f → LeadsTo (Meets cs) 0 f
-listed_reached n cs first places order h zero f deep m = ⊎_elim (λ (o : IsOrigin first places f). subst (LeadsTo (Meets cs) 0) (sym o.is_first) (zero, refl)) (λ (o : IsChild cs places f). absurd (omega (arith, deep, o.deeper))) (h.known f m)
+pub listed_reached : (n : ℕ) (cs : List Crossing) (first : Bool) (places : List Place) (order : List ℕ) → IsFlood n cs first places order → (d f : ℕ)
+    → (place_of places f).depth ≡ d → Has order f → LeadsTo (Meets cs) 0 f
+listed_reached n cs first places order h zero f deep m = ⊎_elim (λ (o : IsOrigin first places f). subst (LeadsTo (Meets cs) 0) (sym o.is_first) (zero, refl))
+    (λ (o : IsChild cs places f). absurd (omega (arith, deep, o.deeper))) (h.known f m)
 listed_reached n cs first places order h (suc d) f deep m =
     ⊎_elim (λ (o : IsOrigin first places f). subst (LeadsTo (Meets cs) 0) (sym o.is_first) (zero, refl))
-    (λ (o : IsChild cs places f). leads_last (Meets cs) 0 o.step.from f (listed_reached n cs first places order h d o.step.from (omega (arith, deep, o.deeper)) (h.listed o.step.from o.parent)) ((place_of places f).up, o.step, o.at, refl, o.to))
+    (λ (o : IsChild cs places f). leads_last (Meets cs) 0 o.step.from f
+    (listed_reached n cs first places order h d o.step.from (omega (arith, deep, o.deeper)) (h.listed o.step.from o.parent))
+    ((place_of places f).up, o.step, o.at, refl, o.to))
     (h.known f m)
 
 pub crossed_now : (old new : List ℕ) (c k : Crossing) → new ≡ old ++ c.to ∷ [] → c ≡ k → Has new k.to
-crossed_now old new c k e same = subst (Has new) (ap (λ (x : Crossing). x.to) same) (subst (λ xs. Has xs c.to) (sym e) (has_right old (c.to ∷ []) c.to (inl refl)))
+crossed_now old new c k e same =
+    subst (Has new) (ap (λ (x : Crossing). x.to) same) (subst (λ xs. Has xs c.to) (sym e) (has_right old (c.to ∷ []) c.to (inl refl)))

@@ -23,7 +23,8 @@ pub record HeadsFrom (n : ℕ) (cs : List Crossing) (i : ℕ) (first next : List
   pub heads : (face : ℕ) → face < n → IsHead cs face i (get_or first face 0)
   pub nexts : (r face : ℕ) → i ≤ r → Leaves cs face r → IsHead cs face (r + 1) (get_or next r 0)
 
-pub no_heads : (n : ℕ) (cs : List Crossing) (i : ℕ) (first next : List ℕ) → i ≡ length cs → length first ≡ n → length next ≡ length cs → ((face : ℕ) → face < n → get_or first face 0 ≡ i) → HeadsFrom n cs i first next
+pub no_heads : (n : ℕ) (cs : List Crossing) (i : ℕ) (first next : List ℕ) → i ≡ length cs → length first ≡ n → length next ≡ length cs
+    → ((face : ℕ) → face < n → get_or first face 0 ≡ i) → HeadsFrom n cs i first next
 no_heads n cs i first next end faces rows all_end = record {
   faces = faces;
   steps = rows;
@@ -50,7 +51,8 @@ later_or (suc i) zero h = absurd (omega (arith, h))
 later_or (suc i) (suc x) h = ⊎_elim (λ a. inl (ap suc a)) (λ b. inr (omega (arith, b))) (later_or i x (omega (arith, h)))
 
 -- the step before the linked ones is linked
-pub heads_step : (n : ℕ) (cs : List Crossing) (j i f was : ℕ) (first next : List ℕ) → IsGraph n cs → j ≡ i + 1 → Leaves cs f i → was ≡ get_or first f was → HeadsFrom n cs j first next → HeadsFrom n cs i (slice_set first f i) (slice_set next i was)
+pub heads_step : (n : ℕ) (cs : List Crossing) (j i f was : ℕ) (first next : List ℕ) → IsGraph n cs → j ≡ i + 1 → Leaves cs f i → was ≡ get_or first f was
+    → HeadsFrom n cs j first next → HeadsFrom n cs i (slice_set first f i) (slice_set next i was)
 heads_step n cs j i f was first next whole after on is_was h = record {
   faces = length-set first f i ∙ h.faces;
   steps = length-set next i was ∙ h.steps;
@@ -67,7 +69,8 @@ heads_step n cs j i f was first next whole after on is_was h = record {
     known : was ≡ get_or first f 0
     known = is_was ∙ default_apart first f was 0 f_low
 
-    by_face : (face : ℕ) → face < n → (((f == face) ≡ true) × (f ≡ face)) ⊎ (((f == face) ≡ false) × (f ≢ face)) → IsHead cs face i (get_or (slice_set first f i) face 0)
+    by_face : (face : ℕ) → face < n → (((f == face) ≡ true) × (f ≡ face)) ⊎ (((f == face) ≡ false) × (f ≢ face))
+        → IsHead cs face i (get_or (slice_set first f i) face 0)
     by_face face low (inl y) =
         let there : get_or (slice_set first f i) face 0 ≡ i = subst (λ k. get_or (slice_set first f i) k 0 ≡ i) y.1 (set_same first f i 0 f_low) in
         subst (IsHead cs face i) (sym there) (record {
@@ -80,7 +83,8 @@ heads_step n cs j i f was first next whole after on is_was h = record {
         subst (IsHead cs face i) (sym (set_other first f face i 0 n.1)) (record {
           low = omega (arith, t.low, after);
           here = t.here;
-          all = λ x on_x le. ⊎_elim (λ a. absurd (n.1 (one_face cs f face i on (subst (λ k. Leaves cs face k) (sym a) on_x)))) (λ b. t.all x on_x (omega (arith, b, after))) (later_or i x le);
+          all = λ x on_x le. ⊎_elim (λ a. absurd (n.1 (one_face cs f face i on (subst (λ k. Leaves cs face k) (sym a) on_x))))
+              (λ b. t.all x on_x (omega (arith, b, after))) (later_or i x le);
         })
 
     by_row : (r face : ℕ) → Leaves cs face r → (i ≡ r) ⊎ (i + 1 ≤ r) → IsHead cs face (r + 1) (get_or (slice_set next i was) r 0)
@@ -88,7 +92,8 @@ heads_step n cs j i f was first next whole after on is_was h = record {
         let same : f ≡ face = one_face cs f face i on (subst (λ k. Leaves cs face k) (sym e) on_r) in
         let there : get_or (slice_set next i was) i 0 ≡ get_or first f 0 = set_same next i was 0 i_low ∙ known in
         let head : IsHead cs f (i + 1) (get_or first f 0) = subst (λ k. IsHead cs f k (get_or first f 0)) after (h.heads f (face_low n cs f i whole on)) in
-        subst (λ k. IsHead cs face (k + 1) (get_or (slice_set next i was) k 0)) e (subst (IsHead cs face (i + 1)) (sym there) (subst (λ k. IsHead cs k (i + 1) (get_or first f 0)) same head))
+        subst (λ k. IsHead cs face (k + 1) (get_or (slice_set next i was) k 0)) e
+        (subst (IsHead cs face (i + 1)) (sym there) (subst (λ k. IsHead cs k (i + 1) (get_or first f 0)) same head))
     by_row r face on_r (inr later) =
         let apart : i ≢ r = λ e. absurd (omega (arith, e, later)) in
         subst (IsHead cs face (r + 1)) (sym (set_other next i r was 0 apart)) (h.nexts r face (omega (arith, later, after)) on_r)

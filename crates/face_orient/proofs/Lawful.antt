@@ -26,7 +26,8 @@ use Rattle.face_orient.proofs.Crossed.{bare_at, graph_made, faces_counted, leads
 use Rattle.face_orient.proofs.Stepping.{pushed_all}
 
 -- a list of choices, one for each number below n
-pub chosen : {A : Type 0} (P : ℕ → A → Type 0) (n : ℕ) → ((k : ℕ) → k < n → (x : A) × P k x) → (xs : List A) × (length xs ≡ n) × ((k : ℕ) (x : A) → slice_get xs k ≡ Some x → P k x)
+pub chosen : {A : Type 0} (P : ℕ → A → Type 0) (n : ℕ) → ((k : ℕ) → k < n → (x : A) × P k x)
+    → (xs : List A) × (length xs ≡ n) × ((k : ℕ) (x : A) → slice_get xs k ≡ Some x → P k x)
 chosen P zero f = ([], refl, λ k x at. absurd cc)
 chosen P (suc n) f =
     let xs = chosen P n (λ k lt. f k (omega (arith, lt))) in
@@ -55,7 +56,8 @@ crossing s k two r lt =
         from = (p.1.row, p.1.at_r, refl);
         to = (p.1.partner, p.1.at_m, refl);
         flips = λ x y at_x at_y.
-            ap (λ (w : Row). same_flag w.along b.0.along) (same_Some a.0 x (sym a.1 ∙ at_x)) ∙ ap (λ (w : Row). same_flag x.along w.along) (same_Some b.0 y (sym b.1 ∙ at_y));
+            ap (λ (w : Row). same_flag w.along b.0.along) (same_Some a.0 x (sym a.1 ∙ at_x)) ∙ ap (λ (w : Row). same_flag x.along w.along)
+            (same_Some b.0 y (sym b.1 ∙ at_y));
       },
     )
 
@@ -68,7 +70,8 @@ pub refuses : RingsRefuseFlags
 refuses s k rows flags two ring fit =
     let cs = crossings s k two in
     let graph : IsGraph (rows_at s k).face_count cs.0 = graph_made s k cs.0 (rows_at s k).face_count cs.1 refl in
-    none_agree cs.0 flags rows (fits_agree s k cs.0 (rows_at s k).face_count flags cs.1 graph (faces_counted s (slice_get s.shells k)) fit) (ring_walk s k cs.0 cs.1 rows ring)
+    none_agree cs.0 flags rows (fits_agree s k cs.0 (rows_at s k).face_count flags cs.1 graph (faces_counted s (slice_get s.shells k)) fit)
+    (ring_walk s k cs.0 cs.1 rows ring)
 
 -- two lists that are alike at each place
 same_lists : (xs ys : List Bool) → length xs ≡ length ys → ((i : ℕ) → i < length xs → get_or xs i false ≡ get_or ys i false) → xs ≡ ys
@@ -92,9 +95,11 @@ same_first (x ∷ xs) [] e = absurd cc
 same_first (x ∷ xs) (y ∷ ys) e = same_Some x y e
 
 -- what can be told of each is told of all, or of one it isn't so
-every_or_one : {A : Type 0} (P : A → Type 0) → ((x : A) → P x ⊎ (P x → ⊥)) → (xs : List A) → ((r : ℕ) (x : A) → slice_get xs r ≡ Some x → P x) ⊎ ((r : ℕ) × (x : A) × (slice_get xs r ≡ Some x) × (P x → ⊥))
+every_or_one : {A : Type 0} (P : A → Type 0) → ((x : A) → P x ⊎ (P x → ⊥)) → (xs : List A) → ((r : ℕ) (x : A) → slice_get xs r ≡ Some x → P x)
+    ⊎ ((r : ℕ) × (x : A) × (slice_get xs r ≡ Some x) × (P x → ⊥))
 every_or_one P dec [] = inl (λ r x at. absurd cc)
-every_or_one {A = A} P dec (y ∷ ys) = ⊎_elim (λ p. ⊎_elim (λ all. inl (each p all)) (λ one. inr (suc one.0, one.1, one.2, one.3)) (every_or_one P dec ys)) (λ ne. inr (zero, y, refl, ne)) (dec y)
+every_or_one {A = A} P dec (y ∷ ys) = ⊎_elim (λ p. ⊎_elim (λ all. inl (each p all)) (λ one. inr (suc one.0, one.1, one.2, one.3)) (every_or_one P dec ys))
+    (λ ne. inr (zero, y, refl, ne)) (dec y)
   where
     each : P y → ((r : ℕ) (x : A) → slice_get ys r ≡ Some x → P x) → (r : ℕ) (x : A) → slice_get (y ∷ ys) r ≡ Some x → P x
     each p all zero x at = subst P (same_Some y x at) p
@@ -129,7 +134,8 @@ one_fit s k two reached x y fx fy =
     let ax : AllAgree x cs.0 = fits_agree s k cs.0 n x cs.1 graph counted fx in
     let ay : AllAgree y cs.0 = fits_agree s k cs.0 n y cs.1 graph counted fy in
     same_lists x y (fx.each ∙ sym fy.each) (λ f lt.
-    let chain = leads_from s k cs.0 cs.1 f (All-at (IsReached (rows_at s k)) (numbers_from 0 n) reached f (number_within 0 n f (omega arith) (omega (arith, lt, fx.each, counted)))) in
+    let chain = leads_from s k cs.0 cs.1 f
+    (All-at (IsReached (rows_at s k)) (numbers_from 0 n) reached f (number_within 0 n f (omega arith) (omega (arith, lt, fx.each, counted)))) in
     alike_along cs.0 x y ax ay chain.0 0 f chain.1 (same_first x y (fx.first ∙ sym fy.first)))
 
 pub flags_or : FlagsOrRing
@@ -151,14 +157,18 @@ flags_or s k two reached = by_all (every_or_one (Agrees x) (λ c. flag_or (get_o
     first = get_or (face_flags (slice_get s.shells k)) 0 false
 
     all : (xs : List Bool) × (length xs ≡ n) × ((f : ℕ) (b : Bool) → slice_get xs f ≡ Some b → ((f ≡ 0 → b ≡ first) × Given cs.0 first f b))
-    all = chosen (λ f b. ((f ≡ 0 → b ≡ first) × Given cs.0 first f b)) n (λ f lt. given cs.0 first f (leads_from s k cs.0 cs.1 f (All-at (IsReached (rows_at s k)) (numbers_from 0 n) reached f (number_within 0 n f (omega arith) (omega (arith, lt))))))
+    all = chosen (λ f b. ((f ≡ 0 → b ≡ first) × Given cs.0 first f b)) n
+        (λ f lt. given cs.0 first f
+        (leads_from s k cs.0 cs.1 f (All-at (IsReached (rows_at s k)) (numbers_from 0 n) reached f (number_within 0 n f (omega arith) (omega (arith, lt))))))
 
     x : List Bool
     x = all.0
 
-    by_all : AllAgree x cs.0 ⊎ ((r : ℕ) × (c : Crossing) × (slice_get cs.0 r ≡ Some c) × (Agrees x c → ⊥)) → ExactlyOne (FlagsFit s k) ⊎ ((rows : List ℕ) × OddRing s k rows)
+    by_all : AllAgree x cs.0 ⊎ ((r : ℕ) × (c : Crossing) × (slice_get cs.0 r ≡ Some c) × (Agrees x c → ⊥))
+        → ExactlyOne (FlagsFit s k) ⊎ ((rows : List ℕ) × OddRing s k rows)
     by_all (inl agree) =
-        let own : slice_get x 0 ≡ slice_get (face_flags (slice_get s.shells k)) 0 = first_same x (face_flags (slice_get s.shells k)) (all.1 ∙ counted) (λ lt. (all.2 0 (get_or x 0 false) (get_at x 0 lt)).0 refl) in
+        let own : slice_get x 0 ≡ slice_get (face_flags (slice_get s.shells k)) 0 = first_same x (face_flags (slice_get s.shells k)) (all.1 ∙ counted)
+        (λ lt. (all.2 0 (get_or x 0 false) (get_at x 0 lt)).0 refl) in
         let fit : FlagsFit s k x = fits_made s k cs.0 n x cs.1 graph counted all.1 own agree in
         inl (x, fit, λ y fy. one_fit s k two reached y x fy fit)
     by_all (inr (r, c, at, ne)) =
@@ -166,5 +176,6 @@ flags_or s k two reached = by_all (every_or_one (Agrees x) (λ c. flag_or (get_o
         let to = (all.2 c.to (get_or x c.to false) (get_at x c.to (omega (arith, graph.to_low r c at, all.1)))).1 in
         inr (
           reverse from.0 ++ r ∷ map (partner_of cs.0) to.0,
-          walk_ring s k cs.0 cs.1 (reverse from.0 ++ r ∷ map (partner_of cs.0) to.0) (odd_walk n cs.0 graph r c (get_or x c.from false) (get_or x c.to false) from.0 to.0 0 first at from.1 to.1 ne),
+          walk_ring s k cs.0 cs.1 (reverse from.0 ++ r ∷ map (partner_of cs.0) to.0)
+              (odd_walk n cs.0 graph r c (get_or x c.from false) (get_or x c.to false) from.0 to.0 0 first at from.1 to.1 ne),
         )

@@ -1,5 +1,6 @@
 -- Bytes spell one line at most, and what is read of them.
-use Rattle.std.specs.Prelude.{◌≡◌, ◌≢◌, ℕ, zero, suc, ◌<◌, ◌==◌, Bool, true, false, List, [], ◌∷◌, ◌++◌, length, map, codes, if◌then◌else◌, Option, Some, None, MatchOption, Result, Ok, Err, IfOk, IfErr}
+use Rattle.std.specs.Prelude.{◌≡◌, ◌≢◌, ℕ, zero, suc, ◌<◌, ◌==◌, Bool, true, false, List, [], ◌∷◌, ◌++◌, length, map, codes, if◌then◌else◌, Option, Some, None}
+use Rattle.std.specs.Prelude.{MatchOption, Result, Ok, Err, IfOk, IfErr}
 use Rattle.std.specs.List.{AllByRecursion}
 use Rattle.std.proofs.Common.{refl, sym, ◌∙◌, ap, subst, arith, append_assoc, get_or}
 use Rattle.face_orient.specs.declared.line.OrientLine.{OrientLine}
@@ -30,7 +31,8 @@ abbrev flag_back : ℕ → Bool
 flag_back n = n == 1
 
 abbrev line_from : ℕ → List ℕ → OrientLine
-line_from k ns = if k == 0 then Head (record { 0 = get_or ns 0 0 }) else (if k == 1 then Flags (get_or ns 0 0) (map flag_back (rest_of ns)) else (if k == 2 then Ring (get_or ns 0 0) (rest_of ns) else End))
+line_from k ns = if k == 0 then Head (record { 0 = get_or ns 0 0 }) else
+    (if k == 1 then Flags (get_or ns 0 0) (map flag_back (rest_of ns)) else (if k == 2 then Ring (get_or ns 0 0) (rest_of ns) else End))
 
 flags_back : (flags : List Bool) → map flag_back (map flag_number flags) ≡ flags
 flags_back [] = refl
@@ -88,7 +90,8 @@ line_one bytes l m a b =
     let numbers : numbers_in l ≡ numbers_in m = spaced_one (numbers_in l) (numbers_in m) (numbers_short l a.0) (numbers_short m b.0) rests in
     sym (rebuilt l) ∙ (ap (λ k. line_from k (numbers_in l)) kinds ∙ (ap (line_from (kind_of m)) numbers ∙ rebuilt m))
 
-pub only_line : (bytes : List ℕ) (r : Result OrientLine OrientLineFault) → IfOk r (IsSpelled bytes) → IfErr r (IsLineFault bytes) → (l : OrientLine) → IsSpelled bytes l → IfOk r (λ m. m ≡ l)
+pub only_line : (bytes : List ℕ) (r : Result OrientLine OrientLineFault) → IfOk r (IsSpelled bytes) → IfErr r (IsLineFault bytes) → (l : OrientLine)
+    → IsSpelled bytes l → IfOk r (λ m. m ≡ l)
 only_line bytes (Ok m) h e l is = line_one bytes m l h is
 only_line bytes (Err e) h k l is = tt
 
@@ -97,21 +100,28 @@ pub numbers_one : (text ns ms : List ℕ) → AreNumbers text ns → AreNumbers 
 numbers_one text ns ms a b = spaced_one ns ms a.short b.short (ap (λ t. t ++ 10 ∷ []) (sym a.text_is ∙ b.text_is))
 
 -- what stands behind a letter
-pub listed_told : {A : Type 0} (text letter rest : List ℕ) (o : Option A) (number : A → ℕ) (after : A → List ℕ) → text ≡ letter ++ rest → MatchOption o ((n : ℕ) (ns : List ℕ) → ¬ AreNumbers rest (n ∷ ns)) (λ p. Begins rest (number p) (after p))
-    → MatchOption o ((k : ℕ) (ns front : List ℕ) → text ≡ letter ++ front → ¬ AreNumbers front (k ∷ ns)) (λ p. (front : List ℕ) × (text ≡ letter ++ front) × Begins front (number p) (after p))
-listed_told text letter rest None number after e h = λ k ns front is a. h k ns (subst (λ t. AreNumbers t (k ∷ ns)) (same_front letter front rest (sym is ∙ e)) a)
+pub listed_told : {A : Type 0} (text letter rest : List ℕ) (o : Option A) (number : A → ℕ) (after : A → List ℕ) → text ≡ letter ++ rest
+    → MatchOption o ((n : ℕ) (ns : List ℕ) → ¬ AreNumbers rest (n ∷ ns)) (λ p. Begins rest (number p) (after p))
+    → MatchOption o ((k : ℕ) (ns front : List ℕ) → text ≡ letter ++ front → ¬ AreNumbers front (k ∷ ns))
+    (λ p. (front : List ℕ) × (text ≡ letter ++ front) × Begins front (number p) (after p))
+listed_told text letter rest None number after e h =
+    λ k ns front is a. h k ns (subst (λ t. AreNumbers t (k ∷ ns)) (same_front letter front rest (sym is ∙ e)) a)
 listed_told text letter rest (Some p) number after e h = (rest, e, h)
 
-pub more_numbers : (text rest after list new ns : List ℕ) (n : ℕ) → Begins rest n after → new ≡ list ++ n ∷ [] → ((ms : List ℕ) → AreNumbers rest ms → AreNumbers text (list ++ ms)) → AreNumbers after ns → AreNumbers text (new ++ ns)
-more_numbers text rest after list new ns n b e read a = subst (AreNumbers text) (sym (ap (λ xs. xs ++ ns) e ∙ append_assoc list (n ∷ []) ns)) (read (n ∷ ns) (begins_cons rest after ns n b a))
+pub more_numbers : (text rest after list new ns : List ℕ) (n : ℕ) → Begins rest n after → new ≡ list ++ n ∷ []
+    → ((ms : List ℕ) → AreNumbers rest ms → AreNumbers text (list ++ ms)) → AreNumbers after ns → AreNumbers text (new ++ ns)
+more_numbers text rest after list new ns n b e read a = subst (AreNumbers text) (sym (ap (λ xs. xs ++ ns) e ∙ append_assoc list (n ∷ []) ns))
+    (read (n ∷ ns) (begins_cons rest after ns n b a))
 
 -- the letter's numbers are the shell and those behind it
-pub behind : (text letter front after ns : List ℕ) (shell k : ℕ) → text ≡ letter ++ front → Begins front shell after → AllByRecursion IsShort (k ∷ ns) → text ≡ letter ++ spaced (k ∷ ns) → (k ≡ shell) × AreNumbers after ns
+pub behind : (text letter front after ns : List ℕ) (shell k : ℕ) → text ≡ letter ++ front → Begins front shell after → AllByRecursion IsShort (k ∷ ns)
+    → text ≡ letter ++ spaced (k ∷ ns) → (k ≡ shell) × AreNumbers after ns
 behind text letter front after ns shell k e b short is =
     let same : front ≡ spaced (k ∷ ns) = same_front letter front (spaced (k ∷ ns)) (sym e ∙ is) in
     begins_tail front after ns shell k b (record { short = short; text_is = same })
 
-pub line_words : (text letter front after ns : List ℕ) (shell : ℕ) → text ≡ letter ++ front → Begins front shell after → AreNumbers after ns → text ≡ letter ++ spaced (shell ∷ ns)
+pub line_words : (text letter front after ns : List ℕ) (shell : ℕ) → text ≡ letter ++ front → Begins front shell after → AreNumbers after ns
+    → text ≡ letter ++ spaced (shell ∷ ns)
 line_words text letter front after ns shell e b a = e ∙ ap (λ t. letter ++ t) (begins_cons front after ns shell b a).text_is
 
 flag_at : (flags : List Bool) (i : ℕ) → i < length (map flag_number flags) → (b : Bool) × (get_or (map flag_number flags) i 0 ≡ flag_number b)
@@ -119,7 +129,8 @@ flag_at [] i lt = absurd (omega (arith, lt))
 flag_at (b ∷ bs) zero lt = (b, refl)
 flag_at (b ∷ bs) (suc i) lt = flag_at bs i (omega (arith, lt))
 
-pub no_flags : (numbers : List ℕ) (i n : ℕ) → i < length numbers → n ≡ get_or numbers i 0 → ((b : Bool) → n ≢ flag_number b) → (flags : List Bool) → numbers ≢ map flag_number flags
+pub no_flags : (numbers : List ℕ) (i n : ℕ) → i < length numbers → n ≡ get_or numbers i 0 → ((b : Bool) → n ≢ flag_number b) → (flags : List Bool)
+    → numbers ≢ map flag_number flags
 no_flags numbers i n lt is ne flags e =
     let t = flag_at flags i (omega (arith, lt, ap length e)) in
     ne t.0 (is ∙ (ap (λ xs. get_or xs i 0) e ∙ t.1))
@@ -129,25 +140,30 @@ length-flags [] = refl
 length-flags (b ∷ bs) = ap suc (length-flags bs)
 
 -- no line is spelled, where none of the four kinds is
-pub none_spelled : (text : List ℕ) → ((n : ℕ) → ¬ Spells text (Head (record { 0 = n }))) → ((k : ℕ) (flags : List Bool) → ¬ Spells text (Flags k flags)) → ((k : ℕ) (rows : List ℕ) → ¬ Spells text (Ring k rows)) → text ≢ codes "END" → (l : OrientLine) → ¬ Spells text l
+pub none_spelled : (text : List ℕ) → ((n : ℕ) → ¬ Spells text (Head (record { 0 = n }))) → ((k : ℕ) (flags : List Bool) → ¬ Spells text (Flags k flags))
+    → ((k : ℕ) (rows : List ℕ) → ¬ Spells text (Ring k rows)) → text ≢ codes "END" → (l : OrientLine) → ¬ Spells text l
 none_spelled text a b c d (Head solid) h = a solid.0 h
 none_spelled text a b c d (Flags shell flags) h = b shell flags h
 none_spelled text a b c d (Ring shell rows) h = c shell rows h
 none_spelled text a b c d End h = d h.1
 
 -- No flags line is spelled, where no numbers stand behind the shell, none at all, or others than flags.
-pub flags_behind : (text front after : List ℕ) (shell k : ℕ) (flags : List Bool) → text ≡ codes "F" ++ front → Begins front shell after → Spells text (Flags k flags) → AreNumbers after (map flag_number flags)
+pub flags_behind : (text front after : List ℕ) (shell k : ℕ) (flags : List Bool) → text ≡ codes "F" ++ front → Begins front shell after
+    → Spells text (Flags k flags) → AreNumbers after (map flag_number flags)
 flags_behind text front after shell k flags e b h = (behind text (codes "F") front after (map flag_number flags) shell k e b (h.0.0, flags_short flags) h.1).1
 
-pub some_flags : (text front after ns : List ℕ) (shell k n : ℕ) (flags : List Bool) → text ≡ codes "F" ++ front → Begins front shell after → AreNumbers after ns → n ≡ length ns → n ≡ 0 → Spells text (Flags k flags) → ⊥
+pub some_flags : (text front after ns : List ℕ) (shell k n : ℕ) (flags : List Bool) → text ≡ codes "F" ++ front → Begins front shell after
+    → AreNumbers after ns → n ≡ length ns → n ≡ 0 → Spells text (Flags k flags) → ⊥
 some_flags text front after ns shell k n flags e b a long none h =
     let same : ns ≡ map flag_number flags = numbers_one after ns (map flag_number flags) a (flags_behind text front after shell k flags e b h) in
     omega (arith, ap length same, length-flags flags, long, none, h.0.1)
 
-pub rings_behind : (text front after : List ℕ) (shell k : ℕ) (rows : List ℕ) → text ≡ codes "O" ++ front → Begins front shell after → Spells text (Ring k rows) → AreNumbers after rows
+pub rings_behind : (text front after : List ℕ) (shell k : ℕ) (rows : List ℕ) → text ≡ codes "O" ++ front → Begins front shell after → Spells text (Ring k rows)
+    → AreNumbers after rows
 rings_behind text front after shell k rows e b h = (behind text (codes "O") front after rows shell k e b h.0.0 h.1).1
 
-pub some_rows : (text front after ns : List ℕ) (shell k n : ℕ) (rows : List ℕ) → text ≡ codes "O" ++ front → Begins front shell after → AreNumbers after ns → n ≡ length ns → n ≡ 0 → Spells text (Ring k rows) → ⊥
+pub some_rows : (text front after ns : List ℕ) (shell k n : ℕ) (rows : List ℕ) → text ≡ codes "O" ++ front → Begins front shell after → AreNumbers after ns
+    → n ≡ length ns → n ≡ 0 → Spells text (Ring k rows) → ⊥
 some_rows text front after ns shell k n rows e b a long none h =
     let same : ns ≡ rows = numbers_one after ns rows a (rings_behind text front after shell k rows e b h) in
     omega (arith, ap length same, long, none, h.0.1)

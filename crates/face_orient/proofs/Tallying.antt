@@ -20,18 +20,21 @@ pub record TallyBefore (d : ShellRows) (i : ℕ) (c : Celled Seen) : Type 0 wher
   pub long : length c.cells ≡ c.span.count
   pub each : (g : ℕ) → IsWithin c.span g → IsSeen d i g (seen_of c.span c.cells g)
 
-pub tally_first : (d : ShellRows) (c : Celled Seen) → c.numbers ≡ d.edges → IsSpanOf c.span d.edges → c.blank ≡ summary [] → c.cells ≡ replicate c.span.count (summary []) → TallyBefore d 0 c
+pub tally_first : (d : ShellRows) (c : Celled Seen) → c.numbers ≡ d.edges → IsSpanOf c.span d.edges → c.blank ≡ summary []
+    → c.cells ≡ replicate c.span.count (summary []) → TallyBefore d 0 c
 tally_first d c numbers span blank cells = record {
   numbers = numbers;
   span = span;
   blank = blank;
   long = ap (λ xs. length xs) cells ∙ length-replicate c.span.count (summary []);
-  each = λ g within. ap (λ xs. get_or xs (g - c.span.least) (summary [])) cells ∙ get_or-replicate c.span.count (g - c.span.least) (summary []) (summary []) (omega (arith, within));
+  each = λ g within. ap (λ xs. get_or xs (g - c.span.least) (summary [])) cells ∙ get_or-replicate c.span.count (g - c.span.least) (summary []) (summary [])
+      (omega (arith, within));
 }
 
 module _ (d : ShellRows) (i : ℕ) (c : Celled Seen) (row : Row) (whole : AreRows d) (t : TallyBefore d i c) (at : slice_get d.rows i ≡ Some row) where
   pub row_known : Contains c.numbers row.edge.0
-  row_known = subst (λ ns. Contains ns row.edge.0) (sym t.numbers) (All-at (λ (r : Row). Contains d.edges r.edge.0) d.rows whole.edges_hold row (has_get d.rows i row at))
+  row_known = subst (λ ns. Contains ns row.edge.0) (sym t.numbers)
+      (All-at (λ (r : Row). Contains d.edges r.edge.0) d.rows whole.edges_hold row (has_get d.rows i row at))
 
   pub row_within : IsWithin c.span row.edge.0
   row_within = edge_within d c.span i row whole t.span at
@@ -42,7 +45,13 @@ module _ (d : ShellRows) (i : ℕ) (c : Celled Seen) (row : Row) (whole : AreRow
   pub row_few : (cell_of c row.edge.0).count < 2 ^ 29
   row_few =
       let lt : i < length d.rows = slice_get_within d.rows i row at in
-      omega (arith, lt, seen_few d i row.edge.0 (cell_of c row.edge.0) (was_seen ∙ t.each row.edge.0 row_within), length-take-le i d.rows (omega (arith, lt)), whole.few)
+      omega (
+        arith,
+        lt,
+        seen_few d i row.edge.0 (cell_of c row.edge.0) (was_seen ∙ t.each row.edge.0 row_within),
+        length-take-le i d.rows (omega (arith, lt)),
+        whole.few,
+      )
 
   pub row_seen : (new : Celled Seen) → new ≡ with_cell c row.edge.0 (once_more (cell_of c row.edge.0) i) → TallyBefore d (i + 1) new
   row_seen new is = subst (TallyBefore d (i + 1)) (sym is) (record {

@@ -69,7 +69,8 @@ pub twice_has_no_flags : (flags : List Bool) → ¬ FlagsFit twice 0 flags
 twice_has_no_flags flags fit = refuses twice 0 (0 ∷ []) flags twice_counts twice_is_odd fit
 
 -- two rows that run in different directions
-two_rows : (rows : List Row) (a b : Row) → rows ≡ a ∷ b ∷ [] → a.along ≡ not b.along → b.along ≡ not a.along → (r m : ℕ) (x y : Row) → r ≢ m → slice_get rows r ≡ Some x → slice_get rows m ≡ Some y → x.along ≡ not y.along
+two_rows : (rows : List Row) (a b : Row) → rows ≡ a ∷ b ∷ [] → a.along ≡ not b.along → b.along ≡ not a.along → (r m : ℕ) (x y : Row) → r ≢ m
+    → slice_get rows r ≡ Some x → slice_get rows m ≡ Some y → x.along ≡ not y.along
 two_rows rows a b e p q r m x y ne at_x at_y = by_place r m ne (ap (λ rs. slice_get rs r) (sym e) ∙ at_x) (ap (λ rs. slice_get rs m) (sym e) ∙ at_y)
   where
     by_place : (r m : ℕ) → r ≢ m → slice_get (a ∷ b ∷ []) r ≡ Some x → slice_get (a ∷ b ∷ []) m ≡ Some y → x.along ≡ not y.along
@@ -84,12 +85,22 @@ two_rows rows a b e p q r m x y ne at_x at_y = by_place r m ne (ap (λ rs. slice
 -- the seam needs no change
 pub seam_fits : FlagsFit seam 0 (true ∷ [])
 unfolding shell_rows
-seam_fits = record { each = refl; first = refl; differ = λ r m a b p at_a at_b. two_rows (rows_with seam 0 (true ∷ [])).rows _ _ refl refl refl r m a b p.apart at_a at_b }
+seam_fits = record {
+  each = refl;
+  first = refl;
+  differ = λ r m a b p at_a at_b. two_rows (rows_with seam 0 (true ∷ [])).rows _ _ refl refl refl r m a b p.apart
+      at_a at_b;
+}
 
 -- of two alike faces the second is turned
 pub alike_fits : FlagsFit alike 0 (true ∷ false ∷ [])
 unfolding shell_rows
-alike_fits = record { each = refl; first = refl; differ = λ r m a b p at_a at_b. two_rows (rows_with alike 0 (true ∷ false ∷ [])).rows _ _ refl refl refl r m a b p.apart at_a at_b }
+alike_fits = record {
+  each = refl;
+  first = refl;
+  differ = λ r m a b p at_a at_b. two_rows (rows_with alike 0 (true ∷ false ∷ [])).rows _ _ refl refl refl r m a
+      b p.apart at_a at_b;
+}
 
 alike_partners : ArePartners (rows_at alike 0) 0 1
 unfolding shell_rows

@@ -14,4 +14,5 @@ RingsRefuseFlags = (s : SolidData) (k : ℕ) (rows : List ℕ) (flags : List Boo
 
 -- where each face is reached too, exactly one list of flags fits, or there is an odd ring
 abbrev pub FlagsOrRing : Type 0
-FlagsOrRing = (s : SolidData) (k : ℕ) → AllHaveTwoRows (rows_at s k) → AllReached (rows_at s k) → ExactlyOne (FlagsFit s k) ⊎ ((rows : List ℕ) × OddRing s k rows)
+FlagsOrRing = (s : SolidData) (k : ℕ) → AllHaveTwoRows (rows_at s k) → AllReached (rows_at s k)
+    → ExactlyOne (FlagsFit s k) ⊎ ((rows : List ℕ) × OddRing s k rows)

@@ -39,7 +39,8 @@ abbrev pub OddlyMany : {A : Type 0} → (A → Type 0) → Bool → List A → T
 OddlyMany P odd [] = odd ≡ false
 OddlyMany P odd (x ∷ xs) = (P x × OddlyMany P (not odd) xs) ⊎ (¬ P x × OddlyMany P odd xs)
 
--- One or more rows of shell k. Each next one lies in the face of the partner of the one before, and the first in that of the last's. An odd number of them run as their partners do.
+-- One or more rows of shell k. Each next one lies in the face of the partner of the one before, and the first in that of the last's. An odd number of them run
+-- as their partners do.
 pub record OddRing (s : SolidData) (k : ℕ) (rows : List ℕ) : Type 0 where
   pub some : 0 < length rows
   pub closed : AllZip (GoesOn (rows_at s k)) rows (next_of_each rows)

@@ -26,7 +26,8 @@ none_due h = omega (arith, h)
 first_names : (s : SolidData) (l : OpenLine) → FitsOpen s (stand_from_latest s []) l → NamesShell s.entity.0 l
 unfolding stand_from_latest
 first_names s head h = absurd h
-first_names s (shell n rows edges corners faces borders) h = (rows, edges, corners, faces, borders, ap (λ m. shell m rows edges corners faces borders) h.1.names)
+first_names s (shell n rows edges corners faces borders) h =
+    (rows, edges, corners, faces, borders, ap (λ m. shell m rows edges corners faces borders) h.1.names)
 first_names s (edge a b) h = absurd (none_due h.0)
 first_names s (lone a) h = absurd (none_due h.0)
 first_names s (cycle []) h = absurd h
@@ -43,7 +44,8 @@ unended : (s : SolidData) → (stand_from_latest s []).ended ≡ true → ⊥
 unfolding stand_from_latest
 unended s h = absurd (let e : false ≡ true = h in cc)
 
-legal_names : (s : SolidData) (lines : List (List ℕ)) → IsOpenLegal s lines → (second : List ℕ) × (rest : List (List ℕ)) × (lines ≡ second ∷ rest) × IsOf (NamesShell s.entity.0) second
+legal_names : (s : SolidData) (lines : List (List ℕ)) → IsOpenLegal s lines → (second : List ℕ) × (rest : List (List ℕ)) × (lines ≡ second ∷ rest)
+    × IsOf (NamesShell s.entity.0) second
 unfolding IsOpenLegal
 legal_names s [] legal = absurd (unended s legal)
 legal_names s (second ∷ rest) (l, is, fits, more) = (second, rest, refl, (l, is, first_names s l fits.1))
@@ -54,7 +56,16 @@ module _ (f : Contents) (n : ℕ) (certificate : List ℕ) where
       let named = legal_names (shell_solid_of f n) a.rest a.legal in
       record {
         lines = a.rest;
-        opens = record { first = a.first; second = named.0; rest = named.1; cut = a.cut; behind = named.2; is_head = a.is_head; names = subst (λ k. IsOf (NamesShell k) named.0) (entity_is f n) named.3 };
+        opens = record {
+          first = a.first;
+          second = named.0;
+          rest = named.1;
+          cut = a.cut;
+          behind = named.2;
+          is_head = a.is_head;
+          names =
+              subst (λ k. IsOf (NamesShell k) named.0) (entity_is f n) named.3;
+        };
         placed = placed;
         joined = a.joined;
         legal = a.legal;
@@ -65,7 +76,8 @@ module _ (f : Contents) (n : ℕ) (certificate : List ℕ) where
 
 pub sound_exactly : SoundExactlyWhereAccepted
 sound_exactly f n limits = (
-  λ (placed, rules). let c = (sound_exactly_of_solids (shell_solid_of f n) (shell_is_numbered f n limits placed) (open_shell f n)).0 rules in (c.0, accepted_for f n c.0 placed c.1),
+  λ (placed, rules). let c = (sound_exactly_of_solids (shell_solid_of f n) (shell_is_numbered f n limits placed) (open_shell f n)).0 rules
+      in (c.0, accepted_for f n c.0 placed c.1),
   λ (c, a). (a.placed, accepted_is_sound (shell_solid_of f n) c (shell_is_numbered f n limits a.placed) (open_shell f n) (accepted_of f n c a)),
 )
 

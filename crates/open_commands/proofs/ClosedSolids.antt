@@ -24,10 +24,12 @@ use Rattle.open_commands.specs.Laws.{ShellsHavePlaces, ClosedIsSound}
 
 -- Places hold where fewer numbers were named before.
 
-fewer : {A : Type 0} (g h : List A → A → List Obligation) → ((b : List A) (x : A) → AllHold (g b x) → AllHold (h b x)) → (b xs : List A) → AllHold (after_each g b xs) → AllHold (after_each h b xs)
+fewer : {A : Type 0} (g h : List A → A → List Obligation) → ((b : List A) (x : A) → AllHold (g b x) → AllHold (h b x)) → (b xs : List A)
+    → AllHold (after_each g b xs) → AllHold (after_each h b xs)
 fewer g h step b [] all = tt
 fewer g h step b (x ∷ xs) all =
-    AllHold-append (h b x) (after_each h (b ++ x ∷ []) xs) (step b x (AllHold-append_left (g b x) (after_each g (b ++ x ∷ []) xs) all)) (fewer g h step (b ++ x ∷ []) xs (AllHold-append_right (g b x) (after_each g (b ++ x ∷ []) xs) all))
+    AllHold-append (h b x) (after_each h (b ++ x ∷ []) xs) (step b x (AllHold-append_left (g b x) (after_each g (b ++ x ∷ []) xs) all))
+    (fewer g h step (b ++ x ∷ []) xs (AllHold-append_right (g b x) (after_each g (b ++ x ∷ []) xs) all))
 
 has_more : (v w b : List ℤ) → ((z : ℤ) → Has w z → Has v z) → (z : ℤ) → Has (w ++ b) z → Has (v ++ b) z
 has_more v w b within z h = by_side (has_append w b z h)
@@ -39,7 +41,8 @@ has_more v w b within z h = by_side (has_append w b z h)
 still_fresh : (v w b : List ℤ) → ((z : ℤ) → Has w z → Has v z) → (z : ℤ) → ¬ Contains (v ++ b) z → ¬ Contains (w ++ b) z
 still_fresh v w b within z fresh again = fresh (Contains-from_Has (v ++ b) z (has_more v w b within z (Has-from_Contains (w ++ b) z again)))
 
-loop_fewer : (f : Contents) (c : ℤ) (v w : List ℤ) → ((z : ℤ) → Has w z → Has v z) → (b : List ℤ) (l : ℤ) → AllHold (loop_places f c v b l) → AllHold (loop_places f c w b l)
+loop_fewer : (f : Contents) (c : ℤ) (v w : List ℤ) → ((z : ℤ) → Has w z → Has v z) → (b : List ℤ) (l : ℤ) → AllHold (loop_places f c v b l)
+    → AllHold (loop_places f c w b l)
 unfolding loop_places
 loop_fewer f c v w within b l (names, (kind, (layout, (fresh, rest)))) = (names, (kind, (layout, (still_fresh v w b within l fresh, rest))))
 
@@ -57,7 +60,11 @@ face_fewer f s u b c (names, (kind, (layout, (fresh, (surface, rest))))) = (
       layout,
       (
         still_fresh u [] (numbers b) (λ z h. absurd h) c.0 fresh,
-        (surface, fewer (loop_places f c.0 (flat_map (loops f) (u ++ numbers b))) (loop_places f c.0 (flat_map (loops f) (numbers b))) (loop_fewer f c.0 (flat_map (loops f) (u ++ numbers b)) (flat_map (loops f) (numbers b)) (loops_within f u (numbers b))) [] (loops f c.0) rest),
+        (
+          surface,
+          fewer (loop_places f c.0 (flat_map (loops f) (u ++ numbers b))) (loop_places f c.0 (flat_map (loops f) (numbers b)))
+              (loop_fewer f c.0 (flat_map (loops f) (u ++ numbers b)) (flat_map (loops f) (numbers b)) (loops_within f u (numbers b))) [] (loops f c.0) rest,
+        ),
       ),
     ),
   ),
@@ -74,8 +81,13 @@ either_form f s h = some_weaker (named f s) _ _ (λ e (kind, form). (kind, inl f
 shell_opens : (f : Contents) (n : ℤ) (b : List (ℤ × Bool)) (m : ℕ) (flag : Bool) → AllHold (shell_places f n b (pos m, flag)) → AllHold (open_places f m)
 unfolding shell_places open_places
 shell_opens f n b m flag (names, (kind, (layout, (fresh, rest)))) =
-    let used : List ℤ = flat_map (λ s. numbers (faces f s)) (numbers b) in
-    (names, (either_form f (pos m) kind, (layout, fewer (face_places f (pos m) used) (face_places f (pos m) []) (face_fewer f (pos m) used) [] (faces f (pos m)) rest)))
+    let used : List ℤ = flat_map (λ s. numbers (faces f s)) (numbers b) in (
+      names,
+      (
+        either_form f (pos m) kind,
+        (layout, fewer (face_places f (pos m) used) (face_places f (pos m) []) (face_fewer f (pos m) used) [] (faces f (pos m)) rest),
+      ),
+    )
 
 pub shells_have_places : ShellsHavePlaces
 shells_have_places f n m flag all listed =

@@ -10,7 +10,8 @@ use Rattle.solid_data.specs.Obligations.{AllHold, FirstFalse, of_each}
 use Rattle.solid_data.specs.declared.solid.Shell.{Shell}
 use Rattle.solid_data.specs.declared.verdict.Failing.{Failing}
 use Rattle.solid_data.proofs.Members.{All-at, All-from, all_flat_map, has_flat_map}
-use Rattle.solid_data.proofs.ObligationLemmas.{AllHold-append, AllHold-append_left, AllHold-append_right, FirstFalse-append_front, FirstFalse-append_rest, AllHold-of_each, of_each-AllHold, AllByRecursion-weaker}
+use Rattle.solid_data.proofs.ObligationLemmas.{AllHold-append, AllHold-append_left, AllHold-append_right, FirstFalse-append_front, FirstFalse-append_rest}
+use Rattle.solid_data.proofs.ObligationLemmas.{AllHold-of_each, of_each-AllHold, AllByRecursion-weaker}
 use Rattle.solid_data.proofs.ObligationsDecided.{AreDecided, decided-append, decided-of_each}
 use Rattle.edge_uses.specs.Joins.{IsJoined, loop_obligations, join_obligations}
 use Rattle.edge_uses.proofs.JoinLemmas.{joined_from_hold, hold_from_joined}
@@ -23,11 +24,13 @@ Joins s p = IsJoined s p.loop
 
 join_from : (s : SolidData) (h : Shell) → AllHold (join_obligations s h) → AllByRecursion (Joins s) (placed_loops h)
 join_from s h all =
-    AllByRecursion-weaker (λ (p : PlacedLoop). AllHold (loop_obligations s p.loop)) (Joins s) (placed_loops h) (λ p. joined_from_hold s p.loop) (AllHold-of_each (λ (p : PlacedLoop). loop_obligations s p.loop) (placed_loops h) all)
+    AllByRecursion-weaker (λ (p : PlacedLoop). AllHold (loop_obligations s p.loop)) (Joins s) (placed_loops h) (λ p. joined_from_hold s p.loop)
+    (AllHold-of_each (λ (p : PlacedLoop). loop_obligations s p.loop) (placed_loops h) all)
 
 join_to : (s : SolidData) (h : Shell) → AllByRecursion (Joins s) (placed_loops h) → AllHold (join_obligations s h)
 join_to s h all =
-    of_each-AllHold (λ (p : PlacedLoop). loop_obligations s p.loop) (placed_loops h) (AllByRecursion-weaker (Joins s) (λ (p : PlacedLoop). AllHold (loop_obligations s p.loop)) (placed_loops h) (λ p. hold_from_joined s p.loop) all)
+    of_each-AllHold (λ (p : PlacedLoop). loop_obligations s p.loop) (placed_loops h)
+    (AllByRecursion-weaker (Joins s) (λ (p : PlacedLoop). AllHold (loop_obligations s p.loop)) (placed_loops h) (λ p. hold_from_joined s p.loop) all)
 
 joins_from : (s : SolidData) → AllHold (joins s) → AllJoin s
 joins_from s all =
@@ -61,15 +64,18 @@ pub place_fault : (f : Contents) (n : ℕ) (x : Failing) → FirstFalse (open_pl
 unfolding open_checked
 place_fault f n x bad = FirstFalse-append_front (open_places f n) (joins (shell_solid_of f n)) x bad
 
-module _ (f : Contents) (n : ℕ) (s : SolidData) (same : s ≡ shell_solid_of f n) (placed : AllHold (open_places f n)) (h : Shell) (alone : s.shells ≡ h ∷ []) where
+module _ (f : Contents) (n : ℕ) (s : SolidData) (same : s ≡ shell_solid_of f n) (placed : AllHold (open_places f n)) (h : Shell)
+    (alone : s.shells ≡ h ∷ []) where
   pub loops_hold : AllHold (join_obligations s h) → AllHold (open_checked f n)
   unfolding open_checked
   loops_hold all =
       AllHold-append (open_places f n) (joins (shell_solid_of f n)) placed
-      (subst (λ t. AllHold (joins t)) same (subst (λ hs. AllHold (of_each (join_obligations s) hs)) (sym alone) (AllHold-append (join_obligations s h) [] all tt)))
+      (subst (λ t. AllHold (joins t)) same
+      (subst (λ hs. AllHold (of_each (join_obligations s) hs)) (sym alone) (AllHold-append (join_obligations s h) [] all tt)))
 
   pub loops_fault : (x : Failing) → FirstFalse (join_obligations s h) x → FirstFalse (open_checked f n) x
   unfolding open_checked
   loops_fault x bad =
       FirstFalse-append_rest (open_places f n) (joins (shell_solid_of f n)) x placed
-      (subst (λ t. FirstFalse (joins t) x) same (subst (λ hs. FirstFalse (of_each (join_obligations s) hs) x) (sym alone) (FirstFalse-append_front (join_obligations s h) [] x bad)))
+      (subst (λ t. FirstFalse (joins t) x) same
+      (subst (λ hs. FirstFalse (of_each (join_obligations s) hs) x) (sym alone) (FirstFalse-append_front (join_obligations s h) [] x bad)))

@@ -24,7 +24,8 @@ none_judged now text stands = record { lines = []; stands = stands; solid = refl
 module _ (s : SolidData) (text : List ℕ) (now : KeptChecker) (rest : List ℕ) (j : IsJudgedSoFar s text now rest) where
   module _ (line after : List ℕ) (cut : cut_lines rest ≡ line ∷ cut_lines after) where
     pub one_more : (new : KeptChecker) → new.solid ≡ now.solid
-        → (l : OpenLine) × IsSpelled line l × FitsLine now.solid (stand_from_latest now.solid j.lines) l × IsAt new (l ∷ j.lines) → IsJudgedSoFar s text new after
+        → (l : OpenLine) × IsSpelled line l × FitsLine now.solid (stand_from_latest now.solid j.lines) l × IsAt new (l ∷ j.lines)
+        → IsJudgedSoFar s text new after
     one_more new same (l, spelled, fits, stands) =
         let fits_here : FitsLine s (stand_from_latest s j.lines) l = subst (λ t. FitsLine t (stand_from_latest t j.lines) l) j.solid fits in
         record {
@@ -46,7 +47,8 @@ module _ (s : SolidData) (text : List ℕ) (now : KeptChecker) (rest : List ℕ)
         (λ x. ((stand_from_latest now.solid j.lines).ended ≡ false) × (x ≡ Missing (stand_from_latest now.solid j.lines).number) × (new.failed ≡ Some x))
         → MatchResult result (λ _. IsOpenLegal s (cut_lines text)) (λ x. IsOpenFirstBad s (cut_lines text) x)
     unfolding IsOpenLegal IsOpenFirstBad
-    ended new (Ok u) (is_ended, same) = j.legal (subst (λ r. IsLegalAfter s j.lines (cut_lines r)) (sym none) (subst (λ t. (stand_from_latest t j.lines).ended ≡ true) j.solid is_ended))
+    ended new (Ok u) (is_ended, same) =
+        j.legal (subst (λ r. IsLegalAfter s j.lines (cut_lines r)) (sym none) (subst (λ t. (stand_from_latest t j.lines).ended ≡ true) j.solid is_ended))
     ended new (Err x) (goes_on, missing, failed) =
         j.bad x (subst (λ r. IsFirstBadAfter s j.lines (cut_lines r) x) (sym none)
         (subst (λ t. ((stand_from_latest t j.lines).ended ≡ false) × (x ≡ Missing (stand_from_latest t j.lines).number)) j.solid (goes_on, missing)))

@@ -10,7 +10,8 @@ use Rattle.open_shells.specs.Obligations.{open_obligations}
 use Rattle.open_shells.proofs.Legality.{legal_has_no_bad, one_first_bad, no_first_false, one_first_false_of}
 use Rattle.solid_data.proofs.ObligationLemmas.{FirstFalse-one, FirstFalse-not_all}
 use Rattle.open_commands.specs.Checked.{open_checked}
-use Rattle.open_commands.specs.Due.{OfShellLines, open_fail_line, open_misplaced, open_unsound, open_certified, place_fails, line_bad, lines_accepted, certificate_too_large, opening_bad, opened}
+use Rattle.open_commands.specs.Due.{OfShellLines, open_fail_line, open_misplaced, open_unsound, open_certified, place_fails, line_bad, lines_accepted}
+use Rattle.open_commands.specs.Due.{certificate_too_large, opening_bad, opened}
 use Rattle.open_commands.specs.Laws.{OneOpenAnswer, OneVerifyAnswer}
 use Rattle.open_commands.specs.Verdict.{OpenVerdict, IsOpenVerdict, sound, misplaced, unsound}
 use Rattle.open_commands.proofs.OpenedLines.{one_bad_opening, opens_or_bad, one_opening}
@@ -34,7 +35,8 @@ one_open n f a b t u (open_misplaced x p) (open_misplaced y q) = (refl, λ no_an
 one_open n f a b t u (open_misplaced x p) (open_unsound y q) = different f n (misplaced x) (unsound y) p q (λ e. cc)
 one_open n f a b t u (open_misplaced x p) (open_certified other q made) = different f n (misplaced x) sound p q (λ e. cc)
 one_open n f a b t u (open_unsound x p) (open_misplaced y q) = different f n (unsound x) (misplaced y) p q (λ e. cc)
-one_open n f a b t u (open_unsound x p) (open_unsound y q) = (refl, λ no_answer. ap open_fail_line (one_first_false_of (open_obligations (shell_solid_of f n)) x y p.1 q.1))
+one_open n f a b t u (open_unsound x p) (open_unsound y q) =
+    (refl, λ no_answer. ap open_fail_line (one_first_false_of (open_obligations (shell_solid_of f n)) x y p.1 q.1))
 one_open n f a b t u (open_unsound x p) (open_certified other q made) = different f n (unsound x) sound p q (λ e. cc)
 one_open n f a b t u (open_certified text p made) (open_misplaced y q) = different f n sound (misplaced y) p q (λ e. cc)
 one_open n f a b t u (open_certified text p made) (open_unsound y q) = different f n sound (unsound y) p q (λ e. cc)

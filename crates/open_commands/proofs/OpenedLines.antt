@@ -29,7 +29,8 @@ one_misfit Wanted bytes Unfit Unfit p q = refl
 one_wrong : (Wanted : OpenLine → Type 0) (number : ℕ) (bytes : List ℕ) (x y : Illegal) → IsWrong Wanted number bytes x → IsWrong Wanted number bytes y → x ≡ y
 one_wrong Wanted number bytes x y (a, is_a, at_a) (b, is_b, at_b) = at_a ∙ (ap (λ m. illegal_at m number) (one_misfit Wanted bytes a b is_a is_b) ∙ sym at_b)
 
-wrong_good : (Wanted : OpenLine → Type 0) (number : ℕ) (bytes : List ℕ) (l : OpenLine) (x : Illegal) → IsSpelled bytes l → Wanted l → IsWrong Wanted number bytes x → ⊥
+wrong_good : (Wanted : OpenLine → Type 0) (number : ℕ) (bytes : List ℕ) (l : OpenLine) (x : Illegal) → IsSpelled bytes l → Wanted l
+    → IsWrong Wanted number bytes x → ⊥
 wrong_good Wanted number bytes l x is want (m, misfit, at) = misfit_good Wanted bytes l is want m misfit
 
 one_second : (lines : List (List ℕ)) (x y : Illegal) → IsSecondWrong lines x → IsSecondWrong lines y → x ≡ y
@@ -49,7 +50,8 @@ one_bad_opening certificate x y = one_first (cut_lines certificate) x y
 names_a_shell : (n : ℕ) (bytes : List ℕ) → IsOf (NamesShell n) bytes → (l : OpenLine) × IsSpelled bytes l × IsShell l
 names_a_shell n bytes (l, is, names) = (l, is, (n, names))
 
-no_wrong : (first second : List ℕ) (rest : List (List ℕ)) (n : ℕ) (x : Illegal) → IsSpelled first head → IsOf (NamesShell n) second → IsFirstWrong (first ∷ second ∷ rest) x → ⊥
+no_wrong : (first second : List ℕ) (rest : List (List ℕ)) (n : ℕ) (x : Illegal) → IsSpelled first head → IsOf (NamesShell n) second
+    → IsFirstWrong (first ∷ second ∷ rest) x → ⊥
 no_wrong first second rest n x is names (inl p) = wrong_good IsHead 1 first head x is refl p
 no_wrong first second rest n x is names (inr p) = let a = names_a_shell n second names in wrong_good IsShell 2 second a.0 x a.1 a.2 p.1
 
@@ -74,9 +76,11 @@ unfolding shell_number
 number_named n l (rows, edges, corners, faces, borders, is) = ap shell_number is
 
 one_name : (n m : ℕ) (bytes : List ℕ) → IsOf (NamesShell n) bytes → IsOf (NamesShell m) bytes → n ≡ m
-one_name n m bytes (l, is_l, names_l) (k, is_k, names_k) = sym (number_named n l names_l) ∙ (ap shell_number (line_one bytes l k is_l is_k) ∙ number_named m k names_k)
+one_name n m bytes (l, is_l, names_l) (k, is_k, names_k) = sym (number_named n l names_l)
+    ∙ (ap shell_number (line_one bytes l k is_l is_k) ∙ number_named m k names_k)
 
-pub one_opening : (certificate : List ℕ) (n m : ℕ) (lines other : List (List ℕ)) → OpensShell certificate n lines → OpensShell certificate m other → (n ≡ m) × (lines ≡ other)
+pub one_opening : (certificate : List ℕ) (n m : ℕ) (lines other : List (List ℕ)) → OpensShell certificate n lines → OpensShell certificate m other
+    → (n ≡ m) × (lines ≡ other)
 one_opening certificate n m lines other a b =
     let behind : lines ≡ other = ap behind_one (sym a.cut ∙ b.cut) in
     let second : a.second ≡ b.second = ap first_of (sym a.behind ∙ (behind ∙ b.behind)) in
@@ -109,7 +113,8 @@ shell_decided (border rs) = inr (λ (n, (r, e, c, f, b, is)). cc)
 shell_decided end = inr (λ (n, (r, e, c, f, b, is)). cc)
 
 -- The line is the one that is wanted, or something is wrong with it.
-wanted_or_wrong : (Wanted : OpenLine → Type 0) → ((l : OpenLine) → Decided (Wanted l)) → (number : ℕ) (bytes : List ℕ) → IsOf Wanted bytes ⊎ ((x : Illegal) × IsWrong Wanted number bytes x)
+wanted_or_wrong : (Wanted : OpenLine → Type 0) → ((l : OpenLine) → Decided (Wanted l)) → (number : ℕ) (bytes : List ℕ)
+    → IsOf Wanted bytes ⊎ ((x : Illegal) × IsWrong Wanted number bytes x)
 wanted_or_wrong Wanted each number bytes = by_line (some_line_decided bytes)
   where
     by_wanted : (l : OpenLine) → IsSpelled bytes l → Decided (Wanted l) → IsOf Wanted bytes ⊎ ((x : Illegal) × IsWrong Wanted number bytes x)
@@ -120,26 +125,44 @@ wanted_or_wrong Wanted each number bytes = by_line (some_line_decided bytes)
     by_line (inl (l, is)) = by_wanted l is (each l)
     by_line (inr none) = inr (illegal_at Misspelt number, (Misspelt, (λ l h. none (l, h)), refl))
 
-second_decided : (lines : List (List ℕ)) → ((second : List ℕ) × (rest : List (List ℕ)) × (n : ℕ) × (lines ≡ second ∷ rest) × IsOf (NamesShell n) second) ⊎ ((x : Illegal) × IsSecondWrong lines x)
+second_decided : (lines : List (List ℕ)) → ((second : List ℕ) × (rest : List (List ℕ)) × (n : ℕ) × (lines ≡ second ∷ rest) × IsOf (NamesShell n) second)
+    ⊎ ((x : Illegal) × IsSecondWrong lines x)
 second_decided [] = inr (Missing 2, refl)
 second_decided (second ∷ rest) = by_second (wanted_or_wrong IsShell shell_decided 2 second)
   where
-    by_second : IsOf IsShell second ⊎ ((x : Illegal) × IsWrong IsShell 2 second x) → ((s : List ℕ) × (r : List (List ℕ)) × (n : ℕ) × (second ∷ rest ≡ s ∷ r) × IsOf (NamesShell n) s) ⊎ ((x : Illegal) × IsSecondWrong (second ∷ rest) x)
+    by_second : IsOf IsShell second ⊎ ((x : Illegal) × IsWrong IsShell 2 second x)
+        → ((s : List ℕ) × (r : List (List ℕ)) × (n : ℕ) × (second ∷ rest ≡ s ∷ r) × IsOf (NamesShell n) s) ⊎ ((x : Illegal) × IsSecondWrong (second ∷ rest) x)
     by_second (inl (l, is, (n, names))) = inl (second, rest, n, refl, (l, is, names))
     by_second (inr wrong) = inr wrong
 
-opening_of : (certificate : List ℕ) (lines : List (List ℕ)) → cut_lines certificate ≡ lines → ((n : ℕ) × (behind : List (List ℕ)) × OpensShell certificate n behind) ⊎ ((x : Illegal) × IsFirstWrong lines x)
+opening_of : (certificate : List ℕ) (lines : List (List ℕ)) → cut_lines certificate ≡ lines
+    → ((n : ℕ) × (behind : List (List ℕ)) × OpensShell certificate n behind) ⊎ ((x : Illegal) × IsFirstWrong lines x)
 opening_of certificate [] cut = inr (Missing 1, refl)
 opening_of certificate (first ∷ lines) cut = by_first (wanted_or_wrong IsHead head_decided 1 first) (second_decided lines)
   where
     by_first : IsOf IsHead first ⊎ ((x : Illegal) × IsWrong IsHead 1 first x)
-        → ((second : List ℕ) × (rest : List (List ℕ)) × (n : ℕ) × (lines ≡ second ∷ rest) × IsOf (NamesShell n) second) ⊎ ((x : Illegal) × IsSecondWrong lines x)
+        → ((second : List ℕ) × (rest : List (List ℕ)) × (n : ℕ) × (lines ≡ second ∷ rest) × IsOf (NamesShell n) second)
+        ⊎ ((x : Illegal) × IsSecondWrong lines x)
         → ((n : ℕ) × (behind : List (List ℕ)) × OpensShell certificate n behind) ⊎ ((x : Illegal) × IsFirstWrong (first ∷ lines) x)
     by_first (inr (x, wrong)) second = inr (x, inl wrong)
     by_first (inl (l, is, e)) (inr (x, wrong)) = inr (x, inr (subst (IsSpelled first) e is, wrong))
     by_first (inl (l, is, e)) (inl (second, rest, n, behind, names)) =
-        inl (n, lines, record { first = first; second = second; rest = rest; cut = cut; behind = behind; is_head = subst (IsSpelled first) e is; names = names })
+        inl (
+          n,
+          lines,
+          record {
+            first = first;
+            second = second;
+            rest = rest;
+            cut = cut;
+            behind = behind;
+            is_head = subst (IsSpelled first) e is;
+            names =
+                names;
+          },
+        )
 
 -- A certificate opens with the head and a shell, or has a first bad line among these two.
-pub openings_are_decided : (certificate : List ℕ) → ((n : ℕ) × (lines : List (List ℕ)) × OpensShell certificate n lines) ⊎ ((x : Illegal) × IsBadOpening certificate x)
+pub openings_are_decided : (certificate : List ℕ) → ((n : ℕ) × (lines : List (List ℕ)) × OpensShell certificate n lines)
+    ⊎ ((x : Illegal) × IsBadOpening certificate x)
 openings_are_decided certificate = opening_of certificate (cut_lines certificate) refl

@@ -12,6 +12,8 @@ use Rattle.open_commands.specs.Due.{OfOpen, open_certified}
 use Rattle.open_commands.proofs.AcceptedFor.{accepted_for}
 
 -- s is the solid as it was walked
-pub sound_owed : (f : Contents) (n : ℕ) (t : List ℕ) (s : SolidData) → AllHold (open_places f n) → s ≡ shell_solid_of f n → AllRulesHold (open_obligations s) → IsOpenAccepted s t → OfOpen n f Done t
+pub sound_owed : (f : Contents) (n : ℕ) (t : List ℕ) (s : SolidData) → AllHold (open_places f n) → s ≡ shell_solid_of f n → AllRulesHold (open_obligations s)
+    → IsOpenAccepted s t → OfOpen n f Done t
 sound_owed f n t s placed is rules accepted =
-    open_certified t (placed, subst (λ (d : SolidData). AllRulesHold (open_obligations d)) is rules) (accepted_for f n t placed (subst (λ (d : SolidData). IsOpenAccepted d t) is accepted))
+    open_certified t (placed, subst (λ (d : SolidData). AllRulesHold (open_obligations d)) is rules)
+    (accepted_for f n t placed (subst (λ (d : SolidData). IsOpenAccepted d t) is accepted))

@@ -19,7 +19,8 @@ use Rattle.solid_data.proofs.Decisions.{Decided, decided_within}
 use Rattle.solid_data.proofs.ObligationsDecided.{all_or_first_false}
 use Rattle.topo_certificate.specs.declared.TheConstants.{CERT_LIMIT}
 use Rattle.open_commands.specs.Checked.{open_checked}
-use Rattle.open_commands.specs.Due.{OfOpen, OfShellLines, OfOpenVerify, open_fail_line, open_misplaced, open_unsound, open_certified, place_fails, line_bad, lines_accepted, certificate_too_large, opening_bad, opened}
+use Rattle.open_commands.specs.Due.{OfOpen, OfShellLines, OfOpenVerify, open_fail_line, open_misplaced, open_unsound, open_certified, place_fails, line_bad}
+use Rattle.open_commands.specs.Due.{lines_accepted, certificate_too_large, opening_bad, opened}
 use Rattle.open_commands.specs.Laws.{SomeOpenAnswer, SomeVerifyAnswer}
 use Rattle.open_commands.specs.Opening.{OpensShell, IsBadOpening}
 use Rattle.open_commands.specs.Verdict.{OpenVerdict, IsOpenVerdict, sound, misplaced, unsound}
@@ -30,7 +31,8 @@ use Rattle.open_commands.proofs.OpenedLines.{openings_are_decided}
 pub some_verdict : (f : Contents) (n : ℕ) → (verdict : OpenVerdict) × IsOpenVerdict f n verdict
 some_verdict f n = by_places (all_or_first_false (open_places f n) (open_places_decided f n)) (rules.all_or_first_false (shell_solid_of f n))
   where
-    by_places : AllHold (open_places f n) ⊎ ((x : Failing) × FirstFalse (open_places f n) x) → AllRulesHold (open_obligations (shell_solid_of f n)) ⊎ ((x : OpenFailing) × FirstRuleFalse (open_obligations (shell_solid_of f n)) x)
+    by_places : AllHold (open_places f n) ⊎ ((x : Failing) × FirstFalse (open_places f n) x) → AllRulesHold (open_obligations (shell_solid_of f n))
+        ⊎ ((x : OpenFailing) × FirstRuleFalse (open_obligations (shell_solid_of f n)) x)
         → (verdict : OpenVerdict) × IsOpenVerdict f n verdict
     by_places (inr (x, first)) any = (misplaced x, first)
     by_places (inl placed) (inr (x, first)) = (unsound x, (placed, first))
@@ -47,7 +49,8 @@ some_open n f limits = by_verdict (some_verdict f n)
 lines_due : (n : ℕ) (lines : List (List ℕ)) (f : Contents) → IsSome (OfShellLines n lines f)
 lines_due n lines f = by_checks (all_or_first_false (open_checked f n) (checks_decided f n)) (legal_or_first_bad (shell_solid_of f n) lines)
   where
-    by_checks : AllHold (open_checked f n) ⊎ ((x : Failing) × FirstFalse (open_checked f n) x) → IsOpenLegal (shell_solid_of f n) lines ⊎ ((bad : Illegal) × IsOpenFirstBad (shell_solid_of f n) lines bad) → IsSome (OfShellLines n lines f)
+    by_checks : AllHold (open_checked f n) ⊎ ((x : Failing) × FirstFalse (open_checked f n) x)
+        → IsOpenLegal (shell_solid_of f n) lines ⊎ ((bad : Illegal) × IsOpenFirstBad (shell_solid_of f n) lines bad) → IsSome (OfShellLines n lines f)
     by_checks (inr (x, first)) any = (No, fail_line x, place_fails x first)
     by_checks (inl all) (inr (bad, first)) = (No, illegal_line bad, line_bad all bad first)
     by_checks (inl all) (inl legal) = (Done, accepted_line n, lines_accepted all legal)
@@ -55,7 +58,8 @@ lines_due n lines f = by_checks (all_or_first_false (open_checked f n) (checks_d
 pub some_verify : SomeVerifyAnswer
 some_verify certificate f = by_limit (decided_within (length certificate) CERT_LIMIT) (openings_are_decided certificate)
   where
-    by_limit : Decided (length certificate ≤ CERT_LIMIT) → ((n : ℕ) × (lines : List (List ℕ)) × OpensShell certificate n lines) ⊎ ((bad : Illegal) × IsBadOpening certificate bad) → IsSome (OfOpenVerify certificate f)
+    by_limit : Decided (length certificate ≤ CERT_LIMIT) → ((n : ℕ) × (lines : List (List ℕ)) × OpensShell certificate n lines)
+        ⊎ ((bad : Illegal) × IsBadOpening certificate bad) → IsSome (OfOpenVerify certificate f)
     by_limit (inr more) any = (TooLarge, [], certificate_too_large (longer (length certificate) CERT_LIMIT more))
     by_limit (inl few) (inr (bad, wrong)) = (No, illegal_line bad, opening_bad few bad wrong)
     by_limit (inl few) (inl (n, lines, opens)) = let due = lines_due n lines f in (due.0, due.1, opened few n lines opens due.2)

@@ -45,4 +45,5 @@ pub data OfOpenVerify (certificate : List ℕ) (f : Contents) : Answer → List 
   -- line 1 or 2 is bad by itself
   opening_bad : length certificate ≤ CERT_LIMIT → (bad : Illegal) → IsBadOpening certificate bad → OfOpenVerify certificate f No (illegal_line bad)
   -- both are good: by the shell that it names and its lines
-  opened : {a : Answer} {text : List ℕ} → length certificate ≤ CERT_LIMIT → (n : ℕ) (lines : List (List ℕ)) → OpensShell certificate n lines → OfShellLines n lines f a text → OfOpenVerify certificate f a text
+  opened : {a : Answer} {text : List ℕ} → length certificate ≤ CERT_LIMIT → (n : ℕ) (lines : List (List ℕ)) → OpensShell certificate n lines
+      → OfShellLines n lines f a text → OfOpenVerify certificate f a text

@@ -26,12 +26,15 @@ SoundExactlyWhereAccepted = (f : Contents) (n : ℕ) → FitsLimits f → IsOpen
 
 -- The border lines of an accepted certificate, in a file within its limits, are cycles that hold each border row once.
 abbrev pub BordersAreCycles : Type 0
-BordersAreCycles = (f : Contents) (n : ℕ) (certificate : List ℕ) (lines : List OpenLine) → FitsLimits f → (accepted : IsOpenAcceptedFor f certificate n) → AllZip IsSpelled accepted.lines lines
+BordersAreCycles = (f : Contents) (n : ℕ) (certificate : List ℕ) (lines : List OpenLine) → FitsLimits f → (accepted : IsOpenAcceptedFor f certificate n)
+    → AllZip IsSpelled accepted.lines lines
     → AreAllBorders (shell_of (shell_solid_of f n)) (filter_map cycle_in lines)
 
 -- A certificate is accepted exactly where it opens so, all that is checked holds, and its further lines are legal.
 abbrev pub AcceptedIsChecked : Type 0
-AcceptedIsChecked = (f : Contents) (certificate : List ℕ) (n : ℕ) → IsOpenAcceptedFor f certificate n ↔ ((lines : List (List ℕ)) × OpensShell certificate n lines × AllHold (open_checked f n) × IsOpenLegal (shell_solid_of f n) lines)
+AcceptedIsChecked = (f : Contents) (certificate : List ℕ) (n : ℕ)
+    → IsOpenAcceptedFor f certificate n ↔
+    ((lines : List (List ℕ)) × OpensShell certificate n lines × AllHold (open_checked f n) × IsOpenLegal (shell_solid_of f n) lines)
 
 -- Where the places of a solid hold, so do those of each of its shells as an open one.
 abbrev pub ShellsHavePlaces : Type 0
@@ -39,14 +42,16 @@ ShellsHavePlaces = (f : Contents) (n m : ℕ) (flag : Bool) → AllHold (places 
 
 -- Where a solid is closed whose one shell is m, with flag 1, this shell is sound as an open one, and has no border row.
 abbrev pub ClosedIsSound : Type 0
-ClosedIsSound = (f : Contents) (n m : ℕ) → IsClosed f n → shells f (pos n) ≡ (pos m, true) ∷ [] → IsOpenVerdict f m sound × ((r : ℕ) → ¬ IsBorder (shell_of (shell_solid_of f m)) r)
+ClosedIsSound = (f : Contents) (n m : ℕ) → IsClosed f n → shells f (pos n) ≡ (pos m, true) ∷ []
+    → IsOpenVerdict f m sound × ((r : ℕ) → ¬ IsBorder (shell_of (shell_solid_of f m)) r)
 
 -- Two answers that are owed are the same, and so are their texts where the answer is No.
 abbrev pub OneOpenAnswer : Type 0
 OneOpenAnswer = (n : ℕ) (f : Contents) (a b : Answer) (t u : List ℕ) → OfOpen n f a t → OfOpen n f b u → (a ≡ b) × (a ≡ No → t ≡ u)
 
 abbrev pub OneVerifyAnswer : Type 0
-OneVerifyAnswer = (certificate : List ℕ) (f : Contents) (a b : Answer) (t u : List ℕ) → OfOpenVerify certificate f a t → OfOpenVerify certificate f b u → (a ≡ b) × (t ≡ u)
+OneVerifyAnswer = (certificate : List ℕ) (f : Contents) (a b : Answer) (t u : List ℕ) → OfOpenVerify certificate f a t → OfOpenVerify certificate f b u
+    → (a ≡ b) × (t ≡ u)
 
 -- Some answer and text are owed, whatever the shell and the certificate are.
 abbrev pub SomeOpenAnswer : Type 0

@@ -17,10 +17,12 @@ pub record Walked (d : ShellRows) (lone : List ℕ) (first last : ℕ) (rest : L
   pub back : IsBorderRing d lone first first all → IsBorderRing d lone first last left
   pub whole : count + length left ≡ length all + 1
 
-pub walked_none : (d : ShellRows) (lone : List ℕ) (first : ℕ) (rest all : List ℕ) → AreNumbers rest all → Contains lone first → Walked d lone first first rest all 1
+pub walked_none : (d : ShellRows) (lone : List ℕ) (first : ℕ) (rest all : List ℕ) → AreNumbers rest all → Contains lone first
+    → Walked d lone first first rest all 1
 walked_none d lone first rest all h here = record { left = all; numbers = h; here = here; on = λ r. r; back = λ r. r; whole = omega arith }
 
-pub walked_step : (d : ShellRows) (lone : List ℕ) (first last next : ℕ) (rest after all : List ℕ) (count : ℕ) → Begins rest next after → first < next → Contains lone next → GoesOnTo d last next
+pub walked_step : (d : ShellRows) (lone : List ℕ) (first last next : ℕ) (rest after all : List ℕ) (count : ℕ) → Begins rest next after → first < next
+    → Contains lone next → GoesOnTo d last next
     → Walked d lone first last rest all count → Walked d lone first next after all (count + 1)
 walked_step d lone first last next rest after all count b above marked goes w =
     let n = next_left rest after next w.left b w.numbers in
@@ -34,20 +36,23 @@ walked_step d lone first last next rest after all count b above marked goes w =
     }
 
 -- where the next number doesn't go on, nothing makes the ring whole
-pub walked_stop : (d : ShellRows) (lone : List ℕ) (first last next : ℕ) (rest after all : List ℕ) (count : ℕ) → Begins rest next after → (first < next → Contains lone next → GoesOnTo d last next → ⊥)
+pub walked_stop : (d : ShellRows) (lone : List ℕ) (first last next : ℕ) (rest after all : List ℕ) (count : ℕ) → Begins rest next after
+    → (first < next → Contains lone next → GoesOnTo d last next → ⊥)
     → Walked d lone first last rest all count → IsBorderRing d lone first first all → ⊥
 walked_stop d lone first last next rest after all count b never w r =
     let n = next_left rest after next w.left b w.numbers in
     let k = subst (IsBorderRing d lone first last) n.1 (w.back r) in
     never k.2.0 k.0.1.0 k.1.0
 
-pub walked_whole : (d : ShellRows) (lone : List ℕ) (first last : ℕ) (rest all : List ℕ) (count : ℕ) → ((n : ℕ) (after : List ℕ) → ¬ Begins rest n after) → GoesOnTo d last first
+pub walked_whole : (d : ShellRows) (lone : List ℕ) (first last : ℕ) (rest all : List ℕ) (count : ℕ) → ((n : ℕ) (after : List ℕ) → ¬ Begins rest n after)
+    → GoesOnTo d last first
     → Walked d lone first last rest all count → IsBorderRing d lone first first all × (count ≡ length (first ∷ all))
 walked_whole d lone first last rest all count never goes w =
     let e = none_left rest w.left never w.numbers in
     (w.on (subst (IsBorderRing d lone first last) (sym e) ((w.here, tt), (goes, tt), tt)), omega (arith, w.whole, ap (λ xs. length xs) e))
 
-pub walked_broken : (d : ShellRows) (lone : List ℕ) (first last : ℕ) (rest all : List ℕ) (count : ℕ) → ((n : ℕ) (after : List ℕ) → ¬ Begins rest n after) → (GoesOnTo d last first → ⊥)
+pub walked_broken : (d : ShellRows) (lone : List ℕ) (first last : ℕ) (rest all : List ℕ) (count : ℕ) → ((n : ℕ) (after : List ℕ) → ¬ Begins rest n after)
+    → (GoesOnTo d last first → ⊥)
     → Walked d lone first last rest all count → IsBorderRing d lone first first all → ⊥
 walked_broken d lone first last rest all count never broken w r =
     let e = none_left rest w.left never w.numbers in
@@ -55,14 +60,17 @@ walked_broken d lone first last rest all count never broken w r =
     broken k.1.0
 
 -- a border line whose first number is read
-pub border_of : (d : ShellRows) (at : OpenStand) (text others : List ℕ) (first : ℕ) (rs : List ℕ) → Begins text first others → AreNumbers text rs → FitsBorderLine d at rs → (ms : List ℕ) × AreNumbers others ms × FitsBorder d at first ms
+pub border_of : (d : ShellRows) (at : OpenStand) (text others : List ℕ) (first : ℕ) (rs : List ℕ) → Begins text first others → AreNumbers text rs
+    → FitsBorderLine d at rs → (ms : List ℕ) × AreNumbers others ms × FitsBorder d at first ms
 border_of d at text others first rs b h fits = let n = next_left text others first rs b h in (n.0, n.2, subst (FitsBorderLine d at) n.1 fits)
 
 pub border_ring : (d : ShellRows) (at : OpenStand) (first : ℕ) (ms : List ℕ) → FitsBorder d at first ms → IsBorderRing d at.lone first first ms
 border_ring d at first ms fits = (fits.lone, fits.goes_on, fits.least)
 
-pub border_fits : (d : ShellRows) (at : OpenStand) (text others : List ℕ) (first len : ℕ) (rs : List ℕ) → Begins text first others → AreNumbers text rs → IsAbove at.last_border first
-    → ((ms : List ℕ) → AreNumbers others ms → IsBorderRing d at.lone first first ms × (len ≡ length (first ∷ ms))) → (ms : List ℕ) × (rs ≡ first ∷ ms) × FitsBorder d at first ms × (length (first ∷ ms) ≡ len)
+pub border_fits : (d : ShellRows) (at : OpenStand) (text others : List ℕ) (first len : ℕ) (rs : List ℕ) → Begins text first others → AreNumbers text rs
+    → IsAbove at.last_border first
+    → ((ms : List ℕ) → AreNumbers others ms → IsBorderRing d at.lone first first ms × (len ≡ length (first ∷ ms)))
+    → (ms : List ℕ) × (rs ≡ first ∷ ms) × FitsBorder d at first ms × (length (first ∷ ms) ≡ len)
 border_fits d at text others first len rs b h above ring =
     let n = next_left text others first rs b h in
     let r = ring n.0 n.2 in

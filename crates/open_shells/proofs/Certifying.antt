@@ -10,7 +10,8 @@ use Rattle.solid_data.specs.Numbering.{IsNumberedSolid}
 use Rattle.solid_data.specs.Ring.{numbers_from}
 use Rattle.solid_data.specs.declared.solid.RowId.{RowId}
 use Rattle.solid_data.specs.declared.solid.Shell.{Shell}
-use Rattle.solid_data.proofs.Members.{Has, Has-from_Contains, Contains-from_Has, NoRepeat, no_longer, Rises, rises_none, All-at, has_map, map_has, from_flat_map}
+use Rattle.solid_data.proofs.Members.{Has, Has-from_Contains, Contains-from_Has, NoRepeat, no_longer, Rises, rises_none, All-at, has_map, map_has}
+use Rattle.solid_data.proofs.Members.{from_flat_map}
 use Rattle.solid_data.proofs.Occurring.{numbers_have, length-numbers}
 use Rattle.edge_uses.specs.ShellRows.{ShellRows, shell_rows}
 use Rattle.edge_uses.specs.RowRelations.{AreMates}
@@ -71,19 +72,31 @@ borders_few : (d : ShellRows) (cycles : List (List ℕ)) → AreBorderCycles d c
 borders_few d cycles h =
     let n : ℕ = length d.rows in
     let into : (y : ℕ) → Has (flat cycles) y → Has (numbers_from 0 n) y =
-    λ y m. let row = each_border d cycles h.each y m in let same : 0 + y ≡ y = omega arith in subst (Has (numbers_from 0 n)) same (numbers_have 0 n y (slice_get_within d.rows y row.0 row.1)) in
+    λ y m. let row = each_border d cycles h.each y m in let same : 0 + y ≡ y = omega arith in subst (Has (numbers_from 0 n)) same
+    (numbers_have 0 n y (slice_get_within d.rows y row.0 row.1)) in
     omega (arith, cycles_few d cycles h.each, no_longer (flat cycles) (numbers_from 0 n) h.apart into, length-numbers 0 n)
 
 -- as many rows are bordered as are the only ones of their edges
-flat_count : (d : ShellRows) (ls : List ℕ) (cycles : List (List ℕ)) → AreBorderCycles d cycles → LoneOk d [] ls → ((r : ℕ) → IsBorder d r → Has ls (suc r)) → length (flat cycles) ≡ length ls
+flat_count : (d : ShellRows) (ls : List ℕ) (cycles : List (List ℕ)) → AreBorderCycles d cycles → LoneOk d [] ls → ((r : ℕ) → IsBorder d r → Has ls (suc r))
+    → length (flat cycles) ≡ length ls
 flat_count d ls cycles h ok bordered =
-    let into : (x : ℕ) → Has (map suc (flat cycles)) x → Has ls x = λ x m. let k = has_map suc (flat cycles) x m in subst (Has ls) k.2 (bordered k.0 (each_border d cycles h.each k.0 k.1)) in
-    let back : (x : ℕ) → Has ls x → Has (map suc (flat cycles)) x = λ x m. let k = ok.each x m in subst (Has (map suc (flat cycles))) (sym k.2) (map_has suc (flat cycles) k.0 (h.all k.0 (k.1, k.3, k.4))) in
-    omega (arith, no_longer (map suc (flat cycles)) ls (none_suc (flat cycles) h.apart) into, no_longer ls (map suc (flat cycles)) ok.none back, length-map (flat cycles) suc)
+    let into : (x : ℕ) → Has (map suc (flat cycles)) x
+    → Has ls x = λ x m. let k = has_map suc (flat cycles) x m in subst (Has ls) k.2 (bordered k.0 (each_border d cycles h.each k.0 k.1)) in
+    let back : (x : ℕ) → Has ls x → Has (map suc (flat cycles)) x = λ x m. let k = ok.each x m in subst (Has (map suc (flat cycles))) (sym k.2)
+    (map_has suc (flat cycles) k.0 (h.all k.0 (k.1, k.3, k.4))) in
+    omega (
+      arith,
+      no_longer (map suc (flat cycles)) ls (none_suc (flat cycles) h.apart) into,
+      no_longer ls (map suc (flat cycles)) ok.none back,
+      length-map
+          (flat cycles) suc,
+    )
 
 -- The lines of a sound shell's parts fit, from the one on that names the shell.
-parts_follow : (s : SolidData) (h : Shell) (c : OpenCertificate) → IsNumberedSolid s → s.shells ≡ h ∷ [] → AreOnce (shell_of s) → IsSoundShell s h → AreListedParts (shell_of s) c.edges c.corners c.reach c.borders
-    → Follow s (shell s.entity.0 (length (shell_of s).rows) (length (shell_of s).edges) (length (shell_of s).vertices) (shell_of s).face_count (length c.borders) ∷ []) (map edge_line c.edges ++ (map corner_line c.corners ++ (map reach_line c.reach ++ (map border_line c.borders ++ end ∷ []))))
+parts_follow : (s : SolidData) (h : Shell) (c : OpenCertificate) → IsNumberedSolid s → s.shells ≡ h ∷ [] → AreOnce (shell_of s) → IsSoundShell s h
+    → AreListedParts (shell_of s) c.edges c.corners c.reach c.borders
+    → Follow s (shell s.entity.0 (length (shell_of s).rows) (length (shell_of s).edges) (length (shell_of s).vertices) (shell_of s).face_count
+    (length c.borders) ∷ []) (map edge_line c.edges ++ (map corner_line c.corners ++ (map reach_line c.reach ++ (map border_line c.borders ++ end ∷ []))))
 parts_follow s h c numbered alone once sound parts =
     let d : ShellRows = shell_of s in
     let b : ℕ = length c.borders in
@@ -96,26 +109,33 @@ parts_follow s h c numbered alone once sound parts =
     let border_lines : List OpenLine = map border_line c.borders ++ end ∷ [] in
     let reach_lines : List OpenLine = map reach_line c.reach ++ border_lines in
     let corner_lines : List OpenLine = map corner_line c.corners ++ reach_lines in
-    edges_go s b small corner_lines d.edges [] c.edges [] [] _ (shell_stage s b) (omega arith) (omega (arith, uses-all d.rows d.edges (rises_none d.edges edges_up) good.edges)) (any_above d.edges) edges_up parts.each_edge once.once
+    edges_go s b small corner_lines d.edges [] c.edges [] [] _ (shell_stage s b) (omega arith)
+    (omega (arith, uses-all d.rows d.edges (rises_none d.edges edges_up) good.edges)) (any_above d.edges) edges_up parts.each_edge once.once
     (record { none = tt; each = λ a m. absurd m }) (λ x m. inl m)
     (λ es ms ls lines stage edges_done ok listed.
     let mates : (r m : ℕ) → AreMates d r m → IsMate ms (suc r) (suc m) = listed_mates d ms ls once good listed in
     let bordered : (r : ℕ) → IsBorder d r → Has ls (suc r) = listed_border d ms ls good listed in
-    corners_go s b small es ms ls differ mates bordered edges_done reach_lines d.vertices [] c.corners lines stage (omega arith) (any_above d.vertices) vertices_up parts.each_vertex
+    corners_go s b small es ms ls differ mates bordered edges_done reach_lines d.vertices [] c.corners lines stage (omega arith) (any_above d.vertices)
+    vertices_up parts.each_vertex
     (λ vs lines' stage' corners_done.
-    reach_go s b small es vs ms ls mates edges_done corners_done border_lines c.reach (0 ∷ []) [] lines' stage' (omega (arith, parts.each_face.count, length-map c.reach (λ (r : RowId). r.0))) parts.each_face.order
+    reach_go s b small es vs ms ls mates edges_done corners_done border_lines c.reach (0 ∷ []) [] lines' stage'
+    (omega (arith, parts.each_face.count, length-map c.reach (λ (r : RowId). r.0))) parts.each_face.order
     (λ f m. Has-from_Contains (0 ∷ []) f m) (λ f m. Contains-from_Has (0 ∷ []) f m)
     (λ fs lines'' stage'' reach_done.
-    borders_go s b small es vs fs ms ls bordered edges_done corners_done reach_done (end ∷ []) c.borders [] [] lines'' stage'' (omega arith) parts.each_border.each (any_above (map suc (map first_in (map row_numbers c.borders)))) parts.each_border.rises
+    borders_go s b small es vs fs ms ls bordered edges_done corners_done reach_done (end ∷ []) c.borders [] [] lines'' stage'' (omega arith)
+    parts.each_border.each (any_above (map suc (map first_in (map row_numbers c.borders)))) parts.each_border.rises
     (λ bs rows lines''' stage''' borders_done size.
-    end_fits s lines''' b es vs fs bs ms ls rows stage''' edges_done corners_done reach_done borders_done (omega (arith, size, flat_count d ls (map row_numbers c.borders) parts.each_border ok bordered))))))
+    end_fits s lines''' b es vs fs bs ms ls rows stage''' edges_done corners_done reach_done borders_done
+    (omega (arith, size, flat_count d ls (map row_numbers c.borders) parts.each_border ok bordered))))))
 
 same_shell : (n r e c f n' r' e' c' f' b : ℕ) → n ≡ n' → r ≡ r' → e ≡ e' → c ≡ c' → f ≡ f' → shell n r e c f b ≡ shell n' r' e' c' f' b
 same_shell n r e c f n' r' e' c' f' b p q t u v =
-    ap (λ x. shell x r e c f b) p ∙ (ap (λ x. shell n' x e c f b) q ∙ (ap (λ x. shell n' r' x c f b) t ∙ (ap (λ x. shell n' r' e' x f b) u ∙ ap (λ x. shell n' r' e' c' x b) v)))
+    ap (λ x. shell x r e c f b) p
+    ∙ (ap (λ x. shell n' x e c f b) q ∙ (ap (λ x. shell n' r' x c f b) t ∙ (ap (λ x. shell n' r' e' x f b) u ∙ ap (λ x. shell n' r' e' c' x b) v)))
 
 -- Parts of a sound shell make a certificate.
-pub certificate_made : (s : SolidData) (h : Shell) (c : OpenCertificate) → IsNumberedSolid s → s.shells ≡ h ∷ [] → AreOnce (shell_of s) → AllHold (open_obligations s) → AreListedParts (shell_of s) c.edges c.corners c.reach c.borders
+pub certificate_made : (s : SolidData) (h : Shell) (c : OpenCertificate) → IsNumberedSolid s → s.shells ≡ h ∷ [] → AreOnce (shell_of s)
+    → AllHold (open_obligations s) → AreListedParts (shell_of s) c.edges c.corners c.reach c.borders
     → c.shell ≡ s.entity → c.rows ≡ length (shell_of s).rows → c.faces ≡ (shell_of s).face_count → IsOpenCertificate s c
 unfolding IsOpenLegal
 certificate_made s h c numbered alone once all parts names rows faces =
@@ -127,9 +147,12 @@ certificate_made s h c numbered alone once all parts names rows faces =
     let rest : List OpenLine = map edge_line c.edges ++ (map corner_line c.corners ++ (map reach_line c.reach ++ (map border_line c.borders ++ end ∷ []))) in
     let same : shell s.entity.0 (length d.rows) (length d.edges) (length d.vertices) d.face_count b ≡ shell_line c =
     same_shell s.entity.0 (length d.rows) (length d.edges) (length d.vertices) d.face_count c.shell.0 c.rows (length c.edges) (length c.corners) c.faces b
-    (ap (λ (x : EntryNo). x.0) (sym names)) (sym rows) (zip_length _ d.edges c.edges parts.each_edge) (zip_length _ d.vertices c.corners parts.each_vertex) (sym faces) in
-    let short : HasSpelling (shell s.entity.0 (length d.rows) (length d.edges) (length d.vertices) d.face_count b) = ((numbered.number, (omega (arith, small.rows), (small.edges, (small.vertices, (small.faces, (omega (arith, few, small.rows), tt)))))), tt) in
-    let whole : Follow s [] (further_lines c) = subst (λ l. Follow s [] (l ∷ rest)) same (short, shell_fits s b, parts_follow s h c numbered alone once sound parts) in
+    (ap (λ (x : EntryNo). x.0) (sym names)) (sym rows) (zip_length _ d.edges c.edges parts.each_edge) (zip_length _ d.vertices c.corners parts.each_vertex)
+    (sym faces) in
+    let short : HasSpelling (shell s.entity.0 (length d.rows) (length d.edges) (length d.vertices) d.face_count b) =
+    ((numbered.number, (omega (arith, small.rows), (small.edges, (small.vertices, (small.faces, (omega (arith, few, small.rows), tt)))))), tt) in
+    let whole : Follow s [] (further_lines c) =
+    subst (λ l. Follow s [] (l ∷ rest)) same (short, shell_fits s b, parts_follow s h c numbered alone once sound parts) in
     record {
       names = names;
       spelled = ((tt, tt), follow_spelled s [] (further_lines c) whole);
@@ -137,7 +160,8 @@ certificate_made s h c numbered alone once all parts names rows faces =
     }
 
 -- A certificate is accepted.
-pub certificate_accepted : (s : SolidData) (h : Shell) (c : OpenCertificate) → s.shells ≡ h ∷ [] → AllHold (open_obligations s) → IsOpenCertificate s c → IsOpenAccepted s (text_of (open_lines c))
+pub certificate_accepted : (s : SolidData) (h : Shell) (c : OpenCertificate) → s.shells ≡ h ∷ [] → AllHold (open_obligations s) → IsOpenCertificate s c
+    → IsOpenAccepted s (text_of (open_lines c))
 certificate_accepted s h c alone all made = record {
   first = spelling head;
   rest = map spelling (further_lines c);

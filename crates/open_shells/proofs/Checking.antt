@@ -30,7 +30,8 @@ next_number : (s : SolidData) (lines : List OpenLine) (line : OpenLine) → (sta
 unfolding stand_from_latest
 next_number s lines line = omega arith
 
-still_open : (s : SolidData) (lines : List OpenLine) (line : OpenLine) → IsOngoing line → (stand_from_latest s (line ∷ lines)).ended ≡ (stand_from_latest s lines).ended
+still_open : (s : SolidData) (lines : List OpenLine) (line : OpenLine) → IsOngoing line → (stand_from_latest s (line ∷ lines)).ended
+    ≡ (stand_from_latest s lines).ended
 unfolding stand_from_latest
 still_open s lines head h = refl
 still_open s lines (shell n a b c d e) h = refl
@@ -46,7 +47,8 @@ still_open s lines end h = absurd h
 abbrev pub with_line : KeptChecker → KeptOpen → ℕ → KeptChecker
 with_line old k n = record old { number = n; shell = k }
 
-pub line_taken : (old : KeptChecker) (new : KeptOpen) (line : OpenLine) (n : ℕ) → old.ended ≡ false → IsOngoing line → Takes old.shell new line true → n ≡ old.number + 1 → TakesLine old (with_line old new n) line true
+pub line_taken : (old : KeptChecker) (new : KeptOpen) (line : OpenLine) (n : ℕ) → old.ended ≡ false → IsOngoing line → Takes old.shell new line true
+    → n ≡ old.number + 1 → TakesLine old (with_line old new n) line true
 line_taken old new line n going kind takes more lines at =
     let s : SolidData = old.solid in
     let r = takes s lines at.shell in (
@@ -91,7 +93,9 @@ now_ended s lines = refl
 abbrev pub with_end : KeptChecker → ℕ → KeptChecker
 with_end old n = record old { number = n; ended = true }
 
-pub end_comes : (old : KeptChecker) (n : ℕ) → old.ended ≡ false → ((s : SolidData) (lines : List OpenLine) → MatchesLines s lines old.shell → IsDone (stand_from_latest s lines)) → n ≡ old.number + 1 → TakesLine old (with_end old n) end true
+pub end_comes : (old : KeptChecker) (n : ℕ) → old.ended ≡ false
+    → ((s : SolidData) (lines : List OpenLine) → MatchesLines s lines old.shell → IsDone (stand_from_latest s lines)) → n ≡ old.number + 1
+    → TakesLine old (with_end old n) end true
 end_comes old n going done more lines at =
     let s : SolidData = old.solid in
     let d = done s lines at.shell in (
@@ -104,7 +108,8 @@ end_comes old n going done more lines at =
       },
     )
 
-pub end_refused : (old new : KeptChecker) → ((s : SolidData) (lines : List OpenLine) → MatchesLines s lines old.shell → IsDone (stand_from_latest s lines) → ⊥) → TakesLine old new end false
+pub end_refused : (old new : KeptChecker) → ((s : SolidData) (lines : List OpenLine) → MatchesLines s lines old.shell → IsDone (stand_from_latest s lines) → ⊥)
+    → TakesLine old new end false
 end_refused old new never lines at fits = never old.solid lines at.shell fits.1
 
 first_number : (s : SolidData) → (stand_from_latest s []).number ≡ 2
@@ -116,7 +121,8 @@ unfolding stand_from_latest
 first_open s = refl
 
 pub begins : (c : KeptChecker) → c.failed ≡ None → c.number ≡ 2 → c.ended ≡ false → MatchesLines c.solid [] c.shell → IsAt c []
-begins c legal number ended tells = record { legal = legal; number = number ∙ sym (first_number c.solid); ended = ended ∙ sym (first_open c.solid); shell = tells }
+begins c legal number ended tells =
+    record { legal = legal; number = number ∙ sym (first_number c.solid); ended = ended ∙ sym (first_open c.solid); shell = tells }
 
 -- an open shell's solid has its first shell
 pub one_shell : (s : SolidData) → IsOpenShell s → 0 < length s.shells

@@ -16,7 +16,8 @@ use Rattle.open_shells.proofs.Fans.{both_ways_counted}
 
 -- one cycle is one fan
 linked_fanned : (d : ShellRows) (v : ℕ) → IsLinked d v → IsFanned d v
-linked_fanned d v (inl corner) = inl (record { some = corner.some; one_fan = λ r s at_r at_s. inl (corner.one_cycle r s at_r at_s); no_point = corner.no_point })
+linked_fanned d v (inl corner) =
+    inl (record { some = corner.some; one_fan = λ r s at_r at_s. inl (corner.one_cycle r s at_r at_s); no_point = corner.no_point })
 linked_fanned d v (inr point) = inr point
 
 -- an edge that two rows have has no border row

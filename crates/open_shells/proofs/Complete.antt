@@ -32,7 +32,8 @@ once_of s h numbered alone sound = record {
   once = sound.once;
 }
 
-pub has_certificate : (s : SolidData) (h : Shell) → IsNumberedSolid s → s.shells ≡ h ∷ [] → AllHold (open_obligations s) → (certificate : List ℕ) × IsOpenAccepted s certificate
+pub has_certificate : (s : SolidData) (h : Shell) → IsNumberedSolid s → s.shells ≡ h ∷ [] → AllHold (open_obligations s)
+    → (certificate : List ℕ) × IsOpenAccepted s certificate
 has_certificate s h numbered alone all =
     let sound : IsSoundShell s h = shell_from_hold s h alone all in
     let d : ShellRows = shell_rows s h in
@@ -42,11 +43,24 @@ has_certificate s h numbered alone all =
     let corners = corners_made d whole d.vertices sound.fanned in
     let reach = reach_made d whole (subst (λ n. AllByRecursion (IsReached d) (numbers_from 0 n)) (sym (faces_of_rows s h)) sound.reached) in
     let borders = borders_made d whole sound.fanned in
-    let parts : AreListedParts d edges.0 corners.0 reach.0 borders.0 = record { each_edge = edges.1; each_vertex = corners.1; each_face = reach.1; each_border = borders.1 } in
-    let c : OpenCertificate = record { shell = s.entity; rows = length (shell_of s).rows; edges = edges.0; corners = corners.0; faces = (shell_of s).face_count; reach = reach.0; borders = borders.0 } in
-    let made = certificate_made s h c numbered alone (subst AreOnce back whole) all (subst (λ x. AreListedParts x edges.0 corners.0 reach.0 borders.0) back parts) refl refl refl in
+    let parts : AreListedParts d edges.0 corners.0 reach.0 borders.0 =
+    record { each_edge = edges.1; each_vertex = corners.1; each_face = reach.1; each_border = borders.1 } in
+    let c : OpenCertificate =
+    record {
+      shell = s.entity;
+      rows = length (shell_of s).rows;
+      edges = edges.0;
+      corners = corners.0;
+      faces = (shell_of s).face_count;
+      reach =
+          reach.0;
+      borders = borders.0;
+    } in
+    let made = certificate_made s h c numbered alone (subst AreOnce back whole) all
+    (subst (λ x. AreListedParts x edges.0 corners.0 reach.0 borders.0) back parts) refl refl refl in
     (text_of (open_lines c), certificate_accepted s h c alone all made)
 
 -- A solid that is one open shell is sound exactly where some certificate is accepted for it.
 pub sound_exactly : SoundExactlyWhereAccepted
-sound_exactly s numbered open_shell = ((λ all. has_certificate s open_shell.shell numbered open_shell.alone all), (λ a. accepted_is_sound s a.0 numbered open_shell a.1))
+sound_exactly s numbered open_shell =
+    ((λ all. has_certificate s open_shell.shell numbered open_shell.alone all), (λ a. accepted_is_sound s a.0 numbered open_shell a.1))

@@ -1,5 +1,6 @@
 -- The walk round a vertex, from the row where its path begins or from its least row, passes each row once, or the vertex has no fan.
-use Rattle.std.specs.Prelude.{◌≡◌, ◌≢◌, ◌<◌, ◌≤◌, ◌+◌, ◌==◌, ◌⊎◌, ℕ, zero, suc, Bool, true, false, List, [], ◌∷◌, ◌++◌, length, slice_get, Option, Some, None, count_by, IsTrue, MatchOption}
+use Rattle.std.specs.Prelude.{◌≡◌, ◌≢◌, ◌<◌, ◌≤◌, ◌+◌, ◌==◌, ◌⊎◌, ℕ, zero, suc, Bool, true, false, List, [], ◌∷◌, ◌++◌, length, slice_get, Option, Some, None}
+use Rattle.std.specs.Prelude.{count_by, IsTrue, MatchOption}
 use Rattle.std.proofs.Common.{refl, sym, ◌∙◌, ap, subst, arith, inl, inr, ⊎_elim, length-append}
 use Rattle.std.proofs.lemmas.Option.{same_Some}
 use Rattle.solid_data.specs.Chain.{Steps, LeadsTo}
@@ -89,7 +90,8 @@ pub trail_more : (R : ℕ → ℕ → Type 0) (x : ℕ) (xs : List ℕ) (y z : �
 trail_more R x [] y z t r = (t, r)
 trail_more R x (w ∷ ws) y z t r = (t.0, trail_more R w ws y z t.1 r)
 
-pub walked_more : (d : ShellRows) (first : ℕ) (rs : List ℕ) (at y : ℕ) → Walked d first rs at → (0 < length rs → at ≡ first → ⊥) → Turns d at y → Walked d first (rs ++ at ∷ []) y
+pub walked_more : (d : ShellRows) (first : ℕ) (rs : List ℕ) (at y : ℕ) → Walked d first rs at → (0 < length rs → at ≡ first → ⊥) → Turns d at y
+    → Walked d first (rs ++ at ∷ []) y
 walked_more d first [] at y w ne t = (w, subst (λ x. Turns d x y) w t, (λ h. h))
 walked_more d first (x ∷ xs) at y w ne t = (w.0, trail_more (Turns d) first xs at y w.1 t, (λ h. ⊎_elim w.2 (ne (omega arith)) (has_last xs at first h)))
 
@@ -102,7 +104,8 @@ prev_on R x (v ∷ vs) z t y (inl (inr m)) = let k = prev_on R v vs z t.1 y (inl
 prev_on R x (v ∷ vs) z t y (inr e) = let k = prev_on R v vs z t.1 y (inr e) in (k.0, k.1, inr k.2)
 
 -- what leads to an element of a trail that comes back is on the trail
-back_on_trail : (R : ℕ → ℕ → Type 0) → ((x y z : ℕ) → R x z → R y z → x ≡ y) → (r : ℕ) (rs : List ℕ) → Trail R r rs r → (n a x : ℕ) → Has (r ∷ rs) x → Steps R n a x → Has (r ∷ rs) a
+back_on_trail : (R : ℕ → ℕ → Type 0) → ((x y z : ℕ) → R x z → R y z → x ≡ y) → (r : ℕ) (rs : List ℕ) → Trail R r rs r → (n a x : ℕ) → Has (r ∷ rs) x
+    → Steps R n a x → Has (r ∷ rs) a
 back_on_trail R apart r rs t zero a x m e = subst (Has (r ∷ rs)) (sym e) m
 back_on_trail R apart r rs t (suc n) a x m (c, s, rest) =
     let there : Has (r ∷ rs) c = back_on_trail R apart r rs t n c x m rest in
@@ -110,7 +113,8 @@ back_on_trail R apart r rs t (suc n) a x m (c, s, rest) =
     subst (Has (r ∷ rs)) (apart k.0 a c k.1 s) k.2
 
 -- what leads to an element of a chain is on the chain, where nothing leads to the first
-back_on_chain : (R : ℕ → ℕ → Type 0) → ((x y z : ℕ) → R x z → R y z → x ≡ y) → (r : ℕ) (rs : List ℕ) → IsChain R r rs → ((t : ℕ) → R t r → ⊥) → (n a x : ℕ) → Has (r ∷ rs) x → Steps R n a x → Has (r ∷ rs) a
+back_on_chain : (R : ℕ → ℕ → Type 0) → ((x y z : ℕ) → R x z → R y z → x ≡ y) → (r : ℕ) (rs : List ℕ) → IsChain R r rs → ((t : ℕ) → R t r → ⊥) → (n a x : ℕ)
+    → Has (r ∷ rs) x → Steps R n a x → Has (r ∷ rs) a
 back_on_chain R apart r rs c head zero a x m e = subst (Has (r ∷ rs)) (sym e) m
 back_on_chain R apart r rs c head (suc n) a x m (y, s, rest) = by_place (back_on_chain R apart r rs c head n y x m rest)
   where
@@ -123,21 +127,25 @@ back_on_chain R apart r rs c head (suc n) a x m (y, s, rest) = by_place (back_on
     by_place (inl e) = absurd (head a (subst (R a) (sym e) s))
     by_place (inr m) = let p = prev r rs c m in subst (Has (r ∷ rs)) (apart p.0 a y p.1 s) p.2
 
-pub each_on : (d : ShellRows) → AreOnce d → (v first : ℕ) (xs : List ℕ) (z : ℕ) → Trail (Turns d) first xs z → StartsAt d v first → (y : ℕ) → Has (first ∷ xs) y → StartsAt d v y
+pub each_on : (d : ShellRows) → AreOnce d → (v first : ℕ) (xs : List ℕ) (z : ℕ) → Trail (Turns d) first xs z → StartsAt d v first → (y : ℕ)
+    → Has (first ∷ xs) y → StartsAt d v y
 each_on d whole v first xs z t start y (inl e) = subst (StartsAt d v) e start
 each_on d whole v first xs z t start y (inr h) = trail_keeps (Turns d) (StartsAt d v) (λ a b. turn_same d whole v a b) first xs z t start y h
 
 -- The walk came back too early.
-pub back_early : (d : ShellRows) (v first count : ℕ) (rs : List ℕ) (at : ℕ) → AreOnce d → StartsAt d v first → count ≡ count_by (λ (r : Row). r.from.0 == v) d.rows → 0 < length rs → length rs < count → at ≡ first → Walked d first rs at → IsFan d v → ⊥
+pub back_early : (d : ShellRows) (v first count : ℕ) (rs : List ℕ) (at : ℕ) → AreOnce d → StartsAt d v first
+    → count ≡ count_by (λ (r : Row). r.from.0 == v) d.rows → 0 < length rs → length rs < count → at ≡ first → Walked d first rs at → IsFan d v → ⊥
 back_early d v first count [] at whole start counted some early back w fan = omega (arith, some)
 back_early d v first count (x ∷ xs) at whole start counted some early back w fan =
     let t : Trail (Turns d) first xs first = subst (λ y. Trail (Turns d) first xs y) back w.1 in
     let into : (y : ℕ) → StartsAt d v y → Has (first ∷ xs) y =
-    λ y at_y. ⊎_elim (λ c. on_trail (Turns d) (turn_one d whole) first xs t c.0 first y (inl refl) c.1) (λ c. back_on_trail (Turns d) (turn_apart d whole) first xs t c.0 y first (inl refl) c.1) (fan.one_fan first y start at_y) in
+    λ y at_y. ⊎_elim (λ c. on_trail (Turns d) (turn_one d whole) first xs t c.0 first y (inl refl) c.1)
+    (λ c. back_on_trail (Turns d) (turn_apart d whole) first xs t c.0 y first (inl refl) c.1) (fan.one_fan first y start at_y) in
     too_few d v (first ∷ xs) into (omega (arith, early, counted, counted_rows d v))
 
 -- A trail read from its end.
-pub trail_back : (R : ℕ → ℕ → Type 0) (x : ℕ) (xs : List ℕ) (z : ℕ) → Trail R x xs z → (ys : List ℕ) × Trail (λ a b. R b a) z ys x × (length ys ≡ length xs) × ((y : ℕ) → Has ys y → Has xs y)
+pub trail_back : (R : ℕ → ℕ → Type 0) (x : ℕ) (xs : List ℕ) (z : ℕ) → Trail R x xs z → (ys : List ℕ) × Trail (λ a b. R b a) z ys x × (length ys ≡ length xs)
+    × ((y : ℕ) → Has ys y → Has xs y)
 trail_back R x [] z t = ([], t, refl, (λ y m. m))
 trail_back R x (w ∷ ws) z t =
     let k = trail_back R w ws z t.1 in (
@@ -148,18 +156,22 @@ trail_back R x (w ∷ ws) z t =
     )
 
 -- The walk did not come back after as many turns as there are rows: that can't be.
-pub not_back : (d : ShellRows) (v first count : ℕ) (rs : List ℕ) (at : ℕ) → AreOnce d → StartsAt d v first → count ≡ count_by (λ (r : Row). r.from.0 == v) d.rows → 0 < count → length rs ≡ count → (at ≡ first → ⊥) → StartsAt d v at → Walked d first rs at → ⊥
+pub not_back : (d : ShellRows) (v first count : ℕ) (rs : List ℕ) (at : ℕ) → AreOnce d → StartsAt d v first
+    → count ≡ count_by (λ (r : Row). r.from.0 == v) d.rows → 0 < count → length rs ≡ count → (at ≡ first → ⊥) → StartsAt d v at → Walked d first rs at → ⊥
 not_back d v first count [] at whole start counted some long away at_v w = omega (arith, some, long)
 not_back d v first count (x ∷ xs) at whole start counted some long away at_v w =
     let k = trail_back (Turns d) first xs at w.1 in
     let none : NoRepeat (at ∷ k.0) = no_repeat (λ a b. Turns d b a) (λ a b c p q. turn_apart d whole b c a p q) at k.0 first k.1 (λ h. w.2 (k.3 first h)) in
     let apart : NoRepeat (first ∷ at ∷ k.0) = ((λ h. ⊎_elim away (λ m. w.2 (k.3 first m)) h), none) in
     too_many d v (first ∷ at ∷ k.0) apart
-    (λ y m. ⊎_elim (λ e. subst (StartsAt d v) e start) (λ j. ⊎_elim (λ e. subst (StartsAt d v) e at_v) (λ h. each_on d whole v first xs at w.1 start y (inr (k.3 y h))) j) m)
+    (λ y m. ⊎_elim (λ e. subst (StartsAt d v) e start)
+    (λ j. ⊎_elim (λ e. subst (StartsAt d v) e at_v) (λ h. each_on d whole v first xs at w.1 start y (inr (k.3 y h))) j) m)
     (omega (arith, long, counted, counted_rows d v, k.2))
 
 -- The walk came back with all rows of the vertex.
-pub back_in_time : (d : ShellRows) (v first count : ℕ) (rs : List ℕ) (at : ℕ) → AreOnce d → StartsAt d v first → ((x : ℕ) → StartsAt d v x → first ≤ x) → count ≡ count_by (λ (r : Row). r.from.0 == v) d.rows → 0 < count → length rs ≡ count → at ≡ first → Walked d first rs at → point_count d v ≡ 0 → IsCycleOf d v rs × IsFan d v
+pub back_in_time : (d : ShellRows) (v first count : ℕ) (rs : List ℕ) (at : ℕ) → AreOnce d → StartsAt d v first → ((x : ℕ) → StartsAt d v x → first ≤ x)
+    → count ≡ count_by (λ (r : Row). r.from.0 == v) d.rows → 0 < count → length rs ≡ count → at ≡ first → Walked d first rs at → point_count d v ≡ 0
+    → IsCycleOf d v rs × IsFan d v
 back_in_time d v first count [] at whole start least counted some long back w none = absurd (omega (arith, some, long))
 back_in_time d v first count (x ∷ xs) at whole start least counted some long back w none = (subst (λ y. IsCycle d v y xs) (sym w.0) cycle, fan)
   where
@@ -173,7 +185,8 @@ back_in_time d v first count (x ∷ xs) at whole start least counted some long b
     apart = no_repeat (Turns d) (turn_one d whole) first xs first t w.2
 
     all : (y : ℕ) → StartsAt d v y → Has (first ∷ xs) y
-    all y at_y = covers (first ∷ xs) (rows_at d v) apart (λ z h. at_listed d v z (each z h)) (omega (arith, long, counted, counted_rows d v)) y (at_listed d v y at_y)
+    all y at_y = covers (first ∷ xs) (rows_at d v) apart (λ z h. at_listed d v z (each z h)) (omega (arith, long, counted, counted_rows d v)) y
+        (at_listed d v y at_y)
 
     cycle : IsCycle d v first xs
     cycle = record {
@@ -197,7 +210,8 @@ back_in_time d v first count (x ∷ xs) at whole start least counted some long b
     }
 
 -- A chain to a row, of any length, where a row turns to each.
-chain_before : (d : ShellRows) (v b : ℕ) → AreOnce d → ((x : ℕ) → StartsAt d v x → (t : ℕ) × Turns d t x) → StartsAt d v b → (n : ℕ) → (x : ℕ) × (xs : List ℕ) × IsChain (Turns d) x xs × (last_of x xs ≡ b) × (length xs ≡ n) × ((y : ℕ) → Has (x ∷ xs) y → StartsAt d v y)
+chain_before : (d : ShellRows) (v b : ℕ) → AreOnce d → ((x : ℕ) → StartsAt d v x → (t : ℕ) × Turns d t x) → StartsAt d v b → (n : ℕ)
+    → (x : ℕ) × (xs : List ℕ) × IsChain (Turns d) x xs × (last_of x xs ≡ b) × (length xs ≡ n) × ((y : ℕ) → Has (x ∷ xs) y → StartsAt d v y)
 chain_before d v b whole each start zero = (b, [], tt, refl, refl, (λ y m. ⊎_elim (λ e. subst (StartsAt d v) e start) (λ h. absurd h) m))
 chain_before d v b whole each start (suc n) =
     let k = chain_before d v b whole each start n in
@@ -215,7 +229,8 @@ chain_before d v b whole each start (suc n) =
 no_border : (d : ShellRows) (v b : ℕ) → AreOnce d → ((x : ℕ) → StartsAt d v x → (t : ℕ) × Turns d t x) → StartsAt d v b → IsBorder d b → ⊥
 no_border d v b whole each start border =
     let k = chain_before d v b whole each start (length (rows_at d v)) in
-    let none : NoRepeat (k.0 ∷ k.1) = chain_no_repeat (Turns d) (turn_one d whole) k.0 k.1 k.2 (λ w t. border_stuck d b w border (subst (λ y. Turns d y w) k.3 t)) in
+    let none : NoRepeat (k.0 ∷ k.1) =
+    chain_no_repeat (Turns d) (turn_one d whole) k.0 k.1 k.2 (λ w t. border_stuck d b w border (subst (λ y. Turns d y w) k.3 t)) in
     too_many d v (k.0 ∷ k.1) none k.5 (omega (arith, k.4))
 
 -- the chain of the rows passed so far, and of the row at hand
@@ -223,7 +238,8 @@ chain_of_walk : (R : ℕ → ℕ → Type 0) (x : ℕ) (xs : List ℕ) (z : ℕ)
 chain_of_walk R x [] z t = ((t, tt), refl)
 chain_of_walk R x (w ∷ ws) z t = let k = chain_of_walk R w ws z t.1 in ((t.0, k.0), k.1)
 
-walked_chain : (d : ShellRows) (first : ℕ) (rs : List ℕ) (at : ℕ) → Walked d first rs at → (xs : List ℕ) × (rs ++ at ∷ [] ≡ first ∷ xs) × IsChain (Turns d) first xs × (last_of first xs ≡ at)
+walked_chain : (d : ShellRows) (first : ℕ) (rs : List ℕ) (at : ℕ) → Walked d first rs at → (xs : List ℕ) × (rs ++ at ∷ [] ≡ first ∷ xs)
+    × IsChain (Turns d) first xs × (last_of first xs ≡ at)
 walked_chain d first [] at w = ([], ap (λ y. y ∷ []) w, tt, sym w)
 walked_chain d first (x ∷ xs) at w = let k = chain_of_walk (Turns d) first xs at w.1 in (xs ++ at ∷ [], ap (λ y. y ∷ (xs ++ at ∷ [])) w.0, k.0, k.1)
 
@@ -233,7 +249,9 @@ chain_keeps d whole v x [] c start y (inr m) = absurd m
 chain_keeps d whole v x (w ∷ ws) c start y (inr m) = chain_keeps d whole v w ws c.1 (turn_same d whole v x w c.0 start) y m
 
 -- The walk came to a border row, with all rows of the vertex.
-pub path_whole : (d : ShellRows) (v first count : ℕ) (rs all : List ℕ) (at : ℕ) → AreOnce d → StartsAt d v first → count ≡ count_by (λ (r : Row). r.from.0 == v) d.rows → length rs + 1 ≡ count → IsBorder d at → Walked d first rs at → all ≡ rs ++ at ∷ [] → point_count d v ≡ 0 → IsPathOf d v all × IsFan d v
+pub path_whole : (d : ShellRows) (v first count : ℕ) (rs all : List ℕ) (at : ℕ) → AreOnce d → StartsAt d v first
+    → count ≡ count_by (λ (r : Row). r.from.0 == v) d.rows → length rs + 1 ≡ count → IsBorder d at → Walked d first rs at → all ≡ rs ++ at ∷ []
+    → point_count d v ≡ 0 → IsPathOf d v all × IsFan d v
 path_whole d v first count rs all at whole start counted long border w is_all none = (subst (IsPathOf d v) (sym (is_all ∙ k.1)) path, fan)
   where
     k : (xs : List ℕ) × (rs ++ at ∷ [] ≡ first ∷ xs) × IsChain (Turns d) first xs × (last_of first xs ≡ at)
@@ -249,10 +267,18 @@ path_whole d v first count rs all at whole start counted long border w is_all no
     apart = chain_no_repeat (Turns d) (turn_one d whole) first k.0 k.2 (λ y t. border_stuck d at y border (subst (λ z. Turns d z y) k.3 t))
 
     all_in : (y : ℕ) → StartsAt d v y → Has (first ∷ k.0) y
-    all_in y at_y = covers (first ∷ k.0) (rows_at d v) apart (λ z h. at_listed d v z (each z h)) (omega (arith, many, counted, counted_rows d v)) y (at_listed d v y at_y)
+    all_in y at_y = covers (first ∷ k.0) (rows_at d v) apart (λ z h. at_listed d v z (each z h)) (omega (arith, many, counted, counted_rows d v)) y
+        (at_listed d v y at_y)
 
     path : IsPath d v first k.0
-    path = record { starts = All-from (StartsAt d v) (first ∷ k.0) each; once = omega (arith, many, counted); turns = k.2; ends = subst (IsBorder d) (sym k.3) border; no_point = none }
+    path = record {
+      starts = All-from (StartsAt d v) (first ∷ k.0) each;
+      once = omega (arith, many, counted);
+      turns = k.2;
+      ends =
+          subst (IsBorder d) (sym k.3) border;
+      no_point = none;
+    }
 
     fan : IsFan d v
     fan = record { some = (first, start); one_fan = λ a b at_a at_b. chain_leads (Turns d) first k.0 k.2 a b (all_in a at_a) (all_in b at_b); no_point = none }
@@ -268,7 +294,9 @@ Begins d v None first = (x : ℕ) → StartsAt d v x → first ≤ x
 Begins d v (Some h) first = h ≡ first
 
 -- The walk came to a border row too early.
-pub path_short : (d : ShellRows) (v first count : ℕ) (head : Option ℕ) (rs : List ℕ) (at : ℕ) → AreOnce d → StartsAt d v first → IsHeadOf d v head → Begins d v head first → count ≡ count_by (λ (r : Row). r.from.0 == v) d.rows → length rs + 1 < count → IsBorder d at → StartsAt d v at → Walked d first rs at → IsFan d v → ⊥
+pub path_short : (d : ShellRows) (v first count : ℕ) (head : Option ℕ) (rs : List ℕ) (at : ℕ) → AreOnce d → StartsAt d v first → IsHeadOf d v head
+    → Begins d v head first → count ≡ count_by (λ (r : Row). r.from.0 == v) d.rows → length rs + 1 < count → IsBorder d at → StartsAt d v at
+    → Walked d first rs at → IsFan d v → ⊥
 path_short d v first count None rs at whole start head begins counted short border at_v w fan = no_border d v at whole head at_v border
 path_short d v first count (Some h) rs at whole start head begins counted short border at_v w fan =
     let k = walked_chain d first rs at w in
@@ -276,7 +304,8 @@ path_short d v first count (Some h) rs at whole start head begins counted short 
     let last_in : Has (first ∷ k.0) at = subst (Has (first ∷ k.0)) k.3 (has_end first k.0) in
     let into : (y : ℕ) → StartsAt d v y → Has (first ∷ k.0) y =
     λ y at_y. ⊎_elim (λ c. subst (Has (first ∷ k.0)) (stays d at y border c) last_in)
-    (λ c. back_on_chain (Turns d) (turn_apart d whole) first k.0 k.2 (λ t r. head.1 t (subst (Turns d t) (sym begins) r)) c.0 y at last_in c.1) (fan.one_fan at y at_v at_y) in
+    (λ c. back_on_chain (Turns d) (turn_apart d whole) first k.0 k.2 (λ t r. head.1 t (subst (Turns d t) (sym begins) r)) c.0 y at last_in c.1)
+    (fan.one_fan at y at_v at_y) in
     too_few d v (first ∷ k.0) into (omega (arith, many, short, counted, counted_rows d v))
   where
     has_end : (x : ℕ) (xs : List ℕ) → Has (x ∷ xs) (last_of x xs)
@@ -284,14 +313,16 @@ path_short d v first count (Some h) rs at whole start head begins counted short 
     has_end x (y ∷ ys) = inr (has_end y ys)
 
 -- A walk that came back has begun at the least row.
-pub back_least : (d : ShellRows) (v first : ℕ) (head : Option ℕ) (rs : List ℕ) (at : ℕ) → IsHeadOf d v head → Begins d v head first → 0 < length rs → at ≡ first → Walked d first rs at → (x : ℕ) → StartsAt d v x → first ≤ x
+pub back_least : (d : ShellRows) (v first : ℕ) (head : Option ℕ) (rs : List ℕ) (at : ℕ) → IsHeadOf d v head → Begins d v head first → 0 < length rs
+    → at ≡ first → Walked d first rs at → (x : ℕ) → StartsAt d v x → first ≤ x
 back_least d v first None rs at head begins some back w = begins
 back_least d v first (Some h) [] at head begins some back w = absurd (omega (arith, some))
 back_least d v first (Some h) (x ∷ xs) at head begins some back w =
     let k = prev_on (Turns d) first xs at w.1 at (inr refl) in
     absurd (head.1 k.0 (subst (Turns d k.0) (back ∙ sym begins) k.1))
 
-pub begin_starts : (d : ShellRows) (v : ℕ) (m : Starts) (head : Option ℕ) (first : ℕ) → AreStarts d v m → 0 < m.count → IsHeadOf d v head → (head ≡ None → first ≡ m.first) → ((h : ℕ) → head ≡ Some h → first ≡ h) → StartsAt d v first × Begins d v head first
+pub begin_starts : (d : ShellRows) (v : ℕ) (m : Starts) (head : Option ℕ) (first : ℕ) → AreStarts d v m → 0 < m.count → IsHeadOf d v head
+    → (head ≡ None → first ≡ m.first) → ((h : ℕ) → head ≡ Some h → first ≡ h) → StartsAt d v first × Begins d v head first
 begin_starts d v m None first starts some head at_none at_some =
     let e = at_none refl in
     (subst (StartsAt d v) (sym e) (starts.first some), λ x at. (let low = (starts.least x at).1 in omega (arith, low, e)))

@@ -15,7 +15,8 @@ use Rattle.edge_uses.proofs.Turn.{not-not, one_of_edge}
 use Rattle.edge_uses.proofs.RowNumbers.{starting, length-starting}
 use Rattle.edge_uses.proofs.Counting.{counted, counts_of_edge}
 use Rattle.topo_certificate.specs.Stand.{Stand, row_named, row_start, FollowsAsNamed, TurnsTo, FitsCorner}
-use Rattle.topo_certificate.proofs.Corner.{AreNamedMates, MatesHold, mates_named, chain_unnamed, StartsNamed, start_of_row, turn_start_by, turns_row, corner_starts, follows_one, starts_listed, above_least}
+use Rattle.topo_certificate.proofs.Corner.{AreNamedMates, MatesHold, mates_named, chain_unnamed, StartsNamed, start_of_row, turn_start_by, turns_row}
+use Rattle.topo_certificate.proofs.Corner.{corner_starts, follows_one, starts_listed, above_least}
 use Rattle.open_shells.specs.Sound.{IsOnce, IsFan, row_total}
 use Rattle.open_shells.specs.Stand.{OpenStand, IsChain, last_of, FitsPath}
 use Rattle.open_shells.proofs.Once.{OnceRows, way_one, total_uses}
@@ -38,7 +39,9 @@ one_mate_of d once r m k a b =
     let edge_b : b.mate.edge.0 ≡ a.row.edge.0 = ap (λ (e : EdgeId). e.0) (sym b.one_edge ∙ sym (ap (λ (x : Row). x.edge) same)) in
     let way_a : a.mate.along ≡ not a.row.along = not-not a.row.along a.mate.along a.opposite in
     let way_b : b.mate.along ≡ not a.row.along = not-not b.row.along b.mate.along b.opposite ∙ ap not (sym (ap (λ (x : Row). x.along) same)) in
-    one_of_edge d a.row.edge.0 (not a.row.along) m k a.mate b.mate (way_one d a.row.edge.0 (not a.row.along) one (counted_way d a.row.edge.0 (not a.row.along) m a.mate a.at_m edge_a way_a)) a.at_m b.at_m edge_a edge_b way_a way_b
+    one_of_edge d a.row.edge.0 (not a.row.along) m k a.mate b.mate
+    (way_one d a.row.edge.0 (not a.row.along) one (counted_way d a.row.edge.0 (not a.row.along) m a.mate a.at_m edge_a way_a)) a.at_m b.at_m edge_a edge_b
+    way_a way_b
 
 pub one_mate : (d : ShellRows) → OnceRows d → (r m k : ℕ) → AreNamedMates d r m → AreNamedMates d r k → m ≡ k
 one_mate d once zero m k a b = absurd (let h : None ≡ Some a.row = a.at_r in cc)
@@ -84,13 +87,15 @@ lone_no_mate d r m row at one a =
         two : 1 ≤ row_count d row.edge.0 true → 1 ≤ row_count d row.edge.0 false → ⊥
         two p q = both_ways_counted d row.edge.0 one p q
 
-pub lone_no_turn : (d : ShellRows) (mates : List (ℕ × ℕ)) → MatesHold d mates → (r s : ℕ) (row : Row) → row_named d r ≡ Some row → row_total d row.edge.0 ≡ 1 → TurnsTo d mates r s → ⊥
+pub lone_no_turn : (d : ShellRows) (mates : List (ℕ × ℕ)) → MatesHold d mates → (r s : ℕ) (row : Row) → row_named d r ≡ Some row → row_total d row.edge.0 ≡ 1
+    → TurnsTo d mates r s → ⊥
 lone_no_turn d mates hold r s row at one t = by_numbers r t.0 (mates_named d mates r t.0 hold t.1) at
   where
     by_numbers : (x m : ℕ) → AreNamedMates d x m → row_named d x ≡ Some row → ⊥
     by_numbers zero m a at = none-some a.row a.at_r
     by_numbers (suc x) zero a at = none-some a.mate a.at_m
-    by_numbers (suc x) (suc m) a at = lone_no_mate d x m row at one (record { row = a.row; mate = a.mate; at_r = a.at_r; at_m = a.at_m; one_edge = a.one_edge; opposite = a.opposite })
+    by_numbers (suc x) (suc m) a at =
+        lone_no_mate d x m row at one (record { row = a.row; mate = a.mate; at_r = a.at_r; at_m = a.at_m; one_edge = a.one_edge; opposite = a.opposite })
 
 -- Chains.
 
@@ -102,7 +107,8 @@ next_in_chain R x (v ∷ vs) c y (inl e) = inr (v, subst (λ u. R u v) e c.0, in
 next_in_chain R x (v ∷ vs) c y (inr h) = ⊎_elim (λ e. inl e) (λ k. inr (k.0, k.1, inr k.2)) (next_in_chain R v vs c.1 y h)
 
 -- Where R leads to one number at most, a chain to a number from which R leads nowhere has no repeats.
-pub chain_no_repeat : (R : ℕ → ℕ → Type 0) → ((x y z : ℕ) → R x y → R x z → y ≡ z) → (x : ℕ) (xs : List ℕ) → IsChain R x xs → ((w : ℕ) → R (last_of x xs) w → ⊥) → NoRepeat (x ∷ xs)
+pub chain_no_repeat : (R : ℕ → ℕ → Type 0) → ((x y z : ℕ) → R x y → R x z → y ≡ z) → (x : ℕ) (xs : List ℕ) → IsChain R x xs
+    → ((w : ℕ) → R (last_of x xs) w → ⊥) → NoRepeat (x ∷ xs)
 chain_no_repeat R one x [] c stuck = ((λ h. h), tt)
 chain_no_repeat R one x (w ∷ ws) c stuck =
     let later : NoRepeat (w ∷ ws) = chain_no_repeat R one w ws c.1 stuck in (
@@ -123,7 +129,8 @@ chain_leads R x [] c a b (inr m) (inr n) = absurd m
 chain_leads R x (w ∷ ws) c a b (inr m) (inr n) = chain_leads R w ws c.1 a b m n
 
 -- the rows of a path line start at its vertex
-path_starts : (d : ShellRows) (mates : List (ℕ × ℕ)) → EndsMeet d → EndsExchanged d → MatesHold d mates → (v r : ℕ) (rs : List ℕ) (end : Row) → IsChain (TurnsTo d mates) r rs → row_named d (last_of r rs) ≡ Some end → StartsNamed d v r → (x : ℕ) → Has (r ∷ rs) x → StartsNamed d v x
+path_starts : (d : ShellRows) (mates : List (ℕ × ℕ)) → EndsMeet d → EndsExchanged d → MatesHold d mates → (v r : ℕ) (rs : List ℕ) (end : Row)
+    → IsChain (TurnsTo d mates) r rs → row_named d (last_of r rs) ≡ Some end → StartsNamed d v r → (x : ℕ) → Has (r ∷ rs) x → StartsNamed d v x
 path_starts d mates meet exchanged hold v r rs end c at_end start x (inl e) = subst (StartsNamed d v) e start
 path_starts d mates meet exchanged hold v r [] end c at_end start x (inr h) = absurd h
 path_starts d mates meet exchanged hold v r (w ∷ ws) end c at_end start x (inr h) =
@@ -144,11 +151,14 @@ first_row d v (suc n) e = at_row (slice_get d.rows n) refl e
     at_row (Some row) at e = (n, (row, at, same_Some row.from.0 v e))
 
 -- all rows that start at the vertex are among as many different ones that do
-all_listed : (d : ShellRows) (v r : ℕ) (rs : List ℕ) → NoRepeat (r ∷ rs) → ((x : ℕ) → Has (r ∷ rs) x → StartsNamed d v x) → length (starting v 1 d.rows) ≤ length (r ∷ rs) → (n : ℕ) → StartsAt d v n → Has (r ∷ rs) (suc n)
-all_listed d v r rs none start few n (row, at_n, e) = covers (r ∷ rs) (starting v 1 d.rows) none (λ x m. starts_listed d v x (start x m)) few (suc n) (starts_listed d v (suc n) (start_of_row d (suc n) row at_n ∙ ap Some e))
+all_listed : (d : ShellRows) (v r : ℕ) (rs : List ℕ) → NoRepeat (r ∷ rs) → ((x : ℕ) → Has (r ∷ rs) x → StartsNamed d v x)
+    → length (starting v 1 d.rows) ≤ length (r ∷ rs) → (n : ℕ) → StartsAt d v n → Has (r ∷ rs) (suc n)
+all_listed d v r rs none start few n (row, at_n, e) = covers (r ∷ rs) (starting v 1 d.rows) none (λ x m. starts_listed d v x (start x m)) few (suc n)
+    (starts_listed d v (suc n) (start_of_row d (suc n) row at_n ∙ ap Some e))
 
 -- A fitting cycle line shows that its vertex has one fan.
-pub fan_from_cycle : (d : ShellRows) (at : Stand) (r : ℕ) (rs : List ℕ) → EndsMeet d → EndsExchanged d → MatesHold d at.mates → OnceRows d → (h : FitsCorner d at r rs) → IsFan d h.vertex
+pub fan_from_cycle : (d : ShellRows) (at : Stand) (r : ℕ) (rs : List ℕ) → EndsMeet d → EndsExchanged d → MatesHold d at.mates → OnceRows d
+    → (h : FitsCorner d at r rs) → IsFan d h.vertex
 fan_from_cycle d at r rs meet exchanged hold once h =
     let R : ℕ → ℕ → Type 0 = TurnsTo d at.mates in
     let trail : Trail R r rs r = trail_from_zip R r rs r h.turns in
@@ -167,12 +177,14 @@ fan_from_cycle d at r rs meet exchanged hold once h =
     }
 
 -- A fitting path line does.
-pub fan_from_path : (d : ShellRows) (at : OpenStand) (r : ℕ) (rs : List ℕ) → EndsMeet d → EndsExchanged d → MatesHold d at.mates → OnceRows d → ((a : ℕ) → Contains at.lone a → (row : Row) × (row_named d a ≡ Some row) × (row_total d row.edge.0 ≡ 1))
+pub fan_from_path : (d : ShellRows) (at : OpenStand) (r : ℕ) (rs : List ℕ) → EndsMeet d → EndsExchanged d → MatesHold d at.mates → OnceRows d
+    → ((a : ℕ) → Contains at.lone a → (row : Row) × (row_named d a ≡ Some row) × (row_total d row.edge.0 ≡ 1))
     → (h : FitsPath d at r rs) → IsFan d h.vertex
 fan_from_path d at r rs meet exchanged hold once lone h =
     let R : ℕ → ℕ → Type 0 = TurnsTo d at.mates in
     let end = lone (last_of r rs) h.ends in
-    let none : NoRepeat (r ∷ rs) = chain_no_repeat R (turns_one d at.mates hold once) r rs h.turns (λ w t. lone_no_turn d at.mates hold (last_of r rs) w end.0 end.1 end.2 t) in
+    let none : NoRepeat (r ∷ rs) = chain_no_repeat R (turns_one d at.mates hold once) r rs h.turns
+    (λ w t. lone_no_turn d at.mates hold (last_of r rs) w end.0 end.1 end.2 t) in
     let start : (x : ℕ) → Has (r ∷ rs) x → StartsNamed d h.vertex x = path_starts d at.mates meet exchanged hold h.vertex r rs end.0 h.turns end.1 h.lies_at in
     let few : length (starting h.vertex 1 d.rows) ≤ length (r ∷ rs) =
     omega (arith, h.whole, length-starting h.vertex 1 d.rows, count_by-total (λ (x : Row). x.from.0 == h.vertex) d.rows) in

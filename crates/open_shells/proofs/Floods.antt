@@ -1,5 +1,6 @@
 -- One face more is reached, or it was before.
-use Rattle.std.specs.Prelude.{◌≡◌, ◌≢◌, ◌<◌, ◌≤◌, ◌+◌, ◌==◌, ◌⊎◌, ℕ, zero, suc, Bool, true, false, List, [], ◌∷◌, ◌++◌, length, reverse, slice_set, slice_get, Some, Result, Ok, Err, IfOk}
+use Rattle.std.specs.Prelude.{◌≡◌, ◌≢◌, ◌<◌, ◌≤◌, ◌+◌, ◌==◌, ◌⊎◌, ℕ, zero, suc, Bool, true, false, List, [], ◌∷◌, ◌++◌, length, reverse, slice_set, slice_get}
+use Rattle.std.specs.Prelude.{Some, Result, Ok, Err, IfOk}
 use Rattle.std.specs.List.{AllByRecursion}
 use Rattle.std.proofs.Common.{refl, sym, ◌∙◌, ap, subst, arith, inl, inr, ⊎_elim, get_or, drop, append_assoc, length-append}
 use Rattle.std.proofs.lemmas.Bool.Decides.{eqb_tells}
@@ -12,7 +13,8 @@ use Rattle.edge_uses.specs.ShellRows.{ShellRows}
 use Rattle.edge_uses.specs.RowRelations.{AreMates, OnFace}
 use Rattle.shell_rules.specs.Closed.{AreNeighbours, IsReached}
 use Rattle.open_shells.specs.Mating.{AreOnce}
-use Rattle.solid_data.proofs.Members.{Has, NoRepeat, Contains-from_Has, Has-from_Contains, no_longer, All-at, has_left, has_right, rises_none, has_last, has_reverse}
+use Rattle.solid_data.proofs.Members.{Has, NoRepeat, Contains-from_Has, Has-from_Contains, no_longer, All-at, has_left, has_right, rises_none, has_last}
+use Rattle.solid_data.proofs.Members.{has_reverse}
 use Rattle.solid_data.specs.Obligations.{FirstNot}
 use Rattle.edge_uses.proofs.FirstOf.{LeftIn, left_in_less, left_in_fails, left_in_done}
 use Rattle.edge_uses.proofs.Steps.{default_apart}
@@ -47,19 +49,22 @@ pub still_has : (xs ys : List ℕ) (x : ℕ) → Grows xs ys → Has xs x → Ha
 still_has xs ys x (a, e) h = subst (λ ws. Has ws x) (sym e) (has_left xs a x h)
 
 -- the other face was reached before
-pub crossed_before : (d : ShellRows) (marks : List Bool) (order rows : List ℕ) (r mate other : ℕ) → AreOnce d → IsFlood d marks order rows → AreMates d r mate → OnFace d other mate → get_or marks other false ≡ true
+pub crossed_before : (d : ShellRows) (marks : List Bool) (order rows : List ℕ) (r mate other : ℕ) → AreOnce d → IsFlood d marks order rows → AreMates d r mate
+    → OnFace d other mate → get_or marks other false ≡ true
     → (m g : ℕ) → AreMates d r m → OnFace d g m → Has order g
 crossed_before d marks order rows r mate other whole flood mates on yes_marked m g is_mate on_g =
     let same : mate ≡ m = one_mate_of d (row_once d whole) r mate m mates is_mate in
     subst (Has order) (one_face d other g mate on (subst (OnFace d g) (sym same) on_g)) (flood.listed other yes_marked)
 
-pub crossed_now : (d : ShellRows) (order : List ℕ) (r mate other : ℕ) → AreOnce d → AreMates d r mate → OnFace d other mate → (m g : ℕ) → AreMates d r m → OnFace d g m → Has (order ++ other ∷ []) g
+pub crossed_now : (d : ShellRows) (order : List ℕ) (r mate other : ℕ) → AreOnce d → AreMates d r mate → OnFace d other mate → (m g : ℕ) → AreMates d r m
+    → OnFace d g m → Has (order ++ other ∷ []) g
 crossed_now d order r mate other whole mates on m g is_mate on_g =
     let same : mate ≡ m = one_mate_of d (row_once d whole) r mate m mates is_mate in
     has_right order (other ∷ []) g (inl (one_face d other g mate on (subst (OnFace d g) (sym same) on_g)))
 
 -- the other face is new
-pub flood_more : (d : ShellRows) (marks : List Bool) (order rows : List ℕ) (face r mate other : ℕ) → AreOnce d → IsFlood d marks order rows → Has order face → OnFace d face r → AreMates d r mate → OnFace d other mate → get_or marks other false ≡ false
+pub flood_more : (d : ShellRows) (marks : List Bool) (order rows : List ℕ) (face r mate other : ℕ) → AreOnce d → IsFlood d marks order rows → Has order face
+    → OnFace d face r → AreMates d r mate → OnFace d other mate → get_or marks other false ≡ false
     → IsFlood d (slice_set marks other true) (order ++ other ∷ []) (rows ++ mate ∷ [])
 flood_more d marks order rows face r mate other whole flood known on mates on_other unmarked = record {
   faces = length-set marks other true ∙ flood.faces;
@@ -81,11 +86,13 @@ flood_more d marks order rows face r mate other whole flood known on mates on_ot
     here : IsReached d other
     here = leads_last (AreNeighbours d) 0 face other (flood.reached face known) (r, mate, mates, on, on_other)
 
-    listed : (f : ℕ) → (((other == f) ≡ true) × (other ≡ f)) ⊎ (((other == f) ≡ false) × (other ≢ f)) → get_or (slice_set marks other true) f false ≡ true → Has (order ++ other ∷ []) f
+    listed : (f : ℕ) → (((other == f) ≡ true) × (other ≡ f)) ⊎ (((other == f) ≡ false) × (other ≢ f)) → get_or (slice_set marks other true) f false ≡ true
+        → Has (order ++ other ∷ []) f
     listed f (inl y) h = has_right order (other ∷ []) f (inl y.1)
     listed f (inr n) h = has_left order (other ∷ []) f (flood.listed f (sym (set_other marks other f true false n.1) ∙ h))
 
-    marked : (f : ℕ) → (((other == f) ≡ true) × (other ≡ f)) ⊎ (((other == f) ≡ false) × (other ≢ f)) → Has order f ⊎ (other ≡ f) → get_or (slice_set marks other true) f false ≡ true
+    marked : (f : ℕ) → (((other == f) ≡ true) × (other ≡ f)) ⊎ (((other == f) ≡ false) × (other ≢ f)) → Has order f ⊎ (other ≡ f)
+        → get_or (slice_set marks other true) f false ≡ true
     marked f (inl y) h = subst (λ k. get_or (slice_set marks other true) k false ≡ true) y.1 (set_same marks other true false low)
     marked f (inr n) (inl h) = set_other marks other f true false n.1 ∙ flood.marked f h
     marked f (inr n) (inr e) = absurd (n.1 e)
@@ -116,7 +123,8 @@ left_none d face at order t = record {
   all = λ x m g on below mates on_g. absurd (omega (arith, below, t.all x on (omega arith)));
 }
 
-pub left_more : (d : ShellRows) (face r at : ℕ) (order new : List ℕ) → LeftTo d face r order → OnFace d face r → IsHead d face (r + 1) at → Grows order new → ((m g : ℕ) → AreMates d r m → OnFace d g m → Has new g) → LeftTo d face at new
+pub left_more : (d : ShellRows) (face r at : ℕ) (order new : List ℕ) → LeftTo d face r order → OnFace d face r → IsHead d face (r + 1) at → Grows order new
+    → ((m g : ℕ) → AreMates d r m → OnFace d g m → Has new g) → LeftTo d face at new
 left_more d face r at order new left on t grows there = record {
   here = t.here;
   all = λ x m g on_x below mates on_g. by_row x m g on_x below mates on_g (three x r);
@@ -134,21 +142,26 @@ left_more d face r at order new left on t grows there = record {
     by_row x m g on_x below mates on_g (inr (inr high)) = absurd (omega (arith, below, t.all x on_x high))
 
 pub left_all : (d : ShellRows) (face at : ℕ) (order : List ℕ) → length d.rows ≤ at → LeftTo d face at order → IsDone d order face
-left_all d face at order end left other (x, m, mates, on, on_other) = left.all x m other on (omega (arith, end, slice_get_within d.rows x on.0 on.1)) mates on_other
+left_all d face at order end left other (x, m, mates, on, on_other) = left.all x m other on (omega (arith, end, slice_get_within d.rows x on.0 on.1)) mates
+    on_other
 
 pub ok_three : {T E : Type 0} (r : Result T E) (P Q R S : T → Type 0) → ((x : T) → P x → Q x → R x → S x) → IfOk r P → IfOk r Q → IfOk r R → IfOk r S
 ok_three (Ok x) P Q R S f p q r = f x p q r
 ok_three (Err e) P Q R S f p q r = p
 
-pub flood_as : (d : ShellRows) (marks ms : List Bool) (order os rows rs : List ℕ) → IsFlood d marks order rows → ms ≡ marks → os ≡ order → rs ≡ rows → IsFlood d ms os rs
+pub flood_as : (d : ShellRows) (marks ms : List Bool) (order os rows rs : List ℕ) → IsFlood d marks order rows → ms ≡ marks → os ≡ order → rs ≡ rows
+    → IsFlood d ms os rs
 flood_as d marks ms order os rows rs h a b c =
     subst (λ x. IsFlood d ms os x) (sym c) (subst (λ x. IsFlood d ms x rows) (sym b) (subst (λ x. IsFlood d x order rows) (sym a) h))
 
-pub first_head : (d : ShellRows) (face a : ℕ) (first next : List ℕ) → AreFaceRows d first next → face < d.face_count → a ≡ get_or first face a → IsHead d face 0 a
+pub first_head : (d : ShellRows) (face a : ℕ) (first next : List ℕ) → AreFaceRows d first next → face < d.face_count → a ≡ get_or first face a
+    → IsHead d face 0 a
 first_head d face a first next t low e = subst (IsHead d face 0) (sym (e ∙ default_apart first face a 0 (omega (arith, low, t.faces)))) (t.heads face low)
 
-pub next_head : (d : ShellRows) (face r a : ℕ) (first next : List ℕ) → AreFaceRows d first next → OnFace d face r → a ≡ get_or next r a → IsHead d face (r + 1) a
-next_head d face r a first next t on e = subst (IsHead d face (r + 1)) (sym (e ∙ default_apart next r a 0 (omega (arith, slice_get_within d.rows r on.0 on.1, t.rows)))) (t.nexts r face on)
+pub next_head : (d : ShellRows) (face r a : ℕ) (first next : List ℕ) → AreFaceRows d first next → OnFace d face r → a ≡ get_or next r a
+    → IsHead d face (r + 1) a
+next_head d face r a first next t on e =
+    subst (IsHead d face (r + 1)) (sym (e ∙ default_apart next r a 0 (omega (arith, slice_get_within d.rows r on.0 on.1, t.rows)))) (t.nexts r face on)
 
 pub marked_low : (marks : List Bool) (f : ℕ) → get_or marks f false ≡ true → f < length marks
 marked_low [] f h = absurd cc
@@ -159,7 +172,8 @@ pub listed_low : (d : ShellRows) (marks : List Bool) (order rows : List ℕ) (f 
 listed_low d marks order rows f h m = omega (arith, marked_low marks f (h.marked f m), h.faces)
 
 -- the first face
-pub flood_first : (d : ShellRows) (marks : List Bool) → length marks ≡ d.face_count → 0 < length marks → ((f : ℕ) → get_or marks f false ≡ false) → IsFlood d (slice_set marks 0 true) (0 ∷ []) []
+pub flood_first : (d : ShellRows) (marks : List Bool) → length marks ≡ d.face_count → 0 < length marks → ((f : ℕ) → get_or marks f false ≡ false)
+    → IsFlood d (slice_set marks 0 true) (0 ∷ []) []
 flood_first d marks long some clear = record {
   faces = length-set marks 0 true ∙ long;
   listed = λ f h. listed f (eqb_tells 0 f) h;
@@ -176,7 +190,8 @@ flood_first d marks long some clear = record {
     listed f (inr n) h = let e : true ≡ false = sym h ∙ (set_other marks 0 f true false n.1 ∙ clear f) in absurd (cc)
 
 -- all faces that are reached are listed, once each is done
-pub all_listed : (d : ShellRows) (order : List ℕ) → ((f : ℕ) → Has order f → IsDone d order f) → (n a b : ℕ) → Has order a → Steps (AreNeighbours d) n a b → Has order b
+pub all_listed : (d : ShellRows) (order : List ℕ) → ((f : ℕ) → Has order f → IsDone d order f) → (n a b : ℕ) → Has order a → Steps (AreNeighbours d) n a b
+    → Has order b
 all_listed d order done zero a b h e = subst (Has order) e h
 all_listed d order done (suc n) a b h (c, r, rest) = all_listed d order done n c b (done a h c r) rest
 
@@ -189,10 +204,16 @@ in_numbers : (n f : ℕ) → f < n → Has (numbers_from 0 n) f
 in_numbers n f lt = number_within 0 n f (omega arith) (omega (arith, lt))
 
 pub order_few : (d : ShellRows) (marks : List Bool) (order rows : List ℕ) → IsFlood d marks order rows → length order ≤ d.face_count
-order_few d marks order rows h = omega (arith, no_longer order (numbers_from 0 d.face_count) h.apart (λ f m. in_numbers d.face_count f (listed_low d marks order rows f h m)), length-numbers 0 d.face_count)
+order_few d marks order rows h =
+    omega (
+      arith,
+      no_longer order (numbers_from 0 d.face_count) h.apart (λ f m. in_numbers d.face_count f (listed_low d marks order rows f h m)),
+      length-numbers 0 d.face_count,
+    )
 
 -- all places are done, so all faces are
-pub each_done : (d : ShellRows) (marks : List Bool) (order rows : List ℕ) (q : ℕ) → IsFlood d marks order rows → d.face_count ≤ q → ((j f : ℕ) → j < q → slice_get order j ≡ Some f → IsDone d order f) → (f : ℕ) → Has order f → IsDone d order f
+pub each_done : (d : ShellRows) (marks : List Bool) (order rows : List ℕ) (q : ℕ) → IsFlood d marks order rows → d.face_count ≤ q
+    → ((j f : ℕ) → j < q → slice_get order j ≡ Some f → IsDone d order f) → (f : ℕ) → Has order f → IsDone d order f
 each_done d marks order rows q h past done f m = let k = has_at order f m in done k.0 f (omega (arith, k.1, past, order_few d marks order rows h)) k.2
 
 front_same : (xs more : List ℕ) (j f : ℕ) → j < length xs → slice_get (xs ++ more) j ≡ Some f → slice_get xs j ≡ Some f
@@ -201,7 +222,8 @@ front_same (x ∷ xs) more zero f lt h = h
 front_same (x ∷ xs) more (suc j) f lt h = front_same xs more j f (omega (arith, lt)) h
 
 -- one place more is done
-pub place_done : (d : ShellRows) (old new : List ℕ) (q : ℕ) → Grows old new → (length old ≤ q → new ≡ old) → ((f : ℕ) → slice_get new q ≡ Some f → IsDone d new f)
+pub place_done : (d : ShellRows) (old new : List ℕ) (q : ℕ) → Grows old new → (length old ≤ q → new ≡ old)
+    → ((f : ℕ) → slice_get new q ≡ Some f → IsDone d new f)
     → ((j f : ℕ) → j < q → slice_get old j ≡ Some f → IsDone d old f) → (j f : ℕ) → j < q + 1 → slice_get new j ≡ Some f → IsDone d new f
 place_done d old new q grows same here before j f lt at = by_place (cases_lt j q)
   where
@@ -224,23 +246,32 @@ number_at n i lt = number_get 0 n i 0 lt ∙ omega arith
 number_in : (n i : ℕ) → i < n → i < length (numbers_from 0 n)
 number_in n i lt = omega (arith, lt, length-numbers 0 n)
 
-pub face_reached : (d : ShellRows) (i : ℕ) → i < d.face_count → LeftIn (IsReached d) (drop i (numbers_from 0 d.face_count)) (numbers_from 0 d.face_count) → IsReached d i
+pub face_reached : (d : ShellRows) (i : ℕ) → i < d.face_count → LeftIn (IsReached d) (drop i (numbers_from 0 d.face_count)) (numbers_from 0 d.face_count)
+    → IsReached d i
     → LeftIn (IsReached d) (drop (i + 1) (numbers_from 0 d.face_count)) (numbers_from 0 d.face_count)
-face_reached d i lt l h = left_in_less (IsReached d) (numbers_from 0 d.face_count) (numbers_from 0 d.face_count) i 0 (number_in d.face_count i lt) l (subst (IsReached d) (sym (number_at d.face_count i lt)) h)
+face_reached d i lt l h = left_in_less (IsReached d) (numbers_from 0 d.face_count) (numbers_from 0 d.face_count) i 0 (number_in d.face_count i lt) l
+    (subst (IsReached d) (sym (number_at d.face_count i lt)) h)
 
-pub face_missed : (d : ShellRows) (i : ℕ) → i < d.face_count → LeftIn (IsReached d) (drop i (numbers_from 0 d.face_count)) (numbers_from 0 d.face_count) → (IsReached d i → ⊥) → FirstNot (IsReached d) (numbers_from 0 d.face_count) i
+pub face_missed : (d : ShellRows) (i : ℕ) → i < d.face_count → LeftIn (IsReached d) (drop i (numbers_from 0 d.face_count)) (numbers_from 0 d.face_count)
+    → (IsReached d i → ⊥) → FirstNot (IsReached d) (numbers_from 0 d.face_count) i
 face_missed d i lt l ne =
     subst (FirstNot (IsReached d) (numbers_from 0 d.face_count)) (number_at d.face_count i lt)
-    (left_in_fails (IsReached d) (numbers_from 0 d.face_count) (numbers_from 0 d.face_count) i 0 (number_in d.face_count i lt) l (λ h. ne (subst (IsReached d) (number_at d.face_count i lt) h)))
+    (left_in_fails (IsReached d) (numbers_from 0 d.face_count) (numbers_from 0 d.face_count) i 0 (number_in d.face_count i lt) l
+    (λ h. ne (subst (IsReached d) (number_at d.face_count i lt) h)))
 
-pub faces_done : (d : ShellRows) (i : ℕ) → d.face_count ≤ i → LeftIn (IsReached d) (drop i (numbers_from 0 d.face_count)) (numbers_from 0 d.face_count) → AllByRecursion (IsReached d) (numbers_from 0 d.face_count)
-faces_done d i past l = left_in_done (IsReached d) (numbers_from 0 d.face_count) (numbers_from 0 d.face_count) i (omega (arith, past, length-numbers 0 d.face_count)) l
+pub faces_done : (d : ShellRows) (i : ℕ) → d.face_count ≤ i → LeftIn (IsReached d) (drop i (numbers_from 0 d.face_count)) (numbers_from 0 d.face_count)
+    → AllByRecursion (IsReached d) (numbers_from 0 d.face_count)
+faces_done d i past l = left_in_done (IsReached d) (numbers_from 0 d.face_count) (numbers_from 0 d.face_count) i
+    (omega (arith, past, length-numbers 0 d.face_count)) l
 
-pub unmarked_not : (d : ShellRows) (marks : List Bool) (order rows : List ℕ) (f : ℕ) → IsFlood d marks order rows → ((g : ℕ) → Has order g → IsDone d order g) → get_or marks f false ≡ false → IsReached d f → ⊥
-unmarked_not d marks order rows f h done no_mark chain = let e : true ≡ false = sym (h.marked f (all_listed d order done chain.0 0 f h.first chain.1)) ∙ no_mark in absurd (cc)
+pub unmarked_not : (d : ShellRows) (marks : List Bool) (order rows : List ℕ) (f : ℕ) → IsFlood d marks order rows → ((g : ℕ) → Has order g → IsDone d order g)
+    → get_or marks f false ≡ false → IsReached d f → ⊥
+unmarked_not d marks order rows f h done no_mark chain =
+    let e : true ≡ false = sym (h.marked f (all_listed d order done chain.0 0 f h.first chain.1)) ∙ no_mark in absurd (cc)
 
 -- the rows reach all faces
-pub flood_reaches : (d : ShellRows) (marks : List Bool) (order rows : List ℕ) → IsFlood d marks order rows → ((g : ℕ) → Has order g → IsDone d order g) → AllByRecursion (IsReached d) (numbers_from 0 d.face_count) → ReachesAll d rows
+pub flood_reaches : (d : ShellRows) (marks : List Bool) (order rows : List ℕ) → IsFlood d marks order rows → ((g : ℕ) → Has order g → IsDone d order g)
+    → AllByRecursion (IsReached d) (numbers_from 0 d.face_count) → ReachesAll d rows
 flood_reaches d marks order rows h done all = record {
   order = subst (ReachFrom d (0 ∷ [])) (append-nil rows) (h.done [] tt);
   count = omega (

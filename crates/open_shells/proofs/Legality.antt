@@ -14,9 +14,11 @@ true_false : true ≡ false → ⊥
 true_false h = cc
 
 -- a line that is spelled and fits isn't bad
-good_bad : (s : SolidData) (before : List OpenLine) (bytes : List ℕ) (l : OpenLine) (bad : Illegal) → IsSpelled bytes l → FitsLine s (stand_from_latest s before) l → IsBadLine s before bytes bad → ⊥
+good_bad : (s : SolidData) (before : List OpenLine) (bytes : List ℕ) (l : OpenLine) (bad : Illegal) → IsSpelled bytes l
+    → FitsLine s (stand_from_latest s before) l → IsBadLine s before bytes bad → ⊥
 good_bad s before bytes l bad is_l fits b =
-    ⊎_elim (λ misspelt. misspelt.0 l is_l) (λ unfit. unfit.0.2 (subst (FitsLine s (stand_from_latest s before)) (line_one bytes l unfit.0.0 is_l unfit.0.1) fits)) b
+    ⊎_elim (λ misspelt. misspelt.0 l is_l)
+    (λ unfit. unfit.0.2 (subst (FitsLine s (stand_from_latest s before)) (line_one bytes l unfit.0.0 is_l unfit.0.1) fits)) b
 
 -- a line is bad in one way
 one_badness : (s : SolidData) (before : List OpenLine) (bytes : List ℕ) (x y : Illegal) → IsBadLine s before bytes x → IsBadLine s before bytes y → x ≡ y
@@ -31,7 +33,8 @@ no_bad s before (bytes ∷ rest) bad (l, is_l, fits, more) (inl b) = good_bad s 
 no_bad s before (bytes ∷ rest) bad (l, is_l, fits, more) (inr (m, is_m, fits_m, later)) =
     no_bad s (l ∷ before) rest bad more (subst (λ x. IsFirstBadAfter s (x ∷ before) rest bad) (line_one bytes m l is_m is_l) later)
 
-one_bad : (s : SolidData) (before : List OpenLine) (lines : List (List ℕ)) (x y : Illegal) → IsFirstBadAfter s before lines x → IsFirstBadAfter s before lines y → x ≡ y
+one_bad : (s : SolidData) (before : List OpenLine) (lines : List (List ℕ)) (x y : Illegal) → IsFirstBadAfter s before lines x
+    → IsFirstBadAfter s before lines y → x ≡ y
 one_bad s before [] x y p q = p.1 ∙ sym q.1
 one_bad s before (bytes ∷ rest) x y (inl p) (inl q) = one_badness s before bytes x y p q
 one_bad s before (bytes ∷ rest) x y (inl p) (inr (l, is_l, fits, later)) = absurd (good_bad s before bytes l x is_l fits p)

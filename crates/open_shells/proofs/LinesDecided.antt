@@ -1,5 +1,6 @@
 -- It can be told whether lines of an open shell's certificate are legal, and which is the first bad one.
-use Rattle.std.specs.Prelude.{◌≡◌, ℕ, zero, suc, ◌+◌, ◌<◌, ◌≤◌, ◌^◌, ◌⊎◌, Bool, true, false, List, [], ◌∷◌, ◌++◌, length, Contains, Option, Some, None, slice_get, decimal}
+use Rattle.std.specs.Prelude.{◌≡◌, ℕ, zero, suc, ◌+◌, ◌<◌, ◌≤◌, ◌^◌, ◌⊎◌, Bool, true, false, List, [], ◌∷◌, ◌++◌, length, Contains, Option, Some, None}
+use Rattle.std.specs.Prelude.{slice_get, decimal}
 use Rattle.std.specs.List.{AllByRecursion}
 use Rattle.std.proofs.Common.{refl, sym, ◌∙◌, ap, subst, arith, inl, inr, ⊎_elim, length-append}
 use Rattle.std.proofs.lemmas.Option.{slice_get_within}
@@ -7,17 +8,22 @@ use Rattle.std.proofs.lemmas.Slice.Eq.{bytes_eq-Decides}
 use Rattle.solid_data.specs.Ring.{next_of_each}
 use Rattle.solid_data.specs.SolidData.{SolidData}
 use Rattle.solid_data.specs.declared.solid.VertexId.{VertexId}
-use Rattle.solid_data.proofs.Decisions.{Decided, decided_alike, decided_by, decided_same, decided_some, decided_pair, decided_below, decided_bool, decided_both, decided_three, decided_four, decided_either, decided_implies, decided_found, decided_bounded, decided_all, decided_zip, decided_contains, decided_list}
+use Rattle.solid_data.proofs.Decisions.{Decided, decided_alike, decided_by, decided_same, decided_some, decided_pair, decided_below, decided_bool, decided_both}
+use Rattle.solid_data.proofs.Decisions.{decided_three, decided_four, decided_either, decided_implies, decided_found, decided_bounded, decided_all, decided_zip}
+use Rattle.solid_data.proofs.Decisions.{decided_contains, decided_list}
 use Rattle.edge_uses.specs.declared.row.Row.{Row}
 use Rattle.edge_uses.specs.ShellRows.{ShellRows}
 use Rattle.edge_uses.specs.RowRelations.{point_count}
 use Rattle.cert_lines.specs.Line.{spaced, IsShort, edge as edge_line, corner as corner_line, point as point_line, reach as reach_line}
 use Rattle.cert_lines.specs.declared.fault.Illegal.{Illegal}
 use Rattle.cert_lines.specs.declared.fault.Illegal.TheVariants.{Misspelt, Unfit, Missing}
-use Rattle.topo_certificate.specs.Stand.{Stand, row_named, row_start, start_count, IsAbove, IsMate, FollowsAsNamed, TurnsTo, FitsEdge, FitsCorner, FitsPoint, FitsReach}
+use Rattle.topo_certificate.specs.Stand.{Stand, row_named, row_start, start_count, IsAbove, IsMate, FollowsAsNamed, TurnsTo, FitsEdge, FitsCorner, FitsPoint}
+use Rattle.topo_certificate.specs.Stand.{FitsReach}
 use Rattle.topo_certificate.proofs.Decided.{line_decided as closed_line_decided}
-use Rattle.open_shells.specs.Line.{OpenLine, head, shell, edge, lone, cycle, path, point, reach, border, end, spelling, numbers_of, HasRows, HasSpelling, IsSpelled, IsMisspelt}
-use Rattle.open_shells.specs.Stand.{OpenStand, shell_of, shared, stand_from_latest, FitsShell, ListsAll, FitsLone, IsChain, last_of, FitsPath, GoesOnTo, FitsBorder, CornerDue, ReachDue, BorderDue, IsDone, FitsOpen, FitsLine}
+use Rattle.open_shells.specs.Line.{OpenLine, head, shell, edge, lone, cycle, path, point, reach, border, end, spelling, numbers_of, HasRows, HasSpelling}
+use Rattle.open_shells.specs.Line.{IsSpelled, IsMisspelt}
+use Rattle.open_shells.specs.Stand.{OpenStand, shell_of, shared, stand_from_latest, FitsShell, ListsAll, FitsLone, IsChain, last_of, FitsPath, GoesOnTo}
+use Rattle.open_shells.specs.Stand.{FitsBorder, CornerDue, ReachDue, BorderDue, IsDone, FitsOpen, FitsLine}
 use Rattle.open_shells.specs.Legal.{IsLegalAfter, IsFirstBadAfter, IsOpenLegal, IsOpenFirstBad}
 use Rattle.open_shells.proofs.Spelling.{kind_of, prefix_of, line_from, rebuilt, spelling_parts}
 
@@ -37,7 +43,8 @@ has_rows_decided end = inl tt
 
 spelled_decided : (bytes : List ℕ) (l : OpenLine) → Decided (IsSpelled bytes l)
 spelled_decided bytes l =
-    decided_both (decided_both (decided_all IsShort (λ n. decided_below n (10 ^ 9)) (numbers_of l)) (has_rows_decided l)) (decided_by _ (bytes_eq-Decides bytes (spelling l)))
+    decided_both (decided_both (decided_all IsShort (λ n. decided_below n (10 ^ 9)) (numbers_of l)) (has_rows_decided l))
+    (decided_by _ (bytes_eq-Decides bytes (spelling l)))
 
 kind_below : (l : OpenLine) → kind_of l < 9
 kind_below head = omega arith
@@ -60,7 +67,13 @@ few_numbers : (bytes : List ℕ) (l : OpenLine) → IsSpelled bytes l → length
 few_numbers bytes l h =
     let front = prefix_of (kind_of l) in
     let numbers = spaced (numbers_of l) in
-    omega (arith, ap (λ (x : List ℕ). length x) (h.1 ∙ spelling_parts l), length-append front (numbers ++ 10 ∷ []), length-append numbers (10 ∷ []), spaced_longer (numbers_of l))
+    omega (
+      arith,
+      ap (λ (x : List ℕ). length x) (h.1 ∙ spelling_parts l),
+      length-append front (numbers ++ 10 ∷ []),
+      length-append numbers (10 ∷ []),
+      spaced_longer (numbers_of l),
+    )
 
 -- The bytes spell the line of this kind and some numbers, no more of them than bytes.
 SpellsKind : List ℕ → ℕ → Type 0
@@ -72,24 +85,69 @@ unfolding SpellsKind
 some_line_decided bytes =
     decided_alike (λ (k, lt, (ns, few, short, h)). (line_from k ns, h))
     (λ (l, h). (kind_of l, kind_below l, (numbers_of l, few_numbers bytes l h, h.0.0, subst (IsSpelled bytes) (sym (rebuilt l)) h)))
-    (decided_bounded (SpellsKind bytes) (λ k. decided_list (λ ns. IsSpelled bytes (line_from k ns)) (λ ns. spelled_decided bytes (line_from k ns)) (10 ^ 9) (length bytes)) 9)
+    (decided_bounded (SpellsKind bytes)
+    (λ k. decided_list (λ ns. IsSpelled bytes (line_from k ns)) (λ ns. spelled_decided bytes (line_from k ns)) (10 ^ 9) (length bytes)) 9)
 
 -- Lines that closed solids' certificates have too, by the decision on these.
 
 -- the stand of such a certificate, at which so many lines are due
 abbrev closed_at : OpenStand → ℕ → ℕ → ℕ → Stand
-closed_at at edges corners reach_lines = record { ended = false; shell = 1; due = record { edges = edges; corners = corners; reach = reach_lines; tally = 0 }; mates = at.mates; last_edge = at.last_edge; last_vertex = at.last_vertex; reached = at.reached }
+closed_at at edges corners reach_lines =
+    record {
+      ended = false;
+      shell = 1;
+      due = record { edges = edges; corners = corners; reach = reach_lines; tally = 0 };
+      mates = at.mates;
+      last_edge =
+          at.last_edge;
+      last_vertex = at.last_vertex;
+      reached = at.reached;
+    }
 
 edge_decided : (s : SolidData) (at : OpenStand) (a b : ℕ) → Decided (FitsEdge (shell_of s) (shared at) a b)
 edge_decided s at a b =
-    decided_alike (λ (open_yet, (some, h)). record { along_row = h.along_row; against_row = h.against_row; at_a = h.at_a; at_b = h.at_b; one_edge = h.one_edge; along = h.along; against = h.against; rises = h.rises })
-    (λ h. (refl, (omega arith, record { along_row = h.along_row; against_row = h.against_row; at_a = h.at_a; at_b = h.at_b; one_edge = h.one_edge; along = h.along; against = h.against; rises = h.rises })))
+    decided_alike (λ (open_yet, (some, h)).
+    record {
+      along_row = h.along_row;
+      against_row = h.against_row;
+      at_a = h.at_a;
+      at_b = h.at_b;
+      one_edge = h.one_edge;
+      along = h.along;
+      against =
+          h.against;
+      rises = h.rises;
+    })
+    (λ h. (
+      refl,
+      (
+        omega arith,
+        record {
+          along_row = h.along_row;
+          against_row = h.against_row;
+          at_a = h.at_a;
+          at_b = h.at_b;
+          one_edge = h.one_edge;
+          along = h.along;
+          against =
+              h.against;
+          rises = h.rises;
+        },
+      ),
+    ))
     (closed_line_decided s (closed_at at 1 0 0) (edge_line a b))
 
 corner_decided : (s : SolidData) (at : OpenStand) (r : ℕ) (rs : List ℕ) → Decided (FitsCorner (shell_of s) (shared at) r rs)
 corner_decided s at r rs =
-    decided_alike (λ (open_yet, (some, h)). record { vertex = h.vertex; lies_at = h.lies_at; turns = h.turns; least = h.least; whole = h.whole; no_point = h.no_point; rises = h.rises })
-    (λ h. (refl, ((refl, omega arith), record { vertex = h.vertex; lies_at = h.lies_at; turns = h.turns; least = h.least; whole = h.whole; no_point = h.no_point; rises = h.rises })))
+    decided_alike (λ (open_yet, (some, h)).
+    record { vertex = h.vertex; lies_at = h.lies_at; turns = h.turns; least = h.least; whole = h.whole; no_point = h.no_point; rises = h.rises })
+    (λ h. (
+      refl,
+      (
+        (refl, omega arith),
+        record { vertex = h.vertex; lies_at = h.lies_at; turns = h.turns; least = h.least; whole = h.whole; no_point = h.no_point; rises = h.rises },
+      ),
+    ))
     (closed_line_decided s (closed_at at 0 1 0) (corner_line (r ∷ rs)))
 
 point_decided : (s : SolidData) (at : OpenStand) (face l : ℕ) → Decided (FitsPoint (shell_of s) (shared at) face l)
@@ -100,8 +158,15 @@ point_decided s at face l =
 
 reach_decided : (s : SolidData) (at : OpenStand) (r : ℕ) → Decided (FitsReach (shell_of s) (shared at) r)
 reach_decided s at r =
-    decided_alike (λ (open_yet, (some, h)). record { mate = h.mate; face = h.face; known = h.known; mates = h.mates; on_face = h.on_face; on_known = h.on_known; new = h.new; old = h.old })
-    (λ h. (refl, ((refl, refl, omega arith), record { mate = h.mate; face = h.face; known = h.known; mates = h.mates; on_face = h.on_face; on_known = h.on_known; new = h.new; old = h.old })))
+    decided_alike (λ (open_yet, (some, h)).
+    record { mate = h.mate; face = h.face; known = h.known; mates = h.mates; on_face = h.on_face; on_known = h.on_known; new = h.new; old = h.old })
+    (λ h. (
+      refl,
+      (
+        (refl, refl, omega arith),
+        record { mate = h.mate; face = h.face; known = h.known; mates = h.mates; on_face = h.on_face; on_known = h.on_known; new = h.new; old = h.old },
+      ),
+    ))
     (closed_line_decided s (closed_at at 0 0 1) (reach_line r))
 
 -- Lines that only open shells' certificates have.
@@ -115,7 +180,8 @@ shell_decided s n rows edges corners faces =
     decided_alike (λ (names, r, (e, c, f)). record { names = names; rows_counted = r; edges_counted = e; corners_counted = c; faces_counted = f })
     (λ h. (h.names, h.rows_counted, (h.edges_counted, h.corners_counted, h.faces_counted)))
     (decided_three (decided_same n s.entity.0) (decided_same rows (length (shell_of s).rows))
-    (decided_three (decided_same edges (length (shell_of s).edges)) (decided_same corners (length (shell_of s).vertices)) (decided_same faces (shell_of s).face_count)))
+    (decided_three (decided_same edges (length (shell_of s).edges)) (decided_same corners (length (shell_of s).vertices))
+    (decided_same faces (shell_of s).face_count)))
 
 lists_all_decided : (d : ShellRows) (at : OpenStand) (more : ℕ) → Decided (ListsAll d at more)
 lists_all_decided d at more = decided_implies (decided_same at.edges_due 1) (decided_same (at.listed + more) (length d.rows))
@@ -142,7 +208,8 @@ follows_below d (suc r) (suc s) h = omega (arith, slice_get_within d.follows r s
 turns_decided : (d : ShellRows) (mates : List (ℕ × ℕ)) (r s : ℕ) → Decided (TurnsTo d mates r s)
 turns_decided d mates r s =
     decided_alike (λ (m, lt, (is, follows)). (m, is, follows)) (λ (m, is, follows). (m, follows_below d m s follows, (is, follows)))
-    (decided_bounded (λ m. IsMate mates r m × FollowsAsNamed d m s) (λ m. decided_both (mate_decided mates r m) (follows_decided d m s)) (suc (length d.follows)))
+    (decided_bounded (λ m. IsMate mates r m × FollowsAsNamed d m s) (λ m. decided_both (mate_decided mates r m) (follows_decided d m s))
+    (suc (length d.follows)))
 
 chain_decided : (R : ℕ → ℕ → Type 0) → ((r s : ℕ) → Decided (R r s)) → (r : ℕ) (rs : List ℕ) → Decided (IsChain R r rs)
 chain_decided R each r [] = inl tt
@@ -154,23 +221,30 @@ IsPathVertex d at n v = (n ≡ start_count d v) × (point_count d v ≡ 0) × Is
 
 path_decided : (d : ShellRows) (at : OpenStand) (r : ℕ) (rs : List ℕ) → Decided (FitsPath d at r rs)
 path_decided d at r rs =
-    decided_alike (λ (turns, ends, (v, lies, (whole, none, rises))). record { vertex = v; lies_at = lies; turns = turns; ends = ends; whole = whole; no_point = none; rises = rises })
+    decided_alike (λ (turns, ends, (v, lies, (whole, none, rises))).
+    record { vertex = v; lies_at = lies; turns = turns; ends = ends; whole = whole; no_point = none; rises = rises })
     (λ h. (h.turns, h.ends, (h.vertex, h.lies_at, (h.whole, h.no_point, h.rises))))
     (decided_three (chain_decided (TurnsTo d at.mates) (turns_decided d at.mates) r rs) (decided_contains decided_same at.lone (last_of r rs))
-    (decided_found (row_start (row_named d r)) (IsPathVertex d at (length (r ∷ rs))) (λ v. decided_three (decided_same (length (r ∷ rs)) (start_count d v)) (decided_same (point_count d v) 0) (above_decided at.last_vertex v))))
+    (decided_found (row_start (row_named d r)) (IsPathVertex d at (length (r ∷ rs)))
+    (λ v. decided_three (decided_same (length (r ∷ rs)) (start_count d v)) (decided_same (point_count d v) 0) (above_decided at.last_vertex v))))
 
 vertex_id_decided : (a b : VertexId) → Decided (a ≡ b)
-vertex_id_decided a b = decided_alike (λ e. (let same : ◌≡◌ {A = VertexId} (record { 0 = a.0 }) (record { 0 = b.0 }) = ap (λ (n : ℕ). record { 0 = n }) e in same)) (λ e. ap (λ (x : VertexId). x.0) e) (decided_same a.0 b.0)
+vertex_id_decided a b =
+    decided_alike (λ e. (let same : ◌≡◌ {A = VertexId} (record { 0 = a.0 }) (record { 0 = b.0 }) = ap (λ (n : ℕ). record { 0 = n }) e in same))
+    (λ e. ap (λ (x : VertexId). x.0) e) (decided_same a.0 b.0)
 
 goes_on_decided : (d : ShellRows) (r s : ℕ) → Decided (GoesOnTo d r s)
 goes_on_decided d r s =
     decided_alike (λ (a, at_a, (b, at_b, meet)). (a, b, at_a, at_b, meet)) (λ (a, b, at_a, at_b, meet). (a, at_a, (b, at_b, meet)))
-    (decided_found (row_named d r) (λ (a : Row). (b : Row) × (row_named d s ≡ Some b) × (a.to ≡ b.from)) (λ a. decided_found (row_named d s) (λ (b : Row). a.to ≡ b.from) (λ b. vertex_id_decided a.to b.from)))
+    (decided_found (row_named d r) (λ (a : Row). (b : Row) × (row_named d s ≡ Some b) × (a.to ≡ b.from))
+    (λ a. decided_found (row_named d s) (λ (b : Row). a.to ≡ b.from) (λ b. vertex_id_decided a.to b.from)))
 
 border_decided : (d : ShellRows) (at : OpenStand) (r : ℕ) (rs : List ℕ) → Decided (FitsBorder d at r rs)
 border_decided d at r rs =
-    decided_alike (λ (alone, goes, (least, rises)). record { lone = alone; goes_on = goes; least = least; rises = rises }) (λ h. (h.lone, h.goes_on, (h.least, h.rises)))
-    (decided_three (decided_all (Contains at.lone) (decided_contains decided_same at.lone) (r ∷ rs)) (decided_zip (GoesOnTo d) (goes_on_decided d) (r ∷ rs) (next_of_each (r ∷ rs)))
+    decided_alike (λ (alone, goes, (least, rises)). record { lone = alone; goes_on = goes; least = least; rises = rises })
+    (λ h. (h.lone, h.goes_on, (h.least, h.rises)))
+    (decided_three (decided_all (Contains at.lone) (decided_contains decided_same at.lone) (r ∷ rs))
+    (decided_zip (GoesOnTo d) (goes_on_decided d) (r ∷ rs) (next_of_each (r ∷ rs)))
     (decided_both (decided_all (λ x. r < x) (decided_below r) rs) (above_decided at.last_border r)))
 
 -- What is due.
@@ -182,7 +256,8 @@ reach_due_decided : (at : OpenStand) → Decided (ReachDue at)
 reach_due_decided at = decided_three (decided_same at.edges_due 0) (decided_same at.corners_due 0) (decided_below 0 at.reach_due)
 
 border_due_decided : (at : OpenStand) → Decided (BorderDue at)
-border_due_decided at = decided_four (decided_same at.edges_due 0) (decided_same at.corners_due 0) (decided_same at.reach_due 0) (decided_below 0 at.borders_due)
+border_due_decided at = decided_four (decided_same at.edges_due 0) (decided_same at.corners_due 0) (decided_same at.reach_due 0)
+    (decided_below 0 at.borders_due)
 
 done_decided : (at : OpenStand) → Decided (IsDone at)
 done_decided at =
@@ -219,7 +294,8 @@ by_end : (s : SolidData) (before : List OpenLine) (b : Bool) → (stand_from_lat
 by_end s before true e = inl e
 by_end s before false e = inr (Missing (stand_from_latest s before).number, (e, refl))
 
-by_later : (s : SolidData) (before : List OpenLine) (bytes : List ℕ) (lines : List (List ℕ)) (l : OpenLine) → IsSpelled bytes l → FitsLine s (stand_from_latest s before) l → Answers s (l ∷ before) lines → Answers s before (bytes ∷ lines)
+by_later : (s : SolidData) (before : List OpenLine) (bytes : List ℕ) (lines : List (List ℕ)) (l : OpenLine) → IsSpelled bytes l
+    → FitsLine s (stand_from_latest s before) l → Answers s (l ∷ before) lines → Answers s before (bytes ∷ lines)
 by_later s before bytes lines l is fits (inl legal) = inl (l, is, fits, legal)
 by_later s before bytes lines l is fits (inr (bad, h)) = inr (bad, inr (l, is, fits, h))
 
@@ -227,7 +303,8 @@ legal_or_bad : (s : SolidData) (before : List OpenLine) (lines : List (List ℕ)
 legal_or_bad s before [] = by_end s before (stand_from_latest s before).ended refl
 legal_or_bad s before (bytes ∷ lines) =
     ⊎_elim
-    (λ (l, is). ⊎_elim (λ fits. by_later s before bytes lines l is fits (legal_or_bad s (l ∷ before) lines)) (λ other. inr (Unfit (stand_from_latest s before).number, inl (inr ((l, is, other), refl)))) (line_decided s (stand_from_latest s before) l))
+    (λ (l, is). ⊎_elim (λ fits. by_later s before bytes lines l is fits (legal_or_bad s (l ∷ before) lines))
+    (λ other. inr (Unfit (stand_from_latest s before).number, inl (inr ((l, is, other), refl)))) (line_decided s (stand_from_latest s before) l))
     (λ none. inr (Misspelt (stand_from_latest s before).number, inl (inl ((λ l h. none (l, h)), refl))))
     (some_line_decided bytes)
 

@@ -1,5 +1,6 @@
 -- Arrays of marked rows, and counts that stop.
-use Rattle.std.specs.Prelude.{◌≡◌, ◌≢◌, ℕ, zero, suc, ◌-◌, ◌<◌, ◌≤◌, ◌==◌, ◌⊎◌, Bool, true, false, List, [], ◌∷◌, length, Contains, Some, slice_get, slice_set, replicate}
+use Rattle.std.specs.Prelude.{◌≡◌, ◌≢◌, ℕ, zero, suc, ◌-◌, ◌<◌, ◌≤◌, ◌==◌, ◌⊎◌, Bool, true, false, List, [], ◌∷◌, length, Contains, Some, slice_get, slice_set}
+use Rattle.std.specs.Prelude.{replicate}
 use Rattle.std.proofs.Common.{sym, ◌∙◌, ap, subst, arith, inl, inr}
 use Rattle.std.proofs.lemmas.Bool.Decides.{eqb_tells}
 use Rattle.std.proofs.lemmas.Option.{same_Some}
@@ -9,11 +10,13 @@ use Rattle.topo_certificate.proofs.Arrays.{get_set_same, get_set_other}
 use Rattle.open_shells.specs.Kept.{IsMarked, HoldsRows}
 
 -- one row more is marked
-pub rows_more : (marks : List Bool) (rows : List ℕ) (a : ℕ) → 0 < a → a ≤ length marks → HoldsRows marks rows → HoldsRows (slice_set marks (a - 1) true) (a ∷ rows)
+pub rows_more : (marks : List Bool) (rows : List ℕ) (a : ℕ) → 0 < a → a ≤ length marks → HoldsRows marks rows
+    → HoldsRows (slice_set marks (a - 1) true) (a ∷ rows)
 rows_more marks rows zero pos within holds r = absurd (omega (arith, pos))
 rows_more marks rows (suc k) pos within holds r =
     let place : suc k - 1 ≡ k = omega arith in
-    subst (λ n. (Contains (suc k ∷ rows) r → IsMarked (slice_set marks n true) r) × (IsMarked (slice_set marks n true) r → Contains (suc k ∷ rows) r)) (sym place) (to r, from r)
+    subst (λ n. (Contains (suc k ∷ rows) r → IsMarked (slice_set marks n true) r) × (IsMarked (slice_set marks n true) r → Contains (suc k ∷ rows) r))
+    (sym place) (to r, from r)
   where
     was : (x : ℕ) → Has rows x → IsMarked (slice_set marks k true) x
     was x m = by_row x ((holds x).0 (Contains-from_Has rows x m))
@@ -39,7 +42,8 @@ rows_more marks rows (suc k) pos within holds r =
       where
         by_place : (((k == j) ≡ true) × (k ≡ j)) ⊎ (((k == j) ≡ false) × (k ≢ j)) → Contains (suc k ∷ rows) (suc j)
         by_place (inl y) = Contains-from_Has (suc k ∷ rows) (suc j) (inl (ap suc y.1))
-        by_place (inr n) = Contains-from_Has (suc k ∷ rows) (suc j) (inr (Has-from_Contains rows (suc j) ((holds (suc j)).1 (sym (get_set_other marks k j true n.1) ∙ h))))
+        by_place (inr n) = Contains-from_Has (suc k ∷ rows) (suc j)
+            (inr (Has-from_Contains rows (suc j) ((holds (suc j)).1 (sym (get_set_other marks k j true n.1) ∙ h))))
 
 unmarked : (n j : ℕ) → slice_get (replicate n false) j ≡ Some true → ⊥
 unmarked zero j h = absurd cc

@@ -1,5 +1,6 @@
 -- Edges that are used once or by mates, and the mates of their rows.
-use Rattle.std.specs.Prelude.{◌≡◌, ℕ, zero, suc, ◌+◌, ◌-◌, ◌<◌, ◌≤◌, ◌⊎◌, Bool, true, false, not, List, [], ◌∷◌, ◌++◌, length, Contains, Option, Some, slice_get}
+use Rattle.std.specs.Prelude.{◌≡◌, ℕ, zero, suc, ◌+◌, ◌-◌, ◌<◌, ◌≤◌, ◌⊎◌, Bool, true, false, not, List, [], ◌∷◌, ◌++◌, length, Contains, Option, Some}
+use Rattle.std.specs.Prelude.{slice_get}
 use Rattle.std.specs.List.{AllByRecursion, AllZip}
 use Rattle.std.proofs.Common.{refl, sym, ◌∙◌, ap, subst, arith, inl, inr, ⊎_elim, drop, append_assoc, get_or}
 use Rattle.std.proofs.lemmas.List.{append-nil, drop_all}
@@ -43,10 +44,12 @@ zip_more P xs i v b old new at p e all rest h =
     let there : AllZip P xs (old ++ b ∷ rest) = all (b ∷ rest) (subst (λ vs. AllZip P vs (b ∷ rest)) (sym (split_at xs i v at)) (p, h)) in
     subst (AllZip P xs) (sym (ap (λ cs. cs ++ rest) e ∙ append_assoc old (b ∷ []) rest)) there
 
-pub zip_done : {B : Type 0} (P : ℕ → B → Type 0) (xs : List ℕ) (i : ℕ) (made : List B) → length xs ≤ i → ((rest : List B) → AllZip P (drop i xs) rest → AllZip P xs (made ++ rest)) → AllZip P xs made
+pub zip_done : {B : Type 0} (P : ℕ → B → Type 0) (xs : List ℕ) (i : ℕ) (made : List B) → length xs ≤ i
+    → ((rest : List B) → AllZip P (drop i xs) rest → AllZip P xs (made ++ rest)) → AllZip P xs made
 zip_done P xs i made past all = subst (AllZip P xs) (append-nil made) (all [] (subst (λ vs. AllZip P vs []) (sym (drop_all i xs past)) tt))
 
-pub get_pushed_of : {A : Type 0} (xs : List A) (m : A) (r : ℕ) (k : A) → slice_get (xs ++ m ∷ []) r ≡ Some k → (slice_get xs r ≡ Some k) ⊎ ((r ≡ length xs) × (m ≡ k))
+pub get_pushed_of : {A : Type 0} (xs : List A) (m : A) (r : ℕ) (k : A) → slice_get (xs ++ m ∷ []) r ≡ Some k
+    → (slice_get xs r ≡ Some k) ⊎ ((r ≡ length xs) × (m ≡ k))
 get_pushed_of [] m zero k h = inr (refl, same_Some m k h)
 get_pushed_of [] m (suc r) k h = absurd cc
 get_pushed_of (x ∷ xs) m zero k h = inl h
@@ -55,7 +58,8 @@ get_pushed_of (x ∷ xs) m (suc r) k h = ⊎_elim (λ e. inl e) (λ p. inr (ap s
 -- Edges.
 
 pub once_counts : (d : ShellRows) (e : ℕ) → IsOnce d e → (row_count d e true ≤ 1) × (row_count d e false ≤ 1) × (1 ≤ row_count d e true + row_count d e false)
-once_counts d e (inl one) = let t = total_uses d e in let c = counts_of_edge d e in (omega (arith, one, t, c), omega (arith, one, t, c), omega (arith, one, t, c))
+once_counts d e (inl one) =
+    let t = total_uses d e in let c = counts_of_edge d e in (omega (arith, one, t, c), omega (arith, one, t, c), omega (arith, one, t, c))
 once_counts d e (inr pair) = (omega (arith, pair.0), omega (arith, pair.1), omega (arith, pair.0, pair.1))
 
 pub counts_once : (d : ShellRows) (e : ℕ) (a b : ℕ) → a ≡ row_count d e true → b ≡ row_count d e false → a ≤ 1 → b ≤ 1 → 1 ≤ a + b → IsOnce d e
@@ -64,10 +68,12 @@ counts_once d e (suc a) zero is_a is_b low_a low_b some = inl (omega (arith, is_
 counts_once d e (suc a) (suc b) is_a is_b low_a low_b some = inr (omega (arith, is_a, low_a), omega (arith, is_b, low_b))
 
 -- what was seen of an edge of the range
-pub seen_there : (d : ShellRows) (span : Span) (tally : List Seen) (e : ℕ) (seen : Seen) → IsTally d span tally → IsWithin span e → seen ≡ get_or tally (e - span.least) unseen → IsSeen d e seen
+pub seen_there : (d : ShellRows) (span : Span) (tally : List Seen) (e : ℕ) (seen : Seen) → IsTally d span tally → IsWithin span e
+    → seen ≡ get_or tally (e - span.least) unseen → IsSeen d e seen
 seen_there d span tally e seen all within is_seen = subst (IsSeen d e) (sym is_seen) (all e within)
 
-pub only_against : (d : ShellRows) (e : ℕ) (seen : Seen) → IsSeen d e seen → IsOnce d e → seen.along ≡ 0 → RunsOn d e false seen.against_row × (row_total d e ≡ 1)
+pub only_against : (d : ShellRows) (e : ℕ) (seen : Seen) → IsSeen d e seen → IsOnce d e → seen.along ≡ 0
+    → RunsOn d e false seen.against_row × (row_total d e ≡ 1)
 only_against d e seen s once none =
     let k = once_counts d e once in
     (s.against_row (omega (arith, none, s.along, s.against, k.2)), omega (arith, none, s.along, k.1, k.2, total_uses d e, counts_of_edge d e))
@@ -79,20 +85,24 @@ only_along d e seen s once none =
 
 -- Mates.
 
-pub mate_along : (d : ShellRows) (r : ℕ) (row : Row) (seen : Seen) → slice_get d.rows r ≡ Some row → row.along ≡ true → 0 < seen.against → IsSeen d row.edge.0 seen → AreMates d r seen.against_row
+pub mate_along : (d : ShellRows) (r : ℕ) (row : Row) (seen : Seen) → slice_get d.rows r ≡ Some row → row.along ≡ true → 0 < seen.against
+    → IsSeen d row.edge.0 seen → AreMates d r seen.against_row
 mate_along d r row seen at way some s =
     let m = s.against_row some in
     record { row = row; mate = m.row; at_r = at; at_m = m.at; one_edge = edge_id row.edge m.row.edge (sym m.edge); opposite = way ∙ sym (ap not m.along) }
 
-pub mate_against : (d : ShellRows) (r : ℕ) (row : Row) (seen : Seen) → slice_get d.rows r ≡ Some row → row.along ≡ false → 0 < seen.along → IsSeen d row.edge.0 seen → AreMates d r seen.along_row
+pub mate_against : (d : ShellRows) (r : ℕ) (row : Row) (seen : Seen) → slice_get d.rows r ≡ Some row → row.along ≡ false → 0 < seen.along
+    → IsSeen d row.edge.0 seen → AreMates d r seen.along_row
 mate_against d r row seen at way some s =
     let m = s.along_row some in
     record { row = row; mate = m.row; at_r = at; at_m = m.at; one_edge = edge_id row.edge m.row.edge (sym m.edge); opposite = way ∙ sym (ap not m.along) }
 
-pub no_mate_along : (d : ShellRows) (r : ℕ) (row : Row) (seen : Seen) → slice_get d.rows r ≡ Some row → seen.against ≡ 0 → IsSeen d row.edge.0 seen → IsOnce d row.edge.0 → IsBorder d r
+pub no_mate_along : (d : ShellRows) (r : ℕ) (row : Row) (seen : Seen) → slice_get d.rows r ≡ Some row → seen.against ≡ 0 → IsSeen d row.edge.0 seen
+    → IsOnce d row.edge.0 → IsBorder d r
 no_mate_along d r row seen at none s once = (row, at, (only_along d row.edge.0 seen s once none).1)
 
-pub no_mate_against : (d : ShellRows) (r : ℕ) (row : Row) (seen : Seen) → slice_get d.rows r ≡ Some row → seen.along ≡ 0 → IsSeen d row.edge.0 seen → IsOnce d row.edge.0 → IsBorder d r
+pub no_mate_against : (d : ShellRows) (r : ℕ) (row : Row) (seen : Seen) → slice_get d.rows r ≡ Some row → seen.along ≡ 0 → IsSeen d row.edge.0 seen
+    → IsOnce d row.edge.0 → IsBorder d r
 no_mate_against d r row seen at none s once = (row, at, (only_against d row.edge.0 seen s once none).1)
 
 -- the edge of a row is used once or by mates
@@ -104,15 +114,18 @@ row_once d whole n a at =
 pub mate_pushed : (d : ShellRows) (i : ℕ) (old new : List (Option RowId)) (mate : Option RowId) → length old ≡ i → IsMateOf d i mate → new ≡ old ++ mate ∷ []
     → ((r : ℕ) (o : Option RowId) → slice_get old r ≡ Some o → IsMateOf d r o) → (r : ℕ) (o : Option RowId) → slice_get new r ≡ Some o → IsMateOf d r o
 mate_pushed d i old new mate long is_mate e all r o at =
-    ⊎_elim (λ h. all r o h) (λ h. subst (IsMateOf d r) h.1 (subst (λ n. IsMateOf d n mate) (sym (h.0 ∙ long)) is_mate)) (get_pushed_of old mate r o (ap (λ xs. slice_get xs r) (sym e) ∙ at))
+    ⊎_elim (λ h. all r o h) (λ h. subst (IsMateOf d r) h.1 (subst (λ n. IsMateOf d n mate) (sym (h.0 ∙ long)) is_mate))
+    (get_pushed_of old mate r o (ap (λ xs. slice_get xs r) (sym e) ∙ at))
 
 -- each row is a border row or has a mate
 pub border_or_mate : (d : ShellRows) → AreOnce d → (m : ℕ) (a : Row) → slice_get d.rows m ≡ Some a → IsBorder d m ⊎ ((t : ℕ) × AreMates d m t)
 border_or_mate d whole m a at = by_once (row_once d whole m a at)
   where
     paired : IsPaired d a.edge.0 → (b : Bool) → a.along ≡ b → (t : ℕ) × AreMates d m t
-    paired pair true e = let k = row_of_edge_against d a.edge.0 pair in (k.0, record { row = a; mate = k.1; at_r = at; at_m = k.2; one_edge = edge_id a.edge k.1.edge (sym k.3); opposite = e ∙ sym (ap not k.4) })
-    paired pair false e = let k = row_of_edge_along d a.edge.0 pair in (k.0, record { row = a; mate = k.1; at_r = at; at_m = k.2; one_edge = edge_id a.edge k.1.edge (sym k.3); opposite = e ∙ sym (ap not k.4) })
+    paired pair true e = let k = row_of_edge_against d a.edge.0 pair
+        in (k.0, record { row = a; mate = k.1; at_r = at; at_m = k.2; one_edge = edge_id a.edge k.1.edge (sym k.3); opposite = e ∙ sym (ap not k.4) })
+    paired pair false e = let k = row_of_edge_along d a.edge.0 pair
+        in (k.0, record { row = a; mate = k.1; at_r = at; at_m = k.2; one_edge = edge_id a.edge k.1.edge (sym k.3); opposite = e ∙ sym (ap not k.4) })
 
     by_once : IsOnce d a.edge.0 → IsBorder d m ⊎ ((t : ℕ) × AreMates d m t)
     by_once (inl one) = inl (a, at, one)

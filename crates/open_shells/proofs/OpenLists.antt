@@ -60,9 +60,11 @@ hold_as_open rule [] h = tt
 hold_as_open rule (o ∷ os) h = (h.0, hold_as_open rule os h.1)
 
 -- the first false one, by the name of the open rule
-pub as_open_false : (rule : OpenRule) (os : List Obligation) (x : Failing) → FirstFalseClosed os x → FirstFalse (map (as_open rule) os) (open_failing rule x.entity x.place)
+pub as_open_false : (rule : OpenRule) (os : List Obligation) (x : Failing) → FirstFalseClosed os x
+    → FirstFalse (map (as_open rule) os) (open_failing rule x.entity x.place)
 as_open_false rule [] x h = absurd h
-as_open_false rule (o ∷ os) x h = ⊎_elim (λ p. inl (p.0, ap (λ (y : Failing). open_failing rule y.entity y.place) p.1)) (λ p. inr (p.0, as_open_false rule os x p.1)) h
+as_open_false rule (o ∷ os) x h = ⊎_elim (λ p. inl (p.0, ap (λ (y : Failing). open_failing rule y.entity y.place) p.1))
+    (λ p. inr (p.0, as_open_false rule os x p.1)) h
 
 -- The obligations on a shell hold exactly where it is sound.
 pub hold_from_sound : (s : SolidData) (shell : Shell) → IsSoundShell s shell → AllHold (open_shell_obligations s shell)
@@ -74,9 +76,11 @@ hold_from_sound s shell sound =
     (hold_append (map (as_open Join) (join_obligations s shell)) (map (edge_obligation s d) d.edges)
     (as_open_hold Join (join_obligations s shell)
     (of_each-AllHold (λ (p : PlacedLoop). loop_obligations s p.loop) (placed_loops shell)
-    (AllByRecursion-weaker (λ (p : PlacedLoop). IsJoined s p.loop) (λ (p : PlacedLoop). AllHoldClosed (loop_obligations s p.loop)) (placed_loops shell) (λ p. hold_from_joined s p.loop) sound.joined)))
+    (AllByRecursion-weaker (λ (p : PlacedLoop). IsJoined s p.loop) (λ (p : PlacedLoop). AllHoldClosed (loop_obligations s p.loop)) (placed_loops shell)
+    (λ p. hold_from_joined s p.loop) sound.joined)))
     (hold_map (edge_obligation s d) d.edges sound.once))
-    (as_open_hold Reach (reach_obligations shell d) (map-AllHold _ (enumerate_from 0 shell.faces) (enumerated_from_numbered (IsReached d) 0 shell.faces sound.reached))))
+    (as_open_hold Reach (reach_obligations shell d)
+    (map-AllHold _ (enumerate_from 0 shell.faces) (enumerated_from_numbered (IsReached d) 0 shell.faces sound.reached))))
     (hold_map (fan_obligation s d) d.vertices sound.fanned)
 
 pub sound_from_hold : (s : SolidData) (shell : Shell) → AllHold (open_shell_obligations s shell) → IsSoundShell s shell
@@ -90,9 +94,12 @@ sound_from_hold s shell all =
     let abc : AllHold (a ++ b ++ c) = hold_left (a ++ b ++ c) e all in
     let ab : AllHold (a ++ b) = hold_left (a ++ b) c abc in
     record {
-      joined = AllByRecursion-weaker (λ (p : PlacedLoop). AllHoldClosed (loop_obligations s p.loop)) (λ (p : PlacedLoop). IsJoined s p.loop) (placed_loops shell) (λ p. joined_from_hold s p.loop)
-          (AllHold-of_each (λ (p : PlacedLoop). loop_obligations s p.loop) (placed_loops shell) (hold_as_open Join (join_obligations s shell) (hold_left a b ab)));
+      joined = AllByRecursion-weaker (λ (p : PlacedLoop). AllHoldClosed (loop_obligations s p.loop)) (λ (p : PlacedLoop). IsJoined s p.loop)
+          (placed_loops shell) (λ p. joined_from_hold s p.loop)
+          (AllHold-of_each (λ (p : PlacedLoop). loop_obligations s p.loop) (placed_loops shell)
+          (hold_as_open Join (join_obligations s shell) (hold_left a b ab)));
       once = map_hold (edge_obligation s d) d.edges (hold_right a b ab);
-      reached = numbered_from_enumerated (IsReached d) 0 shell.faces (AllHold-map _ (enumerate_from 0 shell.faces) (hold_as_open Reach (reach_obligations shell d) (hold_right (a ++ b) c abc)));
+      reached = numbered_from_enumerated (IsReached d) 0 shell.faces
+          (AllHold-map _ (enumerate_from 0 shell.faces) (hold_as_open Reach (reach_obligations shell d) (hold_right (a ++ b) c abc)));
       fanned = map_hold (fan_obligation s d) d.vertices (hold_right (a ++ b ++ c) e all);
     }

@@ -14,7 +14,8 @@ use Rattle.solid_data.specs.declared.solid.LoopAt.{LoopAt}
 use Rattle.solid_data.specs.declared.solid.LoopUse.{LoopUse}
 use Rattle.solid_data.specs.declared.solid.LoopUse.TheVariants.{EdgeUse, VertexUse}
 use Rattle.solid_data.specs.declared.solid.Shell.{Shell}
-use Rattle.solid_data.proofs.Members.{map_has, from_flat_map, has_map, Has, All-at, no_longer, count_by-total, total, Rises, rises_none, has_left, has_right, all_has, has_get}
+use Rattle.solid_data.proofs.Members.{map_has, from_flat_map, has_map, Has, All-at, no_longer, count_by-total, total, Rises, rises_none, has_left, has_right}
+use Rattle.solid_data.proofs.Members.{all_has, has_get}
 use Rattle.edge_uses.specs.declared.row.Row.{Row}
 use Rattle.edge_uses.specs.ShellRows.{ShellRows, row_of, loop_rows, point_of, shell_rows}
 use Rattle.edge_uses.specs.RowRelations.{point_count}
@@ -42,7 +43,8 @@ enum_one xs f g h k e =
     let item : f.1 ≡ g.1 = same_Some f.1 g.1 (sym a.2 ∙ (ap (slice_get xs) same ∙ b.2)) in
     ap (λ n. (n, f.1)) e ∙ ap (λ x. (g.0, x)) item
 
-placed_one : (shell : Shell) (p q : PlacedLoop) → Has (placed_loops shell) p → Has (placed_loops shell) q → p.at.face.0 ≡ q.at.face.0 → p.at.place ≡ q.at.place → p ≡ q
+placed_one : (shell : Shell) (p q : PlacedLoop) → Has (placed_loops shell) p → Has (placed_loops shell) q → p.at.face.0 ≡ q.at.face.0 → p.at.place ≡ q.at.place
+    → p ≡ q
 placed_one shell p q h k face place =
     let f = from_flat_map (placed_in_face shell.flag) (enumerate_from 0 shell.faces) p h in
     let g = from_flat_map (placed_in_face shell.flag) (enumerate_from 0 shell.faces) q k in
@@ -53,13 +55,15 @@ placed_one shell p q h k face place =
     let one_face : f.0 ≡ g.0 = enum_one shell.faces f.0 g.0 f.1 g.1 (face_f ∙ (face ∙ sym face_g)) in
     let place_l : l.0.0 ≡ p.at.place = ap (λ (r : PlacedLoop). r.at.place) l.2 in
     let place_m : m.0.0 ≡ q.at.place = ap (λ (r : PlacedLoop). r.at.place) m.2 in
-    let one_loop : l.0 ≡ m.0 = enum_one g.0.1.loops l.0 m.0 (subst (λ (z : ℕ × FaceUse). Has (enumerate_from 0 z.1.loops) l.0) one_face l.1) m.1 (place_l ∙ (place ∙ sym place_m)) in
+    let one_loop : l.0 ≡ m.0 = enum_one g.0.1.loops l.0 m.0 (subst (λ (z : ℕ × FaceUse). Has (enumerate_from 0 z.1.loops) l.0) one_face l.1) m.1
+    (place_l ∙ (place ∙ sym place_m)) in
     sym l.2 ∙ (ap (λ (z : ℕ × FaceUse). make z l.0) one_face ∙ (ap (λ z. make g.0 z) one_loop ∙ m.2))
   where
     make : ℕ × FaceUse → ℕ × Loop → PlacedLoop
     make face l = record { at = record { face = record { 0 = face.0 }; place = l.0 }; forwards = same_flag face.1.flag shell.flag; loop = l.1 }
 
-pub point_is : (p : PlacedLoop) (us : List LoopUse) (es : List ℕ) (x : LoopAt × ℕ) → Has (point_of p us es) x → (x.0 ≡ p.at) × ((y : LoopAt × ℕ) → Has (point_of p us es) y → y.1 ≡ x.1)
+pub point_is : (p : PlacedLoop) (us : List LoopUse) (es : List ℕ) (x : LoopAt × ℕ) → Has (point_of p us es) x
+    → (x.0 ≡ p.at) × ((y : LoopAt × ℕ) → Has (point_of p us es) y → y.1 ≡ x.1)
 point_is p [] [] x h = absurd h
 point_is p [] (e ∷ es) x h = absurd h
 point_is p (EdgeUse edge along ∷ us) [] x h = absurd h
@@ -84,9 +88,11 @@ points_differ s shell x y h k face place =
 -- How many rows and points there are.
 
 -- a loop has as many uses as rows, or a use more where it has a point
-loop_size : (s : SolidData) (p : PlacedLoop) (us : List LoopUse) → length (filter_map (row_of s p) us) + length (point_of p us (map (λ (r : Row). r.edge.0) (filter_map (row_of s p) us))) ≤ length us
+loop_size : (s : SolidData) (p : PlacedLoop) (us : List LoopUse)
+    → length (filter_map (row_of s p) us) + length (point_of p us (map (λ (r : Row). r.edge.0) (filter_map (row_of s p) us))) ≤ length us
 loop_size s p [] = omega arith
-loop_size s p (EdgeUse used along ∷ us) = by_rows (map (λ (r : Row). r.edge.0) (filter_map (row_of s p) (EdgeUse used along ∷ us))) (rows_shorter s p (EdgeUse used along ∷ us))
+loop_size s p (EdgeUse used along ∷ us) = by_rows (map (λ (r : Row). r.edge.0) (filter_map (row_of s p) (EdgeUse used along ∷ us)))
+    (rows_shorter s p (EdgeUse used along ∷ us))
   where
     by_rows : (es : List ℕ) → length (filter_map (row_of s p) (EdgeUse used along ∷ us)) ≤ length (EdgeUse used along ∷ us)
         → length (filter_map (row_of s p) (EdgeUse used along ∷ us)) + length (point_of p (EdgeUse used along ∷ us) es) ≤ length (EdgeUse used along ∷ us)
@@ -94,15 +100,26 @@ loop_size s p (EdgeUse used along ∷ us) = by_rows (map (λ (r : Row). r.edge.0
     by_rows (e ∷ es) h = omega (arith, h)
 loop_size s p (VertexUse v ∷ us) = by_rows (filter_map (row_of s p) us) (rows_shorter s p us)
   where
-    by_rows : (rows : List Row) → length rows ≤ length us → length rows + length (point_of p (VertexUse v ∷ us) (map (λ (r : Row). r.edge.0) rows)) ≤ length (VertexUse v ∷ us)
+    by_rows : (rows : List Row) → length rows ≤ length us → length rows + length (point_of p (VertexUse v ∷ us) (map (λ (r : Row). r.edge.0) rows))
+        ≤ length (VertexUse v ∷ us)
     by_rows [] h = omega arith
     by_rows (r ∷ rows) h = omega (arith, h)
 
-loops_size : (s : SolidData) (ps : List PlacedLoop) → length (flat_map (loop_rows s) ps) + length (flat_map (λ (p : PlacedLoop). point_of p p.loop.uses (map (λ (r : Row). r.edge.0) (loop_rows s p))) ps) ≤ length (flat_map (λ (p : PlacedLoop). p.loop.uses) ps)
+loops_size : (s : SolidData) (ps : List PlacedLoop)
+    → length (flat_map (loop_rows s) ps) + length (flat_map (λ (p : PlacedLoop). point_of p p.loop.uses (map (λ (r : Row). r.edge.0) (loop_rows s p))) ps)
+    ≤ length (flat_map (λ (p : PlacedLoop). p.loop.uses) ps)
 loops_size s [] = omega arith
 loops_size s (p ∷ ps) =
     let points : PlacedLoop → List (LoopAt × ℕ) = λ q. point_of q q.loop.uses (map (λ (r : Row). r.edge.0) (loop_rows s q)) in
-    omega (arith, loop_size s p p.loop.uses, loops_size s ps, length-append (loop_rows s p) (flat_map (loop_rows s) ps), length-append (points p) (flat_map points ps), length-append p.loop.uses (flat_map (λ (q : PlacedLoop). q.loop.uses) ps))
+    omega (
+      arith,
+      loop_size s p p.loop.uses,
+      loops_size s ps,
+      length-append (loop_rows s p) (flat_map (loop_rows s) ps),
+      length-append (points p)
+          (flat_map points ps),
+      length-append p.loop.uses (flat_map (λ (q : PlacedLoop). q.loop.uses) ps),
+    )
 
 rows_and_points : (s : SolidData) (h : Shell) → length (shell_rows s h).rows + length (shell_rows s h).points ≤ length (shell_uses h)
 unfolding shell_rows
@@ -115,10 +132,18 @@ vertices_size d rises fanned =
     let lone : List ℕ = map (λ (p : LoopAt × ℕ). p.1) d.points in
     let into : (v : ℕ) → Has d.vertices v → Has (starts ++ lone) v =
     λ v m. ⊎_elim
-    (λ c. has_left starts lone v (subst (Has starts) c.some.1.2 (map_has (λ (r : Row). r.from.0) d.rows c.some.1.0 (has_get d.rows c.some.0 c.some.1.0 c.some.1.1))))
+    (λ c. has_left starts lone v
+    (subst (Has starts) c.some.1.2 (map_has (λ (r : Row). r.from.0) d.rows c.some.1.0 (has_get d.rows c.some.0 c.some.1.0 c.some.1.1))))
     (λ p. has_right starts lone v (point_there v p.one_point))
     (All-at (IsFanned d) d.vertices fanned v m) in
-    omega (arith, no_longer d.vertices (starts ++ lone) (rises_none d.vertices rises) into, length-append starts lone, length-map d.rows (λ (r : Row). r.from.0), length-map d.points (λ (p : LoopAt × ℕ). p.1))
+    omega (
+      arith,
+      no_longer d.vertices (starts ++ lone) (rises_none d.vertices rises) into,
+      length-append starts lone,
+      length-map d.rows
+          (λ (r : Row). r.from.0),
+      length-map d.points (λ (p : LoopAt × ℕ). p.1),
+    )
   where
     point_there : (v : ℕ) → point_count d v ≡ 1 → Has (map (λ (p : LoopAt × ℕ). p.1) d.points) v
     point_there v one =
@@ -126,7 +151,8 @@ vertices_size d rises fanned =
         subst (Has (map (λ (p : LoopAt × ℕ). p.1) d.points)) (eqb-true f.0.1 v f.2) (map_has (λ (p : LoopAt × ℕ). p.1) d.points f.0 f.1)
 
 -- where a point lies
-points_low : (s : SolidData) (h : Shell) (x : LoopAt × ℕ) → Has (shell_rows s h).points x → (x.0.face.0 < length h.faces) × (x.0.place < length (placed_loops h))
+points_low : (s : SolidData) (h : Shell) (x : LoopAt × ℕ) → Has (shell_rows s h).points x
+    → (x.0.face.0 < length h.faces) × (x.0.place < length (placed_loops h))
 unfolding shell_rows
 points_low s h x m =
     let p = from_flat_map (λ (q : PlacedLoop). point_of q q.loop.uses (map (λ (r : Row). r.edge.0) (loop_rows s q))) (placed_loops h) x m in
@@ -154,7 +180,8 @@ used_total d [] h = omega arith
 used_total d (e ∷ es) h = omega (arith, once_used d e h.0, used_total d es h.1)
 
 -- no more edges than rows
-pub edges_few : (d : ShellRows) → Rises d.edges → AllByRecursion (λ (r : Row). Has d.edges r.edge.0) d.rows → AllByRecursion (IsOnce d) d.edges → length d.edges ≤ length d.rows
+pub edges_few : (d : ShellRows) → Rises d.edges → AllByRecursion (λ (r : Row). Has d.edges r.edge.0) d.rows → AllByRecursion (IsOnce d) d.edges
+    → length d.edges ≤ length d.rows
 edges_few d rises known once = omega (arith, used_total d d.edges once, uses-all d.rows d.edges (rises_none d.edges rises) known)
 
 pub record AreSmall (d : ShellRows) : Type 0 where

@@ -1,5 +1,6 @@
 -- The lines of parts fit.
-use Rattle.std.specs.Prelude.{◌≡◌, ℕ, suc, ◌+◌, ◌-◌, ◌*◌, ◌<◌, ◌≤◌, cond, true, false, List, [], ◌∷◌, ◌++◌, length, map, filter, filter_map, flat_map, find, Contains, Some, None, option_map}
+use Rattle.std.specs.Prelude.{◌≡◌, ℕ, suc, ◌+◌, ◌-◌, ◌*◌, ◌<◌, ◌≤◌, cond, true, false, List, [], ◌∷◌, ◌++◌, length, map, filter, filter_map, flat_map, find}
+use Rattle.std.specs.Prelude.{Contains, Some, None, option_map}
 use Rattle.std.specs.List.{AllByRecursion, AllZip, cons_option, list_any}
 use Rattle.std.proofs.Common.{refl, sym, ◌∙◌, ap, subst, arith}
 use Rattle.solid_data.specs.Ring.{next_of_each}
@@ -12,7 +13,8 @@ use Rattle.edge_uses.specs.RowRelations.{point_count}
 use Rattle.cert_lines.specs.Written.{row_number}
 use Rattle.topo_certificate.specs.Stand.{IsAbove, first_of, row_named, row_edge, row_start, row_face, point_named, start_count, IsMate, TurnsTo}
 use Rattle.open_shells.specs.Line.{OpenLine, shell, edge, lone, cycle, path, point, reach, border, end, spelling, HasSpelling}
-use Rattle.open_shells.specs.Stand.{stand_from_latest, shell_of, is_shell, is_edge, is_corner, is_reach, is_border, is_last, number_of, asked, mates_in, lone_in, edge_in, vertex_in, face_in, border_in, border_rows, FitsLine, IsChain, last_of, GoesOnTo}
+use Rattle.open_shells.specs.Stand.{stand_from_latest, shell_of, is_shell, is_edge, is_corner, is_reach, is_border, is_last, number_of, asked, mates_in}
+use Rattle.open_shells.specs.Stand.{lone_in, edge_in, vertex_in, face_in, border_in, border_rows, FitsLine, IsChain, last_of, GoesOnTo}
 use Rattle.open_shells.specs.Legal.{IsLegalAfter}
 use Rattle.open_shells.specs.Written.{edge_line}
 use Rattle.open_shells.specs.Reaching.{row_numbers}
@@ -42,7 +44,8 @@ named_rows (r ∷ rows) = ap (λ n. n ∷ map suc (row_numbers rows)) (one_more 
 pub edge_named : (p q : RowId) → edge (suc p.0) (suc q.0) ≡ edge_line (Two p q)
 edge_named p q = ap (λ n. edge n (suc q.0)) (one_more p) ∙ ap (edge (row_number p)) (one_more q)
 
--- how far the lines have come: the edges, vertices, faces and first border rows they name, the latest first, the mates, the only rows of edges, and the bordered rows
+-- how far the lines have come: the edges, vertices, faces and first border rows they name, the latest first, the mates, the only rows of edges, and the
+-- bordered rows
 pub record Stage (s : SolidData) (lines : List OpenLine) (b : ℕ) (es vs fs bs : List ℕ) (ms : List (ℕ × ℕ)) (ls rows : List ℕ) : Type 0 where
   pub begun : list_any is_last lines ≡ false
   pub shown : list_any is_shell lines ≡ true
@@ -59,7 +62,8 @@ pub record Stage (s : SolidData) (lines : List OpenLine) (b : ℕ) (es vs fs bs 
   pub border_count : number_of is_border lines ≡ length bs
   pub rows_in : flat_map border_rows lines ≡ rows
 
-module _ (s : SolidData) (lines : List OpenLine) (b : ℕ) (es vs fs bs : List ℕ) (ms : List (ℕ × ℕ)) (ls rows : List ℕ) (stage : Stage s lines b es vs fs bs ms ls rows) where
+module _ (s : SolidData) (lines : List OpenLine) (b : ℕ) (es vs fs bs : List ℕ) (ms : List (ℕ × ℕ)) (ls rows : List ℕ)
+    (stage : Stage s lines b es vs fs bs ms ls rows) where
   pub edges_left : (stand_from_latest s lines).edges_due ≡ length (shell_of s).edges - length es
   unfolding stand_from_latest
   edges_left = ap (λ (a : ℕ × ℕ × ℕ × ℕ). a.0 - number_of is_edge lines) stage.asks ∙ ap (λ n. length (shell_of s).edges - n) stage.edge_count
@@ -117,18 +121,31 @@ module _ (s : SolidData) (lines : List OpenLine) (b : ℕ) (es vs fs bs : List �
   shell_shown = stage.shown
 
   -- a line for an edge with two rows
-  pub edge_fits : (a c e : ℕ) (x y : Row) → length es < length (shell_of s).edges → row_named (shell_of s) a ≡ Some x → row_named (shell_of s) c ≡ Some y → x.edge.0 ≡ e → x.edge ≡ y.edge → x.along ≡ true → y.along ≡ false → IsAbove (first_of es) e
-      → (length (shell_of s).edges ≡ suc (length es) → 2 * length ms + length ls + 2 ≡ length (shell_of s).rows) → FitsLine s (stand_from_latest s lines) (edge a c)
+  pub edge_fits : (a c e : ℕ) (x y : Row) → length es < length (shell_of s).edges → row_named (shell_of s) a ≡ Some x → row_named (shell_of s) c ≡ Some y
+      → x.edge.0 ≡ e → x.edge ≡ y.edge → x.along ≡ true → y.along ≡ false → IsAbove (first_of es) e
+      → (length (shell_of s).edges ≡ suc (length es) → 2 * length ms + length ls + 2 ≡ length (shell_of s).rows)
+      → FitsLine s (stand_from_latest s lines) (edge a c)
   edge_fits a c e x y left at_a at_c is_e same along against above last = (
     not_ended,
     (
       omega (arith, left, edges_left),
-      record { along_row = x; against_row = y; at_a = at_a; at_b = at_c; one_edge = same; along = along; against = against; rises = subst (λ o. IsAbove o x.edge.0) (sym edge_before) (subst (λ n. IsAbove (first_of es) n) (sym is_e) above) },
+      record {
+        along_row = x;
+        against_row = y;
+        at_a = at_a;
+        at_b = at_c;
+        one_edge = same;
+        along = along;
+        against = against;
+        rises =
+            subst (λ o. IsAbove o x.edge.0) (sym edge_before) (subst (λ n. IsAbove (first_of es) n) (sym is_e) above);
+      },
       λ due. let l = last (omega (arith, due, left, edges_left)) in omega (arith, l, listed_before),
     ),
   )
 
-  pub edge_stage : (a c e : ℕ) (x : Row) → row_named (shell_of s) a ≡ Some x → x.edge.0 ≡ e → Stage s (edge a c ∷ lines) b (e ∷ es) vs fs bs ((a, c) ∷ ms) ls rows
+  pub edge_stage : (a c e : ℕ) (x : Row) → row_named (shell_of s) a ≡ Some x → x.edge.0 ≡ e
+      → Stage s (edge a c ∷ lines) b (e ∷ es) vs fs bs ((a, c) ∷ ms) ls rows
   edge_stage a c e x at_a is_e = record {
     begun = stage.begun;
     shown = stage.shown;
@@ -148,7 +165,8 @@ module _ (s : SolidData) (lines : List OpenLine) (b : ℕ) (es vs fs bs : List �
 
   -- a line for an edge with one row
   pub lone_fits : (a e : ℕ) (x : Row) → length es < length (shell_of s).edges → row_named (shell_of s) a ≡ Some x → x.edge.0 ≡ e → IsAbove (first_of es) e
-      → (length (shell_of s).edges ≡ suc (length es) → 2 * length ms + length ls + 1 ≡ length (shell_of s).rows) → FitsLine s (stand_from_latest s lines) (lone a)
+      → (length (shell_of s).edges ≡ suc (length es) → 2 * length ms + length ls + 1 ≡ length (shell_of s).rows)
+      → FitsLine s (stand_from_latest s lines) (lone a)
   lone_fits a e x left at_a is_e above last = (
     not_ended,
     (
@@ -177,27 +195,51 @@ module _ (s : SolidData) (lines : List OpenLine) (b : ℕ) (es vs fs bs : List �
   }
 
   -- a line for a vertex
-  pub cycle_fits : (v r : ℕ) (rs : List ℕ) → length (shell_of s).edges ≤ length es → length vs < length (shell_of s).vertices → row_start (row_named (shell_of s) r) ≡ Some v → AllZip (TurnsTo (shell_of s) ms) (r ∷ rs) (next_of_each (r ∷ rs)) → AllByRecursion (λ x. r < x) rs
-      → length (r ∷ rs) ≡ start_count (shell_of s) v → point_count (shell_of s) v ≡ 0 → IsAbove (first_of vs) v → FitsLine s (stand_from_latest s lines) (cycle (r ∷ rs))
+  pub cycle_fits : (v r : ℕ) (rs : List ℕ) → length (shell_of s).edges ≤ length es → length vs < length (shell_of s).vertices
+      → row_start (row_named (shell_of s) r) ≡ Some v → AllZip (TurnsTo (shell_of s) ms) (r ∷ rs) (next_of_each (r ∷ rs)) → AllByRecursion (λ x. r < x) rs
+      → length (r ∷ rs) ≡ start_count (shell_of s) v → point_count (shell_of s) v ≡ 0 → IsAbove (first_of vs) v
+      → FitsLine s (stand_from_latest s lines) (cycle (r ∷ rs))
   cycle_fits v r rs edges_done left starts turns least whole no_point above = (
     not_ended,
     (
       (omega (arith, edges_done, edges_left), omega (arith, left, corners_left)),
-      record { vertex = v; lies_at = starts; turns = subst (λ m. AllZip (TurnsTo (shell_of s) m) (r ∷ rs) (next_of_each (r ∷ rs))) (sym mates_before) turns; least = least; whole = whole; no_point = no_point; rises = subst (λ o. IsAbove o v) (sym vertex_before) above },
+      record {
+        vertex = v;
+        lies_at = starts;
+        turns = subst (λ m. AllZip (TurnsTo (shell_of s) m) (r ∷ rs) (next_of_each (r ∷ rs))) (sym mates_before) turns;
+        least = least;
+        whole = whole;
+        no_point = no_point;
+        rises = subst (λ o. IsAbove o v) (sym vertex_before) above;
+      },
     ),
   )
 
-  pub path_fits : (v r : ℕ) (rs : List ℕ) → length (shell_of s).edges ≤ length es → length vs < length (shell_of s).vertices → row_start (row_named (shell_of s) r) ≡ Some v → IsChain (TurnsTo (shell_of s) ms) r rs → Contains ls (last_of r rs)
-      → length (r ∷ rs) ≡ start_count (shell_of s) v → point_count (shell_of s) v ≡ 0 → IsAbove (first_of vs) v → FitsLine s (stand_from_latest s lines) (path (r ∷ rs))
+  pub path_fits : (v r : ℕ) (rs : List ℕ) → length (shell_of s).edges ≤ length es → length vs < length (shell_of s).vertices
+      → row_start (row_named (shell_of s) r) ≡ Some v → IsChain (TurnsTo (shell_of s) ms) r rs → Contains ls (last_of r rs)
+      → length (r ∷ rs) ≡ start_count (shell_of s) v → point_count (shell_of s) v ≡ 0 → IsAbove (first_of vs) v
+      → FitsLine s (stand_from_latest s lines) (path (r ∷ rs))
   path_fits v r rs edges_done left starts turns ends whole no_point above = (
     not_ended,
     (
       (omega (arith, edges_done, edges_left), omega (arith, left, corners_left)),
-      record { vertex = v; lies_at = starts; turns = subst (λ m. IsChain (TurnsTo (shell_of s) m) r rs) (sym mates_before) turns; ends = subst (λ m. Contains m (last_of r rs)) (sym lone_before) ends; whole = whole; no_point = no_point; rises = subst (λ o. IsAbove o v) (sym vertex_before) above },
+      record {
+        vertex = v;
+        lies_at = starts;
+        turns = subst (λ m. IsChain (TurnsTo (shell_of s) m) r rs) (sym mates_before) turns;
+        ends =
+            subst (λ m. Contains m (last_of r rs)) (sym lone_before) ends;
+        whole = whole;
+        no_point = no_point;
+        rises =
+            subst (λ o. IsAbove o v) (sym vertex_before) above;
+      },
     ),
   )
 
-  pub point_fits : (v face l : ℕ) → length (shell_of s).edges ≤ length es → length vs < length (shell_of s).vertices → option_map (λ (p : LoopAt × ℕ). p.1) (point_named (shell_of s) face l) ≡ Some v → start_count (shell_of s) v ≡ 0 → point_count (shell_of s) v ≡ 1 → IsAbove (first_of vs) v
+  pub point_fits : (v face l : ℕ) → length (shell_of s).edges ≤ length es → length vs < length (shell_of s).vertices
+      → option_map (λ (p : LoopAt × ℕ). p.1) (point_named (shell_of s) face l) ≡ Some v → start_count (shell_of s) v ≡ 0 → point_count (shell_of s) v ≡ 1
+      → IsAbove (first_of vs) v
       → FitsLine s (stand_from_latest s lines) (point face l)
   point_fits v face l edges_done left lies no_row one above = (
     not_ended,
@@ -208,8 +250,11 @@ module _ (s : SolidData) (lines : List OpenLine) (b : ℕ) (es vs fs bs : List �
   )
 
   -- a line of a vertex adds it
-  pub corner_stage : (line : OpenLine) (v : ℕ) → ((xs : List OpenLine) → list_any is_last (line ∷ xs) ≡ list_any is_last xs) → ((xs : List OpenLine) → list_any is_shell (line ∷ xs) ≡ list_any is_shell xs) → ((xs : List OpenLine) → find is_shell (line ∷ xs) ≡ find is_shell xs)
-      → edge_in (shell_of s) line ≡ None → is_edge line ≡ false → mates_in line ≡ None → lone_in line ≡ None → vertex_in (shell_of s) line ≡ Some v → is_corner line ≡ true → face_in (shell_of s) line ≡ None → is_reach line ≡ false → border_in line ≡ None → is_border line ≡ false → border_rows line ≡ []
+  pub corner_stage : (line : OpenLine) (v : ℕ) → ((xs : List OpenLine) → list_any is_last (line ∷ xs) ≡ list_any is_last xs)
+      → ((xs : List OpenLine) → list_any is_shell (line ∷ xs) ≡ list_any is_shell xs) → ((xs : List OpenLine) → find is_shell (line ∷ xs) ≡ find is_shell xs)
+      → edge_in (shell_of s) line ≡ None → is_edge line ≡ false → mates_in line ≡ None → lone_in line ≡ None → vertex_in (shell_of s) line ≡ Some v
+      → is_corner line ≡ true → face_in (shell_of s) line ≡ None → is_reach line ≡ false → border_in line ≡ None → is_border line ≡ false
+      → border_rows line ≡ []
       → Stage s (line ∷ lines) b es (v ∷ vs) fs bs ms ls rows
   corner_stage line v h0 h1 h2 h3 h4 h5 h6 h7 h8 h9 h10 h11 h12 h13 = record {
     begun = h0 lines ∙ stage.begun;
@@ -234,11 +279,13 @@ module _ (s : SolidData) (lines : List OpenLine) (b : ℕ) (es vs fs bs : List �
   pub path_stage : (v r : ℕ) (rs : List ℕ) → row_start (row_named (shell_of s) r) ≡ Some v → Stage s (path (r ∷ rs) ∷ lines) b es (v ∷ vs) fs bs ms ls rows
   path_stage v r rs at = corner_stage (path (r ∷ rs)) v (λ xs. refl) (λ xs. refl) (λ xs. refl) refl refl refl refl at refl refl refl refl refl refl
 
-  pub point_stage : (v face l : ℕ) → option_map (λ (p : LoopAt × ℕ). p.1) (point_named (shell_of s) face l) ≡ Some v → Stage s (point face l ∷ lines) b es (v ∷ vs) fs bs ms ls rows
+  pub point_stage : (v face l : ℕ) → option_map (λ (p : LoopAt × ℕ). p.1) (point_named (shell_of s) face l) ≡ Some v
+      → Stage s (point face l ∷ lines) b es (v ∷ vs) fs bs ms ls rows
   point_stage v face l at = corner_stage (point face l) v (λ xs. refl) (λ xs. refl) (λ xs. refl) refl refl refl refl at refl refl refl refl refl refl
 
   -- a line for a face
-  pub reach_fits : (r m f g : ℕ) → length (shell_of s).edges ≤ length es → length (shell_of s).vertices ≤ length vs → length fs < (shell_of s).face_count - 1 → IsMate ms r m → row_face (row_named (shell_of s) r) ≡ Some f → row_face (row_named (shell_of s) m) ≡ Some g → (Has (0 ∷ fs) f → ⊥) → Has (0 ∷ fs) g
+  pub reach_fits : (r m f g : ℕ) → length (shell_of s).edges ≤ length es → length (shell_of s).vertices ≤ length vs → length fs < (shell_of s).face_count - 1
+      → IsMate ms r m → row_face (row_named (shell_of s) r) ≡ Some f → row_face (row_named (shell_of s) m) ≡ Some g → (Has (0 ∷ fs) f → ⊥) → Has (0 ∷ fs) g
       → FitsLine s (stand_from_latest s lines) (reach r)
   reach_fits r m f g edges_done corners_done left mate on_f on_g new old = (
     not_ended,
@@ -276,13 +323,27 @@ module _ (s : SolidData) (lines : List OpenLine) (b : ℕ) (es vs fs bs : List �
   }
 
   -- a line of border rows
-  pub border_fits : (r : ℕ) (rs : List ℕ) → length (shell_of s).edges ≤ length es → length (shell_of s).vertices ≤ length vs → (shell_of s).face_count - 1 ≤ length fs → length bs < b → AllByRecursion (Contains ls) (r ∷ rs) → AllZip (GoesOnTo (shell_of s)) (r ∷ rs) (next_of_each (r ∷ rs))
+  pub border_fits : (r : ℕ) (rs : List ℕ) → length (shell_of s).edges ≤ length es → length (shell_of s).vertices ≤ length vs
+      → (shell_of s).face_count - 1 ≤ length fs → length bs < b → AllByRecursion (Contains ls) (r ∷ rs)
+      → AllZip (GoesOnTo (shell_of s)) (r ∷ rs) (next_of_each (r ∷ rs))
       → AllByRecursion (λ x. r < x) rs → IsAbove (first_of bs) r → FitsLine s (stand_from_latest s lines) (border (r ∷ rs))
   border_fits r rs edges_done corners_done reach_done left listed goes least above = (
     not_ended,
     (
-      (omega (arith, edges_done, edges_left), omega (arith, corners_done, corners_left), omega (arith, reach_done, reach_left), omega (arith, left, borders_left)),
-      record { lone = subst (λ m. AllByRecursion (Contains m) (r ∷ rs)) (sym lone_before) listed; goes_on = goes; least = least; rises = subst (λ o. IsAbove o r) (sym border_before) above },
+      (
+        omega (arith, edges_done, edges_left),
+        omega (arith, corners_done, corners_left),
+        omega (arith, reach_done, reach_left),
+        omega
+            (arith, left, borders_left),
+      ),
+      record {
+        lone = subst (λ m. AllByRecursion (Contains m) (r ∷ rs)) (sym lone_before) listed;
+        goes_on = goes;
+        least = least;
+        rises =
+            subst (λ o. IsAbove o r) (sym border_before) above;
+      },
     ),
   )
 
@@ -305,7 +366,8 @@ module _ (s : SolidData) (lines : List OpenLine) (b : ℕ) (es vs fs bs : List �
   }
 
   -- the last line
-  pub end_fits : length (shell_of s).edges ≤ length es → length (shell_of s).vertices ≤ length vs → (shell_of s).face_count - 1 ≤ length fs → b ≤ length bs → length rows ≡ length ls → Follow s lines (end ∷ [])
+  pub end_fits : length (shell_of s).edges ≤ length es → length (shell_of s).vertices ≤ length vs → (shell_of s).face_count - 1 ≤ length fs → b ≤ length bs
+      → length rows ≡ length ls → Follow s lines (end ∷ [])
   unfolding stand_from_latest
   end_fits edges_done corners_done reach_done borders_done whole = (
     (tt, tt),
@@ -324,7 +386,9 @@ module _ (s : SolidData) (lines : List OpenLine) (b : ℕ) (es vs fs bs : List �
   )
 
 -- The line that names the shell.
-pub shell_stage : (s : SolidData) (b : ℕ) → Stage s (shell s.entity.0 (length (shell_of s).rows) (length (shell_of s).edges) (length (shell_of s).vertices) (shell_of s).face_count b ∷ []) b [] [] [] [] [] [] []
+pub shell_stage : (s : SolidData) (b : ℕ)
+    → Stage s (shell s.entity.0 (length (shell_of s).rows) (length (shell_of s).edges) (length (shell_of s).vertices) (shell_of s).face_count b ∷ []) b [] []
+    [] [] [] [] []
 shell_stage s b = record {
   begun = refl;
   shown = refl;
@@ -342,6 +406,8 @@ shell_stage s b = record {
   rows_in = refl;
 }
 
-pub shell_fits : (s : SolidData) (b : ℕ) → FitsLine s (stand_from_latest s []) (shell s.entity.0 (length (shell_of s).rows) (length (shell_of s).edges) (length (shell_of s).vertices) (shell_of s).face_count b)
+pub shell_fits : (s : SolidData) (b : ℕ)
+    → FitsLine s (stand_from_latest s [])
+    (shell s.entity.0 (length (shell_of s).rows) (length (shell_of s).edges) (length (shell_of s).vertices) (shell_of s).face_count b)
 unfolding stand_from_latest
 shell_fits s b = (refl, (refl, record { names = refl; rows_counted = refl; edges_counted = refl; corners_counted = refl; faces_counted = refl }))

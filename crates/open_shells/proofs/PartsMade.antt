@@ -1,5 +1,6 @@
 -- A sound open shell has the parts of a certificate.
-use Rattle.std.specs.Prelude.{◌≡◌, ◌↔◌, ℕ, zero, suc, ◌+◌, ◌-◌, ◌<◌, ◌≤◌, ◌==◌, ◌&&◌, ◌⊎◌, Bool, true, false, not, List, [], ◌∷◌, ◌++◌, length, map, count_by, Option, Some, None, slice_get, slice_set}
+use Rattle.std.specs.Prelude.{◌≡◌, ◌↔◌, ℕ, zero, suc, ◌+◌, ◌-◌, ◌<◌, ◌≤◌, ◌==◌, ◌&&◌, ◌⊎◌, Bool, true, false, not, List, [], ◌∷◌, ◌++◌, length, map, count_by}
+use Rattle.std.specs.Prelude.{Option, Some, None, slice_get, slice_set}
 use Rattle.std.specs.List.{AllByRecursion, AllZip}
 use Rattle.std.proofs.Common.{refl, sym, ◌∙◌, ap, subst, arith, inl, inr, ⊎_elim, length-append, append_assoc, get_or}
 use Rattle.std.proofs.lemmas.Bool.{eqb-true, and_parts, cases_lt}
@@ -31,7 +32,8 @@ use Rattle.open_shells.specs.declared.parts.OpenCorner.{OpenCorner}
 use Rattle.open_shells.specs.declared.parts.OpenCorner.TheVariants.{Cycle, Path, Point}
 use Rattle.open_shells.proofs.Fans.{lone_no_mate}
 use Rattle.open_shells.proofs.OnceMates.{border_or_mate}
-use Rattle.open_shells.proofs.FanWalks.{turn_same, rows_at, at_listed, listed_at, counted_rows, Walked, walked_more, back_early, not_back, back_in_time, path_whole, Begins, path_short, back_least}
+use Rattle.open_shells.proofs.FanWalks.{turn_same, rows_at, at_listed, listed_at, counted_rows, Walked, walked_more, back_early, not_back, back_in_time}
+use Rattle.open_shells.proofs.FanWalks.{path_whole, Begins, path_short, back_least}
 use Rattle.open_shells.proofs.BorderRows.{no_turn_before, start_there, next_is, Passed, passed_more, loop_closed, never_back}
 use Rattle.open_shells.proofs.BorderLoops.{bordering_skips, bordering_adds, bordering_done, bordering_none, marks_more}
 
@@ -56,8 +58,13 @@ edge_made d e (inr pair) =
     let f = found_row p d.rows (omega (arith, pair.0, count_by-total p d.rows)) in
     let g = found_row q d.rows (omega (arith, pair.1, count_by-total q d.rows)) in
     let a = and_parts (f.1.edge.0 == e) f.1.along f.3 in
-    let b = and_parts (g.1.edge.0 == e) (not g.1.along) g.3 in
-    (Two (record { 0 = f.0 }) (record { 0 = g.0 }), (record { row = f.1; at = f.2; edge = eqb-true f.1.edge.0 e a.0; along = a.1 }, record { row = g.1; at = g.2; edge = eqb-true g.1.edge.0 e b.0; along = not-true g.1.along b.1 }))
+    let b = and_parts (g.1.edge.0 == e) (not g.1.along) g.3 in (
+      Two (record { 0 = f.0 }) (record { 0 = g.0 }),
+      (
+        record { row = f.1; at = f.2; edge = eqb-true f.1.edge.0 e a.0; along = a.1 },
+        record { row = g.1; at = g.2; edge = eqb-true g.1.edge.0 e b.0; along = not-true g.1.along b.1 },
+      ),
+    )
   where
     not-true : (b : Bool) → not b ≡ true → b ≡ false
     not-true true h = absurd cc
@@ -86,25 +93,31 @@ has_some [] x h = absurd h
 has_some (y ∷ ys) x h = omega arith
 
 -- a row to which none turns, or one turns to each
-find_head : (d : ShellRows) → AreOnce d → (v : ℕ) (xs : List ℕ) → ((x : ℕ) → Has xs x → StartsAt d v x) → ((h : ℕ) × IsHeadOf d v (Some h)) ⊎ ((x : ℕ) → Has xs x → (t : ℕ) × Turns d t x)
+find_head : (d : ShellRows) → AreOnce d → (v : ℕ) (xs : List ℕ) → ((x : ℕ) → Has xs x → StartsAt d v x)
+    → ((h : ℕ) × IsHeadOf d v (Some h)) ⊎ ((x : ℕ) → Has xs x → (t : ℕ) × Turns d t x)
 find_head d whole v [] start = inr (λ x m. absurd m)
 find_head d whole v (x ∷ xs) start =
     let at_v : StartsAt d v x = start x (inl refl) in
     let q = follows_onto d whole.rows x at_v.0 at_v.1 in
     ⊎_elim (λ border. inl (x, (at_v, λ t turn. no_turn_before d whole q.0 x t border q.2 turn)))
-    (λ m. ⊎_elim (λ h. inl h) (λ all. inr (λ y k. ⊎_elim (λ e. subst (λ z. (t : ℕ) × Turns d t z) e (m.0, (q.0, mates_back d q.0 m.0 m.1, q.2))) (λ h. all y h) k)) (find_head d whole v xs (λ y k. start y (inr k))))
+    (λ m. ⊎_elim (λ h. inl h)
+    (λ all. inr (λ y k. ⊎_elim (λ e. subst (λ z. (t : ℕ) × Turns d t z) e (m.0, (q.0, mates_back d q.0 m.0 m.1, q.2))) (λ h. all y h) k))
+    (find_head d whole v xs (λ y k. start y (inr k))))
     (border_or_mate d whole q.0 q.1 q.3)
 
 head_of : (d : ShellRows) → AreOnce d → (v : ℕ) → (o : Option ℕ) × IsHeadOf d v o
-head_of d whole v = ⊎_elim (λ h. (Some h.0, h.1)) (λ all. (None, λ x at. all x (at_listed d v x at))) (find_head d whole v (rows_at d v) (λ x m. listed_at d v x m))
+head_of d whole v = ⊎_elim (λ h. (Some h.0, h.1)) (λ all. (None, λ x at. all x (at_listed d v x at)))
+    (find_head d whole v (rows_at d v) (λ x m. listed_at d v x m))
 
 begin_at : (d : ShellRows) (v : ℕ) (o : Option ℕ) → IsHeadOf d v o → (r : ℕ) → StartsAt d v r → (first : ℕ) × StartsAt d v first × Begins d v o first
 begin_at d v None head r at = let k = least_of (rows_at d v) r (at_listed d v r at) in (k.0, listed_at d v k.0 k.1, λ x at_x. k.2 x (at_listed d v x at_x))
 begin_at d v (Some h) head r at = (h, head.0, refl)
 
 -- the walk comes back, or to a border row
-walk_made : (d : ShellRows) → AreOnce d → (v first count : ℕ) → StartsAt d v first → count ≡ count_by (λ (r : Row). r.from.0 == v) d.rows → 0 < count → (n : ℕ) (rs : List ℕ) (at : ℕ) → length rs + n ≡ count → Walked d first rs at → (0 < length rs → at ≡ first → ⊥) → StartsAt d v at
-    → (rs' : List ℕ) × (at' : ℕ) × Walked d first rs' at' × StartsAt d v at' × (((at' ≡ first) × (0 < length rs') × (length rs' ≤ count)) ⊎ (IsBorder d at' × (length rs' + 1 ≤ count)))
+walk_made : (d : ShellRows) → AreOnce d → (v first count : ℕ) → StartsAt d v first → count ≡ count_by (λ (r : Row). r.from.0 == v) d.rows → 0 < count
+    → (n : ℕ) (rs : List ℕ) (at : ℕ) → length rs + n ≡ count → Walked d first rs at → (0 < length rs → at ≡ first → ⊥) → StartsAt d v at
+    → (rs' : List ℕ) × (at' : ℕ) × Walked d first rs' at' × StartsAt d v at'
+    × (((at' ≡ first) × (0 < length rs') × (length rs' ≤ count)) ⊎ (IsBorder d at' × (length rs' + 1 ≤ count)))
 walk_made d whole v first count start counted some zero rs at long w away at_v =
     absurd (not_back d v first count rs at whole start counted some (omega (arith, long)) (away (omega (arith, long, some))) at_v w)
 walk_made d whole v first count start counted some (suc n) rs at long w away at_v =
@@ -129,11 +142,15 @@ fan_made d whole v fan =
     let k = walk_made d whole v first count b.1 refl some count [] first (omega arith) refl (λ lt. absurd (omega (arith, lt))) b.1 in
     ⊎_elim
     (λ back.
-    let long : length k.0 ≡ count = ⊎_elim (λ early. absurd (back_early d v first count k.0 k.1 whole b.1 refl back.1 early back.0 k.2 fan)) (λ ge. omega (arith, ge, back.2)) (cases_lt (length k.0) count) in
-    let cycle : IsCycleOf d v k.0 = (back_in_time d v first count k.0 k.1 whole b.1 (back_least d v first head.0 k.0 k.1 head.1 b.2 back.1 back.0 k.2) refl some long back.0 k.2 fan.no_point).0 in
+    let long : length k.0 ≡ count = ⊎_elim (λ early. absurd (back_early d v first count k.0 k.1 whole b.1 refl back.1 early back.0 k.2 fan))
+    (λ ge. omega (arith, ge, back.2)) (cases_lt (length k.0) count) in
+    let cycle : IsCycleOf d v k.0 =
+    (back_in_time d v first count k.0 k.1 whole b.1 (back_least d v first head.0 k.0 k.1 head.1 b.2 back.1 back.0 k.2) refl some long back.0 k.2
+    fan.no_point).0 in
     (Cycle (ids_of k.0), subst (IsCycleOf d v) (sym (numbers_of_ids k.0)) cycle))
     (λ out.
-    let long : length k.0 + 1 ≡ count = ⊎_elim (λ short. absurd (path_short d v first count head.0 k.0 k.1 whole b.1 head.1 b.2 refl short out.0 k.3 k.2 fan)) (λ ge. omega (arith, ge, out.1)) (cases_lt (length k.0 + 1) count) in
+    let long : length k.0 + 1 ≡ count = ⊎_elim (λ short. absurd (path_short d v first count head.0 k.0 k.1 whole b.1 head.1 b.2 refl short out.0 k.3 k.2 fan))
+    (λ ge. omega (arith, ge, out.1)) (cases_lt (length k.0 + 1) count) in
     let path : IsPathOf d v (k.0 ++ k.1 ∷ []) = (path_whole d v first count k.0 (k.0 ++ k.1 ∷ []) k.1 whole b.1 refl long out.0 k.2 refl fan.no_point).0 in
     (Path (ids_of (k.0 ++ k.1 ∷ [])), subst (IsPathOf d v) (sym (numbers_of_ids (k.0 ++ k.1 ∷ []))) path))
     k.4
@@ -166,7 +183,8 @@ leaving : (R : ℕ → ℕ → Type 0) (xs : List ℕ) (n a b : ℕ) → Steps R
 leaving R xs zero a b e m none = absurd (none (subst (Has xs) e m))
 leaving R xs (suc n) a b (c, r, rest) m none = ⊎_elim (λ k. leaving R xs n c b rest k none) (λ k. (a, c, m, k, r)) (decide_has xs c)
 
-reach_more : (d : ShellRows) → AreOnce d → AllByRecursion (IsReached d) (numbers_from 0 d.face_count) → (left : ℕ) (known : List ℕ) → Has known 0 → length known + left ≡ d.face_count → (rows : List ℕ) × ReachFrom d known rows × (length rows ≡ left)
+reach_more : (d : ShellRows) → AreOnce d → AllByRecursion (IsReached d) (numbers_from 0 d.face_count) → (left : ℕ) (known : List ℕ) → Has known 0
+    → length known + left ≡ d.face_count → (rows : List ℕ) × ReachFrom d known rows × (length rows ≡ left)
 reach_more d whole reached zero known first count = ([], tt, refl)
 reach_more d whole reached (suc left) known first count =
     let faces : List ℕ = numbers_from 0 d.face_count in
@@ -187,10 +205,12 @@ reach_more d whole reached (suc left) known first count =
     } in
     let rest = reach_more d whole reached left (c.1 ∷ known) (inr first) (omega (arith, count)) in
     (c.4.1 ∷ rest.0, (c.1, one, rest.1), ap suc rest.2))
-    (λ all. absurd (let h = no_longer faces known (rises_none faces (numbers_rise 0 d.face_count)) all in omega (arith, h, length-numbers 0 d.face_count, count)))
+    (λ all. absurd (let h = no_longer faces known (rises_none faces (numbers_rise 0 d.face_count)) all in omega
+    (arith, h, length-numbers 0 d.face_count, count)))
     (outsider faces known)
 
-pub reach_made : (d : ShellRows) → AreOnce d → AllByRecursion (IsReached d) (numbers_from 0 d.face_count) → (rows : List RowId) × ReachesAll d (row_numbers rows)
+pub reach_made : (d : ShellRows) → AreOnce d → AllByRecursion (IsReached d) (numbers_from 0 d.face_count)
+    → (rows : List RowId) × ReachesAll d (row_numbers rows)
 reach_made d whole reached = by_count (cases_lt 0 d.face_count)
   where
     by_count : (0 < d.face_count) ⊎ (d.face_count ≤ 0) → (rows : List RowId) × ReachesAll d (row_numbers rows)
@@ -201,12 +221,15 @@ reach_made d whole reached = by_count (cases_lt 0 d.face_count)
 
 -- The border rows.
 
-find_border : (d : ShellRows) → AreOnce d → (v : ℕ) (xs : List ℕ) → ((x : ℕ) → Has xs x → StartsAt d v x) → ((x : ℕ) × IsBorder d x × StartsAt d v x) ⊎ ((x : ℕ) → Has xs x → IsBorder d x → ⊥)
+find_border : (d : ShellRows) → AreOnce d → (v : ℕ) (xs : List ℕ) → ((x : ℕ) → Has xs x → StartsAt d v x) → ((x : ℕ) × IsBorder d x × StartsAt d v x)
+    ⊎ ((x : ℕ) → Has xs x → IsBorder d x → ⊥)
 find_border d whole v [] start = inr (λ x m. absurd m)
 find_border d whole v (x ∷ xs) start =
     let at_v : StartsAt d v x = start x (inl refl) in
     ⊎_elim (λ border. inl (x, border, at_v))
-    (λ m. ⊎_elim (λ h. inl h) (λ none. inr (λ y k border. ⊎_elim (λ e. (let b : IsBorder d x = subst (IsBorder d) (sym e) border in lone_no_mate d x m.0 b.0 b.1 b.2 m.1)) (λ h. none y h border) k)) (find_border d whole v xs (λ y k. start y (inr k))))
+    (λ m. ⊎_elim (λ h. inl h)
+    (λ none. inr (λ y k border. ⊎_elim (λ e. (let b : IsBorder d x = subst (IsBorder d) (sym e) border in lone_no_mate d x m.0 b.0 b.1 b.2 m.1))
+    (λ h. none y h border) k)) (find_border d whole v xs (λ y k. start y (inr k))))
     (border_or_mate d whole x at_v.0 at_v.1)
 
 next_made : (d : ShellRows) → AreOnce d → (at : ℕ) → IsBorder d at → (n : ℕ) × Next d at n
@@ -217,21 +240,28 @@ next_made d whole at border =
     (λ none. absurd (start_there d v at row whole border border.1 refl (λ r b s. none r (at_listed d v r s) b)))
     (find_border d whole v (rows_at d v) (λ x m. listed_at d v x m))
 
-loop_made : (d : ShellRows) → AreOnce d → AllByRecursion (IsFanned d) d.vertices → (first : ℕ) → IsBorder d first → (n : ℕ) (rs : List ℕ) (at : ℕ) → length rs + n ≡ length d.rows → Passed d first rs at → (0 < length rs → at ≡ first → ⊥) → IsBorder d at → (all : List ℕ) × IsLoop d first all
-loop_made d whole fanned first border zero rs at long w away border_at = absurd (never_back d first rs at whole fanned border border_at (omega (arith, long)) away w)
+loop_made : (d : ShellRows) → AreOnce d → AllByRecursion (IsFanned d) d.vertices → (first : ℕ) → IsBorder d first → (n : ℕ) (rs : List ℕ) (at : ℕ)
+    → length rs + n ≡ length d.rows → Passed d first rs at → (0 < length rs → at ≡ first → ⊥) → IsBorder d at → (all : List ℕ) × IsLoop d first all
+loop_made d whole fanned first border zero rs at long w away border_at =
+    absurd (never_back d first rs at whole fanned border border_at (omega (arith, long)) away w)
 loop_made d whole fanned first border (suc n) rs at long w away border_at =
     let y = next_made d whole at border_at in
     ⊎_elim (λ e. (rs ++ at ∷ [], loop_closed d first rs (rs ++ at ∷ []) at y.0 w away y.1 e refl))
-    (λ ne. loop_made d whole fanned first border n (rs ++ at ∷ []) y.0 (omega (arith, long, length-append rs (at ∷ []))) (passed_more d first rs at y.0 w away y.1) (λ lt e. ne e) y.1.1)
+    (λ ne. loop_made d whole fanned first border n (rs ++ at ∷ []) y.0 (omega (arith, long, length-append rs (at ∷ [])))
+    (passed_more d first rs at y.0 w away y.1) (λ lt e. ne e) y.1.1)
     (same_or_not y.0 first)
 
 -- marks of some rows
-marks_made : (old seen : List Bool) (rows rest : List ℕ) → ((x : ℕ) → (get_or seen x false ≡ true) ↔ ((get_or old x false ≡ true) ⊎ Has rows x)) → length seen ≡ length old → ((y : ℕ) → Has rest y → y < length old)
+marks_made : (old seen : List Bool) (rows rest : List ℕ) → ((x : ℕ) → (get_or seen x false ≡ true) ↔ ((get_or old x false ≡ true) ⊎ Has rows x))
+    → length seen ≡ length old → ((y : ℕ) → Has rest y → y < length old)
     → (new : List Bool) × (length new ≡ length old) × ((x : ℕ) → (get_or new x false ≡ true) ↔ ((get_or old x false ≡ true) ⊎ Has (rows ++ rest) x))
-marks_made old seen rows [] marks long low = (seen, long, λ x. subst (λ ys. (get_or seen x false ≡ true) ↔ ((get_or old x false ≡ true) ⊎ Has ys x)) (sym (append-nil rows)) (marks x))
+marks_made old seen rows [] marks long low =
+    (seen, long, λ x. subst (λ ys. (get_or seen x false ≡ true) ↔ ((get_or old x false ≡ true) ⊎ Has ys x)) (sym (append-nil rows)) (marks x))
 marks_made old seen rows (r ∷ rest) marks long low =
     let lt : r < length old = low r (inl refl) in
-    let k = marks_made old (slice_set seen r true) (rows ++ r ∷ []) rest (marks_more old seen (slice_set seen r true) rows (rows ++ r ∷ []) r (omega (arith, lt, long)) refl refl marks) (length-set seen r true ∙ long) (λ y m. low y (inr m)) in
+    let k = marks_made old (slice_set seen r true) (rows ++ r ∷ []) rest
+    (marks_more old seen (slice_set seen r true) rows (rows ++ r ∷ []) r (omega (arith, lt, long)) refl refl marks) (length-set seen r true ∙ long)
+    (λ y m. low y (inr m)) in
     (k.0, k.1, λ x. subst (λ ys. (get_or k.0 x false ≡ true) ↔ ((get_or old x false ≡ true) ⊎ Has ys x)) (append_assoc rows (r ∷ []) rest) (k.2 x))
 
 row_there : (rows : List Row) (i : ℕ) → i < length rows → (r : Row) × (slice_get rows i ≡ Some r)
@@ -242,21 +272,26 @@ row_there (r ∷ rows) (suc i) lt = row_there rows i (omega (arith, lt))
 loop_low : (d : ShellRows) (i : ℕ) (all : List ℕ) → IsBorder d i → IsLoop d i all → (y : ℕ) → Has all y → y < length d.rows
 loop_low d i [] border loop y m = absurd loop
 loop_low d i (x ∷ xs) border loop y m =
-    let here : IsBorder d y = ⊎_elim (λ e. subst (IsBorder d) (sym loop.0 ∙ e) border) (λ h. trail_keeps (Next d) (IsBorder d) (λ u v n p. n.1) i xs i loop.1 border y h) m in
+    let here : IsBorder d y =
+    ⊎_elim (λ e. subst (IsBorder d) (sym loop.0 ∙ e) border) (λ h. trail_keeps (Next d) (IsBorder d) (λ u v n p. n.1) i xs i loop.1 border y h) m in
     slice_get_within d.rows y here.0 here.1
 
-cycles_made : (d : ShellRows) → AreOnce d → AllByRecursion (IsFanned d) d.vertices → (n i : ℕ) (seen : List Bool) (cycles : List (List ℕ)) → i + n ≡ length d.rows → IsBordering d i seen cycles → (all : List (List ℕ)) × AreBorderCycles d all
+cycles_made : (d : ShellRows) → AreOnce d → AllByRecursion (IsFanned d) d.vertices → (n i : ℕ) (seen : List Bool) (cycles : List (List ℕ))
+    → i + n ≡ length d.rows → IsBordering d i seen cycles → (all : List (List ℕ)) × AreBorderCycles d all
 cycles_made d whole fanned zero i seen cycles long b = (cycles, bordering_done d i seen cycles (omega (arith, long)) b)
 cycles_made d whole fanned (suc n) i seen cycles long b =
     let r = row_there d.rows i (omega (arith, long)) in
-    let on : (new : List Bool) (more : List (List ℕ)) → IsBordering d (i + 1) new more → (all : List (List ℕ)) × AreBorderCycles d all = λ new more next. cycles_made d whole fanned n (i + 1) new more (omega (arith, long)) next in
+    let on : (new : List Bool) (more : List (List ℕ)) → IsBordering d (i + 1) new more → (all : List (List ℕ)) × AreBorderCycles d all =
+    λ new more next. cycles_made d whole fanned n (i + 1) new more (omega (arith, long)) next in
     ⊎_elim
     (λ border.
     ⊎_elim (λ h. on seen cycles (bordering_skips d i seen cycles (λ x. h) b))
     (λ none.
     let l = loop_made d whole fanned i border (length d.rows) [] i (omega arith) refl (λ lt. absurd (omega (arith, lt))) border in
-    let k = marks_made seen seen [] l.0 (λ x. ((λ m. inl m), (λ m. ⊎_elim (λ h. h) (λ z. absurd z) m))) refl (λ y m. let low = loop_low d i l.0 border l.1 y m in omega (arith, low, b.long)) in
-    on k.0 (cycles ++ l.0 ∷ []) (bordering_adds d i seen k.0 cycles (cycles ++ l.0 ∷ []) l.0 whole fanned border (λ m. none ((b.marks i).0 m)) l.1 refl k.1 k.2 b))
+    let k = marks_made seen seen [] l.0 (λ x. ((λ m. inl m), (λ m. ⊎_elim (λ h. h) (λ z. absurd z) m))) refl
+    (λ y m. let low = loop_low d i l.0 border l.1 y m in omega (arith, low, b.long)) in
+    on k.0 (cycles ++ l.0 ∷ [])
+    (bordering_adds d i seen k.0 cycles (cycles ++ l.0 ∷ []) l.0 whole fanned border (λ m. none ((b.marks i).0 m)) l.1 refl k.1 k.2 b))
     (decide_has (flat cycles) i))
     (λ m. on seen cycles (bordering_skips d i seen cycles (λ border. absurd (lone_no_mate d i m.0 border.0 border.1 border.2 m.1)) b))
     (border_or_mate d whole i r.0 r.1)
@@ -282,7 +317,8 @@ lists_of_ids : (cs : List (List ℕ)) → map row_numbers (id_lists cs) ≡ cs
 lists_of_ids [] = refl
 lists_of_ids (c ∷ cs) = ap (λ x. x ∷ map row_numbers (id_lists cs)) (numbers_of_ids c) ∙ ap (λ xs. c ∷ xs) (lists_of_ids cs)
 
-pub borders_made : (d : ShellRows) → AreOnce d → AllByRecursion (IsFanned d) d.vertices → (borders : List (List RowId)) × AreBorderCycles d (map row_numbers borders)
+pub borders_made : (d : ShellRows) → AreOnce d → AllByRecursion (IsFanned d) d.vertices
+    → (borders : List (List RowId)) × AreBorderCycles d (map row_numbers borders)
 borders_made d whole fanned =
     let n : ℕ = length d.rows in
     let k = cycles_made d whole fanned n 0 (falses n) [] (omega arith) (bordering_none d (falses n) (falses_long n) (never_true n)) in

@@ -19,7 +19,8 @@ pub record Walked (d : ShellRows) (pairs : List (ℕ × ℕ)) (first last : ℕ)
 pub walked_none : (d : ShellRows) (pairs : List (ℕ × ℕ)) (first : ℕ) (rest all : List ℕ) → AreNumbers rest all → Walked d pairs first first rest all 1
 walked_none d pairs first rest all h = record { left = all; numbers = h; on = λ r. r; back = λ r. r; ends = refl; whole = omega arith }
 
-pub walked_step : (d : ShellRows) (pairs : List (ℕ × ℕ)) (first last next : ℕ) (rest after all : List ℕ) (count : ℕ) → Begins rest next after → TurnsTo d pairs last next
+pub walked_step : (d : ShellRows) (pairs : List (ℕ × ℕ)) (first last next : ℕ) (rest after all : List ℕ) (count : ℕ) → Begins rest next after
+    → TurnsTo d pairs last next
     → Walked d pairs first last rest all count → Walked d pairs first next after all (count + 1)
 walked_step d pairs first last next rest after all count b turns w =
     let n = next_left rest after next w.left b w.numbers in
@@ -33,7 +34,8 @@ walked_step d pairs first last next rest after all count b turns w =
     }
 
 -- where the next number is no turn, nothing makes the chain whole
-pub walked_stop : (d : ShellRows) (pairs : List (ℕ × ℕ)) (first last next : ℕ) (rest after all : List ℕ) (count : ℕ) → Begins rest next after → (TurnsTo d pairs last next → ⊥)
+pub walked_stop : (d : ShellRows) (pairs : List (ℕ × ℕ)) (first last next : ℕ) (rest after all : List ℕ) (count : ℕ) → Begins rest next after
+    → (TurnsTo d pairs last next → ⊥)
     → Walked d pairs first last rest all count → IsChain (TurnsTo d pairs) first all → ⊥
 walked_stop d pairs first last next rest after all count b never w r =
     let n = next_left rest after next w.left b w.numbers in

@@ -16,6 +16,7 @@ no_rows text word rest (r ∷ rs) e none h = omega (arith, none, ap (λ xs. leng
 pub rows_spaced : (text word rest rs : List ℕ) → text ≡ word ++ rest → HasRowsAfter text word rs → IsSpaced rest
 rows_spaced text word rest rs e h = (rs, record { short = h.short; text_is = rest_is text word rest rs e h })
 
-pub rows_read : (text word rest : List ℕ) → text ≡ word ++ rest → (length rest ≡ 0 → ⊥) → IsSpaced rest → (rs : List ℕ) × (rest ≡ spaced rs) × HasRowsAfter text word rs
+pub rows_read : (text word rest : List ℕ) → text ≡ word ++ rest → (length rest ≡ 0 → ⊥) → IsSpaced rest
+    → (rs : List ℕ) × (rest ≡ spaced rs) × HasRowsAfter text word rs
 rows_read text word rest e some ([], a) = absurd (some (ap (λ xs. length xs) a.text_is))
 rows_read text word rest e some (r ∷ rs, a) = (r ∷ rs, a.text_is, record { short = a.short; some = omega arith; text_is = e ∙ ap (λ xs. word ++ xs) a.text_is })

@@ -10,7 +10,8 @@ use Rattle.solid_data.specs.declared.solid.FaceUse.{FaceUse}
 use Rattle.solid_data.specs.declared.solid.Loop.{Loop}
 use Rattle.solid_data.specs.declared.solid.Shell.{Shell}
 use Rattle.solid_data.specs.declared.verdict.Rule.TheVariants.{Unjoined, Unreached}
-use Rattle.solid_data.proofs.Decisions.{Decided, decided_alike, decided_same, decided_bool, decided_both, decided_three, decided_either, decided_not, decided_implies, decided_found, decided_bounded, decided_each, above_all, below_all}
+use Rattle.solid_data.proofs.Decisions.{Decided, decided_alike, decided_same, decided_bool, decided_both, decided_three, decided_either, decided_not}
+use Rattle.solid_data.proofs.Decisions.{decided_implies, decided_found, decided_bounded, decided_each, above_all, below_all}
 use Rattle.solid_data.proofs.ChainsDecided.{leads_decided}
 use Rattle.solid_data.proofs.ObligationsDecided.{AreDecided, decided-map, decided-of_each}
 use Rattle.edge_uses.specs.declared.row.Row.{Row}
@@ -21,7 +22,8 @@ use Rattle.edge_uses.specs.Joins.{loop_obligations, join_obligations}
 use Rattle.shell_rules.specs.ShellObligations.{reach_obligations}
 use Rattle.shell_rules.proofs.Decided.{edge_id_decided, paired_decided, reached_decided}
 use Rattle.open_shells.specs.Sound.{row_total, IsOnce, IsFan, IsFanned}
-use Rattle.open_shells.specs.Obligations.{OpenObligation, AllHold, FirstFalse, as_open, edge_obligation, fan_obligation, open_shell_obligations, of_shells, open_obligations}
+use Rattle.open_shells.specs.Obligations.{OpenObligation, AllHold, FirstFalse, as_open, edge_obligation, fan_obligation, open_shell_obligations, of_shells}
+use Rattle.open_shells.specs.Obligations.{open_obligations}
 use Rattle.open_shells.specs.declared.verdict.OpenRule.{OpenRule}
 use Rattle.open_shells.specs.declared.verdict.OpenRule.TheVariants.{Join, Reach}
 use Rattle.open_shells.specs.declared.verdict.OpenFailing.{OpenFailing}
@@ -32,11 +34,14 @@ mates_decided : (d : ShellRows) (r m : ℕ) → Decided (AreMates d r m)
 mates_decided d r m =
     decided_alike (λ (row, at_r, (mate, at_m, (one, other))). record { row = row; mate = mate; at_r = at_r; at_m = at_m; one_edge = one; opposite = other })
     (λ h. (h.row, h.at_r, (h.mate, h.at_m, (h.one_edge, h.opposite))))
-    (decided_found (slice_get d.rows r) (λ (row : Row). (mate : Row) × (slice_get d.rows m ≡ Some mate) × ((row.edge ≡ mate.edge) × (row.along ≡ not mate.along)))
-    (λ row. decided_found (slice_get d.rows m) (λ (mate : Row). (row.edge ≡ mate.edge) × (row.along ≡ not mate.along)) (λ mate. decided_both (edge_id_decided row.edge mate.edge) (decided_bool row.along (not mate.along)))))
+    (decided_found (slice_get d.rows r)
+    (λ (row : Row). (mate : Row) × (slice_get d.rows m ≡ Some mate) × ((row.edge ≡ mate.edge) × (row.along ≡ not mate.along)))
+    (λ row. decided_found (slice_get d.rows m) (λ (mate : Row). (row.edge ≡ mate.edge) × (row.along ≡ not mate.along))
+    (λ mate. decided_both (edge_id_decided row.edge mate.edge) (decided_bool row.along (not mate.along)))))
 
 follows_decided : (d : ShellRows) (r s : ℕ) → Decided (Follows d r s)
-follows_decided d r s = decided_alike (λ (x, e, same). subst (λ z. slice_get d.follows r ≡ Some z) same e) (λ e. (s, e, refl)) (decided_found (slice_get d.follows r) (λ x. x ≡ s) (λ x. decided_same x s))
+follows_decided d r s = decided_alike (λ (x, e, same). subst (λ z. slice_get d.follows r ≡ Some z) same e) (λ e. (s, e, refl))
+    (decided_found (slice_get d.follows r) (λ x. x ≡ s) (λ x. decided_same x s))
 
 turns_decided : (d : ShellRows) (r s : ℕ) → Decided (Turns d r s)
 turns_decided d r s =
@@ -62,7 +67,8 @@ starts_within : (d : ShellRows) (v r : ℕ) → StartsAt d v r → r < length d.
 starts_within d v r (row, at_r, e) = slice_get_within d.rows r row at_r
 
 some_start : (d : ShellRows) (v : ℕ) → Decided ((r : ℕ) × StartsAt d v r)
-some_start d v = decided_alike (λ (r, lt, h). (r, h)) (λ (r, h). (r, starts_within d v r h, h)) (decided_bounded (StartsAt d v) (starts_decided d v) (length d.rows))
+some_start d v = decided_alike (λ (r, lt, h). (r, h)) (λ (r, h). (r, starts_within d v r h, h))
+    (decided_bounded (StartsAt d v) (starts_decided d v) (length d.rows))
 
 -- two rows at the vertex are in one fan
 abbrev InOneFan : ShellRows → ℕ → ℕ → ℕ → Type 0
@@ -70,13 +76,17 @@ InOneFan d v r s = StartsAt d v r → StartsAt d v s → LeadsTo (Turns d) r s �
 
 one_fan_from : (d : ShellRows) (v r : ℕ) → Decided ((s : ℕ) → s < length d.rows → InOneFan d v r s)
 one_fan_from d v r =
-    decided_each (InOneFan d v r) (λ s. decided_implies (starts_decided d v r) (decided_implies (starts_decided d v s) (decided_either (chains_decided d r s) (chains_decided d s r)))) (length d.rows)
+    decided_each (InOneFan d v r)
+    (λ s. decided_implies (starts_decided d v r) (decided_implies (starts_decided d v s) (decided_either (chains_decided d r s) (chains_decided d s r))))
+    (length d.rows)
 
 fan_decided : (d : ShellRows) (v : ℕ) → Decided (IsFan d v)
 fan_decided d v =
-    decided_alike (λ (some, fan, none). record { some = some; one_fan = λ r s at_r at_s. fan r (starts_within d v r at_r) s (starts_within d v s at_s) at_r at_s; no_point = none })
+    decided_alike (λ (some, fan, none).
+    record { some = some; one_fan = λ r s at_r at_s. fan r (starts_within d v r at_r) s (starts_within d v s at_s) at_r at_s; no_point = none })
     (λ h. (h.some, (λ r lt s below at_r at_s. h.one_fan r s at_r at_s), h.no_point))
-    (decided_three (some_start d v) (decided_each (λ r. (s : ℕ) → s < length d.rows → InOneFan d v r s) (one_fan_from d v) (length d.rows)) (decided_same (point_count d v) 0))
+    (decided_three (some_start d v) (decided_each (λ r. (s : ℕ) → s < length d.rows → InOneFan d v r s) (one_fan_from d v) (length d.rows))
+    (decided_same (point_count d v) 0))
 
 point_decided : (d : ShellRows) (v : ℕ) → Decided (IsPoint d v)
 point_decided d v =
@@ -126,7 +136,8 @@ shell_decided s h =
     append_decided (joins ++ edges ++ reaches) fans
     (append_decided (joins ++ edges) reaches
     (append_decided joins edges (as_open_decided Join (join_obligations s h) (join_decided s h)) (map_decided (edge_obligation s d) (once_decided d) d.edges))
-    (as_open_decided Reach (reach_obligations h d) (decided-map (λ (f : ℕ × FaceUse). obligation Unreached f.1.entity.0 0 (IsReached d f.0)) (λ f. reached_decided d f.0) (enumerate_from 0 h.faces))))
+    (as_open_decided Reach (reach_obligations h d)
+    (decided-map (λ (f : ℕ × FaceUse). obligation Unreached f.1.entity.0 0 (IsReached d f.0)) (λ f. reached_decided d f.0) (enumerate_from 0 h.faces))))
     (map_decided (fan_obligation s d) (fanned_decided d) d.vertices)
 
 shells_decided : (s : SolidData) (hs : List Shell) → AreAllDecided (of_shells s hs)

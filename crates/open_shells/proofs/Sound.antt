@@ -31,13 +31,17 @@ use Rattle.open_shells.proofs.OpenLists.{hold_append, hold_left, hold_from_sound
 pub rows_are : (s : SolidData) (shell : Shell) → s.shells ≡ shell ∷ [] → shell_of s ≡ shell_rows s shell
 rows_are s shell alone = ap (λ (hs : List Shell). rows_of s (slice_get hs 0)) alone
 
-pub shell_joins : (s : SolidData) (shell : Shell) → s.shells ≡ shell ∷ [] → AllJoin s → AllByRecursion (λ (p : PlacedLoop). IsJoined s p.loop) (placed_loops shell)
+pub shell_joins : (s : SolidData) (shell : Shell) → s.shells ≡ shell ∷ [] → AllJoin s
+    → AllByRecursion (λ (p : PlacedLoop). IsJoined s p.loop) (placed_loops shell)
 shell_joins s shell alone joined =
-    subst (AllByRecursion (λ (p : PlacedLoop). IsJoined s p.loop)) (append-nil (placed_loops shell)) (subst (λ hs. AllByRecursion (λ (p : PlacedLoop). IsJoined s p.loop) (flat_map placed_loops hs)) alone joined)
+    subst (AllByRecursion (λ (p : PlacedLoop). IsJoined s p.loop)) (append-nil (placed_loops shell))
+    (subst (λ hs. AllByRecursion (λ (p : PlacedLoop). IsJoined s p.loop) (flat_map placed_loops hs)) alone joined)
 
-pub joins_shell : (s : SolidData) (shell : Shell) → s.shells ≡ shell ∷ [] → AllByRecursion (λ (p : PlacedLoop). IsJoined s p.loop) (placed_loops shell) → AllJoin s
+pub joins_shell : (s : SolidData) (shell : Shell) → s.shells ≡ shell ∷ [] → AllByRecursion (λ (p : PlacedLoop). IsJoined s p.loop) (placed_loops shell)
+    → AllJoin s
 joins_shell s shell alone joined =
-    subst (λ hs. AllByRecursion (λ (p : PlacedLoop). IsJoined s p.loop) (flat_map placed_loops hs)) (sym alone) (subst (AllByRecursion (λ (p : PlacedLoop). IsJoined s p.loop)) (sym (append-nil (placed_loops shell))) joined)
+    subst (λ hs. AllByRecursion (λ (p : PlacedLoop). IsJoined s p.loop) (flat_map placed_loops hs)) (sym alone)
+    (subst (AllByRecursion (λ (p : PlacedLoop). IsJoined s p.loop)) (sym (append-nil (placed_loops shell))) joined)
 
 pub good_shell : (s : SolidData) (shell : Shell) → IsNumberedSolid s → s.shells ≡ shell ∷ [] → AllJoin s → AreGoodRows (shell_of s)
 good_shell s shell numbered alone joined =
@@ -53,22 +57,27 @@ good_shell s shell numbered alone joined =
     })
 
 pub hold_of_shell : (s : SolidData) (shell : Shell) → s.shells ≡ shell ∷ [] → IsSoundShell s shell → AllHold (open_obligations s)
-hold_of_shell s shell alone sound = subst (λ hs. AllHold (of_shells s hs)) (sym alone) (hold_append (open_shell_obligations s shell) [] (hold_from_sound s shell sound) tt)
+hold_of_shell s shell alone sound =
+    subst (λ hs. AllHold (of_shells s hs)) (sym alone) (hold_append (open_shell_obligations s shell) [] (hold_from_sound s shell sound) tt)
 
 pub shell_from_hold : (s : SolidData) (shell : Shell) → s.shells ≡ shell ∷ [] → AllHold (open_obligations s) → IsSoundShell s shell
 shell_from_hold s shell alone all = sound_from_hold s shell (hold_left (open_shell_obligations s shell) [] (subst (λ hs. AllHold (of_shells s hs)) alone all))
 
-pub legal_is_sound : (s : SolidData) (shell : Shell) (lines : List (List ℕ)) → IsNumberedSolid s → s.shells ≡ shell ∷ [] → AllJoin s → IsOpenLegal s lines → IsSoundShell s shell
+pub legal_is_sound : (s : SolidData) (shell : Shell) (lines : List (List ℕ)) → IsNumberedSolid s → s.shells ≡ shell ∷ [] → AllJoin s → IsOpenLegal s lines
+    → IsSoundShell s shell
 unfolding IsOpenLegal
 legal_is_sound s shell lines numbered alone joined legal =
-    let proper : AreProper (shell_rows s shell) = subst AreProper (rows_are s shell alone) (legal_is_proper s (good_shell s shell numbered alone joined) lines legal) in
+    let proper : AreProper (shell_rows s shell) =
+    subst AreProper (rows_are s shell alone) (legal_is_proper s (good_shell s shell numbered alone joined) lines legal) in
     record {
       joined = shell_joins s shell alone joined;
       once = All-from (IsOnce (shell_rows s shell)) (shell_rows s shell).edges proper.once;
-      reached = All-from (IsReached (shell_rows s shell)) (numbers_from 0 (length shell.faces)) (λ f m. proper.reached f (subst (λ n. f < n) (sym (faces_of_rows s shell)) (let b = number_below 0 (length shell.faces) f m in omega (arith, b.1))));
+      reached = All-from (IsReached (shell_rows s shell)) (numbers_from 0 (length shell.faces))
+          (λ f m. proper.reached f (subst (λ n. f < n) (sym (faces_of_rows s shell)) (let b = number_below 0 (length shell.faces) f m in omega (arith, b.1))));
       fanned = All-from (IsFanned (shell_rows s shell)) (shell_rows s shell).vertices proper.fanned;
     }
 
 -- What has an accepted certificate is sound.
 pub accepted_is_sound : AcceptedIsSound
-accepted_is_sound s certificate numbered open_shell a = hold_of_shell s open_shell.shell open_shell.alone (legal_is_sound s open_shell.shell a.rest numbered open_shell.alone a.joined a.legal)
+accepted_is_sound s certificate numbered open_shell a =
+    hold_of_shell s open_shell.shell open_shell.alone (legal_is_sound s open_shell.shell a.rest numbered open_shell.alone a.joined a.legal)

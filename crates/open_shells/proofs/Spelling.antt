@@ -6,7 +6,8 @@ use Rattle.cert_lines.specs.Line.{spaced, cut_lines}
 use Rattle.cert_lines.proofs.Spacing.{spaced_one, same_front}
 use Rattle.cert_lines.proofs.CutLines.{cut_piece}
 use Rattle.cert_lines.proofs.Spacing.{spaced_no_break}
-use Rattle.open_shells.specs.Line.{OpenLine, head, shell, edge, lone, cycle, path, point, reach, border, end, words, spelling, numbers_of, HasSpelling, IsSpelled}
+use Rattle.open_shells.specs.Line.{OpenLine, head, shell, edge, lone, cycle, path, point, reach, border, end, words, spelling, numbers_of, HasSpelling}
+use Rattle.open_shells.specs.Line.{IsSpelled}
 
 -- A line is its kind and its numbers.
 abbrev pub kind_of : OpenLine → ℕ
@@ -22,7 +23,11 @@ kind_of (border rs) = 7
 kind_of end = 8
 
 abbrev pub prefix_of : ℕ → List ℕ
-prefix_of k = if k == 0 then codes "IGESOPEN 1" else (if k == 1 then codes "SHELL" else (if k == 2 then codes "E" else (if k == 3 then codes "C" else (if k == 4 then codes "P" else (if k == 5 then codes "I" else (if k == 6 then codes "R" else (if k == 7 then codes "B" else codes "END")))))))
+prefix_of k = if k == 0 then codes "IGESOPEN 1" else
+    (if k == 1 then codes "SHELL" else
+    (if k == 2 then codes "E" else
+    (if k == 3 then codes "C" else
+    (if k == 4 then codes "P" else (if k == 5 then codes "I" else (if k == 6 then codes "R" else (if k == 7 then codes "B" else codes "END")))))))
 
 abbrev edge_from : List ℕ → OpenLine
 edge_from [] = end
@@ -31,7 +36,10 @@ edge_from (a ∷ b ∷ ns) = edge a b
 
 abbrev pub line_from : ℕ → List ℕ → OpenLine
 line_from k ns = if k == 0 then head else (if k == 1 then shell (get_or ns 0 0) (get_or ns 1 0) (get_or ns 2 0) (get_or ns 3 0) (get_or ns 4 0) (get_or ns 5 0)
-    else (if k == 2 then edge_from ns else (if k == 3 then cycle ns else (if k == 4 then path ns else (if k == 5 then point (get_or ns 0 0) (get_or ns 1 0) else (if k == 6 then reach (get_or ns 0 0) else (if k == 7 then border ns else end)))))))
+    else (if k == 2 then edge_from ns else
+    (if k == 3 then cycle ns else
+    (if k == 4 then path ns else
+    (if k == 5 then point (get_or ns 0 0) (get_or ns 1 0) else (if k == 6 then reach (get_or ns 0 0) else (if k == 7 then border ns else end)))))))
 
 pub rebuilt : (l : OpenLine) → line_from (kind_of l) (numbers_of l) ≡ l
 rebuilt head = refl
@@ -62,7 +70,8 @@ abbrev kind_by : List ℕ → ℕ
 kind_by bytes = by_bytes (get_or bytes 0 0) (get_or bytes 1 0)
   where
     by_bytes : ℕ → ℕ → ℕ
-    by_bytes a b = if a == 73 then (if b == 71 then 0 else 5) else (if a == 83 then 1 else (if a == 69 then (if b == 32 then 2 else 8) else (if a == 67 then 3 else (if a == 80 then 4 else (if a == 82 then 6 else 7)))))
+    by_bytes a b = if a == 73 then (if b == 71 then 0 else 5) else
+        (if a == 83 then 1 else (if a == 69 then (if b == 32 then 2 else 8) else (if a == 67 then 3 else (if a == 80 then 4 else (if a == 82 then 6 else 7)))))
 
 kind_read : (l : OpenLine) → HasSpelling l → kind_by (spelling l) ≡ kind_of l
 kind_read head h = refl
@@ -91,8 +100,10 @@ line_one bytes l m a b =
     sym (rebuilt l) ∙ (ap (λ k. line_from k (numbers_of l)) kinds ∙ (ap (line_from (kind_of m)) numbers ∙ rebuilt m))
 
 words_no_break : (l : OpenLine) → HasSpelling l → AllByRecursion (λ b. b ≢ 10) (words l)
-words_no_break head h = (omega arith, (omega arith, (omega arith, (omega arith, (omega arith, (omega arith, (omega arith, (omega arith, (omega arith, (omega arith, tt))))))))))
-words_no_break (shell n rows edges corners faces borders) h = (omega arith, (omega arith, (omega arith, (omega arith, (omega arith, spaced_no_break (n ∷ rows ∷ edges ∷ corners ∷ faces ∷ borders ∷ []) h.0)))))
+words_no_break head h =
+    (omega arith, (omega arith, (omega arith, (omega arith, (omega arith, (omega arith, (omega arith, (omega arith, (omega arith, (omega arith, tt))))))))))
+words_no_break (shell n rows edges corners faces borders) h =
+    (omega arith, (omega arith, (omega arith, (omega arith, (omega arith, spaced_no_break (n ∷ rows ∷ edges ∷ corners ∷ faces ∷ borders ∷ []) h.0)))))
 words_no_break (edge a b) h = (omega arith, spaced_no_break (a ∷ b ∷ []) h.0)
 words_no_break (lone a) h = (omega arith, spaced_no_break (a ∷ []) h.0)
 words_no_break (cycle rs) h = (omega arith, spaced_no_break rs h.0)

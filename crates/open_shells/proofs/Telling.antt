@@ -1,5 +1,6 @@
 -- What is kept of an open shell, behind one more of its lines.
-use Rattle.std.specs.Prelude.{◌≡◌, ℕ, ◌+◌, ◌-◌, ◌<◌, ◌≤◌, ◌^◌, ◌⊎◌, min, true, false, List, [], ◌∷◌, length, filter_map, flat_map, Option, Some, None, slice_set}
+use Rattle.std.specs.Prelude.{◌≡◌, ℕ, ◌+◌, ◌-◌, ◌<◌, ◌≤◌, ◌^◌, ◌⊎◌, min, true, false, List, [], ◌∷◌, length, filter_map, flat_map, Option, Some, None}
+use Rattle.std.specs.Prelude.{slice_set}
 use Rattle.std.specs.List.{cons_option}
 use Rattle.std.proofs.Common.{refl, sym, ◌∙◌, ap, subst, arith, inl, inr, ⊎_elim, length-append}
 use Rattle.std.proofs.Math.Nat.{min-eq_left, min-eq_right}
@@ -19,7 +20,8 @@ use Rattle.topo_certificate.proofs.CornerFits.{named_below}
 use Rattle.topo_certificate.proofs.Standing.{due_of, stand_of}
 use Rattle.topo_certificate.proofs.Telling.{not_passed}
 use Rattle.open_shells.specs.Line.{OpenLine, shell, edge, lone, cycle, path, point, reach, border}
-use Rattle.open_shells.specs.Stand.{OpenStand, stand_from_latest, shell_of, shared, edge_in, vertex_in, face_in, border_in, border_rows, FitsShell, FitsLone, FitsOpen, CornerDue, BorderDue}
+use Rattle.open_shells.specs.Stand.{OpenStand, stand_from_latest, shell_of, shared, edge_in, vertex_in, face_in, border_in, border_rows, FitsShell, FitsLone}
+use Rattle.open_shells.specs.Stand.{FitsOpen, CornerDue, BorderDue}
 use Rattle.open_shells.specs.Kept.{KeptOpen, IsKept, AreCounts, MatchesLines, Takes, HoldsRows, dues, count_limit}
 use Rattle.open_shells.specs.Walks.{FitsPathLine, FitsBorderLine}
 use Rattle.open_shells.proofs.Marks.{rows_more}
@@ -75,7 +77,8 @@ can_mate k a b e kept h = by_fit (h.fits (stand_at k.last_edge) (stand_at_last k
               omega (arith, q, one, not_passed k.last_edge f.along_row.edge.0 p.0.edge.0 above p.2));
         }
 
-pub edge_kept : (k : KeptOpen) (a b e n l : ℕ) → IsKept k → EdgeFits k a b e → 0 < k.edges_due → n ≡ k.edges_due - 1 → l ≡ k.listed + 2 → IsKept (with_edge k a b e n l)
+pub edge_kept : (k : KeptOpen) (a b e n l : ℕ) → IsKept k → EdgeFits k a b e → 0 < k.edges_due → n ≡ k.edges_due - 1 → l ≡ k.listed + 2
+    → IsKept (with_edge k a b e n l)
 edge_kept k a b e n l kept h due less more = record {
   sizes = kept.sizes;
   alone = kept.alone;
@@ -91,7 +94,8 @@ edge_kept k a b e n l kept h due less more = record {
   passed = λ r m is. by_case r m (h.fits (stand_at k.last_edge) (stand_at_last k.last_edge)) (mate_cases k.mates a b r m (can_mate k a b e kept h) is);
 }
   where
-    by_case : (r m : ℕ) → FitsEdge k.rows (stand_at k.last_edge) a b × (edge_of k.rows (pair_edge a b) ≡ Some e) → MateCases k.mates a b r m → (row : Row) × (row_named k.rows r ≡ Some row) × (row.edge.0 ≤ e)
+    by_case : (r m : ℕ) → FitsEdge k.rows (stand_at k.last_edge) a b × (edge_of k.rows (pair_edge a b) ≡ Some e) → MateCases k.mates a b r m
+        → (row : Row) × (row_named k.rows r ≡ Some row) × (row.edge.0 ≤ e)
     by_case r m (f, is_e) cases =
         let edge_is : f.along_row.edge.0 ≡ e = same_Some f.along_row.edge.0 e (sym (ap (λ o. edge_at o) f.at_a) ∙ is_e) in
         let one : f.along_row.edge.0 ≡ f.against_row.edge.0 = ap (λ x. x.0) f.one_edge in
@@ -104,7 +108,8 @@ edge_kept k a b e n l kept h due less more = record {
         edge_at None = None
         edge_at (Some x) = Some x.edge.0
 
-pub edge_takes : (k : KeptOpen) (a b e n l : ℕ) → IsKept k → 0 < k.edges_due → n ≡ k.edges_due - 1 → l ≡ k.listed + 2 → (k.edges_due ≡ 1 → k.listed + 2 ≡ length k.rows.rows) → EdgeFits k a b e
+pub edge_takes : (k : KeptOpen) (a b e n l : ℕ) → IsKept k → 0 < k.edges_due → n ≡ k.edges_due - 1 → l ≡ k.listed + 2
+    → (k.edges_due ≡ 1 → k.listed + 2 ≡ length k.rows.rows) → EdgeFits k a b e
     → Takes k (with_edge k a b e n l) (edge a b) true
 unfolding stand_from_latest
 edge_takes k a b e n l kept due less more all h s lines t =
@@ -113,7 +118,12 @@ edge_takes k a b e n l kept due less more all h s lines t =
     let held = mates_more k.mates at.mates a b (can_mate k a b e kept h) t.mates in
     let is_e : edge_in (shell_of s) (edge a b) ≡ Some e = subst (λ d. edge_of d (pair_edge a b) ≡ Some e) t.rows f.1 in
     let rows : length k.rows.rows ≡ length (shell_of s).rows = ap (λ (d : ShellRows). length d.rows) t.rows in (
-      (omega (arith, due, t.edges_due), subst (λ d. FitsEdge d (shared at) a b) t.rows f.0, λ one. omega (arith, all (omega (arith, one, t.edges_due)), t.listed, rows)),
+      (
+        omega (arith, due, t.edges_due),
+        subst (λ d. FitsEdge d (shared at) a b) t.rows f.0,
+        λ one. omega
+            (arith, all (omega (arith, one, t.edges_due)), t.listed, rows),
+      ),
       record {
         entity = t.entity;
         rows = t.rows;
@@ -136,7 +146,8 @@ edge_takes k a b e n l kept due less more all h s lines t =
     )
 
 pub edge_unfit : (k new : KeptOpen) (a b : ℕ) → ((at : Stand) → at.last_edge ≡ k.last_edge → FitsEdge k.rows at a b → ⊥) → Takes k new (edge a b) false
-edge_unfit k new a b never s lines t f = never (shared (stand_from_latest s lines)) (sym t.last_edge) (subst (λ d. FitsEdge d (shared (stand_from_latest s lines)) a b) (sym t.rows) f.1)
+edge_unfit k new a b never s lines t f = never (shared (stand_from_latest s lines)) (sym t.last_edge)
+    (subst (λ d. FitsEdge d (shared (stand_from_latest s lines)) a b) (sym t.rows) f.1)
 
 pub edge_short : (k new : KeptOpen) (a b : ℕ) → ((k.edges_due ≡ 1 → k.listed + 2 ≡ length k.rows.rows) → ⊥) → Takes k new (edge a b) false
 edge_short k new a b never s lines t f =
@@ -153,7 +164,24 @@ pub record LoneFits (k : KeptOpen) (a e : ℕ) : Type 0 where
 
 -- an open shell's stand with this last edge
 open_at : Option ℕ → OpenStand
-open_at last = record { number = 0; ended = false; begun = false; edges_due = 0; corners_due = 0; reach_due = 0; borders_due = 0; mates = []; lone = []; listed = 0; last_edge = last; last_vertex = None; reached = []; last_border = None; bordered = [] }
+open_at last = record {
+  number = 0;
+  ended = false;
+  begun = false;
+  edges_due = 0;
+  corners_due = 0;
+  reach_due = 0;
+  borders_due = 0;
+  mates = [];
+  lone =
+      [];
+  listed = 0;
+  last_edge = last;
+  last_vertex = None;
+  reached = [];
+  last_border = None;
+  bordered = [];
+}
 
 open_at_last : (last : Option ℕ) → (open_at last).last_edge ≡ last
 unfolding open_at
@@ -172,7 +200,8 @@ lone_above k a e h =
     edge_at None = None
     edge_at (Some x) = Some x.edge.0
 
-pub lone_kept : (k : KeptOpen) (a e n l c : ℕ) → IsKept k → LoneFits k a e → 0 < k.edges_due → n ≡ k.edges_due - 1 → l ≡ k.listed + 1 → c ≡ k.lone_count + 1 → IsKept (with_lone k a e n l c)
+pub lone_kept : (k : KeptOpen) (a e n l c : ℕ) → IsKept k → LoneFits k a e → 0 < k.edges_due → n ≡ k.edges_due - 1 → l ≡ k.listed + 1 → c ≡ k.lone_count + 1
+    → IsKept (with_lone k a e n l c)
 lone_kept k a e n l c kept h due less more count = record {
   sizes = kept.sizes;
   alone = kept.alone;
@@ -188,7 +217,8 @@ lone_kept k a e n l c kept h due less more count = record {
   passed = λ r m is. let p = kept.passed r m is in (p.0, p.1, omega (arith, not_passed k.last_edge e p.0.edge.0 (lone_above k a e h) p.2));
 }
 
-pub lone_takes : (k : KeptOpen) (a e n l c : ℕ) → IsKept k → 0 < k.edges_due → n ≡ k.edges_due - 1 → l ≡ k.listed + 1 → c ≡ k.lone_count + 1 → (k.edges_due ≡ 1 → k.listed + 1 ≡ length k.rows.rows) → LoneFits k a e
+pub lone_takes : (k : KeptOpen) (a e n l c : ℕ) → IsKept k → 0 < k.edges_due → n ≡ k.edges_due - 1 → l ≡ k.listed + 1 → c ≡ k.lone_count + 1
+    → (k.edges_due ≡ 1 → k.listed + 1 ≡ length k.rows.rows) → LoneFits k a e
     → Takes k (with_lone k a e n l c) (lone a) true
 unfolding stand_from_latest
 lone_takes k a e n l c kept due less more count all h s lines t =
@@ -220,7 +250,8 @@ lone_takes k a e n l c kept due less more count all h s lines t =
     )
 
 pub lone_unfit : (k new : KeptOpen) (a : ℕ) → ((at : OpenStand) → at.last_edge ≡ k.last_edge → FitsLone k.rows at a → ⊥) → Takes k new (lone a) false
-lone_unfit k new a never s lines t f = never (stand_from_latest s lines) (sym t.last_edge) (subst (λ d. FitsLone d (stand_from_latest s lines) a) (sym t.rows) f.1)
+lone_unfit k new a never s lines t f =
+    never (stand_from_latest s lines) (sym t.last_edge) (subst (λ d. FitsLone d (stand_from_latest s lines) a) (sym t.rows) f.1)
 
 pub lone_short : (k new : KeptOpen) (a : ℕ) → ((k.edges_due ≡ 1 → k.listed + 1 ≡ length k.rows.rows) → ⊥) → Takes k new (lone a) false
 lone_short k new a never s lines t f =
@@ -275,7 +306,8 @@ CornerKind (path rs) = Unit {0}
 CornerKind (point face l) = Unit {0}
 CornerKind _ = ⊥
 
-vertex_told : (s : SolidData) (lines : List OpenLine) (line : OpenLine) (k : KeptOpen) (v n : ℕ) → CornerKind line → IsKept k → 0 < k.corners_due → MatchesLines s lines k → n ≡ k.corners_due - 1 → vertex_in (shell_of s) line ≡ Some v → MatchesLines s (line ∷ lines) (with_vertex k v n)
+vertex_told : (s : SolidData) (lines : List OpenLine) (line : OpenLine) (k : KeptOpen) (v n : ℕ) → CornerKind line → IsKept k → 0 < k.corners_due
+    → MatchesLines s lines k → n ≡ k.corners_due - 1 → vertex_in (shell_of s) line ≡ Some v → MatchesLines s (line ∷ lines) (with_vertex k v n)
 unfolding stand_from_latest
 vertex_told s lines (cycle rs) k v n kind kept due t less is_v = record {
   entity = t.entity;
@@ -337,7 +369,8 @@ vertex_told s lines (point face l) k v n kind kept due t less is_v = record {
 vertex_told s lines _ k v n kind kept due t less is_v = absurd kind
 
 pub cycle_takes : (k : KeptOpen) (rs : List ℕ) (v n : ℕ) → IsKept k → k.edges_due ≡ 0 → 0 < k.corners_due → n ≡ k.corners_due - 1
-    → ((at : Stand) → HoldsMates k.mates at.mates → at.last_vertex ≡ k.last_vertex → FitsCornerLine k.rows at rs × (vertex_of k.rows (pair_corner rs) ≡ Some v)) → Takes k (with_vertex k v n) (cycle rs) true
+    → ((at : Stand) → HoldsMates k.mates at.mates → at.last_vertex ≡ k.last_vertex
+    → FitsCornerLine k.rows at rs × (vertex_of k.rows (pair_corner rs) ≡ Some v)) → Takes k (with_vertex k v n) (cycle rs) true
 cycle_takes k rs v n kept none due less fit s lines t =
     let at : OpenStand = stand_from_latest s lines in
     let f = fit (shared at) t.mates (sym t.last_vertex) in (
@@ -345,7 +378,8 @@ cycle_takes k rs v n kept none due less fit s lines t =
       vertex_told s lines (cycle rs) k v n tt kept due t less (cycle_vertex (shell_of s) rs ∙ subst (λ d. vertex_of d (pair_corner rs) ≡ Some v) t.rows f.1),
     )
 
-pub cycle_unfit : (k new : KeptOpen) (rs : List ℕ) → ((at : Stand) → HoldsMates k.mates at.mates → at.last_vertex ≡ k.last_vertex → FitsCornerLine k.rows at rs → ⊥) → Takes k new (cycle rs) false
+pub cycle_unfit : (k new : KeptOpen) (rs : List ℕ)
+    → ((at : Stand) → HoldsMates k.mates at.mates → at.last_vertex ≡ k.last_vertex → FitsCornerLine k.rows at rs → ⊥) → Takes k new (cycle rs) false
 cycle_unfit k new rs never s lines t f =
     let at : OpenStand = stand_from_latest s lines in
     never (shared at) t.mates (sym t.last_vertex) (subst (λ d. FitsCornerLine d (shared at) rs) (sym t.rows) (cycle_line s at rs f).1)
@@ -356,7 +390,8 @@ cycle_not_due k new rs never s lines t f =
     never (omega (arith, c.0, t.edges_due)) (omega (arith, c.1, t.corners_due))
 
 pub path_takes : (k : KeptOpen) (rs : List ℕ) (v n : ℕ) → IsKept k → k.edges_due ≡ 0 → 0 < k.corners_due → n ≡ k.corners_due - 1
-    → ((at : OpenStand) → HoldsMates k.mates at.mates → HoldsRows k.lone at.lone → at.last_vertex ≡ k.last_vertex → FitsPathLine k.rows at rs × (vertex_in k.rows (path rs) ≡ Some v)) → Takes k (with_vertex k v n) (path rs) true
+    → ((at : OpenStand) → HoldsMates k.mates at.mates → HoldsRows k.lone at.lone → at.last_vertex ≡ k.last_vertex
+    → FitsPathLine k.rows at rs × (vertex_in k.rows (path rs) ≡ Some v)) → Takes k (with_vertex k v n) (path rs) true
 path_takes k rs v n kept none due less fit s lines t =
     let at : OpenStand = stand_from_latest s lines in
     let f = fit at t.mates t.lone (sym t.last_vertex) in (
@@ -364,7 +399,9 @@ path_takes k rs v n kept none due less fit s lines t =
       vertex_told s lines (path rs) k v n tt kept due t less (subst (λ d. vertex_in d (path rs) ≡ Some v) t.rows f.1),
     )
 
-pub path_unfit : (k new : KeptOpen) (rs : List ℕ) → ((at : OpenStand) → HoldsMates k.mates at.mates → HoldsRows k.lone at.lone → at.last_vertex ≡ k.last_vertex → FitsPathLine k.rows at rs → ⊥) → Takes k new (path rs) false
+pub path_unfit : (k new : KeptOpen) (rs : List ℕ)
+    → ((at : OpenStand) → HoldsMates k.mates at.mates → HoldsRows k.lone at.lone → at.last_vertex ≡ k.last_vertex → FitsPathLine k.rows at rs → ⊥)
+    → Takes k new (path rs) false
 path_unfit k new rs never s lines t f =
     let at : OpenStand = stand_from_latest s lines in
     never at t.mates t.lone (sym t.last_vertex) (subst (λ d. FitsPathLine d at rs) (sym t.rows) (path_line s at rs f).1)
@@ -375,7 +412,8 @@ path_not_due k new rs never s lines t f =
     never (omega (arith, c.0, t.edges_due)) (omega (arith, c.1, t.corners_due))
 
 pub point_takes : (k : KeptOpen) (face place v n : ℕ) → IsKept k → k.edges_due ≡ 0 → 0 < k.corners_due → n ≡ k.corners_due - 1
-    → ((at : Stand) → at.last_vertex ≡ k.last_vertex → FitsPoint k.rows at face place × (vertex_of k.rows (pair_point face place) ≡ Some v)) → Takes k (with_vertex k v n) (point face place) true
+    → ((at : Stand) → at.last_vertex ≡ k.last_vertex → FitsPoint k.rows at face place × (vertex_of k.rows (pair_point face place) ≡ Some v))
+    → Takes k (with_vertex k v n) (point face place) true
 point_takes k face place v n kept none due less fit s lines t =
     let at : OpenStand = stand_from_latest s lines in
     let f = fit (shared at) (sym t.last_vertex) in (
@@ -383,8 +421,10 @@ point_takes k face place v n kept none due less fit s lines t =
       vertex_told s lines (point face place) k v n tt kept due t less (subst (λ d. vertex_of d (pair_point face place) ≡ Some v) t.rows f.1),
     )
 
-pub point_unfit : (k new : KeptOpen) (face place : ℕ) → ((at : Stand) → at.last_vertex ≡ k.last_vertex → FitsPoint k.rows at face place → ⊥) → Takes k new (point face place) false
-point_unfit k new face place never s lines t f = let at : OpenStand = stand_from_latest s lines in never (shared at) (sym t.last_vertex) (subst (λ d. FitsPoint d (shared at) face place) (sym t.rows) f.1)
+pub point_unfit : (k new : KeptOpen) (face place : ℕ) → ((at : Stand) → at.last_vertex ≡ k.last_vertex → FitsPoint k.rows at face place → ⊥)
+    → Takes k new (point face place) false
+point_unfit k new face place never s lines t f = let at : OpenStand = stand_from_latest s lines in never (shared at) (sym t.last_vertex)
+    (subst (λ d. FitsPoint d (shared at) face place) (sym t.rows) f.1)
 
 -- Reach lines.
 
@@ -408,7 +448,8 @@ face_kept k f n kept due less = record {
 }
 
 pub reach_takes : (k : KeptOpen) (r f n : ℕ) → IsKept k → f < length k.reached → k.edges_due ≡ 0 → k.corners_due ≡ 0 → 0 < k.reach_due → n ≡ k.reach_due - 1
-    → ((at : Stand) → HoldsMates k.mates at.mates → HoldsFaces k.reached at.reached → FitsReach k.rows at r × (face_of k.rows (pair_reach r) ≡ Some f)) → Takes k (with_face k f n) (reach r) true
+    → ((at : Stand) → HoldsMates k.mates at.mates → HoldsFaces k.reached at.reached → FitsReach k.rows at r × (face_of k.rows (pair_reach r) ≡ Some f))
+    → Takes k (with_face k f n) (reach r) true
 unfolding stand_from_latest
 reach_takes k r f n kept within no_edges no_corners due less fit s lines t =
     let at : OpenStand = stand_from_latest s lines in
@@ -416,7 +457,11 @@ reach_takes k r f n kept within no_edges no_corners due less fit s lines t =
     let others : List ℕ = filter_map (face_in (shell_of s)) lines in
     let is_f : face_in (shell_of s) (reach r) ≡ Some f = subst (λ d. face_of d (pair_reach r) ≡ Some f) t.rows g.1 in
     let held : HoldsFaces (slice_set k.reached f true) (0 ∷ f ∷ others) = faces_more k.reached 0 f others within t.reached in (
-      ((omega (arith, no_edges, t.edges_due), omega (arith, no_corners, t.corners_due), omega (arith, due, t.reach_due)), subst (λ d. FitsReach d (shared at) r) t.rows g.0),
+      (
+        (omega (arith, no_edges, t.edges_due), omega (arith, no_corners, t.corners_due), omega (arith, due, t.reach_due)),
+        subst
+            (λ d. FitsReach d (shared at) r) t.rows g.0,
+      ),
       record {
         entity = t.entity;
         rows = t.rows;
@@ -438,8 +483,10 @@ reach_takes k r f n kept within no_edges no_corners due less fit s lines t =
       },
     )
 
-pub reach_unfit : (k new : KeptOpen) (r : ℕ) → ((at : Stand) → HoldsMates k.mates at.mates → HoldsFaces k.reached at.reached → FitsReach k.rows at r → ⊥) → Takes k new (reach r) false
-reach_unfit k new r never s lines t f = let at : OpenStand = stand_from_latest s lines in never (shared at) t.mates t.reached (subst (λ d. FitsReach d (shared at) r) (sym t.rows) f.1)
+pub reach_unfit : (k new : KeptOpen) (r : ℕ) → ((at : Stand) → HoldsMates k.mates at.mates → HoldsFaces k.reached at.reached → FitsReach k.rows at r → ⊥)
+    → Takes k new (reach r) false
+reach_unfit k new r never s lines t f = let at : OpenStand = stand_from_latest s lines in never (shared at) t.mates t.reached
+    (subst (λ d. FitsReach d (shared at) r) (sym t.rows) f.1)
 
 -- Border lines.
 
@@ -485,13 +532,21 @@ border_open : (s : SolidData) (at : OpenStand) (rs : List ℕ) → BorderDue at 
 border_open s at [] due h = h
 border_open s at (r ∷ rs) due h = (due, h)
 
-pub border_takes : (k : KeptOpen) (rs : List ℕ) (r len n c : ℕ) → IsKept k → k.edges_due ≡ 0 → k.corners_due ≡ 0 → k.reach_due ≡ 0 → 0 < k.borders_due → n ≡ k.borders_due - 1 → c ≡ min (k.bordered + len) count_limit
-    → ((at : OpenStand) → HoldsRows k.lone at.lone → at.last_border ≡ k.last_border → FitsBorderLine k.rows at rs × (border_in (border rs) ≡ Some r) × (length rs ≡ len)) → Takes k (with_border k r n c) (border rs) true
+pub border_takes : (k : KeptOpen) (rs : List ℕ) (r len n c : ℕ) → IsKept k → k.edges_due ≡ 0 → k.corners_due ≡ 0 → k.reach_due ≡ 0 → 0 < k.borders_due
+    → n ≡ k.borders_due - 1 → c ≡ min (k.bordered + len) count_limit
+    → ((at : OpenStand) → HoldsRows k.lone at.lone → at.last_border ≡ k.last_border → FitsBorderLine k.rows at rs × (border_in (border rs) ≡ Some r)
+    × (length rs ≡ len)) → Takes k (with_border k r n c) (border rs) true
 unfolding stand_from_latest
 border_takes k rs r len n c kept no_edges no_corners no_reach due less counted fit s lines t =
     let at : OpenStand = stand_from_latest s lines in
     let f = fit at t.lone (sym t.last_border) in (
-      border_open s at rs (omega (arith, no_edges, t.edges_due), omega (arith, no_corners, t.corners_due), omega (arith, no_reach, t.reach_due), omega (arith, due, t.borders_due)) (subst (λ d. FitsBorderLine d at rs) t.rows f.0),
+      border_open s at rs (
+        omega (arith, no_edges, t.edges_due),
+        omega (arith, no_corners, t.corners_due),
+        omega (arith, no_reach, t.reach_due),
+        omega
+            (arith, due, t.borders_due),
+      ) (subst (λ d. FitsBorderLine d at rs) t.rows f.0),
       record {
         entity = t.entity;
         rows = t.rows;
@@ -506,19 +561,23 @@ border_takes k rs r len n c kept no_edges no_corners no_reach due less counted f
         reach_due = t.reach_due;
         borders_due = omega (arith, less, t.borders_due);
         listed = t.listed;
-        bordered = capped count_limit (length (flat_map border_rows lines)) (length rs) k.bordered c t.bordered (counted ∙ ap (λ m. min (k.bordered + m) count_limit) (sym f.2)) ∙ ap (λ m. min m count_limit) (sym (length-append rs (flat_map border_rows lines)));
+        bordered = capped count_limit (length (flat_map border_rows lines)) (length rs) k.bordered c t.bordered
+            (counted ∙ ap (λ m. min (k.bordered + m) count_limit) (sym f.2))
+            ∙ ap (λ m. min m count_limit) (sym (length-append rs (flat_map border_rows lines)));
         last_edge = t.last_edge;
         last_vertex = t.last_vertex;
         last_border = ap (λ o. first_of (cons_option o (filter_map border_in lines))) (sym f.1);
       },
     )
 
-pub border_unfit : (k new : KeptOpen) (rs : List ℕ) → ((at : OpenStand) → HoldsRows k.lone at.lone → at.last_border ≡ k.last_border → FitsBorderLine k.rows at rs → ⊥) → Takes k new (border rs) false
+pub border_unfit : (k new : KeptOpen) (rs : List ℕ)
+    → ((at : OpenStand) → HoldsRows k.lone at.lone → at.last_border ≡ k.last_border → FitsBorderLine k.rows at rs → ⊥) → Takes k new (border rs) false
 border_unfit k new rs never s lines t f =
     let at : OpenStand = stand_from_latest s lines in
     never at t.lone (sym t.last_border) (subst (λ d. FitsBorderLine d at rs) (sym t.rows) (border_line s at rs f).1)
 
-pub border_not_due : (k new : KeptOpen) (rs : List ℕ) → (k.edges_due ≡ 0 → k.corners_due ≡ 0 → k.reach_due ≡ 0 → 0 < k.borders_due → ⊥) → Takes k new (border rs) false
+pub border_not_due : (k new : KeptOpen) (rs : List ℕ) → (k.edges_due ≡ 0 → k.corners_due ≡ 0 → k.reach_due ≡ 0 → 0 < k.borders_due → ⊥)
+    → Takes k new (border rs) false
 border_not_due k new rs never s lines t f =
     let c = (border_line s (stand_from_latest s lines) rs f).0 in
     never (omega (arith, c.0, t.edges_due)) (omega (arith, c.1, t.corners_due)) (omega (arith, c.2, t.reach_due)) (omega (arith, c.3, t.borders_due))
@@ -528,12 +587,14 @@ border_not_due k new rs never s lines t f =
 abbrev pub with_shell : KeptOpen → ℕ → ℕ → ℕ → ℕ → KeptOpen
 with_shell k edges corners faces borders = record k { begun = true; edges_due = edges; corners_due = corners; reach_due = faces; borders_due = borders }
 
-pub shell_takes : (k : KeptOpen) (n rows edges corners faces borders : ℕ) → IsKept k → k.begun ≡ false → n ≡ k.entity → AreCounts k.rows rows edges corners faces → Takes k (with_shell k edges corners (faces - 1) borders) (shell n rows edges corners faces borders) true
+pub shell_takes : (k : KeptOpen) (n rows edges corners faces borders : ℕ) → IsKept k → k.begun ≡ false → n ≡ k.entity
+    → AreCounts k.rows rows edges corners faces → Takes k (with_shell k edges corners (faces - 1) borders) (shell n rows edges corners faces borders) true
 unfolding stand_from_latest
 shell_takes k n rows edges corners faces borders kept fresh named counts s lines t = at_first lines (t.first fresh) t
   where
     at_first : (ls : List OpenLine) → ls ≡ [] → MatchesLines s ls k
-        → ((((stand_from_latest s ls).begun ≡ false) × FitsShell s n rows edges corners faces) × MatchesLines s (shell n rows edges corners faces borders ∷ ls) (with_shell k edges corners (faces - 1) borders))
+        → ((((stand_from_latest s ls).begun ≡ false) × FitsShell s n rows edges corners faces) × MatchesLines s (shell n rows edges corners faces borders ∷ ls)
+        (with_shell k edges corners (faces - 1) borders))
     at_first (l ∷ ls) e t = absurd (let h : l ∷ ls ≡ [] = e in cc)
     at_first [] e t = (
       (
@@ -567,7 +628,8 @@ shell_takes k n rows edges corners faces borders kept fresh named counts s lines
       },
     )
 
-pub shell_kept : (k : KeptOpen) (rows edges corners faces borders : ℕ) → IsKept k → k.begun ≡ false → AreCounts k.rows rows edges corners faces → edges < 2 ^ 32 → corners < 2 ^ 32 → faces < 2 ^ 32 → borders < 2 ^ 32 → IsKept (with_shell k edges corners (faces - 1) borders)
+pub shell_kept : (k : KeptOpen) (rows edges corners faces borders : ℕ) → IsKept k → k.begun ≡ false → AreCounts k.rows rows edges corners faces
+    → edges < 2 ^ 32 → corners < 2 ^ 32 → faces < 2 ^ 32 → borders < 2 ^ 32 → IsKept (with_shell k edges corners (faces - 1) borders)
 shell_kept k rows edges corners faces borders kept fresh counts e c f b = record {
   sizes = kept.sizes;
   alone = kept.alone;
@@ -586,10 +648,12 @@ shell_kept k rows edges corners faces borders kept fresh counts e c f b = record
 pub shell_again : (k new : KeptOpen) (n rows edges corners faces borders : ℕ) → k.begun ≡ true → Takes k new (shell n rows edges corners faces borders) false
 shell_again k new n rows edges corners faces borders begun s lines t f = true_false (sym begun ∙ (t.begun ∙ f.0))
 
-pub other_shell : (k new : KeptOpen) (n rows edges corners faces borders : ℕ) → (n ≡ k.entity → ⊥) → Takes k new (shell n rows edges corners faces borders) false
+pub other_shell : (k new : KeptOpen) (n rows edges corners faces borders : ℕ) → (n ≡ k.entity → ⊥)
+    → Takes k new (shell n rows edges corners faces borders) false
 other_shell k new n rows edges corners faces borders other s lines t f = other (f.1.names ∙ sym t.entity)
 
-pub other_counts : (k new : KeptOpen) (n rows edges corners faces borders : ℕ) → (AreCounts k.rows rows edges corners faces → ⊥) → Takes k new (shell n rows edges corners faces borders) false
+pub other_counts : (k new : KeptOpen) (n rows edges corners faces borders : ℕ) → (AreCounts k.rows rows edges corners faces → ⊥)
+    → Takes k new (shell n rows edges corners faces borders) false
 other_counts k new n rows edges corners faces borders other s lines t f = other (record {
   rows_counted = subst (λ (d : ShellRows). rows ≡ length d.rows) (sym t.rows) f.1.rows_counted;
   edges_counted = subst (λ (d : ShellRows). edges ≡ length d.edges) (sym t.rows) f.1.edges_counted;
@@ -598,7 +662,8 @@ other_counts k new n rows edges corners faces borders other s lines t f = other 
 })
 
 -- no line
-pub fresh_tells : (k : KeptOpen) (s : SolidData) → k.entity ≡ s.entity.0 → k.rows ≡ shell_of s → k.begun ≡ false → HoldsMates k.mates [] → HoldsRows k.lone [] → k.lone_count ≡ 0 → HoldsFaces k.reached (0 ∷ []) → dues k ≡ 0 → k.listed ≡ 0 → k.bordered ≡ 0
+pub fresh_tells : (k : KeptOpen) (s : SolidData) → k.entity ≡ s.entity.0 → k.rows ≡ shell_of s → k.begun ≡ false → HoldsMates k.mates [] → HoldsRows k.lone []
+    → k.lone_count ≡ 0 → HoldsFaces k.reached (0 ∷ []) → dues k ≡ 0 → k.listed ≡ 0 → k.bordered ≡ 0
     → k.last_edge ≡ None → k.last_vertex ≡ None → k.last_border ≡ None → MatchesLines s [] k
 unfolding stand_from_latest
 fresh_tells k s entity rows begun mates marks count reached none listed bordered is_edge_of is_vertex_of is_border_of = record {

@@ -18,7 +18,8 @@ pub record IsOpenShell (s : SolidData) : Type 0 where
 abbrev pub AllJoin : SolidData → Type 0
 AllJoin s = AllByRecursion (λ (p : PlacedLoop). IsJoined s p.loop) (flat_map placed_loops s.shells)
 
--- The certificate is accepted for the solid that is one open shell: its first line is the head, each loop joins, and the lines after the head, the first of which names the shell, are legal.
+-- The certificate is accepted for the solid that is one open shell: its first line is the head, each loop joins, and the lines after the head, the first of
+-- which names the shell, are legal.
 pub record IsOpenAccepted (s : SolidData) (certificate : List ℕ) : Type 0 where
   pub first : List ℕ
   pub rest : List (List ℕ)

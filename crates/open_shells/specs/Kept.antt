@@ -1,5 +1,6 @@
 -- What a checker keeps of an open shell, in arrays, and when it is what the lines so far say.
-use Rattle.std.specs.Prelude.{◌≡◌, ℕ, zero, suc, ◌+◌, ◌-◌, ◌*◌, ◌≤◌, ◌<◌, ◌^◌, ◌↔◌, min, Bool, true, false, List, [], ◌∷◌, length, map, Contains, Option, Some, None, IsSomeAnd, slice_get}
+use Rattle.std.specs.Prelude.{◌≡◌, ℕ, zero, suc, ◌+◌, ◌-◌, ◌*◌, ◌≤◌, ◌<◌, ◌^◌, ◌↔◌, min, Bool, true, false, List, [], ◌∷◌, length, map, Contains, Option, Some}
+use Rattle.std.specs.Prelude.{None, IsSomeAnd, slice_get}
 use Rattle.std.specs.Bool.{MatchBool}
 use Rattle.solid_data.specs.SolidData.{SolidData}
 use Rattle.solid_data.specs.declared.solid.LoopAt.{LoopAt}
@@ -27,7 +28,9 @@ pub record AreCounts (d : ShellRows) (rows edges corners faces : ℕ) : Type 0 w
   pub corners_counted : corners ≡ length d.vertices
   pub faces_counted : faces ≡ d.face_count
 
--- Of a shell: its number, its rows, how many rows a corner line has that starts with a row, which loops without an edge are alone at their vertex, whether the SHELL line came, the mate of each row, which rows are listed as the only ones of their edges and how many they are, which faces are reached, how many lines of each kind are due, how many rows the edge lines and the border lines list, the last edge, the last vertex, and the first row of the last border line.
+-- Of a shell: its number, its rows, how many rows a corner line has that starts with a row, which loops without an edge are alone at their vertex, whether the
+-- SHELL line came, the mate of each row, which rows are listed as the only ones of their edges and how many they are, which faces are reached, how many lines
+-- of each kind are due, how many rows the edge lines and the border lines list, the last edge, the last vertex, and the first row of the last border line.
 pub record KeptOpen : Type 0 where
   pub entity : ℕ
   pub rows : ShellRows
@@ -122,4 +125,5 @@ pub record HasRoom (c : KeptChecker) : Type 0 where
 abbrev pub TakesLine : KeptChecker → KeptChecker → OpenLine → Bool → Type 0
 TakesLine old new line taken =
     (lines : List OpenLine) → IsAt old lines →
-    MatchBool taken (FitsLine old.solid (stand_from_latest old.solid lines) line × IsAt new (line ∷ lines)) (¬ FitsLine old.solid (stand_from_latest old.solid lines) line)
+    MatchBool taken (FitsLine old.solid (stand_from_latest old.solid lines) line × IsAt new (line ∷ lines))
+    (¬ FitsLine old.solid (stand_from_latest old.solid lines) line)

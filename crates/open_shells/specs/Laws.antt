@@ -19,7 +19,8 @@ AcceptedIsSound = (s : SolidData) (certificate : List ℕ) → IsNumberedSolid s
 
 -- A solid that is one open shell is sound exactly where some certificate is accepted for it.
 abbrev pub SoundExactlyWhereAccepted : Type 0
-SoundExactlyWhereAccepted = (s : SolidData) → IsNumberedSolid s → IsOpenShell s → AllHold (open_obligations s) ↔ ((certificate : List ℕ) × IsOpenAccepted s certificate)
+SoundExactlyWhereAccepted = (s : SolidData) → IsNumberedSolid s → IsOpenShell s
+    → AllHold (open_obligations s) ↔ ((certificate : List ℕ) × IsOpenAccepted s certificate)
 
 -- the rows of a border line, from 0
 abbrev pub cycle_in : OpenLine → Option (List ℕ)
@@ -36,7 +37,8 @@ pub record AreAllBorders (d : ShellRows) (cycles : List (List ℕ)) : Type 0 whe
 
 -- The border lines of legal lines hold each border row once.
 abbrev pub BordersAreCycles : Type 0
-BordersAreCycles = (s : SolidData) (texts : List (List ℕ)) (lines : List OpenLine) → IsNumberedSolid s → IsOpenShell s → AllJoin s → IsOpenLegal s texts → AllZip IsSpelled texts lines
+BordersAreCycles = (s : SolidData) (texts : List (List ℕ)) (lines : List OpenLine) → IsNumberedSolid s → IsOpenShell s → AllJoin s → IsOpenLegal s texts
+    → AllZip IsSpelled texts lines
     → AreAllBorders (shell_of s) (filter_map cycle_in lines)
 
 -- A closed shell of a solid is sound as an open one, and has no border row.

@@ -9,7 +9,8 @@ use Rattle.open_shells.specs.Stand.{stand_from_latest, FitsLine}
 -- After the lines before, the latest first: each line is spelled and fits the stand of those before it, and the last is END.
 abbrev pub IsLegalAfter : SolidData → List OpenLine → List (List ℕ) → Type 0
 IsLegalAfter s before [] = (stand_from_latest s before).ended ≡ true
-IsLegalAfter s before (bytes ∷ rest) = (line : OpenLine) × IsSpelled bytes line × FitsLine s (stand_from_latest s before) line × IsLegalAfter s (line ∷ before) rest
+IsLegalAfter s before (bytes ∷ rest) = (line : OpenLine) × IsSpelled bytes line × FitsLine s (stand_from_latest s before) line
+    × IsLegalAfter s (line ∷ before) rest
 
 unfoldable pub IsOpenLegal : SolidData → List (List ℕ) → Type 0
 IsOpenLegal s lines = IsLegalAfter s [] lines

@@ -52,7 +52,8 @@ fan_obligation s d v = open_obligation Fan (vertex_name (slice_get s.vertices v)
 unfoldable pub open_shell_obligations : SolidData → Shell → List OpenObligation
 open_shell_obligations s shell =
     let d = shell_rows s shell in
-    map (as_open Join) (join_obligations s shell) ++ map (edge_obligation s d) d.edges ++ map (as_open Reach) (reach_obligations shell d) ++ map (fan_obligation s d) d.vertices
+    map (as_open Join) (join_obligations s shell) ++ map (edge_obligation s d) d.edges ++ map (as_open Reach) (reach_obligations shell d)
+    ++ map (fan_obligation s d) d.vertices
 
 abbrev pub of_shells : SolidData → List Shell → List OpenObligation
 of_shells s [] = []

@@ -1,12 +1,14 @@
 -- How far an open shell's certificate has come after some of its lines, and which line fits there. The lines are those after the head, the latest first.
-use Rattle.std.specs.Prelude.{◌≡◌, ℕ, ◌+◌, ◌-◌, ◌*◌, ◌<◌, Bool, true, false, List, [], ◌∷◌, length, filter_map, flat_map, find, filter, Contains, Option, Some, None, option_map, ⊤}
+use Rattle.std.specs.Prelude.{◌≡◌, ℕ, ◌+◌, ◌-◌, ◌*◌, ◌<◌, Bool, true, false, List, [], ◌∷◌, length, filter_map, flat_map, find, filter, Contains, Option, Some}
+use Rattle.std.specs.Prelude.{None, option_map, ⊤}
 use Rattle.std.specs.List.{AllByRecursion, AllZip, list_any}
 use Rattle.solid_data.specs.Ring.{next_of_each}
 use Rattle.solid_data.specs.SolidData.{SolidData}
 use Rattle.edge_uses.specs.declared.row.Row.{Row}
 use Rattle.edge_uses.specs.ShellRows.{ShellRows}
 use Rattle.edge_uses.specs.RowRelations.{point_count}
-use Rattle.topo_certificate.specs.Stand.{Stand, rows_of_shell, row_named, row_edge, row_start, row_face, point_named, first_of, start_count, IsAbove, TurnsTo, FitsEdge, FitsCorner, FitsPoint, FitsReach}
+use Rattle.topo_certificate.specs.Stand.{Stand, rows_of_shell, row_named, row_edge, row_start, row_face, point_named, first_of, start_count, IsAbove, TurnsTo}
+use Rattle.topo_certificate.specs.Stand.{FitsEdge, FitsCorner, FitsPoint, FitsReach}
 use Rattle.solid_data.specs.declared.solid.LoopAt.{LoopAt}
 use Rattle.open_shells.specs.Line.{OpenLine, head, shell, edge, lone, cycle, path, point, reach, border, end}
 
@@ -78,7 +80,9 @@ abbrev pub border_in : OpenLine → Option ℕ
 border_in (border rs) = first_of rs
 border_in _ = None
 
--- The number of the next line, whether END came, whether the SHELL line did, the lines that are still due of each kind, the mates, the rows that are listed as the only ones of their edges, how many rows the edge lines list, the last edge, the last vertex, the faces reached, the first row of the last border line, and the rows that the border lines list.
+-- The number of the next line, whether END came, whether the SHELL line did, the lines that are still due of each kind, the mates, the rows that are listed as
+-- the only ones of their edges, how many rows the edge lines list, the last edge, the last vertex, the faces reached, the first row of the last border line,
+-- and the rows that the border lines list.
 pub record OpenStand : Type 0 where
   pub number : ℕ
   pub ended : Bool
@@ -122,7 +126,16 @@ stand_from_latest s lines = record {
 
 -- as a stand of a closed solid's certificate, by which the conditions are stated that both kinds of certificates share
 abbrev pub shared : OpenStand → Stand
-shared at = record { ended = at.ended; shell = 1; due = record { edges = at.edges_due; corners = at.corners_due; reach = at.reach_due; tally = 0 }; mates = at.mates; last_edge = at.last_edge; last_vertex = at.last_vertex; reached = at.reached }
+shared at = record {
+  ended = at.ended;
+  shell = 1;
+  due = record { edges = at.edges_due; corners = at.corners_due; reach = at.reach_due; tally = 0 };
+  mates =
+      at.mates;
+  last_edge = at.last_edge;
+  last_vertex = at.last_vertex;
+  reached = at.reached;
+}
 
 -- the shell's number and its counts; how many border lines come is free
 pub record FitsShell (s : SolidData) (n rows edges corners faces : ℕ) : Type 0 where
@@ -166,7 +179,8 @@ pub record FitsPath (d : ShellRows) (at : OpenStand) (r : ℕ) (rs : List ℕ) :
 abbrev pub GoesOnTo : ShellRows → ℕ → ℕ → Type 0
 GoesOnTo d r s = (a b : Row) × (row_named d r ≡ Some a) × (row_named d s ≡ Some b) × (a.to ≡ b.from)
 
--- Rows that are listed as the only ones of their edges: each starts where the one before ends, and the first, which is the least, where the last ends. Its first row is greater than that of the line before.
+-- Rows that are listed as the only ones of their edges: each starts where the one before ends, and the first, which is the least, where the last ends. Its
+-- first row is greater than that of the line before.
 pub record FitsBorder (d : ShellRows) (at : OpenStand) (r : ℕ) (rs : List ℕ) : Type 0 where
   pub lone : AllByRecursion (Contains at.lone) (r ∷ rs)
   pub goes_on : AllZip (GoesOnTo d) (r ∷ rs) (next_of_each (r ∷ rs))

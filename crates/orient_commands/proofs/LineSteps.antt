@@ -28,7 +28,8 @@ fault_from P Q NoMemory f h = h
 pub whole_on : (s : SolidData) (i : ℕ) (l : List ℕ) (ls : List (List ℕ)) → Fits s (i, l) → AreWhole s (i + 1) ls → AreWhole s i (l ∷ ls)
 whole_on s i l ls fit w = let e = w.ended in record { each = (fit, w.each); ended = omega (arith, e) }
 
-pub bad_on : (s : SolidData) (i : ℕ) (l : List ℕ) (ls : List (List ℕ)) (bad : Illegal) → Fits s (i, l) → IsFirstBad s (i + 1) ls bad → IsFirstBad s i (l ∷ ls) bad
+pub bad_on : (s : SolidData) (i : ℕ) (l : List ℕ) (ls : List (List ℕ)) (bad : Illegal) → Fits s (i, l) → IsFirstBad s (i + 1) ls bad
+    → IsFirstBad s i (l ∷ ls) bad
 bad_on s i l ls bad fit (inl w) = inl (record { line = w.line; is_first = inr (fit, w.is_first); wrong = w.wrong })
 bad_on s i l ls bad fit (inr w) =
     let few = w.unended in
@@ -38,10 +39,12 @@ bad_on s i l ls bad fit (inr w) =
 pub unfit_never : (s : SolidData) (i : ℕ) (l : List ℕ) (line : OrientLine) → IsSpelled l line → (FitsAs s i line → ⊥) → Fits s (i, l) → ⊥
 unfit_never s i l line is never (other, spelled, fit) = never (subst (FitsAs s i) (line_one l other line spelled is) fit)
 
-pub unfit_here : (s : SolidData) (i : ℕ) (l : List ℕ) (ls : List (List ℕ)) (line : OrientLine) → IsSpelled l line → (FitsAs s i line → ⊥) → IsFirstBad s i (l ∷ ls) (Unfit i)
+pub unfit_here : (s : SolidData) (i : ℕ) (l : List ℕ) (ls : List (List ℕ)) (line : OrientLine) → IsSpelled l line → (FitsAs s i line → ⊥)
+    → IsFirstBad s i (l ∷ ls) (Unfit i)
 unfit_here s i l ls line is never = inl (record { line = (i, l); is_first = inl (unfit_never s i l line is never, refl); wrong = inr (line, is, refl) })
 
-pub misspelt_here : (s : SolidData) (i : ℕ) (l : List ℕ) (ls : List (List ℕ)) (bad : Illegal) → ((line : OrientLine) → IsSpelled l line → ⊥) → bad ≡ Misspelt i → IsFirstBad s i (l ∷ ls) bad
+pub misspelt_here : (s : SolidData) (i : ℕ) (l : List ℕ) (ls : List (List ℕ)) (bad : Illegal) → ((line : OrientLine) → IsSpelled l line → ⊥) → bad ≡ Misspelt i
+    → IsFirstBad s i (l ∷ ls) bad
 misspelt_here s i l ls bad none e = inl (record { line = (i, l); is_first = inl ((λ (line, is, fit). none line is), refl); wrong = inl (none, e) })
 
 pub missing_here : (s : SolidData) (i : ℕ) → i < length s.shells + 3 → IsFirstBad s i [] (Missing i)
@@ -49,11 +52,14 @@ missing_here s i few = let whole : i ≡ i + 0 = omega arith in inr (record { ea
 
 -- of a text's first line
 
-pub misspelt_text : (s : SolidData) (i : ℕ) (text line : List ℕ) (rest : List (List ℕ)) (e : TextFault) → cut_lines text ≡ line ∷ rest → IsTextFault (λ bad. ((l : OrientLine) → IsSpelled line l → ⊥) × (bad ≡ Misspelt i)) e → IsTextFault (IsFirstBad s i (cut_lines text)) e
+pub misspelt_text : (s : SolidData) (i : ℕ) (text line : List ℕ) (rest : List (List ℕ)) (e : TextFault) → cut_lines text ≡ line ∷ rest
+    → IsTextFault (λ bad. ((l : OrientLine) → IsSpelled line l → ⊥) × (bad ≡ Misspelt i)) e → IsTextFault (IsFirstBad s i (cut_lines text)) e
 misspelt_text s i text line rest e cut h =
-    fault_from (λ bad. ((l : OrientLine) → IsSpelled line l → ⊥) × (bad ≡ Misspelt i)) (IsFirstBad s i (cut_lines text)) e (λ bad w. subst (λ ls. IsFirstBad s i ls bad) (sym cut) (misspelt_here s i line rest bad w.0 w.1)) h
+    fault_from (λ bad. ((l : OrientLine) → IsSpelled line l → ⊥) × (bad ≡ Misspelt i)) (IsFirstBad s i (cut_lines text)) e
+    (λ bad w. subst (λ ls. IsFirstBad s i ls bad) (sym cut) (misspelt_here s i line rest bad w.0 w.1)) h
 
-pub unfit_text : (s : SolidData) (i : ℕ) (text bytes : List ℕ) (rest : List (List ℕ)) (line : OrientLine) → cut_lines text ≡ bytes ∷ rest → IsSpelled bytes line → (FitsAs s i line → ⊥) → IsFirstBad s i (cut_lines text) (Unfit i)
+pub unfit_text : (s : SolidData) (i : ℕ) (text bytes : List ℕ) (rest : List (List ℕ)) (line : OrientLine) → cut_lines text ≡ bytes ∷ rest
+    → IsSpelled bytes line → (FitsAs s i line → ⊥) → IsFirstBad s i (cut_lines text) (Unfit i)
 unfit_text s i text bytes rest line cut is never = subst (λ ls. IsFirstBad s i ls (Unfit i)) (sym cut) (unfit_here s i bytes rest line is never)
 
 pub missing_text : (s : SolidData) (i : ℕ) (text : List ℕ) → text ≡ [] → i < length s.shells + 3 → IsFirstBad s i (cut_lines text) (Missing i)
@@ -83,8 +89,10 @@ rest_next s text rest after i j e of fit = record {
   bad = λ bad b. of.bad bad (subst (λ ls. IsFirstBad s i ls bad) (sym fit.cut) (bad_on s i fit.line (cut_lines after) bad fit.fits (subst (λ k. IsFirstBad s k (cut_lines after) bad) e b)));
 }
 
-pub rest_fault : (s : SolidData) (text rest : List ℕ) (i : ℕ) (e : TextFault) → IsRestOf s text i rest → IsTextFault (IsFirstBad s i (cut_lines rest)) e → IsTextFault (IsFirstBad s 2 (cut_lines text)) e
+pub rest_fault : (s : SolidData) (text rest : List ℕ) (i : ℕ) (e : TextFault) → IsRestOf s text i rest → IsTextFault (IsFirstBad s i (cut_lines rest)) e
+    → IsTextFault (IsFirstBad s 2 (cut_lines text)) e
 rest_fault s text rest i e of h = fault_from (IsFirstBad s i (cut_lines rest)) (IsFirstBad s 2 (cut_lines text)) e of.bad h
 
-pub rest_ended : (s : SolidData) (text rest : List ℕ) (i : ℕ) → IsRestOf s text i rest → i ≡ length s.shells + 3 → cut_lines rest ≡ [] → AreWhole s 2 (cut_lines text)
+pub rest_ended : (s : SolidData) (text rest : List ℕ) (i : ℕ) → IsRestOf s text i rest → i ≡ length s.shells + 3 → cut_lines rest ≡ []
+    → AreWhole s 2 (cut_lines text)
 rest_ended s text rest i of e none = of.whole (subst (AreWhole s i) (sym none) (record { each = tt; ended = omega (arith, e) }))

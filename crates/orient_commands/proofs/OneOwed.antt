@@ -25,7 +25,8 @@ use Rattle.command_replies.specs.declared.answer.Answer.{Answer}
 use Rattle.command_replies.specs.declared.answer.Answer.TheVariants as answer
 use Rattle.command_replies.specs.Texts.{accepted_line, fail_line, illegal_line}
 use Rattle.command_replies.proofs.One.{IsOne}
-use Rattle.orient_commands.specs.Due.{IsRingLine, HasRing, IsAnswerOf, IsOriented, OfOrientLines, orient_fail_line, misplaced, unready, oriented, place_fails, uncounted, line_bad, lines_accepted, text_too_large, head_bad, named}
+use Rattle.orient_commands.specs.Due.{IsRingLine, HasRing, IsAnswerOf, IsOriented, OfOrientLines, orient_fail_line, misplaced, unready, oriented, place_fails}
+use Rattle.orient_commands.specs.Due.{uncounted, line_bad, lines_accepted, text_too_large, head_bad, named}
 use Rattle.orient_commands.specs.Laws.{AreSameOrRings, OneOrientation, OneVerifying, OrientationIsAccepted}
 use Rattle.orient_commands.specs.Shells.{IsReady, IsCounted, OfAllShells, FailsInShell}
 use Rattle.orient_commands.specs.Text.{FitsAs, Fits, AreWhole, IsWrong, IsFirstBad, Names, IsBadFirst, IsBadHead}
@@ -44,7 +45,9 @@ count_one s k x y p q = count_so {A = ℕ} s k (Err (faults.Fails x)) p tt y q
 count_not : (s : SolidData) (k : ℕ) (x : OrientFailing) → CountFails s k x → IsCounted s k → ⊥
 count_not s k x p two = count_memory {A = ℕ} s k (Err (faults.Fails x)) p two
 
-module _ (Holds : SolidData → ℕ → Type 0) (FailsOf : SolidData → ℕ → OrientFailing → Type 0) (one : (s : SolidData) (k : ℕ) (x y : OrientFailing) → FailsOf s k x → FailsOf s k y → x ≡ y) (never : (s : SolidData) (k : ℕ) (x : OrientFailing) → FailsOf s k x → Holds s k → ⊥) where
+module _ (Holds : SolidData → ℕ → Type 0) (FailsOf : SolidData → ℕ → OrientFailing → Type 0)
+    (one : (s : SolidData) (k : ℕ) (x y : OrientFailing) → FailsOf s k x → FailsOf s k y → x ≡ y)
+    (never : (s : SolidData) (k : ℕ) (x : OrientFailing) → FailsOf s k x → Holds s k → ⊥) where
   shells_one : (s : SolidData) (x y : OrientFailing) → FailsInShell Holds FailsOf s x → FailsInShell Holds FailsOf s y → x ≡ y
   shells_one s x y p q =
       ⊎_elim (λ e. one s q.shell x y (subst (λ k. FailsOf s k x) e p.fails) q.fails)
@@ -114,7 +117,8 @@ lines_one n ls f a b t u (place_fails x p) (uncounted all y q) = absurd (FirstFa
 lines_one n ls f a b t u (place_fails x p) (line_bad all two bad q) = absurd (FirstFalse-not_all (places f n) x p all)
 lines_one n ls f a b t u (place_fails x p) (lines_accepted all two w) = absurd (FirstFalse-not_all (places f n) x p all)
 lines_one n ls f a b t u (uncounted all x p) (place_fails y q) = absurd (FirstFalse-not_all (places f n) y q all)
-lines_one n ls f a b t u (uncounted all x p) (uncounted every y q) = (refl, ap orient_fail_line (shells_one IsCounted CountFails count_one count_not (solid_of f n) x y p q))
+lines_one n ls f a b t u (uncounted all x p) (uncounted every y q) =
+    (refl, ap orient_fail_line (shells_one IsCounted CountFails count_one count_not (solid_of f n) x y p q))
 lines_one n ls f a b t u (uncounted all x p) (line_bad every two bad q) = absurd (shells_none IsCounted CountFails count_one count_not (solid_of f n) x p two)
 lines_one n ls f a b t u (uncounted all x p) (lines_accepted every two w) = absurd (shells_none IsCounted CountFails count_one count_not (solid_of f n) x p two)
 lines_one n ls f a b t u (line_bad all two bad p) (place_fails y q) = absurd (FirstFalse-not_all (places f n) y q all)
@@ -178,7 +182,8 @@ module _ (s : SolidData) (ready : OfAllShells IsReady s) where
   as_one i l m End (Ring other more) p q fit (k, of, git) = let a = of.at in let lt = of.within in absurd (omega (arith, a, lt, fit))
   as_one i l m End End p q fit git = inl (spelled_same l m End End p q refl)
 
-  zip_fits : (i : ℕ) (ls ms : List (List ℕ)) → length ls ≡ length ms → AllByRecursion (Fits s) (enumerate_from i ls) → AllByRecursion (Fits s) (enumerate_from i ms) → AllZip AreSameOrRings ls ms
+  zip_fits : (i : ℕ) (ls ms : List (List ℕ)) → length ls ≡ length ms → AllByRecursion (Fits s) (enumerate_from i ls)
+      → AllByRecursion (Fits s) (enumerate_from i ms) → AllZip AreSameOrRings ls ms
   zip_fits i [] [] e p q = tt
   zip_fits i [] (m ∷ ms) e p q = absurd (omega (arith, e))
   zip_fits i (l ∷ ls) [] e p q = absurd (omega (arith, e))
@@ -205,14 +210,17 @@ answer_one ls ms a b z (inl p) (inr q) = absurd (q.0 (ring_over ls ms z p.0))
 answer_one ls ms a b z (inr p) (inl q) = absurd (p.0 (ring_back ls ms z q.0))
 answer_one ls ms a b z (inr p) (inr q) = p.1 ∙ sym q.1
 
-oriented_one : (s : SolidData) (n : ℕ) (a b : Answer) (t u : List ℕ) → OfAllShells IsReady s → IsOriented s n a t → IsOriented s n b u → (a ≡ b) × AllZip AreSameOrRings (cut_lines t) (cut_lines u)
+oriented_one : (s : SolidData) (n : ℕ) (a b : Answer) (t u : List ℕ) → OfAllShells IsReady s → IsOriented s n a t → IsOriented s n b u
+    → (a ≡ b) × AllZip AreSameOrRings (cut_lines t) (cut_lines u)
 oriented_one s n a b t u ready p q =
     let x = p.whole.ended in
     let y = q.whole.ended in
     let z = zip_fits s ready 2 p.lines q.lines (omega (arith, x, y)) p.whole.each q.whole.each in
-    let heads : p.names.head ≡ q.names.head = spelled_same p.names.head q.names.head (Head (record { 0 = n })) (Head (record { 0 = n })) p.names.names q.names.names refl in (
+    let heads : p.names.head ≡ q.names.head = spelled_same p.names.head q.names.head (Head (record { 0 = n })) (Head (record { 0 = n })) p.names.names
+    q.names.names refl in (
       answer_one p.lines q.lines a b z p.answer q.answer,
-      subst (λ (ls : List (List ℕ)). AllZip AreSameOrRings ls (cut_lines u)) (sym p.names.cut) (subst (AllZip AreSameOrRings (p.names.head ∷ p.lines)) (sym q.names.cut) (inl heads, z)),
+      subst (λ (ls : List (List ℕ)). AllZip AreSameOrRings ls (cut_lines u)) (sym p.names.cut)
+          (subst (AllZip AreSameOrRings (p.names.head ∷ p.lines)) (sym q.names.cut) (inl heads, z)),
     )
 
 same_text : (t u : List ℕ) → t ≡ u → AllZip AreSameOrRings (cut_lines t) (cut_lines u)
@@ -223,10 +231,13 @@ orienting_one n f a b t u (misplaced x p) (misplaced y q) = (refl, same_text t u
 orienting_one n f a b t u (misplaced x p) (unready all y q) = absurd (FirstFalse-not_all (places f n) x p all)
 orienting_one n f a b t u (misplaced x p) (oriented all ready q) = absurd (FirstFalse-not_all (places f n) x p all)
 orienting_one n f a b t u (unready all x p) (misplaced y q) = absurd (FirstFalse-not_all (places f n) y q all)
-orienting_one n f a b t u (unready all x p) (unready every y q) = (refl, same_text t u (ap orient_fail_line (shells_one IsReady IsFirstFailing failing_one failing_not (solid_of f n) x y p q)))
-orienting_one n f a b t u (unready all x p) (oriented every ready q) = absurd (shells_none IsReady IsFirstFailing failing_one failing_not (solid_of f n) x p ready)
+orienting_one n f a b t u (unready all x p) (unready every y q) =
+    (refl, same_text t u (ap orient_fail_line (shells_one IsReady IsFirstFailing failing_one failing_not (solid_of f n) x y p q)))
+orienting_one n f a b t u (unready all x p) (oriented every ready q) =
+    absurd (shells_none IsReady IsFirstFailing failing_one failing_not (solid_of f n) x p ready)
 orienting_one n f a b t u (oriented all ready p) (misplaced y q) = absurd (FirstFalse-not_all (places f n) y q all)
-orienting_one n f a b t u (oriented all ready p) (unready every y q) = absurd (shells_none IsReady IsFirstFailing failing_one failing_not (solid_of f n) y q ready)
+orienting_one n f a b t u (oriented all ready p) (unready every y q) =
+    absurd (shells_none IsReady IsFirstFailing failing_one failing_not (solid_of f n) y q ready)
 orienting_one n f a b t u (oriented all ready p) (oriented every also q) = oriented_one (solid_of f n) n a b t u ready p q
 
 -- What is owed is accepted.

@@ -1,12 +1,14 @@
 -- It can be told whether lines are spelled, and whether they fit.
-use Rattle.std.specs.Prelude.{◌≡◌, ◌≢◌, ◌⊎◌, ℕ, zero, suc, ◌+◌, ◌<◌, ◌≤◌, ◌^◌, ◌==◌, Bool, true, false, not, List, [], ◌∷◌, ◌++◌, length, map, codes, decimal, count_by, slice_get, Option, Some, None, if◌then◌else◌}
+use Rattle.std.specs.Prelude.{◌≡◌, ◌≢◌, ◌⊎◌, ℕ, zero, suc, ◌+◌, ◌<◌, ◌≤◌, ◌^◌, ◌==◌, Bool, true, false, not, List, [], ◌∷◌, ◌++◌, length, map, codes, decimal}
+use Rattle.std.specs.Prelude.{count_by, slice_get, Option, Some, None, if◌then◌else◌}
 use Rattle.std.specs.List.{AllByRecursion}
 use Rattle.std.proofs.Common.{refl, sym, ◌∙◌, ap, subst, arith, inl, inr, ⊎_elim, get_or, length-append}
 use Rattle.std.proofs.lemmas.Option.{same_Some, slice_get_within}
 use Rattle.std.proofs.lemmas.Slice.Eq.{bytes_eq-Decides}
 use Rattle.solid_data.specs.Ring.{next_of_each}
 use Rattle.solid_data.specs.SolidData.{SolidData}
-use Rattle.solid_data.proofs.Decisions.{Decided, decided_alike, decided_by, decided_same, decided_bool, decided_below, decided_both, decided_three, decided_not, decided_found, decided_bounded, decided_each, decided_all, decided_zip, decided_list, above_all, below_all}
+use Rattle.solid_data.proofs.Decisions.{Decided, decided_alike, decided_by, decided_same, decided_bool, decided_below, decided_both, decided_three, decided_not}
+use Rattle.solid_data.proofs.Decisions.{decided_found, decided_bounded, decided_each, decided_all, decided_zip, decided_list, above_all, below_all}
 use Rattle.solid_data.proofs.ChainsDecided.{leads_decided}
 use Rattle.edge_uses.specs.declared.row.Row.{Row}
 use Rattle.edge_uses.specs.ShellRows.{ShellRows}
@@ -57,7 +59,8 @@ abbrev flag_back : ℕ → Bool
 flag_back n = n == 1
 
 abbrev line_from : ℕ → List ℕ → OrientLine
-line_from k ns = if k == 0 then Head (record { 0 = get_or ns 0 0 }) else (if k == 1 then Flags (get_or ns 0 0) (map flag_back (rest_of ns)) else (if k == 2 then Ring (get_or ns 0 0) (rest_of ns) else End))
+line_from k ns = if k == 0 then Head (record { 0 = get_or ns 0 0 }) else
+    (if k == 1 then Flags (get_or ns 0 0) (map flag_back (rest_of ns)) else (if k == 2 then Ring (get_or ns 0 0) (rest_of ns) else End))
 
 flags_back : (flags : List Bool) → map flag_back (map flag_number flags) ≡ flags
 flags_back [] = refl
@@ -108,7 +111,8 @@ unfolding SpellsKind
 some_line_decided bytes =
     decided_alike (λ (k, lt, (ns, few, short, h)). (line_from k ns, h))
     (λ (l, h). (kind_of l, kind_below l, (numbers_in l, few_numbers bytes l h, numbers_short l h.0, subst (IsSpelled bytes) (sym (rebuilt l)) h)))
-    (decided_bounded (SpellsKind bytes) (λ k. decided_list (λ ns. IsSpelled bytes (line_from k ns)) (λ ns. spelled_decided bytes (line_from k ns)) (10 ^ 9) (length bytes)) 4)
+    (decided_bounded (SpellsKind bytes)
+    (λ k. decided_list (λ ns. IsSpelled bytes (line_from k ns)) (λ ns. spelled_decided bytes (line_from k ns)) (10 ^ 9) (length bytes)) 4)
 
 -- Partners.
 
@@ -120,10 +124,12 @@ AreTwo d r m row partner = (row.edge ≡ partner.edge) × (r ≢ m) × HasTwoRow
 
 partners_decided : (d : ShellRows) (r m : ℕ) → Decided (ArePartners d r m)
 partners_decided d r m =
-    decided_alike (λ (row, at_r, (partner, at_m, (one, apart, two))). record { row = row; partner = partner; at_r = at_r; at_m = at_m; one_edge = one; apart = apart; two = two })
+    decided_alike (λ (row, at_r, (partner, at_m, (one, apart, two))).
+    record { row = row; partner = partner; at_r = at_r; at_m = at_m; one_edge = one; apart = apart; two = two })
     (λ h. (h.row, h.at_r, (h.partner, h.at_m, (h.one_edge, h.apart, h.two))))
     (decided_found (slice_get d.rows r) (λ row. (partner : Row) × (slice_get d.rows m ≡ Some partner) × AreTwo d r m row partner)
-    (λ row. decided_found (slice_get d.rows m) (AreTwo d r m row) (λ partner. decided_three (edge_id_decided row.edge partner.edge) (decided_not (decided_same r m)) (two_decided d row.edge.0))))
+    (λ row. decided_found (slice_get d.rows m) (AreTwo d r m row)
+    (λ partner. decided_three (edge_id_decided row.edge partner.edge) (decided_not (decided_same r m)) (two_decided d row.edge.0))))
 
 on_face_decided : (d : ShellRows) (face r : ℕ) → Decided (OnFace d face r)
 on_face_decided d face r = decided_found (slice_get d.rows r) (λ (row : Row). row.at.face.0 ≡ face) (λ row. decided_same row.at.face.0 face)
@@ -133,8 +139,11 @@ on_face_decided d face r = decided_found (slice_get d.rows r) (λ (row : Row). r
 adjoin_decided : (d : ShellRows) (a b : ℕ) → Decided (Adjoin d a b)
 adjoin_decided d a b =
     decided_alike (λ (r, lt, (m, below, (partners, on_a, on_b))). (r, m, partners, on_a, on_b))
-    (λ (r, m, partners, on_a, on_b). (r, slice_get_within d.rows r partners.row partners.at_r, (m, slice_get_within d.rows m partners.partner partners.at_m, (partners, on_a, on_b))))
-    (decided_bounded (λ r. (m : ℕ) × (m < length d.rows) × (ArePartners d r m × OnFace d a r × OnFace d b m)) (λ r. decided_bounded (λ m. ArePartners d r m × OnFace d a r × OnFace d b m) (λ m. decided_three (partners_decided d r m) (on_face_decided d a r) (on_face_decided d b m)) (length d.rows)) (length d.rows))
+    (λ (r, m, partners, on_a, on_b).
+    (r, slice_get_within d.rows r partners.row partners.at_r, (m, slice_get_within d.rows m partners.partner partners.at_m, (partners, on_a, on_b))))
+    (decided_bounded (λ r. (m : ℕ) × (m < length d.rows) × (ArePartners d r m × OnFace d a r × OnFace d b m))
+    (λ r. decided_bounded (λ m. ArePartners d r m × OnFace d a r × OnFace d b m)
+    (λ m. decided_three (partners_decided d r m) (on_face_decided d a r) (on_face_decided d b m)) (length d.rows)) (length d.rows))
 
 face_number : Row → ℕ
 face_number row = row.at.face.0
@@ -155,7 +164,8 @@ abbrev DifferAt : ShellRows → ℕ → ℕ → Type 0
 DifferAt d r m = (a b : Row) → ArePartners d r m → slice_get d.rows r ≡ Some a → slice_get d.rows m ≡ Some b → a.along ≡ not b.along
 
 differ_at_decided : (d : ShellRows) (r m : ℕ) → Decided (DifferAt d r m)
-differ_at_decided d r m = ⊎_elim (λ p. decided_alike (here p) (λ f. f p.row p.partner p p.at_r p.at_m) (decided_bool p.row.along (not p.partner.along))) (λ never. inl (λ a b p at_r at_m. absurd (never p))) (partners_decided d r m)
+differ_at_decided d r m = ⊎_elim (λ p. decided_alike (here p) (λ f. f p.row p.partner p p.at_r p.at_m) (decided_bool p.row.along (not p.partner.along)))
+    (λ never. inl (λ a b p at_r at_m. absurd (never p))) (partners_decided d r m)
   where
     here : (p : ArePartners d r m) → p.row.along ≡ not p.partner.along → DifferAt d r m
     here p e a b q at_r at_m =
@@ -167,7 +177,8 @@ differ_decided : (d : ShellRows) → Decided (PartnersDiffer d)
 differ_decided d =
     decided_alike (λ f r m a b p at_r at_m. f r (slice_get_within d.rows r a at_r) m (slice_get_within d.rows m b at_m) a b p at_r at_m)
     (λ f r lt m below a b p at_r at_m. f r m a b p at_r at_m)
-    (decided_each (λ r. (m : ℕ) → m < length d.rows → DifferAt d r m) (λ r. decided_each (DifferAt d r) (differ_at_decided d r) (length d.rows)) (length d.rows))
+    (decided_each (λ r. (m : ℕ) → m < length d.rows → DifferAt d r m) (λ r. decided_each (DifferAt d r) (differ_at_decided d r) (length d.rows))
+    (length d.rows))
 
 option_decided : (o p : Option Bool) → Decided (o ≡ p)
 option_decided None None = inl refl
@@ -178,7 +189,8 @@ option_decided (Some a) (Some b) = decided_alike (ap Some) (same_Some a b) (deci
 fit_decided : (s : SolidData) (k : ℕ) (flags : List Bool) → Decided (FlagsFit s k flags)
 fit_decided s k flags =
     decided_alike (λ (each, first, differ). record { each = each; first = first; differ = differ }) (λ h. (h.each, h.first, h.differ))
-    (decided_three (decided_same (length flags) (length (face_flags (slice_get s.shells k)))) (option_decided (slice_get flags 0) (slice_get (face_flags (slice_get s.shells k)) 0)) (differ_decided (rows_with s k flags)))
+    (decided_three (decided_same (length flags) (length (face_flags (slice_get s.shells k))))
+    (option_decided (slice_get flags 0) (slice_get (face_flags (slice_get s.shells k)) 0)) (differ_decided (rows_with s k flags)))
 
 -- Rings.
 
@@ -187,16 +199,22 @@ goes_decided d r next =
     decided_alike (λ (m, lt, (face, below, (partners, on, at))). (m, face, partners, on, at))
     (λ (m, face, partners, on, at). (m, slice_get_within d.rows m partners.partner partners.at_m, (face, on_below d face m on, (partners, on, at))))
     (decided_bounded (λ m. (face : ℕ) × (face < above_all face_number d.rows) × (ArePartners d r m × OnFace d face m × OnFace d face next))
-    (λ m. decided_bounded (λ face. ArePartners d r m × OnFace d face m × OnFace d face next) (λ face. decided_three (partners_decided d r m) (on_face_decided d face m) (on_face_decided d face next)) (above_all face_number d.rows)) (length d.rows))
+    (λ m. decided_bounded (λ face. ArePartners d r m × OnFace d face m × OnFace d face next)
+    (λ face. decided_three (partners_decided d r m) (on_face_decided d face m) (on_face_decided d face next)) (above_all face_number d.rows))
+    (length d.rows))
 
 abbrev AlikeAt : SolidData → ℕ → ℕ → ℕ → Type 0
-AlikeAt s k r m = ArePartners (rows_at s k) r m × ((a : Row) × (slice_get (bare_rows s k).rows r ≡ Some a) × ((b : Row) × (slice_get (bare_rows s k).rows m ≡ Some b) × (a.along ≡ b.along)))
+AlikeAt s k r m = ArePartners (rows_at s k) r m
+    × ((a : Row) × (slice_get (bare_rows s k).rows r ≡ Some a) × ((b : Row) × (slice_get (bare_rows s k).rows m ≡ Some b) × (a.along ≡ b.along)))
 
 alike_decided : (s : SolidData) (k r : ℕ) → Decided (RunsAlike s k r)
 alike_decided s k r =
-    decided_alike (λ (m, lt, (partners, (a, at_r, (b, at_m, alike)))). record { m = m; a = a; b = b; partners = partners; at_r = at_r; at_m = at_m; alike = alike })
+    decided_alike (λ (m, lt, (partners, (a, at_r, (b, at_m, alike)))).
+    record { m = m; a = a; b = b; partners = partners; at_r = at_r; at_m = at_m; alike = alike })
     (λ h. (h.m, slice_get_within (rows_at s k).rows h.m h.partners.partner h.partners.at_m, (h.partners, (h.a, h.at_r, (h.b, h.at_m, h.alike)))))
-    (decided_bounded (AlikeAt s k r) (λ m. decided_both (partners_decided (rows_at s k) r m) (decided_found (slice_get (bare_rows s k).rows r) (λ a. (b : Row) × (slice_get (bare_rows s k).rows m ≡ Some b) × (a.along ≡ b.along))
+    (decided_bounded (AlikeAt s k r)
+    (λ m. decided_both (partners_decided (rows_at s k) r m)
+    (decided_found (slice_get (bare_rows s k).rows r) (λ a. (b : Row) × (slice_get (bare_rows s k).rows m ≡ Some b) × (a.along ≡ b.along))
     (λ a. decided_found (slice_get (bare_rows s k).rows m) (λ b. a.along ≡ b.along) (λ b. decided_bool a.along b.along)))) (length (rows_at s k).rows))
 
 oddly_decided : (P : ℕ → Type 0) → ((x : ℕ) → Decided (P x)) → (odd : Bool) (xs : List ℕ) → Decided (OddlyMany P odd xs)
@@ -210,7 +228,8 @@ oddly_decided P each odd (x ∷ xs) = by_first (each x) (oddly_decided P each (n
 ring_decided : (s : SolidData) (k : ℕ) (rows : List ℕ) → Decided (OddRing s k rows)
 ring_decided s k rows =
     decided_alike (λ (some, closed, odd). record { some = some; closed = closed; odd = odd }) (λ h. (h.some, h.closed, h.odd))
-    (decided_three (decided_below 0 (length rows)) (decided_zip (GoesOn (rows_at s k)) (goes_decided (rows_at s k)) rows (next_of_each rows)) (oddly_decided (RunsAlike s k) (alike_decided s k) true rows))
+    (decided_three (decided_below 0 (length rows)) (decided_zip (GoesOn (rows_at s k)) (goes_decided (rows_at s k)) rows (next_of_each rows))
+    (oddly_decided (RunsAlike s k) (alike_decided s k) true rows))
 
 rows_named : (numbers : List ℕ) → ((rows : List ℕ) × (numbers ≡ map suc rows)) ⊎ ((rows : List ℕ) → numbers ≡ map suc rows → ⊥)
 rows_named [] = inl ([], refl)
@@ -252,5 +271,6 @@ pub fits_decided : (s : SolidData) (l : ℕ × List ℕ) → Decided (Fits s l)
 fits_decided s (i, bytes) = by_line (some_line_decided bytes)
   where
     by_line : Decided ((line : OrientLine) × IsSpelled bytes line) → Decided (Fits s (i, bytes))
-    by_line (inl (line, is)) = decided_alike (λ fit. (line, is, fit)) (λ (other, also, fit). subst (FitsAs s i) (line_one bytes other line also is) fit) (fits_as_decided s i line)
+    by_line (inl (line, is)) = decided_alike (λ fit. (line, is, fit)) (λ (other, also, fit). subst (FitsAs s i) (line_one bytes other line also is) fit)
+        (fits_as_decided s i line)
     by_line (inr none) = inr (λ (line, is, fit). none (line, is))

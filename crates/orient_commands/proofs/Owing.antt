@@ -15,7 +15,8 @@ use Rattle.orient_commands.specs.Shells.{IsCounted, OfAllShells}
 use Rattle.orient_commands.specs.Text.{AreWhole, IsFirstBad}
 
 -- s is the solid as it was walked
-module _ (f : Contents) (n : ℕ) (lines : List (List ℕ)) (s : SolidData) (same : s ≡ solid_of f n) (all : AllHold (places f n)) (two : OfAllShells IsCounted s) where
+module _ (f : Contents) (n : ℕ) (lines : List (List ℕ)) (s : SolidData) (same : s ≡ solid_of f n) (all : AllHold (places f n))
+    (two : OfAllShells IsCounted s) where
   pub lines_owed : (reply : Reply) → IsOfLines s n lines reply → OfOrientLines n lines f reply.answer reply.text
   lines_owed reply (inl (bad, first, exact)) =
       let row = line_bad all (subst (OfAllShells IsCounted) same two) bad (subst (λ (x : SolidData). IsFirstBad x 2 lines bad) same first) in

@@ -1,5 +1,6 @@
 -- A solid with fitting flags in place of its faces' is paired and reached.
-use Rattle.std.specs.Prelude.{◌≡◌, ℕ, suc, ◌+◌, ◌≤◌, ◌==◌, ◌&&◌, Bool, true, false, not, List, [], ◌∷◌, ◌++◌, length, map, flat_map, filter_map, slice_get, Option, Some, option_map, count_by}
+use Rattle.std.specs.Prelude.{◌≡◌, ℕ, suc, ◌+◌, ◌≤◌, ◌==◌, ◌&&◌, Bool, true, false, not, List, [], ◌∷◌, ◌++◌, length, map, flat_map, filter_map, slice_get}
+use Rattle.std.specs.Prelude.{Option, Some, option_map, count_by}
 use Rattle.std.specs.List.{AllByRecursion, AllZip, enumerate_from, cons_option}
 use Rattle.std.proofs.Common.{refl, sym, ◌∙◌, ap, subst, arith}
 use Rattle.std.proofs.lemmas.Bool.{eq-eqb, eqb-true, and_from, not_from_false}
@@ -46,25 +47,33 @@ zip_alike F G (x ∷ xs) (y ∷ ys) [] a b = absurd a
 zip_alike F G (x ∷ xs) [] (z ∷ bs) a b = absurd b
 zip_alike F G (x ∷ xs) (y ∷ ys) (z ∷ bs) a b = (record { at = a.0.at ∙ sym b.0.at; edge = a.0.edge ∙ sym b.0.edge }, zip_alike F G xs ys bs a.1 b.1)
 
-alike_with : (s : SolidData) (h : Shell) (flags : List Bool) → length flags ≡ length h.faces → AllZip Alike (shell_rows s h).rows (shell_rows s (shell_with flags h)).rows
+alike_with : (s : SolidData) (h : Shell) (flags : List Bool) → length flags ≡ length h.faces
+    → AllZip Alike (shell_rows s h).rows (shell_rows s (shell_with flags h)).rows
 alike_with s h flags e =
-    zip_alike (walks (Some h)) (walks (Some (shell_with flags h))) (shell_rows s h).rows (shell_rows s (shell_with flags h)).rows (shell_rows s (bare_shell h)).rows (told_rows s (Some h))
-    (subst (λ (g : Shell). AllZip (Told (walks (Some (shell_with flags h)))) (shell_rows s (shell_with flags h)).rows (shell_rows s g).rows) (bare_with flags h e) (told_rows s (Some (shell_with flags h))))
+    zip_alike (walks (Some h)) (walks (Some (shell_with flags h))) (shell_rows s h).rows (shell_rows s (shell_with flags h)).rows
+    (shell_rows s (bare_shell h)).rows (told_rows s (Some h))
+    (subst (λ (g : Shell). AllZip (Told (walks (Some (shell_with flags h)))) (shell_rows s (shell_with flags h)).rows (shell_rows s g).rows)
+    (bare_with flags h e) (told_rows s (Some (shell_with flags h))))
 
 -- The uses with other flags.
 
 abbrev face_uses : FaceUse → List LoopUse
 face_uses f = flat_map (λ (l : Loop). l.uses) f.loops
 
-loops_uses : (flag : Bool) (n m : ℕ) (ls : List Loop) → flat_map (λ (p : PlacedLoop). p.loop.uses) (map (λ l. record { at = record { face = record { 0 = n }; place = l.0 }; forwards = flag; loop = l.1 }) (enumerate_from m ls)) ≡ flat_map (λ (l : Loop). l.uses) ls
+loops_uses : (flag : Bool) (n m : ℕ) (ls : List Loop)
+    → flat_map (λ (p : PlacedLoop). p.loop.uses)
+    (map (λ l. record { at = record { face = record { 0 = n }; place = l.0 }; forwards = flag; loop = l.1 }) (enumerate_from m ls))
+    ≡ flat_map (λ (l : Loop). l.uses) ls
 loops_uses flag n m [] = refl
 loops_uses flag n m (l ∷ ls) = ap (λ (us : List LoopUse). l.uses ++ us) (loops_uses flag n (m + 1) ls)
 
-faces_uses : (flag : Bool) (n : ℕ) (fs : List FaceUse) → flat_map (λ (p : PlacedLoop). p.loop.uses) (flat_map (placed_in_face flag) (enumerate_from n fs)) ≡ flat_map face_uses fs
+faces_uses : (flag : Bool) (n : ℕ) (fs : List FaceUse) → flat_map (λ (p : PlacedLoop). p.loop.uses) (flat_map (placed_in_face flag) (enumerate_from n fs))
+    ≡ flat_map face_uses fs
 faces_uses flag n [] = refl
 faces_uses flag n (f ∷ fs) =
     flat_map-append (λ (p : PlacedLoop). p.loop.uses) (placed_in_face flag (n, f)) (flat_map (placed_in_face flag) (enumerate_from (n + 1) fs))
-    ∙ ap (λ (us : List LoopUse). us ++ flat_map (λ (p : PlacedLoop). p.loop.uses) (flat_map (placed_in_face flag) (enumerate_from (n + 1) fs))) (loops_uses (same_flag f.flag flag) n 0 f.loops)
+    ∙ ap (λ (us : List LoopUse). us ++ flat_map (λ (p : PlacedLoop). p.loop.uses) (flat_map (placed_in_face flag) (enumerate_from (n + 1) fs)))
+    (loops_uses (same_flag f.flag flag) n 0 f.loops)
     ∙ ap (λ (us : List LoopUse). face_uses f ++ us) (faces_uses flag (n + 1) fs)
 
 uses_with : (flags : List Bool) (fs : List FaceUse) → length flags ≡ length fs → flat_map face_uses (faces_with flags fs) ≡ flat_map face_uses fs
@@ -76,7 +85,8 @@ uses_with (b ∷ bs) (f ∷ fs) e = ap (λ (us : List LoopUse). face_uses f ++ u
 shell_uses_with : (h : Shell) (flags : List Bool) → length flags ≡ length h.faces → shell_uses (shell_with flags h) ≡ shell_uses h
 shell_uses_with h flags e = faces_uses h.flag 0 (faces_with flags h.faces) ∙ uses_with flags h.faces e ∙ sym (faces_uses h.flag 0 h.faces)
 
-edges_with : (s : SolidData) (h : Shell) (flags : List Bool) → length flags ≡ length h.faces → (shell_rows s (shell_with flags h)).edges ≡ (shell_rows s h).edges
+edges_with : (s : SolidData) (h : Shell) (flags : List Bool) → length flags ≡ length h.faces → (shell_rows s (shell_with flags h)).edges
+    ≡ (shell_rows s h).edges
 unfolding shell_rows
 edges_with s h flags e = ap (λ (us : List LoopUse). occurring (numbers_from 0 (length s.edges)) (flat_map edge_used us)) (shell_uses_with h flags e)
 
@@ -88,7 +98,8 @@ length-with (b ∷ bs) (f ∷ fs) e = ap suc (length-with bs fs (omega (arith, e
 
 -- The rows of a shell, in a solid with other flags.
 
-uses_rows : (s : SolidData) (flags : List (List Bool)) (p : PlacedLoop) (us : List LoopUse) → filter_map (row_of (solid_with flags s) p) us ≡ filter_map (row_of s p) us
+uses_rows : (s : SolidData) (flags : List (List Bool)) (p : PlacedLoop) (us : List LoopUse) → filter_map (row_of (solid_with flags s) p) us
+    ≡ filter_map (row_of s p) us
 uses_rows s flags p [] = refl
 uses_rows s flags p (EdgeUse edge along ∷ us) = ap (λ (rs : List Row). cons_option (row_of s p (EdgeUse edge along)) rs) (uses_rows s flags p us)
 uses_rows s flags p (VertexUse vertex ∷ us) = uses_rows s flags p us
@@ -96,7 +107,8 @@ uses_rows s flags p (VertexUse vertex ∷ us) = uses_rows s flags p us
 loops_rows : (s : SolidData) (flags : List (List Bool)) (ps : List PlacedLoop) → flat_map (loop_rows (solid_with flags s)) ps ≡ flat_map (loop_rows s) ps
 loops_rows s flags [] = refl
 loops_rows s flags (p ∷ ps) =
-    ap (λ (rs : List Row). rs ++ flat_map (loop_rows (solid_with flags s)) ps) (uses_rows s flags p p.loop.uses) ∙ ap (λ (rs : List Row). loop_rows s p ++ rs) (loops_rows s flags ps)
+    ap (λ (rs : List Row). rs ++ flat_map (loop_rows (solid_with flags s)) ps) (uses_rows s flags p p.loop.uses) ∙ ap (λ (rs : List Row). loop_rows s p ++ rs)
+    (loops_rows s flags ps)
 
 rows_in : (s : SolidData) (flags : List (List Bool)) (h : Shell) → (shell_rows (solid_with flags s) h).rows ≡ (shell_rows s h).rows
 unfolding shell_rows
@@ -112,17 +124,25 @@ faces_in s h = refl
 
 -- each edge with two rows, which run in different directions, is paired
 module _ (d : ShellRows) (differ : PartnersDiffer d) where
-  both_ways : (e r m : ℕ) (a b : Row) (way : Bool) → a.along ≡ way → b.along ≡ not way → slice_get d.rows r ≡ Some a → slice_get d.rows m ≡ Some b → a.edge.0 ≡ e → b.edge.0 ≡ e → (1 ≤ row_count d e true) × (1 ≤ row_count d e false)
+  both_ways : (e r m : ℕ) (a b : Row) (way : Bool) → a.along ≡ way → b.along ≡ not way → slice_get d.rows r ≡ Some a → slice_get d.rows m ≡ Some b
+      → a.edge.0 ≡ e → b.edge.0 ≡ e → (1 ≤ row_count d e true) × (1 ≤ row_count d e false)
   both_ways e r m a b true is other at_r at_m on_a on_b = (
-    subst (λ n. 1 ≤ n) (sym (count_by-total (λ (x : Row). (x.edge.0 == e) && x.along) d.rows)) (counted (λ (x : Row). (x.edge.0 == e) && x.along) d.rows r a at_r (and_from (a.edge.0 == e) a.along (eq-eqb a.edge.0 e on_a) is)),
-    subst (λ n. 1 ≤ n) (sym (count_by-total (λ (x : Row). (x.edge.0 == e) && not x.along) d.rows)) (counted (λ (x : Row). (x.edge.0 == e) && not x.along) d.rows m b at_m (and_from (b.edge.0 == e) (not b.along) (eq-eqb b.edge.0 e on_b) (not_from_false b.along other))),
+    subst (λ n. 1 ≤ n) (sym (count_by-total (λ (x : Row). (x.edge.0 == e) && x.along) d.rows))
+        (counted (λ (x : Row). (x.edge.0 == e) && x.along) d.rows r a at_r (and_from (a.edge.0 == e) a.along (eq-eqb a.edge.0 e on_a) is)),
+    subst (λ n. 1 ≤ n) (sym (count_by-total (λ (x : Row). (x.edge.0 == e) && not x.along) d.rows))
+        (counted (λ (x : Row). (x.edge.0 == e) && not x.along) d.rows m b at_m
+        (and_from (b.edge.0 == e) (not b.along) (eq-eqb b.edge.0 e on_b) (not_from_false b.along other))),
   )
   both_ways e r m a b false is other at_r at_m on_a on_b = (
-    subst (λ n. 1 ≤ n) (sym (count_by-total (λ (x : Row). (x.edge.0 == e) && x.along) d.rows)) (counted (λ (x : Row). (x.edge.0 == e) && x.along) d.rows m b at_m (and_from (b.edge.0 == e) b.along (eq-eqb b.edge.0 e on_b) other)),
-    subst (λ n. 1 ≤ n) (sym (count_by-total (λ (x : Row). (x.edge.0 == e) && not x.along) d.rows)) (counted (λ (x : Row). (x.edge.0 == e) && not x.along) d.rows r a at_r (and_from (a.edge.0 == e) (not a.along) (eq-eqb a.edge.0 e on_a) (not_from_false a.along is))),
+    subst (λ n. 1 ≤ n) (sym (count_by-total (λ (x : Row). (x.edge.0 == e) && x.along) d.rows))
+        (counted (λ (x : Row). (x.edge.0 == e) && x.along) d.rows m b at_m (and_from (b.edge.0 == e) b.along (eq-eqb b.edge.0 e on_b) other)),
+    subst (λ n. 1 ≤ n) (sym (count_by-total (λ (x : Row). (x.edge.0 == e) && not x.along) d.rows))
+        (counted (λ (x : Row). (x.edge.0 == e) && not x.along) d.rows r a at_r
+        (and_from (a.edge.0 == e) (not a.along) (eq-eqb a.edge.0 e on_a) (not_from_false a.along is))),
   )
 
-  partner_of : (r : ℕ) (row : Row) → slice_get d.rows r ≡ Some row → HasTwoRows d row.edge.0 → (m : ℕ) × (other : Row) × (slice_get d.rows m ≡ Some other) × (row.edge ≡ other.edge) × (row.along ≡ not other.along)
+  partner_of : (r : ℕ) (row : Row) → slice_get d.rows r ≡ Some row → HasTwoRows d row.edge.0 → (m : ℕ) × (other : Row) × (slice_get d.rows m ≡ Some other)
+      × (row.edge ≡ other.edge) × (row.along ≡ not other.along)
   partner_of r row at two =
       let m : ℕ = other_in (summary (places_of row.edge.0 0 d.rows)) r in
       let p = partner_made d r row at two m refl in
@@ -155,14 +175,24 @@ module _ (c d : ShellRows) (alike : AllZip Alike c.rows d.rows) (differ : Partne
   neighbours : (a b : ℕ) → Adjoin c a b → AreNeighbours d a b
   neighbours a b (r, m, partners, on_a, on_b) =
       let p = partners_alike c d r m alike partners in
-      let mates : AreMates d r m = record { row = p.row; mate = p.partner; at_r = p.at_r; at_m = p.at_m; one_edge = p.one_edge; opposite = differ r m p.row p.partner p p.at_r p.at_m } in
+      let mates : AreMates d r m =
+      record {
+        row = p.row;
+        mate = p.partner;
+        at_r = p.at_r;
+        at_m = p.at_m;
+        one_edge = p.one_edge;
+        opposite =
+            differ r m p.row p.partner p p.at_r p.at_m;
+      } in
       (r, m, mates, face_alike a r on_a, face_alike b m on_b)
 
   reached_face : (face : ℕ) → IsReached c face → closed.IsReached d face
   reached_face face (n, steps) = (n, steps_map (Adjoin c) (AreNeighbours d) neighbours n 0 face steps)
 
 -- A shell with flags that fit.
-module _ (s : SolidData) (all : List (List Bool)) (k : ℕ) (h : Shell) (flags : List Bool) (at : slice_get s.shells k ≡ Some h) (ready : IsReady s k) (fit : FlagsFit s k flags) where
+module _ (s : SolidData) (all : List (List Bool)) (k : ℕ) (h : Shell) (flags : List Bool) (at : slice_get s.shells k ≡ Some h) (ready : IsReady s k)
+    (fit : FlagsFit s k flags) where
   abbrev turned : Shell
   turned = shell_with flags h
 
@@ -205,12 +235,14 @@ module _ (s : SolidData) (all : List (List Bool)) (k : ℕ) (h : Shell) (flags :
   new_paired : AllByRecursion (IsPaired new) new.edges
   new_paired =
       subst (AllByRecursion (IsPaired new)) (sym (edges_in s all turned ∙ edges_with s h flags long))
-      (AllByRecursion-weaker (HasTwoRows old) (IsPaired new) old.edges (λ e two. paired_edge new new_differ e (two_rows_alike old new e rows_alike two)) old_two)
+      (AllByRecursion-weaker (HasTwoRows old) (IsPaired new) old.edges (λ e two. paired_edge new new_differ e (two_rows_alike old new e rows_alike two))
+      old_two)
 
   new_reached : AllByRecursion (closed.IsReached new) (numbers_from 0 (length turned.faces))
   new_reached =
       subst (λ n. AllByRecursion (closed.IsReached new) (numbers_from 0 n)) (faces_in s h ∙ sym (length-with flags h.faces long))
-      (AllByRecursion-weaker (IsReached old) (closed.IsReached new) (numbers_from 0 old.face_count) (λ face reached. reached_face old new rows_alike new_differ face reached) old_reached)
+      (AllByRecursion-weaker (IsReached old) (closed.IsReached new) (numbers_from 0 old.face_count)
+      (λ face reached. reached_face old new rows_alike new_differ face reached) old_reached)
 
   turned_closed : JoinsAndLinks (solid_with all s) k turned → IsClosedShell (solid_with all s) k turned
   turned_closed j = record { joined = j.joined; paired = new_paired; reached = new_reached; linked = j.linked; apart = j.apart }
@@ -218,8 +250,10 @@ module _ (s : SolidData) (all : List (List Bool)) (k : ℕ) (h : Shell) (flags :
 -- All shells.
 
 turned_shells : (s : SolidData) (all : List (List Bool)) → OfAllShells IsReady s → (n : ℕ) (flags : List (List Bool)) (shells : List Shell)
-    → ((j : ℕ) (x : List Bool) → slice_get flags j ≡ Some x → FlagsFit s (n + j) x) → ((j : ℕ) (h : Shell) → slice_get shells j ≡ Some h → slice_get s.shells (n + j) ≡ Some h)
-    → AllByRecursion (λ (h : ℕ × Shell). JoinsAndLinks (solid_with all s) h.0 h.1) (enumerate_from n (shells_with flags shells)) → AllByRecursion (λ (h : ℕ × Shell). IsClosedShell (solid_with all s) h.0 h.1) (enumerate_from n (shells_with flags shells))
+    → ((j : ℕ) (x : List Bool) → slice_get flags j ≡ Some x → FlagsFit s (n + j) x)
+    → ((j : ℕ) (h : Shell) → slice_get shells j ≡ Some h → slice_get s.shells (n + j) ≡ Some h)
+    → AllByRecursion (λ (h : ℕ × Shell). JoinsAndLinks (solid_with all s) h.0 h.1) (enumerate_from n (shells_with flags shells))
+    → AllByRecursion (λ (h : ℕ × Shell). IsClosedShell (solid_with all s) h.0 h.1) (enumerate_from n (shells_with flags shells))
 turned_shells s all ready n [] shells fit at j = tt
 turned_shells s all ready n (x ∷ flags) [] fit at j = tt
 turned_shells s all ready n (x ∷ flags) (h ∷ shells) fit at (here, j) =

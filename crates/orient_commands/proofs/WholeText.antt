@@ -29,9 +29,11 @@ words_no_break End h = (omega arith, (omega arith, (omega arith, tt)))
 pub cut_line : (l : OrientLine) (more : List ℕ) → HasSpelling l → cut_lines (spelling l ++ more) ≡ spelling l ∷ cut_lines more
 cut_line l more h = ap cut_lines (append_assoc (words l) (10 ∷ []) more) ∙ cut_piece (words l) more (words_no_break l h)
 
-all_join : (s : SolidData) (i : ℕ) (ls : List (List ℕ)) (l : List ℕ) → AllByRecursion (Fits s) (enumerate_from i ls) → Fits s (i + length ls, l) → AllByRecursion (Fits s) (enumerate_from i (ls ++ l ∷ []))
+all_join : (s : SolidData) (i : ℕ) (ls : List (List ℕ)) (l : List ℕ) → AllByRecursion (Fits s) (enumerate_from i ls) → Fits s (i + length ls, l)
+    → AllByRecursion (Fits s) (enumerate_from i (ls ++ l ∷ []))
 all_join s i [] l all fit = (subst (λ k. Fits s (k, l)) (let same : i + 0 ≡ i = omega arith in same) fit, tt)
-all_join s i (x ∷ ls) l all fit = (all.0, all_join s (i + 1) ls l all.1 (subst (λ k. Fits s (k, l)) (let same : i + suc (length ls) ≡ (i + 1) + length ls = omega arith in same) fit))
+all_join s i (x ∷ ls) l all fit =
+    (all.0, all_join s (i + 1) ls l all.1 (subst (λ k. Fits s (k, l)) (let same : i + suc (length ls) ≡ (i + 1) + length ls = omega arith in same) fit))
 
 ring_before : (ls : List (List ℕ)) (l : List ℕ) → HasRing ls → HasRing (ls ++ l ∷ [])
 ring_before [] l h = absurd h
@@ -59,11 +61,14 @@ begun_head s n text short e = record {
   rings = λ h. h;
 }
 
-pub begun_first : (s : SolidData) (number : EntryNo) (old text : List ℕ) → number ≡ s.entity → s.entity.0 < 10 ^ 9 → old ≡ [] → text ≡ old ++ spelling (Head number) → IsBegun s s.entity.0 0 false text
-begun_first s number old text named short none e = begun_head s s.entity.0 text short (e ∙ ap (λ (t : List ℕ). t ++ spelling (Head number)) none ∙ ap (λ (x : EntryNo). spelling (Head x)) named)
+pub begun_first : (s : SolidData) (number : EntryNo) (old text : List ℕ) → number ≡ s.entity → s.entity.0 < 10 ^ 9 → old ≡ []
+    → text ≡ old ++ spelling (Head number) → IsBegun s s.entity.0 0 false text
+begun_first s number old text named short none e =
+    begun_head s s.entity.0 text short (e ∙ ap (λ (t : List ℕ). t ++ spelling (Head number)) none ∙ ap (λ (x : EntryNo). spelling (Head x)) named)
 
 -- One line more.
-module _ (s : SolidData) (n count : ℕ) (ringed : Bool) (text new : List ℕ) (line : OrientLine) (b : IsBegun s n count ringed text) (spells : HasSpelling line) (e : new ≡ text ++ spelling line) (fit : FitsAs s (count + 2) line) where
+module _ (s : SolidData) (n count : ℕ) (ringed : Bool) (text new : List ℕ) (line : OrientLine) (b : IsBegun s n count ringed text) (spells : HasSpelling line)
+    (e : new ≡ text ++ spelling line) (fit : FitsAs s (count + 2) line) where
   abbrev longer : List (List ℕ)
   longer = b.lines ++ spelling line ∷ []
 
@@ -82,24 +87,47 @@ module _ (s : SolidData) (n count : ℕ) (ringed : Bool) (text new : List ℕ) (
   long_longer = let long = b.counted in omega (arith, long, length-append b.lines (spelling line ∷ []))
 
   pub begun_ring : IsRingLine (spelling line) → IsBegun s n (count + 1) true new
-  begun_ring ring = record { head = b.head; lines = longer; cut = cut_longer; names = b.names; each = each_longer; counted = long_longer; rings = ring_last b.lines (spelling line) ring }
+  begun_ring ring = record {
+    head = b.head;
+    lines = longer;
+    cut = cut_longer;
+    names = b.names;
+    each = each_longer;
+    counted = long_longer;
+    rings =
+        ring_last b.lines (spelling line) ring;
+  }
 
-  kept_rings : (r : Bool) → MatchBool r (HasRing b.lines) (HasRing b.lines → ⊥) → (IsRingLine (spelling line) → ⊥) → MatchBool r (HasRing longer) (HasRing longer → ⊥)
+  kept_rings : (r : Bool) → MatchBool r (HasRing b.lines) (HasRing b.lines → ⊥) → (IsRingLine (spelling line) → ⊥)
+      → MatchBool r (HasRing longer) (HasRing longer → ⊥)
   kept_rings true h never = ring_before b.lines (spelling line) h
   kept_rings false h never = λ g. ⊎_elim h never (ring_of b.lines (spelling line) g)
 
   pub begun_flags : (IsRingLine (spelling line) → ⊥) → IsBegun s n (count + 1) ringed new
-  begun_flags never = record { head = b.head; lines = longer; cut = cut_longer; names = b.names; each = each_longer; counted = long_longer; rings = kept_rings ringed b.rings never }
+  begun_flags never = record {
+    head = b.head;
+    lines = longer;
+    cut = cut_longer;
+    names = b.names;
+    each = each_longer;
+    counted = long_longer;
+    rings =
+        kept_rings ringed b.rings never;
+  }
 
 -- the line of no ring: other lines spell none
 pub no_ring : (line : OrientLine) → HasSpelling line → ((shell : ℕ) (rows : List ℕ) → line ≢ Ring shell rows) → IsRingLine (spelling line) → ⊥
 no_ring line h other (shell, rows, is) = other shell rows (line_one (spelling line) line (Ring shell rows) (h, refl) is)
 
 -- END is the last
-pub oriented : (s : SolidData) (n count : ℕ) (ringed : Bool) (text new : List ℕ) (a : Answer) → IsBegun s n count ringed text → count ≡ length s.shells → new ≡ text ++ spelling End → MatchBool ringed (a ≡ answer.No) (a ≡ answer.Done) → IsOriented s n a new
-oriented s n count ringed text new a b long e is = by_rings (begun_flags s n count ringed text new End b tt e (let at : count + 2 ≡ length s.shells + 2 = omega (arith, long) in at) (no_ring End tt (λ shell rows same. cc)))
+pub oriented : (s : SolidData) (n count : ℕ) (ringed : Bool) (text new : List ℕ) (a : Answer) → IsBegun s n count ringed text → count ≡ length s.shells
+    → new ≡ text ++ spelling End → MatchBool ringed (a ≡ answer.No) (a ≡ answer.Done) → IsOriented s n a new
+oriented s n count ringed text new a b long e is =
+    by_rings (begun_flags s n count ringed text new End b tt e (let at : count + 2 ≡ length s.shells + 2 = omega (arith, long) in at)
+    (no_ring End tt (λ shell rows same. cc)))
   where
-    answered : (r : Bool) (lines : List (List ℕ)) → MatchBool r (HasRing lines) (HasRing lines → ⊥) → MatchBool r (a ≡ answer.No) (a ≡ answer.Done) → (HasRing lines × (a ≡ answer.No)) ⊎ ((HasRing lines → ⊥) × (a ≡ answer.Done))
+    answered : (r : Bool) (lines : List (List ℕ)) → MatchBool r (HasRing lines) (HasRing lines → ⊥) → MatchBool r (a ≡ answer.No) (a ≡ answer.Done)
+        → (HasRing lines × (a ≡ answer.No)) ⊎ ((HasRing lines → ⊥) × (a ≡ answer.Done))
     answered true lines h x = inl (h, x)
     answered false lines h x = inr (h, x)
 

@@ -58,9 +58,11 @@ pub data OfOrientLines (n : ℕ) (lines : List (List ℕ)) (f : Contents) : Answ
   -- the COUNT of a shell fails: the first that does
   uncounted : AllHold (places f n) → (x : OrientFailing) → IsFirstUncounted (solid_of f n) x → OfOrientLines n lines f answer.No (orient_fail_line x)
   -- a line is bad: the first that is
-  line_bad : AllHold (places f n) → OfAllShells IsCounted (solid_of f n) → (bad : Illegal) → IsFirstBad (solid_of f n) 2 lines bad → OfOrientLines n lines f answer.No (illegal_line bad)
+  line_bad : AllHold (places f n) → OfAllShells IsCounted (solid_of f n) → (bad : Illegal) → IsFirstBad (solid_of f n) 2 lines bad
+      → OfOrientLines n lines f answer.No (illegal_line bad)
   -- they are accepted
-  lines_accepted : AllHold (places f n) → OfAllShells IsCounted (solid_of f n) → AreWhole (solid_of f n) 2 lines → OfOrientLines n lines f answer.Done (accepted_line n)
+  lines_accepted : AllHold (places f n) → OfAllShells IsCounted (solid_of f n) → AreWhole (solid_of f n) 2 lines
+      → OfOrientLines n lines f answer.Done (accepted_line n)
 
 -- what is owed of verifying the text of an orientation
 pub data OfOrientVerify (text : List ℕ) (f : Contents) : Answer → List ℕ → Type 0 where
@@ -69,4 +71,5 @@ pub data OfOrientVerify (text : List ℕ) (f : Contents) : Answer → List ℕ �
   -- line 1 is bad
   head_bad : length text ≤ CERT_LIMIT → (bad : Illegal) → IsBadHead text bad → OfOrientVerify text f answer.No (illegal_line bad)
   -- it is good: by the lines after it
-  named : {a : Answer} {t : List ℕ} → length text ≤ CERT_LIMIT → (n : ℕ) (lines : List (List ℕ)) → Names text n lines → OfOrientLines n lines f a t → OfOrientVerify text f a t
+  named : {a : Answer} {t : List ℕ} → length text ≤ CERT_LIMIT → (n : ℕ) (lines : List (List ℕ)) → Names text n lines → OfOrientLines n lines f a t
+      → OfOrientVerify text f a t

@@ -29,7 +29,8 @@ AreSameOrRings l m = (l ≡ m) ⊎ (IsRingLine l × IsRingLine m)
 
 -- Of orienting a solid one answer is owed, and one text but for which rings it names.
 abbrev pub OneOrientation : Type 0
-OneOrientation = (n : ℕ) (f : Contents) (a b : Answer) (t u : List ℕ) → OfOrient n f a t → OfOrient n f b u → (a ≡ b) × AllZip AreSameOrRings (cut_lines t) (cut_lines u)
+OneOrientation = (n : ℕ) (f : Contents) (a b : Answer) (t u : List ℕ) → OfOrient n f a t → OfOrient n f b u
+    → (a ≡ b) × AllZip AreSameOrRings (cut_lines t) (cut_lines u)
 
 -- Of verifying an orientation one answer and one text are owed.
 abbrev pub OneVerifying : Type 0
@@ -37,7 +38,8 @@ OneVerifying = (text : List ℕ) (f : Contents) (a b : Answer) (t u : List ℕ) 
 
 -- An orientation that is owed of a solid is accepted, rings included, where it isn't too large.
 abbrev pub OrientationIsAccepted : Type 0
-OrientationIsAccepted = (n : ℕ) (f : Contents) (a : Answer) (text : List ℕ) → AllHold (places f n) → OfAllShells IsReady (solid_of f n) → OfOrient n f a text → length text ≤ CERT_LIMIT → OfOrientVerify text f Done (accepted_line n)
+OrientationIsAccepted = (n : ℕ) (f : Contents) (a : Answer) (text : List ℕ) → AllHold (places f n) → OfAllShells IsReady (solid_of f n) → OfOrient n f a text
+    → length text ≤ CERT_LIMIT → OfOrientVerify text f Done (accepted_line n)
 
 -- In a file within its limits some answer is owed of orienting any solid.
 abbrev pub SomeOrientation : Type 0
@@ -50,4 +52,5 @@ SomeVerifying = (text : List ℕ) (f : Contents) → IsSome (OfOrientVerify text
 -- Where COUNT and REACH hold, flags fit, and the solid with these flags keeps JOIN, LINK and APART, it is closed.
 abbrev pub FittingFlagsClose : Type 0
 FittingFlagsClose = (s : SolidData) (flags : List (List Bool)) → OfAllShells IsReady s → AllFlagsFit s flags
-    → AllByRecursion (λ (h : ℕ × Shell). JoinsAndLinks (solid_with flags s) h.0 h.1) (enumerate_from 0 (solid_with flags s).shells) → IsClosedSolid (solid_with flags s)
+    → AllByRecursion (λ (h : ℕ × Shell). JoinsAndLinks (solid_with flags s) h.0 h.1) (enumerate_from 0 (solid_with flags s).shells)
+    → IsClosedSolid (solid_with flags s)

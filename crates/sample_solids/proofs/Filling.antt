@@ -21,7 +21,8 @@ use Rattle.sample_solids.proofs.Small.{IsSmall, AreSmall}
 -- ---- lines that are filled
 
 -- a line that is ended holds a part
-one_more : (n k : ℕ) (ps run rest : List (List ℕ)) (part : List ℕ) → FitLines n ps → ps ≡ run ++ part ∷ rest → n < length (concat run) + length part → k ≤ length (part ∷ rest) + 1 → k + 1 ≤ length ps + 1
+one_more : (n k : ℕ) (ps run rest : List (List ℕ)) (part : List ℕ) → FitLines n ps → ps ≡ run ++ part ∷ rest → n < length (concat run) + length part
+    → k ≤ length (part ∷ rest) + 1 → k + 1 ≤ length ps + 1
 one_more n k ps [] rest part fit is full few = let short : FitLines n (part ∷ rest) = subst (FitLines n) is fit in absurd (omega (arith, full, short.0))
 one_more n k ps (r ∷ run) rest part fit is full few = omega (arith, few, ap (λ xs. length xs) is, length-append (r ∷ run) (part ∷ rest))
 
@@ -60,7 +61,8 @@ one_part k delimiter small =
 
 pub length-parts : (d : Delims) (k : ℕ) (ns : List ℕ) → IsSmall k → AreSmall ns → length (parts 64 d (map whole (k ∷ ns))) ≡ 1 + length ns
 length-parts d k [] small h = one_part k d.end small
-length-parts d k (m ∷ ns) small h = omega (arith, length-append (value_parts 64 (whole k) d.param) (parts 64 d (map whole (m ∷ ns))), one_part k d.param small, length-parts d m ns h.0 h.1)
+length-parts d k (m ∷ ns) small h =
+    omega (arith, length-append (value_parts 64 (whole k) d.param) (parts 64 d (map whole (m ∷ ns))), one_part k d.param small, length-parts d m ns h.0 h.1)
 
 -- ---- texts of one byte
 
@@ -68,13 +70,20 @@ length-parts d k (m ∷ ns) small h = omega (arith, length-append (value_parts 6
 delimiter_parts : (b delimiter : ℕ) → length (value_parts 72 (value.Text (b ∷ [])) delimiter) ≡ 3
 delimiter_parts b delimiter =
     let word = decimal 1 ++ 72 ∷ [] in
-    let short : length word ≤ 72 = let one = length-decimal-le 1 1 (lit< tt) (lit< tt) (omega arith) in omega (arith, one, length-append (decimal 1) (72 ∷ [])) in
+    let short : length word ≤ 72 = let one = length-decimal-le 1 1 (lit< tt) (lit< tt) (omega arith) in omega (arith, one, length-append (decimal 1) (72 ∷ []))
+    in
     ap (λ xs. length (xs ++ single_parts (b ∷ delimiter ∷ []))) (cond-true (nat_le (length word) 72) _ _ (le-leb (length word) 72 short))
 
 -- a global without values has two
 pub length-global : (d : Delims) → length (parts 72 d (global_values (record { delims = d; values = [] }))) ≡ 6
 length-global d =
-    omega (arith, delimiter_parts d.param d.param, delimiter_parts d.end d.end, length-append (value_parts 72 (value.Text (d.param ∷ [])) d.param) (value_parts 72 (value.Text (d.end ∷ [])) d.end))
+    omega (
+      arith,
+      delimiter_parts d.param d.param,
+      delimiter_parts d.end d.end,
+      length-append (value_parts 72 (value.Text (d.param ∷ [])) d.param)
+          (value_parts 72 (value.Text (d.end ∷ [])) d.end),
+    )
 
 -- ---- the lines of a record
 
@@ -82,7 +91,8 @@ pub record_few : (d : Delims) (e : Entry × List Value) (r : List (List ℕ)) �
 record_few d e r t = by_type (has_no_record e.0) refl
   where
     by_type : (b : Bool) → has_no_record e.0 ≡ b → length r ≤ length (parts 64 d (value.Int e.0.kind ∷ e.1)) + 1
-    by_type true h = let none : r ≡ [] = subst (λ (b : Bool). MatchBool b (r ≡ []) (IsFilled 64 (parts 64 d (value.Int e.0.kind ∷ e.1)) r)) h t in omega (arith, ap (λ xs. length xs) none)
+    by_type true h = let none : r ≡ [] = subst (λ (b : Bool). MatchBool b (r ≡ []) (IsFilled 64 (parts 64 d (value.Int e.0.kind ∷ e.1)) r)) h t in omega
+        (arith, ap (λ xs. length xs) none)
     by_type false h =
         few_lines 64 (parts 64 d (value.Int e.0.kind ∷ e.1)) r (parts_fit 64 d (value.Int e.0.kind ∷ e.1) (lit< tt))
         (subst (λ (b : Bool). MatchBool b (r ≡ []) (IsFilled 64 (parts 64 d (value.Int e.0.kind ∷ e.1)) r)) h t)

@@ -20,9 +20,11 @@ abbrev pub grown : Contents → AnEntry → Contents
 grown f e = record f { entries = f.entries ++ e ∷ [] }
 
 -- one entry more
-pub put_more : (f g : Contents) (es : List AnEntry) (kind form : ℕ) (v : List Value) (ns : List ℕ) → f ≡ holding es → g ≡ grown f (plain kind form, v) → v ≡ map whole ns
+pub put_more : (f g : Contents) (es : List AnEntry) (kind form : ℕ) (v : List Value) (ns : List ℕ) → f ≡ holding es → g ≡ grown f (plain kind form, v)
+    → v ≡ map whole ns
     → g ≡ holding (es ++ entry kind form ns ∷ [])
-put_more f g es kind form v ns before is values = is ∙ (ap (λ c. grown c (plain kind form, v)) before ∙ ap (λ w. grown (holding es) (plain kind form, w)) values)
+put_more f g es kind form v ns before is values =
+    is ∙ (ap (λ c. grown c (plain kind form, v)) before ∙ ap (λ w. grown (holding es) (plain kind form, w)) values)
 
 -- a front of the sample's entries has room for the next one
 pub put_fits : (n : ℕ) (f : Contents) (es rest : List AnEntry) (kind form : ℕ) (v : List Value) (ns : List ℕ) → n ≤ 200 → f ≡ holding es → v ≡ map whole ns

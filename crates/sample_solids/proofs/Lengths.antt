@@ -29,7 +29,13 @@ Entries = List (Entry × List Value)
 length-directory : (first : ℕ) (es : Entries) (rs : List Lines) → length (directory_lines first es rs) ≤ 2 * length es
 length-directory first [] rs = omega arith
 length-directory first (e ∷ es) [] = omega arith
-length-directory first (e ∷ es) (r ∷ rs) = omega (arith, length-directory (first + length r) es rs, length-append (entry_lines e.0 (first_of e.0 first) (length r)) (directory_lines (first + length r) es rs))
+length-directory first (e ∷ es) (r ∷ rs) =
+    omega (
+      arith,
+      length-directory (first + length r) es rs,
+      length-append (entry_lines e.0 (first_of e.0 first) (length r))
+          (directory_lines (first + length r) es rs),
+    )
 
 -- ---- the records
 
@@ -43,7 +49,8 @@ all_held d [] h = tt
 all_held d (e ∷ es) h = (h.0.held, all_held d es h.1)
 
 -- no more lines than values, type numbers and last lines
-length-records : (d : Delims) (i : ℕ) (es : Entries) (rs : List Lines) → AllByRecursion (IsShort d) es → AllZip (IsRecordText d) es rs → length (lines_from i rs) ≤ total values_in es + 2 * length es
+length-records : (d : Delims) (i : ℕ) (es : Entries) (rs : List Lines) → AllByRecursion (IsShort d) es → AllZip (IsRecordText d) es rs
+    → length (lines_from i rs) ≤ total values_in es + 2 * length es
 length-records d i [] [] h t = omega arith
 length-records d i [] (r ∷ rs) h t = absurd t
 length-records d i (e ∷ es) [] h t = absurd t

@@ -7,10 +7,12 @@ use Rattle.std.proofs.lemmas.Bool.{false≢true}
 use Rattle.iges_params.specs.Made.{IsMadeEntry, IsMade}
 use Rattle.iges_directory.specs.Bounds.{fits_columns}
 use Rattle.solid_data.proofs.Members.{all_append, all_flat_map}
-use Rattle.sample_solids.specs.Sample.{squares, start_line, shell_record, vertex_record, edge_record, face_record, loop_record, entry, first_entries, face_entries, sample}
+use Rattle.sample_solids.specs.Sample.{squares, start_line, shell_record, vertex_record, edge_record, face_record, loop_record, entry, first_entries}
+use Rattle.sample_solids.specs.Sample.{face_entries, sample}
 use Rattle.sample_solids.proofs.Sizes.{fits}
 
-made_entry : (kind form : ℕ) (ns : List ℕ) → IsTrue (fits_columns (pos kind)) → IsTrue (fits_columns (pos form)) → int_eq (pos kind) (pos 0) ≡ false → IsMadeEntry (entry kind form ns)
+made_entry : (kind form : ℕ) (ns : List ℕ) → IsTrue (fits_columns (pos kind)) → IsTrue (fits_columns (pos form)) → int_eq (pos kind) (pos 0) ≡ false
+    → IsMadeEntry (entry kind form ns)
 made_entry kind form ns high fits_too used = record {
   bounded = record {
     kind = high;

@@ -1,5 +1,6 @@
 -- A shell whose rows go round the squares of a mesh is closed.
-use Rattle.std.specs.Prelude.{◌≡◌, ℕ, zero, suc, ◌+◌, ◌*◌, ◌/◌, ◌%◌, ◌<◌, ◌≤◌, ◌==◌, ◌&&◌, Bool, true, false, not, cond, List, [], ◌∷◌, count_by, Some, slice_get}
+use Rattle.std.specs.Prelude.{◌≡◌, ℕ, zero, suc, ◌+◌, ◌*◌, ◌/◌, ◌%◌, ◌<◌, ◌≤◌, ◌==◌, ◌&&◌, Bool, true, false, not, cond, List, [], ◌∷◌, count_by, Some}
+use Rattle.std.specs.Prelude.{slice_get}
 use Rattle.std.specs.List.{AllByRecursion}
 use Rattle.std.proofs.Common.{refl, sym, ◌∙◌, ap, subst, arith, inl}
 use Rattle.std.proofs.Math.Nat.{mod-lt}
@@ -28,7 +29,8 @@ none_counted p (x ∷ rows) never = by_test (p x) refl (none_counted p rows (λ 
     by_test true e rest = absurd (never zero x refl e)
     by_test false e rest = let h : ◌≡◌ {A = ℕ} (cond (p x) 1 0) 0 = ap (λ b. cond b 1 0) e in omega (arith, h, rest)
 
-one_counted : (p : Row → Bool) (rows : List Row) (n : ℕ) (r : Row) → slice_get rows n ≡ Some r → p r ≡ true → ((m : ℕ) (x : Row) → slice_get rows m ≡ Some x → p x ≡ true → m ≡ n)
+one_counted : (p : Row → Bool) (rows : List Row) (n : ℕ) (r : Row) → slice_get rows n ≡ Some r → p r ≡ true
+    → ((m : ℕ) (x : Row) → slice_get rows m ≡ Some x → p x ≡ true → m ≡ n)
     → total (λ x. cond (p x) 1 0) rows ≡ 1
 one_counted p [] n r at passes one = absurd cc
 one_counted p (x ∷ rows) zero r at passes one =
@@ -141,21 +143,25 @@ module _ (d : ShellRows) (n : ℕ) (edge point : ℕ → ℕ) (mesh : IsMesh d n
   -- where the edges of two squares are one
   same_across : (i j a b : ℕ) → i < n → j < n → a < n → b < n → edge (across n i j) ≡ edge (across n a b) → (i ≡ a) × (j ≡ b)
   same_across i j a b li lj la lb e =
-      let w : 2 * (i * n + j) + 1 ≡ 2 * (a * n + b) + 1 = mesh.one_edge (i * n + j) (a * n + b) (mul-add-lt i n j n li lj) (mul-add-lt a n b n la lb) 1 1 (omega arith) (omega arith) (omega arith) (omega arith) e in
+      let w : 2 * (i * n + j) + 1 ≡ 2 * (a * n + b) + 1 = mesh.one_edge (i * n + j) (a * n + b) (mul-add-lt i n j n li lj) (mul-add-lt a n b n la lb) 1 1
+      (omega arith) (omega arith) (omega arith) (omega arith) e in
       same_from_place i j a b n lj lb (omega (arith, w))
 
   same_up : (i j a b : ℕ) → i < n → j < n → a < n → b < n → edge (up n i j) ≡ edge (up n a b) → (i ≡ a) × (j ≡ b)
   same_up i j a b li lj la lb e =
-      let w : 2 * (i * n + j) + 2 ≡ 2 * (a * n + b) + 2 = mesh.one_edge (i * n + j) (a * n + b) (mul-add-lt i n j n li lj) (mul-add-lt a n b n la lb) 2 2 (omega arith) (omega arith) (omega arith) (omega arith) e in
+      let w : 2 * (i * n + j) + 2 ≡ 2 * (a * n + b) + 2 = mesh.one_edge (i * n + j) (a * n + b) (mul-add-lt i n j n li lj) (mul-add-lt a n b n la lb) 2 2
+      (omega arith) (omega arith) (omega arith) (omega arith) e in
       same_from_place i j a b n lj lb (omega (arith, w))
 
   other_kind : (i j a b : ℕ) → i < n → j < n → a < n → b < n → edge (up n i j) ≡ edge (across n a b) → ⊥
   other_kind i j a b li lj la lb e =
-      let w : 2 * (i * n + j) + 2 ≡ 2 * (a * n + b) + 1 = mesh.one_edge (i * n + j) (a * n + b) (mul-add-lt i n j n li lj) (mul-add-lt a n b n la lb) 2 1 (omega arith) (omega arith) (omega arith) (omega arith) e in
+      let w : 2 * (i * n + j) + 2 ≡ 2 * (a * n + b) + 1 = mesh.one_edge (i * n + j) (a * n + b) (mul-add-lt i n j n li lj) (mul-add-lt a n b n la lb) 2 1
+      (omega arith) (omega arith) (omega arith) (omega arith) e in
       omega (arith, w)
 
   same_vertex : (i j a b : ℕ) → i < n → j < n → a < n → b < n → point (vertex n i j) ≡ point (vertex n a b) → (i ≡ a) × (j ≡ b)
-  same_vertex i j a b li lj la lb e = same_from_place i j a b n lj lb (mesh.one_point (i * n + j) (a * n + b) (mul-add-lt i n j n li lj) (mul-add-lt a n b n la lb) e)
+  same_vertex i j a b li lj la lb e =
+      same_from_place i j a b n lj lb (mesh.one_point (i * n + j) (a * n + b) (mul-add-lt i n j n li lj) (mul-add-lt a n b n la lb) e)
 
   -- what holds of the place of each side with the edge in the direction holds of each such row
   places_of : (e : ℕ) (way : Bool) (r : ℕ) → ((i j : ℕ) (s : Side) → i < n → j < n → edge (edge_of n i j s) ≡ e → is_along s ≡ way → number n i j s ≡ r)
@@ -188,7 +194,8 @@ module _ (d : ShellRows) (n : ℕ) (edge point : ℕ → ℕ) (mesh : IsMesh d n
       (ap (λ k. edge (across n k b)) (next_back n a la)) refl
       (places_of (edge (across n a b)) false (number n (back n a) b far) side)
     where
-      side : (i j : ℕ) (s : Side) → i < n → j < n → edge (edge_of n i j s) ≡ edge (across n a b) → is_along s ≡ false → number n i j s ≡ number n (back n a) b far
+      side : (i j : ℕ) (s : Side) → i < n → j < n → edge (edge_of n i j s) ≡ edge (across n a b) → is_along s ≡ false
+          → number n i j s ≡ number n (back n a) b far
       side i j near li lj e w = absurd (let v : true ≡ false = w in cc)
       side i j right li lj e w = absurd (let v : true ≡ false = w in cc)
       side i j far li lj e w = let k = same_across (next n i) j a b (next_in i) lj la lb e in number_same i j (back n a) b far (back_next n i a li k.0, k.1)
@@ -282,12 +289,21 @@ module _ (d : ShellRows) (n : ℕ) (edge point : ℕ → ℕ) (mesh : IsMesh d n
   turn_near a b la lb = (number n (back n a) b far, mate_near a b la lb, mesh.follows (back n a) b far (back_in a la) lb)
 
   turn_left : (a b : ℕ) → a < n → b < n → Turns d (corner a b left) (corner a b far)
-  turn_left a b la lb = (number n (back n a) (back n b) right, mate_left (back n a) b (back_in a la) lb, mesh.follows (back n a) (back n b) right (back_in a la) (back_in b lb))
+  turn_left a b la lb = (
+    number n (back n a) (back n b) right,
+    mate_left (back n a) b (back_in a la) lb,
+    mesh.follows (back n a) (back n b) right
+        (back_in a la) (back_in b lb),
+  )
 
   turn_far : (a b : ℕ) → a < n → b < n → Turns d (corner a b far) (corner a b right)
   turn_far a b la lb =
-      subst (λ k. Turns d (corner a b far) (number n k (back n b) right)) (next_back n a la)
-      (number n (next n (back n a)) (back n b) near, mate_far (back n a) (back n b) (back_in a la) (back_in b lb), mesh.follows (next n (back n a)) (back n b) near (next_in (back n a)) (back_in b lb))
+      subst (λ k. Turns d (corner a b far) (number n k (back n b) right)) (next_back n a la) (
+        number n (next n (back n a)) (back n b) near,
+        mate_far (back n a) (back n b) (back_in a la) (back_in b lb),
+        mesh.follows (next n (back n a)) (back n b)
+            near (next_in (back n a)) (back_in b lb),
+      )
 
   turn_right : (a b : ℕ) → a < n → b < n → Turns d (corner a b right) (corner a b near)
   turn_right a b la lb =
@@ -295,7 +311,8 @@ module _ (d : ShellRows) (n : ℕ) (edge point : ℕ → ℕ) (mesh : IsMesh d n
       (number n a (next n (back n b)) left, mate_right a (back n b) la (back_in b lb), mesh.follows a (next n (back n b)) left la (next_in (back n b)))
 
   right_to_near : (a b : ℕ) → a < n → b < n → LeadsTo (Turns d) (corner a b right) (corner a b near)
-  right_to_near a b la lb = leads_one (Turns d) (corner a b right) (corner a b near) (corner a b near) (turn_right a b la lb) (leads_here (Turns d) (corner a b near))
+  right_to_near a b la lb = leads_one (Turns d) (corner a b right) (corner a b near) (corner a b near) (turn_right a b la lb)
+      (leads_here (Turns d) (corner a b near))
 
   far_to_near : (a b : ℕ) → a < n → b < n → LeadsTo (Turns d) (corner a b far) (corner a b near)
   far_to_near a b la lb = leads_one (Turns d) (corner a b far) (corner a b right) (corner a b near) (turn_far a b la lb) (right_to_near a b la lb)
@@ -307,7 +324,8 @@ module _ (d : ShellRows) (n : ℕ) (edge point : ℕ → ℕ) (mesh : IsMesh d n
   to_near a b left la lb = leads_one (Turns d) (corner a b left) (corner a b far) (corner a b near) (turn_left a b la lb) (far_to_near a b la lb)
 
   near_to_left : (a b : ℕ) → a < n → b < n → LeadsTo (Turns d) (corner a b near) (corner a b left)
-  near_to_left a b la lb = leads_last (Turns d) (corner a b near) (corner a b near) (corner a b left) (leads_here (Turns d) (corner a b near)) (turn_near a b la lb)
+  near_to_left a b la lb = leads_last (Turns d) (corner a b near) (corner a b near) (corner a b left) (leads_here (Turns d) (corner a b near))
+      (turn_near a b la lb)
 
   near_to_far : (a b : ℕ) → a < n → b < n → LeadsTo (Turns d) (corner a b near) (corner a b far)
   near_to_far a b la lb = leads_last (Turns d) (corner a b near) (corner a b left) (corner a b far) (near_to_left a b la lb) (turn_left a b la lb)
@@ -318,13 +336,16 @@ module _ (d : ShellRows) (n : ℕ) (edge point : ℕ → ℕ) (mesh : IsMesh d n
   from_near a b far la lb = near_to_far a b la lb
   from_near a b right la lb = leads_last (Turns d) (corner a b near) (corner a b far) (corner a b right) (near_to_far a b la lb) (turn_far a b la lb)
 
-  side_starts : (a b : ℕ) → a < n → b < n → (i j : ℕ) (s : Side) → i < n → j < n → point (start_of n i j s) ≡ point (vertex n a b) → number n i j s ≡ corner a b s
+  side_starts : (a b : ℕ) → a < n → b < n → (i j : ℕ) (s : Side) → i < n → j < n → point (start_of n i j s) ≡ point (vertex n a b)
+      → number n i j s ≡ corner a b s
   side_starts a b la lb i j near li lj e = number_same i j a b near (same_vertex i j a b li lj la lb e)
-  side_starts a b la lb i j right li lj e = let k = same_vertex i (next n j) a b li (next_in j) la lb e in number_same i j a (back n b) right (k.0, back_next n j b lj k.1)
+  side_starts a b la lb i j right li lj e = let k = same_vertex i (next n j) a b li (next_in j) la lb e in number_same i j a (back n b) right
+      (k.0, back_next n j b lj k.1)
   side_starts a b la lb i j far li lj e =
       let k = same_vertex (next n i) (next n j) a b (next_in i) (next_in j) la lb e in
       number_same i j (back n a) (back n b) far (back_next n i a li k.0, back_next n j b lj k.1)
-  side_starts a b la lb i j left li lj e = let k = same_vertex (next n i) j a b (next_in i) lj la lb e in number_same i j (back n a) b left (back_next n i a li k.0, k.1)
+  side_starts a b la lb i j left li lj e = let k = same_vertex (next n i) j a b (next_in i) lj la lb e in number_same i j (back n a) b left
+      (back_next n i a li k.0, k.1)
 
   start_is : (a b : ℕ) → a < n → b < n → (r : ℕ) → StartsAt d (point (vertex n a b)) r → (s : Side) × (r ≡ corner a b s)
   start_is a b la lb r start =
@@ -340,7 +361,8 @@ module _ (d : ShellRows) (n : ℕ) (edge point : ℕ → ℕ) (mesh : IsMesh d n
         let x = start_is a b la lb r at_r in
         let y = start_is a b la lb s at_s in
         let chain : LeadsTo (Turns d) (corner a b x.0) (corner a b y.0) =
-        leads_trans (Turns d) (corner a b x.0) (corner a b near) (corner a b y.0) (to_near a b x.0 la lb).0 (to_near a b x.0 la lb).1 (from_near a b y.0 la lb) in
+        leads_trans (Turns d) (corner a b x.0) (corner a b near) (corner a b y.0) (to_near a b x.0 la lb).0 (to_near a b x.0 la lb).1 (from_near a b y.0 la lb)
+        in
         subst (λ k. LeadsTo (Turns d) k s) (sym x.1) (subst (λ k. LeadsTo (Turns d) (corner a b x.0) k) (sym y.1) chain);
     no_point = ap (λ (ps : List (LoopAt × ℕ)). count_by (λ (p : LoopAt × ℕ). p.1 == point (vertex n a b)) ps) mesh.points;
   })
@@ -365,14 +387,16 @@ module _ (d : ShellRows) (n : ℕ) (edge point : ℕ → ℕ) (mesh : IsMesh d n
   reach_up (suc i) lt =
       let low : i < n = omega (arith, lt) in
       let step : next n i ≡ suc i = next_small n i (omega (arith, lt)) ∙ omega arith in
-      leads_last (AreNeighbours d) 0 (i * n + 0) (suc i * n + 0) (reach_up i low) (subst (λ k. AreNeighbours d (i * n + 0) (k * n + 0)) step (above i 0 low mesh.some))
+      leads_last (AreNeighbours d) 0 (i * n + 0) (suc i * n + 0) (reach_up i low)
+      (subst (λ k. AreNeighbours d (i * n + 0) (k * n + 0)) step (above i 0 low mesh.some))
 
   reach : (i j : ℕ) → i < n → j < n → IsReached d (i * n + j)
   reach i zero li lj = reach_up i li
   reach i (suc j) li lj =
       let low : j < n = omega (arith, lj) in
       let step : next n j ≡ suc j = next_small n j (omega (arith, lj)) ∙ omega arith in
-      leads_last (AreNeighbours d) 0 (i * n + j) (i * n + suc j) (reach i j li low) (subst (λ k. AreNeighbours d (i * n + j) (i * n + k)) step (beside i j li low))
+      leads_last (AreNeighbours d) 0 (i * n + j) (i * n + suc j) (reach i j li low)
+      (subst (λ k. AreNeighbours d (i * n + j) (i * n + k)) step (beside i j li low))
 
   -- Each face is reached.
   pub mesh_reached : AllByRecursion (IsReached d) (numbers_from 0 (n * n))

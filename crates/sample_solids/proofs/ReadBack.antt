@@ -10,7 +10,8 @@ use Rattle.iges_write.specs.Writable.{IsWritable}
 use Rattle.iges_write.proofs.Columns.{Are72}
 use Rattle.iges_write.proofs.FileBack.{reads_back, one_text}
 use Rattle.solid_data.proofs.Members.{all_append, all_flat_map}
-use Rattle.sample_solids.specs.Sample.{squares, whole, start_line, no_values, shell_record, vertex_record, edge_record, face_record, loop_record, entry, first_entries, face_entries, sample}
+use Rattle.sample_solids.specs.Sample.{squares, whole, start_line, no_values, shell_record, vertex_record, edge_record, face_record, loop_record, entry}
+use Rattle.sample_solids.specs.Sample.{first_entries, face_entries, sample}
 use Rattle.sample_solids.specs.Laws.{SamplesAreWithin, SamplesHaveTexts, SamplesReadBack}
 use Rattle.sample_solids.proofs.Sizes.{sample_total, sample_length, few_squares}
 use Rattle.sample_solids.proofs.Made.{made}
@@ -37,7 +38,8 @@ module _ (d : Delims) (n : ℕ) (some : 0 < n) (few : n ≤ 200) where
         (
           entry_short d 504 1 (edge_record n) (omega arith) (edges_small n some few),
           (
-            entry_short d 110 0 (0 ∷ 0 ∷ 0 ∷ 1 ∷ 0 ∷ 0 ∷ []) (omega arith) (omega arith, (omega arith, (omega arith, (omega arith, (omega arith, (omega arith, tt)))))),
+            entry_short d 110 0 (0 ∷ 0 ∷ 0 ∷ 1 ∷ 0 ∷ 0 ∷ []) (omega arith)
+                (omega arith, (omega arith, (omega arith, (omega arith, (omega arith, (omega arith, tt)))))),
             (
               entry_short d 108 0 (0 ∷ 0 ∷ 1 ∷ 0 ∷ 0 ∷ 0 ∷ 0 ∷ 0 ∷ 0 ∷ []) (omega arith)
                   (omega arith, (omega arith, (omega arith, (omega arith, (omega arith, (omega arith, (omega arith, (omega arith, (omega arith, tt))))))))),
@@ -74,7 +76,13 @@ global_parts n = length-global no_values.delims
 
 pub writable : (n : ℕ) → 0 < n → n ≤ 200 → IsWritable (sample n)
 unfolding sample
-writable n some few = record { made = made n few; delims = refl; global_values = refl; held = all_held no_values.delims (sample n).entries (all_short no_values.delims n some few) }
+writable n some few = record {
+  made = made n few;
+  delims = refl;
+  global_values = refl;
+  held =
+      all_held no_values.delims (sample n).entries (all_short no_values.delims n some few);
+}
 
 pub within : SamplesAreWithin
 within n low high text t =

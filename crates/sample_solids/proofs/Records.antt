@@ -1,5 +1,6 @@
 -- What the records of a sample tell.
-use Rattle.std.specs.Prelude.{◌≡◌, ℕ, suc, ◌+◌, ◌*◌, ◌/◌, ◌%◌, ◌<◌, ◌==◌, Bool, true, false, ℤ, pos, List, [], ◌∷◌, ◌++◌, length, map, flat_map, Some, None, slice_get, if◌then◌else◌}
+use Rattle.std.specs.Prelude.{◌≡◌, ℕ, suc, ◌+◌, ◌*◌, ◌/◌, ◌%◌, ◌<◌, ◌==◌, Bool, true, false, ℤ, pos, List, [], ◌∷◌, ◌++◌, length, map, flat_map, Some, None}
+use Rattle.std.specs.Prelude.{slice_get, if◌then◌else◌}
 use Rattle.std.specs.Ordering.{int_eq}
 use Rattle.std.proofs.Common.{refl, sym, ◌∙◌, ap, subst, arith, inl}
 use Rattle.std.proofs.Math.Nat.{mul_assoc}
@@ -10,16 +11,19 @@ use Rattle.iges_directory.specs.Named.{unless_unused}
 use Rattle.iges_params.specs.Named.{kind_of, named}
 use Rattle.brep_lists.specs.DueValues.{MeetsAll}
 use Rattle.brep_lists.specs.Record.{LoopTuple, pair_due, edge_due, vertex_due, due, items_of, IsRecordOf, groups, pair_read, edge_read}
-use Rattle.brep_lists.specs.declared.entity_kind.EntityKind.TheVariants.{Solid as solid, Shell as shell, Face as face, Loop as «loop», EdgeList as edges, VertexList as vertices}
+use Rattle.brep_lists.specs.declared.entity_kind.EntityKind.TheVariants.{Solid as solid, Shell as shell, Face as face, Loop as «loop», EdgeList as edges}
+use Rattle.brep_lists.specs.declared.entity_kind.EntityKind.TheVariants.{VertexList as vertices}
 use Rattle.brep_lists.specs.declared.edge_list.EdgeTuple.{EdgeTuple}
 use Rattle.brep_lists.proofs.Stride.{vertex_read}
-use Rattle.sample_solids.specs.Sample.{squares, vertex_index, across_index, up_index, face_number, whole, entry, face_listed, vertex_listed, edges_listed, shell_record, vertex_record, edge_record, face_record, loop_record, first_entries, face_entries, sample}
+use Rattle.sample_solids.specs.Sample.{squares, vertex_index, across_index, up_index, face_number, whole, entry, face_listed, vertex_listed, edges_listed}
+use Rattle.sample_solids.specs.Sample.{shell_record, vertex_record, edge_record, face_record, loop_record, first_entries, face_entries, sample}
 use Rattle.sample_solids.proofs.Squares.{get_right, get_chunk, length_squares, squares_get, square_small, length_chunks}
 use Rattle.sample_solids.proofs.Growing.{AnEntry}
 
 -- ---- what numbers name
 
-pub named_at : (n z m : ℕ) (r : AnEntry) → z ≡ 2 * m + 1 → slice_get (sample n).entries m ≡ Some r → int_eq r.0.kind (pos 0) ≡ false → named (sample n) (pos z) ≡ Some r
+pub named_at : (n z m : ℕ) (r : AnEntry) → z ≡ 2 * m + 1 → slice_get (sample n).entries m ≡ Some r → int_eq r.0.kind (pos 0) ≡ false
+    → named (sample n) (pos z) ≡ Some r
 named_at n z m r e at used =
     let odd : z % 2 ≡ 1 = omega (arith, e) in
     let half : z / 2 ≡ m = omega (arith, e) in
@@ -61,12 +65,14 @@ square_entry n i j r li lj lt =
 pub face_named : (n i j : ℕ) → i < n → j < n → named (sample n) (pos (face_number n i j)) ≡ Some (entry 510 1 (face_record n (i, j)))
 face_named n i j li lj =
     let e = square_small n i j li lj in
-    named_at n (face_number n i j) (6 + (2 * (i * n + j) + 0)) (entry 510 1 (face_record n (i, j))) (omega (arith, e)) (square_entry n i j 0 li lj (omega arith)) refl
+    named_at n (face_number n i j) (6 + (2 * (i * n + j) + 0)) (entry 510 1 (face_record n (i, j))) (omega (arith, e))
+    (square_entry n i j 0 li lj (omega arith)) refl
 
 pub loop_named : (n i j : ℕ) → i < n → j < n → named (sample n) (pos (face_number n i j + 2)) ≡ Some (entry 508 1 (loop_record n (i, j)))
 loop_named n i j li lj =
     let e = square_small n i j li lj in
-    named_at n (face_number n i j + 2) (6 + (2 * (i * n + j) + 1)) (entry 508 1 (loop_record n (i, j))) (omega (arith, e)) (square_entry n i j 1 li lj (omega arith)) refl
+    named_at n (face_number n i j + 2) (6 + (2 * (i * n + j) + 1)) (entry 508 1 (loop_record n (i, j))) (omega (arith, e))
+    (square_entry n i j 1 li lj (omega arith)) refl
 
 -- ---- the items of the records
 
@@ -158,7 +164,8 @@ pub vertices_fit : (n : ℕ) → 0 < n → IsRecordOf vertices (map whole (verte
 vertices_fit n some =
     let count : length (map vertex_item (squares n)) ≡ n * n = length-map (squares n) vertex_item ∙ length_squares n in
     let many : 0 < length (map vertex_item (squares n)) = omega (arith, count, some_squares n some) in
-    subst (λ items. MeetsAll (due vertices items) (map whole (vertex_record n))) (sym (vertex_items n)) ((ap whole (sym count), many), vertices_meet (squares n))
+    subst (λ items. MeetsAll (due vertices items) (map whole (vertex_record n))) (sym (vertex_items n))
+    ((ap whole (sym count), many), vertices_meet (squares n))
 
 edges_meet : (n : ℕ) (ss : List (ℕ × ℕ)) → MeetsAll (flat_map edge_due (flat_map (edge_items_of n) ss)) (map whole (flat_map (edges_listed n) ss))
 edges_meet n [] = tt
@@ -180,5 +187,17 @@ face_fits n s = (refl, ((refl, omega arith), (refl, (refl, tt))))
 pub loop_fits : (n : ℕ) (s : ℕ × ℕ) → IsRecordOf «loop» (map whole (loop_record n s))
 loop_fits n s = (
   (refl, omega arith),
-  (refl, (refl, (refl, (refl, (inl refl, (refl, (refl, (refl, (refl, (inl refl, (refl, (refl, (refl, (refl, (inl refl, (refl, (refl, (refl, (refl, (inl refl, tt)))))))))))))))))))),
+  (
+    refl,
+    (
+      refl,
+      (
+        refl,
+        (
+          refl,
+          (inl refl, (refl, (refl, (refl, (refl, (inl refl, (refl, (refl, (refl, (refl, (inl refl, (refl, (refl, (refl, (refl, (inl refl, tt)))))))))))))))),
+        ),
+      ),
+    ),
+  ),
 )

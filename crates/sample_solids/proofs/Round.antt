@@ -31,5 +31,6 @@ next_back n (suc i) lt = next_small n i (omega (arith, lt)) ∙ omega arith
 pub back_next : (n i k : ℕ) → i < n → next n i ≡ k → i ≡ back n k
 back_next n i k lt e = ⊎_elim
     (λ (small : i + 1 < n). let h : suc i ≡ k = omega (arith, next_small n i small, e) in ap (back n) h)
-    (λ (large : n ≤ i + 1). let last : i + 1 ≡ n = omega (arith, large, lt) in let h : 0 ≡ k = sym (next_last n i last) ∙ e in let w : i ≡ n - 1 = omega (arith, last) in w ∙ ap (back n) h)
+    (λ (large : n ≤ i + 1). let last : i + 1 ≡ n = omega (arith, large, lt) in let h : 0 ≡ k = sym (next_last n i last) ∙ e
+    in let w : i ≡ n - 1 = omega (arith, last) in w ∙ ap (back n) h)
     (cases_lt (i + 1) n)

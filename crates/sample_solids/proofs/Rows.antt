@@ -1,5 +1,6 @@
 -- The rows of a sample's shell go round the squares of a mesh.
-use Rattle.std.specs.Prelude.{◌≡◌, ℕ, zero, suc, ◌+◌, ◌*◌, ◌/◌, ◌%◌, ◌<◌, Bool, true, false, ℤ, pos, List, [], ◌∷◌, ◌++◌, length, map, flat_map, Option, Some, slice_get, if◌then◌else◌}
+use Rattle.std.specs.Prelude.{◌≡◌, ℕ, zero, suc, ◌+◌, ◌*◌, ◌/◌, ◌%◌, ◌<◌, Bool, true, false, ℤ, pos, List, [], ◌∷◌, ◌++◌, length, map, flat_map, Option, Some}
+use Rattle.std.specs.Prelude.{slice_get, if◌then◌else◌}
 use Rattle.std.specs.List.{AllByRecursion, enumerate_from, cons_option}
 use Rattle.std.proofs.Common.{refl, sym, ◌∙◌, ap, subst, arith, inl, inr}
 use Rattle.std.proofs.Math.Nat.{mod-lt}
@@ -12,7 +13,8 @@ use Rattle.brep_lists.specs.Record.{LoopTuple}
 use Rattle.brep_walk.specs.Places.{faces}
 use Rattle.brep_walk.specs.SolidOf.{entry_no, use_of, loop_of, face_of, shell_of, solid_of}
 use Rattle.solid_data.specs.Ring.{next_of_each, previous_of_each, numbers_from}
-use Rattle.solid_data.specs.SolidData.{SolidData, PlacedLoop, placed_in_face, placed_loops, shell_uses, shell_edges, shell_vertices, edge_used, ends_of, vertices_used}
+use Rattle.solid_data.specs.SolidData.{SolidData, PlacedLoop, placed_in_face, placed_loops, shell_uses, shell_edges, shell_vertices, edge_used, ends_of}
+use Rattle.solid_data.specs.SolidData.{vertices_used}
 use Rattle.solid_data.specs.declared.solid.Edge.{Edge}
 use Rattle.solid_data.specs.declared.solid.EdgeId.{EdgeId}
 use Rattle.solid_data.specs.declared.solid.LoopAt.{LoopAt}
@@ -28,7 +30,8 @@ use Rattle.solid_data.proofs.Members.{Has, All-from, from_flat_map, has_map, fro
 use Rattle.edge_uses.proofs.Occurs.{from_occurring}
 use Rattle.sample_solids.specs.Sample.{squares, face_number, sample}
 use Rattle.sample_solids.proofs.Squares.{get_right, get_chunk, get_map, length_chunks, length_squares, squares_get, squares_below, only_one}
-use Rattle.sample_solids.proofs.Mesh.{Side, near, right, far, left, place, after, is_along, vertex, edge_of, start_of, number, side_row, IsMesh, mesh_paired, mesh_linked, mesh_reached}
+use Rattle.sample_solids.proofs.Mesh.{Side, near, right, far, left, place, after, is_along, vertex, edge_of, start_of, number, side_row, IsMesh, mesh_paired}
+use Rattle.sample_solids.proofs.Mesh.{mesh_linked, mesh_reached}
 use Rattle.sample_solids.proofs.Records.{face_item}
 use Rattle.sample_solids.proofs.Tuples.{shells_are, faces_are, loops_are, tuples_are}
 use Rattle.sample_solids.proofs.Keys.{edge_id, point_id, edge_found, end_is, one_edge, one_point, side_of}
@@ -67,8 +70,15 @@ placed n q = record {
 face_placed : (n base : ℕ) (p : ℕ × ℕ) → p.0 < n → p.1 < n → placed_in_face true (base, face_of (sample n) (pos 1) (face_item n p)) ≡ placed n (base, p) ∷ []
 face_placed n base p li lj =
     let f : Contents = sample n in
-    ap (λ (ls : List ℤ). placed_in_face true (base, record { entity = entry_no (pos (face_number n p.0 p.1)); flag = true; loops = map (loop_of f (pos 1)) ls })) (loops_are n p.0 p.1 li lj)
-    ∙ ap (λ (ts : List LoopTuple). record { at = record { face = record { 0 = base }; place = 0 }; forwards = true; loop = record { entity = entry_no (pos (face_number n p.0 p.1 + 2)); uses = map (use_of f (pos 1)) ts } } ∷ [])
+    ap (λ (ls : List ℤ). placed_in_face true
+    (base, record { entity = entry_no (pos (face_number n p.0 p.1)); flag = true; loops = map (loop_of f (pos 1)) ls })) (loops_are n p.0 p.1 li lj)
+    ∙ ap (λ (ts : List LoopTuple).
+    record {
+      at = record { face = record { 0 = base }; place = 0 };
+      forwards = true;
+      loop =
+          record { entity = entry_no (pos (face_number n p.0 p.1 + 2)); uses = map (use_of f (pos 1)) ts };
+    } ∷ [])
     (tuples_are n p.0 p.1 li lj)
 
 placed_from : (n base : ℕ) (ss : List (ℕ × ℕ)) → ((s : ℕ × ℕ) → Has ss s → (s.0 < n) × (s.1 < n))
@@ -76,7 +86,8 @@ placed_from : (n base : ℕ) (ss : List (ℕ × ℕ)) → ((s : ℕ × ℕ) → 
 placed_from n base [] below = refl
 placed_from n base (s ∷ ss) below =
     let here = below s (inl refl) in
-    ap (λ ps. ps ++ flat_map (placed_in_face true) (enumerate_from (base + 1) (map (face_of (sample n) (pos 1)) (map (face_item n) ss)))) (face_placed n base s here.0 here.1)
+    ap (λ ps. ps ++ flat_map (placed_in_face true) (enumerate_from (base + 1) (map (face_of (sample n) (pos 1)) (map (face_item n) ss))))
+    (face_placed n base s here.0 here.1)
     ∙ ap (λ ps. placed n (base, s) ∷ ps) (placed_from n (base + 1) ss (λ t h. below t (inr h)))
 
 abbrev pub the_loops : ℕ → List PlacedLoop
@@ -84,7 +95,8 @@ the_loops n = map (placed n) (enumerate_from 0 (squares n))
 
 pub placed_are : (n : ℕ) → placed_loops (the_shell n) ≡ the_loops n
 placed_are n =
-    ap (λ cs. flat_map (placed_in_face true) (enumerate_from 0 (map (face_of (sample n) (pos 1)) cs))) (faces_are n) ∙ placed_from n 0 (squares n) (squares_below n)
+    ap (λ cs. flat_map (placed_in_face true) (enumerate_from 0 (map (face_of (sample n) (pos 1)) cs))) (faces_are n)
+    ∙ placed_from n 0 (squares n) (squares_below n)
 
 loop_is : (n : ℕ) (p : PlacedLoop) → Has (the_loops n) p → (q : ℕ × (ℕ × ℕ)) × (q.1.0 < n) × (q.1.1 < n) × (placed n q ≡ p)
 loop_is n p h =
@@ -162,7 +174,8 @@ row_get : (n i j : ℕ) (s : Side) → i < n → j < n → slice_get (the_rows n
 unfolding shell_rows
 row_get n i j s li lj =
     ap (λ ps. slice_get (flat_map (loop_rows (the_solid n)) ps) (number n i j s)) (placed_are n)
-    ∙ (get_chunk (loop_rows (the_solid n)) 4 (the_loops n) (four_each n) (i * n + j) (place s) (number n i j s) (placed n (i * n + j, (i, j))) (loop_get n i j li lj) (place_below s) refl
+    ∙ (get_chunk (loop_rows (the_solid n)) 4 (the_loops n) (four_each n) (i * n + j) (place s) (number n i j s) (placed n (i * n + j, (i, j)))
+    (loop_get n i j li lj) (place_below s) refl
     ∙ (ap (λ rs. slice_get rs (place s)) (rows_are n (i * n + j) i j li lj) ∙ row_got n (i * n + j) i j s))
 
 pub rows_many : (n : ℕ) → length (the_rows n).rows ≡ 4 * (n * n)
@@ -198,7 +211,8 @@ four_on base left rest = let e : base ≡ base + 0 = omega arith in ap Some e
 abbrev ring : Bool → ℕ → ℕ → List ℕ
 ring forwards base m = if forwards then next_of_each (numbers_from base m) else previous_of_each (numbers_from base m)
 
-follows_get : (s : SolidData) (ps : List PlacedLoop) → ((p : PlacedLoop) → Has ps p → length (loop_rows s p) ≡ 4) → ((p : PlacedLoop) → Has ps p → p.forwards ≡ true)
+follows_get : (s : SolidData) (ps : List PlacedLoop) → ((p : PlacedLoop) → Has ps p → length (loop_rows s p) ≡ 4)
+    → ((p : PlacedLoop) → Has ps p → p.forwards ≡ true)
     → (base k : ℕ) (c : Side) → k < length ps → slice_get (follows_from s base ps) (4 * k + place c) ≡ Some (base + (4 * k + place (after c)))
 follows_get s [] four ahead base k c lt = absurd (omega (arith, lt))
 follows_get s (p ∷ ps) four ahead base k c lt =
@@ -207,7 +221,8 @@ follows_get s (p ∷ ps) four ahead base k c lt =
     (λ t. slice_get (ring (b t) base (m t) ++ follows_from s (base + m t) ps) (4 * k + place c))
     ∙ by_number k (follows_get s ps (λ q h. four q (inr h)) (λ q h. ahead q (inr h)) (base + 4)) lt
   where
-    by_number : (k : ℕ) → ((k : ℕ) (c : Side) → k < length ps → slice_get (follows_from s (base + 4) ps) (4 * k + place c) ≡ Some (base + 4 + (4 * k + place (after c)))) → k < length (p ∷ ps)
+    by_number : (k : ℕ) → ((k : ℕ) (c : Side) → k < length ps → slice_get (follows_from s (base + 4) ps) (4 * k + place c)
+        ≡ Some (base + 4 + (4 * k + place (after c)))) → k < length (p ∷ ps)
         → slice_get (next_of_each (numbers_from base 4) ++ follows_from s (base + 4) ps) (4 * k + place c) ≡ Some (base + (4 * k + place (after c)))
     by_number zero later lt =
         let e : 4 * 0 + place c ≡ place c = omega arith in
@@ -215,7 +230,8 @@ follows_get s (p ∷ ps) four ahead base k c lt =
         ap (slice_get (next_of_each (numbers_from base 4) ++ follows_from s (base + 4) ps)) e ∙ (four_on base c (follows_from s (base + 4) ps) ∙ ap Some f)
     by_number (suc k) later lt =
         let f : base + 4 + (4 * k + place (after c)) ≡ base + (4 * suc k + place (after c)) = omega arith in
-        get_right (next_of_each (numbers_from base 4)) (follows_from s (base + 4) ps) (4 * suc k + place c) (4 * k + place c) (omega arith) ∙ (later k c (omega (arith, lt)) ∙ ap Some f)
+        get_right (next_of_each (numbers_from base 4)) (follows_from s (base + 4) ps) (4 * suc k + place c) (4 * k + place c) (omega arith)
+        ∙ (later k c (omega (arith, lt)) ∙ ap Some f)
 
 all_ahead : (n : ℕ) (p : PlacedLoop) → Has (the_loops n) p → p.forwards ≡ true
 all_ahead n p h = let q = loop_is n p h in sym (ap (λ (x : PlacedLoop). x.forwards) q.3)
@@ -249,7 +265,8 @@ no_points n =
     let q = loop_is n p h in
     subst (λ x. points_of n x ≡ []) q.3
     (edge_first (placed n q.0) (record { 0 = edge_id n (edge_of n q.0.1.0 q.0.1.1 near) }) true
-    (side_use n q.0.1.0 q.0.1.1 right ∷ side_use n q.0.1.0 q.0.1.1 far ∷ side_use n q.0.1.0 q.0.1.1 left ∷ []) (map (λ (r : Row). r.edge.0) (loop_rows (the_solid n) (placed n q.0)))))
+    (side_use n q.0.1.0 q.0.1.1 right ∷ side_use n q.0.1.0 q.0.1.1 far ∷ side_use n q.0.1.0 q.0.1.1 left ∷ [])
+    (map (λ (r : Row). r.edge.0) (loop_rows (the_solid n) (placed n q.0)))))
 
 -- ---- which edges and vertices occur
 
@@ -263,16 +280,19 @@ use_is n u h =
 edge_occurs : (n e : ℕ) → Has (the_rows n).edges e → (i j : ℕ) × (s : Side) × (i < n) × (j < n) × (edge_id n (edge_of n i j s) ≡ e)
 unfolding shell_rows
 edge_occurs n e h =
-    let u = from_flat_map edge_used (shell_uses (the_shell n)) e (from_occurring (numbers_from 0 (length (the_solid n).edges)) (shell_edges (the_shell n)) e h) in
+    let u = from_flat_map edge_used (shell_uses (the_shell n)) e (from_occurring (numbers_from 0 (length (the_solid n).edges)) (shell_edges (the_shell n)) e h)
+    in
     let s = use_is n u.0 u.1 in
     (s.0, s.1, s.2, s.3, s.4, only_one (edge_id n (edge_of n s.0 s.1 s.2)) e (subst (λ w. Has (edge_used w) e) (sym s.5) u.2))
 
 vertex_occurs : (n v : ℕ) → Has (the_rows n).vertices v → (i j : ℕ) × (i < n) × (j < n) × (point_id n (vertex n i j) ≡ v)
 unfolding shell_rows
 vertex_occurs n v h =
-    let u = from_flat_map (vertices_used (the_solid n)) (shell_uses (the_shell n)) v (from_occurring (numbers_from 0 (length (the_solid n).vertices)) (shell_vertices (the_solid n) (the_shell n)) v h) in
+    let u = from_flat_map (vertices_used (the_solid n)) (shell_uses (the_shell n)) v
+    (from_occurring (numbers_from 0 (length (the_solid n).vertices)) (shell_vertices (the_solid n) (the_shell n)) v h) in
     let s = use_is n u.0 u.1 in
-    let at_end : Has (ends_of (slice_get (the_solid n).edges (edge_id n (edge_of n s.0 s.1 s.2)))) v = subst (λ w. Has (vertices_used (the_solid n) w) v) (sym s.5) u.2 in
+    let at_end : Has (ends_of (slice_get (the_solid n).edges (edge_id n (edge_of n s.0 s.1 s.2)))) v =
+    subst (λ w. Has (vertices_used (the_solid n) w) v) (sym s.5) u.2 in
     end_is (point_id n) n s.0 s.1 s.2 s.3 s.4 v (subst (λ o. Has (ends_of o) v) (edge_found n s.0 s.1 s.2 s.3 s.4) at_end)
 
 -- The rows of a sample are those of a mesh.
@@ -297,7 +317,8 @@ ends_by a b c d = begin_of a false ∷ begin_of b false ∷ begin_of c true ∷ 
 abbrev starts_by : Option Edge → Option Edge → Option Edge → Option Edge → List ℕ
 starts_by a b c d = begin_of b true ∷ begin_of c false ∷ begin_of d false ∷ begin_of a true ∷ []
 
-square_joined : (n i j : ℕ) → i < n → j < n → map (ends_at (the_solid n)) (square_uses n (i, j)) ≡ next_of_each (map (starts_at (the_solid n)) (square_uses n (i, j)))
+square_joined : (n i j : ℕ) → i < n → j < n → map (ends_at (the_solid n)) (square_uses n (i, j))
+    ≡ next_of_each (map (starts_at (the_solid n)) (square_uses n (i, j)))
 square_joined n i j li lj =
     let a = edge_found n i j near li lj in
     let b = edge_found n i j right li lj in
@@ -320,11 +341,13 @@ pub shell_closed : (n : ℕ) → 0 < n → IsClosedShell (the_solid n) 0 (the_sh
 shell_closed n some = record {
   joined = all_joined n;
   paired = mesh_paired (the_rows n) n (edge_id n) (point_id n) (is_mesh n some);
-  reached = subst (λ m. AllByRecursion (IsReached (the_rows n)) (numbers_from 0 m)) (sym (faces_many n)) (mesh_reached (the_rows n) n (edge_id n) (point_id n) (is_mesh n some));
+  reached = subst (λ m. AllByRecursion (IsReached (the_rows n)) (numbers_from 0 m)) (sym (faces_many n))
+      (mesh_reached (the_rows n) n (edge_id n) (point_id n) (is_mesh n some));
   linked = mesh_linked (the_rows n) n (edge_id n) (point_id n) (is_mesh n some);
   apart = All-from (IsApart (the_solid n) 0) (the_rows n).vertices (λ v h. first_apart (the_solid n) v);
 }
 
 -- The solid of a sample is closed.
 pub solid_closed : (n : ℕ) → 0 < n → IsClosedSolid (the_solid n)
-solid_closed n some = subst (λ hs. AllByRecursion (λ (h : ℕ × Shell). IsClosedShell (the_solid n) h.0 h.1) (enumerate_from 0 hs)) (sym (shells_of n)) (shell_closed n some, tt)
+solid_closed n some = subst (λ hs. AllByRecursion (λ (h : ℕ × Shell). IsClosedShell (the_solid n) h.0 h.1) (enumerate_from 0 hs)) (sym (shells_of n))
+    (shell_closed n some, tt)

@@ -9,7 +9,8 @@ use Rattle.iges_directory.specs.declared.entry.Entry.{Entry}
 use Rattle.iges_params.specs.Contents.{value_count}
 use Rattle.iges_params.specs.Limits.{FitsLimits}
 use Rattle.solid_data.proofs.Members.{total, fold-total}
-use Rattle.sample_solids.specs.Sample.{squares, whole, face_listed, vertex_listed, edges_listed, shell_record, vertex_record, edge_record, first_entries, face_entries, sample}
+use Rattle.sample_solids.specs.Sample.{squares, whole, face_listed, vertex_listed, edges_listed, shell_record, vertex_record, edge_record, first_entries}
+use Rattle.sample_solids.specs.Sample.{face_entries, sample}
 use Rattle.sample_solids.proofs.Squares.{length_squares, length_chunks}
 
 pub total_append : {A : Type 0} (f : A → ℕ) (xs ys : List A) → total f (xs ++ ys) ≡ total f xs + total f ys
@@ -44,13 +45,15 @@ pub sample_total : (n : ℕ) → total values_in (sample n).entries ≡ 21 + 40 
 unfolding sample
 sample_total n =
     let a = total_append values_in (first_entries n) (flat_map (face_entries n) (squares n)) in
-    let b : total values_in (flat_map (face_entries n) (squares n)) ≡ 25 * length (squares n) = total_chunks values_in (face_entries n) 25 (squares n) (λ s. refl) in
+    let b : total values_in (flat_map (face_entries n) (squares n)) ≡ 25 * length (squares n) =
+    total_chunks values_in (face_entries n) 25 (squares n) (λ s. refl) in
     omega (arith, a, b, first_total n, length_squares n)
 
 pub sample_length : (n : ℕ) → length (sample n).entries ≡ 6 + 2 * (n * n)
 unfolding sample
 sample_length n =
-    let a : length (first_entries n ++ flat_map (face_entries n) (squares n)) ≡ length (first_entries n) + length (flat_map (face_entries n) (squares n)) = length-append (first_entries n) (flat_map (face_entries n) (squares n)) in
+    let a : length (first_entries n ++ flat_map (face_entries n) (squares n)) ≡ length (first_entries n) + length (flat_map (face_entries n) (squares n)) =
+    length-append (first_entries n) (flat_map (face_entries n) (squares n)) in
     let b : length (flat_map (face_entries n) (squares n)) ≡ 2 * length (squares n) = length_chunks (face_entries n) 2 (squares n) (λ s h. refl) in
     omega (arith, a, b, length_squares n)
 

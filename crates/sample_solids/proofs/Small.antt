@@ -5,7 +5,8 @@ use Rattle.std.proofs.Common.{arith}
 use Rattle.std.proofs.Math.Nat.{mod-lt, mul_assoc}
 use Rattle.std.proofs.lemmas.Nat.{mul-add-lt}
 use Rattle.solid_data.proofs.Members.{all_append, all_flat_map}
-use Rattle.sample_solids.specs.Sample.{squares, square, vertex_index, across_index, up_index, edge_between, use_record, face_listed, vertex_listed, edges_listed, shell_record, vertex_record, edge_record, face_record, loop_record}
+use Rattle.sample_solids.specs.Sample.{squares, square, vertex_index, across_index, up_index, edge_between, use_record, face_listed, vertex_listed}
+use Rattle.sample_solids.specs.Sample.{edges_listed, shell_record, vertex_record, edge_record, face_record, loop_record}
 use Rattle.sample_solids.proofs.Squares.{squares_below}
 use Rattle.sample_solids.proofs.Sizes.{few_squares}
 
@@ -45,14 +46,16 @@ module _ (n : ℕ) (some : 0 < n) (few : n ≤ 200) where
   pub vertices_small : AreSmall (vertex_record n)
   vertices_small = (
     omega (arith, few_squares n few),
-    all_flat_map IsSmall vertex_listed (squares n) (λ s h. let b = squares_below n s h in (omega (arith, b.0, few), (omega (arith, b.1, few), (omega arith, tt)))),
+    all_flat_map IsSmall vertex_listed (squares n)
+        (λ s h. let b = squares_below n s h in (omega (arith, b.0, few), (omega (arith, b.1, few), (omega arith, tt)))),
   )
 
   pub edges_small : AreSmall (edge_record n)
   edges_small = (
     omega (arith, few_squares n few, mul_assoc 2 n n),
     all_flat_map IsSmall (edges_listed n) (squares n) (λ s h.
-        all_append IsSmall (edge_between (vertex_index n s.0 s.1) (vertex_index n s.0 (s.1 + 1))) (edge_between (vertex_index n s.0 s.1) (vertex_index n (s.0 + 1) s.1))
+        all_append IsSmall (edge_between (vertex_index n s.0 s.1) (vertex_index n s.0 (s.1 + 1)))
+        (edge_between (vertex_index n s.0 s.1) (vertex_index n (s.0 + 1) s.1))
         (edge_small _ _ (vertex_few s.0 s.1) (vertex_few s.0 (s.1 + 1))) (edge_small _ _ (vertex_few s.0 s.1) (vertex_few (s.0 + 1) s.1))),
   )
 
@@ -68,7 +71,8 @@ module _ (n : ℕ) (some : 0 < n) (few : n ≤ 200) where
         omega arith,
         all_append IsSmall ((a ++ b) ++ c) d
             (all_append IsSmall (a ++ b) c
-            (all_append IsSmall a b (use_small (across_index n s.0 s.1) 1 (across_few s.0 s.1) (omega arith)) (use_small (up_index n s.0 (s.1 + 1)) 1 (up_few s.0 (s.1 + 1)) (omega arith)))
+            (all_append IsSmall a b (use_small (across_index n s.0 s.1) 1 (across_few s.0 s.1) (omega arith))
+            (use_small (up_index n s.0 (s.1 + 1)) 1 (up_few s.0 (s.1 + 1)) (omega arith)))
             (use_small (across_index n (s.0 + 1) s.1) 0 (across_few (s.0 + 1) s.1) (omega arith)))
             (use_small (up_index n s.0 s.1) 0 (up_few s.0 s.1) (omega arith)),
       )

@@ -30,7 +30,8 @@ only_one x y (inl e) = e
 only_one x y (inr h) = absurd h
 
 -- the r-th of what the k-th item gives, where each gives c
-pub get_chunk : {A B : Type 0} (g : A → List B) (c : ℕ) (xs : List A) → ((x : A) → Has xs x → length (g x) ≡ c) → (k r m : ℕ) (x : A) → slice_get xs k ≡ Some x → r < c → m ≡ c * k + r
+pub get_chunk : {A B : Type 0} (g : A → List B) (c : ℕ) (xs : List A) → ((x : A) → Has xs x → length (g x) ≡ c) → (k r m : ℕ) (x : A) → slice_get xs k ≡ Some x
+    → r < c → m ≡ c * k + r
     → slice_get (flat_map g xs) m ≡ slice_get (g x) r
 get_chunk g c [] each k r m x at lt e = absurd cc
 get_chunk g c (y ∷ xs) each zero r m x at lt e =
@@ -96,7 +97,8 @@ square_small n i j low left = let a = mod-eq_of_lt low in let b = mod-eq_of_lt l
 
 -- ---- values in the order of the squares
 
-pub squares_more : {A : Type 0} (g : ℕ × ℕ → List A) (n k : ℕ) → 0 < n → k < n * n → flat_map g (take (k + 1) (squares n)) ≡ flat_map g (take k (squares n)) ++ g (k / n, k % n)
+pub squares_more : {A : Type 0} (g : ℕ × ℕ → List A) (n k : ℕ) → 0 < n → k < n * n → flat_map g (take (k + 1) (squares n)) ≡ flat_map g (take k (squares n))
+    ++ g (k / n, k % n)
 squares_more g n k some lt =
     ap (flat_map g) (take_next (squares n) k (at_place n k) (squares_at n k some lt))
     ∙ (flat_map-append g (take k (squares n)) (at_place n k ∷ []) ∙ ap (λ ys. flat_map g (take k (squares n)) ++ ys) (append-nil (g (at_place n k))))
@@ -110,5 +112,6 @@ values_more g n k c old new some lt before is =
     is ∙ (ap (λ vs. vs ++ map whole (g (k / n, k % n))) before
     ∙ (sym (map-append whole (c ∷ flat_map g (take k (squares n))) (g (k / n, k % n))) ∙ ap (λ xs. map whole (c ∷ xs)) (sym (squares_more g n k some lt))))
 
-pub values_all : (g : ℕ × ℕ → List ℕ) (n k c : ℕ) (all : List Value) → n * n ≤ k → all ≡ map whole (c ∷ flat_map g (take k (squares n))) → all ≡ map whole (c ∷ flat_map g (squares n))
+pub values_all : (g : ℕ × ℕ → List ℕ) (n k c : ℕ) (all : List Value) → n * n ≤ k → all ≡ map whole (c ∷ flat_map g (take k (squares n)))
+    → all ≡ map whole (c ∷ flat_map g (squares n))
 values_all g n k c all past is = is ∙ ap (λ ss. map whole (c ∷ flat_map g ss)) (squares_all n k past)

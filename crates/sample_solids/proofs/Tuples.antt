@@ -7,16 +7,19 @@ use Rattle.iges_params.specs.Contents.{Contents}
 use Rattle.iges_params.specs.Named.{named, record_values}
 use Rattle.brep_lists.specs.Record.{SolidItems, FaceItems, LoopTuple, items_of}
 use Rattle.brep_lists.specs.declared.entity_kind.EntityKind.{EntityKind}
-use Rattle.brep_lists.specs.declared.entity_kind.EntityKind.TheVariants.{Solid as solid, Shell as shell, Face as face, Loop as «loop», EdgeList as edges, VertexList as vertices}
+use Rattle.brep_lists.specs.declared.entity_kind.EntityKind.TheVariants.{Solid as solid, Shell as shell, Face as face, Loop as «loop», EdgeList as edges}
+use Rattle.brep_lists.specs.declared.entity_kind.EntityKind.TheVariants.{VertexList as vertices}
 use Rattle.brep_walk.specs.Places.{told, shells, faces, loops, tuples, edge_at, numbers}
 use Rattle.brep_walk.specs.SolidOf.{all_tuples}
 use Rattle.solid_data.proofs.Members.{Has}
-use Rattle.sample_solids.specs.Sample.{squares, square, vertex_index, across_index, up_index, face_number, entry, shell_record, vertex_record, edge_record, face_record, loop_record, sample}
+use Rattle.sample_solids.specs.Sample.{squares, square, vertex_index, across_index, up_index, face_number, entry, shell_record, vertex_record, edge_record}
+use Rattle.sample_solids.specs.Sample.{face_record, loop_record, sample}
 use Rattle.sample_solids.proofs.Squares.{get_chunk, squares_get, squares_below, square_small}
 use Rattle.sample_solids.proofs.Growing.{AnEntry}
 use Rattle.sample_solids.proofs.Round.{next}
 use Rattle.sample_solids.proofs.Mesh.{Side, near, right, far, left, is_along, vertex, across, up, edge_of}
-use Rattle.sample_solids.proofs.Records.{solid_named, shell_named, vertices_named, edges_named, face_named, loop_named, face_item, shell_items, vertex_item, vertex_items, edge_tuple, edge_items_of, edge_items, use_tuple, loop_tuples}
+use Rattle.sample_solids.proofs.Records.{solid_named, shell_named, vertices_named, edges_named, face_named, loop_named, face_item, shell_items, vertex_item}
+use Rattle.sample_solids.proofs.Records.{vertex_items, edge_tuple, edge_items_of, edge_items, use_tuple, loop_tuples}
 
 -- ---- indices, where i and j are below n
 
@@ -34,7 +37,8 @@ abbrev pub square_tuples : ℕ → ℕ × ℕ → List LoopTuple
 square_tuples n s = side_tuple n s.0 s.1 near ∷ side_tuple n s.0 s.1 right ∷ side_tuple n s.0 s.1 far ∷ side_tuple n s.0 s.1 left ∷ []
 
 four_tuples : (a b c d x y z w : ℕ) → a ≡ x → b ≡ y → c ≡ z → d ≡ w
-    → ◌≡◌ {A = List LoopTuple} (use_tuple a true ∷ use_tuple b true ∷ use_tuple c false ∷ use_tuple d false ∷ []) (use_tuple x true ∷ use_tuple y true ∷ use_tuple z false ∷ use_tuple w false ∷ [])
+    → ◌≡◌ {A = List LoopTuple} (use_tuple a true ∷ use_tuple b true ∷ use_tuple c false ∷ use_tuple d false ∷ [])
+    (use_tuple x true ∷ use_tuple y true ∷ use_tuple z false ∷ use_tuple w false ∷ [])
 four_tuples a b c d x y z w e f g h = λ t. use_tuple (e t) true ∷ use_tuple (f t) true ∷ use_tuple (g t) false ∷ use_tuple (h t) false ∷ []
 
 tuples_same : (n i j : ℕ) → i < n → j < n → loop_tuples n (i, j) ≡ square_tuples n (i, j)
@@ -55,7 +59,8 @@ shells_are n = ap (λ (items : SolidItems). items.outer ∷ items.voids) (told_a
 pub faces_are : (n : ℕ) → faces (sample n) (pos 3) ≡ map (face_item n) (squares n)
 faces_are n = told_at shell (sample n) (pos 3) (entry 514 1 (shell_record n)) (shell_named n) ∙ shell_items n
 
-pub face_told : (n i j : ℕ) → i < n → j < n → told face (sample n) (pos (face_number n i j)) ≡ record { surface = pos 11; outer = true; loops = pos (face_number n i j + 2) ∷ [] }
+pub face_told : (n i j : ℕ) → i < n → j < n → told face (sample n) (pos (face_number n i j))
+    ≡ record { surface = pos 11; outer = true; loops = pos (face_number n i j + 2) ∷ [] }
 face_told n i j li lj = told_at face (sample n) (pos (face_number n i j)) (entry 510 1 (face_record n (i, j))) (face_named n i j li lj)
 
 pub loops_are : (n i j : ℕ) → i < n → j < n → loops (sample n) (pos (face_number n i j)) ≡ pos (face_number n i j + 2) ∷ []
@@ -102,9 +107,11 @@ tuple_same a b x y e f = λ t. Some (edge_tuple (e t) (f t))
 pub across_at : (n i j : ℕ) → i < n → j < n → edge_at (sample n) (pos 7) (across n i j) ≡ Some (edge_tuple (vertex n i j) (vertex n i (next n j)))
 across_at n i j li lj =
     edge_got n i j 0 (across n i j) li lj (omega arith) (omega arith)
-    ∙ tuple_same (vertex_index n i j) (vertex_index n i (j + 1)) (vertex n i j) (vertex n i (next n j)) (ap (λ k. k + 1) (square_small n i j li lj)) (ap (λ k. k + 1) (square_next n i j li))
+    ∙ tuple_same (vertex_index n i j) (vertex_index n i (j + 1)) (vertex n i j) (vertex n i (next n j)) (ap (λ k. k + 1) (square_small n i j li lj))
+    (ap (λ k. k + 1) (square_next n i j li))
 
 pub up_at : (n i j : ℕ) → i < n → j < n → edge_at (sample n) (pos 7) (up n i j) ≡ Some (edge_tuple (vertex n i j) (vertex n (next n i) j))
 up_at n i j li lj =
     edge_got n i j 1 (up n i j) li lj (omega arith) (omega arith)
-    ∙ tuple_same (vertex_index n i j) (vertex_index n (i + 1) j) (vertex n i j) (vertex n (next n i) j) (ap (λ k. k + 1) (square_small n i j li lj)) (ap (λ k. k + 1) (next_square n i j lj))
+    ∙ tuple_same (vertex_index n i j) (vertex_index n (i + 1) j) (vertex n i j) (vertex n (next n i) j) (ap (λ k. k + 1) (square_small n i j li lj))
+    (ap (λ k. k + 1) (next_square n i j lj))

@@ -1,5 +1,6 @@
 -- What is crossed, and the rows that are kept of it.
-use Rattle.std.specs.Prelude.{◌≡◌, ◌<◌, ◌≤◌, ◌+◌, ◌-◌, ◌==◌, ◌⊎◌, ℕ, zero, suc, Bool, true, false, cond, List, [], ◌∷◌, ◌++◌, length, map, flat_map, filter, slice_get, Some, if◌then◌else◌}
+use Rattle.std.specs.Prelude.{◌≡◌, ◌<◌, ◌≤◌, ◌+◌, ◌-◌, ◌==◌, ◌⊎◌, ℕ, zero, suc, Bool, true, false, cond, List, [], ◌∷◌, ◌++◌, length, map, flat_map, filter}
+use Rattle.std.specs.Prelude.{slice_get, Some, if◌then◌else◌}
 use Rattle.std.specs.List.{AllByRecursion, list_any}
 use Rattle.std.specs.Option.{option_to_list}
 use Rattle.std.proofs.Common.{refl, sym, ◌∙◌, ap, subst, arith, inl, inr, get_or, take, append_assoc}
@@ -31,7 +32,8 @@ pub on_its_face : (d : ShellRows) (r : ℕ) → r < length d.rows → OnFace d (
 on_its_face d r low = let g = get_some d.rows r low in (g.0, g.1, sym (face_is d g.0.at.face.0 r (g.0, g.1, refl)))
 
 not_on : (d : ShellRows) (face r : ℕ) → r < length d.rows → (OnFace d face r → ⊥) → (face_of d r == face) ≡ false
-not_on d face r low apart = false_from_ne_true (face_of d r == face) (λ e. apart (subst (λ f. OnFace d f r) (eqb-true (face_of d r) face e) (on_its_face d r low)))
+not_on d face r low apart =
+    false_from_ne_true (face_of d r == face) (λ e. apart (subst (λ f. OnFace d f r) (eqb-true (face_of d r) face e) (on_its_face d r low)))
 
 -- the mate of a row in a list of mates
 pub mate_is : (d : ShellRows) (mates : List ℕ) (r m : ℕ) → HaveMates d mates → AreMates d r m → m ≡ get_or mates r 0
@@ -39,11 +41,13 @@ mate_is d mates r m have pair =
     let low : r < length mates = omega (arith, slice_get_within d.rows r pair.row pair.at_r, have.each) in
     one_mate d (paired_rows d have.whole) r m (get_or mates r 0) pair (have.mate r (get_or mates r 0) (slice_get-get_or mates r 0 low))
 
-put_first : (d : ShellRows) (k x : ℕ) (ms : List ℕ) → AreMates d k x → ((i m : ℕ) → slice_get ms i ≡ Some m → AreMates d (k + 1 + i) m) → (i m : ℕ) → slice_get (x ∷ ms) i ≡ Some m → AreMates d (k + i) m
+put_first : (d : ShellRows) (k x : ℕ) (ms : List ℕ) → AreMates d k x → ((i m : ℕ) → slice_get ms i ≡ Some m → AreMates d (k + 1 + i) m) → (i m : ℕ)
+    → slice_get (x ∷ ms) i ≡ Some m → AreMates d (k + i) m
 put_first d k x ms here later zero m at = let e : k ≡ k + 0 = omega arith in subst (λ n. AreMates d n m) e (subst (AreMates d k) (same_Some x m at) here)
 put_first d k x ms here later (suc i) m at = let e : k + 1 + i ≡ k + suc i = omega arith in subst (λ n. AreMates d n m) e (later i m at)
 
-mates_from : (d : ShellRows) → ArePaired d → (k n : ℕ) → k + n ≡ length d.rows → (ms : List ℕ) × (length ms ≡ n) × ((i m : ℕ) → slice_get ms i ≡ Some m → AreMates d (k + i) m)
+mates_from : (d : ShellRows) → ArePaired d → (k n : ℕ) → k + n ≡ length d.rows
+    → (ms : List ℕ) × (length ms ≡ n) × ((i m : ℕ) → slice_get ms i ≡ Some m → AreMates d (k + i) m)
 mates_from d whole k zero e = ([], refl, λ i m at. absurd (none-some m at))
 mates_from d whole k (suc n) e =
     let row = get_some d.rows k (omega (arith, e)) in
@@ -78,11 +82,13 @@ none_between p a (suc n) none =
     ∙ (filter_last p (a + n) false (none (a + n) (omega arith) (omega arith))
     ∙ (append-nil (filter p (numbers_from 0 (a + n))) ∙ none_between p a n (λ x low high. none x low (omega (arith, high)))))
 
-no_row_between : (d : ShellRows) (face a b : ℕ) → IsHead d face a b → filter (λ r. face_of d r == face) (numbers_from 0 b) ≡ filter (λ r. face_of d r == face) (numbers_from 0 a)
+no_row_between : (d : ShellRows) (face a b : ℕ) → IsHead d face a b → filter (λ r. face_of d r == face) (numbers_from 0 b)
+    ≡ filter (λ r. face_of d r == face) (numbers_from 0 a)
 no_row_between d face a b t =
     let e : b ≡ a + (b - a) = omega (arith, t.low) in
     ap (λ k. filter (λ r. face_of d r == face) (numbers_from 0 k)) e
-    ∙ none_between (λ r. face_of d r == face) a (b - a) (λ x low high. not_on d face x (omega (arith, high, e, t.high)) (λ on. let late : b ≤ x = t.all x on low in omega (arith, late, high, e)))
+    ∙ none_between (λ r. face_of d r == face) a (b - a)
+    (λ x low high. not_on d face x (omega (arith, high, e, t.high)) (λ on. let late : b ≤ x = t.all x on low in omega (arith, late, high, e)))
 
 -- the mates of the rows on a face up to a row
 abbrev pub across_below : ShellRows → ℕ → ℕ → List ℕ → List ℕ
@@ -91,16 +97,19 @@ across_below d face at mates = map (λ r. get_or mates r 0) (filter (λ r. face_
 pub below_first : (d : ShellRows) (face at : ℕ) (mates : List ℕ) → IsHead d face 0 at → across_below d face at mates ≡ []
 below_first d face at mates t = ap (map (λ r. get_or mates r 0)) (no_row_between d face 0 at t)
 
-pub below_next : (d : ShellRows) (face r at : ℕ) (mates : List ℕ) → OnFace d face r → IsHead d face (r + 1) at → across_below d face at mates ≡ across_below d face r mates ++ mate_at r mates
+pub below_next : (d : ShellRows) (face r at : ℕ) (mates : List ℕ) → OnFace d face r → IsHead d face (r + 1) at
+    → across_below d face at mates ≡ across_below d face r mates ++ mate_at r mates
 below_next d face r at mates on t =
     let test : (face_of d r == face) ≡ true = eq-eqb (face_of d r) face (face_is d face r on) in
     ap (map (λ x. get_or mates x 0)) (no_row_between d face (r + 1) at t ∙ filter_last (λ x. face_of d x == face) r true test)
     ∙ map-append (λ x. get_or mates x 0) (filter (λ x. face_of d x == face) (numbers_from 0 r)) (r ∷ [])
 
 -- what is kept of rows and more rows
-pub on_new_append : (face : ℕ → ℕ) (known xs ys : List ℕ) → on_new_faces face known (xs ++ ys) ≡ on_new_faces face known xs ++ on_new_faces face (known ++ map face (on_new_faces face known xs)) ys
+pub on_new_append : (face : ℕ → ℕ) (known xs ys : List ℕ) → on_new_faces face known (xs ++ ys) ≡ on_new_faces face known xs
+    ++ on_new_faces face (known ++ map face (on_new_faces face known xs)) ys
 on_new_append face known [] ys = ap (λ k. on_new_faces face k ys) (sym (append-nil known))
-on_new_append face known (x ∷ xs) ys = by_test (list_any (λ f. f == face x) known) (on_new_append face known xs ys) (on_new_append face (known ++ face x ∷ []) xs ys)
+on_new_append face known (x ∷ xs) ys = by_test (list_any (λ f. f == face x) known) (on_new_append face known xs ys)
+    (on_new_append face (known ++ face x ∷ []) xs ys)
   where
     old : List ℕ
     old = on_new_faces face known xs
@@ -117,12 +126,15 @@ on_new_append face known (x ∷ xs) ys = by_test (list_any (λ f. f == face x) k
 
 pub unfound : (n : ℕ) (ids : List ℕ) → (Has ids n → ⊥) → list_any (λ m. m == n) ids ≡ false
 unfound n [] none = refl
-unfound n (m ∷ ids) none = or_from (m == n) (list_any (λ k. k == n) ids) (false_from_ne_true (m == n) (λ e. none (inl (eqb-true m n e)))) (unfound n ids (λ h. none (inr h)))
+unfound n (m ∷ ids) none = or_from (m == n) (list_any (λ k. k == n) ids) (false_from_ne_true (m == n) (λ e. none (inl (eqb-true m n e))))
+    (unfound n ids (λ h. none (inr h)))
 
-same_known : (d : ShellRows) (crossed order rows : List ℕ) → HasCrossed d crossed order rows → order ≡ 0 ∷ map (face_of d) (on_new_faces (face_of d) (0 ∷ []) crossed)
+same_known : (d : ShellRows) (crossed order rows : List ℕ) → HasCrossed d crossed order rows
+    → order ≡ 0 ∷ map (face_of d) (on_new_faces (face_of d) (0 ∷ []) crossed)
 same_known d crossed order rows h = h.listed ∙ ap (λ rs. 0 ∷ map (face_of d) rs) h.kept
 
-crossed_old : (d : ShellRows) (crossed order rows : List ℕ) (m : ℕ) → HasCrossed d crossed order rows → Has order (face_of d m) → HasCrossed d (crossed ++ m ∷ []) order rows
+crossed_old : (d : ShellRows) (crossed order rows : List ℕ) (m : ℕ) → HasCrossed d crossed order rows → Has order (face_of d m)
+    → HasCrossed d (crossed ++ m ∷ []) order rows
 crossed_old d crossed order rows m h old = record {
   kept = h.kept ∙ sym (on_new_append (face_of d) (0 ∷ []) crossed (m ∷ []) ∙ (ap (λ k. so_far ++ k) none ∙ append-nil so_far));
   listed = h.listed;
@@ -132,9 +144,11 @@ crossed_old d crossed order rows m h old = record {
     so_far = on_new_faces (face_of d) (0 ∷ []) crossed
 
     none : on_new_faces (face_of d) (0 ∷ map (face_of d) so_far) (m ∷ []) ≡ []
-    none = ap (λ b. if b then [] else m ∷ []) (found (face_of d m) (0 ∷ map (face_of d) so_far) (subst (λ os. Has os (face_of d m)) (same_known d crossed order rows h) old))
+    none = ap (λ b. if b then [] else m ∷ [])
+        (found (face_of d m) (0 ∷ map (face_of d) so_far) (subst (λ os. Has os (face_of d m)) (same_known d crossed order rows h) old))
 
-crossed_new : (d : ShellRows) (crossed order rows : List ℕ) (m : ℕ) → HasCrossed d crossed order rows → (Has order (face_of d m) → ⊥) → HasCrossed d (crossed ++ m ∷ []) (order ++ face_of d m ∷ []) (rows ++ m ∷ [])
+crossed_new : (d : ShellRows) (crossed order rows : List ℕ) (m : ℕ) → HasCrossed d crossed order rows → (Has order (face_of d m) → ⊥)
+    → HasCrossed d (crossed ++ m ∷ []) (order ++ face_of d m ∷ []) (rows ++ m ∷ [])
 crossed_new d crossed order rows m h new = record {
   kept = ap (λ k. k ++ m ∷ []) h.kept ∙ sym (on_new_append (face_of d) (0 ∷ []) crossed (m ∷ []) ∙ ap (λ k. so_far ++ k) one);
   listed = ap (λ os. os ++ face_of d m ∷ []) h.listed ∙ ap (λ k. 0 ∷ k) (sym (map-append (face_of d) rows (m ∷ [])));
@@ -144,33 +158,42 @@ crossed_new d crossed order rows m h new = record {
     so_far = on_new_faces (face_of d) (0 ∷ []) crossed
 
     one : on_new_faces (face_of d) (0 ∷ map (face_of d) so_far) (m ∷ []) ≡ m ∷ []
-    one = ap (λ b. if b then [] else m ∷ []) (unfound (face_of d m) (0 ∷ map (face_of d) so_far) (λ old. new (subst (λ os. Has os (face_of d m)) (sym (same_known d crossed order rows h)) old)))
+    one = ap (λ b. if b then [] else m ∷ [])
+        (unfound (face_of d m) (0 ∷ map (face_of d) so_far) (λ old. new (subst (λ os. Has os (face_of d m)) (sym (same_known d crossed order rows h)) old)))
 
 -- the mate's face was reached before
-pub crosses_old : (d : ShellRows) (marks : List Bool) (order rows : List ℕ) (r mate other : ℕ) → IsFlood d marks order rows → AreMates d r mate → OnFace d other mate → get_or marks other false ≡ true → Crosses d (mate_at r) order rows order rows
+pub crosses_old : (d : ShellRows) (marks : List Bool) (order rows : List ℕ) (r mate other : ℕ) → IsFlood d marks order rows → AreMates d r mate
+    → OnFace d other mate → get_or marks other false ≡ true → Crosses d (mate_at r) order rows order rows
 crosses_old d marks order rows r mate other flood pair on marked mates crossed have h =
     subst (λ m. HasCrossed d (crossed ++ m ∷ []) order rows) (mate_is d mates r mate have pair)
     (crossed_old d crossed order rows mate h (subst (Has order) (sym (face_is d other mate on)) (flood.listed other marked)))
 
 -- the mate's face is new
-pub crosses_new : (d : ShellRows) (marks : List Bool) (order os rows rs : List ℕ) (r mate other : ℕ) → IsFlood d marks order rows → AreMates d r mate → OnFace d other mate → get_or marks other false ≡ false → os ≡ order ++ other ∷ [] → rs ≡ rows ++ mate ∷ []
+pub crosses_new : (d : ShellRows) (marks : List Bool) (order os rows rs : List ℕ) (r mate other : ℕ) → IsFlood d marks order rows → AreMates d r mate
+    → OnFace d other mate → get_or marks other false ≡ false → os ≡ order ++ other ∷ [] → rs ≡ rows ++ mate ∷ []
     → Crosses d (mate_at r) order rows os rs
 crosses_new d marks order os rows rs r mate other flood pair on unmarked new_order new_rows mates crossed have h =
     let face : face_of d mate ≡ other = face_is d other mate on in
     let more : HasCrossed d (crossed ++ mate ∷ []) (order ++ face_of d mate ∷ []) (rows ++ mate ∷ []) =
     crossed_new d crossed order rows mate h (λ old. let e : true ≡ false = sym (flood.marked other (subst (Has order) face old)) ∙ unmarked in absurd (cc)) in
     let at_mate : HasCrossed d (crossed ++ mate ∷ []) os rs =
-    subst (λ k. HasCrossed d (crossed ++ mate ∷ []) os k) (sym new_rows) (subst (λ k. HasCrossed d (crossed ++ mate ∷ []) k (rows ++ mate ∷ [])) (ap (λ f. order ++ f ∷ []) face ∙ sym new_order) more) in
+    subst (λ k. HasCrossed d (crossed ++ mate ∷ []) os k) (sym new_rows)
+    (subst (λ k. HasCrossed d (crossed ++ mate ∷ []) k (rows ++ mate ∷ [])) (ap (λ f. order ++ f ∷ []) face ∙ sym new_order) more) in
     subst (λ m. HasCrossed d (crossed ++ m ∷ []) os rs) (mate_is d mates r mate have pair) at_mate
 
-pub crosses_none : (d : ShellRows) (those : List ℕ → List ℕ) (order rows : List ℕ) → ((mates : List ℕ) → those mates ≡ []) → Crosses d those order rows order rows
-crosses_none d those order rows none mates crossed have h = subst (λ k. HasCrossed d k order rows) (sym (ap (λ k. crossed ++ k) (none mates) ∙ append-nil crossed)) h
+pub crosses_none : (d : ShellRows) (those : List ℕ → List ℕ) (order rows : List ℕ) → ((mates : List ℕ) → those mates ≡ [])
+    → Crosses d those order rows order rows
+crosses_none d those order rows none mates crossed have h =
+    subst (λ k. HasCrossed d k order rows) (sym (ap (λ k. crossed ++ k) (none mates) ∙ append-nil crossed)) h
 
-pub crosses_both : (d : ShellRows) (xs ys zs : List ℕ → List ℕ) (o1 r1 o2 r2 o3 r3 : List ℕ) → Crosses d xs o1 r1 o2 r2 → Crosses d ys o2 r2 o3 r3 → ((mates : List ℕ) → zs mates ≡ xs mates ++ ys mates) → Crosses d zs o1 r1 o3 r3
+pub crosses_both : (d : ShellRows) (xs ys zs : List ℕ → List ℕ) (o1 r1 o2 r2 o3 r3 : List ℕ) → Crosses d xs o1 r1 o2 r2 → Crosses d ys o2 r2 o3 r3
+    → ((mates : List ℕ) → zs mates ≡ xs mates ++ ys mates) → Crosses d zs o1 r1 o3 r3
 crosses_both d xs ys zs o1 r1 o2 r2 o3 r3 f g e mates crossed have h =
-    subst (λ k. HasCrossed d k o3 r3) (append_assoc crossed (xs mates) (ys mates) ∙ ap (λ k. crossed ++ k) (sym (e mates))) (g mates (crossed ++ xs mates) have (f mates crossed have h))
+    subst (λ k. HasCrossed d k o3 r3) (append_assoc crossed (xs mates) (ys mates) ∙ ap (λ k. crossed ++ k) (sym (e mates)))
+    (g mates (crossed ++ xs mates) have (f mates crossed have h))
 
-pub crosses_as : (d : ShellRows) (xs ys : List ℕ → List ℕ) (o1 r1 o2 r2 : List ℕ) → Crosses d xs o1 r1 o2 r2 → ((mates : List ℕ) → ys mates ≡ xs mates) → Crosses d ys o1 r1 o2 r2
+pub crosses_as : (d : ShellRows) (xs ys : List ℕ → List ℕ) (o1 r1 o2 r2 : List ℕ) → Crosses d xs o1 r1 o2 r2 → ((mates : List ℕ) → ys mates ≡ xs mates)
+    → Crosses d ys o1 r1 o2 r2
 crosses_as d xs ys o1 r1 o2 r2 f e mates crossed have h = subst (λ k. HasCrossed d (crossed ++ k) o2 r2) (sym (e mates)) (f mates crossed have h)
 
 -- all rows of a face are below the end
@@ -180,12 +203,15 @@ below_end d face at mates low high = let e : length d.rows ≡ at = omega (arith
 pub across_past : (d : ShellRows) (order : List ℕ) (q : ℕ) (mates : List ℕ) → length order ≤ q → across_place d order q mates ≡ []
 across_past d order q mates past = ap (λ o. flat_map (across d mates) (option_to_list o)) (slice_get_past order q past)
 
-pub across_there : (d : ShellRows) (order : List ℕ) (q face : ℕ) (mates : List ℕ) → slice_get order q ≡ Some face → across_place d order q mates ≡ across d mates face
+pub across_there : (d : ShellRows) (order : List ℕ) (q face : ℕ) (mates : List ℕ) → slice_get order q ≡ Some face
+    → across_place d order q mates ≡ across d mates face
 across_there d order q face mates at = ap (λ o. flat_map (across d mates) (option_to_list o)) at ∙ append-nil (across d mates face)
 
 -- one place more is crossed
-pub place_more : (d : ShellRows) (old new : List ℕ) (q : ℕ) (mates : List ℕ) → Grows old new → (length old ≤ q → new ≡ old) → across_all d (take (q + 1) new) mates ≡ across_all d (take q old) mates ++ across_place d old q mates
-place_more d old new q mates grows same = ap (λ xs. flat_map (across d mates) xs) (by_place (cases_lt q (length old))) ∙ flat_map-append (across d mates) (take q old) (option_to_list (slice_get old q))
+pub place_more : (d : ShellRows) (old new : List ℕ) (q : ℕ) (mates : List ℕ) → Grows old new → (length old ≤ q → new ≡ old)
+    → across_all d (take (q + 1) new) mates ≡ across_all d (take q old) mates ++ across_place d old q mates
+place_more d old new q mates grows same = ap (λ xs. flat_map (across d mates) xs) (by_place (cases_lt q (length old)))
+    ∙ flat_map-append (across d mates) (take q old) (option_to_list (slice_get old q))
   where
     by_place : (q < length old) ⊎ (length old ≤ q) → take (q + 1) new ≡ take q old ++ option_to_list (slice_get old q)
     by_place (inl low) =
@@ -194,10 +220,12 @@ place_more d old new q mates grows same = ap (λ xs. flat_map (across d mates) x
         ∙ (take_more old q 0 low ∙ ap (λ o. take q old ++ option_to_list o) (sym (slice_get-get_or old q 0 low))))
     by_place (inr high) =
         ap (take (q + 1)) (same high)
-        ∙ (take_all (q + 1) old (omega (arith, high)) ∙ (sym (take_all q old high) ∙ (sym (append-nil (take q old)) ∙ ap (λ o. take q old ++ option_to_list o) (sym (slice_get_past old q high)))))
+        ∙ (take_all (q + 1) old (omega (arith, high))
+        ∙ (sym (take_all q old high) ∙ (sym (append-nil (take q old)) ∙ ap (λ o. take q old ++ option_to_list o) (sym (slice_get_past old q high)))))
 
 -- rows that all mates lead to are breadth first
-pub breadth_first : (d : ShellRows) (start_order start_rows order rows : List ℕ) → ArePaired d → HasCrossed d [] start_order start_rows → Crosses d (across_all d order) start_order start_rows order rows → IsBreadthFirst d rows
+pub breadth_first : (d : ShellRows) (start_order start_rows order rows : List ℕ) → ArePaired d → HasCrossed d [] start_order start_rows
+    → Crosses d (across_all d order) start_order start_rows order rows → IsBreadthFirst d rows
 breadth_first d start_order start_rows order rows whole start crosses =
     let some = some_mates d whole in
     let h : HasCrossed d (across_all d order some.0) order rows = crosses some.0 [] some.1 start in

@@ -1,5 +1,6 @@
 -- A shell whose faces are all reached has rows that reach them breadth first.
-use Rattle.std.specs.Prelude.{◌≡◌, ◌<◌, ◌≤◌, ◌+◌, ◌==◌, ◌⊎◌, ◌&&◌, ℕ, zero, suc, Bool, true, false, cond, List, [], ◌∷◌, ◌++◌, length, map, flat_map, filter, replicate, slice_set, slice_get, Some, if◌then◌else◌}
+use Rattle.std.specs.Prelude.{◌≡◌, ◌<◌, ◌≤◌, ◌+◌, ◌==◌, ◌⊎◌, ◌&&◌, ℕ, zero, suc, Bool, true, false, cond, List, [], ◌∷◌, ◌++◌, length, map, flat_map, filter}
+use Rattle.std.specs.Prelude.{replicate, slice_set, slice_get, Some, if◌then◌else◌}
 use Rattle.std.specs.List.{AllByRecursion}
 use Rattle.std.proofs.Common.{refl, sym, ◌∙◌, ap, subst, arith, inl, inr, ⊎_elim, get_or, take, append_assoc}
 use Rattle.std.proofs.lemmas.Bool.{eqb-true, eq-eqb, cases_lt}
@@ -18,7 +19,8 @@ use Rattle.shell_reach.specs.BreadthFirst.{face_of, across, on_new_faces, IsBrea
 use Rattle.shell_reach.specs.Laws.{SomeReachOrder}
 use Rattle.shell_reach.specs.Flood.{IsFlood, IsDone, Grows, HasCrossed, across_all, across_place}
 use Rattle.shell_reach.proofs.Crossings.{face_is, on_its_face, some_mates, crosses_old, crosses_new, across_past, across_there, place_more}
-use Rattle.shell_reach.proofs.Floods.{grows_none, grows_more, still_has, crossed_before, crossed_now, flood_more, flood_first, order_few, each_done, place_done, place_is, flood_reaches}
+use Rattle.shell_reach.proofs.Floods.{grows_none, grows_more, still_has, crossed_before, crossed_now, flood_more, flood_first, order_few, each_done, place_done}
+use Rattle.shell_reach.proofs.Floods.{place_is, flood_reaches}
 
 -- these rows were crossed, and the faces that are listed are reached
 record Flooded (d : ShellRows) (crossed order : List ℕ) : Type 0 where
@@ -28,7 +30,8 @@ record Flooded (d : ShellRows) (crossed order : List ℕ) : Type 0 where
   pub kept : HasCrossed d crossed order rows
 
 -- one row more is crossed
-cross_row : (d : ShellRows) (mates : List ℕ) → HaveMates d mates → (crossed order : List ℕ) (face r : ℕ) → Has order face → OnFace d face r → Flooded d crossed order
+cross_row : (d : ShellRows) (mates : List ℕ) → HaveMates d mates → (crossed order : List ℕ) (face r : ℕ) → Has order face → OnFace d face r
+    → Flooded d crossed order
     → (new : List ℕ) × Grows order new × Flooded d (crossed ++ get_or mates r 0 ∷ []) new × ((m g : ℕ) → AreMates d r m → OnFace d g m → Has new g)
 cross_row d mates have crossed order face r known on s = by_mark (get_or s.marks other false) refl
   where
@@ -46,7 +49,13 @@ cross_row d mates have crossed order face r known on s = by_mark (get_or s.marks
     by_mark true e = (
       order,
       grows_none order,
-      record { marks = s.marks; rows = s.rows; flood = s.flood; kept = crosses_old d s.marks order s.rows r pair.0 other s.flood pair.1 there e mates crossed have s.kept },
+      record {
+        marks = s.marks;
+        rows = s.rows;
+        flood = s.flood;
+        kept = crosses_old d s.marks order s.rows r pair.0 other s.flood pair.1 there e mates crossed
+            have s.kept;
+      },
       crossed_before d s.marks order s.rows r pair.0 other have.whole s.flood pair.1 there e,
     )
     by_mark false e = (
@@ -56,29 +65,36 @@ cross_row d mates have crossed order face r known on s = by_mark (get_or s.marks
         marks = slice_set s.marks other true;
         rows = s.rows ++ pair.0 ∷ [];
         flood = flood_more d s.marks order s.rows face r pair.0 other have.whole s.flood known on pair.1 there e;
-        kept = crosses_new d s.marks order (order ++ other ∷ []) s.rows (s.rows ++ pair.0 ∷ []) r pair.0 other s.flood pair.1 there e refl refl mates crossed have s.kept;
+        kept = crosses_new d s.marks order (order ++ other ∷ []) s.rows (s.rows ++ pair.0 ∷ []) r pair.0 other s.flood pair.1 there e refl refl mates crossed
+            have s.kept;
       },
       crossed_now d order r pair.0 other have.whole pair.1 there,
     )
 
 -- and so are these of one face
-cross_rows : (d : ShellRows) (mates : List ℕ) → HaveMates d mates → (crossed order : List ℕ) (face : ℕ) (rs : List ℕ) → ((x : ℕ) → Has rs x → OnFace d face x) → Has order face → Flooded d crossed order
-    → (new : List ℕ) × Grows order new × Flooded d (crossed ++ map (λ r. get_or mates r 0) rs) new × ((x m g : ℕ) → Has rs x → AreMates d x m → OnFace d g m → Has new g)
-cross_rows d mates have crossed order face [] on known s = (order, grows_none order, subst (λ c. Flooded d c order) (sym (append-nil crossed)) s, λ x m g h pair at. absurd h)
+cross_rows : (d : ShellRows) (mates : List ℕ) → HaveMates d mates → (crossed order : List ℕ) (face : ℕ) (rs : List ℕ) → ((x : ℕ) → Has rs x → OnFace d face x)
+    → Has order face → Flooded d crossed order
+    → (new : List ℕ) × Grows order new × Flooded d (crossed ++ map (λ r. get_or mates r 0) rs) new
+    × ((x m g : ℕ) → Has rs x → AreMates d x m → OnFace d g m → Has new g)
+cross_rows d mates have crossed order face [] on known s =
+    (order, grows_none order, subst (λ c. Flooded d c order) (sym (append-nil crossed)) s, λ x m g h pair at. absurd h)
 cross_rows d mates have crossed order face (r ∷ rs) on known s =
     let one = cross_row d mates have crossed order face r known (on r (inl refl)) s in
-    let rest = cross_rows d mates have (crossed ++ get_or mates r 0 ∷ []) one.0 face rs (λ x h. on x (inr h)) (still_has order one.0 face one.1 known) one.2 in (
+    let rest = cross_rows d mates have (crossed ++ get_or mates r 0 ∷ []) one.0 face rs (λ x h. on x (inr h)) (still_has order one.0 face one.1 known) one.2
+    in (
       rest.0,
       grows_more order one.0 rest.0 one.1 rest.1,
       subst (λ c. Flooded d c rest.0) (append_assoc crossed (get_or mates r 0 ∷ []) (map (λ x. get_or mates x 0) rs)) rest.2,
-      λ x m g h pair at. ⊎_elim (λ e. still_has one.0 rest.0 g rest.1 (one.3 m g (subst (λ k. AreMates d k m) (sym e) pair) at)) (λ later. rest.3 x m g later pair at) h,
+      λ x m g h pair at. ⊎_elim (λ e. still_has one.0 rest.0 g rest.1 (one.3 m g (subst (λ k. AreMates d k m) (sym e) pair) at))
+          (λ later. rest.3 x m g later pair at) h,
     )
 
 filtered : (p : ℕ → Bool) (xs : List ℕ) (x : ℕ) → Has (filter p xs) x → Has xs x × (p x ≡ true)
 filtered p [] x h = absurd h
 filtered p (y ∷ xs) x h = by_test (p y) refl h (filtered p xs x)
   where
-    by_test : (b : Bool) → p y ≡ b → Has (cond b (y ∷ filter p xs) (filter p xs)) x → (Has (filter p xs) x → Has xs x × (p x ≡ true)) → ((y ≡ x) ⊎ Has xs x) × (p x ≡ true)
+    by_test : (b : Bool) → p y ≡ b → Has (cond b (y ∷ filter p xs) (filter p xs)) x → (Has (filter p xs) x → Has xs x × (p x ≡ true))
+        → ((y ≡ x) ⊎ Has xs x) × (p x ≡ true)
     by_test true e (inl same) later = (inl same, ap p (sym same) ∙ e)
     by_test true e (inr m) later = (inr (later m).0, (later m).1)
     by_test false e m later = (inr (later m).0, (later m).1)
@@ -108,7 +124,8 @@ cross_face d mates have crossed order face known s =
     crossed_so : (r : ℕ) → OnFace d face r → Has (filter (λ x. face_of d x == face) (numbers_from 0 (length d.rows))) r
     crossed_so r at =
         let low = slice_get_within d.rows r at.0 at.1 in
-        passes (λ x. face_of d x == face) (numbers_from 0 (length d.rows)) r (number_within 0 (length d.rows) r (omega arith) (omega (arith, low))) (eq-eqb (face_of d r) face (face_is d face r at))
+        passes (λ x. face_of d x == face) (numbers_from 0 (length d.rows)) r (number_within 0 (length d.rows) r (omega arith) (omega (arith, low)))
+        (eq-eqb (face_of d r) face (face_is d face r at))
 
 -- the faces at the first places are left
 record Left (d : ShellRows) (mates : List ℕ) (q : ℕ) : Type 0 where
@@ -125,7 +142,9 @@ next_left d mates have q p = by_place (cases_lt q (length p.order))
     by_place : (q < length p.order) ⊎ (length p.order ≤ q) → Left d mates (q + 1)
     by_place (inr past) = record {
       order = p.order;
-      state = subst (λ c. Flooded d c p.order) (sym (place_more d p.order p.order q mates (grows_none p.order) (λ _. refl) ∙ (ap (λ k. so_far ++ k) (across_past d p.order q mates past) ∙ append-nil so_far))) p.state;
+      state = subst (λ c. Flooded d c p.order)
+          (sym (place_more d p.order p.order q mates (grows_none p.order) (λ _. refl)
+          ∙ (ap (λ k. so_far ++ k) (across_past d p.order q mates past) ∙ append-nil so_far))) p.state;
       done = place_done d p.order p.order q (grows_none p.order) (λ _. refl) (λ f at. absurd (omega (arith, past, slice_get_within p.order q f at))) p.done;
     }
     by_place (inl low) =
@@ -133,8 +152,11 @@ next_left d mates have q p = by_place (cases_lt q (length p.order))
         let more = cross_face d mates have so_far p.order at.0 (has_get p.order q at.0 at.1) p.state in
         record {
           order = more.0;
-          state = subst (λ c. Flooded d c more.0) (sym (place_more d p.order more.0 q mates more.1 (λ past. absurd (omega (arith, past, low))) ∙ ap (λ k. so_far ++ k) (across_there d p.order q at.0 mates at.1))) more.2;
-          done = place_done d p.order more.0 q more.1 (λ past. absurd (omega (arith, past, low))) (λ f there. subst (IsDone d more.0) (place_is p.order more.0 q at.0 f more.1 low at.1 there) more.3) p.done;
+          state = subst (λ c. Flooded d c more.0)
+              (sym (place_more d p.order more.0 q mates more.1 (λ past. absurd (omega (arith, past, low)))
+              ∙ ap (λ k. so_far ++ k) (across_there d p.order q at.0 mates at.1))) more.2;
+          done = place_done d p.order more.0 q more.1 (λ past. absurd (omega (arith, past, low)))
+              (λ f there. subst (IsDone d more.0) (place_is p.order more.0 q at.0 f more.1 low at.1 there) more.3) p.done;
         }
 
 unmarked : (n f : ℕ) → get_or (replicate n false) f false ≡ false
@@ -170,6 +192,7 @@ some_order d whole some all =
       record {
         mates = paired.0;
         paired = paired.1;
-        order = s.kept.kept ∙ ap (λ os. on_new_faces (face_of d) (0 ∷ []) (flat_map (across d paired.0) os)) (take_all d.face_count p.order (order_few d s.marks p.order s.rows s.flood) ∙ s.kept.listed);
+        order = s.kept.kept ∙ ap (λ os. on_new_faces (face_of d) (0 ∷ []) (flat_map (across d paired.0) os))
+            (take_all d.face_count p.order (order_few d s.marks p.order s.rows s.flood) ∙ s.kept.listed);
       },
     )

@@ -33,7 +33,8 @@ pub record HasCrossed (d : ShellRows) (crossed order rows : List ℕ) : Type 0 w
 
 -- Whatever was crossed before, these rows are crossed after it.
 abbrev pub Crosses : ShellRows → (List ℕ → List ℕ) → List ℕ → List ℕ → List ℕ → List ℕ → Type 0
-Crosses d those order rows new_order new_rows = (mates crossed : List ℕ) → HaveMates d mates → HasCrossed d crossed order rows → HasCrossed d (crossed ++ those mates) new_order new_rows
+Crosses d those order rows new_order new_rows = (mates crossed : List ℕ) → HaveMates d mates → HasCrossed d crossed order rows
+    → HasCrossed d (crossed ++ those mates) new_order new_rows
 
 -- the mate of one row
 abbrev pub mate_at : ℕ → List ℕ → List ℕ

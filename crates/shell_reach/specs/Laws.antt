@@ -14,4 +14,5 @@ OneReachOrder = (d : ShellRows) (a b : List ℕ) → ReachesAll d a → IsBreadt
 
 -- A shell whose edges are paired and whose faces are all reached has such a list.
 abbrev pub SomeReachOrder : Type 0
-SomeReachOrder = (d : ShellRows) → ArePaired d → 0 < d.face_count → AllByRecursion (IsReached d) (numbers_from 0 d.face_count) → (rows : List ℕ) × ReachesAll d rows × IsBreadthFirst d rows
+SomeReachOrder = (d : ShellRows) → ArePaired d → 0 < d.face_count → AllByRecursion (IsReached d) (numbers_from 0 d.face_count)
+    → (rows : List ℕ) × ReachesAll d rows × IsBreadthFirst d rows

@@ -23,7 +23,8 @@ trail_from_steps R (suc m) x y z r (w, s, rest) = by_test (same_or_not y z) (tra
 
 -- the least row of a vertex
 abbrev FirstStart : ℕ → List Row → Type 0
-FirstStart v rows = (r : ℕ) × ((a : Row) × (slice_get rows r ≡ Some a) × (a.from.0 ≡ v)) × ((x : ℕ) (b : Row) → slice_get rows x ≡ Some b → b.from.0 ≡ v → r ≤ x)
+FirstStart v rows = (r : ℕ) × ((a : Row) × (slice_get rows r ≡ Some a) × (a.from.0 ≡ v))
+    × ((x : ℕ) (b : Row) → slice_get rows x ≡ Some b → b.from.0 ≡ v → r ≤ x)
 
 after_other : (v : ℕ) (y : Row) (rows : List Row) → y.from.0 ≢ v → FirstStart v rows → FirstStart v (y ∷ rows)
 after_other v y rows ne rest = (suc rest.0, rest.1, above)
@@ -35,7 +36,8 @@ after_other v y rows ne rest = (suc rest.0, rest.1, above)
 first_start : (v : ℕ) (rows : List Row) (k : ℕ) (row : Row) → slice_get rows k ≡ Some row → row.from.0 ≡ v → FirstStart v rows
 first_start v [] k row at e = absurd (let h : None ≡ Some row = at in cc)
 first_start v (y ∷ rows) zero row at e = (zero, (y, refl, ap (λ (r : Row). r.from.0) (same_Some y row at) ∙ e), λ x b h k. omega arith)
-first_start v (y ∷ rows) (suc k) row at e = ⊎_elim (λ same. (zero, (y, refl, same.1), λ x b h k. omega arith)) (λ other. after_other v y rows other.1 (first_start v rows k row at e)) (eqb_tells y.from.0 v)
+first_start v (y ∷ rows) (suc k) row at e = ⊎_elim (λ same. (zero, (y, refl, same.1), λ x b h k. omega arith))
+    (λ other. after_other v y rows other.1 (first_start v rows k row at e)) (eqb_tells y.from.0 v)
 
 -- A corner has its cycle.
 pub cycle_of_corner : (d : ShellRows) (v : ℕ) → AreTurning d → IsCorner d v → (r : ℕ) × (rs : List ℕ) × IsCycle d v r rs

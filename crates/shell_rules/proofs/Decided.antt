@@ -11,19 +11,22 @@ use Rattle.solid_data.specs.declared.solid.Loop.{Loop}
 use Rattle.solid_data.specs.declared.solid.Shell.{Shell}
 use Rattle.solid_data.specs.declared.verdict.Rule.TheVariants.{Unjoined, Unpaired, Unreached, Unlinked, Shared}
 use Rattle.solid_data.specs.Obligations.{obligation}
-use Rattle.solid_data.proofs.Decisions.{Decided, decided_alike, decided_same, decided_bool, decided_both, decided_three, decided_either, decided_not, decided_implies, decided_found, decided_bounded, decided_each, decided_contains, above_all, below_all}
+use Rattle.solid_data.proofs.Decisions.{Decided, decided_alike, decided_same, decided_bool, decided_both, decided_three, decided_either, decided_not}
+use Rattle.solid_data.proofs.Decisions.{decided_implies, decided_found, decided_bounded, decided_each, decided_contains, above_all, below_all}
 use Rattle.solid_data.proofs.ChainsDecided.{leads_decided}
 use Rattle.solid_data.proofs.ObligationsDecided.{AreDecided, decided-append, decided-map, decided-of_each}
 use Rattle.edge_uses.specs.declared.row.Row.{Row}
 use Rattle.edge_uses.specs.ShellRows.{ShellRows, shell_rows}
-use Rattle.edge_uses.specs.Before.{IsApart}
 use Rattle.edge_uses.specs.RowRelations.{row_count, point_count, AreMates, Follows, Turns, StartsAt, OnFace, IsPaired}
 use Rattle.shell_rules.specs.Closed.{IsCorner, IsPoint, IsLinked, AreNeighbours, IsReached}
+use Rattle.edge_uses.specs.Before.{IsApart}
 use Rattle.edge_uses.specs.Joins.{loop_obligations, join_obligations}
-use Rattle.shell_rules.specs.ShellObligations.{at_edge, at_vertex, pair_obligations, reach_obligations, link_obligations, apart_obligations, shell_obligations, solid_obligations, checked_of_shell, checked_obligations}
+use Rattle.shell_rules.specs.ShellObligations.{at_edge, at_vertex, pair_obligations, reach_obligations, link_obligations}
+use Rattle.shell_rules.specs.ShellObligations.{apart_obligations, shell_obligations, solid_obligations, checked_of_shell, checked_obligations}
 
 pub edge_id_decided : (a b : EdgeId) → Decided (a ≡ b)
-edge_id_decided a b = decided_alike (λ e. (let same : ◌≡◌ {A = EdgeId} (record { 0 = a.0 }) (record { 0 = b.0 }) = ap (λ (n : ℕ). record { 0 = n }) e in same)) (λ e. ap (λ (x : EdgeId). x.0) e) (decided_same a.0 b.0)
+edge_id_decided a b = decided_alike (λ e. (let same : ◌≡◌ {A = EdgeId} (record { 0 = a.0 }) (record { 0 = b.0 }) = ap (λ (n : ℕ). record { 0 = n }) e in same))
+    (λ e. ap (λ (x : EdgeId). x.0) e) (decided_same a.0 b.0)
 
 -- Rows.
 
@@ -35,7 +38,8 @@ mates_decided d r m =
     decided_alike (λ (row, at_r, (mate, at_m, (one, other))). record { row = row; mate = mate; at_r = at_r; at_m = at_m; one_edge = one; opposite = other })
     (λ h. (h.row, h.at_r, (h.mate, h.at_m, (h.one_edge, h.opposite))))
     (decided_found (slice_get d.rows r) (λ row. (mate : Row) × (slice_get d.rows m ≡ Some mate) × AreOpposite row mate)
-    (λ row. decided_found (slice_get d.rows m) (AreOpposite row) (λ mate. decided_both (edge_id_decided row.edge mate.edge) (decided_bool row.along (not mate.along)))))
+    (λ row. decided_found (slice_get d.rows m) (AreOpposite row)
+    (λ mate. decided_both (edge_id_decided row.edge mate.edge) (decided_bool row.along (not mate.along)))))
 
 starts_decided : (d : ShellRows) (v r : ℕ) → Decided (StartsAt d v r)
 starts_decided d v r = decided_found (slice_get d.rows r) (λ (row : Row). row.from.0 ≡ v) (λ row. decided_same row.from.0 v)
@@ -46,7 +50,8 @@ on_face_decided d face r = decided_found (slice_get d.rows r) (λ (row : Row). r
 -- Turns.
 
 follows_decided : (d : ShellRows) (r s : ℕ) → Decided (Follows d r s)
-follows_decided d r s = decided_alike (λ (x, e, same). subst (λ z. slice_get d.follows r ≡ Some z) same e) (λ e. (s, e, refl)) (decided_found (slice_get d.follows r) (λ x. x ≡ s) (λ x. decided_same x s))
+follows_decided d r s = decided_alike (λ (x, e, same). subst (λ z. slice_get d.follows r ≡ Some z) same e) (λ e. (s, e, refl))
+    (decided_found (slice_get d.follows r) (λ x. x ≡ s) (λ x. decided_same x s))
 
 turns_decided : (d : ShellRows) (r s : ℕ) → Decided (Turns d r s)
 turns_decided d r s =
@@ -77,11 +82,13 @@ starts_within : (d : ShellRows) (v r : ℕ) → StartsAt d v r → r < length d.
 starts_within d v r (row, at_r, e) = slice_get_within d.rows r row at_r
 
 some_start : (d : ShellRows) (v : ℕ) → Decided ((r : ℕ) × StartsAt d v r)
-some_start d v = decided_alike (λ (r, lt, h). (r, h)) (λ (r, h). (r, starts_within d v r h, h)) (decided_bounded (StartsAt d v) (starts_decided d v) (length d.rows))
+some_start d v = decided_alike (λ (r, lt, h). (r, h)) (λ (r, h). (r, starts_within d v r h, h))
+    (decided_bounded (StartsAt d v) (starts_decided d v) (length d.rows))
 
 corner_decided : (d : ShellRows) (v : ℕ) → Decided (IsCorner d v)
 corner_decided d v =
-    decided_alike (λ (some, cycle, none). record { some = some; one_cycle = λ r s at_r at_s. cycle r (starts_within d v r at_r) s (starts_within d v s at_s) at_r at_s; no_point = none })
+    decided_alike (λ (some, cycle, none).
+    record { some = some; one_cycle = λ r s at_r at_s. cycle r (starts_within d v r at_r) s (starts_within d v s at_s) at_r at_s; no_point = none })
     (λ h. (h.some, (λ r lt s below at_r at_s. h.one_cycle r s at_r at_s), h.no_point))
     (decided_three (some_start d v) (decided_each (OneCycleFrom d v) (one_cycle_from d v) (length d.rows)) (decided_same (point_count d v) 0))
 
@@ -101,8 +108,11 @@ HasMateOn d a b r = (m : ℕ) × (m < length d.rows) × (AreMates d r m × OnFac
 neighbours_decided : (d : ShellRows) (a b : ℕ) → Decided (AreNeighbours d a b)
 neighbours_decided d a b =
     decided_alike (λ (r, lt, (m, below, (mates, on_a, on_b))). (r, m, mates, on_a, on_b))
-    (λ (r, m, mates, on_a, on_b). (r, slice_get_within d.rows r mates.row mates.at_r, (m, slice_get_within d.rows m mates.mate mates.at_m, (mates, on_a, on_b))))
-    (decided_bounded (HasMateOn d a b) (λ r. decided_bounded (λ m. AreMates d r m × OnFace d a r × OnFace d b m) (λ m. decided_three (mates_decided d r m) (on_face_decided d a r) (on_face_decided d b m)) (length d.rows)) (length d.rows))
+    (λ (r, m, mates, on_a, on_b).
+    (r, slice_get_within d.rows r mates.row mates.at_r, (m, slice_get_within d.rows m mates.mate mates.at_m, (mates, on_a, on_b))))
+    (decided_bounded (HasMateOn d a b)
+    (λ r. decided_bounded (λ m. AreMates d r m × OnFace d a r × OnFace d b m)
+    (λ m. decided_three (mates_decided d r m) (on_face_decided d a r) (on_face_decided d b m)) (length d.rows)) (length d.rows))
 
 face_number : Row → ℕ
 face_number row = row.at.face.0
@@ -144,7 +154,8 @@ shell_decided s (k, shell) =
     decided-append (joins ++ pairs ++ reaches ++ links) (apart_obligations s k d)
     (decided-append (joins ++ pairs ++ reaches) links
     (decided-append (joins ++ pairs) reaches
-    (decided-append joins pairs (join_decided s shell) (decided-map (λ e. at_edge Unpaired (edge_name (slice_get s.edges e)) (IsPaired d e)) (paired_decided d) d.edges))
+    (decided-append joins pairs (join_decided s shell)
+    (decided-map (λ e. at_edge Unpaired (edge_name (slice_get s.edges e)) (IsPaired d e)) (paired_decided d) d.edges))
     (decided-map (λ (f : ℕ × FaceUse). obligation Unreached f.1.entity.0 0 (IsReached d f.0)) (λ f. reached_decided d f.0) (enumerate_from 0 shell.faces)))
     (decided-map (λ v. at_vertex Unlinked (vertex_name (slice_get s.vertices v)) (IsLinked d v)) (linked_decided d) d.vertices))
     (apart_list_decided s k d)
@@ -155,4 +166,6 @@ solid_decided s = decided-of_each (shell_obligations s) (shell_decided s) (enume
 
 pub checked_decided : (s : SolidData) → AreDecided (checked_obligations s)
 unfolding checked_obligations
-checked_decided s = decided-of_each (checked_of_shell s) (λ (k, shell). decided-append (join_obligations s shell) (apart_obligations s k (shell_rows s shell)) (join_decided s shell) (apart_list_decided s k (shell_rows s shell))) (enumerate_from 0 s.shells)
+checked_decided s = decided-of_each (checked_of_shell s)
+    (λ (k, shell). decided-append (join_obligations s shell) (apart_obligations s k (shell_rows s shell)) (join_decided s shell)
+    (apart_list_decided s k (shell_rows s shell))) (enumerate_from 0 s.shells)

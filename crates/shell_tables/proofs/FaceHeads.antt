@@ -16,7 +16,8 @@ pub one_face : (d : ShellRows) (f g r : ℕ) → OnFace d f r → OnFace d g r �
 one_face d f g r (a, at_a, e) (b, at_b, k) = sym e ∙ (ap (λ (x : Row). x.at.face.0) (same_Some a b (sym at_a ∙ at_b)) ∙ k)
 
 pub face_low : (d : ShellRows) (f r : ℕ) → AreRows d → OnFace d f r → f < d.face_count
-face_low d f r rows (a, at, e) = subst (λ x. x < d.face_count) e (All-at (λ (x : Row). x.at.face.0 < d.face_count) d.rows rows.on_faces a (has_get d.rows r a at))
+face_low d f r rows (a, at, e) =
+    subst (λ x. x < d.face_count) e (All-at (λ (x : Row). x.at.face.0 < d.face_count) d.rows rows.on_faces a (has_get d.rows r a at))
 
 -- the rows from row i on are linked
 pub record HeadsFrom (d : ShellRows) (i : ℕ) (first next : List ℕ) : Type 0 where
@@ -25,7 +26,8 @@ pub record HeadsFrom (d : ShellRows) (i : ℕ) (first next : List ℕ) : Type 0 
   pub heads : (face : ℕ) → face < d.face_count → IsHead d face i (get_or first face 0)
   pub nexts : (r face : ℕ) → i ≤ r → OnFace d face r → IsHead d face (r + 1) (get_or next r 0)
 
-pub no_heads : (d : ShellRows) (i : ℕ) (first next : List ℕ) → i ≡ length d.rows → length first ≡ d.face_count → length next ≡ length d.rows → ((face : ℕ) → face < d.face_count → get_or first face 0 ≡ i) → HeadsFrom d i first next
+pub no_heads : (d : ShellRows) (i : ℕ) (first next : List ℕ) → i ≡ length d.rows → length first ≡ d.face_count → length next ≡ length d.rows
+    → ((face : ℕ) → face < d.face_count → get_or first face 0 ≡ i) → HeadsFrom d i first next
 no_heads d i first next end faces rows all_end = record {
   faces = faces;
   rows = rows;
@@ -53,7 +55,8 @@ later_or (suc i) zero h = absurd (omega (arith, h))
 later_or (suc i) (suc x) h = ⊎_elim (λ a. inl (ap suc a)) (λ b. inr (omega (arith, b))) (later_or i x (omega (arith, h)))
 
 -- the row before the linked ones is linked
-pub heads_step : (d : ShellRows) (j i f was : ℕ) (first next : List ℕ) → AreRows d → j ≡ i + 1 → OnFace d f i → was ≡ get_or first f was → HeadsFrom d j first next → HeadsFrom d i (slice_set first f i) (slice_set next i was)
+pub heads_step : (d : ShellRows) (j i f was : ℕ) (first next : List ℕ) → AreRows d → j ≡ i + 1 → OnFace d f i → was ≡ get_or first f was
+    → HeadsFrom d j first next → HeadsFrom d i (slice_set first f i) (slice_set next i was)
 heads_step d j i f was first next whole after on is_was h = record {
   faces = length-set first f i ∙ h.faces;
   rows = length-set next i was ∙ h.rows;
@@ -70,7 +73,8 @@ heads_step d j i f was first next whole after on is_was h = record {
     known : was ≡ get_or first f 0
     known = is_was ∙ default_apart first f was 0 f_low
 
-    by_face : (face : ℕ) → face < d.face_count → (((f == face) ≡ true) × (f ≡ face)) ⊎ (((f == face) ≡ false) × (f ≢ face)) → IsHead d face i (get_or (slice_set first f i) face 0)
+    by_face : (face : ℕ) → face < d.face_count → (((f == face) ≡ true) × (f ≡ face)) ⊎ (((f == face) ≡ false) × (f ≢ face))
+        → IsHead d face i (get_or (slice_set first f i) face 0)
     by_face face low (inl y) =
         let there : get_or (slice_set first f i) face 0 ≡ i = subst (λ k. get_or (slice_set first f i) k 0 ≡ i) y.1 (set_same first f i 0 f_low) in
         subst (IsHead d face i) (sym there) (record {
@@ -85,7 +89,8 @@ heads_step d j i f was first next whole after on is_was h = record {
           low = omega (arith, t.low, after);
           high = t.high;
           here = t.here;
-          all = λ x on_x le. ⊎_elim (λ a. absurd (n.1 (one_face d f face i on (subst (λ k. OnFace d face k) (sym a) on_x)))) (λ b. t.all x on_x (omega (arith, b, after))) (later_or i x le);
+          all = λ x on_x le. ⊎_elim (λ a. absurd (n.1 (one_face d f face i on (subst (λ k. OnFace d face k) (sym a) on_x))))
+              (λ b. t.all x on_x (omega (arith, b, after))) (later_or i x le);
         })
 
     by_row : (r face : ℕ) → OnFace d face r → (i ≡ r) ⊎ (i + 1 ≤ r) → IsHead d face (r + 1) (get_or (slice_set next i was) r 0)
@@ -93,7 +98,8 @@ heads_step d j i f was first next whole after on is_was h = record {
         let same : f ≡ face = one_face d f face i on (subst (λ k. OnFace d face k) (sym e) on_r) in
         let there : get_or (slice_set next i was) i 0 ≡ get_or first f 0 = set_same next i was 0 i_low ∙ known in
         let head : IsHead d f (i + 1) (get_or first f 0) = subst (λ k. IsHead d f k (get_or first f 0)) after (h.heads f (face_low d f i whole on)) in
-        subst (λ k. IsHead d face (k + 1) (get_or (slice_set next i was) k 0)) e (subst (IsHead d face (i + 1)) (sym there) (subst (λ k. IsHead d k (i + 1) (get_or first f 0)) same head))
+        subst (λ k. IsHead d face (k + 1) (get_or (slice_set next i was) k 0)) e
+        (subst (IsHead d face (i + 1)) (sym there) (subst (λ k. IsHead d k (i + 1) (get_or first f 0)) same head))
     by_row r face on_r (inr later) =
         let apart : i ≢ r = λ e. absurd (omega (arith, e, later)) in
         subst (IsHead d face (r + 1)) (sym (set_other next i r was 0 apart)) (h.nexts r face (omega (arith, later, after)) on_r)

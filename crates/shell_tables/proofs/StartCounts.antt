@@ -19,7 +19,8 @@ use Rattle.shell_tables.specs.declared.starting.Starts.{Starts}
 use Rattle.shell_tables.specs.declared.starting.Points.{Points}
 use Rattle.shell_tables.specs.Starting.{no_starts, one_start_more, AreStarts, no_points, one_point_more, ArePoints}
 
-split_times : {A : Type 0} (f : A → ℕ) (v : ℕ) (xs : List A) (i : ℕ) (x : A) → slice_get xs i ≡ Some x → times f v (drop i xs) ≡ one_if (f x == v) + times f v (drop (i + 1) xs)
+split_times : {A : Type 0} (f : A → ℕ) (v : ℕ) (xs : List A) (i : ℕ) (x : A) → slice_get xs i ≡ Some x → times f v (drop i xs) ≡ one_if (f x == v)
+    + times f v (drop (i + 1) xs)
 split_times f v xs i x h = ap (times f v) (split_at xs i x h)
 
 abbrev pub from_of : Row → ℕ
@@ -45,14 +46,18 @@ starts_done d i v m past h =
       least = λ x at. h.least x (omega (arith, past, slice_get_within d.rows x at.0 at.1)) at;
     }
 
-starts_other : (d : ShellRows) (i v : ℕ) (m : Starts) (row : Row) → slice_get d.rows i ≡ Some row → (row.from.0 == v) ≡ false → row.from.0 ≢ v → StartsBefore d i v m → StartsBefore d (i + 1) v m
+starts_other : (d : ShellRows) (i v : ℕ) (m : Starts) (row : Row) → slice_get d.rows i ≡ Some row → (row.from.0 == v) ≡ false → row.from.0 ≢ v
+    → StartsBefore d i v m → StartsBefore d (i + 1) v m
 starts_other d i v m row at differ ne h = record {
   count = omega (arith, h.count, split_times from_of v d.rows i row at, ap one_if differ);
   first = λ p. ((h.first p).0, omega (arith, (h.first p).1));
-  least = λ x lt s. ⊎_elim (λ low. h.least x low s) (λ le. let e : x ≡ i = omega (arith, le, lt) in absurd (ne (ap (λ (r : Row). r.from.0) (same_Some row s.0 (sym at ∙ (ap (λ k. slice_get d.rows k) (sym e) ∙ s.1))) ∙ s.2))) (cases_lt x i);
+  least = λ x lt s. ⊎_elim (λ low. h.least x low s)
+      (λ le. let e : x ≡ i = omega (arith, le, lt) in absurd
+      (ne (ap (λ (r : Row). r.from.0) (same_Some row s.0 (sym at ∙ (ap (λ k. slice_get d.rows k) (sym e) ∙ s.1))) ∙ s.2))) (cases_lt x i);
 }
 
-starts_this : (d : ShellRows) (i v : ℕ) (m : Starts) (row : Row) → slice_get d.rows i ≡ Some row → (row.from.0 == v) ≡ true → row.from.0 ≡ v → StartsBefore d i v m → StartsBefore d (i + 1) v (one_start_more m i)
+starts_this : (d : ShellRows) (i v : ℕ) (m : Starts) (row : Row) → slice_get d.rows i ≡ Some row → (row.from.0 == v) ≡ true → row.from.0 ≡ v
+    → StartsBefore d i v m → StartsBefore d (i + 1) v (one_start_more m i)
 starts_this d i v m row at alike same h = by_count (eqb_tells m.count 0)
   where
     counted : m.count + 1 + times from_of v (drop (i + 1) d.rows) ≡ times from_of v d.rows
@@ -70,16 +75,19 @@ starts_this d i v m row at alike same h = by_count (eqb_tells m.count 0)
       first = λ p. ((row, at, same), omega arith);
       least = λ x lt s. (omega arith, ⊎_elim (λ low. absurd (before x low s y.1)) (λ high. high) (cases_lt x i));
     })
-    by_count (inr n) = let p : 0 < m.count = omega (arith, n.1) in subst (λ b. StartsBefore d (i + 1) v (record { count = m.count + 1; first = (if b then i else m.first) })) (sym n.0) (record {
-      count = counted;
-      first = λ q. ((h.first p).0, omega (arith, (h.first p).1));
-      least = λ x lt s. (omega arith, old_first x lt s p);
-    })
+    by_count (inr n) = let p : 0 < m.count = omega (arith, n.1) in subst
+        (λ b. StartsBefore d (i + 1) v (record { count = m.count + 1; first = (if b then i else m.first) })) (sym n.0) (record {
+          count = counted;
+          first = λ q. ((h.first p).0, omega (arith, (h.first p).1));
+          least = λ x lt s. (omega arith, old_first x lt s p);
+        })
 
 -- one row is counted
-pub starts_step : (d : ShellRows) (i : ℕ) (span : Span) (row : Row) (old : List Starts) (was new : Starts) → slice_get d.rows i ≡ Some row → length old ≡ span.count
+pub starts_step : (d : ShellRows) (i : ℕ) (span : Span) (row : Row) (old : List Starts) (was new : Starts) → slice_get d.rows i ≡ Some row
+    → length old ≡ span.count
     → AllByRecursion (λ (r : Row). IsWithin span r.from.0) d.rows → ((v : ℕ) → IsWithin span v → StartsBefore d i v (get_or old (v - span.least) no_starts))
-    → was ≡ get_or old (row.from.0 - span.least) no_starts → new ≡ one_start_more was i → (v : ℕ) → IsWithin span v → StartsBefore d (i + 1) v (get_or (slice_set old (row.from.0 - span.least) new) (v - span.least) no_starts)
+    → was ≡ get_or old (row.from.0 - span.least) no_starts → new ≡ one_start_more was i → (v : ℕ) → IsWithin span v
+    → StartsBefore d (i + 1) v (get_or (slice_set old (row.from.0 - span.least) new) (v - span.least) no_starts)
 starts_step d i span row old was new at long below each is_was is_new v low = by_vertex (eqb_tells row.from.0 v)
   where
     in_span : IsWithin span row.from.0
@@ -94,18 +102,23 @@ starts_step d i span row old was new at long below each is_was is_new v low = by
     known : was ≡ get_or old k no_starts
     known = is_was
 
-    by_vertex : (((row.from.0 == v) ≡ true) × (row.from.0 ≡ v)) ⊎ (((row.from.0 == v) ≡ false) × (row.from.0 ≢ v)) → StartsBefore d (i + 1) v (get_or (slice_set old (row.from.0 - span.least) new) (v - span.least) no_starts)
+    by_vertex : (((row.from.0 == v) ≡ true) × (row.from.0 ≡ v)) ⊎ (((row.from.0 == v) ≡ false) × (row.from.0 ≢ v))
+        → StartsBefore d (i + 1) v (get_or (slice_set old (row.from.0 - span.least) new) (v - span.least) no_starts)
     by_vertex (inl y) =
         let place : k ≡ v - span.least = ap (λ n. n - span.least) y.1 in
         let before : StartsBefore d i v was = subst (StartsBefore d i v) (sym (known ∙ ap (λ n. get_or old n no_starts) place)) (each v low) in
-        let there : get_or (slice_set old k new) (v - span.least) no_starts ≡ new = subst (λ n. get_or (slice_set old k new) n no_starts ≡ new) place (set_same old k new no_starts in_old) in
+        let there : get_or (slice_set old k new) (v - span.least) no_starts ≡ new = subst (λ n. get_or (slice_set old k new) n no_starts ≡ new) place
+        (set_same old k new no_starts in_old) in
         subst (StartsBefore d (i + 1) v) (sym (there ∙ is_new)) (starts_this d i v was row at y.0 y.1 before)
     by_vertex (inr n) =
         let apart : k ≢ v - span.least = λ e. n.1 (omega (arith, e, in_span.0, low.0)) in
-        subst (StartsBefore d (i + 1) v) (sym (set_other old k (v - span.least) new no_starts apart)) (starts_other d i v (get_or old (v - span.least) no_starts) row at n.0 n.1 (each v low))
+        subst (StartsBefore d (i + 1) v) (sym (set_other old k (v - span.least) new no_starts apart))
+        (starts_other d i v (get_or old (v - span.least) no_starts) row at n.0 n.1 (each v low))
 
-pub starts_room : (d : ShellRows) (i : ℕ) (span : Span) (n : ℕ) (row : Row) (old : List Starts) (was : Starts) → slice_get d.rows i ≡ Some row → length old ≡ span.count
-    → AllByRecursion (λ (r : Row). IsWithin span r.from.0) d.rows → ((v : ℕ) → IsWithin span v → StartsBefore d i v (get_or old (v - span.least) no_starts)) → was ≡ get_or old (row.from.0 - span.least) no_starts → length d.rows < n → was.count < n
+pub starts_room : (d : ShellRows) (i : ℕ) (span : Span) (n : ℕ) (row : Row) (old : List Starts) (was : Starts) → slice_get d.rows i ≡ Some row
+    → length old ≡ span.count
+    → AllByRecursion (λ (r : Row). IsWithin span r.from.0) d.rows → ((v : ℕ) → IsWithin span v → StartsBefore d i v (get_or old (v - span.least) no_starts))
+    → was ≡ get_or old (row.from.0 - span.least) no_starts → length d.rows < n → was.count < n
 starts_room d i span n row old was at long below each is_was few =
     let low : IsWithin span row.from.0 = All-at (λ (r : Row). IsWithin span r.from.0) d.rows below row (has_get d.rows i row at) in
     let known : was ≡ get_or old (row.from.0 - span.least) no_starts = is_was in
@@ -124,12 +137,15 @@ points_none d v = record { count = omega arith; last = λ h. absurd (omega (arit
 
 pub points_done : (d : ShellRows) (i v : ℕ) (m : Points) → length d.points ≤ i → PointsBefore d i v m → ArePoints d v m
 points_done d i v m past h =
-    let k : m.count + 0 ≡ times vertex_of v d.points = subst (λ ps. m.count + times vertex_of v ps ≡ times vertex_of v d.points) (drop_all i d.points past) h.count in
+    let k : m.count + 0 ≡ times vertex_of v d.points = subst (λ ps. m.count + times vertex_of v ps ≡ times vertex_of v d.points) (drop_all i d.points past)
+    h.count in
     record { count = omega (arith, k, count_by-total (λ (p : LoopAt × ℕ). p.1 == v) d.points); last = h.last }
 
-pub points_step : (d : ShellRows) (i : ℕ) (span : Span) (vertex : ℕ) (at : LoopAt) (old : List Points) (was new : Points) → slice_get d.points i ≡ Some (at, vertex) → length old ≡ span.count
+pub points_step : (d : ShellRows) (i : ℕ) (span : Span) (vertex : ℕ) (at : LoopAt) (old : List Points) (was new : Points)
+    → slice_get d.points i ≡ Some (at, vertex) → length old ≡ span.count
     → AllByRecursion (λ (p : LoopAt × ℕ). IsWithin span p.1) d.points → ((v : ℕ) → IsWithin span v → PointsBefore d i v (get_or old (v - span.least) no_points))
-    → was ≡ get_or old (vertex - span.least) no_points → new ≡ one_point_more was at → (v : ℕ) → IsWithin span v → PointsBefore d (i + 1) v (get_or (slice_set old (vertex - span.least) new) (v - span.least) no_points)
+    → was ≡ get_or old (vertex - span.least) no_points → new ≡ one_point_more was at → (v : ℕ) → IsWithin span v
+    → PointsBefore d (i + 1) v (get_or (slice_set old (vertex - span.least) new) (v - span.least) no_points)
 points_step d i span vertex at old was new here long below each is_was is_new v low = by_vertex (eqb_tells vertex v)
   where
     has : Has d.points (at, vertex)
@@ -147,11 +163,13 @@ points_step d i span vertex at old was new here long below each is_was is_new v 
     known : was ≡ get_or old k no_points
     known = is_was
 
-    by_vertex : (((vertex == v) ≡ true) × (vertex ≡ v)) ⊎ (((vertex == v) ≡ false) × (vertex ≢ v)) → PointsBefore d (i + 1) v (get_or (slice_set old (vertex - span.least) new) (v - span.least) no_points)
+    by_vertex : (((vertex == v) ≡ true) × (vertex ≡ v)) ⊎ (((vertex == v) ≡ false) × (vertex ≢ v))
+        → PointsBefore d (i + 1) v (get_or (slice_set old (vertex - span.least) new) (v - span.least) no_points)
     by_vertex (inl y) =
         let place : k ≡ v - span.least = ap (λ n. n - span.least) y.1 in
         let before : PointsBefore d i v was = subst (PointsBefore d i v) (sym (known ∙ ap (λ n. get_or old n no_points) place)) (each v low) in
-        let there : get_or (slice_set old k new) (v - span.least) no_points ≡ new = subst (λ n. get_or (slice_set old k new) n no_points ≡ new) place (set_same old k new no_points in_old) in
+        let there : get_or (slice_set old k new) (v - span.least) no_points ≡ new = subst (λ n. get_or (slice_set old k new) n no_points ≡ new) place
+        (set_same old k new no_points in_old) in
         subst (PointsBefore d (i + 1) v) (sym (there ∙ is_new)) (record {
           count = omega (arith, before.count, split_times vertex_of v d.points i (at, vertex) here, ap one_if y.0);
           last = λ p. Contains-from_Has d.points (at, v) (subst (λ n. Has d.points (at, n)) y.1 has);
@@ -163,16 +181,21 @@ points_step d i span vertex at old was new here long below each is_was is_new v 
           last = (each v low).last;
         })
 
-pub points_room : (d : ShellRows) (i : ℕ) (span : Span) (n vertex : ℕ) (at : LoopAt) (old : List Points) (was : Points) → slice_get d.points i ≡ Some (at, vertex) → length old ≡ span.count
-    → AllByRecursion (λ (p : LoopAt × ℕ). IsWithin span p.1) d.points → ((v : ℕ) → IsWithin span v → PointsBefore d i v (get_or old (v - span.least) no_points)) → was ≡ get_or old (vertex - span.least) no_points → length d.points < n → was.count < n
+pub points_room : (d : ShellRows) (i : ℕ) (span : Span) (n vertex : ℕ) (at : LoopAt) (old : List Points) (was : Points)
+    → slice_get d.points i ≡ Some (at, vertex) → length old ≡ span.count
+    → AllByRecursion (λ (p : LoopAt × ℕ). IsWithin span p.1) d.points
+    → ((v : ℕ) → IsWithin span v → PointsBefore d i v (get_or old (v - span.least) no_points)) → was ≡ get_or old (vertex - span.least) no_points
+    → length d.points < n → was.count < n
 points_room d i span n vertex at old was here long below each is_was few =
     let low : IsWithin span vertex = All-at (λ (p : LoopAt × ℕ). IsWithin span p.1) d.points below (at, vertex) (has_get d.points i (at, vertex) here) in
     let known : was ≡ get_or old (vertex - span.least) no_points = is_was in
     let before : PointsBefore d i vertex was = subst (PointsBefore d i vertex) (sym known) (each vertex low) in
     omega (arith, before.count, few, times_few vertex_of vertex d.points)
 
-pub vertex_low : (d : ShellRows) (i : ℕ) (span : Span) (vertex : ℕ) (at : LoopAt) → slice_get d.points i ≡ Some (at, vertex) → AllByRecursion (λ (p : LoopAt × ℕ). IsWithin span p.1) d.points → IsWithin span vertex
+pub vertex_low : (d : ShellRows) (i : ℕ) (span : Span) (vertex : ℕ) (at : LoopAt) → slice_get d.points i ≡ Some (at, vertex)
+    → AllByRecursion (λ (p : LoopAt × ℕ). IsWithin span p.1) d.points → IsWithin span vertex
 vertex_low d i span vertex at here below = All-at (λ (p : LoopAt × ℕ). IsWithin span p.1) d.points below (at, vertex) (has_get d.points i (at, vertex) here)
 
-pub from_low : (d : ShellRows) (i : ℕ) (span : Span) (row : Row) → slice_get d.rows i ≡ Some row → AllByRecursion (λ (r : Row). IsWithin span r.from.0) d.rows → IsWithin span row.from.0
+pub from_low : (d : ShellRows) (i : ℕ) (span : Span) (row : Row) → slice_get d.rows i ≡ Some row → AllByRecursion (λ (r : Row). IsWithin span r.from.0) d.rows
+    → IsWithin span row.from.0
 from_low d i span row at below = All-at (λ (r : Row). IsWithin span r.from.0) d.rows below row (has_get d.rows i row at)

@@ -1,5 +1,6 @@
 -- What the entries of a file take of its bytes.
-use Rattle.std.proofs.Common.{◌≡◌, ℕ, zero, suc, ◌+◌, ◌-◌, ◌*◌, ◌≤◌, Bool, true, false, List, [], ◌∷◌, ◌++◌, length, take, drop, ℤ, pos, Some, None, ap, arith, length-append}
+use Rattle.std.proofs.Common.{◌≡◌, ℕ, zero, suc, ◌+◌, ◌-◌, ◌*◌, ◌≤◌, Bool, true, false, List, [], ◌∷◌, ◌++◌, length, take, drop, ℤ, pos, Some, None, ap, arith}
+use Rattle.std.proofs.Common.{length-append}
 use Rattle.std.specs.Prelude.{MatchBool, unsigned_abs, flat_map}
 use Rattle.std.specs.List.{AllZip, list_all}
 use Rattle.std.specs.Ordering.{int_eq}
@@ -88,7 +89,8 @@ text_64 : (ls : List (List ℕ)) → length (flat_map (columns 1 64) ls) ≤ 64 
 text_64 [] = omega arith
 text_64 (l ∷ ls) = omega (arith, length-append (columns 1 64 l) (flat_map (columns 1 64) ls), columns_short 1 64 l, text_64 ls)
 
-record_room : (params : List (List ℕ)) (d : Delims) (number : ℕ) (p : Placed) (values : List Value) → HasRecord params d number p values → values_room values ≤ 64 * own number params
+record_room : (params : List (List ℕ)) (d : Delims) (number : ℕ) (p : Placed) (values : List Value) → HasRecord params d number p values
+    → values_room values ≤ 64 * own number params
 record_room params d number p values h = by_kind (int_eq p.entry.kind (pos 0)) h
   where
     by_kind : (b : Bool) → MatchBool b (values ≡ []) (IsRecord params d number p values) → values_room values ≤ 64 * own number params
@@ -162,6 +164,7 @@ pub file_fits : (bytes : List ℕ) (f : Contents) → length bytes ≤ FILE_LIMI
 file_fits bytes f limit h =
     let within = entries_room bytes f limit h in
     let counted = entries_count f.entries in
-    let summed : value_count f.entries ≡ 0 + total (λ (e : Entry × List Value). length e.1) f.entries = fold-total (λ (e : Entry × List Value). length e.1) 0 f.entries in
+    let summed : value_count f.entries ≡ 0 + total (λ (e : Entry × List Value). length e.1) f.entries =
+    fold-total (λ (e : Entry × List Value). length e.1) 0 f.entries in
     let values : value_count f.entries ≤ 164000000 = omega (arith, within, counted, summed) in
     record { entries = omega (arith, within, counted); values = values }

@@ -1,5 +1,6 @@
 -- How long a certificate is whose lines are legal for a solid.
-use Rattle.std.proofs.Common.{◌≡◌, ℕ, suc, ◌+◌, ◌*◌, ◌<◌, ◌≤◌, Bool, true, false, cond, ltb, List, [], ◌∷◌, length, map, drop, Option, Some, None, refl, sym, ap, ◌∙◌, arith, length-append}
+use Rattle.std.proofs.Common.{◌≡◌, ℕ, suc, ◌+◌, ◌*◌, ◌<◌, ◌≤◌, Bool, true, false, cond, ltb, List, [], ◌∷◌, length, map, drop, Option, Some, None, refl, sym}
+use Rattle.std.proofs.Common.{ap, ◌∙◌, arith, length-append}
 use Rattle.std.specs.Prelude.{◌==◌, flat_map, count_by, filter_map}
 use Rattle.std.specs.List.{cons_option}
 use Rattle.std.proofs.lemmas.Bool.Decides.{nat_tests}
@@ -17,7 +18,8 @@ use Rattle.cert_lines.specs.declared.counts.ShellCounts.{ShellCounts}
 use Rattle.cert_lines.specs.declared.counts.Tally.{Tally}
 use Rattle.cert_lines.specs.declared.version.Version.{Version}
 use Rattle.cert_lines.specs.declared.version.Version.TheVariants.{One, Two, Three}
-use Rattle.topo_certificate.specs.Stand.{Stand, NoneDue, stand_from_latest, tallies, row_edge, rows_of_shell, IsAbove, FitsShell, FitsEdge, FitsCorner, FitsPoint, FitsReach, FitsLine}
+use Rattle.topo_certificate.specs.Stand.{Stand, NoneDue, stand_from_latest, tallies, row_edge, rows_of_shell, IsAbove, FitsShell, FitsEdge, FitsCorner}
+use Rattle.topo_certificate.specs.Stand.{FitsPoint, FitsReach, FitsLine}
 use Rattle.topo_certificate.specs.Legal.{IsLegal}
 use Rattle.topo_certificate.specs.After.{IsLegalAfter}
 use Rattle.topo_certificate.proofs.Short.{length-spaced}
@@ -90,7 +92,8 @@ row_start_of r = r.from.0
 abbrev point_vertex : LoopAt × ℕ → ℕ
 point_vertex p = p.1
 
--- the most bytes that the lines of a shell take: its SHELL and TALLY lines, its E and C lines by its rows, its I lines by its loops without an edge, and its R lines by its faces
+-- the most bytes that the lines of a shell take: its SHELL and TALLY lines, its E and C lines by its rows, its I lines by its loops without an edge, and its R
+-- lines by its faces
 abbrev pub shell_room : ShellRows → ℕ
 shell_room d = 102 + 23 * length d.rows + 22 * length d.points + 12 * d.face_count
 
@@ -107,7 +110,8 @@ end_room ended = cond ended 0 4
 
 -- the most bytes of the lines that may come at this stand
 abbrev stand_room : SolidData → Stand → ℕ
-stand_room s at = 22 * at.due.edges + corners_room (rows_of_shell s at.shell) at.last_vertex + 12 * at.due.reach + 46 * at.due.tally + shells_room s (drop at.shell s.shells) + end_room at.ended
+stand_room s at = 22 * at.due.edges + corners_room (rows_of_shell s at.shell) at.last_vertex + 12 * at.due.reach + 46 * at.due.tally
+    + shells_room s (drop at.shell s.shells) + end_room at.ended
 
 abbrev Shortens : Version → SolidData → List CertLine → CertLine → Type 0
 Shortens v s lines line = length (spelling line) + stand_room s (stand_from_latest v s (line ∷ lines)) ≤ stand_room s (stand_from_latest v s lines)
@@ -117,7 +121,8 @@ tallies_one One = omega arith
 tallies_one Two = omega arith
 tallies_one Three = omega arith
 
-shell_shortens : (v : Version) (s : SolidData) (lines : List CertLine) (k : ℕ) (c : ShellCounts) → NoneDue (stand_from_latest v s lines).due × FitsShell s (stand_from_latest v s lines) k c → HasSpelling (shell k c) → Shortens v s lines (shell k c)
+shell_shortens : (v : Version) (s : SolidData) (lines : List CertLine) (k : ℕ) (c : ShellCounts) → NoneDue (stand_from_latest v s lines).due
+    × FitsShell s (stand_from_latest v s lines) k c → HasSpelling (shell k c) → Shortens v s lines (shell k c)
 shell_shortens v s lines k c fits spelled =
     let at : Stand = stand_from_latest v s lines in
     let next : k ≡ at.shell + 1 = fits.1.next in
@@ -126,18 +131,35 @@ shell_shortens v s lines k c fits spelled =
     let is : rows_of_shell s k ≡ d = ap (rows_of_shell s) (let e : k ≡ suc at.shell = omega (arith, next) in e) ∙ ap (rows_of s) here.1 in
     let rows : c.rows ≡ length d.rows = fits.1.rows_counted ∙ ap (λ (x : ShellRows). length x.rows) is in
     let faces : c.faces ≡ d.face_count = fits.1.faces_counted ∙ ap (λ (x : ShellRows). x.face_count) is in
-    let now : corners_room (rows_of_shell s (at.shell + 1)) None ≡ corners_room d None = ap (λ (x : ShellRows). corners_room x None) (ap (rows_of_shell s) (sym next) ∙ is) in
+    let now : corners_room (rows_of_shell s (at.shell + 1)) None ≡ corners_room d None =
+    ap (λ (x : ShellRows). corners_room x None) (ap (rows_of_shell s) (sym next) ∙ is) in
     let after = ap (stand_room s) (shell_stand v s lines k c) in
     let left = ap (shells_room s) (split_at s.shells at.shell here.0 here.1) in
-    omega (arith, after, left, now, rows, faces, fits.1.two_rows_each, above_all row_start_of d.rows, above_all point_vertex d.points, shell_long k c spelled, tallies_one v)
+    omega (
+      arith,
+      after,
+      left,
+      now,
+      rows,
+      faces,
+      fits.1.two_rows_each,
+      above_all row_start_of d.rows,
+      above_all point_vertex d.points,
+      shell_long k c spelled,
+      tallies_one v,
+    )
 
-edge_shortens : (v : Version) (s : SolidData) (lines : List CertLine) (a b : ℕ) → (let at : Stand = stand_from_latest v s lines in (0 < at.due.edges) × FitsEdge (rows_of_shell s at.shell) at a b) → HasSpelling (edge a b) → Shortens v s lines (edge a b)
+edge_shortens : (v : Version) (s : SolidData) (lines : List CertLine) (a b : ℕ)
+    → (let at : Stand = stand_from_latest v s lines in (0 < at.due.edges) × FitsEdge (rows_of_shell s at.shell) at a b) → HasSpelling (edge a b)
+    → Shortens v s lines (edge a b)
 edge_shortens v s lines a b fits spelled =
     let at : Stand = stand_from_latest v s lines in
     let after = ap (stand_room s) (edge_stand v s lines a b fits.1.along_row.edge.0 (ap row_edge fits.1.at_a)) in
     omega (arith, after, fits.0, edge_long a b spelled)
 
-corner_shortens : (v : Version) (s : SolidData) (lines : List CertLine) (r : ℕ) (rs : List ℕ) → (let at : Stand = stand_from_latest v s lines in FitsCorner (rows_of_shell s at.shell) at r rs) → HasSpelling (corner (r ∷ rs)) → Shortens v s lines (corner (r ∷ rs))
+corner_shortens : (v : Version) (s : SolidData) (lines : List CertLine) (r : ℕ) (rs : List ℕ)
+    → (let at : Stand = stand_from_latest v s lines in FitsCorner (rows_of_shell s at.shell) at r rs) → HasSpelling (corner (r ∷ rs))
+    → Shortens v s lines (corner (r ∷ rs))
 corner_shortens v s lines r rs fits spelled =
     let at : Stand = stand_from_latest v s lines in
     let d : ShellRows = rows_of_shell s at.shell in
@@ -151,7 +173,9 @@ corner_shortens v s lines r rs fits spelled =
       above_less point_vertex at.last_vertex fits.vertex d.points fits.rises,
     )
 
-point_shortens : (v : Version) (s : SolidData) (lines : List CertLine) (face l : ℕ) → (let at : Stand = stand_from_latest v s lines in FitsPoint (rows_of_shell s at.shell) at face l) → HasSpelling (point face l) → Shortens v s lines (point face l)
+point_shortens : (v : Version) (s : SolidData) (lines : List CertLine) (face l : ℕ)
+    → (let at : Stand = stand_from_latest v s lines in FitsPoint (rows_of_shell s at.shell) at face l) → HasSpelling (point face l)
+    → Shortens v s lines (point face l)
 point_shortens v s lines face l fits spelled =
     let at : Stand = stand_from_latest v s lines in
     let d : ShellRows = rows_of_shell s at.shell in
@@ -165,12 +189,15 @@ point_shortens v s lines face l fits spelled =
       above_less point_vertex at.last_vertex fits.vertex d.points fits.rises,
     )
 
-reach_shortens : (v : Version) (s : SolidData) (lines : List CertLine) (r : ℕ) → (let at : Stand = stand_from_latest v s lines in (0 < at.due.reach) × FitsReach (rows_of_shell s at.shell) at r) → HasSpelling (reach r) → Shortens v s lines (reach r)
+reach_shortens : (v : Version) (s : SolidData) (lines : List CertLine) (r : ℕ)
+    → (let at : Stand = stand_from_latest v s lines in (0 < at.due.reach) × FitsReach (rows_of_shell s at.shell) at r) → HasSpelling (reach r)
+    → Shortens v s lines (reach r)
 reach_shortens v s lines r fits spelled =
     let after = ap (stand_room s) (reach_stand v s lines r fits.1.face fits.1.on_face) in
     omega (arith, after, fits.0, reach_long r spelled)
 
-tally_shortens : (v : Version) (s : SolidData) (lines : List CertLine) (t : Tally) → 0 < (stand_from_latest v s lines).due.tally → HasSpelling (tally t) → Shortens v s lines (tally t)
+tally_shortens : (v : Version) (s : SolidData) (lines : List CertLine) (t : Tally) → 0 < (stand_from_latest v s lines).due.tally → HasSpelling (tally t)
+    → Shortens v s lines (tally t)
 tally_shortens v s lines t due spelled =
     let after = ap (stand_room s) (tally_stand v s lines t) in
     omega (arith, after, due, tally_long t spelled)
@@ -182,7 +209,8 @@ end_shortens v s lines open_still =
     omega (arith, after, four)
 
 -- A line that fits takes no more bytes than those by which it shortens the lines that may come.
-line_shortens : (v : Version) (s : SolidData) (lines : List CertLine) (line : CertLine) → FitsLine s (stand_from_latest v s lines) line → HasSpelling line → Shortens v s lines line
+line_shortens : (v : Version) (s : SolidData) (lines : List CertLine) (line : CertLine) → FitsLine s (stand_from_latest v s lines) line → HasSpelling line
+    → Shortens v s lines line
 line_shortens v s lines (head w) fits spelled = absurd fits.1
 line_shortens v s lines (solid n) fits spelled = absurd fits.1
 line_shortens v s lines (shell k c) fits spelled = shell_shortens v s lines k c fits.1 spelled
@@ -199,7 +227,8 @@ line_shortens v s lines end fits spelled = end_shortens v s lines fits.0
 abbrev pub lines_long : List (List ℕ) → ℕ
 lines_long lines = total (λ (l : List ℕ). length l) lines
 
-lines_within : (v : Version) (s : SolidData) (before : List CertLine) (lines : List (List ℕ)) → IsLegalAfter v s before lines → lines_long lines ≤ stand_room s (stand_from_latest v s before)
+lines_within : (v : Version) (s : SolidData) (before : List CertLine) (lines : List (List ℕ)) → IsLegalAfter v s before lines
+    → lines_long lines ≤ stand_room s (stand_from_latest v s before)
 lines_within v s before [] h = omega arith
 lines_within v s before (bytes ∷ rest) (line, is, fits, more) =
     let long : length bytes ≡ length (spelling line) = ap length is.1.1 in
@@ -240,7 +269,8 @@ loop_few s p =
     let many : length (edge_numbers (loop_rows s p)) ≡ length (loop_rows s p) = length-map (loop_rows s p) (λ (r : Row). r.edge.0) in
     omega (arith, many, point_few p p.loop.uses (edge_numbers (loop_rows s p)) (omega (arith, many, row_few s p p.loop.uses)))
 
-loops_few : (s : SolidData) (ps : List PlacedLoop) → length (flat_map (loop_rows s) ps) + length (flat_map (points_in s) ps) ≤ length (flat_map (λ (p : PlacedLoop). p.loop.uses) ps)
+loops_few : (s : SolidData) (ps : List PlacedLoop) → length (flat_map (loop_rows s) ps) + length (flat_map (points_in s) ps)
+    ≤ length (flat_map (λ (p : PlacedLoop). p.loop.uses) ps)
 loops_few s [] = omega arith
 loops_few s (p ∷ ps) =
     omega (
@@ -282,6 +312,7 @@ pub cut_long : (bytes : List ℕ) → lines_long (cut_lines bytes) ≡ length by
 cut_long [] = refl
 cut_long (b ∷ bs) = by_test (b == 10) (put_long b (cut_lines bs)) (cut_long bs)
   where
-    by_test : (t : Bool) → lines_long (put_before b (cut_lines bs)) ≡ suc (lines_long (cut_lines bs)) → lines_long (cut_lines bs) ≡ length bs → lines_long (cond t ((b ∷ []) ∷ cut_lines bs) (put_before b (cut_lines bs))) ≡ suc (length bs)
+    by_test : (t : Bool) → lines_long (put_before b (cut_lines bs)) ≡ suc (lines_long (cut_lines bs)) → lines_long (cut_lines bs) ≡ length bs
+        → lines_long (cond t ((b ∷ []) ∷ cut_lines bs) (put_before b (cut_lines bs))) ≡ suc (length bs)
     by_test true put rest = omega (arith, rest)
     by_test false put rest = omega (arith, put, rest)

@@ -20,7 +20,8 @@ use Rattle.size_laws.proofs.Lines.{lines_long, legal_long, shells_few, cut_long}
 use Rattle.size_laws.proofs.Uses.{uses_within, shells_fewer}
 
 -- Beside 132 bytes the certificate has 23 at most for a use, which takes 8 of the file, and 114 at most for a face and its shell, which take 160.
-pub legal_is_small : (bytes : List ℕ) (f : Contents) (v : Version) (n : ℕ) (certificate : List ℕ) (rest : List (List ℕ)) → length bytes ≤ FILE_LIMIT → IsFile bytes f
+pub legal_is_small : (bytes : List ℕ) (f : Contents) (v : Version) (n : ℕ) (certificate : List ℕ) (rest : List (List ℕ)) → length bytes ≤ FILE_LIMIT
+    → IsFile bytes f
     → AllHold (places f n) → Opens certificate v n rest → IsLegal v (solid_of f n) rest → length certificate ≤ 536870912
 legal_is_small bytes f v n certificate rest limit file placed opens legal =
     let s : SolidData = solid_of f n in

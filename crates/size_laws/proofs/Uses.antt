@@ -1,5 +1,6 @@
 -- What the loops of a solid take of a file's bytes.
-use Rattle.std.specs.Prelude.{◌≡◌, ℕ, zero, suc, ◌+◌, ◌*◌, ◌/◌, ◌%◌, ◌<◌, ◌≤◌, ◌==◌, IsSomeAnd, if◌then◌else◌, Bool, true, false, ℤ, pos, negsuc, List, [], ◌∷◌, ◌++◌, length, map, flat_map, drop, Option, Some, None, slice_get}
+use Rattle.std.specs.Prelude.{◌≡◌, ℕ, zero, suc, ◌+◌, ◌*◌, ◌/◌, ◌%◌, ◌<◌, ◌≤◌, ◌==◌, IsSomeAnd, if◌then◌else◌, Bool, true, false, ℤ, pos, negsuc, List, [], ◌∷◌}
+use Rattle.std.specs.Prelude.{◌++◌, length, map, flat_map, drop, Option, Some, None, slice_get}
 use Rattle.std.specs.Ordering.{int_eq}
 use Rattle.std.proofs.Common.{refl, sym, ◌∙◌, ap, subst, arith, inl, inr, length-append, get_or}
 use Rattle.std.proofs.lemmas.Grind.{flat_map-append}
@@ -70,7 +71,8 @@ record_room (v ∷ vs) h = omega (arith, tuples_room (items_of «loop» (v ∷ v
 loop_room : (f : Contents) (l : ℤ) → HasRecordOf «loop» f l → 8 * length (tuples f l) ≤ values_room (values_of f l)
 loop_room f l h = by_entry (named f l) h
   where
-    by_entry : (o : Option (Entry × List Value)) → IsSomeAnd o (λ e. IsRecordOf «loop» e.1) → 8 * length (items_of «loop» (record_values o)) ≤ values_room (record_values o)
+    by_entry : (o : Option (Entry × List Value)) → IsSomeAnd o (λ e. IsRecordOf «loop» e.1) → 8 * length (items_of «loop» (record_values o))
+        ≤ values_room (record_values o)
     by_entry None h = absurd h
     by_entry (Some e) h = record_room e.1 h
 
@@ -190,7 +192,8 @@ unless_room false e = omega arith
 values_there : (f : Contents) (n : ℕ) (e : Entry × List Value) → slice_get f.entries (n / 2) ≡ Some e → values_room (values_of f (pos n)) ≤ values_room e.1
 values_there f n e at = by_odd (n % 2 == 1) (slice_get f.entries (n / 2)) at
   where
-    by_odd : (b : Bool) (o : Option (Entry × List Value)) → o ≡ Some e → values_room (record_values (if b then unless_unused kind_of o else None)) ≤ values_room e.1
+    by_odd : (b : Bool) (o : Option (Entry × List Value)) → o ≡ Some e → values_room (record_values (if b then unless_unused kind_of o else None))
+        ≤ values_room e.1
     by_odd false o h = omega arith
     by_odd true None h = absurd (let g : None ≡ Some e = h in cc)
     by_odd true (Some x) h = omega (arith, unless_room (int_eq x.0.kind (pos 0)) x, ap (λ (y : Entry × List Value). values_room y.1) (same_Some x e h))
@@ -198,13 +201,17 @@ values_there f n e at = by_odd (n % 2 == 1) (slice_get f.entries (n / 2)) at
 one_loop : (f : Contents) (l : ℤ) → IsKnown f l → 160 + 8 * length (tuples f l) ≤ get_or (rooms f) (place_of_number l) 0
 one_loop f l known =
     let name : IsNamed f l = known.name in
-    let at : get_or (rooms f) (place_of_number l) 0 ≡ entry_room name.entry = ap (λ z. get_or (rooms f) (place_of_number z) 0) name.is ∙ room_at f.entries (name.number / 2) name.entry name.there in
-    let values : values_room (values_of f l) ≤ values_room name.entry.1 = subst (λ z. values_room (values_of f z) ≤ values_room name.entry.1) (sym name.is) (values_there f name.number name.entry name.there) in
+    let at : get_or (rooms f) (place_of_number l) 0 ≡ entry_room name.entry = ap (λ z. get_or (rooms f) (place_of_number z) 0) name.is
+    ∙ room_at f.entries (name.number / 2) name.entry name.there in
+    let values : values_room (values_of f l) ≤ values_room name.entry.1 = subst (λ z. values_room (values_of f z) ≤ values_room name.entry.1) (sym name.is)
+    (values_there f name.number name.entry name.there) in
     omega (arith, at, values, loop_room f l known.told)
 
-loops_taken : (f : Contents) (ls : List ℤ) → ((l : ℤ) → Has ls l → IsKnown f l) → 160 * length ls + 8 * length (flat_map (tuples f) ls) ≤ taken (rooms f) (map place_of_number ls)
+loops_taken : (f : Contents) (ls : List ℤ) → ((l : ℤ) → Has ls l → IsKnown f l) → 160 * length ls + 8 * length (flat_map (tuples f) ls)
+    ≤ taken (rooms f) (map place_of_number ls)
 loops_taken f [] h = omega arith
-loops_taken f (l ∷ ls) h = omega (arith, length-append (tuples f l) (flat_map (tuples f) ls), one_loop f l (h l (inl refl)), loops_taken f ls (λ z m. h z (inr m)))
+loops_taken f (l ∷ ls) h =
+    omega (arith, length-append (tuples f l) (flat_map (tuples f) ls), one_loop f l (h l (inl refl)), loops_taken f ls (λ z m. h z (inr m)))
 
 rooms_total : (es : List (Entry × List Value)) → total (λ w. w) (map entry_room es) ≡ total entry_room es
 rooms_total [] = refl
@@ -226,7 +233,8 @@ faces_of hs = flat_map (λ (h : Shell). h.faces) hs
 abbrev loop_total : List Shell → ℕ
 loop_total hs = length (flat_map (λ (c : FaceUse). c.loops) (faces_of hs))
 
-face_loops : (f : Contents) (keys : Keys) (cs : List (ℤ × Bool)) → length (flat_map (λ (c : FaceUse). c.loops) (map (face_by f keys) cs)) ≡ length (flat_map (loops f) (numbers cs))
+face_loops : (f : Contents) (keys : Keys) (cs : List (ℤ × Bool)) → length (flat_map (λ (c : FaceUse). c.loops) (map (face_by f keys) cs))
+    ≡ length (flat_map (loops f) (numbers cs))
 face_loops f keys [] = refl
 face_loops f keys (c ∷ cs) =
     let mine : FaceUse = face_by f keys c in
@@ -239,7 +247,8 @@ face_loops f keys (c ∷ cs) =
       face_loops f keys cs,
     )
 
-shell_loops : (f : Contents) (keys : Keys) (items : List (ℤ × Bool)) → loop_total (map (shell_by f keys) items) ≡ length (flat_map (loops f) (flat_map (λ s. numbers (faces f s)) (numbers items)))
+shell_loops : (f : Contents) (keys : Keys) (items : List (ℤ × Bool)) → loop_total (map (shell_by f keys) items)
+    ≡ length (flat_map (loops f) (flat_map (λ s. numbers (faces f s)) (numbers items)))
 shell_loops f keys [] = refl
 shell_loops f keys (item ∷ items) =
     let mine : List FaceUse = map (face_by f keys) (faces f item.0) in
@@ -275,7 +284,9 @@ pub shells_fewer : (f : Contents) (n : ℕ) → AllHold (places f n) → length 
 shells_fewer f n all = each_some (λ (h : Shell). h.faces) (solid_of f n).shells (λ h m. (shells_of f n all h m).3)
 
 -- Each loop takes two directory lines, each use four integers, and each face has a loop.
-pub uses_within : (f : Contents) (n : ℕ) → AllHold (places f n) → 160 * face_total (solid_of f n).shells + 8 * length (flat_map shell_uses (solid_of f n).shells) ≤ total entry_room f.entries
+pub uses_within : (f : Contents) (n : ℕ) → AllHold (places f n)
+    → 160 * face_total (solid_of f n).shells + 8 * length (flat_map shell_uses (solid_of f n).shells) ≤ total entry_room f.entries
 uses_within f n all =
-    let uses : length (flat_map shell_uses (solid_of f n).shells) ≡ length (all_tuples f (pos n)) = ap (λ us. length us) (all_uses f n) ∙ length-map (all_tuples f (pos n)) (use_of f (pos n)) in
+    let uses : length (flat_map shell_uses (solid_of f n).shells) ≡ length (all_tuples f (pos n)) = ap (λ us. length us) (all_uses f n)
+    ∙ length-map (all_tuples f (pos n)) (use_of f (pos n)) in
     omega (arith, uses, loops_within f n all, solid_loops f n, faces_few f n all)

@@ -10,7 +10,8 @@ use Rattle.edge_uses.specs.ShellRows.{ShellRows}
 use Rattle.edge_uses.specs.RowRelations.{IsPaired}
 use Rattle.cert_lines.specs.Line.{CertLine, shell, edge, end}
 use Rattle.cert_lines.specs.declared.version.Version.{Version}
-use Rattle.topo_certificate.specs.Stand.{Stand, stand_from_latest, NoneDue, edge_of, vertex_of, is_shell, is_edge, is_corner_or_point, number_of, since_shell, rows_of_shell, current_rows, row_named, row_start, point_named, FitsLine, is_last}
+use Rattle.topo_certificate.specs.Stand.{Stand, stand_from_latest, NoneDue, edge_of, vertex_of, is_shell, is_edge, is_corner_or_point, number_of, since_shell}
+use Rattle.topo_certificate.specs.Stand.{rows_of_shell, current_rows, row_named, row_start, point_named, FitsLine, is_last}
 use Rattle.topo_certificate.specs.declared.due.Due.{Due}
 use Rattle.topo_certificate.specs.After.{IsLegalAfter}
 use Rattle.topo_certificate.proofs.Segment.{falls_none}
@@ -41,7 +42,8 @@ begun_start s zero zero v h = absurd cc
 begun_start s zero (suc r) v h = absurd cc
 begun_start s (suc k) r v h = (k, refl)
 
-pub begun_point : (s : SolidData) (n face l v : ℕ) → option_map (λ (p : LoopAt × ℕ). p.1) (point_named (rows_of_shell s n) face l) ≡ Some v → (k : ℕ) × (n ≡ suc k)
+pub begun_point : (s : SolidData) (n face l v : ℕ) → option_map (λ (p : LoopAt × ℕ). p.1) (point_named (rows_of_shell s n) face l) ≡ Some v
+    → (k : ℕ) × (n ≡ suc k)
 begun_point s zero face l v h = absurd cc
 begun_point s (suc k) face l v h = (k, refl)
 
@@ -50,18 +52,26 @@ module _ (version : Version) (s : SolidData) (good : Good s) where
   all_came : (lines : List CertLine) (d : ShellRows) → Facts version s lines d → NoneDue (stand_from_latest version s lines).due → LeadOn s lines d
   unfolding stand_from_latest
   all_came lines d facts none =
-      let edges : length d.edges - number_of is_edge (since_shell lines) ≡ 0 = sym (ap (λ (a : Due). a.edges - number_of is_edge (since_shell lines)) facts.asks) ∙ none.edges in
-      let vertices : length d.vertices - number_of is_corner_or_point (since_shell lines) ≡ 0 = sym (ap (λ (a : Due). a.corners - number_of is_corner_or_point (since_shell lines)) facts.asks) ∙ none.corners in
+      let edges : length d.edges - number_of is_edge (since_shell lines) ≡ 0 =
+      sym (ap (λ (a : Due). a.edges - number_of is_edge (since_shell lines)) facts.asks) ∙ none.edges in
+      let vertices : length d.vertices - number_of is_corner_or_point (since_shell lines) ≡ 0 =
+      sym (ap (λ (a : Due). a.corners - number_of is_corner_or_point (since_shell lines)) facts.asks) ∙ none.corners in
       let es : List ℕ = filter_map (edge_of d) (since_shell lines) in
       let vs : List ℕ = filter_map (vertex_of d) (since_shell lines) in
       record {
-        edges = leads_none d.edges es facts.edge_facts.falls (λ x m. covers es d.edges (falls_none es facts.edge_facts.falls) (λ y k. (facts.edge_facts.each y k).0) (omega (arith, edges, facts.edge_facts.number)) x m);
-        vertices = leads_none d.vertices vs facts.corner_facts.falls (λ x m. covers vs d.vertices (falls_none vs facts.corner_facts.falls) (λ y k. (facts.corner_facts.each y k).0) (omega (arith, vertices, facts.corner_facts.number)) x m);
+        edges = leads_none d.edges es facts.edge_facts.falls
+            (λ x m. covers es d.edges (falls_none es facts.edge_facts.falls) (λ y k. (facts.edge_facts.each y k).0)
+            (omega (arith, edges, facts.edge_facts.number)) x m);
+        vertices = leads_none d.vertices vs facts.corner_facts.falls
+            (λ x m. covers vs d.vertices (falls_none vs facts.corner_facts.falls) (λ y k. (facts.corner_facts.each y k).0)
+            (omega (arith, vertices, facts.corner_facts.number)) x m);
         paired = facts_paired version s lines d facts none.edges;
       }
 
   -- what leads on behind a line leads on before it
-  one_less : (line : CertLine) (lines : List CertLine) (d : ShellRows) → Leads d.edges (cons_option (edge_of d line) (filter_map (edge_of d) (since_shell lines))) → Leads d.vertices (cons_option (vertex_of d line) (filter_map (vertex_of d) (since_shell lines)))
+  one_less : (line : CertLine) (lines : List CertLine) (d : ShellRows)
+      → Leads d.edges (cons_option (edge_of d line) (filter_map (edge_of d) (since_shell lines)))
+      → Leads d.vertices (cons_option (vertex_of d line) (filter_map (vertex_of d) (since_shell lines)))
       → ((e : ℕ) → Has d.edges e → IsPaired d e) → LeadOn s lines d
   one_less line lines d edges vertices paired = record {
     edges = leads_less d.edges (filter_map (edge_of d) (since_shell lines)) (edge_of d line) edges;
@@ -70,16 +80,19 @@ module _ (version : Version) (s : SolidData) (good : Good s) where
   }
 
   -- what leads on behind a line, where that begins no shell and doesn't end the certificate, leads on before it
-  before_line : (line : CertLine) (before : List CertLine) → is_shell line ≡ false → LeadOn s (line ∷ before) (current_rows s (line ∷ before)) → LeadOn s before (current_rows s before)
+  before_line : (line : CertLine) (before : List CertLine) → is_shell line ≡ false → LeadOn s (line ∷ before) (current_rows s (line ∷ before))
+      → LeadOn s before (current_rows s before)
   before_line line before e h =
       let rows : current_rows s (line ∷ before) ≡ current_rows s before = ap (rows_of_shell s) (number_same is_shell line before e) in
       let since : since_shell (line ∷ before) ≡ line ∷ since_shell before = ap (λ b. cond b [] (line ∷ since_shell before)) e in
       let lead : LeadOn s (line ∷ before) (current_rows s before) = subst (LeadOn s (line ∷ before)) rows h in
       let d : ShellRows = current_rows s before in
-      one_less line before d (subst (λ ls. Leads d.edges (filter_map (edge_of d) ls)) since lead.edges) (subst (λ ls. Leads d.vertices (filter_map (vertex_of d) ls)) since lead.vertices) lead.paired
+      one_less line before d (subst (λ ls. Leads d.edges (filter_map (edge_of d) ls)) since lead.edges)
+      (subst (λ ls. Leads d.vertices (filter_map (vertex_of d) ls)) since lead.vertices) lead.paired
 
   -- the next line begins a shell, ends the certificate, or goes on
-  lead_over : (before : List CertLine) (k : ℕ) → number_of is_shell before ≡ suc k → AllFit version s before → (line : CertLine) → FitsLine s (stand_from_latest version s before) line
+  lead_over : (before : List CertLine) (k : ℕ) → number_of is_shell before ≡ suc k → AllFit version s before → (line : CertLine)
+      → FitsLine s (stand_from_latest version s before) line
       → (is_shell line ≡ false → is_last line ≡ false → LeadOn s (line ∷ before) (current_rows s (line ∷ before))) → LeadOn s before (current_rows s before)
   lead_over before k number fit line fits later = by_tests (is_shell line) (is_last line) refl refl
     where
@@ -89,18 +102,22 @@ module _ (version : Version) (s : SolidData) (good : Good s) where
       by_tests : (a b : Bool) → is_shell line ≡ a → is_last line ≡ b → LeadOn s before (current_rows s before)
       by_tests true b e f =
           let begun = shell_line line e in
-          let here : FitsLine s (stand_from_latest version s before) (shell begun.0 begun.1) = subst (FitsLine s (stand_from_latest version s before)) begun.2 fits in
+          let here : FitsLine s (stand_from_latest version s before) (shell begun.0 begun.1) = subst (FitsLine s (stand_from_latest version s before)) begun.2
+          fits in
           done here.1.0
       by_tests false true e f =
           let here : FitsLine s (stand_from_latest version s before) end = subst (FitsLine s (stand_from_latest version s before)) (end_line line f) fits in
           done here.1.0
       by_tests false false e f = before_line line before e (later e f)
 
-  still_going : (line : CertLine) (before : List CertLine) → is_last line ≡ false → (stand_from_latest version s before).ended ≡ false → (stand_from_latest version s (line ∷ before)).ended ≡ false
+  still_going : (line : CertLine) (before : List CertLine) → is_last line ≡ false → (stand_from_latest version s before).ended ≡ false
+      → (stand_from_latest version s (line ∷ before)).ended ≡ false
   unfolding stand_from_latest
   still_going line before f going = ap (λ b. b || list_any is_last before) f ∙ going
 
-  pub lead_on : (before : List CertLine) (k : ℕ) → number_of is_shell before ≡ suc k → AllFit version s before → (lines : List (List ℕ)) → IsLegalAfter version s before lines → (stand_from_latest version s before).ended ≡ false → LeadOn s before (current_rows s before)
+  pub lead_on : (before : List CertLine) (k : ℕ) → number_of is_shell before ≡ suc k → AllFit version s before → (lines : List (List ℕ))
+      → IsLegalAfter version s before lines → (stand_from_latest version s before).ended ≡ false → LeadOn s before (current_rows s before)
   lead_on before k number fit [] ended going = absurd (going_not_ended (stand_from_latest version s before) going ended)
   lead_on before k number fit (bytes ∷ lines) (line, is, fits, more) going =
-      lead_over before k number fit line fits (λ e f. lead_on (line ∷ before) k (number_same is_shell line before e ∙ number) (fits, fit) lines more (still_going line before f going))
+      lead_over before k number fit line fits
+      (λ e f. lead_on (line ∷ before) k (number_same is_shell line before e ∙ number) (fits, fit) lines more (still_going line before f going))

@@ -27,7 +27,8 @@ use Rattle.solid_check.specs.Book.{BookRefusal, fails, illegal, IsPartFault, IsR
 use Rattle.solid_check.specs.BookLaws.{OneRefusal, NoneBadWhereAccepted, AcceptedOrBad, OneReading}
 use Rattle.solid_check.proofs.CheckedParts.{certified_checked, checked_certified}
 use Rattle.solid_check.proofs.Decided.{checks_decided}
-use Rattle.solid_check.proofs.PartOutcomes.{BeginsAt, same_solid, one_beginning, legal_begins_none, bad_begins_none, legal_none_bad, part_comes_to, begins_legal, solid_short, legal_begins_next, BegunLine, begun_line}
+use Rattle.solid_check.proofs.PartOutcomes.{BeginsAt, same_solid, one_beginning, legal_begins_none, bad_begins_none, legal_none_bad, part_comes_to}
+use Rattle.solid_check.proofs.PartOutcomes.{begins_legal, solid_short, legal_begins_next, BegunLine, begun_line}
 
 abbrev Lines : Type 0
 Lines = List (List ℕ)
@@ -84,7 +85,8 @@ abbrev pub made_part : ℕ → List ℕ → List (List ℕ) → Part
 made_part n first further = record { solid = n; first = first; further = further }
 
 same_part : (p q : Part) → p.solid ≡ q.solid → p.first ≡ q.first → p.further ≡ q.further → p ≡ q
-same_part p q a b c = ap (λ (n : ℕ). made_part n p.first p.further) a ∙ (ap (λ (x : List ℕ). made_part q.solid x p.further) b ∙ ap (λ (ls : Lines). made_part q.solid q.first ls) c)
+same_part p q a b c = ap (λ (n : ℕ). made_part n p.first p.further) a
+    ∙ (ap (λ (x : List ℕ). made_part q.solid x p.further) b ∙ ap (λ (ls : Lines). made_part q.solid q.first ls) c)
 
 same_parts : (p q : Part) (ps qs : List Part) → p ≡ q → ps ≡ qs → p ∷ ps ≡ q ∷ qs
 same_parts p q ps qs a b = cc
@@ -92,11 +94,13 @@ same_parts p q ps qs a b = cc
 pub named_more : (before : List Part) (p : Part) → solids_named (before ++ p ∷ []) ≡ solids_named before ++ p.solid ∷ []
 named_more before p = map-append (λ (q : Part). q.solid) before (p ∷ [])
 
-pub lines_more : (before : List Part) (p : Part) (rest : List (List ℕ)) → flat_map part_lines (before ++ p ∷ []) ++ rest ≡ flat_map part_lines before ++ p.first ∷ (p.further ++ rest)
+pub lines_more : (before : List Part) (p : Part) (rest : List (List ℕ)) → flat_map part_lines (before ++ p ∷ []) ++ rest ≡ flat_map part_lines before
+    ++ p.first ∷ (p.further ++ rest)
 lines_more [] p rest = ap (λ (ls : Lines). p.first ∷ (ls ++ rest)) (append-nil p.further)
 lines_more (q ∷ qs) p rest =
     append_assoc (part_lines q) (flat_map part_lines (qs ++ p ∷ [])) rest
-    ∙ (ap (λ (ls : Lines). part_lines q ++ ls) (lines_more qs p rest) ∙ sym (append_assoc (part_lines q) (flat_map part_lines qs) (p.first ∷ (p.further ++ rest))))
+    ∙ (ap (λ (ls : Lines). part_lines q ++ ls) (lines_more qs p rest)
+    ∙ sym (append_assoc (part_lines q) (flat_map part_lines qs) (p.first ∷ (p.further ++ rest))))
 
 pub solid_entity : (f : Contents) (n : ℕ) → (solid_of f n).entity.0 ≡ n
 unfolding solid_of
@@ -107,28 +111,36 @@ abbrev lead : List Part → ℕ → ℕ
 lead [] n = n
 lead (q ∷ qs) n = q.solid
 
-next_begins : (f : Contents) (p : Part) (bytes : List ℕ) (more : Lines) (m : ℕ) → IsGoodPart f p → IsSpelled bytes (solid m) → p.solid < m → BeginsAt Two (solid_of f p.solid) [] (p.further ++ bytes ∷ more) (length p.further) m
+next_begins : (f : Contents) (p : Part) (bytes : List ℕ) (more : Lines) (m : ℕ) → IsGoodPart f p → IsSpelled bytes (solid m) → p.solid < m
+    → BeginsAt Two (solid_of f p.solid) [] (p.further ++ bytes ∷ more) (length p.further) m
 next_begins f p bytes more m good names above =
     legal_begins_next Two (solid_of f p.solid) p.further bytes more m good.certified.legal names (subst (λ k. k < m) (sym (solid_entity f p.solid)) above)
 
 -- behind a good part that others follow, the next part begins
-begins_behind : (f : Contents) (p : Part) (ps : List Part) (n : ℕ) (first : List ℕ) (rest : Lines) → IsGoodPart f p → AllByRecursion (IsGoodPart f) ps → IsSpelled first (solid n) → Rises (p.solid ∷ (solids_named ps ++ n ∷ []))
+begins_behind : (f : Contents) (p : Part) (ps : List Part) (n : ℕ) (first : List ℕ) (rest : Lines) → IsGoodPart f p → AllByRecursion (IsGoodPart f) ps
+    → IsSpelled first (solid n) → Rises (p.solid ∷ (solids_named ps ++ n ∷ []))
     → BeginsAt Two (solid_of f p.solid) [] (p.further ++ (flat_map part_lines ps ++ first ∷ rest)) (length p.further) (lead ps n)
 begins_behind f p [] n first rest good all names rise = next_begins f p first rest n good names rise.0.0
-begins_behind f p (q ∷ qs) n first rest good all names rise = next_begins f p q.first ((q.further ++ flat_map part_lines qs) ++ first ∷ rest) q.solid good all.0.names rise.0.0
+begins_behind f p (q ∷ qs) n first rest good all names rise = next_begins f p q.first ((q.further ++ flat_map part_lines qs) ++ first ∷ rest) q.solid good
+    all.0.names rise.0.0
 
 same_number : (a b : List ℕ) (n m : ℕ) → a ≡ b → IsSpelled a (solid n) → IsSpelled b (solid m) → n ≡ m
 same_number a b n m e x y = same_solid n m (line_one b (solid n) (solid m) (subst (λ c. IsSpelled c (solid n)) e x) y)
 
 -- a part that another follows is not one whose lines stay in it
-not_last : (f : Contents) (n : ℕ) (first : List ℕ) (rest : Lines) (q : Part) (qs : List Part) (m : ℕ) (second : List ℕ) (others : Lines) → IsSpelled first (solid n) → Stays f n rest
-    → AllByRecursion (IsGoodPart f) (q ∷ qs) → IsSpelled second (solid m) → Rises (solids_named (q ∷ qs) ++ m ∷ []) → first ∷ rest ≡ flat_map part_lines (q ∷ qs) ++ second ∷ others → ⊥
+not_last : (f : Contents) (n : ℕ) (first : List ℕ) (rest : Lines) (q : Part) (qs : List Part) (m : ℕ) (second : List ℕ) (others : Lines)
+    → IsSpelled first (solid n) → Stays f n rest
+    → AllByRecursion (IsGoodPart f) (q ∷ qs) → IsSpelled second (solid m) → Rises (solids_named (q ∷ qs) ++ m ∷ [])
+    → first ∷ rest ≡ flat_map part_lines (q ∷ qs) ++ second ∷ others → ⊥
 not_last f n first rest q qs m second others names stays good names_m rise e =
     let behind : Lines = (q.further ++ flat_map part_lines qs) ++ second ∷ others in
     let number : n ≡ q.solid = same_number first q.first n q.solid (same_head first q.first rest behind e) names good.0.names in
-    let cut : rest ≡ q.further ++ (flat_map part_lines qs ++ second ∷ others) = same_tail first q.first rest behind e ∙ append_assoc q.further (flat_map part_lines qs) (second ∷ others) in
-    let moved : Stays f q.solid (q.further ++ (flat_map part_lines qs ++ second ∷ others)) = subst (λ k. Stays f k (q.further ++ (flat_map part_lines qs ++ second ∷ others))) number (subst (Stays f n) cut stays) in
-    moved (certified_checked Two f q.solid (q.further ++ spelling end ∷ []) good.0.certified) (length q.further) (lead qs m) (begins_behind f q qs m second others good.0 good.1 names_m rise)
+    let cut : rest ≡ q.further ++ (flat_map part_lines qs ++ second ∷ others) = same_tail first q.first rest behind e
+    ∙ append_assoc q.further (flat_map part_lines qs) (second ∷ others) in
+    let moved : Stays f q.solid (q.further ++ (flat_map part_lines qs ++ second ∷ others)) =
+    subst (λ k. Stays f k (q.further ++ (flat_map part_lines qs ++ second ∷ others))) number (subst (Stays f n) cut stays) in
+    moved (certified_checked Two f q.solid (q.further ++ spelling end ∷ []) good.0.certified) (length q.further) (lead qs m)
+    (begins_behind f q qs m second others good.0 good.1 names_m rise)
 
 -- Good parts and then a part whose lines stay in it are there in one way.
 abbrev SameReach : List Part → ℕ → List ℕ → Lines → List Part → ℕ → List ℕ → Lines → Type 0
@@ -141,8 +153,10 @@ same_reach : (f : Contents) (before : List Part) (n : ℕ) (first : List ℕ) (r
 same_reach f [] n first rest [] m second others good names rise stays good_m names_m rise_m stays_m e =
     let heads : first ≡ second = same_head first second rest others e in
     (refl, same_number first second n m heads names names_m, heads, same_tail first second rest others e)
-same_reach f [] n first rest (q ∷ qs) m second others good names rise stays good_m names_m rise_m stays_m e = absurd (not_last f n first rest q qs m second others names stays good_m names_m rise_m e)
-same_reach f (p ∷ ps) n first rest [] m second others good names rise stays good_m names_m rise_m stays_m e = absurd (not_last f m second others p ps n first rest names_m stays_m good names rise (sym e))
+same_reach f [] n first rest (q ∷ qs) m second others good names rise stays good_m names_m rise_m stays_m e =
+    absurd (not_last f n first rest q qs m second others names stays good_m names_m rise_m e)
+same_reach f (p ∷ ps) n first rest [] m second others good names rise stays good_m names_m rise_m stays_m e =
+    absurd (not_last f m second others p ps n first rest names_m stays_m good names rise (sym e))
 same_reach f (p ∷ ps) n first rest (q ∷ qs) m second others good names rise stays good_m names_m rise_m stays_m e =
     let x : Lines = flat_map part_lines ps ++ first ∷ rest in
     let y : Lines = flat_map part_lines qs ++ second ∷ others in
@@ -150,26 +164,35 @@ same_reach f (p ∷ ps) n first rest (q ∷ qs) m second others good names rise 
     let y_all : Lines = (q.further ++ flat_map part_lines qs) ++ second ∷ others in
     let heads : p.first ≡ q.first = same_head p.first q.first x_all y_all e in
     let number : p.solid ≡ q.solid = same_number p.first q.first p.solid q.solid heads good.0.names good_m.0.names in
-    let tails : p.further ++ x ≡ q.further ++ y = sym (append_assoc p.further (flat_map part_lines ps) (first ∷ rest)) ∙ (same_tail p.first q.first x_all y_all e ∙ append_assoc q.further (flat_map part_lines qs) (second ∷ others)) in
-    let one : BeginsAt Two (solid_of f p.solid) [] (p.further ++ x) (length p.further) (lead ps n) = begins_behind f p ps n first rest good.0 good.1 names rise in
-    let other : BeginsAt Two (solid_of f q.solid) [] (q.further ++ y) (length q.further) (lead qs m) = begins_behind f q qs m second others good_m.0 good_m.1 names_m rise_m in
+    let tails : p.further ++ x ≡ q.further ++ y = sym (append_assoc p.further (flat_map part_lines ps) (first ∷ rest))
+    ∙ (same_tail p.first q.first x_all y_all e ∙ append_assoc q.further (flat_map part_lines qs) (second ∷ others)) in
+    let one : BeginsAt Two (solid_of f p.solid) [] (p.further ++ x) (length p.further) (lead ps n) = begins_behind f p ps n first rest good.0 good.1 names rise
+    in
+    let other : BeginsAt Two (solid_of f q.solid) [] (q.further ++ y) (length q.further) (lead qs m) =
+    begins_behind f q qs m second others good_m.0 good_m.1 names_m rise_m in
     let moved : BeginsAt Two (solid_of f p.solid) [] (p.further ++ x) (length q.further) (lead qs m) =
-    subst (λ ls. BeginsAt Two (solid_of f p.solid) [] ls (length q.further) (lead qs m)) (sym tails) (subst (λ k. BeginsAt Two (solid_of f k) [] (q.further ++ y) (length q.further) (lead qs m)) (sym number) other) in
-    let lengths : length p.further ≡ length q.further = (one_beginning Two (solid_of f p.solid) [] (p.further ++ x) (length p.further) (lead ps n) (length q.further) (lead qs m) one moved).0 in
+    subst (λ ls. BeginsAt Two (solid_of f p.solid) [] ls (length q.further) (lead qs m)) (sym tails)
+    (subst (λ k. BeginsAt Two (solid_of f k) [] (q.further ++ y) (length q.further) (lead qs m)) (sym number) other) in
+    let lengths : length p.further ≡ length q.further =
+    (one_beginning Two (solid_of f p.solid) [] (p.further ++ x) (length p.further) (lead ps n) (length q.further) (lead qs m) one moved).0 in
     let parts = same_front p.further q.further x y lengths tails in
     let later = same_reach f ps n first rest qs m second others good.1 names rise.1 stays good_m.1 names_m rise_m.1 stays_m parts.1 in
     (same_parts p q ps qs (same_part p q number heads parts.0) later.0, later.1, later.2, later.3)
 
-pub one_reaching : (f : Contents) (lines : List (List ℕ)) (before : List Part) (n : ℕ) (first : List ℕ) (rest : List (List ℕ)) (after : List Part) (m : ℕ) (second : List ℕ) (others : List (List ℕ))
-    → Reaches f lines before n first rest → Stays f n rest → Reaches f lines after m second others → Stays f m others → SameReach before n first rest after m second others
-one_reaching f lines before n first rest after m second others a stays_a b stays_b = same_reach f before n first rest after m second others a.good a.names a.increase stays_a b.good b.names b.increase stays_b (sym a.cut ∙ b.cut)
+pub one_reaching : (f : Contents) (lines : List (List ℕ)) (before : List Part) (n : ℕ) (first : List ℕ) (rest : List (List ℕ)) (after : List Part) (m : ℕ)
+    (second : List ℕ) (others : List (List ℕ))
+    → Reaches f lines before n first rest → Stays f n rest → Reaches f lines after m second others → Stays f m others
+    → SameReach before n first rest after m second others
+one_reaching f lines before n first rest after m second others a stays_a b stays_b = same_reach f before n first rest after m second others a.good a.names
+    a.increase stays_a b.good b.names b.increase stays_b (sym a.cut ∙ b.cut)
 
 -- What is behind the line that names the solid: a fault, END behind legal lines, or the next part.
 
 abbrev pub part_number : List Part → ℕ
 part_number before = 2 + length (flat_map part_lines before) + 1
 
-pub part_refused : (f : Contents) (lines : List (List ℕ)) (before : List Part) (n : ℕ) (first : List ℕ) (rest : List (List ℕ)) (a : BookRefusal) → Reaches f lines before n first rest → IsPartFault f n (part_number before) rest a → IsBookBad f lines a
+pub part_refused : (f : Contents) (lines : List (List ℕ)) (before : List Part) (n : ℕ) (first : List ℕ) (rest : List (List ℕ)) (a : BookRefusal)
+    → Reaches f lines before n first rest → IsPartFault f n (part_number before) rest a → IsBookBad f lines a
 part_refused f lines before n first rest a r fault =
     let p : Part = made_part n first rest in
     record {
@@ -187,7 +210,8 @@ pub record IsBookOf (f : Contents) (lines : List (List ℕ)) (parts : List Part)
   pub increase : IsStrictlyIncreasing (solids_named parts)
   pub good : AllByRecursion (IsGoodPart f) parts
 
-last_line : (limit : ℕ) (lines : Lines) (read : List CertLine) → AllZip (IsLine limit) lines (read ++ end ∷ []) → (front : Lines) × (lines ≡ front ++ spelling end ∷ [])
+last_line : (limit : ℕ) (lines : Lines) (read : List CertLine) → AllZip (IsLine limit) lines (read ++ end ∷ [])
+    → (front : Lines) × (lines ≡ front ++ spelling end ∷ [])
 last_line limit [] [] h = absurd h
 last_line limit (x ∷ []) [] h = ([], ap (λ (y : List ℕ). y ∷ []) h.0.1.1)
 last_line limit (x ∷ y ∷ lines) [] h = absurd h.1
@@ -196,12 +220,15 @@ last_line limit (x ∷ lines) (l ∷ read) h =
     let more = last_line limit lines read h.1 in
     (x ∷ more.0, ap (λ (ls : Lines). x ∷ ls) more.1)
 
-pub part_ends : (f : Contents) (lines : List (List ℕ)) (before : List Part) (n : ℕ) (first : List ℕ) (rest : List (List ℕ)) → Reaches f lines before n first rest → AllHold (checked f n) → IsLegal Two (solid_of f n) rest
+pub part_ends : (f : Contents) (lines : List (List ℕ)) (before : List Part) (n : ℕ) (first : List ℕ) (rest : List (List ℕ))
+    → Reaches f lines before n first rest → AllHold (checked f n) → IsLegal Two (solid_of f n) rest
     → (parts : List Part) × IsBookOf f lines parts × (solids_named parts ≡ solids_named before ++ n ∷ [])
 part_ends f lines before n first rest r all legal =
     let last = last_line _ rest legal.before (subst (AllZip (IsLine _) rest) legal.ended legal.fitting.spelled) in
     let p : Part = made_part n first last.0 in
-    let good : IsGoodPart f p = record { names = r.names; certified = checked_certified Two f n (last.0 ++ spelling end ∷ []) all (subst (IsLegal Two (solid_of f n)) last.1 legal) } in (
+    let good : IsGoodPart f p =
+    record { names = r.names; certified = checked_certified Two f n (last.0 ++ spelling end ∷ []) all (subst (IsLegal Two (solid_of f n)) last.1 legal) }
+    in (
       before ++ p ∷ [],
       record {
         cut = r.cut ∙ (ap (λ (ls : Lines). flat_map part_lines before ++ first ∷ ls) last.1 ∙ sym (lines_more before p (spelling end ∷ [])));
@@ -213,12 +240,15 @@ part_ends f lines before n first rest r all legal =
     )
 
 -- The lines before the one that begins the next part are a good part, and that line is reached behind it.
-pub next_reached : (f : Contents) (lines : List (List ℕ)) (before : List Part) (n : ℕ) (first : List ℕ) (further : List (List ℕ)) (bytes : List ℕ) (m : ℕ) (rest : List (List ℕ)) → Reaches f lines before n first (further ++ bytes ∷ rest) → AllHold (checked f n)
-    → IsLegal Two (solid_of f n) (further ++ spelling end ∷ []) → IsSpelled bytes (solid m) → n < m → Reaches f lines (before ++ made_part n first further ∷ []) m bytes rest
+pub next_reached : (f : Contents) (lines : List (List ℕ)) (before : List Part) (n : ℕ) (first : List ℕ) (further : List (List ℕ)) (bytes : List ℕ) (m : ℕ)
+    (rest : List (List ℕ)) → Reaches f lines before n first (further ++ bytes ∷ rest) → AllHold (checked f n)
+    → IsLegal Two (solid_of f n) (further ++ spelling end ∷ []) → IsSpelled bytes (solid m) → n < m
+    → Reaches f lines (before ++ made_part n first further ∷ []) m bytes rest
 next_reached f lines before n first further bytes m rest r all legal names above =
     let p : Part = made_part n first further in
     record {
-      good = all_append (IsGoodPart f) before (p ∷ []) r.good (record { names = r.names; certified = checked_certified Two f n (further ++ spelling end ∷ []) all legal }, tt);
+      good = all_append (IsGoodPart f) before (p ∷ []) r.good
+          (record { names = r.names; certified = checked_certified Two f n (further ++ spelling end ∷ []) all legal }, tt);
       cut = r.cut ∙ sym (lines_more before p (bytes ∷ rest));
       names = names;
       increase = subst (λ ns. Rises (ns ++ m ∷ [])) (sym (named_more before p)) (rises_more (solids_named before) n m r.increase above);
@@ -229,7 +259,8 @@ next_reached f lines before n first further bytes m rest r all legal names above
 abbrev Answer : Contents → Lines → Type 0
 Answer f lines = ((parts : List Part) × IsBookOf f lines parts) ⊎ ((a : BookRefusal) × IsBookBad f lines a)
 
-read_on : (fuel : ℕ) (f : Contents) (lines : Lines) (before : List Part) (n : ℕ) (first : List ℕ) (rest : Lines) → length rest < fuel → Reaches f lines before n first rest → Answer f lines
+read_on : (fuel : ℕ) (f : Contents) (lines : Lines) (before : List Part) (n : ℕ) (first : List ℕ) (rest : Lines) → length rest < fuel
+    → Reaches f lines before n first rest → Answer f lines
 read_on zero f lines before n first rest lt r = absurd (omega (arith, lt))
 read_on (suc fuel) f lines before n first rest lt r =
     ⊎_elim
@@ -240,7 +271,8 @@ read_on (suc fuel) f lines before n first rest lt r =
     let above : n < m = subst (λ i. i < m) (solid_entity f n) b.above in
     let shorter : length b.rest < fuel = omega (arith, lt, ap (λ (ls : Lines). length ls) b.cut, length-append (take k rest) (b.bytes ∷ b.rest)) in
     read_on fuel f lines (before ++ made_part n first (take k rest) ∷ []) m b.bytes b.rest shorter
-    (next_reached f lines before n first (take k rest) b.bytes m b.rest (subst (Reaches f lines before n first) b.cut r) all (begins_legal Two (solid_of f n) rest k m next) b.names above)) other)
+    (next_reached f lines before n first (take k rest) b.bytes m b.rest (subst (Reaches f lines before n first) b.cut r) all
+    (begins_legal Two (solid_of f n) rest k m next) b.names above)) other)
     (part_comes_to Two (solid_of f n) (part_number before) rest))
     (λ (x, bad). inr (fails n x, part_refused f lines before n first rest (fails n x) r (refl, bad)))
     (all_or_first_false (checked f n) (checks_decided f n))
@@ -252,11 +284,13 @@ head_wrong bytes bad is (inl misspelt) = misspelt.0.none (head Three) is.1
 head_wrong bytes bad is (inr (inl long, e)) = absurd (omega (arith, long.0, is.0))
 head_wrong bytes bad is (inr (inr (line, is_line, other), e)) = other (Three, line_one bytes line (head Three) is_line.1 is.1)
 
-second_wrong : (first : List ℕ) (lines : Lines) (bad : Illegal) → IsLine first_limit first (head Three) → IsFirstWrong (first ∷ lines) bad → IsSecondWrong lines bad
+second_wrong : (first : List ℕ) (lines : Lines) (bad : Illegal) → IsLine first_limit first (head Three) → IsFirstWrong (first ∷ lines) bad
+    → IsSecondWrong lines bad
 second_wrong first lines bad is (inl wrong) = absurd (head_wrong first bad is wrong)
 second_wrong first lines bad is (inr (v, is_head, wrong)) = wrong
 
-second_decided : (certificate : List ℕ) (lines : Lines) → IsHeaded certificate Three lines → ((bytes : List ℕ) × (n : ℕ) × (rest : Lines) × (lines ≡ bytes ∷ rest) × IsSpelled bytes (solid n)) ⊎ ((bad : Illegal) × IsSecondWrong lines bad)
+second_decided : (certificate : List ℕ) (lines : Lines) → IsHeaded certificate Three lines
+    → ((bytes : List ℕ) × (n : ℕ) × (rest : Lines) × (lines ≡ bytes ∷ rest) × IsSpelled bytes (solid n)) ⊎ ((bad : Illegal) × IsSecondWrong lines bad)
 second_decided certificate lines headed =
     ⊎_elim (λ (v, n, rest, o). inl (o.second, n, rest, same_tail headed.first o.first lines (o.second ∷ rest) (sym headed.cut ∙ o.cut), o.names.1))
     (λ (bad, wrong). inr (bad, second_wrong headed.first lines bad headed.is_head (subst (λ ls. IsFirstWrong ls bad) headed.cut wrong)))
@@ -271,15 +305,19 @@ second_refused f lines bad wrong = record { before = []; good = tt; rest = lines
 
 answered : (f : Contents) (certificate : List ℕ) (lines : Lines) → IsHeaded certificate Three lines → Answer f lines
 answered f certificate lines headed =
-    ⊎_elim (λ (bytes, n, rest, cut, names). read_on (suc (length rest)) f lines [] n bytes rest (omega arith) (subst (λ ls. Reaches f ls [] n bytes rest) (sym cut) (first_reached f bytes n rest names)))
+    ⊎_elim (λ (bytes, n, rest, cut, names). read_on (suc (length rest)) f lines [] n bytes rest (omega arith)
+    (subst (λ ls. Reaches f ls [] n bytes rest) (sym cut) (first_reached f bytes n rest names)))
     (λ (bad, wrong). inr (illegal bad, second_refused f lines bad wrong))
     (second_decided certificate lines headed)
 
-pub accepted_of : (f : Contents) (certificate : List ℕ) (lines : List (List ℕ)) (parts : List Part) → IsHeaded certificate Three lines → IsBookOf f lines parts → IsAcceptedBook f certificate parts
-accepted_of f certificate lines parts headed book = record { headed = subst (IsHeaded certificate Three) book.cut headed; some = book.some; rising = book.increase; good = book.good }
+pub accepted_of : (f : Contents) (certificate : List ℕ) (lines : List (List ℕ)) (parts : List Part) → IsHeaded certificate Three lines → IsBookOf f lines parts
+    → IsAcceptedBook f certificate parts
+accepted_of f certificate lines parts headed book =
+    record { headed = subst (IsHeaded certificate Three) book.cut headed; some = book.some; rising = book.increase; good = book.good }
 
 pub accepted_or_bad : AcceptedOrBad
-accepted_or_bad f certificate lines headed = ⊎_elim (λ (parts, book). inl (parts, accepted_of f certificate lines parts headed book)) (λ other. inr other) (answered f certificate lines headed)
+accepted_or_bad f certificate lines headed = ⊎_elim (λ (parts, book). inl (parts, accepted_of f certificate lines parts headed book)) (λ other. inr other)
+    (answered f certificate lines headed)
 
 -- What a bad book shows: its second line, or a part with a fault.
 
@@ -298,27 +336,47 @@ bad_shows : (f : Contents) (lines : Lines) (a : BookRefusal) → IsBookBad f lin
 bad_shows f lines a h = by_rest h.bad
   where
     by_rest : IsRestBad f h.before (2 + length (flat_map part_lines h.before)) h.rest a → IsSecondBad lines a ⊎ PartIsBad f lines a
-    by_rest (inl (none, (bad, e, wrong))) = inl (bad, e, subst (λ ls. IsSecondWrong ls bad) (sym (h.cut ∙ ap (λ (ps : List Part). flat_map part_lines ps ++ h.rest) none)) wrong)
+    by_rest (inl (none, (bad, e, wrong))) =
+        inl (bad, e, subst (λ ls. IsSecondWrong ls bad) (sym (h.cut ∙ ap (λ (ps : List Part). flat_map part_lines ps ++ h.rest) none)) wrong)
     by_rest (inr (p, cut, names, rise, fault)) = inr (record {
       before = h.before;
       number = p.solid;
       first = p.first;
       rest = p.further;
-      reaches = record { good = h.good; cut = h.cut ∙ ap (λ (ls : Lines). flat_map part_lines h.before ++ ls) cut; names = names; increase = subst Rises (named_more h.before p) (rises (solids_named (h.before ++ p ∷ [])) rise) };
+      reaches = record {
+        good = h.good;
+        cut = h.cut ∙ ap (λ (ls : Lines). flat_map part_lines h.before ++ ls) cut;
+        names = names;
+        increase =
+            subst Rises (named_more h.before p) (rises (solids_named (h.before ++ p ∷ [])) rise);
+      };
       fault = fault;
     })
 
-opens_with : (certificate : List ℕ) (lines : Lines) (bytes : List ℕ) (rest : Lines) (n : ℕ) → IsHeaded certificate Three lines → lines ≡ bytes ∷ rest → IsSpelled bytes (solid n) → Opens certificate Three n rest
-opens_with certificate lines bytes rest n headed cut names = record { first = headed.first; second = bytes; cut = headed.cut ∙ ap (λ (ls : Lines). headed.first ∷ ls) cut; is_head = headed.is_head; names = (solid_short bytes n names, names) }
+opens_with : (certificate : List ℕ) (lines : Lines) (bytes : List ℕ) (rest : Lines) (n : ℕ) → IsHeaded certificate Three lines → lines ≡ bytes ∷ rest
+    → IsSpelled bytes (solid n) → Opens certificate Three n rest
+opens_with certificate lines bytes rest n headed cut names =
+    record {
+      first = headed.first;
+      second = bytes;
+      cut = headed.cut ∙ ap (λ (ls : Lines). headed.first ∷ ls) cut;
+      is_head = headed.is_head;
+      names =
+          (solid_short bytes n names, names);
+    }
 
 opens_badly : (certificate : List ℕ) (lines : Lines) (bad : Illegal) → IsHeaded certificate Three lines → IsSecondWrong lines bad → IsBadOpening certificate bad
 opens_badly certificate lines bad headed wrong = subst (λ ls. IsFirstWrong ls bad) (sym headed.cut) (inr (Three, headed.is_head, wrong))
 
 -- where a part is reached, line 2 is not bad
-second_good : (f : Contents) (certificate : List ℕ) (lines : Lines) (before : List Part) (n : ℕ) (first : List ℕ) (rest : Lines) (bad : Illegal) → IsHeaded certificate Three lines → Reaches f lines before n first rest → IsSecondWrong lines bad → ⊥
-second_good f certificate lines [] n first rest bad headed r wrong = opens_or_bad certificate Three n rest bad (opens_with certificate lines first rest n headed r.cut r.names) (opens_badly certificate lines bad headed wrong)
+second_good : (f : Contents) (certificate : List ℕ) (lines : Lines) (before : List Part) (n : ℕ) (first : List ℕ) (rest : Lines) (bad : Illegal)
+    → IsHeaded certificate Three lines → Reaches f lines before n first rest → IsSecondWrong lines bad → ⊥
+second_good f certificate lines [] n first rest bad headed r wrong =
+    opens_or_bad certificate Three n rest bad (opens_with certificate lines first rest n headed r.cut r.names) (opens_badly certificate lines bad headed wrong)
 second_good f certificate lines (q ∷ qs) n first rest bad headed r wrong =
-    opens_or_bad certificate Three q.solid ((q.further ++ flat_map part_lines qs) ++ first ∷ rest) bad (opens_with certificate lines q.first ((q.further ++ flat_map part_lines qs) ++ first ∷ rest) q.solid headed r.cut r.good.0.names) (opens_badly certificate lines bad headed wrong)
+    opens_or_bad certificate Three q.solid ((q.further ++ flat_map part_lines qs) ++ first ∷ rest) bad
+    (opens_with certificate lines q.first ((q.further ++ flat_map part_lines qs) ++ first ∷ rest) q.solid headed r.cut r.good.0.names)
+    (opens_badly certificate lines bad headed wrong)
 
 fault_stays : (f : Contents) (n number : ℕ) (rest : Lines) (a : BookRefusal) → IsPartFault f n number rest a → Stays f n rest
 fault_stays f n number rest (fails m x) h = λ all k i next. FirstFalse-not_all (checked f n) x h.1 all
@@ -335,7 +393,8 @@ no_fault f n number rest (fails m x) c h = FirstFalse-not_all (checked f n) x h.
 no_fault f n number rest (illegal bad) c h = legal_none_bad Two (solid_of f n) number rest bad c.legal h.1
 
 -- a fault of a part is one of the same part
-moved_fault : (f : Contents) (a : BookRefusal) (before : List Part) (n : ℕ) (first : List ℕ) (rest : Lines) (after : List Part) (m : ℕ) (second : List ℕ) (others : Lines)
+moved_fault : (f : Contents) (a : BookRefusal) (before : List Part) (n : ℕ) (first : List ℕ) (rest : Lines) (after : List Part) (m : ℕ) (second : List ℕ)
+    (others : Lines)
     → SameReach before n first rest after m second others → IsPartFault f m (part_number after) others a → IsPartFault f n (part_number before) rest a
 moved_fault f a before n first rest after m second others same fault =
     subst (λ (ps : List Part). IsPartFault f n (part_number ps) rest a) (sym same.0)
@@ -345,12 +404,16 @@ pub one_refusal : OneRefusal
 one_refusal f certificate lines a b headed p q = by_cases (bad_shows f lines a p) (bad_shows f lines b q)
   where
     by_cases : IsSecondBad lines a ⊎ PartIsBad f lines a → IsSecondBad lines b ⊎ PartIsBad f lines b → a ≡ b
-    by_cases (inl x) (inl y) = x.1 ∙ (ap illegal (one_bad_opening certificate x.0 y.0 (opens_badly certificate lines x.0 headed x.2) (opens_badly certificate lines y.0 headed y.2)) ∙ sym y.1)
+    by_cases (inl x) (inl y) =
+        x.1 ∙ (ap illegal (one_bad_opening certificate x.0 y.0 (opens_badly certificate lines x.0 headed x.2) (opens_badly certificate lines y.0 headed y.2))
+        ∙ sym y.1)
     by_cases (inl x) (inr y) = absurd (second_good f certificate lines y.before y.number y.first y.rest x.0 headed y.reaches x.2)
     by_cases (inr x) (inl y) = absurd (second_good f certificate lines x.before x.number x.first x.rest y.0 headed x.reaches y.2)
     by_cases (inr x) (inr y) =
-        let same = one_reaching f lines x.before x.number x.first x.rest y.before y.number y.first y.rest x.reaches (fault_stays f x.number (part_number x.before) x.rest a x.fault) y.reaches (fault_stays f y.number (part_number y.before) y.rest b y.fault) in
-        one_fault f x.number (part_number x.before) x.rest a b x.fault (moved_fault f b x.before x.number x.first x.rest y.before y.number y.first y.rest same y.fault)
+        let same = one_reaching f lines x.before x.number x.first x.rest y.before y.number y.first y.rest x.reaches
+        (fault_stays f x.number (part_number x.before) x.rest a x.fault) y.reaches (fault_stays f y.number (part_number y.before) y.rest b y.fault) in
+        one_fault f x.number (part_number x.before) x.rest a b x.fault
+        (moved_fault f b x.before x.number x.first x.rest y.before y.number y.first y.rest same y.fault)
 
 -- The last part of an accepted book.
 
@@ -368,12 +431,14 @@ record BookEnds (f : Contents) (lines : List (List ℕ)) (parts : List Part) : T
   pub reaches : Reaches f lines before last.solid last.first (last.further ++ spelling end ∷ [])
   pub certified : Certify Two f last.solid (last.further ++ spelling end ∷ [])
 
-book_ends : (f : Contents) (certificate : List ℕ) (lines : Lines) (parts : List Part) → IsHeaded certificate Three lines → IsAcceptedBook f certificate parts → BookEnds f lines parts
+book_ends : (f : Contents) (certificate : List ℕ) (lines : Lines) (parts : List Part) → IsHeaded certificate Three lines → IsAcceptedBook f certificate parts
+    → BookEnds f lines parts
 book_ends f certificate lines parts headed book =
     let (before, last, are) = some_last parts book.some in
     let good : AllByRecursion (IsGoodPart f) (before ++ last ∷ []) = subst (AllByRecursion (IsGoodPart f)) are book.good in
     let last_good : IsGoodPart f last = (all_behind (IsGoodPart f) before (last ∷ []) good).0 in
-    let cut : lines ≡ flat_map part_lines parts ++ spelling end ∷ [] = same_tail headed.first book.headed.first lines (flat_map part_lines parts ++ spelling end ∷ []) (sym headed.cut ∙ book.headed.cut) in
+    let cut : lines ≡ flat_map part_lines parts ++ spelling end ∷ [] =
+    same_tail headed.first book.headed.first lines (flat_map part_lines parts ++ spelling end ∷ []) (sym headed.cut ∙ book.headed.cut) in
     record {
       before = before;
       last = last;
@@ -402,15 +467,18 @@ none_bad f certificate lines parts a headed book bad = by_cases (bad_shows f lin
     by_cases : IsSecondBad lines a ⊎ PartIsBad f lines a → ⊥
     by_cases (inl x) = second_good f certificate lines ends.before ends.last.solid ends.last.first closing x.0 headed ends.reaches x.2
     by_cases (inr x) =
-        let same = one_reaching f lines ends.before ends.last.solid ends.last.first closing x.before x.number x.first x.rest ends.reaches (end_stays f ends.last.solid closing ends.certified) x.reaches (fault_stays f x.number (part_number x.before) x.rest a x.fault) in
-        no_fault f ends.last.solid (part_number ends.before) closing a ends.certified (moved_fault f a ends.before ends.last.solid ends.last.first closing x.before x.number x.first x.rest same x.fault)
+        let same = one_reaching f lines ends.before ends.last.solid ends.last.first closing x.before x.number x.first x.rest ends.reaches
+        (end_stays f ends.last.solid closing ends.certified) x.reaches (fault_stays f x.number (part_number x.before) x.rest a x.fault) in
+        no_fault f ends.last.solid (part_number ends.before) closing a ends.certified
+        (moved_fault f a ends.before ends.last.solid ends.last.first closing x.before x.number x.first x.rest same x.fault)
 
 pub one_reading : OneReading
 one_reading f certificate p q a b =
     let lines : Lines = flat_map part_lines p ++ spelling end ∷ [] in
     let x : BookEnds f lines p = book_ends f certificate lines p a.headed a in
     let y : BookEnds f lines q = book_ends f certificate lines q a.headed b in
-    let same = one_reaching f lines x.before x.last.solid x.last.first (x.last.further ++ spelling end ∷ []) y.before y.last.solid y.last.first (y.last.further ++ spelling end ∷ []) x.reaches (end_stays f x.last.solid (x.last.further ++ spelling end ∷ []) x.certified)
+    let same = one_reaching f lines x.before x.last.solid x.last.first (x.last.further ++ spelling end ∷ []) y.before y.last.solid y.last.first
+    (y.last.further ++ spelling end ∷ []) x.reaches (end_stays f x.last.solid (x.last.further ++ spelling end ∷ []) x.certified)
     y.reaches (end_stays f y.last.solid (y.last.further ++ spelling end ∷ []) y.certified) in
     let last : x.last ≡ y.last = same_part x.last y.last same.1 same.2 (append_cancel_right x.last.further y.last.further (spelling end ∷ []) same.3) in
     x.are ∙ (ap (λ (ps : List Part). ps ++ x.last ∷ []) same.0 ∙ (ap (λ (z : Part). y.before ++ z ∷ []) last ∙ sym y.are))

@@ -10,7 +10,8 @@ use Rattle.solid_data.specs.Obligations.{AllHold, FirstFalse}
 use Rattle.solid_data.specs.declared.solid.Shell.{Shell}
 use Rattle.solid_data.specs.declared.verdict.Failing.{Failing}
 use Rattle.solid_data.proofs.Members.{All-at, All-from, all_flat_map}
-use Rattle.solid_data.proofs.ObligationLemmas.{AllHold-append, AllHold-append_left, AllHold-append_right, FirstFalse-append_front, FirstFalse-append_rest, AllHold-of_each, of_each-AllHold, AllHold-map, map-AllHold, AllByRecursion-weaker}
+use Rattle.solid_data.proofs.ObligationLemmas.{AllHold-append, AllHold-append_left, AllHold-append_right, FirstFalse-append_front, FirstFalse-append_rest}
+use Rattle.solid_data.proofs.ObligationLemmas.{AllHold-of_each, of_each-AllHold, AllHold-map, map-AllHold, AllByRecursion-weaker}
 use Rattle.edge_uses.specs.ShellRows.{shell_rows}
 use Rattle.edge_uses.specs.Before.{IsApart}
 use Rattle.edge_uses.specs.Joins.{IsJoined, loop_obligations, join_obligations}
@@ -42,15 +43,18 @@ ShellApart s h = AllByRecursion (IsApart s h.0) (shell_rows s h.1).vertices
 
 join_from : (s : SolidData) (shell : Shell) → AllHold (join_obligations s shell) → ShellJoins s shell
 join_from s shell all =
-    AllByRecursion-weaker (λ (p : PlacedLoop). AllHold (loop_obligations s p.loop)) (λ (p : PlacedLoop). IsJoined s p.loop) (placed_loops shell) (λ p. joined_from_hold s p.loop)
+    AllByRecursion-weaker (λ (p : PlacedLoop). AllHold (loop_obligations s p.loop)) (λ (p : PlacedLoop). IsJoined s p.loop) (placed_loops shell)
+    (λ p. joined_from_hold s p.loop)
     (AllHold-of_each (λ (p : PlacedLoop). loop_obligations s p.loop) (placed_loops shell) all)
 
 join_to : (s : SolidData) (shell : Shell) → ShellJoins s shell → AllHold (join_obligations s shell)
 join_to s shell joins =
     of_each-AllHold (λ (p : PlacedLoop). loop_obligations s p.loop) (placed_loops shell)
-    (AllByRecursion-weaker (λ (p : PlacedLoop). IsJoined s p.loop) (λ (p : PlacedLoop). AllHold (loop_obligations s p.loop)) (placed_loops shell) (λ p. hold_from_joined s p.loop) joins)
+    (AllByRecursion-weaker (λ (p : PlacedLoop). IsJoined s p.loop) (λ (p : PlacedLoop). AllHold (loop_obligations s p.loop)) (placed_loops shell)
+    (λ p. hold_from_joined s p.loop) joins)
 
-both_parts : (P Q R : ℕ × Shell → Type 0) (xs : List (ℕ × Shell)) → ((h : ℕ × Shell) → P h → Q h → R h) → AllByRecursion P xs → AllByRecursion Q xs → AllByRecursion R xs
+both_parts : (P Q R : ℕ × Shell → Type 0) (xs : List (ℕ × Shell)) → ((h : ℕ × Shell) → P h → Q h → R h) → AllByRecursion P xs → AllByRecursion Q xs
+    → AllByRecursion R xs
 both_parts P Q R [] f p q = tt
 both_parts P Q R (x ∷ xs) f p q = (f x p.0 q.0, both_parts P Q R xs f p.1 q.1)
 
@@ -61,14 +65,18 @@ shell_from s h all = (
 )
 
 shell_to : (s : SolidData) (h : ℕ × Shell) → ShellJoins s h.1 → ShellApart s h → AllHold (checked_of_shell s h)
-shell_to s h joins apart = AllHold-append (join_obligations s h.1) (apart_obligations s h.0 (shell_rows s h.1)) (join_to s h.1 joins) (map-AllHold _ (shell_rows s h.1).vertices apart)
+shell_to s h joins apart = AllHold-append (join_obligations s h.1) (apart_obligations s h.0 (shell_rows s h.1)) (join_to s h.1 joins)
+    (map-AllHold _ (shell_rows s h.1).vertices apart)
 
 parts_from : (s : SolidData) → AllHold (checked_obligations s) → AllJoin s × AllApart s
 unfolding checked_obligations
 parts_from s all =
-    let each : AllByRecursion (λ h. AllHold (checked_of_shell s h)) (enumerate_from 0 s.shells) = AllHold-of_each (checked_of_shell s) (enumerate_from 0 s.shells) all in
+    let each : AllByRecursion (λ h. AllHold (checked_of_shell s h)) (enumerate_from 0 s.shells) =
+    AllHold-of_each (checked_of_shell s) (enumerate_from 0 s.shells) all in
     let joins : AllByRecursion (ShellJoins s) s.shells =
-    from_places (ShellJoins s) 0 s.shells (AllByRecursion-weaker (λ h. AllHold (checked_of_shell s h)) (λ h. ShellJoins s h.1) (enumerate_from 0 s.shells) (λ h a. (shell_from s h a).0) each) in (
+    from_places (ShellJoins s) 0 s.shells
+    (AllByRecursion-weaker (λ h. AllHold (checked_of_shell s h)) (λ h. ShellJoins s h.1) (enumerate_from 0 s.shells) (λ h a. (shell_from s h a).0) each)
+    in (
       all_flat_map (λ (p : PlacedLoop). IsJoined s p.loop) placed_loops s.shells (λ shell here. All-at (ShellJoins s) s.shells joins shell here),
       AllByRecursion-weaker (λ h. AllHold (checked_of_shell s h)) (ShellApart s) (enumerate_from 0 s.shells) (λ h a. (shell_from s h a).1) each,
     )
@@ -85,7 +93,8 @@ pub certified_checked : (v : Version) (f : Contents) (n : ℕ) (lines : List (Li
 unfolding checked
 certified_checked v f n lines c = AllHold-append (places f n) (checked_obligations (solid_of f n)) c.placed (parts_to (solid_of f n) c.joined c.apart)
 
-pub checked_certified : (v : Version) (f : Contents) (n : ℕ) (lines : List (List ℕ)) → AllHold (checked f n) → IsLegal v (solid_of f n) lines → Certify v f n lines
+pub checked_certified : (v : Version) (f : Contents) (n : ℕ) (lines : List (List ℕ)) → AllHold (checked f n) → IsLegal v (solid_of f n) lines
+    → Certify v f n lines
 unfolding checked
 checked_certified v f n lines all legal =
     let parts = parts_from (solid_of f n) (AllHold-append_right (places f n) (checked_obligations (solid_of f n)) all) in
@@ -109,5 +118,6 @@ module _ (f : Contents) (n : ℕ) (s : SolidData) (same : s ≡ solid_of f n) (p
 
   pub shells_fault : (e : CheckFault) → IsCheckFault (checked_obligations s) e → IsCheckFault (checked f n) e
   unfolding checked
-  shells_fault (Fails x) bad = FirstFalse-append_rest (places f n) (checked_obligations (solid_of f n)) x placed (subst (λ t. FirstFalse (checked_obligations t) x) same bad)
+  shells_fault (Fails x) bad = FirstFalse-append_rest (places f n) (checked_obligations (solid_of f n)) x placed
+      (subst (λ t. FirstFalse (checked_obligations t) x) same bad)
   shells_fault NoMemory bad = tt

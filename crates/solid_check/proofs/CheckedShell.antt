@@ -19,11 +19,15 @@ module _ (s : SolidData) (k : ℕ) (h : Shell) where
   pub open_fails : (x : Failing) → FirstFalse (join_obligations s h) x → FirstFalse (checked_of_shell s (k, h)) x
   open_fails x bad = FirstFalse-append_front (join_obligations s h) (apart_obligations s k (shell_rows s h)) x bad
 
-  pub shared_fails : (d : ShellRows) (x : Failing) → d ≡ shell_rows s h → AllHold (join_obligations s h) → FirstFalse (apart_obligations s k d) x → FirstFalse (checked_of_shell s (k, h)) x
-  shared_fails d x same joined bad = FirstFalse-append_rest (join_obligations s h) (apart_obligations s k (shell_rows s h)) x joined (subst (λ r. FirstFalse (apart_obligations s k r) x) same bad)
+  pub shared_fails : (d : ShellRows) (x : Failing) → d ≡ shell_rows s h → AllHold (join_obligations s h) → FirstFalse (apart_obligations s k d) x
+      → FirstFalse (checked_of_shell s (k, h)) x
+  shared_fails d x same joined bad = FirstFalse-append_rest (join_obligations s h) (apart_obligations s k (shell_rows s h)) x joined
+      (subst (λ r. FirstFalse (apart_obligations s k r) x) same bad)
 
-  pub both_hold : (d : ShellRows) → d ≡ shell_rows s h → AllHold (join_obligations s h) → AllHold (apart_obligations s k d) → AllHold (checked_of_shell s (k, h))
-  both_hold d same joined apart = AllHold-append (join_obligations s h) (apart_obligations s k (shell_rows s h)) joined (subst (λ r. AllHold (apart_obligations s k r)) same apart)
+  pub both_hold : (d : ShellRows) → d ≡ shell_rows s h → AllHold (join_obligations s h) → AllHold (apart_obligations s k d)
+      → AllHold (checked_of_shell s (k, h))
+  both_hold d same joined apart = AllHold-append (join_obligations s h) (apart_obligations s k (shell_rows s h)) joined
+      (subst (λ r. AllHold (apart_obligations s k r)) same apart)
 
 -- No shell stands before the first.
 none_before : (s : SolidData) (vs : List ℕ) → AllByRecursion (IsApart s 0) vs
@@ -35,7 +39,8 @@ module _ (s : SolidData) (h : Shell) (at : slice_get s.shells 0 ≡ Some h) wher
   pub only_shell_holds : length s.shells ≡ 1 → AllHold (join_obligations s h) → AllHold (checked_obligations s)
   only_shell_holds one joined =
       let holds = both_hold s 0 h (shell_rows s h) refl joined (apart_holds s 0 (shell_rows s h) (none_before s (shell_rows s h).vertices)) in
-      all_shells (checked_of_shell s) (checked_obligations s) s.shells 1 (omega (arith, one)) (one_shell (checked_of_shell s) (checked_obligations s) s.shells 0 h at (checked_from_first s) holds)
+      all_shells (checked_of_shell s) (checked_obligations s) s.shells 1 (omega (arith, one))
+      (one_shell (checked_of_shell s) (checked_obligations s) s.shells 0 h at (checked_from_first s) holds)
 
   pub only_shell_fails : (x : Failing) → FirstFalse (join_obligations s h) x → FirstFalse (checked_obligations s) x
   only_shell_fails x bad = shell_fails (checked_of_shell s) (checked_obligations s) s.shells 0 h (Fails x) at (checked_from_first s) (open_fails s 0 h x bad)

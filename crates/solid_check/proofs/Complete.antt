@@ -16,7 +16,8 @@ use Rattle.std.proofs.lemmas.Option.{slice_get_within}
 use Rattle.cert_lines.proofs.CutLines.{cut_spelled}
 use Rattle.edge_uses.specs.RowRelations.{IsPaired, point_count}
 use Rattle.shell_rules.specs.Closed.{IsLinked, IsClosedShell, IsClosedSolid}
-use Rattle.solid_data.proofs.Members.{map_has, from_flat_map, has_map, Has, All-at, no_longer, count_by-total, Rises, rises_none, has_left, has_right, all_has, has_get}
+use Rattle.solid_data.proofs.Members.{map_has, from_flat_map, has_map, Has, All-at, no_longer, count_by-total, Rises, rises_none, has_left, has_right, all_has}
+use Rattle.solid_data.proofs.Members.{has_get}
 use Rattle.edge_uses.proofs.Counting.{two_rows_each}
 use Rattle.edge_uses.proofs.RowFacts.{loops_below, edges_rise, vertices_rise, edges_known}
 use Rattle.edge_uses.proofs.Adding.{rows_shorter}
@@ -40,9 +41,11 @@ use Rattle.cert_lines.specs.Line.{CertLine, head, solid, spaced, spelling, versi
 -- Sizes.
 
 -- a loop has as many uses as rows, or a use more where it has a point
-loop_size : (s : SolidData) (p : PlacedLoop) (us : List LoopUse) → length (filter_map (row_of s p) us) + length (point_of p us (map (λ (r : Row). r.edge.0) (filter_map (row_of s p) us))) ≤ length us
+loop_size : (s : SolidData) (p : PlacedLoop) (us : List LoopUse)
+    → length (filter_map (row_of s p) us) + length (point_of p us (map (λ (r : Row). r.edge.0) (filter_map (row_of s p) us))) ≤ length us
 loop_size s p [] = omega arith
-loop_size s p (EdgeUse used along ∷ us) = by_rows (map (λ (r : Row). r.edge.0) (filter_map (row_of s p) (EdgeUse used along ∷ us))) (rows_shorter s p (EdgeUse used along ∷ us))
+loop_size s p (EdgeUse used along ∷ us) = by_rows (map (λ (r : Row). r.edge.0) (filter_map (row_of s p) (EdgeUse used along ∷ us)))
+    (rows_shorter s p (EdgeUse used along ∷ us))
   where
     by_rows : (es : List ℕ) → length (filter_map (row_of s p) (EdgeUse used along ∷ us)) ≤ length (EdgeUse used along ∷ us)
         → length (filter_map (row_of s p) (EdgeUse used along ∷ us)) + length (point_of p (EdgeUse used along ∷ us) es) ≤ length (EdgeUse used along ∷ us)
@@ -50,15 +53,26 @@ loop_size s p (EdgeUse used along ∷ us) = by_rows (map (λ (r : Row). r.edge.0
     by_rows (e ∷ es) h = omega (arith, h)
 loop_size s p (VertexUse v ∷ us) = by_rows (filter_map (row_of s p) us) (rows_shorter s p us)
   where
-    by_rows : (rows : List Row) → length rows ≤ length us → length rows + length (point_of p (VertexUse v ∷ us) (map (λ (r : Row). r.edge.0) rows)) ≤ length (VertexUse v ∷ us)
+    by_rows : (rows : List Row) → length rows ≤ length us → length rows + length (point_of p (VertexUse v ∷ us) (map (λ (r : Row). r.edge.0) rows))
+        ≤ length (VertexUse v ∷ us)
     by_rows [] h = omega arith
     by_rows (r ∷ rows) h = omega (arith, h)
 
-loops_size : (s : SolidData) (ps : List PlacedLoop) → length (flat_map (loop_rows s) ps) + length (flat_map (λ (p : PlacedLoop). point_of p p.loop.uses (map (λ (r : Row). r.edge.0) (loop_rows s p))) ps) ≤ length (flat_map (λ (p : PlacedLoop). p.loop.uses) ps)
+loops_size : (s : SolidData) (ps : List PlacedLoop)
+    → length (flat_map (loop_rows s) ps) + length (flat_map (λ (p : PlacedLoop). point_of p p.loop.uses (map (λ (r : Row). r.edge.0) (loop_rows s p))) ps)
+    ≤ length (flat_map (λ (p : PlacedLoop). p.loop.uses) ps)
 loops_size s [] = omega arith
 loops_size s (p ∷ ps) =
     let points : PlacedLoop → List (LoopAt × ℕ) = λ q. point_of q q.loop.uses (map (λ (r : Row). r.edge.0) (loop_rows s q)) in
-    omega (arith, loop_size s p p.loop.uses, loops_size s ps, length-append (loop_rows s p) (flat_map (loop_rows s) ps), length-append (points p) (flat_map points ps), length-append p.loop.uses (flat_map (λ (q : PlacedLoop). q.loop.uses) ps))
+    omega (
+      arith,
+      loop_size s p p.loop.uses,
+      loops_size s ps,
+      length-append (loop_rows s p) (flat_map (loop_rows s) ps),
+      length-append (points p)
+          (flat_map points ps),
+      length-append p.loop.uses (flat_map (λ (q : PlacedLoop). q.loop.uses) ps),
+    )
 
 rows_and_points : (s : SolidData) (h : Shell) → length (shell_rows s h).rows + length (shell_rows s h).points ≤ length (shell_uses h)
 unfolding shell_rows
@@ -71,10 +85,18 @@ vertices_size d rises linked =
     let lone : List ℕ = map (λ (p : LoopAt × ℕ). p.1) d.points in
     let into : (v : ℕ) → Has d.vertices v → Has (starts ++ lone) v =
     λ v m. ⊎_elim
-    (λ c. has_left starts lone v (subst (Has starts) c.some.1.2 (map_has (λ (r : Row). r.from.0) d.rows c.some.1.0 (has_get d.rows c.some.0 c.some.1.0 c.some.1.1))))
+    (λ c. has_left starts lone v
+    (subst (Has starts) c.some.1.2 (map_has (λ (r : Row). r.from.0) d.rows c.some.1.0 (has_get d.rows c.some.0 c.some.1.0 c.some.1.1))))
     (λ p. has_right starts lone v (point_there v p.one_point))
     (All-at (IsLinked d) d.vertices linked v m) in
-    omega (arith, no_longer d.vertices (starts ++ lone) (rises_none d.vertices rises) into, length-append starts lone, length-map d.rows (λ (r : Row). r.from.0), length-map d.points (λ (p : LoopAt × ℕ). p.1))
+    omega (
+      arith,
+      no_longer d.vertices (starts ++ lone) (rises_none d.vertices rises) into,
+      length-append starts lone,
+      length-map d.rows
+          (λ (r : Row). r.from.0),
+      length-map d.points (λ (p : LoopAt × ℕ). p.1),
+    )
   where
     point_there : (v : ℕ) → point_count d v ≡ 1 → Has (map (λ (p : LoopAt × ℕ). p.1) d.points) v
     point_there v one =
@@ -82,7 +104,8 @@ vertices_size d rises linked =
         subst (Has (map (λ (p : LoopAt × ℕ). p.1) d.points)) (eqb-true f.0.1 v f.2) (map_has (λ (p : LoopAt × ℕ). p.1) d.points f.0 f.1)
 
 -- where a point lies
-points_low : (s : SolidData) (h : Shell) (x : LoopAt × ℕ) → Has (shell_rows s h).points x → (x.0.face.0 < length h.faces) × (x.0.place < length (placed_loops h))
+points_low : (s : SolidData) (h : Shell) (x : LoopAt × ℕ) → Has (shell_rows s h).points x
+    → (x.0.face.0 < length h.faces) × (x.0.place < length (placed_loops h))
 unfolding shell_rows
 points_low s h x m =
     let p = from_flat_map (λ (q : PlacedLoop). point_of q q.loop.uses (map (λ (r : Row). r.edge.0) (loop_rows s q))) (placed_loops h) x m in
@@ -104,7 +127,8 @@ has_place [] x h = absurd h
 has_place (y ∷ xs) x (inl e) = (zero, ap Some e)
 has_place (y ∷ xs) x (inr h) = let k = has_place xs x h in (suc k.0, k.1)
 
-pub shell_small : (s : SolidData) (n : ℕ) → HasFewParts s n → (h : Shell) → Has s.shells h → IsClosedSolid s → IsSmall s (shell_rows s h) × (loops_of (Some h) < 10 ^ 9)
+pub shell_small : (s : SolidData) (n : ℕ) → HasFewParts s n → (h : Shell) → Has s.shells h → IsClosedSolid s
+    → IsSmall s (shell_rows s h) × (loops_of (Some h) < 10 ^ 9)
 shell_small s n few h here closed =
     let d : ShellRows = shell_rows s h in
     let k = has_place s.shells h here in

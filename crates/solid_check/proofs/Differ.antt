@@ -18,10 +18,12 @@ use Rattle.solid_check.proofs.SameLines.{lines_alike}
 certified_alike : (v : Version) (f : Contents) (n : ℕ) (xs ys : List (List ℕ)) → Certify v f n xs → Certify v f n ys → AllZip AlikeButReach xs ys
 unfolding solid_of
 certified_alike v f n xs ys a b =
-    lines_alike v (solid_of f n) (good_rows (solid_of f n) a.joined (vertices_known f n)) [] [] tt tt refl xs ys (legal_behind v (solid_of f n) xs a.legal) (legal_behind v (solid_of f n) ys b.legal)
+    lines_alike v (solid_of f n) (good_rows (solid_of f n) a.joined (vertices_known f n)) [] [] tt tt refl xs ys (legal_behind v (solid_of f n) xs a.legal)
+    (legal_behind v (solid_of f n) ys b.legal)
 
 -- certificates of one solid
-alone_alike : (v : Version) (f : Contents) (n : ℕ) (a b : List ℕ) → IsAcceptedAlone v f n a → IsAcceptedAlone v f n b → AllZip AlikeButReach (cut_lines a) (cut_lines b)
+alone_alike : (v : Version) (f : Contents) (n : ℕ) (a b : List ℕ) → IsAcceptedAlone v f n a → IsAcceptedAlone v f n b
+    → AllZip AlikeButReach (cut_lines a) (cut_lines b)
 alone_alike v f n a b p q =
     subst (λ ls. AllZip AlikeButReach ls (cut_lines b)) (sym p.opens.cut)
     (subst (λ ls. AllZip AlikeButReach (p.opens.first ∷ p.opens.second ∷ p.rest) ls) (sym q.opens.cut) (
@@ -44,7 +46,8 @@ zip_less R [] (y ∷ ys) e g h = absurd (none_zip_left R ys g h.1)
 zip_less R (x ∷ xs) [] e g h = absurd (none_zip_right R xs e h.1)
 zip_less R (x ∷ xs) (y ∷ ys) e g h = (h.0, zip_less R xs ys e g h.1)
 
-zip_both : {A B : Type 0} (R : A → B → Type 0) (xs : List A) (ys : List B) (us : List A) (vs : List B) → AllZip R xs ys → AllZip R us vs → AllZip R (xs ++ us) (ys ++ vs)
+zip_both : {A B : Type 0} (R : A → B → Type 0) (xs : List A) (ys : List B) (us : List A) (vs : List B) → AllZip R xs ys → AllZip R us vs
+    → AllZip R (xs ++ us) (ys ++ vs)
 zip_both R [] [] us vs h k = k
 zip_both R [] (y ∷ ys) us vs h k = absurd h
 zip_both R (x ∷ xs) [] us vs h k = absurd h
@@ -65,28 +68,36 @@ same_others n m ns ms h = cc
 -- parts of books that name one solid
 part_alike : (f : Contents) (p q : Part) → p.solid ≡ q.solid → IsGoodPart f p → IsGoodPart f q → AllZip AlikeButReach (part_lines p) (part_lines q)
 part_alike f p q same h g =
-    let there : Certify Two f p.solid (q.further ++ spelling end ∷ []) = subst (λ n. Certify Two f n (q.further ++ spelling end ∷ [])) (sym same) g.certified in (
+    let there : Certify Two f p.solid (q.further ++ spelling end ∷ []) = subst (λ n. Certify Two f n (q.further ++ spelling end ∷ [])) (sym same) g.certified
+    in (
       inl (h.names.1 ∙ (ap (λ n. spelling (solid n)) same ∙ sym g.names.1)),
-      zip_less AlikeButReach p.further q.further (spelling end) (spelling end) (certified_alike Two f p.solid (p.further ++ spelling end ∷ []) (q.further ++ spelling end ∷ []) h.certified there),
+      zip_less AlikeButReach p.further q.further (spelling end) (spelling end)
+          (certified_alike Two f p.solid (p.further ++ spelling end ∷ []) (q.further ++ spelling end ∷ []) h.certified there),
     )
 
-parts_alike : (f : Contents) (ps qs : List Part) → solids_named ps ≡ solids_named qs → AllByRecursion (IsGoodPart f) ps → AllByRecursion (IsGoodPart f) qs → AllZip AlikeButReach (flat_map part_lines ps) (flat_map part_lines qs)
+parts_alike : (f : Contents) (ps qs : List Part) → solids_named ps ≡ solids_named qs → AllByRecursion (IsGoodPart f) ps → AllByRecursion (IsGoodPart f) qs
+    → AllZip AlikeButReach (flat_map part_lines ps) (flat_map part_lines qs)
 parts_alike f [] [] same h g = tt
 parts_alike f [] (q ∷ qs) same h g = absurd (none_named q.solid (solids_named qs) same)
 parts_alike f (p ∷ ps) [] same h g = absurd (named_none p.solid (solids_named ps) same)
 parts_alike f (p ∷ ps) (q ∷ qs) same h g =
-    zip_both AlikeButReach (part_lines p) (part_lines q) (flat_map part_lines ps) (flat_map part_lines qs) (part_alike f p q (same_first p.solid q.solid (solids_named ps) (solids_named qs) same) h.0 g.0)
+    zip_both AlikeButReach (part_lines p) (part_lines q) (flat_map part_lines ps) (flat_map part_lines qs)
+    (part_alike f p q (same_first p.solid q.solid (solids_named ps) (solids_named qs) same) h.0 g.0)
     (parts_alike f ps qs (same_others p.solid q.solid (solids_named ps) (solids_named qs) same) h.1 g.1)
 
-book_alike : (f : Contents) (a b : List ℕ) (ps qs : List Part) → solids_named ps ≡ solids_named qs → IsAcceptedBook f a ps → IsAcceptedBook f b qs → AllZip AlikeButReach (cut_lines a) (cut_lines b)
+book_alike : (f : Contents) (a b : List ℕ) (ps qs : List Part) → solids_named ps ≡ solids_named qs → IsAcceptedBook f a ps → IsAcceptedBook f b qs
+    → AllZip AlikeButReach (cut_lines a) (cut_lines b)
 book_alike f a b ps qs same h g =
     subst (λ ls. AllZip AlikeButReach ls (cut_lines b)) (sym h.headed.cut)
     (subst (λ ls. AllZip AlikeButReach (h.headed.first ∷ (flat_map part_lines ps ++ spelling end ∷ [])) ls) (sym g.headed.cut) (
       inl (h.headed.is_head.1.1 ∙ sym g.headed.is_head.1.1),
-      zip_both AlikeButReach (flat_map part_lines ps) (flat_map part_lines qs) (spelling end ∷ []) (spelling end ∷ []) (parts_alike f ps qs same h.good g.good) (inl refl, tt),
+      zip_both AlikeButReach (flat_map part_lines ps) (flat_map part_lines qs) (spelling end ∷ []) (spelling end ∷ []) (parts_alike f ps qs same h.good g.good)
+          (inl refl, tt),
     ))
 
 pub differ_in_reach : AcceptedDifferInReach
-differ_in_reach f One ns a b (n, n_is, p) (m, m_is, q) = alone_alike One f n a b p (subst (λ k. IsAcceptedAlone One f k b) (same_first m n [] [] (sym m_is ∙ n_is)) q)
-differ_in_reach f Two ns a b (n, n_is, p) (m, m_is, q) = alone_alike Two f n a b p (subst (λ k. IsAcceptedAlone Two f k b) (same_first m n [] [] (sym m_is ∙ n_is)) q)
+differ_in_reach f One ns a b (n, n_is, p) (m, m_is, q) =
+    alone_alike One f n a b p (subst (λ k. IsAcceptedAlone One f k b) (same_first m n [] [] (sym m_is ∙ n_is)) q)
+differ_in_reach f Two ns a b (n, n_is, p) (m, m_is, q) =
+    alone_alike Two f n a b p (subst (λ k. IsAcceptedAlone Two f k b) (same_first m n [] [] (sym m_is ∙ n_is)) q)
 differ_in_reach f Three ns a b (ps, ps_is, p) (qs, qs_is, q) = book_alike f a b ps qs (sym ps_is ∙ qs_is) p q

@@ -11,6 +11,7 @@ use Rattle.brep_walk.proofs.Few.{has_few_parts}
 
 pub closed_exactly : ClosedExactlyWhereAccepted
 closed_exactly f n limits = (
-  λ closed. (let a = closed_is_accepted f n (has_few_parts f n limits closed.placed) closed in (a.0, Two, n ∷ [], a.1, Contains-from_Has (n ∷ []) n (inl refl))),
+  λ closed. (let a = closed_is_accepted f n (has_few_parts f n limits closed.placed) closed
+      in (a.0, Two, n ∷ [], a.1, Contains-from_Has (n ∷ []) n (inl refl))),
   λ (certificate, v, ns, accepted, named). All-at (IsClosed f) ns (accepted_is_closed f certificate v ns accepted) n (Has-from_Contains ns n named),
 )

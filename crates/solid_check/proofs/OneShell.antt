@@ -29,37 +29,45 @@ module _ (s : SolidData) (k : ℕ) (h : Shell) (d : ShellRows) (is : d ≡ shell
       let e : ShellRows = shell_rows s h in
       FirstFalse-append_front (join_obligations s h ++ pair_obligations s e ++ reach_obligations h e ++ link_obligations s e) (apart_obligations s k e) x
       (FirstFalse-append_front (join_obligations s h ++ pair_obligations s e ++ reach_obligations h e) (link_obligations s e) x
-      (FirstFalse-append_front (join_obligations s h ++ pair_obligations s e) (reach_obligations h e) x (FirstFalse-append_front (join_obligations s h) (pair_obligations s e) x bad)))
+      (FirstFalse-append_front (join_obligations s h ++ pair_obligations s e) (reach_obligations h e) x
+      (FirstFalse-append_front (join_obligations s h) (pair_obligations s e) x bad)))
 
   pub paired_not : AllHold (join_obligations s h) → (e : CheckFault) → IsCheckFault (pair_obligations s d) e → IsCheckFault (shell_obligations s (k, h)) e
   unfolding shell_obligations
   paired_not joins e bad =
       let r : ShellRows = shell_rows s h in
       fault_of (pair_obligations s r) (shell_obligations s (k, h))
-      (λ x b. FirstFalse-append_front (join_obligations s h ++ pair_obligations s r ++ reach_obligations h r ++ link_obligations s r) (apart_obligations s k r) x
+      (λ x b. FirstFalse-append_front (join_obligations s h ++ pair_obligations s r ++ reach_obligations h r ++ link_obligations s r) (apart_obligations s k r)
+      x
       (FirstFalse-append_front (join_obligations s h ++ pair_obligations s r ++ reach_obligations h r) (link_obligations s r) x
-      (FirstFalse-append_front (join_obligations s h ++ pair_obligations s r) (reach_obligations h r) x (FirstFalse-append_rest (join_obligations s h) (pair_obligations s r) x joins b))))
+      (FirstFalse-append_front (join_obligations s h ++ pair_obligations s r) (reach_obligations h r) x
+      (FirstFalse-append_rest (join_obligations s h) (pair_obligations s r) x joins b))))
       e (subst (λ z. IsCheckFault (pair_obligations s z) e) is bad)
 
-  pub reached_not : AllHold (join_obligations s h) → AllHold (pair_obligations s d) → (e : CheckFault) → IsCheckFault (reach_obligations h d) e → IsCheckFault (shell_obligations s (k, h)) e
+  pub reached_not : AllHold (join_obligations s h) → AllHold (pair_obligations s d) → (e : CheckFault) → IsCheckFault (reach_obligations h d) e
+      → IsCheckFault (shell_obligations s (k, h)) e
   unfolding shell_obligations
   reached_not joins pairs e bad =
       let r : ShellRows = shell_rows s h in
       let front = AllHold-append (join_obligations s h) (pair_obligations s r) joins (subst (λ z. AllHold (pair_obligations s z)) is pairs) in
       fault_of (reach_obligations h r) (shell_obligations s (k, h))
-      (λ x b. FirstFalse-append_front (join_obligations s h ++ pair_obligations s r ++ reach_obligations h r ++ link_obligations s r) (apart_obligations s k r) x
+      (λ x b. FirstFalse-append_front (join_obligations s h ++ pair_obligations s r ++ reach_obligations h r ++ link_obligations s r) (apart_obligations s k r)
+      x
       (FirstFalse-append_front (join_obligations s h ++ pair_obligations s r ++ reach_obligations h r) (link_obligations s r) x
       (FirstFalse-append_rest (join_obligations s h ++ pair_obligations s r) (reach_obligations h r) x front b)))
       e (subst (λ z. IsCheckFault (reach_obligations h z) e) is bad)
 
-  pub linked_not : AllHold (join_obligations s h) → AllHold (pair_obligations s d) → AllHold (reach_obligations h d) → (e : CheckFault) → IsCheckFault (link_obligations s d) e → IsCheckFault (shell_obligations s (k, h)) e
+  pub linked_not : AllHold (join_obligations s h) → AllHold (pair_obligations s d) → AllHold (reach_obligations h d) → (e : CheckFault)
+      → IsCheckFault (link_obligations s d) e → IsCheckFault (shell_obligations s (k, h)) e
   unfolding shell_obligations
   linked_not joins pairs reach e bad =
       let r : ShellRows = shell_rows s h in
       let front = AllHold-append (join_obligations s h) (pair_obligations s r) joins (subst (λ z. AllHold (pair_obligations s z)) is pairs) in
-      let more = AllHold-append (join_obligations s h ++ pair_obligations s r) (reach_obligations h r) front (subst (λ z. AllHold (reach_obligations h z)) is reach) in
+      let more = AllHold-append (join_obligations s h ++ pair_obligations s r) (reach_obligations h r) front
+      (subst (λ z. AllHold (reach_obligations h z)) is reach) in
       fault_of (link_obligations s r) (shell_obligations s (k, h))
-      (λ x b. FirstFalse-append_front (join_obligations s h ++ pair_obligations s r ++ reach_obligations h r ++ link_obligations s r) (apart_obligations s k r) x
+      (λ x b. FirstFalse-append_front (join_obligations s h ++ pair_obligations s r ++ reach_obligations h r ++ link_obligations s r) (apart_obligations s k r)
+      x
       (FirstFalse-append_rest (join_obligations s h ++ pair_obligations s r ++ reach_obligations h r) (link_obligations s r) x more b))
       e (subst (λ z. IsCheckFault (link_obligations s z) e) is bad)
 
@@ -69,19 +77,24 @@ module _ (s : SolidData) (k : ℕ) (h : Shell) (d : ShellRows) (is : d ≡ shell
       let r : ShellRows = shell_rows s h in
       AllHold-append (join_obligations s h ++ pair_obligations s r ++ reach_obligations h r) (link_obligations s r)
       (AllHold-append (join_obligations s h ++ pair_obligations s r) (reach_obligations h r)
-      (AllHold-append (join_obligations s h) (pair_obligations s r) joins (subst (λ z. AllHold (pair_obligations s z)) is pairs)) (subst (λ z. AllHold (reach_obligations h z)) is reach))
+      (AllHold-append (join_obligations s h) (pair_obligations s r) joins (subst (λ z. AllHold (pair_obligations s z)) is pairs))
+      (subst (λ z. AllHold (reach_obligations h z)) is reach))
       (subst (λ z. AllHold (link_obligations s z)) is links)
 
-  pub apart_not : AllHold (join_obligations s h) → AllHold (pair_obligations s d) → AllHold (reach_obligations h d) → AllHold (link_obligations s d) → (x : Failing) → FirstFalse (apart_obligations s k d) x → FirstFalse (shell_obligations s (k, h)) x
+  pub apart_not : AllHold (join_obligations s h) → AllHold (pair_obligations s d) → AllHold (reach_obligations h d) → AllHold (link_obligations s d)
+      → (x : Failing) → FirstFalse (apart_obligations s k d) x → FirstFalse (shell_obligations s (k, h)) x
   unfolding shell_obligations
   apart_not joins pairs reach links x bad =
       let r : ShellRows = shell_rows s h in
-      FirstFalse-append_rest (join_obligations s h ++ pair_obligations s r ++ reach_obligations h r ++ link_obligations s r) (apart_obligations s k r) x (all_but_last joins pairs reach links)
+      FirstFalse-append_rest (join_obligations s h ++ pair_obligations s r ++ reach_obligations h r ++ link_obligations s r) (apart_obligations s k r) x
+      (all_but_last joins pairs reach links)
       (subst (λ z. FirstFalse (apart_obligations s k z) x) is bad)
 
-  pub all_hold : AllHold (join_obligations s h) → AllHold (pair_obligations s d) → AllHold (reach_obligations h d) → AllHold (link_obligations s d) → AllHold (apart_obligations s k d) → AllHold (shell_obligations s (k, h))
+  pub all_hold : AllHold (join_obligations s h) → AllHold (pair_obligations s d) → AllHold (reach_obligations h d) → AllHold (link_obligations s d)
+      → AllHold (apart_obligations s k d) → AllHold (shell_obligations s (k, h))
   unfolding shell_obligations
   all_hold joins pairs reach links apart =
       let r : ShellRows = shell_rows s h in
-      AllHold-append (join_obligations s h ++ pair_obligations s r ++ reach_obligations h r ++ link_obligations s r) (apart_obligations s k r) (all_but_last joins pairs reach links)
+      AllHold-append (join_obligations s h ++ pair_obligations s r ++ reach_obligations h r ++ link_obligations s r) (apart_obligations s k r)
+      (all_but_last joins pairs reach links)
       (subst (λ z. AllHold (apart_obligations s k z)) is apart)

@@ -46,7 +46,8 @@ enum_one xs f g h k e =
     let item : f.1 ≡ g.1 = same_Some f.1 g.1 (sym a.2 ∙ (ap (slice_get xs) same ∙ b.2)) in
     ap (λ n. (n, f.1)) e ∙ ap (λ x. (g.0, x)) item
 
-placed_one : (shell : Shell) (p q : PlacedLoop) → Has (placed_loops shell) p → Has (placed_loops shell) q → p.at.face.0 ≡ q.at.face.0 → p.at.place ≡ q.at.place → p ≡ q
+placed_one : (shell : Shell) (p q : PlacedLoop) → Has (placed_loops shell) p → Has (placed_loops shell) q → p.at.face.0 ≡ q.at.face.0 → p.at.place ≡ q.at.place
+    → p ≡ q
 placed_one shell p q h k face place =
     let f = from_flat_map (placed_in_face shell.flag) (enumerate_from 0 shell.faces) p h in
     let g = from_flat_map (placed_in_face shell.flag) (enumerate_from 0 shell.faces) q k in
@@ -57,13 +58,15 @@ placed_one shell p q h k face place =
     let one_face : f.0 ≡ g.0 = enum_one shell.faces f.0 g.0 f.1 g.1 (face_f ∙ (face ∙ sym face_g)) in
     let place_l : l.0.0 ≡ p.at.place = ap (λ (r : PlacedLoop). r.at.place) l.2 in
     let place_m : m.0.0 ≡ q.at.place = ap (λ (r : PlacedLoop). r.at.place) m.2 in
-    let one_loop : l.0 ≡ m.0 = enum_one g.0.1.loops l.0 m.0 (subst (λ (z : ℕ × FaceUse). Has (enumerate_from 0 z.1.loops) l.0) one_face l.1) m.1 (place_l ∙ (place ∙ sym place_m)) in
+    let one_loop : l.0 ≡ m.0 = enum_one g.0.1.loops l.0 m.0 (subst (λ (z : ℕ × FaceUse). Has (enumerate_from 0 z.1.loops) l.0) one_face l.1) m.1
+    (place_l ∙ (place ∙ sym place_m)) in
     sym l.2 ∙ (ap (λ (z : ℕ × FaceUse). make z l.0) one_face ∙ (ap (λ z. make g.0 z) one_loop ∙ m.2))
   where
     make : ℕ × FaceUse → ℕ × Loop → PlacedLoop
     make face l = record { at = record { face = record { 0 = face.0 }; place = l.0 }; forwards = same_flag face.1.flag shell.flag; loop = l.1 }
 
-pub point_is : (p : PlacedLoop) (us : List LoopUse) (es : List ℕ) (x : LoopAt × ℕ) → Has (point_of p us es) x → (x.0 ≡ p.at) × ((y : LoopAt × ℕ) → Has (point_of p us es) y → y.1 ≡ x.1)
+pub point_is : (p : PlacedLoop) (us : List LoopUse) (es : List ℕ) (x : LoopAt × ℕ) → Has (point_of p us es) x
+    → (x.0 ≡ p.at) × ((y : LoopAt × ℕ) → Has (point_of p us es) y → y.1 ≡ x.1)
 point_is p [] [] x h = absurd h
 point_is p [] (e ∷ es) x h = absurd h
 point_is p (EdgeUse edge along ∷ us) [] x h = absurd h
@@ -89,7 +92,8 @@ points_differ s shell x y h k face place =
 pub paired_rows_of : (d : ShellRows) → AreGoodRows d → AllByRecursion (IsPaired d) d.edges → PairedRows d
 paired_rows_of d good all n a at = All-at (IsPaired d) d.edges all a.edge.0 (row_has (λ (r : Row). Has d.edges r.edge.0) d.rows n a good.edges at)
 
-shell_ready : (s : SolidData) (k : ℕ) (shell : Shell) → IsSmall s (shell_rows s shell) × (loops_of (Some shell) < 10 ^ 9) → AreGoodRows (shell_rows s shell) → IsClosedShell s k shell → AreReady s (shell_rows s shell) (loops_of (Some shell))
+shell_ready : (s : SolidData) (k : ℕ) (shell : Shell) → IsSmall s (shell_rows s shell) × (loops_of (Some shell) < 10 ^ 9) → AreGoodRows (shell_rows s shell)
+    → IsClosedShell s k shell → AreReady s (shell_rows s shell) (loops_of (Some shell))
 shell_ready s k shell small good closed =
     let d : ShellRows = shell_rows s shell in
     let zero_more : (f : ℕ) → 0 + f ≡ f = λ f. omega arith in
@@ -100,7 +104,8 @@ shell_ready s k shell small good closed =
       proper = record {
         paired = All-at (IsPaired d) d.edges closed.paired;
         reached = λ f lt. All-at (IsReached d) (numbers_from 0 (length shell.faces)) closed.reached f
-            (subst (Has (numbers_from 0 (length shell.faces))) (zero_more f) (numbers_have 0 (length shell.faces) f (subst (λ n. f < n) (faces_of_rows s shell) lt)));
+            (subst (Has (numbers_from 0 (length shell.faces))) (zero_more f)
+            (numbers_have 0 (length shell.faces) f (subst (λ n. f < n) (faces_of_rows s shell) lt)));
         linked = All-at (IsLinked d) d.vertices closed.linked;
       };
       turning = are_turning d (paired_rows_of d good closed.paired) good.meet good.exchanged (each_is_followed s shell);
@@ -110,7 +115,8 @@ shell_ready s k shell small good closed =
     }
 
 -- the shells of a closed solid, by their places
-pub closed_at : (s : SolidData) (base : ℕ) (xs : List Shell) → AllByRecursion (λ (h : ℕ × Shell). IsClosedShell s h.0 h.1) (enumerate_from base xs) → (j : ℕ) (shell : Shell) → slice_get xs j ≡ Some shell → IsClosedShell s (base + j) shell
+pub closed_at : (s : SolidData) (base : ℕ) (xs : List Shell) → AllByRecursion (λ (h : ℕ × Shell). IsClosedShell s h.0 h.1) (enumerate_from base xs)
+    → (j : ℕ) (shell : Shell) → slice_get xs j ≡ Some shell → IsClosedShell s (base + j) shell
 closed_at s base [] all j shell h = absurd cc
 closed_at s base (x ∷ xs) all zero shell h =
     let e : base ≡ base + 0 = omega arith in
@@ -119,19 +125,24 @@ closed_at s base (x ∷ xs) all (suc j) shell h =
     let e : base + 1 + j ≡ base + suc j = omega arith in
     subst (λ n. IsClosedShell s n shell) e (closed_at s (base + 1) xs all.1 j shell h)
 
-joined_all : (s : SolidData) (base : ℕ) (xs : List Shell) → AllByRecursion (λ (h : ℕ × Shell). IsClosedShell s h.0 h.1) (enumerate_from base xs) → AllByRecursion (λ (p : PlacedLoop). IsJoined s p.loop) (flat_map placed_loops xs)
+joined_all : (s : SolidData) (base : ℕ) (xs : List Shell) → AllByRecursion (λ (h : ℕ × Shell). IsClosedShell s h.0 h.1) (enumerate_from base xs)
+    → AllByRecursion (λ (p : PlacedLoop). IsJoined s p.loop) (flat_map placed_loops xs)
 joined_all s base [] all = tt
-joined_all s base (x ∷ xs) all = all_append (λ (p : PlacedLoop). IsJoined s p.loop) (placed_loops x) (flat_map placed_loops xs) all.0.joined (joined_all s (base + 1) xs all.1)
+joined_all s base (x ∷ xs) all = all_append (λ (p : PlacedLoop). IsJoined s p.loop) (placed_loops x) (flat_map placed_loops xs) all.0.joined
+    (joined_all s (base + 1) xs all.1)
 
 -- A closed solid joins, and is apart.
 pub closed_joins : (s : SolidData) → IsClosedSolid s → AllJoin s
 closed_joins s closed = joined_all s 0 s.shells closed
 
-pub apart_all : (s : SolidData) (xs : List (ℕ × Shell)) → AllByRecursion (λ (h : ℕ × Shell). IsClosedShell s h.0 h.1) xs → AllByRecursion (λ (h : ℕ × Shell). AllByRecursion (IsApart s h.0) (shell_rows s h.1).vertices) xs
+pub apart_all : (s : SolidData) (xs : List (ℕ × Shell)) → AllByRecursion (λ (h : ℕ × Shell). IsClosedShell s h.0 h.1) xs
+    → AllByRecursion (λ (h : ℕ × Shell). AllByRecursion (IsApart s h.0) (shell_rows s h.1).vertices) xs
 apart_all s [] all = tt
 apart_all s (h ∷ xs) all = (all.0.apart, apart_all s xs all.1)
 
-pub closed_is_ready : (s : SolidData) → ((shell : Shell) → Has s.shells shell → IsClosedSolid s → IsSmall s (shell_rows s shell) × (loops_of (Some shell) < 10 ^ 9)) → AllKnown s → IsClosedSolid s → (j : ℕ) → j < length s.shells → AreReady s (rows_of_shell s (suc j)) (loops_of_shell s (suc j))
+pub closed_is_ready : (s : SolidData)
+    → ((shell : Shell) → Has s.shells shell → IsClosedSolid s → IsSmall s (shell_rows s shell) × (loops_of (Some shell) < 10 ^ 9)) → AllKnown s
+    → IsClosedSolid s → (j : ℕ) → j < length s.shells → AreReady s (rows_of_shell s (suc j)) (loops_of_shell s (suc j))
 closed_is_ready s small known closed j lt = at_shell (slice_get s.shells j) refl
   where
     some_there : (xs : List Shell) (n : ℕ) → n < length xs → slice_get xs n ≡ None → ⊥
@@ -143,4 +154,5 @@ closed_is_ready s small known closed j lt = at_shell (slice_get s.shells j) refl
     at_shell None e = absurd (some_there s.shells j lt e)
     at_shell (Some shell) e =
         let good : AreGoodRows (rows_of s (slice_get s.shells j)) = good_rows s (closed_joins s closed) known (suc j) in
-        shell_ready s (0 + j) shell (small shell (has_get s.shells j shell e) closed) (subst (λ o. AreGoodRows (rows_of s o)) e good) (closed_at s 0 s.shells closed j shell e)
+        shell_ready s (0 + j) shell (small shell (has_get s.shells j shell e) closed) (subst (λ o. AreGoodRows (rows_of s o)) e good)
+        (closed_at s 0 s.shells closed j shell e)

@@ -8,7 +8,8 @@ use Rattle.edge_uses.specs.declared.row.Row.{Row}
 use Rattle.edge_uses.specs.ShellRows.{ShellRows}
 use Rattle.cert_lines.specs.Line.{CertLine, head, solid, shell, edge, corner, point, reach, tally, end, spelling, IsSpelled}
 use Rattle.cert_lines.specs.declared.version.Version.{Version}
-use Rattle.topo_certificate.specs.Stand.{Stand, stand_from_latest, FitsLine, edge_of, vertex_of, is_shell, number_of, since_shell, rows_of_shell, current_rows, row_edge}
+use Rattle.topo_certificate.specs.Stand.{Stand, stand_from_latest, FitsLine, edge_of, vertex_of, is_shell, number_of, since_shell, rows_of_shell, current_rows}
+use Rattle.topo_certificate.specs.Stand.{row_edge}
 use Rattle.topo_certificate.specs.After.{IsLegalAfter}
 use Rattle.topo_certificate.proofs.Segment.{named_has, paired_rows, start_known, point_known}
 use Rattle.topo_certificate.proofs.Facts.{AllFit, Good}
@@ -25,7 +26,8 @@ module _ (version : Version) (s : SolidData) (good : Good s) where
   rows_at at = rows_of_shell s at.shell
 
   -- What an edge line, a corner line and a point line are, where they fit and legal lines follow.
-  edge_side : (before : List CertLine) (a b : ℕ) → AllFit version s before → FitsLine s (stand_from_latest version s before) (edge a b) → (lines : List (List ℕ)) → IsLegalAfter version s (edge a b ∷ before) lines
+  edge_side : (before : List CertLine) (a b : ℕ) → AllFit version s before → FitsLine s (stand_from_latest version s before) (edge a b)
+      → (lines : List (List ℕ)) → IsLegalAfter version s (edge a b ∷ before) lines
       → EdgeSide (rows_at (stand_from_latest version s before)) (stand_from_latest version s before).last_edge a b
   unfolding stand_from_latest
   edge_side before a b fit fits lines legal =
@@ -33,7 +35,8 @@ module _ (version : Version) (s : SolidData) (good : Good s) where
       let h = fits.1.1 in
       let k = begun_row s (number_of is_shell before) a h.along_row h.at_a in
       let lead : LeadOn s (edge a b ∷ before) d = lead_on version s good (edge a b ∷ before) k.0 k.1 (fits, fit) lines legal fits.0 in
-      let known : Has d.edges h.along_row.edge.0 = named_has (λ (r : Row). Has d.edges r.edge.0) d a h.along_row (good (number_of is_shell before)).edges h.at_a in
+      let known : Has d.edges h.along_row.edge.0 = named_has (λ (r : Row). Has d.edges r.edge.0) d a h.along_row (good (number_of is_shell before)).edges
+      h.at_a in
       let es : List ℕ = filter_map (edge_of d) (since_shell before) in
       record {
         along_row = h.along_row;
@@ -47,8 +50,10 @@ module _ (version : Version) (s : SolidData) (good : Good s) where
         paired = lead.paired h.along_row.edge.0 known;
       }
 
-  corner_side : (before : List CertLine) (r : ℕ) (rs : List ℕ) → AllFit version s before → FitsLine s (stand_from_latest version s before) (corner (r ∷ rs)) → (lines : List (List ℕ)) → IsLegalAfter version s (corner (r ∷ rs) ∷ before) lines
-      → CornerSide (rows_at (stand_from_latest version s before)) (stand_from_latest version s before).mates (stand_from_latest version s before).last_vertex r rs
+  corner_side : (before : List CertLine) (r : ℕ) (rs : List ℕ) → AllFit version s before → FitsLine s (stand_from_latest version s before) (corner (r ∷ rs))
+      → (lines : List (List ℕ)) → IsLegalAfter version s (corner (r ∷ rs) ∷ before) lines
+      → CornerSide (rows_at (stand_from_latest version s before)) (stand_from_latest version s before).mates (stand_from_latest version s before).last_vertex r
+      rs
   unfolding stand_from_latest
   corner_side before r rs fit fits lines legal =
       let d : ShellRows = current_rows s before in
@@ -63,13 +68,15 @@ module _ (version : Version) (s : SolidData) (good : Good s) where
         turns = h.turns;
         least = h.least;
         whole = h.whole;
-        next = next_is d.vertices vs h.vertex (subst (λ o. Leads d.vertices (cons_option o vs)) h.lies_at lead.vertices) (start_known d rows r h.vertex h.lies_at) h.rises;
+        next = next_is d.vertices vs h.vertex (subst (λ o. Leads d.vertices (cons_option o vs)) h.lies_at lead.vertices)
+            (start_known d rows r h.vertex h.lies_at) h.rises;
         hold = (facts_of version s good before k.0 k.1 fit).edge_facts.hold;
         paired = paired_rows d rows lead.paired;
         good = rows;
       }
 
-  point_side : (before : List CertLine) (face l : ℕ) → AllFit version s before → FitsLine s (stand_from_latest version s before) (point face l) → (lines : List (List ℕ)) → IsLegalAfter version s (point face l ∷ before) lines
+  point_side : (before : List CertLine) (face l : ℕ) → AllFit version s before → FitsLine s (stand_from_latest version s before) (point face l)
+      → (lines : List (List ℕ)) → IsLegalAfter version s (point face l ∷ before) lines
       → PointSide (rows_at (stand_from_latest version s before)) (stand_from_latest version s before).last_vertex face l
   unfolding stand_from_latest
   point_side before face l fit fits lines legal =
@@ -83,7 +90,8 @@ module _ (version : Version) (s : SolidData) (good : Good s) where
         lies_at = h.lies_at;
         no_row = h.no_row;
         one_point = h.one_point;
-        next = next_is d.vertices vs h.vertex (subst (λ o. Leads d.vertices (cons_option o vs)) h.lies_at lead.vertices) (point_known d (good (number_of is_shell before)) face l h.vertex h.lies_at) h.rises;
+        next = next_is d.vertices vs h.vertex (subst (λ o. Leads d.vertices (cons_option o vs)) h.lies_at lead.vertices)
+            (point_known d (good (number_of is_shell before)) face l h.vertex h.lies_at) h.rises;
       }
 
   -- behind lines that are plainly the same
@@ -115,7 +123,8 @@ module _ (version : Version) (s : SolidData) (good : Good s) where
     edge_there : (a b : ℕ) → EdgeSide (rows_at there) there.last_edge a b → EdgeSide (rows_at here) here.last_edge a b
     edge_there a b h = subst (λ (t : Stand). EdgeSide (rows_at t) t.last_edge a b) (sym stands) h
 
-    corner_there : (r : ℕ) (rs : List ℕ) → CornerSide (rows_at there) there.mates there.last_vertex r rs → CornerSide (rows_at here) here.mates here.last_vertex r rs
+    corner_there : (r : ℕ) (rs : List ℕ) → CornerSide (rows_at there) there.mates there.last_vertex r rs
+        → CornerSide (rows_at here) here.mates here.last_vertex r rs
     corner_there r rs h = subst (λ (t : Stand). CornerSide (rows_at t) t.mates t.last_vertex r rs) (sym stands) h
 
     point_there : (face l : ℕ) → PointSide (rows_at there) there.last_vertex face l → PointSide (rows_at here) here.last_vertex face l
@@ -141,7 +150,8 @@ module _ (version : Version) (s : SolidData) (good : Good s) where
     next_same (edge a b) (solid j) f g xs ys p q = absurd g.1
     next_same (edge a b) (corner []) f g xs ys p q = absurd g.1
     next_same (edge a b) (shell n e) f g xs ys p q = absurd (omega (arith, f.1.0, g.1.0.edges, edges))
-    next_same (edge a b) (edge m n) f g xs ys p q = edge_one (rows_at here) here.last_edge a b m n (edge_side us a b fit_a f xs p) (edge_there m n (edge_side ws m n fit_b g ys q))
+    next_same (edge a b) (edge m n) f g xs ys p q = edge_one (rows_at here) here.last_edge a b m n (edge_side us a b fit_a f xs p)
+        (edge_there m n (edge_side ws m n fit_b g ys q))
     next_same (edge a b) (corner (w ∷ others)) f g xs ys p q = absurd (omega (arith, f.1.0, g.1.0.0, edges))
     next_same (edge a b) (point other place) f g xs ys p q = absurd (omega (arith, f.1.0, g.1.0.0, edges))
     next_same (edge a b) (reach m) f g xs ys p q = absurd (omega (arith, f.1.0, g.1.0.0, edges))
@@ -152,8 +162,11 @@ module _ (version : Version) (s : SolidData) (good : Good s) where
     next_same (corner (r ∷ rs)) (corner []) f g xs ys p q = absurd g.1
     next_same (corner (r ∷ rs)) (shell n e) f g xs ys p q = absurd (omega (arith, f.1.0.1, g.1.0.corners, corners))
     next_same (corner (r ∷ rs)) (edge m n) f g xs ys p q = absurd (omega (arith, g.1.0, f.1.0.0, edges))
-    next_same (corner (r ∷ rs)) (corner (w ∷ others)) f g xs ys p q = corner_one (rows_at here) here.mates here.last_vertex r rs w others (corner_side us r rs fit_a f xs p) (corner_there w others (corner_side ws w others fit_b g ys q))
-    next_same (corner (r ∷ rs)) (point other place) f g xs ys p q = absurd (corner_no_point (rows_at here) here.mates here.last_vertex r rs other place (corner_side us r rs fit_a f xs p) (point_there other place (point_side ws other place fit_b g ys q)))
+    next_same (corner (r ∷ rs)) (corner (w ∷ others)) f g xs ys p q = corner_one (rows_at here) here.mates here.last_vertex r rs w others
+        (corner_side us r rs fit_a f xs p) (corner_there w others (corner_side ws w others fit_b g ys q))
+    next_same (corner (r ∷ rs)) (point other place) f g xs ys p q =
+        absurd (corner_no_point (rows_at here) here.mates here.last_vertex r rs other place (corner_side us r rs fit_a f xs p)
+        (point_there other place (point_side ws other place fit_b g ys q)))
     next_same (corner (r ∷ rs)) (reach m) f g xs ys p q = absurd (omega (arith, f.1.0.1, g.1.0.1, corners))
     next_same (corner (r ∷ rs)) (tally u) f g xs ys p q = absurd (omega (arith, f.1.0.1, g.1.0.1, corners))
     next_same (corner (r ∷ rs)) end f g xs ys p q = absurd (omega (arith, f.1.0.1, g.1.0.corners, corners))
@@ -162,8 +175,11 @@ module _ (version : Version) (s : SolidData) (good : Good s) where
     next_same (point face l) (corner []) f g xs ys p q = absurd g.1
     next_same (point face l) (shell n e) f g xs ys p q = absurd (omega (arith, f.1.0.1, g.1.0.corners, corners))
     next_same (point face l) (edge m n) f g xs ys p q = absurd (omega (arith, g.1.0, f.1.0.0, edges))
-    next_same (point face l) (corner (w ∷ others)) f g xs ys p q = absurd (corner_no_point (rows_at here) here.mates here.last_vertex w others face l (corner_there w others (corner_side ws w others fit_b g ys q)) (point_side us face l fit_a f xs p))
-    next_same (point face l) (point other place) f g xs ys p q = point_one (rows_at here) here.last_vertex face l other place (point_side us face l fit_a f xs p) (point_there other place (point_side ws other place fit_b g ys q))
+    next_same (point face l) (corner (w ∷ others)) f g xs ys p q =
+        absurd (corner_no_point (rows_at here) here.mates here.last_vertex w others face l (corner_there w others (corner_side ws w others fit_b g ys q))
+        (point_side us face l fit_a f xs p))
+    next_same (point face l) (point other place) f g xs ys p q = point_one (rows_at here) here.last_vertex face l other place
+        (point_side us face l fit_a f xs p) (point_there other place (point_side ws other place fit_b g ys q))
     next_same (point face l) (reach m) f g xs ys p q = absurd (omega (arith, f.1.0.1, g.1.0.1, corners))
     next_same (point face l) (tally u) f g xs ys p q = absurd (omega (arith, f.1.0.1, g.1.0.1, corners))
     next_same (point face l) end f g xs ys p q = absurd (omega (arith, f.1.0.1, g.1.0.corners, corners))
@@ -210,10 +226,13 @@ module _ (version : Version) (s : SolidData) (good : Good s) where
   true_false h = cc
 
   -- Behind lines that are plainly the same, legal lines are alike but for reach lines.
-  pub lines_alike : (us ws : List CertLine) → AllFit version s us → AllFit version s ws → map plain us ≡ map plain ws → (xs ys : List (List ℕ)) → IsLegalAfter version s us xs → IsLegalAfter version s ws ys → AllZip AlikeButReach xs ys
+  pub lines_alike : (us ws : List CertLine) → AllFit version s us → AllFit version s ws → map plain us ≡ map plain ws → (xs ys : List (List ℕ))
+      → IsLegalAfter version s us xs → IsLegalAfter version s ws ys → AllZip AlikeButReach xs ys
   lines_alike us ws fit_a fit_b same [] [] h k = tt
-  lines_alike us ws fit_a fit_b same [] (y ∷ ys) ended (b, is_b, g, more) = absurd (true_false (sym ended ∙ (ap (λ (t : Stand). t.ended) (plain_stands version s us ws same) ∙ g.0)))
-  lines_alike us ws fit_a fit_b same (x ∷ xs) [] (a, is_a, f, more) ended = absurd (true_false (sym ended ∙ (sym (ap (λ (t : Stand). t.ended) (plain_stands version s us ws same)) ∙ f.0)))
+  lines_alike us ws fit_a fit_b same [] (y ∷ ys) ended (b, is_b, g, more) =
+      absurd (true_false (sym ended ∙ (ap (λ (t : Stand). t.ended) (plain_stands version s us ws same) ∙ g.0)))
+  lines_alike us ws fit_a fit_b same (x ∷ xs) [] (a, is_a, f, more) ended =
+      absurd (true_false (sym ended ∙ (sym (ap (λ (t : Stand). t.ended) (plain_stands version s us ws same)) ∙ f.0)))
   lines_alike us ws fit_a fit_b same (x ∷ xs) (y ∷ ys) (a, is_a, f, more_a) (b, is_b, g, more_b) =
       let one : plain a ≡ plain b = next_same us ws fit_a fit_b same a b f g xs ys more_a more_b in (
         spelled_alike x y a b one is_a.1 is_b.1,

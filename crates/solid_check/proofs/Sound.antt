@@ -47,8 +47,10 @@ no_rows s = record {
   exchanged = λ n m a b at_n at_m one opposite. absurd (let h : None ≡ Some a = at_n in cc);
 }
 
-pub shell_joined : (s : SolidData) (shell : Shell) → AllJoin s → Has s.shells shell → AllByRecursion (λ (p : PlacedLoop). IsJoined s p.loop) (placed_loops shell)
-shell_joined s shell joined here = All-from (λ (p : PlacedLoop). IsJoined s p.loop) (placed_loops shell) (λ p m. All-at (λ (q : PlacedLoop). IsJoined s q.loop) (flat_map placed_loops s.shells) joined p (has_flat_map placed_loops s.shells shell p here m))
+pub shell_joined : (s : SolidData) (shell : Shell) → AllJoin s → Has s.shells shell
+    → AllByRecursion (λ (p : PlacedLoop). IsJoined s p.loop) (placed_loops shell)
+shell_joined s shell joined here = All-from (λ (p : PlacedLoop). IsJoined s p.loop) (placed_loops shell)
+    (λ p m. All-at (λ (q : PlacedLoop). IsJoined s q.loop) (flat_map placed_loops s.shells) joined p (has_flat_map placed_loops s.shells shell p here m))
 
 -- the vertices that the shells use are vertices of the solid
 abbrev pub AllKnown : SolidData → Type 0
@@ -73,7 +75,8 @@ good_rows s joined known (suc k) = at_shell (slice_get s.shells k) refl
     at_shell (Some shell) e = good_shell s shell joined known (has_get s.shells k shell e)
 
 -- each of the shells, with its place
-enumerated : (base : ℕ) (xs : List Shell) (P : ℕ × Shell → Type 0) → ((k : ℕ) (x : Shell) → slice_get xs k ≡ Some x → P (base + k, x)) → AllByRecursion P (enumerate_from base xs)
+enumerated : (base : ℕ) (xs : List Shell) (P : ℕ × Shell → Type 0) → ((k : ℕ) (x : Shell) → slice_get xs k ≡ Some x → P (base + k, x))
+    → AllByRecursion P (enumerate_from base xs)
 enumerated base [] P h = tt
 enumerated base (x ∷ xs) P h =
     let zero_more : base + 0 ≡ base = omega arith in (
@@ -86,21 +89,26 @@ both_all P Q R [] f p q = tt
 both_all P Q R (x ∷ xs) f p q = (f x p.0 q.0, both_all P Q R xs f p.1 q.1)
 
 -- What joins, is apart and has legal lines is closed.
-pub legal_is_closed : (version : Version) (s : SolidData) (lines : List (List ℕ)) → AllKnown s → AllJoin s → AllApart s → IsLegal version s lines → IsClosedSolid s
+pub legal_is_closed : (version : Version) (s : SolidData) (lines : List (List ℕ)) → AllKnown s → AllJoin s → AllApart s → IsLegal version s lines
+    → IsClosedSolid s
 legal_is_closed version s lines known joined apart legal =
-    both_all (λ (h : ℕ × Shell). slice_get s.shells h.0 ≡ Some h.1) (λ (h : ℕ × Shell). AllByRecursion (IsApart s h.0) (shell_rows s h.1).vertices) (λ (h : ℕ × Shell). IsClosedShell s h.0 h.1)
+    both_all (λ (h : ℕ × Shell). slice_get s.shells h.0 ≡ Some h.1) (λ (h : ℕ × Shell). AllByRecursion (IsApart s h.0) (shell_rows s h.1).vertices)
+    (λ (h : ℕ × Shell). IsClosedShell s h.0 h.1)
     (enumerate_from 0 s.shells) closed_at
-    (enumerated 0 s.shells (λ (h : ℕ × Shell). slice_get s.shells h.0 ≡ Some h.1) (λ k x e. let same : k ≡ 0 + k = omega arith in subst (λ n. slice_get s.shells n ≡ Some x) same e))
+    (enumerated 0 s.shells (λ (h : ℕ × Shell). slice_get s.shells h.0 ≡ Some h.1)
+    (λ k x e. let same : k ≡ 0 + k = omega arith in subst (λ n. slice_get s.shells n ≡ Some x) same e))
     apart
   where
     closed_at : (h : ℕ × Shell) → slice_get s.shells h.0 ≡ Some h.1 → AllByRecursion (IsApart s h.0) (shell_rows s h.1).vertices → IsClosedShell s h.0 h.1
     closed_at h at each_apart =
-        let proper : AreProper (rows_of s (slice_get s.shells h.0)) = legal_is_proper version s (good_rows s joined known) lines (legal_behind version s lines legal) h.0 (slice_get_within s.shells h.0 h.1 at) in
+        let proper : AreProper (rows_of s (slice_get s.shells h.0)) = legal_is_proper version s (good_rows s joined known) lines
+        (legal_behind version s lines legal) h.0 (slice_get_within s.shells h.0 h.1 at) in
         let here : AreProper (shell_rows s h.1) = subst (λ o. AreProper (rows_of s o)) at proper in
         record {
           joined = shell_joined s h.1 joined (has_get s.shells h.0 h.1 at);
           paired = All-from (IsPaired (shell_rows s h.1)) (shell_rows s h.1).edges here.paired;
-          reached = All-from (IsReached (shell_rows s h.1)) (numbers_from 0 (length h.1.faces)) (λ f m. here.reached f (subst (λ n. f < n) (sym (faces_of_rows s h.1)) (let b = number_below 0 (length h.1.faces) f m in omega (arith, b.1))));
+          reached = All-from (IsReached (shell_rows s h.1)) (numbers_from 0 (length h.1.faces))
+              (λ f m. here.reached f (subst (λ n. f < n) (sym (faces_of_rows s h.1)) (let b = number_below 0 (length h.1.faces) f m in omega (arith, b.1))));
           linked = All-from (IsLinked (shell_rows s h.1)) (shell_rows s h.1).vertices here.linked;
           apart = each_apart;
         }
@@ -128,5 +136,9 @@ pub closed_is_all_hold_of_file : ClosedIsAllHold
 unfolding obligations
 closed_is_all_hold_of_file f n = (
   λ c. AllHold-append (places f n) (solid_obligations (solid_of f n)) c.placed ((closed_is_all_hold (solid_of f n)).0 c.closed),
-  λ h. record { placed = AllHold-append_left (places f n) (solid_obligations (solid_of f n)) h; closed = (closed_is_all_hold (solid_of f n)).1 (AllHold-append_right (places f n) (solid_obligations (solid_of f n)) h) },
+  λ h. record {
+    placed = AllHold-append_left (places f n) (solid_obligations (solid_of f n)) h;
+    closed =
+        (closed_is_all_hold (solid_of f n)).1 (AllHold-append_right (places f n) (solid_obligations (solid_of f n)) h);
+  },
 )

@@ -24,7 +24,8 @@ use Rattle.solid_check.proofs.Sound.{certified_is_closed}
 use Rattle.solid_check.proofs.Complete.{shell_small, head_read}
 
 -- lines that are spelled one by one are the spellings
-lines_spelled : (limit : ℕ) (lines : List (List ℕ)) (read : List CertLine) → AllZip (IsLine limit) lines read → (lines ≡ map spelling read) × AllByRecursion HasSpelling read
+lines_spelled : (limit : ℕ) (lines : List (List ℕ)) (read : List CertLine) → AllZip (IsLine limit) lines read
+    → (lines ≡ map spelling read) × AllByRecursion HasSpelling read
 lines_spelled limit [] [] h = (refl, tt)
 lines_spelled limit [] (l ∷ read) h = absurd h
 lines_spelled limit (b ∷ lines) [] h = absurd h
@@ -49,7 +50,8 @@ unfolding digits
 three_not = refl
 
 -- a certificate of another version is kept
-kept : (s : SolidData) (certificate first : List ℕ) (lines : List (List ℕ)) (v : Version) → cut_lines certificate ≡ first ∷ lines → first ≡ spelling (head v) → starts_with (words (head One)) (spelling (head v)) ≡ false → certificate ≡ upgraded s certificate
+kept : (s : SolidData) (certificate first : List ℕ) (lines : List (List ℕ)) (v : Version) → cut_lines certificate ≡ first ∷ lines → first ≡ spelling (head v)
+    → starts_with (words (head One)) (spelling (head v)) ≡ false → certificate ≡ upgraded s certificate
 kept s certificate first lines v cut is no_ = kept_other s certificate first lines cut (ap (starts_with (words (head One))) is ∙ no_)
 
 tallies_read : (f : Contents) (n : ℕ) (rest : List (List ℕ)) → FitsLimits f → Certify One f n rest → TalliesRead (solid_of f n)
@@ -58,7 +60,8 @@ tallies_read f n rest limits a k h at =
     let small = shell_small (solid_of f n) n (has_few_parts f n limits a.placed) h (has_get (solid_of f n).shells k h at) closed.closed in
     readable_tally (solid_of f n) (tally_of_shell (solid_of f n) h) small.0.vertices small.0.edges small.0.faces small.1
 
-upgraded_alone : (f : Contents) (n : ℕ) (certificate : List ℕ) → FitsLimits f → IsAcceptedAlone One f n certificate → IsAcceptedAlone Two f n (upgraded (solid_of f n) certificate)
+upgraded_alone : (f : Contents) (n : ℕ) (certificate : List ℕ) → FitsLimits f → IsAcceptedAlone One f n certificate
+    → IsAcceptedAlone Two f n (upgraded (solid_of f n) certificate)
 upgraded_alone f n certificate limits a =
     let s : SolidData = solid_of f n in
     let legal : IsLegal Two s (with_tallies s 0 a.rest) = upgrade_legal s (tallies_read f n a.rest limits a.certified) a.rest a.certified.legal in
@@ -66,16 +69,21 @@ upgraded_alone f n certificate limits a =
     let spelled = lines_spelled _ (with_tallies s 0 a.rest) legal.read legal.fitting.spelled in
     let all : List CertLine = head Two ∷ solid n ∷ legal.read in
     let begun : starts_with (words (head One)) a.opens.first ≡ true = ap (starts_with (words (head One))) a.opens.is_head.1.1 ∙ one_first in
-    let text : spelling (head Two) ++ joined (with_tallies s 0 (a.opens.second ∷ a.rest)) ≡ upgraded s certificate = upgraded_one s certificate a.opens.first (a.opens.second ∷ a.rest) (spelling (head Two)) (spelling (head Two) ++ joined (with_tallies s 0 (a.opens.second ∷ a.rest))) a.opens.cut begun refl refl in
-    let second : joined (with_tallies s 0 (a.opens.second ∷ a.rest)) ≡ spelling (solid n) ++ joined (with_tallies s 0 a.rest) = ap (λ x. joined (with_tallies s 0 (x ∷ a.rest))) named in
+    let text : spelling (head Two) ++ joined (with_tallies s 0 (a.opens.second ∷ a.rest)) ≡ upgraded s certificate =
+    upgraded_one s certificate a.opens.first (a.opens.second ∷ a.rest) (spelling (head Two))
+    (spelling (head Two) ++ joined (with_tallies s 0 (a.opens.second ∷ a.rest))) a.opens.cut begun refl refl in
+    let second : joined (with_tallies s 0 (a.opens.second ∷ a.rest)) ≡ spelling (solid n) ++ joined (with_tallies s 0 a.rest) =
+    ap (λ x. joined (with_tallies s 0 (x ∷ a.rest))) named in
     let further : joined (with_tallies s 0 a.rest) ≡ flat_map spelling legal.read = ap joined spelled.0 ∙ joined_spelled legal.read in
-    let whole : upgraded s certificate ≡ flat_map spelling all = sym text ∙ ap (λ x. spelling (head Two) ++ x) (second ∙ ap (λ x. spelling (solid n) ++ x) further) in
+    let whole : upgraded s certificate ≡ flat_map spelling all =
+    sym text ∙ ap (λ x. spelling (head Two) ++ x) (second ∙ ap (λ x. spelling (solid n) ++ x) further) in
     record {
       rest = with_tallies s 0 a.rest;
       opens = record {
         first = spelling (head Two);
         second = spelling (solid n);
-        cut = ap cut_lines whole ∙ (cut_spelled all (tt, (a.opens.names.1.0, spelled.1)) ∙ ap (λ ls. spelling (head Two) ∷ spelling (solid n) ∷ ls) (sym spelled.0));
+        cut = ap cut_lines whole
+            ∙ (cut_spelled all (tt, (a.opens.names.1.0, spelled.1)) ∙ ap (λ ls. spelling (head Two) ∷ spelling (solid n) ∷ ls) (sym spelled.0));
         is_head = head_read Two;
         names = subst (λ b. IsLine _ b (solid n)) named a.opens.names;
       };
@@ -86,7 +94,11 @@ pub upgraded_is_accepted : UpgradedIsAccepted
 upgraded_is_accepted f certificate One ns n limits named (m, is, a) =
     let same : n ≡ m = ⊎_elim (λ e. sym e) (λ h. absurd h) (Has-from_Contains (m ∷ []) n (subst (λ xs. Contains xs n) is named)) in
     (m, is, subst (λ x. IsAcceptedAlone Two f m (upgraded (solid_of f x) certificate)) (sym same) (upgraded_alone f m certificate limits a))
-upgraded_is_accepted f certificate Two ns n limits named (m, is, a) =
-    (m, is, subst (IsAcceptedAlone Two f m) (kept (solid_of f n) certificate a.opens.first (a.opens.second ∷ a.rest) Two a.opens.cut a.opens.is_head.1.1 two_not) a)
+upgraded_is_accepted f certificate Two ns n limits named (m, is, a) = (
+  m,
+  is,
+  subst (IsAcceptedAlone Two f m)
+      (kept (solid_of f n) certificate a.opens.first (a.opens.second ∷ a.rest) Two a.opens.cut a.opens.is_head.1.1 two_not) a,
+)
 upgraded_is_accepted f certificate Three ns n limits named (parts, is, a) =
     (parts, is, subst (λ c. IsAcceptedBook f c parts) (kept (solid_of f n) certificate a.headed.first _ Three a.headed.cut a.headed.is_head.1.1 three_not) a)

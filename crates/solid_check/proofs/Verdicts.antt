@@ -23,10 +23,13 @@ pub place_fails : (f : Contents) (n : ℕ) (x : Failing) → FirstFalse (places 
 unfolding obligations
 place_fails f n x bad = FirstFalse-append_front (places f n) (solid_obligations (solid_of f n)) x bad
 
-pub on_file : (f : Contents) (n : ℕ) (s : SolidData) (v : Verdict) → s ≡ solid_of f n → AllHold (places f n) → IsVerdict (solid_obligations s) v → IsVerdictOn f n v
+pub on_file : (f : Contents) (n : ℕ) (s : SolidData) (v : Verdict) → s ≡ solid_of f n → AllHold (places f n) → IsVerdict (solid_obligations s) v
+    → IsVerdictOn f n v
 unfolding obligations
-on_file f n s Closed same placed hold = AllHold-append (places f n) (solid_obligations (solid_of f n)) placed (subst (λ t. AllHold (solid_obligations t)) same hold)
-on_file f n s (Fails x) same placed bad = FirstFalse-append_rest (places f n) (solid_obligations (solid_of f n)) x placed (subst (λ t. FirstFalse (solid_obligations t) x) same bad)
+on_file f n s Closed same placed hold = AllHold-append (places f n) (solid_obligations (solid_of f n)) placed
+    (subst (λ t. AllHold (solid_obligations t)) same hold)
+on_file f n s (Fails x) same placed bad = FirstFalse-append_rest (places f n) (solid_obligations (solid_of f n)) x placed
+    (subst (λ t. FirstFalse (solid_obligations t) x) same bad)
 
 pub one_on_file : (f : Contents) (n : ℕ) (a b : Verdict) → IsVerdictOn f n a → IsVerdictOn f n b → a ≡ b
 one_on_file f n a b = IsVerdict-one (obligations f n) a b

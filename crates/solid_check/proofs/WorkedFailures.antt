@@ -20,7 +20,10 @@ ints (n ∷ ns) = Int (pos n) ∷ ints ns
 
 -- the seam is used along twice: the second use starts at the wrong pole
 abbrev pub twisted_ball : Contents
-twisted_ball = record ball_with_seam { entries = slice_set ball_with_seam.entries 5 (entry 508 1, ints (4 ∷ 0 ∷ 7 ∷ 1 ∷ 1 ∷ 0 ∷ 1 ∷ 5 ∷ 2 ∷ 1 ∷ 0 ∷ 0 ∷ 7 ∷ 1 ∷ 1 ∷ 0 ∷ 1 ∷ 5 ∷ 1 ∷ 1 ∷ 0 ∷ [])) }
+twisted_ball = record ball_with_seam {
+  entries = slice_set ball_with_seam.entries 5
+      (entry 508 1, ints (4 ∷ 0 ∷ 7 ∷ 1 ∷ 1 ∷ 0 ∷ 1 ∷ 5 ∷ 2 ∷ 1 ∷ 0 ∷ 0 ∷ 7 ∷ 1 ∷ 1 ∷ 0 ∷ 1 ∷ 5 ∷ 1 ∷ 1 ∷ 0 ∷ []));
+}
 
 pub twisted_ball_fails : FirstFalse (solid_obligations (solid_of twisted_ball 1)) (record { rule = Unjoined; entity = record { 0 = 11 }; place = 2 })
 unfolding solid_obligations shell_obligations solid_of shell_rows
@@ -58,7 +61,8 @@ open_cylinder_fails =
 
 -- two loops without an edge at one vertex
 abbrev pub two_points : Contents
-two_points = record ball_at_one_vertex { entries = slice_set ball_at_one_vertex.entries 2 (entry 510 1, ints (11 ∷ 2 ∷ 1 ∷ 7 ∷ 15 ∷ [])) ++ (entry 508 1, ints (1 ∷ 1 ∷ 9 ∷ 1 ∷ 1 ∷ 0 ∷ [])) ∷ [] }
+two_points = record ball_at_one_vertex
+    { entries = slice_set ball_at_one_vertex.entries 2 (entry 510 1, ints (11 ∷ 2 ∷ 1 ∷ 7 ∷ 15 ∷ [])) ++ (entry 508 1, ints (1 ∷ 1 ∷ 9 ∷ 1 ∷ 1 ∷ 0 ∷ [])) ∷ [] }
 
 pub two_points_fail : FirstFalse (solid_obligations (solid_of two_points 1)) (record { rule = Unlinked; entity = record { 0 = 9 }; place = 1 })
 unfolding solid_obligations shell_obligations solid_of shell_rows
@@ -113,7 +117,8 @@ shared_vertex_fails =
 -- two faces that share nothing
 abbrev pub two_faces : Contents
 two_faces = record ball_at_one_vertex {
-  entries = slice_set (slice_set ball_at_one_vertex.entries 1 (entry 514 1, ints (2 ∷ 5 ∷ 1 ∷ 15 ∷ 1 ∷ []))) 4 (entry 502 1, ints (2 ∷ 0 ∷ 0 ∷ 1 ∷ 0 ∷ 0 ∷ 2 ∷ []))
+  entries = slice_set (slice_set ball_at_one_vertex.entries 1 (entry 514 1, ints (2 ∷ 5 ∷ 1 ∷ 15 ∷ 1 ∷ []))) 4
+      (entry 502 1, ints (2 ∷ 0 ∷ 0 ∷ 1 ∷ 0 ∷ 0 ∷ 2 ∷ []))
       ++ (entry 510 1, ints (11 ∷ 1 ∷ 1 ∷ 17 ∷ []))
       ∷ (entry 508 1, ints (1 ∷ 1 ∷ 9 ∷ 2 ∷ 1 ∷ 0 ∷ []))
       ∷ [];

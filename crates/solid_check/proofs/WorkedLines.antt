@@ -10,7 +10,8 @@ use Rattle.edge_uses.specs.ShellRows.{shell_rows}
 use Rattle.solid_check.proofs.WorkedFiles.{cylinder, cube}
 use Rattle.solid_check.proofs.WorkedCertificates.{cylinder_lines, cube_lines}
 
-pub cylinder_spelled : map words cylinder_lines ≡ codes "IGESCERT 1" ∷ codes "SOLID 1" ∷ codes "SHELL 1 6 3 2 3" ∷ codes "E 1 5" ∷ codes "E 2 4" ∷ codes "E 6 3" ∷ codes "C 1 5 2" ∷ codes "C 3 6 4" ∷ codes "R 5" ∷ codes "R 6" ∷ codes "END" ∷ []
+pub cylinder_spelled : map words cylinder_lines ≡ codes "IGESCERT 1" ∷ codes "SOLID 1" ∷ codes "SHELL 1 6 3 2 3" ∷ codes "E 1 5" ∷ codes "E 2 4"
+    ∷ codes "E 6 3" ∷ codes "C 1 5 2" ∷ codes "C 3 6 4" ∷ codes "R 5" ∷ codes "R 6" ∷ codes "END" ∷ []
 unfolding digits
 cylinder_spelled = refl
 

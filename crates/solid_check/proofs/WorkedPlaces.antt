@@ -9,7 +9,8 @@ use Rattle.solid_data.specs.declared.verdict.Rule.TheVariants.{BadIndex, BadGeom
 use Rattle.brep_walk.specs.Places.{places, shell_places, face_places, loop_places, tuple_places}
 use Rattle.brep_lists.specs.Record.{type_number}
 use Rattle.brep_lists.specs.declared.entity_kind.EntityKind.{EntityKind}
-use Rattle.brep_lists.specs.declared.entity_kind.EntityKind.TheVariants.{Solid as solid, Shell as shell, Face as face, Loop as «loop», EdgeList as edges, VertexList as vertices}
+use Rattle.brep_lists.specs.declared.entity_kind.EntityKind.TheVariants.{Solid as solid, Shell as shell, Face as face, Loop as «loop», EdgeList as edges}
+use Rattle.brep_lists.specs.declared.entity_kind.EntityKind.TheVariants.{VertexList as vertices}
 use Rattle.solid_check.proofs.WorkedFiles.{entry, ball_at_one_vertex}
 
 -- a sphere is none of the six
@@ -84,7 +85,8 @@ ball_places = (
 
 -- the same file with its face on itself
 abbrev pub face_on_itself : Contents
-face_on_itself = record ball_at_one_vertex { entries = slice_set ball_at_one_vertex.entries 2 (entry 510 1, Int (pos 5) ∷ Int (pos 1) ∷ Int (pos 1) ∷ Int (pos 7) ∷ []) }
+face_on_itself = record ball_at_one_vertex
+    { entries = slice_set ball_at_one_vertex.entries 2 (entry 510 1, Int (pos 5) ∷ Int (pos 1) ∷ Int (pos 1) ∷ Int (pos 7) ∷ []) }
 
 pub face_on_itself_fails : FirstFalse (places face_on_itself 1) (record { rule = BadGeometry; entity = record { 0 = 5 }; place = 0 })
 unfolding places shell_places face_places loop_places tuple_places
@@ -126,7 +128,8 @@ face_on_itself_fails =
 
 -- an index past the end of the list
 abbrev pub second_vertex : Contents
-second_vertex = record ball_at_one_vertex { entries = slice_set ball_at_one_vertex.entries 3 (entry 508 1, Int (pos 1) ∷ Int (pos 1) ∷ Int (pos 9) ∷ Int (pos 2) ∷ Int (pos 1) ∷ []) }
+second_vertex = record ball_at_one_vertex
+    { entries = slice_set ball_at_one_vertex.entries 3 (entry 508 1, Int (pos 1) ∷ Int (pos 1) ∷ Int (pos 9) ∷ Int (pos 2) ∷ Int (pos 1) ∷ []) }
 
 pub second_vertex_fails : FirstFalse (places second_vertex 1) (record { rule = BadIndex; entity = record { 0 = 7 }; place = 1 })
 unfolding places shell_places face_places loop_places tuple_places

@@ -24,11 +24,13 @@ abbrev pub IsPartFault : Contents → ℕ → ℕ → List (List ℕ) → BookRe
 IsPartFault f n number lines (fails m x) = (m ≡ n) × FirstFalse (checked f n) x
 IsPartFault f n number lines (illegal bad) = AllHold (checked f n) × IsPartBad Two (solid_of f n) number lines bad
 
--- After good parts the rest, whose first line has this number, begins a part with a greater solid and a fault. Where there is no part, the line that names the first solid may be what is bad.
+-- After good parts the rest, whose first line has this number, begins a part with a greater solid and a fault. Where there is no part, the line that names the
+-- first solid may be what is bad.
 abbrev pub IsRestBad : Contents → List Part → ℕ → List (List ℕ) → BookRefusal → Type 0
 IsRestBad f before number rest fault =
     ((before ≡ []) × ((bad : Illegal) × (fault ≡ illegal bad) × IsSecondWrong rest bad))
-    ⊎ ((p : Part) × (rest ≡ part_lines p) × IsSpelled p.first (solid p.solid) × IsStrictlyIncreasing (solids_named (before ++ p ∷ [])) × IsPartFault f p.solid (number + 1) p.further fault)
+    ⊎ ((p : Part) × (rest ≡ part_lines p) × IsSpelled p.first (solid p.solid) × IsStrictlyIncreasing (solids_named (before ++ p ∷ []))
+    × IsPartFault f p.solid (number + 1) p.further fault)
 
 -- The lines of a book after its head, from line 2 on: good parts, and then a rest that is bad.
 pub record IsBookBad (f : Contents) (lines : List (List ℕ)) (fault : BookRefusal) : Type 0 where

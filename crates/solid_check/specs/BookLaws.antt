@@ -8,15 +8,18 @@ use Rattle.solid_check.specs.Book.{BookRefusal, IsBookBad}
 
 -- One thing is the first bad one.
 abbrev pub OneRefusal : Type 0
-OneRefusal = (f : Contents) (certificate : List ℕ) (lines : List (List ℕ)) (a b : BookRefusal) → IsHeaded certificate Three lines → IsBookBad f lines a → IsBookBad f lines b → a ≡ b
+OneRefusal = (f : Contents) (certificate : List ℕ) (lines : List (List ℕ)) (a b : BookRefusal) → IsHeaded certificate Three lines → IsBookBad f lines a
+    → IsBookBad f lines b → a ≡ b
 
 -- In an accepted book nothing is bad.
 abbrev pub NoneBadWhereAccepted : Type 0
-NoneBadWhereAccepted = (f : Contents) (certificate : List ℕ) (lines : List (List ℕ)) (parts : List Part) (a : BookRefusal) → IsHeaded certificate Three lines → IsAcceptedBook f certificate parts → ¬ IsBookBad f lines a
+NoneBadWhereAccepted = (f : Contents) (certificate : List ℕ) (lines : List (List ℕ)) (parts : List Part) (a : BookRefusal) → IsHeaded certificate Three lines
+    → IsAcceptedBook f certificate parts → ¬ IsBookBad f lines a
 
 -- Whatever comes after the head, the book is accepted or something is the first bad one.
 abbrev pub AcceptedOrBad : Type 0
-AcceptedOrBad = (f : Contents) (certificate : List ℕ) (lines : List (List ℕ)) → IsHeaded certificate Three lines → ((parts : List Part) × IsAcceptedBook f certificate parts) ⊎ ((a : BookRefusal) × IsBookBad f lines a)
+AcceptedOrBad = (f : Contents) (certificate : List ℕ) (lines : List (List ℕ)) → IsHeaded certificate Three lines
+    → ((parts : List Part) × IsAcceptedBook f certificate parts) ⊎ ((a : BookRefusal) × IsBookBad f lines a)
 
 -- An accepted book has its parts in one way.
 abbrev pub OneReading : Type 0

@@ -16,4 +16,5 @@ checked f n = places f n ++ checked_obligations (solid_of f n)
 
 -- A certificate of one solid is accepted exactly where it opens so, all that is checked holds, and its further lines are legal.
 abbrev pub AcceptedIsChecked : Type 0
-AcceptedIsChecked = (v : Version) (f : Contents) (n : ℕ) (certificate : List ℕ) → IsAcceptedAlone v f n certificate ↔ ((rest : List (List ℕ)) × Opens certificate v n rest × AllHold (checked f n) × IsLegal v (solid_of f n) rest)
+AcceptedIsChecked = (v : Version) (f : Contents) (n : ℕ) (certificate : List ℕ)
+    → IsAcceptedAlone v f n certificate ↔ ((rest : List (List ℕ)) × Opens certificate v n rest × AllHold (checked f n) × IsLegal v (solid_of f n) rest)

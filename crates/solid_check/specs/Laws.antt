@@ -33,11 +33,13 @@ upgraded_version Three = Three
 
 -- In a file within its limits, what is accepted stays accepted when it is upgraded for a solid that it names, and names the same solids.
 abbrev pub UpgradedIsAccepted : Type 0
-UpgradedIsAccepted = (f : Contents) (certificate : List ℕ) (v : Version) (ns : List ℕ) (n : ℕ) → FitsLimits f → Contains ns n → IsAccepted f certificate v ns → IsAccepted f (upgraded (solid_of f n) certificate) (upgraded_version v) ns
+UpgradedIsAccepted = (f : Contents) (certificate : List ℕ) (v : Version) (ns : List ℕ) (n : ℕ) → FitsLimits f → Contains ns n → IsAccepted f certificate v ns
+    → IsAccepted f (upgraded (solid_of f n) certificate) (upgraded_version v) ns
 
 -- In a file within its limits, a solid is closed exactly where some certificate that names it is accepted.
 abbrev pub ClosedExactlyWhereAccepted : Type 0
-ClosedExactlyWhereAccepted = (f : Contents) (n : ℕ) → FitsLimits f → IsClosed f n ↔ ((certificate : List ℕ) × (v : Version) × (ns : List ℕ) × IsAccepted f certificate v ns × Contains ns n)
+ClosedExactlyWhereAccepted = (f : Contents) (n : ℕ) → FitsLimits f
+    → IsClosed f n ↔ ((certificate : List ℕ) × (v : Version) × (ns : List ℕ) × IsAccepted f certificate v ns × Contains ns n)
 
 abbrev pub IsReachLine : List ℕ → Type 0
 IsReachLine line = (r : ℕ) × IsSpelled line (reach r)
@@ -48,4 +50,5 @@ AlikeButReach a b = (a ≡ b) ⊎ (IsReachLine a × IsReachLine b)
 
 -- Two accepted certificates of one version that name the same solids differ in reach lines alone.
 abbrev pub AcceptedDifferInReach : Type 0
-AcceptedDifferInReach = (f : Contents) (v : Version) (ns : List ℕ) (a b : List ℕ) → IsAccepted f a v ns → IsAccepted f b v ns → AllZip AlikeButReach (cut_lines a) (cut_lines b)
+AcceptedDifferInReach = (f : Contents) (v : Version) (ns : List ℕ) (a b : List ℕ) → IsAccepted f a v ns → IsAccepted f b v ns
+    → AllZip AlikeButReach (cut_lines a) (cut_lines b)

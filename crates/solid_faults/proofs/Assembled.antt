@@ -28,7 +28,8 @@ no_solid : SolidData
 no_solid = record { entity = record { 0 = 0 }; shells = []; edges = []; vertices = [] }
 
 pub all_paired_none : (d : ShellRows) → AllByRecursion (IsPaired d) d.edges → unpaired_of d ≡ []
-all_paired_none d h = map_none (unpaired_failing no_solid) (unpaired_of d) (all_hold_none (pair_obligations no_solid d) _ (map-AllHold _ d.edges h) (unpaired_named no_solid d))
+all_paired_none d h = map_none (unpaired_failing no_solid) (unpaired_of d)
+    (all_hold_none (pair_obligations no_solid d) _ (map-AllHold _ d.edges h) (unpaired_named no_solid d))
 
 first_not_all : (P : ℕ → Type 0) (xs : List ℕ) (x : ℕ) → FirstNot P xs x → AllByRecursion P xs → ⊥
 first_not_all P [] x h all = h
@@ -36,21 +37,31 @@ first_not_all P (y ∷ ys) x h all = ⊎_elim (λ a. a.0 all.0) (λ b. first_not
 
 pub some_unpaired : (d : ShellRows) (e : ℕ) → FirstNot (IsPaired d) d.edges e → unpaired_of d ≡ [] → ⊥
 some_unpaired d e first none =
-    first_not_all (IsPaired d) d.edges e first (AllHold-map _ d.edges (none_fails (pair_obligations no_solid d) (subst (λ us. AreFailing (pair_obligations no_solid d) (map (unpaired_failing no_solid) us)) none (unpaired_named no_solid d))))
+    first_not_all (IsPaired d) d.edges e first
+    (AllHold-map _ d.edges (none_fails (pair_obligations no_solid d)
+    (subst (λ us. AreFailing (pair_obligations no_solid d) (map (unpaired_failing no_solid) us)) none (unpaired_named no_solid d))))
 
-pub meet_without_gap : (s : SolidData) (k : ℕ) (o : Option Shell) (d : ShellRows) (gaps : List Gap) → slice_get s.shells k ≡ o → d ≡ rows_of s o → IfSome o (λ h. gaps ≡ gaps_of s h) → gaps ≡ [] → EndsMeet d
+pub meet_without_gap : (s : SolidData) (k : ℕ) (o : Option Shell) (d : ShellRows) (gaps : List Gap) → slice_get s.shells k ≡ o → d ≡ rows_of s o
+    → IfSome o (λ h. gaps ≡ gaps_of s h) → gaps ≡ [] → EndsMeet d
 meet_without_gap s k None d gaps at is found none = subst EndsMeet (sym is) (λ r t a b follows. absurd cc)
 meet_without_gap s k (Some shell) d gaps at is found none =
-    let join : AllHold (join_obligations s shell) = none_fails (join_obligations s shell) (subst (λ gs. AreFailing (join_obligations s shell) (map gap_failing gs)) (sym found ∙ none) (gaps_named s shell)) in
-    subst EndsMeet (sym is) (ends_meet s shell (AllByRecursion-weaker (λ (p : PlacedLoop). AllHold (loop_obligations s p.loop)) (λ (p : PlacedLoop). IsJoined s p.loop) (placed_loops shell) (λ p. joined_from_hold s p.loop) (AllHold-of_each (λ (p : PlacedLoop). loop_obligations s p.loop) (placed_loops shell) join)))
+    let join : AllHold (join_obligations s shell) =
+    none_fails (join_obligations s shell)
+    (subst (λ gs. AreFailing (join_obligations s shell) (map gap_failing gs)) (sym found ∙ none) (gaps_named s shell)) in
+    subst EndsMeet (sym is)
+    (ends_meet s shell (AllByRecursion-weaker (λ (p : PlacedLoop). AllHold (loop_obligations s p.loop)) (λ (p : PlacedLoop). IsJoined s p.loop)
+    (placed_loops shell) (λ p. joined_from_hold s p.loop) (AllHold-of_each (λ (p : PlacedLoop). loop_obligations s p.loop) (placed_loops shell) join)))
 
 -- what `linking` says, as the faults have it
-pub as_linkings : (d : ShellRows) (gaps : List Gap) (unpaired : List Unpaired) (gap : Bool) (o : Option Linking) → unpaired ≡ unpaired_of d → (gap ≡ false → gaps ≡ []) → (gap ≡ true → gaps ≡ [] → ⊥)
-    → MatchOption o ((gap ≡ true) ⊎ (unpaired_of d ≡ [] → ⊥)) (λ l. (gap ≡ false) × (unpaired_of d ≡ []) × AreFans d l.leasts × (l.unlinked ≡ unlinked_of d l.leasts)) → AreLinkings d gaps unpaired o
+pub as_linkings : (d : ShellRows) (gaps : List Gap) (unpaired : List Unpaired) (gap : Bool) (o : Option Linking) → unpaired ≡ unpaired_of d
+    → (gap ≡ false → gaps ≡ []) → (gap ≡ true → gaps ≡ [] → ⊥)
+    → MatchOption o ((gap ≡ true) ⊎ (unpaired_of d ≡ [] → ⊥))
+    (λ l. (gap ≡ false) × (unpaired_of d ≡ []) × AreFans d l.leasts × (l.unlinked ≡ unlinked_of d l.leasts)) → AreLinkings d gaps unpaired o
 as_linkings d gaps unpaired gap None is none some h = λ k. ⊎_elim (λ e. some e k.0) (λ n. n (sym is ∙ k.1)) h
 as_linkings d gaps unpaired gap (Some l) is none some h = (none h.0, is ∙ h.1, h.2, h.3)
 
-pub assembled : (s : SolidData) (k : ℕ) (shell : Shell) (d : ShellRows) (x : Faults) → slice_get s.shells k ≡ Some shell → d ≡ rows_of s (slice_get s.shells k) → IfSome (slice_get s.shells k) (λ h. x.gaps ≡ gaps_of s h)
+pub assembled : (s : SolidData) (k : ℕ) (shell : Shell) (d : ShellRows) (x : Faults) → slice_get s.shells k ≡ Some shell → d ≡ rows_of s (slice_get s.shells k)
+    → IfSome (slice_get s.shells k) (λ h. x.gaps ≡ gaps_of s h)
     → x.unpaired ≡ unpaired_of d → AreParts d x.firsts → AreLinkings d x.gaps x.unpaired x.linking → x.shared ≡ shared_of s k d → AreFaults s k shell x
 assembled s k shell d x at is gaps unpaired firsts linking shared =
     let here : d ≡ shell_rows s shell = is ∙ ap (λ o. rows_of s o) at in

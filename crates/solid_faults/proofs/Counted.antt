@@ -11,7 +11,8 @@ use Rattle.edge_uses.specs.declared.tally.Seen.{Seen}
 use Rattle.solid_faults.specs.declared.edge.Unpaired.{Unpaired}
 use Rattle.solid_faults.specs.Edges.{edge_unpaired, unpaired_at}
 
-pub counted_edge : (d : ShellRows) (span : Span) (tally : List Seen) (i e : ℕ) (seen : Seen) (old new : List Unpaired) → IsSpanOf span d.edges → IsTally d span tally
+pub counted_edge : (d : ShellRows) (span : Span) (tally : List Seen) (i e : ℕ) (seen : Seen) (old new : List Unpaired) → IsSpanOf span d.edges
+    → IsTally d span tally
     → slice_get d.edges i ≡ Some e → seen ≡ seen_of span tally e → new ≡ old ++ unpaired_at e seen.along seen.against → new ≡ old ++ edge_unpaired d e
 counted_edge d span tally i e seen old new is_span is_tally at is_seen h =
     let within : IsWithin span e = subst (IsWithin span) (get_or_from_slice_get d.edges i e e at) (is_span.holds i e (slice_get_within d.edges i e at)) in

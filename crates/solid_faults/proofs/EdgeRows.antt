@@ -20,8 +20,10 @@ all_mapped P f [] h = All-nil P
 all_mapped P f (x ∷ xs) h = All-cons P (f x) (map f xs) h.0 (all_mapped P f xs h.1)
 
 -- the edges of the rows lie in the range of those that occur
-pub edges_within : (d : ShellRows) (span : Span) (edges : List ℕ) → AreRows d → IsSpanOf span d.edges → edges ≡ map edge_of_row d.rows → All (IsWithin span) edges
-edges_within d span edges whole range e = subst (All (IsWithin span)) (sym e) (all_mapped (IsWithin span) edge_of_row d.rows (rows_within d.edges d.rows span whole.edges_hold range.holds))
+pub edges_within : (d : ShellRows) (span : Span) (edges : List ℕ) → AreRows d → IsSpanOf span d.edges → edges ≡ map edge_of_row d.rows
+    → All (IsWithin span) edges
+edges_within d span edges whole range e =
+    subst (All (IsWithin span)) (sym e) (all_mapped (IsWithin span) edge_of_row d.rows (rows_within d.edges d.rows span whole.edges_hold range.holds))
 
 pub edges_few : (d : ShellRows) (edges : List ℕ) → edges ≡ map edge_of_row d.rows → length edges ≡ length d.rows
 edges_few d edges e = ap (length {A = ℕ}) e ∙ length-map d.rows edge_of_row

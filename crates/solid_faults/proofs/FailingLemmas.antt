@@ -25,7 +25,8 @@ pub holds_too : (o : Obligation) (os : List Obligation) (xs : List Failing) → 
 holds_too o os [] h r = (h, r)
 holds_too o os (x ∷ xs) h r = inl (h, r)
 
-pub fails_too : (o : Obligation) (os : List Obligation) (x : Failing) (xs : List Failing) → (o.holds → ⊥) → x ≡ o.failing → AreFailing os xs → AreFailing (o ∷ os) (x ∷ xs)
+pub fails_too : (o : Obligation) (os : List Obligation) (x : Failing) (xs : List Failing) → (o.holds → ⊥) → x ≡ o.failing → AreFailing os xs
+    → AreFailing (o ∷ os) (x ∷ xs)
 fails_too o os x xs h e r = inr (h, e, r)
 
 pub failing_append : (os ps : List Obligation) (xs ys : List Failing) → AreFailing os xs → AreFailing ps ys → AreFailing (os ++ ps) (xs ++ ys)
@@ -46,7 +47,8 @@ failing_one (o ∷ os) (x ∷ xs) (y ∷ ys) a b =
     (λ h. ⊎_elim (λ k. absurd (h.0 k.0)) (λ k. ap (λ z. z ∷ xs) (h.1 ∙ sym k.1) ∙ ap (λ zs. y ∷ zs) (failing_one os xs ys h.2 k.2)) b) a
 
 -- the obligations of each item, and the things found at each
-pub failing_of_each : {A B : Type 0} (f : A → List Obligation) (g : A → List B) (name : B → Failing) (xs : List A) → ((x : A) → AreFailing (f x) (map name (g x))) → AreFailing (of_each f xs) (map name (flat_map g xs))
+pub failing_of_each : {A B : Type 0} (f : A → List Obligation) (g : A → List B) (name : B → Failing) (xs : List A)
+    → ((x : A) → AreFailing (f x) (map name (g x))) → AreFailing (of_each f xs) (map name (flat_map g xs))
 failing_of_each f g name [] h = refl
 failing_of_each {B = B} f g name (x ∷ xs) h =
     subst (AreFailing (f x ++ of_each f xs)) (sym (map_append (g x) (flat_map g xs)))
@@ -57,7 +59,8 @@ failing_of_each {B = B} f g name (x ∷ xs) h =
     map_append (y ∷ ys) zs = ap (λ us. name y ∷ us) (map_append ys zs)
 
 -- one obligation an item, which holds exactly where nothing is found there
-pub failing_map : {A B : Type 0} (o : A → Obligation) (g : A → List B) (name : B → Failing) (xs : List A) → ((x : A) → AreFailing (o x ∷ []) (map name (g x))) → AreFailing (map o xs) (map name (flat_map g xs))
+pub failing_map : {A B : Type 0} (o : A → Obligation) (g : A → List B) (name : B → Failing) (xs : List A) → ((x : A) → AreFailing (o x ∷ []) (map name (g x)))
+    → AreFailing (map o xs) (map name (flat_map g xs))
 failing_map o g name xs h = subst (λ os. AreFailing os (map name (flat_map g xs))) (singles xs) (failing_of_each (λ x. o x ∷ []) g name xs h)
   where
     singles : (ys : _) → of_each (λ x. o x ∷ []) ys ≡ map o ys

@@ -23,7 +23,8 @@ sooner v i r rs f fs j h = let e : i + suc j ≡ i + 1 + j = omega arith in reco
 here_tests : (v i : ℕ) (r : Row) (rs : List Row) (f : ℕ) (fs : List ℕ) → FanAt v i (r ∷ rs) (f ∷ fs) zero → ((r.from.0 == v) && (f == i)) ≡ true
 here_tests v i r rs f fs h =
     let e : i + 0 ≡ i = omega arith in
-    and_from (r.from.0 == v) (f == i) (eq-eqb r.from.0 v (ap (λ (x : Row). x.from.0) (same_Some r h.row h.at) ∙ h.starts)) (eq-eqb f i (same_Some f (i + 0) h.least ∙ e))
+    and_from (r.from.0 == v) (f == i) (eq-eqb r.from.0 v (ap (λ (x : Row). x.from.0) (same_Some r h.row h.at) ∙ h.starts))
+    (eq-eqb f i (same_Some f (i + 0) h.least ∙ e))
 
 tests_here : (v i : ℕ) (r : Row) (rs : List Row) (f : ℕ) (fs : List ℕ) → ((r.from.0 == v) && (f == i)) ≡ true → FanAt v i (r ∷ rs) (f ∷ fs) zero
 tests_here v i r rs f fs h =
@@ -39,7 +40,8 @@ found_fan v i [] fs h = absurd (omega (arith, h))
 found_fan v i (r ∷ rs) [] h = absurd (omega (arith, h))
 found_fan v i (r ∷ rs) (f ∷ fs) h = by_test ((r.from.0 == v) && (f == i)) refl h (λ k. found_fan v (i + 1) rs fs k)
   where
-    by_test : (b : Bool) → ((r.from.0 == v) && (f == i)) ≡ b → 1 ≤ (if b then 1 else 0) + fans_from v (i + 1) rs fs → (1 ≤ fans_from v (i + 1) rs fs → (j : ℕ) × FanAt v (i + 1) rs fs j) → (j : ℕ) × FanAt v i (r ∷ rs) (f ∷ fs) j
+    by_test : (b : Bool) → ((r.from.0 == v) && (f == i)) ≡ b → 1 ≤ (if b then 1 else 0) + fans_from v (i + 1) rs fs
+        → (1 ≤ fans_from v (i + 1) rs fs → (j : ℕ) × FanAt v (i + 1) rs fs j) → (j : ℕ) × FanAt v i (r ∷ rs) (f ∷ fs) j
     by_test true e g on = (zero, tests_here v i r rs f fs e)
     by_test false e g on = let k = on (omega (arith, g)) in (suc k.0, later v i r rs f fs k.0 k.1)
 
@@ -58,17 +60,21 @@ one_fan v i (r ∷ rs) (f ∷ fs) zero (suc k) one h g =
 one_fan v i (r ∷ rs) (f ∷ fs) (suc j) zero one h g =
     absurd (omega (arith, one, one_if ((r.from.0 == v) && (f == i)) (here_tests v i r rs f fs g), counted_fan v (i + 1) rs fs j (sooner v i r rs f fs j h)))
 one_fan v i (r ∷ rs) (f ∷ fs) (suc j) (suc k) one h g =
-    ap suc (one_fan v (i + 1) rs fs j k (omega (arith, one, counted_fan v (i + 1) rs fs j (sooner v i r rs f fs j h))) (sooner v i r rs f fs j h) (sooner v i r rs f fs k g))
+    ap suc (one_fan v (i + 1) rs fs j k (omega (arith, one, counted_fan v (i + 1) rs fs j (sooner v i r rs f fs j h))) (sooner v i r rs f fs j h)
+    (sooner v i r rs f fs k g))
 
 pub few_fans : (v i : ℕ) (rs : List Row) (fs : List ℕ) → ((j k : ℕ) → FanAt v i rs fs j → FanAt v i rs fs k → j ≡ k) → fans_from v i rs fs ≤ 1
 few_fans v i [] fs same = omega arith
 few_fans v i (r ∷ rs) [] same = omega arith
-few_fans v i (r ∷ rs) (f ∷ fs) same = by_test ((r.from.0 == v) && (f == i)) refl (few_fans v (i + 1) rs fs (λ j k h g. let e : suc j ≡ suc k = same (suc j) (suc k) (later v i r rs f fs j h) (later v i r rs f fs k g) in omega (arith, e)))
+few_fans v i (r ∷ rs) (f ∷ fs) same =
+    by_test ((r.from.0 == v) && (f == i)) refl
+    (few_fans v (i + 1) rs fs (λ j k h g. let e : suc j ≡ suc k = same (suc j) (suc k) (later v i r rs f fs j h) (later v i r rs f fs k g) in omega (arith, e)))
   where
     by_test : (b : Bool) → ((r.from.0 == v) && (f == i)) ≡ b → fans_from v (i + 1) rs fs ≤ 1 → (if b then 1 else 0) + fans_from v (i + 1) rs fs ≤ 1
     by_test true e few =
         ⊎_elim
-        (λ some. let k = found_fan v (i + 1) rs fs (omega (arith, some)) in let clash : zero ≡ suc k.0 = same zero (suc k.0) (tests_here v i r rs f fs e) (later v i r rs f fs k.0 k.1) in absurd (omega (arith, clash)))
+        (λ some. let k = found_fan v (i + 1) rs fs (omega (arith, some))
+        in let clash : zero ≡ suc k.0 = same zero (suc k.0) (tests_here v i r rs f fs e) (later v i r rs f fs k.0 k.1) in absurd (omega (arith, clash)))
         (λ none. omega (arith, none))
         (cases_lt 0 (fans_from v (i + 1) rs fs))
     by_test false e few = omega (arith, few)

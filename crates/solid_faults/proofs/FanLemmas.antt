@@ -39,7 +39,8 @@ turn_pair d pairs a b whole h turn =
 
 leads_joined : (d : ShellRows) (pairs : List (ℕ × ℕ)) (n a b : ℕ) → ArePaired d → AreTurns d pairs → Steps (Turns d) n a b → AreJoined pairs a b
 leads_joined d pairs zero a b whole h e = subst (AreJoined pairs a) e (leads_here (Linked pairs) a)
-leads_joined d pairs (suc n) a b whole h (c, turn, rest) = leads_one (Linked pairs) a c b (inl (turn_pair d pairs a c whole h turn)) (leads_joined d pairs n c b whole h rest)
+leads_joined d pairs (suc n) a b whole h (c, turn, rest) = leads_one (Linked pairs) a c b (inl (turn_pair d pairs a c whole h turn))
+    (leads_joined d pairs n c b whole h rest)
 
 -- a row that is turned to is a row
 turned_row : (d : ShellRows) (a b : ℕ) → ArePaired d → Turns d a b → b < length d.rows
@@ -51,7 +52,8 @@ turns_inside d pairs whole h = All-from (λ (p : ℕ × ℕ). (p.0 < length d.ro
     let t : Turns d p.0 p.1 = pair_turns d pairs p.0 p.1 h has in
     (slice_get_within d.rows p.0 t.1.row t.1.at_r, turned_row d p.0 p.1 whole t))
 
-pub fans_of_labels : (d : ShellRows) (pairs : List (ℕ × ℕ)) (labels : List ℕ) → ArePaired d → AreTurns d pairs → AreComponents pairs (length d.rows) labels → AreFans d labels
+pub fans_of_labels : (d : ShellRows) (pairs : List (ℕ × ℕ)) (labels : List ℕ) → ArePaired d → AreTurns d pairs → AreComponents pairs (length d.rows) labels
+    → AreFans d labels
 fans_of_labels d pairs labels whole h k = record {
   each = k.marks.each;
   down = λ r f at.
@@ -61,16 +63,19 @@ fans_of_labels d pairs labels whole h k = record {
       let j = joined_back pairs r (get_or labels r 0) (k.marks.joined r (omega (arith, slice_get_within labels r f at, k.marks.each))) in
       subst (λ n. LeadsTo (Turns d) n r) (get_or_from_slice_get labels r f 0 at) (joined_leads d pairs j.0 (get_or labels r 0) r whole h j.1);
   least = λ r f q at chain.
-      let low = least_of_joined pairs (length d.rows) labels r q (turns_inside d pairs whole h) k (omega (arith, slice_get_within labels r f at, k.marks.each)) (leads_joined d pairs chain.0 r q whole h chain.1) in
+      let low = least_of_joined pairs (length d.rows) labels r q (turns_inside d pairs whole h) k (omega (arith, slice_get_within labels r f at, k.marks.each))
+      (leads_joined d pairs chain.0 r q whole h chain.1) in
       omega (arith, low, get_or_from_slice_get labels r f 0 at);
 }
 
 -- one row more
-pub turn_pushed : (d : ShellRows) (i t : ℕ) (old new : List (ℕ × ℕ)) → length old ≡ i → ((r : ℕ) (p : ℕ × ℕ) → slice_get old r ≡ Some p → (p.0 ≡ r) × Turns d p.0 p.1) → Turns d i t → new ≡ old ++ (i, t) ∷ []
+pub turn_pushed : (d : ShellRows) (i t : ℕ) (old new : List (ℕ × ℕ)) → length old ≡ i
+    → ((r : ℕ) (p : ℕ × ℕ) → slice_get old r ≡ Some p → (p.0 ≡ r) × Turns d p.0 p.1) → Turns d i t → new ≡ old ++ (i, t) ∷ []
     → (r : ℕ) (p : ℕ × ℕ) → slice_get new r ≡ Some p → (p.0 ≡ r) × Turns d p.0 p.1
 turn_pushed d i t old new long h turn e r p at = by_place (last_or_before old (i, t) r p (subst (λ xs. slice_get xs r ≡ Some p) e at))
   where
-    last_or_before : {A : Type 0} (xs : List A) (y : A) (k : ℕ) (z : A) → slice_get (xs ++ y ∷ []) k ≡ Some z → (slice_get xs k ≡ Some z) ⊎ ((k ≡ length xs) × (y ≡ z))
+    last_or_before : {A : Type 0} (xs : List A) (y : A) (k : ℕ) (z : A) → slice_get (xs ++ y ∷ []) k ≡ Some z
+        → (slice_get xs k ≡ Some z) ⊎ ((k ≡ length xs) × (y ≡ z))
     last_or_before [] y zero z g = inr (refl, same_Some y z g)
     last_or_before [] y (suc k) z g = absurd cc
     last_or_before (x ∷ xs) y zero z g = inl g

@@ -45,7 +45,8 @@ pub gaps_done : (s : SolidData) (p : PlacedLoop) (i : ℕ) (now all : List Gap) 
 gaps_done s p i now all past h =
     let xs : List ℕ = map (end_of s) p.loop.uses in
     let ys : List ℕ = next_of_each (map (start_of s) p.loop.uses) in
-    let none : gaps_left s p i ≡ [] = ap (λ us. flat_map (gap_at p) (ends_and_starts (i + 1) us (drop i ys))) (drop_all i xs (omega (arith, past, length-map p.loop.uses (end_of s)))) in
+    let none : gaps_left s p i ≡ [] = ap (λ us. flat_map (gap_at p) (ends_and_starts (i + 1) us (drop i ys)))
+    (drop_all i xs (omega (arith, past, length-map p.loop.uses (end_of s)))) in
     sym (append-nil now) ∙ (ap (λ r. now ++ r) (sym none) ∙ h)
 
 -- the gaps of items that are numbered, from item i on
@@ -90,7 +91,8 @@ pub face_step : (s : SolidData) (flag : Bool) (fs : List FaceUse) (f : FaceUse) 
 face_step s flag fs f i old new all lt at h e =
     let here : List PlacedLoop = placed_in_face flag (i, f) in
     piece_more old new (flat_map (loop_gaps s) here) (flat_map (loop_gaps s) (faces_left flag fs (i + 1))) all
-    (ap (λ ps. old ++ ps) (sym (flat_map-append (loop_gaps s) here (faces_left flag fs (i + 1)))) ∙ (ap (λ ps. old ++ flat_map (loop_gaps s) ps) (sym (split_faces flag fs f i lt at)) ∙ h)) e
+    (ap (λ ps. old ++ ps) (sym (flat_map-append (loop_gaps s) here (faces_left flag fs (i + 1))))
+    ∙ (ap (λ ps. old ++ flat_map (loop_gaps s) ps) (sym (split_faces flag fs f i lt at)) ∙ h)) e
 
 pub loops_done : (s : SolidData) (face : ℕ) (forwards : Bool) (ls : List Loop) (i : ℕ) (now all : List Gap) → length ls ≤ i
     → now ++ flat_map (loop_gaps s) (loops_left face forwards ls i) ≡ all → now ≡ all

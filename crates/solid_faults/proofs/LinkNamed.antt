@@ -82,7 +82,8 @@ corner_counts d leasts v whole h corner =
 
 point_counts : (d : ShellRows) (leasts : List ℕ) (v : ℕ) → IsPoint d v → fan_count d leasts v ≡ 0
 point_counts d leasts v point =
-    ⊎_elim (λ some. let j = found_fan v 0 d.rows leasts (omega (arith, some)) in absurd (point.no_row j.0 (fan_start d leasts v j.0 j.1))) (λ none. omega (arith, none)) (cases_lt 0 (fan_count d leasts v))
+    ⊎_elim (λ some. let j = found_fan v 0 d.rows leasts (omega (arith, some)) in absurd (point.no_row j.0 (fan_start d leasts v j.0 j.1)))
+    (λ none. omega (arith, none)) (cases_lt 0 (fan_count d leasts v))
 
 link_test : (a b c e : Bool) → ((a && b) || (c && e)) ≡ true → ((a ≡ true) × (b ≡ true)) ⊎ ((c ≡ true) × (e ≡ true))
 link_test true true c e h = inl (refl, refl)
@@ -101,30 +102,38 @@ test_link : (a b c e : Bool) → ((a ≡ true) × (b ≡ true)) ⊎ ((c ≡ true
 test_link a b c e (inl h) = ap (λ t. (t && b) || (c && e)) h.0 ∙ ap (λ t. (true && t) || (c && e)) h.1
 test_link a b c e (inr h) = ap (λ t. (a && b) || (t && e)) h.0 ∙ (ap (λ t. (a && b) || (true && t)) h.1 ∙ or_true (a && b))
 
-linked_test : (d : ShellRows) (leasts : List ℕ) (v : ℕ) → ArePaired d → AreFans d leasts → IsLinked d v → (((fan_count d leasts v == 1) && (point_count d v == 0)) || ((fan_count d leasts v == 0) && (point_count d v == 1))) ≡ true
+linked_test : (d : ShellRows) (leasts : List ℕ) (v : ℕ) → ArePaired d → AreFans d leasts → IsLinked d v
+    → (((fan_count d leasts v == 1) && (point_count d v == 0)) || ((fan_count d leasts v == 0) && (point_count d v == 1))) ≡ true
 linked_test d leasts v whole h linked =
     test_link (fan_count d leasts v == 1) (point_count d v == 0) (fan_count d leasts v == 0) (point_count d v == 1)
     (⊎_elim
     (λ corner. inl (eq-eqb (fan_count d leasts v) 1 (corner_counts d leasts v whole h corner), eq-eqb (point_count d v) 0 corner.no_point))
     (λ point. inr (eq-eqb (fan_count d leasts v) 0 (point_counts d leasts v point), eq-eqb (point_count d v) 1 point.one_point)) linked)
 
-test_linked : (d : ShellRows) (leasts : List ℕ) (v : ℕ) → ArePaired d → AreFans d leasts → (((fan_count d leasts v == 1) && (point_count d v == 0)) || ((fan_count d leasts v == 0) && (point_count d v == 1))) ≡ true → IsLinked d v
+test_linked : (d : ShellRows) (leasts : List ℕ) (v : ℕ) → ArePaired d → AreFans d leasts
+    → (((fan_count d leasts v == 1) && (point_count d v == 0)) || ((fan_count d leasts v == 0) && (point_count d v == 1))) ≡ true → IsLinked d v
 test_linked d leasts v whole h test =
     ⊎_elim
     (λ a. inl (corner_of d leasts v whole h (eqb-true (fan_count d leasts v) 1 a.0) (eqb-true (point_count d v) 0 a.1)))
     (λ b. inr (point_of_counts d leasts v whole h (eqb-true (fan_count d leasts v) 0 b.0) (eqb-true (point_count d v) 1 b.1)))
     (link_test (fan_count d leasts v == 1) (point_count d v == 0) (fan_count d leasts v == 0) (point_count d v == 1) test)
 
-vertex_linked : (s : SolidData) (d : ShellRows) (leasts : List ℕ) → ArePaired d → AreFans d leasts → (v : ℕ) → AreFailing (at_vertex RuleUnlinked (vertex_name (slice_get s.vertices v)) (IsLinked d v) ∷ []) (map (unlinked_failing s) (vertex_unlinked d leasts v))
-vertex_linked s d leasts whole h v = by_test (((fan_count d leasts v == 1) && (point_count d v == 0)) || ((fan_count d leasts v == 0) && (point_count d v == 1))) refl
+vertex_linked : (s : SolidData) (d : ShellRows) (leasts : List ℕ) → ArePaired d → AreFans d leasts → (v : ℕ)
+    → AreFailing (at_vertex RuleUnlinked (vertex_name (slice_get s.vertices v)) (IsLinked d v) ∷ []) (map (unlinked_failing s) (vertex_unlinked d leasts v))
+vertex_linked s d leasts whole h v =
+    by_test (((fan_count d leasts v == 1) && (point_count d v == 0)) || ((fan_count d leasts v == 0) && (point_count d v == 1))) refl
   where
     o : Obligation
     o = at_vertex RuleUnlinked (vertex_name (slice_get s.vertices v)) (IsLinked d v)
 
     by_test : (b : Bool) → (((fan_count d leasts v == 1) && (point_count d v == 0)) || ((fan_count d leasts v == 0) && (point_count d v == 1))) ≡ b
-        → AreFailing (o ∷ []) (map (unlinked_failing s) (if b then [] else record { vertex = record { 0 = v }; fans = fan_count d leasts v; points = point_count d v } ∷ []))
+        → AreFailing (o ∷ []) (map (unlinked_failing s)
+        (if b then [] else record { vertex = record { 0 = v }; fans = fan_count d leasts v; points = point_count d v } ∷ []))
     by_test true e = holds_too o [] [] (test_linked d leasts v whole h e) refl
-    by_test false e = fails_too o [] o.failing [] (λ linked. absurd (let clash : true ≡ false = sym (linked_test d leasts v whole h linked) ∙ e in cc)) refl refl
+    by_test false e = fails_too o [] o.failing [] (λ linked. absurd (let clash : true ≡ false = sym (linked_test d leasts v whole h linked) ∙ e in cc)) refl
+        refl
 
-pub unlinked_named : (s : SolidData) (d : ShellRows) (leasts : List ℕ) → ArePaired d → AreFans d leasts → AreFailing (link_obligations s d) (map (unlinked_failing s) (unlinked_of d leasts))
-unlinked_named s d leasts whole h = failing_map (λ v. at_vertex RuleUnlinked (vertex_name (slice_get s.vertices v)) (IsLinked d v)) (vertex_unlinked d leasts) (unlinked_failing s) d.vertices (vertex_linked s d leasts whole h)
+pub unlinked_named : (s : SolidData) (d : ShellRows) (leasts : List ℕ) → ArePaired d → AreFans d leasts
+    → AreFailing (link_obligations s d) (map (unlinked_failing s) (unlinked_of d leasts))
+unlinked_named s d leasts whole h = failing_map (λ v. at_vertex RuleUnlinked (vertex_name (slice_get s.vertices v)) (IsLinked d v)) (vertex_unlinked d leasts)
+    (unlinked_failing s) d.vertices (vertex_linked s d leasts whole h)

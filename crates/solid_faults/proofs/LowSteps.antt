@@ -1,5 +1,6 @@
 -- Marks of the least part at each vertex.
-use Rattle.std.specs.Prelude.{◌≡◌, ◌<◌, ◌+◌, ◌==◌, ◌&&◌, ◌||◌, nat_lt, ℕ, Bool, true, false, All, Contains, List, ◌∷◌, length, drop, flat_map, get_or, if◌then◌else◌}
+use Rattle.std.specs.Prelude.{◌≡◌, ◌<◌, ◌+◌, ◌==◌, ◌&&◌, ◌||◌, nat_lt, ℕ, Bool, true, false, All, Contains, List, ◌∷◌, length, drop, flat_map, get_or}
+use Rattle.std.specs.Prelude.{if◌then◌else◌}
 use Rattle.std.specs.List.{list_any}
 use Rattle.std.proofs.Common.{refl, sym, ◌∙◌, ap, subst, arith}
 use Rattle.std.proofs.lemmas.List.{drop_more}
@@ -24,10 +25,12 @@ marks_kept old new m k = record {
 }
 
 -- a vertex whose mark is looked at
-pub low_known : (old mid : Celled ℕ) (vs : List ℕ) (i : ℕ) → AreKept old mid → All (Contains old.numbers) vs → i < length vs → Contains mid.numbers (get_or vs i 0)
+pub low_known : (old mid : Celled ℕ) (vs : List ℕ) (i : ℕ) → AreKept old mid → All (Contains old.numbers) vs → i < length vs
+    → Contains mid.numbers (get_or vs i 0)
 low_known old mid vs i k known lt = subst (λ ns. Contains ns (get_or vs i 0)) (sym k.numbers) (All-get_or (Contains old.numbers) vs i 0 lt known)
 
-pub low_within : (old mid : Celled ℕ) (vs : List ℕ) (i : ℕ) → AreKept old mid → AreMarks old → All (Contains old.numbers) vs → i < length vs → IsWithin mid.span (get_or vs i 0)
+pub low_within : (old mid : Celled ℕ) (vs : List ℕ) (i : ℕ) → AreKept old mid → AreMarks old → All (Contains old.numbers) vs → i < length vs
+    → IsWithin mid.span (get_or vs i 0)
 low_within old mid vs i k m known lt =
     subst (λ s. IsWithin s (get_or vs i 0)) (sym k.span) (All-get_or (IsWithin old.span) vs i 0 lt (vertices_within old.numbers vs old.span m.span known))
 
@@ -38,8 +41,10 @@ one_more false true true false = refl
 one_more false true false false = refl
 one_more false false y c = refl
 
-pub low_step : (mid new : Celled ℕ) (vs : List ℕ) (i part v p : ℕ) (target : Bool) → i < length vs → is_low new p v ≡ (is_low mid p v || ((get_or vs i 0 == v) && nat_lt part p))
-    → (is_low mid p v || (list_any (λ m. m == v) (drop i vs) && nat_lt part p)) ≡ target → (is_low new p v || (list_any (λ m. m == v) (drop (i + 1) vs) && nat_lt part p)) ≡ target
+pub low_step : (mid new : Celled ℕ) (vs : List ℕ) (i part v p : ℕ) (target : Bool) → i < length vs
+    → is_low new p v ≡ (is_low mid p v || ((get_or vs i 0 == v) && nat_lt part p))
+    → (is_low mid p v || (list_any (λ m. m == v) (drop i vs) && nat_lt part p)) ≡ target
+    → (is_low new p v || (list_any (λ m. m == v) (drop (i + 1) vs) && nat_lt part p)) ≡ target
 low_step mid new vs i part v p target lt e before =
     ap (λ b. b || (list_any (λ m. m == v) (drop (i + 1) vs) && nat_lt part p)) e
     ∙ (one_more (is_low mid p v) (get_or vs i 0 == v) (list_any (λ m. m == v) (drop (i + 1) vs)) (nat_lt part p)
@@ -47,7 +52,8 @@ low_step mid new vs i part v p target lt e before =
     ∙ before))
 
 face_more : (s : SolidData) (f : FaceUse) (fs : List FaceUse) (a b : Bool) (v : ℕ)
-    → ((a || (list_any (λ m. m == v) (face_vertices s f) && b)) || list_any (λ m. m == v) (flat_map (face_vertices s) fs)) ≡ (a || list_any (λ m. m == v) (flat_map (face_vertices s) (if b then f ∷ fs else fs)))
+    → ((a || (list_any (λ m. m == v) (face_vertices s f) && b)) || list_any (λ m. m == v) (flat_map (face_vertices s) fs))
+    ≡ (a || list_any (λ m. m == v) (flat_map (face_vertices s) (if b then f ∷ fs else fs)))
 face_more s f fs a true v =
     joined a (list_any (λ m. m == v) (face_vertices s f)) (list_any (λ m. m == v) (flat_map (face_vertices s) fs))
     ∙ ap (λ t. a || t) (sym (list_any-append (λ m. m == v) (face_vertices s f) (flat_map (face_vertices s) fs)))
@@ -64,7 +70,8 @@ face_more s f fs a false v = left a (list_any (λ m. m == v) (face_vertices s f)
     left false false r = refl
 
 -- the marks of one face's vertices are lowered
-pub face_step : (s : SolidData) (fs : List FaceUse) (firsts : List ℕ) (f : FaceUse) (i v p : ℕ) (mid new : Celled ℕ) (vs : List ℕ) (target : Bool) → i < length fs → length firsts ≡ length fs → f ≡ get_or fs i f → vs ≡ face_vertices s f
+pub face_step : (s : SolidData) (fs : List FaceUse) (firsts : List ℕ) (f : FaceUse) (i v p : ℕ) (mid new : Celled ℕ) (vs : List ℕ) (target : Bool)
+    → i < length fs → length firsts ≡ length fs → f ≡ get_or fs i f → vs ≡ face_vertices s f
     → is_low new p v ≡ (is_low mid p v || (list_any (λ m. m == v) vs && nat_lt (get_or firsts i 0) p))
     → (is_low mid p v || list_any (λ m. m == v) (flat_map (face_vertices s) (faces_where (λ q. nat_lt q p) (drop i fs) (drop i firsts)))) ≡ target
     → (is_low new p v || list_any (λ m. m == v) (flat_map (face_vertices s) (faces_where (λ q. nat_lt q p) (drop (i + 1) fs) (drop (i + 1) firsts)))) ≡ target

@@ -27,8 +27,10 @@ use_named : (p : PlacedLoop) (u : ℕ × ℕ × ℕ) → AreFailing (obligation 
 use_named p u =
     let o : Obligation = obligation Unjoined p.loop.entity.0 u.0 (u.1 ≡ u.2) in
     ⊎_elim
-    (λ same. subst (λ b. AreFailing (o ∷ []) (map gap_failing (if b then [] else record { at = p.at; entity = p.loop.entity; tuple = u.0 } ∷ []))) (sym same.0) (holds_too o [] [] same.1 refl))
-    (λ other. subst (λ b. AreFailing (o ∷ []) (map gap_failing (if b then [] else record { at = p.at; entity = p.loop.entity; tuple = u.0 } ∷ []))) (sym other.0) (fails_too o [] o.failing [] other.1 refl refl))
+    (λ same. subst (λ b. AreFailing (o ∷ []) (map gap_failing (if b then [] else record { at = p.at; entity = p.loop.entity; tuple = u.0 } ∷ []))) (sym same.0)
+    (holds_too o [] [] same.1 refl))
+    (λ other. subst (λ b. AreFailing (o ∷ []) (map gap_failing (if b then [] else record { at = p.at; entity = p.loop.entity; tuple = u.0 } ∷ [])))
+    (sym other.0) (fails_too o [] o.failing [] other.1 refl refl))
     (eqb_tells u.1 u.2)
 
 pub gaps_named : (s : SolidData) (shell : Shell) → AreFailing (join_obligations s shell) (map gap_failing (gaps_of s shell))
@@ -39,25 +41,31 @@ gaps_named s shell =
 
 -- PAIR
 
-edge_named : (s : SolidData) (d : ShellRows) (e : ℕ) → AreFailing (at_edge RuleUnpaired (edge_name (slice_get s.edges e)) (IsPaired d e) ∷ []) (map (unpaired_failing s) (edge_unpaired d e))
-edge_named s d e = by_tests (row_count d e true == 1) (row_count d e false == 1) refl refl (eqb_tells (row_count d e true) 1) (eqb_tells (row_count d e false) 1)
+edge_named : (s : SolidData) (d : ShellRows) (e : ℕ) → AreFailing (at_edge RuleUnpaired (edge_name (slice_get s.edges e)) (IsPaired d e) ∷ [])
+    (map (unpaired_failing s) (edge_unpaired d e))
+edge_named s d e = by_tests (row_count d e true == 1) (row_count d e false == 1) refl refl (eqb_tells (row_count d e true) 1)
+    (eqb_tells (row_count d e false) 1)
   where
     o : Obligation
     o = at_edge RuleUnpaired (edge_name (slice_get s.edges e)) (IsPaired d e)
 
     found_at : Bool → Type 0
-    found_at b = AreFailing (o ∷ []) (map (unpaired_failing s) (if b then [] else record { edge = record { 0 = e }; along = row_count d e true; against = row_count d e false } ∷ []))
+    found_at b = AreFailing (o ∷ [])
+        (map (unpaired_failing s) (if b then [] else record { edge = record { 0 = e }; along = row_count d e true; against = row_count d e false } ∷ []))
 
     by_tests : (a b : Bool) → (row_count d e true == 1) ≡ a → (row_count d e false == 1) ≡ b
         → (((row_count d e true == 1) ≡ true) × (row_count d e true ≡ 1)) ⊎ (((row_count d e true == 1) ≡ false) × (row_count d e true ≡ 1 → ⊥))
         → (((row_count d e false == 1) ≡ true) × (row_count d e false ≡ 1)) ⊎ (((row_count d e false == 1) ≡ false) × (row_count d e false ≡ 1 → ⊥))
         → found_at ((row_count d e true == 1) && (row_count d e false == 1))
     by_tests a b ea eb (inl x) (inl y) = subst (λ t. found_at t) (sym (ap (λ t. t && (row_count d e false == 1)) x.0 ∙ y.0)) (holds_too o [] [] (x.1, y.1) refl)
-    by_tests a b ea eb (inl x) (inr y) = subst (λ t. found_at t) (sym (ap (λ t. t && (row_count d e false == 1)) x.0 ∙ y.0)) (fails_too o [] o.failing [] (λ h. y.1 h.1) refl refl)
-    by_tests a b ea eb (inr x) y = subst (λ t. found_at t) (sym (ap (λ t. t && (row_count d e false == 1)) x.0)) (fails_too o [] o.failing [] (λ h. x.1 h.0) refl refl)
+    by_tests a b ea eb (inl x) (inr y) = subst (λ t. found_at t) (sym (ap (λ t. t && (row_count d e false == 1)) x.0 ∙ y.0))
+        (fails_too o [] o.failing [] (λ h. y.1 h.1) refl refl)
+    by_tests a b ea eb (inr x) y = subst (λ t. found_at t) (sym (ap (λ t. t && (row_count d e false == 1)) x.0))
+        (fails_too o [] o.failing [] (λ h. x.1 h.0) refl refl)
 
 pub unpaired_named : (s : SolidData) (d : ShellRows) → AreFailing (pair_obligations s d) (map (unpaired_failing s) (unpaired_of d))
-unpaired_named s d = failing_map (λ e. at_edge RuleUnpaired (edge_name (slice_get s.edges e)) (IsPaired d e)) (edge_unpaired d) (unpaired_failing s) d.edges (edge_named s d)
+unpaired_named s d = failing_map (λ e. at_edge RuleUnpaired (edge_name (slice_get s.edges e)) (IsPaired d e)) (edge_unpaired d) (unpaired_failing s) d.edges
+    (edge_named s d)
 
 -- APART
 
@@ -70,12 +78,15 @@ any_has v (m ∷ ids) h = by_test (m == v) refl (λ g. any_has v ids g) h
     by_test false e on g = inr (on g)
 
 -- a vertex of some is shared, or it is apart
-vertex_named : (s : SolidData) (k v : ℕ) (vs before : List ℕ) (b : Bool) → before ≡ flat_map (shell_vertices s) (take k s.shells) → list_any (λ m. m == v) before ≡ b
+vertex_named : (s : SolidData) (k v : ℕ) (vs before : List ℕ) (b : Bool) → before ≡ flat_map (shell_vertices s) (take k s.shells)
+    → list_any (λ m. m == v) before ≡ b
     → AreFailing (map (λ w. at_vertex Shared (vertex_name (slice_get s.vertices w)) (IsApart s k w)) vs) (map (shared_failing s) (occurring vs before))
-    → AreFailing (map (λ w. at_vertex Shared (vertex_name (slice_get s.vertices w)) (IsApart s k w)) (v ∷ vs)) (map (shared_failing s) (if b then v ∷ occurring vs before else occurring vs before))
+    → AreFailing (map (λ w. at_vertex Shared (vertex_name (slice_get s.vertices w)) (IsApart s k w)) (v ∷ vs))
+    (map (shared_failing s) (if b then v ∷ occurring vs before else occurring vs before))
 vertex_named s k v vs before true is e rest =
     let o : ℕ → Obligation = λ w. at_vertex Shared (vertex_name (slice_get s.vertices w)) (IsApart s k w) in
-    fails_too (o v) (map o vs) (shared_failing s v) (map (shared_failing s) (occurring vs before)) (λ h. h (subst (λ xs. Contains xs v) is (Contains-from_Has before v (any_has v before e)))) refl rest
+    fails_too (o v) (map o vs) (shared_failing s v) (map (shared_failing s) (occurring vs before))
+    (λ h. h (subst (λ xs. Contains xs v) is (Contains-from_Has before v (any_has v before e)))) refl rest
 vertex_named s k v vs before false is e rest =
     let o : ℕ → Obligation = λ w. at_vertex Shared (vertex_name (slice_get s.vertices w)) (IsApart s k w) in
     holds_too (o v) (map o vs) (map (shared_failing s) (occurring vs before))

@@ -22,19 +22,24 @@ use Rattle.solid_faults.proofs.GapSteps.{piece_more}
 
 -- a row that is made of an edge runs along it by the flag
 pub placed_edge : (f : FaceUse) (p : PlacedLoop) (t : ℕ) (flag : Bool) (at : LoopAt) (id : EdgeId) (along : Bool) (e : Edge)
-    → place_of_row f p t flag (row_of_edge at id along (Some e)) ≡ record { along = along; face = f.entity; face_flag = f.flag; walk = p.loop.entity; tuple = t; flag = flag } ∷ []
+    → place_of_row f p t flag (row_of_edge at id along (Some e))
+    ≡ record { along = along; face = f.entity; face_flag = f.flag; walk = p.loop.entity; tuple = t; flag = flag } ∷ []
 placed_edge f p t flag at id true e = refl
 placed_edge f p t flag at id false e = refl
 
 pub tuple_step : {A B : Type 0} (f : ℕ × A → List B) (xs : List A) (x : A) (i : ℕ) (old new all : List B) → i < length xs → get_or xs i x ≡ x
-    → old ++ flat_map f (enumerate_from (i + 1) (drop i xs)) ≡ all → new ≡ old ++ f (i + 1, x) → new ++ flat_map f (enumerate_from (i + 1 + 1) (drop (i + 1) xs)) ≡ all
+    → old ++ flat_map f (enumerate_from (i + 1) (drop i xs)) ≡ all → new ≡ old ++ f (i + 1, x)
+    → new ++ flat_map f (enumerate_from (i + 1 + 1) (drop (i + 1) xs)) ≡ all
 tuple_step f xs x i old new all lt at h e =
-    piece_more old new (f (i + 1, x)) (flat_map f (enumerate_from (i + 1 + 1) (drop (i + 1) xs))) all (ap (λ ys. old ++ flat_map f (enumerate_from (i + 1) ys)) (sym (split_drop xs x i lt at)) ∙ h) e
+    piece_more old new (f (i + 1, x)) (flat_map f (enumerate_from (i + 1 + 1) (drop (i + 1) xs))) all
+    (ap (λ ys. old ++ flat_map f (enumerate_from (i + 1) ys)) (sym (split_drop xs x i lt at)) ∙ h) e
 
-pub tuples_done : {A B : Type 0} (f : ℕ × A → List B) (xs : List A) (i : ℕ) (now all : List B) → length xs ≤ i → now ++ flat_map f (enumerate_from (i + 1) (drop i xs)) ≡ all → now ≡ all
+pub tuples_done : {A B : Type 0} (f : ℕ × A → List B) (xs : List A) (i : ℕ) (now all : List B) → length xs ≤ i
+    → now ++ flat_map f (enumerate_from (i + 1) (drop i xs)) ≡ all → now ≡ all
 tuples_done f xs i now all past h = sym (append-nil now) ∙ (ap (λ ys. now ++ flat_map f (enumerate_from (i + 1) ys)) (sym (drop_all i xs past)) ∙ h)
 
-pub placed_step : {B : Type 0} (f : PlacedLoop → List B) (face : ℕ) (forwards : Bool) (ls : List Loop) (l : Loop) (i : ℕ) (old new all : List B) → i < length ls → get_or ls i l ≡ l
+pub placed_step : {B : Type 0} (f : PlacedLoop → List B) (face : ℕ) (forwards : Bool) (ls : List Loop) (l : Loop) (i : ℕ) (old new all : List B)
+    → i < length ls → get_or ls i l ≡ l
     → old ++ flat_map f (loops_left face forwards ls i) ≡ all → new ≡ old ++ f (placed_at face forwards (i, l))
     → new ++ flat_map f (loops_left face forwards ls (i + 1)) ≡ all
 placed_step f face forwards ls l i old new all lt at h e =
@@ -59,10 +64,12 @@ ways_more : (f : FaceUse) (p : PlacedLoop) (t : ℕ) (flag : Bool) (o : Option R
 ways_more f p t flag None ps rs h = h
 ways_more f p t flag (Some r) ps rs h = ap (λ ws. r.along ∷ ws) h
 
-ways_of_uses : (s : SolidData) (f : FaceUse) (p : PlacedLoop) (n : ℕ) (us : List LoopUse) → map place_way (flat_map (use_places s f p) (enumerate_from n us)) ≡ map row_way (filter_map (row_of s p) us)
+ways_of_uses : (s : SolidData) (f : FaceUse) (p : PlacedLoop) (n : ℕ) (us : List LoopUse) → map place_way (flat_map (use_places s f p) (enumerate_from n us))
+    ≡ map row_way (filter_map (row_of s p) us)
 ways_of_uses s f p n [] = refl
 ways_of_uses s f p n (u ∷ us) =
-    ways_more f p n (flag_of_use u) (row_of s p u) (flat_map (use_places s f p) (enumerate_from (n + 1) us)) (filter_map (row_of s p) us) (ways_of_uses s f p (n + 1) us)
+    ways_more f p n (flag_of_use u) (row_of s p u) (flat_map (use_places s f p) (enumerate_from (n + 1) us)) (filter_map (row_of s p) us)
+    (ways_of_uses s f p (n + 1) us)
 
 ways_of_loops : (s : SolidData) (f : FaceUse) (ps : List PlacedLoop) → map place_way (flat_map (loop_places s f) ps) ≡ map row_way (flat_map (loop_rows s) ps)
 ways_of_loops s f [] = refl
@@ -72,7 +79,8 @@ ways_of_loops s f (p ∷ ps) =
     ∙ (ap (λ ws. map row_way (loop_rows s p) ++ ws) (ways_of_loops s f ps)
     ∙ sym (map-append row_way (loop_rows s p) (flat_map (loop_rows s) ps))))
 
-ways_of_faces : (s : SolidData) (flag : Bool) (fs : List (ℕ × FaceUse)) → map place_way (flat_map (face_places s flag) fs) ≡ map row_way (flat_map (loop_rows s) (flat_map (placed_in_face flag) fs))
+ways_of_faces : (s : SolidData) (flag : Bool) (fs : List (ℕ × FaceUse)) → map place_way (flat_map (face_places s flag) fs)
+    ≡ map row_way (flat_map (loop_rows s) (flat_map (placed_in_face flag) fs))
 ways_of_faces s flag [] = refl
 ways_of_faces s flag (f ∷ fs) =
     map-append place_way (face_places s flag f) (flat_map (face_places s flag) fs)
@@ -86,10 +94,12 @@ unfolding shell_rows
 ways_of_shell s h = ways_of_faces s h.flag (enumerate_from 0 h.faces)
 
 -- what is found of a shell that is there
-pub found_ways : (s : SolidData) (o : Option Shell) (h : Shell) (ps : List RowPlace) → o ≡ Some h → ps ≡ row_places_of s h → map place_way ps ≡ map row_way (rows_of s o).rows
+pub found_ways : (s : SolidData) (o : Option Shell) (h : Shell) (ps : List RowPlace) → o ≡ Some h → ps ≡ row_places_of s h
+    → map place_way ps ≡ map row_way (rows_of s o).rows
 found_ways s o h ps at e = ap (map place_way) e ∙ (ways_of_shell s h ∙ ap (λ (x : Option Shell). map row_way (rows_of s x).rows) (sym at))
 
-pub found_each : (s : SolidData) (o : Option Shell) (h : Shell) (ps : List RowPlace) → o ≡ Some h → ps ≡ row_places_of s h → length ps ≡ length (rows_of s o).rows
+pub found_each : (s : SolidData) (o : Option Shell) (h : Shell) (ps : List RowPlace) → o ≡ Some h → ps ≡ row_places_of s h
+    → length ps ≡ length (rows_of s o).rows
 found_each s o h ps at e =
     sym (length-map ps place_way) ∙ (ap (length {A = Bool}) (found_ways s o h ps at e) ∙ length-map (rows_of s o).rows row_way)
 

@@ -21,7 +21,18 @@ use Rattle.solid_faults.specs.Parts.{ShareEdge, AreConnected, AreParts, failing_
 use Rattle.solid_faults.proofs.FailingLemmas.{holds_too, fails_too}
 
 pub share_back : (d : ShellRows) (a b : ℕ) → ShareEdge d a b → ShareEdge d b a
-share_back d a b h = record { r = h.q; q = h.r; row = h.other; other = h.row; at_r = h.at_q; at_q = h.at_r; one_edge = sym h.one_edge; on_a = h.on_b; on_b = h.on_a }
+share_back d a b h = record {
+  r = h.q;
+  q = h.r;
+  row = h.other;
+  other = h.row;
+  at_r = h.at_q;
+  at_q = h.at_r;
+  one_edge = sym h.one_edge;
+  on_a = h.on_b;
+  on_b =
+      h.on_a;
+}
 
 connected_steps : (d : ShellRows) (n a b : ℕ) → Steps (ShareEdge d) n a b → AreConnected d b a
 connected_steps d zero a b e = subst (λ x. AreConnected d x a) e (leads_here (ShareEdge d) a)
@@ -57,7 +68,8 @@ share_neighbours d paired a b h =
     ⊎_elim
     (λ same.
     let e : ℕ = h.row.edge.0 in
-    let one : h.r ≡ h.q = one_of_edge d e h.row.along h.r h.q h.row h.other (pair_counts d e h.row.along (paired h.r h.row h.at_r)) h.at_r h.at_q refl (ap (λ (x : EdgeId). x.0) (sym h.one_edge)) refl (sym same) in
+    let one : h.r ≡ h.q = one_of_edge d e h.row.along h.r h.q h.row h.other (pair_counts d e h.row.along (paired h.r h.row h.at_r)) h.at_r h.at_q refl
+    (ap (λ (x : EdgeId). x.0) (sym h.one_edge)) refl (sym same) in
     let rows : h.row ≡ h.other = same_Some h.row h.other (sym h.at_r ∙ (ap (λ n. slice_get d.rows n) one ∙ h.at_q)) in
     inl (sym h.on_a ∙ (ap (λ (x : Row). x.at.face.0) rows ∙ h.on_b)))
     (λ other.
@@ -73,7 +85,8 @@ share_chain : (d : ShellRows) → PairedRows d → (n a b : ℕ) → Steps (Shar
 share_chain d paired zero a b e = subst (λ x. LeadsTo (AreNeighbours d) a x) e (leads_here (AreNeighbours d) a)
 share_chain d paired (suc n) a b (c, h, rest) =
     let more : LeadsTo (AreNeighbours d) c b = share_chain d paired n c b rest in
-    ⊎_elim (λ same. subst (λ x. LeadsTo (AreNeighbours d) x b) (sym same) more) (λ near. leads_one (AreNeighbours d) a c b near more) (share_neighbours d paired a c h)
+    ⊎_elim (λ same. subst (λ x. LeadsTo (AreNeighbours d) x b) (sym same) more) (λ near. leads_one (AreNeighbours d) a c b near more)
+    (share_neighbours d paired a c h)
 
 -- a face is reached exactly where its part is the first face's
 pub first_part_reached : (d : ShellRows) (firsts : List ℕ) (f : ℕ) → PairedRows d → AreParts d firsts → slice_get firsts f ≡ Some 0 → IsReached d f
@@ -82,21 +95,30 @@ first_part_reached d firsts f paired parts at = let k = connected_back d f 0 (pa
 pub reached_first_part : (d : ShellRows) (firsts : List ℕ) (f p : ℕ) → AreParts d firsts → slice_get firsts f ≡ Some p → IsReached d f → p ≤ 0
 reached_first_part d firsts f p parts at h = parts.least f p 0 at (connected_back d 0 f (neighbour_chain d h.0 0 f h.1))
 
-faces_from : (d : ShellRows) (firsts : List ℕ) → PairedRows d → AreParts d firsts → (fs : List FaceUse) (i : ℕ) (ps : List ℕ) → length fs ≡ length ps → ((j p : ℕ) → slice_get ps j ≡ Some p → slice_get firsts (i + j) ≡ Some p)
+faces_from : (d : ShellRows) (firsts : List ℕ) → PairedRows d → AreParts d firsts → (fs : List FaceUse) (i : ℕ) (ps : List ℕ) → length fs ≡ length ps
+    → ((j p : ℕ) → slice_get ps j ≡ Some p → slice_get firsts (i + j) ≡ Some p)
     → AreFailing (map (λ (f : ℕ × FaceUse). obligation Unreached f.1.entity.0 0 (IsReached d f.0)) (enumerate_from i fs)) (failing_faces fs ps)
 faces_from d firsts paired parts [] i ps long at = refl
 faces_from d firsts paired parts (f ∷ fs) i [] long at = absurd (omega (arith, long))
 faces_from d firsts paired parts (f ∷ fs) i (zero ∷ ps) long at =
     let here : i + 0 ≡ i = omega arith in
-    holds_too (obligation Unreached f.entity.0 0 (IsReached d i)) (map (λ (f : ℕ × FaceUse). obligation Unreached f.1.entity.0 0 (IsReached d f.0)) (enumerate_from (i + 1) fs)) (failing_faces fs ps)
+    holds_too (obligation Unreached f.entity.0 0 (IsReached d i))
+    (map (λ (f : ℕ × FaceUse). obligation Unreached f.1.entity.0 0 (IsReached d f.0)) (enumerate_from (i + 1) fs)) (failing_faces fs ps)
     (first_part_reached d firsts i paired parts (subst (λ n. slice_get firsts n ≡ Some 0) here (at 0 0 refl)))
-    (faces_from d firsts paired parts fs (i + 1) ps (omega (arith, long)) (λ j p h. let e : i + suc j ≡ i + 1 + j = omega arith in subst (λ n. slice_get firsts n ≡ Some p) e (at (suc j) p h)))
+    (faces_from d firsts paired parts fs (i + 1) ps (omega (arith, long))
+    (λ j p h. let e : i + suc j ≡ i + 1 + j = omega arith in subst (λ n. slice_get firsts n ≡ Some p) e (at (suc j) p h)))
 faces_from d firsts paired parts (f ∷ fs) i (suc q ∷ ps) long at =
     let here : i + 0 ≡ i = omega arith in
-    fails_too (obligation Unreached f.entity.0 0 (IsReached d i)) (map (λ (f : ℕ × FaceUse). obligation Unreached f.1.entity.0 0 (IsReached d f.0)) (enumerate_from (i + 1) fs)) (record { rule = Unreached; entity = f.entity; place = 0 }) (failing_faces fs ps)
-    (λ h. let low = reached_first_part d firsts i (suc q) parts (subst (λ n. slice_get firsts n ≡ Some (suc q)) here (at 0 (suc q) refl)) h in omega (arith, low)) refl
-    (faces_from d firsts paired parts fs (i + 1) ps (omega (arith, long)) (λ j p h. let e : i + suc j ≡ i + 1 + j = omega arith in subst (λ n. slice_get firsts n ≡ Some p) e (at (suc j) p h)))
+    fails_too (obligation Unreached f.entity.0 0 (IsReached d i))
+    (map (λ (f : ℕ × FaceUse). obligation Unreached f.1.entity.0 0 (IsReached d f.0)) (enumerate_from (i + 1) fs))
+    (record { rule = Unreached; entity = f.entity; place = 0 }) (failing_faces fs ps)
+    (λ h. let low = reached_first_part d firsts i (suc q) parts (subst (λ n. slice_get firsts n ≡ Some (suc q)) here (at 0 (suc q) refl)) h in omega
+    (arith, low)) refl
+    (faces_from d firsts paired parts fs (i + 1) ps (omega (arith, long))
+    (λ j p h. let e : i + suc j ≡ i + 1 + j = omega arith in subst (λ n. slice_get firsts n ≡ Some p) e (at (suc j) p h)))
 
-pub parts_named : (d : ShellRows) (shell : Shell) (firsts : List ℕ) → PairedRows d → d.face_count ≡ length shell.faces → AreParts d firsts → AreFailing (reach_obligations shell d) (failing_faces shell.faces firsts)
+pub parts_named : (d : ShellRows) (shell : Shell) (firsts : List ℕ) → PairedRows d → d.face_count ≡ length shell.faces → AreParts d firsts
+    → AreFailing (reach_obligations shell d) (failing_faces shell.faces firsts)
 parts_named d shell firsts paired count parts =
-    faces_from d firsts paired parts shell.faces 0 firsts (sym count ∙ sym parts.each) (λ j p h. let e : j ≡ 0 + j = omega arith in subst (λ n. slice_get firsts n ≡ Some p) e h)
+    faces_from d firsts paired parts shell.faces 0 firsts (sym count ∙ sym parts.each)
+    (λ j p h. let e : j ≡ 0 + j = omega arith in subst (λ n. slice_get firsts n ≡ Some p) e h)

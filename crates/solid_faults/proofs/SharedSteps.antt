@@ -19,11 +19,13 @@ one_more : (v : ℕ) (wanted : Bool) (old rest : List ℕ) → old ++ (if wanted
 one_more v true old rest = sym (append_assoc old (v ∷ []) rest)
 one_more v false old rest = sym (append_assoc old [] rest)
 
-pub occurring_step : (vs : List ℕ) (i v : ℕ) (before : List ℕ) (wanted : Bool) (old new all : List ℕ) → slice_get vs i ≡ Some v → IsTrue wanted ↔ Contains before v
+pub occurring_step : (vs : List ℕ) (i v : ℕ) (before : List ℕ) (wanted : Bool) (old new all : List ℕ) → slice_get vs i ≡ Some v
+    → IsTrue wanted ↔ Contains before v
     → old ++ occurring (drop i vs) before ≡ all → new ≡ old ++ (if wanted then v ∷ [] else []) → new ++ occurring (drop (i + 1) vs) before ≡ all
 occurring_step vs i v before wanted old new all at test h e =
     let rest : List ℕ = occurring (drop (i + 1) vs) before in
-    let split : occurring (drop i vs) before ≡ (if list_any (λ m. m == v) before then v ∷ rest else rest) = ap (λ xs. occurring xs before) (split_at vs i v at) in
+    let split : occurring (drop i vs) before ≡ (if list_any (λ m. m == v) before then v ∷ rest else rest) = ap (λ xs. occurring xs before) (split_at vs i v at)
+    in
     let same : list_any (λ m. m == v) before ≡ wanted = tests_agree v before wanted (list_any (λ m. m == v) before) test refl in
     ap (λ xs. xs ++ rest) e
     ∙ (sym (one_more v wanted old rest)

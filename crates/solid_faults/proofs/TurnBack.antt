@@ -34,7 +34,8 @@ walk_few d v xs none starts =
     number_within 0 (length d.rows) x (omega arith) (omega (arith, slice_get_within d.rows x at.0 at.1))) in
     omega (arith, h, length-numbers 0 (length d.rows))
 
-walk_on : (d : ShellRows) (v s last at : ℕ) (before : List ℕ) → TurnsPermute d → IsWalk d v s last before → Turns d last at → (Has (last ∷ before) at → ⊥) → IsWalk d v s at (last ∷ before)
+walk_on : (d : ShellRows) (v s last at : ℕ) (before : List ℕ) → TurnsPermute d → IsWalk d v s last before → Turns d last at → (Has (last ∷ before) at → ⊥)
+    → IsWalk d v s at (last ∷ before)
 walk_on d v s last at before p w turn new = record {
   none = (new, w.none);
   starts = λ x has. ⊎_elim (λ e. subst (StartsAt d v) e (p.stays v last at (w.starts last (inl refl)) turn)) (λ h. w.starts x h) has;
@@ -51,12 +52,14 @@ walk_back d v s last at before p w turn has =
     (λ k. absurd (w.none.0 (subst (Has before) (p.apart k.0 last at k.2 turn) k.1)))
     (w.from at has)
 
-walk_done : (d : ShellRows) (v r s last at : ℕ) (before : List ℕ) → TurnsPermute d → Turns d r s → IsWalk d v s last before → Turns d last at → Has (last ∷ before) at → LeadsTo (Turns d) s r
+walk_done : (d : ShellRows) (v r s last at : ℕ) (before : List ℕ) → TurnsPermute d → Turns d r s → IsWalk d v s last before → Turns d last at
+    → Has (last ∷ before) at → LeadsTo (Turns d) s r
 walk_done d v r s last at before p first w turn has =
     let is : at ≡ s = walk_back d v s last at before p w turn has in
     subst (LeadsTo (Turns d) s) (p.apart last r s (subst (Turns d last) is turn) first) w.reached
 
-walk_ends : (n : ℕ) (d : ShellRows) (v r s last : ℕ) (before : List ℕ) → TurnsPermute d → Turns d r s → IsWalk d v s last before → length d.rows ≤ n + length (last ∷ before) → LeadsTo (Turns d) s r
+walk_ends : (n : ℕ) (d : ShellRows) (v r s last : ℕ) (before : List ℕ) → TurnsPermute d → Turns d r s → IsWalk d v s last before
+    → length d.rows ≤ n + length (last ∷ before) → LeadsTo (Turns d) s r
 walk_ends zero d v r s last before p first w fuel =
     let t = p.each v last (w.starts last (inl refl)) in
     ⊎_elim (λ has. walk_done d v r s last t.0 before p first w t.1 has)
@@ -72,5 +75,11 @@ pub turn_back : (d : ShellRows) (v r s : ℕ) → ArePaired d → StartsAt d v r
 turn_back d v r s whole at turn =
     let p : TurnsPermute d = turns_permute d whole in
     walk_ends (length d.rows) d v r s s [] p turn
-    (record { none = ((λ h. h), tt); starts = λ x has. ⊎_elim (λ e. subst (StartsAt d v) e (p.stays v r s at turn)) (λ h. absurd h) has; from = λ x has. ⊎_elim (λ e. inl (sym e)) (λ h. absurd h) has; reached = leads_here (Turns d) s })
+    (record {
+      none = ((λ h. h), tt);
+      starts = λ x has. ⊎_elim (λ e. subst (StartsAt d v) e (p.stays v r s at turn)) (λ h. absurd h) has;
+      from =
+          λ x has. ⊎_elim (λ e. inl (sym e)) (λ h. absurd h) has;
+      reached = leads_here (Turns d) s;
+    })
     (omega arith)

@@ -27,7 +27,8 @@ abbrev pub fan_count : ShellRows → List ℕ → ℕ → ℕ
 fan_count d leasts v = fans_from v 0 d.rows leasts
 
 abbrev pub unlinked_at : ℕ → ℕ → ℕ → List Unlinked
-unlinked_at v fans points = if ((fans == 1) && (points == 0)) || ((fans == 0) && (points == 1)) then [] else record { vertex = record { 0 = v }; fans = fans; points = points } ∷ []
+unlinked_at v fans points = if ((fans == 1) && (points == 0)) || ((fans == 0) && (points == 1)) then [] else
+    record { vertex = record { 0 = v }; fans = fans; points = points } ∷ []
 
 abbrev pub vertex_unlinked : ShellRows → List ℕ → ℕ → List Unlinked
 vertex_unlinked d leasts v = unlinked_at v (fan_count d leasts v) (point_count d v)

@@ -17,7 +17,8 @@ pub record Linking : Type 0 where
   pub leasts : List ℕ
   pub unlinked : List Unlinked
 
--- The gaps of loops; the edges that aren't paired; for each face the first face of its part; the fans, where they are judged; the vertices that an earlier shell has.
+-- The gaps of loops; the edges that aren't paired; for each face the first face of its part; the fans, where they are judged; the vertices that an earlier
+-- shell has.
 pub record Faults : Type 0 where
   pub gaps : List Gap
   pub unpaired : List Unpaired
@@ -45,7 +46,8 @@ failing_vertices s (Some l) = map (unlinked_failing s) l.unlinked
 -- What these are called, in the order of the rules. The first name is what a verdict names.
 abbrev pub failing_of : SolidData → Shell → Faults → List Failing
 failing_of s shell x =
-    map gap_failing x.gaps ++ map (unpaired_failing s) x.unpaired ++ failing_faces shell.faces x.firsts ++ failing_vertices s x.linking ++ map (shared_failing s) x.shared
+    map gap_failing x.gaps ++ map (unpaired_failing s) x.unpaired ++ failing_faces shell.faces x.firsts ++ failing_vertices s x.linking
+    ++ map (shared_failing s) x.shared
 
 -- fans are judged, and each vertex is linked
 abbrev pub AreLinked : Option Linking → Type 0

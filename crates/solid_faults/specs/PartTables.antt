@@ -21,7 +21,8 @@ low_vertex lows p v = if is_low lows p v then v ∷ [] else []
 
 -- each vertex of the range is marked by the least part that has it
 abbrev pub IsLowest : SolidData → Shell → List ℕ → Celled ℕ → Type 0
-IsLowest s shell firsts lows = (v p : ℕ) → IsWithin lows.span v → p < 2 ^ 32 → is_low lows p v ≡ list_any (λ m. m == v) (flat_map (face_vertices s) (faces_before shell firsts p))
+IsLowest s shell firsts lows = (v p : ℕ) → IsWithin lows.span v → p < 2 ^ 32
+    → is_low lows p v ≡ list_any (λ m. m == v) (flat_map (face_vertices s) (faces_before shell firsts p))
 
 -- marks for each of a range of vertices
 pub record AreMarks (lows : Celled ℕ) : Type 0 where

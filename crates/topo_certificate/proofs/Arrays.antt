@@ -1,5 +1,6 @@
 -- Arrays of mates and of faces, after a write.
-use Rattle.std.specs.Prelude.{◌≡◌, ℕ, zero, suc, ◌-◌, ◌<◌, ◌≤◌, ◌==◌, ◌≢◌, ◌⊎◌, Bool, true, false, List, [], ◌∷◌, length, Contains, Some, slice_get, slice_set, replicate}
+use Rattle.std.specs.Prelude.{◌≡◌, ℕ, zero, suc, ◌-◌, ◌<◌, ◌≤◌, ◌==◌, ◌≢◌, ◌⊎◌, Bool, true, false, List, [], ◌∷◌, length, Contains, Some, slice_get, slice_set}
+use Rattle.std.specs.Prelude.{replicate}
 use Rattle.std.proofs.Common.{refl, sym, ◌∙◌, ap, arith, inl, inr, ⊎_elim, get_or}
 use Rattle.std.proofs.lemmas.Bool.Decides.{eqb_tells}
 use Rattle.std.proofs.lemmas.Bool.{cases_lt}
@@ -55,7 +56,8 @@ pub record CanMate (ms : List ℕ) (a b : ℕ) : Type 0 where
 pub mate_cases : (ms : List ℕ) (a b r m : ℕ) → CanMate ms a b → mate_in (with_mates ms a b) r ≡ Some m → MateCases ms a b r m
 mate_cases ms a b r m can h = by_b (eqb_tells r b) (eqb_tells r a)
   where
-    by_b : (((r == b) ≡ true) × (r ≡ b)) ⊎ (((r == b) ≡ false) × (r ≢ b)) → (((r == a) ≡ true) × (r ≡ a)) ⊎ (((r == a) ≡ false) × (r ≢ a)) → MateCases ms a b r m
+    by_b : (((r == b) ≡ true) × (r ≡ b)) ⊎ (((r == b) ≡ false) × (r ≢ b)) → (((r == a) ≡ true) × (r ≡ a)) ⊎ (((r == a) ≡ false) × (r ≢ a))
+        → MateCases ms a b r m
     by_b (inl y) other =
         let w : b ≤ length (slice_set ms (a - 1) b) = omega (arith, can.within_b, length-set ms (a - 1) b) in
         let e : mate_in (with_mates ms a b) b ≡ Some a = mate_same (slice_set ms (a - 1) b) b a can.pos_b w can.pos_a in
@@ -111,7 +113,8 @@ mates_more ms pairs a b can holds r m = (to, from)
         by_case (inl p) = inl (Contains-from_Has ((a, b) ∷ pairs) (r, m) (inl (same_pair a b r m p.0 p.1)))
         by_case (inr (inl p)) = inr (Contains-from_Has ((a, b) ∷ pairs) (m, r) (inl (same_pair a b m r p.1 p.0)))
         by_case (inr (inr k)) =
-            ⊎_elim (λ c. inl (Contains-from_Has ((a, b) ∷ pairs) (r, m) (inr (Has-from_Contains pairs (r, m) c)))) (λ c. inr (Contains-from_Has ((a, b) ∷ pairs) (m, r) (inr (Has-from_Contains pairs (m, r) c)))) ((holds r m).1 k)
+            ⊎_elim (λ c. inl (Contains-from_Has ((a, b) ∷ pairs) (r, m) (inr (Has-from_Contains pairs (r, m) c))))
+            (λ c. inr (Contains-from_Has ((a, b) ∷ pairs) (m, r) (inr (Has-from_Contains pairs (m, r) c)))) ((holds r m).1 k)
 
 -- an array of zeros tells no mate
 no_above : (ms : List ℕ) (r m : ℕ) → ((k : ℕ) → get_or ms k 0 ≡ 0) → above_zero (slice_get ms r) ≡ Some m → ⊥
@@ -128,10 +131,15 @@ none_in_zeros ms zero m all e = absurd cc
 none_in_zeros ms (suc r) m all e = no_above ms r m all e
 
 pub no_mates : (ms : List ℕ) → ((k : ℕ) → get_or ms k 0 ≡ 0) → HoldsMates ms []
-no_mates ms all r m = (λ h. absurd (⊎_elim (λ c. Has-from_Contains [] (r, m) c) (λ c. Has-from_Contains [] (m, r) c) h), λ e. absurd (none_in_zeros ms r m all e))
+no_mates ms all r m = (
+  λ h. absurd (⊎_elim (λ c. Has-from_Contains [] (r, m) c) (λ c. Has-from_Contains [] (m, r) c) h),
+  λ e. absurd
+      (none_in_zeros ms r m all e),
+)
 
 -- the faces, with one more
-pub faces_more : (reached : List Bool) (first f : ℕ) (others : List ℕ) → f < length reached → HoldsFaces reached (first ∷ others) → HoldsFaces (slice_set reached f true) (first ∷ f ∷ others)
+pub faces_more : (reached : List Bool) (first f : ℕ) (others : List ℕ) → f < length reached → HoldsFaces reached (first ∷ others)
+    → HoldsFaces (slice_set reached f true) (first ∷ f ∷ others)
 faces_more reached first f others within holds g = (to, from (eqb_tells f g))
   where
     was : Has (first ∷ others) g → slice_get (slice_set reached f true) g ≡ Some true
@@ -151,7 +159,8 @@ faces_more reached first f others within holds g = (to, from (eqb_tells f g))
 
     from : (((f == g) ≡ true) × (f ≡ g)) ⊎ (((f == g) ≡ false) × (f ≢ g)) → slice_get (slice_set reached f true) g ≡ Some true → Contains (first ∷ f ∷ others) g
     from (inl y) h = Contains-from_Has (first ∷ f ∷ others) g (inr (inl y.1))
-    from (inr n) h = Contains-from_Has (first ∷ f ∷ others) g (with_f (Has-from_Contains (first ∷ others) g ((holds g).1 (sym (get_set_other reached f g true n.1) ∙ h))))
+    from (inr n) h = Contains-from_Has (first ∷ f ∷ others) g
+        (with_f (Has-from_Contains (first ∷ others) g ((holds g).1 (sym (get_set_other reached f g true n.1) ∙ h))))
       where
         with_f : Has (first ∷ others) g → Has (first ∷ f ∷ others) g
         with_f (inl e) = inl e

@@ -1,5 +1,6 @@
 -- Lines that fit, for the shells of a closed solid.
-use Rattle.std.specs.Prelude.{◌≡◌, ℕ, zero, suc, ◌+◌, ◌-◌, ◌<◌, ◌≤◌, ◌==◌, ◌&&◌, cond, ◌⊎◌, Bool, true, false, not, List, [], ◌∷◌, ◌++◌, length, map, filter_map, find, Contains, Some, slice_get, option_map}
+use Rattle.std.specs.Prelude.{◌≡◌, ℕ, zero, suc, ◌+◌, ◌-◌, ◌<◌, ◌≤◌, ◌==◌, ◌&&◌, cond, ◌⊎◌, Bool, true, false, not, List, [], ◌∷◌, ◌++◌, length, map}
+use Rattle.std.specs.Prelude.{filter_map, find, Contains, Some, slice_get, option_map}
 use Rattle.std.specs.List.{AllByRecursion, AllZip, cons_option, list_any}
 use Rattle.std.proofs.Common.{refl, sym, ◌∙◌, ap, subst, arith, inl, inr, ⊎_elim}
 use Rattle.std.proofs.lemmas.Bool.{eq-eqb, eqb-true, cases_lt, and_parts}
@@ -18,7 +19,10 @@ use Rattle.cert_lines.specs.Line.{CertLine, edge, corner, point, reach, tally, I
 use Rattle.cert_lines.specs.declared.counts.Tally.{Tally}
 use Rattle.cert_lines.specs.declared.version.Version.{Version}
 use Rattle.topo_certificate.specs.Kept.{all_due}
-use Rattle.topo_certificate.specs.Stand.{Stand, stand_from_latest, tallies, is_tally, FitsTally, FitsEdge, FitsCorner, FitsPoint, FitsReach, FitsLine, NoneDue, IsAbove, first_of, row_named, row_edge, row_start, row_face, point_named, mates_of, edge_of, vertex_of, face_of, is_shell, is_edge, is_corner_or_point, is_reach, is_last, number_of, since_shell, asked, rows_of_shell, start_count, IsMate, TurnsTo}
+use Rattle.topo_certificate.specs.Stand.{Stand, stand_from_latest, tallies, is_tally, FitsTally, FitsEdge, FitsCorner, FitsPoint, FitsReach, FitsLine, NoneDue}
+use Rattle.topo_certificate.specs.Stand.{IsAbove, first_of, row_named, row_edge, row_start, row_face, point_named, mates_of, edge_of, vertex_of, face_of}
+use Rattle.topo_certificate.specs.Stand.{is_shell, is_edge, is_corner_or_point, is_reach, is_last, number_of, since_shell, asked, rows_of_shell, start_count}
+use Rattle.topo_certificate.specs.Stand.{IsMate, TurnsTo}
 use Rattle.topo_certificate.specs.declared.due.Due.{Due}
 use Rattle.solid_data.proofs.Occurring.{numbers_rise, number_below, length-numbers}
 use Rattle.topo_certificate.proofs.Segment.{AreGoodRows, row_has}
@@ -47,7 +51,8 @@ pub record Stage (version : Version) (s : SolidData) (lines : List CertLine) (k 
   pub fit : AllFit version s lines
   pub short : AllByRecursion (IsReadable s) lines
 
-module _ (version : Version) (s : SolidData) (lines : List CertLine) (k : ℕ) (d : ShellRows) (es vs fs : List ℕ) (ms : List (ℕ × ℕ)) (stage : Stage version s lines k d es vs fs ms) where
+module _ (version : Version) (s : SolidData) (lines : List CertLine) (k : ℕ) (d : ShellRows) (es vs fs : List ℕ) (ms : List (ℕ × ℕ))
+    (stage : Stage version s lines k d es vs fs ms) where
   at : Stand
   at = stand_from_latest version s lines
 
@@ -94,19 +99,35 @@ module _ (version : Version) (s : SolidData) (lines : List CertLine) (k : ℕ) (
   unfolding stand_from_latest
   shell_here = here
 
-  pub nothing_due : tallies version ≡ 0 → length d.edges ≤ length es → length d.vertices ≤ length vs → d.face_count - 1 ≤ length fs → NoneDue (stand_from_latest version s lines).due
-  nothing_due none a b c = record { edges = omega (arith, a, edges_left); corners = omega (arith, b, corners_left); reach = omega (arith, c, reach_left); tally = omega (arith, none, tally_left) }
+  pub nothing_due : tallies version ≡ 0 → length d.edges ≤ length es → length d.vertices ≤ length vs → d.face_count - 1 ≤ length fs
+      → NoneDue (stand_from_latest version s lines).due
+  nothing_due none a b c =
+      record {
+        edges = omega (arith, a, edges_left);
+        corners = omega (arith, b, corners_left);
+        reach = omega (arith, c, reach_left);
+        tally =
+            omega (arith, none, tally_left);
+      }
 
   number_here : (stand_from_latest version s lines).shell ≡ k
   unfolding stand_from_latest
   number_here = stage.shells
 
   -- where one TALLY line ends a shell, and nothing else is due, that of the shell fits, and nothing is due after it
-  pub tally_fits : (t : Tally) → tallies version ≡ 1 → length d.edges ≤ length es → length d.vertices ≤ length vs → d.face_count - 1 ≤ length fs → FitsTally s k t → FitsLine s (stand_from_latest version s lines) (tally t)
-  tally_fits t one a b c fits =
-      (not_ended, ((omega (arith, a, edges_left), omega (arith, b, corners_left), omega (arith, c, reach_left), omega (arith, one, tally_left)), subst (λ n. FitsTally s n t) (sym number_here) fits))
+  pub tally_fits : (t : Tally) → tallies version ≡ 1 → length d.edges ≤ length es → length d.vertices ≤ length vs → d.face_count - 1 ≤ length fs
+      → FitsTally s k t → FitsLine s (stand_from_latest version s lines) (tally t)
+  tally_fits t one a b c fits = (
+    not_ended,
+    (
+      (omega (arith, a, edges_left), omega (arith, b, corners_left), omega (arith, c, reach_left), omega (arith, one, tally_left)),
+      subst
+          (λ n. FitsTally s n t) (sym number_here) fits,
+    ),
+  )
 
-  pub none_after_tally : (t : Tally) → tallies version ≡ 1 → length d.edges ≤ length es → length d.vertices ≤ length vs → d.face_count - 1 ≤ length fs → NoneDue (stand_from_latest version s (tally t ∷ lines)).due
+  pub none_after_tally : (t : Tally) → tallies version ≡ 1 → length d.edges ≤ length es → length d.vertices ≤ length vs → d.face_count - 1 ≤ length fs
+      → NoneDue (stand_from_latest version s (tally t ∷ lines)).due
   unfolding stand_from_latest
   none_after_tally t one a b c =
       let left : tallies version - suc (number_of is_tally (since_shell lines)) ≡ 0 = omega (arith, one) in
@@ -118,11 +139,23 @@ module _ (version : Version) (s : SolidData) (lines : List CertLine) (k : ℕ) (
       }
 
   -- a line for an edge
-  pub add_edge : (a b e : ℕ) (x y : Row) → length es < length d.edges → row_named d a ≡ Some x → row_named d b ≡ Some y → x.edge.0 ≡ e → x.edge ≡ y.edge → x.along ≡ true → y.along ≡ false → IsAbove (first_of es) e
+  pub add_edge : (a b e : ℕ) (x y : Row) → length es < length d.edges → row_named d a ≡ Some x → row_named d b ≡ Some y → x.edge.0 ≡ e → x.edge ≡ y.edge
+      → x.along ≡ true → y.along ≡ false → IsAbove (first_of es) e
       → IsReadable s (edge a b) → Stage version s (edge a b ∷ lines) k d (e ∷ es) vs fs ((a, b) ∷ ms)
   add_edge a b e x y left at_a at_b is_e one along against above ok =
       let listed : row_edge (row_named d a) ≡ Some e = ap row_edge at_a ∙ ap Some is_e in
-      let fits : FitsEdge d (stand_from_latest version s lines) a b = record { along_row = x; against_row = y; at_a = at_a; at_b = at_b; one_edge = one; along = along; against = against; rises = subst (λ o. IsAbove o x.edge.0) (sym edge_before) (subst (λ n. IsAbove (first_of es) n) (sym is_e) above) } in
+      let fits : FitsEdge d (stand_from_latest version s lines) a b =
+      record {
+        along_row = x;
+        against_row = y;
+        at_a = at_a;
+        at_b = at_b;
+        one_edge = one;
+        along = along;
+        against = against;
+        rises =
+            subst (λ o. IsAbove o x.edge.0) (sym edge_before) (subst (λ n. IsAbove (first_of es) n) (sym is_e) above);
+      } in
       record {
         rows = stage.rows;
         begun = stage.begun;
@@ -136,15 +169,30 @@ module _ (version : Version) (s : SolidData) (lines : List CertLine) (k : ℕ) (
         faces = stage.faces;
         reach_count = stage.reach_count;
         tally_count = stage.tally_count;
-        fit = ((not_ended, (omega (arith, left, edges_left), subst (λ c. FitsEdge c (stand_from_latest version s lines) a b) (sym shell_here) fits)), stage.fit);
+        fit = (
+          (not_ended, (omega (arith, left, edges_left), subst (λ c. FitsEdge c (stand_from_latest version s lines) a b) (sym shell_here) fits)),
+          stage.fit,
+        );
         short = (ok, stage.short);
       }
 
   -- a line for a corner
-  pub add_corner : (v r : ℕ) (rs : List ℕ) → length d.edges ≤ length es → length vs < length d.vertices → row_start (row_named d r) ≡ Some v → AllZip (TurnsTo d ms) (r ∷ rs) (next_of_each (r ∷ rs)) → AllByRecursion (λ x. r < x) rs
-      → length (r ∷ rs) ≡ start_count d v → point_count d v ≡ 0 → IsAbove (first_of vs) v → IsReadable s (corner (r ∷ rs)) → Stage version s (corner (r ∷ rs) ∷ lines) k d es (v ∷ vs) fs ms
+  pub add_corner : (v r : ℕ) (rs : List ℕ) → length d.edges ≤ length es → length vs < length d.vertices → row_start (row_named d r) ≡ Some v
+      → AllZip (TurnsTo d ms) (r ∷ rs) (next_of_each (r ∷ rs)) → AllByRecursion (λ x. r < x) rs
+      → length (r ∷ rs) ≡ start_count d v → point_count d v ≡ 0 → IsAbove (first_of vs) v → IsReadable s (corner (r ∷ rs))
+      → Stage version s (corner (r ∷ rs) ∷ lines) k d es (v ∷ vs) fs ms
   add_corner v r rs edges_done left starts turns least whole no_point above ok =
-      let fits : FitsCorner d (stand_from_latest version s lines) r rs = record { vertex = v; lies_at = starts; turns = subst (λ m. AllZip (TurnsTo d m) (r ∷ rs) (next_of_each (r ∷ rs))) (sym mates_before) turns; least = least; whole = whole; no_point = no_point; rises = subst (λ o. IsAbove o v) (sym vertex_before) above } in
+      let fits : FitsCorner d (stand_from_latest version s lines) r rs =
+      record {
+        vertex = v;
+        lies_at = starts;
+        turns = subst (λ m. AllZip (TurnsTo d m) (r ∷ rs) (next_of_each (r ∷ rs))) (sym mates_before) turns;
+        least =
+            least;
+        whole = whole;
+        no_point = no_point;
+        rises = subst (λ o. IsAbove o v) (sym vertex_before) above;
+      } in
       record {
         rows = stage.rows;
         begun = stage.begun;
@@ -158,15 +206,27 @@ module _ (version : Version) (s : SolidData) (lines : List CertLine) (k : ℕ) (
         faces = stage.faces;
         reach_count = stage.reach_count;
         tally_count = stage.tally_count;
-        fit = ((not_ended, ((omega (arith, edges_done, edges_left), omega (arith, left, corners_left)), subst (λ c. FitsCorner c (stand_from_latest version s lines) r rs) (sym shell_here) fits)), stage.fit);
+        fit = (
+          (
+            not_ended,
+            (
+              (omega (arith, edges_done, edges_left), omega (arith, left, corners_left)),
+              subst
+                  (λ c. FitsCorner c (stand_from_latest version s lines) r rs) (sym shell_here) fits,
+            ),
+          ),
+          stage.fit,
+        );
         short = (ok, stage.short);
       }
 
   -- a line for a loop without an edge
-  pub add_point : (v face l : ℕ) → length d.edges ≤ length es → length vs < length d.vertices → option_map (λ (p : LoopAt × ℕ). p.1) (point_named d face l) ≡ Some v → start_count d v ≡ 0 → point_count d v ≡ 1 → IsAbove (first_of vs) v
+  pub add_point : (v face l : ℕ) → length d.edges ≤ length es → length vs < length d.vertices → option_map (λ (p : LoopAt × ℕ). p.1) (point_named d face l)
+      ≡ Some v → start_count d v ≡ 0 → point_count d v ≡ 1 → IsAbove (first_of vs) v
       → IsReadable s (point face l) → Stage version s (point face l ∷ lines) k d es (v ∷ vs) fs ms
   add_point v face l edges_done left lies no_row one above ok =
-      let fits : FitsPoint d (stand_from_latest version s lines) face l = record { vertex = v; lies_at = lies; no_row = no_row; one_point = one; rises = subst (λ o. IsAbove o v) (sym vertex_before) above } in
+      let fits : FitsPoint d (stand_from_latest version s lines) face l =
+      record { vertex = v; lies_at = lies; no_row = no_row; one_point = one; rises = subst (λ o. IsAbove o v) (sym vertex_before) above } in
       record {
         rows = stage.rows;
         begun = stage.begun;
@@ -180,12 +240,23 @@ module _ (version : Version) (s : SolidData) (lines : List CertLine) (k : ℕ) (
         faces = stage.faces;
         reach_count = stage.reach_count;
         tally_count = stage.tally_count;
-        fit = ((not_ended, ((omega (arith, edges_done, edges_left), omega (arith, left, corners_left)), subst (λ c. FitsPoint c (stand_from_latest version s lines) face l) (sym shell_here) fits)), stage.fit);
+        fit = (
+          (
+            not_ended,
+            (
+              (omega (arith, edges_done, edges_left), omega (arith, left, corners_left)),
+              subst
+                  (λ c. FitsPoint c (stand_from_latest version s lines) face l) (sym shell_here) fits,
+            ),
+          ),
+          stage.fit,
+        );
         short = (ok, stage.short);
       }
 
   -- a line for a face
-  pub add_reach : (r m f g : ℕ) → length d.edges ≤ length es → length d.vertices ≤ length vs → length fs < d.face_count - 1 → IsMate ms r m → row_face (row_named d r) ≡ Some f → row_face (row_named d m) ≡ Some g → (Has (0 ∷ fs) f → ⊥) → Has (0 ∷ fs) g
+  pub add_reach : (r m f g : ℕ) → length d.edges ≤ length es → length d.vertices ≤ length vs → length fs < d.face_count - 1 → IsMate ms r m
+      → row_face (row_named d r) ≡ Some f → row_face (row_named d m) ≡ Some g → (Has (0 ∷ fs) f → ⊥) → Has (0 ∷ fs) g
       → IsReadable s (reach r) → Stage version s (reach r ∷ lines) k d es vs (f ∷ fs) ms
   add_reach r m f g edges_done corners_done left mate on_f on_g new old ok =
       let fits : FitsReach d (stand_from_latest version s lines) r = record {
@@ -211,7 +282,17 @@ module _ (version : Version) (s : SolidData) (lines : List CertLine) (k : ℕ) (
         faces = ap (λ o. cons_option o (filter_map (face_of d) (since_shell lines))) on_f ∙ ap (λ xs. f ∷ xs) stage.faces;
         reach_count = ap suc stage.reach_count;
         tally_count = stage.tally_count;
-        fit = ((not_ended, ((omega (arith, edges_done, edges_left), omega (arith, corners_done, corners_left), omega (arith, left, reach_left)), subst (λ c. FitsReach c (stand_from_latest version s lines) r) (sym shell_here) fits)), stage.fit);
+        fit = (
+          (
+            not_ended,
+            (
+              (omega (arith, edges_done, edges_left), omega (arith, corners_done, corners_left), omega (arith, left, reach_left)),
+              subst
+                  (λ c. FitsReach c (stand_from_latest version s lines) r) (sym shell_here) fits,
+            ),
+          ),
+          stage.fit,
+        );
         short = (ok, stage.short);
       }
 
@@ -219,7 +300,8 @@ module _ (version : Version) (s : SolidData) (lines : List CertLine) (k : ℕ) (
 
 -- two rows of the edge, one along it and one against it, stand among the mates
 abbrev pub MatedAt : ShellRows → List (ℕ × ℕ) → ℕ → Type 0
-MatedAt d ms e = (a : ℕ) × (b : ℕ) × (x : Row) × (y : Row) × Has ms (suc a, suc b) × (slice_get d.rows a ≡ Some x) × (slice_get d.rows b ≡ Some y) × (x.edge.0 ≡ e) × (y.edge.0 ≡ e) × (x.along ≡ true) × (y.along ≡ false)
+MatedAt d ms e = (a : ℕ) × (b : ℕ) × (x : Row) × (y : Row) × Has ms (suc a, suc b) × (slice_get d.rows a ≡ Some x) × (slice_get d.rows b ≡ Some y)
+    × (x.edge.0 ≡ e) × (y.edge.0 ≡ e) × (x.along ≡ true) × (y.along ≡ false)
 
 pub record EdgesBuilt (version : Version) (s : SolidData) (k : ℕ) (d : ShellRows) : Type 0 where
   pub lines : List CertLine
@@ -229,7 +311,8 @@ pub record EdgesBuilt (version : Version) (s : SolidData) (k : ℕ) (d : ShellRo
   pub all : length es ≡ length d.edges
   pub mated : (e : ℕ) → Has d.edges e → MatedAt d ms e
 
-pub build_edges : (version : Version) (s : SolidData) (k : ℕ) (d : ShellRows) → IsSmall s d → (left es : List ℕ) (ms : List (ℕ × ℕ)) (lines : List CertLine) → Stage version s lines k d es [] [] ms
+pub build_edges : (version : Version) (s : SolidData) (k : ℕ) (d : ShellRows) → IsSmall s d → (left es : List ℕ) (ms : List (ℕ × ℕ)) (lines : List CertLine)
+    → Stage version s lines k d es [] [] ms
     → length es + length left ≡ length d.edges → AllByRecursion (λ z. IsAbove (first_of es) z) left → Rises left → ((e : ℕ) → Has left e → IsPaired d e)
     → ((e : ℕ) → Has d.edges e → Has left e ⊎ MatedAt d ms e) → EdgesBuilt version s k d
 build_edges version s k d small [] es ms lines stage count above rises paired mated =
@@ -239,7 +322,9 @@ build_edges version s k d small (e ∷ left) es ms lines stage count above rises
     let b = row_of_edge_against d e (paired e (inl refl)) in
     let here : MatedAt d ((suc a.0, suc b.0) ∷ ms) e = (a.0, b.0, a.1, b.1, inl refl, a.2, b.2, a.3, b.3, a.4, b.4) in
     build_edges version s k d small left (e ∷ es) ((suc a.0, suc b.0) ∷ ms) (edge (suc a.0) (suc b.0) ∷ lines)
-    (add_edge version s lines k d es [] [] ms stage (suc a.0) (suc b.0) e a.1 b.1 (omega (arith, count)) a.2 b.2 a.3 (edge_id a.1.edge b.1.edge (a.3 ∙ sym b.3)) a.4 b.4 above.0 (readable_edge s (suc a.0) (suc b.0) (row_short s d small a.0 a.1 a.2) (row_short s d small b.0 b.1 b.2)))
+    (add_edge version s lines k d es [] [] ms stage (suc a.0) (suc b.0) e a.1 b.1 (omega (arith, count)) a.2 b.2 a.3
+    (edge_id a.1.edge b.1.edge (a.3 ∙ sym b.3)) a.4 b.4 above.0
+    (readable_edge s (suc a.0) (suc b.0) (row_short s d small a.0 a.1 a.2) (row_short s d small b.0 b.1 b.2)))
     (omega (arith, count)) rises.0 rises.1 (λ x m. paired x (inr m))
     (λ x m. ⊎_elim
     (λ h. ⊎_elim (λ same. inr (subst (MatedAt d ((suc a.0, suc b.0) ∷ ms)) same here)) (λ t. inl t) h)
@@ -247,7 +332,8 @@ build_edges version s k d small (e ∷ left) es ms lines stage count above rises
     (mated x m))
 
 -- Where all edges are mated, the mates of rows are listed.
-pub mates_listed : (d : ShellRows) (ms : List (ℕ × ℕ)) → AreGoodRows d → ((e : ℕ) → Has d.edges e → IsPaired d e) → ((e : ℕ) → Has d.edges e → MatedAt d ms e) → (r m : ℕ) → AreMates d r m → IsMate ms (suc r) (suc m)
+pub mates_listed : (d : ShellRows) (ms : List (ℕ × ℕ)) → AreGoodRows d → ((e : ℕ) → Has d.edges e → IsPaired d e) → ((e : ℕ) → Has d.edges e → MatedAt d ms e)
+    → (r m : ℕ) → AreMates d r m → IsMate ms (suc r) (suc m)
 mates_listed d ms good paired mated r m h =
     let e : ℕ = h.row.edge.0 in
     let known : Has d.edges e = row_has (λ (x : Row). Has d.edges x.edge.0) d.rows r h.row good.edges h.at_r in
@@ -259,7 +345,8 @@ mates_listed d ms good paired mated r m h =
     by_way : MatedAt d ms h.row.edge.0 → IsPaired d h.row.edge.0 → h.mate.edge.0 ≡ h.row.edge.0 → (b : Bool) → h.row.along ≡ b → IsMate ms (suc r) (suc m)
     by_way k p me true w =
         let first : k.0 ≡ r = one_of_edge d h.row.edge.0 true k.0 r k.2 h.row p.0 k.5 h.at_r k.7 refl k.9 w in
-        let second : k.1 ≡ m = one_of_edge d h.row.edge.0 false k.1 m k.3 h.mate p.1 k.6 h.at_m k.8 me k.10 (not-back h.row.along h.mate.along h.opposite true w) in
+        let second : k.1 ≡ m = one_of_edge d h.row.edge.0 false k.1 m k.3 h.mate p.1 k.6 h.at_m k.8 me k.10
+        (not-back h.row.along h.mate.along h.opposite true w) in
         inl (Contains-from_Has ms (suc r, suc m) (subst (λ x. Has ms (suc x, suc m)) first (subst (λ y. Has ms (suc k.0, suc y)) second k.4)))
       where
         not-back : (b c : Bool) → b ≡ not c → (t : Bool) → b ≡ t → c ≡ not t
@@ -302,7 +389,8 @@ pub above_suc : (r : ℕ) (xs : List ℕ) → AllByRecursion (λ x. r < x) xs �
 above_suc r [] h = tt
 above_suc r (x ∷ xs) h = (omega (arith, h.0), above_suc r xs h.1)
 
-pub zip_suc : (d : ShellRows) (ms : List (ℕ × ℕ)) → ((r m : ℕ) → AreMates d r m → IsMate ms (suc r) (suc m)) → (xs ys : List ℕ) → AllZip (Turns d) xs ys → AllZip (TurnsTo d ms) (map suc xs) (map suc ys)
+pub zip_suc : (d : ShellRows) (ms : List (ℕ × ℕ)) → ((r m : ℕ) → AreMates d r m → IsMate ms (suc r) (suc m)) → (xs ys : List ℕ) → AllZip (Turns d) xs ys
+    → AllZip (TurnsTo d ms) (map suc xs) (map suc ys)
 zip_suc d ms listed [] [] h = tt
 zip_suc d ms listed [] (y ∷ ys) h = h
 zip_suc d ms listed (x ∷ xs) [] h = h
@@ -333,11 +421,13 @@ pub found_point : (p : LoopAt × ℕ → Bool) (ps : List (LoopAt × ℕ)) → 1
 found_point p [] h = absurd (omega (arith, h))
 found_point p (x ∷ ps) h = by_test (p x) refl h (λ k. found_point p ps k)
   where
-    by_test : (b : Bool) → p x ≡ b → 1 ≤ cond b 1 0 + total (λ y. cond (p y) 1 0) ps → (1 ≤ total (λ y. cond (p y) 1 0) ps → (q : LoopAt × ℕ) × Has ps q × (p q ≡ true)) → (q : LoopAt × ℕ) × Has (x ∷ ps) q × (p q ≡ true)
+    by_test : (b : Bool) → p x ≡ b → 1 ≤ cond b 1 0 + total (λ y. cond (p y) 1 0) ps
+        → (1 ≤ total (λ y. cond (p y) 1 0) ps → (q : LoopAt × ℕ) × Has ps q × (p q ≡ true)) → (q : LoopAt × ℕ) × Has (x ∷ ps) q × (p q ≡ true)
     by_test true e k on = (x, inl refl, e)
     by_test false e k on = let f = on (omega (arith, k)) in (f.0, inr f.1, f.2)
 
-pub find_some : (p : LoopAt × ℕ → Bool) (ps : List (LoopAt × ℕ)) (q : LoopAt × ℕ) → Has ps q → p q ≡ true → (z : LoopAt × ℕ) × (find p ps ≡ Some z) × Has ps z × (p z ≡ true)
+pub find_some : (p : LoopAt × ℕ → Bool) (ps : List (LoopAt × ℕ)) (q : LoopAt × ℕ) → Has ps q → p q ≡ true → (z : LoopAt × ℕ) × (find p ps ≡ Some z) × Has ps z
+    × (p z ≡ true)
 find_some p [] q h e = absurd h
 find_some p (x ∷ ps) q h e = by_test (p x) refl h (λ m. find_some p ps q m e)
   where
@@ -350,7 +440,8 @@ find_some p (x ∷ ps) q h e = by_test (p x) refl h (λ m. find_some p ps q m e)
         false_true w = cc
     by_test false t (inr m) on = let f = on m in (f.0, f.1, inr f.2, f.3)
 
-named_point : (s : SolidData) (d : ShellRows) (v : ℕ) → IsSmall s d → PointsDiffer d → IsPoint d v → (face : ℕ) × (l : ℕ) × (option_map (λ (p : LoopAt × ℕ). p.1) (point_named d face l) ≡ Some v) × IsShort face × IsShort l
+named_point : (s : SolidData) (d : ShellRows) (v : ℕ) → IsSmall s d → PointsDiffer d → IsPoint d v
+    → (face : ℕ) × (l : ℕ) × (option_map (λ (p : LoopAt × ℕ). p.1) (point_named d face l) ≡ Some v) × IsShort face × IsShort l
 named_point s d v small differ h =
     let f = found_point (λ (p : LoopAt × ℕ). p.1 == v) d.points (omega (arith, h.one_point, count_by-total (λ (p : LoopAt × ℕ). p.1 == v) d.points)) in
     let face : ℕ = f.0.0.face.0 + 1 in
@@ -380,27 +471,34 @@ pub record CornersBuilt (version : Version) (s : SolidData) (k : ℕ) (d : Shell
   pub stage : Stage version s lines k d es vs [] ms
   pub all : length vs ≡ length d.vertices
 
-pub build_corners : (version : Version) (s : SolidData) (k : ℕ) (d : ShellRows) (es : List ℕ) (ms : List (ℕ × ℕ)) → IsSmall s d → AreTurning d → PointsDiffer d → ((r m : ℕ) → AreMates d r m → IsMate ms (suc r) (suc m)) → length d.edges ≤ length es
-    → (left vs : List ℕ) (lines : List CertLine) → Stage version s lines k d es vs [] ms → length vs + length left ≡ length d.vertices → AllByRecursion (λ z. IsAbove (first_of vs) z) left → Rises left → ((v : ℕ) → Has left v → IsLinked d v)
+pub build_corners : (version : Version) (s : SolidData) (k : ℕ) (d : ShellRows) (es : List ℕ) (ms : List (ℕ × ℕ)) → IsSmall s d → AreTurning d → PointsDiffer d
+    → ((r m : ℕ) → AreMates d r m → IsMate ms (suc r) (suc m)) → length d.edges ≤ length es
+    → (left vs : List ℕ) (lines : List CertLine) → Stage version s lines k d es vs [] ms → length vs + length left ≡ length d.vertices
+    → AllByRecursion (λ z. IsAbove (first_of vs) z) left → Rises left → ((v : ℕ) → Has left v → IsLinked d v)
     → CornersBuilt version s k d es ms
-build_corners version s k d es ms small turning differ listed done [] vs lines stage count above rises linked = record { lines = lines; vs = vs; stage = stage; all = omega (arith, count) }
+build_corners version s k d es ms small turning differ listed done [] vs lines stage count above rises linked =
+    record { lines = lines; vs = vs; stage = stage; all = omega (arith, count) }
 build_corners version s k d es ms small turning differ listed done (v ∷ left) vs lines stage count above rises linked =
     ⊎_elim
     (λ is_corner.
     let c = cycle_of_corner d v turning is_corner in
     let cycle : IsCycle d v c.0 c.1 = c.2 in
     let zipped : AllZip (Turns d) (c.0 ∷ c.1) (c.1 ++ c.0 ∷ []) = zip_from_trail (Turns d) c.0 c.1 c.0 cycle.trail in
-    let turns : AllZip (TurnsTo d ms) (suc c.0 ∷ map suc c.1) (map suc c.1 ++ suc c.0 ∷ []) = subst (λ ys. AllZip (TurnsTo d ms) (suc c.0 ∷ map suc c.1) ys) (map-suc-append c.1 c.0) (zip_suc d ms listed (c.0 ∷ c.1) (c.1 ++ c.0 ∷ []) zipped) in
+    let turns : AllZip (TurnsTo d ms) (suc c.0 ∷ map suc c.1) (map suc c.1 ++ suc c.0 ∷ []) = subst (λ ys. AllZip (TurnsTo d ms) (suc c.0 ∷ map suc c.1) ys)
+    (map-suc-append c.1 c.0) (zip_suc d ms listed (c.0 ∷ c.1) (c.1 ++ c.0 ∷ []) zipped) in
     build_corners version s k d es ms small turning differ listed done left (v ∷ vs) (corner (suc c.0 ∷ map suc c.1) ∷ lines)
-    (add_corner version s lines k d es vs [] ms stage v (suc c.0) (map suc c.1) done (omega (arith, count)) (ap row_start cycle.starts.1 ∙ ap Some cycle.starts.2) turns (above_suc c.0 c.1 cycle.least) (cycle_whole d v c.0 c.1 cycle) is_corner.no_point above.0
+    (add_corner version s lines k d es vs [] ms stage v (suc c.0) (map suc c.1) done (omega (arith, count))
+    (ap row_start cycle.starts.1 ∙ ap Some cycle.starts.2) turns (above_suc c.0 c.1 cycle.least) (cycle_whole d v c.0 c.1 cycle) is_corner.no_point above.0
     (readable_corner s (suc c.0) (map suc c.1)
-    (All-from IsShort (suc c.0 ∷ map suc c.1) (λ x m. let q = from_suc (c.0 ∷ c.1) x m in let at = cycle.each q.0 q.2 in subst IsShort (sym q.1) (row_short s d small q.0 at.0 at.1)))
+    (All-from IsShort (suc c.0 ∷ map suc c.1)
+    (λ x m. let q = from_suc (c.0 ∷ c.1) x m in let at = cycle.each q.0 q.2 in subst IsShort (sym q.1) (row_short s d small q.0 at.0 at.1)))
     (omega (arith, cycle_whole d v c.0 c.1 cycle, starts_few s d small v))))
     (omega (arith, count)) rises.0 rises.1 (λ x m. linked x (inr m)))
     (λ point_there.
     let p = named_point s d v small differ point_there in
     build_corners version s k d es ms small turning differ listed done left (v ∷ vs) (point p.0 p.1 ∷ lines)
-    (add_point version s lines k d es vs [] ms stage v p.0 p.1 done (omega (arith, count)) p.2 (none_start d v point_there.no_row) point_there.one_point above.0 (readable_point s p.0 p.1 p.3 p.4))
+    (add_point version s lines k d es vs [] ms stage v p.0 p.1 done (omega (arith, count)) p.2 (none_start d v point_there.no_row) point_there.one_point
+    above.0 (readable_point s p.0 p.1 p.3 p.4))
     (omega (arith, count)) rises.0 rises.1 (λ x m. linked x (inr m)))
     (linked v (inl refl))
 
@@ -430,20 +528,27 @@ pub record ReachBuilt (version : Version) (s : SolidData) (k : ℕ) (d : ShellRo
   pub stage : Stage version s lines k d es vs fs ms
   pub all : d.face_count - 1 ≤ length fs
 
-pub build_reach : (version : Version) (s : SolidData) (k : ℕ) (d : ShellRows) (es vs : List ℕ) (ms : List (ℕ × ℕ)) → IsSmall s d → ((r m : ℕ) → AreMates d r m → IsMate ms (suc r) (suc m)) → length d.edges ≤ length es → length d.vertices ≤ length vs
-    → ((f : ℕ) → f < d.face_count → IsReached d f) → (left : ℕ) (fs : List ℕ) (lines : List CertLine) → Stage version s lines k d es vs fs ms → d.face_count - 1 ≤ length fs + left → ReachBuilt version s k d es vs ms
-build_reach version s k d es vs ms small listed edges_done corners_done reached zero fs lines stage count = record { lines = lines; fs = fs; stage = stage; all = omega (arith, count) }
-build_reach version s k d es vs ms small listed edges_done corners_done reached (suc left) fs lines stage count = by_length (cases_lt (length fs) (d.face_count - 1)) (λ fs' lines' stage' count'. build_reach version s k d es vs ms small listed edges_done corners_done reached left fs' lines' stage' count')
+pub build_reach : (version : Version) (s : SolidData) (k : ℕ) (d : ShellRows) (es vs : List ℕ) (ms : List (ℕ × ℕ)) → IsSmall s d
+    → ((r m : ℕ) → AreMates d r m → IsMate ms (suc r) (suc m)) → length d.edges ≤ length es → length d.vertices ≤ length vs
+    → ((f : ℕ) → f < d.face_count → IsReached d f) → (left : ℕ) (fs : List ℕ) (lines : List CertLine) → Stage version s lines k d es vs fs ms
+    → d.face_count - 1 ≤ length fs + left → ReachBuilt version s k d es vs ms
+build_reach version s k d es vs ms small listed edges_done corners_done reached zero fs lines stage count =
+    record { lines = lines; fs = fs; stage = stage; all = omega (arith, count) }
+build_reach version s k d es vs ms small listed edges_done corners_done reached (suc left) fs lines stage count =
+    by_length (cases_lt (length fs) (d.face_count - 1))
+    (λ fs' lines' stage' count'. build_reach version s k d es vs ms small listed edges_done corners_done reached left fs' lines' stage' count')
   where
     Next : Type 0
-    Next = (fs' : List ℕ) (lines' : List CertLine) → Stage version s lines' k d es vs fs' ms → d.face_count - 1 ≤ length fs' + left → ReachBuilt version s k d es vs ms
+    Next = (fs' : List ℕ) (lines' : List CertLine) → Stage version s lines' k d es vs fs' ms → d.face_count - 1 ≤ length fs' + left
+        → ReachBuilt version s k d es vs ms
 
     by_length : (length fs < d.face_count - 1) ⊎ (d.face_count - 1 ≤ length fs) → Next → ReachBuilt version s k d es vs ms
     by_length (inr done) next = record { lines = lines; fs = fs; stage = stage; all = done }
     by_length (inl more) next = ⊎_elim new all_in (outsider (numbers_from 0 d.face_count) (0 ∷ fs))
       where
         all_in : ((x : ℕ) → Has (numbers_from 0 d.face_count) x → Has (0 ∷ fs) x) → ReachBuilt version s k d es vs ms
-        all_in into = absurd (let h = no_longer (numbers_from 0 d.face_count) (0 ∷ fs) (rises_none (numbers_from 0 d.face_count) (numbers_rise 0 d.face_count)) into in omega (arith, h, length-numbers 0 d.face_count, more))
+        all_in into = absurd (let h = no_longer (numbers_from 0 d.face_count) (0 ∷ fs) (rises_none (numbers_from 0 d.face_count) (numbers_rise 0 d.face_count))
+            into in omega (arith, h, length-numbers 0 d.face_count, more))
 
         new : (x : ℕ) × Has (numbers_from 0 d.face_count) x × (Has (0 ∷ fs) x → ⊥) → ReachBuilt version s k d es vs ms
         new (x, there, none) =
@@ -455,5 +560,7 @@ build_reach version s k d es vs ms small listed edges_done corners_done reached 
             let on_h : OnFace d c.1 c.4.1 = c.4.4 in
             let mate : IsMate ms (suc c.4.1) (suc c.4.0) = ⊎_elim (λ m. inr m) (λ m. inl m) (listed c.4.0 c.4.1 mates) in
             next (c.1 ∷ fs) (reach (suc c.4.1) ∷ lines)
-            (add_reach version s lines k d es vs fs ms stage (suc c.4.1) (suc c.4.0) c.1 c.0 edges_done corners_done more mate (ap row_face on_h.1 ∙ ap Some on_h.2) (ap row_face on_g.1 ∙ ap Some on_g.2) c.3 c.2 (readable_reach s (suc c.4.1) (row_short s d small c.4.1 on_h.0 on_h.1)))
+            (add_reach version s lines k d es vs fs ms stage (suc c.4.1) (suc c.4.0) c.1 c.0 edges_done corners_done more mate
+            (ap row_face on_h.1 ∙ ap Some on_h.2) (ap row_face on_g.1 ∙ ap Some on_g.2) c.3 c.2
+            (readable_reach s (suc c.4.1) (row_short s d small c.4.1 on_h.0 on_h.1)))
             (omega (arith, count))

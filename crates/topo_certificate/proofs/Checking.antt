@@ -1,5 +1,6 @@
 -- Where a checker stands behind one more line.
-use Rattle.std.specs.Prelude.{◌≡◌, ℕ, zero, suc, ◌+◌, ◌-◌, ◌<◌, ◌≤◌, ◌⊎◌, ◌^◌, Bool, true, false, List, [], ◌∷◌, ◌++◌, length, Option, Some, None, Result, Err, MatchOption, MatchResult, slice_get, ◌||◌}
+use Rattle.std.specs.Prelude.{◌≡◌, ℕ, zero, suc, ◌+◌, ◌-◌, ◌<◌, ◌≤◌, ◌⊎◌, ◌^◌, Bool, true, false, List, [], ◌∷◌, ◌++◌, length, Option, Some, None, Result, Err}
+use Rattle.std.specs.Prelude.{MatchOption, MatchResult, slice_get, ◌||◌}
 use Rattle.std.proofs.Common.{refl, sym, ◌∙◌, ap, subst, arith, inl, inr, ⊎_elim, length-append}
 use Rattle.std.proofs.lemmas.Option.{same_Some}
 use Rattle.solid_data.specs.SolidData.{SolidData}
@@ -29,7 +30,8 @@ use Rattle.topo_certificate.proofs.LineKinds.{no_row_line, row_kind, number_same
 -- nothing is due exactly where nothing is kept as due
 none_due : (s : SolidData) (at : Stand) (o : Option KeptShell) → MatchesCurrent s at o → dues_of o ≡ 0 → NoneDue at.due
 none_due s at None h none = h.1
-none_due s at (Some k) h none = subst NoneDue h.due (record { edges = omega (arith, none); corners = omega (arith, none); reach = omega (arith, none); tally = omega (arith, none) })
+none_due s at (Some k) h none =
+    subst NoneDue h.due (record { edges = omega (arith, none); corners = omega (arith, none); reach = omega (arith, none); tally = omega (arith, none) })
 
 dues_none : (s : SolidData) (at : Stand) (o : Option KeptShell) → MatchesCurrent s at o → NoneDue at.due → dues_of o ≡ 0
 dues_none s at None h none = refl
@@ -52,7 +54,8 @@ pub shell_left : (old new : Kept) → (length old.waiting ≡ 0 → ⊥) → Tak
 shell_left old new some first lines at fits = some (omega (arith, at.waiting.count, at.shell, fits.1.1))
 
 -- the shell that begins next
-next_fresh : (old : Kept) (first : ℕ) (lines : List CertLine) (left : List KeptShell) (next : KeptShell) → IsAt first old lines → old.waiting ≡ left ++ next ∷ [] → IsFresh old.version (rows_of_shell old.solid (old.shell + 1)) (loops_of_shell old.solid (old.shell + 1)) next
+next_fresh : (old : Kept) (first : ℕ) (lines : List CertLine) (left : List KeptShell) (next : KeptShell) → IsAt first old lines
+    → old.waiting ≡ left ++ next ∷ [] → IsFresh old.version (rows_of_shell old.solid (old.shell + 1)) (loops_of_shell old.solid (old.shell + 1)) next
 next_fresh old first lines left next at e =
     let long : length old.waiting ≡ length left + 1 = omega (arith, ap (λ xs. length xs) e, length-append left (next ∷ [])) in
     let there : slice_get old.waiting (length left) ≡ Some next = ap (λ xs. slice_get xs (length left)) e ∙ last_there left in
@@ -63,7 +66,8 @@ next_fresh old first lines left next at e =
     last_there [] = refl
     last_there (x ∷ left) = last_there left
 
-pub other_counts : (old new : Kept) (left : List KeptShell) (next : KeptShell) (k : ℕ) (counts : ShellCounts) → old.waiting ≡ left ++ next ∷ [] → (AreCounts next.rows counts → ⊥) → TakesLine old new (shell k counts) false
+pub other_counts : (old new : Kept) (left : List KeptShell) (next : KeptShell) (k : ℕ) (counts : ShellCounts) → old.waiting ≡ left ++ next ∷ []
+    → (AreCounts next.rows counts → ⊥) → TakesLine old new (shell k counts) false
 other_counts old new left next k counts e other first lines at fits =
     let fresh = next_fresh old first lines left next at e in
     let f = fits.1.1 in
@@ -81,7 +85,8 @@ other_counts old new left next k counts e other first lines at fits =
 abbrev pub with_shell : Kept → List KeptShell → KeptShell → ℕ → ℕ → Kept
 with_shell old left next k n = record old { number = n; shell = k; current = Some next; waiting = left }
 
-pub shell_begins : (old : Kept) (left : List KeptShell) (next : KeptShell) (k : ℕ) (counts : ShellCounts) (n : ℕ) → old.ended ≡ false → dues_of old.current ≡ 0 → k ≡ old.shell + 1 → old.waiting ≡ left ++ next ∷ [] → AreCounts next.rows counts
+pub shell_begins : (old : Kept) (left : List KeptShell) (next : KeptShell) (k : ℕ) (counts : ShellCounts) (n : ℕ) → old.ended ≡ false → dues_of old.current ≡ 0
+    → k ≡ old.shell + 1 → old.waiting ≡ left ++ next ∷ [] → AreCounts next.rows counts
     → n ≡ old.number + 1 → TakesLine old (with_shell old left next k n) (shell k counts) true
 shell_begins old left next k counts n going none is_k e are more first lines at =
     let s : SolidData = old.solid in
@@ -115,7 +120,8 @@ shell_begins old left next k counts n going none is_k e are more first lines at 
           begun = omega arith;
           rows = fresh.rows ∙ ap (rows_of_shell s) (sym next_shell);
           loops = fresh.loops ∙ ap (loops_of_shell s) (sym next_shell);
-          due = fresh.due ∙ ap (all_due old.version) (sym fresh.rows) ∙ sym (asked_is old.version next.rows counts are.edges_counted are.corners_counted are.faces_counted);
+          due = fresh.due ∙ ap (all_due old.version) (sym fresh.rows)
+              ∙ sym (asked_is old.version next.rows counts are.edges_counted are.corners_counted are.faces_counted);
           last_edge = fresh.last_edge;
           last_vertex = fresh.last_vertex;
           mates = fresh.mates;
@@ -136,7 +142,8 @@ shell_begins old left next k counts n going none is_k e are more first lines at 
 abbrev pub with_end : Kept → ℕ → Kept
 with_end old n = record old { number = n; ended = true }
 
-same_current : (s : SolidData) (a b : Stand) (o : Option KeptShell) → a.shell ≡ b.shell → a.due ≡ b.due → a.mates ≡ b.mates → a.last_edge ≡ b.last_edge → a.last_vertex ≡ b.last_vertex
+same_current : (s : SolidData) (a b : Stand) (o : Option KeptShell) → a.shell ≡ b.shell → a.due ≡ b.due → a.mates ≡ b.mates → a.last_edge ≡ b.last_edge
+    → a.last_vertex ≡ b.last_vertex
     → a.reached ≡ b.reached → MatchesCurrent s a o → MatchesCurrent s b o
 same_current s a b None k e ms le lv fs h = (sym k ∙ h.0, subst NoneDue e h.1)
 same_current s a b (Some x) k e ms le lv fs h = record {
@@ -150,7 +157,8 @@ same_current s a b (Some x) k e ms le lv fs h = record {
   reached = subst (HoldsFaces x.reached) fs h.reached;
 }
 
-pub end_comes : (old : Kept) (n : ℕ) → old.ended ≡ false → dues_of old.current ≡ 0 → length old.waiting ≡ 0 → n ≡ old.number + 1 → TakesLine old (with_end old n) end true
+pub end_comes : (old : Kept) (n : ℕ) → old.ended ≡ false → dues_of old.current ≡ 0 → length old.waiting ≡ 0 → n ≡ old.number + 1
+    → TakesLine old (with_end old n) end true
 end_comes old n going none left more first lines at =
     let s : SolidData = old.solid in
     let here : Stand = stand_from_latest old.version s lines in
@@ -161,7 +169,9 @@ end_comes old n going none left more first lines at =
         number = omega (arith, more, at.number);
         ended = sym (ap (λ (x : Stand). x.ended) stand);
         shell = at.shell ∙ sym (ap (λ (x : Stand). x.shell) stand);
-        current = subst (λ x. MatchesCurrent s x old.current) (sym stand) (same_current s here (stand_of true here.shell here.due here.mates here.last_edge here.last_vertex here.reached) old.current refl refl refl refl refl refl at.current);
+        current = subst (λ x. MatchesCurrent s x old.current) (sym stand)
+            (same_current s here (stand_of true here.shell here.due here.mates here.last_edge here.last_vertex here.reached) old.current refl refl refl refl
+            refl refl at.current);
         waiting = at.waiting;
       },
     )
@@ -172,13 +182,16 @@ abbrev pub with_current : Kept → KeptShell → ℕ → Kept
 with_current old k n = record old { number = n; current = Some k }
 
 -- a line of rows changes neither the shell nor whether END came
-row_line : (version : Version) (s : SolidData) (lines : List CertLine) (line : CertLine) → IsRowLine line → ((stand_from_latest version s (line ∷ lines)).ended ≡ (stand_from_latest version s lines).ended) × ((stand_from_latest version s (line ∷ lines)).shell ≡ (stand_from_latest version s lines).shell)
+row_line : (version : Version) (s : SolidData) (lines : List CertLine) (line : CertLine) → IsRowLine line
+    → ((stand_from_latest version s (line ∷ lines)).ended ≡ (stand_from_latest version s lines).ended)
+    × ((stand_from_latest version s (line ∷ lines)).shell ≡ (stand_from_latest version s lines).shell)
 unfolding stand_from_latest
 row_line version s lines line h =
     let kind = row_kind line h in
     (ap (λ b. b || list_any is_last lines) kind.1, number_same is_shell line lines kind.0)
 
-pub row_line_taken : (old : Kept) (k new : KeptShell) (line : CertLine) (n : ℕ) → old.ended ≡ false → old.current ≡ Some k → IsRowLine line → Takes k new line true → n ≡ old.number + 1 → TakesLine old (with_current old new n) line true
+pub row_line_taken : (old : Kept) (k new : KeptShell) (line : CertLine) (n : ℕ) → old.ended ≡ false → old.current ≡ Some k → IsRowLine line
+    → Takes k new line true → n ≡ old.number + 1 → TakesLine old (with_current old new n) line true
 row_line_taken old k new line n going is_k kind takes more first lines at =
     let s : SolidData = old.solid in
     let t : MatchesShell s (stand_from_latest old.version s lines) k = subst (MatchesCurrent s (stand_from_latest old.version s lines)) is_k at.current in
@@ -196,7 +209,8 @@ row_line_taken old k new line n going is_k kind takes more first lines at =
     )
 
 pub row_line_refused : (old new : Kept) (k now : KeptShell) (line : CertLine) → old.current ≡ Some k → Takes k now line false → TakesLine old new line false
-row_line_refused old new k now line is_k takes first lines at fits = takes old.version old.solid lines (subst (MatchesCurrent old.solid (stand_from_latest old.version old.solid lines)) is_k at.current) fits.1
+row_line_refused old new k now line is_k takes first lines at fits =
+    takes old.version old.solid lines (subst (MatchesCurrent old.solid (stand_from_latest old.version old.solid lines)) is_k at.current) fits.1
 
 pub no_shell_begun : (old new : Kept) (line : CertLine) → old.current ≡ None → IsRowLine line → TakesLine old new line false
 no_shell_begun old new line none kind first lines at fits =
@@ -213,7 +227,8 @@ pub never_fits_solid : (old new : Kept) (n : ℕ) → TakesLine old new (solid n
 never_fits_solid old new n first lines at fits = fits.1
 
 -- Behind no line.
-pub begins : (first : ℕ) (c : Kept) → c.failed ≡ None → c.number ≡ first → c.ended ≡ false → c.shell ≡ 0 → c.current ≡ None → AreWaiting c.version c.solid 0 c.waiting → IsAt first c []
+pub begins : (first : ℕ) (c : Kept) → c.failed ≡ None → c.number ≡ first → c.ended ≡ false → c.shell ≡ 0 → c.current ≡ None
+    → AreWaiting c.version c.solid 0 c.waiting → IsAt first c []
 begins first c legal number going shell_is none waiting =
     let s : SolidData = c.solid in
     let version : Version = c.version in
@@ -223,14 +238,24 @@ begins first c legal number going shell_is none waiting =
       number = omega (arith, number);
       ended = going ∙ sym (ap (λ (x : Stand). x.ended) stand);
       shell = shell_is ∙ sym (ap (λ (x : Stand). x.shell) stand);
-      current = subst (MatchesCurrent s (stand_from_latest version s [])) (sym none) (ap (λ (x : Stand). x.shell) stand, record { edges = ap (λ (x : Stand). x.due.edges) stand; corners = ap (λ (x : Stand). x.due.corners) stand; reach = ap (λ (x : Stand). x.due.reach) stand; tally = ap (λ (x : Stand). x.due.tally) stand });
+      current = subst (MatchesCurrent s (stand_from_latest version s [])) (sym none) (
+        ap (λ (x : Stand). x.shell) stand,
+        record {
+          edges = ap (λ (x : Stand). x.due.edges) stand;
+          corners = ap (λ (x : Stand). x.due.corners) stand;
+          reach =
+              ap (λ (x : Stand). x.due.reach) stand;
+          tally = ap (λ (x : Stand). x.due.tally) stand;
+        },
+      );
       waiting = subst (λ n. AreWaiting version s n c.waiting) (sym shell_is) waiting;
     }
 
 -- The shells from the last one on, so many of them.
 pub record Waits (version : Version) (s : SolidData) (k : ℕ) (waiting : List KeptShell) : Type 0 where
   pub count : length waiting ≡ k
-  pub fresh : (i : ℕ) (t : KeptShell) → slice_get waiting i ≡ Some t → IsFresh version (rows_of_shell s (length s.shells - i)) (loops_of_shell s (length s.shells - i)) t
+  pub fresh : (i : ℕ) (t : KeptShell) → slice_get waiting i ≡ Some t
+      → IsFresh version (rows_of_shell s (length s.shells - i)) (loops_of_shell s (length s.shells - i)) t
 
 pub waits_none : (version : Version) (s : SolidData) (waiting : List KeptShell) → waiting ≡ [] → Waits version s 0 waiting
 waits_none version s waiting e = record { count = ap (λ xs. length xs) e; fresh = λ i t h. absurd (none_there i t (sym (ap (λ xs. slice_get xs i) e) ∙ h)) }
@@ -238,24 +263,34 @@ waits_none version s waiting e = record { count = ap (λ xs. length xs) e; fresh
     none_there : (i : ℕ) (t : KeptShell) → slice_get [] i ≡ Some t → ⊥
     none_there i t h = cc
 
-pub waits_more : (version : Version) (s : SolidData) (k n : ℕ) (waiting new : List KeptShell) (t : KeptShell) → Waits version s k waiting → k < length s.shells → n ≡ length s.shells - 1 - k → IsFresh version (rows_of_shell s (n + 1)) (loops_of_shell s (n + 1)) t → new ≡ waiting ++ t ∷ [] → Waits version s (k + 1) new
+pub waits_more : (version : Version) (s : SolidData) (k n : ℕ) (waiting new : List KeptShell) (t : KeptShell) → Waits version s k waiting → k < length s.shells
+    → n ≡ length s.shells - 1 - k → IsFresh version (rows_of_shell s (n + 1)) (loops_of_shell s (n + 1)) t → new ≡ waiting ++ t ∷ []
+    → Waits version s (k + 1) new
 waits_more version s k n waiting new t w lt is_n fresh e = record {
   count = omega (arith, ap (λ xs. length xs) e, length-append waiting (t ∷ []), w.count);
   fresh = λ i x h.
       let z : 0 + i ≡ i = omega arith in
       let l : 0 + length waiting ≡ k = omega (arith, w.count) in
       subst (λ m. IsFresh version (rows_of_shell s (length s.shells - m)) (loops_of_shell s (length s.shells - m)) x) z
-      (in_either waiting 0 i x (λ j y g. let b : j ≡ 0 + j = omega arith in subst (λ m. IsFresh version (rows_of_shell s (length s.shells - m)) (loops_of_shell s (length s.shells - m)) y) b (w.fresh j y g)) l (sym (ap (λ xs. slice_get xs i) e) ∙ h));
+      (in_either waiting 0 i x
+      (λ j y g. let b : j ≡ 0 + j = omega arith in subst
+      (λ m. IsFresh version (rows_of_shell s (length s.shells - m)) (loops_of_shell s (length s.shells - m)) y) b (w.fresh j y g)) l
+      (sym (ap (λ xs. slice_get xs i) e) ∙ h));
 }
   where
     last_fresh : IsFresh version (rows_of_shell s (length s.shells - k)) (loops_of_shell s (length s.shells - k)) t
-    last_fresh = let place : n + 1 ≡ length s.shells - k = omega (arith, is_n, lt) in subst (λ m. IsFresh version (rows_of_shell s m) (loops_of_shell s m) t) place fresh
+    last_fresh = let place : n + 1 ≡ length s.shells - k = omega (arith, is_n, lt) in subst (λ m. IsFresh version (rows_of_shell s m) (loops_of_shell s m) t)
+        place fresh
 
-    in_either : (xs : List KeptShell) (base i : ℕ) (x : KeptShell) → ((j : ℕ) (y : KeptShell) → slice_get xs j ≡ Some y → IsFresh version (rows_of_shell s (length s.shells - (base + j))) (loops_of_shell s (length s.shells - (base + j))) y) → base + length xs ≡ k
-        → slice_get (xs ++ t ∷ []) i ≡ Some x → IsFresh version (rows_of_shell s (length s.shells - (base + i))) (loops_of_shell s (length s.shells - (base + i))) x
+    in_either : (xs : List KeptShell) (base i : ℕ) (x : KeptShell)
+        → ((j : ℕ) (y : KeptShell) → slice_get xs j ≡ Some y
+        → IsFresh version (rows_of_shell s (length s.shells - (base + j))) (loops_of_shell s (length s.shells - (base + j))) y) → base + length xs ≡ k
+        → slice_get (xs ++ t ∷ []) i ≡ Some x
+        → IsFresh version (rows_of_shell s (length s.shells - (base + i))) (loops_of_shell s (length s.shells - (base + i))) x
     in_either [] base zero x each long h =
         let place : length s.shells - k ≡ length s.shells - (base + 0) = omega (arith, long) in
-        subst (λ m. IsFresh version (rows_of_shell s m) (loops_of_shell s m) x) place (subst (IsFresh version (rows_of_shell s (length s.shells - k)) (loops_of_shell s (length s.shells - k))) (same_Some t x h) last_fresh)
+        subst (λ m. IsFresh version (rows_of_shell s m) (loops_of_shell s m) x) place
+        (subst (IsFresh version (rows_of_shell s (length s.shells - k)) (loops_of_shell s (length s.shells - k))) (same_Some t x h) last_fresh)
     in_either [] base (suc i) x each long h = absurd (none_there i x h)
       where
         none_there : (i : ℕ) (x : KeptShell) → slice_get [] i ≡ Some x → ⊥
@@ -264,39 +299,63 @@ waits_more version s k n waiting new t w lt is_n fresh e = record {
     in_either (y ∷ xs) base (suc i) x each long h =
         let a : base + 1 + i ≡ base + suc i = omega arith in
         subst (λ m. IsFresh version (rows_of_shell s (length s.shells - m)) (loops_of_shell s (length s.shells - m)) x) a
-        (in_either xs (base + 1) i x (λ j z g. let b : base + suc j ≡ base + 1 + j = omega arith in subst (λ m. IsFresh version (rows_of_shell s (length s.shells - m)) (loops_of_shell s (length s.shells - m)) z) b (each (suc j) z g)) (omega (arith, long)) h)
+        (in_either xs (base + 1) i x
+        (λ j z g. let b : base + suc j ≡ base + 1 + j = omega arith in subst
+        (λ m. IsFresh version (rows_of_shell s (length s.shells - m)) (loops_of_shell s (length s.shells - m)) z) b (each (suc j) z g))
+        (omega (arith, long)) h)
 
-pub waits_all : (version : Version) (s : SolidData) (k : ℕ) (waiting : List KeptShell) → Waits version s k waiting → length s.shells ≡ k → AreWaiting version s 0 waiting
+pub waits_all : (version : Version) (s : SolidData) (k : ℕ) (waiting : List KeptShell) → Waits version s k waiting → length s.shells ≡ k
+    → AreWaiting version s 0 waiting
 waits_all version s k waiting w all = record { count = omega (arith, w.count, all); fresh = w.fresh }
 
-pub room_at_first : (version : Version) (s : SolidData) (limit first : ℕ) (waiting : List KeptShell) → IsNumberedSolid s → limit ≡ line_limit s → first ≤ 2 ^ 32 → AreWaiting version s 0 waiting
+pub room_at_first : (version : Version) (s : SolidData) (limit first : ℕ) (waiting : List KeptShell) → IsNumberedSolid s → limit ≡ line_limit s
+    → first ≤ 2 ^ 32 → AreWaiting version s 0 waiting
     → HasRoom limit (record { version = version; solid = s; failed = None; number = first; ended = false; shell = 0; current = None; waiting = waiting })
-room_at_first version s limit first waiting numbered is_limit low w = record { limit_is = is_limit; few_shells = omega (arith, few_shells s numbered, w.count); few = omega (arith, low); unended = λ e. omega (arith, low) }
+room_at_first version s limit first waiting numbered is_limit low w =
+    record { limit_is = is_limit; few_shells = omega (arith, few_shells s numbered, w.count); few = omega (arith, low); unended = λ e. omega (arith, low) }
 
 -- A line that is spelled and not taken is unfit.
-pub line_refused : (old new : Kept) (bytes : List ℕ) (l : CertLine) (number : ℕ) (r : Result (Unit {0}) Illegal) (Good : Unit {0} → Type 0) (first : ℕ) (lines : List CertLine) → IsAt first old lines → IsLine (line_limit old.solid) bytes l
-    → (FitsLine old.solid (stand_from_latest old.version old.solid lines) l → ⊥) → number ≡ old.number → r ≡ Err (Unfit number) → new.failed ≡ Some (Unfit number)
-    → MatchResult r Good (λ bad. IsBadLine old.solid (FitsLine old.solid (stand_from_latest old.version old.solid lines)) (first + length lines) bytes bad × (new.failed ≡ Some bad))
+pub line_refused : (old new : Kept) (bytes : List ℕ) (l : CertLine) (number : ℕ) (r : Result (Unit {0}) Illegal) (Good : Unit {0} → Type 0) (first : ℕ)
+    (lines : List CertLine) → IsAt first old lines → IsLine (line_limit old.solid) bytes l
+    → (FitsLine old.solid (stand_from_latest old.version old.solid lines) l → ⊥) → number ≡ old.number → r ≡ Err (Unfit number)
+    → new.failed ≡ Some (Unfit number)
+    → MatchResult r Good (λ bad. IsBadLine old.solid (FitsLine old.solid (stand_from_latest old.version old.solid lines)) (first + length lines) bytes bad
+    × (new.failed ≡ Some bad))
 line_refused old new bytes l number r Good first lines at is never same is_r failed =
     let n : Unfit number ≡ Unfit (first + length lines) = ap (λ k. Unfit k) (same ∙ at.number) in
-    subst (λ x. MatchResult x Good (λ bad. IsBadLine old.solid (FitsLine old.solid (stand_from_latest old.version old.solid lines)) (first + length lines) bytes bad × (new.failed ≡ Some bad))) (sym is_r)
+    subst (λ x. MatchResult x Good
+    (λ bad. IsBadLine old.solid (FitsLine old.solid (stand_from_latest old.version old.solid lines)) (first + length lines) bytes bad
+    × (new.failed ≡ Some bad))) (sym is_r)
     (inr (inr (l, is, never), n), failed)
 
 -- The line that begins the next part of a book.
 
 -- END may come where nothing is kept as due and no shell waits
-pub end_may_come : (c : Kept) (first : ℕ) (lines : List CertLine) → IsAt first c lines → c.ended ≡ false → dues_of c.current ≡ 0 → length c.waiting ≡ 0 → FitsLine c.solid (stand_from_latest c.version c.solid lines) end
-end_may_come c first lines at going none left = (sym at.ended ∙ going, (none_due c.solid (stand_from_latest c.version c.solid lines) c.current at.current none, omega (arith, left, at.waiting.count, at.shell)))
+pub end_may_come : (c : Kept) (first : ℕ) (lines : List CertLine) → IsAt first c lines → c.ended ≡ false → dues_of c.current ≡ 0 → length c.waiting ≡ 0
+    → FitsLine c.solid (stand_from_latest c.version c.solid lines) end
+end_may_come c first lines at going none left = (
+  sym at.ended ∙ going,
+  (
+    none_due c.solid (stand_from_latest c.version c.solid lines) c.current at.current none,
+    omega
+        (arith, left, at.waiting.count, at.shell),
+  ),
+)
 
-pub end_may_not : (c : Kept) (first : ℕ) (lines : List CertLine) → IsAt first c lines → (c.ended ≡ false → dues_of c.current ≡ 0 → length c.waiting ≡ 0 → ⊥) → FitsLine c.solid (stand_from_latest c.version c.solid lines) end → ⊥
+pub end_may_not : (c : Kept) (first : ℕ) (lines : List CertLine) → IsAt first c lines → (c.ended ≡ false → dues_of c.current ≡ 0 → length c.waiting ≡ 0 → ⊥)
+    → FitsLine c.solid (stand_from_latest c.version c.solid lines) end → ⊥
 end_may_not c first lines at never fits =
-    never (at.ended ∙ fits.0) (dues_none c.solid (stand_from_latest c.version c.solid lines) c.current at.current fits.1.0) (omega (arith, at.waiting.count, at.shell, fits.1.1))
+    never (at.ended ∙ fits.0) (dues_none c.solid (stand_from_latest c.version c.solid lines) c.current at.current fits.1.0)
+    (omega (arith, at.waiting.count, at.shell, fits.1.1))
 
 -- what fits neither as a line nor as the first one of the next part is bad in a part
-pub bad_in_part : (s : SolidData) (at : Stand) (number : ℕ) (bytes : List ℕ) (bad : Illegal) → ((n : ℕ) → IsLine (line_limit s) bytes (solid n) → BeginsNext s at n → ⊥) → IsBadLine s (FitsLine s at) number bytes bad → IsBadLine s (FitsPart s at) number bytes bad
+pub bad_in_part : (s : SolidData) (at : Stand) (number : ℕ) (bytes : List ℕ) (bad : Illegal)
+    → ((n : ℕ) → IsLine (line_limit s) bytes (solid n) → BeginsNext s at n → ⊥) → IsBadLine s (FitsLine s at) number bytes bad
+    → IsBadLine s (FitsPart s at) number bytes bad
 bad_in_part s at number bytes bad never (inl misspelt) = inl misspelt
 bad_in_part s at number bytes bad never (inr (inl long, is)) = inr (inl long, is)
-bad_in_part s at number bytes bad never (inr (inr (l, is_l, not_fit), is)) = inr (inr (l, is_l, λ h. ⊎_elim not_fit (λ (n, is_n, begins). never n (subst (IsLine (line_limit s) bytes) is_n is_l) begins) h), is)
+bad_in_part s at number bytes bad never (inr (inr (l, is_l, not_fit), is)) =
+    inr (inr (l, is_l, λ h. ⊎_elim not_fit (λ (n, is_n, begins). never n (subst (IsLine (line_limit s) bytes) is_n is_l) begins) h), is)
 
 pub not_so : (b : Bool) → b ≡ false → b ≡ true → ⊥
 not_so b no_ yes_ = let e : false ≡ true = sym no_ ∙ yes_ in cc
@@ -311,10 +370,12 @@ one_solid bytes n m a b = ap number_in (line_one bytes (solid n) (solid m) a b)
 
 -- a line that says what the words say names a solid exactly where they do
 pub solid_told : (limit : ℕ) (bytes : List ℕ) (w : Words) (found : Option ℕ) → (line : CertLine) × Means w line × IsLine limit bytes line
-    → MatchOption found ((line : CertLine) (n : ℕ) → Means w line → line ≡ solid n → ⊥) (λ n. (line : CertLine) → Means w line → line ≡ solid n) → MatchOption found ((n : ℕ) → ¬ IsLine limit bytes (solid n)) (λ n. IsLine limit bytes (solid n))
+    → MatchOption found ((line : CertLine) (n : ℕ) → Means w line → line ≡ solid n → ⊥) (λ n. (line : CertLine) → Means w line → line ≡ solid n)
+    → MatchOption found ((n : ℕ) → ¬ IsLine limit bytes (solid n)) (λ n. IsLine limit bytes (solid n))
 solid_told limit bytes w (Some n) (l, means, is) told = subst (IsLine limit bytes) (told l means) is
 solid_told limit bytes w None (l, means, is) never = λ n h. never l n means (line_one bytes l (solid n) is.1 h.1)
 
-pub not_spelled_names_none : (limit : ℕ) (bytes : List ℕ) (j : Judged) → IsJudged limit bytes j → (j ≡ Misspelt) ⊎ (j ≡ Long) → (n : ℕ) → IsLine limit bytes (solid n) → ⊥
+pub not_spelled_names_none : (limit : ℕ) (bytes : List ℕ) (j : Judged) → IsJudged limit bytes j → (j ≡ Misspelt) ⊎ (j ≡ Long) → (n : ℕ)
+    → IsLine limit bytes (solid n) → ⊥
 not_spelled_names_none limit bytes j h (inl e) n is = (subst (IsJudged limit bytes) e h).none (solid n) is.1
 not_spelled_names_none limit bytes j h (inr e) n is = let long : IsLong limit bytes = subst (IsJudged limit bytes) e h in omega (arith, long.0, is.0)

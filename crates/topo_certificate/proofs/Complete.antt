@@ -14,7 +14,8 @@ use Rattle.topo_certificate.specs.Legal.{IsLegal}
 use Rattle.topo_certificate.specs.After.{IsLegalAfter}
 use Rattle.cert_lines.specs.declared.version.Version.{Version}
 use Rattle.cert_lines.specs.declared.version.Version.TheVariants.{One, Two, Three}
-use Rattle.topo_certificate.specs.Stand.{stand_from_latest, loops_of_shell, tallies, NoneDue, IsAbove, first_of, is_shell, is_last, number_of, rows_of_shell, IsMate}
+use Rattle.topo_certificate.specs.Stand.{stand_from_latest, loops_of_shell, tallies, NoneDue, IsAbove, first_of, is_shell, is_last, number_of, rows_of_shell}
+use Rattle.topo_certificate.specs.Stand.{IsMate}
 use Rattle.solid_data.proofs.Members.{Rises, rises_none}
 use Rattle.topo_certificate.proofs.Segment.{AreGoodRows}
 use Rattle.topo_certificate.proofs.Forward.{legal_forward}
@@ -22,7 +23,8 @@ use Rattle.topo_certificate.proofs.Facts.{AllFit}
 use Rattle.topo_certificate.proofs.Shells.{AreProper}
 use Rattle.edge_uses.proofs.Cycle.{AreTurning}
 use Rattle.topo_certificate.proofs.Short.{IsSmall, IsReadable, readable_shell, readable_tally, readable_end}
-use Rattle.topo_certificate.proofs.Build.{Stage, nothing_due, tally_fits, none_after_tally, PointsDiffer, EdgesBuilt, CornersBuilt, ReachBuilt, build_edges, build_corners, build_reach, mates_listed}
+use Rattle.topo_certificate.proofs.Build.{Stage, nothing_due, tally_fits, none_after_tally, PointsDiffer, EdgesBuilt, CornersBuilt, ReachBuilt, build_edges}
+use Rattle.topo_certificate.proofs.Build.{build_corners, build_reach, mates_listed}
 
 -- rows of a closed shell
 pub record AreReady (s : SolidData) (d : ShellRows) (loops : ℕ) : Type 0 where
@@ -52,9 +54,16 @@ abbrev pub counts_of : ShellRows → ShellCounts
 counts_of d = record { rows = length d.rows; edges = length d.edges; corners = length d.vertices; faces = d.face_count }
 
 abbrev pub tally_of : SolidData → ℕ → Tally
-tally_of s k = record { vertices = length (rows_of_shell s k).vertices; edges = length (rows_of_shell s k).edges; faces = (rows_of_shell s k).face_count; loops = loops_of_shell s k }
+tally_of s k = record {
+  vertices = length (rows_of_shell s k).vertices;
+  edges = length (rows_of_shell s k).edges;
+  faces =
+      (rows_of_shell s k).face_count;
+  loops = loops_of_shell s k;
+}
 
-pub begin_shell : (version : Version) (s : SolidData) (j : ℕ) → j < length s.shells → AreReady s (rows_of_shell s (suc j)) (loops_of_shell s (suc j)) → (done : Done version s j)
+pub begin_shell : (version : Version) (s : SolidData) (j : ℕ) → j < length s.shells → AreReady s (rows_of_shell s (suc j)) (loops_of_shell s (suc j))
+    → (done : Done version s j)
     → Stage version s (shell (suc j) (counts_of (rows_of_shell s (suc j))) ∷ done.lines) (suc j) (rows_of_shell s (suc j)) [] [] [] []
 unfolding stand_from_latest
 begin_shell version s j lt ready done =
@@ -90,16 +99,26 @@ begin_shell version s j lt ready done =
         ),
         done.fit,
       );
-      short = (readable_shell s (suc j) (counts_of d) (omega (arith, lt, ready.small.shells)) (omega (arith, ready.small.rows, ready.small.few)) ready.small.edges ready.small.vertices ready.small.faces, done.short);
+      short = (
+        readable_shell s (suc j) (counts_of d) (omega (arith, lt, ready.small.shells)) (omega (arith, ready.small.rows, ready.small.few))
+            ready.small.edges ready.small.vertices ready.small.faces,
+        done.short,
+      );
     }
 
-pub with_tally : (version : Version) (s : SolidData) (k : ℕ) (lines : List CertLine) (es vs fs : List ℕ) (ms : List (ℕ × ℕ)) → Stage version s lines k (rows_of_shell s k) es vs fs ms → tallies version ≡ 1
-    → length (rows_of_shell s k).edges ≤ length es → length (rows_of_shell s k).vertices ≤ length vs → (rows_of_shell s k).face_count - 1 ≤ length fs → IsSmall s (rows_of_shell s k) → loops_of_shell s k < 10 ^ 9 → Done version s k
+pub with_tally : (version : Version) (s : SolidData) (k : ℕ) (lines : List CertLine) (es vs fs : List ℕ) (ms : List (ℕ × ℕ))
+    → Stage version s lines k (rows_of_shell s k) es vs fs ms → tallies version ≡ 1
+    → length (rows_of_shell s k).edges ≤ length es → length (rows_of_shell s k).vertices ≤ length vs → (rows_of_shell s k).face_count - 1 ≤ length fs
+    → IsSmall s (rows_of_shell s k) → loops_of_shell s k < 10 ^ 9 → Done version s k
 with_tally version s k lines es vs fs ms stage one a b c small few =
     let d : ShellRows = rows_of_shell s k in
     record {
       lines = tally (tally_of s k) ∷ lines;
-      fit = (tally_fits version s lines k d es vs fs ms stage (tally_of s k) one a b c (record { vertices_counted = refl; edges_counted = refl; faces_counted = refl; loops_counted = refl }), stage.fit);
+      fit = (
+        tally_fits version s lines k d es vs fs ms stage (tally_of s k) one a b c
+            (record { vertices_counted = refl; edges_counted = refl; faces_counted = refl; loops_counted = refl }),
+        stage.fit,
+      );
       short = (readable_tally s (tally_of s k) small.vertices small.edges small.faces few, stage.short);
       begun = stage.begun;
       shells = stage.shells;
@@ -107,8 +126,10 @@ with_tally version s k lines es vs fs ms stage one a b c small few =
     }
 
 -- the lines of a shell, and the one of its counts where the version has one
-pub closes : (version : Version) (s : SolidData) (k : ℕ) (lines : List CertLine) (es vs fs : List ℕ) (ms : List (ℕ × ℕ)) → Stage version s lines k (rows_of_shell s k) es vs fs ms
-    → length (rows_of_shell s k).edges ≤ length es → length (rows_of_shell s k).vertices ≤ length vs → (rows_of_shell s k).face_count - 1 ≤ length fs → IsSmall s (rows_of_shell s k) → loops_of_shell s k < 10 ^ 9 → Done version s k
+pub closes : (version : Version) (s : SolidData) (k : ℕ) (lines : List CertLine) (es vs fs : List ℕ) (ms : List (ℕ × ℕ))
+    → Stage version s lines k (rows_of_shell s k) es vs fs ms
+    → length (rows_of_shell s k).edges ≤ length es → length (rows_of_shell s k).vertices ≤ length vs → (rows_of_shell s k).face_count - 1 ≤ length fs
+    → IsSmall s (rows_of_shell s k) → loops_of_shell s k < 10 ^ 9 → Done version s k
 closes One s k lines es vs fs ms stage a b c small few = record {
   lines = lines;
   fit = stage.fit;
@@ -120,23 +141,29 @@ closes One s k lines es vs fs ms stage a b c small few = record {
 closes Two s k lines es vs fs ms stage a b c small few = with_tally Two s k lines es vs fs ms stage refl a b c small few
 closes Three s k lines es vs fs ms stage a b c small few = with_tally Three s k lines es vs fs ms stage refl a b c small few
 
-one_more : (version : Version) (s : SolidData) (j : ℕ) → j < length s.shells → AreReady s (rows_of_shell s (suc j)) (loops_of_shell s (suc j)) → Done version s j → Done version s (suc j)
+one_more : (version : Version) (s : SolidData) (j : ℕ) → j < length s.shells → AreReady s (rows_of_shell s (suc j)) (loops_of_shell s (suc j))
+    → Done version s j → Done version s (suc j)
 one_more version s j lt ready done =
     let d : ShellRows = rows_of_shell s (suc j) in
     let started = begin_shell version s j lt ready done in
-    let e : EdgesBuilt version s (suc j) d = build_edges version s (suc j) d ready.small d.edges [] [] _ started (omega arith) (any_above d.edges) ready.edges_rise ready.proper.paired (λ x m. inl m) in
+    let e : EdgesBuilt version s (suc j) d = build_edges version s (suc j) d ready.small d.edges [] [] _ started (omega arith) (any_above d.edges)
+    ready.edges_rise ready.proper.paired (λ x m. inl m) in
     let listed : (r m : ℕ) → AreMates d r m → IsMate e.ms (suc r) (suc m) = mates_listed d e.ms ready.good ready.proper.paired e.mated in
     let edges_done : length d.edges ≤ length e.es = omega (arith, e.all) in
-    let c : CornersBuilt version s (suc j) d e.es e.ms = build_corners version s (suc j) d e.es e.ms ready.small ready.turning ready.differ listed edges_done d.vertices [] e.lines e.stage (omega arith) (any_above d.vertices) ready.vertices_rise ready.proper.linked in
+    let c : CornersBuilt version s (suc j) d e.es e.ms = build_corners version s (suc j) d e.es e.ms ready.small ready.turning ready.differ listed edges_done
+    d.vertices [] e.lines e.stage (omega arith) (any_above d.vertices) ready.vertices_rise ready.proper.linked in
     let corners_done : length d.vertices ≤ length c.vs = omega (arith, c.all) in
-    let r : ReachBuilt version s (suc j) d e.es c.vs e.ms = build_reach version s (suc j) d e.es c.vs e.ms ready.small listed edges_done corners_done ready.proper.reached (d.face_count - 1) [] c.lines c.stage (omega arith) in
+    let r : ReachBuilt version s (suc j) d e.es c.vs e.ms = build_reach version s (suc j) d e.es c.vs e.ms ready.small listed edges_done corners_done
+    ready.proper.reached (d.face_count - 1) [] c.lines c.stage (omega arith) in
     closes version s (suc j) r.lines e.es c.vs r.fs e.ms r.stage edges_done corners_done r.all ready.small ready.few_loops
 
 nothing_at_first : (version : Version) (s : SolidData) → Done version s 0
 unfolding stand_from_latest
-nothing_at_first version s = record { lines = []; fit = tt; short = tt; begun = refl; shells = refl; nothing = record { edges = refl; corners = refl; reach = refl; tally = refl } }
+nothing_at_first version s =
+    record { lines = []; fit = tt; short = tt; begun = refl; shells = refl; nothing = record { edges = refl; corners = refl; reach = refl; tally = refl } }
 
-upto : (version : Version) (s : SolidData) → ((j : ℕ) → j < length s.shells → AreReady s (rows_of_shell s (suc j)) (loops_of_shell s (suc j))) → (j : ℕ) → j ≤ length s.shells → Done version s j
+upto : (version : Version) (s : SolidData) → ((j : ℕ) → j < length s.shells → AreReady s (rows_of_shell s (suc j)) (loops_of_shell s (suc j))) → (j : ℕ)
+    → j ≤ length s.shells → Done version s j
 upto version s ready zero le = nothing_at_first version s
 upto version s ready (suc j) le = one_more version s j (omega (arith, le)) (ready j (omega (arith, le))) (upto version s ready j (omega (arith, le)))
 
@@ -149,7 +176,8 @@ unfolding stand_from_latest
 ended version s lines = refl
 
 -- Where the rows of each shell are ready, lines that fit go up to END.
-pub closed_has_lines : (version : Version) (s : SolidData) → ((j : ℕ) → j < length s.shells → AreReady s (rows_of_shell s (suc j)) (loops_of_shell s (suc j))) → (lines : List CertLine) × AllFit version s lines × ((stand_from_latest version s lines).ended ≡ true) × AllByRecursion (IsReadable s) lines
+pub closed_has_lines : (version : Version) (s : SolidData) → ((j : ℕ) → j < length s.shells → AreReady s (rows_of_shell s (suc j)) (loops_of_shell s (suc j)))
+    → (lines : List CertLine) × AllFit version s lines × ((stand_from_latest version s lines).ended ≡ true) × AllByRecursion (IsReadable s) lines
 closed_has_lines version s ready =
     let done = upto version s ready (length s.shells) (omega arith) in
     (end ∷ done.lines, end_fits version s done, ended version s done.lines, (readable_end s, done.short))
@@ -159,7 +187,8 @@ all_then P [] x h p = (p, tt)
 all_then P (y ∷ xs) x h p = (h.0, all_then P xs x h.1 p)
 
 -- the lines as bytes, in the order of the file
-legal_from_fit : (version : Version) (s : SolidData) (lines : List CertLine) → AllFit version s lines → AllByRecursion (IsReadable s) lines → (rest : List (List ℕ)) → IsLegalAfter version s lines rest
+legal_from_fit : (version : Version) (s : SolidData) (lines : List CertLine) → AllFit version s lines → AllByRecursion (IsReadable s) lines
+    → (rest : List (List ℕ)) → IsLegalAfter version s lines rest
     → (bytes : List CertLine) × IsLegalAfter version s [] (map spelling bytes ++ rest) × AllByRecursion HasSpelling bytes
 legal_from_fit version s [] fit short rest legal = ([], legal, tt)
 legal_from_fit version s (l ∷ lines) fit short rest legal =
@@ -171,7 +200,8 @@ legal_from_fit version s (l ∷ lines) fit short rest legal =
     regroup (x ∷ ls) l rest = ap (λ ys. spelling x ∷ ys) (regroup ls l rest)
 
 -- A solid whose shells are ready has lines that are legal, and each is spelled.
-pub closed_has_legal : (version : Version) (s : SolidData) → ((j : ℕ) → j < length s.shells → AreReady s (rows_of_shell s (suc j)) (loops_of_shell s (suc j))) → (lines : List CertLine) × IsLegal version s (map spelling lines) × AllByRecursion HasSpelling lines
+pub closed_has_legal : (version : Version) (s : SolidData) → ((j : ℕ) → j < length s.shells → AreReady s (rows_of_shell s (suc j)) (loops_of_shell s (suc j)))
+    → (lines : List CertLine) × IsLegal version s (map spelling lines) × AllByRecursion HasSpelling lines
 closed_has_legal version s ready =
     let h = closed_has_lines version s ready in
     let k = legal_from_fit version s h.0 h.1 h.3 [] h.2 in

@@ -27,7 +27,15 @@ pub record AreNamedMates (d : ShellRows) (r m : ℕ) : Type 0 where
   pub opposite : row.along ≡ not mate.along
 
 pub mates_back : (d : ShellRows) (r m : ℕ) → AreNamedMates d r m → AreNamedMates d m r
-mates_back d r m h = record { row = h.mate; mate = h.row; at_r = h.at_m; at_m = h.at_r; one_edge = sym h.one_edge; opposite = not-not h.row.along h.mate.along h.opposite }
+mates_back d r m h = record {
+  row = h.mate;
+  mate = h.row;
+  at_r = h.at_m;
+  at_m = h.at_r;
+  one_edge = sym h.one_edge;
+  opposite =
+      not-not h.row.along h.mate.along h.opposite;
+}
 
 -- the listed pairs are mates
 abbrev pub MatesHold : ShellRows → List (ℕ × ℕ) → Type 0
@@ -63,7 +71,8 @@ StartsNamed d v r = row_start (row_named d r) ≡ Some v
 pub start_of_row : (d : ShellRows) (r : ℕ) (row : Row) → row_named d r ≡ Some row → row_start (row_named d r) ≡ Some row.from.0
 start_of_row d r row h = ap row_start h
 
-pub turn_start_by : (d : ShellRows) → EndsMeet d → EndsExchanged d → (v r k t : ℕ) → AreNamedMates d r k → FollowsAsNamed d k t → (b : Row) → row_named d t ≡ Some b → StartsNamed d v r → StartsNamed d v t
+pub turn_start_by : (d : ShellRows) → EndsMeet d → EndsExchanged d → (v r k t : ℕ) → AreNamedMates d r k → FollowsAsNamed d k t → (b : Row)
+    → row_named d t ≡ Some b → StartsNamed d v r → StartsNamed d v t
 turn_start_by d meet exchanged v zero k t a f b at_t start = absurd (none-some a.row a.at_r)
 turn_start_by d meet exchanged v (suc n) zero t a f b at_t start = absurd f
 turn_start_by d meet exchanged v (suc n) (suc k) zero a f b at_t start = absurd f
@@ -78,7 +87,8 @@ pub turns_row : (d : ShellRows) (mates : List (ℕ × ℕ)) (r s : ℕ) → Mate
 turns_row d mates r s hold t = let a = mates_named d mates r t.0 hold t.1 in (a.row, a.at_r)
 
 -- the rows of a corner line start at its vertex
-pub corner_starts : (d : ShellRows) (mates : List (ℕ × ℕ)) → EndsMeet d → EndsExchanged d → MatesHold d mates → (v r : ℕ) (rs : List ℕ) (z : ℕ) → Trail (TurnsTo d mates) r rs z → StartsNamed d v r → (x : ℕ) → Has (r ∷ rs) x → StartsNamed d v x
+pub corner_starts : (d : ShellRows) (mates : List (ℕ × ℕ)) → EndsMeet d → EndsExchanged d → MatesHold d mates → (v r : ℕ) (rs : List ℕ) (z : ℕ)
+    → Trail (TurnsTo d mates) r rs z → StartsNamed d v r → (x : ℕ) → Has (r ∷ rs) x → StartsNamed d v x
 corner_starts d mates meet exchanged hold v r rs z t start x (inl e) = subst (StartsNamed d v) e start
 corner_starts d mates meet exchanged hold v r [] z t start x (inr h) = absurd h
 corner_starts d mates meet exchanged hold v r (w ∷ ws) z t start x (inr h) =
@@ -106,7 +116,8 @@ one_mate d paired (suc n) (suc m) (suc k) a b =
     let edge_b : b.mate.edge.0 ≡ a.row.edge.0 = ap (λ (e : EdgeId). e.0) (sym b.one_edge ∙ sym (ap (λ (r : Row). r.edge) same)) in
     let way_a : a.mate.along ≡ not a.row.along = not-not a.row.along a.mate.along a.opposite in
     let way_b : b.mate.along ≡ not a.row.along = not-not b.row.along b.mate.along b.opposite ∙ ap not (sym (ap (λ (r : Row). r.along) same)) in
-    ap suc (one_of_edge d a.row.edge.0 (not a.row.along) m k a.mate b.mate (pair_counts d a.row.edge.0 (not a.row.along) pair) a.at_m b.at_m edge_a edge_b way_a way_b)
+    ap suc (one_of_edge d a.row.edge.0 (not a.row.along) m k a.mate b.mate (pair_counts d a.row.edge.0 (not a.row.along) pair) a.at_m b.at_m edge_a edge_b
+    way_a way_b)
 
 pub follows_one : (d : ShellRows) (m x y : ℕ) → FollowsAsNamed d m x → FollowsAsNamed d m y → x ≡ y
 follows_one d zero x y f g = absurd f
@@ -125,7 +136,8 @@ starts_listed d v (suc k) h = at_row (slice_get d.rows k) refl h
   where
     at_row : (o : Option Row) → slice_get d.rows k ≡ o → row_start o ≡ Some v → Has (starting v 1 d.rows) (suc k)
     at_row None e h = absurd cc
-    at_row (Some r) e h = let number : 1 + k ≡ suc k = omega arith in subst (Has (starting v 1 d.rows)) number (starting_has v 1 k d.rows r e (same_Some r.from.0 v h))
+    at_row (Some r) e h = let number : 1 + k ≡ suc k = omega arith in subst (Has (starting v 1 d.rows)) number
+        (starting_has v 1 k d.rows r e (same_Some r.from.0 v h))
 
 pub above_least : (r : ℕ) (rs : List ℕ) → AllByRecursion (λ x. r < x) rs → Has rs r → ⊥
 above_least r (x ∷ xs) all (inl e) = omega (arith, all.0, e)
@@ -133,7 +145,8 @@ above_least r (x ∷ xs) all (inr h) = above_least r xs all.1 h
 above_least r [] all h = h
 
 -- A fitting corner line shows that its vertex is a corner.
-pub corner_from_line : (d : ShellRows) (at : Stand) (r : ℕ) (rs : List ℕ) → EndsMeet d → EndsExchanged d → MatesHold d at.mates → PairedRows d → (h : FitsCorner d at r rs) → IsCorner d h.vertex
+pub corner_from_line : (d : ShellRows) (at : Stand) (r : ℕ) (rs : List ℕ) → EndsMeet d → EndsExchanged d → MatesHold d at.mates → PairedRows d
+    → (h : FitsCorner d at r rs) → IsCorner d h.vertex
 corner_from_line d at r rs meet exchanged hold paired h =
     let R : ℕ → ℕ → Type 0 = TurnsTo d at.mates in
     let trail : Trail R r rs r = trail_from_zip R r rs r h.turns in

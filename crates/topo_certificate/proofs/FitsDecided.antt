@@ -6,14 +6,17 @@ use Rattle.solid_data.specs.Ring.{next_of_each}
 use Rattle.solid_data.specs.SolidData.{SolidData}
 use Rattle.solid_data.specs.declared.solid.EdgeId.{EdgeId}
 use Rattle.solid_data.specs.declared.solid.LoopAt.{LoopAt}
-use Rattle.solid_data.proofs.Decisions.{Decided, decided_alike, decided_same, decided_some, decided_pair, decided_below, decided_bool, decided_both, decided_three, decided_four, decided_either, decided_not, decided_bounded, decided_all, decided_zip, decided_contains}
+use Rattle.solid_data.proofs.Decisions.{Decided, decided_alike, decided_same, decided_some, decided_pair, decided_below, decided_bool, decided_both}
+use Rattle.solid_data.proofs.Decisions.{decided_three, decided_four, decided_either, decided_not, decided_bounded, decided_all, decided_zip, decided_contains}
 use Rattle.edge_uses.specs.declared.row.Row.{Row}
 use Rattle.edge_uses.specs.ShellRows.{ShellRows}
 use Rattle.edge_uses.specs.RowRelations.{point_count}
 use Rattle.cert_lines.specs.Line.{shell, edge, corner, reach, tally}
 use Rattle.cert_lines.specs.declared.counts.ShellCounts.{ShellCounts}
 use Rattle.cert_lines.specs.declared.counts.Tally.{Tally}
-use Rattle.topo_certificate.specs.Stand.{Stand, NoneDue, CornerDue, ReachDue, TallyDue, FitsShell, FitsEdge, FitsCorner, FitsPoint, FitsReach, FitsTally, IsAbove, IsMate, TurnsTo, FollowsAsNamed, row_named, row_start, row_face, point_named, start_count, rows_of_shell, loops_of_shell}
+use Rattle.topo_certificate.specs.Stand.{Stand, NoneDue, CornerDue, ReachDue, TallyDue, FitsShell, FitsEdge, FitsCorner, FitsPoint, FitsReach, FitsTally}
+use Rattle.topo_certificate.specs.Stand.{IsAbove, IsMate, TurnsTo, FollowsAsNamed, row_named, row_start, row_face, point_named, start_count, rows_of_shell}
+use Rattle.topo_certificate.specs.Stand.{loops_of_shell}
 use Rattle.topo_certificate.specs.declared.due.Due.{Due}
 use Rattle.topo_certificate.proofs.CornerFits.{named_below}
 
@@ -38,17 +41,20 @@ tally_due_decided due = decided_four (decided_same due.edges 0) (decided_same du
 pub shell_decided : (s : SolidData) (at : Stand) (k : ℕ) (counts : ShellCounts) → Decided (FitsShell s at k counts)
 shell_decided s at k counts =
     let d : ShellRows = rows_of_shell s k in
-    decided_alike (λ ((n, t, two), (r, e, c, f)). record { next = n; there = t; two_rows_each = two; rows_counted = r; edges_counted = e; corners_counted = c; faces_counted = f })
+    decided_alike (λ ((n, t, two), (r, e, c, f)).
+    record { next = n; there = t; two_rows_each = two; rows_counted = r; edges_counted = e; corners_counted = c; faces_counted = f })
     (λ h. ((h.next, h.there, h.two_rows_each), (h.rows_counted, h.edges_counted, h.corners_counted, h.faces_counted)))
     (decided_both (decided_three (decided_same k (at.shell + 1)) (decided_below k (length s.shells + 1)) (decided_same (2 * counts.edges) counts.rows))
-    (decided_four (decided_same counts.rows (length d.rows)) (decided_same counts.edges (length d.edges)) (decided_same counts.corners (length d.vertices)) (decided_same counts.faces d.face_count)))
+    (decided_four (decided_same counts.rows (length d.rows)) (decided_same counts.edges (length d.edges)) (decided_same counts.corners (length d.vertices))
+    (decided_same counts.faces d.face_count)))
 
 pub tally_decided : (s : SolidData) (k : ℕ) (t : Tally) → Decided (FitsTally s k t)
 tally_decided s k t =
     let d : ShellRows = rows_of_shell s k in
     decided_alike (λ (v, e, f, l). record { vertices_counted = v; edges_counted = e; faces_counted = f; loops_counted = l })
     (λ h. (h.vertices_counted, h.edges_counted, h.faces_counted, h.loops_counted))
-    (decided_four (decided_same t.vertices (length d.vertices)) (decided_same t.edges (length d.edges)) (decided_same t.faces d.face_count) (decided_same t.loops (loops_of_shell s k)))
+    (decided_four (decided_same t.vertices (length d.vertices)) (decided_same t.edges (length d.edges)) (decided_same t.faces d.face_count)
+    (decided_same t.loops (loops_of_shell s k)))
 
 -- Edge lines.
 
@@ -57,7 +63,8 @@ above_decided None n = inl tt
 above_decided (Some m) n = decided_below m n
 
 edge_id_decided : (a b : EdgeId) → Decided (a ≡ b)
-edge_id_decided a b = decided_alike (λ e. (let same : ◌≡◌ {A = EdgeId} (record { 0 = a.0 }) (record { 0 = b.0 }) = ap (λ (n : ℕ). record { 0 = n }) e in same)) (λ e. ap (λ (x : EdgeId). x.0) e) (decided_same a.0 b.0)
+edge_id_decided a b = decided_alike (λ e. (let same : ◌≡◌ {A = EdgeId} (record { 0 = a.0 }) (record { 0 = b.0 }) = ap (λ (n : ℕ). record { 0 = n }) e in same))
+    (λ e. ap (λ (x : EdgeId). x.0) e) (decided_same a.0 b.0)
 
 -- what a fitting edge line asks of its rows
 abbrev AreEdgeRows : Stand → Row → Row → Type 0
@@ -65,7 +72,8 @@ AreEdgeRows at a b = (a.edge ≡ b.edge) × (a.along ≡ true) × (b.along ≡ f
 
 edge_rows : (d : ShellRows) (at : Stand) (a b : ℕ) (x y : Row) → row_named d a ≡ Some x → row_named d b ≡ Some y → FitsEdge d at a b → AreEdgeRows at x y
 edge_rows d at a b x y at_a at_b h =
-    subst (λ p. AreEdgeRows at p y) (same_Some h.along_row x (sym h.at_a ∙ at_a)) (subst (AreEdgeRows at h.along_row) (same_Some h.against_row y (sym h.at_b ∙ at_b)) (h.one_edge, h.along, h.against, h.rises))
+    subst (λ p. AreEdgeRows at p y) (same_Some h.along_row x (sym h.at_a ∙ at_a))
+    (subst (AreEdgeRows at h.along_row) (same_Some h.against_row y (sym h.at_b ∙ at_b)) (h.one_edge, h.along, h.against, h.rises))
 
 pub edge_decided : (d : ShellRows) (at : Stand) (a b : ℕ) → Decided (FitsEdge d at a b)
 edge_decided d at a b = by_rows (row_named d a) (row_named d b) refl refl
@@ -74,7 +82,8 @@ edge_decided d at a b = by_rows (row_named d a) (row_named d b) refl refl
     by_rows None p at_a at_b = inr (λ h. let e : None ≡ Some h.along_row = sym at_a ∙ h.at_a in cc)
     by_rows (Some x) None at_a at_b = inr (λ h. let e : None ≡ Some h.against_row = sym at_b ∙ h.at_b in cc)
     by_rows (Some x) (Some y) at_a at_b =
-        decided_alike (λ (one, along, against, rises). record { along_row = x; against_row = y; at_a = at_a; at_b = at_b; one_edge = one; along = along; against = against; rises = rises })
+        decided_alike (λ (one, along, against, rises).
+        record { along_row = x; against_row = y; at_a = at_a; at_b = at_b; one_edge = one; along = along; against = against; rises = rises })
         (edge_rows d at a b x y at_a at_b)
         (decided_four (edge_id_decided x.edge y.edge) (decided_bool x.along true) (decided_bool y.along false) (above_decided at.last_edge x.edge.0))
 
@@ -97,7 +106,8 @@ follows_below d (suc r) (suc s) h = omega (arith, slice_get_within d.follows r s
 turns_decided : (d : ShellRows) (mates : List (ℕ × ℕ)) (r s : ℕ) → Decided (TurnsTo d mates r s)
 turns_decided d mates r s =
     decided_alike (λ (m, lt, (is, follows)). (m, is, follows)) (λ (m, is, follows). (m, follows_below d m s follows, (is, follows)))
-    (decided_bounded (λ m. IsMate mates r m × FollowsAsNamed d m s) (λ m. decided_both (mate_decided mates r m) (follows_decided d m s)) (suc (length d.follows)))
+    (decided_bounded (λ m. IsMate mates r m × FollowsAsNamed d m s) (λ m. decided_both (mate_decided mates r m) (follows_decided d m s))
+    (suc (length d.follows)))
 
 -- what a fitting corner line asks of its vertex
 abbrev IsCornerVertex : ShellRows → Stand → ℕ → ℕ → Type 0
@@ -109,9 +119,11 @@ corner_decided d at r rs = by_vertex (row_start (row_named d r)) refl
     by_vertex : (o : Option ℕ) → row_start (row_named d r) ≡ o → Decided (FitsCorner d at r rs)
     by_vertex None lies = inr (λ h. let e : None ≡ Some h.vertex = sym lies ∙ h.lies_at in cc)
     by_vertex (Some v) lies =
-        decided_alike (λ (turns, least, (whole, none, rises)). record { vertex = v; lies_at = lies; turns = turns; least = least; whole = whole; no_point = none; rises = rises })
+        decided_alike (λ (turns, least, (whole, none, rises)).
+        record { vertex = v; lies_at = lies; turns = turns; least = least; whole = whole; no_point = none; rises = rises })
         (λ h. (h.turns, h.least, subst (IsCornerVertex d at (length (r ∷ rs))) (same_Some h.vertex v (sym h.lies_at ∙ lies)) (h.whole, h.no_point, h.rises)))
-        (decided_three (decided_zip (TurnsTo d at.mates) (turns_decided d at.mates) (r ∷ rs) (next_of_each (r ∷ rs))) (decided_all (λ x. r < x) (decided_below r) rs)
+        (decided_three (decided_zip (TurnsTo d at.mates) (turns_decided d at.mates) (r ∷ rs) (next_of_each (r ∷ rs)))
+        (decided_all (λ x. r < x) (decided_below r) rs)
         (decided_three (decided_same (length (r ∷ rs)) (start_count d v)) (decided_same (point_count d v) 0) (above_decided at.last_vertex v)))
 
 -- Point lines.
@@ -153,13 +165,23 @@ reaches_decided d at r mate = by_faces (row_face (row_named d r)) (row_face (row
     by_faces (Some f) None on_r on_mate = inr (λ h. let e : None ≡ Some h.known = sym on_mate ∙ h.on_known in cc)
     by_faces (Some f) (Some k) on_r on_mate =
         decided_alike (λ (is, new, old). record { face = f; known = k; mates = is; on_face = on_r; on_known = on_mate; new = new; old = old })
-        (λ h. (h.mates, subst (λ x. ¬ Contains at.reached x) (same_Some h.face f (sym h.on_face ∙ on_r)) h.new, subst (λ x. Contains at.reached x) (same_Some h.known k (sym h.on_known ∙ on_mate)) h.old))
+        (λ h. (
+          h.mates,
+          subst (λ x. ¬ Contains at.reached x) (same_Some h.face f (sym h.on_face ∙ on_r)) h.new,
+          subst (λ x. Contains at.reached x)
+              (same_Some h.known k (sym h.on_known ∙ on_mate)) h.old,
+        ))
         (decided_three (mate_decided at.mates r mate) (decided_not (decided_contains decided_same at.reached f)) (decided_contains decided_same at.reached k))
 
 pub reach_decided : (d : ShellRows) (at : Stand) (r : ℕ) → Decided (FitsReach d at r)
 reach_decided d at r =
-    decided_alike (λ (m, lt, h). record { mate = m; face = h.face; known = h.known; mates = h.mates; on_face = h.on_face; on_known = h.on_known; new = h.new; old = h.old })
-    (λ h. (h.mate, mate_below d h.mate h.known (row_named d h.mate) refl h.on_known, record { face = h.face; known = h.known; mates = h.mates; on_face = h.on_face; on_known = h.on_known; new = h.new; old = h.old }))
+    decided_alike (λ (m, lt, h).
+    record { mate = m; face = h.face; known = h.known; mates = h.mates; on_face = h.on_face; on_known = h.on_known; new = h.new; old = h.old })
+    (λ h. (
+      h.mate,
+      mate_below d h.mate h.known (row_named d h.mate) refl h.on_known,
+      record { face = h.face; known = h.known; mates = h.mates; on_face = h.on_face; on_known = h.on_known; new = h.new; old = h.old },
+    ))
     (decided_bounded (ReachesBy d at r) (reaches_decided d at r) (suc (length d.rows)))
 
 -- Lines of all kinds.

@@ -22,23 +22,29 @@ mate_above mates (suc r) m e = above (slice_get mates r) m e
 pub no_reach_mate : (d : ShellRows) (at : Stand) (mates : List ℕ) (row : ℕ) → HoldsMates mates at.mates → mate_in mates row ≡ None → FitsReach d at row → ⊥
 no_reach_mate d at mates row holds none h = none_some (mate_in mates row) h.mate none ((holds row h.mate).0 h.mates)
 
-reach_mate : (d : ShellRows) (at : Stand) (mates : List ℕ) (row m : ℕ) → HoldsMates mates at.mates → mate_in mates row ≡ Some m → (h : FitsReach d at row) → h.mate ≡ m
+reach_mate : (d : ShellRows) (at : Stand) (mates : List ℕ) (row m : ℕ) → HoldsMates mates at.mates → mate_in mates row ≡ Some m → (h : FitsReach d at row)
+    → h.mate ≡ m
 reach_mate d at mates row m holds is h = same_Some h.mate m (sym ((holds row h.mate).0 h.mates) ∙ is)
 
-pub no_reach_row : (d : ShellRows) (at : Stand) (mates : List ℕ) (row m : ℕ) → HoldsMates mates at.mates → mate_in mates row ≡ Some m → row_named d m ≡ None → FitsReach d at row → ⊥
+pub no_reach_row : (d : ShellRows) (at : Stand) (mates : List ℕ) (row m : ℕ) → HoldsMates mates at.mates → mate_in mates row ≡ Some m → row_named d m ≡ None
+    → FitsReach d at row → ⊥
 no_reach_row d at mates row m holds is none h =
     let e = reach_mate d at mates row m holds is h in
     none_some (row_face (row_named d m)) h.known (ap row_face none) (subst (λ z. row_face (row_named d z) ≡ Some h.known) e h.on_known)
 
-pub reach_iff : (d : ShellRows) (at : Stand) (mates : List ℕ) (reached : List Bool) (row m : ℕ) (x y : Row) → HoldsMates mates at.mates → HoldsFaces reached at.reached
+pub reach_iff : (d : ShellRows) (at : Stand) (mates : List ℕ) (reached : List Bool) (row m : ℕ) (x y : Row) → HoldsMates mates at.mates
+    → HoldsFaces reached at.reached
     → mate_in mates row ≡ Some m → row_named d row ≡ Some x → row_named d m ≡ Some y
     → FitsReach d at row ↔ (¬ (slice_get reached x.at.face.0 ≡ Some true)) × (slice_get reached y.at.face.0 ≡ Some true)
 reach_iff d at mates reached row m x y holds faces is hx hy = (
   λ h. (let e = reach_mate d at mates row m holds is h in
       let ef : h.face ≡ x.at.face.0 = same_Some h.face x.at.face.0 (sym h.on_face ∙ ap row_face hx) in
       let on : row_face (row_named d m) ≡ Some h.known = subst (λ z. row_face (row_named d z) ≡ Some h.known) e h.on_known in
-      let ek : h.known ≡ y.at.face.0 = same_Some h.known y.at.face.0 (sym on ∙ ap row_face hy) in
-      ((λ k. h.new (subst (Contains at.reached) (sym ef) ((faces x.at.face.0).1 k))), subst (λ z. slice_get reached z ≡ Some true) ek ((faces h.known).0 h.old))),
+      let ek : h.known ≡ y.at.face.0 = same_Some h.known y.at.face.0 (sym on ∙ ap row_face hy) in (
+        (λ k. h.new (subst (Contains at.reached) (sym ef) ((faces x.at.face.0).1 k))),
+        subst (λ z. slice_get reached z ≡ Some true) ek
+            ((faces h.known).0 h.old),
+      )),
   λ p. record {
     mate = m;
     face = x.at.face.0;
@@ -51,7 +57,8 @@ reach_iff d at mates reached row m x y holds faces is hx hy = (
   },
 )
 
-pub turn_none : (d : ShellRows) (pairs : List (ℕ × ℕ)) (mates : List ℕ) (row s : ℕ) → HoldsMates mates pairs → mate_in mates row ≡ None → TurnsTo d pairs row s → ⊥
+pub turn_none : (d : ShellRows) (pairs : List (ℕ × ℕ)) (mates : List ℕ) (row s : ℕ) → HoldsMates mates pairs → mate_in mates row ≡ None → TurnsTo d pairs row s
+    → ⊥
 turn_none d pairs mates row s holds none (m, is_mate, on) = none_some (mate_in mates row) m none ((holds row m).0 is_mate)
 
 follows_to : (d : ShellRows) (m s : ℕ) → FollowsAsNamed d m s → slice_get d.follows (m - 1) ≡ Some (s - 1) × (0 < s)
@@ -69,12 +76,14 @@ follows_from_array d (suc k) n h f = let a : suc k - 1 ≡ k = omega arith in ap
 turn_mate : (pairs : List (ℕ × ℕ)) (mates : List ℕ) (row m k : ℕ) → HoldsMates mates pairs → mate_in mates row ≡ Some m → IsMate pairs row k → k ≡ m
 turn_mate pairs mates row m k holds is mate = same_Some k m (sym ((holds row k).0 mate) ∙ is)
 
-pub turn_end : (d : ShellRows) (pairs : List (ℕ × ℕ)) (mates : List ℕ) (row m s : ℕ) → HoldsMates mates pairs → mate_in mates row ≡ Some m → slice_get d.follows (m - 1) ≡ None → TurnsTo d pairs row s → ⊥
+pub turn_end : (d : ShellRows) (pairs : List (ℕ × ℕ)) (mates : List ℕ) (row m s : ℕ) → HoldsMates mates pairs → mate_in mates row ≡ Some m
+    → slice_get d.follows (m - 1) ≡ None → TurnsTo d pairs row s → ⊥
 turn_end d pairs mates row m s holds is none (k, is_mate, on) =
     let e = turn_mate pairs mates row m k holds is is_mate in
     none_some (slice_get d.follows (m - 1)) (s - 1) none (follows_to d m s (subst (λ z. FollowsAsNamed d z s) e on)).0
 
-pub turn_iff : (d : ShellRows) (pairs : List (ℕ × ℕ)) (mates : List ℕ) (row m n s : ℕ) → HoldsMates mates pairs → mate_in mates row ≡ Some m → slice_get d.follows (m - 1) ≡ Some n
+pub turn_iff : (d : ShellRows) (pairs : List (ℕ × ℕ)) (mates : List ℕ) (row m n s : ℕ) → HoldsMates mates pairs → mate_in mates row ≡ Some m
+    → slice_get d.follows (m - 1) ≡ Some n
     → (Some (n + 1) ≡ Some s) ↔ TurnsTo d pairs row s
 turn_iff d pairs mates row m n s holds is next = (
   λ e. (let same : suc n ≡ s = (let f : n + 1 ≡ s = same_Some (n + 1) s e in omega (arith, f)) in
@@ -86,7 +95,10 @@ turn_iff d pairs mates row m n s holds is next = (
 )
 
 -- where the row is there, and its mate, a reach line is fitting by the two faces alone
-pub reach_on : (d : ShellRows) (at : Stand) (mates : List ℕ) (reached : List Bool) (row m : ℕ) (x y : Row) → HoldsMates mates at.mates → HoldsFaces reached at.reached
-    → mate_in mates row ≡ Some m → row_named d row ≡ Some x → row_named d m ≡ Some y → (slice_get reached x.at.face.0 ≡ Some true → ⊥) → slice_get reached y.at.face.0 ≡ Some true
+pub reach_on : (d : ShellRows) (at : Stand) (mates : List ℕ) (reached : List Bool) (row m : ℕ) (x y : Row) → HoldsMates mates at.mates
+    → HoldsFaces reached at.reached
+    → mate_in mates row ≡ Some m → row_named d row ≡ Some x → row_named d m ≡ Some y → (slice_get reached x.at.face.0 ≡ Some true → ⊥)
+    → slice_get reached y.at.face.0 ≡ Some true
     → FitsReach d at row × (row_face (row_named d row) ≡ Some x.at.face.0)
-reach_on d at mates reached row m x y holds faces is hx hy new old = ((reach_iff d at mates reached row m x y holds faces is hx hy).1 (new, old), ap row_face hx)
+reach_on d at mates reached row m x y holds faces is hx hy new old =
+    ((reach_iff d at mates reached row m x y holds faces is hx hy).1 (new, old), ap row_face hx)

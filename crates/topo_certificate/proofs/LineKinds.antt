@@ -5,13 +5,15 @@ use Rattle.solid_data.specs.SolidData.{SolidData}
 use Rattle.cert_lines.specs.Line.{CertLine, head, solid, shell, edge, corner, point, reach, tally, end, spelling}
 use Rattle.cert_lines.specs.declared.counts.ShellCounts.{ShellCounts}
 use Rattle.cert_lines.specs.declared.version.Version.{Version}
-use Rattle.topo_certificate.specs.Stand.{FitsOpen, FitsEdge, FitsCorner, FitsPoint, FitsReach, NoneDue, is_shell, number_of, asked, rows_of_shell, current_rows, Stand, is_last, is_tally}
+use Rattle.topo_certificate.specs.Stand.{FitsOpen, FitsEdge, FitsCorner, FitsPoint, FitsReach, NoneDue, is_shell, number_of, asked, rows_of_shell, current_rows}
+use Rattle.topo_certificate.specs.Stand.{Stand, is_last, is_tally}
 use Rattle.solid_data.proofs.Decisions.{Decided, decided_same, decided_below, decided_both}
 use Rattle.cert_lines.specs.declared.counts.Tally.{Tally}
 use Rattle.topo_certificate.specs.Upgraded.{with_tallies}
 use Rattle.cert_lines.specs.Said.{IsRowLine}
 use Rattle.topo_certificate.proofs.Facts.{Good, AllFit, Facts, facts_begin, facts_edge, facts_corner, facts_point, facts_reach}
-use Rattle.topo_certificate.proofs.FitsDecided.{none_due_decided, corner_due_decided, reach_due_decided, tally_due_decided, shell_decided, tally_decided, edge_decided, corner_decided, point_decided, reach_decided}
+use Rattle.topo_certificate.proofs.FitsDecided.{none_due_decided, corner_due_decided, reach_due_decided, tally_due_decided, shell_decided, tally_decided}
+use Rattle.topo_certificate.proofs.FitsDecided.{edge_decided, corner_decided, point_decided, reach_decided}
 use Rattle.topo_certificate.proofs.SameStand.{SameStand, fits_edge, fits_corner, fits_point, fits_reach, corner_due, reach_due}
 
 -- the first of two tests holds where one does and the second doesn't
@@ -109,17 +111,22 @@ open_decided s at (reach r) = decided_both (reach_due_decided at.due) (reach_dec
 open_decided s at (tally t) = decided_both (tally_due_decided at.due) (tally_decided s at.shell t)
 open_decided s at end = decided_both (none_due_decided at.due) (decided_same at.shell (length s.shells))
 
-pub facts_of : (version : Version) (s : SolidData) → Good s → (lines : List CertLine) (k : ℕ) → number_of is_shell lines ≡ suc k → AllFit version s lines → Facts version s lines (current_rows s lines)
+pub facts_of : (version : Version) (s : SolidData) → Good s → (lines : List CertLine) (k : ℕ) → number_of is_shell lines ≡ suc k → AllFit version s lines
+    → Facts version s lines (current_rows s lines)
 facts_of version s good [] k number fit = absurd (omega (arith, number))
 facts_of version s good (head v ∷ lines) k number fit = absurd fit.0.1
 facts_of version s good (solid n ∷ lines) k number fit = absurd fit.0.1
 facts_of version s good (shell j c ∷ lines) k number fit = facts_begin version s lines j c fit.0.1.1
 facts_of version s good (edge a b ∷ lines) k number fit =
-    facts_edge version s lines (current_rows s lines) a b (good (number_of is_shell lines)) refl (facts_of version s good lines k number fit.1) fit.0.1.0 fit.0.1
+    facts_edge version s lines (current_rows s lines) a b (good (number_of is_shell lines)) refl (facts_of version s good lines k number fit.1) fit.0.1.0
+    fit.0.1
 facts_of version s good (corner [] ∷ lines) k number fit = absurd fit.0.1
-facts_of version s good (corner (r ∷ rs) ∷ lines) k number fit = facts_corner version s lines (current_rows s lines) r rs (good (number_of is_shell lines)) refl (facts_of version s good lines k number fit.1) fit.0.1
-facts_of version s good (point face l ∷ lines) k number fit = facts_point version s lines (current_rows s lines) face l (good (number_of is_shell lines)) refl (facts_of version s good lines k number fit.1) fit.0.1
-facts_of version s good (reach r ∷ lines) k number fit = facts_reach version s lines (current_rows s lines) r (good (number_of is_shell lines)) refl (facts_of version s good lines k number fit.1) fit.0.1
+facts_of version s good (corner (r ∷ rs) ∷ lines) k number fit = facts_corner version s lines (current_rows s lines) r rs (good (number_of is_shell lines))
+    refl (facts_of version s good lines k number fit.1) fit.0.1
+facts_of version s good (point face l ∷ lines) k number fit = facts_point version s lines (current_rows s lines) face l (good (number_of is_shell lines)) refl
+    (facts_of version s good lines k number fit.1) fit.0.1
+facts_of version s good (reach r ∷ lines) k number fit = facts_reach version s lines (current_rows s lines) r (good (number_of is_shell lines)) refl
+    (facts_of version s good lines k number fit.1) fit.0.1
 facts_of version s good (tally t ∷ lines) k number fit =
     let facts : Facts version s lines (current_rows s lines) = facts_of version s good lines k number fit.1 in
     record { edge_facts = facts.edge_facts; corner_facts = facts.corner_facts; reach_facts = facts.reach_facts; asks = facts.asks; twice = facts.twice }
@@ -128,20 +135,26 @@ facts_of version s good (end ∷ lines) k number fit =
     record { edge_facts = facts.edge_facts; corner_facts = facts.corner_facts; reach_facts = facts.reach_facts; asks = facts.asks; twice = facts.twice }
 
 -- What fits one stand fits one that differs at most in TALLY lines.
-pub fits_too : (s : SolidData) (a b : Stand) (l : CertLine) → is_shell l ≡ false → is_last l ≡ false → is_tally l ≡ false → SameStand a b → FitsOpen s a l → FitsOpen s b l
+pub fits_too : (s : SolidData) (a b : Stand) (l : CertLine) → is_shell l ≡ false → is_last l ≡ false → is_tally l ≡ false → SameStand a b → FitsOpen s a l
+    → FitsOpen s b l
 fits_too s a b (head v) e f g same fits = fits
 fits_too s a b (solid n) e f g same fits = fits
 fits_too s a b (shell k c) e f g same fits = absurd cc
-fits_too s a b (edge x y) e f g same fits = (subst (λ n. 0 < n) (sym same.edges) fits.0, subst (λ d. FitsEdge d b x y) (ap (rows_of_shell s) (sym same.shell)) (fits_edge _ a b x y same fits.1))
+fits_too s a b (edge x y) e f g same fits =
+    (subst (λ n. 0 < n) (sym same.edges) fits.0, subst (λ d. FitsEdge d b x y) (ap (rows_of_shell s) (sym same.shell)) (fits_edge _ a b x y same fits.1))
 fits_too s a b (corner []) e f g same fits = fits
-fits_too s a b (corner (r ∷ rs)) e f g same fits = (corner_due a b same fits.0, subst (λ d. FitsCorner d b r rs) (ap (rows_of_shell s) (sym same.shell)) (fits_corner _ a b r rs same fits.1))
-fits_too s a b (point x y) e f g same fits = (corner_due a b same fits.0, subst (λ d. FitsPoint d b x y) (ap (rows_of_shell s) (sym same.shell)) (fits_point _ a b x y same fits.1))
-fits_too s a b (reach r) e f g same fits = (reach_due a b same fits.0, subst (λ d. FitsReach d b r) (ap (rows_of_shell s) (sym same.shell)) (fits_reach _ a b r same fits.1))
+fits_too s a b (corner (r ∷ rs)) e f g same fits =
+    (corner_due a b same fits.0, subst (λ d. FitsCorner d b r rs) (ap (rows_of_shell s) (sym same.shell)) (fits_corner _ a b r rs same fits.1))
+fits_too s a b (point x y) e f g same fits =
+    (corner_due a b same fits.0, subst (λ d. FitsPoint d b x y) (ap (rows_of_shell s) (sym same.shell)) (fits_point _ a b x y same fits.1))
+fits_too s a b (reach r) e f g same fits =
+    (reach_due a b same fits.0, subst (λ d. FitsReach d b r) (ap (rows_of_shell s) (sym same.shell)) (fits_reach _ a b r same fits.1))
 fits_too s a b (tally t) e f g same fits = absurd cc
 fits_too s a b end e f g same fits = absurd cc
 
 -- before a line that begins no shell and doesn't end the certificate no TALLY line is put
-pub kept_there : (s : SolidData) (n : ℕ) (l : CertLine) (lines : List (List ℕ)) → is_shell l ≡ false → is_last l ≡ false → with_tallies s n (spelling l ∷ lines) ≡ spelling l ∷ with_tallies s n lines
+pub kept_there : (s : SolidData) (n : ℕ) (l : CertLine) (lines : List (List ℕ)) → is_shell l ≡ false → is_last l ≡ false
+    → with_tallies s n (spelling l ∷ lines) ≡ spelling l ∷ with_tallies s n lines
 kept_there s n (head v) lines e f = refl
 kept_there s n (solid m) lines e f = refl
 kept_there s n (shell k c) lines e f = absurd cc

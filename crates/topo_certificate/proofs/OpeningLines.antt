@@ -31,7 +31,8 @@ kept_all old bytes now i is past few =
 
 pub kept_full : (old bytes now : List ℕ) (i : ℕ) → now ≡ old ++ take i bytes → length now ≡ 64 → now ≡ take 64 (old ++ bytes)
 kept_full old bytes now i is full =
-    let whole : old ++ bytes ≡ now ++ drop i bytes = ap (λ (x : List ℕ). old ++ x) (sym (take-append-drop i bytes)) ∙ sym (append_assoc old (take i bytes) (drop i bytes)) ∙ ap (λ (x : List ℕ). x ++ drop i bytes) (sym is) in
+    let whole : old ++ bytes ≡ now ++ drop i bytes = ap (λ (x : List ℕ). old ++ x) (sym (take-append-drop i bytes))
+    ∙ sym (append_assoc old (take i bytes) (drop i bytes)) ∙ ap (λ (x : List ℕ). x ++ drop i bytes) (sym is) in
     sym (ap (take 64) whole ∙ take_at now (drop i bytes) 64 full)
 
 -- ---- what a line shows
@@ -44,7 +45,8 @@ pub solid_wrong : (line : List ℕ) (m : Misfit) → IsMisfit IsSolid line m →
 solid_wrong line misfit.Misspelt h = inl (h, refl)
 solid_wrong line misfit.Unfit h = inr (h, refl)
 
-same_wrong : (Wanted : CertLine → Type 0) (number : ℕ) (bytes full : List ℕ) (bad : Illegal) → SameLine first_limit bytes full → IsWrong Wanted number bytes bad → IsWrong Wanted number full bad
+same_wrong : (Wanted : CertLine → Type 0) (number : ℕ) (bytes full : List ℕ) (bad : Illegal) → SameLine first_limit bytes full
+    → IsWrong Wanted number bytes bad → IsWrong Wanted number full bad
 same_wrong Wanted number bytes full bad same h = ⊎_elim (λ m. inl (same.misspelt m.0, m.1)) (λ u. inr (other u.0, u.1)) h
   where
     other : IsOther Wanted bytes → IsOther Wanted full
@@ -52,7 +54,8 @@ same_wrong Wanted number bytes full bad same h = ⊎_elim (λ m. inl (same.missp
 
 -- a text of one line, or of two
 one_line : (p more : List ℕ) → is_in_line p ≡ true → cut_lines (ended p ++ more) ≡ ended p ∷ cut_lines more
-one_line p more h = cut_begun (ended p ++ more) (p ∷ []) more (record { whole = ap (λ (x : List ℕ). x ++ more) (sym (append-nil (ended p))); in_line = and_from (is_in_line p) true h refl })
+one_line p more h = cut_begun (ended p ++ more) (p ∷ []) more
+    (record { whole = ap (λ (x : List ℕ). x ++ more) (sym (append-nil (ended p))); in_line = and_from (is_in_line p) true h refl })
 
 two_lines : (p q more : List ℕ) → is_in_line p ≡ true → is_in_line q ≡ true → cut_lines (ended p ++ (ended q ++ more)) ≡ ended p ∷ ended q ∷ cut_lines more
 two_lines p q more h k = one_line p (ended q ++ more) h ∙ ap (λ (ls : List (List ℕ)). ended p ∷ ls) (one_line q more k)
@@ -61,7 +64,8 @@ none_kept : StandsForRest [] []
 none_kept = (refl, refl)
 
 -- the first line ends
-first_next : (kept text front bytes : List ℕ) (new : Stage) → StandsForRest kept text → is_in_line front ≡ true → SameLine first_limit bytes (ended (text ++ front)) → StageAfter stage.First bytes new → Shows new [] (text ++ ended front)
+first_next : (kept text front bytes : List ℕ) (new : Stage) → StandsForRest kept text → is_in_line front ≡ true
+    → SameLine first_limit bytes (ended (text ++ front)) → StageAfter stage.First bytes new → Shows new [] (text ++ ended front)
 first_next kept text front bytes stage.First s h same b = absurd b
 first_next kept text front bytes (stage.Second v) s h same b = record {
   first = text ++ front;
@@ -77,28 +81,35 @@ first_next kept text front bytes (stage.Failed bad) s h same b = λ more.
     subst (λ (ls : List (List ℕ)). IsFirstWrong ls bad) (sym (ap cut_lines e ∙ one_line (text ++ front) more (both_in_line text front s.1 h)))
     (inl (same_wrong IsHead 1 bytes (ended (text ++ front)) bad same b))
 
-two_whole : (v : Version) (kept text front more : List ℕ) (s : HasHead v kept text) → (text ++ ended front) ++ more ≡ ended s.first ++ (ended (s.rest ++ front) ++ more)
+two_whole : (v : Version) (kept text front more : List ℕ) (s : HasHead v kept text) → (text ++ ended front) ++ more ≡ ended s.first
+    ++ (ended (s.rest ++ front) ++ more)
 two_whole v kept text front more s =
-    ap (λ (x : List ℕ). (x ++ ended front) ++ more) s.whole ∙ ap (λ (x : List ℕ). x ++ more) (append_assoc (ended s.first) s.rest (ended front) ∙ ap (λ (x : List ℕ). ended s.first ++ x) (sym (append_assoc s.rest front (10 ∷ []))))
+    ap (λ (x : List ℕ). (x ++ ended front) ++ more) s.whole
+    ∙ ap (λ (x : List ℕ). x ++ more)
+    (append_assoc (ended s.first) s.rest (ended front) ∙ ap (λ (x : List ℕ). ended s.first ++ x) (sym (append_assoc s.rest front (10 ∷ []))))
     ∙ append_assoc (ended s.first) (ended (s.rest ++ front)) more
 
 -- the second line ends
-second_next : (v : Version) (kept text front bytes : List ℕ) (new : Stage) (s : HasHead v kept text) → is_in_line front ≡ true → SameLine first_limit bytes (ended (s.rest ++ front)) → StageAfter (stage.Second v) bytes new → Shows new [] (text ++ ended front)
+second_next : (v : Version) (kept text front bytes : List ℕ) (new : Stage) (s : HasHead v kept text) → is_in_line front ≡ true
+    → SameLine first_limit bytes (ended (s.rest ++ front)) → StageAfter (stage.Second v) bytes new → Shows new [] (text ++ ended front)
 second_next v kept text front bytes stage.First s h same b = absurd b
 second_next v kept text front bytes (stage.Second w) s h same b = absurd b
-second_next v kept text front bytes (stage.Done w n) s h same b = λ more. subst (λ (x : Version). Opens ((text ++ ended front) ++ more) x n.0 (cut_lines more)) (sym b.0) (record {
-  first = ended s.first;
-  second = ended (s.rest ++ front);
-  cut = ap cut_lines (two_whole v kept text front more s) ∙ two_lines s.first (s.rest ++ front) more s.in_line (both_in_line s.rest front s.stands.1 h);
-  is_head = s.is_head;
-  names = same.line (solid n.0) b.1;
-})
+second_next v kept text front bytes (stage.Done w n) s h same b = λ more. subst (λ (x : Version). Opens ((text ++ ended front) ++ more) x n.0 (cut_lines more))
+    (sym b.0) (record {
+      first = ended s.first;
+      second = ended (s.rest ++ front);
+      cut = ap cut_lines (two_whole v kept text front more s) ∙ two_lines s.first (s.rest ++ front) more s.in_line (both_in_line s.rest front s.stands.1 h);
+      is_head = s.is_head;
+      names = same.line (solid n.0) b.1;
+    })
 second_next v kept text front bytes (stage.Failed bad) s h same b = λ more.
-    subst (λ (ls : List (List ℕ)). IsFirstWrong ls bad) (sym (ap cut_lines (two_whole v kept text front more s) ∙ two_lines s.first (s.rest ++ front) more s.in_line (both_in_line s.rest front s.stands.1 h)))
+    subst (λ (ls : List (List ℕ)). IsFirstWrong ls bad)
+    (sym (ap cut_lines (two_whole v kept text front more s) ∙ two_lines s.first (s.rest ++ front) more s.in_line (both_in_line s.rest front s.stands.1 h)))
     (inr (v, s.is_head, same_wrong IsSolid 2 bytes (ended (s.rest ++ front)) bad same b))
 
 pub next_shows : (old : Opened) (text front bytes : List ℕ) (new : Stage) → IsWaiting old.stage → is_in_line front ≡ true
-    → ((rest : List ℕ) → StandsForRest old.kept rest → SameLine first_limit bytes (ended (rest ++ front))) → StageAfter old.stage bytes new → IsOpening old text → Shows new [] (text ++ ended front)
+    → ((rest : List ℕ) → StandsForRest old.kept rest → SameLine first_limit bytes (ended (rest ++ front))) → StageAfter old.stage bytes new
+    → IsOpening old text → Shows new [] (text ++ ended front)
 next_shows old text front bytes new waiting h same behind shows = by_stage old.stage waiting behind shows
   where
     by_stage : (o : Stage) → IsWaiting o → StageAfter o bytes new → Shows o old.kept text → Shows new [] (text ++ ended front)
@@ -110,21 +121,29 @@ next_shows old text front bytes new waiting h same behind shows = by_stage old.s
 none_rest : (kept rest : List ℕ) → StandsForRest kept rest → length kept ≤ 0 → rest ≡ []
 none_rest kept rest s h = nil rest (omega (arith, h, ap length s.0, length-take 64 rest))
 
-pub whole_line : (old : Opened) (text front line : List ℕ) (new : Stage) → IsWaiting old.stage → length old.kept ≤ 0 → is_in_line front ≡ true → line ≡ ended front → StageAfter old.stage line new → IsOpening old text → Shows new [] (text ++ line)
+pub whole_line : (old : Opened) (text front line : List ℕ) (new : Stage) → IsWaiting old.stage → length old.kept ≤ 0 → is_in_line front ≡ true
+    → line ≡ ended front → StageAfter old.stage line new → IsOpening old text → Shows new [] (text ++ line)
 whole_line old text front line new waiting empty h is behind shows =
     subst (λ (l : List ℕ). Shows new [] (text ++ l)) (sym is)
-    (next_shows old text front line new waiting h (λ rest s. same_whole first_limit line (ended (rest ++ front)) (is ∙ ap (λ (x : List ℕ). ended (x ++ front)) (sym (none_rest old.kept rest s empty)))) behind shows)
+    (next_shows old text front line new waiting h
+    (λ rest s. same_whole first_limit line (ended (rest ++ front)) (is ∙ ap (λ (x : List ℕ). ended (x ++ front)) (sym (none_rest old.kept rest s empty))))
+    behind shows)
 
-pub joined_line : (old : Opened) (text front line mid bytes : List ℕ) (new : Stage) → IsWaiting old.stage → is_in_line front ≡ true → line ≡ ended front → mid ≡ take first_limit (old.kept ++ take (length line - 1) line) → bytes ≡ ended mid
+pub joined_line : (old : Opened) (text front line mid bytes : List ℕ) (new : Stage) → IsWaiting old.stage → is_in_line front ≡ true → line ≡ ended front
+    → mid ≡ take first_limit (old.kept ++ take (length line - 1) line) → bytes ≡ ended mid
     → StageAfter old.stage bytes new → IsOpening old text → Shows new [] (text ++ line)
 joined_line old text front line mid bytes new waiting h is kept bytes-is behind shows =
     subst (λ (l : List ℕ). Shows new [] (text ++ l)) (sym is)
-    (next_shows old text front bytes new waiting h (λ rest s. same_kept first_limit bytes (rest ++ front) (bytes-is ∙ ap ended (kept ∙ ap (λ (x : List ℕ). take first_limit (old.kept ++ x)) (front_of front line is)
+    (next_shows old text front bytes new waiting h
+    (λ rest s. same_kept first_limit bytes (rest ++ front)
+    (bytes-is ∙ ap ended (kept ∙ ap (λ (x : List ℕ). take first_limit (old.kept ++ x)) (front_of front line is)
     ∙ ap (λ (x : List ℕ). take first_limit (x ++ front)) s.0 ∙ take_front first_limit rest front))) behind shows)
 
 -- the rest grows
-pub shows_more : (o : Stage) (kept text x new : List ℕ) → IsWaiting o → is_in_line x ≡ true → new ≡ take first_limit (kept ++ x) → Shows o kept text → Shows o new (text ++ x)
-shows_more stage.First kept text x new w h is s = (is ∙ ap (λ (l : List ℕ). take first_limit (l ++ x)) s.0 ∙ take_front first_limit text x, both_in_line text x s.1 h)
+pub shows_more : (o : Stage) (kept text x new : List ℕ) → IsWaiting o → is_in_line x ≡ true → new ≡ take first_limit (kept ++ x) → Shows o kept text
+    → Shows o new (text ++ x)
+shows_more stage.First kept text x new w h is s =
+    (is ∙ ap (λ (l : List ℕ). take first_limit (l ++ x)) s.0 ∙ take_front first_limit text x, both_in_line text x s.1 h)
 shows_more (stage.Second v) kept text x new w h is s = record {
   first = s.first;
   rest = s.rest ++ x;
@@ -145,7 +164,8 @@ few_kept now xs e = omega (arith, ap length e, length-take 64 xs)
 
 pub line_front : (text line after : List ℕ) → EndsFirst text line after → take (length line) text ≡ line
 line_front text line after e =
-    ap (take (length line)) (e.whole ∙ sym (append_assoc e.front (10 ∷ []) after) ∙ ap (λ (l : List ℕ). l ++ after) (sym e.line_is)) ∙ take_at line after (length line) refl
+    ap (take (length line)) (e.whole ∙ sym (append_assoc e.front (10 ∷ []) after) ∙ ap (λ (l : List ℕ). l ++ after) (sym e.line_is))
+    ∙ take_at line after (length line) refl
 
 -- ---- step by step
 
@@ -160,23 +180,30 @@ take_more piece used len =
     ap (λ (r : List ℕ). r ++ take len (drop used piece)) (sym (take-take used (used + len) piece (omega arith)))
     ∙ ap (λ (r : List ℕ). take used (take (used + len) piece) ++ r) (sym (drop-take used len piece)) ∙ take-append-drop used (take (used + len) piece)
 
-pub fed_next : (old : Opened) (piece : List ℕ) (now new : Opened) (used len : ℕ) (rest : List ℕ) → rest ≡ drop used piece → IsFedTo old piece now used → ((text : List ℕ) → IsOpening now text → IsOpening new (text ++ take len rest))
+pub fed_next : (old : Opened) (piece : List ℕ) (now new : Opened) (used len : ℕ) (rest : List ℕ) → rest ≡ drop used piece → IsFedTo old piece now used
+    → ((text : List ℕ) → IsOpening now text → IsOpening new (text ++ take len rest))
     → IsFedTo old piece new (used + len)
 fed_next old piece now new used len rest is fed next = λ text shows.
-    subst (IsOpening new) (append_assoc text (take used piece) (take len rest) ∙ ap (λ (r : List ℕ). text ++ (take used piece ++ take len r)) is ∙ ap (λ (r : List ℕ). text ++ r) (take_more piece used len)) (next (text ++ take used piece) (fed text shows))
+    subst (IsOpening new) (append_assoc text (take used piece) (take len rest) ∙ ap (λ (r : List ℕ). text ++ (take used piece ++ take len r)) is
+    ∙ ap (λ (r : List ℕ). text ++ r) (take_more piece used len)) (next (text ++ take used piece) (fed text shows))
 
-pub fed_all : (old : Opened) (piece : List ℕ) (now new : Opened) (used : ℕ) (rest text : List ℕ) → rest ≡ drop used piece → IsFedTo old piece now used → ((text : List ℕ) → IsOpening now text → IsOpening new (text ++ rest)) → IsOpening old text → IsOpening new (text ++ piece)
+pub fed_all : (old : Opened) (piece : List ℕ) (now new : Opened) (used : ℕ) (rest text : List ℕ) → rest ≡ drop used piece → IsFedTo old piece now used
+    → ((text : List ℕ) → IsOpening now text → IsOpening new (text ++ rest)) → IsOpening old text → IsOpening new (text ++ piece)
 fed_all old piece now new used rest text is fed next shows =
-    subst (IsOpening new) (append_assoc text (take used piece) rest ∙ ap (λ (r : List ℕ). text ++ (take used piece ++ r)) is ∙ ap (λ (r : List ℕ). text ++ r) (take-append-drop used piece)) (next (text ++ take used piece) (fed text shows))
+    subst (IsOpening new) (append_assoc text (take used piece) rest ∙ ap (λ (r : List ℕ). text ++ (take used piece ++ r)) is
+    ∙ ap (λ (r : List ℕ). text ++ r) (take-append-drop used piece)) (next (text ++ take used piece) (fed text shows))
 
 -- a line was bad: the bytes behind it don't matter
-pub fed_failed : (old : Opened) (piece : List ℕ) (new : Opened) (used : ℕ) (bad : Illegal) (text : List ℕ) → new.stage ≡ stage.Failed bad → IsFedTo old piece new used → IsOpening old text → IsOpening new (text ++ piece)
+pub fed_failed : (old : Opened) (piece : List ℕ) (new : Opened) (used : ℕ) (bad : Illegal) (text : List ℕ) → new.stage ≡ stage.Failed bad
+    → IsFedTo old piece new used → IsOpening old text → IsOpening new (text ++ piece)
 fed_failed old piece new used bad text is fed shows =
     let h = fed text shows in
     let k : Shows (stage.Failed bad) new.kept (text ++ take used piece) = subst (λ (o : Stage). Shows o new.kept (text ++ take used piece)) is h in
-    let m : Shows (stage.Failed bad) new.kept ((text ++ take used piece) ++ drop used piece) = failed_more bad new.kept (text ++ take used piece) (drop used piece) k in
+    let m : Shows (stage.Failed bad) new.kept ((text ++ take used piece) ++ drop used piece) =
+    failed_more bad new.kept (text ++ take used piece) (drop used piece) k in
     subst (λ (o : Stage). Shows o new.kept (text ++ piece)) (sym is)
-    (subst (λ (t : List ℕ). Shows (stage.Failed bad) new.kept t) (append_assoc text (take used piece) (drop used piece) ∙ ap (λ (r : List ℕ). text ++ r) (take-append-drop used piece)) m)
+    (subst (λ (t : List ℕ). Shows (stage.Failed bad) new.kept t)
+    (append_assoc text (take used piece) (drop used piece) ∙ ap (λ (r : List ℕ). text ++ r) (take-append-drop used piece)) m)
 
 pub within_more : (piece rest : List ℕ) (used len : ℕ) → used ≤ length piece → rest ≡ drop used piece → len ≤ length rest → used + len ≤ length piece
 within_more piece rest used len h is k = omega (arith, h, k, ap length is, length-drop used piece)
@@ -197,7 +224,8 @@ end_first kept text s = by_test (length kept == 0) refl
   where
     by_test : (t : Bool) → (length kept == 0) ≡ t → IsBadOpening text (if t then Missing 1 else Misspelt 1)
     by_test true e = subst (λ (x : List ℕ). IsBadOpening x (Missing 1)) (sym (none_rest kept text s (omega (arith, eqb-true (length kept) 0 e)))) refl
-    by_test false e = subst (λ (ls : List (List ℕ)). IsFirstWrong ls (Misspelt 1)) (sym (last_cut text s.1 (some_rest kept text s e))) (inl (inl (misspelt_rest first_limit text s.1, refl)))
+    by_test false e = subst (λ (ls : List (List ℕ)). IsFirstWrong ls (Misspelt 1)) (sym (last_cut text s.1 (some_rest kept text s e)))
+        (inl (inl (misspelt_rest first_limit text s.1, refl)))
 
 pub end_second : (v : Version) (kept text : List ℕ) → Shows (stage.Second v) kept text → IsBadOpening text (if length kept == 0 then Missing 2 else Misspelt 2)
 end_second v kept text s = by_test (length kept == 0) refl
@@ -207,7 +235,10 @@ end_second v kept text s = by_test (length kept == 0) refl
 
     by_test : (t : Bool) → (length kept == 0) ≡ t → IsBadOpening text (if t then Missing 2 else Misspelt 2)
     by_test true e =
-        subst (λ (ls : List (List ℕ)). IsFirstWrong ls (Missing 2)) (sym (cut ∙ ap (λ (x : List ℕ). ended s.first ∷ cut_lines x) (none_rest kept s.rest s.stands (omega (arith, eqb-true (length kept) 0 e))))) (inr (v, s.is_head, refl))
+        subst (λ (ls : List (List ℕ)). IsFirstWrong ls (Missing 2))
+        (sym (cut ∙ ap (λ (x : List ℕ). ended s.first ∷ cut_lines x) (none_rest kept s.rest s.stands (omega (arith, eqb-true (length kept) 0 e)))))
+        (inr (v, s.is_head, refl))
     by_test false e =
-        subst (λ (ls : List (List ℕ)). IsFirstWrong ls (Misspelt 2)) (sym (cut ∙ ap (λ (ls : List (List ℕ)). ended s.first ∷ ls) (last_cut s.rest s.stands.1 (some_rest kept s.rest s.stands e))))
+        subst (λ (ls : List (List ℕ)). IsFirstWrong ls (Misspelt 2))
+        (sym (cut ∙ ap (λ (ls : List (List ℕ)). ended s.first ∷ ls) (last_cut s.rest s.stands.1 (some_rest kept s.rest s.stands e))))
         (inr (v, s.is_head, inl (misspelt_rest first_limit s.rest s.stands.1, refl)))

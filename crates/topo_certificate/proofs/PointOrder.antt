@@ -1,5 +1,6 @@
 -- Which loop without an edge a line names, where they stand in file order.
-use Rattle.std.specs.Prelude.{◌≡◌, ◌<◌, ◌≤◌, ◌+◌, ◌==◌, ◌&&◌, ◌⊎◌, ℕ, zero, suc, Bool, true, false, cond, List, [], ◌∷◌, ◌++◌, length, map, flat_map, find, slice_get, Some, None, ◌^◌, if◌then◌else◌}
+use Rattle.std.specs.Prelude.{◌≡◌, ◌<◌, ◌≤◌, ◌+◌, ◌==◌, ◌&&◌, ◌⊎◌, ℕ, zero, suc, Bool, true, false, cond, List, [], ◌∷◌, ◌++◌, length, map, flat_map, find}
+use Rattle.std.specs.Prelude.{slice_get, Some, None, ◌^◌, if◌then◌else◌}
 use Rattle.std.specs.List.{AllByRecursion, enumerate_from, list_any}
 use Rattle.std.proofs.Common.{refl, sym, ◌∙◌, ap, subst, arith, inl, inr, ⊎_elim}
 use Rattle.std.proofs.lemmas.Bool.{eq-eqb, eqb-true}
@@ -27,7 +28,8 @@ use Rattle.topo_certificate.specs.Stand.{point_named}
 
 -- Of a half the named one is not.
 
-pub not_low : (points : List (LoopAt × ℕ)) (face place middle : ℕ) (m : LoopAt × ℕ) → InFileOrder points → slice_get points middle ≡ Some m → IsBefore m.0 face place
+pub not_low : (points : List (LoopAt × ℕ)) (face place middle : ℕ) (m : LoopAt × ℕ) → InFileOrder points → slice_get points middle ≡ Some m
+    → IsBefore m.0 face place
     → (i : ℕ) (p : LoopAt × ℕ) → i < middle + 1 → slice_get points i ≡ Some p → IsNamed p.0 face place → ⊥
 not_low points face place middle m order at before i p lt at_i named = by_place (same_or i middle lt)
   where
@@ -49,7 +51,8 @@ not_low points face place middle m order at before i p lt at_i named = by_place 
         let g : p.0.place ≡ m.0.place = ap (λ (q : LoopAt × ℕ). q.0.place) same in
         omega (arith, before.1 f, named.1, g)
 
-pub not_high : (points : List (LoopAt × ℕ)) (face place middle : ℕ) (m : LoopAt × ℕ) → InFileOrder points → slice_get points middle ≡ Some m → (IsNamed m.0 face place → ⊥) → (IsBefore m.0 face place → ⊥)
+pub not_high : (points : List (LoopAt × ℕ)) (face place middle : ℕ) (m : LoopAt × ℕ) → InFileOrder points → slice_get points middle ≡ Some m
+    → (IsNamed m.0 face place → ⊥) → (IsBefore m.0 face place → ⊥)
     → (i : ℕ) (p : LoopAt × ℕ) → middle ≤ i → slice_get points i ≡ Some p → IsNamed p.0 face place → ⊥
 not_high points face place middle m order at not_named not_before i p le at_i named = by_place (same_or middle i le)
   where
@@ -86,29 +89,35 @@ named_test p face place h = both (p.0.face.0 + 1 == face) (p.0.place + 1 == plac
     both true false x y = y
     both false b x y = x
 
-find_none : (face place : ℕ) (points : List (LoopAt × ℕ)) → ((i : ℕ) (p : LoopAt × ℕ) → slice_get points i ≡ Some p → IsNamed p.0 face place → ⊥) → find (is_named_by face place) points ≡ None
+find_none : (face place : ℕ) (points : List (LoopAt × ℕ)) → ((i : ℕ) (p : LoopAt × ℕ) → slice_get points i ≡ Some p → IsNamed p.0 face place → ⊥)
+    → find (is_named_by face place) points ≡ None
 find_none face place [] never = refl
 find_none face place (p ∷ points) never = by_test (is_named_by face place p) refl (find_none face place points (λ i q at. never (suc i) q at))
   where
-    by_test : (b : Bool) → is_named_by face place p ≡ b → find (is_named_by face place) points ≡ None → cond b (Some p) (find (is_named_by face place) points) ≡ None
+    by_test : (b : Bool) → is_named_by face place p ≡ b → find (is_named_by face place) points ≡ None → cond b (Some p) (find (is_named_by face place) points)
+        ≡ None
     by_test true e rest = absurd (never 0 p refl (named_true p face place e))
     by_test false e rest = rest
 
 find_one : (face place : ℕ) (points : List (LoopAt × ℕ)) (i : ℕ) (p : LoopAt × ℕ) → slice_get points i ≡ Some p → IsNamed p.0 face place
     → ((j : ℕ) (q : LoopAt × ℕ) → j < i → slice_get points j ≡ Some q → IsNamed q.0 face place → ⊥) → find (is_named_by face place) points ≡ Some p
 find_one face place [] i p at named first = absurd cc
-find_one face place (x ∷ points) zero p at named first = ap (λ b. cond b (Some x) (find (is_named_by face place) points)) (named_test x face place (subst (λ (q : LoopAt × ℕ). IsNamed q.0 face place) (sym (same_Some x p at)) named)) ∙ at
+find_one face place (x ∷ points) zero p at named first = ap (λ b. cond b (Some x) (find (is_named_by face place) points))
+    (named_test x face place (subst (λ (q : LoopAt × ℕ). IsNamed q.0 face place) (sym (same_Some x p at)) named)) ∙ at
 find_one face place (x ∷ points) (suc i) p at named first =
     by_test (is_named_by face place x) refl (find_one face place points i p at named (λ j q lt at_j. first (suc j) q (omega (arith, lt)) at_j))
   where
-    by_test : (b : Bool) → is_named_by face place x ≡ b → find (is_named_by face place) points ≡ Some p → cond b (Some x) (find (is_named_by face place) points) ≡ Some p
+    by_test : (b : Bool) → is_named_by face place x ≡ b → find (is_named_by face place) points ≡ Some p
+        → cond b (Some x) (find (is_named_by face place) points) ≡ Some p
     by_test true e rest = absurd (first 0 x (omega arith) refl (named_true x face place e))
     by_test false e rest = rest
 
-pub none_named : (d : ShellRows) (face place : ℕ) → ((i : ℕ) (p : LoopAt × ℕ) → slice_get d.points i ≡ Some p → IsNamed p.0 face place → ⊥) → point_named d face place ≡ None
+pub none_named : (d : ShellRows) (face place : ℕ) → ((i : ℕ) (p : LoopAt × ℕ) → slice_get d.points i ≡ Some p → IsNamed p.0 face place → ⊥)
+    → point_named d face place ≡ None
 none_named d face place never = find_none face place d.points never
 
-pub one_named : (d : ShellRows) (face place i : ℕ) (p : LoopAt × ℕ) → InFileOrder d.points → slice_get d.points i ≡ Some p → IsNamed p.0 face place → IsNamedAt d face place i
+pub one_named : (d : ShellRows) (face place i : ℕ) (p : LoopAt × ℕ) → InFileOrder d.points → slice_get d.points i ≡ Some p → IsNamed p.0 face place
+    → IsNamedAt d face place i
 one_named d face place i p order at named = record {
   point = p;
   at_i = at;
@@ -124,43 +133,55 @@ abbrev Follow : {A : Type 0} → (A → LoopAt) → List A → Type 0
 Follow f [] = Unit {0}
 Follow f (x ∷ xs) = AllByRecursion (λ y. Precedes (f x) (f y)) xs × Follow f xs
 
-follow_append : {A : Type 0} (f : A → LoopAt) (xs ys : List A) → Follow f xs → Follow f ys → ((x y : A) → Has xs x → Has ys y → Precedes (f x) (f y)) → Follow f (xs ++ ys)
+follow_append : {A : Type 0} (f : A → LoopAt) (xs ys : List A) → Follow f xs → Follow f ys → ((x y : A) → Has xs x → Has ys y → Precedes (f x) (f y))
+    → Follow f (xs ++ ys)
 follow_append f [] ys a b all = b
-follow_append f (x ∷ xs) ys a b all =
-    (all_append (λ y. Precedes (f x) (f y)) xs ys a.0 (All-from (λ y. Precedes (f x) (f y)) ys (λ y m. all x y (inl refl) m)), follow_append f xs ys a.1 b (λ z y m k. all z y (inr m) k))
+follow_append f (x ∷ xs) ys a b all = (
+  all_append (λ y. Precedes (f x) (f y)) xs ys a.0 (All-from (λ y. Precedes (f x) (f y)) ys (λ y m. all x y (inl refl) m)),
+  follow_append f xs ys a.1 b
+      (λ z y m k. all z y (inr m) k),
+)
 
-follow_at : {A : Type 0} (f : A → LoopAt) (xs : List A) (i j : ℕ) (x y : A) → Follow f xs → i < j → slice_get xs i ≡ Some x → slice_get xs j ≡ Some y → Precedes (f x) (f y)
+follow_at : {A : Type 0} (f : A → LoopAt) (xs : List A) (i j : ℕ) (x y : A) → Follow f xs → i < j → slice_get xs i ≡ Some x → slice_get xs j ≡ Some y
+    → Precedes (f x) (f y)
 follow_at f [] i j x y h lt at_i at_j = absurd cc
 follow_at f (z ∷ xs) i zero x y h lt at_i at_j = absurd (omega (arith, lt))
-follow_at f (z ∷ xs) zero (suc j) x y h lt at_i at_j = subst (λ w. Precedes (f w) (f y)) (same_Some z x at_i) (all_has (λ w. Precedes (f z) (f w)) xs y h.0 (has_get xs j y at_j))
+follow_at f (z ∷ xs) zero (suc j) x y h lt at_i at_j =
+    subst (λ w. Precedes (f w) (f y)) (same_Some z x at_i) (all_has (λ w. Precedes (f z) (f w)) xs y h.0 (has_get xs j y at_j))
 follow_at f (z ∷ xs) (suc i) (suc j) x y h lt at_i at_j = follow_at f xs i j x y h.1 (omega (arith, lt)) at_i at_j
 
 abbrev at_of : PlacedLoop → LoopAt
 at_of p = p.at
 
-in_face : (face : ℕ) (forwards : Bool) (base : ℕ) (ls : List Loop) (p : PlacedLoop) → Has (map (placed_at face forwards) (enumerate_from base ls)) p → (p.at.face.0 ≡ face) × (base ≤ p.at.place)
+in_face : (face : ℕ) (forwards : Bool) (base : ℕ) (ls : List Loop) (p : PlacedLoop) → Has (map (placed_at face forwards) (enumerate_from base ls)) p
+    → (p.at.face.0 ≡ face) × (base ≤ p.at.place)
 in_face face forwards base [] p h = absurd h
-in_face face forwards base (l ∷ ls) p (inl e) = (ap (λ (q : PlacedLoop). q.at.face.0) (sym e), (let k : base ≡ p.at.place = ap (λ (q : PlacedLoop). q.at.place) e in omega (arith, k)))
+in_face face forwards base (l ∷ ls) p (inl e) =
+    (ap (λ (q : PlacedLoop). q.at.face.0) (sym e), (let k : base ≡ p.at.place = ap (λ (q : PlacedLoop). q.at.place) e in omega (arith, k)))
 in_face face forwards base (l ∷ ls) p (inr h) = let k = in_face face forwards (base + 1) ls p h in (k.0, omega (arith, k.1))
 
 loops_follow : (face : ℕ) (forwards : Bool) (base : ℕ) (ls : List Loop) → Follow at_of (map (placed_at face forwards) (enumerate_from base ls))
 loops_follow face forwards base [] = tt
 loops_follow face forwards base (l ∷ ls) = (
-  All-from (λ q. Precedes (placed_at face forwards (base, l)).at q.at) (map (placed_at face forwards) (enumerate_from (base + 1) ls)) (λ q m. let k = in_face face forwards (base + 1) ls q m in (omega (arith, k.0), λ same. omega (arith, k.1))),
+  All-from (λ q. Precedes (placed_at face forwards (base, l)).at q.at) (map (placed_at face forwards) (enumerate_from (base + 1) ls))
+      (λ q m. let k = in_face face forwards (base + 1) ls q m in (omega (arith, k.0), λ same. omega (arith, k.1))),
   loops_follow face forwards (base + 1) ls,
 )
 
 in_faces : (flag : Bool) (base : ℕ) (fs : List FaceUse) (p : PlacedLoop) → Has (flat_map (placed_in_face flag) (enumerate_from base fs)) p → base ≤ p.at.face.0
 in_faces flag base [] p h = absurd h
 in_faces flag base (f ∷ fs) p h =
-    ⊎_elim (λ here. let k = in_face base (same_flag f.flag flag) 0 f.loops p here in omega (arith, k.0)) (λ there. let k = in_faces flag (base + 1) fs p there in omega (arith, k))
+    ⊎_elim (λ here. let k = in_face base (same_flag f.flag flag) 0 f.loops p here in omega (arith, k.0))
+    (λ there. let k = in_faces flag (base + 1) fs p there in omega (arith, k))
     (has_append (placed_in_face flag (base, f)) (flat_map (placed_in_face flag) (enumerate_from (base + 1) fs)) p h)
 
 faces_follow : (flag : Bool) (base : ℕ) (fs : List FaceUse) → Follow at_of (flat_map (placed_in_face flag) (enumerate_from base fs))
 faces_follow flag base [] = tt
 faces_follow flag base (f ∷ fs) =
-    follow_append at_of (placed_in_face flag (base, f)) (flat_map (placed_in_face flag) (enumerate_from (base + 1) fs)) (loops_follow base (same_flag f.flag flag) 0 f.loops) (faces_follow flag (base + 1) fs)
-    (λ p q m k. let a = in_face base (same_flag f.flag flag) 0 f.loops p m in let b = in_faces flag (base + 1) fs q k in (omega (arith, a.0, b), λ same. absurd (omega (arith, same, a.0, b))))
+    follow_append at_of (placed_in_face flag (base, f)) (flat_map (placed_in_face flag) (enumerate_from (base + 1) fs))
+    (loops_follow base (same_flag f.flag flag) 0 f.loops) (faces_follow flag (base + 1) fs)
+    (λ p q m k. let a = in_face base (same_flag f.flag flag) 0 f.loops p m in let b = in_faces flag (base + 1) fs q k
+    in (omega (arith, a.0, b), λ same. absurd (omega (arith, same, a.0, b))))
 
 abbrev place_of : LoopAt × ℕ → LoopAt
 place_of q = q.0
@@ -197,7 +218,8 @@ points_follow s (p ∷ ps) h =
 
 pub points_in_order : (s : SolidData) (shell : Shell) → InFileOrder (shell_rows s shell).points
 unfolding shell_rows
-points_in_order s shell i j p q lt at_i at_j = follow_at place_of (flat_map (point_in s) (placed_loops shell)) i j p q (points_follow s (placed_loops shell) (faces_follow shell.flag 0 shell.faces)) lt at_i at_j
+points_in_order s shell i j p q lt at_i at_j = follow_at place_of (flat_map (point_in s) (placed_loops shell)) i j p q
+    (points_follow s (placed_loops shell) (faces_follow shell.flag 0 shell.faces)) lt at_i at_j
 
 -- Few edges and vertices occur in a shell.
 
@@ -211,11 +233,19 @@ occurring_shorter (n ∷ ns) ids = by_test (list_any (λ m. m == n) ids) (occurr
 
 pub few_edges_occur : (s : SolidData) (shell : Shell) → IsNumberedSolid s → length (shell_rows s shell).edges < 2 ^ 30
 unfolding shell_rows
-few_edges_occur s shell numbered = omega (arith, few_edges s numbered, occurring_shorter (numbers_from 0 (length s.edges)) (shell_edges shell), length-numbers 0 (length s.edges))
+few_edges_occur s shell numbered =
+    omega (arith, few_edges s numbered, occurring_shorter (numbers_from 0 (length s.edges)) (shell_edges shell), length-numbers 0 (length s.edges))
 
 pub few_vertices_occur : (s : SolidData) (shell : Shell) → IsNumberedSolid s → length (shell_rows s shell).vertices < 2 ^ 30
 unfolding shell_rows
-few_vertices_occur s shell numbered = omega (arith, few_vertices s numbered, occurring_shorter (numbers_from 0 (length s.vertices)) (shell_vertices s shell), length-numbers 0 (length s.vertices))
+few_vertices_occur s shell numbered =
+    omega (
+      arith,
+      few_vertices s numbered,
+      occurring_shorter (numbers_from 0 (length s.vertices)) (shell_vertices s shell),
+      length-numbers 0
+          (length s.vertices),
+    )
 
 pub faces_of_rows : (s : SolidData) (shell : Shell) → (shell_rows s shell).face_count ≡ length shell.faces
 unfolding shell_rows

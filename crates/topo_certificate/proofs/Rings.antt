@@ -20,11 +20,13 @@ pub walked_none : (d : ShellRows) (pairs : List (ℕ × ℕ)) (first : ℕ) (res
 walked_none d pairs first rest all h = record { left = all; numbers = h; on = λ r. r; back = λ r. r; whole = omega arith }
 
 -- the next number is left first
-pub next_left : (rest after : List ℕ) (n : ℕ) (left : List ℕ) → Begins rest n after → AreNumbers rest left → (ms : List ℕ) × (left ≡ n ∷ ms) × AreNumbers after ms
+pub next_left : (rest after : List ℕ) (n : ℕ) (left : List ℕ) → Begins rest n after → AreNumbers rest left
+    → (ms : List ℕ) × (left ≡ n ∷ ms) × AreNumbers after ms
 next_left rest after n [] b h = absurd (let e : 32 ∷ decimal n ++ after ≡ [] = sym b.text_is ∙ h.text_is in cc)
 next_left rest after n (m ∷ ms) b h = let t = begins_tail rest after ms n m b h in (ms, ap (λ x. x ∷ ms) t.0, t.1)
 
-pub walked_step : (d : ShellRows) (pairs : List (ℕ × ℕ)) (first last next : ℕ) (rest after all : List ℕ) (count : ℕ) → Begins rest next after → first < next → TurnsTo d pairs last next
+pub walked_step : (d : ShellRows) (pairs : List (ℕ × ℕ)) (first last next : ℕ) (rest after all : List ℕ) (count : ℕ) → Begins rest next after → first < next
+    → TurnsTo d pairs last next
     → Walked d pairs first last rest all count → Walked d pairs first next after all (count + 1)
 walked_step d pairs first last next rest after all count b above turns w =
     let n = next_left rest after next w.left b w.numbers in
@@ -37,7 +39,8 @@ walked_step d pairs first last next rest after all count b above turns w =
     }
 
 -- where the next number doesn't go on, nothing makes the ring whole
-pub walked_stop : (d : ShellRows) (pairs : List (ℕ × ℕ)) (first last next : ℕ) (rest after all : List ℕ) (count : ℕ) → Begins rest next after → (first < next → TurnsTo d pairs last next → ⊥)
+pub walked_stop : (d : ShellRows) (pairs : List (ℕ × ℕ)) (first last next : ℕ) (rest after all : List ℕ) (count : ℕ) → Begins rest next after
+    → (first < next → TurnsTo d pairs last next → ⊥)
     → Walked d pairs first last rest all count → IsRing d pairs first first all → ⊥
 walked_stop d pairs first last next rest after all count b never w r =
     let n = next_left rest after next w.left b w.numbers in
@@ -49,13 +52,15 @@ pub none_left : (rest left : List ℕ) → ((n : ℕ) (after : List ℕ) → ¬ 
 none_left rest [] never h = refl
 none_left rest (m ∷ ms) never h = absurd (never m (spaced ms) (numbers_begin rest ms m h))
 
-pub walked_whole : (d : ShellRows) (pairs : List (ℕ × ℕ)) (first last : ℕ) (rest all : List ℕ) (count : ℕ) → ((n : ℕ) (after : List ℕ) → ¬ Begins rest n after) → TurnsTo d pairs last first
+pub walked_whole : (d : ShellRows) (pairs : List (ℕ × ℕ)) (first last : ℕ) (rest all : List ℕ) (count : ℕ) → ((n : ℕ) (after : List ℕ) → ¬ Begins rest n after)
+    → TurnsTo d pairs last first
     → Walked d pairs first last rest all count → IsRing d pairs first first all × (count ≡ length (first ∷ all))
 walked_whole d pairs first last rest all count never turns w =
     let e = none_left rest w.left never w.numbers in
     (w.on (subst (IsRing d pairs first last) (sym e) ((turns, tt), tt)), omega (arith, w.whole, ap (λ xs. length xs) e))
 
-pub walked_broken : (d : ShellRows) (pairs : List (ℕ × ℕ)) (first last : ℕ) (rest all : List ℕ) (count : ℕ) → ((n : ℕ) (after : List ℕ) → ¬ Begins rest n after) → (TurnsTo d pairs last first → ⊥)
+pub walked_broken : (d : ShellRows) (pairs : List (ℕ × ℕ)) (first last : ℕ) (rest all : List ℕ) (count : ℕ)
+    → ((n : ℕ) (after : List ℕ) → ¬ Begins rest n after) → (TurnsTo d pairs last first → ⊥)
     → Walked d pairs first last rest all count → IsRing d pairs first first all → ⊥
 walked_broken d pairs first last rest all count never broken w r =
     let e = none_left rest w.left never w.numbers in
@@ -66,7 +71,8 @@ pub begins_shorter : (rest after : List ℕ) (n : ℕ) → Begins rest n after �
 begins_shorter rest after n b = omega (arith, ap (λ xs. length xs) b.text_is, length-append (32 ∷ decimal n) after)
 
 -- where more is left than numbers, the text is no numbers
-pub walked_more : (d : ShellRows) (pairs : List (ℕ × ℕ)) (first last : ℕ) (rest all : List ℕ) (count : ℕ) → 0 < length rest → ((n : ℕ) (after : List ℕ) → ¬ Begins rest n after) → Walked d pairs first last rest all count → ⊥
+pub walked_more : (d : ShellRows) (pairs : List (ℕ × ℕ)) (first last : ℕ) (rest all : List ℕ) (count : ℕ) → 0 < length rest
+    → ((n : ℕ) (after : List ℕ) → ¬ Begins rest n after) → Walked d pairs first last rest all count → ⊥
 walked_more d pairs first last rest all count some never w = none_spaced rest some never (w.left, w.numbers)
 
 -- a corner line's text is its first number and the others

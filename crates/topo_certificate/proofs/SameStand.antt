@@ -21,16 +21,55 @@ pub record SameStand (a b : Stand) : Type 0 where
 
 -- What fits the one stand fits the other.
 pub fits_edge : (d : ShellRows) (a b : Stand) (x y : ℕ) → SameStand a b → FitsEdge d a x y → FitsEdge d b x y
-fits_edge d a b x y h f = record { along_row = f.along_row; against_row = f.against_row; at_a = f.at_a; at_b = f.at_b; one_edge = f.one_edge; along = f.along; against = f.against; rises = subst (λ o. IsAbove o f.along_row.edge.0) (sym h.last_edge) f.rises }
+fits_edge d a b x y h f =
+    record {
+      along_row = f.along_row;
+      against_row = f.against_row;
+      at_a = f.at_a;
+      at_b = f.at_b;
+      one_edge = f.one_edge;
+      along = f.along;
+      against =
+          f.against;
+      rises = subst (λ o. IsAbove o f.along_row.edge.0) (sym h.last_edge) f.rises;
+    }
 
 pub fits_corner : (d : ShellRows) (a b : Stand) (r : ℕ) (rs : List ℕ) → SameStand a b → FitsCorner d a r rs → FitsCorner d b r rs
-fits_corner d a b r rs h f = record { vertex = f.vertex; lies_at = f.lies_at; turns = subst (λ ms. AllZip (TurnsTo d ms) (r ∷ rs) (next_of_each (r ∷ rs))) (sym h.mates) f.turns; least = f.least; whole = f.whole; no_point = f.no_point; rises = subst (λ o. IsAbove o f.vertex) (sym h.last_vertex) f.rises }
+fits_corner d a b r rs h f =
+    record {
+      vertex = f.vertex;
+      lies_at = f.lies_at;
+      turns = subst (λ ms. AllZip (TurnsTo d ms) (r ∷ rs) (next_of_each (r ∷ rs))) (sym h.mates) f.turns;
+      least = f.least;
+      whole = f.whole;
+      no_point = f.no_point;
+      rises = subst (λ o. IsAbove o f.vertex) (sym h.last_vertex) f.rises;
+    }
 
 pub fits_point : (d : ShellRows) (a b : Stand) (x y : ℕ) → SameStand a b → FitsPoint d a x y → FitsPoint d b x y
-fits_point d a b x y h f = record { vertex = f.vertex; lies_at = f.lies_at; no_row = f.no_row; one_point = f.one_point; rises = subst (λ o. IsAbove o f.vertex) (sym h.last_vertex) f.rises }
+fits_point d a b x y h f =
+    record {
+      vertex = f.vertex;
+      lies_at = f.lies_at;
+      no_row = f.no_row;
+      one_point = f.one_point;
+      rises =
+          subst (λ o. IsAbove o f.vertex) (sym h.last_vertex) f.rises;
+    }
 
 pub fits_reach : (d : ShellRows) (a b : Stand) (r : ℕ) → SameStand a b → FitsReach d a r → FitsReach d b r
-fits_reach d a b r h f = record { mate = f.mate; face = f.face; known = f.known; mates = subst (λ ms. IsMate ms r f.mate) (sym h.mates) f.mates; on_face = f.on_face; on_known = f.on_known; new = λ c. f.new (subst (λ xs. Contains xs f.face) h.reached c); old = subst (λ xs. Contains xs f.known) (sym h.reached) f.old }
+fits_reach d a b r h f =
+    record {
+      mate = f.mate;
+      face = f.face;
+      known = f.known;
+      mates = subst (λ ms. IsMate ms r f.mate) (sym h.mates) f.mates;
+      on_face = f.on_face;
+      on_known =
+          f.on_known;
+      new = λ c. f.new (subst (λ xs. Contains xs f.face) h.reached c);
+      old = subst (λ xs. Contains xs f.known) (sym h.reached) f.old;
+    }
 
 pub corner_due : (a b : Stand) → SameStand a b → CornerDue a.due → CornerDue b.due
 corner_due a b h d = (h.edges ∙ d.0, subst (λ n. 0 < n) (sym h.corners) d.1)

@@ -1,5 +1,6 @@
 -- What the lines since a SHELL line show of its shell.
-use Rattle.std.specs.Prelude.{◌≡◌, ℕ, zero, suc, ◌+◌, ◌-◌, ◌*◌, ◌<◌, ◌≤◌, ◌==◌, ◌&&◌, Bool, true, false, not, cond, option_map, List, [], ◌∷◌, length, find, count_by, Option, Some, None, slice_get}
+use Rattle.std.specs.Prelude.{◌≡◌, ℕ, zero, suc, ◌+◌, ◌-◌, ◌*◌, ◌<◌, ◌≤◌, ◌==◌, ◌&&◌, Bool, true, false, not, cond, option_map, List, [], ◌∷◌, length, find}
+use Rattle.std.specs.Prelude.{count_by, Option, Some, None, slice_get}
 use Rattle.std.specs.List.{AllByRecursion, cons_option}
 use Rattle.std.proofs.Common.{refl, sym, ◌∙◌, ap, subst, arith, inl, inr, ⊎_elim}
 use Rattle.std.proofs.lemmas.Bool.{eq-eqb, and_from}
@@ -13,7 +14,8 @@ use Rattle.edge_uses.specs.RowRelations.{IsPaired, row_count}
 use Rattle.shell_rules.specs.Closed.{AreNeighbours, IsReached, IsLinked, IsPoint}
 use Rattle.solid_data.proofs.Members.{Has, NoRepeat, Has-from_Contains, Contains-from_Has, All-at, All-from, covers, count_by-total}
 use Rattle.edge_uses.proofs.Counting.{counted, paired_by_count}
-use Rattle.topo_certificate.specs.Stand.{Stand, FitsEdge, FitsCorner, FitsPoint, FitsReach, IsAbove, first_of, row_named, row_edge, row_start, row_face, point_named}
+use Rattle.topo_certificate.specs.Stand.{Stand, FitsEdge, FitsCorner, FitsPoint, FitsReach, IsAbove, first_of, row_named, row_edge, row_start, row_face}
+use Rattle.topo_certificate.specs.Stand.{point_named}
 use Rattle.solid_data.proofs.Trail.{leads_last}
 use Rattle.solid_data.proofs.Occurring.{numbers_have, length-numbers}
 use Rattle.edge_uses.proofs.RowShape.{EndsExchanged}
@@ -59,13 +61,15 @@ pub record EdgeFacts (d : ShellRows) (mates : List (ℕ × ℕ)) (es : List ℕ)
   pub hold : MatesHold d mates
 
 pub mates_of_line : (d : ShellRows) (at : Stand) (a b : ℕ) → FitsEdge d at a b → AreNamedMates d a b
-mates_of_line d at a b h = record { row = h.along_row; mate = h.against_row; at_r = h.at_a; at_m = h.at_b; one_edge = h.one_edge; opposite = h.along ∙ sym (ap not h.against) }
+mates_of_line d at a b h =
+    record { row = h.along_row; mate = h.against_row; at_r = h.at_a; at_m = h.at_b; one_edge = h.one_edge; opposite = h.along ∙ sym (ap not h.against) }
 
 pub counted_named : (p : Row → Bool) (d : ShellRows) (n : ℕ) (r : Row) → row_named d n ≡ Some r → p r ≡ true → 1 ≤ count_by p d.rows
 counted_named p d zero r h passes = absurd cc
 counted_named p d (suc n) r h passes = omega (arith, counted p d.rows n r h passes, count_by-total p d.rows)
 
-pub edge_step : (d : ShellRows) (at : Stand) (mates : List (ℕ × ℕ)) (es : List ℕ) (n a b : ℕ) → AreGoodRows d → EdgeFacts d mates es n → n < length d.edges → at.last_edge ≡ first_of es
+pub edge_step : (d : ShellRows) (at : Stand) (mates : List (ℕ × ℕ)) (es : List ℕ) (n a b : ℕ) → AreGoodRows d → EdgeFacts d mates es n → n < length d.edges
+    → at.last_edge ≡ first_of es
     → FitsEdge d at a b → EdgeFacts d ((a, b) ∷ mates) (cons_option (row_edge (row_named d a)) es) (suc n)
 edge_step d at mates es n a b good facts more last h =
     let e : ℕ = h.along_row.edge.0 in
@@ -74,18 +78,21 @@ edge_step d at mates es n a b good facts more last h =
       named_has (λ (r : Row). Has d.edges r.edge.0) d a h.along_row good.edges h.at_a,
       counted_named (λ (r : Row). (r.edge.0 == e) && r.along) d a h.along_row h.at_a (and_from (e == e) h.along_row.along (eq-eqb e e refl) h.along),
       counted_named (λ (r : Row). (r.edge.0 == e) && not r.along) d b h.against_row h.at_b
-          (and_from (h.against_row.edge.0 == e) (not h.against_row.along) (eq-eqb h.against_row.edge.0 e (ap (λ (x : EdgeId). x.0) (sym h.one_edge))) (ap not h.against)),
+          (and_from (h.against_row.edge.0 == e) (not h.against_row.along) (eq-eqb h.against_row.edge.0 e (ap (λ (x : EdgeId). x.0) (sym h.one_edge)))
+          (ap not h.against)),
     ) in
     subst (λ o. EdgeFacts d ((a, b) ∷ mates) (cons_option o es) (suc n)) (sym listed) (record {
       falls = (falls_more es e (subst (λ o. IsAbove o e) last h.rises) facts.falls, facts.falls);
       number = ap suc facts.number;
       within = omega (arith, more);
       each = λ x m. ⊎_elim (λ same. subst (λ y. Has d.edges y × (1 ≤ row_count d y true) × (1 ≤ row_count d y false)) same here) (λ k. facts.each x k) m;
-      hold = λ r m c. ⊎_elim (λ same. subst (λ (p : ℕ × ℕ). AreNamedMates d p.0 p.1) same (mates_of_line d at a b h)) (λ k. facts.hold r m (Contains-from_Has mates (r, m) k)) (Has-from_Contains ((a, b) ∷ mates) (r, m) c);
+      hold = λ r m c. ⊎_elim (λ same. subst (λ (p : ℕ × ℕ). AreNamedMates d p.0 p.1) same (mates_of_line d at a b h))
+          (λ k. facts.hold r m (Contains-from_Has mates (r, m) k)) (Has-from_Contains ((a, b) ∷ mates) (r, m) c);
     })
 
 -- Where a line has come for each edge, each edge is paired.
-pub edges_paired : (d : ShellRows) (mates : List (ℕ × ℕ)) (es : List ℕ) (n : ℕ) → EdgeFacts d mates es n → length d.edges ≤ n → 2 * length d.edges ≡ length d.rows → (e : ℕ) → Has d.edges e → IsPaired d e
+pub edges_paired : (d : ShellRows) (mates : List (ℕ × ℕ)) (es : List ℕ) (n : ℕ) → EdgeFacts d mates es n → length d.edges ≤ n
+    → 2 * length d.edges ≡ length d.rows → (e : ℕ) → Has d.edges e → IsPaired d e
 edges_paired d mates es n facts all twice e m =
     let none : NoRepeat es = falls_none es facts.falls in
     let listed : Has es e = covers es d.edges none (λ x k. (facts.each x k).0) (omega (arith, all, facts.number)) e m in
@@ -100,7 +107,8 @@ pub record CornerFacts (d : ShellRows) (vs : List ℕ) (n : ℕ) : Type 0 where
   pub number : length vs ≡ n
   pub each : (v : ℕ) → Has vs v → Has d.vertices v × IsLinked d v
 
-vertex_step : (d : ShellRows) (vs : List ℕ) (n v : ℕ) (o : Option ℕ) → CornerFacts d vs n → o ≡ Some v → IsAbove (first_of vs) v → Has d.vertices v → IsLinked d v → CornerFacts d (cons_option o vs) (suc n)
+vertex_step : (d : ShellRows) (vs : List ℕ) (n v : ℕ) (o : Option ℕ) → CornerFacts d vs n → o ≡ Some v → IsAbove (first_of vs) v → Has d.vertices v
+    → IsLinked d v → CornerFacts d (cons_option o vs) (suc n)
 vertex_step d vs n v o facts e above known linked = subst (λ p. CornerFacts d (cons_option p vs) (suc n)) (sym e) (record {
   falls = (falls_more vs v above facts.falls, facts.falls);
   number = ap suc facts.number;
@@ -135,20 +143,29 @@ point_known d good face l v h = at_point (point_named d face l) refl h
 
 pub point_from_line : (d : ShellRows) (at : Stand) (face l : ℕ) → (h : FitsPoint d at face l) → IsPoint d h.vertex
 point_from_line d at face l h = record {
-  no_row = λ r (row, at_r, e). omega (arith, h.no_row, counted (λ (x : Row). x.from.0 == h.vertex) d.rows r row at_r (eq-eqb row.from.0 h.vertex e), count_by-total (λ (x : Row). x.from.0 == h.vertex) d.rows);
+  no_row = λ r (row, at_r, e). omega (
+    arith,
+    h.no_row,
+    counted (λ (x : Row). x.from.0 == h.vertex) d.rows r row at_r (eq-eqb row.from.0 h.vertex e),
+    count_by-total
+        (λ (x : Row). x.from.0 == h.vertex) d.rows,
+  );
   one_point = h.one_point;
 }
 
-pub corner_step : (d : ShellRows) (at : Stand) (vs : List ℕ) (n r : ℕ) (rs : List ℕ) → AreGoodRows d → MatesHold d at.mates → PairedRows d → CornerFacts d vs n → at.last_vertex ≡ first_of vs
+pub corner_step : (d : ShellRows) (at : Stand) (vs : List ℕ) (n r : ℕ) (rs : List ℕ) → AreGoodRows d → MatesHold d at.mates → PairedRows d → CornerFacts d vs n
+    → at.last_vertex ≡ first_of vs
     → FitsCorner d at r rs → CornerFacts d (cons_option (row_start (row_named d r)) vs) (suc n)
 corner_step d at vs n r rs good hold paired facts last h =
-    vertex_step d vs n h.vertex (row_start (row_named d r)) facts h.lies_at (subst (λ o. IsAbove o h.vertex) last h.rises) (start_known d good r h.vertex h.lies_at)
+    vertex_step d vs n h.vertex (row_start (row_named d r)) facts h.lies_at (subst (λ o. IsAbove o h.vertex) last h.rises)
+    (start_known d good r h.vertex h.lies_at)
     (inl (corner_from_line d at r rs good.meet good.exchanged hold paired h))
 
 pub point_step : (d : ShellRows) (at : Stand) (vs : List ℕ) (n face l : ℕ) → AreGoodRows d → CornerFacts d vs n → at.last_vertex ≡ first_of vs
     → FitsPoint d at face l → CornerFacts d (cons_option (option_map (λ (p : LoopAt × ℕ). p.1) (point_named d face l)) vs) (suc n)
 point_step d at vs n face l good facts last h =
-    vertex_step d vs n h.vertex (option_map (λ (p : LoopAt × ℕ). p.1) (point_named d face l)) facts h.lies_at (subst (λ o. IsAbove o h.vertex) last h.rises) (point_known d good face l h.vertex h.lies_at)
+    vertex_step d vs n h.vertex (option_map (λ (p : LoopAt × ℕ). p.1) (point_named d face l)) facts h.lies_at (subst (λ o. IsAbove o h.vertex) last h.rises)
+    (point_known d good face l h.vertex h.lies_at)
     (inr (point_from_line d at face l h))
 
 pub vertices_linked : (d : ShellRows) (vs : List ℕ) (n : ℕ) → CornerFacts d vs n → length d.vertices ≤ n → (v : ℕ) → Has d.vertices v → IsLinked d v
@@ -160,7 +177,8 @@ pub record ReachFacts (d : ShellRows) (fs : List ℕ) (n : ℕ) : Type 0 where
   pub number : length fs ≡ n
   pub each : (f : ℕ) → Has fs f → (f < d.face_count) × IsReached d f
 
-neighbours_of_mates : (d : ShellRows) (r m f g : ℕ) → AreNamedMates d r m → row_face (row_named d r) ≡ Some f → row_face (row_named d m) ≡ Some g → AreNeighbours d g f
+neighbours_of_mates : (d : ShellRows) (r m f g : ℕ) → AreNamedMates d r m → row_face (row_named d r) ≡ Some f → row_face (row_named d m) ≡ Some g
+    → AreNeighbours d g f
 neighbours_of_mates d zero m f g a on_f on_g = absurd (let h : None ≡ Some a.row = a.at_r in cc)
 neighbours_of_mates d (suc r) zero f g a on_f on_g = absurd (let h : None ≡ Some a.mate = a.at_m in cc)
 neighbours_of_mates d (suc r) (suc m) f g a on_f on_g =
@@ -180,11 +198,14 @@ face_below d good r f h = at_row (row_named d r) refl h
   where
     at_row : (o : Option Row) → row_named d r ≡ o → row_face o ≡ Some f → f < d.face_count
     at_row None e h = absurd cc
-    at_row (Some row) e h = subst (λ x. x < d.face_count) (same_Some row.at.face.0 f h) (named_has (λ (x : Row). x.at.face.0 < d.face_count) d r row good.faces e)
+    at_row (Some row) e h = subst (λ x. x < d.face_count) (same_Some row.at.face.0 f h)
+        (named_has (λ (x : Row). x.at.face.0 < d.face_count) d r row good.faces e)
 
-pub reach_step : (d : ShellRows) (at : Stand) (fs : List ℕ) (n r : ℕ) → AreGoodRows d → MatesHold d at.mates → ReachFacts d fs n → at.reached ≡ 0 ∷ fs → FitsReach d at r → ReachFacts d (cons_option (row_face (row_named d r)) fs) (suc n)
+pub reach_step : (d : ShellRows) (at : Stand) (fs : List ℕ) (n r : ℕ) → AreGoodRows d → MatesHold d at.mates → ReachFacts d fs n → at.reached ≡ 0 ∷ fs
+    → FitsReach d at r → ReachFacts d (cons_option (row_face (row_named d r)) fs) (suc n)
 reach_step d at fs n r good hold facts reached h =
-    let known : IsReached d h.known = ⊎_elim (λ e. subst (IsReached d) e (first_reached d)) (λ m. (facts.each h.known m).1) (subst (λ xs. Has xs h.known) reached (Has-from_Contains at.reached h.known h.old)) in
+    let known : IsReached d h.known = ⊎_elim (λ e. subst (IsReached d) e (first_reached d)) (λ m. (facts.each h.known m).1)
+    (subst (λ xs. Has xs h.known) reached (Has-from_Contains at.reached h.known h.old)) in
     let a : AreNamedMates d r h.mate = mates_named d at.mates r h.mate hold h.mates in
     let now : IsReached d h.face = leads_last (AreNeighbours d) 0 h.known h.face known (neighbours_of_mates d r h.mate h.face h.known a h.on_face h.on_known) in
     let new : Has (0 ∷ fs) h.face → ⊥ = λ m. h.new (Contains-from_Has at.reached h.face (subst (λ xs. Has xs h.face) (sym reached) m)) in
@@ -197,7 +218,10 @@ reach_step d at fs n r good hold facts reached h =
 pub faces_reached : (d : ShellRows) (fs : List ℕ) (n : ℕ) → ReachFacts d fs n → d.face_count - 1 ≤ n → (f : ℕ) → f < d.face_count → IsReached d f
 faces_reached d fs n facts all f lt =
     let zero_more : (k : ℕ) → 0 + k ≡ k = λ k. omega arith in
-    let listed : (k : ℕ) → k < d.face_count → Has (numbers_from 0 d.face_count) k = λ k less. subst (Has (numbers_from 0 d.face_count)) (zero_more k) (numbers_have 0 d.face_count k less) in
-    let into : (k : ℕ) → Has (0 ∷ fs) k → Has (numbers_from 0 d.face_count) k = λ k m. ⊎_elim (λ e. listed k (omega (arith, e, lt))) (λ j. listed k (facts.each k j).0) m in
-    let here : Has (0 ∷ fs) f = covers (0 ∷ fs) (numbers_from 0 d.face_count) facts.none into (omega (arith, all, facts.number, length-numbers 0 d.face_count)) f (listed f lt) in
+    let listed : (k : ℕ) → k < d.face_count → Has (numbers_from 0 d.face_count) k = λ k less. subst (Has (numbers_from 0 d.face_count)) (zero_more k)
+    (numbers_have 0 d.face_count k less) in
+    let into : (k : ℕ) → Has (0 ∷ fs) k → Has (numbers_from 0 d.face_count) k =
+    λ k m. ⊎_elim (λ e. listed k (omega (arith, e, lt))) (λ j. listed k (facts.each k j).0) m in
+    let here : Has (0 ∷ fs) f = covers (0 ∷ fs) (numbers_from 0 d.face_count) facts.none into (omega (arith, all, facts.number, length-numbers 0 d.face_count))
+    f (listed f lt) in
     ⊎_elim (λ e. subst (IsReached d) e (first_reached d)) (λ m. (facts.each f m).1) here

@@ -38,7 +38,8 @@ length-spaced (n ∷ ns) h =
 abbrev pub IsReadable : SolidData → CertLine → Type 0
 IsReadable s l = IsLine (line_limit s) (spelling l) l
 
-pub readable_shell : (s : SolidData) (k : ℕ) (n : ShellCounts) → IsShort k → IsShort n.rows → IsShort n.edges → IsShort n.corners → IsShort n.faces → IsReadable s (shell k n)
+pub readable_shell : (s : SolidData) (k : ℕ) (n : ShellCounts) → IsShort k → IsShort n.rows → IsShort n.edges → IsShort n.corners → IsShort n.faces
+    → IsReadable s (shell k n)
 readable_shell s k n a b c d e =
     let ns : List ℕ = k ∷ n.rows ∷ n.edges ∷ n.corners ∷ n.faces ∷ [] in
     let short : AllByRecursion IsShort ns = (a, (b, (c, (d, (e, tt))))) in
@@ -72,7 +73,8 @@ readable_reach s a p =
 pub readable_end : (s : SolidData) → IsReadable s end
 readable_end s = (omega arith, (tt, refl))
 
-pub readable_corner : (s : SolidData) (r : ℕ) (rs : List ℕ) → AllByRecursion IsShort (r ∷ rs) → length (r ∷ rs) ≤ length (flat_map shell_uses s.shells) → IsReadable s (corner (r ∷ rs))
+pub readable_corner : (s : SolidData) (r : ℕ) (rs : List ℕ) → AllByRecursion IsShort (r ∷ rs) → length (r ∷ rs) ≤ length (flat_map shell_uses s.shells)
+    → IsReadable s (corner (r ∷ rs))
 readable_corner s r rs short few =
     let h = length-append (spaced (r ∷ rs)) (10 ∷ []) in
     (omega (arith, h, length-spaced (r ∷ rs) short, few), ((short, omega arith), refl))

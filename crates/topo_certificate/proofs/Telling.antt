@@ -8,11 +8,13 @@ use Rattle.edge_uses.specs.declared.row.Row.{Row}
 use Rattle.edge_uses.specs.ShellRows.{ShellRows}
 use Rattle.cert_lines.specs.Line.{edge, corner, point, reach, tally}
 use Rattle.cert_lines.specs.declared.counts.Tally.{Tally}
-use Rattle.topo_certificate.specs.Stand.{Stand, stand_from_latest, rows_of_shell, loops_of_shell, row_named, edge_of, vertex_of, face_of, IsAbove, EdgeDue, CornerDue, ReachDue, TallyDue, FitsOpen, FitsEdge, FitsPoint, FitsReach, FitsTally}
+use Rattle.topo_certificate.specs.Stand.{Stand, stand_from_latest, rows_of_shell, loops_of_shell, row_named, edge_of, vertex_of, face_of, IsAbove, EdgeDue}
+use Rattle.topo_certificate.specs.Stand.{CornerDue, ReachDue, TallyDue, FitsOpen, FitsEdge, FitsPoint, FitsReach, FitsTally}
 use Rattle.topo_certificate.specs.Kept.{KeptShell, IsKept, IsTally, HoldsMates, HoldsFaces}
 use Rattle.topo_certificate.specs.Ring.{FitsCornerLine}
 use Rattle.topo_certificate.specs.Matching.{MatchesShell, Takes}
-use Rattle.topo_certificate.proofs.Standing.{due_of, without_edge, without_corner, without_reach, without_tally, stand_of, edge_stand, corner_stand, point_stand, reach_stand, tally_stand, reached_is, others_reached}
+use Rattle.topo_certificate.proofs.Standing.{due_of, without_edge, without_corner, without_reach, without_tally, stand_of, edge_stand, corner_stand}
+use Rattle.topo_certificate.proofs.Standing.{point_stand, reach_stand, tally_stand, reached_is, others_reached}
 use Rattle.topo_certificate.proofs.Arrays.{CanMate, MateCases, with_mates, mate_cases, mates_more, faces_more}
 use Rattle.topo_certificate.proofs.CornerFits.{named_below}
 
@@ -75,7 +77,8 @@ edge_kept k a b e kept h = record {
   passed = λ r m is. by_case r m (h.fits (stand_at k.last_edge) (stand_at_last k.last_edge)) (mate_cases k.mates a b r m (can_mate k a b e kept h) is);
 }
   where
-    by_case : (r m : ℕ) → FitsEdge k.rows (stand_at k.last_edge) a b × (edge_of k.rows (edge a b) ≡ Some e) → MateCases k.mates a b r m → (row : Row) × (row_named k.rows r ≡ Some row) × (row.edge.0 ≤ e)
+    by_case : (r m : ℕ) → FitsEdge k.rows (stand_at k.last_edge) a b × (edge_of k.rows (edge a b) ≡ Some e) → MateCases k.mates a b r m
+        → (row : Row) × (row_named k.rows r ≡ Some row) × (row.edge.0 ≤ e)
     by_case r m (f, is_e) cases =
         let edge_is : f.along_row.edge.0 ≡ e = same_Some f.along_row.edge.0 e (sym (ap (λ o. edge_at o) f.at_a) ∙ is_e) in
         let one : f.along_row.edge.0 ≡ f.against_row.edge.0 = ap (λ x. x.0) f.one_edge in
@@ -111,7 +114,8 @@ pub edge_not_due : (k new : KeptShell) (a b : ℕ) → ¬ EdgeDue k.due → Take
 edge_not_due k new a b never version s lines t f = never (subst EdgeDue (sym t.due) f.0)
 
 pub edge_unfit : (k new : KeptShell) (a b : ℕ) → ((at : Stand) → at.last_edge ≡ k.last_edge → FitsEdge k.rows at a b → ⊥) → Takes k new (edge a b) false
-edge_unfit k new a b never version s lines t f = never (stand_from_latest version s lines) (sym t.last_edge) (subst (λ d. FitsEdge d (stand_from_latest version s lines) a b) (sym t.rows) f.1)
+edge_unfit k new a b never version s lines t f = never (stand_from_latest version s lines) (sym t.last_edge)
+    (subst (λ d. FitsEdge d (stand_from_latest version s lines) a b) (sym t.rows) f.1)
 
 -- Corner and point lines.
 
@@ -140,7 +144,8 @@ vertex_told s at k v t = record {
 }
 
 pub corner_takes : (k : KeptShell) (rs : List ℕ) (v : ℕ) → CornerDue k.due
-    → ((at : Stand) → HoldsMates k.mates at.mates → at.last_vertex ≡ k.last_vertex → FitsCornerLine k.rows at rs × (vertex_of k.rows (corner rs) ≡ Some v)) → Takes k (with_vertex k v) (corner rs) true
+    → ((at : Stand) → HoldsMates k.mates at.mates → at.last_vertex ≡ k.last_vertex → FitsCornerLine k.rows at rs × (vertex_of k.rows (corner rs) ≡ Some v))
+    → Takes k (with_vertex k v) (corner rs) true
 corner_takes k rs v due fit version s lines t =
     let at : Stand = stand_from_latest version s lines in
     let f = fit at t.mates (sym t.last_vertex) in
@@ -149,7 +154,8 @@ corner_takes k rs v due fit version s lines t =
       subst (λ x. MatchesShell s x (with_vertex k v)) (sym stand) (vertex_told s at k v t),
     )
 
-pub corner_unfit : (k new : KeptShell) (rs : List ℕ) → ((at : Stand) → HoldsMates k.mates at.mates → at.last_vertex ≡ k.last_vertex → FitsCornerLine k.rows at rs → ⊥) → Takes k new (corner rs) false
+pub corner_unfit : (k new : KeptShell) (rs : List ℕ)
+    → ((at : Stand) → HoldsMates k.mates at.mates → at.last_vertex ≡ k.last_vertex → FitsCornerLine k.rows at rs → ⊥) → Takes k new (corner rs) false
 corner_unfit k new rs never version s lines t f =
     let at : Stand = stand_from_latest version s lines in
     never at t.mates (sym t.last_vertex) (subst (λ d. FitsCornerLine d at rs) (sym t.rows) (corner_line s at rs f).1)
@@ -158,7 +164,8 @@ pub corner_not_due : (k new : KeptShell) (rs : List ℕ) → ¬ CornerDue k.due 
 corner_not_due k new rs never version s lines t f = never (subst CornerDue (sym t.due) (corner_line s (stand_from_latest version s lines) rs f).0)
 
 pub point_takes : (k : KeptShell) (face place v : ℕ) → CornerDue k.due
-    → ((at : Stand) → at.last_vertex ≡ k.last_vertex → FitsPoint k.rows at face place × (vertex_of k.rows (point face place) ≡ Some v)) → Takes k (with_vertex k v) (point face place) true
+    → ((at : Stand) → at.last_vertex ≡ k.last_vertex → FitsPoint k.rows at face place × (vertex_of k.rows (point face place) ≡ Some v))
+    → Takes k (with_vertex k v) (point face place) true
 point_takes k face place v due fit version s lines t =
     let at : Stand = stand_from_latest version s lines in
     let f = fit at (sym t.last_vertex) in
@@ -170,8 +177,10 @@ point_takes k face place v due fit version s lines t =
 pub point_not_due : (k new : KeptShell) (face place : ℕ) → ¬ CornerDue k.due → Takes k new (point face place) false
 point_not_due k new face place never version s lines t f = never (subst CornerDue (sym t.due) f.0)
 
-pub point_unfit : (k new : KeptShell) (face place : ℕ) → ((at : Stand) → at.last_vertex ≡ k.last_vertex → FitsPoint k.rows at face place → ⊥) → Takes k new (point face place) false
-point_unfit k new face place never version s lines t f = let at : Stand = stand_from_latest version s lines in never at (sym t.last_vertex) (subst (λ d. FitsPoint d at face place) (sym t.rows) f.1)
+pub point_unfit : (k new : KeptShell) (face place : ℕ) → ((at : Stand) → at.last_vertex ≡ k.last_vertex → FitsPoint k.rows at face place → ⊥)
+    → Takes k new (point face place) false
+point_unfit k new face place never version s lines t f = let at : Stand = stand_from_latest version s lines in never at (sym t.last_vertex)
+    (subst (λ d. FitsPoint d at face place) (sym t.rows) f.1)
 
 -- Reach lines.
 
@@ -179,12 +188,14 @@ abbrev pub with_face : KeptShell → ℕ → KeptShell
 with_face k f = record k { reached = slice_set k.reached f true; due = without_reach k.due }
 
 pub reach_takes : (k : KeptShell) (r f : ℕ) → f < length k.reached → ReachDue k.due
-    → ((at : Stand) → HoldsMates k.mates at.mates → HoldsFaces k.reached at.reached → FitsReach k.rows at r × (face_of k.rows (reach r) ≡ Some f)) → Takes k (with_face k f) (reach r) true
+    → ((at : Stand) → HoldsMates k.mates at.mates → HoldsFaces k.reached at.reached → FitsReach k.rows at r × (face_of k.rows (reach r) ≡ Some f))
+    → Takes k (with_face k f) (reach r) true
 reach_takes k r f within due fit version s lines t =
     let at : Stand = stand_from_latest version s lines in
     let g = fit at t.mates t.reached in
     let stand = reach_stand version s lines r f (subst (λ d. face_of d (reach r) ≡ Some f) t.rows g.1) in
-    let held : HoldsFaces (slice_set k.reached f true) (0 ∷ f ∷ others_reached s lines) = faces_more k.reached 0 f (others_reached s lines) within (subst (HoldsFaces k.reached) (reached_is version s lines) t.reached) in (
+    let held : HoldsFaces (slice_set k.reached f true) (0 ∷ f ∷ others_reached s lines) =
+    faces_more k.reached 0 f (others_reached s lines) within (subst (HoldsFaces k.reached) (reached_is version s lines) t.reached) in (
       (subst ReachDue t.due due, subst (λ d. FitsReach d at r) t.rows g.0),
       subst (λ x. MatchesShell s x (with_face k f)) (sym stand) (record {
         begun = t.begun;
@@ -201,15 +212,18 @@ reach_takes k r f within due fit version s lines t =
 pub reach_not_due : (k new : KeptShell) (r : ℕ) → ¬ ReachDue k.due → Takes k new (reach r) false
 reach_not_due k new r never version s lines t f = never (subst ReachDue (sym t.due) f.0)
 
-pub reach_unfit : (k new : KeptShell) (r : ℕ) → ((at : Stand) → HoldsMates k.mates at.mates → HoldsFaces k.reached at.reached → FitsReach k.rows at r → ⊥) → Takes k new (reach r) false
-reach_unfit k new r never version s lines t f = let at : Stand = stand_from_latest version s lines in never at t.mates t.reached (subst (λ d. FitsReach d at r) (sym t.rows) f.1)
+pub reach_unfit : (k new : KeptShell) (r : ℕ) → ((at : Stand) → HoldsMates k.mates at.mates → HoldsFaces k.reached at.reached → FitsReach k.rows at r → ⊥)
+    → Takes k new (reach r) false
+reach_unfit k new r never version s lines t f = let at : Stand = stand_from_latest version s lines in never at t.mates t.reached
+    (subst (λ d. FitsReach d at r) (sym t.rows) f.1)
 
 -- TALLY lines.
 
 abbrev pub with_tally : KeptShell → KeptShell
 with_tally k = record k { due = without_tally k.due }
 
-tally_is : (s : SolidData) (k : ℕ) (d : ShellRows) (loops : ℕ) (t : Tally) → d ≡ rows_of_shell s k → loops ≡ loops_of_shell s k → IsTally d loops t → FitsTally s k t
+tally_is : (s : SolidData) (k : ℕ) (d : ShellRows) (loops : ℕ) (t : Tally) → d ≡ rows_of_shell s k → loops ≡ loops_of_shell s k → IsTally d loops t
+    → FitsTally s k t
 tally_is s k d loops t is_d is_loops h = record {
   vertices_counted = h.vertices_counted ∙ ap (λ (d : ShellRows). length d.vertices) is_d;
   edges_counted = h.edges_counted ∙ ap (λ (d : ShellRows). length d.edges) is_d;
@@ -217,7 +231,8 @@ tally_is s k d loops t is_d is_loops h = record {
   loops_counted = h.loops_counted ∙ is_loops;
 }
 
-is_tally : (s : SolidData) (k : ℕ) (d : ShellRows) (loops : ℕ) (t : Tally) → d ≡ rows_of_shell s k → loops ≡ loops_of_shell s k → FitsTally s k t → IsTally d loops t
+is_tally : (s : SolidData) (k : ℕ) (d : ShellRows) (loops : ℕ) (t : Tally) → d ≡ rows_of_shell s k → loops ≡ loops_of_shell s k → FitsTally s k t
+    → IsTally d loops t
 is_tally s k d loops t is_d is_loops h = record {
   vertices_counted = h.vertices_counted ∙ ap (λ (d : ShellRows). length d.vertices) (sym is_d);
   edges_counted = h.edges_counted ∙ ap (λ (d : ShellRows). length d.edges) (sym is_d);

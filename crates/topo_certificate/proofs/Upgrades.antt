@@ -1,5 +1,6 @@
 -- Legal lines of version 1 are legal in version 2 with TALLY lines.
-use Rattle.std.specs.Prelude.{◌≡◌, ℕ, zero, suc, ◌+◌, ◌-◌, ◌<◌, true, false, List, [], ◌∷◌, ◌++◌, length, find, filter_map, Option, Some, None, slice_get, ◌||◌, Bool, cond}
+use Rattle.std.specs.Prelude.{◌≡◌, ℕ, zero, suc, ◌+◌, ◌-◌, ◌<◌, true, false, List, [], ◌∷◌, ◌++◌, length, find, filter_map, Option, Some, None, slice_get, ◌||◌}
+use Rattle.std.specs.Prelude.{Bool, cond}
 use Rattle.std.specs.List.{list_any}
 use Rattle.solid_data.proofs.Members.{get_some}
 use Rattle.std.proofs.Common.{refl, sym, ◌∙◌, ap, subst, arith}
@@ -10,7 +11,9 @@ use Rattle.cert_lines.specs.Line.{CertLine, shell, reach, tally, end, spelling, 
 use Rattle.cert_lines.specs.declared.counts.ShellCounts.{ShellCounts}
 use Rattle.cert_lines.specs.declared.counts.Tally.{Tally}
 use Rattle.cert_lines.specs.declared.version.Version.TheVariants.{One, Two}
-use Rattle.topo_certificate.specs.Stand.{Stand, first_of, edge_of, vertex_of, face_of, mates_of, stand_from_latest, is_shell, is_last, is_tally, is_edge, is_corner_or_point, is_reach, number_of, since_shell, asked, loops_of, rows_of_shell, FitsLine, FitsTally, FitsShell, NoneDue}
+use Rattle.topo_certificate.specs.Stand.{Stand, first_of, edge_of, vertex_of, face_of, mates_of, stand_from_latest, is_shell, is_last, is_tally, is_edge}
+use Rattle.topo_certificate.specs.Stand.{is_corner_or_point, is_reach, number_of, since_shell, asked, loops_of, rows_of_shell, FitsLine, FitsTally, FitsShell}
+use Rattle.topo_certificate.specs.Stand.{NoneDue}
 use Rattle.topo_certificate.specs.Legal.{IsLegal}
 use Rattle.topo_certificate.specs.After.{IsLegalAfter}
 use Rattle.topo_certificate.specs.Upgraded.{tally_of_shell, tally_lines_of, tally_before, with_tallies}
@@ -68,13 +71,19 @@ unfolding stand_from_latest
 same_stand s before new h = record {
   ended = h.ended;
   shell = h.shells;
-  edges = ap (λ ls. (asked Two (find is_shell new)).edges - number_of is_edge ls) h.since ∙ ap (λ n. n - number_of is_edge (since_shell before)) (ap (λ o. (asked Two o).edges) h.asks ∙ (asked_alike (find is_shell before)).edges);
-  corners = ap (λ ls. (asked Two (find is_shell new)).corners - number_of is_corner_or_point ls) h.since ∙ ap (λ n. n - number_of is_corner_or_point (since_shell before)) (ap (λ o. (asked Two o).corners) h.asks ∙ (asked_alike (find is_shell before)).corners);
-  reach = ap (λ ls. (asked Two (find is_shell new)).reach - number_of is_reach ls) h.since ∙ ap (λ n. n - number_of is_reach (since_shell before)) (ap (λ o. (asked Two o).reach) h.asks ∙ (asked_alike (find is_shell before)).reach);
+  edges = ap (λ ls. (asked Two (find is_shell new)).edges - number_of is_edge ls) h.since ∙ ap (λ n. n - number_of is_edge (since_shell before))
+      (ap (λ o. (asked Two o).edges) h.asks ∙ (asked_alike (find is_shell before)).edges);
+  corners = ap (λ ls. (asked Two (find is_shell new)).corners - number_of is_corner_or_point ls) h.since
+      ∙ ap (λ n. n - number_of is_corner_or_point (since_shell before)) (ap (λ o. (asked Two o).corners) h.asks ∙ (asked_alike (find is_shell before)).corners);
+  reach = ap (λ ls. (asked Two (find is_shell new)).reach - number_of is_reach ls) h.since ∙ ap (λ n. n - number_of is_reach (since_shell before))
+      (ap (λ o. (asked Two o).reach) h.asks ∙ (asked_alike (find is_shell before)).reach);
   mates = ap (λ ls. mates_in ls) h.since;
-  last_edge = ap (λ ls. last_edge_in (rows_of_shell s (number_of is_shell new)) ls) h.since ∙ ap (λ n. last_edge_in (rows_of_shell s n) (since_shell before)) h.shells;
-  last_vertex = ap (λ ls. last_vertex_in (rows_of_shell s (number_of is_shell new)) ls) h.since ∙ ap (λ n. last_vertex_in (rows_of_shell s n) (since_shell before)) h.shells;
-  reached = ap (λ ls. reached_in (rows_of_shell s (number_of is_shell new)) ls) h.since ∙ ap (λ n. reached_in (rows_of_shell s n) (since_shell before)) h.shells;
+  last_edge = ap (λ ls. last_edge_in (rows_of_shell s (number_of is_shell new)) ls) h.since ∙ ap (λ n. last_edge_in (rows_of_shell s n) (since_shell before))
+      h.shells;
+  last_vertex = ap (λ ls. last_vertex_in (rows_of_shell s (number_of is_shell new)) ls) h.since
+      ∙ ap (λ n. last_vertex_in (rows_of_shell s n) (since_shell before)) h.shells;
+  reached = ap (λ ls. reached_in (rows_of_shell s (number_of is_shell new)) ls) h.since ∙ ap (λ n. reached_in (rows_of_shell s n) (since_shell before))
+      h.shells;
 }
 
 -- no TALLY line fits in version 1
@@ -83,7 +92,8 @@ unfolding stand_from_latest
 no_tally s before = let h : (asked One (find is_shell before)).tally ≡ 0 = (asked_alike (find is_shell before)).tally in omega (arith, h)
 
 -- where a shell is begun, its line is the last one found
-found_on : (l : CertLine) (ls : List CertLine) (n : ℕ) → number_of is_shell (l ∷ ls) ≡ suc n → (number_of is_shell ls ≡ suc n → (k : ℕ) × (c : ShellCounts) × (find is_shell ls ≡ Some (shell k c)))
+found_on : (l : CertLine) (ls : List CertLine) (n : ℕ) → number_of is_shell (l ∷ ls) ≡ suc n
+    → (number_of is_shell ls ≡ suc n → (k : ℕ) × (c : ShellCounts) × (find is_shell ls ≡ Some (shell k c)))
     → (k : ℕ) × (c : ShellCounts) × (find is_shell (l ∷ ls) ≡ Some (shell k c))
 found_on l ls n h later = by_test (is_shell l) refl
   where
@@ -101,7 +111,8 @@ found_shell : (ls : List CertLine) (n : ℕ) → number_of is_shell ls ≡ suc n
 found_shell [] n h = absurd (omega (arith, h))
 found_shell (l ∷ ls) n h = found_on l ls n h (found_shell ls n)
 
-none_on : (l : CertLine) (ls : List CertLine) → number_of is_shell (l ∷ ls) ≡ 0 → (number_of is_shell ls ≡ 0 → find is_shell ls ≡ None) → find is_shell (l ∷ ls) ≡ None
+none_on : (l : CertLine) (ls : List CertLine) → number_of is_shell (l ∷ ls) ≡ 0 → (number_of is_shell ls ≡ 0 → find is_shell ls ≡ None)
+    → find is_shell (l ∷ ls) ≡ None
 none_on l ls h later = by_test (is_shell l) refl
   where
     by_test : (b : Bool) → is_shell l ≡ b → find is_shell (l ∷ ls) ≡ None
@@ -135,33 +146,53 @@ none_at_first s new none =
     }
 
 -- where nothing but a TALLY line is due of a shell, it fits, and nothing is due after it
-tally_next : (s : SolidData) (before new : List CertLine) (k : ℕ) (h : Shell) → Alike before new → number_of is_shell before ≡ suc k → number_of is_tally (since_shell new) ≡ 0 → slice_get s.shells k ≡ Some h
-    → (stand_from_latest One s before).ended ≡ false → NoneDue (stand_from_latest One s before).due → FitsLine s (stand_from_latest Two s new) (tally (tally_of_shell s h))
+tally_next : (s : SolidData) (before new : List CertLine) (k : ℕ) (h : Shell) → Alike before new → number_of is_shell before ≡ suc k
+    → number_of is_tally (since_shell new) ≡ 0 → slice_get s.shells k ≡ Some h
+    → (stand_from_latest One s before).ended ≡ false → NoneDue (stand_from_latest One s before).due
+    → FitsLine s (stand_from_latest Two s new) (tally (tally_of_shell s h))
 unfolding stand_from_latest
 tally_next s before new k h alike number no_tallies at going none =
     let same = same_stand s before new alike in
     let found = found_shell new k (alike.shells ∙ number) in
-    let due : (asked Two (find is_shell new)).tally - number_of is_tally (since_shell new) ≡ 1 = ap (λ o. (asked Two o).tally - number_of is_tally (since_shell new)) found.2 ∙ omega (arith, no_tallies) in (
+    let due : (asked Two (find is_shell new)).tally - number_of is_tally (since_shell new) ≡ 1 =
+    ap (λ o. (asked Two o).tally - number_of is_tally (since_shell new)) found.2 ∙ omega (arith, no_tallies) in (
       same.ended ∙ going,
-      ((same.edges ∙ none.edges, same.corners ∙ none.corners, same.reach ∙ none.reach, omega (arith, due)), subst (λ n. FitsTally s n (tally_of_shell s h)) (sym (alike.shells ∙ number)) (tally_there s k h at)),
+      (
+        (same.edges ∙ none.edges, same.corners ∙ none.corners, same.reach ∙ none.reach, omega (arith, due)),
+        subst (λ n. FitsTally s n (tally_of_shell s h))
+            (sym (alike.shells ∙ number)) (tally_there s k h at),
+      ),
     )
 
-none_behind_tally : (s : SolidData) (before new : List CertLine) (k : ℕ) (t : Tally) → Alike before new → number_of is_shell before ≡ suc k → number_of is_tally (since_shell new) ≡ 0 → NoneDue (stand_from_latest One s before).due
+none_behind_tally : (s : SolidData) (before new : List CertLine) (k : ℕ) (t : Tally) → Alike before new → number_of is_shell before ≡ suc k
+    → number_of is_tally (since_shell new) ≡ 0 → NoneDue (stand_from_latest One s before).due
     → NoneDue (stand_from_latest Two s (tally t ∷ new)).due
 unfolding stand_from_latest
 none_behind_tally s before new k t alike number no_tallies none =
     let same = same_stand s before new alike in
     let found = found_shell new k (alike.shells ∙ number) in
-    let left : (asked Two (find is_shell new)).tally - suc (number_of is_tally (since_shell new)) ≡ 0 = ap (λ o. (asked Two o).tally - suc (number_of is_tally (since_shell new))) found.2 ∙ omega arith in
+    let left : (asked Two (find is_shell new)).tally - suc (number_of is_tally (since_shell new)) ≡ 0 =
+    ap (λ o. (asked Two o).tally - suc (number_of is_tally (since_shell new))) found.2 ∙ omega arith in
     record { edges = same.edges ∙ none.edges; corners = same.corners ∙ none.corners; reach = same.reach ∙ none.reach; tally = left }
 
 -- a line that begins a shell, or ends the certificate, after what ended the shell before
-ended_kept : (s : SolidData) (t : Tally) (ls : List CertLine) → ((stand_from_latest Two s (tally t ∷ ls)).ended ≡ (stand_from_latest Two s ls).ended) × ((stand_from_latest Two s (tally t ∷ ls)).shell ≡ (stand_from_latest Two s ls).shell)
+ended_kept : (s : SolidData) (t : Tally) (ls : List CertLine) → ((stand_from_latest Two s (tally t ∷ ls)).ended ≡ (stand_from_latest Two s ls).ended)
+    × ((stand_from_latest Two s (tally t ∷ ls)).shell ≡ (stand_from_latest Two s ls).shell)
 unfolding stand_from_latest
 ended_kept s t ls = (refl, refl)
 
 shell_fits : (s : SolidData) (a b : Stand) (k : ℕ) (c : ShellCounts) → b.shell ≡ a.shell → FitsShell s a k c → FitsShell s b k c
-shell_fits s a b k c e f = record { next = omega (arith, f.next, e); there = f.there; rows_counted = f.rows_counted; edges_counted = f.edges_counted; corners_counted = f.corners_counted; faces_counted = f.faces_counted; two_rows_each = f.two_rows_each }
+shell_fits s a b k c e f =
+    record {
+      next = omega (arith, f.next, e);
+      there = f.there;
+      rows_counted = f.rows_counted;
+      edges_counted = f.edges_counted;
+      corners_counted =
+          f.corners_counted;
+      faces_counted = f.faces_counted;
+      two_rows_each = f.two_rows_each;
+    }
 
 going_on : (s : SolidData) (before : List CertLine) → (stand_from_latest One s (end ∷ before)).ended ≡ false → ⊥
 unfolding stand_from_latest
@@ -184,14 +215,23 @@ module _ (s : SolidData) (read : TalliesRead s) where
   one_tally k h at = read k h at
 
   -- a shell begins
-  shell_step : (before new : List CertLine) (n k : ℕ) (c : ShellCounts) (lines : List (List ℕ)) → Alike before new → number_of is_shell before ≡ n → number_of is_tally (since_shell new) ≡ 0 → IsReadable s (shell k c)
-      → FitsLine s (stand_from_latest One s before) (shell k c) → ((new' : List CertLine) → Alike (shell k c ∷ before) new' → number_of is_tally (since_shell new') ≡ 0 → IsLegalAfter Two s new' lines)
+  shell_step : (before new : List CertLine) (n k : ℕ) (c : ShellCounts) (lines : List (List ℕ)) → Alike before new → number_of is_shell before ≡ n
+      → number_of is_tally (since_shell new) ≡ 0 → IsReadable s (shell k c)
+      → FitsLine s (stand_from_latest One s before) (shell k c)
+      → ((new' : List CertLine) → Alike (shell k c ∷ before) new' → number_of is_tally (since_shell new') ≡ 0 → IsLegalAfter Two s new' lines)
       → IsLegalAfter Two s new (tally_before s n ++ spelling (shell k c) ∷ lines)
   shell_step before new zero k c lines alike number no_tallies is fits on =
       let same = same_stand s before new alike in (
         shell k c,
         is,
-        (same.ended ∙ fits.0, (none_at_first s new (alike.shells ∙ number), shell_fits s (stand_from_latest One s before) (stand_from_latest Two s new) k c same.shell fits.1.1)),
+        (
+          same.ended ∙ fits.0,
+          (
+            none_at_first s new (alike.shells ∙ number),
+            shell_fits s (stand_from_latest One s before) (stand_from_latest Two s new) k c
+                same.shell fits.1.1,
+          ),
+        ),
         on (shell k c ∷ new) (record { ended = alike.ended; shells = ap suc alike.shells; asks = refl; since = refl }) refl,
       )
   shell_step before new (suc n) k c lines alike number no_tallies is fits on =
@@ -207,13 +247,21 @@ module _ (s : SolidData) (read : TalliesRead s) where
         (
           shell k c,
           is,
-          (kept.0 ∙ (same.ended ∙ fits.0), (none_behind_tally s before new n t alike number no_tallies fits.1.0, shell_fits s (stand_from_latest One s before) (stand_from_latest Two s (tally t ∷ new)) k c (kept.1 ∙ same.shell) fits.1.1)),
+          (
+            kept.0 ∙ (same.ended ∙ fits.0),
+            (
+              none_behind_tally s before new n t alike number no_tallies fits.1.0,
+              shell_fits s (stand_from_latest One s before)
+                  (stand_from_latest Two s (tally t ∷ new)) k c (kept.1 ∙ same.shell) fits.1.1,
+            ),
+          ),
           on (shell k c ∷ tally t ∷ new) (record { ended = alike.ended; shells = ap suc alike.shells; asks = refl; since = refl }) refl,
         ),
       )
 
   -- END comes
-  end_step : (before new : List CertLine) (n : ℕ) → Alike before new → number_of is_shell before ≡ n → number_of is_tally (since_shell new) ≡ 0 → FitsLine s (stand_from_latest One s before) end
+  end_step : (before new : List CertLine) (n : ℕ) → Alike before new → number_of is_shell before ≡ n → number_of is_tally (since_shell new) ≡ 0
+      → FitsLine s (stand_from_latest One s before) end
       → IsReadable s end → IsLegalAfter Two s new (tally_before s n ++ spelling end ∷ [])
   end_step before new zero alike number no_tallies fits is =
       let same = same_stand s before new alike in
@@ -228,25 +276,34 @@ module _ (s : SolidData) (read : TalliesRead s) where
         tally t,
         one_tally n at.0 at.1,
         tally_next s before new n at.0 alike number no_tallies at.1 fits.0 fits.1.0,
-        (end, is, (kept.0 ∙ (same.ended ∙ fits.0), (none_behind_tally s before new n t alike number no_tallies fits.1.0, kept.1 ∙ (same.shell ∙ fits.1.1))), end_there s (tally t ∷ new)),
+        (
+          end,
+          is,
+          (kept.0 ∙ (same.ended ∙ fits.0), (none_behind_tally s before new n t alike number no_tallies fits.1.0, kept.1 ∙ (same.shell ∙ fits.1.1))),
+          end_there s (tally t ∷ new),
+        ),
       )
 
-  upgrade_behind : (before new : List CertLine) (n : ℕ) (lines : List (List ℕ)) → Alike before new → number_of is_shell before ≡ n → number_of is_tally (since_shell new) ≡ 0 → IsLegalAfter One s before lines → IsLegalAfter Two s new (with_tallies s n lines)
+  upgrade_behind : (before new : List CertLine) (n : ℕ) (lines : List (List ℕ)) → Alike before new → number_of is_shell before ≡ n
+      → number_of is_tally (since_shell new) ≡ 0 → IsLegalAfter One s before lines → IsLegalAfter Two s new (with_tallies s n lines)
   upgrade_behind before new n [] alike number no_tallies legal = ended_too alike legal
     where
       ended_too : Alike before new → (stand_from_latest One s before).ended ≡ true → (stand_from_latest Two s new).ended ≡ true
       ended_too a h = (same_stand s before new a).ended ∙ h
   upgrade_behind before new n (bytes ∷ lines) alike number no_tallies (l, is_l, fits, more) =
-      subst (λ b. IsLegalAfter Two s new (with_tallies s n (b ∷ lines))) (sym is_l.1.1) (by_line l (subst (λ b. IsLine (line_limit s) b l) is_l.1.1 is_l) fits more (λ new' m a b c d. upgrade_behind (l ∷ before) new' m lines a b c d))
+      subst (λ b. IsLegalAfter Two s new (with_tallies s n (b ∷ lines))) (sym is_l.1.1)
+      (by_line l (subst (λ b. IsLine (line_limit s) b l) is_l.1.1 is_l) fits more (λ new' m a b c d. upgrade_behind (l ∷ before) new' m lines a b c d))
     where
       same : SameStand (stand_from_latest One s before) (stand_from_latest Two s new)
       same = same_stand s before new alike
 
       Later : CertLine → Type 0
-      Later l = (new' : List CertLine) (m : ℕ) → Alike (l ∷ before) new' → number_of is_shell (l ∷ before) ≡ m → number_of is_tally (since_shell new') ≡ 0 → IsLegalAfter One s (l ∷ before) lines → IsLegalAfter Two s new' (with_tallies s m lines)
+      Later l = (new' : List CertLine) (m : ℕ) → Alike (l ∷ before) new' → number_of is_shell (l ∷ before) ≡ m → number_of is_tally (since_shell new') ≡ 0
+          → IsLegalAfter One s (l ∷ before) lines → IsLegalAfter Two s new' (with_tallies s m lines)
 
       Follows : CertLine → Type 0
-      Follows l = IsReadable s l → FitsLine s (stand_from_latest One s before) l → IsLegalAfter One s (l ∷ before) lines → Later l → IsLegalAfter Two s new (with_tallies s n (spelling l ∷ lines))
+      Follows l = IsReadable s l → FitsLine s (stand_from_latest One s before) l → IsLegalAfter One s (l ∷ before) lines → Later l
+          → IsLegalAfter Two s new (with_tallies s n (spelling l ∷ lines))
 
       at_shell : (k : ℕ) (c : ShellCounts) → Follows (shell k c)
       at_shell k c is fits more later =
@@ -273,9 +330,15 @@ module _ (s : SolidData) (read : TalliesRead s) where
           } in
           let counted : number_of is_shell (l ∷ before) ≡ n = number_same is_shell l before e ∙ number in
           let begun : since_shell (l ∷ new) ≡ l ∷ since_shell new = ap (λ b. cond b [] (l ∷ since_shell new)) e in
-          let untold : number_of is_tally (since_shell (l ∷ new)) ≡ 0 = ap (number_of is_tally) begun ∙ (number_same is_tally l (since_shell new) g ∙ no_tallies) in
-          subst (IsLegalAfter Two s new) (sym (kept_there s n l lines e f))
-          (l, is, (same.ended ∙ fits.0, fits_too s (stand_from_latest One s before) (stand_from_latest Two s new) l e f g same fits.1), later (l ∷ new) n next counted untold more)
+          let untold : number_of is_tally (since_shell (l ∷ new)) ≡ 0 = ap (number_of is_tally) begun
+          ∙ (number_same is_tally l (since_shell new) g ∙ no_tallies) in
+          subst (IsLegalAfter Two s new) (sym (kept_there s n l lines e f)) (
+            l,
+            is,
+            (same.ended ∙ fits.0, fits_too s (stand_from_latest One s before) (stand_from_latest Two s new) l e f g same fits.1),
+            later (l ∷ new) n next
+                counted untold more,
+          )
 
       by_tests : (l : CertLine) (a b c : Bool) → is_shell l ≡ a → is_last l ≡ b → is_tally l ≡ c → Follows l
       by_tests l true b c e f g = let begun = shell_line l e in subst Follows (sym begun.2) (at_shell begun.0 begun.1)
@@ -289,4 +352,5 @@ module _ (s : SolidData) (read : TalliesRead s) where
   -- Legal lines of version 1, with TALLY lines, are legal in version 2.
   pub upgrade_legal : (lines : List (List ℕ)) → IsLegal One s lines → IsLegal Two s (with_tallies s 0 lines)
   upgrade_legal lines legal =
-      legal_forward Two s (with_tallies s 0 lines) (upgrade_behind [] [] 0 lines (record { ended = refl; shells = refl; asks = refl; since = refl }) refl refl (legal_behind One s lines legal))
+      legal_forward Two s (with_tallies s 0 lines)
+      (upgrade_behind [] [] 0 lines (record { ended = refl; shells = refl; asks = refl; since = refl }) refl refl (legal_behind One s lines legal))

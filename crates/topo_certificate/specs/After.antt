@@ -10,11 +10,13 @@ use Rattle.cert_lines.specs.declared.fault.Illegal.TheVariants.{Missing}
 
 abbrev pub IsLegalAfter : Version → SolidData → List CertLine → List (List ℕ) → Type 0
 IsLegalAfter v s before [] = (stand_from_latest v s before).ended ≡ true
-IsLegalAfter v s before (bytes ∷ rest) = (line : CertLine) × IsLine (line_limit s) bytes line × FitsLine s (stand_from_latest v s before) line × IsLegalAfter v s (line ∷ before) rest
+IsLegalAfter v s before (bytes ∷ rest) = (line : CertLine) × IsLine (line_limit s) bytes line × FitsLine s (stand_from_latest v s before) line
+    × IsLegalAfter v s (line ∷ before) rest
 
 -- the lines before are numbered from this number on
 abbrev pub IsFirstBadAfter : Version → SolidData → (Stand → CertLine → Type 0) → ℕ → List CertLine → List (List ℕ) → Illegal → Type 0
 IsFirstBadAfter v s Fits first before [] bad = ((stand_from_latest v s before).ended ≡ false) × (bad ≡ Missing (first + length before))
 IsFirstBadAfter v s Fits first before (bytes ∷ rest) bad =
     IsBadLine s (Fits (stand_from_latest v s before)) (first + length before) bytes bad
-    ⊎ ((line : CertLine) × IsLine (line_limit s) bytes line × FitsLine s (stand_from_latest v s before) line × IsFirstBadAfter v s Fits first (line ∷ before) rest bad)
+    ⊎ ((line : CertLine) × IsLine (line_limit s) bytes line × FitsLine s (stand_from_latest v s before) line × IsFirstBadAfter v s Fits first (line ∷ before)
+    rest bad)

@@ -20,7 +20,8 @@ pub record FedKept : Type 0 where
 abbrev pub IsKeptOf : SolidData → List ℕ → List ℕ → Type 0
 IsKeptOf s kept rest = (kept ≡ take (line_limit s) rest) × IsTrue (is_in_line rest)
 
--- The checker, of this version and solid, has found no fault. It has advanced past these lines, in the order of the certificate and numbered from this number on, and of this rest of a line it keeps the first bytes.
+-- The checker, of this version and solid, has found no fault. It has advanced past these lines, in the order of the certificate and numbered from this number
+-- on, and of this rest of a line it keeps the first bytes.
 pub record StandsAfter (v : Version) (s : SolidData) (first : ℕ) (read : List CertLine) (rest : List ℕ) (c : FedKept) : Type 0 where
   pub version : c.checker.version ≡ v
   pub solid : c.checker.solid ≡ s
@@ -28,7 +29,8 @@ pub record StandsAfter (v : Version) (s : SolidData) (first : ℕ) (read : List 
   pub at : IsAt first c.checker (reverse read)
   pub kept : IsKeptOf s c.kept rest
 
--- Of lines of which these may come, the lines fit and the checker has advanced past them, or it has found the first bad one among them: it is the first whatever lines follow.
+-- Of lines of which these may come, the lines fit and the checker has advanced past them, or it has found the first bad one among them: it is the first
+-- whatever lines follow.
 abbrev pub HasJudged : Version → SolidData → (Stand → CertLine → Type 0) → ℕ → List (List ℕ) → List ℕ → FedKept → Type 0
 HasJudged v s Fits first lines rest c = MatchOption c.failed
     ((read : List CertLine) × AreFitting v s lines read × StandsAfter v s first read rest c)

@@ -1,5 +1,6 @@
 -- What a checker keeps of a shell, in arrays.
-use Rattle.std.specs.Prelude.{◌≡◌, ℕ, zero, suc, ◌+◌, ◌-◌, ◌*◌, ◌≤◌, ◌<◌, ◌^◌, ◌==◌, ◌&&◌, ◌↔◌, Bool, true, List, [], ◌∷◌, length, map, Contains, Option, Some, None, IsSomeAnd, slice_get, if◌then◌else◌}
+use Rattle.std.specs.Prelude.{◌≡◌, ℕ, zero, suc, ◌+◌, ◌-◌, ◌*◌, ◌≤◌, ◌<◌, ◌^◌, ◌==◌, ◌&&◌, ◌↔◌, Bool, true, List, [], ◌∷◌, length, map, Contains, Option, Some}
+use Rattle.std.specs.Prelude.{None, IsSomeAnd, slice_get, if◌then◌else◌}
 use Rattle.solid_data.specs.declared.solid.LoopAt.{LoopAt}
 use Rattle.edge_uses.specs.declared.row.Row.{Row}
 use Rattle.edge_uses.specs.ShellRows.{ShellRows}
@@ -59,7 +60,8 @@ Precedes p q = (p.face.0 ≤ q.face.0) × (p.face.0 ≡ q.face.0 → p.place < q
 abbrev pub InFileOrder : List (LoopAt × ℕ) → Type 0
 InFileOrder points = (i j : ℕ) (p q : LoopAt × ℕ) → i < j → slice_get points i ≡ Some p → slice_get points j ≡ Some q → Precedes p.0 q.0
 
--- Of a shell: its rows; how many loops it has; how many rows a corner line has that starts with a row; which loops without an edge are alone at their vertex; the mate of each row; which faces are reached; the lines that are due; the last edge and the last vertex.
+-- Of a shell: its rows; how many loops it has; how many rows a corner line has that starts with a row; which loops without an edge are alone at their vertex;
+-- the mate of each row; which faces are reached; the lines that are due; the last edge and the last vertex.
 pub record KeptShell : Type 0 where
   pub rows : ShellRows
   pub loops : ℕ

@@ -23,14 +23,17 @@ pub record MatchesShell (s : SolidData) (at : Stand) (k : KeptShell) : Type 0 wh
 abbrev pub Takes : KeptShell → KeptShell → CertLine → Bool → Type 0
 Takes old new line taken =
     (v : Version) (s : SolidData) (lines : List CertLine) → MatchesShell s (stand_from_latest v s lines) old →
-    MatchBool taken (FitsOpen s (stand_from_latest v s lines) line × MatchesShell s (stand_from_latest v s (line ∷ lines)) new) (¬ FitsOpen s (stand_from_latest v s lines) line)
+    MatchBool taken (FitsOpen s (stand_from_latest v s lines) line × MatchesShell s (stand_from_latest v s (line ∷ lines)) new)
+    (¬ FitsOpen s (stand_from_latest v s lines) line)
 
 -- The shells that are not begun, the next one last.
 pub record AreWaiting (v : Version) (s : SolidData) (shell : ℕ) (waiting : List KeptShell) : Type 0 where
   pub count : length waiting + shell ≡ length s.shells
-  pub fresh : (i : ℕ) (k : KeptShell) → slice_get waiting i ≡ Some k → IsFresh v (rows_of_shell s (length s.shells - i)) (loops_of_shell s (length s.shells - i)) k
+  pub fresh : (i : ℕ) (k : KeptShell) → slice_get waiting i ≡ Some k
+      → IsFresh v (rows_of_shell s (length s.shells - i)) (loops_of_shell s (length s.shells - i)) k
 
--- What a checker keeps: the version, the solid, the fault that it found, the number of the next line, whether END came, the number of the shell, what it keeps of that shell, and of those not begun.
+-- What a checker keeps: the version, the solid, the fault that it found, the number of the next line, whether END came, the number of the shell, what it keeps
+-- of that shell, and of those not begun.
 pub record Kept : Type 0 where
   pub version : Version
   pub solid : SolidData

@@ -12,4 +12,5 @@ abbrev pub IsPartLine : Kept → Kept → ℕ → List CertLine → List ℕ →
 IsPartLine old new first lines bytes More =
     (l : CertLine) × IsLine (line_limit old.solid) bytes l × FitsLine old.solid (stand_from_latest old.version old.solid lines) l × IsAt first new (l ∷ lines)
 IsPartLine old new first lines bytes (Next named number) =
-    IsLine (line_limit old.solid) bytes (solid named.0) × BeginsNext old.solid (stand_from_latest old.version old.solid lines) named.0 × (number ≡ first + length lines + 1) × (new ≡ old)
+    IsLine (line_limit old.solid) bytes (solid named.0) × BeginsNext old.solid (stand_from_latest old.version old.solid lines) named.0
+    × (number ≡ first + length lines + 1) × (new ≡ old)

@@ -11,7 +11,8 @@ use Rattle.topo_certificate.specs.declared.line_checker.PartLine.TheVariants as 
 use Rattle.topo_certificate.specs.declared.checker.PartStep.{PartStep}
 use Rattle.topo_certificate.specs.declared.checker.PartStep.TheVariants.{More, Next}
 
--- Lines of the part fit, and after them the text ends with a line that names this solid and begins the next part. The line after that has this number, and the checker stands before the line of the solid.
+-- Lines of the part fit, and after them the text ends with a line that names this solid and begins the next part. The line after that has this number, and the
+-- checker stands before the line of the solid.
 pub record EndsPart (v : Version) (s : SolidData) (first : ℕ) (text : List ℕ) (n line : ℕ) (c : FedKept) : Type 0 where
   pub good : List (List ℕ)
   pub read : List CertLine

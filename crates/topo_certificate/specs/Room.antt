@@ -23,4 +23,5 @@ pub record HasRoom (limit : ℕ) (c : Kept) : Type 0 where
 abbrev pub TakesLine : Kept → Kept → CertLine → Bool → Type 0
 TakesLine old new line taken =
     (first : ℕ) (lines : List CertLine) → IsAt first old lines →
-    MatchBool taken (FitsLine old.solid (stand_from_latest old.version old.solid lines) line × IsAt first new (line ∷ lines)) (¬ FitsLine old.solid (stand_from_latest old.version old.solid lines) line)
+    MatchBool taken (FitsLine old.solid (stand_from_latest old.version old.solid lines) line × IsAt first new (line ∷ lines))
+    (¬ FitsLine old.solid (stand_from_latest old.version old.solid lines) line)

@@ -1,5 +1,6 @@
 -- Where a certificate stands after some of its lines, and which line fits there. The lines are those after the head and the line of the solid.
-use Rattle.std.specs.Prelude.{◌≡◌, ℕ, zero, suc, ◌+◌, ◌-◌, ◌*◌, ◌<◌, ◌==◌, ◌&&◌, ◌⊎◌, Bool, true, false, List, [], ◌∷◌, length, reverse, sum_by, filter_map, find, filter, count_by, Contains, Option, Some, None, slice_get, option_map, IfSome, if◌then◌else◌}
+use Rattle.std.specs.Prelude.{◌≡◌, ℕ, zero, suc, ◌+◌, ◌-◌, ◌*◌, ◌<◌, ◌==◌, ◌&&◌, ◌⊎◌, Bool, true, false, List, [], ◌∷◌, length, reverse, sum_by, filter_map}
+use Rattle.std.specs.Prelude.{find, filter, count_by, Contains, Option, Some, None, slice_get, option_map, IfSome, if◌then◌else◌}
 use Rattle.std.specs.List.{AllByRecursion, AllZip, list_any}
 use Rattle.solid_data.specs.Ring.{next_of_each}
 use Rattle.solid_data.specs.SolidData.{SolidData}

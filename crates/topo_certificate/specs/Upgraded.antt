@@ -1,5 +1,6 @@
 -- A certificate of version 1 as one of version 2, for a solid.
-use Rattle.std.specs.Prelude.{ℕ, zero, suc, ◌+◌, ◌==◌, ◌&&◌, Bool, true, false, List, [], ◌∷◌, ◌++◌, length, flat_map, codes, Option, Some, None, slice_get, if◌then◌else◌}
+use Rattle.std.specs.Prelude.{ℕ, zero, suc, ◌+◌, ◌==◌, ◌&&◌, Bool, true, false, List, [], ◌∷◌, ◌++◌, length, flat_map, codes, Option, Some, None, slice_get}
+use Rattle.std.specs.Prelude.{if◌then◌else◌}
 use Rattle.solid_data.specs.SolidData.{SolidData}
 use Rattle.solid_data.specs.declared.solid.Shell.{Shell}
 use Rattle.edge_uses.specs.ShellRows.{shell_rows}
@@ -16,7 +17,13 @@ starts_with (w ∷ word) (b ∷ bytes) = (w == b) && starts_with word bytes
 
 -- the counts in the TALLY line of a shell
 abbrev pub tally_of_shell : SolidData → Shell → Tally
-tally_of_shell s h = record { vertices = length (shell_rows s h).vertices; edges = length (shell_rows s h).edges; faces = (shell_rows s h).face_count; loops = loops_of (Some h) }
+tally_of_shell s h = record {
+  vertices = length (shell_rows s h).vertices;
+  edges = length (shell_rows s h).edges;
+  faces = (shell_rows s h).face_count;
+  loops =
+      loops_of (Some h);
+}
 
 abbrev pub tally_lines_of : SolidData → Option Shell → List (List ℕ)
 tally_lines_of s None = []
@@ -39,7 +46,8 @@ joined lines = flat_map (λ (line : List ℕ). line) lines
 
 abbrev pub upgraded_from : SolidData → List ℕ → List (List ℕ) → List ℕ
 upgraded_from s certificate [] = certificate
-upgraded_from s certificate (first ∷ lines) = if starts_with (words (head One)) first then joined (spelling (head Two) ∷ with_tallies s 0 lines) else certificate
+upgraded_from s certificate (first ∷ lines) = if starts_with (words (head One)) first then joined (spelling (head Two) ∷ with_tallies s 0 lines) else
+    certificate
 
 -- A certificate of version 1 with the head of version 2 and with TALLY lines; any other as it is.
 unfoldable pub upgraded : SolidData → List ℕ → List ℕ

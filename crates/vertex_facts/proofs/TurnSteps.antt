@@ -1,5 +1,6 @@
 -- Turns are the ones that the words say, and tables of rows by vertices and by fans.
-use Rattle.std.specs.Prelude.{◌≡◌, ◌<◌, ◌≤◌, ◌+◌, ◌-◌, ◌==◌, ◌&&◌, not, ℕ, zero, suc, Bool, true, false, List, [], ◌∷◌, ◌++◌, length, map, flat_map, slice_get, Some, All, if◌then◌else◌}
+use Rattle.std.specs.Prelude.{◌≡◌, ◌<◌, ◌≤◌, ◌+◌, ◌-◌, ◌==◌, ◌&&◌, not, ℕ, zero, suc, Bool, true, false, List, [], ◌∷◌, ◌++◌, length, map, flat_map, slice_get}
+use Rattle.std.specs.Prelude.{Some, All, if◌then◌else◌}
 use Rattle.std.specs.List.{enumerate_from}
 use Rattle.std.proofs.Common.{refl, sym, ◌∙◌, ap, subst, arith, inl, inr, ⊎_elim, get_or, drop, append_assoc}
 use Rattle.std.proofs.lemmas.Bool.Decides.{eqb_tells}
@@ -30,7 +31,8 @@ use Rattle.vertex_facts.proofs.Placing.{all_at, places_read, place_below}
 enumerated_has : {A : Type 0} (i k : ℕ) (xs : List A) (x : A) → slice_get xs k ≡ Some x → Has (enumerate_from i xs) (i + k, x)
 enumerated_has i k [] x at = absurd cc
 enumerated_has i zero (y ∷ xs) x at = let z : i ≡ i + 0 = omega arith in inl (ap (λ n. (n, y)) z ∙ ap (λ a. (i + 0, a)) (same_Some y x at))
-enumerated_has i (suc k) (y ∷ xs) x at = let z : i + 1 + k ≡ i + suc k = omega arith in inr (subst (λ n. Has (enumerate_from (i + 1) xs) (n, x)) z (enumerated_has (i + 1) k xs x at))
+enumerated_has i (suc k) (y ∷ xs) x at =
+    let z : i + 1 + k ≡ i + suc k = omega arith in inr (subst (λ n. Has (enumerate_from (i + 1) xs) (n, x)) z (enumerated_has (i + 1) k xs x at))
 
 enumerated_at : {A : Type 0} (i : ℕ) (xs : List A) (q : ℕ × A) → Has (enumerate_from i xs) q → (k : ℕ) × (q.0 ≡ i + k) × (slice_get xs k ≡ Some q.1)
 enumerated_at i [] q m = absurd m
@@ -55,14 +57,16 @@ way_other false false e = absurd cc
 mate_tests : (row : Row) (q : ℕ × Row) (x : ℕ) → Has (mate_if row q) x → (q.0 ≡ x) × (q.1.edge.0 ≡ row.edge.0) × (row.along ≡ not q.1.along)
 mate_tests row q x m = by_tests (q.1.edge.0 == row.edge.0) (if row.along then not q.1.along else q.1.along) refl refl m
   where
-    by_tests : (a b : Bool) → (q.1.edge.0 == row.edge.0) ≡ a → (if row.along then not q.1.along else q.1.along) ≡ b → Has (if a && b then q.0 ∷ [] else []) x → (q.0 ≡ x) × (q.1.edge.0 ≡ row.edge.0) × (row.along ≡ not q.1.along)
+    by_tests : (a b : Bool) → (q.1.edge.0 == row.edge.0) ≡ a → (if row.along then not q.1.along else q.1.along) ≡ b → Has (if a && b then q.0 ∷ [] else []) x
+        → (q.0 ≡ x) × (q.1.edge.0 ≡ row.edge.0) × (row.along ≡ not q.1.along)
     by_tests true true e f (inl k) = (k, eqb-true q.1.edge.0 row.edge.0 e, way_other row.along q.1.along f)
     by_tests true true e f (inr k) = absurd k
     by_tests true false e f k = absurd k
     by_tests false b e f k = absurd k
 
 mate_among : (row mate : Row) (m : ℕ) → row.edge ≡ mate.edge → row.along ≡ not mate.along → Has (mate_if row (m, mate)) m
-mate_among row mate m edge way = by_tests (mate.edge.0 == row.edge.0) (if row.along then not mate.along else mate.along) (is_same mate.edge.0 row.edge.0 (ap (λ (e : EdgeId). e.0) (sym edge))) (other_way row.along mate.along way)
+mate_among row mate m edge way = by_tests (mate.edge.0 == row.edge.0) (if row.along then not mate.along else mate.along)
+    (is_same mate.edge.0 row.edge.0 (ap (λ (e : EdgeId). e.0) (sym edge))) (other_way row.along mate.along way)
   where
     is_same : (a b : ℕ) → a ≡ b → (a == b) ≡ true
     is_same a b e = ⊎_elim (λ h. h.0) (λ h. absurd (h.1 e)) (eqb_tells a b)
@@ -76,7 +80,8 @@ mates_have : (d : ShellRows) (r m : ℕ) → AreMates d r m → Has (mates_of d 
 mates_have d r m h =
     let z : 0 + m ≡ m = omega arith in
     subst (λ o. Has (mates_of d o) m) (sym h.at_r)
-    (has_flat_map (mate_if h.row) (enumerate_from 0 d.rows) (m, h.mate) m (subst (λ n. Has (enumerate_from 0 d.rows) (n, h.mate)) z (enumerated_has 0 m d.rows h.mate h.at_m)) (mate_among h.row h.mate m h.one_edge h.opposite))
+    (has_flat_map (mate_if h.row) (enumerate_from 0 d.rows) (m, h.mate) m
+    (subst (λ n. Has (enumerate_from 0 d.rows) (n, h.mate)) z (enumerated_has 0 m d.rows h.mate h.at_m)) (mate_among h.row h.mate m h.one_edge h.opposite))
 
 mates_are : (d : ShellRows) (r x : ℕ) (row : Row) → slice_get d.rows r ≡ Some row → Has (mates_of d (Some row)) x → AreMates d r x
 mates_are d r x row at m =
@@ -103,7 +108,8 @@ turn_is d r t mates turn =
     let m : ℕ = turn.0 in
     let h : AreMates d r m = turn.1 in
     let first : get_or (mates_of d (slice_get d.rows r)) 0 0 ≡ m =
-    first_is (mates_of d (slice_get d.rows r)) m (mates_have d r m h) (λ x k. mates.one r x m (mates_are d r x h.row h.at_r (subst (λ o. Has (mates_of d o) x) h.at_r k)) h) in
+    first_is (mates_of d (slice_get d.rows r)) m (mates_have d r m h)
+    (λ x k. mates.one r x m (mates_are d r x h.row h.at_r (subst (λ o. Has (mates_of d o) x) h.at_r k)) h) in
     sym (ap (λ n. get_or d.follows n 0) first ∙ get_or_from_slice_get d.follows m t 0 turn.2)
 
 pub turn_inside : (d : ShellRows) (r t : ℕ) → AreRows d → Turns d r t → t < length d.rows
@@ -118,20 +124,23 @@ leasts_low d leasts fans x lt =
     let at : (f : ℕ) × (slice_get leasts x ≡ Some f) = get_some leasts x lt in
     subst (λ n. n ≤ x) (sym (get_or_from_slice_get leasts x at.0 0 at.1)) (fans.least x at.0 x at.1 (leads_here (Turns d) x))
 
-pub starts_within : (d : ShellRows) (range : Span) (ns : List ℕ) → AreRows d → IsSpanOf range d.vertices → ns ≡ map (λ (r : Row). r.from.0) d.rows → All (IsWithin range) ns
+pub starts_within : (d : ShellRows) (range : Span) (ns : List ℕ) → AreRows d → IsSpanOf range d.vertices → ns ≡ map (λ (r : Row). r.from.0) d.rows
+    → All (IsWithin range) ns
 starts_within d range ns rows span are = all_from (IsWithin range) ns (λ x m.
     let from : (r : Row) × Has d.rows r × (r.from.0 ≡ x) = has_map (λ (r : Row). r.from.0) d.rows x (subst (λ ys. Has ys x) are m) in
     let hold = all_has _ d.rows from.0 rows.vertices_hold from.1 in
     all_at (IsWithin range) d.vertices x span.holds (subst (Has d.vertices) from.2 (Has-from_Contains d.vertices from.0.from.0 hold.0)))
 
-pub points_within : (d : ShellRows) (range : Span) (ns : List ℕ) → AreRows d → IsSpanOf range d.vertices → ns ≡ map (λ (p : LoopAt × ℕ). p.1) d.points → All (IsWithin range) ns
+pub points_within : (d : ShellRows) (range : Span) (ns : List ℕ) → AreRows d → IsSpanOf range d.vertices → ns ≡ map (λ (p : LoopAt × ℕ). p.1) d.points
+    → All (IsWithin range) ns
 points_within d range ns rows span are = all_from (IsWithin range) ns (λ x m.
     let from : (p : LoopAt × ℕ) × Has d.points p × (p.1 ≡ x) = has_map (λ (p : LoopAt × ℕ). p.1) d.points x (subst (λ ys. Has ys x) are m) in
     let hold = all_has _ d.points from.0 rows.points_hold from.1 in
     all_at (IsWithin range) d.vertices x span.holds (subst (Has d.vertices) from.2 (Has-from_Contains d.vertices from.0.1 hold)))
 
 -- the fans of two lists of rows
-on_fans_append : (d : ShellRows) (leasts : List ℕ) (i : ℕ) (xs ys : List ℕ) → on_fans d leasts i (xs ++ ys) ≡ on_fans d leasts i xs ++ on_fans d leasts (i + length xs) ys
+on_fans_append : (d : ShellRows) (leasts : List ℕ) (i : ℕ) (xs ys : List ℕ) → on_fans d leasts i (xs ++ ys) ≡ on_fans d leasts i xs
+    ++ on_fans d leasts (i + length xs) ys
 on_fans_append d leasts i [] ys = let z : i ≡ i + 0 = omega arith in ap (λ n. on_fans d leasts n ys) z
 on_fans_append d leasts i (x ∷ xs) ys =
     let z : i + 1 + length xs ≡ i + suc (length xs) = omega arith in
@@ -140,15 +149,18 @@ on_fans_append d leasts i (x ∷ xs) ys =
     ∙ ap (λ n. on_fans d leasts i (x ∷ xs) ++ on_fans d leasts n ys) z)
 
 -- one row more of a fan
-pub turn_step : (d : ShellRows) (fan left row next : ℕ) (old new all : List AtVertex) → 0 < left → old ++ map (on_fan fan) (by_turns d left row) ≡ all → new ≡ old ++ on_fan fan row ∷ [] → next ≡ turn_of d row
+pub turn_step : (d : ShellRows) (fan left row next : ℕ) (old new all : List AtVertex) → 0 < left → old ++ map (on_fan fan) (by_turns d left row) ≡ all
+    → new ≡ old ++ on_fan fan row ∷ [] → next ≡ turn_of d row
     → new ++ map (on_fan fan) (by_turns d (left - 1) next) ≡ all
 turn_step d fan left row next old new all some h e is =
     let one : left ≡ suc (left - 1) = omega (arith, some) in
     ap (λ n. new ++ map (on_fan fan) (by_turns d (left - 1) n)) is
-    ∙ piece_more old new (on_fan fan row ∷ []) (map (on_fan fan) (by_turns d (left - 1) (turn_of d row))) all (ap (λ n. old ++ map (on_fan fan) (by_turns d n row)) (sym one) ∙ h) e
+    ∙ piece_more old new (on_fan fan row ∷ []) (map (on_fan fan) (by_turns d (left - 1) (turn_of d row))) all
+    (ap (λ n. old ++ map (on_fan fan) (by_turns d n row)) (sym one) ∙ h) e
 
 -- one row more that starts at the vertex
-pub fan_step : (d : ShellRows) (leasts : List ℕ) (fan next r : ℕ) (rest : List ℕ) (old new all : List AtVertex) → old ++ on_fans d leasts fan (least_if leasts r ++ rest) ≡ all
+pub fan_step : (d : ShellRows) (leasts : List ℕ) (fan next r : ℕ) (rest : List ℕ) (old new all : List AtVertex)
+    → old ++ on_fans d leasts fan (least_if leasts r ++ rest) ≡ all
     → new ≡ old ++ on_fans d leasts fan (least_if leasts r) → next ≡ fan + length (least_if leasts r) → new ++ on_fans d leasts next rest ≡ all
 fan_step d leasts fan next r rest old new all h e n =
     ap (λ xs. xs ++ on_fans d leasts next rest) e
@@ -159,9 +171,11 @@ fan_step d leasts fan next r rest old new all h e n =
 pub row_split : (rows : List ℕ) (i r : ℕ) → i < length rows → get_or rows i 0 ≡ r → drop i rows ≡ r ∷ drop (i + 1) rows
 row_split rows i r lt at = split_drop rows r i lt (default_apart rows i r 0 lt ∙ at)
 
-pub rows_inside : (v i r : ℕ) (d : ShellRows) (rows : List ℕ) → rows ≡ places_of v (map (λ (r : Row). r.from.0) d.rows) → i < length rows → get_or rows i 0 ≡ r → r < length d.rows
+pub rows_inside : (v i r : ℕ) (d : ShellRows) (rows : List ℕ) → rows ≡ places_of v (map (λ (r : Row). r.from.0) d.rows) → i < length rows → get_or rows i 0 ≡ r
+    → r < length d.rows
 rows_inside v i r d rows are lt at =
-    let h : r < length (map (λ (r : Row). r.from.0) d.rows) = place_below v r (map (λ (r : Row). r.from.0) d.rows) (subst (λ rs. Has rs r) are (Has-from_place rows r i lt (default_apart rows i r 0 lt ∙ at))) in
+    let h : r < length (map (λ (r : Row). r.from.0) d.rows) =
+    place_below v r (map (λ (r : Row). r.from.0) d.rows) (subst (λ rs. Has rs r) are (Has-from_place rows r i lt (default_apart rows i r 0 lt ∙ at))) in
     omega (arith, h, length-map d.rows (λ (r : Row). r.from.0))
 
 pub least_short : (leasts : List ℕ) (r : ℕ) → length (least_if leasts r) ≤ 1

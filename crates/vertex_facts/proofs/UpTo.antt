@@ -1,5 +1,6 @@
 -- The shells rise along the places of a vertex, so those up to a shell come first.
-use Rattle.std.specs.Prelude.{◌≡◌, ◌<◌, ◌≤◌, ◌+◌, ◌==◌, ℕ, zero, suc, Bool, true, false, List, [], ◌∷◌, ◌++◌, length, map, flat_map, take, slice_get, Option, Some, None, All, if◌then◌else◌}
+use Rattle.std.specs.Prelude.{◌≡◌, ◌<◌, ◌≤◌, ◌+◌, ◌==◌, ℕ, zero, suc, Bool, true, false, List, [], ◌∷◌, ◌++◌, length, map, flat_map, take, slice_get, Option}
+use Rattle.std.specs.Prelude.{Some, None, All, if◌then◌else◌}
 use Rattle.std.specs.List.{enumerate_from}
 use Rattle.std.specs.List.Sorted.{IsNonDecreasingBy, IsPartitionPoint}
 use Rattle.std.proofs.Common.{refl, sym, ◌∙◌, ap, subst, arith, inl, inr, get_or}
@@ -65,22 +66,27 @@ touches_rise s i (h ∷ hs) =
     along_same shell_of i (shell_touches s (i, h)) (flat_map (shell_touches s) (enumerate_from (i + 1) hs)) (one_shell s i h)
     (along_lower shell_of i (i + 1) (flat_map (shell_touches s) (enumerate_from (i + 1) hs)) (omega arith) (touches_rise s (i + 1) hs))
 
-places_along : (v i b : ℕ) (ts all : List FaceAtVertex) → ((j : ℕ) → slice_get all (i + j) ≡ slice_get ts j) → Along shell_of b ts → Along (shell_there all) b (flat_map (place_if v) (enumerate_from i (map vertex_of ts)))
+places_along : (v i b : ℕ) (ts all : List FaceAtVertex) → ((j : ℕ) → slice_get all (i + j) ≡ slice_get ts j) → Along shell_of b ts
+    → Along (shell_there all) b (flat_map (place_if v) (enumerate_from i (map vertex_of ts)))
 places_along v i b [] all at h = tt
 places_along v i b (t ∷ ts) all at h =
     let z : i + 0 ≡ i = omega arith in
     by_test (t.vertex == v) (ap shell_if (sym (ap (λ n. slice_get all n) z) ∙ at 0)) h.0
     (places_along v (i + 1) t.shell ts all (λ j. let n : i + 1 + j ≡ i + suc j = omega arith in ap (λ n. slice_get all n) n ∙ at (suc j)) h.1)
   where
-    by_test : (c : Bool) → shell_there all i ≡ t.shell → b ≤ t.shell → Along (shell_there all) t.shell (flat_map (place_if v) (enumerate_from (i + 1) (map vertex_of ts)))
+    by_test : (c : Bool) → shell_there all i ≡ t.shell → b ≤ t.shell
+        → Along (shell_there all) t.shell (flat_map (place_if v) (enumerate_from (i + 1) (map vertex_of ts)))
         → Along (shell_there all) b ((if c then i ∷ [] else []) ++ flat_map (place_if v) (enumerate_from (i + 1) (map vertex_of ts)))
-    by_test true here le more = (omega (arith, here, le), subst (λ m. Along (shell_there all) m (flat_map (place_if v) (enumerate_from (i + 1) (map vertex_of ts)))) (sym here) more)
+    by_test true here le more =
+        (omega (arith, here, le), subst (λ m. Along (shell_there all) m (flat_map (place_if v) (enumerate_from (i + 1) (map vertex_of ts)))) (sym here) more)
     by_test false here le more = along_lower (shell_there all) b t.shell (flat_map (place_if v) (enumerate_from (i + 1) (map vertex_of ts))) le more
 
-places_rise : (s : SolidData) (v : ℕ) (touches : List FaceAtVertex) → touches ≡ touches_of s → IsNonDecreasingBy (shell_there touches) (places_of v (map vertex_of touches))
+places_rise : (s : SolidData) (v : ℕ) (touches : List FaceAtVertex) → touches ≡ touches_of s
+    → IsNonDecreasingBy (shell_there touches) (places_of v (map vertex_of touches))
 places_rise s v touches are =
     along_rises (shell_there touches) 0 (places_of v (map vertex_of touches))
-    (places_along v 0 0 touches touches (λ j. let z : 0 + j ≡ j = omega arith in ap (λ n. slice_get touches n) z) (subst (Along shell_of 0) (sym are) (touches_rise s 0 s.shells)))
+    (places_along v 0 0 touches touches (λ j. let z : 0 + j ≡ j = omega arith in ap (λ n. slice_get touches n) z)
+    (subst (Along shell_of 0) (sym are) (touches_rise s 0 s.shells)))
 
 -- a face, unless its shell comes later
 abbrev unless_later : FaceAtVertex → Bool → List (ℕ × EntryNo)
@@ -94,30 +100,43 @@ high_kept : (k : ℕ) (o : Option FaceAtVertex) → k < shell_if o → kept_at k
 high_kept k None lt = refl
 high_kept k (Some t) lt = ap (unless_later t) (lt-ltb k t.shell lt)
 
-none_kept : (k : ℕ) (ts : List FaceAtVertex) (ns : List ℕ) → ((j d : ℕ) → j < length ns → k < shell_there ts (get_or ns j d)) → flat_map (kept_from k ts) ns ≡ []
+none_kept : (k : ℕ) (ts : List FaceAtVertex) (ns : List ℕ) → ((j d : ℕ) → j < length ns → k < shell_there ts (get_or ns j d))
+    → flat_map (kept_from k ts) ns ≡ []
 none_kept k ts [] high = refl
 none_kept k ts (n ∷ ns) high =
-    ap (λ xs. xs ++ flat_map (kept_from k ts) ns) (high_kept k (slice_get ts n) (high 0 n (omega arith))) ∙ none_kept k ts ns (λ j d lt. high (suc j) d (omega (arith, lt)))
+    ap (λ xs. xs ++ flat_map (kept_from k ts) ns) (high_kept k (slice_get ts n) (high 0 n (omega arith)))
+    ∙ none_kept k ts ns (λ j d lt. high (suc j) d (omega (arith, lt)))
 
 -- what is kept of the places is what the first ones list
-first_kept : (k : ℕ) (ts : List FaceAtVertex) (ns : List ℕ) (c : ℕ) → IsPartitionPoint (λ n. shell_there ts n ≤ k) (λ n. k < shell_there ts n) ns c → flat_map (kept_from k ts) ns ≡ flat_map (listed_from ts) (take c ns)
+first_kept : (k : ℕ) (ts : List FaceAtVertex) (ns : List ℕ) (c : ℕ) → IsPartitionPoint (λ n. shell_there ts n ≤ k) (λ n. k < shell_there ts n) ns c
+    → flat_map (kept_from k ts) ns ≡ flat_map (listed_from ts) (take c ns)
 first_kept k ts [] zero p = refl
 first_kept k ts [] (suc c) p = refl
 first_kept k ts (n ∷ ns) zero p = none_kept k ts (n ∷ ns) (λ j d lt. p.1 j d (omega arith) lt)
 first_kept k ts (n ∷ ns) (suc c) p =
     ap (λ xs. xs ++ flat_map (kept_from k ts) ns) (low_kept k (slice_get ts n) (p.0 0 n (omega arith) (omega arith)))
-    ∙ ap (λ xs. listed_from ts n ++ xs) (first_kept k ts ns c ((λ j d low high. p.0 (suc j) d (omega arith) (omega (arith, high))), (λ j d low high. p.1 (suc j) d (omega (arith, low)) (omega (arith, high)))))
+    ∙ ap (λ xs. listed_from ts n ++ xs)
+    (first_kept k ts ns c (
+      (λ j d low high. p.0 (suc j) d (omega arith) (omega (arith, high))),
+      (λ j d low high. p.1 (suc j) d (omega (arith, low)) (omega (arith, high))),
+    ))
 
 -- the first places of a vertex give the faces up to a shell
-pub first_listed : (s : SolidData) (k v : ℕ) (touches : List FaceAtVertex) (places : List ℕ) (c : ℕ) → touches ≡ touches_of s → places ≡ places_of v (map vertex_of touches) → v < length s.vertices
+pub first_listed : (s : SolidData) (k v : ℕ) (touches : List FaceAtVertex) (places : List ℕ) (c : ℕ) → touches ≡ touches_of s
+    → places ≡ places_of v (map vertex_of touches) → v < length s.vertices
     → (IsNonDecreasingBy (shell_there touches) places → IsPartitionPoint (λ n. shell_there touches n ≤ k) (λ n. k < shell_there touches n) places c)
     → flat_map (listed_from touches) (take c places) ≡ faces_up_to s k v
 first_listed s k v touches places c are at lt point =
-    sym (first_kept k touches places c (point (subst (IsNonDecreasingBy (shell_there touches)) (sym at) (places_rise s v touches are)))) ∙ told_up_to s k v touches places are at lt
+    sym (first_kept k touches places c (point (subst (IsNonDecreasingBy (shell_there touches)) (sym at) (places_rise s v touches are))))
+    ∙ told_up_to s k v touches places are at lt
 
 -- each of them is a place of the table
-pub first_within : (v c : ℕ) (touches : List FaceAtVertex) (places : List ℕ) → places ≡ places_of v (map vertex_of touches) → All (λ n. n < length touches) (take c places)
-first_within v c touches places at = All-take (λ n. n < length touches) c places (all_from (λ n. n < length touches) places (λ n m. omega (arith, length-map touches vertex_of, place_below v n (map vertex_of touches) (subst (λ ns. Has ns n) at m))))
+pub first_within : (v c : ℕ) (touches : List FaceAtVertex) (places : List ℕ) → places ≡ places_of v (map vertex_of touches)
+    → All (λ n. n < length touches) (take c places)
+first_within v c touches places at =
+    All-take (λ n. n < length touches) c places
+    (all_from (λ n. n < length touches) places
+    (λ n m. omega (arith, length-map touches vertex_of, place_below v n (map vertex_of touches) (subst (λ ns. Has ns n) at m))))
 
 listed_one : (ts : List FaceAtVertex) (n : ℕ) → n < length ts → length (listed_from ts n) ≡ 1
 listed_one ts n lt = let t = get_some ts n lt in ap (λ o. length (listed_at o)) t.1
@@ -126,6 +145,7 @@ listed_one ts n lt = let t = get_some ts n lt in ap (λ o. length (listed_at o))
 pub count_listed : (ts : List FaceAtVertex) (ns : List ℕ) → All (λ n. n < length ts) ns → length (flat_map (listed_from ts) ns) ≡ length ns
 count_listed ts ns within = length-singles (listed_from ts) ns (λ n m. listed_one ts n (all_at (λ n. n < length ts) ns n within m))
 
-pub listed_at_place : (ts : List FaceAtVertex) (ns : List ℕ) (i : ℕ) (face : ℕ × EntryNo) → All (λ n. n < length ts) ns → i < length ns → listed_from ts (get_or ns i 0) ≡ face ∷ [] → slice_get (flat_map (listed_from ts) ns) i ≡ Some face
+pub listed_at_place : (ts : List FaceAtVertex) (ns : List ℕ) (i : ℕ) (face : ℕ × EntryNo) → All (λ n. n < length ts) ns → i < length ns
+    → listed_from ts (get_or ns i 0) ≡ face ∷ [] → slice_get (flat_map (listed_from ts) ns) i ≡ Some face
 listed_at_place ts ns i face within lt is =
     get_single (listed_from ts) ns (λ n m. listed_one ts n (all_at (λ n. n < length ts) ns n within m)) i (get_or ns i 0) face (slice_get-get_or ns i 0 lt) is

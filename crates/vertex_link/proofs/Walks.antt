@@ -1,5 +1,6 @@
 -- The walk from the least row of a vertex comes back after as many turns as rows start there, or the vertex is no corner.
-use Rattle.std.specs.Prelude.{◌≡◌, ◌≢◌, ◌<◌, ◌≤◌, ◌+◌, ◌==◌, ℕ, Bool, true, false, List, [], ◌∷◌, ◌++◌, length, slice_get, Option, Some, None, count_by, IsTrue, MatchOption}
+use Rattle.std.specs.Prelude.{◌≡◌, ◌≢◌, ◌<◌, ◌≤◌, ◌+◌, ◌==◌, ℕ, Bool, true, false, List, [], ◌∷◌, ◌++◌, length, slice_get, Option, Some, None, count_by, IsTrue}
+use Rattle.std.specs.Prelude.{MatchOption}
 use Rattle.std.specs.List.{AllZip}
 use Rattle.std.proofs.Common.{refl, sym, ◌∙◌, ap, subst, arith, inl, inr, ⊎_elim, append_assoc, drop}
 use Rattle.std.proofs.lemmas.List.{append-nil, drop_all}
@@ -13,7 +14,8 @@ use Rattle.edge_uses.specs.ShellRows.{ShellRows}
 use Rattle.edge_uses.specs.RowRelations.{StartsAt, Turns, point_count}
 use Rattle.shell_rules.specs.Closed.{IsCorner, IsPoint, IsLinked}
 use Rattle.edge_uses.specs.Mates.{ArePaired}
-use Rattle.solid_data.proofs.Members.{Has, NoRepeat, covers, no_longer, count_by-total, All-at, All-from, Has-from_Contains, Contains-from_Has, has_last, split_at}
+use Rattle.solid_data.proofs.Members.{Has, NoRepeat, covers, no_longer, count_by-total, All-at, All-from, Has-from_Contains, Contains-from_Has, has_last}
+use Rattle.solid_data.proofs.Members.{split_at}
 use Rattle.solid_data.proofs.Trail.{Trail, trail_from_zip, trail_keeps, no_repeat, leads_to, leads_on, leads_trans}
 use Rattle.edge_uses.proofs.Cycle.{AreTurning, on_trail, zip_from_trail}
 use Rattle.shell_rules.proofs.CornerCycle.{cycle_of_corner}
@@ -48,22 +50,26 @@ trail_more : (R : ℕ → ℕ → Type 0) (x : ℕ) (xs : List ℕ) (y z : ℕ) 
 trail_more R x [] y z t r = (t, r)
 trail_more R x (w ∷ ws) y z t r = (t.0, trail_more R w ws y z t.1 r)
 
-pub walked_more : (d : ShellRows) (first : ℕ) (rs : List ℕ) (at y : ℕ) → Walked d first rs at → (0 < length rs → at ≡ first → ⊥) → Turns d at y → Walked d first (rs ++ at ∷ []) y
+pub walked_more : (d : ShellRows) (first : ℕ) (rs : List ℕ) (at y : ℕ) → Walked d first rs at → (0 < length rs → at ≡ first → ⊥) → Turns d at y
+    → Walked d first (rs ++ at ∷ []) y
 walked_more d first [] at y w ne t = (w, subst (λ x. Turns d x y) w t, (λ h. h))
 walked_more d first (x ∷ xs) at y w ne t = (w.0, trail_more (Turns d) first xs at y w.1 t, (λ h. ⊎_elim w.2 (ne (omega arith)) (has_last xs at first h)))
 
 -- the walk came back too early
-pub back_early : (d : ShellRows) (v : ℕ) (m : Starts) (rs : List ℕ) (at : ℕ) → ArePaired d → AreStarts d v m → 0 < length rs → length rs < m.count → at ≡ m.first → Walked d m.first rs at → IsCorner d v → ⊥
+pub back_early : (d : ShellRows) (v : ℕ) (m : Starts) (rs : List ℕ) (at : ℕ) → ArePaired d → AreStarts d v m → 0 < length rs → length rs < m.count
+    → at ≡ m.first → Walked d m.first rs at → IsCorner d v → ⊥
 back_early d v m [] at whole starts some early back w corner = omega (arith, some)
 back_early d v m (x ∷ xs) at whole starts some early back w corner =
     let first : StartsAt d v m.first = starts.first (omega (arith, early)) in
     let t : Trail (Turns d) m.first xs m.first = subst (λ y. Trail (Turns d) m.first xs y) back w.1 in
     let into : (y : ℕ) → Has (rows_at d v) y → Has (m.first ∷ xs) y =
-    λ y h. let chain = corner.one_cycle m.first y first (listed_at d v y h) in on_trail (Turns d) (turning d whole).one m.first xs t chain.0 m.first y (inl refl) chain.1 in
+    λ y h. let chain = corner.one_cycle m.first y first (listed_at d v y h) in on_trail (Turns d) (turning d whole).one m.first xs t chain.0 m.first y
+    (inl refl) chain.1 in
     omega (arith, no_longer (rows_at d v) (m.first ∷ xs) (starting_none v 0 d.rows) into, counted_rows d v, starts.count, early)
 
 -- the walk came back with all rows of the vertex
-pub back_in_time : (d : ShellRows) (v : ℕ) (m : Starts) (rs : List ℕ) (at : ℕ) → ArePaired d → AreStarts d v m → 0 < m.count → length rs ≡ m.count → at ≡ m.first → Walked d m.first rs at → point_count d v ≡ 0 → IsCycleOf d v rs
+pub back_in_time : (d : ShellRows) (v : ℕ) (m : Starts) (rs : List ℕ) (at : ℕ) → ArePaired d → AreStarts d v m → 0 < m.count → length rs ≡ m.count
+    → at ≡ m.first → Walked d m.first rs at → point_count d v ≡ 0 → IsCycleOf d v rs
 back_in_time d v m [] at whole starts some long back w none = absurd (omega (arith, some, long))
 back_in_time d v m (x ∷ xs) at whole starts some long back w none = subst (λ y. IsCycle d v y xs) (sym w.0) cycle
   where
@@ -86,7 +92,9 @@ back_in_time d v m (x ∷ xs) at whole starts some long back w none = subst (λ 
     cycle : IsCycle d v m.first xs
     cycle = record {
       starts = All-from (StartsAt d v) (m.first ∷ xs) each;
-      all = λ y at. Contains-from_Has (m.first ∷ xs) y (covers (m.first ∷ xs) (rows_at d v) apart (λ z h. at_listed d v z (each z h)) (omega (arith, long, starts.count, counted_rows d v)) y (at_listed d v y at));
+      all = λ y at. Contains-from_Has (m.first ∷ xs) y
+          (covers (m.first ∷ xs) (rows_at d v) apart (λ z h. at_listed d v z (each z h)) (omega (arith, long, starts.count, counted_rows d v)) y
+          (at_listed d v y at));
       once = omega (arith, long, starts.count);
       turns = zip_from_trail (Turns d) m.first xs m.first t;
       least = All-from (λ y. m.first < y) xs (λ y h.
@@ -97,7 +105,8 @@ back_in_time d v m (x ∷ xs) at whole starts some long back w none = subst (λ 
     }
 
 -- a walk that has not come back is shorter than one that does
-longer : (R : ℕ → ℕ → Type 0) → ((x y z : ℕ) → R x y → R x z → y ≡ z) → (x : ℕ) (xs rs : List ℕ) (y z : ℕ) → Trail R x xs y → Trail R x rs z → (Has xs z → ⊥) → (y ≡ z → ⊥) → length xs < length rs
+longer : (R : ℕ → ℕ → Type 0) → ((x y z : ℕ) → R x y → R x z → y ≡ z) → (x : ℕ) (xs rs : List ℕ) (y z : ℕ) → Trail R x xs y → Trail R x rs z → (Has xs z → ⊥)
+    → (y ≡ z → ⊥) → length xs < length rs
 longer R one x [] [] y z t u without ne = absurd (ne (one x y z t u))
 longer R one x [] (r ∷ rs) y z t u without ne = omega arith
 longer R one x (w ∷ ws) [] y z t u without ne = absurd (without (inl (one x w z t.0 u)))
@@ -106,7 +115,8 @@ longer R one x (w ∷ ws) (r ∷ rs) y z t u without ne =
     omega (arith, longer R one w ws rs y z t.1 (subst (λ q. Trail R q rs z) (sym same) u.1) (λ h. without (inr h)) ne)
 
 -- the walk did not come back
-pub not_back : (d : ShellRows) (v : ℕ) (m : Starts) (rs : List ℕ) (at : ℕ) → ArePaired d → AreStarts d v m → 0 < m.count → length rs ≡ m.count → (at ≡ m.first → ⊥) → Walked d m.first rs at → IsCorner d v → ⊥
+pub not_back : (d : ShellRows) (v : ℕ) (m : Starts) (rs : List ℕ) (at : ℕ) → ArePaired d → AreStarts d v m → 0 < m.count → length rs ≡ m.count
+    → (at ≡ m.first → ⊥) → Walked d m.first rs at → IsCorner d v → ⊥
 not_back d v m [] at whole starts some long away w corner = omega (arith, some, long)
 not_back d v m (x ∷ xs) at whole starts some long away w corner =
     let turn : AreTurning d = turning d whole in
@@ -114,7 +124,8 @@ not_back d v m (x ∷ xs) at whole starts some long away w corner =
     let r : ℕ = c.0 in
     let cs : List ℕ = c.1 in
     let low : m.first ≤ r = (starts.least r c.2.starts).1 in
-    let high : r ≤ m.first = ⊎_elim (λ e. omega (arith, e)) (λ h. let l : r < m.first = All-at (λ y. r < y) cs c.2.least m.first h in omega (arith, l)) (c.2.all m.first (starts.first some)) in
+    let high : r ≤ m.first = ⊎_elim (λ e. omega (arith, e)) (λ h. let l : r < m.first = All-at (λ y. r < y) cs c.2.least m.first h in omega (arith, l))
+    (c.2.all m.first (starts.first some)) in
     let same : r ≡ m.first = omega (arith, low, high) in
     let t : Trail (Turns d) m.first cs m.first = subst (λ y. Trail (Turns d) y cs y) same c.2.trail in
     let more : length xs < length cs = longer (Turns d) turn.one m.first xs cs at m.first w.1 t w.2 away in
@@ -157,22 +168,29 @@ not_both true e h = absurd cc
 not_both false e h = absurd cc
 
 -- one vertex more
-pub one_linked : (d : ShellRows) (i v : ℕ) → slice_get d.vertices i ≡ Some v → LeftIn (IsLinked d) (drop i d.vertices) d.vertices → IsLinked d v → LeftIn (IsLinked d) (drop (i + 1) d.vertices) d.vertices
+pub one_linked : (d : ShellRows) (i v : ℕ) → slice_get d.vertices i ≡ Some v → LeftIn (IsLinked d) (drop i d.vertices) d.vertices → IsLinked d v
+    → LeftIn (IsLinked d) (drop (i + 1) d.vertices) d.vertices
 one_linked d i v at l p =
     let k = subst (λ vs. LeftIn (IsLinked d) vs d.vertices) (split_at d.vertices i v at) l in
     record { holds = λ h. k.holds (p, h); fails = λ x h. k.fails x (inr (p, h)) }
 
-pub first_broken : (d : ShellRows) (i v : ℕ) → slice_get d.vertices i ≡ Some v → LeftIn (IsLinked d) (drop i d.vertices) d.vertices → (IsLinked d v → ⊥) → FirstNot (IsLinked d) d.vertices v
+pub first_broken : (d : ShellRows) (i v : ℕ) → slice_get d.vertices i ≡ Some v → LeftIn (IsLinked d) (drop i d.vertices) d.vertices → (IsLinked d v → ⊥)
+    → FirstNot (IsLinked d) d.vertices v
 first_broken d i v at l ne = (subst (λ vs. LeftIn (IsLinked d) vs d.vertices) (split_at d.vertices i v at) l).fails v (inl (ne, refl))
 
-pub one_corner : (d : ShellRows) (i v : ℕ) (corner : Corner) (old new : List Corner) → slice_get d.vertices i ≡ Some v → LiesAt d v corner → new ≡ old ++ corner ∷ []
-    → ((rest : List Corner) → AllZip (LiesAt d) (drop i d.vertices) rest → AreLinks d (old ++ rest)) → (rest : List Corner) → AllZip (LiesAt d) (drop (i + 1) d.vertices) rest → AreLinks d (new ++ rest)
+pub one_corner : (d : ShellRows) (i v : ℕ) (corner : Corner) (old new : List Corner) → slice_get d.vertices i ≡ Some v → LiesAt d v corner
+    → new ≡ old ++ corner ∷ []
+    → ((rest : List Corner) → AllZip (LiesAt d) (drop i d.vertices) rest → AreLinks d (old ++ rest)) → (rest : List Corner)
+    → AllZip (LiesAt d) (drop (i + 1) d.vertices) rest → AreLinks d (new ++ rest)
 one_corner d i v corner old new at lies e all rest h =
-    let there : AreLinks d (old ++ corner ∷ rest) = all (corner ∷ rest) (subst (λ vs. AllZip (LiesAt d) vs (corner ∷ rest)) (sym (split_at d.vertices i v at)) (lies, h)) in
+    let there : AreLinks d (old ++ corner ∷ rest) =
+    all (corner ∷ rest) (subst (λ vs. AllZip (LiesAt d) vs (corner ∷ rest)) (sym (split_at d.vertices i v at)) (lies, h)) in
     subst (AreLinks d) (sym (ap (λ cs. cs ++ rest) e ∙ append_assoc old (corner ∷ []) rest)) there
 
-pub corners_done : (d : ShellRows) (i : ℕ) (corners : List Corner) → length d.vertices ≤ i → ((rest : List Corner) → AllZip (LiesAt d) (drop i d.vertices) rest → AreLinks d (corners ++ rest)) → AreLinks d corners
-corners_done d i corners past all = subst (AreLinks d) (append-nil corners) (all [] (subst (λ vs. AllZip (LiesAt d) vs []) (sym (drop_all i d.vertices past)) tt))
+pub corners_done : (d : ShellRows) (i : ℕ) (corners : List Corner) → length d.vertices ≤ i
+    → ((rest : List Corner) → AllZip (LiesAt d) (drop i d.vertices) rest → AreLinks d (corners ++ rest)) → AreLinks d corners
+corners_done d i corners past all =
+    subst (AreLinks d) (append-nil corners) (all [] (subst (λ vs. AllZip (LiesAt d) vs []) (sym (drop_all i d.vertices past)) tt))
 
 pub some_of : {A : Type 0} (o : Option A) (x : A) (N : Type 0) (P : A → Type 0) → o ≡ Some x → MatchOption o N P → P x
 some_of None x N P e h = absurd cc

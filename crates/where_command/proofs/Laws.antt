@@ -27,7 +27,8 @@ closed_all : (f : Contents) (n : ℕ) → IsClosed f n → AllHold (obligations 
 unfolding obligations
 closed_all f n closed = AllHold-append (places f n) (solid_obligations (solid_of f n)) closed.placed ((closed_is_all_hold (solid_of f n)).0 closed.closed)
 
-told_closed : (f : Contents) (n : ℕ) (v : Verdict) (a : Answer) → IsVerdictOn f n v → a ≡ answer_to v → ((a ≡ Done) × IsClosed f n) ⊎ ((a ≡ No) × ¬ IsClosed f n)
+told_closed : (f : Contents) (n : ℕ) (v : Verdict) (a : Answer) → IsVerdictOn f n v → a ≡ answer_to v
+    → ((a ≡ Done) × IsClosed f n) ⊎ ((a ≡ No) × ¬ IsClosed f n)
 told_closed f n Closed a judged is = inl (is, all_closed f n judged)
 told_closed f n (Fails x) a judged is = inr (is, λ closed. FirstFalse-not_all (obligations f n) x judged (closed_all f n closed))
 

@@ -51,7 +51,8 @@ one_path : (name : Failing) (ss : List Sited) (p q : Option Path) → IsPathTo n
 one_path name [] p q a b = absurd a
 one_path name (s ∷ ss) p q a b = by_front (one_path name ss p q) a.1 b.1
   where
-    by_front : (IsPathTo name ss p → IsPathTo name ss q → p ≡ q) → (name ≡ s.owed.failing) ⊎ IsPathTo name ss p → (name ≡ s.owed.failing) ⊎ IsPathTo name ss q → p ≡ q
+    by_front : (IsPathTo name ss p → IsPathTo name ss q → p ≡ q) → (name ≡ s.owed.failing) ⊎ IsPathTo name ss p → (name ≡ s.owed.failing) ⊎ IsPathTo name ss q
+        → p ≡ q
     by_front later (inl e) k = a.0 e ∙ sym (b.0 e)
     by_front later (inr h) (inl e) = a.0 e ∙ sym (b.0 e)
     by_front later (inr h) (inr k) = later h k
@@ -75,7 +76,8 @@ module _ (listing : Listing) (f : Contents) (n : EntryNo) where
       let xs : a.faults ≡ b.faults = one_of_all s a.faults b.faults a.all b.all in
       let hint : a.hint ≡ b.hint = one_hint s (pair_fails b.faults (shown listing (failing_shells b.faults))) a.hint b.hint
       (subst (λ ys. IsFlagsHint s (pair_fails ys (shown listing (failing_shells ys))) a.hint) xs a.is_hint) b.is_hint in
-      a.rest_is ∙ (ap (λ ys. shell_lines listing f s ys ++ a.hint ++ shell_texts listing f s ys) xs ∙ (ap (λ h. shell_lines listing f s b.faults ++ h ++ shell_texts listing f s b.faults) hint ∙ sym b.rest_is))
+      a.rest_is ∙ (ap (λ ys. shell_lines listing f s ys ++ a.hint ++ shell_texts listing f s ys) xs
+      ∙ (ap (λ h. shell_lines listing f s b.faults ++ h ++ shell_texts listing f s b.faults) hint ∙ sym b.rest_is))
 
   one_rest : (r t : List ℕ) → IsOfRecords listing f n r ⊎ IsOfShells listing f n r → IsOfRecords listing f n t ⊎ IsOfShells listing f n t → r ≡ t
   one_rest r t (inl a) (inl b) = one_records r t a b
@@ -85,8 +87,11 @@ module _ (listing : Listing) (f : Contents) (n : EntryNo) where
 
   one_told : (v w : Verdict) (t u : List ℕ) → IsToldOf listing f n v t → IsToldOf listing f n w u → (v ≡ w) × (t ≡ u)
   one_told v w t u a b =
-      let same : v ≡ w = one_verdict (obligations f n.0) v w a.judged b.judged in
-      (same, a.text_is ∙ (ap (λ x. verdict_line n.0 x ++ a.rest) same ∙ (ap (λ r. verdict_line n.0 w ++ r) (one_rest a.rest b.rest a.told b.told) ∙ sym b.text_is)))
+      let same : v ≡ w = one_verdict (obligations f n.0) v w a.judged b.judged in (
+        same,
+        a.text_is ∙ (ap (λ x. verdict_line n.0 x ++ a.rest) same
+            ∙ (ap (λ r. verdict_line n.0 w ++ r) (one_rest a.rest b.rest a.told b.told) ∙ sym b.text_is)),
+      )
 
 one_verdicts : (f : Contents) (ns : List EntryNo) (vs ws : List Verdict) → AreVerdicts f ns vs → AreVerdicts f ns ws → vs ≡ ws
 one_verdicts f ns vs ws a b =
@@ -125,6 +130,7 @@ due_of_one c bytes a b t u (inr p) (inr q) =
 pub due_one : OneAnswerIsOwed
 due_one words bytes a b t u p q = by_asked (asked_of words) p q
   where
-    by_asked : (o : Option Asked) → MatchOption o (Exactly answer.Usage usage_line a t) (λ c. DueOf c bytes a t) → MatchOption o (Exactly answer.Usage usage_line b u) (λ c. DueOf c bytes b u) → (a ≡ b) × (t ≡ u)
+    by_asked : (o : Option Asked) → MatchOption o (Exactly answer.Usage usage_line a t) (λ c. DueOf c bytes a t)
+        → MatchOption o (Exactly answer.Usage usage_line b u) (λ c. DueOf c bytes b u) → (a ≡ b) × (t ≡ u)
     by_asked None p q = (p.0 ∙ sym q.0, p.1 ∙ sym q.1)
     by_asked (Some c) p q = due_of_one c bytes a b t u p q

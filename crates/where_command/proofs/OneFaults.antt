@@ -12,7 +12,8 @@ use Rattle.solid_faults.specs.Parts.{AreParts}
 use Rattle.where_solids.specs.AllFaults.{AreAllFaults}
 
 -- lists of one length with the same items are one
-pub same_list : {A : Type 0} (xs ys : List A) → length xs ≡ length ys → ((i : ℕ) (x y : A) → slice_get xs i ≡ Some x → slice_get ys i ≡ Some y → x ≡ y) → xs ≡ ys
+pub same_list : {A : Type 0} (xs ys : List A) → length xs ≡ length ys → ((i : ℕ) (x y : A) → slice_get xs i ≡ Some x → slice_get ys i ≡ Some y → x ≡ y)
+    → xs ≡ ys
 same_list [] [] long each = refl
 same_list [] (y ∷ ys) long each = absurd (omega (arith, long))
 same_list (x ∷ xs) [] long each = absurd (omega (arith, long))
@@ -23,10 +24,12 @@ between : (p q : ℕ) → p ≤ q → q ≤ p → p ≡ q
 between p q low high = omega (arith, low, high)
 
 one_parts : (d : ShellRows) (xs ys : List ℕ) → AreParts d xs → AreParts d ys → xs ≡ ys
-one_parts d xs ys a b = same_list xs ys (a.each ∙ sym b.each) (λ i p q at there. between p q (a.least i p q at (b.connected i q there)) (b.least i q p there (a.connected i p at)))
+one_parts d xs ys a b =
+    same_list xs ys (a.each ∙ sym b.each) (λ i p q at there. between p q (a.least i p q at (b.connected i q there)) (b.least i q p there (a.connected i p at)))
 
 one_fans : (d : ShellRows) (xs ys : List ℕ) → AreFans d xs → AreFans d ys → xs ≡ ys
-one_fans d xs ys a b = same_list xs ys (a.each ∙ sym b.each) (λ i p q at there. between p q (a.least i p q at (b.down i q there)) (b.least i q p there (a.down i p at)))
+one_fans d xs ys a b = same_list xs ys (a.each ∙ sym b.each)
+    (λ i p q at there. between p q (a.least i p q at (b.down i q there)) (b.least i q p there (a.down i p at)))
 
 one_linking : (d : ShellRows) (gaps : _) (unpaired : _) (o p : Option Linking) → AreLinkings d gaps unpaired o → AreLinkings d gaps unpaired p → o ≡ p
 one_linking d gaps unpaired None None a b = refl
@@ -43,7 +46,8 @@ one_faults s k h x y a b =
     let gaps : x.gaps ≡ y.gaps = a.gaps ∙ sym b.gaps in
     let unpaired : x.unpaired ≡ y.unpaired = a.unpaired ∙ sym b.unpaired in
     let firsts : x.firsts ≡ y.firsts = one_parts d x.firsts y.firsts a.firsts b.firsts in
-    let there : AreLinkings d y.gaps y.unpaired x.linking = subst (λ us. AreLinkings d y.gaps us x.linking) unpaired (subst (λ gs. AreLinkings d gs x.unpaired x.linking) gaps a.linking) in
+    let there : AreLinkings d y.gaps y.unpaired x.linking =
+    subst (λ us. AreLinkings d y.gaps us x.linking) unpaired (subst (λ gs. AreLinkings d gs x.unpaired x.linking) gaps a.linking) in
     let linking : x.linking ≡ y.linking = one_linking d y.gaps y.unpaired x.linking y.linking there b.linking in
     let shared : x.shared ≡ y.shared = a.shared ∙ sym b.shared in
     ap (λ z. record { gaps = z; unpaired = x.unpaired; firsts = x.firsts; linking = x.linking; shared = x.shared }) gaps

@@ -24,7 +24,8 @@ some_told None = ([], tt)
 some_told (Some bytes) = (bytes, refl)
 
 -- what is owed of a file that was told
-pub contents_owed : (q : Asked) (file : Option (List ℕ)) (f : Contents) (reply : Reply) → IsFileTold file f → OfContents q f reply.answer reply.text → IsReply (DueOf q) file reply
+pub contents_owed : (q : Asked) (file : Option (List ℕ)) (f : Contents) (reply : Reply) → IsFileTold file f → OfContents q f reply.answer reply.text
+    → IsReply (DueOf q) file reply
 contents_owed q file f reply there owed = record { bytes = there.bytes; told = there.told; owed = inr (there.few, f, there.is, owed) }
 
 -- and of bytes that are no file
@@ -32,7 +33,8 @@ pub no_file_owed : (q : Asked) (file : Option (List ℕ)) (reply : Reply) → Is
 no_file_owed q file reply owed = record { bytes = owed.bytes; told = owed.told; owed = inl owed.owed }
 
 -- a reply to what the words ask for
-pub asked_owed : (words : List (List ℕ)) (file : Option (List ℕ)) (reply : Reply) (q : Asked) → asked_of words ≡ Some q → IsReply (DueOf q) file reply → IsOwed words file reply.answer reply.text
+pub asked_owed : (words : List (List ℕ)) (file : Option (List ℕ)) (reply : Reply) (q : Asked) → asked_of words ≡ Some q → IsReply (DueOf q) file reply
+    → IsOwed words file reply.answer reply.text
 asked_owed words file reply q is owed = record {
   bytes = owed.bytes;
   told = owed.told;
@@ -40,7 +42,8 @@ asked_owed words file reply q is owed = record {
 }
 
 -- and the usage line, for words of no listed form
-pub usage_owed : (words : List (List ℕ)) (file : Option (List ℕ)) (reply : Reply) → asked_of words ≡ None → (reply.answer ≡ Usage) × (reply.text ≡ usage_line) → IsOwed words file reply.answer reply.text
+pub usage_owed : (words : List (List ℕ)) (file : Option (List ℕ)) (reply : Reply) → asked_of words ≡ None → (reply.answer ≡ Usage) × (reply.text ≡ usage_line)
+    → IsOwed words file reply.answer reply.text
 usage_owed words file reply is usage =
     let bytes = some_told file in
     record {
@@ -94,7 +97,8 @@ no_fault None a is = (λ e. let usage = is in cc, λ e. let usage = is in cc, λ
 no_fault (Some q) a is = (λ e. subst IsJudgement e is, λ e. subst IsJudgement e is, λ e. subst IsJudgement e is)
 
 module _ (words : List (List ℕ)) (file before after : Option (List ℕ)) where
-  whole_text : (answer : Answer) (text : List ℕ) → IsOwed words file answer text → (answer ≡ ReadFault → ⊥) × (answer ≡ WriteFault → ⊥) × (answer ≡ NoMemory → ⊥) → Appends before after text
+  whole_text : (answer : Answer) (text : List ℕ) → IsOwed words file answer text → (answer ≡ ReadFault → ⊥) × (answer ≡ WriteFault → ⊥)
+      × (answer ≡ NoMemory → ⊥) → Appends before after text
       → Outcome words file before after answer
   whole_text Done text owed sound appended = record { text = text; owed = owed; appended = appended }
   whole_text No text owed sound appended = record { text = text; owed = owed; appended = appended }

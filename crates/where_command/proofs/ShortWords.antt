@@ -17,7 +17,8 @@ tells : IsDigitsTest AreAllDigits
 tells = record {
   empty = refl;
   parts = λ c cs all. let parts = and_parts (is_ascii_digit c) (list_all is_ascii_digit cs) all in (digit_range c parts.0, parts.1);
-  more = λ c cs inside all. and_from (is_ascii_digit c) (list_all is_ascii_digit cs) (and_from (nat_le 48 c) (nat_le c 57) (le-leb 48 c inside.0) (le-leb c 57 inside.1)) all;
+  more = λ c cs inside all. and_from (is_ascii_digit c) (list_all is_ascii_digit cs)
+      (and_from (nat_le 48 c) (nat_le c 57) (le-leb 48 c inside.0) (le-leb c 57 inside.1)) all;
 }
 
 own : IsNumeralModel AreAllDigits (digits_value 10)

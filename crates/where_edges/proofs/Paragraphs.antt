@@ -31,28 +31,35 @@ length-shown : {A : Type 0} (listing : Listing) (xs : List A) → length (shown 
 length-shown listing xs = length-take-le (shown_count listing (length xs)) xs (shown_few listing (length xs))
 
 -- the line behind the members that are written
-left_shown : {A : Type 0} (listing : Listing) (xs written : List A) → written ≡ shown listing xs → left_line [] (length xs - length written) ≡ left_line [] (length xs - shown_count listing (length xs))
+left_shown : {A : Type 0} (listing : Listing) (xs written : List A) → written ≡ shown listing xs → left_line [] (length xs - length written)
+    ≡ left_line [] (length xs - shown_count listing (length xs))
 left_shown {A} listing xs written e = ap (λ n. left_line [] (length xs - n)) (ap (length {A = A}) e ∙ length-shown listing xs)
 
-pub joined : (listing : Listing) (f : Contents) (s : SolidData) (k : ℕ) (gaps written : List Gap) (faces : List FaceUse) (rule : List ℕ) → (gaps ≡ [] → ⊥) → rule ≡ rule_name Unjoined → faces ≡ faces_in (slice_get s.shells k) → written ≡ shown listing gaps
-    → rule_words rule k (length gaps) ++ codes "\n" ++ rule_sentence Unjoined ++ flat_map (gap_text f s faces) written ++ left_line [] (length gaps - length written) ≡ join_text listing f s k gaps
+pub joined : (listing : Listing) (f : Contents) (s : SolidData) (k : ℕ) (gaps written : List Gap) (faces : List FaceUse) (rule : List ℕ) → (gaps ≡ [] → ⊥)
+    → rule ≡ rule_name Unjoined → faces ≡ faces_in (slice_get s.shells k) → written ≡ shown listing gaps
+    → rule_words rule k (length gaps) ++ codes "\n" ++ rule_sentence Unjoined ++ flat_map (gap_text f s faces) written
+    ++ left_line [] (length gaps - length written) ≡ join_text listing f s k gaps
 unfolding join_text
 joined listing f s k [] written faces rule some is there e = absurd (some refl)
 joined listing f s k (g ∷ gs) written faces rule some is there e =
     let gaps : List Gap = g ∷ gs in
     let head : List ℕ = rule_words (rule_name Unjoined) k (length gaps) ++ codes "\n" ++ rule_sentence Unjoined in
-    ap (λ w. rule_words w k (length gaps) ++ codes "\n" ++ rule_sentence Unjoined ++ flat_map (gap_text f s faces) written ++ left_line [] (length gaps - length written)) is
+    ap (λ w. rule_words w k (length gaps) ++ codes "\n" ++ rule_sentence Unjoined ++ flat_map (gap_text f s faces) written
+    ++ left_line [] (length gaps - length written)) is
     ∙ (ap (λ fs. head ++ flat_map (gap_text f s fs) written ++ left_line [] (length gaps - length written)) there
     ∙ (ap (λ end. head ++ flat_map (gap_text f s (faces_in (slice_get s.shells k))) written ++ end) (left_shown listing gaps written e)
     ∙ ap (λ ws. head ++ flat_map (gap_text f s (faces_in (slice_get s.shells k))) ws ++ left_line [] (length gaps - shown_count listing (length gaps))) e))
 
-pub unpaired : (listing : Listing) (f : Contents) (s : SolidData) (k : ℕ) (us written : List Unpaired) (rule : List ℕ) → (us ≡ [] → ⊥) → rule ≡ rule_name RuleUnpaired → written ≡ shown listing us
-    → rule_words rule k (length us) ++ count_words us ++ rule_sentence RuleUnpaired ++ edges_text listing f s (slice_get s.shells k) written ++ left_line [] (length us - length written) ≡ pair_text listing f s k us
+pub unpaired : (listing : Listing) (f : Contents) (s : SolidData) (k : ℕ) (us written : List Unpaired) (rule : List ℕ) → (us ≡ [] → ⊥)
+    → rule ≡ rule_name RuleUnpaired → written ≡ shown listing us
+    → rule_words rule k (length us) ++ count_words us ++ rule_sentence RuleUnpaired ++ edges_text listing f s (slice_get s.shells k) written
+    ++ left_line [] (length us - length written) ≡ pair_text listing f s k us
 unfolding pair_text
 unpaired listing f s k [] written rule some is e = absurd (some refl)
 unpaired listing f s k (u ∷ vs) written rule some is e =
     let us : List Unpaired = u ∷ vs in
     let head : List ℕ = rule_words (rule_name RuleUnpaired) k (length us) ++ count_words us ++ rule_sentence RuleUnpaired in
-    ap (λ w. rule_words w k (length us) ++ count_words us ++ rule_sentence RuleUnpaired ++ edges_text listing f s (slice_get s.shells k) written ++ left_line [] (length us - length written)) is
+    ap (λ w. rule_words w k (length us) ++ count_words us ++ rule_sentence RuleUnpaired ++ edges_text listing f s (slice_get s.shells k) written
+    ++ left_line [] (length us - length written)) is
     ∙ (ap (λ end. head ++ edges_text listing f s (slice_get s.shells k) written ++ end) (left_shown listing us written e)
     ∙ ap (λ ws. head ++ edges_text listing f s (slice_get s.shells k) ws ++ left_line [] (length us - shown_count listing (length us))) e)

@@ -48,7 +48,8 @@ tuple_after n t = if nat_lt t n then t + 1 else 1
 
 abbrev pub use_words : Contents → SolidData → LoopUse → List ℕ
 use_words f s (EdgeUse edge along) =
-    let key = edge_name (slice_get s.edges edge.0) in codes " edge" ++ edge_words key ++ codes " flag" ++ space_word (decimal (flag_number along)) ++ curve_words f key
+    let key = edge_name (slice_get s.edges edge.0) in codes " edge" ++ edge_words key ++ codes " flag" ++ space_word (decimal (flag_number along))
+    ++ curve_words f key
 use_words f s (VertexUse vertex) =
     let key : VertexKey = vertex_name (slice_get s.vertices vertex.0) in codes " vertex" ++ space_word (decimal key.«list».0) ++ space_word (decimal key.index)
 
@@ -59,7 +60,8 @@ tuple_fact word f s t item = codes " " ++ space_word word ++ codes " tuple" ++ s
 -- the two tuples of a gap, where one ends and the other starts; nothing where the loop hasn't both
 unfoldable pub meeting_facts : Contents → SolidData → ℕ → ℕ → Option LoopUse → Option LoopUse → List ℕ
 meeting_facts f s t next (Some this) (Some other) =
-    tuple_fact (codes "this") f s t this ++ vertex_fact (codes "ends") f s (end_of s this) ++ tuple_fact (codes "next") f s next other ++ vertex_fact (codes "starts") f s (start_of s other)
+    tuple_fact (codes "this") f s t this ++ vertex_fact (codes "ends") f s (end_of s this) ++ tuple_fact (codes "next") f s next other
+    ++ vertex_fact (codes "starts") f s (start_of s other)
 meeting_facts f s t next None other = []
 meeting_facts f s t next (Some this) None = []
 
@@ -82,7 +84,8 @@ gap_text f s faces gap = gap_head gap ++ face_fact f (gap_face faces gap) ++ loo
 unfoldable pub join_text : Listing → Contents → SolidData → ℕ → List Gap → List ℕ
 join_text listing f s k [] = []
 join_text listing f s k gaps =
-    rule_words (rule_name Unjoined) k (length gaps) ++ codes "\n" ++ rule_sentence Unjoined ++ flat_map (gap_text f s (faces_in (slice_get s.shells k))) (shown listing gaps) ++ more_items listing (length gaps)
+    rule_words (rule_name Unjoined) k (length gaps) ++ codes "\n" ++ rule_sentence Unjoined ++ flat_map (gap_text f s (faces_in (slice_get s.shells k)))
+    (shown listing gaps) ++ more_items listing (length gaps)
 
 -- the faces that its written facts name
 unfoldable pub join_named : Listing → SolidData → ℕ → List Gap → List EntryNo

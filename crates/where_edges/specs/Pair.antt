@@ -33,7 +33,8 @@ way_word false = codes "against"
 
 -- the flags of a row's tuple, of its face and of the shell
 unfoldable pub flag_words : Bool → RowPlace → List ℕ
-flag_words shell_flag p = codes " flags" ++ space_word (decimal (flag_number p.flag)) ++ space_word (decimal (flag_number p.face_flag)) ++ space_word (decimal (flag_number shell_flag))
+flag_words shell_flag p = codes " flags" ++ space_word (decimal (flag_number p.flag)) ++ space_word (decimal (flag_number p.face_flag))
+    ++ space_word (decimal (flag_number shell_flag))
 
 -- its loop and its tuple
 unfoldable pub tuple_words : RowPlace → List ℕ
@@ -41,7 +42,8 @@ tuple_words p = codes " loop" ++ space_word (decimal p.walk.0) ++ codes " tuple"
 
 -- a row: its direction, its face, its loop and its tuple, and the flags
 unfoldable pub place_fact : Contents → Bool → RowPlace → List ℕ
-place_fact f shell_flag p = codes " " ++ space_word (way_word p.along) ++ codes " face" ++ face_words f p.face ++ tuple_words p ++ flag_words shell_flag p ++ codes "\n"
+place_fact f shell_flag p = codes " " ++ space_word (way_word p.along) ++ codes " face" ++ face_words f p.face ++ tuple_words p ++ flag_words shell_flag p
+    ++ codes "\n"
 
 abbrev pub row_fact : Contents → Bool → Option RowPlace → List ℕ
 row_fact f shell_flag None = []
@@ -60,23 +62,27 @@ rows_named listing places rows = flat_map (λ r. row_named (slice_get places r))
 
 -- the head of an edge's paragraph
 unfoldable pub edge_head : EdgeKey → Unpaired → List ℕ
-edge_head key u = codes "edge" ++ edge_words key ++ codes " along" ++ space_word (decimal u.along) ++ codes " against" ++ space_word (decimal u.against) ++ codes "\n"
+edge_head key u = codes "edge" ++ edge_words key ++ codes " along" ++ space_word (decimal u.along) ++ codes " against" ++ space_word (decimal u.against)
+    ++ codes "\n"
 
 -- its curve, its start and its end
 unfoldable pub edge_facts : Contents → SolidData → Option Edge → List ℕ
-edge_facts f s edge = codes " " ++ curve_words f (edge_name edge) ++ codes "\n" ++ vertex_fact (codes "start") f s (begin_of edge true) ++ vertex_fact (codes "end") f s (begin_of edge false)
+edge_facts f s edge = codes " " ++ curve_words f (edge_name edge) ++ codes "\n" ++ vertex_fact (codes "start") f s (begin_of edge true)
+    ++ vertex_fact (codes "end") f s (begin_of edge false)
 
 -- an edge and its rows
 abbrev pub edge_text : Listing → Contents → SolidData → Bool → ShellRows → List RowPlace → Unpaired → List ℕ
 edge_text listing f s shell_flag d places u =
-    edge_head (edge_name (slice_get s.edges u.edge.0)) u ++ edge_facts f s (slice_get s.edges u.edge.0) ++ row_facts listing f shell_flag places (rows_on_edge d u.edge.0)
+    edge_head (edge_name (slice_get s.edges u.edge.0)) u ++ edge_facts f s (slice_get s.edges u.edge.0)
+    ++ row_facts listing f shell_flag places (rows_on_edge d u.edge.0)
 
 abbrev pub edge_named : Listing → ShellRows → List RowPlace → Unpaired → List EntryNo
 edge_named listing d places u = rows_named listing places (rows_on_edge d u.edge.0)
 
 -- how many of the edges are used once, twice and more often
 unfoldable pub count_words : List Unpaired → List ℕ
-count_words us = codes " once" ++ space_word (decimal (once_count us)) ++ codes " same-way" ++ space_word (decimal (same_way_count us)) ++ codes " many" ++ space_word (decimal (many_count us)) ++ codes "\n"
+count_words us = codes " once" ++ space_word (decimal (once_count us)) ++ codes " same-way" ++ space_word (decimal (same_way_count us)) ++ codes " many"
+    ++ space_word (decimal (many_count us)) ++ codes "\n"
 
 -- the edges of a shell that may not be there
 abbrev pub edges_text : Listing → Contents → SolidData → Option Shell → List Unpaired → List ℕ
@@ -89,7 +95,8 @@ edges_named listing s shell us = flat_map (edge_named listing (rows_of s shell) 
 unfoldable pub pair_text : Listing → Contents → SolidData → ℕ → List Unpaired → List ℕ
 pair_text listing f s k [] = []
 pair_text listing f s k us =
-    rule_words (rule_name RuleUnpaired) k (length us) ++ count_words us ++ rule_sentence RuleUnpaired ++ edges_text listing f s (slice_get s.shells k) (shown listing us) ++ more_items listing (length us)
+    rule_words (rule_name RuleUnpaired) k (length us) ++ count_words us ++ rule_sentence RuleUnpaired ++ edges_text listing f s (slice_get s.shells k)
+    (shown listing us) ++ more_items listing (length us)
 
 -- the faces that its written facts name
 unfoldable pub pair_named : Listing → SolidData → ℕ → List Unpaired → List EntryNo

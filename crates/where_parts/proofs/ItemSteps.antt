@@ -13,7 +13,8 @@ items_left f xs i = flat_map f (enumerate_from (i + 1) (drop i xs))
 pub numbered_step : {A B : Type 0} (f : ℕ × A → List B) (xs : List A) (x : A) (i : ℕ) (old new all : List B) → i < length xs → get_or xs i x ≡ x
     → old ++ items_left f xs i ≡ all → new ≡ old ++ f (i + 1, x) → new ++ items_left f xs (i + 1) ≡ all
 numbered_step f xs x i old new all lt at h e =
-    piece_more old new (f (i + 1, x)) (items_left f xs (i + 1)) all (ap (λ ys. old ++ flat_map f (enumerate_from (i + 1) ys)) (sym (split_drop xs x i lt at)) ∙ h) e
+    piece_more old new (f (i + 1, x)) (items_left f xs (i + 1)) all
+    (ap (λ ys. old ++ flat_map f (enumerate_from (i + 1) ys)) (sym (split_drop xs x i lt at)) ∙ h) e
 
 pub numbered_done : {A B : Type 0} (f : ℕ × A → List B) (xs : List A) (i : ℕ) (now all : List B) → length xs ≤ i → now ++ items_left f xs i ≡ all → now ≡ all
 numbered_done f xs i now all past h =

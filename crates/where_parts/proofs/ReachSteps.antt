@@ -16,7 +16,8 @@ where_some [] lines h = absurd (h refl)
 where_some (x ∷ faces) lines h = refl
 
 -- of a shell as it is told from tables
-pub reach_told : (listing : Listing) (f : Contents) (s : SolidData) (k : ℕ) (h : Shell) (firsts : List ℕ) (us : List Unpaired) (t : ShellParts) (faults : ℕ) (parts : List ℕ) → slice_get s.shells k ≡ Some h → (length (faces_apart firsts) ≡ 0 → ⊥)
+pub reach_told : (listing : Listing) (f : Contents) (s : SolidData) (k : ℕ) (h : Shell) (firsts : List ℕ) (us : List Unpaired) (t : ShellParts) (faults : ℕ)
+    (parts : List ℕ) → slice_get s.shells k ≡ Some h → (length (faces_apart firsts) ≡ 0 → ⊥)
     → t ≡ record { solid = s; shell = h; firsts = firsts; unpaired = us } → faults ≡ length (faces_apart firsts) → parts ≡ parts_of firsts
     → reach_lines listing f s k t.shell t.firsts t.unpaired faults parts ≡ reach_text listing f s k firsts us
 reach_told listing f s k h firsts us t faults parts at some told count are =
@@ -26,7 +27,8 @@ reach_told listing f s k h firsts us t faults parts at some told count are =
     ∙ (sym (where_some (faces_apart firsts) (reach_lines listing f s k h firsts us (length (faces_apart firsts)) (parts_of firsts)) some)
     ∙ ap (λ o. reach_of listing f s k o firsts us) (sym at))))
 
-pub named_told : (listing : Listing) (s : SolidData) (k : ℕ) (h : Shell) (firsts : List ℕ) (us : List Unpaired) (t : ShellParts) (parts : List ℕ) → slice_get s.shells k ≡ Some h → (length (faces_apart firsts) ≡ 0 → ⊥)
+pub named_told : (listing : Listing) (s : SolidData) (k : ℕ) (h : Shell) (firsts : List ℕ) (us : List Unpaired) (t : ShellParts) (parts : List ℕ)
+    → slice_get s.shells k ≡ Some h → (length (faces_apart firsts) ≡ 0 → ⊥)
     → t ≡ record { solid = s; shell = h; firsts = firsts; unpaired = us } → parts ≡ parts_of firsts
     → flat_map (part_named listing t.shell t.firsts) (shown_parts listing parts) ≡ reach_named listing s k firsts
 named_told listing s k h firsts us t parts at some told are =

@@ -23,7 +23,8 @@ looked_for (n ∷ ns) xs v h = by_test (list_any (λ m. m == n) xs) h (λ m. loo
 vertices_below : (s : SolidData) (o : Option Shell) (v : ℕ) → Has (rows_of s o).vertices v → v < length s.vertices
 unfolding shell_rows
 vertices_below s None v m = absurd m
-vertices_below s (Some h) v m = let b = number_below 0 (length s.vertices) v (looked_for (numbers_from 0 (length s.vertices)) (shell_vertices s h) v m) in omega (arith, b.1)
+vertices_below s (Some h) v m = let b = number_below 0 (length s.vertices) v (looked_for (numbers_from 0 (length s.vertices)) (shell_vertices s h) v m)
+    in omega (arith, b.1)
 
 pub shared_below : (s : SolidData) (k : ℕ) (o : Option Shell) (shared : List ℕ) → shared ≡ shared_of s k (rows_of s o) → All (λ v. v < length s.vertices) shared
 shared_below s k o shared are = all_from (λ v. v < length s.vertices) shared (λ x m.

@@ -73,7 +73,8 @@ fact_faces faces places (Alone at) = walk_faces (slice_get faces at.face.0)
 -- a vertex, how many fans and loops without an edge lie at it, and what lies at it
 unfoldable pub unlinked_lines : Listing → Contents → SolidData → List FaceUse → ShellRows → List RowPlace → Unlinked → List AtVertex → List ℕ
 unlinked_lines listing f s faces d places u facts =
-    codes "vertex" ++ vertex_words f (vertex_name (slice_get s.vertices u.vertex.0)) ++ count_words (codes " fans") u.fans ++ count_words (codes " points") u.points ++ codes "\n"
+    codes "vertex" ++ vertex_words f (vertex_name (slice_get s.vertices u.vertex.0)) ++ count_words (codes " fans") u.fans
+    ++ count_words (codes " points") u.points ++ codes "\n"
     ++ flat_map (fact_line f s faces d places) (shown listing facts) ++ more_facts listing (length facts)
 
 abbrev pub unlinked_text : Listing → Contents → SolidData → List FaceUse → ShellRows → List RowPlace → List ℕ → Unlinked → List ℕ

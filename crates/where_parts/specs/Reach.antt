@@ -18,12 +18,16 @@ use Rattle.where_parts.specs.Lines.{count_words, rule_words, vertex_line, face_l
 -- the counts of part i
 unfoldable pub part_head : ℕ → ℕ → ℕ → ℕ → ℕ → ℕ → List ℕ
 part_head i faces edges vertices unpaired touching =
-    count_words (codes "part") i ++ count_words (codes " faces") faces ++ count_words (codes " edges") edges ++ count_words (codes " vertices") vertices ++ count_words (codes " unpaired") unpaired ++ count_words (codes " touching") touching ++ codes "\n"
+    count_words (codes "part") i ++ count_words (codes " faces") faces ++ count_words (codes " edges") edges ++ count_words (codes " vertices") vertices
+    ++ count_words (codes " unpaired") unpaired ++ count_words (codes " touching") touching ++ codes "\n"
 
--- a part with these faces, so many edges, these vertices, so many edges that aren't paired, and these of its vertices in a part before: its least vertex, those, and its faces
+-- a part with these faces, so many edges, these vertices, so many edges that aren't paired, and these of its vertices in a part before: its least vertex,
+-- those, and its faces
 unfoldable pub part_lines : Listing → Contents → SolidData → ℕ → List EntryNo → ℕ → List ℕ → ℕ → List ℕ → List ℕ
 part_lines listing f s i faces edges vertices unpaired touching =
-    part_head i (length faces) edges (length vertices) unpaired (length touching) ++ vertex_line (codes "  at") f s (get_or vertices 0 0) ++ flat_map (vertex_line (codes "  touches") f s) (shown listing touching) ++ flat_map (face_line f) (shown listing faces) ++ more_facts listing (length faces)
+    part_head i (length faces) edges (length vertices) unpaired (length touching) ++ vertex_line (codes "  at") f s (get_or vertices 0 0)
+    ++ flat_map (vertex_line (codes "  touches") f s) (shown listing touching) ++ flat_map (face_line f) (shown listing faces)
+    ++ more_facts listing (length faces)
 
 -- the faces of a part
 abbrev pub part_entities : Shell → List ℕ → ℕ → List EntryNo
@@ -32,7 +36,8 @@ part_entities shell firsts p = map (λ (x : FaceUse). x.entity) (part_faces shel
 -- the part that begins with face p, as the i-th
 abbrev pub part_text : Listing → Contents → SolidData → Shell → List ℕ → List Unpaired → ℕ × ℕ → List ℕ
 part_text listing f s shell firsts unpaired (i, p) =
-    part_lines listing f s i (part_entities shell firsts p) (length (part_edges s shell firsts p)) (part_vertices s shell firsts p) (length (part_unpaired s shell firsts unpaired p)) (part_touching s shell firsts p)
+    part_lines listing f s i (part_entities shell firsts p) (length (part_edges s shell firsts p)) (part_vertices s shell firsts p)
+    (length (part_unpaired s shell firsts unpaired p)) (part_touching s shell firsts p)
 
 abbrev pub part_named : Listing → Shell → List ℕ → ℕ × ℕ → List EntryNo
 part_named listing shell firsts (i, p) = shown listing (part_entities shell firsts p)
@@ -48,7 +53,8 @@ reach_head k faults parts = rule_words Unreached k faults ++ count_words (codes 
 -- the paragraph on these parts
 unfoldable pub reach_lines : Listing → Contents → SolidData → ℕ → Shell → List ℕ → List Unpaired → ℕ → List ℕ → List ℕ
 reach_lines listing f s k shell firsts unpaired faults parts =
-    reach_head k faults (length parts) ++ flat_map (part_text listing f s shell firsts unpaired) (shown_parts listing parts) ++ more_items listing (length parts)
+    reach_head k faults (length parts) ++ flat_map (part_text listing f s shell firsts unpaired) (shown_parts listing parts)
+    ++ more_items listing (length parts)
 
 -- nothing where no face lies outside of the first part
 abbrev pub where_apart : {A : Type 0} → List ℕ → List A → List A
@@ -58,7 +64,8 @@ where_apart (f ∷ faces) lines = lines
 -- the paragraph on shell k, from 0, of which each face has the first face of its part
 abbrev pub reach_of : Listing → Contents → SolidData → ℕ → Option Shell → List ℕ → List Unpaired → List ℕ
 reach_of listing f s k None firsts unpaired = []
-reach_of listing f s k (Some shell) firsts unpaired = where_apart (faces_apart firsts) (reach_lines listing f s k shell firsts unpaired (length (faces_apart firsts)) (parts_of firsts))
+reach_of listing f s k (Some shell) firsts unpaired =
+    where_apart (faces_apart firsts) (reach_lines listing f s k shell firsts unpaired (length (faces_apart firsts)) (parts_of firsts))
 
 abbrev pub reach_text : Listing → Contents → SolidData → ℕ → List ℕ → List Unpaired → List ℕ
 reach_text listing f s k firsts unpaired = reach_of listing f s k (slice_get s.shells k) firsts unpaired

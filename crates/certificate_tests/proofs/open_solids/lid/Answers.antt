@@ -4,7 +4,12 @@ use Rattle.certificate_tests.proofs.open_solids.lid.Goals as goal
 
 pub returns : goal.returns
 returns c = record {
-  shell = record { entity = record { 0 = 11 }; flag = true; faces = record { entity = record { 0 = 9 }; flag = true; loops = record { entity = record { 0 = 7 }; uses = c.in_ok-uses.uses } ∷ [] } ∷ [] };
+  shell = record {
+    entity = record { 0 = 11 };
+    flag = true;
+    faces =
+        record { entity = record { 0 = 9 }; flag = true; loops = record { entity = record { 0 = 7 }; uses = c.in_ok-uses.uses } ∷ [] } ∷ [];
+  };
   alone = ap (λ (s : SolidData). s.shells) c.new.ensures ∙ c.in_ok-shells.ensures;
   named = sym (ap (λ (s : SolidData). s.entity) c.new.ensures);
 }

@@ -21,7 +21,8 @@ reads-preserved g c =
     let more = rw c.in-Bytes.is at (c.in-Ok.ensures {u = tt}).more in
     record {
       within = read.3;
-      fed = so_far_more _ _ _ _ _ c.reads.came c.in-Bytes.count (take c.in-Bytes.count c.next_piece.new.buffer) c.reads.invariant.fed read.0 (read_long c.next_piece.new.buffer c.in-Bytes.count read.2) (c.in_ok-feed.ensures {u = tt}).ok;
+      fed = so_far_more _ _ _ _ _ c.reads.came c.in-Bytes.count (take c.in-Bytes.count c.next_piece.new.buffer) c.reads.invariant.fed read.0
+          (read_long c.next_piece.new.buffer c.in-Bytes.count read.2) (c.in_ok-feed.ensures {u = tt}).ok;
       count = (c.in-Ok.ensures {u = tt}).cause ∙ c.reads.invariant.count;
       room = (let h : length c.next_piece.new.buffer ≡ PIECE = omega arith in h);
       ready = more tt;
@@ -38,4 +39,5 @@ pub returns-in_err-feed-clause-taken : goal.returns-in_err-feed-clause-taken
 returns-in_err-feed-clause-taken g c =
     let read = rw c.in-Bytes.is at (c.in-Ok.ensures {u = tt}).read in
     let fed = c.reads.invariant.fed in
-    within_few FILE_LIMIT _ _ c.from_residual-in_err-feed.result (takes_piece _ _ _ fed.bytes c.next_piece.new.buffer c.reads.came c.in-Bytes.count FILE_LIMIT fed.taken fed.long read.0 read.3)
+    within_few FILE_LIMIT _ _ c.from_residual-in_err-feed.result
+    (takes_piece _ _ _ fed.bytes c.next_piece.new.buffer c.reads.came c.in-Bytes.count FILE_LIMIT fed.taken fed.long read.0 read.3)

@@ -10,5 +10,6 @@ nodes-preserved c =
     let inside : c.nodes.x < length c.nodes.labels.items = omega (arith, c.nodes-test.true, c.len-x-end.ensures, c.nodes.invariant.rehung.each) in
     record {
       rehung = rehung_on c.args.labels.now.items c.nodes.labels.items c.climb.new.labels.items c.nodes.invariant.rehung c.climb.ensures.rehung;
-      settled = settled_more c.nodes.labels.items c.climb.new.labels.items c.nodes.x c.climb.result c.nodes.invariant.rehung.low inside c.nodes.invariant.settled c.climb.ensures.label c.climb.ensures.set;
+      settled = settled_more c.nodes.labels.items c.climb.new.labels.items c.nodes.x c.climb.result c.nodes.invariant.rehung.low inside
+          c.nodes.invariant.settled c.climb.ensures.label c.climb.ensures.set;
     }

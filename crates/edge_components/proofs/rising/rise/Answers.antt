@@ -9,5 +9,6 @@ pub returns : goal.returns
 returns c n below =
     let is = dedup_is _ _ _ c.dedup.ensures.filtered in
     let moved = c.sort_unstable.ensures.permutation in
-    risen n c.args.numbers.now.items c.dedup.new.self.items below (rw is (IsStrictlyIncreasing-dedup _ c.sort_unstable.ensures.sorted)) (λ x h. rw is (Contains-dedup_nat _ x (Contains-permutation _ _ x moved h)))
+    risen n c.args.numbers.now.items c.dedup.new.self.items below (rw is (IsStrictlyIncreasing-dedup _ c.sort_unstable.ensures.sorted))
+    (λ x h. rw is (Contains-dedup_nat _ x (Contains-permutation _ _ x moved h)))
     (λ x h. Contains-permutation _ _ x (IsPermutation-sym _ _ moved) (Contains-from_dedup _ _ x (rw is at h)))

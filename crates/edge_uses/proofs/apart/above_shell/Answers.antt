@@ -5,7 +5,8 @@ use Rattle.edge_uses.proofs.apart.above_shell.Goals as goal
 
 pub faces-preserved : goal.faces-preserved
 faces-preserved c =
-    above_more (face_vertices c.args.solid.now) c.as_slice-faces.result.now c.index-faces-i.result c.faces.i c.faces.above c.above_face-above.result _ c.faces-test.true (sym c.index-faces-i.is) c.faces.invariant c.above_face-above.ensures
+    above_more (face_vertices c.args.solid.now) c.as_slice-faces.result.now c.index-faces-i.result c.faces.i c.faces.above c.above_face-above.result _
+    c.faces-test.true (sym c.index-faces-i.is) c.faces.invariant c.above_face-above.ensures
 
 pub returns : goal.returns
 returns c =

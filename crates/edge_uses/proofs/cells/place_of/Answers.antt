@@ -5,5 +5,6 @@ use Rattle.edge_uses.proofs.cells.place_of.Goals as goal
 
 pub returns-in-Err : goal.returns-in-Err
 returns-in-Err c =
-    let found = rw c.in-Err.is at (searched c.args.numbers.now c.args.n _ c.binary_search.ensures.position (rise_least c.args.numbers.now (rises c.args.numbers.now c.requires))) in
+    let found = rw c.in-Err.is at
+    (searched c.args.numbers.now c.args.n _ c.binary_search.ensures.position (rise_least c.args.numbers.now (rises c.args.numbers.now c.requires))) in
     searched_none c.args.numbers.now c.args.n c.in-Err.field-0 found.1 found.2

@@ -11,9 +11,12 @@ steps-preserved c =
     let here : i ≡ length c.args.crossings.now - (c.steps.k + 1) = omega (arith, c.steps-test.true) in
     let low : i < length c.args.crossings.now = omega (arith, c.steps-test.true) in
     let st : Crossing = get_or c.args.crossings.now i no_step in
-    subst (λ n. HeadsFrom c.args.faces c.args.crossings.now n (slice_set c.steps.first.items st.from i) (slice_set c.steps.next.items i c.index.result.now)) here
-    (heads_step c.args.faces c.args.crossings.now (length c.args.crossings.now - c.steps.k) i st.from c.index.result.now c.steps.first.items c.steps.next.items c.requires.graph (omega (arith, c.steps-test.true))
+    subst (λ n. HeadsFrom c.args.faces c.args.crossings.now n (slice_set c.steps.first.items st.from i) (slice_set c.steps.next.items i c.index.result.now))
+    here
+    (heads_step c.args.faces c.args.crossings.now (length c.args.crossings.now - c.steps.k) i st.from c.index.result.now c.steps.first.items c.steps.next.items
+    c.requires.graph (omega (arith, c.steps-test.true))
     (st, slice_get-get_or c.args.crossings.now i no_step low, refl) c.index.ensures c.steps.invariant)
 
 pub returns : goal.returns
-returns c = heads_done c.args.faces c.args.crossings.now (length c.args.crossings.now - c.steps.k) c.steps.first.items c.steps.next.items (omega (arith, c.steps-test.false)) c.steps.invariant
+returns c = heads_done c.args.faces c.args.crossings.now (length c.args.crossings.now - c.steps.k) c.steps.first.items c.steps.next.items
+    (omega (arith, c.steps-test.false)) c.steps.invariant

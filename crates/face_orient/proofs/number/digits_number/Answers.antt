@@ -13,10 +13,12 @@ pub overflow_mul-value : goal.overflow_mul-value
 overflow_mul-value c = omega (arith, few_digits c.args.digits.now c.digits.digit-index c.digits.invariant.digits (omega arith) (omega arith))
 
 pub overflow_add-value : goal.overflow_add-value
-overflow_add-value c = omega (arith, few_digits c.args.digits.now c.digits.digit-index c.digits.invariant.digits (omega arith) (omega arith), c.type_inv.digits c.digits.digit-index)
+overflow_add-value c = omega
+    (arith, few_digits c.args.digits.now c.digits.digit-index c.digits.invariant.digits (omega arith) (omega arith), c.type_inv.digits c.digits.digit-index)
 
 pub digits-preserved : goal.digits-preserved
 digits-preserved c = record {
   digits = digits_more 10 c.args.digits.now c.digits.digit-index c.digits-test.true c.digits.invariant.digits c.if-not-is_ascii_digit.ensures.bound;
-  value = more_digits c.args.digits.now c.digits.digit-index c.digits.value c.from.result c.digits-test.true c.digits.invariant.value c.from.ensures c.if-not-is_ascii_digit.ensures.cases;
+  value = more_digits c.args.digits.now c.digits.digit-index c.digits.value c.from.result c.digits-test.true c.digits.invariant.value c.from.ensures
+      c.if-not-is_ascii_digit.ensures.cases;
 }

@@ -9,7 +9,8 @@ returns-then-word-gt9 c = λ n short e. omega (arith, ap length e, decimal_short
 
 pub returns-in_default : goal.returns-in_default
 returns-in_default c =
-    let none : (n : ℕ) → IsShort n → c.args.word.now ≢ decimal n = λ n short e. (let numeral : IsNumeral 10 c.args.word.now = subst (IsNumeral 10) (sym e) (decimal_numeral n short) in search (rules, numeral)) in
+    let none : (n : ℕ) → IsShort n → c.args.word.now ≢ decimal n =
+    λ n short e. (let numeral : IsNumeral 10 c.args.word.now = subst (IsNumeral 10) (sym e) (decimal_numeral n short) in search (rules, numeral)) in
     search (rules, none)
 
 pub returns-then-word-gt1 : goal.returns-then-word-gt1
@@ -18,4 +19,5 @@ returns-then-word-gt1 c = λ n short e.
     omega (arith, ap length e, decimal_lead n short first, c.if-word-gt1.true)
 
 pub returns : goal.returns
-returns c = numeral_word c.args.word.now c.in-Some.number (search rules) (search rules) (omega (arith, c.if-word-gt9.false)) (λ zero_first. search (rules, zero_first))
+returns c = numeral_word c.args.word.now c.in-Some.number (search rules) (search rules) (omega (arith, c.if-word-gt9.false))
+    (λ zero_first. search (rules, zero_first))

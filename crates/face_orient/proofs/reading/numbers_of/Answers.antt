@@ -11,7 +11,8 @@ returns-in_default c = λ spaced. none_spaced c.numbers.rest.now (search rules) 
 pub numbers-preserved : goal.numbers-preserved
 numbers-preserved c = record {
   spaced = λ h. (begins_more c.numbers.rest.now c.in-Some.after.now c.in-Some.number c.in-Some.ensures).1 (c.numbers.invariant.spaced h);
-  read = λ ns a. more_numbers c.args.text.now c.numbers.rest.now c.in-Some.after.now c.numbers.list c.push.new.self ns c.in-Some.number c.in-Some.ensures c.in_ok-push.ensures.ok c.numbers.invariant.read a;
+  read = λ ns a. more_numbers c.args.text.now c.numbers.rest.now c.in-Some.after.now c.numbers.list c.push.new.self ns c.in-Some.number c.in-Some.ensures
+      c.in_ok-push.ensures.ok c.numbers.invariant.read a;
 }
 
 pub returns : goal.returns

@@ -12,7 +12,8 @@ pub returns-then-of-ne2 : goal.returns-then-of-ne2
 returns-then-of-ne2 c =
     let at : slice_get c.args.rows.now.edges c.edges.i ≡ Some c.unwrap-edge.result.0 = search rules in
     let low : c.edges.i < length c.args.rows.now.edges = slice_get_within c.args.rows.now.edges c.edges.i c.unwrap-edge.result.0 at in
-    let here : get_or c.args.rows.now.edges c.edges.i 0 ≡ c.unwrap-edge.result.0 = get_or_from_slice_get c.args.rows.now.edges c.edges.i c.unwrap-edge.result.0 0 at in
+    let here : get_or c.args.rows.now.edges c.edges.i 0 ≡ c.unwrap-edge.result.0 = get_or_from_slice_get c.args.rows.now.edges c.edges.i c.unwrap-edge.result.0
+    0 at in
     let within : IsWithin c.args.tally.now.span c.unwrap-edge.result.0 = subst (IsWithin c.args.tally.now.span) here (c.requires.span.holds c.edges.i 0 low) in
     subst (FirstNot (HasTwoRows c.args.rows.now) c.args.rows.now.edges) here
     (left_in_fails (HasTwoRows c.args.rows.now) c.args.rows.now.edges c.args.rows.now.edges c.edges.i 0 low c.edges.invariant
@@ -22,7 +23,8 @@ pub edges-preserved : goal.edges-preserved
 edges-preserved c =
     let at : slice_get c.args.rows.now.edges c.edges.i ≡ Some c.unwrap-edge.result.0 = search rules in
     let low : c.edges.i < length c.args.rows.now.edges = slice_get_within c.args.rows.now.edges c.edges.i c.unwrap-edge.result.0 at in
-    let here : get_or c.args.rows.now.edges c.edges.i 0 ≡ c.unwrap-edge.result.0 = get_or_from_slice_get c.args.rows.now.edges c.edges.i c.unwrap-edge.result.0 0 at in
+    let here : get_or c.args.rows.now.edges c.edges.i 0 ≡ c.unwrap-edge.result.0 = get_or_from_slice_get c.args.rows.now.edges c.edges.i c.unwrap-edge.result.0
+    0 at in
     let within : IsWithin c.args.tally.now.span c.unwrap-edge.result.0 = subst (IsWithin c.args.tally.now.span) here (c.requires.span.holds c.edges.i 0 low) in
     left_in_less (HasTwoRows c.args.rows.now) c.args.rows.now.edges c.args.rows.now.edges c.edges.i 0 low c.edges.invariant
     (subst (HasTwoRows c.args.rows.now) (sym here) (count_told c.args.rows.now c.args.tally.now.span c.args.tally.now.seen c.unwrap-edge.result.0 c.requires.tally within (sym (ap (λ (x : Seen). x.count) c.of.ensures) ∙ c.if-of-ne2.false)))

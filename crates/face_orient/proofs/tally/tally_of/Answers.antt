@@ -5,7 +5,9 @@ use Rattle.face_orient.proofs.tally.tally_of.Goals as goal
 
 pub rows-init : goal.rows-init
 rows-init c =
-    tally_first c.args.rows.now c.in_ok-cells.cells (c.in_ok-cells.ensures.numbers ∙ c.edge_slice.ensures.items) (subst (IsSpanOf c.in_ok-cells.cells.span) c.edge_slice.ensures.items c.in_ok-cells.ensures.span) c.in_ok-cells.ensures.blank c.in_ok-cells.ensures.cells
+    tally_first c.args.rows.now c.in_ok-cells.cells (c.in_ok-cells.ensures.numbers ∙ c.edge_slice.ensures.items)
+    (subst (IsSpanOf c.in_ok-cells.cells.span) c.edge_slice.ensures.items c.in_ok-cells.ensures.span) c.in_ok-cells.ensures.blank
+    c.in_ok-cells.ensures.cells
 
 pub see-requires-clause-known : goal.see-requires-clause-known
 see-requires-clause-known c =

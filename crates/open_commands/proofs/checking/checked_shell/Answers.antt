@@ -15,9 +15,11 @@ pub returns-in_err-join-clause-fault : goal.returns-in_err-join-clause-fault
 returns-in_err-join-clause-fault c =
     let p = err_from_is_err_and c.from_residual.result c.from_residual.ensures.1 in
     rw (p.1, p.2)
-    (loops_fault c.args.file c.args.no.0 c.in-Ok.solid c.in-Ok.ensures.solid c.in-Ok.ensures.holds c.shell_at.result.now (alone c.args.file c.args.no.0 c.in-Ok.solid c.in-Ok.ensures.solid c.shell_at.result.now c.shell_at.ensures)
+    (loops_fault c.args.file c.args.no.0 c.in-Ok.solid c.in-Ok.ensures.solid c.in-Ok.ensures.holds c.shell_at.result.now
+    (alone c.args.file c.args.no.0 c.in-Ok.solid c.in-Ok.ensures.solid c.shell_at.result.now c.shell_at.ensures)
     c.in_err-join.field-0.0 c.in_err-join.ensures.fails)
 
 pub returns-clause-holds : goal.returns-clause-holds
 returns-clause-holds c =
-    loops_hold c.args.file c.args.no.0 c.in-Ok.solid c.in-Ok.ensures.solid c.in-Ok.ensures.holds c.shell_at.result.now (alone c.args.file c.args.no.0 c.in-Ok.solid c.in-Ok.ensures.solid c.shell_at.result.now c.shell_at.ensures) c.in_ok-join.ensures.holds
+    loops_hold c.args.file c.args.no.0 c.in-Ok.solid c.in-Ok.ensures.solid c.in-Ok.ensures.holds c.shell_at.result.now
+    (alone c.args.file c.args.no.0 c.in-Ok.solid c.in-Ok.ensures.solid c.shell_at.result.now c.shell_at.ensures) c.in_ok-join.ensures.holds

@@ -18,15 +18,18 @@ pub returns-in-Err-Fails : goal.returns-in-Err-Fails
 returns-in-Err-Fails c =
     let x = c.in-Err-Fails.failing in
     let first : FirstFalse (open_checked c.args.file c.args.no.0) x = search rules in
-    reply_owed (OfShellLines c.args.no.0 (cut_lines c.args.lines.now) c.args.file) No (fail_line x) c.failed.result (place_fails x first) (rw c.in-Err-Fails.field-0-is at c.failed.ensures)
+    reply_owed (OfShellLines c.args.no.0 (cut_lines c.args.lines.now) c.args.file) No (fail_line x) c.failed.result (place_fails x first)
+    (rw c.in-Err-Fails.field-0-is at c.failed.ensures)
 
 pub returns-in-Ok-judge_lines : goal.returns-in-Ok-judge_lines
 returns-in-Ok-judge_lines c =
     let legal : IsOpenLegal (shell_solid_of c.args.file c.args.no.0) (cut_lines c.args.lines.now) = search rules in
-    reply_owed (OfShellLines c.args.no.0 (cut_lines c.args.lines.now) c.args.file) Done (accepted_line c.args.no.0) c.accepted.result (lines_accepted c.in-Ok.ensures.holds legal) c.accepted.ensures
+    reply_owed (OfShellLines c.args.no.0 (cut_lines c.args.lines.now) c.args.file) Done (accepted_line c.args.no.0) c.accepted.result
+    (lines_accepted c.in-Ok.ensures.holds legal) c.accepted.ensures
 
 pub returns : goal.returns
 returns c =
     let bad = c.in-Err.bad in
     let first : IsOpenFirstBad (shell_solid_of c.args.file c.args.no.0) (cut_lines c.args.lines.now) bad = search rules in
-    reply_owed (OfShellLines c.args.no.0 (cut_lines c.args.lines.now) c.args.file) No (illegal_line bad) c.illegal.result (line_bad c.in-Ok.ensures.holds bad first) c.illegal.ensures
+    reply_owed (OfShellLines c.args.no.0 (cut_lines c.args.lines.now) c.args.file) No (illegal_line bad) c.illegal.result
+    (line_bad c.in-Ok.ensures.holds bad first) c.illegal.ensures

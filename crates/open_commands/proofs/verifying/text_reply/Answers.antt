@@ -11,7 +11,8 @@ use Rattle.open_commands.proofs.verifying.text_reply.Goals as goal
 pub returns-in-Err : goal.returns-in-Err
 returns-in-Err c =
     let wrong : IsBadOpening c.args.certificate.now c.in-Err.bad = search rules in
-    reply_owed (OfOpenVerify c.args.certificate.now c.args.file) No (illegal_line c.in-Err.bad) c.illegal.result (opening_bad c.requires c.in-Err.bad wrong) c.illegal.ensures
+    reply_owed (OfOpenVerify c.args.certificate.now c.args.file) No (illegal_line c.in-Err.bad) c.illegal.result (opening_bad c.requires c.in-Err.bad wrong)
+    c.illegal.ensures
 
 pub returns : goal.returns
 returns c =

@@ -9,6 +9,8 @@ rows-preserved c =
     let low = row_low _ c.args.rows.now c.rows.i (record { 0 = 0 }) (omega (arith, c.rows-test.true)) c.requires in
     record {
       len = omega (arith, c.rows.invariant.len);
-      marks = marks_more c.args.seen.now.items c.rows.seen.items _ (row_numbers (take c.rows.i c.args.rows.now)) (row_numbers (take (c.rows.i + 1) c.args.rows.now)) (get_or c.args.rows.now c.rows.i (record { 0 = 0 })).0 (omega (arith, low, c.rows.invariant.len)) refl
+      marks = marks_more c.args.seen.now.items c.rows.seen.items _ (row_numbers (take c.rows.i c.args.rows.now))
+          (row_numbers (take (c.rows.i + 1) c.args.rows.now)) (get_or c.args.rows.now c.rows.i (record { 0 = 0 })).0 (omega (arith, low, c.rows.invariant.len))
+          refl
           (taken_more c.args.rows.now c.rows.i (record { 0 = 0 }) (omega (arith, c.rows-test.true))) c.rows.invariant.marks;
     }

@@ -9,21 +9,33 @@ use Rattle.open_shells.proofs.fanning.corners_of.Goals as goal
 
 pub returns-in_default-clause-fault : goal.returns-in_default-clause-fault
 returns-in_default-clause-fault c =
-    left_fails (IsFanned c.args.mated.now) c.args.mated.now.vertices c.vertices.i c.vertex_at-vertex.result.0 (ap (λ (d : ShellRows). slice_get d.vertices c.vertices.i) (sym c.rows-rows.ensures.rows) ∙ c.vertex_at-vertex.ensures) c.vertices.invariant.fanned
+    left_fails (IsFanned c.args.mated.now) c.args.mated.now.vertices c.vertices.i c.vertex_at-vertex.result.0
+    (ap (λ (d : ShellRows). slice_get d.vertices c.vertices.i) (sym c.rows-rows.ensures.rows) ∙ c.vertex_at-vertex.ensures) c.vertices.invariant.fanned
     (none_of _ _ _ c.in_default.not-Some c.in_ok-corner.ensures)
 
 pub vertices-preserved : goal.vertices-preserved
 vertices-preserved c =
-    let at : slice_get c.args.mated.now.vertices c.vertices.i ≡ Some c.vertex_at-vertex.result.0 = ap (λ (d : ShellRows). slice_get d.vertices c.vertices.i) (sym c.rows-rows.ensures.rows) ∙ c.vertex_at-vertex.ensures in
-    let there : LiesAt c.args.mated.now c.vertex_at-vertex.result.0 c.in-Some.corner × IsFanned c.args.mated.now c.vertex_at-vertex.result.0 = some_of _ c.in-Some.corner _ _ c.in-Some.is c.in_ok-corner.ensures in
+    let at : slice_get c.args.mated.now.vertices c.vertices.i ≡ Some c.vertex_at-vertex.result.0 =
+    ap (λ (d : ShellRows). slice_get d.vertices c.vertices.i) (sym c.rows-rows.ensures.rows) ∙ c.vertex_at-vertex.ensures in
+    let there : LiesAt c.args.mated.now c.vertex_at-vertex.result.0 c.in-Some.corner × IsFanned c.args.mated.now c.vertex_at-vertex.result.0 =
+    some_of _ c.in-Some.corner _ _ c.in-Some.is c.in_ok-corner.ensures in
     record {
       fanned = left_more (IsFanned c.args.mated.now) c.args.mated.now.vertices c.vertices.i c.vertex_at-vertex.result.0 at c.vertices.invariant.fanned there.1;
-      lie = zip_more (LiesAt c.args.mated.now) c.args.mated.now.vertices c.vertices.i c.vertex_at-vertex.result.0 c.in-Some.corner c.vertices.corners c.push_corner.new.corners at there.0 c.in_ok-push_corner.ensures c.vertices.invariant.lie;
+      lie = zip_more (LiesAt c.args.mated.now) c.args.mated.now.vertices c.vertices.i c.vertex_at-vertex.result.0 c.in-Some.corner c.vertices.corners
+          c.push_corner.new.corners at there.0 c.in_ok-push_corner.ensures c.vertices.invariant.lie;
     }
 
 pub returns-clause-corners : goal.returns-clause-corners
 returns-clause-corners c =
-    zip_done (LiesAt c.args.mated.now) c.args.mated.now.vertices c.vertices.i c.vertices.corners (omega (arith, c.vertices-test.false, c.vertices.auto.i-end, c.vertex_count-i-end.ensures, ap (λ (d : ShellRows). length d.vertices) c.rows-rows.ensures.rows)) c.vertices.invariant.lie
+    zip_done (LiesAt c.args.mated.now) c.args.mated.now.vertices c.vertices.i c.vertices.corners
+    (omega (
+      arith,
+      c.vertices-test.false,
+      c.vertices.auto.i-end,
+      c.vertex_count-i-end.ensures,
+      ap (λ (d : ShellRows). length d.vertices)
+          c.rows-rows.ensures.rows,
+    )) c.vertices.invariant.lie
 
 pub corner_at-requires-clause-starts : goal.corner_at-requires-clause-starts
 corner_at-requires-clause-starts c = c.starts_at.ensures c.args.mated.now c.requires.starts

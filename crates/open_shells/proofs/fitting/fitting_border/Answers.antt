@@ -19,7 +19,8 @@ returns-then-not-is_above c = λ at rs hr same h fits.
 
 pub returns-in-Some-border_len : goal.returns-in-Some-border_len
 returns-in-Some-border_len c = λ at rs hr same h.
-    let k = border_fits c.args.rows.now at c.args.numbers.now c.in-Some.others.now c.in-Some.first c.in-Some-border_len.len rs c.in-Some.ensures h (subst (λ o. IsAbove o c.in-Some.first) (sym same) (c.is_above.ensures.0 c.if-not-is_above.false))
+    let k = border_fits c.args.rows.now at c.args.numbers.now c.in-Some.others.now c.in-Some.first c.in-Some-border_len.len rs c.in-Some.ensures h
+    (subst (λ o. IsAbove o c.in-Some.first) (sym same) (c.is_above.ensures.0 c.if-not-is_above.false))
     (λ ms m. c.in-Some-border_len.ensures at.lone ms hr m) in
     (subst (FitsBorderLine c.args.rows.now at) (sym k.1) k.2, ap (λ xs. border_in (border xs)) k.1, ap (λ xs. length xs) k.1 ∙ k.3)
 

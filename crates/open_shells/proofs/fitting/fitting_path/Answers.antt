@@ -17,7 +17,8 @@ returns-in_default-named_row c = λ at rs hm hr same h fits.
 pub returns-then-not-is_above : goal.returns-then-not-is_above
 returns-then-not-is_above c = λ at rs hm hr same h fits.
     let k = path_of c.args.rows.now at c.args.numbers.now c.in-Some.others.now c.in-Some.first rs c.in-Some.ensures h fits in
-    path_low c.args.rows.now at c.in-Some.first k.0 c.in-Some-named_row.row c.args.last (search rules) same (λ above. let e : false ≡ true = sym c.if-not-is_above.true ∙ c.is_above.ensures.1 above in cc) k.2
+    path_low c.args.rows.now at c.in-Some.first k.0 c.in-Some-named_row.row c.args.last (search rules) same
+    (λ above. let e : false ≡ true = sym c.if-not-is_above.true ∙ c.is_above.ensures.1 above in cc) k.2
 
 pub returns-in_default-path_end : goal.returns-in_default-path_end
 returns-in_default-path_end c = λ at rs hm hr same h fits.
@@ -37,12 +38,15 @@ bounds-sizes-first c = size_below c.args.rows.now c.args.sizes.now c.in-Some.fir
 
 pub returns-then-sizes-first : goal.returns-then-sizes-first
 returns-then-sizes-first c = λ at rs hm hr same h.
-    path_fits c.args.rows.now at c.args.numbers.now c.in-Some.others.now c.in-Some.first c.in-Some-path_end.end rs c.in-Some-named_row.row c.args.last c.in-Some-path_end.len c.in-Some.ensures h (search rules) same
+    path_fits c.args.rows.now at c.args.numbers.now c.in-Some.others.now c.in-Some.first c.in-Some-path_end.end rs c.in-Some-named_row.row c.args.last
+    c.in-Some-path_end.len c.in-Some.ensures h (search rules) same
     (c.is_above.ensures.0 c.if-not-is_above.false) ((hr c.in-Some-path_end.end).1 (c.is_marked.ensures.0 c.if-not-is_marked.false))
-    (λ ms k. c.in-Some-path_end.ensures at.mates ms hm k) (sym (size_there c.args.rows.now c.args.sizes.now c.in-Some.first _ c.in-Some-named_row.row c.requires (search rules)) ∙ c.if-sizes-first.true)
+    (λ ms k. c.in-Some-path_end.ensures at.mates ms hm k)
+    (sym (size_there c.args.rows.now c.args.sizes.now c.in-Some.first _ c.in-Some-named_row.row c.requires (search rules)) ∙ c.if-sizes-first.true)
 
 pub returns-else-sizes-first : goal.returns-else-sizes-first
 returns-else-sizes-first c = λ at rs hm hr same h fits.
     let k = path_of c.args.rows.now at c.args.numbers.now c.in-Some.others.now c.in-Some.first rs c.in-Some.ensures h fits in
     path_other_size c.args.rows.now at c.in-Some.first k.0 c.in-Some-named_row.row c.in-Some-path_end.len (search rules)
-    (λ e. c.if-sizes-first.false (size_there c.args.rows.now c.args.sizes.now c.in-Some.first _ c.in-Some-named_row.row c.requires (search rules) ∙ e)) (c.in-Some-path_end.ensures at.mates k.0 hm k.1).2 k.2
+    (λ e. c.if-sizes-first.false (size_there c.args.rows.now c.args.sizes.now c.in-Some.first _ c.in-Some-named_row.row c.requires (search rules) ∙ e))
+    (c.in-Some-path_end.ensures at.mates k.0 hm k.1).2 k.2

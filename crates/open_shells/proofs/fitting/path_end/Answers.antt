@@ -19,8 +19,10 @@ turns-preserved c = record {
   room = omega (arith, c.turns.invariant.room, begins_shorter c.turns.rest.now c.in-Some.after.now c.in-Some.next c.in-Some.ensures);
   walked = λ pairs rs hm h.
       let on = (c.turns_to.ensures pairs hm).0 c.if-not-turns_to.false in
-      walked_step c.args.rows.now pairs c.args.first c.turns.last c.in-Some.next c.turns.rest.now c.in-Some.after.now rs c.turns.count c.in-Some.ensures on (c.turns.invariant.walked pairs rs hm h);
+      walked_step c.args.rows.now pairs c.args.first c.turns.last c.in-Some.next c.turns.rest.now c.in-Some.after.now rs c.turns.count c.in-Some.ensures on
+      (c.turns.invariant.walked pairs rs hm h);
 }
 
 pub returns : goal.returns
-returns c = λ pairs rs hm h. walked_whole c.args.rows.now pairs c.args.first c.turns.last c.turns.rest.now rs c.turns.count c.in_default.ensures (c.turns.invariant.walked pairs rs hm h)
+returns c = λ pairs rs hm h. walked_whole c.args.rows.now pairs c.args.first c.turns.last c.turns.rest.now rs c.turns.count c.in_default.ensures
+    (c.turns.invariant.walked pairs rs hm h)

@@ -16,12 +16,14 @@ returns-in_err-made-clause-only_fault c x first =
 
 pub returns-clause-certificate : goal.returns-clause-certificate
 returns-clause-certificate c =
-    certificate_made c.args.solid.now c.requires.shell c.in_ok-made.made c.in_ok-made.ensures.numbered c.requires.alone c.in_ok-made.ensures.once c.in_ok-made.ensures.holds c.in_ok-made.ensures.parts c.in_ok-made.ensures.names c.in_ok-made.ensures.rows c.in_ok-made.ensures.faces
+    certificate_made c.args.solid.now c.requires.shell c.in_ok-made.made c.in_ok-made.ensures.numbered c.requires.alone c.in_ok-made.ensures.once
+    c.in_ok-made.ensures.holds c.in_ok-made.ensures.parts c.in_ok-made.ensures.names c.in_ok-made.ensures.rows c.in_ok-made.ensures.faces
 
 pub returns-clause-accepted : goal.returns-clause-accepted
 returns-clause-accepted c =
     certificate_accepted c.args.solid.now c.requires.shell c.in_ok-made.made c.requires.alone c.in_ok-made.ensures.holds
-    (certificate_made c.args.solid.now c.requires.shell c.in_ok-made.made c.in_ok-made.ensures.numbered c.requires.alone c.in_ok-made.ensures.once c.in_ok-made.ensures.holds c.in_ok-made.ensures.parts c.in_ok-made.ensures.names c.in_ok-made.ensures.rows c.in_ok-made.ensures.faces)
+    (certificate_made c.args.solid.now c.requires.shell c.in_ok-made.made c.in_ok-made.ensures.numbered c.requires.alone c.in_ok-made.ensures.once
+    c.in_ok-made.ensures.holds c.in_ok-made.ensures.parts c.in_ok-made.ensures.names c.in_ok-made.ensures.rows c.in_ok-made.ensures.faces)
 
 pub returns-clause-only_fault : goal.returns-clause-only_fault
 returns-clause-only_fault c x first = never (open_obligations c.args.solid.now) x c.in_ok-made.ensures.holds first

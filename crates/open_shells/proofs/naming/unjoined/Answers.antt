@@ -10,9 +10,11 @@ unwrap-face-requires c = c.get.ensures.within.1 (face_below c.args.shell.now c.a
 
 pub unwrap-walk-requires : goal.unwrap-walk-requires
 unwrap-walk-requires c =
-    c.get-2.ensures.within.1 (loop_below c.args.shell.now c.args.gap.at c.unwrap-face.result.now c.requires (sym c.get.ensures.item ∙ ap option_copied c.unwrap-face.ensures))
+    c.get-2.ensures.within.1
+    (loop_below c.args.shell.now c.args.gap.at c.unwrap-face.result.now c.requires (sym c.get.ensures.item ∙ ap option_copied c.unwrap-face.ensures))
 
 pub returns : goal.returns
 returns c p m same =
     ap (λ (l : Loop). open_failing Join l.entity c.args.gap.place)
-    (named_loop c.args.shell.now c.args.gap.at c.unwrap-face.result.now c.unwrap-walk.result.now (sym c.get.ensures.item ∙ ap option_copied c.unwrap-face.ensures) (sym c.get-2.ensures.item ∙ ap option_copied c.unwrap-walk.ensures) p m same)
+    (named_loop c.args.shell.now c.args.gap.at c.unwrap-face.result.now c.unwrap-walk.result.now
+    (sym c.get.ensures.item ∙ ap option_copied c.unwrap-face.ensures) (sym c.get-2.ensures.item ∙ ap option_copied c.unwrap-walk.ensures) p m same)

@@ -10,14 +10,16 @@ returns-then-not-index c =
     let no_mark : get_or c.args.flood.now.marks.items c.faces.f false ≡ false =
     default_apart c.args.flood.now.marks.items c.faces.f false c.index.result.now low ∙ (sym c.index.ensures ∙ c.if-not-index.true) in
     face_missed c.args.paired.now c.faces.f (omega (arith, c.requires.count)) c.faces.invariant
-    (unmarked_not c.args.paired.now c.args.flood.now.marks.items c.args.flood.now.order.items (row_numbers c.args.flood.now.rows) c.faces.f c.requires.flood c.requires.done no_mark)
+    (unmarked_not c.args.paired.now c.args.flood.now.marks.items c.args.flood.now.order.items (row_numbers c.args.flood.now.rows) c.faces.f c.requires.flood
+    c.requires.done no_mark)
 
 pub faces-preserved : goal.faces-preserved
 faces-preserved c =
     let low : c.faces.f < length c.args.flood.now.marks.items = omega (arith, c.requires.count, c.requires.flood.faces) in
     let mark : get_or c.args.flood.now.marks.items c.faces.f false ≡ true =
     default_apart c.args.flood.now.marks.items c.faces.f false c.index.result.now low ∙ (sym c.index.ensures ∙ c.if-not-index.false) in
-    face_reached c.args.paired.now c.faces.f (omega (arith, c.requires.count)) c.faces.invariant (c.requires.flood.reached c.faces.f (c.requires.flood.listed c.faces.f mark))
+    face_reached c.args.paired.now c.faces.f (omega (arith, c.requires.count)) c.faces.invariant
+    (c.requires.flood.reached c.faces.f (c.requires.flood.listed c.faces.f mark))
 
 pub returns : goal.returns
 returns c = faces_done c.args.paired.now c.faces.f (omega (arith, c.requires.count)) c.faces.invariant

@@ -6,7 +6,8 @@ use Rattle.orient_commands.proofs.making.orientation.Goals as goal
 pub shells-init : goal.shells-init
 shells-init c = record {
   ready = λ j lt. absurd (omega (arith, lt));
-  begun = begun_first c.args.solid.now c.entity.result c.new-out.result c.put_line.new.out c.entity.ensures.entity c.entity.ensures.numbered.number c.new-out.ensures c.in_ok-put_line.ensures;
+  begun = begun_first c.args.solid.now c.entity.result c.new-out.result c.put_line.new.out c.entity.ensures.entity c.entity.ensures.numbered.number
+      c.new-out.ensures c.in_ok-put_line.ensures;
 }
 
 pub overflow_cast-k : goal.overflow_cast-k

@@ -20,9 +20,11 @@ numbers_of-requires c =
     (rw c.as_slice.ensures (rw c.in-Ring.is at c.in_ok-flags.ensures.found))
 
 pub returns-in-Flags-clause-spelled : goal.returns-in-Flags-clause-spelled
-returns-in-Flags-clause-spelled c = flags_spelled c.args.solid.now c.args.at.0 c.in-Flags.flags c.shell_count-count.ensures.numbered c.requires (rw c.in-Flags.is at c.in_ok-flags.ensures.found)
+returns-in-Flags-clause-spelled c = flags_spelled c.args.solid.now c.args.at.0 c.in-Flags.flags c.shell_count-count.ensures.numbered c.requires
+    (rw c.in-Flags.is at c.in_ok-flags.ensures.found)
 
 pub returns-in_ok-numbers_of-in-Ring-clause-spelled : goal.returns-in_ok-numbers_of-in-Ring-clause-spelled
 returns-in_ok-numbers_of-in-Ring-clause-spelled c =
-    ring_spelled c.args.solid.now c.args.at.0 (row_numbers c.as_slice.result.now) c.in_ok-numbers_of-in-Ring.field-0 c.shell_count-count.ensures.numbered c.requires c.in_ok-numbers_of-in-Ring.ensures
+    ring_spelled c.args.solid.now c.args.at.0 (row_numbers c.as_slice.result.now) c.in_ok-numbers_of-in-Ring.field-0 c.shell_count-count.ensures.numbered
+    c.requires c.in_ok-numbers_of-in-Ring.ensures
     (rw c.as_slice.ensures (rw c.in-Ring.is at c.in_ok-flags.ensures.found))

@@ -17,10 +17,12 @@ returns-in-Err-Fails c =
     reply_owed (OfOrient c.args.no c.args.file) answer.No (fail_line x) c.failed.result (misplaced x first) c.failed.ensures
 
 pub returns-in-Ok-orientation : goal.returns-in-Ok-orientation
-returns-in-Ok-orientation c = orient_owed c.args.file c.args.no c.in-Ok.solid c.in-Ok-orientation.reply.answer c.in-Ok-orientation.reply.text c.in-Ok.ensures.solid c.in-Ok.ensures.holds c.in-Ok-orientation.ensures.ready c.in-Ok-orientation.ensures.text
+returns-in-Ok-orientation c = orient_owed c.args.file c.args.no c.in-Ok.solid c.in-Ok-orientation.reply.answer c.in-Ok-orientation.reply.text
+    c.in-Ok.ensures.solid c.in-Ok.ensures.holds c.in-Ok-orientation.ensures.ready c.in-Ok-orientation.ensures.text
 
 pub returns-in-Err-Fails-orientation : goal.returns-in-Err-Fails-orientation
 returns-in-Err-Fails-orientation c =
     let x = c.in-Err-Fails-orientation.failing in
     let first : IsFirstUnready (solid_of c.args.file c.args.no) x = search rules in
-    reply_owed (OfOrient c.args.no c.args.file) answer.No (orient_fail_line x) c.shell_failed.result (unready c.in-Ok.ensures.holds x first) c.shell_failed.ensures
+    reply_owed (OfOrient c.args.no c.args.file) answer.No (orient_fail_line x) c.shell_failed.result (unready c.in-Ok.ensures.holds x first)
+    c.shell_failed.ensures

@@ -17,4 +17,5 @@ pub returns-in-Err-Bad : goal.returns-in-Err-Bad
 returns-in-Err-Bad c =
     let bad = c.in-Err-Bad.bad in
     let wrong : IsBadHead c.args.text.now bad = search rules in
-    reply_owed (OfOrientVerify c.args.text.now c.args.file) answer.No (illegal_line bad) c.illegal.result (head_bad c.requires bad wrong) (rw c.in-Err-Bad.field-0-is at c.illegal.ensures)
+    reply_owed (OfOrientVerify c.args.text.now c.args.file) answer.No (illegal_line bad) c.illegal.result (head_bad c.requires bad wrong)
+    (rw c.in-Err-Bad.field-0-is at c.illegal.ensures)

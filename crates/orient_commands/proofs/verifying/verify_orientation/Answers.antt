@@ -4,4 +4,5 @@ use Rattle.orient_commands.specs.Due.{OfOrientVerify, text_too_large}
 use Rattle.orient_commands.proofs.verifying.verify_orientation.Goals as goal
 
 pub returns-in-Err-clause-found : goal.returns-in-Err-clause-found
-returns-in-Err-clause-found g c = too_large_owed CERT_LIMIT (λ text. OfOrientVerify text c.args.file) _ c.in-Err.reply (λ text more. text_too_large more) (rw c.in-Err.is at c.in_ok-bytes.ensures.found)
+returns-in-Err-clause-found g c = too_large_owed CERT_LIMIT (λ text. OfOrientVerify text c.args.file) _ c.in-Err.reply (λ text more. text_too_large more)
+    (rw c.in-Err.is at c.in_ok-bytes.ensures.found)

@@ -5,7 +5,8 @@ use Rattle.sample_solids.proofs.values.shell_values.Goals as goal
 
 pub squares-preserved : goal.squares-preserved
 squares-preserved c =
-    values_more (face_listed c.args.n) c.args.n c.squares.k (c.args.n * c.args.n) c.squares.values c.put.new.values c.requires.some c.squares-test.true c.squares.invariant
+    values_more (face_listed c.args.n) c.args.n c.squares.k (c.args.n * c.args.n) c.squares.values c.put.new.values c.requires.some c.squares-test.true
+    c.squares.invariant
     (c.in_ok-put.ensures ∙ ap (λ m. c.squares.values ++ whole m ∷ whole 1 ∷ []) c.face_number.ensures.is)
 
 pub returns : goal.returns

@@ -20,29 +20,34 @@ pub returns-in_err-before-clause-fault : goal.returns-in_err-before-clause-fault
 returns-in_err-before-clause-fault c =
     let p = err_from_is_err_and c.from_residual.result c.from_residual.ensures.1 in
     rw (p.1, p.2)
-    (shell_fails (checked_of_shell c.args.solid.now) (checked_obligations c.args.solid.now) c.args.solid.now.shells c.shells.k c.shell_at-shell.result.now c.in_err-before.field-0.0 c.shell_at-shell.ensures c.shells.invariant.left c.in_err-before.ensures.fails)
+    (shell_fails (checked_of_shell c.args.solid.now) (checked_obligations c.args.solid.now) c.args.solid.now.shells c.shells.k c.shell_at-shell.result.now
+    c.in_err-before.field-0.0 c.shell_at-shell.ensures c.shells.invariant.left c.in_err-before.ensures.fails)
 
 pub returns-in_err-before-clause-only : goal.returns-in_err-before-clause-only
 returns-in_err-before-clause-only c all =
     let p = err_from_is_err_and c.from_residual.result c.from_residual.ensures.1 in
     rw (p.1, p.2)
     (only_memory (checked_obligations c.args.solid.now) c.in_err-before.field-0.0
-    (shell_fails (checked_of_shell c.args.solid.now) (checked_obligations c.args.solid.now) c.args.solid.now.shells c.shells.k c.shell_at-shell.result.now c.in_err-before.field-0.0 c.shell_at-shell.ensures c.shells.invariant.left c.in_err-before.ensures.fails) all)
+    (shell_fails (checked_of_shell c.args.solid.now) (checked_obligations c.args.solid.now) c.args.solid.now.shells c.shells.k c.shell_at-shell.result.now
+    c.in_err-before.field-0.0 c.shell_at-shell.ensures c.shells.invariant.left c.in_err-before.ensures.fails) all)
 
 pub returns-in_err-before-clause-only_fault : goal.returns-in_err-before-clause-only_fault
 returns-in_err-before-clause-only_fault c x first =
     let p = err_from_is_err_and c.from_residual.result c.from_residual.ensures.1 in
     rw (p.1, p.2)
     (only_so (Unit {0}) (checked_obligations c.args.solid.now) c.in_err-before.field-0.0 x
-    (shell_fails (checked_of_shell c.args.solid.now) (checked_obligations c.args.solid.now) c.args.solid.now.shells c.shells.k c.shell_at-shell.result.now c.in_err-before.field-0.0 c.shell_at-shell.ensures c.shells.invariant.left c.in_err-before.ensures.fails) first)
+    (shell_fails (checked_of_shell c.args.solid.now) (checked_obligations c.args.solid.now) c.args.solid.now.shells c.shells.k c.shell_at-shell.result.now
+    c.in_err-before.field-0.0 c.shell_at-shell.ensures c.shells.invariant.left c.in_err-before.ensures.fails) first)
 
 pub shells-preserved : goal.shells-preserved
 shells-preserved c = record {
-  left = one_shell (checked_of_shell c.args.solid.now) (checked_obligations c.args.solid.now) c.args.solid.now.shells c.shells.k c.shell_at-shell.result.now c.shell_at-shell.ensures c.shells.invariant.left c.in_ok-before.ensures.holds;
+  left = one_shell (checked_of_shell c.args.solid.now) (checked_obligations c.args.solid.now) c.args.solid.now.shells c.shells.k c.shell_at-shell.result.now
+      c.shell_at-shell.ensures c.shells.invariant.left c.in_ok-before.ensures.holds;
   before = c.in_ok-before.ensures.before;
 }
 
 pub returns-clause-only_fault : goal.returns-clause-only_fault
 returns-clause-only_fault c x first =
     never (checked_obligations c.args.solid.now) x
-    (all_shells (checked_of_shell c.args.solid.now) (checked_obligations c.args.solid.now) c.args.solid.now.shells c.shells.k (omega (arith, c.shell_count-k-end.ensures.count, c.shells-test.false)) c.shells.invariant.left) first
+    (all_shells (checked_of_shell c.args.solid.now) (checked_obligations c.args.solid.now) c.args.solid.now.shells c.shells.k
+    (omega (arith, c.shell_count-k-end.ensures.count, c.shells-test.false)) c.shells.invariant.left) first

@@ -16,12 +16,17 @@ pub returns-in_err-apart-clause-fails : goal.returns-in_err-apart-clause-fails
 returns-in_err-apart-clause-fails c =
     let p = err_from_is_err_and c.from_residual-in_err-apart.result c.from_residual-in_err-apart.ensures.1 in
     rw (p.1, p.2)
-    (shared_fails c.args.solid.now c.args.at.0 c.args.shell.now c.in_ok-rows.rows c.in_err-apart.field-0.0 (same_rows c.args.solid.now c.args.at.0 c.args.shell.now c.in_ok-rows.rows c.in_ok-rows.ensures c.requires.at) c.in_ok-join.ensures.holds c.in_err-apart.ensures.fails)
+    (shared_fails c.args.solid.now c.args.at.0 c.args.shell.now c.in_ok-rows.rows c.in_err-apart.field-0.0
+    (same_rows c.args.solid.now c.args.at.0 c.args.shell.now c.in_ok-rows.rows c.in_ok-rows.ensures c.requires.at) c.in_ok-join.ensures.holds
+    c.in_err-apart.ensures.fails)
 
 pub returns-clause-before : goal.returns-clause-before
 returns-clause-before c =
-    c.with.ensures c.args.solid.now c.args.at.0 c.recall_numbering.ensures.numbered (slice_get_within c.args.solid.now.shells c.args.at.0 c.args.shell.now c.requires.at) c.requires.before c.in_ok-rows.ensures
+    c.with.ensures c.args.solid.now c.args.at.0 c.recall_numbering.ensures.numbered
+    (slice_get_within c.args.solid.now.shells c.args.at.0 c.args.shell.now c.requires.at) c.requires.before c.in_ok-rows.ensures
 
 pub returns-clause-holds : goal.returns-clause-holds
 returns-clause-holds c =
-    both_hold c.args.solid.now c.args.at.0 c.args.shell.now c.in_ok-rows.rows (same_rows c.args.solid.now c.args.at.0 c.args.shell.now c.in_ok-rows.rows c.in_ok-rows.ensures c.requires.at) c.in_ok-join.ensures.holds c.in_ok-apart.ensures.holds
+    both_hold c.args.solid.now c.args.at.0 c.args.shell.now c.in_ok-rows.rows
+    (same_rows c.args.solid.now c.args.at.0 c.args.shell.now c.in_ok-rows.rows c.in_ok-rows.ensures c.requires.at) c.in_ok-join.ensures.holds
+    c.in_ok-apart.ensures.holds

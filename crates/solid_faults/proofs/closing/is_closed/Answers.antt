@@ -18,7 +18,9 @@ returns-then-not-is_empty c =
     let h = get_some c.args.solid.now.shells c.shells.k (omega (arith, c.shells-test.true, c.shell_count-k-end.ensures.count)) in (
       (λ e. absurd cc),
       (λ closed. absurd (shell_fails c.args.solid.now c.shells.k h.0 h.1 c.shells.invariant.left
-          (λ holds. let yes_empty = c.is_empty.ensures.1 (holds_faultless c.args.solid.now c.shells.k h.0 c.in_ok-faults.faults c.shell_count-k-end.ensures.numbered (has_get c.args.solid.now.shells c.shells.k h.0 h.1) (c.in_ok-faults.ensures h.0 h.1) holds) in
+          (λ holds. let yes_empty =
+          c.is_empty.ensures.1 (holds_faultless c.args.solid.now c.shells.k h.0 c.in_ok-faults.faults c.shell_count-k-end.ensures.numbered
+          (has_get c.args.solid.now.shells c.shells.k h.0 h.1) (c.in_ok-faults.ensures h.0 h.1) holds) in
           let not_empty = c.if-not-is_empty.true in absurd cc) closed)),
     )
 
@@ -29,8 +31,12 @@ shells-preserved c =
     record {
       below = c.below_next-below.ensures c.args.solid.now c.shells.k c.shell_count-k-end.ensures.numbered lt c.shells.invariant.below c.in_ok-rows.ensures;
       left = shell_holds c.args.solid.now c.shells.k h.0 h.1 c.shells.invariant.left
-          (faultless_holds c.args.solid.now c.shells.k h.0 c.in_ok-faults.faults c.shell_count-k-end.ensures.numbered (has_get c.args.solid.now.shells c.shells.k h.0 h.1) (c.in_ok-faults.ensures h.0 h.1) (c.is_empty.ensures.0 c.if-not-is_empty.false));
+          (faultless_holds c.args.solid.now c.shells.k h.0 c.in_ok-faults.faults c.shell_count-k-end.ensures.numbered
+          (has_get c.args.solid.now.shells c.shells.k h.0 h.1) (c.in_ok-faults.ensures h.0 h.1) (c.is_empty.ensures.0 c.if-not-is_empty.false));
     }
 
 pub returns : goal.returns
-returns c = ((λ e. shells_done c.args.solid.now c.shells.k (omega (arith, c.shells-test.false, c.shell_count-k-end.ensures.count)) c.shells.invariant.left), (λ closed. refl))
+returns c = (
+  (λ e. shells_done c.args.solid.now c.shells.k (omega (arith, c.shells-test.false, c.shell_count-k-end.ensures.count)) c.shells.invariant.left),
+  (λ closed. refl),
+)

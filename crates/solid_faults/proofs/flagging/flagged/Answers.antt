@@ -9,4 +9,5 @@ pub copied_vertices-requires : goal.copied_vertices-requires
 copied_vertices-requires c = few_vertices c.args.solid.now c.entity-entity.ensures.numbered
 
 pub new-requires : goal.new-requires
-new-requires c = flagged_parts c.args.solid.now _ _ _ _ c.entity-entity.ensures.entity c.in_ok-shells.ensures c.in_ok-edges.ensures c.in_ok-vertices.ensures c.entity-entity.ensures.numbered
+new-requires c = flagged_parts c.args.solid.now _ _ _ _ c.entity-entity.ensures.entity c.in_ok-shells.ensures c.in_ok-edges.ensures c.in_ok-vertices.ensures
+    c.entity-entity.ensures.numbered

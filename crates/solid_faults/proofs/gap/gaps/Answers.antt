@@ -4,4 +4,5 @@ use Rattle.solid_faults.proofs.gap.gaps.Goals as goal
 
 pub push_shell_gaps-requires : goal.push_shell_gaps-requires
 push_shell_gaps-requires c =
-    few_shell c.args.solid.now c.args.shell.0 c.unwrap-shell.result.now c.shell.ensures.numbered (sym c.shell.ensures.item ∙ ap option_copied c.unwrap-shell.ensures)
+    few_shell c.args.solid.now c.args.shell.0 c.unwrap-shell.result.now c.shell.ensures.numbered
+    (sym c.shell.ensures.item ∙ ap option_copied c.unwrap-shell.ensures)

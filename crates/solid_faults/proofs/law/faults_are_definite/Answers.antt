@@ -8,4 +8,5 @@ pub returns-clause-first : goal.returns-clause-first
 returns-clause-first c = first_named
 
 pub returns-clause-closed : goal.returns-clause-closed
-returns-clause-closed c s k h x numbered has faults = (λ all. holds_faultless s k h x numbered has faults all, λ none. faultless_holds s k h x numbered has faults none)
+returns-clause-closed c s k h x numbered has faults =
+    (λ all. holds_faultless s k h x numbered has faults all, λ none. faultless_holds s k h x numbered has faults none)

@@ -4,10 +4,12 @@ use Rattle.solid_faults.proofs.LowSteps.{kept_more, low_known, low_within, low_s
 use Rattle.solid_faults.proofs.parting.lower_all.Goals as goal
 
 pub lower-requires-clause-known : goal.lower-requires-clause-known
-lower-requires-clause-known c = low_known c.args.lows.now c.vertices.lows c.args.vertices.now c.vertices.i c.vertices.invariant.kept c.requires.known c.vertices-test.true
+lower-requires-clause-known c = low_known c.args.lows.now c.vertices.lows c.args.vertices.now c.vertices.i c.vertices.invariant.kept c.requires.known
+    c.vertices-test.true
 
 pub lower-requires-clause-within : goal.lower-requires-clause-within
-lower-requires-clause-within c = low_within c.args.lows.now c.vertices.lows c.args.vertices.now c.vertices.i c.vertices.invariant.kept c.requires.marks c.requires.known c.vertices-test.true
+lower-requires-clause-within c = low_within c.args.lows.now c.vertices.lows c.args.vertices.now c.vertices.i c.vertices.invariant.kept c.requires.marks
+    c.requires.known c.vertices-test.true
 
 pub vertices-preserved : goal.vertices-preserved
 vertices-preserved c = record {

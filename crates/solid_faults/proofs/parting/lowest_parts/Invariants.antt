@@ -10,5 +10,7 @@ abbrev pub invariant-faces : goal.invariant-faces
 invariant-faces l = record {
   numbers : l.lows.numbers ≡ l.vertices;
   marks : AreMarks l.lows;
-  lows : (v p : ℕ) → IsWithin l.lows.span v → p < 2 ^ 32 → (is_low l.lows p v || list_any (λ m. m == v) (flat_map (face_vertices l.solid) (faces_where (λ q. nat_lt q p) (drop l.i l.faces) (drop l.i l.firsts)))) ≡ list_any (λ m. m == v) (flat_map (face_vertices l.solid) (faces_before l.shell l.firsts p));
+  lows : (v p : ℕ) → IsWithin l.lows.span v → p < 2 ^ 32
+      → (is_low l.lows p v || list_any (λ m. m == v) (flat_map (face_vertices l.solid) (faces_where (λ q. nat_lt q p) (drop l.i l.faces) (drop l.i l.firsts))))
+      ≡ list_any (λ m. m == v) (flat_map (face_vertices l.solid) (faces_before l.shell l.firsts p));
 }

@@ -7,5 +7,6 @@ use Rattle.solid_faults.proofs.parting.used_by_faces.Given as goal
 abbrev pub invariant-faces : goal.invariant-faces
 invariant-faces l = record {
   edges : l.used.edges.items ++ flat_map face_edges (faces_numbered l.shell (drop l.i l.faces)) ≡ flat_map face_edges (faces_numbered l.shell l.faces);
-  vertices : l.used.vertices.items ++ flat_map (face_vertices l.solid) (faces_numbered l.shell (drop l.i l.faces)) ≡ flat_map (face_vertices l.solid) (faces_numbered l.shell l.faces);
+  vertices : l.used.vertices.items ++ flat_map (face_vertices l.solid) (faces_numbered l.shell (drop l.i l.faces))
+      ≡ flat_map (face_vertices l.solid) (faces_numbered l.shell l.faces);
 }

@@ -11,6 +11,8 @@ returns-then-count-eq0 c s k numbered lt below rows =
 
 pub returns : goal.returns
 returns c s k numbered lt below rows =
-    let last : slice_get c.args.rows.now.vertices (length c.args.rows.now.vertices - 1) ≡ Some c.vertex_at-last.result.0 = ap (λ n. slice_get c.args.rows.now.vertices (n - 1)) (sym c.vertex_count-count.ensures) ∙ c.vertex_at-last.ensures in
-    let greatest : above_of c.args.rows.now.vertices ≡ c.vertex_at-last.result.0 + 1 = last_above c.args.rows.now.vertices c.vertex_at-last.result.0 c.len-kept.ensures.kept.vertices_rise last in
+    let last : slice_get c.args.rows.now.vertices (length c.args.rows.now.vertices - 1) ≡ Some c.vertex_at-last.result.0 =
+    ap (λ n. slice_get c.args.rows.now.vertices (n - 1)) (sym c.vertex_count-count.ensures) ∙ c.vertex_at-last.ensures in
+    let greatest : above_of c.args.rows.now.vertices ≡ c.vertex_at-last.result.0 + 1 = last_above c.args.rows.now.vertices c.vertex_at-last.result.0
+    c.len-kept.ensures.kept.vertices_rise last in
     next_below s k c.args.below c.max.result c.args.rows.now numbered lt below rows (omega (arith, greatest, c.max.ensures))

@@ -5,4 +5,5 @@ use Rattle.solid_faults.specs.Edges.{shared_of}
 use Rattle.solid_faults.proofs.shared.shared_vertices.Given as goal
 
 abbrev pub invariant-vertices : goal.invariant-vertices
-invariant-vertices l = (s : SolidData) (k : ℕ) → AreBelow s k l.below → l.out.items ++ occurring (drop l.i l.rows.vertices) (flat_map (shell_vertices s) (take k s.shells)) ≡ shared_of s k l.rows
+invariant-vertices l = (s : SolidData) (k : ℕ) → AreBelow s k l.below
+    → l.out.items ++ occurring (drop l.i l.rows.vertices) (flat_map (shell_vertices s) (take k s.shells)) ≡ shared_of s k l.rows

@@ -13,4 +13,5 @@ returns-in-Some-follows c = λ pairs hm s.
     subst (λ z. (Some z ≡ Some s) ↔ TurnsTo c.args.rows.now pairs c.args.row s) (sym c.from_one.ensures) iff
 
 pub returns-in-None : goal.returns-in-None
-returns-in-None c = λ pairs hm s. (λ e. absurd cc, λ h. absurd (turn_end c.args.rows.now pairs c.args.mates.now c.args.row c.in-Some.mate s hm (search rules) (search rules) h))
+returns-in-None c = λ pairs hm s.
+    (λ e. absurd cc, λ h. absurd (turn_end c.args.rows.now pairs c.args.mates.now c.args.row c.in-Some.mate s hm (search rules) (search rules) h))

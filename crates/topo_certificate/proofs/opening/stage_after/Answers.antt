@@ -12,4 +12,5 @@ pub returns-in-Ok-solid_line : goal.returns-in-Ok-solid_line
 returns-in-Ok-solid_line c = rw c.in-Second.is (refl, c.in-Ok-solid_line.ensures {u = tt})
 
 pub returns-in-Err-solid_line : goal.returns-in-Err-solid_line
-returns-in-Err-solid_line c = rw (c.in-Second.is, c.at_line-in-Err-solid_line.ensures) (solid_wrong c.args.line.now c.in-Err-solid_line.misfit (c.in-Err-solid_line.ensures {u = tt}))
+returns-in-Err-solid_line c =
+    rw (c.in-Second.is, c.at_line-in-Err-solid_line.ensures) (solid_wrong c.args.line.now c.in-Err-solid_line.misfit (c.in-Err-solid_line.ensures {u = tt}))

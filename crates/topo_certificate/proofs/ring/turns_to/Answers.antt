@@ -11,4 +11,5 @@ returns-in-Some c = λ pairs hm. (
 )
 
 pub returns-in-None : goal.returns-in-None
-returns-in-None c = λ pairs hm. (λ t. absurd (let e : false ≡ true = t in cc), λ h. absurd (let e : None ≡ Some c.args.next = (c.in-None.ensures pairs hm c.args.next).1 h in cc))
+returns-in-None c = λ pairs hm.
+    (λ t. absurd (let e : false ≡ true = t in cc), λ h. absurd (let e : None ≡ Some c.args.next = (c.in-None.ensures pairs hm c.args.next).1 h in cc))

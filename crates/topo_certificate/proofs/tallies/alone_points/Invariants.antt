@@ -4,4 +4,5 @@ use Rattle.topo_certificate.specs.Kept.{is_alone}
 use Rattle.topo_certificate.proofs.tallies.alone_points.Given as goal
 
 abbrev pub invariant-points : goal.invariant-points
-invariant-points l = l.alone.items ++ map (λ (p : LoopAt × ℕ). is_alone l.rows p.1) (drop l.i l.rows.points) ≡ map (λ (p : LoopAt × ℕ). is_alone l.rows p.1) l.rows.points
+invariant-points l = l.alone.items ++ map (λ (p : LoopAt × ℕ). is_alone l.rows p.1) (drop l.i l.rows.points) ≡ map (λ (p : LoopAt × ℕ). is_alone l.rows p.1)
+    l.rows.points

@@ -4,4 +4,5 @@ use Rattle.topo_certificate.specs.Kept.{corner_size}
 use Rattle.topo_certificate.proofs.tallies.corner_sizes.Given as goal
 
 abbrev pub invariant-rows : goal.invariant-rows
-invariant-rows l = l.sizes.items ++ map (λ (r : Row). corner_size l.rows r.from.0) (drop l.i l.rows.rows) ≡ map (λ (r : Row). corner_size l.rows r.from.0) l.rows.rows
+invariant-rows l = l.sizes.items ++ map (λ (r : Row). corner_size l.rows r.from.0) (drop l.i l.rows.rows) ≡ map (λ (r : Row). corner_size l.rows r.from.0)
+    l.rows.rows

@@ -21,4 +21,10 @@ shells-preserved c =
     omega (arith, split, c.shells.invariant, c.uses_of_shell-count.ensures)
 
 pub returns : goal.returns
-returns c = omega (arith, shells_counted c.args.solid.now.shells, c.shells.invariant, shells_past c.args.solid.now.shells c.shells.k (omega (arith, c.shell_count-k-end.ensures)))
+returns c = omega (
+  arith,
+  shells_counted c.args.solid.now.shells,
+  c.shells.invariant,
+  shells_past c.args.solid.now.shells c.shells.k
+      (omega (arith, c.shell_count-k-end.ensures)),
+)

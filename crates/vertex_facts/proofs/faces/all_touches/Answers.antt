@@ -6,12 +6,15 @@ use Rattle.vertex_facts.specs.FaceTable.{shell_touches}
 use Rattle.vertex_facts.proofs.faces.all_touches.Goals as goal
 
 pub shell_at-requires-clause-few : goal.shell_at-requires-clause-few
-shell_at-requires-clause-few c = omega (arith, c.shells-test.true, c.shell_count-k-end.ensures.count, few_shells c.args.solid.now c.shell_count-k-end.ensures.numbered)
+shell_at-requires-clause-few c =
+    omega (arith, c.shells-test.true, c.shell_count-k-end.ensures.count, few_shells c.args.solid.now c.shell_count-k-end.ensures.numbered)
 
 pub overflow_cast-k : goal.overflow_cast-k
 overflow_cast-k c = omega (arith, c.shells-test.true, c.shell_count-k-end.ensures.count, few_shells c.args.solid.now c.shell_count-k-end.ensures.numbered)
 
 pub shells-preserved : goal.shells-preserved
 shells-preserved c =
-    item_step (shell_touches c.args.solid.now) c.args.solid.now.shells c.shell_at.result.now c.shells.k c.shells.out.items c.push_shell.new.out.items _ (slice_get_within c.args.solid.now.shells c.shells.k c.shell_at.result.now c.shell_at.ensures.shell)
-    (get_or_from_slice_get c.args.solid.now.shells c.shells.k c.shell_at.result.now c.shell_at.result.now c.shell_at.ensures.shell) c.shells.invariant c.in_ok-push_shell.ensures
+    item_step (shell_touches c.args.solid.now) c.args.solid.now.shells c.shell_at.result.now c.shells.k c.shells.out.items c.push_shell.new.out.items _
+    (slice_get_within c.args.solid.now.shells c.shells.k c.shell_at.result.now c.shell_at.ensures.shell)
+    (get_or_from_slice_get c.args.solid.now.shells c.shells.k c.shell_at.result.now c.shell_at.result.now c.shell_at.ensures.shell) c.shells.invariant
+    c.in_ok-push_shell.ensures

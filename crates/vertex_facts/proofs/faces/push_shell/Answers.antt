@@ -7,4 +7,5 @@ use Rattle.vertex_facts.proofs.faces.push_shell.Goals as goal
 pub push_face-requires : goal.push_face-requires
 push_face-requires c =
     all_of_part (λ v. v < length c.args.solid.now.vertices) (face_vertices c.args.solid.now) c.as_slice-faces.result.now c.index-faces-i.result c.faces.i
-    (subst (λ fs. All (λ v. v < length c.args.solid.now.vertices) (flat_map (face_vertices c.args.solid.now) fs)) (sym c.as_slice-faces.ensures) c.requires) c.faces-test.true (sym c.index-faces-i.is)
+    (subst (λ fs. All (λ v. v < length c.args.solid.now.vertices) (flat_map (face_vertices c.args.solid.now) fs)) (sym c.as_slice-faces.ensures) c.requires)
+    c.faces-test.true (sym c.index-faces-i.is)

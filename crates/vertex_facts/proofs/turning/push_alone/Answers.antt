@@ -6,6 +6,7 @@ use Rattle.vertex_facts.proofs.turning.push_alone.Goals as goal
 
 pub returns : goal.returns
 returns c =
-    read_done (alone_numbered c.args.rows.now) c.places-points.result.now c.points.i c.points.out.items _ (omega (arith, c.points-test.false)) c.points.invariant
+    read_done (alone_numbered c.args.rows.now) c.places-points.result.now c.points.i c.points.out.items _ (omega (arith, c.points-test.false))
+    c.points.invariant
     ∙ (ap (λ ps. c.args.out.now.items ++ flat_map (alone_numbered c.args.rows.now) ps) (c.places-points.ensures ∙ ap (places_of c.args.vertex.0) c.requires)
     ∙ ap (λ xs. c.args.out.now.items ++ xs) (alone_read c.args.rows.now c.args.vertex.0))

@@ -6,7 +6,8 @@ use Rattle.vertex_facts.proofs.turning.push_fans.Goals as goal
 
 pub push_fan_of-requires-clause-inside : goal.push_fan_of-requires-clause-inside
 push_fan_of-requires-clause-inside c =
-    rows_inside c.args.vertex.0 c.rows.i (get_or c.places-rows.result.now c.rows.i 0) c.args.paired.now c.places-rows.result.now (c.places-rows.ensures ∙ ap (places_of c.args.vertex.0) c.requires.tables.starts) c.rows-test.true refl
+    rows_inside c.args.vertex.0 c.rows.i (get_or c.places-rows.result.now c.rows.i 0) c.args.paired.now c.places-rows.result.now
+    (c.places-rows.ensures ∙ ap (places_of c.args.vertex.0) c.requires.tables.starts) c.rows-test.true refl
 
 pub rows-preserved : goal.rows-preserved
 rows-preserved c =
@@ -14,6 +15,7 @@ rows-preserved c =
     record {
       few = omega (arith, c.rows.invariant.few, c.in_ok-fan.ensures.1, least_short c.args.leasts.now r);
       told = fan_step c.args.paired.now c.args.leasts.now c.rows.fan c.in_ok-fan.fan r _ c.rows.out.items c.push_fan_of.new.out.items _
-          (ap (λ rs. c.rows.out.items ++ on_fans c.args.paired.now c.args.leasts.now c.rows.fan (flat_map (least_if c.args.leasts.now) rs)) (sym (row_split c.places-rows.result.now c.rows.i r c.rows-test.true refl)) ∙ c.rows.invariant.told)
+          (ap (λ rs. c.rows.out.items ++ on_fans c.args.paired.now c.args.leasts.now c.rows.fan (flat_map (least_if c.args.leasts.now) rs))
+          (sym (row_split c.places-rows.result.now c.rows.i r c.rows-test.true refl)) ∙ c.rows.invariant.told)
           c.in_ok-fan.ensures.0 c.in_ok-fan.ensures.1;
     }

@@ -8,9 +8,11 @@ use Rattle.vertex_facts.proofs.turning.turned.Goals as goal
 pub returns-clause-turn : goal.returns-clause-turn
 returns-clause-turn c =
     turn_is c.args.paired.now c.args.r c.unwrap.result.0 c.requires.mates
-    (subst (λ (o : Option RowId). MatchOption o (length c.args.paired.now.rows ≤ c.args.r) (λ (t : RowId). Turns c.args.paired.now c.args.r t.0)) c.unwrap.ensures c.turn.ensures)
+    (subst (λ (o : Option RowId). MatchOption o (length c.args.paired.now.rows ≤ c.args.r) (λ (t : RowId). Turns c.args.paired.now c.args.r t.0))
+    c.unwrap.ensures c.turn.ensures)
 
 pub returns-clause-inside : goal.returns-clause-inside
 returns-clause-inside c =
     turn_inside c.args.paired.now c.args.r c.unwrap.result.0 c.requires.whole.rows
-    (subst (λ (o : Option RowId). MatchOption o (length c.args.paired.now.rows ≤ c.args.r) (λ (t : RowId). Turns c.args.paired.now c.args.r t.0)) c.unwrap.ensures c.turn.ensures)
+    (subst (λ (o : Option RowId). MatchOption o (length c.args.paired.now.rows ≤ c.args.r) (λ (t : RowId). Turns c.args.paired.now c.args.r t.0))
+    c.unwrap.ensures c.turn.ensures)

@@ -5,6 +5,8 @@ use Rattle.where_edges.proofs.pairs.put_shown_rows.Goals as goal
 
 pub rows-preserved : goal.rows-preserved
 rows-preserved c = record {
-  text = written_more (λ (r : ℕ). row_fact c.args.file.now c.args.shell_flag (slice_get c.args.places.now r)) c.args.rows.now c.rows.i 0 c.rows.out c.put_row.new.out _ c.rows-test.true c.rows.invariant.text c.in_ok-put_row.ensures.text;
-  named = written_more (λ (r : ℕ). row_named (slice_get c.args.places.now r)) c.args.rows.now c.rows.i 0 c.rows.named c.put_row.new.named _ c.rows-test.true c.rows.invariant.named c.in_ok-put_row.ensures.named;
+  text = written_more (λ (r : ℕ). row_fact c.args.file.now c.args.shell_flag (slice_get c.args.places.now r)) c.args.rows.now c.rows.i 0 c.rows.out
+      c.put_row.new.out _ c.rows-test.true c.rows.invariant.text c.in_ok-put_row.ensures.text;
+  named = written_more (λ (r : ℕ). row_named (slice_get c.args.places.now r)) c.args.rows.now c.rows.i 0 c.rows.named c.put_row.new.named _ c.rows-test.true
+      c.rows.invariant.named c.in_ok-put_row.ensures.named;
 }

@@ -4,6 +4,8 @@ use Rattle.where_edges.proofs.pairs.put_shown_rows.Given as goal
 
 abbrev pub invariant-rows : goal.invariant-rows
 invariant-rows l = record {
-  text : l.out ++ flat_map (λ (r : ℕ). row_fact l.file l.shell_flag (slice_get l.places r)) (drop l.i l.rows) ≡ l.fn.out ++ flat_map (λ (r : ℕ). row_fact l.file l.shell_flag (slice_get l.places r)) l.rows;
-  named : l.named ++ flat_map (λ (r : ℕ). row_named (slice_get l.places r)) (drop l.i l.rows) ≡ l.fn.named ++ flat_map (λ (r : ℕ). row_named (slice_get l.places r)) l.rows;
+  text : l.out ++ flat_map (λ (r : ℕ). row_fact l.file l.shell_flag (slice_get l.places r)) (drop l.i l.rows) ≡ l.fn.out
+      ++ flat_map (λ (r : ℕ). row_fact l.file l.shell_flag (slice_get l.places r)) l.rows;
+  named : l.named ++ flat_map (λ (r : ℕ). row_named (slice_get l.places r)) (drop l.i l.rows) ≡ l.fn.named
+      ++ flat_map (λ (r : ℕ). row_named (slice_get l.places r)) l.rows;
 }

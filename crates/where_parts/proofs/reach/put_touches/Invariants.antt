@@ -4,4 +4,5 @@ use Rattle.where_parts.specs.Lines.{vertex_line}
 use Rattle.where_parts.proofs.reach.put_touches.Given as goal
 
 abbrev pub invariant-vertices : goal.invariant-vertices
-invariant-vertices l = l.out ++ flat_map (vertex_line (codes "  touches") l.file l.solid) (drop l.i l.vertices) ≡ l.fn.out ++ flat_map (vertex_line (codes "  touches") l.file l.solid) l.vertices
+invariant-vertices l = l.out ++ flat_map (vertex_line (codes "  touches") l.file l.solid) (drop l.i l.vertices) ≡ l.fn.out
+    ++ flat_map (vertex_line (codes "  touches") l.file l.solid) l.vertices

@@ -12,5 +12,6 @@ returns-in-Some c s k numbered lt below rows =
 
 pub returns-in-None : goal.returns-in-None
 returns-in-None c s k numbered lt below rows =
-    let none : above_of c.args.rows.now.vertices ≡ 0 = none_above c.args.rows.now.vertices (ap (λ vs. slice_get vs (length vs - 1)) (sym c.vertex_slice.ensures.items) ∙ sym c.in-None.ensures.value) in
+    let none : above_of c.args.rows.now.vertices ≡ 0 =
+    none_above c.args.rows.now.vertices (ap (λ vs. slice_get vs (length vs - 1)) (sym c.vertex_slice.ensures.items) ∙ sym c.in-None.ensures.value) in
     next_below s k c.args.self _ c.args.rows.now numbered lt below rows (omega (arith, none, c.self.view_is))

@@ -5,8 +5,10 @@ use Rattle.face_orient.proofs.flood.Flood.of.Goals as goal
 pub places-preserved : goal.places-preserved
 places-preserved c = record {
   flood = c.in_ok-leave_next.ensures.flood;
-  done = place_done c.args.crossings.now c.places.flood.order.items c.leave_next.new.self.order.items c.places.q c.in_ok-leave_next.ensures.grows c.in_ok-leave_next.ensures.same c.in_ok-leave_next.ensures.done c.places.invariant.done;
+  done = place_done c.args.crossings.now c.places.flood.order.items c.leave_next.new.self.order.items c.places.q c.in_ok-leave_next.ensures.grows
+      c.in_ok-leave_next.ensures.same c.in_ok-leave_next.ensures.done c.places.invariant.done;
 }
 
 pub returns-clause-done : goal.returns-clause-done
-returns-clause-done c = each_done c.args.faces c.args.crossings.now c.args.first c.places.flood.places.items c.places.flood.order.items c.places.q c.places.invariant.flood (omega (arith, c.places-test.false)) c.places.invariant.done
+returns-clause-done c = each_done c.args.faces c.args.crossings.now c.args.first c.places.flood.places.items c.places.flood.order.items c.places.q
+    c.places.invariant.flood (omega (arith, c.places-test.false)) c.places.invariant.done

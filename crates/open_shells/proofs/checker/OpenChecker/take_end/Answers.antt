@@ -6,14 +6,30 @@ use Rattle.open_shells.proofs.checker.OpenChecker.take_end.Goals as goal
 
 pub returns-clause-line : goal.returns-clause-line
 returns-clause-line c =
-    let old : KeptChecker = record { solid = c.self.inside.solid.now; failed = c.self.inside.failed; number = c.self.inside.number; ended = c.self.inside.ended; shell = c.self.inside.shell } in
+    let old : KeptChecker =
+    record {
+      solid = c.self.inside.solid.now;
+      failed = c.self.inside.failed;
+      number = c.self.inside.number;
+      ended = c.self.inside.ended;
+      shell =
+          c.self.inside.shell;
+    } in
     let going : c.self.inside.ended ≡ false = ap (λ (k : KeptChecker). k.ended) c.self.view_is ∙ c.requires in
     subst (λ k. TakesLine k (with_end old (c.self.inside.number + 1)) end true) c.self.view_is
     (end_comes old (c.self.inside.number + 1) going (λ s lines t. (c.is_done.ensures.done s lines t).0 c.if-not-is_done.false) refl)
 
 pub returns-then-not-is_done-clause-line : goal.returns-then-not-is_done-clause-line
 returns-then-not-is_done-clause-line c =
-    let old : KeptChecker = record { solid = c.self.inside.solid.now; failed = c.self.inside.failed; number = c.self.inside.number; ended = c.self.inside.ended; shell = c.self.inside.shell } in
+    let old : KeptChecker =
+    record {
+      solid = c.self.inside.solid.now;
+      failed = c.self.inside.failed;
+      number = c.self.inside.number;
+      ended = c.self.inside.ended;
+      shell =
+          c.self.inside.shell;
+    } in
     subst (λ k. TakesLine k k end false) c.self.view_is
     (end_refused old old (λ s lines t done. let e : false ≡ true = sym c.if-not-is_done.true ∙ (c.is_done.ensures.done s lines t).1 done in cc))
 

@@ -12,41 +12,54 @@ use Rattle.open_shells.proofs.flood.Flood.cross.Goals as goal
 
 pub returns-then-index-clause-there : goal.returns-then-index-clause-there
 returns-then-index-clause-there c =
-    let on : OnFace c.args.paired.now c.face_of-other.result c.in-Some.mate = subst (λ (d : ShellRows). OnFace d c.face_of-other.result c.in-Some.mate) c.rows-rows.ensures.rows c.face_of-other.ensures in
+    let on : OnFace c.args.paired.now c.face_of-other.result c.in-Some.mate = subst (λ (d : ShellRows). OnFace d c.face_of-other.result c.in-Some.mate)
+    c.rows-rows.ensures.rows c.face_of-other.ensures in
     let low = face_low c.args.paired.now c.face_of-other.result c.in-Some.mate c.requires.whole.rows on in
-    crossed_before c.args.paired.now c.args.self.now.marks.items c.args.self.now.order.items (row_numbers c.args.self.now.rows) c.args.r c.in-Some.mate c.face_of-other.result c.requires.whole c.requires.flood c.in-Some.ensures on
-    (default_apart c.args.self.now.marks.items c.face_of-other.result false c.index.result.now (omega (arith, low, c.requires.flood.faces)) ∙ (sym c.index.ensures ∙ c.if-index.true))
+    crossed_before c.args.paired.now c.args.self.now.marks.items c.args.self.now.order.items (row_numbers c.args.self.now.rows) c.args.r c.in-Some.mate
+    c.face_of-other.result c.requires.whole c.requires.flood c.in-Some.ensures on
+    (default_apart c.args.self.now.marks.items c.face_of-other.result false c.index.result.now (omega (arith, low, c.requires.flood.faces))
+    ∙ (sym c.index.ensures ∙ c.if-index.true))
 
 pub add-requires : goal.add-requires
 add-requires c =
-    let on : OnFace c.args.paired.now c.face_of-other.result c.in-Some.mate = subst (λ (d : ShellRows). OnFace d c.face_of-other.result c.in-Some.mate) c.rows-rows.ensures.rows c.face_of-other.ensures in
+    let on : OnFace c.args.paired.now c.face_of-other.result c.in-Some.mate = subst (λ (d : ShellRows). OnFace d c.face_of-other.result c.in-Some.mate)
+    c.rows-rows.ensures.rows c.face_of-other.ensures in
     let low = face_low c.args.paired.now c.face_of-other.result c.in-Some.mate c.requires.whole.rows on in
     omega (arith, low, c.requires.flood.faces)
 
 pub returns-clause-flood : goal.returns-clause-flood
 returns-clause-flood c =
-    let on : OnFace c.args.paired.now c.face_of-other.result c.in-Some.mate = subst (λ (d : ShellRows). OnFace d c.face_of-other.result c.in-Some.mate) c.rows-rows.ensures.rows c.face_of-other.ensures in
+    let on : OnFace c.args.paired.now c.face_of-other.result c.in-Some.mate = subst (λ (d : ShellRows). OnFace d c.face_of-other.result c.in-Some.mate)
+    c.rows-rows.ensures.rows c.face_of-other.ensures in
     let low = face_low c.args.paired.now c.face_of-other.result c.in-Some.mate c.requires.whole.rows on in
-    let more = flood_more c.args.paired.now c.args.self.now.marks.items c.args.self.now.order.items (row_numbers c.args.self.now.rows) c.args.face c.args.r c.in-Some.mate c.face_of-other.result c.requires.whole c.requires.flood c.requires.known c.requires.row c.in-Some.ensures on
-    (default_apart c.args.self.now.marks.items c.face_of-other.result false c.index.result.now (omega (arith, low, c.requires.flood.faces)) ∙ (sym c.index.ensures ∙ c.if-index.false)) in
+    let more = flood_more c.args.paired.now c.args.self.now.marks.items c.args.self.now.order.items (row_numbers c.args.self.now.rows) c.args.face c.args.r
+    c.in-Some.mate c.face_of-other.result c.requires.whole c.requires.flood c.requires.known c.requires.row c.in-Some.ensures on
+    (default_apart c.args.self.now.marks.items c.face_of-other.result false c.index.result.now (omega (arith, low, c.requires.flood.faces))
+    ∙ (sym c.index.ensures ∙ c.if-index.false)) in
     ok_three c.add.result _ _ _ _
-    (λ x m o r. flood_as c.args.paired.now _ c.add.new.self.marks.items _ c.add.new.self.order.items _ (row_numbers c.add.new.self.rows) more m o (numbers_pushed c.args.self.now.rows c.add.new.self.rows c.in-Some.mate r))
+    (λ x m o r. flood_as c.args.paired.now _ c.add.new.self.marks.items _ c.add.new.self.order.items _ (row_numbers c.add.new.self.rows) more m o
+    (numbers_pushed c.args.self.now.rows c.add.new.self.rows c.in-Some.mate r))
     c.add.ensures.marks c.add.ensures.order c.add.ensures.rows
 
 pub returns-clause-there : goal.returns-clause-there
 returns-clause-there c =
-    let on : OnFace c.args.paired.now c.face_of-other.result c.in-Some.mate = subst (λ (d : ShellRows). OnFace d c.face_of-other.result c.in-Some.mate) c.rows-rows.ensures.rows c.face_of-other.ensures in
+    let on : OnFace c.args.paired.now c.face_of-other.result c.in-Some.mate = subst (λ (d : ShellRows). OnFace d c.face_of-other.result c.in-Some.mate)
+    c.rows-rows.ensures.rows c.face_of-other.ensures in
     ok_weaker c.add.result _ _
-    (λ x o m g a b. subst (λ os. Has os g) (sym o) (crossed_now c.args.paired.now c.args.self.now.order.items c.args.r c.in-Some.mate c.face_of-other.result c.requires.whole c.in-Some.ensures on m g a b)) c.add.ensures.order
+    (λ x o m g a b. subst (λ os. Has os g) (sym o)
+    (crossed_now c.args.paired.now c.args.self.now.order.items c.args.r c.in-Some.mate c.face_of-other.result c.requires.whole c.in-Some.ensures on m g a
+    b)) c.add.ensures.order
 
 pub returns-in_default-clause-there : goal.returns-in_default-clause-there
 returns-in_default-clause-there c = none_beyond c.args.paired.now c.args.r c.args.self.now.order.items c.in_default.ensures
 
 pub face_of-other-requires : goal.face_of-other-requires
-face_of-other-requires c = subst (λ (d : ShellRows). c.in-Some.mate < length d.rows) (sym c.rows-rows.ensures.rows) (slice_get_within c.args.paired.now.rows c.in-Some.mate c.in-Some.ensures.mate c.in-Some.ensures.at_m)
+face_of-other-requires c = subst (λ (d : ShellRows). c.in-Some.mate < length d.rows) (sym c.rows-rows.ensures.rows)
+    (slice_get_within c.args.paired.now.rows c.in-Some.mate c.in-Some.ensures.mate c.in-Some.ensures.at_m)
 
 pub index-requires : goal.index-requires
 index-requires c =
-    let on : OnFace c.args.paired.now c.face_of-other.result c.in-Some.mate = subst (λ (d : ShellRows). OnFace d c.face_of-other.result c.in-Some.mate) c.rows-rows.ensures.rows c.face_of-other.ensures in
+    let on : OnFace c.args.paired.now c.face_of-other.result c.in-Some.mate = subst (λ (d : ShellRows). OnFace d c.face_of-other.result c.in-Some.mate)
+    c.rows-rows.ensures.rows c.face_of-other.ensures in
     let low = face_low c.args.paired.now c.face_of-other.result c.in-Some.mate c.requires.whole.rows on in
     omega (arith, low, c.requires.flood.faces)

@@ -9,18 +9,23 @@ use Rattle.open_shells.proofs.flood.Flood.leave_next.Goals as goal
 pub leave-requires-clause-known : goal.leave-requires-clause-known
 leave-requires-clause-known c =
     let low : c.args.q < length c.args.self.now.order.items = omega (arith, c.len.ensures) in
-    has_get c.args.self.now.order.items c.args.q c.index-face.result.now (slice_get-get_or c.args.self.now.order.items c.args.q c.index-face.result.now low ∙ ap Some (sym c.index-face.ensures))
+    has_get c.args.self.now.order.items c.args.q c.index-face.result.now
+    (slice_get-get_or c.args.self.now.order.items c.args.q c.index-face.result.now low ∙ ap Some (sym c.index-face.ensures))
 
 pub leave-requires-clause-low : goal.leave-requires-clause-low
 leave-requires-clause-low c =
     let low : c.args.q < length c.args.self.now.order.items = omega (arith, c.len.ensures) in
-    listed_low c.args.paired.now c.args.self.now.marks.items c.args.self.now.order.items (row_numbers c.args.self.now.rows) c.index-face.result.now c.requires.flood
-    (has_get c.args.self.now.order.items c.args.q c.index-face.result.now (slice_get-get_or c.args.self.now.order.items c.args.q c.index-face.result.now low ∙ ap Some (sym c.index-face.ensures)))
+    listed_low c.args.paired.now c.args.self.now.marks.items c.args.self.now.order.items (row_numbers c.args.self.now.rows) c.index-face.result.now
+    c.requires.flood
+    (has_get c.args.self.now.order.items c.args.q c.index-face.result.now
+    (slice_get-get_or c.args.self.now.order.items c.args.q c.index-face.result.now low ∙ ap Some (sym c.index-face.ensures)))
 
 pub returns-clause-done : goal.returns-clause-done
 returns-clause-done c =
     let low : c.args.q < length c.args.self.now.order.items = omega (arith, c.len.ensures) in
-    let at : slice_get c.args.self.now.order.items c.args.q ≡ Some c.index-face.result.now = slice_get-get_or c.args.self.now.order.items c.args.q c.index-face.result.now low ∙ ap Some (sym c.index-face.ensures) in
+    let at : slice_get c.args.self.now.order.items c.args.q ≡ Some c.index-face.result.now =
+    slice_get-get_or c.args.self.now.order.items c.args.q c.index-face.result.now low ∙ ap Some (sym c.index-face.ensures) in
     ok_three c.leave.result _ _ _ _
-    (λ x g h k f there. subst (λ y. IsDone c.args.paired.now c.leave.new.self.order.items y) (place_is c.args.self.now.order.items c.leave.new.self.order.items c.args.q c.index-face.result.now f g low at there) h)
+    (λ x g h k f there. subst (λ y. IsDone c.args.paired.now c.leave.new.self.order.items y)
+    (place_is c.args.self.now.order.items c.leave.new.self.order.items c.args.q c.index-face.result.now f g low at there) h)
     c.leave.ensures.grows c.leave.ensures.done c.leave.ensures.grows

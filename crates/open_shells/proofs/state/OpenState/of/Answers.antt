@@ -23,5 +23,6 @@ invariant_of-result c = record {
 
 pub returns-clause-tells : goal.returns-clause-tells
 returns-clause-tells c = λ s named is.
-    fresh_tells _ s (ap (λ (e : EntryNo). e.0) named) is refl (no_mates c.in_ok-mates.mates.items (zeros c.in_ok-mates.mates.items _ c.in_ok-mates.ensures)) (no_rows_marked c.in_ok-lone.lone.items _ c.in_ok-lone.ensures) refl c.in_ok-reached.ensures.first
+    fresh_tells _ s (ap (λ (e : EntryNo). e.0) named) is refl (no_mates c.in_ok-mates.mates.items (zeros c.in_ok-mates.mates.items _ c.in_ok-mates.ensures))
+    (no_rows_marked c.in_ok-lone.lone.items _ c.in_ok-lone.ensures) refl c.in_ok-reached.ensures.first
     (omega arith) refl refl refl refl refl

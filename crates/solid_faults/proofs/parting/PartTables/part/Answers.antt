@@ -18,10 +18,14 @@ touching-requires c =
     let h = c.self.inside.shell.now in
     let firsts = c.self.inside.firsts.now in
     let named : faces_numbered h c.places-numbers.result.now ≡ part_faces h firsts c.args.first =
-    ap (faces_numbered h) (c.places-numbers.ensures ∙ ap (places_of c.args.first) c.self.invariant.parts) ∙ part_named h firsts c.args.first c.self.invariant.each in
+    ap (faces_numbered h) (c.places-numbers.ensures ∙ ap (places_of c.args.first) c.self.invariant.parts)
+    ∙ part_named h firsts c.args.first c.self.invariant.each in
     let vertices : c.rise-2.new.numbers.items ≡ part_vertices s h firsts c.args.first =
-    rises_to (length s.vertices) c.in_ok-used.used.vertices.items c.rise-2.new.numbers.items (flat_map (face_vertices s) (part_faces h firsts c.args.first)) c.rise-2.ensures (c.in_ok-used.ensures.vertices ∙ ap (flat_map (face_vertices s)) named) (vertices_below s h firsts c.args.first c.self.invariant.known) in
-    subst (All (IsWithin c.self.inside.lows.span)) (sym (c.as_slice-vertices.ensures.value ∙ vertices)) (part_within s h firsts c.args.first c.self.inside.lows.span c.self.invariant.within)
+    rises_to (length s.vertices) c.in_ok-used.used.vertices.items c.rise-2.new.numbers.items (flat_map (face_vertices s) (part_faces h firsts c.args.first))
+    c.rise-2.ensures (c.in_ok-used.ensures.vertices ∙ ap (flat_map (face_vertices s)) named)
+    (vertices_below s h firsts c.args.first c.self.invariant.known) in
+    subst (All (IsWithin c.self.inside.lows.span)) (sym (c.as_slice-vertices.ensures.value ∙ vertices))
+    (part_within s h firsts c.args.first c.self.inside.lows.span c.self.invariant.within)
 
 pub returns : goal.returns
 returns c =
@@ -30,18 +34,32 @@ returns c =
     let firsts = c.self.inside.firsts.now in
     let lows = c.self.inside.lows in
     let named : faces_numbered h c.places-numbers.result.now ≡ part_faces h firsts c.args.first =
-    ap (faces_numbered h) (c.places-numbers.ensures ∙ ap (places_of c.args.first) c.self.invariant.parts) ∙ part_named h firsts c.args.first c.self.invariant.each in
+    ap (faces_numbered h) (c.places-numbers.ensures ∙ ap (places_of c.args.first) c.self.invariant.parts)
+    ∙ part_named h firsts c.args.first c.self.invariant.each in
     let edges : c.rise.new.numbers.items ≡ part_edges s h firsts c.args.first =
-    rises_to (length s.edges) c.in_ok-used.used.edges.items c.rise.new.numbers.items (flat_map face_edges (part_faces h firsts c.args.first)) c.rise.ensures (c.in_ok-used.ensures.edges ∙ ap (flat_map face_edges) named) (edges_below s h firsts c.args.first c.self.invariant.known) in
+    rises_to (length s.edges) c.in_ok-used.used.edges.items c.rise.new.numbers.items (flat_map face_edges (part_faces h firsts c.args.first)) c.rise.ensures
+    (c.in_ok-used.ensures.edges ∙ ap (flat_map face_edges) named) (edges_below s h firsts c.args.first c.self.invariant.known) in
     let vertices : c.rise-2.new.numbers.items ≡ part_vertices s h firsts c.args.first =
-    rises_to (length s.vertices) c.in_ok-used.used.vertices.items c.rise-2.new.numbers.items (flat_map (face_vertices s) (part_faces h firsts c.args.first)) c.rise-2.ensures (c.in_ok-used.ensures.vertices ∙ ap (flat_map (face_vertices s)) named) (vertices_below s h firsts c.args.first c.self.invariant.known) in
-    let told : Part = record { faces = c.in_ok-faces.faces; edges = c.len.result; vertices = c.rise-2.new.numbers; unpaired = c.unpaired_among.result; touching = c.in_ok-touching.touching } in
+    rises_to (length s.vertices) c.in_ok-used.used.vertices.items c.rise-2.new.numbers.items (flat_map (face_vertices s) (part_faces h firsts c.args.first))
+    c.rise-2.ensures (c.in_ok-used.ensures.vertices ∙ ap (flat_map (face_vertices s)) named)
+    (vertices_below s h firsts c.args.first c.self.invariant.known) in
+    let told : Part = record {
+      faces = c.in_ok-faces.faces;
+      edges = c.len.result;
+      vertices = c.rise-2.new.numbers;
+      unpaired =
+          c.unpaired_among.result;
+      touching = c.in_ok-touching.touching;
+    } in
     subst (λ (q : ShellParts). IsPart q.solid q.shell q.firsts q.unpaired c.args.first told) c.self.view_is (record {
       faces = c.in_ok-faces.ensures ∙ ap (map (λ (f : FaceUse). f.entity)) named;
       edges = omega (arith, c.len.ensures, ap length edges);
       vertices = vertices;
-      unpaired = c.unpaired_among.ensures ∙ (ap (λ es. length (occurring es c.self.inside.by_edge)) (c.as_slice.ensures.value ∙ edges) ∙ ap (λ us. length (occurring (part_edges s h firsts c.args.first) us)) c.self.invariant.edges);
+      unpaired = c.unpaired_among.ensures
+          ∙ (ap (λ es. length (occurring es c.self.inside.by_edge)) (c.as_slice.ensures.value ∙ edges)
+          ∙ ap (λ us. length (occurring (part_edges s h firsts c.args.first) us)) c.self.invariant.edges);
       touching = c.in_ok-touching.ensures
           ∙ (ap (flat_map (low_vertex lows c.args.first)) (c.as_slice-vertices.ensures.value ∙ vertices)
-          ∙ touching_kept s h firsts c.args.first lows c.self.invariant.lows (part_within s h firsts c.args.first lows.span c.self.invariant.within) (omega (arith, c.ranges.first.fits)));
+          ∙ touching_kept s h firsts c.args.first lows c.self.invariant.lows (part_within s h firsts c.args.first lows.span c.self.invariant.within)
+          (omega (arith, c.ranges.first.fits)));
     })

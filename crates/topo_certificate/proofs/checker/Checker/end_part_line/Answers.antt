@@ -9,14 +9,18 @@ returns-in-Ok-clause-fed c =
     let none = ap (λ (k : FedKept). k.failed) c.self.view_is ∙ c.requires.open in
     let empty : length c.self.inside.kept.items ≤ 0 = omega (arith, c.self.inside.kept.ok.0, eqb-true _ 0 (sym (c.if-is_empty.ensures {u = tt}))) in
     let judged = c.in-Ok.ensures {u = tt} in
-    rw (sym c.self.view_is) (λ v s first text front h is fed. whole_part_line v s first _ _ text front c.args.line.now (Ok c.in-Ok.told) none empty h is judged.same judged.line (none, nil c.self.inside.kept.items empty) fed)
+    rw (sym c.self.view_is)
+    (λ v s first text front h is fed. whole_part_line v s first _ _ text front c.args.line.now (Ok c.in-Ok.told) none empty h is judged.same judged.line
+    (none, nil c.self.inside.kept.items empty) fed)
 
 pub returns-in-Err-clause-fed : goal.returns-in-Err-clause-fed
 returns-in-Err-clause-fed c =
     let none = ap (λ (k : FedKept). k.failed) c.self.view_is ∙ c.requires.open in
     let empty : length c.self.inside.kept.items ≤ 0 = omega (arith, c.self.inside.kept.ok.0, eqb-true _ 0 (sym (c.if-is_empty.ensures {u = tt}))) in
     let judged = c.in-Err.ensures {u = tt} in
-    rw (sym c.self.view_is) (λ v s first text front h is fed. whole_part_line v s first _ _ text front c.args.line.now (Err c.in-Err.bad) none empty h is judged.same (λ number lines at. (judged.line number lines at).0) refl fed)
+    rw (sym c.self.view_is)
+    (λ v s first text front h is fed. whole_part_line v s first _ _ text front c.args.line.now (Err c.in-Err.bad) none empty h is judged.same
+    (λ number lines at. (judged.line number lines at).0) refl fed)
 
 pub returns-in-Ok-judged-clause-fed : goal.returns-in-Ok-judged-clause-fed
 returns-in-Ok-judged-clause-fed c =
@@ -24,7 +28,8 @@ returns-in-Ok-judged-clause-fed c =
     let k = rw (sym c.self-2.view_is) at c.keep.ensures in
     let mid : FedKept = record { checker = c.self-2.inside.checker; kept = c.self-2.inside.kept.items; failed = c.self-2.inside.failed } in
     let grown : c.extend_from_slice.new.self.items ≡ c.self-2.inside.kept.items ++ 10 ∷ [] = (rw c.unwrap.ensures at c.extend_from_slice.ensures).items in
-    λ v s first text front h is fed. part_line v s first c.args.self.now mid _ text front c.args.line.now c.as_slice.result.now (Ok c.in-Ok-judged.told) c.requires.open h is k.kept k.checker (c.as_slice.ensures.value ∙ grown)
+    λ v s first text front h is fed. part_line v s first c.args.self.now mid _ text front c.args.line.now c.as_slice.result.now (Ok c.in-Ok-judged.told)
+    c.requires.open h is k.kept k.checker (c.as_slice.ensures.value ∙ grown)
     judged.same judged.line (k.failed ∙ c.requires.open, c.clear.ensures.items) fed
 
 pub returns-in-Err-judged-clause-fed : goal.returns-in-Err-judged-clause-fed
@@ -33,5 +38,6 @@ returns-in-Err-judged-clause-fed c =
     let k = rw (sym c.self-2.view_is) at c.keep.ensures in
     let mid : FedKept = record { checker = c.self-2.inside.checker; kept = c.self-2.inside.kept.items; failed = c.self-2.inside.failed } in
     let grown : c.extend_from_slice.new.self.items ≡ c.self-2.inside.kept.items ++ 10 ∷ [] = (rw c.unwrap.ensures at c.extend_from_slice.ensures).items in
-    λ v s first text front h is fed. part_line v s first c.args.self.now mid _ text front c.args.line.now c.as_slice.result.now (Err c.in-Err-judged.bad) c.requires.open h is k.kept k.checker (c.as_slice.ensures.value ∙ grown)
+    λ v s first text front h is fed. part_line v s first c.args.self.now mid _ text front c.args.line.now c.as_slice.result.now (Err c.in-Err-judged.bad)
+    c.requires.open h is k.kept k.checker (c.as_slice.ensures.value ∙ grown)
     judged.same (λ number lines at. (judged.line number lines at).0) refl fed

@@ -14,8 +14,11 @@ pub returns-in_err-line-clause-line : goal.returns-in_err-line-clause-line
 returns-in_err-line-clause-line c =
     let p = err_from_is_err_and c.from_residual.result c.from_residual.ensures.1 in
     rw (p.1, p.2) (λ first lines at.
-    let b = c.in_err-line.ensures.line first lines at in
-    (bad_in_part c.args.self.now.solid (stand_from_latest c.args.self.now.version c.args.self.now.solid lines) (first + length lines) c.args.line.now c.in_err-line.field-0.0 (c.in_default-next_part.ensures first lines at) b.0, b.1))
+    let b = c.in_err-line.ensures.line first lines at in (
+      bad_in_part c.args.self.now.solid (stand_from_latest c.args.self.now.version c.args.self.now.solid lines) (first + length lines) c.args.line.now
+          c.in_err-line.field-0.0 (c.in_default-next_part.ensures first lines at) b.0,
+      b.1,
+    ))
 
 pub returns-clause-line : goal.returns-clause-line
 returns-clause-line c = c.in_ok-line.ensures.line

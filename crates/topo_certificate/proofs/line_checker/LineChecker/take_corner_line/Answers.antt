@@ -21,7 +21,8 @@ returns-clause-line c = λ first lines at yes.
     } in
     let takes : TakesLine c.args.self.now (with_current old c.take_corner.new.self (c.self.inside.number + 1)) (corner rs) true =
     subst (λ k. TakesLine k (with_current old c.take_corner.new.self (c.self.inside.number + 1)) (corner rs) true) c.self.view_is
-    (row_line_taken old c.in-Some-current.current c.take_corner.new.self (corner rs) (c.self.inside.number + 1) c.if-self.false c.in-Some-current.is tt (c.if-not-take_corner.ensures.line rs numbers) refl) in
+    (row_line_taken old c.in-Some-current.current c.take_corner.new.self (corner rs) (c.self.inside.number + 1) c.if-self.false c.in-Some-current.is tt
+    (c.if-not-take_corner.ensures.line rs numbers) refl) in
     let t = takes first lines at in
     let limit : c.self.inside.limit ≡ line_limit c.args.self.now.solid = c.self.invariant.limit_is ∙ ap (λ (k : Kept). line_limit k.solid) c.self.view_is in
     let short : length c.args.line.now ≤ line_limit c.args.self.now.solid = omega (arith, c.if-line-self.false, limit) in

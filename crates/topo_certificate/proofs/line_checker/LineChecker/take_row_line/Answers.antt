@@ -19,7 +19,8 @@ returns-clause-line c = λ line means spelled kind.
     } in
     let going : c.self.inside.ended ≡ false = ap (λ (k : Kept). k.ended) c.self.view_is ∙ c.requires in
     subst (λ k. TakesLine k (with_current old c.take.new.self (c.self.inside.number + 1)) line true) c.self.view_is
-    (row_line_taken old c.in-Some.current c.take.new.self line (c.self.inside.number + 1) going c.in-Some.is kind (c.if-not-take.ensures.line line means spelled kind) refl)
+    (row_line_taken old c.in-Some.current c.take.new.self line (c.self.inside.number + 1) going c.in-Some.is kind
+    (c.if-not-take.ensures.line line means spelled kind) refl)
 
 pub returns-then-not-take-clause-line : goal.returns-then-not-take-clause-line
 returns-then-not-take-clause-line c = λ line means spelled kind.
@@ -34,4 +35,5 @@ returns-then-not-take-clause-line c = λ line means spelled kind.
       current = c.self.inside.current;
       waiting = c.self.inside.waiting.items;
     } in
-    subst (λ k. TakesLine k k line false) c.self.view_is (row_line_refused old old c.in-Some.current c.take.new.self line c.in-Some.is (c.if-not-take.ensures.line line means spelled kind))
+    subst (λ k. TakesLine k k line false) c.self.view_is
+    (row_line_refused old old c.in-Some.current c.take.new.self line c.in-Some.is (c.if-not-take.ensures.line line means spelled kind))

@@ -21,7 +21,8 @@ returns-clause-line c =
     let going : c.self.inside.ended ≡ false = ap (λ (k : Kept). k.ended) c.self.view_is ∙ c.requires in
     let none : dues_of c.self.inside.current ≡ 0 = ap (λ (k : Kept). dues_of k.current) c.self.view_is ∙ c.is_done.ensures.0 c.if-not-is_done.false in
     let popped : c.self.inside.waiting.items ≡ c.pop.new.self.items ++ c.in-Some.next ∷ [] = search rules in
-    subst (λ k. TakesLine k (with_shell old c.pop.new.self.items c.in-Some.next c.args.number (c.self.inside.number + 1)) (shell c.args.number c.args.counts.now) true) c.self.view_is
+    subst (λ k. TakesLine k (with_shell old c.pop.new.self.items c.in-Some.next c.args.number (c.self.inside.number + 1))
+    (shell c.args.number c.args.counts.now) true) c.self.view_is
     (shell_begins old c.pop.new.self.items c.in-Some.next c.args.number c.args.counts.now (c.self.inside.number + 1) going none (search rules) popped
     (c.has_counts.ensures.0 c.if-not-has_counts.false) refl)
 

@@ -10,7 +10,8 @@ returns-then-len-eq0 c =
     let empty : length c.self.inside.start ≤ 0 = omega (arith, c.len.ensures, c.if-len-eq0.true) in
     rw (sym c.self.view_is) (λ text front h is shows.
     subst (λ (k : List ℕ). Shows c.stage_after-self-inside.result k (text ++ c.args.line.now)) (sym (nil c.self.inside.start empty))
-    (whole_line (record { kept = c.self.inside.start; stage = c.self.inside.stage }) text front c.args.line.now c.stage_after-self-inside.result waiting empty h is c.stage_after-self-inside.ensures shows))
+    (whole_line (record { kept = c.self.inside.start; stage = c.self.inside.stage }) text front c.args.line.now c.stage_after-self-inside.result waiting empty
+    h is c.stage_after-self-inside.ensures shows))
 
 pub push-requires : goal.push-requires
 push-requires c = omega (arith, few_kept c.keep.new.self _ c.keep.ensures)
@@ -20,5 +21,6 @@ returns c =
     let waiting = rw (sym c.self.view_is) at c.requires.waiting in
     rw (sym c.self.view_is) (λ text front h is shows.
     subst (λ (k : List ℕ). Shows c.stage_after-self-inside-2.result k (text ++ c.args.line.now)) (sym c.clear.ensures)
-    (joined_line (record { kept = c.self.inside.start; stage = c.self.inside.stage }) text front c.args.line.now c.keep.new.self c.as_slice.result.now c.stage_after-self-inside-2.result waiting h is c.keep.ensures
+    (joined_line (record { kept = c.self.inside.start; stage = c.self.inside.stage }) text front c.args.line.now c.keep.new.self c.as_slice.result.now
+    c.stage_after-self-inside-2.result waiting h is c.keep.ensures
     (c.as_slice.ensures ∙ c.push.ensures) c.stage_after-self-inside-2.ensures shows))

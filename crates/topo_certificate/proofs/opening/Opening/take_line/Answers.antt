@@ -9,9 +9,12 @@ invariant_of-self c = few_kept c.keep.new.self _ c.keep.ensures
 pub returns-in-Some-clause-line : goal.returns-in-Some-clause-line
 returns-in-Some-clause-line c = λ text shows.
     let ends = c.in-Some.ensures {u = tt} in
-    subst (λ (l : List ℕ). IsOpening c.end_line.new.self (text ++ l)) (sym (line_front c.args.piece.now c.in-Some.line.now _ ends)) (c.end_line.ensures text ends.front ends.in_line ends.line_is shows)
+    subst (λ (l : List ℕ). IsOpening c.end_line.new.self (text ++ l)) (sym (line_front c.args.piece.now c.in-Some.line.now _ ends))
+    (c.end_line.ensures text ends.front ends.in_line ends.line_is shows)
 
 pub returns-in-None-clause-line : goal.returns-in-None-clause-line
 returns-in-None-clause-line c =
     let waiting = rw (sym c.self.view_is) at c.requires in
-    rw (sym c.self.view_is) (λ text shows. shows_more c.self.inside.stage c.self.inside.start text c.args.piece.now c.keep.new.self waiting (c.in-None.ensures {u = tt}) c.keep.ensures shows)
+    rw (sym c.self.view_is)
+    (λ text shows. shows_more c.self.inside.stage c.self.inside.start text c.args.piece.now c.keep.new.self waiting (c.in-None.ensures {u = tt})
+    c.keep.ensures shows)

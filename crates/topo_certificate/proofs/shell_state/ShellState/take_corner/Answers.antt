@@ -8,7 +8,9 @@ use Rattle.topo_certificate.proofs.shell_state.ShellState.take_corner.Goals as g
 
 pub returns-in_default-clause-line : goal.returns-in_default-clause-line
 returns-in_default-clause-line c = λ rs h.
-    subst (λ k. Takes k k (corner rs) false) c.self.view_is (corner_unfit (the_view c.self.inside) (the_view c.self.inside) rs (λ at hm same. c.in_default.ensures.fits at rs (subst (λ ms. HoldsMates ms at.mates) (sym c.deref-2.ensures.value) hm) same h))
+    subst (λ k. Takes k k (corner rs) false) c.self.view_is
+    (corner_unfit (the_view c.self.inside) (the_view c.self.inside) rs
+    (λ at hm same. c.in_default.ensures.fits at rs (subst (λ ms. HoldsMates ms at.mates) (sym c.deref-2.ensures.value) hm) same h))
 
 pub returns-clause-line : goal.returns-clause-line
 returns-clause-line c = λ rs h.
@@ -19,4 +21,5 @@ returns-clause-line c = λ rs h.
 pub returns-then-not-has_corner-clause-line : goal.returns-then-not-has_corner-clause-line
 returns-then-not-has_corner-clause-line c = λ rs h.
     subst (λ k. Takes k k (corner rs) false) c.self.view_is
-    (corner_not_due (the_view c.self.inside) (the_view c.self.inside) rs (λ due. (let e : false ≡ true = sym c.if-not-has_corner.true ∙ c.has_corner.ensures.1 due in cc)))
+    (corner_not_due (the_view c.self.inside) (the_view c.self.inside) rs
+    (λ due. (let e : false ≡ true = sym c.if-not-has_corner.true ∙ c.has_corner.ensures.1 due in cc)))

@@ -11,5 +11,7 @@ invariant_of-result c =
 
 pub returns : goal.returns
 returns c s is lt =
-    first_listed s c.args.shell.0 c.args.vertex.0 c.as_slice-touches.result.now c.places-places.result.now c.count_up_to-count.result (c.as_slice-touches.ensures.value ∙ (c.self.view_is ∙ is))
-    (c.places-places.ensures ∙ ap (places_of c.args.vertex.0) (c.self.invariant ∙ ap (map vertex_of) (sym c.as_slice-touches.ensures.value))) lt c.count_up_to-count.ensures.point
+    first_listed s c.args.shell.0 c.args.vertex.0 c.as_slice-touches.result.now c.places-places.result.now c.count_up_to-count.result
+    (c.as_slice-touches.ensures.value ∙ (c.self.view_is ∙ is))
+    (c.places-places.ensures ∙ ap (places_of c.args.vertex.0) (c.self.invariant ∙ ap (map vertex_of) (sym c.as_slice-touches.ensures.value))) lt
+    c.count_up_to-count.ensures.point
