@@ -13,7 +13,8 @@ use Rattle.cert_maker.specs.Book.{uses_of, AllMade, IsCertificateOf}
 use Rattle.cert_maker.specs.Laws.{ClosedHasText}
 use Rattle.cert_maker.specs.BookLaws.{MadeHasBook}
 
-some_parts : ClosedHasText → (f : Contents) → FitsLimits f → (used : ℕ) (ns : List ℕ) → AllMade f used ns → (cs : List Certificate) × AllZip (IsCertificateOf f) ns cs
+some_parts : ClosedHasText → (f : Contents) → FitsLimits f → (used : ℕ) (ns : List ℕ) → AllMade f used ns
+    → (cs : List Certificate) × AllZip (IsCertificateOf f) ns cs
 some_parts has_text f limits used [] made = ([], tt)
 some_parts has_text f limits used (n ∷ ns) (made, more) =
     let (text, (c, certificate, same)) = has_text f n limits (record { placed = made.0; closed = (closed_is_all_hold (solid_of f n)).1 made.2 }) in

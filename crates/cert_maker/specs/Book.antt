@@ -27,7 +27,8 @@ IsMade f used n = AllHold (places f n) × (used + uses_of f n ≤ use_limit) × 
 -- What is first wrong with a solid: a place, that there are too many uses, or what its shells are.
 abbrev pub IsUnmade : Contents → ℕ → ℕ → BookFault → Type 0
 IsUnmade f used n NoSolid = ⊥
-IsUnmade f used n (Fails m x) = (m.0 ≡ n) × (FirstFalse (places f n) x ⊎ (AllHold (places f n) × (used + uses_of f n ≤ use_limit) × FirstFalse (solid_obligations (solid_of f n)) x))
+IsUnmade f used n (Fails m x) =
+    (m.0 ≡ n) × (FirstFalse (places f n) x ⊎ (AllHold (places f n) × (used + uses_of f n ≤ use_limit) × FirstFalse (solid_obligations (solid_of f n)) x))
 IsUnmade f used n (TooMany m) = (m.0 ≡ n) × AllHold (places f n) × (use_limit < used + uses_of f n)
 IsUnmade f used n NoMemory = ⊥
 

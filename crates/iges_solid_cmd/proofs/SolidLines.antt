@@ -12,6 +12,7 @@ by_numbers : (list : List EntryNo) → lines_of list ≡ flat_map solid_line (nu
 by_numbers [] = refl
 by_numbers (no ∷ list) = ap (λ (text : List ℕ). solid_line no.0 ++ text) (by_numbers list)
 
-pub listed : (f : Contents) (solids given : List EntryNo) (old new text : List ℕ) → numbers_of solids ≡ solids_of f → given ≡ solids → old ≡ [] → new ≡ old ++ lines_of given → text ≡ new → text ≡ solids_text f
+pub listed : (f : Contents) (solids given : List EntryNo) (old new text : List ℕ) → numbers_of solids ≡ solids_of f → given ≡ solids → old ≡ []
+    → new ≡ old ++ lines_of given → text ≡ new → text ≡ solids_text f
 listed f solids given old new text all same empty put whole =
     whole ∙ put ∙ ap (λ (start : List ℕ). start ++ lines_of given) empty ∙ ap lines_of same ∙ by_numbers solids ∙ ap (flat_map solid_line) all

@@ -33,11 +33,13 @@ pub longer : {A : Type 0} (old new : List A) (x : A) (k : ℕ) → length old �
 longer old new x k long is = ap (λ xs. length xs) is ∙ (let sum = length-append old (x ∷ []) in omega (arith, long, sum))
 
 -- the failing shells, one shell on
-pub failing_more : (xs : List Faults) (x : Faults) (k : ℕ) (b : Bool) (old new all : List ℕ) → slice_get xs k ≡ Some x → b ≡ is_failing x → new ≡ old ++ (if b then k ∷ [] else [])
+pub failing_more : (xs : List Faults) (x : Faults) (k : ℕ) (b : Bool) (old new all : List ℕ) → slice_get xs k ≡ Some x → b ≡ is_failing x
+    → new ≡ old ++ (if b then k ∷ [] else [])
     → old ++ failing_from k (drop k xs) ≡ all → new ++ failing_from (k + 1) (drop (k + 1) xs) ≡ all
 failing_more xs x k b old new all at is e h =
     piece_more old new (if b then k ∷ [] else []) (failing_from (k + 1) (drop (k + 1) xs)) all
-    (ap (λ t. old ++ ((if t then k ∷ [] else []) ++ failing_from (k + 1) (drop (k + 1) xs))) is ∙ (ap (λ ys. old ++ failing_from k ys) (sym (split_at xs k x at)) ∙ h)) e
+    (ap (λ t. old ++ ((if t then k ∷ [] else []) ++ failing_from (k + 1) (drop (k + 1) xs))) is
+    ∙ (ap (λ ys. old ++ failing_from k ys) (sym (split_at xs k x at)) ∙ h)) e
 
 -- the solids by their numbers
 numbered_again : (list : List EntryNo) → map numbered (numbers_of list) ≡ list

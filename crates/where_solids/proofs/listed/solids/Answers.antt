@@ -8,5 +8,6 @@ use Rattle.where_solids.proofs.listed.solids.Goals as goal
 
 pub returns : goal.returns
 returns c =
-    IfOk-weaker c.solids.result (λ (list : List EntryNo). numbers_of list ≡ solid_numbers c.args.file.now) (λ (list : List EntryNo). list ≡ solids_of c.args.file.now)
+    IfOk-weaker c.solids.result (λ (list : List EntryNo). numbers_of list ≡ solid_numbers c.args.file.now)
+    (λ (list : List EntryNo). list ≡ solids_of c.args.file.now)
     (λ (list : List EntryNo) is. solids_are c.args.file.now list is) c.solids.ensures

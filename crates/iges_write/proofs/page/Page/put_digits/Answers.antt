@@ -13,6 +13,8 @@ returns c =
     let word : List ℕ = decimal c.args.n ++ c.args.delimiter ∷ [] in
     let few : length (decimal c.args.n) ≤ 20 = omega (arith, c.write_digits-start.ensures.start) in
     subst (λ (s : Sheet). Steps c.put_part.result c.put_part.new.self s)
-    (ap (put_part c.args.self.now) (word_written c.write_digits-start.new.buf _ (decimal c.args.n) c.write_digits-start.result c.args.delimiter refl c.write_digits-start.ensures.start c.write_digits-start.ensures.written)
+    (ap (put_part c.args.self.now)
+    (word_written c.write_digits-start.new.buf _ (decimal c.args.n) c.write_digits-start.result c.args.delimiter refl c.write_digits-start.ensures.start
+    c.write_digits-start.ensures.written)
     ∙ word_is_part c.args.self.now word (omega (arith, few, c.requires, length-append (decimal c.args.n) (c.args.delimiter ∷ []))))
     c.put_part.ensures
