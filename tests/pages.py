@@ -26,10 +26,15 @@ CHANGED = {"docs/CERTIFICATE.md": 14, "docs/OPEN.md": 7, "docs/ORIENT.md": 7}
 # A crate with its edits in the table of wrong bodies in docs/DECISIONS.md.
 PLANTED = re.compile(r"`(\w+)`: ([^;|]+)")
 MOST_EDITS = 120
-# What stands for the launcher: it runs the program, or that which tells where solids fail, or the command that asks both.
+# What stands for the launcher: it runs the program, or that which tells where solids fail, or the command that asks both. `-` is standard input.
 LAUNCHED = """#!/bin/sh
 [ "$1" != check ] || {{ shift; exec python3 -B '{top}/companion/check' --program '{program}' --where-program '{where}' "$@"; }}
 [ "$1" != where ] || {{ shift; exec '{where}' "$@"; }}
+for word; do
+    shift
+    [ "$word" != - ] || word=/dev/stdin
+    set -- "$@" "$word"
+done
 exec '{program}' "$@"
 """
 

@@ -8,7 +8,7 @@ import re
 import sys
 
 QUOTE = re.compile(r"(?ms)^```(?:antt|rust)\n(?:--|//) (crates/\S+)\n(.*?)^```$")
-NAMING = "README.md", *(f"docs/{name}.md" for name in ("THEOREM", "TRUSTED", "PROOFS", "FORMAT", "CERTIFICATE", "ARCHITECTURE", "DECISIONS", "LIBRARY"))
+NAMING = "README.md", *(f"docs/{name}.md" for name in ("THEOREM", "TRUSTED", "PROOFS", "FORMAT", "WRITING", "CERTIFICATE", "OPEN", "ORIENT", "ARCHITECTURE", "DECISIONS", "LIBRARY"))
 # A name of the sources in the text of a page: of two words or more, or of a type.
 NAME = re.compile(r"`([a-z]\w*_\w+|[A-Z]\w*[a-z]\w*)(?:::(\w+))?`")
 ROW = re.compile(r"(?m)^\| `(\w+)` \| \[(\S+)\]\(\.\./(crates/\S+)\) \|")
