@@ -157,10 +157,22 @@ def changed_certificates(folder, top, program):
             yield f"{name}: {title}", done.stdout.decode().splitlines() == answer
 
 
+def anchors(path):
+    """What a link to a heading of this page has after its `#`."""
+    headings = re.findall(r"(?m)^#+ (.*)$", re.sub(r"(?s)```.*?```", "", path.read_text()))
+    return {re.sub(r"[^\w -]", "", heading.lower()).replace(" ", "-") for heading in headings}
+
+
+def leads(page, target, anchor):
+    """Whether a link of this page leads to a file, and to a heading of it."""
+    path = page.parent / target if target else page
+    return path.exists() and (not anchor or anchor in anchors(path))
+
+
 def links(top):
     for name in (*PAGES, *(str(path.relative_to(top)) for path in sorted((top / "docs").glob("*.md")))):
-        targets = re.findall(r"\]\(([^)#:]+)\)", (top / name).read_text())
-        yield f"{name}: its links", all(((top / name).parent / target).exists() for target in targets)
+        for target, anchor in sorted(set(re.findall(r"\]\(([^)#:]*)#?([^):]*)\)", (top / name).read_text()))):
+            yield f"{name}: a link to {target}#{anchor}", leads(top / name, target, anchor)
 
 
 def checks(folder, top, program, where, forms):
