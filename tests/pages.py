@@ -1,6 +1,7 @@
 """README and the pages: the forms, the rules, each command that stands there with what it prints, the script, and the links;
 docs/INDEX.md; and the changed certificates of the pages of CHANGED with their answers.
 """
+import hashlib
 import os
 import re
 import subprocess
@@ -23,6 +24,8 @@ CHANGE = re.compile(r"`([^`]+)` as line (\d+)|no line (\d+)|no `END`")
 VERIFIERS = {"IGESCERT": "verify", "IGESOPEN": "open-verify", "ORIENT": "orient-verify"}
 # The pages with such tables, and how many changes of each are spelled out at least.
 CHANGED = {"docs/CERTIFICATE.md": 14, "docs/OPEN.md": 7, "docs/ORIENT.md": 7}
+# An edition of where's text, with the checksum of the recorded texts.
+EDITION = re.compile(r"(?m)^\| (\d+) \| .* \| `([0-9a-f]{16})` \|$")
 # A crate with its edits in the table of wrong bodies in docs/DECISIONS.md.
 PLANTED = re.compile(r"`(\w+)`: ([^;|]+)")
 MOST_EDITS = 120
@@ -121,6 +124,14 @@ def edits(top):
     yield "docs/DECISIONS.md: how many edits", len(list(top.glob("crates/*/must-fail/*.edit"))) <= MOST_EDITS
 
 
+def editions(top):
+    """The last edition of where's text in docs/CHANGES.md is that of the recorded texts and of docs/WHERE.md."""
+    edition, checksum = EDITION.findall((top / "docs" / "CHANGES.md").read_text())[-1]
+    texts = b"".join(path.read_bytes() for path in sorted((top / "tests" / "recorded").glob("*.txt")))
+    yield "docs/CHANGES.md: an edition for the texts of tests/recorded", hashlib.sha256(texts).hexdigest().startswith(checksum)
+    yield "docs/WHERE.md: the edition", f"edition {edition} of" in (top / "docs" / "WHERE.md").read_text()
+
+
 def changed_lines(lines, change):
     """The lines with a change that is spelled out, as far as its reason; None of another change."""
     spelled = re.split(r": |, an ", change)[0]
@@ -186,4 +197,5 @@ def checks(folder, top, program, where, forms):
     yield from links(top)
     yield from indexes(top)
     yield from edits(top)
+    yield from editions(top)
     yield from changed_certificates(folder, top, program)
