@@ -1,6 +1,6 @@
 #!/usr/bin/env python3
-"""docs/THEOREM.md against the sources: each quote stands in the file that its first line names, and each word of the table is
-defined in the file that its row names; and the names of the sources that it and the pages of NAMING tell are there. Run alone with --mend,
+"""docs/THEOREM.md against the sources: each quote stands in the file that its first line names, the definition of a closed solid is
+quoted, and each word of the table is defined in the file that its row names; and the names of the sources that it and the pages of NAMING tell are there. Run alone with --mend,
 it names the file of a quote or a word anew where it was moved.
 """
 import pathlib
@@ -11,6 +11,8 @@ QUOTE = re.compile(r"(?ms)^```(?:antt|rust)\n(?:--|//) (crates/\S+)\n(.*?)^```$"
 NAMING = "README.md", *(f"docs/{name}.md" for name in ("THEOREM", "TRUSTED", "PROOFS", "FORMAT", "WRITING", "CERTIFICATE", "OPEN", "ORIENT", "ARCHITECTURE", "DECISIONS", "LIBRARY"))
 # A name of the sources in the text of a page: of two words or more, or of a type.
 NAME = re.compile(r"`([a-z]\w*_\w+|[A-Z]\w*[a-z]\w*)(?:::(\w+))?`")
+# The definition of a closed solid, which the page quotes whole.
+CLOSED = "IsClosed", "IsClosedSolid", "IsClosedShell", "IsJoined", "IsPaired", "IsReached", "IsLinked", "IsApart"
 ROW = re.compile(r"(?m)^\| `(\w+)` \| \[(\S+)\]\(\.\./(crates/\S+)\) \|")
 
 
@@ -65,6 +67,9 @@ def checks(top):
         found += 1
         yield f"docs/THEOREM.md: {name}", (top / path).exists() and holds((top / path).read_text())
     yield "docs/THEOREM.md: quotes and rows", found > 0
+    quotes = "\n".join(quote for _, quote in QUOTE.findall((top / "docs" / "THEOREM.md").read_text()))
+    for word in CLOSED:
+        yield f"docs/THEOREM.md: a quote of {word}", defines(quotes, word)
 
 
 def mended(top, page):
