@@ -47,10 +47,10 @@ def run(words, folder, **more):
 
 
 def tables(top, forms):
-    """Each form stands in the tables of commands, and each rule of a closed solid in that of README."""
+    """Each form stands in README's list and among the commands of docs/COMMANDS.md, and each rule of a closed solid in README's table."""
     readme, commands = ((top / name).read_text() for name in COMMANDS)
     for form in forms:
-        yield f"README, docs/COMMANDS.md: {form}", f"\nigesolid {form}  " in readme and f"\n| `igesolid {form}` |" in commands
+        yield f"README, docs/COMMANDS.md: {form}", f"\nigesolid {form}  " in readme and f"\n- `igesolid {form}` " in commands
     for rule in RULE.findall((top / "crates" / "solid_data" / "specs" / "RuleNames.antt").read_text()):
         yield f"README: {rule}", f"\n| `{rule}` |" in readme
 
