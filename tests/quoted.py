@@ -13,5 +13,5 @@ def checks(top):
             yield f"{page}: {name}", f"```\n{(top / 'examples' / name).read_text()}```" in (top / page).read_text()
     example, library = top / "crates" / "library_example", (top / "docs" / "LIBRARY.md").read_text()
     code, definition = (example / "src" / "lib.rt").read_text(), (example / "specs" / "Finds.antt").read_text()
-    for name, text in (("code", code[code.index("/// ") :]), ("definition", definition[definition.index("-- The bytes are one") :])):
+    for name, text in (("code", code[code.index("/// What is said of the solid of the entry") :]), ("definition", definition[definition.index("-- The bytes are one") :])):
         yield f"docs/LIBRARY.md: the {name}", f"\n{text}```" in library

@@ -8,7 +8,7 @@ import re
 import sys
 
 QUOTE = re.compile(r"(?ms)^```(?:antt|rust)\n(?:--|//) (crates/\S+)\n(.*?)^```$")
-NAMING = "README.md", *(f"docs/{name}.md" for name in ("THEOREM", "TRUSTED", "PROOFS", "FORMAT", "WRITING", "CERTIFICATE", "OPEN", "ORIENT", "ARCHITECTURE", "DECISIONS", "LIBRARY"))
+NAMING = "README.md", *(f"docs/{name}.md" for name in ("THEOREM", "TRUSTED", "PROOFS", "FORMAT", "WRITING", "CERTIFICATE", "OPEN", "ORIENT", "INDEX", "ARCHITECTURE", "DECISIONS", "LIBRARY"))
 # A name of the sources in the text of a page: of two words or more, or of a type.
 NAME = re.compile(r"`([a-z]\w*_\w+|[A-Z]\w*[a-z]\w*)(?:::(\w+))?`")
 # The definition of a closed solid, which the page quotes whole.
@@ -32,7 +32,7 @@ def defines(source, word):
 
 def short(path):
     """The name of a file of definitions in the table."""
-    return path.removeprefix("crates/").removesuffix(".antt")
+    return path.split("/")[-1].removesuffix(".antt")
 
 
 def claims(page):
