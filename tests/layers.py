@@ -1,10 +1,10 @@
 #!/usr/bin/env python3
 """crates.txt against docs/ARCHITECTURE.md, the sources and the limits.
 
-Each crate has one row in docs/ARCHITECTURE.md, and depends on no crate that the row says it must not know. crates.txt lists each
-crate below what it depends on, and nothing that the crate doesn't name. No chain of crates is longer than `CHAIN` crates, and no
-crate has more than `LINES` lines or `FUNCTIONS` functions, contracts included; tests, and the programs, which are `main` alone,
-aren't counted.
+Each crate has one row in docs/ARCHITECTURE.md, below the heading that it has in crates.txt, and depends on no crate that the row
+says it must not know. crates.txt lists each crate below what it depends on, and nothing that the crate doesn't name. No chain of
+crates is longer than `CHAIN` crates, and no crate has more than `LINES` lines or `FUNCTIONS` functions, contracts included; tests,
+and the programs, which are `main` alone, aren't counted.
 """
 import functools
 import pathlib
@@ -13,6 +13,9 @@ import sys
 
 CRATE = re.compile(r"(?m)^(\w+): (.*)$")
 ROW = re.compile(r"(?m)^\| `(\w+)` \| .*\|(.*)\|$")
+# A heading of crates.txt and of the tree, with what is below it.
+HEADED = re.compile(r"(?m)^# ([a-z]+: .*)\n((?:\w+:.*\n)+)")
+DRAWN = re.compile(r"(?m)^### ([a-z]+: .*)\n((?:(?!#).*\n)+)")
 NAMED = re.compile(r"\bRattle\.(\w+)|(?<![\w:.])(\w+)::")
 FUNCTION = re.compile(r"(?m)^ *(?:pub(?:\(\w+\))? )?(?:const )?fn \w+")
 CHAIN, LINES, FUNCTIONS = 8, 1500, 100
@@ -57,6 +60,14 @@ def rows_checks(crates, page):
             yield f"docs/ARCHITECTURE.md: {name} doesn't know {other}", other in crates and other not in below(crates, name)
 
 
+def tree_checks(listing, page):
+    """The headings of crates.txt are those of the tree, and each crate is below the same one."""
+    listed = [(heading, CRATE.findall(part)) for heading, part in HEADED.findall(listing)]
+    drawn = dict(DRAWN.findall(page))
+    for heading, crates in listed:
+        yield f"docs/ARCHITECTURE.md: below {heading}", sorted(name for name, _ in crates) == sorted(name for name, _ in ROW.findall(drawn.get(heading, "")))
+
+
 def needs_checks(top, crates):
     listed = list(crates)
     for at, (name, needs) in enumerate(crates.items()):
@@ -83,7 +94,9 @@ def checks(top):
     text = (top / "crates.txt").read_text()
     crates = {name: needs.split() for name, needs in CRATE.findall(text)}
     tests = {name for name, _ in CRATE.findall(text.split("# tests: ")[-1])}
-    yield from rows_checks(crates, (top / "docs" / "ARCHITECTURE.md").read_text())
+    page = (top / "docs" / "ARCHITECTURE.md").read_text()
+    yield from rows_checks(crates, page)
+    yield from tree_checks(text, page)
     yield from needs_checks(top, crates)
     yield from limits_checks(top, crates, tests)
 

@@ -1,6 +1,7 @@
-"""README and the pages: the forms, the rules, each command that stands there with what it prints, the script, and the links; the
-indexes of docs/FORMAT.md and docs/CERTIFICATE.md, and the changed certificates of docs/CERTIFICATE.md with their answers.
+"""README and the pages: the forms, the rules, each command that stands there with what it prints, the script, and the links;
+docs/INDEX.md; and the changed certificates of the pages of CHANGED with their answers.
 """
+import hashlib
 import os
 import re
 import subprocess
@@ -12,8 +13,7 @@ from theorem import defines
 PAGES = "README.md", "examples/README.md", "examples/no/README.md"
 COMMANDS = "README.md", "docs/COMMANDS.md"
 RULE = re.compile(r'(?m)^rule_name .*= codes "(.*)"$')
-# The indexes: a row has the rule, definitions, functions and examples.
-INDEXED = "docs/FORMAT.md", "docs/CERTIFICATE.md"
+# The tables of the index: a row has the rule, definitions, functions and examples.
 INDEX = re.compile(r"(?m)^\| Rule \| Definition \| Function \| .*\n\|[-|]+\n((?:\|.*\n?)+)")
 DEFINITION = re.compile(r"\[`(\w+)`\]\(\.\./(crates/\w+/specs/\w+\.antt)\)")
 FUNCTION = re.compile(r"`(\w+)(?:::\w+)?::(\w+)`")
@@ -22,14 +22,22 @@ EXAMPLE = re.compile(r"\[([\w.]+)\]\(\.\./((?:examples|tests/inputs)/(?:\w+/)*([
 CERTIFICATE = re.compile(r"(?s)```\n((?:IGESCERT|IGESOPEN|ORIENT) [^`]*)```\n(?:(?!```).)*?\n\| Change \| Answer \|\n\|[-|]+\n((?:\|.*?\n)+)")
 CHANGE = re.compile(r"`([^`]+)` as line (\d+)|no line (\d+)|no `END`")
 VERIFIERS = {"IGESCERT": "verify", "IGESOPEN": "open-verify", "ORIENT": "orient-verify"}
-FEWEST_CHANGES = 25
+# The pages with such tables, and how many changes of each are spelled out at least.
+CHANGED = {"docs/CERTIFICATE.md": 14, "docs/OPEN.md": 7, "docs/ORIENT.md": 7}
+# An edition of where's text, with the checksum of the recorded texts.
+EDITION = re.compile(r"(?m)^\| (\d+) \| .* \| `([0-9a-f]{16})` \|$")
 # A crate with its edits in the table of wrong bodies in docs/DECISIONS.md.
 PLANTED = re.compile(r"`(\w+)`: ([^;|]+)")
 MOST_EDITS = 120
-# What stands for the launcher: it runs the program, or that which tells where solids fail, or the command that asks both.
+# What stands for the launcher: it runs the program, or that which tells where solids fail, or the command that asks both. `-` is standard input.
 LAUNCHED = """#!/bin/sh
 [ "$1" != check ] || {{ shift; exec python3 -B '{top}/companion/check' --program '{program}' --where-program '{where}' "$@"; }}
 [ "$1" != where ] || {{ shift; exec '{where}' "$@"; }}
+for word; do
+    shift
+    [ "$word" != - ] || word=/dev/stdin
+    set -- "$@" "$word"
+done
 exec '{program}' "$@"
 """
 
@@ -39,10 +47,10 @@ def run(words, folder, **more):
 
 
 def tables(top, forms):
-    """Each form stands in the tables of commands, and each rule of a closed solid in that of README."""
+    """Each form stands in README's list and among the commands of docs/COMMANDS.md, and each rule of a closed solid in README's table."""
     readme, commands = ((top / name).read_text() for name in COMMANDS)
     for form in forms:
-        yield f"README, docs/COMMANDS.md: {form}", f"\nigesolid {form}  " in readme and f"\n| `igesolid {form}` |" in commands
+        yield f"README, docs/COMMANDS.md: {form}", f"\nigesolid {form}  " in readme and f"\n- `igesolid {form}` " in commands
     for rule in RULE.findall((top / "crates" / "solid_data" / "specs" / "RuleNames.antt").read_text()):
         yield f"README: {rule}", f"\n| `{rule}` |" in readme
 
@@ -95,16 +103,14 @@ def indexes(top):
         (EXAMPLE, lambda m: m[1] == m[3] and (top / m[2]).exists()),
     )
     ruled = set()
-    for name in INDEXED:
-        rows = [line[2:-2].split(" | ") for table in INDEX.findall((top / name).read_text()) for line in table.splitlines()]
-        yield f"{name}: an index", len(rows) > 0
-        for rule, *cells in rows:
-            ruled.update(re.findall(r"`([a-z-]+)`|\b([A-Z]{3,})\b", rule))
-            for cell, (pattern, holds) in zip(cells, tests, strict=True):
-                yield f"{name}: {rule}: {cell}", is_indexed(cell, pattern, holds)
+    rows = [line[2:-2].split(" | ") for table in INDEX.findall((top / "docs" / "INDEX.md").read_text()) for line in table.splitlines()]
+    for rule, *cells in rows:
+        ruled.update(re.findall(r"`([a-z-]+)`|\b([A-Z]{3,})\b", rule))
+        for cell, (pattern, holds) in zip(cells, tests, strict=True):
+            yield f"docs/INDEX.md: {rule}: {cell}", is_indexed(cell, pattern, holds)
     rules = {word for words in ruled for word in words}
     for word in sorted(printed_words(top) - {"missing", "misspelt", "unfit"}):
-        yield f"docs/FORMAT.md: {word} in the index", word in rules
+        yield f"docs/INDEX.md: {word}", word in rules
 
 
 def edits(top):
@@ -116,6 +122,14 @@ def edits(top):
             path = top / "crates" / crate / "must-fail" / f"{name.replace(' ', '_')}.edit"
             yield f"docs/DECISIONS.md: {crate}: {name}", path.exists()
     yield "docs/DECISIONS.md: how many edits", len(list(top.glob("crates/*/must-fail/*.edit"))) <= MOST_EDITS
+
+
+def editions(top):
+    """The last edition of where's text in docs/CHANGES.md is that of the recorded texts and of docs/WHERE.md."""
+    edition, checksum = EDITION.findall((top / "docs" / "CHANGES.md").read_text())[-1]
+    texts = b"".join(path.read_bytes() for path in sorted((top / "tests" / "recorded").glob("*.txt")))
+    yield "docs/CHANGES.md: an edition for the texts of tests/recorded", hashlib.sha256(texts).hexdigest().startswith(checksum)
+    yield "docs/WHERE.md: the edition", f"edition {edition} of" in (top / "docs" / "WHERE.md").read_text()
 
 
 def changed_lines(lines, change):
@@ -132,27 +146,44 @@ def changed_lines(lines, change):
     return list(lines.values())
 
 
-def changed_certificates(folder, top, program):
-    """What is answered of each certificate of the page with a change that is spelled out."""
-    page, tried = (top / "docs" / "CERTIFICATE.md").read_text(), 0
-    certificate = folder / "changed.cert"
+def changes(page):
+    """Each change of a certificate of the page that is spelled out: the example, the first word, the changed lines, and the answer."""
     for match in CERTIFICATE.finditer(page):
         lines, example = match[1].splitlines(), re.findall(r"`(examples/[\w/]+\.igs)`", page[: match.start()])[-1]
         for change, answer in re.findall(r"(?m)^\| (.*?) \| (.*?) \|$", match[2]):
             changed = changed_lines(lines, change)
-            if changed is None:
-                continue
-            tried += 1
-            certificate.write_text("".join(f"{line}\n" for line in changed))
-            done = run([program, VERIFIERS[lines[0].split()[0]], top / example, certificate], folder)
-            yield f"docs/CERTIFICATE.md: {example}: {change}", done.stdout.decode().splitlines() == re.findall(r"`(.*?)`", answer)
-    yield "docs/CERTIFICATE.md: changes", tried >= FEWEST_CHANGES
+            if changed is not None:
+                yield f"{example}: {change}", example, lines[0].split()[0], changed, re.findall(r"`(.*?)`", answer)
+
+
+def changed_certificates(folder, top, program):
+    """What is answered of each certificate of the pages with a change that is spelled out."""
+    certificate = folder / "changed.cert"
+    for name, fewest in CHANGED.items():
+        found = list(changes((top / name).read_text()))
+        yield f"{name}: changes", len(found) >= fewest
+        for title, example, head, lines, answer in found:
+            certificate.write_text("".join(f"{line}\n" for line in lines))
+            done = run([program, VERIFIERS[head], top / example, certificate], folder)
+            yield f"{name}: {title}", done.stdout.decode().splitlines() == answer
+
+
+def anchors(path):
+    """What a link to a heading of this page has after its `#`."""
+    headings = re.findall(r"(?m)^#+ (.*)$", re.sub(r"(?s)```.*?```", "", path.read_text()))
+    return {re.sub(r"[^\w -]", "", heading.lower()).replace(" ", "-") for heading in headings}
+
+
+def leads(page, target, anchor):
+    """Whether a link of this page leads to a file, and to a heading of it."""
+    path = page.parent / target if target else page
+    return path.exists() and (not anchor or anchor in anchors(path))
 
 
 def links(top):
     for name in (*PAGES, *(str(path.relative_to(top)) for path in sorted((top / "docs").glob("*.md")))):
-        targets = re.findall(r"\]\(([^)#:]+)\)", (top / name).read_text())
-        yield f"{name}: its links", all(((top / name).parent / target).exists() for target in targets)
+        for target, anchor in sorted(set(re.findall(r"\]\(([^)#:]*)#?([^):]*)\)", (top / name).read_text()))):
+            yield f"{name}: a link to {target}#{anchor}", leads(top / name, target, anchor)
 
 
 def checks(folder, top, program, where, forms):
@@ -166,4 +197,5 @@ def checks(folder, top, program, where, forms):
     yield from links(top)
     yield from indexes(top)
     yield from edits(top)
+    yield from editions(top)
     yield from changed_certificates(folder, top, program)

@@ -1,6 +1,6 @@
 #!/usr/bin/env python3
-"""docs/THEOREM.md against the sources: each quote stands in the file that its first line names, and each word of the table is
-defined in the file that its row names; and the names of the sources that it and the pages of NAMING tell are there. Run alone with --mend,
+"""docs/THEOREM.md against the sources: each quote stands in the file that its first line names, the definition of a closed solid is
+quoted, and each word of the table is defined in the file that its row names; and the names of the sources that it and the pages of NAMING tell are there. Run alone with --mend,
 it names the file of a quote or a word anew where it was moved.
 """
 import pathlib
@@ -8,9 +8,11 @@ import re
 import sys
 
 QUOTE = re.compile(r"(?ms)^```(?:antt|rust)\n(?:--|//) (crates/\S+)\n(.*?)^```$")
-NAMING = "README.md", *(f"docs/{name}.md" for name in ("THEOREM", "TRUSTED", "PROOFS", "FORMAT", "CERTIFICATE", "ARCHITECTURE", "DECISIONS", "LIBRARY"))
+NAMING = "README.md", *(f"docs/{name}.md" for name in ("THEOREM", "TRUSTED", "PROOFS", "FORMAT", "WRITING", "CERTIFICATE", "OPEN", "ORIENT", "INDEX", "ARCHITECTURE", "DECISIONS", "LIBRARY"))
 # A name of the sources in the text of a page: of two words or more, or of a type.
 NAME = re.compile(r"`([a-z]\w*_\w+|[A-Z]\w*[a-z]\w*)(?:::(\w+))?`")
+# The definition of a closed solid, which the page quotes whole.
+CLOSED = "IsClosed", "IsClosedSolid", "IsClosedShell", "IsJoined", "IsPaired", "IsReached", "IsLinked", "IsApart"
 ROW = re.compile(r"(?m)^\| `(\w+)` \| \[(\S+)\]\(\.\./(crates/\S+)\) \|")
 
 
@@ -30,7 +32,7 @@ def defines(source, word):
 
 def short(path):
     """The name of a file of definitions in the table."""
-    return path.removeprefix("crates/").removesuffix(".antt")
+    return path.split("/")[-1].removesuffix(".antt")
 
 
 def claims(page):
@@ -65,6 +67,9 @@ def checks(top):
         found += 1
         yield f"docs/THEOREM.md: {name}", (top / path).exists() and holds((top / path).read_text())
     yield "docs/THEOREM.md: quotes and rows", found > 0
+    quotes = "\n".join(quote for _, quote in QUOTE.findall((top / "docs" / "THEOREM.md").read_text()))
+    for word in CLOSED:
+        yield f"docs/THEOREM.md: a quote of {word}", defines(quotes, word)
 
 
 def mended(top, page):

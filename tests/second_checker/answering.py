@@ -1,4 +1,4 @@
-"""What each command owes for the bytes of its inputs (README.md, docs/FORMAT.md, docs/CERTIFICATE.md)."""
+"""What each command owes for the bytes of its inputs (docs/COMMANDS.md)."""
 import functools
 import re
 

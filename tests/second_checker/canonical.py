@@ -1,4 +1,4 @@
-"""The canonical text of a file (docs/FORMAT.md, sections 10 to 12)."""
+"""The canonical text of a file (docs/WRITING.md, sections 1 to 3)."""
 from .fields import Real
 
 FIRST_FIELDS, SECOND_FIELDS = (3, 4, 5, 6, 7, 8), (12, 13)

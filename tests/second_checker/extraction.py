@@ -1,4 +1,4 @@
-"""Extraction (docs/FORMAT.md, section 13): a solid with all that it refers to, renumbered."""
+"""Extraction (docs/WRITING.md, section 4): a solid with all that it refers to, renumbered."""
 import copy
 
 from .fields import Real

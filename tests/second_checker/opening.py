@@ -1,4 +1,4 @@
-"""Certificates of open shells: a shell of form 1 or 2 whose edges are used once or twice (docs/CERTIFICATE.md, section 9)."""
+"""Certificates of open shells: a shell of form 1 or 2 whose edges are used once or twice (docs/OPEN.md)."""
 import re
 
 from .lines import NUMBER, Lines, text_of

@@ -12,14 +12,16 @@ use Rattle.shell_rules.specs.ShellObligations.{solid_obligations}
 use Rattle.brep_walk.specs.Places.{places}
 use Rattle.brep_walk.specs.SolidOf.{solid_of}
 use Rattle.cert_lines.specs.declared.parts.Certificate.{Certificate}
-use Rattle.cert_maker.specs.Book.{is_solid_at, is_solid_entry, solids_from, solids_of, uses_of, IsMade, AllMade, FirstUnmade, IsCertificateOf, IsSolidFault, IsFaultOf, IsBookFault, use_limit}
+use Rattle.iges_params.specs.Solids.{is_solid_at, is_solid_entry, solids_from, solids_of}
+use Rattle.cert_maker.specs.Book.{uses_of, IsMade, AllMade, FirstUnmade, IsCertificateOf, IsSolidFault, IsFaultOf, IsBookFault, use_limit}
 use Rattle.cert_maker.specs.declared.book.BookFault.{BookFault}
 use Rattle.cert_maker.specs.declared.book.BookFault.TheVariants.{NoSolid, Fails, TooMany, NoMemory}
 
 -- What is shown of the solids that are left is shown of all.
 pub record Left (f : Contents) (i used : ℕ) (parts : List Certificate) : Type 0 where
   pub few : used ≤ 6000000
-  pub zip : (more : List Certificate) → AllZip (IsCertificateOf f) (solids_from i (drop i f.entries)) more → AllZip (IsCertificateOf f) (solids_of f) (parts ++ more)
+  pub zip : (more : List Certificate) → AllZip (IsCertificateOf f) (solids_from i (drop i f.entries)) more
+      → AllZip (IsCertificateOf f) (solids_of f) (parts ++ more)
   pub made : AllMade f used (solids_from i (drop i f.entries)) → AllMade f 0 (solids_of f)
   pub unmade : (fault : BookFault) → FirstUnmade f used (solids_from i (drop i f.entries)) fault → FirstUnmade f 0 (solids_of f) fault
 
@@ -31,13 +33,17 @@ left_all f parts none = record {
   unmade = λ fault h. h;
 }
 
-next_entry : (f : Contents) (i : ℕ) (b : Bool) → i < length f.entries → is_solid_at f i ≡ b → solids_from i (drop i f.entries) ≡ (if b then (2 * i + 1) ∷ solids_from (i + 1) (drop (i + 1) f.entries) else solids_from (i + 1) (drop (i + 1) f.entries))
+next_entry : (f : Contents) (i : ℕ) (b : Bool) → i < length f.entries → is_solid_at f i ≡ b
+    → solids_from i (drop i f.entries)
+    ≡ (if b then (2 * i + 1) ∷ solids_from (i + 1) (drop (i + 1) f.entries) else solids_from (i + 1) (drop (i + 1) f.entries))
 next_entry f i b lt is =
     let e = get_some f.entries i lt in
     let test : int_eq e.0.0.kind (pos 186) ≡ b = ap is_solid_entry (sym e.1) ∙ is in
-    ap (solids_from i) (split_at f.entries i e.0 e.1) ∙ ap (λ t. if t then (2 * i + 1) ∷ solids_from (i + 1) (drop (i + 1) f.entries) else solids_from (i + 1) (drop (i + 1) f.entries)) test
+    ap (solids_from i) (split_at f.entries i e.0 e.1)
+    ∙ ap (λ t. if t then (2 * i + 1) ∷ solids_from (i + 1) (drop (i + 1) f.entries) else solids_from (i + 1) (drop (i + 1) f.entries)) test
 
-pub left_other : (f : Contents) (i used : ℕ) (parts : List Certificate) → i < length f.entries → is_solid_at f i ≡ false → Left f i used parts → Left f (i + 1) used parts
+pub left_other : (f : Contents) (i used : ℕ) (parts : List Certificate) → i < length f.entries → is_solid_at f i ≡ false → Left f i used parts
+    → Left f (i + 1) used parts
 left_other f i used parts lt is h =
     let e = next_entry f i false lt is in
     record {
@@ -47,20 +53,23 @@ left_other f i used parts lt is h =
       unmade = λ fault u. h.unmade fault (subst (λ ns. FirstUnmade f used ns fault) (sym e) u);
     }
 
-pub left_solid : (f : Contents) (i n used with : ℕ) (parts new : List Certificate) (part : Certificate) → i < length f.entries → is_solid_at f i ≡ true → n ≡ 2 * i + 1 → IsCertificateOf f n part → with ≡ used + uses_of f n → IsMade f used n → new ≡ parts ++ part ∷ []
+pub left_solid : (f : Contents) (i n used with : ℕ) (parts new : List Certificate) (part : Certificate) → i < length f.entries → is_solid_at f i ≡ true
+    → n ≡ 2 * i + 1 → IsCertificateOf f n part → with ≡ used + uses_of f n → IsMade f used n → new ≡ parts ++ part ∷ []
     → Left f i used parts → Left f (i + 1) with new
 left_solid f i n used with parts new part lt is is_n certificate is_with made grown h =
     let rest : List ℕ = solids_from (i + 1) (drop (i + 1) f.entries) in
     let e : solids_from i (drop i f.entries) ≡ n ∷ rest = next_entry f i true lt is ∙ ap (λ m. m ∷ rest) (sym is_n) in
     record {
       few = omega (arith, is_with, made.1);
-      zip = λ more z. subst (AllZip (IsCertificateOf f) (solids_of f)) (sym (ap (λ ps. ps ++ more) grown ∙ append_assoc parts (part ∷ []) more)) (h.zip (part ∷ more) (subst (λ ns. AllZip (IsCertificateOf f) ns (part ∷ more)) (sym e) (certificate, z)));
+      zip = λ more z. subst (AllZip (IsCertificateOf f) (solids_of f)) (sym (ap (λ ps. ps ++ more) grown ∙ append_assoc parts (part ∷ []) more))
+          (h.zip (part ∷ more) (subst (λ ns. AllZip (IsCertificateOf f) ns (part ∷ more)) (sym e) (certificate, z)));
       made = λ m. h.made (subst (AllMade f used) (sym e) (made, subst (λ u. AllMade f u rest) is_with m));
       unmade = λ fault u. h.unmade fault (subst (λ ns. FirstUnmade f used ns fault) (sym e) (inr (made, subst (λ x. FirstUnmade f x rest fault) is_with u)));
     }
 
 -- a solid that is not certified
-pub solid_fails : (f : Contents) (i n used : ℕ) (parts : List Certificate) (fault : BookFault) → i < length f.entries → is_solid_at f i ≡ true → n ≡ 2 * i + 1 → IsSolidFault f used n fault → Left f i used parts → IsBookFault f fault
+pub solid_fails : (f : Contents) (i n used : ℕ) (parts : List Certificate) (fault : BookFault) → i < length f.entries → is_solid_at f i ≡ true → n ≡ 2 * i + 1
+    → IsSolidFault f used n fault → Left f i used parts → IsBookFault f fault
 solid_fails f i n used parts fault lt is is_n wrong h = by_fault fault wrong
   where
     e : solids_from i (drop i f.entries) ≡ n ∷ solids_from (i + 1) (drop (i + 1) f.entries)
@@ -76,8 +85,10 @@ solid_fails f i n used parts fault lt is is_n wrong h = by_fault fault wrong
 none_left : (f : Contents) (i : ℕ) → length f.entries ≤ i → solids_from i (drop i f.entries) ≡ []
 none_left f i past = ap (solids_from i) (drop_all i f.entries past)
 
-pub all_zip : (f : Contents) (i used : ℕ) (parts : List Certificate) → length f.entries ≤ i → Left f i used parts → AllZip (IsCertificateOf f) (solids_of f) parts
-all_zip f i used parts past h = subst (AllZip (IsCertificateOf f) (solids_of f)) (append-nil parts) (h.zip [] (subst (λ ns. AllZip (IsCertificateOf f) ns []) (sym (none_left f i past)) tt))
+pub all_zip : (f : Contents) (i used : ℕ) (parts : List Certificate) → length f.entries ≤ i → Left f i used parts
+    → AllZip (IsCertificateOf f) (solids_of f) parts
+all_zip f i used parts past h = subst (AllZip (IsCertificateOf f) (solids_of f)) (append-nil parts)
+    (h.zip [] (subst (λ ns. AllZip (IsCertificateOf f) ns []) (sym (none_left f i past)) tt))
 
 pub all_made : (f : Contents) (i used : ℕ) (parts : List Certificate) → length f.entries ≤ i → Left f i used parts → AllMade f 0 (solids_of f)
 all_made f i used parts past h = h.made (subst (AllMade f used) (sym (none_left f i past)) tt)
@@ -94,7 +105,8 @@ pub uses_are : (f : Contents) (n k : ℕ) (s : SolidData) → s ≡ solid_of f n
 unfolding uses_of
 uses_are f n k s same counted = counted ∙ ap (λ (t : SolidData). length (flat_map shell_uses t.shells)) same
 
-pub shells_fault : (f : Contents) (used n : ℕ) (s : SolidData) (fault : BookFault) → s ≡ solid_of f n → AllHold (places f n) → used + uses_of f n ≤ use_limit → IsFaultOf n (solid_obligations s) fault → IsSolidFault f used n fault
+pub shells_fault : (f : Contents) (used n : ℕ) (s : SolidData) (fault : BookFault) → s ≡ solid_of f n → AllHold (places f n) → used + uses_of f n ≤ use_limit
+    → IsFaultOf n (solid_obligations s) fault → IsSolidFault f used n fault
 shells_fault f used n s NoSolid same holds few w = w
 shells_fault f used n s (Fails m x) same holds few w = (w.0, inr (holds, few, subst (λ (t : SolidData). FirstFalse (solid_obligations t) x) same w.1))
 shells_fault f used n s (TooMany m) same holds few w = absurd w
@@ -110,7 +122,8 @@ pub none_there : (xs : List Certificate) → length xs ≡ 0 → xs ≡ []
 none_there [] h = refl
 none_there (x ∷ xs) h = absurd (omega (arith, h))
 
-pub left_other_kept : (f : Contents) (i used with : ℕ) (parts new : List Certificate) → i < length f.entries → is_solid_at f i ≡ false → with ≡ used → new ≡ parts → Left f i used parts → Left f (i + 1) with new
+pub left_other_kept : (f : Contents) (i used with : ℕ) (parts new : List Certificate) → i < length f.entries → is_solid_at f i ≡ false → with ≡ used
+    → new ≡ parts → Left f i used parts → Left f (i + 1) with new
 left_other_kept f i used with parts new lt is same_used same_parts h =
     subst (λ u. Left f (i + 1) u new) (sym same_used) (subst (λ ps. Left f (i + 1) used ps) (sym same_parts) (left_other f i used parts lt is h))
 

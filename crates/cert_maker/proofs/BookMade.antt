@@ -15,7 +15,8 @@ use Rattle.cert_lines.specs.declared.version.Version.TheVariants.{Two, Three}
 use Rattle.cert_lines.proofs.CutLines.{cut_spelled}
 use Rattle.topo_certificate.specs.Legal.{IsLegal}
 use Rattle.solid_check.specs.Accepted.{Certify, Part, part_lines, solids_named, IsGoodPart, IsAccepted}
-use Rattle.cert_maker.specs.Book.{solids_from, solids_of, IsCertificateOf}
+use Rattle.iges_params.specs.Solids.{solids_from, solids_of}
+use Rattle.cert_maker.specs.Book.{IsCertificateOf}
 use Rattle.cert_maker.specs.BookLaws.{BookTextIsAccepted, OneBookText}
 use Rattle.cert_maker.proofs.OneText.{one_zip, one_certificate}
 use Rattle.cert_maker.proofs.Zipping.{zip_length}
@@ -87,7 +88,8 @@ some_parts [] h = h
 some_parts (c ∷ cs) h = omega arith
 
 -- The text of the certificates of all solids is an accepted book that names them, where their numbers rise.
-pub book_made : (f : Contents) (cs : List Certificate) → IsStrictlyIncreasing (solids_of f) → AllZip (IsCertificateOf f) (solids_of f) cs → 0 < length cs → IsAccepted f (text_of (book_lines cs)) Three (solids_of f)
+pub book_made : (f : Contents) (cs : List Certificate) → IsStrictlyIncreasing (solids_of f) → AllZip (IsCertificateOf f) (solids_of f) cs → 0 < length cs
+    → IsAccepted f (text_of (book_lines cs)) Three (solids_of f)
 book_made f cs rises made some =
     let lines : List CertLine = flat_map solid_lines cs in
     let names = names_are f (solids_of f) cs made in (
@@ -96,7 +98,8 @@ book_made f cs rises made some =
       record {
         headed = record {
           first = spelling (head Three);
-          cut = cut_spelled (book_lines cs) (tt, all_both lines (end ∷ []) (spelled_parts f (solids_of f) cs made) (tt, tt)) ∙ ap (λ ls. spelling (head Three) ∷ ls) (map_append lines (end ∷ []) ∙ ap (λ ls. ls ++ spelling end ∷ []) (lines_of_parts cs));
+          cut = cut_spelled (book_lines cs) (tt, all_both lines (end ∷ []) (spelled_parts f (solids_of f) cs made) (tt, tt))
+              ∙ ap (λ ls. spelling (head Three) ∷ ls) (map_append lines (end ∷ []) ∙ ap (λ ls. ls ++ spelling end ∷ []) (lines_of_parts cs));
           is_head = head_read Three;
         };
         some = some_parts cs some;
@@ -110,7 +113,8 @@ solids_above : (low i : ℕ) (es : List (Entry × List Value)) → low < 2 * i +
 solids_above low i [] h = tt
 solids_above low i (e ∷ es) h = by_test (int_eq e.0.kind (pos 186)) (solids_above low (i + 1) es (omega (arith, h)))
   where
-    by_test : (b : Bool) → AllByRecursion (λ n. low < n) (solids_from (i + 1) es) → AllByRecursion (λ n. low < n) (if b then (2 * i + 1) ∷ solids_from (i + 1) es else solids_from (i + 1) es)
+    by_test : (b : Bool) → AllByRecursion (λ n. low < n) (solids_from (i + 1) es)
+        → AllByRecursion (λ n. low < n) (if b then (2 * i + 1) ∷ solids_from (i + 1) es else solids_from (i + 1) es)
     by_test true later = (h, later)
     by_test false later = later
 
@@ -123,7 +127,8 @@ solids_rise i (e ∷ es) = by_test (int_eq e.0.kind (pos 186)) (solids_rise (i +
     by_test false later = later
 
 -- The text of the certificates of all solids is an accepted book that names them.
-pub book_of_all : (f : Contents) (cs : List Certificate) → AllZip (IsCertificateOf f) (solids_of f) cs → 0 < length cs → IsAccepted f (text_of (book_lines cs)) Three (solids_of f)
+pub book_of_all : (f : Contents) (cs : List Certificate) → AllZip (IsCertificateOf f) (solids_of f) cs → 0 < length cs
+    → IsAccepted f (text_of (book_lines cs)) Three (solids_of f)
 book_of_all f cs made some = book_made f cs (rising (solids_of f) (solids_rise 0 f.entries)) made some
 
 pub book_text_accepted : BookTextIsAccepted

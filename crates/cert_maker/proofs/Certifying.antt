@@ -29,10 +29,12 @@ use Rattle.cert_maker.proofs.PartLines.{parts_legal}
 use Rattle.solid_check.proofs.Few.{few_parts}
 
 -- Parts of the shells of a closed solid make a certificate of it.
-pub certificate_made : (s : SolidData) (c : Certificate) → IsNumberedSolid s → c.version ≡ Two → c.solid ≡ s.entity → AllHold (solid_obligations s) → AreParts s s.shells c.shells → IsCertificate s c
+pub certificate_made : (s : SolidData) (c : Certificate) → IsNumberedSolid s → c.version ≡ Two → c.solid ≡ s.entity → AllHold (solid_obligations s)
+    → AreParts s s.shells c.shells → IsCertificate s c
 certificate_made s c numbered is_two names hold parts =
     let closed : IsClosedSolid s = (closed_is_all_hold s).1 hold in
-    let lines = parts_legal c.version s c.shells (closed_is_ready s (shell_small s s.entity.0 (few_parts s numbered)) (λ h m. vertices_known s h numbered m) closed) parts in
+    let lines = parts_legal c.version s c.shells
+    (closed_is_ready s (shell_small s s.entity.0 (few_parts s numbered)) (λ h m. vertices_known s h numbered m) closed) parts in
     record {
       version = is_two;
       names = names;
@@ -43,7 +45,8 @@ certificate_made s c numbered is_two names hold parts =
       apart = apart_all s (enumerate_from 0 s.shells) closed;
     }
 
-accepted_of_file : (f : Contents) (n : ℕ) (c : Certificate) → AllHold (places f n) → IsCertificate (solid_of f n) c → c.solid.0 ≡ n → IsAccepted f (text_of (certificate_lines c)) Two (n ∷ [])
+accepted_of_file : (f : Contents) (n : ℕ) (c : Certificate) → AllHold (places f n) → IsCertificate (solid_of f n) c → c.solid.0 ≡ n
+    → IsAccepted f (text_of (certificate_lines c)) Two (n ∷ [])
 accepted_of_file f n c placed made names =
     let size = length-append (spaced (n ∷ [])) (10 ∷ []) in
     let number : n < 10 ^ 9 = subst (λ m. m < 10 ^ 9) names made.spelled.1.0 in (
@@ -54,7 +57,9 @@ accepted_of_file f n c placed made names =
         opens = record {
           first = spelling (head Two);
           second = spelling (solid n);
-          cut = cut_spelled (certificate_lines c) made.spelled ∙ (ap (λ v. spelling (head v) ∷ spelling (solid c.solid.0) ∷ map spelling (further_lines c)) made.version ∙ ap (λ m. spelling (head Two) ∷ spelling (solid m) ∷ map spelling (further_lines c)) names);
+          cut = cut_spelled (certificate_lines c) made.spelled
+              ∙ (ap (λ v. spelling (head v) ∷ spelling (solid c.solid.0) ∷ map spelling (further_lines c)) made.version
+              ∙ ap (λ m. spelling (head Two) ∷ spelling (solid m) ∷ map spelling (further_lines c)) names);
           is_head = head_read Two;
           names = (omega (arith, size, length-spaced (n ∷ []) (number, tt)), (number, refl));
         };
@@ -63,7 +68,8 @@ accepted_of_file f n c placed made names =
     )
 
 -- The text of a certificate is accepted for each file whose solid it is of.
-pub certificate_accepted : (s : SolidData) (c : Certificate) → IsCertificate s c → (f : Contents) (n : ℕ) → AllHold (places f n) → s ≡ solid_of f n → IsAccepted f (text_of (certificate_lines c)) Two (n ∷ [])
+pub certificate_accepted : (s : SolidData) (c : Certificate) → IsCertificate s c → (f : Contents) (n : ℕ) → AllHold (places f n) → s ≡ solid_of f n
+    → IsAccepted f (text_of (certificate_lines c)) Two (n ∷ [])
 unfolding solid_of
 certificate_accepted s c made f n placed same =
     accepted_of_file f n c placed (subst (λ t. IsCertificate t c) same made) (ap (λ (e : EntryNo). e.0) made.names ∙ ap (λ (t : SolidData). t.entity.0) same)

@@ -42,7 +42,8 @@ rows_are (x ∷ a) [] e = absurd cc
 rows_are (x ∷ a) (y ∷ b) e = ap (λ z. z ∷ a) (row_is x y (ap (λ l. get_or l 0 0) e)) ∙ ap (λ l. y ∷ l) (rows_are a b (ap (drop 1) e))
 
 -- Where each item has one that agrees with it, a list has one that agrees with it.
-pub one_zip : {A B : Type 0} (R : A → B → Type 0) → ((x : A) (y z : B) → R x y → R x z → y ≡ z) → (xs : List A) (ys zs : List B) → AllZip R xs ys → AllZip R xs zs → ys ≡ zs
+pub one_zip : {A B : Type 0} (R : A → B → Type 0) → ((x : A) (y z : B) → R x y → R x z → y ≡ z) → (xs : List A) (ys zs : List B) → AllZip R xs ys
+    → AllZip R xs zs → ys ≡ zs
 one_zip R one [] [] [] h k = refl
 one_zip R one [] [] (z ∷ zs) h k = absurd k
 one_zip R one [] (y ∷ ys) zs h k = absurd h
@@ -56,38 +57,47 @@ counted test (x ∷ xs) a (inl same) e = let here : ◌≡◌ {A = ℕ} (cond (t
 counted test (x ∷ xs) a (inr h) e = omega (arith, counted test xs a h e)
 
 -- a list of whose items one passes a test has one that does
-one_passes : {A : Type 0} (test : A → Bool) (xs : List A) (a b : A) → total (λ x. cond (test x) 1 0) xs ≡ 1 → Has xs a → Has xs b → test a ≡ true → test b ≡ true → a ≡ b
+one_passes : {A : Type 0} (test : A → Bool) (xs : List A) (a b : A) → total (λ x. cond (test x) 1 0) xs ≡ 1 → Has xs a → Has xs b → test a ≡ true
+    → test b ≡ true → a ≡ b
 one_passes test [] a b one h k e g = absurd h
 one_passes test (x ∷ xs) a b one (inl h) (inl k) e g = sym h ∙ k
-one_passes test (x ∷ xs) a b one (inl h) (inr k) e g = let here : ◌≡◌ {A = ℕ} (cond (test x) 1 0) 1 = ap (λ t. cond t 1 0) (ap test h ∙ e) in absurd (omega (arith, here, one, counted test xs b k g))
-one_passes test (x ∷ xs) a b one (inr h) (inl k) e g = let here : ◌≡◌ {A = ℕ} (cond (test x) 1 0) 1 = ap (λ t. cond t 1 0) (ap test k ∙ g) in absurd (omega (arith, here, one, counted test xs a h e))
+one_passes test (x ∷ xs) a b one (inl h) (inr k) e g = let here : ◌≡◌ {A = ℕ} (cond (test x) 1 0) 1 = ap (λ t. cond t 1 0) (ap test h ∙ e) in absurd
+    (omega (arith, here, one, counted test xs b k g))
+one_passes test (x ∷ xs) a b one (inr h) (inl k) e g = let here : ◌≡◌ {A = ℕ} (cond (test x) 1 0) 1 = ap (λ t. cond t 1 0) (ap test k ∙ g) in absurd
+    (omega (arith, here, one, counted test xs a h e))
 one_passes test (x ∷ xs) a b one (inr h) (inr k) e g = one_passes test xs a b (omega (arith, one, counted test xs a h e)) h k e g
 
 module _ (d : ShellRows) (whole : ArePaired d) where
   one_row : (e : ℕ) (way : Bool) (n m : ℕ) → RunsOn d e way n → RunsOn d e way m → n ≡ m
-  one_row e way n m a b = one_of_edge d e way n m a.row b.row (pair_counts d e way (subst (IsPaired d) a.edge (paired_rows d whole n a.row a.at))) a.at b.at a.edge b.edge a.along b.along
+  one_row e way n m a b = one_of_edge d e way n m a.row b.row (pair_counts d e way (subst (IsPaired d) a.edge (paired_rows d whole n a.row a.at))) a.at b.at
+      a.edge b.edge a.along b.along
 
   one_pair : (e : ℕ) (p q : RowId × RowId) → AreItsRows d e p → AreItsRows d e q → p ≡ q
-  one_pair e p q h k = ap (λ r. (r, p.1)) (row_is p.0 q.0 (one_row e true p.0.0 q.0.0 h.0 k.0)) ∙ ap (λ r. (q.0, r)) (row_is p.1 q.1 (one_row e false p.1.0 q.1.0 h.1 k.1))
+  one_pair e p q h k = ap (λ r. (r, p.1)) (row_is p.0 q.0 (one_row e true p.0.0 q.0.0 h.0 k.0))
+      ∙ ap (λ r. (q.0, r)) (row_is p.1 q.1 (one_row e false p.1.0 q.1.0 h.1 k.1))
 
   -- turns from one row on give one list of rows
-  one_walk : (xs ys : List ℕ) (at u w : ℕ) → length xs ≡ length ys → AllZip (Turns d) (at ∷ xs) (xs ++ u ∷ []) → AllZip (Turns d) (at ∷ ys) (ys ++ w ∷ []) → xs ≡ ys
+  one_walk : (xs ys : List ℕ) (at u w : ℕ) → length xs ≡ length ys → AllZip (Turns d) (at ∷ xs) (xs ++ u ∷ []) → AllZip (Turns d) (at ∷ ys) (ys ++ w ∷ [])
+      → xs ≡ ys
   one_walk [] [] at u w long h k = refl
   one_walk [] (y ∷ ys) at u w long h k = absurd (omega (arith, long))
   one_walk (x ∷ xs) [] at u w long h k = absurd (omega (arith, long))
   one_walk (x ∷ xs) (y ∷ ys) at u w long h k =
       let same : y ≡ x = turns_to_one d (paired_rows d whole) at y x k.0 h.0 in
-      ap (λ l. x ∷ l) (one_walk xs ys x u w (omega (arith, long)) h.1 (subst (λ z. AllZip (Turns d) (z ∷ ys) (ys ++ w ∷ [])) same k.1)) ∙ ap (λ z. z ∷ ys) (sym same)
+      ap (λ l. x ∷ l) (one_walk xs ys x u w (omega (arith, long)) h.1 (subst (λ z. AllZip (Turns d) (z ∷ ys) (ys ++ w ∷ [])) same k.1))
+      ∙ ap (λ z. z ∷ ys) (sym same)
 
   least_of : (v r q : ℕ) (rs qs : List ℕ) → IsCycle d v r rs → IsCycle d v q qs → q ≤ r
-  least_of v r q rs qs h k = ⊎_elim (λ e. omega (arith, e)) (λ m. let later : q < r = All-at (λ x. q < x) qs k.least r m in omega (arith, later)) (Has-from_Contains (q ∷ qs) r (k.all r h.starts.0))
+  least_of v r q rs qs h k = ⊎_elim (λ e. omega (arith, e)) (λ m. let later : q < r = All-at (λ x. q < x) qs k.least r m in omega (arith, later))
+      (Has-from_Contains (q ∷ qs) r (k.all r h.starts.0))
 
   one_cycle : (v : ℕ) (xs ys : List ℕ) → IsCycleOf d v xs → IsCycleOf d v ys → xs ≡ ys
   one_cycle v [] ys h k = absurd h
   one_cycle v (r ∷ rs) [] h k = absurd k
   one_cycle v (r ∷ rs) (q ∷ qs) h k =
       let same : q ≡ r = omega (arith, least_of v r q rs qs h k, least_of v q r qs rs k h) in
-      ap (λ l. r ∷ l) (one_walk rs qs r r q (omega (arith, h.once, k.once)) h.turns (subst (λ z. AllZip (Turns d) (z ∷ qs) (qs ++ q ∷ [])) same k.turns)) ∙ ap (λ z. z ∷ qs) (sym same)
+      ap (λ l. r ∷ l) (one_walk rs qs r r q (omega (arith, h.once, k.once)) h.turns (subst (λ z. AllZip (Turns d) (z ∷ qs) (qs ++ q ∷ [])) same k.turns))
+      ∙ ap (λ z. z ∷ qs) (sym same)
 
   no_point : (v : ℕ) (xs : List ℕ) → IsCycleOf d v xs → point_count d v ≡ 0
   no_point v [] h = absurd h
@@ -96,7 +106,9 @@ module _ (d : ShellRows) (whole : ArePaired d) where
   one_point : (v : ℕ) (a b : LoopAt) → point_count d v ≡ 1 → Contains d.points (a, v) → Contains d.points (b, v) → a ≡ b
   one_point v a b one h k =
       let test : LoopAt × ℕ → Bool = λ p. p.1 == v in
-      ap (λ (p : LoopAt × ℕ). p.0) (one_passes test d.points (a, v) (b, v) (sym (count_by-total test d.points) ∙ one) (Has-from_Contains d.points (a, v) h) (Has-from_Contains d.points (b, v) k) (eq-eqb v v refl) (eq-eqb v v refl))
+      ap (λ (p : LoopAt × ℕ). p.0)
+      (one_passes test d.points (a, v) (b, v) (sym (count_by-total test d.points) ∙ one) (Has-from_Contains d.points (a, v) h)
+      (Has-from_Contains d.points (b, v) k) (eq-eqb v v refl) (eq-eqb v v refl))
 
   one_corner : (v : ℕ) (a b : Corner) → LiesAt d v a → LiesAt d v b → a ≡ b
   one_corner v (Cycle xs) (Cycle ys) h k = ap Cycle (rows_are xs ys (one_cycle v (row_numbers xs) (row_numbers ys) h k))
@@ -105,7 +117,8 @@ module _ (d : ShellRows) (whole : ArePaired d) where
   one_corner v (Point a) (Point b) h k = ap Point (one_point v a b h.0.one_point h.1 k.1)
 
 -- A part is given by its fields.
-same_part : (p q : ShellPart) → p.rows ≡ q.rows → p.edges ≡ q.edges → p.corners ≡ q.corners → p.faces ≡ q.faces → p.reach ≡ q.reach → p.vertices ≡ q.vertices → p.loops ≡ q.loops → p ≡ q
+same_part : (p q : ShellPart) → p.rows ≡ q.rows → p.edges ≡ q.edges → p.corners ≡ q.corners → p.faces ≡ q.faces → p.reach ≡ q.reach → p.vertices ≡ q.vertices
+    → p.loops ≡ q.loops → p ≡ q
 same_part p q rows edges corners faces reach vertices loops =
     ap (λ x. record { rows = x; edges = p.edges; corners = p.corners; faces = p.faces; reach = p.reach; vertices = p.vertices; loops = p.loops }) rows
     ∙ (ap (λ x. record { rows = q.rows; edges = x; corners = p.corners; faces = p.faces; reach = p.reach; vertices = p.vertices; loops = p.loops }) edges
@@ -130,7 +143,8 @@ one_part d n p q h k =
 -- a solid has one certificate of those that are made
 pub one_certificate : (s : SolidData) (a b : Certificate) → IsCertificate s a → IsCertificate s b → a ≡ b
 one_certificate s a b h k =
-    let shells : a.shells ≡ b.shells = one_zip (λ (x : Shell) (part : ShellPart). IsPart (shell_rows s x) (loops_of (Some x)) part) (λ x p q. one_part (shell_rows s x) (loops_of (Some x)) p q) s.shells a.shells b.shells h.parts k.parts in
+    let shells : a.shells ≡ b.shells = one_zip (λ (x : Shell) (part : ShellPart). IsPart (shell_rows s x) (loops_of (Some x)) part)
+    (λ x p q. one_part (shell_rows s x) (loops_of (Some x)) p q) s.shells a.shells b.shells h.parts k.parts in
     ap (λ (v : Version). record { version = v; solid = a.solid; shells = a.shells }) (h.version ∙ sym k.version)
     ∙ (ap (λ (e : EntryNo). record { version = b.version; solid = e; shells = a.shells }) (h.names ∙ sym k.names)
     ∙ ap (λ x. record { version = b.version; solid = b.solid; shells = x }) shells)
@@ -139,4 +153,5 @@ pub text_accepted : CertificateTextIsAccepted
 text_accepted f n text placed (c, made, same) = subst (λ t. IsAccepted f t Two (n ∷ [])) (sym same) (certificate_accepted (solid_of f n) c made f n placed refl)
 
 pub one_text : OneCertificateText
-one_text f n a b (c, made_a, same_a) (e, made_b, same_b) = same_a ∙ (ap (λ x. text_of (certificate_lines x)) (one_certificate (solid_of f n) c e made_a made_b) ∙ sym same_b)
+one_text f n a b (c, made_a, same_a) (e, made_b, same_b) =
+    same_a ∙ (ap (λ x. text_of (certificate_lines x)) (one_certificate (solid_of f n) c e made_a made_b) ∙ sym same_b)

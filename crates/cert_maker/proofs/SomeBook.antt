@@ -8,11 +8,13 @@ use Rattle.brep_walk.specs.SolidOf.{solid_of}
 use Rattle.shell_rules.proofs.ClosedLemmas.{closed_is_all_hold}
 use Rattle.cert_lines.specs.Written.{book_lines, text_of}
 use Rattle.cert_lines.specs.declared.parts.Certificate.{Certificate}
-use Rattle.cert_maker.specs.Book.{uses_of, solids_of, AllMade, IsCertificateOf}
+use Rattle.iges_params.specs.Solids.{solids_of}
+use Rattle.cert_maker.specs.Book.{uses_of, AllMade, IsCertificateOf}
 use Rattle.cert_maker.specs.Laws.{ClosedHasText}
 use Rattle.cert_maker.specs.BookLaws.{MadeHasBook}
 
-some_parts : ClosedHasText → (f : Contents) → FitsLimits f → (used : ℕ) (ns : List ℕ) → AllMade f used ns → (cs : List Certificate) × AllZip (IsCertificateOf f) ns cs
+some_parts : ClosedHasText → (f : Contents) → FitsLimits f → (used : ℕ) (ns : List ℕ) → AllMade f used ns
+    → (cs : List Certificate) × AllZip (IsCertificateOf f) ns cs
 some_parts has_text f limits used [] made = ([], tt)
 some_parts has_text f limits used (n ∷ ns) (made, more) =
     let (text, (c, certificate, same)) = has_text f n limits (record { placed = made.0; closed = (closed_is_all_hold (solid_of f n)).1 made.2 }) in

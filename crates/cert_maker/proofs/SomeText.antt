@@ -98,7 +98,8 @@ numbers_back [] = refl
 numbers_back (n ∷ ns) = ap (λ l. n ∷ l) (numbers_back ns)
 
 some_corner : (d : ShellRows) (v : ℕ) → ArePaired d → IsLinked d v → (c : Corner) × LiesAt d v c
-some_corner d v whole (inl corner) = let c = some_cycle d v whole corner in (Cycle (row_ids (c.0 ∷ c.1)), subst (IsCycleOf d v) (sym (numbers_back (c.0 ∷ c.1))) c.2)
+some_corner d v whole (inl corner) =
+    let c = some_cycle d v whole corner in (Cycle (row_ids (c.0 ∷ c.1)), subst (IsCycleOf d v) (sym (numbers_back (c.0 ∷ c.1))) c.2)
 some_corner d v whole (inr point) =
     let f = found_point (λ (p : LoopAt × ℕ). p.1 == v) d.points (omega (arith, point.one_point, count_by-total (λ (p : LoopAt × ℕ). p.1 == v) d.points)) in
     (Point f.0.0, (point, subst (λ w. Contains d.points (f.0.0, w)) (eqb-true f.0.1 v f.2) (Contains-from_Has d.points f.0 f.1)))
@@ -108,10 +109,13 @@ some_corner d v whole (inr point) =
 some_edge : (d : ShellRows) (e : ℕ) → IsPaired d e → (p : RowId × RowId) × AreItsRows d e p
 some_edge d e paired =
     let a = row_of_edge_along d e paired in
-    let b = row_of_edge_against d e paired in
-    ((record { 0 = a.0 }, record { 0 = b.0 }), (record { row = a.1; at = a.2; edge = a.3; along = a.4 }, record { row = b.1; at = b.2; edge = b.3; along = b.4 }))
+    let b = row_of_edge_against d e paired in (
+      (record { 0 = a.0 }, record { 0 = b.0 }),
+      (record { row = a.1; at = a.2; edge = a.3; along = a.4 }, record { row = b.1; at = b.2; edge = b.3; along = b.4 }),
+    )
 
-some_part : (d : ShellRows) (loops : ℕ) → ArePaired d → 0 < d.face_count → AllByRecursion (IsReached d) (numbers_from 0 d.face_count) → AllByRecursion (IsLinked d) d.vertices → (part : ShellPart) × IsPart d loops part
+some_part : (d : ShellRows) (loops : ℕ) → ArePaired d → 0 < d.face_count → AllByRecursion (IsReached d) (numbers_from 0 d.face_count)
+    → AllByRecursion (IsLinked d) d.vertices → (part : ShellPart) × IsPart d loops part
 some_part d loops whole some reached linked =
     let edges = some_zip (AreItsRows d) d.edges (λ e h. some_edge d e (All-at (IsPaired d) d.edges whole.paired e h)) in
     let corners = some_zip (LiesAt d) d.vertices (λ v h. some_corner d v whole (All-at (IsLinked d) d.vertices linked v h)) in

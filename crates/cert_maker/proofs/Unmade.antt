@@ -30,14 +30,17 @@ made_unmade f used n (Fails m x) made (is, inr (holds, few, shells)) = FirstFals
 made_unmade f used n (TooMany m) made (is, holds, many) = omega (arith, many, made.1)
 made_unmade f used n NoMemory made w = w
 
-one_failing : (f : Contents) (used n : ℕ) (x y : Failing) → FirstFalse (places f n) x ⊎ (AllHold (places f n) × (used + uses_of f n ≤ use_limit) × FirstFalse (solid_obligations (solid_of f n)) x)
+one_failing : (f : Contents) (used n : ℕ) (x y : Failing)
+    → FirstFalse (places f n) x ⊎ (AllHold (places f n) × (used + uses_of f n ≤ use_limit) × FirstFalse (solid_obligations (solid_of f n)) x)
     → FirstFalse (places f n) y ⊎ (AllHold (places f n) × (used + uses_of f n ≤ use_limit) × FirstFalse (solid_obligations (solid_of f n)) y) → x ≡ y
 one_failing f used n x y (inl p) (inl q) = FirstFalse-one (places f n) x y p q
 one_failing f used n x y (inl p) (inr (holds, few, q)) = absurd (FirstFalse-not_all (places f n) x p holds)
 one_failing f used n x y (inr (holds, few, p)) (inl q) = absurd (FirstFalse-not_all (places f n) y q holds)
 one_failing f used n x y (inr (holds, few, p)) (inr (holds_too, few_too, q)) = FirstFalse-one (solid_obligations (solid_of f n)) x y p q
 
-fails_or_many : (f : Contents) (used n : ℕ) (x : Failing) → FirstFalse (places f n) x ⊎ (AllHold (places f n) × (used + uses_of f n ≤ use_limit) × FirstFalse (solid_obligations (solid_of f n)) x) → AllHold (places f n) → use_limit < used + uses_of f n → ⊥
+fails_or_many : (f : Contents) (used n : ℕ) (x : Failing)
+    → FirstFalse (places f n) x ⊎ (AllHold (places f n) × (used + uses_of f n ≤ use_limit) × FirstFalse (solid_obligations (solid_of f n)) x)
+    → AllHold (places f n) → use_limit < used + uses_of f n → ⊥
 fails_or_many f used n x (inl p) holds many = FirstFalse-not_all (places f n) x p holds
 fails_or_many f used n x (inr (placed, few, p)) holds many = omega (arith, few, many)
 
@@ -54,13 +57,15 @@ one_reason f used n (TooMany m) (Fails i y) p q = absurd (fails_or_many f used n
 one_reason f used n (TooMany m) (TooMany i) p q = ap TooMany (same_entry m i n p.0 q.0)
 
 solid_made_or_not : (f : Contents) (used n : ℕ) → IsMade f used n ⊎ ((a : BookFault) × IsUnmade f used n a)
-solid_made_or_not f used n = by_places (all_or_first_false (places f n) (places_decided f n)) (decided_within (used + uses_of f n) use_limit) (all_or_first_false (solid_obligations (solid_of f n)) (solid_decided (solid_of f n)))
+solid_made_or_not f used n = by_places (all_or_first_false (places f n) (places_decided f n)) (decided_within (used + uses_of f n) use_limit)
+    (all_or_first_false (solid_obligations (solid_of f n)) (solid_decided (solid_of f n)))
   where
     entry : EntryNo
     entry = record { 0 = n }
 
     by_places : AllHold (places f n) ⊎ ((x : Failing) × FirstFalse (places f n) x) → Decided (used + uses_of f n ≤ use_limit)
-        → AllHold (solid_obligations (solid_of f n)) ⊎ ((x : Failing) × FirstFalse (solid_obligations (solid_of f n)) x) → IsMade f used n ⊎ ((a : BookFault) × IsUnmade f used n a)
+        → AllHold (solid_obligations (solid_of f n)) ⊎ ((x : Failing) × FirstFalse (solid_obligations (solid_of f n)) x)
+        → IsMade f used n ⊎ ((a : BookFault) × IsUnmade f used n a)
     by_places (inr (x, place)) few shells = inr (Fails entry x, (refl, inl place))
     by_places (inl holds) (inr many) shells = inr (TooMany entry, (refl, holds, (omega (arith, many))))
     by_places (inl holds) (inl few) (inr (x, false_one)) = inr (Fails entry x, (refl, inr (holds, few, false_one)))

@@ -14,7 +14,8 @@ use Rattle.cert_maker.specs.Parts.{AreParts}
 abbrev pub further_lines : Certificate → List CertLine
 further_lines c = flat_map (shell_lines c.version) (enumerate_from 1 c.shells) ++ end ∷ []
 
--- A certificate of the solid: it is of version 2 and names it, its parts are those of its shells, its lines can be spelled, those after the first two are legal, each loop joins and each vertex is apart.
+-- A certificate of the solid: it is of version 2 and names it, its parts are those of its shells, its lines can be spelled, those after the first two are
+-- legal, each loop joins and each vertex is apart.
 pub record IsCertificate (s : SolidData) (c : Certificate) : Type 0 where
   pub version : c.version ≡ Two
   pub names : c.solid ≡ s.entity

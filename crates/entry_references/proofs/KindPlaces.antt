@@ -1,5 +1,6 @@
 -- Places of pointers among the values that are due.
-use Rattle.std.specs.Prelude.{◌≡◌, ℕ, zero, suc, ◌+◌, ◌-◌, ◌*◌, ◌<◌, ◌≤◌, ◌^◌, Bool, true, false, nat_lt, ℤ, List, [], ◌∷◌, ◌++◌, length, map, flat_map, filter_map, Option, Some, None}
+use Rattle.std.specs.Prelude.{◌≡◌, ℕ, zero, suc, ◌+◌, ◌-◌, ◌*◌, ◌<◌, ◌≤◌, ◌^◌, Bool, true, false, nat_lt, ℤ, List, [], ◌∷◌, ◌++◌, length, map, flat_map}
+use Rattle.std.specs.Prelude.{filter_map, Option, Some, None}
 use Rattle.std.specs.List.{enumerate_from, list_all}
 use Rattle.std.proofs.Common.{refl, subst, sym, ap, ◌∙◌, arith, append_assoc, length-append, suc-mul}
 use Rattle.std.proofs.lemmas.Bool.{cond-true, cond-false, ltb-true, lt-ltb, and_from, and_parts}
@@ -7,9 +8,11 @@ use Rattle.std.proofs.lemmas.List.{length-map}
 use Rattle.std.proofs.lemmas.List.Elements.{filter_map-append}
 use Rattle.iges_fields.specs.declared.value.Value.{Value}
 use Rattle.brep_lists.specs.DueValues.{DueValue, pointer, number, flag, at_least_one, count, coordinate, MeetsAll}
-use Rattle.brep_lists.specs.Record.{LoopTuple, Items, SolidItems, FaceItems, pair_due, curve_due, tuple_due, edge_due, vertex_due, kind_of_type, due, items_of, Fits, IsRecordOf}
+use Rattle.brep_lists.specs.Record.{LoopTuple, Items, SolidItems, FaceItems, pair_due, curve_due, tuple_due, edge_due, vertex_due, kind_of_type, due, items_of}
+use Rattle.brep_lists.specs.Record.{Fits, IsRecordOf}
 use Rattle.brep_lists.specs.declared.entity_kind.EntityKind.{EntityKind}
-use Rattle.brep_lists.specs.declared.entity_kind.EntityKind.TheVariants.{Solid as solid, Shell as shell, Face as face, Loop as «loop», EdgeList as edges, VertexList as vertices}
+use Rattle.brep_lists.specs.declared.entity_kind.EntityKind.TheVariants.{Solid as solid, Shell as shell, Face as face, Loop as «loop», EdgeList as edges}
+use Rattle.brep_lists.specs.declared.entity_kind.EntityKind.TheVariants.{VertexList as vertices}
 use Rattle.brep_lists.specs.OwnValues.{if_pointer, is_record_of, own_count, pointer_places}
 use Rattle.brep_lists.specs.declared.edge_list.EdgeTuple.{EdgeTuple}
 use Rattle.brep_lists.proofs.Decided.{decided}
@@ -24,9 +27,11 @@ enumerate_append k (x ∷ xs) ys =
     ap (λ (zs : List (ℕ × _)). (k, x) ∷ zs) (enumerate_append (k + 1) xs ys ∙ ap (λ (n : ℕ). enumerate_from (k + 1) xs ++ enumerate_from n ys) e)
 
 pub places_append : (k : ℕ) (xs ys : List DueValue) → places_due k (xs ++ ys) ≡ places_due k xs ++ places_due (k + length xs) ys
-places_append k xs ys = ap (filter_map if_pointer) (enumerate_append k xs ys) ∙ filter_map-append if_pointer (enumerate_from k xs) (enumerate_from (k + length xs) ys)
+places_append k xs ys = ap (filter_map if_pointer) (enumerate_append k xs ys) ∙ filter_map-append if_pointer (enumerate_from k xs)
+    (enumerate_from (k + length xs) ys)
 
-module _ {A : Type 0} (d : A → List DueValue) (size : ℕ) (pointers : List ℕ) (shape : (x : A) (k : ℕ) → places_due k (d x) ≡ map (λ j. k + j) pointers) (all : (x : A) → length (d x) ≡ size) where
+module _ {A : Type 0} (d : A → List DueValue) (size : ℕ) (pointers : List ℕ) (shape : (x : A) (k : ℕ) → places_due k (d x) ≡ map (λ j. k + j) pointers)
+    (all : (x : A) → length (d x) ≡ size) where
   pub groups_placed : (k : ℕ) (xs : List A) → places_due k (flat_map d xs) ≡ group_places k (length xs) size pointers
   groups_placed k [] = refl
   groups_placed k (x ∷ xs) =
@@ -80,11 +85,13 @@ vertices_length (v ∷ vs) =
 
 pub loops_placed : (k : ℕ) (ls : List ℤ) → places_due k (map pointer ls) ≡ group_places k (length ls) 1 (0 ∷ [])
 loops_placed k [] = refl
-loops_placed k (l ∷ ls) = ap (λ (j : ℕ). j ∷ places_due (k + 1) (map pointer ls)) (let e : k ≡ k + 0 = omega arith in e) ∙ ap (λ (ps : List ℕ). (k + 0) ∷ ps) (loops_placed (k + 1) ls)
+loops_placed k (l ∷ ls) = ap (λ (j : ℕ). j ∷ places_due (k + 1) (map pointer ls)) (let e : k ≡ k + 0 = omega arith in e)
+    ∙ ap (λ (ps : List ℕ). (k + 0) ∷ ps) (loops_placed (k + 1) ls)
 
 -- ---- the own values of a record of a kind
 
-pub own_record : (kind : EntityKind) (vs : List Value) (n : ℕ) (ps : List ℕ) → Fits kind vs (items_of kind vs) → n ≡ own_count kind vs → ps ≡ pointer_places kind vs
+pub own_record : (kind : EntityKind) (vs : List Value) (n : ℕ) (ps : List ℕ) → Fits kind vs (items_of kind vs) → n ≡ own_count kind vs
+    → ps ≡ pointer_places kind vs
     → Some (record { count = n; pointers = ps; cut = [] }) ≡ own_of_kind kind vs
 own_record kind vs n ps fits en ep =
     let own : Own = record { count = own_count kind vs; pointers = pointer_places kind vs; cut = [] } in
@@ -116,7 +123,8 @@ due_few (d ∷ ds) (v ∷ vs) h = let on : length ds ≤ length vs + 1 = due_few
 
 -- ---- groups put one behind the other
 
-pub next_group : (old new before all : List ℕ) (at left size : ℕ) (ps : List ℕ) → 0 < left → new ≡ old ++ map (λ k. at + k) ps → old ++ group_places at left size ps ≡ all → new ++ group_places (at + size) (left - 1) size ps ≡ all
+pub next_group : (old new before all : List ℕ) (at left size : ℕ) (ps : List ℕ) → 0 < left → new ≡ old ++ map (λ k. at + k) ps
+    → old ++ group_places at left size ps ≡ all → new ++ group_places (at + size) (left - 1) size ps ≡ all
 next_group old new before all at zero size ps some e f = absurd (omega (arith, some))
 next_group old new before all at (suc n) size ps some e f =
     let less : suc n - 1 ≡ n = omega arith in
@@ -142,58 +150,70 @@ all_fit at size (p ∷ ps) few h =
 pub tuple_length : (t : LoopTuple) (curves : ℕ) → curves ≡ length t.curves → length (tuple_due t) ≡ 5 + curves * 2
 tuple_length t curves e = omega (arith, e, curves_length t.curves)
 
-pub tuple_placed : (old mid new : List ℕ) (first curves : ℕ) (t : LoopTuple) → curves ≡ length t.curves → mid ≡ old ++ (first + 1) ∷ [] → new ≡ mid ++ group_places (first + 5) curves 2 (1 ∷ [])
+pub tuple_placed : (old mid new : List ℕ) (first curves : ℕ) (t : LoopTuple) → curves ≡ length t.curves → mid ≡ old ++ (first + 1) ∷ []
+    → new ≡ mid ++ group_places (first + 5) curves 2 (1 ∷ [])
     → new ≡ old ++ places_due first (tuple_due t)
 tuple_placed old mid new first curves t ec em en =
     let five : first + 5 ≡ first + 1 + 1 + 1 + 1 + 1 = omega arith in
     let put : group_places (first + 5) curves 2 (1 ∷ []) ≡ places_due (first + 1 + 1 + 1 + 1 + 1) (flat_map curve_due t.curves) =
-    ap (λ (n : ℕ). group_places (first + 5) n 2 (1 ∷ [])) ec ∙ (ap (λ (k : ℕ). group_places k (length t.curves) 2 (1 ∷ [])) five ∙ sym (curves_placed (first + 1 + 1 + 1 + 1 + 1) t.curves)) in
+    ap (λ (n : ℕ). group_places (first + 5) n 2 (1 ∷ [])) ec
+    ∙ (ap (λ (k : ℕ). group_places k (length t.curves) 2 (1 ∷ [])) five ∙ sym (curves_placed (first + 1 + 1 + 1 + 1 + 1) t.curves)) in
     en ∙ (ap (λ (xs : List ℕ). xs ++ group_places (first + 5) curves 2 (1 ∷ [])) em
     ∙ (append_assoc old ((first + 1) ∷ []) (group_places (first + 5) curves 2 (1 ∷ [])) ∙ ap (λ (xs : List ℕ). old ++ (first + 1) ∷ xs) put))
 
-pub next_tuple : (old new all : List ℕ) (at end : ℕ) (t : LoopTuple) (left rest : List LoopTuple) → left ≡ t ∷ rest → new ≡ old ++ places_due at (tuple_due t) → end ≡ at + length (tuple_due t)
+pub next_tuple : (old new all : List ℕ) (at end : ℕ) (t : LoopTuple) (left rest : List LoopTuple) → left ≡ t ∷ rest → new ≡ old ++ places_due at (tuple_due t)
+    → end ≡ at + length (tuple_due t)
     → old ++ places_due at (flat_map tuple_due left) ≡ all → new ++ places_due end (flat_map tuple_due rest) ≡ all
 next_tuple old new all at end t left rest el en ee f =
     ap (λ (xs : List ℕ). xs ++ places_due end (flat_map tuple_due rest)) en
     ∙ (append_assoc old (places_due at (tuple_due t)) (places_due end (flat_map tuple_due rest))
-    ∙ (ap (λ (xs : List ℕ). old ++ xs) (ap (λ (k : ℕ). places_due at (tuple_due t) ++ places_due k (flat_map tuple_due rest)) ee ∙ sym (places_append at (tuple_due t) (flat_map tuple_due rest)))
+    ∙ (ap (λ (xs : List ℕ). old ++ xs)
+    (ap (λ (k : ℕ). places_due at (tuple_due t) ++ places_due k (flat_map tuple_due rest)) ee
+    ∙ sym (places_append at (tuple_due t) (flat_map tuple_due rest)))
     ∙ (ap (λ (ts : List LoopTuple). old ++ places_due at (flat_map tuple_due ts)) (sym el) ∙ f)))
 
-pub next_end : (at end total : ℕ) (t : LoopTuple) (left rest : List LoopTuple) → left ≡ t ∷ rest → end ≡ at + length (tuple_due t) → at + length (flat_map tuple_due left) ≡ total → end + length (flat_map tuple_due rest) ≡ total
+pub next_end : (at end total : ℕ) (t : LoopTuple) (left rest : List LoopTuple) → left ≡ t ∷ rest → end ≡ at + length (tuple_due t)
+    → at + length (flat_map tuple_due left) ≡ total → end + length (flat_map tuple_due rest) ≡ total
 next_end at end total t left rest el ee f =
     let sum : at + length (flat_map tuple_due (t ∷ rest)) ≡ total = ap (λ (ts : List LoopTuple). at + length (flat_map tuple_due ts)) (sym el) ∙ f in
     omega (arith, ee, sum, length-append (tuple_due t) (flat_map tuple_due rest))
 
-pub tuple_room : (at total : ℕ) (t : LoopTuple) (left rest : List LoopTuple) → left ≡ t ∷ rest → at + length (flat_map tuple_due left) ≡ total → total < 2 ^ 64 → at + length (tuple_due t) < 2 ^ 64
+pub tuple_room : (at total : ℕ) (t : LoopTuple) (left rest : List LoopTuple) → left ≡ t ∷ rest → at + length (flat_map tuple_due left) ≡ total → total < 2 ^ 64
+    → at + length (tuple_due t) < 2 ^ 64
 tuple_room at total t left rest el f small =
     let sum : at + length (flat_map tuple_due (t ∷ rest)) ≡ total = ap (λ (ts : List LoopTuple). at + length (flat_map tuple_due ts)) (sym el) ∙ f in
     omega (arith, sum, small, length-append (tuple_due t) (flat_map tuple_due rest))
 
 -- ---- kind by kind
 
-own_of_items : (kind : EntityKind) (vs : List Value) (s : Items kind) (n : ℕ) (ps : List ℕ) → Fits kind vs s → s ≡ items_of kind vs → n ≡ length (due kind s) → ps ≡ places_due 1 (due kind s)
+own_of_items : (kind : EntityKind) (vs : List Value) (s : Items kind) (n : ℕ) (ps : List ℕ) → Fits kind vs s → s ≡ items_of kind vs → n ≡ length (due kind s)
+    → ps ≡ places_due 1 (due kind s)
     → Some (record { count = n; pointers = ps; cut = [] }) ≡ own_of_kind kind vs
 own_of_items kind vs s n ps fits is en ep =
-    own_record kind vs n ps (subst (Fits kind vs) is fits) (en ∙ ap (λ (x : Items kind). length (due kind x)) is) (ep ∙ ap (λ (x : Items kind). places_due 1 (due kind x)) is)
+    own_record kind vs n ps (subst (Fits kind vs) is fits) (en ∙ ap (λ (x : Items kind). length (due kind x)) is)
+    (ep ∙ ap (λ (x : Items kind). places_due 1 (due kind x)) is)
 
 items_few : (kind : EntityKind) (vs : List Value) (s : Items kind) → Fits kind vs s → length vs ≤ 164000000 → length (due kind s) ≤ 164000001
 items_few kind vs s fits few = let most = due_few (due kind s) vs fits in omega (arith, most, few)
 
-pub solid_room : (vs : List Value) (s : SolidItems) (len : ℕ) → Fits solid vs s → length vs ≤ 164000000 → len ≡ length (s.outer ∷ s.voids) → (0 < len) × (4 + (len - 1) * 2 < 2 ^ 32)
+pub solid_room : (vs : List Value) (s : SolidItems) (len : ℕ) → Fits solid vs s → length vs ≤ 164000000 → len ≡ length (s.outer ∷ s.voids)
+    → (0 < len) × (4 + (len - 1) * 2 < 2 ^ 32)
 solid_room vs s len fits few e =
     let most : length (due solid s) ≤ 164000001 = items_few solid vs s fits few in
     let one : len - 1 ≡ length s.voids = omega (arith, e) in
     let same : (len - 1) * 2 ≡ length s.voids * 2 = ap (λ (n : ℕ). n * 2) one in
     (omega (arith, e), omega (arith, most, same, pairs_length s.voids))
 
-pub solid_own : (vs : List Value) (s : SolidItems) (len : ℕ) (first ps : List ℕ) → Fits solid vs s → s ≡ items_of solid vs → len ≡ length (s.outer ∷ s.voids) → first ≡ 1 ∷ []
+pub solid_own : (vs : List Value) (s : SolidItems) (len : ℕ) (first ps : List ℕ) → Fits solid vs s → s ≡ items_of solid vs → len ≡ length (s.outer ∷ s.voids)
+    → first ≡ 1 ∷ []
     → ps ≡ first ++ group_places 4 (len - 1) 2 (0 ∷ []) → Some (record { count = 3 + (len - 1) * 2; pointers = ps; cut = [] }) ≡ own_of_kind solid vs
 solid_own vs s len first ps fits is el ef ep =
     let one : len - 1 ≡ length s.voids = omega (arith, el) in
     let same : (len - 1) * 2 ≡ length s.voids * 2 = ap (λ (n : ℕ). n * 2) one in
     let n : 3 + (len - 1) * 2 ≡ length (due solid s) = omega (arith, same, pairs_length s.voids) in
     let p : ps ≡ places_due 1 (due solid s) =
-    ep ∙ (ap (λ (xs : List ℕ). xs ++ group_places 4 (len - 1) 2 (0 ∷ [])) ef ∙ ap (λ (xs : List ℕ). 1 ∷ xs) (ap (λ (m : ℕ). group_places 4 m 2 (0 ∷ [])) one ∙ sym (pairs_placed 4 s.voids))) in
+    ep ∙ (ap (λ (xs : List ℕ). xs ++ group_places 4 (len - 1) 2 (0 ∷ [])) ef
+    ∙ ap (λ (xs : List ℕ). 1 ∷ xs) (ap (λ (m : ℕ). group_places 4 m 2 (0 ∷ [])) one ∙ sym (pairs_placed 4 s.voids))) in
     own_of_items solid vs s (3 + (len - 1) * 2) ps fits is n p
 
 pub shell_room : (vs : List Value) (s : List (ℤ × Bool)) (len : ℕ) → Fits shell vs s → length vs ≤ 164000000 → len ≡ length s → 2 + len * 2 < 2 ^ 32
@@ -202,12 +222,14 @@ shell_room vs s len fits few e =
     let same : len * 2 ≡ length s * 2 = ap (λ (n : ℕ). n * 2) e in
     omega (arith, most, same, pairs_length s)
 
-pub shell_own : (vs : List Value) (s : List (ℤ × Bool)) (len : ℕ) (first ps : List ℕ) → Fits shell vs s → s ≡ items_of shell vs → len ≡ length s → first ≡ [] → ps ≡ first ++ group_places 2 len 2 (0 ∷ [])
+pub shell_own : (vs : List Value) (s : List (ℤ × Bool)) (len : ℕ) (first ps : List ℕ) → Fits shell vs s → s ≡ items_of shell vs → len ≡ length s → first ≡ []
+    → ps ≡ first ++ group_places 2 len 2 (0 ∷ [])
     → Some (record { count = 1 + len * 2; pointers = ps; cut = [] }) ≡ own_of_kind shell vs
 shell_own vs s len first ps fits is el ef ep =
     let same : len * 2 ≡ length s * 2 = ap (λ (n : ℕ). n * 2) el in
     let n : 1 + len * 2 ≡ length (due shell s) = omega (arith, same, pairs_length s) in
-    let p : ps ≡ places_due 1 (due shell s) = ep ∙ (ap (λ (xs : List ℕ). xs ++ group_places 2 len 2 (0 ∷ [])) ef ∙ (ap (λ (m : ℕ). group_places 2 m 2 (0 ∷ [])) el ∙ sym (pairs_placed 2 s))) in
+    let p : ps ≡ places_due 1 (due shell s) =
+    ep ∙ (ap (λ (xs : List ℕ). xs ++ group_places 2 len 2 (0 ∷ [])) ef ∙ (ap (λ (m : ℕ). group_places 2 m 2 (0 ∷ [])) el ∙ sym (pairs_placed 2 s))) in
     own_of_items shell vs s (1 + len * 2) ps fits is n p
 
 pub face_room : (vs : List Value) (s : FaceItems) (len : ℕ) → Fits face vs s → length vs ≤ 164000000 → len ≡ length s.loops → 4 + len * 1 < 2 ^ 32
@@ -215,18 +237,21 @@ face_room vs s len fits few e =
     let most : length (due face s) ≤ 164000001 = items_few face vs s fits few in
     omega (arith, most, e, length-map s.loops pointer)
 
-pub face_own : (vs : List Value) (s : FaceItems) (len : ℕ) (first ps : List ℕ) → Fits face vs s → s ≡ items_of face vs → len ≡ length s.loops → first ≡ 1 ∷ [] → ps ≡ first ++ group_places 4 len 1 (0 ∷ [])
+pub face_own : (vs : List Value) (s : FaceItems) (len : ℕ) (first ps : List ℕ) → Fits face vs s → s ≡ items_of face vs → len ≡ length s.loops → first ≡ 1 ∷ []
+    → ps ≡ first ++ group_places 4 len 1 (0 ∷ [])
     → Some (record { count = 3 + len; pointers = ps; cut = [] }) ≡ own_of_kind face vs
 face_own vs s len first ps fits is el ef ep =
     let n : 3 + len ≡ length (due face s) = omega (arith, el, length-map s.loops pointer) in
     let p : ps ≡ places_due 1 (due face s) =
-    ep ∙ (ap (λ (xs : List ℕ). xs ++ group_places 4 len 1 (0 ∷ [])) ef ∙ ap (λ (xs : List ℕ). 1 ∷ xs) (ap (λ (m : ℕ). group_places 4 m 1 (0 ∷ [])) el ∙ sym (loops_placed 4 s.loops))) in
+    ep ∙ (ap (λ (xs : List ℕ). xs ++ group_places 4 len 1 (0 ∷ [])) ef
+    ∙ ap (λ (xs : List ℕ). 1 ∷ xs) (ap (λ (m : ℕ). group_places 4 m 1 (0 ∷ [])) el ∙ sym (loops_placed 4 s.loops))) in
     own_of_items face vs s (3 + len) ps fits is n p
 
 pub loop_room : (vs : List Value) (s : List LoopTuple) → Fits «loop» vs s → length vs ≤ 164000000 → 2 + length (flat_map tuple_due s) < 2 ^ 32
 loop_room vs s fits few = let most : length (due «loop» s) ≤ 164000001 = items_few «loop» vs s fits few in omega (arith, most)
 
-pub loop_own : (vs : List Value) (s : List LoopTuple) (end : ℕ) (first ps : List ℕ) → Fits «loop» vs s → s ≡ items_of «loop» vs → end ≡ 2 + length (flat_map tuple_due s) → first ≡ [] → ps ≡ first ++ places_due 2 (flat_map tuple_due s)
+pub loop_own : (vs : List Value) (s : List LoopTuple) (end : ℕ) (first ps : List ℕ) → Fits «loop» vs s → s ≡ items_of «loop» vs
+    → end ≡ 2 + length (flat_map tuple_due s) → first ≡ [] → ps ≡ first ++ places_due 2 (flat_map tuple_due s)
     → Some (record { count = end - 1; pointers = ps; cut = [] }) ≡ own_of_kind «loop» vs
 loop_own vs s end first ps fits is el ef ep =
     let n : end - 1 ≡ length (due «loop» s) = omega (arith, el) in
@@ -238,16 +263,19 @@ edges_room vs s len fits few e =
     let same : len * 5 ≡ length s * 5 = ap (λ (n : ℕ). n * 5) e in
     omega (arith, most, same, edges_length s)
 
-pub edges_own : (vs : List Value) (s : List EdgeTuple) (len : ℕ) (first ps : List ℕ) → Fits edges vs s → s ≡ items_of edges vs → len ≡ length s → first ≡ [] → ps ≡ first ++ group_places 2 len 5 (0 ∷ 1 ∷ 3 ∷ [])
+pub edges_own : (vs : List Value) (s : List EdgeTuple) (len : ℕ) (first ps : List ℕ) → Fits edges vs s → s ≡ items_of edges vs → len ≡ length s → first ≡ []
+    → ps ≡ first ++ group_places 2 len 5 (0 ∷ 1 ∷ 3 ∷ [])
     → Some (record { count = 1 + len * 5; pointers = ps; cut = [] }) ≡ own_of_kind edges vs
 edges_own vs s len first ps fits is el ef ep =
     let same : len * 5 ≡ length s * 5 = ap (λ (n : ℕ). n * 5) el in
     let n : 1 + len * 5 ≡ length (due edges s) = omega (arith, same, edges_length s) in
     let p : ps ≡ places_due 1 (due edges s) =
-    ep ∙ (ap (λ (xs : List ℕ). xs ++ group_places 2 len 5 (0 ∷ 1 ∷ 3 ∷ [])) ef ∙ (ap (λ (m : ℕ). group_places 2 m 5 (0 ∷ 1 ∷ 3 ∷ [])) el ∙ sym (edges_placed 2 s))) in
+    ep ∙ (ap (λ (xs : List ℕ). xs ++ group_places 2 len 5 (0 ∷ 1 ∷ 3 ∷ [])) ef
+    ∙ (ap (λ (m : ℕ). group_places 2 m 5 (0 ∷ 1 ∷ 3 ∷ [])) el ∙ sym (edges_placed 2 s))) in
     own_of_items edges vs s (1 + len * 5) ps fits is n p
 
-pub vertices_room : (vs : List Value) (s : List (Value × Value × Value)) (len : ℕ) → Fits vertices vs s → length vs ≤ 164000000 → len ≡ length s → 2 + len * 3 < 2 ^ 32
+pub vertices_room : (vs : List Value) (s : List (Value × Value × Value)) (len : ℕ) → Fits vertices vs s → length vs ≤ 164000000 → len ≡ length s
+    → 2 + len * 3 < 2 ^ 32
 vertices_room vs s len fits few e =
     let most : length (due vertices s) ≤ 164000001 = items_few vertices vs s fits few in
     let same : len * 3 ≡ length s * 3 = ap (λ (n : ℕ). n * 3) e in
@@ -262,7 +290,10 @@ vertices_own vs s len fits is el =
 
 -- ---- a record of one of the six kinds
 
-pub own_is : (r : Record) (kind : EntityKind) → kind_of_type r.0.kind ≡ Some kind → IsRecordOf kind r.1 → own_of r ≡ Some (record { count = own_count kind r.1; pointers = pointer_places kind r.1; cut = [] })
+pub own_is : (r : Record) (kind : EntityKind) → kind_of_type r.0.kind ≡ Some kind → IsRecordOf kind r.1
+    → own_of r ≡ Some (record { count = own_count kind r.1; pointers = pointer_places kind r.1; cut = [] })
 own_is r kind e h =
-    ap (λ (o : Option EntityKind). elim o as (λ _. Option Own) [ Some k ↦ own_of_kind k r.1 | None ↦ elim (layout_of r.0) as (λ _. Option Own) [ Some layout ↦ own_in layout r.1 | None ↦ None ] ]) e
-    ∙ cond-true (is_record_of kind r.1) (Some (record { count = own_count kind r.1; pointers = pointer_places kind r.1; cut = [] })) None ((decided kind r.1).1 h)
+    ap (λ (o : Option EntityKind). elim o as (λ _. Option Own)
+    [ Some k ↦ own_of_kind k r.1 | None ↦ elim (layout_of r.0) as (λ _. Option Own) [ Some layout ↦ own_in layout r.1 | None ↦ None ] ]) e
+    ∙ cond-true (is_record_of kind r.1) (Some (record { count = own_count kind r.1; pointers = pointer_places kind r.1; cut = [] })) None
+    ((decided kind r.1).1 h)

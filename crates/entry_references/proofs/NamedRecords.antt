@@ -1,5 +1,6 @@
 -- What a number names.
-use Rattle.std.specs.Prelude.{◌≡◌, ℕ, zero, suc, ◌+◌, ◌/◌, ◌%◌, ◌≤◌, ◌==◌, Bool, true, false, pos, List, [], ◌∷◌, length, Option, Some, None, slice_get, option_map, IsSome, if◌then◌else◌}
+use Rattle.std.specs.Prelude.{◌≡◌, ℕ, zero, suc, ◌+◌, ◌/◌, ◌%◌, ◌≤◌, ◌==◌, Bool, true, false, pos, List, [], ◌∷◌, length, Option, Some, None, slice_get}
+use Rattle.std.specs.Prelude.{option_map, IsSome, if◌then◌else◌}
 use Rattle.std.specs.Ordering.{int_eq}
 use Rattle.std.proofs.Common.{refl, sym, ap, ◌∙◌, arith}
 use Rattle.std.proofs.lemmas.Bool.{eqb-true}
@@ -26,7 +27,8 @@ used_is (Some x) r e = by_test (int_eq x.0.kind (pos 0)) e
 pub named_place : (f : Contents) (m : ℕ) (r : Record) → named f (pos m) ≡ Some r → (m % 2 ≡ 1) × (slice_get f.entries (m / 2) ≡ Some r)
 named_place f m r e = by_test (m % 2 == 1) refl e
   where
-    by_test : (b : Bool) → (m % 2 == 1) ≡ b → (if b then unless_unused kind_of (slice_get f.entries (m / 2)) else None) ≡ Some r → (m % 2 ≡ 1) × (slice_get f.entries (m / 2) ≡ Some r)
+    by_test : (b : Bool) → (m % 2 == 1) ≡ b → (if b then unless_unused kind_of (slice_get f.entries (m / 2)) else None) ≡ Some r
+        → (m % 2 ≡ 1) × (slice_get f.entries (m / 2) ≡ Some r)
     by_test true t k = (eqb-true (m % 2) 1 t, used_is (slice_get f.entries (m / 2)) r k)
     by_test false t k = absurd (let none : None ≡ Some r = k in cc)
 
@@ -49,7 +51,8 @@ named_few f m r made e =
     let most : value_count f.entries ≤ 164000000 = made.limits.values in
     omega (arith, most, one_value_count f.entries (m / 2) r (named_place f m r e).1)
 
-pub named_pair : (o : Option Record) (e : Entry) (vs : List Value) → Some e ≡ option_map (λ (r : Record). r.0) o → Some vs ≡ option_map (λ (r : Record). r.1) o → o ≡ Some (e, vs)
+pub named_pair : (o : Option Record) (e : Entry) (vs : List Value) → Some e ≡ option_map (λ (r : Record). r.0) o → Some vs ≡ option_map (λ (r : Record). r.1) o
+    → o ≡ Some (e, vs)
 named_pair None e vs h k = absurd (let some : Some e ≡ None = h in cc)
 named_pair (Some r) e vs h k =
     let first : e ≡ r.0 = same_Some e r.0 h in

@@ -1,5 +1,6 @@
 -- Numbers that an entry refers to, and entries that are put into a set.
-use Rattle.std.specs.Prelude.{◌≡◌, ◌⊎◌, ℕ, zero, suc, Bool, true, false, ◌&&◌, ℤ, pos, negsuc, unsigned_abs, List, [], ◌∷◌, ◌++◌, length, Option, Some, None, Result, Ok, Err, if◌then◌else◌, IsErrAnd, IfErr, IfOk, MatchOption, ◌≤◌, is_some, filter, filter_map, Contains}
+use Rattle.std.specs.Prelude.{◌≡◌, ◌⊎◌, ℕ, zero, suc, Bool, true, false, ◌&&◌, ℤ, pos, negsuc, unsigned_abs, List, [], ◌∷◌, ◌++◌, length, Option, Some, None}
+use Rattle.std.specs.Prelude.{Result, Ok, Err, if◌then◌else◌, IsErrAnd, IfErr, IfOk, MatchOption, ◌≤◌, is_some, filter, filter_map, Contains}
 use Rattle.std.specs.List.{list_all}
 use Rattle.std.specs.Ordering.{int_eq}
 use Rattle.std.proofs.Common.{refl, sym, ap, subst, ◌∙◌, arith, inl, inr}
@@ -20,7 +21,8 @@ use Rattle.entry_references.specs.declared.fault.RefFault.TheVariants as fault
 use Rattle.entry_references.specs.Answered.{TellsFault}
 use Rattle.entry_references.specs.EntrySets.{IsWithin, is_among, with_number, with_numbers, AreRising, numbers_of}
 use Rattle.entry_references.specs.Layout.{Own}
-use Rattle.entry_references.specs.Refs.{Record, is_listed, has_layout, names_entry, pointers_of, names_of, is_name, number_of, own_of, second_group, entry_fault, refs}
+use Rattle.entry_references.specs.Refs.{Record, is_listed, has_layout, names_entry, pointers_of, names_of, is_name, number_of, own_of, second_group}
+use Rattle.entry_references.specs.Refs.{entry_fault, refs}
 use Rattle.entry_references.specs.References.{RefersTo, AreReferences, HasFault, IsRefFault, Gives}
 use Rattle.entry_references.proofs.NamedRecords.{named_within}
 use Rattle.entry_references.proofs.RisingLists.{In, in_from, contains_at, among_in, same_increasing, in_front}
@@ -30,7 +32,8 @@ use Rattle.entry_references.proofs.RisingLists.{In, in_from, contains_at, among_
 name_named : (f : Contents) (z : ℤ) → is_name f z ≡ true → names_entry f z ≡ true
 name_named f z e = by_option (named f z) e
   where
-    by_option : (o : Option Record) → elim o as (λ _. Bool) [ Some r ↦ int_eq r.0.kind (pos 406) && int_eq r.0.form (pos 15) | None ↦ false ] ≡ true → is_some o ≡ true
+    by_option : (o : Option Record) → elim o as (λ _. Bool) [ Some r ↦ int_eq r.0.kind (pos 406) && int_eq r.0.form (pos 15) | None ↦ false ] ≡ true
+        → is_some o ≡ true
     by_option None k = k
     by_option (Some r) k = refl
 
@@ -38,11 +41,13 @@ all_named : (f : Contents) (zs : List ℤ) → list_all (names_entry f) (filter 
 all_named f [] = refl
 all_named f (z ∷ zs) = by_test (is_name f z) refl (all_named f zs)
   where
-    by_test : (b : Bool) → is_name f z ≡ b → list_all (names_entry f) (filter (is_name f) zs) ≡ true → list_all (names_entry f) (if b then z ∷ filter (is_name f) zs else filter (is_name f) zs) ≡ true
+    by_test : (b : Bool) → is_name f z ≡ b → list_all (names_entry f) (filter (is_name f) zs) ≡ true
+        → list_all (names_entry f) (if b then z ∷ filter (is_name f) zs else filter (is_name f) zs) ≡ true
     by_test true t on = and_from (names_entry f z) (list_all (names_entry f) (filter (is_name f) zs)) (name_named f z t) on
     by_test false t on = on
 
-refs_parts : (o : Option ExtractReason) (ns ks : List ℤ) → elim o as (λ _. Result (List ℤ) ExtractReason) [ Some reason ↦ Err reason | None ↦ Ok ns ] ≡ Ok ks → (o ≡ None) × (ns ≡ ks)
+refs_parts : (o : Option ExtractReason) (ns ks : List ℤ) → elim o as (λ _. Result (List ℤ) ExtractReason) [ Some reason ↦ Err reason | None ↦ Ok ns ] ≡ Ok ks
+    → (o ≡ None) × (ns ≡ ks)
 refs_parts None ns ks e = (refl, cc)
 refs_parts (Some x) ns ks e = absurd cc
 
@@ -52,18 +57,23 @@ refs_faultless f r ks e = (refs_parts (entry_fault f r) (pointers_of r ++ names_
 pub refs_named : (f : Contents) (r : Record) (ks : List ℤ) → refs f r ≡ Ok ks → list_all (names_entry f) ks ≡ true
 refs_named f r ks e =
     let parts = refs_parts (entry_fault f r) (pointers_of r ++ names_of f r) ks e in
-    let tests = passes ((is_listed r, reason.Unlisted) ∷ (has_layout r, reason.Layout) ∷ (list_all (names_entry f) (pointers_of r), reason.Dangling) ∷ []) parts.0 in
+    let tests = passes ((is_listed r, reason.Unlisted) ∷ (has_layout r, reason.Layout) ∷ (list_all (names_entry f) (pointers_of r), reason.Dangling) ∷ [])
+    parts.0 in
     ap (list_all (names_entry f)) (sym parts.1)
-    ∙ (list_all-append (names_entry f) (pointers_of r) (names_of f r) ∙ and_from (list_all (names_entry f) (pointers_of r)) (list_all (names_entry f) (names_of f r)) tests.1.1.0 names)
+    ∙ (list_all-append (names_entry f) (pointers_of r) (names_of f r) ∙ and_from (list_all (names_entry f) (pointers_of r))
+    (list_all (names_entry f) (names_of f r)) tests.1.1.0 names)
   where
-    by_own : (o : Option Own) → list_all (names_entry f) (elim o as (λ _. List ℤ) [ Some own ↦ filter (is_name f) (filter_map number_of (second_group own r.1).pointers) | None ↦ [] ]) ≡ true
+    by_own : (o : Option Own)
+        → list_all (names_entry f)
+        (elim o as (λ _. List ℤ) [ Some own ↦ filter (is_name f) (filter_map number_of (second_group own r.1).pointers) | None ↦ [] ]) ≡ true
     by_own None = refl
     by_own (Some own) = all_named f (filter_map number_of (second_group own r.1).pointers)
 
     names : list_all (names_entry f) (names_of f r) ≡ true
     names = by_own (own_of r)
 
-fault_parts : (o : Option ExtractReason) (ns : List ℤ) (x : ExtractReason) → elim o as (λ _. Result (List ℤ) ExtractReason) [ Some reason ↦ Err reason | None ↦ Ok ns ] ≡ Err x → o ≡ Some x
+fault_parts : (o : Option ExtractReason) (ns : List ℤ) (x : ExtractReason)
+    → elim o as (λ _. Result (List ℤ) ExtractReason) [ Some reason ↦ Err reason | None ↦ Ok ns ] ≡ Err x → o ≡ Some x
 fault_parts None ns x e = absurd cc
 fault_parts (Some y) ns x e = let same : y ≡ x = cc in ap (λ z. Some z) same
 
@@ -115,7 +125,8 @@ from_one ns a m h = by_test (is_among ns a) refl h
 later : (z : ℤ) (zs : List ℤ) (x : ℤ) → Contains zs x → Contains (z ∷ zs) x
 later z zs x c = (suc c.0, omega (arith, c.1), c.2)
 
-pub into_all : (f : Contents) (zs : List ℤ) (ns : List ℕ) (m : ℕ) → list_all (names_entry f) zs ≡ true → In (with_numbers ns zs) m → In ns m ⊎ Contains zs (pos m)
+pub into_all : (f : Contents) (zs : List ℤ) (ns : List ℕ) (m : ℕ) → list_all (names_entry f) zs ≡ true → In (with_numbers ns zs) m
+    → In ns m ⊎ Contains zs (pos m)
 into_all f [] ns m h i = inl i
 into_all f (z ∷ zs) ns m h i =
     let both = and_parts (names_entry f z) (list_all (names_entry f) zs) h in
@@ -124,19 +135,23 @@ into_all f (z ∷ zs) ns m h i =
       | inr c ↦ inr (later z zs (pos m) c)
     ]
 
-pub from_all : (f : Contents) (zs : List ℤ) (ns : List ℕ) (m : ℕ) → list_all (names_entry f) zs ≡ true → In ns m ⊎ Contains zs (pos m) → In (with_numbers ns zs) m
+pub from_all : (f : Contents) (zs : List ℤ) (ns : List ℕ) (m : ℕ) → list_all (names_entry f) zs ≡ true → In ns m ⊎ Contains zs (pos m)
+    → In (with_numbers ns zs) m
 from_all f [] ns m h (inl i) = i
 from_all f [] ns m h (inr c) = absurd (omega (arith, c.1))
-from_all f (z ∷ zs) ns m h (inl i) = from_all f zs (with_number ns (unsigned_abs z)) m (and_parts (names_entry f z) (list_all (names_entry f) zs) h).1 (inl (from_one ns (unsigned_abs z) m (inl i)))
+from_all f (z ∷ zs) ns m h (inl i) = from_all f zs (with_number ns (unsigned_abs z)) m (and_parts (names_entry f z) (list_all (names_entry f) zs) h).1
+    (inl (from_one ns (unsigned_abs z) m (inl i)))
 from_all f (z ∷ zs) ns m h (inr (zero, lt, e)) =
     let same : unsigned_abs z ≡ m = ap unsigned_abs e in
-    from_all f zs (with_number ns (unsigned_abs z)) m (and_parts (names_entry f z) (list_all (names_entry f) zs) h).1 (inl (from_one ns (unsigned_abs z) m (inr same)))
+    from_all f zs (with_number ns (unsigned_abs z)) m (and_parts (names_entry f z) (list_all (names_entry f) zs) h).1
+    (inl (from_one ns (unsigned_abs z) m (inr same)))
 from_all f (z ∷ zs) ns m h (inr (suc k, lt, e)) =
     from_all f zs (with_number ns (unsigned_abs z)) m (and_parts (names_entry f z) (list_all (names_entry f) zs) h).1 (inr (k, omega (arith, lt), e))
 
 -- ---- the references of an entry
 
-pub references_are : (f : Contents) (m : ℕ) (r : Record) (ks : List ℤ) (ns : List ℕ) (nos : List EntryNo) → named f (pos m) ≡ Some r → refs f r ≡ Ok ks → ns ≡ with_numbers [] ks → AreRising nos ns → AreReferences f m nos
+pub references_are : (f : Contents) (m : ℕ) (r : Record) (ks : List ℤ) (ns : List ℕ) (nos : List EntryNo) → named f (pos m) ≡ Some r → refs f r ≡ Ok ks
+    → ns ≡ with_numbers [] ks → AreRising nos ns → AreReferences f m nos
 references_are f m r ks ns nos en er es rising = record {
   entry = r;
   is_named = en;
@@ -220,7 +235,9 @@ handed f m (Ok t) e h k = tt
 handed f m (Err x) e h k = subst (IsRefFault f m) (sym k) h
 
 pub found_record : (f : Contents) (m : ℕ) (o : Option Found) (r : Found)
-    → MatchOption o (named f (pos m) ≡ None) (λ r. (named f (pos m) ≡ Some (r.entry.now, r.values.now)) × IsBounded r.entry.now × (length r.values.now ≤ FILE_LIMIT) × IsWithin (length f.entries) m) → o ≡ Some r
+    → MatchOption o (named f (pos m) ≡ None)
+    (λ r. (named f (pos m) ≡ Some (r.entry.now, r.values.now)) × IsBounded r.entry.now × (length r.values.now ≤ FILE_LIMIT)
+    × IsWithin (length f.entries) m) → o ≡ Some r
     → named f (pos m) ≡ Some (r.entry.now, r.values.now)
 found_record f m None r h e = absurd (let g : None ≡ Some r = e in cc)
 found_record f m (Some q) r h e =

@@ -1,5 +1,6 @@
 -- The own values of each listed type, and which of them are pointers.
-use Rattle.std.specs.Prelude.{ℕ, ◌+◌, ◌-◌, ◌*◌, Bool, true, false, not, ◌&&◌, ◌||◌, ◌==◌, nat_le, List, [], ◌∷◌, ◌++◌, length, map, ℤ, pos, Option, Some, None, if◌then◌else◌, slice_index, slice_index_or, option_map, unwrap_or, find}
+use Rattle.std.specs.Prelude.{ℕ, ◌+◌, ◌-◌, ◌*◌, Bool, true, false, not, ◌&&◌, ◌||◌, ◌==◌, nat_le, List, [], ◌∷◌, ◌++◌, length, map, ℤ, pos, Option, Some, None}
+use Rattle.std.specs.Prelude.{if◌then◌else◌, slice_index, slice_index_or, option_map, unwrap_or, find}
 use Rattle.std.specs.List.{list_all, range_with_len}
 use Rattle.std.specs.Ordering.{int_eq}
 use Rattle.iges_fields.specs.declared.value.Value.{Value}

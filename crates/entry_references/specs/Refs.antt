@@ -1,5 +1,6 @@
 -- What an entry refers to.
-use Rattle.std.specs.Prelude.{Bool, true, false, ◌&&◌, ◌||◌, List, [], ◌∷◌, ◌++◌, take, drop, ℤ, pos, neg_ℤ, int_lt, Option, Some, None, Result, Ok, Err, if◌then◌else◌, is_some, unwrap_or, filter, filter_map}
+use Rattle.std.specs.Prelude.{Bool, true, false, ◌&&◌, ◌||◌, List, [], ◌∷◌, ◌++◌, take, drop, ℤ, pos, neg_ℤ, int_lt, Option, Some, None, Result, Ok, Err}
+use Rattle.std.specs.Prelude.{if◌then◌else◌, is_some, unwrap_or, filter, filter_map}
 use Rattle.std.specs.List.{list_all}
 use Rattle.std.specs.Ordering.{int_eq}
 use Rattle.iges_base.specs.First.{first_failing}
@@ -55,13 +56,15 @@ is_left_out value.Default = true
 is_left_out _ = false
 
 abbrev pub are_groups : Own → List Value → Bool
-are_groups own values = is_group values (first_group own values) && is_group values (second_group own values) && list_all is_left_out (second_group own values).rest
+are_groups own values = is_group values (first_group own values) && is_group values (second_group own values)
+    && list_all is_left_out (second_group own values).rest
 
 -- ---- references
 
 -- the own values of a record of one of the six kinds, where it is one
 abbrev pub own_of_kind : EntityKind → List Value → Option Own
-own_of_kind kind values = if is_record_of kind values then Some (record { count = own_count kind values; pointers = pointer_places kind values; cut = [] }) else None
+own_of_kind kind values =
+    if is_record_of kind values then Some (record { count = own_count kind values; pointers = pointer_places kind values; cut = [] }) else None
 
 -- the own values of a record, where they are those of its type
 abbrev pub own_of : Record → Option Own

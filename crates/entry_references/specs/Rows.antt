@@ -21,7 +21,8 @@ layout_of_row row.CopiousData = record {
 layout_of_row row.SplineCurve = counted (4 ∷ []) (λ c. 4 + (nth c 0 + 1) + 12 * nth c 0 + 12)
 layout_of_row row.Point = record { counts = []; choices = []; own = λ _. 4; pointers = λ _. []; cut = 4 ∷ [] }
 layout_of_row row.RationalCurve = counted (1 ∷ 2 ∷ []) (λ c. 6 + (nth c 0 + nth c 1 + 2) + 4 * (nth c 0 + 1) + 5)
-layout_of_row row.RationalSurface = counted (1 ∷ 2 ∷ 3 ∷ 4 ∷ []) (λ c. 9 + (nth c 0 + nth c 2 + 2) + (nth c 1 + nth c 3 + 2) + 4 * (nth c 0 + 1) * (nth c 1 + 1) + 4)
+layout_of_row row.RationalSurface =
+    counted (1 ∷ 2 ∷ 3 ∷ 4 ∷ []) (λ c. 9 + (nth c 0 + nth c 2 + 2) + (nth c 1 + nth c 3 + 2) + 4 * (nth c 0 + 1) * (nth c 1 + 1) + 4)
 
 abbrev pub layout_in_form : ℤ → Forms → Layout
 layout_in_form form (forms.Every layout) = layout_of_row layout

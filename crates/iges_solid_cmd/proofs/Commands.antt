@@ -39,7 +39,8 @@ use Rattle.iges_solid_cmd.specs.declared.form.CertificateCommand.TheVariants as 
 use Rattle.iges_solid_cmd.specs.Due.{OfCertificate, OfEntity, OfWhole}
 use Rattle.iges_solid_cmd.proofs.OwedOne.{all_one, certify_one, show_one}
 use Rattle.iges_solid_cmd.proofs.OwedSome.{all_due, certify_due, show_due}
-use Rattle.iges_solid_cmd.proofs.OwedVerdicts.{certify_all_verdict, certify_verdict, compact_verdict, extract_verdict, open_verdict, open_verify_verdict, orient_verdict, orient_verify_verdict, show_verdict}
+use Rattle.iges_solid_cmd.proofs.OwedVerdicts.{certify_all_verdict, certify_verdict, compact_verdict, extract_verdict, open_verdict, open_verify_verdict}
+use Rattle.iges_solid_cmd.proofs.OwedVerdicts.{orient_verdict, orient_verify_verdict, show_verdict}
 
 -- at most one answer is owed, and one text but for how the command lets them differ
 abbrev pub IsAlike : Command → Owed → Type 0
@@ -70,11 +71,16 @@ entity_one of_entity.Open n f = open_alike n f
 entity_one of_entity.Orient n f = orient_alike n f
 entity_one of_entity.Compact n f = alike (command.File (of_file.Entity of_entity.Compact n)) (OfCompact n f) (one_compact n f)
 
-certificate_one : (c : CertificateCommand) (certificate : List ℕ) (f : Contents) → IsAlike (command.File (of_file.Certificate c)) (OfCertificate c certificate f)
-certificate_one of_certificate.Verify certificate f = alike (command.File (of_file.Certificate of_certificate.Verify)) (OfVerify certificate f) (verify_one certificate f)
-certificate_one of_certificate.Upgrade certificate f = alike (command.File (of_file.Certificate of_certificate.Upgrade)) (OfUpgrade certificate f) (upgrade_one certificate f)
-certificate_one of_certificate.OpenVerify certificate f = alike (command.File (of_file.Certificate of_certificate.OpenVerify)) (OfOpenVerify certificate f) (one_verify certificate f)
-certificate_one of_certificate.OrientVerify certificate f = alike (command.File (of_file.Certificate of_certificate.OrientVerify)) (OfOrientVerify certificate f) (verifying_one certificate f)
+certificate_one : (c : CertificateCommand) (certificate : List ℕ) (f : Contents)
+    → IsAlike (command.File (of_file.Certificate c)) (OfCertificate c certificate f)
+certificate_one of_certificate.Verify certificate f = alike (command.File (of_file.Certificate of_certificate.Verify)) (OfVerify certificate f)
+    (verify_one certificate f)
+certificate_one of_certificate.Upgrade certificate f = alike (command.File (of_file.Certificate of_certificate.Upgrade)) (OfUpgrade certificate f)
+    (upgrade_one certificate f)
+certificate_one of_certificate.OpenVerify certificate f = alike (command.File (of_file.Certificate of_certificate.OpenVerify)) (OfOpenVerify certificate f)
+    (one_verify certificate f)
+certificate_one of_certificate.OrientVerify certificate f = alike (command.File (of_file.Certificate of_certificate.OrientVerify))
+    (OfOrientVerify certificate f) (verifying_one certificate f)
 
 pub contents_one : (c : FileCommand) (certificate : List ℕ) (f : Contents) → IsAlike (command.File c) (OfContents c certificate f)
 contents_one (of_file.Whole c) certificate f = whole_one c f
@@ -93,13 +99,15 @@ entity_due of_entity.Open n f bytes few is = some_open n f (can_be_made bytes f 
 entity_due of_entity.Orient n f bytes few is = orienting_due n f (can_be_made bytes f few is).made.limits
 entity_due of_entity.Compact n f bytes few is = some_compact n f
 
-certificate_due : (c : CertificateCommand) (certificate : List ℕ) (f : Contents) (bytes : List ℕ) → length bytes ≤ FILE_LIMIT → IsFile bytes f → IsSome (OfCertificate c certificate f)
+certificate_due : (c : CertificateCommand) (certificate : List ℕ) (f : Contents) (bytes : List ℕ) → length bytes ≤ FILE_LIMIT → IsFile bytes f
+    → IsSome (OfCertificate c certificate f)
 certificate_due of_certificate.Verify certificate f bytes few is = verify_due certificate f
 certificate_due of_certificate.Upgrade certificate f bytes few is = upgrade_due certificate f
 certificate_due of_certificate.OpenVerify certificate f bytes few is = some_verify certificate f
 certificate_due of_certificate.OrientVerify certificate f bytes few is = verifying_due certificate f
 
-pub contents_due : (c : FileCommand) (certificate : List ℕ) (f : Contents) (bytes : List ℕ) → length bytes ≤ FILE_LIMIT → IsFile bytes f → IsSome (OfContents c certificate f)
+pub contents_due : (c : FileCommand) (certificate : List ℕ) (f : Contents) (bytes : List ℕ) → length bytes ≤ FILE_LIMIT → IsFile bytes f
+    → IsSome (OfContents c certificate f)
 contents_due (of_file.Whole c) certificate f bytes few is = whole_due c f bytes few is
 contents_due (of_file.Entity c n) certificate f bytes few is = entity_due c n f bytes few is
 contents_due (of_file.Certificate c) certificate f bytes few is = certificate_due c certificate f bytes few is
@@ -116,9 +124,12 @@ entity_verdict of_entity.Open n f a t = open_verdict n f a t
 entity_verdict of_entity.Orient n f a t = orient_verdict n f a t
 entity_verdict of_entity.Compact n f a t = compact_verdict n f a t
 
-certificate_verdict_of : (c : CertificateCommand) (certificate : List ℕ) (f : Contents) (a : Answer) (t : List ℕ) → OfCertificate c certificate f a t → IsFileVerdict a
-certificate_verdict_of of_certificate.Verify certificate f a t owed = certificate_verdict (λ ns. Exactly Done (accepted_lines ns)) (λ ns. exactly_so Done (accepted_lines ns) tt) certificate f a t owed
-certificate_verdict_of of_certificate.Upgrade certificate f a t owed = certificate_verdict (λ ns. OfText (upgraded_for f certificate ns)) (λ ns. text_verdict (upgraded_for f certificate ns)) certificate f a t owed
+certificate_verdict_of : (c : CertificateCommand) (certificate : List ℕ) (f : Contents) (a : Answer) (t : List ℕ) → OfCertificate c certificate f a t
+    → IsFileVerdict a
+certificate_verdict_of of_certificate.Verify certificate f a t owed = certificate_verdict (λ ns. Exactly Done (accepted_lines ns))
+    (λ ns. exactly_so Done (accepted_lines ns) tt) certificate f a t owed
+certificate_verdict_of of_certificate.Upgrade certificate f a t owed = certificate_verdict (λ ns. OfText (upgraded_for f certificate ns))
+    (λ ns. text_verdict (upgraded_for f certificate ns)) certificate f a t owed
 certificate_verdict_of of_certificate.OpenVerify certificate f a t owed = open_verify_verdict certificate f a t owed
 certificate_verdict_of of_certificate.OrientVerify certificate f a t owed = orient_verify_verdict certificate f a t owed
 

@@ -1,5 +1,6 @@
 -- Words and the forms that they have.
-use Rattle.std.proofs.Common.{◌≡◌, ◌∙◌, ℕ, ◌+◌, ◌≤◌, ◌&&◌, Bool, not, true, false, cond, List, [], ◌∷◌, ◌++◌, append_assoc, codes, length, map, Option, Some, None, refl, sym, ap, subst, arith, nat_eq, nat_le, nat_lt, rules, slice_get, suc, zero, String, string_bytes, Global}
+use Rattle.std.proofs.Common.{◌≡◌, ◌∙◌, ℕ, ◌+◌, ◌≤◌, ◌&&◌, Bool, not, true, false, cond, List, [], ◌∷◌, ◌++◌, append_assoc, codes, length, map, Option, Some}
+use Rattle.std.proofs.Common.{None, refl, sym, ap, subst, arith, nat_eq, nat_le, nat_lt, rules, slice_get, suc, zero, String, string_bytes, Global}
 use Rattle.std.specs.Prelude.{option_map, option_and_then, unwrap_or, zip, find, position}
 use Rattle.std.specs.List.{list_all, list_any, position_or_len, prefix_len}
 use Rattle.std.specs.Str.Parse.{digits_value}
@@ -15,7 +16,8 @@ use Rattle.iges_solid_cmd.specs.declared.slot.Operand.{Operand}
 use Rattle.iges_solid_cmd.specs.declared.slot.Operand.TheVariants as operand
 use Rattle.iges_solid_cmd.specs.declared.slot.Slot.{Slot as CodeSlot}
 use Rattle.iges_solid_cmd.specs.declared.form.Form.{Form as Row}
-use Rattle.iges_solid_cmd.specs.Forms.{Form, IsSized, Slot, all_fit, certificate, command_of, file, fits, form_of, form_text, forms, holds, join_with, number, number_among, reads_certificate, reads_file, slot_text, takes_certificate, takes_file, usage_line, word, word_in}
+use Rattle.iges_solid_cmd.specs.Forms.{Form, IsSized, Slot, all_fit, certificate, command_of, file, fits, form_of, form_text, forms, holds, join_with, number}
+use Rattle.iges_solid_cmd.specs.Forms.{number_among, reads_certificate, reads_file, slot_text, takes_certificate, takes_file, usage_line, word, word_in}
 use Rattle.iges_solid_cmd.specs.FormTable.{command_for, form_meant, slot_meant}
 
 some_is : {A : Type 0} (x y : A) → Some x ≡ Some y → x ≡ y
@@ -29,7 +31,8 @@ zip-maps f g [] ys = refl
 zip-maps f g (x ∷ xs) [] = refl
 zip-maps f g (x ∷ xs) (y ∷ ys) = ap (λ ps. (f x, g y) ∷ ps) (zip-maps f g xs ys)
 
-find_next : {A B : Type 0} (t : Bool) (f : A → B) (x : A) (found : Option B) (there : Option A) → found ≡ option_map f there → cond t (Some (f x)) found ≡ option_map f (cond t (Some x) there)
+find_next : {A B : Type 0} (t : Bool) (f : A → B) (x : A) (found : Option B) (there : Option A) → found ≡ option_map f there
+    → cond t (Some (f x)) found ≡ option_map f (cond t (Some x) there)
 find_next true f x found there same = refl
 find_next false f x found there same = same
 
@@ -38,7 +41,8 @@ find-map : {A B : Type 0} (p : B → Bool) (f : A → B) (xs : List A) → find 
 find-map p f [] = refl
 find-map p f (x ∷ xs) = find_next (p (f x)) f x (find p (map f xs)) (find (λ x. p (f x)) xs) (find-map p f xs)
 
-found_next : {A : Type 0} (p : A → Bool) (t : Bool) (x y : A) (there : Option A) → p x ≡ t → (there ≡ Some y → p y ≡ true) → cond t (Some x) there ≡ Some y → p y ≡ true
+found_next : {A : Type 0} (p : A → Bool) (t : Bool) (x y : A) (there : Option A) → p x ≡ t → (there ≡ Some y → p y ≡ true) → cond t (Some x) there ≡ Some y
+    → p y ≡ true
 found_next p true x y there is later e = let same : x ≡ y = some_is x y e in ap p (sym same) ∙ is
 found_next p false x y there is later e = later e
 
@@ -55,7 +59,8 @@ abbrev place_within : ℕ → ℕ → Option ℕ
 place_within i n = cond (nat_lt i n) (Some i) None
 
 position-map : {A B : Type 0} (p : B → Bool) (f : A → B) (xs : List A) → position p (map f xs) ≡ position (λ x. p (f x)) xs
-position-map p f xs = ap (λ i. place_within i (length (map f xs))) (prefix-map (λ x. not (p x)) f xs) ∙ ap (place_within (position_or_len (λ x. p (f x)) xs)) (length-map xs f)
+position-map p f xs = ap (λ i. place_within i (length (map f xs))) (prefix-map (λ x. not (p x)) f xs) ∙ ap (place_within (position_or_len (λ x. p (f x)) xs))
+    (length-map xs f)
 
 one_more : (n : ℕ) → 1 + n ≡ suc n
 one_more n = omega arith
@@ -74,7 +79,8 @@ position_later p x xs other =
     ap (λ t. place_within (cond (not t) (1 + i) 0) (suc (length xs))) other ∙ ap (λ k. place_within k (suc (length xs))) (one_more i)
     ∙ ap (λ t. cond t (Some (suc i)) None) (less_next i (length xs)) ∙ place_next (nat_lt i (length xs)) i
 
-stops_next : {A : Type 0} (p : A → Bool) (t : Bool) (x y : A) (xs : List A) (n : ℕ) → p x ≡ t → (slice_get xs n ≡ Some y → p y ≡ true) → slice_get (x ∷ xs) (cond (not t) (1 + n) 0) ≡ Some y → p y ≡ true
+stops_next : {A : Type 0} (p : A → Bool) (t : Bool) (x y : A) (xs : List A) (n : ℕ) → p x ≡ t → (slice_get xs n ≡ Some y → p y ≡ true)
+    → slice_get (x ∷ xs) (cond (not t) (1 + n) 0) ≡ Some y → p y ≡ true
 stops_next p true x y xs n is later e = let same : x ≡ y = some_is x y e in ap p (sym same) ∙ is
 stops_next p false x y xs n is later e = later (subst (λ i. slice_get (x ∷ xs) i ≡ Some y) (one_more n) e)
 
@@ -106,19 +112,24 @@ abbrev pub each_fits : List CodeSlot → Given → Bool
 each_fits slots words = list_all (λ (p : CodeSlot × String Global). fits (slot_meant p.0) (string_bytes p.1)) (zip slots words)
 
 each_meant : (slots : List CodeSlot) (words : Given) → list_all (λ p. fits p.0 p.1) (zip (meant slots) (bytes_of words)) ≡ each_fits slots words
-each_meant slots words = ap (list_all (λ p. fits p.0 p.1)) (zip-maps slot_meant string_bytes slots words) ∙ list_all-map (λ p. fits p.0 p.1) (λ (p : CodeSlot × String Global). (slot_meant p.0, string_bytes p.1)) (zip slots words)
+each_meant slots words = ap (list_all (λ p. fits p.0 p.1)) (zip-maps slot_meant string_bytes slots words)
+    ∙ list_all-map (λ p. fits p.0 p.1) (λ (p : CodeSlot × String Global). (slot_meant p.0, string_bytes p.1)) (zip slots words)
 
 lengths_meant : (slots : List CodeSlot) (words : Given) → nat_eq (length (meant slots)) (length (bytes_of words)) ≡ nat_eq (length slots) (length words)
-lengths_meant slots words = ap (λ n. nat_eq n (length (bytes_of words))) (length-map slots slot_meant) ∙ ap (nat_eq (length slots)) (length-map words string_bytes)
+lengths_meant slots words = ap (λ n. nat_eq n (length (bytes_of words))) (length-map slots slot_meant)
+    ∙ ap (nat_eq (length slots)) (length-map words string_bytes)
 
-pub fit_meant : (slots : List CodeSlot) (words : Given) → all_fit (meant slots) (bytes_of words) ≡ (nat_eq (length slots) (length words) && each_fits slots words)
+pub fit_meant : (slots : List CodeSlot) (words : Given)
+    → all_fit (meant slots) (bytes_of words) ≡ (nat_eq (length slots) (length words) && each_fits slots words)
 fit_meant slots words =
-    ap (λ b. b && list_all (λ p. fits p.0 p.1) (zip (meant slots) (bytes_of words))) (lengths_meant slots words) ∙ ap (λ b. nat_eq (length slots) (length words) && b) (each_meant slots words)
+    ap (λ b. b && list_all (λ p. fits p.0 p.1) (zip (meant slots) (bytes_of words))) (lengths_meant slots words)
+    ∙ ap (λ b. nat_eq (length slots) (length words) && b) (each_meant slots words)
 
 abbrev others_fit : List Slot → List (List ℕ) → Bool
 others_fit slots words = list_all (λ p. fits p.0 p.1) (zip slots words)
 
-each_at : (slots : List Slot) (words : List (List ℕ)) (i : ℕ) (slot : Slot) (w : List ℕ) → others_fit slots words ≡ true → slice_get slots i ≡ Some slot → slice_get words i ≡ Some w → fits slot w ≡ true
+each_at : (slots : List Slot) (words : List (List ℕ)) (i : ℕ) (slot : Slot) (w : List ℕ) → others_fit slots words ≡ true → slice_get slots i ≡ Some slot
+    → slice_get words i ≡ Some w → fits slot w ≡ true
 each_at [] words i slot w each there at = absurd cc
 each_at (s ∷ slots) [] i slot w each there at = absurd cc
 each_at (s ∷ slots) (v ∷ words) zero slot w each there at =
@@ -126,25 +137,33 @@ each_at (s ∷ slots) (v ∷ words) zero slot w each there at =
 each_at (s ∷ slots) (v ∷ words) (suc i) slot w each there at = each_at slots words i slot w (and_parts (fits s v) (others_fit slots words) each).1 there at
 
 -- the word at a place fits the slot there
-pub fit_at : (slots : List CodeSlot) (words : List (List ℕ)) (i : ℕ) (slot : CodeSlot) (w : List ℕ) → all_fit (meant slots) words ≡ true → Some slot ≡ slice_get slots i → slice_get words i ≡ Some w → fits (slot_meant slot) w ≡ true
-fit_at slots words i slot w fit there = each_at (meant slots) words i (slot_meant slot) w (and_parts (nat_eq (length (meant slots)) (length words)) (others_fit (meant slots) words) fit).1 (slice_get-map slot_meant slots i ∙ ap (option_map slot_meant) (sym there))
+pub fit_at : (slots : List CodeSlot) (words : List (List ℕ)) (i : ℕ) (slot : CodeSlot) (w : List ℕ) → all_fit (meant slots) words ≡ true
+    → Some slot ≡ slice_get slots i → slice_get words i ≡ Some w → fits (slot_meant slot) w ≡ true
+fit_at slots words i slot w fit there =
+    each_at (meant slots) words i (slot_meant slot) w (and_parts (nat_eq (length (meant slots)) (length words)) (others_fit (meant slots) words) fit).1
+    (slice_get-map slot_meant slots i ∙ ap (option_map slot_meant) (sym there))
 
 -- the word in the first slot for such, by the code's slots
-pub word_meant : (what : Operand) (slots : List CodeSlot) (words : List (List ℕ)) (place : Option ℕ) → place ≡ position (λ slot. holds what (slot_meant slot)) slots → word_in what (meant slots) words ≡ option_and_then (slice_get words) place
+pub word_meant : (what : Operand) (slots : List CodeSlot) (words : List (List ℕ)) (place : Option ℕ)
+    → place ≡ position (λ slot. holds what (slot_meant slot)) slots → word_in what (meant slots) words ≡ option_and_then (slice_get words) place
 word_meant what slots words place is = ap (option_and_then (slice_get words)) (position-map (holds what) slot_meant slots ∙ sym is)
 
-pub slot_holds : (what : Operand) (slots : List CodeSlot) (i : ℕ) (slot : CodeSlot) → Some i ≡ position (λ slot. holds what (slot_meant slot)) slots → Some slot ≡ slice_get slots i → holds what (slot_meant slot) ≡ true
+pub slot_holds : (what : Operand) (slots : List CodeSlot) (i : ℕ) (slot : CodeSlot) → Some i ≡ position (λ slot. holds what (slot_meant slot)) slots
+    → Some slot ≡ slice_get slots i → holds what (slot_meant slot) ≡ true
 slot_holds what slots i slot is there = placed_passes (λ slot. holds what (slot_meant slot)) slots i slot (sym is) (sym there)
 
 -- ---- the table
 
-pub form_is : (rows : List Row) (words : List (List ℕ)) → map form_meant rows ≡ forms → option_map form_meant (find (λ (row : Row). all_fit (form_meant row).slots words) rows) ≡ form_of words
-form_is rows words listed = sym (find-map (λ (form : Form). all_fit form.slots words) form_meant rows) ∙ ap (find (λ (form : Form). all_fit form.slots words)) listed
+pub form_is : (rows : List Row) (words : List (List ℕ)) → map form_meant rows ≡ forms
+    → option_map form_meant (find (λ (row : Row). all_fit (form_meant row).slots words) rows) ≡ form_of words
+form_is rows words listed = sym (find-map (λ (form : Form). all_fit form.slots words) form_meant rows) ∙ ap (find (λ (form : Form). all_fit form.slots words))
+    listed
 
 abbrev command_by : List (List ℕ) → Option Form → Option Command
 command_by words form = option_map (λ (form : Form). form.command (number_among form.slots words)) form
 
-pub command_is : (words : List (List ℕ)) (found : Option Row) (row : Row) (there : Option ℕ) (n : ℕ) (command : Command) → found ≡ Some row → option_map form_meant found ≡ form_of words
+pub command_is : (words : List (List ℕ)) (found : Option Row) (row : Row) (there : Option ℕ) (n : ℕ) (command : Command) → found ≡ Some row
+    → option_map form_meant found ≡ form_of words
     → (all_fit (form_meant row).slots words ≡ true → there ≡ option_map (digits_value 10) (word_in operand.Number (form_meant row).slots words))
     → n ≡ unwrap_or there 0 → command ≡ command_for row.kind n → Some command ≡ command_of words
 command_is words found row there n command is meant_is number_is n_is made =
@@ -166,44 +185,57 @@ lengths_next n m same = rw compare.suc-suc at same
 
 -- of words that fit, the first does, and so do the others
 first_fit : (s : Slot) (slots : List Slot) (w : List ℕ) (words : List (List ℕ)) → all_fit (s ∷ slots) (w ∷ words) ≡ true → fits s w ≡ true
-first_fit s slots w words fit = (and_parts (fits s w) (others_fit slots words) (and_parts (nat_eq (suc (length slots)) (suc (length words))) (fits s w && others_fit slots words) fit).1).0
+first_fit s slots w words fit =
+    (and_parts (fits s w) (others_fit slots words) (and_parts (nat_eq (suc (length slots)) (suc (length words))) (fits s w && others_fit slots words) fit).1).0
 
 rest_fit : (s : Slot) (slots : List Slot) (w : List ℕ) (words : List (List ℕ)) → all_fit (s ∷ slots) (w ∷ words) ≡ true → all_fit slots words ≡ true
 rest_fit s slots w words fit =
     let parts = and_parts (nat_eq (suc (length slots)) (suc (length words))) (fits s w && others_fit slots words) fit in
-    and_from (nat_eq (length slots) (length words)) (others_fit slots words) (lengths_next (length slots) (length words) parts.0) (and_parts (fits s w) (others_fit slots words) parts.1).1
+    and_from (nat_eq (length slots) (length words)) (others_fit slots words) (lengths_next (length slots) (length words) parts.0)
+    (and_parts (fits s w) (others_fit slots words) parts.1).1
 
-in_range : (digits least greatest : ℕ) (w : List ℕ) → fits (number digits least greatest) w ≡ true → (least ≤ digits_value 10 w) × (digits_value 10 w ≤ greatest)
+in_range : (digits least greatest : ℕ) (w : List ℕ) → fits (number digits least greatest) w ≡ true
+    → (least ≤ digits_value 10 w) × (digits_value 10 w ≤ greatest)
 in_range digits least greatest w fit =
     let outer = and_parts (are_digits w && nat_le (length w) digits && nat_le least (digits_value 10 w)) (nat_le (digits_value 10 w) greatest) fit in
     let inner = and_parts (are_digits w && nat_le (length w) digits) (nat_le least (digits_value 10 w)) outer.0 in
     (leb-true least (digits_value 10 w) inner.1, leb-true (digits_value 10 w) greatest outer.1)
 
-later_word : (w : List ℕ) (words : List (List ℕ)) (place : Option ℕ) → option_and_then (slice_get (w ∷ words)) (option_map suc place) ≡ option_and_then (slice_get words) place
+later_word : (w : List ℕ) (words : List (List ℕ)) (place : Option ℕ) → option_and_then (slice_get (w ∷ words)) (option_map suc place)
+    ≡ option_and_then (slice_get words) place
 later_word w words None = refl
 later_word w words (Some i) = refl
 
 -- the number among words behind a slot that is for none
-later_number : (s : Slot) (slots : List Slot) (w : List ℕ) (words : List (List ℕ)) (n : ℕ) → holds operand.Number s ≡ false → number_among (s ∷ slots) (w ∷ words) ≡ n → number_among slots words ≡ n
+later_number : (s : Slot) (slots : List Slot) (w : List ℕ) (words : List (List ℕ)) (n : ℕ) → holds operand.Number s ≡ false
+    → number_among (s ∷ slots) (w ∷ words) ≡ n → number_among slots words ≡ n
 later_number s slots w words n other is =
-    let later = ap (option_and_then (slice_get (w ∷ words))) (position_later (holds operand.Number) s slots other) ∙ later_word w words (position (holds operand.Number) slots) in
+    let later = ap (option_and_then (slice_get (w ∷ words))) (position_later (holds operand.Number) s slots other)
+    ∙ later_word w words (position (holds operand.Number) slots) in
     sym (ap (λ o. unwrap_or (option_map (digits_value 10) o) 0) later) ∙ is
 
-first_number : (digits least greatest : ℕ) (slots : List Slot) (w : List ℕ) (words : List (List ℕ)) → number_among (number digits least greatest ∷ slots) (w ∷ words) ≡ digits_value 10 w
+first_number : (digits least greatest : ℕ) (slots : List Slot) (w : List ℕ) (words : List (List ℕ))
+    → number_among (number digits least greatest ∷ slots) (w ∷ words) ≡ digits_value 10 w
 first_number digits least greatest slots w words =
-    ap (λ t. unwrap_or (option_map (digits_value 10) (option_and_then (slice_get (w ∷ words)) (cond t (Some 0) None))) 0) (le-leb 1 (suc (length slots)) (omega arith))
+    ap (λ t. unwrap_or (option_map (digits_value 10) (option_and_then (slice_get (w ∷ words)) (cond t (Some 0) None))) 0)
+    (le-leb 1 (suc (length slots)) (omega arith))
 
 all_in_range : (slots : List Slot) (words : List (List ℕ)) (n : ℕ) → all_fit slots words ≡ true → number_among slots words ≡ n → InRange slots n
 all_in_range [] words n fit is = tt
 all_in_range (s ∷ slots) [] n fit is = absurd (omega (arith, eqb-true (suc (length slots)) 0 (and_parts (nat_eq (suc (length slots)) 0) true fit).0))
-all_in_range (word text ∷ slots) (w ∷ words) n fit is = all_in_range slots words n (rest_fit (word text) slots w words fit) (later_number (word text) slots w words n refl is)
+all_in_range (word text ∷ slots) (w ∷ words) n fit is = all_in_range slots words n (rest_fit (word text) slots w words fit)
+    (later_number (word text) slots w words n refl is)
 all_in_range (file ∷ slots) (w ∷ words) n fit is = all_in_range slots words n (rest_fit file slots w words fit) (later_number file slots w words n refl is)
-all_in_range (certificate ∷ slots) (w ∷ words) n fit is = all_in_range slots words n (rest_fit certificate slots w words fit) (later_number certificate slots w words n refl is)
-all_in_range (number digits least greatest ∷ slots) (w ∷ words) n fit is = subst (λ m. (least ≤ m) × (m ≤ greatest)) (sym (first_number digits least greatest slots w words) ∙ is) (in_range digits least greatest w (first_fit (number digits least greatest) slots w words fit))
+all_in_range (certificate ∷ slots) (w ∷ words) n fit is = all_in_range slots words n (rest_fit certificate slots w words fit)
+    (later_number certificate slots w words n refl is)
+all_in_range (number digits least greatest ∷ slots) (w ∷ words) n fit is =
+    subst (λ m. (least ≤ m) × (m ≤ greatest)) (sym (first_number digits least greatest slots w words) ∙ is)
+    (in_range digits least greatest w (first_fit (number digits least greatest) slots w words fit))
 
 -- that the sources of the form and of its command are the same, and a sample's size is one
 abbrev AgreesAt : Form → ℕ → Type 0
-AgreesAt form n = (list_any (holds operand.File) form.slots ≡ takes_file (form.command n)) × (list_any (holds operand.Certificate) form.slots ≡ takes_certificate (form.command n)) × IsSized (form.command n)
+AgreesAt form n = (list_any (holds operand.File) form.slots ≡ takes_file (form.command n))
+    × (list_any (holds operand.Certificate) form.slots ≡ takes_certificate (form.command n)) × IsSized (form.command n)
 
 abbrev AllAgree : List Form → Type 0
 AllAgree [] = Unit {0}
@@ -212,8 +244,10 @@ AllAgree (form ∷ rest) = ((n : ℕ) → InRange form.slots n → AgreesAt form
 listed_agree : AllAgree forms
 listed_agree = search rules
 
-agree_next : (t : Bool) (form y : Form) (there : Option Form) → ((n : ℕ) → InRange form.slots n → AgreesAt form n) → (there ≡ Some y → (n : ℕ) → InRange y.slots n → AgreesAt y n) → cond t (Some form) there ≡ Some y → (n : ℕ) → InRange y.slots n → AgreesAt y n
-agree_next true form y there first later e = let same : form ≡ y = some_is form y e in subst (λ (f : Form). (n : ℕ) → InRange f.slots n → AgreesAt f n) same first
+agree_next : (t : Bool) (form y : Form) (there : Option Form) → ((n : ℕ) → InRange form.slots n → AgreesAt form n)
+    → (there ≡ Some y → (n : ℕ) → InRange y.slots n → AgreesAt y n) → cond t (Some form) there ≡ Some y → (n : ℕ) → InRange y.slots n → AgreesAt y n
+agree_next true form y there first later e = let same : form ≡ y = some_is form y e in subst (λ (f : Form). (n : ℕ) → InRange f.slots n → AgreesAt f n) same
+    first
 agree_next false form y there first later e = later e
 
 found_agrees : (p : Form → Bool) (all : List Form) (y : Form) → AllAgree all → find p all ≡ Some y → (n : ℕ) → InRange y.slots n → AgreesAt y n
@@ -232,7 +266,9 @@ agree_by words None c e is = absurd cc
 agree_by words (Some form) c e is =
     let same = some_is (form.command (number_among form.slots words)) c is in
     let fit = found_passes (λ (form : Form). all_fit form.slots words) forms form e in
-    subst (Agree (Some form)) same (found_agrees (λ (form : Form). all_fit form.slots words) forms form listed_agree e (number_among form.slots words) (all_in_range form.slots words (number_among form.slots words) fit refl))
+    subst (Agree (Some form)) same
+    (found_agrees (λ (form : Form). all_fit form.slots words) forms form listed_agree e (number_among form.slots words)
+    (all_in_range form.slots words (number_among form.slots words) fit refl))
 
 agree : (words : List (List ℕ)) (c : Command) → command_of words ≡ Some c → Agree (form_of words) c
 agree words c is = agree_by words (form_of words) c refl is
@@ -251,7 +287,10 @@ sized words c is = (agree words c is).2
 pub slot_texts : (slots : List CodeSlot) → map (λ slot. slot_text (slot_meant slot)) slots ≡ map slot_text (meant slots)
 slot_texts slots = sym (map-map slot_text slot_meant slots)
 
-pub usage_is : (rows : List Row) (start joined line : List ℕ) → map form_meant rows ≡ forms → start ≡ codes "usage: igesolid " → joined ≡ start ++ join_with (codes " | ") (map (λ row. form_text (form_meant row)) rows) → line ≡ joined ++ 10 ∷ [] → line ≡ usage_line
+pub usage_is : (rows : List Row) (start joined line : List ℕ) → map form_meant rows ≡ forms → start ≡ codes "usage: igesolid "
+    → joined ≡ start ++ join_with (codes " | ") (map (λ row. form_text (form_meant row)) rows) → line ≡ joined ++ 10 ∷ [] → line ≡ usage_line
 usage_is rows start joined line listed start_is joined_is line_is =
-    line_is ∙ ap (λ text. text ++ 10 ∷ []) (joined_is ∙ ap (λ text. text ++ join_with (codes " | ") (map (λ row. form_text (form_meant row)) rows)) start_is ∙ ap (λ texts. codes "usage: igesolid " ++ join_with (codes " | ") texts) (sym (map-map form_text form_meant rows) ∙ ap (map form_text) listed))
+    line_is ∙ ap (λ text. text ++ 10 ∷ [])
+    (joined_is ∙ ap (λ text. text ++ join_with (codes " | ") (map (λ row. form_text (form_meant row)) rows)) start_is
+    ∙ ap (λ texts. codes "usage: igesolid " ++ join_with (codes " | ") texts) (sym (map-map form_text form_meant rows) ∙ ap (map form_text) listed))
     ∙ append_assoc (codes "usage: igesolid ") (join_with (codes " | ") (map form_text forms)) (10 ∷ [])

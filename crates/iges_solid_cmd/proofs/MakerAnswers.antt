@@ -21,13 +21,17 @@ module _ (f : Contents) (n : ℕ) where
   misplaced_owed x first = fails x (FirstFalse-append_front (places f n) (solid_obligations (solid_of f n)) x first)
 
   -- a rule on the shells fails
-  pub unclosed_owed : (x : Failing) (s : SolidData) → AllHold (places f n) → s ≡ solid_of f n → FirstFalse (solid_obligations s) x → OfCertify n f No (fail_line x)
+  pub unclosed_owed : (x : Failing) (s : SolidData) → AllHold (places f n) → s ≡ solid_of f n → FirstFalse (solid_obligations s) x
+      → OfCertify n f No (fail_line x)
   unfolding obligations
   unclosed_owed x s placed is first =
-      fails x (FirstFalse-append_rest (places f n) (solid_obligations (solid_of f n)) x placed (subst (λ (d : SolidData). FirstFalse (solid_obligations d) x) is first))
+      fails x (FirstFalse-append_rest (places f n) (solid_obligations (solid_of f n)) x placed
+      (subst (λ (d : SolidData). FirstFalse (solid_obligations d) x) is first))
 
   -- a certificate was made
-  pub certified_owed : (t : List ℕ) (s : SolidData) → AllHold (places f n) → s ≡ solid_of f n → AllHold (solid_obligations s) → IsCertificateText f n t → OfCertify n f Done t
+  pub certified_owed : (t : List ℕ) (s : SolidData) → AllHold (places f n) → s ≡ solid_of f n → AllHold (solid_obligations s) → IsCertificateText f n t
+      → OfCertify n f Done t
   unfolding obligations
   certified_owed t s placed is closed made =
-      certified t (AllHold-append (places f n) (solid_obligations (solid_of f n)) placed (subst (λ (d : SolidData). AllHold (solid_obligations d)) is closed)) made
+      certified t (AllHold-append (places f n) (solid_obligations (solid_of f n)) placed (subst (λ (d : SolidData). AllHold (solid_obligations d)) is closed))
+      made

@@ -42,7 +42,8 @@ due_of_one (command.Sample n) file certificate = alike (command.Sample n) (OfSam
 pub due_one : OneAnswerIsOwed
 due_one words file certificate a b t u p q = by_command (command_of words) p q
   where
-    by_command : (o : Option Command) → MatchOption o (Exactly answer.Usage usage_line a t) (λ c. DueOf c file certificate a t) → MatchOption o (Exactly answer.Usage usage_line b u) (λ c. DueOf c file certificate b u)
+    by_command : (o : Option Command) → MatchOption o (Exactly answer.Usage usage_line a t) (λ c. DueOf c file certificate a t)
+        → MatchOption o (Exactly answer.Usage usage_line b u) (λ c. DueOf c file certificate b u)
         → (a ≡ b) × ((t ≡ u) ⊎ IsSomeAnd o (λ c. MayDiffer c a t u))
     by_command None p q = (p.0 ∙ sym q.0, inl (p.1 ∙ sym q.1))
     by_command (Some c) p q = due_of_one c file certificate a b t u p q

@@ -4,7 +4,8 @@ use Rattle.std.specs.Prelude.{◌<◌}
 use Rattle.iges_params.specs.Contents.{Contents}
 use Rattle.solid_data.proofs.ObligationLemmas.{FirstFalse-one, FirstFalse-not_all}
 use Rattle.brep_walk.specs.Places.{places}
-use Rattle.cert_maker.specs.Book.{FirstUnmade, solids_of}
+use Rattle.iges_params.specs.Solids.{solids_of}
+use Rattle.cert_maker.specs.Book.{FirstUnmade}
 use Rattle.cert_maker.specs.declared.book.BookFault.{BookFault}
 use Rattle.cert_maker.proofs.BookMade.{one_text_of_book}
 use Rattle.cert_maker.proofs.Unmade.{none_unmade, one_unmade}
@@ -46,10 +47,12 @@ module _ (f : Contents) where
   all_one a b t u (no_solid none) (all_certified text some made book) = absurd (made_some none some)
   all_one a b t u (one_fails n x p) (no_solid none) = absurd (unmade_some (maker.Fails n x) none p)
   all_one a b t u (one_fails n x p) (one_fails m y q) = (refl, ap fault_text (one_unmade f 0 (solids_of f) (maker.Fails n x) (maker.Fails m y) p q))
-  all_one a b t u (one_fails n x p) (too_many m q) = absurd (let same : maker.Fails n x ≡ maker.TooMany m = one_unmade f 0 (solids_of f) (maker.Fails n x) (maker.TooMany m) p q in cc)
+  all_one a b t u (one_fails n x p) (too_many m q) =
+      absurd (let same : maker.Fails n x ≡ maker.TooMany m = one_unmade f 0 (solids_of f) (maker.Fails n x) (maker.TooMany m) p q in cc)
   all_one a b t u (one_fails n x p) (all_certified text some made book) = absurd (none_unmade f 0 (solids_of f) (maker.Fails n x) made p)
   all_one a b t u (too_many n p) (no_solid none) = absurd (unmade_some (maker.TooMany n) none p)
-  all_one a b t u (too_many n p) (one_fails m y q) = absurd (let same : maker.TooMany n ≡ maker.Fails m y = one_unmade f 0 (solids_of f) (maker.TooMany n) (maker.Fails m y) p q in cc)
+  all_one a b t u (too_many n p) (one_fails m y q) =
+      absurd (let same : maker.TooMany n ≡ maker.Fails m y = one_unmade f 0 (solids_of f) (maker.TooMany n) (maker.Fails m y) p q in cc)
   all_one a b t u (too_many n p) (too_many m q) = (refl, refl)
   all_one a b t u (too_many n p) (all_certified text some made book) = absurd (none_unmade f 0 (solids_of f) (maker.TooMany n) made p)
   all_one a b t u (all_certified text some made book) (no_solid none) = absurd (made_some none some)

@@ -3,7 +3,8 @@ use Rattle.std.proofs.Common.{◌≡◌, ◌<◌, ◌⊎◌, length, inl, inr, �
 use Rattle.std.specs.Prelude.{◌+◌, ◌<◌}
 use Rattle.iges_params.specs.Contents.{Contents}
 use Rattle.brep_walk.specs.Places.{places}
-use Rattle.cert_maker.specs.Book.{FirstUnmade, solids_of, AllMade, IsUnmade, uses_of}
+use Rattle.iges_params.specs.Solids.{solids_of}
+use Rattle.cert_maker.specs.Book.{FirstUnmade, AllMade, IsUnmade, uses_of}
 use Rattle.cert_maker.specs.declared.book.BookFault.{BookFault}
 use Rattle.cert_maker.proofs.Unmade.{made_or_unmade}
 use Rattle.solid_check.specs.Closed.{obligations, IsVerdictOn}
@@ -59,7 +60,8 @@ all_due f bytes few is = by_solids (solids_of f) refl (made_or_unmade f 0 (solid
     by_fault (maker.TooMany n) first = (answer.TooLarge, [], too_many n first)
     by_fault maker.NoMemory first = absurd (never_so f 0 (solids_of f) maker.NoMemory (λ used n h. h) first)
 
-    by_solids : (ns : List ℕ) → solids_of f ≡ ns → AllMade f 0 (solids_of f) ⊎ ((fault : BookFault) × FirstUnmade f 0 (solids_of f) fault) → IsSome (OfCertifyAll f)
+    by_solids : (ns : List ℕ) → solids_of f ≡ ns → AllMade f 0 (solids_of f) ⊎ ((fault : BookFault) × FirstUnmade f 0 (solids_of f) fault)
+        → IsSome (OfCertifyAll f)
     by_solids [] none found = (answer.No, no_solid_line, no_solid none)
     by_solids (n ∷ ns) some (inl made) =
         let text = some_book some_text f (can_be_made bytes f few is).made.limits made in

@@ -1,5 +1,6 @@
 -- The lines of a solid's shells, one shell after another.
-use Rattle.std.proofs.Common.{◌≡◌, ℕ, ◌+◌, ◌<◌, ◌^◌, Bool, List, [], ◌∷◌, ◌++◌, length, flat_map, drop, refl, sym, ap, ◌∙◌, append_assoc, arith, Some, slice_get, length-append}
+use Rattle.std.proofs.Common.{◌≡◌, ℕ, ◌+◌, ◌<◌, ◌^◌, Bool, List, [], ◌∷◌, ◌++◌, length, flat_map, drop, refl, sym, ap, ◌∙◌, append_assoc, arith, Some}
+use Rattle.std.proofs.Common.{slice_get, length-append}
 use Rattle.std.specs.List.{enumerate_from}
 use Rattle.std.proofs.lemmas.List.{length-map}
 use Rattle.std.proofs.lemmas.List.Sums.{sum_by-cons}
@@ -29,11 +30,13 @@ pub few_loops : (s : SolidData) (k : ℕ) (h : Shell) → IsNumberedSolid s → 
 few_loops s k h numbered there =
     omega (arith, numbered.few_loops, part_shorter placed_loops s.shells h (has_get s.shells k h (sym there)), loops_counted h.flag 0 h.faces)
 
-next_shell : (s : SolidData) (k : ℕ) (h : Shell) → slice_get s.shells k ≡ Some h → shell_lines_from k s (drop k s.shells) ≡ shell_line (k + 1) h (shell_rows s h) ++ shell_lines_from (k + 1) s (drop (k + 1) s.shells)
+next_shell : (s : SolidData) (k : ℕ) (h : Shell) → slice_get s.shells k ≡ Some h
+    → shell_lines_from k s (drop k s.shells) ≡ shell_line (k + 1) h (shell_rows s h) ++ shell_lines_from (k + 1) s (drop (k + 1) s.shells)
 next_shell s k h there = ap (shell_lines_from k s) (split_at s.shells k h there)
 
 -- a text that the line of a shell was put to
-pub shell_put : (s : SolidData) (k i : ℕ) (h : Shell) (d : ShellRows) (out new : List ℕ) → Some h ≡ slice_get s.shells k → d ≡ rows_of s (slice_get s.shells k) → i ≡ k → new ≡ out ++ shell_line (i + 1) h d
+pub shell_put : (s : SolidData) (k i : ℕ) (h : Shell) (d : ShellRows) (out new : List ℕ) → Some h ≡ slice_get s.shells k → d ≡ rows_of s (slice_get s.shells k)
+    → i ≡ k → new ≡ out ++ shell_line (i + 1) h d
     → new ++ shell_lines_from (k + 1) s (drop (k + 1) s.shells) ≡ out ++ shell_lines_from k s (drop k s.shells)
 shell_put s k i h d out new there rows is grown =
     let more = shell_lines_from (k + 1) s (drop (k + 1) s.shells) in

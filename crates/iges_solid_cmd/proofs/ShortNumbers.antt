@@ -17,7 +17,8 @@ tells : IsDigitsTest AreAllDigits
 tells = record {
   empty = refl;
   parts = λ c cs all. let parts = and_parts (is_ascii_digit c) (list_all is_ascii_digit cs) all in (digit_range c parts.0, parts.1);
-  more = λ c cs inside all. and_from (is_ascii_digit c) (list_all is_ascii_digit cs) (and_from (nat_le 48 c) (nat_le c 57) (le-leb 48 c inside.0) (le-leb c 57 inside.1)) all;
+  more = λ c cs inside all. and_from (is_ascii_digit c) (list_all is_ascii_digit cs)
+      (and_from (nat_le 48 c) (nat_le c 57) (le-leb 48 c inside.0) (le-leb c 57 inside.1)) all;
 }
 
 own : IsNumeralModel AreAllDigits (digits_value 10)
@@ -31,7 +32,8 @@ not_true : (b : Bool) → (b ≡ true → ⊥) → b ≡ false
 not_true true none = absurd (none refl)
 not_true false none = refl
 
-pub unread_unfit : {E : Type 0} (w : List ℕ) (digits least greatest : ℕ) (e : E) → greatest < 2 ^ 32 → ParsesUnsigned 32 10 w (Err e) → fits (number digits least greatest) w ≡ false
+pub unread_unfit : {E : Type 0} (w : List ℕ) (digits least greatest : ℕ) (e : E) → greatest < 2 ^ 32 → ParsesUnsigned 32 10 w (Err e)
+    → fits (number digits least greatest) w ≡ false
 unread_unfit w digits least greatest e few parses = not_true (fits (number digits least greatest) w) read
   where
     read : fits (number digits least greatest) w ≡ true → ⊥

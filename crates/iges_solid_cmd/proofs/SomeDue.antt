@@ -31,6 +31,7 @@ command_due (command.Sample n) size file certificate = sample_due n size.0 size.
 pub some_answer : SomeAnswerIsOwed
 some_answer words file certificate = by_command (command_of words) refl
   where
-    by_command : (o : Option Command) → command_of words ≡ o → IsSome (λ a t. MatchOption o (Exactly answer.Usage usage_line a t) (λ c. DueOf c file certificate a t))
+    by_command : (o : Option Command) → command_of words ≡ o
+        → IsSome (λ a t. MatchOption o (Exactly answer.Usage usage_line a t) (λ c. DueOf c file certificate a t))
     by_command None e = (answer.Usage, usage_line, (refl, refl))
     by_command (Some c) e = command_due c (sized words c e) file certificate

@@ -33,8 +33,10 @@ text_is f t u p q = let one = one_text f in one.2 t p ∙ sym (one.2 u q)
 
 one_written : (f : Contents) (a b : Answer) (t u : List ℕ) → OfWritten f a t → OfWritten f b u → (a ≡ b) × (t ≡ u)
 one_written f a b t u (too_large text is many) (too_large other at more) = (refl, refl)
-one_written f a b t u (too_large text is many) (written other at few) = let same = ap (λ (xs : List ℕ). length xs) (text_is f text other is at) in absurd (omega (arith, many, few, same))
-one_written f a b t u (written text is few) (too_large other at many) = let same = ap (λ (xs : List ℕ). length xs) (text_is f text other is at) in absurd (omega (arith, many, few, same))
+one_written f a b t u (too_large text is many) (written other at few) = let same = ap (λ (xs : List ℕ). length xs) (text_is f text other is at) in absurd
+    (omega (arith, many, few, same))
+one_written f a b t u (written text is few) (too_large other at many) = let same = ap (λ (xs : List ℕ). length xs) (text_is f text other is at) in absurd
+    (omega (arith, many, few, same))
 one_written f a b t u (written text is few) (written other at fewer) = (refl, text_is f text other is at)
 
 -- a refusal has one line
@@ -48,7 +50,8 @@ pub one_extract : (n : ℕ) (f : Contents) (a b : Answer) (t u : List ℕ) → O
 one_extract n f a b t u (not_extracted e r p) (not_extracted k s q) = (refl, refused_line n f e k r s p q)
 one_extract n f a b t u (not_extracted e r p) (extracted new x owed) = absurd (IsExtracted-IsRefused f n new e r x p)
 one_extract n f a b t u (extracted new x owed) (not_extracted k s q) = absurd (IsExtracted-IsRefused f n new k s x q)
-one_extract n f a b t u (extracted new x owed) (extracted other y due) = one_written other a b t u (subst (λ (g : Contents). OfWritten g a t) (IsExtracted-unique f n new other x y) owed) due
+one_extract n f a b t u (extracted new x owed) (extracted other y due) =
+    one_written other a b t u (subst (λ (g : Contents). OfWritten g a t) (IsExtracted-unique f n new other x y) owed) due
 
 -- two answers that are owed of compacting a solid agree
 pub one_compact : (n : ℕ) (f : Contents) (a b : Answer) (t u : List ℕ) → OfCompact n f a t → OfCompact n f b u → (a ≡ b) × (t ≡ u)
@@ -60,7 +63,8 @@ one_compact n f a b t u (misplaced x p) (misplaced y q) = (refl, ap fail_line (F
 one_compact n f a b t u (misplaced x p) (compacted new q due) = absurd (FirstFalse-not_all (places f n) x p.places q.places)
 one_compact n f a b t u (compacted new p owed) (not_compacted k s q) = absurd (IsExtracted-IsRefused f n p.«between» k s p.extracted q)
 one_compact n f a b t u (compacted new p owed) (misplaced y q) = absurd (FirstFalse-not_all (places f n) y q.places p.places)
-one_compact n f a b t u (compacted new p owed) (compacted other q due) = one_written other a b t u (subst (λ (g : Contents). OfWritten g a t) (only_file f n (Ok new) other p tt q) owed) due
+one_compact n f a b t u (compacted new p owed) (compacted other q due) =
+    one_written other a b t u (subst (λ (g : Contents). OfWritten g a t) (only_file f n (Ok new) other p tt q) owed) due
 
 -- ---- something is owed
 
@@ -75,7 +79,8 @@ some_written f = by_limit (one_text f).0 (one_text f).1 (decided_within (length 
 pub some_extract : (n : ℕ) (f : Contents) → (a : Answer) × (t : List ℕ) × OfExtract n f a t
 some_extract n f = by_answer (extracted_or_refused f n)
   where
-    by_answer : ((new : Contents) × IsExtracted f n new) ⊎ ((entity : ℕ) × (why : ExtractReason) × IsRefused f n entity why) → (a : Answer) × (t : List ℕ) × OfExtract n f a t
+    by_answer : ((new : Contents) × IsExtracted f n new) ⊎ ((entity : ℕ) × (why : ExtractReason) × IsRefused f n entity why)
+        → (a : Answer) × (t : List ℕ) × OfExtract n f a t
     by_answer (inr (entity, why, refused)) = (answer.NoExtract, no_extract_line entity why, not_extracted entity why refused)
     by_answer (inl (new, found)) = let owed = some_written new in (owed.0, owed.1, extracted new found owed.2)
 
@@ -83,7 +88,8 @@ some_extract n f = by_answer (extracted_or_refused f n)
 again : (f g : Contents) (n : ℕ) (x : IsExtracted f n g) → (new : Contents) × IsExtracted (dropped g) (new_number x.kept n) new
 again f g n x = by_answer (extracted_or_refused (dropped g) (new_number x.kept n))
   where
-    by_answer : ((new : Contents) × IsExtracted (dropped g) (new_number x.kept n) new) ⊎ ((entity : ℕ) × (why : ExtractReason) × IsRefused (dropped g) (new_number x.kept n) entity why)
+    by_answer : ((new : Contents) × IsExtracted (dropped g) (new_number x.kept n) new)
+        ⊎ ((entity : ℕ) × (why : ExtractReason) × IsRefused (dropped g) (new_number x.kept n) entity why)
         → (new : Contents) × IsExtracted (dropped g) (new_number x.kept n) new
     by_answer (inl found) = found
     by_answer (inr (entity, why, refused)) = absurd (not_refused f g n x entity why refused)
@@ -92,7 +98,8 @@ again f g n x = by_answer (extracted_or_refused (dropped g) (new_number x.kept n
 pub some_compact : (n : ℕ) (f : Contents) → (a : Answer) × (t : List ℕ) × OfCompact n f a t
 some_compact n f = by_answer (extracted_or_refused f n) (all_or_first_false (places f n) (places_decided f n))
   where
-    by_answer : ((new : Contents) × IsExtracted f n new) ⊎ ((entity : ℕ) × (why : ExtractReason) × IsRefused f n entity why) → AllHold (places f n) ⊎ ((x : Failing) × FirstFalse (places f n) x) → (a : Answer) × (t : List ℕ) × OfCompact n f a t
+    by_answer : ((new : Contents) × IsExtracted f n new) ⊎ ((entity : ℕ) × (why : ExtractReason) × IsRefused f n entity why)
+        → AllHold (places f n) ⊎ ((x : Failing) × FirstFalse (places f n) x) → (a : Answer) × (t : List ℕ) × OfCompact n f a t
     by_answer (inr (entity, why, refused)) holds = (answer.NoExtract, no_extract_line entity why, not_compacted entity why refused)
     by_answer (inl (g, found)) (inr (x, bad)) = (answer.No, fail_line x, misplaced x (record { «between» = g; extracted = found; places = bad }))
     by_answer (inl (g, found)) (inl all) =

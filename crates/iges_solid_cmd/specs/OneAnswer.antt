@@ -12,7 +12,8 @@ use Rattle.iges_solid_cmd.specs.declared.form.EntityCommand.TheVariants as of_en
 use Rattle.iges_solid_cmd.specs.Forms.{command_of}
 use Rattle.iges_solid_cmd.specs.Due.{Due}
 
--- How two texts that are owed with this answer may differ: an open shell may have several certificates that are accepted, and an orientation may name one ring or another.
+-- How two texts that are owed with this answer may differ: an open shell may have several certificates that are accepted, and an orientation may name one ring
+-- or another.
 abbrev pub MayDiffer : Command → Answer → List ℕ → List ℕ → Type 0
 MayDiffer (command.File (of_file.Entity of_entity.Open n)) a t u = a ≡ Done
 MayDiffer (command.File (of_file.Entity of_entity.Orient n)) a t u = AllZip AreSameOrRings (cut_lines t) (cut_lines u)

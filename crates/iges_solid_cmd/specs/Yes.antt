@@ -9,7 +9,7 @@ use Rattle.cert_lines.specs.declared.version.Version.{Version}
 use Rattle.solid_check.specs.Accepted.{IsAccepted}
 use Rattle.solid_check.specs.Closed.{IsClosed}
 use Rattle.solid_check.specs.Laws.{upgraded_version}
-use Rattle.cert_maker.specs.Book.{solids_of}
+use Rattle.iges_params.specs.Solids.{solids_of}
 use Rattle.command_replies.specs.declared.answer.Answer.TheVariants as answer
 use Rattle.command_replies.specs.Texts.{accepted_line, accepted_lines}
 use Rattle.iges_params.specs.Limits.{FitsLimits}
@@ -24,18 +24,22 @@ YesIsAccepted =
 
 -- Where yes is owed, each solid that a line names is closed.
 abbrev pub YesIsClosed : Type 0
-YesIsClosed = (f : Contents) (certificate text : List ℕ) → OfVerify certificate f answer.Done text → (ns : List ℕ) × AllByRecursion (IsClosed f) ns × (text ≡ accepted_lines ns)
+YesIsClosed = (f : Contents) (certificate text : List ℕ) → OfVerify certificate f answer.Done text → (ns : List ℕ) × AllByRecursion (IsClosed f) ns
+    × (text ≡ accepted_lines ns)
 
 -- What certifying writes of a file that isn't too large, verifying accepts.
 abbrev pub CertifiedIsVerified : Type 0
 CertifiedIsVerified =
-    (n : ℕ) (bytes : List ℕ) (f : Contents) (text : List ℕ) → length bytes ≤ FILE_LIMIT → IsFile bytes f → OfCertify n f answer.Done text → OfVerify text f answer.Done (accepted_line n)
+    (n : ℕ) (bytes : List ℕ) (f : Contents) (text : List ℕ) → length bytes ≤ FILE_LIMIT → IsFile bytes f → OfCertify n f answer.Done text
+    → OfVerify text f answer.Done (accepted_line n)
 
 -- And so it does what certifying all solids writes, where it isn't too large, and names them all.
 abbrev pub BookIsVerified : Type 0
-BookIsVerified = (f : Contents) (text : List ℕ) → length text ≤ CERT_LIMIT → OfCertifyAll f answer.Done text → OfVerify text f answer.Done (accepted_lines (solids_of f))
+BookIsVerified = (f : Contents) (text : List ℕ) → length text ≤ CERT_LIMIT → OfCertifyAll f answer.Done text
+    → OfVerify text f answer.Done (accepted_lines (solids_of f))
 
--- What upgrading writes is the upgraded text of an accepted certificate, for a solid that this names, and is accepted too and names the same solids; the file is within its limits.
+-- What upgrading writes is the upgraded text of an accepted certificate, for a solid that this names, and is accepted too and names the same solids; the file
+-- is within its limits.
 abbrev pub UpgradedIsVerified : Type 0
 UpgradedIsVerified =
     (f : Contents) (certificate text : List ℕ) → FitsLimits f → OfUpgrade certificate f answer.Done text

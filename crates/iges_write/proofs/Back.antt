@@ -1,5 +1,6 @@
 -- Parts filled into lines are the values of free text, with spaces before some of them.
-use Rattle.std.proofs.Common.{◌≡◌, inl, inr, ℕ, ◌+◌, ◌-◌, ◌<◌, ◌≤◌, true, List, [], ◌∷◌, ◌++◌, length, take, drop, refl, sym, ap, subst, ◌∙◌, append_assoc, arith, length-append}
+use Rattle.std.proofs.Common.{◌≡◌, inl, inr, ℕ, ◌+◌, ◌-◌, ◌<◌, ◌≤◌, true, List, [], ◌∷◌, ◌++◌, length, take, drop, refl, sym, ap, subst, ◌∙◌, append_assoc}
+use Rattle.std.proofs.Common.{arith, length-append}
 use Rattle.std.specs.Prelude.{nat_le}
 use Rattle.std.specs.Fmt.{decimal}
 use Rattle.std.specs.List.{concat, AllZip, AllByRecursion, list_all}
@@ -54,7 +55,8 @@ part_puts n line part fits part_fits =
 
 -- single bytes need no spaces before them
 single_puts : (n : ℕ) (line bytes : List ℕ) → 0 < n → length line ≤ n → (p : Puts n line (single_parts bytes) bytes) × (p.gap ≡ 0)
-single_puts n line [] some fits = (record { out = []; left = line; gap = 0; short = fits; fills = λ rest. refl; whole = sym (append-nil (line ++ []) ∙ append-nil line) }, refl)
+single_puts n line [] some fits =
+    (record { out = []; left = line; gap = 0; short = fits; fills = λ rest. refl; whole = sym (append-nil (line ++ []) ∙ append-nil line) }, refl)
 single_puts n line (b ∷ bytes) some fits =
     elim (leb_tells (length line + length (b ∷ [])) n) [
       | inl t ↦
@@ -65,7 +67,8 @@ single_puts n line (b ∷ bytes) some fits =
               gap = 0;
               short = more.0.short;
               fills = λ rest. ap concat (fill-fits n line (b ∷ []) (single_parts bytes ++ rest) t.1) ∙ more.0.fills rest;
-              whole = more.0.whole ∙ ap (λ (k : ℕ). (line ++ b ∷ []) ++ spaces k ++ bytes) more.1 ∙ ap (λ (l : List ℕ). l ++ bytes) (append-nil (line ++ b ∷ []))
+              whole = more.0.whole ∙ ap (λ (k : ℕ). (line ++ b ∷ []) ++ spaces k ++ bytes) more.1
+                  ∙ ap (λ (l : List ℕ). l ++ bytes) (append-nil (line ++ b ∷ []))
                   ∙ append_assoc line (b ∷ []) bytes ∙ ap (λ (l : List ℕ). l ++ b ∷ bytes) (sym (append-nil line));
             },
             refl,
@@ -79,8 +82,10 @@ single_puts n line (b ∷ bytes) some fits =
               left = more.0.left;
               gap = 0;
               short = more.0.short;
-              fills = λ rest. ap concat (fill-new n line (b ∷ []) (single_parts bytes ++ rest) t.1) ∙ ap (λ (l : List ℕ). padded n line ++ l) (more.0.fills rest) ∙ sym (append_assoc (padded n line) more.0.out (concat (fill n more.0.left rest)));
-              whole = append_assoc (padded n line) more.0.out more.0.left ∙ ap (λ (l : List ℕ). padded n line ++ l) (more.0.whole ∙ ap (λ (k : ℕ). (b ∷ []) ++ spaces k ++ bytes) more.1)
+              fills = λ rest. ap concat (fill-new n line (b ∷ []) (single_parts bytes ++ rest) t.1) ∙ ap (λ (l : List ℕ). padded n line ++ l)
+                  (more.0.fills rest) ∙ sym (append_assoc (padded n line) more.0.out (concat (fill n more.0.left rest)));
+              whole = append_assoc (padded n line) more.0.out more.0.left ∙ ap (λ (l : List ℕ). padded n line ++ l)
+                  (more.0.whole ∙ ap (λ (k : ℕ). (b ∷ []) ++ spaces k ++ bytes) more.1)
                   ∙ ap (λ (l : List ℕ). l ++ b ∷ bytes) (full ∙ sym (append-nil line));
             },
             refl,
@@ -88,7 +93,8 @@ single_puts n line (b ∷ bytes) some fits =
     ]
 
 -- parts, and single bytes behind them
-then_singles : (n : ℕ) (line : List ℕ) (ps : List (List ℕ)) (text bytes : List ℕ) → 0 < n → Puts n line ps text → Puts n line (ps ++ single_parts bytes) (text ++ bytes)
+then_singles : (n : ℕ) (line : List ℕ) (ps : List (List ℕ)) (text bytes : List ℕ) → 0 < n → Puts n line ps text
+    → Puts n line (ps ++ single_parts bytes) (text ++ bytes)
 then_singles n line ps text bytes some p =
     let s = single_puts n p.left bytes some p.short in
     record {
@@ -98,7 +104,8 @@ then_singles n line ps text bytes some p =
       short = s.0.short;
       fills = λ rest. ap (λ (l : List (List ℕ)). concat (fill n line l)) (append_assoc ps (single_parts bytes) rest) ∙ p.fills (single_parts bytes ++ rest)
           ∙ ap (λ (l : List ℕ). p.out ++ l) (s.0.fills rest) ∙ sym (append_assoc p.out s.0.out (concat (fill n s.0.left rest)));
-      whole = append_assoc p.out s.0.out s.0.left ∙ ap (λ (l : List ℕ). p.out ++ l) (s.0.whole ∙ ap (λ (k : ℕ). p.left ++ spaces k ++ bytes) s.1 ∙ ap (λ (l : List ℕ). l ++ bytes) (append-nil p.left))
+      whole = append_assoc p.out s.0.out s.0.left
+          ∙ ap (λ (l : List ℕ). p.out ++ l) (s.0.whole ∙ ap (λ (k : ℕ). p.left ++ spaces k ++ bytes) s.1 ∙ ap (λ (l : List ℕ). l ++ bytes) (append-nil p.left))
           ∙ sym (append_assoc p.out p.left bytes) ∙ ap (λ (l : List ℕ). l ++ bytes) p.whole ∙ append_assoc (line ++ spaces p.gap) text bytes;
     }
 
@@ -107,12 +114,14 @@ word_puts n line word some fits =
     elim (leb_tells (length word) n) [
       | inl t ↦ subst (λ (ps : List (List ℕ)). Puts n line ps word) (sym (cond-true (nat_le (length word) n) _ _ t.0)) (part_puts n line word fits t.1)
       | inr t ↦
-          let long = then_singles n line (take n word ∷ []) (take n word) (drop n word) some (part_puts n line (take n word) fits (omega (arith, length-take n word))) in
+          let long = then_singles n line (take n word ∷ []) (take n word) (drop n word) some
+          (part_puts n line (take n word) fits (omega (arith, length-take n word))) in
           subst (λ (ps : List (List ℕ)). Puts n line ps word) (sym (cond-false (nat_le (length word) n) _ _ t.0))
           (subst (λ (w : List ℕ). Puts n line (take n word ∷ single_parts (drop n word)) w) (take-append-drop n word) long)
     ]
 
-value_puts : (n : ℕ) (line : List ℕ) (v : Value) (delimiter : ℕ) → 0 < n → length line ≤ n → Puts n line (value_parts n v delimiter) (spelling v ++ delimiter ∷ [])
+value_puts : (n : ℕ) (line : List ℕ) (v : Value) (delimiter : ℕ) → 0 < n → length line ≤ n
+    → Puts n line (value_parts n v delimiter) (spelling v ++ delimiter ∷ [])
 value_puts n line value.Default delimiter some fits = word_puts n line (delimiter ∷ []) some fits
 value_puts n line (value.Int z) delimiter some fits = word_puts n line (spelling (value.Int z) ++ delimiter ∷ []) some fits
 value_puts n line (value.Real word) delimiter some fits = word_puts n line (word ++ delimiter ∷ []) some fits
@@ -158,7 +167,9 @@ written n line d v [] some fits =
       whole =
           ap (λ (ps : List (List ℕ)). concat (fill n line ps)) (sym (append-nil vp)) ∙ p.fills []
           ∙ ap (λ (l : List ℕ). p.out ++ l) (append-nil (padded n p.left)) ∙ sym (append_assoc p.out p.left (spaces (n - length p.left)))
-          ∙ ap (λ (l : List ℕ). l ++ spaces (n - length p.left)) (p.whole ∙ append_assoc line (spaces p.gap) (spelling v ++ d.end ∷ []) ∙ ap (λ (l : List ℕ). line ++ l) (sym (append_assoc (spaces p.gap) (spelling v) (d.end ∷ []))))
+          ∙ ap (λ (l : List ℕ). l ++ spaces (n - length p.left))
+          (p.whole ∙ append_assoc line (spaces p.gap) (spelling v ++ d.end ∷ [])
+          ∙ ap (λ (l : List ℕ). line ++ l) (sym (append_assoc (spaces p.gap) (spelling v) (d.end ∷ []))))
           ∙ append_assoc line (item ++ d.end ∷ []) (spaces (n - length p.left));
     }
 written n line d v (w ∷ values) some fits =
@@ -174,24 +185,39 @@ written n line d v (w ∷ values) some fits =
       each = ((p.gap, refl), more.each);
       whole =
           p.fills (parts n d (w ∷ values)) ∙ ap (λ (l : List ℕ). p.out ++ l) more.whole ∙ sym (append_assoc p.out p.left (tail ++ spaces more.behind))
-          ∙ ap (λ (l : List ℕ). l ++ (tail ++ spaces more.behind)) (p.whole ∙ append_assoc line (spaces p.gap) (spelling v ++ d.param ∷ []) ∙ ap (λ (l : List ℕ). line ++ l) (sym (append_assoc (spaces p.gap) (spelling v) (d.param ∷ []))))
+          ∙ ap (λ (l : List ℕ). l ++ (tail ++ spaces more.behind))
+          (p.whole ∙ append_assoc line (spaces p.gap) (spelling v ++ d.param ∷ [])
+          ∙ ap (λ (l : List ℕ). line ++ l) (sym (append_assoc (spaces p.gap) (spelling v) (d.param ∷ []))))
           ∙ append_assoc line (item ++ d.param ∷ []) (tail ++ spaces more.behind)
-          ∙ ap (λ (l : List ℕ). line ++ l) (sym (append_assoc (item ++ d.param ∷ []) tail (spaces more.behind)) ∙ ap (λ (l : List ℕ). l ++ spaces more.behind) (append_assoc item (d.param ∷ []) tail));
+          ∙ ap (λ (l : List ℕ). line ++ l)
+          (sym (append_assoc (item ++ d.param ∷ []) tail (spaces more.behind)) ∙ ap (λ (l : List ℕ). l ++ spaces more.behind)
+          (append_assoc item (d.param ∷ []) tail));
     }
 
 -- what is filled reads back as free text
-pub fill-FreeText : (n : ℕ) (d : Delims) (v : Value) (values : List Value) → 0 < n → AreSpelled (v ∷ values) → (used : ℕ) × FreeText d (concat (fill n [] (parts n d (v ∷ values)))) (v ∷ values) used
+pub fill-FreeText : (n : ℕ) (d : Delims) (v : Value) (values : List Value) → 0 < n → AreSpelled (v ∷ values)
+    → (used : ℕ) × FreeText d (concat (fill n [] (parts n d (v ∷ values)))) (v ∷ values) used
 fill-FreeText n d v values some h =
     let w = written n [] d v values some (omega arith) in (
       length (delimited d (w.first ∷ w.others)),
-      record { items = w.first ∷ w.others; rest = spaces w.behind; each = items_of (w.first ∷ w.others) (v ∷ values) w.each h; parts = w.whole; length_is = refl; some = omega (arith, few_items d (w.first ∷ w.others)) },
+      record {
+        items = w.first ∷ w.others;
+        rest = spaces w.behind;
+        each = items_of (w.first ∷ w.others) (v ∷ values) w.each h;
+        parts = w.whole;
+        length_is =
+            refl;
+        some = omega (arith, few_items d (w.first ∷ w.others));
+      },
     )
 
 -- and so do lines that are filled
-pub IsFilled-FreeText : (n : ℕ) (d : Delims) (v : Value) (values : List Value) (lines : List (List ℕ)) → 0 < n → AreSpelled (v ∷ values) → FitLines n (parts n d (v ∷ values))
+pub IsFilled-FreeText : (n : ℕ) (d : Delims) (v : Value) (values : List Value) (lines : List (List ℕ)) → 0 < n → AreSpelled (v ∷ values)
+    → FitLines n (parts n d (v ∷ values))
     → IsFilled n (parts n d (v ∷ values)) lines → (used : ℕ) × FreeText d (concat lines) (v ∷ values) used
 IsFilled-FreeText n d v values lines some h fit filled =
-    subst (λ (ls : List (List ℕ)). (used : ℕ) × FreeText d (concat ls) (v ∷ values) used) (sym (IsFilled-fill n (parts n d (v ∷ values)) lines fit filled)) (fill-FreeText n d v values some h)
+    subst (λ (ls : List (List ℕ)). (used : ℕ) × FreeText d (concat ls) (v ∷ values) used) (sym (IsFilled-fill n (parts n d (v ∷ values)) lines fit filled))
+    (fill-FreeText n d v values some h)
 
 -- ---- no part is longer than a line
 
@@ -210,12 +236,14 @@ value_fits : (n : ℕ) (v : Value) (delimiter : ℕ) → 0 < n → FitLines n (v
 value_fits n value.Default delimiter some = word_fits n (delimiter ∷ []) some
 value_fits n (value.Int z) delimiter some = word_fits n (spelling (value.Int z) ++ delimiter ∷ []) some
 value_fits n (value.Real word) delimiter some = word_fits n (word ++ delimiter ∷ []) some
-value_fits n (value.Text text) delimiter some = all_append (λ (p : List ℕ). length p ≤ n) _ _ (word_fits n (decimal (length text) ++ 72 ∷ []) some) (singles_fit n (text ++ delimiter ∷ []) some)
+value_fits n (value.Text text) delimiter some = all_append (λ (p : List ℕ). length p ≤ n) _ _ (word_fits n (decimal (length text) ++ 72 ∷ []) some)
+    (singles_fit n (text ++ delimiter ∷ []) some)
 
 pub parts_fit : (n : ℕ) (d : Delims) (values : List Value) → 0 < n → FitLines n (parts n d values)
 parts_fit n d [] some = tt
 parts_fit n d (v ∷ []) some = value_fits n v d.end some
-parts_fit n d (v ∷ w ∷ values) some = all_append (λ (p : List ℕ). length p ≤ n) (value_parts n v d.param) (parts n d (w ∷ values)) (value_fits n v d.param some) (parts_fit n d (w ∷ values) some)
+parts_fit n d (v ∷ w ∷ values) some = all_append (λ (p : List ℕ). length p ≤ n) (value_parts n v d.param) (parts n d (w ∷ values))
+    (value_fits n v d.param some) (parts_fit n d (w ∷ values) some)
 
 pub values_spelled : (values : List Value) → list_all is_value values ≡ true → AreSpelled values
 values_spelled [] h = tt

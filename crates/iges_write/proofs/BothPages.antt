@@ -1,5 +1,6 @@
 -- The sheets of the directory and of the records, side by side.
-use Rattle.std.proofs.Common.{◌≡◌, ℕ, zero, suc, ◌+◌, ◌≤◌, true, false, List, [], ◌∷◌, ◌++◌, length, take, drop, map, Some, None, refl, sym, ap, subst, ◌∙◌, arith, Result, Ok, Err}
+use Rattle.std.proofs.Common.{◌≡◌, ℕ, zero, suc, ◌+◌, ◌≤◌, true, false, List, [], ◌∷◌, ◌++◌, length, take, drop, map, Some, None, refl, sym, ap, subst, ◌∙◌}
+use Rattle.std.proofs.Common.{arith, Result, Ok, Err}
 use Rattle.std.specs.Prelude.{slice_get}
 use Rattle.std.specs.List.{AllByRecursion}
 use Rattle.std.specs.Result.{IsErrAnd}
@@ -29,14 +30,17 @@ first_fails fault.TooLarge page params h = omega (arith, h)
 first_fails fault.NoMemory page params h = tt
 
 -- the second sheet is made, and then the first
-pub second_then_first : {A : Type 0} (r : Result A WriteFileFault) (page next params next_params : Sheet) → params ≡ next_params → Steps r page next → StepsBoth r page next params next_params
+pub second_then_first : {A : Type 0} (r : Result A WriteFileFault) (page next params next_params : Sheet) → params ≡ next_params → Steps r page next
+    → StepsBoth r page next params next_params
 second_then_first (Ok x) page next params next_params is h = (h, is)
 second_then_first (Err f) page next params next_params is h = first_fails f next next_params h
 
-pub both_failed : {A : Type 0} (o : Result A WriteFileFault) (page next params next_params : Sheet) (f : WriteFileFault) → FailsBoth f next next_params → IsErrAnd o (λ y. y ≡ f) → StepsBoth o page next params next_params
+pub both_failed : {A : Type 0} (o : Result A WriteFileFault) (page next params next_params : Sheet) (f : WriteFileFault) → FailsBoth f next next_params
+    → IsErrAnd o (λ y. y ≡ f) → StepsBoth o page next params next_params
 both_failed {A} o page next params next_params f h e =
     let p = err_from_is_err_and o e in
-    subst (λ (x : Result A WriteFileFault). StepsBoth x page next params next_params) (sym p.1) (subst (λ (x : WriteFileFault). FailsBoth x next next_params) (sym p.2) h)
+    subst (λ (x : Result A WriteFileFault). StepsBoth x page next params next_params) (sym p.1)
+    (subst (λ (x : WriteFileFault). FailsBoth x next next_params) (sym p.2) h)
 
 -- what failed on the way fails
 pub both_fail_on : (f : WriteFileFault) (s t s2 t2 : Sheet) → Grows s t → Grows s2 t2 → FailsBoth f s s2 → FailsBoth f t t2
@@ -48,10 +52,12 @@ both_fail_on fault.NoMemory s t s2 t2 g g2 h = tt
 abbrev Entries : Type 0
 Entries = List (Entry × List Value)
 
-held_more : (xs : Entries) (i : ℕ) (e : Entry × List Value) → slice_get xs i ≡ Some e → AllByRecursion IsHeld (take i xs) → IsHeld e → AllByRecursion IsHeld (take (i + 1) xs)
+held_more : (xs : Entries) (i : ℕ) (e : Entry × List Value) → slice_get xs i ≡ Some e → AllByRecursion IsHeld (take i xs) → IsHeld e
+    → AllByRecursion IsHeld (take (i + 1) xs)
 held_more [] i e at h k = absurd (let no : None ≡ Some e = at in cc)
 held_more (x ∷ xs) zero e at h k = (subst IsHeld (let same : e ≡ x = cc in same) k, tt)
-held_more (x ∷ xs) (suc i) e at h k = let n : suc i + 1 ≡ suc (i + 1) = omega arith in subst (λ (m : ℕ). AllByRecursion IsHeld (take m (x ∷ xs))) (sym n) (h.0, held_more xs i e at h.1 k)
+held_more (x ∷ xs) (suc i) e at h k = let n : suc i + 1 ≡ suc (i + 1) = omega arith in subst (λ (m : ℕ). AllByRecursion IsHeld (take m (x ∷ xs))) (sym n)
+    (h.0, held_more xs i e at h.1 k)
 
 module _ (d : Delims) (es : Entries) where
   abbrev lines_of : Entries → List (List (List ℕ))
@@ -59,7 +65,8 @@ module _ (d : Delims) (es : Entries) where
 
   -- what stands of i entries, and what is left, are all
   pub record ArePut (page params page_start params_start : Sheet) (i : ℕ) : Type 0 where
-    pub directory : put_lines page (directory_lines params.number (drop i es) (lines_of (drop i es))) ≡ put_lines page_start (directory_lines params_start.number es (lines_of es))
+    pub directory : put_lines page (directory_lines params.number (drop i es) (lines_of (drop i es)))
+        ≡ put_lines page_start (directory_lines params_start.number es (lines_of es))
     pub records : put_lines params (lines_from i (lines_of (drop i es))) ≡ put_lines params_start (lines_from 0 (lines_of es))
     pub both : Both page params
     pub held : AllByRecursion IsHeld (take i es)
@@ -67,7 +74,8 @@ module _ (d : Delims) (es : Entries) where
   pub put_none : (page params : Sheet) → Both page params → ArePut page params page params 0
   put_none page params both = record { directory = refl; records = refl; both = both; held = tt }
 
-  module _ (page params page_start params_start : Sheet) (i : ℕ) (h : ArePut page params page_start params_start i) (e : Entry × List Value) (at : slice_get es i ≡ Some e) where
+  module _ (page params page_start params_start : Sheet) (i : ℕ) (h : ArePut page params page_start params_start i) (e : Entry × List Value)
+      (at : slice_get es i ≡ Some e) where
     abbrev lines : List (List ℕ)
     lines = record_text_lines d e
 
@@ -90,9 +98,11 @@ module _ (d : Delims) (es : Entries) where
         (lines_fail page _ two (directory_lines (params.number + length lines) rest (lines_of rest)) _ directory_is h.directory)
         (lines_fail params _ (owned i lines) (lines_from (i + 1) (lines_of rest)) _ records_are h.records) fails
 
-    pub put_more : (new new_params : Sheet) → new ≡ put_lines page two → new_params ≡ put_lines params (owned i lines) → IsHeld e → ArePut new new_params page_start params_start (i + 1)
+    pub put_more : (new new_params : Sheet) → new ≡ put_lines page two → new_params ≡ put_lines params (owned i lines) → IsHeld e
+        → ArePut new new_params page_start params_start (i + 1)
     put_more new new_params is params_is held =
-        let number_is : new_params.number ≡ params.number + length lines = ap (λ (x : Sheet). x.number) params_is ∙ ap (λ (k : ℕ). params.number + k) (length-owned i lines) in
+        let number_is : new_params.number ≡ params.number + length lines = ap (λ (x : Sheet). x.number) params_is
+        ∙ ap (λ (k : ℕ). params.number + k) (length-owned i lines) in
         record {
           directory = ap (λ (k : ℕ). put_lines new (directory_lines k rest (lines_of rest))) number_is
               ∙ lines_next page _ two (directory_lines (params.number + length lines) rest (lines_of rest)) _ directory_is h.directory new is;
@@ -122,12 +132,14 @@ module _ (d : Delims) (es : Entries) where
 
 module _ {A : Type 0} (r : Result A WriteFileFault) (page params new new_params : Sheet) (d : Delims) (n : ℕ) (e : Entry × List Value) where
   abbrev Stepped : Entry → ℕ → List (List ℕ) → Type 0
-  Stepped entry first ls = StepsBoth r new (put_lines page (entry_lines entry first (length ls))) new_params (put_lines params (map (λ (l : List ℕ). l ++ record_tail n) ls))
+  Stepped entry first ls = StepsBoth r new (put_lines page (entry_lines entry first (length ls))) new_params
+      (put_lines params (map (λ (l : List ℕ). l ++ record_tail n) ls))
 
   abbrev AtEntry : Type 0
   AtEntry = Stepped e.0 (first_of e.0 params.number) (record_text_lines d e)
 
-  pub used_stepped : (d2 : Delims) (entry : Entry) (values : List Value) → d2 ≡ d → entry ≡ e.0 → values ≡ e.1 → has_no_record e.0 ≡ false → Stepped entry params.number (used_lines d2 entry values) → AtEntry
+  pub used_stepped : (d2 : Delims) (entry : Entry) (values : List Value) → d2 ≡ d → entry ≡ e.0 → values ≡ e.1 → has_no_record e.0 ≡ false
+      → Stepped entry params.number (used_lines d2 entry values) → AtEntry
   used_stepped d2 entry values same entry_is values_is used h =
       let lines_are : used_lines d2 entry values ≡ record_text_lines d e =
       ap (λ (x : Delims). used_lines x entry values) same ∙ ap (λ (x : Entry). used_lines d x values) entry_is ∙ ap (used_lines d e.0) values_is
@@ -136,7 +148,8 @@ module _ {A : Type 0} (r : Result A WriteFileFault) (page params new new_params 
       subst (λ (x : Entry). Stepped x (first_of e.0 params.number) (record_text_lines d e)) entry_is
       (subst (λ (k : ℕ). Stepped entry k (record_text_lines d e)) first_is (subst (Stepped entry params.number) lines_are h))
 
-  pub unused_stepped : (entry : Entry) → entry ≡ e.0 → has_no_record e.0 ≡ true → params.line ≡ [] → new_params ≡ params → Steps r new (put_lines page (entry_lines entry 0 0)) → AtEntry
+  pub unused_stepped : (entry : Entry) → entry ≡ e.0 → has_no_record e.0 ≡ true → params.line ≡ [] → new_params ≡ params
+      → Steps r new (put_lines page (entry_lines entry 0 0)) → AtEntry
   unused_stepped entry entry_is unused empty kept h =
       let lines_are : [] ≡ record_text_lines d e = sym (cond-true (has_no_record e.0) [] (used_lines d e.0 e.1) unused) in
       let first_is : 0 ≡ first_of e.0 params.number = sym (cond-true (has_no_record e.0) 0 params.number unused) in
@@ -144,3 +157,8 @@ module _ {A : Type 0} (r : Result A WriteFileFault) (page params new new_params 
       (subst (λ (k : ℕ). Stepped entry k (record_text_lines d e)) first_is
       (subst (Stepped entry 0) lines_are
       (second_then_first r new (put_lines page (entry_lines entry 0 0)) new_params (put_lines params []) (kept ∙ no_lines params empty) h)))
+
+-- the same, of an entry with this number
+pub with_this_number : {A : Type 0} (r : Result A WriteFileFault) (page params new new_params : Sheet) (d : Delims) (n m : ℕ) (e : Entry × List Value) → n ≡ m
+    → AtEntry r page params new new_params d n e → AtEntry r page params new new_params d m e
+with_this_number r page params new new_params d n m e same h = subst (λ (k : ℕ). AtEntry r page params new new_params d k e) same h

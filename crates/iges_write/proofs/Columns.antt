@@ -1,5 +1,6 @@
 -- What stands in columns is read from them.
-use Rattle.std.proofs.Common.{◌≡◌, ℕ, zero, suc, ◌+◌, ◌-◌, ◌<◌, ◌≤◌, Bool, true, false, cond, not, List, [], ◌∷◌, ◌++◌, length, take, drop, map, ℤ, pos, negsuc, Some, refl, sym, ap, subst, ◌∙◌, append_assoc, arith, length-append, lit<}
+use Rattle.std.proofs.Common.{◌≡◌, ℕ, zero, suc, ◌+◌, ◌-◌, ◌<◌, ◌≤◌, Bool, true, false, cond, not, List, [], ◌∷◌, ◌++◌, length, take, drop, map, ℤ, pos, negsuc}
+use Rattle.std.proofs.Common.{Some, refl, sym, ap, subst, ◌∙◌, append_assoc, arith, length-append, lit<}
 use Rattle.std.specs.Prelude.{◌==◌, nat_le, slice_index, flat_map}
 use Rattle.std.specs.Fmt.{decimal, signed_decimal}
 use Rattle.std.specs.List.{AllByRecursion, enumerate_from, list_all, concat}
@@ -37,7 +38,8 @@ right-is n text le = drop-spaces (length text) n text le
 right_integer : (n : ℕ) (word : List ℕ) (z : ℤ) → length word ≤ n → integer word ≡ Some z → is_integer word ≡ true → column_number (right n word) ≡ Some z
 right_integer n word z le e i =
     let none : has_no_space word ≡ true = list_all-implies is_number_byte (λ b. not (is_space b)) number_byte_no_space word (integer_number_bytes word i) in
-    let trimmed : trim (right n word) ≡ word = ap trim (right-is n word le ∙ sym (append-nil (spaces (n - length word) ++ word))) ∙ trim-word (n - length word) 0 word none in
+    let trimmed : trim (right n word) ≡ word = ap trim (right-is n word le ∙ sym (append-nil (spaces (n - length word) ++ word)))
+    ∙ trim-word (n - length word) 0 word none in
     ap (λ (w : List ℕ). cond (is_empty w) (Some (pos 0)) (integer w)) trimmed ∙ cond-false (is_empty word) _ _ (nonempty is_integer refl word i) ∙ e
 
 pub right_signed : (n : ℕ) (z : ℤ) → length (signed_decimal z) ≤ n → fits_64_bits z ≡ true → column_number (right n (signed_decimal z)) ≡ Some z
@@ -77,7 +79,8 @@ line_numbered section n l long small =
     let r = right 7 (decimal n) in
     let len : length r ≡ 7 = length-right 7 (decimal n) in
     let field : columns 74 80 (l ++ section ∷ r) ≡ r =
-    ap (take 7) (ap (drop 73) (sym (append_assoc l (section ∷ []) r)) ∙ drop_at (l ++ section ∷ []) r 73 (omega (arith, length-append l (section ∷ []), long))) ∙ take_all 7 r (omega (arith, len)) in
+    ap (take 7) (ap (drop 73) (sym (append_assoc l (section ∷ []) r)) ∙ drop_at (l ++ section ∷ []) r 73 (omega (arith, length-append l (section ∷ []), long)))
+    ∙ take_all 7 r (omega (arith, len)) in
     record {
       long = omega (arith, length-append l (section ∷ r), long, len);
       letter_is = get-behind l section r 72 long;
@@ -107,7 +110,8 @@ numbered-AreNumbered section ls h few = numbered_are section 1 ls h (omega (arit
 
 pub numbered_columns : (section k : ℕ) (ls : List (List ℕ)) → Are72 ls → map (columns 1 72) (numbered_from section k ls) ≡ ls
 numbered_columns section k [] h = refl
-numbered_columns section k (l ∷ ls) h = ap (λ (x : List ℕ). x ∷ map (columns 1 72) (numbered_from section (k + 1) ls)) (columns-front l (section ∷ right 7 (decimal k)) h.0) ∙ ap (λ (x : List (List ℕ)). l ∷ x) (numbered_columns section (k + 1) ls h.1)
+numbered_columns section k (l ∷ ls) h = ap (λ (x : List ℕ). x ∷ map (columns 1 72) (numbered_from section (k + 1) ls))
+    (columns-front l (section ∷ right 7 (decimal k)) h.0) ∙ ap (λ (x : List (List ℕ)). l ∷ x) (numbered_columns section (k + 1) ls h.1)
 
 pub columns-numbered : (section : ℕ) (ls : List (List ℕ)) → Are72 ls → map (columns 1 72) (numbered section ls) ≡ ls
 columns-numbered section ls h = numbered_columns section 1 ls h
@@ -147,7 +151,8 @@ pub record IsLine (l : List ℕ) : Type 0 where
 
 strip-line : (l : List ℕ) → IsLine l → strip_carriage_return l ≡ l
 strip-line l h =
-    let at : slice_index l (length l - 1) ≡ h.last = ap (λ (x : List ℕ). slice_index x (length l - 1)) h.parts ∙ get-behind h.front h.last [] (length l - 1) (omega (arith, ap length h.parts, length-append h.front (h.last ∷ []))) in
+    let at : slice_index l (length l - 1) ≡ h.last = ap (λ (x : List ℕ). slice_index x (length l - 1)) h.parts ∙ get-behind h.front h.last [] (length l - 1)
+    (omega (arith, ap length h.parts, length-append h.front (h.last ∷ []))) in
     cond-false (slice_index l (length l - 1) == 13) _ _ (ap (λ (b : ℕ). b == 13) at ∙ h.no_CR)
 
 pub lines-text : (ls : List (List ℕ)) → AllByRecursion IsLine ls → lines (flat_map (λ (l : List ℕ). l ++ 10 ∷ []) ls) ≡ ls

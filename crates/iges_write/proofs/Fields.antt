@@ -1,5 +1,6 @@
 -- The fields of the terminate line and of the directory's lines.
-use Rattle.std.proofs.Common.{◌≡◌, inl, inr, ℕ, zero, suc, ◌+◌, ◌*◌, ◌<◌, true, false, List, [], ◌∷◌, ◌++◌, length, take, drop, get_or, ℤ, pos, Some, refl, sym, ap, subst, ◌∙◌, append_assoc, arith, length-append, lit<}
+use Rattle.std.proofs.Common.{◌≡◌, inl, inr, ℕ, zero, suc, ◌+◌, ◌*◌, ◌<◌, true, false, List, [], ◌∷◌, ◌++◌, length, take, drop, get_or, ℤ, pos, Some, refl, sym}
+use Rattle.std.proofs.Common.{ap, subst, ◌∙◌, append_assoc, arith, length-append, lit<}
 use Rattle.std.specs.Prelude.{◌==◌}
 use Rattle.std.specs.Char.{is_ascii_digit}
 use Rattle.std.specs.Fmt.{decimal, signed_decimal}
@@ -61,7 +62,18 @@ length-counts_columns s g d p =
     let b = count_field 71 g in
     let c = count_field 68 d in
     let e = count_field 80 p in
-    omega (arith, length-count 83 s, length-count 71 g, length-count 68 d, length-count 80 p, length-append (a ++ b ++ c ++ e) (spaces 40), length-append (a ++ b ++ c) e, length-append (a ++ b) c, length-append a b)
+    omega (
+      arith,
+      length-count 83 s,
+      length-count 71 g,
+      length-count 68 d,
+      length-count 80 p,
+      length-append (a ++ b ++ c ++ e) (spaces 40),
+      length-append
+          (a ++ b ++ c) e,
+      length-append (a ++ b) c,
+      length-append a b,
+    )
 
 pub terminates : (t : SectionLines) (s g d p : ℕ) → length t.start ≡ s → length t.global ≡ g → length t.directory ≡ d → length t.param ≡ p
     → s < 10000000 → g < 10000000 → d < 10000000 → p < 10000000 → IsTerminate t (counts_columns s g d p ++ 84 ∷ right 7 (decimal 1))
@@ -69,7 +81,8 @@ terminates t s g d p es eg ed ep ls lg ld lp =
     let tail = spaces 40 ++ 84 ∷ right 7 (decimal 1) in
     let cs = count_field 83 s ∷ count_field 71 g ∷ count_field 68 d ∷ count_field 80 p ∷ [] in
     let eight : Are8 cs = (length-count 83 s, (length-count 71 g, (length-count 68 d, (length-count 80 p, tt)))) in
-    let whole : counts_columns s g d p ++ 84 ∷ right 7 (decimal 1) ≡ concat cs ++ tail = ap (λ (x : List ℕ). x ++ 84 ∷ right 7 (decimal 1)) (counts_chunks s g d p) ∙ append_assoc (concat cs) (spaces 40) (84 ∷ right 7 (decimal 1)) in
+    let whole : counts_columns s g d p ++ 84 ∷ right 7 (decimal 1) ≡ concat cs ++ tail =
+    ap (λ (x : List ℕ). x ++ 84 ∷ right 7 (decimal 1)) (counts_chunks s g d p) ∙ append_assoc (concat cs) (spaces 40) (84 ∷ right 7 (decimal 1)) in
     record {
       numbered = line_numbered 84 1 (counts_columns s g d p) (length-counts_columns s g d p) (lit< tt);
       start = held 83 (length t.start) s _ es (ap (λ (x : List ℕ). take 8 (drop 0 x)) whole ∙ chunk 0 cs tail eight (lit< tt)) ls;
@@ -90,7 +103,8 @@ digits_status : (s : List ℕ) → list_all is_ascii_digit s ≡ true → status
 digits_status [] h = refl
 digits_status (b ∷ s) h =
     let p = and_parts (is_ascii_digit b) (list_all is_ascii_digit s) h in
-    ap (λ (c : ℕ). c ∷ status_of s) (cond-false (b == 32) 48 b (ne_eqb b 32 (λ is. digit_32 (subst (λ (x : ℕ). is_ascii_digit x ≡ true) is p.0)))) ∙ ap (λ (t : List ℕ). b ∷ t) (digits_status s p.1)
+    ap (λ (c : ℕ). c ∷ status_of s) (cond-false (b == 32) 48 b (ne_eqb b 32 (λ is. digit_32 (subst (λ (x : ℕ). is_ascii_digit x ≡ true) is p.0))))
+    ∙ ap (λ (t : List ℕ). b ∷ t) (digits_status s p.1)
   where
     digit_32 : is_ascii_digit 32 ≡ true → ⊥
     digit_32 e = absurd cc
@@ -100,18 +114,36 @@ small_column n lt = le-leb n 99999999 (omega (arith, lt))
 
 -- the nine fields of an entry's first line
 abbrev pub first_fields : Entry → ℕ → List (List ℕ)
-first_fields e first = column e.kind ∷ column (pos first) ∷ column e.structure ∷ column e.font ∷ column e.level ∷ column e.view ∷ column e.matrix ∷ column e.display ∷ e.status ∷ []
+first_fields e first = column e.kind ∷ column (pos first) ∷ column e.structure ∷ column e.font ∷ column e.level ∷ column e.view ∷ column e.matrix
+    ∷ column e.display ∷ e.status ∷ []
 
 abbrev pub second_fields : Entry → ℕ → List (List ℕ)
-second_fields e count = column e.kind ∷ column e.weight ∷ column e.colour ∷ column (pos count) ∷ column e.form ∷ spaces 8 ∷ spaces 8 ∷ e.label ∷ column e.subscript ∷ []
+second_fields e count = column e.kind ∷ column e.weight ∷ column e.colour ∷ column (pos count) ∷ column e.form ∷ spaces 8 ∷ spaces 8 ∷ e.label
+    ∷ column e.subscript ∷ []
 
 pub first_eight : (e : Entry) (first : ℕ) → length e.status ≡ 8 → Are8 (first_fields e first)
-first_eight e first status = (length-column e.kind, (length-column (pos first), (length-column e.structure, (length-column e.font, (length-column e.level, (length-column e.view, (length-column e.matrix, (length-column e.display, (status, tt)))))))))
+first_eight e first status = (
+  length-column e.kind,
+  (
+    length-column (pos first),
+    (
+      length-column e.structure,
+      (length-column e.font, (length-column e.level, (length-column e.view, (length-column e.matrix, (length-column e.display, (status, tt)))))),
+    ),
+  ),
+)
 
 pub second_eight : (e : Entry) (count : ℕ) → length e.label ≡ 8 → Are8 (second_fields e count)
-second_eight e count label = (length-column e.kind, (length-column e.weight, (length-column e.colour, (length-column (pos count), (length-column e.form, (refl, (refl, (label, (length-column e.subscript, tt)))))))))
+second_eight e count label = (
+  length-column e.kind,
+  (
+    length-column e.weight,
+    (length-column e.colour, (length-column (pos count), (length-column e.form, (refl, (refl, (label, (length-column e.subscript, tt))))))),
+  ),
+)
 
-module _ (e : Entry) (vs : List Value) (w : IsWritableEntry (e, vs)) (first count : ℕ) (lf : first < 10000000) (lc : count < 10000000) (tail1 tail2 : List ℕ) where
+module _ (e : Entry) (vs : List Value) (w : IsWritableEntry (e, vs)) (first count : ℕ) (lf : first < 10000000) (lc : count < 10000000)
+    (tail1 tail2 : List ℕ) where
   abbrev cs1 : List (List ℕ)
   cs1 = first_fields e first
 
@@ -172,13 +204,15 @@ small_first e first lt = elim (cases_Bool (has_no_record e)) [
   | inr t ↦ subst (λ (n : ℕ). n < 10000000) (sym (cond-false (has_no_record e) 0 first t)) lt
 ]
 
-pub entries_are : (n k first : ℕ) (es : List (Entry × List Value)) (rs : List (List (List ℕ))) → AllByRecursion IsWritableEntry es → AllZip Lined es rs → 0 < first → first + total rs ≡ n + 1 → n < 9999999
+pub entries_are : (n k first : ℕ) (es : List (Entry × List Value)) (rs : List (List (List ℕ))) → AllByRecursion IsWritableEntry es → AllZip Lined es rs
+    → 0 < first → first + total rs ≡ n + 1 → n < 9999999
     → AreEntries n (numbered_from 68 k (directory_lines first es rs)) (placed_of first es rs)
 entries_are n k first [] [] w l some is small = tt
 entries_are n k first [] (r ∷ rs) w l some is small = absurd l
 entries_are n k first (e ∷ es) [] w l some is small = absurd l
 entries_are n k first (e ∷ es) (r ∷ rs) w l some is small = (
-  entry_held e.0 e.1 w.0 (first_of e.0 first) (length r) (small_first e.0 first (omega (arith, is, small))) (omega (arith, is, small)) (68 ∷ right 7 (decimal k)) (68 ∷ right 7 (decimal (k + 1))),
+  entry_held e.0 e.1 w.0 (first_of e.0 first) (length r) (small_first e.0 first (omega (arith, is, small))) (omega (arith, is, small))
+      (68 ∷ right 7 (decimal k)) (68 ∷ right 7 (decimal (k + 1))),
   range,
   entries_are n (k + 1 + 1) (first + length r) es rs w.1 l.1 (omega arith) (omega (arith, is)) small,
 )
@@ -188,5 +222,7 @@ entries_are n k first (e ∷ es) (r ∷ rs) w l some is small = (
       | inl t ↦ or_left (int_eq e.0.kind (pos 0)) _ t
       | inr t ↦
           let f : first_of e.0 first ≡ first = cond-false (has_no_record e.0) 0 first t in
-          or_right (int_eq e.0.kind (pos 0)) _ (and_from _ _ (and_from _ _ (le-leb 1 (first_of e.0 first) (omega (arith, f))) (le-leb 1 (length r) (l.0 t))) (le-leb (first_of e.0 first + length r) (n + 1) (omega (arith, f, is))))
+          or_right (int_eq e.0.kind (pos 0)) _
+          (and_from _ _ (and_from _ _ (le-leb 1 (first_of e.0 first) (omega (arith, f))) (le-leb 1 (length r) (l.0 t)))
+          (le-leb (first_of e.0 first + length r) (n + 1) (omega (arith, f, is))))
     ]

@@ -1,5 +1,6 @@
 -- What is read from a text within the limit can be made.
-use Rattle.std.proofs.Common.{◌≡◌, ℕ, ◌+◌, ◌-◌, ◌*◌, ◌^◌, ◌<◌, ◌≤◌, Bool, true, false, List, [], ◌∷◌, ◌++◌, length, drop, map, pos, Option, Some, None, refl, sym, ap, subst, ◌∙◌, arith, length-append, lit<, lit≤}
+use Rattle.std.proofs.Common.{◌≡◌, ℕ, ◌+◌, ◌-◌, ◌*◌, ◌^◌, ◌<◌, ◌≤◌, Bool, true, false, List, [], ◌∷◌, ◌++◌, length, drop, map, pos, Option, Some, None, refl}
+use Rattle.std.proofs.Common.{sym, ap, subst, ◌∙◌, arith, length-append, lit<, lit≤}
 use Rattle.std.specs.Prelude.{◌==◌, flat_map, IsTrue, MatchBool, unsigned_abs, fold}
 use Rattle.std.specs.List.{AllByRecursion, list_all, enumerate_from}
 use Rattle.std.specs.Ordering.{int_eq}
@@ -87,7 +88,8 @@ field_long k line some le l =
 status_long : (bytes : List ℕ) → length (status_of bytes) ≡ length bytes
 status_long bytes = length-map bytes _
 
-entry_held : (first second : List ℕ) (p : Placed) (values : List Value) → IsEntry first second p → length first ≡ 80 → length second ≡ 80 → list_all is_value values ≡ true → IsHeld (p.entry, values)
+entry_held : (first second : List ℕ) (p : Placed) (values : List Value) → IsEntry first second p → length first ≡ 80 → length second ≡ 80
+    → list_all is_value values ≡ true → IsHeld (p.entry, values)
 entry_held first second p values e f s ok = record {
   status = ap length e.status ∙ (status_long (field 9 first) ∙ field_long 9 first (lit< tt) (lit≤ tt) f);
   label = ap length e.label ∙ field_long 8 second (lit< tt) (lit≤ tt) s;
@@ -99,7 +101,8 @@ lines_few params p =
     let first : ℕ = unsigned_abs p.first - 1 in
     omega (arith, length-take (first + unsigned_abs p.count - first) (drop first params), length-drop first params)
 
-record_made : (params : Lines) (d : Delims) (number : ℕ) (p : Placed) (values : List Value) → HasRecord params d number p values → InLine params → 72 * length params < 2 ^ 64
+record_made : (params : Lines) (d : Delims) (number : ℕ) (p : Placed) (values : List Value) → HasRecord params d number p values → InLine params
+    → 72 * length params < 2 ^ 64
     → (list_all is_value values ≡ true) × (IsTrue (int_eq p.entry.kind (pos 0)) → values ≡ [])
 record_made params d number p values h clean few = by_kind (int_eq p.entry.kind (pos 0)) refl h
   where
@@ -107,16 +110,20 @@ record_made params d number p values h clean few = by_kind (int_eq p.entry.kind 
     first = unsigned_abs p.first - 1
 
     in_line : is_in_line (record_text params p) ≡ true
-    in_line = text_in_line 64 (record_lines params p) (list_all-take is_in_line _ (drop (unsigned_abs p.first - 1) params) (list_all-drop is_in_line (unsigned_abs p.first - 1) params clean))
+    in_line = text_in_line 64 (record_lines params p)
+        (list_all-take is_in_line _ (drop (unsigned_abs p.first - 1) params) (list_all-drop is_in_line (unsigned_abs p.first - 1) params clean))
 
-    by_kind : (b : Bool) → int_eq p.entry.kind (pos 0) ≡ b → MatchBool b (values ≡ []) (IsRecord params d number p values) → (list_all is_value values ≡ true) × (IsTrue (int_eq p.entry.kind (pos 0)) → values ≡ [])
+    by_kind : (b : Bool) → int_eq p.entry.kind (pos 0) ≡ b → MatchBool b (values ≡ []) (IsRecord params d number p values)
+        → (list_all is_value values ≡ true) × (IsTrue (int_eq p.entry.kind (pos 0)) → values ≡ [])
     by_kind true e none = (ap (list_all is_value) none, λ t. none)
     by_kind false e r =
-        let all = free_text_values d (record_text params p) (value.Int p.entry.kind ∷ values) r.used r.text in_line (omega (arith, text_short 64 (record_lines params p) (lit≤ tt), lines_few params p, few)) in
+        let all = free_text_values d (record_text params p) (value.Int p.entry.kind ∷ values) r.used r.text in_line
+        (omega (arith, text_short 64 (record_lines params p) (lit≤ tt), lines_few params p, few)) in
         ((and_parts (is_value (value.Int p.entry.kind)) (list_all is_value values) all).1, λ t. absurd (let no : false ≡ true = sym e ∙ t in cc))
 
 module _ (n : ℕ) (params : Lines) (d : Delims) (clean : InLine params) (few : 72 * length params < 2 ^ 64) where
-  entries_made : (number : ℕ) (dl : Lines) (ps : List Placed) (es : Entries) → AreEntries n dl ps → AreRecords params d number ps es → AreWide 80 dl → InLine dl → AllByRecursion IsMadeEntry es × AllByRecursion IsHeld es
+  entries_made : (number : ℕ) (dl : Lines) (ps : List Placed) (es : Entries) → AreEntries n dl ps → AreRecords params d number ps es → AreWide 80 dl
+      → InLine dl → AllByRecursion IsMadeEntry es × AllByRecursion IsHeld es
   entries_made number [] [] [] a r long c = (tt, tt)
   entries_made number [] [] (e ∷ es) a r long c = absurd r
   entries_made number [] (p ∷ ps) es a r long c = absurd a
@@ -132,7 +139,8 @@ module _ (n : ℕ) (params : Lines) (d : Delims) (clean : InLine params) (few : 
         (subst (λ (x : Entry). IsHeld (x, e.1)) (sym r.0) (entry_held first second p e.1 a.0 long.0 long.1.0 made.0), others.1),
       )
 
-  entries_length : (number : ℕ) (dl : Lines) (ps : List Placed) (es : Entries) → AreEntries n dl ps → AreRecords params d number ps es → length dl ≡ 2 * length es
+  entries_length : (number : ℕ) (dl : Lines) (ps : List Placed) (es : Entries) → AreEntries n dl ps → AreRecords params d number ps es
+      → length dl ≡ 2 * length es
   entries_length number [] [] [] a r = refl
   entries_length number [] [] (e ∷ es) a r = absurd r
   entries_length number [] (p ∷ ps) es a r = absurd a
@@ -145,7 +153,8 @@ abbrev value_total : Entries → ℕ
 value_total [] = 0
 value_total (e ∷ es) = length e.1 + value_total es
 
-total_few : (params : Lines) (d : Delims) (number : ℕ) (ps : List Placed) (es : Entries) → AreRecords params d number ps es → value_total es ≤ 64 * all_owned number (length es) params
+total_few : (params : Lines) (d : Delims) (number : ℕ) (ps : List Placed) (es : Entries) → AreRecords params d number ps es
+    → value_total es ≤ 64 * all_owned number (length es) params
 total_few params d number [] [] r = omega arith
 total_few params d number [] (e ∷ es) r = absurd r
 total_few params d number (p ∷ ps) [] r = absurd r
@@ -170,7 +179,8 @@ can_be_made bytes f limit is =
     let both = length-append s.start s.global in
     let params_few : 72 * length s.param < 2 ^ 64 = omega (arith, within, upper) in
     let global_few : length (global_text s) < 2 ^ 64 = omega (arith, within, upper, front, both, text_short 72 s.global (lit≤ tt)) in
-    let entries = entries_made (length s.param) s.param f.global.delims clean_upper.1 params_few 1 s.directory is.placed f.entries is.directory is.records (numbered_80 68 1 s.directory kept.directory) clean_front.1 in
+    let entries = entries_made (length s.param) s.param f.global.delims clean_upper.1 params_few 1 s.directory is.placed f.entries is.directory is.records
+    (numbered_80 68 1 s.directory kept.directory) clean_front.1 in
     let long = entries_length (length s.param) s.param f.global.delims clean_upper.1 params_few 1 s.directory is.placed f.entries is.directory is.records in
     let total = total_few s.param f.global.delims 1 is.placed f.entries is.records in
     let sum : value_count f.entries ≡ 0 + value_total f.entries = sum_is_total 0 f.entries in

@@ -1,9 +1,11 @@
 -- Sheets and what is put on them.
-use Rattle.std.proofs.Common.{◌≡◌, ℕ, ◌+◌, ◌-◌, ◌<◌, ◌≤◌, Bool, true, false, List, [], ◌∷◌, ◌++◌, length, take, drop, map, replicate, refl, sym, ap, subst, ◌∙◌, append_assoc, arith, length-append, inl, inr, Result}
+use Rattle.std.proofs.Common.{◌≡◌, ℕ, ◌+◌, ◌-◌, ◌<◌, ◌≤◌, Bool, true, false, List, [], ◌∷◌, ◌++◌, length, take, drop, map, replicate, refl, sym, ap, subst, ◌∙◌}
+use Rattle.std.proofs.Common.{append_assoc, arith, length-append, inl, inr, Result}
 use Rattle.std.specs.Prelude.{nat_le, if◌then◌else◌, flat_map}
 use Rattle.std.specs.List.{enumerate_from}
 use Rattle.std.specs.Fmt.{decimal}
-use Rattle.std.proofs.lemmas.List.{append-nil, map-append, length-map, length-replicate, nil_from_length, take-append-drop, take-append-le, take-replicate, take_all, drop_all, drop-append-le}
+use Rattle.std.proofs.lemmas.List.{append-nil, map-append, length-map, length-replicate, nil_from_length, take-append-drop, take-append-le, take-replicate}
+use Rattle.std.proofs.lemmas.List.{take_all, drop_all, drop-append-le}
 use Rattle.std.proofs.lemmas.Bool.{le-leb, lt-leb}
 use Rattle.std.proofs.lemmas.Bool.Decides.{leb_tells}
 use Rattle.std.specs.Result.{IsErrAnd}
@@ -18,15 +20,19 @@ use Rattle.iges_write.specs.Filled.{padded}
 use Rattle.iges_write.specs.Filling.{fill}
 use Rattle.iges_write.specs.Parts.{single_parts, word_parts, value_parts, parts}
 use Rattle.iges_write.specs.Text.{right}
-use Rattle.iges_write.specs.Sheet.{Sheet, whole_line, ended, end_line, add, make_room, put_part, put_parts, page_lines, put_lines, with_tail, IsSheet, Fails, Steps, next_delimiter}
+use Rattle.iges_write.specs.Sheet.{Sheet, whole_line, ended, end_line, add, make_room, put_part, put_parts, page_lines, put_lines, with_tail, IsSheet, Fails}
+use Rattle.iges_write.specs.Sheet.{Steps, next_delimiter}
 use Rattle.iges_write.proofs.Columns.{right-is}
 use Rattle.iges_write.proofs.Filling.{fill-fits, fill-new}
 
-pub right_grown : (new mid old : List ℕ) (n : ℕ) (text : List ℕ) → length text ≤ n → mid ≡ old ++ spaces (n - length text) → new ≡ mid ++ text → new ≡ old ++ right n text
-right_grown new mid old n text le m e = e ∙ ap (λ (l : List ℕ). l ++ text) m ∙ append_assoc old (spaces (n - length text)) text ∙ ap (λ (l : List ℕ). old ++ l) (sym (right-is n text le))
+pub right_grown : (new mid old : List ℕ) (n : ℕ) (text : List ℕ) → length text ≤ n → mid ≡ old ++ spaces (n - length text) → new ≡ mid ++ text
+    → new ≡ old ++ right n text
+right_grown new mid old n text le m e = e ∙ ap (λ (l : List ℕ). l ++ text) m ∙ append_assoc old (spaces (n - length text)) text
+    ∙ ap (λ (l : List ℕ). old ++ l) (sym (right-is n text le))
 
 -- a text that was written over the last of so many spaces
-pub right_written : (new old text : List ℕ) (start n : ℕ) → old ≡ spaces n → start + length text ≡ n → drop start new ≡ text ++ drop n old → take start new ≡ take start old → new ≡ right n text
+pub right_written : (new old text : List ℕ) (start n : ℕ) → old ≡ spaces n → start + length text ≡ n → drop start new ≡ text ++ drop n old
+    → take start new ≡ take start old → new ≡ right n text
 right_written new old text start n blank long behind before =
     let none : drop n old ≡ [] = ap (drop n) blank ∙ drop_all n (spaces n) (omega (arith, length-replicate {A = ℕ} n 32)) in
     let front : take start old ≡ spaces start = ap (take start) blank ∙ take-replicate start n 32 (omega (arith, long)) in
@@ -38,7 +44,8 @@ right_written new old text start n blank long behind before =
     ∙ sym (right-is n text (omega (arith, long)))
 
 -- a text that was written before the last of 21 bytes, with that byte
-pub word_written : (new old digits : List ℕ) (start e : ℕ) → old ≡ replicate 21 e → start + length digits ≡ 20 → drop start new ≡ digits ++ drop 20 old → take (21 - start) (drop start new) ≡ digits ++ e ∷ []
+pub word_written : (new old digits : List ℕ) (start e : ℕ) → old ≡ replicate 21 e → start + length digits ≡ 20 → drop start new ≡ digits ++ drop 20 old
+    → take (21 - start) (drop start new) ≡ digits ++ e ∷ []
 word_written new old digits start e blank long behind =
     let whole : drop start new ≡ digits ++ e ∷ [] = behind ∙ ap (λ (x : List ℕ). digits ++ drop 20 x) blank in
     ap (take (21 - start)) whole ∙ take_all (21 - start) (digits ++ e ∷ []) (omega (arith, long, length-append digits (e ∷ [])))
@@ -85,7 +92,14 @@ pub part_grows : (s : Sheet) (p : List ℕ) → Grows s (put_part s p)
 part_grows s p = let h = room_grows s (length p) in record { tail = h.tail; letter = h.letter; width = h.width; limit = h.limit; text = h.text }
 
 pub grows_on : (s t u : Sheet) → Grows s t → Grows t u → Grows s u
-grows_on s t u a b = record { tail = b.tail ∙ a.tail; letter = b.letter ∙ a.letter; width = b.width ∙ a.width; limit = b.limit ∙ a.limit; text = omega (arith, a.text, b.text) }
+grows_on s t u a b = record {
+  tail = b.tail ∙ a.tail;
+  letter = b.letter ∙ a.letter;
+  width = b.width ∙ a.width;
+  limit = b.limit ∙ a.limit;
+  text =
+      omega (arith, a.text, b.text);
+}
 
 pub parts_grow : (s : Sheet) (ps : List (List ℕ)) → Grows s (put_parts s ps)
 unfolding put_parts
@@ -120,7 +134,8 @@ pub fails_on : (f : WriteFileFault) (s t : Sheet) → Grows s t → Fails f s �
 fails_on fault.TooLarge s t g h = still_large s t g h
 fails_on fault.NoMemory s t g h = tt
 
-pub failed : {B : Type 0} (o : Result B WriteFileFault) (new mid next : Sheet) (f : WriteFileFault) → Grows mid next → Fails f mid → IsErrAnd o (λ y. y ≡ f) → Steps o new next
+pub failed : {B : Type 0} (o : Result B WriteFileFault) (new mid next : Sheet) (f : WriteFileFault) → Grows mid next → Fails f mid → IsErrAnd o (λ y. y ≡ f)
+    → Steps o new next
 failed {B} o new mid next f g h e =
     let p = err_from_is_err_and o e in
     subst (λ (x : Result B WriteFileFault). Steps x new next) (sym p.1) (fails_on p.0 mid next g (subst (λ (x : WriteFileFault). Fails x mid) (sym p.2) h))
@@ -137,7 +152,9 @@ pub filled : (s : Sheet) (ps : List (List ℕ)) → end_line (put_parts s ps) �
   limit = s.limit;
 }
 unfolding put_parts page_lines
-filled s [] = ap (λ (x : List ℕ). record { text = s.text ++ x; line = []; tail = s.tail; letter = s.letter; number = s.number + 1; width = s.width; limit = s.limit }) (sym (append-nil (ended s)))
+filled s [] = ap (λ (x : List ℕ).
+    record { text = s.text ++ x; line = []; tail = s.tail; letter = s.letter; number = s.number + 1; width = s.width; limit = s.limit })
+    (sym (append-nil (ended s)))
 filled s (p ∷ ps) =
     elim (leb_tells (length s.line + length p) s.width) [
       | inl t ↦ ap (λ (x : Sheet). end_line (put_parts (add x p) ps)) (room_fits s (length p) t.1)
@@ -194,7 +211,8 @@ short_word n word e h = ap (λ (b : Bool). if b then (word ++ e ∷ []) ∷ [] e
 -- a word that a line holds is a part
 pub word_is_part : (s : Sheet) (word : List ℕ) → length word ≤ s.width → put_part s word ≡ put_parts s (word_parts s.width word)
 word_is_part s word h =
-    sym (ap (put_parts s) (ap (λ (b : Bool). if b then word ∷ [] else take s.width word ∷ single_parts (drop s.width word)) (le-leb (length word) s.width h)) ∙ one_part s word)
+    sym (ap (put_parts s) (ap (λ (b : Bool). if b then word ∷ [] else take s.width word ∷ single_parts (drop s.width word)) (le-leb (length word) s.width h))
+    ∙ one_part s word)
 
 pub long_word : (n : ℕ) (word : List ℕ) (e : ℕ) → n ≤ length word → word_parts n (word ++ e ∷ []) ≡ (take n word ∷ single_parts (drop n word)) ++ (e ∷ []) ∷ []
 long_word n word e h =
@@ -204,7 +222,8 @@ long_word n word e h =
     ∙ ap (λ (x : List ℕ). take n word ∷ single_parts x) (drop-append-le n word (e ∷ []) h)
     ∙ ap (λ (x : List (List ℕ)). take n word ∷ x) (singles_behind (drop n word) (e ∷ []))
 
-pub short_is : (s : Sheet) (word : List ℕ) (e : ℕ) → length word < s.width → put_parts s (word_parts s.width (word ++ e ∷ [])) ≡ add (add (make_room s (length word + 1)) word) (e ∷ [])
+pub short_is : (s : Sheet) (word : List ℕ) (e : ℕ) → length word < s.width → put_parts s (word_parts s.width (word ++ e ∷ []))
+    ≡ add (add (make_room s (length word + 1)) word) (e ∷ [])
 short_is s word e h =
     let size : length (word ++ e ∷ []) ≡ length word + 1 = length-append word (e ∷ []) in
     ap (put_parts s) (short_word s.width word e h) ∙ one_part s (word ++ e ∷ [])
@@ -212,7 +231,9 @@ short_is s word e h =
     ∙ added (make_room s (length word + 1)) word (e ∷ [])
   where
     added : (t : Sheet) (a b : List ℕ) → add t (a ++ b) ≡ add (add t a) b
-    added t a b = ap (λ (l : List ℕ). record { text = t.text; line = l; tail = t.tail; letter = t.letter; number = t.number; width = t.width; limit = t.limit }) (sym (append_assoc t.line a b))
+    added t a b = ap (λ (l : List ℕ).
+        record { text = t.text; line = l; tail = t.tail; letter = t.letter; number = t.number; width = t.width; limit = t.limit })
+        (sym (append_assoc t.line a b))
 
 pub long_is : (s : Sheet) (word : List ℕ) (e : ℕ) → s.width ≤ length word
     → put_parts s (word_parts s.width (word ++ e ∷ [])) ≡ put_part (put_parts (put_part s (take s.width word)) (single_parts (drop s.width word))) (e ∷ [])
@@ -222,7 +243,8 @@ long_is s word e h =
     ∙ ap (λ (t : Sheet). put_parts t ((e ∷ []) ∷ [])) (first_part s (take s.width word) (single_parts (drop s.width word)))
     ∙ one_part (put_parts (put_part s (take s.width word)) (single_parts (drop s.width word))) (e ∷ [])
 
-pub text_is : (s : Sheet) (ps : List (List ℕ)) (text : List ℕ) (e : ℕ) → put_parts s (ps ++ single_parts (text ++ e ∷ [])) ≡ put_part (put_parts (put_parts s ps) (single_parts text)) (e ∷ [])
+pub text_is : (s : Sheet) (ps : List (List ℕ)) (text : List ℕ) (e : ℕ) → put_parts s (ps ++ single_parts (text ++ e ∷ []))
+    ≡ put_part (put_parts (put_parts s ps) (single_parts text)) (e ∷ [])
 text_is s ps text e =
     parts_behind s ps (single_parts (text ++ e ∷ []))
     ∙ ap (put_parts (put_parts s ps)) (singles_behind text (e ∷ []))
@@ -253,10 +275,12 @@ module _ (s : Sheet) (word : List ℕ) (e : ℕ) (h : length word < s.width) whe
   pub short_room : Grows (make_room s (length word + 1)) (put_parts s (word_parts s.width (word ++ e ∷ [])))
   short_room =
       let room = make_room s (length word + 1) in
-      grows_at _ (add (add room word) (e ∷ [])) (short_is s word e h) room (grows_on room (add room word) (add (add room word) (e ∷ [])) (add_grows room word) (add_grows (add room word) (e ∷ [])))
+      grows_at _ (add (add room word) (e ∷ [])) (short_is s word e h) room
+      (grows_on room (add room word) (add (add room word) (e ∷ [])) (add_grows room word) (add_grows (add room word) (e ∷ [])))
 
   pub short_added : (t : Sheet) → t ≡ make_room s (length word + 1) → Grows (add t word) (put_parts s (word_parts s.width (word ++ e ∷ [])))
-  short_added t is = grows_at _ (add (add t word) (e ∷ [])) (short_is s word e h ∙ ap (λ (x : Sheet). add (add x word) (e ∷ [])) (sym is)) (add t word) (add_grows (add t word) (e ∷ []))
+  short_added t is = grows_at _ (add (add t word) (e ∷ [])) (short_is s word e h ∙ ap (λ (x : Sheet). add (add x word) (e ∷ [])) (sym is)) (add t word)
+      (add_grows (add t word) (e ∷ []))
 
   pub short_done : (t u : Sheet) → t ≡ make_room s (length word + 1) → u ≡ add t word → add u (e ∷ []) ≡ put_parts s (word_parts s.width (word ++ e ∷ []))
   short_done t u is next = ap (λ (x : Sheet). add x (e ∷ [])) (next ∙ ap (λ (x : Sheet). add x word) is) ∙ sym (short_is s word e h)
@@ -275,30 +299,37 @@ module _ (s : Sheet) (word front behind : List ℕ) (e : ℕ) (h : s.width ≤ l
   pub long_behind : (t : Sheet) → t ≡ put_part s front → Grows (put_parts t (single_parts behind)) (put_parts s (word_parts s.width (word ++ e ∷ [])))
   long_behind t is =
       let u = put_parts t (single_parts behind) in
-      grows_at _ (put_part u (e ∷ [])) (long_parts ∙ ap (λ (x : Sheet). put_part (put_parts x (single_parts behind)) (e ∷ [])) (sym is)) u (part_grows u (e ∷ []))
+      grows_at _ (put_part u (e ∷ [])) (long_parts ∙ ap (λ (x : Sheet). put_part (put_parts x (single_parts behind)) (e ∷ [])) (sym is)) u
+      (part_grows u (e ∷ []))
 
-  pub long_done : (t u : Sheet) → t ≡ put_part s front → u ≡ put_parts t (single_parts behind) → put_part u (e ∷ []) ≡ put_parts s (word_parts s.width (word ++ e ∷ []))
+  pub long_done : (t u : Sheet) → t ≡ put_part s front → u ≡ put_parts t (single_parts behind)
+      → put_part u (e ∷ []) ≡ put_parts s (word_parts s.width (word ++ e ∷ []))
   long_done t u is next = ap (λ (x : Sheet). put_part x (e ∷ [])) (next ∙ ap (λ (x : Sheet). put_parts x (single_parts behind)) is) ∙ sym long_parts
 
 -- some parts, and then the bytes of a text and what stands behind it
 module _ (s : Sheet) (ps qs : List (List ℕ)) (text : List ℕ) (e : ℕ) (same : qs ≡ ps) where
   pub text_front : Grows (put_parts s qs) (put_parts s (ps ++ single_parts (text ++ e ∷ [])))
   text_front = subst (λ (x : List (List ℕ)). Grows (put_parts s x) (put_parts s (ps ++ single_parts (text ++ e ∷ [])))) (sym same)
-      (grows_at _ (put_parts (put_parts s ps) (single_parts (text ++ e ∷ []))) (parts_behind s ps (single_parts (text ++ e ∷ []))) (put_parts s ps) (parts_grow (put_parts s ps) (single_parts (text ++ e ∷ []))))
+      (grows_at _ (put_parts (put_parts s ps) (single_parts (text ++ e ∷ []))) (parts_behind s ps (single_parts (text ++ e ∷ []))) (put_parts s ps)
+      (parts_grow (put_parts s ps) (single_parts (text ++ e ∷ []))))
 
   pub text_behind : (t : Sheet) → t ≡ put_parts s qs → Grows (put_parts t (single_parts text)) (put_parts s (ps ++ single_parts (text ++ e ∷ [])))
   text_behind t is =
       let u = put_parts t (single_parts text) in
       grows_at _ (put_part u (e ∷ []))
-      (text_is s ps text e ∙ ap (λ (x : Sheet). put_part (put_parts x (single_parts text)) (e ∷ [])) (ap (put_parts s) (sym same) ∙ sym is)) u (part_grows u (e ∷ []))
+      (text_is s ps text e ∙ ap (λ (x : Sheet). put_part (put_parts x (single_parts text)) (e ∷ [])) (ap (put_parts s) (sym same) ∙ sym is)) u
+      (part_grows u (e ∷ []))
 
-  pub text_done : (t u : Sheet) → t ≡ put_parts s qs → u ≡ put_parts t (single_parts text) → put_part u (e ∷ []) ≡ put_parts s (ps ++ single_parts (text ++ e ∷ []))
-  text_done t u is next = ap (λ (x : Sheet). put_part x (e ∷ [])) (next ∙ ap (λ (x : Sheet). put_parts x (single_parts text)) (is ∙ ap (put_parts s) same)) ∙ sym (text_is s ps text e)
+  pub text_done : (t u : Sheet) → t ≡ put_parts s qs → u ≡ put_parts t (single_parts text)
+      → put_part u (e ∷ []) ≡ put_parts s (ps ++ single_parts (text ++ e ∷ []))
+  text_done t u is next = ap (λ (x : Sheet). put_part x (e ∷ [])) (next ∙ ap (λ (x : Sheet). put_parts x (single_parts text)) (is ∙ ap (put_parts s) same))
+      ∙ sym (text_is s ps text e)
 
 -- a loop over bytes
 module _ (s t : Sheet) (rest others : List ℕ) (b : ℕ) (e : rest ≡ b ∷ others) (h : put_parts s (single_parts rest) ≡ t) where
   pub single_fails : Grows (put_part s (b ∷ [])) t
-  single_fails = subst (λ (x : Sheet). Grows x t) (one_part s (b ∷ [])) (left_fails s t ((b ∷ []) ∷ []) (single_parts others) (single_parts rest) (ap single_parts e) h)
+  single_fails = subst (λ (x : Sheet). Grows x t) (one_part s (b ∷ []))
+      (left_fails s t ((b ∷ []) ∷ []) (single_parts others) (single_parts rest) (ap single_parts e) h)
 
   pub single_next : (new : Sheet) → new ≡ put_part s (b ∷ []) → put_parts new (single_parts others) ≡ t
   single_next new is = left_next s new t ((b ∷ []) ∷ []) (single_parts others) (single_parts rest) (ap single_parts e) (is ∙ sym (one_part s (b ∷ []))) h
@@ -310,7 +341,8 @@ single_last s t rest e h = left_none s t (single_parts rest) (ap single_parts (n
 module _ (s t : Sheet) (n : ℕ) (d : Delims) (rest others : List Value) (v : Value) (e : rest ≡ v ∷ others) (h : put_parts s (parts n d rest) ≡ t)
     (width : s.width ≡ n) (end : ℕ) (is_end : end ≡ next_delimiter d others) where
   value_first : parts n d rest ≡ value_parts s.width v end ++ parts n d others
-  value_first = ap (parts n d) e ∙ next_parts n d v others ∙ ap (λ (x : ℕ). value_parts n v x ++ parts n d others) (sym is_end) ∙ ap (λ (x : ℕ). value_parts x v end ++ parts n d others) (sym width)
+  value_first = ap (parts n d) e ∙ next_parts n d v others ∙ ap (λ (x : ℕ). value_parts n v x ++ parts n d others) (sym is_end)
+      ∙ ap (λ (x : ℕ). value_parts x v end ++ parts n d others) (sym width)
 
   pub value_fails : Grows (put_parts s (value_parts s.width v end)) t
   value_fails = left_fails s t (value_parts s.width v end) (parts n d others) (parts n d rest) value_first h
@@ -335,7 +367,16 @@ padded_full n l e = ap (λ (k : ℕ). l ++ spaces k) (let h : n - length l ≡ 0
 pub full_line : (s : Sheet) (l : List ℕ) → s.line ≡ [] → length l ≡ s.width → end_line (add s l) ≡ put_lines s (l ∷ [])
 unfolding page_lines
 full_line s l empty long =
-    ap (λ (x : List ℕ). record { text = s.text ++ whole_line s.tail s.letter s.number x; line = []; tail = s.tail; letter = s.letter; number = s.number + 1; width = s.width; limit = s.limit })
+    ap (λ (x : List ℕ). record {
+      text = s.text ++ whole_line s.tail s.letter s.number x;
+      line = [];
+      tail = s.tail;
+      letter = s.letter;
+      number =
+          s.number + 1;
+      width = s.width;
+      limit = s.limit;
+    })
     (ap (λ (x : List ℕ). padded s.width (x ++ l)) empty ∙ padded_full s.width l long)
     ∙ ap (λ (x : List ℕ). record { text = s.text ++ x; line = []; tail = s.tail; letter = s.letter; number = s.number + 1; width = s.width; limit = s.limit })
     (sym (append-nil (whole_line s.tail s.letter s.number l)))
@@ -386,19 +427,49 @@ tailed : (tail : List ℕ) (letter k : ℕ) (ls : List (List ℕ)) → page_line
 unfolding page_lines whole_line
 tailed tail letter k [] = refl
 tailed tail letter k (l ∷ ls) =
-    ap (λ (x : List ℕ). x ++ page_lines tail letter (k + 1) ls) (ap (λ (y : List ℕ). (y ++ letter ∷ right 7 (decimal k)) ++ 10 ∷ []) (sym (append-nil (l ++ tail))))
+    ap (λ (x : List ℕ). x ++ page_lines tail letter (k + 1) ls)
+    (ap (λ (y : List ℕ). (y ++ letter ∷ right 7 (decimal k)) ++ 10 ∷ []) (sym (append-nil (l ++ tail))))
     ∙ ap (λ (x : List ℕ). ((((l ++ tail) ++ []) ++ letter ∷ right 7 (decimal k)) ++ 10 ∷ []) ++ x) (tailed tail letter (k + 1) ls)
 
-record_is : (s : Sheet) (tail : List ℕ) (ls : List (List ℕ)) → s.tail ≡ [] → with_tail (put_lines (with_tail s tail) ls) [] ≡ put_lines s (map (λ l. l ++ tail) ls)
+record_is : (s : Sheet) (tail : List ℕ) (ls : List (List ℕ)) → s.tail ≡ [] → with_tail (put_lines (with_tail s tail) ls) []
+    ≡ put_lines s (map (λ l. l ++ tail) ls)
 record_is s tail ls none =
     let text : page_lines tail s.letter s.number ls ≡ page_lines s.tail s.letter s.number (map (λ l. l ++ tail) ls) =
     tailed tail s.letter s.number ls ∙ ap (λ (x : List ℕ). page_lines x s.letter s.number (map (λ l. l ++ tail) ls)) (sym none) in
     let size : length ls ≡ length (map (λ l. l ++ tail) ls) = sym (length-map ls (λ (l : List ℕ). l ++ tail)) in
-    ap (λ (x : List ℕ). record { text = s.text ++ x; line = []; tail = []; letter = s.letter; number = s.number + length ls; width = s.width; limit = s.limit }) text
-    ∙ ap (λ (k : ℕ). record { text = s.text ++ page_lines s.tail s.letter s.number (map (λ l. l ++ tail) ls); line = []; tail = []; letter = s.letter; number = s.number + k; width = s.width; limit = s.limit }) size
-    ∙ ap (λ (x : List ℕ). record { text = s.text ++ page_lines s.tail s.letter s.number (map (λ l. l ++ tail) ls); line = []; tail = x; letter = s.letter; number = s.number + length (map (λ l. l ++ tail) ls); width = s.width; limit = s.limit }) (sym none)
+    ap (λ (x : List ℕ). record {
+      text = s.text ++ x;
+      line = [];
+      tail = [];
+      letter = s.letter;
+      number = s.number + length ls;
+      width = s.width;
+      limit =
+          s.limit;
+    }) text
+    ∙ ap (λ (k : ℕ). record {
+      text = s.text ++ page_lines s.tail s.letter s.number (map (λ l. l ++ tail) ls);
+      line = [];
+      tail = [];
+      letter = s.letter;
+      number =
+          s.number + k;
+      width = s.width;
+      limit = s.limit;
+    }) size
+    ∙ ap (λ (x : List ℕ). record {
+      text = s.text ++ page_lines s.tail s.letter s.number (map (λ l. l ++ tail) ls);
+      line = [];
+      tail = x;
+      letter =
+          s.letter;
+      number = s.number + length (map (λ l. l ++ tail) ls);
+      width = s.width;
+      limit = s.limit;
+    }) (sym none)
 
-pub record_done : (s t u : Sheet) (tail : List ℕ) (ls : List (List ℕ)) → s.line ≡ [] → s.tail ≡ [] → t ≡ with_tail s tail → u ≡ put_lines t ls → with_tail u [] ≡ put_lines s (map (λ l. l ++ tail) ls)
+pub record_done : (s t u : Sheet) (tail : List ℕ) (ls : List (List ℕ)) → s.line ≡ [] → s.tail ≡ [] → t ≡ with_tail s tail → u ≡ put_lines t ls
+    → with_tail u [] ≡ put_lines s (map (λ l. l ++ tail) ls)
 record_done s t u tail ls empty none is next =
     ap (λ (x : Sheet). with_tail x []) (next ∙ ap (λ (x : Sheet). put_lines x ls) is)
     ∙ record_is s tail ls none
@@ -424,7 +495,8 @@ two_both s t ps qs rs us first is same = two_done s t ps qs us (is ∙ ap (put_p
 
 -- ---- lines one after the other
 
-pub page_behind : (tail : List ℕ) (letter k : ℕ) (ls ms : List (List ℕ)) → page_lines tail letter k (ls ++ ms) ≡ page_lines tail letter k ls ++ page_lines tail letter (k + length ls) ms
+pub page_behind : (tail : List ℕ) (letter k : ℕ) (ls ms : List (List ℕ)) → page_lines tail letter k (ls ++ ms) ≡ page_lines tail letter k ls
+    ++ page_lines tail letter (k + length ls) ms
 unfolding page_lines
 page_behind tail letter k [] ms = ap (λ (n : ℕ). page_lines tail letter n ms) (omega arith)
 page_behind tail letter k (l ∷ ls) ms =
@@ -434,15 +506,41 @@ page_behind tail letter k (l ∷ ls) ms =
 
 pub lines_behind : (s : Sheet) (ls ms : List (List ℕ)) → put_lines (put_lines s ls) ms ≡ put_lines s (ls ++ ms)
 lines_behind s ls ms =
-    let text : (s.text ++ page_lines s.tail s.letter s.number ls) ++ page_lines s.tail s.letter (s.number + length ls) ms ≡ s.text ++ page_lines s.tail s.letter s.number (ls ++ ms) =
+    let text : (s.text ++ page_lines s.tail s.letter s.number ls) ++ page_lines s.tail s.letter (s.number + length ls) ms ≡ s.text
+    ++ page_lines s.tail s.letter s.number (ls ++ ms) =
     append_assoc s.text (page_lines s.tail s.letter s.number ls) (page_lines s.tail s.letter (s.number + length ls) ms)
     ∙ ap (λ (x : List ℕ). s.text ++ x) (sym (page_behind s.tail s.letter s.number ls ms)) in
     let size : s.number + length ls + length ms ≡ s.number + length (ls ++ ms) = omega (arith, length-append ls ms) in
-    ap (λ (x : List ℕ). record { text = x; line = []; tail = s.tail; letter = s.letter; number = s.number + length ls + length ms; width = s.width; limit = s.limit }) text
-    ∙ ap (λ (k : ℕ). record { text = s.text ++ page_lines s.tail s.letter s.number (ls ++ ms); line = []; tail = s.tail; letter = s.letter; number = k; width = s.width; limit = s.limit }) size
+    ap (λ (x : List ℕ). record {
+      text = x;
+      line = [];
+      tail = s.tail;
+      letter = s.letter;
+      number = s.number + length ls + length ms;
+      width = s.width;
+      limit =
+          s.limit;
+    }) text
+    ∙ ap (λ (k : ℕ). record {
+      text = s.text ++ page_lines s.tail s.letter s.number (ls ++ ms);
+      line = [];
+      tail = s.tail;
+      letter = s.letter;
+      number = k;
+      width =
+          s.width;
+      limit = s.limit;
+    }) size
 
 pub lines_grow : (s : Sheet) (ls : List (List ℕ)) → Grows s (put_lines s ls)
-lines_grow s ls = record { tail = refl; letter = refl; width = refl; limit = refl; text = omega (arith, length-append s.text (page_lines s.tail s.letter s.number ls)) }
+lines_grow s ls = record {
+  tail = refl;
+  letter = refl;
+  width = refl;
+  limit = refl;
+  text =
+      omega (arith, length-append s.text (page_lines s.tail s.letter s.number ls));
+}
 
 -- a loop over lines
 module _ (s t : Sheet) (ls ms all : List (List ℕ)) (e : all ≡ ls ++ ms) (h : put_lines s all ≡ t) where
@@ -456,13 +554,16 @@ module _ (s t : Sheet) (ls ms all : List (List ℕ)) (e : all ≡ ls ++ ms) (h :
 pub lines_last : (s t : Sheet) → s.line ≡ [] → put_lines s [] ≡ t → s ≡ t
 unfolding page_lines
 lines_last s t empty h =
-    ap (λ (x : List ℕ). record { text = x; line = s.line; tail = s.tail; letter = s.letter; number = s.number; width = s.width; limit = s.limit }) (sym (append-nil s.text))
+    ap (λ (x : List ℕ). record { text = x; line = s.line; tail = s.tail; letter = s.letter; number = s.number; width = s.width; limit = s.limit })
+    (sym (append-nil s.text))
     ∙ ap (λ (x : List ℕ). record { text = s.text ++ []; line = x; tail = s.tail; letter = s.letter; number = s.number; width = s.width; limit = s.limit }) empty
-    ∙ ap (λ (k : ℕ). record { text = s.text ++ []; line = []; tail = s.tail; letter = s.letter; number = k; width = s.width; limit = s.limit }) (let z : s.number ≡ s.number + 0 = omega arith in z)
+    ∙ ap (λ (k : ℕ). record { text = s.text ++ []; line = []; tail = s.tail; letter = s.letter; number = k; width = s.width; limit = s.limit })
+    (let z : s.number ≡ s.number + 0 = omega arith in z)
     ∙ h
 
 -- the lines of a page are those of a file's text
-pub page_is : (letter k : ℕ) (ls : List (List ℕ)) → page_lines [] letter k ls ≡ flat_map (λ l. l ++ 10 ∷ []) (map (λ (l : ℕ × List ℕ). l.1 ++ letter ∷ right 7 (decimal l.0)) (enumerate_from k ls))
+pub page_is : (letter k : ℕ) (ls : List (List ℕ))
+    → page_lines [] letter k ls ≡ flat_map (λ l. l ++ 10 ∷ []) (map (λ (l : ℕ × List ℕ). l.1 ++ letter ∷ right 7 (decimal l.0)) (enumerate_from k ls))
 unfolding page_lines whole_line
 page_is letter k [] = refl
 page_is letter k (l ∷ ls) =

@@ -54,4 +54,5 @@ pub Spells-spelling : (v : Value) → is_value v ≡ true → Spells v (spelling
 Spells-spelling value.Default ok = refl
 Spells-spelling (value.Int n) ok = (integer-signed_decimal n ok, ok)
 Spells-spelling (value.Real word) ok = (ok, refl)
-Spells-spelling (value.Text text) ok = let d = decimal_digits (length text) (ltb-true _ _ (and_parts (is_in_line text) (nat_lt (length text) (2 ^ 64)) ok).1) in (decimal (length text), d.0, d.1, refl)
+Spells-spelling (value.Text text) ok = let d = decimal_digits (length text) (ltb-true _ _ (and_parts (is_in_line text) (nat_lt (length text) (2 ^ 64)) ok).1)
+    in (decimal (length text), d.0, d.1, refl)

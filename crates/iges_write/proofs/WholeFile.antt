@@ -51,7 +51,12 @@ module _ (limit : ℕ) (f : Contents) where
   records_short = omega (arith, ap length text_is, length-append records.text (page_lines [] 84 1 last))
 
   front_short : length front.text ≤ length records.text
-  front_short = omega (arith, length-append (with_directory front f).text (params_sheet front.limit f).text, length-append front.text (page_lines [] 68 1 directory))
+  front_short = omega (
+    arith,
+    length-append (with_directory front f).text (params_sheet front.limit f).text,
+    length-append front.text
+        (page_lines [] 68 1 directory),
+  )
 
   pub front_fails : (fault : WriteFileFault) (start : Sheet) → start ≡ blank limit 83 72 → Fails fault (with_front start f) → Fails fault (file_sheet limit f)
   front_fails fault start is h =
@@ -65,7 +70,8 @@ module _ (limit : ℕ) (f : Contents) where
     records_fail fault h = fails_further fault records (file_sheet limit f) refl records_short (subst (λ (x : Sheet). Fails fault (with_records x f)) both_is h)
 
     pub file_done : (t u : Sheet) (counts : Counts) → t ≡ with_records s f → u ≡ params_sheet s.limit f
-        → counts.start ≡ length f.start → counts.global ≡ s.number - 1 → counts.directory ≡ t.number - 1 → counts.params ≡ u.number - 1 → with_counts t counts ≡ file_sheet limit f
+        → counts.start ≡ length f.start → counts.global ≡ s.number - 1 → counts.directory ≡ t.number - 1 → counts.params ≡ u.number - 1
+        → with_counts t counts ≡ file_sheet limit f
     file_done t u counts t_is u_is start_count global_count directory_count params_count =
         let t_whole : t ≡ records = t_is ∙ ap (λ (x : Sheet). with_records x f) both_is in
         let u_whole : u ≡ params_sheet limit f = u_is ∙ ap (λ (x : Sheet). params_sheet x.limit f) both_is in
@@ -73,7 +79,8 @@ module _ (limit : ℕ) (f : Contents) where
         let d : counts.directory ≡ length directory = omega (arith, directory_count, ap (λ (x : Sheet). x.number) t_whole) in
         let p : counts.params ≡ length params = omega (arith, params_count, ap (λ (x : Sheet). x.number) u_whole) in
         let put : with_counts t counts ≡ with_counts records counts = ap (λ (x : Sheet). with_counts x counts) t_whole in
-        let counted : finished (records.text ++ page_lines [] 84 1 (counts_columns counts.start counts.global counts.directory counts.params ∷ [])) ≡ finished (records.text ++ page_lines [] 84 1 last) =
+        let counted : finished (records.text ++ page_lines [] 84 1 (counts_columns counts.start counts.global counts.directory counts.params ∷ []))
+        ≡ finished (records.text ++ page_lines [] 84 1 last) =
         ap (λ (columns : List ℕ). finished (records.text ++ page_lines [] 84 1 (columns ∷ [])))
         (same_columns counts.start counts.global counts.directory counts.params _ _ _ _ start_count g d p) in
         put ∙ counted ∙ ap finished text_is

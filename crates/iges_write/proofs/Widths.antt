@@ -30,13 +30,29 @@ pub size-append : (xs ys : Lines) → size (xs ++ ys) ≡ size xs + size ys
 size-append [] ys = omega arith
 size-append (x ∷ xs) ys =
     let ended = x ++ 10 ∷ [] in
-    omega (arith, size-append xs ys, length-append ended (flat_map (λ (l : List ℕ). l ++ 10 ∷ []) (xs ++ ys)), length-append ended (flat_map (λ (l : List ℕ). l ++ 10 ∷ []) xs))
+    omega (
+      arith,
+      size-append xs ys,
+      length-append ended (flat_map (λ (l : List ℕ). l ++ 10 ∷ []) (xs ++ ys)),
+      length-append ended
+          (flat_map (λ (l : List ℕ). l ++ 10 ∷ []) xs),
+    )
 
 pub size-numbered : (section k : ℕ) (ls : Lines) → Are72 ls → size (numbered_from section k ls) ≡ 81 * length ls
 size-numbered section k [] h = refl
 size-numbered section k (l ∷ ls) h =
     let line = l ++ section ∷ right 7 (decimal k) in
-    omega (arith, size-numbered section (k + 1) ls h.1, length-append (line ++ 10 ∷ []) (flat_map (λ (x : List ℕ). x ++ 10 ∷ []) (numbered_from section (k + 1) ls)), length-append line (10 ∷ []), length-append l (section ∷ right 7 (decimal k)), length-right 7 (decimal k), h.0)
+    omega (
+      arith,
+      size-numbered section (k + 1) ls h.1,
+      length-append (line ++ 10 ∷ [])
+          (flat_map (λ (x : List ℕ). x ++ 10 ∷ []) (numbered_from section (k + 1) ls)),
+      length-append line (10 ∷ []),
+      length-append l
+          (section ∷ right 7 (decimal k)),
+      length-right 7 (decimal k),
+      h.0,
+    )
 
 -- ---- the directory
 
@@ -45,7 +61,8 @@ length-concat8 [] h = refl
 length-concat8 (c ∷ cs) h = omega (arith, length-concat8 cs h.1, length-append c (concat cs), h.0)
 
 pub entry_72 : (e : Entry) (first count : ℕ) → length e.status ≡ 8 → length e.label ≡ 8 → Are72 (entry_lines e first count)
-entry_72 e first count status label = (length-concat8 (first_fields e first) (first_eight e first status), (length-concat8 (second_fields e count) (second_eight e count label), tt))
+entry_72 e first count status label =
+    (length-concat8 (first_fields e first) (first_eight e first status), (length-concat8 (second_fields e count) (second_eight e count label), tt))
 
 pub directory_72 : (first : ℕ) (es : List (Entry × List Value)) (rs : List Lines) → AllByRecursion IsHeld es → Are72 (directory_lines first es rs)
 directory_72 first [] rs held = tt
@@ -60,8 +77,10 @@ pub record_64 : (d : Delims) (e : Entry × List Value) (r : Lines) → IsRecordT
 record_64 d e r t = by_type (has_no_record e.0) refl
   where
     by_type : (b : Bool) → has_no_record e.0 ≡ b → AreWide 64 r
-    by_type true h = let none : r ≡ [] = subst (λ (b : Bool). MatchBool b (r ≡ []) (IsFilled 64 (parts 64 d (value.Int e.0.kind ∷ e.1)) r)) h t in subst (AreWide 64) (sym none) tt
-    by_type false h = filled_wide 64 (parts 64 d (value.Int e.0.kind ∷ e.1)) r (subst (λ (b : Bool). MatchBool b (r ≡ []) (IsFilled 64 (parts 64 d (value.Int e.0.kind ∷ e.1)) r)) h t)
+    by_type true h = let none : r ≡ [] = subst (λ (b : Bool). MatchBool b (r ≡ []) (IsFilled 64 (parts 64 d (value.Int e.0.kind ∷ e.1)) r)) h t in subst
+        (AreWide 64) (sym none) tt
+    by_type false h = filled_wide 64 (parts 64 d (value.Int e.0.kind ∷ e.1)) r
+        (subst (λ (b : Bool). MatchBool b (r ≡ []) (IsFilled 64 (parts 64 d (value.Int e.0.kind ∷ e.1)) r)) h t)
 
 -- with the number of its entry
 pub owned_72 : (i : ℕ) (r : Lines) → AreWide 64 r → Are72 (owned i r)
@@ -91,7 +110,8 @@ module _ (f : Contents) (text : List ℕ) (t : IsText f text) where
   abbrev counts : List ℕ
   counts = counts_columns (length f.start) (length t.global) (length D) (length P)
 
-  pub length-text : Are72 f.start → AllByRecursion IsHeld f.entries → length text ≡ 81 * length f.start + 81 * length t.global + 81 * length D + 81 * length P + 81
+  pub length-text : Are72 f.start → AllByRecursion IsHeld f.entries → length text ≡ 81 * length f.start + 81 * length t.global + 81 * length D + 81 * length P
+      + 81
   length-text start held =
       let s = numbered 83 f.start in
       let g = numbered 71 t.global in

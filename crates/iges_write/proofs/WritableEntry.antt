@@ -19,4 +19,5 @@ pub record IsWritableEntry (e : Entry × List Value) : Type 0 where
 
 pub writable_entries : (es : List (Entry × List Value)) → AllByRecursion IsMadeEntry es → AllByRecursion IsHeld es → AllByRecursion IsWritableEntry es
 writable_entries [] m h = tt
-writable_entries (e ∷ es) m h = (record { bounded = m.0.bounded; status = h.0.status; label = h.0.label; values = h.0.values; unused = m.0.unused }, writable_entries es m.1 h.1)
+writable_entries (e ∷ es) m h =
+    (record { bounded = m.0.bounded; status = h.0.status; label = h.0.label; values = h.0.values; unused = m.0.unused }, writable_entries es m.1 h.1)

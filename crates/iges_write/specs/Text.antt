@@ -28,11 +28,14 @@ column n = right 8 (signed_decimal n)
 
 -- the columns 1 to 72 of the first line of an entry, whose record begins at this line: nine fields
 abbrev pub first_line : Entry → ℕ → List ℕ
-first_line e first = concat (column e.kind ∷ column (pos first) ∷ column e.structure ∷ column e.font ∷ column e.level ∷ column e.view ∷ column e.matrix ∷ column e.display ∷ e.status ∷ [])
+first_line e first = concat
+    (column e.kind ∷ column (pos first) ∷ column e.structure ∷ column e.font ∷ column e.level ∷ column e.view ∷ column e.matrix ∷ column e.display ∷ e.status
+    ∷ [])
 
 -- and of the second, where the record has so many lines
 abbrev pub second_line : Entry → ℕ → List ℕ
-second_line e count = concat (column e.kind ∷ column e.weight ∷ column e.colour ∷ column (pos count) ∷ column e.form ∷ spaces 8 ∷ spaces 8 ∷ e.label ∷ column e.subscript ∷ [])
+second_line e count = concat
+    (column e.kind ∷ column e.weight ∷ column e.colour ∷ column (pos count) ∷ column e.form ∷ spaces 8 ∷ spaces 8 ∷ e.label ∷ column e.subscript ∷ [])
 
 -- the columns of the two lines of an entry
 abbrev pub entry_lines : Entry → ℕ → ℕ → List (List ℕ)
@@ -61,7 +64,8 @@ count_field section n = section ∷ right 7 (decimal n)
 
 -- the columns 1 to 72 of the terminate line, with the number of lines of each section
 abbrev pub counts_columns : ℕ → ℕ → ℕ → ℕ → List ℕ
-counts_columns start global directory params = count_field letter_S start ++ count_field letter_G global ++ count_field letter_D directory ++ count_field letter_P params ++ spaces 40
+counts_columns start global directory params = count_field letter_S start ++ count_field letter_G global ++ count_field letter_D directory
+    ++ count_field letter_P params ++ spaces 40
 
 -- the global names its delimiters as two texts before its values
 abbrev pub global_values : Global26 → List Value

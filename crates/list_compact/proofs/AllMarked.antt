@@ -25,7 +25,8 @@ row_marked (true ∷ bs) e (suc i) lt = row_marked bs (omega (arith, e)) i (omeg
 abbrev pub AreMarkedTo : List (List Bool) → ℕ → Type 0
 AreMarkedTo rows n = (k i : ℕ) (row : List Bool) → k < n → slice_get rows k ≡ Some row → i < length row → slice_index_or row i false ≡ true
 
-pub row_more : (rows : List (List Bool)) (n : ℕ) (row : List Bool) → slice_get rows n ≡ Some row → IsMarkedRow row → AreMarkedTo rows n → AreMarkedTo rows (n + 1)
+pub row_more : (rows : List (List Bool)) (n : ℕ) (row : List Bool) → slice_get rows n ≡ Some row → IsMarkedRow row → AreMarkedTo rows n
+    → AreMarkedTo rows (n + 1)
 row_more rows n row at marked h k i q low there lt = by_order (cases_lt k n)
   where
     by_order : (k < n) ⊎ (n ≤ k) → slice_index_or q i false ≡ true

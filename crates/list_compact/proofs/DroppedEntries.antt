@@ -1,5 +1,6 @@
 -- The entries of a file whose unused items are dropped.
-use Rattle.std.specs.Prelude.{◌≡◌, ℕ, zero, suc, ◌+◌, ◌*◌, ◌/◌, ◌%◌, ◌==◌, Bool, true, false, ℤ, pos, negsuc, List, [], ◌∷◌, map, Option, Some, None, option_map, slice_get, if◌then◌else◌}
+use Rattle.std.specs.Prelude.{◌≡◌, ℕ, zero, suc, ◌+◌, ◌*◌, ◌/◌, ◌%◌, ◌==◌, Bool, true, false, ℤ, pos, negsuc, List, [], ◌∷◌, map, Option, Some, None}
+use Rattle.std.specs.Prelude.{option_map, slice_get, if◌then◌else◌}
 use Rattle.std.specs.List.{enumerate_from}
 use Rattle.std.specs.Ordering.{int_eq}
 use Rattle.std.proofs.Common.{refl, ◌∙◌, ap, arith}
@@ -13,7 +14,8 @@ use Rattle.iges_params.specs.Contents.{Contents}
 use Rattle.iges_params.specs.Named.{kind_of, named, record_values, values_of}
 use Rattle.brep_lists.specs.Record.{type_number, kind_of_type}
 use Rattle.brep_lists.specs.declared.entity_kind.EntityKind.{EntityKind}
-use Rattle.brep_lists.specs.declared.entity_kind.EntityKind.TheVariants.{Solid as solid, Shell as shell, Face as face, Loop as «loop», EdgeList as edges, VertexList as vertices}
+use Rattle.brep_lists.specs.declared.entity_kind.EntityKind.TheVariants.{Solid as solid, Shell as shell, Face as face, Loop as «loop», EdgeList as edges}
+use Rattle.brep_lists.specs.declared.entity_kind.EntityKind.TheVariants.{VertexList as vertices}
 use Rattle.brep_lists.proofs.KindTypes.{kind_known}
 use Rattle.solid_data.specs.Obligations.{entry_number}
 use Rattle.entry_references.specs.Refs.{Record}
@@ -23,14 +25,16 @@ use Rattle.list_compact.specs.Dropped.{loop_values, edge_values, vertex_values, 
 pub get_enumerated : {X : Type 0} (m : ℕ) (xs : List X) (k : ℕ) → slice_get (enumerate_from m xs) k ≡ option_map (λ (x : X). (m + k, x)) (slice_get xs k)
 get_enumerated m [] k = refl
 get_enumerated m (x ∷ xs) zero = let here : m ≡ m + 0 = omega arith in ap (λ n. Some (n, x)) here
-get_enumerated {X} m (x ∷ xs) (suc k) = let on : m + 1 + k ≡ m + suc k = omega arith in get_enumerated (m + 1) xs k ∙ ap (λ n. option_map (λ (y : X). (n, y)) (slice_get xs k)) on
+get_enumerated {X} m (x ∷ xs) (suc k) = let on : m + 1 + k ≡ m + suc k = omega arith in get_enumerated (m + 1) xs k
+    ∙ ap (λ n. option_map (λ (y : X). (n, y)) (slice_get xs k)) on
 
 -- an entry with its number
 abbrev pub as_dropped : Contents → ℕ → Record → Record
 as_dropped g m r = (r.0, dropped_values g m r)
 
 -- the entry at a place
-pub entry_dropped : (g : Contents) (k : ℕ) → slice_get (map (dropped_record g) (enumerate_from 0 g.entries)) k ≡ option_map (as_dropped g (2 * k + 1)) (slice_get g.entries k)
+pub entry_dropped : (g : Contents) (k : ℕ) → slice_get (map (dropped_record g) (enumerate_from 0 g.entries)) k
+    ≡ option_map (as_dropped g (2 * k + 1)) (slice_get g.entries k)
 entry_dropped g k =
     slice_get-map (dropped_record g) (enumerate_from 0 g.entries) k
     ∙ (ap (option_map (dropped_record g)) (get_enumerated 0 g.entries k)
@@ -53,7 +57,9 @@ named_dropped g m = by_test (m % 2 == 1) refl
         by_kind true = refl
         by_kind false = refl
 
-    by_test : (b : Bool) → (m % 2 == 1) ≡ b → (if b then unless_unused kind_of (slice_get (map (dropped_record g) (enumerate_from 0 g.entries)) (m / 2)) else None) ≡ option_map (as_dropped g m) (if b then unless_unused kind_of (slice_get g.entries (m / 2)) else None)
+    by_test : (b : Bool) → (m % 2 == 1) ≡ b
+        → (if b then unless_unused kind_of (slice_get (map (dropped_record g) (enumerate_from 0 g.entries)) (m / 2)) else None)
+        ≡ option_map (as_dropped g m) (if b then unless_unused kind_of (slice_get g.entries (m / 2)) else None)
     by_test true t =
         let odd : m % 2 ≡ 1 = eqb-true (m % 2) 1 t in
         let number : 2 * (m / 2) + 1 ≡ m = omega (arith, odd, div-add-mod m 2) in
@@ -76,7 +82,8 @@ values_as g z r e = ap record_values (named_as g z r e)
 -- ---- the values by the type
 
 abbrev by_type : Contents → ℕ → List Value → ℤ → List Value
-by_type g e vs kind = if int_eq kind (pos 508) then loop_values g vs else if int_eq kind (pos 504) then edge_values g e vs else if int_eq kind (pos 502) then vertex_values g e vs else vs
+by_type g e vs kind = if int_eq kind (pos 508) then loop_values g vs else if int_eq kind (pos 504) then edge_values g e vs else if int_eq kind (pos 502) then
+    vertex_values g e vs else vs
 
 module _ (g : Contents) (e : ℕ) (r : Record) where
   pub loop_dropped : r.0.kind ≡ type_number «loop» → dropped_values g e r ≡ loop_values g r.1
@@ -103,7 +110,8 @@ module _ (g : Contents) (e : ℕ) (r : Record) where
   -- an entry of none of the three types stays
   pub other_same : is_kind «loop» r ≡ false → is_kind edges r ≡ false → is_kind vertices r ≡ false → dropped_values g e r ≡ r.1
   other_same l d v =
-      cond-false (is_kind «loop» r) (loop_values g r.1) (if is_kind edges r then edge_values g e r.1 else if is_kind vertices r then vertex_values g e r.1 else r.1) l
+      cond-false (is_kind «loop» r) (loop_values g r.1)
+      (if is_kind edges r then edge_values g e r.1 else if is_kind vertices r then vertex_values g e r.1 else r.1) l
       ∙ (cond-false (is_kind edges r) (edge_values g e r.1) (if is_kind vertices r then vertex_values g e r.1 else r.1) d
       ∙ cond-false (is_kind vertices r) (vertex_values g e r.1) r.1 v)
 

@@ -43,7 +43,14 @@ module _ (g : Contents) where
   counts_few k [] all = omega arith
   counts_few k (r ∷ rs) all =
       let on : value_count (map (dropped_record g) (enumerate_from (k + 1) rs)) ≤ value_count rs = counts_few (k + 1) rs all.1 in
-      omega (arith, on, values_few g (2 * k + 1) r all.0, sum_by-cons (λ (q : Record). length q.1) (dropped_record g (k, r)) (map (dropped_record g) (enumerate_from (k + 1) rs)), sum_by-cons (λ (q : Record). length q.1) r rs)
+      omega (
+        arith,
+        on,
+        values_few g (2 * k + 1) r all.0,
+        sum_by-cons (λ (q : Record). length q.1) (dropped_record g (k, r))
+            (map (dropped_record g) (enumerate_from (k + 1) rs)),
+        sum_by-cons (λ (q : Record). length q.1) r rs,
+      )
 
   entries_made : (k : ℕ) (rs : List Record) → AllByRecursion IsMadeEntry rs → AllByRecursion IsMadeEntry (map (dropped_record g) (enumerate_from k rs))
   entries_made k [] all = tt
@@ -74,11 +81,13 @@ pub extracted_of_kind : (f g : Contents) (n : ℕ) → IsExtracted f n g → All
 extracted_of_kind f g n x =
     All-from IsOfItsKind g.entries (λ s m.
     let r = has_map (new_record f x.kept) x.records s (subst (λ es. Has es s) x.entries m) in
-    let none : entry_fault f r.0 ≡ None = All-at (λ q. entry_fault f q ≡ None) x.records (recursion_from_All (λ q. entry_fault f q ≡ None) x.records x.faultless) r.0 r.1 in
+    let none : entry_fault f r.0 ≡ None =
+    All-at (λ q. entry_fault f q ≡ None) x.records (recursion_from_All (λ q. entry_fault f q ≡ None) x.records x.faultless) r.0 r.1 in
     subst IsOfItsKind r.2 (λ kind k.
     let is : IsRecordOf kind r.0.1 = (decided kind r.0.1).0 (faultless_is_record f r.0 kind none k) in
     let fits : Fits kind (new_values f x.kept r.0) (renamed_items (renamed x.kept) kind (items_of kind r.0.1)) = keeps f x.kept r.0 kind k is in
-    subst (Fits kind (new_values f x.kept r.0)) (only_read kind (new_values f x.kept r.0) (renamed_items (renamed x.kept) kind (items_of kind r.0.1)) fits) fits))
+    subst (Fits kind (new_values f x.kept r.0)) (only_read kind (new_values f x.kept r.0) (renamed_items (renamed x.kept) kind (items_of kind r.0.1)) fits)
+    fits))
 
 pub dropped_made : DroppedIsMade
 dropped_made f g n made x = can_be_made g (extracted_of_kind f g n x) (extracted_is_made f g n made x)

@@ -30,18 +30,24 @@ module _ (f g : Contents) (i : ℕ) (h : IsEmptied f g i) (entry : Entry) (is : 
   pub taken_at : (values : List Value) → option_map (λ (r : Record). r.1) (slice_get g.entries i) ≡ Some values → slice_get f.entries i ≡ Some (entry, values)
   taken_at values taken = sym (h.rest i (omega arith)) ∙ named_pair (slice_get g.entries i) entry values (sym is) (sym taken)
 
-  pub next_emptied : (next : Contents) → i < length g.entries → ((e : Entry) → option_map (λ (r : Record). r.0) (slice_get g.entries i) ≡ Some e → next ≡ record g { entries = set g.entries i (e, []) }) → IsEmptied f next (i + 1)
+  pub next_emptied : (next : Contents) → i < length g.entries
+      → ((e : Entry) → option_map (λ (r : Record). r.0) (slice_get g.entries i) ≡ Some e → next ≡ record g { entries = set g.entries i (e, []) })
+      → IsEmptied f next (i + 1)
   next_emptied next lt left =
       let same = left entry is in
       record {
         start = ap (λ (x : Contents). x.start) same ∙ h.start;
         global = ap (λ (x : Contents). x.global) same ∙ h.global;
         long = ap (λ (x : Contents). length x.entries) same ∙ (length-set g.entries i (entry, []) ∙ h.long);
-        rest = λ j le. ap (λ (x : Contents). slice_get x.entries j) same ∙ (get_later g.entries i j (entry, []) (omega (arith, le)) ∙ h.rest j (omega (arith, le)));
+        rest = λ j le. ap (λ (x : Contents). slice_get x.entries j) same
+            ∙ (get_later g.entries i j (entry, []) (omega (arith, le)) ∙ h.rest j (omega (arith, le)));
       }
 
 pub taken_short : (f : Contents) (records : AreRecords f) (made : IsMade f) (i : ℕ) (r : Record) → slice_get f.entries i ≡ Some r → length r.1 ≤ 164000000
-taken_short f records made i r at = short f records made r (Has-from_place f.entries r i (slice_get_within f.entries i r at) (get_or_from_slice_get f.entries i r r at))
+taken_short f records made i r at =
+    short f records made r (Has-from_place f.entries r i (slice_get_within f.entries i r at) (get_or_from_slice_get f.entries i r r at))
 
-pub all_dropped : (f g old new : Contents) (i : ℕ) → IsEmptied f g i → new ≡ record old { start = g.start; global = g.global } → old.entries ≡ map (dropped_record f) (take i (enumerate_from 0 f.entries)) → length f.entries ≤ i → new ≡ dropped f
-all_dropped f g old new i h e ee past = whole_file f new i (ap (λ (x : Contents). x.start) e ∙ h.start) (ap (λ (x : Contents). x.global) e ∙ h.global) (ap (λ (x : Contents). x.entries) e ∙ ee) past
+pub all_dropped : (f g old new : Contents) (i : ℕ) → IsEmptied f g i → new ≡ record old { start = g.start; global = g.global }
+    → old.entries ≡ map (dropped_record f) (take i (enumerate_from 0 f.entries)) → length f.entries ≤ i → new ≡ dropped f
+all_dropped f g old new i h e ee past = whole_file f new i (ap (λ (x : Contents). x.start) e ∙ h.start) (ap (λ (x : Contents). x.global) e ∙ h.global)
+    (ap (λ (x : Contents). x.entries) e ∙ ee) past

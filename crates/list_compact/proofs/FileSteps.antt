@@ -49,7 +49,8 @@ vertices_few r of_kind few = by_test (is_kind vertices r) refl
     by_test true t = omega (arith, vertex_room r.1 (items_of vertices r.1) (of_kind vertices (kind_is vertices r t)) refl few)
     by_test false t = omega arith
 
-rows_few : (count : Record → ℕ) (rows : List (List Bool)) (rs : List Record) → sizes rows ≡ map count rs → ((r : Record) → Has rs r → count r ≤ 164000000) → AllByRecursion (λ (row : List Bool). length row ≤ 164000000) rows
+rows_few : (count : Record → ℕ) (rows : List (List Bool)) (rs : List Record) → sizes rows ≡ map count rs → ((r : Record) → Has rs r → count r ≤ 164000000)
+    → AllByRecursion (λ (row : List Bool). length row ≤ 164000000) rows
 rows_few count [] rs e h = tt
 rows_few count (row ∷ rows) [] e h = absurd cc
 rows_few count (row ∷ rows) (r ∷ rs) e h =
@@ -62,25 +63,33 @@ module _ (g : Contents) (records : AreRecords g) (made : IsMade g) where
   short r h = let most : value_count g.entries ≤ 164000000 = made.limits.values in omega (arith, most, member_few g.entries r h)
 
   pub edge_rows_few : (rows : List (List Bool)) → sizes rows ≡ edge_sizes g → AllByRecursion (λ (row : List Bool). length row ≤ 164000000) rows
-  edge_rows_few rows e = rows_few (λ r. length (edges_in r)) rows g.entries e (λ r h. edges_few r (All-at IsOfItsKind g.entries records.of_kind r h) (short r h))
+  edge_rows_few rows e = rows_few (λ r. length (edges_in r)) rows g.entries e
+      (λ r h. edges_few r (All-at IsOfItsKind g.entries records.of_kind r h) (short r h))
 
   pub vertex_rows_few : (rows : List (List Bool)) → sizes rows ≡ vertex_sizes g → AllByRecursion (λ (row : List Bool). length row ≤ 164000000) rows
-  vertex_rows_few rows e = rows_few (λ r. length (vertices_in r)) rows g.entries e (λ r h. vertices_few r (All-at IsOfItsKind g.entries records.of_kind r h) (short r h))
+  vertex_rows_few rows e =
+      rows_few (λ r. length (vertices_in r)) rows g.entries e (λ r h. vertices_few r (All-at IsOfItsKind g.entries records.of_kind r h) (short r h))
 
-  pub entry_room : (i : ℕ) (r : Record) (vs : List Value) (es : List Record) → slice_get (enumerate_from 0 g.entries) i ≡ Some (i, r) → vs ≡ dropped_values g (2 * i + 1) r → es ≡ map (dropped_record g) (take i (enumerate_from 0 g.entries)) → value_count es + length vs ≤ 164000000
+  pub entry_room : (i : ℕ) (r : Record) (vs : List Value) (es : List Record) → slice_get (enumerate_from 0 g.entries) i ≡ Some (i, r)
+      → vs ≡ dropped_values g (2 * i + 1) r → es ≡ map (dropped_record g) (take i (enumerate_from 0 g.entries)) → value_count es + length vs ≤ 164000000
   entry_room i r vs es at ev ee =
       let E : List (ℕ × Record) = enumerate_from 0 g.entries in
       let most : value_count g.entries ≤ 164000000 = made.limits.values in
-      let whole : map (dropped_record g) (enumerate_from 0 g.entries) ≡ map (dropped_record g) (take (i + 1) (enumerate_from 0 g.entries)) ++ map (dropped_record g) (drop (i + 1) (enumerate_from 0 g.entries)) =
-      ap (map (dropped_record g)) (sym (take-append-drop (i + 1) (enumerate_from 0 g.entries))) ∙ map-append (dropped_record g) (take (i + 1) (enumerate_from 0 g.entries)) (drop (i + 1) (enumerate_from 0 g.entries)) in
-      let front : map (dropped_record g) (take (i + 1) (enumerate_from 0 g.entries)) ≡ map (dropped_record g) (take i (enumerate_from 0 g.entries)) ++ dropped_record g (i, r) ∷ [] =
-      ap (map (dropped_record g)) (one_more (enumerate_from 0 g.entries) i (i, r) at) ∙ map-append (dropped_record g) (take i (enumerate_from 0 g.entries)) ((i, r) ∷ []) in
+      let whole : map (dropped_record g) (enumerate_from 0 g.entries) ≡ map (dropped_record g) (take (i + 1) (enumerate_from 0 g.entries))
+      ++ map (dropped_record g) (drop (i + 1) (enumerate_from 0 g.entries)) =
+      ap (map (dropped_record g)) (sym (take-append-drop (i + 1) (enumerate_from 0 g.entries)))
+      ∙ map-append (dropped_record g) (take (i + 1) (enumerate_from 0 g.entries)) (drop (i + 1) (enumerate_from 0 g.entries)) in
+      let front : map (dropped_record g) (take (i + 1) (enumerate_from 0 g.entries)) ≡ map (dropped_record g) (take i (enumerate_from 0 g.entries))
+      ++ dropped_record g (i, r) ∷ [] =
+      ap (map (dropped_record g)) (one_more (enumerate_from 0 g.entries) i (i, r) at) ∙ map-append (dropped_record g) (take i (enumerate_from 0 g.entries))
+      ((i, r) ∷ []) in
       omega (
         arith,
         most,
         counts_few g 0 g.entries records.of_kind,
         ap value_count whole,
-        sum_by-append (λ (x : Record). length x.1) (map (dropped_record g) (take (i + 1) (enumerate_from 0 g.entries))) (map (dropped_record g) (drop (i + 1) (enumerate_from 0 g.entries))),
+        sum_by-append (λ (x : Record). length x.1) (map (dropped_record g) (take (i + 1) (enumerate_from 0 g.entries)))
+            (map (dropped_record g) (drop (i + 1) (enumerate_from 0 g.entries))),
         ap value_count front,
         sum_by-append (λ (x : Record). length x.1) (map (dropped_record g) (take i (enumerate_from 0 g.entries))) (dropped_record g (i, r) ∷ []),
         sum_by-cons (λ (x : Record). length x.1) (dropped_record g (i, r)) [],
@@ -88,7 +97,8 @@ module _ (g : Contents) (records : AreRecords g) (made : IsMade g) where
         ap value_count ee,
       )
 
-  pub tables_are : (e v : List (List Bool)) (re rv : List (List ℤ)) → sizes e ≡ edge_sizes g → sizes v ≡ vertex_sizes g → AreMarks e (is_used_edge g) → AreMarks v (is_used_vertex g) → re ≡ map (ranks_of 0) e → rv ≡ map (ranks_of 0) v → AreTables g re rv
+  pub tables_are : (e v : List (List Bool)) (re rv : List (List ℤ)) → sizes e ≡ edge_sizes g → sizes v ≡ vertex_sizes g → AreMarks e (is_used_edge g)
+      → AreMarks v (is_used_vertex g) → re ≡ map (ranks_of 0) e → rv ≡ map (ranks_of 0) v → AreTables g re rv
   tables_are e v re rv es vs me mv ee ev =
       subst (λ (x : List (List ℤ)). AreTables g x rv) (sym ee)
       (subst (λ (x : List (List ℤ)). AreTables g (map (ranks_of 0) e) x) (sym ev) (record {
@@ -96,10 +106,12 @@ module _ (g : Contents) (records : AreRecords g) (made : IsMade g) where
         vertices_are = record { ranks = ranks_are v (is_used_vertex g) mv; covers = vertices_covered g v vs };
       }))
 
-pub whole_file : (g new : Contents) (i : ℕ) → new.start ≡ g.start → new.global ≡ g.global → new.entries ≡ map (dropped_record g) (take i (enumerate_from 0 g.entries)) → length g.entries ≤ i → new ≡ dropped g
+pub whole_file : (g new : Contents) (i : ℕ) → new.start ≡ g.start → new.global ≡ g.global
+    → new.entries ≡ map (dropped_record g) (take i (enumerate_from 0 g.entries)) → length g.entries ≤ i → new ≡ dropped g
 unfolding dropped
 whole_file g new i es eg ee past =
-    let all : take i (enumerate_from 0 g.entries) ≡ enumerate_from 0 g.entries = take_all i (enumerate_from 0 g.entries) (omega (arith, past, length-enumerate_from 0 g.entries)) in
+    let all : take i (enumerate_from 0 g.entries) ≡ enumerate_from 0 g.entries =
+    take_all i (enumerate_from 0 g.entries) (omega (arith, past, length-enumerate_from 0 g.entries)) in
     let entries : new.entries ≡ map (dropped_record g) (enumerate_from 0 g.entries) = ee ∙ ap (map (dropped_record g)) all in
     λ j. record { start = es j; global = eg j; entries = entries j }
 
@@ -117,7 +129,8 @@ typed_records f g n x = subst (AllByRecursion HasType) (sym x.entries) (each x.k
 pub extracted_records : (f g : Contents) (n : ℕ) → IsExtracted f n g → AreRecords g
 extracted_records f g n x = record { typed = typed_records f g n x; of_kind = extracted_of_kind f g n x }
 
-pub not_refused_as : (f g d : Contents) (n k : ℕ) → IsExtractedAs f n g k → d ≡ dropped g → (entity : ℕ) (reason : ExtractReason) → IsRefused d k entity reason → ⊥
+pub not_refused_as : (f g d : Contents) (n k : ℕ) → IsExtractedAs f n g k → d ≡ dropped g → (entity : ℕ) (reason : ExtractReason) → IsRefused d k entity reason
+    → ⊥
 not_refused_as f g d n k x e entity reason h =
     not_refused f g n x.extracted entity reason (subst (λ m. IsRefused (dropped g) m entity reason) x.is (subst (λ c. IsRefused c k entity reason) e h))
 

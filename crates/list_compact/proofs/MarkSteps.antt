@@ -1,5 +1,6 @@
 -- Marks of items, one more at a time.
-use Rattle.std.specs.Prelude.{◌≡◌, ◌⊎◌, ℕ, zero, suc, ◌+◌, ◌*◌, ◌<◌, ◌≤◌, ◌==◌, ◌&&◌, ◌||◌, Bool, true, false, not, if◌then◌else◌, ℤ, pos, List, [], ◌∷◌, ◌++◌, length, map, flat_map, take, replicate, set, Option, Some, None, option_map, slice_get, slice_index_or}
+use Rattle.std.specs.Prelude.{◌≡◌, ◌⊎◌, ℕ, zero, suc, ◌+◌, ◌*◌, ◌<◌, ◌≤◌, ◌==◌, ◌&&◌, ◌||◌, Bool, true, false, not, if◌then◌else◌, ℤ, pos, List, [], ◌∷◌, ◌++◌}
+use Rattle.std.specs.Prelude.{length, map, flat_map, take, replicate, set, Option, Some, None, option_map, slice_get, slice_index_or}
 use Rattle.std.specs.List.{AllByRecursion, list_any}
 use Rattle.std.specs.Ordering.{int_eq}
 use Rattle.std.proofs.Common.{refl, sym, ◌∙◌, ap, subst, arith, inl, inr, append_assoc}
@@ -64,25 +65,31 @@ set_at ms i j lt = by_order (cases_lt i (length ms))
     by_order (inl below) = get_set ms i j below
     by_order (inr past) =
         let far : (i == j) ≡ false = ne_eqb i j (λ e. omega (arith, e, past, lt)) in
-        ap (λ (xs : List Bool). slice_index_or xs j false) (set_past ms i true past) ∙ sym (ap (λ (b : Bool). slice_index_or ms j false || b) far ∙ or-false (slice_index_or ms j false))
+        ap (λ (xs : List Bool). slice_index_or xs j false) (set_past ms i true past)
+        ∙ sym (ap (λ (b : Bool). slice_index_or ms j false || b) far ∙ or-false (slice_index_or ms j false))
 
-pub mark_there : (rows : List (List Bool)) (u : ℕ → ℕ → Bool) (z j : ℤ) (k i : ℕ) (row : List Bool) → z ≡ pos (2 * k + 1) → j ≡ pos (i + 1) → slice_get rows k ≡ Some row → AreMarks rows u → AreMarks (set rows k (set row i true)) (λ e x. u e x || is_at z j e x)
+pub mark_there : (rows : List (List Bool)) (u : ℕ → ℕ → Bool) (z j : ℤ) (k i : ℕ) (row : List Bool) → z ≡ pos (2 * k + 1) → j ≡ pos (i + 1)
+    → slice_get rows k ≡ Some row → AreMarks rows u → AreMarks (set rows k (set row i true)) (λ e x. u e x || is_at z j e x)
 mark_there rows u z j k i row ez ej at h k2 i2 row2 at2 lt = by_order (cases_order k k2)
   where
     far : (k ≡ k2 → ⊥) → slice_index_or row2 i2 false ≡ (u (2 * k2 + 1) (i2 + 1) || is_at z j (2 * k2 + 1) (i2 + 1))
     far n =
         let none : is_at z j (2 * k2 + 1) (i2 + 1) ≡ false = none_at z j (2 * k2 + 1) (i2 + 1) (λ e x. n (same (sym ez ∙ e))) in
-        h k2 i2 row2 (sym (get_other rows k k2 (set row i true) n) ∙ at2) lt ∙ sym (ap (λ (b : Bool). u (2 * k2 + 1) (i2 + 1) || b) none ∙ or-false (u (2 * k2 + 1) (i2 + 1)))
+        h k2 i2 row2 (sym (get_other rows k k2 (set row i true) n) ∙ at2) lt
+        ∙ sym (ap (λ (b : Bool). u (2 * k2 + 1) (i2 + 1) || b) none ∙ or-false (u (2 * k2 + 1) (i2 + 1)))
       where
         same : pos (2 * k + 1) ≡ pos (2 * k2 + 1) → k ≡ k2
         same e = let n : 2 * k + 1 ≡ 2 * k2 + 1 = cc in omega (arith, n)
 
     near : k ≡ k2 → slice_index_or row2 i2 false ≡ (u (2 * k2 + 1) (i2 + 1) || is_at z j (2 * k2 + 1) (i2 + 1))
     near e =
-        let is : row2 ≡ set row i true = same_Some row2 (set row i true) (sym at2 ∙ (ap (slice_get (set rows k (set row i true))) (sym e) ∙ get_same rows k (set row i true) (slice_get_within rows k row at))) in
+        let is : row2 ≡ set row i true =
+        same_Some row2 (set row i true)
+        (sym at2 ∙ (ap (slice_get (set rows k (set row i true))) (sym e) ∙ get_same rows k (set row i true) (slice_get_within rows k row at))) in
         let within : i2 < length row = omega (arith, lt, ap length is, length-set row i true) in
         let first : int_eq z (pos (2 * k2 + 1)) ≡ true = (Decides-int_eq z (pos (2 * k2 + 1))).1 (ez ∙ ap (λ n. pos (2 * n + 1)) e) in
-        let second : int_eq j (pos (i2 + 1)) ≡ (i == i2) = int_test j (i + 1) (i2 + 1) ej ∙ same_test (i + 1) (i2 + 1) i i2 (λ x. omega (arith, x)) (λ x. omega (arith, x)) in
+        let second : int_eq j (pos (i2 + 1)) ≡ (i == i2) = int_test j (i + 1) (i2 + 1) ej ∙ same_test (i + 1) (i2 + 1) i i2 (λ x. omega (arith, x))
+        (λ x. omega (arith, x)) in
         let here : is_at z j (2 * k2 + 1) (i2 + 1) ≡ (i == i2) = ap (λ (b : Bool). b && int_eq j (pos (i2 + 1))) first ∙ second in
         ap (λ (xs : List Bool). slice_index_or xs i2 false) is
         ∙ (set_at row i i2 within
@@ -94,7 +101,8 @@ mark_there rows u z j k i row ez ej at h k2 i2 row2 at2 lt = by_order (cases_ord
     by_order (inr (inl less)) = far (λ e. omega (arith, less, e))
     by_order (inr (inr more)) = far (λ e. omega (arith, more, e))
 
-pub mark_nowhere : (rows : List (List Bool)) (u : ℕ → ℕ → Bool) (z j : ℤ) → ((k i : ℕ) → k < length rows → z ≡ pos (2 * k + 1) → j ≡ pos (i + 1) → ⊥) → AreMarks rows u → AreMarks rows (λ e x. u e x || is_at z j e x)
+pub mark_nowhere : (rows : List (List Bool)) (u : ℕ → ℕ → Bool) (z j : ℤ) → ((k i : ℕ) → k < length rows → z ≡ pos (2 * k + 1) → j ≡ pos (i + 1) → ⊥)
+    → AreMarks rows u → AreMarks rows (λ e x. u e x || is_at z j e x)
 mark_nowhere rows u z j never h k i row at lt =
     let none : is_at z j (2 * k + 1) (i + 1) ≡ false = none_at z j (2 * k + 1) (i + 1) (never k i (slice_get_within rows k row at)) in
     h k i row at lt ∙ sym (ap (λ (b : Bool). u (2 * k + 1) (i + 1) || b) none ∙ or-false (u (2 * k + 1) (i + 1)))
@@ -104,21 +112,26 @@ sizes_stay [] k i row at = absurd cc
 sizes_stay (x ∷ rows) zero i row at = ap (λ n. n ∷ sizes rows) (length-set row i true ∙ ap length (sym (same_Some x row at)))
 sizes_stay (x ∷ rows) (suc k) i row at = ap (λ ns. length x ∷ ns) (sizes_stay rows k i row at)
 
-pub marked_at : (rows : List (List Bool)) (u : ℕ → ℕ → Bool) (z j : ℤ) (k i : ℕ) → z ≡ pos (2 * k + 1) → j ≡ pos (i + 1) → AreMarks rows u → AreMarks (set rows k (set (slice_index_or rows k []) i true)) (λ e x. u e x || is_at z j e x)
+pub marked_at : (rows : List (List Bool)) (u : ℕ → ℕ → Bool) (z j : ℤ) (k i : ℕ) → z ≡ pos (2 * k + 1) → j ≡ pos (i + 1) → AreMarks rows u
+    → AreMarks (set rows k (set (slice_index_or rows k []) i true)) (λ e x. u e x || is_at z j e x)
 marked_at rows u z j k i ez ej h = by_order (cases_lt k (length rows))
   where
     same : (m : ℕ) → pos (2 * k + 1) ≡ pos (2 * m + 1) → k ≡ m
     same m e = let n : 2 * k + 1 ≡ 2 * m + 1 = cc in omega (arith, n)
 
     by_order : (k < length rows) ⊎ (length rows ≤ k) → AreMarks (set rows k (set (slice_index_or rows k []) i true)) (λ e x. u e x || is_at z j e x)
-    by_order (inl lt) = let r = get_some rows k lt in subst (λ (row : List Bool). AreMarks (set rows k (set row i true)) (λ e x. u e x || is_at z j e x)) (sym (row_is rows k r.0 r.1)) (mark_there rows u z j k i r.0 ez ej r.1 h)
-    by_order (inr le) = subst (λ (new : List (List Bool)). AreMarks new (λ e x. u e x || is_at z j e x)) (sym (set_past rows k (set (slice_index_or rows k []) i true) le)) (mark_nowhere rows u z j (λ m x lt en ex. omega (arith, same m (sym ez ∙ en), lt, le)) h)
+    by_order (inl lt) = let r = get_some rows k lt in subst (λ (row : List Bool). AreMarks (set rows k (set row i true)) (λ e x. u e x || is_at z j e x))
+        (sym (row_is rows k r.0 r.1)) (mark_there rows u z j k i r.0 ez ej r.1 h)
+    by_order (inr le) = subst (λ (new : List (List Bool)). AreMarks new (λ e x. u e x || is_at z j e x))
+        (sym (set_past rows k (set (slice_index_or rows k []) i true) le))
+        (mark_nowhere rows u z j (λ m x lt en ex. omega (arith, same m (sym ez ∙ en), lt, le)) h)
 
 pub sizes_at : (rows : List (List Bool)) (k i : ℕ) → sizes (set rows k (set (slice_index_or rows k []) i true)) ≡ sizes rows
 sizes_at rows k i = by_order (cases_lt k (length rows))
   where
     by_order : (k < length rows) ⊎ (length rows ≤ k) → sizes (set rows k (set (slice_index_or rows k []) i true)) ≡ sizes rows
-    by_order (inl lt) = let r = get_some rows k lt in ap (λ (row : List Bool). sizes (set rows k (set row i true))) (row_is rows k r.0 r.1) ∙ sizes_stay rows k i r.0 r.1
+    by_order (inl lt) = let r = get_some rows k lt in ap (λ (row : List Bool). sizes (set rows k (set row i true))) (row_is rows k r.0 r.1)
+        ∙ sizes_stay rows k i r.0 r.1
     by_order (inr le) = ap (λ (new : List (List Bool)). sizes new) (set_past rows k (set (slice_index_or rows k []) i true) le)
 
 -- by another test that is the same
@@ -141,29 +154,37 @@ not_vertex t e v j = ap (λ (c : Bool). c && is_at t.list t.index v j) e
 pub not_edge : (t : LoopTuple) → t.is_vertex ≡ true → (v j : ℕ) → names_edge v j t ≡ false
 not_edge t e v j = ap (λ (c : Bool). not c && is_at t.list t.index v j) e
 
-pub vertices_stay : (rows : List (List Bool)) (u : ℕ → ℕ → Bool) (t : LoopTuple) → t.is_vertex ≡ false → AreMarks rows u → AreMarks rows (λ v j. u v j || names_vertex v j t)
-vertices_stay rows u t e h = marks_as rows u (λ v j. u v j || names_vertex v j t) (λ v j. sym (ap (λ (b : Bool). u v j || b) (not_vertex t e v j) ∙ or-false (u v j))) h
+pub vertices_stay : (rows : List (List Bool)) (u : ℕ → ℕ → Bool) (t : LoopTuple) → t.is_vertex ≡ false → AreMarks rows u
+    → AreMarks rows (λ v j. u v j || names_vertex v j t)
+vertices_stay rows u t e h =
+    marks_as rows u (λ v j. u v j || names_vertex v j t) (λ v j. sym (ap (λ (b : Bool). u v j || b) (not_vertex t e v j) ∙ or-false (u v j))) h
 
-pub edges_stay : (rows : List (List Bool)) (u : ℕ → ℕ → Bool) (t : LoopTuple) → t.is_vertex ≡ true → AreMarks rows u → AreMarks rows (λ v j. u v j || names_edge v j t)
-edges_stay rows u t e h = marks_as rows u (λ v j. u v j || names_edge v j t) (λ v j. sym (ap (λ (b : Bool). u v j || b) (not_edge t e v j) ∙ or-false (u v j))) h
+pub edges_stay : (rows : List (List Bool)) (u : ℕ → ℕ → Bool) (t : LoopTuple) → t.is_vertex ≡ true → AreMarks rows u
+    → AreMarks rows (λ v j. u v j || names_edge v j t)
+edges_stay rows u t e h = marks_as rows u (λ v j. u v j || names_edge v j t) (λ v j. sym (ap (λ (b : Bool). u v j || b) (not_edge t e v j) ∙ or-false (u v j)))
+    h
 
-pub vertex_marks : (rows : List (List Bool)) (u : ℕ → ℕ → Bool) (t : LoopTuple) (z i : ℤ) → z ≡ t.list → i ≡ t.index → t.is_vertex ≡ true → AreMarks rows (λ e j. u e j || is_at z i e j) → AreMarks rows (λ e j. u e j || names_vertex e j t)
+pub vertex_marks : (rows : List (List Bool)) (u : ℕ → ℕ → Bool) (t : LoopTuple) (z i : ℤ) → z ≡ t.list → i ≡ t.index → t.is_vertex ≡ true
+    → AreMarks rows (λ e j. u e j || is_at z i e j) → AreMarks rows (λ e j. u e j || names_vertex e j t)
 vertex_marks rows u t z i ez ei v h =
     marks_as rows (λ e j. u e j || is_at z i e j) (λ e j. u e j || names_vertex e j t)
     (λ e j. ap (λ (b : Bool). u e j || b) (ap (λ w. is_at w i e j) ez ∙ (ap (λ w. is_at t.list w e j) ei ∙ tuple_marked t true v e j))) h
 
-pub edge_marks : (rows : List (List Bool)) (u : ℕ → ℕ → Bool) (t : LoopTuple) (z i : ℤ) → z ≡ t.list → i ≡ t.index → t.is_vertex ≡ false → AreMarks rows (λ e j. u e j || is_at z i e j) → AreMarks rows (λ e j. u e j || names_edge e j t)
+pub edge_marks : (rows : List (List Bool)) (u : ℕ → ℕ → Bool) (t : LoopTuple) (z i : ℤ) → z ≡ t.list → i ≡ t.index → t.is_vertex ≡ false
+    → AreMarks rows (λ e j. u e j || is_at z i e j) → AreMarks rows (λ e j. u e j || names_edge e j t)
 edge_marks rows u t z i ez ei v h =
     marks_as rows (λ e j. u e j || is_at z i e j) (λ e j. u e j || names_edge e j t)
     (λ e j. ap (λ (b : Bool). u e j || b) (ap (λ w. is_at w i e j) ez ∙ (ap (λ w. is_at t.list w e j) ei ∙ tuple_marked t false v e j))) h
 
-pub end_marks : (rows : List (List Bool)) (u : ℕ → ℕ → Bool) (x : EdgeTuple) (a b c d : ℤ) → a ≡ x.start_list → b ≡ x.start_index → c ≡ x.end_list → d ≡ x.end_index → AreMarks rows (λ e j. (u e j || is_at a b e j) || is_at c d e j) → AreMarks rows (λ e j. u e j || has_end e j x)
+pub end_marks : (rows : List (List Bool)) (u : ℕ → ℕ → Bool) (x : EdgeTuple) (a b c d : ℤ) → a ≡ x.start_list → b ≡ x.start_index → c ≡ x.end_list
+    → d ≡ x.end_index → AreMarks rows (λ e j. (u e j || is_at a b e j) || is_at c d e j) → AreMarks rows (λ e j. u e j || has_end e j x)
 end_marks rows u x a b c d ea eb ec ed h =
     marks_as rows (λ e j. (u e j || is_at a b e j) || is_at c d e j) (λ e j. u e j || has_end e j x)
     (λ e j. either_assoc (u e j) (is_at a b e j) (is_at c d e j)
     ∙ (ap (λ z. u e j || (is_at z b e j || is_at c d e j)) ea
     ∙ (ap (λ z. u e j || (is_at x.start_list z e j || is_at c d e j)) eb
-    ∙ (ap (λ z. u e j || (is_at x.start_list x.start_index e j || is_at z d e j)) ec ∙ ap (λ z. u e j || (is_at x.start_list x.start_index e j || is_at x.end_list z e j)) ed)))) h
+    ∙ (ap (λ z. u e j || (is_at x.start_list x.start_index e j || is_at z d e j)) ec
+    ∙ ap (λ z. u e j || (is_at x.start_list x.start_index e j || is_at x.end_list z e j)) ed)))) h
 
 -- ---- lists of them, as they go by
 
@@ -177,14 +198,17 @@ module _ {X : Type 0} (names : ℕ → ℕ → X → Bool) (used : ℕ → ℕ �
   pub none_gone : (rows : List (List Bool)) (left : List X) → left ≡ all → AreMarks rows used → GoneBy names used all left rows
   none_gone rows left e h = record { so_far = used; marks = h; same = λ v j. ap (λ xs. used v j || list_any (names v j) xs) e }
 
-  pub one_gone : (rows new : List (List Bool)) (left rest : List X) (x : X) → left ≡ x ∷ rest → (g : GoneBy names used all left rows) → ((u : ℕ → ℕ → Bool) → AreMarks rows u → AreMarks new (λ e j. u e j || names e j x)) → GoneBy names used all rest new
+  pub one_gone : (rows new : List (List Bool)) (left rest : List X) (x : X) → left ≡ x ∷ rest → (g : GoneBy names used all left rows)
+      → ((u : ℕ → ℕ → Bool) → AreMarks rows u → AreMarks new (λ e j. u e j || names e j x)) → GoneBy names used all rest new
   one_gone rows new left rest x e g step = record {
     so_far = λ v j. g.so_far v j || names v j x;
     marks = step g.so_far g.marks;
-    same = λ v j. either_assoc (g.so_far v j) (names v j x) (list_any (names v j) rest) ∙ (ap (λ xs. g.so_far v j || list_any (names v j) xs) (sym e) ∙ g.same v j);
+    same = λ v j. either_assoc (g.so_far v j) (names v j x) (list_any (names v j) rest)
+        ∙ (ap (λ xs. g.so_far v j || list_any (names v j) xs) (sym e) ∙ g.same v j);
   }
 
-  pub all_gone : (rows : List (List Bool)) (left : List X) → left ≡ [] → GoneBy names used all left rows → AreMarks rows (λ e j. used e j || list_any (names e j) all)
+  pub all_gone : (rows : List (List Bool)) (left : List X) → left ≡ [] → GoneBy names used all left rows
+      → AreMarks rows (λ e j. used e j || list_any (names e j) all)
   all_gone rows left e g =
       marks_as rows g.so_far (λ v j. used v j || list_any (names v j) all)
       (λ v j. sym (or-false (g.so_far v j)) ∙ (ap (λ xs. g.so_far v j || list_any (names v j) xs) (sym e) ∙ g.same v j)) g.marks
@@ -204,7 +228,8 @@ abbrev pub blank_rows : (Record → ℕ) → List Record → List (List Bool)
 blank_rows count rs = map (λ r. replicate (count r) false) rs
 
 pub blank_marks : (count : Record → ℕ) (rs : List Record) (rows : List (List Bool)) → rows ≡ blank_rows count rs → AreMarks rows (λ e j. false)
-blank_marks count rs rows e k i row at lt = by_record (slice_get rs k) (sym (slice_get-map (λ r. replicate (count r) false) rs k) ∙ (sym (ap (λ (xs : List (List Bool)). slice_get xs k) e) ∙ at))
+blank_marks count rs rows e k i row at lt =
+    by_record (slice_get rs k) (sym (slice_get-map (λ r. replicate (count r) false) rs k) ∙ (sym (ap (λ (xs : List (List Bool)). slice_get xs k) e) ∙ at))
   where
     by_record : (o : Option Record) → option_map (λ r. replicate (count r) false) o ≡ Some row → slice_index_or row i false ≡ false
     by_record None h = absurd (none-some row h)
@@ -219,7 +244,8 @@ blank_sizes count rs rows e = ap (λ (xs : List (List Bool)). sizes xs) e ∙ ea
     each [] = refl
     each (q ∷ qs) = ap (λ n. n ∷ sizes (blank_rows count qs)) (replicate_long (count q)) ∙ ap (λ ns. count q ∷ ns) (each qs)
 
-pub blank_more : (count : Record → ℕ) (rs : List Record) (i n : ℕ) (r : Record) (rows new : List (List Bool)) → slice_get rs i ≡ Some r → n ≡ count r → rows ≡ blank_rows count (take i rs) → new ≡ rows ++ replicate n false ∷ [] → new ≡ blank_rows count (take (i + 1) rs)
+pub blank_more : (count : Record → ℕ) (rs : List Record) (i n : ℕ) (r : Record) (rows new : List (List Bool)) → slice_get rs i ≡ Some r → n ≡ count r
+    → rows ≡ blank_rows count (take i rs) → new ≡ rows ++ replicate n false ∷ [] → new ≡ blank_rows count (take (i + 1) rs)
 blank_more count rs i n r rows new at en e em =
     em ∙ (ap (λ (xs : List (List Bool)). xs ++ replicate n false ∷ []) e
     ∙ (ap (λ m. blank_rows count (take i rs) ++ replicate m false ∷ []) en
@@ -229,25 +255,30 @@ blank_more count rs i n r rows new at en e em =
 
 module _ {X : Type 0} (names : ℕ → ℕ → X → Bool) (used : ℕ → ℕ → Bool) where
   pub nothing_named : (rows : List (List Bool)) (xs : List X) → xs ≡ [] → AreMarks rows used → AreMarks rows (λ e j. used e j || list_any (names e j) xs)
-  nothing_named rows xs none h = marks_as rows used (λ e j. used e j || list_any (names e j) xs) (λ e j. sym (ap (λ ys. used e j || list_any (names e j) ys) none ∙ or-false (used e j))) h
+  nothing_named rows xs none h = marks_as rows used (λ e j. used e j || list_any (names e j) xs)
+      (λ e j. sym (ap (λ ys. used e j || list_any (names e j) ys) none ∙ or-false (used e j))) h
 
-  pub more_named : (rows : List (List Bool)) (xs ys zs : List X) → zs ≡ xs ++ ys → AreMarks rows (λ e j. (used e j || list_any (names e j) xs) || list_any (names e j) ys) → AreMarks rows (λ e j. used e j || list_any (names e j) zs)
+  pub more_named : (rows : List (List Bool)) (xs ys zs : List X) → zs ≡ xs ++ ys
+      → AreMarks rows (λ e j. (used e j || list_any (names e j) xs) || list_any (names e j) ys) → AreMarks rows (λ e j. used e j || list_any (names e j) zs)
   more_named rows xs ys zs es h =
       marks_as rows (λ e j. (used e j || list_any (names e j) xs) || list_any (names e j) ys) (λ e j. used e j || list_any (names e j) zs)
       (λ e j. either_assoc (used e j) (list_any (names e j) xs) (list_any (names e j) ys)
       ∙ ap (λ b. used e j || b) (sym (ap (list_any (names e j)) es ∙ list_any-append (names e j) xs ys))) h
 
-  pub named_as : (rows : List (List Bool)) (xs ys : List X) → xs ≡ ys → AreMarks rows (λ e j. used e j || list_any (names e j) xs) → AreMarks rows (λ e j. used e j || list_any (names e j) ys)
+  pub named_as : (rows : List (List Bool)) (xs ys : List X) → xs ≡ ys → AreMarks rows (λ e j. used e j || list_any (names e j) xs)
+      → AreMarks rows (λ e j. used e j || list_any (names e j) ys)
   named_as rows xs ys e h = subst (λ (zs : List X). AreMarks rows (λ v j. used v j || list_any (names v j) zs)) e h
 
-pub flat_more : {A B : Type 0} (f : A → List B) (xs : List A) (i : ℕ) (x : A) → slice_get xs i ≡ Some x → flat_map f (take (i + 1) xs) ≡ flat_map f (take i xs) ++ f x
+pub flat_more : {A B : Type 0} (f : A → List B) (xs : List A) (i : ℕ) (x : A) → slice_get xs i ≡ Some x → flat_map f (take (i + 1) xs) ≡ flat_map f (take i xs)
+    ++ f x
 flat_more f xs i x at = ap (flat_map f) (one_more xs i x at) ∙ (flat_append (take i xs) (x ∷ []) ∙ ap (λ ys. flat_map f (take i xs) ++ ys) (append-nil (f x)))
   where
     flat_append : (us vs : List _) → flat_map f (us ++ vs) ≡ flat_map f us ++ flat_map f vs
     flat_append [] vs = refl
     flat_append (u ∷ us) vs = ap (λ ys. f u ++ ys) (flat_append us vs) ∙ sym (append_assoc (f u) (flat_map f us) (flat_map f vs))
 
-pub used_more : {X : Type 0} (used : ℕ → Bool) (k i : ℕ) (xs : List X) (x : X) → slice_get xs i ≡ Some x → used_from used k (take (i + 1) xs) ≡ used_from used k (take i xs) ++ (if used (k + i) then x ∷ [] else [])
+pub used_more : {X : Type 0} (used : ℕ → Bool) (k i : ℕ) (xs : List X) (x : X) → slice_get xs i ≡ Some x
+    → used_from used k (take (i + 1) xs) ≡ used_from used k (take i xs) ++ (if used (k + i) then x ∷ [] else [])
 used_more used k i [] x at = absurd (none-some x at)
 used_more used k zero (y ∷ xs) x at =
     let here : k ≡ k + 0 = omega arith in
@@ -259,7 +290,8 @@ used_more {X} used k (suc i) (y ∷ xs) x at =
     ∙ by_test (used k) (used_more used (k + 1) i xs x at ∙ ap (λ j. used_from used (k + 1) (take i xs) ++ (if used j then x ∷ [] else [])) on)
   where
     by_test : (b : Bool) → used_from used (k + 1) (take (i + 1) xs) ≡ used_from used (k + 1) (take i xs) ++ (if used (k + suc i) then x ∷ [] else [])
-        → (if b then y ∷ used_from used (k + 1) (take (i + 1) xs) else used_from used (k + 1) (take (i + 1) xs)) ≡ (if b then y ∷ used_from used (k + 1) (take i xs) else used_from used (k + 1) (take i xs)) ++ (if used (k + suc i) then x ∷ [] else [])
+        → (if b then y ∷ used_from used (k + 1) (take (i + 1) xs) else used_from used (k + 1) (take (i + 1) xs))
+        ≡ (if b then y ∷ used_from used (k + 1) (take i xs) else used_from used (k + 1) (take i xs)) ++ (if used (k + suc i) then x ∷ [] else [])
     by_test true h = ap (λ zs. y ∷ zs) h
     by_test false h = h
 
@@ -306,7 +338,8 @@ pub at_record : (P : Record → Type 0) (rs : List Record) (i : ℕ) (r : Record
 at_record P rs i r all at = all_at P rs i r all at
 
 -- the test of an item by its mark
-pub used_next : {X : Type 0} (used : ℕ → Bool) (row : List Bool) (i : ℕ) (b : Bool) (xs : List X) (x : X) → MarksItems row used → i < length row → b ≡ slice_index_or row i false → slice_get xs i ≡ Some x → used_from used 1 (take (i + 1) xs) ≡ used_from used 1 (take i xs) ++ (if b then x ∷ [] else [])
+pub used_next : {X : Type 0} (used : ℕ → Bool) (row : List Bool) (i : ℕ) (b : Bool) (xs : List X) (x : X) → MarksItems row used → i < length row
+    → b ≡ slice_index_or row i false → slice_get xs i ≡ Some x → used_from used 1 (take (i + 1) xs) ≡ used_from used 1 (take i xs) ++ (if b then x ∷ [] else [])
 used_next used row i b xs x m lt e at =
     let here : 1 + i ≡ i + 1 = omega arith in
     used_more used 1 i xs x at

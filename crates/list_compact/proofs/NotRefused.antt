@@ -1,5 +1,6 @@
 -- Once unused items are dropped, no entry of an extracted file has a fault.
-use Rattle.std.specs.Prelude.{◌≡◌, ◌⊎◌, ℕ, ◌/◌, ◌≤◌, Bool, true, false, ℤ, pos, List, ◌++◌, length, map, drop, Option, Some, None, option_map, is_some, if◌then◌else◌}
+use Rattle.std.specs.Prelude.{◌≡◌, ◌⊎◌, ℕ, ◌/◌, ◌≤◌, Bool, true, false, ℤ, pos, List, ◌++◌, length, map, drop, Option, Some, None, option_map, is_some}
+use Rattle.std.specs.Prelude.{if◌then◌else◌}
 use Rattle.std.specs.List.{list_all}
 use Rattle.std.specs.Ordering.{int_eq}
 use Rattle.std.proofs.Common.{refl, sym, ◌∙◌, ap, subst, arith, inl, inr}
@@ -21,7 +22,8 @@ use Rattle.entry_references.specs.Layout.{Own}
 use Rattle.entry_references.specs.Refs.{Record, own_of, names_entry, pointers_of, entry_fault}
 use Rattle.entry_references.proofs.KindPlaces.{own_is}
 use Rattle.entry_references.proofs.NamedRecords.{named_place}
-use Rattle.solid_extract.specs.Extracted.{is_solid, new_number, here, IsExtracted}
+use Rattle.iges_params.specs.Solids.{is_solid, is_solid_entry}
+use Rattle.solid_extract.specs.Extracted.{new_number, here, IsExtracted}
 use Rattle.solid_extract.specs.NewValues.{new_numbers, names_behind}
 use Rattle.solid_extract.proofs.NewNumbers.{new_named}
 use Rattle.list_compact.specs.Used.{is_kind}
@@ -59,19 +61,24 @@ module _ (g : Contents) where
     unfolding good
     stays vs e =
         ap (λ ws. entry_fault (dropped g) (s.0, ws)) e
-        ∙ without_fault (dropped g) s neat.own (record { listed = good.listed; own_values = good.own_values; groups = good.groups; pointers = all_names (pointers_of s) good.pointers })
+        ∙ without_fault (dropped g) s neat.own
+        (record { listed = good.listed; own_values = good.own_values; groups = good.groups; pointers = all_names (pointers_of s) good.pointers })
 
     -- one of the six kinds, of which no other pointers are due
-    rewritten : (kind : EntityKind) (items : Items kind) (new : List Value) → kind_of_type s.0.kind ≡ Some kind → IsRecordOf kind s.1 → IsRewritten kind items s.1 new
+    rewritten : (kind : EntityKind) (items : Items kind) (new : List Value) → kind_of_type s.0.kind ≡ Some kind → IsRecordOf kind s.1
+        → IsRewritten kind items s.1 new
         → ((z : ℤ) → Has (due kind items) (pointer z) → Has (due_in kind s.1) (pointer z)) → entry_fault (dropped g) (s.0, new) ≡ None
     unfolding good
     rewritten kind items new e is w fewer =
         let r : Record = (s.0, new) in
-        let own_read : own_for kind (due_in kind s.1) ≡ neat.own = same_Some (own_for kind (due_in kind s.1)) neat.own (sym (own_is s kind e is) ∙ good.own_values) in
+        let own_read : own_for kind (due_in kind s.1) ≡ neat.own =
+        same_Some (own_for kind (due_in kind s.1)) neat.own (sym (own_is s kind e is) ∙ good.own_values) in
         let own_new : own_of (s.0, new) ≡ Some (own_for kind (due_in kind new)) = own_is (s.0, new) kind e w.is in
-        let tail : drop (own_count kind new) new ≡ names_behind (new_numbers neat.kept neat.names) = w.rest ∙ (ap (λ (o : Own). drop o.count s.1) own_read ∙ neat.tail) in
+        let tail : drop (own_count kind new) new ≡ names_behind (new_numbers neat.kept neat.names) =
+        w.rest ∙ (ap (λ (o : Own). drop o.count s.1) own_read ∙ neat.tail) in
         let few : length (names_behind (new_numbers neat.kept neat.names)) ≤ length new = omega (arith, ap length tail, length-drop (own_count kind new) new) in
-        let was : pointers_of s ≡ numbers_in (due_in kind s.1) s.1 ++ matrix_number s.0.matrix ++ colour_number s.0.colour = pointers_by s (own_for kind (due_in kind s.1)) (own_is s kind e is) in
+        let was : pointers_of s ≡ numbers_in (due_in kind s.1) s.1 ++ matrix_number s.0.matrix ++ colour_number s.0.colour =
+        pointers_by s (own_for kind (due_in kind s.1)) (own_is s kind e is) in
         without_fault (dropped g) (s.0, new) (own_for kind (due_in kind new)) (record {
           listed = good.listed;
           own_values = own_new;
@@ -80,19 +87,25 @@ module _ (g : Contents) where
               ap (list_all (names_entry (dropped g))) (pointers_by (s.0, new) (own_for kind (due_in kind new)) own_new)
               ∙ all_names (numbers_in (due_in kind new) new ++ matrix_number s.0.matrix ++ colour_number s.0.colour)
               (list_test (names_entry g) (numbers_in (due_in kind new) new ++ matrix_number s.0.matrix ++ colour_number s.0.colour)
-              (λ z h. list_tested (names_entry g) (pointers_of s) good.pointers z (subst (λ zs. Has zs z) (sym was) (into z (has_append (numbers_in (due_in kind new) new ++ matrix_number s.0.matrix) (colour_number s.0.colour) z h)))));
+              (λ z h. list_tested (names_entry g) (pointers_of s) good.pointers z
+              (subst (λ zs. Has zs z) (sym was)
+              (into z (has_append (numbers_in (due_in kind new) new ++ matrix_number s.0.matrix) (colour_number s.0.colour) z h)))));
         })
       where
         number_was : (z : ℤ) → Has (numbers_in (due_in kind new) new) z → Has (numbers_in (due_in kind s.1) s.1) z
         number_was z h =
-            let is_due : IsDue (due_in kind new) z = All-at (IsDue (due_in kind new)) (numbers_in (due_in kind new) new) (numbers_are_due (due_in kind new) new w.is) z h in
+            let is_due : IsDue (due_in kind new) z = All-at (IsDue (due_in kind new)) (numbers_in (due_in kind new) new)
+            (numbers_are_due (due_in kind new) new w.is) z h in
             due_are_numbers (due_in kind s.1) s.1 z is (fewer z (subst (λ (us : Items kind). Has (due kind us) (pointer z)) w.items_are is_due.0), is_due.1)
 
-        into : (z : ℤ) → Has (numbers_in (due_in kind new) new ++ matrix_number s.0.matrix) z ⊎ Has (colour_number s.0.colour) z → Has (numbers_in (due_in kind s.1) s.1 ++ matrix_number s.0.matrix ++ colour_number s.0.colour) z
+        into : (z : ℤ) → Has (numbers_in (due_in kind new) new ++ matrix_number s.0.matrix) z ⊎ Has (colour_number s.0.colour) z
+            → Has (numbers_in (due_in kind s.1) s.1 ++ matrix_number s.0.matrix ++ colour_number s.0.colour) z
         into z (inr h) = has_right (numbers_in (due_in kind s.1) s.1 ++ matrix_number s.0.matrix) (colour_number s.0.colour) z h
-        into z (inl h) = has_left (numbers_in (due_in kind s.1) s.1 ++ matrix_number s.0.matrix) (colour_number s.0.colour) z (front (has_append (numbers_in (due_in kind new) new) (matrix_number s.0.matrix) z h))
+        into z (inl h) = has_left (numbers_in (due_in kind s.1) s.1 ++ matrix_number s.0.matrix) (colour_number s.0.colour) z
+            (front (has_append (numbers_in (due_in kind new) new) (matrix_number s.0.matrix) z h))
           where
-            front : Has (numbers_in (due_in kind new) new) z ⊎ Has (matrix_number s.0.matrix) z → Has (numbers_in (due_in kind s.1) s.1 ++ matrix_number s.0.matrix) z
+            front : Has (numbers_in (due_in kind new) new) z ⊎ Has (matrix_number s.0.matrix) z
+                → Has (numbers_in (due_in kind s.1) s.1 ++ matrix_number s.0.matrix) z
             front (inl m) = has_left (numbers_in (due_in kind s.1) s.1) (matrix_number s.0.matrix) z (number_was z m)
             front (inr m) = has_right (numbers_in (due_in kind s.1) s.1) (matrix_number s.0.matrix) z m
 
@@ -104,13 +117,15 @@ module _ (g : Contents) where
         by_kinds true d v el ed ev =
             let k = kind_is «loop» s el in
             rewritten «loop» (map (reindexed_tuple g) (items_of «loop» s.1)) (loop_values g s.1) k (of_kind «loop» k) (loop_rewritten g s.1 (of_kind «loop» k))
-            (alike_pointers (due «loop» (items_of «loop» s.1)) (due «loop» (map (reindexed_tuple g) (items_of «loop» s.1))) (tuples_alike (reindexed_tuple g) (tuple_alike g) (items_of «loop» s.1)))
+            (alike_pointers (due «loop» (items_of «loop» s.1)) (due «loop» (map (reindexed_tuple g) (items_of «loop» s.1)))
+            (tuples_alike (reindexed_tuple g) (tuple_alike g) (items_of «loop» s.1)))
         by_kinds false true v el ed ev =
             let k = kind_is edges s ed in
             let w = edges_either g e s.1 (of_kind edges k) in
             rewritten edges w.0 (edge_values g e s.1) k (of_kind edges k) w.1 (fewer w.0 w.2)
           where
-            fewer : (items : List EdgeTuple) → (items ≡ kept_edges g e s.1) ⊎ (items ≡ items_of edges s.1) → (z : ℤ) → Has (due edges items) (pointer z) → Has (due_in edges s.1) (pointer z)
+            fewer : (items : List EdgeTuple) → (items ≡ kept_edges g e s.1) ⊎ (items ≡ items_of edges s.1) → (z : ℤ) → Has (due edges items) (pointer z)
+                → Has (due_in edges s.1) (pointer z)
             fewer items (inl same) z h = kept_edge_pointers g e s.1 z (subst (λ (us : List EdgeTuple). Has (due edges us) (pointer z)) same h)
             fewer items (inr same) z h = subst (λ (us : List EdgeTuple). Has (due edges us) (pointer z)) same h
         by_kinds false false true el ed ev =
@@ -124,12 +139,14 @@ module _ (g : Contents) where
 named_as_dropped : (g : Contents) (m : ℕ) (q : Record) → named (dropped g) (pos m) ≡ Some q → (s : Record) × (named g (pos m) ≡ Some s) × (as_dropped g m s ≡ q)
 named_as_dropped g m q e = by_option (named g (pos m)) refl (sym (named_dropped g m) ∙ e)
   where
-    by_option : (o : Option Record) → named g (pos m) ≡ o → option_map (as_dropped g m) o ≡ Some q → (s : Record) × (named g (pos m) ≡ Some s) × (as_dropped g m s ≡ q)
+    by_option : (o : Option Record) → named g (pos m) ≡ o → option_map (as_dropped g m) o ≡ Some q → (s : Record) × (named g (pos m) ≡ Some s)
+        × (as_dropped g m s ≡ q)
     by_option None at h = absurd (none-some q h)
     by_option (Some s) at h = (s, at, same_Some (as_dropped g m s) q h)
 
 -- no entry has a fault
-pub faultless_again : (f g : Contents) (n : ℕ) → IsExtracted f n g → (m : ℕ) (q : Record) → named (dropped g) (pos m) ≡ Some q → entry_fault (dropped g) q ≡ None
+pub faultless_again : (f g : Contents) (n : ℕ) → IsExtracted f n g → (m : ℕ) (q : Record) → named (dropped g) (pos m) ≡ Some q
+    → entry_fault (dropped g) q ≡ None
 faultless_again f g n x m q e =
     let s = named_as_dropped g m q e in
     let there : Has g.entries s.0 = has_get g.entries (m / 2) s.0 (named_place g m s.0 s.1).1 in
@@ -137,18 +154,15 @@ faultless_again f g n x m q e =
     let of_kind : IsOfItsKind s.0 = All-at IsOfItsKind g.entries (extracted_of_kind f g n x) s.0 there in
     subst (λ p. entry_fault (dropped g) p ≡ None) s.2 (dropped_faultless g s.0 neat m of_kind)
 
-is_solid_by : Option Record → Bool
-is_solid_by o = elim o as (λ _. Bool) [ Some r ↦ int_eq r.0.kind (pos 186) | None ↦ false ]
-
 -- the solid is one still
 pub solid_still : (f g : Contents) (n : ℕ) (x : IsExtracted f n g) → is_solid (dropped g) (new_number x.kept n) ≡ true
-unfolding is_solid_by
 solid_still f g n x = by_record (named f (pos n)) refl x.solid
   where
-    by_record : (o : Option Record) → named f (pos n) ≡ o → elim o as (λ _. Bool) [ Some r ↦ int_eq r.0.kind (pos 186) | None ↦ false ] ≡ true → is_solid (dropped g) (new_number x.kept n) ≡ true
+    by_record : (o : Option Record) → named f (pos n) ≡ o → is_solid_entry o ≡ true → is_solid (dropped g) (new_number x.kept n) ≡ true
     by_record None e t = absurd (let no : false ≡ true = t in cc)
     by_record (Some r) e t =
-        ap is_solid_by (named_dropped g (new_number x.kept n) ∙ ap (option_map (as_dropped g (new_number x.kept n))) (new_named f g n x n r ((x.reached n).1 here) e)) ∙ t
+        ap is_solid_entry (named_dropped g (new_number x.kept n) ∙ ap (option_map (as_dropped g (new_number x.kept n)))
+        (new_named f g n x n r ((x.reached n).1 here) e)) ∙ t
 
 pub not_refused : DroppedIsNotRefused
 not_refused f g n x entity reason (inl bad) = both_ways (is_solid (dropped g) (new_number x.kept n)) bad.0 (solid_still f g n x)

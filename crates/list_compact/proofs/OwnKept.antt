@@ -1,5 +1,6 @@
 -- A kept record has the own values of its type, in the same number and with the same pointers, and behind them names alone.
-use Rattle.std.specs.Prelude.{◌≡◌, ◌⊎◌, ℕ, zero, suc, ◌+◌, ◌-◌, ◌<◌, ◌≤◌, ◌&&◌, nat_le, Bool, true, false, ℤ, pos, List, [], ◌∷◌, ◌++◌, length, map, take, drop, filter, filter_map, Option, Some, None, if◌then◌else◌, slice_index_or}
+use Rattle.std.specs.Prelude.{◌≡◌, ◌⊎◌, ℕ, zero, suc, ◌+◌, ◌-◌, ◌<◌, ◌≤◌, ◌&&◌, nat_le, Bool, true, false, ℤ, pos, List, [], ◌∷◌, ◌++◌, length, map, take, drop}
+use Rattle.std.specs.Prelude.{filter, filter_map, Option, Some, None, if◌then◌else◌, slice_index_or}
 use Rattle.std.specs.List.{enumerate_from, list_all}
 use Rattle.std.specs.Option.{unwrap_or}
 use Rattle.std.proofs.Common.{refl, sym, ◌∙◌, ap, subst, arith, inl, inr, length-append, length-take}
@@ -58,18 +59,21 @@ module _ (f : Contents) (kept : List ℕ) (r : Record) (own : Own) (at : own_of 
   front = map (λ (v : ℕ × Value). new_value kept own v.0 v.1) (enumerate_from 1 (take own.count r.1))
 
   values_split : new_values f kept r ≡ front ++ tail_of f kept r
-  values_split = ap (λ (o : Option Own). elim o as (λ _. List Value) [ Some w ↦ map (λ (v : ℕ × Value). new_value kept w v.0 v.1) (enumerate_from 1 (take w.count r.1)) | None ↦ [] ] ++ tail_of f kept r) at
+  values_split = ap (λ (o : Option Own). elim o as (λ _. List Value)
+      [ Some w ↦ map (λ (v : ℕ × Value). new_value kept w v.0 v.1) (enumerate_from 1 (take w.count r.1)) | None ↦ [] ] ++ tail_of f kept r) at
 
   front_long : length front ≡ length (take own.count r.1)
   front_long = length-map (enumerate_from 1 (take own.count r.1)) (λ (v : ℕ × Value). new_value kept own v.0 v.1) ∙ length-enumerate_from 1 (take own.count r.1)
 
   names_are : names_of f r ≡ filter (is_name f) (filter_map number_of (second_group own r.1).pointers)
-  names_are = ap (λ (o : Option Own). elim o as (λ _. List ℤ) [ Some w ↦ filter (is_name f) (filter_map number_of (second_group w r.1).pointers) | None ↦ [] ]) at
+  names_are = ap (λ (o : Option Own). elim o as (λ _. List ℤ) [ Some w ↦ filter (is_name f) (filter_map number_of (second_group w r.1).pointers) | None ↦ [] ])
+      at
 
   no_tail : length r.1 < own.count → tail_of f kept r ≡ []
   no_tail short =
       let gone : drop own.count r.1 ≡ [] = drop_of_length-le r.1 (omega (arith, short)) in
-      ap (λ zs. names_behind (new_numbers kept zs)) (names_are ∙ ap (λ ds. filter (is_name f) (filter_map number_of (group_at (group_at ds).rest).pointers)) gone)
+      ap (λ zs. names_behind (new_numbers kept zs))
+      (names_are ∙ ap (λ ds. filter (is_name f) (filter_map number_of (group_at (group_at ds).rest).pointers)) gone)
 
   -- a value in its place is the one that it was, with its pointer renamed
   pub value_kept : (k : ℕ) → 1 ≤ k → k ≤ own.count → value_at (new_values f kept r) k ≡ new_value kept own k (value_at r.1 k)
@@ -86,7 +90,8 @@ module _ (f : Contents) (kept : List ℕ) (r : Record) (own : Own) (at : own_of 
       by_length : (length r.1 < own.count) ⊎ (own.count ≤ length r.1) → drop own.count (front ++ tail_of f kept r) ≡ tail_of f kept r
       by_length (inl short) =
           let few : length front ≤ own.count = omega (arith, front_long, length-take own.count r.1, short) in
-          ap (λ ws. drop own.count (front ++ ws)) (no_tail short) ∙ (ap (drop own.count) (append-nil front) ∙ (drop_of_length-le front few ∙ sym (no_tail short)))
+          ap (λ ws. drop own.count (front ++ ws)) (no_tail short)
+          ∙ (ap (drop own.count) (append-nil front) ∙ (drop_of_length-le front few ∙ sym (no_tail short)))
       by_length (inr long) =
           let same : own.count ≡ length front = omega (arith, front_long, length-take own.count r.1, long) in
           ap (λ n. drop n (front ++ tail_of f kept r)) same ∙ drop-append_seam front (tail_of f kept r)
@@ -119,15 +124,19 @@ places_within k (coordinate w ∷ ds) j h = let x = places_within (k + 1) ds j h
 abbrev pub own_for : EntityKind → List DueValue → Own
 own_for kind ds = record { count = length ds; pointers = places_due 1 ds; cut = [] }
 
-kind_kept : (f : Contents) (kept : List ℕ) (r : Record) (kind : EntityKind) → kind_of_type r.0.kind ≡ Some kind → IsRecordOf kind r.1 → own_of (new_record f kept r) ≡ own_of r
+kind_kept : (f : Contents) (kept : List ℕ) (r : Record) (kind : EntityKind) → kind_of_type r.0.kind ≡ Some kind → IsRecordOf kind r.1
+    → own_of (new_record f kept r) ≡ own_of r
 kind_kept f kept r kind e is =
     let s : Record = new_record f kept r in
     let fits : Fits kind (new_values f kept r) (renamed_items (renamed kept) kind (items_of kind r.1)) = keeps f kept r kind e is in
-    let same : renamed_items (renamed kept) kind (items_of kind r.1) ≡ items_of kind (new_values f kept r) = only_read kind (new_values f kept r) (renamed_items (renamed kept) kind (items_of kind r.1)) fits in
-    let dues : due_in kind (new_values f kept r) ≡ R (renamed kept) (due_in kind r.1) = ap (due kind) (sym same) ∙ due_renamed (renamed kept) kind (items_of kind r.1) in
+    let same : renamed_items (renamed kept) kind (items_of kind r.1) ≡ items_of kind (new_values f kept r) =
+    only_read kind (new_values f kept r) (renamed_items (renamed kept) kind (items_of kind r.1)) fits in
+    let dues : due_in kind (new_values f kept r) ≡ R (renamed kept) (due_in kind r.1) = ap (due kind) (sym same)
+    ∙ due_renamed (renamed kept) kind (items_of kind r.1) in
     own_is (new_record f kept r) kind e (subst (Fits kind (new_values f kept r)) same fits)
     ∙ (ap (λ ds. Some (own_for kind ds)) dues
-    ∙ (ap (λ n. let o : Own = record { count = n; pointers = places_due 1 (R (renamed kept) (due_in kind r.1)); cut = [] } in Some o) (length-map (due_in kind r.1) (renamed_due (renamed kept)))
+    ∙ (ap (λ n. let o : Own = record { count = n; pointers = places_due 1 (R (renamed kept) (due_in kind r.1)); cut = [] } in Some o)
+    (length-map (due_in kind r.1) (renamed_due (renamed kept)))
     ∙ (ap (λ ks. let o : Own = record { count = length (due_in kind r.1); pointers = ks; cut = [] } in Some o) (places_same (renamed kept) 1 (due_in kind r.1))
     ∙ sym (own_is r kind e is))))
 
@@ -153,13 +162,15 @@ own_by l vs b = elim b as (λ _. Option Own) [ true ↦ if own_pointers (own_fro
 reads : (l : Layout) (vs : List Value) (own : Own) → own_in l vs ≡ Some own → Reads l vs own
 reads l vs own e = by_tests (are_counts l vs) (own_pointers (own_from l vs) vs) refl refl e
   where
-    by_tests : (a b : Bool) → are_counts l vs ≡ a → own_pointers (own_from l vs) vs ≡ b → elim a as (λ _. Option Own) [ true ↦ if b then Some (own_from l vs) else None | false ↦ None ] ≡ Some own → Reads l vs own
+    by_tests : (a b : Bool) → are_counts l vs ≡ a → own_pointers (own_from l vs) vs ≡ b
+        → elim a as (λ _. Option Own) [ true ↦ if b then Some (own_from l vs) else None | false ↦ None ] ≡ Some own → Reads l vs own
     by_tests true true ea eb h = record { counts = ea; pointers = eb; is = same_Some (own_from l vs) own h }
     by_tests true false ea eb h = absurd (none-some own h)
     by_tests false b ea eb h = absurd (none-some own h)
 
 read_as : (l : Layout) (vs : List Value) (own : Own) → Reads l vs own → own_in l vs ≡ Some own
-read_as l vs own h = ap (own_by l vs) h.counts ∙ (cond-true (own_pointers (own_from l vs) vs) (Some (own_from l vs)) None h.pointers ∙ ap (λ (o : Own). Some o) h.is)
+read_as l vs own h = ap (own_by l vs) h.counts
+    ∙ (cond-true (own_pointers (own_from l vs) vs) (Some (own_from l vs)) None h.pointers ∙ ap (λ (o : Own). Some o) h.is)
 
 pointer_stays : (kept : List ℕ) (own : Own) (k : ℕ) (v : Value) → is_pointer v ≡ true → is_pointer (new_value kept own k v) ≡ true
 pointer_stays kept own k value.Default h = refl
@@ -175,14 +186,17 @@ value_stays kept own k (value.Int n) p c =
 value_stays kept own k (value.Real w) p c = refl
 value_stays kept own k (value.Text w) p c = refl
 
-count_stays : (vs ws : List Value) (v : Value) → is_count vs v ≡ true → (unwrap_or (count_of v) 0 ≤ length vs → unwrap_or (count_of v) 0 ≤ length ws) → is_count ws v ≡ true
+count_stays : (vs ws : List Value) (v : Value) → is_count vs v ≡ true → (unwrap_or (count_of v) 0 ≤ length vs → unwrap_or (count_of v) 0 ≤ length ws)
+    → is_count ws v ≡ true
 count_stays vs ws v h more = by_count (count_of v) h more
   where
-    by_count : (o : Option ℕ) → elim o as (λ _. Bool) [ Some n ↦ nat_le n (length vs) | None ↦ false ] ≡ true → (unwrap_or o 0 ≤ length vs → unwrap_or o 0 ≤ length ws) → elim o as (λ _. Bool) [ Some n ↦ nat_le n (length ws) | None ↦ false ] ≡ true
+    by_count : (o : Option ℕ) → elim o as (λ _. Bool) [ Some n ↦ nat_le n (length vs) | None ↦ false ] ≡ true
+        → (unwrap_or o 0 ≤ length vs → unwrap_or o 0 ≤ length ws) → elim o as (λ _. Bool) [ Some n ↦ nat_le n (length ws) | None ↦ false ] ≡ true
     by_count None k m = k
     by_count (Some n) k m = le-leb n (length ws) (m (leb-true n (length vs) k))
 
-module _ (f : Contents) (kept : List ℕ) (r : Record) (l : Layout) (own : Own) (steady : IsSteady l) (h : own_in l r.1 ≡ Some own) (at : own_of r ≡ Some own) where
+module _ (f : Contents) (kept : List ℕ) (r : Record) (l : Layout) (own : Own) (steady : IsSteady l) (h : own_in l r.1 ≡ Some own)
+    (at : own_of r ≡ Some own) where
   old : Reads l r.1 own
   old = reads l r.1 own h
 
@@ -211,7 +225,8 @@ module _ (f : Contents) (kept : List ℕ) (r : Record) (l : Layout) (own : Own) 
       ∙ value_stays kept own k (value_at r.1 k) (ap (λ ks. is_among ks k) (sym pointers_are) ∙ w.2) (ap (λ ks. is_among ks k) (sym cut_is) ∙ w.3)
 
   numbers_same : counts_at vs (l.counts ++ l.choices) ≡ ns
-  numbers_same = map_same (λ k. unwrap_or (count_of (value_at vs k)) 0) (λ k. unwrap_or (count_of (value_at r.1 k)) 0) (l.counts ++ l.choices) (λ k m. ap (λ v. unwrap_or (count_of v) 0) (counted_stays k m))
+  numbers_same = map_same (λ k. unwrap_or (count_of (value_at vs k)) 0) (λ k. unwrap_or (count_of (value_at r.1 k)) 0) (l.counts ++ l.choices)
+      (λ k m. ap (λ v. unwrap_or (count_of v) 0) (counted_stays k m))
 
   own_same : own_from l vs ≡ own
   own_same = ap (λ (ms : List ℕ). let o : Own = record { count = l.own ms; pointers = l.pointers ms; cut = l.cut } in o) numbers_same ∙ old.is
@@ -221,7 +236,8 @@ module _ (f : Contents) (kept : List ℕ) (r : Record) (l : Layout) (own : Own) 
       let all = (and_parts (list_all (λ j. is_count r.1 (value_at r.1 j)) l.counts) (list_all (λ j. is_choice (value_at r.1 j)) l.choices) old.counts).0 in
       let few : count_in r.1 k ≤ own.count = omega (arith, steady.few r.1 k m, count_is) in
       ap (is_count vs) (counted_stays k (has_left l.counts l.choices k m))
-      ∙ count_stays r.1 vs (value_at r.1 k) (list_tested (λ j. is_count r.1 (value_at r.1 j)) l.counts all k m) (λ there. long_enough f kept r own at (count_in r.1 k) few there)
+      ∙ count_stays r.1 vs (value_at r.1 k) (list_tested (λ j. is_count r.1 (value_at r.1 j)) l.counts all k m)
+      (λ there. long_enough f kept r own at (count_in r.1 k) few there)
 
   choices_pass : (k : ℕ) → Has l.choices k → is_choice (value_at vs k) ≡ true
   choices_pass k m =
@@ -241,7 +257,8 @@ module _ (f : Contents) (kept : List ℕ) (r : Record) (l : Layout) (own : Own) 
 
   pub layout_kept : own_in l vs ≡ Some own
   layout_kept = read_as l vs own (record {
-    counts = and_from (list_all (λ k. is_count vs (value_at vs k)) l.counts) (list_all (λ k. is_choice (value_at vs k)) l.choices) (list_test (λ k. is_count vs (value_at vs k)) l.counts counts_pass) (list_test (λ k. is_choice (value_at vs k)) l.choices choices_pass);
+    counts = and_from (list_all (λ k. is_count vs (value_at vs k)) l.counts) (list_all (λ k. is_choice (value_at vs k)) l.choices)
+        (list_test (λ k. is_count vs (value_at vs k)) l.counts counts_pass) (list_test (λ k. is_choice (value_at vs k)) l.choices choices_pass);
     pointers = ap (λ (o : Own). own_pointers o vs) own_same ∙ list_test (λ k. is_pointer (value_at vs k)) (own.pointers ++ own.cut) pointers_pass;
     is = own_same;
   })
@@ -258,7 +275,8 @@ pub record KeepsOwn (f : Contents) (kept : List ℕ) (r : Record) (own : Own) : 
   pub pointers : (k : ℕ) → Has own.pointers k → (1 ≤ k) × (k ≤ own.count)
 
 abbrev own_as : Record → List Value → Option EntityKind → Option Own
-own_as r vs o = elim o as (λ _. Option Own) [ Some k ↦ own_of_kind k vs | None ↦ elim (layout_of r.0) as (λ _. Option Own) [ Some layout ↦ own_in layout vs | None ↦ None ] ]
+own_as r vs o = elim o as (λ _. Option Own)
+    [ Some k ↦ own_of_kind k vs | None ↦ elim (layout_of r.0) as (λ _. Option Own) [ Some layout ↦ own_in layout vs | None ↦ None ] ]
 
 abbrev own_under : List Value → Option Layout → Option Own
 own_under vs o = elim o as (λ _. Option Own) [ Some layout ↦ own_in layout vs | None ↦ None ]
@@ -279,6 +297,7 @@ own_kept f kept r own good at = by_kind (kind_of_type r.0.kind) refl
         let read : own_for kind (due_in kind r.1) ≡ own = same_Some (own_for kind (due_in kind r.1)) own (sym (own_is r kind e is) ∙ at) in
         record {
           same = kind_kept f kept r kind e is ∙ at;
-          pointers = subst (λ (o : Own). (k : ℕ) → Has o.pointers k → (1 ≤ k) × (k ≤ o.count)) read (λ k m. let w = places_within 1 (due_in kind r.1) k m in (w.0, omega (arith, w.1)));
+          pointers = subst (λ (o : Own). (k : ℕ) → Has o.pointers k → (1 ≤ k) × (k ≤ o.count)) read
+              (λ k m. let w = places_within 1 (due_in kind r.1) k m in (w.0, omega (arith, w.1)));
         }
     by_kind None e = by_layout (layout_of r.0) refl e (sym (ap (own_as r r.1) e) ∙ at)

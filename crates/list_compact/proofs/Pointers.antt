@@ -1,5 +1,6 @@
 -- The pointers that are due in a record, and the numbers in their places.
-use Rattle.std.specs.Prelude.{◌≡◌, ℕ, suc, ◌+◌, ◌-◌, ◌≤◌, Bool, true, false, ℤ, pos, List, [], ◌∷◌, flat_map, filter_map, Option, Some, None, slice_index_or, if◌then◌else◌}
+use Rattle.std.specs.Prelude.{◌≡◌, ℕ, suc, ◌+◌, ◌-◌, ◌≤◌, Bool, true, false, ℤ, pos, List, [], ◌∷◌, flat_map, filter_map, Option, Some, None, slice_index_or}
+use Rattle.std.specs.Prelude.{if◌then◌else◌}
 use Rattle.std.specs.List.{AllByRecursion, AllZip, cons_option}
 use Rattle.std.specs.Ordering.{int_eq}
 use Rattle.std.proofs.Common.{refl, sym, ◌∙◌, ap, subst, arith, inl, inr}
@@ -49,14 +50,17 @@ module _ (v : ℕ → Value) where
   abbrev followed : ℕ → List DueValue → List ℤ
   followed k ds = filter_map (λ j. number_of (v j)) (places_due k ds)
 
-  numbers_due : (k : ℕ) (ds all : List DueValue) (vs : List Value) → ((d : DueValue) → Has ds d → Has all d) → MeetsAll ds vs → Agrees v k vs → AllByRecursion (IsDue all) (followed k ds)
+  numbers_due : (k : ℕ) (ds all : List DueValue) (vs : List Value) → ((d : DueValue) → Has ds d → Has all d) → MeetsAll ds vs → Agrees v k vs
+      → AllByRecursion (IsDue all) (followed k ds)
   numbers_due k [] all vs within m a = tt
   numbers_due k (pointer z ∷ ds) all [] within m a = absurd m
   numbers_due k (pointer z ∷ ds) all (x ∷ vs) within m a =
       let read : number_of (v k) ≡ (if int_eq z (pos 0) then None else Some z) = ap number_of (a.0 ∙ m.0) in
-      subst (λ o. AllByRecursion (IsDue all) (cons_option o (followed (k + 1) ds))) (sym read) (by_test (int_eq z (pos 0)) refl (numbers_due (k + 1) ds all vs (λ d h. within d (inr h)) m.1 a.1))
+      subst (λ o. AllByRecursion (IsDue all) (cons_option o (followed (k + 1) ds))) (sym read)
+      (by_test (int_eq z (pos 0)) refl (numbers_due (k + 1) ds all vs (λ d h. within d (inr h)) m.1 a.1))
     where
-      by_test : (b : Bool) → int_eq z (pos 0) ≡ b → AllByRecursion (IsDue all) (followed (k + 1) ds) → AllByRecursion (IsDue all) (cons_option (if b then None else Some z) (followed (k + 1) ds))
+      by_test : (b : Bool) → int_eq z (pos 0) ≡ b → AllByRecursion (IsDue all) (followed (k + 1) ds)
+          → AllByRecursion (IsDue all) (cons_option (if b then None else Some z) (followed (k + 1) ds))
       by_test true e h = h
       by_test false e h = ((within (pointer z) (inl refl), e), h)
   numbers_due k (number z ∷ ds) all [] within m a = absurd m
@@ -79,14 +83,17 @@ module _ (v : ℕ → Value) where
   option_later None zs z h = h
   option_later (Some y) zs z h = inr h
 
-  due_numbers : (k : ℕ) (ds : List DueValue) (vs : List Value) (z : ℤ) → Has ds (pointer z) → int_eq z (pos 0) ≡ false → MeetsAll ds vs → Agrees v k vs → Has (followed k ds) z
+  due_numbers : (k : ℕ) (ds : List DueValue) (vs : List Value) (z : ℤ) → Has ds (pointer z) → int_eq z (pos 0) ≡ false → MeetsAll ds vs → Agrees v k vs
+      → Has (followed k ds) z
   due_numbers k [] vs z h some m a = absurd h
   due_numbers k (pointer y ∷ ds) [] z h some m a = absurd m
   due_numbers k (pointer y ∷ ds) (x ∷ vs) z (inl e) some m a =
       let same : y ≡ z = cc in
-      let read : number_of (v k) ≡ (if int_eq z (pos 0) then None else Some z) = ap number_of (a.0 ∙ m.0) ∙ ap (λ w. if int_eq w (pos 0) then None else Some w) same in
+      let read : number_of (v k) ≡ (if int_eq z (pos 0) then None else Some z) = ap number_of (a.0 ∙ m.0) ∙ ap (λ w. if int_eq w (pos 0) then None else Some w)
+      same in
       option_first (number_of (v k)) (followed (k + 1) ds) z (read ∙ cond-false (int_eq z (pos 0)) None (Some z) some)
-  due_numbers k (pointer y ∷ ds) (x ∷ vs) z (inr h) some m a = option_later (number_of (v k)) (followed (k + 1) ds) z (due_numbers (k + 1) ds vs z h some m.1 a.1)
+  due_numbers k (pointer y ∷ ds) (x ∷ vs) z (inr h) some m a =
+      option_later (number_of (v k)) (followed (k + 1) ds) z (due_numbers (k + 1) ds vs z h some m.1 a.1)
   due_numbers k (number y ∷ ds) [] z h some m a = absurd m
   due_numbers k (number y ∷ ds) (x ∷ vs) z (inl e) some m a = absurd cc
   due_numbers k (number y ∷ ds) (x ∷ vs) z (inr h) some m a = due_numbers (k + 1) ds vs z h some m.1 a.1
@@ -140,7 +147,8 @@ edge_pointers g e z (inr (inr (inr (inl same)))) = inr (inr (inr (inl same)))
 edge_pointers g e z (inr (inr (inr (inr (inl same))))) = absurd cc
 edge_pointers g e z (inr (inr (inr (inr (inr m))))) = absurd m
 
-pub kept_edge_pointers : (g : Contents) (e : ℕ) (vs : List Value) (z : ℤ) → Has (due edges (kept_edges g e vs)) (pointer z) → Has (due edges (items_of edges vs)) (pointer z)
+pub kept_edge_pointers : (g : Contents) (e : ℕ) (vs : List Value) (z : ℤ) → Has (due edges (kept_edges g e vs)) (pointer z)
+    → Has (due edges (items_of edges vs)) (pointer z)
 kept_edge_pointers g e vs z (inl same) = absurd cc
 kept_edge_pointers g e vs z (inr m) =
     let one = from_flat_map edge_due (kept_edges g e vs) (pointer z) m in

@@ -1,5 +1,6 @@
 -- Ranks of marked items.
-use Rattle.std.specs.Prelude.{◌≡◌, ◌⊎◌, ℕ, zero, suc, ◌+◌, ◌-◌, ◌*◌, ◌/◌, ◌%◌, ◌<◌, ◌≤◌, nat_le, Bool, true, false, ℤ, pos, negsuc, List, [], ◌∷◌, ◌++◌, length, map, take, Option, Some, None, option_map, slice_get, slice_index_or, if◌then◌else◌}
+use Rattle.std.specs.Prelude.{◌≡◌, ◌⊎◌, ℕ, zero, suc, ◌+◌, ◌-◌, ◌*◌, ◌/◌, ◌%◌, ◌<◌, ◌≤◌, nat_le, Bool, true, false, ℤ, pos, negsuc, List, [], ◌∷◌, ◌++◌, length}
+use Rattle.std.specs.Prelude.{map, take, Option, Some, None, option_map, slice_get, slice_index_or, if◌then◌else◌}
 use Rattle.std.specs.List.{list_any}
 use Rattle.std.proofs.Common.{refl, sym, ◌∙◌, ap, arith, inl, inr}
 use Rattle.std.proofs.Math.Nat.{div-add-mod}
@@ -10,7 +11,8 @@ use Rattle.iges_params.specs.Named.{named}
 use Rattle.solid_data.specs.Obligations.{entry_number}
 use Rattle.entry_references.specs.Refs.{Record}
 use Rattle.entry_references.proofs.NamedRecords.{named_place}
-use Rattle.list_compact.specs.Used.{edges_in, vertices_in, edge_count, vertex_count, count_from, rank, ranked, all_uses, names_edge, is_item, is_used_edge, is_used_vertex}
+use Rattle.list_compact.specs.Used.{edges_in, vertices_in, edge_count, vertex_count, count_from, rank, ranked, all_uses, names_edge, is_item, is_used_edge}
+use Rattle.list_compact.specs.Used.{is_used_vertex}
 use Rattle.list_compact.specs.Marking.{AreMarks, AreRanks, HasPlace, Covers, IsRankAt, ranks_of, sizes, edge_sizes, vertex_sizes}
 use Rattle.std.proofs.lemmas.List.{map-append}
 use Rattle.solid_extract.proofs.Copies.{one_more}
@@ -32,15 +34,18 @@ ranks_at u n k (suc i) (true ∷ bs) h lt =
     let here : k ≡ k + 0 = omega arith in
     let is : u k ≡ true = ap u here ∙ sym (h 0 (omega arith)) in
     let on : k + 1 + i ≡ k + suc i = omega arith in
-    let more : count_from u k (suc (suc i)) ≡ suc (count_from u (k + 1) (suc i)) = cond-true (u k) (suc (count_from u (k + 1) (suc i))) (count_from u (k + 1) (suc i)) is in
+    let more : count_from u k (suc (suc i)) ≡ suc (count_from u (k + 1) (suc i)) =
+    cond-true (u k) (suc (count_from u (k + 1) (suc i))) (count_from u (k + 1) (suc i)) is in
     let sum : suc n + count_from u (k + 1) (suc i) ≡ n + count_from u k (suc (suc i)) = omega (arith, more) in
-    ranks_at u (suc n) (k + 1) i bs (λ j below. let past : k + suc j ≡ k + 1 + j = omega arith in h (suc j) (omega (arith, below)) ∙ ap u past) (omega (arith, lt))
+    ranks_at u (suc n) (k + 1) i bs (λ j below. let past : k + suc j ≡ k + 1 + j = omega arith in h (suc j) (omega (arith, below)) ∙ ap u past)
+    (omega (arith, lt))
     ∙ (ap (λ m. if u m then pos (suc n + count_from u (k + 1) (suc i)) else pos 0) on ∙ ap (λ m. if u (k + suc i) then pos m else pos 0) sum)
 ranks_at u n k (suc i) (false ∷ bs) h lt =
     let here : k ≡ k + 0 = omega arith in
     let is : u k ≡ false = ap u here ∙ sym (h 0 (omega arith)) in
     let on : k + 1 + i ≡ k + suc i = omega arith in
-    let more : count_from u k (suc (suc i)) ≡ count_from u (k + 1) (suc i) = cond-false (u k) (suc (count_from u (k + 1) (suc i))) (count_from u (k + 1) (suc i)) is in
+    let more : count_from u k (suc (suc i)) ≡ count_from u (k + 1) (suc i) =
+    cond-false (u k) (suc (count_from u (k + 1) (suc i))) (count_from u (k + 1) (suc i)) is in
     let sum : n + count_from u (k + 1) (suc i) ≡ n + count_from u k (suc (suc i)) = omega (arith, more) in
     ranks_at u n (k + 1) i bs (λ j below. let past : k + suc j ≡ k + 1 + j = omega arith in h (suc j) (omega (arith, below)) ∙ ap u past) (omega (arith, lt))
     ∙ (ap (λ m. if u m then pos (n + count_from u (k + 1) (suc i)) else pos 0) on ∙ ap (λ m. if u (k + suc i) then pos m else pos 0) sum)
@@ -52,10 +57,12 @@ ranks_long n (false ∷ bs) = ap suc (ranks_long n bs)
 
 -- ---- all rows
 
-pub marks_of : (rows : List (List Bool)) (k : ℕ) (row : List ℤ) → slice_get (map (ranks_of 0) rows) k ≡ Some row → (marks : List Bool) × (slice_get rows k ≡ Some marks) × (ranks_of 0 marks ≡ row)
+pub marks_of : (rows : List (List Bool)) (k : ℕ) (row : List ℤ) → slice_get (map (ranks_of 0) rows) k ≡ Some row
+    → (marks : List Bool) × (slice_get rows k ≡ Some marks) × (ranks_of 0 marks ≡ row)
 marks_of rows k row at = by_option (slice_get rows k) refl (sym (slice_get-map (ranks_of 0) rows k) ∙ at)
   where
-    by_option : (o : Option (List Bool)) → slice_get rows k ≡ o → option_map (ranks_of 0) o ≡ Some row → (marks : List Bool) × (slice_get rows k ≡ Some marks) × (ranks_of 0 marks ≡ row)
+    by_option : (o : Option (List Bool)) → slice_get rows k ≡ o → option_map (ranks_of 0) o ≡ Some row → (marks : List Bool) × (slice_get rows k ≡ Some marks)
+        × (ranks_of 0 marks ≡ row)
     by_option None e h = absurd (none-some row h)
     by_option (Some marks) e h = (marks, e, same_Some (ranks_of 0 marks) row h)
 
@@ -66,7 +73,9 @@ ranks_are rows used h k i row at lt =
     let within : i < length m.0 = omega (arith, lt, ap length m.2, ranks_long 0 m.0) in
     let here : 1 + i ≡ i + 1 = omega arith in
     let next : suc i ≡ i + 1 = omega arith in
-    let none : 0 + count_from (used (2 * k + 1)) 1 (suc i) ≡ rank (used (2 * k + 1)) (i + 1) = (let z : 0 + count_from (used (2 * k + 1)) 1 (suc i) ≡ count_from (used (2 * k + 1)) 1 (suc i) = omega arith in z) ∙ ap (count_from (used (2 * k + 1)) 1) next in
+    let none : 0 + count_from (used (2 * k + 1)) 1 (suc i) ≡ rank (used (2 * k + 1)) (i + 1) =
+    (let z : 0 + count_from (used (2 * k + 1)) 1 (suc i) ≡ count_from (used (2 * k + 1)) 1 (suc i) = omega arith in z)
+    ∙ ap (count_from (used (2 * k + 1)) 1) next in
     ap (λ (xs : List ℤ). slice_index_or xs i (pos 0)) (sym m.2)
     ∙ (ranks_at (used (2 * k + 1)) 0 1 i m.0 (λ j below. let n : j + 1 ≡ 1 + j = omega arith in h k j m.0 m.1 below ∙ ap (used (2 * k + 1)) n) within
     ∙ (ap (λ j. if used (2 * k + 1) j then pos (0 + count_from (used (2 * k + 1)) 1 (suc i)) else pos 0) here
@@ -74,13 +83,16 @@ ranks_are rows used h k i row at lt =
 
 module _ (g : Contents) (rows : List (List Bool)) where
   -- an item of a list that an entry of the file is
-  place_from : (count : Record → ℕ) → sizes rows ≡ map count g.entries → (e j : ℕ) (r : Record) → named g (pos e) ≡ Some r → 1 ≤ j → j ≤ count r → HasPlace (map (ranks_of 0) rows) e j
+  place_from : (count : Record → ℕ) → sizes rows ≡ map count g.entries → (e j : ℕ) (r : Record) → named g (pos e) ≡ Some r → 1 ≤ j → j ≤ count r
+      → HasPlace (map (ranks_of 0) rows) e j
   place_from count es e j r name low high =
       let there = named_place g e r name in
-      let long : slice_get (sizes rows) (e / 2) ≡ Some (count r) = ap (λ (ns : List ℕ). slice_get ns (e / 2)) es ∙ (slice_get-map count g.entries (e / 2) ∙ ap (option_map count) there.1) in
+      let long : slice_get (sizes rows) (e / 2) ≡ Some (count r) = ap (λ (ns : List ℕ). slice_get ns (e / 2)) es
+      ∙ (slice_get-map count g.entries (e / 2) ∙ ap (option_map count) there.1) in
       by_row (slice_get rows (e / 2)) refl there.0 (sym (slice_get-map (λ (x : List Bool). length x) rows (e / 2)) ∙ long)
     where
-      by_row : (o : Option (List Bool)) → slice_get rows (e / 2) ≡ o → e % 2 ≡ 1 → option_map (λ (x : List Bool). length x) o ≡ Some (count r) → HasPlace (map (ranks_of 0) rows) e j
+      by_row : (o : Option (List Bool)) → slice_get rows (e / 2) ≡ o → e % 2 ≡ 1 → option_map (λ (x : List Bool). length x) o ≡ Some (count r)
+          → HasPlace (map (ranks_of 0) rows) e j
       by_row None at odd h = absurd (none-some (count r) h)
       by_row (Some row) at odd h =
           let size : length row ≡ count r = same_Some (length row) (count r) h in
@@ -97,10 +109,12 @@ module _ (g : Contents) (rows : List (List Bool)) where
   item_parts : (n j : ℕ) → is_item n j ≡ true → (1 ≤ j) × (j ≤ n)
   item_parts n j t = let p = and_parts (nat_le 1 j) (nat_le j n) t in (leb-true 1 j p.0, leb-true j n p.1)
 
-  from_count : (count : Record → ℕ) (e j n : ℕ) → n ≡ elim (named g (pos e)) as (λ _. ℕ) [ Some r ↦ count r | None ↦ 0 ] → 1 ≤ j → j ≤ n → (r : Record) × (named g (pos e) ≡ Some r) × (j ≤ count r)
+  from_count : (count : Record → ℕ) (e j n : ℕ) → n ≡ elim (named g (pos e)) as (λ _. ℕ) [ Some r ↦ count r | None ↦ 0 ] → 1 ≤ j → j ≤ n
+      → (r : Record) × (named g (pos e) ≡ Some r) × (j ≤ count r)
   from_count count e j n en low high = by_option (named g (pos e)) refl en
     where
-      by_option : (o : Option Record) → named g (pos e) ≡ o → n ≡ elim o as (λ _. ℕ) [ Some r ↦ count r | None ↦ 0 ] → (r : Record) × (named g (pos e) ≡ Some r) × (j ≤ count r)
+      by_option : (o : Option Record) → named g (pos e) ≡ o → n ≡ elim o as (λ _. ℕ) [ Some r ↦ count r | None ↦ 0 ]
+          → (r : Record) × (named g (pos e) ≡ Some r) × (j ≤ count r)
       by_option None at h = absurd (omega (arith, h, low, high))
       by_option (Some r) at h = (r, at, omega (arith, h, high))
 
@@ -121,7 +135,8 @@ module _ (g : Contents) (rows : List (List Bool)) where
 -- ---- an index
 
 module _ (rows : List (List ℤ)) (used : ℕ → ℕ → Bool) (ranks : AreRanks rows used) (covers : Covers rows used) (z j r : ℤ)
-    (item : (k i : ℕ) (row : List ℤ) → z ≡ pos (2 * k + 1) → j ≡ pos (i + 1) → slice_get rows k ≡ Some row → r ≡ slice_index_or row i (pos 0)) (found : (r ≡ pos 0) ⊎ IsRankAt rows z j r) where
+    (item : (k i : ℕ) (row : List ℤ) → z ≡ pos (2 * k + 1) → j ≡ pos (i + 1) → slice_get rows k ≡ Some row → r ≡ slice_index_or row i (pos 0))
+    (found : (r ≡ pos 0) ⊎ IsRankAt rows z j r) where
   -- an item that isn't used has no rank
   unused : (n : ℕ) → j ≡ pos n → used (entry_number z) n ≡ false → r ≡ pos 0
   unused n e f = by_place found
@@ -142,14 +157,16 @@ module _ (rows : List (List ℤ)) (used : ℕ → ℕ → Bool) (ranks : AreRank
               let same : n ≡ p.item + 1 = cc in
               let entry : entry_number z ≡ 2 * p.entry + 1 = ap entry_number p.is_entry in
               let off : used (2 * p.entry + 1) (p.item + 1) ≡ false = ap (λ m. used m (p.item + 1)) (sym entry) ∙ (ap (used (entry_number z)) (sym same) ∙ f) in
-              p.is ∙ (ranks p.entry p.item p.row p.there lt ∙ cond-false (used (2 * p.entry + 1) (p.item + 1)) (pos (rank (used (2 * p.entry + 1)) (p.item + 1))) (pos 0) off)
+              p.is ∙ (ranks p.entry p.item p.row p.there lt ∙ cond-false (used (2 * p.entry + 1) (p.item + 1))
+              (pos (rank (used (2 * p.entry + 1)) (p.item + 1))) (pos 0) off)
 
   -- one that is used has its rank, which is no 0
   used_rank : (n : ℕ) → j ≡ pos n → used (entry_number z) n ≡ true → (r ≡ pos (rank (used (entry_number z)) n)) × (1 ≤ rank (used (entry_number z)) n)
   used_rank n e t =
       let p : HasPlace rows (entry_number z) n = covers (entry_number z) n t in
       let number : z ≡ pos (2 * p.entry + 1) = by_sign z p.entry p.is_entry in
-      let on : used (2 * p.entry + 1) (p.item + 1) ≡ true = ap (λ m. used m (p.item + 1)) (sym p.is_entry) ∙ (ap (used (entry_number z)) (sym p.is_item) ∙ t) in (
+      let on : used (2 * p.entry + 1) (p.item + 1) ≡ true = ap (λ m. used m (p.item + 1)) (sym p.is_entry) ∙ (ap (used (entry_number z)) (sym p.is_item) ∙ t)
+      in (
         item p.entry p.item p.row number (e ∙ ap (λ m. pos m) p.is_item) p.there
             ∙ (ranks p.entry p.item p.row p.there p.within
             ∙ (cond-true (used (2 * p.entry + 1) (p.item + 1)) (pos (rank (used (2 * p.entry + 1)) (p.item + 1))) (pos 0) on
@@ -161,10 +178,15 @@ module _ (rows : List (List ℤ)) (used : ℕ → ℕ → Bool) (ranks : AreRank
       by_sign (pos m) k h = ap (λ n. pos n) h
       by_sign (negsuc m) k h = absurd (omega (arith, h))
 
-  by_used : (n : ℕ) (b : Bool) → j ≡ pos n → used (entry_number z) n ≡ b → ((r ≡ pos 0) × (ranked (used (entry_number z)) (pos n) ≡ pos n)) ⊎ ((r ≡ pos 0 → ⊥) × (ranked (used (entry_number z)) (pos n) ≡ r))
+  by_used : (n : ℕ) (b : Bool) → j ≡ pos n → used (entry_number z) n ≡ b → ((r ≡ pos 0) × (ranked (used (entry_number z)) (pos n) ≡ pos n))
+      ⊎ ((r ≡ pos 0 → ⊥) × (ranked (used (entry_number z)) (pos n) ≡ r))
   by_used n true e t =
       let u = used_rank n e t in
-      inr ((λ none. let no_rank : pos (rank (used (entry_number z)) n) ≡ pos 0 = sym u.0 ∙ none in let zero_rank : rank (used (entry_number z)) n ≡ 0 = cc in omega (arith, zero_rank, u.1)), cond-true (used (entry_number z) n) (pos (rank (used (entry_number z)) n)) (pos n) t ∙ sym u.0)
+      inr (
+        (λ none. let no_rank : pos (rank (used (entry_number z)) n) ≡ pos 0 = sym u.0 ∙ none in let zero_rank : rank (used (entry_number z)) n ≡ 0 = cc
+            in omega (arith, zero_rank, u.1)),
+        cond-true (used (entry_number z) n) (pos (rank (used (entry_number z)) n)) (pos n) t ∙ sym u.0,
+      )
   by_used n false e t = inl (unused n e t, cond-false (used (entry_number z) n) (pos (rank (used (entry_number z)) n)) (pos n) t)
 
   by_index : (w : ℤ) → j ≡ w → ((r ≡ pos 0) × (ranked (used (entry_number z)) w ≡ w)) ⊎ ((r ≡ pos 0 → ⊥) × (ranked (used (entry_number z)) w ≡ r))
@@ -178,17 +200,20 @@ module _ (rows : List (List ℤ)) (used : ℕ → ℕ → Bool) (ranks : AreRank
   pub stays_index : r ≡ pos 0 → j ≡ ranked (used (entry_number z)) j
   stays_index none = by_either (by_index j refl)
     where
-      by_either : ((r ≡ pos 0) × (ranked (used (entry_number z)) j ≡ j)) ⊎ ((r ≡ pos 0 → ⊥) × (ranked (used (entry_number z)) j ≡ r)) → j ≡ ranked (used (entry_number z)) j
+      by_either : ((r ≡ pos 0) × (ranked (used (entry_number z)) j ≡ j)) ⊎ ((r ≡ pos 0 → ⊥) × (ranked (used (entry_number z)) j ≡ r))
+          → j ≡ ranked (used (entry_number z)) j
       by_either (inl p) = sym p.1
       by_either (inr p) = absurd (p.0 none)
 
   pub rank_index : (r ≡ pos 0 → ⊥) → r ≡ ranked (used (entry_number z)) j
   rank_index some = by_either (by_index j refl)
     where
-      by_either : ((r ≡ pos 0) × (ranked (used (entry_number z)) j ≡ j)) ⊎ ((r ≡ pos 0 → ⊥) × (ranked (used (entry_number z)) j ≡ r)) → r ≡ ranked (used (entry_number z)) j
+      by_either : ((r ≡ pos 0) × (ranked (used (entry_number z)) j ≡ j)) ⊎ ((r ≡ pos 0 → ⊥) × (ranked (used (entry_number z)) j ≡ r))
+          → r ≡ ranked (used (entry_number z)) j
       by_either (inl p) = absurd (some p.0)
       by_either (inr p) = sym p.1
 
-pub next_row : {A B : Type 0} (f : A → B) (xs : List A) (i : ℕ) (x : A) (y : B) (rows new : List B) → slice_get xs i ≡ Some x → y ≡ f x → rows ≡ map f (take i xs) → new ≡ rows ++ y ∷ [] → new ≡ map f (take (i + 1) xs)
+pub next_row : {A B : Type 0} (f : A → B) (xs : List A) (i : ℕ) (x : A) (y : B) (rows new : List B) → slice_get xs i ≡ Some x → y ≡ f x
+    → rows ≡ map f (take i xs) → new ≡ rows ++ y ∷ [] → new ≡ map f (take (i + 1) xs)
 next_row f xs i x y rows new at e er en =
     en ∙ (ap (λ zs. zs ++ y ∷ []) er ∙ (ap (λ z. map f (take i xs) ++ z ∷ []) e ∙ sym (ap (map f) (one_more xs i x at) ∙ map-append f (take i xs) (x ∷ []))))

@@ -44,7 +44,8 @@ alike_length [] (e ∷ es) h = absurd h
 alike_length (d ∷ ds) [] h = absurd h
 alike_length (d ∷ ds) (e ∷ es) h = ap suc (alike_length ds es h.1)
 
-missing_alike : (d : DueValue) (ds : List DueValue) (e : DueValue) (es : List DueValue) → IsAlike d e → AllZip IsAlike ds es → MayBeMissing (d ∷ ds) → MayBeMissing (e ∷ es)
+missing_alike : (d : DueValue) (ds : List DueValue) (e : DueValue) (es : List DueValue) → IsAlike d e → AllZip IsAlike ds es → MayBeMissing (d ∷ ds)
+    → MayBeMissing (e ∷ es)
 missing_alike (count n) [] e [] a z h = subst (λ x. MayBeMissing (x ∷ [])) (sym a) h
 missing_alike (count n) [] e (x ∷ es) a z h = absurd z
 missing_alike (count n) (x ∷ ds) e es a z h = absurd h

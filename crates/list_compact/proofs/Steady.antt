@@ -1,5 +1,6 @@
 -- The table of layouts: counts, choices and pointers stand among the own values, and counts and choices are no pointers.
-use Rattle.std.specs.Prelude.{◌≡◌, ◌⊎◌, ℕ, zero, suc, ◌+◌, ◌*◌, ◌<◌, ◌≤◌, ◌&&◌, ◌||◌, ◌==◌, nat_le, Bool, true, false, ℤ, pos, List, [], ◌∷◌, ◌++◌, Some, None, if◌then◌else◌, find, option_map}
+use Rattle.std.specs.Prelude.{◌≡◌, ◌⊎◌, ℕ, zero, suc, ◌+◌, ◌*◌, ◌<◌, ◌≤◌, ◌&&◌, ◌||◌, ◌==◌, nat_le, Bool, true, false, ℤ, pos, List, [], ◌∷◌, ◌++◌, Some, None}
+use Rattle.std.specs.Prelude.{if◌then◌else◌, find, option_map}
 use Rattle.std.specs.List.{AllByRecursion, list_all, range_with_len}
 use Rattle.std.specs.Option.{unwrap_or}
 use Rattle.std.specs.Ordering.{int_eq}
@@ -16,7 +17,8 @@ abbrev pub count_in : List Value → ℕ → ℕ
 count_in vs k = unwrap_or (count_of (value_at vs k)) 0
 
 pub record IsSteady (l : Layout) : Type 0 where
-  pub counts : (ns : List ℕ) (k : ℕ) → Has (l.counts ++ l.choices) k → (1 ≤ k) × (k ≤ l.own ns) × (is_among (l.pointers ns) k ≡ false) × (is_among l.cut k ≡ false)
+  pub counts : (ns : List ℕ) (k : ℕ) → Has (l.counts ++ l.choices) k → (1 ≤ k) × (k ≤ l.own ns) × (is_among (l.pointers ns) k ≡ false)
+      × (is_among l.cut k ≡ false)
   pub pointers : (ns : List ℕ) (k : ℕ) → Has (l.pointers ns ++ l.cut) k → (1 ≤ k) × (k ≤ l.own ns)
   pub few : (vs : List Value) (k : ℕ) → Has l.counts k → count_in vs k ≤ l.own (counts_at vs (l.counts ++ l.choices))
 
@@ -40,7 +42,8 @@ fixed_steady n ks t = record {
 }
 
 -- counts before n, and no pointers
-counted_steady : (ks : List ℕ) (own : List ℕ → ℕ) (n : ℕ) → ((ns : List ℕ) → n ≤ own ns) → are_within n (ks ++ []) ≡ true → ((vs : List Value) (k : ℕ) → Has ks k → count_in vs k ≤ own (counts_at vs (ks ++ []))) → IsSteady (counted ks own)
+counted_steady : (ks : List ℕ) (own : List ℕ → ℕ) (n : ℕ) → ((ns : List ℕ) → n ≤ own ns) → are_within n (ks ++ []) ≡ true
+    → ((vs : List Value) (k : ℕ) → Has ks k → count_in vs k ≤ own (counts_at vs (ks ++ []))) → IsSteady (counted ks own)
 counted_steady ks own n low t few = record {
   counts = λ ns k h. let w = within_all n (ks ++ []) t k h in (w.0, omega (arith, w.1, low ns), refl, refl);
   pointers = λ ns k h. absurd h;
@@ -63,7 +66,8 @@ range_within first (suc n) k (inr h) = let w = range_within (first + 1) n k h in
 
 range_past : (first n k : ℕ) → k < first → is_among (range_with_len first n) k ≡ false
 range_past first zero k lt = refl
-range_past first (suc n) k lt = ap (λ b. b || is_among (range_with_len (first + 1) n) k) (ne_eqb first k (λ e. omega (arith, lt, e))) ∙ range_past (first + 1) n k (omega (arith, lt))
+range_past first (suc n) k lt = ap (λ b. b || is_among (range_with_len (first + 1) n) k) (ne_eqb first k (λ e. omega (arith, lt, e)))
+    ∙ range_past (first + 1) n k (omega (arith, lt))
 
 composite_steady : IsSteady (record { counts = 1 ∷ []; choices = []; own = λ c. 1 + nth c 0; pointers = λ c. range_with_len 2 (nth c 0); cut = [] })
 composite_steady = record {
@@ -91,7 +95,8 @@ copious_few : (choice n : ℕ) → (2 ≤ copious_own choice n) × (n ≤ copiou
 unfolding copious_own
 copious_few choice n = by_tests (choice == 1) (choice == 2)
   where
-    by_tests : (a b : Bool) → (2 ≤ 2 + (if a then 1 + 2 * n else (if b then 3 * n else 6 * n))) × (n ≤ 2 + (if a then 1 + 2 * n else (if b then 3 * n else 6 * n)))
+    by_tests : (a b : Bool) → (2 ≤ 2 + (if a then 1 + 2 * n else (if b then 3 * n else 6 * n)))
+        × (n ≤ 2 + (if a then 1 + 2 * n else (if b then 3 * n else 6 * n)))
     by_tests true b = (omega arith, omega arith)
     by_tests false true = (omega arith, omega arith)
     by_tests false false = (omega arith, omega arith)
@@ -141,14 +146,17 @@ curve_steady = counted_steady (1 ∷ 2 ∷ []) (λ c. 6 + (nth c 0 + nth c 1 + 2
     few vs k (inr (inl e)) = subst (λ j. count_in vs j ≤ 6 + (count_in vs 1 + count_in vs 2 + 2) + 4 * (count_in vs 1 + 1) + 5) e (omega arith)
     few vs k (inr (inr h)) = absurd h
 
-surface_few : (a b c d p : ℕ) → (2 ≤ 9 + (a + c + 2) + (b + d + 2) + p + 4) × (4 ≤ 9 + (a + c + 2) + (b + d + 2) + p + 4) × (a ≤ 9 + (a + c + 2) + (b + d + 2) + p + 4) × (b ≤ 9 + (a + c + 2) + (b + d + 2) + p + 4) × (c ≤ 9 + (a + c + 2) + (b + d + 2) + p + 4) × (d ≤ 9 + (a + c + 2) + (b + d + 2) + p + 4)
+surface_few : (a b c d p : ℕ) → (2 ≤ 9 + (a + c + 2) + (b + d + 2) + p + 4) × (4 ≤ 9 + (a + c + 2) + (b + d + 2) + p + 4)
+    × (a ≤ 9 + (a + c + 2) + (b + d + 2) + p + 4) × (b ≤ 9 + (a + c + 2) + (b + d + 2) + p + 4) × (c ≤ 9 + (a + c + 2) + (b + d + 2) + p + 4)
+    × (d ≤ 9 + (a + c + 2) + (b + d + 2) + p + 4)
 surface_few a b c d p = (omega arith, omega arith, omega arith, omega arith, omega arith, omega arith)
 
 abbrev most : List Value → ℕ
 most vs = 9 + (count_in vs 1 + count_in vs 3 + 2) + (count_in vs 2 + count_in vs 4 + 2) + 4 * (count_in vs 1 + 1) * (count_in vs 2 + 1) + 4
 
 counts_few : (vs : List Value) → (count_in vs 1 ≤ most vs) × (count_in vs 2 ≤ most vs) × (count_in vs 3 ≤ most vs) × (count_in vs 4 ≤ most vs)
-counts_few vs = let w = surface_few (count_in vs 1) (count_in vs 2) (count_in vs 3) (count_in vs 4) (4 * (count_in vs 1 + 1) * (count_in vs 2 + 1)) in (w.2, w.3, w.4, w.5)
+counts_few vs = let w = surface_few (count_in vs 1) (count_in vs 2) (count_in vs 3) (count_in vs 4) (4 * (count_in vs 1 + 1) * (count_in vs 2 + 1))
+    in (w.2, w.3, w.4, w.5)
 
 surface_steady : IsSteady (counted (1 ∷ 2 ∷ 3 ∷ 4 ∷ []) (λ c. 9 + (nth c 0 + nth c 2 + 2) + (nth c 1 + nth c 3 + 2) + 4 * (nth c 0 + 1) * (nth c 1 + 1) + 4))
 surface_steady =
@@ -201,15 +209,20 @@ rows_steady form = (
                               (
                                 fixed_steady 5 (5 ∷ []) refl,
                                 (
-                                  form_steady form (fixed 3 (1 ∷ 2 ∷ 3 ∷ [])) (fixed 2 (1 ∷ 2 ∷ [])) (fixed_steady 3 (1 ∷ 2 ∷ 3 ∷ []) refl) (fixed_steady 2 (1 ∷ 2 ∷ []) refl),
+                                  form_steady form (fixed 3 (1 ∷ 2 ∷ 3 ∷ [])) (fixed 2 (1 ∷ 2 ∷ [])) (fixed_steady 3 (1 ∷ 2 ∷ 3 ∷ []) refl)
+                                      (fixed_steady 2 (1 ∷ 2 ∷ []) refl),
                                   (
-                                    form_steady form (fixed 4 (1 ∷ 2 ∷ 4 ∷ [])) (fixed 3 (1 ∷ 2 ∷ [])) (fixed_steady 4 (1 ∷ 2 ∷ 4 ∷ []) refl) (fixed_steady 3 (1 ∷ 2 ∷ []) refl),
+                                    form_steady form (fixed 4 (1 ∷ 2 ∷ 4 ∷ [])) (fixed 3 (1 ∷ 2 ∷ [])) (fixed_steady 4 (1 ∷ 2 ∷ 4 ∷ []) refl)
+                                        (fixed_steady 3 (1 ∷ 2 ∷ []) refl),
                                     (
-                                      form_steady form (fixed 5 (1 ∷ 2 ∷ 5 ∷ [])) (fixed 4 (1 ∷ 2 ∷ [])) (fixed_steady 5 (1 ∷ 2 ∷ 5 ∷ []) refl) (fixed_steady 4 (1 ∷ 2 ∷ []) refl),
+                                      form_steady form (fixed 5 (1 ∷ 2 ∷ 5 ∷ [])) (fixed 4 (1 ∷ 2 ∷ [])) (fixed_steady 5 (1 ∷ 2 ∷ 5 ∷ []) refl)
+                                          (fixed_steady 4 (1 ∷ 2 ∷ []) refl),
                                       (
-                                        form_steady form (fixed 4 (1 ∷ 3 ∷ 4 ∷ [])) (fixed 2 (1 ∷ [])) (fixed_steady 4 (1 ∷ 3 ∷ 4 ∷ []) refl) (fixed_steady 2 (1 ∷ []) refl),
+                                        form_steady form (fixed 4 (1 ∷ 3 ∷ 4 ∷ [])) (fixed 2 (1 ∷ [])) (fixed_steady 4 (1 ∷ 3 ∷ 4 ∷ []) refl)
+                                            (fixed_steady 2 (1 ∷ []) refl),
                                         (
-                                          form_steady form (fixed 5 (1 ∷ 2 ∷ 5 ∷ [])) (fixed 4 (1 ∷ 2 ∷ [])) (fixed_steady 5 (1 ∷ 2 ∷ 5 ∷ []) refl) (fixed_steady 4 (1 ∷ 2 ∷ []) refl),
+                                          form_steady form (fixed 5 (1 ∷ 2 ∷ 5 ∷ [])) (fixed 4 (1 ∷ 2 ∷ [])) (fixed_steady 5 (1 ∷ 2 ∷ 5 ∷ []) refl)
+                                              (fixed_steady 4 (1 ∷ 2 ∷ []) refl),
                                           (
                                             fixed_steady 4 [] refl,
                                             (
@@ -239,7 +252,8 @@ rows_steady form = (
   ),
 )
 
-found_steady : (kind : ℤ) (rows : List (ℕ × Layout)) (l : Layout) → AllByRecursion IsSteadyRow rows → option_map (λ (row : ℕ × Layout). row.1) (find (λ (row : ℕ × Layout). int_eq kind (pos row.0)) rows) ≡ Some l → IsSteady l
+found_steady : (kind : ℤ) (rows : List (ℕ × Layout)) (l : Layout) → AllByRecursion IsSteadyRow rows
+    → option_map (λ (row : ℕ × Layout). row.1) (find (λ (row : ℕ × Layout). int_eq kind (pos row.0)) rows) ≡ Some l → IsSteady l
 found_steady kind [] l all e = let no : None ≡ Some l = e in absurd cc
 found_steady kind (row ∷ rows) l all e = by_test (int_eq kind (pos row.0)) e (λ h. found_steady kind rows l all.1 h)
   where
@@ -251,6 +265,7 @@ found_steady kind (row ∷ rows) l all e = by_test (int_eq kind (pos row.0)) e (
 pub layout_steady : (e : Entry) (l : Layout) → layout_of e ≡ Some l → IsSteady l
 layout_steady e l h = by_test (is_other_property e) h
   where
-    by_test : (b : Bool) → (if b then None else option_map (λ (row : ℕ × Layout). row.1) (find (λ (row : ℕ × Layout). int_eq e.kind (pos row.0)) (listed e.form))) ≡ Some l → IsSteady l
+    by_test : (b : Bool) → (if b then None else option_map (λ (row : ℕ × Layout). row.1)
+        (find (λ (row : ℕ × Layout). int_eq e.kind (pos row.0)) (listed e.form))) ≡ Some l → IsSteady l
     by_test true k = let no : None ≡ Some l = k in absurd cc
     by_test false k = found_steady e.kind (listed e.form) l (rows_steady e.form) k

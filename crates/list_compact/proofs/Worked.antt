@@ -44,7 +44,9 @@ ball = file (
     plain 514 1 (ints (1 ∷ 5 ∷ 1 ∷ [])) ∷
     plain 510 1 (ints (11 ∷ 1 ∷ 1 ∷ 7 ∷ [])) ∷
     plain 508 1 (ints (1 ∷ 1 ∷ 9 ∷ 2 ∷ 1 ∷ 0 ∷ [])) ∷
-    plain 502 1 (ints (3 ∷ []) ++ reals (codes "9." ∷ codes "9." ∷ codes "9." ∷ codes "0." ∷ codes "0." ∷ codes "1." ∷ codes "5." ∷ codes "5." ∷ codes "5." ∷ []) ++ ints (0 ∷ 1 ∷ 13 ∷ [])) ∷
+    plain 502 1 (ints (3 ∷ [])
+    ++ reals (codes "9." ∷ codes "9." ∷ codes "9." ∷ codes "0." ∷ codes "0." ∷ codes "1." ∷ codes "5." ∷ codes "5." ∷ codes "5." ∷ [])
+    ++ ints (0 ∷ 1 ∷ 13 ∷ [])) ∷
     plain 108 0 (reals (codes "0." ∷ [])) ∷ []
     )
 
@@ -62,12 +64,14 @@ ball_is_dropped : dropped ball ≡ ball_dropped
 unfolding dropped is_used_edge is_used_vertex
 ball_is_dropped = refl
 
--- A loop that uses edge 2 of three in both directions. The edge goes from vertex 3 to vertex 2 of three; vertex 1 is the end of an edge that isn't used. A list that nothing names stays whole, and so does an index past the end, and a last count that is left out.
+-- A loop that uses edge 2 of three in both directions. The edge goes from vertex 3 to vertex 2 of three; vertex 1 is the end of an edge that isn't used. A list
+-- that nothing names stays whole, and so does an index past the end, and a last count that is left out.
 abbrev sheet : Contents
 sheet = file (
     plain 508 1 (ints (3 ∷ 0 ∷ 3 ∷ 2 ∷ 1 ∷ 1 ∷ 1 ∷ 9 ∷ 0 ∷ 3 ∷ 2 ∷ 0 ∷ 0 ∷ 0 ∷ 3 ∷ 4 ∷ 1 ∷ []) ++ value.Default ∷ []) ∷
     plain 504 1 (ints (3 ∷ 9 ∷ 5 ∷ 1 ∷ 5 ∷ 1 ∷ 9 ∷ 5 ∷ 3 ∷ 5 ∷ 2 ∷ 9 ∷ 5 ∷ 2 ∷ 5 ∷ 1 ∷ [])) ∷
-    plain 502 1 (ints (3 ∷ []) ++ reals (codes "1." ∷ codes "1." ∷ codes "1." ∷ codes "2." ∷ codes "2." ∷ codes "2." ∷ codes "3." ∷ codes "3." ∷ codes "3." ∷ [])) ∷
+    plain 502 1 (ints (3 ∷ [])
+    ++ reals (codes "1." ∷ codes "1." ∷ codes "1." ∷ codes "2." ∷ codes "2." ∷ codes "2." ∷ codes "3." ∷ codes "3." ∷ codes "3." ∷ [])) ∷
     plain 504 1 (ints (1 ∷ 9 ∷ 5 ∷ 1 ∷ 5 ∷ 1 ∷ [])) ∷
     plain 110 0 [] ∷ []
     )

@@ -20,7 +20,8 @@ DroppedIsMade = (f g : Contents) (n : ℕ) → IsMade f → IsExtracted f n g �
 
 -- Once unused items are dropped, the solid can be extracted again.
 abbrev pub DroppedIsNotRefused : Type 0
-DroppedIsNotRefused = (f g : Contents) (n : ℕ) (x : IsExtracted f n g) (entity : ℕ) (reason : ExtractReason) → ¬ IsRefused (dropped g) (new_number x.kept n) entity reason
+DroppedIsNotRefused = (f g : Contents) (n : ℕ) (x : IsExtracted f n g) (entity : ℕ) (reason : ExtractReason)
+    → ¬ IsRefused (dropped g) (new_number x.kept n) entity reason
 
 -- Places that hold still hold.
 abbrev pub PlacesStillHold : Type 0

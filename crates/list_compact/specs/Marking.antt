@@ -1,5 +1,6 @@
 -- Private: marks and ranks of the items of a file's lists, a row for each entry.
-use Rattle.std.specs.Prelude.{◌≡◌, ℕ, suc, ◌+◌, ◌*◌, ◌<◌, ◌&&◌, Bool, true, false, if◌then◌else◌, ℤ, pos, List, [], ◌∷◌, length, map, flat_map, Some, slice_get, slice_index_or}
+use Rattle.std.specs.Prelude.{◌≡◌, ℕ, suc, ◌+◌, ◌*◌, ◌<◌, ◌&&◌, Bool, true, false, if◌then◌else◌, ℤ, pos, List, [], ◌∷◌, length, map, flat_map, Some, slice_get}
+use Rattle.std.specs.Prelude.{slice_index_or}
 use Rattle.std.specs.List.{AllByRecursion, enumerate_from}
 use Rattle.std.specs.Ordering.{int_eq}
 use Rattle.brep_lists.specs.Record.{kind_of_type, IsRecordOf}
@@ -53,7 +54,8 @@ ranks_of n (false ∷ bs) = pos 0 ∷ ranks_of n bs
 
 -- in each place of a used item its rank, and else 0
 abbrev pub AreRanks : List (List ℤ) → (ℕ → ℕ → Bool) → Type 0
-AreRanks rows used = (k i : ℕ) (row : List ℤ) → slice_get rows k ≡ Some row → i < length row → slice_index_or row i (pos 0) ≡ (if used (2 * k + 1) (i + 1) then pos (rank (used (2 * k + 1)) (i + 1)) else pos 0)
+AreRanks rows used = (k i : ℕ) (row : List ℤ) → slice_get rows k ≡ Some row → i < length row
+    → slice_index_or row i (pos 0) ≡ (if used (2 * k + 1) (i + 1) then pos (rank (used (2 * k + 1)) (i + 1)) else pos 0)
 
 -- the item has a place in the rows
 pub record HasPlace (rows : List (List ℤ)) (e j : ℕ) : Type 0 where

@@ -42,7 +42,8 @@ path_here x p [] b h = absurd h
 path_here x p (o ∷ os) b h = ((λ e. refl), ⊎_elim inl (λ r. inr (path_here x p os b r)) h)
 
 -- the first false one is in the front, or the front holds and it is in the rest
-pub owed_false : (a b : List Sited) (x : Failing) → FirstFalse (all_owed (a ++ b)) x → FirstFalse (all_owed a) x ⊎ (AllHold (all_owed a) × FirstFalse (all_owed b) x)
+pub owed_false : (a b : List Sited) (x : Failing) → FirstFalse (all_owed (a ++ b)) x
+    → FirstFalse (all_owed a) x ⊎ (AllHold (all_owed a) × FirstFalse (all_owed b) x)
 owed_false [] b x h = inr (tt, h)
 owed_false (s ∷ a) b x h = ⊎_elim (λ e. inl (inl e)) (λ r. ⊎_elim (λ q. inl (inr (r.0, q))) (λ q. inr ((r.0, q.0), q.1)) (owed_false a b x r.1)) h
 
@@ -85,5 +86,6 @@ pub false_either : (os ps : List Obligation) (x : Failing) → FirstFalse (os ++
 false_either [] ps x h = inr (tt, h)
 false_either (o ∷ os) ps x h = ⊎_elim (λ b. inl (inl b)) (λ r. ⊎_elim (λ q. inl (inr (r.0, q))) (λ q. inr ((r.0, q.0), q.1)) (false_either os ps x r.1)) h
 
-pub lost_on : (x : Failing) (p : Option Path) (os : List Obligation) → ¬ Bears os x → ¬ AllHold os → (¬ AllHold (all_owed (on p os))) × (¬ FirstFalse (all_owed (on p os)) x)
+pub lost_on : (x : Failing) (p : Option Path) (os : List Obligation) → ¬ Bears os x → ¬ AllHold os
+    → (¬ AllHold (all_owed (on p os))) × (¬ FirstFalse (all_owed (on p os)) x)
 lost_on x p os none bad = ((λ h. bad (on_hold p os h)), (λ h. none (on_bears p os x (first_bears (all_owed (on p os)) x h))))

@@ -4,12 +4,14 @@ use Rattle.std.proofs.Common.{refl, sym, ◌∙◌, inl, inr, ⊎_elim}
 use Rattle.iges_params.specs.Contents.{Contents}
 use Rattle.brep_lists.specs.Record.{LoopTuple}
 use Rattle.brep_lists.specs.declared.entity_kind.EntityKind.TheVariants.{Solid as solid, Shell as shell, Loop as «loop»}
-use Rattle.brep_walk.specs.Places.{shells, faces, loops, tuples, numbers, HasRecordOf, entry_places, tuple_places, loop_places, face_places, shell_places, places}
+use Rattle.brep_walk.specs.Places.{shells, faces, loops, tuples, numbers, HasRecordOf, entry_places, tuple_places, loop_places, face_places, shell_places}
+use Rattle.brep_walk.specs.Places.{places}
 use Rattle.solid_data.specs.Obligations.{Obligation, FirstFalse, obligation, after_each}
 use Rattle.solid_data.specs.declared.verdict.Failing.{Failing}
 use Rattle.solid_data.specs.declared.verdict.Rule.TheVariants.{BadLayout}
 use Rattle.record_paths.specs.declared.path.Path.{Path}
-use Rattle.record_paths.specs.Paths.{Sited, on, all_owed, AreSame, sited_after, in_solid, in_shell, in_face, in_loop, naming_places, face_naming, tuples_sited, loops_sited, faces_sited, shells_sited, sited}
+use Rattle.record_paths.specs.Paths.{Sited, on, all_owed, AreSame, sited_after, in_solid, in_shell, in_face, in_loop, naming_places, face_naming, tuples_sited}
+use Rattle.record_paths.specs.Paths.{loops_sited, faces_sited, shells_sited, sited}
 use Rattle.std.specs.Prelude.{Option, Some, None}
 
 same_on : (p : Option Path) (os : List Obligation) → AreSame (all_owed (on p os)) os
@@ -22,16 +24,20 @@ same_joined [] b (o ∷ os) ps h k = absurd h
 same_joined (s ∷ a) b [] ps h k = absurd h
 same_joined (s ∷ a) b (o ∷ os) ps h k = (h.0, h.1, same_joined a b os ps h.2 k)
 
-same_after : {A : Type 0} (g : List A → A → List Sited) (k : List A → A → List Obligation) → ((before : List A) (x : A) → AreSame (all_owed (g before x)) (k before x)) → (before xs : List A)
+same_after : {A : Type 0} (g : List A → A → List Sited) (k : List A → A → List Obligation)
+    → ((before : List A) (x : A) → AreSame (all_owed (g before x)) (k before x)) → (before xs : List A)
     → AreSame (all_owed (sited_after g before xs)) (after_each k before xs)
 same_after g k h before [] = tt
-same_after g k h before (x ∷ xs) = same_joined (g before x) (sited_after g (before ++ x ∷ []) xs) (k before x) (after_each k (before ++ x ∷ []) xs) (h before x) (same_after g k h (before ++ x ∷ []) xs)
+same_after g k h before (x ∷ xs) = same_joined (g before x) (sited_after g (before ++ x ∷ []) xs) (k before x) (after_each k (before ++ x ∷ []) xs)
+    (h before x) (same_after g k h (before ++ x ∷ []) xs)
 
-same_tuples : (f : Contents) (p : Path) (l : ℤ) (before : List LoopTuple) (t : LoopTuple) → AreSame (all_owed (tuples_sited f p l before t)) (tuple_places f l before t)
+same_tuples : (f : Contents) (p : Path) (l : ℤ) (before : List LoopTuple) (t : LoopTuple)
+    → AreSame (all_owed (tuples_sited f p l before t)) (tuple_places f l before t)
 unfolding tuples_sited
 same_tuples f p l before t = same_on (Some p) (tuple_places f l before t)
 
-same_loops : (f : Contents) (p : Path) (c : ℤ) (used before : List ℤ) (l : ℤ) → AreSame (all_owed (loops_sited f p c used before l)) (loop_places f c used before l)
+same_loops : (f : Contents) (p : Path) (c : ℤ) (used before : List ℤ) (l : ℤ)
+    → AreSame (all_owed (loops_sited f p c used before l)) (loop_places f c used before l)
 unfolding loops_sited loop_places
 same_loops f p c used before l =
     let at = length before + 1 in
@@ -39,7 +45,8 @@ same_loops f p c used before l =
     same_joined (on (Some p) own) (sited_after (tuples_sited f (in_loop p l at) l) [] (tuples f l)) own (after_each (tuple_places f l) [] (tuples f l))
     (same_on (Some p) own) (same_after (tuples_sited f (in_loop p l at) l) (tuple_places f l) (same_tuples f (in_loop p l at) l) [] (tuples f l))
 
-same_faces : (f : Contents) (p : Path) (s : ℤ) (used : List ℤ) (before : List (ℤ × Bool)) (i : ℤ × Bool) → AreSame (all_owed (faces_sited f p s used before i)) (face_places f s used before i)
+same_faces : (f : Contents) (p : Path) (s : ℤ) (used : List ℤ) (before : List (ℤ × Bool)) (i : ℤ × Bool)
+    → AreSame (all_owed (faces_sited f p s used before i)) (face_places f s used before i)
 unfolding faces_sited face_places
 same_faces f p s used before i =
     let at = length before + 1 in
@@ -50,7 +57,8 @@ same_faces f p s used before i =
     same_joined (on (Some p) own) (sited_after g [] (loops f i.0)) own (after_each k [] (loops f i.0))
     (same_on (Some p) own) (same_after g k (same_loops f (in_face p i.0 at) i.0 (flat_map (loops f) known)) [] (loops f i.0))
 
-same_shells : (f : Contents) (p : Path) (n : ℤ) (before : List (ℤ × Bool)) (i : ℤ × Bool) → AreSame (all_owed (shells_sited f p n before i)) (shell_places f n before i)
+same_shells : (f : Contents) (p : Path) (n : ℤ) (before : List (ℤ × Bool)) (i : ℤ × Bool)
+    → AreSame (all_owed (shells_sited f p n before i)) (shell_places f n before i)
 unfolding shells_sited shell_places
 same_shells f p n before i =
     let at = length before + 1 in

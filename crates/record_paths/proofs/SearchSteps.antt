@@ -28,7 +28,8 @@ ended_left a b x Lost h = ((λ all. h.0 (owed_hold a b all).0), (λ f. ⊎_elim 
 pub passed : (a b : List Sited) (x : Failing) (r : Result (Unit {0}) Ended) → ¬ Bears (all_owed a) x → Searched b x r → Searched (a ++ b) x r
 passed a b x (Ok t) none h = λ c. ⊎_elim none h (owed_bears a b x c)
 passed a b x (Err (Found p)) none h = path_right x a b (Some p) none h
-passed a b x (Err Lost) none h = ((λ all. h.0 (owed_hold a b all).1), (λ f. ⊎_elim (λ q. none (first_bears (all_owed a) x q)) (λ q. h.1 q.1) (owed_false a b x f)))
+passed a b x (Err Lost) none h =
+    ((λ all. h.0 (owed_hold a b all).1), (λ f. ⊎_elim (λ q. none (first_bears (all_owed a) x q)) (λ q. h.1 q.1) (owed_false a b x f)))
 
 pub found_here : (p : Path) (os : List Obligation) (b : List Sited) (x : Failing) → Bears os x → Ends (on (Some p) os ++ b) x (Found p)
 found_here p os b x h = path_here x (Some p) os b h
@@ -36,7 +37,8 @@ found_here p os b x h = path_here x (Some p) os b h
 pub lost_here : (p : Option Path) (os : List Obligation) (b : List Sited) (x : Failing) → ¬ Bears os x → ¬ AllHold os → Ends (on p os ++ b) x Lost
 lost_here p os b x none bad = ended_left (on p os) b x Lost (lost_on x p os none bad)
 
-pub passed_here : (p : Option Path) (os : List Obligation) (b : List Sited) (x : Failing) (r : Result (Unit {0}) Ended) → ¬ Bears os x → Searched b x r → Searched (on p os ++ b) x r
+pub passed_here : (p : Option Path) (os : List Obligation) (b : List Sited) (x : Failing) (r : Result (Unit {0}) Ended) → ¬ Bears os x → Searched b x r
+    → Searched (on p os ++ b) x r
 passed_here p os b x r none h = passed (on p os) b x r (none_on x p os none) h
 
 -- A search by places: the i-th item comes next.
@@ -59,14 +61,16 @@ left_from g xs i = sited_after g (take i xs) (drop i xs)
 abbrev pub Serves : List Sited → List Sited → Failing → Type 0
 Serves rest all x = (r : Result (Unit {0}) Ended) → Searched rest x r → Searched all x r
 
-pub serves_next : {A : Type 0} (g : List A → A → List Sited) (xs : List A) (i : ℕ) (y : A) (all : List Sited) (x : Failing) → slice_get xs i ≡ Some y → Serves (left_from g xs i) all x
+pub serves_next : {A : Type 0} (g : List A → A → List Sited) (xs : List A) (i : ℕ) (y : A) (all : List Sited) (x : Failing) → slice_get xs i ≡ Some y
+    → Serves (left_from g xs i) all x
     → ¬ Bears (all_owed (g (take i xs) y)) x → Serves (left_from g xs (i + 1)) all x
 serves_next g xs i y all x at serves none r h =
     serves r (subst (λ ys. Searched (sited_after g (take i xs) ys) x r) (sym (split_at xs i y at))
     (passed (g (take i xs) y) (sited_after g (take i xs ++ y ∷ []) (drop (i + 1) xs)) x r none
     (subst (λ b. Searched (sited_after g b (drop (i + 1) xs)) x r) (take_next xs i y at) h)))
 
-pub serves_end : {A : Type 0} (g : List A → A → List Sited) (xs : List A) (i : ℕ) (y : A) (all : List Sited) (x : Failing) (e : Ended) → slice_get xs i ≡ Some y → Serves (left_from g xs i) all x
+pub serves_end : {A : Type 0} (g : List A → A → List Sited) (xs : List A) (i : ℕ) (y : A) (all : List Sited) (x : Failing) (e : Ended)
+    → slice_get xs i ≡ Some y → Serves (left_from g xs i) all x
     → Ends (g (take i xs) y) x e → Ends all x e
 serves_end g xs i y all x e at serves h =
     serves (Err e) (subst (λ ys. Ends (sited_after g (take i xs) ys) x e) (sym (split_at xs i y at))
@@ -74,22 +78,27 @@ serves_end g xs i y all x e at serves h =
 
 -- A search by an iterator.
 
-pub serves_more : {A : Type 0} (g : List A → A → List Sited) (before left rest : List A) (y : A) (all : List Sited) (x : Failing) → left ≡ y ∷ rest → Serves (sited_after g before left) all x
+pub serves_more : {A : Type 0} (g : List A → A → List Sited) (before left rest : List A) (y : A) (all : List Sited) (x : Failing) → left ≡ y ∷ rest
+    → Serves (sited_after g before left) all x
     → ¬ Bears (all_owed (g before y)) x → Serves (sited_after g (before ++ y ∷ []) rest) all x
 serves_more g before left rest y all x step serves none r h =
     serves r (subst (λ ys. Searched (sited_after g before ys) x r) (sym step) (passed (g before y) (sited_after g (before ++ y ∷ []) rest) x r none h))
 
-pub serves_stop : {A : Type 0} (g : List A → A → List Sited) (before left rest : List A) (y : A) (all : List Sited) (x : Failing) (e : Ended) → left ≡ y ∷ rest → Serves (sited_after g before left) all x
+pub serves_stop : {A : Type 0} (g : List A → A → List Sited) (before left rest : List A) (y : A) (all : List Sited) (x : Failing) (e : Ended) → left ≡ y ∷ rest
+    → Serves (sited_after g before left) all x
     → Ends (g before y) x e → Ends all x e
 serves_stop g before left rest y all x e step serves h =
     serves (Err e) (subst (λ ys. Ends (sited_after g before ys) x e) (sym step) (ended_left (g before y) (sited_after g (before ++ y ∷ []) rest) x e h))
 
 -- nothing is left
 
-pub serves_done : {A : Type 0} (g : List A → A → List Sited) (xs : List A) (i : ℕ) (all : List Sited) (x : Failing) → length xs ≤ i → Serves (left_from g xs i) all x → ¬ Bears (all_owed all) x
-serves_done g xs i all x past serves = serves (Ok tt) (subst (λ ys. ¬ Bears (all_owed (sited_after g (take i xs) ys)) x) (sym (drop_of_length-le xs past)) (λ b. b))
+pub serves_done : {A : Type 0} (g : List A → A → List Sited) (xs : List A) (i : ℕ) (all : List Sited) (x : Failing) → length xs ≤ i
+    → Serves (left_from g xs i) all x → ¬ Bears (all_owed all) x
+serves_done g xs i all x past serves =
+    serves (Ok tt) (subst (λ ys. ¬ Bears (all_owed (sited_after g (take i xs) ys)) x) (sym (drop_of_length-le xs past)) (λ b. b))
 
-pub serves_empty : {A : Type 0} (g : List A → A → List Sited) (before left : List A) (all : List Sited) (x : Failing) → left ≡ [] → Serves (sited_after g before left) all x → ¬ Bears (all_owed all) x
+pub serves_empty : {A : Type 0} (g : List A → A → List Sited) (before left : List A) (all : List Sited) (x : Failing) → left ≡ []
+    → Serves (sited_after g before left) all x → ¬ Bears (all_owed all) x
 serves_empty g before left all x none serves = serves (Ok tt) (subst (λ ys. ¬ Bears (all_owed (sited_after g before ys)) x) (sym none) (λ b. b))
 
 -- one more that was yielded

@@ -29,7 +29,8 @@ module _ (f : Contents) (l item : ℕ) (x : Failing) where
   abbrev pub own_places : ℤ → EntityKind → ℤ → ℕ → List (Bool × ℤ) → List Obligation
   own_places list kind index count curves = item_places f (pos l) item kind list index count ++ curves_place curves
 
-  vertex_owned : (list index : ℤ) (curves : List (Bool × ℤ)) (v : Bool) → v ≡ true → ¬ Bears (own_places list vertices index (length (told vertices f list)) curves) x
+  vertex_owned : (list index : ℤ) (curves : List (Bool × ℤ)) (v : Bool) → v ≡ true
+      → ¬ Bears (own_places list vertices index (length (told vertices f list)) curves) x
       → ¬ Bears (used_places f (pos l) item list index v ++ curves_place curves) x
   vertex_owned list index curves v e none = subst (λ b. ¬ Bears (used_places f (pos l) item list index b ++ curves_place curves) x) (sym e) none
 
@@ -42,7 +43,8 @@ module _ (f : Contents) (l item : ℕ) (x : Failing) where
   edge_split : (list index : ℤ) (curves : List (Bool × ℤ)) → Bears (used_places f (pos l) item list index false ++ curves_place curves) x
       → Bears (own_places list edges index (length (told edges f list)) curves) x ⊎ Bears (edge_owed list index) x
   edge_split list index curves h =
-      ⊎_elim (λ u. ⊎_elim (λ i. inl (bears_left (items_owed list index) (curves_place curves) x i)) inr (bears_either (items_owed list index) (edge_owed list index) x u))
+      ⊎_elim (λ u. ⊎_elim (λ i. inl (bears_left (items_owed list index) (curves_place curves) x i)) inr
+      (bears_either (items_owed list index) (edge_owed list index) x u))
       (λ g. inl (bears_right (items_owed list index) (curves_place curves) x g))
       (bears_either (items_owed list index ++ edge_owed list index) (curves_place curves) x h)
 
@@ -50,14 +52,17 @@ module _ (f : Contents) (l item : ℕ) (x : Failing) where
       → Bears (used_places f (pos l) item list index v ++ curves_place curves) x
   own_bears list index curves true h = h vertices (length (told vertices f list))
   own_bears list index curves false h =
-      ⊎_elim (λ i. bears_left (items_owed list index ++ edge_owed list index) (curves_place curves) x (bears_left (items_owed list index) (edge_owed list index) x i))
+      ⊎_elim (λ i. bears_left (items_owed list index ++ edge_owed list index) (curves_place curves) x
+      (bears_left (items_owed list index) (edge_owed list index) x i))
       (λ g. bears_right (items_owed list index ++ edge_owed list index) (curves_place curves) x g)
       (bears_either (items_owed list index) (curves_place curves) x (h edges (length (told edges f list))))
 
   -- y is the list as a call was given it
   module _ (t : LoopTuple) (y : ℤ) (is : y ≡ t.list) where
-    pub tuple_found : ((kind : EntityKind) (index : ℤ) (count : ℕ) (curves : List (Bool × ℤ)) → Bears (own_places y kind index count curves) x) → Bears (tuple_at f (pos l) item t) x
-    tuple_found h = own_bears t.list t.index t.curves t.is_vertex (λ kind count. subst (λ z. Bears (own_places z kind t.index count t.curves) x) is (h kind t.index count t.curves))
+    pub tuple_found : ((kind : EntityKind) (index : ℤ) (count : ℕ) (curves : List (Bool × ℤ)) → Bears (own_places y kind index count curves) x)
+        → Bears (tuple_at f (pos l) item t) x
+    tuple_found h = own_bears t.list t.index t.curves t.is_vertex
+        (λ kind count. subst (λ z. Bears (own_places z kind t.index count t.curves) x) is (h kind t.index count t.curves))
 
     abbrev NotOwn : Type 0
     NotOwn = (kind : EntityKind) (index : ℤ) (count : ℕ) (curves : List (Bool × ℤ)) → ¬ Bears (own_places y kind index count curves) x
@@ -75,7 +80,8 @@ module _ (f : Contents) (l item : ℕ) (x : Failing) where
 
     pub edge_found : t.is_vertex ≡ false → Bears (edge_owed t.list t.index) x → Bears (tuple_at f (pos l) item t) x
     edge_found e h = subst (λ v. Bears (used_places f (pos l) item t.list t.index v ++ curves_place t.curves) x) (sym e)
-        (bears_left (items_owed t.list t.index ++ edge_owed t.list t.index) (curves_place t.curves) x (bears_right (items_owed t.list t.index) (edge_owed t.list t.index) x h))
+        (bears_left (items_owed t.list t.index ++ edge_owed t.list t.index) (curves_place t.curves) x
+        (bears_right (items_owed t.list t.index) (edge_owed t.list t.index) x h))
 
     -- where there is no such edge, not all holds, and the first false one bears another name
     abbrev NoEdge : Type 0
@@ -86,12 +92,15 @@ module _ (f : Contents) (l item : ℕ) (x : Failing) where
 
     pub edge_bad : t.is_vertex ≡ false → NoEdge → ¬ AllHold (tuple_at f (pos l) item t)
     edge_bad e bad all =
-        let u = AllHold-append_left (items_owed t.list t.index ++ edge_owed t.list t.index) (curves_place t.curves) (subst (λ v. AllHold (used_places f (pos l) item t.list t.index v ++ curves_place t.curves)) e all) in
+        let u = AllHold-append_left (items_owed t.list t.index ++ edge_owed t.list t.index) (curves_place t.curves)
+        (subst (λ v. AllHold (used_places f (pos l) item t.list t.index v ++ curves_place t.curves)) e all) in
         items_bad bad (AllHold-append_left (items_owed t.list t.index) (edge_owed t.list t.index) u)
 
     pub edge_lost : t.is_vertex ≡ false → NotOwn → NoEdge → ¬ FirstFalse (tuple_at f (pos l) item t) x
     edge_lost e h bad first =
-        let own : FirstFalse (items_owed t.list t.index) x → ⊥ = λ i. own_none h edges (length (told edges f t.list)) (bears_left (items_owed t.list t.index) (curves_place t.curves) x (first_bears (items_owed t.list t.index) x i)) in
+        let own : FirstFalse (items_owed t.list t.index) x
+        → ⊥ = λ i. own_none h edges (length (told edges f t.list))
+        (bears_left (items_owed t.list t.index) (curves_place t.curves) x (first_bears (items_owed t.list t.index) x i)) in
         ⊎_elim (λ u. ⊎_elim own (λ q. items_bad bad q.0) (false_either (items_owed t.list t.index) (edge_owed t.list t.index) x u))
         (λ q. items_bad bad (AllHold-append_left (items_owed t.list t.index) (edge_owed t.list t.index) q.0))
         (false_either (items_owed t.list t.index ++ edge_owed t.list t.index) (curves_place t.curves) x

@@ -33,7 +33,9 @@ AreSame [] [] = ⊤
 AreSame (o ∷ os) (p ∷ ps) = (o.failing ≡ p.failing) × (o.holds ↔ p.holds) × AreSame os ps
 AreSame _ _ = ⊥
 
--- The path of the first obligation that bears the name: one that bears it lies there, and so does each before it that bears it. Up to the first false obligation of a solid those that bear one name are one and the same, or lie on one path: a shell, a face and a loop are named once, an entity is of one kind, and an edge asks the same wherever it is used. So this is where the first false obligation lies, where the name is its name; no law here states that.
+-- The path of the first obligation that bears the name: one that bears it lies there, and so does each before it that bears it. Up to the first false
+-- obligation of a solid those that bear one name are one and the same, or lie on one path: a shell, a face and a loop are named once, an entity is of one kind,
+-- and an edge asks the same wherever it is used. So this is where the first false obligation lies, where the name is its name; no law here states that.
 abbrev pub IsPathTo : Failing → List Sited → Option Path → Type 0
 IsPathTo name [] path = ⊥
 IsPathTo name (s ∷ ss) path = (name ≡ s.owed.failing → path ≡ s.path) × ((name ≡ s.owed.failing) ⊎ IsPathTo name ss path)
@@ -62,7 +64,8 @@ sited_after g before (x ∷ xs) = g before x ++ sited_after g (before ++ x ∷ [
 
 -- On a place that names a record, which none of the places before may name.
 abbrev pub naming_places : Contents → ℤ → ℕ → EntityKind → List ℤ → ℤ → List Obligation
-naming_places f entity place kind known number = record_places f entity place kind number ++ (obligation Twice (entry_number entity) place (¬ Contains known number) ∷ [])
+naming_places f entity place kind known number = record_places f entity place kind number
+    ++ (obligation Twice (entry_number entity) place (¬ Contains known number) ∷ [])
 
 unfoldable pub tuples_sited : Contents → Path → ℤ → List LoopTuple → LoopTuple → List Sited
 tuples_sited f path l before t = on (Some path) (tuple_places f l before t)

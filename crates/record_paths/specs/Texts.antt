@@ -11,7 +11,8 @@ solid_line entry = codes "  in solid" ++ space_word (decimal entry.0) ++ codes "
 -- the word for the step's entity, its number, and the item that names it; no line where the path ends before
 unfoldable pub step_line : List ℕ → Option Step → List ℕ
 step_line word None = []
-step_line word (Some step) = codes "  in" ++ space_word word ++ space_word (decimal step.entity.0) ++ space_word (codes "item") ++ space_word (decimal step.item) ++ codes "\n"
+step_line word (Some step) = codes "  in" ++ space_word word ++ space_word (decimal step.entity.0) ++ space_word (codes "item")
+    ++ space_word (decimal step.item) ++ codes "\n"
 
 -- A line for the solid, and one for each step.
 unfoldable pub path_text : EntryNo → Path → List ℕ

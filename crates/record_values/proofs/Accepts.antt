@@ -6,7 +6,8 @@ use Rattle.iges_fields.specs.declared.value.Value.{Value}
 use Rattle.brep_lists.specs.DueValues.{at_least_one, count}
 use Rattle.brep_lists.specs.Record.{count_of}
 use Rattle.brep_lists.specs.declared.entity_kind.EntityKind.{EntityKind}
-use Rattle.brep_lists.specs.declared.entity_kind.EntityKind.TheVariants.{Solid as solid, Shell as shell, Face as face, Loop as «loop», EdgeList as edges, VertexList as vertices}
+use Rattle.brep_lists.specs.declared.entity_kind.EntityKind.TheVariants.{Solid as solid, Shell as shell, Face as face, Loop as «loop», EdgeList as edges}
+use Rattle.brep_lists.specs.declared.entity_kind.EntityKind.TheVariants.{VertexList as vertices}
 use Rattle.brep_lists.specs.OwnValues.{meets, meets_all, is_record_of}
 use Rattle.brep_lists.specs.Groups.{passes, group_passes, groups_pass, is_counted, is_solid, is_face, is_loop, tuples_pass}
 use Rattle.brep_lists.specs.declared.groups.Slot.{Slot as Standing}
@@ -53,7 +54,8 @@ and3 : (a b c : Bool) → (a && (b && c)) ≡ ((a && b) && c)
 and3 true b c = refl
 and3 false b c = refl
 
-group_accepts : (ss : List Slot) (es : List Expected) (vs : List Value) → accepts (map single ss ++ es) vs ≡ (group_passes (shape_of ss) vs && accepts es (drop (length (shape_of ss)) vs))
+group_accepts : (ss : List Slot) (es : List Expected) (vs : List Value)
+    → accepts (map single ss ++ es) vs ≡ (group_passes (shape_of ss) vs && accepts es (drop (length (shape_of ss)) vs))
 group_accepts [] es vs = refl
 group_accepts (s ∷ ss) es [] = refl
 group_accepts (s ∷ ss) es (v ∷ vs) =
@@ -61,7 +63,8 @@ group_accepts (s ∷ ss) es (v ∷ vs) =
     ∙ ap (λ b. passes (stands s) v && b) (group_accepts ss es vs)
     ∙ and3 (passes (stands s) v) (group_passes (shape_of ss) vs) (accepts es (drop (length (shape_of ss)) vs))
 
-items_accept : (ss : List Slot) (n : ℕ) (es : List Expected) (vs : List Value) → accepts (times n (map single ss) ++ es) vs ≡ (groups_pass (shape_of ss) n vs && accepts es (drop (n * length (shape_of ss)) vs))
+items_accept : (ss : List Slot) (n : ℕ) (es : List Expected) (vs : List Value) → accepts (times n (map single ss) ++ es) vs
+    ≡ (groups_pass (shape_of ss) n vs && accepts es (drop (n * length (shape_of ss)) vs))
 items_accept ss zero es vs = let none : 0 ≡ 0 * length (shape_of ss) = omega arith in ap (λ k. accepts es (drop k vs)) none
 items_accept ss (suc n) es vs =
     let size : ℕ = length (shape_of ss) in
@@ -78,7 +81,8 @@ rest_accepts [] = refl
 rest_accepts (v ∷ vs) = ap (λ b. may_come [] v && b) (rest_accepts vs)
 
 -- so many items, and then the rest of the record
-last_items : (ss : List Slot) (n k : ℕ) (all vs : List Value) → drop (n * length (shape_of ss)) vs ≡ drop k all → accepts (times n (map single ss) ++ []) vs ≡ (groups_pass (shape_of ss) n vs && meets_all [] (drop k all))
+last_items : (ss : List Slot) (n k : ℕ) (all vs : List Value) → drop (n * length (shape_of ss)) vs ≡ drop k all → accepts (times n (map single ss) ++ []) vs
+    ≡ (groups_pass (shape_of ss) n vs && meets_all [] (drop k all))
 last_items ss n k all vs e =
     items_accept ss n [] vs ∙ ap (λ b. groups_pass (shape_of ss) n vs && b) (rest_accepts (drop (n * length (shape_of ss)) vs))
     ∙ ap (λ ws. groups_pass (shape_of ss) n vs && meets_all [] ws) e
@@ -88,7 +92,8 @@ last_items ss n k all vs e =
 abbrev starts : Value → Bool
 starts v = meets (at_least_one (count_of v)) v
 
-counted_accepts : (c : Counted) (ss : List Slot) (v : Value) (vs : List Value) → counts c v ≡ starts v → counted_layout c (count_of v) ≡ times (count_of v) (map single ss)
+counted_accepts : (c : Counted) (ss : List Slot) (v : Value) (vs : List Value) → counts c v ≡ starts v
+    → counted_layout c (count_of v) ≡ times (count_of v) (map single ss)
     → (counts c v && accepts (counted_layout c (count_of v) ++ []) vs) ≡ is_counted (shape_of ss) (v ∷ vs)
 counted_accepts c ss v vs k e =
     let n : ℕ = count_of v in
@@ -103,11 +108,13 @@ shell_accepts (v ∷ vs) = counted_accepts counted.Faces (slot.Pointer ∷ slot.
 
 edges_accepts : (vs : List Value) → accepts (layout edges) vs ≡ is_record_of edges vs
 edges_accepts [] = refl
-edges_accepts (v ∷ vs) = counted_accepts counted.Edges (slot.Pointer ∷ slot.Pointer ∷ slot.Index ∷ slot.Pointer ∷ slot.Index ∷ []) v vs refl refl ∙ sym (edges_counted (v ∷ vs))
+edges_accepts (v ∷ vs) = counted_accepts counted.Edges (slot.Pointer ∷ slot.Pointer ∷ slot.Index ∷ slot.Pointer ∷ slot.Index ∷ []) v vs refl refl
+    ∙ sym (edges_counted (v ∷ vs))
 
 vertices_accepts : (vs : List Value) → accepts (layout vertices) vs ≡ is_record_of vertices vs
 vertices_accepts [] = refl
-vertices_accepts (v ∷ vs) = counted_accepts counted.Vertices (slot.Coordinate ∷ slot.Coordinate ∷ slot.Coordinate ∷ []) v vs refl refl ∙ sym (vertices_counted (v ∷ vs))
+vertices_accepts (v ∷ vs) = counted_accepts counted.Vertices (slot.Coordinate ∷ slot.Coordinate ∷ slot.Coordinate ∷ []) v vs refl refl
+    ∙ sym (vertices_counted (v ∷ vs))
 
 -- ---- a solid
 
@@ -211,9 +218,11 @@ tuples_accept (suc n) (a ∷ b ∷ c ∷ d ∷ []) =
 tuples_accept (suc n) (a ∷ b ∷ c ∷ d ∷ k ∷ vs) =
     let m : ℕ = count_of k in
     let five : suc (suc (suc (suc (suc (m * 2))))) ≡ 5 + m * 2 = omega arith in
-    first5 (passes stand.Flag a) (passes stand.Whole b) (passes stand.Whole c) (passes stand.Flag d) (meets (count m) k) (groups_pass (stand.Flag ∷ stand.Whole ∷ []) m vs) _ _
+    first5 (passes stand.Flag a) (passes stand.Whole b) (passes stand.Whole c) (passes stand.Flag d) (meets (count m) k)
+    (groups_pass (stand.Flag ∷ stand.Whole ∷ []) m vs) _ _
     (items_accept (slot.Flag ∷ slot.Pointer ∷ []) m (tuples n) vs
-    ∙ ap (λ b. groups_pass (stand.Flag ∷ stand.Whole ∷ []) m vs && b) (tuples_accept n (drop (m * 2) vs) ∙ ap (λ j. tuples_pass n (drop j (a ∷ b ∷ c ∷ d ∷ k ∷ vs))) five))
+    ∙ ap (λ b. groups_pass (stand.Flag ∷ stand.Whole ∷ []) m vs && b)
+    (tuples_accept n (drop (m * 2) vs) ∙ ap (λ j. tuples_pass n (drop j (a ∷ b ∷ c ∷ d ∷ k ∷ vs))) five))
 
 loop_accepts : (vs : List Value) → accepts (layout «loop») vs ≡ is_loop vs
 loop_accepts [] = refl

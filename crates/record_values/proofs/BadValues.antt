@@ -31,13 +31,16 @@ no_entry (Some x) e = absurd cc
 pub of_no_entry : (f : Contents) (x : Failing) (z : ℤ) → z ≡ pos x.entity.0 → is_of_number x ≡ false → None ≡ entry_at f z → no_value None ≡ bad_value f x
 of_no_entry f x z same e is = ap (λ (o : Option Entry). in_entity f x (kind_in o)) (is ∙ ap (entry_at f) same) ∙ sym (by_entity f x e)
 
-pub of_no_values : (f : Contents) (x : Failing) (z : ℤ) → z ≡ pos x.entity.0 → is_of_number x ≡ false → None ≡ option_map (λ (e : Entry × List Value). e.1) (named f z) → no_value None ≡ bad_value f x
+pub of_no_values : (f : Contents) (x : Failing) (z : ℤ) → z ≡ pos x.entity.0 → is_of_number x ≡ false
+    → None ≡ option_map (λ (e : Entry × List Value). e.1) (named f z) → no_value None ≡ bad_value f x
 of_no_values f x z same e is = of_no_entry f x z same e (sym (no_entry (named f z) is))
 
-pub of_no_kind : (f : Contents) (x : Failing) (z : ℤ) (entry : Entry) → z ≡ pos x.entity.0 → is_of_number x ≡ false → Some entry ≡ entry_at f z → kind_of_type entry.kind ≡ None → no_value None ≡ bad_value f x
+pub of_no_kind : (f : Contents) (x : Failing) (z : ℤ) (entry : Entry) → z ≡ pos x.entity.0 → is_of_number x ≡ false → Some entry ≡ entry_at f z
+    → kind_of_type entry.kind ≡ None → no_value None ≡ bad_value f x
 of_no_kind f x z entry same e is none = ap (in_entity f x) (sym none ∙ ap kind_in (is ∙ ap (entry_at f) same)) ∙ sym (by_entity f x e)
 
-pub of_kind : (f : Contents) (x : Failing) (z : ℤ) (entry : Entry) (vs : List Value) (k : EntityKind) → z ≡ pos x.entity.0 → is_of_number x ≡ false → Some entry ≡ entry_at f z
+pub of_kind : (f : Contents) (x : Failing) (z : ℤ) (entry : Entry) (vs : List Value) (k : EntityKind) → z ≡ pos x.entity.0 → is_of_number x ≡ false
+    → Some entry ≡ entry_at f z
     → Some vs ≡ option_map (λ (e : Entry × List Value). e.1) (named f z) → kind_of_type entry.kind ≡ Some k → by_rule f x.rule x.place vs k ≡ bad_value f x
 of_kind f x z entry vs k same e is values some =
     ap (λ ws. by_rule f x.rule x.place ws k) (sym (the_values (named f z) vs values) ∙ ap (values_of f) same)

@@ -1,5 +1,6 @@
 -- The curves of a tuple, and the places of the tuples of a loop.
-use Rattle.std.specs.Prelude.{◌≡◌, ℕ, zero, suc, ◌+◌, ◌-◌, ◌*◌, ◌<◌, ◌≤◌, not, Bool, true, false, ℤ, List, [], ◌∷◌, ◌++◌, length, take, drop, flat_map, sum_by, option_map, Option, Some, None, slice_get, IsSome, if◌then◌else◌}
+use Rattle.std.specs.Prelude.{◌≡◌, ℕ, zero, suc, ◌+◌, ◌-◌, ◌*◌, ◌<◌, ◌≤◌, not, Bool, true, false, ℤ, List, [], ◌∷◌, ◌++◌, length, take, drop, flat_map, sum_by}
+use Rattle.std.specs.Prelude.{option_map, Option, Some, None, slice_get, IsSome, if◌then◌else◌}
 use Rattle.std.specs.List.{position_from}
 use Rattle.std.proofs.Common.{◌∙◌, ap, arith, length-drop}
 use Rattle.std.proofs.lemmas.List.Sums.{sum_by-cons}
@@ -42,13 +43,15 @@ of_curve cs i z e = from (slice_get cs i) e
     from None e = absurd cc
     from (Some c) e = let same : c.1 ≡ z = cc in (c.0, ap (λ (x : ℤ). Some (c.0, x)) same)
 
-pub bad_here : (f : Contents) (cs : List (Bool × ℤ)) (i : ℕ) (z : ℤ) → Some z ≡ option_map curve_of (slice_get cs i) → names_geometry f z ≡ false → first_from f cs i ≡ Some i
+pub bad_here : (f : Contents) (cs : List (Bool × ℤ)) (i : ℕ) (z : ℤ) → Some z ≡ option_map curve_of (slice_get cs i) → names_geometry f z ≡ false
+    → first_from f cs i ≡ Some i
 bad_here f cs i z e bad =
     let c = of_curve cs i z e in
     ap (position_from (isnt_one f) i) (open_at cs i (c.0, z) c.1)
     ∙ ap (λ b. if not b then Some i else position_from (isnt_one f) (i + 1) (drop (i + 1) cs)) bad
 
-pub good_here : (f : Contents) (cs : List (Bool × ℤ)) (i : ℕ) (z : ℤ) → Some z ≡ option_map curve_of (slice_get cs i) → names_geometry f z ≡ true → first_from f cs i ≡ first_from f cs (i + 1)
+pub good_here : (f : Contents) (cs : List (Bool × ℤ)) (i : ℕ) (z : ℤ) → Some z ≡ option_map curve_of (slice_get cs i) → names_geometry f z ≡ true
+    → first_from f cs i ≡ first_from f cs (i + 1)
 good_here f cs i z e good =
     let c = of_curve cs i z e in
     ap (position_from (isnt_one f) i) (open_at cs i (c.0, z) c.1)
@@ -63,16 +66,19 @@ none_bad f cs i past = ap (position_from (isnt_one f) i) (none_at cs i (slice_ge
 abbrev pub at_tuple : Contents → Rule → ℕ → ℕ → List LoopTuple → BadValue
 at_tuple f r at i ts = in_tuple f r (at + sum_by tuple_size (take i ts)) (slice_get ts i)
 
-pub this_tuple : (f : Contents) (r : Rule) (at i : ℕ) (all rest : List LoopTuple) (t : LoopTuple) → all ≡ t ∷ rest → i ≡ 0 → at_tuple f r at i all ≡ in_tuple f r at (Some t)
+pub this_tuple : (f : Contents) (r : Rule) (at i : ℕ) (all rest : List LoopTuple) (t : LoopTuple) → all ≡ t ∷ rest → i ≡ 0
+    → at_tuple f r at i all ≡ in_tuple f r at (Some t)
 this_tuple f r at i all rest t e z =
     ap (λ n. at_tuple f r at n all) z ∙ ap (at_tuple f r at 0) e
     ∙ (let none : at + sum_by tuple_size (take 0 (t ∷ rest)) ≡ at = omega arith in ap (λ n. in_tuple f r n (Some t)) none)
 
-pub later_tuple : (f : Contents) (r : Rule) (at i : ℕ) (all rest : List LoopTuple) (t : LoopTuple) → all ≡ t ∷ rest → 0 < i → at_tuple f r at i all ≡ at_tuple f r (at + tuple_size t) (i - 1) rest
+pub later_tuple : (f : Contents) (r : Rule) (at i : ℕ) (all rest : List LoopTuple) (t : LoopTuple) → all ≡ t ∷ rest → 0 < i
+    → at_tuple f r at i all ≡ at_tuple f r (at + tuple_size t) (i - 1) rest
 later_tuple f r at zero all rest t e some = absurd (omega (arith, some))
 later_tuple f r at (suc i) all rest t e some =
     let less : i ≡ suc i - 1 = omega arith in
-    let sum : at + sum_by tuple_size (take (suc i) (t ∷ rest)) ≡ at + tuple_size t + sum_by tuple_size (take i rest) = omega (arith, sum_by-cons tuple_size t (take i rest)) in
+    let sum : at + sum_by tuple_size (take (suc i) (t ∷ rest)) ≡ at + tuple_size t + sum_by tuple_size (take i rest) =
+    omega (arith, sum_by-cons tuple_size t (take i rest)) in
     ap (at_tuple f r at (suc i)) e ∙ ap (λ n. in_tuple f r n (slice_get rest i)) sum ∙ ap (λ n. at_tuple f r (at + tuple_size t) n rest) less
 
 curves_room : (cs : List (Bool × ℤ)) (ds : List DueValue) (vs : List Value) → MeetsAll (flat_map curve_due cs ++ ds) vs → 2 * length cs ≤ length vs
@@ -95,7 +101,14 @@ tuples_room (t ∷ ts) (a ∷ b ∷ c ∷ d ∷ []) h =
     omega (arith, sum_by-cons tuple_size t ts, no_curves, no_tuples)
 tuples_room (t ∷ ts) (a ∷ b ∷ c ∷ d ∷ k ∷ vs) h =
     let rest = curves_only t.curves (flat_map tuple_due ts) vs h.1.1.1.1.1 in
-    omega (arith, sum_by-cons tuple_size t ts, curves_room t.curves (flat_map tuple_due ts) vs h.1.1.1.1.1, tuples_room ts (drop (2 * length t.curves) vs) rest.1, length-drop (2 * length t.curves) vs)
+    omega (
+      arith,
+      sum_by-cons tuple_size t ts,
+      curves_room t.curves (flat_map tuple_due ts) vs h.1.1.1.1.1,
+      tuples_room ts (drop (2 * length t.curves) vs)
+          rest.1,
+      length-drop (2 * length t.curves) vs,
+    )
 
 pub loop_room : (ts : List LoopTuple) (vs : List Value) → Fits «loop» vs ts → 1 + sum_by tuple_size ts ≤ length vs + 1
 loop_room ts [] h = absurd h

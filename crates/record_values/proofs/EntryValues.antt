@@ -1,5 +1,6 @@
 -- The records that numbers name.
-use Rattle.std.specs.Prelude.{◌≡◌, ℕ, zero, suc, ◌+◌, ◌/◌, ◌%◌, ◌==◌, ◌≤◌, Bool, true, false, if◌then◌else◌, ℤ, pos, negsuc, List, [], ◌∷◌, length, option_map, Option, Some, None, slice_get}
+use Rattle.std.specs.Prelude.{◌≡◌, ℕ, zero, suc, ◌+◌, ◌/◌, ◌%◌, ◌==◌, ◌≤◌, Bool, true, false, if◌then◌else◌, ℤ, pos, negsuc, List, [], ◌∷◌, length, option_map}
+use Rattle.std.specs.Prelude.{Option, Some, None, slice_get}
 use Rattle.std.specs.Ordering.{int_eq}
 use Rattle.std.proofs.Common.{refl, ap, arith, Bor}
 use Rattle.std.specs.Option.{option_copied}
@@ -59,6 +60,7 @@ of_named es (pos n) vs e = by_test (n % 2 == 1) e
 pub few_values : (f : Contents) (z : ℤ) (vs : List Value) → FitsLimits f → Some vs ≡ second (named f z) → length vs ≤ FILE_LIMIT
 few_values f z vs limits e = let few = limits.values in omega (arith, of_named f.entries z vs e, few)
 
-pub if_few : (f : Contents) (z : ℤ) (r : Option (Bor (List Value))) → FitsLimits f → option_copied r ≡ second (named f z) → IfSome r (λ v. length v.now ≤ FILE_LIMIT)
+pub if_few : (f : Contents) (z : ℤ) (r : Option (Bor (List Value))) → FitsLimits f → option_copied r ≡ second (named f z)
+    → IfSome r (λ v. length v.now ≤ FILE_LIMIT)
 if_few f z None limits e = tt
 if_few f z (Some v) limits e = few_values f z v.now limits e

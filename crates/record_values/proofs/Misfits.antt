@@ -30,7 +30,8 @@ and3 false b c = refl
 
 accepts_both : (es : List Expected) (xs ys : List Value) → accepts es (xs ++ ys) ≡ (all_come es xs && accepts (after_all es xs) ys)
 accepts_both es [] ys = refl
-accepts_both es (v ∷ xs) ys = ap (λ b. may_come es v && b) (accepts_both (after es v) xs ys) ∙ and3 (may_come es v) (all_come (after es v) xs) (accepts (after_all (after es v) xs) ys)
+accepts_both es (v ∷ xs) ys = ap (λ b. may_come es v && b) (accepts_both (after es v) xs ys) ∙ and3 (may_come es v) (all_come (after es v) xs)
+    (accepts (after_all (after es v) xs) ys)
 
 -- values that may come where this is due, after which the others are due
 abbrev filler : Expected → List Value
@@ -107,11 +108,13 @@ stopped es at v vs e = record {
   here = λ h. ap (λ b. b && all_come (after es v) (take 0 vs)) e;
 }
 
-came : (es : List Expected) (v : Value) (vs : List Value) (n : ℕ) → may_come es v ≡ true → ((i : ℕ) → i ≤ n → all_come (after es v) (take i vs) ≡ true) → (i : ℕ) → i ≤ suc n → all_come es (take i (v ∷ vs)) ≡ true
+came : (es : List Expected) (v : Value) (vs : List Value) (n : ℕ) → may_come es v ≡ true → ((i : ℕ) → i ≤ n → all_come (after es v) (take i vs) ≡ true)
+    → (i : ℕ) → i ≤ suc n → all_come es (take i (v ∷ vs)) ≡ true
 came es v vs n e k zero h = refl
 came es v vs n e k (suc i) h = ap (λ b. b && all_come (after es v) (take i vs)) e ∙ k i (omega (arith, h))
 
-went_on : (es : List Expected) (at : ℕ) (v : Value) (vs : List Value) (m : Misfit) → may_come es v ≡ true → IsStop (after es v) (at + 1) vs m → IsStop es at (v ∷ vs) m
+went_on : (es : List Expected) (at : ℕ) (v : Value) (vs : List Value) (m : Misfit) → may_come es v ≡ true → IsStop (after es v) (at + 1) vs m
+    → IsStop es at (v ∷ vs) m
 went_on es at v vs m e s =
     let place = s.place in
     let within = s.within in
@@ -142,7 +145,8 @@ first kind values m s =
       within = omega (arith, place, within);
       before = λ i h. to_begin kind (take i values) (s.before i (omega (arith, place, h)));
       here = λ h begun.
-          let yes : all_come (layout kind) (take (suc s.come) values) ≡ true = subst (λ k. all_come (layout kind) (take k values) ≡ true) same (from_begin kind (take (m.place + 1) values) begun) in
+          let yes : all_come (layout kind) (take (suc s.come) values) ≡ true = subst (λ k. all_come (layout kind) (take k values) ≡ true) same
+          (from_begin kind (take (m.place + 1) values) begun) in
           let never : false ≡ true = sym (s.here (omega (arith, place, h))) ∙ yes in
           absurd cc;
     }

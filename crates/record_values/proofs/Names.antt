@@ -1,5 +1,6 @@
 -- The places that name a number, one after the other.
-use Rattle.std.specs.Prelude.{◌≡◌, ◌≢◌, ◌≤◌, ◌<◌, ℕ, zero, suc, IsSome, length, ◌+◌, Bool, true, false, ℤ, List, [], ◌∷◌, ◌++◌, drop, flat_map, IfSome, IfNone, MatchOption, Option, Some, None, slice_get, if◌then◌else◌}
+use Rattle.std.specs.Prelude.{◌≡◌, ◌≢◌, ◌≤◌, ◌<◌, ℕ, zero, suc, IsSome, length, ◌+◌, Bool, true, false, ℤ, List, [], ◌∷◌, ◌++◌, drop, flat_map, IfSome, IfNone}
+use Rattle.std.specs.Prelude.{MatchOption, Option, Some, None, slice_get, if◌then◌else◌}
 use Rattle.std.specs.List.{enumerate_from}
 use Rattle.std.specs.Ordering.{int_eq}
 use Rattle.std.proofs.Common.{refl, sym, ◌∙◌, ap, subst, inl, inr, to_z, of_z, arith}
@@ -28,7 +29,8 @@ use Rattle.record_values.specs.Told.{told_in}
 abbrev told_if : (kind : EntityKind) → List Value → Bool → Option (Items kind)
 told_if kind vs b = if b then Some (items_of kind vs) else None
 
-pub told : (kind : EntityKind) (vs : List Value) (r : Option (Items kind)) → IfSome r (λ items. Fits kind vs items) → IfSome r (λ items. items ≡ items_of kind vs)
+pub told : (kind : EntityKind) (vs : List Value) (r : Option (Items kind)) → IfSome r (λ items. Fits kind vs items)
+    → IfSome r (λ items. items ≡ items_of kind vs)
     → IfNone r ((items : Items kind) → ¬ Fits kind vs items) → r ≡ told_in kind vs
 told kind vs None fit is none =
     elim (cases_Bool (is_record_of kind vs)) [
@@ -38,7 +40,8 @@ told kind vs None fit is none =
 told kind vs (Some items) fit is none =
     elim (cases_Bool (is_record_of kind vs)) [
       | inl e ↦ ap Some is ∙ sym (ap (told_if kind vs) e)
-      | inr e ↦ absurd (let t : is_record_of kind vs ≡ true = (decided kind vs).1 (subst (λ (i : Items kind). Fits kind vs i) is fit) in let g : false ≡ true = sym e ∙ t in cc)
+      | inr e ↦ absurd (let t : is_record_of kind vs ≡ true = (decided kind vs).1 (subst (λ (i : Items kind). Fits kind vs i) is fit)
+          in let g : false ≡ true = sym e ∙ t in cc)
     ]
 
 -- ---- the places from one on
@@ -46,7 +49,8 @@ told kind vs (Some items) fit is none =
 abbrev pub items_from : {A : Type 0} → (ℕ × A → List Names) → List A → ℕ → List Names
 items_from g xs i = flat_map g (enumerate_from (i + 1) (drop i xs))
 
-pub one_item : {A : Type 0} (g : ℕ × A → List Names) (xs : List A) (i : ℕ) (a : A) → Some a ≡ slice_get xs i → items_from g xs i ≡ g (i + 1, a) ++ items_from g xs (i + 1)
+pub one_item : {A : Type 0} (g : ℕ × A → List Names) (xs : List A) (i : ℕ) (a : A) → Some a ≡ slice_get xs i
+    → items_from g xs i ≡ g (i + 1, a) ++ items_from g xs (i + 1)
 one_item {A} g xs i a e = ap (λ ys. flat_map g (enumerate_from (i + 1) ys)) (open_at xs i a (sym e))
 
 pub no_item : {A : Type 0} (g : ℕ × A → List Names) (xs : List A) (i : ℕ) → None ≡ slice_get xs i → items_from g xs i ≡ []
@@ -68,7 +72,8 @@ pub found_among : (z : ℤ) (xs ys : List Names) (n : Naming) → first_of z xs 
 found_among z [] ys n e = absurd cc
 found_among z (x ∷ xs) ys n e = by_test (int_eq x.number z) (found_among z xs ys n) e
   where
-    by_test : (b : Bool) → (first_of z xs ≡ Some n → first_of z (xs ++ ys) ≡ Some n) → (if b then Some x.naming else first_of z xs) ≡ Some n → (if b then Some x.naming else first_of z (xs ++ ys)) ≡ Some n
+    by_test : (b : Bool) → (first_of z xs ≡ Some n → first_of z (xs ++ ys) ≡ Some n) → (if b then Some x.naming else first_of z xs) ≡ Some n
+        → (if b then Some x.naming else first_of z (xs ++ ys)) ≡ Some n
     by_test true more e = e
     by_test false more e = more e
 
@@ -76,7 +81,8 @@ pub none_among : (z : ℤ) (xs ys : List Names) → first_of z xs ≡ None → f
 none_among z [] ys e = refl
 none_among z (x ∷ xs) ys e = by_test (int_eq x.number z) (none_among z xs ys) e
   where
-    by_test : (b : Bool) → (first_of z xs ≡ None → first_of z (xs ++ ys) ≡ first_of z ys) → (if b then Some x.naming else first_of z xs) ≡ None → (if b then Some x.naming else first_of z (xs ++ ys)) ≡ first_of z ys
+    by_test : (b : Bool) → (first_of z xs ≡ None → first_of z (xs ++ ys) ≡ first_of z ys) → (if b then Some x.naming else first_of z xs) ≡ None
+        → (if b then Some x.naming else first_of z (xs ++ ys)) ≡ first_of z ys
     by_test true more e = absurd cc
     by_test false more e = more e
 
@@ -87,34 +93,42 @@ is_there {A} [] i h = absurd (omega (arith, h))
 is_there {A} (x ∷ xs) zero h = refl
 is_there {A} (x ∷ xs) (suc i) h = is_there xs i (omega (arith, h))
 
-pub named_here : {A : Type 0} (g : ℕ × A → List Names) (xs : List A) (i : ℕ) (a : A) (z : ℤ) (x : Names) (more : List Names) → Some a ≡ slice_get xs i → g (i + 1, a) ≡ x ∷ more → x.number ≡ z → first_of z (items_from g xs i) ≡ Some x.naming
+pub named_here : {A : Type 0} (g : ℕ × A → List Names) (xs : List A) (i : ℕ) (a : A) (z : ℤ) (x : Names) (more : List Names) → Some a ≡ slice_get xs i
+    → g (i + 1, a) ≡ x ∷ more → x.number ≡ z → first_of z (items_from g xs i) ≡ Some x.naming
 named_here {A} g xs i a z x more e is k =
     ap (first_of z) (one_item g xs i a e) ∙ ap (λ ys. first_of z (ys ++ items_from g xs (i + 1))) is ∙ found z x (more ++ items_from g xs (i + 1)) k
 
-pub named_within : {A : Type 0} (g : ℕ × A → List Names) (xs : List A) (i : ℕ) (a : A) (z : ℤ) (x : Names) (more : List Names) (n : Naming) → Some a ≡ slice_get xs i → g (i + 1, a) ≡ x ∷ more → x.number ≢ z → first_of z more ≡ Some n → first_of z (items_from g xs i) ≡ Some n
+pub named_within : {A : Type 0} (g : ℕ × A → List Names) (xs : List A) (i : ℕ) (a : A) (z : ℤ) (x : Names) (more : List Names) (n : Naming)
+    → Some a ≡ slice_get xs i → g (i + 1, a) ≡ x ∷ more → x.number ≢ z → first_of z more ≡ Some n → first_of z (items_from g xs i) ≡ Some n
 named_within {A} g xs i a z x more n e is ne k =
-    ap (first_of z) (one_item g xs i a e) ∙ ap (λ ys. first_of z (ys ++ items_from g xs (i + 1))) is ∙ passed z x (more ++ items_from g xs (i + 1)) ne ∙ found_among z more (items_from g xs (i + 1)) n k
+    ap (first_of z) (one_item g xs i a e) ∙ ap (λ ys. first_of z (ys ++ items_from g xs (i + 1))) is ∙ passed z x (more ++ items_from g xs (i + 1)) ne
+    ∙ found_among z more (items_from g xs (i + 1)) n k
 
-pub not_named : {A : Type 0} (g : ℕ × A → List Names) (xs : List A) (i : ℕ) (a : A) (z : ℤ) (x : Names) (more : List Names) → Some a ≡ slice_get xs i → g (i + 1, a) ≡ x ∷ more → x.number ≢ z → first_of z more ≡ None → first_of z (items_from g xs i) ≡ first_of z (items_from g xs (i + 1))
+pub not_named : {A : Type 0} (g : ℕ × A → List Names) (xs : List A) (i : ℕ) (a : A) (z : ℤ) (x : Names) (more : List Names) → Some a ≡ slice_get xs i
+    → g (i + 1, a) ≡ x ∷ more → x.number ≢ z → first_of z more ≡ None → first_of z (items_from g xs i) ≡ first_of z (items_from g xs (i + 1))
 not_named {A} g xs i a z x more e is ne k =
-    ap (first_of z) (one_item g xs i a e) ∙ ap (λ ys. first_of z (ys ++ items_from g xs (i + 1))) is ∙ passed z x (more ++ items_from g xs (i + 1)) ne ∙ none_among z more (items_from g xs (i + 1)) k
+    ap (first_of z) (one_item g xs i a e) ∙ ap (λ ys. first_of z (ys ++ items_from g xs (i + 1))) is ∙ passed z x (more ++ items_from g xs (i + 1)) ne
+    ∙ none_among z more (items_from g xs (i + 1)) k
 
 pub named_by_none : {A : Type 0} (g : ℕ × A → List Names) (xs : List A) (z : ℤ) (i : ℕ) → length xs ≤ i → first_of z (items_from g xs i) ≡ None
 named_by_none {A} g xs z i past = ap (first_of z) (no_item g xs i (sym (slice_get_past xs i past)))
 
 -- ---- the records of a solid
 
-pub face_told : (f : Contents) (z : ℤ) (vs : List Value) (r : Option FaceItems) → values_of f z ≡ vs → r ≡ told_in face vs → MatchOption r (loops_in f z ≡ []) (λ i. loops_in f z ≡ i.loops)
+pub face_told : (f : Contents) (z : ℤ) (vs : List Value) (r : Option FaceItems) → values_of f z ≡ vs → r ≡ told_in face vs
+    → MatchOption r (loops_in f z ≡ []) (λ i. loops_in f z ≡ i.loops)
 unfolding loops_in
 face_told f z vs None e is = ap (λ x. loops_told (told_in face x)) e ∙ sym (ap loops_told is)
 face_told f z vs (Some i) e is = ap (λ x. loops_told (told_in face x)) e ∙ sym (ap loops_told is)
 
-pub shell_told : (f : Contents) (z : ℤ) (vs : List Value) (r : Option (List (ℤ × Bool))) → values_of f z ≡ vs → r ≡ told_in shell vs → MatchOption r (faces_in f z ≡ []) (λ i. faces_in f z ≡ i)
+pub shell_told : (f : Contents) (z : ℤ) (vs : List Value) (r : Option (List (ℤ × Bool))) → values_of f z ≡ vs → r ≡ told_in shell vs
+    → MatchOption r (faces_in f z ≡ []) (λ i. faces_in f z ≡ i)
 unfolding faces_in
 shell_told f z vs None e is = ap (λ x. faces_told (told_in shell x)) e ∙ sym (ap faces_told is)
 shell_told f z vs (Some i) e is = ap (λ x. faces_told (told_in shell x)) e ∙ sym (ap faces_told is)
 
-pub solid_told : (f : Contents) (z : ℤ) (vs : List Value) (r : Option SolidItems) → values_of f z ≡ vs → r ≡ told_in solid vs → MatchOption r (shells_in f z ≡ []) (λ i. shells_in f z ≡ i.outer ∷ i.voids)
+pub solid_told : (f : Contents) (z : ℤ) (vs : List Value) (r : Option SolidItems) → values_of f z ≡ vs → r ≡ told_in solid vs
+    → MatchOption r (shells_in f z ≡ []) (λ i. shells_in f z ≡ i.outer ∷ i.voids)
 unfolding shells_in
 solid_told f z vs None e is = ap (λ x. shells_told (told_in solid x)) e ∙ sym (ap shells_told is)
 solid_told f z vs (Some i) e is = ap (λ x. shells_told (told_in solid x)) e ∙ sym (ap shells_told is)

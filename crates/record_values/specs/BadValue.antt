@@ -1,5 +1,6 @@
 -- Which value of a record is the bad one at a failing place, and what is due there. Places of values count from 0, those of items from 1.
-use Rattle.std.specs.Prelude.{ℕ, ◌+◌, ◌-◌, ◌*◌, nat_lt, nat_le, ◌==◌, ◌&&◌, ◌||◌, not, Bool, true, false, if◌then◌else◌, ℤ, pos, negsuc, List, length, take, sum_by, Option, Some, None, slice_get, unwrap_or, option_map}
+use Rattle.std.specs.Prelude.{ℕ, ◌+◌, ◌-◌, ◌*◌, nat_lt, nat_le, ◌==◌, ◌&&◌, ◌||◌, not, Bool, true, false, if◌then◌else◌, ℤ, pos, negsuc, List, length, take}
+use Rattle.std.specs.Prelude.{sum_by, Option, Some, None, slice_get, unwrap_or, option_map}
 use Rattle.std.specs.List.{position_from}
 use Rattle.std.specs.Option.{is_some, is_none}
 use Rattle.std.specs.Ordering.{int_eq}
@@ -9,7 +10,8 @@ use Rattle.iges_params.specs.Contents.{Contents}
 use Rattle.iges_params.specs.Named.{named, values_of}
 use Rattle.brep_lists.specs.Record.{kind_of_type, LoopTuple, count_at}
 use Rattle.brep_lists.specs.declared.entity_kind.EntityKind.{EntityKind}
-use Rattle.brep_lists.specs.declared.entity_kind.EntityKind.TheVariants.{Solid as solid, Shell as shell, Face as face, Loop as «loop», EdgeList as edges, VertexList as vertices}
+use Rattle.brep_lists.specs.declared.entity_kind.EntityKind.TheVariants.{Solid as solid, Shell as shell, Face as face, Loop as «loop», EdgeList as edges}
+use Rattle.brep_lists.specs.declared.entity_kind.EntityKind.TheVariants.{VertexList as vertices}
 use Rattle.brep_lists.specs.declared.edge_list.EdgeTuple.{EdgeTuple}
 use Rattle.solid_data.specs.declared.verdict.Rule.{Rule}
 use Rattle.solid_data.specs.declared.verdict.Rule.TheVariants as rule

@@ -9,7 +9,8 @@ use Rattle.record_values.specs.Expected.{first_misfit}
 abbrev pub Begins : EntityKind → List Value → Type 0
 Begins kind xs = (rest : List Value) × IsRecordOf kind (xs ++ rest)
 
--- The k-th value, from 1, is the first with which no record of the kind goes on: those before it begin one, and with it they begin none. Where all values begin one, it is the one after them.
+-- The k-th value, from 1, is the first with which no record of the kind goes on: those before it begin one, and with it they begin none. Where all values begin
+-- one, it is the one after them.
 pub record IsFirstMisfit (kind : EntityKind) (values : List Value) (k : ℕ) : Type 0 where
   pub some : 1 ≤ k
   pub within : k ≤ length values + 1

@@ -1,7 +1,8 @@
 -- The words for what is due at a place of a record.
 use Rattle.std.specs.Prelude.{ℕ, List, codes}
 use Rattle.brep_lists.specs.declared.entity_kind.EntityKind.{EntityKind}
-use Rattle.brep_lists.specs.declared.entity_kind.EntityKind.TheVariants.{Solid as solid, Shell as shell, Face as face, Loop as «loop», EdgeList as edges, VertexList as vertices}
+use Rattle.brep_lists.specs.declared.entity_kind.EntityKind.TheVariants.{Solid as solid, Shell as shell, Face as face, Loop as «loop», EdgeList as edges}
+use Rattle.brep_lists.specs.declared.entity_kind.EntityKind.TheVariants.{VertexList as vertices}
 use Rattle.record_values.specs.declared.due.Due.{Due}
 use Rattle.record_values.specs.declared.due.Due.TheVariants as due
 use Rattle.record_values.specs.declared.due.Slot.{Slot}

@@ -4,7 +4,8 @@ use Rattle.iges_fields.specs.declared.value.Value.{Value}
 use Rattle.brep_lists.specs.DueValues.{at_least_one, count}
 use Rattle.brep_lists.specs.Record.{count_of}
 use Rattle.brep_lists.specs.declared.entity_kind.EntityKind.{EntityKind}
-use Rattle.brep_lists.specs.declared.entity_kind.EntityKind.TheVariants.{Solid as solid, Shell as shell, Face as face, Loop as «loop», EdgeList as edges, VertexList as vertices}
+use Rattle.brep_lists.specs.declared.entity_kind.EntityKind.TheVariants.{Solid as solid, Shell as shell, Face as face, Loop as «loop», EdgeList as edges}
+use Rattle.brep_lists.specs.declared.entity_kind.EntityKind.TheVariants.{VertexList as vertices}
 use Rattle.brep_lists.specs.OwnValues.{is_filler, meets}
 use Rattle.brep_lists.specs.Groups.{passes}
 use Rattle.brep_lists.specs.declared.groups.Slot.TheVariants as stands
@@ -98,5 +99,6 @@ GoesOn vs at es (Err m) = (rest : List Expected) → misfit_from at (es ++ rest)
 
 -- In a place is a count of n, or the first misfit.
 abbrev pub IsCounted : List Value → ℕ → Counted → Result ℕ Misfit → Type 0
-IsCounted vs at c (Ok n) = (at + 1 < 2 ^ 64) × ((rest : List Expected) → misfit_from at (count_of_items c ∷ rest) (drop at vs) ≡ misfit_from (at + 1) (counted_layout c n ++ rest) (drop (at + 1) vs))
+IsCounted vs at c (Ok n) = (at + 1 < 2 ^ 64)
+    × ((rest : List Expected) → misfit_from at (count_of_items c ∷ rest) (drop at vs) ≡ misfit_from (at + 1) (counted_layout c n ++ rest) (drop (at + 1) vs))
 IsCounted vs at c (Err m) = (rest : List Expected) → misfit_from at (count_of_items c ∷ rest) (drop at vs) ≡ m

@@ -1,5 +1,6 @@
 -- A solid that is extracted again is the same file.
-use Rattle.std.specs.Prelude.{◌≡◌, ◌↔◌, ℕ, zero, suc, ◌+◌, ◌*◌, ◌<◌, Bool, true, ℤ, pos, List, [], ◌∷◌, ◌++◌, false, is_some, unsigned_abs, length, map, Some, None, Option, Ok, Result, IsTrue, slice_get, slice_index_or, Contains}
+use Rattle.std.specs.Prelude.{◌≡◌, ◌↔◌, ℕ, zero, suc, ◌+◌, ◌*◌, ◌<◌, Bool, true, ℤ, pos, List, [], ◌∷◌, ◌++◌, false, is_some, unsigned_abs, length, map, Some}
+use Rattle.std.specs.Prelude.{None, Option, Ok, Result, IsTrue, slice_get, slice_index_or, Contains}
 use Rattle.std.specs.List.{AllByRecursion, AllZip}
 use Rattle.std.specs.List.Sorted.{IsStrictlyIncreasing}
 use Rattle.std.specs.Ordering.{int_eq}
@@ -14,7 +15,8 @@ use Rattle.entry_references.specs.References.{RefersTo}
 use Rattle.entry_references.specs.Refs.{Record, names_entry, names_of, pointers_of, entry_fault, refs}
 use Rattle.entry_references.proofs.RisingLists.{In, below, tail_rises, contains_at, in_from, contains_pass}
 use Rattle.solid_extract.specs.Again.{ExtractedAgain}
-use Rattle.solid_extract.specs.Extracted.{new_number, new_record, renamed, is_solid, Reaches, here, further, IsExtracted, IsExtractedAs}
+use Rattle.iges_params.specs.Solids.{is_solid, is_solid_entry}
+use Rattle.solid_extract.specs.Extracted.{new_number, new_record, renamed, Reaches, here, further, IsExtracted, IsExtractedAs}
 use Rattle.solid_extract.specs.Renaming.{place_of}
 use Rattle.solid_extract.proofs.Copies.{all_at, zip_at}
 use Rattle.solid_extract.proofs.NewNumbers.{new_named}
@@ -42,7 +44,8 @@ map_contains g [] y i lt e = absurd (omega (arith, lt))
 map_contains g (z ∷ zs) y zero lt e = (0, omega arith, ap g e)
 map_contains g (z ∷ zs) y (suc i) lt e = let c = map_contains g zs y i (omega (arith, lt)) e in (suc c.0, omega (arith, c.1), c.2)
 
-map_from : (P : ℤ → Type 0) (g : ℤ → ℤ) (zs : List ℤ) (w : ℤ) (i : ℕ) → AllByRecursion P zs → i < length (map g zs) → slice_index_or (map g zs) i w ≡ w → (y : ℤ) × P y × (g y ≡ w) × Contains zs y
+map_from : (P : ℤ → Type 0) (g : ℤ → ℤ) (zs : List ℤ) (w : ℤ) (i : ℕ) → AllByRecursion P zs → i < length (map g zs) → slice_index_or (map g zs) i w ≡ w
+    → (y : ℤ) × P y × (g y ≡ w) × Contains zs y
 map_from P g [] w i h lt e = absurd (omega (arith, lt))
 map_from P g (z ∷ zs) w zero h lt e = (z, h.0, e, (0, omega arith, refl))
 map_from P g (z ∷ zs) w (suc i) h lt e =
@@ -64,7 +67,8 @@ module _ (f new : Contents) (n : ℕ) (x : IsExtracted f n new) where
 
   known : (m : ℕ) → Contains x.kept m → Known m
   known m c =
-      let r = zip_at (λ (k : ℕ) (q : Record). named f (pos k) ≡ Some q) x.kept x.records (place_of x.kept m) m x.each_named (place_found x.kept m (in_from x.kept m c)) in
+      let r = zip_at (λ (k : ℕ) (q : Record). named f (pos k) ≡ Some q) x.kept x.records (place_of x.kept m) m x.each_named
+      (place_found x.kept m (in_from x.kept m c)) in
       let faultless = recursion_from_All (λ q. entry_fault f q ≡ None) x.records x.faultless in
       let good = all_at (λ q. entry_fault f q ≡ None) x.records (place_of x.kept m) r.0 faultless r.1 in
       record { record_at = r.0; at = r.2; stays = steady f new n x m r.0 c r.2 good; good = good }
@@ -84,10 +88,13 @@ module _ (f new : Contents) (n : ℕ) (x : IsExtracted f n new) where
   refers_on m k c t =
       let q = known m c in
       let same : t.0 ≡ q.record_at = same_Some t.0 q.record_at (sym t.2 ∙ q.at) in
-      let read : t.1 ≡ pointers_of q.record_at ++ names_of f q.record_at = ok_same t.1 (pointers_of q.record_at ++ names_of f q.record_at) (sym t.3 ∙ (ap (refs f) same ∙ refs_read f q.record_at q.good)) in
+      let read : t.1 ≡ pointers_of q.record_at ++ names_of f q.record_at = ok_same t.1 (pointers_of q.record_at ++ names_of f q.record_at)
+      (sym t.3 ∙ (ap (refs f) same ∙ refs_read f q.record_at q.good)) in
       let member : Contains (pointers_of q.record_at ++ names_of f q.record_at) (pos k) = subst (λ (zs : List ℤ). Contains zs (pos k)) read t.4 in
-      let moved : Contains (map (renamed x.kept) (pointers_of q.record_at ++ names_of f q.record_at)) (renamed x.kept (pos k)) = map_contains (renamed x.kept) (pointers_of q.record_at ++ names_of f q.record_at) (pos k) member.0 member.1 member.2 in
-      let named_so : names_entry f (pos k) ≡ true = contains_pass (names_entry f) (pointers_of q.record_at ++ names_of f q.record_at) (pos k) member q.stays.named_all in (
+      let moved : Contains (map (renamed x.kept) (pointers_of q.record_at ++ names_of f q.record_at)) (renamed x.kept (pos k)) =
+      map_contains (renamed x.kept) (pointers_of q.record_at ++ names_of f q.record_at) (pos k) member.0 member.1 member.2 in
+      let named_so : names_entry f (pos k) ≡ true = contains_pass (names_entry f) (pointers_of q.record_at ++ names_of f q.record_at) (pos k) member
+      q.stays.named_all in (
         new_record f x.kept q.record_at,
         map (renamed x.kept) (pointers_of q.record_at ++ names_of f q.record_at),
         new_at m c,
@@ -105,8 +112,10 @@ module _ (f new : Contents) (n : ℕ) (x : IsExtracted f n new) where
       let same : t.0 ≡ new_record f x.kept q.record_at = same_Some t.0 (new_record f x.kept q.record_at) (sym t.2 ∙ new_at m c) in
       let read : t.1 ≡ map (renamed x.kept) (pointers_of q.record_at ++ names_of f q.record_at) =
       ok_same t.1 (map (renamed x.kept) (pointers_of q.record_at ++ names_of f q.record_at)) (sym t.3 ∙ (ap (refs new) same ∙ q.stays.references)) in
-      let member : Contains (map (renamed x.kept) (pointers_of q.record_at ++ names_of f q.record_at)) (pos j) = subst (λ (zs : List ℤ). Contains zs (pos j)) read t.4 in
-      let from = map_from (IsKeptNumber x.kept) (renamed x.kept) (pointers_of q.record_at ++ names_of f q.record_at) (pos j) member.0 q.stays.numbers member.1 member.2 in
+      let member : Contains (map (renamed x.kept) (pointers_of q.record_at ++ names_of f q.record_at)) (pos j) =
+      subst (λ (zs : List ℤ). Contains zs (pos j)) read t.4 in
+      let from = map_from (IsKeptNumber x.kept) (renamed x.kept) (pointers_of q.record_at ++ names_of f q.record_at) (pos j) member.0 q.stays.numbers member.1
+      member.2 in
       let k = from.1 in
       let number : pos j ≡ pos (next k.0) = sym from.2 ∙ (ap (renamed x.kept) k.1 ∙ renamed_is k.0 k.2) in
       (k.0, k.2, ap unsigned_abs number)
@@ -143,7 +152,8 @@ module _ (f new : Contents) (n : ℕ) (x : IsExtracted f n new) where
   -- ---- the records
 
   all_named : (i : ℕ) (ms : List ℕ) (rs : List Record) → AllZip (λ m r. named f (pos m) ≡ Some r) ms rs → ((m : ℕ) → In ms m → Contains x.kept m)
-      → ((k m : ℕ) → slice_get ms k ≡ Some m → next m ≡ 2 * (i + k) + 1) → AllZip (λ m r. named new (pos m) ≡ Some r) (odds_from i (length ms)) (map (new_record f x.kept) rs)
+      → ((k m : ℕ) → slice_get ms k ≡ Some m → next m ≡ 2 * (i + k) + 1)
+      → AllZip (λ m r. named new (pos m) ≡ Some r) (odds_from i (length ms)) (map (new_record f x.kept) rs)
   all_named i [] [] h into at = tt
   all_named i [] (r ∷ rs) h into at = absurd h
   all_named i (m ∷ ms) [] h into at = absurd h
@@ -154,7 +164,8 @@ module _ (f new : Contents) (n : ℕ) (x : IsExtracted f n new) where
       )
 
   all_steady : (ms : List ℕ) (rs : List Record) → AllZip (λ m r. named f (pos m) ≡ Some r) ms rs → ((m : ℕ) → In ms m → Contains x.kept m)
-      → AllByRecursion (λ r. entry_fault new r ≡ None) (map (new_record f x.kept) rs) × (map (new_record new (odds_from 0 (length x.kept))) (map (new_record f x.kept) rs) ≡ map (new_record f x.kept) rs)
+      → AllByRecursion (λ r. entry_fault new r ≡ None) (map (new_record f x.kept) rs)
+      × (map (new_record new (odds_from 0 (length x.kept))) (map (new_record f x.kept) rs) ≡ map (new_record f x.kept) rs)
   all_steady [] [] h into = (tt, refl)
   all_steady [] (r ∷ rs) h into = absurd h
   all_steady (m ∷ ms) [] h into = absurd h
@@ -163,14 +174,15 @@ module _ (f new : Contents) (n : ℕ) (x : IsExtracted f n new) where
       let s : IsSteady f new x.kept r = subst (IsSteady f new x.kept) (same_Some k.record_at r (sym k.at ∙ h.0)) k.stays in
       let on = all_steady ms rs h.1 (λ j i. into j (inr i)) in (
         (s.faultless, on.0),
-        ap (λ (q : Record). q ∷ map (new_record new (odds_from 0 (length x.kept))) (map (new_record f x.kept) rs)) s.again ∙ ap (λ (qs : List Record). new_record f x.kept r ∷ qs) on.1,
+        ap (λ (q : Record). q ∷ map (new_record new (odds_from 0 (length x.kept))) (map (new_record f x.kept) rs)) s.again
+            ∙ ap (λ (qs : List Record). new_record f x.kept r ∷ qs) on.1,
       )
 
   solid_again : IsTrue (is_solid new (next n))
   solid_again =
       let c : Contains x.kept n = (x.reached n).1 here in
-      ap (λ (o : Option Record). elim o as (λ _. Bool) [ Some r ↦ int_eq r.0.kind (pos 186) | None ↦ false ]) (new_at n c)
-      ∙ (sym (ap (λ (o : Option Record). elim o as (λ _. Bool) [ Some r ↦ int_eq r.0.kind (pos 186) | None ↦ false ]) (known n c).at) ∙ x.solid)
+      ap is_solid_entry (new_at n c)
+      ∙ (sym (ap is_solid_entry (known n c).at) ∙ x.solid)
 
   again : IsExtracted new (next n) new
   again =
@@ -181,7 +193,8 @@ module _ (f new : Contents) (n : ℕ) (x : IsExtracted f n new) where
         rising = odds_rising (length x.kept);
         reached = reached_again;
         records = map (new_record f x.kept) x.records;
-        each_named = all_named 0 x.kept x.records x.each_named (λ m i. contains_at x.kept m i) (λ k m e. number_at k m e ∙ (let s : 2 * k + 1 ≡ 2 * (0 + k) + 1 = omega arith in s));
+        each_named = all_named 0 x.kept x.records x.each_named (λ m i. contains_at x.kept m i)
+            (λ k m e. number_at k m e ∙ (let s : 2 * k + 1 ≡ 2 * (0 + k) + 1 = omega arith in s));
         faultless = All-from_recursion (λ r. entry_fault new r ≡ None) (map (new_record f x.kept) x.records) all.0;
         start = refl;
         global = refl;

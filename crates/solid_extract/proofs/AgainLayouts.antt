@@ -1,5 +1,6 @@
 -- The own values that a layout tells stay so in the extracted record.
-use Rattle.std.specs.Prelude.{◌≡◌, ℕ, zero, suc, ◌+◌, ◌*◌, ◌<◌, ◌≤◌, ◌==◌, Bool, true, false, ◌&&◌, ◌||◌, nat_le, ℤ, pos, List, [], ◌∷◌, ◌++◌, Option, Some, None, if◌then◌else◌, option_map, unwrap_or, find}
+use Rattle.std.specs.Prelude.{◌≡◌, ℕ, zero, suc, ◌+◌, ◌*◌, ◌<◌, ◌≤◌, ◌==◌, Bool, true, false, ◌&&◌, ◌||◌, nat_le, ℤ, pos, List, [], ◌∷◌, ◌++◌, Option, Some}
+use Rattle.std.specs.Prelude.{None, if◌then◌else◌, option_map, unwrap_or, find}
 use Rattle.std.specs.List.{AllByRecursion, list_all, range_with_len}
 use Rattle.std.specs.Ordering.{int_eq}
 use Rattle.std.proofs.Common.{refl, sym, ap, subst, ◌∙◌, arith}
@@ -46,7 +47,8 @@ range_in a (suc n) m low high = ((low, omega (arith, high)), range_in (a + 1) n 
 
 range_not : (a n k : ℕ) → k < a → is_among (range_with_len a n) k ≡ false
 range_not a zero k lt = refl
-range_not a (suc n) k lt = ap (λ (b : Bool). b || is_among (range_with_len (a + 1) n) k) (ne_eqb a k (λ e. omega (arith, lt, e))) ∙ range_not (a + 1) n k (omega (arith, lt))
+range_not a (suc n) k lt = ap (λ (b : Bool). b || is_among (range_with_len (a + 1) n) k) (ne_eqb a k (λ e. omega (arith, lt, e)))
+    ∙ range_not (a + 1) n k (omega (arith, lt))
 
 composite_sound : IsSound (record { counts = 1 ∷ []; choices = []; own = λ c. 1 + nth c 0; pointers = λ c. range_with_len 2 (nth c 0); cut = [] })
 composite_sound = record {
@@ -86,7 +88,12 @@ copious_sound = record {
     big n false false = omega arith
 
 spline_sound : IsSound (counted (4 ∷ []) (λ c. 4 + (nth c 0 + 1) + 12 * nth c 0 + 12))
-spline_sound = record { counts = λ c. ((omega arith, most (nth c 0), refl, refl), tt); pointers = λ c. tt; enough = λ vs. (enough (unwrap_or (count_of (value_at vs 4)) 0), tt) }
+spline_sound = record {
+  counts = λ c. ((omega arith, most (nth c 0), refl, refl), tt);
+  pointers = λ c. tt;
+  enough =
+      λ vs. (enough (unwrap_or (count_of (value_at vs 4)) 0), tt);
+}
   where
     most : (n : ℕ) → 4 ≤ 4 + (n + 1) + 12 * n + 12
     most n = omega arith
@@ -99,9 +106,15 @@ point_sound = record { counts = λ c. tt; pointers = λ c. are_places 4 (4 ∷ [
 
 curve_sound : IsSound (counted (1 ∷ 2 ∷ []) (λ c. 6 + (nth c 0 + nth c 1 + 2) + 4 * (nth c 0 + 1) + 5))
 curve_sound = record {
-  counts = λ c. ((omega arith, most 1 (nth c 0) (nth c 1) (omega arith), refl, refl), ((omega arith, most 2 (nth c 0) (nth c 1) (omega arith), refl, refl), tt));
+  counts = λ c. (
+    (omega arith, most 1 (nth c 0) (nth c 1) (omega arith), refl, refl),
+    ((omega arith, most 2 (nth c 0) (nth c 1) (omega arith), refl, refl), tt),
+  );
   pointers = λ c. tt;
-  enough = λ vs. (first (unwrap_or (count_of (value_at vs 1)) 0) (unwrap_or (count_of (value_at vs 2)) 0), (second (unwrap_or (count_of (value_at vs 1)) 0) (unwrap_or (count_of (value_at vs 2)) 0), tt));
+  enough = λ vs. (
+    first (unwrap_or (count_of (value_at vs 1)) 0) (unwrap_or (count_of (value_at vs 2)) 0),
+    (second (unwrap_or (count_of (value_at vs 1)) 0) (unwrap_or (count_of (value_at vs 2)) 0), tt),
+  );
 }
   where
     most : (k a b : ℕ) → k ≤ 6 → k ≤ 6 + (a + b + 2) + 4 * (a + 1) + 5
@@ -117,8 +130,10 @@ surface_sound : IsSound (counted (1 ∷ 2 ∷ 3 ∷ 4 ∷ []) (λ c. 9 + (nth c 
 surface_sound = record {
   counts = λ c.
       let m : (k : ℕ) → k ≤ 9 → k ≤ 9 + (nth c 0 + nth c 2 + 2) + (nth c 1 + nth c 3 + 2) + 4 * (nth c 0 + 1) * (nth c 1 + 1) + 4 =
-      λ k le. most k (nth c 0) (nth c 1) (nth c 2) (nth c 3) (4 * (nth c 0 + 1) * (nth c 1 + 1)) le in
-      ((omega arith, m 1 (omega arith), refl, refl), ((omega arith, m 2 (omega arith), refl, refl), ((omega arith, m 3 (omega arith), refl, refl), ((omega arith, m 4 (omega arith), refl, refl), tt))));
+      λ k le. most k (nth c 0) (nth c 1) (nth c 2) (nth c 3) (4 * (nth c 0 + 1) * (nth c 1 + 1)) le in (
+        (omega arith, m 1 (omega arith), refl, refl),
+        ((omega arith, m 2 (omega arith), refl, refl), ((omega arith, m 3 (omega arith), refl, refl), ((omega arith, m 4 (omega arith), refl, refl), tt))),
+      );
   pointers = λ c. tt;
   enough = λ vs.
       let n : ℕ → ℕ = λ k. unwrap_or (count_of (value_at vs k)) 0 in
@@ -128,7 +143,8 @@ surface_sound = record {
     most : (k a b c d x : ℕ) → k ≤ 9 → k ≤ 9 + (a + c + 2) + (b + d + 2) + x + 4
     most k a b c d x le = omega (arith, le)
 
-    each : (a b c d x : ℕ) → (a ≤ 9 + (a + c + 2) + (b + d + 2) + x + 4) × (b ≤ 9 + (a + c + 2) + (b + d + 2) + x + 4) × (c ≤ 9 + (a + c + 2) + (b + d + 2) + x + 4) × (d ≤ 9 + (a + c + 2) + (b + d + 2) + x + 4)
+    each : (a b c d x : ℕ) → (a ≤ 9 + (a + c + 2) + (b + d + 2) + x + 4) × (b ≤ 9 + (a + c + 2) + (b + d + 2) + x + 4)
+        × (c ≤ 9 + (a + c + 2) + (b + d + 2) + x + 4) × (d ≤ 9 + (a + c + 2) + (b + d + 2) + x + 4)
     each a b c d x = (omega arith, omega arith, omega arith, omega arith)
 
 abbrev AreSound : List (ℕ × Layout) → Type 0
@@ -168,15 +184,20 @@ rows_sound form = (
                               (
                                 fixed_sound 5 (5 ∷ []) refl,
                                 (
-                                  choice_sound (int_eq form (pos 1)) (fixed 3 (1 ∷ 2 ∷ 3 ∷ [])) (fixed 2 (1 ∷ 2 ∷ [])) (fixed_sound 3 (1 ∷ 2 ∷ 3 ∷ []) refl) (fixed_sound 2 (1 ∷ 2 ∷ []) refl),
+                                  choice_sound (int_eq form (pos 1)) (fixed 3 (1 ∷ 2 ∷ 3 ∷ [])) (fixed 2 (1 ∷ 2 ∷ [])) (fixed_sound 3 (1 ∷ 2 ∷ 3 ∷ []) refl)
+                                      (fixed_sound 2 (1 ∷ 2 ∷ []) refl),
                                   (
-                                    choice_sound (int_eq form (pos 1)) (fixed 4 (1 ∷ 2 ∷ 4 ∷ [])) (fixed 3 (1 ∷ 2 ∷ [])) (fixed_sound 4 (1 ∷ 2 ∷ 4 ∷ []) refl) (fixed_sound 3 (1 ∷ 2 ∷ []) refl),
+                                    choice_sound (int_eq form (pos 1)) (fixed 4 (1 ∷ 2 ∷ 4 ∷ [])) (fixed 3 (1 ∷ 2 ∷ [])) (fixed_sound 4 (1 ∷ 2 ∷ 4 ∷ []) refl)
+                                        (fixed_sound 3 (1 ∷ 2 ∷ []) refl),
                                     (
-                                      choice_sound (int_eq form (pos 1)) (fixed 5 (1 ∷ 2 ∷ 5 ∷ [])) (fixed 4 (1 ∷ 2 ∷ [])) (fixed_sound 5 (1 ∷ 2 ∷ 5 ∷ []) refl) (fixed_sound 4 (1 ∷ 2 ∷ []) refl),
+                                      choice_sound (int_eq form (pos 1)) (fixed 5 (1 ∷ 2 ∷ 5 ∷ [])) (fixed 4 (1 ∷ 2 ∷ []))
+                                          (fixed_sound 5 (1 ∷ 2 ∷ 5 ∷ []) refl) (fixed_sound 4 (1 ∷ 2 ∷ []) refl),
                                       (
-                                        choice_sound (int_eq form (pos 1)) (fixed 4 (1 ∷ 3 ∷ 4 ∷ [])) (fixed 2 (1 ∷ [])) (fixed_sound 4 (1 ∷ 3 ∷ 4 ∷ []) refl) (fixed_sound 2 (1 ∷ []) refl),
+                                        choice_sound (int_eq form (pos 1)) (fixed 4 (1 ∷ 3 ∷ 4 ∷ [])) (fixed 2 (1 ∷ [])) (fixed_sound 4 (1 ∷ 3 ∷ 4 ∷ []) refl)
+                                            (fixed_sound 2 (1 ∷ []) refl),
                                         (
-                                          choice_sound (int_eq form (pos 1)) (fixed 5 (1 ∷ 2 ∷ 5 ∷ [])) (fixed 4 (1 ∷ 2 ∷ [])) (fixed_sound 5 (1 ∷ 2 ∷ 5 ∷ []) refl) (fixed_sound 4 (1 ∷ 2 ∷ []) refl),
+                                          choice_sound (int_eq form (pos 1)) (fixed 5 (1 ∷ 2 ∷ 5 ∷ [])) (fixed 4 (1 ∷ 2 ∷ []))
+                                              (fixed_sound 5 (1 ∷ 2 ∷ 5 ∷ []) refl) (fixed_sound 4 (1 ∷ 2 ∷ []) refl),
                                           (fixed_sound 4 [] refl, (fixed_sound 2 [] refl, tt)),
                                         ),
                                       ),
@@ -200,11 +221,13 @@ rows_sound form = (
   ),
 )
 
-found_sound : (kind : ℤ) (rows : List (ℕ × Layout)) (l : Layout) → AreSound rows → option_map (λ (row : ℕ × Layout). row.1) (find (λ (row : ℕ × Layout). int_eq kind (pos row.0)) rows) ≡ Some l → IsSound l
+found_sound : (kind : ℤ) (rows : List (ℕ × Layout)) (l : Layout) → AreSound rows
+    → option_map (λ (row : ℕ × Layout). row.1) (find (λ (row : ℕ × Layout). int_eq kind (pos row.0)) rows) ≡ Some l → IsSound l
 found_sound kind [] l h e = absurd (none-some l e)
 found_sound kind (x ∷ xs) l h e = by_test (int_eq kind (pos x.0)) refl e (found_sound kind xs l h.1)
   where
-    by_test : (b : Bool) → int_eq kind (pos x.0) ≡ b → option_map (λ (row : ℕ × Layout). row.1) (find (λ (row : ℕ × Layout). int_eq kind (pos row.0)) (x ∷ xs)) ≡ Some l
+    by_test : (b : Bool) → int_eq kind (pos x.0) ≡ b → option_map (λ (row : ℕ × Layout). row.1) (find (λ (row : ℕ × Layout). int_eq kind (pos row.0)) (x ∷ xs))
+        ≡ Some l
         → (option_map (λ (row : ℕ × Layout). row.1) (find (λ (row : ℕ × Layout). int_eq kind (pos row.0)) xs) ≡ Some l → IsSound l) → IsSound l
     by_test true t k on =
         let at = cond-true (int_eq kind (pos x.0)) (Some x) (find (λ (row : ℕ × Layout). int_eq kind (pos row.0)) xs) t in
@@ -216,6 +239,7 @@ found_sound kind (x ∷ xs) l h e = by_test (int_eq kind (pos x.0)) refl e (foun
 pub layout_sound : (e : Entry) (l : Layout) → layout_of e ≡ Some l → IsSound l
 layout_sound e l is = by_test (is_other_property e) is
   where
-    by_test : (b : Bool) → (if b then None else option_map (λ (row : ℕ × Layout). row.1) (find (λ (row : ℕ × Layout). int_eq e.kind (pos row.0)) (listed e.form))) ≡ Some l → IsSound l
+    by_test : (b : Bool) → (if b then None else option_map (λ (row : ℕ × Layout). row.1)
+        (find (λ (row : ℕ × Layout). int_eq e.kind (pos row.0)) (listed e.form))) ≡ Some l → IsSound l
     by_test true k = absurd (none-some l k)
     by_test false k = found_sound e.kind (listed e.form) l (rows_sound e.form) k

@@ -1,5 +1,6 @@
 -- A record that was extracted has the own values that it had.
-use Rattle.std.specs.Prelude.{◌≡◌, ◌⊎◌, ℕ, ◌≤◌, Bool, true, false, ◌&&◌, nat_le, List, [], ◌∷◌, ◌++◌, length, take, Option, Some, None, if◌then◌else◌, unwrap_or}
+use Rattle.std.specs.Prelude.{◌≡◌, ◌⊎◌, ℕ, ◌≤◌, Bool, true, false, ◌&&◌, nat_le, List, [], ◌∷◌, ◌++◌, length, take, Option, Some, None, if◌then◌else◌}
+use Rattle.std.specs.Prelude.{unwrap_or}
 use Rattle.std.specs.List.{AllByRecursion, enumerate_from, list_all}
 use Rattle.std.proofs.Common.{refl, ap, subst, ◌∙◌, arith, length-append, length-take}
 use Rattle.std.proofs.lemmas.Bool.{and_from, and_parts, cond-true, le-leb, leb-true}
@@ -45,11 +46,14 @@ module _ (l : Layout) (vs : List Value) where
 
 counts_same : (vs ws : List Value) (ks : List ℕ) → AllByRecursion (λ k. value_at ws k ≡ value_at vs k) ks → counts_at ws ks ≡ counts_at vs ks
 counts_same vs ws [] h = refl
-counts_same vs ws (k ∷ ks) h = ap (λ (v : Value). unwrap_or (count_of v) 0 ∷ counts_at ws ks) h.0 ∙ ap (λ (ns : List ℕ). unwrap_or (count_of (value_at vs k)) 0 ∷ ns) (counts_same vs ws ks h.1)
+counts_same vs ws (k ∷ ks) h = ap (λ (v : Value). unwrap_or (count_of v) 0 ∷ counts_at ws ks) h.0
+    ∙ ap (λ (ns : List ℕ). unwrap_or (count_of (value_at vs k)) 0 ∷ ns) (counts_same vs ws ks h.1)
 
-choices_same : (vs ws : List Value) (ks : List ℕ) → AllByRecursion (λ k. value_at ws k ≡ value_at vs k) ks → list_all (λ k. is_choice (value_at ws k)) ks ≡ list_all (λ k. is_choice (value_at vs k)) ks
+choices_same : (vs ws : List Value) (ks : List ℕ) → AllByRecursion (λ k. value_at ws k ≡ value_at vs k) ks → list_all (λ k. is_choice (value_at ws k)) ks
+    ≡ list_all (λ k. is_choice (value_at vs k)) ks
 choices_same vs ws [] h = refl
-choices_same vs ws (k ∷ ks) h = ap (λ (v : Value). is_choice v && list_all (λ j. is_choice (value_at ws j)) ks) h.0 ∙ ap (λ (b : Bool). is_choice (value_at vs k) && b) (choices_same vs ws ks h.1)
+choices_same vs ws (k ∷ ks) h = ap (λ (v : Value). is_choice v && list_all (λ j. is_choice (value_at ws j)) ks) h.0
+    ∙ ap (λ (b : Bool). is_choice (value_at vs k) && b) (choices_same vs ws ks h.1)
 
 -- a count that is no more than both the own values and the values stays a count
 abbrev counted_in : ℕ → Option ℕ → Bool
@@ -59,8 +63,10 @@ count_stays : (a b c : ℕ) (o : Option ℕ) → ((n : ℕ) → n ≤ a → n �
 count_stays a b c None least few h = h
 count_stays a b c (Some n) least few h = le-leb n b (least n (leb-true n a h) few)
 
-counts_stay : (vs ws : List Value) (c : ℕ) (ks : List ℕ) → ((n : ℕ) → n ≤ length vs → n ≤ c → n ≤ length ws) → AllByRecursion (λ k. value_at ws k ≡ value_at vs k) ks
-    → AllByRecursion (λ k. unwrap_or (count_of (value_at vs k)) 0 ≤ c) ks → list_all (λ k. is_count vs (value_at vs k)) ks ≡ true → list_all (λ k. is_count ws (value_at ws k)) ks ≡ true
+counts_stay : (vs ws : List Value) (c : ℕ) (ks : List ℕ) → ((n : ℕ) → n ≤ length vs → n ≤ c → n ≤ length ws)
+    → AllByRecursion (λ k. value_at ws k ≡ value_at vs k) ks
+    → AllByRecursion (λ k. unwrap_or (count_of (value_at vs k)) 0 ≤ c) ks → list_all (λ k. is_count vs (value_at vs k)) ks ≡ true
+    → list_all (λ k. is_count ws (value_at ws k)) ks ≡ true
 counts_stay vs ws c [] least same few h = refl
 counts_stay vs ws c (k ∷ ks) least same few h =
     let p = and_parts (is_count vs (value_at vs k)) (list_all (λ j. is_count vs (value_at vs j)) ks) h in
@@ -73,46 +79,57 @@ module _ (kept : List ℕ) (own : Own) (vs tail : List Value) (full : (own.count
 
   pub again_long : (n : ℕ) → n ≤ length vs → n ≤ own.count → n ≤ length (olds kept own 1 (take own.count vs) ++ tail)
   again_long n a b =
-      let long : length (olds kept own 1 (take own.count vs)) ≡ length (take own.count vs) = length-map (enumerate_from 1 (take own.count vs)) (λ (v : ℕ × Value). new_value kept own v.0 v.1) ∙ length-enumerate_from 1 (take own.count vs) in
+      let long : length (olds kept own 1 (take own.count vs)) ≡ length (take own.count vs) =
+      length-map (enumerate_from 1 (take own.count vs)) (λ (v : ℕ × Value). new_value kept own v.0 v.1) ∙ length-enumerate_from 1 (take own.count vs) in
       omega (arith, a, b, long, length-take own.count vs, length-append (olds kept own 1 (take own.count vs)) tail)
 
-  pointers_stay : (ks : List ℕ) → ArePlaces own.count ks → list_all (λ k. is_pointer (value_at vs k)) ks ≡ true → list_all (λ k. is_pointer (value_at again k)) ks ≡ true
+  pointers_stay : (ks : List ℕ) → ArePlaces own.count ks → list_all (λ k. is_pointer (value_at vs k)) ks ≡ true
+      → list_all (λ k. is_pointer (value_at again k)) ks ≡ true
   pointers_stay [] places h = refl
   pointers_stay (k ∷ ks) places h =
       let p = and_parts (is_pointer (value_at vs k)) (list_all (λ j. is_pointer (value_at vs j)) ks) h in
       and_from (is_pointer (value_at again k)) (list_all (λ j. is_pointer (value_at again j)) ks)
-      (ap is_pointer (value_again kept own vs tail own.count k places.0.0 places.0.1 full) ∙ pointer_kept kept own k (value_at vs k) p.0) (pointers_stay ks places.1 p.1)
+      (ap is_pointer (value_again kept own vs tail own.count k places.0.0 places.0.1 full) ∙ pointer_kept kept own k (value_at vs k) p.0)
+      (pointers_stay ks places.1 p.1)
 
   module _ (l : Layout) (ns : List ℕ) (is : record { count = l.own ns; pointers = l.pointers ns; cut = l.cut } ≡ own) where
     places_same : (ks : List ℕ) → AllByRecursion (IsCountPlace l ns) ks → AllByRecursion (λ k. value_at again k ≡ value_at vs k) ks
     places_same [] h = tt
     places_same (k ∷ ks) h = (
       value_again kept own vs tail own.count k h.0.0 (subst (λ (o : Own). k ≤ o.count) is h.0.1) full
-          ∙ value_kept kept own k (value_at vs k) (subst (λ (o : Own). is_among o.pointers k ≡ false) is h.0.2) (subst (λ (o : Own). is_among o.cut k ≡ false) is h.0.3),
+          ∙ value_kept kept own k (value_at vs k) (subst (λ (o : Own). is_among o.pointers k ≡ false) is h.0.2)
+          (subst (λ (o : Own). is_among o.cut k ≡ false) is h.0.3),
       places_same ks h.1,
     )
 
-pub layout_again : (kept : List ℕ) (own : Own) (vs tail : List Value) → (own.count ≤ length vs) ⊎ (tail ≡ []) → (l : Layout) → IsSound l → own_in l vs ≡ Some own → own_in l (olds kept own 1 (take own.count vs) ++ tail) ≡ Some own
+pub layout_again : (kept : List ℕ) (own : Own) (vs tail : List Value) → (own.count ≤ length vs) ⊎ (tail ≡ []) → (l : Layout) → IsSound l
+    → own_in l vs ≡ Some own → own_in l (olds kept own 1 (take own.count vs) ++ tail) ≡ Some own
 layout_again kept own vs tail full l sound e =
     let parts = own_parts l vs own (counts_at vs (l.counts ++ l.choices)) e in
-    let same = places_same kept own vs tail full l (counts_at vs (l.counts ++ l.choices)) parts.2 (l.counts ++ l.choices) (sound.counts (counts_at vs (l.counts ++ l.choices))) in
+    let same = places_same kept own vs tail full l (counts_at vs (l.counts ++ l.choices)) parts.2 (l.counts ++ l.choices)
+    (sound.counts (counts_at vs (l.counts ++ l.choices))) in
     let both = all_parts (λ k. value_at (olds kept own 1 (take own.count vs) ++ tail) k ≡ value_at vs k) l.counts l.choices same in
     let tests = and_parts (list_all (λ k. is_count vs (value_at vs k)) l.counts) (list_all (λ k. is_choice (value_at vs k)) l.choices) parts.0 in
     let few = subst (λ (o : Own). AllByRecursion (λ k. unwrap_or (count_of (value_at vs k)) 0 ≤ o.count) l.counts) parts.2 (sound.enough vs) in
     let counts = counts_stay vs (olds kept own 1 (take own.count vs) ++ tail) own.count l.counts (again_long kept own vs tail full) both.0 few tests.0 in
     let choices = choices_same vs (olds kept own 1 (take own.count vs) ++ tail) l.choices both.1 ∙ tests.1 in
     let numbers = counts_same vs (olds kept own 1 (take own.count vs) ++ tail) (l.counts ++ l.choices) same in
-    let places = subst (λ (o : Own). ArePlaces o.count (l.pointers (counts_at vs (l.counts ++ l.choices)) ++ l.cut)) parts.2 (sound.pointers (counts_at vs (l.counts ++ l.choices))) in
+    let places = subst (λ (o : Own). ArePlaces o.count (l.pointers (counts_at vs (l.counts ++ l.choices)) ++ l.cut)) parts.2
+    (sound.pointers (counts_at vs (l.counts ++ l.choices))) in
     let pointers = pointers_stay kept own vs tail full (l.pointers (counts_at vs (l.counts ++ l.choices)) ++ l.cut) places parts.1 in
-    ap (λ (b : Bool). own_from l (olds kept own 1 (take own.count vs) ++ tail) b (counts_at (olds kept own 1 (take own.count vs) ++ tail) (l.counts ++ l.choices)))
-    (and_from (list_all (λ k. is_count (olds kept own 1 (take own.count vs) ++ tail) (value_at (olds kept own 1 (take own.count vs) ++ tail) k)) l.counts) (list_all (λ k. is_choice (value_at (olds kept own 1 (take own.count vs) ++ tail) k)) l.choices) counts choices)
+    ap (λ (b : Bool). own_from l (olds kept own 1 (take own.count vs) ++ tail) b
+    (counts_at (olds kept own 1 (take own.count vs) ++ tail) (l.counts ++ l.choices)))
+    (and_from (list_all (λ k. is_count (olds kept own 1 (take own.count vs) ++ tail) (value_at (olds kept own 1 (take own.count vs) ++ tail) k)) l.counts)
+    (list_all (λ k. is_choice (value_at (olds kept own 1 (take own.count vs) ++ tail) k)) l.choices) counts choices)
     ∙ (ap (own_from l (olds kept own 1 (take own.count vs) ++ tail) true) numbers
-    ∙ (cond-true (pointers_tested l (olds kept own 1 (take own.count vs) ++ tail) (counts_at vs (l.counts ++ l.choices))) (Some (own_by l vs (counts_at vs (l.counts ++ l.choices)))) None pointers
+    ∙ (cond-true (pointers_tested l (olds kept own 1 (take own.count vs) ++ tail) (counts_at vs (l.counts ++ l.choices)))
+    (Some (own_by l vs (counts_at vs (l.counts ++ l.choices)))) None pointers
     ∙ ap (λ (o : Own). Some o) parts.2))
 
 -- the pointers of a layout stand among the own values
 pub layout_places : (own : Own) (vs : List Value) (l : Layout) → IsSound l → own_in l vs ≡ Some own → ArePlaces own.count own.pointers
 layout_places own vs l sound e =
     let parts = own_parts l vs own (counts_at vs (l.counts ++ l.choices)) e in
-    let both = all_parts (IsPlace (l.own (counts_at vs (l.counts ++ l.choices)))) (l.pointers (counts_at vs (l.counts ++ l.choices))) l.cut (sound.pointers (counts_at vs (l.counts ++ l.choices))) in
+    let both = all_parts (IsPlace (l.own (counts_at vs (l.counts ++ l.choices)))) (l.pointers (counts_at vs (l.counts ++ l.choices))) l.cut
+    (sound.pointers (counts_at vs (l.counts ++ l.choices))) in
     subst (λ (o : Own). ArePlaces o.count o.pointers) parts.2 both.0

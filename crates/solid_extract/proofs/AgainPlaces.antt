@@ -44,7 +44,8 @@ from_odds i (suc n) m (inr h) =
 odds_rise : (i n : ℕ) → rises (odds_from i n) ≡ true
 odds_rise i zero = refl
 odds_rise i (suc zero) = refl
-odds_rise i (suc (suc n)) = and_from (nat_lt (2 * i + 1) (2 * (i + 1) + 1)) (rises (odds_from (i + 1) (suc n))) (lt-ltb (2 * i + 1) (2 * (i + 1) + 1) (omega arith)) (odds_rise (i + 1) (suc n))
+odds_rise i (suc (suc n)) = and_from (nat_lt (2 * i + 1) (2 * (i + 1) + 1)) (rises (odds_from (i + 1) (suc n)))
+    (lt-ltb (2 * i + 1) (2 * (i + 1) + 1) (omega arith)) (odds_rise (i + 1) (suc n))
 
 pub odds_rising : (n : ℕ) → IsStrictlyIncreasing (odds_from 0 n)
 odds_rising n = rises_by_test (odds_from 0 n) (odds_rise 0 n)

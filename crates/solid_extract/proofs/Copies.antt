@@ -10,7 +10,8 @@ pub all_at : {A : Type 0} (P : A → Type 0) (xs : List A) (k : ℕ) (x : A) →
 all_at P xs k x h at = subst P (get_or_from_slice_get xs k x x at) (All-from_recursion P xs h k x (slice_get_within xs k x at))
 
 -- what stands at a place of the one list is related to what stands there in the other
-pub zip_at : {A B : Type 0} (Q : A → B → Type 0) (xs : List A) (ys : List B) (k : ℕ) (x : A) → AllZip Q xs ys → slice_get xs k ≡ Some x → (y : B) × (slice_get ys k ≡ Some y) × Q x y
+pub zip_at : {A B : Type 0} (Q : A → B → Type 0) (xs : List A) (ys : List B) (k : ℕ) (x : A) → AllZip Q xs ys → slice_get xs k ≡ Some x
+    → (y : B) × (slice_get ys k ≡ Some y) × Q x y
 zip_at Q [] ys k x z at = absurd (none-some x at)
 zip_at Q (a ∷ xs) [] k x z at = absurd z
 zip_at {B = B} Q (a ∷ xs) (b ∷ ys) zero x z at = (b, refl, subst (λ w. Q w b) (same_Some a x at) z.0)
@@ -33,5 +34,6 @@ filter_map_few {B = B} h (x ∷ xs) = by_option (h x) (filter_map_few h xs)
 pub one_more : {A : Type 0} (xs : List A) (i : ℕ) (x : A) → slice_get xs i ≡ Some x → take (i + 1) xs ≡ take i xs ++ x ∷ []
 one_more {A} xs i x at = take_more xs i x (slice_get_within xs i x at) ∙ ap (λ (y : A). take i xs ++ y ∷ []) (get_or_from_slice_get xs i x x at)
 
-pub copied : {A : Type 0} (xs : List A) (i : ℕ) (x : A) (list new : List A) → slice_get xs i ≡ Some x → list ≡ take i xs → new ≡ list ++ x ∷ [] → new ≡ take (i + 1) xs
+pub copied : {A : Type 0} (xs : List A) (i : ℕ) (x : A) (list new : List A) → slice_get xs i ≡ Some x → list ≡ take i xs → new ≡ list ++ x ∷ []
+    → new ≡ take (i + 1) xs
 copied {A} xs i x list new at inv en = en ∙ (ap (λ (zs : List A). zs ++ x ∷ []) inv ∙ sym (one_more xs i x at))

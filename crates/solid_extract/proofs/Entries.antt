@@ -1,6 +1,7 @@
 -- The entries that are kept.
 use Rattle.std.specs.Ordering.{int_eq}
-use Rattle.std.specs.Prelude.{zero, suc, unsigned_abs, length, ◌≡◌, ℕ, ◌≤◌, Bool, true, false, ℤ, pos, negsuc, neg_ℤ, int_lt, int_le, List, IsTrue, if◌then◌else◌}
+use Rattle.std.specs.Prelude.{zero, suc, unsigned_abs, length, ◌≡◌, ℕ, ◌≤◌, Bool, true, false, ℤ, pos, negsuc, neg_ℤ, int_lt, int_le, List, IsTrue}
+use Rattle.std.specs.Prelude.{if◌then◌else◌}
 use Rattle.std.proofs.Common.{refl, sym, subst, arith}
 use Rattle.std.proofs.lemmas.Bool.{and_from, le-leb}
 use Rattle.std.proofs.lemmas.Bool.Decides.{Decides-int_eq}
@@ -22,7 +23,8 @@ fits_number z h = by_test (int_lt z (pos 0))
     by_test true = refl
     by_test false = h
 
-module _ (e : Entry) (kept : List ℕ) (kind font level matrix weight colour form subscript : ℤ) (k : kind ≡ e.kind) (f : font ≡ if_number e.font) (l : level ≡ if_number e.level) (m : matrix ≡ renamed kept e.matrix)
+module _ (e : Entry) (kept : List ℕ) (kind font level matrix weight colour form subscript : ℤ) (k : kind ≡ e.kind) (f : font ≡ if_number e.font)
+    (l : level ≡ if_number e.level) (m : matrix ≡ renamed kept e.matrix)
     (w : weight ≡ e.weight) (c : colour ≡ new_colour kept e.colour) (o : form ≡ e.form) (s : subscript ≡ e.subscript) where
   pub entry_is : (let x : Entry = record {
     kind = kind;
@@ -111,5 +113,6 @@ colour_fits kept z few h = by_test (int_lt z (pos 0))
 
 pub kept_bounded : (e : Entry) (kept : List ℕ) → length kept ≤ 4999999 → IsBounded e → IsBounded (new_entry kept e)
 kept_bounded e kept few h =
-    entry_bounded e kept e.kind (if_number e.font) (if_number e.level) (renamed kept e.matrix) e.weight (new_colour kept e.colour) e.form e.subscript refl refl refl refl refl refl refl refl h (renamed_few kept e.matrix few)
+    entry_bounded e kept e.kind (if_number e.font) (if_number e.level) (renamed kept e.matrix) e.weight (new_colour kept e.colour) e.form e.subscript refl refl
+    refl refl refl refl refl refl h (renamed_few kept e.matrix few)
     (colour_fits kept e.colour few h.colour)

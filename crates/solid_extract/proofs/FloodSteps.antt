@@ -1,5 +1,6 @@
 -- The steps of a flood.
-use Rattle.std.specs.Prelude.{◌≡◌, ◌⊎◌, ℕ, zero, suc, ◌+◌, ◌<◌, ◌≤◌, nat_le, Bool, true, false, ℤ, pos, unsigned_abs, List, [], ◌∷◌, ◌++◌, length, Option, Some, None, Result, Ok, Err, if◌then◌else◌, slice_get, IfOk}
+use Rattle.std.specs.Prelude.{◌≡◌, ◌⊎◌, ℕ, zero, suc, ◌+◌, ◌<◌, ◌≤◌, nat_le, Bool, true, false, ℤ, pos, unsigned_abs, List, [], ◌∷◌, ◌++◌, length, Option, Some}
+use Rattle.std.specs.Prelude.{None, Result, Ok, Err, if◌then◌else◌, slice_get, IfOk}
 use Rattle.std.proofs.Common.{refl, sym, ap, subst, ◌∙◌, arith, inl, inr, append_assoc}
 use Rattle.std.proofs.lemmas.Bool.{cases_lt, leb-true, leb-false}
 use Rattle.std.proofs.lemmas.List.{append-nil}
@@ -64,7 +65,8 @@ refs_grow f ns m = by_named (named f (pos m))
     by_refs (Ok ks) = all_grow ks ns
     by_refs (Err reason) = ([], sym (append-nil ns))
 
-    by_named : (o : Option Record) → Grows ns (elim o as (λ _. List ℕ) [ Some r ↦ elim (refs f r) as (λ _. List ℕ) [ Ok ks ↦ with_numbers ns ks | Err reason ↦ ns ] | None ↦ ns ])
+    by_named : (o : Option Record)
+        → Grows ns (elim o as (λ _. List ℕ) [ Some r ↦ elim (refs f r) as (λ _. List ℕ) [ Ok ks ↦ with_numbers ns ks | Err reason ↦ ns ] | None ↦ ns ])
     by_named (Some r) = by_refs (refs f r)
     by_named None = ([], sym (append-nil ns))
 
@@ -85,22 +87,27 @@ module _ (f : Contents) (ns : List ℕ) (m : ℕ) where
   refs_in : (k : ℕ) → RefersTo f m k → In (with_refs f ns m) k
   refs_in k t =
       let is : with_refs f ns m ≡ with_numbers ns t.1 =
-      ap (λ (o : Option Record). elim o as (λ _. List ℕ) [ Some r ↦ elim (refs f r) as (λ _. List ℕ) [ Ok ks ↦ with_numbers ns ks | Err reason ↦ ns ] | None ↦ ns ]) t.2
+      ap (λ (o : Option Record). elim o as (λ _. List ℕ)
+      [ Some r ↦ elim (refs f r) as (λ _. List ℕ) [ Ok ks ↦ with_numbers ns ks | Err reason ↦ ns ] | None ↦ ns ]) t.2
       ∙ ap (λ (o : Result (List ℤ) ExtractReason). elim o as (λ _. List ℕ) [ Ok ks ↦ with_numbers ns ks | Err reason ↦ ns ]) t.3 in
       subst (λ (xs : List ℕ). In xs k) (sym is) (from_all f t.1 ns k (refs_named f t.0 t.1 t.3) (inr t.4))
 
   in_refs : (k : ℕ) → In (with_refs f ns m) k → In ns k ⊎ RefersTo f m k
   in_refs k h = by_named (named f (pos m)) refl h
     where
-      by_refs : (r : Record) → named f (pos m) ≡ Some r → (o : Result (List ℤ) ExtractReason) → refs f r ≡ o → In (elim o as (λ _. List ℕ) [ Ok ks ↦ with_numbers ns ks | Err reason ↦ ns ]) k → In ns k ⊎ RefersTo f m k
+      by_refs : (r : Record) → named f (pos m) ≡ Some r → (o : Result (List ℤ) ExtractReason) → refs f r ≡ o
+          → In (elim o as (λ _. List ℕ) [ Ok ks ↦ with_numbers ns ks | Err reason ↦ ns ]) k → In ns k ⊎ RefersTo f m k
       by_refs r en (Ok ks) er i = elim (into_all f ks ns k (refs_named f r ks er) i) [ inl j ↦ inl j | inr c ↦ inr (r, ks, en, er, c) ]
       by_refs r en (Err reason) er i = inl i
 
-      by_named : (o : Option Record) → named f (pos m) ≡ o → In (elim o as (λ _. List ℕ) [ Some r ↦ elim (refs f r) as (λ _. List ℕ) [ Ok ks ↦ with_numbers ns ks | Err reason ↦ ns ] | None ↦ ns ]) k → In ns k ⊎ RefersTo f m k
+      by_named : (o : Option Record) → named f (pos m) ≡ o
+          → In (elim o as (λ _. List ℕ) [ Some r ↦ elim (refs f r) as (λ _. List ℕ) [ Ok ks ↦ with_numbers ns ks | Err reason ↦ ns ] | None ↦ ns ]) k
+          → In ns k ⊎ RefersTo f m k
       by_named (Some r) en i = by_refs r en (refs f r) refl i
       by_named None en i = inl i
 
-above_more : (f : Contents) (refusal : Option Refusal) (e : EntryNo) (fault : Option ExtractReason) (m : ℕ) → Above f refusal m → Above f (least_of refusal e fault) m
+above_more : (f : Contents) (refusal : Option Refusal) (e : EntryNo) (fault : Option ExtractReason) (m : ℕ) → Above f refusal m
+    → Above f (least_of refusal e fault) m
 above_more f refusal e None m h = h
 above_more f None e (Some reason) m h = inl h
 above_more f (Some x) e (Some reason) m h = by_test (nat_le x.entity.0 e.0) refl
@@ -109,7 +116,8 @@ above_more f (Some x) e (Some reason) m h = by_test (nat_le x.entity.0 e.0) refl
     by_test true t = h
     by_test false t = elim h [ inl none ↦ inl none | inr le ↦ let gt : e.0 < x.entity.0 = leb-false x.entity.0 e.0 t in inr (omega (arith, gt, le)) ]
 
-above_here : (f : Contents) (refusal : Option Refusal) (e : EntryNo) (fault : Option ExtractReason) → fault ≡ fault_at f e.0 → Above f refusal e.0 ⊎ Unit {0} → Above f (least_of refusal e fault) e.0
+above_here : (f : Contents) (refusal : Option Refusal) (e : EntryNo) (fault : Option ExtractReason) → fault ≡ fault_at f e.0 → Above f refusal e.0 ⊎ Unit {0}
+    → Above f (least_of refusal e fault) e.0
 above_here f None e None is h = sym is
 above_here f (Some x) e None is h = inl (sym is)
 above_here f None e (Some reason) is h = inr (omega arith)
@@ -119,7 +127,8 @@ above_here f (Some x) e (Some reason) is h = by_test (nat_le x.entity.0 e.0) ref
     by_test true t = inr (leb-true x.entity.0 e.0 t)
     by_test false t = inr (omega arith)
 
-there_more : (f : Contents) (ns ms : List ℕ) (refusal : Option Refusal) (e : EntryNo) (fault : Option ExtractReason) → Grows ns ms → In ns e.0 → fault ≡ fault_at f e.0 → IsThere f ns refusal → IsThere f ms (least_of refusal e fault)
+there_more : (f : Contents) (ns ms : List ℕ) (refusal : Option Refusal) (e : EntryNo) (fault : Option ExtractReason) → Grows ns ms → In ns e.0
+    → fault ≡ fault_at f e.0 → IsThere f ns refusal → IsThere f ms (least_of refusal e fault)
 there_more f ns ms None e None g i is h = tt
 there_more f ns ms (Some x) e None g i is h = (subst (λ (xs : List ℕ). In xs x.entity.0) (sym g.1) (in_front ns g.0 x.entity.0 h.0), h.1)
 there_more f ns ms None e (Some reason) g i is h = (subst (λ (xs : List ℕ). In xs e.0) (sym g.1) (in_front ns g.0 e.0 i), sym is)
@@ -138,7 +147,8 @@ flood_starts f n = record {
   there = tt;
 }
 
-module _ (f : Contents) (n next : ℕ) (ns : List ℕ) (refusal : Option Refusal) (e : EntryNo) (fault : Option ExtractReason) (h : IsFlooding f n next ns refusal) (at : slice_get ns next ≡ Some e.0) (is : fault ≡ fault_at f e.0) where
+module _ (f : Contents) (n next : ℕ) (ns : List ℕ) (refusal : Option Refusal) (e : EntryNo) (fault : Option ExtractReason) (h : IsFlooding f n next ns refusal)
+    (at : slice_get ns next ≡ Some e.0) (is : fault ≡ fault_at f e.0) where
   grown : Grows ns (with_refs f ns e.0)
   grown = refs_grow f ns e.0
 
@@ -168,7 +178,8 @@ module _ (f : Contents) (n next : ℕ) (ns : List ℕ) (refusal : Option Refusal
   flood_goes = record {
     start = kept n h.start;
     reached = λ m i. elim (in_refs f ns e.0 m i) [ inl j ↦ h.reached m j | inr t ↦ further (h.reached e.0 (in_get ns next e.0 at)) t ];
-    closed = λ i m k lt g t. elim (visited i m lt g) [ inl old ↦ kept k (h.closed i m k old.0 old.1 t) | inr same ↦ refs_in f ns e.0 k (subst (λ (x : ℕ). RefersTo f x k) (sym same) t) ];
+    closed = λ i m k lt g t. elim (visited i m lt g)
+        [ inl old ↦ kept k (h.closed i m k old.0 old.1 t) | inr same ↦ refs_in f ns e.0 k (subst (λ (x : ℕ). RefersTo f x k) (sym same) t) ];
     above = λ i m lt g. elim (visited i m lt g) [
       | inl old ↦ above_more f refusal e fault m (h.above i m old.0 old.1)
       | inr same ↦ subst (Above f (least_of refusal e fault)) same (above_here f refusal e fault is (inr tt))
@@ -196,9 +207,11 @@ module _ (f : Contents) (n next : ℕ) (ns : List ℕ) (refusal : Option Refusal
 
 least_is : (f : Contents) (ns : List ℕ) (refusal : Option Refusal) → ((m : ℕ) → In ns m → Above f refusal m) → IsThere f ns refusal → IsLeastFault f ns refusal
 least_is f ns None above there = λ m c. above m (in_from ns m c)
-least_is f ns (Some x) above there = (contains_at ns x.entity.0 there.0, there.1, λ m lt c. elim (above m (in_from ns m c)) [ inl none ↦ none | inr le ↦ absurd (omega (arith, lt, le)) ])
+least_is f ns (Some x) above there =
+    (contains_at ns x.entity.0 there.0, there.1, λ m lt c. elim (above m (in_from ns m c)) [ inl none ↦ none | inr le ↦ absurd (omega (arith, lt, le)) ])
 
-pub flood_ends : (f : Contents) (n next : ℕ) (ns : List ℕ) (refusal : Option Refusal) → IsFlooding f n next ns refusal → slice_get ns next ≡ None → IsFlooded f n ns refusal
+pub flood_ends : (f : Contents) (n next : ℕ) (ns : List ℕ) (refusal : Option Refusal) → IsFlooding f n next ns refusal → slice_get ns next ≡ None
+    → IsFlooded f n ns refusal
 flood_ends f n next ns refusal h e = record {
   reached = λ m. ((λ c. h.reached m (in_from ns m c)), λ r. contains_at ns m (all_reached f n next ns refusal h e r));
   least = least_is f ns refusal (all_above f n next ns refusal h e) h.there;
@@ -207,12 +220,14 @@ flood_ends f n next ns refusal h e = record {
 -- ---- what a visit tells
 
 pub no_fault : (f : Contents) (m : ℕ) (r : Record) (ks : List ℤ) → named f (pos m) ≡ Some r → refs f r ≡ Ok ks → None ≡ fault_at f m
-no_fault f m r ks en er = sym (ap (λ (o : Option Record). elim o as (λ _. Option ExtractReason) [ Some r ↦ entry_fault f r | None ↦ None ]) en ∙ refs_faultless f r ks er)
+no_fault f m r ks en er =
+    sym (ap (λ (o : Option Record). elim o as (λ _. Option ExtractReason) [ Some r ↦ entry_fault f r | None ↦ None ]) en ∙ refs_faultless f r ks er)
 
 told_fault : (f : Contents) (m : ℕ) (r : Record) (x : ExtractReason) → named f (pos m) ≡ Some r → refs f r ≡ Err x → fault_at f m ≡ Some x
 told_fault f m r x en er = ap (λ (o : Option Record). elim o as (λ _. Option ExtractReason) [ Some r ↦ entry_fault f r | None ↦ None ]) en ∙ refs_fault f r x er
 
-pub a_fault : (f : Contents) (m : ℕ) (r : Record) (e : RefFault) (o : Result (Option ExtractReason) NoMemory) → named f (pos m) ≡ Some r → TellsFault e (refs f r) → IfOk o (IsToldAs e) → IfOk o (λ x. x ≡ fault_at f m)
+pub a_fault : (f : Contents) (m : ℕ) (r : Record) (e : RefFault) (o : Result (Option ExtractReason) NoMemory) → named f (pos m) ≡ Some r
+    → TellsFault e (refs f r) → IfOk o (IsToldAs e) → IfOk o (λ x. x ≡ fault_at f m)
 a_fault f m r e (Err x) en h k = tt
 a_fault f m r fault.Unlisted (Ok x) en h k = k ∙ sym (told_fault f m r reason.Unlisted en h)
 a_fault f m r fault.Layout (Ok x) en h k = k ∙ sym (told_fault f m r reason.Layout en h)

@@ -1,5 +1,6 @@
 -- The values of a kept record can be written where those of the record can.
-use Rattle.std.specs.Prelude.{◌≡◌, ℕ, ◌+◌, ◌≤◌, ◌==◌, Bool, true, false, ℤ, pos, negsuc, int_le, List, [], ◌∷◌, length, map, take, drop, Option, Some, None, if◌then◌else◌, unwrap_or, filter, filter_map}
+use Rattle.std.specs.Prelude.{◌≡◌, ℕ, ◌+◌, ◌≤◌, ◌==◌, Bool, true, false, ℤ, pos, negsuc, int_le, List, [], ◌∷◌, length, map, take, drop, Option, Some, None}
+use Rattle.std.specs.Prelude.{if◌then◌else◌, unwrap_or, filter, filter_map}
 use Rattle.std.specs.List.{list_all, enumerate_from}
 use Rattle.std.proofs.Common.{refl, ap, ◌∙◌, arith, length-take, length-drop}
 use Rattle.std.proofs.lemmas.Bool.{and_parts, and_from, le-leb}
@@ -19,11 +20,19 @@ use Rattle.solid_extract.proofs.Entries.{renamed_few}
 use Rattle.solid_extract.proofs.KeptValues.{names_few, values_of_own}
 
 small_fits : (n : ℕ) → n ≤ 164000000 → fits_64_bits (pos n) ≡ true
-small_fits n most = and_from (int_le (negsuc 9223372036854775807) (pos n)) (int_le (pos n) (pos 9223372036854775807)) refl (le-leb n 9223372036854775807 (omega (arith, most)))
+small_fits n most = and_from (int_le (negsuc 9223372036854775807) (pos n)) (int_le (pos n) (pos 9223372036854775807)) refl
+    (le-leb n 9223372036854775807 (omega (arith, most)))
 
 pointers_short : (vs : List Value) (own n k : ℕ) → length (take k (drop 1 (drop n (drop 1 (drop own vs))))) ≤ length vs
 pointers_short vs own n k =
-    omega (arith, length-take k (drop 1 (drop n (drop 1 (drop own vs)))), length-drop 1 (drop n (drop 1 (drop own vs))), length-drop n (drop 1 (drop own vs)), length-drop 1 (drop own vs), length-drop own vs)
+    omega (
+      arith,
+      length-take k (drop 1 (drop n (drop 1 (drop own vs)))),
+      length-drop 1 (drop n (drop 1 (drop own vs))),
+      length-drop n (drop 1 (drop own vs)),
+      length-drop 1 (drop own vs),
+      length-drop own vs,
+    )
 
 second_short : (own : Own) (vs : List Value) → length (second_group own vs).pointers ≤ length vs
 second_short own vs = pointers_short vs own.count (unwrap_or (count_of (first_group own vs).count) 0) (unwrap_or (count_of (second_group own vs).count) 0)
@@ -43,11 +52,13 @@ module _ (kept : List ℕ) (few : length kept ≤ 4999999) where
   value_fits own k (value.Real w) h = h
   value_fits own k (value.Text t) h = h
 
-  own_fit : (own : Own) (k : ℕ) (vs : List Value) → list_all is_value vs ≡ true → list_all is_value (map (λ (v : ℕ × Value). new_value kept own v.0 v.1) (enumerate_from k vs)) ≡ true
+  own_fit : (own : Own) (k : ℕ) (vs : List Value) → list_all is_value vs ≡ true
+      → list_all is_value (map (λ (v : ℕ × Value). new_value kept own v.0 v.1) (enumerate_from k vs)) ≡ true
   own_fit own k [] h = refl
   own_fit own k (v ∷ vs) h =
       let p = and_parts (is_value v) (list_all is_value vs) h in
-      and_from (is_value (new_value kept own k v)) (list_all is_value (map (λ (w : ℕ × Value). new_value kept own w.0 w.1) (enumerate_from (k + 1) vs))) (value_fits own k v p.0) (own_fit own (k + 1) vs p.1)
+      and_from (is_value (new_value kept own k v)) (list_all is_value (map (λ (w : ℕ × Value). new_value kept own w.0 w.1) (enumerate_from (k + 1) vs)))
+      (value_fits own k v p.0) (own_fit own (k + 1) vs p.1)
 
   numbers_fit : (zs : List ℤ) → list_all is_value (new_numbers kept zs) ≡ true
   numbers_fit [] = refl
@@ -66,9 +77,11 @@ module _ (kept : List ℕ) (few : length kept ≤ 4999999) where
     fit_of_own : (o : Option Own) → list_all is_value (values_of_own f kept r o) ≡ true
     fit_of_own None = refl
     fit_of_own (Some own) =
-        list_all-both is_value (map (λ (v : ℕ × Value). new_value kept own v.0 v.1) (enumerate_from 1 (take own.count r.1))) (names_behind (new_numbers kept (filter (is_name f) (filter_map number_of (second_group own r.1).pointers))))
+        list_all-both is_value (map (λ (v : ℕ × Value). new_value kept own v.0 v.1) (enumerate_from 1 (take own.count r.1)))
+        (names_behind (new_numbers kept (filter (is_name f) (filter_map number_of (second_group own r.1).pointers))))
         (own_fit own 1 (take own.count r.1) (list_all-take is_value own.count r.1 held))
-        (names_fit (new_numbers kept (filter (is_name f) (filter_map number_of (second_group own r.1).pointers))) (short own) (numbers_fit (filter (is_name f) (filter_map number_of (second_group own r.1).pointers))))
+        (names_fit (new_numbers kept (filter (is_name f) (filter_map number_of (second_group own r.1).pointers))) (short own)
+        (numbers_fit (filter (is_name f) (filter_map number_of (second_group own r.1).pointers))))
       where
         short : (own : Own) → length (new_numbers kept (filter (is_name f) (filter_map number_of (second_group own r.1).pointers))) ≤ 164000000
         short own =

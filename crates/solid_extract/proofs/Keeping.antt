@@ -1,5 +1,6 @@
 -- The own values of a record of the six kinds, with the pointers renamed, are a record of that kind.
-use Rattle.std.proofs.Common.{◌≡◌, inl, inr, ℕ, suc, ◌+◌, ◌<◌, Bool, true, false, List, [], ◌∷◌, ◌++◌, length, map, take, ℤ, pos, Option, Some, None, refl, sym, ap, subst, ◌∙◌, arith}
+use Rattle.std.proofs.Common.{◌≡◌, inl, inr, ℕ, suc, ◌+◌, ◌<◌, Bool, true, false, List, [], ◌∷◌, ◌++◌, length, map, take, ℤ, pos, Option, Some, None, refl, sym}
+use Rattle.std.proofs.Common.{ap, subst, ◌∙◌, arith}
 use Rattle.std.specs.Prelude.{◌==◌, ◌||◌, flat_map, if◌then◌else◌}
 use Rattle.std.specs.List.{enumerate_from}
 use Rattle.std.proofs.lemmas.Bool.{cond-false, ne_eqb, eq-eqb}
@@ -9,7 +10,8 @@ use Rattle.iges_fields.specs.declared.value.Value.TheVariants as value
 use Rattle.brep_lists.specs.DueValues.{DueValue, pointer, number, flag, at_least_one, count, coordinate, IsFiller, Meets, MayBeMissing, MeetsAll}
 use Rattle.brep_lists.specs.Record.{LoopTuple, Items, pair_due, curve_due, tuple_due, edge_due, vertex_due, due, items_of}
 use Rattle.brep_lists.specs.declared.entity_kind.EntityKind.{EntityKind}
-use Rattle.brep_lists.specs.declared.entity_kind.EntityKind.TheVariants.{Solid as solid, Shell as shell, Face as face, Loop as «loop», EdgeList as edges, VertexList as vertices}
+use Rattle.brep_lists.specs.declared.entity_kind.EntityKind.TheVariants.{Solid as solid, Shell as shell, Face as face, Loop as «loop», EdgeList as edges}
+use Rattle.brep_lists.specs.declared.entity_kind.EntityKind.TheVariants.{VertexList as vertices}
 use Rattle.brep_lists.specs.OwnValues.{due_in, own_count, pointer_places}
 use Rattle.entry_references.specs.Layout.{Own}
 use Rattle.entry_references.specs.EntrySets.{is_among}
@@ -33,16 +35,19 @@ abbrev pub R : (ℤ → ℤ) → List DueValue → List DueValue
 R g ds = map (renamed_due g) ds
 
 -- item by item
-each_renamed : {A : Type 0} (g : ℤ → ℤ) (d : A → List DueValue) (h : A → A) → ((x : A) → d (h x) ≡ R g (d x)) → (xs : List A) → flat_map d (map h xs) ≡ R g (flat_map d xs)
+each_renamed : {A : Type 0} (g : ℤ → ℤ) (d : A → List DueValue) (h : A → A) → ((x : A) → d (h x) ≡ R g (d x)) → (xs : List A)
+    → flat_map d (map h xs) ≡ R g (flat_map d xs)
 each_renamed g d h same [] = refl
-each_renamed g d h same (x ∷ xs) = ap (λ ds. ds ++ flat_map d (map h xs)) (same x) ∙ (ap (λ ds. R g (d x) ++ ds) (each_renamed g d h same xs) ∙ sym (map-append (renamed_due g) (d x) (flat_map d xs)))
+each_renamed g d h same (x ∷ xs) = ap (λ ds. ds ++ flat_map d (map h xs)) (same x)
+    ∙ (ap (λ ds. R g (d x) ++ ds) (each_renamed g d h same xs) ∙ sym (map-append (renamed_due g) (d x) (flat_map d xs)))
 
 curves_due : (g : ℤ → ℤ) (cs : List (Bool × ℤ)) → flat_map curve_due (map (renamed_curve g) cs) ≡ R g (flat_map curve_due cs)
 curves_due g cs = each_renamed g curve_due (renamed_curve g) (λ c. refl) cs
 
 tuple_renamed : (g : ℤ → ℤ) (t : LoopTuple) → tuple_due (renamed_tuple g t) ≡ R g (tuple_due t)
 tuple_renamed g t =
-    ap (λ n. flag t.is_vertex ∷ pointer (g t.list) ∷ number t.index ∷ flag t.flag ∷ count n ∷ flat_map curve_due (map (renamed_curve g) t.curves)) (length-map t.curves (renamed_curve g))
+    ap (λ n. flag t.is_vertex ∷ pointer (g t.list) ∷ number t.index ∷ flag t.flag ∷ count n ∷ flat_map curve_due (map (renamed_curve g) t.curves))
+    (length-map t.curves (renamed_curve g))
     ∙ ap (λ ds. flag t.is_vertex ∷ pointer (g t.list) ∷ number t.index ∷ flag t.flag ∷ count (length t.curves) ∷ ds) (curves_due g t.curves)
 
 vertices_due : (g : ℤ → ℤ) (vs : List (Value × Value × Value)) → flat_map vertex_due vs ≡ R g (flat_map vertex_due vs)
@@ -53,8 +58,10 @@ loops_due : (g : ℤ → ℤ) (ls : List ℤ) → map pointer (map g ls) ≡ R g
 loops_due g [] = refl
 loops_due g (l ∷ ls) = ap (λ ds. pointer (g l) ∷ ds) (loops_due g ls)
 
-headed : {A : Type 0} (g : ℤ → ℤ) (d : A → List DueValue) (h : A → A) → ((x : A) → d (h x) ≡ R g (d x)) → (xs : List A) → at_least_one (length (map h xs)) ∷ flat_map d (map h xs) ≡ R g (at_least_one (length xs) ∷ flat_map d xs)
-headed g d h same xs = ap (λ n. at_least_one n ∷ flat_map d (map h xs)) (length-map xs h) ∙ ap (λ ds. at_least_one (length xs) ∷ ds) (each_renamed g d h same xs)
+headed : {A : Type 0} (g : ℤ → ℤ) (d : A → List DueValue) (h : A → A) → ((x : A) → d (h x) ≡ R g (d x)) → (xs : List A)
+    → at_least_one (length (map h xs)) ∷ flat_map d (map h xs) ≡ R g (at_least_one (length xs) ∷ flat_map d xs)
+headed g d h same xs = ap (λ n. at_least_one n ∷ flat_map d (map h xs)) (length-map xs h) ∙ ap (λ ds. at_least_one (length xs) ∷ ds)
+    (each_renamed g d h same xs)
 
 pub due_renamed : (g : ℤ → ℤ) (kind : EntityKind) (items : Items kind) → due kind (renamed_items g kind items) ≡ R g (due kind items)
 due_renamed g solid s =
@@ -76,7 +83,8 @@ is_pointer_due _ = false
 
 below_none : (k m : ℕ) (ds : List DueValue) → m < k → is_among (places_due k ds) m ≡ false
 below_none k m [] lt = refl
-below_none k m (pointer z ∷ ds) lt = ap (λ b. b || is_among (places_due (k + 1) ds) m) (ne_eqb k m (λ e. omega (arith, lt, e))) ∙ below_none (k + 1) m ds (omega (arith, lt))
+below_none k m (pointer z ∷ ds) lt = ap (λ b. b || is_among (places_due (k + 1) ds) m) (ne_eqb k m (λ e. omega (arith, lt, e)))
+    ∙ below_none (k + 1) m ds (omega (arith, lt))
 below_none k m (number z ∷ ds) lt = below_none (k + 1) m ds (omega (arith, lt))
 below_none k m (flag b ∷ ds) lt = below_none (k + 1) m ds (omega (arith, lt))
 below_none k m (at_least_one n ∷ ds) lt = below_none (k + 1) m ds (omega (arith, lt))
@@ -90,11 +98,13 @@ Says ps k (d ∷ ds) = (is_among ps k ≡ is_pointer_due d) × Says ps (k + 1) d
 
 says_more : (x k : ℕ) (ps : List ℕ) (ds : List DueValue) → x < k → Says ps k ds → Says (x ∷ ps) k ds
 says_more x k ps [] lt h = tt
-says_more x k ps (d ∷ ds) lt h = (ap (λ b. b || is_among ps k) (ne_eqb x k (λ e. omega (arith, lt, e))) ∙ h.0, says_more x (k + 1) ps ds (omega (arith, lt)) h.1)
+says_more x k ps (d ∷ ds) lt h =
+    (ap (λ b. b || is_among ps k) (ne_eqb x k (λ e. omega (arith, lt, e))) ∙ h.0, says_more x (k + 1) ps ds (omega (arith, lt)) h.1)
 
 says_places : (k : ℕ) (ds : List DueValue) → Says (places_due k ds) k ds
 says_places k [] = tt
-says_places k (pointer z ∷ ds) = (ap (λ b. b || is_among (places_due (k + 1) ds) k) (eq-eqb k k refl), says_more k (k + 1) (places_due (k + 1) ds) ds (omega arith) (says_places (k + 1) ds))
+says_places k (pointer z ∷ ds) =
+    (ap (λ b. b || is_among (places_due (k + 1) ds) k) (eq-eqb k k refl), says_more k (k + 1) (places_due (k + 1) ds) ds (omega arith) (says_places (k + 1) ds))
 says_places k (number z ∷ ds) = (below_none (k + 1) k ds (omega arith), says_places (k + 1) ds)
 says_places k (flag b ∷ ds) = (below_none (k + 1) k ds (omega arith), says_places (k + 1) ds)
 says_places k (at_least_one n ∷ ds) = (below_none (k + 1) k ds (omega arith), says_places (k + 1) ds)
@@ -129,7 +139,8 @@ module _ (kept : List ℕ) (own : Own) (no_cut : own.cut ≡ []) where
   int_kept : (k : ℕ) (v : Value) (z : ℤ) → is_among own.pointers k ≡ false → v ≡ value.Int z → changed k v ≡ value.Int z
   int_kept k v z e is = ap (changed k) is ∙ int_changed k z false e
 
-  meets_changed : (d : DueValue) (k : ℕ) (v : Value) → is_among own.pointers k ≡ is_pointer_due d → Meets d v → Meets (renamed_due (renamed kept) d) (changed k v)
+  meets_changed : (d : DueValue) (k : ℕ) (v : Value) → is_among own.pointers k ≡ is_pointer_due d → Meets d v
+      → Meets (renamed_due (renamed kept) d) (changed k v)
   meets_changed (pointer z) k v e h = ap (changed k) h ∙ int_changed k z true e
   meets_changed (number z) k v e h = int_kept k v z e h
   meets_changed (flag b) k v e h = int_kept k v (if b then pos 1 else pos 0) e h
@@ -156,7 +167,8 @@ module _ (kept : List ℕ) (own : Own) (no_cut : own.cut ≡ []) where
   missing_spells (at_least_one n) ds tail h t = absurd h
   missing_spells (coordinate w) ds tail h t = absurd h
 
-  changed_spells : (k : ℕ) (ds : List DueValue) (vs tail : List Value) → Says own.pointers k ds → MeetsAll ds vs → IsTail tail → MeetsAll (R (renamed kept) ds) (own_changed k (take (length ds) vs) ++ tail)
+  changed_spells : (k : ℕ) (ds : List DueValue) (vs tail : List Value) → Says own.pointers k ds → MeetsAll ds vs → IsTail tail
+      → MeetsAll (R (renamed kept) ds) (own_changed k (take (length ds) vs) ++ tail)
   changed_spells k [] vs tail s h t = tail_spells tail t
   changed_spells k (d ∷ ds) [] tail s h t = missing_spells d ds tail h t
   changed_spells k (d ∷ ds) (v ∷ vs) tail s h t = (meets_changed d k v s.0 h.0, changed_spells (k + 1) ds vs tail s.1 h.1 t)
@@ -185,6 +197,8 @@ keeps f kept r kind e h =
       | None ↦ []
     ] ++ names_tail names) (own_is r kind e h) in
     let spelled : MeetsAll (R (renamed kept) (due_in kind r.1)) (own_changed kept own refl 1 (take (length (due_in kind r.1)) r.1) ++ names_tail names) =
-    changed_spells kept own refl 1 (due_in kind r.1) r.1 (names_tail names) (says_places 1 (due_in kind r.1)) h (tail_is names (ints_spell (renamed kept) (names_of f r))) in
+    changed_spells kept own refl 1 (due_in kind r.1) r.1 (names_tail names) (says_places 1 (due_in kind r.1)) h
+    (tail_is names (ints_spell (renamed kept) (names_of f r))) in
     subst (λ vs. MeetsAll (due kind (renamed_items (renamed kept) kind (items_of kind r.1))) vs) (sym values)
-    (subst (λ ds. MeetsAll ds (own_changed kept own refl 1 (take (length (due_in kind r.1)) r.1) ++ names_tail names)) (sym (due_renamed (renamed kept) kind (items_of kind r.1))) spelled)
+    (subst (λ ds. MeetsAll ds (own_changed kept own refl 1 (take (length (due_in kind r.1)) r.1) ++ names_tail names))
+    (sym (due_renamed (renamed kept) kind (items_of kind r.1))) spelled)

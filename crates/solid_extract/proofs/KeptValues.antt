@@ -1,5 +1,6 @@
 -- The values of a kept record.
-use Rattle.std.specs.Prelude.{◌≡◌, ◌⊎◌, ℕ, zero, suc, ◌+◌, ◌-◌, ◌<◌, ◌≤◌, ◌==◌, Bool, true, false, ◌||◌, ℤ, pos, List, [], ◌∷◌, ◌++◌, length, map, take, drop, set, Option, Some, None, if◌then◌else◌, slice_get, slice_index_or, unwrap_or, filter, filter_map}
+use Rattle.std.specs.Prelude.{◌≡◌, ◌⊎◌, ℕ, zero, suc, ◌+◌, ◌-◌, ◌<◌, ◌≤◌, ◌==◌, Bool, true, false, ◌||◌, ℤ, pos, List, [], ◌∷◌, ◌++◌, length, map, take, drop}
+use Rattle.std.specs.Prelude.{set, Option, Some, None, if◌then◌else◌, slice_get, slice_index_or, unwrap_or, filter, filter_map}
 use Rattle.std.specs.List.{enumerate_from}
 use Rattle.std.proofs.Common.{refl, sym, ap, ◌∙◌, arith, get_or, length-append, length-take, length-drop, inl, inr}
 use Rattle.std.proofs.Math.Bool.{or-false}
@@ -46,7 +47,8 @@ mark_long : (ms : List Bool) (place : ℕ) → length (with_mark ms place) ≡ l
 mark_long ms zero = refl
 mark_long ms (suc k) = length-set ms k true
 
-pub mark_next : (ms new : List Bool) (ps : List ℕ) (i count place : ℕ) → i < length ps → place ≡ get_or ps i 0 → new ≡ with_mark ms place → AreMarkedPlaces ms (take i ps) count → AreMarkedPlaces new (take (i + 1) ps) count
+pub mark_next : (ms new : List Bool) (ps : List ℕ) (i count place : ℕ) → i < length ps → place ≡ get_or ps i 0 → new ≡ with_mark ms place
+    → AreMarkedPlaces ms (take i ps) count → AreMarkedPlaces new (take (i + 1) ps) count
 mark_next ms new ps i count place lt read en h = record {
   long = ap length en ∙ (mark_long ms place ∙ h.long);
   marked = λ j below.
@@ -67,7 +69,8 @@ get_seam (x ∷ xs) y ys i e = ap (slice_get (x ∷ xs ++ y ∷ ys)) (sym e) ∙
 pub set_same : (vs : List Value) (i : ℕ) (v w : Value) → slice_get vs i ≡ Some v → w ≡ v → vs ≡ set vs i w
 set_same vs i v w at e = sym (ap (set vs i) (e ∙ sym (get_or_from_slice_get vs i v v at)) ∙ set-get_or vs i v)
 
-value_is : (kept : List ℕ) (own : Own) (k : ℕ) (p c : Bool) (v : Value) → p ≡ is_among own.pointers k → c ≡ is_among own.cut k → value_as kept p c v ≡ new_value kept own k v
+value_is : (kept : List ℕ) (own : Own) (k : ℕ) (p c : Bool) (v : Value) → p ≡ is_among own.pointers k → c ≡ is_among own.cut k
+    → value_as kept p c v ≡ new_value kept own k v
 value_is kept own k p c value.Default ep ec = refl
 value_is kept own k p c (value.Int n) ep ec =
     ap (λ (b : Bool). value.Int (if b then renamed kept n else (if c then pos 0 else n))) ep
@@ -78,8 +81,10 @@ value_is kept own k p c (value.Text t) ep ec = refl
 abbrev pub as_kept : List ℕ → Own → ℕ × Value → Value
 as_kept kept own v = new_value kept own v.0 v.1
 
-pub next_value : (kept : List ℕ) (own : Own) (vs : List Value) (i : ℕ) (v : Value) (p c : Bool) (list new : List Value) → slice_get vs i ≡ Some v → p ≡ is_among own.pointers (i + 1) → c ≡ is_among own.cut (i + 1)
-    → list ≡ map (as_kept kept own) (enumerate_from 1 (take i vs)) → new ≡ list ++ value_as kept p c v ∷ [] → new ≡ map (as_kept kept own) (enumerate_from 1 (take (i + 1) vs))
+pub next_value : (kept : List ℕ) (own : Own) (vs : List Value) (i : ℕ) (v : Value) (p c : Bool) (list new : List Value) → slice_get vs i ≡ Some v
+    → p ≡ is_among own.pointers (i + 1) → c ≡ is_among own.cut (i + 1)
+    → list ≡ map (as_kept kept own) (enumerate_from 1 (take i vs)) → new ≡ list ++ value_as kept p c v ∷ []
+    → new ≡ map (as_kept kept own) (enumerate_from 1 (take (i + 1) vs))
 next_value kept own vs i v p c list new at ep ec inv en =
     let lt : i < length vs = slice_get_within vs i v at in
     let got : get_or vs i value.Default ≡ v = get_or_from_slice_get vs i v value.Default at in
@@ -96,7 +101,8 @@ next_value kept own vs i v p c list new at ep ec inv en =
 pub all_plain : (kept : List ℕ) (own : Own) (k : ℕ) (vs : List Value) → own.pointers ≡ [] → own.cut ≡ [] → map (as_kept kept own) (enumerate_from k vs) ≡ vs
 all_plain kept own k [] ep ec = refl
 all_plain kept own k (v ∷ vs) ep ec =
-    let stays : new_value kept own k v ≡ v = sym (value_is kept own k false false v (sym (ap (λ (ps : List ℕ). is_among ps k) ep)) (sym (ap (λ (ps : List ℕ). is_among ps k) ec))) ∙ plain v in
+    let stays : new_value kept own k v ≡ v =
+    sym (value_is kept own k false false v (sym (ap (λ (ps : List ℕ). is_among ps k) ep)) (sym (ap (λ (ps : List ℕ). is_among ps k) ec))) ∙ plain v in
     λ j. stays j ∷ all_plain kept own (k + 1) vs ep ec j
   where
     plain : (x : Value) → value_as kept false false x ≡ x
@@ -114,15 +120,18 @@ module _ (kept : List ℕ) (own : Own) (vs : List Value) where
   front_long i le = omega (arith, length-map (enumerate_from 1 (take i vs)) (as_kept kept own), length-enumerate_from 1 (take i vs), length-take i vs, le)
 
   pub renewed_long : (i : ℕ) (list : List Value) → i ≤ length vs → list ≡ renewed i → length list ≡ length vs
-  renewed_long i list le e = omega (arith, ap length e, length-append (map (as_kept kept own) (enumerate_from 1 (take i vs))) (drop i vs), front_long i le, length-drop i vs, le)
+  renewed_long i list le e =
+      omega (arith, ap length e, length-append (map (as_kept kept own) (enumerate_from 1 (take i vs))) (drop i vs), front_long i le, length-drop i vs, le)
 
-  pub renewed_next : (i : ℕ) (p c : Bool) (list new : List Value) → i < length vs → p ≡ is_among own.pointers (i + 1) → c ≡ is_among own.cut (i + 1) → list ≡ renewed i
+  pub renewed_next : (i : ℕ) (p c : Bool) (list new : List Value) → i < length vs → p ≡ is_among own.pointers (i + 1) → c ≡ is_among own.cut (i + 1)
+      → list ≡ renewed i
       → ((v : Value) → slice_get list i ≡ Some v → new ≡ set list i (value_as kept p c v)) → new ≡ renewed (i + 1)
   renewed_next i p c list new lt ep ec inv put =
       let q = some_at vs i lt in
       let front = map (as_kept kept own) (enumerate_from 1 (take i vs)) in
       let rest = drop (i + 1) vs in
-      let opened : list ≡ map (as_kept kept own) (enumerate_from 1 (take i vs)) ++ q.0 ∷ drop (i + 1) vs = inv ∙ ap (λ (xs : List Value). map (as_kept kept own) (enumerate_from 1 (take i vs)) ++ xs) (open_at vs i q.0 q.1) in
+      let opened : list ≡ map (as_kept kept own) (enumerate_from 1 (take i vs)) ++ q.0 ∷ drop (i + 1) vs =
+      inv ∙ ap (λ (xs : List Value). map (as_kept kept own) (enumerate_from 1 (take i vs)) ++ xs) (open_at vs i q.0 q.1) in
       let long = front_long i (omega (arith, lt)) in
       let there : slice_get list i ≡ Some q.0 = ap (λ (xs : List Value). slice_get xs i) opened ∙ get_seam front q.0 rest i long in
       put q.0 there
@@ -140,22 +149,40 @@ module _ (kept : List ℕ) (own : Own) (vs : List Value) where
 -- ---- how many they are
 
 pub names_few : (f : Contents) (vs : List Value) → length (filter (is_name f) (filter_map number_of vs)) ≤ length vs
-names_few f vs = omega (arith, length-filter (is_name f) (filter_map number_of vs), count_by-le-length (is_name f) (filter_map number_of vs), filter_map_few number_of vs)
+names_few f vs = omega (
+  arith,
+  length-filter (is_name f) (filter_map number_of vs),
+  count_by-le-length (is_name f) (filter_map number_of vs),
+  filter_map_few
+      number_of vs,
+)
 
-pub names_within : (f : Contents) (vs : List Value) (n b : ℕ) → length vs ≤ 164000000 → length (filter (is_name f) (filter_map number_of (take n (drop b vs)))) ≤ 164000000
+pub names_within : (f : Contents) (vs : List Value) (n b : ℕ) → length vs ≤ 164000000 → length (filter (is_name f) (filter_map number_of (take n (drop b vs))))
+    ≤ 164000000
 names_within f vs n b few = omega (arith, names_few f (take n (drop b vs)), length-take n (drop b vs), length-drop b vs, few)
 
 behind_few : (names : List Value) (room : ℕ) → (0 < length names → length names + 2 ≤ room) → length (names_behind names) ≤ room
 behind_few [] room h = omega arith
 behind_few (v ∷ names) room h =
     let some : (length (v ∷ names) == 0) ≡ false = ne_eqb (suc (length names)) 0 (λ e. omega (arith, e)) in
-    let is : names_behind (v ∷ names) ≡ value.Int (pos 0) ∷ value.Int (pos (length (v ∷ names))) ∷ v ∷ names = cond-false (length (v ∷ names) == 0) [] (value.Int (pos 0) ∷ value.Int (pos (length (v ∷ names))) ∷ v ∷ names) some in
+    let is : names_behind (v ∷ names) ≡ value.Int (pos 0) ∷ value.Int (pos (length (v ∷ names))) ∷ v ∷ names =
+    cond-false (length (v ∷ names) == 0) [] (value.Int (pos 0) ∷ value.Int (pos (length (v ∷ names))) ∷ v ∷ names) some in
     let room_for : length (v ∷ names) + 2 ≤ room = h (omega arith) in
     omega (arith, ap length is, room_for)
 
-pointers_few : (vs : List Value) (own n k : ℕ) → 0 < length (take k (drop 1 (drop n (drop 1 (drop own vs))))) → length (take k (drop 1 (drop n (drop 1 (drop own vs))))) + 2 + own ≤ length vs
+pointers_few : (vs : List Value) (own n k : ℕ) → 0 < length (take k (drop 1 (drop n (drop 1 (drop own vs)))))
+    → length (take k (drop 1 (drop n (drop 1 (drop own vs))))) + 2 + own ≤ length vs
 pointers_few vs own n k some =
-    omega (arith, some, length-take k (drop 1 (drop n (drop 1 (drop own vs)))), length-drop 1 (drop n (drop 1 (drop own vs))), length-drop n (drop 1 (drop own vs)), length-drop 1 (drop own vs), length-drop own vs)
+    omega (
+      arith,
+      some,
+      length-take k (drop 1 (drop n (drop 1 (drop own vs)))),
+      length-drop 1 (drop n (drop 1 (drop own vs))),
+      length-drop n
+          (drop 1 (drop own vs)),
+      length-drop 1 (drop own vs),
+      length-drop own vs,
+    )
 
 pub second_few : (own : Own) (vs : List Value) → 0 < length (second_group own vs).pointers → length (second_group own vs).pointers + 2 + own.count ≤ length vs
 second_few own vs some = pointers_few vs own.count (unwrap_or (count_of (first_group own vs).count) 0) (unwrap_or (count_of (second_group own vs).count) 0) some
@@ -164,7 +191,8 @@ module _ (f : Contents) (kept : List ℕ) (r : Record) where
   abbrev pub values_of_own : Option Own → List Value
   values_of_own o =
       elim o as (λ _. List Value) [ Some own ↦ map (λ (v : ℕ × Value). new_value kept own v.0 v.1) (enumerate_from 1 (take own.count r.1)) | None ↦ [] ]
-      ++ names_behind (new_numbers kept (elim o as (λ _. List ℤ) [ Some own ↦ filter (is_name f) (filter_map number_of (second_group own r.1).pointers) | None ↦ [] ]))
+      ++ names_behind (new_numbers kept
+      (elim o as (λ _. List ℤ) [ Some own ↦ filter (is_name f) (filter_map number_of (second_group own r.1).pointers) | None ↦ [] ]))
 
   few_of_own : (o : Option Own) → length (values_of_own o) ≤ length r.1
   few_of_own None = omega arith
@@ -173,20 +201,25 @@ module _ (f : Contents) (kept : List ℕ) (r : Record) where
       let olds : List Value = map (λ (v : ℕ × Value). new_value kept own v.0 v.1) (enumerate_from 1 (take own.count r.1)) in
       let long : length (map (λ (v : ℕ × Value). new_value kept own v.0 v.1) (enumerate_from 1 (take own.count r.1))) ≡ length (take own.count r.1) =
       length-map (enumerate_from 1 (take own.count r.1)) (λ (v : ℕ × Value). new_value kept own v.0 v.1) ∙ length-enumerate_from 1 (take own.count r.1) in
-      let tail : length (names_behind (new_numbers kept (filter (is_name f) (filter_map number_of (second_group own r.1).pointers)))) ≤ length r.1 - length (take own.count r.1) =
+      let tail : length (names_behind (new_numbers kept (filter (is_name f) (filter_map number_of (second_group own r.1).pointers))))
+      ≤ length r.1 - length (take own.count r.1) =
       behind_few (new_numbers kept (filter (is_name f) (filter_map number_of (second_group own r.1).pointers))) (length r.1 - length (take own.count r.1))
-      (λ some. room own (length-map (filter (is_name f) (filter_map number_of (second_group own r.1).pointers)) (λ (z : ℤ). value.Int (renamed kept z))) some) in
+      (λ some. room own (length-map (filter (is_name f) (filter_map number_of (second_group own r.1).pointers)) (λ (z : ℤ). value.Int (renamed kept z))) some)
+      in
       omega (
         arith,
         long,
         tail,
         length-take own.count r.1,
-        length-append (map (λ (v : ℕ × Value). new_value kept own v.0 v.1) (enumerate_from 1 (take own.count r.1))) (names_behind (new_numbers kept (filter (is_name f) (filter_map number_of (second_group own r.1).pointers)))),
+        length-append (map (λ (v : ℕ × Value). new_value kept own v.0 v.1) (enumerate_from 1 (take own.count r.1)))
+            (names_behind (new_numbers kept (filter (is_name f) (filter_map number_of (second_group own r.1).pointers)))),
       )
     where
-      room : (own : Own) {n : ℕ} → n ≡ length (filter (is_name f) (filter_map number_of (second_group own r.1).pointers)) → 0 < n → n + 2 ≤ length r.1 - length (take own.count r.1)
+      room : (own : Own) {n : ℕ} → n ≡ length (filter (is_name f) (filter_map number_of (second_group own r.1).pointers)) → 0 < n
+          → n + 2 ≤ length r.1 - length (take own.count r.1)
       room own e some =
-          let few : length (filter (is_name f) (filter_map number_of (second_group own r.1).pointers)) ≤ length (second_group own r.1).pointers = names_few f (second_group own r.1).pointers in
+          let few : length (filter (is_name f) (filter_map number_of (second_group own r.1).pointers)) ≤ length (second_group own r.1).pointers =
+          names_few f (second_group own r.1).pointers in
           omega (arith, e, some, few, second_few own r.1 (omega (arith, e, some, few)), length-take own.count r.1)
 
   pub values_few : length (new_values f kept r) ≤ length r.1
@@ -195,10 +228,15 @@ module _ (f : Contents) (kept : List ℕ) (r : Record) where
 -- ---- by the shape of the record
 
 pub values_are : (f : Contents) (kept : List ℕ) (r : Record) (own : Own) (g : Between) → HasShape r own g
-    → map (λ (v : ℕ × Value). new_value kept own v.0 v.1) (enumerate_from 1 (take own.count r.1)) ++ names_behind (new_numbers kept (filter (is_name f) (filter_map number_of (take g.count (drop g.before r.1))))) ≡ new_values f kept r
+    → map (λ (v : ℕ × Value). new_value kept own v.0 v.1) (enumerate_from 1 (take own.count r.1))
+    ++ names_behind (new_numbers kept (filter (is_name f) (filter_map number_of (take g.count (drop g.before r.1))))) ≡ new_values f kept r
 values_are f kept r own g h =
     let names : filter (is_name f) (filter_map number_of (take g.count (drop g.before r.1))) ≡ names_of f r =
-    sym (ap (λ (o : Option Own). elim o as (λ _. List ℤ) [ Some own ↦ filter (is_name f) (filter_map number_of (second_group own r.1).pointers) | None ↦ [] ]) h.own_values
+    sym (ap (λ (o : Option Own). elim o as (λ _. List ℤ) [ Some own ↦ filter (is_name f) (filter_map number_of (second_group own r.1).pointers) | None ↦ [] ])
+    h.own_values
     ∙ ap (λ (s : Group). filter (is_name f) (filter_map number_of s.pointers)) h.second) in
-    ap (λ (zs : List ℤ). map (λ (v : ℕ × Value). new_value kept own v.0 v.1) (enumerate_from 1 (take own.count r.1)) ++ names_behind (new_numbers kept zs)) names
-    ∙ sym (ap (λ (o : Option Own). elim o as (λ _. List Value) [ Some own ↦ map (λ (v : ℕ × Value). new_value kept own v.0 v.1) (enumerate_from 1 (take own.count r.1)) | None ↦ [] ] ++ names_behind (new_numbers kept (names_of f r))) h.own_values)
+    ap (λ (zs : List ℤ). map (λ (v : ℕ × Value). new_value kept own v.0 v.1) (enumerate_from 1 (take own.count r.1)) ++ names_behind (new_numbers kept zs))
+    names
+    ∙ sym (ap (λ (o : Option Own). elim o as (λ _. List Value)
+    [ Some own ↦ map (λ (v : ℕ × Value). new_value kept own v.0 v.1) (enumerate_from 1 (take own.count r.1)) | None ↦ [] ]
+    ++ names_behind (new_numbers kept (names_of f r))) h.own_values)

@@ -1,5 +1,6 @@
 -- Places of kept entries.
-use Rattle.std.specs.Prelude.{◌≡◌, ℕ, suc, ◌+◌, ◌-◌, ◌*◌, ◌/◌, ◌%◌, ◌<◌, ◌≤◌, ◌==◌, cond, not, Bool, true, false, List, [], ◌∷◌, length, drop, replicate, set, Some, slice_get, slice_index_or, if◌then◌else◌, option_map}
+use Rattle.std.specs.Prelude.{◌≡◌, ℕ, suc, ◌+◌, ◌-◌, ◌*◌, ◌/◌, ◌%◌, ◌<◌, ◌≤◌, ◌==◌, cond, not, Bool, true, false, List, [], ◌∷◌, length, drop, replicate, set}
+use Rattle.std.specs.Prelude.{Some, slice_get, slice_index_or, if◌then◌else◌, option_map}
 use Rattle.std.specs.List.{AllByRecursion}
 use Rattle.std.proofs.Common.{refl, sym, ap, subst, ◌∙◌, arith, inl, inr}
 use Rattle.std.proofs.lemmas.Bool.{eqb-true, eq-eqb, ne_eqb, true≢false}
@@ -57,13 +58,17 @@ no_place size (x ∷ xs) m all ne =
 
 -- ---- the loop
 
-pub places_start : (kept ps : List ℕ) (size j : ℕ) → ps ≡ replicate size (length kept) → j < size → slice_index_or ps j 0 ≡ length kept + place_of (drop (length kept) kept) (2 * j + 1)
+pub places_start : (kept ps : List ℕ) (size j : ℕ) → ps ≡ replicate size (length kept) → j < size
+    → slice_index_or ps j 0 ≡ length kept + place_of (drop (length kept) kept) (2 * j + 1)
 places_start kept ps size j e lt =
-    let nothing : place_of (drop (length kept) kept) (2 * j + 1) ≡ 0 = ap (λ (xs : List ℕ). place_of xs (2 * j + 1)) (drop_all (length kept) kept (omega arith)) in
+    let nothing : place_of (drop (length kept) kept) (2 * j + 1) ≡ 0 =
+    ap (λ (xs : List ℕ). place_of xs (2 * j + 1)) (drop_all (length kept) kept (omega arith)) in
     ap (λ (xs : List ℕ). slice_index_or xs j 0) e ∙ (get_or-replicate size j (length kept) 0 lt ∙ (omega (arith, nothing)))
 
-pub places_next : (kept ps new : List ℕ) (size left before m : ℕ) → length ps ≡ size → 0 < left → before ≡ left - 1 → slice_get kept before ≡ Some m → IsWithin size m → new ≡ set ps (m / 2) before
-    → ((j : ℕ) → j < size → slice_index_or ps j 0 ≡ left + place_of (drop left kept) (2 * j + 1)) → (j : ℕ) → j < size → slice_index_or new j 0 ≡ before + place_of (drop before kept) (2 * j + 1)
+pub places_next : (kept ps new : List ℕ) (size left before m : ℕ) → length ps ≡ size → 0 < left → before ≡ left - 1 → slice_get kept before ≡ Some m
+    → IsWithin size m → new ≡ set ps (m / 2) before
+    → ((j : ℕ) → j < size → slice_index_or ps j 0 ≡ left + place_of (drop left kept) (2 * j + 1)) → (j : ℕ) → j < size
+    → slice_index_or new j 0 ≡ before + place_of (drop before kept) (2 * j + 1)
 places_next kept ps new size left before m long some eb at within en h j lt = by_test (m / 2 == j) refl
   where
     is : 2 * (m / 2) + 1 ≡ m
@@ -79,14 +84,18 @@ places_next kept ps new size left before m long some eb at within en h j lt = by
     by_test true t =
         let same : m / 2 ≡ j = eqb-true (m / 2) j t in
         let number : m ≡ 2 * j + 1 = omega (arith, is, same) in
-        let here : place_of (drop before kept) (2 * j + 1) ≡ 0 = ap (λ (xs : List ℕ). place_of xs (2 * j + 1)) opened ∙ place_here m (2 * j + 1) (drop left kept) number in
-        let got : slice_index_or new j 0 ≡ before = ap (λ (xs : List ℕ). slice_index_or xs j 0) en ∙ (ap (λ (k : ℕ). slice_index_or (set ps k before) j 0) same ∙ get_or-set_same ps j before 0 (omega (arith, long, lt))) in
+        let here : place_of (drop before kept) (2 * j + 1) ≡ 0 = ap (λ (xs : List ℕ). place_of xs (2 * j + 1)) opened
+        ∙ place_here m (2 * j + 1) (drop left kept) number in
+        let got : slice_index_or new j 0 ≡ before = ap (λ (xs : List ℕ). slice_index_or xs j 0) en
+        ∙ (ap (λ (k : ℕ). slice_index_or (set ps k before) j 0) same ∙ get_or-set_same ps j before 0 (omega (arith, long, lt))) in
         omega (arith, here, got)
     by_test false t =
         let ne : m / 2 ≡ j → ⊥ = λ e. apart e t in
         let far : m ≡ 2 * j + 1 → ⊥ = λ e. ne (ap (λ (k : ℕ). k / 2) e ∙ place_is j) in
-        let later : place_of (drop before kept) (2 * j + 1) ≡ suc (place_of (drop left kept) (2 * j + 1)) = ap (λ (xs : List ℕ). place_of xs (2 * j + 1)) opened ∙ place_later m (2 * j + 1) (drop left kept) far in
-        let got : slice_index_or new j 0 ≡ left + place_of (drop left kept) (2 * j + 1) = ap (λ (xs : List ℕ). slice_index_or xs j 0) en ∙ (get_or-set_other ps (m / 2) j before 0 (λ e. ne (sym e)) ∙ h j lt) in
+        let later : place_of (drop before kept) (2 * j + 1) ≡ suc (place_of (drop left kept) (2 * j + 1)) =
+        ap (λ (xs : List ℕ). place_of xs (2 * j + 1)) opened ∙ place_later m (2 * j + 1) (drop left kept) far in
+        let got : slice_index_or new j 0 ≡ left + place_of (drop left kept) (2 * j + 1) = ap (λ (xs : List ℕ). slice_index_or xs j 0) en
+        ∙ (get_or-set_other ps (m / 2) j before 0 (λ e. ne (sym e)) ∙ h j lt) in
         omega (arith, later, got, one)
       where
         apart : m / 2 ≡ j → (m / 2 == j) ≡ false → ⊥

@@ -1,5 +1,6 @@
 -- A file from which values are taken: its entries stay, and so does what a greater number names.
-use Rattle.std.specs.Prelude.{◌≡◌, ℕ, zero, suc, ◌+◌, ◌/◌, ◌%◌, ◌<◌, ◌≤◌, ◌==◌, Bool, true, false, ◌&&◌, ℤ, pos, negsuc, List, [], ◌∷◌, ◌++◌, length, map, take, drop, set, Option, Some, None, Result, Ok, Err, OnOk, option_map, IsSome, if◌then◌else◌, slice_get, filter, filter_map}
+use Rattle.std.specs.Prelude.{◌≡◌, ℕ, zero, suc, ◌+◌, ◌/◌, ◌%◌, ◌<◌, ◌≤◌, ◌==◌, Bool, true, false, ◌&&◌, ℤ, pos, negsuc, List, [], ◌∷◌, ◌++◌, length, map, take}
+use Rattle.std.specs.Prelude.{drop, set, Option, Some, None, Result, Ok, Err, OnOk, option_map, IsSome, if◌then◌else◌, slice_get, filter, filter_map}
 use Rattle.std.specs.List.{cons_option, enumerate_from}
 use Rattle.std.specs.List.Sorted.{IsStrictlyIncreasing}
 use Rattle.std.specs.Ordering.{int_eq}
@@ -44,7 +45,8 @@ module _ (f g : Contents) (same : map head g.entries ≡ map head f.entries) whe
   named_heads (negsuc n) = refl
   named_heads (pos n) = by_test (n % 2 == 1)
     where
-      by_test : (b : Bool) → option_map head (if b then unless_unused kind_of (slice_get g.entries (n / 2)) else None) ≡ option_map head (if b then unless_unused kind_of (slice_get f.entries (n / 2)) else None)
+      by_test : (b : Bool) → option_map head (if b then unless_unused kind_of (slice_get g.entries (n / 2)) else None)
+          ≡ option_map head (if b then unless_unused kind_of (slice_get f.entries (n / 2)) else None)
       by_test false = refl
       by_test true =
           let there : option_map head (slice_get g.entries (n / 2)) ≡ option_map head (slice_get f.entries (n / 2)) =
@@ -55,7 +57,8 @@ module _ (f g : Contents) (same : map head g.entries ≡ map head f.entries) whe
   name_test None = false
   name_test (Some e) = int_eq e.kind (pos 406) && int_eq e.form (pos 15)
 
-  by_head : (o : Option Record) → elim o as (λ _. Bool) [ Some r ↦ int_eq r.0.kind (pos 406) && int_eq r.0.form (pos 15) | None ↦ false ] ≡ name_test (option_map head o)
+  by_head : (o : Option Record) → elim o as (λ _. Bool) [ Some r ↦ int_eq r.0.kind (pos 406) && int_eq r.0.form (pos 15) | None ↦ false ]
+      ≡ name_test (option_map head o)
   unfolding name_test
   by_head None = refl
   by_head (Some r) = refl
@@ -69,11 +72,14 @@ module _ (f g : Contents) (same : map head g.entries ≡ map head f.entries) whe
   pub record_alike : (kept : List ℕ) (r : Record) → new_record g kept r ≡ new_record f kept r
   record_alike kept r =
       let names : names_of g r ≡ names_of f r =
-      ap (λ (p : ℤ → Bool). elim (own_of r) as (λ _. List ℤ) [ Some own ↦ filter p (filter_map number_of (second_group own r.1).pointers) | None ↦ [] ]) names_alike in
+      ap (λ (p : ℤ → Bool). elim (own_of r) as (λ _. List ℤ) [ Some own ↦ filter p (filter_map number_of (second_group own r.1).pointers) | None ↦ [] ])
+      names_alike in
       ap (λ (zs : List ℤ).
       let q : Record = (
         new_entry kept r.0,
-        elim (own_of r) as (λ _. List Value) [ Some own ↦ map (λ (v : ℕ × Value). new_value kept own v.0 v.1) (enumerate_from 1 (take own.count r.1)) | None ↦ [] ] ++ names_behind (new_numbers kept zs),
+        elim (own_of r) as (λ _. List Value)
+            [ Some own ↦ map (λ (v : ℕ × Value). new_value kept own v.0 v.1) (enumerate_from 1 (take own.count r.1)) | None ↦ [] ]
+            ++ names_behind (new_numbers kept zs),
       ) in q) names
 
   pub records_alike : (kept : List ℕ) (rs : List Record) → map (new_record g kept) rs ≡ map (new_record f kept) rs
@@ -109,13 +115,15 @@ module _ (f g : Contents) (m : ℕ) (r : Record) (at : named f (pos m) ≡ Some 
       (ap (λ (es : List Record). slice_get es (n / 2)) entries_are ∙ get_later f.entries (m / 2) (n / 2) (r.0, []) further)
 
   -- what the values become of which the entry is rid
-  pub taken_values : (kept : List ℕ) (own : Own) (names : Between) (taken values : List Value) → r.1 ≡ taken → HasShape r own names → values ≡ values_by (is_name g) kept own names taken → values ≡ new_values f kept r
+  pub taken_values : (kept : List ℕ) (own : Own) (names : Between) (taken values : List Value) → r.1 ≡ taken → HasShape r own names
+      → values ≡ values_by (is_name g) kept own names taken → values ≡ new_values f kept r
   taken_values kept own names taken values et shape ev =
       ev ∙ (ap (λ (p : ℤ → Bool). values_by p kept own names taken) (names_alike f g same_heads)
       ∙ (ap (values_by (is_name f) kept own names) (sym et) ∙ values_are f kept r own names shape))
 
 -- the one record of an entry that is put
-pub put_is : (f : Contents) (kept : List ℕ) (m : ℕ) (r : Record) (entry : Entry) (values : List Value) → named f (pos m) ≡ Some r → entry ≡ new_entry kept r.0 → values ≡ new_values f kept r → map (new_record f kept) (records_of f (m ∷ [])) ≡ (entry, values) ∷ []
+pub put_is : (f : Contents) (kept : List ℕ) (m : ℕ) (r : Record) (entry : Entry) (values : List Value) → named f (pos m) ≡ Some r → entry ≡ new_entry kept r.0
+    → values ≡ new_values f kept r → map (new_record f kept) (records_of f (m ∷ [])) ≡ (entry, values) ∷ []
 put_is f kept m r entry values at ee ev =
     ap (λ (o : Option Record). map (new_record f kept) (cons_option o [])) at ∙ (λ j. let q : Record = (sym ee j, sym ev j) in q ∷ [])
 
@@ -147,12 +155,14 @@ module _ (f g : Contents) (ms : List ℕ) (i m : ℕ) (at : slice_get ms i ≡ S
   left_records : records_of g (m ∷ []) ≡ records_of f (m ∷ [])
   left_records = ap (λ (o : Option Record). cons_option o []) left_named
 
-  pub left_room : (kept : List ℕ) (es : List Record) → es ≡ map (new_record f kept) (records_of f (take i ms)) → value_count (records_of f ms) ≤ 164000000 → value_count es + value_count (records_of g (m ∷ [])) ≤ 164000000
+  pub left_room : (kept : List ℕ) (es : List Record) → es ≡ map (new_record f kept) (records_of f (take i ms)) → value_count (records_of f ms) ≤ 164000000
+      → value_count es + value_count (records_of g (m ∷ [])) ≤ 164000000
   left_room kept es e few =
       let room : value_count es + value_count (records_of f (m ∷ [])) ≤ 164000000 = next_room f kept ms i m es at e few in
       omega (arith, room, ap value_count left_records)
 
-  pub left_entries : (kept : List ℕ) (es new : List Record) → es ≡ map (new_record f kept) (records_of f (take i ms)) → new ≡ es ++ map (new_record g kept) (records_of g (m ∷ []))
+  pub left_entries : (kept : List ℕ) (es new : List Record) → es ≡ map (new_record f kept) (records_of f (take i ms))
+      → new ≡ es ++ map (new_record g kept) (records_of g (m ∷ []))
       → new ≡ map (new_record f kept) (records_of f (take (i + 1) ms))
   left_entries kept es new e en =
       let put : map (new_record g kept) (records_of g (m ∷ [])) ≡ map (new_record f kept) (records_of f (m ∷ [])) =
@@ -177,8 +187,10 @@ module _ (f g : Contents) (ms : List ℕ) (i m : ℕ) (at : slice_get ms i ≡ S
           }
 
 -- the front of what is left, and all kept entries
-pub whole : (f g old new : Contents) (kept ms : List ℕ) (i : ℕ) → new ≡ record old { start = g.start; global = g.global } → IsLeft f g (drop i ms) → old.entries ≡ map (new_record f kept) (records_of f (take i ms)) → length ms ≤ i
+pub whole : (f g old new : Contents) (kept ms : List ℕ) (i : ℕ) → new ≡ record old { start = g.start; global = g.global } → IsLeft f g (drop i ms)
+    → old.entries ≡ map (new_record f kept) (records_of f (take i ms)) → length ms ≤ i
     → new ≡ record f { entries = map (new_record f kept) (records_of f ms) }
 whole f g old new kept ms i e h inv past =
-    let entries : old.entries ≡ map (new_record f kept) (records_of f ms) = inv ∙ ap (λ (xs : List ℕ). map (new_record f kept) (records_of f xs)) (take_all i ms past) in
+    let entries : old.entries ≡ map (new_record f kept) (records_of f ms) = inv ∙ ap (λ (xs : List ℕ). map (new_record f kept) (records_of f xs))
+    (take_all i ms past) in
     e ∙ (λ j. record { start = h.start j; global = h.global j; entries = entries j })

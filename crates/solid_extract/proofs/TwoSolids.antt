@@ -9,7 +9,8 @@ use Rattle.iges_params.specs.Named.{named}
 use Rattle.entry_references.specs.declared.fault.ExtractReason.TheVariants.{Unlisted, Layout, Dangling}
 use Rattle.entry_references.specs.Refs.{Record, refs, entry_fault}
 use Rattle.entry_references.proofs.RisingLists.{In, in_from, rises_by_test}
-use Rattle.solid_extract.specs.Extracted.{is_solid, new_record, Reaches, here, further, IsExtracted}
+use Rattle.iges_params.specs.Solids.{is_solid}
+use Rattle.solid_extract.specs.Extracted.{new_record, Reaches, here, further, IsExtracted}
 use Rattle.std.proofs.lemmas.List.Elements.{All-from_recursion}
 use Rattle.solid_extract.proofs.One.{Reaches-kept}
 
@@ -58,7 +59,8 @@ two_solids = record {
       plain 114 0 (ints (1 ∷ 2 ∷ [])) ∷
       plain 406 15 (value.Int (pos 1) ∷ value.Text (codes "BALL") ∷ []) ∷
       plain 314 0 (reals (codes "100." ∷ codes "0." ∷ codes "0." ∷ []) ++ value.Text (codes "red") ∷ []) ∷
-      plain 124 0 (reals (codes "1." ∷ codes "0." ∷ codes "0." ∷ codes "0." ∷ codes "0." ∷ codes "1." ∷ codes "0." ∷ codes "0." ∷ codes "0." ∷ codes "0." ∷ codes "1." ∷ codes "0." ∷ [])) ∷
+      plain 124 0 (reals (codes "1." ∷ codes "0." ∷ codes "0." ∷ codes "0." ∷ codes "0." ∷ codes "1." ∷ codes "0." ∷ codes "0." ∷ codes "0." ∷ codes "0."
+      ∷ codes "1." ∷ codes "0." ∷ [])) ∷
       plain 116 0 (reals (codes "0." ∷ codes "0." ∷ codes "0." ∷ []) ++ value.Int (pos 0) ∷ []) ∷ [];
 }
 
@@ -92,7 +94,8 @@ kept = 11 ∷ 13 ∷ 15 ∷ 17 ∷ 19 ∷ 21 ∷ 25 ∷ 27 ∷ 29 ∷ 31 ∷ []
 new_ball : new_record two_solids kept ball ≡ (entry 186 0 (pos 17) (negsuc 14), ints (3 ∷ 1 ∷ 0 ∷ 0 ∷ 1 ∷ 13 ∷ []))
 new_ball = refl
 
-new_sphere : new_record two_solids kept (plain 196 0 (value.Int (pos 31) ∷ value.Real (codes "1.") ∷ [])) ≡ plain 196 0 (value.Int (pos 19) ∷ value.Real (codes "1.") ∷ [])
+new_sphere : new_record two_solids kept (plain 196 0 (value.Int (pos 31) ∷ value.Real (codes "1.") ∷ []))
+    ≡ plain 196 0 (value.Int (pos 19) ∷ value.Real (codes "1.") ∷ [])
 new_sphere = refl
 
 -- ---- the whole of what is extracted
@@ -107,7 +110,8 @@ rows =
     plain 502 1 (value.Int (pos 1) ∷ reals (codes "0." ∷ codes "0." ∷ codes "2." ∷ [])) ∷
     plain 406 15 (value.Int (pos 1) ∷ value.Text (codes "BALL") ∷ []) ∷
     plain 314 0 (reals (codes "100." ∷ codes "0." ∷ codes "0." ∷ []) ++ value.Text (codes "red") ∷ []) ∷
-    plain 124 0 (reals (codes "1." ∷ codes "0." ∷ codes "0." ∷ codes "0." ∷ codes "0." ∷ codes "1." ∷ codes "0." ∷ codes "0." ∷ codes "0." ∷ codes "0." ∷ codes "1." ∷ codes "0." ∷ [])) ∷
+    plain 124 0 (reals (codes "1." ∷ codes "0." ∷ codes "0." ∷ codes "0." ∷ codes "0." ∷ codes "1." ∷ codes "0." ∷ codes "0." ∷ codes "0." ∷ codes "0."
+    ∷ codes "1." ∷ codes "0." ∷ [])) ∷
     plain 116 0 (reals (codes "0." ∷ codes "0." ∷ codes "0." ∷ []) ++ value.Int (pos 0) ∷ []) ∷ []
 
 -- the entries of the extracted file, as the worked example lists them
@@ -124,7 +128,8 @@ ball_file = record {
       plain 502 1 (value.Int (pos 1) ∷ reals (codes "0." ∷ codes "0." ∷ codes "2." ∷ [])) ∷
       plain 406 15 (value.Int (pos 1) ∷ value.Text (codes "BALL") ∷ []) ∷
       plain 314 0 (reals (codes "100." ∷ codes "0." ∷ codes "0." ∷ []) ++ value.Text (codes "red") ∷ []) ∷
-      plain 124 0 (reals (codes "1." ∷ codes "0." ∷ codes "0." ∷ codes "0." ∷ codes "0." ∷ codes "1." ∷ codes "0." ∷ codes "0." ∷ codes "0." ∷ codes "0." ∷ codes "1." ∷ codes "0." ∷ [])) ∷
+      plain 124 0 (reals (codes "1." ∷ codes "0." ∷ codes "0." ∷ codes "0." ∷ codes "0." ∷ codes "1." ∷ codes "0." ∷ codes "0." ∷ codes "0." ∷ codes "0."
+      ∷ codes "1." ∷ codes "0." ∷ [])) ∷
       plain 116 0 (reals (codes "0." ∷ codes "0." ∷ codes "0." ∷ []) ++ value.Int (pos 0) ∷ []) ∷ [];
 }
 
@@ -155,7 +160,8 @@ reached_each m (inr (inr (inr (inr (inr (inr (inl e))))))) = subst From e (to_ba
 reached_each m (inr (inr (inr (inr (inr (inr (inr (inl e)))))))) = subst From e (to_ball 2 27 (lit< tt) refl)
 reached_each m (inr (inr (inr (inr (inr (inr (inr (inr (inl e))))))))) = subst From e (to_ball 1 29 (lit< tt) refl)
 reached_each m (inr (inr (inr (inr (inr (inr (inr (inr (inr (inl e)))))))))) =
-    subst From e (further (to_face 0 15 (lit< tt) refl) (plain 196 0 (value.Int (pos 31) ∷ value.Real (codes "1.") ∷ []), pos 31 ∷ [], refl, refl, (0, lit< tt, refl)))
+    subst From e (further (to_face 0 15 (lit< tt) refl)
+    (plain 196 0 (value.Int (pos 31) ∷ value.Real (codes "1.") ∷ []), pos 31 ∷ [], refl, refl, (0, lit< tt, refl)))
 reached_each m (inr (inr (inr (inr (inr (inr (inr (inr (inr (inr h)))))))))) = absurd h
 
 pub extracted : IsExtracted two_solids 11 ball_file

@@ -4,7 +4,8 @@ use Rattle.iges_params.specs.Contents.{Contents}
 use Rattle.iges_params.specs.Named.{named, values_of}
 use Rattle.brep_lists.specs.Record.{LoopTuple, Items, kind_of_type, items_of, Fits, IsRecordOf}
 use Rattle.brep_lists.specs.declared.entity_kind.EntityKind.{EntityKind}
-use Rattle.brep_lists.specs.declared.entity_kind.EntityKind.TheVariants.{Solid as solid, Shell as shell, Face as face, Loop as «loop», EdgeList as edges, VertexList as vertices}
+use Rattle.brep_lists.specs.declared.entity_kind.EntityKind.TheVariants.{Solid as solid, Shell as shell, Face as face, Loop as «loop», EdgeList as edges}
+use Rattle.brep_lists.specs.declared.entity_kind.EntityKind.TheVariants.{VertexList as vertices}
 use Rattle.brep_lists.specs.declared.edge_list.EdgeTuple.{EdgeTuple}
 use Rattle.entry_references.specs.Refs.{Record}
 use Rattle.solid_extract.specs.Extracted.{renamed, new_values, new_number, new_record, IsExtracted}
@@ -42,6 +43,7 @@ KeptAreNamed = (f new : Contents) (n : ℕ) (x : IsExtracted f n new) (m : ℕ) 
 
 -- Where it is of one of the six kinds, it has the same items, with each pointer renamed.
 abbrev pub ItemsAreKept : Type 0
-ItemsAreKept = (f new : Contents) (n : ℕ) (x : IsExtracted f n new) (m : ℕ) (r : Record) (kind : EntityKind) → Contains x.kept m → named f (pos m) ≡ Some r → kind_of_type r.0.kind ≡ Some kind
+ItemsAreKept = (f new : Contents) (n : ℕ) (x : IsExtracted f n new) (m : ℕ) (r : Record) (kind : EntityKind) → Contains x.kept m → named f (pos m) ≡ Some r
+    → kind_of_type r.0.kind ≡ Some kind
     → IsRecordOf kind r.1 × IsRecordOf kind (values_of new (pos (new_number x.kept m)))
     × (items_of kind (values_of new (pos (new_number x.kept m))) ≡ renamed_items (renamed x.kept) kind (items_of kind r.1))

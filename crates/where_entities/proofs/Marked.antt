@@ -15,7 +15,8 @@ taken_or_not false x xs = refl
 abbrev chosen : Contents → List EntryNo → List EntryNo → List EntryNo
 chosen f numbers ns = filter (is_described f numbers) ns
 
-pub described_more : (f : Contents) (numbers : List EntryNo) (count i : ℕ) (n : EntryNo) (b : Bool) (old new all : List EntryNo) → i < count → n ≡ number_at i → b ≡ is_among numbers (number_at i)
+pub described_more : (f : Contents) (numbers : List EntryNo) (count i : ℕ) (n : EntryNo) (b : Bool) (old new all : List EntryNo) → i < count → n ≡ number_at i
+    → b ≡ is_among numbers (number_at i)
     → new ≡ old ++ filter (λ (m : EntryNo). b && names_entry f (pos m.0)) (n ∷ [])
     → old ++ filter (is_described f numbers) (map number_at (numbers_from i (count - i))) ≡ all
     → new ++ filter (is_described f numbers) (map number_at (numbers_from (i + 1) (count - (i + 1)))) ≡ all
@@ -24,7 +25,8 @@ described_more f numbers count i n b old new all lt is marked e h =
     let rest : List EntryNo = map number_at (numbers_from (i + 1) (count - (i + 1))) in
     let here : List EntryNo = chosen f numbers (number_at i ∷ []) in
     let split : chosen f numbers (map number_at (numbers_from i (count - i))) ≡ here ++ chosen f numbers rest =
-    ap (λ m. chosen f numbers (map number_at (numbers_from i m))) more ∙ taken_or_not (is_described f numbers (number_at i)) (number_at i) (chosen f numbers rest) in
+    ap (λ m. chosen f numbers (map number_at (numbers_from i m))) more ∙ taken_or_not (is_described f numbers (number_at i)) (number_at i)
+    (chosen f numbers rest) in
     let put : new ≡ old ++ here =
     e ∙ (ap (λ (m : EntryNo). old ++ filter (λ (m : EntryNo). b && names_entry f (pos m.0)) (m ∷ [])) is
     ∙ ap (λ t. old ++ (if t && names_entry f (pos (number_at i).0) then number_at i ∷ [] else [])) marked) in

@@ -40,12 +40,15 @@ pub no_group : (f : Contents) (r : Record) → is_of_solids r.0.kind ≡ true �
 unfolding entity_names
 no_group f r e h = ap (λ t. if t && has_layout r then names_of f r else []) e ∙ ap (λ t. if t then names_of f r else []) h
 
-pub names_given : (f : Contents) (r : Record) (g : Group) → is_of_solids r.0.kind ≡ true → IsNamesGroup r g → filter (is_name f) (filter_map number_of (take g.count (drop g.before r.1))) ≡ entity_names f r
+pub names_given : (f : Contents) (r : Record) (g : Group) → is_of_solids r.0.kind ≡ true → IsNamesGroup r g
+    → filter (is_name f) (filter_map number_of (take g.count (drop g.before r.1))) ≡ entity_names f r
 unfolding entity_names
 names_given f r g e h =
-    let all : (if is_of_solids r.0.kind && has_layout r then names_of f r else []) ≡ names_of f r = cond-true (is_of_solids r.0.kind && has_layout r) (names_of f r) [] (and_from (is_of_solids r.0.kind) (has_layout r) e h.fits) in
+    let all : (if is_of_solids r.0.kind && has_layout r then names_of f r else []) ≡ names_of f r =
+    cond-true (is_of_solids r.0.kind && has_layout r) (names_of f r) [] (and_from (is_of_solids r.0.kind) (has_layout r) e h.fits) in
     sym (all ∙ (ap (names_by f r) h.own_values ∙ ap (λ x. filter (is_name f) (filter_map number_of x.pointers)) h.second))
 
 pub names_put : (f : Contents) (r : Record) (g : Group) (start new : List ℤ) → is_of_solids r.0.kind ≡ true → IsNamesGroup r g → start ≡ []
     → new ≡ start ++ filter (is_name f) (filter_map number_of (take g.count (drop g.before r.1))) → new ≡ entity_names f r
-names_put f r g start new e h none put = put ∙ (ap (λ ns. ns ++ filter (is_name f) (filter_map number_of (take g.count (drop g.before r.1)))) none ∙ names_given f r g e h)
+names_put f r g start new e h none put =
+    put ∙ (ap (λ ns. ns ++ filter (is_name f) (filter_map number_of (take g.count (drop g.before r.1)))) none ∙ names_given f r g e h)

@@ -32,17 +32,20 @@ pub counted_none : (s : SolidData) → Counted s 0 0
 unfolding unset_flags
 counted_none s = omega arith
 
-counted_split : (s : SolidData) (k : ℕ) (h : Shell) → slice_get s.shells k ≡ Some h → count_by is_unset (faces_of (drop k s.shells)) ≡ count_by is_unset h.faces + count_by is_unset (faces_of (drop (k + 1) s.shells))
+counted_split : (s : SolidData) (k : ℕ) (h : Shell) → slice_get s.shells k ≡ Some h → count_by is_unset (faces_of (drop k s.shells))
+    ≡ count_by is_unset h.faces + count_by is_unset (faces_of (drop (k + 1) s.shells))
 counted_split s k h at = ap (λ hs. count_by is_unset (faces_of hs)) (split_at s.shells k h at) ∙ count_apart h.faces (faces_of (drop (k + 1) s.shells))
 
-pub counted_more : (s : SolidData) (k : ℕ) (h : Shell) (count u : ℕ) → slice_get s.shells k ≡ Some h → u ≡ count_by is_unset h.faces → Counted s k count → Counted s (k + 1) (count + u)
+pub counted_more : (s : SolidData) (k : ℕ) (h : Shell) (count u : ℕ) → slice_get s.shells k ≡ Some h → u ≡ count_by is_unset h.faces → Counted s k count
+    → Counted s (k + 1) (count + u)
 counted_more s k h count u at is sum = omega (arith, is, sum, counted_split s k h at)
 
 pub unset_few : (s : SolidData) → IsNumberedSolid s → unset_flags s < 2 ^ 29
 unfolding unset_flags
 unset_few s numbered = let few = numbered.few_faces in omega (arith, few, count_by-le-length is_unset (faces_of s.shells))
 
-pub counted_few : (s : SolidData) (k : ℕ) (h : Shell) (count u : ℕ) → IsNumberedSolid s → slice_get s.shells k ≡ Some h → u ≡ count_by is_unset h.faces → Counted s k count → count + u < 2 ^ 29
+pub counted_few : (s : SolidData) (k : ℕ) (h : Shell) (count u : ℕ) → IsNumberedSolid s → slice_get s.shells k ≡ Some h → u ≡ count_by is_unset h.faces
+    → Counted s k count → count + u < 2 ^ 29
 counted_few s k h count u numbered at is sum = let few = unset_few s numbered in omega (arith, is, sum, few, counted_split s k h at)
 
 pub counted_all : (s : SolidData) (k count : ℕ) → length s.shells ≤ k → Counted s k count → count ≡ unset_flags s

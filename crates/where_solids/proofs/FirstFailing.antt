@@ -44,7 +44,8 @@ faces_counted : (s : SolidData) (h : Shell) → (shell_rows s h).face_count ≡ 
 unfolding shell_rows
 faces_counted s h = refl
 
-linked : (s : SolidData) (d : ShellRows) (gaps : _) (unpaired : _) (o : Option Linking) → AreLinkings d gaps unpaired o → gaps ≡ [] → unpaired ≡ [] → failing_vertices s o ≡ [] → AreLinked o
+linked : (s : SolidData) (d : ShellRows) (gaps : _) (unpaired : _) (o : Option Linking) → AreLinkings d gaps unpaired o → gaps ≡ [] → unpaired ≡ []
+    → failing_vertices s o ≡ [] → AreLinked o
 linked s d gaps unpaired None h a b e = absurd (h (a, b))
 linked s d gaps unpaired (Some l) h a b e = map_none (unlinked_failing s) l.unlinked e
 
@@ -69,7 +70,8 @@ faultless s k h x faults e =
     }
 
 -- what is found of a shell is the first of its obligations that is false
-pub first_false : (s : SolidData) (k : ℕ) (h : Shell) (x : Faults) (o : Option Failing) → IsNumberedSolid s → slice_get s.shells k ≡ Some h → AreFaults s k h x → Firsts (failing_of s h x) o
+pub first_false : (s : SolidData) (k : ℕ) (h : Shell) (x : Faults) (o : Option Failing) → IsNumberedSolid s → slice_get s.shells k ≡ Some h → AreFaults s k h x
+    → Firsts (failing_of s h x) o
     → MatchOption o (AllHold (shell_obligations s (k, h))) (FirstFalse (shell_obligations s (k, h)))
 first_false s k h x None numbered at faults e = faultless_holds s k h x numbered (has_get s.shells k h at) faults (faultless s k h x faults e)
 first_false s k h x (Some y) numbered at faults e = first_named s k h x numbered (has_get s.shells k h at) faults y e.0 e.1
@@ -90,8 +92,10 @@ pub first_item : {A B : Type 0} (f : A → B) (xs : List A) (d : A) (y : B) → 
 first_item f [] d y some is = absurd (omega (arith, some))
 first_item f (x ∷ xs) d y some is = (map f xs, ap (λ z. z ∷ map f xs) (sym is))
 
-pub first_unlinked : (s : SolidData) (l : Linking) (us : List Unlinked) (d : Unlinked) (y : Failing) → us ≡ l.unlinked → 1 ≤ length us → y ≡ unlinked_failing s (get_or us 0 d) → (ys : List Failing) × (failing_vertices s (Some l) ≡ y ∷ ys)
-first_unlinked s l us d y same some is = subst (λ vs. (ys : List Failing) × (map (unlinked_failing s) vs ≡ y ∷ ys)) same (first_item (unlinked_failing s) us d y some is)
+pub first_unlinked : (s : SolidData) (l : Linking) (us : List Unlinked) (d : Unlinked) (y : Failing) → us ≡ l.unlinked → 1 ≤ length us
+    → y ≡ unlinked_failing s (get_or us 0 d) → (ys : List Failing) × (failing_vertices s (Some l) ≡ y ∷ ys)
+first_unlinked s l us d y same some is = subst (λ vs. (ys : List Failing) × (map (unlinked_failing s) vs ≡ y ∷ ys)) same
+    (first_item (unlinked_failing s) us d y some is)
 
 apart_split : (fs : List FaceUse) (ps : List ℕ) (i : ℕ) (d : FaceUse) → i < length fs → i < length ps
     → failing_faces (drop i fs) (drop i ps) ≡ failing_faces (get_or fs i d ∷ drop (i + 1) fs) (get_or ps i 0 ∷ drop (i + 1) ps)
@@ -101,23 +105,32 @@ apart_split fs ps i d in_fs in_ps =
     let firsts : drop i ps ≡ get_or ps i 0 ∷ drop (i + 1) ps = drop-cons ps i 0 in_ps ∙ ap (λ n. get_or ps i 0 ∷ drop n ps) more in
     ap (λ xs. failing_faces xs (drop i ps)) faces ∙ ap (failing_faces (get_or fs i d ∷ drop (i + 1) fs)) firsts
 
-pub apart_here : (fs : List FaceUse) (ps : List ℕ) (i : ℕ) (d : FaceUse) → i < length fs → i < length ps → (get_or ps i 0 ≡ 0 → ⊥) → failing_faces (drop i fs) (drop i ps) ≡ failing_faces fs ps
+pub apart_here : (fs : List FaceUse) (ps : List ℕ) (i : ℕ) (d : FaceUse) → i < length fs → i < length ps → (get_or ps i 0 ≡ 0 → ⊥)
+    → failing_faces (drop i fs) (drop i ps) ≡ failing_faces fs ps
     → (ys : List Failing) × (failing_faces fs ps ≡ record { rule = Unreached; entity = (get_or fs i d).entity; place = 0 } ∷ ys)
 apart_here fs ps i d in_fs in_ps some all = by_first (get_or ps i 0) refl
   where
-    by_first : (p : ℕ) → get_or ps i 0 ≡ p → (ys : List Failing) × (failing_faces fs ps ≡ record { rule = Unreached; entity = (get_or fs i d).entity; place = 0 } ∷ ys)
+    by_first : (p : ℕ) → get_or ps i 0 ≡ p
+        → (ys : List Failing) × (failing_faces fs ps ≡ record { rule = Unreached; entity = (get_or fs i d).entity; place = 0 } ∷ ys)
     by_first zero e = absurd (some e)
-    by_first (suc p) e = (failing_faces (drop (i + 1) fs) (drop (i + 1) ps), sym all ∙ (apart_split fs ps i d in_fs in_ps ∙ ap (λ n. failing_faces (get_or fs i d ∷ drop (i + 1) fs) (n ∷ drop (i + 1) ps)) e))
+    by_first (suc p) e = (
+      failing_faces (drop (i + 1) fs) (drop (i + 1) ps),
+      sym all
+          ∙ (apart_split fs ps i d in_fs in_ps ∙ ap (λ n. failing_faces (get_or fs i d ∷ drop (i + 1) fs) (n ∷ drop (i + 1) ps)) e),
+    )
 
-pub apart_next : (fs : List FaceUse) (ps : List ℕ) (i : ℕ) (d : FaceUse) → i < length fs → i < length ps → get_or ps i 0 ≡ 0 → failing_faces (drop i fs) (drop i ps) ≡ failing_faces fs ps
+pub apart_next : (fs : List FaceUse) (ps : List ℕ) (i : ℕ) (d : FaceUse) → i < length fs → i < length ps → get_or ps i 0 ≡ 0
+    → failing_faces (drop i fs) (drop i ps) ≡ failing_faces fs ps
     → failing_faces (drop (i + 1) fs) (drop (i + 1) ps) ≡ failing_faces fs ps
-apart_next fs ps i d in_fs in_ps none all = ap (λ n. failing_faces (get_or fs i d ∷ drop (i + 1) fs) (n ∷ drop (i + 1) ps)) (sym none) ∙ (sym (apart_split fs ps i d in_fs in_ps) ∙ all)
+apart_next fs ps i d in_fs in_ps none all = ap (λ n. failing_faces (get_or fs i d ∷ drop (i + 1) fs) (n ∷ drop (i + 1) ps)) (sym none)
+    ∙ (sym (apart_split fs ps i d in_fs in_ps) ∙ all)
 
 none_left : (fs : List FaceUse) → failing_faces fs [] ≡ []
 none_left [] = refl
 none_left (f ∷ fs) = refl
 
-pub apart_done : (fs : List FaceUse) (ps : List ℕ) (i : ℕ) (all : List Failing) → (length fs ≤ i) ⊎ (length ps ≤ i) → failing_faces (drop i fs) (drop i ps) ≡ all → all ≡ []
+pub apart_done : (fs : List FaceUse) (ps : List ℕ) (i : ℕ) (all : List Failing) → (length fs ≤ i) ⊎ (length ps ≤ i)
+    → failing_faces (drop i fs) (drop i ps) ≡ all → all ≡ []
 apart_done fs ps i all (inl past) e = sym e ∙ ap (λ xs. failing_faces xs (drop i ps)) (drop_all i fs past)
 apart_done fs ps i all (inr past) e = sym e ∙ (ap (failing_faces (drop i fs)) (drop_all i ps past) ∙ none_left (drop i fs))
 
@@ -143,7 +156,8 @@ module _ (s : SolidData) (h : Shell) (x : Faults) (y : Failing) where
       let t = failing_vertices s x.linking in
       first_here (p ++ q ++ r ++ t) (map (shared_failing s) x.shared) y (first_here (p ++ q ++ r) t y (first_here (p ++ q) r y (first_here p q y b)))
 
-  pub pair_first : map gap_failing x.gaps ≡ [] → (ys : List Failing) × (map (unpaired_failing s) x.unpaired ≡ y ∷ ys) → (ys : List Failing) × (failing_of s h x ≡ y ∷ ys)
+  pub pair_first : map gap_failing x.gaps ≡ [] → (ys : List Failing) × (map (unpaired_failing s) x.unpaired ≡ y ∷ ys)
+      → (ys : List Failing) × (failing_of s h x ≡ y ∷ ys)
   pair_first none b =
       let p = map gap_failing x.gaps in
       let q = map (unpaired_failing s) x.unpaired in
@@ -151,7 +165,8 @@ module _ (s : SolidData) (h : Shell) (x : Faults) (y : Failing) where
       let t = failing_vertices s x.linking in
       first_here (p ++ q ++ r ++ t) (map (shared_failing s) x.shared) y (first_here (p ++ q ++ r) t y (first_here (p ++ q) r y (behind p q y none b)))
 
-  pub face_first : map gap_failing x.gaps ≡ [] → map (unpaired_failing s) x.unpaired ≡ [] → (ys : List Failing) × (failing_faces h.faces x.firsts ≡ y ∷ ys) → (ys : List Failing) × (failing_of s h x ≡ y ∷ ys)
+  pub face_first : map gap_failing x.gaps ≡ [] → map (unpaired_failing s) x.unpaired ≡ [] → (ys : List Failing) × (failing_faces h.faces x.firsts ≡ y ∷ ys)
+      → (ys : List Failing) × (failing_of s h x ≡ y ∷ ys)
   face_first none no_pair b =
       let p = map gap_failing x.gaps in
       let q = map (unpaired_failing s) x.unpaired in
@@ -159,7 +174,8 @@ module _ (s : SolidData) (h : Shell) (x : Faults) (y : Failing) where
       let t = failing_vertices s x.linking in
       first_here (p ++ q ++ r ++ t) (map (shared_failing s) x.shared) y (first_here (p ++ q ++ r) t y (behind (p ++ q) r y (both_none p q none no_pair) b))
 
-  pub vertex_first : map gap_failing x.gaps ≡ [] → map (unpaired_failing s) x.unpaired ≡ [] → failing_faces h.faces x.firsts ≡ [] → (ys : List Failing) × (failing_vertices s x.linking ≡ y ∷ ys)
+  pub vertex_first : map gap_failing x.gaps ≡ [] → map (unpaired_failing s) x.unpaired ≡ [] → failing_faces h.faces x.firsts ≡ []
+      → (ys : List Failing) × (failing_vertices s x.linking ≡ y ∷ ys)
       → (ys : List Failing) × (failing_of s h x ≡ y ∷ ys)
   vertex_first none no_pair no_face b =
       let p = map gap_failing x.gaps in

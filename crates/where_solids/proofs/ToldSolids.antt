@@ -1,5 +1,6 @@
 -- What is told of a solid, put together.
-use Rattle.std.specs.Prelude.{◌≡◌, ◌↔◌, ◌<◌, ℕ, ◌-◌, Bool, true, false, ◌&&◌, ◌==◌, nat_lt, IsTrue, List, [], ◌∷◌, ◌++◌, Option, length, flat_map, zip, count_by, codes}
+use Rattle.std.specs.Prelude.{◌≡◌, ◌↔◌, ◌<◌, ℕ, ◌-◌, Bool, true, false, ◌&&◌, ◌==◌, nat_lt, IsTrue, List, [], ◌∷◌, ◌++◌, Option, length, flat_map, zip}
+use Rattle.std.specs.Prelude.{count_by, codes}
 use Rattle.std.proofs.lemmas.List.{append-nil}
 use Rattle.std.proofs.Common.{refl, sym, ap, ◌∙◌, subst, inl, inr, append_assoc, arith}
 use Rattle.iges_base.specs.declared.entry_no.EntryNo.{EntryNo}
@@ -37,14 +38,17 @@ unfolding obligations
 fails_on f n x first = FirstFalse-append_front (places f n) (solid_obligations (solid_of f n)) x first
 
 -- and where none does
-pub judged_on : (f : Contents) (n : ℕ) (s : SolidData) (v : Verdict) → s ≡ solid_of f n → AllHold (places f n) → IsVerdict (solid_obligations s) v → IsVerdictOn f n v
+pub judged_on : (f : Contents) (n : ℕ) (s : SolidData) (v : Verdict) → s ≡ solid_of f n → AllHold (places f n) → IsVerdict (solid_obligations s) v
+    → IsVerdictOn f n v
 unfolding obligations
-judged_on f n s v is placed judged = verdict_rest (places f n) (solid_obligations (solid_of f n)) v placed (subst (λ s. IsVerdict (solid_obligations s) v) is judged)
+judged_on f n s v is placed judged = verdict_rest (places f n) (solid_obligations (solid_of f n)) v placed
+    (subst (λ s. IsVerdict (solid_obligations s) v) is judged)
 
 whole : (start line text head rest : List ℕ) → start ≡ [] → line ≡ start ++ head → text ≡ line ++ rest → text ≡ head ++ rest
 whole start line text head rest none first last = last ∙ (ap (λ xs. xs ++ rest) first ∙ ap (λ xs. xs ++ head ++ rest) none)
 
-pub told_records : (listing : Listing) (f : Contents) (n : EntryNo) (x : Failing) (path : Option Path) (start line text : List ℕ) → FirstFalse (places f n.0) x → IsPathTo x (sited f n.0) path
+pub told_records : (listing : Listing) (f : Contents) (n : EntryNo) (x : Failing) (path : Option Path) (start line text : List ℕ) → FirstFalse (places f n.0) x
+    → IsPathTo x (sited f n.0) path
     → start ≡ [] → line ≡ start ++ verdict_line n.0 (Fails x) → text ≡ line ++ record_rest listing f n x path → IsToldOf listing f n (Fails x) text
 told_records listing f n x path start line text first leads none head last = record {
   judged = fails_on f n.0 x first;
@@ -59,33 +63,48 @@ pub record IsShellsRest (listing : Listing) (f : Contents) (s : SolidData) (xs :
   pub is_hint : IsFlagsHint s (pair_fails xs (shown listing (failing_shells xs))) hint
   pub rest_is : rest ≡ shell_lines listing f s xs ++ hint ++ shell_texts listing f s xs
 
-pub told_shells : (listing : Listing) (f : Contents) (n : EntryNo) (s : SolidData) (v : Verdict) (xs : List Faults) (start line text rest : List ℕ) → s ≡ solid_of f n.0 → AllHold (places f n.0)
-    → AreAllFaults s xs → IsVerdict (solid_obligations s) v → IsShellsRest listing f s xs rest → start ≡ [] → line ≡ start ++ verdict_line n.0 v → text ≡ line ++ rest → IsToldOf listing f n v text
+pub told_shells : (listing : Listing) (f : Contents) (n : EntryNo) (s : SolidData) (v : Verdict) (xs : List Faults) (start line text rest : List ℕ)
+    → s ≡ solid_of f n.0 → AllHold (places f n.0)
+    → AreAllFaults s xs → IsVerdict (solid_obligations s) v → IsShellsRest listing f s xs rest → start ≡ [] → line ≡ start ++ verdict_line n.0 v
+    → text ≡ line ++ rest → IsToldOf listing f n v text
 told_shells listing f n s v xs start line text rest is placed all judged told none head last =
     let here : IsShellsRest listing f (solid_of f n.0) xs rest = subst (λ s. IsShellsRest listing f s xs rest) is told in
     record {
       judged = judged_on f n.0 s v is placed judged;
       rest = rest;
-      told = inr (record { placed = placed; faults = xs; all = subst (λ s. AreAllFaults s xs) is all; hint = here.hint; is_hint = here.is_hint; rest_is = here.rest_is });
+      told = inr (record {
+        placed = placed;
+        faults = xs;
+        all = subst (λ s. AreAllFaults s xs) is all;
+        hint = here.hint;
+        is_hint = here.is_hint;
+        rest_is =
+            here.rest_is;
+      });
       text_is = whole start line text (verdict_line n.0 v) rest none head last;
     }
 
-pub lines_are : (listing : Listing) (f : Contents) (s : SolidData) (xs : List Faults) (lines ks : List ℕ) (m j : ℕ) → ks ≡ failing_shells xs → lines ≡ flat_map (line_at s xs) (shown listing ks)
+pub lines_are : (listing : Listing) (f : Contents) (s : SolidData) (xs : List Faults) (lines ks : List ℕ) (m j : ℕ) → ks ≡ failing_shells xs
+    → lines ≡ flat_map (line_at s xs) (shown listing ks)
     → m ≡ length ks → j ≡ length (shown listing ks)
     → units_line f ++ shells_line (length s.shells) m ++ lines ++ left_line [] (m - j) ≡ shell_lines listing f s xs
 unfolding shell_lines
 lines_are listing f s xs lines ks m j is text count few =
     ap (λ ys. units_line f ++ shells_line (length s.shells) m ++ ys ++ left_line [] (m - j)) text
-    ∙ (ap (λ i. units_line f ++ shells_line (length s.shells) m ++ flat_map (line_at s xs) (shown listing ks) ++ left_line [] (m - i)) (few ∙ shown_length listing ks)
-    ∙ (ap (λ i. units_line f ++ shells_line (length s.shells) i ++ flat_map (line_at s xs) (shown listing ks) ++ left_line [] (i - shown_count listing (length ks))) count
-    ∙ ap (λ zs. units_line f ++ shells_line (length s.shells) (length zs) ++ flat_map (line_at s xs) (shown listing zs) ++ left_line [] (length zs - shown_count listing (length zs))) is))
+    ∙ (ap (λ i. units_line f ++ shells_line (length s.shells) m ++ flat_map (line_at s xs) (shown listing ks) ++ left_line [] (m - i))
+    (few ∙ shown_length listing ks)
+    ∙ (ap (λ i. units_line f ++ shells_line (length s.shells) i ++ flat_map (line_at s xs) (shown listing ks)
+    ++ left_line [] (i - shown_count listing (length ks))) count
+    ∙ ap (λ zs. units_line f ++ shells_line (length s.shells) (length zs) ++ flat_map (line_at s xs) (shown listing zs)
+    ++ left_line [] (length zs - shown_count listing (length zs))) is))
 
 -- a text that grew by lines, by a hint and by paragraphs
 pub three_more : (old one two new a b c : List ℕ) → one ≡ old ++ a → two ≡ one ++ b → new ≡ two ++ c → new ≡ old ++ (a ++ b ++ c)
 three_more old one two new a b c e f g = g ∙ (ap (λ xs. xs ++ c) (f ∙ (ap (λ xs. xs ++ b) e ∙ append_assoc old a b)) ∙ append_assoc old (a ++ b) c)
 
 -- no hint on flags
-pub no_flags : (s : SolidData) (unpaired b : Bool) (unset : ℕ) (out : List ℕ) → unset ≡ unset_flags s → b ≡ false → (IsTrue b ↔ (IsTrue unpaired × (0 < unset) × IsClosedFlagged s))
+pub no_flags : (s : SolidData) (unpaired b : Bool) (unset : ℕ) (out : List ℕ) → unset ≡ unset_flags s → b ≡ false
+    → (IsTrue b ↔ (IsTrue unpaired × (0 < unset) × IsClosedFlagged s))
     → (hint : List ℕ) × IsFlagsHint s unpaired hint × (out ≡ out ++ hint)
 no_flags s unpaired b unset out is none told =
     ([], inr ((λ u some closed. let yes : b ≡ true = told.1 (u, subst (λ n. 0 < n) (sym is) some, closed) in absurd cc), refl), sym (append-nil out))
@@ -95,7 +114,8 @@ unfolding overview_start
 start_none [] long = refl
 start_none (v ∷ vs) long = absurd (omega (arith, long))
 
-pub all_told : (f : Contents) (ns listed : List EntryNo) (vs judged : List Verdict) (m n : ℕ) (b : Bool) (text : List ℕ) → ns ≡ solids_of f → listed ≡ ns → AreVerdicts f listed vs → judged ≡ vs → m ≡ length ns
+pub all_told : (f : Contents) (ns listed : List EntryNo) (vs judged : List Verdict) (m n : ℕ) (b : Bool) (text : List ℕ) → ns ≡ solids_of f → listed ≡ ns
+    → AreVerdicts f listed vs → judged ≡ vs → m ≡ length ns
     → n ≡ count_by fails judged → b ≡ (nat_lt 0 m && n == 0) → text ≡ overview_start vs ++ flat_map (solid_paragraph f) (zip ns vs)
     → (ws : List Verdict) × IsOverview f ws text × (b ≡ all_close ws)
 unfolding overview_text
@@ -109,26 +129,34 @@ all_told f ns listed vs judged m n b text solids same verdicts is many failing c
       closed ∙ (ap (λ k. nat_lt 0 k && n == 0) each ∙ ap (λ k. nat_lt 0 (length vs) && k == 0) (failing ∙ ap (count_by fails) is)),
     )
 
-pub texts_are : (listing : Listing) (f : Contents) (s : SolidData) (xs : List Faults) (paragraphs : List ℕ) (named : List EntryNo) (ks : List ℕ) → ks ≡ failing_shells xs
+pub texts_are : (listing : Listing) (f : Contents) (s : SolidData) (xs : List Faults) (paragraphs : List ℕ) (named : List EntryNo) (ks : List ℕ)
+    → ks ≡ failing_shells xs
     → paragraphs ≡ flat_map (paragraphs_at listing f s xs) (shown listing ks) → named ≡ s.entity ∷ flat_map (named_at listing s xs) (shown listing ks)
     → paragraphs ++ entities_text f named ≡ shell_texts listing f s xs
 unfolding shell_texts
 texts_are listing f s xs paragraphs named ks is text names =
     ap (λ ys. ys ++ entities_text f named) text ∙ (ap (λ ns. flat_map (paragraphs_at listing f s xs) (shown listing ks) ++ entities_text f ns) names
-    ∙ ap (λ zs. flat_map (paragraphs_at listing f s xs) (shown listing zs) ++ entities_text f (s.entity ∷ flat_map (named_at listing s xs) (shown listing zs))) is)
+    ∙ ap (λ zs. flat_map (paragraphs_at listing f s xs) (shown listing zs) ++ entities_text f (s.entity ∷ flat_map (named_at listing s xs) (shown listing zs)))
+    is)
 
 -- what follows the verdict, once the lines, the hint and the paragraphs are written
-pub rest_written : (listing : Listing) (f : Contents) (s : SolidData) (xs : List Faults) (ks seen items bytes lines paragraphs : List ℕ) (named : List EntryNo) (m j : ℕ) (fails : Bool) (old one two new : List ℕ)
-    → ks ≡ failing_shells xs → items ≡ ks → seen ≡ shown listing items → lines ≡ flat_map (line_at s xs) seen → paragraphs ≡ flat_map (paragraphs_at listing f s xs) seen → named ≡ s.entity ∷ flat_map (named_at listing s xs) seen
+pub rest_written : (listing : Listing) (f : Contents) (s : SolidData) (xs : List Faults) (ks seen items bytes lines paragraphs : List ℕ) (named : List EntryNo)
+    (m j : ℕ) (fails : Bool) (old one two new : List ℕ)
+    → ks ≡ failing_shells xs → items ≡ ks → seen ≡ shown listing items → lines ≡ flat_map (line_at s xs) seen
+    → paragraphs ≡ flat_map (paragraphs_at listing f s xs) seen → named ≡ s.entity ∷ flat_map (named_at listing s xs) seen
     → bytes ≡ lines → m ≡ length ks → j ≡ length seen → one ≡ old ++ (units_line f ++ shells_line (length s.shells) m ++ bytes ++ left_line [] (m - j))
     → fails ≡ pair_fails xs seen → (hint : List ℕ) × IsFlagsHint s fails hint × (two ≡ one ++ hint) → new ≡ two ++ (paragraphs ++ entities_text f named)
-    → (hint : List ℕ) × IsFlagsHint s (pair_fails xs (shown listing (failing_shells xs))) hint × (new ≡ old ++ (shell_lines listing f s xs ++ hint ++ shell_texts listing f s xs))
-rest_written listing f s xs ks seen items bytes lines paragraphs named m j fails old one two new is same first text more names here count few head told hint last =
+    → (hint : List ℕ) × IsFlagsHint s (pair_fails xs (shown listing (failing_shells xs))) hint
+    × (new ≡ old ++ (shell_lines listing f s xs ++ hint ++ shell_texts listing f s xs))
+rest_written listing f s xs ks seen items bytes lines paragraphs named m j fails old one two new is same first text more names here count few head told hint
+    last =
     let shells : seen ≡ shown listing ks = first ∙ ap (shown listing) same in
     let all : seen ≡ shown listing (failing_shells xs) = shells ∙ ap (shown listing) is in
     let heads = lines_are listing f s xs bytes ks m j is (here ∙ (text ∙ ap (flat_map (line_at s xs)) shells)) count (few ∙ ap (λ zs. length zs) shells) in
-    let tails = texts_are listing f s xs paragraphs named ks is (more ∙ ap (flat_map (paragraphs_at listing f s xs)) shells) (names ∙ ap (λ zs. s.entity ∷ flat_map (named_at listing s xs) zs) shells) in (
+    let tails = texts_are listing f s xs paragraphs named ks is (more ∙ ap (flat_map (paragraphs_at listing f s xs)) shells)
+    (names ∙ ap (λ zs. s.entity ∷ flat_map (named_at listing s xs) zs) shells) in (
       hint.0,
       subst (λ b. IsFlagsHint s b hint.0) (told ∙ ap (pair_fails xs) all) hint.1,
-      three_more old one two new (shell_lines listing f s xs) hint.0 (shell_texts listing f s xs) (head ∙ ap (λ t. old ++ t) heads) hint.2 (last ∙ ap (λ t. two ++ t) tails),
+      three_more old one two new (shell_lines listing f s xs) hint.0 (shell_texts listing f s xs) (head ∙ ap (λ t. old ++ t) heads) hint.2
+          (last ∙ ap (λ t. two ++ t) tails),
     )

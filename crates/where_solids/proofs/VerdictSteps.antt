@@ -32,9 +32,11 @@ unfolding solid_obligations
 rests_none s v k = k
 
 pub rests_more : (s : SolidData) (i : ℕ) (h : Shell) → slice_get s.shells i ≡ Some h → AllHold (shell_obligations s (i, h)) → Rests s i → Rests s (i + 1)
-rests_more s i h at holds rests v k = rests v (subst (λ os. IsVerdict os v) (sym (split s i h at)) (verdict_rest (shell_obligations s (i, h)) (from_shell s (i + 1)) v holds k))
+rests_more s i h at holds rests v k =
+    rests v (subst (λ os. IsVerdict os v) (sym (split s i h at)) (verdict_rest (shell_obligations s (i, h)) (from_shell s (i + 1)) v holds k))
 
-pub rests_fails : (s : SolidData) (i : ℕ) (h : Shell) (y : Failing) → slice_get s.shells i ≡ Some h → FirstFalse (shell_obligations s (i, h)) y → Rests s i → FirstFalse (solid_obligations s) y
+pub rests_fails : (s : SolidData) (i : ℕ) (h : Shell) (y : Failing) → slice_get s.shells i ≡ Some h → FirstFalse (shell_obligations s (i, h)) y → Rests s i
+    → FirstFalse (solid_obligations s) y
 rests_fails s i h y at first rests =
     rests (Fails y) (subst (λ os. FirstFalse os y) (sym (split s i h at)) (FirstFalse-append_front (shell_obligations s (i, h)) (from_shell s (i + 1)) y first))
 

@@ -1,5 +1,6 @@
 -- The hints, each with its sentence in lines of at most 78 columns.
-use Rattle.std.specs.Prelude.{◌≡◌, ◌⊎◌, ℕ, ◌<◌, Bool, false, not, List, [], ◌∷◌, ◌++◌, flat_map, Option, Some, None, IsTrue, count_by, slice_get, codes, decimal}
+use Rattle.std.specs.Prelude.{◌≡◌, ◌⊎◌, ℕ, ◌<◌, Bool, false, not, List, [], ◌∷◌, ◌++◌, flat_map, Option, Some, None, IsTrue, count_by, slice_get, codes}
+use Rattle.std.specs.Prelude.{decimal}
 use Rattle.std.specs.List.{list_any}
 use Rattle.iges_base.specs.declared.entry_no.EntryNo.{EntryNo}
 use Rattle.iges_base.specs.Word.{is_empty}
@@ -49,4 +50,5 @@ no_solid_hint = codes "hint no-solid\n  This file holds no solid (entity 186); i
 -- the solids of the file, or that there is none
 unfoldable pub solids_hint : Listing → List EntryNo → List ℕ
 solids_hint listing [] = no_solid_hint
-solids_hint listing (n ∷ ns) = codes "hint solids" ++ flat_map (λ (m : EntryNo). space_word (decimal m.0)) (shown listing (n ∷ ns)) ++ codes "\n" ++ solids_sentence
+solids_hint listing (n ∷ ns) = codes "hint solids" ++ flat_map (λ (m : EntryNo). space_word (decimal m.0)) (shown listing (n ∷ ns)) ++ codes "\n"
+    ++ solids_sentence

@@ -28,12 +28,14 @@ linking_named listing s k (Some l) = link_named listing s k l.leasts l.unlinked
 -- the rules that fail in shell k, from 0, each with its items
 unfoldable pub fault_paragraphs : Listing → Contents → SolidData → ℕ → Faults → List ℕ
 fault_paragraphs listing f s k x =
-    join_text listing f s k x.gaps ++ pair_text listing f s k x.unpaired ++ reach_text listing f s k x.firsts x.unpaired ++ linking_text listing f s k x.linking ++ apart_text listing f s k x.shared
+    join_text listing f s k x.gaps ++ pair_text listing f s k x.unpaired ++ reach_text listing f s k x.firsts x.unpaired
+    ++ linking_text listing f s k x.linking ++ apart_text listing f s k x.shared
 
 -- the faces that these name
 unfoldable pub fault_faces : Listing → SolidData → ℕ → Faults → List EntryNo
 fault_faces listing s k x =
-    join_named listing s k x.gaps ++ pair_named listing s k x.unpaired ++ reach_named listing s k x.firsts ++ linking_named listing s k x.linking ++ apart_named listing s k x.shared
+    join_named listing s k x.gaps ++ pair_named listing s k x.unpaired ++ reach_named listing s k x.firsts ++ linking_named listing s k x.linking
+    ++ apart_named listing s k x.shared
 
 abbrev pub shell_paragraphs : Listing → Contents → SolidData → ℕ → Option Shell → Option Faults → List ℕ
 shell_paragraphs listing f s k (Some h) (Some x) = fault_paragraphs listing f s k x
@@ -55,7 +57,8 @@ named_at listing s xs k = shell_named listing s k (slice_get s.shells k) (slice_
 -- the units, how many shells fail, and a line for each of the failing shells that are listed
 unfoldable pub shell_lines : Listing → Contents → SolidData → List Faults → List ℕ
 shell_lines listing f s xs =
-    units_line f ++ shells_line (length s.shells) (length (failing_shells xs)) ++ flat_map (line_at s xs) (shown listing (failing_shells xs)) ++ more_items listing (length (failing_shells xs))
+    units_line f ++ shells_line (length s.shells) (length (failing_shells xs)) ++ flat_map (line_at s xs) (shown listing (failing_shells xs))
+    ++ more_items listing (length (failing_shells xs))
 
 -- their paragraphs, and then those of the solid, of these shells and of the faces that they name
 unfoldable pub shell_texts : Listing → Contents → SolidData → List Faults → List ℕ

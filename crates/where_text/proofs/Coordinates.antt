@@ -25,9 +25,11 @@ values_there (Some r) vs h = same_Some vs r.1 h
 pub values_are : (f : Contents) (n : ℕ) (vs : List Value) → Some vs ≡ option_map (λ (r : Entry × List Value). r.1) (named f (pos n)) → vs ≡ values_of f (pos n)
 values_are f n vs h = values_there (named f (pos n)) vs h
 
-pub coordinate_is : (f : Contents) (key : VertexKey) (axis place : ℕ) (vs : List Value) (v : Option Value) → Some vs ≡ option_map (λ (r : Entry × List Value). r.1) (named f (pos key.«list».0))
+pub coordinate_is : (f : Contents) (key : VertexKey) (axis place : ℕ) (vs : List Value) (v : Option Value)
+    → Some vs ≡ option_map (λ (r : Entry × List Value). r.1) (named f (pos key.«list».0))
     → place ≡ 3 * key.index + axis - 2 → v ≡ slice_get vs place → spelled_if v ≡ coordinate f key axis
 unfolding coordinate
 coordinate_is f key axis place vs v at is there =
     ap spelled_if there ∙ ap spelled (or_default vs place)
-    ∙ ap (λ xs. spelled (value_or_default xs place)) (values_are f key.«list».0 vs at) ∙ ap (λ i. spelled (value_or_default (values_of f (pos key.«list».0)) i)) is
+    ∙ ap (λ xs. spelled (value_or_default xs place)) (values_are f key.«list».0 vs at)
+    ∙ ap (λ i. spelled (value_or_default (values_of f (pos key.«list».0)) i)) is

@@ -23,15 +23,18 @@ pub mapped_all : {B : Type 0} (f : ℕ → B) (xs : List ℕ) (i : ℕ) (now all
 mapped_all f xs i now all past h = sym (append-nil now) ∙ (ap (λ ys. now ++ map f ys) (sym (drop_all i xs past)) ∙ h)
 
 -- the texts of the items that are left, once one more is written; the items are those of a list that a slice shows
-pub flat_more : {A : Type 0} (f : A → List ℕ) (items xs : List A) (i : ℕ) (d x : A) (old new all : List ℕ) → items ≡ xs → i < length items → x ≡ get_or items i d
+pub flat_more : {A : Type 0} (f : A → List ℕ) (items xs : List A) (i : ℕ) (d x : A) (old new all : List ℕ) → items ≡ xs → i < length items
+    → x ≡ get_or items i d
     → old ++ flat_map f (drop i xs) ≡ all → new ≡ old ++ f x → new ++ flat_map f (drop (i + 1) xs) ≡ all
 flat_more f items xs i d x old new all same lt is h e =
     let more : suc i ≡ i + 1 = omega arith in
-    let split : drop i items ≡ x ∷ drop (i + 1) items = drop-cons items i d lt ∙ (ap (λ n. get_or items i d ∷ drop n items) more ∙ ap (λ y. y ∷ drop (i + 1) items) (sym is)) in
+    let split : drop i items ≡ x ∷ drop (i + 1) items = drop-cons items i d lt
+    ∙ (ap (λ n. get_or items i d ∷ drop n items) more ∙ ap (λ y. y ∷ drop (i + 1) items) (sym is)) in
     let here : drop i xs ≡ x ∷ drop (i + 1) xs = ap (drop i) (sym same) ∙ (split ∙ ap (λ ys. x ∷ drop (i + 1) ys) same) in
     piece_more old new (f x) (flat_map f (drop (i + 1) xs)) all (ap (λ ys. old ++ flat_map f ys) (sym here) ∙ h) e
 
-pub flat_all : {A : Type 0} (f : A → List ℕ) (items xs : List A) (i : ℕ) (now all : List ℕ) → items ≡ xs → length items ≤ i → now ++ flat_map f (drop i xs) ≡ all → now ≡ all
+pub flat_all : {A : Type 0} (f : A → List ℕ) (items xs : List A) (i : ℕ) (now all : List ℕ) → items ≡ xs → length items ≤ i
+    → now ++ flat_map f (drop i xs) ≡ all → now ≡ all
 flat_all f items xs i now all same past h =
     let none : drop i xs ≡ [] = ap (drop i) (sym same) ∙ drop_all i items past in
     sym (append-nil now) ∙ (ap (λ ys. now ++ flat_map f ys) (sym none) ∙ h)
@@ -45,7 +48,8 @@ on_ok (Err e) f p = tt
 pub two_pieces : {T E : Type 0} (r : Result T E) (old mid new a b : List ℕ) → mid ≡ old ++ a → OnOk r (new ≡ mid ++ b) → OnOk r (new ≡ old ++ (a ++ b))
 two_pieces r old mid new a b e last = on_ok r (λ h. h ∙ (ap (λ xs. xs ++ b) e ∙ append_assoc old a b)) last
 
-pub three_pieces : {T E : Type 0} (r : Result T E) (old one two new a b c : List ℕ) → one ≡ old ++ a → two ≡ one ++ b → OnOk r (new ≡ two ++ c) → OnOk r (new ≡ old ++ (a ++ b ++ c))
+pub three_pieces : {T E : Type 0} (r : Result T E) (old one two new a b c : List ℕ) → one ≡ old ++ a → two ≡ one ++ b → OnOk r (new ≡ two ++ c)
+    → OnOk r (new ≡ old ++ (a ++ b ++ c))
 three_pieces r old one two new a b c e f last = two_pieces r old two new (a ++ b) c (f ∙ (ap (λ xs. xs ++ b) e ∙ append_assoc old a b)) last
 
 -- ---- the members of a list that are written

@@ -15,7 +15,8 @@ coordinate f key axis = spelled (value_or_default (values_of f (pos key.«list»
 -- a vertex: the number of its list, its index there, and its coordinates
 unfoldable pub vertex_words : Contents → VertexKey → List ℕ
 vertex_words f key =
-    space_word (decimal key.«list».0) ++ space_word (decimal key.index) ++ space_word (coordinate f key 0) ++ space_word (coordinate f key 1) ++ space_word (coordinate f key 2)
+    space_word (decimal key.«list».0) ++ space_word (decimal key.index) ++ space_word (coordinate f key 0) ++ space_word (coordinate f key 1)
+    ++ space_word (coordinate f key 2)
 
 -- the number of the surface that a face's record names first
 abbrev pub surface_of : Contents → EntryNo → ℤ

@@ -16,7 +16,8 @@ returns-in-Ok-clause-verdict c =
 pub returns-in-Ok-clause-only : goal.returns-in-Ok-clause-only
 returns-in-Ok-clause-only c v on =
     ok_weaker c.shells_verdict.result (IsVerdict (solid_obligations c.in-Ok.solid)) (λ (w : Verdict). w ≡ v)
-    (λ w is. one_on_file c.args.file.now c.args.no.0 w v (on_file c.args.file.now c.args.no.0 c.in-Ok.solid w c.in-Ok.ensures.solid c.in-Ok.ensures.holds is) on) c.shells_verdict.ensures
+    (λ w is. one_on_file c.args.file.now c.args.no.0 w v (on_file c.args.file.now c.args.no.0 c.in-Ok.solid w c.in-Ok.ensures.solid c.in-Ok.ensures.holds is)
+    on) c.shells_verdict.ensures
 
 pub returns-in-Err-Fails-clause-verdict : goal.returns-in-Err-Fails-clause-verdict
 returns-in-Err-Fails-clause-verdict c =

@@ -20,12 +20,14 @@ returns-in_err-shells-clause-only_fault c x first =
 
 pub returns-clause-certificate : goal.returns-clause-certificate
 returns-clause-certificate c =
-    certificate_made c.args.solid.now (record { version = Two; solid = c.entity.result; shells = c.in_ok-shells.shells }) c.entity.ensures.numbered refl c.entity.ensures.entity c.in_ok-shells.ensures.holds c.in_ok-shells.ensures.parts
+    certificate_made c.args.solid.now (record { version = Two; solid = c.entity.result; shells = c.in_ok-shells.shells }) c.entity.ensures.numbered refl
+    c.entity.ensures.entity c.in_ok-shells.ensures.holds c.in_ok-shells.ensures.parts
 
 pub returns-clause-accepted : goal.returns-clause-accepted
 returns-clause-accepted c =
     certificate_accepted c.args.solid.now (record { version = Two; solid = c.entity.result; shells = c.in_ok-shells.shells })
-    (certificate_made c.args.solid.now (record { version = Two; solid = c.entity.result; shells = c.in_ok-shells.shells }) c.entity.ensures.numbered refl c.entity.ensures.entity c.in_ok-shells.ensures.holds c.in_ok-shells.ensures.parts)
+    (certificate_made c.args.solid.now (record { version = Two; solid = c.entity.result; shells = c.in_ok-shells.shells }) c.entity.ensures.numbered refl
+    c.entity.ensures.entity c.in_ok-shells.ensures.holds c.in_ok-shells.ensures.parts)
 
 pub returns-clause-only_fault : goal.returns-clause-only_fault
 returns-clause-only_fault c x first = never (solid_obligations c.args.solid.now) x c.in_ok-shells.ensures.holds first
@@ -33,5 +35,6 @@ returns-clause-only_fault c x first = never (solid_obligations c.args.solid.now)
 pub returns-clause-text : goal.returns-clause-text
 returns-clause-text c f n same =
     let certificate : Certificate = record { version = Two; solid = c.entity.result; shells = c.in_ok-shells.shells } in
-    let made : IsCertificate c.args.solid.now certificate = certificate_made c.args.solid.now certificate c.entity.ensures.numbered refl c.entity.ensures.entity c.in_ok-shells.ensures.holds c.in_ok-shells.ensures.parts in
+    let made : IsCertificate c.args.solid.now certificate = certificate_made c.args.solid.now certificate c.entity.ensures.numbered refl
+    c.entity.ensures.entity c.in_ok-shells.ensures.holds c.in_ok-shells.ensures.parts in
     (certificate, subst (λ s. IsCertificate s certificate) same made, refl)

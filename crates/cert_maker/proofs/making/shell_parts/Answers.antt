@@ -14,7 +14,8 @@ use Rattle.cert_maker.proofs.making.shell_parts.Goals as goal
 pub shells-init : goal.shells-init
 shells-init c = record {
   left = from_first c.args.solid.now;
-  parts = agree_first (λ (h : Shell) (part : ShellPart). IsPart (shell_rows c.args.solid.now h) (loops_of (Some h)) part) c.args.solid.now.shells c.new-parts.result c.new-parts.ensures;
+  parts = agree_first (λ (h : Shell) (part : ShellPart). IsPart (shell_rows c.args.solid.now h) (loops_of (Some h)) part) c.args.solid.now.shells
+      c.new-parts.result c.new-parts.ensures;
   before = c.none-before.ensures c.args.solid.now;
 }
 
@@ -26,16 +27,20 @@ overflow_cast-at c =
 pub returns-in_err-part-clause-fails : goal.returns-in_err-part-clause-fails
 returns-in_err-part-clause-fails c =
     let p = err_from_is_err_and c.from_residual.result c.from_residual.ensures.1 in
-    rw (p.1, p.2) (shell_fails (shell_obligations c.args.solid.now) (solid_obligations c.args.solid.now) c.args.solid.now.shells c.shells.k c.shell_at-shell.result.now c.in_err-part.field-0.0 c.shell_at-shell.ensures c.shells.invariant.left c.in_err-part.ensures.fails)
+    rw (p.1, p.2) (shell_fails (shell_obligations c.args.solid.now) (solid_obligations c.args.solid.now) c.args.solid.now.shells c.shells.k
+    c.shell_at-shell.result.now c.in_err-part.field-0.0 c.shell_at-shell.ensures c.shells.invariant.left c.in_err-part.ensures.fails)
 
 pub shells-preserved : goal.shells-preserved
 shells-preserved c = record {
-  left = one_shell (shell_obligations c.args.solid.now) (solid_obligations c.args.solid.now) c.args.solid.now.shells c.shells.k c.shell_at-shell.result.now c.shell_at-shell.ensures c.shells.invariant.left c.in_ok-part.ensures.holds;
-  parts = agree_more (λ (h : Shell) (part : ShellPart). IsPart (shell_rows c.args.solid.now h) (loops_of (Some h)) part) c.args.solid.now.shells c.shells.k c.shell_at-shell.result.now c.in_ok-part.part c.shells.parts c.push_part.new.parts c.shell_at-shell.ensures
+  left = one_shell (shell_obligations c.args.solid.now) (solid_obligations c.args.solid.now) c.args.solid.now.shells c.shells.k c.shell_at-shell.result.now
+      c.shell_at-shell.ensures c.shells.invariant.left c.in_ok-part.ensures.holds;
+  parts = agree_more (λ (h : Shell) (part : ShellPart). IsPart (shell_rows c.args.solid.now h) (loops_of (Some h)) part) c.args.solid.now.shells c.shells.k
+      c.shell_at-shell.result.now c.in_ok-part.part c.shells.parts c.push_part.new.parts c.shell_at-shell.ensures
       c.in_ok-part.ensures.part c.in_ok-push_part.ensures c.shells.invariant.parts;
   before = c.in_ok-part.ensures.before;
 }
 
 pub returns-clause-parts : goal.returns-clause-parts
 returns-clause-parts c =
-    agree_done (λ (h : Shell) (part : ShellPart). IsPart (shell_rows c.args.solid.now h) (loops_of (Some h)) part) c.args.solid.now.shells c.shells.k c.shells.parts (omega (arith, c.shell_count-k-end.ensures.count, c.shells-test.false)) c.shells.invariant.parts
+    agree_done (λ (h : Shell) (part : ShellPart). IsPart (shell_rows c.args.solid.now h) (loops_of (Some h)) part) c.args.solid.now.shells c.shells.k
+    c.shells.parts (omega (arith, c.shell_count-k-end.ensures.count, c.shells-test.false)) c.shells.invariant.parts

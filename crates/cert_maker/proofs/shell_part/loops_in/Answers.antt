@@ -6,4 +6,5 @@ pub loop_count-requires : goal.loop_count-requires
 loop_count-requires c = omega (arith, c.recall_numbering.ensures.numbered.few_loops, loops_within c.args.solid.now c.args.at.0 c.args.shell.now c.requires.at)
 
 pub overflow_cast-result : goal.overflow_cast-result
-overflow_cast-result c = omega (arith, c.recall_numbering.ensures.numbered.few_loops, loops_within c.args.solid.now c.args.at.0 c.args.shell.now c.requires.at, c.loop_count.ensures)
+overflow_cast-result c =
+    omega (arith, c.recall_numbering.ensures.numbered.few_loops, loops_within c.args.solid.now c.args.at.0 c.args.shell.now c.requires.at, c.loop_count.ensures)

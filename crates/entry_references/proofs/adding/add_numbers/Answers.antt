@@ -14,6 +14,7 @@ numbers-preserved c =
     record {
       size = ap (λ (s : Entries). s.size) c.in_ok-add_number.ensures.ok ∙ c.numbers.invariant.size;
       first =
-          entry_more c.args.set.now c.numbers.set c.add_number.new.set c.as_slice-number-items.result.now c.args.numbers.now i _ c.as_slice-number-items.ensures c.numbers-test.true (to_z-of_z w64 z fits) c.in_ok-add_number.ensures.ok
+          entry_more c.args.set.now c.numbers.set c.add_number.new.set c.as_slice-number-items.result.now c.args.numbers.now i _
+          c.as_slice-number-items.ensures c.numbers-test.true (to_z-of_z w64 z fits) c.in_ok-add_number.ensures.ok
           c.numbers.invariant.first;
     }

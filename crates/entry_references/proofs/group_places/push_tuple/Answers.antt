@@ -14,9 +14,11 @@ overflow_add-result-2 c = omega (arith, c.requires, tuple_length c.args.tuple.no
 
 pub returns-clause-places : goal.returns-clause-places
 returns-clause-places c =
-    tuple_placed c.args.places.now c.push.new.self c.push_groups.new.places c.args.first c.curve_count-curves.result c.args.tuple.now c.curve_count-curves.ensures c.in_ok-push.ensures.ok c.in_ok-push_groups.ensures
+    tuple_placed c.args.places.now c.push.new.self c.push_groups.new.places c.args.first c.curve_count-curves.result c.args.tuple.now
+    c.curve_count-curves.ensures c.in_ok-push.ensures.ok c.in_ok-push_groups.ensures
 
 pub returns-clause-end : goal.returns-clause-end
 returns-clause-end c =
-    let size : length (tuple_due c.args.tuple.now) ≡ 5 + c.curve_count-curves.result * 2 = tuple_length c.args.tuple.now c.curve_count-curves.result c.curve_count-curves.ensures in
+    let size : length (tuple_due c.args.tuple.now) ≡ 5 + c.curve_count-curves.result * 2 =
+    tuple_length c.args.tuple.now c.curve_count-curves.result c.curve_count-curves.ensures in
     omega (arith, size)

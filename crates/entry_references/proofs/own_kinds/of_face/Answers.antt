@@ -20,4 +20,5 @@ overflow_add-loops c =
 
 pub returns : goal.returns
 returns c =
-    ap (λ o. Some o) c.with_pointers.ensures ∙ face_own c.args.values.now c.in-Some.record c.len-loops.result c.in_ok-pointers.pointers c.push_groups.new.places c.in-Some.ensures.some c.in-Some.ensures.read c.len-loops.ensures c.in_ok-pointers.ensures c.in_ok-push_groups.ensures
+    ap (λ o. Some o) c.with_pointers.ensures ∙ face_own c.args.values.now c.in-Some.record c.len-loops.result c.in_ok-pointers.pointers
+    c.push_groups.new.places c.in-Some.ensures.some c.in-Some.ensures.read c.len-loops.ensures c.in_ok-pointers.ensures c.in_ok-push_groups.ensures

@@ -32,4 +32,5 @@ overflow_add-voids c =
 
 pub returns : goal.returns
 returns c =
-    ap (λ o. Some o) c.with_pointers.ensures ∙ solid_own c.args.values.now c.in-Some.record c.len-voids.result c.in_ok-pointers.pointers c.push_groups.new.places c.in-Some.ensures.some c.in-Some.ensures.read c.len-voids.ensures c.in_ok-pointers.ensures c.in_ok-push_groups.ensures
+    ap (λ o. Some o) c.with_pointers.ensures ∙ solid_own c.args.values.now c.in-Some.record c.len-voids.result c.in_ok-pointers.pointers
+    c.push_groups.new.places c.in-Some.ensures.some c.in-Some.ensures.read c.len-voids.ensures c.in_ok-pointers.ensures c.in_ok-push_groups.ensures

@@ -9,7 +9,9 @@ returns-in_err-numbers-clause-fault c =
     let f = c.args.file.now in
     let m = c.args.no.0 in
     let r : Record = (c.unwrap-record.result.entry.now, c.unwrap-record.result.values.now) in
-    handed f m c.from_residual.result _ (ref_fault f m r _ (found_record f m c.record_of.result c.unwrap-record.result c.record_of.ensures c.unwrap-record.ensures) c.in_err-numbers.ensures) c.from_residual.ensures.1
+    handed f m c.from_residual.result _
+    (ref_fault f m r _ (found_record f m c.record_of.result c.unwrap-record.result c.record_of.ensures c.unwrap-record.ensures) c.in_err-numbers.ensures)
+    c.from_residual.ensures.1
 
 pub add_numbers-requires-clause-name : goal.add_numbers-requires-clause-name
 add_numbers-requires-clause-name c =
@@ -21,5 +23,7 @@ returns-clause-found c =
     let f = c.args.file.now in
     let m = c.args.no.0 in
     let r : Record = (c.unwrap-record.result.entry.now, c.unwrap-record.result.values.now) in
-    references_are f m r c.in_ok-numbers.numbers c.add_numbers.new.set.numbers c.in_ok-rising.field-0 (found_record f m c.record_of.result c.unwrap-record.result c.record_of.ensures c.unwrap-record.ensures) c.in_ok-numbers.ensures
-    (ap (λ (s : Entries). s.numbers) c.in_ok-add_numbers.ensures.ok ∙ ap (λ (s : Entries). with_numbers s.numbers c.in_ok-numbers.numbers) c.in_ok-set.ensures) c.in_ok-rising.ensures.rising
+    references_are f m r c.in_ok-numbers.numbers c.add_numbers.new.set.numbers c.in_ok-rising.field-0
+    (found_record f m c.record_of.result c.unwrap-record.result c.record_of.ensures c.unwrap-record.ensures) c.in_ok-numbers.ensures
+    (ap (λ (s : Entries). s.numbers) c.in_ok-add_numbers.ensures.ok ∙ ap (λ (s : Entries). with_numbers s.numbers c.in_ok-numbers.numbers) c.in_ok-set.ensures)
+    c.in_ok-rising.ensures.rising

@@ -17,9 +17,11 @@ pub returns-in-Err-Fails-certify : goal.returns-in-Err-Fails-certify
 returns-in-Err-Fails-certify c =
     let first : FirstFalse (solid_obligations c.in-Ok.solid) c.in-Err-Fails-certify.failing = search rules in
     reply_owed (OfCertify c.args.no c.args.file) _ _ c.failed-in-Err-Fails-certify.result
-    (unclosed_owed c.args.file c.args.no c.in-Err-Fails-certify.failing c.in-Ok.solid c.in-Ok.ensures.holds c.in-Ok.ensures.solid first) c.failed-in-Err-Fails-certify.ensures
+    (unclosed_owed c.args.file c.args.no c.in-Err-Fails-certify.failing c.in-Ok.solid c.in-Ok.ensures.holds c.in-Ok.ensures.solid first)
+    c.failed-in-Err-Fails-certify.ensures
 
 pub returns : goal.returns
 returns c =
-    let made = subst (IsCertificateText c.args.file c.args.no) (sym c.in_ok-write_certificate.ensures.text) (c.in-Ok-certify.ensures.text c.args.file c.args.no c.in-Ok.ensures.solid) in
+    let made = subst (IsCertificateText c.args.file c.args.no) (sym c.in_ok-write_certificate.ensures.text)
+    (c.in-Ok-certify.ensures.text c.args.file c.args.no c.in-Ok.ensures.solid) in
     certified_owed c.args.file c.args.no _ c.in-Ok.solid c.in-Ok.ensures.holds c.in-Ok.ensures.solid c.in-Ok-certify.ensures.holds made

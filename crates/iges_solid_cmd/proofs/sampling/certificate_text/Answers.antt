@@ -12,4 +12,5 @@ unreachable-requires c =
 
 pub returns-in-Ok : goal.returns-in-Ok
 returns-in-Ok c =
-    IfOk-weaker c.write_certificate.result _ _ (λ text is. made_text c.args.n c.requires.size c.args.solid.now text _ c.requires.sample is c.in-Ok.ensures.text) c.write_certificate.ensures.text
+    IfOk-weaker c.write_certificate.result _ _
+    (λ text is. made_text c.args.n c.requires.size c.args.solid.now text _ c.requires.sample is c.in-Ok.ensures.text) c.write_certificate.ensures.text

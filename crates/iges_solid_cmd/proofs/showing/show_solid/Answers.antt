@@ -13,4 +13,5 @@ returns-in-Err-Fails c =
     reply_owed (OfShow c.args.no c.args.file.now) _ _ c.failed.result (unplaced c.in-Err-Fails.failing first) c.failed.ensures
 
 pub returns : goal.returns
-returns c = owed_so (OfShow c.args.no c.args.file.now) _ _ _ _ (shown c.in-Ok.ensures.holds) refl (c.in_ok-shell_list.ensures ∙ ap show_text c.in-Ok.ensures.solid)
+returns c = owed_so (OfShow c.args.no c.args.file.now) _ _ _ _ (shown c.in-Ok.ensures.holds) refl
+    (c.in_ok-shell_list.ensures ∙ ap show_text c.in-Ok.ensures.solid)

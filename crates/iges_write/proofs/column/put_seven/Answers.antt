@@ -10,4 +10,6 @@ write_digits-requires c = search (rules, length-decimal-le 7)
 pub returns : goal.returns
 returns c =
     c.in_ok-extend_from_slice.ensures.items
-    ∙ ap (λ (x : List ℕ). c.args.line.now.items ++ x) (right_written c.write_digits.new.buf _ (decimal c.args.n) c.write_digits.result 7 refl c.write_digits.ensures.start c.write_digits.ensures.written c.write_digits.ensures.before)
+    ∙ ap (λ (x : List ℕ). c.args.line.now.items ++ x)
+    (right_written c.write_digits.new.buf _ (decimal c.args.n) c.write_digits.result 7 refl c.write_digits.ensures.start c.write_digits.ensures.written
+    c.write_digits.ensures.before)

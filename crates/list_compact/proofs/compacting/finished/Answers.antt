@@ -10,7 +10,8 @@ returns-then-are_all c f n x holds =
     let g = c.args.extraction.file in
     let marks = c.in_ok-marks.ensures in
     let all = c.are_all.ensures in
-    let same = nothing_dropped g (extracted_records f g n x.extracted) c.in_ok-marks.marks.edges c.in_ok-marks.marks.vertices marks.edge_sizes marks.vertex_sizes marks.edges marks.vertices (all.edges c.if-are_all.true) (all.vertices c.if-are_all.true) in
+    let same = nothing_dropped g (extracted_records f g n x.extracted) c.in_ok-marks.marks.edges c.in_ok-marks.marks.vertices marks.edge_sizes
+    marks.vertex_sizes marks.edges marks.vertices (all.edges c.if-are_all.true) (all.vertices c.if-are_all.true) in
     compacted_is f g g g n c.args.extraction.no.0 x holds same (again_as f g n c.args.extraction.no.0 x)
 
 pub dropped-requires-clause-records : goal.dropped-requires-clause-records
@@ -22,4 +23,5 @@ extracted-requires c entity reason h =
 
 pub returns : goal.returns
 returns c f n x holds =
-    compacted_is f c.args.extraction.file c.in_ok-new.new c.in_ok-extracted.field-0 n c.args.extraction.no.0 x holds c.in_ok-new.ensures c.in_ok-extracted.ensures
+    compacted_is f c.args.extraction.file c.in_ok-new.new c.in_ok-extracted.field-0 n c.args.extraction.no.0 x holds c.in_ok-new.ensures
+    c.in_ok-extracted.ensures

@@ -2,10 +2,13 @@ use Rattle.list_compact.proofs.OneAnswer.{only_file, only_refusal, only_place}
 use Rattle.list_compact.proofs.compacting.into_compact.Goals as goal
 
 pub returns-clause-only : goal.returns-clause-only
-returns-clause-only c new h = only_file c.args.file c.args.no.0 c.turned_into_compacted.result new c.turned_into_compacted.ensures.found c.turned_into_compacted.ensures.fault h
+returns-clause-only c new h = only_file c.args.file c.args.no.0 c.turned_into_compacted.result new c.turned_into_compacted.ensures.found
+    c.turned_into_compacted.ensures.fault h
 
 pub returns-clause-only_refusal : goal.returns-clause-only_refusal
-returns-clause-only_refusal c entity reason h = only_refusal c.args.file c.args.no.0 c.turned_into_compacted.result entity reason c.turned_into_compacted.ensures.found c.turned_into_compacted.ensures.fault h
+returns-clause-only_refusal c entity reason h = only_refusal c.args.file c.args.no.0 c.turned_into_compacted.result entity reason
+    c.turned_into_compacted.ensures.found c.turned_into_compacted.ensures.fault h
 
 pub returns-clause-only_place : goal.returns-clause-only_place
-returns-clause-only_place c x h = only_place c.args.file c.args.no.0 c.turned_into_compacted.result x c.turned_into_compacted.ensures.found c.turned_into_compacted.ensures.fault h
+returns-clause-only_place c x h = only_place c.args.file c.args.no.0 c.turned_into_compacted.result x c.turned_into_compacted.ensures.found
+    c.turned_into_compacted.ensures.fault h

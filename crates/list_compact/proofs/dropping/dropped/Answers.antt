@@ -26,69 +26,109 @@ entries-init c = record { left = none_emptied c.args.file; entries = c.in_ok-new
 
 pub row-edges-requires : goal.row-edges-requires
 row-edges-requires c =
-    omega (arith, c.entries-test.true, c.entry_count-count.ensures.is, ap length c.requires.edge_sizes, length-map c.args.file.entries (λ (r : Record). length (edges_in r)), length-map c.args.marks.now.edges (λ (x : List _). length x))
+    omega (
+      arith,
+      c.entries-test.true,
+      c.entry_count-count.ensures.is,
+      ap length c.requires.edge_sizes,
+      length-map c.args.file.entries
+          (λ (r : Record). length (edges_in r)),
+      length-map c.args.marks.now.edges (λ (x : List _). length x),
+    )
 
 pub row-vertices-requires : goal.row-vertices-requires
 row-vertices-requires c =
-    omega (arith, c.entries-test.true, c.entry_count-count.ensures.is, ap length c.requires.vertex_sizes, length-map c.args.file.entries (λ (r : Record). length (vertices_in r)), length-map c.args.marks.now.vertices (λ (x : List _). length x))
+    omega (
+      arith,
+      c.entries-test.true,
+      c.entry_count-count.ensures.is,
+      ap length c.requires.vertex_sizes,
+      length-map c.args.file.entries
+          (λ (r : Record). length (vertices_in r)),
+      length-map c.args.marks.now.vertices (λ (x : List _). length x),
+    )
 
 pub record_values-requires-clause-short : goal.record_values-requires-clause-short
 record_values-requires-clause-short c =
     let at : slice_get c.args.file.entries c.entries.i ≡ Some (c.unwrap.result.now, c.take_values-taken.result) =
-    taken_at c.args.file c.entries.file c.entries.i c.entries.invariant.left c.unwrap.result.now (sym c.entry_at.ensures.entry ∙ ap option_copied c.unwrap.ensures) c.take_values-taken.result c.take_values-taken.ensures.taken in
+    taken_at c.args.file c.entries.file c.entries.i c.entries.invariant.left c.unwrap.result.now
+    (sym c.entry_at.ensures.entry ∙ ap option_copied c.unwrap.ensures) c.take_values-taken.result c.take_values-taken.ensures.taken in
     taken_short c.args.file c.requires.records c.entry_count-count.ensures.made c.entries.i (c.unwrap.result.now, c.take_values-taken.result) at
 
 pub record_values-requires-clause-of_kind : goal.record_values-requires-clause-of_kind
 record_values-requires-clause-of_kind c =
     let at : slice_get c.args.file.entries c.entries.i ≡ Some (c.unwrap.result.now, c.take_values-taken.result) =
-    taken_at c.args.file c.entries.file c.entries.i c.entries.invariant.left c.unwrap.result.now (sym c.entry_at.ensures.entry ∙ ap option_copied c.unwrap.ensures) c.take_values-taken.result c.take_values-taken.ensures.taken in
+    taken_at c.args.file c.entries.file c.entries.i c.entries.invariant.left c.unwrap.result.now
+    (sym c.entry_at.ensures.entry ∙ ap option_copied c.unwrap.ensures) c.take_values-taken.result c.take_values-taken.ensures.taken in
     at_record IsOfItsKind c.args.file.entries c.entries.i (c.unwrap.result.now, c.take_values-taken.result) c.requires.records.of_kind at
 
 pub record_values-requires-clause-edge_size : goal.record_values-requires-clause-edge_size
 record_values-requires-clause-edge_size c =
     let at : slice_get c.args.file.entries c.entries.i ≡ Some (c.unwrap.result.now, c.take_values-taken.result) =
-    taken_at c.args.file c.entries.file c.entries.i c.entries.invariant.left c.unwrap.result.now (sym c.entry_at.ensures.entry ∙ ap option_copied c.unwrap.ensures) c.take_values-taken.result c.take_values-taken.ensures.taken in
-    row_size c.args.marks.now.edges c.args.file.entries (λ (r : Record). length (edges_in r)) c.entries.i c.row-edges.result.now (c.unwrap.result.now, c.take_values-taken.result) c.requires.edge_sizes c.row-edges.ensures at
+    taken_at c.args.file c.entries.file c.entries.i c.entries.invariant.left c.unwrap.result.now
+    (sym c.entry_at.ensures.entry ∙ ap option_copied c.unwrap.ensures) c.take_values-taken.result c.take_values-taken.ensures.taken in
+    row_size c.args.marks.now.edges c.args.file.entries (λ (r : Record). length (edges_in r)) c.entries.i c.row-edges.result.now
+    (c.unwrap.result.now, c.take_values-taken.result) c.requires.edge_sizes c.row-edges.ensures at
 
 pub record_values-requires-clause-vertex_size : goal.record_values-requires-clause-vertex_size
 record_values-requires-clause-vertex_size c =
     let at : slice_get c.args.file.entries c.entries.i ≡ Some (c.unwrap.result.now, c.take_values-taken.result) =
-    taken_at c.args.file c.entries.file c.entries.i c.entries.invariant.left c.unwrap.result.now (sym c.entry_at.ensures.entry ∙ ap option_copied c.unwrap.ensures) c.take_values-taken.result c.take_values-taken.ensures.taken in
-    row_size c.args.marks.now.vertices c.args.file.entries (λ (r : Record). length (vertices_in r)) c.entries.i c.row-vertices.result.now (c.unwrap.result.now, c.take_values-taken.result) c.requires.vertex_sizes c.row-vertices.ensures at
+    taken_at c.args.file c.entries.file c.entries.i c.entries.invariant.left c.unwrap.result.now
+    (sym c.entry_at.ensures.entry ∙ ap option_copied c.unwrap.ensures) c.take_values-taken.result c.take_values-taken.ensures.taken in
+    row_size c.args.marks.now.vertices c.args.file.entries (λ (r : Record). length (vertices_in r)) c.entries.i c.row-vertices.result.now
+    (c.unwrap.result.now, c.take_values-taken.result) c.requires.vertex_sizes c.row-vertices.ensures at
 
 pub push-requires-clause-unused : goal.push-requires-clause-unused
 push-requires-clause-unused c t =
     let at : slice_get c.args.file.entries c.entries.i ≡ Some (c.unwrap.result.now, c.take_values-taken.result) =
-    taken_at c.args.file c.entries.file c.entries.i c.entries.invariant.left c.unwrap.result.now (sym c.entry_at.ensures.entry ∙ ap option_copied c.unwrap.ensures) c.take_values-taken.result c.take_values-taken.ensures.taken in
-    let typed : HasType (c.unwrap.result.now, c.take_values-taken.result) = at_record HasType c.args.file.entries c.entries.i (c.unwrap.result.now, c.take_values-taken.result) c.requires.records.typed at in
+    taken_at c.args.file c.entries.file c.entries.i c.entries.invariant.left c.unwrap.result.now
+    (sym c.entry_at.ensures.entry ∙ ap option_copied c.unwrap.ensures) c.take_values-taken.result c.take_values-taken.ensures.taken in
+    let typed : HasType (c.unwrap.result.now, c.take_values-taken.result) =
+    at_record HasType c.args.file.entries c.entries.i (c.unwrap.result.now, c.take_values-taken.result) c.requires.records.typed at in
     let never : true ≡ false = sym t ∙ typed in absurd cc
 
 pub push-requires-clause-few : goal.push-requires-clause-few
 push-requires-clause-few c =
     let at : slice_get c.args.file.entries c.entries.i ≡ Some (c.unwrap.result.now, c.take_values-taken.result) =
-    taken_at c.args.file c.entries.file c.entries.i c.entries.invariant.left c.unwrap.result.now (sym c.entry_at.ensures.entry ∙ ap option_copied c.unwrap.ensures) c.take_values-taken.result c.take_values-taken.ensures.taken in
+    taken_at c.args.file c.entries.file c.entries.i c.entries.invariant.left c.unwrap.result.now
+    (sym c.entry_at.ensures.entry ∙ ap option_copied c.unwrap.ensures) c.take_values-taken.result c.take_values-taken.ensures.taken in
     let g = c.args.file in
     let tables : AreTables c.args.file c.in_ok-ranks_by.field-0 c.in_ok-ranks_by-2.field-0 =
-    tables_are c.args.file c.requires.records c.entry_count-count.ensures.made c.args.marks.now.edges c.args.marks.now.vertices c.in_ok-ranks_by.field-0 c.in_ok-ranks_by-2.field-0 c.requires.edge_sizes c.requires.vertex_sizes c.requires.edges c.requires.vertices c.in_ok-ranks_by.ensures c.in_ok-ranks_by-2.ensures in
-    let values = c.in_ok-values.ensures c.args.file (2 * c.entries.i + 1) tables (λ j lt. c.requires.edges c.entries.i j c.row-edges.result.now c.row-edges.ensures lt) (λ j lt. c.requires.vertices c.entries.i j c.row-vertices.result.now c.row-vertices.ensures lt) in
-    entry_room c.args.file c.requires.records c.entry_count-count.ensures.made c.entries.i (c.unwrap.result.now, c.take_values-taken.result) c.in_ok-values.values c.entries.new.entries
+    tables_are c.args.file c.requires.records c.entry_count-count.ensures.made c.args.marks.now.edges c.args.marks.now.vertices c.in_ok-ranks_by.field-0
+    c.in_ok-ranks_by-2.field-0 c.requires.edge_sizes c.requires.vertex_sizes c.requires.edges c.requires.vertices c.in_ok-ranks_by.ensures
+    c.in_ok-ranks_by-2.ensures in
+    let values = c.in_ok-values.ensures c.args.file (2 * c.entries.i + 1) tables
+    (λ j lt. c.requires.edges c.entries.i j c.row-edges.result.now c.row-edges.ensures lt)
+    (λ j lt. c.requires.vertices c.entries.i j c.row-vertices.result.now c.row-vertices.ensures lt) in
+    entry_room c.args.file c.requires.records c.entry_count-count.ensures.made c.entries.i (c.unwrap.result.now, c.take_values-taken.result)
+    c.in_ok-values.values c.entries.new.entries
     (enumerated_at c.args.file.entries c.entries.i (c.unwrap.result.now, c.take_values-taken.result) at) values c.entries.invariant.entries
 
 pub entries-preserved : goal.entries-preserved
 entries-preserved c =
     let at : slice_get c.args.file.entries c.entries.i ≡ Some (c.unwrap.result.now, c.take_values-taken.result) =
-    taken_at c.args.file c.entries.file c.entries.i c.entries.invariant.left c.unwrap.result.now (sym c.entry_at.ensures.entry ∙ ap option_copied c.unwrap.ensures) c.take_values-taken.result c.take_values-taken.ensures.taken in
+    taken_at c.args.file c.entries.file c.entries.i c.entries.invariant.left c.unwrap.result.now
+    (sym c.entry_at.ensures.entry ∙ ap option_copied c.unwrap.ensures) c.take_values-taken.result c.take_values-taken.ensures.taken in
     let tables : AreTables c.args.file c.in_ok-ranks_by.field-0 c.in_ok-ranks_by-2.field-0 =
-    tables_are c.args.file c.requires.records c.entry_count-count.ensures.made c.args.marks.now.edges c.args.marks.now.vertices c.in_ok-ranks_by.field-0 c.in_ok-ranks_by-2.field-0 c.requires.edge_sizes c.requires.vertex_sizes c.requires.edges c.requires.vertices c.in_ok-ranks_by.ensures c.in_ok-ranks_by-2.ensures in
-    let values = c.in_ok-values.ensures c.args.file (2 * c.entries.i + 1) tables (λ j lt. c.requires.edges c.entries.i j c.row-edges.result.now c.row-edges.ensures lt) (λ j lt. c.requires.vertices c.entries.i j c.row-vertices.result.now c.row-vertices.ensures lt) in
+    tables_are c.args.file c.requires.records c.entry_count-count.ensures.made c.args.marks.now.edges c.args.marks.now.vertices c.in_ok-ranks_by.field-0
+    c.in_ok-ranks_by-2.field-0 c.requires.edge_sizes c.requires.vertex_sizes c.requires.edges c.requires.vertices c.in_ok-ranks_by.ensures
+    c.in_ok-ranks_by-2.ensures in
+    let values = c.in_ok-values.ensures c.args.file (2 * c.entries.i + 1) tables
+    (λ j lt. c.requires.edges c.entries.i j c.row-edges.result.now c.row-edges.ensures lt)
+    (λ j lt. c.requires.vertices c.entries.i j c.row-vertices.result.now c.row-vertices.ensures lt) in
     let put = c.in_ok-push.ensures.ok in
     let inv = c.entries.invariant in
     record {
-      left = next_emptied c.args.file c.entries.file c.entries.i inv.left c.unwrap.result.now (sym c.entry_at.ensures.entry ∙ ap option_copied c.unwrap.ensures) c.take_values-taken.new.self (omega (arith, c.entries-test.true, c.entry_count-count.ensures.is, inv.left.long)) c.take_values-taken.ensures.left;
-      entries = next_row (dropped_record c.args.file) (enumerate_from 0 c.args.file.entries) c.entries.i (c.entries.i, (c.unwrap.result.now, c.take_values-taken.result)) (c.unwrap.result.now, c.in_ok-values.values) c.entries.new.entries c.push.new.self.entries
+      left = next_emptied c.args.file c.entries.file c.entries.i inv.left c.unwrap.result.now
+          (sym c.entry_at.ensures.entry ∙ ap option_copied c.unwrap.ensures) c.take_values-taken.new.self
+          (omega (arith, c.entries-test.true, c.entry_count-count.ensures.is, inv.left.long)) c.take_values-taken.ensures.left;
+      entries = next_row (dropped_record c.args.file) (enumerate_from 0 c.args.file.entries) c.entries.i
+          (c.entries.i, (c.unwrap.result.now, c.take_values-taken.result)) (c.unwrap.result.now, c.in_ok-values.values) c.entries.new.entries
+          c.push.new.self.entries
           (enumerated_at c.args.file.entries c.entries.i (c.unwrap.result.now, c.take_values-taken.result) at)
           (ap (λ (vs : List Value). let r : Record = (c.unwrap.result.now, vs) in r) values) inv.entries (ap (λ (x : Contents). x.entries) put);
     }
 
 pub returns : goal.returns
-returns c = all_dropped c.args.file c.entries.file c.entries.new c.take_front.new.self c.entries.i c.entries.invariant.left c.take_front.ensures c.entries.invariant.entries (omega (arith, c.entries-test.false, c.entry_count-count.ensures.is))
+returns c = all_dropped c.args.file c.entries.file c.entries.new c.take_front.new.self c.entries.i c.entries.invariant.left c.take_front.ensures
+    c.entries.invariant.entries (omega (arith, c.entries-test.false, c.entry_count-count.ensures.is))

@@ -8,6 +8,8 @@ use Rattle.list_compact.proofs.marking.mark_all_ends.Given as goal
 abbrev pub invariant-entries : goal.invariant-entries
 invariant-entries l = record {
   marked : (edge_used used : ℕ → ℕ → Bool) → AreMarks l.edges edge_used → AreMarks l.fn.vertices used
-      → AreMarks l.vertices (λ v j. used v j || list_any (has_end v j) (flat_map (λ (p : ℕ × Record). used_from (edge_used (2 * p.0 + 1)) 1 (edges_in p.1)) (take l.i (enumerate_from 0 l.file.entries))));
+      → AreMarks l.vertices (λ v j. used v j
+      || list_any (has_end v j)
+      (flat_map (λ (p : ℕ × Record). used_from (edge_used (2 * p.0 + 1)) 1 (edges_in p.1)) (take l.i (enumerate_from 0 l.file.entries))));
   sizes : sizes l.vertices ≡ sizes l.fn.vertices;
 }

@@ -4,7 +4,9 @@ use Rattle.list_compact.proofs.MarkSteps.{never_none}
 use Rattle.list_compact.proofs.marking.mark_entry.Goals as goal
 
 pub returns-in_default-clause-edges : goal.returns-in_default-clause-edges
-returns-in_default-clause-edges c = absurd (never_none «loop» (c.args.entry.now, c.args.values.now) c.requires (search rules) (c.in_default.ensures {u = tt}).none)
+returns-in_default-clause-edges c =
+    absurd (never_none «loop» (c.args.entry.now, c.args.values.now) c.requires (search rules) (c.in_default.ensures {u = tt}).none)
 
 pub returns-in_default-clause-vertices : goal.returns-in_default-clause-vertices
-returns-in_default-clause-vertices c = absurd (never_none «loop» (c.args.entry.now, c.args.values.now) c.requires (search rules) (c.in_default.ensures {u = tt}).none)
+returns-in_default-clause-vertices c =
+    absurd (never_none «loop» (c.args.entry.now, c.args.values.now) c.requires (search rules) (c.in_default.ensures {u = tt}).none)

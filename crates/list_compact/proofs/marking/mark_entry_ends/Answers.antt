@@ -4,4 +4,5 @@ use Rattle.list_compact.proofs.MarkSteps.{never_none}
 use Rattle.list_compact.proofs.marking.mark_entry_ends.Goals as goal
 
 pub returns-in_default-clause-marked : goal.returns-in_default-clause-marked
-returns-in_default-clause-marked c = absurd (never_none edges (c.args.entry.now, c.args.values.now) c.requires.of_kind (search rules) (c.in_default.ensures {u = tt}).none)
+returns-in_default-clause-marked c =
+    absurd (never_none edges (c.args.entry.now, c.args.values.now) c.requires.of_kind (search rules) (c.in_default.ensures {u = tt}).none)

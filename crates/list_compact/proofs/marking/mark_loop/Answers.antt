@@ -15,14 +15,18 @@ pub tuples-preserved : goal.tuples-preserved
 tuples-preserved c =
     let inv = c.tuples.invariant in
     record {
-      edges = λ used h. one_gone names_edge used c.args.listed.now c.tuples.marks.edges c.mark_tuple.new.marks.edges c.tuples.tuple-iterator c.next.new.self c.in-Some.tuple c.in-Some.ensures.steps (inv.edges used h) c.mark_tuple.ensures.edges;
-      vertices = λ used h. one_gone names_vertex used c.args.listed.now c.tuples.marks.vertices c.mark_tuple.new.marks.vertices c.tuples.tuple-iterator c.next.new.self c.in-Some.tuple c.in-Some.ensures.steps (inv.vertices used h) c.mark_tuple.ensures.vertices;
+      edges = λ used h. one_gone names_edge used c.args.listed.now c.tuples.marks.edges c.mark_tuple.new.marks.edges c.tuples.tuple-iterator c.next.new.self
+          c.in-Some.tuple c.in-Some.ensures.steps (inv.edges used h) c.mark_tuple.ensures.edges;
+      vertices = λ used h. one_gone names_vertex used c.args.listed.now c.tuples.marks.vertices c.mark_tuple.new.marks.vertices c.tuples.tuple-iterator
+          c.next.new.self c.in-Some.tuple c.in-Some.ensures.steps (inv.vertices used h) c.mark_tuple.ensures.vertices;
       edge_sizes = c.mark_tuple.ensures.edge_sizes ∙ inv.edge_sizes;
       vertex_sizes = c.mark_tuple.ensures.vertex_sizes ∙ inv.vertex_sizes;
     }
 
 pub returns-clause-edges : goal.returns-clause-edges
-returns-clause-edges c used h = all_gone names_edge used c.args.listed.now c.tuples.marks.edges c.tuples.tuple-iterator (search rules) (c.tuples.invariant.edges used h)
+returns-clause-edges c used h = all_gone names_edge used c.args.listed.now c.tuples.marks.edges c.tuples.tuple-iterator (search rules)
+    (c.tuples.invariant.edges used h)
 
 pub returns-clause-vertices : goal.returns-clause-vertices
-returns-clause-vertices c used h = all_gone names_vertex used c.args.listed.now c.tuples.marks.vertices c.tuples.tuple-iterator (search rules) (c.tuples.invariant.vertices used h)
+returns-clause-vertices c used h = all_gone names_vertex used c.args.listed.now c.tuples.marks.vertices c.tuples.tuple-iterator (search rules)
+    (c.tuples.invariant.vertices used h)

@@ -6,8 +6,10 @@ use Rattle.list_compact.proofs.marking.mark_loops.Given as goal
 
 abbrev pub invariant-entries : goal.invariant-entries
 invariant-entries l = record {
-  edges : (used : ℕ → ℕ → Bool) → AreMarks l.fn.marks.edges used → AreMarks l.marks.edges (λ e j. used e j || list_any (names_edge e j) (flat_map tuples_in (take l.i l.file.entries)));
-  vertices : (used : ℕ → ℕ → Bool) → AreMarks l.fn.marks.vertices used → AreMarks l.marks.vertices (λ v j. used v j || list_any (names_vertex v j) (flat_map tuples_in (take l.i l.file.entries)));
+  edges : (used : ℕ → ℕ → Bool) → AreMarks l.fn.marks.edges used
+      → AreMarks l.marks.edges (λ e j. used e j || list_any (names_edge e j) (flat_map tuples_in (take l.i l.file.entries)));
+  vertices : (used : ℕ → ℕ → Bool) → AreMarks l.fn.marks.vertices used
+      → AreMarks l.marks.vertices (λ v j. used v j || list_any (names_vertex v j) (flat_map tuples_in (take l.i l.file.entries)));
   edge_sizes : sizes l.marks.edges ≡ sizes l.fn.marks.edges;
   vertex_sizes : sizes l.marks.vertices ≡ sizes l.fn.marks.vertices;
 }

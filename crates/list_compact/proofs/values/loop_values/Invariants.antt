@@ -8,7 +8,8 @@ use Rattle.list_compact.proofs.values.loop_values.Given as goal
 
 abbrev pub invariant-tuples : goal.invariant-tuples
 invariant-tuples l = record {
-  list : (g : Contents) → AreTables g l.ranks.edges l.ranks.vertices → l.list ++ with_indices (flat_map tuple_due (map (reindexed_tuple g) l.tuple-iterator)) (drop l.at l.values) ≡ loop_values g l.values;
+  list : (g : Contents) → AreTables g l.ranks.edges l.ranks.vertices → l.list ++ with_indices (flat_map tuple_due (map (reindexed_tuple g) l.tuple-iterator))
+      (drop l.at l.values) ≡ loop_values g l.values;
   meets : MeetsAll (flat_map tuple_due l.tuple-iterator) (drop l.at l.values);
   end : l.at + length (flat_map tuple_due l.tuple-iterator) ≡ 1 + length (flat_map tuple_due l.listed);
 }

@@ -4,4 +4,5 @@ use Rattle.list_compact.proofs.ValueSteps.{copy_more}
 use Rattle.list_compact.proofs.values.push_copies.Goals as goal
 
 pub values-preserved : goal.values-preserved
-values-preserved c = copy_more c.args.values.now c.args.from c.values.i c.unwrap.result.now c.args.list.now c.values.list c.push_copy.new.list (sym c.get.ensures.value ∙ ap option_copied c.unwrap.ensures) c.values.invariant c.in_ok-push_copy.ensures
+values-preserved c = copy_more c.args.values.now c.args.from c.values.i c.unwrap.result.now c.args.list.now c.values.list c.push_copy.new.list
+    (sym c.get.ensures.value ∙ ap option_copied c.unwrap.ensures) c.values.invariant c.in_ok-push_copy.ensures

@@ -10,6 +10,9 @@ returns c =
     let f3 : SFits w64 c.args.edge.now.start_index = search rules in
     let f4 : SFits w64 c.args.edge.now.end_list = search rules in
     let f5 : SFits w64 c.args.edge.now.end_index = search rules in
-    pushed_edge c.args.edge.now c.args.list.now c.push_int.new.list c.push_int-2.new.list c.push_int-3.new.list c.push_int-4.new.list c.push_int-5.new.list (to_z w64 (of_z w64 c.args.edge.now.curve)) (to_z w64 (of_z w64 c.args.edge.now.start_list)) (to_z w64 (of_z w64 c.args.edge.now.start_index)) (to_z w64 (of_z w64 c.args.edge.now.end_list)) (to_z w64 (of_z w64 c.args.edge.now.end_index))
-    (to_z-of_z w64 c.args.edge.now.curve f1) (to_z-of_z w64 c.args.edge.now.start_list f2) (to_z-of_z w64 c.args.edge.now.start_index f3) (to_z-of_z w64 c.args.edge.now.end_list f4) (to_z-of_z w64 c.args.edge.now.end_index f5)
+    pushed_edge c.args.edge.now c.args.list.now c.push_int.new.list c.push_int-2.new.list c.push_int-3.new.list c.push_int-4.new.list c.push_int-5.new.list
+    (to_z w64 (of_z w64 c.args.edge.now.curve)) (to_z w64 (of_z w64 c.args.edge.now.start_list)) (to_z w64 (of_z w64 c.args.edge.now.start_index))
+    (to_z w64 (of_z w64 c.args.edge.now.end_list)) (to_z w64 (of_z w64 c.args.edge.now.end_index))
+    (to_z-of_z w64 c.args.edge.now.curve f1) (to_z-of_z w64 c.args.edge.now.start_list f2) (to_z-of_z w64 c.args.edge.now.start_index f3)
+    (to_z-of_z w64 c.args.edge.now.end_list f4) (to_z-of_z w64 c.args.edge.now.end_index f5)
     c.in_ok-push_int.ensures c.in_ok-push_int-2.ensures c.in_ok-push_int-3.ensures c.in_ok-push_int-4.ensures c.in_ok-push_int-5.ensures

@@ -17,5 +17,6 @@ overflow_add-result-2 c = omega (arith, c.requires, tuple_length c.args.tuple.no
 
 pub returns-clause-end : goal.returns-clause-end
 returns-clause-end c =
-    let size : length (tuple_due c.args.tuple.now) ≡ 5 + c.curve_count-curves.result * 2 = tuple_length c.args.tuple.now c.curve_count-curves.result c.curve_count-curves.ensures in
+    let size : length (tuple_due c.args.tuple.now) ≡ 5 + c.curve_count-curves.result * 2 =
+    tuple_length c.args.tuple.now c.curve_count-curves.result c.curve_count-curves.ensures in
     omega (arith, size)

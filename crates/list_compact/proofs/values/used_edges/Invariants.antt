@@ -6,4 +6,5 @@ use Rattle.list_compact.proofs.ListSteps.{edges_spelled}
 use Rattle.list_compact.proofs.values.used_edges.Given as goal
 
 abbrev pub invariant-edges : goal.invariant-edges
-invariant-edges l = (g : Contents) (e : ℕ) → IsVertexTable g l.ranks → MarksItems l.row (is_used_edge g e) → l.list ≡ (int_value (pos l.used) ∷ []) ++ edges_spelled g (used_from (is_used_edge g e) 1 (take l.i l.listed))
+invariant-edges l = (g : Contents) (e : ℕ) → IsVertexTable g l.ranks → MarksItems l.row (is_used_edge g e)
+    → l.list ≡ (int_value (pos l.used) ∷ []) ++ edges_spelled g (used_from (is_used_edge g e) 1 (take l.i l.listed))

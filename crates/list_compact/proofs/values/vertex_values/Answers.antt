@@ -5,4 +5,5 @@ use Rattle.list_compact.proofs.ListSteps.{vertices_unused}
 use Rattle.list_compact.proofs.values.vertex_values.Goals as goal
 
 pub returns-then-used-eq0 : goal.returns-then-used-eq0
-returns-then-used-eq0 c g e m = vertices_unused g e c.args.values c.args.row.now (items_of vertices c.args.values) refl c.requires.size m (sym c.count_marks-used.ensures.is ∙ c.if-used-eq0.true)
+returns-then-used-eq0 c g e m = vertices_unused g e c.args.values c.args.row.now (items_of vertices c.args.values) refl c.requires.size m
+    (sym c.count_marks-used.ensures.is ∙ c.if-used-eq0.true)

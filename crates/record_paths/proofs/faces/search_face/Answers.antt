@@ -12,7 +12,8 @@ returns-then-names_face c known =
     let f = c.args.file.now in
     let z = c.args.number in
     let rest = sited_after (loops_sited f (in_face c.args.path z c.args.item) z (flat_map (loops f) known)) [] (loops f z) in
-    face_found f c.args.path (pos c.args.shell.0) c.args.item known z _ (to_z-of_z w64 z c.ranges.number) rest c.args.name ((c.names_face.ensures f known).0 c.if-names_face.true)
+    face_found f c.args.path (pos c.args.shell.0) c.args.item known z _ (to_z-of_z w64 z c.ranges.number) rest c.args.name
+    ((c.names_face.ensures f known).0 c.if-names_face.true)
 
 pub returns-in_default : goal.returns-in_default
 returns-in_default c known =
@@ -31,4 +32,5 @@ returns c known =
     let rest = sited_after (loops_sited f (in_face c.args.path z c.args.item) z used) [] (loops f z) in
     face_passed f c.args.path (pos c.args.shell.0) c.args.item known z _ is rest c.args.name c.search_loops.result
     (not_true c.names_face.result (c.names_face.ensures f known) c.if-names_face.false)
-    (inside_face f c.args.path c.args.item z _ is c.in-Some.entity.0 c.in-Some.ensures.some.0 c.args.name c.search_loops.result c.in-Some.listed c.in-Some.ensures.some.1 used (c.search_loops.ensures used))
+    (inside_face f c.args.path c.args.item z _ is c.in-Some.entity.0 c.in-Some.ensures.some.0 c.args.name c.search_loops.result c.in-Some.listed
+    c.in-Some.ensures.some.1 used (c.search_loops.ensures used))

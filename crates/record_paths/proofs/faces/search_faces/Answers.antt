@@ -17,7 +17,8 @@ returns-in_err-search_face c used =
     let is : to_z w64 (of_z w64 z.0) ≡ z.0 = search rules in
     let e = c.in_err-search_face.field-0.0 in
     handed_on all c.args.name c.from_residual.result e
-    (serves_end g xs c.faces.i z all c.args.name e at (c.faces.invariant used) (face_ends f c.args.path (pos c.args.shell.0) used xs c.faces.i z _ at is c.args.name e c.in_err-search_face.ensures))
+    (serves_end g xs c.faces.i z all c.args.name e at (c.faces.invariant used)
+    (face_ends f c.args.path (pos c.args.shell.0) used xs c.faces.i z _ at is c.args.name e c.in_err-search_face.ensures))
     c.from_residual.ensures.1
 
 pub faces-preserved : goal.faces-preserved
@@ -28,7 +29,8 @@ faces-preserved c used =
     let z = c.unwrap-number.result in
     let at : slice_get xs c.faces.i ≡ Some z = sym c.item.ensures ∙ c.unwrap-number.ensures in
     let is : to_z w64 (of_z w64 z.0) ≡ z.0 = search rules in
-    serves_next g xs c.faces.i z (sited_after g [] xs) c.args.name at (c.faces.invariant used) (face_not f c.args.path (pos c.args.shell.0) used xs c.faces.i z _ at is c.args.name c.in_ok-search_face.ensures)
+    serves_next g xs c.faces.i z (sited_after g [] xs) c.args.name at (c.faces.invariant used)
+    (face_not f c.args.path (pos c.args.shell.0) used xs c.faces.i z _ at is c.args.name c.in_ok-search_face.ensures)
 
 pub returns : goal.returns
 returns c used =

@@ -17,7 +17,8 @@ returns-in_err-search_loop c used =
     let is : to_z w64 (of_z w64 z) ≡ z = search rules in
     let e = c.in_err-search_loop.field-0.0 in
     handed_on all c.args.name c.from_residual.result e
-    (serves_end g xs c.loops.i z all c.args.name e at (c.loops.invariant used) (loop_ends f c.args.path (pos c.args.face.0) used xs c.loops.i z _ at is c.args.name e c.in_err-search_loop.ensures))
+    (serves_end g xs c.loops.i z all c.args.name e at (c.loops.invariant used)
+    (loop_ends f c.args.path (pos c.args.face.0) used xs c.loops.i z _ at is c.args.name e c.in_err-search_loop.ensures))
     c.from_residual.ensures.1
 
 pub loops-preserved : goal.loops-preserved
@@ -28,7 +29,8 @@ loops-preserved c used =
     let z = c.unwrap-number.result in
     let at : slice_get xs c.loops.i ≡ Some z = sym c.item.ensures ∙ c.unwrap-number.ensures in
     let is : to_z w64 (of_z w64 z) ≡ z = search rules in
-    serves_next g xs c.loops.i z (sited_after g [] xs) c.args.name at (c.loops.invariant used) (loop_none f c.args.path (pos c.args.face.0) used xs c.loops.i z _ at is c.args.name c.in_ok-search_loop.ensures)
+    serves_next g xs c.loops.i z (sited_after g [] xs) c.args.name at (c.loops.invariant used)
+    (loop_none f c.args.path (pos c.args.face.0) used xs c.loops.i z _ at is c.args.name c.in_ok-search_loop.ensures)
 
 pub returns : goal.returns
 returns c used =

@@ -13,10 +13,12 @@ returns-in-Err-Found c =
 
 pub returns-in-Err-Lost : goal.returns-in-Err-Lost
 returns-in-Err-Lost c =
-    absurd (not_lost c.args.file.now c.args.no.0 c.args.failing (not_true c.asks_for_solid.result (c.asks_for_solid.ensures c.args.file.now) c.if-asks_for_solid.false) c.requires
+    absurd (not_lost c.args.file.now c.args.no.0 c.args.failing
+    (not_true c.asks_for_solid.result (c.asks_for_solid.ensures c.args.file.now) c.if-asks_for_solid.false) c.requires
     c.search_solid.result c.search_solid.ensures (c.in-Err-Lost.is ∙ ap Err c.in-Err-Lost.field-0-is))
 
 pub returns-in-Ok : goal.returns-in-Ok
 returns-in-Ok c =
-    absurd (not_none c.args.file.now c.args.no.0 c.args.failing (not_true c.asks_for_solid.result (c.asks_for_solid.ensures c.args.file.now) c.if-asks_for_solid.false) c.requires
+    absurd (not_none c.args.file.now c.args.no.0 c.args.failing
+    (not_true c.asks_for_solid.result (c.asks_for_solid.ensures c.args.file.now) c.if-asks_for_solid.false) c.requires
     c.search_solid.result c.search_solid.ensures _ c.in-Ok.is)

@@ -13,7 +13,8 @@ returns-then-names_place c known =
     let f = c.args.file.now in
     let z = c.args.number in
     let rest = sited_after (faces_sited f (in_shell c.args.path z c.args.item) z (flat_map (λ b. numbers (faces f b)) known)) [] (faces f z) in
-    place_found f c.args.path (pos c.args.solid.0) c.args.item shell known z _ (to_z-of_z w64 z c.ranges.number) rest c.args.name ((c.names_place.ensures f shell known).0 c.if-names_place.true)
+    place_found f c.args.path (pos c.args.solid.0) c.args.item shell known z _ (to_z-of_z w64 z c.ranges.number) rest c.args.name
+    ((c.names_place.ensures f shell known).0 c.if-names_place.true)
 
 pub returns-in_default : goal.returns-in_default
 returns-in_default c known =
@@ -32,4 +33,5 @@ returns c known =
     let rest = sited_after (faces_sited f (in_shell c.args.path z c.args.item) z used) [] (faces f z) in
     place_passed f c.args.path (pos c.args.solid.0) c.args.item shell known z _ is rest c.args.name c.search_faces.result
     (not_true c.names_place.result (c.names_place.ensures f shell known) c.if-names_place.false)
-    (inside_shell f c.args.path c.args.item z _ is c.in-Some.entity.0 c.in-Some.ensures.some.0 c.args.name c.search_faces.result c.in-Some.listed c.in-Some.ensures.some.1 used (c.search_faces.ensures used))
+    (inside_shell f c.args.path c.args.item z _ is c.in-Some.entity.0 c.in-Some.ensures.some.0 c.args.name c.search_faces.result c.in-Some.listed
+    c.in-Some.ensures.some.1 used (c.search_faces.ensures used))

@@ -17,7 +17,8 @@ returns-in_err-search_shell c =
     let is : to_z w64 (of_z w64 z.0) ≡ z.0 = search rules in
     let e = c.in_err-search_shell.field-0.0 in
     handed_on all c.args.name c.from_residual.result e
-    (serves_end g xs c.shells.i z all c.args.name e at c.shells.invariant (shell_ends f c.args.path (pos c.args.solid.0) [] xs c.shells.i z _ at is c.args.name e c.in_err-search_shell.ensures))
+    (serves_end g xs c.shells.i z all c.args.name e at c.shells.invariant
+    (shell_ends f c.args.path (pos c.args.solid.0) [] xs c.shells.i z _ at is c.args.name e c.in_err-search_shell.ensures))
     c.from_residual.ensures.1
 
 pub shells-preserved : goal.shells-preserved
@@ -28,7 +29,8 @@ shells-preserved c =
     let z = c.unwrap-number.result in
     let at : slice_get xs c.shells.i ≡ Some z = sym c.item.ensures ∙ c.unwrap-number.ensures in
     let is : to_z w64 (of_z w64 z.0) ≡ z.0 = search rules in
-    serves_next g xs c.shells.i z (sited_after g [] xs) c.args.name at c.shells.invariant (shell_not f c.args.path (pos c.args.solid.0) [] xs c.shells.i z _ at is c.args.name c.in_ok-search_shell.ensures)
+    serves_next g xs c.shells.i z (sited_after g [] xs) c.args.name at c.shells.invariant
+    (shell_not f c.args.path (pos c.args.solid.0) [] xs c.shells.i z _ at is c.args.name c.in_ok-search_shell.ensures)
 
 pub returns : goal.returns
 returns c =

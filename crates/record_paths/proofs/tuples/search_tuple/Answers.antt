@@ -14,7 +14,8 @@ returns-then-names_tuple c =
     let t = c.args.tuple.now in
     let is : to_z w64 (of_z w64 c.list.result) ≡ t.list = search rules in
     path_on c.args.name (Some c.args.path) (tuple_at f (pos c.args.the_loop.0) c.args.item t)
-    (tuple_found f c.args.the_loop.0 c.args.item c.args.name t _ is (λ kind index count curves. (c.names_tuple.ensures f kind index count curves).0 c.if-names_tuple.true))
+    (tuple_found f c.args.the_loop.0 c.args.item c.args.name t _ is
+    (λ kind index count curves. (c.names_tuple.ensures f kind index count curves).0 c.if-names_tuple.true))
 
 pub returns-then-is_vertex : goal.returns-then-is_vertex
 returns-then-is_vertex c =
@@ -37,7 +38,8 @@ returns-in-Some-false c =
     none_on x (Some c.args.path) (tuple_at f (pos l) c.args.item t)
     (edge_none f l c.args.item x t _ is (sym c.is_vertex.ensures ∙ c.if-is_vertex.false)
     (λ kind index count curves. not_true c.names_tuple.result (c.names_tuple.ensures f kind index count curves) c.if-names_tuple.false)
-    (moved (λ list index. ¬ Bears (edge_owed f l c.args.item x list index) x) is2 at (not_true c.in-Some-false.field-0 c.in-Some-false.ensures.some c.in-Some-false.field-0-test)))
+    (moved (λ list index. ¬ Bears (edge_owed f l c.args.item x list index) x) is2 at
+    (not_true c.in-Some-false.field-0 c.in-Some-false.ensures.some c.in-Some-false.field-0-test)))
 
 pub returns-in-None : goal.returns-in-None
 returns-in-None c =
@@ -52,6 +54,7 @@ returns-in-None c =
     let bad = moved (λ list index. HasRecordOf edges f list → ¬ IsIndex index (length (told edges f list))) is2 at c.in-None.ensures.none in
     let owed = tuple_at f (pos l) c.args.item t in (
       (λ all. edge_bad f l c.args.item x t _ is edge bad (on_hold (Some c.args.path) owed all)),
-      (λ first. edge_lost f l c.args.item x t _ is edge (λ kind index count curves. not_true c.names_tuple.result (c.names_tuple.ensures f kind index count curves) c.if-names_tuple.false) bad
+      (λ first. edge_lost f l c.args.item x t _ is edge
+          (λ kind index count curves. not_true c.names_tuple.result (c.names_tuple.ensures f kind index count curves) c.if-names_tuple.false) bad
           (on_false (Some c.args.path) owed x first)),
     )

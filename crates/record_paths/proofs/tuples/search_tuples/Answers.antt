@@ -12,8 +12,10 @@ tuples-preserved c =
     record {
       count = omega (arith, i.count, length-append c.tuples.yielded (c.in-Some.tuple ∷ []));
       left = left_step c.tuples.yielded c.tuples.tuple-iterator c.next.new.self c.args.listed.now c.in-Some.tuple i.left c.in-Some.ensures.steps;
-      serves = serves_more g c.tuples.yielded c.tuples.tuple-iterator c.next.new.self c.in-Some.tuple (sited_after g [] c.args.listed.now) c.args.name c.in-Some.ensures.steps i.serves
-          (tuple_none c.args.file.now c.args.path (pos c.args.the_loop.0) c.tuples.yielded c.in-Some.tuple (c.tuples.item + 1) c.args.name place c.in_ok-search_tuple.ensures);
+      serves = serves_more g c.tuples.yielded c.tuples.tuple-iterator c.next.new.self c.in-Some.tuple (sited_after g [] c.args.listed.now) c.args.name
+          c.in-Some.ensures.steps i.serves
+          (tuple_none c.args.file.now c.args.path (pos c.args.the_loop.0) c.tuples.yielded c.in-Some.tuple (c.tuples.item + 1) c.args.name place
+          c.in_ok-search_tuple.ensures);
     }
 
 pub returns-in_err-search_tuple : goal.returns-in_err-search_tuple
@@ -25,7 +27,8 @@ returns-in_err-search_tuple c =
     let place : c.tuples.item + 1 ≡ length c.tuples.yielded + 1 = ap (λ n. n + 1) i.count in
     handed_on all c.args.name c.from_residual.result e
     (serves_stop g c.tuples.yielded c.tuples.tuple-iterator c.next.new.self c.in-Some.tuple all c.args.name e c.in-Some.ensures.steps i.serves
-    (tuple_ends c.args.file.now c.args.path (pos c.args.the_loop.0) c.tuples.yielded c.in-Some.tuple (c.tuples.item + 1) c.args.name e place c.in_err-search_tuple.ensures))
+    (tuple_ends c.args.file.now c.args.path (pos c.args.the_loop.0) c.tuples.yielded c.in-Some.tuple (c.tuples.item + 1) c.args.name e place
+    c.in_err-search_tuple.ensures))
     c.from_residual.ensures.1
 
 pub returns : goal.returns

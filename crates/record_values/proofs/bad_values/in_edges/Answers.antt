@@ -6,7 +6,8 @@ use Rattle.record_values.proofs.bad_values.in_edges.Goals as goal
 
 pub returns-in_default-clause-is : goal.returns-in_default-clause-is
 returns-in_default-clause-is c =
-    c.no_value.ensures ∙ ap (in_edges c.args.file.now c.args.rule c.args.i) (told edges c.args.values.now None c.in_default.ensures.some c.in_default.ensures.read c.in_default.ensures.none)
+    c.no_value.ensures ∙ ap (in_edges c.args.file.now c.args.rule c.args.i)
+    (told edges c.args.values.now None c.in_default.ensures.some c.in_default.ensures.read c.in_default.ensures.none)
 
 pub returns-in-Some-tuple-clause-is : goal.returns-in-Some-tuple-clause-is
 returns-in-Some-tuple-clause-is c =

@@ -9,7 +9,8 @@ use Rattle.record_values.proofs.bad_values.in_loop.Goals as goal
 
 pub returns-in_default-clause-is : goal.returns-in_default-clause-is
 returns-in_default-clause-is c =
-    c.no_value.ensures ∙ ap (in_tuples c.args.file.now c.args.rule c.args.i) (told «loop» c.args.values.now None c.in_default.ensures.some c.in_default.ensures.read c.in_default.ensures.none)
+    c.no_value.ensures ∙ ap (in_tuples c.args.file.now c.args.rule c.args.i)
+    (told «loop» c.args.values.now None c.in_default.ensures.some c.in_default.ensures.read c.in_default.ensures.none)
 
 pub tuples-init : goal.tuples-init
 tuples-init c =
@@ -21,7 +22,8 @@ tuples-init c =
     let room = loop_room ts vs c.in-Some.ensures.some in
     let few = c.requires in
     record {
-      same = ap (at_tuple f c.args.rule 1 c.args.i) all ∙ ap (in_tuples f c.args.rule c.args.i) (told «loop» vs (Some ts) c.in-Some.ensures.some c.in-Some.ensures.read c.in-Some.ensures.none);
+      same = ap (at_tuple f c.args.rule 1 c.args.i) all
+          ∙ ap (in_tuples f c.args.rule c.args.i) (told «loop» vs (Some ts) c.in-Some.ensures.some c.in-Some.ensures.read c.in-Some.ensures.none);
       room = omega (arith, sum, room, few);
     }
 

@@ -11,5 +11,6 @@ returns-in_err-next c =
     let shape = c.args.shape.now in
     let i = c.slots.slot-index in
     let p = err_from_is_err_and c.from_residual.result c.from_residual.ensures.1 in
-    rw (p.1, p.2) (gets_stop c.args.values.now c.args.at c.slots.next c.in_err-next.field-0.0 (map single shape) (map single (drop i shape)) (single _ ∷ []) (map single (drop (i + 1) shape)) c.slots.invariant
+    rw (p.1, p.2) (gets_stop c.args.values.now c.args.at c.slots.next c.in_err-next.field-0.0 (map single shape) (map single (drop i shape)) (single _ ∷ [])
+    (map single (drop (i + 1) shape)) c.slots.invariant
     (one_slot shape i _ (drop_more shape i slot.Pointer c.slots-test.true)) c.in_err-next.ensures)

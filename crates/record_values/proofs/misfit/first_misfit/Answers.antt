@@ -6,7 +6,8 @@ use Rattle.record_values.proofs.misfit.first_misfit.Goals as goal
 
 pub returns-in-Ok-clause-is : goal.returns-in-Ok-clause-is
 unfolding first_misfit
-returns-in-Ok-clause-is c = c.after_fillers.ensures ∙ sym (ap (λ es. misfit_from 0 es c.args.values.now) (sym (append-nil (layout c.args.kind))) ∙ c.in-Ok.ensures [])
+returns-in-Ok-clause-is c = c.after_fillers.ensures
+    ∙ sym (ap (λ es. misfit_from 0 es c.args.values.now) (sym (append-nil (layout c.args.kind))) ∙ c.in-Ok.ensures [])
 
 pub returns-in-Err-clause-is : goal.returns-in-Err-clause-is
 unfolding first_misfit

@@ -10,7 +10,8 @@ use Rattle.record_values.proofs.naming.face_named.Goals as goal
 pub returns-in_default : goal.returns-in_default
 returns-in_default c =
     let same = sym (to_z-of_z w64 c.args.face c.ranges.face) in
-    face_told c.args.file.now c.args.face _ None (ap (values_of c.args.file.now) same ∙ no_values (named c.args.file.now (to_z w64 (of_z w64 c.args.face))) c.in_default.ensures.values) refl
+    face_told c.args.file.now c.args.face _ None
+    (ap (values_of c.args.file.now) same ∙ no_values (named c.args.file.now (to_z w64 (of_z w64 c.args.face))) c.in_default.ensures.values) refl
 
 pub returns : goal.returns
 returns c =

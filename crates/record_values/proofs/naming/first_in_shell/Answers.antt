@@ -41,7 +41,8 @@ returns-in-Some-first_in_face c =
     let fits : SFits w64 a.0 = search rules in
     let there = sym c.unwrap-face.ensures ∙ c.item.ensures in
     let back = same_number f c.args.shell c.args.number z n (to_z-of_z w64 c.args.shell c.ranges.shell) (to_z-of_z w64 c.args.number c.ranges.number) in
-    sym (named_within (of_item f z) xs i a n (names z (i + 1) a.0) (names_in_face f a.0) c.in-Some-first_in_face.found there refl (unlike a.0 c.args.number c.ranges.number c.if-face-number.false)
+    sym (named_within (of_item f z) xs i a n (names z (i + 1) a.0) (names_in_face f a.0) c.in-Some-first_in_face.found there refl
+    (unlike a.0 c.args.number c.ranges.number c.if-face-number.false)
     (ap (λ x. first_of n (names_in_face f x)) (sym (to_z-of_z w64 a.0 fits)) ∙ sym c.first_in_face.ensures ∙ c.in-Some-first_in_face.is))
     ∙ c.faces.invariant ∙ back
 
@@ -55,7 +56,8 @@ faces-preserved c =
     let a = c.unwrap-face.result in
     let fits : SFits w64 a.0 = search rules in
     let there = sym c.unwrap-face.ensures ∙ c.item.ensures in
-    sym (not_named (of_item f z) xs i a n (names z (i + 1) a.0) (names_in_face f a.0) there refl (unlike a.0 c.args.number c.ranges.number c.if-face-number.false)
+    sym (not_named (of_item f z) xs i a n (names z (i + 1) a.0) (names_in_face f a.0) there refl
+    (unlike a.0 c.args.number c.ranges.number c.if-face-number.false)
     (ap (λ x. first_of n (names_in_face f x)) (sym (to_z-of_z w64 a.0 fits)) ∙ sym c.first_in_face.ensures ∙ c.in_default-first_in_face.is))
     ∙ c.faces.invariant
 

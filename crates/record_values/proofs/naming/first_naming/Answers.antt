@@ -45,7 +45,8 @@ returns-in-Some-first_in_shell c =
     let fits : SFits w64 a.0 = search rules in
     let there = sym c.unwrap-shell.ensures ∙ c.item.ensures in
     let back = same_number f c.args.solid c.args.number z n (to_z-of_z w64 c.args.solid c.ranges.solid) (to_z-of_z w64 c.args.number c.ranges.number) in
-    sym (named_within (of_item f z) xs i a n (names z (i + 1) a.0) (names_in_shell f a.0) c.in-Some-first_in_shell.found there refl (unlike a.0 c.args.number c.ranges.number c.if-shell-number.false)
+    sym (named_within (of_item f z) xs i a n (names z (i + 1) a.0) (names_in_shell f a.0) c.in-Some-first_in_shell.found there refl
+    (unlike a.0 c.args.number c.ranges.number c.if-shell-number.false)
     (ap (λ x. first_of n (names_in_shell f x)) (sym (to_z-of_z w64 a.0 fits)) ∙ sym c.first_in_shell.ensures ∙ c.in-Some-first_in_shell.is))
     ∙ c.shells.invariant ∙ back
 
@@ -60,7 +61,8 @@ shells-preserved c =
     let a = c.unwrap-shell.result in
     let fits : SFits w64 a.0 = search rules in
     let there = sym c.unwrap-shell.ensures ∙ c.item.ensures in
-    sym (not_named (of_item f z) xs i a n (names z (i + 1) a.0) (names_in_shell f a.0) there refl (unlike a.0 c.args.number c.ranges.number c.if-shell-number.false)
+    sym (not_named (of_item f z) xs i a n (names z (i + 1) a.0) (names_in_shell f a.0) there refl
+    (unlike a.0 c.args.number c.ranges.number c.if-shell-number.false)
     (ap (λ x. first_of n (names_in_shell f x)) (sym (to_z-of_z w64 a.0 fits)) ∙ sym c.first_in_shell.ensures ∙ c.in_default-first_in_shell.is))
     ∙ c.shells.invariant
 
@@ -84,7 +86,8 @@ unwrap-shell-requires c =
 
 pub shells-init : goal.shells-init
 unfolding first_naming
-shells-init c = ap (λ xs. first_of (to_z w64 (of_z w64 c.args.number)) (flat_map (of_item c.args.file.now (to_z w64 (of_z w64 c.args.solid))) (enumerate_from 1 xs))) (sym c.in-Some.ensures)
+shells-init c = ap (λ xs. first_of (to_z w64 (of_z w64 c.args.number))
+    (flat_map (of_item c.args.file.now (to_z w64 (of_z w64 c.args.solid))) (enumerate_from 1 xs))) (sym c.in-Some.ensures)
 
 pub returns-in_default : goal.returns-in_default
 unfolding first_naming

@@ -10,7 +10,8 @@ use Rattle.record_values.proofs.naming.shell_named.Goals as goal
 pub returns-in_default : goal.returns-in_default
 returns-in_default c =
     let same = sym (to_z-of_z w64 c.args.shell c.ranges.shell) in
-    shell_told c.args.file.now c.args.shell _ None (ap (values_of c.args.file.now) same ∙ no_values (named c.args.file.now (to_z w64 (of_z w64 c.args.shell))) c.in_default.ensures.values) refl
+    shell_told c.args.file.now c.args.shell _ None
+    (ap (values_of c.args.file.now) same ∙ no_values (named c.args.file.now (to_z w64 (of_z w64 c.args.shell))) c.in_default.ensures.values) refl
 
 pub returns : goal.returns
 returns c =

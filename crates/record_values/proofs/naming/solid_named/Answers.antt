@@ -10,7 +10,8 @@ use Rattle.record_values.proofs.naming.solid_named.Goals as goal
 pub returns-in_default : goal.returns-in_default
 returns-in_default c =
     let same = sym (to_z-of_z w64 c.args.solid c.ranges.solid) in
-    solid_told c.args.file.now c.args.solid _ None (ap (values_of c.args.file.now) same ∙ no_values (named c.args.file.now (to_z w64 (of_z w64 c.args.solid))) c.in_default.ensures.values) refl
+    solid_told c.args.file.now c.args.solid _ None
+    (ap (values_of c.args.file.now) same ∙ no_values (named c.args.file.now (to_z w64 (of_z w64 c.args.solid))) c.in_default.ensures.values) refl
 
 pub returns : goal.returns
 returns c =

@@ -7,7 +7,8 @@ use Rattle.solid_extract.proofs.extraction.renaming_of.Goals as goal
 
 pub returns-in-Some-clause-fault : goal.returns-in-Some-clause-fault
 returns-in-Some-clause-fault c =
-    refused_is c.args.file.now c.args.no.0 c.in_ok-flood.flood.reached.numbers c.in_ok-flood.flood.refusal c.in-Some.refusal (sym c.is_solid.ensures ∙ c.if-not-is_solid.false) c.in_ok-flood.ensures.flooded c.in-Some.is
+    refused_is c.args.file.now c.args.no.0 c.in_ok-flood.flood.reached.numbers c.in_ok-flood.flood.refusal c.in-Some.refusal
+    (sym c.is_solid.ensures ∙ c.if-not-is_solid.false) c.in_ok-flood.ensures.flooded c.in-Some.is
 
 pub returns-clause-found : goal.returns-clause-found
 returns-clause-found c =
@@ -21,5 +22,6 @@ returns-clause-found c =
       flooded = subst (IsFlooded f c.args.no.0 c.in_ok-flood.flood.reached.numbers) c.in_default.is c.in_ok-flood.ensures.flooded;
       rising = c.in_ok-kept.ensures.rising;
       few = subst (λ (ms : List ℕ). value_count (records_of f ms) ≤ 164000000) (sym c.in_ok-renaming.ensures)
-          (values_fit f c.args.no.0 c.in_ok-flood.flood.reached.numbers c.in_ok-flood.flood.refusal c.in_ok-kept.kept solid c.in_ok-flood.ensures.flooded c.in_default.is c.in_ok-kept.ensures.rising c.entry_count.ensures.made);
+          (values_fit f c.args.no.0 c.in_ok-flood.flood.reached.numbers c.in_ok-flood.flood.refusal c.in_ok-kept.kept solid c.in_ok-flood.ensures.flooded
+          c.in_default.is c.in_ok-kept.ensures.rising c.entry_count.ensures.made);
     }

@@ -23,15 +23,18 @@ push_taken-requires-clause-named c =
     let f = c.args.file in
     let kept = c.kept-kept.result.now in
     let at = sym c.get.ensures.item ∙ ap option_copied c.unwrap-no.ensures in
-    let faultless = within_at (IsFaultless f) kept c.entries.i c.unwrap-no.result.now (subst (AllByRecursion (IsFaultless f)) (sym c.kept-kept.ensures.is) c.requires.faultless) at in
-    subst IsSome (sym (left_named f c.entries.file (numbers_of kept) c.entries.i c.unwrap-no.result.now.0 (number_at kept c.entries.i c.unwrap-no.result.now at) c.entries.invariant.left)) faultless.0
+    let faultless = within_at (IsFaultless f) kept c.entries.i c.unwrap-no.result.now
+    (subst (AllByRecursion (IsFaultless f)) (sym c.kept-kept.ensures.is) c.requires.faultless) at in
+    subst IsSome (sym (left_named f c.entries.file (numbers_of kept) c.entries.i c.unwrap-no.result.now.0
+    (number_at kept c.entries.i c.unwrap-no.result.now at) c.entries.invariant.left)) faultless.0
 
 pub push_taken-requires-clause-entries : goal.push_taken-requires-clause-entries
 push_taken-requires-clause-entries c =
     let kept = c.kept-kept.result.now in
     let long = length-map kept (λ (no : EntryNo). no.0) in
     let few : length c.args.renaming.now ≤ 4999999 = c.kept-kept.ensures.few in
-    next_few c.args.file c.args.renaming.now (numbers_of c.kept-kept.result.now) c.entries.i c.entries.new.entries c.entries.invariant.entries (omega (arith, c.entries-test.true, c.len-i-end.ensures, long))
+    next_few c.args.file c.args.renaming.now (numbers_of c.kept-kept.result.now) c.entries.i c.entries.new.entries c.entries.invariant.entries
+    (omega (arith, c.entries-test.true, c.len-i-end.ensures, long))
     (omega (arith, ap length c.kept-kept.ensures.is, few))
 
 pub push_taken-requires-clause-values : goal.push_taken-requires-clause-values
@@ -39,7 +42,8 @@ push_taken-requires-clause-values c =
     let f = c.args.file in
     let kept = c.kept-kept.result.now in
     let at = sym c.get.ensures.item ∙ ap option_copied c.unwrap-no.ensures in
-    left_room f c.entries.file (numbers_of kept) c.entries.i c.unwrap-no.result.now.0 (number_at kept c.entries.i c.unwrap-no.result.now at) c.entries.invariant.left c.args.renaming.now c.entries.new.entries c.entries.invariant.entries
+    left_room f c.entries.file (numbers_of kept) c.entries.i c.unwrap-no.result.now.0 (number_at kept c.entries.i c.unwrap-no.result.now at)
+    c.entries.invariant.left c.args.renaming.now c.entries.new.entries c.entries.invariant.entries
     (subst (λ (ms : List ℕ). value_count (records_of c.args.file ms) ≤ 164000000) (sym c.kept-kept.ensures.is) c.requires.values)
 
 pub entries-preserved : goal.entries-preserved
@@ -48,9 +52,12 @@ entries-preserved c =
     let kept = c.kept-kept.result.now in
     let at = sym c.get.ensures.item ∙ ap option_copied c.unwrap-no.ensures in
     let number = number_at kept c.entries.i c.unwrap-no.result.now at in
-    let faultless = within_at (IsFaultless f) kept c.entries.i c.unwrap-no.result.now (subst (AllByRecursion (IsFaultless f)) (sym c.kept-kept.ensures.is) c.requires.faultless) at in
+    let faultless = within_at (IsFaultless f) kept c.entries.i c.unwrap-no.result.now
+    (subst (AllByRecursion (IsFaultless f)) (sym c.kept-kept.ensures.is) c.requires.faultless) at in
     record {
-      left = less_left f c.entries.file (numbers_of kept) c.entries.i c.unwrap-no.result.now.0 number c.entries.invariant.left c.push_taken.new.file faultless.0 c.in_ok-push_taken.ensures.taken;
-      entries = left_entries f c.entries.file (numbers_of kept) c.entries.i c.unwrap-no.result.now.0 number c.entries.invariant.left c.args.renaming.now c.entries.new.entries c.push_taken.new.new.entries c.entries.invariant.entries
+      left = less_left f c.entries.file (numbers_of kept) c.entries.i c.unwrap-no.result.now.0 number c.entries.invariant.left c.push_taken.new.file
+          faultless.0 c.in_ok-push_taken.ensures.taken;
+      entries = left_entries f c.entries.file (numbers_of kept) c.entries.i c.unwrap-no.result.now.0 number c.entries.invariant.left c.args.renaming.now
+          c.entries.new.entries c.push_taken.new.new.entries c.entries.invariant.entries
           (ap (λ (x : Contents). x.entries) c.in_ok-push_taken.ensures.put);
     }

@@ -9,7 +9,8 @@ use Rattle.solid_extract.proofs.reaching.reach.Goals as goal
 
 pub add-requires : goal.add-requires
 add-requires c =
-    let size : c.in_ok-reached.reached.size ≡ length c.args.file.now.entries = ap (λ (s : Entries). s.size) c.in_ok-reached.ensures ∙ c.entry_count.ensures.is in
+    let size : c.in_ok-reached.reached.size ≡ length c.args.file.now.entries = ap (λ (s : Entries). s.size) c.in_ok-reached.ensures ∙ c.entry_count.ensures.is
+    in
     subst (λ (n : ℕ). IsWithin n c.args.no.0) (sym size) (is_within c.args.file.now c.args.no.0 c.requires)
 
 pub entries-init : goal.entries-init
@@ -26,11 +27,13 @@ entries-preserved c =
     let f = c.args.file.now in
     let e = c.in-Some.entity in
     let goes : IsFlooding f c.args.no.0 (c.entries.next + 1) (with_refs f c.entries.reached.numbers e.0) (least_of c.entries.refusal e c.in_ok-fault.fault) =
-    flood_goes f c.args.no.0 c.entries.next c.entries.reached.numbers c.entries.refusal e c.in_ok-fault.fault c.entries.invariant.flooding (sym (c.in-Some.ensures {u = tt}).is) c.in_ok-fault.ensures.fault in
+    flood_goes f c.args.no.0 c.entries.next c.entries.reached.numbers c.entries.refusal e c.in_ok-fault.fault c.entries.invariant.flooding
+    (sym (c.in-Some.ensures {u = tt}).is) c.in_ok-fault.ensures.fault in
     record {
       flooding =
           subst (λ (r : Option Refusal). IsFlooding f c.args.no.0 (c.entries.next + 1) c.visit.new.reached.numbers r) (sym c.least_of-refusal.ensures)
-          (subst (λ (ns : List ℕ). IsFlooding f c.args.no.0 (c.entries.next + 1) ns (least_of c.entries.refusal e c.in_ok-fault.fault)) (sym (ap (λ (s : Entries). s.numbers) c.in_ok-fault.ensures.reached)) goes);
+          (subst (λ (ns : List ℕ). IsFlooding f c.args.no.0 (c.entries.next + 1) ns (least_of c.entries.refusal e c.in_ok-fault.fault))
+          (sym (ap (λ (s : Entries). s.numbers) c.in_ok-fault.ensures.reached)) goes);
       size = ap (λ (s : Entries). s.size) c.in_ok-fault.ensures.reached ∙ c.entries.invariant.size;
     }
 

@@ -5,5 +5,6 @@ use Rattle.where_entities.proofs.label.trimmed.Goals as goal
 pub spaces-preserved : goal.spaces-preserved
 spaces-preserved c = record {
   within = omega arith;
-  rest = sym (end_trim-space c.without_front_spaces-front.result.now c.spaces.end (omega arith) c.spaces.invariant.within c.if-front-end-eq32.true) ∙ c.spaces.invariant.rest;
+  rest = sym (end_trim-space c.without_front_spaces-front.result.now c.spaces.end (omega arith) c.spaces.invariant.within c.if-front-end-eq32.true)
+      ∙ c.spaces.invariant.rest;
 }

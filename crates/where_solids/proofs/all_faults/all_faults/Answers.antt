@@ -15,5 +15,6 @@ shells-preserved c =
     record {
       below = c.below_next-below.ensures c.args.solid.now c.shells.k c.shell_count-count.ensures.numbered lt c.shells.invariant.below c.in_ok-rows.ensures;
       each = longer c.shells.all c.push.new.self c.in_ok-faults_of.field-0 c.shells.k c.shells.invariant.each c.in_ok-push.ensures.ok;
-      shell = faults_more c.args.solid.now c.shells.k c.shells.all c.push.new.self c.in_ok-faults_of.field-0 c.shells.invariant.each c.in_ok-push.ensures.ok c.shells.invariant.shell c.in_ok-faults_of.ensures;
+      shell = faults_more c.args.solid.now c.shells.k c.shells.all c.push.new.self c.in_ok-faults_of.field-0 c.shells.invariant.each c.in_ok-push.ensures.ok
+          c.shells.invariant.shell c.in_ok-faults_of.ensures;
     }

@@ -5,13 +5,15 @@ use Rattle.where_solids.proofs.Counts.{counted_few, counted_more}
 use Rattle.where_solids.proofs.hints.unset_flags.Goals as goal
 
 pub unset_at-count-requires-clause-few : goal.unset_at-count-requires-clause-few
-unset_at-count-requires-clause-few c = omega (arith, few_shells c.args.solid.now c.shell_count-k-end.ensures.numbered, c.shells-test.true, c.shell_count-k-end.ensures.count)
+unset_at-count-requires-clause-few c =
+    omega (arith, few_shells c.args.solid.now c.shell_count-k-end.ensures.numbered, c.shells-test.true, c.shell_count-k-end.ensures.count)
 
 pub overflow_add-count : goal.overflow_add-count
 overflow_add-count c =
     let h = get_some c.args.solid.now.shells c.shells.k (omega (arith, c.shells-test.true, c.shell_count-k-end.ensures.count)) in
     let is = rw h.1 at c.unset_at-count.ensures in
-    let few = counted_few c.args.solid.now c.shells.k h.0 c.shells.count c.unset_at-count.result c.shell_count-k-end.ensures.numbered h.1 is c.shells.invariant in
+    let few = counted_few c.args.solid.now c.shells.k h.0 c.shells.count c.unset_at-count.result c.shell_count-k-end.ensures.numbered h.1 is c.shells.invariant
+    in
     let small : c.shells.count + c.unset_at-count.result < 2 ^ 64 = omega (arith, few) in
     search (rules, small)
 

@@ -1,4 +1,5 @@
-use Rattle.std.proofs.Common.{◌≡◌, get_or, ◌∙◌, ◌⊎◌, inl, inr, ap, subst, Some, slice_get, length, ◌++◌, ◌∷◌, [], List, ℕ, zero, suc, refl, arith, length-append}
+use Rattle.std.proofs.Common.{◌≡◌, get_or, ◌∙◌, ◌⊎◌, inl, inr, ap, subst, Some, slice_get, length, ◌++◌, ◌∷◌, [], List, ℕ, zero, suc, refl, arith}
+use Rattle.std.proofs.Common.{length-append}
 use Rattle.std.proofs.lemmas.Option.{same_Some, none-some, get_or_from_slice_get}
 use Rattle.iges_base.specs.declared.entry_no.EntryNo.{EntryNo}
 use Rattle.iges_params.specs.Contents.{Contents}
@@ -21,9 +22,13 @@ solids-preserved c = record {
       elim (get_pushed c.solids.verdicts c.in_ok-verdict_on.field-0 v j (subst (λ (xs : List Verdict). slice_get xs j ≡ Some v) c.in_ok-push.ensures.ok b)) [
         | inl old ↦ c.solids.invariant.verdict j n v a old
         | inr last ↦
-            let here : slice_get c.args.solids.now c.solids.i ≡ Some n = subst (λ (k : ℕ). slice_get c.args.solids.now k ≡ Some n) (last.0 ∙ c.solids.invariant.each) a in
-            let same : get_or c.args.solids.now c.solids.i (record { 0 = 0 }) ≡ n = get_or_from_slice_get c.args.solids.now c.solids.i n (record { 0 = 0 }) here in
-            let judged = subst (λ (f : Contents). IsVerdictOn f (get_or c.args.solids.now c.solids.i (record { 0 = 0 })).0 c.in_ok-verdict_on.field-0) c.solids.invariant.file c.in_ok-verdict_on.ensures.verdict in
-            subst (λ (w : Verdict). IsVerdictOn c.args.file.now n.0 w) last.1 (subst (λ (m : EntryNo). IsVerdictOn c.args.file.now m.0 c.in_ok-verdict_on.field-0) same judged)
+            let here : slice_get c.args.solids.now c.solids.i ≡ Some n =
+            subst (λ (k : ℕ). slice_get c.args.solids.now k ≡ Some n) (last.0 ∙ c.solids.invariant.each) a in
+            let same : get_or c.args.solids.now c.solids.i (record { 0 = 0 }) ≡ n = get_or_from_slice_get c.args.solids.now c.solids.i n (record { 0 = 0 })
+            here in
+            let judged = subst (λ (f : Contents). IsVerdictOn f (get_or c.args.solids.now c.solids.i (record { 0 = 0 })).0 c.in_ok-verdict_on.field-0)
+            c.solids.invariant.file c.in_ok-verdict_on.ensures.verdict in
+            subst (λ (w : Verdict). IsVerdictOn c.args.file.now n.0 w) last.1
+            (subst (λ (m : EntryNo). IsVerdictOn c.args.file.now m.0 c.in_ok-verdict_on.field-0) same judged)
       ];
 }

@@ -6,14 +6,17 @@ returns-in-Some c = gap_first c.args.solid.now c.args.shell.now c.args.faults.no
 
 pub returns-in-Some-first_unpaired : goal.returns-in-Some-first_unpaired
 returns-in-Some-first_unpaired c =
-    pair_first c.args.solid.now c.args.shell.now c.args.faults.now c.in-Some-first_unpaired.failing (rw c.gaps.ensures at c.in_default.ensures) (rw c.unpaired.ensures at c.in-Some-first_unpaired.ensures)
+    pair_first c.args.solid.now c.args.shell.now c.args.faults.now c.in-Some-first_unpaired.failing (rw c.gaps.ensures at c.in_default.ensures)
+    (rw c.unpaired.ensures at c.in-Some-first_unpaired.ensures)
 
 pub returns-in-Some-first_apart : goal.returns-in-Some-first_apart
 returns-in-Some-first_apart c =
-    face_first c.args.solid.now c.args.shell.now c.args.faults.now c.in-Some-first_apart.failing (rw c.gaps.ensures at c.in_default.ensures) (rw c.unpaired.ensures at c.in_default-first_unpaired.ensures)
+    face_first c.args.solid.now c.args.shell.now c.args.faults.now c.in-Some-first_apart.failing (rw c.gaps.ensures at c.in_default.ensures)
+    (rw c.unpaired.ensures at c.in_default-first_unpaired.ensures)
     (rw (c.as_slice.ensures, c.firsts.ensures) at c.in-Some-first_apart.ensures)
 
 pub returns-in-Some-first_unlinked : goal.returns-in-Some-first_unlinked
 returns-in-Some-first_unlinked c =
-    vertex_first c.args.solid.now c.args.shell.now c.args.faults.now c.in-Some-first_unlinked.failing (rw c.gaps.ensures at c.in_default.ensures) (rw c.unpaired.ensures at c.in_default-first_unpaired.ensures)
+    vertex_first c.args.solid.now c.args.shell.now c.args.faults.now c.in-Some-first_unlinked.failing (rw c.gaps.ensures at c.in_default.ensures)
+    (rw c.unpaired.ensures at c.in_default-first_unpaired.ensures)
     (rw (c.as_slice.ensures, c.firsts.ensures) at c.in_default-first_apart.ensures) (rw c.linking.ensures at c.in-Some-first_unlinked.ensures)

@@ -5,4 +5,5 @@ use Rattle.where_solids.proofs.FirstFailing.{first_item}
 use Rattle.where_solids.proofs.verdicts.first_unpaired.Goals as goal
 
 pub returns : goal.returns
-returns c = first_item (unpaired_failing c.args.solid.now) c.args.unpaired.now _ _ c.in-len1-up.len_at_least (ap (named_edge RuleUnpaired) c.edge_key-key.ensures)
+returns c = first_item (unpaired_failing c.args.solid.now) c.args.unpaired.now _ _ c.in-len1-up.len_at_least
+    (ap (named_edge RuleUnpaired) c.edge_key-key.ensures)

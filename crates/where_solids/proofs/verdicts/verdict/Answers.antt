@@ -8,7 +8,8 @@ pub shells-init : goal.shells-init
 shells-init c = rests_none c.args.solid.now
 
 pub failing_at-requires-clause-few : goal.failing_at-requires-clause-few
-failing_at-requires-clause-few c = omega (arith, few_shells c.args.solid.now c.shell_count-k-end.ensures.numbered, c.shells-test.true, c.shell_count-k-end.ensures.count)
+failing_at-requires-clause-few c =
+    omega (arith, few_shells c.args.solid.now c.shell_count-k-end.ensures.numbered, c.shells-test.true, c.shell_count-k-end.ensures.count)
 
 pub returns-in-Some : goal.returns-in-Some
 returns-in-Some c =

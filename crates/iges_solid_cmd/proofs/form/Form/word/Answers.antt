@@ -12,5 +12,6 @@ returns-in_err-place c =
 
 pub returns : goal.returns
 returns c =
-    let is = word_meant c.args.what c.args.self.slots.now (map string_bytes c.args.words.now) (Some c.in_ok-place.place) (sym c.in_ok-place.was ∙ c.place.ensures) in
+    let is = word_meant c.args.what c.args.self.slots.now (map string_bytes c.args.words.now) (Some c.in_ok-place.place)
+    (sym c.in_ok-place.was ∙ c.place.ensures) in
     subst (λ o. MatchOption c.word_at.result (o ≡ None) (λ w. o ≡ Some w.now)) (sym is) c.word_at.ensures

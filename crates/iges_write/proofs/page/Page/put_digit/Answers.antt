@@ -11,5 +11,6 @@ returns c =
     let is = decimal_digit c.args.n c.requires.digit in
     let two : length (decimal c.args.n ++ c.args.delimiter ∷ []) ≡ 2 = ap (λ (x : List ℕ). length (x ++ c.args.delimiter ∷ [])) is in
     subst (λ (s : Sheet). Steps c.put_part.result c.put_part.new.self s)
-    (ap (put_part c.args.self.now) (sym (ap (λ (x : List ℕ). x ++ c.args.delimiter ∷ []) is)) ∙ word_is_part c.args.self.now word (omega (arith, two, c.requires.width)))
+    (ap (put_part c.args.self.now) (sym (ap (λ (x : List ℕ). x ++ c.args.delimiter ∷ []) is))
+    ∙ word_is_part c.args.self.now word (omega (arith, two, c.requires.width)))
     c.put_part.ensures

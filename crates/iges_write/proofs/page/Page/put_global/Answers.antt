@@ -26,7 +26,8 @@ returns-in_err-put_values-clause-steps c =
     failed c.from_residual-in_err-put_values.result _ (put_parts t (parts t.width c.args.delims.now c.args.values.now)) _ _
     (ended_behind s first (parts s.width c.args.delims.now c.args.values.now) _
     (global_parts s.width d c.args.values.now ∙ ap (λ (e : ℕ). front e ++ parts s.width d c.args.values.now) (sym c.delimiter_before.ensures)) c.requires
-    t _ (let h = c.in_ok-put_delimiters.ensures {u = tt} in h.steps) (ap (λ (n : ℕ). parts n c.args.delims.now c.args.values.now) (parts_width s t first (let h = c.in_ok-put_delimiters.ensures {u = tt} in h.steps))))
+    t _ (let h = c.in_ok-put_delimiters.ensures {u = tt} in h.steps)
+    (ap (λ (n : ℕ). parts n c.args.delims.now c.args.values.now) (parts_width s t first (let h = c.in_ok-put_delimiters.ensures {u = tt} in h.steps))))
     (c.in_err-put_values.ensures {u = tt}) c.from_residual-in_err-put_values.ensures.1
 
 pub returns-clause-steps : goal.returns-clause-steps
@@ -40,5 +41,6 @@ returns-clause-steps c =
     (ended_done s first (parts s.width c.args.delims.now c.args.values.now) _
     (global_parts s.width d c.args.values.now ∙ ap (λ (e : ℕ). front e ++ parts s.width d c.args.values.now) (sym c.delimiter_before.ensures)) c.requires
     t c.put_values.new.self (parts t.width c.args.delims.now c.args.values.now) (let h = c.in_ok-put_delimiters.ensures {u = tt} in h.steps)
-    (ap (λ (n : ℕ). parts n c.args.delims.now c.args.values.now) (parts_width s t first (let h = c.in_ok-put_delimiters.ensures {u = tt} in h.steps))) (c.in_ok-put_values.ensures {u = tt}))
+    (ap (λ (n : ℕ). parts n c.args.delims.now c.args.values.now) (parts_width s t first (let h = c.in_ok-put_delimiters.ensures {u = tt} in h.steps)))
+    (c.in_ok-put_values.ensures {u = tt}))
     c.end_line.ensures

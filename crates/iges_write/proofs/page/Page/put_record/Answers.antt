@@ -13,7 +13,8 @@ returns-in_err-fill_record c =
     let lines = λ (n : ℕ). fill n [] (parts n c.args.delims.now (value.Int c.args.kind.now ∷ c.args.values.now)) in
     let is = c.in_ok-set_tail.ensures in
     same_fails c.from_residual-in_err-fill_record.result _ _ _
-    (subst (λ (n : ℕ). Fails c.in_err-fill_record.field-0.0 (put_lines s (map (λ (l : List ℕ). l ++ record_tail c.args.number) (lines n)))) (ap (λ (x : Sheet). x.width) is)
+    (subst (λ (n : ℕ). Fails c.in_err-fill_record.field-0.0 (put_lines s (map (λ (l : List ℕ). l ++ record_tail c.args.number) (lines n))))
+    (ap (λ (x : Sheet). x.width) is)
     (record_fails s t (record_tail c.args.number) (lines t.width) c.requires.empty c.requires.no_tail is _ (c.in_err-fill_record.ensures {u = tt})))
     c.from_residual-in_err-fill_record.ensures.1
 
@@ -23,5 +24,6 @@ returns c =
     let t = c.set_tail.new.self in
     let lines = λ (n : ℕ). fill n [] (parts n c.args.delims.now (value.Int c.args.kind.now ∷ c.args.values.now)) in
     let is = c.in_ok-set_tail.ensures in
-    c.clear_tail.ensures ∙ record_done s t c.fill_record.new.self (record_tail c.args.number) (lines t.width) c.requires.empty c.requires.no_tail is (c.in_ok-fill_record.ensures {u = tt})
+    c.clear_tail.ensures ∙ record_done s t c.fill_record.new.self (record_tail c.args.number) (lines t.width) c.requires.empty c.requires.no_tail is
+    (c.in_ok-fill_record.ensures {u = tt})
     ∙ ap (λ (n : ℕ). put_lines s (map (λ (l : List ℕ). l ++ record_tail c.args.number) (lines n))) (ap (λ (x : Sheet). x.width) is)

@@ -11,7 +11,8 @@ returns-then-rank-eq0 c used ranks covers =
     let list_fits : SFits w64 c.args.list = search rules in
     let rank_fits : SFits w64 c.rank-rank.result = search rules in
     let none : c.rank-rank.result ≡ pos 0 = sym (to_z-of_z w64 c.rank-rank.result rank_fits) ∙ ap (to_z w64) c.if-rank-eq0.true in
-    stays_index c.args.self.now used ranks covers (to_z w64 (of_z w64 c.args.list)) (to_z w64 (of_z w64 c.args.index)) c.rank-rank.result c.rank-rank.ensures.item c.rank-rank.ensures.found none
+    stays_index c.args.self.now used ranks covers (to_z w64 (of_z w64 c.args.list)) (to_z w64 (of_z w64 c.args.index)) c.rank-rank.result
+    c.rank-rank.ensures.item c.rank-rank.ensures.found none
     ∙ (ap (λ z. ranked (used (entry_number z)) (to_z w64 (of_z w64 c.args.index))) (to_z-of_z w64 c.args.list list_fits)
     ∙ ap (ranked (used (entry_number c.args.list))) (to_z-of_z w64 c.args.index fits))
 
@@ -21,6 +22,7 @@ returns-else-rank-eq0 c used ranks covers =
     let list_fits : SFits w64 c.args.list = search rules in
     let rank_fits : SFits w64 c.rank-rank.result = search rules in
     to_z-of_z w64 c.rank-rank.result rank_fits
-    ∙ (rank_index c.args.self.now used ranks covers (to_z w64 (of_z w64 c.args.list)) (to_z w64 (of_z w64 c.args.index)) c.rank-rank.result c.rank-rank.ensures.item c.rank-rank.ensures.found (λ none. c.if-rank-eq0.false (ap (of_z w64) none))
+    ∙ (rank_index c.args.self.now used ranks covers (to_z w64 (of_z w64 c.args.list)) (to_z w64 (of_z w64 c.args.index)) c.rank-rank.result
+    c.rank-rank.ensures.item c.rank-rank.ensures.found (λ none. c.if-rank-eq0.false (ap (of_z w64) none))
     ∙ (ap (λ z. ranked (used (entry_number z)) (to_z w64 (of_z w64 c.args.index))) (to_z-of_z w64 c.args.list list_fits)
     ∙ ap (ranked (used (entry_number c.args.list))) (to_z-of_z w64 c.args.index fits)))

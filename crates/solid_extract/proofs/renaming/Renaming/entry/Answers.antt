@@ -20,7 +20,8 @@ returns-clause-is c =
     let levels : to_z w64 (of_z w64 e.level) ≡ e.level = search rules in
     let matrices : to_z w64 (of_z w64 e.matrix) ≡ e.matrix = search rules in
     let colours : to_z w64 (of_z w64 e.colour) ≡ e.colour = search rules in
-    entry_is e c.args.self.now _ _ _ _ _ _ _ _ kind (font ∙ (c.if_number.ensures ∙ ap if_number fonts)) (level ∙ (c.if_number-2.ensures ∙ ap if_number levels)) (matrix ∙ (c.renamed.ensures.is ∙ ap (renamed c.args.self.now) matrices)) weight
+    entry_is e c.args.self.now _ _ _ _ _ _ _ _ kind (font ∙ (c.if_number.ensures ∙ ap if_number fonts)) (level ∙ (c.if_number-2.ensures ∙ ap if_number levels))
+    (matrix ∙ (c.renamed.ensures.is ∙ ap (renamed c.args.self.now) matrices)) weight
     (colour ∙ (c.colour.ensures.is ∙ ap (new_colour c.args.self.now) colours)) form subscript
 
 pub returns-clause-bounded : goal.returns-clause-bounded
@@ -38,5 +39,8 @@ returns-clause-bounded c =
     let levels : to_z w64 (of_z w64 e.level) ≡ e.level = search rules in
     let matrices : to_z w64 (of_z w64 e.matrix) ≡ e.matrix = search rules in
     let colours : to_z w64 (of_z w64 e.colour) ≡ e.colour = search rules in
-    entry_bounded e c.args.self.now _ _ _ _ _ _ _ _ kind (font ∙ (c.if_number.ensures ∙ ap if_number fonts)) (level ∙ (c.if_number-2.ensures ∙ ap if_number levels)) (matrix ∙ (c.renamed.ensures.is ∙ ap (renamed c.args.self.now) matrices)) weight
-    (colour ∙ (c.colour.ensures.is ∙ ap (new_colour c.args.self.now) colours)) form subscript c.requires (c.renamed.ensures.few.0, matrix ∙ c.renamed.ensures.few.1, c.renamed.ensures.few.2) (subst (λ (z : ℤ). IsTrue (fits_columns z)) (sym colour) c.colour.ensures.fits)
+    entry_bounded e c.args.self.now _ _ _ _ _ _ _ _ kind (font ∙ (c.if_number.ensures ∙ ap if_number fonts))
+    (level ∙ (c.if_number-2.ensures ∙ ap if_number levels)) (matrix ∙ (c.renamed.ensures.is ∙ ap (renamed c.args.self.now) matrices)) weight
+    (colour ∙ (c.colour.ensures.is ∙ ap (new_colour c.args.self.now) colours)) form subscript c.requires
+    (c.renamed.ensures.few.0, matrix ∙ c.renamed.ensures.few.1, c.renamed.ensures.few.2)
+    (subst (λ (z : ℤ). IsTrue (fits_columns z)) (sym colour) c.colour.ensures.fits)

@@ -2,7 +2,7 @@ use Rattle.std.proofs.Common.{rules, refl, ap, ◌∙◌, ◌++◌, List, ℕ}
 use Rattle.std.specs.Fmt.{decimal}
 use Rattle.std.proofs.lemmas.Fmt.{length-decimal-le}
 use Rattle.iges_write.proofs.Sheets.{right_written}
-use Rattle.iges_write.proofs.column.put_eight.Goals as goal
+use Rattle.iges_write.proofs.column.put_digits.Goals as goal
 
 pub write_digits-requires : goal.write_digits-requires
 write_digits-requires c = search (rules, length-decimal-le 8)
@@ -10,4 +10,6 @@ write_digits-requires c = search (rules, length-decimal-le 8)
 pub returns : goal.returns
 returns c =
     c.in_ok-extend_from_slice.ensures.items
-    ∙ ap (λ (x : List ℕ). c.args.line.now.items ++ x) (right_written c.write_digits.new.buf _ (decimal c.args.n) c.write_digits.result 8 refl c.write_digits.ensures.start c.write_digits.ensures.written c.write_digits.ensures.before)
+    ∙ ap (λ (x : List ℕ). c.args.line.now.items ++ x)
+    (right_written c.write_digits.new.buf _ (decimal c.args.n) c.write_digits.result 8 refl c.write_digits.ensures.start c.write_digits.ensures.written
+    c.write_digits.ensures.before)
