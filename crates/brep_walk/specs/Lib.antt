@@ -7,3 +7,5 @@ pub mod Stands
 pub mod Placed
 pub mod OpenPlaces
 pub mod Counts
+pub mod Marked
+pub mod Known

@@ -11,7 +11,6 @@ ghost use Rattle.solid_data.specs.Obligations.{AllHold, after_each};
 use crate::fault::WalkFault;
 use crate::naming::names_geometry;
 use crate::place::Place;
-use crate::records::record_at;
 use crate::state::WalkState;
 use brep_loops::{FaceRecord, ShellRecord};
 use iges_fields::EntryNo;
@@ -46,10 +45,9 @@ impl<'a> WalkState<'a> {
         ensures fault { IfErr result (IsFault (face_at self.old.lists
             (pos at.entity.0) at.item self.old.faces number)) }
     {
-        let file = self.lists.file();
-        let (entity, listed) = record_at::<FaceRecord<'_>>(file, at, number)?;
+        let (entity, listed) = self.lists.record::<FaceRecord<'a>>(at, number)?;
         self.faces.note(at, number, entity)?;
-        if !names_geometry(file, listed.surface()) {
+        if !names_geometry(self.lists.file(), listed.surface()) {
             let place = Place { entity, item: 0 };
             return Err(WalkFault::Fails(place.fails(Rule::BadGeometry)));
         }

@@ -4,9 +4,11 @@
 mod faces;
 mod fault;
 mod index;
+mod known;
 mod law;
 mod lists;
 mod loops;
+mod marks;
 mod naming;
 mod once;
 mod place;

@@ -11,9 +11,9 @@ ghost use Rattle.solid_data.specs.declared.verdict.Rule.TheVariants.{BadIndex};
 
 use crate::fault::WalkFault;
 use crate::index::index_in;
+use crate::marks::Marks;
 use crate::naming::names_geometry;
 use crate::place::Place;
-use crate::records::record_at;
 use brep_lists::{EdgeList, EdgeTuple, VertexList};
 use brep_numbering::ListTable;
 use iges_fields::EntryNo;
@@ -22,11 +22,13 @@ use solid_data::{EdgeKey, Failing, Rule, VertexKey};
 use std::alloc::Global;
 use std::marker::Model;
 
-/// The lists of edges and of vertices of a file. Each that was looked at is kept by its entry, so that its record is gone
-/// through once.
+/// The lists of edges and of vertices of a file, and what is known of its records. A record is judged once, however many
+/// solids name it, and a list that was looked at is found by its entry.
 #[derive(Drop)]
 pub struct Lists<'a> {
-    file: &'a File,
+    pub file: &'a File,
+    pub marks: Marks,
+    pub failed: ListTable<Failing>,
     edges: ListTable<EdgeList<'a>>,
     vertices: ListTable<u32>,
 }
@@ -37,9 +39,11 @@ impl<'a> Model for Lists<'a> {
 
     ghost Value = { Contents };
 
+    ghost use Rattle.brep_walk.specs.Known.{AreKnown};
+
     ghost view = { λ lists. lists.file.now };
 
-    ghost invariant = { λ lists. AreKept lists.file.now lists.edges lists.vertices };
+    ghost invariant = { λ lists. AreKept lists.file.now lists.edges lists.vertices × AreKnown lists.file.now lists.marks lists.failed };
 }
 
 // The edge of a list that the index at a place names.
@@ -68,6 +72,8 @@ impl<'a> Lists<'a> {
     {
         Lists {
             file,
+            marks: Marks::new(alloc),
+            failed: ListTable::new(alloc),
             edges: ListTable::new(alloc),
             vertices: ListTable::new(alloc),
         }
@@ -85,7 +91,7 @@ impl<'a> Lists<'a> {
         if let Some(kept) = self.vertices.get(number) {
             return Ok(*kept);
         }
-        let (no, list) = record_at::<VertexList<'_>>(self.file, at, number)?;
+        let (no, list) = self.record::<VertexList<'a>>(at, number)?;
         let count = list.len() as u32;
         self.vertices.keep(no, count)?;
         Ok((no, count))
@@ -125,10 +131,10 @@ impl<'a> Lists<'a> {
         if let Some((no, list)) = self.edges.get(number) {
             return Ok(edge_of(*no, list, at, index)?);
         }
-        let (no, list) = record_at::<EdgeList<'a>>(self.file, at, number)?;
-        let edge = edge_of(no, &list, at, index)?;
+        let (no, list) = self.record::<EdgeList<'a>>(at, number)?;
+        let edge = edge_of(no, &list, at, index);
         self.edges.keep(no, list)?;
-        Ok(edge)
+        Ok(edge?)
     }
 
     /// The start and the end of the edge at a place, whose curve must name geometry.

@@ -3,21 +3,83 @@
 ghost use Rattle.std.specs.Prelude.{◌≡◌, ◌∷◌, ◌++◌, ◌<◌, ◌^◌, [], map, flat_map, length, pos, IfOk, IfErr, OnOk};
 ghost use Rattle.brep_walk.specs.Numbered.{IsMadeBy, keys_after};
 ghost use Rattle.brep_walk.specs.Places.{tuples, loop_at, loop_places};
-ghost use Rattle.brep_walk.specs.SolidOf.{loop_by};
+ghost use Rattle.brep_walk.specs.Known.{uses_places};
+ghost use Rattle.brep_walk.specs.SolidOf.{loop_by, use_by};
 ghost use Rattle.brep_walk.specs.Stands.{Stands};
 ghost use Rattle.brep_walk.specs.Walked.{IsFault};
 ghost use Rattle.solid_data.specs.Obligations.{AllHold, after_each};
 
 use crate::fault::WalkFault;
 use crate::place::Place;
-use crate::records::record_at;
 use crate::state::WalkState;
 use brep_loops::{FaceRecord, LoopRecord};
 use iges_fields::EntryNo;
-use solid_data::{Loop, Loops};
+use solid_data::{Loop, Loops, Uses};
 use std::alloc::Global;
 
 impl<'a> WalkState<'a> {
+    // The uses of a loop, whose tuples are walked with what is known of it.
+    fn judged_uses(
+        &mut self,
+        alloc: Global,
+        no: EntryNo,
+        listed: &LoopRecord<'_>,
+    ) -> Result<Uses, WalkFault>
+        requires few { length listed.now < 2 ^ 31 }
+        requires listed { listed.now ≡ tuples self.old.lists (pos no.0) }
+        requires stands { Stands self.old.lists self.old.lists self.old.numbering }
+        ensures file { self.new.lists ≡ self.old.lists }
+        ensures stands { OnOk result (Stands self.old.lists self.new.lists self.new.numbering) }
+        ensures keys { OnOk result (self.new.numbering.keys
+            ≡ keys_after self.old.lists self.old.numbering.keys listed.now) }
+        ensures others { OnOk result ((self.new.loops ≡ self.old.loops)
+            × (self.new.faces ≡ self.old.faces) × (self.new.shells ≡ self.old.shells)) }
+        ensures made { IfOk result (IsMadeBy self.new.numbering.keys
+            (λ keys. map (use_by keys) listed.now)) }
+        ensures holds { OnOk result (AllHold (uses_places self.old.lists (pos no.0))) }
+        ensures fault { IfErr result (IsFault (uses_places self.old.lists (pos no.0))) }
+    {
+        let is_known = self.lists.is_walked(no);
+        self.walk_tuples(alloc, no, listed, is_known)
+    }
+
+    // The uses of a loop. How their walk ended is remembered.
+    fn loop_uses(
+        &mut self,
+        alloc: Global,
+        no: EntryNo,
+        listed: &LoopRecord<'_>,
+    ) -> Result<Uses, WalkFault>
+        requires few { length listed.now < 2 ^ 31 }
+        requires listed { listed.now ≡ tuples self.old.lists (pos no.0) }
+        requires stands { Stands self.old.lists self.old.lists self.old.numbering }
+        ensures file { self.new.lists ≡ self.old.lists }
+        ensures stands { OnOk result (Stands self.old.lists self.new.lists self.new.numbering) }
+        ensures keys { OnOk result (self.new.numbering.keys
+            ≡ keys_after self.old.lists self.old.numbering.keys listed.now) }
+        ensures others { OnOk result ((self.new.loops ≡ self.old.loops)
+            × (self.new.faces ≡ self.old.faces) × (self.new.shells ≡ self.old.shells)) }
+        ensures made { IfOk result (IsMadeBy self.new.numbering.keys
+            (λ keys. map (use_by keys) listed.now)) }
+        ensures holds { OnOk result (AllHold (uses_places self.old.lists (pos no.0))) }
+        ensures fault { IfErr result (IsFault (uses_places self.old.lists (pos no.0))) }
+    {
+        if let Some(failing) = self.lists.failing_of(no) {
+            return Err(WalkFault::Fails(failing));
+        }
+        match self.judged_uses(alloc, no, listed) {
+            Ok(uses) => {
+                self.lists.keep_walked(no)?;
+                Ok(uses)
+            }
+            Err(WalkFault::Fails(failing)) => {
+                self.lists.keep_failing(no, failing)?;
+                Err(WalkFault::Fails(failing))
+            }
+            Err(WalkFault::NoMemory) => Err(WalkFault::NoMemory),
+        }
+    }
+
     /// The loop that the number at a place names, where all that it names is there.
     pub fn walk_loop(&mut self, alloc: Global, at: Place, number: i64) -> Result<Loop, WalkFault>
         requires { Stands self.old.lists self.old.lists self.old.numbering }
@@ -35,9 +97,9 @@ impl<'a> WalkState<'a> {
         ensures fault { IfErr result (IsFault (loop_at self.old.lists
             (pos at.entity.0) at.item self.old.loops number)) }
     {
-        let (entity, listed) = record_at::<LoopRecord<'_>>(self.lists.file(), at, number)?;
+        let (entity, listed) = self.lists.record::<LoopRecord<'a>>(at, number)?;
         self.loops.note(at, number, entity)?;
-        let uses = self.walk_tuples(alloc, entity, &listed)?;
+        let uses = self.loop_uses(alloc, entity, &listed)?;
         Ok(Loop { entity, uses })
     }
 

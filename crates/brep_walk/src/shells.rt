@@ -10,7 +10,6 @@ ghost use Rattle.solid_data.specs.Obligations.{AllHold, after_each};
 
 use crate::fault::WalkFault;
 use crate::place::Place;
-use crate::records::record_at;
 use crate::state::WalkState;
 use brep_loops::{ShellRecord, SolidRecord};
 use iges_fields::EntryNo;
@@ -48,8 +47,7 @@ impl<'a> WalkState<'a> {
         ensures fault { IfErr result (IsFault (shell_at self.old.lists
             (pos at.entity.0) at.item self.old.shells number)) }
     {
-        let file = self.lists.file();
-        let (entity, listed) = record_at::<ShellRecord<'_>>(file, at, number)?;
+        let (entity, listed) = self.lists.record::<ShellRecord<'a>>(at, number)?;
         self.shells.note(at, number, entity)?;
         let faces = self.walk_faces(alloc, entity, &listed)?;
         Ok(Shell {

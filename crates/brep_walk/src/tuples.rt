@@ -46,6 +46,16 @@ fn curves_name_geometry(file: &File, tuple: &LoopTuple<'_>) -> bool
     true
 }
 
+// The same, where it may be known.
+fn curves_are_good(file: &File, tuple: &LoopTuple<'_>, is_known: bool) -> bool
+    requires { IsTrue is_known → All (λ (curve : Bool
+        × ℤ). NamesGeometry file.now curve.1) tuple.now.curves }
+    ensures { IsTrue result ↔ All (λ (curve : Bool
+        × ℤ). NamesGeometry file.now curve.1) tuple.now.curves }
+{
+    is_known || curves_name_geometry(file, tuple)
+}
+
 impl<'a> WalkState<'a> {
     // The use that a tuple of a vertex is.
     fn vertex_use(&mut self, at: Place, tuple: &LoopTuple<'_>) -> Result<LoopUse, WalkFault>
@@ -147,9 +157,17 @@ impl<'a> WalkState<'a> {
         }
     }
 
-    /// The use that the tuple at a place is, where all that it names is there.
-    pub fn walk_tuple(&mut self, at: Place, tuple: &LoopTuple<'_>) -> Result<LoopUse, WalkFault>
-        requires { Stands self.old.lists self.old.lists self.old.numbering }
+    /// The use that the tuple at a place is, where all that it names is there. Where that is known, its curves aren't
+    /// looked at.
+    pub fn walk_tuple(
+        &mut self,
+        at: Place,
+        tuple: &LoopTuple<'_>,
+        is_known: bool,
+    ) -> Result<LoopUse, WalkFault>
+        requires stands { Stands self.old.lists self.old.lists self.old.numbering }
+        requires known { IsTrue is_known → AllHold (tuple_at self.old.lists
+            (pos at.entity.0) at.item tuple.now) }
         ensures file { self.new.lists ≡ self.old.lists }
         ensures stands { OnOk result (Stands self.old.lists self.new.lists self.new.numbering) }
         ensures keys { OnOk result (self.new.numbering.keys
@@ -164,21 +182,25 @@ impl<'a> WalkState<'a> {
             (pos at.entity.0) at.item tuple.now)) }
     {
         let made = self.tuple_use(at, tuple)?;
-        if !curves_name_geometry(self.lists.file(), tuple) {
+        if !curves_are_good(self.lists.file(), tuple, is_known) {
             return Err(WalkFault::Fails(at.fails(Rule::BadGeometry)));
         }
         Ok(made)
     }
 
-    /// The uses that the tuples of a loop are.
+    /// The uses that the tuples of a loop are. Where it is known that all that they name is there, their curves aren't
+    /// looked at.
     pub fn walk_tuples(
         &mut self,
         alloc: Global,
         no: EntryNo,
         listed: &LoopRecord<'_>,
+        is_known: bool,
     ) -> Result<Uses, WalkFault>
         requires few { length listed.now < 2 ^ 31 }
         requires stands { Stands self.old.lists self.old.lists self.old.numbering }
+        requires known { IsTrue is_known → AllHold (after_each
+            (tuple_places self.old.lists (pos no.0)) [] listed.now) }
         ensures file { self.new.lists ≡ self.old.lists }
         ensures stands { OnOk result (Stands self.old.lists self.new.lists self.new.numbering) }
         ensures keys { OnOk result (self.new.numbering.keys
@@ -196,7 +218,7 @@ impl<'a> WalkState<'a> {
         let mut item = 0;
         'tuples: for tuple in listed.tuples() {
             item += 1;
-            let made = self.walk_tuple(Place { entity: no, item }, &tuple)?;
+            let made = self.walk_tuple(Place { entity: no, item }, &tuple, is_known)?;
             uses.push(made)?;
         }
         Ok(uses)

@@ -12,30 +12,33 @@ ghost use Rattle.solid_data.specs.declared.verdict.Failing.{Failing as Named};
 use crate::fault::WalkFault;
 use crate::lists::Lists;
 use crate::place::Place;
-use crate::records::record_at;
 use crate::state::WalkState;
 use crate::walker::Walker;
 use brep_loops::SolidRecord;
 use iges_fields::EntryNo;
 use iges_params::File;
-use solid_data::{Failing, Shells, Solid};
+use solid_data::{Shells, Solid};
 use std::alloc::Global;
 
 // The record of a solid.
-fn solid_record<'a>(lists: &Lists<'a>, no: EntryNo) -> Result<(EntryNo, SolidRecord<'a>), Failing>
-    ensures holds { OnOk result (AllHold (record_places lists.now (pos no.0) 0 solid (pos no.0))) }
+fn solid_record<'a>(
+    lists: &mut Lists<'a>,
+    no: EntryNo,
+) -> Result<(EntryNo, SolidRecord<'a>), WalkFault>
+    ensures file { lists.new ≡ lists.old }
+    ensures holds { OnOk result (AllHold (record_places lists.old (pos no.0) 0 solid (pos no.0))) }
     ensures named { IfOk result (λ r. (pos no.0 ≡ pos r.0.0)
-        × (r.1 ≡ told solid lists.now (pos no.0))) }
+        × (r.1 ≡ told solid lists.old (pos no.0))) }
     ensures few { IfOk result (λ r. length r.1.voids < 2 ^ 31) }
-    ensures limits { FitsLimits lists.now }
-    ensures fails { IfErr result (FirstFalse
-        (record_places lists.now (pos no.0) 0 solid (pos no.0))) }
+    ensures limits { FitsLimits lists.old }
+    ensures fault { IfErr result (IsFault
+        (record_places lists.old (pos no.0) 0 solid (pos no.0))) }
 {
     let place = Place {
         entity: no,
         item: 0,
     };
-    record_at(lists.file(), place, i64::from(no.0))
+    lists.record(place, i64::from(no.0))
 }
 
 // The shells of a solid. The walk begins again for it.
@@ -54,7 +57,7 @@ fn numbered_shells(
     ensures fault { IfErr result (IsFault (places walk.old.lists no.0)) }
     ensures limits { FitsLimits walk.old.lists }
 {
-    let (entity, listed) = solid_record(&walk.lists, no)?;
+    let (entity, listed) = solid_record(&mut walk.lists, no)?;
     walk.restart(alloc);
     let shells = walk.walk_shells(alloc, entity, &listed)?;
     Ok(shells)
