@@ -1,13 +1,13 @@
-//! What the numbers in records name.
+//! What the numbers and the indices in records name.
 
-ghost use Rattle.std.specs.Prelude.{◌≡◌, ◌↔◌, IsTrue, ◌∷◌, [], pos, IfOk, IfErr, OnOk};
 ghost use Rattle.brep_lists.specs.Record.{HasForm, type_number};
 ghost use Rattle.brep_lists.specs.declared.entity_kind.EntityKind.{EntityKind};
-ghost use Rattle.brep_walk.specs.Places.{NamesGeometry, entry_places};
-ghost use Rattle.iges_params.specs.Named.{values_of};
+ghost use Rattle.brep_walk.specs.Places.{NamesGeometry, entry_places, IsIndex};
 ghost use Rattle.iges_params.specs.Limits.{FitsLimits};
+ghost use Rattle.iges_params.specs.Named.{values_of};
 ghost use Rattle.solid_data.specs.Obligations.{AllHold, FirstFalse, obligation};
-ghost use Rattle.solid_data.specs.declared.verdict.Rule.TheVariants.{BadGeometry};
+ghost use Rattle.solid_data.specs.declared.verdict.Rule.TheVariants.{BadGeometry, BadIndex};
+ghost use Rattle.std.specs.Prelude.{◌≡◌, ◌↔◌, IsTrue, ◌∷◌, [], pos, IfOk, IfErr, OnOk};
 
 use crate::place::Place;
 use brep_lists::EntityKind;
@@ -69,5 +69,18 @@ pub fn names_geometry(file: &File, number: i64) -> bool
     match file.entry(no) {
         Some(entry) => is_geometry(entry),
         None => false,
+    }
+}
+
+/// The index that is at a place, where it is one of a list of so many items, from 1.
+pub fn index_in(count: u32, at: Place, index: i64) -> Result<u32, Failing>
+    ensures holds { OnOk result (IsIndex index count) }
+    ensures index { IfOk result (λ i. index ≡ pos i) }
+    ensures fails { IfErr result (FirstFalse
+        (obligation BadIndex at.entity.0 at.item (IsIndex index count) ∷ [])) }
+{
+    match u32::try_from(index) {
+        Ok(i) if 1 <= i && i <= count => Ok(i),
+        _ => Err(at.fails(Rule::BadIndex)),
     }
 }

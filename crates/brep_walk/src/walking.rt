@@ -1,24 +1,63 @@
-//! The walk through a solid.
+//! The walk through one solid after another.
 
-ghost use Rattle.std.specs.Prelude.{◌≡◌, ◌<◌, ◌^◌, IfOk, IfErr, OnOk, Ok, Err, map, flat_map, length, pos};
 ghost use Rattle.brep_lists.specs.declared.entity_kind.EntityKind.TheVariants.{Solid as solid};
-ghost use Rattle.brep_walk.specs.Places.{told, record_places, places, shells};
-ghost use Rattle.brep_walk.specs.SolidOf.{keys_of, shell_of, edge_of, edge_keys, solid_of};
+ghost use Rattle.brep_walk.specs.Places.{places, told, record_places, shells};
+ghost use Rattle.brep_walk.specs.SolidOf.{solid_of, keys_of, shell_of, edge_of, edge_keys};
 ghost use Rattle.brep_walk.specs.Walked.{IsFault, Gives};
 ghost use Rattle.iges_params.specs.Limits.{FitsLimits};
 ghost use Rattle.solid_data.specs.Obligations.{AllHold, FirstFalse};
 ghost use Rattle.solid_data.specs.declared.verdict.Failing.{Failing as Named};
+ghost use Rattle.std.specs.Prelude.{◌≡◌, IfOk, IfErr, OnOk, Ok, Err, ◌<◌, ◌^◌, map, flat_map, length, pos};
 
 use crate::fault::WalkFault;
 use crate::lists::Lists;
 use crate::place::Place;
 use crate::state::WalkState;
-use crate::walker::Walker;
 use brep_loops::SolidRecord;
 use iges_fields::EntryNo;
 use iges_params::File;
 use solid_data::{Shells, Solid};
 use std::alloc::Global;
+use std::marker::Model;
+
+/// Walks solids of one file, one after another. What is sized by the file, and the lists that were looked at, serve for
+/// all of them, so that a walk costs what its own solid names.
+#[derive(Drop)]
+pub struct Walker<'a> {
+    walk: WalkState<'a>,
+}
+
+impl<'a> Model for Walker<'a> {
+    ghost use Rattle.iges_params.specs.Contents.{Contents};
+
+    ghost Value = { Contents };
+
+    ghost view = { λ walker. walker.walk.lists };
+}
+
+impl<'a> Walker<'a> {
+    /// A walker of the solids of a file.
+    pub fn new(alloc: Global, file: &'a File) -> Walker<'a>
+        ensures { result ≡ file.now }
+    {
+        Walker {
+            walk: WalkState::new(alloc, file),
+        }
+    }
+
+    /// The solid of an entry, as `walk` gives it. After a fault the walker serves for other solids.
+    pub fn walk(&mut self, alloc: Global, no: EntryNo) -> Result<Solid, WalkFault>
+        ensures file { self.new ≡ self.old }
+        ensures solid { IfOk result (λ s. s ≡ solid_of self.old no.0) }
+        ensures holds { OnOk result (AllHold (places self.old no.0)) }
+        ensures fault { IfErr result (IsFault (places self.old no.0)) }
+        ensures only { AllHold (places self.old no.0) → Gives result (Ok (solid_of self.old no.0)) }
+        ensures only_fault { (x : Named) → FirstFalse (places self.old no.0) x
+            → Gives result (Err x) }
+    {
+        walk_solid(&mut self.walk, alloc, no)
+    }
+}
 
 // The record of a solid.
 fn solid_record<'a>(

@@ -1,0 +1,300 @@
+//! The loops of faces, the faces of shells and the shells of solids.
+
+ghost use Rattle.brep_walk.specs.Known.{uses_places};
+ghost use Rattle.brep_walk.specs.Numbered.{IsMadeBy, keys_after, face_tuples, shell_tuples};
+ghost use Rattle.brep_walk.specs.Places.{tuples, loop_at, loop_places, loops, numbers, face_at, face_places, faces, shell_at, shell_places};
+ghost use Rattle.brep_walk.specs.SolidOf.{loop_by, use_by, face_by, shell_by};
+ghost use Rattle.brep_walk.specs.Stands.{Stands};
+ghost use Rattle.brep_walk.specs.Walked.{IsFault};
+ghost use Rattle.solid_data.specs.Obligations.{AllHold, after_each};
+ghost use Rattle.std.specs.Prelude.{◌≡◌, ◌∷◌, ◌++◌, ◌<◌, ◌^◌, [], map, flat_map, length, pos, IfOk, IfErr, OnOk};
+
+use crate::fault::WalkFault;
+use crate::naming::names_geometry;
+use crate::place::Place;
+use crate::state::WalkState;
+use brep_loops::{FaceRecord, LoopRecord, ShellRecord, SolidRecord};
+use iges_fields::EntryNo;
+use solid_data::{FaceUse, Faces, Loop, Loops, Rule, Shell, Shells, Uses};
+use std::alloc::Global;
+
+impl<'a> WalkState<'a> {
+    // The uses of a loop, whose tuples are walked with what is known of it.
+    fn judged_uses(
+        &mut self,
+        alloc: Global,
+        no: EntryNo,
+        listed: &LoopRecord<'_>,
+    ) -> Result<Uses, WalkFault>
+        requires few { length listed.now < 2 ^ 31 }
+        requires listed { listed.now ≡ tuples self.old.lists (pos no.0) }
+        requires stands { Stands self.old.lists self.old.lists self.old.numbering }
+        ensures file { self.new.lists ≡ self.old.lists }
+        ensures stands { OnOk result (Stands self.old.lists self.new.lists self.new.numbering) }
+        ensures keys { OnOk result (self.new.numbering.keys
+            ≡ keys_after self.old.lists self.old.numbering.keys listed.now) }
+        ensures others { OnOk result ((self.new.loops ≡ self.old.loops)
+            × (self.new.faces ≡ self.old.faces) × (self.new.shells ≡ self.old.shells)) }
+        ensures made { IfOk result (IsMadeBy self.new.numbering.keys
+            (λ keys. map (use_by keys) listed.now)) }
+        ensures holds { OnOk result (AllHold (uses_places self.old.lists (pos no.0))) }
+        ensures fault { IfErr result (IsFault (uses_places self.old.lists (pos no.0))) }
+    {
+        let is_known = self.lists.is_walked(no);
+        self.walk_tuples(alloc, no, listed, is_known)
+    }
+
+    // The uses of a loop. How their walk ended is remembered.
+    fn loop_uses(
+        &mut self,
+        alloc: Global,
+        no: EntryNo,
+        listed: &LoopRecord<'_>,
+    ) -> Result<Uses, WalkFault>
+        requires few { length listed.now < 2 ^ 31 }
+        requires listed { listed.now ≡ tuples self.old.lists (pos no.0) }
+        requires stands { Stands self.old.lists self.old.lists self.old.numbering }
+        ensures file { self.new.lists ≡ self.old.lists }
+        ensures stands { OnOk result (Stands self.old.lists self.new.lists self.new.numbering) }
+        ensures keys { OnOk result (self.new.numbering.keys
+            ≡ keys_after self.old.lists self.old.numbering.keys listed.now) }
+        ensures others { OnOk result ((self.new.loops ≡ self.old.loops)
+            × (self.new.faces ≡ self.old.faces) × (self.new.shells ≡ self.old.shells)) }
+        ensures made { IfOk result (IsMadeBy self.new.numbering.keys
+            (λ keys. map (use_by keys) listed.now)) }
+        ensures holds { OnOk result (AllHold (uses_places self.old.lists (pos no.0))) }
+        ensures fault { IfErr result (IsFault (uses_places self.old.lists (pos no.0))) }
+    {
+        if let Some(failing) = self.lists.failing_of(no) {
+            return Err(WalkFault::Fails(failing));
+        }
+        match self.judged_uses(alloc, no, listed) {
+            Ok(uses) => {
+                self.lists.keep_walked(no)?;
+                Ok(uses)
+            }
+            Err(WalkFault::Fails(failing)) => {
+                self.lists.keep_failing(no, failing)?;
+                Err(WalkFault::Fails(failing))
+            }
+            Err(WalkFault::NoMemory) => Err(WalkFault::NoMemory),
+        }
+    }
+
+    /// The loop that the number at a place names, where all that it names is there.
+    pub fn walk_loop(&mut self, alloc: Global, at: Place, number: i64) -> Result<Loop, WalkFault>
+        requires { Stands self.old.lists self.old.lists self.old.numbering }
+        ensures file { self.new.lists ≡ self.old.lists }
+        ensures stands { OnOk result (Stands self.old.lists self.new.lists self.new.numbering) }
+        ensures keys { OnOk result (self.new.numbering.keys
+            ≡ keys_after self.old.lists self.old.numbering.keys (tuples self.old.lists number)) }
+        ensures named { OnOk result (self.new.loops ≡ self.old.loops ++ number ∷ []) }
+        ensures others { OnOk result ((self.new.faces ≡ self.old.faces)
+            × (self.new.shells ≡ self.old.shells)) }
+        ensures made { IfOk result (IsMadeBy self.new.numbering.keys
+            (λ keys. loop_by self.old.lists keys number)) }
+        ensures holds { OnOk result (AllHold (loop_at self.old.lists
+            (pos at.entity.0) at.item self.old.loops number)) }
+        ensures fault { IfErr result (IsFault (loop_at self.old.lists
+            (pos at.entity.0) at.item self.old.loops number)) }
+    {
+        let (entity, listed) = self.lists.record::<LoopRecord<'a>>(at, number)?;
+        self.loops.note(at, number, entity)?;
+        let uses = self.loop_uses(alloc, entity, &listed)?;
+        Ok(Loop { entity, uses })
+    }
+
+    /// The loops that a face's record lists, in its order, where all that they name is there.
+    pub fn walk_loops(
+        &mut self,
+        alloc: Global,
+        no: EntryNo,
+        listed: &FaceRecord<'_>,
+    ) -> Result<Loops, WalkFault>
+        requires few { length listed.now.loops < 2 ^ 31 }
+        requires stands { Stands self.old.lists self.old.lists self.old.numbering }
+        ensures file { self.new.lists ≡ self.old.lists }
+        ensures stands { OnOk result (Stands self.old.lists self.new.lists self.new.numbering) }
+        ensures keys { OnOk result (self.new.numbering.keys
+            ≡ keys_after self.old.lists self.old.numbering.keys
+            (flat_map (tuples self.old.lists) listed.now.loops)) }
+        ensures named { OnOk result (self.new.loops ≡ self.old.loops ++ listed.now.loops) }
+        ensures others { OnOk result ((self.new.faces ≡ self.old.faces)
+            × (self.new.shells ≡ self.old.shells)) }
+        ensures made { IfOk result (IsMadeBy self.new.numbering.keys
+            (λ keys. map (loop_by self.old.lists keys) listed.now.loops)) }
+        ensures holds { OnOk result (AllHold (after_each
+            (loop_places self.old.lists (pos no.0) self.old.loops) [] listed.now.loops)) }
+        ensures fault { IfErr result (IsFault (after_each
+            (loop_places self.old.lists (pos no.0) self.old.loops) [] listed.now.loops)) }
+    {
+        let mut loops = Loops::new(alloc);
+        'loops: for i in 0..listed.len() {
+            let number = listed.item(i).unwrap();
+            let place = Place {
+                entity: no,
+                item: i as u32 + 1,
+            };
+            let made = self.walk_loop(alloc, place, number)?;
+            loops.push(made)?;
+        }
+        Ok(loops)
+    }
+
+    /// The face that the number at a place names, with the flag of the shell that lists it, where all that it names is
+    /// there.
+    pub fn walk_face(
+        &mut self,
+        alloc: Global,
+        at: Place,
+        number: i64,
+        flag: bool,
+    ) -> Result<FaceUse, WalkFault>
+        requires stands { Stands self.old.lists self.old.lists self.old.numbering }
+        requires loops { self.old.loops ≡ flat_map (loops self.old.lists) self.old.faces }
+        ensures file { self.new.lists ≡ self.old.lists }
+        ensures stands { OnOk result (Stands self.old.lists self.new.lists self.new.numbering) }
+        ensures keys { OnOk result (self.new.numbering.keys
+            ≡ keys_after self.old.lists self.old.numbering.keys
+            (face_tuples self.old.lists (number, flag))) }
+        ensures named { OnOk result (self.new.faces ≡ self.old.faces ++ number ∷ []) }
+        ensures loops { OnOk result (self.new.loops
+            ≡ flat_map (loops self.old.lists) self.new.faces) }
+        ensures others { OnOk result (self.new.shells ≡ self.old.shells) }
+        ensures made { IfOk result (IsMadeBy self.new.numbering.keys
+            (λ keys. face_by self.old.lists keys (number, flag))) }
+        ensures holds { OnOk result (AllHold (face_at self.old.lists
+            (pos at.entity.0) at.item self.old.faces number)) }
+        ensures fault { IfErr result (IsFault (face_at self.old.lists
+            (pos at.entity.0) at.item self.old.faces number)) }
+    {
+        let (entity, listed) = self.lists.record::<FaceRecord<'a>>(at, number)?;
+        self.faces.note(at, number, entity)?;
+        if !names_geometry(self.lists.file(), listed.surface()) {
+            let place = Place { entity, item: 0 };
+            return Err(WalkFault::Fails(place.fails(Rule::BadGeometry)));
+        }
+        let loops = self.walk_loops(alloc, entity, &listed)?;
+        Ok(FaceUse {
+            entity,
+            flag,
+            loops,
+        })
+    }
+
+    /// The faces that a shell's record lists, in its order, where all that they name is there.
+    pub fn walk_faces(
+        &mut self,
+        alloc: Global,
+        no: EntryNo,
+        listed: &ShellRecord<'_>,
+    ) -> Result<Faces, WalkFault>
+        requires few { length listed.now < 2 ^ 31 }
+        requires stands { Stands self.old.lists self.old.lists self.old.numbering }
+        requires loops { self.old.loops ≡ flat_map (loops self.old.lists) self.old.faces }
+        ensures file { self.new.lists ≡ self.old.lists }
+        ensures stands { OnOk result (Stands self.old.lists self.new.lists self.new.numbering) }
+        ensures keys { OnOk result (self.new.numbering.keys
+            ≡ keys_after self.old.lists self.old.numbering.keys
+            (flat_map (face_tuples self.old.lists) listed.now)) }
+        ensures named { OnOk result (self.new.faces ≡ self.old.faces ++ numbers listed.now) }
+        ensures loops { OnOk result (self.new.loops
+            ≡ flat_map (loops self.old.lists) self.new.faces) }
+        ensures others { OnOk result (self.new.shells ≡ self.old.shells) }
+        ensures made { IfOk result (IsMadeBy self.new.numbering.keys
+            (λ keys. map (face_by self.old.lists keys) listed.now)) }
+        ensures holds { OnOk result (AllHold (after_each
+            (face_places self.old.lists (pos no.0) self.old.faces) [] listed.now)) }
+        ensures fault { IfErr result (IsFault (after_each
+            (face_places self.old.lists (pos no.0) self.old.faces) [] listed.now)) }
+    {
+        let mut faces = Faces::new(alloc);
+        'faces: for i in 0..listed.len() {
+            let (number, flag) = listed.item(i).unwrap();
+            let place = Place {
+                entity: no,
+                item: i as u32 + 1,
+            };
+            let made = self.walk_face(alloc, place, number, flag)?;
+            faces.push(made)?;
+        }
+        Ok(faces)
+    }
+
+    /// The shell that the number at a place names, with the flag of the solid that lists it, where all that it names is
+    /// there.
+    pub fn walk_shell(
+        &mut self,
+        alloc: Global,
+        at: Place,
+        number: i64,
+        flag: bool,
+    ) -> Result<Shell, WalkFault>
+        requires stands { Stands self.old.lists self.old.lists self.old.numbering }
+        requires faces { self.old.faces ≡ flat_map
+            (λ shell. numbers (faces self.old.lists shell)) self.old.shells }
+        requires loops { self.old.loops ≡ flat_map (loops self.old.lists) self.old.faces }
+        ensures file { self.new.lists ≡ self.old.lists }
+        ensures stands { OnOk result (Stands self.old.lists self.new.lists self.new.numbering) }
+        ensures keys { OnOk result (self.new.numbering.keys
+            ≡ keys_after self.old.lists self.old.numbering.keys
+            (shell_tuples self.old.lists (number, flag))) }
+        ensures named { OnOk result (self.new.shells ≡ self.old.shells ++ number ∷ []) }
+        ensures faces { OnOk result (self.new.faces ≡ flat_map
+            (λ shell. numbers (faces self.old.lists shell)) self.new.shells) }
+        ensures loops { OnOk result (self.new.loops
+            ≡ flat_map (loops self.old.lists) self.new.faces) }
+        ensures made { IfOk result (IsMadeBy self.new.numbering.keys
+            (λ keys. shell_by self.old.lists keys (number, flag))) }
+        ensures holds { OnOk result (AllHold (shell_at self.old.lists
+            (pos at.entity.0) at.item self.old.shells number)) }
+        ensures fault { IfErr result (IsFault (shell_at self.old.lists
+            (pos at.entity.0) at.item self.old.shells number)) }
+    {
+        let (entity, listed) = self.lists.record::<ShellRecord<'a>>(at, number)?;
+        self.shells.note(at, number, entity)?;
+        let faces = self.walk_faces(alloc, entity, &listed)?;
+        Ok(Shell {
+            entity,
+            flag,
+            faces,
+        })
+    }
+
+    /// The shells of a solid, which are the first that are walked.
+    pub fn walk_shells(
+        &mut self,
+        alloc: Global,
+        no: EntryNo,
+        listed: &SolidRecord<'_>,
+    ) -> Result<Shells, WalkFault>
+        requires few { length listed.now.voids < 2 ^ 31 }
+        requires stands { Stands self.old.lists self.old.lists self.old.numbering }
+        requires named { self.old.shells ≡ [] }
+        requires faces { self.old.faces ≡ [] }
+        requires loops { self.old.loops ≡ [] }
+        ensures file { self.new.lists ≡ self.old.lists }
+        ensures stands { OnOk result (Stands self.old.lists self.new.lists self.new.numbering) }
+        ensures keys { OnOk result (self.new.numbering.keys
+            ≡ keys_after self.old.lists self.old.numbering.keys
+            (flat_map (shell_tuples self.old.lists) (listed.now.outer ∷ listed.now.voids))) }
+        ensures made { IfOk result (IsMadeBy self.new.numbering.keys
+            (λ keys. map (shell_by self.old.lists keys) (listed.now.outer ∷ listed.now.voids))) }
+        ensures holds { OnOk result (AllHold (after_each
+            (shell_places self.old.lists (pos no.0)) [] (listed.now.outer ∷ listed.now.voids))) }
+        ensures fault { IfErr result (IsFault (after_each
+            (shell_places self.old.lists (pos no.0)) [] (listed.now.outer ∷ listed.now.voids))) }
+    {
+        let mut shells = Shells::new(alloc);
+        'shells: for i in 0..listed.len() {
+            let (number, flag) = listed.item(i).unwrap();
+            let place = Place {
+                entity: no,
+                item: i as u32 + 1,
+            };
+            let made = self.walk_shell(alloc, place, number, flag)?;
+            shells.push(made)?;
+        }
+        Ok(shells)
+    }
+}
