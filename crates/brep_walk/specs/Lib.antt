@@ -9,3 +9,4 @@ pub mod OpenPlaces
 pub mod Counts
 pub mod Marked
 pub mod Known
+pub mod Walks

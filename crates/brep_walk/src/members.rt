@@ -1,7 +1,7 @@
 //! The loops of faces, the faces of shells and the shells of solids.
 
 ghost use Rattle.brep_walk.specs.Known.{uses_places};
-ghost use Rattle.brep_walk.specs.Numbered.{IsMadeBy, keys_after, face_tuples, shell_tuples};
+ghost use Rattle.brep_walk.specs.Numbered.{face_tuples, shell_tuples};
 ghost use Rattle.brep_walk.specs.Places.{tuples, loop_at, loop_places, loops, numbers, face_at, face_places, faces, shell_at, shell_places};
 ghost use Rattle.brep_walk.specs.SolidOf.{loop_by, use_by, face_by, shell_by};
 ghost use Rattle.brep_walk.specs.Stands.{Stands};
@@ -19,6 +19,8 @@ use solid_data::{FaceUse, Faces, Loop, Loops, Rule, Shell, Shells, Uses};
 use std::alloc::Global;
 
 impl<'a> WalkState<'a> {
+    ghost use Rattle.brep_walk.specs.Walks.{IsMadeAt, NamesAlike, Walks};
+
     // The uses of a loop, whose tuples are walked with what is known of it.
     fn judged_uses(
         &mut self,
@@ -29,14 +31,9 @@ impl<'a> WalkState<'a> {
         requires few { length listed.now < 2 ^ 31 }
         requires listed { listed.now ≡ tuples self.old.lists (pos no.0) }
         requires stands { Stands self.old.lists self.old.lists self.old.numbering }
-        ensures file { self.new.lists ≡ self.old.lists }
-        ensures stands { OnOk result (Stands self.old.lists self.new.lists self.new.numbering) }
-        ensures keys { OnOk result (self.new.numbering.keys
-            ≡ keys_after self.old.lists self.old.numbering.keys listed.now) }
-        ensures others { OnOk result ((self.new.loops ≡ self.old.loops)
-            × (self.new.faces ≡ self.old.faces) × (self.new.shells ≡ self.old.shells)) }
-        ensures made { IfOk result (IsMadeBy self.new.numbering.keys
-            (λ keys. map (use_by keys) listed.now)) }
+        ensures walks { Walks self.old self.new result listed.now }
+        ensures others { OnOk result (NamesAlike self.old self.new) }
+        ensures made { IfOk result (IsMadeAt self.new (λ keys. map (use_by keys) listed.now)) }
         ensures holds { OnOk result (AllHold (uses_places self.old.lists (pos no.0))) }
         ensures fault { IfErr result (IsFault (uses_places self.old.lists (pos no.0))) }
     {
@@ -54,14 +51,9 @@ impl<'a> WalkState<'a> {
         requires few { length listed.now < 2 ^ 31 }
         requires listed { listed.now ≡ tuples self.old.lists (pos no.0) }
         requires stands { Stands self.old.lists self.old.lists self.old.numbering }
-        ensures file { self.new.lists ≡ self.old.lists }
-        ensures stands { OnOk result (Stands self.old.lists self.new.lists self.new.numbering) }
-        ensures keys { OnOk result (self.new.numbering.keys
-            ≡ keys_after self.old.lists self.old.numbering.keys listed.now) }
-        ensures others { OnOk result ((self.new.loops ≡ self.old.loops)
-            × (self.new.faces ≡ self.old.faces) × (self.new.shells ≡ self.old.shells)) }
-        ensures made { IfOk result (IsMadeBy self.new.numbering.keys
-            (λ keys. map (use_by keys) listed.now)) }
+        ensures walks { Walks self.old self.new result listed.now }
+        ensures others { OnOk result (NamesAlike self.old self.new) }
+        ensures made { IfOk result (IsMadeAt self.new (λ keys. map (use_by keys) listed.now)) }
         ensures holds { OnOk result (AllHold (uses_places self.old.lists (pos no.0))) }
         ensures fault { IfErr result (IsFault (uses_places self.old.lists (pos no.0))) }
     {
@@ -84,14 +76,11 @@ impl<'a> WalkState<'a> {
     /// The loop that the number at a place names, where all that it names is there.
     pub fn walk_loop(&mut self, alloc: Global, at: Place, number: i64) -> Result<Loop, WalkFault>
         requires { Stands self.old.lists self.old.lists self.old.numbering }
-        ensures file { self.new.lists ≡ self.old.lists }
-        ensures stands { OnOk result (Stands self.old.lists self.new.lists self.new.numbering) }
-        ensures keys { OnOk result (self.new.numbering.keys
-            ≡ keys_after self.old.lists self.old.numbering.keys (tuples self.old.lists number)) }
+        ensures walks { Walks self.old self.new result (tuples self.old.lists number) }
         ensures named { OnOk result (self.new.loops ≡ self.old.loops ++ number ∷ []) }
         ensures others { OnOk result ((self.new.faces ≡ self.old.faces)
             × (self.new.shells ≡ self.old.shells)) }
-        ensures made { IfOk result (IsMadeBy self.new.numbering.keys
+        ensures made { IfOk result (IsMadeAt self.new
             (λ keys. loop_by self.old.lists keys number)) }
         ensures holds { OnOk result (AllHold (loop_at self.old.lists
             (pos at.entity.0) at.item self.old.loops number)) }
@@ -113,15 +102,12 @@ impl<'a> WalkState<'a> {
     ) -> Result<Loops, WalkFault>
         requires few { length listed.now.loops < 2 ^ 31 }
         requires stands { Stands self.old.lists self.old.lists self.old.numbering }
-        ensures file { self.new.lists ≡ self.old.lists }
-        ensures stands { OnOk result (Stands self.old.lists self.new.lists self.new.numbering) }
-        ensures keys { OnOk result (self.new.numbering.keys
-            ≡ keys_after self.old.lists self.old.numbering.keys
-            (flat_map (tuples self.old.lists) listed.now.loops)) }
+        ensures walks { Walks self.old self.new result
+            (flat_map (tuples self.old.lists) listed.now.loops) }
         ensures named { OnOk result (self.new.loops ≡ self.old.loops ++ listed.now.loops) }
         ensures others { OnOk result ((self.new.faces ≡ self.old.faces)
             × (self.new.shells ≡ self.old.shells)) }
-        ensures made { IfOk result (IsMadeBy self.new.numbering.keys
+        ensures made { IfOk result (IsMadeAt self.new
             (λ keys. map (loop_by self.old.lists keys) listed.now.loops)) }
         ensures holds { OnOk result (AllHold (after_each
             (loop_places self.old.lists (pos no.0) self.old.loops) [] listed.now.loops)) }
@@ -152,16 +138,12 @@ impl<'a> WalkState<'a> {
     ) -> Result<FaceUse, WalkFault>
         requires stands { Stands self.old.lists self.old.lists self.old.numbering }
         requires loops { self.old.loops ≡ flat_map (loops self.old.lists) self.old.faces }
-        ensures file { self.new.lists ≡ self.old.lists }
-        ensures stands { OnOk result (Stands self.old.lists self.new.lists self.new.numbering) }
-        ensures keys { OnOk result (self.new.numbering.keys
-            ≡ keys_after self.old.lists self.old.numbering.keys
-            (face_tuples self.old.lists (number, flag))) }
+        ensures walks { Walks self.old self.new result (face_tuples self.old.lists (number, flag)) }
         ensures named { OnOk result (self.new.faces ≡ self.old.faces ++ number ∷ []) }
         ensures loops { OnOk result (self.new.loops
             ≡ flat_map (loops self.old.lists) self.new.faces) }
         ensures others { OnOk result (self.new.shells ≡ self.old.shells) }
-        ensures made { IfOk result (IsMadeBy self.new.numbering.keys
+        ensures made { IfOk result (IsMadeAt self.new
             (λ keys. face_by self.old.lists keys (number, flag))) }
         ensures holds { OnOk result (AllHold (face_at self.old.lists
             (pos at.entity.0) at.item self.old.faces number)) }
@@ -192,16 +174,13 @@ impl<'a> WalkState<'a> {
         requires few { length listed.now < 2 ^ 31 }
         requires stands { Stands self.old.lists self.old.lists self.old.numbering }
         requires loops { self.old.loops ≡ flat_map (loops self.old.lists) self.old.faces }
-        ensures file { self.new.lists ≡ self.old.lists }
-        ensures stands { OnOk result (Stands self.old.lists self.new.lists self.new.numbering) }
-        ensures keys { OnOk result (self.new.numbering.keys
-            ≡ keys_after self.old.lists self.old.numbering.keys
-            (flat_map (face_tuples self.old.lists) listed.now)) }
+        ensures walks { Walks self.old self.new result
+            (flat_map (face_tuples self.old.lists) listed.now) }
         ensures named { OnOk result (self.new.faces ≡ self.old.faces ++ numbers listed.now) }
         ensures loops { OnOk result (self.new.loops
             ≡ flat_map (loops self.old.lists) self.new.faces) }
         ensures others { OnOk result (self.new.shells ≡ self.old.shells) }
-        ensures made { IfOk result (IsMadeBy self.new.numbering.keys
+        ensures made { IfOk result (IsMadeAt self.new
             (λ keys. map (face_by self.old.lists keys) listed.now)) }
         ensures holds { OnOk result (AllHold (after_each
             (face_places self.old.lists (pos no.0) self.old.faces) [] listed.now)) }
@@ -234,17 +213,14 @@ impl<'a> WalkState<'a> {
         requires faces { self.old.faces ≡ flat_map
             (λ shell. numbers (faces self.old.lists shell)) self.old.shells }
         requires loops { self.old.loops ≡ flat_map (loops self.old.lists) self.old.faces }
-        ensures file { self.new.lists ≡ self.old.lists }
-        ensures stands { OnOk result (Stands self.old.lists self.new.lists self.new.numbering) }
-        ensures keys { OnOk result (self.new.numbering.keys
-            ≡ keys_after self.old.lists self.old.numbering.keys
-            (shell_tuples self.old.lists (number, flag))) }
+        ensures walks { Walks self.old self.new result
+            (shell_tuples self.old.lists (number, flag)) }
         ensures named { OnOk result (self.new.shells ≡ self.old.shells ++ number ∷ []) }
         ensures faces { OnOk result (self.new.faces ≡ flat_map
             (λ shell. numbers (faces self.old.lists shell)) self.new.shells) }
         ensures loops { OnOk result (self.new.loops
             ≡ flat_map (loops self.old.lists) self.new.faces) }
-        ensures made { IfOk result (IsMadeBy self.new.numbering.keys
+        ensures made { IfOk result (IsMadeAt self.new
             (λ keys. shell_by self.old.lists keys (number, flag))) }
         ensures holds { OnOk result (AllHold (shell_at self.old.lists
             (pos at.entity.0) at.item self.old.shells number)) }
@@ -273,12 +249,9 @@ impl<'a> WalkState<'a> {
         requires named { self.old.shells ≡ [] }
         requires faces { self.old.faces ≡ [] }
         requires loops { self.old.loops ≡ [] }
-        ensures file { self.new.lists ≡ self.old.lists }
-        ensures stands { OnOk result (Stands self.old.lists self.new.lists self.new.numbering) }
-        ensures keys { OnOk result (self.new.numbering.keys
-            ≡ keys_after self.old.lists self.old.numbering.keys
-            (flat_map (shell_tuples self.old.lists) (listed.now.outer ∷ listed.now.voids))) }
-        ensures made { IfOk result (IsMadeBy self.new.numbering.keys
+        ensures walks { Walks self.old self.new result
+            (flat_map (shell_tuples self.old.lists) (listed.now.outer ∷ listed.now.voids)) }
+        ensures made { IfOk result (IsMadeAt self.new
             (λ keys. map (shell_by self.old.lists keys) (listed.now.outer ∷ listed.now.voids))) }
         ensures holds { OnOk result (AllHold (after_each
             (shell_places self.old.lists (pos no.0)) [] (listed.now.outer ∷ listed.now.voids))) }

@@ -2,7 +2,7 @@
 
 ghost use Rattle.std.specs.Prelude.{◌≡◌, ◌∷◌, ◌<◌, ◌^◌, [], map, length, ℤ, Bool, pos, true, false, Some, All, IsTrue, ◌↔◌, slice_get, IfSome, IfOk, IfErr, OnOk};
 ghost use Rattle.indexmap.specs.IndexSet.{insert_key, insert_all};
-ghost use Rattle.brep_walk.specs.Numbered.{IsMadeBy, keys_after};
+ghost use Rattle.brep_walk.specs.Numbered.{keys_after};
 ghost use Rattle.brep_walk.specs.Places.{NamesGeometry, edge_at, edge_places, used_places, tuple_at, tuple_places};
 ghost use Rattle.brep_walk.specs.SolidOf.{use_by, ends_named};
 ghost use Rattle.brep_walk.specs.Stands.{Stands};
@@ -57,18 +57,15 @@ fn curves_are_good(file: &File, tuple: &LoopTuple<'_>, is_known: bool) -> bool
 }
 
 impl<'a> WalkState<'a> {
+    ghost use Rattle.brep_walk.specs.Walks.{IsMadeAt, NamesAlike, Walks};
+
     // The use that a tuple of a vertex is.
     fn vertex_use(&mut self, at: Place, tuple: &LoopTuple<'_>) -> Result<LoopUse, WalkFault>
         requires vertex { tuple.now.is_vertex ≡ true }
         requires stands { Stands self.old.lists self.old.lists self.old.numbering }
-        ensures file { self.new.lists ≡ self.old.lists }
-        ensures stands { OnOk result (Stands self.old.lists self.new.lists self.new.numbering) }
-        ensures keys { OnOk result (self.new.numbering.keys
-            ≡ keys_after self.old.lists self.old.numbering.keys (tuple.now ∷ [])) }
-        ensures others { OnOk result ((self.new.loops ≡ self.old.loops)
-            × (self.new.faces ≡ self.old.faces) × (self.new.shells ≡ self.old.shells)) }
-        ensures made { IfOk result (IsMadeBy self.new.numbering.keys
-            (λ keys. use_by keys tuple.now)) }
+        ensures walks { Walks self.old self.new result (tuple.now ∷ []) }
+        ensures others { OnOk result (NamesAlike self.old self.new) }
+        ensures made { IfOk result (IsMadeAt self.new (λ keys. use_by keys tuple.now)) }
         ensures holds { OnOk result (AllHold (used_places self.old.lists
             (pos at.entity.0) at.item tuple.now.list tuple.now.index true)) }
         ensures fault { IfErr result (IsFault (used_places self.old.lists
@@ -89,8 +86,7 @@ impl<'a> WalkState<'a> {
           edges = insert_key same_edge self.old.numbering.keys.edges key;
           vertices = insert_all same_vertex self.old.numbering.keys.vertices (ends_named (Some ends));
         }) }
-        ensures others { OnOk result ((self.new.loops ≡ self.old.loops)
-            × (self.new.faces ≡ self.old.faces) × (self.new.shells ≡ self.old.shells)) }
+        ensures others { OnOk result (NamesAlike self.old self.new) }
         ensures id { IfOk result
             (λ id. id.0 ≡ place_of same_edge self.new.numbering.keys.edges key) }
         ensures holds { OnOk result (AllHold (edge_places self.old.lists
@@ -113,14 +109,9 @@ impl<'a> WalkState<'a> {
     fn edge_use(&mut self, at: Place, tuple: &LoopTuple<'_>) -> Result<LoopUse, WalkFault>
         requires edge { tuple.now.is_vertex ≡ false }
         requires stands { Stands self.old.lists self.old.lists self.old.numbering }
-        ensures file { self.new.lists ≡ self.old.lists }
-        ensures stands { OnOk result (Stands self.old.lists self.new.lists self.new.numbering) }
-        ensures keys { OnOk result (self.new.numbering.keys
-            ≡ keys_after self.old.lists self.old.numbering.keys (tuple.now ∷ [])) }
-        ensures others { OnOk result ((self.new.loops ≡ self.old.loops)
-            × (self.new.faces ≡ self.old.faces) × (self.new.shells ≡ self.old.shells)) }
-        ensures made { IfOk result (IsMadeBy self.new.numbering.keys
-            (λ keys. use_by keys tuple.now)) }
+        ensures walks { Walks self.old self.new result (tuple.now ∷ []) }
+        ensures others { OnOk result (NamesAlike self.old self.new) }
+        ensures made { IfOk result (IsMadeAt self.new (λ keys. use_by keys tuple.now)) }
         ensures holds { OnOk result (AllHold (used_places self.old.lists
             (pos at.entity.0) at.item tuple.now.list tuple.now.index false)) }
         ensures fault { IfErr result (IsFault (used_places self.old.lists
@@ -137,14 +128,9 @@ impl<'a> WalkState<'a> {
     // The use that a tuple is.
     fn tuple_use(&mut self, at: Place, tuple: &LoopTuple<'_>) -> Result<LoopUse, WalkFault>
         requires { Stands self.old.lists self.old.lists self.old.numbering }
-        ensures file { self.new.lists ≡ self.old.lists }
-        ensures stands { OnOk result (Stands self.old.lists self.new.lists self.new.numbering) }
-        ensures keys { OnOk result (self.new.numbering.keys
-            ≡ keys_after self.old.lists self.old.numbering.keys (tuple.now ∷ [])) }
-        ensures others { OnOk result ((self.new.loops ≡ self.old.loops)
-            × (self.new.faces ≡ self.old.faces) × (self.new.shells ≡ self.old.shells)) }
-        ensures made { IfOk result (IsMadeBy self.new.numbering.keys
-            (λ keys. use_by keys tuple.now)) }
+        ensures walks { Walks self.old self.new result (tuple.now ∷ []) }
+        ensures others { OnOk result (NamesAlike self.old self.new) }
+        ensures made { IfOk result (IsMadeAt self.new (λ keys. use_by keys tuple.now)) }
         ensures holds { OnOk result (AllHold (used_places self.old.lists
             (pos at.entity.0) at.item tuple.now.list tuple.now.index tuple.now.is_vertex)) }
         ensures fault { IfErr result (IsFault (used_places self.old.lists
@@ -168,14 +154,9 @@ impl<'a> WalkState<'a> {
         requires stands { Stands self.old.lists self.old.lists self.old.numbering }
         requires known { IsTrue is_known → AllHold (tuple_at self.old.lists
             (pos at.entity.0) at.item tuple.now) }
-        ensures file { self.new.lists ≡ self.old.lists }
-        ensures stands { OnOk result (Stands self.old.lists self.new.lists self.new.numbering) }
-        ensures keys { OnOk result (self.new.numbering.keys
-            ≡ keys_after self.old.lists self.old.numbering.keys (tuple.now ∷ [])) }
-        ensures others { OnOk result ((self.new.loops ≡ self.old.loops)
-            × (self.new.faces ≡ self.old.faces) × (self.new.shells ≡ self.old.shells)) }
-        ensures made { IfOk result (IsMadeBy self.new.numbering.keys
-            (λ keys. use_by keys tuple.now)) }
+        ensures walks { Walks self.old self.new result (tuple.now ∷ []) }
+        ensures others { OnOk result (NamesAlike self.old self.new) }
+        ensures made { IfOk result (IsMadeAt self.new (λ keys. use_by keys tuple.now)) }
         ensures holds { OnOk result (AllHold (tuple_at self.old.lists
             (pos at.entity.0) at.item tuple.now)) }
         ensures fault { IfErr result (IsFault (tuple_at self.old.lists
@@ -201,14 +182,9 @@ impl<'a> WalkState<'a> {
         requires stands { Stands self.old.lists self.old.lists self.old.numbering }
         requires known { IsTrue is_known → AllHold (after_each
             (tuple_places self.old.lists (pos no.0)) [] listed.now) }
-        ensures file { self.new.lists ≡ self.old.lists }
-        ensures stands { OnOk result (Stands self.old.lists self.new.lists self.new.numbering) }
-        ensures keys { OnOk result (self.new.numbering.keys
-            ≡ keys_after self.old.lists self.old.numbering.keys listed.now) }
-        ensures others { OnOk result ((self.new.loops ≡ self.old.loops)
-            × (self.new.faces ≡ self.old.faces) × (self.new.shells ≡ self.old.shells)) }
-        ensures made { IfOk result (IsMadeBy self.new.numbering.keys
-            (λ keys. map (use_by keys) listed.now)) }
+        ensures walks { Walks self.old self.new result listed.now }
+        ensures others { OnOk result (NamesAlike self.old self.new) }
+        ensures made { IfOk result (IsMadeAt self.new (λ keys. map (use_by keys) listed.now)) }
         ensures holds { OnOk result (AllHold (after_each
             (tuple_places self.old.lists (pos no.0)) [] listed.now)) }
         ensures fault { IfErr result (IsFault (after_each

@@ -19,14 +19,14 @@ returns-clause-holds c =
 pub returns-clause-keys : goal.returns-clause-keys
 returns-clause-keys c =
     keys_whole c.args.walk.now.lists c.args.no.0 _ refl c.in_ok-entity.listed c.in_ok-entity.ensures.named.1 _ (c.restart.ensures.stands.file ∙ c.in_ok-entity.ensures.file) c.in_ok-entity.entity.0 c.in_ok-entity.ensures.named.0
-    _ _ c.restart.ensures.keys c.in_ok-shells.ensures.keys
+    _ _ c.restart.ensures.keys c.in_ok-shells.ensures.walks.keys
 
 pub returns-clause-shells : goal.returns-clause-shells
 returns-clause-shells c =
     shells_whole c.args.walk.now.lists c.args.no.0 _ refl c.in_ok-entity.listed c.in_ok-entity.ensures.named.1 _ (c.restart.ensures.stands.file ∙ c.in_ok-entity.ensures.file) c.in_ok-entity.entity.0 c.in_ok-entity.ensures.named.0
-    _ _ c.restart.ensures.keys c.in_ok-shells.ensures.keys c.in_ok-shells.shells c.in_ok-shells.ensures.made
+    _ _ c.restart.ensures.keys c.in_ok-shells.ensures.walks.keys c.in_ok-shells.shells c.in_ok-shells.ensures.made
 
 pub returns-clause-edges : goal.returns-clause-edges
 returns-clause-edges c =
     edges_whole c.args.walk.now.lists c.args.no.0 _ refl c.in_ok-entity.listed c.in_ok-entity.ensures.named.1 _ (c.restart.ensures.stands.file ∙ c.in_ok-entity.ensures.file) c.in_ok-entity.entity.0 c.in_ok-entity.ensures.named.0
-    _ _ c.restart.ensures.keys c.in_ok-shells.ensures.keys _ refl c.in_ok-shells.ensures.stands.edges
+    _ _ c.restart.ensures.keys c.in_ok-shells.ensures.walks.keys _ refl c.in_ok-shells.ensures.walks.stands.edges
