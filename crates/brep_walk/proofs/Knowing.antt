@@ -1,6 +1,6 @@
 -- What is known of records.
-use Rattle.std.specs.Prelude.{◌≡◌, ◌≢◌, ℕ, ℤ, pos, List, [], ◌∷◌, ◌++◌, ◌<◌, ◌^◌, IsSome, IsSomeAnd, Option, Some, None, Result, Ok, Err, IfErr, IsErrAnd, slice_get}
-use Rattle.std.proofs.Common.{refl, sym, ◌∙◌, ap, subst, inl, inr, ⊎_elim}
+use Rattle.std.specs.Prelude.{◌≡◌, ◌≢◌, ℕ, ℤ, pos, List, [], ◌∷◌, ◌++◌, ◌<◌, ◌^◌, IsSome, IsSomeAnd, Option, Some, None, Result, IfErr, IsErrAnd, slice_get}
+use Rattle.std.proofs.Common.{refl, sym, ◌∙◌, ap, subst, ⊎_elim}
 use Rattle.std.proofs.lemmas.Bool.{cases_eq}
 use Rattle.std.proofs.lemmas.Option.{same_Some}
 use Rattle.iges_base.specs.declared.entry_no.EntryNo.{EntryNo}
@@ -24,7 +24,7 @@ use Rattle.brep_walk.specs.declared.marks.Mark.TheVariants as marks
 use Rattle.brep_walk.specs.Counts.{item_count}
 use Rattle.brep_walk.specs.Marked.{mark_of}
 use Rattle.brep_walk.specs.Known.{uses_places, HasItsRecord, LacksItsRecord, Says, AreKnown}
-use Rattle.brep_walk.specs.Places.{told, Names, NamesKind, HasRecordOf, entry_places, record_places}
+use Rattle.brep_walk.specs.Places.{told, NamesKind, HasRecordOf, entry_places, record_places}
 use Rattle.brep_walk.specs.Walked.{IsFault}
 use Rattle.brep_walk.proofs.Faults.{fault_rest, handed, handed_failing}
 use Rattle.brep_walk.proofs.Opened.{record_of, no_record, named_few}

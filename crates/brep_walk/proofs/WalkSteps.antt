@@ -1,19 +1,18 @@
 -- One step of a walk over a list.
-use Rattle.std.specs.Prelude.{◌≡◌, ◌+◌, ◌≤◌, ℕ, zero, suc, ℤ, List, [], ◌∷◌, ◌++◌, map, flat_map, length, take, drop, slice_get, Some, All, Bool}
+use Rattle.std.specs.Prelude.{◌≡◌, ◌+◌, ◌≤◌, ℕ, zero, suc, ℤ, List, [], ◌∷◌, ◌++◌, map, flat_map, length, take, drop, slice_get, Some}
 use Rattle.std.proofs.Common.{refl, sym, ◌∙◌, ap, subst, arith, append_assoc}
 use Rattle.std.proofs.lemmas.List.{append-nil, map-append}
 use Rattle.std.proofs.lemmas.Grind.{flat_map-append}
 use Rattle.std.proofs.lemmas.Option.{same_Some, none-some}
 use Rattle.iges_params.specs.Contents.{Contents}
 use Rattle.brep_lists.specs.Record.{LoopTuple}
-use Rattle.solid_data.specs.Obligations.{Obligation, AllHold, obligation, entry_number, after_each}
-use Rattle.solid_data.specs.declared.verdict.Rule.TheVariants.{BadGeometry}
+use Rattle.solid_data.specs.Obligations.{Obligation, AllHold, after_each}
 use Rattle.solid_data.specs.SolidData.{same_edge, same_vertex}
 use Rattle.solid_data.proofs.ObligationLemmas.{AllHold-append_left, AllHold-append_right, Remains, Remains-less}
 use Rattle.solid_data.proofs.Members.{split_at}
 use Rattle.brep_walk.specs.declared.fault.WalkFault.{WalkFault}
 use Rattle.brep_walk.specs.Numbered.{Extends, IsMadeBy, keys_after}
-use Rattle.brep_walk.specs.Places.{NamesGeometry, used_places, tuple_at, tuple_places}
+use Rattle.brep_walk.specs.Places.{tuple_at, tuple_places}
 use Rattle.brep_numbering.specs.Keys.{Keys}
 use Rattle.brep_walk.specs.SolidOf.{edge_named, vertices_named}
 use Rattle.brep_walk.specs.Walked.{IsFault}
@@ -50,10 +49,6 @@ pub tuple_known : (f : Contents) (l : ℤ) (all before rest : List LoopTuple) (t
 unfolding tuple_places
 tuple_known f l all before rest t item is at h = subst (λ i. AllHold (tuple_at f l i t)) (sym at)
     (within (tuple_places f l) [] before t rest (subst (λ ts. AllHold (after_each (tuple_places f l) [] ts)) (sym is) h))
-
-pub curves_known : (f : Contents) (l : ℤ) (place : ℕ) (t : LoopTuple) → AllHold (tuple_at f l place t) → All (λ (c : Bool × ℤ). NamesGeometry f c.1) t.curves
-curves_known f l place t h =
-    (AllHold-append_right (used_places f l place t.«list» t.index t.is_vertex) (obligation BadGeometry (entry_number l) place (All (λ (c : Bool × ℤ). NamesGeometry f c.1) t.curves) ∷ []) h).0
 
 -- Keys.
 

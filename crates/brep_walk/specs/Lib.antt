@@ -10,3 +10,4 @@ pub mod Counts
 pub mod Marked
 pub mod Known
 pub mod Walks
+pub mod Here

@@ -1,10 +1,11 @@
 //! The records of a file, and its lists of edges and of vertices. What was found out about one is remembered.
 
 ghost use Rattle.brep_lists.specs.declared.entity_kind.EntityKind.TheVariants.{EdgeList as edges, VertexList as vertices};
+ghost use Rattle.brep_walk.specs.Here.{record_here, vertex_here, edge_here, ends_here};
 ghost use Rattle.brep_walk.specs.Counts.{item_count};
 ghost use Rattle.brep_walk.specs.Kept.{IsVertexList};
 ghost use Rattle.brep_walk.specs.Known.{uses_places};
-ghost use Rattle.brep_walk.specs.Places.{told, edge_at, edge_places, record_places, item_places, IsIndex, NamesKind, HasRecordOf};
+ghost use Rattle.brep_walk.specs.Places.{told, edge_at, IsIndex, NamesKind, HasRecordOf};
 ghost use Rattle.brep_walk.specs.SolidOf.{edge_key, vertex_key};
 ghost use Rattle.brep_walk.specs.Walked.{IsFault};
 ghost use Rattle.brep_walk.specs.declared.fault.WalkFault.TheVariants.{Fails};
@@ -71,14 +72,10 @@ fn edge_of(
 }
 
 // That the record of an entry doesn't fit its type.
-fn bad_layout(no: EntryNo) -> WalkFault
-    ensures { result ≡ Fails (record { rule = BadLayout; entity = no; place = 0 }) }
+fn bad_layout(entity: EntryNo) -> WalkFault
+    ensures { result ≡ Fails (record { rule = BadLayout; entity = entity; place = 0 }) }
 {
-    let place = Place {
-        entity: no,
-        item: 0,
-    };
-    WalkFault::Fails(place.fails(Rule::BadLayout))
+    WalkFault::Fails(Place { entity, item: 0 }.fails(Rule::BadLayout))
 }
 
 impl<'a> Lists<'a> {
@@ -98,11 +95,9 @@ impl<'a> Lists<'a> {
     // The entry of the vertex list that the number at a place names, and how many vertices it has.
     fn vertex_list(&mut self, at: Place, number: i64) -> Result<(EntryNo, u32), WalkFault>
         ensures file { self.new ≡ self.old }
-        ensures holds { OnOk result (AllHold (record_places self.old
-            (pos at.entity.0) at.item vertices number)) }
+        ensures holds { OnOk result (AllHold (record_here self.old at vertices number)) }
         ensures list { IfOk result (IsVertexList self.old number) }
-        ensures fault { IfErr result (IsFault (record_places self.old
-            (pos at.entity.0) at.item vertices number)) }
+        ensures fault { IfErr result (IsFault (record_here self.old at vertices number)) }
     {
         if let Some(kept) = self.vertices.get(number) {
             return Ok(*kept);
@@ -116,13 +111,9 @@ impl<'a> Lists<'a> {
     /// The vertex that a list and an index at a place name.
     pub fn vertex(&mut self, at: Place, number: i64, index: i64) -> Result<VertexKey, WalkFault>
         ensures file { self.new ≡ self.old }
-        ensures holds { OnOk result (AllHold (item_places self.old
-            (pos at.entity.0) at.item vertices number index
-            (length (told vertices self.old number)))) }
+        ensures holds { OnOk result (AllHold (vertex_here self.old at number index)) }
         ensures vertex { IfOk result (λ key. key ≡ vertex_key number index) }
-        ensures fault { IfErr result (IsFault (item_places self.old
-            (pos at.entity.0) at.item vertices number index
-            (length (told vertices self.old number)))) }
+        ensures fault { IfErr result (IsFault (vertex_here self.old at number index)) }
     {
         let (list, count) = self.vertex_list(at, number)?;
         let index = index_in(count, at, index)?;
@@ -137,12 +128,10 @@ impl<'a> Lists<'a> {
         index: i64,
     ) -> Result<(EdgeKey, EdgeTuple), WalkFault>
         ensures file { self.new ≡ self.old }
-        ensures holds { OnOk result (AllHold (item_places self.old
-            (pos at.entity.0) at.item edges number index (length (told edges self.old number)))) }
+        ensures holds { OnOk result (AllHold (edge_here self.old at number index)) }
         ensures edge { IfOk result (λ e. (e.0 ≡ edge_key number index)
             × (edge_at self.old number (entry_number index) ≡ Some e.1)) }
-        ensures fault { IfErr result (IsFault (item_places self.old
-            (pos at.entity.0) at.item edges number index (length (told edges self.old number)))) }
+        ensures fault { IfErr result (IsFault (edge_here self.old at number index)) }
     {
         if let Some((no, list)) = self.edges.get(number) {
             return Ok(edge_of(*no, list, at, index)?);
@@ -156,12 +145,10 @@ impl<'a> Lists<'a> {
     /// The start and the end of the edge at a place, whose curve must name geometry.
     pub fn ends(&mut self, at: Place, edge: EdgeTuple) -> Result<(VertexKey, VertexKey), WalkFault>
         ensures file { self.new ≡ self.old }
-        ensures holds { OnOk result (AllHold (edge_places self.old (pos at.entity.0) at.item
-            (Some edge))) }
+        ensures holds { OnOk result (AllHold (ends_here self.old at edge)) }
         ensures ends { IfOk result (λ ends. (ends.0 ≡ vertex_key edge.start_list edge.start_index)
             × (ends.1 ≡ vertex_key edge.end_list edge.end_index)) }
-        ensures fault { IfErr result (IsFault (edge_places self.old (pos at.entity.0) at.item
-            (Some edge))) }
+        ensures fault { IfErr result (IsFault (ends_here self.old at edge)) }
     {
         if !names_geometry(self.file, edge.curve) {
             return Err(WalkFault::Fails(at.fails(Rule::BadGeometry)));
@@ -178,8 +165,8 @@ impl<'a> Lists<'a> {
         self.file
     }
 
-    // Judges the record of an entry, of which nothing is known.
-    fn judge<R: Record<'a>>(&mut self, no: EntryNo, values: &'a Values) -> Result<R, WalkFault>
+    // What the record of an entry describes, which is judged unless that was done before.
+    fn judged<R: Record<'a>>(&mut self, no: EntryNo, values: &'a Values) -> Result<R, WalkFault>
         requires kind { NamesKind R.kind self.old (pos no.0) }
         requires values { values.now ≡ values_of self.old (pos no.0) }
         ensures file { self.new ≡ self.old }
@@ -188,6 +175,11 @@ impl<'a> Lists<'a> {
         ensures fault { IfErr result (IsFault (obligation BadLayout no.0 0
             (HasRecordOf R.kind self.old (pos no.0)) ∷ [])) }
     {
+        match self.marks.get(no) {
+            Mark::Unknown => {}
+            Mark::Misfits => return Err(bad_layout(no)),
+            Mark::Fits | Mark::Walked => return Ok(R::fitting(values)),
+        }
         match R::of(values) {
             Some(record) => {
                 self.marks.set(no, Mark::Fits)?;
@@ -200,23 +192,6 @@ impl<'a> Lists<'a> {
         }
     }
 
-    // What the record of an entry describes, which is judged unless that was done before.
-    fn judged<R: Record<'a>>(&mut self, no: EntryNo, values: &'a Values) -> Result<R, WalkFault>
-        requires kind { NamesKind R.kind self.old (pos no.0) }
-        requires values { values.now ≡ values_of self.old (pos no.0) }
-        ensures file { self.new ≡ self.old }
-        ensures holds { OnOk result (HasRecordOf R.kind self.old (pos no.0)) }
-        ensures read { IfOk result (λ r. R.items r ≡ told R.kind self.old (pos no.0)) }
-        ensures fault { IfErr result (IsFault (obligation BadLayout no.0 0
-            (HasRecordOf R.kind self.old (pos no.0)) ∷ [])) }
-    {
-        match self.marks.get(no) {
-            Mark::Unknown => self.judge(no, values),
-            Mark::Misfits => Err(bad_layout(no)),
-            Mark::Fits | Mark::Walked => Ok(R::fitting(values)),
-        }
-    }
-
     /// The record that the number at a place names, and its entry.
     pub fn record<R: Record<'a>>(
         &mut self,
@@ -224,14 +199,12 @@ impl<'a> Lists<'a> {
         number: i64,
     ) -> Result<(EntryNo, R), WalkFault>
         ensures file { self.new ≡ self.old }
-        ensures holds { OnOk result (AllHold (record_places self.old
-            (pos at.entity.0) at.item R.kind number)) }
+        ensures holds { OnOk result (AllHold (record_here self.old at R.kind number)) }
         ensures named { IfOk result (λ r. (number ≡ pos r.0.0)
             × (R.items r.1 ≡ told R.kind self.old number)) }
         ensures few { IfOk result (λ r. item_count R.kind (R.items r.1) < 2 ^ 31) }
         ensures limits { FitsLimits self.old }
-        ensures fault { IfErr result (IsFault (record_places self.old
-            (pos at.entity.0) at.item R.kind number)) }
+        ensures fault { IfErr result (IsFault (record_here self.old at R.kind number)) }
     {
         let named = entry_at(self.file, at, R::kind(), number)?;
         let record = self.judged::<R>(named.no, named.values)?;

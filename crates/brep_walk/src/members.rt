@@ -2,11 +2,11 @@
 
 ghost use Rattle.brep_walk.specs.Known.{uses_places};
 ghost use Rattle.brep_walk.specs.Numbered.{face_tuples, shell_tuples};
-ghost use Rattle.brep_walk.specs.Places.{tuples, loop_at, loop_places, loops, numbers, face_at, face_places, faces, shell_at, shell_places};
+ghost use Rattle.brep_walk.specs.Places.{tuples, loops, numbers, faces};
 ghost use Rattle.brep_walk.specs.SolidOf.{loop_by, use_by, face_by, shell_by};
 ghost use Rattle.brep_walk.specs.Stands.{Stands};
 ghost use Rattle.brep_walk.specs.Walked.{IsFault};
-ghost use Rattle.solid_data.specs.Obligations.{AllHold, after_each};
+ghost use Rattle.solid_data.specs.Obligations.{AllHold};
 ghost use Rattle.std.specs.Prelude.{◌≡◌, ◌∷◌, ◌++◌, ◌<◌, ◌^◌, [], map, flat_map, length, pos, IfOk, IfErr, OnOk};
 
 use crate::fault::WalkFault;
@@ -19,29 +19,9 @@ use solid_data::{FaceUse, Faces, Loop, Loops, Rule, Shell, Shells, Uses};
 use std::alloc::Global;
 
 impl<'a> WalkState<'a> {
-    ghost use Rattle.brep_walk.specs.Walks.{IsMadeAt, NamesAlike, Walks};
+    ghost use Rattle.brep_walk.specs.Walks.{FacesAlike, IsMadeAt, NamesAlike, NamesFaces, NamesLoops, Walks, face_here, faces_in_shell, loop_here, loops_in_face, shell_here, shells_in_solid};
 
-    // The uses of a loop, whose tuples are walked with what is known of it.
-    fn judged_uses(
-        &mut self,
-        alloc: Global,
-        no: EntryNo,
-        listed: &LoopRecord<'_>,
-    ) -> Result<Uses, WalkFault>
-        requires few { length listed.now < 2 ^ 31 }
-        requires listed { listed.now ≡ tuples self.old.lists (pos no.0) }
-        requires stands { Stands self.old.lists self.old.lists self.old.numbering }
-        ensures walks { Walks self.old self.new result listed.now }
-        ensures others { OnOk result (NamesAlike self.old self.new) }
-        ensures made { IfOk result (IsMadeAt self.new (λ keys. map (use_by keys) listed.now)) }
-        ensures holds { OnOk result (AllHold (uses_places self.old.lists (pos no.0))) }
-        ensures fault { IfErr result (IsFault (uses_places self.old.lists (pos no.0))) }
-    {
-        let is_known = self.lists.is_walked(no);
-        self.walk_tuples(alloc, no, listed, is_known)
-    }
-
-    // The uses of a loop. How their walk ended is remembered.
+    // The uses of a loop. How the walk of its tuples ends is remembered.
     fn loop_uses(
         &mut self,
         alloc: Global,
@@ -60,7 +40,8 @@ impl<'a> WalkState<'a> {
         if let Some(failing) = self.lists.failing_of(no) {
             return Err(WalkFault::Fails(failing));
         }
-        match self.judged_uses(alloc, no, listed) {
+        let is_known = self.lists.is_walked(no);
+        match self.walk_tuples(alloc, no, listed, is_known) {
             Ok(uses) => {
                 self.lists.keep_walked(no)?;
                 Ok(uses)
@@ -78,14 +59,11 @@ impl<'a> WalkState<'a> {
         requires { Stands self.old.lists self.old.lists self.old.numbering }
         ensures walks { Walks self.old self.new result (tuples self.old.lists number) }
         ensures named { OnOk result (self.new.loops ≡ self.old.loops ++ number ∷ []) }
-        ensures others { OnOk result ((self.new.faces ≡ self.old.faces)
-            × (self.new.shells ≡ self.old.shells)) }
+        ensures others { OnOk result (FacesAlike self.old self.new) }
         ensures made { IfOk result (IsMadeAt self.new
             (λ keys. loop_by self.old.lists keys number)) }
-        ensures holds { OnOk result (AllHold (loop_at self.old.lists
-            (pos at.entity.0) at.item self.old.loops number)) }
-        ensures fault { IfErr result (IsFault (loop_at self.old.lists
-            (pos at.entity.0) at.item self.old.loops number)) }
+        ensures holds { OnOk result (AllHold (loop_here self.old at number)) }
+        ensures fault { IfErr result (IsFault (loop_here self.old at number)) }
     {
         let (entity, listed) = self.lists.record::<LoopRecord<'a>>(at, number)?;
         self.loops.note(at, number, entity)?;
@@ -105,23 +83,17 @@ impl<'a> WalkState<'a> {
         ensures walks { Walks self.old self.new result
             (flat_map (tuples self.old.lists) listed.now.loops) }
         ensures named { OnOk result (self.new.loops ≡ self.old.loops ++ listed.now.loops) }
-        ensures others { OnOk result ((self.new.faces ≡ self.old.faces)
-            × (self.new.shells ≡ self.old.shells)) }
+        ensures others { OnOk result (FacesAlike self.old self.new) }
         ensures made { IfOk result (IsMadeAt self.new
             (λ keys. map (loop_by self.old.lists keys) listed.now.loops)) }
-        ensures holds { OnOk result (AllHold (after_each
-            (loop_places self.old.lists (pos no.0) self.old.loops) [] listed.now.loops)) }
-        ensures fault { IfErr result (IsFault (after_each
-            (loop_places self.old.lists (pos no.0) self.old.loops) [] listed.now.loops)) }
+        ensures holds { OnOk result (AllHold (loops_in_face self.old no listed.now.loops)) }
+        ensures fault { IfErr result (IsFault (loops_in_face self.old no listed.now.loops)) }
     {
         let mut loops = Loops::new(alloc);
         'loops: for i in 0..listed.len() {
             let number = listed.item(i).unwrap();
-            let place = Place {
-                entity: no,
-                item: i as u32 + 1,
-            };
-            let made = self.walk_loop(alloc, place, number)?;
+            let item = i as u32 + 1;
+            let made = self.walk_loop(alloc, Place { entity: no, item }, number)?;
             loops.push(made)?;
         }
         Ok(loops)
@@ -137,18 +109,15 @@ impl<'a> WalkState<'a> {
         flag: bool,
     ) -> Result<FaceUse, WalkFault>
         requires stands { Stands self.old.lists self.old.lists self.old.numbering }
-        requires loops { self.old.loops ≡ flat_map (loops self.old.lists) self.old.faces }
+        requires loops { NamesLoops self.old.lists self.old }
         ensures walks { Walks self.old self.new result (face_tuples self.old.lists (number, flag)) }
         ensures named { OnOk result (self.new.faces ≡ self.old.faces ++ number ∷ []) }
-        ensures loops { OnOk result (self.new.loops
-            ≡ flat_map (loops self.old.lists) self.new.faces) }
+        ensures loops { OnOk result (NamesLoops self.old.lists self.new) }
         ensures others { OnOk result (self.new.shells ≡ self.old.shells) }
         ensures made { IfOk result (IsMadeAt self.new
             (λ keys. face_by self.old.lists keys (number, flag))) }
-        ensures holds { OnOk result (AllHold (face_at self.old.lists
-            (pos at.entity.0) at.item self.old.faces number)) }
-        ensures fault { IfErr result (IsFault (face_at self.old.lists
-            (pos at.entity.0) at.item self.old.faces number)) }
+        ensures holds { OnOk result (AllHold (face_here self.old at number)) }
+        ensures fault { IfErr result (IsFault (face_here self.old at number)) }
     {
         let (entity, listed) = self.lists.record::<FaceRecord<'a>>(at, number)?;
         self.faces.note(at, number, entity)?;
@@ -173,28 +142,22 @@ impl<'a> WalkState<'a> {
     ) -> Result<Faces, WalkFault>
         requires few { length listed.now < 2 ^ 31 }
         requires stands { Stands self.old.lists self.old.lists self.old.numbering }
-        requires loops { self.old.loops ≡ flat_map (loops self.old.lists) self.old.faces }
+        requires loops { NamesLoops self.old.lists self.old }
         ensures walks { Walks self.old self.new result
             (flat_map (face_tuples self.old.lists) listed.now) }
         ensures named { OnOk result (self.new.faces ≡ self.old.faces ++ numbers listed.now) }
-        ensures loops { OnOk result (self.new.loops
-            ≡ flat_map (loops self.old.lists) self.new.faces) }
+        ensures loops { OnOk result (NamesLoops self.old.lists self.new) }
         ensures others { OnOk result (self.new.shells ≡ self.old.shells) }
         ensures made { IfOk result (IsMadeAt self.new
             (λ keys. map (face_by self.old.lists keys) listed.now)) }
-        ensures holds { OnOk result (AllHold (after_each
-            (face_places self.old.lists (pos no.0) self.old.faces) [] listed.now)) }
-        ensures fault { IfErr result (IsFault (after_each
-            (face_places self.old.lists (pos no.0) self.old.faces) [] listed.now)) }
+        ensures holds { OnOk result (AllHold (faces_in_shell self.old no listed.now)) }
+        ensures fault { IfErr result (IsFault (faces_in_shell self.old no listed.now)) }
     {
         let mut faces = Faces::new(alloc);
         'faces: for i in 0..listed.len() {
             let (number, flag) = listed.item(i).unwrap();
-            let place = Place {
-                entity: no,
-                item: i as u32 + 1,
-            };
-            let made = self.walk_face(alloc, place, number, flag)?;
+            let item = i as u32 + 1;
+            let made = self.walk_face(alloc, Place { entity: no, item }, number, flag)?;
             faces.push(made)?;
         }
         Ok(faces)
@@ -210,22 +173,17 @@ impl<'a> WalkState<'a> {
         flag: bool,
     ) -> Result<Shell, WalkFault>
         requires stands { Stands self.old.lists self.old.lists self.old.numbering }
-        requires faces { self.old.faces ≡ flat_map
-            (λ shell. numbers (faces self.old.lists shell)) self.old.shells }
-        requires loops { self.old.loops ≡ flat_map (loops self.old.lists) self.old.faces }
+        requires faces { NamesFaces self.old.lists self.old }
+        requires loops { NamesLoops self.old.lists self.old }
         ensures walks { Walks self.old self.new result
             (shell_tuples self.old.lists (number, flag)) }
         ensures named { OnOk result (self.new.shells ≡ self.old.shells ++ number ∷ []) }
-        ensures faces { OnOk result (self.new.faces ≡ flat_map
-            (λ shell. numbers (faces self.old.lists shell)) self.new.shells) }
-        ensures loops { OnOk result (self.new.loops
-            ≡ flat_map (loops self.old.lists) self.new.faces) }
+        ensures faces { OnOk result (NamesFaces self.old.lists self.new) }
+        ensures loops { OnOk result (NamesLoops self.old.lists self.new) }
         ensures made { IfOk result (IsMadeAt self.new
             (λ keys. shell_by self.old.lists keys (number, flag))) }
-        ensures holds { OnOk result (AllHold (shell_at self.old.lists
-            (pos at.entity.0) at.item self.old.shells number)) }
-        ensures fault { IfErr result (IsFault (shell_at self.old.lists
-            (pos at.entity.0) at.item self.old.shells number)) }
+        ensures holds { OnOk result (AllHold (shell_here self.old at number)) }
+        ensures fault { IfErr result (IsFault (shell_here self.old at number)) }
     {
         let (entity, listed) = self.lists.record::<ShellRecord<'a>>(at, number)?;
         self.shells.note(at, number, entity)?;
@@ -253,19 +211,16 @@ impl<'a> WalkState<'a> {
             (flat_map (shell_tuples self.old.lists) (listed.now.outer ∷ listed.now.voids)) }
         ensures made { IfOk result (IsMadeAt self.new
             (λ keys. map (shell_by self.old.lists keys) (listed.now.outer ∷ listed.now.voids))) }
-        ensures holds { OnOk result (AllHold (after_each
-            (shell_places self.old.lists (pos no.0)) [] (listed.now.outer ∷ listed.now.voids))) }
-        ensures fault { IfErr result (IsFault (after_each
-            (shell_places self.old.lists (pos no.0)) [] (listed.now.outer ∷ listed.now.voids))) }
+        ensures holds { OnOk result (AllHold (shells_in_solid self.old no
+            (listed.now.outer ∷ listed.now.voids))) }
+        ensures fault { IfErr result (IsFault (shells_in_solid self.old no
+            (listed.now.outer ∷ listed.now.voids))) }
     {
         let mut shells = Shells::new(alloc);
         'shells: for i in 0..listed.len() {
             let (number, flag) = listed.item(i).unwrap();
-            let place = Place {
-                entity: no,
-                item: i as u32 + 1,
-            };
-            let made = self.walk_shell(alloc, place, number, flag)?;
+            let item = i as u32 + 1;
+            let made = self.walk_shell(alloc, Place { entity: no, item }, number, flag)?;
             shells.push(made)?;
         }
         Ok(shells)

@@ -2,12 +2,12 @@
 
 ghost use Rattle.std.specs.Prelude.{◌≡◌, ◌∷◌, ◌<◌, ◌^◌, [], map, length, ℤ, Bool, pos, true, false, Some, All, IsTrue, ◌↔◌, slice_get, IfSome, IfOk, IfErr, OnOk};
 ghost use Rattle.indexmap.specs.IndexSet.{insert_key, insert_all};
-ghost use Rattle.brep_walk.specs.Numbered.{keys_after};
-ghost use Rattle.brep_walk.specs.Places.{NamesGeometry, edge_at, edge_places, used_places, tuple_at, tuple_places};
+ghost use Rattle.brep_walk.specs.Here.{used_here, tuple_here, tuples_in_loop};
+ghost use Rattle.brep_walk.specs.Places.{NamesGeometry, edge_at, edge_places};
 ghost use Rattle.brep_walk.specs.SolidOf.{use_by, ends_named};
 ghost use Rattle.brep_walk.specs.Stands.{Stands};
 ghost use Rattle.brep_walk.specs.Walked.{IsFault};
-ghost use Rattle.solid_data.specs.Obligations.{AllHold, after_each};
+ghost use Rattle.solid_data.specs.Obligations.{AllHold};
 ghost use Rattle.solid_data.specs.Ring.{place_of};
 ghost use Rattle.solid_data.specs.SolidData.{same_edge, same_vertex};
 
@@ -35,8 +35,7 @@ fn curve_names_geometry(file: &File, tuple: &LoopTuple<'_>, i: usize) -> bool
 
 // Whether each parameter curve of the tuple names geometry.
 fn curves_name_geometry(file: &File, tuple: &LoopTuple<'_>) -> bool
-    ensures { IsTrue result ↔ All (λ (curve : Bool
-        × ℤ). NamesGeometry file.now curve.1) tuple.now.curves }
+    ensures { IsTrue result ↔ All (λ (c : Bool × ℤ). NamesGeometry file.now c.1) tuple.now.curves }
 {
     'curves: for i in 0..tuple.curve_count() {
         if !curve_names_geometry(file, tuple, i) {
@@ -44,16 +43,6 @@ fn curves_name_geometry(file: &File, tuple: &LoopTuple<'_>) -> bool
         }
     }
     true
-}
-
-// The same, where it may be known.
-fn curves_are_good(file: &File, tuple: &LoopTuple<'_>, is_known: bool) -> bool
-    requires { IsTrue is_known → All (λ (curve : Bool
-        × ℤ). NamesGeometry file.now curve.1) tuple.now.curves }
-    ensures { IsTrue result ↔ All (λ (curve : Bool
-        × ℤ). NamesGeometry file.now curve.1) tuple.now.curves }
-{
-    is_known || curves_name_geometry(file, tuple)
 }
 
 impl<'a> WalkState<'a> {
@@ -66,10 +55,8 @@ impl<'a> WalkState<'a> {
         ensures walks { Walks self.old self.new result (tuple.now ∷ []) }
         ensures others { OnOk result (NamesAlike self.old self.new) }
         ensures made { IfOk result (IsMadeAt self.new (λ keys. use_by keys tuple.now)) }
-        ensures holds { OnOk result (AllHold (used_places self.old.lists
-            (pos at.entity.0) at.item tuple.now.list tuple.now.index true)) }
-        ensures fault { IfErr result (IsFault (used_places self.old.lists
-            (pos at.entity.0) at.item tuple.now.list tuple.now.index true)) }
+        ensures holds { OnOk result (AllHold (used_here self.old.lists at tuple.now true)) }
+        ensures fault { IfErr result (IsFault (used_here self.old.lists at tuple.now true)) }
     {
         let key = self.lists.vertex(at, tuple.list(), tuple.index())?;
         let vertex = self.numbering.vertex(key)?;
@@ -84,7 +71,8 @@ impl<'a> WalkState<'a> {
         ensures stands { OnOk result (Stands self.old.lists self.new.lists self.new.numbering) }
         ensures keys { OnOk result (self.new.numbering.keys ≡ record {
           edges = insert_key same_edge self.old.numbering.keys.edges key;
-          vertices = insert_all same_vertex self.old.numbering.keys.vertices (ends_named (Some ends));
+          vertices = insert_all same_vertex self.old.numbering.keys.vertices
+              (ends_named (Some ends));
         }) }
         ensures others { OnOk result (NamesAlike self.old self.new) }
         ensures id { IfOk result
@@ -112,10 +100,8 @@ impl<'a> WalkState<'a> {
         ensures walks { Walks self.old self.new result (tuple.now ∷ []) }
         ensures others { OnOk result (NamesAlike self.old self.new) }
         ensures made { IfOk result (IsMadeAt self.new (λ keys. use_by keys tuple.now)) }
-        ensures holds { OnOk result (AllHold (used_places self.old.lists
-            (pos at.entity.0) at.item tuple.now.list tuple.now.index false)) }
-        ensures fault { IfErr result (IsFault (used_places self.old.lists
-            (pos at.entity.0) at.item tuple.now.list tuple.now.index false)) }
+        ensures holds { OnOk result (AllHold (used_here self.old.lists at tuple.now false)) }
+        ensures fault { IfErr result (IsFault (used_here self.old.lists at tuple.now false)) }
     {
         let (key, ends) = self.lists.edge(at, tuple.list(), tuple.index())?;
         let edge = self.edge_number(key, ends)?;
@@ -131,10 +117,10 @@ impl<'a> WalkState<'a> {
         ensures walks { Walks self.old self.new result (tuple.now ∷ []) }
         ensures others { OnOk result (NamesAlike self.old self.new) }
         ensures made { IfOk result (IsMadeAt self.new (λ keys. use_by keys tuple.now)) }
-        ensures holds { OnOk result (AllHold (used_places self.old.lists
-            (pos at.entity.0) at.item tuple.now.list tuple.now.index tuple.now.is_vertex)) }
-        ensures fault { IfErr result (IsFault (used_places self.old.lists
-            (pos at.entity.0) at.item tuple.now.list tuple.now.index tuple.now.is_vertex)) }
+        ensures holds { OnOk result (AllHold
+            (used_here self.old.lists at tuple.now tuple.now.is_vertex)) }
+        ensures fault { IfErr result (IsFault
+            (used_here self.old.lists at tuple.now tuple.now.is_vertex)) }
     {
         if tuple.is_vertex() {
             self.vertex_use(at, tuple)
@@ -152,18 +138,15 @@ impl<'a> WalkState<'a> {
         is_known: bool,
     ) -> Result<LoopUse, WalkFault>
         requires stands { Stands self.old.lists self.old.lists self.old.numbering }
-        requires known { IsTrue is_known → AllHold (tuple_at self.old.lists
-            (pos at.entity.0) at.item tuple.now) }
+        requires known { IsTrue is_known → AllHold (tuple_here self.old.lists at tuple.now) }
         ensures walks { Walks self.old self.new result (tuple.now ∷ []) }
         ensures others { OnOk result (NamesAlike self.old self.new) }
         ensures made { IfOk result (IsMadeAt self.new (λ keys. use_by keys tuple.now)) }
-        ensures holds { OnOk result (AllHold (tuple_at self.old.lists
-            (pos at.entity.0) at.item tuple.now)) }
-        ensures fault { IfErr result (IsFault (tuple_at self.old.lists
-            (pos at.entity.0) at.item tuple.now)) }
+        ensures holds { OnOk result (AllHold (tuple_here self.old.lists at tuple.now)) }
+        ensures fault { IfErr result (IsFault (tuple_here self.old.lists at tuple.now)) }
     {
         let made = self.tuple_use(at, tuple)?;
-        if !curves_are_good(self.lists.file(), tuple, is_known) {
+        if !is_known && !curves_name_geometry(self.lists.file(), tuple) {
             return Err(WalkFault::Fails(at.fails(Rule::BadGeometry)));
         }
         Ok(made)
@@ -180,15 +163,12 @@ impl<'a> WalkState<'a> {
     ) -> Result<Uses, WalkFault>
         requires few { length listed.now < 2 ^ 31 }
         requires stands { Stands self.old.lists self.old.lists self.old.numbering }
-        requires known { IsTrue is_known → AllHold (after_each
-            (tuple_places self.old.lists (pos no.0)) [] listed.now) }
+        requires known { IsTrue is_known → AllHold (tuples_in_loop self.old.lists no listed.now) }
         ensures walks { Walks self.old self.new result listed.now }
         ensures others { OnOk result (NamesAlike self.old self.new) }
         ensures made { IfOk result (IsMadeAt self.new (λ keys. map (use_by keys) listed.now)) }
-        ensures holds { OnOk result (AllHold (after_each
-            (tuple_places self.old.lists (pos no.0)) [] listed.now)) }
-        ensures fault { IfErr result (IsFault (after_each
-            (tuple_places self.old.lists (pos no.0)) [] listed.now)) }
+        ensures holds { OnOk result (AllHold (tuples_in_loop self.old.lists no listed.now)) }
+        ensures fault { IfErr result (IsFault (tuples_in_loop self.old.lists no listed.now)) }
     {
         let mut uses = Uses::new(alloc);
         let mut item = 0;

@@ -62,22 +62,19 @@ impl<'a> Walker<'a> {
 // The record of a solid.
 fn solid_record<'a>(
     lists: &mut Lists<'a>,
-    no: EntryNo,
+    entity: EntryNo,
 ) -> Result<(EntryNo, SolidRecord<'a>), WalkFault>
     ensures file { lists.new ≡ lists.old }
-    ensures holds { OnOk result (AllHold (record_places lists.old (pos no.0) 0 solid (pos no.0))) }
-    ensures named { IfOk result (λ r. (pos no.0 ≡ pos r.0.0)
-        × (r.1 ≡ told solid lists.old (pos no.0))) }
+    ensures holds { OnOk result (AllHold
+        (record_places lists.old (pos entity.0) 0 solid (pos entity.0))) }
+    ensures named { IfOk result (λ r. (pos entity.0 ≡ pos r.0.0)
+        × (r.1 ≡ told solid lists.old (pos entity.0))) }
     ensures few { IfOk result (λ r. length r.1.voids < 2 ^ 31) }
     ensures limits { FitsLimits lists.old }
     ensures fault { IfErr result (IsFault
-        (record_places lists.old (pos no.0) 0 solid (pos no.0))) }
+        (record_places lists.old (pos entity.0) 0 solid (pos entity.0))) }
 {
-    let place = Place {
-        entity: no,
-        item: 0,
-    };
-    lists.record(place, i64::from(no.0))
+    lists.record(Place { entity, item: 0 }, i64::from(entity.0))
 }
 
 // The shells of a solid. The walk begins again for it.

@@ -1,7 +1,6 @@
 use Rattle.std.proofs.Common.{pos}
 use Rattle.brep_walk.specs.Places.{used_places, tuple_at}
 use Rattle.brep_walk.proofs.Faults.{fault_front, handed}
-use Rattle.brep_walk.proofs.WalkSteps.{curves_known}
 use Rattle.brep_walk.proofs.state.WalkState.walk_tuple.Goals as goal
 
 pub returns-in_err-made-clause-fault : goal.returns-in_err-made-clause-fault
