@@ -32,4 +32,4 @@ tuple_here f at t = tuple_at f (pos at.entity.0) at.item t
 
 -- What all tuples of a loop must name.
 abbrev pub tuples_in_loop : Contents → EntryNo → List LoopTuple → List Obligation
-tuples_in_loop f no ts = after_each (tuple_places f (pos no.0)) [] ts
+tuples_in_loop f entity ts = after_each (tuple_places f (pos entity.0)) [] ts

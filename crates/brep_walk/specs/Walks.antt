@@ -51,10 +51,10 @@ shell_here before at s = shell_at before.lists (pos at.entity.0) at.item before.
 -- What all items of an entry must name.
 
 abbrev pub loops_in_face : WalkState → EntryNo → List ℤ → List Obligation
-loops_in_face before no ls = after_each (loop_places before.lists (pos no.0) before.loops) [] ls
+loops_in_face before entity ls = after_each (loop_places before.lists (pos entity.0) before.loops) [] ls
 
 abbrev pub faces_in_shell : WalkState → EntryNo → List (ℤ × Bool) → List Obligation
-faces_in_shell before no items = after_each (face_places before.lists (pos no.0) before.faces) [] items
+faces_in_shell before entity items = after_each (face_places before.lists (pos entity.0) before.faces) [] items
 
 abbrev pub shells_in_solid : WalkState → EntryNo → List (ℤ × Bool) → List Obligation
-shells_in_solid before no items = after_each (shell_places before.lists (pos no.0)) [] items
+shells_in_solid before entity items = after_each (shell_places before.lists (pos entity.0)) [] items
