@@ -1,14 +1,14 @@
 -- One step of a walk over a list.
 use Rattle.std.specs.Prelude.{◌≡◌, ◌+◌, ◌≤◌, ℕ, zero, suc, ℤ, List, [], ◌∷◌, ◌++◌, map, flat_map, length, take, drop, slice_get, Some}
 use Rattle.std.proofs.Common.{refl, sym, ◌∙◌, ap, subst, arith, append_assoc}
-use Rattle.std.proofs.lemmas.List.{map-append}
+use Rattle.std.proofs.lemmas.List.{append-nil, map-append}
 use Rattle.std.proofs.lemmas.Grind.{flat_map-append}
 use Rattle.std.proofs.lemmas.Option.{same_Some, none-some}
 use Rattle.iges_params.specs.Contents.{Contents}
 use Rattle.brep_lists.specs.Record.{LoopTuple}
 use Rattle.solid_data.specs.Obligations.{Obligation, AllHold, after_each}
 use Rattle.solid_data.specs.SolidData.{same_edge, same_vertex}
-use Rattle.solid_data.proofs.ObligationLemmas.{Remains, Remains-less}
+use Rattle.solid_data.proofs.ObligationLemmas.{AllHold-append_left, AllHold-append_right, Remains, Remains-less}
 use Rattle.solid_data.proofs.Members.{split_at}
 use Rattle.brep_walk.specs.declared.fault.WalkFault.{WalkFault}
 use Rattle.brep_walk.specs.Numbered.{Extends, IsMadeBy, keys_after}
@@ -38,6 +38,17 @@ tuple_in_place f l before t item at h = subst (λ i. AllHold (tuple_at f l i t))
 pub tuple_fault : (f : Contents) (l : ℤ) (before : List LoopTuple) (t : LoopTuple) (item : ℕ) (w : WalkFault) → item ≡ length before + 1 → IsFault (tuple_at f l item t) w → IsFault (tuple_places f l before t) w
 unfolding tuple_places
 tuple_fault f l before t item w at h = subst (λ i. IsFault (tuple_at f l i t) w) at h
+
+within : {A : Type 0} (g : List A → A → List Obligation) (front before : List A) (x : A) (xs : List A) → AllHold (after_each g front (before ++ x ∷ xs)) → AllHold (g (front ++ before) x)
+within g front [] x xs h = subst (λ b. AllHold (g b x)) (sym (append-nil front)) (AllHold-append_left (g front x) (after_each g (front ++ x ∷ []) xs) h)
+within g front (y ∷ ys) x xs h = subst (λ b. AllHold (g b x)) (append_assoc front (y ∷ []) ys)
+    (within g (front ++ y ∷ []) ys x xs (AllHold-append_right (g front y) (after_each g (front ++ y ∷ []) (ys ++ x ∷ xs)) h))
+
+-- one of the tuples of which all is known to hold
+pub tuple_known : (f : Contents) (l : ℤ) (all before rest : List LoopTuple) (t : LoopTuple) (item : ℕ) → before ++ t ∷ rest ≡ all → item ≡ length before + 1 → AllHold (after_each (tuple_places f l) [] all) → AllHold (tuple_at f l item t)
+unfolding tuple_places
+tuple_known f l all before rest t item is at h = subst (λ i. AllHold (tuple_at f l i t)) (sym at)
+    (within (tuple_places f l) [] before t rest (subst (λ ts. AllHold (after_each (tuple_places f l) [] ts)) (sym is) h))
 
 -- Keys.
 

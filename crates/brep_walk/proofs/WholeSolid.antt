@@ -6,17 +6,15 @@ use Rattle.std.proofs.lemmas.Grind.{flat_map-append}
 use Rattle.iges_params.specs.Contents.{Contents}
 use Rattle.brep_lists.specs.Record.{SolidItems, LoopTuple}
 use Rattle.brep_lists.specs.declared.entity_kind.EntityKind.TheVariants.{Solid as solid}
-use Rattle.solid_data.specs.Obligations.{AllHold, FirstFalse, after_each}
+use Rattle.solid_data.specs.Obligations.{AllHold, after_each}
 use Rattle.solid_data.specs.Ring.{distinct}
 use Rattle.solid_data.specs.SolidData.{same_edge, same_vertex}
 use Rattle.iges_base.specs.declared.entry_no.EntryNo.{EntryNo}
 use Rattle.solid_data.specs.declared.solid.Edge.{Edge}
 use Rattle.solid_data.specs.declared.solid.Shell.{Shell}
 use Rattle.solid_data.specs.declared.solid.VertexKey.{VertexKey}
-use Rattle.solid_data.specs.declared.verdict.Failing.{Failing}
 use Rattle.solid_data.proofs.ObligationLemmas.{AllHold-append}
 use Rattle.brep_walk.specs.declared.fault.WalkFault.{WalkFault}
-use Rattle.brep_walk.specs.declared.fault.WalkFault.TheVariants.{Fails}
 use Rattle.brep_numbering.specs.Numbered.{Numbered}
 use Rattle.brep_walk.specs.Numbered.{Extends, IsMadeBy, AreEdges, keys_after, face_tuples, shell_tuples}
 use Rattle.brep_walk.specs.Places.{told, shells, faces, loops, tuples, numbers, record_places, shell_places, places}
@@ -24,7 +22,7 @@ use Rattle.brep_numbering.specs.Keys.{Keys}
 use Rattle.brep_walk.specs.SolidOf.{edge_named, vertices_named, all_tuples, edge_keys, keys_of, shell_by, shell_of, edge_by, edge_of, solid_of}
 use Rattle.brep_walk.specs.Walked.{IsFault}
 use Rattle.brep_walk.proofs.Distinct.{insert_all-distinct}
-use Rattle.brep_walk.proofs.Faults.{fault_front, fault_rest, handed, handed_failing}
+use Rattle.brep_walk.proofs.Faults.{fault_front, fault_rest, handed}
 use Rattle.brep_numbering.proofs.SameKeys.{vertex_sound, vertex_itself}
 use Rattle.brep_numbering.proofs.SameKeys.{edge_sound, edge_itself}
 
@@ -61,10 +59,10 @@ Extends-itself keys = record { more_edges = []; edges = sym (append-nil keys.edg
 
 -- y is the number as the record was opened with it, and items what the record tells
 module _ (f : Contents) (n : ℕ) (y : ℤ) (same : y ≡ pos n) where
-  pub no_solid : {T : Type 0} (r : Result T WalkFault) (x : Failing) → FirstFalse (record_places f (pos n) 0 solid y) x → IsErrAnd r (λ e. e ≡ Fails x) → IfErr r (IsFault (places f n))
+  pub no_solid : {T : Type 0} (r : Result T WalkFault) (w : WalkFault) → IsFault (record_places f (pos n) 0 solid y) w → IsErrAnd r (λ e. e ≡ w) → IfErr r (IsFault (places f n))
   unfolding places
-  no_solid r x h = handed_failing (places f n) r x
-      (fault_front (record_places f (pos n) 0 solid (pos n)) (after_each (shell_places f (pos n)) [] (shells f (pos n))) (Fails x) (subst (λ z. FirstFalse (record_places f (pos n) 0 solid z) x) same h))
+  no_solid r w h = handed (places f n) r w
+      (fault_front (record_places f (pos n) 0 solid (pos n)) (after_each (shell_places f (pos n)) [] (shells f (pos n))) w (subst (λ z. IsFault (record_places f (pos n) 0 solid z) w) same h))
 
   module _ (items : SolidItems) (is : items ≡ told solid f y) where
     listed : items.outer ∷ items.voids ≡ shells f (pos n)

@@ -16,12 +16,12 @@ returns-clause-holds c =
 
 pub returns-clause-keys : goal.returns-clause-keys
 returns-clause-keys c =
-    keys_whole c.args.file.now c.args.no.0 _ c.in_ok-listed.ensures.listed _ c.new-walk.ensures.stands.file _ _ c.new-walk.ensures.keys c.in_ok-faces.ensures.keys
+    keys_whole c.args.file.now c.args.no.0 _ c.in_ok-listed.ensures.listed _ c.new-walk.ensures.stands.file _ _ c.new-walk.ensures.keys c.in_ok-faces.ensures.walks.keys
 
 pub returns-clause-faces : goal.returns-clause-faces
 returns-clause-faces c =
-    faces_whole c.args.file.now c.args.no.0 _ c.in_ok-listed.ensures.listed _ c.new-walk.ensures.stands.file _ _ c.new-walk.ensures.keys c.in_ok-faces.ensures.keys _ c.in_ok-faces.ensures.made
+    faces_whole c.args.file.now c.args.no.0 _ c.in_ok-listed.ensures.listed _ c.new-walk.ensures.stands.file _ _ c.new-walk.ensures.keys c.in_ok-faces.ensures.walks.keys _ c.in_ok-faces.ensures.made
 
 pub returns-clause-edges : goal.returns-clause-edges
 returns-clause-edges c =
-    edges_whole c.args.file.now c.args.no.0 _ c.in_ok-listed.ensures.listed _ c.new-walk.ensures.stands.file _ _ c.new-walk.ensures.keys c.in_ok-faces.ensures.keys _ refl c.in_ok-faces.ensures.stands.edges
+    edges_whole c.args.file.now c.args.no.0 _ c.in_ok-listed.ensures.listed _ c.new-walk.ensures.stands.file _ _ c.new-walk.ensures.keys c.in_ok-faces.ensures.walks.keys _ refl c.in_ok-faces.ensures.walks.stands.edges
