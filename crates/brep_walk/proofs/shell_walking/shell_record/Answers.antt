@@ -17,7 +17,8 @@ returns-in-Some-clause-listed c = c.in-Some.ensures.read ∙ ap (items_of shell)
 
 pub returns-in-Some-clause-few : goal.returns-in-Some-clause-few
 returns-in-Some-clause-few c =
-    named_few shell c.args.file.now (pos c.args.entity.0) c.in_ok-values.ensures.limits c.in_ok-values.ensures.holds.0 _ _ c.in_ok-values.ensures.values c.in-Some.ensures.some
+    named_few shell c.args.file.now (pos c.args.entity.0) c.in_ok-values.ensures.limits c.in_ok-values.ensures.holds.0 _ _ c.in_ok-values.ensures.values
+    c.in-Some.ensures.some
 
 pub returns-in-None-clause-fails : goal.returns-in-None-clause-fails
 returns-in-None-clause-fails c =

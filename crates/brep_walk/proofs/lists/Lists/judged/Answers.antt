@@ -10,7 +10,8 @@ invariant_of-self-in-Some g c = (
   marked c.self.inside.file.now c.self.inside.marks c.set.new.self c.self.inside.failed c.self.invariant.1 c.args.no.0 marks.Fits
       (subst (λ f. HasItsRecord f c.args.no.0) (sym c.self.view_is)
       (has_its_record g.R.Record.kind c.args.self.now c.args.no.0 c.requires.kind
-      (record_found g.R.Record.kind c.args.self.now c.args.no.0 c.args.values.now _ c.requires.kind c.requires.values c.in-Some.ensures.some c.in-Some.ensures.read)))
+      (record_found g.R.Record.kind c.args.self.now c.args.no.0 c.args.values.now _ c.requires.kind c.requires.values c.in-Some.ensures.some
+      c.in-Some.ensures.read)))
       c.in_ok-set-in-Some.ensures.set c.in_ok-set-in-Some.ensures.others,
 )
 

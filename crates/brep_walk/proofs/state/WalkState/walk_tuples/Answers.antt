@@ -18,10 +18,12 @@ tuples-preserved c =
       count = omega (arith, i.count, length-append c.tuples.yielded (c.in-Some.tuple ∷ []));
       left = left_step c.tuples.yielded c.tuples.tuple-iterator c.next.new.self c.args.listed.now c.in-Some.tuple i.left c.in-Some.ensures.steps;
       stands = subst (λ g. Stands g c.walk_tuple.new.self.lists c.walk_tuple.new.self.numbering) i.stands.file e.walks.stands;
-      keys = keys_step f c.tuples.self.lists i.stands.file c.args.self.now.numbering.keys c.tuples.self.numbering.keys c.walk_tuple.new.self.numbering.keys (c.in-Some.tuple ∷ []) c.next.new.self
+      keys = keys_step f c.tuples.self.lists i.stands.file c.args.self.now.numbering.keys c.tuples.self.numbering.keys c.walk_tuple.new.self.numbering.keys
+          (c.in-Some.tuple ∷ []) c.next.new.self
           c.tuples.tuple-iterator c.args.listed.now c.in-Some.ensures.steps i.keys e.walks.keys;
       others = (e.others.0 ∙ i.others.0, e.others.1 ∙ i.others.1, e.others.2 ∙ i.others.2);
-      made = made_last use_by c.tuples.self.numbering.keys c.walk_tuple.new.self.numbering.keys (keys_grow c.tuples.self.lists c.tuples.self.numbering.keys c.walk_tuple.new.self.numbering.keys (c.in-Some.tuple ∷ []) e.walks.keys)
+      made = made_last use_by c.tuples.self.numbering.keys c.walk_tuple.new.self.numbering.keys
+          (keys_grow c.tuples.self.lists c.tuples.self.numbering.keys c.walk_tuple.new.self.numbering.keys (c.in-Some.tuple ∷ []) e.walks.keys)
           c.tuples.yielded c.in-Some.tuple c.tuples.uses c.in_ok-made.made c.push.new.self i.made e.made c.in_ok-push.ensures.ok;
       remains = remains_next (tuple_places f (pos c.args.no.0)) c.tuples.yielded c.tuples.tuple-iterator c.next.new.self c.in-Some.tuple
           (after_each (tuple_places f (pos c.args.no.0)) [] c.args.listed.now) c.in-Some.ensures.steps i.remains
@@ -38,7 +40,8 @@ returns-in_err-made-clause-fault c =
     (fault_next (tuple_places f (pos c.args.no.0)) c.tuples.yielded c.tuples.tuple-iterator c.next.new.self c.in-Some.tuple
     (after_each (tuple_places f (pos c.args.no.0)) [] c.args.listed.now) _ c.in-Some.ensures.steps i.remains
     (tuple_fault f (pos c.args.no.0) c.tuples.yielded c.in-Some.tuple (c.tuples.item + 1) _ place
-    (subst (λ g. IsFault (tuple_at g (pos c.args.no.0) (c.tuples.item + 1) c.in-Some.tuple) c.in_err-made.field-0.0) i.stands.file c.in_err-made.ensures.fault)))
+    (subst (λ g. IsFault (tuple_at g (pos c.args.no.0) (c.tuples.item + 1) c.in-Some.tuple) c.in_err-made.field-0.0) i.stands.file
+    c.in_err-made.ensures.fault)))
     c.from_residual.ensures.1
 
 pub walk_tuple-requires-clause-known : goal.walk_tuple-requires-clause-known
