@@ -12,7 +12,8 @@ filter_both : {A : Type 0} (p q r : A → Bool) → ((x : A) → r x ≡ (q x &&
 filter_both p q r both [] = refl
 filter_both {A} p q r both (x ∷ xs) = by_test (q x) (p x) refl (filter_both p q r both xs) ∙ ap (λ b. cond b (x ∷ filter r xs) (filter r xs)) (sym (both x))
   where
-    by_test : (s t : Bool) → p x ≡ t → filter p (filter q xs) ≡ filter r xs → filter p (cond s (x ∷ filter q xs) (filter q xs)) ≡ cond (s && t) (x ∷ filter r xs) (filter r xs)
+    by_test : (s t : Bool) → p x ≡ t → filter p (filter q xs) ≡ filter r xs → filter p (cond s (x ∷ filter q xs) (filter q xs))
+        ≡ cond (s && t) (x ∷ filter r xs) (filter r xs)
     by_test false t e rest = rest
     by_test true true e rest = ap (λ b. cond b (x ∷ filter p (filter q xs)) (filter p (filter q xs))) e ∙ ap (λ l. x ∷ l) rest
     by_test true false e rest = ap (λ b. cond b (x ∷ filter p (filter q xs)) (filter p (filter q xs))) e ∙ rest
@@ -66,7 +67,8 @@ module _ {A : Type 0} (same : A → A → Bool) (sound : (a b : A) → same a b 
       by_test : (b : Bool) → list_any (same x) ks ≡ b → insert_all same ks xs ≡ ks ++ filter (absent ks) (distinct same xs)
           → insert_all same (ks ++ x ∷ []) xs ≡ (ks ++ x ∷ []) ++ filter (absent (ks ++ x ∷ [])) (distinct same xs)
           → insert_all same (if b then ks else ks ++ x ∷ []) xs ≡ ks ++ cond (not b) (x ∷ filter (absent ks) later) (filter (absent ks) later)
-      by_test true e here more = here ∙ ap (λ l. ks ++ l) (sym (filter_both (absent ks) (λ y. not (same x y)) (absent ks) (absent_known ks x e) (distinct same xs)))
+      by_test true e here more =
+          here ∙ ap (λ l. ks ++ l) (sym (filter_both (absent ks) (λ y. not (same x y)) (absent ks) (absent_known ks x e) (distinct same xs)))
       by_test false e here more =
           more
           ∙ (append_assoc ks (x ∷ []) (filter (absent (ks ++ x ∷ [])) (distinct same xs))

@@ -13,9 +13,11 @@ use Rattle.brep_walk.specs.Walked.{IsFault}
 use Rattle.brep_walk.proofs.Faults.{fault_rest, handed}
 
 -- an edge is what its parts are
-pub edge_is : (e : EdgeTuple) (curve start_list start_index end_list end_index : ℤ) → curve ≡ e.curve → start_list ≡ e.start_list → start_index ≡ e.start_index → end_list ≡ e.end_list → end_index ≡ e.end_index
+pub edge_is : (e : EdgeTuple) (curve start_list start_index end_list end_index : ℤ) → curve ≡ e.curve → start_list ≡ e.start_list → start_index ≡ e.start_index
+    → end_list ≡ e.end_list → end_index ≡ e.end_index
     → record { curve = curve; start_list = start_list; start_index = start_index; end_list = end_list; end_index = end_index } ≡ e
-edge_is e curve start_list start_index end_list end_index a b c d h = λ k. record { curve = a k; start_list = b k; start_index = c k; end_list = d k; end_index = h k }
+edge_is e curve start_list start_index end_list end_index a b c d h =
+    λ k. record { curve = a k; start_list = b k; start_index = c k; end_list = d k; end_index = h k }
 
 -- g is the file behind the lists once the first vertex was looked at, and given the edge as the calls were given it
 module _ (f g : Contents) (same : g ≡ f) (entity : ℤ) (place : ℕ) (e given : EdgeTuple) (is : given ≡ e) where
@@ -35,7 +37,8 @@ module _ (f g : Contents) (same : g ≡ f) (entity : ℤ) (place : ℕ) (e given
   both_ends curve start end = subst (λ x. AllHold (edge_places f entity place (Some x))) is
       (AllHold-append (curve_place ++ start_places) (end_places f) (front curve start) (subst (λ h. AllHold (end_places h)) same end))
 
-  pub end_fault : {T : Type 0} (r : Result T WalkFault) (w : WalkFault) → NamesGeometry f given.curve → AllHold start_places → IsFault (end_places g) w → IsErrAnd r (λ v. v ≡ w)
+  pub end_fault : {T : Type 0} (r : Result T WalkFault) (w : WalkFault) → NamesGeometry f given.curve → AllHold start_places → IsFault (end_places g) w
+      → IsErrAnd r (λ v. v ≡ w)
       → IfErr r (IsFault (edge_places f entity place (Some e)))
   end_fault r w curve start h = handed (edge_places f entity place (Some e)) r w (subst (λ x. IsFault (edge_places f entity place (Some x)) w) is
       (fault_rest (curve_place ++ start_places) (end_places f) w (front curve start) (subst (λ k. IsFault (end_places k) w) same h)))

@@ -26,6 +26,7 @@ handed os (Ok t) w h e = tt
 handed os (Err v) w h e = subst (IsFault os) (sym e) h
 
 -- and one that `?` makes of what fails
-pub handed_failing : (os : List Obligation) {T : Type 0} (r : Result T WalkFault) (x : Failing) → FirstFalse os x → IsErrAnd r (λ e. e ≡ Fails x) → IfErr r (IsFault os)
+pub handed_failing : (os : List Obligation) {T : Type 0} (r : Result T WalkFault) (x : Failing) → FirstFalse os x → IsErrAnd r (λ e. e ≡ Fails x)
+    → IfErr r (IsFault os)
 handed_failing os (Ok t) x h e = tt
 handed_failing os (Err v) x h e = subst (IsFault os) (sym e) h

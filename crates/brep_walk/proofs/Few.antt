@@ -1,5 +1,6 @@
 -- A solid of a file has few parts.
-use Rattle.std.specs.Prelude.{◌≡◌, ℕ, zero, suc, ◌+◌, ◌*◌, ◌/◌, ◌%◌, ◌<◌, ◌≤◌, ◌==◌, IsSome, IsSomeAnd, nat_abs, Bool, true, false, ℤ, pos, negsuc, List, [], ◌∷◌, ◌++◌, length, map, flat_map, drop, sum_by, Option, Some, None, slice_get, if◌then◌else◌}
+use Rattle.std.specs.Prelude.{◌≡◌, ℕ, zero, suc, ◌+◌, ◌*◌, ◌/◌, ◌%◌, ◌<◌, ◌≤◌, ◌==◌, IsSome, IsSomeAnd, nat_abs, Bool, true, false, ℤ, pos, negsuc, List, []}
+use Rattle.std.specs.Prelude.{◌∷◌, ◌++◌, length, map, flat_map, drop, sum_by, Option, Some, None, slice_get, if◌then◌else◌}
 use Rattle.std.specs.Ordering.{int_eq}
 use Rattle.std.specs.List.{enumerate_from}
 use Rattle.std.proofs.Common.{refl, sym, ◌∙◌, ap, subst, arith, inl, inr, length-append, length-drop, get_or}
@@ -49,7 +50,8 @@ record_size (v ∷ vs) h = omega (arith, tuples_size (items_of «loop» (v ∷ v
 loop_size : (f : Contents) (l : ℤ) → HasRecordOf «loop» f l → length (tuples f l) ≤ length (values_of f l)
 loop_size f l h = by_entry (named f l) h
   where
-    by_entry : (o : Option (Entry × List Value)) → IsSomeAnd o (λ e. IsRecordOf «loop» e.1) → length (items_of «loop» (record_values o)) ≤ length (record_values o)
+    by_entry : (o : Option (Entry × List Value)) → IsSomeAnd o (λ e. IsRecordOf «loop» e.1) → length (items_of «loop» (record_values o))
+        ≤ length (record_values o)
     by_entry None h = absurd h
     by_entry (Some e) h = record_size e.1 h
 
@@ -104,7 +106,8 @@ place_of_number (negsuc n) = 0
 abbrev sizes : Contents → List ℕ
 sizes f = map (λ (e : Entry × List Value). length e.1) f.entries
 
-size_at : (es : List (Entry × List Value)) (k : ℕ) (e : Entry × List Value) → slice_get es k ≡ Some e → get_or (map (λ (x : Entry × List Value). length x.1) es) k 0 ≡ length e.1
+size_at : (es : List (Entry × List Value)) (k : ℕ) (e : Entry × List Value) → slice_get es k ≡ Some e
+    → get_or (map (λ (x : Entry × List Value). length x.1) es) k 0 ≡ length e.1
 size_at [] k e h = absurd (let g : None ≡ Some e = h in cc)
 size_at (x ∷ es) zero e h = ap (λ o. length (record_values o)) h
 size_at (x ∷ es) (suc k) e h = size_at es k e h
@@ -122,22 +125,29 @@ pub name_parts : (f : Contents) (z : ℤ) → Names f z → IsNamed f z
 name_parts f (negsuc n) h = absurd (let g : false ≡ true = h in cc)
 name_parts f (pos n) h = by_test (n % 2 == 1) refl (slice_get f.entries (n / 2)) refl h
   where
-    test_entry : (e : Entry × List Value) (b : Bool) → int_eq e.0.kind (pos 0) ≡ b → IsSome (if b then None else Some e) → length (record_values (if b then None else Some e)) ≡ length e.1
+    test_entry : (e : Entry × List Value) (b : Bool) → int_eq e.0.kind (pos 0) ≡ b → IsSome (if b then None else Some e)
+        → length (record_values (if b then None else Some e)) ≡ length e.1
     test_entry e true k h = absurd (let g : false ≡ true = h in cc)
     test_entry e false k h = refl
 
-    by_test : (b : Bool) → (n % 2 == 1) ≡ b → (o : Option (Entry × List Value)) → slice_get f.entries (n / 2) ≡ o → IsSome (if n % 2 == 1 then unless_unused kind_of (slice_get f.entries (n / 2)) else None) → IsNamed f (pos n)
-    by_test false t o at h = absurd (let g : false ≡ true = subst (λ b. IsSome (if b then unless_unused kind_of (slice_get f.entries (n / 2)) else None)) t h in cc)
-    by_test true t None at h = absurd (let g : false ≡ true = subst (λ b. IsSome (if b then unless_unused kind_of None else None)) t (subst (λ o. IsSome (if n % 2 == 1 then unless_unused kind_of o else None)) at h) in cc)
+    by_test : (b : Bool) → (n % 2 == 1) ≡ b → (o : Option (Entry × List Value)) → slice_get f.entries (n / 2) ≡ o
+        → IsSome (if n % 2 == 1 then unless_unused kind_of (slice_get f.entries (n / 2)) else None) → IsNamed f (pos n)
+    by_test false t o at h =
+        absurd (let g : false ≡ true = subst (λ b. IsSome (if b then unless_unused kind_of (slice_get f.entries (n / 2)) else None)) t h in cc)
+    by_test true t None at h =
+        absurd (let g : false ≡ true = subst (λ b. IsSome (if b then unless_unused kind_of None else None)) t
+        (subst (λ o. IsSome (if n % 2 == 1 then unless_unused kind_of o else None)) at h) in cc)
     by_test true t (Some e) at h =
-        let there : IsSome (unless_unused kind_of (Some e)) = subst (λ b. IsSome (if b then unless_unused kind_of (Some e) else None)) t (subst (λ o. IsSome (if n % 2 == 1 then unless_unused kind_of o else None)) at h) in
+        let there : IsSome (unless_unused kind_of (Some e)) = subst (λ b. IsSome (if b then unless_unused kind_of (Some e) else None)) t
+        (subst (λ o. IsSome (if n % 2 == 1 then unless_unused kind_of o else None)) at h) in
         record {
           number = n;
           is = refl;
           odd = eqb-true (n % 2) 1 t;
           entry = e;
           there = at;
-          size = ap (λ b. length (record_values (if b then unless_unused kind_of (slice_get f.entries (n / 2)) else None))) t ∙ (ap (λ o. length (record_values (unless_unused kind_of o))) at ∙ test_entry e (int_eq e.0.kind (pos 0)) refl there);
+          size = ap (λ b. length (record_values (if b then unless_unused kind_of (slice_get f.entries (n / 2)) else None))) t
+              ∙ (ap (λ o. length (record_values (unless_unused kind_of o))) at ∙ test_entry e (int_eq e.0.kind (pos 0)) refl there);
         }
 
 -- All uses together are no more than all values.
@@ -146,7 +156,8 @@ loop_name : (f : Contents) (c : ℤ) (v d : List ℤ) (l : ℤ) → AllHold (loo
 unfolding loop_places
 loop_name f c v d l all = all.0
 
-loops_known : (f : Contents) (items : List (ℤ × Bool)) → AreListed f items → (l : ℤ) → Has (flat_map (loops f) (faces_in f items)) l → Names f l × HasRecordOf «loop» f l
+loops_known : (f : Contents) (items : List (ℤ × Bool)) → AreListed f items → (l : ℤ) → Has (flat_map (loops f) (faces_in f items)) l
+    → Names f l × HasRecordOf «loop» f l
 loops_known f items held l here =
     let c = from_flat_map (loops f) (faces_in f items) l here in
     let s = from_flat_map (λ s. numbers (faces f s)) (numbers items) c.0 c.1 in
@@ -183,23 +194,34 @@ places_differ f e (x ∷ xs) fresh named_all = (
   places_differ f (e ++ x ∷ []) xs fresh.1 (λ y m. named_all y (inr m)),
 )
 
-tuples_total : (f : Contents) (ls : List ℤ) → ((l : ℤ) → Has ls l → IsNamed f l × HasRecordOf «loop» f l) → length (flat_map (tuples f) ls) ≤ taken (sizes f) (map place_of_number ls)
+tuples_total : (f : Contents) (ls : List ℤ) → ((l : ℤ) → Has ls l → IsNamed f l × HasRecordOf «loop» f l)
+    → length (flat_map (tuples f) ls) ≤ taken (sizes f) (map place_of_number ls)
 tuples_total f [] h = omega arith
 tuples_total f (l ∷ ls) h =
     let k = h l (inl refl) in
-    let at : get_or (sizes f) (place_of_number l) 0 ≡ length (values_of f l) = ap (λ z. get_or (sizes f) (place_of_number z) 0) k.0.is ∙ (size_at f.entries (k.0.number / 2) k.0.entry k.0.there ∙ sym k.0.size) in
+    let at : get_or (sizes f) (place_of_number l) 0 ≡ length (values_of f l) = ap (λ z. get_or (sizes f) (place_of_number z) 0) k.0.is
+    ∙ (size_at f.entries (k.0.number / 2) k.0.entry k.0.there ∙ sym k.0.size) in
     omega (arith, length-append (tuples f l) (flat_map (tuples f) ls), loop_size f l k.1, at, tuples_total f ls (λ z m. h z (inr m)))
 
-sizes_total : (es : List (Entry × List Value)) → total (λ w. w) (map (λ (e : Entry × List Value). length e.1) es) ≡ total (λ (e : Entry × List Value). length e.1) es
+sizes_total : (es : List (Entry × List Value)) → total (λ w. w) (map (λ (e : Entry × List Value). length e.1) es)
+    ≡ total (λ (e : Entry × List Value). length e.1) es
 sizes_total [] = refl
 sizes_total (e ∷ es) = omega (arith, sizes_total es)
 
-tuples_few : (f : Contents) (items : List (ℤ × Bool)) → AreListed f items → Fresh [] (flat_map (loops f) (faces_in f items)) → length (tuples_in f items) ≤ sum_by (λ (e : Entry × List Value). length e.1) f.entries
+tuples_few : (f : Contents) (items : List (ℤ × Bool)) → AreListed f items → Fresh [] (flat_map (loops f) (faces_in f items))
+    → length (tuples_in f items) ≤ sum_by (λ (e : Entry × List Value). length e.1) f.entries
 tuples_few f items held fresh =
     let ls : List ℤ = flat_map (loops f) (faces_in f items) in
     let known : (l : ℤ) → Has ls l → IsNamed f l × HasRecordOf «loop» f l = λ l m. let k = loops_known f items held l m in (name_parts f l k.0, k.1) in
     let differ : NoRepeat (map place_of_number ls) = places_differ f [] ls fresh (λ l m. (known l m).0) in
-    omega (arith, tuples_total f ls known, taken_most (sizes f) (map place_of_number ls) differ, sizes_total f.entries, fold-total (λ (e : Entry × List Value). length e.1) 0 f.entries)
+    omega (
+      arith,
+      tuples_total f ls known,
+      taken_most (sizes f) (map place_of_number ls) differ,
+      sizes_total f.entries,
+      fold-total
+          (λ (e : Entry × List Value). length e.1) 0 f.entries,
+    )
 
 -- Loops are no more than uses, faces than loops, and shells than faces.
 
@@ -208,36 +230,52 @@ each_some g [] h = omega arith
 each_some g (x ∷ xs) h = omega (arith, length-append (g x) (flat_map g xs), h x (inl refl), each_some g xs (λ y m. h y (inr m)))
 
 -- each face has a placed loop
-placed_some : (flag : Bool) (base : ℕ) (fs : List FaceUse) → ((c : FaceUse) → Has fs c → 0 < length c.loops) → length fs ≤ length (flat_map (placed_in_face flag) (enumerate_from base fs))
+placed_some : (flag : Bool) (base : ℕ) (fs : List FaceUse) → ((c : FaceUse) → Has fs c → 0 < length c.loops)
+    → length fs ≤ length (flat_map (placed_in_face flag) (enumerate_from base fs))
 placed_some flag base [] h = omega arith
 placed_some flag base (c ∷ fs) h =
     let mine : length (placed_in_face flag (base, c)) ≡ length c.loops = length-map (enumerate_from 0 c.loops) _ ∙ length-enumerate_from 0 c.loops in
-    omega (arith, length-append (placed_in_face flag (base, c)) (flat_map (placed_in_face flag) (enumerate_from (base + 1) fs)), mine, h c (inl refl), placed_some flag (base + 1) fs (λ d m. h d (inr m)))
+    omega (
+      arith,
+      length-append (placed_in_face flag (base, c)) (flat_map (placed_in_face flag) (enumerate_from (base + 1) fs)),
+      mine,
+      h c (inl refl),
+      placed_some flag (base + 1) fs (λ d m. h d (inr m)),
+    )
 
-more_each : {A B C : Type 0} (g : A → List B) (h : A → List C) (xs : List A) → ((x : A) → Has xs x → length (g x) ≤ length (h x)) → length (flat_map g xs) ≤ length (flat_map h xs)
+more_each : {A B C : Type 0} (g : A → List B) (h : A → List C) (xs : List A) → ((x : A) → Has xs x → length (g x) ≤ length (h x))
+    → length (flat_map g xs) ≤ length (flat_map h xs)
 more_each g h [] e = omega arith
-more_each g h (x ∷ xs) e = omega (arith, length-append (g x) (flat_map g xs), length-append (h x) (flat_map h xs), e x (inl refl), more_each g h xs (λ y m. e y (inr m)))
+more_each g h (x ∷ xs) e =
+    omega (arith, length-append (g x) (flat_map g xs), length-append (h x) (flat_map h xs), e x (inl refl), more_each g h xs (λ y m. e y (inr m)))
 
 solid_name : (f : Contents) (n : ℕ) → AllHold (places f n) → Names f (pos n)
 unfolding places
 solid_name f n all = all.0
 
 -- A solid of listed shells has few parts, where the file is within its limits and no loop is listed twice.
-pub listing_has_few_parts : (f : Contents) (n : ℕ) (items : List (ℤ × Bool)) → FitsLimits f → Names f (pos n) → AreListed f items → Fresh [] (flat_map (loops f) (faces_in f items)) → HasFewParts (solid_listing f n items) n
+pub listing_has_few_parts : (f : Contents) (n : ℕ) (items : List (ℤ × Bool)) → FitsLimits f → Names f (pos n) → AreListed f items
+    → Fresh [] (flat_map (loops f) (faces_in f items)) → HasFewParts (solid_listing f n items) n
 listing_has_few_parts f n items limits here held fresh =
     let s : SolidData = solid_listing f n items in
     let name : IsNamed f (pos n) = name_parts f (pos n) here in
     let number : name.number ≡ n = ap nat_abs (sym name.is) in
-    let uses : length (flat_map shell_uses s.shells) ≡ length (tuples_in f items) = ap (λ us. length us) (uses_listed f n items) ∙ length-map (tuples_in f items) (use_by (keys_in f items)) in
-    let placed : length (flat_map (λ (p : PlacedLoop). p.loop.uses) (flat_map placed_loops s.shells)) ≡ length (flat_map shell_uses s.shells) = ap (λ us. length us) (sym (flat_flat placed_loops (λ (p : PlacedLoop). p.loop.uses) s.shells)) in
-    let a : length (flat_map placed_loops s.shells) ≤ length (flat_map (λ (p : PlacedLoop). p.loop.uses) (flat_map placed_loops s.shells)) = each_some (λ (p : PlacedLoop). p.loop.uses) (flat_map placed_loops s.shells) (λ p m.
+    let uses : length (flat_map shell_uses s.shells) ≡ length (tuples_in f items) = ap (λ us. length us) (uses_listed f n items)
+    ∙ length-map (tuples_in f items) (use_by (keys_in f items)) in
+    let placed : length (flat_map (λ (p : PlacedLoop). p.loop.uses) (flat_map placed_loops s.shells)) ≡ length (flat_map shell_uses s.shells) =
+    ap (λ us. length us) (sym (flat_flat placed_loops (λ (p : PlacedLoop). p.loop.uses) s.shells)) in
+    let a : length (flat_map placed_loops s.shells) ≤ length (flat_map (λ (p : PlacedLoop). p.loop.uses) (flat_map placed_loops s.shells)) =
+    each_some (λ (p : PlacedLoop). p.loop.uses) (flat_map placed_loops s.shells) (λ p m.
     let h = from_flat_map placed_loops s.shells p m in
     let g = from_flat_map (placed_in_face h.0.flag) (enumerate_from 0 h.0.faces) p h.2 in
     let k = has_map _ (enumerate_from 0 g.0.1.loops) p g.2 in
     let c = (shells_listed f n items held h.0 h.1).4 g.0.1 (from_enumerated 0 h.0.faces g.0 g.1) in
     subst (λ (q : PlacedLoop). 0 < length q.loop.uses) k.2 (c.3 k.0.1 (from_enumerated 0 g.0.1.loops k.0 k.1))) in
-    let b : length (flat_map (λ (h : Shell). h.faces) s.shells) ≤ length (flat_map placed_loops s.shells) = more_each (λ (h : Shell). h.faces) placed_loops s.shells (λ h m. placed_some h.flag 0 h.faces (λ c k. ((shells_listed f n items held h m).4 c k).2)) in
-    let c : length s.shells ≤ length (flat_map (λ (h : Shell). h.faces) s.shells) = each_some (λ (h : Shell). h.faces) s.shells (λ h m. (shells_listed f n items held h m).3) in
+    let b : length (flat_map (λ (h : Shell). h.faces) s.shells) ≤ length (flat_map placed_loops s.shells) =
+    more_each (λ (h : Shell). h.faces) placed_loops s.shells (λ h m. placed_some h.flag 0 h.faces (λ c k. ((shells_listed f n items held h m).4 c k).2))
+    in
+    let c : length s.shells ≤ length (flat_map (λ (h : Shell). h.faces) s.shells) =
+    each_some (λ (h : Shell). h.faces) s.shells (λ h m. (shells_listed f n items held h m).3) in
     let few = tuples_few f items held fresh in
     let most : sum_by (λ (e : Entry × List Value). length e.1) f.entries ≤ 164000000 = limits.values in
     let low = slice_get_within f.entries (name.number / 2) name.entry name.there in
@@ -252,4 +290,5 @@ listing_has_few_parts f n items limits here held fresh =
 -- A solid of a file within its limits has few parts.
 pub has_few_parts : (f : Contents) (n : ℕ) → FitsLimits f → AllHold (places f n) → HasFewParts (solid_of f n) n
 has_few_parts f n limits all =
-    subst (λ s. HasFewParts s n) (sym (solid_lists f n)) (listing_has_few_parts f n (shells f (pos n)) limits (solid_name f n all) (listed_solid f n all) (loops_fresh f n all))
+    subst (λ s. HasFewParts s n) (sym (solid_lists f n))
+    (listing_has_few_parts f n (shells f (pos n)) limits (solid_name f n all) (listed_solid f n all) (loops_fresh f n all))

@@ -3,14 +3,12 @@ use Rattle.std.specs.Prelude.{◌≡◌, ◌+◌, ℕ, ℤ, Bool, List, [], ◌�
 use Rattle.std.proofs.Common.{subst}
 use Rattle.iges_params.specs.Contents.{Contents}
 use Rattle.brep_lists.specs.declared.entity_kind.EntityKind.TheVariants.{Shell as shell, Face as face}
-use Rattle.solid_data.specs.Obligations.{Obligation, AllHold, FirstFalse, obligation, after_each, entry_number}
-use Rattle.solid_data.specs.declared.verdict.Failing.{Failing}
+use Rattle.solid_data.specs.Obligations.{Obligation, AllHold, obligation, after_each, entry_number}
 use Rattle.solid_data.specs.declared.verdict.Rule.TheVariants.{Twice, BadGeometry}
 use Rattle.brep_walk.specs.declared.fault.WalkFault.{WalkFault}
-use Rattle.brep_walk.specs.declared.fault.WalkFault.TheVariants.{Fails}
 use Rattle.brep_walk.specs.Places.{told, faces, loops, numbers, NamesGeometry, record_places, loop_places, face_at, face_places, shell_at, shell_places}
 use Rattle.brep_walk.specs.Walked.{IsFault}
-use Rattle.brep_walk.proofs.Faults.{fault_front, fault_rest, handed, handed_failing}
+use Rattle.brep_walk.proofs.Faults.{fault_front, fault_rest, handed}
 use Rattle.brep_walk.proofs.WalkSteps.{place_next}
 
 -- y is the number as a call was given it
@@ -24,11 +22,14 @@ module _ (f : Contents) (s : ℤ) (place : ℕ) (known : List ℤ) (z y : ℤ) (
   abbrev loops_places : List Obligation
   loops_places = after_each (loop_places f y (flat_map (loops f) known)) [] (loops f y)
 
-  pub no_face : {T : Type 0} (r : Result T WalkFault) (x : Failing) → FirstFalse (record_places f s place face y) x → IsErrAnd r (λ e. e ≡ Fails x) → IfErr r (IsFault (face_at f s place known z))
-  no_face r x h = handed_failing (face_at f s place known z) r x (subst (λ l. FirstFalse (face_at f s place known l) x) same
-      (fault_front (record_places f s place face y ++ (face_twice ++ surface_place)) loops_places (Fails x) (fault_front (record_places f s place face y) (face_twice ++ surface_place) (Fails x) h)))
+  pub no_face : {T : Type 0} (r : Result T WalkFault) (w : WalkFault) → IsFault (record_places f s place face y) w → IsErrAnd r (λ e. e ≡ w)
+      → IfErr r (IsFault (face_at f s place known z))
+  no_face r w h = handed (face_at f s place known z) r w (subst (λ l. IsFault (face_at f s place known l) w) same
+      (fault_front (record_places f s place face y ++ (face_twice ++ surface_place)) loops_places w
+      (fault_front (record_places f s place face y) (face_twice ++ surface_place) w h)))
 
-  pub named_face_twice : {T : Type 0} (r : Result T WalkFault) (w : WalkFault) → AllHold (record_places f s place face y) → IsFault face_twice w → IsErrAnd r (λ e. e ≡ w) → IfErr r (IsFault (face_at f s place known z))
+  pub named_face_twice : {T : Type 0} (r : Result T WalkFault) (w : WalkFault) → AllHold (record_places f s place face y) → IsFault face_twice w
+      → IsErrAnd r (λ e. e ≡ w) → IfErr r (IsFault (face_at f s place known z))
   named_face_twice r w holds h = handed (face_at f s place known z) r w (subst (λ l. IsFault (face_at f s place known l) w) same
       (fault_front (record_places f s place face y ++ (face_twice ++ surface_place)) loops_places w
       (fault_rest (record_places f s place face y) (face_twice ++ surface_place) w holds (fault_front face_twice surface_place w h))))
@@ -36,36 +37,47 @@ module _ (f : Contents) (s : ℤ) (place : ℕ) (known : List ℤ) (z y : ℤ) (
   abbrev shell_faces_places : List Obligation
   shell_faces_places = after_each (face_places f y (flat_map (λ b. numbers (faces f b)) known)) [] (faces f y)
 
-  pub no_shell : {T : Type 0} (r : Result T WalkFault) (x : Failing) → FirstFalse (record_places f s place shell y) x → IsErrAnd r (λ e. e ≡ Fails x) → IfErr r (IsFault (shell_at f s place known z))
-  no_shell r x h = handed_failing (shell_at f s place known z) r x (subst (λ l. FirstFalse (shell_at f s place known l) x) same
-      (fault_front (record_places f s place shell y ++ face_twice) shell_faces_places (Fails x) (fault_front (record_places f s place shell y) face_twice (Fails x) h)))
+  pub no_shell : {T : Type 0} (r : Result T WalkFault) (w : WalkFault) → IsFault (record_places f s place shell y) w → IsErrAnd r (λ e. e ≡ w)
+      → IfErr r (IsFault (shell_at f s place known z))
+  no_shell r w h = handed (shell_at f s place known z) r w (subst (λ l. IsFault (shell_at f s place known l) w) same
+      (fault_front (record_places f s place shell y ++ face_twice) shell_faces_places w (fault_front (record_places f s place shell y) face_twice w h)))
 
-  pub named_shell_twice : {T : Type 0} (r : Result T WalkFault) (w : WalkFault) → AllHold (record_places f s place shell y) → IsFault face_twice w → IsErrAnd r (λ e. e ≡ w) → IfErr r (IsFault (shell_at f s place known z))
+  pub named_shell_twice : {T : Type 0} (r : Result T WalkFault) (w : WalkFault) → AllHold (record_places f s place shell y) → IsFault face_twice w
+      → IsErrAnd r (λ e. e ≡ w) → IfErr r (IsFault (shell_at f s place known z))
   named_shell_twice r w holds h = handed (shell_at f s place known z) r w (subst (λ l. IsFault (shell_at f s place known l) w) same
       (fault_front (record_places f s place shell y ++ face_twice) shell_faces_places w (fault_rest (record_places f s place shell y) face_twice w holds h)))
 
 -- g is the file behind the lists so far
-module _ (f g : Contents) (same : g ≡ f) (s : ℤ) (known before : List ℤ) (all : List (ℤ × Bool)) (i : ℕ) (x : ℤ × Bool) (y : ℤ) (at : slice_get all i ≡ Some x) (is : y ≡ x.0) (so_far : known ≡ before) where
-  pub item_holds : (At : Contents → ℤ → ℕ → List ℤ → ℤ → List Obligation) → AllHold (At g s (i + 1) known y) → AllHold (At f s (length (take i all) + 1) before x.0)
+module _ (f g : Contents) (same : g ≡ f) (s : ℤ) (known before : List ℤ) (all : List (ℤ × Bool)) (i : ℕ) (x : ℤ × Bool) (y : ℤ) (at : slice_get all i ≡ Some x)
+    (is : y ≡ x.0) (so_far : known ≡ before) where
+  pub item_holds : (At : Contents → ℤ → ℕ → List ℤ → ℤ → List Obligation) → AllHold (At g s (i + 1) known y)
+      → AllHold (At f s (length (take i all) + 1) before x.0)
   item_holds At h = subst (λ n. AllHold (At f s n before x.0)) (place_next all i x at)
-      (subst (λ l. AllHold (At f s (i + 1) l x.0)) so_far (subst (λ l. AllHold (At f s (i + 1) known l)) is (subst (λ h. AllHold (At h s (i + 1) known y)) same h)))
+      (subst (λ l. AllHold (At f s (i + 1) l x.0)) so_far
+      (subst (λ l. AllHold (At f s (i + 1) known l)) is (subst (λ h. AllHold (At h s (i + 1) known y)) same h)))
 
-  pub item_fails : (At : Contents → ℤ → ℕ → List ℤ → ℤ → List Obligation) (w : WalkFault) → IsFault (At g s (i + 1) known y) w → IsFault (At f s (length (take i all) + 1) before x.0) w
+  pub item_fails : (At : Contents → ℤ → ℕ → List ℤ → ℤ → List Obligation) (w : WalkFault) → IsFault (At g s (i + 1) known y) w
+      → IsFault (At f s (length (take i all) + 1) before x.0) w
   item_fails At w h = subst (λ n. IsFault (At f s n before x.0) w) (place_next all i x at)
-      (subst (λ l. IsFault (At f s (i + 1) l x.0) w) so_far (subst (λ l. IsFault (At f s (i + 1) known l) w) is (subst (λ h. IsFault (At h s (i + 1) known y) w) same h)))
+      (subst (λ l. IsFault (At f s (i + 1) l x.0) w) so_far
+      (subst (λ l. IsFault (At f s (i + 1) known l) w) is (subst (λ h. IsFault (At h s (i + 1) known y) w) same h)))
 
-pub face_placed : (f : Contents) (s : ℤ) (used : List ℤ) (before : List (ℤ × Bool)) (x : ℤ × Bool) → AllHold (face_at f s (length before + 1) (used ++ numbers before) x.0) → AllHold (face_places f s used before x)
+pub face_placed : (f : Contents) (s : ℤ) (used : List ℤ) (before : List (ℤ × Bool)) (x : ℤ × Bool)
+    → AllHold (face_at f s (length before + 1) (used ++ numbers before) x.0) → AllHold (face_places f s used before x)
 unfolding face_places
 face_placed f s used before x h = h
 
-pub face_failed : (f : Contents) (s : ℤ) (used : List ℤ) (before : List (ℤ × Bool)) (x : ℤ × Bool) (w : WalkFault) → IsFault (face_at f s (length before + 1) (used ++ numbers before) x.0) w → IsFault (face_places f s used before x) w
+pub face_failed : (f : Contents) (s : ℤ) (used : List ℤ) (before : List (ℤ × Bool)) (x : ℤ × Bool) (w : WalkFault)
+    → IsFault (face_at f s (length before + 1) (used ++ numbers before) x.0) w → IsFault (face_places f s used before x) w
 unfolding face_places
 face_failed f s used before x w h = h
 
-pub shell_placed : (f : Contents) (n : ℤ) (before : List (ℤ × Bool)) (x : ℤ × Bool) → AllHold (shell_at f n (length before + 1) (numbers before) x.0) → AllHold (shell_places f n before x)
+pub shell_placed : (f : Contents) (n : ℤ) (before : List (ℤ × Bool)) (x : ℤ × Bool) → AllHold (shell_at f n (length before + 1) (numbers before) x.0)
+    → AllHold (shell_places f n before x)
 unfolding shell_places
 shell_placed f n before x h = h
 
-pub shell_failed : (f : Contents) (n : ℤ) (before : List (ℤ × Bool)) (x : ℤ × Bool) (w : WalkFault) → IsFault (shell_at f n (length before + 1) (numbers before) x.0) w → IsFault (shell_places f n before x) w
+pub shell_failed : (f : Contents) (n : ℤ) (before : List (ℤ × Bool)) (x : ℤ × Bool) (w : WalkFault)
+    → IsFault (shell_at f n (length before + 1) (numbers before) x.0) w → IsFault (shell_places f n before x) w
 unfolding shell_places
 shell_failed f n before x w h = h

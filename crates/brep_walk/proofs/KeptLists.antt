@@ -21,37 +21,46 @@ use Rattle.brep_numbering.proofs.Pushed.{get_pushed}
 
 -- A list that is found is kept. g is the file as the call was given it, and y the number.
 
-pub kept_edges : (f g : Contents) → f ≡ g → (es : List (EntryNo × List EdgeTuple)) (vs : List (EntryNo × ℕ)) → AreKept f es vs → (z y : ℤ) → y ≡ z → (v : EntryNo × List EdgeTuple)
+pub kept_edges : (f g : Contents) → f ≡ g → (es : List (EntryNo × List EdgeTuple)) (vs : List (EntryNo × ℕ)) → AreKept f es vs → (z y : ℤ) → y ≡ z
+    → (v : EntryNo × List EdgeTuple)
     → (y ≡ pos v.0.0) × ((i : ℕ) × (slice_get es i ≡ Some v)) → IsEdgeList g z v
 kept_edges f g file es vs all z y at v h =
     subst (λ h. IsEdgeList h z v) file (subst (λ x. IsEdgeList f x v) (sym h.0 ∙ at) (all.edges h.1.0 v h.1.1))
 
-pub kept_vertices : (f g : Contents) → f ≡ g → (es : List (EntryNo × List EdgeTuple)) (vs : List (EntryNo × ℕ)) → AreKept f es vs → (z y : ℤ) → y ≡ z → (v : EntryNo × ℕ)
+pub kept_vertices : (f g : Contents) → f ≡ g → (es : List (EntryNo × List EdgeTuple)) (vs : List (EntryNo × ℕ)) → AreKept f es vs → (z y : ℤ) → y ≡ z
+    → (v : EntryNo × ℕ)
     → (y ≡ pos v.0.0) × ((i : ℕ) × (slice_get vs i ≡ Some v)) → IsVertexList g z v
 kept_vertices f g file es vs all z y at v h =
     subst (λ h. IsVertexList h z v) file (subst (λ x. IsVertexList f x v) (sym h.0 ∙ at) (all.vertices h.1.0 v h.1.1))
 
 -- One more list is kept.
 
-pub more_edges : (f : Contents) (es new : List (EntryNo × List EdgeTuple)) (vs : List (EntryNo × ℕ)) → AreKept f es vs → (v : EntryNo × List EdgeTuple) → new ≡ es ++ v ∷ [] → IsEdgeList f (pos v.0.0) v
+pub more_edges : (f : Contents) (es new : List (EntryNo × List EdgeTuple)) (vs : List (EntryNo × ℕ)) → AreKept f es vs → (v : EntryNo × List EdgeTuple)
+    → new ≡ es ++ v ∷ [] → IsEdgeList f (pos v.0.0) v
     → AreKept f new vs
 more_edges f es new vs all v is put = subst (λ l. AreKept f l vs) (sym is) (record {
-  edges = λ i kept at. ⊎_elim (all.edges i kept) (λ last. subst (λ (w : EntryNo × List EdgeTuple). IsEdgeList f (pos w.0.0) w) last.1 put) (get_pushed es v kept i at);
+  edges = λ i kept at. ⊎_elim (all.edges i kept) (λ last. subst (λ (w : EntryNo × List EdgeTuple). IsEdgeList f (pos w.0.0) w) last.1 put)
+      (get_pushed es v kept i at);
   vertices = all.vertices;
 })
 
-pub more_vertices : (f : Contents) (es : List (EntryNo × List EdgeTuple)) (vs new : List (EntryNo × ℕ)) → AreKept f es vs → (v : EntryNo × ℕ) → new ≡ vs ++ v ∷ [] → IsVertexList f (pos v.0.0) v → AreKept f es new
+pub more_vertices : (f : Contents) (es : List (EntryNo × List EdgeTuple)) (vs new : List (EntryNo × ℕ)) → AreKept f es vs → (v : EntryNo × ℕ)
+    → new ≡ vs ++ v ∷ [] → IsVertexList f (pos v.0.0) v → AreKept f es new
 more_vertices f es vs new all v is put = subst (λ l. AreKept f es l) (sym is) (record {
   edges = all.edges;
-  vertices = λ i kept at. ⊎_elim (all.vertices i kept) (λ last. subst (λ (w : EntryNo × ℕ). IsVertexList f (pos w.0.0) w) last.1 put) (get_pushed vs v kept i at);
+  vertices = λ i kept at. ⊎_elim (all.vertices i kept) (λ last. subst (λ (w : EntryNo × ℕ). IsVertexList f (pos w.0.0) w) last.1 put)
+      (get_pushed vs v kept i at);
 })
 
 -- A list that was opened may be kept, by its entry.
 
-pub edge_list_kept : (f : Contents) (y : ℤ) (entry : EntryNo) (list : Items edges) → NamesRecord edges f y → y ≡ pos entry.0 → list ≡ told edges f y → length list < 2 ^ 31 → IsEdgeList f (pos entry.0) (entry, list)
-edge_list_kept f y entry list holds number is few = subst (λ x. IsEdgeList f x (entry, list)) number (record { number = number; holds = holds; items = is; few = few })
+pub edge_list_kept : (f : Contents) (y : ℤ) (entry : EntryNo) (list : Items edges) → NamesRecord edges f y → y ≡ pos entry.0 → list ≡ told edges f y
+    → length list < 2 ^ 31 → IsEdgeList f (pos entry.0) (entry, list)
+edge_list_kept f y entry list holds number is few =
+    subst (λ x. IsEdgeList f x (entry, list)) number (record { number = number; holds = holds; items = is; few = few })
 
-pub vertex_list_kept : (f : Contents) (y : ℤ) (entry : EntryNo) (n : ℕ) → NamesRecord vertices f y → y ≡ pos entry.0 → (list : Items vertices) → list ≡ told vertices f y → n ≡ length list → IsVertexList f (pos entry.0) (entry, n)
+pub vertex_list_kept : (f : Contents) (y : ℤ) (entry : EntryNo) (n : ℕ) → NamesRecord vertices f y → y ≡ pos entry.0 → (list : Items vertices)
+    → list ≡ told vertices f y → n ≡ length list → IsVertexList f (pos entry.0) (entry, n)
 vertex_list_kept f y entry n holds number list is count =
     subst (λ x. IsVertexList f x (entry, n)) number (record { number = number; holds = holds; count = count ∙ ap (λ (l : Items vertices). length l) is })
 
@@ -65,19 +74,23 @@ module _ (f : Contents) (z : ℤ) (v : EntryNo × List EdgeTuple) (kept : IsEdge
       )
 
   pub kept_holds : IsIndex k (length v.1) → AllHold (item_places f entity place edges z j (length (told edges f z)))
-  kept_holds h = AllHold-append (record_places f entity place edges z) (obligation BadIndex (entry_number entity) place (IsIndex j (length (told edges f z))) ∷ []) kept.holds (counted.0 h, tt)
+  kept_holds h = AllHold-append (record_places f entity place edges z)
+      (obligation BadIndex (entry_number entity) place (IsIndex j (length (told edges f z))) ∷ []) kept.holds (counted.0 h, tt)
 
-  pub kept_fails : {T : Type 0} (r : Result T WalkFault) (x : Failing) → FirstFalse (obligation BadIndex (entry_number entity) place (IsIndex k (length v.1)) ∷ []) x → IsErrAnd r (λ e. e ≡ Fails x)
+  pub kept_fails : {T : Type 0} (r : Result T WalkFault) (x : Failing)
+      → FirstFalse (obligation BadIndex (entry_number entity) place (IsIndex k (length v.1)) ∷ []) x → IsErrAnd r (λ e. e ≡ Fails x)
       → IfErr r (IsFault (item_places f entity place edges z j (length (told edges f z))))
   kept_fails (Ok t) x h e = tt
   kept_fails (Err w) x h e =
       subst (IsFault (item_places f entity place edges z j (length (told edges f z)))) (sym e)
-      (FirstFalse-append_rest (record_places f entity place edges z) (obligation BadIndex (entry_number entity) place (IsIndex j (length (told edges f z))) ∷ []) x kept.holds
+      (FirstFalse-append_rest (record_places f entity place edges z)
+      (obligation BadIndex (entry_number entity) place (IsIndex j (length (told edges f z))) ∷ []) x kept.holds
       (⊎_elim (λ bad. inl ((λ i. bad.0 (counted.1 i)), bad.1)) (λ more. absurd more.1) h))
 
   pub kept_edge : (e : EdgeKey × EdgeTuple) → (e.0 ≡ record { «list» = v.0; index = entry_number k }) × (slice_get v.1 (entry_number k - 1) ≡ Some e.1)
       → (e.0 ≡ edge_key z j) × (edge_at f z (entry_number j) ≡ Some e.1)
   kept_edge e h = (
-    h.0 ∙ (ap (λ n. record { «list» = v.0; index = entry_number n }) same ∙ ap (λ n. record { «list» = record { 0 = entry_number n }; index = entry_number j }) (sym kept.number)),
+    h.0 ∙ (ap (λ n. record { «list» = v.0; index = entry_number n }) same ∙ ap (λ n. record { «list» = record { 0 = entry_number n }; index = entry_number j })
+        (sym kept.number)),
     ap (λ l. slice_get l (entry_number j - 1)) (sym kept.items) ∙ (ap (λ n. slice_get v.1 (entry_number n - 1)) (sym same) ∙ h.1),
   )

@@ -19,7 +19,8 @@ use Rattle.brep_numbering.proofs.SameKeys.{vertex_itself}
 use Rattle.brep_numbering.proofs.SameKeys.{edge_sound}
 
 -- a key among those with one more
-among : {A : Type 0} (same : A → A → Bool) (ks : List A) (k x : A) → list_any (same x) (insert_key same ks k) ≡ true → (list_any (same x) ks ≡ true) ⊎ (same x k ≡ true)
+among : {A : Type 0} (same : A → A → Bool) (ks : List A) (k x : A) → list_any (same x) (insert_key same ks k) ≡ true
+    → (list_any (same x) ks ≡ true) ⊎ (same x k ≡ true)
 among {A} same ks k x = by_test (list_any (same k) ks)
   where
     one : (a b : Bool) → (a || (b || false)) ≡ true → (a ≡ true) ⊎ (b ≡ true)
@@ -45,10 +46,12 @@ put_vertices ks (v ∷ vs) =
       put_vertices (insert_key same_vertex ks v) vs,
     )
 
-still_known : (f : Contents) (old new : Keys) (more : List VertexKey) → new.vertices ≡ old.vertices ++ more → (key : EdgeKey) → IsKnownEdge f old key → IsKnownEdge f new key
+still_known : (f : Contents) (old new : Keys) (more : List VertexKey) → new.vertices ≡ old.vertices ++ more → (key : EdgeKey) → IsKnownEdge f old key
+    → IsKnownEdge f new key
 still_known f old new more grown key h = record {
   holds = h.holds;
-  vertices = subst (λ ks. AreNumbered ks (ends_named (edge_at f (pos key.«list».0) key.index))) (sym grown) (still_vertices old.vertices more (ends_named (edge_at f (pos key.«list».0) key.index)) h.vertices);
+  vertices = subst (λ ks. AreNumbered ks (ends_named (edge_at f (pos key.«list».0) key.index))) (sym grown)
+      (still_vertices old.vertices more (ends_named (edge_at f (pos key.«list».0) key.index)) h.vertices);
 }
 
 -- one more edge

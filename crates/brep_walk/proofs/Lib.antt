@@ -19,3 +19,4 @@ pub mod PlacedNumbers
 pub mod KnownEdges
 pub mod Decided
 pub mod ShellSolids
+pub mod Knowing

@@ -3,14 +3,12 @@ use Rattle.std.specs.Prelude.{◌≡◌, ◌+◌, ℕ, ℤ, List, [], ◌∷◌,
 use Rattle.std.proofs.Common.{sym, ◌∙◌, ap, subst, append_assoc}
 use Rattle.iges_params.specs.Contents.{Contents}
 use Rattle.brep_lists.specs.declared.entity_kind.EntityKind.TheVariants.{Loop as «loop»}
-use Rattle.solid_data.specs.Obligations.{Obligation, AllHold, FirstFalse, obligation, after_each, entry_number}
-use Rattle.solid_data.specs.declared.verdict.Failing.{Failing}
+use Rattle.solid_data.specs.Obligations.{Obligation, AllHold, obligation, after_each, entry_number}
 use Rattle.solid_data.specs.declared.verdict.Rule.TheVariants.{Twice}
 use Rattle.brep_walk.specs.declared.fault.WalkFault.{WalkFault}
-use Rattle.brep_walk.specs.declared.fault.WalkFault.TheVariants.{Fails}
 use Rattle.brep_walk.specs.Places.{tuples, record_places, tuple_places, loop_at, loop_places}
 use Rattle.brep_walk.specs.Walked.{IsFault}
-use Rattle.brep_walk.proofs.Faults.{fault_front, fault_rest, handed, handed_failing}
+use Rattle.brep_walk.proofs.Faults.{fault_front, fault_rest, handed}
 use Rattle.brep_walk.proofs.WalkSteps.{take_next, place_next}
 
 -- y is the number as a call was given it
@@ -21,25 +19,31 @@ module _ (f : Contents) (c : ℤ) (place : ℕ) (known : List ℤ) (z y : ℤ) (
   abbrev rest : List Obligation
   rest = after_each (tuple_places f y) [] (tuples f y)
 
-  pub no_loop : {T : Type 0} (r : Result T WalkFault) (x : Failing) → FirstFalse (record_places f c place «loop» y) x → IsErrAnd r (λ e. e ≡ Fails x) → IfErr r (IsFault (loop_at f c place known z))
-  no_loop r x h = handed_failing (loop_at f c place known z) r x (subst (λ l. FirstFalse (loop_at f c place known l) x) same
-      (fault_front (record_places f c place «loop» y ++ twice) rest (Fails x) (fault_front (record_places f c place «loop» y) twice (Fails x) h)))
+  pub no_loop : {T : Type 0} (r : Result T WalkFault) (w : WalkFault) → IsFault (record_places f c place «loop» y) w → IsErrAnd r (λ e. e ≡ w)
+      → IfErr r (IsFault (loop_at f c place known z))
+  no_loop r w h = handed (loop_at f c place known z) r w (subst (λ l. IsFault (loop_at f c place known l) w) same
+      (fault_front (record_places f c place «loop» y ++ twice) rest w (fault_front (record_places f c place «loop» y) twice w h)))
 
-  pub loop_twice : {T : Type 0} (r : Result T WalkFault) (w : WalkFault) → AllHold (record_places f c place «loop» y) → IsFault twice w → IsErrAnd r (λ e. e ≡ w) → IfErr r (IsFault (loop_at f c place known z))
+  pub loop_twice : {T : Type 0} (r : Result T WalkFault) (w : WalkFault) → AllHold (record_places f c place «loop» y) → IsFault twice w
+      → IsErrAnd r (λ e. e ≡ w) → IfErr r (IsFault (loop_at f c place known z))
   loop_twice r w holds h = handed (loop_at f c place known z) r w (subst (λ l. IsFault (loop_at f c place known l) w) same
       (fault_front (record_places f c place «loop» y ++ twice) rest w (fault_rest (record_places f c place «loop» y) twice w holds h)))
 
 -- g is the file behind the lists so far
-module _ (f g : Contents) (same : g ≡ f) (c : ℤ) (used known : List ℤ) (all : List ℤ) (i : ℕ) (z y : ℤ) (at : slice_get all i ≡ Some z) (is : y ≡ z) (so_far : known ≡ used ++ take i all) where
+module _ (f g : Contents) (same : g ≡ f) (c : ℤ) (used known : List ℤ) (all : List ℤ) (i : ℕ) (z y : ℤ) (at : slice_get all i ≡ Some z) (is : y ≡ z)
+    (so_far : known ≡ used ++ take i all) where
   pub loop_holds : AllHold (loop_at g c (i + 1) known y) → AllHold (loop_places f c used (take i all) z)
   unfolding loop_places
   loop_holds h = subst (λ n. AllHold (loop_at f c n (used ++ take i all) z)) (place_next all i z at)
-      (subst (λ l. AllHold (loop_at f c (i + 1) l z)) so_far (subst (λ l. AllHold (loop_at f c (i + 1) known l)) is (subst (λ h. AllHold (loop_at h c (i + 1) known y)) same h)))
+      (subst (λ l. AllHold (loop_at f c (i + 1) l z)) so_far
+      (subst (λ l. AllHold (loop_at f c (i + 1) known l)) is (subst (λ h. AllHold (loop_at h c (i + 1) known y)) same h)))
 
   pub loop_fails : (w : WalkFault) → IsFault (loop_at g c (i + 1) known y) w → IsFault (loop_places f c used (take i all) z) w
   unfolding loop_places
   loop_fails w h = subst (λ n. IsFault (loop_at f c n (used ++ take i all) z) w) (place_next all i z at)
-      (subst (λ l. IsFault (loop_at f c (i + 1) l z) w) so_far (subst (λ l. IsFault (loop_at f c (i + 1) known l) w) is (subst (λ h. IsFault (loop_at h c (i + 1) known y) w) same h)))
+      (subst (λ l. IsFault (loop_at f c (i + 1) l z) w) so_far
+      (subst (λ l. IsFault (loop_at f c (i + 1) known l) w) is (subst (λ h. IsFault (loop_at h c (i + 1) known y) w) same h)))
 
   pub loop_named : (new : List ℤ) → new ≡ known ++ y ∷ [] → new ≡ used ++ take (i + 1) all
-  loop_named new h = h ∙ (ap (λ l. l ++ y ∷ []) so_far ∙ (append_assoc used (take i all) (y ∷ []) ∙ (ap (λ l. used ++ (take i all ++ l ∷ [])) is ∙ ap (λ l. used ++ l) (sym (take_next all i z at)))))
+  loop_named new h = h ∙ (ap (λ l. l ++ y ∷ []) so_far
+      ∙ (append_assoc used (take i all) (y ∷ []) ∙ (ap (λ l. used ++ (take i all ++ l ∷ [])) is ∙ ap (λ l. used ++ l) (sym (take_next all i z at)))))

@@ -1,5 +1,6 @@
 -- The ids of a file's solid are numbered by first appearance.
-use Rattle.std.specs.Prelude.{◌≡◌, ◌≢◌, ℕ, zero, suc, ◌+◌, ◌==◌, ◌&&◌, ◌⊎◌, Bool, true, false, not, cond, ℤ, pos, negsuc, List, [], ◌∷◌, ◌++◌, length, map, flat_map, filter, Some, slice_get, if◌then◌else◌}
+use Rattle.std.specs.Prelude.{◌≡◌, ◌≢◌, ℕ, zero, suc, ◌+◌, ◌==◌, ◌&&◌, ◌⊎◌, Bool, true, false, not, cond, ℤ, pos, negsuc, List, [], ◌∷◌, ◌++◌, length, map}
+use Rattle.std.specs.Prelude.{flat_map, filter, Some, slice_get, if◌then◌else◌}
 use Rattle.std.specs.List.{enumerate_from}
 use Rattle.std.proofs.Common.{refl, sym, ◌∙◌, ap, subst, arith, inl, inr}
 use Rattle.std.proofs.lemmas.Bool.{eq-eqb}
@@ -12,11 +13,13 @@ use Rattle.brep_lists.specs.Record.{LoopTuple}
 use Rattle.brep_lists.specs.declared.edge_list.EdgeTuple.{EdgeTuple}
 use Rattle.brep_walk.specs.Places.{shells, faces, loops, tuples, edge_at, numbers}
 use Rattle.brep_numbering.specs.Keys.{Keys}
-use Rattle.brep_walk.specs.SolidOf.{edge_key, vertex_key, all_tuples, edge_named, ends_named, vertices_named, use_by, loop_by, face_by, shell_by, numbered_by, edge_by, keys_of, use_of, solid_of, tuples_in, edges_in, vertices_in, keys_in, solid_listing}
+use Rattle.brep_walk.specs.SolidOf.{edge_key, vertex_key, all_tuples, edge_named, ends_named, vertices_named, use_by, loop_by, face_by, shell_by, numbered_by}
+use Rattle.brep_walk.specs.SolidOf.{edge_by, keys_of, use_of, solid_of, tuples_in, edges_in, vertices_in, keys_in, solid_listing}
 use Rattle.solid_data.specs.Ring.{distinct, place_of, numbers_from}
 use Rattle.solid_data.specs.Obligations.{entry_number}
 use Rattle.solid_data.specs.Numbering.{InOrderOfAppearance}
-use Rattle.solid_data.specs.SolidData.{PlacedLoop, placed_in_face, shell_uses, shell_edges, shell_vertices, edge_used, ends_of, vertices_used, same_edge, same_vertex}
+use Rattle.solid_data.specs.SolidData.{PlacedLoop, placed_in_face, shell_uses, shell_edges, shell_vertices, edge_used, ends_of, vertices_used, same_edge}
+use Rattle.solid_data.specs.SolidData.{same_vertex}
 use Rattle.solid_data.specs.declared.solid.Edge.{Edge}
 use Rattle.solid_data.specs.declared.solid.EdgeKey.{EdgeKey}
 use Rattle.solid_data.specs.declared.solid.VertexKey.{VertexKey}
@@ -34,7 +37,8 @@ module _ {A : Type 0} (same : A → A → Bool) (sound : (a b : A) → same a b 
   place_tells keys a b h k = by_test (same a b) refl (eqb_tells (place_of same keys a) (place_of same keys b))
     where
       by_test : (t : Bool) → same a b ≡ t
-          → (((place_of same keys a == place_of same keys b) ≡ true) × (place_of same keys a ≡ place_of same keys b)) ⊎ (((place_of same keys a == place_of same keys b) ≡ false) × (place_of same keys a ≢ place_of same keys b))
+          → (((place_of same keys a == place_of same keys b) ≡ true) × (place_of same keys a ≡ place_of same keys b))
+          ⊎ (((place_of same keys a == place_of same keys b) ≡ false) × (place_of same keys a ≢ place_of same keys b))
           → (place_of same keys a == place_of same keys b) ≡ t
       by_test true e tells = eq-eqb (place_of same keys a) (place_of same keys b) (ap (place_of same keys) (sound a b e))
       by_test false e (inl p) =
@@ -45,7 +49,8 @@ module _ {A : Type 0} (same : A → A → Bool) (sound : (a b : A) → same a b 
           true_is_false w = cc
       by_test false e (inr p) = p.0
 
-  filter_of_map : (g : A → ℕ) (n : ℕ) (x : A) (xs : List A) → ((a : A) → Has xs a → (n == g a) ≡ same x a) → filter (λ y. not (n == y)) (map g xs) ≡ map g (filter (λ y. not (same x y)) xs)
+  filter_of_map : (g : A → ℕ) (n : ℕ) (x : A) (xs : List A) → ((a : A) → Has xs a → (n == g a) ≡ same x a)
+      → filter (λ y. not (n == y)) (map g xs) ≡ map g (filter (λ y. not (same x y)) xs)
   filter_of_map g n x [] agree = refl
   filter_of_map g n x (y ∷ xs) agree =
       let rest = filter_of_map g n x xs (λ a m. agree a (inr m)) in
@@ -56,7 +61,8 @@ module _ {A : Type 0} (same : A → A → Bool) (sound : (a b : A) → same a b 
       map_cond g true y zs = refl
       map_cond g false y zs = refl
 
-  distinct_of_map : (g : A → ℕ) (xs : List A) → ((a b : A) → Has xs a → Has xs b → (g a == g b) ≡ same a b) → distinct ◌==◌ (map g xs) ≡ map g (distinct same xs)
+  distinct_of_map : (g : A → ℕ) (xs : List A) → ((a b : A) → Has xs a → Has xs b → (g a == g b) ≡ same a b)
+      → distinct ◌==◌ (map g xs) ≡ map g (distinct same xs)
   distinct_of_map g [] agree = refl
   distinct_of_map g (x ∷ xs) agree =
       let rest = distinct_of_map g xs (λ a b m k. agree a b (inr m) (inr k)) in
@@ -66,13 +72,15 @@ module _ {A : Type 0} (same : A → A → Bool) (sound : (a b : A) → same a b 
 
   map_suc : (base n : ℕ) → map suc (numbers_from base n) ≡ numbers_from (base + 1) n
   map_suc base zero = refl
-  map_suc base (suc n) = let e : suc base ≡ base + 1 = omega arith in ap (λ z. z ∷ map suc (numbers_from (base + 1) n)) e ∙ ap (λ zs. (base + 1) ∷ zs) (map_suc (base + 1) n)
+  map_suc base (suc n) = let e : suc base ≡ base + 1 = omega arith in ap (λ z. z ∷ map suc (numbers_from (base + 1) n)) e
+      ∙ ap (λ zs. (base + 1) ∷ zs) (map_suc (base + 1) n)
 
   not_same : (x y : A) (xs : List A) → Has (filter (λ z. not (same x z)) xs) y → same x y ≡ false
   not_same x y [] h = absurd h
   not_same x y (z ∷ xs) h = by_test (same x z) refl h (λ m. not_same x y xs m)
     where
-      by_test : (b : Bool) → same x z ≡ b → Has (cond (not b) (z ∷ filter (λ w. not (same x w)) xs) (filter (λ w. not (same x w)) xs)) y → (Has (filter (λ w. not (same x w)) xs) y → same x y ≡ false) → same x y ≡ false
+      by_test : (b : Bool) → same x z ≡ b → Has (cond (not b) (z ∷ filter (λ w. not (same x w)) xs) (filter (λ w. not (same x w)) xs)) y
+          → (Has (filter (λ w. not (same x w)) xs) y → same x y ≡ false) → same x y ≡ false
       by_test true e m on = on m
       by_test false e (inl is) on = ap (same x) (sym is) ∙ e
       by_test false e (inr m) on = on m
@@ -118,7 +126,8 @@ module _ {A : Type 0} (same : A → A → Bool) (sound : (a b : A) → same a b 
 
   distinct_apart : (xs : List A) → AreApart (distinct same xs)
   distinct_apart [] = tt
-  distinct_apart (x ∷ xs) = ((λ a m. symmetric x a (not_same x a (distinct same xs) m)), filter_apart (λ y. not (same x y)) (distinct same xs) (distinct_apart xs))
+  distinct_apart (x ∷ xs) =
+      ((λ a m. symmetric x a (not_same x a (distinct same xs) m)), filter_apart (λ y. not (same x y)) (distinct same xs) (distinct_apart xs))
 
   -- The places of the keys of a list, in the list of keys without repeats, are in order of appearance.
   pub places_in_order : (xs : List A) → InOrderOfAppearance (map (place_of same (distinct same xs)) xs) (length (distinct same xs))
@@ -139,7 +148,8 @@ uses_of_loops f keys mk same base (l ∷ ls) =
     ∙ sym (map-append (use_by keys) (tuples f l) (flat_map (tuples f) ls)))
 
 uses_of_faces : (f : Contents) (keys : Keys) (flag : Bool) (base : ℕ) (items : List (ℤ × Bool))
-    → flat_map (λ (p : PlacedLoop). p.loop.uses) (flat_map (placed_in_face flag) (enumerate_from base (map (face_by f keys) items))) ≡ map (use_by keys) (flat_map (tuples f) (flat_map (loops f) (numbers items)))
+    → flat_map (λ (p : PlacedLoop). p.loop.uses) (flat_map (placed_in_face flag) (enumerate_from base (map (face_by f keys) items)))
+    ≡ map (use_by keys) (flat_map (tuples f) (flat_map (loops f) (numbers items)))
 uses_of_faces f keys flag base [] = refl
 uses_of_faces f keys flag base (item ∷ items) =
     let rest : List PlacedLoop = flat_map (placed_in_face flag) (enumerate_from (base + 1) (map (face_by f keys) items)) in
@@ -151,7 +161,8 @@ uses_of_faces f keys flag base (item ∷ items) =
     ∙ ap (map (use_by keys)) (sym (flat_map-append (tuples f) (loops f item.0) (flat_map (loops f) (numbers items)))))))
 
 uses_of_shells : (f : Contents) (keys : Keys) (items : List (ℤ × Bool))
-    → flat_map shell_uses (map (shell_by f keys) items) ≡ map (use_by keys) (flat_map (tuples f) (flat_map (loops f) (flat_map (λ s. numbers (faces f s)) (numbers items))))
+    → flat_map shell_uses (map (shell_by f keys) items)
+    ≡ map (use_by keys) (flat_map (tuples f) (flat_map (loops f) (flat_map (λ s. numbers (faces f s)) (numbers items))))
 uses_of_shells f keys [] = refl
 uses_of_shells f keys (item ∷ items) =
     let mine : List ℤ = numbers (faces f item.0) in
@@ -159,13 +170,16 @@ uses_of_shells f keys (item ∷ items) =
     ap (λ us. us ++ flat_map shell_uses (map (shell_by f keys) items)) (uses_of_faces f keys item.1 0 (faces f item.0))
     ∙ (ap (λ us. map (use_by keys) (flat_map (tuples f) (flat_map (loops f) mine)) ++ us) (uses_of_shells f keys items)
     ∙ (sym (map-append (use_by keys) (flat_map (tuples f) (flat_map (loops f) mine)) (flat_map (tuples f) (flat_map (loops f) rest)))
-    ∙ ap (map (use_by keys)) (sym (ap (flat_map (tuples f)) (flat_map-append (loops f) mine rest) ∙ flat_map-append (tuples f) (flat_map (loops f) mine) (flat_map (loops f) rest)))))
+    ∙ ap (map (use_by keys))
+    (sym (ap (flat_map (tuples f)) (flat_map-append (loops f) mine rest) ∙ flat_map-append (tuples f) (flat_map (loops f) mine)
+    (flat_map (loops f) rest)))))
 
 pub all_uses : (f : Contents) (n : ℕ) → flat_map shell_uses (solid_of f n).shells ≡ map (use_of f (pos n)) (all_tuples f (pos n))
 unfolding solid_of
 all_uses f n = uses_of_shells f (keys_of f (pos n)) (shells f (pos n))
 
-pub uses_listed : (f : Contents) (n : ℕ) (items : List (ℤ × Bool)) → flat_map shell_uses (solid_listing f n items).shells ≡ map (use_by (keys_in f items)) (tuples_in f items)
+pub uses_listed : (f : Contents) (n : ℕ) (items : List (ℤ × Bool)) → flat_map shell_uses (solid_listing f n items).shells
+    ≡ map (use_by (keys_in f items)) (tuples_in f items)
 unfolding solid_listing
 uses_listed f n items = uses_of_shells f (keys_in f items) items
 
@@ -175,14 +189,17 @@ flat_flat g h (x ∷ xs) = ap (λ zs. flat_map h (g x) ++ zs) (flat_flat g h xs)
 
 -- The edges.
 
-edges_used : (f : Contents) (items : List (ℤ × Bool)) (ts : List LoopTuple) → flat_map edge_used (map (use_by (keys_in f items)) ts) ≡ map (place_of same_edge (edges_in f items)) (flat_map edge_named ts)
+edges_used : (f : Contents) (items : List (ℤ × Bool)) (ts : List LoopTuple) → flat_map edge_used (map (use_by (keys_in f items)) ts)
+    ≡ map (place_of same_edge (edges_in f items)) (flat_map edge_named ts)
 edges_used f items [] = refl
 edges_used f items (t ∷ ts) =
     ap (λ zs. edge_used (use_by (keys_in f items) t) ++ zs) (edges_used f items ts)
     ∙ (ap (λ zs. zs ++ map (place_of same_edge (edges_in f items)) (flat_map edge_named ts)) (one t.is_vertex)
     ∙ sym (map-append (place_of same_edge (edges_in f items)) (edge_named t) (flat_map edge_named ts)))
   where
-    one : (b : Bool) → edge_used (if b then VertexUse (record { 0 = place_of same_vertex (vertices_in f items) (vertex_key t.«list» t.index) }) else EdgeUse (record { 0 = place_of same_edge (edges_in f items) (edge_key t.«list» t.index) }) t.flag)
+    one : (b : Bool) → edge_used
+        (if b then VertexUse (record { 0 = place_of same_vertex (vertices_in f items) (vertex_key t.«list» t.index) }) else EdgeUse
+        (record { 0 = place_of same_edge (edges_in f items) (edge_key t.«list» t.index) }) t.flag)
         ≡ map (place_of same_edge (edges_in f items)) (if b then [] else edge_key t.«list» t.index ∷ [])
     one true = refl
     one false = refl
@@ -195,30 +212,37 @@ pub by_key : (f : Contents) (e : ℤ) (j : ℕ) (t : EdgeTuple) → edge_at f e 
 by_key f (pos n) j t h = h
 by_key f (negsuc n) j t h = absurd (none-some t h)
 
-key_found : (f : Contents) (items : List (ℤ × Bool)) → EdgesFound f items → (key : EdgeKey) → Has (edges_in f items) key → (e : EdgeTuple) × (edge_at f (pos key.«list».0) key.index ≡ Some e)
+key_found : (f : Contents) (items : List (ℤ × Bool)) → EdgesFound f items → (key : EdgeKey) → Has (edges_in f items) key
+    → (e : EdgeTuple) × (edge_at f (pos key.«list».0) key.index ≡ Some e)
 key_found f items found key h =
     let t = from_flat_map edge_named (tuples_in f items) key (from_distinct same_edge (flat_map edge_named (tuples_in f items)) key h) in
     of_tuple t.0 t.1 t.0.is_vertex refl t.2
   where
-    of_tuple : (t : LoopTuple) → Has (tuples_in f items) t → (b : Bool) → t.is_vertex ≡ b → Has (if b then [] else edge_key t.«list» t.index ∷ []) key → (e : EdgeTuple) × (edge_at f (pos key.«list».0) key.index ≡ Some e)
+    of_tuple : (t : LoopTuple) → Has (tuples_in f items) t → (b : Bool) → t.is_vertex ≡ b → Has (if b then [] else edge_key t.«list» t.index ∷ []) key
+        → (e : EdgeTuple) × (edge_at f (pos key.«list».0) key.index ≡ Some e)
     of_tuple t here true v m = absurd m
     of_tuple t here false v (inr m) = absurd m
     of_tuple t here false v (inl same) =
         let e = found t here v in
         (e.0, ap (λ (q : EdgeKey). edge_at f (pos q.«list».0) q.index) (sym same) ∙ by_key f t.«list» (entry_number t.index) e.0 e.1)
 
-edges_counted : (f : Contents) (items : List (ℤ × Bool)) → EdgesFound f items → length (flat_map (edge_by f (keys_in f items)) (edges_in f items)) ≡ length (edges_in f items)
-edges_counted f items found = length-singles (edge_by f (keys_in f items)) (edges_in f items) (λ key m. let e = key_found f items found key m in ap (λ o. length (numbered_by (keys_in f items) key o)) e.1)
+edges_counted : (f : Contents) (items : List (ℤ × Bool)) → EdgesFound f items → length (flat_map (edge_by f (keys_in f items)) (edges_in f items))
+    ≡ length (edges_in f items)
+edges_counted f items found = length-singles (edge_by f (keys_in f items)) (edges_in f items)
+    (λ key m. let e = key_found f items found key m in ap (λ o. length (numbered_by (keys_in f items) key o)) e.1)
 
-edge_count : (f : Contents) (n : ℕ) (items : List (ℤ × Bool)) → length (solid_listing f n items).edges ≡ length (flat_map (edge_by f (keys_in f items)) (edges_in f items))
+edge_count : (f : Contents) (n : ℕ) (items : List (ℤ × Bool))
+    → length (solid_listing f n items).edges ≡ length (flat_map (edge_by f (keys_in f items)) (edges_in f items))
 unfolding solid_listing
 edge_count f n items = refl
 
 -- The edges of a file's solid are numbered by first appearance.
-pub edges_in_order : (f : Contents) (n : ℕ) (items : List (ℤ × Bool)) → EdgesFound f items → InOrderOfAppearance (flat_map shell_edges (solid_listing f n items).shells) (length (solid_listing f n items).edges)
+pub edges_in_order : (f : Contents) (n : ℕ) (items : List (ℤ × Bool)) → EdgesFound f items
+    → InOrderOfAppearance (flat_map shell_edges (solid_listing f n items).shells) (length (solid_listing f n items).edges)
 edges_in_order f n items found =
     let ids : flat_map shell_edges (solid_listing f n items).shells ≡ map (place_of same_edge (edges_in f items)) (flat_map edge_named (tuples_in f items)) =
-    flat_flat shell_uses edge_used (solid_listing f n items).shells ∙ (ap (flat_map edge_used) (uses_listed f n items) ∙ edges_used f items (tuples_in f items)) in
+    flat_flat shell_uses edge_used (solid_listing f n items).shells
+    ∙ (ap (flat_map edge_used) (uses_listed f n items) ∙ edges_used f items (tuples_in f items)) in
     ap (distinct ◌==◌) ids
     ∙ (places_in_order same_edge edge_sound edge_itself (flat_map edge_named (tuples_in f items))
     ∙ ap (numbers_from 0) (sym (edge_count f n items ∙ edges_counted f items found)))
@@ -242,7 +266,8 @@ vertices_one : (f : Contents) (n : ℕ) (items : List (ℤ × Bool)) → EdgesFo
 vertices_one f n items found t here = by_case t.is_vertex refl
   where
     pick : Bool → LoopUse
-    pick b = if b then VertexUse (record { 0 = place_of same_vertex (vertices_in f items) (vertex_key t.«list» t.index) }) else EdgeUse (record { 0 = place_of same_edge (edges_in f items) (edge_key t.«list» t.index) }) t.flag
+    pick b = if b then VertexUse (record { 0 = place_of same_vertex (vertices_in f items) (vertex_key t.«list» t.index) }) else EdgeUse
+        (record { 0 = place_of same_edge (edges_in f items) (edge_key t.«list» t.index) }) t.flag
 
     names : Bool → List VertexKey
     names b = if b then vertex_key t.«list» t.index ∷ [] else ends_named (edge_at f t.«list» (entry_number t.index))
@@ -254,19 +279,25 @@ vertices_one f n items found t here = by_case t.is_vertex refl
         let key : EdgeKey = edge_key t.«list» t.index in
         let listed : Has (edges_in f items) key = to_distinct same_edge edge_sound (flat_map edge_named (tuples_in f items)) key
         (has_flat_map edge_named (tuples_in f items) t key here (subst (λ c. Has (if c then [] else key ∷ []) key) (sym v) (inl refl))) in
-        let there : edge_by f (keys_in f items) key ≡ numbered f items key e.0 ∷ [] = ap (numbered_by (keys_in f items) key) (by_key f t.«list» (entry_number t.index) e.0 e.1) in
+        let there : edge_by f (keys_in f items) key ≡ numbered f items key e.0 ∷ [] =
+        ap (numbered_by (keys_in f items) key) (by_key f t.«list» (entry_number t.index) e.0 e.1) in
         let got : slice_get (solid_listing f n items).edges (place_of same_edge (edges_in f items) key) ≡ Some (numbered f items key e.0) =
         ap (λ es. slice_get es (place_of same_edge (edges_in f items) key)) (edges_of_solid f n items)
-        ∙ get_single (edge_by f (keys_in f items)) (edges_in f items) (λ k m. let d = key_found f items found k m in ap (λ o. length (numbered_by (keys_in f items) k o)) d.1)
-        (place_of same_edge (edges_in f items) key) key (numbered f items key e.0) (at_place same_edge edge_sound edge_itself (edges_in f items) key listed) there in
+        ∙ get_single (edge_by f (keys_in f items)) (edges_in f items)
+        (λ k m. let d = key_found f items found k m in ap (λ o. length (numbered_by (keys_in f items) k o)) d.1)
+        (place_of same_edge (edges_in f items) key) key (numbered f items key e.0) (at_place same_edge edge_sound edge_itself (edges_in f items) key listed)
+        there in
         ap ends_of got ∙ sym (ap (λ o. map (place_of same_vertex (vertices_in f items)) (ends_named o)) e.1)
 
-    by_case : (b : Bool) → t.is_vertex ≡ b → vertices_used (solid_listing f n items) (pick t.is_vertex) ≡ map (place_of same_vertex (vertices_in f items)) (names t.is_vertex)
+    by_case : (b : Bool) → t.is_vertex ≡ b → vertices_used (solid_listing f n items) (pick t.is_vertex) ≡ map (place_of same_vertex (vertices_in f items))
+        (names t.is_vertex)
     by_case b v = of_case t.is_vertex refl
 
 all_vertices : (f : Contents) (n : ℕ) (items : List (ℤ × Bool)) (ts : List LoopTuple)
-    → ((t : LoopTuple) → Has ts t → vertices_used (solid_listing f n items) (use_by (keys_in f items) t) ≡ map (place_of same_vertex (vertices_in f items)) (vertices_named f t))
-    → flat_map (vertices_used (solid_listing f n items)) (map (use_by (keys_in f items)) ts) ≡ map (place_of same_vertex (vertices_in f items)) (flat_map (vertices_named f) ts)
+    → ((t : LoopTuple) → Has ts t → vertices_used (solid_listing f n items) (use_by (keys_in f items) t) ≡ map (place_of same_vertex (vertices_in f items))
+    (vertices_named f t))
+    → flat_map (vertices_used (solid_listing f n items)) (map (use_by (keys_in f items)) ts) ≡ map (place_of same_vertex (vertices_in f items))
+    (flat_map (vertices_named f) ts)
 all_vertices f n items [] each = refl
 all_vertices f n items (t ∷ ts) each =
     ap (λ zs. zs ++ flat_map (vertices_used (solid_listing f n items)) (map (use_by (keys_in f items)) ts)) (each t (inl refl))
@@ -278,11 +309,14 @@ unfolding solid_listing
 vertices_of_solid f n items = refl
 
 -- The vertices of a file's solid are numbered by first appearance.
-pub vertices_in_order : (f : Contents) (n : ℕ) (items : List (ℤ × Bool)) → EdgesFound f items → InOrderOfAppearance (flat_map (shell_vertices (solid_listing f n items)) (solid_listing f n items).shells) (length (solid_listing f n items).vertices)
+pub vertices_in_order : (f : Contents) (n : ℕ) (items : List (ℤ × Bool)) → EdgesFound f items
+    → InOrderOfAppearance (flat_map (shell_vertices (solid_listing f n items)) (solid_listing f n items).shells) (length (solid_listing f n items).vertices)
 vertices_in_order f n items found =
-    let ids : flat_map (shell_vertices (solid_listing f n items)) (solid_listing f n items).shells ≡ map (place_of same_vertex (vertices_in f items)) (flat_map (vertices_named f) (tuples_in f items)) =
+    let ids : flat_map (shell_vertices (solid_listing f n items)) (solid_listing f n items).shells ≡ map (place_of same_vertex (vertices_in f items))
+    (flat_map (vertices_named f) (tuples_in f items)) =
     flat_flat shell_uses (vertices_used (solid_listing f n items)) (solid_listing f n items).shells
-    ∙ (ap (flat_map (vertices_used (solid_listing f n items))) (uses_listed f n items) ∙ all_vertices f n items (tuples_in f items) (vertices_one f n items found)) in
+    ∙ (ap (flat_map (vertices_used (solid_listing f n items))) (uses_listed f n items) ∙ all_vertices f n items (tuples_in f items)
+    (vertices_one f n items found)) in
     ap (distinct ◌==◌) ids
     ∙ (places_in_order same_vertex vertex_sound vertex_itself (flat_map (vertices_named f) (tuples_in f items))
     ∙ ap (λ vs. numbers_from 0 (length vs)) (sym (vertices_of_solid f n items)))
@@ -293,28 +327,35 @@ keep_all : {A : Type 0} (p : A → Bool) (xs : List A) → ((a : A) → Has xs a
 keep_all p [] h = refl
 keep_all p (x ∷ xs) h = ap (λ b. cond b (x ∷ filter p xs) (filter p xs)) (h x (inl refl)) ∙ ap (λ zs. x ∷ zs) (keep_all p xs (λ a m. h a (inr m)))
 
-apart_distinct : {A : Type 0} (same : A → A → Bool) (sound : (a b : A) → same a b ≡ true → a ≡ b) (itself : (a : A) → same a a ≡ true) (xs : List A) → AreApart same sound itself xs → distinct same xs ≡ xs
+apart_distinct : {A : Type 0} (same : A → A → Bool) (sound : (a b : A) → same a b ≡ true → a ≡ b) (itself : (a : A) → same a a ≡ true) (xs : List A)
+    → AreApart same sound itself xs → distinct same xs ≡ xs
 apart_distinct same sound itself [] h = refl
 apart_distinct same sound itself (x ∷ xs) h =
     let rest = apart_distinct same sound itself xs h.1 in
     ap (λ zs. x ∷ filter (λ y. not (same x y)) zs) rest
     ∙ ap (λ zs. x ∷ zs) (keep_all (λ y. not (same x y)) xs (λ a m. ap not (symmetric same sound itself a x (h.0 a m))))
 
-keys_of_edges : (f : Contents) (items : List (ℤ × Bool)) (keys : List EdgeKey) → ((key : EdgeKey) → Has keys key → (e : EdgeTuple) × (edge_at f (pos key.«list».0) key.index ≡ Some e)) → map (λ (e : Edge). e.key) (flat_map (edge_by f (keys_in f items)) keys) ≡ keys
+keys_of_edges : (f : Contents) (items : List (ℤ × Bool)) (keys : List EdgeKey)
+    → ((key : EdgeKey) → Has keys key → (e : EdgeTuple) × (edge_at f (pos key.«list».0) key.index ≡ Some e))
+    → map (λ (e : Edge). e.key) (flat_map (edge_by f (keys_in f items)) keys) ≡ keys
 keys_of_edges f items [] h = refl
 keys_of_edges f items (key ∷ keys) h =
     let e = h key (inl refl) in
     ap (λ o. map (λ (x : Edge). x.key) (numbered_by (keys_in f items) key o ++ flat_map (edge_by f (keys_in f items)) keys)) e.1
     ∙ ap (λ zs. key ∷ zs) (keys_of_edges f items keys (λ k m. h k (inr m)))
 
-pub edge_keys_differ : (f : Contents) (n : ℕ) (items : List (ℤ × Bool)) → EdgesFound f items → distinct same_edge (map (λ (e : Edge). e.key) (solid_listing f n items).edges) ≡ map (λ (e : Edge). e.key) (solid_listing f n items).edges
+pub edge_keys_differ : (f : Contents) (n : ℕ) (items : List (ℤ × Bool)) → EdgesFound f items
+    → distinct same_edge (map (λ (e : Edge). e.key) (solid_listing f n items).edges) ≡ map (λ (e : Edge). e.key) (solid_listing f n items).edges
 edge_keys_differ f n items found =
     let keys : map (λ (e : Edge). e.key) (solid_listing f n items).edges ≡ edges_in f items =
     ap (map (λ (e : Edge). e.key)) (edges_of_solid f n items) ∙ keys_of_edges f items (edges_in f items) (key_found f items found) in
     ap (distinct same_edge) keys
-    ∙ (apart_distinct same_edge edge_sound edge_itself (edges_in f items) (distinct_apart same_edge edge_sound edge_itself (flat_map edge_named (tuples_in f items))) ∙ sym keys)
+    ∙ (apart_distinct same_edge edge_sound edge_itself (edges_in f items)
+    (distinct_apart same_edge edge_sound edge_itself (flat_map edge_named (tuples_in f items))) ∙ sym keys)
 
-pub vertex_keys_differ : (f : Contents) (n : ℕ) (items : List (ℤ × Bool)) → distinct same_vertex (solid_listing f n items).vertices ≡ (solid_listing f n items).vertices
+pub vertex_keys_differ : (f : Contents) (n : ℕ) (items : List (ℤ × Bool)) → distinct same_vertex (solid_listing f n items).vertices
+    ≡ (solid_listing f n items).vertices
 vertex_keys_differ f n items =
     ap (distinct same_vertex) (vertices_of_solid f n items)
-    ∙ (apart_distinct same_vertex vertex_sound vertex_itself (vertices_in f items) (distinct_apart same_vertex vertex_sound vertex_itself (flat_map (vertices_named f) (tuples_in f items))) ∙ sym (vertices_of_solid f n items))
+    ∙ (apart_distinct same_vertex vertex_sound vertex_itself (vertices_in f items)
+    (distinct_apart same_vertex vertex_sound vertex_itself (flat_map (vertices_named f) (tuples_in f items))) ∙ sym (vertices_of_solid f n items))

@@ -1,5 +1,6 @@
 -- What a record that was opened shows of its place.
-use Rattle.std.specs.Prelude.{◌≡◌, ℕ, zero, suc, ◌+◌, ◌<◌, ◌≤◌, ◌^◌, ◌/◌, IsSome, IsSomeAnd, IsErrAnd, IfErr, Result, Ok, Err, true, false, ℤ, pos, List, [], ◌∷◌, length, map, Option, Some, None, slice_get, sum_by}
+use Rattle.std.specs.Prelude.{◌≡◌, ℕ, zero, suc, ◌+◌, ◌<◌, ◌≤◌, ◌^◌, ◌/◌, IsSome, IsSomeAnd, IsErrAnd, IfErr, Result, Ok, Err, true, false, ℤ, pos, List, []}
+use Rattle.std.specs.Prelude.{◌∷◌, length, map, Option, Some, None, slice_get, sum_by}
 use Rattle.std.proofs.Common.{refl, sym, ◌∙◌, ap, subst, arith, inl, inr}
 use Rattle.std.proofs.lemmas.List.{length-map}
 use Rattle.std.proofs.lemmas.Option.{same_Some, none-some}
@@ -11,7 +12,8 @@ use Rattle.iges_params.specs.Named.{named, record_values, values_of}
 use Rattle.brep_lists.specs.DueValues.{DueValue, pointer, number, flag, at_least_one, count, coordinate, MayBeMissing, MeetsAll}
 use Rattle.brep_lists.specs.Record.{Items, items_of, due, pair_due, tuple_due, edge_due, vertex_due, Fits, IsRecordOf}
 use Rattle.brep_lists.specs.declared.entity_kind.EntityKind.{EntityKind}
-use Rattle.brep_lists.specs.declared.entity_kind.EntityKind.TheVariants.{Solid as solid, Shell as shell, Face as face, Loop as «loop», EdgeList as edges, VertexList as vertices}
+use Rattle.brep_lists.specs.declared.entity_kind.EntityKind.TheVariants.{Solid as solid, Shell as shell, Face as face, Loop as «loop», EdgeList as edges}
+use Rattle.brep_lists.specs.declared.entity_kind.EntityKind.TheVariants.{VertexList as vertices}
 use Rattle.solid_data.specs.Obligations.{AllHold, FirstFalse, obligation, entry_number}
 use Rattle.solid_data.proofs.ObligationLemmas.{FirstFalse-append_front}
 use Rattle.solid_data.specs.declared.verdict.Failing.{Failing}
@@ -23,27 +25,32 @@ use Rattle.brep_walk.proofs.Few.{name_parts, each_some}
 
 -- Whether the record is of the kind.
 
-pub record_of : (kind : EntityKind) (o : Option (Entry × List Value)) → IsSome o → (items : Items kind) → Fits kind (record_values o) items → items ≡ items_of kind (record_values o)
+pub record_of : (kind : EntityKind) (o : Option (Entry × List Value)) → IsSome o → (items : Items kind) → Fits kind (record_values o) items
+    → items ≡ items_of kind (record_values o)
     → IsSomeAnd o (λ e. IsRecordOf kind e.1)
 record_of kind None some items fits read = absurd (let g : false ≡ true = some in cc)
 record_of kind (Some e) some items fits read = subst (Fits kind e.1) read fits
 
-pub no_record : (kind : EntityKind) (o : Option (Entry × List Value)) → ((items : Items kind) → ¬ Fits kind (record_values o) items) → ¬ IsSomeAnd o (λ e. IsRecordOf kind e.1)
+pub no_record : (kind : EntityKind) (o : Option (Entry × List Value)) → ((items : Items kind) → ¬ Fits kind (record_values o) items)
+    → ¬ IsSomeAnd o (λ e. IsRecordOf kind e.1)
 no_record kind None none h = h
 no_record kind (Some e) none h = none (items_of kind e.1) h
 
 -- y is the number as a callee was given it
 module _ (kind : EntityKind) (f : Contents) (entity : ℤ) (place : ℕ) (z y : ℤ) (same : y ≡ z) where
-  pub opened : (vs : List Value) (items : Items kind) → AllHold (entry_places f entity place kind y) → vs ≡ values_of f y → Fits kind vs items → items ≡ items_of kind vs
+  pub opened : (vs : List Value) (items : Items kind) → AllHold (entry_places f entity place kind y) → vs ≡ values_of f y → Fits kind vs items
+      → items ≡ items_of kind vs
       → AllHold (record_places f entity place kind z)
   opened vs items all at fits read = subst (λ x. AllHold (record_places f entity place kind x)) same
       (all.0, (all.1.0, (record_of kind (named f y) all.0 items (subst (λ ws. Fits kind ws items) at fits) (read ∙ ap (items_of kind) at), tt)))
 
-  pub told_so : (n : ℕ) (vs : List Value) (items : Items kind) → y ≡ pos n → vs ≡ values_of f y → items ≡ items_of kind vs → (z ≡ pos n) × (items ≡ told kind f z)
+  pub told_so : (n : ℕ) (vs : List Value) (items : Items kind) → y ≡ pos n → vs ≡ values_of f y → items ≡ items_of kind vs
+      → (z ≡ pos n) × (items ≡ told kind f z)
   told_so n vs items is at read = (sym same ∙ is, read ∙ (ap (items_of kind) at ∙ ap (told kind f) same))
 
   pub not_opened : (n : ℕ) (vs : List Value) (x : Failing) → AllHold (entry_places f entity place kind y) → y ≡ pos n → vs ≡ values_of f y
-      → ((items : Items kind) → ¬ Fits kind vs items) → x ≡ record { rule = BadLayout; entity = record { 0 = n }; place = 0 } → FirstFalse (record_places f entity place kind z) x
+      → ((items : Items kind) → ¬ Fits kind vs items) → x ≡ record { rule = BadLayout; entity = record { 0 = n }; place = 0 }
+      → FirstFalse (record_places f entity place kind z) x
   not_opened n vs x all is at none made = subst (λ w. FirstFalse (record_places f entity place kind w) x) same
       (inr (
         all.0,
@@ -60,7 +67,8 @@ module _ (kind : EntityKind) (f : Contents) (entity : ℤ) (place : ℕ) (z y : 
   front_false x h = subst (λ w. FirstFalse (record_places f entity place kind w) x) same
       (FirstFalse-append_front (entry_places f entity place kind y) (obligation BadLayout (entry_number y) 0 (HasRecordOf kind f y) ∷ []) x h)
 
-  pub not_named : {T : Type 0} (r : Result T Failing) (x : Failing) → FirstFalse (entry_places f entity place kind y) x → IsErrAnd r (λ e. e ≡ x) → IfErr r (FirstFalse (record_places f entity place kind z))
+  pub not_named : {T : Type 0} (r : Result T Failing) (x : Failing) → FirstFalse (entry_places f entity place kind y) x → IsErrAnd r (λ e. e ≡ x)
+      → IfErr r (FirstFalse (record_places f entity place kind z))
   not_named (Ok v) x h e = tt
   not_named (Err w) x h e = subst (FirstFalse (record_places f entity place kind z)) (sym e) (front_false x h)
 
@@ -88,7 +96,8 @@ due_length «loop» tuples = omega (arith, each_some tuple_due tuples (λ x h. o
 due_length edges tuples = omega (arith, each_some edge_due tuples (λ x h. omega arith))
 due_length vertices triples = omega (arith, each_some vertex_due triples (λ x h. omega arith))
 
-entry_total : (es : List (Entry × List Value)) (k : ℕ) (e : Entry × List Value) → slice_get es k ≡ Some e → length e.1 ≤ total (λ (x : Entry × List Value). length x.1) es
+entry_total : (es : List (Entry × List Value)) (k : ℕ) (e : Entry × List Value) → slice_get es k ≡ Some e
+    → length e.1 ≤ total (λ (x : Entry × List Value). length x.1) es
 entry_total [] k e h = absurd (none-some e h)
 entry_total (x ∷ es) zero e h = let same : length x.1 ≡ length e.1 = ap (λ (y : Entry × List Value). length y.1) (same_Some x e h) in omega (arith, same)
 entry_total (x ∷ es) (suc k) e h = omega (arith, entry_total es k e h)
@@ -101,7 +110,8 @@ values_few f z limits here =
     omega (arith, entry_total f.entries (p.number / 2) p.entry p.there, p.size, most, fold-total (λ (e : Entry × List Value). length e.1) 0 f.entries)
 
 -- an entry that a number names, whose values tell these items
-pub named_few : (kind : EntityKind) (f : Contents) (z : ℤ) → FitsLimits f → Names f z → (vs : List Value) (items : Items kind) → vs ≡ values_of f z → Fits kind vs items → item_count kind items < 2 ^ 31
+pub named_few : (kind : EntityKind) (f : Contents) (z : ℤ) → FitsLimits f → Names f z → (vs : List Value) (items : Items kind) → vs ≡ values_of f z
+    → Fits kind vs items → item_count kind items < 2 ^ 31
 named_few kind f z limits here vs items at fits =
     omega (arith, due_length kind items, met_length (due kind items) vs fits, values_few f z limits here, ap (λ (ws : List Value). length ws) at)
 

@@ -21,7 +21,8 @@ placed_contains ns n p within is =
     (p, inside, get_or-map pos ns p 0 (pos n) within ∙ ap pos is)
 
 -- positions that differ at a number that isn't there
-pub still_placed : (old new ns : List ℕ) (n : ℕ) → ArePlaced old ns → ¬ Contains (map pos ns) (pos n) → ((m : ℕ) → m ≢ n → slice_index new m ≡ slice_index old m) → ArePlaced new ns
+pub still_placed : (old new ns : List ℕ) (n : ℕ) → ArePlaced old ns → ¬ Contains (map pos ns) (pos n)
+    → ((m : ℕ) → m ≢ n → slice_index new m ≡ slice_index old m) → ArePlaced new ns
 still_placed old new ns n placed absent others p within =
     others (slice_index ns p) (λ is. absent (placed_contains ns n p within is)) ∙ placed p within
 
@@ -37,7 +38,8 @@ placed_more old new ns n placed absent others here p within = by_case (cases_lt 
         ap (slice_index new) (get_or_at ns n [] 0 p (sym at)) ∙ (here ∙ sym at)
 
 -- whether the number that stands at its position is the one that was looked up
-pub has_at : (ps ns : List ℕ) (zs : List ℤ) → map pos ns ≡ zs → ArePlaced ps ns → (n p : ℕ) → p ≡ slice_index ps n → (seen : List ℕ) → seen ≡ ns → (x : ℕ) → p < length seen → ((d : ℕ) → x ≡ get_or seen p d)
+pub has_at : (ps ns : List ℕ) (zs : List ℤ) → map pos ns ≡ zs → ArePlaced ps ns → (n p : ℕ) → p ≡ slice_index ps n → (seen : List ℕ) → seen ≡ ns → (x : ℕ)
+    → p < length seen → ((d : ℕ) → x ≡ get_or seen p d)
     → IsTrue (nat_eq x n) ↔ Contains zs (pos n)
 has_at ps ns zs are placed n p at seen same x within is = (
   (λ t. subst (λ l. Contains l (pos n)) are (placed_contains ns n p (subst (λ l. p < length l) same within) (sym here ∙ eqb-true x n t))),
@@ -53,7 +55,8 @@ has_at ps ns zs are placed n p at seen same x within is = (
         eq-eqb x n (here ∙ (ap (slice_index ns) place ∙ h.2))
 
 -- where there is none, the number isn't there
-pub none_at : (ps ns : List ℕ) (zs : List ℤ) → map pos ns ≡ zs → ArePlaced ps ns → (n p : ℕ) → p ≡ slice_index ps n → (seen : List ℕ) → seen ≡ ns → length seen ≤ p → IsTrue false ↔ Contains zs (pos n)
+pub none_at : (ps ns : List ℕ) (zs : List ℤ) → map pos ns ≡ zs → ArePlaced ps ns → (n p : ℕ) → p ≡ slice_index ps n → (seen : List ℕ) → seen ≡ ns
+    → length seen ≤ p → IsTrue false ↔ Contains zs (pos n)
 none_at ps ns zs are placed n p at seen same past = (
   (λ t. absurd (let g : false ≡ true = t in cc)),
   (λ h. absurd (beyond (among_placed ns n (subst (λ l. Contains l (pos n)) (sym are) h)))),

@@ -38,21 +38,29 @@ use Rattle.brep_walk.proofs.WholeSolid.{tuples_of_faces, first_keys, Extends-its
 -- The record.
 
 module _ (f : Contents) (n : ℕ) where
-  pub shell_opened : (vs : List Value) (items : List (ℤ × Bool)) → AllHold (shell_entry_places f n) → vs ≡ values_of f (pos n) → Fits shell vs items → items ≡ items_of shell vs → AllHold (shell_record_places f n)
-  shell_opened vs items all at fits read = (all.0, (all.1.0, (record_of shell (named f (pos n)) all.0 items (subst (λ ws. Fits shell ws items) at fits) (read ∙ ap (items_of shell) at), tt)))
+  pub shell_opened : (vs : List Value) (items : List (ℤ × Bool)) → AllHold (shell_entry_places f n) → vs ≡ values_of f (pos n) → Fits shell vs items
+      → items ≡ items_of shell vs → AllHold (shell_record_places f n)
+  shell_opened vs items all at fits read =
+      (all.0, (all.1.0, (record_of shell (named f (pos n)) all.0 items (subst (λ ws. Fits shell ws items) at fits) (read ∙ ap (items_of shell) at), tt)))
 
-  pub shell_not_opened : (vs : List Value) (x : Failing) → AllHold (shell_entry_places f n) → vs ≡ values_of f (pos n) → ((items : Items shell) → ¬ Fits shell vs items)
+  pub shell_not_opened : (vs : List Value) (x : Failing) → AllHold (shell_entry_places f n) → vs ≡ values_of f (pos n)
+      → ((items : Items shell) → ¬ Fits shell vs items)
       → x ≡ record { rule = BadLayout; entity = record { 0 = n }; place = 0 } → FirstFalse (shell_record_places f n) x
   shell_not_opened vs x all at none made =
       inr (all.0, inr (all.1.0, inl (no_record shell (named f (pos n)) (λ items fits. none items (subst (λ ws. Fits shell ws items) (sym at) fits)), made)))
 
-  pub not_a_shell : {T : Type 0} (r : Result T Failing) (x : Failing) → FirstFalse (shell_entry_places f n) x → IsErrAnd r (λ e. e ≡ x) → IfErr r (FirstFalse (shell_record_places f n))
+  pub not_a_shell : {T : Type 0} (r : Result T Failing) (x : Failing) → FirstFalse (shell_entry_places f n) x → IsErrAnd r (λ e. e ≡ x)
+      → IfErr r (FirstFalse (shell_record_places f n))
   not_a_shell (Ok v) x h e = tt
-  not_a_shell (Err w) x h e = subst (FirstFalse (shell_record_places f n)) (sym e) (FirstFalse-append_front (shell_entry_places f n) (obligation BadLayout n 0 (HasRecordOf shell f (pos n)) ∷ []) x h)
+  not_a_shell (Err w) x h e =
+      subst (FirstFalse (shell_record_places f n)) (sym e)
+      (FirstFalse-append_front (shell_entry_places f n) (obligation BadLayout n 0 (HasRecordOf shell f (pos n)) ∷ []) x h)
 
-  pub no_shell_record : {T : Type 0} (r : Result T WalkFault) (x : Failing) → FirstFalse (shell_record_places f n) x → IsErrAnd r (λ e. e ≡ Fails x) → IfErr r (IsFault (open_places f n))
+  pub no_shell_record : {T : Type 0} (r : Result T WalkFault) (x : Failing) → FirstFalse (shell_record_places f n) x → IsErrAnd r (λ e. e ≡ Fails x)
+      → IfErr r (IsFault (open_places f n))
   unfolding open_places
-  no_shell_record r x h = handed_failing (open_places f n) r x (fault_front (shell_record_places f n) (after_each (face_places f (pos n) []) [] (faces f (pos n))) (Fails x) h)
+  no_shell_record r x h =
+      handed_failing (open_places f n) r x (fault_front (shell_record_places f n) (after_each (face_places f (pos n) []) [] (faces f (pos n))) (Fails x) h)
 
 -- The faces: g is the file behind the lists, and used the faces that were named before.
 
@@ -61,7 +69,8 @@ module _ (f : Contents) (n : ℕ) (listed : List (ℤ × Bool)) (is : listed ≡
   one = (pos n, true) ∷ []
 
   module _ (used : List ℤ) (none : used ≡ []) where
-    pub faces_fault : {T : Type 0} (r : Result T WalkFault) (w : WalkFault) → AllHold (shell_record_places f n) → IsFault (after_each (face_places g (pos n) used) [] listed) w → IsErrAnd r (λ e. e ≡ w) → IfErr r (IsFault (open_places f n))
+    pub faces_fault : {T : Type 0} (r : Result T WalkFault) (w : WalkFault) → AllHold (shell_record_places f n)
+        → IsFault (after_each (face_places g (pos n) used) [] listed) w → IsErrAnd r (λ e. e ≡ w) → IfErr r (IsFault (open_places f n))
     unfolding open_places
     faces_fault r w holds h = handed (open_places f n) r w
         (fault_rest (shell_record_places f n) (after_each (face_places f (pos n) []) [] (faces f (pos n))) w holds
@@ -94,20 +103,26 @@ module _ (f : Contents) (n : ℕ) (listed : List (ℤ × Bool)) (is : listed ≡
         h keys (Extends-itself keys) ∙ (ap (λ k. map (face_by k keys) listed) file
         ∙ (ap (map (face_by f keys)) is ∙ ap (λ k. map (face_by f k) (faces f (pos n))) keys_whole))
 
-    pub edges_whole : (numbered : Numbered) → numbered.keys ≡ keys → AreEdges g numbered → numbered.edges ≡ flat_map (edge_by f (keys_in f one)) (edges_in f one)
+    pub edges_whole : (numbered : Numbered) → numbered.keys ≡ keys → AreEdges g numbered
+        → numbered.edges ≡ flat_map (edge_by f (keys_in f one)) (edges_in f one)
     edges_whole numbered is_keys h =
         h numbered.keys (Extends-itself numbered.keys) ∙ (ap (λ k. flat_map (edge_by k numbered.keys) numbered.keys.edges) file
         ∙ ap (λ (k : Keys). flat_map (edge_by f k) k.edges) (is_keys ∙ keys_whole))
 
 -- The solid.
 
-pub shell_solid_is : (f : Contents) (entry : EntryNo) (made : List FaceUse) (shells : List Shell) → shells ≡ [] → (pushed : List Shell) → pushed ≡ shells ++ record { entity = entry; flag = true; faces = made } ∷ [] → made ≡ map (face_by f (keys_in f ((pos entry.0, true) ∷ []))) (faces f (pos entry.0))
-    → (edges : List Edge) (vertices : List VertexKey) (numbered : Numbered) → edges ≡ numbered.edges → numbered.edges ≡ flat_map (edge_by f (keys_in f ((pos entry.0, true) ∷ []))) (edges_in f ((pos entry.0, true) ∷ []))
-    → vertices ≡ numbered.keys.vertices → numbered.keys ≡ keys_in f ((pos entry.0, true) ∷ []) → record { entity = entry; shells = pushed; edges = edges; vertices = vertices } ≡ shell_solid_of f entry.0
+pub shell_solid_is : (f : Contents) (entry : EntryNo) (made : List FaceUse) (shells : List Shell) → shells ≡ [] → (pushed : List Shell)
+    → pushed ≡ shells ++ record { entity = entry; flag = true; faces = made } ∷ []
+    → made ≡ map (face_by f (keys_in f ((pos entry.0, true) ∷ []))) (faces f (pos entry.0))
+    → (edges : List Edge) (vertices : List VertexKey) (numbered : Numbered) → edges ≡ numbered.edges
+    → numbered.edges ≡ flat_map (edge_by f (keys_in f ((pos entry.0, true) ∷ []))) (edges_in f ((pos entry.0, true) ∷ []))
+    → vertices ≡ numbered.keys.vertices → numbered.keys ≡ keys_in f ((pos entry.0, true) ∷ [])
+    → record { entity = entry; shells = pushed; edges = edges; vertices = vertices } ≡ shell_solid_of f entry.0
 unfolding solid_listing
 shell_solid_is f entry made shells first pushed a faces_are edges vertices numbered b c d e = λ j. record {
   entity = entry;
-  shells = (a ∙ ap (λ hs. hs ++ record { entity = entry; flag = true; faces = made } ∷ []) first ∙ ap (λ cs. record { entity = entry; flag = true; faces = cs } ∷ []) faces_are) j;
+  shells = (a ∙ ap (λ hs. hs ++ record { entity = entry; flag = true; faces = made } ∷ []) first
+      ∙ ap (λ cs. record { entity = entry; flag = true; faces = cs } ∷ []) faces_are) j;
   edges = (b ∙ c) j;
   vertices = (d ∙ ap (λ (k : Keys). k.vertices) e) j;
 }
@@ -117,7 +132,8 @@ unfolding open_places
 listed_shell f n all item (inr h) = absurd h
 listed_shell f n all item (inl same) =
     let hold = AllHold-append_right (shell_record_places f n) (after_each (face_places f (pos n) []) [] (faces f (pos n))) all in
-    subst (λ (i : ℤ × Bool). HasRecordOf shell f i.0 × ((c : ℤ × Bool) → Has (faces f i.0) c → (u : List ℤ) × (d : List (ℤ × Bool)) × AllHold (face_places f i.0 u d c))) same
+    subst (λ (i : ℤ × Bool). HasRecordOf shell f i.0
+    × ((c : ℤ × Bool) → Has (faces f i.0) c → (u : List ℤ) × (d : List (ℤ × Bool)) × AllHold (face_places f i.0 u d c))) same
     (all.1.1.0, λ c m. let k = of_item (face_places f (pos n) []) [] (faces f (pos n)) c hold m in ([], k.0, k.1))
 
 shell_named : (f : Contents) (n : ℕ) → AllHold (open_places f n) → Names f (pos n)
@@ -129,7 +145,8 @@ shell_fresh : (f : Contents) (n : ℕ) → AllHold (open_places f n) → Fresh [
 unfolding open_places
 shell_fresh f n all =
     subst (λ cs. Fresh [] (flat_map (loops f) cs)) (sym (append-nil (numbers (faces f (pos n)))))
-    (loops_of_faces f (pos n) [] [] (faces f (pos n)) (AllHold-append_right (shell_record_places f n) (after_each (face_places f (pos n) []) [] (faces f (pos n))) all))
+    (loops_of_faces f (pos n) [] [] (faces f (pos n))
+    (AllHold-append_right (shell_record_places f n) (after_each (face_places f (pos n) []) [] (faces f (pos n))) all))
 
 pub shell_is_numbered : (f : Contents) (n : ℕ) → FitsLimits f → AllHold (open_places f n) → IsNumberedSolid (shell_solid_of f n)
 shell_is_numbered f n limits all =

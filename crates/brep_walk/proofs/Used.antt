@@ -51,14 +51,16 @@ edge_place old new later key put more =
     sym (place_stays same_edge new.edges more.more_edges key (ap (list_any (same_edge key)) put ∙ inserted same_edge edge_itself old key))
     ∙ ap (λ l. place_of same_edge l key) (sym more.edges)
 
-pub vertex_made : (t : LoopTuple) → t.is_vertex ≡ true → (old : List VertexKey) (new later : Keys) (key : VertexKey) (v : VertexId) → key ≡ vertex_key t.«list» t.index
+pub vertex_made : (t : LoopTuple) → t.is_vertex ≡ true → (old : List VertexKey) (new later : Keys) (key : VertexKey) (v : VertexId)
+    → key ≡ vertex_key t.«list» t.index
     → new.vertices ≡ insert_key same_vertex old key → v.0 ≡ place_of same_vertex new.vertices key → Extends new later → VertexUse v ≡ use_by later t
 vertex_made t is old new later key v named put id more =
     ap (λ n. VertexUse (record { 0 = n })) (id ∙ (vertex_place old new later key put more ∙ ap (place_of same_vertex later.vertices) named))
     ∙ sym (ap (λ b. if b then VertexUse (record { 0 = place_of same_vertex later.vertices (vertex_key t.«list» t.index) })
     else EdgeUse (record { 0 = place_of same_edge later.edges (edge_key t.«list» t.index) }) t.flag) is)
 
-pub edge_made : (t : LoopTuple) → t.is_vertex ≡ false → (old : List EdgeKey) (new later : Keys) (key : EdgeKey) (e : EdgeId) (along : Bool) → key ≡ edge_key t.«list» t.index
+pub edge_made : (t : LoopTuple) → t.is_vertex ≡ false → (old : List EdgeKey) (new later : Keys) (key : EdgeKey) (e : EdgeId) (along : Bool)
+    → key ≡ edge_key t.«list» t.index
     → new.edges ≡ insert_key same_edge old key → e.0 ≡ place_of same_edge new.edges key → along ≡ t.flag → Extends new later → EdgeUse e along ≡ use_by later t
 edge_made t is old new later key e along named put id flag more =
     ap (λ n. EdgeUse (record { 0 = n }) along) (id ∙ (edge_place old new later key put more ∙ ap (place_of same_edge later.edges) named))
@@ -69,8 +71,13 @@ edge_made t is old new later key e along named put id flag more =
 -- The edges after one more was put in.
 
 pub edges_put : (f : Contents) (l j : ℤ) (old new : Numbered) (key : EdgeKey) (ends : EdgeTuple) (from to : VertexKey) → AreEdges f old
-    → key ≡ edge_key l j → edge_at f l (entry_number j) ≡ Some ends → from ≡ vertex_key ends.start_list ends.start_index → to ≡ vertex_key ends.end_list ends.end_index
-    → new.keys ≡ record { edges = insert_key same_edge old.keys.edges key; vertices = insert_key same_vertex (insert_key same_vertex old.keys.vertices from) to }
+    → key ≡ edge_key l j → edge_at f l (entry_number j) ≡ Some ends → from ≡ vertex_key ends.start_list ends.start_index
+    → to ≡ vertex_key ends.end_list ends.end_index
+    → new.keys ≡ record {
+      edges = insert_key same_edge old.keys.edges key;
+      vertices = insert_key same_vertex (insert_key same_vertex old.keys.vertices from)
+          to;
+    }
     → new.edges ≡ (if list_any (same_edge key) old.keys.edges then old.edges else old.edges ++ record {
       key = key;
       from = record { 0 = place_of same_vertex new.keys.vertices from };
@@ -123,7 +130,12 @@ edges_put f l j old new key ends from to before named at start end keys is later
     } ∷ []
     mine =
         ap (numbered_by later key) (ap (λ (k : EdgeKey). edge_at f (pos k.«list».0) k.index) named ∙ by_key f l (entry_number j) ends at)
-        ∙ (ap (λ n. record { key = key; from = record { 0 = n }; to = record { 0 = place_of same_vertex later.vertices (vertex_key ends.end_list ends.end_index) } } ∷ []) (sym from_place)
+        ∙ (ap (λ n. record {
+          key = key;
+          from = record { 0 = n };
+          to =
+              record { 0 = place_of same_vertex later.vertices (vertex_key ends.end_list ends.end_index) };
+        } ∷ []) (sym from_place)
         ∙ ap (λ n. record { key = key; from = record { 0 = place_of same_vertex new.keys.vertices from }; to = record { 0 = n } } ∷ []) (sym to_place))
 
     by_test : (t : Bool) → (if t then old.edges else old.edges ++ record {
@@ -145,14 +157,16 @@ edges_put f l j old new key ends from to before named at start end keys is later
         mine_last = append-nil (edge_by f later key)
 
 -- The places of a used edge: g is the file behind the lists once the edge was looked at, and l2 and j2 are the numbers as it was given them.
-pub ends_fault : {T : Type 0} (r : Result T WalkFault) (w : WalkFault) (f g : Contents) → g ≡ f → (entity : ℤ) (place : ℕ) (l j l2 j2 : ℤ) → l2 ≡ l → j2 ≡ j → (key : EdgeKey) (ends : EdgeTuple) → key ≡ edge_key l2 j2
+pub ends_fault : {T : Type 0} (r : Result T WalkFault) (w : WalkFault) (f g : Contents) → g ≡ f → (entity : ℤ) (place : ℕ) (l j l2 j2 : ℤ) → l2 ≡ l → j2 ≡ j
+    → (key : EdgeKey) (ends : EdgeTuple) → key ≡ edge_key l2 j2
     → edge_at f l2 (entry_number j2) ≡ Some ends → AllHold (item_places f entity place edges l2 j2 (length (told edges f l2)))
     → IsFault (edge_places g (pos key.«list».0) key.index (Some ends)) w → IsErrAnd r (λ v. v ≡ w) → IfErr r (IsFault (used_places f entity place l j false))
 ends_fault r w f g same entity place l j l2 j2 a b key ends named at holds h =
     handed (used_places f entity place l j false) r w
     (subst (λ x. IsFault (used_places f entity place l x false) w) b
     (subst (λ x. IsFault (used_places f entity place x j2 false) w) a
-    (fault_rest (item_places f entity place edges l2 j2 (length (told edges f l2))) (edge_places f l2 (entry_number j2) (edge_at f l2 (entry_number j2))) w holds
+    (fault_rest (item_places f entity place edges l2 j2 (length (told edges f l2))) (edge_places f l2 (entry_number j2) (edge_at f l2 (entry_number j2))) w
+    holds
     (subst (λ o. IsFault (edge_places f l2 (entry_number j2) o) w) (sym at)
     (subst (λ (k : EdgeKey). IsFault (edge_places f (pos k.«list».0) k.index (Some ends)) w) named
     (subst (λ x. IsFault (edge_places x (pos key.«list».0) key.index (Some ends)) w) same h))))))

@@ -7,3 +7,7 @@ pub mod Stands
 pub mod Placed
 pub mod OpenPlaces
 pub mod Counts
+pub mod Marked
+pub mod Known
+pub mod Walks
+pub mod Here

@@ -1,10 +1,12 @@
 -- The obligations on the records of a solid, in order.
-use Rattle.std.specs.Prelude.{◌≡◌, ℕ, ◌+◌, ◌-◌, ◌≤◌, Bool, true, false, ℤ, pos, List, [], ◌∷◌, ◌++◌, length, map, flat_map, slice_get, All, Contains, Option, Some, None, IsSome, IsSomeAnd}
+use Rattle.std.specs.Prelude.{◌≡◌, ℕ, ◌+◌, ◌-◌, ◌≤◌, Bool, true, false, ℤ, pos, List, [], ◌∷◌, ◌++◌, length, map, flat_map, slice_get, All, Contains, Option}
+use Rattle.std.specs.Prelude.{Some, None, IsSome, IsSomeAnd}
 use Rattle.iges_params.specs.Contents.{Contents}
 use Rattle.iges_params.specs.Named.{named, values_of}
 use Rattle.brep_lists.specs.Record.{type_number, HasForm, Items, LoopTuple, items_of, IsRecordOf}
 use Rattle.brep_lists.specs.declared.entity_kind.EntityKind.{EntityKind}
-use Rattle.brep_lists.specs.declared.entity_kind.EntityKind.TheVariants.{Solid as solid, Shell as shell, Face as face, Loop as «loop», EdgeList as edges, VertexList as vertices}
+use Rattle.brep_lists.specs.declared.entity_kind.EntityKind.TheVariants.{Solid as solid, Shell as shell, Face as face, Loop as «loop», EdgeList as edges}
+use Rattle.brep_lists.specs.declared.entity_kind.EntityKind.TheVariants.{VertexList as vertices}
 use Rattle.brep_lists.specs.declared.edge_list.EdgeTuple.{EdgeTuple}
 use Rattle.solid_data.specs.Obligations.{Obligation, obligation, entry_number, after_each}
 use Rattle.solid_data.specs.declared.verdict.Rule.TheVariants.{NoEntry, WrongKind, BadLayout, Twice, BadIndex, BadGeometry}
@@ -80,7 +82,8 @@ used_places f l place e j false =
 -- A tuple of a loop, at its place.
 abbrev pub tuple_at : Contents → ℤ → ℕ → LoopTuple → List Obligation
 tuple_at f l place t =
-    used_places f l place t.«list» t.index t.is_vertex ++ (obligation BadGeometry (entry_number l) place (All (λ (c : Bool × ℤ). NamesGeometry f c.1) t.curves) ∷ [])
+    used_places f l place t.«list» t.index t.is_vertex
+    ++ (obligation BadGeometry (entry_number l) place (All (λ (c : Bool × ℤ). NamesGeometry f c.1) t.curves) ∷ [])
 
 unfoldable pub tuple_places : Contents → ℤ → List LoopTuple → LoopTuple → List Obligation
 tuple_places f l before t = tuple_at f l (length before + 1) t
@@ -122,6 +125,7 @@ shell_at f n place known s =
 unfoldable pub shell_places : Contents → ℤ → List (ℤ × Bool) → ℤ × Bool → List Obligation
 shell_places f n before item = shell_at f n (length before + 1) (numbers before) item.0
 
--- The obligations of solid n, depth first. Up to the first false one each speaks of entries, records and items that those before it have shown to be there; what comes after that one is never looked at.
+-- The obligations of solid n, depth first. Up to the first false one each speaks of entries, records and items that those before it have shown to be there;
+-- what comes after that one is never looked at.
 unfoldable pub places : Contents → ℕ → List Obligation
 places f n = record_places f (pos n) 0 solid (pos n) ++ after_each (shell_places f (pos n)) [] (shells f (pos n))

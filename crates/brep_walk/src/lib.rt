@@ -1,21 +1,18 @@
 //! The walk through the records of a solid: what their places must name, and the solid that they describe.
 #![tactic(auto)]
 
-mod faces;
 mod fault;
-mod index;
 mod law;
 mod lists;
-mod loops;
+mod marks;
+mod members;
 mod naming;
 mod once;
 mod place;
 mod records;
 mod shell_walking;
-mod shells;
 mod state;
 mod tuples;
-mod walker;
 mod walking;
 
 pub use fault::WalkFault;
@@ -23,5 +20,4 @@ pub use law::{
     open_places_are_definite, places_are_definite, shell_solid_is_numbered, solid_is_numbered,
 };
 pub use shell_walking::walk_shell;
-pub use walker::Walker;
-pub use walking::walk;
+pub use walking::{Walker, walk};

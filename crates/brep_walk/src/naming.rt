@@ -1,13 +1,13 @@
-//! What the numbers in records name.
+//! What the numbers and the indices in records name.
 
-ghost use Rattle.std.specs.Prelude.{◌≡◌, ◌↔◌, IsTrue, ◌∷◌, [], pos, MatchOption, IfOk, IfErr, OnOk};
 ghost use Rattle.brep_lists.specs.Record.{HasForm, type_number};
 ghost use Rattle.brep_lists.specs.declared.entity_kind.EntityKind.{EntityKind};
-ghost use Rattle.brep_walk.specs.Places.{Names, NamesGeometry, entry_places};
-ghost use Rattle.iges_params.specs.Named.{values_of};
+ghost use Rattle.brep_walk.specs.Places.{NamesGeometry, entry_places, IsIndex};
 ghost use Rattle.iges_params.specs.Limits.{FitsLimits};
+ghost use Rattle.iges_params.specs.Named.{values_of};
 ghost use Rattle.solid_data.specs.Obligations.{AllHold, FirstFalse, obligation};
-ghost use Rattle.solid_data.specs.declared.verdict.Rule.TheVariants.{BadGeometry};
+ghost use Rattle.solid_data.specs.declared.verdict.Rule.TheVariants.{BadGeometry, BadIndex};
+ghost use Rattle.std.specs.Prelude.{◌≡◌, ◌↔◌, IsTrue, ◌∷◌, [], pos, IfOk, IfErr, OnOk};
 
 use crate::place::Place;
 use brep_lists::EntityKind;
@@ -15,18 +15,6 @@ use iges_directory::Entry;
 use iges_fields::{EntryNo, Values};
 use iges_params::File;
 use solid_data::{Failing, Rule};
-
-// The number as an entry's, unless it lies outside the directory.
-fn entry_no(file: &File, number: i64) -> Option<EntryNo>
-    ensures named { MatchOption result (¬ Names file.now number) (λ no. number ≡ pos no.0) }
-    ensures limits { FitsLimits file.now }
-{
-    let lines = 2 * file.entry_count();
-    match u32::try_from(number) {
-        Ok(no) if (no as usize) < lines => Some(EntryNo(no)),
-        _ => None,
-    }
-}
 
 // Whether the entry has the type, and a form that is accepted.
 fn is_of_kind(entry: &Entry, kind: EntityKind) -> bool
@@ -59,7 +47,7 @@ pub fn entry_at(file: &File, at: Place, kind: EntityKind, number: i64) -> Result
         (entry_places file.now (pos at.entity.0) at.item kind number)) }
     ensures limits { FitsLimits file.now }
 {
-    let Some(no) = entry_no(file, number) else {
+    let Some(no) = file.entry_no_of(number) else {
         return Err(at.fails(Rule::NoEntry));
     };
     let (Some(entry), Some(values)) = (file.entry(no), file.values(no)) else {
@@ -75,11 +63,24 @@ pub fn entry_at(file: &File, at: Place, kind: EntityKind, number: i64) -> Result
 pub fn names_geometry(file: &File, number: i64) -> bool
     ensures { IsTrue result ↔ NamesGeometry file.now number }
 {
-    let Some(no) = entry_no(file, number) else {
+    let Some(no) = file.entry_no_of(number) else {
         return false;
     };
     match file.entry(no) {
         Some(entry) => is_geometry(entry),
         None => false,
+    }
+}
+
+/// The index that is at a place, where it is one of a list of so many items, from 1.
+pub fn index_in(count: u32, at: Place, index: i64) -> Result<u32, Failing>
+    ensures holds { OnOk result (IsIndex index count) }
+    ensures index { IfOk result (λ i. index ≡ pos i) }
+    ensures fails { IfErr result (FirstFalse
+        (obligation BadIndex at.entity.0 at.item (IsIndex index count) ∷ [])) }
+{
+    match u32::try_from(index) {
+        Ok(i) if 1 <= i && i <= count => Ok(i),
+        _ => Err(at.fails(Rule::BadIndex)),
     }
 }

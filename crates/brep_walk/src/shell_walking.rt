@@ -33,21 +33,18 @@ fn is_shell(entry: &Entry) -> bool
 }
 
 // The values of the shell's record.
-fn shell_values(file: &File, no: EntryNo) -> Result<&Values, Failing>
-    ensures holds { OnOk result (AllHold (shell_entry_places file.now no.0)) }
-    ensures values { IfOk result (λ values. values.now ≡ values_of file.now (pos no.0)) }
-    ensures fails { IfErr result (FirstFalse (shell_entry_places file.now no.0)) }
+fn shell_values(file: &File, entity: EntryNo) -> Result<&Values, Failing>
+    ensures holds { OnOk result (AllHold (shell_entry_places file.now entity.0)) }
+    ensures values { IfOk result (λ values. values.now ≡ values_of file.now (pos entity.0)) }
+    ensures fails { IfErr result (FirstFalse (shell_entry_places file.now entity.0)) }
     ensures limits { FitsLimits file.now }
 {
-    let place = Place {
-        entity: no,
-        item: 0,
-    };
+    let place = Place { entity, item: 0 };
     let lines = 2 * file.entry_count();
-    if (no.0 as usize) >= lines {
+    if (entity.0 as usize) >= lines {
         return Err(place.fails(Rule::NoEntry));
     }
-    let (Some(entry), Some(values)) = (file.entry(no), file.values(no)) else {
+    let (Some(entry), Some(values)) = (file.entry(entity), file.values(entity)) else {
         return Err(place.fails(Rule::NoEntry));
     };
     if !is_shell(entry) {
@@ -57,23 +54,17 @@ fn shell_values(file: &File, no: EntryNo) -> Result<&Values, Failing>
 }
 
 // The shell that the entry's record describes.
-fn shell_record(file: &File, no: EntryNo) -> Result<ShellRecord<'_>, Failing>
-    ensures holds { OnOk result (AllHold (shell_record_places file.now no.0)) }
-    ensures listed { IfOk result (λ listed. listed ≡ faces file.now (pos no.0)) }
+fn shell_record(file: &File, entity: EntryNo) -> Result<ShellRecord<'_>, Failing>
+    ensures holds { OnOk result (AllHold (shell_record_places file.now entity.0)) }
+    ensures listed { IfOk result (λ listed. listed ≡ faces file.now (pos entity.0)) }
     ensures few { IfOk result (λ listed. length listed < 2 ^ 31) }
-    ensures fails { IfErr result (FirstFalse (shell_record_places file.now no.0)) }
+    ensures fails { IfErr result (FirstFalse (shell_record_places file.now entity.0)) }
     ensures limits { FitsLimits file.now }
 {
-    let values = shell_values(file, no)?;
+    let values = shell_values(file, entity)?;
     match ShellRecord::of(values) {
         Some(record) => Ok(record),
-        None => {
-            let place = Place {
-                entity: no,
-                item: 0,
-            };
-            Err(place.fails(Rule::BadLayout))
-        }
+        None => Err(Place { entity, item: 0 }.fails(Rule::BadLayout)),
     }
 }
 

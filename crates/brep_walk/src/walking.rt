@@ -1,41 +1,80 @@
-//! The walk through a solid.
+//! The walk through one solid after another.
 
-ghost use Rattle.std.specs.Prelude.{◌≡◌, ◌<◌, ◌^◌, IfOk, IfErr, OnOk, Ok, Err, map, flat_map, length, pos};
 ghost use Rattle.brep_lists.specs.declared.entity_kind.EntityKind.TheVariants.{Solid as solid};
-ghost use Rattle.brep_walk.specs.Places.{told, record_places, places, shells};
-ghost use Rattle.brep_walk.specs.SolidOf.{keys_of, shell_of, edge_of, edge_keys, solid_of};
+ghost use Rattle.brep_walk.specs.Places.{places, told, record_places, shells};
+ghost use Rattle.brep_walk.specs.SolidOf.{solid_of, keys_of, shell_of, edge_of, edge_keys};
 ghost use Rattle.brep_walk.specs.Walked.{IsFault, Gives};
 ghost use Rattle.iges_params.specs.Limits.{FitsLimits};
 ghost use Rattle.solid_data.specs.Obligations.{AllHold, FirstFalse};
 ghost use Rattle.solid_data.specs.declared.verdict.Failing.{Failing as Named};
+ghost use Rattle.std.specs.Prelude.{◌≡◌, IfOk, IfErr, OnOk, Ok, Err, ◌<◌, ◌^◌, map, flat_map, length, pos};
 
 use crate::fault::WalkFault;
 use crate::lists::Lists;
 use crate::place::Place;
-use crate::records::record_at;
 use crate::state::WalkState;
-use crate::walker::Walker;
 use brep_loops::SolidRecord;
 use iges_fields::EntryNo;
 use iges_params::File;
-use solid_data::{Failing, Shells, Solid};
+use solid_data::{Shells, Solid};
 use std::alloc::Global;
+use std::marker::Model;
+
+/// Walks solids of one file, one after another. What is sized by the file, and the lists that were looked at, serve for
+/// all of them, so that a walk costs what its own solid names.
+#[derive(Drop)]
+pub struct Walker<'a> {
+    walk: WalkState<'a>,
+}
+
+impl<'a> Model for Walker<'a> {
+    ghost use Rattle.iges_params.specs.Contents.{Contents};
+
+    ghost Value = { Contents };
+
+    ghost view = { λ walker. walker.walk.lists };
+}
+
+impl<'a> Walker<'a> {
+    /// A walker of the solids of a file.
+    pub fn new(alloc: Global, file: &'a File) -> Walker<'a>
+        ensures { result ≡ file.now }
+    {
+        Walker {
+            walk: WalkState::new(alloc, file),
+        }
+    }
+
+    /// The solid of an entry, as `walk` gives it. After a fault the walker serves for other solids.
+    pub fn walk(&mut self, alloc: Global, no: EntryNo) -> Result<Solid, WalkFault>
+        ensures file { self.new ≡ self.old }
+        ensures solid { IfOk result (λ s. s ≡ solid_of self.old no.0) }
+        ensures holds { OnOk result (AllHold (places self.old no.0)) }
+        ensures fault { IfErr result (IsFault (places self.old no.0)) }
+        ensures only { AllHold (places self.old no.0) → Gives result (Ok (solid_of self.old no.0)) }
+        ensures only_fault { (x : Named) → FirstFalse (places self.old no.0) x
+            → Gives result (Err x) }
+    {
+        walk_solid(&mut self.walk, alloc, no)
+    }
+}
 
 // The record of a solid.
-fn solid_record<'a>(lists: &Lists<'a>, no: EntryNo) -> Result<(EntryNo, SolidRecord<'a>), Failing>
-    ensures holds { OnOk result (AllHold (record_places lists.now (pos no.0) 0 solid (pos no.0))) }
-    ensures named { IfOk result (λ r. (pos no.0 ≡ pos r.0.0)
-        × (r.1 ≡ told solid lists.now (pos no.0))) }
+fn solid_record<'a>(
+    lists: &mut Lists<'a>,
+    entity: EntryNo,
+) -> Result<(EntryNo, SolidRecord<'a>), WalkFault>
+    ensures file { lists.new ≡ lists.old }
+    ensures holds { OnOk result (AllHold
+        (record_places lists.old (pos entity.0) 0 solid (pos entity.0))) }
+    ensures named { IfOk result (λ r. (pos entity.0 ≡ pos r.0.0)
+        × (r.1 ≡ told solid lists.old (pos entity.0))) }
     ensures few { IfOk result (λ r. length r.1.voids < 2 ^ 31) }
-    ensures limits { FitsLimits lists.now }
-    ensures fails { IfErr result (FirstFalse
-        (record_places lists.now (pos no.0) 0 solid (pos no.0))) }
+    ensures limits { FitsLimits lists.old }
+    ensures fault { IfErr result (IsFault
+        (record_places lists.old (pos entity.0) 0 solid (pos entity.0))) }
 {
-    let place = Place {
-        entity: no,
-        item: 0,
-    };
-    record_at(lists.file(), place, i64::from(no.0))
+    lists.record(Place { entity, item: 0 }, i64::from(entity.0))
 }
 
 // The shells of a solid. The walk begins again for it.
@@ -54,7 +93,7 @@ fn numbered_shells(
     ensures fault { IfErr result (IsFault (places walk.old.lists no.0)) }
     ensures limits { FitsLimits walk.old.lists }
 {
-    let (entity, listed) = solid_record(&walk.lists, no)?;
+    let (entity, listed) = solid_record(&mut walk.lists, no)?;
     walk.restart(alloc);
     let shells = walk.walk_shells(alloc, entity, &listed)?;
     Ok(shells)

@@ -21,11 +21,23 @@ Then granted f c text = (v : Version) × (ns : List ℕ) × IsAccepted f c v ns 
 pub book_opens : (f : Contents) (c : List ℕ) (parts : List Part) → IsAcceptedBook f c parts → (n : ℕ) × (rest : List (List ℕ)) × Opens c Three n rest
 book_opens f c [] h = absurd (let some = h.some in omega (arith, some))
 book_opens f c (p ∷ ps) h =
-    let names = h.good.0.names in
-    (p.solid, (p.further ++ flat_map part_lines ps) ++ spelling end ∷ [], record { first = h.headed.first; second = p.first; cut = h.headed.cut; is_head = h.headed.is_head; names = (solid_short p.first p.solid names, names) })
+    let names = h.good.0.names in (
+      p.solid,
+      (p.further ++ flat_map part_lines ps) ++ spelling end
+          ∷ [],
+      record {
+        first = h.headed.first;
+        second = p.first;
+        cut = h.headed.cut;
+        is_head = h.headed.is_head;
+        names =
+            (solid_short p.first p.solid names, names);
+      },
+    )
 
 module _ (granted : List ℕ → Owed) (f : Contents) (c text : List ℕ) where
-  pub lines_done : (v : Version) (n : ℕ) (lines : List (List ℕ)) → Opens c v n lines → OfLines (granted (n ∷ [])) v n lines f Done text → IsAcceptedAlone v f n c × granted (n ∷ []) Done text
+  pub lines_done : (v : Version) (n : ℕ) (lines : List (List ℕ)) → Opens c v n lines → OfLines (granted (n ∷ [])) v n lines f Done text
+      → IsAcceptedAlone v f n c × granted (n ∷ []) Done text
   lines_done v n lines opens (lines_accepted hold legal owed) = ((accepted_is_checked v f n c).1 (lines, opens, hold, legal), owed)
 
   pub book_done : (lines : List (List ℕ)) → OfBook granted c lines f Done text → Then granted f c text
@@ -48,4 +60,5 @@ module _ (granted : List ℕ → Owed) (f : Contents) (c text : List ℕ) where
       opened few Two n made.0 made.1 (lines_accepted made.2 made.3 (subst (λ (ms : List ℕ). granted ms Done text) same owed))
   accepted_owed Three ns few (parts, same, book) owed =
       let opens = book_opens f c parts book in
-      opened few Three opens.0 opens.1 opens.2 (flat_map part_lines parts ++ spelling end ∷ [], book.headed, parts_accepted parts book (subst (λ (ms : List ℕ). granted ms Done text) same owed))
+      opened few Three opens.0 opens.1 opens.2
+      (flat_map part_lines parts ++ spelling end ∷ [], book.headed, parts_accepted parts book (subst (λ (ms : List ℕ). granted ms Done text) same owed))

@@ -67,7 +67,8 @@ zip_length limit (b ∷ lines) [] h = absurd h
 zip_length limit (b ∷ lines) (l ∷ read) h = ap suc (zip_length limit lines read h.1)
 
 -- lines of which END is the last
-zip_last : (limit : ℕ) (lines : List (List ℕ)) (before : List CertLine) → AllZip (IsLine limit) lines (before ++ end ∷ []) → (further : List (List ℕ)) × (lines ≡ further ++ spelling end ∷ [])
+zip_last : (limit : ℕ) (lines : List (List ℕ)) (before : List CertLine) → AllZip (IsLine limit) lines (before ++ end ∷ [])
+    → (further : List (List ℕ)) × (lines ≡ further ++ spelling end ∷ [])
 zip_last limit [] [] h = absurd h
 zip_last limit (b ∷ []) [] h = ([], ap (λ (l : List ℕ). l ∷ []) h.0.1.1)
 zip_last limit (b ∷ c ∷ lines) [] h = absurd h.1
@@ -80,7 +81,8 @@ legal_last s lines h = zip_last (line_limit s) lines h.before (subst (AllZip (Is
 end_line : (s : SolidData) → IsLine (line_limit s) (spelling end) end
 end_line s = (omega arith, (tt, refl))
 
-legal_with_end : (s : SolidData) (lines : List (List ℕ)) (read : List CertLine) → AreFitting Two s lines read → FitsLine s (stand_after Two s read) end → IsLegal Two s (lines ++ spelling end ∷ [])
+legal_with_end : (s : SolidData) (lines : List (List ℕ)) (read : List CertLine) → AreFitting Two s lines read → FitsLine s (stand_after Two s read) end
+    → IsLegal Two s (lines ++ spelling end ∷ [])
 legal_with_end s lines read fitting fits = record {
   read = read ++ end ∷ [];
   fitting = fitting_more Two s lines read (spelling end) end fitting (end_line s) fits;
@@ -92,18 +94,24 @@ abbrev part : ℕ → List ℕ → List (List ℕ) → Part
 part n first further = record { solid = n; first = first; further = further }
 
 -- the lines of parts with one more
-lines_of_more : (parts : List Part) (n : ℕ) (first : List ℕ) (further rest : List (List ℕ)) → flat_map part_lines (parts ++ part n first further ∷ []) ++ rest ≡ flat_map part_lines parts ++ first ∷ (further ++ rest)
+lines_of_more : (parts : List Part) (n : ℕ) (first : List ℕ) (further rest : List (List ℕ)) → flat_map part_lines (parts ++ part n first further ∷ []) ++ rest
+    ≡ flat_map part_lines parts ++ first ∷ (further ++ rest)
 lines_of_more parts n first further rest =
     let all = flat_map part_lines parts in
-    ap (λ (ls : List (List ℕ)). ls ++ rest) (flat_map-append part_lines parts (part n first further ∷ []) ∙ ap (λ (ls : List (List ℕ)). all ++ ls) (append-nil (first ∷ further))) ∙ append_assoc all (first ∷ further) rest
+    ap (λ (ls : List (List ℕ)). ls ++ rest)
+    (flat_map-append part_lines parts (part n first further ∷ []) ∙ ap (λ (ls : List (List ℕ)). all ++ ls) (append-nil (first ∷ further)))
+    ∙ append_assoc all (first ∷ further) rest
 
-named_more : (parts : List Part) (ns : List ℕ) (n : ℕ) (first : List ℕ) (further : List (List ℕ)) → solids_named parts ≡ ns → solids_named (parts ++ part n first further ∷ []) ≡ ns ++ n ∷ []
+named_more : (parts : List Part) (ns : List ℕ) (n : ℕ) (first : List ℕ) (further : List (List ℕ)) → solids_named parts ≡ ns
+    → solids_named (parts ++ part n first further ∷ []) ≡ ns ++ n ∷ []
 named_more parts ns n first further named = map-append (λ (p : Part). p.solid) parts (part n first further ∷ []) ∙ ap (λ (ms : List ℕ). ms ++ n ∷ []) named
 
 cut_two : (a b : CertLine) (first second : List ℕ) → IsSpelled first a → IsSpelled second b → cut_lines (first ++ second) ≡ first ∷ second ∷ []
 cut_two a b first second h k =
-    let text : first ++ second ≡ flat_map spelling (a ∷ b ∷ []) = ap (λ (l : List ℕ). l ++ second) h.1 ∙ ap (λ (l : List ℕ). spelling a ++ l) (k.1 ∙ sym (append-nil (spelling b))) in
-    ap cut_lines text ∙ cut_spelled (a ∷ b ∷ []) (h.0, (k.0, tt)) ∙ ap (λ (l : List ℕ). l ∷ spelling b ∷ []) (sym h.1) ∙ ap (λ (l : List ℕ). first ∷ l ∷ []) (sym k.1)
+    let text : first ++ second ≡ flat_map spelling (a ∷ b ∷ []) = ap (λ (l : List ℕ). l ++ second) h.1
+    ∙ ap (λ (l : List ℕ). spelling a ++ l) (k.1 ∙ sym (append-nil (spelling b))) in
+    ap cut_lines text ∙ cut_spelled (a ∷ b ∷ []) (h.0, (k.0, tt)) ∙ ap (λ (l : List ℕ). l ∷ spelling b ∷ []) (sym h.1)
+    ∙ ap (λ (l : List ℕ). first ∷ l ∷ []) (sym k.1)
 
 -- no more lines than bytes come
 pub lines_more : (s : SolidData) (line : ℕ) (more : List ℕ) (m l : ℕ) (c : FedKept) → EndsPart Two s line more m l c → l ≤ line + length more
@@ -126,13 +134,19 @@ book_begins f text n opens = record {
   rising = rising (n ∷ []) (tt, tt);
   first = spelling (solid n);
   names = ((opens []).names.1.0, refl);
-  headed = λ more. record { first = (opens more).first; cut = (opens more).cut ∙ ap (λ (b : List ℕ). (opens more).first ∷ b ∷ cut_lines more) (opens more).names.1.1; is_head = (opens more).is_head };
+  headed = λ more. record {
+    first = (opens more).first;
+    cut = (opens more).cut ∙ ap (λ (b : List ℕ). (opens more).first ∷ b ∷ cut_lines more)
+        (opens more).names.1.1;
+    is_head = (opens more).is_head;
+  };
   opens = λ more. (n, cut_lines more, opens more);
   number = refl;
 }
 
 -- a certificate that is held whole is its first two lines and what they leave
-pub opened_front : (c : List ℕ) (n : ℕ) (rest : List ℕ) → Opens c Three n (cut_lines rest) → (front : List ℕ) × (c ≡ front ++ rest) × ((more : List ℕ) → Opens (front ++ more) Three n (cut_lines more))
+pub opened_front : (c : List ℕ) (n : ℕ) (rest : List ℕ) → Opens c Three n (cut_lines rest)
+    → (front : List ℕ) × (c ≡ front ++ rest) × ((more : List ℕ) → Opens (front ++ more) Three n (cut_lines more))
 opened_front c n rest o =
     let first : o.first ≡ words (head Three) ++ 10 ∷ [] = o.is_head.1.1 in
     let second : o.second ≡ words (solid n) ++ 10 ∷ [] = o.names.1.1 in
@@ -143,7 +157,8 @@ opened_front c n rest o =
       λ more. record {
         first = o.first;
         second = o.second;
-        cut = cut_behind front more (o.first ∷ []) (words (solid n)) (two ∙ ap (λ (l : List ℕ). o.first ∷ l ∷ []) second) ∙ ap (λ (l : List ℕ). o.first ∷ l ∷ cut_lines more) (sym second);
+        cut = cut_behind front more (o.first ∷ []) (words (solid n)) (two ∙ ap (λ (l : List ℕ). o.first ∷ l ∷ []) second)
+            ∙ ap (λ (l : List ℕ). o.first ∷ l ∷ cut_lines more) (sym second);
         is_head = o.is_head;
         names = o.names;
       },
@@ -168,35 +183,44 @@ module _ (f : Contents) (ns : List ℕ) (text : List ℕ) (n line : ℕ) (h : Be
   rises_with : (further : List (List ℕ)) → IsStrictlyIncreasing (solids_named (h.parts ++ part n h.first further ∷ []))
   rises_with further = subst IsStrictlyIncreasing (sym (named_more h.parts ns n h.first further h.named)) h.rising
 
-  good_part : (further : List (List ℕ)) → AllHold (checked f n) → IsLegal Two (solid_of f n) (further ++ spelling end ∷ []) → IsGoodPart f (part n h.first further)
+  good_part : (further : List (List ℕ)) → AllHold (checked f n) → IsLegal Two (solid_of f n) (further ++ spelling end ∷ [])
+      → IsGoodPart f (part n h.first further)
   good_part further holds legal = record { names = h.names; certified = checked_certified Two f n (further ++ spelling end ∷ []) holds legal }
 
-  lines_behind : (more rest : List ℕ) (m l : ℕ) (c : FedKept) (e : EndsPart Two (solid_of f n) line more m l c) → all ++ h.first ∷ cut_lines (more ++ rest) ≡ flat_map part_lines (h.parts ++ part n h.first e.good ∷ []) ++ e.bytes ∷ cut_lines rest
+  lines_behind : (more rest : List ℕ) (m l : ℕ) (c : FedKept) (e : EndsPart Two (solid_of f n) line more m l c) → all ++ h.first ∷ cut_lines (more ++ rest)
+      ≡ flat_map part_lines (h.parts ++ part n h.first e.good ∷ []) ++ e.bytes ∷ cut_lines rest
   lines_behind more rest m l c e =
       let is : e.bytes ≡ words (solid m) ++ 10 ∷ [] = e.names.1.1 in
       let cut = cut_behind more rest e.good (words (solid m)) (e.cut ∙ ap (λ (b : List ℕ). e.good ++ b ∷ []) is) in
-      let behind : cut_lines (more ++ rest) ≡ e.good ++ e.bytes ∷ cut_lines rest = cut ∙ append_assoc e.good ((words (solid m) ++ 10 ∷ []) ∷ []) (cut_lines rest) ∙ ap (λ (b : List ℕ). e.good ++ b ∷ cut_lines rest) (sym is) in
+      let behind : cut_lines (more ++ rest) ≡ e.good ++ e.bytes ∷ cut_lines rest = cut ∙ append_assoc e.good ((words (solid m) ++ 10 ∷ []) ∷ [])
+      (cut_lines rest) ∙ ap (λ (b : List ℕ). e.good ++ b ∷ cut_lines rest) (sym is) in
       ap (λ (ls : List (List ℕ)). all ++ h.first ∷ ls) behind ∙ sym (lines_of_more h.parts n h.first e.good (e.bytes ∷ cut_lines rest))
 
   count_behind : (further : List (List ℕ)) → length (flat_map part_lines (h.parts ++ part n h.first further ∷ [])) ≡ length all + (1 + length further)
   count_behind further =
-      let is = sym (append-nil (flat_map part_lines (h.parts ++ part n h.first further ∷ []))) ∙ lines_of_more h.parts n h.first further [] ∙ ap (λ (ls : List (List ℕ)). all ++ h.first ∷ ls) (append-nil further) in
-      ap (λ (ls : List (List ℕ)). length ls) is ∙ length-append all (h.first ∷ further) ∙ (let one : length all + suc (length further) ≡ length all + (1 + length further) = omega arith in one)
+      let is = sym (append-nil (flat_map part_lines (h.parts ++ part n h.first further ∷ []))) ∙ lines_of_more h.parts n h.first further []
+      ∙ ap (λ (ls : List (List ℕ)). all ++ h.first ∷ ls) (append-nil further) in
+      ap (λ (ls : List (List ℕ)). length ls) is ∙ length-append all (h.first ∷ further)
+      ∙ (let one : length all + suc (length further) ≡ length all + (1 + length further) = omega arith in one)
 
   -- the next part has begun behind the bytes that end with its first line
-  pub part_goes_on : AllHold (checked f n) → (more : List ℕ) (m l : ℕ) (c : FedKept) → EndsPart Two (solid_of f n) line more m l c → BeginsPart f (ns ++ n ∷ []) (text ++ more) m l
+  pub part_goes_on : AllHold (checked f n) → (more : List ℕ) (m l : ℕ) (c : FedKept) → EndsPart Two (solid_of f n) line more m l c
+      → BeginsPart f (ns ++ n ∷ []) (text ++ more) m l
   part_goes_on holds more m l c e = record {
     parts = h.parts ++ part n h.first e.good ∷ [];
     named = named_more h.parts ns n h.first e.good h.named;
-    good = all_append (IsGoodPart f) h.parts (part n h.first e.good ∷ []) h.good (good_part e.good holds (legal_with_end (solid_of f n) e.good e.read e.fitting e.begins.0), tt);
+    good = all_append (IsGoodPart f) h.parts (part n h.first e.good ∷ []) h.good
+        (good_part e.good holds (legal_with_end (solid_of f n) e.good e.read e.fitting e.begins.0), tt);
     rising = increases_on ns n m h.rising (subst (λ (k : ℕ). k < m) (named_entity f n) e.begins.1);
     first = e.bytes;
     names = e.names.1;
     headed = λ rest.
         let before = h.headed (more ++ rest) in
-        subst (λ (t : List ℕ). IsHeaded t Three (flat_map part_lines (h.parts ++ part n h.first e.good ∷ []) ++ e.bytes ∷ cut_lines rest)) (sym (append_assoc text more rest))
+        subst (λ (t : List ℕ). IsHeaded t Three (flat_map part_lines (h.parts ++ part n h.first e.good ∷ []) ++ e.bytes ∷ cut_lines rest))
+        (sym (append_assoc text more rest))
         (subst (IsHeaded (text ++ (more ++ rest)) Three) (lines_behind more rest m l c e) before);
-    opens = λ rest. subst (λ (t : List ℕ). (k : ℕ) × (lines : List (List ℕ)) × Opens t Three k lines) (sym (append_assoc text more rest)) (h.opens (more ++ rest));
+    opens = λ rest. subst (λ (t : List ℕ). (k : ℕ) × (lines : List (List ℕ)) × Opens t Three k lines) (sym (append_assoc text more rest))
+        (h.opens (more ++ rest));
     number = (
         let number = e.number in
         let before = h.number in
@@ -207,7 +231,8 @@ module _ (f : Contents) (ns : List ℕ) (text : List ℕ) (n line : ℕ) (h : Be
   }
 
   -- the part is the last one
-  pub book_accepted : AllHold (checked f n) → (more : List ℕ) → IsLegal Two (solid_of f n) (cut_lines more) → (parts : List Part) × IsAcceptedBook f (text ++ more) parts × (solids_named parts ≡ ns ++ n ∷ [])
+  pub book_accepted : AllHold (checked f n) → (more : List ℕ) → IsLegal Two (solid_of f n) (cut_lines more)
+      → (parts : List Part) × IsAcceptedBook f (text ++ more) parts × (solids_named parts ≡ ns ++ n ∷ [])
   book_accepted holds more legal =
       let last = legal_last (solid_of f n) (cut_lines more) legal in
       let p = part n h.first last.0 in
@@ -234,7 +259,8 @@ module _ (f : Contents) (ns : List ℕ) (text : List ℕ) (n line : ℕ) (h : Be
   }
 
   -- one of its lines is bad
-  book_illegal : AllHold (checked f n) → (more : List ℕ) (bad : Illegal) → IsPartBad Two (solid_of f n) line (cut_lines more) bad → IsBookBad f (all ++ h.first ∷ cut_lines more) (illegal bad)
+  book_illegal : AllHold (checked f n) → (more : List ℕ) (bad : Illegal) → IsPartBad Two (solid_of f n) line (cut_lines more) bad
+      → IsBookBad f (all ++ h.first ∷ cut_lines more) (illegal bad)
   book_illegal holds more bad wrong =
       let before = h.number in
       let number : line ≡ (2 + length all) + 1 = omega (arith, before) in
@@ -243,22 +269,33 @@ module _ (f : Contents) (ns : List ℕ) (text : List ℕ) (n line : ℕ) (h : Be
         good = h.good;
         rest = h.first ∷ cut_lines more;
         cut = refl;
-        bad = inr (part n h.first (cut_lines more), refl, h.names, rises_with (cut_lines more), (holds, subst (λ (k : ℕ). IsPartBad Two (solid_of f n) k (cut_lines more) bad) number wrong));
+        bad = inr (
+          part n h.first (cut_lines more),
+          refl,
+          h.names,
+          rises_with (cut_lines more),
+          (holds, subst (λ (k : ℕ). IsPartBad Two (solid_of f n) k (cut_lines more) bad) number wrong),
+        );
       }
 
   module _ (OfAccepted : List ℕ → Owed) (more : List ℕ) (few : length (text ++ more) ≤ CERT_LIMIT) (a : Answer) (t : List ℕ) where
     pub fails_owed : (x : Failing) → FirstFalse (checked f n) x → (a ≡ No) × (t ≡ solid_fail_text n x) → OfCertificate OfAccepted (text ++ more) f a t
     fails_owed x first exact =
         let o = h.opens more in
-        owed_so (OfCertificate OfAccepted (text ++ more) f) _ _ _ _ (opened few Three o.0 o.1 o.2 (all ++ h.first ∷ cut_lines more, h.headed more, part_fails n x (book_fails x first more))) exact.0 exact.1
+        owed_so (OfCertificate OfAccepted (text ++ more) f) _ _ _ _
+        (opened few Three o.0 o.1 o.2 (all ++ h.first ∷ cut_lines more, h.headed more, part_fails n x (book_fails x first more))) exact.0 exact.1
 
-    pub illegal_owed : AllHold (checked f n) → (bad : Illegal) → IsPartBad Two (solid_of f n) line (cut_lines more) bad → (a ≡ No) × (t ≡ illegal_line bad) → OfCertificate OfAccepted (text ++ more) f a t
+    pub illegal_owed : AllHold (checked f n) → (bad : Illegal) → IsPartBad Two (solid_of f n) line (cut_lines more) bad → (a ≡ No) × (t ≡ illegal_line bad)
+        → OfCertificate OfAccepted (text ++ more) f a t
     illegal_owed holds bad wrong exact =
         let o = h.opens more in
-        owed_so (OfCertificate OfAccepted (text ++ more) f) _ _ _ _ (opened few Three o.0 o.1 o.2 (all ++ h.first ∷ cut_lines more, h.headed more, part_bad bad (book_illegal holds more bad wrong))) exact.0 exact.1
+        owed_so (OfCertificate OfAccepted (text ++ more) f) _ _ _ _
+        (opened few Three o.0 o.1 o.2 (all ++ h.first ∷ cut_lines more, h.headed more, part_bad bad (book_illegal holds more bad wrong))) exact.0 exact.1
 
-    pub last_owed : AllHold (checked f n) → IsLegal Two (solid_of f n) (cut_lines more) → OfAccepted (ns ++ n ∷ []) a t → OfCertificate OfAccepted (text ++ more) f a t
+    pub last_owed : AllHold (checked f n) → IsLegal Two (solid_of f n) (cut_lines more) → OfAccepted (ns ++ n ∷ []) a t
+        → OfCertificate OfAccepted (text ++ more) f a t
     last_owed holds legal owed =
         let o = h.opens more in
         let b = book_accepted holds more legal in
-        opened few Three o.0 o.1 o.2 (all ++ h.first ∷ cut_lines more, h.headed more, parts_accepted b.0 b.1 (subst (λ (ms : List ℕ). OfAccepted ms a t) (sym b.2) owed))
+        opened few Three o.0 o.1 o.2
+        (all ++ h.first ∷ cut_lines more, h.headed more, parts_accepted b.0 b.1 (subst (λ (ms : List ℕ). OfAccepted ms a t) (sym b.2) owed))

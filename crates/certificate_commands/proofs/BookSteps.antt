@@ -1,5 +1,6 @@
 -- How the reading of a book goes on from part to part.
-use Rattle.std.proofs.Common.{◌≡◌, ◌∙◌, ℕ, ◌+◌, ◌-◌, ◌≤◌, ◌<◌, List, [], ◌∷◌, ◌++◌, flat_map, take, drop, length, Option, Result, Ok, Err, sym, ap, subst, arith, append_assoc}
+use Rattle.std.proofs.Common.{◌≡◌, ◌∙◌, ℕ, ◌+◌, ◌-◌, ◌≤◌, ◌<◌, List, [], ◌∷◌, ◌++◌, flat_map, take, drop, length, Option, Result, Ok, Err, sym, ap, subst}
+use Rattle.std.proofs.Common.{arith, append_assoc}
 use Rattle.std.proofs.lemmas.List.{length-append, length-take, length-drop, take_rest, take-append-drop}
 use Rattle.std.specs.Io.KnownBytes.{Consumes, IsAtEnd}
 use Rattle.iges_io.specs.Reading.{TakesAtMost, Told}
@@ -31,14 +32,17 @@ use Rattle.command_replies.specs.Replies.{IsReply, TakesWithin}
 use Rattle.certificate_commands.specs.Books.{BeginsPart, GoesOn, HasBegun, IsNextBegun, IsPartLast, IsPlace, held}
 use Rattle.certificate_commands.proofs.BookReads.{between_long}
 use Rattle.certificate_commands.proofs.Judged.{OfYes, accepted_more, too_large_owed}
-use Rattle.certificate_commands.proofs.BookParts.{book_begins, book_kept, opened_front, part_goes_on, lines_more, some_more, fails_owed, illegal_owed, last_owed}
+use Rattle.certificate_commands.proofs.BookParts.{book_begins, book_kept, opened_front, part_goes_on, lines_more, some_more, fails_owed, illegal_owed}
+use Rattle.certificate_commands.proofs.BookParts.{last_owed}
 
 used_length : (n : ℕ) (xs : List ℕ) → n ≤ length xs → length (take n xs) ≡ n
 used_length n xs few = omega (arith, few, length-take n xs)
 
 -- ---- a book that is held whole
 
-pub held_steps : (s : SolidData) (line : ℕ) (rest : List ℕ) (next : NextSolid) (c : FedKept) → (next.used ≤ length rest) × EndsPart Two s line ([] ++ take next.used rest) next.no.0 next.line c → (0 < next.used) × (next.used ≤ length rest) × (next.line ≤ line + next.used)
+pub held_steps : (s : SolidData) (line : ℕ) (rest : List ℕ) (next : NextSolid) (c : FedKept)
+    → (next.used ≤ length rest) × EndsPart Two s line ([] ++ take next.used rest) next.no.0 next.line c → (0 < next.used) × (next.used ≤ length rest)
+    × (next.line ≤ line + next.used)
 held_steps s line rest next c (within, ends) =
     let long = used_length next.used rest within in
     let some = some_more s line (take next.used rest) next.no.0 next.line c ends in
@@ -49,31 +53,40 @@ module _ (f : Contents) (certificate : List ℕ) (ns front : List ℕ) (n line :
   abbrev Ups : List ℕ → Owed
   Ups ms = OfText (upgraded_for f certificate ms)
 
-  pub held_fails : (reply : Reply) → certificate ≡ front ++ rest → length certificate ≤ CERT_LIMIT → BeginsPart f ns front n line → TellsFalse (solid_fail_text n) f n reply → OfUpgrade certificate f reply.answer reply.text
+  pub held_fails : (reply : Reply) → certificate ≡ front ++ rest → length certificate ≤ CERT_LIMIT → BeginsPart f ns front n line
+      → TellsFalse (solid_fail_text n) f n reply → OfUpgrade certificate f reply.answer reply.text
   held_fails reply whole few begins (x, first, exact) =
       subst (λ (c : List ℕ). OfCertificate Ups c f reply.answer reply.text) (sym whole)
       (fails_owed f ns front n line begins Ups rest (subst (λ (c : List ℕ). length c ≤ CERT_LIMIT) whole few) reply.answer reply.text x first exact)
 
-  pub held_next : (s : SolidData) (next : NextSolid) (c : FedKept) → certificate ≡ front ++ rest → BeginsPart f ns front n line → IsChecked f n s → (next.used ≤ length rest) × EndsPart Two s line ([] ++ take next.used rest) next.no.0 next.line c
+  pub held_next : (s : SolidData) (next : NextSolid) (c : FedKept) → certificate ≡ front ++ rest → BeginsPart f ns front n line → IsChecked f n s
+      → (next.used ≤ length rest) × EndsPart Two s line ([] ++ take next.used rest) next.no.0 next.line c
       → (after : List ℕ) × (certificate ≡ after ++ drop next.used rest) × BeginsPart f (ns ++ n ∷ []) after next.no.0 next.line
   held_next s next c whole begins k (within, ends) = (
     front ++ take next.used rest,
     whole ∙ ap (λ (l : List ℕ). front ++ l) (sym (take-append-drop next.used rest)) ∙ sym (append_assoc front (take next.used rest) (drop next.used rest)),
-    part_goes_on f ns front n line begins k.holds (take next.used rest) next.no.0 next.line c (subst (λ (d : SolidData). EndsPart Two d line (take next.used rest) next.no.0 next.line c) k.solid ends),
+    part_goes_on f ns front n line begins k.holds (take next.used rest) next.no.0 next.line c
+        (subst (λ (d : SolidData). EndsPart Two d line (take next.used rest) next.no.0 next.line c) k.solid ends),
   )
 
-  pub held_last : (s : SolidData) → certificate ≡ front ++ rest → length certificate ≤ CERT_LIMIT → BeginsPart f ns front n line → IsChecked f n s → IsLegal Two s (cut_lines ([] ++ rest)) → (a : Answer) (t : List ℕ) → OfText certificate a t → OfUpgrade certificate f a t
+  pub held_last : (s : SolidData) → certificate ≡ front ++ rest → length certificate ≤ CERT_LIMIT → BeginsPart f ns front n line → IsChecked f n s
+      → IsLegal Two s (cut_lines ([] ++ rest)) → (a : Answer) (t : List ℕ) → OfText certificate a t → OfUpgrade certificate f a t
   held_last s whole few begins k legal a t owed =
-      let same : upgraded_for f certificate (ns ++ n ∷ []) ≡ certificate = book_kept f certificate (flat_map part_lines begins.parts ++ begins.first ∷ cut_lines rest) (ns ++ n ∷ []) (subst (λ (c : List ℕ). IsHeaded c Three (flat_map part_lines begins.parts ++ begins.first ∷ cut_lines rest)) (sym whole) (begins.headed rest)) in
+      let same : upgraded_for f certificate (ns ++ n ∷ []) ≡ certificate =
+      book_kept f certificate (flat_map part_lines begins.parts ++ begins.first ∷ cut_lines rest) (ns ++ n ∷ [])
+      (subst (λ (c : List ℕ). IsHeaded c Three (flat_map part_lines begins.parts ++ begins.first ∷ cut_lines rest)) (sym whole) (begins.headed rest)) in
       subst (λ (c : List ℕ). OfCertificate Ups c f a t) (sym whole)
-      (last_owed f ns front n line begins Ups rest (subst (λ (c : List ℕ). length c ≤ CERT_LIMIT) whole few) a t k.holds (subst (λ (d : SolidData). IsLegal Two d (cut_lines rest)) k.solid legal)
+      (last_owed f ns front n line begins Ups rest (subst (λ (c : List ℕ). length c ≤ CERT_LIMIT) whole few) a t k.holds
+      (subst (λ (d : SolidData). IsLegal Two d (cut_lines rest)) k.solid legal)
       (subst (λ (c : List ℕ). OfText c a t) (sym same) owed))
 
-  pub held_bad : (s : SolidData) (bad : Illegal) (reply : Reply) → certificate ≡ front ++ rest → length certificate ≤ CERT_LIMIT → BeginsPart f ns front n line → IsChecked f n s → IsPartBad Two s line (cut_lines ([] ++ rest)) bad → (reply.answer ≡ No) × (reply.text ≡ illegal_line bad)
+  pub held_bad : (s : SolidData) (bad : Illegal) (reply : Reply) → certificate ≡ front ++ rest → length certificate ≤ CERT_LIMIT → BeginsPart f ns front n line
+      → IsChecked f n s → IsPartBad Two s line (cut_lines ([] ++ rest)) bad → (reply.answer ≡ No) × (reply.text ≡ illegal_line bad)
       → OfUpgrade certificate f reply.answer reply.text
   held_bad s bad reply whole few begins k wrong exact =
       subst (λ (c : List ℕ). OfCertificate Ups c f reply.answer reply.text) (sym whole)
-      (illegal_owed f ns front n line begins Ups rest (subst (λ (c : List ℕ). length c ≤ CERT_LIMIT) whole few) reply.answer reply.text k.holds bad (subst (λ (d : SolidData). IsPartBad Two d line (cut_lines rest) bad) k.solid wrong) exact)
+      (illegal_owed f ns front n line begins Ups rest (subst (λ (c : List ℕ). length c ≤ CERT_LIMIT) whole few) reply.answer reply.text k.holds bad
+      (subst (λ (d : SolidData). IsPartBad Two d line (cut_lines rest) bad) k.solid wrong) exact)
 
 -- a certificate that opens so is its first two lines and a rest
 pub book_opens : (f : Contents) (certificate : List ℕ) (n : ℕ) (rest : List ℕ) → length certificate ≤ CERT_LIMIT → Opens certificate Three n (cut_lines rest)
@@ -83,9 +96,12 @@ book_opens f certificate n rest few opens =
     let long = ap (λ (l : List ℕ). length l) (front.1) ∙ length-append front.0 rest in
     (omega (arith, long, few), ([], front.0, front.1, book_begins f front.0 n front.2))
 
-pub rest_behind : (f : Contents) (certificate ns : List ℕ) (n line : ℕ) (rest : List ℕ) (next : NextSolid) → line + length rest ≤ CERT_LIMIT + 3 → (front : List ℕ) × (certificate ≡ front ++ drop next.used rest) × BeginsPart f (ns ++ n ∷ []) front next.no.0 next.line
+pub rest_behind : (f : Contents) (certificate ns : List ℕ) (n line : ℕ) (rest : List ℕ) (next : NextSolid) → line + length rest ≤ CERT_LIMIT + 3
+    → (front : List ℕ) × (certificate ≡ front ++ drop next.used rest) × BeginsPart f (ns ++ n ∷ []) front next.no.0 next.line
     → (0 < next.used) × (next.used ≤ length rest) × (next.line ≤ line + next.used)
-    → (next.line + length (take (length rest - next.used) (drop next.used rest)) ≤ CERT_LIMIT + 3) × ((ms : List ℕ) × (front : List ℕ) × (certificate ≡ front ++ take (length rest - next.used) (drop next.used rest)) × BeginsPart f ms front next.no.0 next.line)
+    → (next.line + length (take (length rest - next.used) (drop next.used rest)) ≤ CERT_LIMIT + 3)
+    × ((ms : List ℕ) × (front : List ℕ) × (certificate ≡ front ++ take (length rest - next.used) (drop next.used rest))
+    × BeginsPart f ms front next.no.0 next.line)
 rest_behind f certificate ns n line rest next few (front, whole, begins) (some, within, lines) =
     let same : take (length rest - next.used) (drop next.used rest) ≡ drop next.used rest = take_rest rest next.used in
     let long = ap (λ (l : List ℕ). length l) same ∙ length-drop next.used rest in
@@ -99,11 +115,13 @@ module _ (f : Contents) (ns : List ℕ) (before left : Option (List ℕ)) (buffe
   refused_part reply (x, first, exact) more few =
       let same = append_assoc h.front (held buffer b) more in
       subst (λ (c : List ℕ). OfVerify c f reply.answer reply.text) (sym same)
-      (fails_owed f ns h.front b.no.0 b.line h.begins OfYes (held buffer b ++ more) (subst (λ (c : List ℕ). length c ≤ CERT_LIMIT) same few) reply.answer reply.text x first exact)
+      (fails_owed f ns h.front b.no.0 b.line h.begins OfYes (held buffer b ++ more) (subst (λ (c : List ℕ). length c ≤ CERT_LIMIT) same few) reply.answer
+      reply.text x first exact)
 
   module _ (after : Option (List ℕ)) (s : SolidData) (k : IsChecked f b.no.0 s) (old new : FedKept) (fed : IsFedPart Two s b.line [] old) where
     -- the next part has begun
-    pub next_part : (now : List ℕ) (next : Begun) → IsNextBegun left after b.came (held buffer b) now old new next → HasBegun f (ns ++ b.no.0 ∷ []) before after now next
+    pub next_part : (now : List ℕ) (next : Begun) → IsNextBegun left after b.came (held buffer b) now old new next
+        → HasBegun f (ns ++ b.no.0 ∷ []) before after now next
     next_part now next m =
         let long = h.long in
         let came = m.long in
@@ -112,13 +130,18 @@ module _ (f : Contents) (ns : List ℕ) (before left : Option (List ℕ)) (buffe
         record {
           front = h.front ++ m.text;
           taken = subst (Consumes before after) (sym whole) (consumes_more before left after (h.front ++ held buffer b) m.bytes h.taken m.taken);
-          long = ap (λ (l : List ℕ). length l) whole ∙ (let n : length ((h.front ++ held buffer b) ++ m.bytes) ≡ next.came = omega (arith, long, came, length-append (h.front ++ held buffer b) m.bytes) in n);
-          begins = part_goes_on f ns h.front b.no.0 b.line h.begins k.holds m.text next.no.0 next.line new (subst (λ (d : SolidData). EndsPart Two d b.line m.text next.no.0 next.line new) k.solid (m.ends Two s b.line fed));
+          long = ap (λ (l : List ℕ). length l) whole
+              ∙ (let n : length ((h.front ++ held buffer b) ++ m.bytes) ≡ next.came =
+              omega (arith, long, came, length-append (h.front ++ held buffer b) m.bytes) in n);
+          begins = part_goes_on f ns h.front b.no.0 b.line h.begins k.holds m.text next.no.0 next.line new
+              (subst (λ (d : SolidData). EndsPart Two d b.line m.text next.no.0 next.line new) k.solid (m.ends Two s b.line fed));
         }
 
     module _ (m : IsPartLast left after b.came (held buffer b) old new) where
       told : Told before (h.front ++ (held buffer b ++ m.bytes))
-      told = subst (Told before) (append_assoc h.front (held buffer b) m.bytes) (told_all before after ((h.front ++ held buffer b) ++ m.bytes) (consumes_more before left after (h.front ++ held buffer b) m.bytes h.taken m.taken) m.ended)
+      told = subst (Told before) (append_assoc h.front (held buffer b) m.bytes)
+          (told_all before after ((h.front ++ held buffer b) ++ m.bytes) (consumes_more before left after (h.front ++ held buffer b) m.bytes h.taken m.taken)
+          m.ended)
 
       few : length (h.front ++ (held buffer b ++ m.bytes)) ≤ CERT_LIMIT
       few =
@@ -128,31 +151,39 @@ module _ (f : Contents) (ns : List ℕ) (before left : Option (List ℕ)) (buffe
           omega (arith, long, all, same, length-append (h.front ++ held buffer b) m.bytes)
 
       -- it is good, and the last one
-      pub last_part : IsLegal Two s (cut_lines (held buffer b ++ m.bytes)) → (reply : Reply) → Exactly Done (accepted_lines (ns ++ b.no.0 ∷ [])) reply.answer reply.text → IsReply (λ certificate. OfVerify certificate f) before reply
+      pub last_part : IsLegal Two s (cut_lines (held buffer b ++ m.bytes)) → (reply : Reply)
+          → Exactly Done (accepted_lines (ns ++ b.no.0 ∷ [])) reply.answer reply.text → IsReply (λ certificate. OfVerify certificate f) before reply
       last_part legal reply exact = record {
         bytes = h.front ++ (held buffer b ++ m.bytes);
         told = told;
-        owed = last_owed f ns h.front b.no.0 b.line h.begins OfYes (held buffer b ++ m.bytes) few reply.answer reply.text k.holds (subst (λ (d : SolidData). IsLegal Two d (cut_lines (held buffer b ++ m.bytes))) k.solid legal) exact;
+        owed = last_owed f ns h.front b.no.0 b.line h.begins OfYes (held buffer b ++ m.bytes) few reply.answer reply.text k.holds
+            (subst (λ (d : SolidData). IsLegal Two d (cut_lines (held buffer b ++ m.bytes))) k.solid legal) exact;
       }
 
       -- one of its lines is bad
-      pub bad_part : (bad : Illegal) → IsPartBad Two s b.line (cut_lines (held buffer b ++ m.bytes)) bad → (reply : Reply) → (reply.answer ≡ No) × (reply.text ≡ illegal_line bad) → IsReply (λ certificate. OfVerify certificate f) before reply
+      pub bad_part : (bad : Illegal) → IsPartBad Two s b.line (cut_lines (held buffer b ++ m.bytes)) bad → (reply : Reply)
+          → (reply.answer ≡ No) × (reply.text ≡ illegal_line bad) → IsReply (λ certificate. OfVerify certificate f) before reply
       bad_part bad wrong reply exact = record {
         bytes = h.front ++ (held buffer b ++ m.bytes);
         told = told;
-        owed = illegal_owed f ns h.front b.no.0 b.line h.begins OfYes (held buffer b ++ m.bytes) few reply.answer reply.text k.holds bad (subst (λ (d : SolidData). IsPartBad Two d b.line (cut_lines (held buffer b ++ m.bytes)) bad) k.solid wrong) exact;
+        owed = illegal_owed f ns h.front b.no.0 b.line h.begins OfYes (held buffer b ++ m.bytes) few reply.answer reply.text k.holds bad
+            (subst (λ (d : SolidData). IsPartBad Two d b.line (cut_lines (held buffer b ++ m.bytes)) bad) k.solid wrong) exact;
       }
 
   -- the certificate is too large
-  pub large_part : (after : Option (List ℕ)) (reply : Reply) → HasTooMany left after b.came → (reply.answer ≡ TooLarge) × (reply.text ≡ []) → IsReply (λ certificate. OfVerify certificate f) before reply
+  pub large_part : (after : Option (List ℕ)) (reply : Reply) → HasTooMany left after b.came → (reply.answer ≡ TooLarge) × (reply.text ≡ [])
+      → IsReply (λ certificate. OfVerify certificate f) before reply
   large_part after reply many exact =
       let long = h.long in
       let above = many.2 in
-      too_large_owed OfYes f before ((h.front ++ held buffer b) ++ many.0) after reply (consumes_more before left after (h.front ++ held buffer b) many.0 h.taken many.1)
-      (let n : CERT_LIMIT < length ((h.front ++ held buffer b) ++ many.0) = omega (arith, long, above, length-append (h.front ++ held buffer b) many.0) in n) exact
+      too_large_owed OfYes f before ((h.front ++ held buffer b) ++ many.0) after reply
+      (consumes_more before left after (h.front ++ held buffer b) many.0 h.taken many.1)
+      (let n : CERT_LIMIT < length ((h.front ++ held buffer b) ++ many.0) = omega (arith, long, above, length-append (h.front ++ held buffer b) many.0) in n)
+      exact
 
 -- how far the reading has come
-pub next_goes_on : (before after : Option (List ℕ)) (buffer now : List ℕ) (b next : Begun) (s : SolidData) (old new : FedKept) → IsPlace buffer b → IsFedPart Two s b.line [] old → IsNextBegun before after b.came (held buffer b) now old new next → GoesOn before after now b next
+pub next_goes_on : (before after : Option (List ℕ)) (buffer now : List ℕ) (b next : Begun) (s : SolidData) (old new : FedKept) → IsPlace buffer b
+    → IsFedPart Two s b.line [] old → IsNextBegun before after b.came (held buffer b) now old new next → GoesOn before after now b next
 next_goes_on before after buffer now b next s old new place fed m =
     let ends = m.ends Two s b.line fed in
     let there = between_long buffer b.from b.to place.ordered place.within in
@@ -178,7 +209,8 @@ next_goes_on before after buffer now b next s old new place fed m =
       came = came;
     }
 
-pub last_takes : (before after : Option (List ℕ)) (came : ℕ) (there : List ℕ) (old new : FedKept) → IsPartLast before after came there old new → TakesAtMost (CERT_LIMIT - came) before after
+pub last_takes : (before after : Option (List ℕ)) (came : ℕ) (there : List ℕ) (old new : FedKept) → IsPartLast before after came there old new
+    → TakesAtMost (CERT_LIMIT - came) before after
 last_takes before after came there old new m = let few = m.few in (m.bytes, m.taken, (let n : length m.bytes ≤ CERT_LIMIT - came = omega (arith, few) in n))
 
 -- a reply that judges was given at the end
@@ -207,33 +239,51 @@ TakenSince entry left came now = (bytes : List ℕ) × Consumes entry left bytes
 pub taken_none : (left : Option (List ℕ)) (came : ℕ) → TakenSince left left came came
 taken_none left came = ([], consumes_none left, omega arith)
 
-pub taken_more : (entry left after : Option (List ℕ)) (came : ℕ) (now : List ℕ) (b next : Begun) → TakenSince entry left came b.came → GoesOn left after now b next → TakenSince entry after came next.came
+pub taken_more : (entry left after : Option (List ℕ)) (came : ℕ) (now : List ℕ) (b next : Begun) → TakenSince entry left came b.came
+    → GoesOn left after now b next → TakenSince entry after came next.came
 taken_more entry left after came now b next t m =
     let long = m.came in
-    let before = t.2 in
-    (t.0 ++ m.bytes, consumes_more entry left after t.0 m.bytes t.1 m.taken, (let n : next.came ≡ came + length (t.0 ++ m.bytes) = omega (arith, long, before, length-append t.0 m.bytes) in n))
+    let before = t.2 in (
+      t.0 ++ m.bytes,
+      consumes_more entry left after t.0 m.bytes t.1 m.taken,
+      (let n : next.came ≡ came + length (t.0 ++ m.bytes) = omega (arith, long, before, length-append t.0 m.bytes) in n),
+    )
 
-pub taken_within : {T : Type 0} (entry left after : Option (List ℕ)) (came now : ℕ) (result : Result T Stop) → TakenSince entry left came now → now ≤ CERT_LIMIT → TakesWithin (CERT_LIMIT - now) left after result → TakesWithin (CERT_LIMIT - came) entry after result
+pub taken_within : {T : Type 0} (entry left after : Option (List ℕ)) (came now : ℕ) (result : Result T Stop) → TakenSince entry left came now
+    → now ≤ CERT_LIMIT → TakesWithin (CERT_LIMIT - now) left after result → TakesWithin (CERT_LIMIT - came) entry after result
 taken_within entry left after came now (Ok x) t few h =
     let long = t.2 in
-    let k = h.2 in
-    (t.0 ++ h.0, consumes_more entry left after t.0 h.0 t.1 h.1, (let n : length (t.0 ++ h.0) ≤ (CERT_LIMIT - came) + PIECE = omega (arith, long, few, k, length-append t.0 h.0) in n))
+    let k = h.2 in (
+      t.0 ++ h.0,
+      consumes_more entry left after t.0 h.0 t.1 h.1,
+      (let n : length (t.0 ++ h.0) ≤ (CERT_LIMIT - came) + PIECE = omega (arith, long, few, k, length-append t.0 h.0) in n),
+    )
 taken_within entry left after came now (Err stop) t few h =
     let long = t.2 in
-    let k = h.2 in
-    (t.0 ++ h.0, consumes_more entry left after t.0 h.0 t.1 h.1, (let n : length (t.0 ++ h.0) ≤ CERT_LIMIT - came = omega (arith, long, few, k, length-append t.0 h.0) in n))
+    let k = h.2 in (
+      t.0 ++ h.0,
+      consumes_more entry left after t.0 h.0 t.1 h.1,
+      (let n : length (t.0 ++ h.0) ≤ CERT_LIMIT - came = omega (arith, long, few, k, length-append t.0 h.0) in n),
+    )
 
-pub taken_few : {T : Type 0} (entry left after : Option (List ℕ)) (came now : ℕ) (result : Result T Stop) → TakenSince entry left came now → now ≤ CERT_LIMIT → TakesAtMost (CERT_LIMIT - now) left after → TakesWithin (CERT_LIMIT - came) entry after result
-taken_few {T} entry left after came now (Ok x) t few h = taken_within {T = T} entry left after came now (Ok x) t few (h.0, h.1, (let k = h.2 in let n : length h.0 ≤ (CERT_LIMIT - now) + PIECE = omega (arith, k) in n))
+pub taken_few : {T : Type 0} (entry left after : Option (List ℕ)) (came now : ℕ) (result : Result T Stop) → TakenSince entry left came now → now ≤ CERT_LIMIT
+    → TakesAtMost (CERT_LIMIT - now) left after → TakesWithin (CERT_LIMIT - came) entry after result
+taken_few {T} entry left after came now (Ok x) t few h = taken_within {T = T} entry left after came now (Ok x) t few
+    (h.0, h.1, (let k = h.2 in let n : length h.0 ≤ (CERT_LIMIT - now) + PIECE = omega (arith, k) in n))
 taken_few {T} entry left after came now (Err stop) t few h = taken_within {T = T} entry left after came now (Err stop) t few h
 
-pub taken_next : {T : Type 0} (entry left after : Option (List ℕ)) (came : ℕ) (buffer : List ℕ) (b next : Begun) (result : Result T Stop) → TakenSince entry left came b.came → GoesOn left after buffer b next → TakesWithin (CERT_LIMIT - came) entry after result
+pub taken_next : {T : Type 0} (entry left after : Option (List ℕ)) (came : ℕ) (buffer : List ℕ) (b next : Begun) (result : Result T Stop)
+    → TakenSince entry left came b.came → GoesOn left after buffer b next → TakesWithin (CERT_LIMIT - came) entry after result
 taken_next {T} entry left after came buffer b next result t m =
     let s = taken_more entry left after came buffer b next t m in
     taken_few {T = T} entry after after came next.came result s m.place.few ([], consumes_none after, omega arith)
 
-pub takes_on : (entry left after : Option (List ℕ)) (came now : ℕ) → TakenSince entry left came now → now ≤ CERT_LIMIT → TakesAtMost ((CERT_LIMIT - now) + PIECE) left after → TakesAtMost ((CERT_LIMIT - came) + PIECE) entry after
+pub takes_on : (entry left after : Option (List ℕ)) (came now : ℕ) → TakenSince entry left came now → now ≤ CERT_LIMIT
+    → TakesAtMost ((CERT_LIMIT - now) + PIECE) left after → TakesAtMost ((CERT_LIMIT - came) + PIECE) entry after
 takes_on entry left after came now t few h =
     let long = t.2 in
-    let k = h.2 in
-    (t.0 ++ h.0, consumes_more entry left after t.0 h.0 t.1 h.1, (let n : length (t.0 ++ h.0) ≤ (CERT_LIMIT - came) + PIECE = omega (arith, long, few, k, length-append t.0 h.0) in n))
+    let k = h.2 in (
+      t.0 ++ h.0,
+      consumes_more entry left after t.0 h.0 t.1 h.1,
+      (let n : length (t.0 ++ h.0) ≤ (CERT_LIMIT - came) + PIECE = omega (arith, long, few, k, length-append t.0 h.0) in n),
+    )

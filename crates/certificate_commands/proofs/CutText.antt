@@ -1,5 +1,6 @@
 -- A text that ends with LF, and what stands behind it, are cut one by one.
-use Rattle.std.proofs.Common.{◌≡◌, ◌∙◌, ℕ, suc, ◌+◌, ◌≤◌, ◌<◌, ◌==◌, Bool, true, false, cond, List, [], ◌∷◌, ◌++◌, flat_map, length, refl, sym, ap, arith, append_assoc}
+use Rattle.std.proofs.Common.{◌≡◌, ◌∙◌, ℕ, suc, ◌+◌, ◌≤◌, ◌<◌, ◌==◌, Bool, true, false, cond, List, [], ◌∷◌, ◌++◌, flat_map, length, refl, sym, ap, arith}
+use Rattle.std.proofs.Common.{append_assoc}
 use Rattle.std.proofs.lemmas.List.{append-nil, length-append}
 use Rattle.std.proofs.lemmas.Grind.{flat_map-append}
 use Rattle.cert_lines.specs.Line.{cut_lines, put_before}
@@ -40,17 +41,22 @@ cut_ended : (front more : List ℕ) → cut_lines ((front ++ 10 ∷ []) ++ more)
 cut_ended [] more = refl
 cut_ended (b ∷ front) more = by_test b front more (b == 10) (cut_ended front more)
   where
-    by_test : (b : ℕ) (front more : List ℕ) (t : Bool) → cut_lines ((front ++ 10 ∷ []) ++ more) ≡ cut_lines (front ++ 10 ∷ []) ++ cut_lines more → cond t ((b ∷ []) ∷ cut_lines ((front ++ 10 ∷ []) ++ more)) (put_before b (cut_lines ((front ++ 10 ∷ []) ++ more))) ≡ cond t ((b ∷ []) ∷ cut_lines (front ++ 10 ∷ [])) (put_before b (cut_lines (front ++ 10 ∷ []))) ++ cut_lines more
+    by_test : (b : ℕ) (front more : List ℕ) (t : Bool) → cut_lines ((front ++ 10 ∷ []) ++ more) ≡ cut_lines (front ++ 10 ∷ []) ++ cut_lines more
+        → cond t ((b ∷ []) ∷ cut_lines ((front ++ 10 ∷ []) ++ more)) (put_before b (cut_lines ((front ++ 10 ∷ []) ++ more)))
+        ≡ cond t ((b ∷ []) ∷ cut_lines (front ++ 10 ∷ [])) (put_before b (cut_lines (front ++ 10 ∷ []))) ++ cut_lines more
     by_test b front more true rest = ap (λ (ls : List (List ℕ)). (b ∷ []) ∷ ls) rest
     by_test b front more false rest = ap (put_before b) rest ∙ put_append b (cut_lines (front ++ 10 ∷ [])) (cut_lines more) (some_cut front)
 
 -- where the last line has its LF, what follows is cut for itself
-pub cut_behind : (text more : List ℕ) (good : List (List ℕ)) (words : List ℕ) → cut_lines text ≡ good ++ (words ++ 10 ∷ []) ∷ [] → cut_lines (text ++ more) ≡ (good ++ (words ++ 10 ∷ []) ∷ []) ++ cut_lines more
+pub cut_behind : (text more : List ℕ) (good : List (List ℕ)) (words : List ℕ) → cut_lines text ≡ good ++ (words ++ 10 ∷ []) ∷ []
+    → cut_lines (text ++ more) ≡ (good ++ (words ++ 10 ∷ []) ∷ []) ++ cut_lines more
 cut_behind text more good words cut =
     let last : joined (good ++ (words ++ 10 ∷ []) ∷ []) ≡ (joined good ++ words) ++ 10 ∷ [] =
-    flat_map-append (λ (line : List ℕ). line) good ((words ++ 10 ∷ []) ∷ []) ∙ ap (λ (xs : List ℕ). joined good ++ xs) (append-nil (words ++ 10 ∷ [])) ∙ sym (append_assoc (joined good) words (10 ∷ [])) in
+    flat_map-append (λ (line : List ℕ). line) good ((words ++ 10 ∷ []) ∷ []) ∙ ap (λ (xs : List ℕ). joined good ++ xs) (append-nil (words ++ 10 ∷ []))
+    ∙ sym (append_assoc (joined good) words (10 ∷ [])) in
     let whole : text ≡ (joined good ++ words) ++ 10 ∷ [] = sym (joined_cut text) ∙ ap joined cut ∙ last in
-    ap (λ (t : List ℕ). cut_lines (t ++ more)) whole ∙ cut_ended (joined good ++ words) more ∙ ap (λ (t : List ℕ). cut_lines t ++ cut_lines more) (sym whole) ∙ ap (λ (ls : List (List ℕ)). ls ++ cut_lines more) cut
+    ap (λ (t : List ℕ). cut_lines (t ++ more)) whole ∙ cut_ended (joined good ++ words) more ∙ ap (λ (t : List ℕ). cut_lines t ++ cut_lines more) (sym whole)
+    ∙ ap (λ (ls : List (List ℕ)). ls ++ cut_lines more) cut
 
 length_before : (b : ℕ) (ls : List (List ℕ)) → length (put_before b ls) ≤ suc (length ls)
 length_before b [] = omega arith

@@ -25,7 +25,8 @@ pub record IsOpenedSoFar (before now : Option (List ℕ)) (came : ℕ) (o : Kept
 pub opened_none : (left : Option (List ℕ)) (o : Kept) → IsWaiting o.stage → IsOpening o [] → IsOpenedSoFar left left 0 o
 opened_none left o waits stands = record { bytes = []; taken = consumes_none left; long = refl; waits = waits; stands = stands }
 
-pub opened_more : (a b c : Option (List ℕ)) (came count : ℕ) (old new : Kept) (x : List ℕ) (s : IsOpenedSoFar a b came old) → Consumes b c x → length x ≡ count → IsWaiting new.stage → IsOpening new (s.bytes ++ x) → IsOpenedSoFar a c (came + count) new
+pub opened_more : (a b c : Option (List ℕ)) (came count : ℕ) (old new : Kept) (x : List ℕ) (s : IsOpenedSoFar a b came old) → Consumes b c x → length x ≡ count
+    → IsWaiting new.stage → IsOpening new (s.bytes ++ x) → IsOpenedSoFar a c (came + count) new
 opened_more a b c came count old new x s k is waits stands =
     let long = s.long in
     record {
@@ -36,7 +37,8 @@ opened_more a b c came count old new x s k is waits stands =
       stands = stands;
     }
 
-pub opened_early : (a b c : Option (List ℕ)) (came : ℕ) (o : Kept) (bad : Illegal) → IsOpenedSoFar a b came o → came ≤ CERT_LIMIT → Consumes b c [] → IsAtEnd c → ((text : List ℕ) → IsOpening o text → IsBadOpening text bad) → EndsEarly a c bad
+pub opened_early : (a b c : Option (List ℕ)) (came : ℕ) (o : Kept) (bad : Illegal) → IsOpenedSoFar a b came o → came ≤ CERT_LIMIT → Consumes b c [] → IsAtEnd c
+    → ((text : List ℕ) → IsOpening o text → IsBadOpening text bad) → EndsEarly a c bad
 opened_early a b c came o bad s few k e wrong =
     let long = s.long in
     record {
@@ -47,16 +49,21 @@ opened_early a b c came o bad s few k e wrong =
       wrong = wrong s.bytes s.stands;
     }
 
-pub opened_too_many : (a b c : Option (List ℕ)) (came : ℕ) (o : Kept) (x : List ℕ) → IsOpenedSoFar a b came o → Consumes b c x → CERT_LIMIT < came + length x → HasTooMany a c 0
+pub opened_too_many : (a b c : Option (List ℕ)) (came : ℕ) (o : Kept) (x : List ℕ) → IsOpenedSoFar a b came o → Consumes b c x → CERT_LIMIT < came + length x
+    → HasTooMany a c 0
 opened_too_many a b c came o x s k above =
-    let long = s.long in
-    (s.bytes ++ x, consumes_more a b c s.bytes x s.taken k, (let h : CERT_LIMIT < 0 + length (s.bytes ++ x) = omega (arith, long, above, length-append s.bytes x) in h))
+    let long = s.long in (
+      s.bytes ++ x,
+      consumes_more a b c s.bytes x s.taken k,
+      (let h : CERT_LIMIT < 0 + length (s.bytes ++ x) = omega (arith, long, above, length-append s.bytes x) in h),
+    )
 
 -- what a stage shows
 shows : (o : Kept) (s : Stage) (text : List ℕ) → o.stage ≡ s → IsOpening o text → Shows s o.kept text
 shows o s text is h = subst (λ (x : Stage). Shows x o.kept text) is h
 
-pub opened_bad : (a b c : Option (List ℕ)) (came count : ℕ) (old new : Kept) (x : List ℕ) (bad : Illegal) (s : IsOpenedSoFar a b came old) → Consumes b c x → length x ≡ count → came + count ≤ CERT_LIMIT → new.stage ≡ stage.Failed bad → IsOpening new (s.bytes ++ x)
+pub opened_bad : (a b c : Option (List ℕ)) (came count : ℕ) (old new : Kept) (x : List ℕ) (bad : Illegal) (s : IsOpenedSoFar a b came old) → Consumes b c x
+    → length x ≡ count → came + count ≤ CERT_LIMIT → new.stage ≡ stage.Failed bad → IsOpening new (s.bytes ++ x)
     → HasOpenedBadly a c bad (came + count)
 opened_bad a b c came count old new x bad s k is few failed stands =
     let long = s.long in
@@ -75,14 +82,16 @@ cut_piece buffer x from to h is =
     let front : take from x ≡ take from buffer = ap (λ (l : List ℕ). take from l) is ∙ take-take from to buffer h in
     ap (λ (l : List ℕ). l ++ take (to - from) (drop from buffer)) front ∙ sym (take-add from (to - from) buffer) ∙ ap (λ (k : ℕ). take k buffer) n ∙ sym is
 
-pub opened_both : (a b c : Option (List ℕ)) (came : ℕ) (old new : Kept) (buffer x : List ℕ) (o : Opened) (s : IsOpenedSoFar a b came old) → Consumes b c x → x ≡ take o.to buffer → length x ≡ o.to → o.came ≡ came + o.to → o.came ≤ CERT_LIMIT → o.to ≤ length buffer → o.from ≤ length x
+pub opened_both : (a b c : Option (List ℕ)) (came : ℕ) (old new : Kept) (buffer x : List ℕ) (o : Opened) (s : IsOpenedSoFar a b came old) → Consumes b c x
+    → x ≡ take o.to buffer → length x ≡ o.to → o.came ≡ came + o.to → o.came ≤ CERT_LIMIT → o.to ≤ length buffer → o.from ≤ length x
     → new.stage ≡ stage.Done o.version o.no → IsOpening new (s.bytes ++ take o.from x) → HasOpened a c buffer o
 opened_both a b c came old new buffer x o s k at is come few within used done stands =
     let long = s.long in
     let ordered : o.from ≤ o.to = omega (arith, used, is) in
     let front = s.bytes ++ take o.from x in
     let rest = take (o.to - o.from) (drop o.from buffer) in
-    let cut : front ++ rest ≡ s.bytes ++ x = append_assoc s.bytes (take o.from x) rest ∙ ap (λ (l : List ℕ). s.bytes ++ l) (cut_piece buffer x o.from o.to ordered at) in
+    let cut : front ++ rest ≡ s.bytes ++ x = append_assoc s.bytes (take o.from x) rest
+    ∙ ap (λ (l : List ℕ). s.bytes ++ l) (cut_piece buffer x o.from o.to ordered at) in
     record {
       front = front;
       rest = rest;

@@ -43,7 +43,9 @@ accepted_more ns n = flat_map-append accepted_line ns (n ∷ []) ∙ ap (λ (t :
 
 -- ---- more of the text
 
-pub checked_more : (f : Contents) (n : ℕ) (text piece : List ℕ) (old new : FedKept) → ((v : Version) (s : SolidData) (first : ℕ) (t : List ℕ) → IsFed v s first t old → IsFed v s first (t ++ piece) new) → HasChecked f n text old → HasChecked f n (text ++ piece) new
+pub checked_more : (f : Contents) (n : ℕ) (text piece : List ℕ) (old new : FedKept)
+    → ((v : Version) (s : SolidData) (first : ℕ) (t : List ℕ) → IsFed v s first t old → IsFed v s first (t ++ piece) new) → HasChecked f n text old
+    → HasChecked f n (text ++ piece) new
 checked_more f n text piece old new fed h = record {
   version = h.version;
   one = h.one;
@@ -59,20 +61,27 @@ checked_more f n text piece old new fed h = record {
 
 -- what a checker says at the end of the lines that it was fed
 abbrev pub Says : FedKept → Result (Unit {0}) Illegal → Type 0
-Says c r = (v : Version) (s : SolidData) (first : ℕ) (text : List ℕ) → IsFed v s first text c → MatchResult r (λ _. IsLegal v s (cut_lines text)) (λ bad. IsFirstBad v s first (cut_lines text) bad)
+Says c r = (v : Version) (s : SolidData) (first : ℕ) (text : List ℕ) → IsFed v s first text c
+    → MatchResult r (λ _. IsLegal v s (cut_lines text)) (λ bad. IsFirstBad v s first (cut_lines text) bad)
 
 checked_opens : (f : Contents) (n : ℕ) (text : List ℕ) (c : FedKept) (h : HasChecked f n text c) → Opens text h.version n (cut_lines h.rest)
 checked_opens f n text c h = subst (λ (t : List ℕ). Opens t h.version n (cut_lines h.rest)) (sym h.whole) (h.opens h.rest)
 
-pub accepted_reply : (f : Contents) (n : ℕ) (text : List ℕ) (c : FedKept) (reply : Reply) → ((v : Version) (t : List ℕ) → IsFed v (solid_of f n) 3 t c → IsLegal v (solid_of f n) (cut_lines t)) → (reply.answer ≡ Done) × (reply.text ≡ accepted_line n) → HasChecked f n text c → length text ≤ CERT_LIMIT
+pub accepted_reply : (f : Contents) (n : ℕ) (text : List ℕ) (c : FedKept) (reply : Reply)
+    → ((v : Version) (t : List ℕ) → IsFed v (solid_of f n) 3 t c → IsLegal v (solid_of f n) (cut_lines t))
+    → (reply.answer ≡ Done) × (reply.text ≡ accepted_line n) → HasChecked f n text c → length text ≤ CERT_LIMIT
     → OfVerify text f reply.answer reply.text
 accepted_reply f n text c reply legal exact h few =
-    legal_owed OfYes f text h.version n (cut_lines h.rest) reply.answer reply.text few (checked_opens f n text c h) h.one h.holds (legal h.version h.rest h.fed) (exact.0, exact.1 ∙ sym (one_accepted n))
+    legal_owed OfYes f text h.version n (cut_lines h.rest) reply.answer reply.text few (checked_opens f n text c h) h.one h.holds
+    (legal h.version h.rest h.fed) (exact.0, exact.1 ∙ sym (one_accepted n))
 
-pub illegal_reply : (f : Contents) (n : ℕ) (text : List ℕ) (c : FedKept) (bad : Illegal) (reply : Reply) → ((v : Version) (t : List ℕ) → IsFed v (solid_of f n) 3 t c → IsFirstBad v (solid_of f n) 3 (cut_lines t) bad) → (reply.answer ≡ No) × (reply.text ≡ illegal_line bad) → HasChecked f n text c
+pub illegal_reply : (f : Contents) (n : ℕ) (text : List ℕ) (c : FedKept) (bad : Illegal) (reply : Reply)
+    → ((v : Version) (t : List ℕ) → IsFed v (solid_of f n) 3 t c → IsFirstBad v (solid_of f n) 3 (cut_lines t) bad)
+    → (reply.answer ≡ No) × (reply.text ≡ illegal_line bad) → HasChecked f n text c
     → length text ≤ CERT_LIMIT → OfVerify text f reply.answer reply.text
 illegal_reply f n text c bad reply first exact h few =
-    bad_owed OfYes f text h.version n (cut_lines h.rest) reply.answer reply.text few (checked_opens f n text c h) h.one h.holds bad (first h.version h.rest h.fed) exact
+    bad_owed OfYes f text h.version n (cut_lines h.rest) reply.answer reply.text few (checked_opens f n text c h) h.one h.holds bad
+    (first h.version h.rest h.fed) exact
 
 -- ---- reading the rest
 
@@ -103,8 +112,11 @@ module _ (a b c : Option (List ℕ)) (came so_far : ℕ) (s : IsReadSoFar a b ca
 
   pub read_too_many : (x : List ℕ) → Consumes b c x → CERT_LIMIT < so_far + length x → HasTooMany a c came
   read_too_many x k above =
-      let long = s.long in
-      (s.bytes ++ x, consumes_more a b c s.bytes x s.taken k, (let h : CERT_LIMIT < came + length (s.bytes ++ x) = omega (arith, long, above, length-append s.bytes x) in h))
+      let long = s.long in (
+        s.bytes ++ x,
+        consumes_more a b c s.bytes x s.taken k,
+        (let h : CERT_LIMIT < came + length (s.bytes ++ x) = omega (arith, long, above, length-append s.bytes x) in h),
+      )
 
 -- the same, and the checker was fed them
 pub record IsFedSoFar (before now : Option (List ℕ)) (came so_far : ℕ) (old new : FedKept) : Type 0 where
@@ -115,10 +127,13 @@ pub fed_none : (left : Option (List ℕ)) (came : ℕ) (k : FedKept) → IsFedSo
 fed_none left came k = record { read = read_none left came; fed = λ v s first text h. subst (λ (t : List ℕ). IsFed v s first t k) (sym (append-nil text)) h }
 
 module _ (a b c : Option (List ℕ)) (came so_far : ℕ) (old mid : FedKept) (r : IsFedSoFar a b came so_far old mid) where
-  pub fed_more : (new : FedKept) (count : ℕ) (x : List ℕ) → Consumes b c x → length x ≡ count → ((v : Version) (s : SolidData) (first : ℕ) (text : List ℕ) → IsFed v s first text mid → IsFed v s first (text ++ x) new) → IsFedSoFar a c came (so_far + count) old new
+  pub fed_more : (new : FedKept) (count : ℕ) (x : List ℕ) → Consumes b c x → length x ≡ count
+      → ((v : Version) (s : SolidData) (first : ℕ) (text : List ℕ) → IsFed v s first text mid → IsFed v s first (text ++ x) new)
+      → IsFedSoFar a c came (so_far + count) old new
   fed_more new count x k is next = record {
     read = read_more a b c came so_far r.read count x k is;
-    fed = λ v s first text h. subst (λ (t : List ℕ). IsFed v s first t new) (append_assoc text r.read.bytes x) (next v s first (text ++ r.read.bytes) (r.fed v s first text h));
+    fed = λ v s first text h. subst (λ (t : List ℕ). IsFed v s first t new) (append_assoc text r.read.bytes x)
+        (next v s first (text ++ r.read.bytes) (r.fed v s first text h));
   }
 
   pub fed_whole : so_far ≤ CERT_LIMIT → Consumes b c [] → IsAtEnd c → IsRestFed a c came old mid
@@ -129,16 +144,25 @@ module _ (a b c : Option (List ℕ)) (came so_far : ℕ) (old mid : FedKept) (r 
 -- ---- the reply behind a part that was read
 
 -- the certificate is too large
-pub too_large_owed : (OfAccepted : List ℕ → Owed) (f : Contents) (a : Option (List ℕ)) (bytes : List ℕ) (c : Option (List ℕ)) (reply : Reply) → Consumes a c bytes → CERT_LIMIT < length bytes → (reply.answer ≡ TooLarge) × (reply.text ≡ []) → IsReply (λ certificate. OfCertificate OfAccepted certificate f) a reply
+pub too_large_owed : (OfAccepted : List ℕ → Owed) (f : Contents) (a : Option (List ℕ)) (bytes : List ℕ) (c : Option (List ℕ)) (reply : Reply)
+    → Consumes a c bytes → CERT_LIMIT < length bytes → (reply.answer ≡ TooLarge) × (reply.text ≡ [])
+    → IsReply (λ certificate. OfCertificate OfAccepted certificate f) a reply
 too_large_owed OfAccepted f a bytes c reply k above exact =
     let t = told_more a c bytes k in
-    record { bytes = t.0; told = t.1; owed = owed_so (OfCertificate OfAccepted t.0 f) _ _ _ _ (certificate_too_large (omega (arith, above, t.2))) exact.0 exact.1 }
+    record {
+      bytes = t.0;
+      told = t.1;
+      owed = owed_so (OfCertificate OfAccepted t.0 f) _ _ _ _ (certificate_too_large (omega (arith, above, t.2))) exact.0
+          exact.1;
+    }
 
-pub rest_too_large : (f : Contents) (a b c : Option (List ℕ)) (text : List ℕ) (came : ℕ) (reply : Reply) → Consumes a b text → length text ≡ came → HasTooMany b c came → (reply.answer ≡ TooLarge) × (reply.text ≡ []) → IsReply (λ certificate. OfVerify certificate f) a reply
+pub rest_too_large : (f : Contents) (a b c : Option (List ℕ)) (text : List ℕ) (came : ℕ) (reply : Reply) → Consumes a b text → length text ≡ came
+    → HasTooMany b c came → (reply.answer ≡ TooLarge) × (reply.text ≡ []) → IsReply (λ certificate. OfVerify certificate f) a reply
 rest_too_large f a b c text came reply k long many exact =
     too_large_owed OfYes f a (text ++ many.0) c reply (consumes_more a b c text many.0 k many.1) (omega (arith, long, many.2, length-append text many.0)) exact
 
-pub decided_owed : (f : Contents) (a b c : Option (List ℕ)) (text : List ℕ) (came : ℕ) (reply : Reply) → Consumes a b text → length text ≡ came → IsDecided f text reply → IsRestRead b c came → IsReply (λ certificate. OfVerify certificate f) a reply
+pub decided_owed : (f : Contents) (a b c : Option (List ℕ)) (text : List ℕ) (came : ℕ) (reply : Reply) → Consumes a b text → length text ≡ came
+    → IsDecided f text reply → IsRestRead b c came → IsReply (λ certificate. OfVerify certificate f) a reply
 decided_owed f a b c text came reply k long decided rest =
     let few = rest.few in
     record {
@@ -147,8 +171,10 @@ decided_owed f a b c text came reply k long decided rest =
       owed = decided rest.bytes (omega (arith, long, few, length-append text rest.bytes));
     }
 
-pub rest_owed : (f : Contents) (a b c : Option (List ℕ)) (text : List ℕ) (came n : ℕ) (old new : FedKept) (reply : Reply) → Consumes a b text → length text ≡ came → HasChecked f n text old → IsRestFed b c came old new
-    → ((f : Contents) (text : List ℕ) → HasChecked f n text new → length text ≤ CERT_LIMIT → OfVerify text f reply.answer reply.text) → IsReply (λ certificate. OfVerify certificate f) a reply
+pub rest_owed : (f : Contents) (a b c : Option (List ℕ)) (text : List ℕ) (came n : ℕ) (old new : FedKept) (reply : Reply) → Consumes a b text
+    → length text ≡ came → HasChecked f n text old → IsRestFed b c came old new
+    → ((f : Contents) (text : List ℕ) → HasChecked f n text new → length text ≤ CERT_LIMIT → OfVerify text f reply.answer reply.text)
+    → IsReply (λ certificate. OfVerify certificate f) a reply
 rest_owed f a b c text came n old new reply k long checked rest owed =
     let few = rest.few in
     record {
@@ -159,19 +185,30 @@ rest_owed f a b c text came n old new reply k long checked rest owed =
 
 -- ---- behind the first two lines
 
-pub bad_opening_decides : (f : Contents) (text : List ℕ) (bad : Illegal) (reply : Reply) → ((more : List ℕ) → IsBadOpening (text ++ more) bad) → (reply.answer ≡ No) × (reply.text ≡ illegal_line bad) → IsDecided f text reply
+pub bad_opening_decides : (f : Contents) (text : List ℕ) (bad : Illegal) (reply : Reply) → ((more : List ℕ) → IsBadOpening (text ++ more) bad)
+    → (reply.answer ≡ No) × (reply.text ≡ illegal_line bad) → IsDecided f text reply
 bad_opening_decides f text bad reply always exact more few = owed_so (OfVerify (text ++ more) f) _ _ _ _ (opening_bad few bad (always more)) exact.0 exact.1
 
-pub early_owed : (f : Contents) (a b : Option (List ℕ)) (bad : Illegal) (reply : Reply) → EndsEarly a b bad → (reply.answer ≡ No) × (reply.text ≡ illegal_line bad) → IsReply (λ certificate. OfVerify certificate f) a reply
-early_owed f a b bad reply h exact = record { bytes = h.bytes; told = told_all a b h.bytes h.taken h.ended; owed = owed_so (OfVerify h.bytes f) _ _ _ _ (opening_bad h.few bad h.wrong) exact.0 exact.1 }
+pub early_owed : (f : Contents) (a b : Option (List ℕ)) (bad : Illegal) (reply : Reply) → EndsEarly a b bad
+    → (reply.answer ≡ No) × (reply.text ≡ illegal_line bad) → IsReply (λ certificate. OfVerify certificate f) a reply
+early_owed f a b bad reply h exact =
+    record {
+      bytes = h.bytes;
+      told = told_all a b h.bytes h.taken h.ended;
+      owed = owed_so (OfVerify h.bytes f) _ _ _ _ (opening_bad h.few bad h.wrong) exact.0
+          exact.1;
+    }
 
-pub refusal_decides : (f : Contents) (a b : Option (List ℕ)) (buffer : List ℕ) (o : Opened) (reply : Reply) (h : HasOpened a b buffer o) → IsOfOne o.version → TellsFalse fail_line f o.no.0 reply → IsDecided f (h.front ++ h.rest) reply
+pub refusal_decides : (f : Contents) (a b : Option (List ℕ)) (buffer : List ℕ) (o : Opened) (reply : Reply) (h : HasOpened a b buffer o) → IsOfOne o.version
+    → TellsFalse fail_line f o.no.0 reply → IsDecided f (h.front ++ h.rest) reply
 refusal_decides f a b buffer o reply h one (x, first, exact) more few =
     let same = append_assoc h.front h.rest more in
     subst (λ (c : List ℕ). OfVerify c f reply.answer reply.text) (sym same)
-    (false_owed OfYes f (h.front ++ (h.rest ++ more)) o.version o.no.0 (cut_lines (h.rest ++ more)) reply.answer reply.text (subst (λ (c : List ℕ). length c ≤ CERT_LIMIT) same few) (h.opens (h.rest ++ more)) one x first exact)
+    (false_owed OfYes f (h.front ++ (h.rest ++ more)) o.version o.no.0 (cut_lines (h.rest ++ more)) reply.answer reply.text
+    (subst (λ (c : List ℕ). length c ≤ CERT_LIMIT) same few) (h.opens (h.rest ++ more)) one x first exact)
 
-pub lines_judged : (f : Contents) (a b : Option (List ℕ)) (buffer : List ℕ) (o : Opened) (c : FedKept) (h : HasOpened a b buffer o) → IsOfOne o.version → (s : SolidData) → IsChecked f o.no.0 s → IsFed o.version s 3 h.rest c → HasChecked f o.no.0 (h.front ++ h.rest) c
+pub lines_judged : (f : Contents) (a b : Option (List ℕ)) (buffer : List ℕ) (o : Opened) (c : FedKept) (h : HasOpened a b buffer o) → IsOfOne o.version
+    → (s : SolidData) → IsChecked f o.no.0 s → IsFed o.version s 3 h.rest c → HasChecked f o.no.0 (h.front ++ h.rest) c
 lines_judged f a b buffer o c h one s k fed = record {
   version = o.version;
   one = one;
@@ -184,7 +221,8 @@ lines_judged f a b buffer o c h one s k fed = record {
 }
 
 -- the first part of a book has begun
-pub opened_begun : (f : Contents) (a b : Option (List ℕ)) (buffer : List ℕ) (o : Opened) (begun : Begun) → HasOpened a b buffer o → o.version ≡ Three → begun ≡ (record { no = o.no; line = 3; from = o.from; to = o.to; came = o.came }) → HasBegun f [] a b buffer begun
+pub opened_begun : (f : Contents) (a b : Option (List ℕ)) (buffer : List ℕ) (o : Opened) (begun : Begun) → HasOpened a b buffer o → o.version ≡ Three
+    → begun ≡ (record { no = o.no; line = 3; from = o.from; to = o.to; came = o.came }) → HasBegun f [] a b buffer begun
 opened_begun f a b buffer o begun h three is =
     let whole = ap (λ (l : List ℕ). h.front ++ l) h.behind in
     subst (HasBegun f [] a b buffer) (sym is) (record {

@@ -16,7 +16,8 @@ use Rattle.solid_check.proofs.BookReading.{none_bad, one_reading, one_refusal}
 use Rattle.command_replies.specs.declared.answer.Answer.TheVariants as answer
 use Rattle.command_replies.specs.Texts.{accepted_lines, fail_line, illegal_line, solid_fail_text}
 use Rattle.command_replies.specs.Due.{Owed, Exactly, OfText}
-use Rattle.certificate_commands.specs.Due.{OfLines, place_fails, line_bad, lines_accepted, OfBook, part_fails, part_bad, parts_accepted, OfVersion, OfCertificate, certificate_too_large, opening_bad, opened, OfVerify, OfUpgrade, upgraded_for}
+use Rattle.certificate_commands.specs.Due.{OfLines, place_fails, line_bad, lines_accepted, OfBook, part_fails, part_bad, parts_accepted, OfVersion}
+use Rattle.certificate_commands.specs.Due.{OfCertificate, certificate_too_large, opening_bad, opened, OfVerify, OfUpgrade, upgraded_for}
 use Rattle.command_replies.proofs.One.{IsOne, exactly_one, text_one}
 
 pub lines_one : (granted : Owed) → IsOne granted → (v : Version) (n : ℕ) (lines : List (List ℕ)) (f : Contents) → IsOne (OfLines granted v n lines f)
@@ -24,10 +25,13 @@ lines_one granted one v n lines f a b t u (place_fails x p) (place_fails y q) = 
 lines_one granted one v n lines f a b t u (place_fails x p) (line_bad all bad q) = absurd (FirstFalse-not_all (checked f n) x p all)
 lines_one granted one v n lines f a b t u (place_fails x p) (lines_accepted all legal due) = absurd (FirstFalse-not_all (checked f n) x p all)
 lines_one granted one v n lines f a b t u (line_bad all bad p) (place_fails y q) = absurd (FirstFalse-not_all (checked f n) y q all)
-lines_one granted one v n lines f a b t u (line_bad all bad p) (line_bad every worse q) = (refl, ap illegal_line (one_first_bad v (solid_of f n) 3 lines bad worse p q))
-lines_one granted one v n lines f a b t u (line_bad all bad p) (lines_accepted every legal due) = absurd (legal_has_no_bad_lem v (solid_of f n) 3 lines bad legal p)
+lines_one granted one v n lines f a b t u (line_bad all bad p) (line_bad every worse q) =
+    (refl, ap illegal_line (one_first_bad v (solid_of f n) 3 lines bad worse p q))
+lines_one granted one v n lines f a b t u (line_bad all bad p) (lines_accepted every legal due) =
+    absurd (legal_has_no_bad_lem v (solid_of f n) 3 lines bad legal p)
 lines_one granted one v n lines f a b t u (lines_accepted all legal owed) (place_fails y q) = absurd (FirstFalse-not_all (checked f n) y q all)
-lines_one granted one v n lines f a b t u (lines_accepted all legal owed) (line_bad every bad q) = absurd (legal_has_no_bad_lem v (solid_of f n) 3 lines bad legal q)
+lines_one granted one v n lines f a b t u (lines_accepted all legal owed) (line_bad every bad q) =
+    absurd (legal_has_no_bad_lem v (solid_of f n) 3 lines bad legal q)
 lines_one granted one v n lines f a b t u (lines_accepted all legal owed) (lines_accepted every other due) = one a b t u owed due
 
 -- the lines behind the head
@@ -42,10 +46,13 @@ module _ (granted : List ℕ → Owed) (one : (ns : List ℕ) → IsOne (granted
   pub book_one : (c : List ℕ) (lines : List (List ℕ)) (f : Contents) → IsHeaded c Three lines → IsOne (OfBook granted c lines f)
   unfolding refusal_text
   book_one c lines f h a b t u (part_fails n x p) (part_fails m y q) = (refl, ap refusal_text (one_refusal f c lines (book.fails n x) (book.fails m y) h p q))
-  book_one c lines f h a b t u (part_fails n x p) (part_bad bad q) = absurd (let same : book.fails n x ≡ book.illegal bad = one_refusal f c lines (book.fails n x) (book.illegal bad) h p q in cc)
+  book_one c lines f h a b t u (part_fails n x p) (part_bad bad q) =
+      absurd (let same : book.fails n x ≡ book.illegal bad = one_refusal f c lines (book.fails n x) (book.illegal bad) h p q in cc)
   book_one c lines f h a b t u (part_fails n x p) (parts_accepted parts ok due) = absurd (none_bad f c lines parts (book.fails n x) h ok p)
-  book_one c lines f h a b t u (part_bad bad p) (part_fails m y q) = absurd (let same : book.illegal bad ≡ book.fails m y = one_refusal f c lines (book.illegal bad) (book.fails m y) h p q in cc)
-  book_one c lines f h a b t u (part_bad bad p) (part_bad worse q) = (refl, ap refusal_text (one_refusal f c lines (book.illegal bad) (book.illegal worse) h p q))
+  book_one c lines f h a b t u (part_bad bad p) (part_fails m y q) =
+      absurd (let same : book.illegal bad ≡ book.fails m y = one_refusal f c lines (book.illegal bad) (book.fails m y) h p q in cc)
+  book_one c lines f h a b t u (part_bad bad p) (part_bad worse q) =
+      (refl, ap refusal_text (one_refusal f c lines (book.illegal bad) (book.illegal worse) h p q))
   book_one c lines f h a b t u (part_bad bad p) (parts_accepted parts ok due) = absurd (none_bad f c lines parts (book.illegal bad) h ok p)
   book_one c lines f h a b t u (parts_accepted parts ok owed) (part_fails m y q) = absurd (none_bad f c lines parts (book.fails m y) h ok q)
   book_one c lines f h a b t u (parts_accepted parts ok owed) (part_bad bad q) = absurd (none_bad f c lines parts (book.illegal bad) h ok q)
@@ -70,7 +77,8 @@ module _ (granted : List ℕ → Owed) (one : (ns : List ℕ) → IsOne (granted
   certificate_one c f a b t u (opened few v n lines opens owed) (opened fewer w m others at due) =
       let same = one_opening c v w n m lines others opens at in
       version_one c w m others f a b t u
-      (subst (λ (x : Version). OfVersion granted c x m others f a t) same.0 (subst (λ (k : ℕ). OfVersion granted c v k others f a t) same.1 (subst (λ (xs : List (List ℕ)). OfVersion granted c v n xs f a t) same.2 owed))) due
+      (subst (λ (x : Version). OfVersion granted c x m others f a t) same.0
+      (subst (λ (k : ℕ). OfVersion granted c v k others f a t) same.1 (subst (λ (xs : List (List ℕ)). OfVersion granted c v n xs f a t) same.2 owed))) due
 
 pub verify_one : (certificate : List ℕ) (f : Contents) → IsOne (OfVerify certificate f)
 verify_one certificate f = certificate_one (λ ns. Exactly answer.Done (accepted_lines ns)) (λ ns. exactly_one answer.Done (accepted_lines ns)) certificate f

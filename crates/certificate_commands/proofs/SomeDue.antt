@@ -23,13 +23,15 @@ use Rattle.solid_check.proofs.Decided.{checks_decided}
 use Rattle.command_replies.specs.declared.answer.Answer.TheVariants as answer
 use Rattle.command_replies.specs.Texts.{accepted_lines, fail_line, illegal_line, solid_fail_text}
 use Rattle.command_replies.specs.Due.{Owed, Exactly, OfText}
-use Rattle.certificate_commands.specs.Due.{OfLines, place_fails, line_bad, lines_accepted, OfBook, part_fails, part_bad, parts_accepted, OfVersion, OfCertificate, certificate_too_large, opening_bad, opened, OfVerify, OfUpgrade, upgraded_for}
+use Rattle.certificate_commands.specs.Due.{OfLines, place_fails, line_bad, lines_accepted, OfBook, part_fails, part_bad, parts_accepted, OfVersion}
+use Rattle.certificate_commands.specs.Due.{OfCertificate, certificate_too_large, opening_bad, opened, OfVerify, OfUpgrade, upgraded_for}
 use Rattle.command_replies.proofs.SomeDue.{IsSome, longer, text_due}
 
 pub lines_due : (granted : Owed) → IsSome granted → (v : Version) (n : ℕ) (lines : List (List ℕ)) (f : Contents) → IsSome (OfLines granted v n lines f)
 lines_due granted due v n lines f = by_checks (all_or_first_false (checked f n) (checks_decided f n)) (legal_or_first_bad v (solid_of f n) 3 lines)
   where
-    by_checks : AllHold (checked f n) ⊎ ((x : Failing) × FirstFalse (checked f n) x) → IsLegal v (solid_of f n) lines ⊎ ((bad : Illegal) × IsFirstBad v (solid_of f n) 3 lines bad) → IsSome (OfLines granted v n lines f)
+    by_checks : AllHold (checked f n) ⊎ ((x : Failing) × FirstFalse (checked f n) x)
+        → IsLegal v (solid_of f n) lines ⊎ ((bad : Illegal) × IsFirstBad v (solid_of f n) 3 lines bad) → IsSome (OfLines granted v n lines f)
     by_checks (inr (x, bad)) legal = (answer.No, fail_line x, place_fails x bad)
     by_checks (inl all) (inl legal) = (due.0, due.1, lines_accepted all legal due.2)
     by_checks (inl all) (inr (bad, first)) = (answer.No, illegal_line bad, line_bad all bad first)
@@ -54,7 +56,8 @@ module _ (granted : List ℕ → Owed) (each : (ns : List ℕ) → IsSome (grant
   pub certificate_due : (certificate : List ℕ) (f : Contents) → IsSome (OfCertificate granted certificate f)
   certificate_due certificate f = by_limit (decided_within (length certificate) CERT_LIMIT) (openings_are_decided certificate)
     where
-      by_limit : Decided (length certificate ≤ CERT_LIMIT) → ((v : Version) × (n : ℕ) × (rest : List (List ℕ)) × Opens certificate v n rest) ⊎ ((bad : Illegal) × IsBadOpening certificate bad) → IsSome (OfCertificate granted certificate f)
+      by_limit : Decided (length certificate ≤ CERT_LIMIT) → ((v : Version) × (n : ℕ) × (rest : List (List ℕ)) × Opens certificate v n rest)
+          ⊎ ((bad : Illegal) × IsBadOpening certificate bad) → IsSome (OfCertificate granted certificate f)
       by_limit (inr more) opening = (answer.TooLarge, [], certificate_too_large (longer (length certificate) CERT_LIMIT more))
       by_limit (inl few) (inr (bad, wrong)) = (answer.No, illegal_line bad, opening_bad few bad wrong)
       by_limit (inl few) (inl (v, n, rest, opens)) = let due = version_due certificate v n rest f opens in (due.0, due.1, opened few v n rest opens due.2)

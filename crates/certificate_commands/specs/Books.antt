@@ -31,7 +31,8 @@ use Rattle.iges_io.specs.Reading.{TakesAtMost}
 use Rattle.command_replies.specs.Outcome.{ReadsCertificate}
 use Rattle.command_replies.specs.Replies.{IsReply}
 
--- The text is the front of a book: after the head come good parts, which name these solids, and then the line of solid n, which is greater. The line after that has this number.
+-- The text is the front of a book: after the head come good parts, which name these solids, and then the line of solid n, which is greater. The line after that
+-- has this number.
 pub record BeginsPart (f : Contents) (ns : List ℕ) (text : List ℕ) (n line : ℕ) : Type 0 where
   pub parts : List Part
   pub named : solids_named parts ≡ ns
@@ -129,10 +130,12 @@ Leaves before after buffer old (judged.Next next) = GoesOn before after buffer o
 Leaves before after buffer old judged.Last = IsAtEnd after × TakesAtMost (CERT_LIMIT - old.came) before after
 Leaves before after buffer old (judged.Decided reply) = ReadsCertificate after reply.answer
 
--- What judging the part of solid n came to, after good parts that name these solids: the next part, that the certificate is accepted and names these and n, or a reply that is owed.
+-- What judging the part of solid n came to, after good parts that name these solids: the next part, that the certificate is accepted and names these and n, or
+-- a reply that is owed.
 abbrev pub IsPartJudged : Contents → List ℕ → ℕ → Option (List ℕ) → Option (List ℕ) → List ℕ → PartJudged → Type 0
 IsPartJudged f ns n before after buffer (judged.Next next) = HasBegun f (ns ++ n ∷ []) before after buffer next
-IsPartJudged f ns n before after buffer judged.Last = (reply : Reply) → Exactly Done (accepted_lines (ns ++ n ∷ [])) reply.answer reply.text → IsReply (λ certificate. OfVerify certificate f) before reply
+IsPartJudged f ns n before after buffer judged.Last = (reply : Reply) → Exactly Done (accepted_lines (ns ++ n ∷ [])) reply.answer reply.text
+    → IsReply (λ certificate. OfVerify certificate f) before reply
 IsPartJudged f ns n before after buffer (judged.Decided reply) = IsReply (λ certificate. OfVerify certificate f) before reply
 
 -- ---- a book that is held whole

@@ -36,9 +36,11 @@ pub data OfBook (OfAccepted : List ℕ → Owed) (certificate : List ℕ) (lines
   -- a line is bad
   part_bad : (bad : Illegal) → IsBookBad f lines (book.illegal bad) → OfBook OfAccepted certificate lines f answer.No (illegal_line bad)
   -- it is accepted: by the solids that its parts name
-  parts_accepted : {a : Answer} {t : List ℕ} (parts : List Part) → IsAcceptedBook f certificate parts → OfAccepted (solids_named parts) a t → OfBook OfAccepted certificate lines f a t
+  parts_accepted : {a : Answer} {t : List ℕ} (parts : List Part) → IsAcceptedBook f certificate parts → OfAccepted (solids_named parts) a t
+      → OfBook OfAccepted certificate lines f a t
 
--- what is owed of a certificate of this version whose line 2 names solid n and has these lines after it: one of version 3 is a book, any other is of solid n alone
+-- what is owed of a certificate of this version whose line 2 names solid n and has these lines after it: one of version 3 is a book, any other is of solid n
+-- alone
 abbrev pub OfVersion : (List ℕ → Owed) → List ℕ → Version → ℕ → List (List ℕ) → Contents → Owed
 OfVersion OfAccepted certificate One n lines f a t = OfLines (OfAccepted (n ∷ [])) One n lines f a t
 OfVersion OfAccepted certificate Two n lines f a t = OfLines (OfAccepted (n ∷ [])) Two n lines f a t
@@ -49,9 +51,11 @@ pub data OfCertificate (OfAccepted : List ℕ → Owed) (certificate : List ℕ)
   -- it is too large
   certificate_too_large : CERT_LIMIT < length certificate → OfCertificate OfAccepted certificate f answer.TooLarge []
   -- line 1 or 2 is bad
-  opening_bad : length certificate ≤ CERT_LIMIT → (bad : Illegal) → IsBadOpening certificate bad → OfCertificate OfAccepted certificate f answer.No (illegal_line bad)
+  opening_bad : length certificate ≤ CERT_LIMIT → (bad : Illegal) → IsBadOpening certificate bad
+      → OfCertificate OfAccepted certificate f answer.No (illegal_line bad)
   -- both are good: by the version
-  opened : {a : Answer} {t : List ℕ} → length certificate ≤ CERT_LIMIT → (v : Version) (n : ℕ) (lines : List (List ℕ)) → Opens certificate v n lines → OfVersion OfAccepted certificate v n lines f a t
+  opened : {a : Answer} {t : List ℕ} → length certificate ≤ CERT_LIMIT → (v : Version) (n : ℕ) (lines : List (List ℕ)) → Opens certificate v n lines
+      → OfVersion OfAccepted certificate v n lines f a t
       → OfCertificate OfAccepted certificate f a t
 
 -- what is owed of verifying a certificate: of an accepted one a line for each solid that it names

@@ -18,7 +18,8 @@ parts-init g c = record {
 }
 
 pub returns-in_err-next-clause-taken : goal.returns-in_err-next-clause-taken
-returns-in_err-next-clause-taken g c = taken_few _ _ _ c.args.begun.came c.parts.begun.came _ c.parts.invariant.since c.parts.invariant.place.few (c.in_err-next.ensures {u = tt}).taken
+returns-in_err-next-clause-taken g c = taken_few _ _ _ c.args.begun.came c.parts.begun.came _ c.parts.invariant.since c.parts.invariant.place.few
+    (c.in_err-next.ensures {u = tt}).taken
 
 pub returns-in_err-put_accepted-in-Next-clause-taken : goal.returns-in_err-put_accepted-in-Next-clause-taken
 returns-in_err-put_accepted-in-Next-clause-taken g c =
@@ -33,8 +34,10 @@ parts-preserved g c =
       file = c.judge_part.ensures.file ∙ c.parts.invariant.file;
       place = leaves.place;
       since = taken_more _ _ _ c.args.begun.came c.judge_part.new.piece c.parts.begun c.in-Next.next c.parts.invariant.since leaves;
-      told = told_more c.args.file _ _ _ c.args.piece.now _ c.judge_part.new.piece c.args.begun c.parts.begun c.in-Next.next _ c.put_accepted.new.out c.parts.invariant.told
-          (λ ns before h. rw c.in-Next.is at ((rw c.parts.invariant.file at (c.in_ok-next.ensures {u = tt}).found) ns before h)) (c.in_ok-put_accepted-in-Next.ensures {u = tt});
+      told = told_more c.args.file _ _ _ c.args.piece.now _ c.judge_part.new.piece c.args.begun c.parts.begun c.in-Next.next _ c.put_accepted.new.out
+          c.parts.invariant.told
+          (λ ns before h. rw c.in-Next.is at ((rw c.parts.invariant.file at (c.in_ok-next.ensures {u = tt}).found) ns before h))
+          (c.in_ok-put_accepted-in-Next.ensures {u = tt});
       count = (c.in_ok-next.ensures {u = tt}).count ∙ c.parts.invariant.count;
       room = (let h : length c.judge_part.new.piece ≡ PIECE = omega arith in h);
       ready = more tt;
@@ -49,7 +52,11 @@ pub returns-in-Last-clause-found : goal.returns-in-Last-clause-found
 returns-in-Last-clause-found g c = λ before h.
     let at = c.parts.invariant.told before h in
     let owed = rw c.in-Last.is at ((rw c.parts.invariant.file at (c.in_ok-next.ensures {u = tt}).found) at.0 before at.1) in
-    owed _ (refl, c.into_bytes.ensures ∙ (c.in_ok-put_accepted-in-Last.ensures {u = tt}) ∙ ap (λ (t : List ℕ). t ++ accepted_line c.parts.begun.no.0) at.2 ∙ sym (accepted_more at.0 c.parts.begun.no.0))
+    owed _ (
+      refl,
+      c.into_bytes.ensures ∙ (c.in_ok-put_accepted-in-Last.ensures {u = tt}) ∙ ap (λ (t : List ℕ). t ++ accepted_line c.parts.begun.no.0) at.2
+          ∙ sym (accepted_more at.0 c.parts.begun.no.0),
+    )
 
 pub returns-in-Last-clause-taken : goal.returns-in-Last-clause-taken
 returns-in-Last-clause-taken g c =
@@ -61,4 +68,5 @@ returns-in-Decided-clause-found g c = λ before h.
     rw c.in-Decided.is at ((rw c.parts.invariant.file at (c.in_ok-next.ensures {u = tt}).found) at.0 before at.1)
 
 pub returns-in-Decided-clause-taken : goal.returns-in-Decided-clause-taken
-returns-in-Decided-clause-taken g c = takes_on _ _ _ c.args.begun.came c.parts.begun.came c.parts.invariant.since c.parts.invariant.place.few (c.in_ok-next.ensures {u = tt}).taken
+returns-in-Decided-clause-taken g c = takes_on _ _ _ c.args.begun.came c.parts.begun.came c.parts.invariant.since c.parts.invariant.place.few
+    (c.in_ok-next.ensures {u = tt}).taken

@@ -12,7 +12,8 @@ invariant-parts g l = record {
   file : l.walker ≡ l.fn.file;
   place : IsPlace l.piece l.begun;
   since : TakenSince (g.C.Source.left l.fn.cert) (g.C.Source.left l.cert) l.fn.begun.came l.begun.came;
-  told : (before : Option (List ℕ)) → HasBegun l.fn.file [] before (g.C.Source.left l.fn.cert) l.fn.piece l.fn.begun → (ns : List ℕ) × HasBegun l.fn.file ns before (g.C.Source.left l.cert) l.piece l.begun × (l.out ≡ accepted_lines ns);
+  told : (before : Option (List ℕ)) → HasBegun l.fn.file [] before (g.C.Source.left l.fn.cert) l.fn.piece l.fn.begun
+      → (ns : List ℕ) × HasBegun l.fn.file ns before (g.C.Source.left l.cert) l.piece l.begun × (l.out ≡ accepted_lines ns);
   count : g.C.Source.faults l.cert ≡ g.C.Source.faults l.fn.cert;
   room : length l.piece ≡ PIECE;
   ready : g.C.Source.can_read l.cert;

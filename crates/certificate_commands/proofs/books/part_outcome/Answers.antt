@@ -21,7 +21,8 @@ pub returns-in_ok-illegal-in-Err-clause-found : goal.returns-in_ok-illegal-in-Er
 returns-in_ok-illegal-in-Err-clause-found g c = λ f s ns before h checked fed.
     let last = rw c.in-Last.is at (c.in_ok-next.ensures {u = tt}).found in
     let wrong = (c.in-Err.ensures {u = tt}).part _ s c.args.begun.line _ (last.fed _ s c.args.begun.line fed) in
-    bad_part f ns before _ c.args.piece.now c.args.begun h _ s checked _ _ fed last c.in-Err.bad wrong c.in_ok-illegal-in-Err.field-0 (c.in_ok-illegal-in-Err.ensures {u = tt})
+    bad_part f ns before _ c.args.piece.now c.args.begun h _ s checked _ _ fed last c.in-Err.bad wrong c.in_ok-illegal-in-Err.field-0
+    (c.in_ok-illegal-in-Err.ensures {u = tt})
 
 pub returns-in-TooLarge-clause-found : goal.returns-in-TooLarge-clause-found
 returns-in-TooLarge-clause-found g c = λ f s ns before h checked fed.

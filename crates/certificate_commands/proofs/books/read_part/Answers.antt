@@ -7,17 +7,20 @@ use Rattle.certificate_commands.proofs.books.read_part.Goals as goal
 pub returns-in-Some-clause-found : goal.returns-in-Some-clause-found
 returns-in-Some-clause-found g c =
     let says = subst (Feeds _ _ _) c.in-Some.is c.feed.ensures.fed in
-    reads_next _ _ c.args.begun.came c.pieces.came c.pieces.from c.pieces.to _ _ _ _ _ c.in-Some.next _ c.pieces.invariant.reads says (rw c.in-Some.is at c.feed.ensures.within) c.pieces.invariant.few c.pieces.invariant.ordered c.pieces.invariant.within refl
+    reads_next _ _ c.args.begun.came c.pieces.came c.pieces.from c.pieces.to _ _ _ _ _ c.in-Some.next _ c.pieces.invariant.reads says
+    (rw c.in-Some.is at c.feed.ensures.within) c.pieces.invariant.few c.pieces.invariant.ordered c.pieces.invariant.within refl
 
 pub returns-in-End-clause-found : goal.returns-in-End-clause-found
 returns-in-End-clause-found g c =
     let read = rw c.in-End.is at (c.in-Ok.ensures {u = tt}).read in
-    reads_last _ _ _ c.args.begun.came c.pieces.came _ _ _ _ _ c.pieces.invariant.reads (subst (Feeds _ _ _) c.in_default.is c.feed.ensures.fed) c.pieces.invariant.few read.0 read.1
+    reads_last _ _ _ c.args.begun.came c.pieces.came _ _ _ _ _ c.pieces.invariant.reads (subst (Feeds _ _ _) c.in_default.is c.feed.ensures.fed)
+    c.pieces.invariant.few read.0 read.1
 
 pub returns-in-TooLarge-clause-found : goal.returns-in-TooLarge-clause-found
 returns-in-TooLarge-clause-found g c =
     let read = rw c.in-TooLarge.is at (c.in-Ok.ensures {u = tt}).read in
-    reads_too_many _ _ _ c.args.begun.came c.pieces.came _ _ _ _ _ c.pieces.invariant.reads (subst (Feeds _ _ _) c.in_default.is c.feed.ensures.fed) read.0 read.1 read.2
+    reads_too_many _ _ _ c.args.begun.came c.pieces.came _ _ _ _ _ c.pieces.invariant.reads (subst (Feeds _ _ _) c.in_default.is c.feed.ensures.fed) read.0
+    read.1 read.2
 
 pub feed-requires : goal.feed-requires
 feed-requires g c = c.pieces.invariant.part
@@ -30,7 +33,8 @@ pieces-preserved g c =
       few = read.3;
       ordered = (let h : 0 ≤ c.in-Bytes.count = omega arith in h);
       within = read.2;
-      reads = reads_more _ _ _ c.args.begun.came c.pieces.came _ _ _ _ _ c.pieces.invariant.reads says c.next_piece.new.buffer c.in-Bytes.count read.0 (read_long c.next_piece.new.buffer c.in-Bytes.count read.2);
+      reads = reads_more _ _ _ c.args.begun.came c.pieces.came _ _ _ _ _ c.pieces.invariant.reads says c.next_piece.new.buffer c.in-Bytes.count read.0
+          (read_long c.next_piece.new.buffer c.in-Bytes.count read.2);
       part = in_part_more _ _ _ c.pieces.invariant.part says;
       count = (c.in-Ok.ensures {u = tt}).cause ∙ c.pieces.invariant.count;
       room = (let h : length c.next_piece.new.buffer ≡ PIECE = omega arith in h);
@@ -52,4 +56,5 @@ pieces-init g c = record {
 pub returns-in-TooLarge-clause-taken : goal.returns-in-TooLarge-clause-taken
 returns-in-TooLarge-clause-taken g c =
     let read = rw c.in-TooLarge.is at (c.in-Ok.ensures {u = tt}).read in
-    reads_past _ _ _ c.args.begun.came c.pieces.came _ _ c.next_piece.new.buffer _ _ c.pieces.invariant.reads c.pieces.invariant.few read.0 read.1 read.3 (let h : length c.next_piece.new.buffer ≡ PIECE = omega arith in h)
+    reads_past _ _ _ c.args.begun.came c.pieces.came _ _ c.next_piece.new.buffer _ _ c.pieces.invariant.reads c.pieces.invariant.few read.0 read.1 read.3
+    (let h : length c.next_piece.new.buffer ≡ PIECE = omega arith in h)

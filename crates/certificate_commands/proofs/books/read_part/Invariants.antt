@@ -10,7 +10,8 @@ invariant-pieces g l = record {
   few : l.came ≤ CERT_LIMIT;
   ordered : l.from ≤ l.to;
   within : l.to ≤ length l.piece;
-  reads : ReadsPart (g.C.Source.left l.fn.cert) (g.C.Source.left l.cert) l.fn.begun.came (held l.fn.piece l.fn.begun) (between l.piece l.from l.to) l.came l.fn.checker l.checker;
+  reads : ReadsPart (g.C.Source.left l.fn.cert) (g.C.Source.left l.cert) l.fn.begun.came (held l.fn.piece l.fn.begun) (between l.piece l.from l.to) l.came
+      l.fn.checker l.checker;
   part : IsInPart l.checker;
   count : g.C.Source.faults l.cert ≡ g.C.Source.faults l.fn.cert;
   room : length l.piece ≡ PIECE;

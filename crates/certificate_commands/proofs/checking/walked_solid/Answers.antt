@@ -10,7 +10,8 @@ returns-in-Err-Fails-clause-fault c =
 pub returns-in_err-check_shells-clause-fault : goal.returns-in_err-check_shells-clause-fault
 returns-in_err-check_shells-clause-fault c =
     let p = err_from_is_err_and c.from_residual.result c.from_residual.ensures.1 in
-    rw (p.1, p.2) (shells_fault c.args.walker.now c.args.no.0 c.in-Ok.solid c.in-Ok.ensures.solid c.in-Ok.ensures.holds c.in_err-check_shells.field-0.0 c.in_err-check_shells.ensures.fault)
+    rw (p.1, p.2) (shells_fault c.args.walker.now c.args.no.0 c.in-Ok.solid c.in-Ok.ensures.solid c.in-Ok.ensures.holds c.in_err-check_shells.field-0.0
+    c.in_err-check_shells.ensures.fault)
 
 pub returns-clause-holds : goal.returns-clause-holds
 returns-clause-holds c = shells_hold c.args.walker.now c.args.no.0 c.in-Ok.solid c.in-Ok.ensures.solid c.in-Ok.ensures.holds c.in_ok-check_shells.ensures.holds

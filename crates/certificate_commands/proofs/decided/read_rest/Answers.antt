@@ -22,7 +22,8 @@ reads-preserved g c =
     let more = rw c.in-Bytes.is at (c.in-Ok.ensures {u = tt}).more in
     record {
       within = read.3;
-      read = read_more _ _ _ c.args.came c.reads.came c.reads.invariant.read c.in-Bytes.count (take c.in-Bytes.count c.next_piece.new.buffer) read.0 (read_long c.next_piece.new.buffer c.in-Bytes.count read.2);
+      read = read_more _ _ _ c.args.came c.reads.came c.reads.invariant.read c.in-Bytes.count (take c.in-Bytes.count c.next_piece.new.buffer) read.0
+          (read_long c.next_piece.new.buffer c.in-Bytes.count read.2);
       count = (c.in-Ok.ensures {u = tt}).cause ∙ c.reads.invariant.count;
       room = (let h : length c.next_piece.new.buffer ≡ PIECE = omega arith in h);
       ready = more tt;
@@ -36,4 +37,5 @@ returns-in-TooLarge-clause-taken g c =
     let read = rw c.in-TooLarge.is at (c.in-Ok.ensures {u = tt}).read in
     let s = c.reads.invariant.read in
     let room : length c.next_piece.new.buffer ≡ PIECE = omega arith in
-    rest_past _ _ _ s.bytes read.0 c.args.came c.reads.came (length c.next_piece.new.buffer) CERT_LIMIT s.taken s.long read.1 c.reads.invariant.within read.3 room
+    rest_past _ _ _ s.bytes read.0 c.args.came c.reads.came (length c.next_piece.new.buffer) CERT_LIMIT s.taken s.long read.1 c.reads.invariant.within read.3
+    room

@@ -20,7 +20,9 @@ returns-in-Decided c =
 pub parts-preserved : goal.parts-preserved
 parts-preserved c =
     let at = c.parts.invariant.begins in
-    let next = rw c.in-Next.is at ((rw c.parts.invariant.file at (c.in_ok-next.ensures {u = tt}).found) c.args.certificate.now at.0 at.1 at.2 c.requires.few at.3) in
+    let next = rw c.in-Next.is at
+    ((rw c.parts.invariant.file at (c.in_ok-next.ensures {u = tt}).found) c.args.certificate.now at.0 at.1 at.2 c.requires.few at.3) in
     let steps = rw c.in-Next.is at (c.in_ok-next.ensures {u = tt}).further in
-    let behind = rest_behind c.args.file.now c.args.certificate.now at.0 c.parts.no.0 c.parts.line c.parts.rest.now c.in-Next.next c.parts.invariant.few next steps in
+    let behind = rest_behind c.args.file.now c.args.certificate.now at.0 c.parts.no.0 c.parts.line c.parts.rest.now c.in-Next.next c.parts.invariant.few next
+    steps in
     record { file = c.judge_held.ensures.file ∙ c.parts.invariant.file; few = behind.0; begins = behind.1 }

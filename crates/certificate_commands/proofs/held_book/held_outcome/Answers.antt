@@ -22,7 +22,8 @@ pub returns-in_ok-illegal-in-Err-clause-found : goal.returns-in_ok-illegal-in-Er
 returns-in_ok-illegal-in-Err-clause-found c = λ f s certificate ns front n line whole few begins checked starts.
     let fed = rw c.in_default.is at (c.feed.ensures.fed _ s line [] starts) in
     let wrong = (c.in-Err.ensures {u = tt}).part _ s line _ fed in
-    held_bad f certificate ns front n line c.args.rest.now s c.in-Err.bad c.in_ok-illegal-in-Err.field-0 whole few begins checked wrong (c.in_ok-illegal-in-Err.ensures {u = tt})
+    held_bad f certificate ns front n line c.args.rest.now s c.in-Err.bad c.in_ok-illegal-in-Err.field-0 whole few begins checked wrong
+    (c.in_ok-illegal-in-Err.ensures {u = tt})
 
 pub feed-requires : goal.feed-requires
 feed-requires c = (_, c.requires.0, c.requires.1, [], c.requires.2)

@@ -22,18 +22,27 @@ reads-preserved g c =
     let more = rw c.in-Bytes.is at (c.in-Ok.ensures {u = tt}).more in
     record {
       within = read.3;
-      fed = fed_more _ _ _ c.args.came c.reads.came _ c.reads.checker c.reads.invariant.fed c.feed-fault.new.self c.in-Bytes.count (take c.in-Bytes.count c.next_piece.new.buffer) read.0 (read_long c.next_piece.new.buffer c.in-Bytes.count read.2) c.feed-fault.ensures.fed;
+      fed = fed_more _ _ _ c.args.came c.reads.came _ c.reads.checker c.reads.invariant.fed c.feed-fault.new.self c.in-Bytes.count
+          (take c.in-Bytes.count c.next_piece.new.buffer) read.0 (read_long c.next_piece.new.buffer c.in-Bytes.count read.2) c.feed-fault.ensures.fed;
       count = (c.in-Ok.ensures {u = tt}).cause ∙ c.reads.invariant.count;
       room = (let h : length c.next_piece.new.buffer ≡ PIECE = omega arith in h);
       ready = more tt;
     }
 
 pub reads-init : goal.reads-init
-reads-init g c = record { within = c.requires.few; fed = fed_none _ c.args.came c.args.checker.now; count = refl; room = c.requires.room; ready = c.requires.ready }
+reads-init g c = record {
+  within = c.requires.few;
+  fed = fed_none _ c.args.came c.args.checker.now;
+  count = refl;
+  room = c.requires.room;
+  ready =
+      c.requires.ready;
+}
 
 pub returns-in-TooLarge-clause-taken : goal.returns-in-TooLarge-clause-taken
 returns-in-TooLarge-clause-taken g c =
     let read = rw c.in-TooLarge.is at (c.in-Ok.ensures {u = tt}).read in
     let s = c.reads.invariant.fed.read in
     let room : length c.next_piece.new.buffer ≡ PIECE = omega arith in
-    rest_past _ _ _ s.bytes read.0 c.args.came c.reads.came (length c.next_piece.new.buffer) CERT_LIMIT s.taken s.long read.1 c.reads.invariant.within read.3 room
+    rest_past _ _ _ s.bytes read.0 c.args.came c.reads.came (length c.next_piece.new.buffer) CERT_LIMIT s.taken s.long read.1 c.reads.invariant.within read.3
+    room

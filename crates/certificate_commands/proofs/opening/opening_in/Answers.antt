@@ -17,14 +17,16 @@ returns-in-Ok-Solid-clause-found g c =
     let step = rw c.in-Ok-Solid.field-0-is at (c.in-Ok-Solid.ensures {u = tt}).step in
     let s = c.reads.invariant.opened in
     let shown = step s.bytes s.stands in
-    opened_both _ _ _ c.reads.came c.reads.opening c.feed.new.self c.next_piece.new.buffer (take c.in-Bytes.count c.next_piece.new.buffer) _ s read.0 refl (read_long c.next_piece.new.buffer c.in-Bytes.count read.2) refl read.3 read.2 shown.1 shown.0 shown.2
+    opened_both _ _ _ c.reads.came c.reads.opening c.feed.new.self c.next_piece.new.buffer (take c.in-Bytes.count c.next_piece.new.buffer) _ s read.0 refl
+    (read_long c.next_piece.new.buffer c.in-Bytes.count read.2) refl read.3 read.2 shown.1 shown.0 shown.2
 
 pub returns-in-Err-clause-found : goal.returns-in-Err-clause-found
 returns-in-Err-clause-found g c =
     let read = rw c.in-Bytes.is at (c.in-Ok.ensures {u = tt}).read in
     let s = c.reads.invariant.opened in
     let shown = (c.in-Err.ensures {u = tt}).step s.bytes s.stands in
-    opened_bad _ _ _ c.reads.came c.in-Bytes.count c.reads.opening c.feed.new.self (take c.in-Bytes.count c.next_piece.new.buffer) c.in-Err.bad s read.0 (read_long c.next_piece.new.buffer c.in-Bytes.count read.2) read.3 shown.0 shown.1
+    opened_bad _ _ _ c.reads.came c.in-Bytes.count c.reads.opening c.feed.new.self (take c.in-Bytes.count c.next_piece.new.buffer) c.in-Err.bad s read.0
+    (read_long c.next_piece.new.buffer c.in-Bytes.count read.2) read.3 shown.0 shown.1
 
 pub reads-preserved : goal.reads-preserved
 reads-preserved g c =
@@ -35,7 +37,8 @@ reads-preserved g c =
     let shown = step s.bytes s.stands in
     record {
       within = read.3;
-      opened = opened_more _ _ _ c.reads.came c.in-Bytes.count c.reads.opening c.feed.new.self (take c.in-Bytes.count c.next_piece.new.buffer) s read.0 (read_long c.next_piece.new.buffer c.in-Bytes.count read.2) shown.0 shown.1;
+      opened = opened_more _ _ _ c.reads.came c.in-Bytes.count c.reads.opening c.feed.new.self (take c.in-Bytes.count c.next_piece.new.buffer) s read.0
+          (read_long c.next_piece.new.buffer c.in-Bytes.count read.2) shown.0 shown.1;
       count = (c.in-Ok.ensures {u = tt}).cause ∙ c.reads.invariant.count;
       room = (let h : length c.next_piece.new.buffer ≡ PIECE = omega arith in h);
       ready = more tt;

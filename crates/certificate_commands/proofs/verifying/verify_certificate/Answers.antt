@@ -12,7 +12,8 @@ returns-in-TooLarge-clause-found g c =
 pub returns-in_ok-reply-in-Bad-clause-found : goal.returns-in_ok-reply-in-Bad-clause-found
 returns-in_ok-reply-in-Bad-clause-found g c =
     let opened = rw c.in-Bad.is at (c.in_ok-opening_in.ensures {u = tt}).found in
-    c.decided_reply.ensures.found c.args.file _ opened.bytes opened.taken opened.long (bad_opening_decides c.args.file opened.bytes c.in-Bad.bad c.in_ok-reply-in-Bad.reply opened.always (c.in_ok-reply-in-Bad.ensures {u = tt}))
+    c.decided_reply.ensures.found c.args.file _ opened.bytes opened.taken opened.long
+    (bad_opening_decides c.args.file opened.bytes c.in-Bad.bad c.in_ok-reply-in-Bad.reply opened.always (c.in_ok-reply-in-Bad.ensures {u = tt}))
 
 pub returns-in-Both-clause-found : goal.returns-in-Both-clause-found
 returns-in-Both-clause-found g c =
@@ -32,7 +33,8 @@ returns-in_ok-reply-in-Bad-clause-taken g c =
 pub returns-in-Both-clause-taken : goal.returns-in-Both-clause-taken
 returns-in-Both-clause-taken g c =
     let opened = rw c.in-Both.is at (c.in_ok-opening_in.ensures {u = tt}).found in
-    within_behind _ _ _ (opened.front ++ opened.rest) c.in-Both.opened.came CERT_LIMIT c.verify_opened.result opened.taken opened.long opened.few c.verify_opened.ensures.taken
+    within_behind _ _ _ (opened.front ++ opened.rest) c.in-Both.opened.came CERT_LIMIT c.verify_opened.result opened.taken opened.long opened.few
+    c.verify_opened.ensures.taken
 
 pub verify_opened-requires-clause-holds : goal.verify_opened-requires-clause-holds
 verify_opened-requires-clause-holds g c =

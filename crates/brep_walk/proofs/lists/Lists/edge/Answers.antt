@@ -1,4 +1,5 @@
-use Rattle.std.proofs.Common.{pos}
+use Rattle.std.proofs.Common.{pos, subst, sym, ◌∙◌}
+use Rattle.brep_walk.specs.Kept.{IsEdgeList}
 use Rattle.std.proofs.lemmas.Int.{to_z-of_z}
 use mir.Syntax.{w64}
 use Rattle.brep_walk.proofs.KeptLists.{kept_edges, more_edges, edge_list_kept, kept_holds, kept_fails, kept_edge}
@@ -6,27 +7,45 @@ use Rattle.brep_walk.proofs.lists.Lists.edge.Goals as goal
 
 pub edge_of-requires : goal.edge_of-requires
 edge_of-requires c =
-    (kept_edges _ _ c.self.view_is c.self.inside.edges c.self.inside.vertices c.self.invariant c.args.number _ (to_z-of_z w64 c.args.number c.ranges.number) c.in-Some.field-0.now c.in-Some.ensures).few
+    (kept_edges _ _ c.self.view_is c.self.inside.edges c.self.inside.vertices c.self.invariant.0 c.args.number _ (to_z-of_z w64 c.args.number c.ranges.number)
+    c.in-Some.field-0.now c.in-Some.ensures).few
 
 pub returns-in_err-edge_of-clause-fault : goal.returns-in_err-edge_of-clause-fault
 returns-in_err-edge_of-clause-fault c =
     kept_fails c.args.self.now c.args.number c.in-Some.field-0.now
-    (kept_edges _ _ c.self.view_is c.self.inside.edges c.self.inside.vertices c.self.invariant c.args.number _ (to_z-of_z w64 c.args.number c.ranges.number) c.in-Some.field-0.now c.in-Some.ensures)
-    (pos c.args.at.entity.0) c.args.at.item c.args.index _ (to_z-of_z w64 c.args.index c.ranges.index) c.from_residual.result _ c.in_err-edge_of.ensures.fails c.from_residual.ensures.1
+    (kept_edges _ _ c.self.view_is c.self.inside.edges c.self.inside.vertices c.self.invariant.0 c.args.number _ (to_z-of_z w64 c.args.number c.ranges.number)
+    c.in-Some.field-0.now c.in-Some.ensures)
+    (pos c.args.at.entity.0) c.args.at.item c.args.index _ (to_z-of_z w64 c.args.index c.ranges.index) c.from_residual.result _ c.in_err-edge_of.ensures.fails
+    c.from_residual.ensures.1
 
 pub returns-in-Some-clause-holds : goal.returns-in-Some-clause-holds
 returns-in-Some-clause-holds c =
     kept_holds c.args.self.now c.args.number c.in-Some.field-0.now
-    (kept_edges _ _ c.self.view_is c.self.inside.edges c.self.inside.vertices c.self.invariant c.args.number _ (to_z-of_z w64 c.args.number c.ranges.number) c.in-Some.field-0.now c.in-Some.ensures)
+    (kept_edges _ _ c.self.view_is c.self.inside.edges c.self.inside.vertices c.self.invariant.0 c.args.number _ (to_z-of_z w64 c.args.number c.ranges.number)
+    c.in-Some.field-0.now c.in-Some.ensures)
     (pos c.args.at.entity.0) c.args.at.item c.args.index _ (to_z-of_z w64 c.args.index c.ranges.index) c.in_ok-edge_of.ensures.holds
 
 pub returns-in-Some-clause-edge : goal.returns-in-Some-clause-edge
 returns-in-Some-clause-edge c =
     kept_edge c.args.self.now c.args.number c.in-Some.field-0.now
-    (kept_edges _ _ c.self.view_is c.self.inside.edges c.self.inside.vertices c.self.invariant c.args.number _ (to_z-of_z w64 c.args.number c.ranges.number) c.in-Some.field-0.now c.in-Some.ensures)
+    (kept_edges _ _ c.self.view_is c.self.inside.edges c.self.inside.vertices c.self.invariant.0 c.args.number _ (to_z-of_z w64 c.args.number c.ranges.number)
+    c.in-Some.field-0.now c.in-Some.ensures)
     (pos c.args.at.entity.0) c.args.at.item c.args.index _ (to_z-of_z w64 c.args.index c.ranges.index) c.in_ok-edge_of.field-0 c.in_ok-edge_of.ensures.edge
 
 pub invariant_of-self-2 : goal.invariant_of-self-2
-invariant_of-self-2 c =
-    more_edges _ c.self.inside.edges c.keep.new.self c.self.inside.vertices c.self.invariant (c.in_ok-no.no, c.in_ok-no.list) c.in_ok-keep.ensures.kept
-    (edge_list_kept _ _ c.in_ok-no.no c.in_ok-no.list c.in_ok-no.ensures.holds c.in_ok-no.ensures.named.0 c.in_ok-no.ensures.named.1 c.in_ok-no.ensures.few)
+invariant_of-self-2 c = (
+  more_edges _ c.self-2.inside.edges c.keep.new.self c.self-2.inside.vertices c.self-2.invariant.0 (c.in_ok-no.no, c.in_ok-no.list) c.in_ok-keep.ensures.kept
+      (subst (λ f. IsEdgeList f (pos c.in_ok-no.no.0) (c.in_ok-no.no, c.in_ok-no.list)) (sym (c.self-2.view_is ∙ c.in_ok-no.ensures.file))
+      (edge_list_kept c.args.self.now _ c.in_ok-no.no c.in_ok-no.list c.in_ok-no.ensures.holds c.in_ok-no.ensures.named.0 c.in_ok-no.ensures.named.1
+      c.in_ok-no.ensures.few)),
+  c.self-2.invariant.1,
+)
+
+pub invariant_of-self-in_err-edge : goal.invariant_of-self-in_err-edge
+invariant_of-self-in_err-edge c = (
+  more_edges _ c.self-2.inside.edges c.keep.new.self c.self-2.inside.vertices c.self-2.invariant.0 (c.in_ok-no.no, c.in_ok-no.list) c.in_ok-keep.ensures.kept
+      (subst (λ f. IsEdgeList f (pos c.in_ok-no.no.0) (c.in_ok-no.no, c.in_ok-no.list)) (sym (c.self-2.view_is ∙ c.in_ok-no.ensures.file))
+      (edge_list_kept c.args.self.now _ c.in_ok-no.no c.in_ok-no.list c.in_ok-no.ensures.holds c.in_ok-no.ensures.named.0 c.in_ok-no.ensures.named.1
+      c.in_ok-no.ensures.few)),
+  c.self-2.invariant.1,
+)

@@ -3,9 +3,11 @@ use Rattle.brep_walk.proofs.once.Once.has.Goals as goal
 
 pub returns-in-Some : goal.returns-in-Some
 returns-in-Some c =
-    has_at c.self.inside.positions c.self.inside.numbers.items c.args.self.now c.self.view_is c.self.invariant c.args.no.0 c.get.result c.get.ensures c.deref.result.now c.deref.ensures.value c.in-Some.number.now
+    has_at c.self.inside.positions c.self.inside.numbers.items c.args.self.now c.self.view_is c.self.invariant c.args.no.0 c.get.result c.get.ensures
+    c.deref.result.now c.deref.ensures.value c.in-Some.number.now
     c.in-Some.ensures.lookup.3.0 c.in-Some.ensures.lookup.3.1
 
 pub returns-in-None : goal.returns-in-None
 returns-in-None c =
-    none_at c.self.inside.positions c.self.inside.numbers.items c.args.self.now c.self.view_is c.self.invariant c.args.no.0 c.get.result c.get.ensures c.deref.result.now c.deref.ensures.value c.in-None.ensures.lookup.3
+    none_at c.self.inside.positions c.self.inside.numbers.items c.args.self.now c.self.view_is c.self.invariant c.args.no.0 c.get.result c.get.ensures
+    c.deref.result.now c.deref.ensures.value c.in-None.ensures.lookup.3

@@ -12,8 +12,14 @@ returns-clause-stands c =
     let put = c.in_ok-edge.ensures in
     record {
       file = c.in_ok-from.ensures.file;
-      edges = edges_put c.args.self.now.lists (pos c.args.key.«list».0) (pos c.args.key.index) old c.edge.new.self c.args.key c.args.ends c.in_ok-from.from c.in_ok-from.to c.requires.stands.edges
+      edges = edges_put c.args.self.now.lists (pos c.args.key.«list».0) (pos c.args.key.index) old c.edge.new.self c.args.key c.args.ends c.in_ok-from.from
+          c.in_ok-from.to c.requires.stands.edges
           refl c.requires.ends ends.0 ends.1 put.keys put.edges;
-      known = put_edge c.args.self.now.lists old.keys c.edge.new.self.keys c.args.key c.args.ends c.requires.stands.known c.requires.ends c.in_ok-from.ensures.holds
-          (put.keys ∙ (λ j. record { edges = insert_key same_edge old.keys.edges c.args.key; vertices = insert_key same_vertex (insert_key same_vertex old.keys.vertices (ends.0 j)) (ends.1 j) }));
+      known = put_edge c.args.self.now.lists old.keys c.edge.new.self.keys c.args.key c.args.ends c.requires.stands.known c.requires.ends
+          c.in_ok-from.ensures.holds
+          (put.keys ∙ (λ j. record {
+            edges = insert_key same_edge old.keys.edges c.args.key;
+            vertices =
+                insert_key same_vertex (insert_key same_vertex old.keys.vertices (ends.0 j)) (ends.1 j);
+          }));
     }

@@ -10,12 +10,15 @@ pub returns-clause-made : goal.returns-clause-made
 returns-clause-made c later more =
     let a : to_z w64 (of_z w64 c.list.result) ≡ c.args.tuple.now.list = search rules in
     let b : to_z w64 (of_z w64 c.index.result) ≡ c.args.tuple.now.index = search rules in
-    edge_made c.args.tuple.now c.requires.edge _ c.edge_number.new.self.numbering.keys later c.in_ok-key.key c.in_ok-edge.edge c.flag.result (c.in_ok-key.ensures.edge.0 ∙ (λ j. edge_key (a j) (b j)))
+    edge_made c.args.tuple.now c.requires.edge _ c.edge_number.new.self.numbering.keys later c.in_ok-key.key c.in_ok-edge.edge c.flag.result
+    (c.in_ok-key.ensures.edge.0 ∙ (λ j. edge_key (a j) (b j)))
     (ap (λ (k : Keys). k.edges) c.in_ok-edge.ensures.keys) c.in_ok-edge.ensures.id c.flag.ensures more
 
 pub returns-in_err-edge-clause-fault : goal.returns-in_err-edge-clause-fault
 returns-in_err-edge-clause-fault c =
     let a : to_z w64 (of_z w64 c.list.result) ≡ c.args.tuple.now.list = search rules in
     let b : to_z w64 (of_z w64 c.index.result) ≡ c.args.tuple.now.index = search rules in
-    ends_fault c.from_residual-in_err-edge.result _ c.args.self.now.lists _ c.in_ok-key.ensures.file (pos c.args.at.entity.0) c.args.at.item c.args.tuple.now.list c.args.tuple.now.index _ _ a b
-    c.in_ok-key.key c.in_ok-key.ends c.in_ok-key.ensures.edge.0 c.in_ok-key.ensures.edge.1 c.in_ok-key.ensures.holds c.in_err-edge.ensures.fault c.from_residual-in_err-edge.ensures.1
+    ends_fault c.from_residual-in_err-edge.result _ c.args.self.now.lists _ c.in_ok-key.ensures.file (pos c.args.at.entity.0) c.args.at.item
+    c.args.tuple.now.list c.args.tuple.now.index _ _ a b
+    c.in_ok-key.key c.in_ok-key.ends c.in_ok-key.ensures.edge.0 c.in_ok-key.ensures.edge.1 c.in_ok-key.ensures.holds c.in_err-edge.ensures.fault
+    c.from_residual-in_err-edge.ensures.1

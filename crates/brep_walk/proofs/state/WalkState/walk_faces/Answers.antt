@@ -24,16 +24,20 @@ faces-preserved c =
     let is : to_z w64 (of_z w64 x.0) ≡ x.0 = search rules in
     let same : (to_z w64 (of_z w64 x.0), x.1) ≡ x = λ j. (is j, x.1) in
     record {
-      stands = subst (λ h. Stands h c.walk_face.new.self.lists c.walk_face.new.self.numbering) i.stands.file e.stands;
-      keys = keys_next f g i.stands.file face_tuples c.args.self.now.numbering.keys c.faces.self.numbering.keys c.walk_face.new.self.numbering.keys all c.faces.i x
-          (to_z w64 (of_z w64 x.0), x.1) at same i.keys e.keys;
+      stands = subst (λ h. Stands h c.walk_face.new.self.lists c.walk_face.new.self.numbering) i.stands.file e.walks.stands;
+      keys = keys_next f g i.stands.file face_tuples c.args.self.now.numbering.keys c.faces.self.numbering.keys c.walk_face.new.self.numbering.keys all
+          c.faces.i x
+          (to_z w64 (of_z w64 x.0), x.1) at same i.keys e.walks.keys;
       named = named_next (λ (item : ℤ × Bool). item.0) used c.faces.self.faces c.walk_face.new.self.faces all c.faces.i x _ at is i.named e.named;
       loops = subst (λ h. c.walk_face.new.self.loops ≡ flat_map (loops h) c.walk_face.new.self.faces) i.stands.file e.loops;
       others = e.others ∙ i.others;
-      made = made_next f g i.stands.file face_by c.faces.self.numbering.keys c.walk_face.new.self.numbering.keys (face_tuples g (to_z w64 (of_z w64 x.0), x.1)) e.keys all c.faces.i x
+      made = made_next f g i.stands.file face_by c.faces.self.numbering.keys c.walk_face.new.self.numbering.keys (face_tuples g (to_z w64 (of_z w64 x.0), x.1))
+          e.walks.keys all c.faces.i x
           (to_z w64 (of_z w64 x.0), x.1) at same c.faces.faces c.in_ok-made.made c.push.new.self i.made e.made c.in_ok-push.ensures.ok;
       remains = remains_at (face_places f (pos c.args.no.0) used) all c.faces.i x (after_each (face_places f (pos c.args.no.0) used) [] all) at i.remains
-          (face_placed f (pos c.args.no.0) used (take c.faces.i all) x (item_holds f g i.stands.file (pos c.args.no.0) c.faces.self.faces (used ++ numbers (take c.faces.i all)) all c.faces.i x _ at is i.named face_at e.holds));
+          (face_placed f (pos c.args.no.0) used (take c.faces.i all) x
+          (item_holds f g i.stands.file (pos c.args.no.0) c.faces.self.faces (used ++ numbers (take c.faces.i all)) all c.faces.i x _ at is i.named face_at
+          e.holds));
     }
 
 pub returns-in_err-made-clause-fault : goal.returns-in_err-made-clause-fault
@@ -48,5 +52,6 @@ returns-in_err-made-clause-fault c =
     handed (after_each (face_places f (pos c.args.no.0) used) [] all) c.from_residual.result _
     (fault_at (face_places f (pos c.args.no.0) used) all c.faces.i x (after_each (face_places f (pos c.args.no.0) used) [] all) _ at i.remains
     (face_failed f (pos c.args.no.0) used (take c.faces.i all) x c.in_err-made.field-0.0
-    (item_fails f c.faces.self.lists i.stands.file (pos c.args.no.0) c.faces.self.faces (used ++ numbers (take c.faces.i all)) all c.faces.i x _ at is i.named face_at c.in_err-made.field-0.0 c.in_err-made.ensures.fault)))
+    (item_fails f c.faces.self.lists i.stands.file (pos c.args.no.0) c.faces.self.faces (used ++ numbers (take c.faces.i all)) all c.faces.i x _ at is i.named
+    face_at c.in_err-made.field-0.0 c.in_err-made.ensures.fault)))
     c.from_residual.ensures.1

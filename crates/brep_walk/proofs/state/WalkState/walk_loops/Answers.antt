@@ -21,13 +21,17 @@ loops-preserved c =
     let at : slice_get all c.loops.i ≡ Some z = sym c.item.ensures ∙ c.unwrap-number.ensures in
     let is : to_z w64 (of_z w64 z) ≡ z = search rules in
     record {
-      stands = subst (λ h. Stands h c.walk_loop.new.self.lists c.walk_loop.new.self.numbering) i.stands.file e.stands;
-      keys = keys_next f g i.stands.file tuples c.args.self.now.numbering.keys c.loops.self.numbering.keys c.walk_loop.new.self.numbering.keys all c.loops.i z (to_z w64 (of_z w64 z)) at is i.keys e.keys;
-      named = loop_named f g i.stands.file (pos c.args.no.0) c.args.self.now.loops c.loops.self.loops all c.loops.i z _ at is i.named c.walk_loop.new.self.loops e.named;
+      stands = subst (λ h. Stands h c.walk_loop.new.self.lists c.walk_loop.new.self.numbering) i.stands.file e.walks.stands;
+      keys = keys_next f g i.stands.file tuples c.args.self.now.numbering.keys c.loops.self.numbering.keys c.walk_loop.new.self.numbering.keys all c.loops.i z
+          (to_z w64 (of_z w64 z)) at is i.keys e.walks.keys;
+      named = loop_named f g i.stands.file (pos c.args.no.0) c.args.self.now.loops c.loops.self.loops all c.loops.i z _ at is i.named
+          c.walk_loop.new.self.loops e.named;
       others = (e.others.0 ∙ i.others.0, e.others.1 ∙ i.others.1);
-      made = made_next f g i.stands.file loop_by c.loops.self.numbering.keys c.walk_loop.new.self.numbering.keys (tuples g (to_z w64 (of_z w64 z))) e.keys all c.loops.i z (to_z w64 (of_z w64 z)) at is
+      made = made_next f g i.stands.file loop_by c.loops.self.numbering.keys c.walk_loop.new.self.numbering.keys (tuples g (to_z w64 (of_z w64 z)))
+          e.walks.keys all c.loops.i z (to_z w64 (of_z w64 z)) at is
           c.loops.loops c.in_ok-made.made c.push.new.self i.made e.made c.in_ok-push.ensures.ok;
-      remains = remains_at (loop_places f (pos c.args.no.0) c.args.self.now.loops) all c.loops.i z (after_each (loop_places f (pos c.args.no.0) c.args.self.now.loops) [] all) at i.remains
+      remains = remains_at (loop_places f (pos c.args.no.0) c.args.self.now.loops) all c.loops.i z
+          (after_each (loop_places f (pos c.args.no.0) c.args.self.now.loops) [] all) at i.remains
           (loop_holds f g i.stands.file (pos c.args.no.0) c.args.self.now.loops c.loops.self.loops all c.loops.i z _ at is i.named e.holds);
     }
 
@@ -40,6 +44,8 @@ returns-in_err-made-clause-fault c =
     let at : slice_get all c.loops.i ≡ Some z = sym c.item.ensures ∙ c.unwrap-number.ensures in
     let is : to_z w64 (of_z w64 z) ≡ z = search rules in
     handed (after_each (loop_places f (pos c.args.no.0) c.args.self.now.loops) [] all) c.from_residual.result _
-    (fault_at (loop_places f (pos c.args.no.0) c.args.self.now.loops) all c.loops.i z (after_each (loop_places f (pos c.args.no.0) c.args.self.now.loops) [] all) _ at i.remains
-    (loop_fails f c.loops.self.lists i.stands.file (pos c.args.no.0) c.args.self.now.loops c.loops.self.loops all c.loops.i z _ at is i.named c.in_err-made.field-0.0 c.in_err-made.ensures.fault))
+    (fault_at (loop_places f (pos c.args.no.0) c.args.self.now.loops) all c.loops.i z
+    (after_each (loop_places f (pos c.args.no.0) c.args.self.now.loops) [] all) _ at i.remains
+    (loop_fails f c.loops.self.lists i.stands.file (pos c.args.no.0) c.args.self.now.loops c.loops.self.loops all c.loops.i z _ at is i.named
+    c.in_err-made.field-0.0 c.in_err-made.ensures.fault))
     c.from_residual.ensures.1

@@ -23,16 +23,20 @@ shells-preserved c =
     let is : to_z w64 (of_z w64 x.0) ≡ x.0 = search rules in
     let same : (to_z w64 (of_z w64 x.0), x.1) ≡ x = λ j. (is j, x.1) in
     record {
-      stands = subst (λ h. Stands h c.walk_shell.new.self.lists c.walk_shell.new.self.numbering) i.stands.file e.stands;
-      keys = keys_next f g i.stands.file shell_tuples c.args.self.now.numbering.keys c.shells.self.numbering.keys c.walk_shell.new.self.numbering.keys all c.shells.i x
-          (to_z w64 (of_z w64 x.0), x.1) at same i.keys e.keys;
+      stands = subst (λ h. Stands h c.walk_shell.new.self.lists c.walk_shell.new.self.numbering) i.stands.file e.walks.stands;
+      keys = keys_next f g i.stands.file shell_tuples c.args.self.now.numbering.keys c.shells.self.numbering.keys c.walk_shell.new.self.numbering.keys all
+          c.shells.i x
+          (to_z w64 (of_z w64 x.0), x.1) at same i.keys e.walks.keys;
       named = named_next (λ (item : ℤ × Bool). item.0) [] c.shells.self.shells c.walk_shell.new.self.shells all c.shells.i x _ at is i.named e.named;
       faces = subst (λ h. c.walk_shell.new.self.faces ≡ flat_map (λ shell. numbers (faces h shell)) c.walk_shell.new.self.shells) i.stands.file e.faces;
       loops = subst (λ h. c.walk_shell.new.self.loops ≡ flat_map (loops h) c.walk_shell.new.self.faces) i.stands.file e.loops;
-      made = made_next f g i.stands.file shell_by c.shells.self.numbering.keys c.walk_shell.new.self.numbering.keys (shell_tuples g (to_z w64 (of_z w64 x.0), x.1)) e.keys all c.shells.i x
+      made = made_next f g i.stands.file shell_by c.shells.self.numbering.keys c.walk_shell.new.self.numbering.keys
+          (shell_tuples g (to_z w64 (of_z w64 x.0), x.1)) e.walks.keys all c.shells.i x
           (to_z w64 (of_z w64 x.0), x.1) at same c.shells.shells c.in_ok-made.made c.push.new.self i.made e.made c.in_ok-push.ensures.ok;
       remains = remains_at (shell_places f (pos c.args.no.0)) all c.shells.i x (after_each (shell_places f (pos c.args.no.0)) [] all) at i.remains
-          (shell_placed f (pos c.args.no.0) (take c.shells.i all) x (item_holds f g i.stands.file (pos c.args.no.0) c.shells.self.shells (numbers (take c.shells.i all)) all c.shells.i x _ at is i.named shell_at e.holds));
+          (shell_placed f (pos c.args.no.0) (take c.shells.i all) x
+          (item_holds f g i.stands.file (pos c.args.no.0) c.shells.self.shells (numbers (take c.shells.i all)) all c.shells.i x _ at is i.named shell_at
+          e.holds));
     }
 
 pub returns-in_err-made-clause-fault : goal.returns-in_err-made-clause-fault
@@ -46,12 +50,14 @@ returns-in_err-made-clause-fault c =
     handed (after_each (shell_places f (pos c.args.no.0)) [] all) c.from_residual.result _
     (fault_at (shell_places f (pos c.args.no.0)) all c.shells.i x (after_each (shell_places f (pos c.args.no.0)) [] all) _ at i.remains
     (shell_failed f (pos c.args.no.0) (take c.shells.i all) x c.in_err-made.field-0.0
-    (item_fails f c.shells.self.lists i.stands.file (pos c.args.no.0) c.shells.self.shells (numbers (take c.shells.i all)) all c.shells.i x _ at is i.named shell_at c.in_err-made.field-0.0 c.in_err-made.ensures.fault)))
+    (item_fails f c.shells.self.lists i.stands.file (pos c.args.no.0) c.shells.self.shells (numbers (take c.shells.i all)) all c.shells.i x _ at is i.named
+    shell_at c.in_err-made.field-0.0 c.in_err-made.ensures.fault)))
     c.from_residual.ensures.1
 
 pub walk_shell-requires-clause-faces : goal.walk_shell-requires-clause-faces
 walk_shell-requires-clause-faces c =
-    subst (λ h. c.shells.self.faces ≡ flat_map (λ shell. numbers (faces h shell)) c.shells.self.shells) (sym c.shells.invariant.stands.file) c.shells.invariant.faces
+    subst (λ h. c.shells.self.faces ≡ flat_map (λ shell. numbers (faces h shell)) c.shells.self.shells) (sym c.shells.invariant.stands.file)
+    c.shells.invariant.faces
 
 pub returns-clause-made : goal.returns-clause-made
 returns-clause-made c =

@@ -13,7 +13,8 @@ invariant-shells l =
     let all = l.listed.outer ∷ l.listed.voids in
     record {
       stands : Stands f l.self.lists l.self.numbering;
-      keys : keys_after f l.self.numbering.keys (flat_map (shell_tuples f) (drop l.i all)) ≡ keys_after f l.fn.self.numbering.keys (flat_map (shell_tuples f) all);
+      keys : keys_after f l.self.numbering.keys (flat_map (shell_tuples f) (drop l.i all))
+          ≡ keys_after f l.fn.self.numbering.keys (flat_map (shell_tuples f) all);
       named : l.self.shells ≡ numbers (take l.i all);
       faces : l.self.faces ≡ flat_map (λ shell. numbers (faces f shell)) l.self.shells;
       loops : l.self.loops ≡ flat_map (loops f) l.self.faces;

@@ -15,5 +15,6 @@ invariant-tuples l = record {
   keys : keys_after l.fn.self.lists l.self.numbering.keys l.tuple-iterator ≡ keys_after l.fn.self.lists l.fn.self.numbering.keys l.listed;
   others : (l.self.loops ≡ l.fn.self.loops) × (l.self.faces ≡ l.fn.self.faces) × (l.self.shells ≡ l.fn.self.shells);
   made : IsMadeBy l.self.numbering.keys (λ keys. map (use_by keys) l.yielded) l.uses;
-  remains : Remains (after_each (tuple_places l.fn.self.lists (pos l.no.0)) l.yielded l.tuple-iterator) (after_each (tuple_places l.fn.self.lists (pos l.no.0)) [] l.listed);
+  remains : Remains (after_each (tuple_places l.fn.self.lists (pos l.no.0)) l.yielded l.tuple-iterator)
+      (after_each (tuple_places l.fn.self.lists (pos l.no.0)) [] l.listed);
 }

@@ -4,7 +4,7 @@ use Rattle.brep_walk.specs.Places.{places}
 use Rattle.brep_walk.specs.SolidOf.{solid_of}
 use Rattle.brep_walk.specs.Walked.{IsFault, Gives}
 use Rattle.brep_walk.proofs.Exactly.{only_solid, only_fault}
-use Rattle.brep_walk.proofs.walker.Walker.walk.Goals as goal
+use Rattle.brep_walk.proofs.walking.Walker.walk.Goals as goal
 
 pub returns-clause-file : goal.returns-clause-file
 returns-clause-file c = c.walk_solid.ensures.file ∙ c.self.view_is
