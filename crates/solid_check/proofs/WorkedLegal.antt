@@ -552,8 +552,10 @@ cube_behind = (
                                         record {
                                           vertex = 4;
                                           lies_at = refl;
-                                          turns =
-                                              ((11, inl (7, lit< tt, refl), refl), ((22, inr (2, lit< tt, refl), refl), ((8, inr (4, lit< tt, refl), refl), tt)));
+                                          turns = (
+                                            (11, inl (7, lit< tt, refl), refl),
+                                            ((22, inr (2, lit< tt, refl), refl), ((8, inr (4, lit< tt, refl), refl), tt)),
+                                          );
                                           least = (lit< tt, (lit< tt, tt));
                                           whole = refl;
                                           no_point = refl;
@@ -571,8 +573,10 @@ cube_behind = (
                                           record {
                                             vertex = 5;
                                             lies_at = refl;
-                                            turns =
-                                                ((15, inl (6, lit< tt, refl), refl), ((10, inr (3, lit< tt, refl), refl), ((5, inr (7, lit< tt, refl), refl), tt)));
+                                            turns = (
+                                              (15, inl (6, lit< tt, refl), refl),
+                                              ((10, inr (3, lit< tt, refl), refl), ((5, inr (7, lit< tt, refl), refl), tt)),
+                                            );
                                             least = (lit< tt, (lit< tt, tt));
                                             whole = refl;
                                             no_point = refl;
