@@ -1,6 +1,6 @@
 -- How the reading of a book goes on from part to part.
 use Rattle.std.proofs.Common.{◌≡◌, ◌∙◌, ℕ, ◌+◌, ◌-◌, ◌≤◌, ◌<◌, List, [], ◌∷◌, ◌++◌, flat_map, take, drop, length, Option, Result, Ok, Err, sym, ap, subst}
-use Rattle.std.proofs.Common.{arith, absurd, append_assoc}
+use Rattle.std.proofs.Common.{arith, append_assoc}
 use Rattle.std.specs.Result.{IsErrAnd}
 use Rattle.std.proofs.lemmas.List.{length-append, length-take, length-drop, take_rest, take-append-drop}
 use Rattle.std.specs.Io.KnownBytes.{Consumes, IsAtEnd}
