@@ -1,0 +1,4 @@
+pub mod Cutting
+pub mod Right
+pub mod GoodLines
+pub mod Looping
