@@ -27,6 +27,7 @@ import picture_tests
 import protections
 import quoted
 import real_solids
+import repair
 import rows
 import running_tests
 import sample_tests
@@ -62,6 +63,11 @@ def of_both(checks):
     return lambda context: checks(context.new_folder(), *context.programs[:2])
 
 
+def of_repair(checks):
+    """Checks of what is made, and of what igesolid says of it."""
+    return lambda context: checks(context.new_folder(), context.programs.igesolid, context.programs.repair)
+
+
 def of_pages(context):
     yield from pages.checks(context.new_folder(), TOP, *context.programs[:2], FORMS)
     yield from no_examples.checks(TOP, context.programs.igesolid)
@@ -83,6 +89,8 @@ PARTS = (
     Part("uses", "solids of the most loop uses", of_program(largest_tests.uses)),
     Part("where", "igesolid-where, beside the second checker", of_both(where.checks)),
     Part("where-more", "200 more cases", of_both(where.more_checks), LARGE),
+    Part("repair", "igesolid-repair: harmed files, and files changed at random, beside the second checker", of_repair(repair.checks)),
+    Part("repair-more", "2,000 more cases, and files of the greatest size", of_repair(repair.more_checks), LARGE),
     Part("pictures", "pages and marks", of_both(picture_tests.checks)),
     Part("browser", "pages in headless Chromium", lambda context: browser_tests.checks(context.new_folder(), context.skipped), LARGE),
     Part("pages", "README and docs: what they say of the programs, the sources and the examples", of_pages),

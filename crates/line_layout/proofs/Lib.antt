@@ -2,3 +2,4 @@ pub mod Cutting
 pub mod Right
 pub mod GoodLines
 pub mod Looping
+pub mod Joined

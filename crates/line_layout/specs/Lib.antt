@@ -6,3 +6,4 @@ pub mod Judging
 pub mod Rows
 pub mod Relaid
 pub mod Taking
+pub mod Changes

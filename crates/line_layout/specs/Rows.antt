@@ -35,9 +35,13 @@ content c Directory line = columns 1 72 line
 content c Param line = columns 1 72 line
 content c Terminate line = if has_counts c line then columns 1 72 line else counts_columns c
 
+-- the line has all columns, and those from 74 on hold the number
+abbrev pub keeps_number : ℕ → List ℕ → Bool
+keeps_number n line = nat_le 80 (length line) && has_number (columns 74 80 line) n
+
 -- the columns 74 to 80: those of the line where they hold the number
 unfoldable pub number_field : ℕ → List ℕ → List ℕ
-number_field n line = if nat_le 80 (length line) && has_number (columns 74 80 line) n then columns 74 80 line else right 7 (decimal n)
+number_field n line = if keeps_number n line then columns 74 80 line else right 7 (decimal n)
 
 unfoldable pub row : LineCounts → Section → List ℕ → List ℕ
 row c s line = content c s line ++ letter_of s ∷ number_field (next_number c s) line

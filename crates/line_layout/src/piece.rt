@@ -1,3 +1,4 @@
+ghost use Rattle.line_layout.specs.Changes.{cuts, first_cut};
 ghost use Rattle.line_layout.specs.Relaid.{end_byte, pieces};
 ghost use Rattle.std.specs.List.{list_any, prefix_len};
 ghost use Rattle.std.specs.Prelude.{◌≡◌, ◌<◌, ◌∷◌, ◌==◌, length, not};
@@ -32,6 +33,8 @@ pub(crate) fn first_piece(bytes: &[u8], end: u8) -> (&[u8], &[u8])
     requires { 0 < length bytes.now }
     ensures pieces { pieces end bytes.now ≡ result.0.now ∷ pieces end result.1.now }
     ensures shorter { length result.1.now < length bytes.now }
+    ensures cuts { cuts end bytes.now
+        ≡ first_cut end bytes.now result.0.now result.1.now ∷ cuts end result.1.now }
 {
     let (piece, rest) = bytes.split_at(piece_len(bytes, end));
     match rest {

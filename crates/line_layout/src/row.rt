@@ -1,7 +1,7 @@
 ghost use Rattle.line_layout.specs.Counts.{AreFew, count_of, next_number};
-ghost use Rattle.line_layout.specs.Rows.{content, count_field, counts_columns, has_counts, number_field, right, row};
+ghost use Rattle.line_layout.specs.Rows.{content, count_field, counts_columns, has_counts, keeps_number, number_field, right, row};
 ghost use Rattle.iges_base.specs.Ended.{ended};
-ghost use Rattle.std.specs.Prelude.{◌≡◌, ◌≤◌, ◌<◌, ◌++◌, ◌∷◌, [], OnOk, decimal};
+ghost use Rattle.std.specs.Prelude.{◌≡◌, ◌≤◌, ◌<◌, ◌++◌, ◌∷◌, ◌^◌, [], OnOk, decimal};
 
 use crate::columns::{columns, holds_count, holds_number};
 use crate::counting::{LineCounts, count_of};
@@ -42,7 +42,7 @@ fn put_counts(out: &mut Out, counts: LineCounts) -> Result<(), NoMemory>
 }
 
 // Whether the line gives these counts.
-fn holds_counts(counts: LineCounts, line: &[u8]) -> bool
+pub(crate) fn holds_counts(counts: LineCounts, line: &[u8]) -> bool
     requires { AreFew counts }
     ensures { result ≡ has_counts counts line.now }
 {
@@ -76,15 +76,22 @@ fn put_content(
     }
 }
 
+// Whether the line has all columns, and those from 74 on hold the number.
+pub(crate) fn keeps_number(n: u64, line: &[u8]) -> bool
+    requires { n < 2 ^ 63 }
+    ensures { result ≡ keeps_number n line.now }
+{
+    line.len() >= 80 && holds_number(columns(line, 74, 80), n)
+}
+
 // Appends the columns 74 to 80.
 #[tactic(auto, unfolding(crate::specs::Rows::number_field))]
 fn put_number(out: &mut Out, n: u64, line: &[u8]) -> Result<(), NoMemory>
     requires { n ≤ 9_999_999 }
     ensures { OnOk result (out.new ≡ out.old ++ number_field n line.now) }
 {
-    let field = columns(line, 74, 80);
-    if line.len() >= 80 && holds_number(field, n) {
-        return out.put(field);
+    if keeps_number(n, line) {
+        return out.put(columns(line, 74, 80));
     }
     put_seven(out, n)
 }
