@@ -1,4 +1,4 @@
--- How many lines the sections have.
+-- Private: how many lines the sections have.
 use Rattle.std.specs.Prelude.{length}
 use Rattle.iges_lines.specs.Lines.{SectionLines}
 use Rattle.line_layout.specs.declared.counting.LineCounts.{LineCounts}

@@ -1,7 +1,7 @@
 -- What is noted so far, and what is left.
-use Rattle.std.proofs.Common.{◌≡◌, ℕ, zero, suc, ◌+◌, ◌<◌, arith, Bool, false, List, [], ◌∷◌, ◌++◌, length, length-append, replicate, Option, Some, None, refl, sym, ap, ◌∙◌}
+use Rattle.std.proofs.Common.{◌≡◌, ℕ, zero, suc, ◌+◌, ◌<◌, arith, Bool, true, false, List, [], ◌∷◌, ◌++◌, length, length-append, replicate, Option, Some, None, refl, sym, ap, ◌∙◌}
 use Rattle.std.specs.Prelude.{◌==◌, if◌then◌else◌}
-use Rattle.std.proofs.lemmas.Bool.{cond-false}
+use Rattle.std.proofs.lemmas.Bool.{cond-false, eqb-true, false_from_ne_true}
 use Rattle.std.proofs.lemmas.List.{append-nil, length-replicate}
 use Rattle.line_layout.specs.declared.change.Change.{Change}
 use Rattle.line_layout.specs.declared.change.Tally.{Tally}
@@ -27,8 +27,7 @@ same_tally : (a b x y : ℕ) → a ≡ b → x ≡ y → tally_at a x ≡ tally_
 same_tally a b x y p q = ap (λ (k : ℕ). tally_at k x) p ∙ ap (tally_at b) q
 
 nonzero : (n : ℕ) → 0 < n → (n == 0) ≡ false
-nonzero zero h = absurd (omega (arith, h))
-nonzero (suc n) h = refl
+nonzero n some = false_from_ne_true (n == 0) (λ e. omega (arith, some, eqb-true n 0 e))
 
 noted_some : (t : Tally) (n m : ℕ) → 0 < m → noted t n m ≡ tally_at (t.times + m) (line_of t n)
 noted_some t n m some = cond-false (m == 0) t (tally_at (t.times + m) (line_of t n)) (nonzero m some)

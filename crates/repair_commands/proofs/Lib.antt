@@ -1,0 +1,4 @@
+pub mod GivenWords
+pub mod SameBytes
+pub mod Outcomes
+pub mod OneAnswer
