@@ -3,7 +3,7 @@ ghost use Rattle.std.specs.Vec.Iter.{into_iter_items};
 ghost use Rattle.repair_commands.specs.Asked.{asked_of, file_named};
 
 use crate::asked::{Asked, asked_in, second_of};
-use iges_fields::NoMemory;
+use iges_base::NoMemory;
 use std::alloc::Global;
 use std::env::Args;
 use std::marker::Model;
