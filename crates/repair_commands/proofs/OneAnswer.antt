@@ -2,7 +2,7 @@
 use Rattle.std.specs.Prelude.{◌⊎◌, ◌≢◌, ℕ, ◌<◌, List, [], length, Result, MatchOption, Option, Some, None, bytes_eq}
 use Rattle.std.proofs.Common.{◌≡◌, ◌≤◌, Bool, true, false, inl, inr, Ok, Err, refl, sym, ap, ◌∙◌, subst, arith}
 use Rattle.std.proofs.lemmas.Bool.{cases_Bool, cases_lt}
-use Rattle.iges_base.proofs.Answers.{clash}
+use Rattle.iges_base.proofs.Answers.{clash, done, err_is, failed, ok_is}
 use Rattle.iges_base.specs.declared.TheConstants.{FILE_LIMIT}
 use Rattle.line_layout.specs.declared.fault.LayoutFault.{LayoutFault}
 use Rattle.line_layout.specs.Relaid.{Laid, relaid}
@@ -18,14 +18,14 @@ use Rattle.repair_commands.specs.Laws.{InLayoutIsTold, OneAnswerIsOwed, SomeAnsw
 use Rattle.repair_commands.specs.Texts.{bad_layout_line, changes_text, in_layout_line}
 use Rattle.repair_commands.proofs.SameBytes.{same_bytes, other_bytes}
 
-ok_one : (x y : List ℕ) → Ok {E = LayoutFault} x ≡ Ok y → x ≡ y
-ok_one x y e = cc
+ok_one : (x y : List ℕ) → done {F = LayoutFault} x ≡ done y → x ≡ y
+ok_one x y e = ok_is x y e
 
-err_one : (x y : LayoutFault) → Err {T = List ℕ} x ≡ Err y → x ≡ y
-err_one x y e = cc
+err_one : (x y : LayoutFault) → failed {X = List ℕ} x ≡ failed y → x ≡ y
+err_one x y e = err_is x y e
 
-ok_not_err : (x : List ℕ) (y : LayoutFault) → Ok x ≡ Err y → ⊥
-ok_not_err x y e = cc
+ok_not_err : (x : List ℕ) (y : LayoutFault) → done x ≡ failed y → ⊥
+ok_not_err x y e = clash y x (sym e)
 
 no_layout_one : (bytes : List ℕ) → IsOne (OfNoLayout bytes)
 no_layout_one bytes a b t u (file_too_large p) (file_too_large q) = (refl, refl)
@@ -113,9 +113,9 @@ kept_laid : (bytes : List ℕ) → length bytes ≤ FILE_LIMIT → relaid bytes 
 kept_laid bytes few is = record { few = few; is = is; short = few }
 
 row_told : (bytes text : List ℕ) (a : Answer) (t : List ℕ) → relaid bytes ≡ Ok text → OfLayout bytes text asked.Layout a t → (a ≡ answer.Done → relaid bytes ≡ Ok bytes) × (relaid bytes ≡ Ok bytes → a ≡ answer.Done)
-row_told bytes text a t made (in_layout same) = (λ done. made ∙ ap (λ (x : List ℕ). Ok x) (sym same), λ is. refl)
-row_told bytes text a t made (not_in_layout other) = (λ done. absurd (let e = done in cc), λ is. absurd (other (ok_one bytes text (sym is ∙ made))))
+row_told bytes text a t made (in_layout same) = (λ says. made ∙ ap (λ (x : List ℕ). Ok x) (sym same), λ is. refl)
+row_told bytes text a t made (not_in_layout other) = (λ says. absurd (let e = says in cc), λ is. absurd (other (ok_one bytes text (sym is ∙ made))))
 
 pub in_layout_told : InLayoutIsTold
-in_layout_told bytes a t few (inl p) = (λ done. absurd (no_layout_done bytes a t p done), λ is. absurd (none_laid bytes bytes a t p (kept_laid bytes few is)))
+in_layout_told bytes a t few (inl p) = (λ says. absurd (no_layout_done bytes a t p says), λ is. absurd (none_laid bytes bytes a t p (kept_laid bytes few is)))
 in_layout_told bytes a t few (inr p) = row_told bytes p.0 a t p.1.is p.2

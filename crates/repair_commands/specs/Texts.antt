@@ -8,21 +8,21 @@ use Rattle.line_layout.specs.declared.fault.LayoutReason.{LayoutReason}
 use Rattle.line_layout.specs.declared.fault.LayoutReason.TheVariants as reason
 use Rattle.line_layout.specs.Changes.{changed_lines, tally_of}
 
-abbrev pub reason_word : LayoutReason → List ℕ
-reason_word reason.Utf16 = codes "utf16"
-reason_word reason.Gzip = codes "gzip"
-reason_word reason.Tab = codes "tab"
-reason_word reason.Short = codes "short"
-reason_word reason.Letter = codes "letter"
-reason_word reason.Number = codes "number"
-reason_word reason.Long = codes "long"
-reason_word reason.Order = codes "order"
-reason_word reason.Missing = codes "missing"
-reason_word reason.Many = codes "many"
+abbrev pub layout_word : LayoutReason → List ℕ
+layout_word reason.Utf16 = codes "utf16"
+layout_word reason.Gzip = codes "gzip"
+layout_word reason.Tab = codes "tab"
+layout_word reason.Short = codes "short"
+layout_word reason.Letter = codes "letter"
+layout_word reason.Number = codes "number"
+layout_word reason.Long = codes "long"
+layout_word reason.Order = codes "order"
+layout_word reason.Missing = codes "missing"
+layout_word reason.Many = codes "many"
 
 -- the first line whose content can't be told apart, and why
 abbrev pub bad_layout_line : LayoutFault → List ℕ
-bad_layout_line fault = codes "bad layout line " ++ decimal fault.line ++ codes " " ++ reason_word fault.reason ++ codes "\n"
+bad_layout_line fault = codes "bad layout line " ++ decimal fault.line ++ codes " " ++ layout_word fault.reason ++ codes "\n"
 
 abbrev pub in_layout_line : List ℕ
 in_layout_line = codes "in layout\n"

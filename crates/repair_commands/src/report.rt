@@ -1,14 +1,14 @@
 //! What is written of a layout.
 
 ghost use Rattle.iges_base.specs.declared.TheConstants.{FILE_LIMIT};
-ghost use Rattle.repair_commands.specs.Texts.{bad_layout_line, change_line, change_word, changes_text, reason_word, tally_line};
-ghost use Rattle.std.specs.Prelude.{◌≡◌, ◌++◌, ◌≤◌, IfOk, OnOk, length};
+ghost use Rattle.repair_commands.specs.Texts.{bad_layout_line, change_line, change_word, changes_text, layout_word, tally_line};
+ghost use Rattle.std.specs.Prelude.{◌≡◌, ◌++◌, ◌≤◌, OnOk, length};
 
 use iges_base::{NoMemory, Out, write_number};
 use line_layout::{Change, LayoutFault, LayoutReason, Tally, tally};
 
-fn reason_word(reason: LayoutReason) -> &'static str
-    ensures { result.now ≡ reason_word reason }
+fn layout_word(reason: LayoutReason) -> &'static str
+    ensures { result.now ≡ layout_word reason }
 {
     match reason {
         LayoutReason::Utf16 => "utf16",
@@ -26,12 +26,12 @@ fn reason_word(reason: LayoutReason) -> &'static str
 
 /// Puts the line on a file whose content can't be told apart. It errs only where memory runs out.
 pub fn put_bad_layout(out: &mut Out, fault: LayoutFault) -> Result<(), NoMemory>
-    ensures { IfOk result (λ _. out.new ≡ out.old ++ bad_layout_line fault) }
+    ensures { OnOk result (out.new ≡ out.old ++ bad_layout_line fault) }
 {
     out.put(b"bad layout line ")?;
     write_number(out, fault.line)?;
     out.put(b" ")?;
-    out.put(reason_word(fault.reason).as_bytes())?;
+    out.put(layout_word(fault.reason).as_bytes())?;
     out.put(b"\n")
 }
 
