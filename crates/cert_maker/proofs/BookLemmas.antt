@@ -12,7 +12,8 @@ use Rattle.edge_uses.specs.ShellObligations.{solid_obligations}
 use Rattle.brep_walk.specs.Places.{places}
 use Rattle.brep_walk.specs.SolidOf.{solid_of}
 use Rattle.cert_lines.specs.declared.parts.Certificate.{Certificate}
-use Rattle.cert_maker.specs.Book.{is_solid_at, is_solid_entry, solids_from, solids_of, uses_of, IsMade, AllMade, FirstUnmade, IsCertificateOf, IsSolidFault, IsFaultOf, IsBookFault, use_limit}
+use Rattle.iges_params.specs.Solids.{is_solid_at, is_solid_entry, solids_from, solids_of}
+use Rattle.cert_maker.specs.Book.{uses_of, IsMade, AllMade, FirstUnmade, IsCertificateOf, IsSolidFault, IsFaultOf, IsBookFault, use_limit}
 use Rattle.cert_maker.specs.declared.book.BookFault.{BookFault}
 use Rattle.cert_maker.specs.declared.book.BookFault.TheVariants.{NoSolid, Fails, TooMany, NoMemory}
 

@@ -15,7 +15,8 @@ use Rattle.cert_lines.specs.declared.version.Version.TheVariants.{Two, Three}
 use Rattle.cert_lines.proofs.CutLines.{cut_spelled}
 use Rattle.topo_certificate.specs.Legal.{IsLegal}
 use Rattle.solid_check.specs.Accepted.{Certify, Part, part_lines, solids_named, IsGoodPart, IsAccepted}
-use Rattle.cert_maker.specs.Book.{solids_from, solids_of, IsCertificateOf}
+use Rattle.iges_params.specs.Solids.{solids_from, solids_of}
+use Rattle.cert_maker.specs.Book.{IsCertificateOf}
 use Rattle.cert_maker.specs.BookLaws.{BookTextIsAccepted, OneBookText}
 use Rattle.cert_maker.proofs.OneText.{one_zip, one_certificate}
 use Rattle.cert_maker.proofs.Zipping.{zip_length}

@@ -8,7 +8,8 @@ use Rattle.brep_walk.specs.SolidOf.{solid_of}
 use Rattle.edge_uses.proofs.ClosedLemmas.{closed_is_all_hold}
 use Rattle.cert_lines.specs.Written.{book_lines, text_of}
 use Rattle.cert_lines.specs.declared.parts.Certificate.{Certificate}
-use Rattle.cert_maker.specs.Book.{uses_of, solids_of, AllMade, IsCertificateOf}
+use Rattle.iges_params.specs.Solids.{solids_of}
+use Rattle.cert_maker.specs.Book.{uses_of, AllMade, IsCertificateOf}
 use Rattle.cert_maker.specs.Laws.{ClosedHasText}
 use Rattle.cert_maker.specs.BookLaws.{MadeHasBook}
 

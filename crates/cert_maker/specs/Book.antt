@@ -1,10 +1,8 @@
 -- What certifying all solids of a file gives.
-use Rattle.std.specs.Prelude.{◌≡◌, ℕ, pos, ◌+◌, ◌*◌, ◌<◌, ◌≤◌, ◌⊎◌, List, [], ◌∷◌, ⊤, Bool, false, Option, Some, None, slice_get, length, flat_map, if◌then◌else◌}
+use Rattle.std.specs.Prelude.{◌≡◌, ℕ, ◌+◌, ◌<◌, ◌≤◌, ◌⊎◌, List, [], ◌∷◌, ⊤, length, flat_map}
 use Rattle.std.specs.List.{AllZip}
-use Rattle.std.specs.Ordering.{int_eq}
-use Rattle.iges_fields.specs.declared.value.Value.{Value}
-use Rattle.iges_directory.specs.declared.entry.Entry.{Entry}
 use Rattle.iges_params.specs.Contents.{Contents}
+use Rattle.iges_params.specs.Solids.{solids_of}
 use Rattle.brep_walk.specs.Places.{places}
 use Rattle.brep_walk.specs.SolidOf.{solid_of}
 use Rattle.solid_data.specs.SolidData.{shell_uses}
@@ -15,22 +13,6 @@ use Rattle.cert_lines.specs.declared.parts.Certificate.{Certificate}
 use Rattle.cert_maker.specs.Certified.{IsCertificate}
 use Rattle.cert_maker.specs.declared.book.BookFault.{BookFault}
 use Rattle.cert_maker.specs.declared.book.BookFault.TheVariants.{NoSolid, Fails, TooMany, NoMemory}
-
-abbrev pub is_solid_entry : Option (Entry × List Value) → Bool
-is_solid_entry None = false
-is_solid_entry (Some e) = int_eq e.0.kind (pos 186)
-
--- the numbers of the entries of type 186, of which the first has this place, in directory order
-abbrev pub solids_from : ℕ → List (Entry × List Value) → List ℕ
-solids_from i [] = []
-solids_from i (e ∷ es) = if int_eq e.0.kind (pos 186) then (2 * i + 1) ∷ solids_from (i + 1) es else solids_from (i + 1) es
-
--- the entry at this place is of type 186
-abbrev pub is_solid_at : Contents → ℕ → Bool
-is_solid_at f i = is_solid_entry (slice_get f.entries i)
-
-abbrev pub solids_of : Contents → List ℕ
-solids_of f = solids_from 0 f.entries
 
 abbrev pub use_limit : ℕ
 use_limit = 6000000

@@ -4,7 +4,8 @@ use Rattle.iges_params.specs.Contents.{Contents}
 use Rattle.iges_params.specs.Limits.{FitsLimits}
 use Rattle.cert_lines.specs.declared.version.Version.TheVariants.{Three}
 use Rattle.solid_check.specs.Accepted.{IsAccepted}
-use Rattle.cert_maker.specs.Book.{solids_of, AllMade, FirstUnmade, IsBookText}
+use Rattle.iges_params.specs.Solids.{solids_of}
+use Rattle.cert_maker.specs.Book.{AllMade, FirstUnmade, IsBookText}
 use Rattle.cert_maker.specs.declared.book.BookFault.{BookFault}
 
 -- A file with a solid has its book accepted, which names all of its solids.

@@ -10,7 +10,8 @@ ghost use Rattle.cert_lines.specs.Written.{book_lines, text_of};
 ghost use Rattle.cert_lines.specs.declared.version.Version.TheVariants.{Three as EditionThree};
 ghost use Rattle.solid_check.specs.Accepted.{IsAccepted};
 ghost use Rattle.cert_maker.specs.Certified.{IsCertificate};
-ghost use Rattle.cert_maker.specs.Book.{is_solid_at, solids_of, uses_of, IsMade, AllMade, IsCertificateOf, IsSolidFault, IsFaultOf, IsBookFault};
+ghost use Rattle.iges_params.specs.Solids.{is_solid_at, solids_of};
+ghost use Rattle.cert_maker.specs.Book.{uses_of, IsMade, AllMade, IsCertificateOf, IsSolidFault, IsFaultOf, IsBookFault};
 
 use crate::fault::MakeFault;
 use crate::making::certify;
@@ -20,9 +21,6 @@ use iges_params::File;
 use solid_data::{Failing, Solid};
 use std::alloc::Global;
 use topo_certificate::{Certificate, Certificates, use_count};
-
-/// The entity type of a manifold solid B-rep object.
-const SOLID: i64 = 186;
 
 /// The most loop uses that the solids of a book may have together.
 const USE_LIMIT: u64 = 6_000_000;
@@ -99,15 +97,6 @@ fn solid_part(
     Ok((certificate, used))
 }
 
-fn is_solid(file: &File, i: usize) -> bool
-    requires { i < length file.now.entries }
-    ensures { result ≡ is_solid_at file.now i }
-{
-    let count = file.entry_count();
-    prove!(i < count);
-    file.entry_at(i).unwrap().kind == SOLID
-}
-
 /// The certificates of all solids of a file, of version 2, in directory order; or the first solid that can't be
 /// certified: one that isn't closed, or with which there are more than 6,000,000 loop uses. Their text as a book is
 /// accepted and names all solids of the file.
@@ -123,8 +112,8 @@ pub fn certify_all(alloc: Global, file: &File) -> Result<Certificates, BookFault
     let mut walker = Walker::new(alloc, file);
     let mut used = 0;
     'entries: for i in 0..file.entry_count() {
-        if is_solid(file, i) {
-            let (part, with) = solid_part(alloc, &mut walker, EntryNo(2 * i as u32 + 1), used)?;
+        if file.is_solid_at(i) {
+            let (part, with) = solid_part(alloc, &mut walker, file.entry_no(i), used)?;
             parts.push(part)?;
             used = with;
         }

@@ -6,7 +6,6 @@ ghost use Rattle.std.specs.List.{list_all};
 ghost use Rattle.std.specs.Prelude.{◌≡◌, true, OnErr, OnOk, length, unsigned_abs};
 
 use crate::entry_set::EntrySet;
-use crate::numbers::entry_no;
 use iges_fields::{ItemList, NoMemory};
 use iges_params::File;
 
@@ -19,7 +18,7 @@ fn add_number(set: &mut EntrySet, file: &File, number: i64) -> Result<(), NoMemo
     }) }
     ensures err { OnErr result (set.new ≡ set.old) }
 {
-    match entry_no(file, number) {
+    match file.entry_no_of(number) {
         Some(no) => set.add(no),
         None => Ok(()),
     }

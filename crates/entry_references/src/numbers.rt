@@ -14,25 +14,14 @@ use crate::group::Group;
 use crate::own::Own;
 use crate::place::{number_in, number_of};
 use iges_directory::Entry;
-use iges_fields::{EntryNo, ItemList, NoMemory, Values};
+use iges_fields::{ItemList, NoMemory, Values};
 use iges_params::File;
 use std::alloc::Global;
-
-/// The number as an entry's, unless it lies outside the directory.
-pub fn entry_no(file: &File, number: i64) -> Option<EntryNo>
-    ensures { MatchOption result (named file.now number ≡ None) (λ no. number ≡ pos no.0) }
-{
-    let lines = 2 * file.entry_count();
-    match u32::try_from(number) {
-        Ok(no) if (no as usize) < lines => Some(EntryNo(no)),
-        _ => None,
-    }
-}
 
 fn names_entry(file: &File, number: i64) -> bool
     ensures { result ≡ names_entry file.now number }
 {
-    match entry_no(file, number) {
+    match file.entry_no_of(number) {
         Some(no) => file.entry(no).is_some(),
         None => false,
     }
@@ -42,7 +31,7 @@ fn names_entry(file: &File, number: i64) -> bool
 fn is_name(file: &File, number: i64) -> bool
     ensures { result ≡ is_name file.now number }
 {
-    let Some(no) = entry_no(file, number) else {
+    let Some(no) = file.entry_no_of(number) else {
         return false;
     };
     match file.entry(no) {

@@ -20,7 +20,8 @@ use Rattle.entry_references.proofs.Marks.{number_is}
 use Rattle.entry_references.proofs.NamedRecords.{named_within}
 use Rattle.entry_references.proofs.RefLists.{refs_named}
 use Rattle.entry_references.proofs.RisingLists.{In, in_from, contains_at, contains_pass, rises, rises_by_test}
-use Rattle.solid_extract.specs.Extracted.{is_solid, Reaches, here, further, IsRefused, IsExtracted, new_record}
+use Rattle.iges_params.specs.Solids.{is_solid, is_solid_entry}
+use Rattle.solid_extract.specs.Extracted.{Reaches, here, further, IsRefused, IsExtracted, new_record}
 
 -- above the number of each entry
 abbrev bound_of : Contents → ℕ
@@ -139,7 +140,7 @@ solid_record : (f : Contents) (n : ℕ) → is_solid f n ≡ true → (r : Recor
 solid_record f n h = by_option (named f (pos n)) refl h
   where
     by_option : (o : Option Record) → named f (pos n) ≡ o → is_solid f n ≡ true → (r : Record) × (named f (pos n) ≡ Some r)
-    by_option None e t = absurd (let g : false ≡ true = sym (ap (λ (x : Option Record). elim x as (λ _. Bool) [ Some r ↦ int_eq r.0.kind (pos 186) | None ↦ false ]) e) ∙ t in cc)
+    by_option None e t = absurd (let g : false ≡ true = sym (ap is_solid_entry e) ∙ t in cc)
     by_option (Some r) e t = (r, e)
 
 -- where nothing that is reached has a fault, all of it are entries

@@ -4,7 +4,8 @@ use Rattle.std.specs.Prelude.{◌<◌}
 use Rattle.iges_params.specs.Contents.{Contents}
 use Rattle.solid_data.proofs.ObligationLemmas.{FirstFalse-one, FirstFalse-not_all}
 use Rattle.brep_walk.specs.Places.{places}
-use Rattle.cert_maker.specs.Book.{FirstUnmade, solids_of}
+use Rattle.iges_params.specs.Solids.{solids_of}
+use Rattle.cert_maker.specs.Book.{FirstUnmade}
 use Rattle.cert_maker.specs.declared.book.BookFault.{BookFault}
 use Rattle.cert_maker.proofs.BookMade.{one_text_of_book}
 use Rattle.cert_maker.proofs.Unmade.{none_unmade, one_unmade}

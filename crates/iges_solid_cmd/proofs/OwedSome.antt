@@ -3,7 +3,8 @@ use Rattle.std.proofs.Common.{◌≡◌, ◌<◌, ◌⊎◌, length, inl, inr, �
 use Rattle.std.specs.Prelude.{◌+◌, ◌<◌}
 use Rattle.iges_params.specs.Contents.{Contents}
 use Rattle.brep_walk.specs.Places.{places}
-use Rattle.cert_maker.specs.Book.{FirstUnmade, solids_of, AllMade, IsUnmade, uses_of}
+use Rattle.iges_params.specs.Solids.{solids_of}
+use Rattle.cert_maker.specs.Book.{FirstUnmade, AllMade, IsUnmade, uses_of}
 use Rattle.cert_maker.specs.declared.book.BookFault.{BookFault}
 use Rattle.cert_maker.proofs.Unmade.{made_or_unmade}
 use Rattle.solid_check.specs.Closed.{obligations, IsVerdictOn}

@@ -5,7 +5,7 @@ use Rattle.cert_lines.specs.declared.version.Version.{Version}
 use Rattle.cert_lines.specs.declared.version.Version.TheVariants.{One, Two, Three}
 use Rattle.solid_check.specs.Accepted.{IsAccepted, IsAcceptedAlone}
 use Rattle.solid_check.proofs.Sound.{accepted_is_closed, closed_is_all_hold_of_file}
-use Rattle.cert_maker.specs.Book.{solids_of}
+use Rattle.iges_params.specs.Solids.{solids_of}
 use Rattle.cert_maker.proofs.BookMade.{book_text_accepted}
 use Rattle.cert_maker.proofs.OneText.{text_accepted}
 use Rattle.size_laws.proofs.Small.{accepted_is_small}

@@ -1,10 +1,8 @@
 -- The printed lines.
-use Rattle.std.specs.Prelude.{ℕ, ◌+◌, ◌*◌, Bool, List, ◌++◌, pos, flat_map, filter, codes, decimal, if◌then◌else◌, length, sum_by}
+use Rattle.std.specs.Prelude.{ℕ, ◌+◌, Bool, List, ◌++◌, flat_map, codes, decimal, if◌then◌else◌, length, sum_by}
 use Rattle.std.specs.List.{enumerate_from}
-use Rattle.std.specs.Ordering.{int_eq}
-use Rattle.iges_fields.specs.declared.value.Value.{Value}
-use Rattle.iges_directory.specs.declared.entry.Entry.{Entry}
 use Rattle.iges_params.specs.Contents.{Contents}
+use Rattle.iges_params.specs.Solids.{solids_of}
 use Rattle.solid_data.specs.SolidData.{SolidData}
 use Rattle.solid_data.specs.declared.solid.FaceUse.{FaceUse}
 use Rattle.solid_data.specs.declared.solid.Shell.{Shell}
@@ -12,14 +10,13 @@ use Rattle.edge_uses.specs.ShellRows.{ShellRows, shell_rows}
 use Rattle.entry_references.specs.declared.fault.ExtractReason.{ExtractReason}
 use Rattle.entry_references.specs.declared.fault.ExtractReason.TheVariants as extracting
 
--- a line for each entry of type 186 from the i-th on, with its number
-abbrev pub solid_lines_from : ℕ → List (Entry × List Value) → List ℕ
-solid_lines_from i entries =
-    let solids = filter (λ (e : ℕ × (Entry × List Value)). int_eq e.1.0.kind (pos 186)) (enumerate_from i entries) in
-    flat_map (λ (e : ℕ × (Entry × List Value)). decimal (2 * e.0 + 1) ++ codes "\n") solids
+-- a line with the number of a solid
+abbrev pub solid_line : ℕ → List ℕ
+solid_line n = decimal n ++ codes "\n"
 
+-- one for each solid, in directory order
 abbrev pub solids_text : Contents → List ℕ
-solids_text f = solid_lines_from 0 f.entries
+solids_text f = flat_map solid_line (solids_of f)
 
 abbrev pub extract_word : ExtractReason → List ℕ
 extract_word extracting.NotSolid = codes "not-solid"

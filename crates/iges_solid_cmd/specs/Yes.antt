@@ -9,7 +9,7 @@ use Rattle.cert_lines.specs.declared.version.Version.{Version}
 use Rattle.solid_check.specs.Accepted.{IsAccepted}
 use Rattle.solid_check.specs.Closed.{IsClosed}
 use Rattle.solid_check.specs.Laws.{upgraded_version}
-use Rattle.cert_maker.specs.Book.{solids_of}
+use Rattle.iges_params.specs.Solids.{solids_of}
 use Rattle.command_replies.specs.declared.answer.Answer.TheVariants as answer
 use Rattle.command_replies.specs.Texts.{accepted_line, accepted_lines}
 use Rattle.iges_params.specs.Limits.{FitsLimits}

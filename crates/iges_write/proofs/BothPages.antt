@@ -144,3 +144,8 @@ module _ {A : Type 0} (r : Result A WriteFileFault) (page params new new_params 
       (subst (λ (k : ℕ). Stepped entry k (record_text_lines d e)) first_is
       (subst (Stepped entry 0) lines_are
       (second_then_first r new (put_lines page (entry_lines entry 0 0)) new_params (put_lines params []) (kept ∙ no_lines params empty) h)))
+
+-- the same, of an entry with this number
+pub with_this_number : {A : Type 0} (r : Result A WriteFileFault) (page params new new_params : Sheet) (d : Delims) (n m : ℕ) (e : Entry × List Value) → n ≡ m
+    → AtEntry r page params new new_params d n e → AtEntry r page params new new_params d m e
+with_this_number r page params new new_params d n m e same h = subst (λ (k : ℕ). AtEntry r page params new new_params d k e) same h

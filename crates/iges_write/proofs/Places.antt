@@ -25,22 +25,22 @@ named_at f i =
     ∙ ap (λ (k : ℕ). unless_unused kind_of (slice_get f.entries k)) half
 
 -- where its number names an entry, the one there is used, and has these values
-pub used_at : (f : Contents) (i : ℕ) (e : Record) (values : List Value) → slice_get f.entries i ≡ Some e → Some values ≡ option_map (λ (x : Record). x.1) (named f (pos (2 * i + 1))) → (values ≡ e.1) × (has_no_record e.0 ≡ false)
-used_at f i e values at named_is = by_type (int_eq e.0.kind (pos 0)) refl
+pub used_at : (f : Contents) (i n : ℕ) (e : Record) (values : List Value) → n ≡ 2 * i + 1 → slice_get f.entries i ≡ Some e → Some values ≡ option_map (λ (x : Record). x.1) (named f (pos n)) → (values ≡ e.1) × (has_no_record e.0 ≡ false)
+used_at f i n e values number at named_is = by_type (int_eq e.0.kind (pos 0)) refl
   where
     whole : Some values ≡ option_map (λ (x : Record). x.1) (unless_unused kind_of (Some e))
-    whole = named_is ∙ ap (option_map (λ (x : Record). x.1)) (named_at f i ∙ ap (unless_unused kind_of) at)
+    whole = named_is ∙ ap (option_map (λ (x : Record). x.1)) (ap (λ (m : ℕ). named f (pos m)) number ∙ named_at f i ∙ ap (unless_unused kind_of) at)
 
     by_type : (b : Bool) → int_eq e.0.kind (pos 0) ≡ b → (values ≡ e.1) × (has_no_record e.0 ≡ false)
     by_type true t = absurd (let no : Some values ≡ None = whole ∙ ap (option_map (λ (x : Record). x.1)) (cond-true (int_eq e.0.kind (pos 0)) None (Some e) t) in cc)
     by_type false t = (let same : Some values ≡ Some e.1 = whole ∙ ap (option_map (λ (x : Record). x.1)) (cond-false (int_eq e.0.kind (pos 0)) None (Some e) t) in cc, t)
 
 -- where it names none, the one there is of type 0
-pub unused_at : (f : Contents) (i : ℕ) (e : Record) → slice_get f.entries i ≡ Some e → None ≡ option_map (λ (x : Record). x.1) (named f (pos (2 * i + 1))) → has_no_record e.0 ≡ true
-unused_at f i e at named_is = by_type (int_eq e.0.kind (pos 0)) refl
+pub unused_at : (f : Contents) (i n : ℕ) (e : Record) → n ≡ 2 * i + 1 → slice_get f.entries i ≡ Some e → None ≡ option_map (λ (x : Record). x.1) (named f (pos n)) → has_no_record e.0 ≡ true
+unused_at f i n e number at named_is = by_type (int_eq e.0.kind (pos 0)) refl
   where
     whole : None ≡ option_map (λ (x : Record). x.1) (unless_unused kind_of (Some e))
-    whole = named_is ∙ ap (option_map (λ (x : Record). x.1)) (named_at f i ∙ ap (unless_unused kind_of) at)
+    whole = named_is ∙ ap (option_map (λ (x : Record). x.1)) (ap (λ (m : ℕ). named f (pos m)) number ∙ named_at f i ∙ ap (unless_unused kind_of) at)
 
     by_type : (b : Bool) → int_eq e.0.kind (pos 0) ≡ b → has_no_record e.0 ≡ true
     by_type true t = t

@@ -13,7 +13,7 @@ use crate::entry::put_entry;
 use crate::fault::WriteFileFault;
 use crate::page::Page;
 use iges_directory::Entry;
-use iges_fields::{Delimiters, EntryNo, Value};
+use iges_fields::{Delimiters, Value};
 use iges_params::File;
 
 // The two lines of an entry with this number, and its record, which begins at the next line of the records.
@@ -56,12 +56,13 @@ fn put_at(
 {
     let entry = file.entry_at(i).unwrap();
     let delims = &file.global().delims;
-    match file.values(EntryNo(2 * i as u32 + 1)) {
+    let no = file.entry_no(i);
+    match file.values(no) {
         Some(values) => put_used(
             page,
             params,
             line,
-            2 * i as u64 + 1,
+            u64::from(no.0),
             entry,
             values.as_slice(),
             delims,

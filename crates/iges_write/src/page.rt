@@ -62,6 +62,16 @@ impl Page {
         }
     }
 
+    /// The same with room for so many bytes of text, where there is memory for it, so that the text isn't moved as it grows.
+    pub fn with_room(alloc: Global, limit: u64, letter: u8, width: usize, room: usize) -> Page
+        requires { limit ≤ FILE_LIMIT }
+        ensures { result ≡ blank limit letter width }
+    {
+        let mut page = Page::new(alloc, limit, letter, width);
+        let _reserved = page.text.reserve_exact(room);
+        page
+    }
+
     // Ends the line being made.
     fn end_line(&mut self) -> Result<(), WriteFileFault>
         ensures { Steps result self.new (end_line self.old) }
@@ -148,6 +158,7 @@ impl Page {
     }
 
     // A word and the byte after it.
+    #[inline(never)]
     fn put_word(&mut self, word: &[u8], end: u8) -> Result<(), WriteFileFault>
         ensures { Steps result self.new (put_parts self.old (word_parts self.old.width (word.now
             ++ end ∷ []))) }
@@ -160,6 +171,7 @@ impl Page {
     }
 
     // A text and the delimiter after it.
+    #[inline(never)]
     fn put_text(&mut self, text: &[u8], delimiter: u8) -> Result<(), WriteFileFault>
         ensures { Steps result self.new (put_parts self.old
             (value_parts self.old.width (value.Text text.now) delimiter)) }
@@ -170,6 +182,7 @@ impl Page {
     }
 
     // A digit and the delimiter after it, which a line holds.
+    #[inline(always)]
     fn put_digit(&mut self, n: u64, delimiter: u8) -> Result<(), WriteFileFault>
         requires digit { n < 10 }
         requires width { 1 < self.old.width }
@@ -180,6 +193,7 @@ impl Page {
     }
 
     // A number without a sign and the delimiter after it, which a line holds.
+    #[inline(always)]
     fn put_number(&mut self, n: u64, delimiter: u8) -> Result<(), WriteFileFault>
         requires { 20 < self.old.width }
         ensures { Steps result self.new (put_parts self.old (word_parts self.old.width (decimal n
@@ -188,12 +202,23 @@ impl Page {
         if n < 10 {
             return self.put_digit(n, delimiter);
         }
+        self.put_digits(n, delimiter)
+    }
+
+    // The same of a number of any length.
+    #[inline(never)]
+    fn put_digits(&mut self, n: u64, delimiter: u8) -> Result<(), WriteFileFault>
+        requires { 20 < self.old.width }
+        ensures { Steps result self.new (put_parts self.old (word_parts self.old.width (decimal n
+            ++ delimiter ∷ []))) }
+    {
         let mut word = [delimiter; 21];
         let start = write_digits(n, &mut word, 20);
         self.put_part(&word[start..])
     }
 
     // An integer and the delimiter after it.
+    #[inline(always)]
     fn put_integer(&mut self, n: &i64, delimiter: u8) -> Result<(), WriteFileFault>
         ensures { Steps result self.new (put_parts self.old
             (value_parts self.old.width (value.Int n.now) delimiter)) }
@@ -205,6 +230,7 @@ impl Page {
     }
 
     // A value and the delimiter after it.
+    #[inline(always)]
     fn put_value(&mut self, value: &Value, delimiter: u8) -> Result<(), WriteFileFault>
         ensures { Steps result self.new (put_parts self.old
             (value_parts self.old.width value.now delimiter)) }

@@ -20,6 +20,9 @@ use iges_fields::{Bytes, FILE_LIMIT};
 use iges_params::File;
 use std::alloc::Global;
 
+/// The bytes of a line, LF among them.
+const LINE_SIZE: usize = 81;
+
 // The start section and the global section.
 fn put_front(page: &mut Page, file: &File) -> Result<(), WriteFileFault>
     ensures steps { Steps result page.new (with_front page.old file.now) }
@@ -72,13 +75,18 @@ fn put_file(alloc: Global, page: &mut Page, limit: u64, file: &File) -> Result<(
     put_terminate(page, &mut line, &counts)
 }
 
+// The size of the text where each record has two lines, beside its entry's two lines of the directory.
+fn usual_size(file: &File) -> usize {
+    file.entry_count() * 4 * LINE_SIZE
+}
+
 // The canonical text, where it has at most `limit` bytes.
 fn write(alloc: Global, file: &File, limit: u64) -> Result<Bytes, WriteFileFault>
     requires { limit ≤ FILE_LIMIT }
     ensures text { Writes limit result (text_of file.now) }
     ensures writable { OnOk result (IsWritable file.now) }
 {
-    let mut page = Page::new(alloc, limit, b'S', 72);
+    let mut page = Page::with_room(alloc, limit, b'S', 72, usual_size(file));
     put_file(alloc, &mut page, limit, file)?;
     Ok(page.into_bytes())
 }

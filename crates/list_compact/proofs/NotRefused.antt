@@ -21,7 +21,8 @@ use Rattle.entry_references.specs.Layout.{Own}
 use Rattle.entry_references.specs.Refs.{Record, own_of, names_entry, pointers_of, entry_fault}
 use Rattle.entry_references.proofs.KindPlaces.{own_is}
 use Rattle.entry_references.proofs.NamedRecords.{named_place}
-use Rattle.solid_extract.specs.Extracted.{is_solid, new_number, here, IsExtracted}
+use Rattle.iges_params.specs.Solids.{is_solid, is_solid_entry}
+use Rattle.solid_extract.specs.Extracted.{new_number, here, IsExtracted}
 use Rattle.solid_extract.specs.NewValues.{new_numbers, names_behind}
 use Rattle.solid_extract.proofs.NewNumbers.{new_named}
 use Rattle.list_compact.specs.Used.{is_kind}
@@ -137,18 +138,14 @@ faultless_again f g n x m q e =
     let of_kind : IsOfItsKind s.0 = All-at IsOfItsKind g.entries (extracted_of_kind f g n x) s.0 there in
     subst (λ p. entry_fault (dropped g) p ≡ None) s.2 (dropped_faultless g s.0 neat m of_kind)
 
-is_solid_by : Option Record → Bool
-is_solid_by o = elim o as (λ _. Bool) [ Some r ↦ int_eq r.0.kind (pos 186) | None ↦ false ]
-
 -- the solid is one still
 pub solid_still : (f g : Contents) (n : ℕ) (x : IsExtracted f n g) → is_solid (dropped g) (new_number x.kept n) ≡ true
-unfolding is_solid_by
 solid_still f g n x = by_record (named f (pos n)) refl x.solid
   where
-    by_record : (o : Option Record) → named f (pos n) ≡ o → elim o as (λ _. Bool) [ Some r ↦ int_eq r.0.kind (pos 186) | None ↦ false ] ≡ true → is_solid (dropped g) (new_number x.kept n) ≡ true
+    by_record : (o : Option Record) → named f (pos n) ≡ o → is_solid_entry o ≡ true → is_solid (dropped g) (new_number x.kept n) ≡ true
     by_record None e t = absurd (let no : false ≡ true = t in cc)
     by_record (Some r) e t =
-        ap is_solid_by (named_dropped g (new_number x.kept n) ∙ ap (option_map (as_dropped g (new_number x.kept n))) (new_named f g n x n r ((x.reached n).1 here) e)) ∙ t
+        ap is_solid_entry (named_dropped g (new_number x.kept n) ∙ ap (option_map (as_dropped g (new_number x.kept n))) (new_named f g n x n r ((x.reached n).1 here) e)) ∙ t
 
 pub not_refused : DroppedIsNotRefused
 not_refused f g n x entity reason (inl bad) = both_ways (is_solid (dropped g) (new_number x.kept n)) bad.0 (solid_still f g n x)

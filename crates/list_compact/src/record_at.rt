@@ -7,7 +7,6 @@ ghost use Rattle.std.specs.List.{AllByRecursion};
 ghost use Rattle.std.specs.Prelude.{◌≡◌, ◌<◌, ◌≤◌, Some, length, slice_get};
 
 use entry_references::{Record, record_of};
-use iges_fields::EntryNo;
 use iges_params::File;
 
 /// The entry in a place of the directory, from 0, of a file in which each entry has a type.
@@ -19,5 +18,5 @@ pub fn record_at(file: &File, i: usize) -> Record<'_>
     ensures bounded { IsBounded result.entry.now }
     ensures short { length result.values.now ≤ FILE_LIMIT }
 {
-    record_of(file, EntryNo(2 * i as u32 + 1)).unwrap()
+    record_of(file, file.entry_no(i)).unwrap()
 }

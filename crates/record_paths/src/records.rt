@@ -9,24 +9,13 @@ use brep_loops::{FaceRecord, LoopRecord, ShellRecord, SolidRecord};
 use iges_fields::{EntryNo, Values};
 use iges_params::File;
 
-// The number as an entry's, unless it lies outside the directory.
-fn entry_no(file: &File, number: i64) -> Option<EntryNo>
-    ensures { MatchOption result (¬ Names file.now number) (λ no. number ≡ pos no.0) }
-{
-    let lines = 2 * file.entry_count();
-    match u32::try_from(number) {
-        Ok(no) if (no as usize) < lines => Some(EntryNo(no)),
-        _ => None,
-    }
-}
-
 /// The entry that a number names, and the values of its record.
 pub fn record_of(file: &File, number: i64) -> Option<(EntryNo, &Values)>
     ensures some { IfSome result (λ r. (number ≡ pos r.0.0)
         × (r.1.now ≡ values_of file.now number)) }
     ensures none { IfNone result (¬ Names file.now number) }
 {
-    let Some(no) = entry_no(file, number) else {
+    let Some(no) = file.entry_no_of(number) else {
         return None;
     };
     let Some(values) = file.values(no) else {

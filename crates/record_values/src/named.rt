@@ -8,26 +8,14 @@ ghost use Rattle.std.specs.Prelude.{◌≡◌, ◌≤◌, IfSome, MatchOption, N
 
 use brep_lists::{EntityKind, count_at};
 use iges_directory::Entry;
-use iges_fields::{EntryNo, Values};
+use iges_fields::Values;
 use iges_params::File;
-
-// The number as an entry's, unless it lies outside the directory.
-fn entry_no(file: &File, number: i64) -> Option<EntryNo>
-    ensures named { MatchOption result (named file.now number ≡ None) (λ no. number ≡ pos no.0) }
-    ensures limits { FitsLimits file.now }
-{
-    let lines = 2 * file.entry_count();
-    match u32::try_from(number) {
-        Ok(no) if (no as usize) < lines => Some(EntryNo(no)),
-        _ => None,
-    }
-}
 
 /// The entry that a number in a record names (IGES 5.3, 2.2.4.4). None where it names none.
 pub fn entry_named(file: &File, number: i64) -> Option<&Entry>
     ensures { option_copied result ≡ entry_at file.now number }
 {
-    match entry_no(file, number) {
+    match file.entry_no_of(number) {
         Some(no) => file.entry(no),
         None => None,
     }
@@ -38,7 +26,7 @@ pub fn values_named(file: &File, number: i64) -> Option<&Values>
     ensures values { option_copied result ≡ option_map (λ e. e.1) (named file.now number) }
     ensures few { IfSome result (λ values. length values.now ≤ FILE_LIMIT) }
 {
-    match entry_no(file, number) {
+    match file.entry_no_of(number) {
         Some(no) => file.values(no),
         None => None,
     }

@@ -14,7 +14,8 @@ use Rattle.entry_references.specs.References.{RefersTo}
 use Rattle.entry_references.specs.Refs.{Record, names_entry, names_of, pointers_of, entry_fault, refs}
 use Rattle.entry_references.proofs.RisingLists.{In, below, tail_rises, contains_at, in_from, contains_pass}
 use Rattle.solid_extract.specs.Again.{ExtractedAgain}
-use Rattle.solid_extract.specs.Extracted.{new_number, new_record, renamed, is_solid, Reaches, here, further, IsExtracted, IsExtractedAs}
+use Rattle.iges_params.specs.Solids.{is_solid, is_solid_entry}
+use Rattle.solid_extract.specs.Extracted.{new_number, new_record, renamed, Reaches, here, further, IsExtracted, IsExtractedAs}
 use Rattle.solid_extract.specs.Renaming.{place_of}
 use Rattle.solid_extract.proofs.Copies.{all_at, zip_at}
 use Rattle.solid_extract.proofs.NewNumbers.{new_named}
@@ -169,8 +170,8 @@ module _ (f new : Contents) (n : ℕ) (x : IsExtracted f n new) where
   solid_again : IsTrue (is_solid new (next n))
   solid_again =
       let c : Contains x.kept n = (x.reached n).1 here in
-      ap (λ (o : Option Record). elim o as (λ _. Bool) [ Some r ↦ int_eq r.0.kind (pos 186) | None ↦ false ]) (new_at n c)
-      ∙ (sym (ap (λ (o : Option Record). elim o as (λ _. Bool) [ Some r ↦ int_eq r.0.kind (pos 186) | None ↦ false ]) (known n c).at) ∙ x.solid)
+      ap is_solid_entry (new_at n c)
+      ∙ (sym (ap is_solid_entry (known n c).at) ∙ x.solid)
 
   again : IsExtracted new (next n) new
   again =

@@ -29,7 +29,8 @@ use Rattle.solid_extract.proofs.NewNumbers.{has_kind}
 use Rattle.solid_extract.specs.declared.fault.ExtractFault.{ExtractFault}
 use Rattle.solid_extract.specs.declared.fault.ExtractFault.TheVariants as fault
 use Rattle.solid_extract.specs.declared.fault.Refusal.{Refusal}
-use Rattle.solid_extract.specs.Extracted.{is_solid, Reaches, here, further, IsExtracted, IsExtractedAs, IsRefused, new_number, new_record, new_values}
+use Rattle.iges_params.specs.Solids.{is_solid, is_solid_entry}
+use Rattle.solid_extract.specs.Extracted.{Reaches, here, further, IsExtracted, IsExtractedAs, IsRefused, new_number, new_record, new_values}
 use Rattle.solid_extract.specs.Flooding.{fault_at, IsFlooded, IsLeastFault}
 use Rattle.solid_extract.specs.Making.{records_of, IsFaultless, IsExtractFault, GivesFile, GivesRefusal}
 use Rattle.solid_extract.specs.Taking.{IsKept}
@@ -167,7 +168,7 @@ module _ (f : Contents) where
 solid_named : (f : Contents) (n : ℕ) → is_solid f n ≡ true → IsNamed f n
 solid_named f n h = by_option (named f (pos n)) h
   where
-    by_option : (o : Option Record) → elim o as (λ _. Bool) [ Some r ↦ int_eq r.0.kind (pos 186) | None ↦ false ] ≡ true → IsSome o
+    by_option : (o : Option Record) → is_solid_entry o ≡ true → IsSome o
     by_option None k = absurd (let g : false ≡ true = k in cc)
     by_option (Some r) k = refl
 

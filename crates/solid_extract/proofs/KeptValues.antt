@@ -22,52 +22,15 @@ use Rattle.entry_references.proofs.KindPlaces.{enumerate_append}
 use Rattle.entry_references.proofs.Marks.{get_set, both_next, zero_other, among_push}
 use Rattle.solid_extract.specs.Extracted.{new_value, new_values, renamed}
 use Rattle.solid_extract.proofs.Copies.{filter_map_few}
-use Rattle.solid_extract.specs.NewValues.{AreMarkedPlaces, with_mark, value_as, new_numbers, names_behind}
-
--- ---- marks of places
-
-marked_one : (ms : List Bool) (place i : ℕ) → i < length ms → slice_index_or (with_mark ms place) i false ≡ (slice_index_or ms i false || (place == i + 1))
-marked_one ms zero i lt =
-    let one : suc i ≡ i + 1 = omega arith in
-    sym (ap (λ (b : Bool). slice_index_or ms i false || b) (ap (λ (k : ℕ). 0 == k) (sym one) ∙ zero_other i) ∙ or-false (slice_index_or ms i false))
-marked_one ms (suc k) i lt = by_order (cases_lt k (length ms))
-  where
-    same : (suc k == i + 1) ≡ (k == i)
-    same = let one : i + 1 ≡ suc i = omega arith in ap (λ (j : ℕ). suc k == j) one ∙ both_next k i
-
-    by_order : (k < length ms) ⊎ (length ms ≤ k) → slice_index_or (set ms k true) i false ≡ (slice_index_or ms i false || (suc k == i + 1))
-    by_order (inr past) =
-        let far : (k == i) ≡ false = ne_eqb k i (λ e. omega (arith, e, past, lt)) in
-        ap (λ (xs : List Bool). slice_index_or xs i false) (set_past ms k true past)
-        ∙ sym (ap (λ (b : Bool). slice_index_or ms i false || b) (same ∙ far) ∙ or-false (slice_index_or ms i false))
-    by_order (inl below) = get_set ms k i below ∙ ap (λ (b : Bool). slice_index_or ms i false || b) (sym same)
-
-mark_long : (ms : List Bool) (place : ℕ) → length (with_mark ms place) ≡ length ms
-mark_long ms zero = refl
-mark_long ms (suc k) = length-set ms k true
-
-pub mark_next : (ms new : List Bool) (ps : List ℕ) (i count place : ℕ) → i < length ps → place ≡ get_or ps i 0 → new ≡ with_mark ms place → AreMarkedPlaces ms (take i ps) count → AreMarkedPlaces new (take (i + 1) ps) count
-mark_next ms new ps i count place lt read en h = record {
-  long = ap length en ∙ (mark_long ms place ∙ h.long);
-  marked = λ j below.
-      ap (λ (xs : List Bool). slice_index_or xs j false) en
-      ∙ (marked_one ms place j (omega (arith, below, h.long))
-      ∙ (ap (λ (b : Bool). b || (place == j + 1)) (h.marked j below)
-      ∙ (ap (λ (x : ℕ). is_among (take i ps) (j + 1) || (x == j + 1)) read
-      ∙ (sym (among_push (take i ps) (get_or ps i 0) (j + 1)) ∙ ap (λ (xs : List ℕ). is_among xs (j + 1)) (sym (take_more ps i 0 lt))))));
-}
+use Rattle.solid_extract.specs.NewValues.{value_as, new_numbers, names_behind}
 
 -- ---- own values
-
-get_seam : {A : Type 0} (xs : List A) (y : A) (ys : List A) (i : ℕ) → length xs ≡ i → slice_get (xs ++ y ∷ ys) i ≡ Some y
-get_seam [] y ys i e = ap (slice_get (y ∷ ys)) (sym e)
-get_seam (x ∷ xs) y ys i e = ap (slice_get (x ∷ xs ++ y ∷ ys)) (sym e) ∙ get_seam xs y ys (length xs) refl
 
 -- a value that isn't an integer stays
 pub set_same : (vs : List Value) (i : ℕ) (v w : Value) → slice_get vs i ≡ Some v → w ≡ v → vs ≡ set vs i w
 set_same vs i v w at e = sym (ap (set vs i) (e ∙ sym (get_or_from_slice_get vs i v v at)) ∙ set-get_or vs i v)
 
-value_is : (kept : List ℕ) (own : Own) (k : ℕ) (p c : Bool) (v : Value) → p ≡ is_among own.pointers k → c ≡ is_among own.cut k → value_as kept p c v ≡ new_value kept own k v
+pub value_is : (kept : List ℕ) (own : Own) (k : ℕ) (p c : Bool) (v : Value) → p ≡ is_among own.pointers k → c ≡ is_among own.cut k → value_as kept p c v ≡ new_value kept own k v
 value_is kept own k p c value.Default ep ec = refl
 value_is kept own k p c (value.Int n) ep ec =
     ap (λ (b : Bool). value.Int (if b then renamed kept n else (if c then pos 0 else n))) ep
@@ -77,20 +40,6 @@ value_is kept own k p c (value.Text t) ep ec = refl
 
 abbrev pub as_kept : List ℕ → Own → ℕ × Value → Value
 as_kept kept own v = new_value kept own v.0 v.1
-
-pub next_value : (kept : List ℕ) (own : Own) (vs : List Value) (i : ℕ) (v : Value) (p c : Bool) (list new : List Value) → slice_get vs i ≡ Some v → p ≡ is_among own.pointers (i + 1) → c ≡ is_among own.cut (i + 1)
-    → list ≡ map (as_kept kept own) (enumerate_from 1 (take i vs)) → new ≡ list ++ value_as kept p c v ∷ [] → new ≡ map (as_kept kept own) (enumerate_from 1 (take (i + 1) vs))
-next_value kept own vs i v p c list new at ep ec inv en =
-    let lt : i < length vs = slice_get_within vs i v at in
-    let got : get_or vs i value.Default ≡ v = get_or_from_slice_get vs i v value.Default at in
-    let long : 1 + length (take i vs) ≡ i + 1 = omega (arith, length-take i vs, lt) in
-    en ∙ (ap (λ (xs : List Value). xs ++ value_as kept p c v ∷ []) inv
-    ∙ (ap (λ (x : Value). map (as_kept kept own) (enumerate_from 1 (take i vs)) ++ x ∷ []) (value_is kept own (i + 1) p c v ep ec)
-    ∙ sym (ap (λ (xs : List Value). map (as_kept kept own) (enumerate_from 1 xs)) (take_more vs i value.Default lt)
-    ∙ (ap (map (as_kept kept own)) (enumerate_append 1 (take i vs) (get_or vs i value.Default ∷ []))
-    ∙ (map-append (as_kept kept own) (enumerate_from 1 (take i vs)) ((1 + length (take i vs), get_or vs i value.Default) ∷ [])
-    ∙ (ap (λ (x : Value). map (as_kept kept own) (enumerate_from 1 (take i vs)) ++ new_value kept own (1 + length (take i vs)) x ∷ []) got
-    ∙ ap (λ (n : ℕ). map (as_kept kept own) (enumerate_from 1 (take i vs)) ++ new_value kept own n v ∷ []) long))))))
 
 -- without a pointer all stay
 pub all_plain : (kept : List ℕ) (own : Own) (k : ℕ) (vs : List Value) → own.pointers ≡ [] → own.cut ≡ [] → map (as_kept kept own) (enumerate_from k vs) ≡ vs
@@ -104,38 +53,6 @@ all_plain kept own k (v ∷ vs) ep ec =
     plain (value.Int n) = refl
     plain (value.Real w) = refl
     plain (value.Text t) = refl
-
--- the values of which the first i are as they are kept
-module _ (kept : List ℕ) (own : Own) (vs : List Value) where
-  abbrev pub renewed : ℕ → List Value
-  renewed i = map (as_kept kept own) (enumerate_from 1 (take i vs)) ++ drop i vs
-
-  front_long : (i : ℕ) → i ≤ length vs → length (map (as_kept kept own) (enumerate_from 1 (take i vs))) ≡ i
-  front_long i le = omega (arith, length-map (enumerate_from 1 (take i vs)) (as_kept kept own), length-enumerate_from 1 (take i vs), length-take i vs, le)
-
-  pub renewed_long : (i : ℕ) (list : List Value) → i ≤ length vs → list ≡ renewed i → length list ≡ length vs
-  renewed_long i list le e = omega (arith, ap length e, length-append (map (as_kept kept own) (enumerate_from 1 (take i vs))) (drop i vs), front_long i le, length-drop i vs, le)
-
-  pub renewed_next : (i : ℕ) (p c : Bool) (list new : List Value) → i < length vs → p ≡ is_among own.pointers (i + 1) → c ≡ is_among own.cut (i + 1) → list ≡ renewed i
-      → ((v : Value) → slice_get list i ≡ Some v → new ≡ set list i (value_as kept p c v)) → new ≡ renewed (i + 1)
-  renewed_next i p c list new lt ep ec inv put =
-      let q = some_at vs i lt in
-      let front = map (as_kept kept own) (enumerate_from 1 (take i vs)) in
-      let rest = drop (i + 1) vs in
-      let opened : list ≡ map (as_kept kept own) (enumerate_from 1 (take i vs)) ++ q.0 ∷ drop (i + 1) vs = inv ∙ ap (λ (xs : List Value). map (as_kept kept own) (enumerate_from 1 (take i vs)) ++ xs) (open_at vs i q.0 q.1) in
-      let long = front_long i (omega (arith, lt)) in
-      let there : slice_get list i ≡ Some q.0 = ap (λ (xs : List Value). slice_get xs i) opened ∙ get_seam front q.0 rest i long in
-      put q.0 there
-      ∙ (ap (λ (xs : List Value). set xs i (value_as kept p c q.0)) opened
-      ∙ (set_at front q.0 rest (value_as kept p c q.0) i long
-      ∙ (sym (append_assoc front (value_as kept p c q.0 ∷ []) rest)
-      ∙ ap (λ (xs : List Value). xs ++ drop (i + 1) vs) (next_value kept own vs i q.0 p c front (front ++ value_as kept p c q.0 ∷ []) q.1 ep ec refl refl))))
-
-  pub renewed_all : (i : ℕ) (list : List Value) → length vs ≤ i → list ≡ renewed i → list ≡ map (as_kept kept own) (enumerate_from 1 vs)
-  renewed_all i list le e =
-      e ∙ (ap (λ (xs : List Value). map (as_kept kept own) (enumerate_from 1 (take i vs)) ++ xs) (drop_of_length-le vs le)
-      ∙ (append-nil (map (as_kept kept own) (enumerate_from 1 (take i vs)))
-      ∙ ap (λ (xs : List Value). map (as_kept kept own) (enumerate_from 1 xs)) (take_all i vs le)))
 
 -- ---- how many they are
 

@@ -9,7 +9,8 @@ use Rattle.iges_params.specs.Named.{named}
 use Rattle.entry_references.specs.declared.fault.ExtractReason.TheVariants.{Unlisted, Layout, Dangling}
 use Rattle.entry_references.specs.Refs.{Record, refs, entry_fault}
 use Rattle.entry_references.proofs.RisingLists.{In, in_from, rises_by_test}
-use Rattle.solid_extract.specs.Extracted.{is_solid, new_record, Reaches, here, further, IsExtracted}
+use Rattle.iges_params.specs.Solids.{is_solid}
+use Rattle.solid_extract.specs.Extracted.{new_record, Reaches, here, further, IsExtracted}
 use Rattle.std.proofs.lemmas.List.Elements.{All-from_recursion}
 use Rattle.solid_extract.proofs.One.{Reaches-kept}
 

@@ -8,15 +8,13 @@ use Rattle.iges_fields.specs.declared.value.Value.TheVariants as value
 use Rattle.iges_directory.specs.declared.entry.Entry.{Entry}
 use Rattle.iges_params.specs.Contents.{Contents}
 use Rattle.iges_params.specs.Named.{named}
+use Rattle.iges_params.specs.Solids.{is_solid}
 use Rattle.entry_references.specs.declared.fault.ExtractReason.{ExtractReason}
 use Rattle.entry_references.specs.declared.fault.ExtractReason.TheVariants.{NotSolid}
 use Rattle.entry_references.specs.EntrySets.{is_among}
 use Rattle.entry_references.specs.Layout.{Own}
 use Rattle.entry_references.specs.References.{RefersTo}
 use Rattle.entry_references.specs.Refs.{Record, own_of, names_of, entry_fault}
-
-abbrev pub is_solid : Contents → ℕ → Bool
-is_solid f n = elim (named f (pos n)) [ Some r ↦ int_eq r.0.kind (pos 186) | None ↦ false ]
 
 -- ---- the cuts
 

@@ -4,9 +4,9 @@ use Rattle.iges_base.specs.declared.TheConstants.{FILE_LIMIT}
 use Rattle.iges_base.specs.declared.entry_no.EntryNo.{EntryNo}
 use Rattle.iges_params.specs.Contents.{Contents, value_count}
 use Rattle.iges_params.specs.Named.{named}
+use Rattle.iges_params.specs.Solids.{is_solid}
 use Rattle.entry_references.specs.EntrySets.{AreRising, numbers_of}
 use Rattle.entry_references.specs.Refs.{Record}
-use Rattle.solid_extract.specs.Extracted.{is_solid}
 use Rattle.solid_extract.specs.Flooding.{IsFlooded}
 use Rattle.solid_extract.specs.Making.{records_of}
 

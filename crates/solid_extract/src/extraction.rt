@@ -4,7 +4,7 @@ ghost use Rattle.entry_references.specs.declared.fault.ExtractReason.{ExtractRea
 ghost use Rattle.iges_base.specs.declared.TheConstants.{ENTRY_LIMIT, FILE_LIMIT};
 ghost use Rattle.iges_params.specs.Contents.{Contents, value_count};
 ghost use Rattle.iges_params.specs.Named.{named};
-ghost use Rattle.solid_extract.specs.Extracted.{IsExtracted, IsExtractedAs, IsRefused, is_solid, new_record};
+ghost use Rattle.solid_extract.specs.Extracted.{IsExtracted, IsExtractedAs, IsRefused, new_record};
 ghost use Rattle.solid_extract.specs.Making.{GivesFile, GivesRefusal, IsExtractFault, IsFaultless, records_of};
 ghost use Rattle.solid_extract.specs.Taking.{IsKept, IsWithout};
 ghost use Rattle.std.specs.List.{AllByRecursion};
@@ -125,21 +125,12 @@ fn turned_into_kept(alloc: Global, mut file: File, renaming: &Renaming) -> Resul
     Ok(new)
 }
 
-fn is_solid(file: &File, no: EntryNo) -> bool
-    ensures { result ≡ is_solid file.now no.0 }
-{
-    match file.entry(no) {
-        Some(entry) => entry.kind == 186,
-        None => false,
-    }
-}
-
 // What a solid keeps, with the new numbers.
 fn renaming_of(alloc: Global, file: &File, no: EntryNo) -> Result<Renaming, ExtractFault>
     ensures found { IfOk result (IsKept file.now no.0) }
     ensures fault { IfErr result (IsExtractFault file.now no.0) }
 {
-    if !is_solid(file, no) {
+    if !file.is_solid(no) {
         return Err(ExtractFault::Refused {
             entity: no,
             reason: ExtractReason::NotSolid,

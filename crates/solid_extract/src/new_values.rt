@@ -1,12 +1,13 @@
 //! The values that a kept entry has.
 
+ghost use Rattle.entry_references.specs.Layout.{Own as OwnValues};
 ghost use Rattle.entry_references.specs.Refs.{is_name, number_of};
 ghost use Rattle.iges_fields.specs.declared.value.Value.{Value as OneValue};
 ghost use Rattle.iges_base.specs.declared.TheConstants.{FILE_LIMIT};
 ghost use Rattle.solid_extract.specs.Extracted.{new_value, renamed};
-ghost use Rattle.solid_extract.specs.NewValues.{AreMarkedPlaces, names_behind, new_numbers, value_as, with_mark};
+ghost use Rattle.solid_extract.specs.NewValues.{IsMarking, IsNext, IsRenewed, names_behind, new_numbers, value_as, with_place, with_places};
 ghost use Rattle.std.specs.List.{enumerate_from};
-ghost use Rattle.std.specs.Prelude.{◌≡◌, ◌+◌, ◌∷◌, ◌++◌, ◌<◌, ◌≤◌, ◌^◌, [], IfOk, IsTrue, MatchOption, OnOk, Some, drop, filter, filter_map, if◌then◌else◌, length, map, pos, set, slice_get, take};
+ghost use Rattle.std.specs.Prelude.{◌≡◌, ◌+◌, ◌∷◌, ◌++◌, ◌<◌, ◌≤◌, ◌^◌, [], List, false, IfOk, IsTrue, MatchOption, OnOk, Some, drop, filter, filter_map, if◌then◌else◌, length, map, pos, replicate, set, slice_get, take};
 
 use crate::renaming::Renaming;
 use entry_references::{Group, Own, Shape, mark_at, push_names};
@@ -14,25 +15,24 @@ use iges_fields::{ItemList, NoMemory, Value, Values};
 use iges_params::File;
 use std::alloc::Global;
 
-// Marks a place, from 1, where the values have it.
-fn set_mark(marks: &mut Vec<bool>, place: usize)
-    ensures { marks.new.items ≡ with_mark marks.old.items place }
-{
-    if place > 0 && place <= marks.len() {
-        marks[place - 1] = true;
-    }
-}
-
-// Puts in place of all marks one for each of so many places, from 1: whether it is one of these.
-fn mark_places(marks: &mut Vec<bool>, places: &[usize], count: usize) -> Result<(), NoMemory>
-    ensures { OnOk result (AreMarkedPlaces marks.new.items places.now count) }
+// Puts in place of all marks so many, none of which is set.
+fn clear_marks(marks: &mut Vec<bool>, count: usize) -> Result<(), NoMemory>
+    ensures { OnOk result (marks.new.items ≡ replicate count false) }
 {
     marks.clear();
     marks.resize(count, false)?;
-    'places: for place in places {
-        set_mark(marks, *place);
-    }
     Ok(())
+}
+
+// Sets the mark of a place, from 1, and gives the place counted from 0, where the values have it and it isn't marked yet.
+fn newly_marked(marks: &mut Vec<bool>, place: usize) -> Option<usize>
+    ensures { IsMarking marks.old.items marks.new.items place result }
+{
+    if place == 0 || place > marks.len() || mark_at(marks.as_slice(), place - 1) {
+        return None;
+    }
+    marks[place - 1] = true;
+    Some(place - 1)
 }
 
 // An integer as it is kept: a pointer is renamed, and one that isn't followed is cut.
@@ -72,7 +72,42 @@ fn renew(values: &mut Values, renaming: &Renaming, i: usize, is_pointer: bool, i
     }
 }
 
-// Puts in place of each of the own values what it is as it is kept. `marks` is a scratch buffer.
+// The same of the value in a place, from 1, unless the place is marked.
+fn renew_once(
+    values: &mut Values,
+    renaming: &Renaming,
+    place: usize,
+    is_pointer: bool,
+    marks: &mut Vec<bool>,
+)
+    ensures { (own : OwnValues) (vs : List OneValue) → IsNext is_pointer own
+        → IsRenewed renaming.now own vs values.old marks.old.items
+        → IsRenewed renaming.now (with_place is_pointer own place) vs values.new marks.new.items }
+{
+    if let Some(i) = newly_marked(marks, place) {
+        renew(values, renaming, i, is_pointer, !is_pointer);
+    }
+}
+
+// The same of the values in these places.
+fn renew_places(
+    values: &mut Values,
+    renaming: &Renaming,
+    places: &[usize],
+    is_pointer: bool,
+    marks: &mut Vec<bool>,
+)
+    ensures { (own : OwnValues) (vs : List OneValue) → IsNext is_pointer own
+        → IsRenewed renaming.now own vs values.old marks.old.items
+        → IsRenewed renaming.now (with_places is_pointer own places.now) vs values.new marks.new.items }
+{
+    'places: for place in places {
+        renew_once(values, renaming, *place, is_pointer, marks);
+    }
+}
+
+// Puts in place of each of the own values what it is as it is kept. Only the places of pointers are looked at, each once.
+// `marks` is a scratch buffer.
 fn renew_all(
     values: &mut Values,
     renaming: &Renaming,
@@ -82,15 +117,9 @@ fn renew_all(
     ensures { OnOk result (values.new ≡ map (λ v. new_value renaming.now own.now v.0 v.1)
         (enumerate_from 1 values.old)) }
 {
-    let count = values.len();
-    mark_places(marks, own.pointers.as_slice(), count)?;
-    let pointers = marks.as_slice();
-    let cut = own.cut.as_slice();
-    'values: for i in 0..count {
-        let is_pointer = mark_at(pointers, i);
-        let is_cut = cut.contains(&(i + 1));
-        renew(values, renaming, i, is_pointer, is_cut);
-    }
+    clear_marks(marks, values.len())?;
+    renew_places(values, renaming, own.pointers.as_slice(), true, marks);
+    renew_places(values, renaming, own.cut.as_slice(), false, marks);
     Ok(())
 }
 

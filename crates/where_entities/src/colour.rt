@@ -7,7 +7,7 @@ ghost use Rattle.where_entities.specs.Facts.{colour_fact, colour_word, colour_wo
 use iges_directory::Entry;
 use iges_fields::{NoMemory, Out, Value, Values};
 use iges_params::File;
-use where_text::{entry_no, put_masked, put_signed, put_value, put_word};
+use where_text::{put_masked, put_signed, put_value, put_word};
 
 // The colours that have a number of their own (IGES 5.3, 2.2.4.4.13).
 fn colour_word(n: i64) -> &'static str
@@ -38,7 +38,7 @@ fn colour_word(n: i64) -> &'static str
 fn definition_of(file: &File, number: i64) -> Option<&Values>
     ensures { option_copied result ≡ definition_of file.now number }
 {
-    let no = entry_no(file, number)?;
+    let no = file.entry_no_of(number)?;
     match file.entry(no) {
         Some(entry) if entry.kind == 314 => file.values(no),
         _ => None,

@@ -62,7 +62,7 @@ pub fn described(
     let marks = marks_of(alloc, count, numbers)?;
     let mut list = ItemList::new(alloc);
     'entries: for i in 0..count {
-        push_if(&mut list, file, marks[i], EntryNo(2 * i as u32 + 1))?;
+        push_if(&mut list, file, marks[i], file.entry_no(i))?;
     }
     Ok(list)
 }

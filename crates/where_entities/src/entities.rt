@@ -12,12 +12,12 @@ use iges_directory::Entry;
 use iges_fields::{EntryNo, NoMemory, Out, Values};
 use iges_params::File;
 use std::alloc::Global;
-use where_text::{EntryNumbers, entry_no, put_number, put_signed, put_type, put_type_word};
+use where_text::{EntryNumbers, put_number, put_signed, put_type, put_type_word};
 
 fn names_entry(file: &File, number: i64) -> bool
     ensures { result ≡ names_entry file.now number }
 {
-    match entry_no(file, number) {
+    match file.entry_no_of(number) {
         Some(no) => file.entry(no).is_some(),
         None => false,
     }

@@ -13,7 +13,7 @@ use iges_directory::Entry;
 use iges_fields::{ItemList, NoMemory, Out, Value, Values};
 use iges_params::File;
 use std::alloc::Global;
-use where_text::{entry_no, put_masked};
+use where_text::put_masked;
 
 // Whether the type is one of which a solid is made (IGES 5.3, 4.49 and 4.145 to 4.149).
 fn is_of_solids(kind: i64) -> bool
@@ -85,7 +85,7 @@ fn put_line(out: &mut Out, value: Option<&Value>) -> Result<(), NoMemory>
 fn put_name(out: &mut Out, file: &File, number: i64) -> Result<(), NoMemory>
     ensures { OnOk result (out.new ≡ out.old ++ name_fact file.now number) }
 {
-    let Some(no) = entry_no(file, number) else {
+    let Some(no) = file.entry_no_of(number) else {
         return put_line(out, None);
     };
     match file.values(no) {

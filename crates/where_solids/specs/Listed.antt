@@ -1,20 +1,12 @@
--- The solids of a file.
-use Rattle.std.specs.Prelude.{ℕ, Bool, false, pos, List, length, map, filter, Option, Some, None}
-use Rattle.std.specs.Ordering.{int_eq}
+-- The solids of a file, as numbers of entries.
+use Rattle.std.specs.Prelude.{ℕ, List, map}
 use Rattle.iges_base.specs.declared.entry_no.EntryNo.{EntryNo}
 use Rattle.iges_params.specs.Contents.{Contents}
-use Rattle.iges_params.specs.Named.{named}
-use Rattle.entry_references.specs.Refs.{Record}
-use Rattle.solid_data.specs.Ring.{numbers_from}
-use Rattle.where_entities.specs.Entities.{number_at}
+use Rattle.iges_params.specs.Solids.{solids_of as solid_numbers}
 
-abbrev pub is_solid_record : Option Record → Bool
-is_solid_record None = false
-is_solid_record (Some r) = int_eq r.0.kind (pos 186)
-
-abbrev pub is_solid : Contents → EntryNo → Bool
-is_solid f n = is_solid_record (named f (pos n.0))
+abbrev pub numbered : ℕ → EntryNo
+numbered n = record { 0 = n }
 
 -- the numbers of the entries of type 186, in directory order
 unfoldable pub solids_of : Contents → List EntryNo
-solids_of f = filter (is_solid f) (map number_at (numbers_from 0 (length f.entries)))
+solids_of f = map numbered (solid_numbers f)

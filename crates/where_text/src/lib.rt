@@ -14,5 +14,5 @@ pub use listing::{EntryNumbers, Listing, put_more_facts, put_more_items, shown_m
 pub use masking::put_masked;
 pub use places::{put_face, put_vertex};
 pub use sentences::{put_reason_sentence, put_rule_sentence};
-pub use types::{entry_no, put_type, put_type_word};
+pub use types::{put_type, put_type_word};
 pub use words::{put_signed, put_value, put_word};

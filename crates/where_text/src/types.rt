@@ -6,21 +6,9 @@ ghost use Rattle.where_text.specs.Spelled.{signed, space_word};
 ghost use Rattle.where_text.specs.Types.{type_of, type_word};
 
 use crate::type_names::known_word;
-use iges_fields::{EntryNo, NoMemory, Out};
+use iges_fields::{NoMemory, Out};
 use iges_params::File;
 use itoa::Buffer;
-
-/// The number as an entry's, unless it lies outside the directory (IGES 5.3, 2.2.4.4). An entry of type 0 counts as
-/// within it.
-pub fn entry_no(file: &File, number: i64) -> Option<EntryNo>
-    ensures { MatchOption result (named file.now number ≡ None) (λ no. number ≡ pos no.0) }
-{
-    let lines = 2 * file.entry_count();
-    match u32::try_from(number) {
-        Ok(no) if (no as usize) < lines => Some(EntryNo(no)),
-        _ => None,
-    }
-}
 
 fn put_unknown(out: &mut Out, kind: i64) -> Result<(), NoMemory>
     ensures { OnOk result (out.new ≡ out.old ++ (codes "type-" ++ signed kind)) }
@@ -51,7 +39,7 @@ pub fn put_type_word(out: &mut Out, kind: i64) -> Result<(), NoMemory>
 pub fn put_type(out: &mut Out, file: &File, number: i64) -> Result<(), NoMemory>
     ensures text { OnOk result (out.new ≡ out.old ++ space_word (type_of file.now number)) }
 {
-    let Some(no) = entry_no(file, number) else {
+    let Some(no) = file.entry_no_of(number) else {
         return out.put(b" -");
     };
     match file.entry(no) {

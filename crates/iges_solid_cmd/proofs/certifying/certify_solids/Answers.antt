@@ -1,5 +1,6 @@
 use Rattle.std.proofs.Common.{◌<◌, length, arith}
-use Rattle.cert_maker.specs.Book.{solids_of, IsCertificateOf}
+use Rattle.iges_params.specs.Solids.{solids_of}
+use Rattle.cert_maker.specs.Book.{IsCertificateOf}
 use Rattle.cert_maker.proofs.Zipping.{zip_length}
 use Rattle.command_replies.proofs.Owing.{owed_so}
 use Rattle.command_replies.proofs.Replying.{reply_owed}

@@ -1,6 +1,12 @@
-use Rattle.std.proofs.Common.{refl}
-use Rattle.where_solids.proofs.Gathered.{solids_more}
+use Rattle.std.proofs.Common.{◌≡◌, List}
+use Rattle.std.proofs.lemmas.Result.{IfOk-weaker}
+use Rattle.iges_base.specs.declared.entry_no.EntryNo.{EntryNo}
+use Rattle.iges_params.specs.Solids.{numbers_of, solids_of as solid_numbers}
+use Rattle.where_solids.specs.Listed.{solids_of}
+use Rattle.where_solids.proofs.Gathered.{solids_are}
 use Rattle.where_solids.proofs.listed.solids.Goals as goal
 
-pub entries-preserved : goal.entries-preserved
-entries-preserved c = solids_more c.args.file.now c.entry_count-count.result c.entries.i _ c.is_solid.result c.entries.list c.push_if.new.list _ c.entries-test.true refl c.is_solid.ensures c.in_ok-push_if.ensures c.entries.invariant
+pub returns : goal.returns
+returns c =
+    IfOk-weaker c.solids.result (λ (list : List EntryNo). numbers_of list ≡ solid_numbers c.args.file.now) (λ (list : List EntryNo). list ≡ solids_of c.args.file.now)
+    (λ (list : List EntryNo) is. solids_are c.args.file.now list is) c.solids.ensures

@@ -3,7 +3,7 @@ use Rattle.std.specs.Fmt.{decimal}
 use Rattle.std.proofs.lemmas.Fmt.{length-decimal-le}
 use Rattle.iges_write.specs.Sheet.{Sheet, Steps, put_part}
 use Rattle.iges_write.proofs.Sheets.{word_is_part, word_written}
-use Rattle.iges_write.proofs.page.Page.put_number.Goals as goal
+use Rattle.iges_write.proofs.page.Page.put_digits.Goals as goal
 
 pub write_digits-start-requires : goal.write_digits-start-requires
 write_digits-start-requires c = search (rules, length-decimal-le 20)
