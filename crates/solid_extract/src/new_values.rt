@@ -84,8 +84,9 @@ fn renew_once(
         → IsRenewed renaming.now own vs values.old marks.old.items
         → IsRenewed renaming.now (with_place is_pointer own place) vs values.new marks.new.items }
 {
-    if let Some(i) = newly_marked(marks, place) {
-        renew(values, renaming, i, is_pointer, !is_pointer);
+    match newly_marked(marks, place) {
+        Some(i) => renew(values, renaming, i, is_pointer, !is_pointer),
+        None => (),
     }
 }
 

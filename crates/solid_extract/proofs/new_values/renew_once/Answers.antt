@@ -5,5 +5,5 @@ pub returns-in-Some : goal.returns-in-Some
 returns-in-Some c own vs next h =
     place_renewed c.args.renaming.now c.args.is_pointer own vs c.args.values.now c.args.marks.now.items c.args.place next h c.in-Some.i c.newly_marked.new.marks.items c.renew.new.values (c.in-Some.ensures {u = tt}) c.renew.ensures
 
-pub returns-in_default : goal.returns-in_default
-returns-in_default c own vs next h = nothing_renewed c.args.renaming.now c.args.is_pointer own vs c.args.values.now c.args.marks.now.items c.args.place next h c.newly_marked.new.marks.items ?
+pub returns-in-None : goal.returns-in-None
+returns-in-None c own vs next h = nothing_renewed c.args.renaming.now c.args.is_pointer own vs c.args.values.now c.args.marks.now.items c.args.place next h c.newly_marked.new.marks.items (c.in-None.ensures {u = tt})
