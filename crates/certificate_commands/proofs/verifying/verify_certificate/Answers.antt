@@ -1,4 +1,5 @@
-use Rattle.std.proofs.Common.{◌++◌, arith, rules}
+use Rattle.std.proofs.Common.{◌≡◌, ◌++◌, length, arith}
+use Rattle.iges_io.specs.declared.reading.TheConstants.{PIECE}
 use Rattle.topo_certificate.specs.declared.TheConstants.{CERT_LIMIT}
 use Rattle.certificate_commands.proofs.Judged.{OfYes, too_large_owed, early_owed, bad_opening_decides, opened_place}
 use Rattle.std.proofs.lemmas.Result.{IfOk-from_err}
@@ -80,7 +81,7 @@ returns-in_ok-illegal-in-Ended-clause-taken g c = (c.in_ok-opening_in.ensures {u
 pub decided_reply-requires : goal.decided_reply-requires
 decided_reply-requires g c = 
     let opened = rw c.in-Bad.is at (c.in_ok-opening_in.ensures {u = tt}).found in
-    record { ready = (rw c.in-Bad.is at (c.in_ok-opening_in.ensures {u = tt}).more) tt; room = search rules; few = opened.few }
+    record { ready = (rw c.in-Bad.is at (c.in_ok-opening_in.ensures {u = tt}).more) tt; room = (let h : length c.opening_in.new.piece ≡ PIECE = omega arith in h); few = opened.few }
 
 pub returns-in_ok-reply-in-Bad-clause-whole : goal.returns-in_ok-reply-in-Bad-clause-whole
 returns-in_ok-reply-in-Bad-clause-whole g c = c.decided_reply.ensures.whole
@@ -93,7 +94,7 @@ returns-in_ok-reply-in-Bad-clause-count g c =
 pub verify_opened-requires : goal.verify_opened-requires
 verify_opened-requires g c = 
     let opened = rw c.in-Both.is at (c.in_ok-opening_in.ensures {u = tt}).found in
-    record { ready = (rw c.in-Both.is at (c.in_ok-opening_in.ensures {u = tt}).more) tt; room = search rules; place = opened_place _ _ _ c.in-Both.opened opened }
+    record { ready = (rw c.in-Both.is at (c.in_ok-opening_in.ensures {u = tt}).more) tt; room = (let h : length c.opening_in.new.piece ≡ PIECE = omega arith in h); place = opened_place _ _ _ c.in-Both.opened opened }
 
 pub returns-in-Both-clause-whole : goal.returns-in-Both-clause-whole
 returns-in-Both-clause-whole g c = c.verify_opened.ensures.whole
