@@ -41,12 +41,12 @@ pub returns-in_err-end_reply-clause-whole : goal.returns-in_err-end_reply-clause
 returns-in_err-end_reply-clause-whole g c = IfOk-from_err c.from_residual-in_err-end_reply.result _ c.from_residual-in_err-end_reply.ensures.0
 
 pub returns-in_err-end_reply-clause-reads : goal.returns-in_err-end_reply-clause-reads
-returns-in_err-end_reply-clause-reads g c = 
+returns-in_err-end_reply-clause-reads g c =
     let rest = rw c.if-not-branch.false at (c.in_ok-feed_rest.ensures {u = tt}).found in
     ran_out _ _ _ _ _ _ c.from_residual-in_err-end_reply.ensures.1 (c.in_ok-feed_rest.ensures {u = tt}).reads.count (fed_takes _ _ _ _ _ rest)
 
 pub returns-clause-whole : goal.returns-clause-whole
-returns-clause-whole g c = 
+returns-clause-whole g c =
     let rest = rw c.if-not-branch.false at (c.in_ok-feed_rest.ensures {u = tt}).found in
     ended_whole _ _ rest.ended
 

@@ -79,7 +79,7 @@ pub returns-in_ok-illegal-in-Ended-clause-taken : goal.returns-in_ok-illegal-in-
 returns-in_ok-illegal-in-Ended-clause-taken g c = (c.in_ok-opening_in.ensures {u = tt}).reads.taken
 
 pub decided_reply-requires : goal.decided_reply-requires
-decided_reply-requires g c = 
+decided_reply-requires g c =
     let opened = rw c.in-Bad.is at (c.in_ok-opening_in.ensures {u = tt}).found in
     record { ready = (rw c.in-Bad.is at (c.in_ok-opening_in.ensures {u = tt}).more) tt; room = (let h : length c.opening_in.new.piece ≡ PIECE = omega arith in h); few = opened.few }
 
@@ -87,12 +87,12 @@ pub returns-in_ok-reply-in-Bad-clause-whole : goal.returns-in_ok-reply-in-Bad-cl
 returns-in_ok-reply-in-Bad-clause-whole g c = c.decided_reply.ensures.whole
 
 pub returns-in_ok-reply-in-Bad-clause-count : goal.returns-in_ok-reply-in-Bad-clause-count
-returns-in_ok-reply-in-Bad-clause-count g c = 
+returns-in_ok-reply-in-Bad-clause-count g c =
     let opened = rw c.in-Bad.is at (c.in_ok-opening_in.ensures {u = tt}).found in
     (reads_behind _ _ _ opened.bytes c.in-Bad.came CERT_LIMIT _ _ _ c.decided_reply.result opened.taken opened.long opened.few (c.in_ok-opening_in.ensures {u = tt}).reads.count c.decided_reply.ensures.reads).count
 
 pub verify_opened-requires : goal.verify_opened-requires
-verify_opened-requires g c = 
+verify_opened-requires g c =
     let opened = rw c.in-Both.is at (c.in_ok-opening_in.ensures {u = tt}).found in
     record { ready = (rw c.in-Both.is at (c.in_ok-opening_in.ensures {u = tt}).more) tt; room = (let h : length c.opening_in.new.piece ≡ PIECE = omega arith in h); place = opened_place _ _ _ c.in-Both.opened opened }
 
@@ -100,6 +100,6 @@ pub returns-in-Both-clause-whole : goal.returns-in-Both-clause-whole
 returns-in-Both-clause-whole g c = c.verify_opened.ensures.whole
 
 pub returns-in-Both-clause-count : goal.returns-in-Both-clause-count
-returns-in-Both-clause-count g c = 
+returns-in-Both-clause-count g c =
     let opened = rw c.in-Both.is at (c.in_ok-opening_in.ensures {u = tt}).found in
     (reads_behind _ _ _ (opened.front ++ opened.rest) c.in-Both.opened.came CERT_LIMIT _ _ _ c.verify_opened.result opened.taken opened.long opened.few (c.in_ok-opening_in.ensures {u = tt}).reads.count c.verify_opened.ensures.reads).count

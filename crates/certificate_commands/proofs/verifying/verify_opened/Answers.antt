@@ -21,7 +21,7 @@ pub returns-then-is_of_one-clause-reads : goal.returns-then-is_of_one-clause-rea
 returns-then-is_of_one-clause-reads g c = c.verify_alone.ensures.reads
 
 pub book_reply-requires : goal.book_reply-requires
-book_reply-requires g c = 
+book_reply-requires g c =
     let place = c.requires.place in
     record { ready = c.requires.ready; room = c.requires.room; place = record { few = place.few; ordered = place.ordered; within = place.within; holds = place.holds; lines = omega arith } }
 
