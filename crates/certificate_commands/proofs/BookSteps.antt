@@ -26,9 +26,8 @@ use Rattle.command_replies.specs.declared.reply.Reply.{Reply}
 use Rattle.command_replies.specs.Texts.{accepted_line, accepted_lines, illegal_line, solid_fail_text}
 use Rattle.command_replies.specs.Due.{Exactly, Owed, OfText}
 use Rattle.certificate_commands.specs.Due.{OfCertificate, OfUpgrade, OfVerify, upgraded_for}
-use Rattle.certificate_commands.specs.Judging.{HasTooMany, IsChecked, IsDecided, TellsFalse}
-use Rattle.command_replies.specs.Outcome.{ReadsCertificate}
-use Rattle.command_replies.specs.Replies.{IsReply, TakesWithin}
+use Rattle.certificate_commands.specs.Judging.{HasTooMany, IsChecked, IsDecided, ReadsOn, TellsFalse}
+use Rattle.command_replies.specs.Replies.{CountAfterCall, IsReply, TakesWithin}
 use Rattle.certificate_commands.specs.Books.{BeginsPart, GoesOn, HasBegun, IsNextBegun, IsPartLast, IsPlace, held}
 use Rattle.certificate_commands.proofs.BookReads.{between_long}
 use Rattle.certificate_commands.proofs.Judged.{OfYes, accepted_more, too_large_owed}
@@ -213,13 +212,6 @@ pub last_takes : (before after : Option (List ℕ)) (came : ℕ) (there : List �
     → TakesAtMost (CERT_LIMIT - came) before after
 last_takes before after came there old new m = let few = m.few in (m.bytes, m.taken, (let n : length m.bytes ≤ CERT_LIMIT - came = omega (arith, few) in n))
 
--- a reply that judges was given at the end
-pub no_at_end : (after : Option (List ℕ)) (reply : Reply) → IsAtEnd after → reply.answer ≡ No → ReadsCertificate after reply.answer
-no_at_end after reply e no_ = subst (ReadsCertificate after) (sym no_) e
-
-pub large_any : (after : Option (List ℕ)) (reply : Reply) → reply.answer ≡ TooLarge → ReadsCertificate after reply.answer
-large_any after reply large = subst (ReadsCertificate after) (sym large) tt
-
 -- ---- the parts one after another
 
 -- the next part has begun and the last one has its line
@@ -272,18 +264,16 @@ taken_few {T} entry left after came now (Ok x) t few h = taken_within {T = T} en
     (h.0, h.1, (let k = h.2 in let n : length h.0 ≤ (CERT_LIMIT - now) + PIECE = omega (arith, k) in n))
 taken_few {T} entry left after came now (Err stop) t few h = taken_within {T = T} entry left after came now (Err stop) t few h
 
-pub taken_next : {T : Type 0} (entry left after : Option (List ℕ)) (came : ℕ) (buffer : List ℕ) (b next : Begun) (result : Result T Stop)
-    → TakenSince entry left came b.came → GoesOn left after buffer b next → TakesWithin (CERT_LIMIT - came) entry after result
-taken_next {T} entry left after came buffer b next result t m =
-    let s = taken_more entry left after came buffer b next t m in
-    taken_few {T = T} entry after after came next.came result s m.place.few ([], consumes_none after, omega arith)
-
-pub takes_on : (entry left after : Option (List ℕ)) (came now : ℕ) → TakenSince entry left came now → now ≤ CERT_LIMIT
-    → TakesAtMost ((CERT_LIMIT - now) + PIECE) left after → TakesAtMost ((CERT_LIMIT - came) + PIECE) entry after
-takes_on entry left after came now t few h =
+pub since_takes : (entry left : Option (List ℕ)) (came now : ℕ) → TakenSince entry left came now → now ≤ CERT_LIMIT → TakesAtMost (CERT_LIMIT - came) entry left
+since_takes entry left came now t few =
     let long = t.2 in
-    let k = h.2 in (
-      t.0 ++ h.0,
-      consumes_more entry left after t.0 h.0 t.1 h.1,
-      (let n : length (t.0 ++ h.0) ≤ (CERT_LIMIT - came) + PIECE = omega (arith, long, few, k, length-append t.0 h.0) in n),
-    )
+    (t.0, t.1, (let n : length t.0 ≤ CERT_LIMIT - came = omega (arith, long, few) in n))
+
+-- what the last call did the reading since then did
+pub reads_since : {T : Type 0} (entry left after : Option (List ℕ)) (came now old mid new : ℕ) (result : Result T Stop) → TakenSince entry left came now
+    → now ≤ CERT_LIMIT → mid ≡ old → ReadsOn {T = T} (CERT_LIMIT - now) left after mid new result
+    → ReadsOn {T = T} (CERT_LIMIT - came) entry after old new result
+reads_since entry left after came now old mid new result t few same h = record {
+  count = subst (λ (n : ℕ). CountAfterCall n new result) same h.count;
+  taken = taken_within entry left after came now result t few h.taken;
+}

@@ -4,6 +4,7 @@ mod BookSteps
 mod CutText
 mod FirstLines
 pub mod Judged
+mod Readings
 mod VerifyAnswers
 pub mod One
 pub mod SomeDue
