@@ -73,6 +73,18 @@ function pathOf(surface, sides, size) {
   return other.round.some(Boolean) ? found : other;
 }
 
+/** Whether a path encloses nothing, as one that leads out and back does. */
+function isSlit({ path, round }) {
+  if (round.some(Boolean)) return false;
+  let sum = 0, length = 0;
+  path.forEach(([a, b], k) => {
+    const [c, d] = path[(k + 1) % path.length];
+    sum += (a * d - b * c) / 2;
+    length += Math.abs(a - c) + Math.abs(b - d);
+  });
+  return Math.abs(sum) < 1e-9 * length * length;
+}
+
 /** The least and the greatest value of a parameter along a path. */
 function spanOfPath(path, axis) {
   let low = Infinity, high = -Infinity;
@@ -184,7 +196,7 @@ function together(paths, periods) {
  * @returns {Path[]}
  */
 export function regionOf(surface, loops, size) {
-  const found = loops.map(sides => pathOf(surface, sides, size)).filter(Boolean);
+  const found = loops.map(sides => pathOf(surface, sides, size)).filter(it => it && !isSlit(it));
   const closed = found.filter(it => !it.round.some(Boolean)).map(it => it.path);
   const paths = [...closed];
   for (const axis of [0, 1]) {
