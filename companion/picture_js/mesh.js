@@ -10,6 +10,14 @@ const MOST_CUTS = 96, SAMPLES = 6;
 
 /** @typedef {{points: number[][], normals: number[][], triangles: number[]}} Mesh */
 
+const cuts = new WeakMap();
+
+/** The trapezoids of a region, found once. */
+function cutOf(region) {
+  if (!cuts.has(region)) cuts.set(region, trapezoidsOf(region));
+  return cuts.get(region);
+}
+
 /** How long the steps of both parameters may be, for chords within a tolerance of the surface. */
 function stepsOf(surface, box, tolerance) {
   if (surface.isFlat) return [Infinity, Infinity];
@@ -59,7 +67,7 @@ function addGrid(mesh, surface, trapezoid, steps) {
 export function meshOf(surface, region, tolerance, mostPoints = Infinity) {
   const mesh = { points: [], parameters: [], triangles: [] };
   const steps = stepsOf(surface, boxOf(region), tolerance);
-  for (const trapezoid of trapezoidsOf(region)) {
+  for (const trapezoid of cutOf(region)) {
     if (mesh.points.length > mostPoints) return { ...mesh, isCut: true };
     addGrid(mesh, surface, trapezoid, steps);
   }
@@ -87,7 +95,7 @@ export function areaOf({ points, triangles }) {
 /** A point inside of a face: the middle of its greatest trapezoid, by its extent in space. */
 export function insideOf(surface, region) {
   let best = null, greatest = -1;
-  for (const { low, high, left, right } of trapezoidsOf(region)) {
+  for (const { low, high, left, right } of cutOf(region)) {
     const v = (low + high) / 2, from = left.at(v), to = right.at(v), u = (from + to) / 2;
     const wide = distance(surface.at(from, v), surface.at(u, v)) + distance(surface.at(u, v), surface.at(to, v));
     const tall = distance(surface.at(u, low), surface.at(u, v)) + distance(surface.at(u, v), surface.at(u, high));

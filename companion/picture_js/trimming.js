@@ -159,7 +159,8 @@ function betweenRounds(surface, rounds, closed, axis) {
     if (!next) {
       const path = alongPole(surface, one.path, axis, one.round[axis], period);
       if (!path) throw new Unreadable("a face without an outer loop");
-      found.push([...one.path, ...[...path].reverse()]);
+      const end = one.path[0].map((it, k) => (k === axis ? it + one.round[axis] * period : it));
+      found.push([...one.path, end, ...path.reverse()]);
       continue;
     }
     if (Math.abs(middle(next) - middle(one)) < 1e-9 * (surface.periods[other] || 0)) {
