@@ -16,9 +16,11 @@ from spawned import SECONDS
 
 NAMES = "chromium", "chromium-browser", "google-chrome"
 WORDS = (
-    "--headless=new", "--no-sandbox", "--disable-gpu", "--hide-scrollbars", "--no-first-run", "--disable-background-networking", "--disable-component-update",
+    "--headless=new", "--no-sandbox", "--disable-gpu", "--enable-unsafe-swiftshader", "--hide-scrollbars", "--no-first-run", "--disable-background-networking", "--disable-component-update",
     "--disable-dev-shm-usage", "--force-prefers-reduced-motion", "--remote-debugging-pipe", "about:blank",
 )  # fmt: skip
+# What the driver of WebGL says of its own reading of pixels.
+DRIVER = "GL Driver Message"
 
 
 def found():
@@ -71,7 +73,7 @@ class Browser:
             self.faults.append(told["exceptionDetails"].get("exception", {}).get("description", told["exceptionDetails"]["text"]))
         elif method == "Runtime.consoleAPICalled" and told["type"] in ("error", "warning", "assert"):
             self.faults.append(str(told["args"]))
-        elif method == "Log.entryAdded" and told["entry"]["level"] in ("error", "warning"):
+        elif method == "Log.entryAdded" and told["entry"]["level"] in ("error", "warning") and DRIVER not in told["entry"]["text"]:
             self.faults.append(told["entry"]["text"])
         elif method == "Network.requestWillBeSent":
             self.requests.append(told["request"]["url"])

@@ -4,7 +4,7 @@ import { colourOf, colours } from "./colours.js";
 import { FONT } from "./labels.js";
 import { cross, minus, plus, scaled, unit } from "./vectors.js";
 
-const MOST_STROKE_CALLS = 30000, MOST_TRIANGLES = 8000, MOST_MESH_POINTS = 200000, HATCH_STEP = 16;
+const MOST_STROKE_CALLS = 30000, MOST_TRIANGLES = 8000, MOST_MESH_POINTS = 200000, HATCH_STEP = 16, MOST_DOTS = 2000;
 
 export class Overlay {
   constructor(pen, view) {
@@ -39,9 +39,11 @@ export class Overlay {
     this.view.isPart = this.view.isPart || writer.isCut;
   }
 
-  /** Red edges; the chords of curves that aren't drawn are dashed. */
+  /** Red edges; the chords of curves that aren't drawn are dashed, and points stand for those of no length. */
   strokeRed(strength) {
-    const { picture } = this.view, red = [...picture.redEdges], { pen } = this;
+    const { picture, edgeLines, camera } = this.view, red = [...picture.redEdges], { pen } = this;
+    const isPoint = edge => edgeLines.balls[4 * edge + 3] * camera.scale < 1;
+    red.filter(isPoint).slice(0, MOST_DOTS).forEach(it => this.dot(picture.solid.edges[it].start, 5, colours().red));
     pen.globalAlpha = strength;
     this.stroke(red.filter(it => !picture.chords.has(it)), colours().red, 3);
     this.stroke(red.filter(it => picture.chords.has(it)), colours().red, 3, [7, 5]);

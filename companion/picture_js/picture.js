@@ -13,7 +13,7 @@ import { minus, plus } from "./vectors.js";
 /** No point of a drawn curve or surface is farther from it than this part of the solid's size. */
 export const DEVIATION = 0.001;
 /** The most points of all edges; beyond it edges are drawn as their chords. */
-const MOST_EDGE_POINTS = 500000, MOST_SAMPLED = 1000;
+const MOST_EDGE_POINTS = 500000, MOST_SAMPLED = 1000, MOST_BOXED = 3000;
 
 /** A box that grows round points. */
 export class Box {
@@ -216,6 +216,9 @@ export class Picture {
           points.forEach(it => it && face.box.add(it));
         }
       }
+      // A curved face may bulge far beyond its edges.
+      const mesh = this.isCurved(face) ? this.mesh(face, MOST_BOXED) : null;
+      if (mesh) mesh.points.forEach(it => face.box.add(it));
     }
     return face.box;
   }

@@ -14,7 +14,7 @@ const MOST_LABELS = 60, MOST_HEADS = 16, MOST_DOTS = 5000, MOST_FITTED = 50000;
 /** Vertices in buffers: those of isolines, of triangles of curved faces, and of silhouettes. */
 const MOST_ISOLINE_POINTS = 300000, MOST_MESH_POINTS = 600000, MOST_SILHOUETTE_POINTS = 200000;
 /** So many curved faces are worked out at once; of more the others follow, a few in each slice. */
-const AT_ONCE = 400, SLICE = 25, FEW_CURVED = 3000, MOST_REFINED = 2000;
+const AT_ONCE = 400, SLICE = 25, BETWEEN = 2000, FEW_CURVED = 3000, MOST_REFINED = 2000;
 const GROUP_WORDS = { LINK: "fan", REACH: "part", APART: "shell" };
 
 const shortHead = ({ head, rule }) => head.split(" ").slice(0, rule === "REACH" ? 2 : 3).join(" ");
@@ -25,7 +25,7 @@ export class View {
     const { picture } = scene;
     Object.assign(this, { scene, picture, faults, hooks, chosen: null, flight: null, isPart: false });
     Object.assign(this, { unfilled: [], labels: [], fine: new Map(), curved: [], isolines: [], later: 0 });
-    Object.assign(this, { isWhole: false, onlyFaults: false, withLabels: true, frames: 0 });
+    Object.assign(this, { isWhole: false, shownAt: 0, onlyFaults: false, withLabels: true, frames: 0 });
     this.over = canvases.over;
     this.pen = this.over.getContext("2d");
     this.camera = new Camera(picture.size);
@@ -79,9 +79,12 @@ export class View {
     for (let k = 0; k < mostFaces && performance.now() < end && !this.isWhole; k++) {
       if (this.work.next().done) this.isWhole = true;
     }
-    this.painter.setLines("isolines", new Lines(this.isolines));
+    const isDue = this.isWhole || performance.now() > this.shownAt + BETWEEN;
+    if (isDue) this.painter.setLines("isolines", new Lines(this.isolines));
     if (this.isWhole) this.hooks.told(this.facesNote());
-    else setTimeout(() => { this.workOn(SLICE, Infinity); this.draw(); }, 0);
+    else setTimeout(() => this.workOn(SLICE, Infinity), 0);
+    if (isDue && this.frames) this.draw();
+    if (isDue) this.shownAt = performance.now();
   }
 
   /** What isn't drawn of faces. */
