@@ -1,6 +1,6 @@
 """A page in headless Chromium, by the DevTools protocol over two pipes: what its console says, what its script answers, and a picture of it.
 
-  tests/chromium.py PAGE.html PICTURE.png [SCRIPT]   writes a picture of the page, after the script was run"""
+  tests/chromium.py PAGE.html[#AT] PICTURE.png [SCRIPT]   writes a picture of the page, after the script was run"""
 import base64
 import json
 import os
@@ -141,7 +141,8 @@ class Browser:
 
 if __name__ == "__main__":
     browser = Browser()
-    browser.open(sys.argv[1])
+    path, _, at = sys.argv[1].partition("#")
+    browser.open(path, at and f"#{at}")
     if len(sys.argv) > 3:
         browser.run(sys.argv[3])
         browser.run("new Promise(done => setTimeout(done, 600))")

@@ -105,6 +105,26 @@ const PATCH = { kind: 128, values: [1, 1, 1, 1, 0, 0, 1, 0, 0, ...IDENTITY, ...I
 /** The parametric spline surface x = s, y = t over the square of side 2. */
 const BICUBIC = { kind: 114, values: [3, 1, 1, 1, 0, 2, 0, 2, ...[[0, 1], [0, 0, 0, 0, 1], []].flatMap(it => [...it, ...zeros(16 - it.length)]), ...zeros(144)] };
 const upright = { kind: 100, values: [0, 0, 0, 2, 0, 2, 0], start: 0, end: 0 };
+/** A flank of a thread: two turns of a helix of pitch 1, between the radii 1 and 2. */
+function flank() {
+  const helix = radius => Array.from({ length: 241 }, (_, k) => {
+    const angle = (TAU * k) / 120;
+    return [radius * Math.cos(angle), radius * Math.sin(angle), angle / TAU].map(it => it.toFixed(9));
+  });
+  const [inner, outer] = [helix(1), helix(2)], vertices = [inner[0], inner[240], outer[240], outer[0]];
+  const curve = (points, start, end) => ({ kind: 106, form: 12, values: [2, 241, ...points.flat()], start, end });
+  const edges = [curve(inner, 0, 1), line(1, 2, vertices), curve(outer, 3, 2), line(3, 0, vertices)];
+  const more = edges.filter(it => it.form === 12).map(it => [106, 12, it.values]);
+  const surface = { kind: 118, form: 1, values: [{ more: 0 }, { more: 1 }, 0, 0] };
+  return { vertices, edges, loops: [[[0, 1], [1, 1], [2, 0], [3, 1]]], surface, more };
+}
+
+/** The area of the helicoid of that flank. */
+function flankArea() {
+  const c = 1 / TAU, primitive = r => (r * Math.sqrt(r * r + c * c) + c * c * Math.asinh(r / c)) / 2;
+  return 2 * TAU * (primitive(2) - primitive(1));
+}
+
 /** The name of a face, the face, and its area. */
 const FACES = [
   ["a plate", { vertices: square, edges: rim(square), loops: [[[0, 1], [1, 1], [2, 1], [3, 1]]], surface: { kind: 108, values: [0, 0, 1, 0, 0, 0, 0, 0, 0] } }, 4],
@@ -125,6 +145,7 @@ const FACES = [
   ["a surface of revolution", { vertices: CYLINDER.vertices, edges: [circle(2, 0), { ...circle(2, 3), start: 1, end: 1 }], loops: [[[0, 1]], [[1, 0]]], surface: { kind: 120, values: [more(0), more(1), 0, TAU] }, more: [[110, 0, [0, 0, 0, 0, 0, 1]], [110, 0, [2, 0, 0, 2, 0, 3]]] }, 6 * TAU],
   ["a B-spline surface", { vertices: square, edges: rim(square), loops: [[[0, 1], [1, 1], [2, 1], [3, 1]]], surface: PATCH }, 4],
   ["a parametric spline surface", { vertices: square, edges: rim(square), loops: [[[0, 1], [1, 1], [2, 1], [3, 1]]], surface: BICUBIC }, 4],
+  ["a flank of a thread", flank(), flankArea()],
   ["an offset surface", { vertices: [[2, 0, 0], [2, 0, 3]], edges: [circle(2, 0), { ...circle(2, 3), start: 1, end: 1 }], loops: [[[0, 1]], [[1, 0]]], surface: { kind: 140, values: [-1, 0, 0, 1, more(3)] }, more: [...AXES, [192, 1, [more(0), more(1), 1, more(2)]]] }, 6 * TAU],
 ];
 
@@ -162,7 +183,27 @@ function uprightCircle() {
   return [8, 2, 1, 1, 0, 0, ...knots, ...weights, ...corners.flatMap(([x, z]) => [5 + x, 0, z]), 0, 4, 0, 1, 0];
 }
 
-// ---- Drawn vertices, faults, and counts. ----
+// ---- Drawn vertices, faults, hints, and geometry changed at random. ----
+
+/** The hints of each recorded text, those that it tells too. */
+const HINTS = {
+  "76_pinched_vertex": ["pinch shell 1 vertices 1"],
+  "77_pinched_edge": ["touching shell 1 edges 1"],
+  "fail_apart": ["touching-shells shell 2 vertices 1"],
+  "fail_join": ["turned-tuple shell 1 loop 11 tuple 1", "turned-tuple shell 1 loop 11 tuple 2"],
+  "fail_link": ["pinch shell 1 vertices 1"],
+  "fail_pair": ["open shell 1 edges 1 rims 1"],
+  "fail_pair_flag": ["face-flags faces 1"],
+  "fail_pair_unsewn": ["unsewn shell 1 edges 2 alike 0 parts 2"],
+  "fail_reach": ["bodies shell 1 parts 2"],
+  "no_solid": ["no-solid"],
+  "one_sided": ["one-sided shell 1 edges 1"],
+  "turned": ["face-flags faces 1"],
+  "two_solids": ["solids 1 11"],
+  "two_tetrahedra": ["bodies shell 1 parts 2"],
+};
+/** The text that is marked in the lines of a bad file or record. */
+const MARKED = { fail_index: "2", fail_entry: "17", fail_record: ";" };
 
 export function* vertices({ file, texts }) {
   for (const { name, number, text } of texts) {
@@ -190,6 +231,57 @@ export function* faults({ file, texts }) {
     } catch (fault) {
       isRefused = fault instanceof NotUnderstood;
     }
+    yield [`picture: the hints of ${name}`, scene.hints.map(it => it.head).join() === (HINTS[name] || []).join()];
+    if (name in MARKED) yield [`picture: what is marked of ${name}`, markedIn(scene.excerpt) === MARKED[name]];
     yield [`picture: ${name} with a word more isn't understood`, isRefused || !/^(rule|closed|bad)/m.test(text)];
   }
+}
+
+function markedIn({ first, lines, marks }) {
+  return marks.map(([line, column, length]) => lines[line - first].slice(column - 1, column - 1 + length)).join("");
+}
+
+/** Numbers that look like chance, from a seed. */
+function* chances(seed) {
+  for (let state = seed; ; ) {
+    state = (state * 1103515245 + 12345) % 2147483648;
+    yield state / 2147483648;
+  }
+}
+
+/** A file with some bytes changed, in records of curves, surfaces, points and matrices alone. */
+function changed(bytes, chance) {
+  const file = new IgesFile(bytes), copy = bytes.slice(), places = [];
+  for (let number = 1; number < file.recordsAt - file.directoryAt; number += 2) {
+    const { kind, first, lines } = file.entry(number);
+    if (kind >= 186 && kind < 600 && ![190, 192, 194, 196, 198, 502].includes(kind)) continue;
+    for (let line = 0; line < lines; line++) places.push(file.starts[file.recordsAt + first - 1 + line]);
+  }
+  const pick = list => list[Math.floor(chance.next().value * list.length)];
+  for (let k = 0; k < 5; k++) copy[pick(places) + 4 + Math.floor(chance.next().value * 60)] = pick([..."9,;E-.H "]).charCodeAt(0);
+  return copy;
+}
+
+/** Whatever geometry holds, there is a picture with the same faults, and only numbers in it. */
+export function* randomGeometry({ file, texts }) {
+  const chance = chances(126);
+  let held = 0, count = 0;
+  for (const { name, number, text } of texts.filter(it => /^shells/m.test(it.text))) {
+    const whole = sceneOf("", number, text, file(name)).rules.flatMap(it => it.faults.map(fault => fault.head)).join();
+    for (let k = 0; k < 25; k++, count++) {
+      const scene = sceneOf("", number, text, changed(file(name), chance)), { picture } = scene;
+      if (!picture) {
+        held += scene.notes.length > 0;
+        continue;
+      }
+      for (const face of picture.faces.values()) {
+        picture.insideOf(face);
+        picture.mesh(face, 2000, true);
+        picture.isolines(face, 1);
+      }
+      const isNumeric = [...picture.points.filter(Boolean), ...picture.edges.flat()].every(it => it.every(Number.isFinite));
+      held += isNumeric && scene.rules.flatMap(it => it.faults.map(fault => fault.head)).join() === whole;
+    }
+  }
+  yield [`picture: geometry changed at random: ${held} of ${count}`, held === count && count > 0];
 }

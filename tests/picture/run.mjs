@@ -1,10 +1,10 @@
 /**
  * Tests of the picture's geometry, under node: points of curves, areas of faces, drawn vertices
- * beside the coordinates of `where`, what is counted of a solid of 20,000 faces, and all recorded
- * texts. Prints a line for each check: its name, a tab, and whether it holds.
+ * beside the coordinates of `where`, the faults and hints of all recorded texts, and geometry that is
+ * changed at random. Prints a line for each check: its name, a tab, and whether it holds.
  */
 import { readdirSync, readFileSync } from "node:fs";
-import { areas, curves, faults, vertices } from "./checks.mjs";
+import { areas, curves, faults, randomGeometry, vertices } from "./checks.mjs";
 
 const top = new URL("../../", import.meta.url);
 
@@ -25,6 +25,6 @@ const context = {
     return { name, number: Number(number), text: readFileSync(new URL(it, recorded), "utf8") };
   }),
 };
-for (const checks of [curves, areas, vertices, faults]) {
+for (const checks of [curves, areas, vertices, faults, randomGeometry]) {
   for (const [name, holds] of checks(context)) console.log(`${name}\t${holds ? "yes" : "no"}`);
 }
