@@ -2,7 +2,6 @@
 where they are due, and clicks, keys and fingers that lead to faults and move the view. The lines are drawn by WebGL, or on a canvas."""
 import math
 import re
-import time
 
 import chromium
 from page_file import page_of
@@ -91,7 +90,7 @@ def of_recorded(browser, folder):
         yield f"browser: {name}: a red pixel at each fault", count == 0 or browser.run(FAULTS_SEEN)
         for place in range(count):
             browser.click(*browser.run(BUTTON_AT % place))
-            held = browser.run(f"view.chosen === view.faults[{place}] && view.labels.some(it => it.fault === view.chosen.number) && {WITHIN}")
+            held = browser.run(f"view.unfilled.length === 0 && view.chosen === view.faults[{place}] && view.labels.some(it => it.fault === view.chosen.number) && {WITHIN}")
             yield f"browser: {name}: a click on fault {place + 1}", held and browser.run("getComputedStyle(view.chosen.box.querySelector('pre')).display") == "block"
         yield f"browser: {name} stays quiet", is_quiet(browser)
 
@@ -208,6 +207,9 @@ FACES_SEEN = """(() => {
 
 def of_outlines(browser, folder):
     """What has no edges is seen: the void in a box, a whole sphere, each fillet of a box."""
+    open_page(browser, written(folder, "lost", 3, "closed 3\nunits 2 MM\nshells 2 failing 0\n", example("14_box_void_sphere").read_bytes()))
+    browser.run("new Promise(done => { view.canvases.lines.addEventListener('webglcontextlost', () => setTimeout(done)); view.painter.gl.getExtension('WEBGL_lose_context').loseContext(); })")
+    yield "browser: a canvas where WebGL was lost", browser.run("view.painter.isWebgl") is False and browser.run(SPHERE_SEEN % ("[0, 0, 0]", "5"))
     for at in ("", "#canvas"):
         how = "a canvas" if at else "WebGL"
         open_page(browser, written(folder, "void", 3, "closed 3\nunits 2 MM\nshells 2 failing 0\n", example("14_box_void_sphere").read_bytes()), at)
@@ -216,7 +218,31 @@ def of_outlines(browser, folder):
         yield f"browser: a sphere of one pole, by {how}", browser.run(SPHERE_SEEN % ("view.picture.middle.map(it => -it)", "1"))
         open_page(browser, written(folder, "fillets", 3, "closed 3\nunits 2 MM\nshells 1 failing 0\n", example("12_box_fillet_all").read_bytes()), at)
         yield f"browser: each fillet, by {how}", browser.run(FACES_SEEN) and is_quiet(browser)
+        open_page(browser, written(folder, "thread", 1, "closed 1\nunits 2 MM\nshells 1 failing 0\n", flank()), at)
+        yield f"browser: the flank of a thread, by {how}", browser.run(FACES_SEEN) and is_quiet(browser)
         yield f"browser: what draws is {how}", browser.run("view.painter.isWebgl") is (at == "")
+
+
+def flank():
+    """A flank of a thread: two turns of a helix between two radii, as a ruled surface."""
+    helix = lambda radius: [(radius * math.cos(math.tau * k / 120), radius * math.sin(math.tau * k / 120), k / 120) for k in range(241)]
+    inner, outer = helix(1), helix(2)
+    corners = inner[0], inner[-1], outer[-1], outer[0]
+    told = lambda points: [f"{it:.9f}" for point in points for it in point]
+    records = [
+        (186, 0, [3, 1, 0]),
+        (514, 1, [1, 9, 1]),
+        (502, 1, [4, *told(corners)]),
+        (504, 1, [4] + [v for k, (start, end) in enumerate(((1, 2), (2, 3), (4, 3), (4, 1))) for v in (13 + 2 * k, 5, start, 5, end)]),
+        (510, 1, [21, 1, 1, 11]),
+        (508, 1, [4, *(v for k, flag in enumerate((1, 1, 0, 1)) for v in (0, 7, k + 1, flag, 0))]),
+        (106, 12, [2, 241, *told(inner)]),
+        (110, 0, told(corners[1:3])),
+        (106, 12, [2, 241, *told(outer)]),
+        (110, 0, told((corners[3], corners[0]))),
+        (118, 1, [13, 17, 0, 0]),
+    ]
+    return text_of(records)
 
 
 def of_markup(browser, folder):
@@ -305,9 +331,8 @@ def of_large_solids(browser, folder):
             calls = browser.run("calls")
             yield f"browser: {name}, {how or 'WebGL'}: what is counted before the first frame: {calls}", is_quiet(browser) and within(calls)
             yield f"browser: {name}, {how or 'WebGL'}: a label in view", browser.run(f"view.labels.length > 0 && {WITHIN}")
-            end = time.monotonic() + 60
-            while not browser.run("view.isWhole") and time.monotonic() < end:
-                time.sleep(0.2)
+            while not browser.run("view.workOn(2000, Infinity), view.isWhole"):
+                pass
             held = browser.run("view.painter.vertexCount + (view.meshPoints || 0)")
             yield f"browser: {name}, {how or 'WebGL'}: {held} vertices are held when all faces are there", browser.run("view.isWhole") and held <= MOST_VERTICES
 

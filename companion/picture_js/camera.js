@@ -1,4 +1,6 @@
-/** The camera: a turn (three rows), the point in the middle of the view, and pixels for each unit. */
+/**
+ * The camera: a turn (three rows), the point in the middle of the view, and pixels for each unit.
+ */
 import { cross, unit } from "./vectors.js";
 
 /** @typedef {number[]} Turn nine numbers, row by row: right, up, and towards the eye */
@@ -85,7 +87,8 @@ export class Camera {
       });
     }
     const room = [(this.width - 40) * part, (this.height - 110) * part];
-    const fits = [0, 1].map(k => Math.max(room[k], 40) / Math.max(high[k] - low[k], this.size * 0.01));
+    const fits = [0, 1]
+      .map(k => Math.max(room[k], 40) / Math.max(high[k] - low[k], this.size * 0.01));
     return [apply(back(turn), low.map((it, k) => (it + high[k]) / 2)), Math.min(...fits)];
   }
 }

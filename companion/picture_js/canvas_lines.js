@@ -1,7 +1,7 @@
 /**
- * Lines drawn on a canvas, where there is no WebGL: shades by depth, paths of few points, and no more
- * calls than a frame may take. Where there are too many lines, first their inner points are left out,
- * then some lines.
+ * Lines drawn on a canvas, where there is no WebGL: shades by depth, paths of few points, and no
+ * more calls than a frame may take. Where there are too many lines, first their inner points are
+ * left out, then some lines.
  */
 
 const SHADES = 12, MOST_CALLS = 90000;
@@ -11,7 +11,9 @@ export const MOST_PATH_POINTS = 8000;
 const shadeOf = (near, far, part) =>
   `rgb(${near.map((it, k) => Math.round(far[k] + (it - far[k]) * part)).join(",")})`;
 
-/** Strokes lines in paths of few points. @param {function(function): void} trace calls for points */
+/**
+ * Strokes lines in paths of few points. @param {function(function): void} trace calls for points
+ */
 export class Pen {
   constructor(context, mostCalls) {
     Object.assign(this, { context, left: mostCalls, points: 0, isCut: false });
@@ -74,7 +76,8 @@ export class CanvasLines {
 
   /** The lines by the depth of their middles. */
   shades({ lines, isLeftOut }, step) {
-    const shades = Array.from({ length: SHADES }, () => []), [, , , , , , x, y, z] = this.camera.turn;
+    const shades = Array.from({ length: SHADES }, () => []);
+    const [, , , , , , x, y, z] = this.camera.turn;
     for (let k = 0; k < lines.count; k += step) {
       if (isLeftOut(k) || lines.from[k + 1] === lines.from[k]) continue;
       const [a, b, c, radius] = lines.balls.subarray(4 * k, 4 * k + 4);
@@ -100,7 +103,8 @@ export class CanvasLines {
       context.strokeStyle = shadeOf(near, far, k / (SHADES - 1));
       context.lineWidth = 1 + (0.5 * k) / SHADES;
       pen.begin();
-      for (const line of shade) pen.line(places, lines.from[line], lines.from[line + 1] - 1, isRough);
+      for (const line of shade)
+        pen.line(places, lines.from[line], lines.from[line + 1] - 1, isRough);
       pen.end();
     });
     context.globalAlpha = 1;

@@ -7,7 +7,8 @@ const LIGHT = {
   axes: ["#c0392b", "#1e8449", "#1f5fbf"],
 };
 const DARK = {
-  red: "#ff4d5e", paleRed: "#b8505b", ink: "#d5dde5", chord: "#8b98a5", rim: "#10161c", label: "#10161c",
+  red: "#ff4d5e", paleRed: "#b8505b", ink: "#d5dde5", chord: "#8b98a5", rim: "#10161c",
+    label: "#10161c",
   near: [214, 224, 234], far: [74, 86, 98], inner: [104, 118, 132],
   groups: ["#6fb1ff", "#ffae5c", "#5fd38d", "#d09bff", "#5cd0da", "#e0a070", "#ff8fb8", "#c0d05a"],
   axes: ["#ff7a6b", "#6fd08c", "#7fb0ff"],

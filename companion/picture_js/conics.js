@@ -54,7 +54,8 @@ class Conic {
       return [...angles, t => this.outward(a * Math.cos(t), b * Math.sin(t))];
     }
     if (wide > 0) {
-      const side = x0 < 0 ? -a : a, point = t => this.outward(side * Math.cosh(t), b * Math.sinh(t));
+      const side = x0 < 0 ? -a : a;
+      const point = t => this.outward(side * Math.cosh(t), b * Math.sinh(t));
       return [Math.asinh(y0 / b), Math.asinh(y1 / b), point];
     }
     const side = y0 < 0 ? -b : b, point = t => this.outward(a * Math.sinh(t), side * Math.cosh(t));

@@ -1,8 +1,8 @@
 /**
  * The curves of edges, each as a function of a parameter: circular arcs (100), composite curves
  * (102), conic arcs (104), copious data (106), lines (110), parametric splines (112), rational
- * B-splines (126) and offset curves (130), under the matrix (124) of their entry. IGES 5.3, sections
- * 4.3 to 4.7, 4.13, 4.14, 4.21, 4.23 and 4.25.
+ * B-splines (126) and offset curves (130), under the matrix (124) of their entry. IGES 5.3,
+ * sections 4.3 to 4.7, 4.13, 4.14, 4.21, 4.23 and 4.25.
  */
 import { anglesBetween, conicArc } from "./conics.js";
 import { matrixOf, movedPoint } from "./matrices.js";
@@ -13,8 +13,8 @@ import {
 } from "./vectors.js";
 
 /**
- * A curve: the point of each parameter, and the parameters between which it is smooth, the first and
- * the last among them. @typedef {{at: function(number): number[], breaks: number[]}} Curve
+ * A curve: the point of each parameter, and the parameters between which it is smooth, the first
+ * and the last among them. @typedef {{at: function(number): number[], breaks: number[]}} Curve
  */
 
 const DEEPEST = 4, MOST_SPANS = 20000, MOST_PARTS = 1000, MOST_HALVINGS = 10;
@@ -69,7 +69,8 @@ function path(points) {
 function copious({ values, form }) {
   const kind = integer(values[0]), count = integer(values[1]), points = [];
   const width = kind === 1 ? 2 : 3 * (kind - 1), first = kind === 1 ? 3 : 2;
-  if (![1, 2, 3].includes(kind) || count < 1 || values.length < first + width * count) throw wrong(106);
+  if (![1, 2, 3].includes(kind) || count < 1 || values.length < first + width * count)
+    throw wrong(106);
   const z = kind === 1 ? real(values[2]) : 0;
   for (let k = 0; k < count; k++) {
     const point = reals(values, first + width * k, first + width * k + (kind === 1 ? 2 : 3));
@@ -164,7 +165,8 @@ function lengthAlong(curve) {
 function offset({ file, values, depth, budget }) {
   const kind = integer(values[1]), isByLength = integer(values[4]) === 1;
   const [d1, t1, d2, t2, nx, ny, nz, first, last] = reals(values, 5, 14);
-  if (kind !== 1 && kind !== 2) throw new Unreadable("an offset curve whose distance is a function");
+  if (kind !== 1 && kind !== 2)
+    throw new Unreadable("an offset curve whose distance is a function");
   const base = curveOf(file, integer(values[0]), depth + 1, budget);
   const low = Math.max(Math.min(first, last), firstOf(base));
   const high = Math.min(Math.max(first, last), lastOf(base));
@@ -231,6 +233,7 @@ export function edgePoints(curve, start, end, tolerance) {
   const size = Math.max(distance(start, end), far, 1e-12);
   const isNear = (one, other) => distance(one, other) <= NEARNESS * size;
   if (isNear(first, start) && isNear(last, end)) return [start, ...points.slice(1, -1), end];
-  if (isNear(first, end) && isNear(last, start)) return [start, ...points.slice(1, -1).reverse(), end];
+  if (isNear(first, end) && isNear(last, start))
+    return [start, ...points.slice(1, -1).reverse(), end];
   throw new Unreadable("a curve that doesn't end at its edge's vertices");
 }

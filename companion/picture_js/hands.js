@@ -9,7 +9,8 @@ const MOVE_STEP = 40, TURN_STEP = 0.12, TURN_OF_PIXEL = 0.008;
 /** One finger or the mouse turns or moves; two fingers move, and zoom by their distance. */
 class Fingers {
   constructor(view, tell) {
-    Object.assign(this, { view, tell, down: new Map(), length: 0, isMoving: false, wereTwo: false });
+    Object.assign(this,
+      { view, tell, down: new Map(), length: 0, isMoving: false, wereTwo: false });
   }
 
   begin(event) {
@@ -36,7 +37,8 @@ class Fingers {
     if (!this.down.has(event.pointerId)) return;
     const before = this.pose();
     this.down.set(event.pointerId, [event.offsetX, event.offsetY]);
-    const after = this.pose(), x = after.middle[0] - before.middle[0], y = after.middle[1] - before.middle[1];
+    const after = this.pose(), x = after.middle[0] - before.middle[0];
+    const y = after.middle[1] - before.middle[1];
     this.length += Math.abs(x) + Math.abs(y);
     this.view.move(camera => {
       if (this.down.size > 1 || this.isMoving) camera.moveBy(x, y);
@@ -50,12 +52,15 @@ class Fingers {
 
   /** Whether what ends was a tap or a click. */
   end(event) {
-    const isTap = this.down.delete(event.pointerId) && !this.wereTwo && !this.isMoving && this.length < 4;
+    const isTap = this.down.delete(event.pointerId) && !this.wereTwo && !this.isMoving
+      && this.length < 4;
     return isTap && !this.down.size;
   }
 }
 
-/** Lets the mouse and fingers move the view. @param {function} tell about what is under the mouse */
+/**
+ * Lets the mouse and fingers move the view. @param {function} tell about what is under the mouse
+ */
 export function takePointers(view, canvas, tell) {
   const fingers = new Fingers(view);
   const release = () => canvas.classList.toggle("turning", fingers.down.size > 0);
@@ -108,7 +113,8 @@ export function actionsOf(view) {
 /** What a key does, or null for a key that does nothing here. */
 function keyAction(view, actions, event) {
   const turn = TURNS[event.key], move = MOVES[event.key], zoom = ZOOMS[event.key];
-  if (turn && event.shiftKey) return () => view.move(it => it.turnBy(turn[0] * TURN_STEP, turn[1] * TURN_STEP));
+  if (turn && event.shiftKey)
+    return () => view.move(it => it.turnBy(turn[0] * TURN_STEP, turn[1] * TURN_STEP));
   if (turn) return () => view.hop(turn[0] + turn[1]);
   if (move) return () => view.move(it => it.moveBy(move[0] * MOVE_STEP, move[1] * MOVE_STEP));
   if (zoom) return () => view.move(it => it.zoomBy(zoom));

@@ -1,32 +1,53 @@
 /**
- * What usually causes a fault. Each hint is an exact condition on the faults and the solid's records,
- * but no more than a hint: it isn't proved, as the faults are, and the cause may be another one.
+ * What usually causes a fault. Each hint is an exact condition on the faults and the solid's
+ * records, but no more than a hint: it isn't proved, as the faults are, and the cause may be
+ * another one.
  */
 import { ruleName } from "./where_text.js";
 
 const MOST_FACES = 20;
 const SENTENCES = {
-  "unsewn": "The faces form so many groups (parts) with open rims that share no edge with one another. The edges that are alike lie end to end with "
-    + "another one whose ends are spelled alike but are vertices of their own. As a rule the model was never sewn: sew (join, knit, stitch) "
-    + "its faces, with a larger tolerance where few edges are alike, and write the file again.",
-  "open": "Edges used by one face only. They hang together in so many rims, each as a rule the rim of a hole: a face is missing there, or two "
-    + "neighbours weren't joined. Fill the hole, or sew with a larger tolerance.",
-  "turned-faces": "With the flags of these faces turned, every edge that is used twice is used once along and once against: these faces are inside out. "
-    + "Reverse their normals.",
-  "one-sided": "No choice of face flags makes the faces agree: the surface has one side only, as a Moebius band has. The model itself is wrong.",
-  "same-way": "Edges used twice in the same direction: the faces on both sides are turned against each other. Make the face normals agree.",
-  "doubled-face": "Both faces use the very same edges: one face is there twice. Delete one.",
-  "touching": "Edges used as often along as against, and more than once each: two bodies, or two parts of one, touch along the edge only. Split them "
-    + "into solids, or part them, or make them overlap.",
-  "inner-face": "Edges used more than twice and unevenly: a face stands inside the body or juts out of it. Delete that face, or split the solid along "
-    + "it.",
-  "alike-ends": "Gaps where both vertices are spelled alike: one place with two entries in the list. Merge the vertices, or write the file again with a "
-    + "larger tolerance.",
-  "turned-tuple": "With the flag of this tuple turned the loop joins.",
-  "bodies": "Every edge is paired: the parts are bodies of their own, written as one shell. Write each as a solid, or, where one lies within "
-    + "another, as its void.",
-  "pinch": "The faces are joined well, but the body touches itself at a point and has no thickness there. Part the two sides, or make them overlap.",
-  "touching-shells": "A void reaches the skin, or another void, at a vertex. Move it inwards, or cut it open.",
+  "unsewn":
+    "The faces form so many groups (parts) with open rims that share no edge with one "
+    + "another. The edges that are alike lie end to end with another one whose ends are spelled"
+    + " alike but are vertices of their own. As a rule the model was never sewn: sew (join, "
+    + "knit, stitch) its faces, with a larger tolerance where few edges are alike, and write "
+    + "the file again.",
+  "open":
+    "Edges used by one face only. They hang together in so many rims, each as a rule the rim "
+    + "of a hole: a face is missing there, or two neighbours weren't joined. Fill the hole, or "
+    + "sew with a larger tolerance.",
+  "turned-faces":
+    "With the flags of these faces turned, every edge that is used twice is used once along "
+    + "and once against: these faces are inside out. Reverse their normals.",
+  "one-sided":
+    "No choice of face flags makes the faces agree: the surface has one side only, as a "
+    + "Moebius band has. The model itself is wrong.",
+  "same-way":
+    "Edges used twice in the same direction: the faces on both sides are turned against each "
+    + "other. Make the face normals agree.",
+  "doubled-face":
+    "Both faces use the very same edges: one face is there twice. Delete one.",
+  "touching":
+    "Edges used as often along as against, and more than once each: two bodies, or two parts "
+    + "of one, touch along the edge only. Split them into solids, or part them, or make them "
+    + "overlap.",
+  "inner-face":
+    "Edges used more than twice and unevenly: a face stands inside the body or juts out of "
+    + "it. Delete that face, or split the solid along it.",
+  "alike-ends":
+    "Gaps where both vertices are spelled alike: one place with two entries in the list. "
+    + "Merge the vertices, or write the file again with a larger tolerance.",
+  "turned-tuple":
+    "With the flag of this tuple turned the loop joins.",
+  "bodies":
+    "Every edge is paired: the parts are bodies of their own, written as one shell. Write "
+    + "each as a solid, or, where one lies within another, as its void.",
+  "pinch":
+    "The faces are joined well, but the body touches itself at a point and has no thickness "
+    + "there. Part the two sides, or make them overlap.",
+  "touching-shells":
+    "A void reaches the skin, or another void, at a vertex. Move it inwards, or cut it open.",
 };
 
 /** @typedef {{head: string, sentence: string, faces: number[], isTold: boolean}} Hint */
@@ -80,7 +101,9 @@ class ShellUses {
   }
 }
 
-/** The hints in the text, and those of each failing shell's first failing rule. @returns {Hint[]} */
+/**
+ * The hints in the text, and those of each failing shell's first failing rule. @returns {Hint[]}
+ */
 export function hintsOf(answer, solid) {
   const told = answer.hints.map(it => ({
     head: it.text.slice(it.text.indexOf(" ") + 1), sentence: it.sentence, faces: [], isTold: true,
@@ -95,7 +118,8 @@ export function hintsOf(answer, solid) {
 function ofShell(solid, rule) {
   const shell = solid.shells[rule.told.shell - 1], found = [];
   const hint = (word, numbers, faces = []) => found.push({
-    head: `${word} shell ${rule.told.shell} ${numbers}`, sentence: SENTENCES[word], faces, isTold: false,
+    head: `${word} shell ${rule.told.shell} ${numbers}`, sentence: SENTENCES[word], faces,
+      isTold: false,
   });
   const name = ruleName(rule);
   if (name === "JOIN") ofGaps(shell, rule, hint);
@@ -113,7 +137,8 @@ function ofShell(solid, rule) {
 }
 
 function ofGaps(shell, rule, hint) {
-  const places = rule.items.map(gap => gap.facts.filter(it => "vertex" in it.told).map(it => it.told.at));
+  const places =
+    rule.items.map(gap => gap.facts.filter(it => "vertex" in it.told).map(it => it.told.at));
   const alike = places.filter(ends => ends[0] === ends[1]).length, gaps = new Map(), found = [];
   if (alike) hint("alike-ends", `gaps ${alike}`);
   for (const gap of rule.items) addTo(gaps, Number(gap.told.loop), Number(gap.told.tuple) - 1);
@@ -122,10 +147,13 @@ function ofGaps(shell, rule, hint) {
       if (gaps.has(loop.entity)) found.push(...turnedTuples(loop, gaps.get(loop.entity)));
     }
   }
-  for (const [loop, place] of found.slice(0, MOST_FACES)) hint("turned-tuple", `loop ${loop} tuple ${place + 1}`);
+  for (const [loop, place] of found.slice(0, MOST_FACES))
+    hint("turned-tuple", `loop ${loop} tuple ${place + 1}`);
 }
 
-/** The tuples at a loop's gaps with whose flag turned it joins: only one or two gaps can close so. */
+/**
+ * The tuples at a loop's gaps with whose flag turned it joins: only one or two gaps can close so.
+ */
 function turnedTuples(loop, gaps) {
   const count = loop.uses.length;
   if (gaps.length > 2) return [];
@@ -144,7 +172,8 @@ function alikeEdges(solid, edges) {
     const { start, end } = solid.edges[edge];
     addTo(spelled, [start, end].map(it => solid.coordinates(it).join(" ")).sort().join("|"), edge);
   }
-  const endsOf = edge => [solid.edges[edge].start, solid.edges[edge].end].sort((a, b) => a - b).join();
+  const endsOf = edge => [solid.edges[edge].start, solid.edges[edge].end].sort((a, b) => a - b)
+    .join();
   for (const group of spelled.values()) {
     if (new Set(group.map(endsOf)).size > 1) group.forEach(it => alike.add(it));
   }
@@ -156,8 +185,10 @@ function ofEdgesUsedOnce(uses, hint) {
   if (!once.length) return;
   const alike = alikeEdges(uses.solid, once), lone = once.filter(it => !alike.has(it));
   const parts = uses.partsOf(once);
-  if (alike.size || parts > 1) hint("unsewn", `edges ${once.length} alike ${alike.size} parts ${parts}`);
-  if (lone.length && parts === 1) hint("open", `edges ${lone.length} rims ${rimsOf(uses.solid, lone)}`);
+  if (alike.size || parts > 1)
+    hint("unsewn", `edges ${once.length} alike ${alike.size} parts ${parts}`);
+  if (lone.length && parts === 1)
+    hint("open", `edges ${lone.length} rims ${rimsOf(uses.solid, lone)}`);
 }
 
 /** How many groups the edges form that are joined by vertices. */
@@ -212,7 +243,8 @@ function turnedFaces(uses) {
 
 function ofEdgesUsedMore(uses, hint) {
   const many = uses.used(count => count > 2), doubled = doubledFaces(uses, many);
-  for (const [one, other] of doubled.slice(0, MOST_FACES)) hint("doubled-face", `faces ${one} ${other}`, [one, other]);
+  for (const [one, other] of doubled.slice(0, MOST_FACES))
+    hint("doubled-face", `faces ${one} ${other}`, [one, other]);
   const even = many.filter(edge => {
     const rows = uses.rows.get(edge);
     return 2 * rows.filter(it => it.along).length === rows.length;
@@ -226,7 +258,8 @@ function doubledFaces(uses, edges) {
   const { faces } = uses.shell, seen = new Map(), found = [];
   const places = new Set(edges.flatMap(edge => uses.rows.get(edge).map(it => it.face)));
   for (const place of [...places].sort((a, b) => a - b)) {
-    const used = faces[place].loops.flatMap(loop => loop.uses.map(it => it.edge).filter(it => it >= 0));
+    const used = faces[place]
+      .loops.flatMap(loop => loop.uses.map(it => it.edge).filter(it => it >= 0));
     const key = used.sort((a, b) => a - b).join();
     if (seen.has(key)) found.push([faces[seen.get(key)].entity, faces[place].entity]);
     else seen.set(key, place);

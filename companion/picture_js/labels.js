@@ -1,10 +1,16 @@
-/** Labels in the picture: each at a place where it hides no other. Those without room are counted. */
+/**
+ * Labels in the picture: each at a place where it hides no other. Those without room are counted.
+ */
 import { colours } from "./colours.js";
 
 export const FONT = "600 12px system-ui, 'DejaVu Sans', Arial, sans-serif";
 const HEIGHT = 19;
 
-/** @typedef {{text: string, fault: number, x: number, y: number, width: number, height: number}} Label */
+/**
+ * @typedef {{
+ *   text: string, fault: number, x: number, y: number, width: number, height: number,
+ * }} Label
+ */
 
 export class Labels {
   constructor(pen, width, height) {
@@ -66,7 +72,8 @@ export class Labels {
     pen.textAlign = "center";
     pen.textBaseline = "middle";
     pen.fillText(text, middle[0], middle[1] + 0.5);
-    this.placed.push({ text, fault: fault ? fault.number : 0, x: box[0], y: box[1], width: w, height: HEIGHT });
+    this.placed.push({ text, fault: fault ? fault.number : 0, x: box[0], y: box[1], width: w,
+      height: HEIGHT });
     return true;
   }
 

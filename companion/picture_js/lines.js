@@ -53,7 +53,8 @@ export class CurvedFace {
       return [0, 1, 2].map(axis => points[p + axis] + (points[q + axis] - points[p + axis]) * part);
     };
     for (let k = 0; k < triangles.length; k += 3) {
-      const [a, b, c] = triangles.subarray(k, k + 3), fa = facing(a), fb = facing(b), fc = facing(c);
+      const [a, b, c] = triangles.subarray(k, k + 3), fa = facing(a), fb = facing(b);
+      const fc = facing(c);
       const isA = fa > 0, isB = fb > 0, isC = fc > 0;
       if (isA === isB && isB === isC) continue;
       const ends = [];

@@ -1,7 +1,7 @@
 /**
- * What a fault marks of a solid, by the text of `igesolid-where` alone: red edges and vertices; faces,
- * arrows along edges and spokes from a vertex by groups; the group of each fact. A group is a face at
- * an edge, a tuple at a gap, a fan at a vertex, a part, or a shell.
+ * What a fault marks of a solid, by the text of `igesolid-where` alone: red edges and vertices;
+ * faces, arrows along edges and spokes from a vertex by groups; the group of each fact. A group is
+ * a face at an edge, a tuple at a gap, a fan at a vertex, a part, or a shell.
  */
 import { keyOf } from "./where_text.js";
 
@@ -44,7 +44,8 @@ const MARKS = {
     return group;
   },
   LINK(marked, { told }, fact, solid, item) {
-    const group = "fan" in told ? Number(told.fan) - 1 : "point" in told ? Number(item.told.fans) : -1;
+    const group = "fan" in told ? Number(told.fan) - 1 : "point" in told ? Number(item.told.fans)
+      : -1;
     if ("fan" in told) marked.spokes.push([edgeOf(solid, fact), group]);
     if ("face" in told) marked.faces.push([Number(told.face), group]);
     return group;

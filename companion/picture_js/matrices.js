@@ -1,4 +1,6 @@
-/** Transformation matrices (type 124; IGES 5.3, section 4.21): three rows of a rotation and a shift. */
+/**
+ * Transformation matrices (type 124; IGES 5.3, section 4.21): three rows of a rotation and a shift.
+ */
 import { integer, reals, Unreadable } from "./records.js";
 
 const DEEPEST = 4;
@@ -44,7 +46,8 @@ export function matrixOf(file, number, depth = 0) {
 /** The coordinates of a point (116) or a direction (123) that a value names. */
 export function tripleOf(file, value) {
   const number = integer(value), { kind, matrix } = file.entry(number);
-  if (kind !== 116 && kind !== 123) throw new Unreadable(`entity ${number} in the place of a point`);
+  if (kind !== 116 && kind !== 123)
+    throw new Unreadable(`entity ${number} in the place of a point`);
   const triple = reals(file.values(number), 0, 3), m = matrixOf(file, matrix);
   if (!m) return triple;
   return movedPoint(kind === 116 ? m : m.map((it, k) => (k % 4 === 3 ? 0 : it)), triple);

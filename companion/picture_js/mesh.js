@@ -97,8 +97,10 @@ export function insideOf(surface, region) {
   let best = null, greatest = -1;
   for (const { low, high, left, right } of cutOf(region)) {
     const v = (low + high) / 2, from = left.at(v), to = right.at(v), u = (from + to) / 2;
-    const wide = distance(surface.at(from, v), surface.at(u, v)) + distance(surface.at(u, v), surface.at(to, v));
-    const tall = distance(surface.at(u, low), surface.at(u, v)) + distance(surface.at(u, v), surface.at(u, high));
+    const wide = distance(surface.at(from, v), surface.at(u, v))
+      + distance(surface.at(u, v), surface.at(to, v));
+    const tall = distance(surface.at(u, low), surface.at(u, v))
+      + distance(surface.at(u, v), surface.at(u, high));
     const extent = Math.min(wide, tall) + 0.01 * Math.max(wide, tall);
     if (extent > greatest) [best, greatest] = [surface.at(u, v), extent];
   }
@@ -107,10 +109,12 @@ export function insideOf(surface, region) {
 
 /** Points of a line of one value of a parameter, within a tolerance of the surface. */
 function isoline(surface, axis, value, [first, last], tolerance) {
-  const at = it => (axis === 0 ? surface.at(value, it) : surface.at(it, value)), found = [at(first)];
+  const at = it => (axis === 0 ? surface.at(value, it) : surface.at(it, value));
+  const found = [at(first)];
   const add = (low, high, halvings) => {
     const start = at(low), end = at(high), middle = (low + high) / 2;
-    const isNear = [0.3, 0.5, 0.8].every(k => fromChord(at(low + (high - low) * k), start, end) <= tolerance);
+    const isNear = [0.3, 0.5, 0.8]
+      .every(k => fromChord(at(low + (high - low) * k), start, end) <= tolerance);
     if (halvings === 0 || (isNear && halvings < 7)) {
       found.push(end);
       return;

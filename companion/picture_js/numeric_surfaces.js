@@ -1,6 +1,7 @@
 /**
  * Surfaces that are known by their points alone: where they are closed, where their poles are, and
- * the parameters of a point, by Newton's method from the nearest of some points, or from one before.
+ * the parameters of a point, by Newton's method from the nearest of some points, or from one
+ * before.
  */
 import { distance, dot, lengthOf, minus } from "./vectors.js";
 
@@ -93,7 +94,9 @@ function settle(surface, start, point) {
   return { best, away };
 }
 
-/** The parameters of a point: from a hint if that leads to it, else from the nearest of the grid. */
+/**
+ * The parameters of a point: from a hint if that leads to it, else from the nearest of the grid.
+ */
 function locator(surface) {
   let grid = null;
   return (point, hint) => {

@@ -1,10 +1,14 @@
-/** What is drawn over the lines of the solid: faces at a fault, failing edges, arrows, axes, a scale. */
+/**
+ * What is drawn over the lines of the solid: faces at a fault, failing edges, arrows, axes, a
+ * scale.
+ */
 import { Pen, MOST_PATH_POINTS } from "./canvas_lines.js";
 import { colourOf, colours } from "./colours.js";
 import { FONT } from "./labels.js";
 import { cross, minus, plus, scaled, unit } from "./vectors.js";
 
-const MOST_STROKE_CALLS = 30000, MOST_TRIANGLES = 8000, MOST_MESH_POINTS = 200000, HATCH_STEP = 16, MOST_DOTS = 2000;
+const MOST_STROKE_CALLS = 30000, MOST_TRIANGLES = 8000, MOST_MESH_POINTS = 200000, HATCH_STEP = 16;
+const MOST_DOTS = 2000;
 
 export class Overlay {
   constructor(pen, view) {
@@ -18,7 +22,8 @@ export class Overlay {
 
   isInView(edge) {
     const { balls } = this.view.edgeLines, { camera } = this.view;
-    return camera.sees(balls[4 * edge], balls[4 * edge + 1], balls[4 * edge + 2], balls[4 * edge + 3]);
+    return camera.sees(balls[4 * edge], balls[4 * edge + 1], balls[4 * edge + 2],
+      balls[4 * edge + 3]);
   }
 
   /** Strokes edges, as many as a frame may. */
@@ -39,11 +44,15 @@ export class Overlay {
     this.view.isPart = this.view.isPart || writer.isCut;
   }
 
-  /** Red edges; the chords of curves that aren't drawn are dashed, and points stand for those of no length. */
+  /**
+   * Red edges; the chords of curves that aren't drawn are dashed, and points stand for those of no
+   * length.
+   */
   strokeRed(strength) {
     const { picture, edgeLines, camera } = this.view, red = [...picture.redEdges], { pen } = this;
     const isPoint = edge => edgeLines.balls[4 * edge + 3] * camera.scale < 1;
-    red.filter(isPoint).slice(0, MOST_DOTS).forEach(it => this.dot(picture.solid.edges[it].start, 5, colours().red));
+    red.filter(isPoint).slice(0, MOST_DOTS)
+      .forEach(it => this.dot(picture.solid.edges[it].start, 5, colours().red));
     pen.globalAlpha = strength;
     this.stroke(red.filter(it => !picture.chords.has(it)), colours().red, 3);
     this.stroke(red.filter(it => picture.chords.has(it)), colours().red, 3, [7, 5]);
@@ -84,14 +93,16 @@ export class Overlay {
 
   /** The triangles of a face in view, six numbers each, all turned the same way. */
   trianglesOf(face) {
-    if (face.fill === undefined) face.fill = this.view.picture.mesh(face, MOST_MESH_POINTS);
-    if (!face.fill || face.fill.isCut) return null;
-    const { camera } = this.view, places = face.fill.points.map(it => camera.project(it)), found = [];
-    const { triangles } = face.fill, { width, height } = camera;
+    const fill = this.view.picture.fillOf(face, MOST_MESH_POINTS, MOST_TRIANGLES);
+    if (!fill || fill.isCut) return null;
+    const { camera } = this.view, places = fill.points.map(it => camera.project(it));
+    const found = [];
+    const { triangles } = fill, { width, height } = camera;
     for (let k = 0; k < triangles.length; k += 3) {
       const corners = [0, 1, 2].map(it => places[triangles[k + it]]), [a, b, c] = corners;
       const xs = corners.map(it => it[0]), ys = corners.map(it => it[1]);
-      if (Math.max(...xs) < 0 || Math.min(...xs) > width || Math.max(...ys) < 0 || Math.min(...ys) > height) continue;
+      if (Math.max(...xs) < 0 || Math.min(...xs) > width || Math.max(...ys) < 0
+        || Math.min(...ys) > height) continue;
       const turn = (b[0] - a[0]) * (c[1] - a[1]) - (b[1] - a[1]) * (c[0] - a[0]);
       if (Math.abs(turn) < 1e-6) continue;
       found.push(turn > 0 ? [...a, ...b, ...c] : [...a, ...c, ...b]);
@@ -116,7 +127,10 @@ export class Overlay {
     pen.globalAlpha = 1;
   }
 
-  /** A face is filled and hatched by its group, and its edges are drawn; those of a broken loop open. */
+  /**
+   * A face is filled and hatched by its group, and its edges are drawn; those of a broken loop
+   * open.
+   */
   drawFace(face, group) {
     const triangles = this.trianglesOf(face), { pen } = this;
     if (triangles) {
@@ -143,8 +157,10 @@ export class Overlay {
 
   /** A point on the side of an edge on which a face has its material, or the face's middle. */
   sideOf(edge, face) {
-    const { picture } = this.view, points = this.view.pointsOf(edge), trimmed = picture.trimmed(face);
-    const k = Math.max(1, points.length >> 1), middle = points[k].map((it, axis) => (it + points[k - 1][axis]) / 2);
+    const { picture } = this.view, points = this.view.pointsOf(edge);
+    const trimmed = picture.trimmed(face);
+    const k = Math.max(1, points.length >> 1);
+    const middle = points[k].map((it, axis) => (it + points[k - 1][axis]) / 2);
     if (trimmed && face.loops.length) {
       const way = unit(minus(points[k], points[k - 1])), { surface } = trimmed;
       const [u, v] = surface.locate(plus(middle, picture.middle)), h = 1e-4 * picture.size;
@@ -153,20 +169,27 @@ export class Overlay {
       const aside = unit(cross(cross(...near), way));
       for (const sign of [1, -1]) {
         const point = plus(middle, scaled(aside, sign * h));
-        if (picture.hasMaterialAt(face, point)) return plus(middle, scaled(aside, sign * picture.size * 0.05));
+        if (picture.hasMaterialAt(face, point))
+          return plus(middle, scaled(aside, sign * picture.size * 0.05));
       }
     }
     return picture.insideOf(face);
   }
 
-  /** An arrow beside an edge's middle, on its face's side, in the direction in which the face uses it. */
+  /**
+   * An arrow beside an edge's middle, on its face's side, in the direction in which the face uses
+   * it.
+   */
   drawArrow(edge, isAlong, face, ranks, colour) {
     const flat = this.placesOf(edge), { camera } = this.view, steps = 12;
     const places = Array.from({ length: flat.length / 2 }, (_, k) => flat.slice(2 * k, 2 * k + 2));
     if (places.length < 2) return;
-    const total = places.slice(1).reduce((sum, it, k) => sum + Math.hypot(it[0] - places[k][0], it[1] - places[k][1]), 0);
+    const total = places.slice(1)
+      .reduce((sum, it, k) => sum + Math.hypot(it[0] - places[k][0], it[1] - places[k][1]), 0);
     const half = Math.min(0.28, 45 / Math.max(total, 1));
-    const path = Array.from({ length: steps + 1 }, (_, k) => alongPath(places, 0.5 - half + (2 * half * k) / steps));
+    const path =
+      Array.from({ length: steps + 1 }, (_, k) =>
+      alongPath(places, 0.5 - half + (2 * half * k) / steps));
     const middle = path[steps / 2], one = path[steps / 2 - 1], other = path[steps / 2 + 1];
     const length = Math.hypot(other[0] - one[0], other[1] - one[1]);
     if (length < 1e-6) return;
@@ -196,7 +219,9 @@ export class Overlay {
 
   drawAxes() {
     const { pen } = this, { turn, height } = this.view.camera, at = [46, height - 46], length = 30;
-    const axes = ["X", "Y", "Z"].map((word, k) => ({ word, colour: colours().axes[k], x: turn[k], y: turn[3 + k], z: turn[6 + k] }));
+    const axes = ["X", "Y", "Z"]
+      .map((word, k) =>
+      ({ word, colour: colours().axes[k], x: turn[k], y: turn[3 + k], z: turn[6 + k] }));
     for (const { word, colour, x, y } of axes.sort((one, other) => one.z - other.z)) {
       pen.strokeStyle = pen.fillStyle = colour;
       pen.lineWidth = 2;

@@ -25,7 +25,8 @@ function tellHit(view, hit, x, y) {
   } else {
     const { list, index, curve } = picture.solid.edges[hit.edge], used = picture.used[hit.edge];
     const isChord = picture.chords.has(hit.edge) ? ", not drawn" : "";
-    tip.textContent = `edge ${list} ${index}\ncurve ${curve}${isChord}\nused ${used} ${used === 1 ? "time" : "times"}`;
+    const times = used === 1 ? "1 time" : `${used} times`;
+    tip.textContent = `edge ${list} ${index}\ncurve ${curve}${isChord}\nused ${times}`;
   }
   tip.style.left = `${Math.max(0, Math.min(x + 14, view.camera.width - 200))}px`;
   tip.style.top = `${Math.max(0, Math.min(y + 12, view.camera.height - 70))}px`;
@@ -38,8 +39,9 @@ function showChosen(faults, fault) {
     it.button.setAttribute("aria-expanded", String(it === fault));
   }
   if (fault && fault.box) fault.box.scrollIntoView({ block: "nearest" });
-  find("spoken").textContent = fault
-    ? `${fault.number ? `Fault ${fault.number}: ` : ""}${fault.head}${fault.says ? `, ${fault.says}` : ""}` : "";
+  const name = fault && fault.number ? `Fault ${fault.number}: ` : "";
+  const meaning = fault && fault.says ? `, ${fault.says}` : "";
+  find("spoken").textContent = fault ? name + fault.head + meaning : "";
 }
 
 /** Before paper and after it: light colours, and the whole picture at once. */
@@ -55,7 +57,8 @@ function takePrinting(view) {
 }
 
 function startView(scene, faults) {
-  const canvases = { over: find("over"), lines: location.hash.includes("canvas") ? null : find("lines") };
+  const canvases =
+    { over: find("over"), lines: location.hash.includes("canvas") ? null : find("lines") };
   const hooks = {
     chosen: fault => showChosen(faults, fault),
     drawn: notice => { find("notice").textContent = notice; },
@@ -65,10 +68,12 @@ function startView(scene, faults) {
   const actions = actionsOf(view), toggles = { only: find("only"), labels: find("labels") };
   takePointers(view, find("over"), (hit, x, y) => tellHit(view, hit, x, y));
   takeKeys(view, actions, toggles);
-  for (const button of document.querySelectorAll("#bar button")) button.onclick = actions[button.dataset.do];
+  for (const button of document.querySelectorAll("#bar button"))
+    button.onclick = actions[button.dataset.do];
   toggles.only.onchange = () => { view.onlyFaults = toggles.only.checked; view.draw(); };
   toggles.labels.onchange = () => { view.withLabels = toggles.labels.checked; view.draw(); };
-  find("over").setAttribute("aria-label", `The edges of the solid. ${scene.says} Arrow keys lead from fault to fault.`);
+  find("over").setAttribute("aria-label",
+    `The edges of the solid. ${scene.says} Arrow keys lead from fault to fault.`);
   view.measure();
   const wanted = Number(new URLSearchParams(location.hash.slice(1)).get("fault"));
   const fault = faults.find(it => it.number === wanted);

@@ -1,7 +1,7 @@
 /**
- * The picture of a solid in numbers: its vertices, the points along its edges, and of its faces what
- * is asked for. Coordinates are those of the file less the middle of the solid, so that no digit is
- * lost where a solid lies far from the origin.
+ * The picture of a solid in numbers: its vertices, the points along its edges, and of its faces
+ * what is asked for. Coordinates are those of the file less the middle of the solid, so that no
+ * digit is lost where a solid lies far from the origin.
  */
 import { curveOf, edgePoints } from "./curves.js";
 import { insideOf, isolinesOf, meshOf, normalsOf } from "./mesh.js";
@@ -68,7 +68,8 @@ export class Picture {
     Object.assign(this, { solid, faces: new Map(), surfaces: new Map(), reasons: new Map() });
     Object.assign(this, { chords: new Set(), redEdges: new Set(), redVertices: new Set() });
     this.faceReasons = new Map();
-    for (const shell of solid.shells) for (const face of shell.faces) this.faces.set(face.entity, face);
+    for (const shell of solid.shells)
+      for (const face of shell.faces) this.faces.set(face.entity, face);
     const points = solid.vertices.map((_, vertex) => pointOf(solid, vertex)), box = new Box();
     points.filter(Boolean).forEach(it => box.add(it));
     this.middle = box.middle;
@@ -176,13 +177,23 @@ export class Picture {
   }
 
   /** The triangles of a face, with normals where it is curved and they are wanted. */
-  mesh(face, mostPoints, withNormals) {
+  mesh(face, mostPoints, withNormals, tolerance = this.tolerance) {
     const trimmed = this.trimmed(face);
     if (!trimmed) return null;
-    const mesh = meshOf(trimmed.surface, trimmed.region, this.tolerance, mostPoints);
+    const mesh = meshOf(trimmed.surface, trimmed.region, tolerance, mostPoints);
     if (withNormals) mesh.normals = normalsOf(trimmed.surface, mesh, trimmed.region);
     mesh.points = mesh.points.map(it => minus(it, this.middle));
     return mesh;
+  }
+
+  /** The triangles with which a face is filled: of a curved face no more than so many. */
+  fillOf(face, mostPoints, mostTriangles) {
+    for (let tolerance = this.tolerance; face.fill === undefined; tolerance *= 4) {
+      const mesh = this.mesh(face, mostPoints, false, tolerance);
+      const isCoarse = !this.isCurved(face) || tolerance > 100 * this.tolerance;
+      if (!mesh || isCoarse || mesh.triangles.length <= 3 * mostTriangles) face.fill = mesh;
+    }
+    return face.fill;
   }
 
   /** Lines inside of a curved face. */
@@ -193,10 +204,14 @@ export class Picture {
     return lines.map(line => line.map(it => minus(it, this.middle)));
   }
 
-  /** A point in the face's material, for its label; of a face without a region the middle of its edges. */
+  /**
+   * A point in the face's material, for its label; of a face without a region the middle of its
+   * edges.
+   */
   insideOf(face) {
     if (face.inside === undefined) {
-      const trimmed = this.trimmed(face), inside = trimmed && insideOf(trimmed.surface, trimmed.region);
+      const trimmed = this.trimmed(face);
+      const inside = trimmed && insideOf(trimmed.surface, trimmed.region);
       face.inside = inside ? minus(inside, this.middle) : this.middleOf(face);
     }
     return face.inside;
@@ -235,14 +250,16 @@ export class Picture {
   notes() {
     const notes = [], { solid } = this;
     if (this.reasons.size) {
-      notes.push(`Dashed: ${this.chords.size} of ${solid.edges.length} edges drawn as straight lines, `
-        + `since this isn't drawn or couldn't be read: ${commonest(this.reasons)}.`);
+      notes.push(`Dashed: ${this.chords.size} of ${solid.edges.length} edges drawn as straight `
+        + `lines, since this isn't drawn or couldn't be read: ${commonest(this.reasons)}.`);
     }
     const lost = this.points.filter(it => !it).length;
-    if (lost) notes.push(`${lost} of ${this.points.length} vertices have coordinates that can't be drawn.`);
+    const count = this.points.length;
+    if (lost) notes.push(`${lost} of ${count} vertices have coordinates that can't be drawn.`);
     if (!solid.edges.length) notes.push("The solid has no edges.");
     const { matrix } = solid.file.entry(solid.entity);
-    if (matrix) notes.push(`Coordinates and picture are meant before the matrix ${matrix} of the solid.`);
+    const before = `before the matrix ${matrix} of the solid`;
+    if (matrix) notes.push(`Coordinates and picture are meant ${before}.`);
     return notes;
   }
 }

@@ -20,7 +20,8 @@ export class Unreadable extends Error {}
 /** The integer that is spelled so, 0 if it is left out. */
 export function integer(spelled) {
   const text = (spelled || "").trim();
-  if (text && !/^[+-]?[0-9]+$/.test(text)) throw new Unreadable("a value that should be an integer");
+  if (text && !/^[+-]?[0-9]+$/.test(text))
+    throw new Unreadable("a value that should be an integer");
   return Number(text || 0);
 }
 
@@ -162,7 +163,9 @@ export class IgesFile {
   }
 }
 
-/** The marks of the bytes from start to end of a record whose first line is this one of the file. */
+/**
+ * The marks of the bytes from start to end of a record whose first line is this one of the file.
+ */
 function marksBetween(first, start, end) {
   const marks = [];
   while (start < end) {

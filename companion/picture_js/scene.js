@@ -1,4 +1,6 @@
-/** What a page shows of a solid: the faults that `igesolid-where` reports, and the solid's picture. */
+/**
+ * What a page shows of a solid: the faults that `igesolid-where` reports, and the solid's picture.
+ */
 import { hintsOf } from "./hints.js";
 import { markedOf } from "./marked.js";
 import { Picture } from "./picture.js";
@@ -16,7 +18,9 @@ const COUNTED = {
   LINK: ["pinched vertex", "pinched vertices"],
   APART: ["vertex that shells share", "vertices that shells share"],
 };
-/** The units by global parameter 14 (IGES 5.3, 2.2.4.3.14); 3 stands for the name in parameter 15. */
+/**
+ * The units by global parameter 14 (IGES 5.3, 2.2.4.3.14); 3 stands for the name in parameter 15.
+ */
 const UNITS = {
   1: "IN", 2: "MM", 4: "FT", 5: "MI", 6: "M", 7: "KM", 8: "MIL", 9: "UM", 10: "CM", 11: "UIN",
 };
@@ -57,7 +61,8 @@ function shellsOf(answer, solid) {
     const counts = shell.counts().map((count, place) => counted(count, ...words[place])).join(", ");
     const own = answer.rules.filter(rule => Number(rule.told.shell) === k + 1);
     const faults = own.reduce((sum, rule) => sum + Number(rule.told.faults), 0);
-    return { text: `shell ${k + 1} (${k ? "void" : "outer shell"}, entity ${shell.entity}): ${counts}`, faults };
+    const role = k ? "void" : "outer shell";
+    return { text: `shell ${k + 1} (${role}, entity ${shell.entity}): ${counts}`, faults };
   });
 }
 
@@ -84,12 +89,14 @@ function ofRecord(file, answer) {
   const fact = item.facts.find(it => "value" in it.told);
   if (fact) {
     const marks = file.marks(entity, Number(fact.told.value));
-    return excerptOf(file, marks, `Value ${fact.told.value} of the record of entity ${entity} is wrong: `
+    return excerptOf(file, marks,
+      `Value ${fact.told.value} of the record of entity ${entity} is wrong: `
       + `line ${marks[0][0]}, column ${marks[0][1]}:`);
   }
   if (answer.verdict.told.rule !== "TYPE") return null;
   const line = file.directoryAt + entity, marks = [[line, 1, 8], [line + 1, 1, 8]];
-  return excerptOf(file, marks, `Entity ${entity} is of another type, or another form, than a solid's:`);
+  return excerptOf(file, marks,
+    `Entity ${entity} is of another type, or another form, than a solid's:`);
 }
 
 /** A fault in plain words. */
@@ -98,9 +105,11 @@ function meaningOf({ told }, rule) {
     const along = Number(told.along), against = Number(told.against);
     if (along + against === 1) return "one face alone uses it: an open edge";
     if (along + against === 2) return "both faces run along it in the same direction";
-    return along === against ? "bodies or parts of one touch along it" : "a face too many meets here";
+    return along === against ? "bodies or parts of one touch along it"
+      : "a face too many meets here";
   }
-  if (rule === "REACH") return told.part === "1" ? "the first part" : "shares no edge with the parts before";
+  if (rule === "REACH")
+    return told.part === "1" ? "the first part" : "shares no edge with the parts before";
   return {
     JOIN: "the loop is broken here", LINK: "fans of faces meet at this point only",
     APART: "shells share this point",
@@ -112,7 +121,8 @@ function faultOf(number, item, marked, rule, picture, answer) {
   const nothing = { edges: [], vertices: [], faces: [], arrows: [], spokes: [], groups: [] };
   const { edges, vertices, faces, arrows, spokes, groups } = marked || nothing;
   const facts = item.facts.slice(0, MOST_FACTS).map(({ text }, k) => [text, groups[k] ?? -1]);
-  if (item.facts.length > MOST_FACTS) facts.push([`.. and ${item.facts.length - MOST_FACTS} lines more`, -1]);
+  if (item.facts.length > MOST_FACTS)
+    facts.push([`.. and ${item.facts.length - MOST_FACTS} lines more`, -1]);
   const shown = new Map(faces.map(it => [it.join(), it]));
   const told = [...shown.values()].map(([face, group]) => [picture.faces.get(face), group]);
   for (const [face] of told) face.facts = face.facts || factsOf(answer, face.entity);
@@ -140,7 +150,8 @@ function ruleOf(rule, first, picture, answer) {
 function fewLines(text) {
   const lines = text.split("\n");
   if (lines.length <= MOST_LINES) return text;
-  return [...lines.slice(0, MOST_LINES), `.. and ${lines.length - MOST_LINES} lines more`].join("\n");
+  return [...lines.slice(0, MOST_LINES), `.. and ${lines.length - MOST_LINES} lines more`]
+    .join("\n");
 }
 
 /** The rules with their faults, numbered through. */

@@ -1,4 +1,6 @@
-/** The side of the page: text is only ever set as text, so nothing of the file is taken for markup. */
+/**
+ * The side of the page: text is only ever set as text, so nothing of the file is taken for markup.
+ */
 import { colourOf } from "./colours.js";
 
 export const find = id => document.getElementById(id);
@@ -19,7 +21,8 @@ function swatch(group) {
 
 /** The colours of the swatches again, when those of the picture changed. */
 export function recolour() {
-  for (const it of document.querySelectorAll(".swatch")) it.style.background = colourOf(Number(it.dataset.group));
+  for (const it of document.querySelectorAll(".swatch"))
+    it.style.background = colourOf(Number(it.dataset.group));
 }
 
 /** The paragraph of a fault. */
@@ -35,7 +38,8 @@ function faultBox(fault, choose) {
     facts.append(`${text}\n`);
   }
   for (const face of new Set(fault.faces.map(it => it[0]))) {
-    if (face.facts.length) facts.append(make("span", "about", `face ${face.entity}: ${face.facts.join(", ")}\n`));
+    if (face.facts.length)
+      facts.append(make("span", "about", `face ${face.entity}: ${face.facts.join(", ")}\n`));
   }
   box.append(button, facts);
   Object.assign(fault, { box, button });
@@ -46,7 +50,8 @@ function hintBox(hint, choose) {
   const box = make("div", "hint"), told = hint.isTold ? "" : " (a hint, not proved)";
   box.append(make("code", "", hint.head + told), hint.sentence);
   if (hint.faces.length) {
-    const shown = { ...hint, facts: [], edges: [], vertices: [], arrows: [], spokes: [], rule: "", number: 0 };
+    const shown =
+      { ...hint, facts: [], edges: [], vertices: [], arrows: [], spokes: [], rule: "", number: 0 };
     const button = make("button", "", "Show these faces");
     button.onclick = () => choose(shown);
     box.append(make("br"), button);
@@ -59,7 +64,9 @@ function addRule(rule, choose) {
   if (rule.head) rules.append(make("h2", "rule", rule.head));
   rules.append(make("div", "sentence", rule.sentence));
   for (const fault of rule.faults) rules.append(faultBox(fault, choose));
-  if (rule.more) rules.append(make("div", "more", `and ${rule.more} more: "igesolid where FILE N all" lists them`));
+  if (rule.more)
+    rules.append(make("div", "more",
+    `and ${rule.more} more: "igesolid where FILE N all" lists them`));
 }
 
 export const addNote = text => find("notes").append(make("div", "note", text));
@@ -75,7 +82,8 @@ export function fillSide(scene, choose) {
   for (const { text, faults } of scene.shells.slice(0, 20)) {
     find("shells").append(make("li", "", text + (faults ? `; faults: ${faults}` : "")));
   }
-  if (scene.shells.length > 20) find("shells").append(make("li", "", `and ${scene.shells.length - 20} shells more`));
+  if (scene.shells.length > 20)
+    find("shells").append(make("li", "", `and ${scene.shells.length - 20} shells more`));
   scene.notes.forEach(addNote);
   for (const hint of scene.hints) find("hints").append(hintBox(hint, choose));
   for (const rule of scene.rules) addRule(rule, choose);
@@ -109,5 +117,6 @@ export function fillExcerpt(excerpt) {
   });
   box.append(text);
   const mark = text.querySelector("mark");
-  if (mark && mark.offsetWidth < text.clientWidth) mark.scrollIntoView({ block: "nearest", inline: "nearest" });
+  if (mark && mark.offsetWidth < text.clientWidth)
+    mark.scrollIntoView({ block: "nearest", inline: "nearest" });
 }

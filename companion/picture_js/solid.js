@@ -12,7 +12,8 @@ import { integer, Unreadable } from "./records.js";
 /** Pairs of a pointer and a flag. */
 function pairs(values) {
   const found = [];
-  for (let k = 0; k + 1 < values.length; k += 2) found.push([integer(values[k]), integer(values[k + 1])]);
+  for (let k = 0; k + 1 < values.length; k += 2)
+    found.push([integer(values[k]), integer(values[k + 1])]);
   return found;
 }
 
@@ -86,7 +87,8 @@ export class Solid {
       return { edge: -1, along, start: vertex, end: vertex };
     }
     const number = this.edge(list, index), { start, end } = this.edges[number];
-    return along ? { edge: number, along, start, end } : { edge: number, along, start: end, end: start };
+    return along ? { edge: number, along, start, end }
+      : { edge: number, along, start: end, end: start };
   }
 
   /** The number of an edge, which is met here for the first time or again. */

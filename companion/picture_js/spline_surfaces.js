@@ -1,6 +1,6 @@
 /**
- * Parametric spline surfaces (114), rational B-spline surfaces (128) and offset surfaces (140): IGES
- * 5.3, sections 4.15, 4.24 and 4.33.
+ * Parametric spline surfaces (114), rational B-spline surfaces (128) and offset surfaces (140):
+ * IGES 5.3, sections 4.15, 4.24 and 4.33.
  */
 import { placeIn } from "./curves.js";
 import { numericSurface } from "./numeric_surfaces.js";
@@ -45,7 +45,8 @@ function polesOf(numbers, count) {
 export function bSplineSurface({ values }) {
   const [lastU, lastV, degreeU, degreeV] = values.slice(0, 4).map(integer);
   const count = (lastU + 1) * (lastV + 1);
-  if (!(degreeU >= 1 && degreeV >= 1 && degreeU <= lastU && degreeV <= lastV && count <= MOST_POLES)) {
+  if (!(degreeU >= 1 && degreeV >= 1 && degreeU <= lastU && degreeV <= lastV
+    && count <= MOST_POLES)) {
     throw new Unreadable("the record of a surface of type 128");
   }
   const knotsU = lastU + degreeU + 2, knotsV = lastV + degreeV + 2;
@@ -81,7 +82,8 @@ export function normalAt(surface, u, v) {
 
 /** A surface beside another, on the side of an indicator (at the middle of its parameters). */
 export function offsetOf(base, indicator, far) {
-  const middle = base.ranges.map(([low, high]) => (Number.isFinite(high - low) ? (low + high) / 2 : 0));
+  const middle =
+    base.ranges.map(([low, high]) => (Number.isFinite(high - low) ? (low + high) / 2 : 0));
   const normal = normalAt(base, ...middle) || [0, 0, 0];
   const signed = dot(normal, indicator) < 0 ? -far : far;
   const beside = (u, v) => {
@@ -91,10 +93,13 @@ export function offsetOf(base, indicator, far) {
     return plus(base.at(u, v), scaled(way, signed));
   };
   if (base.isFlat) {
-    return { ...base, at: beside, locate: point => base.locate(minus(point, scaled(normal, signed))) };
+    return { ...base, at: beside, locate: point =>
+      base.locate(minus(point, scaled(normal, signed))) };
   }
   if (!base.ranges.flat().every(Number.isFinite)) {
-    const poles = base.poles.map(it => ({ ...it, point: beside(...(it.axis ? [0, it.value] : [it.value, 0])) }));
+    const poles =
+      base.poles.map(it =>
+      ({ ...it, point: beside(...(it.axis ? [0, it.value] : [it.value, 0])) }));
     return { ...base, at: beside, poles };
   }
   return numericSurface(beside, ...base.ranges);

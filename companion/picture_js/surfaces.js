@@ -13,8 +13,8 @@ import { offsetOf, bSplineSurface, parametricSplineSurface } from "./spline_surf
 import { across, between, cross, dot, minus, plus, scaled, unit } from "./vectors.js";
 
 /**
- * A surface: the point of two parameters, and the parameters of a point near one before. A period is
- * 0 where there is none. At a pole all points of one parameter are one: axis 1 is the second.
+ * A surface: the point of two parameters, and the parameters of a point near one before. A period
+ * is 0 where there is none. At a pole all points of one parameter are one: axis 1 is the second.
  * @typedef {{
  *   at: function(number, number): number[],
  *   locate: function(number[], number[]=): number[],
@@ -37,7 +37,9 @@ const inFrame = (origin, axes, point) => axes.map(axis => dot(minus(point, origi
 const outOfFrame = (origin, [x, y, z], [a, b, c]) =>
   origin.map((it, k) => it + a * x[k] + b * y[k] + c * z[k]);
 
-/** The frame of an origin, an axis and a direction that records name; the latter may be left out. */
+/**
+ * The frame of an origin, an axis and a direction that records name; the latter may be left out.
+ */
 function frameOf(file, location, axis, reference) {
   const z = axis ? tripleOf(file, axis) : [0, 0, 1];
   const x = reference && integer(reference) ? tripleOf(file, reference) : across(unit(z));
@@ -87,7 +89,9 @@ function cylinder({ file, values }) {
   return turnedSurface(frame, v => [radius, v], (_, z) => z, {});
 }
 
-/** The second parameter is the height; the radius is 0 at the apex, and beyond it the cone goes on. */
+/**
+ * The second parameter is the height; the radius is 0 at the apex, and beyond it the cone goes on.
+ */
 function cone({ file, values }) {
   const radius = real(values[2]), slope = Math.tan((real(values[3]) * Math.PI) / 180);
   const frame = frameOf(file, values[0], values[1], values[4]);
@@ -103,7 +107,8 @@ function sphere({ file, values }) {
 }
 
 function torus({ file, values }) {
-  const [major, minor] = reals(values, 2, 4), frame = frameOf(file, values[0], values[1], values[4]);
+  const [major, minor] = reals(values, 2, 4);
+  const frame = frameOf(file, values[0], values[1], values[4]);
   const profile = v => [major + minor * Math.cos(v), minor * Math.sin(v)];
   const back = (r, z) => {
     const angle = Math.atan2(z, r - major);

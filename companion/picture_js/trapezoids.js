@@ -1,7 +1,7 @@
 /**
  * A region cut into trapezoids by a line that sweeps over it: between two values of the second
- * parameter each lies between two sides of the region's paths. The time is n log n and the number of
- * sides the line meets for each of its stops.
+ * parameter each lies between two sides of the region's paths. The time is n log n and the number
+ * of sides the line meets for each of its stops.
  */
 
 /** @typedef {{low: number, high: number, left: Line, right: Line}} Trapezoid */
@@ -56,7 +56,8 @@ function pairUp(met, y, end) {
     if (left.mate === right) continue;
     end(left, y);
     if (right.mate) end(right, y);
-    for (const other of [left, right]) if (other.owner && other.owner.mate === other) end(other.owner, y);
+    for (const other of [left, right])
+      if (other.owner && other.owner.mate === other) end(other.owner, y);
     [left.mate, left.since, right.owner] = [right, y, left];
   }
 }
@@ -66,7 +67,8 @@ export function trapezoidsOf(paths) {
   const lines = linesOf(paths), found = [];
   const stops = [...new Set(lines.flatMap(it => [it.low, it.high]))].sort((a, b) => a - b);
   const end = (left, y) => {
-    if (left.mate && y > left.since) found.push({ low: left.since, high: y, left, right: left.mate });
+    if (left.mate && y > left.since)
+      found.push({ low: left.since, high: y, left, right: left.mate });
     left.mate = null;
   };
   let met = [], place = 0;

@@ -12,7 +12,9 @@ import { distance } from "./vectors.js";
  */
 /** @typedef {[number, number][]} Path */
 
-/** The points of a loop in order, each with the pole it stands on; a turn leads back on its edge. */
+/**
+ * The points of a loop in order, each with the pole it stands on; a turn leads back on its edge.
+ */
 function entriesOf(surface, sides, size) {
   const entries = [], near = 1e-6 * size;
   let before = sides.findLast(it => it.edge >= 0);
@@ -48,7 +50,8 @@ function unrolled(surface, entries, firstSign) {
     }
     let next = nearest(surface.locate(entry.point, last), last, periods);
     if (pole) {
-      const free = 1 - pole.axis, corner = from => from.map((it, k) => (k === free ? it : pole.value));
+      const free = 1 - pole.axis;
+      const corner = from => from.map((it, k) => (k === free ? it : pole.value));
       path.push(corner(last));
       if (isTurn && periods[free]) {
         next = next.map((it, axis) => (axis === free ? it + sign * periods[free] : it));
@@ -61,7 +64,8 @@ function unrolled(surface, entries, firstSign) {
     last = next;
   }
   const end = path.pop();
-  return { path, round: start.map((it, k) => (periods[k] ? Math.round((end[k] - it) / periods[k]) : 0)) };
+  return { path,
+    round: start.map((it, k) => (periods[k] ? Math.round((end[k] - it) / periods[k]) : 0)) };
 }
 
 function pathOf(surface, sides, size) {
@@ -95,7 +99,8 @@ function spanOfPath(path, axis) {
   return [low, high];
 }
 
-const shifted = (path, axis, by) => path.map(it => it.map((value, k) => (k === axis ? value + by : value)));
+const shifted = (path, axis, by) =>
+  path.map(it => it.map((value, k) => (k === axis ? value + by : value)));
 
 /** A path that leads round, begun at another of its points. */
 function begunAt(path, place, axis, by) {
@@ -129,7 +134,8 @@ function alongPole(surface, path, axis, round, period) {
 function joined(one, other, axis, period) {
   const first = one.path[0], round = one.round[axis] * period;
   const oneEnd = first.map((it, k) => (k === axis ? it + round : it));
-  const way = other.round[axis] * one.round[axis] > 0 ? other.path : reversedRound(other, axis, period);
+  const way = other.round[axis] * one.round[axis] > 0 ? other.path
+    : reversedRound(other, axis, period);
   const aimed = way.map(it => Math.abs(wrapped(it[axis] - first[axis], period)));
   const place = aimed.indexOf(Math.min(...aimed)), begun = begunAt(way, place, axis, round);
   const by = period * Math.round((first[axis] - begun[0][axis]) / period);
@@ -235,13 +241,15 @@ export function crossings(region, axis, value) {
     }
   }
   found.sort((a, b) => a - b);
-  return found.slice(0, found.length - 1).map((it, k) => [it, found[k + 1]]).filter((_, k) => k % 2 === 0);
+  return found.slice(0, found.length - 1).map((it, k) => [it, found[k + 1]])
+    .filter((_, k) => k % 2 === 0);
 }
 
 /** The ranges of both parameters in a region. */
 export function boxOf(region) {
   return [0, 1].map(axis => {
     const spans = region.map(path => spanOfPath(path, axis));
-    return [spans.reduce((a, it) => Math.min(a, it[0]), Infinity), spans.reduce((a, it) => Math.max(a, it[1]), -Infinity)];
+    return [spans.reduce((a, it) => Math.min(a, it[0]), Infinity),
+      spans.reduce((a, it) => Math.max(a, it[1]), -Infinity)];
   });
 }

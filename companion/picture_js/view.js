@@ -23,20 +23,32 @@ export class View {
   /** @param {{lines: HTMLCanvasElement, over: HTMLCanvasElement}} canvases */
   constructor(scene, faults, canvases, hooks) {
     const { picture } = scene;
-    Object.assign(this, { scene, picture, faults, hooks, chosen: null, flight: null, isPart: false });
-    Object.assign(this, { unfilled: [], labels: [], fine: new Map(), curved: [], isolines: [], later: 0 });
-    Object.assign(this, { isWhole: false, shownAt: 0, onlyFaults: false, withLabels: true, frames: 0 });
+    Object.assign(this,
+      { scene, picture, faults, hooks, chosen: null, flight: null, isPart: false });
+    Object.assign(this,
+      { unfilled: [], labels: [], fine: new Map(), curved: [], isolines: [], later: 0 });
+    Object.assign(this,
+      { isWhole: false, shownAt: 0, onlyFaults: false, withLabels: true, frames: 0 });
     this.over = canvases.over;
     this.pen = this.over.getContext("2d");
     this.camera = new Camera(picture.size);
     this.overlay = new Overlay(this.pen, this);
-    this.painter = (canvases.lines && WebglLines.on(canvases.lines)) || new CanvasLines(this.pen);
+    const { lines } = canvases, onLost = () => this.paintOnCanvas();
+    this.painter = (lines && WebglLines.on(lines, onLost)) || new CanvasLines(this.pen);
     this.canvases = canvases;
     this.atEdges = new Set(picture.solid.edges.flatMap(it => [it.start, it.end]));
     this.lone = picture.points.map((_, vertex) => vertex).filter(it => !this.atEdges.has(it));
     this.setEdges();
     this.work = this.curvedWork();
     this.workOn(Infinity, AT_ONCE);
+  }
+
+  /** Goes on without WebGL, which a browser may end. */
+  paintOnCanvas() {
+    this.painter = new CanvasLines(this.pen);
+    this.setEdges();
+    this.painter.setLines("isolines", new Lines(this.isolines));
+    this.draw();
   }
 
   /** The points of an edge, finer where the view is near it. */
@@ -82,7 +94,8 @@ export class View {
     const isDue = this.isWhole || performance.now() > this.shownAt + BETWEEN;
     if (isDue) this.painter.setLines("isolines", new Lines(this.isolines));
     if (this.isWhole) this.hooks.told(this.facesNote());
-    else setTimeout(() => this.workOn(SLICE, Infinity), 0);
+    clearTimeout(this.working);
+    if (!this.isWhole) this.working = setTimeout(() => this.workOn(SLICE, Infinity), 0);
     if (isDue && this.frames) this.draw();
     if (isDue) this.shownAt = performance.now();
   }
@@ -108,7 +121,8 @@ export class View {
   /** Points of edges that are near enough to their curves for the present scale. */
   refine() {
     const tolerance = 0.3 / this.camera.scale, { picture } = this;
-    if (tolerance > picture.tolerance / 2 || tolerance > (this.refined || Infinity) / 2) return false;
+    if (tolerance > picture.tolerance / 2 || tolerance > (this.refined || Infinity) / 2)
+      return false;
     const seen = picture.edges.map((_, edge) => edge)
       .filter(edge => picture.edges[edge].length > 2 && this.overlay.isInView(edge));
     if (!seen.length || seen.length > MOST_REFINED) return false;
@@ -123,7 +137,8 @@ export class View {
   everything() {
     const { picture } = this, found = picture.points.filter(Boolean), { low, high } = picture.box;
     if (this.edgeLines.pointCount + found.length > MOST_FITTED || this.curved.length) {
-      return [0, 1, 2, 3, 4, 5, 6, 7].map(k => [0, 1, 2].map(axis => ((k >> axis) & 1 ? high : low)[axis]));
+      return [0, 1, 2, 3, 4, 5, 6, 7]
+        .map(k => [0, 1, 2].map(axis => ((k >> axis) & 1 ? high : low)[axis]));
     }
     return [...found, ...picture.edges.flat()];
   }
@@ -141,7 +156,8 @@ export class View {
       return;
     }
     const { centre, scale } = camera;
-    this.flight = { centre, scale, turn: camera.turn, middle, fitting, aim: turn, begun: performance.now() };
+    this.flight =
+      { centre, scale, turn: camera.turn, middle, fitting, aim: turn, begun: performance.now() };
     requestAnimationFrame(now => this.fly(now));
   }
 
@@ -151,9 +167,11 @@ export class View {
     const k = Math.max(0, Math.min(1, (now - f.begun) / 350)), eased = k * k * (3 - 2 * k);
     camera.scale = f.scale * (f.fitting / f.scale) ** eased;
     const isLevel = Math.abs(f.fitting / f.scale - 1) < 0.01;
-    const moved = isLevel ? eased : (1 / camera.scale - 1 / f.scale) / (1 / f.fitting - 1 / f.scale);
+    const moved = isLevel ? eased
+      : (1 / camera.scale - 1 / f.scale) / (1 / f.fitting - 1 / f.scale);
     camera.centre = f.centre.map((it, axis) => it + (f.middle[axis] - it) * moved);
-    if (f.aim) camera.turn = straightened(f.turn.map((it, place) => it + (f.aim[place] - it) * eased));
+    if (f.aim) camera.turn =
+      straightened(f.turn.map((it, place) => it + (f.aim[place] - it) * eased));
     if (k === 1) {
       Object.assign(camera, { centre: f.middle, scale: f.fitting, turn: f.aim || camera.turn });
       this.flight = null;
@@ -177,7 +195,8 @@ export class View {
     this.chosen = fault;
     this.hooks.chosen(fault);
     const core = fault ? this.coreOf(fault) : [];
-    const boxes = fault ? fault.faces.map(it => this.picture.boxOf(it[0])).filter(it => !it.isEmpty) : [];
+    const boxes = fault ? fault.faces.map(it => this.picture.boxOf(it[0]))
+      .filter(it => !it.isEmpty) : [];
     const all = [...core, ...boxes.flatMap(it => [it.low, it.high])];
     if (!goes || !all.length) {
       this.draw();
@@ -189,14 +208,17 @@ export class View {
     this.go(fitting > 1.3 * wide ? nearMiddle : wideMiddle, fitting, turn, atOnce);
   }
 
-  /** The turn as it is, or, if a face of the fault would be seen on edge, one with which none is. */
+  /**
+   * The turn as it is, or, if a face of the fault would be seen on edge, one with which none is.
+   */
   facing(fault) {
     const normals = fault.faces.slice(0, 6).map(it => this.normalOf(it[0])).filter(Boolean);
     const openness = turn => Math.min(1, ...normals.map(it => Math.abs(dot(turn.slice(6), it))));
     if (openness(this.camera.turn) >= 0.2) return this.camera.turn;
     const turns = [-57, -20, 33, 70, 123, 160, 213, 250]
       .flatMap(around => [23, 50, -23].map(up => straightened(looking(around, up))));
-    return turns.reduce((best, it) => (openness(it) > openness(best) + 0.05 ? it : best), this.camera.turn);
+    return turns.reduce((best, it) => (openness(it) > openness(best) + 0.05 ? it : best),
+      this.camera.turn);
   }
 
   /** The normal of a flat face. */
@@ -233,19 +255,22 @@ export class View {
     const strength = this.onlyFaults ? 0.12 : chosen ? 0.55 : 1;
     if (this.curved.length) painter.setLines("silhouettes", this.silhouettes());
     const drawn = [
-      painter.draw("isolines", inner, far, 0.6 * strength), painter.draw("silhouettes", near, far, strength),
+      painter.draw("isolines", inner, far, 0.6 * strength),
+        painter.draw("silhouettes", near, far, strength),
       painter.draw("edges", near, far, strength),
     ];
     this.isPart = drawn.includes(false);
     pen.globalAlpha = strength;
-    overlay.stroke([...this.picture.chords].filter(it => !this.picture.redEdges.has(it)), colours().chord, 1.2, [5, 4]);
+    overlay.stroke([...this.picture.chords].filter(it => !this.picture.redEdges.has(it)), colours()
+      .chord, 1.2, [5, 4]);
     pen.globalAlpha = 1;
     this.drawFaults();
     this.drawLabels();
     overlay.drawAxes();
     overlay.drawScale(this.scene.unit);
     this.hooks.drawn(this.notice());
-    if (!this.flight) this.later = setTimeout(() => this.refine() && this.draw(), isMoving ? 150 : 0);
+    if (!this.flight)
+      this.later = setTimeout(() => this.refine() && this.draw(), isMoving ? 150 : 0);
   }
 
   drawFaults() {
@@ -253,7 +278,8 @@ export class View {
     if (chosen) chosen.faces.forEach(([face, group]) => overlay.drawFace(face, group));
     this.lone.slice(0, MOST_DOTS).forEach(it => overlay.dot(it, 3, colours().chord));
     overlay.strokeRed(chosen ? 0.45 : 1);
-    if (picture.redVertices.size < MOST_DOTS) picture.redVertices.forEach(it => overlay.dot(it, 5, colours().red));
+    if (picture.redVertices.size < MOST_DOTS)
+      picture.redVertices.forEach(it => overlay.dot(it, 5, colours().red));
     if (chosen) overlay.drawChosen(chosen);
   }
 
@@ -273,14 +299,17 @@ export class View {
     this.lostLabels = 0;
     if (!this.withLabels) return;
     if (chosen) this.labelChosen(labels);
-    else if (picture.redEdges.size <= MOST_LABELS) picture.redEdges.forEach(it => labels.coverLine(this.overlay.placesOf(it)));
+    else if (picture.redEdges.size <= MOST_LABELS) picture.redEdges.forEach(it =>
+      labels.coverLine(this.overlay.placesOf(it)));
     const isShort = chosen || faults.length > MOST_HEADS;
     for (const fault of faults) {
       const spot = fault === chosen ? null : this.spotOf(fault), at = spot && camera.project(spot);
-      if (!at || at[0] < -20 || at[1] < -20 || at[0] > camera.width + 20 || at[1] > camera.height + 20) continue;
+      if (!at || at[0] < -20 || at[1] < -20 || at[0] > camera.width + 20 || at[1] > camera.height
+        + 20) continue;
       const text = isShort ? String(fault.number) : `${fault.number}  ${shortHead(fault)}`;
       if (labels.placed.length >= MOST_LABELS) labels.lost++;
-      else labels.add(at, text, chosen ? colours().paleRed : colours().red, this.awayFrom(at, fault), fault);
+      else labels.add(at, text, chosen ? colours().paleRed : colours().red,
+        this.awayFrom(at, fault), fault);
     }
     this.lostLabels = labels.lost;
   }
@@ -294,12 +323,14 @@ export class View {
     }
     if (spot && chosen.number) {
       const at = camera.project(spot);
-      labels.add(at, `${chosen.number}  ${shortHead(chosen)}`, colours().red, this.awayFrom(at, chosen), chosen);
+      labels.add(at, `${chosen.number}  ${shortHead(chosen)}`, colours().red,
+        this.awayFrom(at, chosen), chosen);
     }
     const shown = chosen.faces.slice(0, chosen.rule === "REACH" ? 3 : 12);
     for (const [face, group] of shown) {
       const inside = this.picture.insideOf(face), more = word ? ` ${word} ${group + 1}` : "";
-      if (inside) labels.add(camera.project(inside), `face ${face.entity}${more}`, colourOf(group), null, null);
+      if (inside) labels.add(camera.project(inside), `face ${face.entity}${more}`, colourOf(group),
+        null, null);
     }
   }
 
@@ -313,8 +344,10 @@ export class View {
 
   /** The way out of the solid, or of the one or two faces there, on the screen. */
   awayFrom(at, fault) {
-    const few = fault.faces.length < 3 ? fault.faces.map(it => this.picture.insideOf(it[0])).filter(Boolean) : [];
-    const middle = few.length ? few.reduce(plus).map(it => it / few.length) : this.picture.box.middle;
+    const few = fault.faces.length < 3 ? fault.faces.map(it => this.picture.insideOf(it[0]))
+      .filter(Boolean) : [];
+    const middle = few.length ? few.reduce(plus).map(it => it / few.length)
+      : this.picture.box.middle;
     const inside = this.camera.project(middle), way = [at[0] - inside[0], at[1] - inside[1]];
     return Math.hypot(...way) < 4 ? [0.7, -0.7] : way;
   }
@@ -339,13 +372,15 @@ export class View {
   }
 
   faultAt(hit) {
-    const isThere = it => ("vertex" in hit ? it.vertices.includes(hit.vertex) : it.edges.includes(hit.edge));
+    const isThere = it =>
+      ("vertex" in hit ? it.vertices.includes(hit.vertex) : it.edges.includes(hit.edge));
     return this.faults.find(isThere) || null;
   }
 
   /** Whether the size of the view changed. */
   measure() {
-    const { camera, over, canvases } = this, before = [this.density, camera.width, camera.height].join();
+    const { camera, over, canvases } = this;
+    const before = [this.density, camera.width, camera.height].join();
     this.density = devicePixelRatio || 1;
     [camera.width, camera.height] = [over.clientWidth || 1, over.clientHeight || 1];
     if (before === [this.density, camera.width, camera.height].join()) return false;
@@ -359,7 +394,8 @@ export class View {
 /** The point in the middle of a line through points, by its length. */
 function middleOf(points) {
   const sums = [0];
-  for (let k = 1; k < points.length; k++) sums.push(sums[k - 1] + distance(points[k - 1], points[k]));
+  for (let k = 1; k < points.length; k++)
+    sums.push(sums[k - 1] + distance(points[k - 1], points[k]));
   const half = sums[sums.length - 1] / 2, k = Math.max(1, sums.findIndex(it => it >= half));
   const part = (half - sums[k - 1]) / (sums[k] - sums[k - 1] || 1);
   return points[k - 1].map((it, axis) => it + (points[k][axis] - it) * part);

@@ -9,7 +9,8 @@ varying vec3 colour;
 void main() {
   vec3 p = point - centre;
   float depth = dot(towards, point) / size;
-  gl_Position = vec4(dot(right, p) * scale / half_size.x, dot(up, p) * scale / half_size.y, 0.0, 1.0);
+  gl_Position =
+    vec4(dot(right, p) * scale / half_size.x, dot(up, p) * scale / half_size.y, 0.0, 1.0);
   colour = mix(far, near, clamp(depth + 0.5, 0.0, 1.0));
 }`;
 const FRAGMENT = `
@@ -38,28 +39,26 @@ function piecesOf(lines, isLeftOut) {
   const places = [];
   for (let k = 0; k < lines.count; k++) {
     if (isLeftOut(k)) continue;
-    for (let place = lines.from[k]; place + 1 < lines.from[k + 1]; place++) places.push(place, place + 1);
+    for (let place = lines.from[k]; place + 1 < lines.from[k + 1]; place++)
+      places.push(place, place + 1);
   }
   return Uint32Array.from(places);
 }
 
 export class WebglLines {
-  /** What draws on a canvas, or null where there is no WebGL. */
-  static on(canvas) {
-    const gl = canvas.getContext("webgl", { antialias: true, alpha: true, premultipliedAlpha: true });
+  /** What draws on a canvas, or null where there is no WebGL; and what to do where that ends. */
+  static on(canvas, onLost) {
+    const gl = canvas.getContext("webgl",
+      { antialias: true, alpha: true, premultipliedAlpha: true });
     if (!gl || !gl.getExtension("OES_element_index_uint")) return null;
     const program = programOf(gl);
-    return program ? new WebglLines(canvas, gl, program) : null;
+    return program ? new WebglLines(canvas, gl, program, onLost) : null;
   }
 
-  constructor(canvas, gl, program) {
+  constructor(canvas, gl, program, onLost) {
     Object.assign(this, { canvas, gl, program, kinds: new Map(), isWebgl: true });
     this.places = Object.fromEntries(UNIFORMS.map(it => [it, gl.getUniformLocation(program, it)]));
-    this.isLost = false;
-    canvas.addEventListener("webglcontextlost", event => {
-      event.preventDefault();
-      this.isLost = true;
-    });
+    canvas.addEventListener("webglcontextlost", onLost);
   }
 
   /** How many vertices are in buffers. */

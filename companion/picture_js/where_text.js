@@ -1,10 +1,11 @@
 /**
- * The text of `igesolid where FILE N`: its lines are read into rules, items and facts, and a line of
- * another shape is refused (docs/WHERE.md).
+ * The text of `igesolid where FILE N`: its lines are read into rules, items and facts, and a line
+ * of another shape is refused (docs/WHERE.md).
  */
 
 const N = "(?:0|[1-9][0-9]*)", T = "[a-z0-9-]+", WORD = "\\S+";
-const RECORD_RULES = "ENTRY|TYPE|RECORD|ONCE|INDEX|GEOMETRY", SHELL_RULES = "JOIN|PAIR|REACH|LINK|APART";
+const RECORD_RULES = "ENTRY|TYPE|RECORD|ONCE|INDEX|GEOMETRY";
+const SHELL_RULES = "JOIN|PAIR|REACH|LINK|APART";
 const FORMS_DUE = "solid form 0|shell form 1|(?:face|loop|edge-list|vertex-list) form 0 1";
 const VALUES_DUE = "geometry|pointer|index|flag|type|count|coordinate|count-or-pointer";
 
@@ -17,7 +18,8 @@ const FACE = `face (?<face>${N}) (?<type>${T})`;
 const VERTEX = `(?<list>${N}) (?<index>${N}) (?<at>\\S+ \\S+ \\S+)`;
 const USE = `${FACE} ${named({ loop: N, tuple: N })}`;
 const COUNTS = {
-  entity: N, flag: "[01]", faces: N, edges: N, vertices: N, JOIN: N, PAIR: N, REACH: N, LINK: `${N}|-`,
+  entity: N, flag: "[01]", faces: N, edges: N, vertices: N, JOIN: N, PAIR: N, REACH: N,
+    LINK: `${N}|-`,
   APART: N,
 };
 
@@ -45,7 +47,8 @@ const HEADS = {
 const FACTS = {
   item: `value (?<value>${N}) found (?<found>.*)|due (?:${FORMS_DUE}|${VALUES_DUE})`
     + `|why (?:zero|negative|even|beyond|null)|entry ${N} ${T} form -?${N}|values ${N}`
-    + `|first ${N} item ${N}|list ${N} ${T} items ${N}|in (?:solid ${N}|(?:shell|face|loop) ${N} item ${N})`,
+    + `|first ${N} item ${N}|list ${N} ${T} items ${N}`
+    + `|in (?:solid ${N}|(?:shell|face|loop) ${N} item ${N})`,
   gap: `${FACE}|(?<which>this|next) tuple (?<tuple>${N}) (?:${EDGE} flag (?<flag>[01]) ${CURVE}`
     + `|vertex ${N} ${N})|(?:ends|starts) (?<vertex>${VERTEX})`,
   edge: `${CURVE}|(?:start|end) (?<vertex>${VERTEX})`
@@ -86,11 +89,16 @@ const SENTENCES = ["bad", "hint", "rule"], ITEMS = ["item", "gap", "edge", "part
 export class NotUnderstood extends Error {}
 
 /** @typedef {{text: string, told: Object<string, string>}} Line */
-/** @typedef {Line & {word: string, facts: Line[], sentence: string, items: Line[], more: number}} Paragraph */
+/**
+ * @typedef {Line & {
+ *   word: string, facts: Line[], sentence: string, items: Line[], more: number,
+ * }} Paragraph
+ */
 
 function toldBy(shapes, word, text) {
   const told = Object.hasOwn(shapes, word) ? shapes[word].told(text) : null;
-  if (!told) throw new NotUnderstood(`a line of the text of igesolid-where isn't understood: ${text}`);
+  const said = "a line of the text of igesolid-where isn't understood";
+  if (!told) throw new NotUnderstood(`${said}: ${text}`);
   return told;
 }
 
@@ -134,7 +142,8 @@ export function answerOf(text) {
     throw new NotUnderstood("the text of igesolid-where begins with no verdict");
   }
   const answer = {
-    text, verdict, units: null, shells: null, failing: [], hints: [], rules: [], entities: new Map(),
+    text, verdict, units: null, shells: null, failing: [], hints: [], rules: [],
+      entities: new Map(),
   };
   for (const it of found.slice(1)) take(answer, it);
   const isWhole = answer.rules.length > 0 && answer.rules.every(rule => rule.items.length);

@@ -24,7 +24,8 @@ export function fileOf(records) {
   records.forEach(([kind, form, values, matrix = 0], place) => {
     const words = [kind, ...values].map((it, k) => `${it}${k === values.length ? ";" : ","}`);
     const lines = filled(words), number = 2 * place + 1;
-    directory.push([kind, params.length + 1, 0, 0, 0, 0, matrix, 0].map(column).join("") + "00000000");
+    directory.push([kind, params.length + 1, 0, 0, 0, 0, matrix, 0].map(column).join("")
+      + "00000000");
     directory.push([kind, 0, 0, lines.length, form].map(column).join("").padEnd(72));
     params.push(...lines.map(it => `${it.padEnd(LINE)}${column(number)}`));
   });
@@ -44,7 +45,8 @@ export function faceFile({ vertices, edges, loops, surface, more = [] }) {
   const named = values => values.map(it => (typeof it === "object" ? moreAt + 2 * it.more : it));
   const records = [
     [186, 0, [3, 1, 0]], [514, 1, [1, 9, 1]], [502, 1, [vertices.length, ...vertices.flat()]],
-    [504, 1, [edges.length, ...edges.flatMap(({ start, end }, k) => [curveAt(k), 5, start + 1, 5, end + 1])]],
+    [504, 1, [edges.length,
+      ...edges.flatMap(({ start, end }, k) => [curveAt(k), 5, start + 1, 5, end + 1])]],
     [510, 1, [surfaceAt, loops.length, 1, ...loops.map((_, k) => 11 + 2 * k)]],
     ...loops.map(loop => [508, 1, [loop.length, ...loop.flatMap(([edge, flag]) =>
       (edge < 0 ? [1, 5, flag + 1, 1, 0] : [0, 7, edge + 1, flag, 0]))]]),

@@ -1,7 +1,7 @@
 /**
  * Tests of the picture's geometry, under node: points of curves, areas of faces, drawn vertices
- * beside the coordinates of `where`, the faults and hints of all recorded texts, and geometry that is
- * changed at random. Prints a line for each check: its name, a tab, and whether it holds.
+ * beside the coordinates of `where`, the faults and hints of all recorded texts, and geometry that
+ * is changed at random. Prints a line for each check: its name, a tab, and whether it holds.
  */
 import { readdirSync, readFileSync } from "node:fs";
 import { areas, curves, faults, randomGeometry, vertices } from "./checks.mjs";
