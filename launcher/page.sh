@@ -25,25 +25,26 @@ write_page() {
         answered=$status
         attend print_page "$1" "$2" "$told" 2>/dev/null
         status=$?
-        if [ "$status" -ne 0 ]; then
-            # What can't be read any more wasn't written either.
-            [ -r "$1" ] && status=5 || status=4
-        else
-            status=$answered
-        fi
+        case $status in
+        0) status=$answered ;;
+        4) ;;
+        *) status=5 ;;
+        esac
         ;;
     esac
     remove_copies
     return "$status"
 }
 
-# The page: its parts, and between them FILE's name and N, the text of where, and FILE. Each step ends it where it fails.
+# The page: its parts, and between them FILE's name and N, the text of where, and FILE. Each step ends it where it fails; the status is 4
+# where FILE can't be read any more.
 print_page() {
     sed '/^@WORDS@$/,$d' "$template" &&
         printf '%s\0%s' "${1##*/}" "$2" | base64 &&
         sed '1,/^@WORDS@$/d;/^@WHERE@$/,$d' "$template" &&
         base64 <"$3" &&
         sed '1,/^@WHERE@$/d;/^@FILE@$/,$d' "$template" &&
-        gzip -nc <"$1" | base64 &&
+        { gzip -nc <"$1" || : >"$copies/unread"; } | base64 &&
+        { [ ! -e "$copies/unread" ] || return 4; } &&
         sed '1,/^@FILE@$/d' "$template"
 }

@@ -331,7 +331,7 @@ def of_large_solids(browser, folder):
             calls = browser.run("calls")
             yield f"browser: {name}, {how or 'WebGL'}: what is counted before the first frame: {calls}", is_quiet(browser) and within(calls)
             yield f"browser: {name}, {how or 'WebGL'}: a label in view", browser.run(f"view.labels.length > 0 && {WITHIN}")
-            while not browser.run("view.workOn(2000, Infinity), view.isWhole"):
+            while not browser.run("view.isWhole || (view.workOn(2000, Infinity), view.isWhole)"):
                 pass
             held = browser.run("view.painter.vertexCount + (view.meshPoints || 0)")
             yield f"browser: {name}, {how or 'WebGL'}: {held} vertices are held when all faces are there", browser.run("view.isWhole") and held <= MOST_VERTICES
