@@ -24,6 +24,8 @@ CHANGE = re.compile(r"`([^`]+)` as line (\d+)|no line (\d+)|no `END`")
 VERIFIERS = {"IGESCERT": "verify", "IGESOPEN": "open-verify", "ORIENT": "orient-verify"}
 # The pages with such tables, and how many changes of each are spelled out at least.
 CHANGED = {"docs/CERTIFICATE.md": 14, "docs/OPEN.md": 7, "docs/ORIENT.md": 7}
+# A numbered section of another page.
+SECTION = re.compile(r"\]\((\w+\.md)\), sections? (\d+(?: and \d+)?)")
 # An edition of where's text, with the checksum of the recorded texts.
 EDITION = re.compile(r"(?m)^\| (\d+) \| .* \| `([0-9a-f]{16})` \|$")
 # A crate with its edits in the table of wrong bodies in docs/DECISIONS.md.
@@ -184,6 +186,10 @@ def links(top):
     for name in (*PAGES, *(str(path.relative_to(top)) for path in sorted((top / "docs").glob("*.md")))):
         for target, anchor in sorted(set(re.findall(r"\]\(([^)#:]*)#?([^):]*)\)", (top / name).read_text()))):
             yield f"{name}: a link to {target}#{anchor}", leads(top / name, target, anchor)
+        for target, numbers in SECTION.findall((top / name).read_text()):
+            for number in re.findall(r"\d+", numbers):
+                headings = ((top / name).parent / target).read_text()
+                yield f"{name}: section {number} of {target}", re.search(rf"(?m)^## {number}\. ", headings) is not None
 
 
 def checks(folder, top, program, where, forms):

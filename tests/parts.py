@@ -7,6 +7,7 @@ import browser_tests
 import certificate_tests
 import check_tests
 import compact_tests
+import costs
 import examples
 import extract_tests
 import faults
@@ -105,6 +106,7 @@ PARTS = (
     Part("certificates-held", "certificates of 537 MB for the commands that hold them", of_program(largest_tests.held_certificates), LARGE),
     Part("certificates-passed", "the same for verify, which needs no memory for them", of_program(largest_tests.verified_certificates), LARGE),
     Part("real-solids", "solids that Open CASCADE makes and reads back, by bench/real", real_solids.checks, LARGE),
+    Part("costs", "how the instructions grow on files whose records many solids share, by bench/hostile --check", costs.checks, LARGE),
     Part("protections", "the protections of the program's headers", of_tables(*protections.TABLES)),
     Part("fuzz", "2,000 inputs changed at random, beside the second checker and the baseline", lambda context: fuzz.checks(context, 2_000, 1, 1)),
     Part("fuzz-more", "20,000 others", lambda context: fuzz.checks(context, 20_000, 2, len(os.sched_getaffinity(0))), LARGE),

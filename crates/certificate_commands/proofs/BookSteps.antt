@@ -1,6 +1,7 @@
 -- How the reading of a book goes on from part to part.
 use Rattle.std.proofs.Common.{◌≡◌, ◌∙◌, ℕ, ◌+◌, ◌-◌, ◌≤◌, ◌<◌, List, [], ◌∷◌, ◌++◌, flat_map, take, drop, length, Option, Result, Ok, Err, sym, ap, subst}
 use Rattle.std.proofs.Common.{arith, append_assoc}
+use Rattle.std.specs.Result.{IsErrAnd}
 use Rattle.std.proofs.lemmas.List.{length-append, length-take, length-drop, take_rest, take-append-drop}
 use Rattle.std.specs.Io.KnownBytes.{Consumes, IsAtEnd}
 use Rattle.iges_io.specs.Reading.{TakesAtMost, Told}
@@ -22,13 +23,14 @@ use Rattle.command_replies.specs.declared.answer.Answer.TheVariants.{Done, No, T
 use Rattle.certificate_commands.specs.declared.books.NextSolid.{NextSolid}
 use Rattle.certificate_commands.specs.declared.books.Begun.{Begun}
 use Rattle.command_replies.specs.declared.reply.Stop.{Stop}
+use Rattle.command_replies.specs.declared.reply.Stop.TheVariants.{OutOfMemory}
 use Rattle.command_replies.specs.declared.reply.Reply.{Reply}
 use Rattle.command_replies.specs.Texts.{accepted_line, accepted_lines, illegal_line, solid_fail_text}
 use Rattle.command_replies.specs.Due.{Exactly, Owed, OfText}
 use Rattle.certificate_commands.specs.Due.{OfCertificate, OfUpgrade, OfVerify, upgraded_for}
 use Rattle.certificate_commands.specs.Judging.{HasTooMany, IsChecked, IsDecided, TellsFalse}
 use Rattle.command_replies.specs.Outcome.{ReadsCertificate}
-use Rattle.command_replies.specs.Replies.{IsReply, TakesWithin}
+use Rattle.command_replies.specs.Replies.{CountAfterCall, CountAfterStop, IsReply, TakesWithin}
 use Rattle.certificate_commands.specs.Books.{BeginsPart, GoesOn, HasBegun, IsNextBegun, IsPartLast, IsPlace, held}
 use Rattle.certificate_commands.proofs.BookReads.{between_long}
 use Rattle.certificate_commands.proofs.Judged.{OfYes, accepted_more, too_large_owed}
@@ -287,3 +289,8 @@ takes_on entry left after came now t few h =
       consumes_more entry left after t.0 h.0 t.1 h.1,
       (let n : length (t.0 ++ h.0) ≤ (CERT_LIMIT - came) + PIECE = omega (arith, long, few, k, length-append t.0 h.0) in n),
     )
+
+-- Memory ran out, and no read failed.
+pub count_stands : {T : Type 0} (before now : ℕ) (r : Result T Stop) → IsErrAnd r (λ stop. stop ≡ OutOfMemory) → now ≡ before → CountAfterCall before now r
+count_stands before now (Ok x) is same = absurd is
+count_stands before now (Err stop) is same = subst (CountAfterStop before now) (sym is) same

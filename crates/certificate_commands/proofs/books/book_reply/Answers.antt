@@ -3,7 +3,7 @@ use Rattle.std.proofs.Common.{ap, sym, ◌++◌, List, ℕ}
 use Rattle.iges_io.specs.declared.reading.TheConstants.{PIECE}
 use Rattle.command_replies.specs.Texts.{accepted_line}
 use Rattle.certificate_commands.proofs.Judged.{accepted_more}
-use Rattle.certificate_commands.proofs.BookSteps.{taken_few, taken_more, taken_next, taken_none, takes_on, told_more}
+use Rattle.certificate_commands.proofs.BookSteps.{count_stands, taken_few, taken_more, taken_next, taken_none, takes_on, told_more}
 use Rattle.certificate_commands.proofs.books.book_reply.Goals as goal
 
 pub parts-init : goal.parts-init
@@ -20,6 +20,11 @@ parts-init g c = record {
 pub returns-in_err-next-clause-taken : goal.returns-in_err-next-clause-taken
 returns-in_err-next-clause-taken g c = taken_few _ _ _ c.args.begun.came c.parts.begun.came _ c.parts.invariant.since c.parts.invariant.place.few
     (c.in_err-next.ensures {u = tt}).taken
+
+pub returns-in_err-put_accepted-in-Next-clause-count : goal.returns-in_err-put_accepted-in-Next-clause-count
+returns-in_err-put_accepted-in-Next-clause-count g c =
+    count_stands _ _ c.from_residual-in_err-put_accepted-in-Next.result c.from_residual-in_err-put_accepted-in-Next.ensures.1
+    ((c.in_ok-next.ensures {u = tt}).count ∙ c.parts.invariant.count)
 
 pub returns-in_err-put_accepted-in-Next-clause-taken : goal.returns-in_err-put_accepted-in-Next-clause-taken
 returns-in_err-put_accepted-in-Next-clause-taken g c =
@@ -42,6 +47,11 @@ parts-preserved g c =
       room = (let h : length c.judge_part.new.piece ≡ PIECE = omega arith in h);
       ready = more tt;
     }
+
+pub returns-in_err-put_accepted-in-Last-clause-count : goal.returns-in_err-put_accepted-in-Last-clause-count
+returns-in_err-put_accepted-in-Last-clause-count g c =
+    count_stands _ _ c.from_residual-in_err-put_accepted-in-Last.result c.from_residual-in_err-put_accepted-in-Last.ensures.1
+    ((c.in_ok-next.ensures {u = tt}).count ∙ c.parts.invariant.count)
 
 pub returns-in_err-put_accepted-in-Last-clause-taken : goal.returns-in_err-put_accepted-in-Last-clause-taken
 returns-in_err-put_accepted-in-Last-clause-taken g c =
