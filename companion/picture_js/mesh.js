@@ -77,9 +77,13 @@ export function meshOf(surface, region, tolerance, mostPoints = Infinity) {
 /** The normals of a mesh; at a pole that of a point near by. */
 export function normalsOf(surface, mesh, region) {
   const middle = boxOf(region).map(([low, high]) => (low + high) / 2);
+  // At a pole rounding may turn the normal round, so it isn't asked for there.
+  const isAtPole = at => surface.poles.some(({ axis, value }) =>
+    Math.abs(at[axis] - value) < 1e-9 * (1 + Math.abs(value)));
   return mesh.parameters.map(([u, v]) => {
     const nudged = [u + (middle[0] - u) * 1e-3, v + (middle[1] - v) * 1e-3];
-    return normalAt(surface, u, v) || normalAt(surface, ...nudged) || [0, 0, 0];
+    const own = isAtPole([u, v]) ? null : normalAt(surface, u, v);
+    return own || normalAt(surface, ...nudged) || [0, 0, 0];
   });
 }
 

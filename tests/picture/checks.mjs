@@ -249,6 +249,14 @@ const FACES = [
     more: [...AXES, [192, 1, [more(0), more(1), 1, more(2)]]] }, 6 * TAU],
 ];
 
+/** Whether the normals of a mesh of a sphere lead outwards. */
+function leadOutwards(bytes) {
+  const solid = new Solid(new IgesFile(bytes), 1), picture = new Picture(solid);
+  const mesh = picture.mesh(solid.shells[0].faces[0], Infinity, true);
+  const product = (a, b) => a.reduce((sum, it, axis) => sum + it * (b[axis] + picture.middle[axis]), 0);
+  return mesh.points.every((it, k) => product(mesh.normals[k], it) > 1.99);
+}
+
 /** The area of each shell of a solid, and the reasons of faces without one. */
 export function areasOf(bytes, number) {
   const solid = new Solid(new IgesFile(bytes), number), picture = new Picture(solid);
@@ -269,6 +277,9 @@ export function* areas({ file }) {
     const [found] = areasOf(faceFile({ more: [], ...face, edges }), 1);
     yield [`picture: the area of ${name}: ${found.toFixed(3)} for ${wanted.toFixed(3)}`,
       isNear(found, wanted)];
+  }
+  for (const [name, face] of FACES.filter(it => / of a sphere$/.test(it[0]))) {
+    yield [`picture: the normals of ${name}`, leadOutwards(faceFile({ more: [], ...face }))];
   }
   const known = [
     ["cube", 1, [6]], ["cylinder", 1, [4 * Math.PI]], ["ball", 1, [4 * Math.PI]],
