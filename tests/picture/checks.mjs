@@ -253,7 +253,8 @@ const FACES = [
 function leadOutwards(bytes) {
   const solid = new Solid(new IgesFile(bytes), 1), picture = new Picture(solid);
   const mesh = picture.mesh(solid.shells[0].faces[0], Infinity, true);
-  const product = (a, b) => a.reduce((sum, it, axis) => sum + it * (b[axis] + picture.middle[axis]), 0);
+  const product = (a, b) =>
+    a.reduce((sum, it, axis) => sum + it * (b[axis] + picture.middle[axis]), 0);
   return mesh.points.every((it, k) => product(mesh.normals[k], it) > 1.99);
 }
 
