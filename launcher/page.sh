@@ -27,7 +27,7 @@ write_page() {
         status=$?
         case $status in
         0) status=$answered ;;
-        4) ;;
+        44) status=4 ;;
         *) status=5 ;;
         esac
         ;;
@@ -36,8 +36,8 @@ write_page() {
     return "$status"
 }
 
-# The page: its parts, and between them FILE's name and N, the text of where, and FILE. Each step ends it where it fails; the status is 4
-# where FILE can't be read any more.
+# The page: its parts, and between them FILE's name and N, the text of where, and FILE. Each step ends it where it fails; the status is
+# 44, which no command here has, where FILE can't be read any more.
 print_page() {
     sed '/^@WORDS@$/,$d' "$template" &&
         printf '%s\0%s' "${1##*/}" "$2" | base64 &&
@@ -45,6 +45,6 @@ print_page() {
         base64 <"$3" &&
         sed '1,/^@WHERE@$/d;/^@FILE@$/,$d' "$template" &&
         { gzip -nc <"$1" || : >"$copies/unread"; } | base64 &&
-        { [ ! -e "$copies/unread" ] || return 4; } &&
+        { [ ! -e "$copies/unread" ] || return 44; } &&
         sed '1,/^@FILE@$/d' "$template"
 }

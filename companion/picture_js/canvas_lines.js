@@ -4,7 +4,7 @@
  * left out, then some lines.
  */
 
-const SHADES = 12, MOST_CALLS = 90000;
+const SHADES = 12, MOST_CALLS = 110000;
 /** No path has more points. */
 export const MOST_PATH_POINTS = 8000;
 
@@ -19,25 +19,27 @@ export class Pen {
     Object.assign(this, { context, left: mostCalls, points: 0, isCut: false });
   }
 
-  /** Draws the places from a first to a last one, of two numbers each. */
-  line(places, first, last, isRough) {
-    const { context } = this, step = isRough ? Math.max(1, last - first) : 1;
-    if (this.left < 2) {
+  /** Draws the places from a first to a last one, by so many chords at most. */
+  line(places, first, last, mostChords = Infinity) {
+    const { context } = this, chords = Math.min(mostChords, last - first);
+    if (this.left < chords + 1) {
       this.isCut = true;
       return;
     }
-    if (this.points > MOST_PATH_POINTS - 2) this.restart();
-    context.moveTo(places[2 * first], places[2 * first + 1]);
-    for (let k = first + step; k <= last; k += step) {
+    this.moveTo(places, first);
+    for (let chord = 1; chord <= chords; chord++) {
+      const k = first + Math.round(((last - first) * chord) / chords);
       context.lineTo(places[2 * k], places[2 * k + 1]);
-      if (++this.points >= MOST_PATH_POINTS && k < last) {
-        this.restart();
-        context.moveTo(places[2 * k], places[2 * k + 1]);
-      }
+      if (++this.points >= MOST_PATH_POINTS && chord < chords) this.moveTo(places, k);
     }
-    const count = 1 + Math.ceil((last - first) / step);
-    this.points += 1;
-    this.left -= count;
+    this.left -= chords + 1;
+  }
+
+  /** Begins a line; a path of many points ends before it. */
+  moveTo(places, k) {
+    if (this.points > MOST_PATH_POINTS - 2) this.restart();
+    this.context.moveTo(places[2 * k], places[2 * k + 1]);
+    this.points++;
   }
 
   begin() {
@@ -93,8 +95,10 @@ export class CanvasLines {
     const found = this.kinds.get(kind);
     if (!found || !found.lines.count) return true;
     const { lines, places } = found, { context } = this;
-    const isRough = lines.pointCount > this.left;
+    const isRough = lines.pointCount + lines.count > this.left;
     const step = isRough ? Math.max(1, Math.ceil((2 * lines.count) / this.left)) : 1;
+    const share = (step * this.left) / lines.count;
+    const chords = isRough ? Math.max(1, Math.floor(share) - 1) : Infinity;
     this.camera.projectAll(lines.points, places);
     const pen = new Pen(context, this.left);
     context.globalAlpha = strength;
@@ -103,8 +107,9 @@ export class CanvasLines {
       context.strokeStyle = shadeOf(near, far, k / (SHADES - 1));
       context.lineWidth = 1 + (0.5 * k) / SHADES;
       pen.begin();
-      for (const line of shade)
-        pen.line(places, lines.from[line], lines.from[line + 1] - 1, isRough);
+      for (const line of shade) {
+        pen.line(places, lines.from[line], lines.from[line + 1] - 1, chords);
+      }
       pen.end();
     });
     context.globalAlpha = 1;

@@ -7,12 +7,21 @@ import { colourOf, colours } from "./colours.js";
 import { FONT } from "./labels.js";
 import { cross, minus, plus, scaled, unit } from "./vectors.js";
 
-const MOST_STROKE_CALLS = 30000, MOST_TRIANGLES = 8000, MOST_MESH_POINTS = 200000, HATCH_STEP = 16;
-const MOST_DOTS = 2000;
+/** In each frame: calls for edges, of which failing edges are kept some, and triangles of faces. */
+const MOST_STROKE_CALLS = 45000, RESERVED = 10000, MOST_TRIANGLES = 6000;
+/** Of each curved face, which is filled more coarsely where it would have more. */
+const MOST_OF_CURVED = 2500;
+const MOST_MESH_POINTS = 200000, HATCH_STEP = 16, MOST_DOTS = 2000;
 
 export class Overlay {
   constructor(pen, view) {
     Object.assign(this, { pen, view, hatchings: new Map() });
+    this.begin();
+  }
+
+  /** Begins a frame. */
+  begin() {
+    Object.assign(this, { callsLeft: MOST_STROKE_CALLS, trianglesLeft: MOST_TRIANGLES });
   }
 
   /** The places of an edge's points on the screen, two numbers each. */
@@ -27,20 +36,23 @@ export class Overlay {
   }
 
   /** Strokes edges, as many as a frame may. */
-  stroke(edges, colour, thickness, dash = []) {
+  stroke(edges, colour, thickness, dash = [], reserved = 0) {
     const { pen } = this, shown = edges.filter(it => this.isInView(it));
     if (!shown.length) return;
     pen.strokeStyle = colour;
     pen.lineWidth = thickness;
     pen.setLineDash(dash);
-    const writer = new Pen(pen, MOST_STROKE_CALLS), isRough = shown.length > 2000;
+    const most = Math.max(0, this.callsLeft - reserved), writer = new Pen(pen, most);
+    const isMany = shown.length > 1000, chords = most / shown.length - 1;
+    const mostChords = isMany ? Math.max(1, Math.floor(chords)) : Infinity;
     writer.begin();
     for (const edge of shown) {
       const places = this.placesOf(edge);
-      if (places.length) writer.line(places, 0, places.length / 2 - 1, isRough);
+      if (places.length) writer.line(places, 0, places.length / 2 - 1, mostChords);
     }
     writer.end();
     pen.setLineDash([]);
+    this.callsLeft -= most - writer.left;
     this.view.isPart = this.view.isPart || writer.isCut;
   }
 
@@ -93,7 +105,7 @@ export class Overlay {
 
   /** The triangles of a face in view, six numbers each, all turned the same way. */
   trianglesOf(face) {
-    const fill = this.view.picture.fillOf(face, MOST_MESH_POINTS, MOST_TRIANGLES);
+    const fill = this.view.picture.fillOf(face, MOST_MESH_POINTS, MOST_OF_CURVED);
     if (!fill || fill.isCut) return null;
     const { camera } = this.view, places = fill.points.map(it => camera.project(it));
     const found = [];
@@ -106,8 +118,9 @@ export class Overlay {
       const turn = (b[0] - a[0]) * (c[1] - a[1]) - (b[1] - a[1]) * (c[0] - a[0]);
       if (Math.abs(turn) < 1e-6) continue;
       found.push(turn > 0 ? [...a, ...b, ...c] : [...a, ...c, ...b]);
-      if (found.length > MOST_TRIANGLES) return null;
+      if (found.length > this.trianglesLeft) return null;
     }
+    this.trianglesLeft -= found.length;
     return found;
   }
 
@@ -139,7 +152,7 @@ export class Overlay {
     } else if (!this.view.picture.isBroken(face)) this.view.unfilled.push(face.entity);
     pen.globalAlpha = 0.9;
     const edges = face.loops.flatMap(loop => loop.uses.map(it => it.edge).filter(it => it >= 0));
-    this.stroke([...new Set(edges)], colourOf(group), 1.8);
+    this.stroke([...new Set(edges)], colourOf(group), 1.8, [], RESERVED);
     pen.globalAlpha = 1;
   }
 

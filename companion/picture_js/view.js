@@ -252,6 +252,7 @@ export class View {
     pen.lineJoin = pen.lineCap = "round";
     Object.assign(this, { isPart: false, unfilled: [] });
     painter.begin(camera, this.density);
+    overlay.begin();
     const strength = this.onlyFaults ? 0.12 : chosen ? 0.55 : 1;
     if (this.curved.length) painter.setLines("silhouettes", this.silhouettes());
     const drawn = [
