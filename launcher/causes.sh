@@ -30,7 +30,7 @@ is_number() {
 find_form() {
     while IFS=$tab read -r row _ form _; do
         case $row in
-        command | python)
+        command | python | shell)
             if fits "$form" "$@"; then
                 return 0
             fi

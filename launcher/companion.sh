@@ -7,7 +7,10 @@ perform_in_python() {
     script=$support/companion/$1
     shift
     case $form in
-    *' FILE N') run_on_file "$@" ;;
+    *' FILE N')
+        more copies
+        on_readable run_script "$@"
+        ;;
     *) run_on_words "$@" ;;
     esac
 }
@@ -27,50 +30,4 @@ run_on_words() {
         set -- "--${name#igesolid-}-program" "$program" "$@"
     done
     attend python3 -B "$script" --program "$first" "$@"
-}
-
-# A file that can be read once is copied first, for the program and Python each read it.
-run_on_file() {
-    if [ $# -ne 2 ] || ! is_read_once "$1"; then
-        run_script "$@"
-        return
-    fi
-    more input
-    if [ "$1" = - ] && ! is_open_input; then
-        return 4
-    fi
-    copies=$(mktemp -d) || fail "$1 can't be copied"
-    copy=$copies/${1##*/}
-    [ "$1" != - ] || copy="$copies/standard input"
-    copy_file "$1" >"$copy"
-    status=$?
-    if [ "$status" -eq 0 ]; then
-        run_script "$copy" "$2"
-        status=$?
-    else
-        status=4
-    fi
-    remove_copies
-    return "$status"
-}
-
-is_read_once() {
-    case $1 in
-    - | /dev/stdin | /dev/fd/* | /proc/*/fd/*) return 0 ;;
-    esac
-    [ -p "$1" ] || [ -c "$1" ]
-}
-
-# One byte more than the limit is enough for the program's answer.
-copy_file() {
-    if [ "$1" = - ]; then
-        attend head -c $((file_limit + 1))
-    else
-        attend head -c $((file_limit + 1)) -- "$1"
-    fi 2>/dev/null
-}
-
-remove_copies() {
-    rm -rf "$copies"
-    copies=
 }

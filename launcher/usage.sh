@@ -34,7 +34,7 @@ count_of_inputs() {
 # The words of each form of a command.
 forms_of() {
     WORD=$1 awk -F'\t' '
-        $1 == "command" || $1 == "python" || $1 == "option" {
+        $1 ~ /^(command|python|shell|option)$/ {
             split($3, words, " ")
             if (words[1] == ENVIRON["WORD"]) { printf "%sigesolid %s", separator, $3; separator = ", or " }
         }' "$table"
@@ -61,7 +61,7 @@ nearest_command() {
             if (length(word) < 2 || length(word) > 30) exit
             best = length(word) < 8 ? 3 : 4
         }
-        $1 == "command" || $1 == "python" || $1 == "option" {
+        $1 ~ /^(command|python|shell|option)$/ {
             split($3, words, " ")
             far = index(words[1], word) == 1 ? 0 : distance(word, words[1])
             if (far < best) { best = far; found = words[1] }
@@ -83,7 +83,7 @@ say_unknown() {
 # The form of a command that words come closest to: one of as many words that agree, of as many, of more, of less.
 closest_form() {
     COUNT=$# WORD=$1 LAST=$(for last; do :; done && printf %s "$last") awk -F'\t' '
-        $1 == "command" {
+        $1 ~ /^(command|shell)$/ {
             n = split($3, words, " ")
             if (words[1] != ENVIRON["WORD"]) next
             fit = n == ENVIRON["COUNT"] ? (words[n] == ENVIRON["LAST"] ? 4 : 3) : n > ENVIRON["COUNT"] ? 2 : 1

@@ -1,45 +1,75 @@
-"""Pages in headless Chromium: nothing on the console, nothing asked of the network, labels in view, and clicks and keys that lead to faults."""
+"""Pages in headless Chromium: nothing on the console, nothing asked of the network, labels in view, outlines and faults at the pixels
+where they are due, and clicks, keys and fingers that lead to faults and move the view. The lines are drawn by WebGL, or on a canvas."""
 import math
 import re
 
 import chromium
-from picture_tests import RECORDED, answers, example, iges, page, recorded
+from page_file import page_of
+from picture_tests import RECORDED, example, recorded
 from sample_file import text_of
 
-SIDE = 160
-# How many calls a drawing may take beside one to begin and one to end each edge, and how many lines it may paint one by one.
-MORE_CALLS, MOST_STROKES = 100, 100
+SIDE, HOLES = 160, 20_000
+MOST_CALLS, MOST_POINTS, MOST_VERTICES = 200_000, 10_000, 2_000_000
 CRUEL = "</script><script>document.title = 'x'</script><img src=x onerror=\"document.title='x'\"><b>"
-WITHIN = "labels.every(it => it.x >= 0 && it.y >= 0 && it.x + it.width <= width && it.y + it.height <= height)"
-# Where the button of a fault is, when it was scrolled into view; and how many pixels of the picture are as red as what fails.
+WITHIN = "view.labels.every(it => it.x >= 0 && it.y >= 0 && it.x + it.width <= view.camera.width && it.y + it.height <= view.camera.height)"
+# Where the button of a fault is, when it was scrolled into view.
 BUTTON_AT = """(() => {
-    const button = faults[%d].button;
+    const button = view.faults[%d].button;
     button.scrollIntoView();
     const at = button.getBoundingClientRect();
     return [at.x + 30, at.y + at.height / 2];
 })()"""
-RED_PIXELS = """(() => {
-    const pixels = pen.getImageData(0, 0, canvas.width, canvas.height).data;
-    let count = 0;
-    for (let k = 0; k < pixels.length; k += 4) count += pixels[k] > 180 && pixels[k + 1] < 60 && pixels[k + 2] < 60;
-    return count;
-})()"""
-# Run before a page's own script: counts the calls of each function that draws.
+# Both canvases on top of each other, drawn in this moment, and a search for pixels in it.
+PIXELS = """
+window.pixels = () => {
+    view.draw();
+    const { over, lines } = view.canvases, sheet = document.createElement("canvas");
+    [sheet.width, sheet.height] = [over.width, over.height];
+    const pen = sheet.getContext("2d");
+    if (lines && view.painter.isWebgl) pen.drawImage(lines, 0, 0);
+    pen.drawImage(over, 0, 0);
+    return pen.getImageData(0, 0, sheet.width, sheet.height);
+};
+window.inkAt = (image, x, y, isWanted) => {
+    for (let u = Math.round(x) - 2; u <= x + 2; u++) for (let v = Math.round(y) - 2; v <= y + 2; v++) {
+        const k = 4 * (v * image.width + u);
+        if (isWanted(...image.data.slice(k, k + 4))) return true;
+    }
+    return false;
+};
+window.isInk = (r, g, b, a) => a > 60;
+window.isRed = (r, g, b, a) => a > 100 && r > 150 && g < 110 && b < 110;
+window.view = $page.shown.view;
+"""
+# Run before a page's own script: counts the calls that draw the first frame, the points of the longest path, and the vertices given to WebGL.
 COUNTING = """
-window.calls = {};
-for (const [name, { value }] of Object.entries(Object.getOwnPropertyDescriptors(CanvasRenderingContext2D.prototype))) {
-    if (typeof value === "function") CanvasRenderingContext2D.prototype[name] = function (...words) {
-        calls[name] = (calls[name] || 0) + 1;
-        return value.apply(this, words);
-    };
+window.calls = { frames: 0, all: 0, longest: 0, path: 0, vertices: 0 };
+for (const kind of [CanvasRenderingContext2D, WebGLRenderingContext]) {
+    for (const [name, { value }] of Object.entries(Object.getOwnPropertyDescriptors(kind.prototype))) {
+        if (typeof value === "function") kind.prototype[name] = function (...words) {
+            if (name === "clearRect") calls.frames++;
+            if (calls.frames > 1) return value.apply(this, words);
+            calls.all++;
+            if (name === "beginPath") calls.path = 0;
+            if (name === "lineTo" || name === "moveTo") calls.longest = Math.max(calls.longest, ++calls.path);
+            if (name === "bufferData" && words[1] instanceof Float32Array) calls.vertices += words[1].length / 3;
+            return value.apply(this, words);
+        };
+    }
 }"""
 NO_NETWORK = re.compile(r"(file|data|about):")
 
 
-def written(folder, name, number, text, lines):
+def written(folder, name, number, text, data):
     path = folder / f"{name}.html"
-    path.write_bytes(page.page_of(f"{name}.igs", number, answers.answer_of(text), lines)[0])
+    path.write_bytes(page_of(f"{name}.igs", number, text, data))
     return path
+
+
+def open_page(browser, path, at=""):
+    browser.open(path, at)
+    browser.run("$page.ready.then(() => null)")
+    browser.run(PIXELS + "null")
 
 
 def is_quiet(browser):
@@ -48,72 +78,184 @@ def is_quiet(browser):
 
 def of_recorded(browser, folder):
     """Each page is quiet. Of one with a picture the first fault is labelled at once; a click on each fault's paragraph leads there."""
-    for name, number, text, lines in recorded():
-        browser.open(written(folder, name, number, text, lines))
+    for name, number, text, _ in recorded():
+        open_page(browser, written(folder, name, number, text, example(name).read_bytes()))
         verdict = browser.run("document.getElementById('verdict').textContent")
         yield f"browser: {name} opens", is_quiet(browser) and verdict == text.split("\n")[0]
-        if not browser.run("picture !== null"):
+        if not browser.run("view !== null"):
             yield f"browser: {name} without a picture says so", browser.run("document.getElementById('excerpt').innerText.length > 20")
             continue
-        count = browser.run("faults.length")
-        yield f"browser: {name}: a label in view", count == 0 or browser.run(f"labels.some(it => it.fault > 0) && {WITHIN}")
+        count = browser.run("view.faults.length")
+        yield f"browser: {name}: a label in view", count == 0 or browser.run(f"view.labels.some(it => it.fault > 0) && {WITHIN}")
+        yield f"browser: {name}: a red pixel at each fault", count == 0 or browser.run(FAULTS_SEEN)
         for place in range(count):
             browser.click(*browser.run(BUTTON_AT % place))
-            held = browser.run(f"chosen === faults[{place}] && labels.some(it => it.fault === chosen.number) && {WITHIN}")
-            yield f"browser: {name}: a click on fault {place + 1}", held and browser.run("getComputedStyle(chosen.box.querySelector('pre')).display") == "block"
+            held = browser.run(f"view.unfilled.length === 0 && view.chosen === view.faults[{place}] && view.labels.some(it => it.fault === view.chosen.number) && {WITHIN}")
+            yield f"browser: {name}: a click on fault {place + 1}", held and browser.run("getComputedStyle(view.chosen.box.querySelector('pre')).display") == "block"
         yield f"browser: {name} stays quiet", is_quiet(browser)
+
+
+FAULTS_SEEN = """(() => {
+    view.withLabels = false;
+    const image = pixels();
+    view.withLabels = true;
+    view.draw();
+    return view.faults.every(it => it.rule === "REACH" || inkAt(image, ...view.camera.project(view.spotOf(it)), isRed));
+})()"""
 
 
 def of_pinched_edge(browser, folder):
     """Clicks on the picture, keys and buttons, of a solid with one fault."""
-    text, lines = (RECORDED / "77_pinched_edge.3.txt").read_text(), iges.lines_of(example("77_pinched_edge").read_bytes())
-    path = written(folder, "77_pinched_edge", 3, text, lines)
-    browser.open(path)
-    before = browser.run("scale")
-    x, y = browser.run("(() => { const r = canvas.getBoundingClientRect(), p = project(middleOf(chosen ? 0 : faults[0].edges[0])); return [r.x + p[0], r.y + p[1]]; })()")
+    path = written(folder, "77_pinched_edge", 3, (RECORDED / "77_pinched_edge.3.txt").read_text(), example("77_pinched_edge").read_bytes())
+    open_page(browser, path)
+    before = browser.run("view.camera.scale")
+    x, y = browser.run("(() => { const r = view.over.getBoundingClientRect(), p = view.camera.project(view.spotOf(view.faults[0])); return [r.x + p[0], r.y + p[1]]; })()")
     browser.mouse("mouseMoved", x, y - 30)
     yield "browser: an edge under the mouse", browser.run("document.getElementById('tip').textContent") == "edge 19 15\ncurve 51\nused 4 times"
     browser.click(x, y - 30)
-    yield "browser: a click on a red edge", browser.run("chosen === faults[0] && scale") == before
+    yield "browser: a click on a red edge", browser.run("view.chosen === view.faults[0] && view.camera.scale") == before
+    yield "browser: the chosen fault is told", browser.run("document.getElementById('spoken').textContent") == "Fault 1: edge 19 15 along 2 against 2, bodies or parts of one touch along it"
     browser.key("Escape")
-    yield "browser: Escape", browser.run("chosen === null")
+    yield "browser: Escape", browser.run("view.chosen === null")
     browser.key("ArrowRight")
-    yield "browser: an arrow key leads to a fault", browser.run("chosen === faults[0]") and browser.run("scale") > before
-    turned = browser.run("turn.join()")
+    yield "browser: an arrow key leads to a fault", browser.run("view.chosen === view.faults[0]") and browser.run("view.camera.scale") > before
+    turned = browser.run("view.camera.turn.join()")
     browser.key("ArrowRight", shift=True)
-    yield "browser: shift and an arrow key turn", browser.run("turn.join()") != turned and browser.run("chosen === faults[0]")
-    near = browser.run("scale")
+    yield "browser: shift and an arrow key turn", browser.run("view.camera.turn.join()") != turned and browser.run("view.chosen === view.faults[0]")
+    near, centre = browser.run("[view.camera.scale, view.camera.centre.join()]")
     browser.key("+")
-    yield "browser: a key zooms", browser.run("scale") > near
-    for view in ("x", "y", "z", "iso", "all"):
-        browser.run(f"document.querySelector('[data-do={view}]').click()")
-    browser.run("document.querySelector('[data-do=z]').click(); choose(faults[0], true)")
-    yield "browser: a face that was seen on edge", browser.run("faults[0].faces.every(it => Math.abs(apply(turn, normalOf(picture.faces[it[0]]))[2]) > .2)")
+    yield "browser: a key zooms", browser.run("view.camera.scale") > near
+    browser.key("d")
+    yield "browser: a key moves", browser.run("view.camera.centre.join()") != centre
+    browser.key("l")
+    yield "browser: a key hides labels", browser.run("view.labels.length") == 0
+    browser.key("l")
+    inside = "view.chosen.faces.every(([face]) => view.picture.hasMaterialAt(face, view.picture.insideOf(face)))"
+    yield "browser: labels of faces are in their material", browser.run(inside)
+    browser.run("for (const it of ['x', 'y', 'z', 'iso', 'all']) document.querySelector(`[data-do=${it}]`).click()")
+    browser.run("document.querySelector('[data-do=z]').click(); view.choose(view.faults[0], true)")
+    yield "browser: a face that was seen on edge", browser.run("view.faults[0].faces.every(([it]) => Math.abs(view.normalOf(it).reduce((sum, n, k) => sum + n * view.camera.turn[6 + k], 0)) > .2)")
     browser.run("document.querySelector('[data-do=all]').click(); document.querySelector('[data-do=iso]').click()")
-    yield "browser: the buttons", browser.run("chosen === null") and abs(browser.run("scale") - before) < before / 100
+    yield "browser: the buttons", browser.run("view.chosen === null") and abs(browser.run("view.camera.scale") - before) < before / 100
     for kind, dx in (("mousePressed", 0), ("mouseMoved", 80), ("mouseReleased", 80)):
         browser.mouse(kind, 700 + dx, 300, button="left", buttons=1, clickCount=1)
-    yield "browser: a drag turns", browser.run("turn.join()") != turned
-    browser.run("document.getElementById('labels').click()")
-    yield "browser: without labels", browser.run("labels.length") == 0
-    browser.run("document.getElementById('only').click()")
-    browser.open(path, "#fault=1")
-    yield "browser: a link to a fault", browser.run("chosen === faults[0]") and is_quiet(browser)
-    yield "browser: the failing edge is red", browser.run(RED_PIXELS) > 500
+    yield "browser: a drag turns", browser.run("view.camera.turn.join()") != turned
+    open_page(browser, path, "#fault=1")
+    yield "browser: a link to a fault", browser.run("view.chosen === view.faults[0]") and is_quiet(browser)
+
+
+def of_fingers(browser, folder):
+    """A tap, one finger that turns, two that move and pinch."""
+    open_page(browser, written(folder, "touched", 3, (RECORDED / "77_pinched_edge.3.txt").read_text(), example("77_pinched_edge").read_bytes()))
+
+    def touch(kind, *points):
+        browser.call("Input.dispatchTouchEvent", type=kind, touchPoints=[{"x": x, "y": y, "id": k} for k, (x, y) in enumerate(points)])
+
+    state = "[view.camera.turn.join(), view.camera.centre.join(), view.camera.scale]"
+    before = browser.run(state)
+    touch("touchStart", (700, 300))
+    touch("touchMove", (760, 320))
+    touch("touchEnd")
+    after = browser.run(state)
+    yield "browser: one finger turns", after[0] != before[0] and after[1:] == before[1:]
+    touch("touchStart", (650, 300), (750, 300))
+    touch("touchMove", (690, 340), (790, 340))
+    touch("touchEnd")
+    moved = browser.run(state)
+    yield "browser: two fingers move", moved[0] == after[0] and moved[1] != after[1] and abs(moved[2] / after[2] - 1) < 0.25
+    touch("touchStart", (680, 300), (720, 300))
+    touch("touchMove", (640, 300), (760, 300))
+    touch("touchEnd")
+    pinched = browser.run(state)
+    yield "browser: a pinch zooms", pinched[0] == moved[0] and abs(pinched[2] / moved[2] - 3) < 0.1
+    browser.key("f")
+    browser.key("i")
+    x, y = browser.run("(() => { const r = view.over.getBoundingClientRect(), p = view.camera.project(view.spotOf(view.faults[0])); return [r.x + p[0], r.y + p[1] + 20]; })()")
+    touch("touchStart", (x, y))
+    touch("touchEnd")
+    yield "browser: a tap chooses", browser.run("view.chosen === view.faults[0]") and is_quiet(browser)
+
+
+def of_media(browser, folder):
+    """Dark screens and white paper."""
+    path = written(folder, "dark", 3, (RECORDED / "77_pinched_edge.3.txt").read_text(), example("77_pinched_edge").read_bytes())
+    browser.call("Emulation.setEmulatedMedia", features=[{"name": "prefers-color-scheme", "value": "dark"}, {"name": "prefers-reduced-motion", "value": "reduce"}])
+    open_page(browser, path)
+    light = "Math.min(...getComputedStyle(document.getElementById('side')).backgroundColor.match(/\\d+/g).map(Number))"
+    yield "browser: a dark page", browser.run(light) < 60 and browser.run(FAULTS_SEEN.replace("isRed", "(r, g, b, a) => a > 100 && r > 200 && g < 130"))
+    browser.run("dispatchEvent(new Event('beforeprint'))")
+    browser.call("Emulation.setEmulatedMedia", media="print", features=[{"name": "prefers-color-scheme", "value": "dark"}, {"name": "prefers-reduced-motion", "value": "reduce"}])
+    yield "browser: paper is white", browser.run(light) > 240 and browser.run(FAULTS_SEEN)
+    browser.call("Emulation.setEmulatedMedia", media="", features=[{"name": "prefers-reduced-motion", "value": "reduce"}])
+    yield "browser: it is printed", is_quiet(browser) and len(browser.call("Page.printToPDF")["data"]) > 10_000
+
+
+# The places of a sphere's outline, of the middles of faces' outlines and inner lines, where there has to be ink.
+SPHERE_SEEN = """(() => {
+    const image = pixels(), centre = view.camera.project(%s), radius = %s * view.camera.scale;
+    const places = Array.from({ length: 24 }, (_, k) => [Math.cos(k * Math.PI / 12), Math.sin(k * Math.PI / 12)]);
+    return places.every(([x, y]) => inkAt(image, centre[0] + x * radius, centre[1] + y * radius, isInk));
+})()"""
+FACES_SEEN = """(() => {
+    const image = pixels();
+    return [...view.picture.faces.values()].filter(it => view.picture.isCurved(it)).every(face => {
+        const lines = view.picture.isolines(face, 2);
+        return lines.length > 0 && lines.every(it => inkAt(image, ...view.camera.project(it[it.length >> 1]), isInk));
+    });
+})()"""
+
+
+def of_outlines(browser, folder):
+    """What has no edges is seen: the void in a box, a whole sphere, each fillet of a box."""
+    open_page(browser, written(folder, "lost", 3, "closed 3\nunits 2 MM\nshells 2 failing 0\n", example("14_box_void_sphere").read_bytes()))
+    browser.run("new Promise(done => { view.canvases.lines.addEventListener('webglcontextlost', () => setTimeout(done)); view.painter.gl.getExtension('WEBGL_lose_context').loseContext(); })")
+    yield "browser: a canvas where WebGL was lost", browser.run("view.painter.isWebgl") is False and browser.run(SPHERE_SEEN % ("[0, 0, 0]", "5"))
+    for at in ("", "#canvas"):
+        how = "a canvas" if at else "WebGL"
+        open_page(browser, written(folder, "void", 3, "closed 3\nunits 2 MM\nshells 2 failing 0\n", example("14_box_void_sphere").read_bytes()), at)
+        yield f"browser: the void's outline, by {how}", browser.run(SPHERE_SEEN % ("[0, 0, 0]", "5"))
+        open_page(browser, written(folder, "point", 1, "closed 1\nunits 1 -\nshells 1 failing 0\n", example("point").read_bytes()), at)
+        yield f"browser: a sphere of one pole, by {how}", browser.run(SPHERE_SEEN % ("view.picture.middle.map(it => -it)", "1"))
+        open_page(browser, written(folder, "fillets", 3, "closed 3\nunits 2 MM\nshells 1 failing 0\n", example("12_box_fillet_all").read_bytes()), at)
+        yield f"browser: each fillet, by {how}", browser.run(FACES_SEEN) and is_quiet(browser)
+        open_page(browser, written(folder, "thread", 1, "closed 1\nunits 2 MM\nshells 1 failing 0\n", flank()), at)
+        yield f"browser: the flank of a thread, by {how}", browser.run(FACES_SEEN) and is_quiet(browser)
+        yield f"browser: what draws is {how}", browser.run("view.painter.isWebgl") is (at == "")
+
+
+def flank():
+    """A flank of a thread: two turns of a helix between two radii, as a ruled surface."""
+    helix = lambda radius: [(radius * math.cos(math.tau * k / 120), radius * math.sin(math.tau * k / 120), k / 120) for k in range(241)]
+    inner, outer = helix(1), helix(2)
+    corners = inner[0], inner[-1], outer[-1], outer[0]
+    told = lambda points: [f"{it:.9f}" for point in points for it in point]
+    records = [
+        (186, 0, [3, 1, 0]),
+        (514, 1, [1, 9, 1]),
+        (502, 1, [4, *told(corners)]),
+        (504, 1, [4] + [v for k, (start, end) in enumerate(((1, 2), (2, 3), (4, 3), (4, 1))) for v in (13 + 2 * k, 5, start, 5, end)]),
+        (510, 1, [21, 1, 1, 11]),
+        (508, 1, [4, *(v for k, flag in enumerate((1, 1, 0, 1)) for v in (0, 7, k + 1, flag, 0))]),
+        (106, 12, [2, 241, *told(inner)]),
+        (110, 0, told(corners[1:3])),
+        (106, 12, [2, 241, *told(outer)]),
+        (110, 0, told((corners[3], corners[0]))),
+        (118, 1, [13, 17, 0, 0]),
+    ]
+    return text_of(records)
 
 
 def of_markup(browser, folder):
     """Names that are markup are shown as text."""
     text = (RECORDED / "77_pinched_edge.3.txt").read_text().replace("entity 167 face surface 169 plane-surface", f"entity 167 face surface 169 plane-surface\n  label {CRUEL}")
     path = folder / "cruel.html"
-    path.write_bytes(page.page_of(CRUEL, 3, answers.answer_of(text), iges.lines_of(example("77_pinched_edge").read_bytes()))[0])
-    browser.open(path, "#fault=1")
+    path.write_bytes(page_of(CRUEL, 3, text, example("77_pinched_edge").read_bytes()))
+    open_page(browser, path, "#fault=1")
     yield "browser: markup is text", is_quiet(browser) and browser.run("document.title") == f"fail PAIR 19 15 - {CRUEL}, solid 3"
     yield "browser: markup makes no element", browser.run("document.images.length + document.querySelectorAll('#side script, #side b b').length") == 0
     yield "browser: a face's label is shown", f"label {CRUEL}" in browser.run("document.getElementById('rules').textContent")
     data = example("fail_index").read_bytes().replace(b"1H,,1H;;".ljust(72), b"1H,,1H;; <script>document.title = 1</script>".ljust(72))
-    text = (RECORDED / "fail_index.1.txt").read_text()
-    browser.open(written(folder, "cruel_lines", 1, text, iges.lines_of(data)))
+    open_page(browser, written(folder, "cruel_lines", 1, (RECORDED / "fail_index.1.txt").read_text(), data))
     yield "browser: markup in lines", is_quiet(browser) and browser.run("document.querySelectorAll('#excerpt script').length") == 0
     yield "browser: markup in lines does nothing", browser.run("document.title") == "fail INDEX 7 1 - cruel_lines.igs, solid 1"
 
@@ -128,35 +270,71 @@ def torus(side):
         return [f"{(30 + 10 * math.cos(b)) * math.cos(a):.6f}", f"{(30 + 10 * math.cos(b)) * math.sin(a):.6f}", f"{10 * math.sin(b):.6f}"]
 
     edges = [((i, j), end) for i, j in squares for end in ((i, j + 1), (i + 1, j))]
-    plane = 9 + 2 * len(edges)
+    surface = 9 + 2 * len(edges)
     records = [
         (186, 0, [3, 1, 0]),
-        (514, 1, [len(squares)] + [v for i, j in squares for v in (plane + 2 + 4 * place(i, j), int(i + j > 0))]),
+        (514, 1, [len(squares)] + [v for i, j in squares for v in (surface + 8 + 4 * place(i, j), int(i + j > 0))]),
         (502, 1, [len(squares)] + [v for square in squares for v in point(*square)]),
         (504, 1, [len(edges)] + [v for number, ends in enumerate(edges) for v in (9 + 2 * number, 5, place(*ends[0]) + 1, 5, place(*ends[1]) + 1)]),
         *[(110, 0, point(*start) + point(*end)) for start, end in edges],
-        (108, 0, [0, 0, 1, 0, 0, 0, 0, 0, 0]),
+        (198, 1, [surface + 2, surface + 4, 30, 10, surface + 6]),
+        (116, 0, [0, 0, 0, 0]),
+        (123, 0, [0, 0, 1]),
+        (123, 0, [1, 0, 0]),
     ]
     for i, j in squares:
         uses = [(2 * place(i, j) + 1, 1), (2 * place(i, j + 1) + 2, 1), (2 * place(i + 1, j) + 1, 0), (2 * place(i, j) + 2, 0)]
-        records.append((510, 1, [plane, 1, 1, plane + 4 + 4 * place(i, j)]))
+        records.append((510, 1, [surface, 1, 1, surface + 10 + 4 * place(i, j)]))
         records.append((508, 1, [4] + [v for index, flag in uses for v in (0, 7, index, flag, 0)]))
-    use = f"  along face {plane + 2} plane loop {plane + 4} tuple 1 flags 1 0 1\n"
+    use = f"  along face {surface + 8} torus loop {surface + 10} tuple 1 flags 1 0 1\n"
     items = [f"edge 7 {index} along 2 against 0\n  curve {7 + 2 * index} line\n{use}" for index in (1, 2, 4, 2 * side + 1)]
     counts = f"shell 1 entity 3 flag 1 faces {side * side} edges {2 * side * side} vertices {side * side} JOIN 0 PAIR 4 REACH 0 LINK - APART 0\n"
     return text_of(records), f"fail PAIR 7 1\nunits 2 MM\nshells 1 failing 1\n{counts}\nrule PAIR shell 1 faults 4 once 0 same-way 4 many 0\n  Not paired.\n{''.join(items)}"
 
 
-def of_many_edges(browser, folder):
-    """A page of 51,200 edges is drawn once when it opens, each edge by one line, and its label is in view."""
-    data, text = torus(SIDE)
-    edges = 2 * SIDE * SIDE
+def plate(holes):
+    """A face with so many round holes, alone in its shell, and the text for it: its four sides fail."""
+    side = math.ceil(math.sqrt(holes))
+    centres = [(k % side + 0.5, k // side + 0.5) for k in range(holes)]
+    corners = [(0, 0), (side, 0), (side, side), (0, side)]
+    curve = 11 + 2 * (1 + holes)
+    vertices = [v for x, y in corners for v in (x, y, 0)] + [v for x, y in centres for v in (x + 0.25, y, 0)]
+    edges = [(k + 1, (k + 1) % 4 + 1) for k in range(4)] + [(k + 5, k + 5) for k in range(holes)]
+    records = [
+        (186, 0, [3, 1, 0]),
+        (514, 1, [1, 9, 1]),
+        (502, 1, [4 + holes, *vertices]),
+        (504, 1, [4 + holes] + [v for k, (start, end) in enumerate(edges) for v in (curve + 2 * k, 5, start, 5, end)]),
+        (510, 1, [curve + 2 * len(edges), 1 + holes, 1, *range(11, curve, 2)]),
+        (508, 1, [4] + [v for k in range(4) for v in (0, 7, k + 1, 1, 0)]),
+        *[(508, 1, [1, 0, 7, k + 5, 0, 0]) for k in range(holes)],
+        *[(110, 0, [*corners[k], 0, *corners[(k + 1) % 4], 0]) for k in range(4)],
+        *[(100, 0, [0, x, y, x + 0.25, y, x + 0.25, y]) for x, y in centres],
+        (108, 0, [0, 0, 1, 0, 0, 0, 0, 0, 0]),
+    ]
+    items = "".join(f"edge 7 {k + 1} along 1 against 0\n  curve {curve + 2 * k} line\n  along face 9 plane loop 11 tuple {k + 1} flags 1 1 1\n" for k in range(4))
+    counts = f"shell 1 entity 3 flag 1 faces 1 edges {len(edges)} vertices {4 + holes} JOIN 0 PAIR 4 REACH 0 LINK - APART 0\n"
+    return text_of(records), f"fail PAIR 7 1\nunits 2 MM\nshells 1 failing 1\n{counts}\nrule PAIR shell 1 faults 4 once 4 same-way 0 many 0\n  Not paired.\n{items}"
+
+
+def within(calls):
+    return calls["all"] <= MOST_CALLS and calls["longest"] <= MOST_POINTS and calls["vertices"] <= MOST_VERTICES
+
+
+def of_large_solids(browser, folder):
+    """What is counted of 25,600 curved faces, and of a fault beside a face of 20,000 holes."""
     browser.call("Page.addScriptToEvaluateOnNewDocument", source=COUNTING)
-    browser.open(written(folder, "torus", 1, text, iges.lines_of(data)))
-    yield "browser: 51,200 edges", is_quiet(browser) and browser.run("edgeCount") == edges and browser.run(f"labels.length > 0 && {WITHIN}")
-    calls = browser.run("calls")
-    is_short = edges <= calls["lineTo"] <= calls["moveTo"] + calls["lineTo"] <= 2 * edges + MORE_CALLS and calls["stroke"] <= MOST_STROKES
-    yield f"browser: 51,200 edges are drawn once: {calls}", calls["clearRect"] == 1 and is_short
+    for name, (data, text), fault in (("torus", torus(SIDE), ""), ("plate", plate(HOLES), "fault=1")):
+        for how in ("", "canvas&"):
+            path = written(folder, name, 1, text, data)
+            open_page(browser, path, f"#{how}{fault}")
+            calls = browser.run("calls")
+            yield f"browser: {name}, {how or 'WebGL'}: what is counted before the first frame: {calls}", is_quiet(browser) and within(calls)
+            yield f"browser: {name}, {how or 'WebGL'}: a label in view", browser.run(f"view.labels.length > 0 && {WITHIN}")
+            while not browser.run("view.isWhole || (view.workOn(2000, Infinity), view.isWhole)"):
+                pass
+            held = browser.run("view.painter.vertexCount + (view.meshPoints || 0)")
+            yield f"browser: {name}, {how or 'WebGL'}: {held} vertices are held when all faces are there", browser.run("view.isWhole") and held <= MOST_VERTICES
 
 
 def checks(folder, skipped):
@@ -165,7 +343,7 @@ def checks(folder, skipped):
         return
     browser = chromium.Browser()
     try:
-        for run in (of_recorded, of_pinched_edge, of_markup, of_many_edges):
+        for run in (of_recorded, of_pinched_edge, of_fingers, of_media, of_outlines, of_markup, of_large_solids):
             yield from run(browser, folder)
     finally:
         browser.close()

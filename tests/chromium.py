@@ -1,6 +1,6 @@
 """A page in headless Chromium, by the DevTools protocol over two pipes: what its console says, what its script answers, and a picture of it.
 
-  tests/chromium.py PAGE.html PICTURE.png [SCRIPT]   writes a picture of the page, after the script was run"""
+  tests/chromium.py PAGE.html[#AT] PICTURE.png [SCRIPT]   writes a picture of the page, after the script was run"""
 import base64
 import json
 import os
@@ -16,9 +16,11 @@ from spawned import SECONDS
 
 NAMES = "chromium", "chromium-browser", "google-chrome"
 WORDS = (
-    "--headless=new", "--no-sandbox", "--disable-gpu", "--hide-scrollbars", "--no-first-run", "--disable-background-networking", "--disable-component-update",
+    "--headless=new", "--no-sandbox", "--disable-gpu", "--enable-unsafe-swiftshader", "--hide-scrollbars", "--no-first-run", "--disable-background-networking", "--disable-component-update",
     "--disable-dev-shm-usage", "--force-prefers-reduced-motion", "--remote-debugging-pipe", "about:blank",
 )  # fmt: skip
+# What the driver of WebGL says of its own reading of pixels.
+DRIVER = "GL Driver Message"
 
 
 def found():
@@ -71,7 +73,7 @@ class Browser:
             self.faults.append(told["exceptionDetails"].get("exception", {}).get("description", told["exceptionDetails"]["text"]))
         elif method == "Runtime.consoleAPICalled" and told["type"] in ("error", "warning", "assert"):
             self.faults.append(str(told["args"]))
-        elif method == "Log.entryAdded" and told["entry"]["level"] in ("error", "warning"):
+        elif method == "Log.entryAdded" and told["entry"]["level"] in ("error", "warning") and DRIVER not in told["entry"]["text"]:
             self.faults.append(told["entry"]["text"])
         elif method == "Network.requestWillBeSent":
             self.requests.append(told["request"]["url"])
@@ -139,7 +141,8 @@ class Browser:
 
 if __name__ == "__main__":
     browser = Browser()
-    browser.open(sys.argv[1])
+    path, _, at = sys.argv[1].partition("#")
+    browser.open(path, at and f"#{at}")
     if len(sys.argv) > 3:
         browser.run(sys.argv[3])
         browser.run("new Promise(done => setTimeout(done, 600))")

@@ -42,8 +42,8 @@ def forms(program="igesolid"):
 
 
 def all_forms():
-    """The words of each command, also of those in Python."""
-    return tuple(row.words for row in of_kind("command", "python"))
+    """The words of each command, also of those in Python and of the launcher's own."""
+    return tuple(row.words for row in of_kind("command", "python", "shell"))
 
 
 def usage():
@@ -56,7 +56,7 @@ def statuses():
     return {int(row.owner): row.text for row in of_kind("status")}
 
 
-KINDS = "program", "command", "python", "option", "status"
+KINDS = "program", "command", "python", "shell", "option", "status"
 SYNOPSIS = re.compile(r"(?s)\.nf\n(.*?)\.fi")
 BLOCK = re.compile(r"(?ms)^```\n(igesolid solids .*?)^```$")
 LISTED = re.compile(r"(?m)^igesolid (.*?)  +\S")
@@ -68,7 +68,7 @@ def itself():
     lines = [line.split("\t") for line in text.splitlines() if not line.startswith("#")]
     yield "commands.tsv: four columns, none of them empty", all(len(line) == 4 and all(line) for line in lines)
     yield "commands.tsv: its kinds", {line[0] for line in lines} == set(KINDS)
-    yield "commands.tsv: its programs", {name for row in of_kind("command", "python") for name in row.owner.split(",")} <= set(programs())
+    yield "commands.tsv: its programs", {name for row in of_kind("command", "python", "shell") for name in row.owner.split(",")} <= set(programs())
     yield "commands.tsv: all words, or the rest", {row.words for row in of_kind("program")} <= {"all", "rest"}
     yield "commands.tsv: always, sometimes or never", {row.words for row in of_kind("status")} <= {"always", "sometimes", "never"}
     yield "commands.tsv: each command once", len(set(all_forms())) == len(all_forms())
@@ -101,7 +101,7 @@ def helps(copy):
     """--help has each row of the table."""
     status, text, error = copy.run("./igesolid", "--help")
     lines = text.decode().splitlines()
-    for row in of_kind("command", "python", "option"):
+    for row in of_kind("command", "python", "shell", "option"):
         yield f"--help: {row.words}", any(line.startswith(f"  igesolid {row.words} ") and line.endswith(f"  {row.text}") for line in lines)
     for number, meaning in statuses().items():
         yield f"--help: status {number}", f"{number} {meaning}" in text.decode()

@@ -1,4 +1,6 @@
 """The launcher and dist/: a first run without the kit, builds by a kit that is played, and what the launcher says."""
+import base64
+import gzip
 import hashlib
 import os
 import pathlib
@@ -55,6 +57,12 @@ def first_runs(copy, skipped):
     yield "launcher: a changed source without the kit", status == 125 and "holds no program built from these sources, and rt" in error
 
 
+def parts_of(page):
+    """What stands in a page: the file's name and the number, the text of where, and the file."""
+    found = [base64.b64decode(re.search(rb'(?s)id="%s">(.*?)</script>' % name, page)[1]) for name in (b"words", b"where", b"file")]
+    return [*found[:2], gzip.decompress(found[2])]
+
+
 def pictures(copy):
     """`where` runs the other program, and `page` and `marks` ask it."""
     wanted = (copy.top / "tests" / "recorded" / "fail_pair.1.txt").read_bytes()
@@ -63,7 +71,8 @@ def pictures(copy):
     yield "launcher: where without words", copy.run("./igesolid", "where")[:2] == copy.run(copy.where)[:2]
     yield "launcher: --program where", copy.run("./igesolid", "--program", "where") == (0, f"{copy.top / 'dist' / 'igesolid-where-x86_64-linux'}\n".encode(), "")
     status, text, error = copy.run("./igesolid", "page", *words)
-    yield "launcher: page", (status, text[:15], error) == (1, b"<!doctype html>", "") and b"fail PAIR 7 1" in text
+    yield "launcher: page", (status, text[:15], error) == (1, b"<!doctype html>", "") and parts_of(text) == [b"fail_pair.igs\x001", wanted, (copy.top / words[0]).read_bytes()]
+    page = text
     status, text, error = copy.run(copy.top / "igesolid", "marks", "fail_pair.igs", "1", cwd=copy.top / "examples" / "no")
     yield "launcher: marks", (status, error) == (1, "") and text.startswith(b"Faults of solid 1 of fail_pair.igs ")
     yield "launcher: page without a number", copy.run("./igesolid", "page", words[0])[:2] == (2, b"")
@@ -73,7 +82,12 @@ def pictures(copy):
     yield "launcher: no caches are left", not any(copy.top.rglob("__pycache__"))
     plain = without_commands(copy, "python")
     told = copy.run("./igesolid", "page", *words, PATH=plain)
-    yield "launcher: page without Python", told == (125, b"", "igesolid: page needs Python 3.8 or later, and python3 isn't on PATH\n")
+    yield "launcher: page without Python", told == (1, page, "")
+    told = copy.run("./igesolid", "marks", *words, PATH=plain)
+    yield "launcher: marks without Python", told == (125, b"", "igesolid: marks needs Python 3.8 or later, and python3 isn't on PATH\n")
+    shutil.rmtree(plain)
+    plain = without_commands(copy, "gzip")
+    yield "launcher: page without gzip", copy.run("./igesolid", "page", *words, PATH=plain) == (125, b"", "igesolid: page needs gzip, which isn't on PATH\n")
     shutil.rmtree(plain)
 
 
@@ -293,8 +307,11 @@ def inputs(copy):
         yield f"standard input: {name}", run_in(copy, script) == wanted
     status, text, error = run_in(copy, "./igesolid verify - - </dev/null")
     yield "standard input: twice", (status, text, error) == (2, command_table.usage(), "igesolid: standard input (-) can be given once only\n")
-    wanted = copy.run("./igesolid", "page", pair, "1")[1].decode().replace("fail_pair.igs, solid", "standard input, solid")
-    yield "standard input: page", run_in(copy, f"./igesolid page - 1 <{pair}")[:2] == (1, wanted)
+    wanted = parts_of(copy.run("./igesolid", "page", pair, "1")[1])[1:]
+    status, text, _ = run_in(copy, f"./igesolid page - 1 <{pair}")
+    yield "standard input: page", (status, parts_of(text.encode())) == (1, [b"standard input\x001", *wanted])
+    status, text, _ = run_in(copy, f"TMPDIR=$PWD/docs ./igesolid page <(cat {pair}) 1")
+    yield "page: a pipe", (status, parts_of(text.encode())[1:]) == (1, wanted) and len(list((copy.top / "docs").glob("tmp.*"))) == 0
     status, text, _ = run_in(copy, f"TMPDIR=$PWD/docs ./igesolid marks <(cat {pair}) 1")
     yield "marks: a pipe", status == 1 and text.startswith("Faults of solid 1 of ") and len(list((copy.top / "docs").glob("tmp.*"))) == 0
     ours, theirs = socket.socketpair()

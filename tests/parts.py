@@ -19,6 +19,7 @@ import launcher
 import layers
 import limits
 import no_examples
+import node_tests
 import odd
 import open_tests
 import orient_tests
@@ -84,7 +85,8 @@ PARTS = (
     Part("uses", "solids of the most loop uses", of_program(largest_tests.uses)),
     Part("where", "igesolid-where, beside the second checker", of_both(where.checks)),
     Part("where-more", "200 more cases", of_both(where.more_checks), LARGE),
-    Part("pictures", "pages and marks", of_both(picture_tests.checks)),
+    Part("pictures", "marks", of_both(picture_tests.checks)),
+    Part("picture", "the geometry of pages, under node", lambda context: node_tests.checks(context.skipped)),
     Part("browser", "pages in headless Chromium", lambda context: browser_tests.checks(context.new_folder(), context.skipped), LARGE),
     Part("pages", "README and docs: what they say of the programs, the sources and the examples", of_pages),
     Part("launcher", "the launcher and dist/, in a copy of the repository", lambda context: launcher.checks(context.clone(), FORMS, context.skipped)),

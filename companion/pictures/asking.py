@@ -1,4 +1,4 @@
-"""What `page` and `marks` have in common: their words, the run of `igesolid-where`, and how they end."""
+"""The command `marks`: its words, the run of `igesolid-where`, and how it ends."""
 import argparse
 import os
 import pathlib

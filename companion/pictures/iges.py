@@ -1,4 +1,4 @@
-"""Reading an IGES file for its geometry: lines, directory entries, and the values of records as they are spelled.
+"""Reading an IGES file: lines, directory entries, and the values of records as they are spelled.
 
 The file is one that the proved program has read, so little is checked here. Sources: IGES 5.3, sections 2.2.2 (free format),
 2.2.4.3 (global section), 2.2.4.4 (directory entry) and 2.2.4.5 (parameter data)."""
@@ -8,9 +8,6 @@ from typing import NamedTuple
 RECORD_COLUMNS = 64
 TEXT_BEGINS = re.compile(rb" *([0-9]+)H").match
 DELIMITERS_TOLD = re.compile(rb" *(?:1H(.))? *(.) *(?:1H(.))?", re.DOTALL).match
-NUMBER = re.compile(rb"[+-]?(?:[0-9]+\.?[0-9]*|\.[0-9]+)(?:[EeDd][+-]?[0-9]+)?").fullmatch
-# A coordinate beyond this is taken for none: its square would be no number.
-GREATEST = 1e100
 
 
 class Unreadable(Exception):
@@ -27,14 +24,6 @@ class Entry(NamedTuple):
     form: int
 
 
-class Mark(NamedTuple):
-    """A part of a line of the file: the line and the column, from 1, and a number of columns."""
-
-    line: int
-    column: int
-    length: int
-
-
 def lines_of(text):
     """The lines of a file, without their ends."""
     lines = text.split(b"\n")
@@ -49,18 +38,6 @@ def integer(spelled):
         return int(spelled or b"0")
     except ValueError:
         raise Unreadable("a value that should be an integer") from None
-
-
-def real(spelled):
-    """The number that is spelled so, 0 if it is left out; Unreadable of a text and of a number that is too large to draw."""
-    if not spelled:
-        return 0.0
-    if NUMBER(spelled) is None:
-        raise Unreadable("a value that should be a number")
-    number = float(spelled.upper().replace(b"D", b"E"))
-    if not abs(number) < GREATEST:
-        raise Unreadable("a number that is too large to draw")
-    return number
 
 
 class File:
@@ -115,29 +92,6 @@ class File:
         if found is None:
             found = self.spelled[number] = [piece.strip(b" ") for piece in self.pieces(number)[1:]]
         return found
-
-    def marks(self, number, place):
-        """Where the value of this place stands, from 1: itself, or the delimiter if it is left out or the record ends before it."""
-        entry, pieces = self.entry(number), self.pieces(number)
-        at = sum(len(piece) + 1 for piece in pieces[:place])
-        piece = pieces[place] if place < len(pieces) else b""
-        if place >= len(pieces):
-            at -= 1
-        elif piece.strip(b" "):
-            at += len(piece) - len(piece.lstrip(b" "))
-        else:
-            at += len(piece)
-        first = self.records_at + entry.first
-        return marks_between(first, at, at + max(1, len(piece.strip(b" "))))
-
-
-def marks_between(first, start, end):
-    """The marks of the bytes from start to end of a record whose first line is this one of the file."""
-    while start < end:
-        line, column = divmod(start, RECORD_COLUMNS)
-        length = min(end - start, RECORD_COLUMNS - column)
-        yield Mark(first + line, column + 1, length)
-        start += length
 
 
 def delimiters_of(text):

@@ -9,6 +9,7 @@ class Marked:
     def __init__(self, item, rule, solid):
         self.solid, self.item = solid, item
         self.edges, self.vertices, self.faces, self.arrows, self.spokes, self.groups = [], [], [], [], [], []
+        self.group_of_face = {}
         mark = {"JOIN": self.gap, "PAIR": self.edge, "REACH": self.part, "LINK": self.fan, "APART": self.shell}[rule.name]
         if rule.name == "PAIR":
             self.edges.append(solid.edge_numbers[item.key()])
@@ -35,8 +36,7 @@ class Marked:
         if "face" not in fact.told:
             return -1
         face = fact.number("face")
-        seen = list(dict.fromkeys(it for it, _ in self.faces))
-        group = seen.index(face) if face in seen else len(seen)
+        group = self.group_of_face.setdefault(face, len(self.group_of_face))
         self.faces.append((face, group))
         self.arrows.append([self.edges[0], int(fact.told["way"] == "along"), group])
         return group

@@ -1,7 +1,10 @@
 """An IGES file that marks faults, to be laid over the model in a CAD system: copies of curves, and points, under the same global section.
 
 On level 901 and red stand the curves of failing edges and points at failing vertices, labelled FAULT with the fault's number as on the page;
-on level 902 and blue the other edges of the faces there, labelled NEAR. Nothing is computed: coordinates are copied as they are spelled."""
+on level 902 and blue the other edges of the faces there, labelled NEAR, up to a number that is told. Nothing is computed: coordinates are
+copied as they are spelled."""
+from typing import NamedTuple
+
 from .iges import RECORD_COLUMNS, File, Unreadable, integer
 from .marked import Marked
 from .solids import solid_of
@@ -10,6 +13,7 @@ FAULT, NEAR = (901, 2, b"FAULT"), (902, 4, b"NEAR")
 # Statuses of an entity (IGES 5.3, section 2.2.4.4.9): one that stands alone, a part of another, and a part that isn't shown.
 ALONE, PART, HIDDEN = b"00000000", b"00010000", b"01010000"
 DEEPEST = 4
+MOST_NEAR = 10_000
 
 
 def copied_values(kind, values):
@@ -112,36 +116,62 @@ def filled(values, parting, ending):
     return [*lines, line]
 
 
+class Fault(NamedTuple):
+    """What is marked, each by the number of the first fault that marks it; and whether edges near by were left out."""
+
+    edges: dict
+    vertices: dict
+    near: dict
+    is_cut: bool
+
+
+def faults_of(answer, solid):
+    """The edges and vertices of all faults. The edges of a face are looked at once, and of them no more than are marked."""
+    faces = {face.entity: face for shell in solid.shells for face in shell.faces}
+    edges, vertices, waiting = {}, {}, {}
+    items = ((rule, item) for rule in answer.rules for item in rule.items)
+    for subscript, (rule, item) in enumerate(items, 1):
+        marked = Marked(item, rule, solid)
+        for found, those in ((edges, marked.edges), (vertices, marked.vertices), (waiting, (face for face, _ in marked.faces))):
+            for it in those:
+                found.setdefault(it, subscript)
+    near = {}
+    for face, subscript in waiting.items():
+        for edge in edges_of(faces[face]):
+            if edge not in edges and edge not in near:
+                if len(near) == MOST_NEAR:
+                    return Fault(edges, vertices, near, True)
+                near[edge] = subscript
+    return Fault(edges, vertices, near, False)
+
+
+def edges_of(face):
+    return (use.edge for loop in face.loops for use in loop.uses if use.edge is not None)
+
+
 def marks_of(title, number, answer, lines):
     """The bytes of the overlay of a solid, and what to say of it."""
     if answer.is_bad_file():
         return b"", f"{title}: {answer.verdict.text}, so nothing is marked"
     file = File(lines)
-    overlay, red, points, near, left = Overlay(file), {}, {}, {}, 0
+    overlay, left = Overlay(file), 0
     solid = solid_of(file, number) if answer.shells else None
-    faces = {face.entity: face for shell in solid.shells for face in shell.faces} if solid else {}
-    items = ((rule, item) for rule in answer.rules for item in rule.items) if solid else ()
-    for subscript, (rule, item) in enumerate(items, 1):
-        marked = Marked(item, rule, solid)
-        for found, those in ((red, marked.edges), (points, marked.vertices), (near, edges_of(faces, marked.faces))):
-            for it in those:
-                found.setdefault(it, subscript)
-    for edges, mark in ((red, FAULT), ({edge: it for edge, it in near.items() if edge not in red}, NEAR)):
+    fault = faults_of(answer, solid) if solid else Fault({}, {}, {}, False)
+    for edges, mark in ((fault.edges, FAULT), (fault.near, NEAR)):
         for edge, subscript in sorted(edges.items()):
             left += not overlay.add_edge(solid, edge, mark, subscript)
-    for vertex, subscript in sorted(points.items()):
+    for vertex, subscript in sorted(fault.vertices.items()):
         overlay.add(116, [*padded(solid.coordinates(vertex)), b"0"], FAULT, subscript)
-    says = [f"Faults of solid {number} of {title}", "Level 901, red: edges and vertices that fail", "Level 902, blue: other edges of the faces there"]
-    return overlay.text(says), told(title, answer, left)
+    near = f"Level 902, blue: {'the first ' + str(MOST_NEAR) + ' ' if fault.is_cut else ''}other edges of the faces there"
+    says = [f"Faults of solid {number} of {title}", "Level 901, red: edges and vertices that fail", near]
+    return overlay.text(says), told(title, answer, left, fault.is_cut)
 
 
-def edges_of(faces, marked):
-    return (use.edge for face, _ in marked for loop in faces[face].loops for use in loop.uses if use.edge is not None)
-
-
-def told(title, answer, left):
+def told(title, answer, left, is_cut):
     if answer.is_closed():
         return f"{title}: the solid is closed, so nothing is marked"
     if answer.shells is None:
         return f"{title}: {answer.verdict.text}: a record is wrong, so nothing is marked"
-    return f"{title}: {left} curves can't be copied, so straight lines stand for them" if left else ""
+    said = [f"{left} curves can't be copied, so straight lines stand for them"] if left else []
+    said += [f"of the other edges of the faces there the first {MOST_NEAR:,} are marked"] if is_cut else []
+    return f"{title}: {'; '.join(said)}" if said else ""

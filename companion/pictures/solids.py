@@ -32,15 +32,6 @@ class Shell(NamedTuple):
     flag: int
     faces: list
 
-    def rows(self):
-        """Each use of an edge: the edge, whether the shell runs along it there (flags of tuple, face and shell together), and the face's place."""
-        for place, face in enumerate(self.faces):
-            same = self.flag == face.flag
-            for loop in face.loops:
-                for use in loop.uses:
-                    if use.edge is not None:
-                        yield use.edge, use.along == same, place
-
     def counts(self):
         """How many faces, edges and vertices the shell has."""
         uses = [use for face in self.faces for loop in face.loops for use in loop.uses]

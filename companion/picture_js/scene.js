@@ -1,0 +1,202 @@
+/**
+ * What a page shows of a solid: the faults that `igesolid-where` reports, and the solid's picture.
+ */
+import { hintsOf } from "./hints.js";
+import { markedOf } from "./marked.js";
+import { Picture } from "./picture.js";
+import { IgesFile, Unreadable } from "./records.js";
+import { Solid } from "./solid.js";
+import { answerOf, factsOf, ruleName } from "./where_text.js";
+
+/** At most so many faults of a rule are listed, facts of a fault, lines of the text. */
+const MOST_LISTED = 300, MOST_FACTS = 100, MOST_LINES = 3000;
+const AROUND = 6, LONGEST = 200;
+const COUNTED = {
+  JOIN: ["gap in a loop", "gaps in loops"],
+  PAIR: ["edge that isn't paired", "edges that aren't paired"],
+  REACH: ["face apart from the first", "faces apart from the first"],
+  LINK: ["pinched vertex", "pinched vertices"],
+  APART: ["vertex that shells share", "vertices that shells share"],
+};
+/**
+ * The units by global parameter 14 (IGES 5.3, 2.2.4.3.14); 3 stands for the name in parameter 15.
+ */
+const UNITS = {
+  1: "IN", 2: "MM", 4: "FT", 5: "MI", 6: "M", 7: "KM", 8: "MIL", 9: "UM", 10: "CM", 11: "UIN",
+};
+/** The columns that a reason speaks of; of any other the whole line. */
+const COLUMNS_OF = {
+  "not-fixed": [73, 1], "letter": [73, 1], "number": [74, 7], "counts": [1, 32],
+  "types-differ": [1, 8], "range": [1, 32], "back-pointer": [66, 7],
+};
+
+const counted = (count, one, many) => `${count} ${count === 1 ? one : many}`;
+
+/** The verdict in a sentence. */
+function summaryOf(answer) {
+  if (answer.verdict.word === "closed") return "The solid is closed.";
+  if (answer.verdict.word === "bad") {
+    return "The file isn't one of IGES 5.3 in the fixed form, so it isn't read any further.";
+  }
+  const { rule, entity, place } = answer.verdict.told;
+  if (!answer.shells) {
+    if (["ENTRY", "TYPE"].includes(rule) && place === "0") {
+      return `There is no solid with the number ${entity} in this file.`;
+    }
+    return "A record of the solid is wrong, so nothing can be said of its faces yet.";
+  }
+  const totals = new Map();
+  for (const it of answer.rules) {
+    totals.set(ruleName(it), (totals.get(ruleName(it)) || 0) + Number(it.told.faults));
+  }
+  const told = [...totals].map(([name, count]) => counted(count, ...COUNTED[name]));
+  return `The solid isn't closed: ${told.join(", ")}.`;
+}
+
+/** A line for each shell: its counts, and how many faults it has. */
+function shellsOf(answer, solid) {
+  if (!solid) return [];
+  const words = [["face", "faces"], ["edge", "edges"], ["vertex", "vertices"]];
+  return solid.shells.map((shell, k) => {
+    const counts = shell.counts().map((count, place) => counted(count, ...words[place])).join(", ");
+    const own = answer.rules.filter(rule => Number(rule.told.shell) === k + 1);
+    const faults = own.reduce((sum, rule) => sum + Number(rule.told.faults), 0);
+    const role = k ? "void" : "outer shell";
+    return { text: `shell ${k + 1} (${role}, entity ${shell.entity}): ${counts}`, faults };
+  });
+}
+
+/** The lines of the file around some marks, a character for each byte. */
+function excerptOf(file, marks, says) {
+  const first = Math.max(1, marks[0][0] - AROUND);
+  const last = Math.min(file.count, marks[marks.length - 1][0] + AROUND), lines = [];
+  for (let number = first; number <= last; number++) {
+    lines.push(file.line(number - 1, LONGEST).replace(/[^ -~\u00a1-\u00ff]/g, "?"));
+  }
+  if (marks[0][0] > file.count) lines.push("(the file ends here)");
+  return { first, lines, marks, says };
+}
+
+function ofBadFile(file, { told }) {
+  const [column, length] = COLUMNS_OF[told.reason] || [1, LONGEST];
+  const says = `The first line of the file that fails is line ${told.line} (${told.reason}):`;
+  return excerptOf(file, [[Number(told.line), column, length]], says);
+}
+
+/** The lines that hold the bad value of a record; of a solid that is none, its directory entry. */
+function ofRecord(file, answer) {
+  const item = answer.rules[0].items[0], entity = Number(item.told.entity);
+  const fact = item.facts.find(it => "value" in it.told);
+  if (fact) {
+    const marks = file.marks(entity, Number(fact.told.value));
+    return excerptOf(file, marks,
+      `Value ${fact.told.value} of the record of entity ${entity} is wrong: `
+      + `line ${marks[0][0]}, column ${marks[0][1]}:`);
+  }
+  if (answer.verdict.told.rule !== "TYPE") return null;
+  const line = file.directoryAt + entity, marks = [[line, 1, 8], [line + 1, 1, 8]];
+  return excerptOf(file, marks,
+    `Entity ${entity} is of another type, or another form, than a solid's:`);
+}
+
+/** A fault in plain words. */
+function meaningOf({ told }, rule) {
+  if (rule === "PAIR") {
+    const along = Number(told.along), against = Number(told.against);
+    if (along + against === 1) return "one face alone uses it: an open edge";
+    if (along + against === 2) return "both faces run along it in the same direction";
+    return along === against ? "bodies or parts of one touch along it"
+      : "a face too many meets here";
+  }
+  if (rule === "REACH")
+    return told.part === "1" ? "the first part" : "shares no edge with the parts before";
+  return {
+    JOIN: "the loop is broken here", LINK: "fans of faces meet at this point only",
+    APART: "shells share this point",
+  }[rule] || "";
+}
+
+/** An item: its lines with the group of each, what it means, and what it marks in the picture. */
+function faultOf(number, item, marked, rule, picture, answer) {
+  const nothing = { edges: [], vertices: [], faces: [], arrows: [], spokes: [], groups: [] };
+  const { edges, vertices, faces, arrows, spokes, groups } = marked || nothing;
+  const facts = item.facts.slice(0, MOST_FACTS).map(({ text }, k) => [text, groups[k] ?? -1]);
+  if (item.facts.length > MOST_FACTS)
+    facts.push([`.. and ${item.facts.length - MOST_FACTS} lines more`, -1]);
+  const shown = new Map(faces.map(it => [it.join(), it]));
+  const told = [...shown.values()].map(([face, group]) => [picture.faces.get(face), group]);
+  for (const [face] of told) face.facts = face.facts || factsOf(answer, face.entity);
+  return {
+    number, rule, head: item.text, says: meaningOf(item, rule), facts, edges, vertices, faces: told,
+    arrows, spokes,
+  };
+}
+
+/** A rule with the faults that are listed; all its failing edges and vertices are red. */
+function ruleOf(rule, first, picture, answer) {
+  const name = ruleName(rule), faults = [];
+  rule.items.forEach((item, k) => {
+    const marked = picture ? markedOf(item, name, picture.solid) : null;
+    if (marked) {
+      marked.edges.forEach(it => picture.redEdges.add(it));
+      marked.vertices.forEach(it => picture.redVertices.add(it));
+    }
+    if (k < MOST_LISTED) faults.push(faultOf(first + k, item, marked, name, picture, answer));
+  });
+  const more = rule.more + Math.max(0, rule.items.length - MOST_LISTED);
+  return { name, head: rule.text, sentence: rule.sentence, faults, more };
+}
+
+function fewLines(text) {
+  const lines = text.split("\n");
+  if (lines.length <= MOST_LINES) return text;
+  return [...lines.slice(0, MOST_LINES), `.. and ${lines.length - MOST_LINES} lines more`]
+    .join("\n");
+}
+
+/** The rules with their faults, numbered through. */
+function rulesOf(answer, picture) {
+  if (answer.verdict.word === "bad") {
+    return [{ name: "", head: "", sentence: answer.verdict.sentence, faults: [], more: 0 }];
+  }
+  let number = 1;
+  return answer.rules.map(rule => {
+    const first = number;
+    number += rule.items.length + rule.more;
+    return ruleOf(rule, first, picture, answer);
+  });
+}
+
+/** The solid, and the lines to show where there is none. */
+function readFile(bytes, number, answer, notes) {
+  try {
+    const file = new IgesFile(bytes);
+    if (answer.verdict.word === "bad") return { excerpt: ofBadFile(file, answer.verdict) };
+    if (answer.shells) return { solid: new Solid(file, number), excerpt: null };
+    return { excerpt: ofRecord(file, answer) };
+  } catch (fault) {
+    if (!(fault instanceof Unreadable)) throw fault;
+    notes.push(`No picture: ${fault.message} couldn't be read.`);
+    return { excerpt: null };
+  }
+}
+
+/**
+ * All that the page of a solid shows. @param {string} title @param {number} number of the solid
+ * @param {string} text of `igesolid-where` @param {Uint8Array} bytes of the file
+ */
+export function sceneOf(title, number, text, bytes) {
+  const answer = answerOf(text), notes = [];
+  const { solid = null, excerpt } = readFile(bytes, number, answer, notes);
+  const picture = solid ? new Picture(solid) : null;
+  const hints = hintsOf(answer, solid).map(hint => ({
+    ...hint, faces: picture ? hint.faces.map((face, k) => [picture.faces.get(face), k]) : [],
+  }));
+  for (const [face] of hints.flatMap(it => it.faces)) face.facts = factsOf(answer, face.entity);
+  const { flag, unit } = answer.units ? answer.units.told : { flag: "-", unit: "-" };
+  return {
+    title, verdict: answer.verdict.text, kind: answer.verdict.word, says: summaryOf(answer), notes,
+    rules: rulesOf(answer, picture), hints, excerpt, picture, shells: shellsOf(answer, solid),
+    text: fewLines(text), unit: UNITS[flag] || (unit === "-" ? "" : unit),
+  };
+}
