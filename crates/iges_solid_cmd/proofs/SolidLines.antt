@@ -10,7 +10,7 @@ lines_of list = flat_map (λ (no : EntryNo). solid_line no.0) list
 
 by_numbers : (list : List EntryNo) → lines_of list ≡ flat_map solid_line (numbers_of list)
 by_numbers [] = refl
-by_numbers (no ∷ list) = ap (λ (text : List ℕ). solid_line no.0 ++ text) (by_numbers list)
+by_numbers (n ∷ list) = ap (λ (text : List ℕ). solid_line n.0 ++ text) (by_numbers list)
 
 pub listed : (f : Contents) (solids given : List EntryNo) (old new text : List ℕ) → numbers_of solids ≡ solids_of f → given ≡ solids → old ≡ []
     → new ≡ old ++ lines_of given → text ≡ new → text ≡ solids_text f
