@@ -9,7 +9,7 @@ import clone
 from programs import TOP
 
 SYSTEM = "/usr/bin:/bin"
-FIRST = re.compile(r"(?s)\n## Installation and first steps\n.*?```sh\n(.*?)```")
+FIRST = re.compile(r"(?s)```sh\n(.*?)```")
 IS_ENOUGH = "import sys; sys.exit(sys.version_info < (3, 10))"
 ALL_PASSED = re.compile(r"(?m)^\d+ passed, 0 failed\n\Z")
 
