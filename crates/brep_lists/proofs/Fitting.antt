@@ -6,14 +6,16 @@ use Rattle.iges_fields.specs.declared.value.Value.{Value}
 use Rattle.brep_lists.specs.DueValues.{at_least_one}
 use Rattle.brep_lists.specs.Record.{IsRecordOf, value_or_default, count_at}
 use Rattle.brep_lists.specs.declared.entity_kind.EntityKind.{EntityKind}
-use Rattle.brep_lists.specs.declared.entity_kind.EntityKind.TheVariants.{Solid as solid, Shell as shell, Face as face, Loop as «loop», EdgeList as edges, VertexList as vertices}
+use Rattle.brep_lists.specs.declared.entity_kind.EntityKind.TheVariants.{Solid as solid, Shell as shell, Face as face, Loop as «loop», EdgeList as edges}
+use Rattle.brep_lists.specs.declared.entity_kind.EntityKind.TheVariants.{VertexList as vertices}
 use Rattle.brep_lists.specs.OwnValues.{meets, meets_all, is_record_of}
 use Rattle.brep_lists.specs.Groups.{passes, group_passes, groups_pass, tuples_pass, is_counted, is_face}
 use Rattle.brep_lists.specs.Views.{AreCounted, IsLoop}
 use Rattle.brep_lists.specs.declared.groups.Slot.{Slot}
 use Rattle.brep_lists.specs.declared.groups.Slot.TheVariants.{Flag}
 use Rattle.brep_lists.proofs.Decided.{decided}
-use Rattle.brep_lists.proofs.Stride.{pair_shape, edge_shape, vertex_shape, pointer_shape, shell_counted, edges_counted, vertices_counted, solid_tested, face_tested}
+use Rattle.brep_lists.proofs.Stride.{pair_shape, edge_shape, vertex_shape, pointer_shape, shell_counted, edges_counted, vertices_counted, solid_tested}
+use Rattle.brep_lists.proofs.Stride.{face_tested}
 use Rattle.brep_lists.proofs.Tuples.{loop_tested}
 
 and_left : (a b : Bool) → (a && b) ≡ true → a ≡ true
@@ -39,10 +41,12 @@ groups_fit shape (suc n) vs e =
     let more = groups_fit shape n (drop (length shape) vs) (and_right (group_passes shape vs) (groups_pass shape n (drop (length shape) vs)) e) in
     omega (arith, here, more, length-drop (length shape) vs, suc-mul n (length shape))
 
-groups_small : (shape : List Slot) (base n : ℕ) (vs : List Value) → base < 2 ^ 32 → length vs < 2 ^ 64 → groups_pass shape n (drop base vs) ≡ true → base + n * length shape < 2 ^ 64
+groups_small : (shape : List Slot) (base n : ℕ) (vs : List Value) → base < 2 ^ 32 → length vs < 2 ^ 64 → groups_pass shape n (drop base vs) ≡ true →
+    base + n * length shape < 2 ^ 64
 groups_small shape base n vs low small e = omega (arith, low, small, groups_fit shape n (drop base vs) e, length-drop base vs)
 
-counted : (shape : List Slot) (n : ℕ) (vs : List Value) → is_counted shape vs ≡ true → n ≡ count_at vs 0 → length vs < 2 ^ 64 → AreCounted 0 1 (length shape) n vs
+counted : (shape : List Slot) (n : ℕ) (vs : List Value) → is_counted shape vs ≡ true → n ≡ count_at vs 0 → length vs < 2 ^ 64 →
+    AreCounted 0 1 (length shape) n vs
 counted shape n vs e is small = record {
   counted = is;
   small = subst (λ m. 1 + m * length shape < 2 ^ 64) (sym is) (groups_small shape 1 (count_at vs 0) vs (omega arith) small (and_left _ _ (and_right _ _ e)));
@@ -61,7 +65,8 @@ pub solid_fits : (n : ℕ) (vs : List Value) → IsRecordOf solid vs → n ≡ c
 solid_fits n vs h is small = record {
   counted = is;
   small = subst (λ m. 3 + m * 2 < 2 ^ 64) (sym is)
-      (groups_small pair_shape 3 (count_at vs 2) vs (omega arith) small (and_left _ _ (and_right _ _ (and_right _ _ (sym (solid_tested vs) ∙ tested solid vs h)))));
+      (groups_small pair_shape 3 (count_at vs 2) vs (omega arith) small
+      (and_left _ _ (and_right _ _ (and_right _ _ (sym (solid_tested vs) ∙ tested solid vs h)))));
 }
 
 face_passes : (vs : List Value) → is_face vs ≡ true → groups_pass pointer_shape (count_at vs 1) (drop 3 vs) ≡ true

@@ -4,8 +4,10 @@ use Rattle.std.proofs.Common.{refl, sym, ◌∙◌, ap, subst, arith, ⊎_elim}
 use Rattle.iges_fields.specs.declared.value.Value.{Value}
 use Rattle.iges_fields.specs.declared.value.Value.TheVariants.{Int}
 use Rattle.brep_lists.specs.DueValues.{DueValue, pointer, at_least_one, count, Meets, MayBeMissing, MeetsAll}
-use Rattle.brep_lists.specs.Record.{SolidItems, FaceItems, LoopTuple, pair_due, curve_due, tuple_due, edge_due, vertex_due, due, int_of, flag_of, count_of, value_or_default, int_at, groups, pair_read, curve_read, edge_read, tuples_read, items_of, FitsOnlyRead}
-use Rattle.brep_lists.specs.declared.entity_kind.EntityKind.TheVariants.{Solid as solid, Shell as shell, Face as face, Loop as «loop», EdgeList as edges, VertexList as vertices}
+use Rattle.brep_lists.specs.Record.{SolidItems, FaceItems, LoopTuple, pair_due, curve_due, tuple_due, edge_due, vertex_due, due, int_of, flag_of, count_of}
+use Rattle.brep_lists.specs.Record.{value_or_default, int_at, groups, pair_read, curve_read, edge_read, tuples_read, items_of, FitsOnlyRead}
+use Rattle.brep_lists.specs.declared.entity_kind.EntityKind.TheVariants.{Solid as solid, Shell as shell, Face as face, Loop as «loop», EdgeList as edges}
+use Rattle.brep_lists.specs.declared.entity_kind.EntityKind.TheVariants.{VertexList as vertices}
 use Rattle.brep_lists.specs.declared.edge_list.EdgeTuple.{EdgeTuple}
 
 int_read : (z : ℤ) (v : Value) → v ≡ Int z → int_of v ≡ z
@@ -52,10 +54,12 @@ edges_only (e ∷ es) (a ∷ b ∷ c ∷ d ∷ x ∷ vs) h =
     ∙ (ap (λ z. record k { curve = e.curve; start_list = z }) (int_read e.start_list b h.1.0)
     ∙ (ap (λ z. record k { curve = e.curve; start_list = e.start_list; start_index = z }) (int_read e.start_index c h.1.1.0)
     ∙ (ap (λ z. record k { curve = e.curve; start_list = e.start_list; start_index = e.start_index; end_list = z }) (int_read e.end_list d h.1.1.1.0)
-    ∙ ap (λ z. record k { curve = e.curve; start_list = e.start_list; start_index = e.start_index; end_list = e.end_list; end_index = z }) (int_read e.end_index x h.1.1.1.1.0)))))
+    ∙ ap (λ z. record k { curve = e.curve; start_list = e.start_list; start_index = e.start_index; end_list = e.end_list; end_index = z })
+    (int_read e.end_index x h.1.1.1.1.0)))))
     (edges_only es vs h.1.1.1.1.1)
 
-vertices_only : (xs : List (Value × Value × Value)) (vs : List Value) → MeetsAll (flat_map vertex_due xs) vs → map (λ g. (value_or_default g 0, value_or_default g 1, value_or_default g 2)) (groups 3 (length xs) vs) ≡ xs
+vertices_only : (xs : List (Value × Value × Value)) (vs : List Value) → MeetsAll (flat_map vertex_due xs) vs →
+    map (λ g. (value_or_default g 0, value_or_default g 1, value_or_default g 2)) (groups 3 (length xs) vs) ≡ xs
 vertices_only [] vs h = refl
 vertices_only (x ∷ xs) [] h = absurd h
 vertices_only (x ∷ xs) (a ∷ []) h = absurd h.1
@@ -66,7 +70,8 @@ vertices_only (x ∷ xs) (a ∷ b ∷ c ∷ vs) h =
 twice-suc : (n : ℕ) → 2 * suc n ≡ suc (suc (2 * n))
 twice-suc n = omega arith
 
-pub curves_only : (cs : List (Bool × ℤ)) (ds : List DueValue) (vs : List Value) → MeetsAll (flat_map curve_due cs ++ ds) vs → (map curve_read (groups 2 (length cs) vs) ≡ cs) × MeetsAll ds (drop (2 * length cs) vs)
+pub curves_only : (cs : List (Bool × ℤ)) (ds : List DueValue) (vs : List Value) → MeetsAll (flat_map curve_due cs ++ ds) vs →
+    (map curve_read (groups 2 (length cs) vs) ≡ cs) × MeetsAll ds (drop (2 * length cs) vs)
 curves_only [] ds vs h = (refl, h)
 curves_only (c ∷ cs) ds [] h = absurd h
 curves_only (c ∷ cs) ds (v ∷ []) h = absurd h.1
@@ -77,7 +82,8 @@ curves_only (c ∷ cs) ds (v ∷ w ∷ vs) h =
     )
 
 -- where the count is missing, no curve and no tuple follows
-pub missing : (cs : List (Bool × ℤ)) (ts : List LoopTuple) → MayBeMissing (count (length cs) ∷ (flat_map curve_due cs ++ flat_map tuple_due ts)) → (cs ≡ []) × (ts ≡ [])
+pub missing : (cs : List (Bool × ℤ)) (ts : List LoopTuple) → MayBeMissing (count (length cs) ∷ (flat_map curve_due cs ++ flat_map tuple_due ts)) →
+    (cs ≡ []) × (ts ≡ [])
 missing [] [] h = (refl, refl)
 missing [] (t ∷ ts) h = absurd h
 missing (c ∷ cs) ts h = absurd h
@@ -91,7 +97,8 @@ five-add n = omega arith
 abbrev tuple : Bool → ℤ → ℤ → Bool → List (Bool × ℤ) → LoopTuple
 tuple v l i f cs = record { is_vertex = v; «list» = l; index = i; flag = f; curves = cs }
 
-same_tuple : {v f : Bool} {l i : ℤ} {cs : List (Bool × ℤ)} {us : List LoopTuple} (t : LoopTuple) (ts : List LoopTuple) → v ≡ t.is_vertex → l ≡ t.«list» → i ≡ t.index → f ≡ t.flag → cs ≡ t.curves → us ≡ ts → tuple v l i f cs ∷ us ≡ t ∷ ts
+same_tuple : {v f : Bool} {l i : ℤ} {cs : List (Bool × ℤ)} {us : List LoopTuple} (t : LoopTuple) (ts : List LoopTuple) → v ≡ t.is_vertex → l ≡ t.«list» →
+    i ≡ t.index → f ≡ t.flag → cs ≡ t.curves → us ≡ ts → tuple v l i f cs ∷ us ≡ t ∷ ts
 same_tuple {v} {f} {l} {i} {cs} {us} t ts ev el ei ef ec et =
     ap (λ x. tuple x l i f cs ∷ us) ev
     ∙ (ap (λ x. tuple t.is_vertex x i f cs ∷ us) el
@@ -131,7 +138,8 @@ abbrev face_items : ℤ → Bool → List ℤ → FaceItems
 face_items z b ls = record { surface = z; outer = b; loops = ls }
 
 same_solid : {z : ℤ} {b : Bool} {vs : List (ℤ × Bool)} (s : SolidItems) → z ≡ s.outer.0 → b ≡ s.outer.1 → vs ≡ s.voids → solid_items z b vs ≡ s
-same_solid {z} {b} {vs} s ez eb ev = ap (λ x. solid_items x b vs) ez ∙ (ap (λ x. solid_items s.outer.0 x vs) eb ∙ ap (λ x. solid_items s.outer.0 s.outer.1 x) ev)
+same_solid {z} {b} {vs} s ez eb ev = ap (λ x. solid_items x b vs) ez ∙
+    (ap (λ x. solid_items s.outer.0 x vs) eb ∙ ap (λ x. solid_items s.outer.0 s.outer.1 x) ev)
 
 same_face : {z : ℤ} {b : Bool} {ls : List ℤ} (f : FaceItems) → z ≡ f.surface → b ≡ f.outer → ls ≡ f.loops → face_items z b ls ≡ f
 same_face {z} {b} {ls} f ez eb el = ap (λ x. face_items x b ls) ez ∙ (ap (λ x. face_items f.surface x ls) eb ∙ ap (λ x. face_items f.surface f.outer x) el)
@@ -167,4 +175,5 @@ only_read «loop» (v ∷ vs) items h = sym (ap (λ m. tuples_read m vs) (counte
 only_read edges [] items h = absurd h
 only_read edges (v ∷ vs) items h = sym (ap (λ m. map edge_read (groups 5 m vs)) (counted_only (length items) v h.0) ∙ edges_only items vs h.1)
 only_read vertices [] items h = absurd h
-only_read vertices (v ∷ vs) items h = sym (ap (λ m. map (λ g. (value_or_default g 0, value_or_default g 1, value_or_default g 2)) (groups 3 m vs)) (counted_only (length items) v h.0) ∙ vertices_only items vs h.1)
+only_read vertices (v ∷ vs) items h = sym (ap (λ m. map (λ g. (value_or_default g 0, value_or_default g 1, value_or_default g 2)) (groups 3 m vs))
+    (counted_only (length items) v h.0) ∙ vertices_only items vs h.1)

@@ -1,5 +1,6 @@
 -- Values by their places.
-use Rattle.std.specs.Prelude.{◌≡◌, ℕ, zero, suc, ◌+◌, ◌-◌, ◌*◌, ◌<◌, ◌≤◌, ◌&&◌, Bool, true, false, List, [], ◌∷◌, length, drop, Option, Some, None, slice_get, MatchOption}
+use Rattle.std.specs.Prelude.{◌≡◌, ℕ, zero, suc, ◌+◌, ◌-◌, ◌*◌, ◌<◌, ◌≤◌, ◌&&◌, Bool, true, false, List, [], ◌∷◌, length, drop, Option, Some, None, slice_get}
+use Rattle.std.specs.Prelude.{MatchOption}
 use Rattle.std.proofs.Common.{refl, sym, ◌∙◌, ap, arith, suc-mul}
 use Rattle.std.proofs.lemmas.Option.{slice_get_within}
 use Rattle.std.proofs.lemmas.List.{drop-drop}
@@ -30,24 +31,28 @@ none_at {A} (y ∷ ys) (suc i) e = none_at ys i e
 pub got : (vs : List Value) (i : ℕ) (o : Option Value) → o ≡ slice_get vs i → value_or_default vs i ≡ value_or o
 got vs i o e = value_got vs i ∙ ap value_or (sym e)
 
-pub slot_failed : (ss : List Slot) (vs : List Value) (k i : ℕ) (s : Slot) (v : Value) → drop k ss ≡ s ∷ drop (k + 1) ss → slice_get vs i ≡ Some v → passes s v ≡ false → group_passes (drop k ss) (drop i vs) ≡ false
+pub slot_failed : (ss : List Slot) (vs : List Value) (k i : ℕ) (s : Slot) (v : Value) → drop k ss ≡ s ∷ drop (k + 1) ss → slice_get vs i ≡ Some v →
+    passes s v ≡ false → group_passes (drop k ss) (drop i vs) ≡ false
 slot_failed ss vs k i s v es ev f =
     ap (λ xs. group_passes xs (drop i vs)) es ∙ ap (λ ys. group_passes (s ∷ drop (k + 1) ss) ys) (open_at vs i v ev)
     ∙ ap (λ b. b && group_passes (drop (k + 1) ss) (drop (i + 1) vs)) f
 
-pub slot_passed : (ss : List Slot) (vs : List Value) (k i : ℕ) (s : Slot) (v : Value) → drop k ss ≡ s ∷ drop (k + 1) ss → slice_get vs i ≡ Some v → passes s v ≡ true → group_passes (drop k ss) (drop i vs) ≡ group_passes (drop (k + 1) ss) (drop (i + 1) vs)
+pub slot_passed : (ss : List Slot) (vs : List Value) (k i : ℕ) (s : Slot) (v : Value) → drop k ss ≡ s ∷ drop (k + 1) ss → slice_get vs i ≡ Some v →
+    passes s v ≡ true → group_passes (drop k ss) (drop i vs) ≡ group_passes (drop (k + 1) ss) (drop (i + 1) vs)
 slot_passed ss vs k i s v es ev f =
     ap (λ xs. group_passes xs (drop i vs)) es ∙ ap (λ ys. group_passes (s ∷ drop (k + 1) ss) ys) (open_at vs i v ev)
     ∙ ap (λ b. b && group_passes (drop (k + 1) ss) (drop (i + 1) vs)) f
 
-pub slot_missing : (ss : List Slot) (vs : List Value) (k i : ℕ) (s : Slot) → drop k ss ≡ s ∷ drop (k + 1) ss → slice_get vs i ≡ None → group_passes (drop k ss) (drop i vs) ≡ false
+pub slot_missing : (ss : List Slot) (vs : List Value) (k i : ℕ) (s : Slot) → drop k ss ≡ s ∷ drop (k + 1) ss → slice_get vs i ≡ None →
+    group_passes (drop k ss) (drop i vs) ≡ false
 slot_missing ss vs k i s es ev =
     ap (λ xs. group_passes xs (drop i vs)) es ∙ ap (λ ys. group_passes (s ∷ drop (k + 1) ss) ys) (none_at vs i ev)
 
 pub filler_failed : (vs : List Value) (i : ℕ) (v : Value) → slice_get vs i ≡ Some v → is_filler v ≡ false → meets_all [] (drop i vs) ≡ false
 filler_failed vs i v e f = ap (meets_all []) (open_at vs i v e) ∙ ap (λ b. b && meets_all [] (drop (i + 1) vs)) f
 
-pub filler_passed : (vs : List Value) (i : ℕ) (v : Value) → slice_get vs i ≡ Some v → is_filler v ≡ true → meets_all [] (drop i vs) ≡ meets_all [] (drop (i + 1) vs)
+pub filler_passed : (vs : List Value) (i : ℕ) (v : Value) → slice_get vs i ≡ Some v → is_filler v ≡ true →
+    meets_all [] (drop i vs) ≡ meets_all [] (drop (i + 1) vs)
 filler_passed vs i v e f = ap (meets_all []) (open_at vs i v e) ∙ ap (λ b. b && meets_all [] (drop (i + 1) vs)) f
 
 pub fillers_end : (vs : List Value) (i : ℕ) → slice_get vs i ≡ None → meets_all [] (drop i vs) ≡ true
@@ -63,7 +68,8 @@ pub item_counted : (vs : List Value) (i : ℕ) (v : Value) (r : Option ℕ) → 
 item_counted vs i v None e h = ap starts (got vs i (Some v) e) ∙ h
 item_counted vs i v (Some n) e h = (ap starts (got vs i (Some v) e) ∙ h.0, h.1 ∙ sym (ap count_of (got vs i (Some v) e)), slice_get_within vs i v (sym e))
 
-pub groups_passed : (shape : List Slot) (vs : List Value) (left at end : ℕ) → 0 < left → group_passes shape (drop at vs) ≡ true → end ≡ at + length shape → groups_pass shape left (drop at vs) ≡ groups_pass shape (left - 1) (drop end vs)
+pub groups_passed : (shape : List Slot) (vs : List Value) (left at end : ℕ) → 0 < left → group_passes shape (drop at vs) ≡ true → end ≡ at + length shape →
+    groups_pass shape left (drop at vs) ≡ groups_pass shape (left - 1) (drop end vs)
 groups_passed shape vs zero at end some h e = absurd (omega (arith, some))
 groups_passed shape vs (suc n) at end some h e =
     let less : n ≡ suc n - 1 = omega arith in
@@ -71,7 +77,8 @@ groups_passed shape vs (suc n) at end some h e =
     ap (λ b. b && groups_pass shape n (drop (length shape) (drop at vs))) h
     ∙ ap (groups_pass shape n) on ∙ ap (λ k. groups_pass shape k (drop end vs)) less
 
-pub groups_failed : (shape : List Slot) (vs : List Value) (left at : ℕ) → 0 < left → group_passes shape (drop at vs) ≡ false → groups_pass shape left (drop at vs) ≡ false
+pub groups_failed : (shape : List Slot) (vs : List Value) (left at : ℕ) → 0 < left → group_passes shape (drop at vs) ≡ false →
+    groups_pass shape left (drop at vs) ≡ false
 groups_failed shape vs zero at some h = absurd (omega (arith, some))
 groups_failed shape vs (suc n) at some h = ap (λ b. b && groups_pass shape n (drop (length shape) (drop at vs))) h
 

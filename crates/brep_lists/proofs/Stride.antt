@@ -6,7 +6,8 @@ use Rattle.std.proofs.lemmas.List.{length-map}
 use Rattle.iges_fields.specs.declared.value.Value.{Value}
 use Rattle.brep_lists.specs.DueValues.{DueValue, pointer, at_least_one, count}
 use Rattle.brep_lists.specs.Record.{pair_due, edge_due, vertex_due, count_of, value_or_default, int_at, groups, pair_read, edge_read}
-use Rattle.brep_lists.specs.declared.entity_kind.EntityKind.TheVariants.{Solid as solid, Shell as shell, Face as face, EdgeList as edges, VertexList as vertices}
+use Rattle.brep_lists.specs.declared.entity_kind.EntityKind.TheVariants.{Solid as solid, Shell as shell, Face as face, EdgeList as edges}
+use Rattle.brep_lists.specs.declared.entity_kind.EntityKind.TheVariants.{VertexList as vertices}
 use Rattle.brep_lists.specs.OwnValues.{meets, meets_all, is_record_of}
 use Rattle.brep_lists.specs.Groups.{passes, groups_pass, is_counted, is_solid, is_face}
 use Rattle.brep_lists.specs.declared.groups.Slot.{Slot}
@@ -31,7 +32,8 @@ vertex_shape = Coordinate ∷ Coordinate ∷ Coordinate ∷ []
 abbrev pub vertex_read : List Value → Value × Value × Value
 vertex_read g = (value_or_default g 0, value_or_default g 1, value_or_default g 2)
 
-pub pairs_meet : (n : ℕ) (ds : List DueValue) (vs : List Value) → meets_all (flat_map pair_due (map pair_read (groups 2 n vs)) ++ ds) vs ≡ (groups_pass pair_shape n vs && meets_all ds (drop (n * 2) vs))
+pub pairs_meet : (n : ℕ) (ds : List DueValue) (vs : List Value) →
+    meets_all (flat_map pair_due (map pair_read (groups 2 n vs)) ++ ds) vs ≡ (groups_pass pair_shape n vs && meets_all ds (drop (n * 2) vs))
 pairs_meet zero ds vs = refl
 pairs_meet (suc n) ds [] = refl
 pairs_meet (suc n) ds (v ∷ []) = front (passes Whole v) false false (groups_pass pair_shape n []) _ refl
@@ -40,20 +42,24 @@ pairs_meet (suc n) ds (v ∷ w ∷ vs) =
     let on : drop (n * 2) vs ≡ drop (suc n * 2) (v ∷ w ∷ vs) = sym (ap (λ m. drop m (v ∷ w ∷ vs)) two) in
     front (passes Whole v) _ _ _ _ (front (passes Flag w) _ true _ _ (pairs_meet n ds vs ∙ ap (λ ws. groups_pass pair_shape n vs && meets_all ds ws) on))
 
-pub edges_meet : (n : ℕ) (ds : List DueValue) (vs : List Value) → meets_all (flat_map edge_due (map edge_read (groups 5 n vs)) ++ ds) vs ≡ (groups_pass edge_shape n vs && meets_all ds (drop (n * 5) vs))
+pub edges_meet : (n : ℕ) (ds : List DueValue) (vs : List Value) →
+    meets_all (flat_map edge_due (map edge_read (groups 5 n vs)) ++ ds) vs ≡ (groups_pass edge_shape n vs && meets_all ds (drop (n * 5) vs))
 edges_meet zero ds vs = refl
 edges_meet (suc n) ds [] = refl
 edges_meet (suc n) ds (a ∷ []) = front (passes Whole a) _ false _ _ refl
 edges_meet (suc n) ds (a ∷ b ∷ []) = front (passes Whole a) _ _ _ _ (front (passes Whole b) _ false _ _ refl)
 edges_meet (suc n) ds (a ∷ b ∷ c ∷ []) = front (passes Whole a) _ _ _ _ (front (passes Whole b) _ _ _ _ (front (passes Whole c) _ false _ _ refl))
-edges_meet (suc n) ds (a ∷ b ∷ c ∷ d ∷ []) = front (passes Whole a) _ _ _ _ (front (passes Whole b) _ _ _ _ (front (passes Whole c) _ _ _ _ (front (passes Whole d) _ false _ _ refl)))
+edges_meet (suc n) ds (a ∷ b ∷ c ∷ d ∷ []) = front (passes Whole a) _ _ _ _
+    (front (passes Whole b) _ _ _ _ (front (passes Whole c) _ _ _ _ (front (passes Whole d) _ false _ _ refl)))
 edges_meet (suc n) ds (a ∷ b ∷ c ∷ d ∷ x ∷ vs) =
     let five : suc n * 5 ≡ suc (suc (suc (suc (suc (n * 5))))) = omega arith in
     let on : drop (n * 5) vs ≡ drop (suc n * 5) (a ∷ b ∷ c ∷ d ∷ x ∷ vs) = sym (ap (λ m. drop m (a ∷ b ∷ c ∷ d ∷ x ∷ vs)) five) in
-    front (passes Whole a) _ _ _ _ (front (passes Whole b) _ _ _ _ (front (passes Whole c) _ _ _ _ (front (passes Whole d) _ _ _ _ (front (passes Whole x) _ true _ _
+    front (passes Whole a) _ _ _ _ (front (passes Whole b) _ _ _ _
+    (front (passes Whole c) _ _ _ _ (front (passes Whole d) _ _ _ _ (front (passes Whole x) _ true _ _
     (edges_meet n ds vs ∙ ap (λ ws. groups_pass edge_shape n vs && meets_all ds ws) on)))))
 
-pub vertices_meet : (n : ℕ) (ds : List DueValue) (vs : List Value) → meets_all (flat_map vertex_due (map vertex_read (groups 3 n vs)) ++ ds) vs ≡ (groups_pass vertex_shape n vs && meets_all ds (drop (n * 3) vs))
+pub vertices_meet : (n : ℕ) (ds : List DueValue) (vs : List Value) →
+    meets_all (flat_map vertex_due (map vertex_read (groups 3 n vs)) ++ ds) vs ≡ (groups_pass vertex_shape n vs && meets_all ds (drop (n * 3) vs))
 vertices_meet zero ds vs = refl
 vertices_meet (suc n) ds [] = refl
 vertices_meet (suc n) ds (a ∷ []) = front (passes Coordinate a) _ false _ _ refl
@@ -100,7 +106,8 @@ pointer_shape = Whole ∷ []
 abbrev pub loop_read : List Value → ℤ
 loop_read g = int_at g 0
 
-pub pointers_meet : (n : ℕ) (ds : List DueValue) (vs : List Value) → meets_all (map pointer (map loop_read (groups 1 n vs)) ++ ds) vs ≡ (groups_pass pointer_shape n vs && meets_all ds (drop (n * 1) vs))
+pub pointers_meet : (n : ℕ) (ds : List DueValue) (vs : List Value) →
+    meets_all (map pointer (map loop_read (groups 1 n vs)) ++ ds) vs ≡ (groups_pass pointer_shape n vs && meets_all ds (drop (n * 1) vs))
 pointers_meet zero ds vs = refl
 pointers_meet (suc n) ds [] = refl
 pointers_meet (suc n) ds (v ∷ vs) =

@@ -14,7 +14,8 @@ use Rattle.brep_lists.proofs.Stride.{front, items_length}
 abbrev pub curve_shape : List Slot
 curve_shape = Flag ∷ Whole ∷ []
 
-pub curves_meet : (n : ℕ) (ds : List DueValue) (vs : List Value) → meets_all (flat_map curve_due (map curve_read (groups 2 n vs)) ++ ds) vs ≡ (groups_pass curve_shape n vs && meets_all ds (drop (n * 2) vs))
+pub curves_meet : (n : ℕ) (ds : List DueValue) (vs : List Value) →
+    meets_all (flat_map curve_due (map curve_read (groups 2 n vs)) ++ ds) vs ≡ (groups_pass curve_shape n vs && meets_all ds (drop (n * 2) vs))
 curves_meet zero ds vs = refl
 curves_meet (suc n) ds [] = refl
 curves_meet (suc n) ds (v ∷ []) = front (passes Flag v) false false (groups_pass curve_shape n []) _ refl

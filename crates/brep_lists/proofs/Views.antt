@@ -38,7 +38,8 @@ group_at size (suc n) zero vs h = let e : 0 * size ≡ 0 = omega arith in ap (λ
 group_at size (suc n) (suc i) vs h =
     group_at size n i (drop size vs) (omega (arith, h))
     ∙ ap (λ ws. Some (take size ws)) (drop-drop (i * size) size vs)
-    ∙ (let e : size + i * size ≡ suc i * size = sym (suc-mul i size ∙ (let f : i * size + size ≡ size + i * size = omega arith in f)) in ap (λ k. Some (take size (drop k vs))) e)
+    ∙ (let e : size + i * size ≡ suc i * size = sym (suc-mul i size ∙ (let f : i * size + size ≡ size + i * size = omega arith in f)) in ap
+    (λ k. Some (take size (drop k vs))) e)
 
 -- the item of a number: what is read in its group
 pub item_at : {X : Type 0} (read : List Value → X) (size n i base : ℕ) (vs : List Value) → i < n
@@ -68,7 +69,8 @@ edge_of a b c d e = record { curve = a; start_list = b; start_index = c; end_lis
 
 same_edge : {a b c d e a' b' c' d' e' : ℤ} → a ≡ a' → b ≡ b' → c ≡ c' → d ≡ d' → e ≡ e' → edge_of a b c d e ≡ edge_of a' b' c' d' e'
 same_edge {a} {b} {c} {d} {e} {a'} {b'} {c'} {d'} {e'} p q r s t =
-    ap (λ z. edge_of z b c d e) p ∙ (ap (λ z. edge_of a' z c d e) q ∙ (ap (λ z. edge_of a' b' z d e) r ∙ (ap (λ z. edge_of a' b' c' z e) s ∙ ap (λ z. edge_of a' b' c' d' z) t)))
+    ap (λ z. edge_of z b c d e) p ∙ (ap (λ z. edge_of a' z c d e) q ∙
+    (ap (λ z. edge_of a' b' z d e) r ∙ (ap (λ z. edge_of a' b' c' z e) s ∙ ap (λ z. edge_of a' b' c' d' z) t)))
 
 pub edge_item : (n i : ℕ) (vs : List Value) (a b c d e : ℤ) → i < n
     → a ≡ int_at vs (1 + i * 5) → b ≡ int_at vs (1 + i * 5 + 1) → c ≡ int_at vs (1 + i * 5 + 2) → d ≡ int_at vs (1 + i * 5 + 3) → e ≡ int_at vs (1 + i * 5 + 4)

@@ -1,5 +1,6 @@
 -- Which records are of a kind, as a test; how many values of one are its own, and which of these are pointers.
-use Rattle.std.specs.Prelude.{◌↔◌, IsTrue, ℕ, ◌==◌, ◌&&◌, ◌||◌, nat_lt, Bool, true, false, if◌then◌else◌, ℤ, pos, List, [], ◌∷◌, length, Option, Some, None, filter_map}
+use Rattle.std.specs.Prelude.{◌↔◌, IsTrue, ℕ, ◌==◌, ◌&&◌, ◌||◌, nat_lt, Bool, true, false, if◌then◌else◌, ℤ, pos, List, [], ◌∷◌, length, Option, Some, None}
+use Rattle.std.specs.Prelude.{filter_map}
 use Rattle.std.specs.List.{enumerate_from}
 use Rattle.std.specs.Ordering.{int_eq}
 use Rattle.std.specs.Str.{bytes_eq}

@@ -1,12 +1,14 @@
 -- The records of a solid's entities: their items, how these are spelled, and how they are read.
-use Rattle.std.specs.Prelude.{◌≡◌, ℕ, zero, suc, ◌+◌, ◌*◌, ◌==◌, Bool, false, ℤ, pos, negsuc, List, [], ◌∷◌, ◌++◌, length, map, flat_map, take, drop, ◌⊎◌, Option, find}
+use Rattle.std.specs.Prelude.{◌≡◌, ℕ, zero, suc, ◌+◌, ◌*◌, ◌==◌, Bool, false, ℤ, pos, negsuc, List, [], ◌∷◌, ◌++◌, length, map, flat_map, take, drop, ◌⊎◌}
+use Rattle.std.specs.Prelude.{Option, find}
 use Rattle.std.specs.Ordering.{int_eq}
 use Rattle.iges_fields.specs.declared.value.Value.{Value}
 use Rattle.iges_fields.specs.declared.value.Value.TheVariants.{Default, Int}
 use Rattle.brep_lists.specs.DueValues.{DueValue, pointer, number, flag, at_least_one, count, coordinate, MeetsAll}
 use Rattle.brep_lists.specs.declared.edge_list.EdgeTuple.{EdgeTuple}
 use Rattle.brep_lists.specs.declared.entity_kind.EntityKind.{EntityKind}
-use Rattle.brep_lists.specs.declared.entity_kind.EntityKind.TheVariants.{Solid as solid, Shell as shell, Face as face, Loop as «loop», EdgeList as edges, VertexList as vertices}
+use Rattle.brep_lists.specs.declared.entity_kind.EntityKind.TheVariants.{Solid as solid, Shell as shell, Face as face, Loop as «loop», EdgeList as edges}
+use Rattle.brep_lists.specs.declared.entity_kind.EntityKind.TheVariants.{VertexList as vertices}
 
 abbrev pub type_number : EntityKind → ℤ
 type_number solid = pos 186
@@ -131,7 +133,14 @@ abbrev pub edge_read : List Value → EdgeTuple
 edge_read vs = record { curve = int_at vs 0; start_list = int_at vs 1; start_index = int_at vs 2; end_list = int_at vs 3; end_index = int_at vs 4 }
 
 abbrev pub tuple_read : List Value → LoopTuple
-tuple_read vs = record { is_vertex = flag_at vs 0; «list» = int_at vs 1; index = int_at vs 2; flag = flag_at vs 3; curves = map curve_read (groups 2 (count_at vs 4) (drop 5 vs)) }
+tuple_read vs = record {
+  is_vertex = flag_at vs 0;
+  «list» = int_at vs 1;
+  index = int_at vs 2;
+  flag = flag_at vs 3;
+  curves =
+      map curve_read (groups 2 (count_at vs 4) (drop 5 vs));
+}
 
 -- n tuples, each with its curves
 abbrev pub tuples_read : ℕ → List Value → List LoopTuple

@@ -50,7 +50,8 @@ module _ {A : Type 0} (same : A → A → Bool) where
         by_test false e = any_itself ks k
 
     -- the place of a key that was inserted stays so when another key is
-    pub numbered_still : (old mid new : List A) (a b : A) (i : ℕ) → mid ≡ insert_key same old a → new ≡ insert_key same mid b → i ≡ place_of same mid a → i ≡ place_of same new a
+    pub numbered_still : (old mid new : List A) (a b : A) (i : ℕ) → mid ≡ insert_key same old a → new ≡ insert_key same mid b → i ≡ place_of same mid a →
+        i ≡ place_of same new a
     numbered_still old mid new a b i first second e =
         e ∙ (sym (by_test (list_any (same b) mid)) ∙ ap (λ ks. place_of same ks a) (sym second))
       where
@@ -81,7 +82,8 @@ module _ {A : Type 0} (same : A → A → Bool) where
   insert_all-append ks (x ∷ xs) ys = insert_all-append (insert_key same ks x) xs ys
 
 -- an edge that is new goes last
-edge_pushed : (old new : List Edge) (key : EdgeKey) (from to : VertexId) (i j : ℕ) (any is_new : Bool) → is_new ≡ not any → is_new ≡ true → from.0 ≡ i → to.0 ≡ j
+edge_pushed : (old new : List Edge) (key : EdgeKey) (from to : VertexId) (i j : ℕ) (any is_new : Bool) → is_new ≡ not any → is_new ≡ true → from.0 ≡ i →
+    to.0 ≡ j
     → new ≡ old ++ record { key = key; from = from; to = to } ∷ []
     → new ≡ (if any then old else old ++ record { key = key; from = record { 0 = i }; to = record { 0 = j } } ∷ [])
 edge_pushed old new key from to i j true is_new added fresh a b is = absurd (let g : true ≡ false = sym fresh ∙ added in cc)
@@ -107,6 +109,8 @@ edge_numbered s0 s1 s2 s3 pushed key start end from to is_new first i second j a
     let keys : s2.keys.edges ≡ s0.keys.edges = ap (λ (s : Numbered). s.keys.edges) second ∙ ap (λ (s : Numbered). s.keys.edges) first in
     let still : from.0 ≡ place_of same_vertex s3.keys.vertices start =
     numbered_still same_vertex vertex_itself s0.keys.vertices s1.keys.vertices s2.keys.vertices start end from.0
-    (ap (λ (s : Numbered). s.keys.vertices) first) (ap (λ (s : Numbered). s.keys.vertices) second) i ∙ ap (λ ks. place_of same_vertex ks start) (sym third_vertices) in
+    (ap (λ (s : Numbered). s.keys.vertices) first) (ap (λ (s : Numbered). s.keys.vertices) second) i ∙ ap (λ ks. place_of same_vertex ks start)
+    (sym third_vertices) in
     edge_pushed s0.edges pushed key from to _ _ (list_any (same_edge key) s0.keys.edges) is_new
-    (added ∙ ap (λ ks. not (list_any (same_edge key) ks)) keys) fresh still (j ∙ ap (λ ks. place_of same_vertex ks end) (sym third_vertices)) (is ∙ ap (λ es. es ++ record { key = key; from = from; to = to } ∷ []) edges)
+    (added ∙ ap (λ ks. not (list_any (same_edge key) ks)) keys) fresh still (j ∙ ap (λ ks. place_of same_vertex ks end) (sym third_vertices))
+    (is ∙ ap (λ es. es ++ record { key = key; from = from; to = to } ∷ []) edges)

@@ -31,11 +31,13 @@ true_is_false : true ≡ false → ⊥
 true_is_false w = cc
 
 -- a new number goes last
-inserted_last : {K : Type 0} (es : List (ℕ × K)) (n : ℕ) (k : K) → ((i : ℕ) (e : ℕ × K) → slice_get es i ≡ Some e → e.0 < n) → insert_entry nat_eq es n k ≡ es ++ (n, k) ∷ []
+inserted_last : {K : Type 0} (es : List (ℕ × K)) (n : ℕ) (k : K) → ((i : ℕ) (e : ℕ × K) → slice_get es i ≡ Some e → e.0 < n) →
+    insert_entry nat_eq es n k ≡ es ++ (n, k) ∷ []
 inserted_last [] n k less = refl
 inserted_last {K} (e ∷ es) n k less = by_test (nat_eq n e.0) refl (inserted_last es n k (λ i x at. less (suc i) x at))
   where
-    by_test : (b : Bool) → nat_eq n e.0 ≡ b → insert_entry nat_eq es n k ≡ es ++ (n, k) ∷ [] → (if b then (e.0, k) ∷ es else e ∷ insert_entry nat_eq es n k) ≡ e ∷ (es ++ (n, k) ∷ [])
+    by_test : (b : Bool) → nat_eq n e.0 ≡ b → insert_entry nat_eq es n k ≡ es ++ (n, k) ∷ [] →
+        (if b then (e.0, k) ∷ es else e ∷ insert_entry nat_eq es n k) ≡ e ∷ (es ++ (n, k) ∷ [])
     by_test true same rest = absurd (let at : n ≡ e.0 = eqb-true n e.0 same in omega (arith, at, less 0 e refl))
     by_test false other rest = ap (λ l. e ∷ l) rest
 
@@ -68,7 +70,8 @@ module _ {K : Type 0} (same : K → K → Bool) (sound : (a b : K) → same a b 
         sym (ap slot e.2) ∙ (keyed (place_of same (values_of es) k) e.0 e.1).1
 
     in_slot : (k : K) (e : ℕ × K) → slice_get es (slot k) ≡ Some e → same e.1 k ≡ true → Has (values_of es) k
-    in_slot k e at is = has_get (values_of es) (slot k) k (slice_get-map (λ (x : ℕ × K). x.1) es (slot k) ∙ (ap (option_map (λ (x : ℕ × K). x.1)) at ∙ ap Some (sound e.1 k is)))
+    in_slot k e at is = has_get (values_of es) (slot k) k (slice_get-map (λ (x : ℕ × K). x.1) es (slot k) ∙
+        (ap (option_map (λ (x : ℕ × K). x.1)) at ∙ ap Some (sound e.1 k is)))
 
     -- a key that stands in its slot is known
     pub is_known : (k : K) (e : ℕ × K) → slice_get es (slot k) ≡ Some e → same e.1 k ≡ true → true ≡ list_any (same k) (values_of es)
@@ -120,7 +123,9 @@ module _ {K : Type 0} (same : K → K → Bool) (sound : (a b : K) → same a b 
         keys_more = keys_pushed ∙ sym (ap (λ b. if b then values_of es else values_of es ++ k ∷ []) fresh)
 
 -- a key that was put in has the place that its slot says
-pub place_put : {K : Type 0} (same : K → K → Bool) (sound : (a b : K) → same a b ≡ true → a ≡ b) (itself : (a : K) → same a a ≡ true) (slot : K → ℕ) (new : List (ℕ × K)) → AreKeyed slot new
+pub place_put : {K : Type 0} (same : K → K → Bool) (sound : (a b : K) → same a b ≡ true → a ≡ b) (itself : (a : K) → same a a ≡ true) (slot : K →
+    ℕ) (new : List (ℕ × K)) → AreKeyed slot new
     → (old : List K) (k : K) (n : ℕ) → slot k ≡ n → values_of new ≡ insert_key same old k → n ≡ place_of same (values_of new) k
 place_put same sound itself slot new keyed old k n here put =
-    sym here ∙ at_slot same sound itself slot new keyed k (has_any same sound itself (values_of new) k (ap (list_any (same k)) put ∙ inserted same itself old k))
+    sym here ∙ at_slot same sound itself slot new keyed k (has_any same sound itself (values_of new) k
+    (ap (list_any (same k)) put ∙ inserted same itself old k))

@@ -18,7 +18,8 @@ cut_later : (b : ℕ) (bs : List ℕ) → b ≢ 10 → cut_lines (b ∷ bs) ≡ 
 cut_later b bs ne = ap (λ t. if t then (b ∷ []) ∷ cut_lines bs else put_before b (cut_lines bs)) (differ b ne)
 
 -- a text is cut behind its first LF
-pub cut_at : (text : List ℕ) (n : ℕ) → n < length text → get_or text n 0 ≡ 10 → ((k : ℕ) → k < n → get_or text k 0 ≢ 10) → cut_lines text ≡ take (n + 1) text ∷ cut_lines (drop (n + 1) text)
+pub cut_at : (text : List ℕ) (n : ℕ) → n < length text → get_or text n 0 ≡ 10 → ((k : ℕ) → k < n → get_or text k 0 ≢ 10) →
+    cut_lines text ≡ take (n + 1) text ∷ cut_lines (drop (n + 1) text)
 cut_at [] n lt e before = absurd (omega (arith, lt))
 cut_at (b ∷ bs) zero lt e before = cut_here b bs e
 cut_at (b ∷ bs) (suc n) lt e before =
@@ -28,7 +29,8 @@ cut_at (b ∷ bs) (suc n) lt e before =
     ∙ (ap (put_before b) rest ∙ ap (λ m. take m (b ∷ bs) ∷ cut_lines (drop m (b ∷ bs))) (sym more))
 
 -- a text without LF is one line
-pub cut_whole : (text : List ℕ) → 0 < length text → ((k : ℕ) → k < length text → get_or text k 0 ≢ 10) → cut_lines text ≡ take (length text) text ∷ cut_lines (drop (length text) text)
+pub cut_whole : (text : List ℕ) → 0 < length text → ((k : ℕ) → k < length text → get_or text k 0 ≢ 10) →
+    cut_lines text ≡ take (length text) text ∷ cut_lines (drop (length text) text)
 cut_whole [] some never = absurd (omega (arith, some))
 cut_whole (b ∷ []) some never = cut_later b [] (never 0 (omega arith))
 cut_whole (b ∷ c ∷ bs) some never =

@@ -1,5 +1,6 @@
 -- What a front of some digits is worth, and the texts of numbers.
-use Rattle.std.proofs.Common.{rules, ◌≡◌, ℕ, zero, suc, ◌+◌, ◌-◌, ◌*◌, ◌<◌, ◌≤◌, ◌^◌, List, [], ◌∷◌, ◌++◌, length, take, drop, get_or, arith, length-take, lit<, refl, sym, ◌∙◌, ap, subst, take-append-drop}
+use Rattle.std.proofs.Common.{rules, ◌≡◌, ℕ, zero, suc, ◌+◌, ◌-◌, ◌*◌, ◌<◌, ◌≤◌, ◌^◌, List, [], ◌∷◌, ◌++◌, length, take, drop, get_or, arith, length-take}
+use Rattle.std.proofs.Common.{lit<, refl, sym, ◌∙◌, ap, subst, take-append-drop}
 use Rattle.std.proofs.Math.Nat.{pow-le-pow_right}
 use Rattle.std.specs.Prelude.{decimal, ◌↔◌}
 use Rattle.std.specs.Str.Parse.{AllDigits, IsNumeral, digits_value}
@@ -37,8 +38,11 @@ numeral_word (b ∷ bs) n digits e few plain =
     let below = digits_value-lt 10 word digits in
     let bound : 10 ^ length word ≤ 10 ^ 9 = pow-le-pow_right (lit< tt) few in
     let small : digits_value 10 word < 10 ^ 9 = omega (arith, below, bound) in
-    let lead : get_or word 0 0 ≡ 48 → length word ≡ 1 = λ zero_first. omega (arith, plain zero_first) in
-    (omega (arith, small, e), sym (ap decimal e ∙ decimal-digits_value (numerals_by_value (AllDigits 10) (search rules)) word digits (omega arith) lead (omega (arith, small))))
+    let lead : get_or word 0 0 ≡ 48 → length word ≡ 1 = λ zero_first. omega (arith, plain zero_first) in (
+      omega (arith, small, e),
+      sym (ap decimal e ∙ decimal-digits_value (numerals_by_value (AllDigits 10) (search rules)) word digits (omega arith) lead
+          (omega (arith, small))),
+    )
 
 pub decimal_short : (n : ℕ) → IsShort n → length (decimal n) ≤ 9
 decimal_short n short = length-decimal-le 9 n (omega arith) short (omega (arith, short))
@@ -62,7 +66,8 @@ digits_word [] h = tt
 digits_word (b ∷ bs) h = ((digit_from_value b h.0).0, digits_word bs h.1)
 
 -- Where as many digits as have room were taken off, a number ends where they do.
-end_of_digits : (text word rest : List ℕ) (k room : ℕ) → text ≡ word ++ rest → AllDigits 10 word → Stops rest → length word ≤ room → k ≤ length text → AllDigits 10 (take k text)
+end_of_digits : (text word rest : List ℕ) (k room : ℕ) → text ≡ word ++ rest → AllDigits 10 word → Stops rest → length word ≤ room → k ≤ length text →
+    AllDigits 10 (take k text)
     → (k < room → k < length text → ¬ IsInRange 48 57 (get_or text k 0)) → Stops (drop k text)
 end_of_digits text [] rest zero room e w s r within digits ends = subst Stops (sym e) s
 end_of_digits [] [] rest (suc k) room e w s r within digits ends = absurd (omega (arith, within))
@@ -75,7 +80,8 @@ end_of_digits (b ∷ bs) (x ∷ word) rest zero room e w s r within digits ends 
     absurd (ends (omega (arith, r)) (omega arith) (subst (IsInRange 48 57) (sym same) (digit_from_value x w.0)))
 end_of_digits (b ∷ bs) (x ∷ word) rest (suc k) zero e w s r within digits ends = absurd (omega (arith, r))
 end_of_digits (b ∷ bs) (x ∷ word) rest (suc k) (suc room) e w s r within digits ends =
-    end_of_digits bs word rest k room (ap rest_of e) w.1 s (omega (arith, r)) (omega (arith, within)) digits.1 (λ few inside. ends (omega (arith, few)) (omega (arith, inside)))
+    end_of_digits bs word rest k room (ap rest_of e) w.1 s (omega (arith, r)) (omega (arith, within)) digits.1
+    (λ few inside. ends (omega (arith, few)) (omega (arith, inside)))
 
 stops_first : (rest : List ℕ) → Stops rest → first_or 0 rest < 48
 stops_first [] h = omega arith
@@ -96,7 +102,8 @@ begins_cons text rest ns n b a = record { short = (b.short, a.short); text_is = 
 pub begins_tail : (text rest ms : List ℕ) (n m : ℕ) → Begins text n rest → AreNumbers text (m ∷ ms) → (m ≡ n) × AreNumbers rest ms
 begins_tail text rest ms n m b a =
     let same : decimal n ++ rest ≡ decimal m ++ spaced ms = ap rest_of (sym b.text_is ∙ a.text_is) in
-    let parts = split_digits (decimal n) (decimal m) rest (spaced ms) (decimal_digits n b.short) (decimal_digits m a.short.0) (stops_first rest b.stops) (stops_first (spaced ms) (spaced_stops ms)) same in
+    let parts = split_digits (decimal n) (decimal m) rest (spaced ms) (decimal_digits n b.short) (decimal_digits m a.short.0) (stops_first rest b.stops)
+    (stops_first (spaced ms) (spaced_stops ms)) same in
     (sym (decimal_injective n m (omega (arith, b.short)) (omega (arith, a.short.0)) parts.0), record { short = a.short.1; text_is = parts.1 })
 
 pub begins_some : (text rest : List ℕ) (n : ℕ) → Begins text n rest → AreNumbers text [] → ⊥
@@ -122,13 +129,15 @@ empty_spaced (b ∷ bs) h = absurd (omega (arith, h))
 module _ (text after : List ℕ) (k : ℕ) (cut : text ≡ 32 ∷ after) (within : k ≤ length after) (digits : AllDigits 10 (take k after)) where
   pub number_stops : (rest : List ℕ) (n : ℕ) → (k < 9 → k < length after → ¬ IsInRange 48 57 (get_or after k 0)) → Begins text n rest → Stops (drop k after)
   number_stops rest n ends b =
-      end_of_digits after (decimal n) rest k 9 (ap rest_of (sym cut ∙ b.text_is)) (decimal_numeral n b.short).1 b.stops (decimal_short n b.short) within digits ends
+      end_of_digits after (decimal n) rest k 9 (ap rest_of (sym cut ∙ b.text_is)) (decimal_numeral n b.short).1 b.stops
+      (decimal_short n b.short) within digits ends
 
   pub number_plain : (rest : List ℕ) (n : ℕ) → Stops (drop k after) → Begins text n rest → IsPlain (take k after)
   number_plain rest n stops b =
       let same : take k after ++ drop k after ≡ decimal n ++ rest = take-append-drop k after ∙ ap rest_of (sym cut ∙ b.text_is) in
       decimal_plain (take k after) n b.short
-      (split_digits (take k after) (decimal n) (drop k after) rest (digits_word (take k after) digits) (decimal_digits n b.short) (stops_first (drop k after) stops) (stops_first rest b.stops) same).0
+      (split_digits (take k after) (decimal n) (drop k after) rest (digits_word (take k after) digits) (decimal_digits n b.short)
+      (stops_first (drop k after) stops) (stops_first rest b.stops) same).0
 
   pub number_begins : (n : ℕ) → k ≤ 9 → n ≡ digits_value 10 (take k after) → Stops (drop k after) → IsPlain (take k after) → Begins text n (drop k after)
   number_begins n few value stops plain =

@@ -1,5 +1,6 @@
 -- A line that an LF ends, and a text that has begun with such lines.
-use Rattle.std.specs.Prelude.{◌≡◌, ◌≢◌, ℕ, zero, suc, ◌+◌, ◌-◌, ◌<◌, ◌≤◌, ◌==◌, ◌⊎◌, true, false, not, List, [], ◌∷◌, ◌++◌, length, map, take, drop, slice_index}
+use Rattle.std.specs.Prelude.{◌≡◌, ◌≢◌, ℕ, zero, suc, ◌+◌, ◌-◌, ◌<◌, ◌≤◌, ◌==◌, ◌⊎◌, true, false, not, List, [], ◌∷◌, ◌++◌, length, map, take, drop}
+use Rattle.std.specs.Prelude.{slice_index}
 use Rattle.std.proofs.Common.{refl, sym, ◌∙◌, ap, subst, arith, inl, inr, length-append}
 use Rattle.std.proofs.lemmas.Bool.{cond-false, and_parts, and_from, not-true, not_from_false, ne_eqb, both_ways, cases_order}
 use Rattle.std.proofs.lemmas.List.{take_rest, take_all, length-take}
@@ -11,7 +12,8 @@ use Rattle.cert_lines.specs.Cutting.{IsFirstEnd, EndsFirst}
 
 pub all_in_line : (text : List ℕ) → ((k : ℕ) → k < length text → slice_index text k ≢ 10) → is_in_line text ≡ true
 all_in_line [] never = refl
-all_in_line (b ∷ bs) never = and_from (not (b == 10)) (is_in_line bs) (not_from_false (b == 10) (ne_eqb b 10 (never 0 (omega arith)))) (all_in_line bs (λ k lt. never (suc k) (omega (arith, lt))))
+all_in_line (b ∷ bs) never = and_from (not (b == 10)) (is_in_line bs) (not_from_false (b == 10) (ne_eqb b 10 (never 0 (omega arith))))
+    (all_in_line bs (λ k lt. never (suc k) (omega (arith, lt))))
 
 ends_at : (text : List ℕ) (n : ℕ) → IsFirstEnd text n → EndsFirst text (take (suc n) text) (drop (suc n) text)
 ends_at [] n e = absurd (let w = e.within in omega (arith, w))
@@ -26,11 +28,13 @@ ends_at (b ∷ bs) (suc n) e =
       whole = ap (λ (x : List ℕ). b ∷ x) more.whole;
     }
 
-pub ends_first : (text : List ℕ) (n m : ℕ) (line after : List ℕ) → IsFirstEnd text n → m ≡ n + 1 → line ≡ take m text → after ≡ take (length text - m) (drop m text) → EndsFirst text line after
+pub ends_first : (text : List ℕ) (n m : ℕ) (line after : List ℕ) → IsFirstEnd text n → m ≡ n + 1 → line ≡ take m text →
+    after ≡ take (length text - m) (drop m text) → EndsFirst text line after
 ends_first text n m line after e m-is line-is after-is =
     let next : m ≡ suc n = omega (arith, m-is) in
     subst (λ (x : List ℕ). EndsFirst text line x) (sym (after-is ∙ take_rest text m))
-    (subst (λ (x : List ℕ). EndsFirst text x (drop m text)) (sym line-is) (subst (λ (k : ℕ). EndsFirst text (take k text) (drop k text)) (sym next) (ends_at text n e)))
+    (subst (λ (x : List ℕ). EndsFirst text x (drop m text)) (sym line-is)
+    (subst (λ (k : ℕ). EndsFirst text (take k text) (drop k text)) (sym next) (ends_at text n e)))
 
 -- ---- cutting
 
@@ -38,7 +42,8 @@ first_cut : (p rest : List ℕ) → is_in_line p ≡ true → cut_lines (p ++ 10
 first_cut [] rest h = refl
 first_cut (b ∷ p) rest h =
     let k = and_parts (not (b == 10)) (is_in_line p) h in
-    cond-false (b == 10) ((b ∷ []) ∷ cut_lines (p ++ 10 ∷ rest)) (put_before b (cut_lines (p ++ 10 ∷ rest))) (not-true (b == 10) k.0) ∙ ap (put_before b) (first_cut p rest k.1)
+    cond-false (b == 10) ((b ∷ []) ∷ cut_lines (p ++ 10 ∷ rest)) (put_before b (cut_lines (p ++ 10 ∷ rest))) (not-true (b == 10) k.0) ∙ ap (put_before b)
+    (first_cut p rest k.1)
 
 pub last_cut : (p : List ℕ) → is_in_line p ≡ true → 0 < length p → cut_lines p ≡ p ∷ []
 last_cut [] h some = absurd (omega arith)
@@ -97,7 +102,8 @@ kept_is_misspelt limit front h = by_order (cases_order (length (kept_line limit 
     short : length (kept_line limit front) ≤ limit → IsMisspelt limit (ended front)
     short le = subst (IsMisspelt limit) (kept_whole limit front le) h
 
-    by_order : (length (kept_line limit front) ≡ limit) ⊎ ((length (kept_line limit front) < limit) ⊎ (limit < length (kept_line limit front))) → IsMisspelt limit (ended front)
+    by_order : (length (kept_line limit front) ≡ limit) ⊎ ((length (kept_line limit front) < limit) ⊎ (limit < length (kept_line limit front))) →
+        IsMisspelt limit (ended front)
     by_order (inl e) = short (omega (arith, e))
     by_order (inr (inl lt)) = short (omega (arith, lt))
     by_order (inr (inr gt)) = absurd (h.not_long (gt, ended_has (take limit front)))

@@ -2,7 +2,8 @@
 use Rattle.std.specs.Prelude.{◌≡◌, ℕ, ◌+◌, ◌<◌, ◌==◌, ◌^◌, List, [], ◌∷◌, ◌++◌, codes, if◌then◌else◌, ◌≢◌, length}
 use Rattle.std.specs.List.{AllByRecursion}
 use Rattle.std.proofs.Common.{refl, arith, get_or, inl, inr}
-use Rattle.cert_lines.specs.Line.{CertLine, head, solid, shell, edge, corner, point, reach, tally, end, version_number, spaced, spelling, IsShort, HasSpelling, words}
+use Rattle.cert_lines.specs.Line.{CertLine, head, solid, shell, edge, corner, point, reach, tally, end, version_number, spaced, spelling, IsShort, HasSpelling}
+use Rattle.cert_lines.specs.Line.{words}
 use Rattle.cert_lines.specs.declared.version.Version.{Version}
 use Rattle.cert_lines.specs.declared.version.Version.TheVariants.{One, Two, Three}
 use Rattle.solid_data.proofs.Decisions.{Decided, decided_below, decided_both, decided_all}
@@ -38,14 +39,21 @@ numbers_in end = []
 numbers_in (tally t) = t.vertices ∷ t.edges ∷ t.faces ∷ t.loops ∷ []
 
 abbrev pub prefix_of : ℕ → List ℕ
-prefix_of k = if k == 0 then codes "IGESCERT" else (if k == 1 then codes "SOLID" else (if k == 2 then codes "SHELL" else (if k == 3 then codes "E" else (if k == 4 then codes "C" else (if k == 5 then codes "I" else (if k == 6 then codes "R" else (if k == 7 then codes "END" else codes "TALLY")))))))
+prefix_of k = if k == 0 then codes "IGESCERT" else (if k == 1 then codes "SOLID" else
+    (if k == 2 then codes "SHELL" else (if k == 3 then codes "E" else
+    (if k == 4 then codes "C" else (if k == 5 then codes "I" else (if k == 6 then codes "R" else (if k == 7 then codes "END" else codes "TALLY")))))))
 
 abbrev version_with : ℕ → Version
 version_with n = if n == 1 then One else (if n == 2 then Two else Three)
 
 abbrev pub line_from : ℕ → List ℕ → CertLine
-line_from k ns = if k == 0 then head (version_with (get_or ns 0 0)) else (if k == 1 then solid (get_or ns 0 0) else (if k == 2 then shell (get_or ns 0 0) (record { rows = get_or ns 1 0; edges = get_or ns 2 0; corners = get_or ns 3 0; faces = get_or ns 4 0 })
-    else (if k == 3 then edge (get_or ns 0 0) (get_or ns 1 0) else (if k == 4 then corner ns else (if k == 5 then point (get_or ns 0 0) (get_or ns 1 0) else (if k == 6 then reach (get_or ns 0 0) else (if k == 7 then end else tally (record { vertices = get_or ns 0 0; edges = get_or ns 1 0; faces = get_or ns 2 0; loops = get_or ns 3 0 }))))))))
+line_from k ns = if k == 0 then head (version_with (get_or ns 0 0)) else
+    (if k == 1 then solid (get_or ns 0 0) else (if k == 2 then shell (get_or ns 0 0)
+    (record { rows = get_or ns 1 0; edges = get_or ns 2 0; corners = get_or ns 3 0; faces = get_or ns 4 0 })
+    else (if k == 3 then edge (get_or ns 0 0) (get_or ns 1 0) else
+    (if k == 4 then corner ns else (if k == 5 then point (get_or ns 0 0) (get_or ns 1 0) else
+    (if k == 6 then reach (get_or ns 0 0) else (if k == 7 then end else tally
+    (record { vertices = get_or ns 0 0; edges = get_or ns 1 0; faces = get_or ns 2 0; loops = get_or ns 3 0 }))))))))
 
 pub rebuilt : (l : CertLine) → line_from (kind_of l) (numbers_in l) ≡ l
 rebuilt (head One) = refl
@@ -87,7 +95,8 @@ abbrev pub kind_by : List ℕ → ℕ
 kind_by bytes = by_bytes (get_or bytes 0 0) (get_or bytes 1 0)
   where
     by_bytes : ℕ → ℕ → ℕ
-    by_bytes a b = if a == 73 then (if b == 71 then 0 else 5) else (if a == 83 then (if b == 79 then 1 else 2) else (if a == 69 then (if b == 32 then 3 else 7) else (if a == 67 then 4 else (if a == 84 then 8 else 6))))
+    by_bytes a b = if a == 73 then (if b == 71 then 0 else 5) else
+        (if a == 83 then (if b == 79 then 1 else 2) else (if a == 69 then (if b == 32 then 3 else 7) else (if a == 67 then 4 else (if a == 84 then 8 else 6))))
 
 pub kind_read : (l : CertLine) → HasSpelling l → kind_by (spelling l) ≡ kind_of l
 kind_read (head v) h = refl
@@ -102,14 +111,41 @@ kind_read (tally t) h = refl
 kind_read end h = refl
 
 pub words_no_break : (l : CertLine) → HasSpelling l → AllByRecursion (λ b. b ≢ 10) (words l)
-words_no_break (head v) h = (omega arith, (omega arith, (omega arith, (omega arith, (omega arith, (omega arith, (omega arith, (omega arith, spaced_no_break (version_number v ∷ []) (version_short v, tt)))))))))
+words_no_break (head v) h = (
+  omega arith,
+  (
+    omega arith,
+    (
+      omega arith,
+      (omega arith, (omega arith, (omega arith, (omega arith, (omega arith, spaced_no_break (version_number v ∷ []) (version_short v, tt)))))),
+    ),
+  ),
+)
 words_no_break (solid n) h = (omega arith, (omega arith, (omega arith, (omega arith, (omega arith, spaced_no_break (n ∷ []) (h, tt))))))
-words_no_break (shell k c) h = (omega arith, (omega arith, (omega arith, (omega arith, (omega arith, spaced_no_break (k ∷ c.rows ∷ c.edges ∷ c.corners ∷ c.faces ∷ []) h)))))
+words_no_break (shell k c) h = (
+  omega arith,
+  (
+    omega arith,
+    (
+      omega arith,
+      (omega arith, (omega arith, spaced_no_break (k ∷ c.rows ∷ c.edges ∷ c.corners ∷ c.faces ∷ []) h)),
+    ),
+  ),
+)
 words_no_break (edge a b) h = (omega arith, spaced_no_break (a ∷ b ∷ []) (h.0, (h.1, tt)))
 words_no_break (corner rs) h = (omega arith, spaced_no_break rs h.0)
 words_no_break (point face l) h = (omega arith, spaced_no_break (face ∷ l ∷ []) (h.0, (h.1, tt)))
 words_no_break (reach r) h = (omega arith, spaced_no_break (r ∷ []) (h, tt))
-words_no_break (tally t) h = (omega arith, (omega arith, (omega arith, (omega arith, (omega arith, spaced_no_break (t.vertices ∷ t.edges ∷ t.faces ∷ t.loops ∷ []) h)))))
+words_no_break (tally t) h = (
+  omega arith,
+  (
+    omega arith,
+    (
+      omega arith,
+      (omega arith, (omega arith, spaced_no_break (t.vertices ∷ t.edges ∷ t.faces ∷ t.loops ∷ []) h)),
+    ),
+  ),
+)
 words_no_break end h = (omega arith, (omega arith, (omega arith, tt)))
 
 short_decided : (n : ℕ) → Decided (IsShort n)

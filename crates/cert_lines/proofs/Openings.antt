@@ -12,7 +12,8 @@ other_good : (Wanted : CertLine → Type 0) (bytes : List ℕ) (l : CertLine) �
 other_good Wanted bytes l is_l want (inl long) = absurd (omega (arith, long.0, is_l.0))
 other_good Wanted bytes l is_l want (inr (m, is_m, other)) = other (subst Wanted (line_one bytes l m is_l.1 is_m.1) want)
 
-wrong_good : (Wanted : CertLine → Type 0) (number : ℕ) (bytes : List ℕ) (l : CertLine) (bad : Illegal) → IsLine first_limit bytes l → Wanted l → IsWrong Wanted number bytes bad → ⊥
+wrong_good : (Wanted : CertLine → Type 0) (number : ℕ) (bytes : List ℕ) (l : CertLine) (bad : Illegal) → IsLine first_limit bytes l → Wanted l →
+    IsWrong Wanted number bytes bad → ⊥
 wrong_good Wanted number bytes l bad is_l want (inl misspelt) = misspelt.0.none l is_l.1
 wrong_good Wanted number bytes l bad is_l want (inr other) = other_good Wanted bytes l is_l want other.0
 
@@ -40,11 +41,13 @@ one_first (first ∷ lines) x y (inr p) (inr q) = one_second lines x y p.2 q.2
 pub one_bad_opening : (certificate : List ℕ) (x y : Illegal) → IsBadOpening certificate x → IsBadOpening certificate y → x ≡ y
 one_bad_opening certificate x y = one_first (cut_lines certificate) x y
 
-no_wrong : (first second : List ℕ) (rest : List (List ℕ)) (v : Version) (n : ℕ) (bad : Illegal) → IsLine first_limit first (head v) → IsLine first_limit second (solid n) → IsFirstWrong (first ∷ second ∷ rest) bad → ⊥
+no_wrong : (first second : List ℕ) (rest : List (List ℕ)) (v : Version) (n : ℕ) (bad : Illegal) → IsLine first_limit first (head v) →
+    IsLine first_limit second (solid n) → IsFirstWrong (first ∷ second ∷ rest) bad → ⊥
 no_wrong first second rest v n bad a b (inl p) = wrong_good IsHead 1 first (head v) bad a (v, refl) p
 no_wrong first second rest v n bad a b (inr p) = wrong_good IsSolid 2 second (solid n) bad b (n, refl) p.2
 
-pub opens_or_bad : (certificate : List ℕ) (v : Version) (n : ℕ) (rest : List (List ℕ)) (bad : Illegal) → Opens certificate v n rest → IsBadOpening certificate bad → ⊥
+pub opens_or_bad : (certificate : List ℕ) (v : Version) (n : ℕ) (rest : List (List ℕ)) (bad : Illegal) → Opens certificate v n rest →
+    IsBadOpening certificate bad → ⊥
 opens_or_bad certificate v n rest bad o b = no_wrong o.first o.second rest v n bad o.is_head o.names (subst (λ ls. IsFirstWrong ls bad) o.cut b)
 
 solid_number : CertLine → ℕ
@@ -67,7 +70,8 @@ abbrev behind_two : List (List ℕ) → List (List ℕ)
 behind_two (first ∷ second ∷ rest) = rest
 behind_two _ = []
 
-pub one_opening : (certificate : List ℕ) (v w : Version) (n m : ℕ) (rest other : List (List ℕ)) → Opens certificate v n rest → Opens certificate w m other → (v ≡ w) × (n ≡ m) × (rest ≡ other)
+pub one_opening : (certificate : List ℕ) (v w : Version) (n m : ℕ) (rest other : List (List ℕ)) → Opens certificate v n rest → Opens certificate w m other →
+    (v ≡ w) × (n ≡ m) × (rest ≡ other)
 unfolding solid_number version_of
 one_opening certificate v w n m rest other a b =
     let same : a.first ∷ a.second ∷ rest ≡ b.first ∷ b.second ∷ other = sym a.cut ∙ b.cut in

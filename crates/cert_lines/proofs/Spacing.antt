@@ -28,7 +28,8 @@ zero_digits = (omega arith, tt)
 
 pub decimal_digits : (n : ℕ) → n < 10 ^ 9 → AllByRecursion (λ b. 48 ≤ b) (decimal n)
 decimal_digits zero lt = zero_digits
-decimal_digits (suc n) lt = subst (AllByRecursion (λ b. 48 ≤ b)) (sym (decimal-digits_of (suc n) (omega arith) (omega (arith, lt)))) (map_digits (digits_of 10 (suc n)))
+decimal_digits (suc n) lt = subst (AllByRecursion (λ b. 48 ≤ b)) (sym (decimal-digits_of (suc n) (omega arith) (omega (arith, lt))))
+    (map_digits (digits_of 10 (suc n)))
 
 -- Digits up to a byte that is none are told apart.
 pub split_digits : (xs ys us vs : List ℕ) → AreDigits xs → AreDigits ys → first_or 0 us < 48 → first_or 0 vs < 48 → xs ++ us ≡ ys ++ vs → (xs ≡ ys) × (us ≡ vs)
@@ -50,7 +51,8 @@ spaced_one (n ∷ ns) [] a b h = absurd (let e : ◌≡◌ {A = ℕ} 32 10 = ap 
 spaced_one (n ∷ ns) (m ∷ ms) a b h =
     let tails : decimal n ++ (spaced ns ++ 10 ∷ []) ≡ decimal m ++ (spaced ms ++ 10 ∷ []) =
     sym (append_assoc (decimal n) (spaced ns) (10 ∷ [])) ∙ (ap rest_of h ∙ append_assoc (decimal m) (spaced ms) (10 ∷ [])) in
-    let parts = split_digits (decimal n) (decimal m) (spaced ns ++ 10 ∷ []) (spaced ms ++ 10 ∷ []) (decimal_digits n a.0) (decimal_digits m b.0) (spaced_stops ns) (spaced_stops ms) tails in
+    let parts = split_digits (decimal n) (decimal m) (spaced ns ++ 10 ∷ []) (spaced ms ++ 10 ∷ []) (decimal_digits n a.0) (decimal_digits m b.0)
+    (spaced_stops ns) (spaced_stops ms) tails in
     let same : n ≡ m = decimal_injective n m (omega (arith, a.0)) (omega (arith, b.0)) parts.0 in
     ap (λ z. z ∷ ns) same ∙ ap (λ zs. m ∷ zs) (spaced_one ns ms a.1 b.1 parts.1)
 
@@ -72,7 +74,8 @@ zero_no_break = (omega arith, tt)
 
 digits_no_break : (n : ℕ) → n < 10 ^ 9 → AllByRecursion (λ b. b ≢ 10) (decimal n)
 digits_no_break zero lt = zero_no_break
-digits_no_break (suc n) lt = subst (AllByRecursion (λ b. b ≢ 10)) (sym (decimal-digits_of (suc n) (omega arith) (omega (arith, lt)))) (map_no_break (digits_of 10 (suc n)))
+digits_no_break (suc n) lt = subst (AllByRecursion (λ b. b ≢ 10)) (sym (decimal-digits_of (suc n) (omega arith) (omega (arith, lt))))
+    (map_no_break (digits_of 10 (suc n)))
 
 pub spaced_no_break : (ns : List ℕ) → AllByRecursion IsShort ns → AllByRecursion (λ b. b ≢ 10) (spaced ns)
 spaced_no_break [] h = tt

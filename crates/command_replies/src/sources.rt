@@ -106,8 +106,8 @@ fn file_of(alloc: Global, feed: LineFeed) -> Result<Result<File, Reply>, NoMemor
     }
 }
 
-/// The file of a source, which is read as lines while it comes, or the reply where its bytes are too many or none. It
-/// errs where a read fails or memory runs out.
+/// Reads a file from a source, line by line as the bytes arrive. Bytes that are too many, or no file, get the reply that
+/// says so. Errs where a read fails or memory runs out.
 pub fn file_in<F: Source>(alloc: Global, source: &mut F) -> Result<Result<File, Reply>, Stop>
     requires { F.can_read source.old }
     ensures found { IfOk result (λ r. MatchResult r (IsFileTold (F.left source.old))

@@ -28,7 +28,8 @@ begun_more text ps more x b = record { whole = ap (λ (t : List ℕ). t ++ x) b.
 -- what is behind the pieces is a piece too, once it has ended
 pub begun_end : (text : List ℕ) (ps : Pieces) (p : List ℕ) → IsBegun text ps p → is_in_line p ≡ true → IsBegun (text ++ 10 ∷ []) (ps ++ p ∷ []) []
 begun_end text ps p b h = record {
-  whole = ap (λ (t : List ℕ). t ++ 10 ∷ []) b.whole ∙ append_assoc (flat_map ended ps) p (10 ∷ []) ∙ sym (ended_last ps p) ∙ sym (append-nil (flat_map ended (ps ++ p ∷ [])));
+  whole = ap (λ (t : List ℕ). t ++ 10 ∷ []) b.whole ∙ append_assoc (flat_map ended ps) p (10 ∷ []) ∙ sym (ended_last ps p) ∙ sym
+      (append-nil (flat_map ended (ps ++ p ∷ [])));
   in_line = list_all-both is_in_line ps (p ∷ []) b.in_line (and_from (is_in_line p) true h refl);
 }
 

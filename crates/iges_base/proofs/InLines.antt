@@ -10,7 +10,8 @@ use Rattle.iges_base.proofs.Lists.{list_all-parts, list_all-both}
 
 pub slice_get-all : {X : Type 0} (p : X → Bool) (xs : List X) (i : ℕ) (x : X) → slice_get xs i ≡ Some x → list_all p xs ≡ true → p x ≡ true
 slice_get-all {X} p xs i x is all =
-    subst (λ (y : X). p y ≡ true) (get_or_from_slice_get xs i x x is) (All-get_or (λ (y : X). p y ≡ true) xs i x (slice_get_within xs i x is) (AllPass-from_list_all p xs all))
+    subst (λ (y : X). p y ≡ true) (get_or_from_slice_get xs i x x is)
+    (All-get_or (λ (y : X). p y ≡ true) xs i x (slice_get_within xs i x is) (AllPass-from_list_all p xs all))
 
 pub front_in_line : (front rest : List ℕ) → is_in_line (front ++ rest) ≡ true → (is_in_line front ≡ true) × (is_in_line rest ≡ true)
 front_in_line front rest h = list_all-parts (λ b. not (b == 10)) front rest h

@@ -1,5 +1,6 @@
 -- The directory is read as it is defined, and so is its first fault.
-use Rattle.std.proofs.Common.{◌≡◌, inl, inr, ℕ, zero, suc, ◌+◌, ◌<◌, ◌≤◌, true, false, List, [], ◌∷◌, length, ℤ, pos, Option, Some, None, Ok, Err, refl, sym, ap, subst, ◌∙◌, arith}
+use Rattle.std.proofs.Common.{◌≡◌, inl, inr, ℕ, zero, suc, ◌+◌, ◌<◌, ◌≤◌, true, false, List, [], ◌∷◌, length, ℤ, pos, Option, Some, None, Ok, Err, refl, sym}
+use Rattle.std.proofs.Common.{ap, subst, ◌∙◌, arith}
 use Rattle.std.specs.Prelude.{is_some, unwrap_or, IsTrue}
 use Rattle.std.specs.Char.{is_ascii_digit}
 use Rattle.std.specs.List.{list_all}
@@ -41,7 +42,22 @@ some_held k line z h = ap (λ (o : Option ℤ). is_some o) h
 
 placed_of : ℤ → ℤ → ℤ → ℤ → ℤ → ℤ → ℤ → ℤ → ℤ → ℤ → ℤ → List ℕ → List ℕ → ℤ → ℤ → Placed
 placed_of kind structure font level view matrix display weight colour form subscript status label first count = record {
-  entry = record { kind = kind; structure = structure; font = font; level = level; view = view; matrix = matrix; display = display; weight = weight; colour = colour; form = form; subscript = subscript; status = status; label = label };
+  entry = record {
+    kind = kind;
+    structure = structure;
+    font = font;
+    level = level;
+    view = view;
+    matrix = matrix;
+    display = display;
+    weight = weight;
+    colour =
+        colour;
+    form = form;
+    subscript = subscript;
+    status = status;
+    label = label;
+  };
   first = first;
   count = count;
 }
@@ -54,8 +70,10 @@ same_placed p1 p2 p3 p4 p5 p6 p7 p8 p9 p10 p11 p12 p13 p14 p15 = cc
 pub entry-IsEntry : (first second : List ℕ) (p : Placed) → IsEntry first second p → entry_of first second ≡ p
 unfolding placed_of
 entry-IsEntry first second p h = same_placed
-    (number_held 1 first _ h.kind) (number_held 3 first _ h.structure) (number_held 4 first _ h.font) (number_held 5 first _ h.level) (number_held 6 first _ h.view) (number_held 7 first _ h.matrix) (number_held 8 first _ h.display)
-    (number_held 2 second _ h.weight) (number_held 3 second _ h.colour) (number_held 5 second _ h.form) (number_held 9 second _ h.subscript) (sym h.status) (sym h.label) (number_held 2 first _ h.record_first) (number_held 4 second _ h.record_count)
+    (number_held 1 first _ h.kind) (number_held 3 first _ h.structure) (number_held 4 first _ h.font) (number_held 5 first _ h.level)
+    (number_held 6 first _ h.view) (number_held 7 first _ h.matrix) (number_held 8 first _ h.display)
+    (number_held 2 second _ h.weight) (number_held 3 second _ h.colour) (number_held 5 second _ h.form) (number_held 9 second _ h.subscript) (sym h.status)
+    (sym h.label) (number_held 2 first _ h.record_first) (number_held 4 second _ h.record_count)
 
 -- ---- two lines
 
@@ -113,13 +131,16 @@ module _ (n : ℕ) (first second : List ℕ) where
           refl,
           (
             and_from _ _
-                (and_from _ _ (f 1 _ h.kind) (and_from _ _ (f 2 _ h.record_first) (and_from _ _ (f 3 _ h.structure) (and_from _ _ (f 4 _ h.font) (and_from _ _ (f 5 _ h.level) (and_from _ _ (f 6 _ h.view) (and_from _ _ (f 7 _ h.matrix) (and_from _ _ (f 8 _ h.display) refl))))))))
+                (and_from _ _ (f 1 _ h.kind) (and_from _ _ (f 2 _ h.record_first)
+                (and_from _ _ (f 3 _ h.structure) (and_from _ _ (f 4 _ h.font)
+                (and_from _ _ (f 5 _ h.level) (and_from _ _ (f 6 _ h.view) (and_from _ _ (f 7 _ h.matrix) (and_from _ _ (f 8 _ h.display) refl))))))))
                 (ap (list_all is_ascii_digit) (sym h.status) ∙ h.status_digits),
             tt,
           ),
         ),
         passed (second_tests n first second) (
-          and_from _ _ (g 1 _ h.kind_again) (and_from _ _ (g 2 _ h.weight) (and_from _ _ (g 3 _ h.colour) (and_from _ _ (g 4 _ h.record_count) (and_from _ _ (g 5 _ h.form) (and_from _ _ (g 9 _ h.subscript) refl))))),
+          and_from _ _ (g 1 _ h.kind_again) (and_from _ _ (g 2 _ h.weight)
+              (and_from _ _ (g 3 _ h.colour) (and_from _ _ (g 4 _ h.record_count) (and_from _ _ (g 5 _ h.form) (and_from _ _ (g 9 _ h.subscript) refl))))),
           (
             (signed_Decides (number_in 1 first) (number_in 1 second)).1 (number_held 1 first _ h.kind ∙ sym (number_held 1 second _ h.kind_again)),
             (
@@ -154,7 +175,8 @@ entries_complete n (first ∷ second ∷ ds) (p ∷ ps) h =
     let two = entry_two n first second p h.0 h.1 in
     (ap (λ (e : Placed). e ∷ entries_of ds) (entry-IsEntry first second p h.0) ∙ ap (λ (es : List Placed). p ∷ es) more.0, by_place two.0 two.1 more.1)
   where
-    by_place : first_failing (first_tests false first) ≡ None → first_failing (second_tests n first second) ≡ None → ((j : ℕ) → directory_fault n ds j ≡ None) → (j : ℕ) → directory_fault n (first ∷ second ∷ ds) j ≡ None
+    by_place : first_failing (first_tests false first) ≡ None → first_failing (second_tests n first second) ≡ None → ((j : ℕ) → directory_fault n ds j ≡ None) →
+        (j : ℕ) → directory_fault n (first ∷ second ∷ ds) j ≡ None
     by_place e f g zero = e
     by_place e f g (suc zero) = f
     by_place e f g (suc (suc j)) = g j
@@ -173,7 +195,8 @@ module _ (s : SectionLines) where
   abbrev fault : ℕ → Option Reason
   fault = directory_fault (length s.param) s.directory
 
-  by_found_ok : (o : Option (ℕ × Reason)) → first_from fault (length s.directory) 0 ≡ o → (ps : List Placed) → entries_unless s o ≡ Ok ps → AreEntries (length s.param) s.directory ps
+  by_found_ok : (o : Option (ℕ × Reason)) → first_from fault (length s.directory) 0 ≡ o → (ps : List Placed) → entries_unless s o ≡ Ok ps →
+      AreEntries (length s.param) s.directory ps
   by_found_ok None e ps h =
       subst (λ (es : List Placed). AreEntries (length s.param) s.directory es) (ok_is (entries_of s.directory) ps h)
       (entries_sound (length s.param) s.directory (λ j lt. first_from-none fault (length s.directory) 0 e j (omega arith) (omega arith)))
@@ -193,7 +216,8 @@ module _ (s : SectionLines) where
   by_found_err None e f h = absurd (clash f (entries_of s.directory) (sym h))
   by_found_err (Some x) e f h =
       let t = first_from-some fault (length s.directory) 0 x e in
-      subst (IsDirectoryFault s) (err_is (record { line = length s.start + length s.global + x.0 + 1; reason = x.1 }) f h) (x.0, refl, record { here = t.1; before = λ i lt. t.2 i (omega arith) lt })
+      subst (IsDirectoryFault s) (err_is (record { line = length s.start + length s.global + x.0 + 1; reason = x.1 }) f h)
+      (x.0, refl, record { here = t.1; before = λ i lt. t.2 i (omega arith) lt })
 
   pub read_directory-IsDirectoryFault : (f : LineFault) → read_directory s ≡ Err f → IsDirectoryFault s f
   unfolding read_directory

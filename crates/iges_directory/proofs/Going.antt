@@ -1,5 +1,6 @@
 -- One entry after the other is the reading of the directory.
-use Rattle.std.proofs.Common.{◌≡◌, inl, inr, ℕ, zero, suc, ◌+◌, ◌-◌, ◌*◌, ◌<◌, ◌≤◌, true, false, List, [], ◌∷◌, ◌++◌, length, drop, Some, None, Result, Ok, Err, refl, sym, ap, subst, ◌∙◌, append_assoc, arith, length-append}
+use Rattle.std.proofs.Common.{◌≡◌, inl, inr, ℕ, zero, suc, ◌+◌, ◌-◌, ◌*◌, ◌<◌, ◌≤◌, true, false, List, [], ◌∷◌, ◌++◌, length, drop, Some, None, Result, Ok}
+use Rattle.std.proofs.Common.{Err, refl, sym, ap, subst, ◌∙◌, append_assoc, arith, length-append}
 use Rattle.std.specs.Prelude.{slice_get, IfOk}
 use Rattle.std.proofs.lemmas.Bool.{cases_order}
 use Rattle.std.proofs.lemmas.List.{append-nil, drop_all}
@@ -30,7 +31,8 @@ Lines = List (List ℕ)
 
 -- ---- two lines of many
 
-two_lines : (ds : Lines) (i : ℕ) (first second : List ℕ) → Some first ≡ slice_get ds (2 * i) → Some second ≡ slice_get ds (2 * i + 1) → drop (2 * i) ds ≡ first ∷ second ∷ drop (2 * (i + 1)) ds
+two_lines : (ds : Lines) (i : ℕ) (first second : List ℕ) → Some first ≡ slice_get ds (2 * i) → Some second ≡ slice_get ds (2 * i + 1) →
+    drop (2 * i) ds ≡ first ∷ second ∷ drop (2 * (i + 1)) ds
 two_lines ds i first second e f =
     let n : 2 * i + 1 + 1 ≡ 2 * (i + 1) = omega arith in
     open_at ds (2 * i) first (sym e) ∙ ap (λ (xs : Lines). first ∷ xs) (open_at ds (2 * i + 1) second (sym f) ∙ ap (λ (k : ℕ). second ∷ drop k ds) n)
@@ -42,7 +44,8 @@ fault_behind n (suc i) j (first ∷ []) h = absurd (omega arith)
 fault_behind n (suc i) j (first ∷ second ∷ ds) h =
     let e : 2 * suc i + j ≡ suc (suc (2 * i + j)) = omega arith in
     let f : 2 * suc i ≡ suc (suc (2 * i)) = omega arith in
-    ap (directory_fault n (first ∷ second ∷ ds)) e ∙ fault_behind n i j ds (omega arith) ∙ ap (λ (k : ℕ). directory_fault n (drop k (first ∷ second ∷ ds)) j) (sym f)
+    ap (directory_fault n (first ∷ second ∷ ds)) e ∙ fault_behind n i j ds (omega arith) ∙ ap (λ (k : ℕ). directory_fault n (drop k (first ∷ second ∷ ds)) j)
+    (sym f)
 
 -- ---- the loop
 
@@ -98,7 +101,8 @@ module _ (s : SectionLines) (i : ℕ) (es : List Placed) (r : IsRead s i es) whe
           | inr (inr gt) ↦ absurd (omega arith)
         ]
 
-    pub read_next : (m : ℕ) → m ≡ n → (p : Placed) → is_in_line second ≡ true → AnswersPair m first second (Ok p) → (new : List Placed) → new ≡ es ++ p ∷ [] → IsRead s (i + 1) new
+    pub read_next : (m : ℕ) → m ≡ n → (p : Placed) → is_in_line second ≡ true → AnswersPair m first second (Ok p) → (new : List Placed) → new ≡ es ++ p ∷ [] →
+        IsRead s (i + 1) new
     read_next m m-is p in_line answer new new-is =
         let a = subst (λ (k : ℕ). AnswersPair k first second (Ok p)) m-is answer in
         let two = entry_two n first second p a.0 a.1 in
@@ -119,22 +123,28 @@ module _ (s : SectionLines) (i : ℕ) (es : List Placed) (r : IsRead s i es) whe
         }
         )
 
-    fails : (above : ℕ) (f : PairFault) → above ≡ length s.start + length s.global + 2 * i → AnswersPair n first second (Err f) → read_directory s ≡ Err (fault_at above f)
+    fails : (above : ℕ) (f : PairFault) → above ≡ length s.start + length s.global + 2 * i → AnswersPair n first second (Err f) →
+        read_directory s ≡ Err (fault_at above f)
     unfolding read_directory
     fails above (First x) is a =
-        ap (entries_unless s) (first_from-at (directory_fault n s.directory) (length s.directory) 0 (2 * i) x (omega arith) (omega (arith, long)) (first_here ∙ a) (λ j low h. r.passed j h))
+        ap (entries_unless s) (first_from-at (directory_fault n s.directory) (length s.directory) 0 (2 * i) x (omega arith) (omega (arith, long))
+        (first_here ∙ a) (λ j low h. r.passed j h))
         ∙ ap (λ (k : ℕ). Err (record { line = k; reason = x })) (omega (arith, is))
     fails above (Second x) is a =
-        ap (entries_unless s) (first_from-at (directory_fault n s.directory) (length s.directory) 0 (2 * i + 1) x (omega arith) (omega (arith, long)) (second_here ∙ a.1) (λ j low h. passed_first a.0 j h))
+        ap (entries_unless s) (first_from-at (directory_fault n s.directory) (length s.directory) 0 (2 * i + 1) x (omega arith) (omega (arith, long))
+        (second_here ∙ a.1) (λ j low h. passed_first a.0 j h))
         ∙ ap (λ (k : ℕ). Err (record { line = k; reason = x })) (omega (arith, is))
 
-    pub read_fault : (m : ℕ) → m ≡ n → (above : ℕ) (f : PairFault) → above ≡ length s.start + length s.global + 2 * i → AnswersPair m first second (Err f) → read_directory s ≡ Err (fault_at above f)
+    pub read_fault : (m : ℕ) → m ≡ n → (above : ℕ) (f : PairFault) → above ≡ length s.start + length s.global + 2 * i → AnswersPair m first second (Err f) →
+        read_directory s ≡ Err (fault_at above f)
     read_fault m m-is above f is a = fails above f is (subst (λ (k : ℕ). AnswersPair k first second (Err f)) m-is a)
 
-  pub read_unpaired : (above : ℕ) → length s.directory ≡ 2 * i + 1 → above ≡ length s.start + length s.global + 2 * i → read_directory s ≡ Err (fault_at above (First Unpaired))
+  pub read_unpaired : (above : ℕ) → length s.directory ≡ 2 * i + 1 → above ≡ length s.start + length s.global + 2 * i →
+      read_directory s ≡ Err (fault_at above (First Unpaired))
   unfolding read_directory
   read_unpaired above odd is =
-      ap (entries_unless s) (first_from-at (directory_fault n s.directory) (length s.directory) 0 (2 * i) Unpaired (omega arith) (omega (arith, odd)) lone (λ j low h. r.passed j h))
+      ap (entries_unless s) (first_from-at (directory_fault n s.directory) (length s.directory) 0 (2 * i) Unpaired (omega arith) (omega (arith, odd)) lone
+      (λ j low h. r.passed j h))
       ∙ ap (λ (k : ℕ). Err (record { line = k; reason = Unpaired })) (omega (arith, is))
     where
       one_line : (ds : Lines) (k : ℕ) → length ds ≡ k + 1 → directory_fault n (drop k ds) 0 ≡ Some Unpaired
@@ -144,13 +154,15 @@ module _ (s : SectionLines) (i : ℕ) (es : List Placed) (r : IsRead s i es) whe
       one_line (d ∷ ds) (suc k) e = one_line ds k (omega arith)
 
       lone : directory_fault n s.directory (2 * i) ≡ Some Unpaired
-      lone = let e : 2 * i ≡ 2 * i + 0 = omega arith in ap (directory_fault n s.directory) e ∙ fault_behind n i 0 s.directory r.within ∙ one_line s.directory (2 * i) odd
+      lone = let e : 2 * i ≡ 2 * i + 0 = omega arith in ap (directory_fault n s.directory) e ∙ fault_behind n i 0 s.directory r.within ∙ one_line s.directory
+          (2 * i) odd
 
   pub read_all : length s.directory ≡ 2 * i → read_directory s ≡ Ok es
   unfolding read_directory
   read_all even =
       ap (entries_unless s) (first_from-faultless (directory_fault n s.directory) (length s.directory) 0 (λ j low h. r.passed j (omega (arith, even))))
-      ∙ ap (λ (xs : List Placed). Ok xs) (sym r.entries_are ∙ ap (λ (ds : Lines). es ++ entries_of ds) (drop_all (2 * i) s.directory (omega (arith, even))) ∙ append-nil es)
+      ∙ ap (λ (xs : List Placed). Ok xs) (sym r.entries_are ∙ ap (λ (ds : Lines). es ++ entries_of ds)
+      (drop_all (2 * i) s.directory (omega (arith, even))) ∙ append-nil es)
 
   pub read_bounded : AreSections s → length s.directory ≡ 2 * i → AreBounded es
   read_bounded h even =

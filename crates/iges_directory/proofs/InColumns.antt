@@ -1,5 +1,6 @@
 -- A number in columns is no longer than they are.
-use Rattle.std.proofs.Common.{◌≡◌, ℕ, zero, suc, ◌-◌, ◌*◌, ◌^◌, ◌<◌, ◌≤◌, Bool, true, false, cond, not, List, [], ◌∷◌, length, drop, ℤ, pos, negsuc, Option, Some, None, refl, sym, ap, subst, ◌∙◌, arith}
+use Rattle.std.proofs.Common.{◌≡◌, ℕ, zero, suc, ◌-◌, ◌*◌, ◌^◌, ◌<◌, ◌≤◌, Bool, true, false, cond, not, List, [], ◌∷◌, length, drop, ℤ, pos, negsuc, Option}
+use Rattle.std.proofs.Common.{Some, None, refl, sym, ap, subst, ◌∙◌, arith}
 use Rattle.std.specs.Prelude.{◌==◌, nat_le, slice_index, neg_ℤ, IsTrue, IfSome}
 use Rattle.std.specs.Char.{is_ascii_digit}
 use Rattle.std.specs.List.{list_all}
@@ -48,15 +49,19 @@ word_within k w h le = by_sign (starts_with_minus w) refl
     by_sign true e =
         let r : (without_leading_sign w) ≡ drop 1 w = cond-true (starts_with_minus w) (drop 1 w) (without_leading_plus w) e in
         let l : length (without_leading_sign w) ≤ k = subst (λ (x : List ℕ). length x ≤ k) (sym r) (one_less w le) in
-        subst (Within k) (sym (cond-true (starts_with_minus w) (neg_ℤ (pos (digits_value 10 (without_leading_sign w)))) (pos (digits_value 10 (without_leading_sign w))) e)) (negative_within k (digits_value 10 (without_leading_sign w)) (digits_short (without_leading_sign w) k h l))
+        subst (Within k) (sym (cond-true (starts_with_minus w) (neg_ℤ (pos (digits_value 10 (without_leading_sign w))))
+        (pos (digits_value 10 (without_leading_sign w))) e))
+        (negative_within k (digits_value 10 (without_leading_sign w)) (digits_short (without_leading_sign w) k h l))
       where
         one_less : (x : List ℕ) → length x ≤ suc k → length (drop 1 x) ≤ k
         one_less [] a = omega arith
         one_less (b ∷ x) a = omega (arith, a)
     by_sign false e =
         let r : (without_leading_sign w) ≡ without_leading_plus w = cond-false (starts_with_minus w) (drop 1 w) (without_leading_plus w) e in
-        let l : length (without_leading_sign w) ≤ suc k = subst (λ (x : List ℕ). length x ≤ suc k) (sym r) (omega (arith, le, length-drop (cond (slice_index w 0 == 43) 1 0) w)) in
-        subst (Within k) (sym (cond-false (starts_with_minus w) (neg_ℤ (pos (digits_value 10 (without_leading_sign w)))) (pos (digits_value 10 (without_leading_sign w))) e)) (digits_short (without_leading_sign w) (suc k) h l)
+        let l : length (without_leading_sign w) ≤ suc k = subst (λ (x : List ℕ). length x ≤ suc k) (sym r)
+        (omega (arith, le, length-drop (cond (slice_index w 0 == 43) 1 0) w)) in
+        subst (Within k) (sym (cond-false (starts_with_minus w) (neg_ℤ (pos (digits_value 10 (without_leading_sign w))))
+        (pos (digits_value 10 (without_leading_sign w))) e)) (digits_short (without_leading_sign w) (suc k) h l)
 
 pub number_within : (k : ℕ) (field : List ℕ) (z : ℤ) → length field ≤ suc k → column_number field ≡ Some z → Within k z
 number_within k field z le e = by_empty (is_empty (trim field)) refl

@@ -19,7 +19,8 @@ digit_at (suc (suc (suc (suc (suc (suc (suc (suc (suc zero))))))))) h = refl
 digit_at (suc (suc (suc (suc (suc (suc (suc (suc (suc (suc d)))))))))) h = let no : ⊥ = omega arith in absurd no
 
 -- the word above that of seven spaces and 0
-pub digit_above : (word d : ℕ) → word < 2 ^ 64 → d ≡ (word + 16131858542891098064) % 18446744073709551616 → d < 10 → column_number (to_be_bytes w64 word) ≡ Some (to_z w64 d)
+pub digit_above : (word d : ℕ) → word < 2 ^ 64 → d ≡ (word + 16131858542891098064) % 18446744073709551616 → d < 10 →
+    column_number (to_be_bytes w64 word) ≡ Some (to_z w64 d)
 digit_above word d fits is h =
     let word_is : word ≡ 2314885530818453552 + d = omega (arith, fits, is, h) in
     let small : d < 2 ^ hbits w64 = omega (arith, h) in

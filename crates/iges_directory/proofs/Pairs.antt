@@ -51,7 +51,8 @@ three_3 a b c e f g = ap (λ (t : Bool). three t b c) e ∙ ap (λ (t : Bool). t
 pub lies_read : (n : ℕ) (kind first count : ℤ) (r v : Bool) → SFits w64 kind → SFits w64 first → SFits w64 count
     → r ≡ has_record n (to_z w64 (of_z w64 kind)) (to_z w64 (of_z w64 first)) (to_z w64 (of_z w64 count)) → r ≡ v → has_record n kind first count ≡ v
 lies_read n kind first count r v a b c is e =
-    ap (λ (z : ℤ). has_record n z first count) (sym (to_z-of_z w64 kind a)) ∙ ap (λ (z : ℤ). has_record n (to_z w64 (of_z w64 kind)) z count) (sym (to_z-of_z w64 first b))
+    ap (λ (z : ℤ). has_record n z first count) (sym (to_z-of_z w64 kind a)) ∙ ap (λ (z : ℤ). has_record n (to_z w64 (of_z w64 kind)) z count)
+    (sym (to_z-of_z w64 first b))
     ∙ ap (λ (z : ℤ). has_record n (to_z w64 (of_z w64 kind)) (to_z w64 (of_z w64 first)) z) (sym (to_z-of_z w64 count c)) ∙ sym is ∙ e
 
 -- the first line fails
@@ -67,21 +68,28 @@ module _ (n : ℕ) (first second : List ℕ) (one : FirstHalf) (h : IsFirstHalf 
   unfolding two
   passes_first = two_pass (first_fields first) (
       and_from _ _
-      (and_from _ _ (f 1 _ h.kind) (and_from _ _ (f 2 _ h.record_first) (and_from _ _ (f 3 _ h.structure) (and_from _ _ (f 4 _ h.font) (and_from _ _ (f 5 _ h.level) (and_from _ _ (f 6 _ h.view) (and_from _ _ (f 7 _ h.matrix) (and_from _ _ (f 8 _ h.display) refl))))))))
+      (and_from _ _ (f 1 _ h.kind) (and_from _ _ (f 2 _ h.record_first)
+      (and_from _ _ (f 3 _ h.structure) (and_from _ _ (f 4 _ h.font)
+      (and_from _ _ (f 5 _ h.level) (and_from _ _ (f 6 _ h.view) (and_from _ _ (f 7 _ h.matrix) (and_from _ _ (f 8 _ h.display) refl))))))))
       (ap (list_all is_ascii_digit) (sym h.status) ∙ h.status_digits)
       )
 
   -- the fields of the second line fail
   pub second_fails : IsFalse (second_fields second) → AnswersPair n first second (Err (Second reason.Field))
   unfolding three
-  second_fails e = (passes_first, three_1 (second_fields second) (int_eq (number_in 1 first) (number_in 1 second)) (has_record n (number_in 1 first) (number_in 2 first) (number_in 4 second)) e)
+  second_fails e = (
+    passes_first,
+    three_1 (second_fields second) (int_eq (number_in 1 first) (number_in 1 second))
+        (has_record n (number_in 1 first) (number_in 2 first) (number_in 4 second)) e,
+  )
 
   module _ (other : SecondHalf) (k : IsSecondHalf second other) where
     g : (i : ℕ) (z : ℤ) → Holds i second z → is_some (column_number (field i second)) ≡ true
     g i z e = some_held i second z e
 
     fields_pass : second_fields second ≡ true
-    fields_pass = and_from _ _ (g 1 _ k.kind) (and_from _ _ (g 2 _ k.weight) (and_from _ _ (g 3 _ k.colour) (and_from _ _ (g 4 _ k.record_count) (and_from _ _ (g 5 _ k.form) (and_from _ _ (g 9 _ k.subscript) refl)))))
+    fields_pass = and_from _ _ (g 1 _ k.kind) (and_from _ _ (g 2 _ k.weight)
+        (and_from _ _ (g 3 _ k.colour) (and_from _ _ (g 4 _ k.record_count) (and_from _ _ (g 5 _ k.form) (and_from _ _ (g 9 _ k.subscript) refl)))))
 
     same_record : has_record n (number_in 1 first) (number_in 2 first) (number_in 4 second) ≡ has_record n one.kind one.record_first other.record_count
     same_record =
@@ -90,20 +98,28 @@ module _ (n : ℕ) (first second : List ℕ) (one : FirstHalf) (h : IsFirstHalf 
         ∙ ap (λ (z : ℤ). has_record n one.kind one.record_first z) (number_held 4 second _ k.record_count)
 
     same_kinds : int_eq (number_in 1 first) (number_in 1 second) ≡ int_eq one.kind other.kind
-    same_kinds = ap (λ (z : ℤ). int_eq z (number_in 1 second)) (number_held 1 first _ h.kind) ∙ ap (λ (z : ℤ). int_eq one.kind z) (number_held 1 second _ k.kind)
+    same_kinds = ap (λ (z : ℤ). int_eq z (number_in 1 second)) (number_held 1 first _ h.kind) ∙ ap (λ (z : ℤ). int_eq one.kind z)
+        (number_held 1 second _ k.kind)
 
     pub types_differ : int_eq one.kind other.kind ≡ false → AnswersPair n first second (Err (Second reason.TypesDiffer))
     unfolding three
-    types_differ e = (passes_first, three_2 (second_fields second) (int_eq (number_in 1 first) (number_in 1 second)) (has_record n (number_in 1 first) (number_in 2 first) (number_in 4 second)) fields_pass (same_kinds ∙ e))
+    types_differ e = (
+      passes_first,
+      three_2 (second_fields second) (int_eq (number_in 1 first) (number_in 1 second))
+          (has_record n (number_in 1 first) (number_in 2 first) (number_in 4 second)) fields_pass (same_kinds ∙ e),
+    )
 
-    pub out_of_range : int_eq one.kind other.kind ≡ true → has_record n one.kind one.record_first other.record_count ≡ false → AnswersPair n first second (Err (Second reason.Range))
+    pub out_of_range : int_eq one.kind other.kind ≡ true → has_record n one.kind one.record_first other.record_count ≡ false →
+        AnswersPair n first second (Err (Second reason.Range))
     unfolding three
     out_of_range e r = (
       passes_first,
-      three_3 (second_fields second) (int_eq (number_in 1 first) (number_in 1 second)) (has_record n (number_in 1 first) (number_in 2 first) (number_in 4 second)) fields_pass (same_kinds ∙ e) (same_record ∙ r),
+      three_3 (second_fields second) (int_eq (number_in 1 first) (number_in 1 second))
+          (has_record n (number_in 1 first) (number_in 2 first) (number_in 4 second)) fields_pass (same_kinds ∙ e) (same_record ∙ r),
     )
 
-    pub in_range : int_eq one.kind other.kind ≡ true → has_record n one.kind one.record_first other.record_count ≡ true → AnswersPair n first second (Ok (placed_from one other))
+    pub in_range : int_eq one.kind other.kind ≡ true → has_record n one.kind one.record_first other.record_count ≡ true →
+        AnswersPair n first second (Ok (placed_from one other))
     in_range e r =
         let same : one.kind ≡ other.kind = (signed_Decides one.kind other.kind).0 e in (
           record {

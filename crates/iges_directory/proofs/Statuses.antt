@@ -8,7 +8,8 @@ use Rattle.std.specs.Prelude.{◌==◌, if◌then◌else◌}
 use Rattle.std.proofs.lemmas.List.{take_more, take_more_set, take_all, map-append}
 use Rattle.iges_directory.specs.Entries.{status_of}
 
-pub status_step : (digits bytes : List ℕ) (i y : ℕ) → i < length digits → i < length bytes → take i digits ≡ status_of (take i bytes) → y ≡ (if get_or bytes i 0 == 32 then 48 else get_or bytes i 0)
+pub status_step : (digits bytes : List ℕ) (i y : ℕ) → i < length digits → i < length bytes → take i digits ≡ status_of (take i bytes) →
+    y ≡ (if get_or bytes i 0 == 32 then 48 else get_or bytes i 0)
     → take (i + 1) (set digits i y) ≡ status_of (take (i + 1) bytes)
 status_step digits bytes i y h g below e =
     take_more_set digits i y h ∙ ap (λ (xs : List ℕ). xs ++ y ∷ []) below ∙ ap (λ (z : ℕ). status_of (take i bytes) ++ z ∷ []) e

@@ -7,6 +7,7 @@ pub bind_ok : {A B F : Type 0} (r : Result A F) (k : A → Result B F) (y : B) �
 bind_ok (Ok x) k y e = (x, refl, e)
 bind_ok (Err f) k y e = absurd (clash f y e)
 
-pub bind_err : {A B F : Type 0} (r : Result A F) (k : A → Result B F) (f : F) → (r >>= k) ≡ failed f → (r ≡ failed f) ⊎ ((x : A) × (r ≡ done x) × (k x ≡ failed f))
+pub bind_err : {A B F : Type 0} (r : Result A F) (k : A → Result B F) (f : F) → (r >>= k) ≡ failed f →
+    (r ≡ failed f) ⊎ ((x : A) × (r ≡ done x) × (k x ≡ failed f))
 bind_err (Ok x) k f e = inr (x, refl, e)
 bind_err {A} {B} (Err g) k f e = inl (ap (λ h. failed h) (err_is {X = B} g f e))

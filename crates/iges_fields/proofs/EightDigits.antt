@@ -12,8 +12,10 @@ one_more : (text : List ℕ) (n : ℕ) (q r : Bool) → n < length text → q �
 one_more text n q r h q-is r-is = ap (λ (t : Bool). t && r) q-is ∙ ap (λ (t : Bool). so_far text n && t) r-is ∙ sym (list_all_more is_ascii_digit text n 0 h)
 
 module _ (text : List ℕ) (long : length text ≡ 8) (a b c d e f g h : Bool) where
-  pub all_eight : a ≡ is_ascii_digit (get_or text 0 0) → b ≡ is_ascii_digit (get_or text 1 0) → c ≡ is_ascii_digit (get_or text 2 0) → d ≡ is_ascii_digit (get_or text 3 0)
-      → e ≡ is_ascii_digit (get_or text 4 0) → f ≡ is_ascii_digit (get_or text 5 0) → g ≡ is_ascii_digit (get_or text 6 0) → h ≡ is_ascii_digit (get_or text 7 0)
+  pub all_eight : a ≡ is_ascii_digit (get_or text 0 0) → b ≡ is_ascii_digit (get_or text 1 0) → c ≡ is_ascii_digit (get_or text 2 0) →
+      d ≡ is_ascii_digit (get_or text 3 0)
+      → e ≡ is_ascii_digit (get_or text 4 0) → f ≡ is_ascii_digit (get_or text 5 0) → g ≡ is_ascii_digit (get_or text 6 0) →
+      h ≡ is_ascii_digit (get_or text 7 0)
       → (((((((a && b) && c) && d) && e) && f) && g) && h) ≡ list_all is_ascii_digit text
   all_eight a-is b-is c-is d-is e-is f-is g-is h-is =
       let s1 = one_more text 0 true a (omega (arith, long)) refl a-is in

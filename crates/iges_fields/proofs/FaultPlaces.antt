@@ -1,5 +1,6 @@
 -- The place of a fault lies within the text, or at its end.
-use Rattle.std.proofs.Common.{◌≡◌, ℕ, ◌≤◌, Bool, true, false, List, [], ◌∷◌, ◌++◌, length, Some, Result, Ok, Err, refl, sym, ap, subst, ◌∙◌, arith, length-append}
+use Rattle.std.proofs.Common.{◌≡◌, ℕ, ◌≤◌, Bool, true, false, List, [], ◌∷◌, ◌++◌, length, Some, Result, Ok, Err, refl, sym, ap, subst, ◌∙◌, arith}
+use Rattle.std.proofs.Common.{length-append}
 use Rattle.std.specs.Prelude.{flat_map}
 use Rattle.std.specs.List.{AllByRecursion}
 use Rattle.std.proofs.lemmas.Bool.{cond-true, cond-false}
@@ -33,11 +34,13 @@ item_within d text f e = by_test (begins_text (after_spaces text)) refl
     by_test : (b : Bool) → begins_text (after_spaces text) ≡ b → f.at ≤ length text
     by_test true is =
         let tests = text_tests d text (text_size (after_spaces text)) (behind_H (after_spaces text)) in
-        first_within (length text) tests f (omega arith, (omega arith, (omega arith, tt))) (sym (ap first_failing (cond-true (begins_text (after_spaces text)) tests (word_tests d text (after_spaces text)) is)) ∙ e)
+        first_within (length text) tests f (omega arith, (omega arith, (omega arith, tt)))
+        (sym (ap first_failing (cond-true (begins_text (after_spaces text)) tests (word_tests d text (after_spaces text)) is)) ∙ e)
     by_test false is =
         let tests = word_tests d text (after_spaces text) in
         first_within (length text) tests f (omega arith, (omega arith, (omega arith, tt)))
-        (sym (ap first_failing (cond-false (begins_text (after_spaces text)) (text_tests d text (text_size (after_spaces text)) (behind_H (after_spaces text))) tests is)) ∙ e)
+        (sym (ap first_failing (cond-false (begins_text (after_spaces text))
+        (text_tests d text (text_size (after_spaces text)) (behind_H (after_spaces text))) tests is)) ∙ e)
 
 fault_within : (d : Delims) (text : List ℕ) (f : FieldFault) → IsFieldFault d text f → f.at ≤ length text
 fault_within d text f h =
@@ -45,7 +48,8 @@ fault_within d text f h =
     omega (arith, h.at, long, item_within d h.rest _ h.first, length-append (flat_map (λ item. item ++ d.param ∷ []) h.items) h.rest)
 
 -- so does that of a call's
-pub places_within : {X : Type 0} (d : Delims) (text : List ℕ) (result : Result X ValuesFault) → IfField result (IsFieldFault d text) → IfField result (λ fault. fault.at ≤ length text)
+pub places_within : {X : Type 0} (d : Delims) (text : List ℕ) (result : Result X ValuesFault) → IfField result (IsFieldFault d text) →
+    IfField result (λ fault. fault.at ≤ length text)
 places_within d text (Ok x) h = tt
 places_within d text (Err (faults.Field fault)) h = fault_within d text fault h
 places_within d text (Err faults.NoMemory) h = tt

@@ -1,5 +1,6 @@
 -- The mantissa at the front of an item, and where its word or its text begins and ends.
-use Rattle.std.proofs.Common.{◌≡◌, inl, inr, ℕ, zero, suc, ◌+◌, ◌-◌, ◌<◌, ◌≤◌, min, Bool, true, false, cond, not, List, [], ◌∷◌, ◌++◌, length, take, drop, get_or, refl, sym, ap, subst, ◌∙◌, arith}
+use Rattle.std.proofs.Common.{◌≡◌, inl, inr, ℕ, zero, suc, ◌+◌, ◌-◌, ◌<◌, ◌≤◌, min, Bool, true, false, cond, not, List, [], ◌∷◌, ◌++◌, length, take, drop}
+use Rattle.std.proofs.Common.{get_or, refl, sym, ap, subst, ◌∙◌, arith}
 use Rattle.std.specs.Prelude.{count_by, ◌==◌}
 use Rattle.std.specs.Char.{is_ascii_digit}
 use Rattle.std.specs.List.{list_all, prefix_len}
@@ -55,7 +56,8 @@ pub unsigned_plain : (xs : List ℕ) → list_all is_mantissa_byte xs ≡ true �
 unsigned_plain [] all = refl
 unsigned_plain (x ∷ xs) all =
     let e = (and_parts (is_mantissa_byte x) (list_all is_mantissa_byte xs) all).0 in
-    cond-false (x == 45) xs (without_leading_plus (x ∷ xs)) (mantissa_is_not 45 x refl e) ∙ ap (λ (n : ℕ). drop n (x ∷ xs)) (cond-false (x == 43) 1 0 (mantissa_is_not 43 x refl e))
+    cond-false (x == 45) xs (without_leading_plus (x ∷ xs)) (mantissa_is_not 45 x refl e) ∙ ap (λ (n : ℕ). drop n (x ∷ xs))
+    (cond-false (x == 43) 1 0 (mantissa_is_not 43 x refl e))
 
 pub trim_plain : (xs : List ℕ) → list_all is_mantissa_byte xs ≡ true → trim xs ≡ xs
 trim_plain xs all =
@@ -77,7 +79,8 @@ module _ (body : List ℕ) (m : Mantissa) (is : IsMantissa body m) where
       }
 
   module _ (d : Delims) (ok : are_permitted d ≡ true) where
-    pub end_behind : (behind : List ℕ) → behind ≡ drop m.len body → m.len + prefix_len (λ b. not (is_delimiter_of d b)) behind ≡ prefix_len (λ b. not (is_delimiter_of d b)) body
+    pub end_behind : (behind : List ℕ) → behind ≡ drop m.len body →
+        m.len + prefix_len (λ b. not (is_delimiter_of d b)) behind ≡ prefix_len (λ b. not (is_delimiter_of d b)) body
     end_behind behind behind-is =
         let p : ℕ → Bool = λ b. not (is_delimiter_of d b) in
         let over =
@@ -103,13 +106,26 @@ module _ (body : List ℕ) (m : Mantissa) (is : IsMantissa body m) where
 
   behind_none : prefix_len is_mantissa_byte (drop m.len body) ≡ 0
   behind_none =
-      omega (arith, is.len, long, prefix_len-over is_mantissa_byte (take m.len body) (drop m.len body) (mantissa_bytes body m is), ap (prefix_len is_mantissa_byte) (take-append-drop m.len body))
+      omega (
+        arith,
+        is.len,
+        long,
+        prefix_len-over is_mantissa_byte (take m.len body) (drop m.len body) (mantissa_bytes body m is),
+        ap (prefix_len is_mantissa_byte) (take-append-drop m.len body),
+      )
 
   digits_front : m.points ≡ 0 → m.len ≡ prefix_len is_ascii_digit body
   digits_front none =
       let digits = only_digits (take m.len body) (mantissa_bytes body m is) (sym is.points ∙ none) in
       let few = prefix_len-implies is_ascii_digit is_mantissa_byte digit_mantissa (drop m.len body) in
-      omega (arith, few, behind_none, long, prefix_len-over is_ascii_digit (take m.len body) (drop m.len body) digits, ap (prefix_len is_ascii_digit) (take-append-drop m.len body))
+      omega (
+        arith,
+        few,
+        behind_none,
+        long,
+        prefix_len-over is_ascii_digit (take m.len body) (drop m.len body) digits,
+        ap (prefix_len is_ascii_digit) (take-append-drop m.len body),
+      )
 
   no_H_at_point : (xs ys : List ℕ) → list_all is_mantissa_byte xs ≡ true → 0 < count_by is_point xs
       → begins_with (λ b. b == 72) (drop (prefix_len is_ascii_digit (xs ++ ys)) (xs ++ ys)) ≡ false

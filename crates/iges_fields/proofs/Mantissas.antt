@@ -1,5 +1,6 @@
 -- The digits and points at the front of a text, byte by byte, and what they are.
-use Rattle.std.proofs.Common.{◌≡◌, inl, inr, ℕ, suc, ◌+◌, ◌-◌, ◌*◌, ◌<◌, ◌≤◌, Bool, true, false, cond, ◌&&◌, ◌||◌, List, [], ◌∷◌, length, take, drop, get_or, refl, sym, ap, subst, ◌∙◌, arith}
+use Rattle.std.proofs.Common.{◌≡◌, inl, inr, ℕ, suc, ◌+◌, ◌-◌, ◌*◌, ◌<◌, ◌≤◌, Bool, true, false, cond, ◌&&◌, ◌||◌, List, [], ◌∷◌, length, take, drop, get_or}
+use Rattle.std.proofs.Common.{refl, sym, ap, subst, ◌∙◌, arith}
 use Rattle.std.specs.Prelude.{count_by, nat_le, nat_lt}
 use Rattle.std.specs.Char.{is_ascii_digit}
 use Rattle.std.specs.List.{list_all, list_any, prefix_len}
@@ -93,7 +94,8 @@ mantissa_is text m is =
     let front = take m.len text in
     let all = mantissa_bytes text m is in
     let long : length front ≡ m.len = ap (λ (n : ℕ). length (take n text)) is.len ∙ length-prefix_len is_mantissa_byte text ∙ sym is.len in
-    all_three (list_all is_mantissa_byte front) (list_any is_ascii_digit front) (nat_le (count_by is_point front) 1) (nat_lt m.points m.len) (nat_le m.points 1) all
+    all_three (list_all is_mantissa_byte front) (list_any is_ascii_digit front) (nat_le (count_by is_point front) 1) (nat_lt m.points m.len)
+    (nat_le m.points 1) all
     (digit_among front all ∙ ap (λ (n : ℕ). nat_lt n (length front)) (sym is.points) ∙ ap (λ (n : ℕ). nat_lt m.points n) long)
     (ap (λ (n : ℕ). nat_le n 1) (sym is.points))
 

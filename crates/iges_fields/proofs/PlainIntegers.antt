@@ -1,5 +1,6 @@
 -- Digits at the front of a text, behind which a delimiter stands.
-use Rattle.std.proofs.Common.{◌≡◌, ℕ, zero, suc, ◌+◌, ◌-◌, ◌*◌, ◌^◌, ◌<◌, ◌≤◌, Bool, true, false, not, List, [], ◌∷◌, ◌++◌, length, take, drop, get_or, ℤ, pos, Ok, refl, sym, ap, subst, ◌∙◌, arith}
+use Rattle.std.proofs.Common.{◌≡◌, ℕ, zero, suc, ◌+◌, ◌-◌, ◌*◌, ◌^◌, ◌<◌, ◌≤◌, Bool, true, false, not, List, [], ◌∷◌, ◌++◌, length, take, drop, get_or, ℤ, pos}
+use Rattle.std.proofs.Common.{Ok, refl, sym, ap, subst, ◌∙◌, arith}
 use Rattle.std.specs.Prelude.{◌==◌, neg_ℤ}
 use Rattle.std.specs.Char.{is_ascii_digit}
 use Rattle.std.specs.List.{list_all, prefix_len}
@@ -42,7 +43,8 @@ powers n h = pow-le-pow_right (omega arith) h
 pub digits_few : (text : List ℕ) (len value : ℕ) → IsDigitsSoFar text len value → value < 10 ^ 18
 digits_few text len value so_far = let p = powers len so_far.most in omega (arith, so_far.few, p)
 
-module _ (text : List ℕ) (len value : ℕ) (so_far : IsDigitsSoFar text len value) (h : len < length text) (m : len < 18) (e : is_ascii_digit (get_or text len 0) ≡ true) where
+module _ (text : List ℕ) (len value : ℕ) (so_far : IsDigitsSoFar text len value) (h : len < length text) (m : len < 18)
+    (e : is_ascii_digit (get_or text len 0) ≡ true) where
   abbrev byte : ℕ
   byte = get_or text len 0
 
@@ -72,7 +74,8 @@ pub no_space_first : (t : List ℕ) (m : ℕ) → 0 < m → m ≤ length t → l
 no_space_first [] m a b all = absurd (omega (arith, a, b))
 no_space_first (c ∷ t) zero a b all = absurd (omega (arith, a))
 no_space_first (c ∷ t) (suc m) a b all =
-    sym (after_spaces-other c t (not-true _ (number_byte_no_space c (digit_number_byte c (and_parts (is_ascii_digit c) (list_all is_ascii_digit (take m t)) all).0))))
+    sym (after_spaces-other c t (not-true _ (number_byte_no_space c
+    (digit_number_byte c (and_parts (is_ascii_digit c) (list_all is_ascii_digit (take m t)) all).0))))
 
 -- ---- the item
 
@@ -94,7 +97,8 @@ module _ (d : Delims) (ok : are_permitted d ≡ true) (text : List ℕ) (n : ℕ
   long = length-take-le n text within
 
   no_digit : is_ascii_digit first ≡ false
-  no_digit = false_from_ne_true (is_ascii_digit first) (λ e. both_ways (is_delimiter_of d first) (not-true _ (number_byte_no_stop d ok first (digit_number_byte first e))) stop)
+  no_digit = false_from_ne_true (is_ascii_digit first) (λ e. both_ways (is_delimiter_of d first)
+      (not-true _ (number_byte_no_stop d ok first (digit_number_byte first e))) stop)
 
   digits_end : n ≡ prefix_len is_ascii_digit text
   digits_end = sym (ap (prefix_len is_ascii_digit) split ∙ prefix_len-front is_ascii_digit front first (drop 1 behind) digits no_digit ∙ long)
@@ -103,7 +107,8 @@ module _ (d : Delims) (ok : are_permitted d ≡ true) (text : List ℕ) (n : ℕ
   word_ends =
       let p : ℕ → Bool = λ b. not (is_delimiter_of d b) in
       sym (ap (prefix_len p) split
-      ∙ prefix_len-front p front first (drop 1 behind) (list_all-implies is_ascii_digit p (λ b e. number_byte_no_stop d ok b (digit_number_byte b e)) front digits) (ap not stop)
+      ∙ prefix_len-front p front first (drop 1 behind) (list_all-implies is_ascii_digit p
+      (λ b e. number_byte_no_stop d ok b (digit_number_byte b e)) front digits) (ap not stop)
       ∙ long)
 
   no_text : begins_text text ≡ false
@@ -122,14 +127,16 @@ module _ (d : Delims) (ok : are_permitted d ≡ true) (text : List ℕ) (n : ℕ
   inside : n ≡ length text → ⊥
   inside e = let rest : length behind ≡ length text - n = ap length behind-is ∙ length-drop n text in omega (arith, e, rest, more)
 
-  plain : (xs : List ℕ) → list_all is_ascii_digit xs ≡ true → 0 < length xs → (is_integer xs ≡ true) × (signed_digits_value 10 xs ≡ pos (digits_value 10 xs)) × (xs ≡ trim xs)
+  plain : (xs : List ℕ) → list_all is_ascii_digit xs ≡ true → 0 < length xs →
+      (is_integer xs ≡ true) × (signed_digits_value 10 xs ≡ pos (digits_value 10 xs)) × (xs ≡ trim xs)
   plain [] all a = absurd (omega (arith, a))
   plain (c ∷ xs) all a =
       let bytes = list_all-implies is_ascii_digit _ digit_mantissa (c ∷ xs) all in
       let unsigned : without_leading_sign (c ∷ xs) ≡ c ∷ xs = unsigned_plain (c ∷ xs) bytes in
       let minus : (c == 45) ≡ false = not-true _ (digit_is_not 45 c refl (and_parts (is_ascii_digit c) (list_all is_ascii_digit xs) all).0) in (
         subst (λ (w : List ℕ). are_digits w ≡ true) (sym unsigned) (and_from (not (is_empty (c ∷ xs))) (list_all is_ascii_digit (c ∷ xs)) refl all),
-        cond-false (c == 45) (neg_ℤ (pos (digits_value 10 (without_leading_sign (c ∷ xs))))) (pos (digits_value 10 (without_leading_sign (c ∷ xs)))) minus ∙ ap (λ (w : List ℕ). pos (digits_value 10 w)) unsigned,
+        cond-false (c == 45) (neg_ℤ (pos (digits_value 10 (without_leading_sign (c ∷ xs))))) (pos (digits_value 10 (without_leading_sign (c ∷ xs)))) minus ∙ ap
+            (λ (w : List ℕ). pos (digits_value 10 w)) unsigned,
         sym (trim_plain (c ∷ xs) bytes),
       )
 
@@ -137,7 +144,8 @@ module _ (d : Delims) (ok : are_permitted d ≡ true) (text : List ℕ) (n : ℕ
   plain_item some few =
       let p = plain front digits (omega (arith, long, some)) in
       let limit : 10 ^ 18 ≡ 1000000000000000000 = refl in
-      let fits : fits_64_bits (pos (digits_value 10 front)) ≡ true = and_from _ _ refl (le-leb (digits_value 10 front) 9223372036854775807 (omega (arith, few, limit))) in
+      let fits : fits_64_bits (pos (digits_value 10 front)) ≡ true =
+      and_from _ _ refl (le-leb (digits_value 10 front) 9223372036854775807 (omega (arith, few, limit))) in
       let word = word_int d text front p.0 (ap fits_64_bits p.1 ∙ fits) in
       item_is_word d text (ap begins_text (sym (body_is some)) ∙ no_text) ∙ ap (word_item d text) (sym (body_is some))
       ∙ word_from d text text n word_ends inside front behind front refl behind-is p.2 (Ok (value.Int (signed_digits_value 10 front))) word

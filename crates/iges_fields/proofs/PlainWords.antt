@@ -1,5 +1,6 @@
 -- Words without spaces: their parts, and what is read of them.
-use Rattle.std.proofs.Common.{◌≡◌, inl, inr, ℕ, zero, suc, ◌+◌, ◌-◌, ◌^◌, ◌<◌, ◌≤◌, true, false, not, cond, ◌&&◌, List, [], ◌∷◌, ◌++◌, length, take, drop, get_or, ℤ, Some, None, Option, Ok, refl, sym, ap, subst, ◌∙◌, append_assoc, arith, length-append}
+use Rattle.std.proofs.Common.{◌≡◌, inl, inr, ℕ, zero, suc, ◌+◌, ◌-◌, ◌^◌, ◌<◌, ◌≤◌, true, false, not, cond, ◌&&◌, List, [], ◌∷◌, ◌++◌, length, take, drop}
+use Rattle.std.proofs.Common.{get_or, ℤ, Some, None, Option, Ok, refl, sym, ap, subst, ◌∙◌, append_assoc, arith, length-append}
 use Rattle.std.specs.Prelude.{IfSome, count_by, nat_le, ◌==◌}
 use Rattle.std.specs.Char.{is_ascii_digit}
 use Rattle.std.specs.List.{list_all, list_any}
@@ -39,7 +40,8 @@ other_is b t e f = cond-false (b == 45) t (without_leading_plus (b ∷ t)) e ∙
 
 front_other : (b : ℕ) (t w rest : List ℕ) → (b == 45) ≡ false → (b == 43) ≡ false → (b ∷ t) ≡ w ++ rest → without_leading_sign w ≡ w
 front_other b t [] rest e f split = refl
-front_other b t (c ∷ w) rest e f split = let same : b ≡ c = cc in other_is c w (subst (λ (x : ℕ). (x == 45) ≡ false) same e) (subst (λ (x : ℕ). (x == 43) ≡ false) same f)
+front_other b t (c ∷ w) rest e f split = let same : b ≡ c = cc in other_is c w (subst (λ (x : ℕ). (x == 45) ≡ false) same e)
+    (subst (λ (x : ℕ). (x == 43) ≡ false) same f)
 
 nothing : (w rest : List ℕ) → [] ≡ w ++ rest → w ≡ []
 nothing [] rest e = refl
@@ -70,7 +72,8 @@ front_unsigned (b ∷ t) w rest split =
       ]
     ]
   where
-    behind_sign : without_leading_sign (b ∷ t) ≡ t → without_leading_sign (b ∷ take (length w) t) ≡ take (length w) t → without_leading_sign (take (length (b ∷ t) - length rest) (b ∷ t)) ≡ w
+    behind_sign : without_leading_sign (b ∷ t) ≡ t → without_leading_sign (b ∷ take (length w) t) ≡ take (length w) t →
+        without_leading_sign (take (length (b ∷ t) - length rest) (b ∷ t)) ≡ w
     behind_sign all front =
         let whole : t ≡ w ++ rest = sym all ∙ split in
         let n-is : length (b ∷ t) - length rest ≡ suc (length w) = omega (arith, ap length whole, length-append w rest) in
@@ -97,7 +100,8 @@ front_behind (b ∷ t) w rest split =
         ap (λ (n : ℕ). drop n (b ∷ t)) n-is ∙ ap (drop (length w)) whole ∙ drop_at w rest (length w) refl
 
 -- the byte behind a front
-pub front_stop : (body w rest : List ℕ) → without_leading_sign body ≡ w ++ rest → 1 ≤ length rest → length rest ≤ length body → get_or body (length body - length rest) 0 ≡ get_or rest 0 0
+pub front_stop : (body w rest : List ℕ) → without_leading_sign body ≡ w ++ rest → 1 ≤ length rest → length rest ≤ length body →
+    get_or body (length body - length rest) 0 ≡ get_or rest 0 0
 front_stop body w rest split some few =
     let n = length body - length rest in
     ap (λ (t : List ℕ). get_or t 0 0) (sym (drop-cons body n 0 (omega (arith, some, few))) ∙ front_behind body w rest split)
@@ -146,7 +150,9 @@ some_digits (x ∷ xs) some all = and_from (not (is_empty (x ∷ xs))) (list_all
 
 module _ (word : List ℕ) (ds : Digits) (are : AreDigits (without_leading_sign word) ds) (all : ds.len ≡ length (without_leading_sign word)) where
   whole : take ds.len (without_leading_sign word) ≡ without_leading_sign word
-  whole = ap (λ (n : ℕ). take n (without_leading_sign word)) all ∙ (ap (take (length (without_leading_sign word))) (sym (append-nil (without_leading_sign word))) ∙ take_at (without_leading_sign word) [] (length (without_leading_sign word)) refl)
+  whole = ap (λ (n : ℕ). take n (without_leading_sign word)) all ∙
+      (ap (take (length (without_leading_sign word))) (sym (append-nil (without_leading_sign word))) ∙ take_at (without_leading_sign word) []
+      (length (without_leading_sign word)) refl)
 
   pub word_integer : 0 < ds.len → is_integer word ≡ true
   word_integer some = some_digits (without_leading_sign word) (omega (arith, some, all)) (ap (list_all is_ascii_digit) (sym whole) ∙ are.all)
@@ -157,7 +163,8 @@ module _ (word : List ℕ) (ds : Digits) (are : AreDigits (without_leading_sign 
       let is : ds.value ≡ digits_value 10 (without_leading_sign word) = are.value ∙ ap (digits_value 10) whole in
       omega (arith, is, are.few, limit)
 
-pub spells_whole : (word : List ℕ) (n : ℤ) → is_integer word ≡ true → fits_64_bits (signed_digits_value 10 word) ≡ true → n ≡ signed_digits_value 10 word → Spells (value.Int n) word
+pub spells_whole : (word : List ℕ) (n : ℤ) → is_integer word ≡ true → fits_64_bits (signed_digits_value 10 word) ≡ true → n ≡ signed_digits_value 10 word →
+    Spells (value.Int n) word
 spells_whole word n i fits is =
     (cond-true (is_integer word) (Some (signed_digits_value 10 word)) None i ∙ ap (λ (z : ℤ). Some z) (sym is), ap fits_64_bits is ∙ fits)
 
@@ -177,7 +184,8 @@ module _ (a b : List ℕ) (da : list_all is_ascii_digit a ≡ true) (db : list_a
   bytes : list_all is_mantissa_byte front ≡ true
   bytes =
       list_all-append is_mantissa_byte a (46 ∷ b)
-      ∙ and_from _ _ (list_all-implies is_ascii_digit is_mantissa_byte digit_mantissa a da) (list_all-implies is_ascii_digit is_mantissa_byte digit_mantissa b db)
+      ∙ and_from _ _ (list_all-implies is_ascii_digit is_mantissa_byte digit_mantissa a da)
+      (list_all-implies is_ascii_digit is_mantissa_byte digit_mantissa b db)
 
   good : is_mantissa front ≡ true
   good =
@@ -193,14 +201,17 @@ module _ (a b : List ℕ) (da : list_all is_ascii_digit a ≡ true) (db : list_a
   pub real_parts_are : (word p : List ℕ) → without_leading_sign word ≡ front ++ p → is_power p ≡ true → is_real word ≡ true
   real_parts_are word [] split power =
       let u-is : without_leading_sign word ≡ front = split ∙ append-nil front in
-      plain_real_is word (ap (list_all is_mantissa_byte) u-is ∙ bytes) ∙ ap (λ (u : List ℕ). is_mantissa u && list_any is_point u) u-is ∙ and_from (is_mantissa front) (list_any is_point front) good point
+      plain_real_is word (ap (list_all is_mantissa_byte) u-is ∙ bytes) ∙ ap (λ (u : List ℕ). is_mantissa u && list_any is_point u) u-is ∙ and_from
+      (is_mantissa front) (list_any is_point front) good point
   real_parts_are word (x ∷ ys) split power =
       let letter = and_parts (is_exponent_letter x) (is_integer ys) power in
-      let stop : is_mantissa_byte x ≡ false = false_from_ne_true (is_mantissa_byte x) (λ h. both_ways (is_exponent_letter x) (not-true _ (mantissa_no_letter x h)) letter.0) in
+      let stop : is_mantissa_byte x ≡ false = false_from_ne_true (is_mantissa_byte x)
+      (λ h. both_ways (is_exponent_letter x) (not-true _ (mantissa_no_letter x h)) letter.0) in
       real_behind word front x ys split bytes stop ∙ and_from (is_mantissa front) _ good power
 
 -- a letter, and digits behind a sign
-pub power_is : (text power u : List ℕ) (n : ℕ) → (1 ≤ length text) → power ≡ drop 1 text → u ≡ without_leading_sign power → is_exponent_letter (get_or text 0 0) ≡ true → 0 < n → n ≤ length u → list_all is_ascii_digit (take n u) ≡ true
+pub power_is : (text power u : List ℕ) (n : ℕ) → (1 ≤ length text) → power ≡ drop 1 text → u ≡ without_leading_sign power →
+    is_exponent_letter (get_or text 0 0) ≡ true → 0 < n → n ≤ length u → list_all is_ascii_digit (take n u) ≡ true
     → is_power (take (length text - length u + n) text) ≡ true
 power_is [] power u n some power-is u-is letter more within all = absurd (omega (arith, some))
 power_is (b ∷ text) power u n some power-is u-is letter more within all =
@@ -213,8 +224,10 @@ power_is (b ∷ text) power u n some power-is u-is letter more within all =
     (ap are_digits digits ∙ some_digits (take n u) (omega (arith, more, length-take-le n u within)) all)
 
 -- a real's parts, each behind the other
-module _ (body : List ℕ) (n : ℕ) (after : List ℕ) (digits : list_all is_ascii_digit (take n (without_leading_sign body)) ≡ true) (after-is : drop n (without_leading_sign body) ≡ 46 ∷ after)
-    (part : ℕ) (part_within : part ≤ length after) (part_digits : list_all is_ascii_digit (take part after) ≡ true) (power : List ℕ) (power-is : power ≡ drop part after)
+module _ (body : List ℕ) (n : ℕ) (after : List ℕ) (digits : list_all is_ascii_digit (take n (without_leading_sign body)) ≡ true)
+    (after-is : drop n (without_leading_sign body) ≡ 46 ∷ after)
+    (part : ℕ) (part_within : part ≤ length after) (part_digits : list_all is_ascii_digit (take part after) ≡ true) (power : List ℕ)
+    (power-is : power ≡ drop part after)
     (more : ℕ) (good_power : is_power (take more power) ≡ true) (rest : List ℕ) (rest-is : rest ≡ drop more power) where
   abbrev u : List ℕ
   u = without_leading_sign body
@@ -225,12 +238,21 @@ module _ (body : List ℕ) (n : ℕ) (after : List ℕ) (digits : list_all is_as
   u-split : u ≡ w ++ rest
   u-split =
       sym (take-append-drop n u)
-      ∙ ap (λ (t : List ℕ). take n u ++ t) (after-is ∙ ap (λ (t : List ℕ). 46 ∷ t) (sym (take-append-drop part after) ∙ ap (λ (t : List ℕ). take part after ++ t) (sym power-is ∙ sym (take-append-drop more power) ∙ ap (λ (t : List ℕ). take more power ++ t) (sym rest-is))))
+      ∙ ap (λ (t : List ℕ). take n u ++ t) (after-is ∙ ap (λ (t : List ℕ). 46 ∷ t)
+      (sym (take-append-drop part after) ∙ ap (λ (t : List ℕ). take part after ++ t)
+      (sym power-is ∙ sym (take-append-drop more power) ∙ ap (λ (t : List ℕ). take more power ++ t) (sym rest-is))))
       ∙ sym (append_assoc (take n u) (46 ∷ take part after) (take more power ++ rest))
       ∙ sym (append_assoc (take n u ++ 46 ∷ take part after) (take more power) rest)
 
   pub real_within : length rest + 1 ≤ length body
-  real_within = omega (arith, ap length u-split, length-append w rest, length-append (take n u ++ 46 ∷ take part after) (take more power), length-append (take n u) (46 ∷ take part after), unsigned_within body)
+  real_within = omega (
+    arith,
+    ap length u-split,
+    length-append w rest,
+    length-append (take n u ++ 46 ∷ take part after) (take more power),
+    length-append (take n u) (46 ∷ take part after),
+    unsigned_within body,
+  )
 
   pub real_stop : 1 ≤ length rest → get_or body (length body - length rest) 0 ≡ get_or rest 0 0
   real_stop some = front_stop body w rest u-split some (omega (arith, real_within))
@@ -248,7 +270,8 @@ module _ (body : List ℕ) (n : ℕ) (after : List ℕ) (digits : list_all is_as
 
   pub real_is : (n ≡ 0 → part ≡ 0 → ⊥) → is_real (take (length body - length rest) body) ≡ true
   real_is some =
-      real_parts_are (take n u) (take part after) digits part_digits (some_part some) (take (length body - length rest) body) (take more power) (front_unsigned body w rest u-split) good_power
+      real_parts_are (take n u) (take part after) digits part_digits (some_part some) (take (length body - length rest) body) (take more power)
+      (front_unsigned body w rest u-split) good_power
 
 -- digits are no sign
 pub no_sign_first : (t : List ℕ) (n : ℕ) → 0 < n → n ≤ length t → list_all is_ascii_digit (take n t) ≡ true → t ≡ without_leading_sign t
@@ -260,7 +283,8 @@ no_sign_first (b ∷ t) (suc n) some within all =
 
 -- ---- what is read
 
-module _ (d : Delims) (ok : are_permitted d ≡ true) (at : ℕ) (text body : List ℕ) (body-is : body ≡ after_spaces text) (kind : PlainWord) (len : ℕ) (is : IsPlainFront d body kind len) where
+module _ (d : Delims) (ok : are_permitted d ≡ true) (at : ℕ) (text body : List ℕ) (body-is : body ≡ after_spaces text) (kind : PlainWord) (len : ℕ)
+    (is : IsPlainFront d body kind len) where
   abbrev word : List ℕ
   word = take len body
 
@@ -273,7 +297,8 @@ module _ (d : Delims) (ok : are_permitted d ≡ true) (at : ℕ) (text body : Li
   behind-is : drop len body ≡ x ∷ rest
   behind-is = drop-cons body len 0 is.within
 
-  by_item : (item : List ℕ) → text ≡ item ++ x ∷ rest → (item_fault d (item ++ x ∷ rest) ≡ None) × (good_item d (item ++ x ∷ rest) ≡ (value_of kind word, x ∷ rest))
+  by_item : (item : List ℕ) → text ≡ item ++ x ∷ rest → (item_fault d (item ++ x ∷ rest) ≡ None) ×
+      (good_item d (item ++ x ∷ rest) ≡ (value_of kind word, x ∷ rest))
       → read_at d at text ≡ Ok (value_of kind word, x ∷ rest)
   unfolding read_at
   by_item item text-is reads =

@@ -1,10 +1,12 @@
 -- What a word is, by the mantissa behind its sign.
-use Rattle.std.proofs.Common.{◌≡◌, inl, inr, ℕ, ◌-◌, ◌<◌, ◌≤◌, Bool, true, false, cond, not, ◌&&◌, List, [], ◌∷◌, ◌++◌, length, take, drop, get_or, refl, sym, ap, subst, ◌∙◌, arith}
+use Rattle.std.proofs.Common.{◌≡◌, inl, inr, ℕ, ◌-◌, ◌<◌, ◌≤◌, Bool, true, false, cond, not, ◌&&◌, List, [], ◌∷◌, ◌++◌, length, take, drop, get_or, refl, sym}
+use Rattle.std.proofs.Common.{ap, subst, ◌∙◌, arith}
 use Rattle.std.specs.Prelude.{count_by, take_while, nat_le}
 use Rattle.std.specs.Char.{is_ascii_digit}
 use Rattle.std.specs.List.{list_all, list_any}
 use Rattle.std.specs.Str.Parse.{digits_value, without_leading_sign}
-use Rattle.std.proofs.lemmas.Bool.{and_parts, and_from, and_left, and_right, or_left, or_right, or_cases, cases_Bool, both_ways, eqb-true, false_from_ne_true, not-true, not_from_true, not_from_false, cond-true, cond-false, le-leb}
+use Rattle.std.proofs.lemmas.Bool.{and_parts, and_from, and_left, and_right, or_left, or_right, or_cases, cases_Bool, both_ways, eqb-true, false_from_ne_true}
+use Rattle.std.proofs.lemmas.Bool.{not-true, not_from_true, not_from_false, cond-true, cond-false, le-leb}
 use Rattle.std.proofs.Math.Seq.{drop-cons}
 use Rattle.std.proofs.lemmas.List.{drop_all, drop_at, take_all, take-append-drop, take_rest}
 use Rattle.std.proofs.lemmas.List.Folds.{length-prefix_len, list_all-append}
@@ -26,7 +28,8 @@ abbrev no_exponent : ℕ → Bool
 no_exponent b = not (is_exponent_letter b)
 
 pub mantissa_no_letter : (b : ℕ) → is_mantissa_byte b ≡ true → no_exponent b ≡ true
-mantissa_no_letter b e = elim (or_cases (is_ascii_digit b) (is_point b) e) [ inl h ↦ no_letter b h | inr h ↦ subst (λ (x : ℕ). no_exponent x ≡ true) (sym (eqb-true b 46 h)) refl ]
+mantissa_no_letter b e = elim (or_cases (is_ascii_digit b) (is_point b) e)
+    [ inl h ↦ no_letter b h | inr h ↦ subst (λ (x : ℕ). no_exponent x ≡ true) (sym (eqb-true b 46 h)) refl ]
 
 pub digit_mantissa : (b : ℕ) → is_ascii_digit b ≡ true → is_mantissa_byte b ≡ true
 digit_mantissa b e = or_left (is_ascii_digit b) (is_point b) e
@@ -65,7 +68,8 @@ digits_are_mantissa [] h = absurd cc
 digits_are_mantissa (x ∷ u) h =
     let parts = and_parts (is_ascii_digit x) (list_all is_ascii_digit u) h in
     and_from (list_all is_mantissa_byte (x ∷ u) && list_any is_ascii_digit (x ∷ u)) (nat_le (count_by is_point (x ∷ u)) 1)
-    (and_from (list_all is_mantissa_byte (x ∷ u)) (list_any is_ascii_digit (x ∷ u)) (list_all-implies is_ascii_digit is_mantissa_byte digit_mantissa (x ∷ u) h) (or_left (is_ascii_digit x) (list_any is_ascii_digit u) parts.0))
+    (and_from (list_all is_mantissa_byte (x ∷ u)) (list_any is_ascii_digit (x ∷ u)) (list_all-implies is_ascii_digit is_mantissa_byte digit_mantissa (x ∷ u) h)
+    (or_left (is_ascii_digit x) (list_any is_ascii_digit u) parts.0))
     (le-leb (count_by is_point (x ∷ u)) 1 (omega (arith, no_points (x ∷ u) h)))
 
 -- a real's test, where this is its mantissa
@@ -116,13 +120,15 @@ module _ (word : List ℕ) where
     plain_real e some =
         let valid : is_mantissa u ≡ true = ap is_mantissa (sym whole) ∙ sym e in
         let point : list_any is_point u ≡ true = some_point u (omega (arith, some, is.points, ap (count_by is_point) whole)) in (
-          false_from_ne_true (is_integer word) (λ h. both_ways (list_any is_point u) (no_point u (and_parts (not (is_empty u)) (list_all is_ascii_digit u) h).1) point),
+          false_from_ne_true (is_integer word) (λ h. both_ways (list_any is_point u)
+              (no_point u (and_parts (not (is_empty u)) (list_all is_ascii_digit u) h).1) point),
           plain_real_is bytes ∙ and_from (is_mantissa u) (list_any is_point u) valid point,
         )
 
   -- ---- an exponent
 
-  take_while-more : (q : ℕ → Bool) (xs : List ℕ) (x : ℕ) (ys : List ℕ) → list_all q xs ≡ true → q x ≡ true → take_while q (xs ++ x ∷ ys) ≡ xs ++ x ∷ take_while q ys
+  take_while-more : (q : ℕ → Bool) (xs : List ℕ) (x : ℕ) (ys : List ℕ) → list_all q xs ≡ true → q x ≡ true →
+      take_while q (xs ++ x ∷ ys) ≡ xs ++ x ∷ take_while q ys
   take_while-more q [] x ys all e = ap (λ (n : ℕ). take n (x ∷ ys)) (prefix_len-pass q x ys e)
   take_while-more q (y ∷ xs) x ys all e =
       let parts = and_parts (q y) (list_all q xs) all in
@@ -138,18 +144,23 @@ module _ (word : List ℕ) where
       elim (cases_Bool (is_exponent_letter x)) [
         | inl e ↦
             ap (real_by u) (ap (take_while no_exponent) split ∙ take_while-front no_exponent xs x ys letters (not_from_true _ e))
-            ∙ ap (λ (t : List ℕ). is_mantissa xs && cond (is_empty t) (list_any is_point xs) (is_integer (drop 1 t))) (ap (drop (length xs)) split ∙ drop_at xs (x ∷ ys) (length xs) refl)
+            ∙ ap (λ (t : List ℕ). is_mantissa xs && cond (is_empty t) (list_any is_point xs) (is_integer (drop 1 t)))
+            (ap (drop (length xs)) split ∙ drop_at xs (x ∷ ys) (length xs) refl)
             ∙ ap (λ (b : Bool). is_mantissa xs && (b && is_integer ys)) (sym e)
         | inr e ↦
-            let front : take_while no_exponent u ≡ xs ++ x ∷ take_while no_exponent ys = ap (take_while no_exponent) split ∙ take_while-more no_exponent xs x ys letters (not_from_false _ e) in
+            let front : take_while no_exponent u ≡ xs ++ x ∷ take_while no_exponent ys =
+            ap (take_while no_exponent) split ∙ take_while-more no_exponent xs x ys letters (not_from_false _ e) in
             ap (real_by u) front
             ∙ and_left (is_mantissa (xs ++ x ∷ take_while no_exponent ys)) _
-            (and_left (list_all is_mantissa_byte (xs ++ x ∷ take_while no_exponent ys) && _) _ (and_left (list_all is_mantissa_byte (xs ++ x ∷ take_while no_exponent ys)) _ (fails_inside is_mantissa_byte xs x (take_while no_exponent ys) stop)))
+            (and_left (list_all is_mantissa_byte (xs ++ x ∷ take_while no_exponent ys) && _) _
+            (and_left (list_all is_mantissa_byte (xs ++ x ∷ take_while no_exponent ys)) _
+            (fails_inside is_mantissa_byte xs x (take_while no_exponent ys) stop)))
             ∙ sym (and_right (is_mantissa xs) (is_exponent_letter x && is_integer ys) (and_left (is_exponent_letter x) (is_integer ys) e))
       ]
 
   -- the same of what a call took for u: behind its mantissa stand a byte and more
-  module _ (v : List ℕ) (v-is : v ≡ without_leading_sign word) (m : Mantissa) (is : IsMantissa v m) (behind : List ℕ) (behind-is : behind ≡ drop m.len v) (some : 1 ≤ length behind) where
+  module _ (v : List ℕ) (v-is : v ≡ without_leading_sign word) (m : Mantissa) (is : IsMantissa v m) (behind : List ℕ) (behind-is : behind ≡ drop m.len v)
+      (some : 1 ≤ length behind) where
     abbrev first : ℕ
     first = get_or behind 0 0
 
@@ -170,18 +181,22 @@ module _ (word : List ℕ) where
     no_integer_behind : is_integer word ≡ false
     no_integer_behind =
         and_right (not (is_empty u)) (list_all is_ascii_digit u)
-        (ap (list_all is_ascii_digit) (sym v-is ∙ split) ∙ fails_inside is_ascii_digit (take m.len v) first power (false_from_ne_true (is_ascii_digit first) (λ h. both_ways (is_mantissa_byte first) stop (digit_mantissa first h))))
+        (ap (list_all is_ascii_digit) (sym v-is ∙ split) ∙ fails_inside is_ascii_digit (take m.len v) first power
+        (false_from_ne_true (is_ascii_digit first) (λ h. both_ways (is_mantissa_byte first) stop (digit_mantissa first h))))
 
     real_is : is_real word ≡ (is_mantissa (take m.len v) && (is_exponent_letter first && is_integer power))
     real_is = real_behind (take m.len v) first power (sym v-is ∙ split) (mantissa_bytes v m is) stop
 
-    pub with_exponent : (valid exponent : Bool) → valid ≡ true → ((text : List ℕ) → IsMantissa text m → valid ≡ is_mantissa (take m.len text)) → exponent ≡ true → exponent ≡ (is_exponent_letter first && is_integer power) → (is_integer word ≡ false) × (is_real word ≡ true)
+    pub with_exponent : (valid exponent : Bool) → valid ≡ true → ((text : List ℕ) → IsMantissa text m → valid ≡ is_mantissa (take m.len text)) →
+        exponent ≡ true → exponent ≡ (is_exponent_letter first && is_integer power) → (is_integer word ≡ false) × (is_real word ≡ true)
     with_exponent valid exponent v-true v-valid e-true e-is = (no_integer_behind, real_is ∙ and_from _ _ (sym (v-valid v is) ∙ v-true) (sym e-is ∙ e-true))
 
-    pub no_exponent_behind : (exponent : Bool) → exponent ≡ false → exponent ≡ (is_exponent_letter first && is_integer power) → (is_integer word ≡ false) × (is_real word ≡ false)
+    pub no_exponent_behind : (exponent : Bool) → exponent ≡ false → exponent ≡ (is_exponent_letter first && is_integer power) →
+        (is_integer word ≡ false) × (is_real word ≡ false)
     no_exponent_behind exponent e-false e-is = (no_integer_behind, real_is ∙ and_right (is_mantissa (take m.len v)) _ (sym e-is ∙ e-false))
 
-    pub no_mantissa : (valid : Bool) → valid ≡ false → ((text : List ℕ) → IsMantissa text m → valid ≡ is_mantissa (take m.len text)) → (is_integer word ≡ false) × (is_real word ≡ false)
+    pub no_mantissa : (valid : Bool) → valid ≡ false → ((text : List ℕ) → IsMantissa text m → valid ≡ is_mantissa (take m.len text)) →
+        (is_integer word ≡ false) × (is_real word ≡ false)
     no_mantissa valid v-false v-valid = (no_integer_behind, real_is ∙ and_left (is_mantissa (take m.len v)) _ (sym (v-valid v is) ∙ v-false))
 
 -- a word of another kind is no real

@@ -38,7 +38,8 @@ module _ (bytes : List ℕ) where
   by_found_err None e f h = absurd (clash f (sections_of ls) (sym h))
   by_found_err (Some x) e f h =
       let t = first_from-some (line_fault ls) (length ls + 1) 0 x e in
-      subst (IsLineFault bytes) (err_is (record { line = x.0 + 1; reason = x.1 }) f h) (x.0, refl, record { here = t.1; before = λ i lt. t.2 i (omega arith) lt })
+      subst (IsLineFault bytes) (err_is (record { line = x.0 + 1; reason = x.1 }) f h)
+      (x.0, refl, record { here = t.1; before = λ i lt. t.2 i (omega arith) lt })
 
   pub read_sections-IsLineFault : (f : LineFault) → read_sections bytes ≡ Err f → IsLineFault bytes f
   unfolding read_sections
@@ -52,5 +53,6 @@ module _ (bytes : List ℕ) where
         | inl lt ↦ let no : Some f.reason ≡ None = sym first.here ∙ fault_of_end ls h.0 (omega arith) ∙ first.before (length ls) lt in absurd cc
         | inr le ↦ le
       ] in
-      ap (sections_unless ls) (first_from-at (line_fault ls) (length ls + 1) 0 h.0 f.reason (omega arith) (omega arith) first.here (λ j low lt. first.before j lt))
+      ap (sections_unless ls) (first_from-at (line_fault ls) (length ls + 1) 0 h.0 f.reason (omega arith) (omega arith) first.here
+      (λ j low lt. first.before j lt))
       ∙ ap (λ (n : ℕ). Err (record { line = n; reason = f.reason })) (sym h.1)

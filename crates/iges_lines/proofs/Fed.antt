@@ -1,5 +1,6 @@
 -- What lines that were taken, and a rest, stand for when more bytes come.
-use Rattle.std.proofs.Common.{◌≡◌, ℕ, ◌+◌, ◌<◌, ◌≤◌, true, List, [], ◌∷◌, ◌++◌, length, map, Some, None, Result, Ok, Err, refl, sym, ap, subst, ◌∙◌, append_assoc, arith, length-append}
+use Rattle.std.proofs.Common.{◌≡◌, ℕ, ◌+◌, ◌<◌, ◌≤◌, true, List, [], ◌∷◌, ◌++◌, length, map, Some, None, Result, Ok, Err, refl, sym, ap, subst, ◌∙◌}
+use Rattle.std.proofs.Common.{append_assoc, arith, length-append}
 use Rattle.std.specs.Prelude.{OnOk, OnErr, flat_map}
 use Rattle.std.specs.Str.Lines.{strip_carriage_return}
 use Rattle.std.proofs.lemmas.List.{append-nil, map-append, length-map}
@@ -38,18 +39,22 @@ stands_behind t f rest new bytes x e s = record {
 }
 
 -- an LF comes, and the line that it ends is taken
-pub stands_next : (old new : Taken) (rest bytes head : List ℕ) → old.fault ≡ None → is_in_line head ≡ true → NextTaken old (strip_carriage_return (rest ++ head)) new
+pub stands_next : (old new : Taken) (rest bytes head : List ℕ) → old.fault ≡ None → is_in_line head ≡ true →
+    NextTaken old (strip_carriage_return (rest ++ head)) new
     → StandsFor old rest bytes → StandsFor new [] (bytes ++ (head ++ 10 ∷ []))
 stands_next old new rest bytes head none h next s =
     let k = s.still none in
-    let begun : IsBegun (bytes ++ head) s.pieces (rest ++ head) = subst (λ (m : List ℕ). IsBegun (bytes ++ head) s.pieces (m ++ head)) k.0 (begun_more bytes s.pieces s.more head s.begun) in
+    let begun : IsBegun (bytes ++ head) s.pieces (rest ++ head) =
+    subst (λ (m : List ℕ). IsBegun (bytes ++ head) s.pieces (m ++ head)) k.0 (begun_more bytes s.pieces s.more head s.begun) in
     let done : IsBegun (bytes ++ (head ++ 10 ∷ [])) (s.pieces ++ (rest ++ head) ∷ []) [] =
-    subst (λ (b : List ℕ). IsBegun b (s.pieces ++ (rest ++ head) ∷ []) []) (append_assoc bytes head (10 ∷ [])) (begun_end (bytes ++ head) s.pieces (rest ++ head) begun (both_in_line rest head k.1 h)) in
+    subst (λ (b : List ℕ). IsBegun b (s.pieces ++ (rest ++ head) ∷ []) []) (append_assoc bytes head (10 ∷ []))
+    (begun_end (bytes ++ head) s.pieces (rest ++ head) begun (both_in_line rest head k.1 h)) in
     record {
       pieces = s.pieces ++ (rest ++ head) ∷ [];
       more = [];
       begun = done;
-      taken = subst (λ (ls : List (List ℕ)). AreTaken ls new) (sym (map-append strip_carriage_return s.pieces ((rest ++ head) ∷ []))) (next (map strip_carriage_return s.pieces) s.taken);
+      taken = subst (λ (ls : List (List ℕ)). AreTaken ls new) (sym (map-append strip_carriage_return s.pieces ((rest ++ head) ∷ [])))
+          (next (map strip_carriage_return s.pieces) s.taken);
       still = λ e. (refl, refl);
     }
 
@@ -62,7 +67,8 @@ IsLeft old bytes now left = (before : List ℕ) → StandsFor old [] before → 
 pub left_all : (t : Taken) (bytes : List ℕ) → IsLeft t bytes t bytes
 left_all t bytes = λ before s. (before, refl, s)
 
-pub left_next : (old : Taken) (bytes : List ℕ) (now new : Taken) (left piece after : List ℕ) → now.fault ≡ None → left ≡ piece ++ 10 ∷ after → is_in_line piece ≡ true
+pub left_next : (old : Taken) (bytes : List ℕ) (now new : Taken) (left piece after : List ℕ) → now.fault ≡ None → left ≡ piece ++ 10 ∷ after →
+    is_in_line piece ≡ true
     → NextTaken now (strip_carriage_return piece) new → IsLeft old bytes now left → IsLeft old bytes new after
 left_next old bytes now new left piece after none is h next k = λ before s.
     let x = k before s in (
@@ -71,10 +77,12 @@ left_next old bytes now new left piece after none is h next k = λ before s.
       stands_next now new [] x.0 piece none h next x.2,
     )
 
-pub left_none : (old : Taken) (bytes : List ℕ) (now : Taken) (left before : List ℕ) → is_in_line left ≡ true → IsLeft old bytes now left → StandsFor old [] before → StandsFor now left (before ++ bytes)
+pub left_none : (old : Taken) (bytes : List ℕ) (now : Taken) (left before : List ℕ) → is_in_line left ≡ true → IsLeft old bytes now left →
+    StandsFor old [] before → StandsFor now left (before ++ bytes)
 left_none old bytes now left before h k s = let x = k before s in subst (StandsFor now left) (sym x.1) (stands_more now [] x.0 left h x.2)
 
-pub left_failed : (old : Taken) (bytes : List ℕ) (now : Taken) (left rest before : List ℕ) (f : LineFault) → now.fault ≡ Some f → IsLeft old bytes now left → StandsFor old [] before → StandsFor now rest (before ++ bytes)
+pub left_failed : (old : Taken) (bytes : List ℕ) (now : Taken) (left rest before : List ℕ) (f : LineFault) → now.fault ≡ Some f → IsLeft old bytes now left →
+    StandsFor old [] before → StandsFor now rest (before ++ bytes)
 left_failed old bytes now left rest before f e k s = let x = k before s in subst (StandsFor now rest) (sym x.1) (stands_behind now f [] rest x.0 left e x.2)
 
 -- ---- all bytes have come
@@ -85,19 +93,23 @@ nil (x ∷ r) h = absurd (omega arith)
 
 pub failed_taken : (t : Taken) (f : LineFault) (rest bytes : List ℕ) → t.fault ≡ Some f → StandsFor t rest bytes → AreTaken (lines bytes) t
 failed_taken t f rest bytes e s =
-    subst (λ (ls : List (List ℕ)). AreTaken ls t) (sym (lines_begun bytes s.pieces s.more s.begun)) (taken_behind (map strip_carriage_return s.pieces) (lines s.more) t f e s.taken)
+    subst (λ (ls : List (List ℕ)). AreTaken ls t) (sym (lines_begun bytes s.pieces s.more s.begun))
+    (taken_behind (map strip_carriage_return s.pieces) (lines s.more) t f e s.taken)
 
 pub all_taken : (t : Taken) (rest bytes : List ℕ) → t.fault ≡ None → length rest ≤ 0 → StandsFor t rest bytes → AreTaken (lines bytes) t
 all_taken t rest bytes e none s =
-    subst (λ (ls : List (List ℕ)). AreTaken ls t) (sym (lines_begun bytes s.pieces s.more s.begun ∙ ap (λ (m : List ℕ). map strip_carriage_return s.pieces ++ lines m) ((s.still e).0 ∙ nil rest none)
+    subst (λ (ls : List (List ℕ)). AreTaken ls t) (sym (lines_begun bytes s.pieces s.more s.begun ∙ ap
+    (λ (m : List ℕ). map strip_carriage_return s.pieces ++ lines m) ((s.still e).0 ∙ nil rest none)
     ∙ append-nil (map strip_carriage_return s.pieces))) s.taken
 
-pub rest_taken : (old new : Taken) (rest bytes : List ℕ) → old.fault ≡ None → 0 < length rest → NextTaken old (strip_carriage_return rest) new → StandsFor old rest bytes → AreTaken (lines bytes) new
+pub rest_taken : (old new : Taken) (rest bytes : List ℕ) → old.fault ≡ None → 0 < length rest → NextTaken old (strip_carriage_return rest) new →
+    StandsFor old rest bytes → AreTaken (lines bytes) new
 rest_taken old new rest bytes none some next s =
     let k = s.still none in
     let last : lines rest ≡ strip_carriage_return rest ∷ [] = ap (λ (ps : List (List ℕ)). map strip_carriage_return ps) (last_piece rest k.1 some) in
     let whole : lines bytes ≡ map strip_carriage_return s.pieces ++ strip_carriage_return rest ∷ [] =
-    lines_begun bytes s.pieces s.more s.begun ∙ ap (λ (m : List ℕ). map strip_carriage_return s.pieces ++ lines m) k.0 ∙ ap (λ (ls : List (List ℕ)). map strip_carriage_return s.pieces ++ ls) last in
+    lines_begun bytes s.pieces s.more s.begun ∙ ap (λ (m : List ℕ). map strip_carriage_return s.pieces ++ lines m) k.0 ∙ ap
+    (λ (ls : List (List ℕ)). map strip_carriage_return s.pieces ++ ls) last in
     subst (λ (ls : List (List ℕ)). AreTaken ls new) (sym whole) (next (map strip_carriage_return s.pieces) s.taken)
 
 -- ---- a feed
@@ -123,14 +135,21 @@ few_lines f bytes none h =
 grown : (f : Fed) (bytes x : List ℕ) → f.len ≡ length bytes → f.len + length x ≡ length (bytes ++ x)
 grown f bytes x e = omega (arith, e, length-append bytes x)
 
-pub fed_behind : (f : Fed) (e : LineFault) (bytes x : List ℕ) → f.taken.fault ≡ Some e → IsFed f bytes → IsFed (record f { len = f.len + length x }) (bytes ++ x)
+pub fed_behind : (f : Fed) (e : LineFault) (bytes x : List ℕ) → f.taken.fault ≡ Some e → IsFed f bytes →
+    IsFed (record f { len = f.len + length x }) (bytes ++ x)
 fed_behind f e bytes x is h = record { len = grown f bytes x h.len; stands = stands_behind f.taken e f.rest f.rest bytes x is h.stands }
 
-pub fed_more : (f : Fed) (bytes x rest : List ℕ) → is_in_line x ≡ true → rest ≡ f.rest ++ x → IsFed f bytes → IsFed (record { taken = f.taken; rest = rest; len = f.len + length x }) (bytes ++ x)
+pub fed_more : (f : Fed) (bytes x rest : List ℕ) → is_in_line x ≡ true → rest ≡ f.rest ++ x → IsFed f bytes →
+    IsFed (record { taken = f.taken; rest = rest; len = f.len + length x }) (bytes ++ x)
 fed_more f bytes x rest h is k =
-    record { len = grown f bytes x k.len; stands = subst (λ (r : List ℕ). StandsFor f.taken r (bytes ++ x)) (sym is) (stands_more f.taken f.rest bytes x h k.stands) }
+    record {
+      len = grown f bytes x k.len;
+      stands = subst (λ (r : List ℕ). StandsFor f.taken r (bytes ++ x)) (sym is)
+          (stands_more f.taken f.rest bytes x h k.stands);
+    }
 
-pub fed_next : (f : Fed) (new : Taken) (bytes x rest : List ℕ) → (StandsFor f.taken f.rest bytes → StandsFor new rest (bytes ++ x)) → IsFed f bytes → IsFed (record { taken = new; rest = rest; len = f.len + length x }) (bytes ++ x)
+pub fed_next : (f : Fed) (new : Taken) (bytes x rest : List ℕ) → (StandsFor f.taken f.rest bytes → StandsFor new rest (bytes ++ x)) → IsFed f bytes →
+    IsFed (record { taken = new; rest = rest; len = f.len + length x }) (bytes ++ x)
 fed_next f new bytes x rest next h = record { len = grown f bytes x h.len; stands = next h.stands }
 
 -- ---- answers
@@ -139,7 +158,9 @@ pub on_err : {X E : Type 0} (r : Result X E) (P : Type 0) → P → OnErr r P
 on_err {X} {E} (Ok x) P p = tt
 on_err {X} {E} (Err e) P p = p
 
-pub joined_ok : (old new : Taken) (rest line head : List ℕ) → old.fault ≡ None → is_in_line head ≡ true → line ≡ strip_carriage_return (rest ++ head) → (r : Result (Unit {0}) NoMemory)
+pub joined_ok : (old new : Taken) (rest line head : List ℕ) → old.fault ≡ None → is_in_line head ≡ true → line ≡ strip_carriage_return (rest ++ head) →
+    (r : Result (Unit {0}) NoMemory)
     → OnOk r (NextTaken old line new) → OnOk r ((bytes : List ℕ) → StandsFor old rest bytes → StandsFor new [] (bytes ++ (head ++ 10 ∷ [])))
-joined_ok old new rest line head none h is (Ok x) next = λ bytes s. stands_next old new rest bytes head none h (subst (λ (l : List ℕ). NextTaken old l new) is next) s
+joined_ok old new rest line head none h is (Ok x) next = λ bytes s. stands_next old new rest bytes head none h
+    (subst (λ (l : List ℕ). NextTaken old l new) is next) s
 joined_ok old new rest line head none h is (Err e) next = tt

@@ -1,5 +1,6 @@
 -- Where a line passes, each that ends with the next number passes behind it.
-use Rattle.std.proofs.Common.{◌≡◌, ℕ, zero, suc, ◌+◌, ◌<◌, ◌≤◌, true, false, List, [], ◌∷◌, ◌++◌, length, take, drop, get_or, set, pos, Some, None, refl, sym, ap, subst, ◌∙◌, arith, length-append}
+use Rattle.std.proofs.Common.{◌≡◌, ℕ, zero, suc, ◌+◌, ◌<◌, ◌≤◌, true, false, List, [], ◌∷◌, ◌++◌, length, take, drop, get_or, set, pos, Some, None, refl, sym}
+use Rattle.std.proofs.Common.{ap, subst, ◌∙◌, arith, length-append}
 use Rattle.std.specs.Prelude.{nat_lt, nat_le}
 use Rattle.std.specs.Char.{is_ascii_digit}
 use Rattle.std.specs.List.{list_all}
@@ -24,7 +25,8 @@ use Rattle.iges_lines.proofs.Walk.{says_S, says_G, says_D, says_P, pass_S, pass_
 
 -- ---- endings
 
-pub same_bytes : (left right : List ℕ) → length left ≡ 8 → length right ≡ 8 → ((i : ℕ) → get_or left i 0 < 256) → ((i : ℕ) → get_or right i 0 < 256) → from_le_bytes w64 left ≡ from_le_bytes w64 right
+pub same_bytes : (left right : List ℕ) → length left ≡ 8 → length right ≡ 8 → ((i : ℕ) → get_or left i 0 < 256) → ((i : ℕ) → get_or right i 0 < 256) →
+    from_le_bytes w64 left ≡ from_le_bytes w64 right
     → left ≡ right
 same_bytes left right l r few less e = sym (le_bytes_8 left _ l few refl) ∙ le_bytes_8 right _ r less e
 
@@ -47,10 +49,12 @@ set_less (b ∷ bytes) zero y h less (suc i) = less (suc i)
 set_less (b ∷ bytes) (suc n) y h less zero = less 0
 set_less (b ∷ bytes) (suc n) y h less (suc i) = set_less bytes n y h (λ j. less (suc j)) i
 
-pub last_more : (bytes : List ℕ) → length bytes ≡ 8 → ((i : ℕ) → get_or bytes i 0 < 256) → get_or bytes 7 0 < 255 → to_le_bytes w64 (from_le_bytes w64 bytes + 72057594037927936) ≡ set bytes 7 (get_or bytes 7 0 + 1)
+pub last_more : (bytes : List ℕ) → length bytes ≡ 8 → ((i : ℕ) → get_or bytes i 0 < 256) → get_or bytes 7 0 < 255 →
+    to_le_bytes w64 (from_le_bytes w64 bytes + 72057594037927936) ≡ set bytes 7 (get_or bytes 7 0 + 1)
 last_more bytes long less few =
     let more = set bytes 7 (get_or bytes 7 0 + 1) in
-    le_bytes_8 more _ (length-set bytes 7 (get_or bytes 7 0 + 1) ∙ long) (set_less bytes 7 (get_or bytes 7 0 + 1) (omega (arith, few)) less) (added_byte bytes long)
+    le_bytes_8 more _ (length-set bytes 7 (get_or bytes 7 0 + 1) ∙ long) (set_less bytes 7 (get_or bytes 7 0 + 1) (omega (arith, few)) less)
+    (added_byte bytes long)
 
 split_last : (n : ℕ) (e : List ℕ) (y : ℕ) → length e ≡ n + 1 → (e ≡ take n e ++ get_or e n 0 ∷ []) × (set e n y ≡ take n e ++ y ∷ [])
 split_last n [] y h = absurd (omega (arith, h))
@@ -68,7 +72,11 @@ one_digit b low high = record {
   next_some = omega arith;
   all = and_from _ _ (is_digit b low (omega arith)) refl;
   next_all = and_from _ _ (is_digit (b + 1) (omega arith) (omega arith)) refl;
-  value = λ n. omega (arith, digit_value_digit b (low, (let h : b ≤ 57 = omega arith in h)), digit_value_digit (b + 1) ((let l : 48 ≤ b + 1 = omega arith in l), (let h : b + 1 ≤ 57 = omega arith in h)));
+  value = λ n. omega (
+    arith,
+    digit_value_digit b (low, (let h : b ≤ 57 = omega arith in h)),
+    digit_value_digit (b + 1) ((let l : 48 ≤ b + 1 = omega arith in l), (let h : b + 1 ≤ 57 = omega arith in h)),
+  );
 }
 
 pub next_of_last : (e : List ℕ) → length e ≡ 8 → 48 ≤ get_or e 7 0 → get_or e 7 0 ≤ 56 → IsNextEnding e (set e 7 (get_or e 7 0 + 1))
@@ -84,7 +92,8 @@ next_of_last e long low high =
       are_next = one_digit (get_or e 7 0) low high;
     }
 
-split_two : (n : ℕ) (e : List ℕ) (y z : ℕ) → length e ≡ n + 2 → (e ≡ take n e ++ get_or e n 0 ∷ get_or e (suc n) 0 ∷ []) × (set (set e n y) (suc n) z ≡ take n e ++ y ∷ z ∷ [])
+split_two : (n : ℕ) (e : List ℕ) (y z : ℕ) → length e ≡ n + 2 →
+    (e ≡ take n e ++ get_or e n 0 ∷ get_or e (suc n) 0 ∷ []) × (set (set e n y) (suc n) z ≡ take n e ++ y ∷ z ∷ [])
 split_two n [] y z h = absurd (omega (arith, h))
 split_two zero (x ∷ e) y z h = let k = split_last 0 e z (omega (arith, h)) in (ap (λ (t : List ℕ). x ∷ t) k.0, ap (λ (t : List ℕ). y ∷ t) k.1)
 split_two (suc n) (x ∷ e) y z h =
@@ -97,10 +106,15 @@ two_digits b low high = record {
   next_some = omega arith;
   all = and_from _ _ (is_digit b low (omega arith)) refl;
   next_all = and_from _ _ (is_digit (b + 1) (omega arith) (omega arith)) refl;
-  value = λ n. omega (arith, digit_value_digit b (low, (let h : b ≤ 57 = omega arith in h)), digit_value_digit (b + 1) ((let l : 48 ≤ b + 1 = omega arith in l), (let h : b + 1 ≤ 57 = omega arith in h)));
+  value = λ n. omega (
+    arith,
+    digit_value_digit b (low, (let h : b ≤ 57 = omega arith in h)),
+    digit_value_digit (b + 1) ((let l : 48 ≤ b + 1 = omega arith in l), (let h : b + 1 ≤ 57 = omega arith in h)),
+  );
 }
 
-pub next_of_ten : (e : List ℕ) → length e ≡ 8 → get_or e 7 0 ≡ 57 → 48 ≤ get_or e 6 0 → get_or e 6 0 ≤ 56 → IsNextEnding e (set (set e 6 (get_or e 6 0 + 1)) 7 48)
+pub next_of_ten : (e : List ℕ) → length e ≡ 8 → get_or e 7 0 ≡ 57 → 48 ≤ get_or e 6 0 → get_or e 6 0 ≤ 56 →
+    IsNextEnding e (set (set e 6 (get_or e 6 0 + 1)) 7 48)
 next_of_ten e long nine low high =
     let k = split_two 6 e (get_or e 6 0 + 1) 48 long in
     let is : e ≡ take 6 e ++ get_or e 6 0 ∷ 57 ∷ [] = k.0 ∙ ap (λ (b : ℕ). take 6 e ++ get_or e 6 0 ∷ b ∷ []) nine in
@@ -158,7 +172,8 @@ module _ (line next : List ℕ) (e : IsNextEnding (columns 73 80 line) (columns 
       let now : columns 74 80 next ≡ drop 1 e.front ++ e.next_digits = sym (number_in next) ∙ ap (drop 1) e.next_is ∙ front_rest e.front e.next_digits e.some in
       ap column_number now ∙ next_number (drop 1 e.front) e.digits e.next_digits n e.are_next some (ap column_number (sym was) ∙ is)
 
-  numbered : (section : ℕ) (ls : List (List ℕ)) → IsNumbered section (length ls + 1) line → length next ≡ 80 → IsNumbered section (length (ls ++ line ∷ []) + 1) next
+  numbered : (section : ℕ) (ls : List (List ℕ)) → IsNumbered section (length ls + 1) line → length next ≡ 80 →
+      IsNumbered section (length (ls ++ line ∷ []) + 1) next
   numbered section ls h long = record {
     long = long;
     letter_is = next_letter ∙ h.letter_is;
@@ -182,7 +197,8 @@ module _ (s : SectionLines) (line : List ℕ) where
   not_first_D = and_right (is_empty s.start) _ (and_right (is_empty s.global) _ (and_left (is_empty (s.directory ++ line ∷ [])) _ (pushed s.directory line)))
 
   not_first_P : list_all is_empty (sections (added s kind.Param line)) ≡ false
-  not_first_P = and_right (is_empty s.start) _ (and_right (is_empty s.global) _ (and_right (is_empty s.directory) _ (and_left (is_empty (s.param ++ line ∷ [])) _ (pushed s.param line))))
+  not_first_P = and_right (is_empty s.start) _ (and_right (is_empty s.global) _
+      (and_right (is_empty s.directory) _ (and_left (is_empty (s.param ++ line ∷ [])) _ (pushed s.param line))))
 
   passes_at : (x : ℕ) → letter line ≡ x → None ≡ first_failing (line_tests s line) → first_failing (tests_at s (section_place x) line) ≡ None
   passes_at x is none = ap (λ (p : ℕ). first_failing (tests_at s p line)) (sym (ap section_place is)) ∙ sym none
@@ -194,18 +210,22 @@ module _ (s : SectionLines) (line : List ℕ) where
       let no : nat_lt 5 5 ≡ true = ap (λ (p : ℕ). nat_lt p 5) (place_is kind.Other (letter line) is) ∙ lt in
       absurd cc
 
-  pub foretold : (k : Kind) (ending : List ℕ) → IsKind k (letter line) → is_last k ≡ false → None ≡ first_failing (line_tests s line) → IsNextEnding (columns 73 80 line) ending → Foretells (added s k line) ending
+  pub foretold : (k : Kind) (ending : List ℕ) → IsKind k (letter line) → is_last k ≡ false → None ≡ first_failing (line_tests s line) →
+      IsNextEnding (columns 73 80 line) ending → Foretells (added s k line) ending
   foretold kind.Start ending is open_still none e = λ next long ends.
       let w = says_S s line is (passes_at 83 is none) in
       sym (pass_S (added s kind.Start line) next (numbered line next (subst (IsNextEnding (columns 73 80 line)) (sym ends) e) 83 s.start w.0 long) w.1 w.2 w.3)
   foretold kind.Global ending is open_still none e = λ next long ends.
       let w = says_G s line is (passes_at 71 is none) in
-      sym (pass_G (added s kind.Global line) next (numbered line next (subst (IsNextEnding (columns 73 80 line)) (sym ends) e) 71 s.global w.0 long) w.1 w.2 not_first_G)
+      sym (pass_G (added s kind.Global line) next (numbered line next (subst (IsNextEnding (columns 73 80 line)) (sym ends) e) 71 s.global w.0 long) w.1 w.2
+      not_first_G)
   foretold kind.Directory ending is open_still none e = λ next long ends.
       let w = says_D s line is (passes_at 68 is none) in
-      sym (pass_D (added s kind.Directory line) next (numbered line next (subst (IsNextEnding (columns 73 80 line)) (sym ends) e) 68 s.directory w.0 long) w.1 not_first_D w.3)
+      sym (pass_D (added s kind.Directory line) next (numbered line next (subst (IsNextEnding (columns 73 80 line)) (sym ends) e) 68 s.directory w.0 long) w.1
+      not_first_D w.3)
   foretold kind.Param ending is open_still none e = λ next long ends.
       let w = says_P s line is (passes_at 80 is none) in
-      sym (pass_P (added s kind.Param line) next (numbered line next (subst (IsNextEnding (columns 73 80 line)) (sym ends) e) 80 s.param w.0 long) not_first_P w.2)
+      sym (pass_P (added s kind.Param line) next (numbered line next (subst (IsNextEnding (columns 73 80 line)) (sym ends) e) 80 s.param w.0 long) not_first_P
+      w.2)
   foretold kind.Terminate ending is open_still none e = absurd cc
   foretold kind.Other ending is open_still none e = absurd (other_fails is none)

@@ -1,5 +1,6 @@
 -- One line after the other is the reading of the sections.
-use Rattle.std.proofs.Common.{◌≡◌, inl, inr, ℕ, zero, suc, ◌+◌, ◌<◌, ◌≤◌, Bool, true, false, cond, not, ◌||◌, List, [], ◌∷◌, ◌++◌, length, take, Option, Some, None, Result, Ok, Err, refl, sym, ap, subst, ◌∙◌, arith, length-append}
+use Rattle.std.proofs.Common.{◌≡◌, inl, inr, ℕ, zero, suc, ◌+◌, ◌<◌, ◌≤◌, Bool, true, false, cond, not, ◌||◌, List, [], ◌∷◌, ◌++◌, length, take, Option, Some}
+use Rattle.std.proofs.Common.{None, Result, Ok, Err, refl, sym, ap, subst, ◌∙◌, arith, length-append}
 use Rattle.std.specs.Prelude.{◌==◌, slice_get, MatchOption, is_some}
 use Rattle.std.proofs.Math.Bool.{or-false}
 use Rattle.std.proofs.lemmas.Bool.{cases_order, ne_eqb, eqb-true}
@@ -32,7 +33,8 @@ Lines = List (List ℕ)
 
 -- ---- the sections with one more line
 
-one_more : (x b : ℕ) (t : Bool) (before : Lines) (l : List ℕ) → letter l ≡ b → (b == x) ≡ t → of_letter x (before ++ l ∷ []) ≡ of_letter x before ++ cond t (l ∷ []) []
+one_more : (x b : ℕ) (t : Bool) (before : Lines) (l : List ℕ) → letter l ≡ b → (b == x) ≡ t →
+    of_letter x (before ++ l ∷ []) ≡ of_letter x before ++ cond t (l ∷ []) []
 one_more x b t before l is e =
     filter-append (λ y. letter y == x) before (l ∷ []) ∙ ap (λ (u : Bool). of_letter x before ++ cond u (l ∷ []) []) (ap (λ (y : ℕ). y == x) is ∙ e)
 
@@ -40,11 +42,16 @@ not_more : (x b : ℕ) (before : Lines) (l : List ℕ) → letter l ≡ b → (b
 not_more x b before l is e = one_more x b false before l is e ∙ append-nil (of_letter x before)
 
 with_line : (k : Kind) (before : Lines) (l : List ℕ) → IsKind k (letter l) → sections_of (before ++ l ∷ []) ≡ added (sections_of before) k l
-with_line kind.Start before l e = all_four (one_more 83 83 true before l e refl) (not_more 71 83 before l e refl) (not_more 68 83 before l e refl) (not_more 80 83 before l e refl)
-with_line kind.Global before l e = all_four (not_more 83 71 before l e refl) (one_more 71 71 true before l e refl) (not_more 68 71 before l e refl) (not_more 80 71 before l e refl)
-with_line kind.Directory before l e = all_four (not_more 83 68 before l e refl) (not_more 71 68 before l e refl) (one_more 68 68 true before l e refl) (not_more 80 68 before l e refl)
-with_line kind.Param before l e = all_four (not_more 83 80 before l e refl) (not_more 71 80 before l e refl) (not_more 68 80 before l e refl) (one_more 80 80 true before l e refl)
-with_line kind.Terminate before l e = all_four (not_more 83 84 before l e refl) (not_more 71 84 before l e refl) (not_more 68 84 before l e refl) (not_more 80 84 before l e refl)
+with_line kind.Start before l e = all_four (one_more 83 83 true before l e refl) (not_more 71 83 before l e refl) (not_more 68 83 before l e refl)
+    (not_more 80 83 before l e refl)
+with_line kind.Global before l e = all_four (not_more 83 71 before l e refl) (one_more 71 71 true before l e refl) (not_more 68 71 before l e refl)
+    (not_more 80 71 before l e refl)
+with_line kind.Directory before l e = all_four (not_more 83 68 before l e refl) (not_more 71 68 before l e refl) (one_more 68 68 true before l e refl)
+    (not_more 80 68 before l e refl)
+with_line kind.Param before l e = all_four (not_more 83 80 before l e refl) (not_more 71 80 before l e refl) (not_more 68 80 before l e refl)
+    (one_more 80 80 true before l e refl)
+with_line kind.Terminate before l e = all_four (not_more 83 84 before l e refl) (not_more 71 84 before l e refl) (not_more 68 84 before l e refl)
+    (not_more 80 84 before l e refl)
 with_line kind.Other before l e =
     all_four (not_more 83 (letter l) before l refl (ne_eqb _ _ e.0)) (not_more 71 (letter l) before l refl (ne_eqb _ _ e.1))
     (not_more 68 (letter l) before l refl (ne_eqb _ _ e.2)) (not_more 80 (letter l) before l refl (ne_eqb _ _ e.3))
@@ -79,7 +86,11 @@ fault_front ls more i h =
     ∙ ap (fault_behind (take i ls)) (get_front ls more i h)
 
 first_front : (ls more : Lines) (place : ℕ) (r : Reason) → place < length ls → IsFirst (line_fault ls) place r → IsFirst (line_fault (ls ++ more)) place r
-first_front ls more place r h first = record { here = fault_front ls more place h ∙ first.here; before = λ i lt. fault_front ls more i (omega arith) ∙ first.before i lt }
+first_front ls more place r h first = record {
+  here = fault_front ls more place h ∙ first.here;
+  before =
+      λ i lt. fault_front ls more i (omega arith) ∙ first.before i lt;
+}
 
 pub fails_more : (ls more : Lines) (f : LineFault) → FailsAt ls f → FailsAt (ls ++ more) f
 fails_more ls more f h =
@@ -94,7 +105,8 @@ fails_line bytes f h = (h.place, h.line, h.first)
 module _ (before : Lines) (t : Taken) (gone : ArePassed before t) where
   tests_are : (line : List ℕ) → first_failing (tests_behind t.terminated t.sections line) ≡ fault_behind before (Some line)
   tests_are line =
-      ap (λ (x : SectionLines). first_failing (tests_behind t.terminated x line)) gone.sections ∙ ap (λ (u : Bool). first_failing (tests_behind u (sections_of before) line)) gone.terminated
+      ap (λ (x : SectionLines). first_failing (tests_behind t.terminated x line)) gone.sections ∙ ap
+      (λ (u : Bool). first_failing (tests_behind u (sections_of before) line)) gone.terminated
 
   here : (line : List ℕ) → line_fault (before ++ line ∷ []) (length before) ≡ first_failing (tests_behind t.terminated t.sections line)
   here line = fault_at_line before line [] ∙ sym (tests_are line)
@@ -103,7 +115,8 @@ module _ (before : Lines) (t : Taken) (gone : ArePassed before t) where
   passed_before line j h = fault_front before (line ∷ []) j h ∙ gone.passed j h
 
   -- the next one fails
-  pub gone_fault : (line : List ℕ) (r : Reason) → Some r ≡ first_failing (tests_behind t.terminated t.sections line) → FailsAt (before ++ line ∷ []) (record { line = t.number; reason = r })
+  pub gone_fault : (line : List ℕ) (r : Reason) → Some r ≡ first_failing (tests_behind t.terminated t.sections line) →
+      FailsAt (before ++ line ∷ []) (record { line = t.number; reason = r })
   gone_fault line r e = record {
     place = length before;
     within = omega (arith, length-append before (line ∷ []));
@@ -111,7 +124,8 @@ module _ (before : Lines) (t : Taken) (gone : ArePassed before t) where
     first = record { here = here line ∙ sym e; before = λ i h. passed_before line i h };
   }
 
-  added_by : (line : List ℕ) (new : SectionLines) (now u : Bool) → t.terminated ≡ u → None ≡ first_failing (tests_behind t.terminated t.sections line) → IsAdded t.sections u line new now
+  added_by : (line : List ℕ) (new : SectionLines) (now u : Bool) → t.terminated ≡ u → None ≡ first_failing (tests_behind t.terminated t.sections line) →
+      IsAdded t.sections u line new now
       → (new ≡ sections_of (before ++ line ∷ [])) × (now ≡ is_terminated (before ++ line ∷ []))
   added_by line new now true e none h =
       let p = passes ((is_blank line, After) ∷ []) (ap (λ (u : Bool). first_failing (tests_behind u t.sections line)) (sym e) ∙ sym none) in (
@@ -124,7 +138,8 @@ module _ (before : Lines) (t : Taken) (gone : ArePassed before t) where
   )
 
   -- the next one passes
-  pub gone_next : (line : List ℕ) → None ≡ first_failing (tests_behind t.terminated t.sections line) → (new : Taken) → IsAdded t.sections t.terminated line new.sections new.terminated → new.number ≡ t.number + 1
+  pub gone_next : (line : List ℕ) → None ≡ first_failing (tests_behind t.terminated t.sections line) → (new : Taken) →
+      IsAdded t.sections t.terminated line new.sections new.terminated → new.number ≡ t.number + 1
       → ArePassed (before ++ line ∷ []) new
   gone_next line none new is_added next =
       let state = added_by line new.sections new.terminated t.terminated refl none is_added in
@@ -167,13 +182,17 @@ fails_of ls t f e h = subst (λ (o : Option LineFault). MatchOption o (ArePassed
 pub taken_behind : (ls more : Lines) (t : Taken) (f : LineFault) → t.fault ≡ Some f → AreTaken ls t → AreTaken (ls ++ more) t
 taken_behind ls more t f e h = taken_fails (ls ++ more) t f e (fails_more ls more f (fails_of ls t f e h))
 
-pub taken_fault : (ls : Lines) (old new : Taken) (line : List ℕ) (r : Reason) → old.fault ≡ None → Some r ≡ first_failing (tests_behind old.terminated old.sections line)
+pub taken_fault : (ls : Lines) (old new : Taken) (line : List ℕ) (r : Reason) → old.fault ≡ None →
+    Some r ≡ first_failing (tests_behind old.terminated old.sections line)
     → new.fault ≡ Some (record { line = old.number; reason = r }) → AreTaken ls old → AreTaken (ls ++ line ∷ []) new
-taken_fault ls old new line r none e is h = taken_fails (ls ++ line ∷ []) new (record { line = old.number; reason = r }) is (gone_fault ls old (passed_of ls old none h) line r e)
+taken_fault ls old new line r none e is h = taken_fails (ls ++ line ∷ []) new (record { line = old.number; reason = r }) is
+    (gone_fault ls old (passed_of ls old none h) line r e)
 
 pub taken_next : (ls : Lines) (old new : Taken) (line : List ℕ) → old.fault ≡ None → None ≡ first_failing (tests_behind old.terminated old.sections line)
-    → IsAdded old.sections old.terminated line new.sections new.terminated → new.number ≡ old.number + 1 → new.fault ≡ None → AreTaken ls old → AreTaken (ls ++ line ∷ []) new
-taken_next ls old new line none e is_added next is h = taken_passed (ls ++ line ∷ []) new is (gone_next ls old (passed_of ls old none h) line e new is_added next)
+    → IsAdded old.sections old.terminated line new.sections new.terminated → new.number ≡ old.number + 1 → new.fault ≡ None → AreTaken ls old →
+    AreTaken (ls ++ line ∷ []) new
+taken_next ls old new line none e is_added next is h = taken_passed (ls ++ line ∷ []) new is
+    (gone_next ls old (passed_of ls old none h) line e new is_added next)
 
 -- ---- the end
 
@@ -189,7 +208,8 @@ module _ (bytes : List ℕ) (t : Taken) (h : AreTaken (lines bytes) t) where
   pub end_missing : t.fault ≡ None → t.terminated ≡ false → read_sections bytes ≡ Err (record { line = t.number; reason = Missing })
   end_missing none e =
       let gone = passed_of (lines bytes) t none h in
-      IsLineFault-read_sections bytes (record { line = t.number; reason = Missing }) (length (lines bytes), gone.number, record { here = at_end none false e; before = gone.passed })
+      IsLineFault-read_sections bytes (record { line = t.number; reason = Missing })
+      (length (lines bytes), gone.number, record { here = at_end none false e; before = gone.passed })
 
   faultless : t.fault ≡ None → t.terminated ≡ true → (j : ℕ) → j ≤ length (lines bytes) → line_fault (lines bytes) j ≡ None
   faultless none e j le =
@@ -212,7 +232,8 @@ pub left_fault : (bytes : List ℕ) (e : PassFault) → Fails e (read_sections b
 left_fault bytes (faults.Bad f) h = read_sections-IsLineFault bytes f h
 left_fault bytes faults.NoMemory h = tt
 
-pub left_as : (bytes : List ℕ) (e : PassFault) (r : Result SectionLines LineFault) → read_sections bytes ≡ r → Fails e (read_sections bytes) → Gives {Y = SectionLines} (Err e) r
+pub left_as : (bytes : List ℕ) (e : PassFault) (r : Result SectionLines LineFault) → read_sections bytes ≡ r → Fails e (read_sections bytes) →
+    Gives {Y = SectionLines} (Err e) r
 left_as bytes e r is h = subst (Fails e) is h
 
 -- ---- of tests and answers
@@ -225,7 +246,8 @@ pub some_from : (o : Option LineFault) (b : Bool) → b ≡ is_some o → b ≡ 
 some_from None b is e = let no : true ≡ false = sym e ∙ is in absurd cc
 some_from (Some f) b is e = (f, refl)
 
-pub fault_taken : (ls : Lines) (old : Taken) (line : List ℕ) (r : Reason) → old.fault ≡ None → Some r ≡ first_failing (tests_behind old.terminated old.sections line) → AreTaken ls old
+pub fault_taken : (ls : Lines) (old : Taken) (line : List ℕ) (r : Reason) → old.fault ≡ None →
+    Some r ≡ first_failing (tests_behind old.terminated old.sections line) → AreTaken ls old
     → FailsAt (ls ++ line ∷ []) (record { line = old.number; reason = r })
 fault_taken ls old line r none e h = gone_fault ls old (passed_of ls old none h) line r e
 

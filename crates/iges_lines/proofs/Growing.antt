@@ -27,7 +27,8 @@ extends_more s mid new h k =
     let n = k.0 in (
       with_lines m n,
       k.1 ∙ ap (λ (x : SectionLines). with_lines x n) h.1
-          ∙ all_four (append_assoc s.start m.start n.start) (append_assoc s.global m.global n.global) (append_assoc s.directory m.directory n.directory) (append_assoc s.param m.param n.param),
+          ∙ all_four (append_assoc s.start m.start n.start) (append_assoc s.global m.global n.global) (append_assoc s.directory m.directory n.directory)
+          (append_assoc s.param m.param n.param),
     )
 
 by_kind : (k : Kind) (s : SectionLines) (line : List ℕ) → Extends s (added s k line)

@@ -39,7 +39,8 @@ strip_in_line : (l : List ℕ) → is_in_line l ≡ true → is_in_line (strip_c
 strip_in_line l h = by_test (slice_index l (length l - 1) == 13) refl
   where
     by_test : (t : Bool) → (slice_index l (length l - 1) == 13) ≡ t → is_in_line (strip_carriage_return l) ≡ true
-    by_test true e = ap is_in_line (cond-true (slice_index l (length l - 1) == 13) (take (length l - 1) l) l e) ∙ list_all-take (λ c. not (c == 10)) (length l - 1) l h
+    by_test true e = ap is_in_line (cond-true (slice_index l (length l - 1) == 13) (take (length l - 1) l) l e) ∙ list_all-take (λ c. not (c == 10))
+        (length l - 1) l h
     by_test false e = ap is_in_line (cond-false (slice_index l (length l - 1) == 13) (take (length l - 1) l) l e) ∙ h
 
 strips_in_line : (ls : List (List ℕ)) → InLines ls → InLines (map strip_carriage_return ls)
@@ -64,7 +65,8 @@ cut_size b ps = by_test (b == 10) refl
   where
     by_test : (t : Bool) → (b == 10) ≡ t → size (cut b ps) ≤ suc (size ps)
     by_test true e = let s : size (cut b ps) ≡ size ([] ∷ ps) = ap size (cond-true (b == 10) ([] ∷ ps) (before_pieces b ps) e) in omega (arith, s)
-    by_test false e = let s : size (cut b ps) ≡ size (before_pieces b ps) = ap size (cond-false (b == 10) ([] ∷ ps) (before_pieces b ps) e) in omega (arith, s, before_size b ps)
+    by_test false e = let s : size (cut b ps) ≡ size (before_pieces b ps) =
+        ap size (cond-false (b == 10) ([] ∷ ps) (before_pieces b ps) e) in omega (arith, s, before_size b ps)
 
 pieces_size : (bytes : List ℕ) → size (pieces bytes) ≤ length bytes
 pieces_size [] = omega arith
@@ -74,8 +76,10 @@ strip_shorter : (l : List ℕ) → length (strip_carriage_return l) ≤ length l
 strip_shorter l = by_test (slice_index l (length l - 1) == 13) refl
   where
     by_test : (t : Bool) → (slice_index l (length l - 1) == 13) ≡ t → length (strip_carriage_return l) ≤ length l
-    by_test true e = let s : length (strip_carriage_return l) ≡ length (take (length l - 1) l) = ap length (cond-true (slice_index l (length l - 1) == 13) (take (length l - 1) l) l e) in omega (arith, s, length-take (length l - 1) l)
-    by_test false e = let s : length (strip_carriage_return l) ≡ length l = ap length (cond-false (slice_index l (length l - 1) == 13) (take (length l - 1) l) l e) in omega (arith, s)
+    by_test true e = let s : length (strip_carriage_return l) ≡ length (take (length l - 1) l) =
+        ap length (cond-true (slice_index l (length l - 1) == 13) (take (length l - 1) l) l e) in omega (arith, s, length-take (length l - 1) l)
+    by_test false e = let s : length (strip_carriage_return l) ≡ length l =
+        ap length (cond-false (slice_index l (length l - 1) == 13) (take (length l - 1) l) l e) in omega (arith, s)
 
 strips_size : (ls : List (List ℕ)) → size (map strip_carriage_return ls) ≤ size ls
 strips_size [] = omega arith

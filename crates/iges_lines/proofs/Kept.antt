@@ -42,7 +42,8 @@ sections_kept bytes s limit h =
       global = h.global;
       directory = h.directory;
       param = h.param;
-      in_line = (list_all-parts is_in_line (joined s) (h.last ∷ h.after) (ap (list_all is_in_line) (sym h.whole) ∙ all_in_line (lines bytes) (lines_in_line bytes))).0;
+      in_line = (list_all-parts is_in_line (joined s) (h.last ∷ h.after)
+          (ap (list_all is_in_line) (sym h.whole) ∙ all_in_line (lines bytes) (lines_in_line bytes))).0;
       within = omega (
         arith,
         limit,
@@ -63,7 +64,8 @@ sections_kept bytes s limit h =
 
 -- ---- a line of a section
 
-some_in_line : (o : Option (Bor (List ℕ))) (xs : Lines) (i : ℕ) → option_copied o ≡ slice_get xs i → list_all is_in_line xs ≡ true → IfSome o (λ line. IsTrue (is_in_line line.now))
+some_in_line : (o : Option (Bor (List ℕ))) (xs : Lines) (i : ℕ) → option_copied o ≡ slice_get xs i → list_all is_in_line xs ≡ true →
+    IfSome o (λ line. IsTrue (is_in_line line.now))
 some_in_line None xs i e h = tt
 some_in_line (Some line) xs i e h = slice_get-all is_in_line xs i line.now (sym e) h
 
@@ -72,10 +74,12 @@ module _ (s : SectionLines) (kept : AreSections s) (o : Option (Bor (List ℕ)))
   upper = (list_all-parts is_in_line (s.start ++ s.global ++ s.directory) s.param kept.in_line).0
 
   pub start_in_line : option_copied o ≡ slice_get s.start i → IfSome o (λ line. IsTrue (is_in_line line.now))
-  start_in_line e = some_in_line o s.start i e (list_all-parts is_in_line s.start s.global (list_all-parts is_in_line (s.start ++ s.global) s.directory upper).0).0
+  start_in_line e = some_in_line o s.start i e (list_all-parts is_in_line s.start s.global
+      (list_all-parts is_in_line (s.start ++ s.global) s.directory upper).0).0
 
   pub global_in_line : option_copied o ≡ slice_get s.global i → IfSome o (λ line. IsTrue (is_in_line line.now))
-  global_in_line e = some_in_line o s.global i e (list_all-parts is_in_line s.start s.global (list_all-parts is_in_line (s.start ++ s.global) s.directory upper).0).1
+  global_in_line e = some_in_line o s.global i e (list_all-parts is_in_line s.start s.global
+      (list_all-parts is_in_line (s.start ++ s.global) s.directory upper).0).1
 
   pub directory_in_line : option_copied o ≡ slice_get s.directory i → IfSome o (λ line. IsTrue (is_in_line line.now))
   directory_in_line e = some_in_line o s.directory i e (list_all-parts is_in_line (s.start ++ s.global) s.directory upper).1

@@ -1,5 +1,6 @@
 -- A field that ends with the digits of the next number has that number.
-use Rattle.std.proofs.Common.{◌≡◌, ◌⊎◌, inl, inr, ℕ, zero, suc, ◌+◌, ◌*◌, ◌<◌, Bool, true, false, cond, not, List, [], ◌∷◌, ◌++◌, length, drop, reverse, ℤ, pos, neg_ℤ, Some, None, refl, sym, ap, ◌∙◌, arith, length-append}
+use Rattle.std.proofs.Common.{◌≡◌, ◌⊎◌, inl, inr, ℕ, zero, suc, ◌+◌, ◌*◌, ◌<◌, Bool, true, false, cond, not, List, [], ◌∷◌, ◌++◌, length, drop, reverse, ℤ}
+use Rattle.std.proofs.Common.{pos, neg_ℤ, Some, None, refl, sym, ap, ◌∙◌, arith, length-append}
 use Rattle.std.specs.Prelude.{◌==◌}
 use Rattle.std.specs.Char.{is_ascii_digit, digit_value}
 use Rattle.std.specs.List.{list_all}
@@ -31,7 +32,8 @@ after_front : (front t : List ℕ) → 0 < length t → AllDigits t → after_sp
 after_front [] t some all = ap after_spaces (sym (append-nil t)) ∙ no_space t [] some all ∙ append-nil t
 after_front (c ∷ front) t some all = by_test (after_front front t some all) (is_space c) refl
   where
-    by_test : after_spaces (front ++ t) ≡ after_spaces front ++ t → (u : Bool) → is_space c ≡ u → after_spaces (c ∷ (front ++ t)) ≡ after_spaces (c ∷ front) ++ t
+    by_test : after_spaces (front ++ t) ≡ after_spaces front ++ t → (u : Bool) → is_space c ≡ u →
+        after_spaces (c ∷ (front ++ t)) ≡ after_spaces (c ∷ front) ++ t
     by_test more true e =
         ap (λ (n : ℕ). drop n (c ∷ (front ++ t))) (prefix_len-pass is_space c (front ++ t) e) ∙ more
         ∙ ap (λ (x : List ℕ). x ++ t) (sym (ap (λ (n : ℕ). drop n (c ∷ front)) (prefix_len-pass is_space c front e)))
@@ -78,8 +80,22 @@ signed [] = inr ([], only_digits)
 signed (x ∷ w) = by_minus (x == 45) refl
   where
     by_plus : (u : Bool) → (x == 45) ≡ false → (x == 43) ≡ u → (front : List ℕ) × Unsigned (x ∷ w) front
-    by_plus true other e = (w, record { no_minus = λ t some all. other; digits_are = λ t some all. ap (λ (n : ℕ). drop n (x ∷ (w ++ t))) (cond-true (x == 43) 1 0 e) })
-    by_plus false other e = (x ∷ w, record { no_minus = λ t some all. other; digits_are = λ t some all. ap (λ (n : ℕ). drop n (x ∷ (w ++ t))) (cond-false (x == 43) 1 0 e) })
+    by_plus true other e = (
+      w,
+      record {
+        no_minus = λ t some all. other;
+        digits_are =
+            λ t some all. ap (λ (n : ℕ). drop n (x ∷ (w ++ t))) (cond-true (x == 43) 1 0 e);
+      },
+    )
+    by_plus false other e = (
+      x ∷ w,
+      record {
+        no_minus = λ t some all. other;
+        digits_are =
+            λ t some all. ap (λ (n : ℕ). drop n (x ∷ (w ++ t))) (cond-false (x == 43) 1 0 e);
+      },
+    )
 
     by_minus : (u : Bool) → (x == 45) ≡ u → HasMinus (x ∷ w) ⊎ ((front : List ℕ) × Unsigned (x ∷ w) front)
     by_minus true e = inl (λ t some all. e)
@@ -109,13 +125,16 @@ not_negative : (v n : ℕ) → 0 < n → neg_ℤ (pos v) ≡ pos n → ⊥
 not_negative zero n some e = let none : 0 ≡ n = pos_same 0 n e in absurd (omega (arith, none, some))
 not_negative (suc v) n some e = absurd cc
 
-integer_is : (w front t : List ℕ) → Unsigned w front → 0 < length t → AllDigits t → integer (w ++ t) ≡ cond (are_digits (front ++ t)) (Some (pos (digits_value 10 (front ++ t)))) None
+integer_is : (w front t : List ℕ) → Unsigned w front → 0 < length t → AllDigits t →
+    integer (w ++ t) ≡ cond (are_digits (front ++ t)) (Some (pos (digits_value 10 (front ++ t)))) None
 integer_is w front t u some all =
     let minus = u.no_minus t some all in
-    let digits : without_leading_sign (w ++ t) ≡ front ++ t = cond-false (starts_with_minus (w ++ t)) (drop 1 (w ++ t)) (without_leading_plus (w ++ t)) minus ∙ u.digits_are t some all in
+    let digits : without_leading_sign (w ++ t) ≡ front ++ t =
+    cond-false (starts_with_minus (w ++ t)) (drop 1 (w ++ t)) (without_leading_plus (w ++ t)) minus ∙ u.digits_are t some all in
     ap (λ (x : List ℕ). cond (are_digits x) (Some (signed_digits_value 10 (w ++ t))) None) digits
     ∙ ap (λ (z : ℤ). cond (are_digits (front ++ t)) (Some z) None) (
-    cond-false (starts_with_minus (w ++ t)) (neg_ℤ (pos (digits_value 10 (without_leading_sign (w ++ t))))) (pos (digits_value 10 (without_leading_sign (w ++ t)))) minus
+    cond-false (starts_with_minus (w ++ t)) (neg_ℤ (pos (digits_value 10 (without_leading_sign (w ++ t)))))
+    (pos (digits_value 10 (without_leading_sign (w ++ t)))) minus
     ∙ ap (λ (x : List ℕ). pos (digits_value 10 x)) digits
     )
 
@@ -125,7 +144,8 @@ next_integer w t next n h some e =
     elim (signed w) [
       | inl minus ↦
           let z = (if_some (is_integer (w ++ t)) (signed_digits_value 10 (w ++ t)) (pos n) e).1 in
-          let value = cond-true (starts_with_minus (w ++ t)) (neg_ℤ (pos (digits_value 10 (without_leading_sign (w ++ t))))) (pos (digits_value 10 (without_leading_sign (w ++ t)))) (minus t h.some h.all) in
+          let value = cond-true (starts_with_minus (w ++ t)) (neg_ℤ (pos (digits_value 10 (without_leading_sign (w ++ t)))))
+          (pos (digits_value 10 (without_leading_sign (w ++ t)))) (minus t h.some h.all) in
           absurd (not_negative _ n some (sym value ∙ z))
       | inr k ↦
           let front = k.0 in
@@ -135,7 +155,8 @@ next_integer w t next n h some e =
           let front_all = (and_parts (list_all is_ascii_digit front) (list_all is_ascii_digit t) (sym (list_all-append is_ascii_digit front t) ∙ old)).0 in
           let all : list_all is_ascii_digit (front ++ next) ≡ true = list_all-append is_ascii_digit front next ∙ and_from _ _ front_all h.next_all in
           let good : are_digits (front ++ next) ≡ true = and_from _ _ (ap not (not_empty (front ++ next) (longer front next h.next_some))) all in
-          let value : digits_value 10 (front ++ next) ≡ n + 1 = value_append 0 front next ∙ h.value (digits_value 10 front) ∙ ap (λ (m : ℕ). m + 1) (sym (value_append 0 front t) ∙ n-is) in
+          let value : digits_value 10 (front ++ next) ≡ n + 1 =
+          value_append 0 front next ∙ h.value (digits_value 10 front) ∙ ap (λ (m : ℕ). m + 1) (sym (value_append 0 front t) ∙ n-is) in
           integer_is w front next k.1 h.next_some h.next_all ∙ cond-true (are_digits (front ++ next)) _ _ good ∙ ap (λ (m : ℕ). Some (pos m)) value
     ]
 
@@ -144,7 +165,8 @@ field_is front t some all =
     ap (λ (x : List ℕ). cond (is_empty x) (Some (pos 0)) (integer x)) (trim_front front t some all)
     ∙ cond-false (is_empty (after_spaces front ++ t)) _ _ (not_empty (after_spaces front ++ t) (longer (after_spaces front) t some))
 
-pub next_number : (front t next : List ℕ) (n : ℕ) → AreNextDigits t next → 0 < n → column_number (front ++ t) ≡ Some (pos n) → column_number (front ++ next) ≡ Some (pos (n + 1))
+pub next_number : (front t next : List ℕ) (n : ℕ) → AreNextDigits t next → 0 < n → column_number (front ++ t) ≡ Some (pos n) →
+    column_number (front ++ next) ≡ Some (pos (n + 1))
 unfolding AllDigits
 next_number front t next n h some e =
     field_is front next h.next_some h.next_all ∙ next_integer (after_spaces front) t next n h some (sym (field_is front t h.some h.all) ∙ e)

@@ -1,5 +1,6 @@
 -- Lines of one width, one behind the other.
-use Rattle.std.proofs.Common.{◌≡◌, ℕ, zero, suc, ◌+◌, ◌*◌, ◌<◌, ◌≤◌, List, [], ◌∷◌, ◌++◌, length, take, drop, Some, None, refl, sym, ap, subst, ◌∙◌, arith, length-drop}
+use Rattle.std.proofs.Common.{◌≡◌, ℕ, zero, suc, ◌+◌, ◌*◌, ◌<◌, ◌≤◌, List, [], ◌∷◌, ◌++◌, length, take, drop, Some, None, refl, sym, ap, subst, ◌∙◌, arith}
+use Rattle.std.proofs.Common.{length-drop}
 use Rattle.std.specs.Prelude.{◌==◌, slice_get}
 use Rattle.std.proofs.lemmas.Bool.{eq-eqb, ne_eqb}
 use Rattle.std.proofs.lemmas.Option.{slice_get_past}
@@ -18,7 +19,8 @@ more w n = omega (arith, suc-mul n w)
 
 pub rows-push : (w n : ℕ) (text line : List ℕ) → length text ≡ n * w → length line ≡ w → rows w (n + 1) (text ++ line) ≡ rows w n text ++ line ∷ []
 unfolding rows
-rows-push w n text line is long = let next : suc n ≡ n + 1 = omega arith in subst (λ (m : ℕ). rows w m (text ++ line) ≡ rows w n text ++ line ∷ []) next (by_count n text is)
+rows-push w n text line is long = let next : suc n ≡ n + 1 = omega arith in subst (λ (m : ℕ). rows w m (text ++ line) ≡ rows w n text ++ line ∷ []) next
+    (by_count n text is)
   where
     by_count : (k : ℕ) (t : List ℕ) → length t ≡ k * w → rows w (suc k) (t ++ line) ≡ rows w k t ++ line ∷ []
     by_count zero t e =
@@ -48,9 +50,11 @@ rows-at w (suc n) (suc i) text h =
     let e : w + i * w ≡ suc i * w = omega (arith, more w i) in
     rows-at w n i (drop w text) (omega arith) ∙ ap (λ (x : List ℕ). Some (take w x)) (drop_drop w (i * w) text) ∙ ap (λ (k : ℕ). Some (take w (drop k text))) e
 
-pub row_from : (w n i : ℕ) (text : List ℕ) (view : List (List ℕ)) → rows w n text ≡ view → i < n → (from size : ℕ) → from ≡ i * w → size ≡ w → Some (take size (drop from text)) ≡ slice_get view i
+pub row_from : (w n i : ℕ) (text : List ℕ) (view : List (List ℕ)) → rows w n text ≡ view → i < n → (from size : ℕ) → from ≡ i * w → size ≡ w →
+    Some (take size (drop from text)) ≡ slice_get view i
 row_from w n i text view is h from size from-is size-is =
-    ap (λ (m : ℕ). Some (take m (drop from text))) size-is ∙ ap (λ (m : ℕ). Some (take w (drop m text))) from-is ∙ sym (rows-at w n i text h) ∙ ap (λ (x : List (List ℕ)). slice_get x i) is
+    ap (λ (m : ℕ). Some (take m (drop from text))) size-is ∙ ap (λ (m : ℕ). Some (take w (drop m text))) from-is ∙ sym (rows-at w n i text h) ∙ ap
+    (λ (x : List (List ℕ)). slice_get x i) is
 
 pub row_past : (w n i : ℕ) (text : List ℕ) (view : List (List ℕ)) → rows w n text ≡ view → n ≤ i → None ≡ slice_get view i
 row_past w n i text view is h = sym (slice_get_past view i (omega (arith, length-rows w n text, ap length is)))

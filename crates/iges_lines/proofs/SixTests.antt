@@ -34,24 +34,28 @@ six_3 a b c d e f p q r = ap (λ (t : Bool). six t b c d e f) p ∙ ap (λ (t : 
 
 six_4 : (a b c d e f : Bool) → a ≡ true → b ≡ true → c ≡ true → d ≡ false → six a b c d e f ≡ Some Missing
 unfolding six
-six_4 a b c d e f p q r s = ap (λ (t : Bool). six t b c d e f) p ∙ ap (λ (t : Bool). six true t c d e f) q ∙ ap (λ (t : Bool). six true true t d e f) r ∙ ap (λ (t : Bool). six true true true t e f) s
+six_4 a b c d e f p q r s = ap (λ (t : Bool). six t b c d e f) p ∙ ap (λ (t : Bool). six true t c d e f) q ∙ ap (λ (t : Bool). six true true t d e f) r ∙ ap
+    (λ (t : Bool). six true true true t e f) s
 
 six_5 : (a b c d e f : Bool) → a ≡ true → b ≡ true → c ≡ true → d ≡ true → e ≡ false → six a b c d e f ≡ Some Number
 unfolding six
 six_5 a b c d e f p q r s u =
-    ap (λ (t : Bool). six t b c d e f) p ∙ ap (λ (t : Bool). six true t c d e f) q ∙ ap (λ (t : Bool). six true true t d e f) r ∙ ap (λ (t : Bool). six true true true t e f) s
+    ap (λ (t : Bool). six t b c d e f) p ∙ ap (λ (t : Bool). six true t c d e f) q ∙ ap (λ (t : Bool). six true true t d e f) r ∙ ap
+    (λ (t : Bool). six true true true t e f) s
     ∙ ap (λ (t : Bool). six true true true true t f) u
 
 six_6 : (a b c d e f : Bool) → a ≡ true → b ≡ true → c ≡ true → d ≡ true → e ≡ true → f ≡ false → six a b c d e f ≡ Some Counts
 unfolding six
 six_6 a b c d e f p q r s u v =
-    ap (λ (t : Bool). six t b c d e f) p ∙ ap (λ (t : Bool). six true t c d e f) q ∙ ap (λ (t : Bool). six true true t d e f) r ∙ ap (λ (t : Bool). six true true true t e f) s
+    ap (λ (t : Bool). six t b c d e f) p ∙ ap (λ (t : Bool). six true t c d e f) q ∙ ap (λ (t : Bool). six true true t d e f) r ∙ ap
+    (λ (t : Bool). six true true true t e f) s
     ∙ ap (λ (t : Bool). six true true true true t f) u ∙ ap (λ (t : Bool). six true true true true true t) v
 
 six_none : (a b c d e f : Bool) → a ≡ true → b ≡ true → c ≡ true → d ≡ true → e ≡ true → f ≡ true → six a b c d e f ≡ None
 unfolding six
 six_none a b c d e f p q r s u v =
-    ap (λ (t : Bool). six t b c d e f) p ∙ ap (λ (t : Bool). six true t c d e f) q ∙ ap (λ (t : Bool). six true true t d e f) r ∙ ap (λ (t : Bool). six true true true t e f) s
+    ap (λ (t : Bool). six t b c d e f) p ∙ ap (λ (t : Bool). six true t c d e f) q ∙ ap (λ (t : Bool). six true true t d e f) r ∙ ap
+    (λ (t : Bool). six true true true t e f) s
     ∙ ap (λ (t : Bool). six true true true true t f) u ∙ ap (λ (t : Bool). six true true true true true t) v
 
 module _ (s : SectionLines) (k : Kind) (line : List ℕ) (b : ℕ) (b-is : b ≡ letter line) (is : IsKind k b) where

@@ -54,7 +54,14 @@ by_grammar = record {
   global = (record { long = refl; letter_is = refl; number_is = refl }, tt);
   directory = (record { long = refl; letter_is = refl; number_is = refl }, (record { long = refl; letter_is = refl; number_is = refl }, tt));
   param = (record { long = refl; letter_is = refl; number_is = refl }, tt);
-  terminate = record { numbered = record { long = refl; letter_is = refl; number_is = refl }; start = (refl, refl); global = (refl, refl); directory = (refl, refl); param = (refl, refl) };
+  terminate = record {
+    numbered = record { long = refl; letter_is = refl; number_is = refl };
+    start = (refl, refl);
+    global = (refl, refl);
+    directory =
+        (refl, refl);
+    param = (refl, refl);
+  };
   blank = refl;
 }
 
@@ -70,7 +77,8 @@ numbered_three : read_sections (text_of (s1 ∷ g1 ∷ d1 ∷ (take 72 d2 ++ cod
 unfolding read_sections first_from
 numbered_three = refl
 
-counts_two : read_sections (text_of (s1 ∷ g1 ∷ d1 ∷ d2 ∷ p1 ∷ codes "S      1G      1D      2P      2                                        T      1" ∷ [])) ≡ Err (record { line = 6; reason = Counts })
+counts_two : read_sections (text_of (s1 ∷ g1 ∷ d1 ∷ d2 ∷ p1 ∷ codes "S      1G      1D      2P      2                                        T      1" ∷ [])) ≡
+    Err (record { line = 6; reason = Counts })
 unfolding read_sections first_from
 counts_two = refl
 

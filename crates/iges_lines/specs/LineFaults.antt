@@ -1,5 +1,6 @@
 -- The first line at which the sections fail.
-use Rattle.std.specs.Prelude.{◌≡◌, ℕ, suc, ◌+◌, Bool, not, ◌&&◌, ◌||◌, ◌==◌, nat_lt, nat_le, List, [], ◌∷◌, length, take, drop, Option, Some, None, if◌then◌else◌, slice_get, slice_index, slice_index_or, filter, codes}
+use Rattle.std.specs.Prelude.{◌≡◌, ℕ, suc, ◌+◌, Bool, not, ◌&&◌, ◌||◌, ◌==◌, nat_lt, nat_le, List, [], ◌∷◌, length, take, drop, Option, Some, None}
+use Rattle.std.specs.Prelude.{if◌then◌else◌, slice_get, slice_index, slice_index_or, filter, codes}
 use Rattle.std.specs.List.{list_any, list_all, position_or_len}
 use Rattle.iges_base.specs.Word.{is_empty}
 use Rattle.iges_base.specs.First.{first_failing, IsFirst}

@@ -1,7 +1,8 @@
 -- The numbers of the reasons, and the words that are printed for them.
 use Rattle.std.specs.Prelude.{ℕ, List, codes}
 use Rattle.iges_lines.specs.declared.reason.Reason.{Reason}
-use Rattle.iges_lines.specs.declared.reason.Reason.TheVariants.{NotFixed, Length, Letter, Number, Counts, Missing, After, Unpaired, Field, TypesDiffer, Range, Delimiter, GlobalValue, GlobalKind, BackPointer, RecordValue, RecordType}
+use Rattle.iges_lines.specs.declared.reason.Reason.TheVariants.{NotFixed, Length, Letter, Number, Counts, Missing, After, Unpaired, Field, TypesDiffer, Range}
+use Rattle.iges_lines.specs.declared.reason.Reason.TheVariants.{Delimiter, GlobalValue, GlobalKind, BackPointer, RecordValue, RecordType}
 
 abbrev pub reason_number : Reason → ℕ
 reason_number NotFixed = 1

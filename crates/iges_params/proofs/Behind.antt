@@ -1,5 +1,6 @@
 -- The values of the global stand at the end of its text.
-use Rattle.std.proofs.Common.{◌≡◌, ℕ, zero, suc, ◌≤◌, Bool, true, false, List, [], ◌∷◌, ◌++◌, length, drop, Option, Some, None, refl, sym, ap, subst, ◌∙◌, arith, append_assoc, length-append}
+use Rattle.std.proofs.Common.{◌≡◌, ℕ, zero, suc, ◌≤◌, Bool, true, false, List, [], ◌∷◌, ◌++◌, length, drop, Option, Some, None, refl, sym, ap, subst, ◌∙◌}
+use Rattle.std.proofs.Common.{arith, append_assoc, length-append}
 use Rattle.std.specs.Prelude.{codes, nat_eq, nat_lt, if◌then◌else◌, ◌&&◌, slice_index}
 use Rattle.std.specs.List.{starts_with}
 use Rattle.std.proofs.lemmas.Option.{same_Some}
@@ -32,7 +33,8 @@ behind_drop (suc n) (b ∷ text) = let h = behind_drop n text in (b ∷ h.0, ap 
 delimiter_behind : (default : ℕ) (text : List ℕ) → Behind text (delimiter_at default text).1
 delimiter_behind default text = by_test (starts_with nat_eq (after_spaces text) (codes "1H") && nat_lt 2 (length (after_spaces text)))
   where
-    by_test : (b : Bool) → (let at : ℕ × List ℕ = if b then (slice_index (after_spaces text) 2, drop 3 (after_spaces text)) else (default, after_spaces text) in Behind text at.1)
+    by_test : (b : Bool) → (let at : ℕ × List ℕ = if b then (slice_index (after_spaces text) 2, drop 3 (after_spaces text)) else
+        (default, after_spaces text) in Behind text at.1)
     by_test true = behind_trans text (after_spaces text) (drop 3 (after_spaces text)) (behind_spaces text) (behind_drop 3 (after_spaces text))
     by_test false = behind_spaces text
 
@@ -40,7 +42,8 @@ byte_behind : (b : ℕ) (text rest : List ℕ) → behind_byte b text ≡ Some r
 byte_behind b text rest e = by_test (begins_with (nat_eq b) (after_spaces text)) e
   where
     by_test : (t : Bool) → (if t then Some (drop 1 (after_spaces text)) else None) ≡ Some rest → Behind text rest
-    by_test true k = behind_trans text (after_spaces text) rest (behind_spaces text) (subst (Behind (after_spaces text)) (same_Some (drop 1 (after_spaces text)) rest k) (behind_drop 1 (after_spaces text)))
+    by_test true k = behind_trans text (after_spaces text) rest (behind_spaces text)
+        (subst (Behind (after_spaces text)) (same_Some (drop 1 (after_spaces text)) rest k) (behind_drop 1 (after_spaces text)))
     by_test false k = absurd cc
 
 abbrev ValuesBehind : List ℕ → Option Head → Type 0
@@ -58,14 +61,16 @@ with_behind p text = by_two (behind_byte p r.1) (behind_byte r.0 r.1) refl
     r = delimiter_at 59 text
 
     by_two : (a b : Option (List ℕ)) → behind_byte p (delimiter_at 59 text).1 ≡ a → ValuesBehind text (head_end p (delimiter_at 59 text).0 a b)
-    by_two (Some vs) b e = λ rest same. behind_trans text (delimiter_at 59 text).1 rest (delimiter_behind 59 text) (subst (Behind (delimiter_at 59 text).1) (same_Some vs rest same) (byte_behind p (delimiter_at 59 text).1 vs e))
+    by_two (Some vs) b e = λ rest same. behind_trans text (delimiter_at 59 text).1 rest (delimiter_behind 59 text)
+        (subst (Behind (delimiter_at 59 text).1) (same_Some vs rest same) (byte_behind p (delimiter_at 59 text).1 vs e))
     by_two None (Some comment) e = λ rest same. absurd (let no : None ≡ Some rest = same in cc)
     by_two None None e = tt
 
 start_behind : (text : List ℕ) → ValuesBehind text (any_head text)
 start_behind text = by_two (behind_byte (delimiter_at 44 text).0 (delimiter_at 44 text).1) (behind_byte 59 (delimiter_at 44 text).1) refl
   where
-    by_two : (a b : Option (List ℕ)) → behind_byte (delimiter_at 44 text).0 (delimiter_at 44 text).1 ≡ a → ValuesBehind text (head_start (delimiter_at 44 text).0 a b)
+    by_two : (a b : Option (List ℕ)) → behind_byte (delimiter_at 44 text).0 (delimiter_at 44 text).1 ≡ a →
+        ValuesBehind text (head_start (delimiter_at 44 text).0 a b)
     by_two (Some rest) b e =
         further_behind text rest (head_with (delimiter_at 44 text).0 rest)
         (behind_trans text (delimiter_at 44 text).1 rest (delimiter_behind 44 text) (byte_behind (delimiter_at 44 text).0 (delimiter_at 44 text).1 rest e))
@@ -82,7 +87,8 @@ permitted_is (Some x) h e = by_test (are_permitted x.delims) e
     by_test false k = absurd cc
 
 pub head_after : (text : List ℕ) (h : Head) (rest : List ℕ) → head text ≡ Some h → h.values ≡ Some rest → Behind text rest
-head_after text h rest e v = let all : ValuesBehind text (Some h) = subst (ValuesBehind text) (permitted_is (any_head text) h e) (start_behind text) in all rest v
+head_after text h rest e v = let all : ValuesBehind text (Some h) =
+    subst (ValuesBehind text) (permitted_is (any_head text) h e) (start_behind text) in all rest v
 
 pub behind_in_line : (text rest : List ℕ) → Behind text rest → is_in_line text ≡ true → is_in_line rest ≡ true
 behind_in_line text rest (front, is) h = (front_in_line front rest (subst (λ x. is_in_line x ≡ true) is h)).1

@@ -1,5 +1,6 @@
 -- The pass over the records: what has been put into the file so far, and the pass joined from its steps.
-use Rattle.std.proofs.Common.{◌≡◌, ℕ, zero, suc, ◌+◌, ◌*◌, ◌≤◌, true, List, [], ◌∷◌, ◌++◌, length, drop, Some, Result, Ok, Err, refl, sym, ap, subst, ◌∙◌, arith, append_assoc, length-append, append-nil}
+use Rattle.std.proofs.Common.{◌≡◌, ℕ, zero, suc, ◌+◌, ◌*◌, ◌≤◌, true, List, [], ◌∷◌, ◌++◌, length, drop, Some, Result, Ok, Err, refl, sym, ap, subst, ◌∙◌}
+use Rattle.std.proofs.Common.{arith, append_assoc, length-append, append-nil}
 use Rattle.std.specs.Prelude.{IsTrue, slice_get}
 use Rattle.std.proofs.Math.ListN.{drop_of_length-le}
 use Rattle.std.proofs.Math.Seq.{drop-cons}
@@ -29,12 +30,14 @@ abbrev with_front : Entries → Result Entries LineFault → Result Entries Line
 with_front front read = read >>= λ es. Ok (front ++ es)
 
 -- the record of an entry lies among the P lines
-pub entry_record : (n : ℕ) (lines : List (List ℕ)) (ps : List Placed) (i : ℕ) (p : Placed) → AreEntries n lines ps → slice_get ps i ≡ Some p → IsTrue (has_record n p.entry.kind p.first p.count)
+pub entry_record : (n : ℕ) (lines : List (List ℕ)) (ps : List Placed) (i : ℕ) (p : Placed) → AreEntries n lines ps → slice_get ps i ≡ Some p →
+    IsTrue (has_record n p.entry.kind p.first p.count)
 entry_record n [] [] i p h is = absurd cc
 entry_record n [] (q ∷ ps) i p h is = absurd h
 entry_record n (first ∷ []) ps i p h is = absurd h
 entry_record n (first ∷ second ∷ lines) [] i p h is = absurd h
-entry_record n (first ∷ second ∷ lines) (q ∷ ps) zero p h is = let same : q ≡ p = cc in subst (λ (x : Placed). IsTrue (has_record n x.entry.kind x.first x.count)) same h.1
+entry_record n (first ∷ second ∷ lines) (q ∷ ps) zero p h is = let same : q ≡ p =
+    cc in subst (λ (x : Placed). IsTrue (has_record n x.entry.kind x.first x.count)) same h.1
 entry_record n (first ∷ second ∷ lines) (q ∷ ps) (suc i) p h is = entry_record n lines ps i p h.2 is
 
 module _ (above : ℕ) (params : List (List ℕ)) (ps : List Placed) (start : Contents) where
@@ -85,7 +88,8 @@ module _ (above : ℕ) (params : List (List ℕ)) (ps : List Placed) (start : Co
     record_fails e f =
         subst (λ (r : Result Entries LineFault). Fails e (r >>= with_entries start)) h.read
         (fault_passes e (with_front now.entries (reading number (drop i ps))) (with_entries start)
-        (fault_passes e (reading number (drop i ps)) (λ es. Ok (now.entries ++ es)) (subst (Fails e) (sym step) (fault_passes e (read_record above params d number p) more f))))
+        (fault_passes e (reading number (drop i ps)) (λ es. Ok (now.entries ++ es))
+        (subst (Fails e) (sym step) (fault_passes e (read_record above params d number p) more f))))
 
     module _ (ok : are_permitted d ≡ true) (values : List Value) (read : read_record above params d number p ≡ Ok values) where
       has : HasRecord params d number p values
@@ -99,7 +103,8 @@ module _ (above : ℕ) (params : List (List ℕ)) (ps : List Placed) (start : Co
       pub values_few : 80 * length params ≤ 164000000 → value_count now.entries + length values ≤ 164000000
       values_few few = omega (arith, few, last_few, all_owned-few 1 (suc i) params)
 
-      front_more : (r : Result Entries LineFault) → with_front now.entries (r >>= λ others. Ok ((p.entry, values) ∷ others)) ≡ with_front (now.entries ++ (p.entry, values) ∷ []) r
+      front_more : (r : Result Entries LineFault) → with_front now.entries (r >>= λ others. Ok ((p.entry, values) ∷ others)) ≡ with_front
+          (now.entries ++ (p.entry, values) ∷ []) r
       front_more (Ok es) = ap (λ (x : Entries). Ok x) (sym (append_assoc now.entries ((p.entry, values) ∷ []) es))
       front_more (Err f) = refl
 
@@ -110,13 +115,15 @@ module _ (above : ℕ) (params : List (List ℕ)) (ps : List Placed) (start : Co
             start_is = h.start_is;
             global_is = h.global_is;
             read =
-                ap (λ (k : ℕ). with_front (now.entries ++ (p.entry, values) ∷ []) (reading k (drop (i + 1) ps))) (let k : 2 * (i + 1) + 1 ≡ number + 2 = omega arith in k)
+                ap (λ (k : ℕ). with_front (now.entries ++ (p.entry, values) ∷ []) (reading k (drop (i + 1) ps))) (let k : 2 * (i + 1) + 1 ≡ number + 2 =
+                omega arith in k)
                 ∙ sym (front_more (reading (number + 2) (drop (i + 1) ps)))
                 ∙ ap (λ (r : Result (List Value) LineFault). with_front now.entries (r >>= more)) (sym read)
                 ∙ ap (with_front now.entries) (sym step) ∙ h.read;
             count = omega (arith, h.count, length-append now.entries ((p.entry, values) ∷ []));
             few =
-                let sum : value_count (now.entries ++ (p.entry, values) ∷ []) ≡ value_count now.entries + value_count ((p.entry, values) ∷ []) = sum_by-append (λ (x : Entry × List Value). length x.1) now.entries ((p.entry, values) ∷ []) in
+                let sum : value_count (now.entries ++ (p.entry, values) ∷ []) ≡ value_count now.entries + value_count ((p.entry, values) ∷ []) =
+                sum_by-append (λ (x : Entry × List Value). length x.1) now.entries ((p.entry, values) ∷ []) in
                 let one : value_count ((p.entry, values) ∷ []) ≡ length values = omega arith in
                 let k : i + 1 ≡ suc i = omega arith in
                 let same : all_owned 1 (i + 1) params ≡ all_owned 1 (suc i) params = ap (λ (n : ℕ). all_owned 1 n params) k in

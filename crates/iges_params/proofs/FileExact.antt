@@ -68,7 +68,8 @@ IsFile-read_file bytes f h =
     ap (λ (r : Read SectionLines). r >>= after_sections) (IsSectioned-read_sections bytes s h.sectioned)
     ∙ ap (λ (r : Read Global26). r >>= after_global s) (GlobalText-read_global s f.global h.global)
     ∙ ap (λ (r : Read (List Placed)). r >>= after_directory s f.global) (AreEntries-read_directory s h.placed h.directory)
-    ∙ ap (λ (r : Read Records). r >>= made s f.global) (AreRecords-read_records (above s) s.param f.global.delims (global_permitted s f.global h.global) h.placed 1 f.entries h.records)
+    ∙ ap (λ (r : Read Records). r >>= made s f.global) (AreRecords-read_records (above s) s.param f.global.delims
+    (global_permitted s f.global h.global) h.placed 1 f.entries h.records)
     ∙ ap (λ (x : List (List ℕ)). done {X = Contents} (record { start = x; global = f.global; entries = f.entries })) (sym h.start)
 
 pub read_file-Refusal : (bytes : List ℕ) (f : LineFault) → read_file bytes ≡ Err f → Refusal bytes f
@@ -89,7 +90,18 @@ read_file-Refusal bytes f e =
                       elim (bind_err (read_records (above a.0) a.0.param b.0.delims 1 c.0) (made a.0 b.0) f c.2) [
                         | inl r ↦
                             let t = read_records-FirstFaulty (above a.0) a.0.param b.0.delims (global_permitted a.0 b.0 g) c.0 1 f r in
-                            in_records a.0 b.0 c.0 sectioned g entries (record { place = t.place; entry = t.entry; entry_is = t.entry_is; has_type = t.has_type; line = t.line; here = t.here; line_is = t.line_is; before = t.before })
+                            in_records a.0 b.0 c.0 sectioned g entries
+                            (record {
+                              place = t.place;
+                              entry = t.entry;
+                              entry_is = t.entry_is;
+                              has_type = t.has_type;
+                              line = t.line;
+                              here =
+                                  t.here;
+                              line_is = t.line_is;
+                              before = t.before;
+                            })
                         | inr r ↦ absurd (clash f (record { start = map (columns 1 72) a.0.start; global = b.0; entries = r.0 }) (sym r.2))
                       ]
                 ]
@@ -100,15 +112,28 @@ pub Refusal-read_file : (bytes : List ℕ) (f : LineFault) → Refusal bytes f �
 unfolding read_file read_lines made after_directory after_global after_sections
 Refusal-read_file bytes f (in_lines h) = ap (λ (r : Read SectionLines). r >>= after_sections) (IsLineFault-read_sections bytes f h)
 Refusal-read_file bytes f (in_global s a h) =
-    ap (λ (r : Read SectionLines). r >>= after_sections) (IsSectioned-read_sections bytes s a) ∙ ap (λ (r : Read Global26). r >>= after_global s) (GlobalFault-read_global s f h)
+    ap (λ (r : Read SectionLines). r >>= after_sections) (IsSectioned-read_sections bytes s a) ∙ ap (λ (r : Read Global26). r >>= after_global s)
+    (GlobalFault-read_global s f h)
 Refusal-read_file bytes f (in_directory s g a b h) =
-    ap (λ (r : Read SectionLines). r >>= after_sections) (IsSectioned-read_sections bytes s a) ∙ ap (λ (r : Read Global26). r >>= after_global s) (GlobalText-read_global s g b)
+    ap (λ (r : Read SectionLines). r >>= after_sections) (IsSectioned-read_sections bytes s a) ∙ ap (λ (r : Read Global26). r >>= after_global s)
+    (GlobalText-read_global s g b)
     ∙ ap (λ (r : Read (List Placed)). r >>= after_directory s g) (IsDirectoryFault-read_directory s f h)
 Refusal-read_file bytes f (in_records s g ps a b c h) =
-    ap (λ (r : Read SectionLines). r >>= after_sections) (IsSectioned-read_sections bytes s a) ∙ ap (λ (r : Read Global26). r >>= after_global s) (GlobalText-read_global s g b)
+    ap (λ (r : Read SectionLines). r >>= after_sections) (IsSectioned-read_sections bytes s a) ∙ ap (λ (r : Read Global26). r >>= after_global s)
+    (GlobalText-read_global s g b)
     ∙ ap (λ (r : Read (List Placed)). r >>= after_directory s g) (AreEntries-read_directory s ps c)
     ∙ ap (λ (r : Read Records). r >>= made s g) (FirstFaulty-read_records (above s) s.param g.delims (global_permitted s g b) ps 1 f
-    (record { place = h.place; entry = h.entry; entry_is = h.entry_is; has_type = h.has_type; line = h.line; here = h.here; line_is = h.line_is; before = h.before }))
+    (record {
+      place = h.place;
+      entry = h.entry;
+      entry_is = h.entry_is;
+      has_type = h.has_type;
+      line = h.line;
+      here = h.here;
+      line_is = h.line_is;
+      before =
+          h.before;
+    }))
 
 pub one_reading : (bytes : List ℕ) → HasOneReading bytes
 one_reading bytes = by_reading (read_file bytes) refl

@@ -50,22 +50,29 @@ module _ (s : SectionLines) where
     directory_fails faults.NoMemory h = tt
     directory_fails (faults.Bad f) h = from_directory (faults.Bad f) (IsDirectoryFault-read_directory s f h)
 
-    pub entries_go_on : (ps : List Placed) → AreEntries (length s.param) s.directory ps → (file : Contents) → file ≡ record { start = map (columns 1 72) s.start; global = g; entries = [] }
-        → (above_is : ℕ) → above_is ≡ above s → (params : List (List ℕ)) → params ≡ s.param → (r : Result Contents PassFault) → Gives r (read_entries above_is params file ps) → Gives r (read_lines s)
+    pub entries_go_on : (ps : List Placed) → AreEntries (length s.param) s.directory ps → (file : Contents) →
+        file ≡ record { start = map (columns 1 72) s.start; global = g; entries = [] }
+        → (above_is : ℕ) → above_is ≡ above s → (params : List (List ℕ)) → params ≡ s.param → (r : Result Contents PassFault) →
+        Gives r (read_entries above_is params file ps) → Gives r (read_lines s)
     unfolding after_global after_directory made
     entries_go_on ps h file is n n-is params params-is r gives =
         subst (Gives r) (sym (behind_global ∙ ap (λ (x : Result (List Placed) LineFault). x >>= after_directory s g) (AreEntries-read_directory s ps h)))
         (subst (λ (f : Contents). Gives r (read_entries (above s) s.param f ps)) is
-        (subst (λ (k : ℕ). Gives r (read_entries k s.param file ps)) n-is (subst (λ (ls : List (List ℕ)). Gives r (read_entries n ls file ps)) params-is gives)))
+        (subst (λ (k : ℕ). Gives r (read_entries k s.param file ps)) n-is
+        (subst (λ (ls : List (List ℕ)). Gives r (read_entries n ls file ps)) params-is gives)))
 
-begun_is : (s : SectionLines) (file : Contents) (ps : List Placed) → IsBegunFile s file ps → file ≡ record { start = map (columns 1 72) s.start; global = file.global; entries = [] }
+begun_is : (s : SectionLines) (file : Contents) (ps : List Placed) → IsBegunFile s file ps →
+    file ≡ record { start = map (columns 1 72) s.start; global = file.global; entries = [] }
 begun_is s file ps b =
-    ap (λ (x : List (List ℕ)). record file { start = x }) b.start ∙ ap (λ (es : List (Entry × List Value)). record { start = map (columns 1 72) s.start; global = file.global; entries = es }) b.entries
+    ap (λ (x : List (List ℕ)). record file { start = x }) b.start ∙ ap
+    (λ (es : List (Entry × List Value)). record { start = map (columns 1 72) s.start; global = file.global; entries = es }) b.entries
 
 -- the records behind what was begun
-pub begun_go_on : (s : SectionLines) (file : Contents) (ps : List Placed) → IsBegunFile s file ps → (n : ℕ) → n ≡ above s → (params : List (List ℕ)) → params ≡ s.param
+pub begun_go_on : (s : SectionLines) (file : Contents) (ps : List Placed) → IsBegunFile s file ps → (n : ℕ) → n ≡ above s → (params : List (List ℕ)) →
+    params ≡ s.param
     → (r : Result Contents PassFault) → Gives r (read_entries n params file ps) → Gives r (read_lines s)
-begun_go_on s file ps b n n-is params params-is r gives = entries_go_on s file.global b.global ps b.directory file (begun_is s file ps b) n n-is params params-is r gives
+begun_go_on s file ps b n n-is params params-is r gives = entries_go_on s file.global b.global ps b.directory file
+    (begun_is s file ps b) n n-is params params-is r gives
 
 module _ (bytes : List ℕ) where
   from_lines : (e : PassFault) → Fails e (read_sections bytes) → Fails e (read_file bytes)
@@ -78,7 +85,8 @@ module _ (bytes : List ℕ) where
 
   pub lines_go_on : (s : SectionLines) → IsSectioned bytes s → (r : Result Contents PassFault) → Gives r (read_lines s) → Gives r (read_file bytes)
   unfolding read_file
-  lines_go_on s sectioned r gives = subst (Gives r) (sym (ap (λ (x : Result SectionLines LineFault). x >>= read_lines) (IsSectioned-read_sections bytes s sectioned))) gives
+  lines_go_on s sectioned r gives = subst (Gives r) (sym (ap (λ (x : Result SectionLines LineFault). x >>= read_lines)
+      (IsSectioned-read_sections bytes s sectioned))) gives
 
   pub found_from : (r : Result Contents PassFault) → Gives r (read_file bytes) → IfOk r (IsFile bytes)
   found_from (Ok f) e = read_file-IsFile bytes f e

@@ -21,7 +21,8 @@ if_permitted-is : (o : Option Head) (h : Head) → if_permitted o ≡ Some h →
 if_permitted-is None h e = absurd cc
 if_permitted-is (Some x) h e =
     elim (cases_Bool (are_permitted x.delims)) [
-      | inl t ↦ let same : Some x ≡ Some h = sym (cond-true (are_permitted x.delims) (Some x) None t) ∙ e in subst (λ (y : Head). are_permitted y.delims ≡ true) (same_Some x h same) t
+      | inl t ↦ let same : Some x ≡ Some h = sym (cond-true (are_permitted x.delims) (Some x) None t) ∙ e in subst (λ (y : Head). are_permitted y.delims ≡ true)
+          (same_Some x h same) t
       | inr t ↦ let no : None ≡ Some h = sym (cond-false (are_permitted x.delims) (Some x) None t) ∙ e in absurd cc
     ]
 
@@ -39,7 +40,8 @@ module _ (first : ℕ) (text : List ℕ) (d : Delims) (ok : are_permitted d ≡ 
   kinds_ok values g e =
       elim (cases_Bool (have_kinds values)) [
         | inl t ↦
-            let same : record { delims = d; values = values } ≡ g = ok_is (record { delims = d; values = values }) g (sym (cond-true (have_kinds values) _ _ t) ∙ e) in
+            let same : record { delims = d; values = values } ≡ g =
+            ok_is (record { delims = d; values = values }) g (sym (cond-true (have_kinds values) _ _ t) ∙ e) in
             (ap (λ (x : Global26). x.delims) (sym same), ap (λ (x : Global26). x.values) (sym same), t)
         | inr t ↦ absurd (clash kind_fault g (sym (cond-false (have_kinds values) _ _ t) ∙ e))
       ]
@@ -51,11 +53,13 @@ module _ (first : ℕ) (text : List ℕ) (d : Delims) (ok : are_permitted d ≡ 
         | inr t ↦ (err_is {X = Global26} f kind_fault (sym e ∙ cond-false (have_kinds values) _ _ t), t)
       ]
 
-  pub with_ok : (vs : Option (List ℕ)) (g : Global26) → global_with first text d vs ≡ Ok g → (g.delims ≡ d) × HasValues d vs g.values × (have_kinds g.values ≡ true)
+  pub with_ok : (vs : Option (List ℕ)) (g : Global26) → global_with first text d vs ≡ Ok g →
+      (g.delims ≡ d) × HasValues d vs g.values × (have_kinds g.values ≡ true)
   with_ok None g e = let k = kinds_ok [] g e in (k.0, k.1, ap have_kinds k.1)
   with_ok (Some rest) g e = by_read (read_values d rest) refl e
     where
-      by_read : (r : Result (List Value × ℕ) FieldFault) → read_values d rest ≡ r → (at_line first 72 text (length text - length rest) GlobalValue r >>= λ x. with_kinds first d x.0) ≡ Ok g
+      by_read : (r : Result (List Value × ℕ) FieldFault) → read_values d rest ≡ r →
+          (at_line first 72 text (length text - length rest) GlobalValue r >>= λ x. with_kinds first d x.0) ≡ Ok g
           → (g.delims ≡ d) × HasValues d (Some rest) g.values × (have_kinds g.values ≡ true)
       by_read (Ok x) is e =
           let k = kinds_ok x.0 g e in
@@ -64,9 +68,11 @@ module _ (first : ℕ) (text : List ℕ) (d : Delims) (ok : are_permitted d ≡ 
 
   pub ok_with : (vs : Option (List ℕ)) (g : Global26) → g.delims ≡ d → HasValues d vs g.values → have_kinds g.values ≡ true → global_with first text d vs ≡ Ok g
   ok_with None g e h k =
-      ap (λ (x : Delims). done {X = Global26} (record { delims = x; values = [] })) (sym e) ∙ ap (λ (x : List Value). done {X = Global26} (record { delims = g.delims; values = x })) (sym h)
+      ap (λ (x : Delims). done {X = Global26} (record { delims = x; values = [] })) (sym e) ∙ ap
+      (λ (x : List Value). done {X = Global26} (record { delims = g.delims; values = x })) (sym h)
   ok_with (Some rest) g e h k =
-      ap (λ (r : Result (List Value × ℕ) FieldFault). at_line first 72 text (length text - length rest) GlobalValue r >>= λ x. with_kinds first d x.0) (FreeText-read_values d ok rest g.values h.0 h.1)
+      ap (λ (r : Result (List Value × ℕ) FieldFault). at_line first 72 text (length text - length rest) GlobalValue r >>= λ x. with_kinds first d x.0)
+      (FreeText-read_values d ok rest g.values h.0 h.1)
       ∙ cond-true (have_kinds g.values) _ _ k ∙ ap (λ (x : Delims). done {X = Global26} (record { delims = x; values = g.values })) (sym e)
 
   -- what a fault behind the delimiters is
@@ -80,19 +86,23 @@ module _ (first : ℕ) (text : List ℕ) (d : Delims) (ok : are_permitted d ≡ 
   with_err None f e = let k = kinds_err [] f e in inl ([], refl, k.1, k.0)
   with_err (Some rest) f e = by_read (read_values d rest) refl e
     where
-      by_read : (r : Result (List Value × ℕ) FieldFault) → read_values d rest ≡ r → (at_line first 72 text (length text - length rest) GlobalValue r >>= λ x. with_kinds first d x.0) ≡ Err f → WithFault (Some rest) f
+      by_read : (r : Result (List Value × ℕ) FieldFault) → read_values d rest ≡ r →
+          (at_line first 72 text (length text - length rest) GlobalValue r >>= λ x. with_kinds first d x.0) ≡ Err f → WithFault (Some rest) f
       by_read (Ok x) is e = let k = kinds_err x.0 f e in inl (x.0, (x.1, read_values-FreeText d ok rest x is), k.1, k.0)
       by_read (Err fault) is e = inr (rest, fault, refl, read_values-IsFieldFault d ok rest fault is, err_is {X = Global26} f (value_fault rest fault) (sym e))
 
-  pub kind_read : (vs : Option (List ℕ)) (values : List Value) → HasValues d vs values → have_kinds values ≡ false → global_with first text d vs ≡ Err kind_fault
+  pub kind_read : (vs : Option (List ℕ)) (values : List Value) → HasValues d vs values → have_kinds values ≡ false →
+      global_with first text d vs ≡ Err kind_fault
   kind_read None values h k = let no : true ≡ false = ap have_kinds (sym h) ∙ k in absurd cc
   kind_read (Some rest) values h k =
-      ap (λ (r : Result (List Value × ℕ) FieldFault). at_line first 72 text (length text - length rest) GlobalValue r >>= λ x. with_kinds first d x.0) (FreeText-read_values d ok rest values h.0 h.1)
+      ap (λ (r : Result (List Value × ℕ) FieldFault). at_line first 72 text (length text - length rest) GlobalValue r >>= λ x. with_kinds first d x.0)
+      (FreeText-read_values d ok rest values h.0 h.1)
       ∙ cond-false (have_kinds values) _ _ k
 
   pub value_read : (rest : List ℕ) (fault : FieldFault) → IsFieldFault d rest fault → global_with first text d (Some rest) ≡ Err (value_fault rest fault)
   value_read rest fault h =
-      ap (λ (r : Result (List Value × ℕ) FieldFault). at_line first 72 text (length text - length rest) GlobalValue r >>= λ x. with_kinds first d x.0) (IsFieldFault-read_values d ok rest fault h)
+      ap (λ (r : Result (List Value × ℕ) FieldFault). at_line first 72 text (length text - length rest) GlobalValue r >>= λ x. with_kinds first d x.0)
+      (IsFieldFault-read_values d ok rest fault h)
 
 module _ (s : SectionLines) where
   abbrev text : List ℕ
@@ -113,7 +123,8 @@ module _ (s : SectionLines) where
 
   pub GlobalText-read_global : (g : Global26) → GlobalText text g → read_global s ≡ Ok g
   unfolding read_global
-  GlobalText-read_global g t = ap (global_of_head first text) t.head_is ∙ ok_with first text t.start.delims (permitted text t.start t.head_is) t.start.values g t.delims t.values t.kinds_fit
+  GlobalText-read_global g t = ap (global_of_head first text) t.head_is ∙ ok_with first text t.start.delims
+      (permitted text t.start t.head_is) t.start.values g t.delims t.values t.kinds_fit
 
   fault_by : (f g : LineFault) → f ≡ g → GlobalFault s g.reason g.line → GlobalFault s f.reason f.line
   fault_by f g e h = subst (λ (x : LineFault). GlobalFault s x.reason x.line) (sym e) h
@@ -124,7 +135,8 @@ module _ (s : SectionLines) where
   by_head_err (Some h) is f e =
       elim (with_err first text h.delims (permitted text h is) h.values f e) [
         | inl w ↦ fault_by f (record { line = first; reason = GlobalKind }) w.3 (h, w.0, is, w.1, w.2, refl)
-        | inr w ↦ fault_by f (record { line = first + line_of_byte 72 text (length text - length w.0 + w.1.at); reason = GlobalValue }) w.4 (h, w.0, w.1, is, w.2, w.3, refl)
+        | inr w ↦ fault_by f (record { line = first + line_of_byte 72 text (length text - length w.0 + w.1.at); reason = GlobalValue }) w.4
+            (h, w.0, w.1, is, w.2, w.3, refl)
       ]
 
   pub read_global-GlobalFault : (f : LineFault) → read_global s ≡ Err f → GlobalFault s f.reason f.line

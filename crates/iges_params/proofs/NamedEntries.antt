@@ -9,7 +9,8 @@ use Rattle.std.proofs.Common.{◌⊎◌, inl, inr}
 use Rattle.iges_directory.specs.Named.{unless_unused, named_in}
 
 -- an odd number names the entry at its half, where that one is used
-pub named_used : {X : Type 0} (kind : X → ℤ) (entries : List X) (n : ℕ) (x : X) → (n % 2 ≡ 0 → ⊥) → slice_get entries (n / 2) ≡ Some x → (kind x ≡ pos 0 → ⊥) → Some x ≡ named_in kind entries (pos n)
+pub named_used : {X : Type 0} (kind : X → ℤ) (entries : List X) (n : ℕ) (x : X) → (n % 2 ≡ 0 → ⊥) → slice_get entries (n / 2) ≡ Some x → (kind x ≡ pos 0 → ⊥) →
+    Some x ≡ named_in kind entries (pos n)
 named_used kind entries n x odd is used =
     sym (
     cond-true (n % 2 == 1) (unless_unused kind (slice_get entries (n / 2))) None (eq-eqb (n % 2) 1 (omega arith))

@@ -1,5 +1,6 @@
 -- No line is in two records: so all records together have few values.
-use Rattle.std.proofs.Common.{◌≡◌, ℕ, zero, suc, ◌+◌, ◌-◌, ◌*◌, ◌<◌, ◌≤◌, Bool, true, false, cond, List, [], ◌∷◌, ◌++◌, length, take, drop, ℤ, pos, Option, Some, None, refl, sym, ap, ◌∙◌, arith, length-append}
+use Rattle.std.proofs.Common.{◌≡◌, ℕ, zero, suc, ◌+◌, ◌-◌, ◌*◌, ◌<◌, ◌≤◌, Bool, true, false, cond, List, [], ◌∷◌, ◌++◌, length, take, drop, ℤ, pos, Option}
+use Rattle.std.proofs.Common.{Some, None, refl, sym, ap, ◌∙◌, arith, length-append}
 use Rattle.std.specs.Prelude.{MatchBool, unsigned_abs, flat_map}
 use Rattle.std.specs.List.{AllZip, list_all}
 use Rattle.std.specs.Option.{option_map_or}
@@ -25,7 +26,11 @@ items_count d (item ∷ items) [] h = absurd h
 items_count d (item ∷ []) (v ∷ []) h = omega (arith, length-append item (d.end ∷ []))
 items_count d (item ∷ []) (v ∷ w ∷ vs) h = absurd h.1
 items_count d (item ∷ next ∷ items) (v ∷ []) h = absurd h.1
-items_count d (item ∷ next ∷ items) (v ∷ w ∷ vs) h = omega (arith, length-append item (d.param ∷ delimited d (next ∷ items)), items_count d (next ∷ items) (w ∷ vs) h.1)
+items_count d (item ∷ next ∷ items) (v ∷ w ∷ vs) h = omega (
+  arith,
+  length-append item (d.param ∷ delimited d (next ∷ items)),
+  items_count d (next ∷ items) (w ∷ vs) h.1,
+)
 
 free_count : (d : Delims) (text : List ℕ) (values : List Value) (used : ℕ) → FreeText d text values used → length values ≤ length text
 free_count d text values used f =
@@ -112,7 +117,8 @@ text_64 : (ls : List (List ℕ)) → length (flat_map (columns 1 64) ls) ≤ 64 
 text_64 [] = omega arith
 text_64 (l ∷ ls) = omega (arith, length-append (columns 1 64 l) (flat_map (columns 1 64) ls), columns_short 1 64 l, text_64 ls)
 
-pub record_few : (params : List (List ℕ)) (d : Delims) (number : ℕ) (p : Placed) (values : List Value) → HasRecord params d number p values → length values ≤ 64 * owned number params
+pub record_few : (params : List (List ℕ)) (d : Delims) (number : ℕ) (p : Placed) (values : List Value) → HasRecord params d number p values →
+    length values ≤ 64 * owned number params
 record_few params d number p values h = by_kind (int_eq p.entry.kind (pos 0)) h
   where
     by_kind : (b : Bool) → MatchBool b (values ≡ []) (IsRecord params d number p values) → length values ≤ 64 * owned number params

@@ -10,5 +10,6 @@ pub fault_passes : {A B : Type 0} (e : PassFault) (read : Result A LineFault) (m
 fault_passes faults.NoMemory read more h = tt
 fault_passes (faults.Bad fault) read more h = ap (λ r. r >>= more) h
 
-pub goes_on : {A B : Type 0} (x : A) (read : Result A LineFault) (more : A → Result B LineFault) (answer : Result B PassFault) → read ≡ Ok x → Gives answer (more x) → Gives answer (read >>= more)
+pub goes_on : {A B : Type 0} (x : A) (read : Result A LineFault) (more : A → Result B LineFault) (answer : Result B PassFault) → read ≡ Ok x →
+    Gives answer (more x) → Gives answer (read >>= more)
 goes_on x read more answer is h = subst (λ r. Gives answer (r >>= more)) (sym is) h

@@ -1,5 +1,6 @@
 -- The pass over one record, joined from its steps.
-use Rattle.std.proofs.Common.{◌≡◌, ℕ, ◌+◌, ◌-◌, ◌<◌, ◌≤◌, Bool, true, false, not, List, [], length, ℤ, pos, negsuc, Option, Some, None, Result, Ok, Err, refl, sym, ap, subst, ◌∙◌, arith}
+use Rattle.std.proofs.Common.{◌≡◌, ℕ, ◌+◌, ◌-◌, ◌<◌, ◌≤◌, Bool, true, false, not, List, [], length, ℤ, pos, negsuc, Option, Some, None, Result, Ok, Err, refl}
+use Rattle.std.proofs.Common.{sym, ap, subst, ◌∙◌, arith}
 use Rattle.std.specs.Prelude.{◌+ℤ◌, ◌&&◌, ◌||◌, int_le, slice_range, unsigned_abs, flat_map}
 use Rattle.std.specs.List.{position_from}
 use Rattle.std.specs.Ordering.{int_eq}
@@ -21,21 +22,26 @@ use Rattle.iges_params.proofs.Passes.{fault_passes, goes_on}
 
 -- the values of the text, and then the type number
 with_type : (first : ℕ) (text : List ℕ) (d : Delims) (kind : ℤ)
-    → (read_passage first 64 text RecordValue d text >>= without_type first kind) ≡ (at_line first 64 text 0 RecordValue (read_values d text) >>= λ x. without_type first kind x.0)
+    → (read_passage first 64 text RecordValue d text >>= without_type first kind) ≡
+    (at_line first 64 text 0 RecordValue (read_values d text) >>= λ x. without_type first kind x.0)
 unfolding read_passage
 with_type first text d kind =
-    ap (λ (k : ℕ). at_line first 64 text k RecordValue (read_values d text) >>= (λ x. Ok x.0) >>= without_type first kind) (let none : length text - length text ≡ 0 = omega arith in none) ∙ by_read (read_values d text)
+    ap (λ (k : ℕ). at_line first 64 text k RecordValue (read_values d text) >>= (λ x. Ok x.0) >>= without_type first kind)
+    (let none : length text - length text ≡ 0 = omega arith in none) ∙ by_read (read_values d text)
   where
-    by_read : (r : Result (List Value × ℕ) FieldFault) → (at_line first 64 text 0 RecordValue r >>= (λ x. Ok x.0) >>= without_type first kind) ≡ (at_line first 64 text 0 RecordValue r >>= λ x. without_type first kind x.0)
+    by_read : (r : Result (List Value × ℕ) FieldFault) → (at_line first 64 text 0 RecordValue r >>= (λ x. Ok x.0) >>= without_type first kind) ≡
+        (at_line first 64 text 0 RecordValue r >>= λ x. without_type first kind x.0)
     by_read (Ok x) = refl
     by_read (Err f) = refl
 
-module _ (above : ℕ) (params : List (List ℕ)) (d : Delims) (number : ℕ) (p : Placed) (place count first : ℕ) (place_is : place ≡ unsigned_abs p.first) (count_is : count ≡ unsigned_abs p.count) (first_is : first ≡ above + place) where
+module _ (above : ℕ) (params : List (List ℕ)) (d : Delims) (number : ℕ) (p : Placed) (place count first : ℕ) (place_is : place ≡ unsigned_abs p.first)
+    (count_is : count ≡ unsigned_abs p.count) (first_is : first ≡ above + place) where
   abbrev range : List (List ℕ)
   range = slice_range params (place - 1) (place - 1 + count)
 
   range_is : range ≡ record_lines params p
-  range_is = ap (λ (k : ℕ). slice_range params (k - 1) (k - 1 + count)) place_is ∙ ap (λ (k : ℕ). slice_range params (unsigned_abs p.first - 1) (unsigned_abs p.first - 1 + k)) count_is
+  range_is = ap (λ (k : ℕ). slice_range params (k - 1) (k - 1 + count)) place_is ∙ ap
+      (λ (k : ℕ). slice_range params (unsigned_abs p.first - 1) (unsigned_abs p.first - 1 + k)) count_is
 
   abbrev foreign : List (List ℕ) → Option ℕ
   foreign lines = position_from (λ l. not (points_back number l)) 0 lines
@@ -46,46 +52,56 @@ module _ (above : ℕ) (params : List (List ℕ)) (d : Delims) (number : ℕ) (p
       ap (values_unless params d (above + unsigned_abs p.first) p) (sym (is ∙ ap foreign range_is))
       ∙ ap (λ (n : ℕ). values_unless params d n p o) (sym (first_is ∙ ap (λ (k : ℕ). above + k) place_is))
 
-  pub foreign_fails : (i : ℕ) → Some i ≡ foreign range → Fails (faults.Bad (record { line = first + i; reason = BackPointer })) (used_values above params d number p)
+  pub foreign_fails : (i : ℕ) → Some i ≡ foreign range → Fails (faults.Bad (record { line = first + i; reason = BackPointer }))
+      (used_values above params d number p)
   foreign_fails i is = used_at (Some i) is
 
   module _ (none : None ≡ foreign range) (text : List ℕ) (text_is : text ≡ flat_map (columns 1 64) range) where
     used_is : used_values above params d number p ≡ (read_passage first 64 text RecordValue d text >>= without_type first p.entry.kind)
     used_is =
         used_at None none ∙ sym (with_type first (record_text params p) d p.entry.kind)
-        ∙ ap (λ (t : List ℕ). read_passage first 64 t RecordValue d t >>= without_type first p.entry.kind) (sym (text_is ∙ ap (flat_map (columns 1 64)) range_is))
+        ∙ ap (λ (t : List ℕ). read_passage first 64 t RecordValue d t >>= without_type first p.entry.kind)
+        (sym (text_is ∙ ap (flat_map (columns 1 64)) range_is))
 
     pub text_fails : (e : PassFault) → Fails e (read_passage first 64 text RecordValue d text) → Fails e (used_values above params d number p)
     text_fails e f = subst (Fails e) (sym used_is) (fault_passes e (read_passage first 64 text RecordValue d text) (without_type first p.entry.kind) f)
 
-    pub text_goes_on : (values : List Value) (r : Result (List Value) PassFault) → read_passage first 64 text RecordValue d text ≡ Ok values → Gives r (without_type first p.entry.kind values) → Gives r (used_values above params d number p)
-    text_goes_on values r read g = subst (Gives r) (sym used_is) (goes_on values (read_passage first 64 text RecordValue d text) (without_type first p.entry.kind) r read g)
+    pub text_goes_on : (values : List Value) (r : Result (List Value) PassFault) → read_passage first 64 text RecordValue d text ≡ Ok values →
+        Gives r (without_type first p.entry.kind values) → Gives r (used_values above params d number p)
+    text_goes_on values r read g = subst (Gives r) (sym used_is)
+        (goes_on values (read_passage first 64 text RecordValue d text) (without_type first p.entry.kind) r read g)
 
 -- ---- an entry
 
-pub unused_is : (above : ℕ) (params : List (List ℕ)) (d : Delims) (number : ℕ) (p : Placed) → int_eq p.entry.kind (pos 0) ≡ true → read_record above params d number p ≡ Ok []
+pub unused_is : (above : ℕ) (params : List (List ℕ)) (d : Delims) (number : ℕ) (p : Placed) → int_eq p.entry.kind (pos 0) ≡ true →
+    read_record above params d number p ≡ Ok []
 unfolding read_record
 unused_is above params d number p e = cond-true (int_eq p.entry.kind (pos 0)) _ _ e
 
-pub used_record : (above : ℕ) (params : List (List ℕ)) (d : Delims) (number : ℕ) (p : Placed) (r : Result (List Value) PassFault) → int_eq p.entry.kind (pos 0) ≡ false → Gives r (used_values above params d number p) → Gives r (read_record above params d number p)
+pub used_record : (above : ℕ) (params : List (List ℕ)) (d : Delims) (number : ℕ) (p : Placed) (r : Result (List Value) PassFault) →
+    int_eq p.entry.kind (pos 0) ≡ false → Gives r (used_values above params d number p) → Gives r (read_record above params d number p)
 unfolding read_record used_values
 used_record above params d number p r used g = subst (Gives r) (sym (cond-false (int_eq p.entry.kind (pos 0)) _ _ used)) g
 
 -- a record lies among the P lines
-pub record_within : (n : ℕ) (kind first count : ℤ) → int_eq kind (pos 0) ≡ false → has_record n kind first count ≡ true → (0 < unsigned_abs first) × (unsigned_abs first - 1 + unsigned_abs count ≤ n)
+pub record_within : (n : ℕ) (kind first count : ℤ) → int_eq kind (pos 0) ≡ false → has_record n kind first count ≡ true →
+    (0 < unsigned_abs first) × (unsigned_abs first - 1 + unsigned_abs count ≤ n)
 record_within n kind first count used h = by_test (int_eq kind (pos 0)) used h
   where
-    lies_at : (f c : ℤ) → int_le (pos 1) f ≡ true → int_le (pos 1) c ≡ true → int_le (f +ℤ c) (pos (n + 1)) ≡ true → (0 < unsigned_abs f) × (unsigned_abs f - 1 + unsigned_abs c ≤ n)
+    lies_at : (f c : ℤ) → int_le (pos 1) f ≡ true → int_le (pos 1) c ≡ true → int_le (f +ℤ c) (pos (n + 1)) ≡ true →
+        (0 < unsigned_abs f) × (unsigned_abs f - 1 + unsigned_abs c ≤ n)
     lies_at (pos f) (pos c) x y z = let a = leb-true 1 f x in let b = leb-true (f + c) (n + 1) z in (omega (arith, a), omega (arith, a, b))
     lies_at (pos f) (negsuc c) x y z = absurd (let no : false ≡ true = y in cc)
     lies_at (negsuc f) c x y z = absurd (let no : false ≡ true = x in cc)
 
-    lies : (f c : ℤ) → (int_le (pos 1) f && int_le (pos 1) c && int_le (f +ℤ c) (pos (n + 1))) ≡ true → (0 < unsigned_abs f) × (unsigned_abs f - 1 + unsigned_abs c ≤ n)
+    lies : (f c : ℤ) → (int_le (pos 1) f && int_le (pos 1) c && int_le (f +ℤ c) (pos (n + 1))) ≡ true →
+        (0 < unsigned_abs f) × (unsigned_abs f - 1 + unsigned_abs c ≤ n)
     lies f c k =
         let a = and_parts (int_le (pos 1) f && int_le (pos 1) c) (int_le (f +ℤ c) (pos (n + 1))) k in
         let b = and_parts (int_le (pos 1) f) (int_le (pos 1) c) a.0 in
         lies_at f c b.0 b.1 a.1
 
-    by_test : (b : Bool) → b ≡ false → (b || (int_le (pos 1) first && int_le (pos 1) count && int_le (first +ℤ count) (pos (n + 1)))) ≡ true → (0 < unsigned_abs first) × (unsigned_abs first - 1 + unsigned_abs count ≤ n)
+    by_test : (b : Bool) → b ≡ false → (b || (int_le (pos 1) first && int_le (pos 1) count && int_le (first +ℤ count) (pos (n + 1)))) ≡ true →
+        (0 < unsigned_abs first) × (unsigned_abs first - 1 + unsigned_abs count ≤ n)
     by_test true e k = absurd (let no : true ≡ false = e in cc)
     by_test false e k = lies first count k

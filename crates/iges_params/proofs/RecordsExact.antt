@@ -1,5 +1,6 @@
 -- The records are read as they are defined, and so is the first fault among them.
-use Rattle.std.proofs.Common.{◌≡◌, inl, inr, ℕ, zero, suc, ◌+◌, ◌*◌, ◌<◌, Bool, true, false, not, List, [], ◌∷◌, length, ℤ, pos, Option, Some, None, Result, Ok, Err, refl, sym, ap, subst, ◌∙◌, zero-add, arith}
+use Rattle.std.proofs.Common.{◌≡◌, inl, inr, ℕ, zero, suc, ◌+◌, ◌*◌, ◌<◌, Bool, true, false, not, List, [], ◌∷◌, length, ℤ, pos, Option, Some, None, Result}
+use Rattle.std.proofs.Common.{Ok, Err, refl, sym, ap, subst, ◌∙◌, zero-add, arith}
 use Rattle.std.specs.Prelude.{MatchBool, slice_get, unsigned_abs}
 use Rattle.std.specs.List.{AllZip, list_all, position_from}
 use Rattle.std.specs.Ordering.{int_eq}
@@ -31,7 +32,8 @@ module _ {X : Type 0} (p : X → Bool) where
   none_all i (x ∷ xs) e =
       elim (cases_Bool (not (p x))) [
         | inl t ↦ let no : Some i ≡ None = sym (cond-true (not (p x)) (Some i) (position_from (λ y. not (p y)) (i + 1) xs) t) ∙ e in absurd cc
-        | inr t ↦ and_from (p x) (list_all p xs) (not-false _ t) (none_all (i + 1) xs (sym (cond-false (not (p x)) (Some i) (position_from (λ y. not (p y)) (i + 1) xs) t) ∙ e))
+        | inr t ↦ and_from (p x) (list_all p xs) (not-false _ t)
+            (none_all (i + 1) xs (sym (cond-false (not (p x)) (Some i) (position_from (λ y. not (p y)) (i + 1) xs) t) ∙ e))
       ]
 
   all_none : (i : ℕ) (xs : List X) → list_all p xs ≡ true → position_from (λ x. not (p x)) i xs ≡ None
@@ -90,7 +92,12 @@ module _ (above : ℕ) (params : List (List ℕ)) (d : Delims) (ok : are_permitt
       by_read : list_all (points_back number) (record_lines params p) ≡ true → (r : Result (List Value × ℕ) FieldFault) → read_values d text ≡ r
           → (at_line first 64 text 0 RecordValue r >>= λ x. without_type first p.entry.kind x.0) ≡ Ok values → IsRecord params d number p values
       by_read all (Ok x) is e =
-          record { pointers = all; used = x.1; text = subst (λ (vs : List Value). FreeText d text vs x.1) (type_ok x.0 values e) (read_values-FreeText d ok text x is) }
+          record {
+            pointers = all;
+            used = x.1;
+            text = subst (λ (vs : List Value). FreeText d text vs x.1) (type_ok x.0 values e)
+                (read_values-FreeText d ok text x is);
+          }
       by_read all (Err f) is e = absurd (clash (value_fault f) values e)
 
       by_line : (o : Option ℕ) → bad_line ≡ o → values_unless params d first p o ≡ Ok values → IsRecord params d number p values
@@ -100,7 +107,8 @@ module _ (above : ℕ) (params : List (List ℕ)) (d : Delims) (ok : are_permitt
   ok_values : (values : List Value) → IsRecord params d number p values → values_unless params d first p bad_line ≡ Ok values
   ok_values values r =
       ap (values_unless params d first p) (all_none (points_back number) 0 (record_lines params p) r.pointers)
-      ∙ ap (λ (x : Result (List Value × ℕ) FieldFault). at_line first 64 text 0 RecordValue x >>= λ y. without_type first p.entry.kind y.0) (FreeText-read_values d ok text (value.Int p.entry.kind ∷ values) r.used r.text)
+      ∙ ap (λ (x : Result (List Value × ℕ) FieldFault). at_line first 64 text 0 RecordValue x >>= λ y. without_type first p.entry.kind y.0)
+      (FreeText-read_values d ok text (value.Int p.entry.kind ∷ values) r.used r.text)
       ∙ cond-true (is_number p.entry.kind (value.Int p.entry.kind)) _ _ ((signed_Decides p.entry.kind p.entry.kind).1 refl)
 
   -- a fault of the record, in one of its lines
@@ -113,33 +121,39 @@ module _ (above : ℕ) (params : List (List ℕ)) (d : Delims) (ok : are_permitt
   values_err : (f : LineFault) → values_unless params d first p bad_line ≡ Err f → Faulty f
   values_err f e = by_line bad_line refl e
     where
-      by_type : list_all (points_back number) (record_lines params p) ≡ true → (vs : List Value) (used : ℕ) → FreeText d text vs used → without_type first p.entry.kind vs ≡ Err f → Faulty f
+      by_type : list_all (points_back number) (record_lines params p) ≡ true → (vs : List Value) (used : ℕ) → FreeText d text vs used →
+          without_type first p.entry.kind vs ≡ Err f → Faulty f
       by_type all [] used t e = absurd (no_values d text used t)
       by_type all (v ∷ vs) used t e =
           elim (cases_Bool (is_number p.entry.kind v)) [
             | inl yes' ↦ absurd (clash f vs (sym e ∙ cond-true (is_number p.entry.kind v) _ _ yes'))
-            | inr no' ↦ faulty_as f type_fault (err_is {X = List Value} f type_fault (sym e ∙ cond-false (is_number p.entry.kind v) _ _ no')) (0, (all, v, vs, used, t, no', refl), omega arith)
+            | inr no' ↦ faulty_as f type_fault (err_is {X = List Value} f type_fault (sym e ∙ cond-false (is_number p.entry.kind v) _ _ no'))
+                (0, (all, v, vs, used, t, no', refl), omega arith)
           ]
 
       by_read : list_all (points_back number) (record_lines params p) ≡ true → (r : Result (List Value × ℕ) FieldFault) → read_values d text ≡ r
           → (at_line first 64 text 0 RecordValue r >>= λ x. without_type first p.entry.kind x.0) ≡ Err f → Faulty f
       by_read all (Ok x) is e = by_type all x.0 x.1 (read_values-FreeText d ok text x is) e
       by_read all (Err g) is e =
-          faulty_as f (value_fault g) (err_is {X = List Value} f (value_fault g) (sym e)) (line_of_byte 64 text (0 + g.at), (all, g, read_values-IsFieldFault d ok text g is, ap (line_of_byte 64 text) (zero-add g.at)), refl)
+          faulty_as f (value_fault g) (err_is {X = List Value} f (value_fault g) (sym e))
+          (line_of_byte 64 text (0 + g.at), (all, g, read_values-IsFieldFault d ok text g is, ap (line_of_byte 64 text) (zero-add g.at)), refl)
 
       by_line : (o : Option ℕ) → bad_line ≡ o → values_unless params d first p o ≡ Err f → Faulty f
       by_line (Some line) is e = faulty_as f (record { line = first + line; reason = BackPointer }) (err_is {X = List Value} f _ (sym e)) (line, is, refl)
       by_line None is e = by_read (none_all (points_back number) 0 (record_lines params p) is) (read_values d text) refl e
 
-  err_values : (reason : Reason) (line : ℕ) → RecordFault params d number p reason line → values_unless params d first p bad_line ≡ Err (record { line = first + line; reason = reason })
+  err_values : (reason : Reason) (line : ℕ) → RecordFault params d number p reason line →
+      values_unless params d first p bad_line ≡ Err (record { line = first + line; reason = reason })
   err_values BackPointer line h = ap (values_unless params d first p) h
   err_values RecordValue line h =
       ap (values_unless params d first p) (all_none (points_back number) 0 (record_lines params p) h.0)
-      ∙ ap (λ (x : Result (List Value × ℕ) FieldFault). at_line first 64 text 0 RecordValue x >>= λ y. without_type first p.entry.kind y.0) (IsFieldFault-read_values d ok text h.1 h.2)
+      ∙ ap (λ (x : Result (List Value × ℕ) FieldFault). at_line first 64 text 0 RecordValue x >>= λ y. without_type first p.entry.kind y.0)
+      (IsFieldFault-read_values d ok text h.1 h.2)
       ∙ ap (λ (n : ℕ). failed {X = List Value} (record { line = first + n; reason = RecordValue })) (ap (line_of_byte 64 text) (zero-add h.1.at) ∙ sym h.3)
   err_values RecordType line h =
       ap (values_unless params d first p) (all_none (points_back number) 0 (record_lines params p) h.0)
-      ∙ ap (λ (x : Result (List Value × ℕ) FieldFault). at_line first 64 text 0 RecordValue x >>= λ y. without_type first p.entry.kind y.0) (FreeText-read_values d ok text (h.1 ∷ h.2) h.3 h.4)
+      ∙ ap (λ (x : Result (List Value × ℕ) FieldFault). at_line first 64 text 0 RecordValue x >>= λ y. without_type first p.entry.kind y.0)
+      (FreeText-read_values d ok text (h.1 ∷ h.2) h.3 h.4)
       ∙ cond-false (is_number p.entry.kind h.1) _ _ h.5
       ∙ ap (λ (n : ℕ). failed {X = List Value} (record { line = n; reason = RecordType })) (omega (arith, h.6))
   err_values _ line h = absurd h
@@ -150,8 +164,10 @@ module _ (above : ℕ) (params : List (List ℕ)) (d : Delims) (ok : are_permitt
   unfolding read_record
   read_record-HasRecord values e =
       elim (cases_Bool (int_eq p.entry.kind (pos 0))) [
-        | inl t ↦ subst (λ (b : Bool). MatchBool b (values ≡ []) (IsRecord params d number p values)) (sym t) (ok_is values [] (sym e ∙ cond-true (int_eq p.entry.kind (pos 0)) _ _ t))
-        | inr t ↦ subst (λ (b : Bool). MatchBool b (values ≡ []) (IsRecord params d number p values)) (sym t) (values_ok values (sym (cond-false (int_eq p.entry.kind (pos 0)) _ _ t) ∙ e))
+        | inl t ↦ subst (λ (b : Bool). MatchBool b (values ≡ []) (IsRecord params d number p values)) (sym t)
+            (ok_is values [] (sym e ∙ cond-true (int_eq p.entry.kind (pos 0)) _ _ t))
+        | inr t ↦ subst (λ (b : Bool). MatchBool b (values ≡ []) (IsRecord params d number p values)) (sym t)
+            (values_ok values (sym (cond-false (int_eq p.entry.kind (pos 0)) _ _ t) ∙ e))
       ]
 
   pub HasRecord-read_record : (values : List Value) → HasRecord params d number p values → read_record above params d number p ≡ Ok values
@@ -161,7 +177,8 @@ module _ (above : ℕ) (params : List (List ℕ)) (d : Delims) (ok : are_permitt
         | inl t ↦
             let none : values ≡ [] = subst (λ (b : Bool). MatchBool b (values ≡ []) (IsRecord params d number p values)) t h in
             cond-true (int_eq p.entry.kind (pos 0)) _ _ t ∙ ap (λ (vs : List Value). done vs) (sym none)
-        | inr t ↦ cond-false (int_eq p.entry.kind (pos 0)) _ _ t ∙ ok_values values (subst (λ (b : Bool). MatchBool b (values ≡ []) (IsRecord params d number p values)) t h)
+        | inr t ↦ cond-false (int_eq p.entry.kind (pos 0)) _ _ t ∙ ok_values values
+            (subst (λ (b : Bool). MatchBool b (values ≡ []) (IsRecord params d number p values)) t h)
       ]
 
   pub read_record-Faulty : (f : LineFault) → read_record above params d number p ≡ Err f → (int_eq p.entry.kind (pos 0) ≡ false) × Faulty f
@@ -175,7 +192,8 @@ module _ (above : ℕ) (params : List (List ℕ)) (d : Delims) (ok : are_permitt
   pub Faulty-read_record : (f : LineFault) → int_eq p.entry.kind (pos 0) ≡ false → Faulty f → read_record above params d number p ≡ Err f
   unfolding read_record
   Faulty-read_record f t h =
-      cond-false (int_eq p.entry.kind (pos 0)) _ _ t ∙ err_values f.reason h.0 h.1 ∙ ap (λ (n : ℕ). failed {X = List Value} (record { line = n; reason = f.reason })) (sym h.2)
+      cond-false (int_eq p.entry.kind (pos 0)) _ _ t ∙ err_values f.reason h.0 h.1 ∙ ap
+      (λ (n : ℕ). failed {X = List Value} (record { line = n; reason = f.reason })) (sym h.2)
 
 -- ---- all entries
 
@@ -183,22 +201,26 @@ module _ (above : ℕ) (params : List (List ℕ)) (d : Delims) (ok : are_permitt
   cons : Placed → List Value → List (Entry × List Value) → Read (List (Entry × List Value))
   cons p values others = Ok ((p.entry, values) ∷ others)
 
-  pub read_records-AreRecords : (ps : List Placed) (number : ℕ) (es : List (Entry × List Value)) → read_records above params d number ps ≡ Ok es → AreRecords params d number ps es
+  pub read_records-AreRecords : (ps : List Placed) (number : ℕ) (es : List (Entry × List Value)) → read_records above params d number ps ≡ Ok es →
+      AreRecords params d number ps es
   unfolding read_records
   read_records-AreRecords [] number es e = subst (λ (x : List (Entry × List Value)). AreRecords params d number [] x) (ok_is [] es e) tt
   read_records-AreRecords (p ∷ ps) number es e =
-      let a = bind_ok (read_record above params d number p) (λ values. read_records above params d (number + 2) ps >>= λ others. Ok ((p.entry, values) ∷ others)) es e in
+      let a = bind_ok (read_record above params d number p) (λ values. read_records above params d (number + 2) ps >>= λ others. Ok
+      ((p.entry, values) ∷ others)) es e in
       let b = bind_ok (read_records above params d (number + 2) ps) (λ others. Ok ((p.entry, a.0) ∷ others)) es a.2 in
       subst (λ (x : List (Entry × List Value)). AreRecords params d number (p ∷ ps) x) (ok_is ((p.entry, a.0) ∷ b.0) es b.2)
       (refl, read_record-HasRecord above params d ok number p a.0 a.1, read_records-AreRecords ps (number + 2) b.0 b.1)
 
-  pub AreRecords-read_records : (ps : List Placed) (number : ℕ) (es : List (Entry × List Value)) → AreRecords params d number ps es → read_records above params d number ps ≡ Ok es
+  pub AreRecords-read_records : (ps : List Placed) (number : ℕ) (es : List (Entry × List Value)) → AreRecords params d number ps es →
+      read_records above params d number ps ≡ Ok es
   unfolding read_records
   AreRecords-read_records [] number [] h = refl
   AreRecords-read_records [] number (e ∷ es) h = absurd h
   AreRecords-read_records (p ∷ ps) number [] h = absurd h
   AreRecords-read_records (p ∷ ps) number (e ∷ es) h =
-      ap (λ (r : Read (List Value)). r >>= λ values. read_records above params d (number + 2) ps >>= λ others. Ok ((p.entry, values) ∷ others)) (HasRecord-read_record above params d ok number p e.1 h.1)
+      ap (λ (r : Read (List Value)). r >>= λ values. read_records above params d (number + 2) ps >>= λ others. Ok ((p.entry, values) ∷ others))
+      (HasRecord-read_record above params d ok number p e.1 h.1)
       ∙ ap (λ (r : Read (List (Entry × List Value))). r >>= λ others. Ok ((p.entry, e.1) ∷ others)) (AreRecords-read_records ps (number + 2) es h.2)
       ∙ ap (λ (x : Entry). done {X = List (Entry × List Value)} ((x, e.1) ∷ es)) (sym h.0)
 
@@ -217,7 +239,8 @@ module _ (above : ℕ) (params : List (List ℕ)) (d : Delims) (ok : are_permitt
   unfolding read_records
   read_records-FirstFaulty [] number f e = absurd (clash {X = List (Entry × List Value)} f [] (sym e))
   read_records-FirstFaulty (p ∷ ps) number f e =
-      elim (bind_err (read_record above params d number p) (λ values. read_records above params d (number + 2) ps >>= λ others. Ok ((p.entry, values) ∷ others)) f e) [
+      elim (bind_err (read_record above params d number p) (λ values. read_records above params d (number + 2) ps >>= λ others. Ok ((p.entry, values) ∷ others))
+      f e) [
         | inl a ↦
             let t = read_record-Faulty above params d ok number p f a in
             record {
@@ -251,12 +274,16 @@ module _ (above : ℕ) (params : List (List ℕ)) (d : Delims) (ok : are_permitt
       earlier : (p : Placed) (ps : List Placed) (number : ℕ) (values : List Value) → HasRecord params d number p values → (place : ℕ)
           → ((i : ℕ) (q : Placed) → i < place → slice_get ps i ≡ Some q → (vs : List Value) × HasRecord params d (2 * i + (number + 2)) q vs)
           → (i : ℕ) (q : Placed) → i < suc place → slice_get (p ∷ ps) i ≡ Some q → (vs : List Value) × HasRecord params d (2 * i + number) q vs
-      earlier p ps number values h place more zero q lt is =
-          (values, subst (λ (x : Placed). HasRecord params d (2 * 0 + number) x values) (same_Some p q is) (subst (λ (n : ℕ). HasRecord params d n p values) (omega arith) h))
+      earlier p ps number values h place more zero q lt is = (
+        values,
+        subst (λ (x : Placed). HasRecord params d (2 * 0 + number) x values) (same_Some p q is)
+            (subst (λ (n : ℕ). HasRecord params d n p values) (omega arith) h),
+      )
       earlier p ps number values h place more (suc i) q lt is =
           let m = more i q (omega arith) is in (m.0, subst (λ (n : ℕ). HasRecord params d n q m.0) (omega arith) m.1)
 
-  fault_read : (ps : List Placed) (number place : ℕ) (entry : Placed) (line : ℕ) (f : LineFault) → slice_get ps place ≡ Some entry → int_eq entry.entry.kind (pos 0) ≡ false
+  fault_read : (ps : List Placed) (number place : ℕ) (entry : Placed) (line : ℕ) (f : LineFault) → slice_get ps place ≡ Some entry →
+      int_eq entry.entry.kind (pos 0) ≡ false
       → RecordFault params d (2 * place + number) entry f.reason line → f.line ≡ above + unsigned_abs entry.first + line
       → ((i : ℕ) (p : Placed) → i < place → slice_get ps i ≡ Some p → (values : List Value) × HasRecord params d (2 * i + number) p values)
       → read_records above params d number ps ≡ Err f
@@ -265,12 +292,15 @@ module _ (above : ℕ) (params : List (List ℕ)) (d : Delims) (ok : are_permitt
   fault_read (p ∷ ps) number zero entry line f is type here line_is before =
       let same : entry ≡ p = same_Some entry p (sym is) in
       let t : int_eq p.entry.kind (pos 0) ≡ false = subst (λ (x : Placed). int_eq x.entry.kind (pos 0) ≡ false) same type in
-      let h : RecordFault params d number p f.reason line = subst (λ (x : Placed). RecordFault params d number x f.reason line) same (subst (λ (n : ℕ). RecordFault params d n entry f.reason line) (omega arith) here) in
+      let h : RecordFault params d number p f.reason line = subst (λ (x : Placed). RecordFault params d number x f.reason line) same
+      (subst (λ (n : ℕ). RecordFault params d n entry f.reason line) (omega arith) here) in
       let l : f.line ≡ above + unsigned_abs p.first + line = subst (λ (x : Placed). f.line ≡ above + unsigned_abs x.first + line) same line_is in
-      ap (λ (r : Read (List Value)). r >>= λ values. read_records above params d (number + 2) ps >>= λ others. Ok ((p.entry, values) ∷ others)) (Faulty-read_record above params d ok number p f t (line, h, l))
+      ap (λ (r : Read (List Value)). r >>= λ values. read_records above params d (number + 2) ps >>= λ others. Ok ((p.entry, values) ∷ others))
+      (Faulty-read_record above params d ok number p f t (line, h, l))
   fault_read (p ∷ ps) number (suc place) entry line f is type here line_is before =
       let first = before 0 p (omega arith) refl in
-      let read : read_record above params d number p ≡ Ok first.0 = HasRecord-read_record above params d ok number p first.0 (subst (λ (n : ℕ). HasRecord params d n p first.0) (omega arith) first.1) in
+      let read : read_record above params d number p ≡ Ok first.0 =
+      HasRecord-read_record above params d ok number p first.0 (subst (λ (n : ℕ). HasRecord params d n p first.0) (omega arith) first.1) in
       let more : read_records above params d (number + 2) ps ≡ Err f =
       fault_read ps (number + 2) place entry line f is type (subst (λ (n : ℕ). RecordFault params d n entry f.reason line) (omega arith) here) line_is
       (λ i q lt e. let b = before (suc i) q (omega arith) e in (b.0, subst (λ (n : ℕ). HasRecord params d n q b.0) (omega arith) b.1)) in

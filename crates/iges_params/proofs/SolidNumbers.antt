@@ -11,16 +11,19 @@ use Rattle.iges_params.specs.Solids.{is_solid_at, is_solid_entry, numbers_of, so
 abbrev rest_from : Contents → ℕ → List ℕ
 rest_from f i = solids_from i (drop i f.entries)
 
-next_entry : (f : Contents) (i : ℕ) (b : Bool) → i < length f.entries → is_solid_at f i ≡ b → rest_from f i ≡ (if b then (2 * i + 1) ∷ rest_from f (i + 1) else rest_from f (i + 1))
+next_entry : (f : Contents) (i : ℕ) (b : Bool) → i < length f.entries → is_solid_at f i ≡ b →
+    rest_from f i ≡ (if b then (2 * i + 1) ∷ rest_from f (i + 1) else rest_from f (i + 1))
 next_entry f i b lt is =
     let e = some_at f.entries i lt in
     let test : int_eq e.0.0.kind (pos 186) ≡ b = ap is_solid_entry (sym e.1) ∙ is in
     ap (solids_from i) (open_at f.entries i e.0 e.1) ∙ ap (λ (t : Bool). if t then (2 * i + 1) ∷ rest_from f (i + 1) else rest_from f (i + 1)) test
 
-pub other_entry : (f : Contents) (i : ℕ) (list : List EntryNo) → i < length f.entries → is_solid_at f i ≡ false → numbers_of list ++ rest_from f (i + 1) ≡ numbers_of list ++ rest_from f i
+pub other_entry : (f : Contents) (i : ℕ) (list : List EntryNo) → i < length f.entries → is_solid_at f i ≡ false →
+    numbers_of list ++ rest_from f (i + 1) ≡ numbers_of list ++ rest_from f i
 other_entry f i list lt is = ap (λ (ns : List ℕ). numbers_of list ++ ns) (sym (next_entry f i false lt is))
 
-pub solid_entry : (f : Contents) (i : ℕ) (n : EntryNo) (old new : List EntryNo) → i < length f.entries → is_solid_at f i ≡ true → n.0 ≡ 2 * i + 1 → new ≡ old ++ n ∷ []
+pub solid_entry : (f : Contents) (i : ℕ) (n : EntryNo) (old new : List EntryNo) → i < length f.entries → is_solid_at f i ≡ true → n.0 ≡ 2 * i + 1 →
+    new ≡ old ++ n ∷ []
     → numbers_of new ++ rest_from f (i + 1) ≡ numbers_of old ++ rest_from f i
 solid_entry f i n old new lt is number grown =
     let rest : List ℕ = rest_from f (i + 1) in

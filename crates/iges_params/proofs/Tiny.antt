@@ -29,7 +29,14 @@ by_grammar = record {
   placed = placed ∷ [];
   sectioned = sectioned;
   start = refl;
-  global = record { start = record { delims = record { param = 44; end = 59 }; values = None }; head_is = refl; delims = refl; values = refl; kinds_fit = refl };
+  global = record {
+    start = record { delims = record { param = 44; end = 59 }; values = None };
+    head_is = refl;
+    delims = refl;
+    values = refl;
+    kinds_fit =
+        refl;
+  };
   directory = entries;
   records = (
     refl,
@@ -39,7 +46,13 @@ by_grammar = record {
       text = record {
         items = codes "186" ∷ codes "0" ∷ codes "1" ∷ codes "0" ∷ [];
         rest = replicate 54 32;
-        each = ((0, 0, codes "186", (refl, refl), refl), ((0, 0, codes "0", (refl, refl), refl), ((0, 0, codes "1", (refl, refl), refl), ((0, 0, codes "0", (refl, refl), refl), tt))));
+        each = (
+          (0, 0, codes "186", (refl, refl), refl),
+          (
+            (0, 0, codes "0", (refl, refl), refl),
+            ((0, 0, codes "1", (refl, refl), refl), ((0, 0, codes "0", (refl, refl), refl), tt)),
+          ),
+        );
         parts = refl;
         length_is = refl;
         some = search arith;
@@ -55,7 +68,8 @@ alike_delimiters : read_file (text_of (s1 ∷ (codes "1H,,1H,," ++ drop 8 g1) �
 unfolding read_file read_lines read_sections first_from read_global read_directory read_records read_record read_values values_from
 alike_delimiters = refl
 
-points_elsewhere : read_file (text_of (s1 ∷ g1 ∷ d1 ∷ d2 ∷ (take 65 p1 ++ codes "      3" ++ drop 72 p1) ∷ t1 ∷ [])) ≡ Err (record { line = 5; reason = BackPointer })
+points_elsewhere : read_file (text_of (s1 ∷ g1 ∷ d1 ∷ d2 ∷ (take 65 p1 ++ codes "      3" ++ drop 72 p1) ∷ t1 ∷ [])) ≡ Err
+    (record { line = 5; reason = BackPointer })
 unfolding read_file read_lines read_sections first_from read_global read_directory read_records read_record read_values values_from
 points_elsewhere = refl
 

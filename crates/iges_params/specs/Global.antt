@@ -1,5 +1,6 @@
 -- The text of the global: how its delimiters are named, and the kinds of its values.
-use Rattle.std.specs.Prelude.{◌≡◌, ℕ, ◌+◌, ◌-◌, ◌/◌, min, Bool, true, false, ◌&&◌, nat_eq, nat_lt, List, [], ◌∷◌, length, drop, Option, Some, None, IsTrue, IsFalse, if◌then◌else◌, slice_index, flat_map, zip, codes}
+use Rattle.std.specs.Prelude.{◌≡◌, ℕ, ◌+◌, ◌-◌, ◌/◌, min, Bool, true, false, ◌&&◌, nat_eq, nat_lt, List, [], ◌∷◌, length, drop, Option, Some, None, IsTrue}
+use Rattle.std.specs.Prelude.{IsFalse, if◌then◌else◌, slice_index, flat_map, zip, codes}
 use Rattle.std.specs.List.{list_all, starts_with}
 use Rattle.iges_fields.specs.declared.value.Value.{Value}
 use Rattle.iges_fields.specs.declared.value.Value.TheVariants as value
@@ -106,5 +107,6 @@ GlobalFault s GlobalValue line =
     (h : Head) × (rest : List ℕ) × (fault : FieldFault) × (head (global_text s) ≡ Some h) × (h.values ≡ Some rest) × IsFieldFault h.delims rest fault
     × (line ≡ length s.start + 1 + line_of_byte 72 (global_text s) (length (global_text s) - length rest + fault.at))
 GlobalFault s GlobalKind line =
-    (h : Head) × (values : List Value) × (head (global_text s) ≡ Some h) × HasValues h.delims h.values values × IsFalse (have_kinds values) × (line ≡ length s.start + 1)
+    (h : Head) × (values : List Value) × (head (global_text s) ≡ Some h) × HasValues h.delims h.values values × IsFalse (have_kinds values) ×
+    (line ≡ length s.start + 1)
 GlobalFault s _ line = ⊥

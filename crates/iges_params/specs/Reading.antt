@@ -72,7 +72,8 @@ above s = length s.start + length s.global + length s.directory
 
 -- the same, for an entry that isn't of type 0
 unfoldable pub used_values : ℕ → List (List ℕ) → Delims → ℕ → Placed → Result (List Value) LineFault
-used_values above params d number p = values_unless params d (above + unsigned_abs p.first) p (position_from (λ l. not (points_back number l)) 0 (record_lines params p))
+used_values above params d number p = values_unless params d (above + unsigned_abs p.first) p
+    (position_from (λ l. not (points_back number l)) 0 (record_lines params p))
 
 unfoldable pub read_records : ℕ → List (List ℕ) → Delims → ℕ → List Placed → Result (List (Entry × List Value)) LineFault
 read_records above params d number [] = Ok []

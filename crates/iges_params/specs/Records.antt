@@ -1,5 +1,6 @@
 -- The record of an entry: its P lines and their values.
-use Rattle.std.specs.Prelude.{◌≡◌, ℕ, ◌+◌, ◌-◌, ◌*◌, ◌<◌, Bool, false, not, List, [], ◌∷◌, length, ℤ, pos, unsigned_abs, Some, IsTrue, IsFalse, MatchBool, slice_get, slice_range, flat_map}
+use Rattle.std.specs.Prelude.{◌≡◌, ℕ, ◌+◌, ◌-◌, ◌*◌, ◌<◌, Bool, false, not, List, [], ◌∷◌, length, ℤ, pos, unsigned_abs, Some, IsTrue, IsFalse, MatchBool}
+use Rattle.std.specs.Prelude.{slice_get, slice_range, flat_map}
 use Rattle.std.specs.List.{list_all, position_from}
 use Rattle.std.specs.Ordering.{int_eq}
 use Rattle.iges_fields.specs.declared.value.Value.{Value}
@@ -57,7 +58,8 @@ RecordFault params d number p RecordValue line =
     × (fault : FieldFault) × IsFieldFault d (record_text params p) fault × (line ≡ line_of_byte 64 (record_text params p) fault.at)
 RecordFault params d number p RecordType line =
     IsTrue (list_all (points_back number) (record_lines params p))
-    × (first : Value) × (values : List Value) × (used : ℕ) × FreeText d (record_text params p) (first ∷ values) used × IsFalse (is_number p.entry.kind first) × (line ≡ 0)
+    × (first : Value) × (values : List Value) × (used : ℕ) × FreeText d (record_text params p) (first ∷ values) used × IsFalse (is_number p.entry.kind first) ×
+    (line ≡ 0)
 RecordFault params d number p _ line = ⊥
 
 -- the first entry whose record fails, and the first of its faults

@@ -249,7 +249,8 @@ pub fn command_in(words: &[String]) -> Option<Command>
     Some(form.kind.command(form.number(words).unwrap_or(0)))
 }
 
-/// The word in the first slot for such of the form that the words have; None where they have none.
+/// The first word that stands for an operand of this kind, as the form of the words has it. None where the words have no
+/// listed form, or their form has no such operand.
 pub fn named_in<'a>(what: Operand, words: &'a [String]) -> Option<&'a str>
     ensures { MatchOption result (named what (map string_bytes words.now) ≡ None)
         (λ word. named what (map string_bytes words.now) ≡ Some word.now) }

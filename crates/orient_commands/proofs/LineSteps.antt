@@ -85,8 +85,10 @@ rest_first s text = record { whole = λ w. w; bad = λ bad b. b }
 
 pub rest_next : (s : SolidData) (text rest after : List ℕ) (i j : ℕ) → j ≡ i + 1 → IsRestOf s text i rest → FitsFirst s i rest after → IsRestOf s text j after
 rest_next s text rest after i j e of fit = record {
-  whole = λ w. of.whole (subst (AreWhole s i) (sym fit.cut) (whole_on s i fit.line (cut_lines after) fit.fits (subst (λ k. AreWhole s k (cut_lines after)) e w)));
-  bad = λ bad b. of.bad bad (subst (λ ls. IsFirstBad s i ls bad) (sym fit.cut) (bad_on s i fit.line (cut_lines after) bad fit.fits (subst (λ k. IsFirstBad s k (cut_lines after) bad) e b)));
+  whole = λ w. of.whole (subst (AreWhole s i) (sym fit.cut) (whole_on s i fit.line (cut_lines after) fit.fits
+      (subst (λ k. AreWhole s k (cut_lines after)) e w)));
+  bad = λ bad b. of.bad bad (subst (λ ls. IsFirstBad s i ls bad) (sym fit.cut)
+      (bad_on s i fit.line (cut_lines after) bad fit.fits (subst (λ k. IsFirstBad s k (cut_lines after) bad) e b)));
 }
 
 pub rest_fault : (s : SolidData) (text rest : List ℕ) (i : ℕ) (e : TextFault) → IsRestOf s text i rest → IsTextFault (IsFirstBad s i (cut_lines rest)) e

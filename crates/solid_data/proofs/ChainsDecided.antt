@@ -33,7 +33,8 @@ from_last : (R : ℕ → ℕ → Type 0) (k b : ℕ) → Passes R (suc k) k b �
 from_last R k b (inl p) = p
 from_last R k b (inr (p, q)) = q
 
-through_below : (R : ℕ → ℕ → Type 0) (k c a b : ℕ) → ((x y : ℕ) → Passes R k x c → Passes R k c y → Passes R k x y) → Passes R (suc k) a c → Passes R (suc k) c b → Passes R (suc k) a b
+through_below : (R : ℕ → ℕ → Type 0) (k c a b : ℕ) → ((x y : ℕ) → Passes R k x c → Passes R k c y → Passes R k x y) → Passes R (suc k) a c →
+    Passes R (suc k) c b → Passes R (suc k) a b
 through_below R k c a b join (inl p) (inl q) = inl (join a b p q)
 through_below R k c a b join (inl p) (inr (q, r)) = inr (join a k p q, r)
 through_below R k c a b join (inr (p, q)) (inl r) = inr (p, join k b q r)
@@ -44,12 +45,15 @@ passes_through : (R : ℕ → ℕ → Type 0) (k c a b : ℕ) → c < k → Pass
 passes_through R zero c a b lt p q = absurd (omega (arith, lt))
 passes_through R (suc k) c a b lt p q =
     ⊎_elim (λ e. inr (to_last R k a (subst (Passes R (suc k) a) e p), from_last R k b (subst (λ x. Passes R (suc k) x b) e q)))
-    (λ other. ⊎_elim (λ below. through_below R k c a b (λ x y first then_on. passes_through R k c x y below first then_on) p q) (λ above. absurd (omega (arith, lt, above))) other)
+    (λ other. ⊎_elim (λ below. through_below R k c a b (λ x y first then_on. passes_through R k c x y below first then_on) p q)
+    (λ above. absurd (omega (arith, lt, above))) other)
     (cases_order c k)
 
 steps_pass : (R : ℕ → ℕ → Type 0) (bound : ℕ) → ((x y : ℕ) → R x y → y < bound) → (n a b : ℕ) → Steps R n a b → Passes R bound a b
 steps_pass R bound below zero a b e = passes_more R bound a b (inl e)
-steps_pass R bound below (suc n) a b (c, r, rest) = passes_through R bound c a b (below a c r) (passes_more R bound a c (inr r)) (steps_pass R bound below n c b rest)
+steps_pass R bound below (suc n) a b (c, r, rest) = passes_through R bound c a b (below a c r) (passes_more R bound a c (inr r))
+    (steps_pass R bound below n c b rest)
 
 pub leads_decided : (R : ℕ → ℕ → Type 0) → ((a b : ℕ) → Decided (R a b)) → (bound : ℕ) → ((x y : ℕ) → R x y → y < bound) → (a b : ℕ) → Decided (LeadsTo R a b)
-leads_decided R each bound below a b = decided_alike (λ p. passes_lead R bound a b p) (λ (n, steps). steps_pass R bound below n a b steps) (passes_decided R each bound a b)
+leads_decided R each bound below a b = decided_alike (λ p. passes_lead R bound a b p) (λ (n, steps). steps_pass R bound below n a b steps)
+    (passes_decided R each bound a b)

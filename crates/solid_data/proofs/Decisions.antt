@@ -1,5 +1,6 @@
 -- Statements of which it can be told whether they hold.
-use Rattle.std.specs.Prelude.{◌≡◌, ℕ, ℤ, zero, suc, ◌+◌, ◌<◌, ◌≤◌, ◌⊎◌, Bool, true, false, List, [], ◌∷◌, length, Contains, Option, Some, None, IsSomeAnd, slice_get}
+use Rattle.std.specs.Prelude.{◌≡◌, ℕ, ℤ, zero, suc, ◌+◌, ◌<◌, ◌≤◌, ◌⊎◌, Bool, true, false, List, [], ◌∷◌, length, Contains, Option, Some, None, IsSomeAnd}
+use Rattle.std.specs.Prelude.{slice_get}
 use Rattle.std.specs.Bool.{Decides}
 use Rattle.std.specs.List.{AllByRecursion, AllZip}
 use Rattle.std.proofs.Common.{refl, sym, ◌∙◌, ap, subst, arith, inl, inr, ⊎_elim, get_or}
@@ -49,7 +50,8 @@ decided_both (inr never) q = inr (λ h. never h.0)
 
 pub decided_pair : (p q : ℕ × ℕ) → Decided (p ≡ q)
 decided_pair (a, b) (c, d) =
-    decided_alike (λ (e : (a ≡ c) × (b ≡ d)). ap (λ (z : ℕ). (z, b)) e.0 ∙ ap (λ (z : ℕ). (c, z)) e.1) (λ (e : ◌≡◌ {A = ℕ × ℕ} (a, b) (c, d)). (ap (λ (z : ℕ × ℕ). z.0) e, ap (λ (z : ℕ × ℕ). z.1) e)) (decided_both (decided_same a c) (decided_same b d))
+    decided_alike (λ (e : (a ≡ c) × (b ≡ d)). ap (λ (z : ℕ). (z, b)) e.0 ∙ ap (λ (z : ℕ). (c, z)) e.1)
+    (λ (e : ◌≡◌ {A = ℕ × ℕ} (a, b) (c, d)). (ap (λ (z : ℕ × ℕ). z.0) e, ap (λ (z : ℕ × ℕ). z.1) e)) (decided_both (decided_same a c) (decided_same b d))
 
 pub decided_three : {P Q R : Type 0} → Decided P → Decided Q → Decided R → Decided (P × Q × R)
 decided_three p q r = decided_alike (λ (x, (y, z)). (x, y, z)) (λ (x, y, z). (x, (y, z))) (decided_both p (decided_both q r))
@@ -88,7 +90,8 @@ decided_bounded P each (suc bound) = by_last (each bound) (decided_bounded P eac
     by_last : Decided (P bound) → Decided ((n : ℕ) × (n < bound) × P n) → Decided ((n : ℕ) × (n < suc bound) × P n)
     by_last (inl p) below = inl (bound, omega arith, p)
     by_last (inr never) (inl (n, lt, p)) = inl (n, omega (arith, lt), p)
-    by_last (inr never) (inr none) = inr (λ (n, lt, p). ⊎_elim (λ e. never (subst P e p)) (λ other. none (n, ⊎_elim (λ below. below) (λ above. absurd (omega (arith, lt, above))) other, p)) (cases_order n bound))
+    by_last (inr never) (inr none) = inr (λ (n, lt, p). ⊎_elim (λ e. never (subst P e p))
+        (λ other. none (n, ⊎_elim (λ below. below) (λ above. absurd (omega (arith, lt, above))) other, p)) (cases_order n bound))
 
 -- whether all numbers below a bound are such
 pub decided_each : (P : ℕ → Type 0) → ((n : ℕ) → Decided (P n)) → (bound : ℕ) → Decided ((n : ℕ) → n < bound → P n)
@@ -126,7 +129,8 @@ pub decided_contains : {A : Type 0} → ((x y : A) → Decided (x ≡ y)) → (x
 decided_contains same xs x = decided_bounded (λ i. get_or xs i x ≡ x) (λ i. same (get_or xs i x) x) (length xs)
 
 -- whether a list of at most so many numbers below a bound is such
-pub decided_list : (P : List ℕ → Type 0) → ((ns : List ℕ) → Decided (P ns)) → (bound len : ℕ) → Decided ((ns : List ℕ) × (length ns ≤ len) × AllByRecursion (λ n. n < bound) ns × P ns)
+pub decided_list : (P : List ℕ → Type 0) → ((ns : List ℕ) → Decided (P ns)) → (bound len : ℕ) →
+    Decided ((ns : List ℕ) × (length ns ≤ len) × AllByRecursion (λ n. n < bound) ns × P ns)
 decided_list P each bound zero = by_none (each [])
   where
     without : (ns : List ℕ) → length ns ≤ 0 → P ns → P []
@@ -145,7 +149,8 @@ decided_list P each bound (suc len) = by_first (each []) (decided_bounded Later 
     neither never none [] few below p = never p
     neither never none (n ∷ ns) few below p = none (n, below.0, (ns, omega (arith, few), below.1, p))
 
-    by_first : Decided (P []) → Decided ((n : ℕ) × (n < bound) × Later n) → Decided ((ns : List ℕ) × (length ns ≤ suc len) × AllByRecursion (λ n. n < bound) ns × P ns)
+    by_first : Decided (P []) → Decided ((n : ℕ) × (n < bound) × Later n) →
+        Decided ((ns : List ℕ) × (length ns ≤ suc len) × AllByRecursion (λ n. n < bound) ns × P ns)
     by_first (inl p) later = inl ([], omega arith, tt, p)
     by_first (inr never) (inl (n, lt, (ns, few, below, p))) = inl (n ∷ ns, omega (arith, few), (lt, below), p)
     by_first (inr never) (inr none) = inr (λ (ns, few, below, p). neither never none ns few below p)

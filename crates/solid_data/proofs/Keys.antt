@@ -39,7 +39,8 @@ from_distinct same (x ∷ xs) k (inr h) = inr (from_distinct same xs k (from_fil
 
 pub place_below : {A : Type 0} (same : A → A → Bool) → ((a : A) → same a a ≡ true) → (xs : List A) (k : A) → Has xs k → place_of same xs k < length xs
 place_below same reflexive [] k h = absurd h
-place_below same reflexive (y ∷ xs) k (inl e) = subst (λ b. (if b then 0 else suc (place_of same xs k)) < length (y ∷ xs)) (sym (ap (same k) e ∙ reflexive k)) (omega arith)
+place_below same reflexive (y ∷ xs) k (inl e) = subst (λ b. (if b then 0 else suc (place_of same xs k)) < length (y ∷ xs)) (sym (ap (same k) e ∙ reflexive k))
+    (omega arith)
 place_below same reflexive (y ∷ xs) k (inr h) = by_test (same k y) (place_below same reflexive xs k h)
   where
     by_test : (b : Bool) → place_of same xs k < length xs → (if b then 0 else suc (place_of same xs k)) < length (y ∷ xs)
@@ -47,19 +48,23 @@ place_below same reflexive (y ∷ xs) k (inr h) = by_test (same k y) (place_belo
     by_test false lt = omega (arith, lt)
 
 -- the key stands at its place
-pub at_place : {A : Type 0} (same : A → A → Bool) → ((a b : A) → same a b ≡ true → a ≡ b) → ((a : A) → same a a ≡ true) → (keys : List A) (k : A) → Has keys k → slice_get keys (place_of same keys k) ≡ Some k
+pub at_place : {A : Type 0} (same : A → A → Bool) → ((a b : A) → same a b ≡ true → a ≡ b) → ((a : A) → same a a ≡ true) → (keys : List A) (k : A) → Has keys k →
+    slice_get keys (place_of same keys k) ≡ Some k
 at_place same sound itself [] k h = absurd h
 at_place same sound itself (y ∷ keys) k h = by_test (same k y) refl h (λ m. at_place same sound itself keys k m)
   where
     true_is_false : true ≡ false → ⊥
     true_is_false w = cc
 
-    by_test : (b : Bool) → same k y ≡ b → Has (y ∷ keys) k → (Has keys k → slice_get keys (place_of same keys k) ≡ Some k) → slice_get (y ∷ keys) (if b then 0 else suc (place_of same keys k)) ≡ Some k
+    by_test : (b : Bool) → same k y ≡ b → Has (y ∷ keys) k → (Has keys k → slice_get keys (place_of same keys k) ≡ Some k) →
+        slice_get (y ∷ keys) (if b then 0 else suc (place_of same keys k)) ≡ Some k
     by_test true e m on = ap Some (sym (sound k y e))
     by_test false e (inl is) on = absurd (true_is_false (sym (ap (same k) is ∙ itself k) ∙ e))
     by_test false e (inr m) on = on m
 
 -- keys with one place are one
-pub one_place : {A : Type 0} (same : A → A → Bool) → ((a b : A) → same a b ≡ true → a ≡ b) → ((a : A) → same a a ≡ true) → (keys : List A) (j k : A) → Has keys j → Has keys k
+pub one_place : {A : Type 0} (same : A → A → Bool) → ((a b : A) → same a b ≡ true → a ≡ b) → ((a : A) → same a a ≡ true) → (keys : List A) (j k : A) →
+    Has keys j → Has keys k
     → place_of same keys j ≡ place_of same keys k → j ≡ k
-one_place same sound itself keys j k h m e = same_Some j k (sym (at_place same sound itself keys j h) ∙ (ap (slice_get keys) e ∙ at_place same sound itself keys k m))
+one_place same sound itself keys j k h m e = same_Some j k (sym (at_place same sound itself keys j h) ∙
+    (ap (slice_get keys) e ∙ at_place same sound itself keys k m))

@@ -23,9 +23,11 @@ pub decided-of_each : {A : Type 0} (f : A → List Obligation) → ((x : A) → 
 decided-of_each f each [] = tt
 decided-of_each f each (x ∷ xs) = decided-append (f x) (of_each f xs) (each x) (decided-of_each f each xs)
 
-pub decided-after_each : {A : Type 0} (f : List A → A → List Obligation) → ((before : List A) (x : A) → AreDecided (f before x)) → (before xs : List A) → AreDecided (after_each f before xs)
+pub decided-after_each : {A : Type 0} (f : List A → A → List Obligation) → ((before : List A) (x : A) → AreDecided (f before x)) → (before xs : List A) →
+    AreDecided (after_each f before xs)
 decided-after_each f each before [] = tt
-decided-after_each f each before (x ∷ xs) = decided-append (f before x) (after_each f (before ++ x ∷ []) xs) (each before x) (decided-after_each f each (before ++ x ∷ []) xs)
+decided-after_each f each before (x ∷ xs) = decided-append (f before x) (after_each f (before ++ x ∷ []) xs) (each before x)
+    (decided-after_each f each (before ++ x ∷ []) xs)
 
 pub all_or_first_false : (os : List Obligation) → AreDecided os → AllHold os ⊎ ((x : Failing) × FirstFalse os x)
 all_or_first_false [] d = inl tt

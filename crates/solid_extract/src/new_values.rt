@@ -23,7 +23,7 @@ fn set_mark(marks: &mut Vec<bool>, place: usize)
     }
 }
 
-// Puts in place of all marks one for each of so many places, from 1: whether it is one of these.
+// Makes one mark for each of the first `count` places, counted from 1: true where the place is one of `places`.
 fn mark_places(marks: &mut Vec<bool>, places: &[usize], count: usize) -> Result<(), NoMemory>
     ensures { OnOk result (AreMarkedPlaces marks.new.items places.now count) }
 {

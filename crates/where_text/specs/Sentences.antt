@@ -34,5 +34,6 @@ reason_sentence reason.Delimiter = codes "  The global names no two good delimit
 reason_sentence reason.GlobalValue = codes "  A value of the global isn't spelled rightly; often a text whose count before\n  the H is wrong.\n"
 reason_sentence reason.GlobalKind = codes "  A value of the global is of another kind than is due.\n"
 reason_sentence reason.BackPointer = codes "  Columns 66 to 72 must hold the number of the entry that owns the line.\n"
-reason_sentence reason.RecordValue = codes "  A value of the record isn't spelled rightly: a text whose count before the H\n  is wrong, a number with a blank in it, or no record delimiter.\n"
+reason_sentence reason.RecordValue =
+    codes "  A value of the record isn't spelled rightly: a text whose count before the H\n  is wrong, a number with a blank in it, or no record delimiter.\n"
 reason_sentence reason.RecordType = codes "  The record doesn't begin with the type that its directory entry tells.\n"

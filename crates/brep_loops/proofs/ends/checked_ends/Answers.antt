@@ -3,7 +3,8 @@ use Rattle.brep_loops.proofs.Curves.{bad_count, with_curves, ends}
 use Rattle.brep_loops.proofs.ends.checked_ends.Goals as goal
 
 pub returns-in_default-optional_count : goal.returns-in_default-optional_count
-returns-in_default-optional_count c = bad_count c.args.values.now c.args.at c.in-Some.count_place c.in-Some.ensures.0 c.in-Some.ensures.1 c.in_default-optional_count.ensures
+returns-in_default-optional_count c = bad_count c.args.values.now c.args.at c.in-Some.count_place c.in-Some.ensures.0 c.in-Some.ensures.1
+    c.in_default-optional_count.ensures
 
 pub returns-in_default-after_curves : goal.returns-in_default-after_curves
 returns-in_default-after_curves c =

@@ -3,7 +3,10 @@ use Rattle.cert_lines.proofs.Digits.{none_spaced, begins_more}
 use Rattle.cert_lines.proofs.number.are_numbers.Goals as goal
 
 pub returns-in_default : goal.returns-in_default
-returns-in_default c = (λ t. (let f : false ≡ true = t in cc), λ spaced. absurd (none_spaced c.numbers.rest.now (search rules) c.in_default.ensures (c.numbers.invariant.1 spaced)))
+returns-in_default c = (
+  λ t. (let f : false ≡ true = t in cc),
+  λ spaced. absurd (none_spaced c.numbers.rest.now (search rules) c.in_default.ensures (c.numbers.invariant.1 spaced)),
+)
 
 pub numbers-preserved : goal.numbers-preserved
 numbers-preserved c =

@@ -12,5 +12,6 @@ overflow_add-value c = omega (arith, few_digits c.args.text.now c.digits.i c.dig
 pub digits-preserved : goal.digits-preserved
 digits-preserved c = record {
   digits = digits_more 10 c.args.text.now c.digits.i (omega arith) c.digits.invariant.digits c.if-not-is_ascii_digit.ensures.bound;
-  value = more_digits c.args.text.now c.digits.i c.digits.value c.from.result (omega arith) c.digits.invariant.value c.from.ensures c.if-not-is_ascii_digit.ensures.cases;
+  value = more_digits c.args.text.now c.digits.i c.digits.value c.from.result
+      (omega arith) c.digits.invariant.value c.from.ensures c.if-not-is_ascii_digit.ensures.cases;
 }

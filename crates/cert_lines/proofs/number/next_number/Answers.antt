@@ -19,7 +19,8 @@ returns-then-not-is_plain c = λ n rest begins.
     let end = c.leading_digits-number.result.1 in
     let led = c.leading_digits-number.ensures in
     let stops = subst Stops (take_rest c.in-Some.after.now end) (c.stops.ensures.0 c.if-not-stops.false) in
-    let e : false ≡ true = sym c.if-not-is_plain.true ∙ c.is_plain.ensures.1 (number_plain c.args.text.now c.in-Some.after.now end cut led.within led.digits rest n stops begins) in
+    let e : false ≡ true = sym c.if-not-is_plain.true ∙ c.is_plain.ensures.1
+    (number_plain c.args.text.now c.in-Some.after.now end cut led.within led.digits rest n stops begins) in
     cc
 
 pub returns : goal.returns
@@ -29,4 +30,5 @@ returns c =
     let led = c.leading_digits-number.ensures in
     let rest = take_rest c.in-Some.after.now end in
     subst (Begins c.args.text.now c.leading_digits-number.result.0) (sym rest)
-    (number_begins c.args.text.now c.in-Some.after.now end cut led.within led.digits c.leading_digits-number.result.0 led.few led.value (subst Stops rest (c.stops.ensures.0 c.if-not-stops.false)) (c.is_plain.ensures.0 c.if-not-is_plain.false))
+    (number_begins c.args.text.now c.in-Some.after.now end cut led.within led.digits c.leading_digits-number.result.0 led.few led.value
+    (subst Stops rest (c.stops.ensures.0 c.if-not-stops.false)) (c.is_plain.ensures.0 c.if-not-is_plain.false))

@@ -20,5 +20,6 @@ pub returns-in_default-two_numbers : goal.returns-in_default-two_numbers
 returns-in_default-two_numbers c = λ a b k d e h.
     let one = (begins_tail c.args.text.now c.in-Some.rest.now (b ∷ k ∷ d ∷ e ∷ []) c.in-Some.shell a (search rules) h).1 in
     let two = (begins_tail c.in-Some.rest.now c.in-Some-next_number.rest.now (k ∷ d ∷ e ∷ []) c.in-Some-next_number.rows b (search rules) one).1 in
-    let three = (begins_tail c.in-Some-next_number.rest.now c.in-Some-next_number-2.rest.now (d ∷ e ∷ []) c.in-Some-next_number-2.edges k (search rules) two).1 in
+    let three = (begins_tail c.in-Some-next_number.rest.now c.in-Some-next_number-2.rest.now (d ∷ e ∷ []) c.in-Some-next_number-2.edges k (search rules) two).1
+    in
     c.in_default-two_numbers.ensures d e three

@@ -5,5 +5,7 @@ use Rattle.cert_lines.proofs.writing.put_shell.Goals as goal
 
 pub returns : goal.returns
 returns c =
-    shell_text (shell_line c.args.number c.args.part.now) c.args.part.now.edges c.args.part.now.corners c.args.part.now.reach (tally_lines c.args.version c.args.part.now) c.args.out.now c.put_shell_line.new.out c.put_edges.new.out c.put_corners.new.out c.put_reach.new.out c.put_tally.new.out
+    shell_text (shell_line c.args.number c.args.part.now) c.args.part.now.edges c.args.part.now.corners c.args.part.now.reach
+    (tally_lines c.args.version c.args.part.now) c.args.out.now c.put_shell_line.new.out c.put_edges.new.out c.put_corners.new.out c.put_reach.new.out
+    c.put_tally.new.out
     (search rules) (search rules) (search rules) (search rules) (search rules)

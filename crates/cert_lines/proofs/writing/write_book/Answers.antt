@@ -7,7 +7,8 @@ use Rattle.cert_lines.proofs.Texts.{book_text}
 use Rattle.cert_lines.proofs.writing.write_book.Goals as goal
 
 pub returns-clause-text : goal.returns-clause-text
-returns-clause-text c = book_text Three c.args.parts.now c.put_head_line.new.out c.put_solids.new.out c.into_bytes.result (search rules) (search rules) (search rules)
+returns-clause-text c = book_text Three c.args.parts.now c.put_head_line.new.out c.put_solids.new.out c.into_bytes.result (search rules) (search rules)
+    (search rules)
 
 pub returns-clause-lines : goal.returns-clause-lines
 returns-clause-lines c = λ spelled.

@@ -17,7 +17,8 @@ returns-then-of-ne2 c =
     let within : IsWithin c.args.tally.now.span c.unwrap-edge.result.0 = subst (IsWithin c.args.tally.now.span) here (c.requires.span.holds c.edges.i 0 low) in
     subst (FirstNot (HasTwoRows c.args.rows.now) c.args.rows.now.edges) here
     (left_in_fails (HasTwoRows c.args.rows.now) c.args.rows.now.edges c.args.rows.now.edges c.edges.i 0 low c.edges.invariant
-    (λ two. count_ne c.args.rows.now c.args.tally.now.span c.args.tally.now.seen c.unwrap-edge.result.0 c.requires.tally within (λ k. c.if-of-ne2.true (ap (λ (x : Seen). x.count) c.of.ensures ∙ k)) (subst (HasTwoRows c.args.rows.now) here two)))
+    (λ two. count_ne c.args.rows.now c.args.tally.now.span c.args.tally.now.seen c.unwrap-edge.result.0 c.requires.tally within
+    (λ k. c.if-of-ne2.true (ap (λ (x : Seen). x.count) c.of.ensures ∙ k)) (subst (HasTwoRows c.args.rows.now) here two)))
 
 pub edges-preserved : goal.edges-preserved
 edges-preserved c =
@@ -27,4 +28,5 @@ edges-preserved c =
     0 at in
     let within : IsWithin c.args.tally.now.span c.unwrap-edge.result.0 = subst (IsWithin c.args.tally.now.span) here (c.requires.span.holds c.edges.i 0 low) in
     left_in_less (HasTwoRows c.args.rows.now) c.args.rows.now.edges c.args.rows.now.edges c.edges.i 0 low c.edges.invariant
-    (subst (HasTwoRows c.args.rows.now) (sym here) (count_told c.args.rows.now c.args.tally.now.span c.args.tally.now.seen c.unwrap-edge.result.0 c.requires.tally within (sym (ap (λ (x : Seen). x.count) c.of.ensures) ∙ c.if-of-ne2.false)))
+    (subst (HasTwoRows c.args.rows.now) (sym here) (count_told c.args.rows.now c.args.tally.now.span c.args.tally.now.seen c.unwrap-edge.result.0
+    c.requires.tally within (sym (ap (λ (x : Seen). x.count) c.of.ensures) ∙ c.if-of-ne2.false)))

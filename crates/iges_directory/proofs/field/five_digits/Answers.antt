@@ -8,4 +8,18 @@ returns-then-over-lt10 c =
     let e_hundreds = c.in_ok-hundreds.ensures {u = tt} in
     let e_tens = c.in_ok-tens.ensures {u = tt} in
     let e_ones = c.in_ok-ones.ensures {u = tt} in
-    five_digits c.args.word ((c.args.word / 4294967296 + 18446744073170575312) % 18446744073709551616) c.in_ok-thousands.thousands c.in_ok-hundreds.hundreds c.in_ok-tens.tens c.in_ok-ones.ones c.if-over-lt10.true e_thousands.small e_hundreds.small e_tens.small e_ones.small (omega (arith, c.ranges.word.fits, c.if-over-lt10.true, e_thousands.is, e_thousands.small, e_hundreds.is, e_hundreds.small, e_tens.is, e_tens.small, e_ones.is, e_ones.small)) _ refl
+    five_digits c.args.word ((c.args.word / 4294967296 + 18446744073170575312) % 18446744073709551616) c.in_ok-thousands.thousands c.in_ok-hundreds.hundreds
+    c.in_ok-tens.tens c.in_ok-ones.ones c.if-over-lt10.true e_thousands.small e_hundreds.small e_tens.small e_ones.small
+    (omega (
+      arith,
+      c.ranges.word.fits,
+      c.if-over-lt10.true,
+      e_thousands.is,
+      e_thousands.small,
+      e_hundreds.is,
+      e_hundreds.small,
+      e_tens.is,
+      e_tens.small,
+      e_ones.is,
+      e_ones.small,
+    )) _ refl

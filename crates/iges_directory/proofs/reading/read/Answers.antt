@@ -13,14 +13,17 @@ returns-in_err-push-in-Ok c =
 pub entries-preserved : goal.entries-preserved
 entries-preserved c =
     read_next c.args.s.now c.entries.i _ c.entries.invariant c.unwrap-first.result.now c.unwrap-second.result.now
-    (ap option_copied (sym c.unwrap-first.ensures) ∙ c.directory.ensures.line) (ap option_copied (sym c.unwrap-second.ensures) ∙ c.directory-in-entries.ensures.line)
-    _ c.param_count-params.ensures.count c.in-Ok.placed (rw c.unwrap-second.ensures at c.directory-in-entries.ensures.in_line) c.in-Ok.ensures _ c.in_ok-push-in-Ok.ensures.items
+    (ap option_copied (sym c.unwrap-first.ensures) ∙ c.directory.ensures.line)
+    (ap option_copied (sym c.unwrap-second.ensures) ∙ c.directory-in-entries.ensures.line)
+    _ c.param_count-params.ensures.count c.in-Ok.placed (rw c.unwrap-second.ensures at c.directory-in-entries.ensures.in_line) c.in-Ok.ensures _
+    c.in_ok-push-in-Ok.ensures.items
 
 pub returns-in-Err : goal.returns-in-Err
 returns-in-Err c =
     rw c.line_fault.ensures (
     read_fault c.args.s.now c.entries.i _ c.entries.invariant c.unwrap-first.result.now c.unwrap-second.result.now
-    (ap option_copied (sym c.unwrap-first.ensures) ∙ c.directory.ensures.line) (ap option_copied (sym c.unwrap-second.ensures) ∙ c.directory-in-entries.ensures.line)
+    (ap option_copied (sym c.unwrap-first.ensures) ∙ c.directory.ensures.line)
+    (ap option_copied (sym c.unwrap-second.ensures) ∙ c.directory-in-entries.ensures.line)
     _ c.param_count-params.ensures.count _ c.in-Err.fault (omega arith) c.in-Err.ensures
     )
 

@@ -6,7 +6,12 @@ use Rattle.iges_fields.proofs.item.word_len.Goals as goal
 
 pub overflow_add-result : goal.overflow_add-result
 overflow_add-result c =
-    omega (arith, c.len_before.ensures.len, prefix_len-le-length (λ (b : ℕ). not (is_delimiter_of c.args.delims.now b)) c.split_at.result.1.now, c.split_at.ensures.back_len)
+    omega (
+      arith,
+      c.len_before.ensures.len,
+      prefix_len-le-length (λ (b : ℕ). not (is_delimiter_of c.args.delims.now b)) c.split_at.result.1.now,
+      c.split_at.ensures.back_len,
+    )
 
 pub returns-clause-len : goal.returns-clause-len
 returns-clause-len c =

@@ -5,7 +5,8 @@ use Rattle.iges_fields.proofs.plain.digits_of.Goals as goal
 pub overflow_mul-value : goal.overflow_mul-value
 overflow_mul-value c =
     let limit : 10 ^ 18 ≡ 1000000000000000000 = refl in
-    let next = digit_next c.args.text.now c.digits.len c.digits.value c.digits.invariant (omega (arith, c.digits-test.true, c.min-most.ensures)) (omega (arith, c.digits-test.true, c.min-most.ensures))
+    let next = digit_next c.args.text.now c.digits.len c.digits.value c.digits.invariant (omega (arith, c.digits-test.true, c.min-most.ensures))
+    (omega (arith, c.digits-test.true, c.min-most.ensures))
     (sym c.is_ascii_digit.ensures.value ∙ c.if-is_ascii_digit.true) in
     let few = digits_few c.args.text.now _ _ next in
     omega (arith, few, limit)
@@ -13,7 +14,8 @@ overflow_mul-value c =
 pub overflow_add-value : goal.overflow_add-value
 overflow_add-value c =
     let limit : 10 ^ 18 ≡ 1000000000000000000 = refl in
-    let next = digit_next c.args.text.now c.digits.len c.digits.value c.digits.invariant (omega (arith, c.digits-test.true, c.min-most.ensures)) (omega (arith, c.digits-test.true, c.min-most.ensures))
+    let next = digit_next c.args.text.now c.digits.len c.digits.value c.digits.invariant (omega (arith, c.digits-test.true, c.min-most.ensures))
+    (omega (arith, c.digits-test.true, c.min-most.ensures))
     (sym c.is_ascii_digit.ensures.value ∙ c.if-is_ascii_digit.true) in
     let few = digits_few c.args.text.now _ _ next in
     omega (arith, few, limit, c.from.ensures)
@@ -21,7 +23,8 @@ overflow_add-value c =
 pub digits-preserved : goal.digits-preserved
 digits-preserved c =
     subst (λ (digit : ℕ). IsDigitsSoFar c.args.text.now (c.digits.len + 1) (c.digits.value * 10 + digit)) (sym c.from.ensures)
-    (digit_next c.args.text.now c.digits.len c.digits.value c.digits.invariant (omega (arith, c.digits-test.true, c.min-most.ensures)) (omega (arith, c.digits-test.true, c.min-most.ensures))
+    (digit_next c.args.text.now c.digits.len c.digits.value c.digits.invariant (omega (arith, c.digits-test.true, c.min-most.ensures))
+    (omega (arith, c.digits-test.true, c.min-most.ensures))
     (sym c.is_ascii_digit.ensures.value ∙ c.if-is_ascii_digit.true))
 
 pub returns-else-is_ascii_digit : goal.returns-else-is_ascii_digit

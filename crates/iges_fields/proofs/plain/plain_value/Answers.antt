@@ -9,12 +9,14 @@ returns c =
     let ds = c.requires.digits in
     let limit : 10 ^ 18 ≡ 1000000000000000000 = refl in
     let few = subst (λ (n : ℕ). n < 10 ^ 18) ds.value ds.few in
-    plain_item c.args.delims.now c.requires.permitted c.args.text.now c.args.digits.len ds.within ds.all c.split_at.result.1.now c.split_at.ensures.back c.in-len1-up.len_at_least
+    plain_item c.args.delims.now c.requires.permitted c.args.text.now c.args.digits.len ds.within ds.all c.split_at.result.1.now c.split_at.ensures.back
+    c.in-len1-up.len_at_least
     (sym c.has.ensures ∙ c.if-not-has.false) (omega (arith, c.if-digits-eq0.false)) few
     ∙ ap (λ (z : ℤ). Ok (value.Int z, c.split_at.result.1.now)) (ap pos (sym ds.value) ∙ sym (to_z_pos w64 c.args.digits.value (omega (arith, ds.few, limit))))
 
 pub returns-then-digits-eq0 : goal.returns-then-digits-eq0
 returns-then-digits-eq0 c =
     let ds = c.requires.digits in
-    omitted_item c.args.delims.now c.requires.permitted c.args.text.now c.args.digits.len ds.within ds.all c.split_at.result.1.now c.split_at.ensures.back c.in-len1-up.len_at_least
+    omitted_item c.args.delims.now c.requires.permitted c.args.text.now c.args.digits.len ds.within ds.all c.split_at.result.1.now c.split_at.ensures.back
+    c.in-len1-up.len_at_least
     (sym c.has.ensures ∙ c.if-not-has.false) c.if-digits-eq0.true

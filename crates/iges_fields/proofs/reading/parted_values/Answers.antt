@@ -10,10 +10,13 @@ pub returns-clause-fault : goal.returns-clause-fault
 returns-clause-fault c = parted_fault c.args.delims c.read_parted.ensures.permitted c.args.text.now c.read_parted.result c.read_parted.ensures.gives
 
 pub returns-clause-only : goal.returns-clause-only
-returns-clause-only c = λ vs used h. rw (FreeText-read_values c.args.delims c.read_parted.ensures.permitted c.args.text.now vs used h) at c.read_parted.ensures.gives
+returns-clause-only c = λ vs used h. rw (FreeText-read_values c.args.delims c.read_parted.ensures.permitted c.args.text.now vs used h) at
+    c.read_parted.ensures.gives
 
 pub returns-clause-only_fault : goal.returns-clause-only_fault
-returns-clause-only_fault c = λ f h. rw (IsFieldFault-read_values c.args.delims c.read_parted.ensures.permitted c.args.text.now f h) at c.read_parted.ensures.gives
+returns-clause-only_fault c = λ f h. rw (IsFieldFault-read_values c.args.delims c.read_parted.ensures.permitted c.args.text.now f h) at
+    c.read_parted.ensures.gives
 
 pub returns-clause-place : goal.returns-clause-place
-returns-clause-place c = places_within c.args.delims c.args.text.now c.read_parted.result (parted_fault c.args.delims c.read_parted.ensures.permitted c.args.text.now c.read_parted.result c.read_parted.ensures.gives)
+returns-clause-place c = places_within c.args.delims c.args.text.now c.read_parted.result
+    (parted_fault c.args.delims c.read_parted.ensures.permitted c.args.text.now c.read_parted.result c.read_parted.ensures.gives)

@@ -9,13 +9,18 @@ pub push-requires : goal.push-requires
 push-requires c = value_stays_in_line _ _ _ _ _ (good_at c.args.delims.now c.args.at c.args.text.now _ (c.in-Some.ensures {u = tt})) c.requires.in_line
 
 pub returns-in-Some-clause-ok : goal.returns-in-Some-clause-ok
-returns-in-Some-clause-ok c = (c.in-Some.value, good_at c.args.delims.now c.args.at c.args.text.now _ (c.in-Some.ensures {u = tt}), (c.in_ok-push.ensures {u = tt}).ok)
+returns-in-Some-clause-ok c = (
+  c.in-Some.value,
+  good_at c.args.delims.now c.args.at c.args.text.now _ (c.in-Some.ensures {u = tt}),
+  (c.in_ok-push.ensures {u = tt}).ok,
+)
 
 pub returns-clause-ok : goal.returns-clause-ok
 returns-clause-ok c =
     let len = c.in-Some-unsigned_real.len in
     let is = c.in-Some-unsigned_real.ensures {u = tt} in (
       value_of plain.Real (take len c.args.text.now),
-      front_reads c.args.delims.now c.requires.permitted c.args.at c.args.text.now c.args.text.now is.1 plain.Real len is.0 c.split_at.result.1.now c.split_at.ensures.back,
+      front_reads c.args.delims.now c.requires.permitted c.args.at c.args.text.now c.args.text.now is.1 plain.Real len is.0 c.split_at.result.1.now
+          c.split_at.ensures.back,
       c.in_ok-push_word.ensures {u = tt},
     )

@@ -10,7 +10,8 @@ pub items-init : goal.items-init
 items-init c = record {
   within = c.requires.within;
   in_line = c.requires.in_line;
-  left = λ front h. subst (λ (vs : List Value). IsLeft c.args.delims.now c.args.text.now vs c.args.left.now) (sym (ap (λ (vs : List Value). front ++ vs) c.list_for-values.ensures ∙ append-nil front)) h;
+  left = λ front h. subst (λ (vs : List Value). IsLeft c.args.delims.now c.args.text.now vs c.args.left.now)
+      (sym (ap (λ (vs : List Value). front ++ vs) c.list_for-values.ensures ∙ append-nil front)) h;
 }
 
 pub returns-in_err-behind-clause-gives : goal.returns-in_err-behind-clause-gives
@@ -29,7 +30,8 @@ overflow_sub-result c =
 
 pub returns-then-stop-end-clause-gives : goal.returns-then-stop-end-clause-gives
 returns-then-stop-end-clause-gives c front h =
-    left_end _ _ _ _ c.items.invariant.within (c.items.invariant.left front h) _ _ (c.in_ok-behind.ensures {u = tt}).ok.1 _ refl (c.if-stop-end.true ∙ c.end-end.ensures.is)
+    left_end _ _ _ _ c.items.invariant.within (c.items.invariant.left front h) _ _ (c.in_ok-behind.ensures {u = tt}).ok.1 _ refl
+    (c.if-stop-end.true ∙ c.end-end.ensures.is)
     (front ++ c.fit.new.self) (ap (λ (vs : List Value). front ++ vs) (c.fit.ensures ∙ (c.in_ok-behind.ensures {u = tt}).ok.2) ∙ sym (append_assoc front _ _))
 
 pub items-smaller : goal.items-smaller
@@ -42,6 +44,7 @@ items-preserved c =
     record {
       within = omega (arith, p);
       in_line = after_in_line _ _ _ c.items.invariant.within _ _ (c.in_ok-behind.ensures {u = tt}).ok.1 _ refl c.items.invariant.in_line;
-      left = λ front k. left_next _ _ _ _ c.items.invariant.within (c.items.invariant.left front k) _ _ (c.in_ok-behind.ensures {u = tt}).ok.1 _ refl (λ is. c.if-stop-end.false (is ∙ sym c.end-end.ensures.is))
+      left = λ front k. left_next _ _ _ _ c.items.invariant.within (c.items.invariant.left front k) _ _ (c.in_ok-behind.ensures {u = tt}).ok.1 _ refl
+          (λ is. c.if-stop-end.false (is ∙ sym c.end-end.ensures.is))
           (front ++ c.push_next.new.values) (ap (λ (vs : List Value). front ++ vs) (c.in_ok-behind.ensures {u = tt}).ok.2 ∙ sym (append_assoc front _ _));
     }

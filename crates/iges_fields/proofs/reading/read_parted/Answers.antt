@@ -27,9 +27,11 @@ read_left-requires-clause-in_line c = first_in_line c.args.delims.now c.args.tex
 pub returns-in-Ok-clause-gives : goal.returns-in-Ok-clause-gives
 returns-in-Ok-clause-gives c =
     ap values_of
-    (c.in-Ok.ensures.gives (c.in_ok-first.first ∷ []) (first_next c.args.delims.now c.args.text.now _ _ (c.in_ok-first.ensures {u = tt}) _ refl (λ is. c.if-stop-end.false (is ∙ sym c.end-end.ensures.is))))
+    (c.in-Ok.ensures.gives (c.in_ok-first.first ∷ []) (first_next c.args.delims.now c.args.text.now _ _ (c.in_ok-first.ensures {u = tt}) _ refl
+    (λ is. c.if-stop-end.false (is ∙ sym c.end-end.ensures.is))))
 
 pub returns-in-Err-clause-gives : goal.returns-in-Err-clause-gives
 returns-in-Err-clause-gives c =
     others_fail c.args.delims.now c.args.text.now _
-    (c.in-Err.ensures.gives (c.in_ok-first.first ∷ []) (first_next c.args.delims.now c.args.text.now _ _ (c.in_ok-first.ensures {u = tt}) _ refl (λ is. c.if-stop-end.false (is ∙ sym c.end-end.ensures.is))))
+    (c.in-Err.ensures.gives (c.in_ok-first.first ∷ []) (first_next c.args.delims.now c.args.text.now _ _ (c.in_ok-first.ensures {u = tt}) _ refl
+    (λ is. c.if-stop-end.false (is ∙ sym c.end-end.ensures.is))))

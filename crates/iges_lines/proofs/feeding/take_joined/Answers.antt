@@ -21,4 +21,5 @@ pub returns-clause-ok : goal.returns-clause-ok
 returns-clause-ok c =
     let grown = (c.in_ok-extend_from_slice.ensures {u = tt}).items in
     joined_ok c.args.taken.now c.take-2.new.self c.args.rest.now c.stripped-2.result.now c.args.head.now c.requires.open c.requires.head
-    (c.stripped-2.ensures ∙ ap strip_carriage_return (c.as_slice.ensures.value ∙ grown ∙ ap (λ (r : List ℕ). r ++ c.args.head.now) (c.in_ok-line.ensures {u = tt}))) c.take-2.result c.take-2.ensures.ok
+    (c.stripped-2.ensures ∙ ap strip_carriage_return (c.as_slice.ensures.value ∙ grown ∙ ap (λ (r : List ℕ). r ++ c.args.head.now)
+    (c.in_ok-line.ensures {u = tt}))) c.take-2.result c.take-2.ensures.ok

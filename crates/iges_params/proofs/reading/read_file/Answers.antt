@@ -12,7 +12,9 @@ pub returns-in-Ok-clause-only_fault : goal.returns-in-Ok-clause-only_fault
 returns-in-Ok-clause-only_fault c = λ f h. c.read_sections.ensures.only_fault c.args.bytes.now f (c.in-Ok.ensures {u = tt}).found h
 
 pub returns-in-Err-clause-only : goal.returns-in-Err-clause-only
-returns-in-Err-clause-only c = λ f h. let fails = lines_fail c.args.bytes.now c.in-Err.fault (c.in-Err.ensures {u = tt}).fault in rw (IsFile-read_file c.args.bytes.now f h) at fails
+returns-in-Err-clause-only c = λ f h. let fails = lines_fail c.args.bytes.now c.in-Err.fault (c.in-Err.ensures {u = tt}).fault in rw
+    (IsFile-read_file c.args.bytes.now f h) at fails
 
 pub returns-in-Err-clause-only_fault : goal.returns-in-Err-clause-only_fault
-returns-in-Err-clause-only_fault c = λ f h. let fails = lines_fail c.args.bytes.now c.in-Err.fault (c.in-Err.ensures {u = tt}).fault in rw (Refusal-read_file c.args.bytes.now f h) at fails
+returns-in-Err-clause-only_fault c = λ f h. let fails = lines_fail c.args.bytes.now c.in-Err.fault (c.in-Err.ensures {u = tt}).fault in rw
+    (Refusal-read_file c.args.bytes.now f h) at fails

@@ -11,5 +11,6 @@ filled-requires-clause-records c = λ i p is.
 
 pub returns-in-Ok : goal.returns-in-Ok
 returns-in-Ok c =
-    begun_go_on c.args.lines c.in-Ok.file c.in-Ok.entries (c.in-Ok.ensures {u = tt}) c.lines_above-above.result c.lines_above-above.ensures.is c.clear_directory.new.self.param
+    begun_go_on c.args.lines c.in-Ok.file c.in-Ok.entries (c.in-Ok.ensures {u = tt}) c.lines_above-above.result c.lines_above-above.ensures.is
+    c.clear_directory.new.self.param
     (ap (λ (s : SectionLines). s.param) c.clear_directory.ensures) _ c.filled.ensures

@@ -6,7 +6,8 @@ use Rattle.iges_params.proofs.record.used_values.Goals as goal
 pub returns-in-Some : goal.returns-in-Some
 returns-in-Some c =
     let found = c.in-Some.ensures {u = tt} in
-    rw c.bad.ensures (foreign_fails c.args.above c.args.sections.now.param c.args.delims c.args.number c.args.placed.now _ _ _ c.magnitude-place.ensures c.magnitude-count.ensures refl c.in-Some.i found.place)
+    rw c.bad.ensures (foreign_fails c.args.above c.args.sections.now.param c.args.delims c.args.number c.args.placed.now _ _ _ c.magnitude-place.ensures
+    c.magnitude-count.ensures refl c.in-Some.i found.place)
 
 pub returns-in_err-number : goal.returns-in_err-number
 returns-in_err-number c =
@@ -14,7 +15,8 @@ returns-in_err-number c =
     let put = c.in_ok-columns.ensures {u = tt} in
     let none = sym c.in_default.is ∙ c.first_foreign.ensures.place in
     rw (p.1, p.2) (
-    text_fails c.args.above c.args.sections.now.param c.args.delims c.args.number c.args.placed.now _ _ _ c.magnitude-place.ensures c.magnitude-count.ensures refl none c.in_ok-columns.columns.now put.text _
+    text_fails c.args.above c.args.sections.now.param c.args.delims c.args.number c.args.placed.now _ _ _ c.magnitude-place.ensures c.magnitude-count.ensures
+    refl none c.in_ok-columns.columns.now put.text _
     (c.in_err-number.ensures {u = tt}).err
     )
 
@@ -22,5 +24,6 @@ pub returns : goal.returns
 returns c =
     let put = c.in_ok-columns.ensures {u = tt} in
     let none = sym c.in_default.is ∙ c.first_foreign.ensures.place in
-    text_goes_on c.args.above c.args.sections.now.param c.args.delims c.args.number c.args.placed.now _ _ _ c.magnitude-place.ensures c.magnitude-count.ensures refl none c.in_ok-columns.columns.now put.text _ _
+    text_goes_on c.args.above c.args.sections.now.param c.args.delims c.args.number c.args.placed.now _ _ _ c.magnitude-place.ensures c.magnitude-count.ensures
+    refl none c.in_ok-columns.columns.now put.text _ _
     (c.in_ok-number.ensures {u = tt}).ok c.behind_type.ensures

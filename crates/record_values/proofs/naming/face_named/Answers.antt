@@ -16,5 +16,7 @@ returns-in_default c =
 pub returns : goal.returns
 returns c =
     let same = sym (to_z-of_z w64 c.args.face c.ranges.face) in
-    face_told c.args.file.now c.args.face c.in-Some.values.now c.of.result (ap (values_of c.args.file.now) same ∙ the_values (named c.args.file.now (to_z w64 (of_z w64 c.args.face))) c.in-Some.values.now c.in-Some.ensures.values)
+    face_told c.args.file.now c.args.face c.in-Some.values.now c.of.result
+    (ap (values_of c.args.file.now) same ∙ the_values (named c.args.file.now (to_z w64 (of_z w64 c.args.face))) c.in-Some.values.now
+    c.in-Some.ensures.values)
     (told face c.in-Some.values.now c.of.result c.of.ensures.some c.of.ensures.read c.of.ensures.none)

@@ -8,7 +8,8 @@ ends_of_tuple-ends-requires c = passes_now c.self.inside.values.now c.self.insid
 pub invariant_of-self : goal.invariant_of-self
 invariant_of-self c =
     sym (one_tuple c.self.inside.values.now c.self.inside.left c.self.inside.at c.ends_of_tuple-ends.result.end c.ends_of_tuple-ends.result.curves
-    (positive c.self.inside.left c.if-self-eq0.false) (passes_now c.self.inside.values.now c.self.inside.left c.self.inside.at c.if-self-eq0.false c.self.invariant) c.ends_of_tuple-ends.ensures)
+    (positive c.self.inside.left c.if-self-eq0.false) (passes_now c.self.inside.values.now c.self.inside.left c.self.inside.at c.if-self-eq0.false
+    c.self.invariant) c.ends_of_tuple-ends.ensures)
     ∙ c.self.invariant
 
 pub returns-clause-steps : goal.returns-clause-steps

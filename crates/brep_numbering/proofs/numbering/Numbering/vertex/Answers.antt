@@ -20,7 +20,8 @@ invariant_of-self c = (
 pub invariant_of-self-in_err-insert : goal.invariant_of-self-in_err-insert
 invariant_of-self-in_err-insert c = (
   c.self.invariant.0,
-  rw c.in_err-insert.ensures.err (keyed_still same_vertex vertex_sound vertex_itself (vertex_slot c.self.inside.vertex_slots) c.self.inside.vertex_keys.entries c.self.invariant.1 c.args.key
+  rw c.in_err-insert.ensures.err (keyed_still same_vertex vertex_sound vertex_itself
+      (vertex_slot c.self.inside.vertex_slots) c.self.inside.vertex_keys.entries c.self.invariant.1 c.args.key
       (sym (c.in_default.ensures.found ∙ ap (λ (n : Numbered). list_any (same_vertex c.args.key) n.keys.vertices) (sym c.self.view_is)))
       (vertex_slot c.set.new.self) (λ x differs. c.in_ok-set.ensures.others x.«list».0 x.index (λ h. differs (vertex_key_is x c.args.key h.0 h.1)))),
 )
@@ -36,19 +37,32 @@ invariant_of-self-2 c = (
 
 pub returns-clause-keys : goal.returns-clause-keys
 returns-clause-keys c =
-    let vertices : values_of c.insert.new.self.entries ≡ insert_key same_vertex (values_of c.self.inside.vertex_keys.entries) c.args.key = keys_more same_vertex vertex_sound vertex_itself (vertex_slot c.self.inside.vertex_slots) c.self.inside.vertex_keys.entries c.self.invariant.1 c.args.key
+    let vertices : values_of c.insert.new.self.entries ≡ insert_key same_vertex (values_of c.self.inside.vertex_keys.entries) c.args.key =
+    keys_more same_vertex vertex_sound vertex_itself (vertex_slot c.self.inside.vertex_slots) c.self.inside.vertex_keys.entries c.self.invariant.1
+    c.args.key
     (sym (c.in_default.ensures.found ∙ ap (λ (n : Numbered). list_any (same_vertex c.args.key) n.keys.vertices) (sym c.self.view_is)))
     (vertex_slot c.set.new.self) (λ x differs. c.in_ok-set.ensures.others x.«list».0 x.index (λ h. differs (vertex_key_is x c.args.key h.0 h.1)))
     c.in_ok-number.number (c.in_ok-number.ensures ∙ c.len.ensures.len) c.in_ok-set.ensures.set c.insert.new.self.entries c.in_ok-insert.ensures.entries in
-    λ j. record { keys = record { edges = (c.self.view_is j).keys.edges; vertices = (vertices ∙ ap (λ (n : Numbered). insert_key same_vertex n.keys.vertices c.args.key) c.self.view_is) j }; edges = (c.self.view_is j).edges }
+    λ j. record {
+      keys = record {
+        edges = (c.self.view_is j).keys.edges;
+        vertices =
+            (vertices ∙ ap (λ (n : Numbered). insert_key same_vertex n.keys.vertices c.args.key) c.self.view_is) j;
+      };
+      edges = (c.self.view_is j).edges;
+    }
 
 pub returns-clause-id : goal.returns-clause-id
 returns-clause-id c =
-    place_put same_vertex vertex_sound vertex_itself (vertex_slot c.set.new.self) c.insert.new.self.entries (keyed_more same_vertex vertex_sound vertex_itself (vertex_slot c.self.inside.vertex_slots) c.self.inside.vertex_keys.entries c.self.invariant.1 c.args.key
+    place_put same_vertex vertex_sound vertex_itself (vertex_slot c.set.new.self) c.insert.new.self.entries
+    (keyed_more same_vertex vertex_sound vertex_itself (vertex_slot c.self.inside.vertex_slots) c.self.inside.vertex_keys.entries c.self.invariant.1
+    c.args.key
     (sym (c.in_default.ensures.found ∙ ap (λ (n : Numbered). list_any (same_vertex c.args.key) n.keys.vertices) (sym c.self.view_is)))
     (vertex_slot c.set.new.self) (λ x differs. c.in_ok-set.ensures.others x.«list».0 x.index (λ h. differs (vertex_key_is x c.args.key h.0 h.1)))
     c.in_ok-number.number (c.in_ok-number.ensures ∙ c.len.ensures.len) c.in_ok-set.ensures.set c.insert.new.self.entries c.in_ok-insert.ensures.entries)
-    (values_of c.self.inside.vertex_keys.entries) c.args.key c.in_ok-number.number c.in_ok-set.ensures.set (keys_more same_vertex vertex_sound vertex_itself (vertex_slot c.self.inside.vertex_slots) c.self.inside.vertex_keys.entries c.self.invariant.1 c.args.key
+    (values_of c.self.inside.vertex_keys.entries) c.args.key c.in_ok-number.number c.in_ok-set.ensures.set
+    (keys_more same_vertex vertex_sound vertex_itself (vertex_slot c.self.inside.vertex_slots) c.self.inside.vertex_keys.entries c.self.invariant.1
+    c.args.key
     (sym (c.in_default.ensures.found ∙ ap (λ (n : Numbered). list_any (same_vertex c.args.key) n.keys.vertices) (sym c.self.view_is)))
     (vertex_slot c.set.new.self) (λ x differs. c.in_ok-set.ensures.others x.«list».0 x.index (λ h. differs (vertex_key_is x c.args.key h.0 h.1)))
     c.in_ok-number.number (c.in_ok-number.ensures ∙ c.len.ensures.len) c.in_ok-set.ensures.set c.insert.new.self.entries c.in_ok-insert.ensures.entries)

@@ -13,8 +13,10 @@ invariant_of-self c =
 pub invariant_of-self-in_default : goal.invariant_of-self-in_default
 invariant_of-self-in_default c =
     let old = c.self.invariant.0 in
-    let limit = rw (sym c.self.view_is) at c.requires in
-    ((old.0 ++ c.args.piece.now, fed_more _ old.0 c.args.piece.now _ (c.in_default.ensures {u = tt}) (c.in_ok-extend_from_slice.ensures {u = tt}).items old.1), limit)
+    let limit = rw (sym c.self.view_is) at c.requires in (
+      (old.0 ++ c.args.piece.now, fed_more _ old.0 c.args.piece.now _ (c.in_default.ensures {u = tt}) (c.in_ok-extend_from_slice.ensures {u = tt}).items old.1),
+      limit,
+    )
 
 pub take_piece-requires-clause-few : goal.take_piece-requires-clause-few
 take_piece-requires-clause-few c =

@@ -14,7 +14,8 @@ returns-in_err-table-clause-only c =
 
 pub returns-in_err-table-clause-fault : goal.returns-in_err-table-clause-fault
 returns-in_err-table-clause-fault c =
-    let p = err_from_is_err_and c.from_residual.result c.from_residual.ensures.1 in λ bytes fed. rw (p.1, p.2) (left_fault bytes _ (c.in_err-table.ensures {u = tt} bytes fed))
+    let p = err_from_is_err_and c.from_residual.result c.from_residual.ensures.1 in λ bytes fed. rw (p.1, p.2)
+    (left_fault bytes _ (c.in_err-table.ensures {u = tt} bytes fed))
 
 pub returns-in_err-table-clause-only_fault : goal.returns-in_err-table-clause-only_fault
 returns-in_err-table-clause-only_fault c =
@@ -27,7 +28,8 @@ of-requires c =
     let within = c.self.invariant.1 in
     let long = old.1.len in
     let fed = subst (λ (f : Fed). IsFed f old.0) c.self.view_is old.1 in
-    sections_kept old.0 _ (let few : length old.0 ≤ FILE_LIMIT = omega (arith, within, long) in few) (read_sections-IsSectioned old.0 _ (c.in_ok-table.ensures {u = tt} old.0 fed))
+    sections_kept old.0 _ (let few : length old.0 ≤ FILE_LIMIT =
+    omega (arith, within, long) in few) (read_sections-IsSectioned old.0 _ (c.in_ok-table.ensures {u = tt} old.0 fed))
 
 pub returns-clause-found : goal.returns-clause-found
 returns-clause-found c = λ bytes fed. rw c.of.ensures (read_sections-IsSectioned bytes _ (c.in_ok-table.ensures {u = tt} bytes fed))

@@ -16,7 +16,8 @@ returns-then-is_some-clause-extends c = extends_same _ _ refl
 
 pub returns-in-Some-clause-ok : goal.returns-in-Some-clause-ok
 returns-in-Some-clause-ok c =
-    rw (sym c.self.view_is) (λ ls h. fault_taken ls _ c.args.line.now c.in-Some.reason (none_from c.self.inside.fault c.is_some.result c.is_some.ensures c.if-is_some.false) (c.in-Some.ensures {u = tt}) h)
+    rw (sym c.self.view_is) (λ ls h. fault_taken ls _ c.args.line.now c.in-Some.reason
+    (none_from c.self.inside.fault c.is_some.result c.is_some.ensures c.if-is_some.false) (c.in-Some.ensures {u = tt}) h)
 
 pub returns-in-Some-clause-extends : goal.returns-in-Some-clause-extends
 returns-in-Some-clause-extends c = rw (sym c.self.view_is) (extends_same _ _ refl)
@@ -24,7 +25,8 @@ returns-in-Some-clause-extends c = rw (sym c.self.view_is) (extends_same _ _ ref
 pub returns-then-self-clause-ok : goal.returns-then-self-clause-ok
 returns-then-self-clause-ok c =
     let none = none_from c.self.inside.fault c.is_some.result c.is_some.ensures c.if-is_some.false in
-    rw (sym c.self.view_is) (λ ls h. taken_next ls _ _ c.args.line.now none (c.in_default.ensures {u = tt}) (added_blank c.self.inside.table c.self.inside.terminated c.args.line.now c.if-self.true) refl none h)
+    rw (sym c.self.view_is) (λ ls h. taken_next ls _ _ c.args.line.now none (c.in_default.ensures {u = tt})
+    (added_blank c.self.inside.table c.self.inside.terminated c.args.line.now c.if-self.true) refl none h)
 
 pub returns-then-self-clause-extends : goal.returns-then-self-clause-extends
 returns-then-self-clause-extends c = rw (sym c.self.view_is) (extends_same _ _ refl)
@@ -38,4 +40,5 @@ put-requires-clause-going c =
     rw (sym c.self.view_is) (c.if-self.false, none)
 
 pub put-requires-clause-passes : goal.put-requires-clause-passes
-put-requires-clause-passes c = rw (sym c.self.view_is) ((c.in_default.ensures {u = tt}) ∙ ap (λ (u : Bool). first_failing (tests_behind u c.self.inside.table c.args.line.now)) c.if-self.false)
+put-requires-clause-passes c = rw (sym c.self.view_is) ((c.in_default.ensures {u = tt}) ∙ ap
+    (λ (u : Bool). first_failing (tests_behind u c.self.inside.table c.args.line.now)) c.if-self.false)

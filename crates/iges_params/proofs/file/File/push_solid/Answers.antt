@@ -9,5 +9,6 @@ returns-then-not-is_solid_at c = other_entry c.args.self.now c.args.i _ c.requir
 pub returns : goal.returns
 returns c =
     on_ok_weaker c.push.result
-    (λ pushed. solid_entry c.args.self.now c.args.i c.entry_no.result _ _ c.requires (sym c.is_solid_at.ensures ∙ c.if-not-is_solid_at.false) c.entry_no.ensures pushed)
+    (λ pushed. solid_entry c.args.self.now c.args.i c.entry_no.result _ _ c.requires
+    (sym c.is_solid_at.ensures ∙ c.if-not-is_solid_at.false) c.entry_no.ensures pushed)
     c.push.ensures.ok
