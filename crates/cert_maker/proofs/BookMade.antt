@@ -14,13 +14,13 @@ use Rattle.cert_lines.specs.declared.parts.Certificate.{Certificate}
 use Rattle.cert_lines.specs.declared.version.Version.TheVariants.{Two, Three}
 use Rattle.cert_lines.proofs.CutLines.{cut_spelled}
 use Rattle.topo_certificate.specs.Legal.{IsLegal}
-use Rattle.solid_check.specs.Accepted.{Certify, Part, part_lines, solids_named, IsGoodPart, IsAccepted}
+use Rattle.cert_accept.specs.Accepted.{Certify, Part, part_lines, solids_named, IsGoodPart, IsAccepted}
 use Rattle.iges_params.specs.Solids.{solids_from, solids_of}
 use Rattle.cert_maker.specs.Book.{IsCertificateOf}
 use Rattle.cert_maker.specs.BookLaws.{BookTextIsAccepted, OneBookText}
 use Rattle.cert_maker.proofs.OneText.{one_zip, one_certificate}
 use Rattle.cert_maker.proofs.Zipping.{zip_length}
-use Rattle.solid_check.proofs.Complete.{head_read}
+use Rattle.cert_accept.proofs.Complete.{head_read}
 use Rattle.solid_data.proofs.Members.{Rises}
 use Rattle.edge_uses.proofs.Whole.{rising}
 

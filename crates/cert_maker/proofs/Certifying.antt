@@ -20,13 +20,13 @@ use Rattle.cert_lines.specs.declared.parts.Certificate.{Certificate}
 use Rattle.cert_lines.specs.declared.version.Version.TheVariants.{Two}
 use Rattle.topo_certificate.specs.Legal.{IsLegal}
 use Rattle.topo_certificate.proofs.Short.{length-spaced}
-use Rattle.solid_check.specs.Accepted.{IsAccepted}
+use Rattle.cert_accept.specs.Accepted.{IsAccepted}
 use Rattle.cert_maker.specs.Parts.{AreParts}
 use Rattle.cert_maker.specs.Certified.{IsCertificate, further_lines}
-use Rattle.solid_check.proofs.Ready.{closed_is_ready, closed_joins, apart_all}
-use Rattle.solid_check.proofs.Complete.{shell_small, head_read}
+use Rattle.cert_accept.proofs.Ready.{closed_is_ready, closed_joins, apart_all}
+use Rattle.cert_accept.proofs.Complete.{shell_small, head_read}
 use Rattle.cert_maker.proofs.PartLines.{parts_legal}
-use Rattle.solid_check.proofs.Few.{few_parts}
+use Rattle.shell_rules.proofs.Few.{few_parts}
 
 -- Parts of the shells of a closed solid make a certificate of it.
 pub certificate_made : (s : SolidData) (c : Certificate) → IsNumberedSolid s → c.version ≡ Two → c.solid ≡ s.entity → AllHold (solid_obligations s)

@@ -25,7 +25,7 @@ use Rattle.cert_lines.specs.declared.parts.Certificate.{Certificate}
 use Rattle.solid_data.specs.declared.linked.Corner.{Corner}
 use Rattle.solid_data.specs.declared.linked.Corner.TheVariants.{Cycle, Point}
 use Rattle.cert_lines.specs.declared.parts.ShellPart.{ShellPart}
-use Rattle.solid_check.specs.Accepted.{IsAccepted}
+use Rattle.cert_accept.specs.Accepted.{IsAccepted}
 use Rattle.vertex_link.specs.Corners.{LiesAt}
 use Rattle.cert_maker.specs.Parts.{AreItsRows, IsPart}
 use Rattle.cert_maker.specs.Certified.{IsCertificate}

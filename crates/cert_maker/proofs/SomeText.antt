@@ -39,7 +39,7 @@ use Rattle.cert_lines.specs.declared.version.Version.TheVariants.{Two}
 use Rattle.topo_certificate.specs.Stand.{loops_of}
 use Rattle.topo_certificate.proofs.Build.{found_point}
 use Rattle.topo_certificate.proofs.PointOrder.{faces_of_rows}
-use Rattle.solid_check.proofs.Ready.{closed_at}
+use Rattle.cert_accept.proofs.Ready.{closed_at}
 use Rattle.vertex_link.specs.Corners.{LiesAt}
 use Rattle.cert_maker.specs.Parts.{AreItsRows, IsPart, AreParts}
 use Rattle.cert_maker.specs.Laws.{ClosedHasText}

@@ -3,7 +3,7 @@ use Rattle.std.specs.Prelude.{◌≡◌, ℕ, ◌<◌, ◌⊎◌, List, length}
 use Rattle.iges_params.specs.Contents.{Contents}
 use Rattle.iges_params.specs.Limits.{FitsLimits}
 use Rattle.cert_lines.specs.declared.version.Version.TheVariants.{Three}
-use Rattle.solid_check.specs.Accepted.{IsAccepted}
+use Rattle.cert_accept.specs.Accepted.{IsAccepted}
 use Rattle.iges_params.specs.Solids.{solids_of}
 use Rattle.cert_maker.specs.Book.{AllMade, FirstUnmade, IsBookText}
 use Rattle.cert_maker.specs.declared.book.BookFault.{BookFault}

@@ -7,7 +7,7 @@ use Rattle.topo_certificate.specs.Legal.{IsLegal}
 use Rattle.cert_lines.specs.Written.{shell_lines, certificate_lines}
 use Rattle.cert_lines.specs.declared.version.Version.TheVariants.{Two}
 use Rattle.cert_lines.specs.declared.parts.Certificate.{Certificate}
-use Rattle.solid_check.specs.Accepted.{AllJoin, AllApart}
+use Rattle.cert_accept.specs.Accepted.{AllJoin, AllApart}
 use Rattle.cert_maker.specs.Parts.{AreParts}
 
 -- the lines after the head and the solid

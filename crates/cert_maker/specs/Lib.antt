@@ -4,3 +4,4 @@ pub mod Parts
 pub mod Along
 pub mod Laws
 pub mod BookLaws
+pub mod Soundness

@@ -8,7 +8,7 @@ ghost use Rattle.solid_data.specs.Obligations.{AllHold};
 ghost use Rattle.shell_rules.specs.ShellObligations.{solid_obligations};
 ghost use Rattle.cert_lines.specs.Written.{book_lines, text_of};
 ghost use Rattle.cert_lines.specs.declared.version.Version.TheVariants.{Three as EditionThree};
-ghost use Rattle.solid_check.specs.Accepted.{IsAccepted};
+ghost use Rattle.cert_accept.specs.Accepted.{IsAccepted};
 ghost use Rattle.cert_maker.specs.Certified.{IsCertificate};
 ghost use Rattle.iges_params.specs.Solids.{is_solid_at, solids_of};
 ghost use Rattle.cert_maker.specs.Book.{uses_of, IsMade, AllMade, IsCertificateOf, IsSolidFault, IsFaultOf, IsBookFault};

@@ -4,7 +4,7 @@ ghost use Rattle.std.specs.Prelude.{◌≡◌, IfOk};
 ghost use Rattle.solid_data.specs.Obligations.{IsVerdict};
 ghost use Rattle.solid_data.specs.declared.verdict.Verdict.{Verdict as Word};
 ghost use Rattle.shell_rules.specs.ShellObligations.{solid_obligations};
-ghost use Rattle.solid_check.specs.Closed.{IsVerdictOn};
+ghost use Rattle.solid_verdict.specs.Closed.{IsVerdictOn};
 
 use crate::fault::MakeFault;
 use crate::making::certify;

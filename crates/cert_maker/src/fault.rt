@@ -2,4 +2,4 @@
 
 /// Why no certificate of a solid was made: the solid isn't closed, with the first rule on its shells that fails and
 /// where; or memory ran out.
-pub use solid_check::CheckFault as MakeFault;
+pub use shell_rules::CheckFault as MakeFault;

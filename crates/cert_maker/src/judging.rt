@@ -7,13 +7,13 @@ ghost use Rattle.shell_rules.specs.ShellObligations.{pair_obligations, reach_obl
 ghost use Rattle.vertex_link.specs.Corners.{AreLinks};
 ghost use Rattle.shell_reach.specs.Reaching.{ReachesAll, row_numbers};
 ghost use Rattle.shell_reach.specs.BreadthFirst.{IsBreadthFirst};
-ghost use Rattle.solid_check.specs.Faults.{IsCheckFault};
+ghost use Rattle.shell_rules.specs.Faults.{IsCheckFault};
 
 use crate::fault::MakeFault;
 use crate::naming::{unpaired, unreached};
 use edge_uses::{PairFault, Paired, Rows, pair};
 use shell_reach::{ReachFault, ReachList, reach};
-use solid_check::at_vertex;
+use shell_rules::at_vertex;
 use solid_data::{Rule, Shell, Solid};
 use std::alloc::Global;
 use vertex_link::{LinkFault, Links, links};

@@ -1,7 +1,18 @@
-//! What holds of the texts of certificates that are made.
+//! What holds of closed solids and accepted certificates, and of the texts that are made.
 
 ghost use Rattle.cert_maker.specs.BookLaws.{BookTextIsAccepted, MadeHasBook, MadeOrUnmade, NoneUnmadeWhereMade, OneBookText, OneUnmade};
 ghost use Rattle.cert_maker.specs.Laws.{CertificateTextIsAccepted, ClosedHasText, OneCertificateText};
+ghost use Rattle.cert_maker.specs.Soundness.{AcceptedIsClosed, ClosedExactlyWhereAccepted};
+
+/// Soundness: whatever made a certificate, of any version, each solid that it names is closed where it is accepted.
+pub fn soundness()
+    ensures { AcceptedIsClosed }
+{}
+
+/// Completeness: in a file within its limits, a solid is closed exactly where some certificate that names it is accepted.
+pub fn completeness()
+    ensures { ClosedExactlyWhereAccepted }
+{}
 
 /// The text of the certificate that `certify` makes of a solid of a file whose places hold is accepted, and names the
 /// solid alone.

@@ -1,4 +1,4 @@
-//! The maker of certificates, and verdicts.
+//! The maker of certificates, and verdicts: a certificate is accepted only for closed solids, and each closed solid has one.
 #![tactic(auto)]
 
 mod book;
@@ -15,7 +15,7 @@ pub use book::{BookFault, certify_all};
 pub use deciding::verdict;
 pub use fault::MakeFault;
 pub use law::{
-    book_text_is_accepted, certificate_text_is_accepted, closed_has_certificate, made_has_book,
-    one_book_text, one_certificate, one_unmade,
+    book_text_is_accepted, certificate_text_is_accepted, closed_has_certificate, completeness,
+    made_has_book, one_book_text, one_certificate, one_unmade, soundness,
 };
 pub use making::certify;

@@ -8,7 +8,7 @@ ghost use Rattle.shell_rules.specs.ShellObligations.{shell_obligations};
 ghost use Rattle.vertex_link.specs.Corners.{AreLinks};
 ghost use Rattle.shell_reach.specs.Reaching.{ReachesAll, row_numbers};
 ghost use Rattle.shell_reach.specs.BreadthFirst.{IsBreadthFirst};
-ghost use Rattle.solid_check.specs.Faults.{IsCheckFault};
+ghost use Rattle.shell_rules.specs.Faults.{IsCheckFault};
 ghost use Rattle.topo_certificate.specs.Stand.{loops_of};
 ghost use Rattle.cert_maker.specs.Parts.{IsPart};
 
@@ -18,7 +18,7 @@ use crate::pairs::edge_pairs;
 use edge_uses::{Paired, VerticesBefore, rows};
 use iges_fields::NoMemory;
 use shell_reach::ReachList;
-use solid_check::{apart, join};
+use shell_rules::{apart, join};
 use solid_data::{Shell, ShellAt, Solid};
 use std::alloc::Global;
 use topo_certificate::{ShellPart, loop_count};

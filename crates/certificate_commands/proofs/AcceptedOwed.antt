@@ -4,10 +4,10 @@ use Rattle.iges_params.specs.Contents.{Contents}
 use Rattle.cert_lines.specs.Opening.{Opens}
 use Rattle.cert_lines.specs.declared.version.Version.{Version}
 use Rattle.cert_lines.specs.declared.version.Version.TheVariants.{One, Two, Three}
-use Rattle.solid_check.specs.Accepted.{IsAccepted, IsAcceptedAlone, IsAcceptedBook, Part, part_lines, solids_named}
-use Rattle.solid_check.proofs.CheckedParts.{accepted_is_checked}
+use Rattle.cert_accept.specs.Accepted.{IsAccepted, IsAcceptedAlone, IsAcceptedBook, Part, part_lines, solids_named}
+use Rattle.cert_accept.proofs.CheckedParts.{accepted_is_checked}
 use Rattle.cert_lines.specs.Line.{end, spelling}
-use Rattle.solid_check.proofs.PartOutcomes.{solid_short}
+use Rattle.cert_accept.proofs.PartOutcomes.{solid_short}
 use Rattle.command_replies.specs.declared.answer.Answer.TheVariants.{Done}
 use Rattle.topo_certificate.specs.declared.TheConstants.{CERT_LIMIT}
 use Rattle.command_replies.specs.Due.{Owed}

@@ -26,9 +26,9 @@ use Rattle.topo_certificate.specs.PartEnds.{EndsPart}
 use Rattle.topo_certificate.specs.Upgraded.{starts_with, upgraded}
 use Rattle.topo_certificate.proofs.Forward.{fitting_more}
 use Rattle.topo_certificate.proofs.UpgradedText.{kept_other}
-use Rattle.solid_check.specs.Accepted.{Part, part_lines, solids_named, IsGoodPart, IsAcceptedBook}
-use Rattle.solid_check.specs.Book.{fails, illegal, IsBookBad}
-use Rattle.solid_check.specs.Checked.{checked}
+use Rattle.cert_accept.specs.Accepted.{Part, part_lines, solids_named, IsGoodPart, IsAcceptedBook}
+use Rattle.cert_accept.specs.Book.{fails, illegal, IsBookBad}
+use Rattle.cert_accept.specs.Checked.{checked}
 use Rattle.command_replies.specs.declared.answer.Answer.{Answer}
 use Rattle.command_replies.specs.declared.answer.Answer.TheVariants.{No}
 use Rattle.command_replies.specs.Texts.{illegal_line, solid_fail_text}
@@ -36,7 +36,7 @@ use Rattle.command_replies.specs.Due.{Owed}
 use Rattle.command_replies.proofs.Owing.{owed_so}
 use Rattle.certificate_commands.specs.Due.{OfCertificate, opened, part_bad, part_fails, parts_accepted, upgraded_for}
 use Rattle.certificate_commands.specs.Books.{BeginsPart}
-use Rattle.solid_check.proofs.CheckedParts.{checked_certified}
+use Rattle.cert_accept.proofs.CheckedParts.{checked_certified}
 use Rattle.certificate_commands.proofs.CutText.{cut_behind, joined, joined_cut, some_bytes}
 
 -- ---- numbers that rise

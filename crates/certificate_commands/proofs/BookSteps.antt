@@ -17,7 +17,7 @@ use Rattle.topo_certificate.specs.declared.TheConstants.{CERT_LIMIT}
 use Rattle.topo_certificate.specs.Feeding.{FedKept, IsFedPart}
 use Rattle.topo_certificate.specs.Legal.{IsLegal, IsPartBad}
 use Rattle.topo_certificate.specs.PartEnds.{EndsPart}
-use Rattle.solid_check.specs.Accepted.{part_lines}
+use Rattle.cert_accept.specs.Accepted.{part_lines}
 use Rattle.command_replies.specs.declared.answer.Answer.{Answer}
 use Rattle.command_replies.specs.declared.answer.Answer.TheVariants.{Done, No, TooLarge}
 use Rattle.certificate_commands.specs.declared.books.NextSolid.{NextSolid}

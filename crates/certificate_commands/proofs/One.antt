@@ -8,11 +8,11 @@ use Rattle.cert_lines.specs.declared.version.Version.TheVariants.{One, Two, Thre
 use Rattle.cert_lines.specs.Opening.{IsHeaded}
 use Rattle.cert_lines.proofs.Openings.{one_bad_opening, one_opening, opens_or_bad}
 use Rattle.topo_certificate.proofs.LegalLemmas.{legal_has_no_bad_lem, one_first_bad}
-use Rattle.solid_check.specs.Checked.{checked}
-use Rattle.solid_check.specs.Accepted.{Part, solids_named}
-use Rattle.solid_check.specs.Book.{BookRefusal}
-use Rattle.solid_check.specs.Book as book
-use Rattle.solid_check.proofs.BookReading.{none_bad, one_reading, one_refusal}
+use Rattle.cert_accept.specs.Checked.{checked}
+use Rattle.cert_accept.specs.Accepted.{Part, solids_named}
+use Rattle.cert_accept.specs.Book.{BookRefusal}
+use Rattle.cert_accept.specs.Book as book
+use Rattle.cert_accept.proofs.BookReading.{none_bad, one_reading, one_refusal}
 use Rattle.command_replies.specs.declared.answer.Answer.TheVariants as answer
 use Rattle.command_replies.specs.Texts.{accepted_lines, fail_line, illegal_line, solid_fail_text}
 use Rattle.command_replies.specs.Due.{Owed, Exactly, OfText}

@@ -14,12 +14,12 @@ use Rattle.cert_lines.proofs.Decided.{openings_are_decided}
 use Rattle.topo_certificate.specs.declared.TheConstants.{CERT_LIMIT}
 use Rattle.topo_certificate.specs.Legal.{IsLegal, IsFirstBad}
 use Rattle.topo_certificate.proofs.Decided.{legal_or_first_bad}
-use Rattle.solid_check.specs.Checked.{checked}
-use Rattle.solid_check.specs.Accepted.{Part, solids_named, IsAcceptedBook}
-use Rattle.solid_check.specs.Book.{BookRefusal, IsBookBad}
-use Rattle.solid_check.specs.Book as book
-use Rattle.solid_check.proofs.BookReading.{accepted_or_bad}
-use Rattle.solid_check.proofs.Decided.{checks_decided}
+use Rattle.cert_accept.specs.Checked.{checked}
+use Rattle.cert_accept.specs.Accepted.{Part, solids_named, IsAcceptedBook}
+use Rattle.cert_accept.specs.Book.{BookRefusal, IsBookBad}
+use Rattle.cert_accept.specs.Book as book
+use Rattle.cert_accept.proofs.BookReading.{accepted_or_bad}
+use Rattle.cert_accept.proofs.Decided.{checks_decided}
 use Rattle.command_replies.specs.declared.answer.Answer.TheVariants as answer
 use Rattle.command_replies.specs.Texts.{accepted_lines, fail_line, illegal_line, solid_fail_text}
 use Rattle.command_replies.specs.Due.{Owed, Exactly, OfText}

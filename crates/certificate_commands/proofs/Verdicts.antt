@@ -4,7 +4,7 @@ use Rattle.command_replies.specs.declared.answer.Answer.{Answer}
 use Rattle.iges_params.specs.Contents.{Contents}
 use Rattle.cert_lines.specs.declared.version.Version.{Version}
 use Rattle.cert_lines.specs.declared.version.Version.TheVariants.{One, Two, Three}
-use Rattle.solid_check.specs.Accepted.{solids_named}
+use Rattle.cert_accept.specs.Accepted.{solids_named}
 use Rattle.command_replies.specs.Due.{Owed}
 use Rattle.certificate_commands.specs.Due.{OfLines, place_fails, line_bad, lines_accepted, OfBook, part_fails, part_bad, parts_accepted, OfVersion}
 use Rattle.certificate_commands.specs.Due.{OfCertificate, certificate_too_large, opening_bad, opened}

@@ -12,7 +12,7 @@ use Rattle.cert_lines.specs.declared.version.Version.TheVariants.{Three}
 use Rattle.topo_certificate.specs.declared.TheConstants.{CERT_LIMIT}
 use Rattle.topo_certificate.specs.Feeding.{FedKept, IsFedPart}
 use Rattle.topo_certificate.specs.PartEnds.{EndsPart}
-use Rattle.solid_check.specs.Accepted.{Part, part_lines, solids_named, IsGoodPart}
+use Rattle.cert_accept.specs.Accepted.{Part, part_lines, solids_named, IsGoodPart}
 use Rattle.command_replies.specs.declared.answer.Answer.{Answer}
 use Rattle.command_replies.specs.declared.answer.Answer.TheVariants.{Done}
 use Rattle.certificate_commands.specs.declared.held_book.HeldPart.{HeldPart}

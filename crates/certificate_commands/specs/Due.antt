@@ -11,10 +11,10 @@ use Rattle.cert_lines.specs.declared.version.Version.TheVariants.{One, Two, Thre
 use Rattle.topo_certificate.specs.declared.TheConstants.{CERT_LIMIT}
 use Rattle.topo_certificate.specs.Legal.{IsLegal, IsFirstBad}
 use Rattle.topo_certificate.specs.Upgraded.{upgraded}
-use Rattle.solid_check.specs.Accepted.{IsAcceptedBook, Part, solids_named}
-use Rattle.solid_check.specs.Book.{IsBookBad}
-use Rattle.solid_check.specs.Book as book
-use Rattle.solid_check.specs.Checked.{checked}
+use Rattle.cert_accept.specs.Accepted.{IsAcceptedBook, Part, solids_named}
+use Rattle.cert_accept.specs.Book.{IsBookBad}
+use Rattle.cert_accept.specs.Book as book
+use Rattle.cert_accept.specs.Checked.{checked}
 use Rattle.command_replies.specs.declared.answer.Answer.{Answer}
 use Rattle.command_replies.specs.declared.answer.Answer.TheVariants as answer
 use Rattle.command_replies.specs.Texts.{accepted_lines, fail_line, illegal_line, solid_fail_text}

@@ -13,7 +13,7 @@ use Rattle.cert_lines.specs.declared.version.Version.TheVariants.{One, Two, Thre
 use Rattle.cert_lines.specs.declared.fault.Illegal.{Illegal}
 use Rattle.topo_certificate.specs.declared.TheConstants.{CERT_LIMIT}
 use Rattle.topo_certificate.specs.Feeding.{FedKept, IsFed}
-use Rattle.solid_check.specs.Checked.{checked}
+use Rattle.cert_accept.specs.Checked.{checked}
 use Rattle.command_replies.specs.declared.reply.Reply.{Reply}
 use Rattle.certificate_commands.specs.declared.opening.Opened.{Opened}
 use Rattle.certificate_commands.specs.declared.opening.OpeningEnd.{OpeningEnd}

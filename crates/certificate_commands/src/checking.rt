@@ -1,8 +1,8 @@
 ghost use Rattle.brep_walk.specs.SolidOf.{solid_of};
 ghost use Rattle.certificate_commands.specs.Judging.{IsChecked, TellsFalse};
 ghost use Rattle.command_replies.specs.Texts.{fail_line, solid_fail_text};
-ghost use Rattle.solid_check.specs.Checked.{checked};
-ghost use Rattle.solid_check.specs.Faults.{IsCheckFault};
+ghost use Rattle.cert_accept.specs.Checked.{checked};
+ghost use Rattle.shell_rules.specs.Faults.{IsCheckFault};
 ghost use Rattle.solid_data.specs.Obligations.{AllHold};
 ghost use Rattle.std.specs.Prelude.{◌≡◌, IfErr, IfOk, MatchResult, OnOk};
 
@@ -10,7 +10,8 @@ use brep_walk::{WalkFault, Walker};
 use command_replies::{Reply, failed, solid_failed};
 use iges_base::{EntryNo, NoMemory};
 use iges_params::File;
-use solid_check::{CheckFault, check_shells, checked_solid};
+use cert_accept::checked_solid;
+use shell_rules::{CheckFault, check_shells};
 use solid_data::Solid;
 use std::alloc::Global;
 

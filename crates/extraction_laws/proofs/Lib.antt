@@ -13,3 +13,10 @@ pub mod ExtractedSolid
 pub mod WholeVerdict
 pub mod WrittenText
 mod Worked
+pub mod RankedSolid
+pub mod RankedVerdict
+pub mod Composed
+pub mod CompactedSolid
+pub mod CompactedAgain
+pub mod HeldValues
+pub mod CompactedText

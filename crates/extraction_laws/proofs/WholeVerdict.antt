@@ -6,8 +6,8 @@ use Rattle.brep_walk.specs.Places.{places}
 use Rattle.brep_walk.specs.SolidOf.{solid_of}
 use Rattle.solid_data.specs.declared.verdict.Verdict.TheVariants.{Closed, Fails}
 use Rattle.shell_rules.specs.ShellObligations.{solid_obligations}
-use Rattle.solid_check.specs.Closed.{obligations}
-use Rattle.solid_check.proofs.Sound.{closed_is_all_hold_of_file}
+use Rattle.solid_verdict.specs.Closed.{obligations}
+use Rattle.solid_verdict.proofs.Closed.{closed_is_all_hold_of_file}
 use Rattle.solid_extract.specs.Extracted.{new_number, IsExtracted}
 use Rattle.extraction_laws.specs.Alike.{FailAlike}
 use Rattle.extraction_laws.specs.Kept.{kept_names, KeepsVerdict}

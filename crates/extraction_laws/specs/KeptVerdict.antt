@@ -3,7 +3,7 @@ use Rattle.std.specs.Prelude.{◌≡◌, ◌↔◌, ℕ, List}
 use Rattle.iges_params.specs.Contents.{Contents}
 use Rattle.solid_data.specs.declared.verdict.Verdict.{Verdict}
 use Rattle.solid_data.specs.declared.verdict.Verdict.TheVariants.{Closed, Fails}
-use Rattle.solid_check.specs.Closed.{IsClosed, IsVerdictOn}
+use Rattle.solid_verdict.specs.Closed.{IsClosed, IsVerdictOn}
 use Rattle.solid_extract.specs.Extracted.{new_number, IsExtracted}
 use Rattle.extraction_laws.specs.Kept.{renamed_failing}
 

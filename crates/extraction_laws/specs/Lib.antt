@@ -4,3 +4,7 @@ pub mod Renamed
 pub mod Kept
 pub mod KeptVerdict
 pub mod Written
+pub mod Ranked
+pub mod Compacted
+pub mod Again
+pub mod CompactedWritten

@@ -7,7 +7,7 @@ use Rattle.iges_params.specs.Refusal.{IsOnly}
 use Rattle.iges_write.specs.Text.{IsText}
 use Rattle.iges_write.specs.Writable.{IsWritable}
 use Rattle.solid_data.specs.declared.verdict.Verdict.{Verdict}
-use Rattle.solid_check.specs.Closed.{IsClosed, IsVerdictOn}
+use Rattle.solid_verdict.specs.Closed.{IsClosed, IsVerdictOn}
 use Rattle.solid_extract.specs.Extracted.{new_number, IsExtracted}
 use Rattle.extraction_laws.specs.KeptVerdict.{renamed_verdict}
 

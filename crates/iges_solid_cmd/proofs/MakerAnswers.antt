@@ -8,7 +8,7 @@ use Rattle.shell_rules.specs.ShellObligations.{solid_obligations}
 use Rattle.brep_walk.specs.Places.{places}
 use Rattle.brep_walk.specs.SolidOf.{solid_of}
 use Rattle.iges_params.specs.Contents.{Contents}
-use Rattle.solid_check.specs.Closed.{obligations}
+use Rattle.solid_verdict.specs.Closed.{obligations}
 use Rattle.cert_maker.specs.Laws.{IsCertificateText}
 use Rattle.command_replies.specs.declared.answer.Answer.TheVariants.{Done, No}
 use Rattle.command_replies.specs.Texts.{fail_line}

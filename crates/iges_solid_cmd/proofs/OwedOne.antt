@@ -9,7 +9,7 @@ use Rattle.cert_maker.specs.Book.{FirstUnmade}
 use Rattle.cert_maker.specs.declared.book.BookFault.{BookFault}
 use Rattle.cert_maker.proofs.BookMade.{one_text_of_book}
 use Rattle.cert_maker.proofs.Unmade.{none_unmade, one_unmade}
-use Rattle.solid_check.specs.Closed.{obligations}
+use Rattle.solid_verdict.specs.Closed.{obligations}
 use Rattle.cert_maker.proofs.OneText.{one_text as one_certificate}
 use Rattle.command_replies.specs.Texts.{fail_line, solid_fail_text}
 use Rattle.iges_solid_cmd.specs.Due.{OfShow, unplaced, shown, OfCertify, fails, certified, OfCertifyAll, no_solid, one_fails, too_many, all_certified}

@@ -7,7 +7,7 @@ use Rattle.iges_params.specs.Solids.{solids_of}
 use Rattle.cert_maker.specs.Book.{FirstUnmade, AllMade, IsUnmade, uses_of}
 use Rattle.cert_maker.specs.declared.book.BookFault.{BookFault}
 use Rattle.cert_maker.proofs.Unmade.{made_or_unmade}
-use Rattle.solid_check.specs.Closed.{obligations, IsVerdictOn}
+use Rattle.solid_verdict.specs.Closed.{obligations, IsVerdictOn}
 use Rattle.command_replies.specs.Texts.{fail_line, solid_fail_text, no_solid_line}
 use Rattle.iges_solid_cmd.specs.Texts.{show_text}
 use Rattle.iges_solid_cmd.specs.Due.{OfShow, unplaced, shown, OfCertify, fails, certified, OfCertifyAll, no_solid, one_fails, too_many, all_certified}
@@ -20,10 +20,10 @@ use Rattle.solid_data.specs.Obligations.{AllHold, FirstFalse}
 use Rattle.solid_data.proofs.ObligationsDecided.{all_or_first_false, some_verdict}
 use Rattle.brep_walk.specs.SolidOf.{solid_of}
 use Rattle.brep_walk.proofs.Decided.{places_decided}
-use Rattle.solid_check.proofs.Sound.{closed_is_all_hold_of_file}
+use Rattle.solid_verdict.proofs.Closed.{closed_is_all_hold_of_file}
 use Rattle.cert_maker.proofs.SomeBook.{some_book}
 use Rattle.cert_maker.proofs.SomeText.{some_text}
-use Rattle.solid_check.proofs.Decided.{obligations_decided}
+use Rattle.solid_verdict.proofs.Closed.{obligations_decided}
 use Rattle.iges_write.proofs.Made.{can_be_made}
 use Rattle.command_replies.proofs.SomeDue.{IsSome}
 use Rattle.cert_maker.specs.declared.book.BookFault.TheVariants as maker

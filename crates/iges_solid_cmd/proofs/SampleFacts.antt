@@ -19,7 +19,7 @@ use Rattle.topo_certificate.specs.Legal.{IsFirstBad}
 use Rattle.topo_certificate.proofs.LegalLemmas.{legal_has_no_bad_lem}
 use Rattle.cert_lines.specs.declared.version.Version.{Version}
 use Rattle.cert_lines.specs.declared.version.Version.TheVariants.{Two}
-use Rattle.solid_check.specs.Accepted.{IsAccepted}
+use Rattle.cert_accept.specs.Accepted.{IsAccepted}
 use Rattle.cert_maker.specs.Laws.{IsCertificateText}
 use Rattle.cert_maker.proofs.OneText.{text_accepted}
 use Rattle.iges_write.specs.Text.{IsText}

@@ -3,17 +3,18 @@ use Rattle.std.proofs.Common.{◌≡◌, inl, ℕ, List, [], ◌∷◌, refl, sy
 use Rattle.iges_params.specs.Contents.{Contents}
 use Rattle.cert_lines.specs.declared.version.Version.{Version}
 use Rattle.cert_lines.specs.declared.version.Version.TheVariants.{One, Two, Three}
-use Rattle.solid_check.specs.Accepted.{IsAccepted, IsAcceptedAlone}
-use Rattle.solid_check.proofs.Sound.{accepted_is_closed, closed_is_all_hold_of_file}
+use Rattle.cert_accept.specs.Accepted.{IsAccepted, IsAcceptedAlone}
+use Rattle.cert_maker.proofs.Soundness.{accepted_is_closed}
+use Rattle.solid_verdict.proofs.Closed.{closed_is_all_hold_of_file}
 use Rattle.iges_params.specs.Solids.{solids_of}
 use Rattle.cert_maker.proofs.BookMade.{book_text_accepted}
 use Rattle.cert_maker.proofs.OneText.{text_accepted}
-use Rattle.size_laws.proofs.Small.{accepted_is_small}
+use Rattle.cert_accept.proofs.Small.{accepted_is_small}
 use Rattle.command_replies.specs.declared.answer.Answer.TheVariants.{Done}
 use Rattle.command_replies.specs.Texts.{accepted_line, accepted_lines}
 use Rattle.iges_params.specs.Limits.{FitsLimits}
-use Rattle.solid_check.specs.Laws.{upgraded_version}
-use Rattle.solid_check.proofs.UpgradedLaw.{upgraded_is_accepted}
+use Rattle.cert_accept.specs.Laws.{upgraded_version}
+use Rattle.cert_accept.proofs.UpgradedLaw.{upgraded_is_accepted}
 use Rattle.solid_data.proofs.Members.{Contains-from_Has}
 use Rattle.command_replies.specs.Due.{OfText, text_done}
 use Rattle.certificate_commands.specs.Due.{OfVerify, upgraded_for}

@@ -6,9 +6,9 @@ use Rattle.iges_params.specs.Contents.{Contents}
 use Rattle.iges_params.specs.IsFile.{IsFile}
 use Rattle.topo_certificate.specs.declared.TheConstants.{CERT_LIMIT}
 use Rattle.cert_lines.specs.declared.version.Version.{Version}
-use Rattle.solid_check.specs.Accepted.{IsAccepted}
-use Rattle.solid_check.specs.Closed.{IsClosed}
-use Rattle.solid_check.specs.Laws.{upgraded_version}
+use Rattle.cert_accept.specs.Accepted.{IsAccepted}
+use Rattle.solid_verdict.specs.Closed.{IsClosed}
+use Rattle.cert_accept.specs.Laws.{upgraded_version}
 use Rattle.iges_params.specs.Solids.{solids_of}
 use Rattle.command_replies.specs.declared.answer.Answer.TheVariants as answer
 use Rattle.command_replies.specs.Texts.{accepted_line, accepted_lines}

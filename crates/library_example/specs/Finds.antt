@@ -4,7 +4,7 @@ use Rattle.iges_base.specs.declared.TheConstants.{FILE_LIMIT}
 use Rattle.iges_params.specs.Contents.{Contents}
 use Rattle.iges_params.specs.IsFile.{IsFile}
 use Rattle.iges_params.specs.Refusal.{IsOnly, Refusal}
-use Rattle.solid_check.specs.Closed.{IsVerdictOn}
+use Rattle.solid_verdict.specs.Closed.{IsVerdictOn}
 use Rattle.solid_data.specs.declared.verdict.Verdict.{Verdict}
 use Rattle.solid_data.specs.declared.verdict.Verdict.TheVariants as verdict
 use Rattle.library_example.specs.declared.Finding.{Finding}

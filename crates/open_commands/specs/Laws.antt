@@ -12,7 +12,7 @@ use Rattle.open_shells.specs.Legal.{IsOpenLegal}
 use Rattle.open_shells.specs.Line.{OpenLine, IsSpelled}
 use Rattle.open_shells.specs.Sound.{IsBorder}
 use Rattle.open_shells.specs.Stand.{shell_of}
-use Rattle.solid_check.specs.Closed.{IsClosed}
+use Rattle.solid_verdict.specs.Closed.{IsClosed}
 use Rattle.solid_data.specs.Obligations.{AllHold}
 use Rattle.open_commands.specs.Accepted.{IsOpenAcceptedFor}
 use Rattle.open_commands.specs.Checked.{open_checked}

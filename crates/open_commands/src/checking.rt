@@ -3,13 +3,13 @@
 ghost use Rattle.std.specs.Prelude.{◌≡◌, IfErr, IfOk, OnOk};
 ghost use Rattle.brep_walk.specs.OpenPlaces.{shell_solid_of};
 ghost use Rattle.open_commands.specs.Checked.{open_checked};
-ghost use Rattle.solid_check.specs.Faults.{IsCheckFault};
+ghost use Rattle.shell_rules.specs.Faults.{IsCheckFault};
 ghost use Rattle.solid_data.specs.Obligations.{AllHold};
 
 use brep_walk::{WalkFault, walk_shell};
 use iges_base::EntryNo;
 use iges_params::File;
-use solid_check::{CheckFault, join, shell_at};
+use shell_rules::{CheckFault, join, shell_at};
 use solid_data::{ShellAt, Solid};
 use std::alloc::Global;
 

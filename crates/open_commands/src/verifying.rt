@@ -14,7 +14,7 @@ use iges_base::{EntryNo, NoMemory};
 use iges_io::Source;
 use iges_params::File;
 use open_shells::OpenChecker;
-use solid_check::CheckFault;
+use shell_rules::CheckFault;
 use std::alloc::Global;
 use topo_certificate::CERT_LIMIT;
 

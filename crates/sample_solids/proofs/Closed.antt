@@ -1,8 +1,8 @@
 -- Samples are closed.
 use Rattle.std.specs.Prelude.{ℕ, ◌<◌}
 use Rattle.std.proofs.Common.{arith}
-use Rattle.solid_check.specs.Closed.{IsClosed}
-use Rattle.solid_check.proofs.Complete.{closed_is_accepted}
+use Rattle.solid_verdict.specs.Closed.{IsClosed}
+use Rattle.cert_accept.proofs.Complete.{closed_is_accepted}
 use Rattle.brep_walk.proofs.Few.{has_few_parts}
 use Rattle.sample_solids.specs.Sample.{sample}
 use Rattle.sample_solids.specs.Laws.{SamplesAreClosed, SamplesAreAccepted}
@@ -23,4 +23,4 @@ closed n low high =
 pub accepted : SamplesAreAccepted
 accepted n low high =
     let closed : IsClosed (sample n) 1 = is_closed n (omega (arith, low)) in
-    closed_is_accepted (sample n) 1 (has_few_parts (sample n) 1 (fits n high) closed.placed) closed
+    closed_is_accepted (sample n) 1 (has_few_parts (sample n) 1 (fits n high) closed.placed) closed.placed closed.closed

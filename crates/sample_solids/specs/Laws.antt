@@ -9,8 +9,8 @@ use Rattle.iges_write.specs.Text.{IsText}
 use Rattle.brep_walk.specs.SolidOf.{solid_of}
 use Rattle.solid_data.specs.declared.solid.FaceUse.{FaceUse}
 use Rattle.solid_data.specs.declared.solid.Shell.{Shell}
-use Rattle.solid_check.specs.Closed.{IsClosed}
-use Rattle.solid_check.specs.Accepted.{IsAccepted}
+use Rattle.solid_verdict.specs.Closed.{IsClosed}
+use Rattle.cert_accept.specs.Accepted.{IsAccepted}
 use Rattle.sample_solids.specs.Sample.{sample}
 
 abbrev pub faces_in : List Shell → List FaceUse

@@ -1,3 +1,4 @@
 pub mod Closed
 pub mod ShellObligations
 pub mod Naming
+pub mod Faults

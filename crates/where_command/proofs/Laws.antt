@@ -8,7 +8,7 @@ use Rattle.solid_data.specs.Obligations.{AllHold, FirstFalse}
 use Rattle.solid_data.specs.declared.verdict.Verdict.{Verdict}
 use Rattle.solid_data.specs.declared.verdict.Verdict.TheVariants.{Closed, Fails}
 use Rattle.solid_data.proofs.ObligationLemmas.{AllHold-append, AllHold-append_left, AllHold-append_right, FirstFalse-not_all}
-use Rattle.solid_check.specs.Closed.{IsClosed, IsVerdictOn, obligations}
+use Rattle.solid_verdict.specs.Closed.{IsClosed, IsVerdictOn, obligations}
 use Rattle.shell_rules.specs.ShellObligations.{solid_obligations}
 use Rattle.shell_rules.proofs.ClosedLemmas.{closed_is_all_hold}
 use Rattle.command_replies.specs.declared.answer.Answer.{Answer}

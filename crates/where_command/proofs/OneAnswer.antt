@@ -17,7 +17,7 @@ use Rattle.solid_data.specs.declared.verdict.Verdict.{Verdict}
 use Rattle.solid_data.specs.declared.verdict.Verdict.TheVariants.{Closed, Fails}
 use Rattle.solid_data.proofs.Members.{get_some}
 use Rattle.solid_data.proofs.ObligationLemmas.{FirstFalse-not_all, FirstFalse-one}
-use Rattle.solid_check.specs.Closed.{IsVerdictOn, obligations}
+use Rattle.solid_verdict.specs.Closed.{IsVerdictOn, obligations}
 use Rattle.record_paths.specs.declared.path.Path.{Path}
 use Rattle.record_paths.specs.Paths.{IsPathTo, Sited, sited}
 use Rattle.command_replies.specs.declared.answer.Answer.{Answer}

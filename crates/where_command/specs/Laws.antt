@@ -1,7 +1,7 @@
 -- What the definitions say of answers and texts.
 use Rattle.std.specs.Prelude.{◌≡◌, ◌↔◌, ◌⊎◌, ℕ, ◌++◌, List}
 use Rattle.iges_params.specs.Contents.{Contents}
-use Rattle.solid_check.specs.Closed.{IsClosed}
+use Rattle.solid_verdict.specs.Closed.{IsClosed}
 use Rattle.command_replies.specs.declared.answer.Answer.{Answer}
 use Rattle.command_replies.specs.declared.answer.Answer.TheVariants.{Done, No}
 use Rattle.where_text.specs.declared.listing.Listing.{Listing}

@@ -14,7 +14,7 @@ use Rattle.solid_data.specs.declared.verdict.Verdict.{Verdict}
 use Rattle.solid_data.specs.declared.verdict.Verdict.TheVariants.{Fails}
 use Rattle.solid_data.proofs.ObligationLemmas.{FirstFalse-append_front}
 use Rattle.shell_rules.specs.ShellObligations.{solid_obligations}
-use Rattle.solid_check.specs.Closed.{IsVerdictOn, obligations}
+use Rattle.solid_verdict.specs.Closed.{IsVerdictOn, obligations}
 use Rattle.solid_faults.specs.FaceFlags.{IsClosedFlagged}
 use Rattle.solid_faults.specs.Faults.{Faults}
 use Rattle.record_paths.specs.declared.path.Path.{Path}

@@ -5,7 +5,7 @@ use Rattle.iges_base.specs.declared.entry_no.EntryNo.{EntryNo}
 use Rattle.iges_params.specs.Contents.{Contents}
 use Rattle.solid_data.specs.declared.verdict.Verdict.{Verdict}
 use Rattle.solid_data.specs.declared.verdict.Verdict.TheVariants.{Closed, Fails}
-use Rattle.solid_check.specs.Closed.{IsVerdictOn}
+use Rattle.solid_verdict.specs.Closed.{IsVerdictOn}
 use Rattle.where_entities.specs.Facts.{entity_facts}
 use Rattle.where_text.specs.Spelled.{space_word}
 use Rattle.where_solids.specs.Hints.{no_solid_hint}

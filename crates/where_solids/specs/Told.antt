@@ -7,7 +7,7 @@ use Rattle.brep_walk.specs.SolidOf.{solid_of}
 use Rattle.solid_data.specs.Obligations.{AllHold, FirstFalse}
 use Rattle.solid_data.specs.declared.verdict.Failing.{Failing}
 use Rattle.solid_data.specs.declared.verdict.Verdict.{Verdict}
-use Rattle.solid_check.specs.Closed.{IsVerdictOn}
+use Rattle.solid_verdict.specs.Closed.{IsVerdictOn}
 use Rattle.solid_faults.specs.Faults.{Faults}
 use Rattle.record_paths.specs.declared.path.Path.{Path}
 use Rattle.record_paths.specs.Paths.{IsPathTo, sited}

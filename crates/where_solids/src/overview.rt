@@ -1,7 +1,7 @@
 //! The verdict on each solid of a file.
 
 ghost use Rattle.iges_base.specs.declared.entry_no.EntryNo.{EntryNo as AnyEntryNo};
-ghost use Rattle.solid_check.specs.Closed.{IsVerdictOn};
+ghost use Rattle.solid_verdict.specs.Closed.{IsVerdictOn};
 ghost use Rattle.solid_data.specs.declared.verdict.Verdict.{Verdict as AnyVerdict};
 ghost use Rattle.std.specs.Prelude.{◌≡◌, ◌++◌, ◌&&◌, ◌==◌, nat_lt, List, IfOk, OnOk, count_by, flat_map, length, zip};
 ghost use Rattle.where_solids.specs.Overview.{AreVerdicts, IsOverview, all_close, fails, overview_start, solid_paragraph, verdict_words};

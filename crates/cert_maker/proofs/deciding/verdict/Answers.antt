@@ -4,8 +4,8 @@ use Rattle.solid_data.specs.declared.verdict.Verdict.{Verdict}
 use Rattle.solid_data.specs.declared.verdict.Verdict.TheVariants.{Fails}
 use Rattle.shell_rules.specs.ShellObligations.{solid_obligations}
 use Rattle.edge_uses.proofs.Steps.{ok_weaker}
-use Rattle.solid_check.specs.Closed.{IsVerdictOn}
-use Rattle.solid_check.proofs.Verdicts.{place_fails, on_file, one_on_file}
+use Rattle.solid_verdict.specs.Closed.{IsVerdictOn}
+use Rattle.solid_verdict.proofs.Verdicts.{place_fails, on_file, one_on_file}
 use Rattle.cert_maker.proofs.deciding.verdict.Goals as goal
 
 pub returns-in-Ok-clause-verdict : goal.returns-in-Ok-clause-verdict

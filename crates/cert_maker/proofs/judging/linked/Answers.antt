@@ -1,4 +1,4 @@
-use Rattle.solid_check.proofs.Rules.{link_holds, link_fails}
+use Rattle.shell_rules.proofs.Rules.{link_holds, link_fails}
 use Rattle.cert_maker.proofs.judging.linked.Goals as goal
 
 pub returns-in-Ok-clause-holds : goal.returns-in-Ok-clause-holds

@@ -1,4 +1,4 @@
-use Rattle.solid_check.proofs.Rules.{pair_holds, pair_fails}
+use Rattle.shell_rules.proofs.Rules.{pair_holds, pair_fails}
 use Rattle.cert_maker.proofs.judging.mated.Goals as goal
 
 pub returns-in-Ok-clause-holds : goal.returns-in-Ok-clause-holds

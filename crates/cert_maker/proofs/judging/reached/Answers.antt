@@ -1,4 +1,4 @@
-use Rattle.solid_check.proofs.Rules.{reach_holds, reach_fails, unreached_there}
+use Rattle.shell_rules.proofs.Rules.{reach_holds, reach_fails, unreached_there}
 use Rattle.cert_maker.proofs.judging.reached.Goals as goal
 
 pub unreached-requires : goal.unreached-requires

@@ -5,7 +5,7 @@ use Rattle.shell_rules.specs.ShellObligations.{solid_obligations}
 use Rattle.cert_lines.specs.declared.parts.Certificate.{Certificate}
 use Rattle.cert_maker.specs.Certified.{IsCertificate}
 use Rattle.cert_maker.proofs.Certifying.{certificate_made, certificate_accepted}
-use Rattle.solid_check.proofs.Shells.{only_memory, only_so, never}
+use Rattle.shell_rules.proofs.Shells.{only_memory, only_so, never}
 use Rattle.cert_maker.proofs.making.certify.Goals as goal
 
 pub returns-in_err-shells-clause-only : goal.returns-in_err-shells-clause-only

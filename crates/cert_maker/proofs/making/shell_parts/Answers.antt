@@ -6,8 +6,8 @@ use Rattle.edge_uses.specs.ShellRows.{shell_rows}
 use Rattle.shell_rules.specs.ShellObligations.{shell_obligations, solid_obligations}
 use Rattle.cert_lines.specs.declared.parts.ShellPart.{ShellPart}
 use Rattle.cert_maker.specs.Parts.{IsPart}
-use Rattle.solid_check.proofs.Few.{few_parts}
-use Rattle.solid_check.proofs.Shells.{from_first, one_shell, shell_fails}
+use Rattle.shell_rules.proofs.Few.{few_parts}
+use Rattle.shell_rules.proofs.Shells.{from_first, one_shell, shell_fails}
 use Rattle.cert_maker.proofs.Zipping.{agree_first, agree_more, agree_done}
 use Rattle.cert_maker.proofs.making.shell_parts.Goals as goal
 

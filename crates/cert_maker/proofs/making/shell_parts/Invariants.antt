@@ -6,7 +6,7 @@ use Rattle.edge_uses.specs.ShellRows.{shell_rows}
 use Rattle.shell_rules.specs.ShellObligations.{shell_obligations, solid_obligations}
 use Rattle.cert_lines.specs.declared.parts.ShellPart.{ShellPart}
 use Rattle.cert_maker.specs.Parts.{IsPart}
-use Rattle.solid_check.proofs.Shells.{RemainFrom}
+use Rattle.shell_rules.proofs.Shells.{RemainFrom}
 use Rattle.cert_maker.proofs.Zipping.{AgreeUpTo}
 use Rattle.cert_maker.proofs.making.shell_parts.Given as goal
 

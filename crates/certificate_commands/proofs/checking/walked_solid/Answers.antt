@@ -1,5 +1,5 @@
 use Rattle.std.proofs.lemmas.Result.{err_from_is_err_and}
-use Rattle.solid_check.proofs.CheckedParts.{place_fault, shells_hold, shells_fault}
+use Rattle.cert_accept.proofs.CheckedParts.{place_fault, shells_hold, shells_fault}
 use Rattle.certificate_commands.proofs.checking.walked_solid.Goals as goal
 
 pub returns-in-Err-Fails-clause-fault : goal.returns-in-Err-Fails-clause-fault

@@ -3,7 +3,7 @@ use Rattle.std.proofs.Common.{length-append}
 use Rattle.std.proofs.lemmas.Option.{same_Some, none-some, get_or_from_slice_get}
 use Rattle.iges_base.specs.declared.entry_no.EntryNo.{EntryNo}
 use Rattle.iges_params.specs.Contents.{Contents}
-use Rattle.solid_check.specs.Closed.{IsVerdictOn}
+use Rattle.solid_verdict.specs.Closed.{IsVerdictOn}
 use Rattle.solid_data.specs.declared.verdict.Verdict.{Verdict}
 use Rattle.where_solids.proofs.overview.verdicts.Goals as goal
 

@@ -1,5 +1,0 @@
-use Rattle.compact_laws.proofs.RankedVerdict.{verdict_ranked}
-use Rattle.compact_laws.proofs.law.verdict_is_ranked.Goals as goal
-
-pub returns : goal.returns
-returns c = verdict_ranked

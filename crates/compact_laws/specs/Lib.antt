@@ -1,4 +1,0 @@
-pub mod Ranked
-pub mod Compacted
-pub mod Again
-pub mod Written

@@ -1,7 +1,0 @@
-pub mod Closed
-pub mod Accepted
-pub mod Laws
-pub mod Checked
-pub mod Book
-pub mod BookLaws
-pub mod Faults
