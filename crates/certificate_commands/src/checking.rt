@@ -7,10 +7,10 @@ ghost use Rattle.solid_data.specs.Obligations.{AllHold};
 ghost use Rattle.std.specs.Prelude.{◌≡◌, IfErr, IfOk, MatchResult, OnOk};
 
 use brep_walk::{WalkFault, Walker};
+use cert_accept::checked_solid;
 use command_replies::{Reply, failed, solid_failed};
 use iges_base::{EntryNo, NoMemory};
 use iges_params::File;
-use cert_accept::checked_solid;
 use shell_rules::{CheckFault, check_shells};
 use solid_data::Solid;
 use std::alloc::Global;

@@ -1,7 +1,7 @@
 use crate::comparing::same;
 use iges_base::EntryNo;
-use small_solids::{open_sheet, seamed_ball};
 use shell_rules::{CheckFault, check_shells};
+use small_solids::{open_sheet, seamed_ball};
 use solid_data::{Failing, Rule, Solid};
 use std::alloc::Global;
 use std::test::Fail;

@@ -2,14 +2,11 @@
 //! are dropped.
 #![tactic(auto)]
 
-mod compacting;
 mod law;
 
-pub use compacting::{
-    compacted_again, compacted_is_writable, compacted_keeps_verdict, solid_is_compacted,
-    solid_is_ranked, verdict_is_compacted, verdict_is_ranked, written_is_compacted,
-};
 pub use law::{
-    extracted_is_writable, places_are_kept, relabelled_solids_fail_alike, solid_is_kept,
-    verdict_is_kept, written_again, written_is_extracted, written_keeps_verdict,
+    compacted_again, compacted_is_writable, compacted_keeps_verdict, extracted_is_writable,
+    places_are_kept, relabelled_solids_fail_alike, solid_is_compacted, solid_is_kept,
+    solid_is_ranked, verdict_is_compacted, verdict_is_kept, verdict_is_ranked, written_again,
+    written_is_compacted, written_is_extracted, written_keeps_verdict,
 };

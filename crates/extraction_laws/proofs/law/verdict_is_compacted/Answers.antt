@@ -1,5 +1,5 @@
 use Rattle.extraction_laws.proofs.CompactedSolid.{verdict_compacted, no_other_verdict, closed_compacted}
-use Rattle.extraction_laws.proofs.compacting.verdict_is_compacted.Goals as goal
+use Rattle.extraction_laws.proofs.law.verdict_is_compacted.Goals as goal
 
 pub returns-clause-verdict : goal.returns-clause-verdict
 returns-clause-verdict c = verdict_compacted

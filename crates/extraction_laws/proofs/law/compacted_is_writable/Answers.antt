@@ -1,5 +1,5 @@
 use Rattle.extraction_laws.proofs.CompactedText.{compacted_is_made, compacted_is_writable}
-use Rattle.extraction_laws.proofs.compacting.compacted_is_writable.Goals as goal
+use Rattle.extraction_laws.proofs.law.compacted_is_writable.Goals as goal
 
 pub returns-clause-made : goal.returns-clause-made
 returns-clause-made c = compacted_is_made

@@ -1,5 +1,5 @@
 use Rattle.extraction_laws.proofs.CompactedAgain.{compacted_is_extracted, compacted_again, compacted_stays}
-use Rattle.extraction_laws.proofs.compacting.compacted_again.Goals as goal
+use Rattle.extraction_laws.proofs.law.compacted_again.Goals as goal
 
 pub returns-clause-extracted : goal.returns-clause-extracted
 returns-clause-extracted c = compacted_is_extracted

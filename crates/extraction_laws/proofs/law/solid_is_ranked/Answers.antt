@@ -1,5 +1,5 @@
 use Rattle.extraction_laws.proofs.RankedSolid.{solid_ranked}
-use Rattle.extraction_laws.proofs.compacting.solid_is_ranked.Goals as goal
+use Rattle.extraction_laws.proofs.law.solid_is_ranked.Goals as goal
 
 pub returns : goal.returns
 returns c = solid_ranked
