@@ -1,10 +1,13 @@
 -- One face of a shell, and one shell of a solid.
-use Rattle.std.specs.Prelude.{◌≡◌, ◌+◌, ℕ, ℤ, Bool, List, [], ◌∷◌, ◌++◌, flat_map, length, take, slice_get, Contains, Some, Result, IsErrAnd, IfErr}
-use Rattle.std.proofs.Common.{subst}
+use Rattle.std.specs.Prelude.{◌≡◌, ◌+◌, ℕ, ℤ, pos, Bool, List, [], ◌∷◌, ◌++◌, flat_map, length, take, slice_get, Contains, Some, Result, IsErrAnd, IfErr}
+use Rattle.std.proofs.Common.{sym, ◌∙◌, ap, subst, inl, inr}
 use Rattle.iges_params.specs.Contents.{Contents}
+use Rattle.brep_lists.specs.Record.{FaceItems}
 use Rattle.brep_lists.specs.declared.entity_kind.EntityKind.TheVariants.{Shell as shell, Face as face}
-use Rattle.solid_data.specs.Obligations.{Obligation, AllHold, obligation, after_each, entry_number}
+use Rattle.solid_data.specs.Obligations.{Obligation, AllHold, FirstFalse, obligation, after_each, entry_number}
 use Rattle.solid_data.specs.declared.verdict.Rule.TheVariants.{Twice, BadGeometry}
+use Rattle.solid_data.specs.declared.verdict.Failing.{Failing}
+use Rattle.solid_data.proofs.ObligationLemmas.{AllHold-append, FirstFalse-append_front, FirstFalse-append_rest}
 use Rattle.brep_walk.specs.declared.fault.WalkFault.{WalkFault}
 use Rattle.brep_walk.specs.Places.{told, faces, loops, numbers, NamesGeometry, record_places, loop_places, face_at, face_places, shell_at, shell_places}
 use Rattle.brep_walk.specs.Walked.{IsFault}
@@ -34,6 +37,52 @@ module _ (f : Contents) (s : ℤ) (place : ℕ) (known : List ℤ) (z y : ℤ) (
       (fault_front (record_places f s place face y ++ (face_twice ++ surface_place)) loops_places w
       (fault_rest (record_places f s place face y) (face_twice ++ surface_place) w holds (fault_front face_twice surface_place w h))))
 
+  abbrev names_surface : Type 0
+  names_surface = let items = told face f y in NamesGeometry f items.surface
+
+  abbrev face_front : List Obligation
+  face_front = record_places f s place face y ++ (face_twice ++ surface_place)
+
+  -- n is the entry that the number names, items what its record tells, and t the number of its surface as a call was given it; g is the file behind the lists
+  module _ (n : ℕ) (at : y ≡ pos n) (items : FaceItems) (is : items ≡ told face f y) (g : Contents) (file : g ≡ f) where
+    pub surface_named : (t : ℤ) → t ≡ items.surface → NamesGeometry g t → names_surface
+    surface_named t number h =
+        subst (λ (i : FaceItems). NamesGeometry f i.surface) is (subst (NamesGeometry f) number (subst (λ k. NamesGeometry k t) file h))
+
+    pub surface_false : (t : ℤ) → t ≡ items.surface → (x : Failing) → AllHold (record_places f s place face y) → ¬ Contains known y → ¬ NamesGeometry g t
+        → x ≡ record { rule = BadGeometry; entity = record { 0 = n }; place = 0 } → FirstFalse (face_at f s place known z) x
+    surface_false t number x holds fresh bad made = subst (λ l. FirstFalse (face_at f s place known l) x) same
+        (FirstFalse-append_front face_front loops_places x
+        (FirstFalse-append_rest (record_places f s place face y) (face_twice ++ surface_place) x holds
+        (inr (fresh, inl (λ h. bad (back h), made ∙ ap (λ v. record { rule = BadGeometry; entity = record { 0 = entry_number v }; place = 0 }) (sym at))))))
+      where
+        back : names_surface → NamesGeometry g t
+        back h = subst (λ k. NamesGeometry k t) (sym file)
+            (subst (NamesGeometry f) (sym number) (subst (λ (i : FaceItems). NamesGeometry f i.surface) (sym is) h))
+
+    -- what holds of the loops, where these are named
+    module _ (named : List ℤ) (used : named ≡ flat_map (loops f) known) where
+      loops_moved : (P : List Obligation → Type 0) → P (after_each (loop_places g (pos n) named) [] items.loops) → P loops_places
+      loops_moved P h =
+          subst (λ (i : FaceItems). P (after_each (loop_places f y (flat_map (loops f) known)) [] i.loops)) is
+          (subst (λ u. P (after_each (loop_places f y u) [] items.loops)) used
+          (subst (λ l. P (after_each (loop_places f l named) [] items.loops)) (sym at)
+          (subst (λ k. P (after_each (loop_places k (pos n) named) [] items.loops)) file h)))
+
+      pub face_holds : AllHold (record_places f s place face y) → ¬ Contains known y → names_surface
+          → AllHold (after_each (loop_places g (pos n) named) [] items.loops) → AllHold (face_at f s place known z)
+      face_holds holds fresh surface h = subst (λ l. AllHold (face_at f s place known l)) same
+          (AllHold-append face_front loops_places
+          (AllHold-append (record_places f s place face y) (face_twice ++ surface_place) holds (fresh, (surface, tt)))
+          (loops_moved AllHold h))
+
+      pub loops_fail : {T : Type 0} (r : Result T WalkFault) (w : WalkFault) → AllHold (record_places f s place face y) → ¬ Contains known y → names_surface
+          → IsFault (after_each (loop_places g (pos n) named) [] items.loops) w → IsErrAnd r (λ e. e ≡ w) → IfErr r (IsFault (face_at f s place known z))
+      loops_fail r w holds fresh surface h = handed (face_at f s place known z) r w (subst (λ l. IsFault (face_at f s place known l) w) same
+          (fault_rest face_front loops_places w
+          (AllHold-append (record_places f s place face y) (face_twice ++ surface_place) holds (fresh, (surface, tt)))
+          (loops_moved (λ os. IsFault os w) h)))
+
   abbrev shell_faces_places : List Obligation
   shell_faces_places = after_each (face_places f y (flat_map (λ b. numbers (faces f b)) known)) [] (faces f y)
 
@@ -46,6 +95,19 @@ module _ (f : Contents) (s : ℤ) (place : ℕ) (known : List ℤ) (z y : ℤ) (
       → IsErrAnd r (λ e. e ≡ w) → IfErr r (IsFault (shell_at f s place known z))
   named_shell_twice r w holds h = handed (shell_at f s place known z) r w (subst (λ l. IsFault (shell_at f s place known l) w) same
       (fault_front (record_places f s place shell y ++ face_twice) shell_faces_places w (fault_rest (record_places f s place shell y) face_twice w holds h)))
+
+  pub faces_fail : {T : Type 0} (r : Result T WalkFault) (w : WalkFault) (n : ℕ) → y ≡ pos n → (items : List (ℤ × Bool)) → items ≡ faces f y
+      → (g : Contents) → g ≡ f → (named : List ℤ) → named ≡ flat_map (λ b. numbers (faces f b)) known
+      → AllHold (record_places f s place shell y) → ¬ Contains known y → IsFault (after_each (face_places g (pos n) named) [] items) w
+      → IsErrAnd r (λ e. e ≡ w) → IfErr r (IsFault (shell_at f s place known z))
+  faces_fail r w n at items is g file named used holds fresh h =
+      handed (shell_at f s place known z) r w (subst (λ l. IsFault (shell_at f s place known l) w) same
+      (fault_rest (record_places f s place shell y ++ face_twice) shell_faces_places w
+      (AllHold-append (record_places f s place shell y) face_twice holds (fresh, tt))
+      (subst (λ i. IsFault (after_each (face_places f y (flat_map (λ b. numbers (faces f b)) known)) [] i) w) is
+      (subst (λ u. IsFault (after_each (face_places f y u) [] items) w) used
+      (subst (λ l. IsFault (after_each (face_places f l named) [] items) w) (sym at)
+      (subst (λ k. IsFault (after_each (face_places k (pos n) named) [] items) w) file h))))))
 
 -- g is the file behind the lists so far
 module _ (f g : Contents) (same : g ≡ f) (s : ℤ) (known before : List ℤ) (all : List (ℤ × Bool)) (i : ℕ) (x : ℤ × Bool) (y : ℤ) (at : slice_get all i ≡ Some x)

@@ -1,11 +1,13 @@
 -- One loop of a face.
-use Rattle.std.specs.Prelude.{◌≡◌, ◌+◌, ℕ, ℤ, List, [], ◌∷◌, ◌++◌, take, slice_get, Contains, Some, Result, IsErrAnd, IfErr}
+use Rattle.std.specs.Prelude.{◌≡◌, ◌+◌, ℕ, ℤ, pos, List, [], ◌∷◌, ◌++◌, take, slice_get, Contains, Some, Result, IsErrAnd, IfErr}
 use Rattle.std.proofs.Common.{sym, ◌∙◌, ap, subst, append_assoc}
 use Rattle.iges_params.specs.Contents.{Contents}
 use Rattle.brep_lists.specs.declared.entity_kind.EntityKind.TheVariants.{Loop as «loop»}
 use Rattle.solid_data.specs.Obligations.{Obligation, AllHold, obligation, after_each, entry_number}
 use Rattle.solid_data.specs.declared.verdict.Rule.TheVariants.{Twice}
 use Rattle.brep_walk.specs.declared.fault.WalkFault.{WalkFault}
+use Rattle.solid_data.proofs.ObligationLemmas.{AllHold-append}
+use Rattle.brep_walk.specs.Known.{uses_places}
 use Rattle.brep_walk.specs.Places.{tuples, record_places, tuple_places, loop_at, loop_places}
 use Rattle.brep_walk.specs.Walked.{IsFault}
 use Rattle.brep_walk.proofs.Faults.{fault_front, fault_rest, handed}
@@ -28,6 +30,13 @@ module _ (f : Contents) (c : ℤ) (place : ℕ) (known : List ℤ) (z y : ℤ) (
       → IsErrAnd r (λ e. e ≡ w) → IfErr r (IsFault (loop_at f c place known z))
   loop_twice r w holds h = handed (loop_at f c place known z) r w (subst (λ l. IsFault (loop_at f c place known l) w) same
       (fault_front (record_places f c place «loop» y ++ twice) rest w (fault_rest (record_places f c place «loop» y) twice w holds h)))
+
+  pub uses_fail : {T : Type 0} (r : Result T WalkFault) (w : WalkFault) (g : Contents) → g ≡ f → (n : ℕ) → y ≡ pos n
+      → AllHold (record_places f c place «loop» y) → ¬ Contains known y → IsFault (uses_places g (pos n)) w → IsErrAnd r (λ e. e ≡ w)
+      → IfErr r (IsFault (loop_at f c place known z))
+  uses_fail r w g file n is holds fresh h = handed (loop_at f c place known z) r w (subst (λ l. IsFault (loop_at f c place known l) w) same
+      (fault_rest (record_places f c place «loop» y ++ twice) rest w (AllHold-append (record_places f c place «loop» y) twice holds (fresh, tt))
+      (subst (λ l. IsFault (uses_places f l) w) (sym is) (subst (λ k. IsFault (uses_places k (pos n)) w) file h))))
 
 -- g is the file behind the lists so far
 module _ (f g : Contents) (same : g ≡ f) (c : ℤ) (used known : List ℤ) (all : List ℤ) (i : ℕ) (z y : ℤ) (at : slice_get all i ≡ Some z) (is : y ≡ z)

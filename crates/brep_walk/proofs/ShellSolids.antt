@@ -23,11 +23,15 @@ use Rattle.brep_walk.specs.declared.fault.WalkFault.{WalkFault}
 use Rattle.brep_walk.specs.declared.fault.WalkFault.TheVariants.{Fails}
 use Rattle.brep_numbering.specs.Numbered.{Numbered}
 use Rattle.brep_walk.specs.Numbered.{IsMadeBy, AreEdges, keys_after, face_tuples}
+use Rattle.brep_walk.specs.OneShell.{shell_keys, shell_faces, shell_edges}
 use Rattle.brep_walk.specs.OpenPlaces.{shell_entry_places, shell_record_places, open_places, shell_solid_of}
 use Rattle.brep_walk.specs.Places.{HasRecordOf, Names, faces, loops, tuples, numbers, face_places}
 use Rattle.brep_numbering.specs.Keys.{Keys}
 use Rattle.brep_walk.specs.SolidOf.{face_by, edge_by, tuples_in, edges_in, keys_in, solid_listing}
+use Rattle.brep_walk.specs.Stands.{Stands}
 use Rattle.brep_walk.specs.Walked.{IsFault}
+use Rattle.brep_walk.specs.Walks.{Begins}
+use Rattle.brep_walk.specs.declared.state.WalkState.{WalkState}
 use Rattle.brep_walk.proofs.Faults.{fault_front, fault_rest, handed, handed_failing}
 use Rattle.brep_walk.proofs.Few.{listing_has_few_parts}
 use Rattle.brep_walk.proofs.Found.{AreListed, listing_is_numbered, of_item}
@@ -91,34 +95,37 @@ module _ (f : Contents) (n : ℕ) (listed : List (ℤ × Bool)) (is : listed ≡
   tuples_of_one = tuples_of_faces f (faces f (pos n)) ∙ ap (λ cs. flat_map (tuples f) (flat_map (loops f) cs)) (sym (append-nil (numbers (faces f (pos n)))))
 
   module _ (start keys : Keys) (none : start ≡ record { edges = []; vertices = [] }) (after : keys ≡ keys_after g start (flat_map (face_tuples g) listed)) where
-    pub keys_whole : keys ≡ keys_in f one
-    keys_whole =
+    keys_same : keys ≡ keys_in f one
+    keys_same =
         after ∙ (ap (λ k. keys_after k start (flat_map (face_tuples k) listed)) file
         ∙ (ap (λ l. keys_after f start (flat_map (face_tuples f) l)) is
         ∙ (ap (λ k. keys_after f k (flat_map (face_tuples f) (faces f (pos n)))) none
         ∙ (ap (keys_after f (record { edges = []; vertices = [] })) tuples_of_one ∙ first_keys f (tuples_in f one)))))
 
-    pub faces_whole : (made : List FaceUse) → IsMadeBy keys (λ k. map (face_by g k) listed) made → made ≡ map (face_by f (keys_in f one)) (faces f (pos n))
+    pub keys_whole : keys ≡ shell_keys f n
+    unfolding shell_keys
+    keys_whole = keys_same
+
+    pub faces_whole : (made : List FaceUse) → IsMadeBy keys (λ k. map (face_by g k) listed) made → made ≡ shell_faces f n
+    unfolding shell_faces
     faces_whole made h =
         h keys (Extends-itself keys) ∙ (ap (λ k. map (face_by k keys) listed) file
-        ∙ (ap (map (face_by f keys)) is ∙ ap (λ k. map (face_by f k) (faces f (pos n))) keys_whole))
+        ∙ (ap (map (face_by f keys)) is ∙ ap (λ k. map (face_by f k) (faces f (pos n))) keys_same))
 
-    pub edges_whole : (numbered : Numbered) → numbered.keys ≡ keys → AreEdges g numbered
-        → numbered.edges ≡ flat_map (edge_by f (keys_in f one)) (edges_in f one)
+    pub edges_whole : (numbered : Numbered) → numbered.keys ≡ keys → AreEdges g numbered → numbered.edges ≡ shell_edges f n
+    unfolding shell_edges
     edges_whole numbered is_keys h =
         h numbered.keys (Extends-itself numbered.keys) ∙ (ap (λ k. flat_map (edge_by k numbered.keys) numbered.keys.edges) file
-        ∙ ap (λ (k : Keys). flat_map (edge_by f k) k.edges) (is_keys ∙ keys_whole))
+        ∙ ap (λ (k : Keys). flat_map (edge_by f k) k.edges) (is_keys ∙ keys_same))
 
 -- The solid.
 
 pub shell_solid_is : (f : Contents) (entry : EntryNo) (made : List FaceUse) (shells : List Shell) → shells ≡ [] → (pushed : List Shell)
     → pushed ≡ shells ++ record { entity = entry; flag = true; faces = made } ∷ []
-    → made ≡ map (face_by f (keys_in f ((pos entry.0, true) ∷ []))) (faces f (pos entry.0))
-    → (edges : List Edge) (vertices : List VertexKey) (numbered : Numbered) → edges ≡ numbered.edges
-    → numbered.edges ≡ flat_map (edge_by f (keys_in f ((pos entry.0, true) ∷ []))) (edges_in f ((pos entry.0, true) ∷ []))
-    → vertices ≡ numbered.keys.vertices → numbered.keys ≡ keys_in f ((pos entry.0, true) ∷ [])
+    → made ≡ shell_faces f entry.0 → (edges : List Edge) (vertices : List VertexKey) (numbered : Numbered) → edges ≡ numbered.edges
+    → numbered.edges ≡ shell_edges f entry.0 → vertices ≡ numbered.keys.vertices → numbered.keys ≡ shell_keys f entry.0
     → record { entity = entry; shells = pushed; edges = edges; vertices = vertices } ≡ shell_solid_of f entry.0
-unfolding solid_listing
+unfolding solid_listing shell_keys shell_faces shell_edges
 shell_solid_is f entry made shells first pushed a faces_are edges vertices numbered b c d e = λ j. record {
   entity = entry;
   shells = (a ∙ ap (λ hs. hs ++ record { entity = entry; flag = true; faces = made } ∷ []) first
@@ -152,3 +159,12 @@ pub shell_is_numbered : (f : Contents) (n : ℕ) → FitsLimits f → AllHold (o
 shell_is_numbered f n limits all =
     let held : AreListed f ((pos n, true) ∷ []) = listed_shell f n all in
     listing_is_numbered f n ((pos n, true) ∷ []) held (listing_has_few_parts f n ((pos n, true) ∷ []) limits (shell_named f n all) held (shell_fresh f n all))
+
+-- a walk that has begun is one through the file that it holds
+pub begins_itself : (f : Contents) (state : WalkState) → Begins f state → Begins state.lists state
+begins_itself f state begins = record {
+  stands = subst (λ g. Stands g state.lists state.numbering) (sym begins.stands.file) begins.stands;
+  keys = begins.keys;
+  loops = begins.loops;
+  faces = begins.faces;
+}

@@ -7,9 +7,10 @@ use Rattle.std.proofs.lemmas.Grind.{flat_map-append}
 use Rattle.indexmap.specs.IndexSet.{insert_key}
 use Rattle.iges_params.specs.Contents.{Contents}
 use Rattle.brep_lists.specs.Record.{LoopTuple}
-use Rattle.brep_lists.specs.declared.entity_kind.EntityKind.TheVariants.{EdgeList as edges}
+use Rattle.brep_lists.specs.declared.entity_kind.EntityKind.TheVariants.{EdgeList as edges, VertexList as vertices}
 use Rattle.brep_lists.specs.declared.edge_list.EdgeTuple.{EdgeTuple}
-use Rattle.solid_data.specs.Obligations.{AllHold, entry_number}
+use Rattle.solid_data.specs.Obligations.{Obligation, AllHold, entry_number}
+use Rattle.solid_data.proofs.ObligationLemmas.{AllHold-append}
 use Rattle.solid_data.specs.Ring.{place_of}
 use Rattle.solid_data.specs.SolidData.{same_edge, same_vertex}
 use Rattle.solid_data.specs.declared.solid.EdgeId.{EdgeId}
@@ -24,7 +25,7 @@ use Rattle.brep_walk.specs.Places.{told, edge_at, item_places, edge_places, used
 use Rattle.brep_numbering.specs.Keys.{Keys}
 use Rattle.brep_walk.specs.SolidOf.{edge_key, vertex_key, use_by, numbered_by, edge_by}
 use Rattle.brep_walk.specs.Walked.{IsFault}
-use Rattle.brep_walk.proofs.Faults.{fault_rest, handed}
+use Rattle.brep_walk.proofs.Faults.{fault_front, fault_rest, handed}
 use Rattle.brep_numbering.proofs.KeyPlaces.{any_append, place_stays, inserted, insert_more}
 use Rattle.brep_numbering.proofs.SameKeys.{vertex_itself}
 use Rattle.brep_walk.proofs.Numbered.{by_key}
@@ -170,3 +171,31 @@ ends_fault r w f g same entity place l j l2 j2 a b key ends named at holds h =
     (subst (λ o. IsFault (edge_places f l2 (entry_number j2) o) w) (sym at)
     (subst (λ (k : EdgeKey). IsFault (edge_places f (pos k.«list».0) k.index (Some ends)) w) named
     (subst (λ x. IsFault (edge_places x (pos key.«list».0) key.index (Some ends)) w) same h))))))
+
+pub ends_hold : (f g : Contents) → g ≡ f → (entity : ℤ) (place : ℕ) (l j l2 j2 : ℤ) → l2 ≡ l → j2 ≡ j → (key : EdgeKey) (ends : EdgeTuple)
+    → key ≡ edge_key l2 j2 → edge_at f l2 (entry_number j2) ≡ Some ends → AllHold (item_places f entity place edges l2 j2 (length (told edges f l2)))
+    → AllHold (edge_places g (pos key.«list».0) key.index (Some ends)) → AllHold (used_places f entity place l j false)
+ends_hold f g same entity place l j l2 j2 a b key ends named at holds h =
+    subst (λ x. AllHold (used_places f entity place l x false)) b
+    (subst (λ x. AllHold (used_places f entity place x j2 false)) a
+    (AllHold-append (item_places f entity place edges l2 j2 (length (told edges f l2)))
+    (edge_places f l2 (entry_number j2) (edge_at f l2 (entry_number j2))) holds
+    (subst (λ o. AllHold (edge_places f l2 (entry_number j2) o)) (sym at)
+    (subst (λ (k : EdgeKey). AllHold (edge_places f (pos k.«list».0) k.index (Some ends))) named
+    (subst (λ x. AllHold (edge_places x (pos key.«list».0) key.index (Some ends))) same h)))))
+
+pub no_edge : {T : Type 0} (r : Result T WalkFault) (w : WalkFault) (f : Contents) (entity : ℤ) (place : ℕ) (l j l2 j2 : ℤ) → l2 ≡ l → j2 ≡ j
+    → IsFault (item_places f entity place edges l2 j2 (length (told edges f l2))) w → IsErrAnd r (λ v. v ≡ w)
+    → IfErr r (IsFault (used_places f entity place l j false))
+no_edge r w f entity place l j l2 j2 a b h =
+    handed (used_places f entity place l j false) r w
+    (subst (λ x. IsFault (used_places f entity place l x false) w) b
+    (subst (λ x. IsFault (used_places f entity place x j2 false) w) a
+    (fault_front (item_places f entity place edges l2 j2 (length (told edges f l2)))
+    (edge_places f l2 (entry_number j2) (edge_at f l2 (entry_number j2))) w h)))
+
+-- what is said of the places of a used vertex
+pub vertex_moved : (P : List Obligation → Type 0) (f : Contents) (entity : ℤ) (place : ℕ) (l j l2 j2 : ℤ) → l2 ≡ l → j2 ≡ j
+    → P (item_places f entity place vertices l2 j2 (length (told vertices f l2))) → P (used_places f entity place l j true)
+vertex_moved P f entity place l j l2 j2 a b h =
+    subst (λ x. P (used_places f entity place l x true)) b (subst (λ x. P (used_places f entity place x j2 true)) a h)

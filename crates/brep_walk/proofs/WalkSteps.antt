@@ -1,5 +1,5 @@
 -- One step of a walk over a list.
-use Rattle.std.specs.Prelude.{◌≡◌, ◌+◌, ◌≤◌, ℕ, zero, suc, ℤ, List, [], ◌∷◌, ◌++◌, map, flat_map, length, take, drop, slice_get, Some}
+use Rattle.std.specs.Prelude.{◌≡◌, ◌+◌, ◌≤◌, ℕ, zero, suc, ℤ, List, [], ◌∷◌, ◌++◌, map, flat_map, length, take, drop, slice_get, Some, Ok}
 use Rattle.std.proofs.Common.{refl, sym, ◌∙◌, ap, subst, arith, append_assoc}
 use Rattle.std.proofs.lemmas.List.{append-nil, map-append}
 use Rattle.std.proofs.lemmas.Grind.{flat_map-append}
@@ -15,7 +15,10 @@ use Rattle.brep_walk.specs.Numbered.{Extends, IsMadeBy, keys_after}
 use Rattle.brep_walk.specs.Places.{tuple_at, tuple_places}
 use Rattle.brep_numbering.specs.Keys.{Keys}
 use Rattle.brep_walk.specs.SolidOf.{edge_named, vertices_named}
+use Rattle.brep_walk.specs.Stands.{Stands}
 use Rattle.brep_walk.specs.Walked.{IsFault}
+use Rattle.brep_walk.specs.Walks.{Walks}
+use Rattle.brep_walk.specs.declared.state.WalkState.{WalkState}
 use Rattle.brep_walk.proofs.Faults.{fault_front, fault_of}
 use Rattle.brep_numbering.proofs.KeyPlaces.{insert_all-append, insert_all_more}
 use Rattle.indexmap.specs.IndexSet.{insert_all}
@@ -169,3 +172,13 @@ take_past [] zero h = refl
 take_past [] (suc n) h = refl
 take_past (x ∷ xs) zero h = absurd (omega (arith, h))
 take_past (x ∷ xs) (suc n) h = ap (λ ys. x ∷ ys) (take_past xs n (omega (arith, h)))
+
+-- A walk of tuples that a callee has made. g is the file behind its lists, and T tells the tuples.
+pub walks_so : (before after : WalkState) {X : Type 0} (x : X) (g : Contents) → g ≡ before.lists → (T : Contents → List LoopTuple) (ts : List LoopTuple)
+    → T before.lists ≡ ts → after.lists ≡ g → Stands g after.lists after.numbering → after.numbering.keys ≡ keys_after g before.numbering.keys (T g)
+    → Walks before after (Ok x) ts
+walks_so before after x g same T ts is file stands keys = record {
+  file = file ∙ same;
+  stands = subst (λ h. Stands h after.lists after.numbering) same stands;
+  keys = keys ∙ (ap (λ h. keys_after h before.numbering.keys (T h)) same ∙ ap (keys_after before.lists before.numbering.keys) is);
+}

@@ -11,3 +11,4 @@ pub mod Marked
 pub mod Known
 pub mod Walks
 pub mod Here
+pub mod OneShell

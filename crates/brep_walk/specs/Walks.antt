@@ -12,6 +12,13 @@ use Rattle.brep_walk.specs.declared.place.Place.{Place}
 use Rattle.brep_walk.specs.declared.state.WalkState.{WalkState}
 use Rattle.solid_data.specs.Obligations.{Obligation, after_each}
 
+-- A walk through the file that has numbered and named nothing yet.
+pub record Begins (f : Contents) (state : WalkState) : Type 0 where
+  pub stands : Stands f state.lists state.numbering
+  pub keys : state.numbering.keys ≡ record { edges = []; vertices = [] }
+  pub loops : state.loops ≡ []
+  pub faces : state.faces ≡ []
+
 -- The file stays. Where the walk of the tuples ends well, what they name is numbered.
 pub record Walks (before after : WalkState) {X : Type 0} (result : Result X WalkFault) (ts : List LoopTuple) : Type 0 where
   pub file : after.lists ≡ before.lists

@@ -1,12 +1,13 @@
 //! The walk through one shell.
 
-ghost use Rattle.std.specs.Prelude.{◌≡◌, ◌↔◌, ◌<◌, ◌^◌, ◌∷◌, [], IsTrue, ◌⊎◌, IfOk, IfErr, OnOk, Ok, Err, map, flat_map, length, pos, true};
+ghost use Rattle.std.specs.Prelude.{◌≡◌, ◌↔◌, ◌<◌, ◌^◌, IsTrue, ◌⊎◌, IfOk, IfErr, OnOk, Ok, Err, length, pos};
 ghost use Rattle.brep_lists.specs.Record.{type_number};
 ghost use Rattle.brep_lists.specs.declared.entity_kind.EntityKind.TheVariants.{Shell as shell};
 ghost use Rattle.brep_walk.specs.OpenPlaces.{shell_entry_places, shell_record_places, open_places, shell_solid_of};
 ghost use Rattle.brep_walk.specs.Places.{faces};
-ghost use Rattle.brep_walk.specs.SolidOf.{face_by, edge_by, edges_in, keys_in};
+ghost use Rattle.brep_walk.specs.OneShell.{shell_faces, shell_keys, shell_edges};
 ghost use Rattle.brep_walk.specs.Walked.{IsFault, Gives};
+ghost use Rattle.brep_walk.specs.Walks.{Begins};
 ghost use Rattle.iges_params.specs.Limits.{FitsLimits};
 ghost use Rattle.iges_params.specs.Named.{values_of};
 ghost use Rattle.solid_data.specs.Obligations.{AllHold, FirstFalse};
@@ -17,7 +18,6 @@ use crate::place::Place;
 use crate::state::WalkState;
 use brep_lists::EntityKind;
 use brep_loops::ShellRecord;
-use brep_numbering::Numbering;
 use iges_directory::Entry;
 use iges_fields::{EntryNo, Values};
 use iges_params::File;
@@ -68,31 +68,30 @@ fn shell_record(file: &File, entity: EntryNo) -> Result<ShellRecord<'_>, Failing
     }
 }
 
-// The faces of a shell, and the numbers of its edges and vertices.
-fn numbered_faces(alloc: Global, file: &File, no: EntryNo) -> Result<(Faces, Numbering), WalkFault>
-    ensures holds { OnOk result (AllHold (open_places file.now no.0)) }
-    ensures faces { IfOk result (λ r. r.0 ≡ map
-        (face_by file.now (keys_in file.now ((pos no.0, true) ∷ []))) (faces file.now (pos no.0))) }
-    ensures keys { IfOk result (λ r. r.1.keys ≡ keys_in file.now ((pos no.0, true) ∷ [])) }
-    ensures edges { IfOk result (λ r. r.1.edges
-        ≡ flat_map (edge_by file.now (keys_in file.now ((pos no.0, true)
-        ∷ []))) (edges_in file.now ((pos no.0, true) ∷ []))) }
-    ensures fault { IfErr result (IsFault (open_places file.now no.0)) }
-    ensures limits { FitsLimits file.now }
+// The faces of a shell, whose edges and vertices the walk numbers.
+fn numbered_faces(walk: &mut WalkState<'_>, alloc: Global, no: EntryNo) -> Result<Faces, WalkFault>
+    requires { Begins walk.old.lists walk.old }
+    ensures holds { OnOk result (AllHold (open_places walk.old.lists no.0)) }
+    ensures faces { IfOk result (λ r. r ≡ shell_faces walk.old.lists no.0) }
+    ensures keys { OnOk result (walk.new.numbering.keys ≡ shell_keys walk.old.lists no.0) }
+    ensures edges { OnOk result (walk.new.numbering.edges ≡ shell_edges walk.old.lists no.0) }
+    ensures fault { IfErr result (IsFault (open_places walk.old.lists no.0)) }
+    ensures limits { FitsLimits walk.old.lists }
 {
-    let listed = shell_record(file, no)?;
-    let mut walk = WalkState::new(alloc, file);
+    let listed = shell_record(walk.lists.file(), no)?;
     let faces = walk.walk_faces(alloc, no, &listed)?;
-    Ok((faces, walk.numbering))
+    Ok(faces)
 }
 
 // The shell as a solid, or the first place that fails.
-fn shell_solid(alloc: Global, file: &File, no: EntryNo) -> Result<Solid, WalkFault>
-    ensures solid { IfOk result (λ s. s ≡ shell_solid_of file.now no.0) }
-    ensures holds { OnOk result (AllHold (open_places file.now no.0)) }
-    ensures fault { IfErr result (IsFault (open_places file.now no.0)) }
+fn shell_solid(walk: &mut WalkState<'_>, alloc: Global, no: EntryNo) -> Result<Solid, WalkFault>
+    requires { Begins walk.old.lists walk.old }
+    ensures solid { IfOk result (λ s. s ≡ shell_solid_of walk.old.lists no.0) }
+    ensures holds { OnOk result (AllHold (open_places walk.old.lists no.0)) }
+    ensures fault { IfErr result (IsFault (open_places walk.old.lists no.0)) }
 {
-    let (faces, mut numbering) = numbered_faces(alloc, file, no)?;
+    let faces = numbered_faces(walk, alloc, no)?;
+    let numbering = &mut walk.numbering;
     let vertices = numbering.vertices(alloc)?;
     let mut shells = Shells::new(alloc);
     shells.push(Shell {
@@ -100,7 +99,8 @@ fn shell_solid(alloc: Global, file: &File, no: EntryNo) -> Result<Solid, WalkFau
         flag: true,
         faces,
     })?;
-    Ok(Solid::new(no, shells, numbering.take_edges(alloc), vertices))
+    let edges = numbering.take_edges(alloc);
+    Ok(Solid::new(no, shells, edges, vertices))
 }
 
 /// One shell as a solid of its own number: the shell with flag true, its faces, loops and uses as its records list them
@@ -116,5 +116,6 @@ pub fn walk_shell(alloc: Global, file: &File, no: EntryNo) -> Result<Solid, Walk
     ensures only_fault { (x : Named) → FirstFalse (open_places file.now no.0) x
         → Gives result (Err x) }
 {
-    shell_solid(alloc, file, no)
+    let mut walk = WalkState::new(alloc, file);
+    shell_solid(&mut walk, alloc, no)
 }

@@ -1,7 +1,6 @@
 //! The state of a walk.
 
 ghost use Rattle.std.specs.Prelude.{◌≡◌, []};
-ghost use Rattle.brep_walk.specs.Stands.{Stands};
 
 use crate::lists::Lists;
 use crate::once::Once;
@@ -20,12 +19,11 @@ pub struct WalkState<'a> {
 }
 
 impl<'a> WalkState<'a> {
+    ghost use Rattle.brep_walk.specs.Walks.{Begins};
+
     /// A walk through a file in which no edge and no vertex was used and nothing was named yet.
     pub fn new(alloc: Global, file: &'a File) -> WalkState<'a>
-        ensures stands { Stands file.now result.lists result.numbering }
-        ensures keys { result.numbering.keys ≡ record { edges = []; vertices = [] } }
-        ensures loops { result.loops ≡ [] }
-        ensures faces { result.faces ≡ [] }
+        ensures begins { Begins file.now result }
         ensures shells { result.shells ≡ [] }
     {
         WalkState {
@@ -39,10 +37,7 @@ impl<'a> WalkState<'a> {
 
     /// Begins again, with no edge and no vertex used and nothing named. The lists that were looked at are kept.
     pub fn restart(&mut self, alloc: Global)
-        ensures stands { Stands self.old.lists self.new.lists self.new.numbering }
-        ensures keys { self.new.numbering.keys ≡ record { edges = []; vertices = [] } }
-        ensures loops { self.new.loops ≡ [] }
-        ensures faces { self.new.faces ≡ [] }
+        ensures begins { Begins self.old.lists self.new }
         ensures shells { self.new.shells ≡ [] }
     {
         self.numbering.restart(alloc);

@@ -9,29 +9,29 @@ returns-in_err-entity-clause-fault c =
 pub returns-in_err-shells-clause-fault : goal.returns-in_err-shells-clause-fault
 returns-in_err-shells-clause-fault c =
     shells_fault c.args.walk.now.lists c.args.no.0 _ refl c.in_ok-entity.listed c.in_ok-entity.ensures.named.1 _
-    (c.restart.ensures.stands.file ∙ c.in_ok-entity.ensures.file) c.in_ok-entity.entity.0 c.in_ok-entity.ensures.named.0
+    (c.restart.ensures.begins.stands.file ∙ c.in_ok-entity.ensures.file) c.in_ok-entity.entity.0 c.in_ok-entity.ensures.named.0
     c.from_residual-in_err-shells.result _ c.in_ok-entity.ensures.holds c.in_err-shells.ensures.fault c.from_residual-in_err-shells.ensures.1
 
 pub returns-clause-holds : goal.returns-clause-holds
 returns-clause-holds c =
     shells_hold c.args.walk.now.lists c.args.no.0 _ refl c.in_ok-entity.listed c.in_ok-entity.ensures.named.1 _
-    (c.restart.ensures.stands.file ∙ c.in_ok-entity.ensures.file) c.in_ok-entity.entity.0 c.in_ok-entity.ensures.named.0
+    (c.restart.ensures.begins.stands.file ∙ c.in_ok-entity.ensures.file) c.in_ok-entity.entity.0 c.in_ok-entity.ensures.named.0
     c.in_ok-entity.ensures.holds c.in_ok-shells.ensures.holds
 
 pub returns-clause-keys : goal.returns-clause-keys
 returns-clause-keys c =
     keys_whole c.args.walk.now.lists c.args.no.0 _ refl c.in_ok-entity.listed c.in_ok-entity.ensures.named.1 _
-    (c.restart.ensures.stands.file ∙ c.in_ok-entity.ensures.file) c.in_ok-entity.entity.0 c.in_ok-entity.ensures.named.0
-    _ _ c.restart.ensures.keys c.in_ok-shells.ensures.walks.keys
+    (c.restart.ensures.begins.stands.file ∙ c.in_ok-entity.ensures.file) c.in_ok-entity.entity.0 c.in_ok-entity.ensures.named.0
+    _ _ c.restart.ensures.begins.keys c.in_ok-shells.ensures.walks.keys
 
 pub returns-clause-shells : goal.returns-clause-shells
 returns-clause-shells c =
     shells_whole c.args.walk.now.lists c.args.no.0 _ refl c.in_ok-entity.listed c.in_ok-entity.ensures.named.1 _
-    (c.restart.ensures.stands.file ∙ c.in_ok-entity.ensures.file) c.in_ok-entity.entity.0 c.in_ok-entity.ensures.named.0
-    _ _ c.restart.ensures.keys c.in_ok-shells.ensures.walks.keys c.in_ok-shells.shells c.in_ok-shells.ensures.made
+    (c.restart.ensures.begins.stands.file ∙ c.in_ok-entity.ensures.file) c.in_ok-entity.entity.0 c.in_ok-entity.ensures.named.0
+    _ _ c.restart.ensures.begins.keys c.in_ok-shells.ensures.walks.keys c.in_ok-shells.shells c.in_ok-shells.ensures.made
 
 pub returns-clause-edges : goal.returns-clause-edges
 returns-clause-edges c =
     edges_whole c.args.walk.now.lists c.args.no.0 _ refl c.in_ok-entity.listed c.in_ok-entity.ensures.named.1 _
-    (c.restart.ensures.stands.file ∙ c.in_ok-entity.ensures.file) c.in_ok-entity.entity.0 c.in_ok-entity.ensures.named.0
-    _ _ c.restart.ensures.keys c.in_ok-shells.ensures.walks.keys _ refl c.in_ok-shells.ensures.walks.stands.edges
+    (c.restart.ensures.begins.stands.file ∙ c.in_ok-entity.ensures.file) c.in_ok-entity.entity.0 c.in_ok-entity.ensures.named.0
+    _ _ c.restart.ensures.begins.keys c.in_ok-shells.ensures.walks.keys _ refl c.in_ok-shells.ensures.walks.stands.edges

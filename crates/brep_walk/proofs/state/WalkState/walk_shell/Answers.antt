@@ -1,7 +1,10 @@
-use Rattle.std.proofs.Common.{pos}
+use Rattle.std.proofs.Common.{◌∙◌, ap, flat_map, pos}
 use Rattle.std.proofs.lemmas.Int.{to_z-of_z}
 use mir.Syntax.{w64}
-use Rattle.brep_walk.proofs.ItemSteps.{no_shell, named_shell_twice}
+use Rattle.brep_walk.specs.Numbered.{face_tuples, shell_tuples}
+use Rattle.brep_walk.specs.Places.{faces}
+use Rattle.brep_walk.proofs.ItemSteps.{no_shell, named_shell_twice, faces_fail}
+use Rattle.brep_walk.proofs.WalkSteps.{walks_so}
 use Rattle.brep_walk.proofs.state.WalkState.walk_shell.Goals as goal
 
 pub returns-in_err-entity-clause-fault : goal.returns-in_err-entity-clause-fault
@@ -17,3 +20,19 @@ returns-in_err-note-clause-fault c =
     (to_z-of_z w64 c.args.number c.ranges.number) c.from_residual-in_err-note.result _
     c.in_ok-entity.ensures.holds
     c.in_err-note.ensures.fault c.from_residual-in_err-note.ensures.1
+
+pub returns-in_err-faces-clause-fault : goal.returns-in_err-faces-clause-fault
+returns-in_err-faces-clause-fault c =
+    faces_fail c.args.self.now.lists (pos c.args.at.entity.0) c.args.at.item c.args.self.now.shells c.args.number _
+    (to_z-of_z w64 c.args.number c.ranges.number) c.from_residual-in_err-faces.result _ c.in_ok-entity.entity.0 c.in_ok-entity.ensures.named.0
+    c.in_ok-entity.listed c.in_ok-entity.ensures.named.1 c.record.new.self c.in_ok-entity.ensures.file c.args.self.now.faces c.requires.faces
+    c.in_ok-entity.ensures.holds c.in_ok-note.ensures.holds c.in_err-faces.ensures.fault c.from_residual-in_err-faces.ensures.1
+
+pub returns-clause-walks : goal.returns-clause-walks
+returns-clause-walks c =
+    let f = c.args.self.now.lists in
+    let e = c.in_ok-faces.ensures in
+    walks_so c.args.self.now c.walk_faces.new.self _ c.record.new.self c.in_ok-entity.ensures.file
+    (λ g. flat_map (face_tuples g) c.in_ok-entity.listed) (shell_tuples f (c.args.number, c.args.flag))
+    (ap (flat_map (face_tuples f)) (c.in_ok-entity.ensures.named.1 ∙ ap (faces f) (to_z-of_z w64 c.args.number c.ranges.number)))
+    e.walks.file e.walks.stands e.walks.keys
