@@ -1,5 +1,5 @@
 -- Lists that are kept.
-use Rattle.std.specs.Prelude.{◌≡◌, ◌<◌, ◌^◌, ◌-◌, ◌⊎◌, ℕ, ℤ, pos, List, [], ◌∷◌, ◌++◌, length, slice_get, Some, Result, Ok, Err, IsErrAnd, IfErr}
+use Rattle.std.specs.Prelude.{◌≡◌, ◌<◌, ◌^◌, ◌-◌, ℕ, ℤ, pos, List, [], ◌∷◌, ◌++◌, length, slice_get, Some, Result, Ok, Err, IsErrAnd, IfErr}
 use Rattle.std.proofs.Common.{sym, ◌∙◌, ap, subst, inl, ⊎_elim}
 use Rattle.iges_base.specs.declared.entry_no.EntryNo.{EntryNo}
 use Rattle.iges_params.specs.Contents.{Contents}
