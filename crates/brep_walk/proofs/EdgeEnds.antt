@@ -10,7 +10,7 @@ use Rattle.solid_data.proofs.ObligationLemmas.{AllHold-append}
 use Rattle.brep_walk.specs.declared.fault.WalkFault.{WalkFault}
 use Rattle.brep_walk.specs.Places.{told, NamesGeometry, item_places, edge_places}
 use Rattle.brep_walk.specs.Walked.{IsFault}
-use Rattle.brep_walk.proofs.Faults.{fault_rest, handed}
+use Rattle.brep_walk.proofs.Faults.{fault_front, fault_rest, handed}
 
 -- an edge is what its parts are
 pub edge_is : (e : EdgeTuple) (curve start_list start_index end_list end_index : ℤ) → curve ≡ e.curve → start_list ≡ e.start_list → start_index ≡ e.start_index
@@ -36,6 +36,11 @@ module _ (f g : Contents) (same : g ≡ f) (entity : ℤ) (place : ℕ) (e given
   pub both_ends : NamesGeometry f given.curve → AllHold start_places → AllHold (end_places g) → AllHold (edge_places f entity place (Some e))
   both_ends curve start end = subst (λ x. AllHold (edge_places f entity place (Some x))) is
       (AllHold-append (curve_place ++ start_places) (end_places f) (front curve start) (subst (λ h. AllHold (end_places h)) same end))
+
+  pub start_fault : {T : Type 0} (r : Result T WalkFault) (w : WalkFault) → NamesGeometry f given.curve → IsFault start_places w → IsErrAnd r (λ v. v ≡ w)
+      → IfErr r (IsFault (edge_places f entity place (Some e)))
+  start_fault r w curve h = handed (edge_places f entity place (Some e)) r w (subst (λ x. IsFault (edge_places f entity place (Some x)) w) is
+      (fault_front (curve_place ++ start_places) (end_places f) w (fault_rest curve_place start_places w (curve, tt) h)))
 
   pub end_fault : {T : Type 0} (r : Result T WalkFault) (w : WalkFault) → NamesGeometry f given.curve → AllHold start_places → IsFault (end_places g) w
       → IsErrAnd r (λ v. v ≡ w)

@@ -1,6 +1,10 @@
 -- One face of a shell, and one shell of a solid.
-use Rattle.std.specs.Prelude.{◌≡◌, ◌+◌, ℕ, ℤ, pos, Bool, List, [], ◌∷◌, ◌++◌, flat_map, length, take, slice_get, Contains, Some, Result, IsErrAnd, IfErr}
+use Rattle.std.specs.Prelude.{◌≡◌, ◌+◌, ℕ, ℤ, pos, Bool, List, [], ◌∷◌, ◌++◌, map, flat_map, length, take, slice_get, Contains, Some, Result, IsErrAnd, IfErr}
 use Rattle.std.proofs.Common.{sym, ◌∙◌, ap, subst, inl, inr}
+use Rattle.std.proofs.lemmas.List.{append-nil}
+use Rattle.std.proofs.lemmas.Grind.{flat_map-append}
+use Rattle.iges_base.specs.declared.entry_no.EntryNo.{EntryNo}
+use Rattle.brep_numbering.specs.Keys.{Keys}
 use Rattle.iges_params.specs.Contents.{Contents}
 use Rattle.brep_lists.specs.Record.{FaceItems}
 use Rattle.brep_lists.specs.declared.entity_kind.EntityKind.TheVariants.{Shell as shell, Face as face}
@@ -10,7 +14,11 @@ use Rattle.solid_data.specs.declared.verdict.Failing.{Failing}
 use Rattle.solid_data.proofs.ObligationLemmas.{AllHold-append, FirstFalse-append_front, FirstFalse-append_rest}
 use Rattle.brep_walk.specs.declared.fault.WalkFault.{WalkFault}
 use Rattle.brep_walk.specs.Places.{told, faces, loops, numbers, NamesGeometry, record_places, loop_places, face_at, face_places, shell_at, shell_places}
+use Rattle.brep_walk.specs.Numbered.{IsMadeBy}
+use Rattle.brep_walk.specs.SolidOf.{loop_by, face_by, shell_by}
 use Rattle.brep_walk.specs.Walked.{IsFault}
+use Rattle.solid_data.specs.declared.solid.FaceUse.{FaceUse}
+use Rattle.solid_data.specs.declared.solid.Loop.{Loop}
 use Rattle.brep_walk.proofs.Faults.{fault_front, fault_rest, handed}
 use Rattle.brep_walk.proofs.WalkSteps.{place_next}
 
@@ -108,6 +116,45 @@ module _ (f : Contents) (s : ℤ) (place : ℕ) (known : List ℤ) (z y : ℤ) (
       (subst (λ u. IsFault (after_each (face_places f y u) [] items) w) used
       (subst (λ l. IsFault (after_each (face_places f l named) [] items) w) (sym at)
       (subst (λ k. IsFault (after_each (face_places k (pos n) named) [] items) w) file h))))))
+
+  pub shell_holds : (n : ℕ) → y ≡ pos n → (items : List (ℤ × Bool)) → items ≡ faces f y → (g : Contents) → g ≡ f → (named : List ℤ)
+      → named ≡ flat_map (λ b. numbers (faces f b)) known → AllHold (record_places f s place shell y) → ¬ Contains known y
+      → AllHold (after_each (face_places g (pos n) named) [] items) → AllHold (shell_at f s place known z)
+  shell_holds n at items is g file named used holds fresh h = subst (λ l. AllHold (shell_at f s place known l)) same
+      (AllHold-append (record_places f s place shell y ++ face_twice) shell_faces_places
+      (AllHold-append (record_places f s place shell y) face_twice holds (fresh, tt))
+      (subst (λ i. AllHold (after_each (face_places f y (flat_map (λ b. numbers (faces f b)) known)) [] i)) is
+      (subst (λ u. AllHold (after_each (face_places f y u) [] items)) used
+      (subst (λ l. AllHold (after_each (face_places f l named) [] items)) (sym at)
+      (subst (λ k. AllHold (after_each (face_places k (pos n) named) [] items)) file h)))))
+
+-- what an item's record lists was named after what those before it list
+pub named_more : (list : ℤ → List ℤ) (old_parts new_parts mine old new : List ℤ) (y : ℤ) → new_parts ≡ old_parts ++ mine → mine ≡ list y
+    → old_parts ≡ flat_map list old → new ≡ old ++ y ∷ [] → new_parts ≡ flat_map list new
+named_more list old_parts new_parts mine old new y grown is before last =
+    grown ∙ ((λ j. before j ++ is j) ∙ (ap (λ xs. flat_map list old ++ xs) (sym (append-nil (list y)))
+    ∙ (sym (flat_map-append list old (y ∷ [])) ∙ ap (flat_map list) (sym last))))
+
+-- y is the number as a call was given it, and g the file behind the lists
+
+pub face_made : (f g : Contents) → g ≡ f → (z y : ℤ) → y ≡ z → (flag : Bool) (entity : EntryNo) → y ≡ pos entity.0 → (items : FaceItems) → items ≡ told face f y
+    → (keys : Keys) (ls : List Loop) → IsMadeBy keys (λ k. map (loop_by g k) items.loops) ls
+    → IsMadeBy keys (λ k. face_by f k (z, flag)) (record { entity = entity; flag = flag; loops = ls })
+face_made f g file z y same flag entity at items is keys ls made later more = λ j. record {
+  entity = record { 0 = entry_number ((sym at ∙ same) j) };
+  flag = flag;
+  loops = (made later more ∙ (ap (λ h. map (loop_by h later) items.loops) file
+      ∙ ap (λ (i : FaceItems). map (loop_by f later) i.loops) (is ∙ ap (told face f) same))) j;
+}
+
+pub shell_made : (f g : Contents) → g ≡ f → (z y : ℤ) → y ≡ z → (flag : Bool) (entity : EntryNo) → y ≡ pos entity.0 → (items : List (ℤ × Bool))
+    → items ≡ faces f y → (keys : Keys) (cs : List FaceUse) → IsMadeBy keys (λ k. map (face_by g k) items) cs
+    → IsMadeBy keys (λ k. shell_by f k (z, flag)) (record { entity = entity; flag = flag; faces = cs })
+shell_made f g file z y same flag entity at items is keys cs made later more = λ j. record {
+  entity = record { 0 = entry_number ((sym at ∙ same) j) };
+  flag = flag;
+  faces = (made later more ∙ (ap (λ h. map (face_by h later) items) file ∙ ap (map (face_by f later)) (is ∙ ap (faces f) same))) j;
+}
 
 -- g is the file behind the lists so far
 module _ (f g : Contents) (same : g ≡ f) (s : ℤ) (known before : List ℤ) (all : List (ℤ × Bool)) (i : ℕ) (x : ℤ × Bool) (y : ℤ) (at : slice_get all i ≡ Some x)

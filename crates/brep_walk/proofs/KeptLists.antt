@@ -5,9 +5,11 @@ use Rattle.iges_base.specs.declared.entry_no.EntryNo.{EntryNo}
 use Rattle.iges_params.specs.Contents.{Contents}
 use Rattle.brep_lists.specs.declared.edge_list.EdgeTuple.{EdgeTuple}
 use Rattle.brep_lists.specs.Record.{Items}
+use Rattle.brep_lists.specs.declared.entity_kind.EntityKind.{EntityKind}
 use Rattle.brep_lists.specs.declared.entity_kind.EntityKind.TheVariants.{EdgeList as edges, VertexList as vertices}
 use Rattle.solid_data.specs.Obligations.{AllHold, FirstFalse, obligation, entry_number}
 use Rattle.solid_data.specs.declared.solid.EdgeKey.{EdgeKey}
+use Rattle.solid_data.specs.declared.solid.VertexKey.{VertexKey}
 use Rattle.solid_data.specs.declared.verdict.Failing.{Failing}
 use Rattle.solid_data.specs.declared.verdict.Rule.TheVariants.{BadIndex}
 use Rattle.solid_data.proofs.ObligationLemmas.{AllHold-append, FirstFalse-append_rest}
@@ -15,8 +17,9 @@ use Rattle.brep_walk.specs.declared.fault.WalkFault.{WalkFault}
 use Rattle.brep_walk.specs.declared.fault.WalkFault.TheVariants.{Fails}
 use Rattle.brep_walk.specs.Kept.{AreKept, NamesRecord, IsEdgeList, IsVertexList}
 use Rattle.brep_walk.specs.Places.{told, edge_at, IsIndex, record_places, item_places}
-use Rattle.brep_walk.specs.SolidOf.{edge_key}
+use Rattle.brep_walk.specs.SolidOf.{edge_key, vertex_key}
 use Rattle.brep_walk.specs.Walked.{IsFault}
+use Rattle.brep_walk.proofs.Faults.{fault_front, handed}
 use Rattle.brep_numbering.proofs.Pushed.{get_pushed}
 
 -- A list that is found is kept. g is the file as the call was given it, and y the number.
@@ -94,3 +97,42 @@ module _ (f : Contents) (z : ℤ) (v : EntryNo × List EdgeTuple) (kept : IsEdge
         (sym kept.number)),
     ap (λ l. slice_get l (entry_number j - 1)) (sym kept.items) ∙ (ap (λ n. slice_get v.1 (entry_number n - 1)) (sym same) ∙ h.1),
   )
+
+-- A list as it was opened. y is its number as a call was given it.
+
+pub opened_edges : (f : Contents) (z y : ℤ) → y ≡ z → (entry : EntryNo) (list : Items edges) → NamesRecord edges f y → y ≡ pos entry.0 → list ≡ told edges f y
+    → length list < 2 ^ 31 → IsEdgeList f z (entry, list)
+opened_edges f z y same entry list holds number is few =
+    subst (λ x. IsEdgeList f x (entry, list)) same (record { number = number; holds = holds; items = is; few = few })
+
+pub no_list : (kind : EntityKind) {T : Type 0} (r : Result T WalkFault) (w : WalkFault) (f : Contents) (entity : ℤ) (place : ℕ) (z y j : ℤ) (count : ℕ) → y ≡ z
+    → IsFault (record_places f entity place kind y) w → IsErrAnd r (λ e. e ≡ w) → IfErr r (IsFault (item_places f entity place kind z j count))
+no_list kind r w f entity place z y j count same h = handed (item_places f entity place kind z j count) r w
+    (subst (λ x. IsFault (item_places f entity place kind x j count) w) same
+    (fault_front (record_places f entity place kind y) (obligation BadIndex (entry_number entity) place (IsIndex j count) ∷ []) w h))
+
+-- An index in a vertex list. k is the index as a call was given it.
+module _ (f : Contents) (z y : ℤ) (at : y ≡ z) (v : EntryNo × ℕ) (kept : IsVertexList f y v) (entity : ℤ) (place : ℕ) (j k : ℤ) (same : k ≡ j) where
+  list_named : IsVertexList f z v
+  list_named = subst (λ x. IsVertexList f x v) at kept
+
+  pub vertex_holds : IsIndex k v.1 → AllHold (item_places f entity place vertices z j (length (told vertices f z)))
+  vertex_holds h = AllHold-append (record_places f entity place vertices z)
+      (obligation BadIndex (entry_number entity) place (IsIndex j (length (told vertices f z))) ∷ []) list_named.holds
+      (subst (λ n. IsIndex j n) list_named.count (subst (λ x. IsIndex x v.1) same h), tt)
+
+  pub vertex_fails : {T : Type 0} (r : Result T WalkFault) (x : Failing)
+      → FirstFalse (obligation BadIndex (entry_number entity) place (IsIndex k v.1) ∷ []) x → IsErrAnd r (λ e. e ≡ Fails x)
+      → IfErr r (IsFault (item_places f entity place vertices z j (length (told vertices f z))))
+  vertex_fails (Ok t) x h e = tt
+  vertex_fails (Err w) x h e =
+      subst (IsFault (item_places f entity place vertices z j (length (told vertices f z)))) (sym e)
+      (FirstFalse-append_rest (record_places f entity place vertices z)
+      (obligation BadIndex (entry_number entity) place (IsIndex j (length (told vertices f z))) ∷ []) x list_named.holds
+      (⊎_elim (λ bad. inl (
+        (λ i. bad.0 (subst (λ n. IsIndex k n) (sym list_named.count) (subst (λ q. IsIndex q (length (told vertices f z))) (sym same) i))),
+        bad.1,
+      )) (λ more. absurd more.1) h))
+
+  pub vertex_is : (i : ℕ) → k ≡ pos i → record { «list» = v.0; index = i } ≡ vertex_key z j
+  vertex_is i is = λ t. record { «list» = record { 0 = entry_number ((sym kept.number ∙ at) t) }; index = entry_number ((sym is ∙ same) t) }

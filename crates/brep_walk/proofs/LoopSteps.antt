@@ -1,7 +1,10 @@
 -- One loop of a face.
-use Rattle.std.specs.Prelude.{◌≡◌, ◌+◌, ℕ, ℤ, pos, List, [], ◌∷◌, ◌++◌, take, slice_get, Contains, Some, Result, IsErrAnd, IfErr}
+use Rattle.std.specs.Prelude.{◌≡◌, ◌+◌, ℕ, ℤ, pos, List, [], ◌∷◌, ◌++◌, map, take, slice_get, Contains, Some, Result, IsErrAnd, IfErr}
 use Rattle.std.proofs.Common.{sym, ◌∙◌, ap, subst, append_assoc}
 use Rattle.iges_params.specs.Contents.{Contents}
+use Rattle.iges_base.specs.declared.entry_no.EntryNo.{EntryNo}
+use Rattle.brep_lists.specs.Record.{LoopTuple}
+use Rattle.brep_numbering.specs.Keys.{Keys}
 use Rattle.brep_lists.specs.declared.entity_kind.EntityKind.TheVariants.{Loop as «loop»}
 use Rattle.solid_data.specs.Obligations.{Obligation, AllHold, obligation, after_each, entry_number}
 use Rattle.solid_data.specs.declared.verdict.Rule.TheVariants.{Twice}
@@ -9,7 +12,10 @@ use Rattle.brep_walk.specs.declared.fault.WalkFault.{WalkFault}
 use Rattle.solid_data.proofs.ObligationLemmas.{AllHold-append}
 use Rattle.brep_walk.specs.Known.{uses_places}
 use Rattle.brep_walk.specs.Places.{tuples, record_places, tuple_places, loop_at, loop_places}
+use Rattle.brep_walk.specs.Numbered.{IsMadeBy}
+use Rattle.brep_walk.specs.SolidOf.{use_by, loop_by}
 use Rattle.brep_walk.specs.Walked.{IsFault}
+use Rattle.solid_data.specs.declared.solid.LoopUse.{LoopUse}
 use Rattle.brep_walk.proofs.Faults.{fault_front, fault_rest, handed}
 use Rattle.brep_walk.proofs.WalkSteps.{take_next, place_next}
 
@@ -37,6 +43,21 @@ module _ (f : Contents) (c : ℤ) (place : ℕ) (known : List ℤ) (z y : ℤ) (
   uses_fail r w g file n is holds fresh h = handed (loop_at f c place known z) r w (subst (λ l. IsFault (loop_at f c place known l) w) same
       (fault_rest (record_places f c place «loop» y ++ twice) rest w (AllHold-append (record_places f c place «loop» y) twice holds (fresh, tt))
       (subst (λ l. IsFault (uses_places f l) w) (sym is) (subst (λ k. IsFault (uses_places k (pos n)) w) file h))))
+
+  pub loop_whole : (g : Contents) → g ≡ f → (n : ℕ) → y ≡ pos n → AllHold (record_places f c place «loop» y) → ¬ Contains known y
+      → AllHold (uses_places g (pos n)) → AllHold (loop_at f c place known z)
+  loop_whole g file n is holds fresh h = subst (λ l. AllHold (loop_at f c place known l)) same
+      (AllHold-append (record_places f c place «loop» y ++ twice) rest (AllHold-append (record_places f c place «loop» y) twice holds (fresh, tt))
+      (subst (λ l. AllHold (uses_places f l)) (sym is) (subst (λ k. AllHold (uses_places k (pos n))) file h)))
+
+-- y is the number as a call was given it
+pub loop_made : (f : Contents) (z y : ℤ) → y ≡ z → (entity : EntryNo) → y ≡ pos entity.0 → (listed : List LoopTuple) → listed ≡ tuples f y
+    → (keys : Keys) (uses : List LoopUse) → IsMadeBy keys (λ k. map (use_by k) listed) uses
+    → IsMadeBy keys (λ k. loop_by f k z) (record { entity = entity; uses = uses })
+loop_made f z y same entity is listed told keys uses made later more = λ j. record {
+  entity = record { 0 = entry_number ((sym is ∙ same) j) };
+  uses = (made later more ∙ ap (map (use_by later)) (told ∙ ap (tuples f) same)) j;
+}
 
 -- g is the file behind the lists so far
 module _ (f g : Contents) (same : g ≡ f) (c : ℤ) (used known : List ℤ) (all : List ℤ) (i : ℕ) (z y : ℤ) (at : slice_get all i ≡ Some z) (is : y ≡ z)

@@ -5,8 +5,8 @@ use mir.Val.{to_z, of_z}
 use Rattle.brep_lists.specs.Record.{FaceItems}
 use Rattle.brep_lists.specs.declared.entity_kind.EntityKind.TheVariants.{Face as face}
 use Rattle.brep_walk.specs.Numbered.{face_tuples}
-use Rattle.brep_walk.specs.Places.{told, tuples}
-use Rattle.brep_walk.proofs.ItemSteps.{no_face, named_face_twice, surface_named, surface_false, face_holds, loops_fail}
+use Rattle.brep_walk.specs.Places.{told, loops, tuples}
+use Rattle.brep_walk.proofs.ItemSteps.{no_face, named_face_twice, surface_named, surface_false, face_holds, loops_fail, named_more, face_made}
 use Rattle.brep_walk.proofs.WalkSteps.{walks_so}
 use Rattle.brep_walk.proofs.state.WalkState.walk_face.Goals as goal
 
@@ -66,3 +66,16 @@ returns-clause-walks c =
     (ap (λ (items : FaceItems). flat_map (tuples f) items.loops)
     (c.in_ok-entity.ensures.named.1 ∙ ap (told face f) (to_z-of_z w64 c.args.number c.ranges.number)))
     e.walks.file e.walks.stands e.walks.keys
+
+pub returns-clause-loops : goal.returns-clause-loops
+returns-clause-loops c =
+    let e = c.in_ok-loops.ensures in
+    named_more (loops c.args.self.now.lists) c.args.self.now.loops c.walk_loops.new.self.loops c.in_ok-entity.listed.loops c.args.self.now.faces
+    c.walk_loops.new.self.faces _ e.named (ap (λ (items : FaceItems). items.loops) c.in_ok-entity.ensures.named.1) c.requires.loops
+    (e.others.0 ∙ c.in_ok-note.ensures.noted)
+
+pub returns-clause-made : goal.returns-clause-made
+returns-clause-made c =
+    face_made c.args.self.now.lists c.record.new.self c.in_ok-entity.ensures.file c.args.number _ (to_z-of_z w64 c.args.number c.ranges.number) c.args.flag
+    c.in_ok-entity.entity c.in_ok-entity.ensures.named.0 c.in_ok-entity.listed c.in_ok-entity.ensures.named.1 c.walk_loops.new.self.numbering.keys
+    c.in_ok-loops.loops c.in_ok-loops.ensures.made

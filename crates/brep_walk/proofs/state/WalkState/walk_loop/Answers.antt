@@ -2,7 +2,7 @@ use Rattle.std.proofs.Common.{◌∙◌, ap, pos}
 use Rattle.std.proofs.lemmas.Int.{to_z-of_z}
 use mir.Syntax.{w64}
 use Rattle.brep_walk.specs.Places.{tuples}
-use Rattle.brep_walk.proofs.LoopSteps.{no_loop, loop_twice, uses_fail}
+use Rattle.brep_walk.proofs.LoopSteps.{no_loop, loop_twice, uses_fail, loop_whole, loop_made}
 use Rattle.brep_walk.proofs.WalkSteps.{walks_so}
 use Rattle.brep_walk.proofs.state.WalkState.walk_loop.Goals as goal
 
@@ -33,3 +33,14 @@ returns-clause-walks c =
     let e = c.in_ok-uses.ensures in
     walks_so c.args.self.now c.loop_uses.new.self _ c.record.new.self c.in_ok-entity.ensures.file (λ g. c.in_ok-entity.listed) (tuples f c.args.number)
     (c.in_ok-entity.ensures.named.1 ∙ ap (tuples f) (to_z-of_z w64 c.args.number c.ranges.number)) e.walks.file e.walks.stands e.walks.keys
+
+pub returns-clause-holds : goal.returns-clause-holds
+returns-clause-holds c =
+    loop_whole c.args.self.now.lists (pos c.args.at.entity.0) c.args.at.item c.args.self.now.loops c.args.number _
+    (to_z-of_z w64 c.args.number c.ranges.number) c.record.new.self c.in_ok-entity.ensures.file c.in_ok-entity.entity.0
+    c.in_ok-entity.ensures.named.0 c.in_ok-entity.ensures.holds c.in_ok-note.ensures.holds c.in_ok-uses.ensures.holds
+
+pub returns-clause-made : goal.returns-clause-made
+returns-clause-made c =
+    loop_made c.args.self.now.lists c.args.number _ (to_z-of_z w64 c.args.number c.ranges.number) c.in_ok-entity.entity c.in_ok-entity.ensures.named.0
+    c.in_ok-entity.listed c.in_ok-entity.ensures.named.1 c.loop_uses.new.self.numbering.keys c.in_ok-uses.uses c.in_ok-uses.ensures.made
