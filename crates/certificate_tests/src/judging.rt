@@ -1,8 +1,7 @@
 use crate::comparing::same;
-use iges_base::EntryNo;
-use small_solids::{open_sheet, seamed_ball};
+use small_solids::seamed_ball;
 use solid_check::{CheckFault, check_shells};
-use solid_data::{Failing, Rule, Solid};
+use solid_data::Solid;
 use std::alloc::Global;
 use std::test::Fail;
 
@@ -17,17 +16,5 @@ fn fault_of(alloc: Global, solid: &Solid) -> Option<CheckFault> {
 fn a_seamed_ball_passes(rt: HostRuntime) -> Result<(), Fail> {
     let solid = seamed_ball(rt.alloc())?;
     same(&rt, &fault_of(rt.alloc(), &solid), &None);
-    Ok(())
-}
-
-#[test]
-fn an_open_loop_is_named(rt: HostRuntime) -> Result<(), Fail> {
-    let solid = open_sheet(rt.alloc())?;
-    let wanted = CheckFault::Fails(Failing {
-        rule: Rule::Unjoined,
-        entity: EntryNo(7),
-        place: 1,
-    });
-    same(&rt, &fault_of(rt.alloc(), &solid), &Some(wanted));
     Ok(())
 }
