@@ -260,7 +260,7 @@ fn fails_at_each_file_read(rt: &impl Abort, alloc: Global, given: Given) -> Resu
         ..given
     };
     let whole = outcome(alloc, given, None)?;
-    'sizes: for size in [7, 16, 81] {
+    'sizes: for size in [17, 81] {
         fails_in_turn(rt, alloc, given, Call::FileRead, size, &whole)?;
     }
     Ok(())
@@ -272,7 +272,7 @@ fn fails_at_each_call(rt: &impl Abort, alloc: Global, command: &Command) -> Resu
     let whole = outcome(alloc, given, None)?;
     starts(rt, &whole, 0, command.length, command.front);
     fails_in_turn(rt, alloc, given, Call::CertificateRead, 1, &whole)?;
-    'sizes: for size in [7, 16, 81] {
+    'sizes: for size in [17, 81] {
         fails_in_turn(rt, alloc, given, Call::CertificateRead, size, &whole)?;
         fails_in_turn(rt, alloc, given, Call::Write, size, &whole)?;
     }
