@@ -17,7 +17,7 @@ const ORIENTATION: &[u8] = b"ORIENT 1\nF 1 1\nEND\n";
 
 // What a command reads: of a file, the ball.
 #[derive(Clone, Copy)]
-enum Reads {
+enum Inputs {
     Nothing,
     File,
     FileAndCertificate(&'static [u8]),
@@ -26,7 +26,7 @@ enum Reads {
 // A command: its words, what it reads, how long the text is that it writes, and how that begins.
 struct Command {
     words: &'static [&'static str],
-    reads: Reads,
+    inputs: Inputs,
     length: usize,
     front: &'static [u8],
 }
@@ -34,85 +34,85 @@ struct Command {
 const COMMANDS: &[Command] = &[
     Command {
         words: &["solids", "FILE"],
-        reads: Reads::File,
+        inputs: Inputs::File,
         length: 2,
         front: b"1\n",
     },
     Command {
         words: &["show", "FILE", "1"],
-        reads: Reads::File,
+        inputs: Inputs::File,
         length: 74,
         front: b"solid 1\n",
     },
     Command {
         words: &["certify", "FILE", "1"],
-        reads: Reads::File,
+        inputs: Inputs::File,
         length: 67,
         front: CERTIFICATE,
     },
     Command {
         words: &["certify", "FILE", "all"],
-        reads: Reads::File,
+        inputs: Inputs::File,
         length: 67,
         front: BOOK,
     },
     Command {
         words: &["extract", "FILE", "1"],
-        reads: Reads::File,
+        inputs: Inputs::File,
         length: 2430,
         front: b"",
     },
     Command {
         words: &["compact", "FILE", "1"],
-        reads: Reads::File,
+        inputs: Inputs::File,
         length: 2430,
         front: b"",
     },
     Command {
         words: &["open", "FILE", "3"],
-        reads: Reads::File,
+        inputs: Inputs::File,
         length: 47,
         front: OPEN_CERTIFICATE,
     },
     Command {
         words: &["orient", "FILE", "1"],
-        reads: Reads::File,
+        inputs: Inputs::File,
         length: 19,
         front: ORIENTATION,
     },
     Command {
         words: &["verify", "FILE", "CERT"],
-        reads: Reads::FileAndCertificate(CERTIFICATE),
+        inputs: Inputs::FileAndCertificate(CERTIFICATE),
         length: 11,
         front: b"accepted 1\n",
     },
     Command {
         words: &["verify", "FILE", "CERT"],
-        reads: Reads::FileAndCertificate(BOOK),
+        inputs: Inputs::FileAndCertificate(BOOK),
         length: 11,
         front: b"accepted 1\n",
     },
     Command {
         words: &["upgrade", "FILE", "CERT"],
-        reads: Reads::FileAndCertificate(CERTIFICATE),
+        inputs: Inputs::FileAndCertificate(CERTIFICATE),
         length: 67,
         front: CERTIFICATE,
     },
     Command {
         words: &["open-verify", "FILE", "CERT"],
-        reads: Reads::FileAndCertificate(OPEN_CERTIFICATE),
+        inputs: Inputs::FileAndCertificate(OPEN_CERTIFICATE),
         length: 11,
         front: b"accepted 3\n",
     },
     Command {
         words: &["orient-verify", "FILE", "CERT"],
-        reads: Reads::FileAndCertificate(ORIENTATION),
+        inputs: Inputs::FileAndCertificate(ORIENTATION),
         length: 11,
         front: b"accepted 1\n",
     },
     Command {
         words: &["sample", "3"],
-        reads: Reads::Nothing,
+        inputs: Inputs::Nothing,
         length: 72,
         front: b"sample 3 ",
     },
@@ -126,18 +126,18 @@ fn commands() -> &'static [Command] {
 impl Command {
     fn given(&self) -> Given<'static> {
         let words = self.words;
-        match self.reads {
-            Reads::Nothing => Given {
+        match self.inputs {
+            Inputs::Nothing => Given {
                 words,
                 file: None,
                 certificate: None,
             },
-            Reads::File => Given {
+            Inputs::File => Given {
                 words,
                 file: Some(ball()),
                 certificate: None,
             },
-            Reads::FileAndCertificate(certificate) => Given {
+            Inputs::FileAndCertificate(certificate) => Given {
                 words,
                 file: Some(ball()),
                 certificate: Some(certificate),
@@ -322,6 +322,6 @@ fn the_usage_is_told_without_a_read(rt: HostRuntime) -> Result<(), Fail> {
     let call = Call::FileRead;
     let (size, at) = (1, 1);
     let got = outcome(rt.alloc(), given, Some(Fails { call, size, at }))?;
-    starts(&rt, &got, 2, 246, b"usage: igesolid solids FILE | ");
+    starts(&rt, &got, 2, 242, b"usage: igesolid solids FILE | ");
     Ok(())
 }
