@@ -1,5 +1,10 @@
-"""Each solid of the examples, extracted where it can be: the verdict stays, and extracting again changes nothing."""
+"""Each solid of the examples, extracted where it can be: the verdict stays, and extracting again changes nothing; nor does extracting
+the one solid of a file that is as igesolid writes it.
+"""
 import examples
+from programs import TOP
+
+CANONICAL = "tiny", "point", "ball", "cylinder", "cube", "cube_void", "two_tetrahedra"
 
 
 def with_solid(text, number):
@@ -11,6 +16,9 @@ def with_solid(text, number):
 
 
 def checks(program):
+    for name in CANONICAL:
+        file = (TOP / "examples" / f"{name}.igs").read_bytes()
+        yield f"{name} stays as it is", program.words(["extract", "FILE", "1"], file) == (0, file)
     for name, file in examples.named():
         for solid in examples.solids_in(program, file):
             status, alone = program.words(["extract", "FILE", solid], file)

@@ -2,33 +2,24 @@ ghost use Rattle.std.specs.Prelude.{◌≡◌, length};
 
 use crate::comparing::same;
 use iges_base::NoMemory;
-use small_solids::{open_sheet, pole_ball, seamed_ball};
+use small_solids::{half_turned_ball, open_sheet, seamed_ball};
 use solid_data::{ShellAt, Solid};
-use solid_faults::{ShellFaults, faults, is_closed};
+use solid_faults::{ShellFaults, faults, is_closed, is_closed_flagged};
 use std::alloc::Global;
 use std::test::Fail;
 
 #[test]
-fn a_seamed_ball_is_closed(rt: HostRuntime) -> Result<(), Fail> {
+fn a_seamed_ball_is_closed_as_it_is(rt: HostRuntime) -> Result<(), Fail> {
     let solid = seamed_ball(rt.alloc())?;
-    let closed = is_closed(rt.alloc(), &solid)?;
-    same(&rt, &closed, &true);
+    same(&rt, &is_closed(rt.alloc(), &solid)?, &true);
     Ok(())
 }
 
 #[test]
-fn a_pole_is_closed(rt: HostRuntime) -> Result<(), Fail> {
-    let solid = pole_ball(rt.alloc())?;
-    let closed = is_closed(rt.alloc(), &solid)?;
-    same(&rt, &closed, &true);
-    Ok(())
-}
-
-#[test]
-fn an_edge_used_once_is_not_closed(rt: HostRuntime) -> Result<(), Fail> {
-    let solid = open_sheet(rt.alloc())?;
-    let closed = is_closed(rt.alloc(), &solid)?;
-    same(&rt, &closed, &false);
+fn a_half_turned_ball_is_closed_once_flagged(rt: HostRuntime) -> Result<(), Fail> {
+    let solid = half_turned_ball(rt.alloc())?;
+    same(&rt, &is_closed(rt.alloc(), &solid)?, &false);
+    same(&rt, &is_closed_flagged(rt.alloc(), &solid)?, &true);
     Ok(())
 }
 

@@ -60,13 +60,6 @@ fn a_seam_has_a_row_each_way(rt: HostRuntime) -> Result<(), Fail> {
     same(&rt, &rows.row(RowId(0)), &Some(row(true, 0, 1)));
     same(&rt, &rows.row(RowId(1)), &Some(row(false, 1, 0)));
     same(&rt, &rows.row(RowId(2)), &None);
-    Ok(())
-}
-
-#[test]
-fn the_rows_of_a_seam_follow_each_other(rt: HostRuntime) -> Result<(), Fail> {
-    let rows = seam_rows(rt.alloc())?;
-    same(&rt, &rows.follows(RowId(0)), &Some(RowId(1)));
     same(&rt, &rows.follows(RowId(1)), &Some(RowId(0)));
     same(&rt, &rows.edge_at(0), &Some(EdgeId(0)));
     same(&rt, &rows.vertex_at(1), &Some(VertexId(1)));
@@ -114,27 +107,18 @@ fn each_row_of_a_seam_turns_to_itself(rt: HostRuntime) -> Result<(), Fail> {
     Ok(())
 }
 
-// What the first shell of the ball with a seam shares with those before it.
-fn shared_before(alloc: Global) -> Result<Option<VertexId>, NoMemory> {
+// What the first shell of the ball with a seam shares with those before it, by each of the two calls.
+fn shared(alloc: Global) -> Result<(Option<VertexId>, Option<VertexId>), NoMemory> {
     let solid = seamed_ball(alloc)?;
     let rows = rows_of(alloc, &solid)?;
-    Ok(vertices_before(&solid, ShellAt(0)).first_shared(&rows))
-}
-
-fn shared(alloc: Global) -> Result<Option<VertexId>, NoMemory> {
-    let solid = seamed_ball(alloc)?;
-    first_shared(alloc, &solid, ShellAt(0))
+    let before = vertices_before(&solid, ShellAt(0));
+    let found = first_shared(alloc, &solid, ShellAt(0))?;
+    Ok((before.first_shared(&rows), found))
 }
 
 #[test]
-fn one_shell_shares_no_vertex(rt: HostRuntime) -> Result<(), Fail> {
-    same(&rt, &shared_before(rt.alloc())?, &None);
-    same(&rt, &shared(rt.alloc())?, &None);
-    Ok(())
-}
-
-#[test]
-fn a_shell_met_again_shares_its_least_vertex(rt: HostRuntime) -> Result<(), Fail> {
+fn one_shell_shares_no_vertex_but_with_itself(rt: HostRuntime) -> Result<(), Fail> {
+    same(&rt, &shared(rt.alloc())?, &(None, None));
     let rows = seam_rows(rt.alloc())?;
     let after = VerticesBefore::none().with(&rows);
     same(&rt, &after.first_shared(&rows), &Some(VertexId(0)));

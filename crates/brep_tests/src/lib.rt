@@ -8,16 +8,10 @@ mod comparing;
 #[cfg(test)]
 mod edges;
 #[cfg(test)]
-mod flagging;
-#[cfg(test)]
 mod links;
-#[cfg(test)]
-mod open_shell_commands;
 #[cfg(test)]
 mod orientation;
 #[cfg(test)]
 mod reach;
-#[cfg(test)]
-mod solids;
 #[cfg(test)]
 mod walking;

@@ -3,8 +3,8 @@ ghost use Rattle.std.specs.Prelude.{◌≡◌, length};
 use crate::comparing::same;
 use crate::edges::joined_rows;
 use edge_uses::pair;
-use small_solids::{pole_ball, seamed_ball};
-use solid_data::{FaceAt, LoopAt, RowId, Solid};
+use small_solids::seamed_ball;
+use solid_data::{RowId, Solid};
 use std::alloc::Global;
 use std::test::Fail;
 use vertex_link::{Corner, Links, links};
@@ -25,13 +25,6 @@ fn row_round(links: &Links, i: usize, k: usize) -> Option<RowId> {
     }
 }
 
-fn point_at(links: &Links, i: usize) -> Option<LoopAt> {
-    match links.corner(i)? {
-        Corner::Cycle(_) => None,
-        Corner::Point(at) => Some(*at),
-    }
-}
-
 #[test]
 fn each_end_of_a_seam_has_a_cycle_of_one_row(rt: HostRuntime) -> Result<(), Fail> {
     let solid = seamed_ball(rt.alloc())?;
@@ -40,17 +33,5 @@ fn each_end_of_a_seam_has_a_cycle_of_one_row(rt: HostRuntime) -> Result<(), Fail
     same(&rt, &row_round(&links, 0, 0), &Some(RowId(0)));
     same(&rt, &row_round(&links, 0, 1), &None);
     same(&rt, &row_round(&links, 1, 0), &Some(RowId(1)));
-    Ok(())
-}
-
-#[test]
-fn a_pole_is_one_point(rt: HostRuntime) -> Result<(), Fail> {
-    let solid = pole_ball(rt.alloc())?;
-    let links = links_of(rt.alloc(), &solid)?;
-    let at = LoopAt {
-        face: FaceAt(0),
-        place: 0,
-    };
-    same(&rt, &point_at(&links, 0), &Some(at));
     Ok(())
 }

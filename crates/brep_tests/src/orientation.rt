@@ -2,8 +2,8 @@ ghost use Rattle.std.specs.Prelude.{◌≡◌, length};
 
 use crate::comparing::same;
 use face_orient::{
-    FlagList, OrientChecker, OrientFault, OrientLineFault, OrientRule, Orientation, orient,
-    orient_line, write_orient_line,
+    FlagList, OrientChecker, OrientFault, OrientLineFault, Orientation, orient, orient_line,
+    write_orient_line,
 };
 use small_solids::{alike_faces, one, seamed_ball, twice_along};
 use solid_data::{RowId, RowList, ShellAt, Solid};
@@ -35,13 +35,6 @@ fn ring_of(alloc: Global, solid: &Solid) -> Result<RowList, Fail>
         Ok(Orientation::Ring(rows)) => Ok(rows),
         _ => Err(Fail::from("no ring")),
     }
-}
-
-#[test]
-fn a_seam_needs_no_change(rt: HostRuntime) -> Result<(), Fail> {
-    let flags = flags_of(rt.alloc(), &seamed_ball(rt.alloc())?)?;
-    same(&rt, &flags.as_slice(), &[true].as_slice());
-    Ok(())
 }
 
 #[test]
@@ -104,33 +97,4 @@ fn lines_are_read_and_written(rt: HostRuntime) {
     same(&rt, &again(rt.alloc(), b"F 1 1 0\n"), &Ok(true));
     same(&rt, &again(rt.alloc(), b"O 2 17 0 3\n"), &Ok(true));
     same(&rt, &again(rt.alloc(), b"END\n"), &Ok(true));
-}
-
-#[test]
-fn other_lines_are_misspelt(rt: HostRuntime) {
-    same(
-        &rt,
-        &again(rt.alloc(), b"F 1 2\n"),
-        &Err(OrientLineFault::Misspelt),
-    );
-    same(
-        &rt,
-        &again(rt.alloc(), b"O 1\n"),
-        &Err(OrientLineFault::Misspelt),
-    );
-    same(
-        &rt,
-        &again(rt.alloc(), b"F 1 01\n"),
-        &Err(OrientLineFault::Misspelt),
-    );
-    same(
-        &rt,
-        &again(rt.alloc(), b"END"),
-        &Err(OrientLineFault::Misspelt),
-    );
-}
-
-#[test]
-fn a_rule_is_printed(rt: HostRuntime) {
-    same(&rt, &OrientRule::Count.name(), &"COUNT");
 }

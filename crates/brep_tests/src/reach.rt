@@ -4,8 +4,8 @@ use crate::comparing::same;
 use crate::edges::joined_rows;
 use edge_uses::pair;
 use shell_reach::{ReachFault, ReachList, reach};
-use small_solids::{seamed_ball, touching_faces};
-use solid_data::{FaceAt, Solid};
+use small_solids::seamed_ball;
+use solid_data::Solid;
 use std::alloc::Global;
 use std::test::Fail;
 
@@ -25,16 +25,5 @@ fn a_shell_of_one_face_needs_no_row(rt: HostRuntime) -> Result<(), Fail> {
     let solid = seamed_ball(rt.alloc())?;
     let list = reach_of(rt.alloc(), &solid)?;
     same(&rt, &list.len(), &0);
-    Ok(())
-}
-
-#[test]
-fn a_shared_vertex_reaches_no_face(rt: HostRuntime) -> Result<(), Fail> {
-    let solid = touching_faces(rt.alloc())?;
-    same(
-        &rt,
-        &reach_of(rt.alloc(), &solid).err(),
-        &Some(ReachFault::Unreached(FaceAt(1))),
-    );
     Ok(())
 }

@@ -6,9 +6,7 @@ use small_solids::{pole_ball, seamed_ball};
 use solid_data::Solid;
 use std::alloc::Global;
 use std::test::Fail;
-use topo_certificate::{
-    CERT_LIMIT, Checker, Illegal, PartStep, UpgradeFault, Version, check, upgrade,
-};
+use topo_certificate::{Checker, Illegal, PartStep, UpgradeFault, Version, check, upgrade};
 
 // The checker of a certificate of version 1, and that of a part from line 7 on. Of these calls, as of those below, no
 // clause goes further.
@@ -37,102 +35,18 @@ fn said_at_end(checker: &mut Checker<'_>) -> Result<(), Illegal> {
     checker.finish()
 }
 
-// What a checker says of the whole lines of a solid, of the seamed ball, and of the pole.
-fn of_solid(
-    alloc: Global,
-    solid: &Solid,
-    version: Version,
-    text: &[u8],
-) -> Result<Result<(), Illegal>, NoMemory> {
-    let mut checker = Checker::new(alloc, solid, version)?;
-    Ok(check(&mut checker, text))
-}
-
+// What a checker of version 2 says of the whole lines of the ball with a seam.
 fn of_seam(alloc: Global, text: &[u8]) -> Result<Result<(), Illegal>, NoMemory> {
     let solid = seamed_ball(alloc)?;
-    of_solid(alloc, &solid, Version::One, text)
-}
-
-fn of_pole(alloc: Global, text: &[u8]) -> Result<Result<(), Illegal>, NoMemory> {
-    let solid = pole_ball(alloc)?;
-    of_solid(alloc, &solid, Version::One, text)
-}
-
-#[test]
-fn a_ball_at_one_vertex_is_checked(rt: HostRuntime) -> Result<(), Fail> {
-    let told = of_pole(rt.alloc(), b"SHELL 1 0 0 1 1\nI 1 1\nEND\n")?;
-    same(&rt, &told, &Ok(()));
-    Ok(())
-}
-
-#[test]
-fn a_loop_that_is_not_there_is_unfit(rt: HostRuntime) -> Result<(), Fail> {
-    let told = of_pole(rt.alloc(), b"SHELL 1 0 0 1 1\nI 1 2\nEND\n")?;
-    same(&rt, &told, &Err(Illegal::Unfit { line: 4 }));
-    Ok(())
+    let mut checker = Checker::new(alloc, &solid, Version::Two)?;
+    Ok(check(&mut checker, text))
 }
 
 #[test]
 fn a_ball_with_a_seam_is_checked(rt: HostRuntime) -> Result<(), Fail> {
-    let told = of_seam(rt.alloc(), b"SHELL 1 2 1 2 1\nE 1 2\nC 1\nC 2\nEND\n")?;
+    let lines = b"SHELL 1 2 1 2 1\nE 1 2\nC 1\nC 2\nTALLY 2 1 1 1\nEND\n";
+    let told = of_seam(rt.alloc(), lines)?;
     same(&rt, &told, &Ok(()));
-    Ok(())
-}
-
-#[test]
-fn the_row_along_an_edge_comes_first(rt: HostRuntime) -> Result<(), Fail> {
-    let told = of_seam(rt.alloc(), b"SHELL 1 2 1 2 1\nE 2 1\nC 1\nC 2\nEND\n")?;
-    same(&rt, &told, &Err(Illegal::Unfit { line: 4 }));
-    Ok(())
-}
-
-#[test]
-fn a_line_behind_the_end_is_unfit(rt: HostRuntime) -> Result<(), Fail> {
-    let told = of_seam(rt.alloc(), b"SHELL 1 2 1 2 1\nE 1 2\nC 1\nC 2\nEND\nEND\n")?;
-    same(&rt, &told, &Err(Illegal::Unfit { line: 8 }));
-    Ok(())
-}
-
-#[test]
-fn a_rest_without_a_line_feed_is_misspelt(rt: HostRuntime) -> Result<(), Fail> {
-    let told = of_seam(rt.alloc(), b"SHELL 1 2 1 2 1\nE 1 2\nC 1\nC 2\nEND")?;
-    same(&rt, &told, &Err(Illegal::Misspelt { line: 7 }));
-    Ok(())
-}
-
-#[test]
-fn a_missing_line_has_the_number_behind_the_last(rt: HostRuntime) -> Result<(), Fail> {
-    same(
-        &rt,
-        &of_seam(rt.alloc(), b"")?,
-        &Err(Illegal::Missing { line: 3 }),
-    );
-    let told = of_seam(rt.alloc(), b"SHELL 1 2 1 2 1\nE 1 2\nC 1\nC 2\n")?;
-    same(&rt, &told, &Err(Illegal::Missing { line: 7 }));
-    Ok(())
-}
-
-#[test]
-fn a_line_of_74_bytes_is_read_for_one_use(rt: HostRuntime) -> Result<(), Fail> {
-    let line = b"1234567890123456789012345678901234567890123456789012345678901234567890123\n";
-    same(&rt, &line.len(), &74);
-    same(
-        &rt,
-        &of_pole(rt.alloc(), line)?,
-        &Err(Illegal::Misspelt { line: 3 }),
-    );
-    Ok(())
-}
-
-#[test]
-fn a_line_of_75_bytes_is_unfit_for_one_use(rt: HostRuntime) -> Result<(), Fail> {
-    let line = b"12345678901234567890123456789012345678901234567890123456789012345678901234\n";
-    same(&rt, &line.len(), &75);
-    same(
-        &rt,
-        &of_pole(rt.alloc(), line)?,
-        &Err(Illegal::Unfit { line: 3 }),
-    );
     Ok(())
 }
 
@@ -153,18 +67,6 @@ fn a_text_may_be_cut_anywhere(rt: HostRuntime) -> Result<(), Fail> {
     'cuts: for cut in 0..text.len() {
         same(&rt, &of_two_pieces(rt.alloc(), text, cut)?, &Ok(()));
     }
-    Ok(())
-}
-
-#[test]
-fn a_line_of_75_bytes_is_unfit_in_two_pieces(rt: HostRuntime) -> Result<(), Fail> {
-    let line = b"12345678901234567890123456789012345678901234567890123456789012345678901234\n";
-    same(&rt, &line.len(), &75);
-    same(
-        &rt,
-        &of_two_pieces(rt.alloc(), line, 74)?,
-        &Err(Illegal::Unfit { line: 3 }),
-    );
     Ok(())
 }
 
@@ -193,38 +95,6 @@ fn an_illegal_checker_stays_so(rt: HostRuntime) -> Result<(), Fail> {
 }
 
 #[test]
-fn a_certificate_may_have_half_a_gigabyte(rt: HostRuntime) {
-    assert!(rt; CERT_LIMIT == 512 * 1024 * 1024);
-}
-
-// What a checker of version 2 says of lines of the pole.
-fn of_pole_in_two(alloc: Global, text: &[u8]) -> Result<Result<(), Illegal>, NoMemory> {
-    let solid = pole_ball(alloc)?;
-    of_solid(alloc, &solid, Version::Two, text)
-}
-
-#[test]
-fn a_shell_ends_in_its_counts(rt: HostRuntime) -> Result<(), Fail> {
-    let told = of_pole_in_two(rt.alloc(), b"SHELL 1 0 0 1 1\nI 1 1\nTALLY 1 0 1 1\nEND\n")?;
-    same(&rt, &told, &Ok(()));
-    Ok(())
-}
-
-#[test]
-fn other_counts_are_unfit(rt: HostRuntime) -> Result<(), Fail> {
-    let told = of_pole_in_two(rt.alloc(), b"SHELL 1 0 0 1 1\nI 1 1\nTALLY 1 0 1 2\nEND\n")?;
-    same(&rt, &told, &Err(Illegal::Unfit { line: 5 }));
-    Ok(())
-}
-
-#[test]
-fn version_one_has_no_counts(rt: HostRuntime) -> Result<(), Fail> {
-    let told = of_pole(rt.alloc(), b"SHELL 1 0 0 1 1\nI 1 1\nTALLY 1 0 1 1\nEND\n")?;
-    same(&rt, &told, &Err(Illegal::Unfit { line: 5 }));
-    Ok(())
-}
-
-#[test]
 fn a_part_ends_at_a_solid_of_a_greater_number(rt: HostRuntime) -> Result<(), Fail> {
     let solid = pole_ball(rt.alloc())?;
     let mut part = part_of(rt.alloc(), &solid)?;
@@ -246,23 +116,15 @@ fn upgraded(alloc: Global, limit: u64) -> Result<Result<Bytes, UpgradeFault>, No
 }
 
 #[test]
-fn counts_are_put_before_the_end(rt: HostRuntime) -> Result<(), Fail> {
+fn counts_are_put_before_the_end_where_they_fit(rt: HostRuntime) -> Result<(), Fail> {
     let wanted = b"IGESCERT 2\nSOLID 13\nSHELL 1 0 0 1 1\nI 1 1\nTALLY 1 0 1 1\nEND\n";
     let Ok(text) = upgraded(rt.alloc(), 60)? else {
         return Err(Fail::from("not upgraded"));
     };
     same(&rt, &wanted.len(), &60);
     same(&rt, &text.as_slice(), &wanted.as_slice());
-    Ok(())
-}
-
-#[test]
-fn a_text_past_the_limit_is_too_large(rt: HostRuntime) -> Result<(), Fail> {
-    same(
-        &rt,
-        &upgraded(rt.alloc(), 59)?.err(),
-        &Some(UpgradeFault::TooLarge),
-    );
+    let fault = upgraded(rt.alloc(), 59)?.err();
+    same(&rt, &fault, &Some(UpgradeFault::TooLarge));
     Ok(())
 }
 

@@ -89,21 +89,6 @@ fn a_certificate_opens_with_two_lines(rt: HostRuntime) {
 }
 
 #[test]
-fn a_line_of_64_bytes_is_read(rt: HostRuntime) {
-    let line = b"123456789012345678901234567890123456789012345678901234567890123\n";
-    same(&rt, &line.len(), &64);
-    same(&rt, &version_of(line), &Err(Misfit::Misspelt));
-}
-
-#[test]
-fn a_longer_line_fits_nowhere(rt: HostRuntime) {
-    let line = b"1234567890123456789012345678901234567890123456789012345678901234\n";
-    same(&rt, &line.len(), &65);
-    same(&rt, &version_of(line), &Err(Misfit::Unfit));
-    same(&rt, &version_of(&line[..64]), &Err(Misfit::Misspelt));
-}
-
-#[test]
 fn a_line_feed_inside_ends_no_line(rt: HostRuntime) {
     let bytes = b"123456789012345678901234567890123456789012345678901234567890\n1234567890";
     same(&rt, &bytes.len(), &71);
@@ -166,28 +151,10 @@ fn book_of(alloc: Global, part: ShellPart) -> Result<Bytes, NoMemory> {
 }
 
 #[test]
-fn a_pole_is_written(rt: HostRuntime) -> Result<(), Fail> {
-    let part = pole_part(rt.alloc())?;
-    let text = text_of(rt.alloc(), Version::One, part)?;
-    let wanted = b"IGESCERT 1\nSOLID 11\nSHELL 1 0 0 1 1\nI 1 1\nEND\n";
-    same(&rt, &text.as_slice(), &wanted.as_slice());
-    Ok(())
-}
-
-#[test]
 fn a_seam_is_written(rt: HostRuntime) -> Result<(), Fail> {
     let part = seam_part(rt.alloc())?;
     let text = text_of(rt.alloc(), Version::One, part)?;
     let wanted = b"IGESCERT 1\nSOLID 11\nSHELL 1 2 1 2 1\nE 1 2\nC 1\nC 2\nR 9\nEND\n";
-    same(&rt, &text.as_slice(), &wanted.as_slice());
-    Ok(())
-}
-
-#[test]
-fn a_shell_ends_in_its_counts(rt: HostRuntime) -> Result<(), Fail> {
-    let part = pole_part(rt.alloc())?;
-    let text = text_of(rt.alloc(), Version::Two, part)?;
-    let wanted = b"IGESCERT 2\nSOLID 11\nSHELL 1 0 0 1 1\nI 1 1\nTALLY 1 0 1 1\nEND\n";
     same(&rt, &text.as_slice(), &wanted.as_slice());
     Ok(())
 }

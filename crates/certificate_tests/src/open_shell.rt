@@ -47,32 +47,6 @@ fn of_lid(
 }
 
 #[test]
-fn a_border_row_has_no_line_of_turns(rt: HostRuntime) -> Result<(), Fail> {
-    let told = of_lid(
-        rt.alloc(),
-        b"SHELL 11 1 1 1 1 1\n",
-        b"E 1\n",
-        b"C 1\n",
-        b"END\n",
-    )?;
-    same(&rt, &told, &Err(Illegal::Unfit { line: 4 }));
-    Ok(())
-}
-
-#[test]
-fn border_rows_that_no_line_lists_are_missed(rt: HostRuntime) -> Result<(), Fail> {
-    let told = of_lid(
-        rt.alloc(),
-        b"SHELL 11 1 1 1 1 0\n",
-        b"E 1\n",
-        b"P 1\n",
-        b"END\n",
-    )?;
-    same(&rt, &told, &Err(Illegal::Unfit { line: 5 }));
-    Ok(())
-}
-
-#[test]
 fn a_lid_is_checked(rt: HostRuntime) -> Result<(), Fail> {
     let solid = lid(rt.alloc())?;
     let mut checker = checker_of(rt.alloc(), &solid)?;

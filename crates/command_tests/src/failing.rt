@@ -1,3 +1,4 @@
+use crate::comparing::same;
 use crate::files::{ball, short};
 use crate::outcomes::{Call, Fails, Given, outcome};
 use iges_fields::Bytes;
@@ -14,23 +15,157 @@ const OPEN_CERTIFICATE: &[u8] = b"IGESOPEN 1\nSHELL 3 2 1 2 1 0\nE 1 2\nC 1\nC 2
 
 const ORIENTATION: &[u8] = b"ORIENT 1\nF 1 1\nEND\n";
 
+// What a command reads: of a file, the ball.
+#[derive(Clone, Copy)]
+enum Inputs {
+    Nothing,
+    File,
+    FileAndCertificate(&'static [u8]),
+}
+
+// A command: its words, what it reads, how long the text is that it writes, and how that begins.
+struct Command {
+    words: &'static [&'static str],
+    inputs: Inputs,
+    length: usize,
+    front: &'static [u8],
+}
+
+const COMMANDS: &[Command] = &[
+    Command {
+        words: &["solids", "FILE"],
+        inputs: Inputs::File,
+        length: 2,
+        front: b"1\n",
+    },
+    Command {
+        words: &["show", "FILE", "1"],
+        inputs: Inputs::File,
+        length: 74,
+        front: b"solid 1\n",
+    },
+    Command {
+        words: &["certify", "FILE", "1"],
+        inputs: Inputs::File,
+        length: 67,
+        front: CERTIFICATE,
+    },
+    Command {
+        words: &["certify", "FILE", "all"],
+        inputs: Inputs::File,
+        length: 67,
+        front: BOOK,
+    },
+    Command {
+        words: &["extract", "FILE", "1"],
+        inputs: Inputs::File,
+        length: 2430,
+        front: b"",
+    },
+    Command {
+        words: &["compact", "FILE", "1"],
+        inputs: Inputs::File,
+        length: 2430,
+        front: b"",
+    },
+    Command {
+        words: &["open", "FILE", "3"],
+        inputs: Inputs::File,
+        length: 47,
+        front: OPEN_CERTIFICATE,
+    },
+    Command {
+        words: &["orient", "FILE", "1"],
+        inputs: Inputs::File,
+        length: 19,
+        front: ORIENTATION,
+    },
+    Command {
+        words: &["verify", "FILE", "CERT"],
+        inputs: Inputs::FileAndCertificate(CERTIFICATE),
+        length: 11,
+        front: b"accepted 1\n",
+    },
+    Command {
+        words: &["verify", "FILE", "CERT"],
+        inputs: Inputs::FileAndCertificate(BOOK),
+        length: 11,
+        front: b"accepted 1\n",
+    },
+    Command {
+        words: &["upgrade", "FILE", "CERT"],
+        inputs: Inputs::FileAndCertificate(CERTIFICATE),
+        length: 67,
+        front: CERTIFICATE,
+    },
+    Command {
+        words: &["open-verify", "FILE", "CERT"],
+        inputs: Inputs::FileAndCertificate(OPEN_CERTIFICATE),
+        length: 11,
+        front: b"accepted 3\n",
+    },
+    Command {
+        words: &["orient-verify", "FILE", "CERT"],
+        inputs: Inputs::FileAndCertificate(ORIENTATION),
+        length: 11,
+        front: b"accepted 1\n",
+    },
+    Command {
+        words: &["sample", "3"],
+        inputs: Inputs::Nothing,
+        length: 72,
+        front: b"sample 3 ",
+    },
+];
+
+// Has no clause, so that no goal holds the commands.
+fn commands() -> &'static [Command] {
+    COMMANDS
+}
+
+impl Command {
+    fn given(&self) -> Given<'static> {
+        let words = self.words;
+        match self.inputs {
+            Inputs::Nothing => Given {
+                words,
+                file: None,
+                certificate: None,
+            },
+            Inputs::File => Given {
+                words,
+                file: Some(ball()),
+                certificate: None,
+            },
+            Inputs::FileAndCertificate(certificate) => Given {
+                words,
+                file: Some(ball()),
+                certificate: Some(certificate),
+            },
+        }
+    }
+}
+
 // How many calls move so many bytes.
 fn moves(length: usize, size: u64) -> u64 {
     (length as u64).div_ceil(size.max(1))
 }
 
-// How many reads give all bytes of what is read, and then none.
-fn reads(is_read: bool, length: usize, size: u64) -> u64 {
-    if is_read {
-        moves(length, size).saturating_add(1)
-    } else {
-        0
+// How many reads give all bytes of a text, and then none.
+fn reads(text: Option<&[u8]>, size: u64) -> u64 {
+    match text {
+        Some(text) => moves(text.len(), size).saturating_add(1),
+        None => 0,
     }
 }
 
-fn compare(rt: &impl Abort, got: &(u8, Bytes), status: u8, text: &[u8]) {
-    assert_eq!(rt; got.0, status);
-    assert_eq!(rt; got.1.as_slice(), text);
+// Compares the status and the text of a run of these words.
+fn compare(rt: &impl Abort, given: Given, got: &(u8, Bytes), status: u8, text: &[u8]) {
+    same(
+        rt,
+        &(given.words, got.0, got.1.as_slice()),
+        &(given.words, status, text),
+    );
 }
 
 // The front of a text that so many calls of this size wrote.
@@ -43,8 +178,8 @@ impl Call {
     // How many calls of this kind a run makes, of which each moves at most `size` bytes.
     fn count(self, given: Given, written: usize, size: u64) -> u64 {
         match self {
-            Call::FileRead => reads(given.reads_file, given.file.len(), size),
-            Call::CertificateRead => reads(given.reads_certificate, given.certificate.len(), size),
+            Call::FileRead => reads(given.file, size),
+            Call::CertificateRead => reads(given.certificate, size),
             Call::Write => moves(written, size),
         }
     }
@@ -78,7 +213,13 @@ fn fails_behind(
 ) -> Result<(), Fail> {
     let at = passed.saturating_add(1);
     let got = outcome(alloc, given, Some(Fails { call, size, at }))?;
-    compare(rt, &got, call.status(), call.written(text, passed, size));
+    compare(
+        rt,
+        given,
+        &got,
+        call.status(),
+        call.written(text, passed, size),
+    );
     Ok(())
 }
 
@@ -93,205 +234,94 @@ fn fails_in_turn(
 ) -> Result<(), Fail> {
     let text = whole.1.as_slice();
     let count = call.count(given, text.len(), size);
-    for passed in 0..count {
+    'calls: for passed in 0..count {
         fails_behind(rt, alloc, given, call, size, passed, text)?;
     }
     let at = count.saturating_add(1);
     let got = outcome(alloc, given, Some(Fails { call, size, at }))?;
-    compare(rt, &got, whole.0, text);
+    compare(rt, given, &got, whole.0, text);
     Ok(())
 }
 
-fn starts(rt: &impl Abort, status: u8, text: &[u8], length: usize, front: &[u8]) {
-    assert_eq!(rt; status, 0);
-    assert_eq!(rt; text.len(), length);
-    assert_eq!(rt; text.get(..front.len()), Some(front));
+// Compares the status of a run, and how long its text is and how it begins.
+fn starts(rt: &impl Abort, got: &(u8, Bytes), status: u8, length: usize, front: &[u8]) {
+    let text = got.1.as_slice();
+    same(
+        rt,
+        &(got.0, text.len(), text.get(..front.len())),
+        &(status, length, Some(front)),
+    );
 }
 
 // Each read of the short file fails in turn.
 fn fails_at_each_file_read(rt: &impl Abort, alloc: Global, given: Given) -> Result<(), Fail> {
-    let file = short(alloc)?;
     let given = Given {
-        file: file.as_slice(),
+        file: given.file.map(|_| short()),
         ..given
     };
     let whole = outcome(alloc, given, None)?;
-    for size in [1, 7, 16, 81] {
+    'sizes: for size in [17, 81] {
         fails_in_turn(rt, alloc, given, Call::FileRead, size, &whole)?;
     }
     Ok(())
 }
 
-// Each call fails in turn, whatever it moves at most. The whole text has this length and begins so.
-fn fails_at_each_call(
-    rt: &impl Abort,
-    alloc: Global,
-    given: Given,
-    length: usize,
-    front: &[u8],
-) -> Result<(), Fail> {
+// Each call fails in turn, whatever it moves at most.
+fn fails_at_each_call(rt: &impl Abort, alloc: Global, command: &Command) -> Result<(), Fail> {
+    let given = command.given();
     let whole = outcome(alloc, given, None)?;
-    starts(rt, whole.0, whole.1.as_slice(), length, front);
-    for size in [1, 7, 16, 81] {
+    starts(rt, &whole, 0, command.length, command.front);
+    fails_in_turn(rt, alloc, given, Call::CertificateRead, 1, &whole)?;
+    'sizes: for size in [17, 81] {
         fails_in_turn(rt, alloc, given, Call::CertificateRead, size, &whole)?;
         fails_in_turn(rt, alloc, given, Call::Write, size, &whole)?;
     }
     fails_at_each_file_read(rt, alloc, given)
 }
 
-// Of words that name the file alone.
-fn fails_for_a_file(
-    rt: &impl Abort,
-    alloc: Global,
-    words: &[&str],
-    length: usize,
-    front: &[u8],
-) -> Result<(), Fail> {
-    let file = ball(alloc)?;
+#[test]
+fn each_call_of_each_command_fails_in_turn(rt: HostRuntime) -> Result<(), Fail> {
+    'commands: for command in commands() {
+        fails_at_each_call(&rt, rt.alloc(), command)?;
+    }
+    Ok(())
+}
+
+// Runs `verify` on a file and a certificate, of which this read fails, if it comes to it.
+fn verified(alloc: Global, file: &[u8], certificate: &[u8], at: u64) -> Result<(u8, Bytes), Fail> {
     let given = Given {
-        words,
-        file: file.as_slice(),
-        reads_file: true,
-        certificate: b"",
-        reads_certificate: false,
+        words: &["verify", "FILE", "CERT"],
+        file: Some(file),
+        certificate: Some(certificate),
     };
-    fails_at_each_call(rt, alloc, given, length, front)
+    let call = Call::CertificateRead;
+    outcome(alloc, given, Some(Fails { call, size: 5, at }))
 }
 
-// Of words that name the file and a certificate.
-fn fails_for_a_certificate(
-    rt: &impl Abort,
-    alloc: Global,
-    words: &[&str],
-    certificate: &[u8],
-    length: usize,
-    front: &[u8],
-) -> Result<(), Fail> {
-    let file = ball(alloc)?;
+#[test]
+fn the_certificate_of_a_bad_file_is_left(rt: HostRuntime) -> Result<(), Fail> {
+    let got = verified(rt.alloc(), b"", b"", 1)?;
+    starts(&rt, &got, 3, 24, b"bad file line 1 missing\n");
+    Ok(())
+}
+
+#[test]
+fn a_certificate_is_read_to_its_end_behind_a_bad_line(rt: HostRuntime) -> Result<(), Fail> {
+    let got = verified(rt.alloc(), short(), b"x\n", 2)?;
+    starts(&rt, &got, 4, 0, b"");
+    Ok(())
+}
+
+#[test]
+fn the_usage_is_told_without_a_read(rt: HostRuntime) -> Result<(), Fail> {
     let given = Given {
-        words,
-        file: file.as_slice(),
-        reads_file: true,
-        certificate,
-        reads_certificate: true,
+        words: &[],
+        file: None,
+        certificate: None,
     };
-    fails_at_each_call(rt, alloc, given, length, front)
-}
-
-#[test]
-fn solids(rt: HostRuntime) -> Result<(), Fail> {
-    fails_for_a_file(&rt, rt.alloc(), &["solids", "FILE"], 2, b"1\n")
-}
-
-#[test]
-fn show(rt: HostRuntime) -> Result<(), Fail> {
-    fails_for_a_file(&rt, rt.alloc(), &["show", "FILE", "1"], 74, b"solid 1\n")
-}
-
-#[test]
-fn certify(rt: HostRuntime) -> Result<(), Fail> {
-    fails_for_a_file(&rt, rt.alloc(), &["certify", "FILE", "1"], 67, CERTIFICATE)
-}
-
-#[test]
-fn certify_all(rt: HostRuntime) -> Result<(), Fail> {
-    fails_for_a_file(&rt, rt.alloc(), &["certify", "FILE", "all"], 67, BOOK)
-}
-
-#[test]
-fn extract(rt: HostRuntime) -> Result<(), Fail> {
-    fails_for_a_file(&rt, rt.alloc(), &["extract", "FILE", "1"], 2430, b"")
-}
-
-#[test]
-fn compact(rt: HostRuntime) -> Result<(), Fail> {
-    fails_for_a_file(&rt, rt.alloc(), &["compact", "FILE", "1"], 2430, b"")
-}
-
-#[test]
-fn open(rt: HostRuntime) -> Result<(), Fail> {
-    fails_for_a_file(
-        &rt,
-        rt.alloc(),
-        &["open", "FILE", "3"],
-        47,
-        OPEN_CERTIFICATE,
-    )
-}
-
-#[test]
-fn orient(rt: HostRuntime) -> Result<(), Fail> {
-    fails_for_a_file(&rt, rt.alloc(), &["orient", "FILE", "1"], 19, ORIENTATION)
-}
-
-#[test]
-fn verify(rt: HostRuntime) -> Result<(), Fail> {
-    fails_for_a_certificate(
-        &rt,
-        rt.alloc(),
-        &["verify", "FILE", "CERT"],
-        CERTIFICATE,
-        11,
-        b"accepted 1\n",
-    )
-}
-
-#[test]
-fn verify_of_a_book(rt: HostRuntime) -> Result<(), Fail> {
-    fails_for_a_certificate(
-        &rt,
-        rt.alloc(),
-        &["verify", "FILE", "CERT"],
-        BOOK,
-        11,
-        b"accepted 1\n",
-    )
-}
-
-#[test]
-fn upgrade(rt: HostRuntime) -> Result<(), Fail> {
-    fails_for_a_certificate(
-        &rt,
-        rt.alloc(),
-        &["upgrade", "FILE", "CERT"],
-        CERTIFICATE,
-        67,
-        CERTIFICATE,
-    )
-}
-
-#[test]
-fn open_verify(rt: HostRuntime) -> Result<(), Fail> {
-    fails_for_a_certificate(
-        &rt,
-        rt.alloc(),
-        &["open-verify", "FILE", "CERT"],
-        OPEN_CERTIFICATE,
-        11,
-        b"accepted 3\n",
-    )
-}
-
-#[test]
-fn orient_verify(rt: HostRuntime) -> Result<(), Fail> {
-    fails_for_a_certificate(
-        &rt,
-        rt.alloc(),
-        &["orient-verify", "FILE", "CERT"],
-        ORIENTATION,
-        11,
-        b"accepted 1\n",
-    )
-}
-
-#[test]
-fn sample(rt: HostRuntime) -> Result<(), Fail> {
-    let given = Given {
-        words: &["sample", "3"],
-        file: b"",
-        reads_file: false,
-        certificate: b"",
-        reads_certificate: false,
-    };
-    fails_at_each_call(&rt, rt.alloc(), given, 72, b"sample 3 ")
+    let call = Call::FileRead;
+    let (size, at) = (1, 1);
+    let got = outcome(rt.alloc(), given, Some(Fails { call, size, at }))?;
+    starts(&rt, &got, 2, 242, b"usage: igesolid solids FILE | ");
+    Ok(())
 }

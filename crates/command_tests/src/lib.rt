@@ -14,8 +14,6 @@ mod memory;
 #[cfg(test)]
 mod outcomes;
 #[cfg(test)]
-mod running;
-#[cfg(test)]
 mod samples;
 #[cfg(test)]
 mod streams;

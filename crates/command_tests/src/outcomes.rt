@@ -6,14 +6,12 @@ use iges_io::{MemSink, MemSource};
 use std::alloc::Global;
 use std::test::Fail;
 
-/// What a run is given: its words, the file and the certificate, and which of the two the words read.
+/// What a run is given: its words, and the file and the certificate where the words read one.
 #[derive(Clone, Copy)]
 pub struct Given<'a> {
     pub words: &'a [&'a str],
-    pub file: &'a [u8],
-    pub reads_file: bool,
-    pub certificate: &'a [u8],
-    pub reads_certificate: bool,
+    pub file: Option<&'a [u8]>,
+    pub certificate: Option<&'a [u8]>,
 }
 
 /// A kind of call that may fail.
@@ -43,8 +41,8 @@ fn bounds(call: Call, fails: Option<Fails>) -> (u64, u64) {
     }
 }
 
-fn source_of(alloc: Global, text: &[u8], bounds: (u64, u64)) -> Result<MemSource, Fail> {
-    source(alloc, text, &[bounds.0], &[bounds.1])
+fn source_of(alloc: Global, text: Option<&[u8]>, bounds: (u64, u64)) -> Result<MemSource, Fail> {
+    source(alloc, text.unwrap_or(b""), &[bounds.0], &[bounds.1])
 }
 
 fn sink_of(alloc: Global, bounds: (u64, u64)) -> Result<MemSink, Fail> {

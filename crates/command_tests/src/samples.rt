@@ -18,32 +18,11 @@ fn integer_at(file: &File, no: u32, i: usize) -> Option<i64> {
     }
 }
 
-fn kind_of(file: &File, no: u32) -> Option<i64> {
-    Some(file.entry(EntryNo(no))?.kind)
-}
-
 #[test]
-fn entries_of_nine_squares(rt: HostRuntime) -> Result<(), Fail> {
+fn the_smallest_sample_has_nine_squares(rt: HostRuntime) -> Result<(), Fail> {
     let file = smallest(rt.alloc())?;
-    same(&rt, &file.start_count(), &1);
     same(&rt, &file.entry_count(), &24);
-    Ok(())
-}
-
-#[test]
-fn counts_of_nine_squares(rt: HostRuntime) -> Result<(), Fail> {
-    let file = smallest(rt.alloc())?;
     same(&rt, &integer_at(&file, 3, 0), &Some(9));
-    same(&rt, &integer_at(&file, 5, 0), &Some(9));
     same(&rt, &integer_at(&file, 7, 0), &Some(18));
-    Ok(())
-}
-
-#[test]
-fn the_last_square(rt: HostRuntime) -> Result<(), Fail> {
-    let file = smallest(rt.alloc())?;
-    same(&rt, &kind_of(&file, 45), &Some(510));
-    same(&rt, &integer_at(&file, 45, 3), &Some(47));
-    same(&rt, &kind_of(&file, 49), &None);
     Ok(())
 }

@@ -1,10 +1,8 @@
 use crate::comparing::same;
 use crate::texts::{integer_at, two_solids_with, value_count};
-use entry_references::ExtractReason;
 use iges_fields::EntryNo;
 use iges_params::File;
 use list_compact::{CompactFault, compact};
-use solid_data::{Failing, Rule};
 use std::alloc::Global;
 use std::test::Fail;
 
@@ -24,18 +22,9 @@ fn three_vertices(alloc: Global) -> Result<File, Fail> {
     )
 }
 
-// The file whose loop 7 is a vertex past the end of its list.
-fn no_vertex(alloc: Global) -> Result<File, Fail> {
-    two_solids_with(alloc, &[(LOOP_7, b"508,1,1,9,2,1,0;")])
-}
-
 // No clause of the call goes further.
 fn solid(alloc: Global, file: &File, no: u32) -> Result<File, CompactFault> {
     compact(alloc, file, EntryNo(no))
-}
-
-fn fault(alloc: Global, file: &File, no: u32) -> Option<CompactFault> {
-    solid(alloc, file, no).err()
 }
 
 fn compacted(alloc: Global) -> Result<File, Fail> {
@@ -53,28 +42,5 @@ fn one_vertex_of_three_is_kept(rt: HostRuntime) -> Result<(), Fail> {
     same(&rt, &value_count(&new, 9), &Some(4));
     same(&rt, &integer_at(&new, 9, 0), &Some(1));
     same(&rt, &integer_at(&new, 7, 3), &Some(1));
-    Ok(())
-}
-
-#[test]
-fn a_shell_is_no_solid(rt: HostRuntime) -> Result<(), Fail> {
-    let file = three_vertices(rt.alloc())?;
-    let due = Some(CompactFault::Refused {
-        entity: EntryNo(3),
-        reason: ExtractReason::NotSolid,
-    });
-    same(&rt, &fault(rt.alloc(), &file, 3), &due);
-    Ok(())
-}
-
-#[test]
-fn an_index_past_the_end_is_named(rt: HostRuntime) -> Result<(), Fail> {
-    let file = no_vertex(rt.alloc())?;
-    let due = Some(CompactFault::Fails(Failing {
-        rule: Rule::BadIndex,
-        entity: EntryNo(7),
-        place: 1,
-    }));
-    same(&rt, &fault(rt.alloc(), &file, 1), &due);
     Ok(())
 }

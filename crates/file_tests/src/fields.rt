@@ -69,52 +69,27 @@ fn eight_values_are_read(rt: HostRuntime) -> Result<(), Fail> {
 }
 
 #[test]
-fn one_value_is_left_out(rt: HostRuntime) -> Result<(), Fail> {
-    let (list, used) = read(rt.alloc(), b";", b',', b';')?;
-    same(&rt, &list.len(), &1);
-    same(&rt, &used, &1);
-    Ok(())
-}
-
-#[test]
-fn a_text_is_too_short(rt: HostRuntime) {
+fn fields_that_are_no_values_are_named(rt: HostRuntime) {
+    let alloc = rt.alloc();
     same(
         &rt,
-        &fault_of(rt.alloc(), b"9Hab,"),
+        &fault_of(alloc, b"9Hab,"),
         &fault(0, FieldReason::TextTooShort),
     );
-}
-
-#[test]
-fn a_blank_stands_inside(rt: HostRuntime) {
     same(
         &rt,
-        &fault_of(rt.alloc(), b"1 2;"),
+        &fault_of(alloc, b"1 2;"),
         &fault(0, FieldReason::BadValue),
     );
-}
-
-#[test]
-fn an_integer_is_too_large(rt: HostRuntime) {
-    let text = b" 9223372036854775808;";
     same(
         &rt,
-        &fault_of(rt.alloc(), text),
+        &fault_of(alloc, b" 9223372036854775808;"),
         &fault(1, FieldReason::IntTooLarge),
     );
-}
-
-#[test]
-fn no_record_ends(rt: HostRuntime) {
     same(
         &rt,
-        &fault_of(rt.alloc(), b"1,2"),
+        &fault_of(alloc, b"1,2"),
         &fault(3, FieldReason::NoRecordEnd),
-    );
-    same(
-        &rt,
-        &fault_of(rt.alloc(), b""),
-        &fault(0, FieldReason::NoRecordEnd),
     );
 }
 

@@ -1,8 +1,9 @@
 ghost use Rattle.std.specs.Prelude.{◌≡◌, ◌≤◌, ◌+◌, length, OnOk};
 
 use crate::comparing::same;
+use crate::texts::tiny;
 use iges_fields::NoMemory;
-use iges_lines::{LineFault, LineFeed, PassFault, Reason, Sections, SectionsFault, sections};
+use iges_lines::{LineFault, LineFeed, Reason, Sections, SectionsFault, sections};
 use std::alloc::Global;
 use std::test::Fail;
 
@@ -12,14 +13,6 @@ pub fn sections_of(alloc: Global, text: &[u8]) -> Result<Sections, SectionsFault
         return Err(SectionsFault::NoMemory);
     }
     sections(alloc, text)
-}
-
-// The bad line of a text, where it has one.
-fn bad_line(alloc: Global, text: &[u8]) -> Option<LineFault> {
-    match sections_of(alloc, text) {
-        Err(PassFault::Bad(fault)) => Some(fault),
-        _ => None,
-    }
 }
 
 // How many lines the sections have before the last one.
@@ -32,57 +25,11 @@ fn counts(s: &Sections) -> (usize, usize, usize, usize) {
     )
 }
 
-fn bad(line: u64, reason: Reason) -> Option<LineFault> {
-    Some(LineFault { line, reason })
-}
-
 #[test]
 fn five_sections(rt: HostRuntime) -> Result<(), Fail> {
-    let s = sections_of(
-        rt.alloc(),
-        b"tiny                                                                    S      1\n1H,,1H;;                                                                G      1\n     186       1       0       0       0       0       0       000000000D      1\n     186       0       0       1       0                               0D      2\n186,0,1,0;                                                             1P      1\nS      1G      1D      2P      1                                        T      1\n",
-    )?;
+    let s = sections_of(rt.alloc(), tiny())?;
     same(&rt, &counts(&s), &(1, 1, 2, 1));
     Ok(())
-}
-
-#[test]
-fn lines_end_in_carriage_returns(rt: HostRuntime) -> Result<(), Fail> {
-    let s = sections_of(
-        rt.alloc(),
-        b"tiny                                                                    S0000001\r\n1H,,1H;;                                                                G1      \r\nS      1G      1D      0P      0                                        T      1",
-    )?;
-    same(&rt, &counts(&s), &(1, 1, 0, 0));
-    Ok(())
-}
-
-#[test]
-fn no_lines(rt: HostRuntime) {
-    same(&rt, &bad_line(rt.alloc(), b""), &bad(1, Reason::Missing));
-}
-
-#[test]
-fn short_line(rt: HostRuntime) {
-    same(
-        &rt,
-        &bad_line(
-            rt.alloc(),
-            b"tiny                                                                    S      1\n1H,,1H;;",
-        ),
-        &bad(2, Reason::Length),
-    );
-}
-
-#[test]
-fn byte_behind_the_end(rt: HostRuntime) {
-    same(
-        &rt,
-        &bad_line(
-            rt.alloc(),
-            b"tiny                                                                    S      1\n1H,,1H;;                                                                G      1\nS      1G      1D      0P      0                                        T      1\n \nx",
-        ),
-        &bad(5, Reason::After),
-    );
 }
 
 #[test]
@@ -93,14 +40,6 @@ fn word_and_number(rt: HostRuntime) {
         &b"types-differ".as_slice(),
     );
     same(&rt, &Reason::TypesDiffer.number(), &10);
-}
-
-const TINY: &[u8] =
-    b"tiny                                                                    S      1\n1H,,1H;;                                                                G      1\nS      1G      1D      0P      0                                        T      1\n";
-
-// Has no clause, so that no goal holds the text.
-fn tiny() -> &'static [u8] {
-    TINY
 }
 
 // Gives a feed its next bytes; only its length goes further.
@@ -145,20 +84,18 @@ fn finished(feed: LineFeed) -> Result<Sections, SectionsFault> {
 
 #[test]
 fn cut_within_a_line(rt: HostRuntime) -> Result<(), Fail> {
-    let s = finished(cut(rt.alloc(), tiny(), 100, 100)?)?;
-    same(&rt, &counts(&s), &(1, 1, 0, 0));
-    Ok(())
-}
-
-#[test]
-fn cut_behind_an_lf(rt: HostRuntime) -> Result<(), Fail> {
-    let s = finished(cut(rt.alloc(), tiny(), 81, 81)?)?;
-    same(&rt, &counts(&s), &(1, 1, 0, 0));
+    let s = finished(cut(rt.alloc(), tiny(), 150, 300)?)?;
+    same(&rt, &counts(&s), &(1, 1, 2, 1));
     Ok(())
 }
 
 const TWO_SHORT_LINES: &[u8] =
-    b"tiny                                                                    S      1\nshort\n1H,,1H;;                                                                G      1\nX\nS      1G      1D      0P      0                                        T      1\n";
+    b"tiny                                                                    S      1
+short
+1H,,1H;;                                                                G      1
+X
+S      1G      1D      0P      0                                        T      1
+";
 
 #[test]
 fn the_first_failing_line_is_told(rt: HostRuntime) -> Result<(), Fail> {

@@ -39,14 +39,6 @@ fn curve(list: &Values, i: usize) -> Option<i64> {
 }
 
 #[test]
-fn a_count_of_voids_may_be_missing(rt: HostRuntime) -> Result<(), Fail> {
-    let list = record(rt.alloc(), b"3,1;")?;
-    same(&rt, &shell_count(&list), &Some(1));
-    same(&rt, &shell(&list, 0), &Some((3, true)));
-    Ok(())
-}
-
-#[test]
 fn a_void_comes_after_the_outer_shell(rt: HostRuntime) -> Result<(), Fail> {
     let list = record(rt.alloc(), b"3,1,1,69,0;")?;
     same(&rt, &shell_count(&list), &Some(2));
@@ -63,13 +55,6 @@ fn the_cube_has_six_faces(rt: HostRuntime) -> Result<(), Fail> {
 }
 
 #[test]
-fn a_shell_has_no_negative_count(rt: HostRuntime) -> Result<(), Fail> {
-    let list = record(rt.alloc(), b"-1;")?;
-    same(&rt, &face(&list, 0), &None);
-    Ok(())
-}
-
-#[test]
 fn a_face_of_the_cylinder(rt: HostRuntime) -> Result<(), Fail> {
     let list = record(rt.alloc(), b"21,1,1,11;")?;
     same(&rt, &surface(&list), &Some(21));
@@ -78,32 +63,10 @@ fn a_face_of_the_cylinder(rt: HostRuntime) -> Result<(), Fail> {
 }
 
 #[test]
-fn a_loop_of_the_cube(rt: HostRuntime) -> Result<(), Fail> {
-    let list = record(rt.alloc(), b"4,0,7,4,0,0,0,7,3,0,0,0,7,2,0,0,0,7,1,0,0;")?;
-    same(&rt, &tuple_count(&list), &Some(4));
-    same(&rt, &tuple(&list, 3), &Some((false, 7, 1, false)));
-    Ok(())
-}
-
-#[test]
 fn the_loop_of_the_ball_goes_through_a_pole(rt: HostRuntime) -> Result<(), Fail> {
     let list = record(rt.alloc(), b"4,0,7,1,1,0,1,5,2,1,0,0,7,1,0,0,1,5,1,1,0;")?;
     same(&rt, &tuple(&list, 1), &Some((true, 5, 2, true)));
     same(&rt, &tuple(&list, 4), &None);
-    Ok(())
-}
-
-#[test]
-fn a_loop_of_the_cylinder_has_no_last_count(rt: HostRuntime) -> Result<(), Fail> {
-    let list = record(rt.alloc(), b"4,0,7,2,1,0,0,7,1,1,0,0,7,3,0,0,0,7,1,0;")?;
-    same(&rt, &tuple_count(&list), &Some(4));
-    Ok(())
-}
-
-#[test]
-fn a_loop_is_counted_too_large(rt: HostRuntime) -> Result<(), Fail> {
-    let list = record(rt.alloc(), b"9223372036854775807,0,7,4,0,0;")?;
-    same(&rt, &tuple_count(&list), &None);
     Ok(())
 }
 

@@ -8,7 +8,28 @@ use std::test::Fail;
 
 // A solid, 1, with a shell, 3, a name, 5, a colour, 7, and a matrix, 9. Entry 11 is of an unlisted type.
 const ONE_SOLID: &[u8] =
-    b"                                                                        S      1\n1H,,1H;;                                                                G      1\n     186       1       0       0       0       0       9       000000000D      1\n     186       0      -7       1       0                               0D      2\n     514       2       0       0       0       0       0       000000000D      3\n     514       0       0       1       1                               0D      4\n     406       3       0       0       0       0       0       000000000D      5\n     406       0       0       1      15                               0D      6\n     314       4       0       0       0       0       0       000000000D      7\n     314       0       0       1       0                               0D      8\n     124       5       0       0       0       0       0       000000000D      9\n     124       0       0       1       0                               0D     10\n     114       6       0       0       0       0       0       000000000D     11\n     114       0       0       1       0                               0D     12\n186,3,1,0,0,1,5;                                                       1P      1\n514,1,11,1;                                                            3P      2\n406,1,4HBALL;                                                          5P      3\n314,100.,0.,0.,3Hred;                                                  7P      4\n124,1.,0.,0.,0.,0.,1.,0.,0.,0.,0.,1.,0.;                               9P      5\n114,1,2;                                                              11P      6\nS      1G      1D     12P      6                                        T      1\n";
+    b"                                                                        S      1
+1H,,1H;;                                                                G      1
+     186       1       0       0       0       0       9       000000000D      1
+     186       0      -7       1       0                               0D      2
+     514       2       0       0       0       0       0       000000000D      3
+     514       0       0       1       1                               0D      4
+     406       3       0       0       0       0       0       000000000D      5
+     406       0       0       1      15                               0D      6
+     314       4       0       0       0       0       0       000000000D      7
+     314       0       0       1       0                               0D      8
+     124       5       0       0       0       0       0       000000000D      9
+     124       0       0       1       0                               0D     10
+     114       6       0       0       0       0       0       000000000D     11
+     114       0       0       1       0                               0D     12
+186,3,1,0,0,1,5;                                                       1P      1
+514,1,11,1;                                                            3P      2
+406,1,4HBALL;                                                          5P      3
+314,100.,0.,0.,3Hred;                                                  7P      4
+124,1.,0.,0.,0.,0.,1.,0.,0.,0.,0.,1.,0.;                               9P      5
+114,1,2;                                                              11P      6
+S      1G      1D     12P      6                                        T      1
+";
 
 // Has no clause, so that no goal holds the text.
 fn text() -> &'static [u8] {
@@ -43,16 +64,5 @@ fn a_solid_refers_to_its_shell_its_name_its_colour_and_its_matrix(
     same(&rt, &reference(&list, 2), &Some(7));
     same(&rt, &reference(&list, 3), &Some(9));
     same(&rt, &reference(&list, 4), &None);
-    Ok(())
-}
-
-#[test]
-fn a_type_that_is_not_listed_has_no_references(rt: HostRuntime) -> Result<(), Fail> {
-    let file = one_solid(rt.alloc())?;
-    same(
-        &rt,
-        &listed(rt.alloc(), &file, 11).err(),
-        &Some(RefFault::Unlisted),
-    );
     Ok(())
 }

@@ -2,6 +2,16 @@ use crate::{Finding, judge};
 use iges_base::EntryNo;
 use solid_data::{Failing, Rule};
 
+// Solid 1 names the entry 0 as its shell.
+const TINY: &[u8] =
+    b"tiny                                                                    S      1
+1H,,1H;;                                                                G      1
+     186       1       0       0       0       0       0       000000000D      1
+     186       0       0       1       0                               0D      2
+186,0,1,0;                                                             1P      1
+S      1G      1D      2P      1                                        T      1
+";
+
 #[test]
 fn solid_without_a_shell(rt: HostRuntime) {
     let failing = Failing {
@@ -10,11 +20,7 @@ fn solid_without_a_shell(rt: HostRuntime) {
         place: 1,
     };
     assert_eq!(rt;
-        judge(
-            rt.alloc(),
-            b"tiny                                                                    S      1\n1H,,1H;;                                                                G      1\n     186       1       0       0       0       0       0       000000000D      1\n     186       0       0       1       0                               0D      2\n186,0,1,0;                                                             1P      1\nS      1G      1D      2P      1                                        T      1\n",
-            EntryNo(1)
-        ),
+        judge(rt.alloc(), TINY, EntryNo(1)),
         Finding::Fails(failing)
     );
 }

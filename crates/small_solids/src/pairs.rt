@@ -3,8 +3,8 @@
 ghost use Rattle.std.specs.Prelude.{◌≡◌, length, IfOk};
 
 use crate::parts::{edge_to, face, one, one_use, shell_of_two, two, use_of, vertex};
-use iges_base::{EntryNo, ItemList, NoMemory};
-use solid_data::{LoopUse, Solid, VertexId};
+use iges_base::{EntryNo, NoMemory};
+use solid_data::Solid;
 use std::alloc::Global;
 
 /// Two faces whose loops both run along one edge, from vertex to vertex.
@@ -30,18 +30,4 @@ pub fn half_turned_ball(alloc: Global) -> Result<Solid, NoMemory>
     let edges = one(alloc, edge_to(0))?;
     let vertices = one(alloc, vertex(1))?;
     Ok(Solid::new(EntryNo(13), shells, edges, vertices))
-}
-
-/// Two faces that share a vertex alone.
-pub fn touching_faces(alloc: Global) -> Result<Solid, NoMemory>
-    ensures { IfOk result (λ s. length s.shells ≡ 1) }
-{
-    let pole = LoopUse::VertexUse {
-        vertex: VertexId(0),
-    };
-    let first = face(alloc, 9, true, one_use(alloc, pole)?)?;
-    let second = face(alloc, 15, true, one_use(alloc, pole)?)?;
-    let shells = shell_of_two(alloc, first, second)?;
-    let vertices = one(alloc, vertex(1))?;
-    Ok(Solid::new(EntryNo(13), shells, ItemList::new(alloc), vertices))
 }
