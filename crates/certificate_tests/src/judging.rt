@@ -1,14 +1,7 @@
 use crate::comparing::same;
-<<<<<<< HEAD
-use iges_base::EntryNo;
 use shell_rules::{CheckFault, check_shells};
-use small_solids::{open_sheet, seamed_ball};
-use solid_data::{Failing, Rule, Solid};
-=======
 use small_solids::seamed_ball;
-use shell_rules::{CheckFault, check_shells};
 use solid_data::Solid;
->>>>>>> 6dd73966a7928825b07ed28f564ad51bac9415ae
 use std::alloc::Global;
 use std::test::Fail;
 
