@@ -17,11 +17,7 @@ fn noted(tally: Tally, line: u64, times: u64) -> Tally
     if times == 0 {
         return tally;
     }
-    let first = if tally.times == 0 {
-        line
-    } else {
-        tally.first
-    };
+    let first = if tally.times == 0 { line } else { tally.first };
     Tally {
         times: tally.times + times,
         first,
@@ -50,7 +46,11 @@ pub fn tally(bytes: &[u8], change: Change) -> Tally
         let (piece, after) = first_piece(left, ending);
         let judged = judge(counts, piece);
         let feed = has_feed(ending, left, piece, after);
-        found = noted(found, number, once(happens(change, counts, judged, piece, feed)));
+        found = noted(
+            found,
+            number,
+            once(happens(change, counts, judged, piece, feed)),
+        );
         number += 1;
         match lines_after(counts, judged) {
             Some(more) => counts = more,
