@@ -7,12 +7,12 @@ ghost use Rattle.std.specs.Prelude.{◌≡◌, ◌≢◌, ◌↔◌, ◌⊎◌, 
 
 use command_replies::Answer;
 use iges_io::{StdSource, no_source, open_source, std_sink};
+use repair_commands::{Words, run_repair};
 use std::alloc::Global;
 use std::io::ErrorKind;
 use std::process::ExitCode;
 use std::rt::{Env, Files};
 use std::{env, io};
-use repair_commands::{Words, run_repair};
 
 // The status where the system doesn't give the words.
 const NO_WORDS: u8 = 9;

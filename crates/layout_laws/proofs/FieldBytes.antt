@@ -1,5 +1,6 @@
 -- The bytes of a field that holds a number.
-use Rattle.std.proofs.Common.{◌≡◌, inl, inr, ℕ, zero, suc, Bool, true, false, cond, List, [], ◌∷◌, ◌++◌, drop, Option, Some, None, ℤ, pos, refl, sym, ap, subst, ◌∙◌}
+use Rattle.std.proofs.Common.{◌≡◌, inl, inr, ℕ, zero, suc, Bool, true, false, cond, List, [], ◌∷◌, ◌++◌, drop, Option, Some, None, ℤ, pos, refl, sym, ap, subst}
+use Rattle.std.proofs.Common.{◌∙◌}
 use Rattle.std.specs.Prelude.{◌==◌, ◌||◌}
 use Rattle.std.specs.Char.{is_ascii_digit}
 use Rattle.std.specs.List.{list_all}
@@ -24,7 +25,8 @@ abbrev are_field_bytes : List ℕ → Bool
 are_field_bytes word = list_all is_field_byte word
 
 digit_field : (b : ℕ) → is_ascii_digit b ≡ true → is_field_byte b ≡ true
-digit_field b h = or_left (is_ascii_digit b || b == 43 || b == 45) (b == 32) (or_left (is_ascii_digit b || b == 43) (b == 45) (or_left (is_ascii_digit b) (b == 43) h))
+digit_field b h = or_left (is_ascii_digit b || b == 43 || b == 45) (b == 32)
+    (or_left (is_ascii_digit b || b == 43) (b == 45) (or_left (is_ascii_digit b) (b == 43) h))
 
 signed_field : (word : List ℕ) → are_field_bytes (without_leading_sign word) ≡ true → are_field_bytes word ≡ true
 signed_field [] h = refl
@@ -33,7 +35,8 @@ signed_field (b ∷ word) h =
       | inl e ↦ and_from (is_field_byte b) (are_field_bytes word) (subst (λ (x : ℕ). is_field_byte x ≡ true) (sym (eqb-true b 45 e)) refl)
           (ap are_field_bytes (sym (cond-true (b == 45) word (without_leading_plus (b ∷ word)) e)) ∙ h)
       | inr e ↦
-          let plus : are_field_bytes (without_leading_plus (b ∷ word)) ≡ true = ap are_field_bytes (sym (cond-false (b == 45) word (without_leading_plus (b ∷ word)) e)) ∙ h in
+          let plus : are_field_bytes (without_leading_plus (b ∷ word)) ≡ true = ap are_field_bytes
+              (sym (cond-false (b == 45) word (without_leading_plus (b ∷ word)) e)) ∙ h in
           elim (cases_Bool (b == 43)) [
             | inl f ↦ and_from (is_field_byte b) (are_field_bytes word) (subst (λ (x : ℕ). is_field_byte x ≡ true) (sym (eqb-true b 43 f)) refl)
                 (ap (λ (n : ℕ). are_field_bytes (drop n (b ∷ word))) (sym (cond-true (b == 43) 1 0 f)) ∙ plus)
@@ -56,7 +59,8 @@ pub number_bytes : (field : List ℕ) (z : ℤ) → column_number field ≡ Some
 number_bytes field z e =
     let t = trim-is field in
     ap are_field_bytes t.2
-    ∙ list_all-both is_field_byte (spaces t.0 ++ trim field) (spaces t.1) (list_all-both is_field_byte (spaces t.0) (trim field) (spaces_field t.0) (word_field (trim field) z e)) (spaces_field t.1)
+    ∙ list_all-both is_field_byte (spaces t.0 ++ trim field) (spaces t.1)
+        (list_all-both is_field_byte (spaces t.0) (trim field) (spaces_field t.0) (word_field (trim field) z e)) (spaces_field t.1)
 
 pub field_in_tail : (b : ℕ) → is_field_byte b ≡ true → is_tail_byte b ≡ true
 field_in_tail b h =

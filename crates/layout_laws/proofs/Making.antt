@@ -1,5 +1,6 @@
 -- Pieces that are taken one after the other become the sections of a file.
-use Rattle.std.proofs.Common.{◌≡◌, inl, inr, ℕ, ◌+◌, ◌<◌, Bool, true, false, not, List, [], ◌∷◌, ◌++◌, length, drop, map, Option, Ok, Err, refl, sym, ap, subst, ◌∙◌, append_assoc, arith, lit<}
+use Rattle.std.proofs.Common.{◌≡◌, inl, inr, ℕ, ◌+◌, ◌<◌, Bool, true, false, not, List, [], ◌∷◌, ◌++◌, length, drop, map, Option, Ok, Err, refl, sym, ap, subst}
+use Rattle.std.proofs.Common.{◌∙◌, append_assoc, arith, lit<}
 use Rattle.std.specs.Prelude.{◌&&◌, ◌==◌, if◌then◌else◌, flat_map, slice_index}
 use Rattle.std.specs.List.{AllByRecursion, list_all}
 use Rattle.std.proofs.lemmas.Bool.{and_parts, cases_Bool, cond-true, cond-false, eqb-false}
@@ -27,7 +28,8 @@ use Rattle.line_layout.proofs.GoodLines.{IsGood, good_line, blank_line}
 use Rattle.layout_laws.specs.Counted.{counts_of}
 use Rattle.layout_laws.specs.Kept.{ends, kept_lines, content_of}
 use Rattle.layout_laws.proofs.Rows.{IsRow, good_row, made_row, letter_names, number_is, row_content}
-use Rattle.layout_laws.proofs.Steps.{Lines, row_numbered, row_line, row_terminate, row_in_line, kept_more, kept_last, Fits, fits_is, fits_from, put, counts_put, join_put, Begun, begun_put, last_due, global_of, before_ok}
+use Rattle.layout_laws.proofs.Steps.{Lines, row_numbered, row_line, row_terminate, row_in_line, kept_more, kept_last, Fits, fits_is, fits_from, put, counts_put}
+use Rattle.layout_laws.proofs.Steps.{join_put, Begun, begun_put, last_due, global_of, before_ok}
 
 -- What the pieces become behind these sections.
 pub record Made (t : SectionLines) (ps : Lines) (text : List ℕ) : Type 0 where
@@ -64,7 +66,8 @@ kept_blank c piece ps is = cond-true (is_blank (unmarked piece)) _ _ (blank_line
 
 -- ---- the last line
 
-made_last : (t : SectionLines) (ps : Lines) (text r : List ℕ) → Begun t → Fits (counts_of t) Terminate → IsRow (counts_of t) Terminate r → is_in_line r ≡ true → text ≡ ended r → kept_lines ps ≡ [] → Made t ps text
+made_last : (t : SectionLines) (ps : Lines) (text r : List ℕ) → Begun t → Fits (counts_of t) Terminate → IsRow (counts_of t) Terminate r → is_in_line r ≡ true
+    → text ≡ ended r → kept_lines ps ≡ [] → Made t ps text
 made_last t ps text r begun fits w inside is none = record {
   sections = t;
   rows = [];
@@ -81,7 +84,8 @@ made_last t ps text r begun fits w inside is none = record {
 
 -- ---- a line before others
 
-module _ (t : SectionLines) (piece : List ℕ) (ps : Lines) (n : ℕ) (text : List ℕ) (begun : Begun t) (inside : is_in_line piece ≡ true) (s : Section) (good : IsGood (counts_of t) (unmarked piece) s) where
+module _ (t : SectionLines) (piece : List ℕ) (ps : Lines) (n : ℕ) (text : List ℕ) (begun : Begun t) (inside : is_in_line piece ≡ true) (s : Section)
+    (good : IsGood (counts_of t) (unmarked piece) s) where
   fits : Fits (counts_of t) s
   fits = fits_is (counts_of t) s good.fits
 
@@ -92,7 +96,8 @@ module _ (t : SectionLines) (piece : List ℕ) (ps : Lines) (n : ℕ) (text : Li
   w = good_row t begun.few s (unmarked piece) good small
 
   row_inside : is_in_line (row (counts_of t) s (unmarked piece)) ≡ true
-  row_inside = row_in_line (counts_of t) s (unmarked piece) begun.few (unmarked_in_line piece inside) (number_is (next_number (counts_of t) s) (unmarked piece) small).1
+  row_inside = row_in_line (counts_of t) s (unmarked piece) begun.few (unmarked_in_line piece inside)
+      (number_is (next_number (counts_of t) s) (unmarked piece) small).1
 
   kept_here : (b : Bool) → is_last s ≡ b → kept_lines (piece ∷ ps) ≡ (if b then [] else unmarked piece ∷ kept_lines ps)
   unfolding kept_lines
@@ -119,7 +124,8 @@ module _ (t : SectionLines) (piece : List ℕ) (ps : Lines) (n : ℕ) (text : Li
         some_global = m.some_global;
         terminate = m.terminate;
         are_lines = (row_line c s r w row_inside, m.are_lines);
-        contents = ap (λ (x : List ℕ × Option Section). x ∷ map content_of m.rows) (same_content other) ∙ ap (λ (x : List (List ℕ × Option Section)). content_of (unmarked piece) ∷ x) m.contents
+        contents = ap (λ (x : List ℕ × Option Section). x ∷ map content_of m.rows) (same_content other)
+            ∙ ap (λ (x : List (List ℕ × Option Section)). content_of (unmarked piece) ∷ x) m.contents
             ∙ ap (λ (ls : Lines). map content_of ls) (sym (kept_here false other));
         again = λ k. kept_more (m.rows ++ m.last ∷ []) k c s r [] r (sym (append-nil r)) refl w good.fits other
             ∙ ap (before (ended r)) (ap (laid (m.rows ++ m.last ∷ []) (k + 1)) (sym (counts_put t s r)) ∙ m.again (k + 1))
@@ -156,10 +162,14 @@ made_piece t piece ps n text begun inside next Blank is e =
       again = m.again;
     }
 made_piece t piece ps n text begun inside next (Bad reason) is e = absurd cc
-made_piece t piece ps n text begun inside next (Good Start) is e = made_line t piece ps n text begun inside Start (good_line (counts_of t) piece Start is) refl next e
-made_piece t piece ps n text begun inside next (Good Global) is e = made_line t piece ps n text begun inside Global (good_line (counts_of t) piece Global is) refl next e
-made_piece t piece ps n text begun inside next (Good Directory) is e = made_line t piece ps n text begun inside Directory (good_line (counts_of t) piece Directory is) refl next e
-made_piece t piece ps n text begun inside next (Good Param) is e = made_line t piece ps n text begun inside Param (good_line (counts_of t) piece Param is) refl next e
+made_piece t piece ps n text begun inside next (Good Start) is e = made_line t piece ps n text begun inside Start
+    (good_line (counts_of t) piece Start is) refl next e
+made_piece t piece ps n text begun inside next (Good Global) is e = made_line t piece ps n text begun inside Global
+    (good_line (counts_of t) piece Global is) refl next e
+made_piece t piece ps n text begun inside next (Good Directory) is e = made_line t piece ps n text begun inside Directory
+    (good_line (counts_of t) piece Directory is) refl next e
+made_piece t piece ps n text begun inside next (Good Param) is e = made_line t piece ps n text begun inside Param
+    (good_line (counts_of t) piece Param is) refl next e
 made_piece t piece ps n text begun inside next (Good Terminate) is e =
     let same : text ≡ ended (row (counts_of t) Terminate (unmarked piece)) = cc in
     made_end t piece ps n text begun inside Terminate (good_line (counts_of t) piece Terminate is) refl same
@@ -178,10 +188,12 @@ made_none t n text begun e =
           let none = eqb-false (length t.param) 0 f in
           let w = made_row t begun.few in
           let same : text ≡ ended r = cc in
-          made_last t [] text r begun (last_due t (begun.before_param (omega arith))) w (row_in_line c Terminate [] begun.few refl (number_is 1 [] (lit< tt)).1) same refl
+          made_last t [] text r begun (last_due t (begun.before_param (omega arith))) w
+              (row_in_line c Terminate [] begun.few refl (number_is 1 [] (lit< tt)).1) same refl
     ]
 
-pub made : (ps : Lines) (n : ℕ) (t : SectionLines) (text : List ℕ) → Begun t → list_all is_in_line ps ≡ true → laid ps n (counts_of t) ≡ Ok text → Made t ps text
+pub made : (ps : Lines) (n : ℕ) (t : SectionLines) (text : List ℕ) → Begun t → list_all is_in_line ps ≡ true → laid ps n (counts_of t) ≡ Ok text
+    → Made t ps text
 unfolding laid
 made [] n t text begun h e = made_none t n text begun e
 made (piece ∷ ps) n t text begun h e =

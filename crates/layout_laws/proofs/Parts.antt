@@ -12,13 +12,15 @@ module _ (front field tail : List ℕ) (b : ℕ) (long : length front ≡ 72) (s
   content_is = take_at front (b ∷ (field ++ tail)) 72 long
 
   behind_letter : drop 73 (line_of front b field tail) ≡ field ++ tail
-  behind_letter = ap (drop 73) (sym (append_assoc front (b ∷ []) (field ++ tail))) ∙ drop_at (front ++ b ∷ []) (field ++ tail) 73 (omega (arith, length-append front (b ∷ []), long))
+  behind_letter = ap (drop 73) (sym (append_assoc front (b ∷ []) (field ++ tail)))
+      ∙ drop_at (front ++ b ∷ []) (field ++ tail) 73 (omega (arith, length-append front (b ∷ []), long))
 
   pub field_is : columns 74 80 (line_of front b field tail) ≡ field
   field_is = ap (take 7) behind_letter ∙ take_at field tail 7 seven
 
   pub beyond_is : drop 80 (line_of front b field tail) ≡ tail
-  beyond_is = ap (drop 80) (sym (append_assoc front (b ∷ field) tail)) ∙ drop_at (front ++ b ∷ field) tail 80 (omega (arith, length-append front (b ∷ field), long, seven))
+  beyond_is = ap (drop 80) (sym (append_assoc front (b ∷ field) tail))
+      ∙ drop_at (front ++ b ∷ field) tail 80 (omega (arith, length-append front (b ∷ field), long, seven))
 
   pub length_is : length (line_of front b field tail) ≡ 80 + length tail
   length_is = omega (arith, length-append front (b ∷ (field ++ tail)), length-append field tail, long, seven)
@@ -36,7 +38,8 @@ module _ (front field tail : List ℕ) (b : ℕ) (long : length front ≡ 72) (s
 pub whole_line : (line : List ℕ) → length line ≡ 80 → line ≡ columns 1 72 line ++ letter line ∷ columns 74 80 line
 whole_line line long =
     let seven : take 7 (drop 73 line) ≡ drop 73 line = take_all 7 (drop 73 line) (omega (arith, length-drop 73 line, long)) in
-    sym (take-append-drop 72 line) ∙ ap (λ (l : List ℕ). take 72 line ++ l) (drop_more line 72 0 (omega (arith, long)) ∙ ap (λ (l : List ℕ). letter line ∷ l) (sym seven))
+    sym (take-append-drop 72 line) ∙ ap (λ (l : List ℕ). take 72 line ++ l) (drop_more line 72 0 (omega (arith, long))
+        ∙ ap (λ (l : List ℕ). letter line ∷ l) (sym seven))
 
 pub length_field : (line : List ℕ) → 80 ≤ length line → length (columns 74 80 line) ≡ 7
 length_field line long = length-take-le 7 (drop 73 line) (omega (arith, length-drop 73 line))

@@ -36,7 +36,8 @@ module _ (q : ℕ → Bool) (e : ℕ) where
 
 pub either_way : (bytes : List ℕ) → list_all (λ b. b == 10 || not (b == 10)) bytes ≡ true
 either_way [] = refl
-either_way (b ∷ bytes) = and_from (b == 10 || not (b == 10)) _ (elim (cases_Bool (b == 10)) [ inl t ↦ or_left (b == 10) _ t | inr f ↦ or_right (b == 10) (not (b == 10)) (not_from_false (b == 10) f) ]) (either_way bytes)
+either_way (b ∷ bytes) = and_from (b == 10 || not (b == 10)) _
+    (elim (cases_Bool (b == 10)) [ inl t ↦ or_left (b == 10) _ t | inr f ↦ or_right (b == 10) (not (b == 10)) (not_from_false (b == 10) f) ]) (either_way bytes)
 
 no_end : (bytes : List ℕ) → list_any (λ b. b == 10) bytes ≡ false → list_all (λ b. b == 13 || not (b == 10)) bytes ≡ true
 no_end [] h = refl
@@ -47,8 +48,10 @@ no_end (b ∷ bytes) h =
 -- no piece of a file has an LF
 pub pieces_in_line : (bytes : List ℕ) → list_all is_in_line (pieces (end_byte bytes) bytes) ≡ true
 pieces_in_line bytes = elim (cases_Bool (list_any (λ b. b == 10) bytes)) [
-  | inl t ↦ ap (λ (e : ℕ). list_all is_in_line (pieces e bytes)) (cond-true (list_any (λ b. b == 10) bytes) 10 13 t) ∙ pieces_all (λ b. not (b == 10)) 10 bytes (either_way bytes)
-  | inr f ↦ ap (λ (e : ℕ). list_all is_in_line (pieces e bytes)) (cond-false (list_any (λ b. b == 10) bytes) 10 13 f) ∙ pieces_all (λ b. not (b == 10)) 13 bytes (no_end bytes f)
+  | inl t ↦ ap (λ (e : ℕ). list_all is_in_line (pieces e bytes)) (cond-true (list_any (λ b. b == 10) bytes) 10 13 t)
+      ∙ pieces_all (λ b. not (b == 10)) 10 bytes (either_way bytes)
+  | inr f ↦ ap (λ (e : ℕ). list_all is_in_line (pieces e bytes)) (cond-false (list_any (λ b. b == 10) bytes) 10 13 f)
+      ∙ pieces_all (λ b. not (b == 10)) 13 bytes (no_end bytes f)
 ]
 
 -- the pieces of lines that are ended
@@ -56,7 +59,8 @@ pub pieces_text : (ls : Lines) → list_all is_in_line ls ≡ true → pieces 10
 pieces_text [] h = no_pieces 10
 pieces_text (l ∷ ls) h =
     let parts = and_parts (is_in_line l) (list_all is_in_line ls) h in
-    ap (pieces 10) (append_assoc l (10 ∷ []) (flat_map ended ls)) ∙ cut_first 10 l (flat_map ended ls) parts.0 ∙ ap (λ (x : Lines). l ∷ x) (pieces_text ls parts.1)
+    ap (pieces 10) (append_assoc l (10 ∷ []) (flat_map ended ls)) ∙ cut_first 10 l (flat_map ended ls) parts.0
+        ∙ ap (λ (x : Lines). l ∷ x) (pieces_text ls parts.1)
 
 -- they have an LF
 pub text_has_end : (l : List ℕ) (ls : Lines) → end_byte (flat_map ended (l ∷ ls)) ≡ 10

@@ -69,7 +69,8 @@ module _ (bytes out : List ℕ) (e : relaid bytes ≡ Ok out) where
   pub passes_lines : (fault : LineFault) → ¬ IsLineFault out fault
   passes_lines fault h = clash fault made_all.sections (sym (IsLineFault-read_sections out fault h) ∙ IsSectioned-read_sections out made_all.sections sectioned)
 
-  rows_again : (rows : Lines) (last : List ℕ) → out ≡ flat_map ended (rows ++ last ∷ []) → list_all is_in_line (rows ++ last ∷ []) ≡ true → pieces_of out ≡ rows ++ last ∷ []
+  rows_again : (rows : Lines) (last : List ℕ) → out ≡ flat_map ended (rows ++ last ∷ []) → list_all is_in_line (rows ++ last ∷ []) ≡ true
+      → pieces_of out ≡ rows ++ last ∷ []
   rows_again rows last is h =
       ap (λ (b : ℕ). pieces b out) (ap end_byte is ∙ has_end rows) ∙ ap (pieces 10) is ∙ pieces_text (rows ++ last ∷ []) h
     where

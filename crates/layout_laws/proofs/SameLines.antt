@@ -24,12 +24,14 @@ use Rattle.layout_laws.proofs.PieceBytes.{pieces_all, either_way}
 use Rattle.layout_laws.proofs.Rows.{terminate_holds}
 use Rattle.layout_laws.proofs.Steps.{Lines, Numbered, row_line}
 
-numbered_lines : (s : Section) → is_last s ≡ false → (m : ℕ) (ls : Lines) → Numbered (letter_of s) (m + 1) ls → list_all is_in_line ls ≡ true → AllByRecursion IsLine ls
+numbered_lines : (s : Section) → is_last s ≡ false → (m : ℕ) (ls : Lines) → Numbered (letter_of s) (m + 1) ls → list_all is_in_line ls ≡ true
+    → AllByRecursion IsLine ls
 numbered_lines s other m [] h k = tt
 numbered_lines s other m (l ∷ ls) h k =
     let p = and_parts (is_in_line l) (list_all is_in_line ls) k in
     let c = with_count no_lines s m in
-    let w = numbered_row c s l (subst (λ (n : ℕ). IsNumbered (letter_of s) n l) (sym (number_is_next no_lines m s other)) h.0) (λ e. let no : false ≡ true = sym other ∙ ap is_last e in absurd cc) in
+    let w = numbered_row c s l (subst (λ (n : ℕ). IsNumbered (letter_of s) n l) (sym (number_is_next no_lines m s other)) h.0)
+        (λ e. let no : false ≡ true = sym other ∙ ap is_last e in absurd cc) in
     (row_line c s l w p.0, numbered_lines s other (m + 1) ls h.1 p.1)
 
 strip_in_line : (ps : Lines) → list_all is_in_line ps ≡ true → list_all is_in_line (map strip_carriage_return ps) ≡ true
@@ -37,11 +39,13 @@ strip_in_line [] h = refl
 strip_in_line (p ∷ ps) h =
     let k = and_parts (is_in_line p) (list_all is_in_line ps) h in
     let tail = strip_tail p in
-    let front : is_in_line (strip_carriage_return p) ≡ true = (list_all-parts (λ b. not (b == 10)) (strip_carriage_return p) tail.0 (ap is_in_line (sym tail.1) ∙ k.0)).0 in
+    let front : is_in_line (strip_carriage_return p) ≡ true = (list_all-parts (λ b. not (b == 10)) (strip_carriage_return p) tail.0 (ap is_in_line (sym tail.1)
+        ∙ k.0)).0 in
     and_from (is_in_line (strip_carriage_return p)) (list_all is_in_line (map strip_carriage_return ps)) front (strip_in_line ps k.1)
 
 lines_in_line : (bytes : List ℕ) → list_all is_in_line (lines bytes) ≡ true
-lines_in_line bytes = strip_in_line (read.pieces bytes) (ap (list_all is_in_line) (sym (same_pieces bytes)) ∙ pieces_all (λ b. not (b == 10)) 10 bytes (either_way bytes))
+lines_in_line bytes = strip_in_line (read.pieces bytes) (ap (list_all is_in_line) (sym (same_pieces bytes))
+    ∙ pieces_all (λ b. not (b == 10)) 10 bytes (either_way bytes))
 
 module _ (bytes : List ℕ) (s : SectionLines) (within : length bytes ≤ FILE_LIMIT) (h : IsSectioned bytes s) where
   kept : AreSections s
@@ -57,7 +61,8 @@ module _ (bytes : List ℕ) (s : SectionLines) (within : length bytes ≤ FILE_L
       let d = list_all-parts is_in_line (s.start ++ s.global ++ s.directory) s.param kept.in_line in
       let c = list_all-parts is_in_line (s.start ++ s.global) s.directory d.0 in
       let b = list_all-parts is_in_line s.start s.global c.0 in
-      let last = row_line (counts_of s) Terminate h.last (numbered_row (counts_of s) Terminate h.last h.terminate.numbered (λ e. terminate_holds s h.last h.terminate)) last_in_line in
+      let last = row_line (counts_of s) Terminate h.last
+          (numbered_row (counts_of s) Terminate h.last h.terminate.numbered (λ e. terminate_holds s h.last h.terminate)) last_in_line in
       all_append IsLine (joined s) (h.last ∷ [])
       (all_append IsLine (s.start ++ s.global ++ s.directory) s.param
       (all_append IsLine (s.start ++ s.global) s.directory

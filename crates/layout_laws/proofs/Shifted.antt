@@ -1,5 +1,6 @@
 -- A line is taken only where its letter stands in column 73.
-use Rattle.std.proofs.Common.{◌≡◌, inl, inr, ℕ, zero, suc, ◌-◌, ◌<◌, ◌≤◌, Bool, true, false, List, [], ◌∷◌, ◌++◌, length, get_or, take, drop, Option, None, refl, sym, ap, subst, ◌∙◌, arith, length-append}
+use Rattle.std.proofs.Common.{◌≡◌, inl, inr, ℕ, zero, suc, ◌-◌, ◌<◌, ◌≤◌, Bool, true, false, List, [], ◌∷◌, ◌++◌, length, get_or, take, drop, Option, None}
+use Rattle.std.proofs.Common.{refl, sym, ap, subst, ◌∙◌, arith, length-append}
 use Rattle.std.specs.Prelude.{◌==◌, ◌||◌, is_some}
 use Rattle.std.specs.Char.{is_ascii_digit}
 use Rattle.std.specs.List.{list_all}
@@ -58,10 +59,12 @@ plain_line line e =
     record {
       long = leb-true 73 (length line) p.0;
       has_letter = p.1.0;
-      tail = ap (list_all is_tail_byte) (sym (take-append-drop 7 (drop 73 line))) ∙ list_all-both is_tail_byte (take 7 (drop 73 line)) (drop 7 (drop 73 line)) p.1.1.0 blank;
+      tail = ap (list_all is_tail_byte) (sym (take-append-drop 7 (drop 73 line)))
+          ∙ list_all-both is_tail_byte (take 7 (drop 73 line)) (drop 7 (drop 73 line)) p.1.1.0 blank;
     }
 
-pub shifted : (content tail : List ℕ) (b : ℕ) → list_all is_tail_byte tail ≡ true → is_tail_byte b ≡ false → line_fault (content ++ b ∷ tail) ≡ None → length content ≡ 72
+pub shifted : (content tail : List ℕ) (b : ℕ) → list_all is_tail_byte tail ≡ true → is_tail_byte b ≡ false → line_fault (content ++ b ∷ tail) ≡ None
+    → length content ≡ 72
 shifted content tail b all other e =
     let line = content ++ b ∷ tail in
     let p = plain_line line e in
@@ -72,10 +75,12 @@ shifted content tail b all other e =
           let next : 72 - length content ≡ suc (71 - length content) = omega arith in
           let at : letter line ≡ get_or tail (71 - length content) 0 =
           get_or-append_right content (b ∷ tail) (length content) 72 0 refl (omega arith) ∙ ap (λ (i : ℕ). get_or (b ∷ tail) i 0) next in
-          let byte : is_tail_byte (letter line) ≡ true = ap is_tail_byte at ∙ all_at is_tail_byte tail (71 - length content) (omega (arith, long, length-append content (b ∷ tail))) all in
+          let byte : is_tail_byte (letter line) ≡ true = ap is_tail_byte at
+              ∙ all_at is_tail_byte tail (71 - length content) (omega (arith, long, length-append content (b ∷ tail))) all in
           absurd (both_ways (is_some (section_of (letter line))) (ap (λ (o : Option Section). is_some o) (tail_no_letter (letter line) byte)) p.has_letter)
       | inr (inr gt) ↦
           let cut : drop 73 line ≡ drop 73 content ++ b ∷ tail = drop-append-le 73 content (b ∷ tail) (omega arith) in
-          let behind : list_all is_tail_byte (b ∷ tail) ≡ true = (list_all-parts is_tail_byte (drop 73 content) (b ∷ tail) (ap (list_all is_tail_byte) (sym cut) ∙ p.tail)).1 in
+          let behind : list_all is_tail_byte (b ∷ tail) ≡ true =
+              (list_all-parts is_tail_byte (drop 73 content) (b ∷ tail) (ap (list_all is_tail_byte) (sym cut) ∙ p.tail)).1 in
           absurd (both_ways (is_tail_byte b) other (and_parts (is_tail_byte b) (list_all is_tail_byte tail) behind).0)
     ]

@@ -1,9 +1,11 @@
 -- A line of a section, and the sections with it.
-use Rattle.std.proofs.Common.{◌≡◌, inl, inr, ℕ, ◌+◌, ◌<◌, true, false, not, List, [], ◌∷◌, ◌++◌, length, get_or, take, drop, pos, Some, None, Ok, Err, refl, sym, ap, subst, ◌∙◌, append_assoc, arith, length-append}
+use Rattle.std.proofs.Common.{◌≡◌, inl, inr, ℕ, ◌+◌, ◌<◌, true, false, not, List, [], ◌∷◌, ◌++◌, length, get_or, take, drop, pos, Some, None, Ok, Err, refl}
+use Rattle.std.proofs.Common.{sym, ap, subst, ◌∙◌, append_assoc, arith, length-append}
 use Rattle.std.specs.Prelude.{◌&&◌, ◌==◌}
 use Rattle.std.specs.Fmt.{decimal}
 use Rattle.std.specs.List.{AllByRecursion, enumerate_from}
-use Rattle.std.proofs.lemmas.Bool.{and_parts, and_from, cases_Bool, cond-true, cond-false, eqb-true, eqb-false, ne_eqb, lt-ltb, ltb-true, not-true, not_from_false}
+use Rattle.std.proofs.lemmas.Bool.{and_parts, and_from, cases_Bool, cond-true, cond-false, eqb-true, eqb-false, ne_eqb, lt-ltb, ltb-true, not-true}
+use Rattle.std.proofs.lemmas.Bool.{not_from_false}
 use Rattle.std.proofs.lemmas.List.{append-nil, take-append-drop, drop_more, drop_all}
 use Rattle.iges_base.specs.Ended.{ended}
 use Rattle.iges_base.specs.InLine.{is_in_line}
@@ -55,7 +57,8 @@ module _ (c : LineCounts) (s : Section) (r : List ℕ) (w : IsRow c s r) where
       let last = get_or w.field 6 0 in
       let seven = w.seven in
       let bytes = number_bytes w.field _ w.number in
-      let behind : drop 6 w.field ≡ last ∷ [] = drop_more w.field 6 0 (omega (arith, seven)) ∙ ap (λ (l : List ℕ). last ∷ l) (drop_all 7 w.field (omega (arith, seven))) in
+      let behind : drop 6 w.field ≡ last ∷ [] = drop_more w.field 6 0 (omega (arith, seven))
+          ∙ ap (λ (l : List ℕ). last ∷ l) (drop_all 7 w.field (omega (arith, seven))) in
       let split : w.field ≡ take 6 w.field ++ last ∷ [] = sym (take-append-drop 6 w.field) ∙ ap (λ (l : List ℕ). take 6 w.field ++ l) behind in
       record {
         no_end = inside;
@@ -71,7 +74,8 @@ count_is x n f e = let p = and_parts _ (has_number (drop 1 f) n) e in (eqb-true 
 pub row_terminate : (t : SectionLines) (r : List ℕ) → IsRow (counts_of t) Terminate r → IsTerminate t r
 row_terminate t r w =
     let c = counts_of t in
-    let a = and_parts (has_count 83 c.start (columns 1 8 r) && has_count 71 c.global (columns 9 16 r) && has_count 68 c.directory (columns 17 24 r)) (has_count 80 c.param (columns 25 32 r)) (w.counts refl) in
+    let a = and_parts (has_count 83 c.start (columns 1 8 r) && has_count 71 c.global (columns 9 16 r) && has_count 68 c.directory (columns 17 24 r))
+        (has_count 80 c.param (columns 25 32 r)) (w.counts refl) in
     let b = and_parts (has_count 83 c.start (columns 1 8 r) && has_count 71 c.global (columns 9 16 r)) (has_count 68 c.directory (columns 17 24 r)) a.0 in
     let d = and_parts (has_count 83 c.start (columns 1 8 r)) (has_count 71 c.global (columns 9 16 r)) b.0 in
     record {
@@ -107,7 +111,8 @@ counts_in_line c few =
     list_all-both q (count_field 83 c.start ++ count_field 71 c.global ++ count_field 68 c.directory ++ count_field 80 c.param) (spaces 40)
     (list_all-both q (count_field 83 c.start ++ count_field 71 c.global ++ count_field 68 c.directory) (count_field 80 c.param)
     (list_all-both q (count_field 83 c.start ++ count_field 71 c.global) (count_field 68 c.directory)
-    (list_all-both q (count_field 83 c.start) (count_field 71 c.global) (count_in_line 83 c.start refl (omega (arith, s))) (count_in_line 71 c.global refl (omega (arith, g))))
+    (list_all-both q (count_field 83 c.start) (count_field 71 c.global) (count_in_line 83 c.start refl (omega (arith, s)))
+        (count_in_line 71 c.global refl (omega (arith, g))))
     (count_in_line 68 c.directory refl (omega (arith, d)))) (count_in_line 80 c.param refl (omega (arith, p)))) refl
 
 content_in_line : (c : LineCounts) (s : Section) (line : List ℕ) → AreFew c → is_in_line line ≡ true → is_in_line (content c s line) ≡ true
@@ -128,7 +133,8 @@ letter_in_line Directory = refl
 letter_in_line Param = refl
 letter_in_line Terminate = refl
 
-pub row_in_line : (c : LineCounts) (s : Section) (line : List ℕ) → AreFew c → is_in_line line ≡ true → column_number (number_field (next_number c s) line) ≡ Some (pos (next_number c s)) → is_in_line (row c s line) ≡ true
+pub row_in_line : (c : LineCounts) (s : Section) (line : List ℕ) → AreFew c → is_in_line line ≡ true
+    → column_number (number_field (next_number c s) line) ≡ Some (pos (next_number c s)) → is_in_line (row c s line) ≡ true
 unfolding row
 row_in_line c s line few h e =
     let n = next_number c s in
@@ -137,14 +143,16 @@ row_in_line c s line few h e =
 
 -- ---- one step
 
-pub step_more : (n : ℕ) (c : LineCounts) (line : List ℕ) (s : Section) (go : LineCounts → Laid) → is_last s ≡ false → step n c line (Good s) go ≡ before (ended (row c s line)) (go (counted c s))
+pub step_more : (n : ℕ) (c : LineCounts) (line : List ℕ) (s : Section) (go : LineCounts → Laid) → is_last s ≡ false
+    → step n c line (Good s) go ≡ before (ended (row c s line)) (go (counted c s))
 step_more n c line Start go e = refl
 step_more n c line Global go e = refl
 step_more n c line Directory go e = refl
 step_more n c line Param go e = refl
 step_more n c line Terminate go e = absurd cc
 
-module _ (ps : Lines) (n : ℕ) (c : LineCounts) (s : Section) (r tail piece : List ℕ) (is : piece ≡ r ++ tail) (blank : is_blank tail ≡ true) (w : IsRow c s r) (fits : section_fault c s ≡ None) where
+module _ (ps : Lines) (n : ℕ) (c : LineCounts) (s : Section) (r tail piece : List ℕ) (is : piece ≡ r ++ tail) (blank : is_blank tail ≡ true) (w : IsRow c s r)
+    (fits : section_fault c s ≡ None) where
   judged : judge c piece ≡ Good s
   judged = judged_good c piece s (kept_good c s r tail piece is blank w fits)
 
@@ -155,7 +163,8 @@ module _ (ps : Lines) (n : ℕ) (c : LineCounts) (s : Section) (r tail piece : L
       ∙ step_more n c (unmarked piece) s (laid ps (n + 1)) e
       ∙ ap (λ (x : List ℕ). before (ended x) (laid ps (n + 1) (counted c s))) (same_row c s r tail piece is blank w)
 
-pub kept_last : (ps : Lines) (n : ℕ) (c : LineCounts) (r tail piece : List ℕ) → piece ≡ r ++ tail → is_blank tail ≡ true → IsRow c Terminate r → section_fault c Terminate ≡ None
+pub kept_last : (ps : Lines) (n : ℕ) (c : LineCounts) (r tail piece : List ℕ) → piece ≡ r ++ tail → is_blank tail ≡ true → IsRow c Terminate r
+    → section_fault c Terminate ≡ None
     → laid (piece ∷ ps) n c ≡ Ok (ended r)
 unfolding laid
 kept_last ps n c r tail piece is blank w fits =
@@ -198,7 +207,8 @@ nil [] e = refl
 nil (l ∷ ls) e = let k : length (l ∷ ls) ≡ 0 = eqb-true (length (l ∷ ls)) 0 e in absurd (omega arith)
 
 four : (a b c d a' b' c' d' : Lines) → a ≡ a' → b ≡ b' → c ≡ c' → d ≡ d' → (a ++ b ++ c ++ d) ≡ (a' ++ b' ++ c' ++ d')
-four a b c d a' b' c' d' p q r t = ap (λ (x : Lines). x ++ b ++ c ++ d) p ∙ ap (λ (x : Lines). a' ++ x ++ c ++ d) q ∙ ap (λ (x : Lines). a' ++ b' ++ x ++ d) r ∙ ap (λ (x : Lines). a' ++ b' ++ c' ++ x) t
+four a b c d a' b' c' d' p q r t = ap (λ (x : Lines). x ++ b ++ c ++ d) p ∙ ap (λ (x : Lines). a' ++ x ++ c ++ d) q ∙ ap (λ (x : Lines). a' ++ b' ++ x ++ d) r
+    ∙ ap (λ (x : Lines). a' ++ b' ++ c' ++ x) t
 
 one : (a b c d : Lines) → b ≡ [] → c ≡ [] → d ≡ [] → (a ++ b ++ c ++ d) ≡ a
 one a b c d e f g = four a b c d a [] [] [] refl e f g ∙ append-nil ((a ++ []) ++ []) ∙ append-nil (a ++ []) ∙ append-nil a
@@ -221,10 +231,12 @@ join_put t Global r e o =
     let p = and_parts (length t.directory == 0) (length t.param == 0) o in
     let c = nil t.directory p.0 in
     let d = nil t.param p.1 in
-    two t.start (t.global ++ r ∷ []) t.directory t.param c d ∙ sym (append_assoc t.start t.global (r ∷ [])) ∙ ap (λ (x : Lines). x ++ r ∷ []) (sym (two t.start t.global t.directory t.param c d))
+    two t.start (t.global ++ r ∷ []) t.directory t.param c d ∙ sym (append_assoc t.start t.global (r ∷ []))
+        ∙ ap (λ (x : Lines). x ++ r ∷ []) (sym (two t.start t.global t.directory t.param c d))
 join_put t Directory r e o =
     let d = nil t.param o in
-    three t.start t.global (t.directory ++ r ∷ []) t.param d ∙ sym (append_assoc (t.start ++ t.global) t.directory (r ∷ [])) ∙ ap (λ (x : Lines). x ++ r ∷ []) (sym (three t.start t.global t.directory t.param d))
+    three t.start t.global (t.directory ++ r ∷ []) t.param d ∙ sym (append_assoc (t.start ++ t.global) t.directory (r ∷ []))
+        ∙ ap (λ (x : Lines). x ++ r ∷ []) (sym (three t.start t.global t.directory t.param d))
 join_put t Param r e o = sym (append_assoc (t.start ++ t.global ++ t.directory) t.param (r ∷ []))
 join_put t Terminate r e o = absurd cc
 
@@ -250,7 +262,8 @@ pub record Begun (t : SectionLines) : Type 0 where
 some_of : (n : ℕ) → not (n == 0) ≡ true → 0 < n
 some_of n e = let f = eqb-false n 0 (not-true (n == 0) e) in omega arith
 
-pub begun_put : (t : SectionLines) (s : Section) (r : List ℕ) → Begun t → Fits (counts_of t) s → IsNumbered (letter_of s) (next_number (counts_of t) s) r → Begun (put t s r)
+pub begun_put : (t : SectionLines) (s : Section) (r : List ℕ) → Begun t → Fits (counts_of t) s → IsNumbered (letter_of s) (next_number (counts_of t) s) r
+    → Begun (put t s r)
 begun_put t Start r h fits new =
     let f = h.few in
     let a = fits.few in record {
@@ -301,7 +314,8 @@ begun_put t Terminate r h fits new = h
 
 -- the last line is due
 pub last_due : (t : SectionLines) → 0 < length t.global → Fits (counts_of t) Terminate
-last_due t some = record { in_order = refl; due = not_from_false (length t.global == 0) (ne_eqb (length t.global) 0 (λ e. let k : length t.global ≡ 0 = e in absurd (omega arith))); few = omega arith }
+last_due t some = record { in_order = refl; due = not_from_false (length t.global == 0)
+    (ne_eqb (length t.global) 0 (λ e. let k : length t.global ≡ 0 = e in absurd (omega arith))); few = omega arith }
 
 pub global_of : (t : SectionLines) → Fits (counts_of t) Terminate → 0 < length t.global
 global_of t h = some_of (length t.global) h.due

@@ -1,8 +1,10 @@
 -- The first piece of some bytes.
-use Rattle.std.proofs.Common.{◌≡◌, inl, inr, ℕ, ◌-◌, ◌<◌, ◌≤◌, Bool, true, false, not, List, [], ◌∷◌, ◌++◌, length, get_or, take, drop, refl, sym, ap, ◌∙◌, arith, length-append}
+use Rattle.std.proofs.Common.{◌≡◌, inl, inr, ℕ, ◌-◌, ◌<◌, ◌≤◌, Bool, true, false, not, List, [], ◌∷◌, ◌++◌, length, get_or, take, drop, refl, sym, ap, ◌∙◌}
+use Rattle.std.proofs.Common.{arith, length-append}
 use Rattle.std.specs.Prelude.{◌==◌, ◌&&◌, nat_lt}
 use Rattle.std.specs.List.{list_all, prefix_len}
-use Rattle.std.proofs.lemmas.Bool.{cases_Bool, cond-true, cond-false, and_parts, not-true, not_from_true, not_from_false, eq-eqb, eqb-true, lt-ltb, and_right, false_from_ne_true, ltb-true}
+use Rattle.std.proofs.lemmas.Bool.{cases_Bool, cond-true, cond-false, and_parts, not-true, not_from_true, not_from_false, eq-eqb, eqb-true, lt-ltb, and_right}
+use Rattle.std.proofs.lemmas.Bool.{false_from_ne_true, ltb-true}
 use Rattle.std.proofs.lemmas.List.{append-nil, take_all, take-append-drop}
 use Rattle.iges_base.proofs.Lists.{prefix_len-pass, prefix_len-stop, list_all-take_while}
 use Rattle.line_layout.specs.Changes.{Cut, before_cuts, cuts, first_cut, has_feed}
@@ -22,7 +24,8 @@ module _ (e : ℕ) where
   cut_first [] rest h = cond-true (e == e) ([] ∷ pieces e rest) (before_pieces e (pieces e rest)) (eq-eqb e e refl)
   cut_first (b ∷ p) rest h =
       let k = and_parts (not (b == e)) (list_all (λ x. not (x == e)) p) h in
-      cond-false (b == e) ([] ∷ pieces e (p ++ e ∷ rest)) (before_pieces b (pieces e (p ++ e ∷ rest))) (not-true (b == e) k.0) ∙ ap (before_pieces b) (cut_first p rest k.1)
+      cond-false (b == e) ([] ∷ pieces e (p ++ e ∷ rest)) (before_pieces b (pieces e (p ++ e ∷ rest))) (not-true (b == e) k.0)
+          ∙ ap (before_pieces b) (cut_first p rest k.1)
 
   -- a last piece without an end
   pub cut_last : (p : List ℕ) → list_all (λ b. not (b == e)) p ≡ true → 0 < length p → pieces e p ≡ p ∷ []
@@ -46,7 +49,8 @@ module _ (e : ℕ) where
   cut_first_cut [] rest h = cond-true (e == e) (made_cut [] (e == 10) rest ∷ cuts e rest) (before_cuts e (cuts e rest)) (eq-eqb e e refl)
   cut_first_cut (b ∷ p) rest h =
       let k = and_parts (not (b == e)) (list_all (λ x. not (x == e)) p) h in
-      cond-false (b == e) (made_cut [] (e == 10) (p ++ e ∷ rest) ∷ cuts e (p ++ e ∷ rest)) (before_cuts b (cuts e (p ++ e ∷ rest))) (not-true (b == e) k.0) ∙ ap (before_cuts b) (cut_first_cut p rest k.1)
+      cond-false (b == e) (made_cut [] (e == 10) (p ++ e ∷ rest) ∷ cuts e (p ++ e ∷ rest)) (before_cuts b (cuts e (p ++ e ∷ rest))) (not-true (b == e) k.0)
+          ∙ ap (before_cuts b) (cut_first_cut p rest k.1)
 
   cut_last_cut : (p : List ℕ) → list_all (λ b. not (b == e)) p ≡ true → 0 < length p → cuts e p ≡ made_cut p false [] ∷ []
   unfolding cuts
@@ -73,7 +77,8 @@ module _ (e : ℕ) where
         | inr f ↦ rest_ends xs y ys (sym (ap (λ (n : ℕ). drop n (x ∷ xs)) (prefix_len-pass (λ b. not (b == e)) x xs (not_from_false _ f))) ∙ h)
       ]
 
-  module _ (xs : List ℕ) (n : ℕ) (piece rest : List ℕ) (some : 0 < length xs) (n-is : n ≡ prefix_len (λ b. not (b == e)) xs) (piece-is : piece ≡ take n xs) (rest-is : rest ≡ drop n xs) where
+  module _ (xs : List ℕ) (n : ℕ) (piece rest : List ℕ) (some : 0 < length xs) (n-is : n ≡ prefix_len (λ b. not (b == e)) xs) (piece-is : piece ≡ take n xs)
+      (rest-is : rest ≡ drop n xs) where
     on_line : list_all (λ b. not (b == e)) piece ≡ true
     on_line = ap (list_all (λ b. not (b == e))) (piece-is ∙ ap (λ (m : ℕ). take m xs) n-is) ∙ list_all-take_while (λ b. not (b == e)) xs
 
@@ -88,10 +93,12 @@ module _ (e : ℕ) where
         by_rest (y ∷ ys) h m =
             let end : y ≡ e = rest_ends xs y ys (ap (λ (m : ℕ). drop m xs) (sym n-is) ∙ sym rest-is ∙ h) in
             let one : length (y ∷ ys) - 1 ≡ length ys = omega arith in
-            let back : after ≡ ys = is ∙ ap (λ (r : List ℕ). take (length r - 1) (drop 1 r)) h ∙ ap (λ (k : ℕ). take k ys) one ∙ take_all (length ys) ys (omega arith) in
+            let back : after ≡ ys = is ∙ ap (λ (r : List ℕ). take (length r - 1) (drop 1 r)) h ∙ ap (λ (k : ℕ). take k ys) one
+                ∙ take_all (length ys) ys (omega arith) in
             ap (λ (b : ℕ). b ∷ ys) end ∙ ap (λ (t : List ℕ). e ∷ t) (sym back)
 
-    pub first_of_more : 1 ≤ length rest → (after : List ℕ) → after ≡ take (length rest - 1) (drop 1 rest) → (pieces e xs ≡ piece ∷ pieces e after) × (length after < length xs)
+    pub first_of_more : 1 ≤ length rest → (after : List ℕ) → after ≡ take (length rest - 1) (drop 1 rest)
+        → (pieces e xs ≡ piece ∷ pieces e after) × (length after < length xs)
     first_of_more more after is =
         let w = with_more more after is in
         (ap (pieces e) w ∙ cut_first piece after on_line, omega (arith, ap length w, length-append piece (e ∷ after)))
@@ -108,7 +115,8 @@ module _ (e : ℕ) where
     pub cut_of_more : 1 ≤ length rest → (after : List ℕ) → after ≡ take (length rest - 1) (drop 1 rest) → cuts e xs ≡ first_cut e xs piece after ∷ cuts e after
     cut_of_more more after is =
         let w = with_more more after is in
-        let fed : nat_lt (length piece) (length xs - length after) ≡ true = lt-ltb (length piece) (length xs - length after) (omega (arith, ap length w, length-append piece (e ∷ after))) in
+        let fed : nat_lt (length piece) (length xs - length after) ≡ true = lt-ltb (length piece) (length xs - length after)
+            (omega (arith, ap length w, length-append piece (e ∷ after))) in
         ap (cuts e) w ∙ cut_first_cut piece after on_line
         ∙ ap (λ (f : Bool). made_cut piece f after ∷ cuts e after) (sym (and_true (e == 10) (nat_lt (length piece) (length xs - length after)) fed))
 
@@ -119,7 +127,8 @@ module _ (e : ℕ) where
         by_rest (y ∷ ys) h m = absurd (omega arith)
         by_rest [] h m =
             let all : xs ≡ piece = whole ∙ ap (λ (r : List ℕ). piece ++ r) h ∙ append-nil piece in
-            let unfed : nat_lt (length piece) (length xs - 0) ≡ false = false_from_ne_true (nat_lt (length piece) (length xs - 0)) (λ t. omega (arith, ap length all, ltb-true (length piece) (length xs - 0) t)) in
+            let unfed : nat_lt (length piece) (length xs - 0) ≡ false = false_from_ne_true (nat_lt (length piece) (length xs - 0))
+                (λ t. omega (arith, ap length all, ltb-true (length piece) (length xs - 0) t)) in
             ap (cuts e) all ∙ cut_last_cut piece on_line (omega (arith, ap length all))
             ∙ ap (λ (f : Bool). made_cut piece f [] ∷ []) (sym (and_right (e == 10) (nat_lt (length piece) (length xs - 0)) unfed))
             ∙ ap (λ (cs : List Cut). first_cut e xs piece [] ∷ cs) (sym no_cuts)

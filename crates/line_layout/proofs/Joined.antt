@@ -1,12 +1,14 @@
 -- What is noted so far, and what is left.
-use Rattle.std.proofs.Common.{◌≡◌, ℕ, zero, suc, ◌+◌, ◌<◌, arith, Bool, true, false, List, [], ◌∷◌, ◌++◌, length, length-append, replicate, Option, Some, None, refl, sym, ap, ◌∙◌}
+use Rattle.std.proofs.Common.{◌≡◌, ℕ, zero, suc, ◌+◌, ◌<◌, arith, Bool, true, false, List, [], ◌∷◌, ◌++◌, length, length-append, replicate, Option, Some, None}
+use Rattle.std.proofs.Common.{refl, sym, ap, ◌∙◌}
 use Rattle.std.specs.Prelude.{◌==◌, if◌then◌else◌}
 use Rattle.std.proofs.lemmas.Bool.{cond-false, eqb-true, false_from_ne_true}
 use Rattle.std.proofs.lemmas.List.{append-nil, length-replicate}
 use Rattle.line_layout.specs.declared.change.Change.{Change}
 use Rattle.line_layout.specs.declared.change.Tally.{Tally}
 use Rattle.line_layout.specs.declared.counting.LineCounts.{LineCounts}
-use Rattle.line_layout.specs.Changes.{Cut, MayCount, changed_from, changed_lines, cuts, dropped, first_cut, going_on, happens, has_feed, is_of_counts, lines_after, noted, once, tally_of}
+use Rattle.line_layout.specs.Changes.{Cut, MayCount, changed_from, changed_lines, cuts, dropped, first_cut, going_on, happens, has_feed, is_of_counts}
+use Rattle.line_layout.specs.Changes.{lines_after, noted, once, tally_of}
 use Rattle.line_layout.specs.Counts.{no_lines}
 use Rattle.line_layout.specs.Judging.{judge}
 use Rattle.line_layout.specs.Relaid.{end_byte}
@@ -45,7 +47,8 @@ joined_more t n (suc m) [] =
     same_tally (t.times + (length (replicate m n ++ []) + 1)) (t.times + suc m) (line_of t n) (line_of t n) (omega (arith, length-more m n [])) refl
     ∙ sym (noted_some t n (suc m) (omega arith))
 joined_more t n (suc m) (x ∷ ns) =
-    same_tally (t.times + (length (replicate m n ++ x ∷ ns) + 1)) (t.times + suc m + (length ns + 1)) (line_of t n) (line_of (tally_at (t.times + suc m) (line_of t n)) x) (omega (arith, length-more m n (x ∷ ns)))
+    same_tally (t.times + (length (replicate m n ++ x ∷ ns) + 1)) (t.times + suc m + (length ns + 1)) (line_of t n)
+        (line_of (tally_at (t.times + suc m) (line_of t n)) x) (omega (arith, length-more m n (x ∷ ns)))
     (sym (cond-false (t.times + suc m == 0) x (line_of t n) (nonzero (t.times + suc m) (omega arith))))
     ∙ ap (λ (u : Tally). joined u (x ∷ ns)) (sym (noted_some t n (suc m) (omega arith)))
 
@@ -55,7 +58,8 @@ joined_last t n m = ap (joined t) (sym (append-nil (replicate m n))) ∙ joined_
 pub may_count : (c : LineCounts) (piece : List ℕ) → MayCount c (judge c piece)
 may_count c piece s e = few_good c piece s e
 
-module _ (k : Change) (e n : ℕ) (c : LineCounts) (t : Tally) (left piece after : List ℕ) (total : Tally) (cut : cuts e left ≡ first_cut e left piece after ∷ cuts e after) (same : joined t (changed_from k (cuts e left) n c) ≡ total)
+module _ (k : Change) (e n : ℕ) (c : LineCounts) (t : Tally) (left piece after : List ℕ) (total : Tally)
+    (cut : cuts e left ≡ first_cut e left piece after ∷ cuts e after) (same : joined t (changed_from k (cuts e left) n c) ≡ total)
     (new : Tally) (new-is : new ≡ noted t n (once (happens k c (judge c piece) piece (has_feed e left piece after)))) where
   abbrev further : Option LineCounts → List ℕ
   further o = going_on o (n + 1) (dropped k (judge c piece) after) (changed_from k (cuts e after) (n + 1))
@@ -71,12 +75,15 @@ module _ (k : Change) (e n : ℕ) (c : LineCounts) (t : Tally) (left piece after
   goes_on d is = sym (ap (λ (o : Option LineCounts). joined new (further o)) is) ∙ stepped
 
   pub goes_no_further : lines_after c (judge c piece) ≡ None → noted new (n + 1) (dropped k (judge c piece) after) ≡ total
-  goes_no_further is = sym (joined_last new (n + 1) (dropped k (judge c piece) after)) ∙ sym (ap (λ (o : Option LineCounts). joined new (further o)) is) ∙ stepped
+  goes_no_further is = sym (joined_last new (n + 1) (dropped k (judge c piece) after)) ∙ sym (ap (λ (o : Option LineCounts). joined new (further o)) is)
+      ∙ stepped
 
-pub ends_so : (k : Change) (e n : ℕ) (c : LineCounts) (t total : Tally) → joined t (changed_from k (cuts e []) n c) ≡ total → noted t n (once (is_of_counts k)) ≡ total
+pub ends_so : (k : Change) (e n : ℕ) (c : LineCounts) (t total : Tally) → joined t (changed_from k (cuts e []) n c) ≡ total
+    → noted t n (once (is_of_counts k)) ≡ total
 unfolding changed_from cuts
 ends_so k e n c t total same = sym (joined_last t n (once (is_of_counts k))) ∙ same
 
-pub begins_so : (k : Change) (bytes : List ℕ) (e : ℕ) → e ≡ end_byte bytes → joined (record { times = 0; first = 0 }) (changed_from k (cuts e bytes) 1 no_lines) ≡ tally_of (changed_lines k bytes)
+pub begins_so : (k : Change) (bytes : List ℕ) (e : ℕ) → e ≡ end_byte bytes
+    → joined (record { times = 0; first = 0 }) (changed_from k (cuts e bytes) 1 no_lines) ≡ tally_of (changed_lines k bytes)
 unfolding changed_lines
 begins_so k bytes e is = joined_first (changed_from k (cuts e bytes) 1 no_lines) ∙ ap (λ (b : ℕ). tally_of (changed_from k (cuts b bytes) 1 no_lines)) is

@@ -32,10 +32,14 @@ before_both a b (Err fault) = refl
 -- a line that isn't the last
 pub takes_line : (n : ℕ) (c : LineCounts) (line old new : List ℕ) (s : Section) (go : LineCounts → Laid) → is_last s ≡ false → new ≡ old ++ ended (row c s line)
     → before old (step n c line (Good s) go) ≡ before new (go (counted c s))
-takes_line n c line old new Start go e is = before_both old (ended (row c Start line)) (go (counted c Start)) ∙ ap (λ (t : List ℕ). before t (go (counted c Start))) (sym is)
-takes_line n c line old new Global go e is = before_both old (ended (row c Global line)) (go (counted c Global)) ∙ ap (λ (t : List ℕ). before t (go (counted c Global))) (sym is)
-takes_line n c line old new Directory go e is = before_both old (ended (row c Directory line)) (go (counted c Directory)) ∙ ap (λ (t : List ℕ). before t (go (counted c Directory))) (sym is)
-takes_line n c line old new Param go e is = before_both old (ended (row c Param line)) (go (counted c Param)) ∙ ap (λ (t : List ℕ). before t (go (counted c Param))) (sym is)
+takes_line n c line old new Start go e is = before_both old (ended (row c Start line)) (go (counted c Start))
+    ∙ ap (λ (t : List ℕ). before t (go (counted c Start))) (sym is)
+takes_line n c line old new Global go e is = before_both old (ended (row c Global line)) (go (counted c Global))
+    ∙ ap (λ (t : List ℕ). before t (go (counted c Global))) (sym is)
+takes_line n c line old new Directory go e is = before_both old (ended (row c Directory line)) (go (counted c Directory))
+    ∙ ap (λ (t : List ℕ). before t (go (counted c Directory))) (sym is)
+takes_line n c line old new Param go e is = before_both old (ended (row c Param line)) (go (counted c Param))
+    ∙ ap (λ (t : List ℕ). before t (go (counted c Param))) (sym is)
 takes_line n c line old new Terminate go e is = absurd cc
 
 -- the last line
@@ -47,19 +51,23 @@ takes_last n c line old new Global go e is = absurd cc
 takes_last n c line old new Directory go e is = absurd cc
 takes_last n c line old new Param go e is = absurd cc
 
-module _ (e n : ℕ) (c : LineCounts) (out left piece after : List ℕ) (total : Laid) (cut : pieces e left ≡ piece ∷ pieces e after) (same : before out (laid (pieces e left) n c) ≡ total) where
+module _ (e n : ℕ) (c : LineCounts) (out left piece after : List ℕ) (total : Laid) (cut : pieces e left ≡ piece ∷ pieces e after)
+    (same : before out (laid (pieces e left) n c) ≡ total) where
   stepped : before out (step n c (unmarked piece) (judge c piece) (laid (pieces e after) (n + 1))) ≡ total
   unfolding laid
   stepped = sym (ap (λ (ps : List (List ℕ)). before out (laid ps n c)) cut) ∙ same
 
-  pub loop_more : (new : List ℕ) (d : LineCounts) → Takes (Ok (More d)) out new (step n c (unmarked piece) (judge c piece) (laid (pieces e after) (n + 1))) (laid (pieces e after) (n + 1))
+  pub loop_more : (new : List ℕ) (d : LineCounts)
+      → Takes (Ok (More d)) out new (step n c (unmarked piece) (judge c piece) (laid (pieces e after) (n + 1))) (laid (pieces e after) (n + 1))
       → before new (laid (pieces e after) (n + 1) d) ≡ total
   loop_more new d t = sym t ∙ stepped
 
-  pub loop_done : (new : List ℕ) → Takes (Ok Nothing) out new (step n c (unmarked piece) (judge c piece) (laid (pieces e after) (n + 1))) (laid (pieces e after) (n + 1)) → total ≡ Ok new
+  pub loop_done : (new : List ℕ) → Takes (Ok Nothing) out new (step n c (unmarked piece) (judge c piece) (laid (pieces e after) (n + 1)))
+      (laid (pieces e after) (n + 1)) → total ≡ Ok new
   loop_done new t = sym stepped ∙ t
 
-  pub loop_failed : (new : List ℕ) (f : RelaidFault) → Takes (Err f) out new (step n c (unmarked piece) (judge c piece) (laid (pieces e after) (n + 1))) (laid (pieces e after) (n + 1)) → Gives (Err f) total
+  pub loop_failed : (new : List ℕ) (f : RelaidFault)
+      → Takes (Err f) out new (step n c (unmarked piece) (judge c piece) (laid (pieces e after) (n + 1))) (laid (pieces e after) (n + 1)) → Gives (Err f) total
   loop_failed new (faults.Bad fault) t = sym stepped ∙ ap (before out) t
   loop_failed new faults.NoMemory t = tt
 

@@ -14,7 +14,8 @@ pub right-is : (n : ℕ) (text : List ℕ) → length text ≤ n → right n tex
 right-is n text le = drop-spaces (length text) n text le
 
 -- a text that was written over the last of so many spaces
-pub right_written : (new old text : List ℕ) (start n : ℕ) → old ≡ spaces n → start + length text ≡ n → drop start new ≡ text ++ drop n old → take start new ≡ take start old → new ≡ right n text
+pub right_written : (new old text : List ℕ) (start n : ℕ) → old ≡ spaces n → start + length text ≡ n → drop start new ≡ text ++ drop n old
+    → take start new ≡ take start old → new ≡ right n text
 right_written new old text start n blank long behind before =
     let none : drop n old ≡ [] = ap (drop n) blank ∙ drop_all n (spaces n) (omega (arith, length-replicate {A = ℕ} n 32)) in
     let front : take start old ≡ spaces start = ap (take start) blank ∙ take-replicate start n 32 (omega (arith, long)) in

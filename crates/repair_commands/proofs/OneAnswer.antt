@@ -64,7 +64,8 @@ due_of_one q bytes a b t u (inr x) (inr y) =
 pub due_one : OneAnswerIsOwed
 due_one words bytes a b t u p q = by_asked (asked_of words) p q
   where
-    by_asked : (o : Option Asked) → MatchOption o (Exactly answer.Usage usage_line a t) (λ c. DueOf c bytes a t) → MatchOption o (Exactly answer.Usage usage_line b u) (λ c. DueOf c bytes b u) → (a ≡ b) × (t ≡ u)
+    by_asked : (o : Option Asked) → MatchOption o (Exactly answer.Usage usage_line a t) (λ c. DueOf c bytes a t)
+        → MatchOption o (Exactly answer.Usage usage_line b u) (λ c. DueOf c bytes b u) → (a ≡ b) × (t ≡ u)
     by_asked None p q = (p.0 ∙ sym q.0, p.1 ∙ sym q.1)
     by_asked (Some c) p q = due_of_one c bytes a b t u p q
 
@@ -82,7 +83,8 @@ some_layout asked.Layout bytes text =
 some_of_bytes : (q : Asked) (bytes : List ℕ) → IsDue (DueOf q bytes)
 some_of_bytes q bytes = by_size (cases_lt FILE_LIMIT (length bytes))
   where
-    by_length : length bytes ≤ FILE_LIMIT → (text : List ℕ) → relaid bytes ≡ Ok text → (FILE_LIMIT < length text) ⊎ (length text ≤ FILE_LIMIT) → IsDue (DueOf q bytes)
+    by_length : length bytes ≤ FILE_LIMIT → (text : List ℕ) → relaid bytes ≡ Ok text → (FILE_LIMIT < length text) ⊎ (length text ≤ FILE_LIMIT)
+        → IsDue (DueOf q bytes)
     by_length few text is (inl long) = (answer.TooLarge, [], inl (text_too_large few text is long))
     by_length few text is (inr short) =
         let due = some_layout q bytes text in
@@ -112,7 +114,8 @@ no_layout_done bytes a t (text_too_large few text is more) e = cc
 kept_laid : (bytes : List ℕ) → length bytes ≤ FILE_LIMIT → relaid bytes ≡ Ok bytes → IsLaid bytes bytes
 kept_laid bytes few is = record { few = few; is = is; short = few }
 
-row_told : (bytes text : List ℕ) (a : Answer) (t : List ℕ) → relaid bytes ≡ Ok text → OfLayout bytes text asked.Layout a t → (a ≡ answer.Done → relaid bytes ≡ Ok bytes) × (relaid bytes ≡ Ok bytes → a ≡ answer.Done)
+row_told : (bytes text : List ℕ) (a : Answer) (t : List ℕ) → relaid bytes ≡ Ok text → OfLayout bytes text asked.Layout a t
+    → (a ≡ answer.Done → relaid bytes ≡ Ok bytes) × (relaid bytes ≡ Ok bytes → a ≡ answer.Done)
 row_told bytes text a t made (in_layout same) = (λ says. made ∙ ap (λ (x : List ℕ). Ok x) (sym same), λ is. refl)
 row_told bytes text a t made (not_in_layout other) = (λ says. absurd (let e = says in cc), λ is. absurd (other (ok_one bytes text (sym is ∙ made))))
 

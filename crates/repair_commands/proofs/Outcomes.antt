@@ -19,11 +19,17 @@ some_told None = ([], tt)
 some_told (Some bytes) = (bytes, refl)
 
 -- what is owed of the bytes that were told
-pub bytes_owed : (q : Asked) (file : Option (List ℕ)) (bytes : List ℕ) (reply : Reply) → Told file bytes → DueOf q bytes reply.answer reply.text → IsReply (DueOf q) file reply
-bytes_owed q file bytes reply told owed = record { bytes = bytes; told = told; owed = owed }
+pub bytes_owed : (q : Asked) (file : Option (List ℕ)) (bytes text : List ℕ) (reply : Reply) → Told file bytes → text ≡ bytes
+    → DueOf q text reply.answer reply.text → IsReply (DueOf q) file reply
+bytes_owed q file bytes text reply told same owed = record {
+  bytes = bytes;
+  told = told;
+  owed = subst (λ (b : List ℕ). DueOf q b reply.answer reply.text) same owed;
+}
 
 -- a reply to what the words ask for
-pub asked_owed : (words : List (List ℕ)) (file : Option (List ℕ)) (reply : Reply) (q : Asked) → asked_of words ≡ Some q → IsReply (DueOf q) file reply → IsOwed words file reply.answer reply.text
+pub asked_owed : (words : List (List ℕ)) (file : Option (List ℕ)) (reply : Reply) (q : Asked) → asked_of words ≡ Some q → IsReply (DueOf q) file reply
+    → IsOwed words file reply.answer reply.text
 asked_owed words file reply q is owed = record {
   bytes = owed.bytes;
   told = owed.told;
@@ -31,7 +37,8 @@ asked_owed words file reply q is owed = record {
 }
 
 -- and the usage line, for words of no listed form
-pub usage_owed : (words : List (List ℕ)) (file : Option (List ℕ)) (reply : Reply) → asked_of words ≡ None → (reply.answer ≡ Usage) × (reply.text ≡ usage_line) → IsOwed words file reply.answer reply.text
+pub usage_owed : (words : List (List ℕ)) (file : Option (List ℕ)) (reply : Reply) → asked_of words ≡ None → (reply.answer ≡ Usage) × (reply.text ≡ usage_line)
+    → IsOwed words file reply.answer reply.text
 usage_owed words file reply is usage =
     let bytes = some_told file in
     record {
@@ -79,7 +86,8 @@ no_fault None a is = (λ e. let usage = is in cc, λ e. let usage = is in cc, λ
 no_fault (Some q) a is = (λ e. subst IsJudgement e is, λ e. subst IsJudgement e is, λ e. subst IsJudgement e is)
 
 module _ (words : List (List ℕ)) (file before after : Option (List ℕ)) where
-  whole_text : (answer : Answer) (text : List ℕ) → IsOwed words file answer text → (answer ≡ ReadFault → ⊥) × (answer ≡ WriteFault → ⊥) × (answer ≡ NoMemory → ⊥) → Appends before after text
+  whole_text : (answer : Answer) (text : List ℕ) → IsOwed words file answer text
+      → (answer ≡ ReadFault → ⊥) × (answer ≡ WriteFault → ⊥) × (answer ≡ NoMemory → ⊥) → Appends before after text
       → Outcome words file before after answer
   whole_text Done text owed sound appended = record { text = text; owed = owed; appended = appended }
   whole_text No text owed sound appended = record { text = text; owed = owed; appended = appended }

@@ -9,8 +9,10 @@ use Rattle.repair_commands.specs.Due.{OfLayout, in_layout, not_in_layout}
 use Rattle.repair_commands.specs.Texts.{changes_text, in_layout_line}
 
 module _ {E : Type 0} (bytes text : List ℕ) (r : Result Reply E) where
-  pub in_layout_owed : bytes ≡ text → IfOk r (λ reply. (reply.answer ≡ Done) × (reply.text ≡ in_layout_line)) → IfOk r (λ reply. OfLayout bytes text Layout reply.answer reply.text)
+  pub in_layout_owed : bytes ≡ text → IfOk r (λ reply. (reply.answer ≡ Done) × (reply.text ≡ in_layout_line))
+      → IfOk r (λ reply. OfLayout bytes text Layout reply.answer reply.text)
   in_layout_owed same is = reply_owed (OfLayout bytes text Layout) Done in_layout_line r (in_layout same) is
 
-  pub not_in_layout_owed : bytes ≢ text → IfOk r (λ reply. (reply.answer ≡ No) × (reply.text ≡ changes_text bytes)) → IfOk r (λ reply. OfLayout bytes text Layout reply.answer reply.text)
+  pub not_in_layout_owed : bytes ≢ text → IfOk r (λ reply. (reply.answer ≡ No) × (reply.text ≡ changes_text bytes))
+      → IfOk r (λ reply. OfLayout bytes text Layout reply.answer reply.text)
   not_in_layout_owed other is = reply_owed (OfLayout bytes text Layout) No (changes_text bytes) r (not_in_layout other) is
