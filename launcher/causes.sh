@@ -1,5 +1,7 @@
 # shellcheck shell=sh disable=SC2154
 # Why a run failed, for the launcher igesolid: what the program reports by its status alone.
+newline='
+'
 
 # Whether words are those of a form; sets the file and the certificate among them.
 fits() {
@@ -121,6 +123,7 @@ say_too_large() {
     case $form in
     'extract FILE N') is_text="the extracted text would have more than 164,000,000 bytes" ;;
     'compact FILE N') is_text="the compact text would have more than 164,000,000 bytes" ;;
+    'relayout FILE' | 'layout FILE') is_text="the file in the layout of the fixed form would have more than 164,000,000 bytes" ;;
     'upgrade FILE CERT') is_text="the upgraded text would have more than 536,870,912 bytes" ;;
     'certify FILE all') is_text="its solids together have more than 6,000,000 loop uses" ;;
     esac
@@ -141,8 +144,21 @@ ask_about_certificate() {
     esac
 }
 
-# Prints the cause of a status with which the program writes nothing or only a part, what is wrong with the words of a run, and
-# a question about a certificate that isn't accepted.
+# Names the command that may put the lines of a file right, where the answer is that they aren't those of the fixed form.
+name_layout() {
+    [ "$kind" = command ] && [ -f "$file" ] || return 0
+    [ "$given" = all ] || shift
+    answer=$("$program" "$@" 2>/dev/null </dev/null)
+    case ${answer%%"$newline"*} in
+    'bad file line '*' not-fixed' | 'bad file line '*' length' | 'bad file line '*' letter' | 'bad file line '*' missing' | \
+        'bad file line '*' number' | 'bad file line '*' counts' | 'bad file line '*' after')
+        say "$(name_of "$file"): its lines aren't those of the fixed form; igesolid layout says whether igesolid relayout can put them right"
+        ;;
+    esac
+}
+
+# Prints the cause of a status with which the program writes nothing or only a part, what is wrong with the words of a run, a
+# question about a certificate that isn't accepted, and the command for a file whose lines are wrong.
 explain() {
     code=$1
     shift
@@ -155,6 +171,7 @@ explain() {
         more usage
         say_wrong_words "$@"
         ;;
+    3) name_layout "$@" ;;
     4) say_unread ;;
     5) fail_output "${file:+$(name_of "$file")}" ;;
     6) say "${file:+$(name_of "$file"): }out of memory" ;;

@@ -20,6 +20,7 @@ lib | run)
     sleep "${KIT_DELAY:-0}"
     case $1,${PWD##*/} in
     run,igesolid_where) mkdir -p out && cp "$KIT_WHERE" out/igesolid_where ;;
+    run,igesolid_repair) mkdir -p out && cp "$KIT_REPAIR" out/igesolid_repair ;;
     run,*) mkdir -p out && cp "$KIT_PROGRAM" out/igesolid ;;
     esac
     ;;
@@ -35,8 +36,8 @@ exit "${STATUS:-0}"
 class Clone:
     """A copy of the repository in a folder, without what a build left."""
 
-    def __init__(self, top, folder, program, where):
-        self.top, self.folder, self.program, self.where = folder / "clone", folder, program, where
+    def __init__(self, top, folder, program, where, repair):
+        self.top, self.folder, self.program, self.where, self.repair = folder / "clone", folder, program, where, repair
         shutil.copytree(top, self.top, ignore=LEFT_OUT, symlinks=True)
         shutil.rmtree(self.top / "bench", ignore_errors=True)
         self.log = folder / "kit.log"
@@ -51,8 +52,8 @@ class Clone:
 
     def environment(self, kit=False, **more):
         path = f"{self.folder / 'kit'}:{PLAIN_PATH}" if kit else PLAIN_PATH
-        own = {"PATH": path, "KIT_PROGRAM": str(self.program), "KIT_WHERE": str(self.where), "KIT_LOG": str(self.log)}
-        return {**os.environ, **own, **{name: str(value) for name, value in more.items()}}
+        own = {"PATH": path, "KIT_PROGRAM": self.program, "KIT_WHERE": self.where, "KIT_REPAIR": self.repair, "KIT_LOG": self.log}
+        return {**os.environ, **{name: str(value) for name, value in own.items()}, **{name: str(value) for name, value in more.items()}}
 
     def run(self, *words, kit=False, cwd=None, stdout=subprocess.PIPE, limit=None, **more):
         """The status, standard output and standard error of a command in the copy."""
@@ -66,12 +67,12 @@ class Clone:
         return self.top / "crates" / crate / "out" / crate
 
     def unbuild(self):
-        for crate in ("igesolid", "igesolid_where"):
+        for crate in ("igesolid", "igesolid_where", "igesolid_repair"):
             shutil.rmtree(self.built(crate).parent, ignore_errors=True)
 
     def ship(self, program):
-        """Makes dist/ of a program, and of that which tells where solids fail, as dist/make does it behind the gate."""
-        for crate, it in (("igesolid", program), ("igesolid_where", self.where)):
+        """Makes dist/ of a program, and of the two others, as dist/make does it behind the gate."""
+        for crate, it in (("igesolid", program), ("igesolid_where", self.where), ("igesolid_repair", self.repair)):
             self.built(crate).parent.mkdir(parents=True, exist_ok=True)
             shutil.copy(it, self.built(crate))
         status, _, error = self.run("dist/make", kit=True)

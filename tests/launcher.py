@@ -91,6 +91,20 @@ def pictures(copy):
     shutil.rmtree(plain)
 
 
+def layouts(copy):
+    """`relayout` and `layout` run the program that makes a file's layout anew."""
+    cube = (copy.top / "examples" / "cube.igs").read_bytes()
+    (copy.top / "harmed.igs").write_bytes(b"\xef\xbb\xbf" + cube)
+    yield "launcher: relayout", copy.run("./igesolid", "relayout", "harmed.igs") == (0, cube, "")
+    yield "launcher: layout", copy.run("./igesolid", "layout", "harmed.igs") == (1, b"mark 1 line 1\n", "")
+    yield "launcher: layout without words", copy.run("./igesolid", "layout")[:2] == copy.run(copy.repair)[:2]
+    yield "launcher: --program layout", copy.run("./igesolid", "--program", "layout") == (0, f"{copy.top / 'dist' / 'igesolid-repair-x86_64-linux'}\n".encode(), "")
+    for command in ("relayout", "layout"):
+        told = copy.run("./igesolid", command, "none.igs")
+        yield f"launcher: {command} of no file", told == (4, b"", "igesolid: none.igs: can't be opened: No such file or directory\n")
+    (copy.top / "harmed.igs").unlink()
+
+
 def helps(copy):
     """--help ends well, and the man page is of this version."""
     status, _, error = copy.run("./igesolid", "--help")
@@ -219,11 +233,15 @@ def messages(copy):
     yield "message: no memory", told == (6, b"", "igesolid: sample.igs: out of memory\n")
     tetrahedra = "examples/two_tetrahedra.igs"
     for words in (
-        *(["certify", tetrahedra, number] for number in ("1", "all")), ["solids", "crates.txt"], ["extract", cube, "3"],
+        *(["certify", tetrahedra, number] for number in ("1", "all")), ["solids", "examples/no/bad_field.igs"], ["extract", cube, "3"],
         ["open", cube, "1"], ["orient", cube, "2"], ["compact", cube, "3"],
     ):  # fmt: skip
         status, _, error = copy.run("./igesolid", *words)
         yield f"no message: {words}", status in (1, 3, 7) and error == ""
+    for words in ["solids", "crates.txt"], ["where", "crates.txt"]:
+        status, _, error = copy.run("./igesolid", *words)
+        said = "its lines aren't those of the fixed form; igesolid layout says whether igesolid relayout can put them right"
+        yield f"message: {words}", (status, error) == (3, f"igesolid: crates.txt: {said}\n")
     copy.ship_script(clone.ENDING)
     for words, said in (
         (["extract", cube, "1"], f"{cube}: the extracted text would have more than 164,000,000 bytes"),
@@ -253,7 +271,7 @@ def messages(copy):
 
 def comparisons(copy, skipped):
     """dist/check passes where dist/ holds what was built here, of these sources, and fails else; dist/make counts what git tracks."""
-    for crate, program in (("igesolid", copy.program), ("igesolid_where", copy.where)):
+    for crate, program in (("igesolid", copy.program), ("igesolid_where", copy.where), ("igesolid_repair", copy.repair)):
         copy.built(crate).parent.mkdir(parents=True, exist_ok=True)
         shutil.copy(program, copy.built(crate))
     yield "dist/check: the same", copy.run("dist/check", kit=True)[0] == 0
@@ -479,9 +497,9 @@ def surprises(copy):
 
 
 # A further program with two commands, another command of a program that is there, and one in Python, as lines of the table.
-FURTHER = """program\tigesolid-repair\tall\trepairs
-command\tigesolid-repair\trelayout FILE\ta file of the fixed form
-command\tigesolid-repair\treorient FILE N\ta file with other flags
+FURTHER = """program\tigesolid-further\tall\tdoes more
+command\tigesolid-further\tconvert FILE\ta file of another form
+command\tigesolid-further\trotate FILE N\ta file with other coordinates
 command\tigesolid-where\twhere --json FILE ..\tthe same as JSON
 python\tigesolid,igesolid-where\treport [OPTION..] FILE|FOLDER..\ta report of many files
 """
@@ -489,8 +507,8 @@ REPORT = """import sys
 print(*sys.argv[1:])
 sys.exit(4)
 """
-REPAIR = """#!/bin/sh
-[ $# -gt 0 ] || { echo 'usage: igesolid-repair ..'; exit 2; }
+FURTHER_PROGRAM = """#!/bin/sh
+[ $# -gt 0 ] || { echo 'usage: igesolid-further ..'; exit 2; }
 echo "$@"
 exit "${STATUS:-0}"
 """
@@ -500,27 +518,27 @@ def further_program(copy):
     """A program that is added to the table and to dist/ is run, explained, helped, completed and installed without another change."""
     table, sums = copy.top / "commands.tsv", copy.top / "dist" / "SHA256SUMS"
     text, lines = table.read_text(), sums.read_text()
-    program = copy.top / "dist" / "igesolid-repair-x86_64-linux"
+    program = copy.top / "dist" / "igesolid-further-x86_64-linux"
     table.write_text(text + FURTHER)
-    copy.write(program, REPAIR)
-    sums.write_text(lines + f"{hashlib.sha256(REPAIR.encode()).hexdigest()}  {program.name}\n")
-    yield "further program: run", copy.run("./igesolid", "relayout", "a.igs") == (0, b"relayout a.igs\n", "")
-    status, _, error = copy.run("./igesolid", "reorient", "a.igs", "1", STATUS=4)
+    copy.write(program, FURTHER_PROGRAM)
+    sums.write_text(lines + f"{hashlib.sha256(FURTHER_PROGRAM.encode()).hexdigest()}  {program.name}\n")
+    yield "further program: run", copy.run("./igesolid", "convert", "a.igs") == (0, b"convert a.igs\n", "")
+    status, _, error = copy.run("./igesolid", "rotate", "a.igs", "1", STATUS=4)
     yield "further program: a cause", (status, error) == (4, "igesolid: a.igs: can't be opened: No such file or directory\n")
-    status, _, error = copy.run("./igesolid", "reorient", "a.igs", STATUS=2)
-    yield "further program: wrong words", status == 2 and error.startswith("igesolid: N is missing: the words are igesolid reorient FILE N\n")
-    status, _, error = copy.run("./igesolid", "relayuot", "a.igs")
-    yield "further program: the nearest", error == "igesolid: relayuot isn't a command; the nearest is relayout: igesolid relayout FILE\n"
-    yield "further program: --program", copy.run("./igesolid", "--program", "relayout") == (0, f"{program}\n".encode(), "")
-    yield "further program: --help", b"\n\n  igesolid relayout FILE " in copy.run("./igesolid", "--help")[1]
+    status, _, error = copy.run("./igesolid", "rotate", "a.igs", STATUS=2)
+    yield "further program: wrong words", status == 2 and error.startswith("igesolid: N is missing: the words are igesolid rotate FILE N\n")
+    status, _, error = copy.run("./igesolid", "convret", "a.igs")
+    yield "further program: the nearest", error == "igesolid: convret isn't a command; the nearest is convert: igesolid convert FILE\n"
+    yield "further program: --program", copy.run("./igesolid", "--program", "convert") == (0, f"{program}\n".encode(), "")
+    yield "further program: --help", b"\n\n  igesolid convert FILE " in copy.run("./igesolid", "--help")[1]
     (copy.top / "companion" / "report").write_text(REPORT)
     paths = [copy.top / "dist" / f"{name}-x86_64-linux" for name in ("igesolid", "igesolid-where")]
     wanted = f"--program {paths[0]} --where-program {paths[1]} --json a b\n".encode()
     yield "further program: in Python", copy.run("./igesolid", "report", "--json", "a", "b") == (4, wanted, "")
     for shell in ("bash", "zsh", "fish"):
-        yield f"further program: {shell}", b"relayout" in copy.run("packaging/completions", shell)[1]
+        yield f"further program: {shell}", b"convert" in copy.run("packaging/completions", shell)[1]
     prefix = copy.folder / "further"
-    yield "further program: installed", copy.run("./install", prefix)[0] == 0 and copy.run(prefix / "bin" / "igesolid", "relayout", "b")[:2] == (0, b"relayout b\n")
+    yield "further program: installed", copy.run("./install", prefix)[0] == 0 and copy.run(prefix / "bin" / "igesolid", "convert", "b")[:2] == (0, b"convert b\n")
     shutil.rmtree(prefix)
     table.write_text(text)
     sums.write_text(lines)
@@ -532,6 +550,7 @@ def checks(copy, forms, skipped):
     yield from further_program(copy)
     yield from surprises(copy)
     yield from pictures(copy)
+    yield from layouts(copy)
     yield from inputs(copy)
     yield from outputs(copy)
     yield from wrong_words(copy)

@@ -31,10 +31,11 @@ EDITION = re.compile(r"(?m)^\| (\d+) \| .* \| `([0-9a-f]{16})` \|$")
 # A crate with its edits in the table of wrong bodies in docs/DECISIONS.md.
 PLANTED = re.compile(r"`(\w+)`: ([^;|]+)")
 MOST_EDITS = 120
-# What stands for the launcher: it runs the program, or that which tells where solids fail, or the command that asks both. `-` is standard input.
+# What stands for the launcher: it runs the program, or the one of a command, or the command that asks two. `-` is standard input.
 LAUNCHED = """#!/bin/sh
 [ "$1" != check ] || {{ shift; exec python3 -B '{top}/companion/check' --program '{program}' --where-program '{where}' "$@"; }}
 [ "$1" != where ] || {{ shift; exec '{where}' "$@"; }}
+case $1 in relayout | layout) exec '{repair}' "$@" ;; esac
 for word; do
     shift
     [ "$word" != - ] || word=/dev/stdin
@@ -192,9 +193,9 @@ def links(top):
                 yield f"{name}: section {number} of {target}", re.search(rf"(?m)^## {number}\. ", headings) is not None
 
 
-def checks(folder, top, program, where, forms):
+def checks(folder, top, program, where, repair, forms):
     (folder / "examples").symlink_to(top / "examples")
-    (folder / "igesolid").write_text(LAUNCHED.format(top=top, program=program, where=where))
+    (folder / "igesolid").write_text(LAUNCHED.format(top=top, program=program, where=where, repair=repair))
     (folder / "igesolid").chmod(0o755)
     yield from tables(top, forms)
     yield from examples(folder, top)

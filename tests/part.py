@@ -45,4 +45,4 @@ class Context:
 
     def clone(self):
         """A copy of the repository, with a kit that is played."""
-        return clone.Clone(TOP, self.new_folder(), *self.programs[:2])
+        return clone.Clone(TOP, self.new_folder(), *self.programs[:3])

@@ -65,7 +65,7 @@ def of_both(checks):
 
 
 def of_pages(context):
-    yield from pages.checks(context.new_folder(), TOP, *context.programs[:2], FORMS)
+    yield from pages.checks(context.new_folder(), TOP, *context.programs[:3], FORMS)
     yield from no_examples.checks(TOP, context.programs.igesolid)
     for module in (quoted, theorem, trusted, layers):
         yield from module.checks(TOP)
@@ -85,6 +85,8 @@ PARTS = (
     Part("uses", "solids of the most loop uses", of_program(largest_tests.uses)),
     Part("where", "igesolid-where, beside the second checker", of_both(where.checks)),
     Part("where-more", "200 more cases", of_both(where.more_checks), LARGE),
+    Part("repair", "igesolid-repair: harmed files, and files changed at random, beside the second checker", of_repair(repair.checks)),
+    Part("repair-more", "2,000 more cases, and files of the greatest size", of_repair(repair.more_checks), LARGE),
     Part("pictures", "marks", of_both(picture_tests.checks)),
     Part("picture", "the geometry of pages, under node", lambda context: node_tests.checks(context.skipped)),
     Part("browser", "pages in headless Chromium", lambda context: browser_tests.checks(context.new_folder(), context.skipped), LARGE),

@@ -1,6 +1,6 @@
 """The programs that tests and benchmarks run, and runs of them on texts.
 
-Both are those built here, if they are newer than each source; else both are those of dist/, if dist/BUILT names these sources.
+All are those built here, if they are newer than each source; else all are those of dist/, if dist/BUILT names these sources.
 """
 import hashlib
 import os
@@ -18,15 +18,17 @@ FORMS = command_table.forms()
 USAGE = command_table.usage()
 NONE_FITS = (
     "no programs of these sources: those built here are missing or older than a source, and dist/ holds those of other sources; build"
-    " them with the kit (rt ci, or ./igesolid --built and ./igesolid --built where), or then run dist/make, which puts them into dist/"
+    " them with the kit (rt ci, or ./igesolid --built, ./igesolid --built where and ./igesolid --built layout), or then run dist/make, which puts"
+    " them into dist/"
 )
 
 
 class Programs(NamedTuple):
-    """The paths of igesolid and of igesolid-where, and where they come from."""
+    """The paths of igesolid, of igesolid-where and of igesolid-repair, and where they come from."""
 
     igesolid: pathlib.Path
     where: pathlib.Path
+    repair: pathlib.Path
     origin: str
 
 
@@ -36,20 +38,20 @@ def sources(*words):
 
 def built_here():
     """The programs in the folders of their crates, or None if one isn't newer than each source: a build may be older than an edit."""
-    found = Programs(*(TOP / "crates" / crate / "out" / crate for crate in ("igesolid", "igesolid_where")), "built here")
-    if not all(path.is_file() for path in found[:2]):
+    found = Programs(*(TOP / "crates" / crate / "out" / crate for crate in ("igesolid", "igesolid_where", "igesolid_repair")), "built here")
+    if not all(path.is_file() for path in found[:3]):
         return None
-    oldest = min(path.stat().st_mtime_ns for path in found[:2])
+    oldest = min(path.stat().st_mtime_ns for path in found[:3])
     return found if all((TOP / name).stat().st_mtime_ns < oldest for name in sources("--list")) else None
 
 
 def shipped():
     """The programs of dist/, or None if they aren't of these sources, or aren't those whose checksums stand beside them."""
-    found = Programs(*(DIST / f"{name}-x86_64-linux" for name in ("igesolid", "igesolid-where")), "of dist/")
+    found = Programs(*(DIST / f"{name}-x86_64-linux" for name in ("igesolid", "igesolid-where", "igesolid-repair")), "of dist/")
     if f"sources {sources()[0]}\n" not in (DIST / "BUILT").read_text():
         return None
     sums = (DIST / "SHA256SUMS").read_text()
-    return found if all(f"{hashlib.sha256(path.read_bytes()).hexdigest()}  {path.name}\n" in sums for path in found[:2]) else None
+    return found if all(f"{hashlib.sha256(path.read_bytes()).hexdigest()}  {path.name}\n" in sums for path in found[:3]) else None
 
 
 def chosen():

@@ -33,6 +33,10 @@ def real(*words, **more):
     return done.returncode, done.stdout, done.stderr
 
 
+def options(program, repair):
+    return "--program", program, "--repair", repair
+
+
 def wrong_program(folder, program, case):
     """A program that answers as this one, but for one command."""
     path = folder / "wrong"
@@ -41,42 +45,43 @@ def wrong_program(folder, program, case):
     return path
 
 
-def right(folder, program):
+def right(folder, programs):
     """What is printed of solids on which the verdicts agree and differ."""
     kept = folder / "real"
-    status, text, _ = real("--program", program, "--keep", kept, "--rows", "--only", ",".join((*AGREEING, *DIFFERING)))
+    status, text, _ = real(*options(*programs), "--keep", kept, "--rows", "--only", ",".join((*AGREEING, *DIFFERING)))
     solids = len(AGREEING) + 2 + len(DIFFERING)
     yield "real solids: no faults", status == 0 and text.endswith("\n0 faults\n")
-    for name in ("extract", "compact"):
-        yield f"real solids: {name}", f"\n{name}: {solids} of {solids} files are read back without a difference\n" in text
-        yield f"real solids: {name} is kept", len(list(kept.glob(f"*.{name}.igs"))) == solids
+    files = len(AGREEING) + len(DIFFERING)
+    for name, count in ("extract", solids), ("compact", solids), ("relayout", files):
+        yield f"real solids: {name}", f"\n{name}: {count} of {count} files are read back without a difference\n" in text
+        yield f"real solids: {name} is kept", len(list(kept.glob(f"*.{name}.igs"))) == count
     yield "real solids: the table", len((kept / "table.csv").read_text().splitlines()) == solids + 1
     for name, answer in DIFFERING.items():
         yield f"real solids: {name}", re.search(rf"(?m)^{name} \d+: {answer}.*; Open CASCADE: ", text) is not None
 
 
-def wrong(folder, program):
+def wrong(folder, program, repair):
     for name, case, solid, wanted in WRONG:
-        status, text, _ = real("--program", wrong_program(folder, program, case), "--only", solid)
+        status, text, _ = real(*options(wrong_program(folder, program, case), repair), "--only", solid)
         yield f"real solids: {name} is found", status == 1 and re.search(wanted, text) is not None
 
 
-def given(program):
-    status, text, _ = real("--program", program, "--no-made", TOP / "examples" / "occt" / "77_pinched_edge.igs")
+def given(programs):
+    status, text, _ = real(*options(*programs), "--no-made", TOP / "examples" / "occt" / "77_pinched_edge.igs")
     yield "real solids: a given file", status == 0 and text.startswith("given1_77_pinched_edge 3: fail PAIR 19 15; ") and "\n1 files, 1 solids: " in text
-    status, _, error = real("--program", program, "--only", "box,bax")
+    status, _, error = real(*options(*programs), "--only", "box,bax")
     yield "real solids: no such solid", (status, error) == (1, "bench/real: no such solid: bax\n")
 
 
 def checks(context):
     """Names of checks, and whether each holds."""
-    program, folder = context.programs.igesolid, context.new_folder()
+    programs, folder = (context.programs.igesolid, context.programs.repair), context.new_folder()
     status, text, error = real(env={"PATH": ""})
     yield "real solids: no compiler", (status, text, error.count("\n")) == (MISSING, "", 1) and "g++ is missing" in error
-    status, _, error = real("--program", program, "--no-made")
+    status, _, error = real(*options(*programs), "--no-made")
     if status == MISSING:
         context.skipped(f"real solids: {error.strip()}")
         return
-    yield from right(folder, program)
-    yield from wrong(folder, program)
-    yield from given(program)
+    yield from right(folder, programs)
+    yield from wrong(folder, *programs)
+    yield from given(programs)

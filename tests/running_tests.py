@@ -60,7 +60,7 @@ def of_choice(context):
 
     status, first, error, last = run()
     yield "tests/run: those of dist/", (status, first, error) == (0, "the programs are those of dist/", "") and last is not None and last[2] == "0"
-    for crate, program in (("igesolid", copy.program), ("igesolid_where", copy.where)):
+    for crate, program in (("igesolid", copy.program), ("igesolid_where", copy.where), ("igesolid_repair", copy.repair)):
         copy.built(crate).parent.mkdir(parents=True)
         shutil.copy(program, copy.built(crate))
     yield "tests/run: those built here", run()[1] == "the programs are those built here"

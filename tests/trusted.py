@@ -12,7 +12,7 @@ import sys
 
 from theorem import sources_of
 
-CALLS = {"run": "crates/iges_solid_cmd/src/command.rt", "run_where": "crates/where_command/src/command.rt"}
+CALLS = {"run": "crates/iges_solid_cmd/src/command.rt", "run_where": "crates/where_command/src/command.rt", "run_repair": "crates/repair_commands/src/command.rt"}
 # The traits of the sources and sinks of the calls: their clauses say what is left to read and what was written.
 TRAITS, STREAMS = ("Source", "Sink"), "crates/iges_io/src/io.rt"
 USE = re.compile(r"(?m)^ *(?:ghost )?use Rattle\.(\w+)\.specs\.(\w+)(?:\.\{([^}]*)\}| as (\w+))?;?$")
@@ -78,8 +78,8 @@ def wanted(sources):
 
 
 def summary(sources):
-    run, where, of_laws = (len(paths) for paths in rests(sources).values())
-    return f"`run` rests on {run} of the {len(definitions(sources))} files of definitions, `run_where` on {where}, the laws on {of_laws}; all together on {len(wanted(sources))}."
+    run, where, repair, of_laws = (len(paths) for paths in rests(sources).values())
+    return f"`run` rests on {run} of the {len(definitions(sources))} files of definitions, `run_where` on {where}, `run_repair` on {repair}, the laws on {of_laws}; all together on {len(wanted(sources))}."
 
 
 def differing(sources, page):

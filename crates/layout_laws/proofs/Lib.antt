@@ -1,0 +1,10 @@
+pub mod Shifted
+pub mod FieldBytes
+pub mod Parts
+pub mod Rows
+pub mod Steps
+pub mod PieceBytes
+pub mod Making
+pub mod Reading
+pub mod GoodFile
+pub mod SameLines

@@ -1,0 +1,5 @@
+pub mod Cutting
+pub mod Right
+pub mod GoodLines
+pub mod Looping
+pub mod Joined

@@ -1,0 +1,5 @@
+pub mod GivenWords
+pub mod SameBytes
+pub mod OwedRows
+pub mod Outcomes
+pub mod OneAnswer

@@ -1,0 +1,138 @@
+-- From a reply to the outcome of a run.
+use Rattle.std.proofs.Common.{◌≡◌, inl, inr, ℕ, List, [], refl, sym, subst, ◌∙◌, Option, Some, None, Bool, true, false}
+use Rattle.std.specs.Prelude.{MatchOption, IsSome}
+use Rattle.std.specs.Io.KnownBytes.{Appends}
+use Rattle.iges_io.specs.Reading.{Told}
+use Rattle.iges_io.specs.Faults.{Rose}
+use Rattle.command_replies.specs.declared.reply.Reply.{Reply}
+use Rattle.command_replies.specs.declared.answer.Answer.{Answer}
+use Rattle.command_replies.specs.declared.answer.Answer.TheVariants.{Done, No, Usage, BadFile, ReadFault, WriteFault, NoMemory, NoExtract, TooLarge}
+use Rattle.command_replies.specs.Due.{Exactly}
+use Rattle.command_replies.specs.Replies.{AreWithin, IsReply, IsTooLarge}
+use Rattle.repair_commands.specs.declared.asked.Asked.{Asked}
+use Rattle.repair_commands.specs.Asked.{asked_of, usage_line}
+use Rattle.repair_commands.specs.Due.{DueOf, OfLayout, OfNoLayout, bad_layout, file_too_large, in_layout, not_in_layout, relayout, text_too_large}
+use Rattle.repair_commands.specs.Outcome.{Finishes, IsComplete, IsOwed, Outcome}
+
+some_told : (left : Option (List ℕ)) → (bytes : List ℕ) × Told left bytes
+some_told None = ([], tt)
+some_told (Some bytes) = (bytes, refl)
+
+-- what is owed of the bytes that were told
+pub bytes_owed : (q : Asked) (file : Option (List ℕ)) (bytes text : List ℕ) (reply : Reply) → Told file bytes → text ≡ bytes
+    → DueOf q text reply.answer reply.text → IsReply (DueOf q) file reply
+bytes_owed q file bytes text reply told same owed = record {
+  bytes = bytes;
+  told = told;
+  owed = subst (λ (b : List ℕ). DueOf q b reply.answer reply.text) same owed;
+}
+
+-- a reply to what the words ask for
+pub asked_owed : (words : List (List ℕ)) (file : Option (List ℕ)) (reply : Reply) (q : Asked) → asked_of words ≡ Some q → IsReply (DueOf q) file reply
+    → IsOwed words file reply.answer reply.text
+asked_owed words file reply q is owed = record {
+  bytes = owed.bytes;
+  told = owed.told;
+  due = subst (λ o. MatchOption o (Exactly Usage usage_line reply.answer reply.text) (λ q. DueOf q owed.bytes reply.answer reply.text)) (sym is) owed.owed;
+}
+
+-- and the usage line, for words of no listed form
+pub usage_owed : (words : List (List ℕ)) (file : Option (List ℕ)) (reply : Reply) → asked_of words ≡ None → (reply.answer ≡ Usage) × (reply.text ≡ usage_line)
+    → IsOwed words file reply.answer reply.text
+usage_owed words file reply is usage =
+    let bytes = some_told file in
+    record {
+      bytes = bytes.0;
+      told = bytes.1;
+      due = subst (λ o. MatchOption o (Exactly Usage usage_line reply.answer reply.text) (λ q. DueOf q bytes.0 reply.answer reply.text)) (sym is) usage;
+    }
+
+-- the answers that may be owed where something is asked for
+abbrev IsJudgement : Answer → Type 0
+IsJudgement Usage = ⊥
+IsJudgement ReadFault = ⊥
+IsJudgement WriteFault = ⊥
+IsJudgement NoMemory = ⊥
+IsJudgement _ = Unit {0}
+
+no_layout_judgement : (bytes : List ℕ) (a : Answer) (t : List ℕ) → OfNoLayout bytes a t → IsJudgement a
+no_layout_judgement bytes a t (file_too_large p) = tt
+no_layout_judgement bytes a t (bad_layout few fault is) = tt
+no_layout_judgement bytes a t (text_too_large few text is more) = tt
+
+layout_judgement : (bytes text : List ℕ) (q : Asked) (a : Answer) (t : List ℕ) → OfLayout bytes text q a t → IsJudgement a
+layout_judgement bytes text q a t relayout = tt
+layout_judgement bytes text q a t (in_layout same) = tt
+layout_judgement bytes text q a t (not_in_layout other) = tt
+
+due_judgement : (q : Asked) (bytes : List ℕ) (a : Answer) (t : List ℕ) → DueOf q bytes a t → IsJudgement a
+due_judgement q bytes a t (inl p) = no_layout_judgement bytes a t p
+due_judgement q bytes a t (inr p) = layout_judgement bytes p.0 q a t p.2
+
+-- the answers that words may owe
+abbrev IsJudged : Option Asked → Answer → Type 0
+IsJudged None a = a ≡ Usage
+IsJudged (Some q) a = IsJudgement a
+
+judged : (words : List (List ℕ)) (file : Option (List ℕ)) (a : Answer) (t : List ℕ) → IsOwed words file a t → IsJudged (asked_of words) a
+judged words file a t owed = by_asked (asked_of words) owed.due
+  where
+    by_asked : (o : Option Asked) → MatchOption o (Exactly Usage usage_line a t) (λ q. DueOf q owed.bytes a t) → IsJudged o a
+    by_asked None due = due.0
+    by_asked (Some q) due = due_judgement q owed.bytes a t due
+
+no_fault : (o : Option Asked) (a : Answer) → IsJudged o a → (a ≡ ReadFault → ⊥) × (a ≡ WriteFault → ⊥) × (a ≡ NoMemory → ⊥)
+no_fault None a is = (λ e. let usage = is in cc, λ e. let usage = is in cc, λ e. let usage = is in cc)
+no_fault (Some q) a is = (λ e. subst IsJudgement e is, λ e. subst IsJudgement e is, λ e. subst IsJudgement e is)
+
+module _ (words : List (List ℕ)) (file before after : Option (List ℕ)) where
+  whole_text : (answer : Answer) (text : List ℕ) → IsOwed words file answer text
+      → (answer ≡ ReadFault → ⊥) × (answer ≡ WriteFault → ⊥) × (answer ≡ NoMemory → ⊥) → Appends before after text
+      → Outcome words file before after answer
+  whole_text Done text owed sound appended = record { text = text; owed = owed; appended = appended }
+  whole_text No text owed sound appended = record { text = text; owed = owed; appended = appended }
+  whole_text Usage text owed sound appended = record { text = text; owed = owed; appended = appended }
+  whole_text BadFile text owed sound appended = record { text = text; owed = owed; appended = appended }
+  whole_text ReadFault text owed sound appended = absurd (sound.0 refl)
+  whole_text WriteFault text owed sound appended = absurd (sound.1 refl)
+  whole_text NoMemory text owed sound appended = absurd (sound.2 refl)
+  whole_text NoExtract text owed sound appended = record { text = text; owed = owed; appended = appended }
+  whole_text TooLarge text owed sound appended = record { text = text; owed = owed; appended = appended }
+
+  module _ (faults now : ℕ) (answer : Answer) (text : List ℕ) (result : Answer) (owed : IsOwed words file answer text) where
+    -- what is owed was written, or a part of it
+    pub finished : Finishes before after faults now answer text result → Outcome words file before after result
+    finished (inl h) =
+        subst (Outcome words file before after) (sym h.0)
+        (whole_text answer text owed (no_fault (asked_of words) answer (judged words file answer text owed)) h.1)
+    finished (inr h) =
+        subst (Outcome words file before after) (sym h.0)
+        (record { answer = answer; text = text; owed = owed; count = h.1.count; shorter = h.1.shorter; appended = h.1.appended })
+
+    pub no_read_fault : Finishes before after faults now answer text result → result ≡ ReadFault → ⊥
+    no_read_fault (inl h) e = let sound = no_fault (asked_of words) answer (judged words file answer text owed) in sound.0 (sym h.0 ∙ e)
+    no_read_fault (inr h) e = let fault = h.0 in cc
+
+    pub write_fault : Finishes before after faults now answer text result → result ≡ WriteFault → Rose faults now
+    write_fault (inl h) e = let sound = no_fault (asked_of words) answer (judged words file answer text owed) in absurd (sound.1 (sym h.0 ∙ e))
+    write_fault (inr h) e = h.1.rose
+
+    complete_judgement : (a : Answer) → IsJudgement a → IsComplete a
+    complete_judgement Done is = tt
+    complete_judgement No is = tt
+    complete_judgement Usage is = absurd is
+    complete_judgement BadFile is = tt
+    complete_judgement ReadFault is = absurd is
+    complete_judgement WriteFault is = absurd is
+    complete_judgement NoMemory is = absurd is
+    complete_judgement NoExtract is = tt
+    complete_judgement TooLarge is = tt
+
+    complete_judged : (o : Option Asked) (a : Answer) → IsSome o → IsJudged o a → IsComplete a
+    complete_judged None a some is = absurd (let there = some in cc)
+    complete_judged (Some q) a some is = complete_judgement a is
+
+    -- the answer to words of a listed form where no write failed
+    pub complete : Finishes before after faults now answer text result → IsSome (asked_of words) → (Rose faults now → ⊥) → IsComplete result
+    complete (inl h) some no_rise = subst IsComplete (sym h.0) (complete_judged (asked_of words) answer some (judged words file answer text owed))
+    complete (inr h) some no_rise = absurd (no_rise h.1.rose)

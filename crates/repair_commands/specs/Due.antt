@@ -1,0 +1,44 @@
+-- What is owed.
+use Rattle.std.specs.Prelude.{◌≡◌, ◌≢◌, ◌⊎◌, ℕ, ◌<◌, ◌≤◌, List, [], length, Ok, Err, MatchOption}
+use Rattle.iges_base.specs.declared.TheConstants.{FILE_LIMIT}
+use Rattle.line_layout.specs.declared.fault.LayoutFault.{LayoutFault}
+use Rattle.line_layout.specs.Relaid.{relaid}
+use Rattle.command_replies.specs.declared.answer.Answer.{Answer}
+use Rattle.command_replies.specs.declared.answer.Answer.TheVariants as answer
+use Rattle.command_replies.specs.Due.{Owed, Exactly}
+use Rattle.repair_commands.specs.declared.asked.Asked.{Asked}
+use Rattle.repair_commands.specs.declared.asked.Asked.TheVariants as asked
+use Rattle.repair_commands.specs.Asked.{asked_of, usage_line}
+use Rattle.repair_commands.specs.Texts.{bad_layout_line, in_layout_line, changes_text}
+
+-- the file in the layout of the fixed form, where it is within the limit
+pub record IsLaid (bytes text : List ℕ) : Type 0 where
+  pub few : length bytes ≤ FILE_LIMIT
+  pub is : relaid bytes ≡ Ok text
+  pub short : length text ≤ FILE_LIMIT
+
+-- what is owed of bytes of which no such file is made
+pub data OfNoLayout (bytes : List ℕ) : Answer → List ℕ → Type 0 where
+  -- there are too many
+  file_too_large : FILE_LIMIT < length bytes → OfNoLayout bytes answer.TooLarge []
+  -- the content of a line can't be told apart
+  bad_layout : length bytes ≤ FILE_LIMIT → (fault : LayoutFault) → relaid bytes ≡ Err fault → OfNoLayout bytes answer.BadFile (bad_layout_line fault)
+  -- the file would be too large
+  text_too_large : length bytes ≤ FILE_LIMIT → (text : List ℕ) → relaid bytes ≡ Ok text → FILE_LIMIT < length text → OfNoLayout bytes answer.TooLarge []
+
+-- what is owed of bytes of which it is made
+pub data OfLayout (bytes text : List ℕ) : Asked → Answer → List ℕ → Type 0 where
+  -- the file
+  relayout : OfLayout bytes text asked.Relayout answer.Done text
+  -- it is the bytes themselves
+  in_layout : bytes ≡ text → OfLayout bytes text asked.Layout answer.Done in_layout_line
+  -- it isn't, and what is changed
+  not_in_layout : bytes ≢ text → OfLayout bytes text asked.Layout answer.No (changes_text bytes)
+
+-- what is owed of a file's bytes
+abbrev pub DueOf : Asked → List ℕ → Owed
+DueOf q bytes a t = OfNoLayout bytes a t ⊎ ((text : List ℕ) × IsLaid bytes text × OfLayout bytes text q a t)
+
+-- what is owed for these words and the file's bytes
+abbrev pub Due : List (List ℕ) → List ℕ → Owed
+Due words bytes a t = MatchOption (asked_of words) (Exactly answer.Usage usage_line a t) (λ q. DueOf q bytes a t)

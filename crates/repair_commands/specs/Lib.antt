@@ -1,0 +1,5 @@
+pub mod Asked
+pub mod Texts
+pub mod Due
+pub mod Outcome
+pub mod Laws

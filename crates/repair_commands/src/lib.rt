@@ -1,0 +1,14 @@
+//! The commands of `igesolid-repair`: what they owe for the words and the bytes that they are given.
+#![tactic(auto)]
+
+mod asked;
+mod command;
+mod law;
+mod replies;
+mod report;
+mod words;
+
+pub use asked::Asked;
+pub use command::run_repair;
+pub use law::{in_layout_is_told, one_answer, some_answer};
+pub use words::Words;
