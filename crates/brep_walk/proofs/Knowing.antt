@@ -20,7 +20,6 @@ use Rattle.solid_data.proofs.ObligationLemmas.{FirstFalse-append_front}
 use Rattle.brep_walk.specs.declared.fault.WalkFault.{WalkFault}
 use Rattle.brep_walk.specs.declared.fault.WalkFault.TheVariants as faults
 use Rattle.brep_walk.specs.declared.marks.Mark.{Mark}
-use Rattle.brep_walk.specs.declared.marks.Mark.TheVariants as marks
 use Rattle.brep_walk.specs.Counts.{item_count}
 use Rattle.brep_walk.specs.Marked.{mark_of}
 use Rattle.brep_walk.specs.Known.{uses_places, HasItsRecord, LacksItsRecord, Says, AreKnown}

@@ -13,7 +13,7 @@ use Rattle.solid_data.specs.SolidData.{same_edge, same_vertex}
 use Rattle.solid_data.specs.declared.solid.EdgeKey.{EdgeKey}
 use Rattle.solid_data.specs.declared.solid.VertexKey.{VertexKey}
 use Rattle.brep_numbering.specs.Numbered.{Numbered}
-use Rattle.brep_walk.specs.Numbered.{AreNumbered, IsKnownEdge, AreEdges, AreKnownEdges, Extends, keys_after}
+use Rattle.brep_walk.specs.Numbered.{AreNumbered, IsKnownEdge, AreEdges, AreKnownEdges, Extends}
 use Rattle.brep_walk.specs.Places.{edge_at, edge_places}
 use Rattle.brep_numbering.specs.Keys.{Keys}
 use Rattle.brep_walk.specs.SolidOf.{edge_key, vertex_key, ends_named, edge_by}

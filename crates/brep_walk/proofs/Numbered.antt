@@ -1,5 +1,5 @@
 -- The ids of a file's solid are numbered by first appearance.
-use Rattle.std.specs.Prelude.{◌≡◌, ◌≢◌, ℕ, zero, suc, ◌+◌, ◌==◌, ◌&&◌, ◌⊎◌, Bool, true, false, not, cond, ℤ, pos, negsuc, List, [], ◌∷◌, ◌++◌, length, map}
+use Rattle.std.specs.Prelude.{◌≡◌, ◌≢◌, ℕ, zero, suc, ◌+◌, ◌==◌, ◌⊎◌, Bool, true, false, not, cond, ℤ, pos, negsuc, List, [], ◌∷◌, ◌++◌, length, map}
 use Rattle.std.specs.Prelude.{flat_map, filter, Some, slice_get, if◌then◌else◌}
 use Rattle.std.specs.List.{enumerate_from}
 use Rattle.std.proofs.Common.{refl, sym, ◌∙◌, ap, subst, arith, inl, inr}

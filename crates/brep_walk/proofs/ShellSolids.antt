@@ -27,7 +27,7 @@ use Rattle.brep_walk.specs.OneShell.{shell_keys, shell_faces, shell_edges}
 use Rattle.brep_walk.specs.OpenPlaces.{shell_entry_places, shell_record_places, open_places, shell_solid_of}
 use Rattle.brep_walk.specs.Places.{HasRecordOf, Names, faces, loops, tuples, numbers, face_places}
 use Rattle.brep_numbering.specs.Keys.{Keys}
-use Rattle.brep_walk.specs.SolidOf.{face_by, edge_by, tuples_in, edges_in, keys_in, solid_listing}
+use Rattle.brep_walk.specs.SolidOf.{face_by, edge_by, tuples_in, keys_in, solid_listing}
 use Rattle.brep_walk.specs.Stands.{Stands}
 use Rattle.brep_walk.specs.Walked.{IsFault}
 use Rattle.brep_walk.specs.Walks.{Begins}
