@@ -89,6 +89,10 @@ abbrev pub AreListed : Contents → List (ℤ × Bool) → Type 0
 AreListed f items = (item : ℤ × Bool) → Has items item
     → HasRecordOf shell f item.0 × ((c : ℤ × Bool) → Has (faces f item.0) c → (u : List ℤ) × (d : List (ℤ × Bool)) × AllHold (face_places f item.0 u d c))
 
+-- what one number lists, another that is the same lists
+listed_by : {A : Type 0} (list : ℤ → List A) (y z : ℤ) → z ≡ y → (x : A) → Has (list y) x → Has (list z) x
+listed_by list y z same x h = subst (λ w. Has (list w) x) (sym same) h
+
 pub edges_found : (f : Contents) (items : List (ℤ × Bool)) → AreListed f items → EdgesFound f items
 edges_found f items held t here v =
     let l = from_flat_map (tuples f) (flat_map (loops f) (flat_map (λ s. numbers (faces f s)) (numbers items))) t here in
@@ -97,9 +101,9 @@ edges_found f items held t here v =
     let item = has_map (λ (i : ℤ × Bool). i.0) items s.0 s.1 in
     let face_item = has_map (λ (i : ℤ × Bool). i.0) (faces f s.0) c.0 s.2 in
     let a = held item.0 item.1 in
-    let in_shell : Has (faces f item.0.0) face_item.0 = subst (λ z. Has (faces f z) face_item.0) (sym item.2) face_item.1 in
+    let in_shell = listed_by (faces f) s.0 item.0.0 item.2 face_item.0 face_item.1 in
     let b = a.1 face_item.0 in_shell in
-    let in_face : Has (loops f face_item.0.0) l.0 = subst (λ z. Has (loops f z) l.0) (sym face_item.2) c.2 in
+    let in_face = listed_by (loops f) c.0 face_item.0.0 face_item.2 l.0 c.2 in
     let d = loops_hold f item.0.0 b.0 b.1 face_item.0 b.2 l.0 in_face in
     let e = tuples_hold f face_item.0.0 d.0 d.1 l.0 d.2 t l.2 in
     index_found f t.«list» t.index (tuple_index f l.0 e.0 t v e.1)

@@ -47,7 +47,7 @@ pub taken_short : (f : Contents) (records : AreRecords f) (made : IsMade f) (i :
 taken_short f records made i r at =
     short f records made r (Has-from_place f.entries r i (slice_get_within f.entries i r at) (get_or_from_slice_get f.entries i r r at))
 
-pub all_dropped : (f g old new : Contents) (i : ℕ) → IsEmptied f g i → new ≡ record old { start = g.start; global = g.global }
-    → old.entries ≡ map (dropped_record f) (take i (enumerate_from 0 f.entries)) → length f.entries ≤ i → new ≡ dropped f
-all_dropped f g old new i h e ee past = whole_file f new i (ap (λ (x : Contents). x.start) e ∙ h.start) (ap (λ (x : Contents). x.global) e ∙ h.global)
-    (ap (λ (x : Contents). x.entries) e ∙ ee) past
+pub all_dropped : (f g old new : Contents) → g.start ≡ f.start → g.global ≡ f.global → old.entries ≡ map (dropped_record f) (enumerate_from 0 f.entries)
+    → new ≡ record old { start = g.start; global = g.global } → new ≡ dropped f
+all_dropped f g old new start global entries e =
+    whole_file f new (ap (λ (x : Contents). x.start) e ∙ start) (ap (λ (x : Contents). x.global) e ∙ global) (ap (λ (x : Contents). x.entries) e ∙ entries)

@@ -106,14 +106,15 @@ module _ (g : Contents) (records : AreRecords g) (made : IsMade g) where
         vertices_are = record { ranks = ranks_are v (is_used_vertex g) mv; covers = vertices_covered g v vs };
       }))
 
-pub whole_file : (g new : Contents) (i : ℕ) → new.start ≡ g.start → new.global ≡ g.global
-    → new.entries ≡ map (dropped_record g) (take i (enumerate_from 0 g.entries)) → length g.entries ≤ i → new ≡ dropped g
+pub all_put : (g : Contents) (es : List Record) (i : ℕ) → es ≡ map (dropped_record g) (take i (enumerate_from 0 g.entries)) → length g.entries ≤ i
+    → es ≡ map (dropped_record g) (enumerate_from 0 g.entries)
+all_put g es i put past =
+    put ∙ ap (map (dropped_record g)) (take_all i (enumerate_from 0 g.entries) (omega (arith, past, length-enumerate_from 0 g.entries)))
+
+pub whole_file : (g new : Contents) → new.start ≡ g.start → new.global ≡ g.global → new.entries ≡ map (dropped_record g) (enumerate_from 0 g.entries)
+    → new ≡ dropped g
 unfolding dropped
-whole_file g new i es eg ee past =
-    let all : take i (enumerate_from 0 g.entries) ≡ enumerate_from 0 g.entries =
-    take_all i (enumerate_from 0 g.entries) (omega (arith, past, length-enumerate_from 0 g.entries)) in
-    let entries : new.entries ≡ map (dropped_record g) (enumerate_from 0 g.entries) = ee ∙ ap (map (dropped_record g)) all in
-    λ j. record { start = es j; global = eg j; entries = entries j }
+whole_file g new es eg ee = λ j. record { start = es j; global = eg j; entries = ee j }
 
 -- ---- an extracted file
 

@@ -2,14 +2,16 @@
 
 ghost use Rattle.iges_base.specs.declared.TheConstants.{FILE_LIMIT};
 ghost use Rattle.iges_params.specs.Contents.{Contents};
-ghost use Rattle.list_compact.specs.Dropped.{dropped, dropped_values};
+ghost use Rattle.list_compact.specs.Dropped.{dropped, dropped_record, dropped_values};
 ghost use Rattle.list_compact.specs.Marking.{AreMarks, AreRecords, AreTables, IsOfItsKind, MarksItems, edge_sizes, sizes, vertex_sizes};
 ghost use Rattle.list_compact.specs.Used.{edges_in, is_used_edge, is_used_vertex, vertices_in};
-ghost use Rattle.std.specs.Prelude.{◌≡◌, ◌≤◌, ℕ, IfOk, length};
+ghost use Rattle.std.specs.List.{enumerate_from};
+ghost use Rattle.std.specs.Prelude.{◌≡◌, ◌≤◌, ℕ, [], IfOk, OnOk, length, map};
 
 use crate::marking::FileMarks;
 use crate::rank_table::ranks_by;
 use crate::values::{FileRanks, edge_values, loop_values, vertex_values};
+use brep_lists::EntityKind;
 use brep_loops::LoopRecord;
 use iges_directory::Entry;
 use iges_fields::{NoMemory, Values};
@@ -36,19 +38,53 @@ fn record_values(
         → MarksItems vertex_row.now (is_used_vertex g e)
         → IfOk result (λ v. v ≡ dropped_values g e (entry.now, values)) }
 {
-    if entry.kind == 508 {
+    if entry.kind == EntityKind::Loop.type_number() {
         let Some(listed) = LoopRecord::of(&values) else {
             return Err(NoMemory);
         };
         return loop_values(alloc, ranks, &values, &listed);
     }
-    if entry.kind == 504 {
+    if entry.kind == EntityKind::EdgeList.type_number() {
         return edge_values(alloc, &ranks.vertices, edge_row, values);
     }
-    if entry.kind == 502 {
+    if entry.kind == EntityKind::VertexList.type_number() {
         return vertex_values(alloc, vertex_row, values);
     }
     Ok(values)
+}
+
+// Puts the entries into the new file, with the values that they have once unused items are dropped.
+fn put_dropped(
+    alloc: Global,
+    new: &mut File,
+    file: &mut File,
+    marks: &FileMarks,
+) -> Result<(), NoMemory>
+    requires records { AreRecords file.old }
+    requires edges { AreMarks marks.now.edges (is_used_edge file.old) }
+    requires vertices { AreMarks marks.now.vertices (is_used_vertex file.old) }
+    requires edge_sizes { sizes marks.now.edges ≡ edge_sizes file.old }
+    requires vertex_sizes { sizes marks.now.vertices ≡ vertex_sizes file.old }
+    requires blank { new.old.entries ≡ [] }
+    ensures start { OnOk result (file.new.start ≡ file.old.start) }
+    ensures global { OnOk result (file.new.global ≡ file.old.global) }
+    ensures entries { OnOk result (new.new.entries
+        ≡ map (dropped_record file.old) (enumerate_from 0 file.old.entries)) }
+{
+    let count = file.entry_count();
+    let ranks = FileRanks {
+        edges: ranks_by(alloc, &marks.edges)?,
+        vertices: ranks_by(alloc, &marks.vertices)?,
+    };
+    'entries: for i in 0..count {
+        let entry = *file.entry_at(i).unwrap();
+        let taken = file.take_values(alloc, i);
+        let edges = marks.edges.row(i);
+        let vertices = marks.vertices.row(i);
+        let values = record_values(alloc, &ranks, edges, vertices, &entry, taken)?;
+        new.push(entry, values)?;
+    }
+    Ok(())
 }
 
 /// The file whose lists of edges and of vertices hold only what is used, in order, with indices to match; a list of which
@@ -61,20 +97,8 @@ pub fn dropped(alloc: Global, mut file: File, marks: &FileMarks) -> Result<File,
     requires vertex_sizes { sizes marks.now.vertices ≡ vertex_sizes file }
     ensures { IfOk result (λ new. new ≡ dropped file) }
 {
-    let count = file.entry_count();
-    let ranks = FileRanks {
-        edges: ranks_by(alloc, &marks.edges)?,
-        vertices: ranks_by(alloc, &marks.vertices)?,
-    };
     let mut new = blank(alloc, file.global().delims)?;
-    'entries: for i in 0..count {
-        let entry = *file.entry_at(i).unwrap();
-        let taken = file.take_values(alloc, i);
-        let edges = marks.edges.row(i);
-        let vertices = marks.vertices.row(i);
-        let values = record_values(alloc, &ranks, edges, vertices, &entry, taken)?;
-        new.push(entry, values)?;
-    }
+    put_dropped(alloc, &mut new, &mut file, marks)?;
     new.take_front(file);
     Ok(new)
 }

@@ -7,7 +7,7 @@ ghost use Rattle.std.specs.Prelude.{◌≡◌, ◌∷◌, ◌||◌, ℕ, Bool, [
 
 use crate::marks::Marks;
 use crate::record_at::record_at;
-use brep_lists::{EdgeList, EdgeTuple, VertexList};
+use brep_lists::{EdgeList, EdgeTuple, EntityKind, VertexList};
 use brep_loops::{LoopRecord, LoopTuple};
 use entry_references::mark_at;
 use iges_directory::Entry;
@@ -78,7 +78,7 @@ pub fn edge_count(entry: &Entry, values: &Values) -> usize
     requires { IsOfItsKind (entry.now, values.now) }
     ensures { result ≡ length (edges_in (entry.now, values.now)) }
 {
-    if entry.kind != 504 {
+    if entry.kind != EntityKind::EdgeList.type_number() {
         return 0;
     }
     match EdgeList::of(values) {
@@ -92,7 +92,7 @@ pub fn vertex_count(entry: &Entry, values: &Values) -> usize
     requires { IsOfItsKind (entry.now, values.now) }
     ensures { result ≡ length (vertices_in (entry.now, values.now)) }
 {
-    if entry.kind != 502 {
+    if entry.kind != EntityKind::VertexList.type_number() {
         return 0;
     }
     match VertexList::of(values) {
@@ -136,7 +136,7 @@ fn mark_entry(marks: &mut FileMarks, entry: &Entry, values: &Values)
     ensures edge_sizes { sizes marks.new.edges ≡ sizes marks.old.edges }
     ensures vertex_sizes { sizes marks.new.vertices ≡ sizes marks.old.vertices }
 {
-    if entry.kind != 508 {
+    if entry.kind != EntityKind::Loop.type_number() {
         return;
     }
     let Some(listed) = LoopRecord::of(values) else {
@@ -201,7 +201,7 @@ fn mark_entry_ends(vertices: &mut Marks, row: &[bool], entry: &Entry, values: &V
         (used_from edge_used 1 (edges_in (entry.now, values.now)))) }
     ensures sizes { sizes vertices.new ≡ sizes vertices.old }
 {
-    if entry.kind != 504 {
+    if entry.kind != EntityKind::EdgeList.type_number() {
         return;
     }
     let Some(listed) = EdgeList::of(values) else {

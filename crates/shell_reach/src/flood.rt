@@ -28,25 +28,25 @@ pub struct Flood {
 
 impl Flood {
     // Counts a face as reached by this row of it.
-    fn add(&mut self, face: u32, row: u32) -> Result<(), NoMemory>
+    fn add(&mut self, face: u32, row: RowId) -> Result<(), NoMemory>
         requires { face < length self.old.marks.items }
         ensures marks { IfOk result (λ _. self.new.marks.items
             ≡ slice_set self.old.marks.items face true) }
         ensures order { IfOk result (λ _. self.new.order.items
             ≡ self.old.order.items ++ face ∷ []) }
         ensures rows { IfOk result (λ _. self.new.rows
-            ≡ self.old.rows ++ (record { 0 = row }) ∷ []) }
+            ≡ self.old.rows ++ row ∷ []) }
     {
         self.order.push(face)?;
-        self.rows.push(RowId(row))?;
+        self.rows.push(row)?;
         self.marks[face as usize] = true;
         Ok(())
     }
 
     /// Goes on from a row of a reached face to the face of its mate.
-    fn cross(&mut self, paired: &Paired<'_>, face: u32, r: u32) -> Result<(), NoMemory>
+    fn cross(&mut self, paired: &Paired<'_>, face: u32, r: RowId) -> Result<(), NoMemory>
         requires whole { ArePaired paired.now }
-        requires row { OnFace paired.now face r }
+        requires row { OnFace paired.now face r.0 }
         requires known { Has self.old.order.items face }
         requires flood { IsFlood paired.now self.old.marks.items self.old.order.items
             (row_numbers self.old.rows) }
@@ -54,14 +54,14 @@ impl Flood {
             (λ _. IsFlood paired.now self.new.marks.items self.new.order.items
             (row_numbers self.new.rows)) }
         ensures grows { IfOk result (λ _. Grows self.old.order.items self.new.order.items) }
-        ensures there { IfOk result (λ _. (m g : ℕ) → AreMates paired.now r m
+        ensures there { IfOk result (λ _. (m g : ℕ) → AreMates paired.now r.0 m
             → OnFace paired.now g m → Has self.new.order.items g) }
-        ensures crossed { IfOk result (λ _. Crosses paired.now (mate_at r) self.old.order.items
+        ensures crossed { IfOk result (λ _. Crosses paired.now (mate_at r.0) self.old.order.items
             (row_numbers self.old.rows) self.new.order.items (row_numbers self.new.rows)) }
     {
         let rows = paired.rows();
         let mate = mate_of(paired, r);
-        let other = face_of(rows, mate);
+        let other = face_of(rows, mate.0);
         if self.marks[other as usize] {
             return Ok(());
         }
@@ -87,7 +87,7 @@ impl Flood {
     {
         let mut r = faces.first[face as usize];
         'rows: while (r as usize) < faces.next.len() {
-            self.cross(paired, face, r)?;
+            self.cross(paired, face, RowId(r))?;
             r = faces.next[r as usize];
         }
         Ok(())
@@ -171,9 +171,9 @@ impl Flood {
     }
 }
 
-fn mate_of(paired: &Paired<'_>, r: u32) -> u32
-    requires { r < length paired.now.rows }
-    ensures { AreMates paired.now r result }
+fn mate_of(paired: &Paired<'_>, r: RowId) -> RowId
+    requires { r.0 < length paired.now.rows }
+    ensures { AreMates paired.now r.0 result.0 }
 {
-    paired.mate(RowId(r)).unwrap().0
+    paired.mate(r).unwrap()
 }

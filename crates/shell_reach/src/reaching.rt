@@ -23,7 +23,7 @@ use std::alloc::Global;
 /// Rows that reach the faces of a shell but the first, each on a face that isn't reached before it.
 pub type ReachList = RowList;
 
-fn first_unreached(paired: &Paired<'_>, flood: &Flood, count: usize) -> Option<u32>
+fn first_unreached(paired: &Paired<'_>, flood: &Flood, count: usize) -> Option<FaceAt>
     requires count { count ≡ paired.now.face_count }
     requires few { count < PART_LIMIT }
     requires flood { IsFlood paired.now flood.now.marks.items flood.now.order.items
@@ -31,11 +31,11 @@ fn first_unreached(paired: &Paired<'_>, flood: &Flood, count: usize) -> Option<u
     requires done { (f : ℕ) → Has flood.now.order.items f
         → IsDone paired.now flood.now.order.items f }
     ensures { MatchOption result (AllByRecursion (IsReached paired.now) (numbers_from 0 paired.now.face_count))
-        (λ f. FirstNot (IsReached paired.now) (numbers_from 0 paired.now.face_count) f) }
+        (λ f. FirstNot (IsReached paired.now) (numbers_from 0 paired.now.face_count) f.0) }
 {
     'faces: for f in 0..count {
         if !flood.marks[f] {
-            return Some(f as u32);
+            return Some(FaceAt(f as u32));
         }
     }
     None
@@ -58,7 +58,7 @@ pub fn reach(alloc: Global, paired: &Paired<'_>) -> Result<ReachList, ReachFault
     let mut flood = Flood::start(alloc, paired, count)?;
     flood.run(paired, &faces, count)?;
     if let Some(face) = first_unreached(paired, &flood, count) {
-        return Err(ReachFault::Unreached(FaceAt(face)));
+        return Err(ReachFault::Unreached(face));
     }
     Ok(flood.rows)
 }

@@ -2,7 +2,7 @@ use Rattle.std.proofs.Common.{◌≡◌, map, take}
 use Rattle.std.specs.List.{enumerate_from}
 use Rattle.list_compact.specs.Dropped.{dropped_record}
 use Rattle.list_compact.proofs.Emptied.{IsEmptied}
-use Rattle.list_compact.proofs.dropping.dropped.Given as goal
+use Rattle.list_compact.proofs.dropping.put_dropped.Given as goal
 
 abbrev pub invariant-entries : goal.invariant-entries
 invariant-entries l = record {
