@@ -19,6 +19,7 @@ use crate::flood::{Flood, flip};
 use crate::lists::{FlagList, Orientation};
 use crate::ring::ring_of;
 use iges_base::NoMemory;
+use solid_data::FaceAt;
 use std::alloc::Global;
 
 /// The least face that isn't reached.
@@ -27,18 +28,18 @@ pub(crate) fn first_unreached(
     crossings: &[Crossing],
     faces: usize,
     first: bool,
-) -> Option<u32>
+) -> Option<FaceAt>
     requires few { faces < PART_LIMIT }
     requires flood { IsFlood faces crossings.now first flood.now.places.items flood.now.order.items }
     requires done { (f : ℕ) → Has flood.now.order.items f
         → IsDone crossings.now flood.now.order.items f }
     ensures { MatchOption result (AllByRecursion (LeadsTo (Meets crossings.now) 0)
         (numbers_from 0 faces)) (λ f. FirstNot (LeadsTo (Meets crossings.now) 0)
-        (numbers_from 0 faces) f) }
+        (numbers_from 0 faces) f.0) }
 {
     'faces: for f in 0..faces {
         if !flood.places[f].reached {
-            return Some(f as u32);
+            return Some(FaceAt(f as u32));
         }
     }
     None

@@ -5,14 +5,14 @@ ghost use Rattle.solid_data.specs.declared.solid.FaceUse.{FaceUse as AnyFace};
 ghost use Rattle.solid_data.specs.SolidData.{edge_name};
 
 use crate::fault::{OrientFailing, OrientRule};
-use solid_data::{EdgeId, Shell, Solid};
+use solid_data::{EdgeId, FaceAt, Shell, Solid};
 
 /// COUNT names the edge list, and the index of the edge in it, from 1.
-pub(crate) fn miscounted(solid: &Solid, edge: u32) -> OrientFailing
-    ensures { let key = edge_name (slice_get solid.now.edges edge) in result
+pub(crate) fn miscounted(solid: &Solid, edge: EdgeId) -> OrientFailing
+    ensures { let key = edge_name (slice_get solid.now.edges edge.0) in result
         ≡ record { rule = OrientRule.Count; entity = key.list; place = key.index } }
 {
-    let key = solid.edge_key(EdgeId(edge));
+    let key = solid.edge_key(edge);
     OrientFailing {
         rule: OrientRule::Count,
         entity: key.list,
@@ -21,12 +21,12 @@ pub(crate) fn miscounted(solid: &Solid, edge: u32) -> OrientFailing
 }
 
 /// REACH names the face itself.
-pub(crate) fn unreached(shell: &Shell, face: u32) -> OrientFailing
-    requires { (f : AnyFace) × (slice_get shell.now.faces face ≡ Some f) }
-    ensures { (f : AnyFace) → slice_get shell.now.faces face ≡ Some f
+pub(crate) fn unreached(shell: &Shell, face: FaceAt) -> OrientFailing
+    requires { (f : AnyFace) × (slice_get shell.now.faces face.0 ≡ Some f) }
+    ensures { (f : AnyFace) → slice_get shell.now.faces face.0 ≡ Some f
         → result ≡ record { rule = OrientRule.Reach; entity = f.entity; place = 0 } }
 {
-    let face = shell.faces.get(face as usize).unwrap();
+    let face = shell.faces.get(face.0 as usize).unwrap();
     OrientFailing {
         rule: OrientRule::Reach,
         entity: face.entity,

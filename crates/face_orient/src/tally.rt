@@ -111,16 +111,16 @@ impl<'a> Tally<'a> {
 }
 
 /// The least edge that hasn't two rows.
-pub(crate) fn first_miscounted(rows: &Rows, tally: &Tally<'_>) -> Option<u32>
+pub(crate) fn first_miscounted(rows: &Rows, tally: &Tally<'_>) -> Option<EdgeId>
     requires span { IsSpanOf tally.now.span rows.now.edges }
     requires tally { IsTally rows.now tally.now.span tally.now.seen }
     ensures { MatchOption result (AllByRecursion (HasTwoRows rows.now) rows.now.edges)
-        (λ e. FirstNot (HasTwoRows rows.now) rows.now.edges e) }
+        (λ e. FirstNot (HasTwoRows rows.now) rows.now.edges e.0) }
 {
     'edges: for i in 0..rows.edge_count() {
         let edge = rows.edge_at(i).unwrap();
         if tally.of(edge.0).count != 2 {
-            return Some(edge.0);
+            return Some(edge);
         }
     }
     None

@@ -16,19 +16,19 @@ unreached-requires c =
     let at : slice_get c.args.solid.now.shells c.args.shell.0 ≡ Some c.unwrap-shell.result.now = search rules in
     let same : c.as_slice-crossings.result.now ≡ c.in_ok-graph.graph.crossings.items = c.as_slice-crossings.ensures.value in
     missed_face c.args.solid.now c.args.shell.0 c.unwrap-shell.result.now c.in_ok-graph.graph.crossings.items c.in_ok-graph.graph.faces
-    c.in_ok-graph.graph.first c.in-Some.face c.in_ok-graph.ensures.graph at
-    (subst (λ (cs : List Crossing). FirstNot (LeadsTo (Meets cs) 0) (numbers_from 0 c.in_ok-graph.graph.faces) c.in-Some.face) same c.in-Some.ensures)
+    c.in_ok-graph.graph.first c.in-Some.face.0 c.in_ok-graph.ensures.graph at
+    (subst (λ (cs : List Crossing). FirstNot (LeadsTo (Meets cs) 0) (numbers_from 0 c.in_ok-graph.graph.faces) c.in-Some.face.0) same c.in-Some.ensures)
 
 pub returns-in-Some-clause-fault : goal.returns-in-Some-clause-fault
 returns-in-Some-clause-fault c =
     let at : slice_get c.args.solid.now.shells c.args.shell.0 ≡ Some c.unwrap-shell.result.now = search rules in
     let same : c.as_slice-crossings.result.now ≡ c.in_ok-graph.graph.crossings.items = c.as_slice-crossings.ensures.value in
-    let miss : FirstNot (LeadsTo (Meets c.in_ok-graph.graph.crossings.items) 0) (numbers_from 0 c.in_ok-graph.graph.faces) c.in-Some.face =
-    subst (λ (cs : List Crossing). FirstNot (LeadsTo (Meets cs) 0) (numbers_from 0 c.in_ok-graph.graph.faces) c.in-Some.face) same c.in-Some.ensures in
+    let miss : FirstNot (LeadsTo (Meets c.in_ok-graph.graph.crossings.items) 0) (numbers_from 0 c.in_ok-graph.graph.faces) c.in-Some.face.0 =
+    subst (λ (cs : List Crossing). FirstNot (LeadsTo (Meets cs) 0) (numbers_from 0 c.in_ok-graph.graph.faces) c.in-Some.face.0) same c.in-Some.ensures in
     let f = missed_face c.args.solid.now c.args.shell.0 c.unwrap-shell.result.now c.in_ok-graph.graph.crossings.items c.in_ok-graph.graph.faces
-    c.in_ok-graph.graph.first c.in-Some.face c.in_ok-graph.ensures.graph at miss in
+    c.in_ok-graph.graph.first c.in-Some.face.0 c.in_ok-graph.ensures.graph at miss in
     reach_fails c.args.solid.now c.args.shell.0 c.unwrap-shell.result.now c.in_ok-graph.graph.crossings.items c.in_ok-graph.graph.faces
-    c.in_ok-graph.graph.first c.in-Some.face f.0 c.unreached.result c.in_ok-graph.ensures.graph at miss f.1 (c.unreached.ensures f.0 f.1)
+    c.in_ok-graph.graph.first c.in-Some.face.0 f.0 c.unreached.result c.in_ok-graph.ensures.graph at miss f.1 (c.unreached.ensures f.0 f.1)
 
 pub found-requires-clause-all : goal.found-requires-clause-all
 found-requires-clause-all c =
