@@ -8,7 +8,7 @@ use Rattle.solid_data.proofs.Members.{Has, covers}
 use Rattle.edge_uses.specs.declared.row.Row.{Row}
 use Rattle.edge_uses.specs.ShellRows.{ShellRows}
 use Rattle.edge_uses.specs.RowRelations.{IsPaired}
-use Rattle.cert_lines.specs.Line.{CertLine, shell, edge, end}
+use Rattle.cert_lines.specs.Line.{CertLine, shell, end}
 use Rattle.cert_lines.specs.declared.version.Version.{Version}
 use Rattle.topo_certificate.specs.Stand.{Stand, stand_from_latest, NoneDue, edge_of, vertex_of, is_shell, is_edge, is_corner_or_point, number_of, since_shell}
 use Rattle.topo_certificate.specs.Stand.{rows_of_shell, current_rows, row_named, row_start, point_named, FitsLine, is_last}

@@ -35,6 +35,7 @@ use Rattle.brep_walk.specs.SolidOf.{solid_of}
 use Rattle.solid_data.specs.Numbering.{HasFewParts}
 use Rattle.solid_data.specs.Obligations.{AllHold}
 use Rattle.brep_walk.specs.Places.{places}
+use Rattle.iges_params.specs.Contents.{Contents}
 use Rattle.cert_accept.specs.Accepted.{IsAccepted}
 use Rattle.shell_rules.proofs.Placed.{enum_get}
 use Rattle.cert_accept.proofs.Ready.{point_is, closed_at, closed_joins, apart_all, closed_is_ready}

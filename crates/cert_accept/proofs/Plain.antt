@@ -4,7 +4,7 @@ use Rattle.std.specs.List.{cons_option, list_any}
 use Rattle.std.proofs.Common.{refl, sym, ◌∙◌, ap, inl, inr}
 use Rattle.solid_data.specs.SolidData.{SolidData}
 use Rattle.edge_uses.specs.ShellRows.{ShellRows}
-use Rattle.cert_lines.specs.Line.{CertLine, shell, reach, tally}
+use Rattle.cert_lines.specs.Line.{CertLine, reach}
 use Rattle.cert_lines.specs.declared.version.Version.{Version}
 use Rattle.topo_certificate.specs.Stand.{Stand, stand_from_latest, asked, mates_of, edge_of, vertex_of, first_of, is_shell, is_edge, is_corner_or_point}
 use Rattle.topo_certificate.specs.Stand.{is_reach, is_tally, is_last, number_of, since_shell, rows_of_shell, current_rows}
