@@ -8,4 +8,4 @@ pub mod Unmade
 pub mod SomeBook
 pub mod OneText
 pub mod SomeText
-pub mod Soundness
+pub mod Sound

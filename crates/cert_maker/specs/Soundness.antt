@@ -1,5 +1,5 @@
 -- What accepted certificates say of closed solids.
-use Rattle.std.specs.Prelude.{ℕ, List, [], ◌∷◌, ◌↔◌, Contains}
+use Rattle.std.specs.Prelude.{ℕ, List, ◌↔◌, Contains}
 use Rattle.std.specs.List.{AllByRecursion}
 use Rattle.iges_params.specs.Contents.{Contents}
 use Rattle.iges_params.specs.Limits.{FitsLimits}

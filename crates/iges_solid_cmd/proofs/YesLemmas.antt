@@ -4,7 +4,7 @@ use Rattle.iges_params.specs.Contents.{Contents}
 use Rattle.cert_lines.specs.declared.version.Version.{Version}
 use Rattle.cert_lines.specs.declared.version.Version.TheVariants.{One, Two, Three}
 use Rattle.cert_accept.specs.Accepted.{IsAccepted, IsAcceptedAlone}
-use Rattle.cert_maker.proofs.Soundness.{accepted_is_closed}
+use Rattle.cert_maker.proofs.Sound.{accepted_is_closed}
 use Rattle.solid_verdict.proofs.Closed.{closed_is_all_hold_of_file}
 use Rattle.iges_params.specs.Solids.{solids_of}
 use Rattle.cert_maker.proofs.BookMade.{book_text_accepted}

@@ -1,4 +1,4 @@
-use Rattle.cert_maker.proofs.Soundness.{closed_exactly}
+use Rattle.cert_maker.proofs.Sound.{closed_exactly}
 use Rattle.cert_maker.proofs.law.completeness.Goals as goal
 
 pub returns : goal.returns

@@ -1,4 +1,4 @@
-use Rattle.cert_maker.proofs.Soundness.{accepted_is_closed}
+use Rattle.cert_maker.proofs.Sound.{accepted_is_closed}
 use Rattle.cert_maker.proofs.law.soundness.Goals as goal
 
 pub returns : goal.returns

@@ -1,4 +1,4 @@
-use Rattle.std.proofs.Common.{ℕ, refl, sym, ◌∙◌, ap, subst, length, List, arith}
+use Rattle.std.proofs.Common.{refl, sym, ◌∙◌, ap, subst, length, List, arith}
 use Rattle.std.specs.List.{AllZip}
 use Rattle.edge_uses.specs.ShellRows.{ShellRows}
 use Rattle.vertex_link.specs.Corners.{LiesAt}
