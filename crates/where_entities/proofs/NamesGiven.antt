@@ -1,14 +1,14 @@
 -- The names of a record, by the shape of its values.
 use Rattle.std.specs.Prelude.{◌≡◌, Bool, true, false, ◌&&◌, ◌||◌, ℤ, List, [], ◌++◌, Option, Some, None, is_some, filter, filter_map, take, drop, if◌then◌else◌}
 use Rattle.std.proofs.Common.{refl, sym, ap, ◌∙◌}
-use Rattle.std.proofs.lemmas.Bool.{and_from, cond-true, cond-false, or_parts}
+use Rattle.std.proofs.lemmas.Bool.{and_from, cond-true}
 use Rattle.iges_params.specs.Contents.{Contents}
 use Rattle.brep_lists.specs.Record.{kind_of_type}
 use Rattle.brep_lists.specs.declared.entity_kind.EntityKind.{EntityKind}
 use Rattle.entry_references.specs.declared.group.Group.{Group}
 use Rattle.entry_references.specs.Layout.{Layout, Own, layout_of, own_in}
-use Rattle.entry_references.specs.Refs.{Record, are_groups, has_layout, is_listed, is_name, names_of, number_of, own_of, own_of_kind, second_group}
-use Rattle.entry_references.specs.Shapes.{HasShape, IsShapeFault}
+use Rattle.entry_references.specs.Refs.{Record, are_groups, has_layout, is_listed, is_name, names_of, number_of, own_of_kind, second_group}
+use Rattle.entry_references.specs.Shapes.{HasShape}
 use Rattle.where_entities.specs.Facts.{entity_names, is_of_solids}
 use Rattle.where_entities.specs.NamesGroups.{IsNamesGroup}
 

@@ -6,7 +6,8 @@ use Rattle.std.specs.Ordering.{int_eq}
 use Rattle.iges_base.specs.declared.entry_no.EntryNo.{EntryNo}
 use Rattle.iges_params.specs.Contents.{Contents}
 use Rattle.iges_params.specs.Named.{named}
-use Rattle.brep_lists.specs.Record.{int_at}
+use Rattle.brep_lists.specs.Record.{int_at, type_number}
+use Rattle.brep_lists.specs.declared.entity_kind.EntityKind.TheVariants.{Face as face}
 use Rattle.entry_references.specs.Refs.{Record, names_entry}
 use Rattle.solid_data.specs.Ring.{numbers_from}
 use Rattle.where_text.specs.Spelled.{signed, space_word}
@@ -32,7 +33,7 @@ surface_named f s = if names_entry f s then codes " surface" ++ space_word (sign
 
 -- of a face the surface that its record names first
 unfoldable pub surface_words : Contents → Record → List ℕ
-surface_words f r = if int_eq r.0.kind (pos 510) then surface_named f (int_at r.1 0) else []
+surface_words f r = if int_eq r.0.kind (type_number face) then surface_named f (int_at r.1 0) else []
 
 -- the number of an entity and its type
 unfoldable pub record_head : Contents → EntryNo → Record → List ℕ

@@ -1,5 +1,5 @@
 -- The facts of an entity, each a line where it is there.
-use Rattle.std.specs.Prelude.{ℕ, Bool, ◌&&◌, ◌||◌, ℤ, pos, int_lt, neg_ℤ, List, [], ◌∷◌, ◌++◌, Option, Some, None, flat_map, slice_get, codes, if◌then◌else◌}
+use Rattle.std.specs.Prelude.{ℕ, Bool, ◌&&◌, ℤ, pos, int_lt, neg_ℤ, List, [], ◌++◌, Option, Some, None, is_some, flat_map, slice_get, codes, if◌then◌else◌}
 use Rattle.std.specs.Ordering.{int_eq}
 use Rattle.iges_fields.specs.declared.value.Value.{Value}
 use Rattle.iges_fields.specs.declared.value.Value.TheVariants as value
@@ -7,6 +7,7 @@ use Rattle.iges_base.specs.Word.{is_empty, trim}
 use Rattle.iges_directory.specs.declared.entry.Entry.{Entry}
 use Rattle.iges_params.specs.Contents.{Contents}
 use Rattle.iges_params.specs.Named.{named, values_of}
+use Rattle.brep_lists.specs.Record.{kind_of_type}
 use Rattle.entry_references.specs.Refs.{Record, has_layout, names_of}
 use Rattle.where_text.specs.Spelled.{masked, signed, space_word, spelled_if}
 
@@ -74,7 +75,7 @@ name_fact f n = name_line (slice_get (values_of f n) 1)
 
 -- a type of which a solid is made
 abbrev pub is_of_solids : ℤ → Bool
-is_of_solids z = int_eq z (pos 186) || int_eq z (pos 502) || int_eq z (pos 504) || int_eq z (pos 508) || int_eq z (pos 510) || int_eq z (pos 514)
+is_of_solids z = is_some (kind_of_type z)
 
 -- the names in the second group after the own values of a record of which a solid is made
 unfoldable pub entity_names : Contents → Record → List ℤ

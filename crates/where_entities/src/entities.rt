@@ -6,7 +6,7 @@ ghost use Rattle.where_entities.specs.Entities.{entities_text, entity_text, para
 
 use crate::described::described;
 use crate::facts::put_facts;
-use brep_lists::int_at;
+use brep_lists::{EntityKind, int_at};
 use entry_references::record_of;
 use iges_directory::Entry;
 use iges_fields::{EntryNo, NoMemory, Out, Values};
@@ -40,7 +40,7 @@ fn put_surface_named(out: &mut Out, file: &File, surface: i64) -> Result<(), NoM
 fn put_surface(out: &mut Out, file: &File, entry: &Entry, values: &Values) -> Result<(), NoMemory>
     ensures { OnOk result (out.new ≡ out.old ++ surface_words file.now (entry.now, values.now)) }
 {
-    if entry.kind != 510 {
+    if entry.kind != EntityKind::Face.type_number() {
         return Ok(());
     }
     put_surface_named(out, file, int_at(values, 0))

@@ -8,6 +8,7 @@ ghost use Rattle.entry_references.specs.Shapes.{IsShapeFault};
 ghost use Rattle.where_entities.specs.NamesGroups.{IsNamesGroup};
 ghost use Rattle.where_entities.specs.Facts.{entity_names, is_of_solids, name_fact, name_line};
 
+use brep_lists::EntityKind;
 use entry_references::{Group, RefFault, push_names, shape_of};
 use iges_directory::Entry;
 use iges_fields::{ItemList, NoMemory, Out, Value, Values};
@@ -19,7 +20,7 @@ use where_text::put_masked;
 fn is_of_solids(kind: i64) -> bool
     ensures { result ≡ is_of_solids kind }
 {
-    kind == 186 || kind == 502 || kind == 504 || kind == 508 || kind == 510 || kind == 514
+    EntityKind::of_type(kind).is_some()
 }
 
 // No group where the record doesn't fit its type.

@@ -1,4 +1,4 @@
-use Rattle.std.proofs.Common.{ℕ, ap, ◌∙◌, arith, false}
+use Rattle.std.proofs.Common.{ℕ, ap, ◌∙◌, arith}
 use Rattle.where_entities.proofs.Marked.{described_more, mark_is}
 use Rattle.where_entities.proofs.described.described.Goals as goal
 
