@@ -14,15 +14,15 @@ use Rattle.solid_data.specs.declared.solid.VertexId.{VertexId}
 use Rattle.edge_uses.proofs.Cycle.{on_trail, zip_from_trail}
 use Rattle.edge_uses.proofs.Turns.{mates_back, follows_apart}
 use Rattle.edge_uses.proofs.RowNumbers.{starting, length-starting, starting_has, starting_none, starting_is}
-use Rattle.open_shells.specs.Sound.{IsBorder, IsFan, IsFanned}
-use Rattle.open_shells.specs.Stand.{IsChain, last_of}
+use Rattle.open_certificate.specs.Sound.{IsBorder, IsFan, IsFanned}
+use Rattle.open_certificate.specs.Stand.{IsChain, last_of}
 use Rattle.open_shells.specs.Mating.{AreOnce}
 use Rattle.open_shells.specs.FanParts.{IsCycle, IsPath, IsCycleOf, IsPathOf, IsHeadOf}
 use Rattle.shell_tables.specs.Starting.{AreStarts, ArePoints}
 use Rattle.shell_tables.specs.declared.starting.Starts.{Starts}
 use Rattle.shell_tables.specs.declared.starting.Points.{Points}
 use Rattle.open_shells.proofs.OnceMates.{row_once}
-use Rattle.open_shells.proofs.Fans.{one_mate_of, lone_no_mate, chain_no_repeat, chain_leads}
+use Rattle.open_certificate.proofs.Fans.{one_mate_of, lone_no_mate, chain_no_repeat, chain_leads}
 
 -- Turning leads from a row to one row, and to a row from one row, at one vertex.
 

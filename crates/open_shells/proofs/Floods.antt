@@ -21,8 +21,8 @@ use Rattle.edge_uses.proofs.Steps.{default_apart}
 use Rattle.solid_data.proofs.Occurring.{numbers_rise, length-numbers, number_get, number_within}
 use Rattle.solid_data.proofs.Trail.{leads_last}
 use Rattle.open_shells.proofs.OnceMates.{row_once}
-use Rattle.open_shells.proofs.Fans.{one_mate_of, lone_no_mate}
-use Rattle.open_shells.specs.Sound.{IsBorder}
+use Rattle.open_certificate.proofs.Fans.{one_mate_of, lone_no_mate}
+use Rattle.open_certificate.specs.Sound.{IsBorder}
 use Rattle.edge_uses.proofs.Tallies.{set_same, set_other}
 use Rattle.edge_uses.proofs.Turns.{mates_back}
 use Rattle.open_shells.specs.Reaching.{ReachesOne, ReachFrom, ReachesAll}
