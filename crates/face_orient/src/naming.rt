@@ -2,23 +2,9 @@
 
 ghost use Rattle.std.specs.Prelude.{◌≡◌, Some, slice_get};
 ghost use Rattle.solid_data.specs.declared.solid.FaceUse.{FaceUse as AnyFace};
-ghost use Rattle.solid_data.specs.SolidData.{edge_name};
 
-use crate::fault::{OrientFailing, OrientRule};
-use solid_data::{EdgeId, Shell, Solid};
-
-/// COUNT names the edge list, and the index of the edge in it, from 1.
-pub(crate) fn miscounted(solid: &Solid, edge: u32) -> OrientFailing
-    ensures { let key = edge_name (slice_get solid.now.edges edge) in result
-        ≡ record { rule = OrientRule.Count; entity = key.list; place = key.index } }
-{
-    let key = solid.edge_key(EdgeId(edge));
-    OrientFailing {
-        rule: OrientRule::Count,
-        entity: key.list,
-        place: key.index,
-    }
-}
+use orient_certificate::{OrientFailing, OrientRule};
+use solid_data::Shell;
 
 /// REACH names the face itself.
 pub(crate) fn unreached(shell: &Shell, face: u32) -> OrientFailing
