@@ -4,7 +4,8 @@
 Each crate has one row in docs/ARCHITECTURE.md, below the heading that it has in crates.txt, and depends on no crate that the row
 says it must not know. crates.txt lists each crate below what it depends on, and nothing that the crate doesn't name. No chain of
 crates is longer than `CHAIN` crates, and no crate has more than `LINES` lines or `FUNCTIONS` functions, contracts included; tests,
-and the programs, which are `main` alone, aren't counted.
+and the programs, which are `main` alone, aren't counted. None of the crates `CHECKS`, which say yes to certificates and to
+orientations, depends on one of `MAKES`, which make them.
 """
 import functools
 import pathlib
@@ -19,10 +20,14 @@ DRAWN = re.compile(r"(?m)^### ([a-z]+: .*)\n((?:(?!#).*\n)+)")
 NAMED = re.compile(r"\bRattle\.(\w+)|(?<![\w:.])(\w+)::")
 FUNCTION = re.compile(r"(?m)^ *(?:pub(?:\(\w+\))? )?(?:const )?fn \w+")
 CHAIN, LINES, FUNCTIONS = 8, 1500, 100
-# The longer chain: its text goes through record_paths and where_records, which say in which face a record fails. See docs/DECISIONS.md.
-LONGER = {"where_command": 9}
-# Still larger than the limits: a checker and a maker together, or all faults of a shell together. These are to be parted.
-LARGER = {"topo_certificate", "open_shells", "face_orient", "solid_faults"}
+# The longer chains: open_certificate stands on topo_certificate, whose functions on the rows of a line it uses; where's text goes through
+# record_paths and where_records, which say in which face a record fails. See docs/DECISIONS.md.
+LONGER = {"iges_solid_cmd": 9, "where_command": 9}
+# Still larger than the limits, and to be parted: the checker of lines, and all faults of a shell.
+LARGER = {"topo_certificate", "solid_faults"}
+# What says yes to certificates and orientations, and what makes them or parts of them.
+CHECKS = "topo_certificate", "solid_check", "open_certificate", "orient_certificate"
+MAKES = {"vertex_link", "shell_reach", "cert_maker", "open_shells", "face_orient"}
 
 
 def below(crates, crate):
@@ -77,6 +82,14 @@ def needs_checks(top, crates):
             yield f"crates.txt: {other} comes before {name}", other not in crates or other in listed[:at]
 
 
+def checker_checks(crates):
+    for name in CHECKS:
+        for other in sorted(MAKES & below(crates, name)):
+            yield f"crates.txt: {name}, which says yes, depends on {other}", False
+        yield f"crates.txt: {name} is a crate", name in crates
+    yield "crates.txt: the crates that make certificates and orientations", MAKES <= set(crates)
+
+
 def limits_checks(top, crates, tests):
     for name in crates:
         if name in tests or (top / "crates" / name / "src" / "main.rt").exists():
@@ -98,6 +111,7 @@ def checks(top):
     yield from rows_checks(crates, page)
     yield from tree_checks(text, page)
     yield from needs_checks(top, crates)
+    yield from checker_checks(crates)
     yield from limits_checks(top, crates, tests)
 
 

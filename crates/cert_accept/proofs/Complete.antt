@@ -15,7 +15,8 @@ use Rattle.std.proofs.lemmas.List.FromFn.{length-enumerate_from}
 use Rattle.std.proofs.lemmas.Option.{slice_get_within}
 use Rattle.cert_lines.proofs.CutLines.{cut_spelled}
 use Rattle.edge_uses.specs.RowRelations.{IsPaired, point_count}
-use Rattle.shell_rules.specs.Closed.{IsLinked, IsClosedShell, IsClosedSolid}
+use Rattle.edge_uses.specs.Around.{IsLinked}
+use Rattle.shell_rules.specs.Closed.{IsClosedShell, IsClosedSolid}
 use Rattle.solid_data.proofs.Members.{map_has, from_flat_map, has_map, Has, All-at, no_longer, count_by-total, Rises, rises_none, has_left, has_right, all_has}
 use Rattle.solid_data.proofs.Members.{has_get}
 use Rattle.edge_uses.proofs.Counting.{two_rows_each}

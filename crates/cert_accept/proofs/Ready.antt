@@ -16,7 +16,8 @@ use Rattle.edge_uses.specs.ShellRows.{ShellRows, loop_rows, point_of, rows_of, s
 use Rattle.edge_uses.specs.Before.{IsApart}
 use Rattle.edge_uses.specs.Joins.{IsJoined}
 use Rattle.edge_uses.specs.RowRelations.{IsPaired}
-use Rattle.shell_rules.specs.Closed.{IsReached, IsLinked, IsClosedShell, IsClosedSolid}
+use Rattle.edge_uses.specs.Around.{IsReached, IsLinked}
+use Rattle.shell_rules.specs.Closed.{IsClosedShell, IsClosedSolid}
 use Rattle.solid_data.proofs.Members.{all_append, from_flat_map, has_map, Has, All-at, has_get}
 use Rattle.solid_data.proofs.Occurring.{numbers_have}
 use Rattle.edge_uses.proofs.FollowRows.{each_is_followed}

@@ -10,7 +10,8 @@ use Rattle.edge_uses.specs.ShellRows.{rows_of, shell_rows}
 use Rattle.edge_uses.specs.Before.{IsApart}
 use Rattle.edge_uses.specs.Joins.{IsJoined}
 use Rattle.edge_uses.specs.RowRelations.{IsPaired}
-use Rattle.shell_rules.specs.Closed.{IsReached, IsLinked, IsClosedShell, IsClosedSolid}
+use Rattle.edge_uses.specs.Around.{IsReached, IsLinked}
+use Rattle.shell_rules.specs.Closed.{IsClosedShell, IsClosedSolid}
 use Rattle.edge_uses.proofs.RowLemmas.{ends_meet}
 use Rattle.solid_data.proofs.Members.{Has, All-at, All-from, has_flat_map, has_get}
 use Rattle.topo_certificate.specs.Stand.{rows_of_shell}

@@ -17,11 +17,12 @@ use Rattle.solid_data.proofs.Members.{Has, All-at, All-from, Contains-from_Has, 
 use Rattle.edge_uses.specs.declared.row.Row.{Row}
 use Rattle.edge_uses.specs.ShellRows.{ShellRows, shell_rows}
 use Rattle.edge_uses.specs.RowRelations.{StartsAt, Turns, IsPaired}
-use Rattle.shell_rules.specs.Closed.{IsCorner, IsLinked, IsReached, IsClosedShell, IsClosedSolid}
+use Rattle.edge_uses.specs.Around.{IsCorner, IsLinked, IsReached}
+use Rattle.shell_rules.specs.Closed.{IsClosedShell, IsClosedSolid}
 use Rattle.edge_uses.specs.Mates.{ArePaired}
 use Rattle.shell_rules.proofs.ClosedLemmas.{closed_is_all_hold}
 use Rattle.edge_uses.proofs.Cycle.{zip_from_trail}
-use Rattle.shell_rules.proofs.CornerCycle.{cycle_of_corner}
+use Rattle.edge_uses.proofs.CornerCycle.{cycle_of_corner}
 use Rattle.edge_uses.proofs.RowLemmas.{ends_meet}
 use Rattle.edge_uses.proofs.RowNumbers.{starting, length-starting, starting_has, starting_none, starting_is}
 use Rattle.edge_uses.proofs.Turn.{row_of_edge_along, row_of_edge_against, turning}

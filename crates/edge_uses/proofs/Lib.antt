@@ -22,3 +22,4 @@ pub mod Turn
 pub mod Turns
 pub mod RowNumbers
 mod CellSteps
+pub mod CornerCycle

@@ -10,3 +10,4 @@ pub mod Tally
 pub mod Faults
 pub mod Balls
 pub mod Cells
+pub mod Around

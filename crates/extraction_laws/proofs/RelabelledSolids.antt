@@ -25,7 +25,7 @@ use Rattle.edge_uses.specs.ShellRows.{ShellRows, row_of_edge, row_of, loop_rows,
 use Rattle.edge_uses.specs.Before.{IsApart}
 use Rattle.edge_uses.specs.Joins.{begin_of, start_of, end_of, ends_and_starts, loop_obligations, join_obligations}
 use Rattle.edge_uses.specs.RowRelations.{IsPaired}
-use Rattle.shell_rules.specs.Closed.{IsReached, IsLinked}
+use Rattle.edge_uses.specs.Around.{IsReached, IsLinked}
 use Rattle.shell_rules.specs.ShellObligations.{at_edge, at_vertex, pair_obligations, reach_obligations}
 use Rattle.shell_rules.specs.ShellObligations.{link_obligations, apart_obligations, shell_obligations, solid_obligations}
 use Rattle.solid_extract.proofs.Copies.{zip_length}

@@ -8,14 +8,14 @@ use Rattle.solid_data.specs.Ring.{numbers_from}
 use Rattle.solid_data.proofs.Members.{Has, All-at}
 use Rattle.solid_data.proofs.Occurring.{number_within}
 use Rattle.edge_uses.proofs.Steps.{default_apart}
-use Rattle.face_orient.specs.declared.crossing.Crossing.{Crossing}
+use Rattle.orient_certificate.specs.declared.crossing.Crossing.{Crossing}
 use Rattle.face_orient.specs.declared.flood.Place.{Place}
-use Rattle.face_orient.specs.Crossings.{flipped, Climb, Meets, IsGraph, IsOddWalk, no_step, partner_of}
+use Rattle.orient_certificate.specs.Crossings.{flipped, Climb, Meets, IsGraph, IsOddWalk, no_step, partner_of}
 use Rattle.face_orient.specs.Flood.{IsFlood, IsDone, IsOrigin, IsChild, place_of, unreached}
-use Rattle.face_orient.specs.Graph.{Suit}
+use Rattle.orient_certificate.specs.Graph.{Suit}
 use Rattle.face_orient.specs.Paths.{EndAlike, LeadUpTo}
 use Rattle.face_orient.specs.Steady.{IsSteady}
-use Rattle.face_orient.proofs.Walks.{climb_push, odd_walk}
+use Rattle.orient_certificate.proofs.Walks.{climb_push, odd_walk}
 use Rattle.face_orient.proofs.Floods.{listed_low, all_listed}
 
 pub known_place : (n : ℕ) (cs : List Crossing) (first : Bool) (places : List Place) (order : List ℕ) (f : ℕ) (p : Place) → IsFlood n cs first places order

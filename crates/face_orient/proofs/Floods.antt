@@ -16,9 +16,9 @@ use Rattle.solid_data.proofs.Trail.{leads_last}
 use Rattle.edge_uses.proofs.FirstOf.{LeftIn, left_in_less, left_in_fails, left_in_done}
 use Rattle.edge_uses.proofs.Steps.{default_apart}
 use Rattle.edge_uses.proofs.Tallies.{set_same, set_other}
-use Rattle.face_orient.specs.declared.crossing.Crossing.{Crossing}
+use Rattle.orient_certificate.specs.declared.crossing.Crossing.{Crossing}
 use Rattle.face_orient.specs.declared.flood.Place.{Place}
-use Rattle.face_orient.specs.Crossings.{flipped, IsGraph, Meets}
+use Rattle.orient_certificate.specs.Crossings.{flipped, IsGraph, Meets}
 use Rattle.face_orient.specs.Heads.{Leaves, IsHead, AreHeads}
 use Rattle.face_orient.specs.Flood.{IsFlood, IsDone, IsOrigin, IsChild, Grows, place_of, unreached}
 

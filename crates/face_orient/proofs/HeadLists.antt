@@ -4,8 +4,8 @@ use Rattle.std.proofs.Common.{refl, sym, ◌∙◌, ap, subst, arith, inl, inr, 
 use Rattle.std.proofs.lemmas.Bool.Decides.{eqb_tells}
 use Rattle.std.proofs.lemmas.List.{length-set}
 use Rattle.std.proofs.lemmas.Option.{slice_get_within, same_Some}
-use Rattle.face_orient.specs.declared.crossing.Crossing.{Crossing}
-use Rattle.face_orient.specs.Crossings.{IsGraph}
+use Rattle.orient_certificate.specs.declared.crossing.Crossing.{Crossing}
+use Rattle.orient_certificate.specs.Crossings.{IsGraph}
 use Rattle.edge_uses.proofs.Steps.{default_apart}
 use Rattle.edge_uses.proofs.Tallies.{set_same, set_other}
 use Rattle.face_orient.specs.Heads.{Leaves, IsHead, AreHeads}

@@ -1,15 +1,3 @@
-pub mod Walks
 pub mod HeadLists
 pub mod Floods
-pub mod Places
-pub mod Stepping
 pub mod Climbs
-pub mod Bare
-pub mod Crossed
-pub mod Lawful
-pub mod Answered
-pub mod Apart
-pub mod Digits
-pub mod Lines
-pub mod Worked
-pub mod Tallying

@@ -1,9 +1,9 @@
 -- Private: the faces that are reached so far, with the flag that each must have.
 use Rattle.std.specs.Prelude.{◌≡◌, ◌<◌, ◌+◌, ◌⊎◌, ℕ, Bool, true, false, List, ◌++◌, length, slice_get, Some, get_or}
 use Rattle.solid_data.proofs.Members.{Has, NoRepeat}
-use Rattle.face_orient.specs.declared.crossing.Crossing.{Crossing}
+use Rattle.orient_certificate.specs.declared.crossing.Crossing.{Crossing}
 use Rattle.face_orient.specs.declared.flood.Place.{Place}
-use Rattle.face_orient.specs.Crossings.{flipped, Meets}
+use Rattle.orient_certificate.specs.Crossings.{flipped, Meets}
 
 abbrev pub unreached : Place
 unreached = record { reached = false; flag = false; depth = 0; up = 0 }

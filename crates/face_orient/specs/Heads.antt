@@ -1,6 +1,6 @@
 -- Private: the steps from each face, linked from the first to the last.
 use Rattle.std.specs.Prelude.{◌≡◌, ◌<◌, ◌≤◌, ◌+◌, ℕ, List, length, slice_get, Some, get_or}
-use Rattle.face_orient.specs.declared.crossing.Crossing.{Crossing}
+use Rattle.orient_certificate.specs.declared.crossing.Crossing.{Crossing}
 
 -- step r leads from the face
 abbrev pub Leaves : List Crossing → ℕ → ℕ → Type 0

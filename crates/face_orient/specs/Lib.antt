@@ -1,16 +1,4 @@
-pub mod RuleNames
-pub mod Partners
-pub mod Flags
-pub mod OddRing
-pub mod Outcome
-pub mod Crossings
-pub mod Tally
 pub mod Heads
 pub mod Flood
-pub mod Graph
 pub mod Paths
 pub mod Steady
-pub mod Laws
-pub mod Checked
-pub mod Line
-pub mod Numbers

@@ -1,7 +1,7 @@
 -- Private: two paths up from the faces of a step.
 use Rattle.std.specs.Prelude.{◌≡◌, ℕ, Bool, List, [], ◌∷◌, ◌++◌}
-use Rattle.face_orient.specs.declared.crossing.Crossing.{Crossing}
-use Rattle.face_orient.specs.Crossings.{Climb}
+use Rattle.orient_certificate.specs.declared.crossing.Crossing.{Crossing}
+use Rattle.orient_certificate.specs.Crossings.{Climb}
 
 -- both end with the same row
 pub record EndAlike (down up : List ℕ) : Type 0 where

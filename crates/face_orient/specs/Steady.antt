@@ -1,8 +1,8 @@
 -- Private: whether a step leads from the flag of its face to that of the other face.
 use Rattle.std.specs.Prelude.{◌≡◌, List}
-use Rattle.face_orient.specs.declared.crossing.Crossing.{Crossing}
+use Rattle.orient_certificate.specs.declared.crossing.Crossing.{Crossing}
 use Rattle.face_orient.specs.declared.flood.Place.{Place}
-use Rattle.face_orient.specs.Crossings.{flipped}
+use Rattle.orient_certificate.specs.Crossings.{flipped}
 use Rattle.face_orient.specs.Flood.{place_of}
 
 abbrev pub IsSteady : List Place → Crossing → Type 0

@@ -6,19 +6,18 @@ ghost use Rattle.solid_data.specs.Chain.{LeadsTo};
 ghost use Rattle.solid_data.specs.Obligations.{FirstNot};
 ghost use Rattle.solid_data.specs.Ring.{numbers_from};
 ghost use Rattle.solid_data.proofs.Members.{Has};
-ghost use Rattle.face_orient.specs.declared.crossing.Crossing.{Crossing as AnyCrossing};
+ghost use Rattle.orient_certificate.specs.declared.crossing.Crossing.{Crossing as AnyCrossing};
 ghost use Rattle.face_orient.specs.declared.flood.Place.{Place as AnyPlace};
-ghost use Rattle.face_orient.specs.Crossings.{IsGraph, Meets, flipped};
+ghost use Rattle.orient_certificate.specs.Crossings.{IsGraph, Meets, flipped};
 ghost use Rattle.face_orient.specs.Flood.{IsFlood, IsDone, place_of};
-ghost use Rattle.face_orient.specs.Graph.{IsFound};
+ghost use Rattle.orient_certificate.specs.Graph.{IsFound};
 ghost use Rattle.face_orient.specs.Steady.{IsSteady};
 ghost use Rattle.solid_data.specs.declared.TheConstants.{PART_LIMIT};
 
-use crate::crossing::Crossing;
-use crate::flood::{Flood, flip};
-use crate::lists::{FlagList, Orientation};
+use crate::flood::Flood;
 use crate::ring::ring_of;
 use iges_base::NoMemory;
+use orient_certificate::{Crossing, FlagList, Orientation, flip};
 use solid_data::FaceAt;
 use std::alloc::Global;
 

@@ -6,14 +6,14 @@ ghost use Rattle.solid_data.proofs.Members.{Has};
 ghost use Rattle.solid_data.specs.Chain.{LeadsTo};
 ghost use Rattle.solid_data.specs.Ring.{numbers_from};
 ghost use Rattle.solid_data.specs.Obligations.{FirstNot};
-ghost use Rattle.face_orient.specs.Crossings.{IsGraph, Meets, Walk, flipped};
+ghost use Rattle.orient_certificate.specs.Crossings.{IsGraph, Meets, Walk, flipped};
 ghost use Rattle.face_orient.specs.Heads.{AreHeads};
 ghost use Rattle.face_orient.specs.Flood.{IsFlood, IsDone, Grows, place_of};
 ghost use Rattle.solid_data.specs.declared.TheConstants.{PART_LIMIT};
 
-use crate::crossing::Crossing;
 use crate::heads::{Heads, heads_of};
 use iges_base::NoMemory;
+use orient_certificate::{Crossing, flip};
 use std::alloc::Global;
 
 /// Whether a face is reached, and then the flag that it must have, how many steps lead to it, and the last of these.
@@ -43,12 +43,6 @@ pub struct Flood {
     pub places: Vec<Place>,
     /// The reached faces, from 0, in the order in which they were reached; the first face is the first.
     pub order: Vec<u32>,
-}
-
-pub(crate) fn flip(flips: bool, flag: bool) -> bool
-    ensures { result ≡ flipped flips flag }
-{
-    if flips { !flag } else { flag }
 }
 
 impl Flood {

@@ -1,12 +1,12 @@
 //! The steps from each face.
 
 ghost use Rattle.std.specs.Prelude.{◌≡◌, ◌<◌, length, IfOk};
-ghost use Rattle.face_orient.specs.Crossings.{IsGraph};
+ghost use Rattle.orient_certificate.specs.Crossings.{IsGraph};
 ghost use Rattle.face_orient.specs.Heads.{AreHeads};
 ghost use Rattle.solid_data.specs.declared.TheConstants.{PART_LIMIT};
 
-use crate::crossing::Crossing;
 use iges_base::NoMemory;
+use orient_certificate::Crossing;
 use std::alloc::Global;
 
 /// For each face its first step, and for each step the next one from its face; the number of steps where there is none.

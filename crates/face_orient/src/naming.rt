@@ -2,23 +2,9 @@
 
 ghost use Rattle.std.specs.Prelude.{◌≡◌, Some, slice_get};
 ghost use Rattle.solid_data.specs.declared.solid.FaceUse.{FaceUse as AnyFace};
-ghost use Rattle.solid_data.specs.SolidData.{edge_name};
 
-use crate::fault::{OrientFailing, OrientRule};
-use solid_data::{EdgeId, FaceAt, Shell, Solid};
-
-/// COUNT names the edge list, and the index of the edge in it, from 1.
-pub(crate) fn miscounted(solid: &Solid, edge: EdgeId) -> OrientFailing
-    ensures { let key = edge_name (slice_get solid.now.edges edge.0) in result
-        ≡ record { rule = OrientRule.Count; entity = key.list; place = key.index } }
-{
-    let key = solid.edge_key(edge);
-    OrientFailing {
-        rule: OrientRule::Count,
-        entity: key.list,
-        place: key.index,
-    }
-}
+use orient_certificate::{OrientFailing, OrientRule};
+use solid_data::{FaceAt, Shell};
 
 /// REACH names the face itself.
 pub(crate) fn unreached(shell: &Shell, face: FaceAt) -> OrientFailing

@@ -1,17 +1,15 @@
 //! Flags for the faces of a shell, or a ring that no flags satisfy.
 
 ghost use Rattle.std.specs.Prelude.{◌≡◌, ◌<◌, Bool, List, length, IfOk, IfErr, OnOk};
-ghost use Rattle.face_orient.specs.declared.fault.OrientFailing.{OrientFailing as Named};
-ghost use Rattle.face_orient.specs.Partners.{AllHaveTwoRows, AllReached};
-ghost use Rattle.face_orient.specs.Flags.{rows_at, FlagsFit};
-ghost use Rattle.face_orient.specs.Outcome.{IsOrientation, IsFirstFailing, IsFault, IsNoMemory, FailsSo};
+ghost use Rattle.orient_certificate.specs.declared.fault.OrientFailing.{OrientFailing as Named};
+ghost use Rattle.orient_certificate.specs.Partners.{AllHaveTwoRows, AllReached};
+ghost use Rattle.orient_certificate.specs.Flags.{rows_at, FlagsFit};
+ghost use Rattle.orient_certificate.specs.Outcome.{IsOrientation, IsFirstFailing, IsFault, IsNoMemory, FailsSo};
 
-use crate::fault::OrientFault;
 use crate::finding::{first_unreached, found};
 use crate::flood::Flood;
-use crate::graph::graph_of;
-use crate::lists::Orientation;
 use crate::naming::unreached;
+use orient_certificate::{OrientFault, Orientation, graph_of};
 use solid_data::{ShellAt, Solid};
 use std::alloc::Global;
 

@@ -3,15 +3,15 @@
 ghost use Rattle.std.specs.Prelude.{◌≡◌, ◌≢◌, ◌<◌, ◌++◌, ◌∷◌, [], ℕ, Bool, true, List, length, map, reverse, Some, slice_get, IfOk};
 ghost use Rattle.std.specs.List.{AllByRecursion};
 ghost use Rattle.solid_data.proofs.Members.{Has};
-ghost use Rattle.face_orient.specs.OddRing.{row_numbers};
-ghost use Rattle.face_orient.specs.Crossings.{IsGraph, Climb, IsOddWalk, partner_of, flipped};
+ghost use Rattle.orient_certificate.specs.OddRing.{row_numbers};
+ghost use Rattle.orient_certificate.specs.Crossings.{IsGraph, Climb, IsOddWalk, partner_of, flipped};
 ghost use Rattle.face_orient.specs.Flood.{IsFlood, place_of};
-ghost use Rattle.face_orient.specs.declared.crossing.Crossing.{Crossing as AnyCrossing};
+ghost use Rattle.orient_certificate.specs.declared.crossing.Crossing.{Crossing as AnyCrossing};
 ghost use Rattle.face_orient.specs.Paths.{EndAlike, LeadUpTo};
 
-use crate::crossing::Crossing;
 use crate::flood::Flood;
 use iges_base::NoMemory;
+use orient_certificate::Crossing;
 use solid_data::{RowId, RowList};
 use std::alloc::Global;
 

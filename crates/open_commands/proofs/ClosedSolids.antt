@@ -16,10 +16,10 @@ use Rattle.solid_data.proofs.Members.{Has, Has-from_Contains, Contains-from_Has,
 use Rattle.solid_data.proofs.ObligationLemmas.{AllHold-append, AllHold-append_left, AllHold-append_right}
 use Rattle.edge_uses.specs.ShellRows.{shell_rows}
 use Rattle.shell_rules.specs.Closed.{IsClosedShell, IsClosedSolid}
-use Rattle.open_shells.specs.Sound.{IsBorder, IsSoundShell}
-use Rattle.open_shells.specs.Stand.{shell_of}
-use Rattle.open_shells.proofs.ClosedShells.{closed_is_sound}
-use Rattle.open_shells.proofs.Sound.{hold_of_shell, rows_are}
+use Rattle.open_certificate.specs.Sound.{IsBorder, IsSoundShell}
+use Rattle.open_certificate.specs.Stand.{shell_of}
+use Rattle.open_certificate.proofs.ClosedShells.{closed_is_sound}
+use Rattle.open_certificate.proofs.Sound.{hold_of_shell, rows_are}
 use Rattle.open_commands.specs.Laws.{ShellsHavePlaces, ClosedIsSound}
 
 -- Places hold where fewer numbers were named before.

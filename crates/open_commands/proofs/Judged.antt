@@ -5,10 +5,10 @@ use Rattle.solid_data.specs.SolidData.{SolidData}
 use Rattle.cert_lines.specs.Line.{cut_lines}
 use Rattle.cert_lines.specs.declared.fault.Illegal.{Illegal}
 use Rattle.cert_lines.specs.declared.fault.Illegal.TheVariants.{Missing}
-use Rattle.open_shells.specs.Kept.{KeptChecker, IsAt}
-use Rattle.open_shells.specs.Line.{OpenLine, IsSpelled}
-use Rattle.open_shells.specs.Stand.{stand_from_latest, FitsLine}
-use Rattle.open_shells.specs.Legal.{IsLegalAfter, IsFirstBadAfter, IsBadLine, IsOpenLegal, IsOpenFirstBad}
+use Rattle.open_certificate.specs.Kept.{KeptChecker, IsAt}
+use Rattle.open_certificate.specs.Line.{OpenLine, IsSpelled}
+use Rattle.open_certificate.specs.Stand.{stand_from_latest, FitsLine}
+use Rattle.open_certificate.specs.Legal.{IsLegalAfter, IsFirstBadAfter, IsBadLine, IsOpenLegal, IsOpenFirstBad}
 
 -- Some lines were judged, which all fit: what is legal or bad behind them is so of the whole text.
 pub record IsJudgedSoFar (s : SolidData) (text : List ℕ) (now : KeptChecker) (rest : List ℕ) : Type 0 where

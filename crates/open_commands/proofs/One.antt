@@ -6,8 +6,8 @@ use Rattle.brep_walk.specs.OpenPlaces.{open_places, shell_solid_of}
 use Rattle.command_replies.specs.declared.answer.Answer.TheVariants.{Done, No}
 use Rattle.command_replies.specs.Texts.{fail_line, illegal_line}
 use Rattle.command_replies.proofs.One.{IsOne}
-use Rattle.open_shells.specs.Obligations.{open_obligations}
-use Rattle.open_shells.proofs.Legality.{legal_has_no_bad, one_first_bad, no_first_false, one_first_false_of}
+use Rattle.open_certificate.specs.Obligations.{open_obligations}
+use Rattle.open_certificate.proofs.Legality.{legal_has_no_bad, one_first_bad, no_first_false, one_first_false_of}
 use Rattle.solid_data.proofs.ObligationLemmas.{FirstFalse-one, FirstFalse-not_all}
 use Rattle.open_commands.specs.Checked.{open_checked}
 use Rattle.open_commands.specs.Due.{OfShellLines, open_fail_line, open_misplaced, open_unsound, open_certified, place_fails, line_bad, lines_accepted}

@@ -8,10 +8,10 @@ use Rattle.cert_lines.specs.declared.fault.Illegal.{Illegal}
 use Rattle.cert_lines.specs.declared.fault.Illegal.TheVariants.{Missing}
 use Rattle.cert_lines.specs.declared.fault.Misfit.{Misfit}
 use Rattle.cert_lines.specs.declared.fault.Misfit.TheVariants.{Misspelt, Unfit}
-use Rattle.open_shells.specs.Line.{OpenLine, head, shell, edge, lone, cycle, path, point, reach, border, end, IsSpelled}
-use Rattle.open_shells.specs.Opening.{IsHead, IsShell, NamesShell, IsOf, IsMisfit}
-use Rattle.open_shells.proofs.Spelling.{line_one}
-use Rattle.open_shells.proofs.LinesDecided.{some_line_decided}
+use Rattle.open_certificate.specs.Line.{OpenLine, head, shell, edge, lone, cycle, path, point, reach, border, end, IsSpelled}
+use Rattle.open_certificate.specs.Opening.{IsHead, IsShell, NamesShell, IsOf, IsMisfit}
+use Rattle.open_certificate.proofs.Spelling.{line_one}
+use Rattle.open_certificate.proofs.LinesDecided.{some_line_decided}
 use Rattle.open_commands.specs.Opening.{OpensShell, IsWrong, IsSecondWrong, IsFirstWrong, IsBadOpening}
 
 -- One of these at most.

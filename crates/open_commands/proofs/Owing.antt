@@ -4,8 +4,8 @@ use Rattle.std.proofs.Common.{subst}
 use Rattle.iges_params.specs.Contents.{Contents}
 use Rattle.brep_walk.specs.OpenPlaces.{open_places, shell_solid_of}
 use Rattle.command_replies.specs.declared.answer.Answer.TheVariants.{Done}
-use Rattle.open_shells.specs.Accepted.{IsOpenAccepted}
-use Rattle.open_shells.specs.Obligations.{open_obligations, AllHold as AllRulesHold}
+use Rattle.open_certificate.specs.Accepted.{IsOpenAccepted}
+use Rattle.open_certificate.specs.Obligations.{open_obligations, AllHold as AllRulesHold}
 use Rattle.solid_data.specs.Obligations.{AllHold}
 use Rattle.solid_data.specs.SolidData.{SolidData}
 use Rattle.open_commands.specs.Due.{OfOpen, open_certified}

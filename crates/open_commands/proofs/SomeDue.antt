@@ -8,11 +8,11 @@ use Rattle.cert_lines.specs.declared.fault.Illegal.{Illegal}
 use Rattle.command_replies.specs.declared.answer.Answer.TheVariants.{Done, No, TooLarge}
 use Rattle.command_replies.specs.Texts.{accepted_line, fail_line, illegal_line}
 use Rattle.command_replies.proofs.SomeDue.{IsSome, longer}
-use Rattle.open_shells.specs.Legal.{IsOpenLegal, IsOpenFirstBad}
-use Rattle.open_shells.specs.Obligations.{open_obligations, AllHold as AllRulesHold, FirstFalse as FirstRuleFalse}
-use Rattle.open_shells.specs.declared.verdict.OpenFailing.{OpenFailing}
-use Rattle.open_shells.proofs.LinesDecided.{legal_or_first_bad}
-use Rattle.open_shells.proofs.RulesDecided as rules
+use Rattle.open_certificate.specs.Legal.{IsOpenLegal, IsOpenFirstBad}
+use Rattle.open_certificate.specs.Obligations.{open_obligations, AllHold as AllRulesHold, FirstFalse as FirstRuleFalse}
+use Rattle.open_certificate.specs.declared.verdict.OpenFailing.{OpenFailing}
+use Rattle.open_certificate.proofs.LinesDecided.{legal_or_first_bad}
+use Rattle.open_certificate.proofs.RulesDecided as rules
 use Rattle.solid_data.specs.Obligations.{AllHold, FirstFalse}
 use Rattle.solid_data.specs.declared.verdict.Failing.{Failing}
 use Rattle.solid_data.proofs.Decisions.{Decided, decided_within}

@@ -3,8 +3,8 @@ use Rattle.std.specs.Prelude.{ℕ, List}
 use Rattle.iges_params.specs.Contents.{Contents}
 use Rattle.brep_walk.specs.OpenPlaces.{open_places, shell_solid_of}
 use Rattle.solid_data.specs.Obligations.{AllHold}
-use Rattle.open_shells.specs.Accepted.{AllJoin}
-use Rattle.open_shells.specs.Legal.{IsOpenLegal}
+use Rattle.open_certificate.specs.Accepted.{AllJoin}
+use Rattle.open_certificate.specs.Legal.{IsOpenLegal}
 use Rattle.open_commands.specs.Opening.{OpensShell}
 
 -- The certificate names shell n, whose places hold and whose loops join, and its lines from line 2 on are legal, END the last of them.

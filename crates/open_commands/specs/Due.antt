@@ -6,9 +6,9 @@ use Rattle.cert_lines.specs.declared.fault.Illegal.{Illegal}
 use Rattle.command_replies.specs.Texts.{accepted_line, fail_line, fail_text, illegal_line}
 use Rattle.command_replies.specs.declared.answer.Answer.{Answer}
 use Rattle.command_replies.specs.declared.answer.Answer.TheVariants.{Done, No, TooLarge}
-use Rattle.open_shells.specs.Legal.{IsOpenLegal, IsOpenFirstBad}
-use Rattle.open_shells.specs.Obligations.{rule_name}
-use Rattle.open_shells.specs.declared.verdict.OpenFailing.{OpenFailing}
+use Rattle.open_certificate.specs.Legal.{IsOpenLegal, IsOpenFirstBad}
+use Rattle.open_certificate.specs.Obligations.{rule_name}
+use Rattle.open_certificate.specs.declared.verdict.OpenFailing.{OpenFailing}
 use Rattle.solid_data.specs.Obligations.{AllHold, FirstFalse}
 use Rattle.solid_data.specs.declared.verdict.Failing.{Failing}
 use Rattle.topo_certificate.specs.declared.TheConstants.{CERT_LIMIT}

@@ -7,11 +7,11 @@ use Rattle.brep_walk.specs.OpenPlaces.{open_places, shell_solid_of}
 use Rattle.brep_walk.specs.Places.{places, shells}
 use Rattle.command_replies.specs.declared.answer.Answer.{Answer}
 use Rattle.command_replies.specs.declared.answer.Answer.TheVariants.{No}
-use Rattle.open_shells.specs.Laws.{AreAllBorders, cycle_in}
-use Rattle.open_shells.specs.Legal.{IsOpenLegal}
-use Rattle.open_shells.specs.Line.{OpenLine, IsSpelled}
-use Rattle.open_shells.specs.Sound.{IsBorder}
-use Rattle.open_shells.specs.Stand.{shell_of}
+use Rattle.open_certificate.specs.Laws.{AreAllBorders, cycle_in}
+use Rattle.open_certificate.specs.Legal.{IsOpenLegal}
+use Rattle.open_certificate.specs.Line.{OpenLine, IsSpelled}
+use Rattle.open_certificate.specs.Sound.{IsBorder}
+use Rattle.open_certificate.specs.Stand.{shell_of}
 use Rattle.solid_verdict.specs.Closed.{IsClosed}
 use Rattle.solid_data.specs.Obligations.{AllHold}
 use Rattle.open_commands.specs.Accepted.{IsOpenAcceptedFor}

@@ -4,8 +4,8 @@ use Rattle.iges_params.specs.Contents.{Contents}
 use Rattle.brep_walk.specs.OpenPlaces.{open_places, shell_solid_of}
 use Rattle.solid_data.specs.Obligations.{AllHold, FirstFalse}
 use Rattle.solid_data.specs.declared.verdict.Failing.{Failing}
-use Rattle.open_shells.specs.Obligations.{open_obligations, AllHold as AllRulesHold, FirstFalse as FirstRuleFalse}
-use Rattle.open_shells.specs.declared.verdict.OpenFailing.{OpenFailing}
+use Rattle.open_certificate.specs.Obligations.{open_obligations, AllHold as AllRulesHold, FirstFalse as FirstRuleFalse}
+use Rattle.open_certificate.specs.declared.verdict.OpenFailing.{OpenFailing}
 
 -- It is sound; or a rule on its records fails, or one on the shell that they describe.
 pub data OpenVerdict : Type 0 where

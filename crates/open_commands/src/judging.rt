@@ -2,8 +2,8 @@
 
 ghost use Rattle.std.specs.Prelude.{[], MatchResult};
 ghost use Rattle.cert_lines.specs.Line.{cut_lines};
-ghost use Rattle.open_shells.specs.Kept.{IsAt};
-ghost use Rattle.open_shells.specs.Legal.{IsOpenLegal, IsOpenFirstBad};
+ghost use Rattle.open_certificate.specs.Kept.{IsAt};
+ghost use Rattle.open_certificate.specs.Legal.{IsOpenLegal, IsOpenFirstBad};
 
 use cert_lines::first_line;
 use open_shells::{Illegal, OpenChecker};

@@ -19,10 +19,10 @@ use Rattle.edge_uses.specs.ShellRows.{ShellRows}
 use Rattle.edge_uses.specs.RowRelations.{StartsAt, Turns, AreMates, Follows}
 use Rattle.edge_uses.proofs.Tallies.{set_same, set_other}
 use Rattle.edge_uses.proofs.Turns.{mates_back, follows_apart}
-use Rattle.open_shells.specs.Sound.{IsBorder, IsFanned}
+use Rattle.open_certificate.specs.Sound.{IsBorder, IsFanned}
 use Rattle.open_shells.specs.Mating.{AreOnce}
 use Rattle.open_shells.specs.BorderParts.{Next, IsStartOf, IsLoop}
-use Rattle.open_shells.proofs.Fans.{lone_no_mate}
+use Rattle.open_certificate.proofs.Fans.{lone_no_mate}
 use Rattle.open_shells.proofs.OnceMates.{border_or_mate}
 use Rattle.open_shells.proofs.FanWalks.{turn_apart, turn_same, stays, too_many, trail_more, trail_back, prev_on, each_on, rows_at}
 

@@ -21,25 +21,25 @@ use Rattle.topo_certificate.specs.Stand.{IsMate}
 use Rattle.topo_certificate.proofs.Segment.{AreGoodRows}
 use Rattle.topo_certificate.proofs.Build.{PointsDiffer}
 use Rattle.topo_certificate.proofs.Complete.{any_above}
-use Rattle.open_shells.specs.Sound.{IsBorder, IsBorderCycleOf, IsSoundShell}
-use Rattle.open_shells.specs.Line.{OpenLine, head, shell, end, spelling, HasSpelling}
-use Rattle.open_shells.specs.Stand.{shell_of}
-use Rattle.open_shells.specs.Legal.{IsOpenLegal}
-use Rattle.open_shells.specs.Obligations.{OpenObligation, AllHold, FirstFalse, open_obligations}
-use Rattle.open_shells.specs.Accepted.{IsOpenAccepted}
+use Rattle.open_certificate.specs.Sound.{IsBorder, IsBorderCycleOf, IsSoundShell}
+use Rattle.open_certificate.specs.Line.{OpenLine, head, shell, end, spelling, HasSpelling}
+use Rattle.open_certificate.specs.Stand.{shell_of}
+use Rattle.open_certificate.specs.Legal.{IsOpenLegal}
+use Rattle.open_certificate.specs.Obligations.{OpenObligation, AllHold, FirstFalse, open_obligations}
+use Rattle.open_certificate.specs.Accepted.{IsOpenAccepted}
 use Rattle.open_shells.specs.Certified.{IsOpenCertificate, IsOpenFault, IsNoMemory, FailsSo}
 use Rattle.open_shells.specs.Listed.{AreListedParts}
 use Rattle.open_shells.specs.Mating.{AreOnce}
 use Rattle.open_shells.specs.Reaching.{row_numbers}
 use Rattle.open_shells.specs.BorderParts.{AreBorderCycles, flat, first_in, rows_of_cycle}
-use Rattle.open_shells.specs.Written.{edge_line, corner_line, reach_line, border_line, shell_line, further_lines, open_lines, text_of}
-use Rattle.open_shells.specs.declared.parts.OpenCertificate.{OpenCertificate}
+use Rattle.open_certificate.specs.Written.{edge_line, corner_line, reach_line, border_line, shell_line, further_lines, open_lines, text_of}
+use Rattle.open_certificate.specs.declared.parts.OpenCertificate.{OpenCertificate}
 use Rattle.open_shells.specs.declared.fault.OpenFault.{OpenFault}
 use Rattle.open_shells.specs.declared.fault.OpenFault.TheVariants.{Fails, NoMemory}
-use Rattle.open_shells.specs.declared.verdict.OpenFailing.{OpenFailing}
-use Rattle.open_shells.proofs.Spelling.{cut_spelled}
-use Rattle.open_shells.proofs.Legality.{no_first_false, one_first_false_of}
-use Rattle.open_shells.proofs.Sound.{rows_are, joins_shell, good_shell, shell_from_hold}
+use Rattle.open_certificate.specs.declared.verdict.OpenFailing.{OpenFailing}
+use Rattle.open_certificate.proofs.Spelling.{cut_spelled}
+use Rattle.open_certificate.proofs.Legality.{no_first_false, one_first_false_of}
+use Rattle.open_certificate.proofs.Sound.{rows_are, joins_shell, good_shell, shell_from_hold}
 use Rattle.open_shells.proofs.OpenSizes.{AreSmall, sound_small, points_differ}
 use Rattle.open_shells.proofs.PartsFit.{Follow, follow_legal, follow_spelled, shell_stage, shell_fits, end_fits}
 use Rattle.open_shells.proofs.PartsGo.{LoneOk, edges_go, corners_go, reach_go, borders_go, listed_mates, listed_border}

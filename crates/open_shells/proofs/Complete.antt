@@ -8,20 +8,20 @@ use Rattle.solid_data.specs.Numbering.{IsNumberedSolid}
 use Rattle.solid_data.specs.declared.solid.Shell.{Shell}
 use Rattle.solid_data.proofs.Members.{Has}
 use Rattle.edge_uses.specs.ShellRows.{ShellRows, shell_rows}
-use Rattle.shell_rules.specs.Closed.{IsReached}
+use Rattle.edge_uses.specs.Around.{IsReached}
 use Rattle.edge_uses.proofs.RowLemmas.{ends_meet}
 use Rattle.edge_uses.proofs.Whole.{are_rows}
 use Rattle.topo_certificate.proofs.PointOrder.{faces_of_rows}
-use Rattle.open_shells.specs.Sound.{IsSoundShell}
-use Rattle.open_shells.specs.Stand.{shell_of}
-use Rattle.open_shells.specs.Obligations.{AllHold, open_obligations}
-use Rattle.open_shells.specs.Accepted.{IsOpenAccepted}
+use Rattle.open_certificate.specs.Sound.{IsSoundShell}
+use Rattle.open_certificate.specs.Stand.{shell_of}
+use Rattle.open_certificate.specs.Obligations.{AllHold, open_obligations}
+use Rattle.open_certificate.specs.Accepted.{IsOpenAccepted}
 use Rattle.open_shells.specs.Listed.{AreListedParts}
-use Rattle.open_shells.specs.Laws.{SoundExactlyWhereAccepted}
+use Rattle.open_certificate.specs.Laws.{SoundExactlyWhereAccepted}
 use Rattle.open_shells.specs.Mating.{AreOnce}
-use Rattle.open_shells.specs.Written.{open_lines, text_of}
-use Rattle.open_shells.specs.declared.parts.OpenCertificate.{OpenCertificate}
-use Rattle.open_shells.proofs.Sound.{rows_are, shell_from_hold, accepted_is_sound}
+use Rattle.open_certificate.specs.Written.{open_lines, text_of}
+use Rattle.open_certificate.specs.declared.parts.OpenCertificate.{OpenCertificate}
+use Rattle.open_certificate.proofs.Sound.{rows_are, shell_from_hold, accepted_is_sound}
 use Rattle.open_shells.proofs.PartsMade.{edges_made, corners_made, reach_made, borders_made}
 use Rattle.open_shells.proofs.Certifying.{certificate_made, certificate_accepted}
 

@@ -7,22 +7,22 @@ use Rattle.solid_data.specs.Chain.{Steps, LeadsTo}
 use Rattle.edge_uses.specs.declared.row.Row.{Row}
 use Rattle.edge_uses.specs.ShellRows.{ShellRows}
 use Rattle.edge_uses.specs.RowRelations.{StartsAt, Turns, AreMates, point_count}
-use Rattle.shell_rules.specs.Closed.{IsPoint}
+use Rattle.edge_uses.specs.Around.{IsPoint}
 use Rattle.solid_data.proofs.Members.{Has, NoRepeat, covers, no_longer, count_by-total, All-from, has_last}
 use Rattle.solid_data.proofs.Trail.{Trail, trail_keeps, no_repeat, leads_to, leads_on, leads_trans}
 use Rattle.solid_data.specs.declared.solid.VertexId.{VertexId}
 use Rattle.edge_uses.proofs.Cycle.{on_trail, zip_from_trail}
 use Rattle.edge_uses.proofs.Turns.{mates_back, follows_apart}
 use Rattle.edge_uses.proofs.RowNumbers.{starting, length-starting, starting_has, starting_none, starting_is}
-use Rattle.open_shells.specs.Sound.{IsBorder, IsFan, IsFanned}
-use Rattle.open_shells.specs.Stand.{IsChain, last_of}
+use Rattle.open_certificate.specs.Sound.{IsBorder, IsFan, IsFanned}
+use Rattle.open_certificate.specs.Stand.{IsChain, last_of}
 use Rattle.open_shells.specs.Mating.{AreOnce}
 use Rattle.open_shells.specs.FanParts.{IsCycle, IsPath, IsCycleOf, IsPathOf, IsHeadOf}
 use Rattle.shell_tables.specs.Starting.{AreStarts, ArePoints}
 use Rattle.shell_tables.specs.declared.starting.Starts.{Starts}
 use Rattle.shell_tables.specs.declared.starting.Points.{Points}
 use Rattle.open_shells.proofs.OnceMates.{row_once}
-use Rattle.open_shells.proofs.Fans.{one_mate_of, lone_no_mate, chain_no_repeat, chain_leads}
+use Rattle.open_certificate.proofs.Fans.{one_mate_of, lone_no_mate, chain_no_repeat, chain_leads}
 
 -- Turning leads from a row to one row, and to a row from one row, at one vertex.
 

@@ -11,7 +11,7 @@ use Rattle.solid_data.specs.Chain.{Steps}
 use Rattle.solid_data.specs.Ring.{numbers_from}
 use Rattle.edge_uses.specs.ShellRows.{ShellRows}
 use Rattle.edge_uses.specs.RowRelations.{AreMates, OnFace}
-use Rattle.shell_rules.specs.Closed.{AreNeighbours, IsReached}
+use Rattle.edge_uses.specs.Around.{AreNeighbours, IsReached}
 use Rattle.open_shells.specs.Mating.{AreOnce}
 use Rattle.solid_data.proofs.Members.{Has, NoRepeat, Contains-from_Has, Has-from_Contains, no_longer, All-at, has_left, has_right, rises_none, has_last}
 use Rattle.solid_data.proofs.Members.{has_reverse}
@@ -21,8 +21,8 @@ use Rattle.edge_uses.proofs.Steps.{default_apart}
 use Rattle.solid_data.proofs.Occurring.{numbers_rise, length-numbers, number_get, number_within}
 use Rattle.solid_data.proofs.Trail.{leads_last}
 use Rattle.open_shells.proofs.OnceMates.{row_once}
-use Rattle.open_shells.proofs.Fans.{one_mate_of, lone_no_mate}
-use Rattle.open_shells.specs.Sound.{IsBorder}
+use Rattle.open_certificate.proofs.Fans.{one_mate_of, lone_no_mate}
+use Rattle.open_certificate.specs.Sound.{IsBorder}
 use Rattle.edge_uses.proofs.Tallies.{set_same, set_other}
 use Rattle.edge_uses.proofs.Turns.{mates_back}
 use Rattle.open_shells.specs.Reaching.{ReachesOne, ReachFrom, ReachesAll}

@@ -7,7 +7,7 @@ use Rattle.edge_uses.specs.Ranges.{IsWithin, IsSpanOf}
 use Rattle.edge_uses.specs.ShellRows.{ShellRows, AreRows}
 use Rattle.edge_uses.specs.RowRelations.{AreMates, Follows}
 use Rattle.edge_uses.specs.declared.row.Row.{Row}
-use Rattle.open_shells.specs.Sound.{IsBorder}
+use Rattle.open_certificate.specs.Sound.{IsBorder}
 use Rattle.open_shells.specs.Mating.{AreOnce}
 use Rattle.open_shells.specs.FanParts.{IsHeadOf, AreHeadCells}
 use Rattle.open_shells.specs.BorderParts.{IsStartOf, AreBorderCells}

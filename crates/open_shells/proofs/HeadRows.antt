@@ -12,10 +12,10 @@ use Rattle.edge_uses.specs.ShellRows.{ShellRows}
 use Rattle.edge_uses.specs.RowRelations.{AreMates, Follows}
 use Rattle.edge_uses.proofs.Tallies.{set_same, set_other}
 use Rattle.edge_uses.proofs.Turns.{mates_back, follows_apart, follows_onto}
-use Rattle.open_shells.specs.Sound.{IsBorder}
+use Rattle.open_certificate.specs.Sound.{IsBorder}
 use Rattle.open_shells.specs.Mating.{AreOnce}
 use Rattle.open_shells.specs.FanParts.{IsHeadOf}
-use Rattle.open_shells.proofs.Fans.{lone_no_mate}
+use Rattle.open_certificate.proofs.Fans.{lone_no_mate}
 
 abbrev pub EndsAt : ShellRows → ℕ → ℕ → Type 0
 EndsAt d v p = (row : Row) × (slice_get d.rows p ≡ Some row) × (row.to.0 ≡ v)

@@ -1,19 +1,3 @@
-pub mod Spelling
-pub mod Texts
-pub mod Legality
-pub mod RowWords
-pub mod PathWalks
-pub mod BorderWalks
-pub mod PathFits
-pub mod Marks
-pub mod Telling
-pub mod Checking
-pub mod Once
-pub mod Fans
-pub mod Facts
-pub mod OpenLists
-pub mod Sound
-pub mod Borders
 pub mod OnceMates
 pub mod Floods
 pub mod FanWalks
@@ -28,7 +12,4 @@ pub mod PartsGo
 pub mod Certifying
 pub mod PartsMade
 pub mod Complete
-pub mod LinesDecided
-pub mod RulesDecided
-pub mod ClosedShells
 pub mod HeadCells

@@ -19,9 +19,9 @@ use Rattle.edge_uses.specs.Tally.{IsSeen, IsTally, unseen}
 use Rattle.edge_uses.proofs.Counting.{counts_of_edge}
 use Rattle.edge_uses.proofs.FirstOf.{LeftIn}
 use Rattle.edge_uses.proofs.Turn.{edge_id, row_of_edge_along, row_of_edge_against}
-use Rattle.open_shells.specs.Sound.{IsOnce, IsBorder, row_total}
+use Rattle.open_certificate.specs.Sound.{IsOnce, IsBorder, row_total}
 use Rattle.open_shells.specs.Mating.{IsMateOf, AreOnce}
-use Rattle.open_shells.proofs.Once.{OnceRows, total_uses}
+use Rattle.open_certificate.proofs.Once.{OnceRows, total_uses}
 
 -- What is shown of those left is shown of all, one more.
 

@@ -15,17 +15,18 @@ use Rattle.solid_data.proofs.Members.{Has, Contains-from_Has}
 use Rattle.solid_data.proofs.ObligationLemmas.{FirstFalse-append_front, FirstFalse-append_rest}
 use Rattle.edge_uses.specs.ShellRows.{ShellRows, shell_rows}
 use Rattle.edge_uses.specs.Joins.{IsJoined, loop_obligations, IsFirstUnjoined, join_obligations}
-use Rattle.shell_rules.specs.Closed.{IsReached}
+use Rattle.edge_uses.specs.Around.{IsReached}
 use Rattle.shell_rules.specs.ShellObligations.{reach_obligations}
 use Rattle.edge_uses.proofs.JoinLemmas.{hold_from_joined}
-use Rattle.open_shells.specs.Sound.{IsOnce, IsFanned}
-use Rattle.open_shells.specs.Obligations.{OpenObligation, AllHold, FirstFalse, open_failing, as_open, edge_obligation, fan_obligation, open_shell_obligations}
+use Rattle.open_certificate.specs.Sound.{IsOnce, IsFanned}
+use Rattle.open_certificate.specs.Obligations.{OpenObligation, AllHold, FirstFalse, open_failing, as_open, edge_obligation, fan_obligation}
+use Rattle.open_certificate.specs.Obligations.{open_shell_obligations}
 use Rattle.open_shells.specs.Certified.{IsOpenFault}
 use Rattle.open_shells.specs.declared.fault.OpenFault.{OpenFault}
 use Rattle.open_shells.specs.declared.fault.OpenFault.TheVariants.{Fails, NoMemory}
-use Rattle.open_shells.specs.declared.verdict.OpenFailing.{OpenFailing}
-use Rattle.open_shells.specs.declared.verdict.OpenRule.TheVariants.{Join, Reach}
-use Rattle.open_shells.proofs.OpenLists.{hold_append, false_front, false_rest, hold_map, first_map, as_open_hold, as_open_false}
+use Rattle.open_certificate.specs.declared.verdict.OpenFailing.{OpenFailing}
+use Rattle.open_certificate.specs.declared.verdict.OpenRule.TheVariants.{Join, Reach}
+use Rattle.open_certificate.proofs.OpenLists.{hold_append, false_front, false_rest, hold_map, first_map, as_open_hold, as_open_false}
 use Rattle.open_shells.proofs.Placed.{IsPlace}
 
 abbrev pub failing : Rule → ℕ → ℕ → Failing

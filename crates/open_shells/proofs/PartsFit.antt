@@ -12,13 +12,13 @@ use Rattle.edge_uses.specs.declared.row.Row.{Row}
 use Rattle.edge_uses.specs.RowRelations.{point_count}
 use Rattle.cert_lines.specs.Written.{row_number}
 use Rattle.topo_certificate.specs.Stand.{IsAbove, first_of, row_named, row_edge, row_start, row_face, point_named, start_count, IsMate, TurnsTo}
-use Rattle.open_shells.specs.Line.{OpenLine, shell, edge, lone, cycle, path, point, reach, border, end, spelling, HasSpelling}
-use Rattle.open_shells.specs.Stand.{stand_from_latest, shell_of, is_shell, is_edge, is_corner, is_reach, is_border, is_last, number_of, asked, mates_in}
-use Rattle.open_shells.specs.Stand.{lone_in, edge_in, vertex_in, face_in, border_in, border_rows, FitsLine, IsChain, last_of, GoesOnTo}
-use Rattle.open_shells.specs.Legal.{IsLegalAfter}
-use Rattle.open_shells.specs.Written.{edge_line}
+use Rattle.open_certificate.specs.Line.{OpenLine, shell, edge, lone, cycle, path, point, reach, border, end, spelling, HasSpelling}
+use Rattle.open_certificate.specs.Stand.{stand_from_latest, shell_of, is_shell, is_edge, is_corner, is_reach, is_border, is_last, number_of, asked, mates_in}
+use Rattle.open_certificate.specs.Stand.{lone_in, edge_in, vertex_in, face_in, border_in, border_rows, FitsLine, IsChain, last_of, GoesOnTo}
+use Rattle.open_certificate.specs.Legal.{IsLegalAfter}
+use Rattle.open_certificate.specs.Written.{edge_line}
 use Rattle.open_shells.specs.Reaching.{row_numbers}
-use Rattle.open_shells.specs.declared.parts.OpenEdge.TheVariants.{Two}
+use Rattle.open_certificate.specs.declared.parts.OpenEdge.TheVariants.{Two}
 
 -- Behind the lines before, the latest first: each line is spelled and fits, and the last is END.
 abbrev pub Follow : SolidData → List OpenLine → List OpenLine → Type 0

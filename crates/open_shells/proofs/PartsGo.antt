@@ -20,20 +20,20 @@ use Rattle.cert_lines.specs.Line.{IsShort}
 use Rattle.topo_certificate.specs.Stand.{IsAbove, first_of, row_named, row_start, row_face, point_named, start_count, IsMate, TurnsTo}
 use Rattle.topo_certificate.proofs.Segment.{AreGoodRows, row_has}
 use Rattle.topo_certificate.proofs.Build.{MatedAt, PointsDiffer, zip_suc, map-suc-append, above_suc, find_some, none_start}
-use Rattle.open_shells.specs.Sound.{row_total, IsBorder, IsOnce, GoesOn, IsBorderCycle, IsBorderCycleOf}
-use Rattle.open_shells.specs.Line.{OpenLine, edge, lone, cycle, path, point, reach, border}
-use Rattle.open_shells.specs.Stand.{shell_of, IsChain, last_of, GoesOnTo}
-use Rattle.open_shells.specs.Written.{edge_line, corner_line, reach_line, border_line}
+use Rattle.open_certificate.specs.Sound.{row_total, IsBorder, IsOnce, GoesOn, IsBorderCycle, IsBorderCycleOf}
+use Rattle.open_certificate.specs.Line.{OpenLine, edge, lone, cycle, path, point, reach, border}
+use Rattle.open_certificate.specs.Stand.{shell_of, IsChain, last_of, GoesOnTo}
+use Rattle.open_certificate.specs.Written.{edge_line, corner_line, reach_line, border_line}
 use Rattle.open_shells.specs.Mating.{AreRowsOf, AreOnce}
 use Rattle.open_shells.specs.FanParts.{LiesAt, IsCycle, IsPath}
 use Rattle.open_shells.specs.Reaching.{ReachFrom, ReachesOne, row_numbers}
 use Rattle.open_shells.specs.BorderParts.{flat, first_in}
-use Rattle.open_shells.specs.declared.parts.OpenEdge.{OpenEdge}
-use Rattle.open_shells.specs.declared.parts.OpenEdge.TheVariants.{One, Two}
-use Rattle.open_shells.specs.declared.parts.OpenCorner.{OpenCorner}
-use Rattle.open_shells.specs.declared.parts.OpenCorner.TheVariants.{Cycle, Path, Point}
-use Rattle.open_shells.proofs.Once.{total_uses}
-use Rattle.open_shells.proofs.Fans.{one_mate_of, lone_no_mate, both_ways_counted, counted_way}
+use Rattle.open_certificate.specs.declared.parts.OpenEdge.{OpenEdge}
+use Rattle.open_certificate.specs.declared.parts.OpenEdge.TheVariants.{One, Two}
+use Rattle.open_certificate.specs.declared.parts.OpenCorner.{OpenCorner}
+use Rattle.open_certificate.specs.declared.parts.OpenCorner.TheVariants.{Cycle, Path, Point}
+use Rattle.open_certificate.proofs.Once.{total_uses}
+use Rattle.open_certificate.proofs.Fans.{one_mate_of, lone_no_mate, both_ways_counted, counted_way}
 use Rattle.open_shells.proofs.OnceMates.{row_once}
 use Rattle.open_shells.proofs.OpenSizes.{AreSmall}
 use Rattle.open_shells.proofs.PartsFit.{Follow, Stage, one_more, named_rows, edge_named, edge_fits, edge_stage, lone_fits, lone_stage, cycle_fits, cycle_stage}

@@ -16,21 +16,21 @@ use Rattle.solid_data.proofs.Trail.{trail_keeps}
 use Rattle.edge_uses.specs.declared.row.Row.{Row}
 use Rattle.edge_uses.specs.ShellRows.{ShellRows}
 use Rattle.edge_uses.specs.RowRelations.{AreMates, Turns, StartsAt, OnFace}
-use Rattle.shell_rules.specs.Closed.{AreNeighbours, IsReached}
+use Rattle.edge_uses.specs.Around.{AreNeighbours, IsReached}
 use Rattle.edge_uses.proofs.Counting.{found_row}
 use Rattle.edge_uses.proofs.Cycle.{same_or_not}
 use Rattle.edge_uses.proofs.Turns.{mates_back, follows_onto}
 use Rattle.topo_certificate.proofs.Build.{found_point}
-use Rattle.open_shells.specs.Sound.{IsBorder, IsOnce, IsFan, IsFanned}
+use Rattle.open_certificate.specs.Sound.{IsBorder, IsOnce, IsFan, IsFanned}
 use Rattle.open_shells.specs.Mating.{AreRowsOf, AreOnce}
 use Rattle.open_shells.specs.FanParts.{LiesAt, IsCycleOf, IsPathOf, IsHeadOf}
 use Rattle.open_shells.specs.Reaching.{ReachFrom, ReachesOne, ReachesAll, row_numbers}
 use Rattle.open_shells.specs.BorderParts.{Next, IsLoop, flat, AreBorderCycles, IsBordering}
-use Rattle.open_shells.specs.declared.parts.OpenEdge.{OpenEdge}
-use Rattle.open_shells.specs.declared.parts.OpenEdge.TheVariants.{One, Two}
-use Rattle.open_shells.specs.declared.parts.OpenCorner.{OpenCorner}
-use Rattle.open_shells.specs.declared.parts.OpenCorner.TheVariants.{Cycle, Path, Point}
-use Rattle.open_shells.proofs.Fans.{lone_no_mate}
+use Rattle.open_certificate.specs.declared.parts.OpenEdge.{OpenEdge}
+use Rattle.open_certificate.specs.declared.parts.OpenEdge.TheVariants.{One, Two}
+use Rattle.open_certificate.specs.declared.parts.OpenCorner.{OpenCorner}
+use Rattle.open_certificate.specs.declared.parts.OpenCorner.TheVariants.{Cycle, Path, Point}
+use Rattle.open_certificate.proofs.Fans.{lone_no_mate}
 use Rattle.open_shells.proofs.OnceMates.{border_or_mate}
 use Rattle.open_shells.proofs.FanWalks.{turn_same, rows_at, at_listed, listed_at, counted_rows, Walked, walked_more, back_early, not_back, back_in_time}
 use Rattle.open_shells.proofs.FanWalks.{path_whole, Begins, path_short, back_least}

@@ -8,7 +8,7 @@ use Rattle.edge_uses.specs.Cells.{Celled}
 use Rattle.edge_uses.specs.Ranges.{IsWithin, IsSpanOf}
 use Rattle.edge_uses.specs.ShellRows.{ShellRows}
 use Rattle.edge_uses.specs.RowRelations.{StartsAt}
-use Rattle.open_shells.specs.Sound.{IsBorder, IsBorderCycleOf, GoesOn}
+use Rattle.open_certificate.specs.Sound.{IsBorder, IsBorderCycleOf, GoesOn}
 
 -- from a border row to the border row that starts where it ends
 abbrev pub Next : ShellRows → ℕ → ℕ → Type 0

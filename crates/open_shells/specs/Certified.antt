@@ -2,12 +2,12 @@
 use Rattle.std.specs.Prelude.{◌≡◌, List, ⊤, map, Result, Ok, Err}
 use Rattle.std.specs.List.{AllByRecursion}
 use Rattle.solid_data.specs.SolidData.{SolidData}
-use Rattle.open_shells.specs.Line.{spelling, HasSpelling}
-use Rattle.open_shells.specs.Legal.{IsOpenLegal}
-use Rattle.open_shells.specs.Written.{further_lines, open_lines}
-use Rattle.open_shells.specs.Obligations.{OpenObligation, FirstFalse}
-use Rattle.open_shells.specs.declared.verdict.OpenFailing.{OpenFailing}
-use Rattle.open_shells.specs.declared.parts.OpenCertificate.{OpenCertificate}
+use Rattle.open_certificate.specs.Line.{spelling, HasSpelling}
+use Rattle.open_certificate.specs.Legal.{IsOpenLegal}
+use Rattle.open_certificate.specs.Written.{further_lines, open_lines}
+use Rattle.open_certificate.specs.Obligations.{OpenObligation, FirstFalse}
+use Rattle.open_certificate.specs.declared.verdict.OpenFailing.{OpenFailing}
+use Rattle.open_certificate.specs.declared.parts.OpenCertificate.{OpenCertificate}
 use Rattle.open_shells.specs.declared.fault.OpenFault.{OpenFault}
 use Rattle.open_shells.specs.declared.fault.OpenFault.TheVariants.{Fails, NoMemory}
 

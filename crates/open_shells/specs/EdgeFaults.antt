@@ -2,7 +2,7 @@
 use Rattle.std.specs.Prelude.{⊤}
 use Rattle.solid_data.specs.Obligations.{FirstNot}
 use Rattle.edge_uses.specs.ShellRows.{ShellRows}
-use Rattle.open_shells.specs.Sound.{IsOnce}
+use Rattle.open_certificate.specs.Sound.{IsOnce}
 use Rattle.open_shells.specs.declared.mated.EdgeFault.{EdgeFault}
 use Rattle.open_shells.specs.declared.mated.EdgeFault.TheVariants.{NotOnce, NoMemory}
 

@@ -8,13 +8,13 @@ use Rattle.edge_uses.specs.Cells.{Celled}
 use Rattle.edge_uses.specs.Ranges.{IsWithin, IsSpanOf}
 use Rattle.edge_uses.specs.ShellRows.{ShellRows}
 use Rattle.edge_uses.specs.RowRelations.{StartsAt, Turns, point_count}
-use Rattle.shell_rules.specs.Closed.{IsPoint}
+use Rattle.edge_uses.specs.Around.{IsPoint}
 use Rattle.topo_certificate.specs.Stand.{start_count}
-use Rattle.open_shells.specs.Sound.{IsBorder, IsFanned}
-use Rattle.open_shells.specs.Stand.{IsChain, last_of}
+use Rattle.open_certificate.specs.Sound.{IsBorder, IsFanned}
+use Rattle.open_certificate.specs.Stand.{IsChain, last_of}
 use Rattle.open_shells.specs.Reaching.{row_numbers}
-use Rattle.open_shells.specs.declared.parts.OpenCorner.{OpenCorner}
-use Rattle.open_shells.specs.declared.parts.OpenCorner.TheVariants.{Cycle, Path, Point}
+use Rattle.open_certificate.specs.declared.parts.OpenCorner.{OpenCorner}
+use Rattle.open_certificate.specs.declared.parts.OpenCorner.TheVariants.{Cycle, Path, Point}
 use Rattle.open_shells.specs.declared.fanning.FanFault.{FanFault}
 use Rattle.open_shells.specs.declared.fanning.FanFault.TheVariants.{NotFanned, NoMemory}
 

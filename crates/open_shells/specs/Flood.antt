@@ -1,7 +1,7 @@
 -- Private: the faces that are reached so far.
 use Rattle.std.specs.Prelude.{◌≡◌, ℕ, suc, Bool, true, false, List, [], ◌∷◌, ◌++◌, length, reverse, get_or}
 use Rattle.edge_uses.specs.ShellRows.{ShellRows}
-use Rattle.shell_rules.specs.Closed.{IsReached, AreNeighbours}
+use Rattle.edge_uses.specs.Around.{IsReached, AreNeighbours}
 use Rattle.solid_data.proofs.Members.{Has, NoRepeat}
 use Rattle.open_shells.specs.Reaching.{ReachFrom}
 

@@ -1,14 +1,4 @@
-pub mod Sound
-pub mod Obligations
-pub mod Line
-pub mod Stand
-pub mod Legal
-pub mod Opening
-pub mod Said
-pub mod Written
 pub mod Certified
-pub mod Kept
-pub mod Walks
 pub mod Mating
 pub mod EdgeFaults
 pub mod ReachFaults
@@ -17,6 +7,3 @@ pub mod Flood
 pub mod FanParts
 pub mod BorderParts
 pub mod Listed
-pub mod Accepted
-pub mod Laws
-pub use Rattle.cert_lines.specs.Numbers

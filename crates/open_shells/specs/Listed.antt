@@ -7,8 +7,8 @@ use Rattle.open_shells.specs.Mating.{AreRowsOf}
 use Rattle.open_shells.specs.FanParts.{LiesAt}
 use Rattle.open_shells.specs.BorderParts.{AreBorderCycles}
 use Rattle.open_shells.specs.Reaching.{ReachesAll, row_numbers}
-use Rattle.open_shells.specs.declared.parts.OpenEdge.{OpenEdge}
-use Rattle.open_shells.specs.declared.parts.OpenCorner.{OpenCorner}
+use Rattle.open_certificate.specs.declared.parts.OpenEdge.{OpenEdge}
+use Rattle.open_certificate.specs.declared.parts.OpenCorner.{OpenCorner}
 
 -- The rows of each edge, what lies at each vertex, both by rising number, rows that reach the faces, and the cycles of border rows.
 pub record AreListedParts (d : ShellRows) (edges : List OpenEdge) (corners : List OpenCorner) (reach : List RowId) (borders : List (List RowId)) : Type 0 where

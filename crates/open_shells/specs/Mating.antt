@@ -5,9 +5,9 @@ use Rattle.solid_data.specs.declared.solid.RowId.{RowId}
 use Rattle.edge_uses.specs.ShellRows.{ShellRows, AreRows, EndsMeet}
 use Rattle.edge_uses.specs.RowRelations.{AreMates}
 use Rattle.edge_uses.specs.Mates.{RunsOn}
-use Rattle.open_shells.specs.Sound.{row_total, IsBorder, IsOnce}
-use Rattle.open_shells.specs.declared.parts.OpenEdge.{OpenEdge}
-use Rattle.open_shells.specs.declared.parts.OpenEdge.TheVariants.{One, Two}
+use Rattle.open_certificate.specs.Sound.{row_total, IsBorder, IsOnce}
+use Rattle.open_certificate.specs.declared.parts.OpenEdge.{OpenEdge}
+use Rattle.open_certificate.specs.declared.parts.OpenEdge.TheVariants.{One, Two}
 
 -- the only row of the edge, or a row along it and a row against it
 abbrev pub AreRowsOf : ShellRows → ℕ → OpenEdge → Type 0

@@ -5,7 +5,7 @@ use Rattle.solid_data.specs.Ring.{numbers_from}
 use Rattle.solid_data.specs.declared.solid.RowId.{RowId}
 use Rattle.edge_uses.specs.ShellRows.{ShellRows}
 use Rattle.edge_uses.specs.RowRelations.{AreMates, OnFace}
-use Rattle.shell_rules.specs.Closed.{IsReached}
+use Rattle.edge_uses.specs.Around.{IsReached}
 
 -- The row lies on a new face, and its mate on one that is known.
 pub record ReachesOne (d : ShellRows) (known : List ℕ) (r face : ℕ) : Type 0 where

@@ -4,16 +4,16 @@ ghost use Rattle.std.specs.Prelude.{◌≡◌, ◌<◌, ◌+◌, ◌↔◌, ◌�
 ghost use Rattle.solid_data.proofs.Members.{Has};
 ghost use Rattle.solid_data.specs.declared.solid.RowId.{RowId as AnyRowId};
 ghost use Rattle.std.specs.List.{AllByRecursion};
-ghost use Rattle.open_shells.specs.Sound.{IsBorder, IsFanned};
+ghost use Rattle.open_certificate.specs.Sound.{IsBorder, IsFanned};
 ghost use Rattle.open_shells.specs.Mating.{AreOnce};
 ghost use Rattle.open_shells.specs.Reaching.{row_numbers};
 ghost use Rattle.open_shells.specs.BorderParts.{Next, AreBorderCells, IsLoop, IsBordering, AreBorderCycles};
 
 use crate::heads::note;
 use crate::mated::Mated;
-use crate::parts::Borders;
 use edge_uses::{Cells, row_at};
 use iges_base::NoMemory;
+use open_certificate::Borders;
 use solid_data::{RowId, RowList};
 use std::alloc::Global;
 

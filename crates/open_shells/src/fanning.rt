@@ -5,16 +5,16 @@ ghost use Rattle.std.specs.List.{AllByRecursion, AllZip};
 ghost use Rattle.edge_uses.specs.RowRelations.{point_count};
 ghost use Rattle.edge_uses.specs.Ranges.{IsWithin};
 ghost use Rattle.edge_uses.specs.ShellRows.{ShellRows};
-ghost use Rattle.open_shells.specs.Sound.{IsFan, IsFanned};
+ghost use Rattle.open_certificate.specs.Sound.{IsFan, IsFanned};
 ghost use Rattle.open_shells.specs.Mating.{AreOnce};
 ghost use Rattle.shell_tables.specs.Starting.{AreStarts, ArePoints, AreStartCells, ArePointCells};
 ghost use Rattle.open_shells.specs.FanParts.{LiesAt, IsFanFault, IsHeadOf, AreHeadCells};
 
 use crate::heads::heads_of;
 use crate::mated::Mated;
-use crate::parts::{OpenCorner, OpenCorners};
 use edge_uses::{Cells, vertex_at};
 use iges_base::NoMemory;
+use open_certificate::{OpenCorner, OpenCorners};
 use shell_tables::{Points, Starts, all_points, all_starts, points_at, starts_at};
 use solid_data::{RowId, RowList, VertexId};
 use std::alloc::Global;

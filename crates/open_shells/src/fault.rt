@@ -1,7 +1,7 @@
 //! Why no certificate was made.
 
-use crate::verdict::OpenFailing;
 use iges_base::NoMemory;
+use open_certificate::OpenFailing;
 
 /// Why no certificate of an open shell was made.
 #[derive(Clone, Copy, Debug, PartialEq, Eq)]

@@ -3,7 +3,7 @@
 ghost use Rattle.std.specs.Prelude.{◌≡◌, ◌<◌, Contains, Some, None, length, IfOk, MatchOption};
 ghost use Rattle.edge_uses.specs.Cells.{with_cell};
 ghost use Rattle.edge_uses.specs.RowRelations.{Follows};
-ghost use Rattle.open_shells.specs.Sound.{IsBorder};
+ghost use Rattle.open_certificate.specs.Sound.{IsBorder};
 ghost use Rattle.open_shells.specs.Mating.{AreOnce};
 ghost use Rattle.open_shells.specs.FanParts.{AreHeadCells};
 

@@ -1,4 +1,4 @@
-//! Certificates of open shells: which are legal, a checker that judges each line by itself, and the maker.
+//! The maker of certificates of open shells; it passes on what checks them.
 //!
 //! A row is a use of an edge by a loop (a coedge or half-edge). In an open shell an edge has two rows, one along it and one
 //! against it, which are mates; or it has one, which is a border row. A turn leads from a row to the next one about the
@@ -6,10 +6,8 @@
 #![tactic(auto)]
 
 mod bordering;
-mod checker;
 mod fanning;
 mod fault;
-mod fitting;
 mod flood;
 mod heads;
 mod judging;
@@ -18,23 +16,13 @@ mod making;
 mod mated;
 mod mating;
 mod naming;
-mod opening;
-mod parts;
 mod reaching;
-mod state;
-mod verdict;
-mod words;
-mod writing;
 
-pub use checker::OpenChecker;
 pub use fault::OpenFault;
-pub use law::{
-    borders_are_cycles, closed_is_sound, legal_or_first_bad, one_first_false, one_line,
-    sound_exactly_where_accepted, soundness,
-};
+pub use law::sound_exactly_where_accepted;
 pub use making::open_certify;
-pub use opening::{open_head, shell_number};
-pub use parts::{Borders, OpenCertificate, OpenCorner, OpenCorners, OpenEdge, OpenEdges};
-pub use topo_certificate::{Illegal, Misfit, ReachRows};
-pub use verdict::{OpenFailing, OpenRule};
-pub use writing::write_open;
+pub use open_certificate::{
+    Borders, Illegal, Misfit, OpenCertificate, OpenChecker, OpenCorner, OpenCorners, OpenEdge,
+    OpenEdges, OpenFailing, OpenRule, ReachRows, borders_are_cycles, closed_is_sound,
+    legal_or_first_bad, one_first_false, one_line, open_head, shell_number, soundness, write_open,
+};

@@ -3,20 +3,20 @@
 ghost use Rattle.std.specs.Prelude.{◌≡◌, Some, IfOk, IfErr, OnOk, slice_get, length};
 ghost use Rattle.solid_data.specs.Numbering.{IsNumberedSolid};
 ghost use Rattle.edge_uses.specs.ShellRows.{shell_rows};
-ghost use Rattle.open_shells.specs.Accepted.{IsOpenShell, IsOpenAccepted};
+ghost use Rattle.open_certificate.specs.Accepted.{IsOpenShell, IsOpenAccepted};
 ghost use Rattle.open_shells.specs.Certified.{IsOpenCertificate, IsOpenFault, IsNoMemory, FailsSo};
 ghost use Rattle.open_shells.specs.Listed.{AreListedParts};
 ghost use Rattle.open_shells.specs.Mating.{AreOnce};
-ghost use Rattle.open_shells.specs.Obligations.{AllHold, FirstFalse, open_shell_obligations, open_obligations};
-ghost use Rattle.open_shells.specs.Stand.{shell_of};
-ghost use Rattle.open_shells.specs.Written.{open_lines, text_of};
-ghost use Rattle.open_shells.specs.declared.verdict.OpenFailing.{OpenFailing as Named};
+ghost use Rattle.open_certificate.specs.Obligations.{AllHold, FirstFalse, open_shell_obligations, open_obligations};
+ghost use Rattle.open_certificate.specs.Stand.{shell_of};
+ghost use Rattle.open_certificate.specs.Written.{open_lines, text_of};
+ghost use Rattle.open_certificate.specs.declared.verdict.OpenFailing.{OpenFailing as Named};
 
 use crate::bordering::border_cycles;
 use crate::fault::OpenFault;
 use crate::judging::{fanned, join, once, reached};
-use crate::parts::OpenCertificate;
 use edge_uses::rows;
+use open_certificate::OpenCertificate;
 use solid_data::{Shell, ShellAt, Solid};
 use std::alloc::Global;
 

@@ -1,9 +1,9 @@
 //! The rows of an open shell with their mates.
 
 use crate::mating::{first_not_once, open_edges, open_mates};
-use crate::parts::OpenEdges;
 use edge_uses::{Rows, tally_of};
 use iges_base::NoMemory;
+use open_certificate::OpenEdges;
 use solid_data::{EdgeId, RowId};
 use std::alloc::Global;
 use std::marker::Model;
@@ -50,7 +50,7 @@ impl<'a> Model for Mated<'a> {
 impl<'a> Mated<'a> {
     ghost use Rattle.std.specs.Prelude.{◌≡◌, ◌<◌, length, MatchOption};
     ghost use Rattle.edge_uses.specs.RowRelations.{AreMates, Turns};
-    ghost use Rattle.open_shells.specs.Sound.{IsBorder};
+    ghost use Rattle.open_certificate.specs.Sound.{IsBorder};
     ghost use Rattle.open_shells.specs.Mating.{AreOnce, HaveOpenMates};
 
     pub(crate) fn of(rows: &'a Rows, mates: Vec<Option<RowId>>) -> Mated<'a>
@@ -94,7 +94,7 @@ impl<'a> Mated<'a> {
 ghost use Rattle.std.specs.Prelude.{◌≡◌, IfOk, IfErr};
 ghost use Rattle.std.specs.List.{AllByRecursion, AllZip};
 ghost use Rattle.edge_uses.specs.ShellRows.{EndsMeet};
-ghost use Rattle.open_shells.specs.Sound.{IsOnce};
+ghost use Rattle.open_certificate.specs.Sound.{IsOnce};
 ghost use Rattle.open_shells.specs.Mating.{AreRowsOf};
 ghost use Rattle.open_shells.specs.EdgeFaults.{IsEdgeFault};
 

@@ -7,12 +7,12 @@ ghost use Rattle.edge_uses.specs.declared.row.Row.{Row as AnyRow};
 ghost use Rattle.edge_uses.specs.ShellRows.{ShellRows, AreRows, EndsMeet};
 ghost use Rattle.edge_uses.specs.Ranges.{IsWithin};
 ghost use Rattle.edge_uses.specs.Tally.{seen_of, IsSeen, IsTally};
-ghost use Rattle.open_shells.specs.Sound.{IsOnce};
+ghost use Rattle.open_certificate.specs.Sound.{IsOnce};
 ghost use Rattle.open_shells.specs.Mating.{AreRowsOf, IsMateOf, AreOnce, HaveOpenMates};
 
-use crate::parts::{OpenEdge, OpenEdges};
 use edge_uses::{Row, Rows, Seen, Tally, row_at};
 use iges_base::NoMemory;
+use open_certificate::{OpenEdge, OpenEdges};
 use solid_data::{EdgeId, RowId};
 use std::alloc::Global;
 

@@ -4,10 +4,10 @@ ghost use Rattle.std.specs.Prelude.{◌≡◌, ℕ, Some, Contains, slice_get};
 ghost use Rattle.solid_data.specs.SolidData.{PlacedLoop, placed_loops};
 ghost use Rattle.solid_data.specs.declared.solid.FaceUse.{FaceUse as AnyFace};
 ghost use Rattle.edge_uses.specs.ShellRows.{ShellRows};
-ghost use Rattle.open_shells.specs.Obligations.{open_failing, edge_obligation, fan_obligation};
+ghost use Rattle.open_certificate.specs.Obligations.{open_failing, edge_obligation, fan_obligation};
 
-use crate::verdict::{OpenFailing, OpenRule};
 use edge_uses::Unjoined;
+use open_certificate::{OpenFailing, OpenRule};
 use solid_data::{EdgeId, FaceAt, Shell, Solid, VertexId};
 
 /// JOIN names the loop, and its first tuple, from 1, whose use doesn't end where the next one starts.

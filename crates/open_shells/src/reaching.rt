@@ -4,7 +4,7 @@ ghost use Rattle.std.specs.Prelude.{◌≡◌, ◌<◌, ℕ, IfOk, IfErr, MatchO
 ghost use Rattle.std.specs.List.{AllByRecursion};
 ghost use Rattle.solid_data.specs.Ring.{numbers_from};
 ghost use Rattle.solid_data.specs.Obligations.{FirstNot};
-ghost use Rattle.shell_rules.specs.Closed.{IsReached};
+ghost use Rattle.edge_uses.specs.Around.{IsReached};
 ghost use Rattle.solid_data.proofs.Members.{Has};
 ghost use Rattle.open_shells.specs.ReachFaults.{IsReachFault};
 ghost use Rattle.open_shells.specs.Flood.{IsFlood, IsDone};

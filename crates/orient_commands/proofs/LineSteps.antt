@@ -5,10 +5,10 @@ use Rattle.solid_data.specs.SolidData.{SolidData}
 use Rattle.cert_lines.specs.Line.{cut_lines}
 use Rattle.cert_lines.specs.declared.fault.Illegal.{Illegal}
 use Rattle.cert_lines.specs.declared.fault.Illegal.TheVariants.{Misspelt, Unfit, Missing}
-use Rattle.face_orient.specs.Line.{IsSpelled}
-use Rattle.face_orient.specs.declared.line.OrientLine.{OrientLine}
-use Rattle.face_orient.specs.declared.line.OrientLine.TheVariants.{Head, Flags, Ring, End}
-use Rattle.face_orient.proofs.Lines.{line_one}
+use Rattle.orient_certificate.specs.Line.{IsSpelled}
+use Rattle.orient_certificate.specs.declared.line.OrientLine.{OrientLine}
+use Rattle.orient_certificate.specs.declared.line.OrientLine.TheVariants.{Head, Flags, Ring, End}
+use Rattle.orient_certificate.proofs.Lines.{line_one}
 use Rattle.orient_commands.specs.Reading.{IsTextFault, FitsFirst, IsRestOf}
 use Rattle.orient_commands.specs.Text.{FitsAs, Fits, AreWhole, IsFirstBad}
 use Rattle.orient_commands.specs.declared.fault.TextFault.{TextFault}

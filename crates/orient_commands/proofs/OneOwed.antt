@@ -10,17 +10,17 @@ use Rattle.brep_walk.specs.Places.{places}
 use Rattle.brep_walk.specs.SolidOf.{solid_of}
 use Rattle.cert_lines.specs.Line.{cut_lines}
 use Rattle.cert_lines.specs.declared.fault.Illegal.{Illegal}
-use Rattle.face_orient.specs.Flags.{FlagsFit}
-use Rattle.face_orient.specs.Line.{IsSpelled, spelling}
-use Rattle.face_orient.specs.OddRing.{OddRing}
-use Rattle.face_orient.specs.Outcome.{IsFirstFailing, CountFails}
-use Rattle.face_orient.specs.declared.fault.OrientFailing.{OrientFailing}
-use Rattle.face_orient.specs.declared.fault.OrientFault.TheVariants as faults
-use Rattle.face_orient.specs.declared.line.OrientLine.{OrientLine}
-use Rattle.face_orient.specs.declared.line.OrientLine.TheVariants.{Head, Flags, Ring, End}
-use Rattle.face_orient.proofs.Answered.{first_not_all, first_not_one, only_memory, fails_so, count_memory, count_so}
-use Rattle.face_orient.proofs.Lawful.{one_fit, refuses}
-use Rattle.face_orient.proofs.Lines.{line_one}
+use Rattle.orient_certificate.specs.Flags.{FlagsFit}
+use Rattle.orient_certificate.specs.Line.{IsSpelled, spelling}
+use Rattle.orient_certificate.specs.OddRing.{OddRing}
+use Rattle.orient_certificate.specs.Outcome.{IsFirstFailing, CountFails}
+use Rattle.orient_certificate.specs.declared.fault.OrientFailing.{OrientFailing}
+use Rattle.orient_certificate.specs.declared.fault.OrientFault.TheVariants as faults
+use Rattle.orient_certificate.specs.declared.line.OrientLine.{OrientLine}
+use Rattle.orient_certificate.specs.declared.line.OrientLine.TheVariants.{Head, Flags, Ring, End}
+use Rattle.orient_certificate.proofs.Answered.{first_not_all, first_not_one, only_memory, fails_so, count_memory, count_so}
+use Rattle.orient_certificate.proofs.Lawful.{one_fit, refuses}
+use Rattle.orient_certificate.proofs.Lines.{line_one}
 use Rattle.command_replies.specs.declared.answer.Answer.{Answer}
 use Rattle.command_replies.specs.declared.answer.Answer.TheVariants as answer
 use Rattle.command_replies.specs.Texts.{accepted_line, fail_line, illegal_line}

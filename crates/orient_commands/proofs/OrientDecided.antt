@@ -14,13 +14,13 @@ use Rattle.edge_uses.specs.declared.row.Row.{Row}
 use Rattle.edge_uses.specs.ShellRows.{ShellRows}
 use Rattle.edge_uses.specs.RowRelations.{OnFace}
 use Rattle.shell_rules.proofs.Decided.{edge_id_decided}
-use Rattle.face_orient.specs.Partners.{HasTwoRows, ArePartners, Adjoin, IsReached}
-use Rattle.face_orient.specs.Flags.{FlagsFit, PartnersDiffer, face_flags, rows_at, rows_with}
-use Rattle.face_orient.specs.OddRing.{OddRing, GoesOn, RunsAlike, OddlyMany, bare_rows}
-use Rattle.face_orient.specs.Line.{IsShort, HasSpelling, IsSpelled, flag_number, spaced, spelling}
-use Rattle.face_orient.specs.declared.line.OrientLine.{OrientLine}
-use Rattle.face_orient.specs.declared.line.OrientLine.TheVariants.{Head, Flags, Ring, End}
-use Rattle.face_orient.proofs.Lines.{flags_short, line_one}
+use Rattle.orient_certificate.specs.Partners.{HasTwoRows, ArePartners, Adjoin, IsReached}
+use Rattle.orient_certificate.specs.Flags.{FlagsFit, PartnersDiffer, face_flags, rows_at, rows_with}
+use Rattle.orient_certificate.specs.OddRing.{OddRing, GoesOn, RunsAlike, OddlyMany, bare_rows}
+use Rattle.orient_certificate.specs.Line.{IsShort, HasSpelling, IsSpelled, flag_number, spaced, spelling}
+use Rattle.orient_certificate.specs.declared.line.OrientLine.{OrientLine}
+use Rattle.orient_certificate.specs.declared.line.OrientLine.TheVariants.{Head, Flags, Ring, End}
+use Rattle.orient_certificate.proofs.Lines.{flags_short, line_one}
 use Rattle.orient_commands.proofs.ShellSteps.{name_ring}
 use Rattle.orient_commands.specs.Text.{NameOddRing, IsLineOf, FitsAs, Fits}
 

@@ -22,17 +22,17 @@ use Rattle.edge_uses.proofs.Made.{rows_whole}
 use Rattle.brep_walk.specs.Places.{places}
 use Rattle.brep_walk.specs.SolidOf.{solid_of}
 use Rattle.topo_certificate.proofs.UseSizes.{few_shells}
-use Rattle.face_orient.specs.Checked.{ShellOf}
-use Rattle.face_orient.specs.Flags.{FlagsFit, face_flags, rows_at}
-use Rattle.face_orient.specs.Line.{IsShort}
-use Rattle.face_orient.specs.OddRing.{OddRing, GoesOn, row_numbers}
-use Rattle.face_orient.specs.Outcome.{IsFault}
-use Rattle.face_orient.specs.declared.fault.OrientFailing.{OrientFailing}
-use Rattle.face_orient.specs.declared.fault.OrientFault.{OrientFault}
-use Rattle.face_orient.specs.declared.fault.OrientFault.TheVariants.{Fails, NoMemory}
-use Rattle.face_orient.specs.declared.line.OrientLine.{OrientLine}
-use Rattle.face_orient.specs.declared.line.OrientLine.TheVariants.{Flags, Ring}
-use Rattle.face_orient.proofs.Answered.{some_faces}
+use Rattle.orient_certificate.specs.Checked.{ShellOf}
+use Rattle.orient_certificate.specs.Flags.{FlagsFit, face_flags, rows_at}
+use Rattle.orient_certificate.specs.Line.{IsShort}
+use Rattle.orient_certificate.specs.OddRing.{OddRing, GoesOn, row_numbers}
+use Rattle.orient_certificate.specs.Outcome.{IsFault}
+use Rattle.orient_certificate.specs.declared.fault.OrientFailing.{OrientFailing}
+use Rattle.orient_certificate.specs.declared.fault.OrientFault.{OrientFault}
+use Rattle.orient_certificate.specs.declared.fault.OrientFault.TheVariants.{Fails, NoMemory}
+use Rattle.orient_certificate.specs.declared.line.OrientLine.{OrientLine}
+use Rattle.orient_certificate.specs.declared.line.OrientLine.TheVariants.{Flags, Ring}
+use Rattle.orient_certificate.proofs.Answered.{some_faces}
 use Rattle.command_replies.specs.declared.answer.Answer.{Answer}
 use Rattle.orient_commands.specs.Due.{IsOriented, OfOrient, oriented}
 use Rattle.orient_commands.specs.Shells.{IsReady, OfAllShells, FailsInShell}

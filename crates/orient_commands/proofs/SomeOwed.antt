@@ -21,17 +21,17 @@ use Rattle.cert_lines.specs.Line.{cut_lines}
 use Rattle.cert_lines.specs.declared.fault.Illegal.{Illegal}
 use Rattle.cert_lines.specs.declared.fault.Illegal.TheVariants.{Misspelt, Unfit, Missing}
 use Rattle.topo_certificate.specs.declared.TheConstants.{CERT_LIMIT}
-use Rattle.face_orient.specs.Flags.{FlagsFit, rows_at}
-use Rattle.face_orient.specs.Laws.{ExactlyOne}
-use Rattle.face_orient.specs.Line.{IsShort, IsSpelled, spelling}
-use Rattle.face_orient.specs.OddRing.{OddRing}
-use Rattle.face_orient.specs.Outcome.{CountFails, ReachFails, IsFirstFailing}
-use Rattle.face_orient.specs.Partners.{HasTwoRows, IsReached, AllReached}
-use Rattle.face_orient.specs.declared.fault.OrientFailing.{OrientFailing}
-use Rattle.face_orient.specs.declared.line.OrientLine.{OrientLine}
-use Rattle.face_orient.specs.declared.line.OrientLine.TheVariants.{Head, Flags, Ring, End}
-use Rattle.face_orient.proofs.Answered.{first_not_has, shell_faces}
-use Rattle.face_orient.proofs.Lawful.{flags_or}
+use Rattle.orient_certificate.specs.Flags.{FlagsFit, rows_at}
+use Rattle.orient_certificate.specs.Laws.{ExactlyOne}
+use Rattle.orient_certificate.specs.Line.{IsShort, IsSpelled, spelling}
+use Rattle.orient_certificate.specs.OddRing.{OddRing}
+use Rattle.orient_certificate.specs.Outcome.{CountFails, ReachFails, IsFirstFailing}
+use Rattle.orient_certificate.specs.Partners.{HasTwoRows, IsReached, AllReached}
+use Rattle.orient_certificate.specs.declared.fault.OrientFailing.{OrientFailing}
+use Rattle.orient_certificate.specs.declared.line.OrientLine.{OrientLine}
+use Rattle.orient_certificate.specs.declared.line.OrientLine.TheVariants.{Head, Flags, Ring, End}
+use Rattle.orient_certificate.proofs.Answered.{first_not_has, shell_faces}
+use Rattle.orient_certificate.proofs.Lawful.{flags_or}
 use Rattle.command_replies.specs.declared.answer.Answer.TheVariants as answer
 use Rattle.command_replies.specs.Texts.{fail_line, illegal_line, accepted_line}
 use Rattle.command_replies.proofs.SomeDue.{longer}

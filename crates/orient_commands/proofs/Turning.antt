@@ -20,17 +20,18 @@ use Rattle.solid_data.proofs.Members.{count_by-total}
 use Rattle.solid_data.proofs.ObligationLemmas.{AllByRecursion-weaker}
 use Rattle.edge_uses.specs.declared.row.Row.{Row}
 use Rattle.edge_uses.specs.RowRelations.{row_count, IsPaired, AreMates, OnFace}
-use Rattle.shell_rules.specs.Closed.{AreNeighbours, IsClosedShell}
+use Rattle.edge_uses.specs.Around.{AreNeighbours}
+use Rattle.shell_rules.specs.Closed.{IsClosedShell}
 use Rattle.shell_rules.specs.Closed as closed
 use Rattle.edge_uses.specs.ShellRows.{ShellRows, row_of, loop_rows, shell_rows, rows_of}
 use Rattle.edge_uses.proofs.Counting.{counted, counts_of_edge, found_row}
-use Rattle.face_orient.specs.Partners.{HasTwoRows, AllHaveTwoRows, Adjoin, IsReached, AllReached}
-use Rattle.face_orient.specs.Flags.{FlagsFit, PartnersDiffer, face_flags, faces_with, shell_with}
-use Rattle.face_orient.specs.OddRing.{bare_shell}
-use Rattle.face_orient.proofs.Bare.{Told, Alike, walks, told_rows, bare_with, zip_get, partners_alike, two_rows_alike}
-use Rattle.face_orient.proofs.Crossed.{steps_map}
-use Rattle.face_orient.proofs.Places.{partner_made, other_in}
-use Rattle.face_orient.specs.Tally.{summary, places_of}
+use Rattle.orient_certificate.specs.Partners.{HasTwoRows, AllHaveTwoRows, Adjoin, IsReached, AllReached}
+use Rattle.orient_certificate.specs.Flags.{FlagsFit, PartnersDiffer, face_flags, faces_with, shell_with}
+use Rattle.orient_certificate.specs.OddRing.{bare_shell}
+use Rattle.orient_certificate.proofs.Bare.{Told, Alike, walks, told_rows, bare_with, zip_get, partners_alike, two_rows_alike}
+use Rattle.orient_certificate.proofs.Crossed.{steps_map}
+use Rattle.orient_certificate.proofs.Places.{partner_made, other_in}
+use Rattle.orient_certificate.specs.Tally.{summary, places_of}
 use Rattle.orient_commands.specs.Laws.{FittingFlagsClose}
 use Rattle.orient_commands.specs.Shells.{IsReady, OfAllShells}
 use Rattle.orient_commands.specs.Turned.{shells_with, solid_with, JoinsAndLinks}

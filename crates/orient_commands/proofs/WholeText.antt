@@ -9,10 +9,10 @@ use Rattle.solid_data.specs.SolidData.{SolidData}
 use Rattle.cert_lines.specs.Line.{cut_lines}
 use Rattle.cert_lines.proofs.CutLines.{cut_piece}
 use Rattle.cert_lines.proofs.Spacing.{spaced_no_break}
-use Rattle.face_orient.specs.Line.{HasSpelling, flag_number, words, spelling}
-use Rattle.face_orient.specs.declared.line.OrientLine.{OrientLine}
-use Rattle.face_orient.specs.declared.line.OrientLine.TheVariants.{Head, Flags, Ring, End}
-use Rattle.face_orient.proofs.Lines.{line_one, flags_short}
+use Rattle.orient_certificate.specs.Line.{HasSpelling, flag_number, words, spelling}
+use Rattle.orient_certificate.specs.declared.line.OrientLine.{OrientLine}
+use Rattle.orient_certificate.specs.declared.line.OrientLine.TheVariants.{Head, Flags, Ring, End}
+use Rattle.orient_certificate.proofs.Lines.{line_one, flags_short}
 use Rattle.command_replies.specs.declared.answer.Answer.{Answer}
 use Rattle.command_replies.specs.declared.answer.Answer.TheVariants as answer
 use Rattle.orient_commands.specs.Due.{IsRingLine, HasRing, IsOriented}

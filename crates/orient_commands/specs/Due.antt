@@ -8,10 +8,10 @@ use Rattle.brep_walk.specs.Places.{places}
 use Rattle.brep_walk.specs.SolidOf.{solid_of}
 use Rattle.cert_lines.specs.declared.fault.Illegal.{Illegal}
 use Rattle.topo_certificate.specs.declared.TheConstants.{CERT_LIMIT}
-use Rattle.face_orient.specs.Line.{IsSpelled}
-use Rattle.face_orient.specs.RuleNames.{rule_name}
-use Rattle.face_orient.specs.declared.fault.OrientFailing.{OrientFailing}
-use Rattle.face_orient.specs.declared.line.OrientLine.TheVariants.{Ring}
+use Rattle.orient_certificate.specs.Line.{IsSpelled}
+use Rattle.orient_certificate.specs.RuleNames.{rule_name}
+use Rattle.orient_certificate.specs.declared.fault.OrientFailing.{OrientFailing}
+use Rattle.orient_certificate.specs.declared.line.OrientLine.TheVariants.{Ring}
 use Rattle.command_replies.specs.declared.answer.Answer.{Answer}
 use Rattle.command_replies.specs.declared.answer.Answer.TheVariants as answer
 use Rattle.command_replies.specs.Texts.{accepted_line, fail_line, fail_text, illegal_line}

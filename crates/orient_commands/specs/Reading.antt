@@ -5,8 +5,8 @@ use Rattle.std.specs.Bool.{MatchBool}
 use Rattle.solid_data.specs.SolidData.{SolidData}
 use Rattle.cert_lines.specs.Line.{cut_lines}
 use Rattle.cert_lines.specs.declared.fault.Illegal.{Illegal}
-use Rattle.face_orient.specs.Line.{IsSpelled}
-use Rattle.face_orient.specs.declared.line.OrientLine.TheVariants.{Head}
+use Rattle.orient_certificate.specs.Line.{IsSpelled}
+use Rattle.orient_certificate.specs.declared.line.OrientLine.TheVariants.{Head}
 use Rattle.command_replies.specs.Due.{Exactly}
 use Rattle.command_replies.specs.Texts.{accepted_line, illegal_line}
 use Rattle.command_replies.specs.declared.answer.Answer.TheVariants as answer

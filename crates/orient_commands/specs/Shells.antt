@@ -1,10 +1,10 @@
 -- What is judged of each shell before the lines of an orientation, and what first fails.
 use Rattle.std.specs.Prelude.{ℕ, ◌<◌, length}
 use Rattle.solid_data.specs.SolidData.{SolidData}
-use Rattle.face_orient.specs.Flags.{rows_at}
-use Rattle.face_orient.specs.Outcome.{IsFirstFailing, CountFails}
-use Rattle.face_orient.specs.Partners.{AllHaveTwoRows, AllReached}
-use Rattle.face_orient.specs.declared.fault.OrientFailing.{OrientFailing}
+use Rattle.orient_certificate.specs.Flags.{rows_at}
+use Rattle.orient_certificate.specs.Outcome.{IsFirstFailing, CountFails}
+use Rattle.orient_certificate.specs.Partners.{AllHaveTwoRows, AllReached}
+use Rattle.orient_certificate.specs.declared.fault.OrientFailing.{OrientFailing}
 
 -- COUNT holds of shell k
 abbrev pub IsCounted : SolidData → ℕ → Type 0

@@ -6,11 +6,11 @@ use Rattle.solid_data.specs.SolidData.{SolidData}
 use Rattle.cert_lines.specs.Line.{cut_lines}
 use Rattle.cert_lines.specs.declared.fault.Illegal.{Illegal}
 use Rattle.cert_lines.specs.declared.fault.Illegal.TheVariants.{Misspelt, Unfit, Missing}
-use Rattle.face_orient.specs.Flags.{FlagsFit}
-use Rattle.face_orient.specs.OddRing.{OddRing}
-use Rattle.face_orient.specs.Line.{IsSpelled}
-use Rattle.face_orient.specs.declared.line.OrientLine.{OrientLine}
-use Rattle.face_orient.specs.declared.line.OrientLine.TheVariants.{Head, Flags, Ring, End}
+use Rattle.orient_certificate.specs.Flags.{FlagsFit}
+use Rattle.orient_certificate.specs.OddRing.{OddRing}
+use Rattle.orient_certificate.specs.Line.{IsSpelled}
+use Rattle.orient_certificate.specs.declared.line.OrientLine.{OrientLine}
+use Rattle.orient_certificate.specs.declared.line.OrientLine.TheVariants.{Head, Flags, Ring, End}
 
 -- the numbers, which count from 1, name rows of shell k that are an odd ring
 abbrev pub NameOddRing : SolidData → ℕ → List ℕ → Type 0

@@ -5,9 +5,9 @@ use Rattle.solid_data.specs.SolidData.{SolidData, PlacedLoop, placed_loops}
 use Rattle.solid_data.specs.declared.solid.Shell.{Shell}
 use Rattle.edge_uses.specs.Before.{IsApart}
 use Rattle.edge_uses.specs.Joins.{IsJoined}
-use Rattle.shell_rules.specs.Closed.{IsLinked}
+use Rattle.edge_uses.specs.Around.{IsLinked}
 use Rattle.edge_uses.specs.ShellRows.{shell_rows}
-use Rattle.face_orient.specs.Flags.{FlagsFit, shell_with}
+use Rattle.orient_certificate.specs.Flags.{FlagsFit, shell_with}
 
 -- shells with these flags in place of their faces', one list for each
 abbrev pub shells_with : List (List Bool) → List Shell → List Shell

@@ -1,7 +1,7 @@
 //! COUNT of all shells.
 
 ghost use Rattle.std.specs.Prelude.{IfErr, OnOk};
-ghost use Rattle.face_orient.specs.Outcome.{IsFault};
+ghost use Rattle.orient_certificate.specs.Outcome.{IsFault};
 ghost use Rattle.orient_commands.specs.Shells.{IsCounted, OfAllShells, IsFirstUncounted};
 
 use face_orient::{OrientChecker, OrientFault};

@@ -1,7 +1,7 @@
 //! Whether a line fits as that of a shell.
 
 ghost use Rattle.std.specs.Prelude.{◌≡◌, ◌+◌, ◌<◌, ◌↔◌, ℕ, suc, List, length, map, IfOk, IsTrue, MatchOption};
-ghost use Rattle.face_orient.specs.OddRing.{row_numbers};
+ghost use Rattle.orient_certificate.specs.OddRing.{row_numbers};
 ghost use Rattle.orient_commands.specs.Shells.{IsCounted};
 ghost use Rattle.orient_commands.specs.Text.{FitsAs, NameOddRing};
 

@@ -4,9 +4,9 @@ ghost use Rattle.std.specs.Prelude.{◌≡◌, ◌+◌, ◌++◌, ◌<◌, ℕ, 
 ghost use Rattle.std.specs.Bool.{MatchBool};
 ghost use Rattle.std.specs.List.{AllByRecursion};
 ghost use Rattle.command_replies.specs.declared.answer.Answer.TheVariants as answer;
-ghost use Rattle.face_orient.specs.Line.{HasSpelling, spelling};
-ghost use Rattle.face_orient.specs.OddRing.{row_numbers};
-ghost use Rattle.face_orient.specs.Outcome.{IsFault, IsFirstFailing};
+ghost use Rattle.orient_certificate.specs.Line.{HasSpelling, spelling};
+ghost use Rattle.orient_certificate.specs.OddRing.{row_numbers};
+ghost use Rattle.orient_certificate.specs.Outcome.{IsFault, IsFirstFailing};
 ghost use Rattle.orient_commands.specs.Due.{IsOriented, IsRingLine};
 ghost use Rattle.orient_commands.specs.Reading.{IsBegun};
 ghost use Rattle.orient_commands.specs.Shells.{IsReady, OfAllShells, IsFirstUnready};

@@ -4,8 +4,8 @@ ghost use Rattle.std.specs.Prelude.{◌≡◌, IfOk, IfErr};
 ghost use Rattle.cert_lines.specs.Line.{cut_lines};
 ghost use Rattle.cert_lines.specs.declared.fault.Illegal.{Illegal as AnyIllegal};
 ghost use Rattle.cert_lines.specs.declared.fault.Illegal.TheVariants.{Misspelt};
-ghost use Rattle.face_orient.specs.Line.{IsSpelled};
-ghost use Rattle.face_orient.specs.declared.line.OrientLine.{OrientLine as AnyLine};
+ghost use Rattle.orient_certificate.specs.Line.{IsSpelled};
+ghost use Rattle.orient_certificate.specs.declared.line.OrientLine.{OrientLine as AnyLine};
 ghost use Rattle.orient_commands.specs.Reading.{IsTextFault};
 ghost use Rattle.orient_commands.specs.Text.{Names, IsBadHead};
 

@@ -13,7 +13,7 @@ use Rattle.solid_data.specs.declared.solid.LoopAt.{LoopAt}
 use Rattle.edge_uses.specs.declared.row.Row.{Row}
 use Rattle.edge_uses.specs.ShellRows.{ShellRows}
 use Rattle.edge_uses.specs.RowRelations.{row_count, IsPaired, AreMates, Turns, StartsAt, OnFace}
-use Rattle.shell_rules.specs.Closed.{AreNeighbours, IsReached, IsLinked}
+use Rattle.edge_uses.specs.Around.{AreNeighbours, IsReached, IsLinked}
 use Rattle.solid_data.proofs.Members.{Has, All-from, total, count_by-total}
 use Rattle.solid_data.proofs.Occurring.{number_below}
 use Rattle.solid_data.proofs.Trail.{leads_trans, leads_here, leads_one, leads_last}

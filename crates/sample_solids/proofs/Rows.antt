@@ -25,7 +25,8 @@ use Rattle.edge_uses.specs.declared.row.Row.{Row}
 use Rattle.edge_uses.specs.ShellRows.{ShellRows, row_of_edge, loop_rows, follows_from, point_of, shell_rows}
 use Rattle.edge_uses.specs.Before.{IsApart}
 use Rattle.edge_uses.specs.Joins.{begin_of, start_of as starts_at, end_of as ends_at, IsJoined}
-use Rattle.shell_rules.specs.Closed.{IsReached, IsClosedShell, IsClosedSolid}
+use Rattle.edge_uses.specs.Around.{IsReached}
+use Rattle.shell_rules.specs.Closed.{IsClosedShell, IsClosedSolid}
 use Rattle.solid_data.proofs.Members.{Has, All-from, from_flat_map, has_map, from_enumerated}
 use Rattle.edge_uses.proofs.Occurs.{from_occurring}
 use Rattle.sample_solids.specs.Sample.{squares, face_number, sample}

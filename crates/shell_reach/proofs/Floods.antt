@@ -11,7 +11,7 @@ use Rattle.solid_data.specs.Chain.{Steps}
 use Rattle.solid_data.specs.Ring.{numbers_from}
 use Rattle.edge_uses.specs.ShellRows.{ShellRows}
 use Rattle.edge_uses.specs.RowRelations.{AreMates, OnFace}
-use Rattle.shell_rules.specs.Closed.{AreNeighbours, IsReached}
+use Rattle.edge_uses.specs.Around.{AreNeighbours, IsReached}
 use Rattle.edge_uses.specs.Mates.{ArePaired}
 use Rattle.solid_data.proofs.Members.{Has, NoRepeat, Contains-from_Has, Has-from_Contains, no_longer, All-at, has_left, has_right, rises_none, has_last}
 use Rattle.solid_data.proofs.Members.{has_reverse}

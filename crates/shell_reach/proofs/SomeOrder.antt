@@ -11,7 +11,7 @@ use Rattle.solid_data.proofs.Members.{Has, has_get, get_some}
 use Rattle.solid_data.proofs.Occurring.{number_below, number_within}
 use Rattle.edge_uses.specs.ShellRows.{ShellRows}
 use Rattle.edge_uses.specs.RowRelations.{AreMates, OnFace}
-use Rattle.shell_rules.specs.Closed.{IsReached}
+use Rattle.edge_uses.specs.Around.{IsReached}
 use Rattle.edge_uses.specs.Mates.{ArePaired, HaveMates}
 use Rattle.edge_uses.proofs.Turn.{has_mate, paired_rows}
 use Rattle.shell_reach.specs.Reaching.{ReachesAll}

@@ -3,7 +3,7 @@ use Rattle.std.specs.Prelude.{⊤}
 use Rattle.solid_data.specs.Obligations.{FirstNot}
 use Rattle.solid_data.specs.Ring.{numbers_from}
 use Rattle.edge_uses.specs.ShellRows.{ShellRows}
-use Rattle.shell_rules.specs.Closed.{IsReached}
+use Rattle.edge_uses.specs.Around.{IsReached}
 use Rattle.shell_reach.specs.declared.fault.ReachFault.{ReachFault}
 use Rattle.shell_reach.specs.declared.fault.ReachFault.TheVariants.{Unreached, NoMemory}
 

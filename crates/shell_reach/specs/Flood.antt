@@ -2,7 +2,7 @@
 use Rattle.std.specs.Prelude.{◌≡◌, ℕ, suc, Bool, true, false, List, [], ◌∷◌, ◌++◌, length, reverse, map, flat_map, slice_get, get_or}
 use Rattle.std.specs.Option.{option_to_list}
 use Rattle.edge_uses.specs.ShellRows.{ShellRows}
-use Rattle.shell_rules.specs.Closed.{IsReached, AreNeighbours}
+use Rattle.edge_uses.specs.Around.{IsReached, AreNeighbours}
 use Rattle.edge_uses.specs.Mates.{HaveMates}
 use Rattle.solid_data.proofs.Members.{Has, NoRepeat}
 use Rattle.shell_reach.specs.Reaching.{ReachFrom}

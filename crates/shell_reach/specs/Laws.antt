@@ -3,7 +3,7 @@ use Rattle.std.specs.Prelude.{◌≡◌, ◌<◌, ℕ, List}
 use Rattle.std.specs.List.{AllByRecursion}
 use Rattle.solid_data.specs.Ring.{numbers_from}
 use Rattle.edge_uses.specs.ShellRows.{ShellRows}
-use Rattle.shell_rules.specs.Closed.{IsReached}
+use Rattle.edge_uses.specs.Around.{IsReached}
 use Rattle.edge_uses.specs.Mates.{ArePaired}
 use Rattle.shell_reach.specs.Reaching.{ReachesAll}
 use Rattle.shell_reach.specs.BreadthFirst.{IsBreadthFirst}

@@ -18,7 +18,7 @@ use Rattle.solid_data.proofs.ObligationsDecided.{AreDecided, decided-append, dec
 use Rattle.edge_uses.specs.declared.row.Row.{Row}
 use Rattle.edge_uses.specs.ShellRows.{ShellRows, shell_rows}
 use Rattle.edge_uses.specs.RowRelations.{row_count, point_count, AreMates, Follows, Turns, StartsAt, OnFace, IsPaired}
-use Rattle.shell_rules.specs.Closed.{IsCorner, IsPoint, IsLinked, AreNeighbours, IsReached}
+use Rattle.edge_uses.specs.Around.{IsCorner, IsPoint, IsLinked, AreNeighbours, IsReached}
 use Rattle.edge_uses.specs.Before.{IsApart}
 use Rattle.edge_uses.specs.Joins.{loop_obligations, join_obligations}
 use Rattle.shell_rules.specs.ShellObligations.{at_edge, at_vertex, pair_obligations, reach_obligations, link_obligations}

@@ -1,5 +1,4 @@
 pub mod ClosedLemmas
-pub mod CornerCycle
 pub mod Decided
 pub mod Placed
 pub mod Rules

@@ -16,7 +16,7 @@ use Rattle.edge_uses.specs.ShellRows.{ShellRows}
 use Rattle.edge_uses.specs.Before.{IsApart}
 use Rattle.edge_uses.specs.Joins.{IsJoined, loop_obligations, IsFirstUnjoined, join_obligations}
 use Rattle.edge_uses.specs.RowRelations.{IsPaired}
-use Rattle.shell_rules.specs.Closed.{IsReached, IsLinked}
+use Rattle.edge_uses.specs.Around.{IsReached, IsLinked}
 use Rattle.shell_rules.specs.ShellObligations.{pair_obligations, reach_obligations, link_obligations, apart_obligations, at_edge, at_vertex}
 use Rattle.edge_uses.proofs.JoinLemmas.{hold_from_joined}
 use Rattle.shell_rules.specs.Naming.{failing}

@@ -10,7 +10,7 @@ use Rattle.solid_data.specs.declared.verdict.Rule.TheVariants.{Unlinked as RuleU
 use Rattle.solid_data.proofs.Members.{get_some}
 use Rattle.solid_data.proofs.Trail.{leads_here, leads_trans}
 use Rattle.edge_uses.specs.RowRelations.{Turns, StartsAt, point_count}
-use Rattle.shell_rules.specs.Closed.{IsCorner, IsPoint, IsLinked}
+use Rattle.edge_uses.specs.Around.{IsCorner, IsPoint, IsLinked}
 use Rattle.edge_uses.specs.Mates.{ArePaired, TurnsPermute}
 use Rattle.edge_uses.specs.ShellRows.{ShellRows}
 use Rattle.shell_rules.specs.ShellObligations.{link_obligations, at_vertex}

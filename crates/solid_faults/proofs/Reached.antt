@@ -12,7 +12,7 @@ use Rattle.solid_data.specs.declared.verdict.Rule.TheVariants.{Unreached}
 use Rattle.solid_data.proofs.Trail.{leads_here, leads_one, leads_last}
 use Rattle.edge_uses.specs.declared.row.Row.{Row}
 use Rattle.edge_uses.specs.RowRelations.{AreMates}
-use Rattle.shell_rules.specs.Closed.{AreNeighbours, IsReached}
+use Rattle.edge_uses.specs.Around.{AreNeighbours, IsReached}
 use Rattle.edge_uses.specs.ShellRows.{ShellRows}
 use Rattle.shell_rules.specs.ShellObligations.{reach_obligations}
 use Rattle.edge_uses.proofs.Turn.{PairedRows, one_of_edge, pair_counts}

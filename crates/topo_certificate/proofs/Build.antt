@@ -12,7 +12,7 @@ use Rattle.solid_data.specs.declared.solid.LoopAt.{LoopAt}
 use Rattle.edge_uses.specs.declared.row.Row.{Row}
 use Rattle.edge_uses.specs.ShellRows.{ShellRows}
 use Rattle.edge_uses.specs.RowRelations.{AreMates, Turns, StartsAt, OnFace, IsPaired, point_count}
-use Rattle.shell_rules.specs.Closed.{AreNeighbours, IsReached, IsLinked, IsPoint}
+use Rattle.edge_uses.specs.Around.{AreNeighbours, IsReached, IsLinked, IsPoint}
 use Rattle.solid_data.proofs.Members.{Has, NoRepeat, no_longer, Has-from_Contains, Contains-from_Has, All-from, total, count_by-total, Rises, rises_none}
 use Rattle.edge_uses.proofs.Counting.{found_row}
 use Rattle.cert_lines.specs.Line.{CertLine, edge, corner, point, reach, tally, IsShort}
@@ -30,7 +30,7 @@ use Rattle.topo_certificate.proofs.Facts.{AllFit}
 use Rattle.topo_certificate.proofs.Short.{IsSmall, IsReadable, readable_edge, readable_corner, readable_point, readable_reach, row_short, starts_few}
 use Rattle.topo_certificate.proofs.Corner.{starts_listed}
 use Rattle.edge_uses.proofs.Cycle.{same_or_not, zip_from_trail, IsCycle, AreTurning}
-use Rattle.shell_rules.proofs.CornerCycle.{cycle_of_corner}
+use Rattle.edge_uses.proofs.CornerCycle.{cycle_of_corner}
 use Rattle.edge_uses.proofs.Turn.{edge_id, one_of_edge, row_of_edge_along, row_of_edge_against}
 use Rattle.edge_uses.proofs.RowNumbers.{starting, length-starting, starting_none, starting_is}
 

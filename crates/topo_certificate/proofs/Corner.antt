@@ -9,7 +9,7 @@ use Rattle.solid_data.specs.declared.solid.VertexId.{VertexId}
 use Rattle.edge_uses.specs.declared.row.Row.{Row}
 use Rattle.edge_uses.specs.ShellRows.{ShellRows, EndsMeet}
 use Rattle.edge_uses.specs.RowRelations.{AreMates, Turns, StartsAt, IsPaired}
-use Rattle.shell_rules.specs.Closed.{IsCorner}
+use Rattle.edge_uses.specs.Around.{IsCorner}
 use Rattle.solid_data.proofs.Members.{Has, NoRepeat, covers, count_by-total}
 use Rattle.topo_certificate.specs.Stand.{Stand, row_named, row_start, FollowsAsNamed, IsMate, TurnsTo, FitsCorner}
 use Rattle.solid_data.proofs.Trail.{Trail, trail_from_zip, leads_trans, leads_to, leads_on, no_repeat}

@@ -11,7 +11,7 @@ use Rattle.solid_data.specs.declared.solid.LoopAt.{LoopAt}
 use Rattle.edge_uses.specs.declared.row.Row.{Row}
 use Rattle.edge_uses.specs.ShellRows.{ShellRows, EndsMeet}
 use Rattle.edge_uses.specs.RowRelations.{IsPaired, row_count}
-use Rattle.shell_rules.specs.Closed.{AreNeighbours, IsReached, IsLinked, IsPoint}
+use Rattle.edge_uses.specs.Around.{AreNeighbours, IsReached, IsLinked, IsPoint}
 use Rattle.solid_data.proofs.Members.{Has, NoRepeat, Has-from_Contains, Contains-from_Has, All-at, All-from, covers, count_by-total}
 use Rattle.edge_uses.proofs.Counting.{counted, paired_by_count}
 use Rattle.topo_certificate.specs.Stand.{Stand, FitsEdge, FitsCorner, FitsPoint, FitsReach, IsAbove, first_of, row_named, row_edge, row_start, row_face}

@@ -5,7 +5,7 @@ use Rattle.std.proofs.lemmas.Bool.{cases_lt}
 use Rattle.solid_data.specs.SolidData.{SolidData}
 use Rattle.edge_uses.specs.ShellRows.{ShellRows}
 use Rattle.edge_uses.specs.RowRelations.{IsPaired}
-use Rattle.shell_rules.specs.Closed.{IsReached, IsLinked}
+use Rattle.edge_uses.specs.Around.{IsReached, IsLinked}
 use Rattle.solid_data.proofs.Members.{Has}
 use Rattle.cert_lines.specs.Line.{CertLine, shell, reach, end}
 use Rattle.cert_lines.specs.declared.version.Version.{Version}

@@ -12,13 +12,13 @@ use Rattle.vertex_link.specs.Corners.{LiesAt, AreLinks}
 use Rattle.edge_uses.specs.declared.row.Row.{Row}
 use Rattle.edge_uses.specs.ShellRows.{ShellRows}
 use Rattle.edge_uses.specs.RowRelations.{StartsAt, Turns, point_count}
-use Rattle.shell_rules.specs.Closed.{IsCorner, IsPoint, IsLinked}
+use Rattle.edge_uses.specs.Around.{IsCorner, IsPoint, IsLinked}
 use Rattle.edge_uses.specs.Mates.{ArePaired}
 use Rattle.solid_data.proofs.Members.{Has, NoRepeat, covers, no_longer, count_by-total, All-at, All-from, Has-from_Contains, Contains-from_Has, has_last}
 use Rattle.solid_data.proofs.Members.{split_at}
 use Rattle.solid_data.proofs.Trail.{Trail, trail_from_zip, trail_keeps, no_repeat, leads_to, leads_on, leads_trans}
 use Rattle.edge_uses.proofs.Cycle.{AreTurning, on_trail, zip_from_trail}
-use Rattle.shell_rules.proofs.CornerCycle.{cycle_of_corner}
+use Rattle.edge_uses.proofs.CornerCycle.{cycle_of_corner}
 use Rattle.edge_uses.proofs.Turn.{turning}
 use Rattle.edge_uses.proofs.RowNumbers.{starting, length-starting, starting_has, starting_none, starting_is}
 use Rattle.shell_tables.specs.declared.starting.Starts.{Starts}

@@ -2,7 +2,7 @@
 use Rattle.std.specs.Prelude.{⊤}
 use Rattle.solid_data.specs.Obligations.{FirstNot}
 use Rattle.edge_uses.specs.ShellRows.{ShellRows}
-use Rattle.shell_rules.specs.Closed.{IsLinked}
+use Rattle.edge_uses.specs.Around.{IsLinked}
 use Rattle.vertex_link.specs.declared.fault.LinkFault.{LinkFault}
 use Rattle.vertex_link.specs.declared.fault.LinkFault.TheVariants.{Broken, NoMemory}
 

@@ -2,7 +2,7 @@
 
 ghost use Rattle.std.specs.Prelude.{◌≡◌, IfOk, IfErr, ◌++◌, ◌∷◌, []};
 ghost use Rattle.std.specs.List.{AllByRecursion};
-ghost use Rattle.shell_rules.specs.Closed.{IsLinked};
+ghost use Rattle.edge_uses.specs.Around.{IsLinked};
 ghost use Rattle.edge_uses.specs.Mates.{ArePaired};
 ghost use Rattle.vertex_link.specs.Corners.{AreLinks};
 ghost use Rattle.vertex_link.specs.Faults.{IsLinkFault};

@@ -2,7 +2,7 @@ use Rattle.std.proofs.Common.{refl, ◌≡◌, ◌∙◌, sym, ap, arith, length
 use Rattle.solid_data.specs.Chain.{LeadsTo}
 use Rattle.edge_uses.proofs.Steps.{default_apart}
 use Rattle.face_orient.specs.declared.flood.Place.{Place}
-use Rattle.face_orient.specs.Crossings.{Meets}
+use Rattle.orient_certificate.specs.Crossings.{Meets}
 use Rattle.face_orient.specs.Flood.{place_of, unreached}
 use Rattle.face_orient.proofs.Floods.{face_missed, face_reached, faces_done, unmarked_not, listed_reached}
 use Rattle.face_orient.proofs.finding.first_unreached.Goals as goal

@@ -2,7 +2,7 @@ use Rattle.std.proofs.Common.{drop}
 use Rattle.solid_data.specs.Chain.{LeadsTo}
 use Rattle.solid_data.specs.Ring.{numbers_from}
 use Rattle.edge_uses.proofs.FirstOf.{LeftIn}
-use Rattle.face_orient.specs.Crossings.{Meets}
+use Rattle.orient_certificate.specs.Crossings.{Meets}
 use Rattle.face_orient.proofs.finding.first_unreached.Given as goal
 
 abbrev pub invariant-faces : goal.invariant-faces

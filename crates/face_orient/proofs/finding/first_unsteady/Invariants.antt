@@ -1,5 +1,5 @@
 use Rattle.std.proofs.Common.{◌≡◌, ◌<◌, ℕ, slice_get, Some}
-use Rattle.face_orient.specs.declared.crossing.Crossing.{Crossing}
+use Rattle.orient_certificate.specs.declared.crossing.Crossing.{Crossing}
 use Rattle.face_orient.specs.Steady.{IsSteady}
 use Rattle.face_orient.proofs.finding.first_unsteady.Given as goal
 

@@ -1,7 +1,7 @@
 use Rattle.std.proofs.Common.{◌≡◌, ◌+◌, ◌-◌, ◌<◌, ℕ, get_or, length, slice_set, refl, subst, arith}
 use Rattle.std.proofs.lemmas.Option.{slice_get-get_or}
-use Rattle.face_orient.specs.declared.crossing.Crossing.{Crossing}
-use Rattle.face_orient.specs.Crossings.{no_step}
+use Rattle.orient_certificate.specs.declared.crossing.Crossing.{Crossing}
+use Rattle.orient_certificate.specs.Crossings.{no_step}
 use Rattle.face_orient.proofs.HeadLists.{HeadsFrom, heads_step, heads_done}
 use Rattle.face_orient.proofs.heads.heads_of.Goals as goal
 

@@ -1,4 +1,4 @@
-use Rattle.face_orient.proofs.Answered.{only_memory, fails_so, only_these}
+use Rattle.orient_certificate.proofs.Answered.{only_memory, fails_so, only_these}
 use Rattle.face_orient.proofs.orienting.orient.Goals as goal
 
 pub returns-clause-only : goal.returns-clause-only

@@ -4,11 +4,11 @@ use Rattle.solid_data.specs.Chain.{LeadsTo}
 use Rattle.solid_data.specs.Obligations.{FirstNot}
 use Rattle.solid_data.specs.Ring.{numbers_from}
 use Rattle.edge_uses.proofs.Steps.{none_of}
-use Rattle.face_orient.specs.declared.crossing.Crossing.{Crossing}
-use Rattle.face_orient.specs.Crossings.{Meets}
-use Rattle.face_orient.specs.Graph.{IsFound}
+use Rattle.orient_certificate.specs.declared.crossing.Crossing.{Crossing}
+use Rattle.orient_certificate.specs.Crossings.{Meets}
+use Rattle.orient_certificate.specs.Graph.{IsFound}
 use Rattle.face_orient.proofs.Climbs.{all_known}
-use Rattle.face_orient.proofs.Answered.{found_is, missed_face, reach_fails, reached_all}
+use Rattle.orient_certificate.proofs.Answered.{found_is, missed_face, reach_fails, reached_all}
 use Rattle.face_orient.proofs.orienting.oriented.Goals as goal
 
 pub unreached-requires : goal.unreached-requires

@@ -1,8 +1,8 @@
 use Rattle.std.proofs.Common.{◌≡◌, ◌∙◌, ap, arith, slice_get, get_or}
 use Rattle.std.proofs.lemmas.Option.{slice_get_within, get_or_from_slice_get}
-use Rattle.face_orient.specs.declared.crossing.Crossing.{Crossing}
+use Rattle.orient_certificate.specs.declared.crossing.Crossing.{Crossing}
 use Rattle.face_orient.specs.declared.flood.Place.{Place}
-use Rattle.face_orient.specs.Crossings.{no_step}
+use Rattle.orient_certificate.specs.Crossings.{no_step}
 use Rattle.face_orient.specs.Flood.{place_of}
 use Rattle.face_orient.proofs.Climbs.{child_of, climb_up, known_place}
 use Rattle.face_orient.proofs.ring.climb.Goals as goal

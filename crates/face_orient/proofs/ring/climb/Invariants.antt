@@ -1,5 +1,5 @@
 use Rattle.solid_data.proofs.Members.{Has}
-use Rattle.face_orient.specs.Crossings.{Climb}
+use Rattle.orient_certificate.specs.Crossings.{Climb}
 use Rattle.face_orient.specs.Flood.{place_of}
 use Rattle.face_orient.proofs.ring.climb.Given as goal
 

@@ -1,6 +1,6 @@
 use Rattle.std.proofs.Common.{◌≡◌, ◌++◌, map, take}
-use Rattle.face_orient.specs.OddRing.{row_numbers}
-use Rattle.face_orient.specs.Crossings.{partner_of}
+use Rattle.orient_certificate.specs.OddRing.{row_numbers}
+use Rattle.orient_certificate.specs.Crossings.{partner_of}
 use Rattle.face_orient.proofs.ring.push_partners.Given as goal
 
 abbrev pub invariant-path : goal.invariant-path

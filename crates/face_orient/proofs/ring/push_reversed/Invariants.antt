@@ -1,5 +1,5 @@
 use Rattle.std.proofs.Common.{◌≡◌, ◌++◌, ◌-◌, drop, reverse}
-use Rattle.face_orient.specs.OddRing.{row_numbers}
+use Rattle.orient_certificate.specs.OddRing.{row_numbers}
 use Rattle.face_orient.proofs.ring.push_reversed.Given as goal
 
 abbrev pub invariant-path : goal.invariant-path

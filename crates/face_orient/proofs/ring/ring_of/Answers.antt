@@ -3,9 +3,9 @@ use Rattle.std.specs.Prelude.{reverse}
 use Rattle.std.specs.List.{AllByRecursion}
 use Rattle.std.proofs.lemmas.Option.{slice_get-get_or}
 use Rattle.edge_uses.proofs.Steps.{ok_weaker}
-use Rattle.face_orient.specs.declared.crossing.Crossing.{Crossing}
-use Rattle.face_orient.specs.OddRing.{row_numbers}
-use Rattle.face_orient.specs.Crossings.{no_step, partner_of}
+use Rattle.orient_certificate.specs.declared.crossing.Crossing.{Crossing}
+use Rattle.orient_certificate.specs.OddRing.{row_numbers}
+use Rattle.orient_certificate.specs.Crossings.{no_step, partner_of}
 use Rattle.face_orient.specs.Flood.{place_of}
 use Rattle.face_orient.specs.Paths.{LeadUpTo}
 use Rattle.face_orient.proofs.Climbs.{climb_low, ring_made}

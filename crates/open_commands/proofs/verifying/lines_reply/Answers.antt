@@ -4,7 +4,7 @@ use Rattle.cert_lines.specs.Line.{cut_lines}
 use Rattle.command_replies.specs.Texts.{accepted_line, fail_line, illegal_line}
 use Rattle.command_replies.specs.declared.answer.Answer.TheVariants.{Done, No}
 use Rattle.command_replies.proofs.Replying.{reply_owed}
-use Rattle.open_shells.specs.Legal.{IsOpenLegal, IsOpenFirstBad}
+use Rattle.open_certificate.specs.Legal.{IsOpenLegal, IsOpenFirstBad}
 use Rattle.solid_data.specs.Obligations.{FirstFalse}
 use Rattle.open_commands.specs.Checked.{open_checked}
 use Rattle.open_commands.specs.Due.{OfShellLines, place_fails, line_bad, lines_accepted}

@@ -1,4 +1,4 @@
-use Rattle.open_shells.proofs.Fans.{lone_no_mate}
+use Rattle.open_certificate.proofs.Fans.{lone_no_mate}
 use Rattle.open_shells.proofs.bordering.border_at.Goals as goal
 
 pub returns-in-Some-clause-none : goal.returns-in-Some-clause-none

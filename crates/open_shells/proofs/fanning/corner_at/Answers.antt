@@ -1,5 +1,5 @@
 use Rattle.std.proofs.Common.{arith, inr}
-use Rattle.shell_rules.specs.Closed.{IsPoint}
+use Rattle.edge_uses.specs.Around.{IsPoint}
 use Rattle.open_shells.proofs.FanWalks.{is_point, not_point, both_there}
 use Rattle.open_shells.proofs.fanning.corner_at.Goals as goal
 

@@ -1,7 +1,7 @@
 use Rattle.std.proofs.Common.{◌∙◌, ◌≡◌, sym, ap, arith, Some, slice_get, length}
 use Rattle.edge_uses.proofs.Steps.{none_of}
 use Rattle.edge_uses.specs.ShellRows.{ShellRows}
-use Rattle.open_shells.specs.Sound.{IsFanned}
+use Rattle.open_certificate.specs.Sound.{IsFanned}
 use Rattle.open_shells.specs.FanParts.{LiesAt}
 use Rattle.open_shells.proofs.OnceMates.{left_more, left_fails, zip_more, zip_done}
 use Rattle.open_shells.proofs.FanWalks.{some_of}

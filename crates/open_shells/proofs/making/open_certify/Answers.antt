@@ -1,6 +1,6 @@
 use Rattle.std.proofs.lemmas.Result.{err_from_is_err_and}
-use Rattle.open_shells.specs.Obligations.{open_obligations}
-use Rattle.open_shells.specs.declared.parts.OpenCertificate.{OpenCertificate}
+use Rattle.open_certificate.specs.Obligations.{open_obligations}
+use Rattle.open_certificate.specs.declared.parts.OpenCertificate.{OpenCertificate}
 use Rattle.open_shells.proofs.Certifying.{certificate_made, certificate_accepted, only_memory, only_so, never}
 use Rattle.open_shells.proofs.making.open_certify.Goals as goal
 

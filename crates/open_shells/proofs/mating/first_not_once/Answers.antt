@@ -1,7 +1,7 @@
 use Rattle.edge_uses.specs.Ranges.{IsWithin}
 use Rattle.solid_data.proofs.Members.{All-at, has_get}
 use Rattle.std.proofs.Common.{sym, ◌∙◌, ◌≡◌, true, false}
-use Rattle.open_shells.specs.Sound.{IsOnce}
+use Rattle.open_certificate.specs.Sound.{IsOnce}
 use Rattle.open_shells.proofs.OnceMates.{left_more, left_fails, seen_there}
 use Rattle.open_shells.proofs.mating.first_not_once.Goals as goal
 

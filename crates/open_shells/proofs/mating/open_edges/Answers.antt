@@ -1,6 +1,6 @@
 use Rattle.edge_uses.specs.Ranges.{IsWithin}
 use Rattle.std.proofs.Common.{arith}
-use Rattle.open_shells.specs.Sound.{IsOnce}
+use Rattle.open_certificate.specs.Sound.{IsOnce}
 use Rattle.open_shells.specs.Mating.{AreRowsOf}
 use Rattle.solid_data.proofs.Members.{All-at, has_get}
 use Rattle.open_shells.proofs.OnceMates.{zip_more, zip_done, seen_there}

@@ -1,7 +1,7 @@
 use Rattle.std.proofs.Common.{drop, List, ◌++◌}
 use Rattle.std.specs.List.{AllZip}
 use Rattle.open_shells.specs.Mating.{AreRowsOf}
-use Rattle.open_shells.specs.declared.parts.OpenEdge.{OpenEdge}
+use Rattle.open_certificate.specs.declared.parts.OpenEdge.{OpenEdge}
 use Rattle.open_shells.proofs.mating.open_edges.Given as goal
 
 abbrev pub invariant-edges : goal.invariant-edges

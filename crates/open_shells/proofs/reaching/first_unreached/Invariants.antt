@@ -1,6 +1,6 @@
 use Rattle.std.proofs.Common.{drop}
 use Rattle.solid_data.specs.Ring.{numbers_from}
-use Rattle.shell_rules.specs.Closed.{IsReached}
+use Rattle.edge_uses.specs.Around.{IsReached}
 use Rattle.edge_uses.proofs.FirstOf.{LeftIn}
 use Rattle.open_shells.proofs.reaching.first_unreached.Given as goal
 

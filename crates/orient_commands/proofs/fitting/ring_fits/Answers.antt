@@ -1,6 +1,6 @@
 use Rattle.std.specs.Prelude.{IsTrue}
 use Rattle.std.proofs.Common.{sym, ◌∙◌}
-use Rattle.face_orient.specs.OddRing.{row_numbers}
+use Rattle.orient_certificate.specs.OddRing.{row_numbers}
 use Rattle.orient_commands.proofs.ShellSteps.{name_ring}
 use Rattle.orient_commands.proofs.fitting.ring_fits.Goals as goal
 

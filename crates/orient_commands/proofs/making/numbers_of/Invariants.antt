@@ -1,5 +1,5 @@
 use Rattle.std.proofs.Common.{◌≡◌, suc, map, take}
-use Rattle.face_orient.specs.OddRing.{row_numbers}
+use Rattle.orient_certificate.specs.OddRing.{row_numbers}
 use Rattle.orient_commands.proofs.making.numbers_of.Given as goal
 
 abbrev pub invariant-rows : goal.invariant-rows

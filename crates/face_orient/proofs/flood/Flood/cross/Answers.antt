@@ -1,9 +1,9 @@
 use Rattle.std.proofs.Common.{◌≡◌, ◌+◌, ◌<◌, ◌∙◌, refl, sym, ap, arith, length, Some, slice_get, get_or, true}
 use Rattle.std.proofs.lemmas.Option.{slice_get-get_or, same_Some}
 use Rattle.edge_uses.proofs.Steps.{default_apart, ok_weaker}
-use Rattle.face_orient.specs.declared.crossing.Crossing.{Crossing}
+use Rattle.orient_certificate.specs.declared.crossing.Crossing.{Crossing}
 use Rattle.face_orient.specs.declared.flood.Place.{Place}
-use Rattle.face_orient.specs.Crossings.{no_step, flipped}
+use Rattle.orient_certificate.specs.Crossings.{no_step, flipped}
 use Rattle.face_orient.specs.Flood.{place_of, unreached}
 use Rattle.face_orient.proofs.Floods.{flood_more, flood_as, ok_two, depth_low, crossed_now}
 use Rattle.face_orient.proofs.flood.Flood.cross.Goals as goal

@@ -1,7 +1,0 @@
-use Rattle.std.proofs.Common.{◌≡◌, ◌<◌, ℕ, slice_get, Some}
-use Rattle.face_orient.specs.declared.crossing.Crossing.{Crossing}
-use Rattle.face_orient.specs.Crossings.{Agrees}
-use Rattle.face_orient.proofs.checking.all_agree.Given as goal
-
-abbrev pub invariant-steps : goal.invariant-steps
-invariant-steps l = (r : ℕ) (c : Crossing) → r < l.r → slice_get l.crossings r ≡ Some c → Agrees l.flags c

@@ -1,5 +1,0 @@
-use Rattle.face_orient.proofs.Lines.{only_line}
-use Rattle.face_orient.proofs.reading.orient_line.Goals as goal
-
-pub returns-clause-only : goal.returns-clause-only
-returns-clause-only c = only_line c.args.line.now c.read_line.result c.read_line.ensures.found c.read_line.ensures.fault

@@ -1,6 +1,0 @@
-use Rattle.std.proofs.Common.{◌≡◌, drop, ◌++◌}
-use Rattle.face_orient.specs.Line.{spaced}
-use Rattle.face_orient.proofs.writing.put_numbers.Given as goal
-
-abbrev pub invariant-numbers : goal.invariant-numbers
-invariant-numbers l = l.out ++ spaced (drop l.i l.numbers) ≡ l.fn.out ++ spaced l.numbers

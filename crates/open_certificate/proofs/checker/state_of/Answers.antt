@@ -1,0 +1,22 @@
+use Rattle.topo_certificate.proofs.PointOrder.{can_check}
+use Rattle.open_certificate.proofs.Checking.{one_shell}
+use Rattle.open_certificate.proofs.checker.state_of.Goals as goal
+
+pub rows-requires : goal.rows-requires
+rows-requires c = one_shell c.args.solid.now c.requires
+
+pub of-requires-clause-order : goal.of-requires-clause-order
+of-requires-clause-order c = (can_check c.args.solid.now 0 c.in_ok-rows.rows c.entity-entity.ensures.numbered
+    (one_shell c.args.solid.now c.requires) c.in_ok-rows.ensures).order
+
+pub of-requires-clause-some : goal.of-requires-clause-some
+of-requires-clause-some c = (can_check c.args.solid.now 0 c.in_ok-rows.rows c.entity-entity.ensures.numbered
+    (one_shell c.args.solid.now c.requires) c.in_ok-rows.ensures).some
+
+pub of-requires-clause-few_edges : goal.of-requires-clause-few_edges
+of-requires-clause-few_edges c = (can_check c.args.solid.now 0 c.in_ok-rows.rows c.entity-entity.ensures.numbered
+    (one_shell c.args.solid.now c.requires) c.in_ok-rows.ensures).few_edges
+
+pub of-requires-clause-few_vertices : goal.of-requires-clause-few_vertices
+of-requires-clause-few_vertices c = (can_check c.args.solid.now 0 c.in_ok-rows.rows c.entity-entity.ensures.numbered
+    (one_shell c.args.solid.now c.requires) c.in_ok-rows.ensures).few_vertices

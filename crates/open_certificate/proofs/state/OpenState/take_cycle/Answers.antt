@@ -1,0 +1,24 @@
+use Rattle.std.proofs.Common.{arith, subst, refl, sym, ◌-◌, true, false}
+use Rattle.open_certificate.specs.Line.{cycle}
+use Rattle.topo_certificate.specs.Kept.{HoldsMates}
+use Rattle.open_certificate.specs.Kept.{Takes}
+use Rattle.open_certificate.specs.contracts.state.OpenState.{the_view}
+use Rattle.open_certificate.proofs.Telling.{with_vertex, vertex_kept, cycle_takes, cycle_unfit}
+use Rattle.open_certificate.proofs.state.OpenState.take_cycle.Goals as goal
+
+pub returns-in_default-clause-line : goal.returns-in_default-clause-line
+returns-in_default-clause-line c = λ rs h.
+    subst (λ k. Takes k k (cycle rs) false) c.self.view_is
+    (cycle_unfit (the_view c.self.inside) (the_view c.self.inside) rs
+    (λ at hm same. c.in_default.ensures at rs (subst (λ ms. HoldsMates ms at.mates) (sym c.deref-2.ensures.value) hm) same h))
+
+pub invariant_of-self : goal.invariant_of-self
+invariant_of-self c = vertex_kept (the_view c.self.inside) c.in-Some.vertex.0 (c.self.inside.corners_due - 1) c.self.invariant
+    (omega (arith, c.if-self-eq0.false)) refl
+
+pub returns-clause-line : goal.returns-clause-line
+returns-clause-line c = λ rs h.
+    subst (λ k. Takes k (with_vertex (the_view c.self.inside) c.in-Some.vertex.0 (c.self.inside.corners_due - 1)) (cycle rs) true) c.self.view_is
+    (cycle_takes (the_view c.self.inside) rs c.in-Some.vertex.0 (c.self.inside.corners_due - 1) c.self.invariant (omega (arith, c.if-self-ne0.false))
+    (omega (arith, c.if-self-eq0.false)) refl
+    (λ at hm same. c.in-Some.ensures at rs (subst (λ ms. HoldsMates ms at.mates) (sym c.deref-2.ensures.value) hm) same h))

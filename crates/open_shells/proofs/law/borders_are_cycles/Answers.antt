@@ -1,5 +1,0 @@
-use Rattle.open_shells.proofs.Borders.{borders_are_cycles as law}
-use Rattle.open_shells.proofs.law.borders_are_cycles.Goals as goal
-
-pub returns : goal.returns
-returns c = law

@@ -1,5 +1,0 @@
-use Rattle.open_shells.proofs.ClosedShells as lemmas
-use Rattle.open_shells.proofs.law.closed_is_sound.Goals as goal
-
-pub returns : goal.returns
-returns c = lemmas.closed_is_sound

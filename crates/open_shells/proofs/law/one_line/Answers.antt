@@ -1,5 +1,0 @@
-use Rattle.open_shells.proofs.Spelling.{line_one}
-use Rattle.open_shells.proofs.law.one_line.Goals as goal
-
-pub returns : goal.returns
-returns c = line_one

@@ -1,5 +1,0 @@
-use Rattle.open_shells.proofs.Sound.{accepted_is_sound}
-use Rattle.open_shells.proofs.law.soundness.Goals as goal
-
-pub returns : goal.returns
-returns c = accepted_is_sound

@@ -1,0 +1,12 @@
+pub mod Walks
+pub mod Places
+pub mod Stepping
+pub mod Bare
+pub mod Crossed
+pub mod Lawful
+pub mod Answered
+pub mod Apart
+pub mod Digits
+pub mod Lines
+pub mod Worked
+pub mod Tallying

@@ -1,0 +1,12 @@
+use Rattle.std.proofs.Common.{ℕ, List, length, ◌++◌}
+use Rattle.orient_certificate.specs.Numbers.{AreNumbers, IsSpaced}
+use Rattle.orient_certificate.proofs.reading.numbers_of.Given as goal
+
+abbrev pub invariant-numbers : goal.invariant-numbers
+invariant-numbers l = record {
+  spaced : IsSpaced l.text → IsSpaced l.rest;
+  read : (ns : List ℕ) → AreNumbers l.rest ns → AreNumbers l.text (l.list ++ ns);
+}
+
+abbrev pub decreases-numbers : goal.decreases-numbers
+decreases-numbers l = length l.rest

@@ -1,0 +1,12 @@
+pub mod RuleNames
+pub mod Partners
+pub mod Flags
+pub mod OddRing
+pub mod Outcome
+pub mod Crossings
+pub mod Tally
+pub mod Graph
+pub mod Laws
+pub mod Checked
+pub mod Line
+pub mod Numbers

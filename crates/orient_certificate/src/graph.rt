@@ -1,0 +1,56 @@
+//! A shell as steps between its faces.
+
+ghost use Rattle.std.specs.Prelude.{◌≡◌, ◌<◌, length, slice_get, IfOk, IfErr, IfSome, Some};
+ghost use Rattle.solid_data.specs.Numbering.{IsNumberedSolid};
+ghost use Rattle.orient_certificate.specs.Outcome.{CountFails, IsFault};
+ghost use Rattle.orient_certificate.specs.Graph.{IsGraphOf};
+ghost use Rattle.orient_certificate.specs.Flags.{face_flags};
+
+use crate::crossing::{Crossing, forwards_of, steps_of};
+use crate::fault::OrientFault;
+use crate::naming::miscounted;
+use crate::tally::{first_miscounted, tally_of};
+use edge_uses::rows;
+use solid_data::{Shell, ShellAt, Solid};
+use std::alloc::Global;
+
+/// The steps of a shell's rows, how many faces it has, and the first one's flag.
+#[derive(Drop)]
+pub struct Graph {
+    /// One step for each row, by its number from 0.
+    pub crossings: Vec<Crossing>,
+    /// How many faces the shell has.
+    pub faces: usize,
+    /// The shell's orientation flag for its first face.
+    pub first: bool,
+}
+
+/// The flag of a shell's first face.
+fn first_flag(shell: &Shell) -> bool
+    requires { 0 < length shell.now.faces }
+    ensures { slice_get (face_flags (Some shell.now)) 0 ≡ Some result }
+{
+    shell.faces.as_slice()[0].flag
+}
+
+/// A shell as steps, or its least edge that hasn't two rows.
+pub fn graph_of(alloc: Global, solid: &Solid, at: ShellAt) -> Result<Graph, OrientFault>
+    requires { at.0 < length solid.now.shells }
+    ensures graph { IfOk result (λ g. IsGraphOf solid.now at.0 g.crossings.items g.faces g.first) }
+    ensures fault { IfErr result (IsFault (CountFails solid.now at.0)) }
+{
+    solid.recall_numbering();
+    let shell = solid.shell(at).unwrap();
+    let rows = rows(alloc, solid, at)?;
+    let tally = tally_of(alloc, &rows)?;
+    if let Some(edge) = first_miscounted(&rows, &tally) {
+        return Err(OrientFault::Fails(miscounted(solid, edge)));
+    }
+    let forwards = forwards_of(alloc, shell)?;
+    let crossings = steps_of(alloc, &rows, &tally, forwards.as_slice())?;
+    Ok(Graph {
+        crossings,
+        faces: rows.face_count(),
+        first: first_flag(shell),
+    })
+}
