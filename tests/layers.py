@@ -22,11 +22,11 @@ FUNCTION = re.compile(r"(?m)^ *(?:pub(?:\(\w+\))? )?(?:const )?fn \w+")
 CHAIN, LINES, FUNCTIONS = 8, 1500, 100
 # The longer chains: open_certificate stands on topo_certificate, whose functions on the rows of a line it uses; where's text goes through
 # record_paths and where_records, which say in which face a record fails. See docs/DECISIONS.md.
-LONGER = {"iges_solid_cmd": 9, "where_command": 9}
+LONGER = {"where_command": 9}
 # Still larger than the limits, and to be parted: the checker of lines, and all faults of a shell.
 LARGER = {"topo_certificate", "solid_faults"}
 # What says yes to certificates and orientations, and what makes them or parts of them.
-CHECKS = "topo_certificate", "solid_check", "open_certificate", "orient_certificate"
+CHECKS = "topo_certificate", "cert_accept", "open_certificate", "orient_certificate"
 MAKES = {"vertex_link", "shell_reach", "cert_maker", "open_shells", "face_orient"}
 
 

@@ -36,7 +36,7 @@ signed_field (b ∷ word) h =
           (ap are_field_bytes (sym (cond-true (b == 45) word (without_leading_plus (b ∷ word)) e)) ∙ h)
       | inr e ↦
           let plus : are_field_bytes (without_leading_plus (b ∷ word)) ≡ true = ap are_field_bytes
-              (sym (cond-false (b == 45) word (without_leading_plus (b ∷ word)) e)) ∙ h in
+          (sym (cond-false (b == 45) word (without_leading_plus (b ∷ word)) e)) ∙ h in
           elim (cases_Bool (b == 43)) [
             | inl f ↦ and_from (is_field_byte b) (are_field_bytes word) (subst (λ (x : ℕ). is_field_byte x ≡ true) (sym (eqb-true b 43 f)) refl)
                 (ap (λ (n : ℕ). are_field_bytes (drop n (b ∷ word))) (sym (cond-true (b == 43) 1 0 f)) ∙ plus)
@@ -60,7 +60,7 @@ number_bytes field z e =
     let t = trim-is field in
     ap are_field_bytes t.2
     ∙ list_all-both is_field_byte (spaces t.0 ++ trim field) (spaces t.1)
-        (list_all-both is_field_byte (spaces t.0) (trim field) (spaces_field t.0) (word_field (trim field) z e)) (spaces_field t.1)
+    (list_all-both is_field_byte (spaces t.0) (trim field) (spaces_field t.0) (word_field (trim field) z e)) (spaces_field t.1)
 
 pub field_in_tail : (b : ℕ) → is_field_byte b ≡ true → is_tail_byte b ≡ true
 field_in_tail b h =

@@ -132,7 +132,7 @@ module _ (c : LineCounts) (s : Section) (other : is_last s ≡ false) (in_order 
       let d = with_count c s m in
       let number : next_number d s ≡ m + 1 = ap (λ (k : ℕ). k + 1) (count_is c m s other) in
       let row = numbered_row d s l (subst (λ (k : ℕ). IsNumbered (letter_of s) k l) (sym number) h.0) (λ e. let no : false ≡ true = sym other
-          ∙ ap is_last e in absurd cc) in
+      ∙ ap is_last e in absurd cc) in
       let count = count_is c m s other in
       let fits : Fits d s = record { in_order = order_is c m s ∙ in_order; due = due_is c m s ∙ due; few = omega (arith, few, count) } in
       let w = walk todo more ps (n + 1) (m + 1) h.1 (omega (arith, few)) rest in
@@ -169,8 +169,12 @@ one_line (b ∷ bytes) h = let k : length (lines (b ∷ bytes)) ≡ 1 = ap (λ (
 
 module _ (bytes : List ℕ) (s : SectionLines) (within : length bytes ≤ FILE_LIMIT) (h : IsSectioned bytes s) where
   length_joined : length (joined s) ≡ length s.start + length s.global + length s.directory + length s.param
-  length_joined = omega (arith, length-append (s.start ++ s.global ++ s.directory) s.param, length-append (s.start ++ s.global) s.directory,
-      length-append s.start s.global)
+  length_joined = omega (
+    arith,
+    length-append (s.start ++ s.global ++ s.directory) s.param,
+    length-append (s.start ++ s.global) s.directory,
+    length-append s.start s.global,
+  )
 
   has_end : end_byte bytes ≡ 10
   has_end = elim (cases_Bool (list_any (λ b. b == 10) bytes)) [
@@ -199,25 +203,25 @@ module _ (bytes : List ℕ) (s : SectionLines) (within : length bytes ≤ FILE_L
       let tail = h.last ∷ h.after in
       let whole : map strip_carriage_return ps ≡ s.start ++ (s.global ++ (s.directory ++ (s.param ++ tail))) =
       ap (λ (x : Lines). map strip_carriage_return x) (same_pieces bytes) ∙ h.whole ∙ append_assoc (s.start ++ s.global ++ s.directory) s.param tail
-          ∙ append_assoc (s.start ++ s.global) s.directory (s.param ++ tail) ∙ append_assoc s.start s.global (s.directory ++ (s.param ++ tail)) in
+      ∙ append_assoc (s.start ++ s.global) s.directory (s.param ++ tail) ∙ append_assoc s.start s.global (s.directory ++ (s.param ++ tail)) in
       let c1 : LineCounts = record { start = length s.start; global = 0; directory = 0; param = 0 } in
       let c2 : LineCounts = record { start = length s.start; global = length s.global; directory = 0; param = 0 } in
       let c3 : LineCounts = record { start = length s.start; global = length s.global; directory = length s.directory; param = 0 } in
       let w1 = walk no_lines Start refl refl refl s.start (s.global ++ (s.directory ++ (s.param ++ tail))) ps 1 0 h.start (omega (arith, few, long)) whole in
       let w2 = walk c1 Global refl refl (some (length s.start) start) s.global (s.directory ++ (s.param ++ tail)) w1.left w1.place 0 h.global
-          (omega (arith, few, long)) w1.left_is in
+      (omega (arith, few, long)) w1.left_is in
       let w3 = walk c2 Directory refl refl (some (length s.global) global) s.directory (s.param ++ tail) w2.left w2.place 0 h.directory
-          (omega (arith, few, long)) w2.left_is in
+      (omega (arith, few, long)) w2.left_is in
       let w4 = walk c3 Param refl refl (some (length s.global) global) s.param tail w3.left w3.place 0 h.param (omega (arith, few, long)) w3.left_is in
       ap (λ (b : ℕ). laid (pieces b bytes) 1 no_lines) has_end
       ∙ w1.same
       ∙ ap (λ (n : ℕ). before (flat_map ended s.start) (laid w1.left w1.place (with_count no_lines Start n))) (zero-add (length s.start))
       ∙ ap (before (flat_map ended s.start)) (w2.same
-          ∙ ap (λ (n : ℕ). before (flat_map ended s.global) (laid w2.left w2.place (with_count c1 Global n))) (zero-add (length s.global))
+      ∙ ap (λ (n : ℕ). before (flat_map ended s.global) (laid w2.left w2.place (with_count c1 Global n))) (zero-add (length s.global))
       ∙ ap (before (flat_map ended s.global)) (w3.same
-          ∙ ap (λ (n : ℕ). before (flat_map ended s.directory) (laid w3.left w3.place (with_count c2 Directory n))) (zero-add (length s.directory))
+      ∙ ap (λ (n : ℕ). before (flat_map ended s.directory) (laid w3.left w3.place (with_count c2 Directory n))) (zero-add (length s.directory))
       ∙ ap (before (flat_map ended s.directory)) (w4.same
-          ∙ ap (λ (n : ℕ). before (flat_map ended s.param) (laid w4.left w4.place (with_count c3 Param n))) (zero-add (length s.param))
+      ∙ ap (λ (n : ℕ). before (flat_map ended s.param) (laid w4.left w4.place (with_count c3 Param n))) (zero-add (length s.param))
       ∙ ap (before (flat_map ended s.param)) (last_piece_is w4.left w4.place w4.left_is))))
       ∙ ap (λ (x : List ℕ). Ok x) text_is
     where
@@ -231,7 +235,7 @@ module _ (bytes : List ℕ) (s : SectionLines) (within : length bytes ≤ FILE_L
           let tail = strip_tail p in
           kept_last ps n (counts_of s) h.last tail.0 p (tail.1 ∙ ap (λ (x : List ℕ). x ++ tail.0) here) tail.2
           (numbered_row (counts_of s) Terminate h.last h.terminate.numbered (λ e. terminate_holds s h.last h.terminate))
-              (fits_from (counts_of s) Terminate (last_due s h.some_global))
+          (fits_from (counts_of s) Terminate (last_due s h.some_global))
 
       both : (xs ys : Lines) → flat_map ended (xs ++ ys) ≡ flat_map ended xs ++ flat_map ended ys
       both [] ys = refl
@@ -246,5 +250,5 @@ module _ (bytes : List ℕ) (s : SectionLines) (within : length bytes ≤ FILE_L
           let d = flat_map ended s.param in
           sym (both (joined s) (h.last ∷ []) ∙ ap (λ (x : List ℕ). flat_map ended (joined s) ++ x) (append-nil (ended h.last))
           ∙ ap (λ (x : List ℕ). x ++ ended h.last) (both (s.start ++ s.global ++ s.directory) s.param
-              ∙ ap (λ (x : List ℕ). x ++ d) (both (s.start ++ s.global) s.directory ∙ ap (λ (x : List ℕ). x ++ c) (both s.start s.global)))
+          ∙ ap (λ (x : List ℕ). x ++ d) (both (s.start ++ s.global) s.directory ∙ ap (λ (x : List ℕ). x ++ c) (both s.start s.global)))
           ∙ append_assoc (a ++ b ++ c) d (ended h.last) ∙ append_assoc (a ++ b) c (d ++ ended h.last) ∙ append_assoc a b (c ++ (d ++ ended h.last)))

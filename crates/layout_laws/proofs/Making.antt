@@ -189,7 +189,7 @@ made_none t n text begun e =
           let w = made_row t begun.few in
           let same : text ≡ ended r = cc in
           made_last t [] text r begun (last_due t (begun.before_param (omega arith))) w
-              (row_in_line c Terminate [] begun.few refl (number_is 1 [] (lit< tt)).1) same refl
+          (row_in_line c Terminate [] begun.few refl (number_is 1 [] (lit< tt)).1) same refl
     ]
 
 pub made : (ps : Lines) (n : ℕ) (t : SectionLines) (text : List ℕ) → Begun t → list_all is_in_line ps ≡ true → laid ps n (counts_of t) ≡ Ok text

@@ -39,7 +39,7 @@ pub whole_line : (line : List ℕ) → length line ≡ 80 → line ≡ columns 1
 whole_line line long =
     let seven : take 7 (drop 73 line) ≡ drop 73 line = take_all 7 (drop 73 line) (omega (arith, length-drop 73 line, long)) in
     sym (take-append-drop 72 line) ∙ ap (λ (l : List ℕ). take 72 line ++ l) (drop_more line 72 0 (omega (arith, long))
-        ∙ ap (λ (l : List ℕ). letter line ∷ l) (sym seven))
+    ∙ ap (λ (l : List ℕ). letter line ∷ l) (sym seven))
 
 pub length_field : (line : List ℕ) → 80 ≤ length line → length (columns 74 80 line) ≡ 7
 length_field line long = length-take-le 7 (drop 73 line) (omega (arith, length-drop 73 line))

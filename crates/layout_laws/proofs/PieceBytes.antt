@@ -60,7 +60,7 @@ pieces_text [] h = no_pieces 10
 pieces_text (l ∷ ls) h =
     let parts = and_parts (is_in_line l) (list_all is_in_line ls) h in
     ap (pieces 10) (append_assoc l (10 ∷ []) (flat_map ended ls)) ∙ cut_first 10 l (flat_map ended ls) parts.0
-        ∙ ap (λ (x : Lines). l ∷ x) (pieces_text ls parts.1)
+    ∙ ap (λ (x : Lines). l ∷ x) (pieces_text ls parts.1)
 
 -- they have an LF
 pub text_has_end : (l : List ℕ) (ls : Lines) → end_byte (flat_map ended (l ∷ ls)) ≡ 10

@@ -61,13 +61,13 @@ letter_not_blank Terminate = refl
 pub counts_same : (c : LineCounts) (xs ys : List ℕ) → take 72 xs ≡ take 72 ys → has_counts c xs ≡ has_counts c ys
 counts_same c xs ys e =
     ap (λ (f : List ℕ). has_count 83 c.start f && has_count 71 c.global (columns 9 16 xs) && has_count 68 c.directory
-        (columns 17 24 xs) && has_count 80 c.param (columns 25 32 xs)) (same_columns 0 8 xs ys (omega arith) e)
+    (columns 17 24 xs) && has_count 80 c.param (columns 25 32 xs)) (same_columns 0 8 xs ys (omega arith) e)
     ∙ ap (λ (f : List ℕ). has_count 83 c.start (columns 1 8 ys) && has_count 71 c.global f && has_count 68 c.directory
-        (columns 17 24 xs) && has_count 80 c.param (columns 25 32 xs)) (same_columns 8 8 xs ys (omega arith) e)
+    (columns 17 24 xs) && has_count 80 c.param (columns 25 32 xs)) (same_columns 8 8 xs ys (omega arith) e)
     ∙ ap (λ (f : List ℕ). has_count 83 c.start (columns 1 8 ys) && has_count 71 c.global (columns 9 16 ys) && has_count 68 c.directory f && has_count 80
-        c.param (columns 25 32 xs)) (same_columns 16 8 xs ys (omega arith) e)
+    c.param (columns 25 32 xs)) (same_columns 16 8 xs ys (omega arith) e)
     ∙ ap (λ (f : List ℕ). has_count 83 c.start (columns 1 8 ys) && has_count 71 c.global (columns 9 16 ys) && has_count 68 c.directory
-        (columns 17 24 ys) && has_count 80 c.param f) (same_columns 24 8 xs ys (omega arith) e)
+    (columns 17 24 ys) && has_count 80 c.param f) (same_columns 24 8 xs ys (omega arith) e)
 
 count_holds : (x n : ℕ) (f : List ℕ) → IsCount x n f → has_count x n f ≡ true
 count_holds x n f h = and_from (slice_index f 0 == x) (has_number (drop 1 f) n) (eq-eqb _ _ h.0) (is-has_number (drop 1 f) n h.1)
@@ -75,7 +75,7 @@ count_holds x n f h = and_from (slice_index f 0 == x) (has_number (drop 1 f) n) 
 pub terminate_holds : (t : SectionLines) (l : List ℕ) → IsTerminate t l → has_counts (counts_of t) l ≡ true
 terminate_holds t l h =
     and_from _ _ (and_from _ _ (and_from _ _ (count_holds 83 (length t.start) (columns 1 8 l) h.start)
-        (count_holds 71 (length t.global) (columns 9 16 l) h.global))
+    (count_holds 71 (length t.global) (columns 9 16 l) h.global))
     (count_holds 68 (length t.directory) (columns 17 24 l) h.directory)) (count_holds 80 (length t.param) (columns 25 32 l) h.param)
 
 length_counts : (c : LineCounts) → length (counts_columns c) ≡ 72
@@ -93,9 +93,9 @@ made_counts t rest few =
     let p = few.param in
     let long = length_counts c in
     let line = terminates t c.start c.global c.directory c.param refl refl refl refl (omega (arith, s)) (omega (arith, g)) (omega (arith, d))
-        (omega (arith, p)) in
+    (omega (arith, p)) in
     counts_same c (counts_columns c ++ rest) (counts_columns c ++ tail) (take_at (counts_columns c) rest 72 long
-        ∙ sym (take_at (counts_columns c) tail 72 long)) ∙ terminate_holds t (counts_columns c ++ tail) line
+    ∙ sym (take_at (counts_columns c) tail 72 long)) ∙ terminate_holds t (counts_columns c ++ tail) line
 
 -- ---- the row of a line
 
@@ -137,8 +137,11 @@ module _ (t : SectionLines) (few : AreFew (counts_of t)) where
               λ rest. ap (λ (f : List ℕ). has_counts c (f ++ rest)) is
                   ∙ counts_same c (columns 1 72 line ++ rest) line (take_at (columns 1 72 line) rest 72 wide) ∙ h,
             )
-        | inr f ↦ let is = content_made c line f in (ap length is ∙ length_counts c, λ rest. ap (λ (x : List ℕ). has_counts c (x ++ rest)) is
-            ∙ made_counts t rest few)
+        | inr f ↦ let is = content_made c line f in (
+          ap length is ∙ length_counts c,
+          λ rest. ap (λ (x : List ℕ). has_counts c (x ++ rest)) is
+              ∙ made_counts t rest few,
+        )
       ]
 
   last_row : (line : List ℕ) → (has_counts (counts_of t) line ≡ true → 72 ≤ length line) → IsRow (counts_of t) Terminate (row (counts_of t) Terminate line)
@@ -211,9 +214,9 @@ module _ (c : LineCounts) (s : Section) (r tail piece : List ℕ) (is : piece �
       let seven = w.seven in
       let at : get_or piece (73 + i) 0 ≡ get_or w.field i 0 =
       ap (λ (l : List ℕ). get_or l (73 + i) 0) whole ∙ at_field w.front w.field tail (letter_of s) w.long w.seven i
-          ∙ get_or_append_left w.field tail 0 i (omega (arith, lt, seven)) in
+      ∙ get_or_append_left w.field tail 0 i (omega (arith, lt, seven)) in
       ap section_of at ∙ tail_no_letter (get_or w.field i 0)
-          (field_in_tail (get_or w.field i 0) (all_at is_field_byte w.field i (omega (arith, lt, seven)) bytes))
+      (field_in_tail (get_or w.field i 0) (all_at is_field_byte w.field i (omega (arith, lt, seven)) bytes))
 
   no_mark : (i : ℕ) → i < 7 → has_letter_at piece (73 + i) ≡ false
   no_mark i lt = and_right (nat_lt (73 + i) (length piece)) _ (ap (λ (o : Option Section). is_some o) (no_letter i lt))
@@ -222,7 +225,7 @@ module _ (c : LineCounts) (s : Section) (r tail piece : List ℕ) (is : piece �
   unfolding unmarked
   unmarked_is =
       cond-false _ _ _ (and_left (has_letter_at piece 75 && begins_with_two piece 239 187) (slice_index piece 2 == 191)
-          (and_left (has_letter_at piece 75) (begins_with_two piece 239 187) (no_mark 2 (omega arith))))
+      (and_left (has_letter_at piece 75) (begins_with_two piece 239 187) (no_mark 2 (omega arith))))
       ∙ cond-false _ _ _ (and_left (has_letter_at piece 73) (slice_index piece 0 == 12) (no_mark 0 (omega arith)))
 
   long : length piece ≡ 80 + length tail
@@ -260,8 +263,13 @@ module _ (c : LineCounts) (s : Section) (r tail piece : List ℕ) (is : piece �
 
   pub kept_good : section_fault c s ≡ None → IsGood c (unmarked piece) s
   kept_good fits =
-      subst (λ (l : List ℕ). IsGood c l s) (sym unmarked_is) (record { some = not_blank; no_fault = no_fault; section = ap section_of letter_at
-          ∙ letter_names s; fits = fits })
+      subst (λ (l : List ℕ). IsGood c l s) (sym unmarked_is) (record {
+        some = not_blank;
+        no_fault = no_fault;
+        section = ap section_of letter_at
+            ∙ letter_names s;
+        fits = fits;
+      })
 
   r_content : take 72 r ≡ w.front
   r_content = ap (take 72) w.parts ∙ take_at w.front (letter_of s ∷ w.field) 72 w.long

@@ -31,7 +31,7 @@ numbered_lines s other m (l ∷ ls) h k =
     let p = and_parts (is_in_line l) (list_all is_in_line ls) k in
     let c = with_count no_lines s m in
     let w = numbered_row c s l (subst (λ (n : ℕ). IsNumbered (letter_of s) n l) (sym (number_is_next no_lines m s other)) h.0)
-        (λ e. let no : false ≡ true = sym other ∙ ap is_last e in absurd cc) in
+    (λ e. let no : false ≡ true = sym other ∙ ap is_last e in absurd cc) in
     (row_line c s l w p.0, numbered_lines s other (m + 1) ls h.1 p.1)
 
 strip_in_line : (ps : Lines) → list_all is_in_line ps ≡ true → list_all is_in_line (map strip_carriage_return ps) ≡ true
@@ -40,7 +40,7 @@ strip_in_line (p ∷ ps) h =
     let k = and_parts (is_in_line p) (list_all is_in_line ps) h in
     let tail = strip_tail p in
     let front : is_in_line (strip_carriage_return p) ≡ true = (list_all-parts (λ b. not (b == 10)) (strip_carriage_return p) tail.0 (ap is_in_line (sym tail.1)
-        ∙ k.0)).0 in
+    ∙ k.0)).0 in
     and_from (is_in_line (strip_carriage_return p)) (list_all is_in_line (map strip_carriage_return ps)) front (strip_in_line ps k.1)
 
 lines_in_line : (bytes : List ℕ) → list_all is_in_line (lines bytes) ≡ true
@@ -62,7 +62,7 @@ module _ (bytes : List ℕ) (s : SectionLines) (within : length bytes ≤ FILE_L
       let c = list_all-parts is_in_line (s.start ++ s.global) s.directory d.0 in
       let b = list_all-parts is_in_line s.start s.global c.0 in
       let last = row_line (counts_of s) Terminate h.last
-          (numbered_row (counts_of s) Terminate h.last h.terminate.numbered (λ e. terminate_holds s h.last h.terminate)) last_in_line in
+      (numbered_row (counts_of s) Terminate h.last h.terminate.numbered (λ e. terminate_holds s h.last h.terminate)) last_in_line in
       all_append IsLine (joined s) (h.last ∷ [])
       (all_append IsLine (s.start ++ s.global ++ s.directory) s.param
       (all_append IsLine (s.start ++ s.global) s.directory

@@ -76,11 +76,11 @@ shifted content tail b all other e =
           let at : letter line ≡ get_or tail (71 - length content) 0 =
           get_or-append_right content (b ∷ tail) (length content) 72 0 refl (omega arith) ∙ ap (λ (i : ℕ). get_or (b ∷ tail) i 0) next in
           let byte : is_tail_byte (letter line) ≡ true = ap is_tail_byte at
-              ∙ all_at is_tail_byte tail (71 - length content) (omega (arith, long, length-append content (b ∷ tail))) all in
+          ∙ all_at is_tail_byte tail (71 - length content) (omega (arith, long, length-append content (b ∷ tail))) all in
           absurd (both_ways (is_some (section_of (letter line))) (ap (λ (o : Option Section). is_some o) (tail_no_letter (letter line) byte)) p.has_letter)
       | inr (inr gt) ↦
           let cut : drop 73 line ≡ drop 73 content ++ b ∷ tail = drop-append-le 73 content (b ∷ tail) (omega arith) in
           let behind : list_all is_tail_byte (b ∷ tail) ≡ true =
-              (list_all-parts is_tail_byte (drop 73 content) (b ∷ tail) (ap (list_all is_tail_byte) (sym cut) ∙ p.tail)).1 in
+          (list_all-parts is_tail_byte (drop 73 content) (b ∷ tail) (ap (list_all is_tail_byte) (sym cut) ∙ p.tail)).1 in
           absurd (both_ways (is_tail_byte b) other (and_parts (is_tail_byte b) (list_all is_tail_byte tail) behind).0)
     ]

@@ -58,7 +58,7 @@ module _ (c : LineCounts) (s : Section) (r : List ℕ) (w : IsRow c s r) where
       let seven = w.seven in
       let bytes = number_bytes w.field _ w.number in
       let behind : drop 6 w.field ≡ last ∷ [] = drop_more w.field 6 0 (omega (arith, seven))
-          ∙ ap (λ (l : List ℕ). last ∷ l) (drop_all 7 w.field (omega (arith, seven))) in
+      ∙ ap (λ (l : List ℕ). last ∷ l) (drop_all 7 w.field (omega (arith, seven))) in
       let split : w.field ≡ take 6 w.field ++ last ∷ [] = sym (take-append-drop 6 w.field) ∙ ap (λ (l : List ℕ). take 6 w.field ++ l) behind in
       record {
         no_end = inside;
@@ -75,7 +75,7 @@ pub row_terminate : (t : SectionLines) (r : List ℕ) → IsRow (counts_of t) Te
 row_terminate t r w =
     let c = counts_of t in
     let a = and_parts (has_count 83 c.start (columns 1 8 r) && has_count 71 c.global (columns 9 16 r) && has_count 68 c.directory (columns 17 24 r))
-        (has_count 80 c.param (columns 25 32 r)) (w.counts refl) in
+    (has_count 80 c.param (columns 25 32 r)) (w.counts refl) in
     let b = and_parts (has_count 83 c.start (columns 1 8 r) && has_count 71 c.global (columns 9 16 r)) (has_count 68 c.directory (columns 17 24 r)) a.0 in
     let d = and_parts (has_count 83 c.start (columns 1 8 r)) (has_count 71 c.global (columns 9 16 r)) b.0 in
     record {
@@ -112,7 +112,7 @@ counts_in_line c few =
     (list_all-both q (count_field 83 c.start ++ count_field 71 c.global ++ count_field 68 c.directory) (count_field 80 c.param)
     (list_all-both q (count_field 83 c.start ++ count_field 71 c.global) (count_field 68 c.directory)
     (list_all-both q (count_field 83 c.start) (count_field 71 c.global) (count_in_line 83 c.start refl (omega (arith, s)))
-        (count_in_line 71 c.global refl (omega (arith, g))))
+    (count_in_line 71 c.global refl (omega (arith, g))))
     (count_in_line 68 c.directory refl (omega (arith, d)))) (count_in_line 80 c.param refl (omega (arith, p)))) refl
 
 content_in_line : (c : LineCounts) (s : Section) (line : List ℕ) → AreFew c → is_in_line line ≡ true → is_in_line (content c s line) ≡ true
@@ -232,11 +232,11 @@ join_put t Global r e o =
     let c = nil t.directory p.0 in
     let d = nil t.param p.1 in
     two t.start (t.global ++ r ∷ []) t.directory t.param c d ∙ sym (append_assoc t.start t.global (r ∷ []))
-        ∙ ap (λ (x : Lines). x ++ r ∷ []) (sym (two t.start t.global t.directory t.param c d))
+    ∙ ap (λ (x : Lines). x ++ r ∷ []) (sym (two t.start t.global t.directory t.param c d))
 join_put t Directory r e o =
     let d = nil t.param o in
     three t.start t.global (t.directory ++ r ∷ []) t.param d ∙ sym (append_assoc (t.start ++ t.global) t.directory (r ∷ []))
-        ∙ ap (λ (x : Lines). x ++ r ∷ []) (sym (three t.start t.global t.directory t.param d))
+    ∙ ap (λ (x : Lines). x ++ r ∷ []) (sym (three t.start t.global t.directory t.param d))
 join_put t Param r e o = sym (append_assoc (t.start ++ t.global ++ t.directory) t.param (r ∷ []))
 join_put t Terminate r e o = absurd cc
 
@@ -314,8 +314,12 @@ begun_put t Terminate r h fits new = h
 
 -- the last line is due
 pub last_due : (t : SectionLines) → 0 < length t.global → Fits (counts_of t) Terminate
-last_due t some = record { in_order = refl; due = not_from_false (length t.global == 0)
-    (ne_eqb (length t.global) 0 (λ e. let k : length t.global ≡ 0 = e in absurd (omega arith))); few = omega arith }
+last_due t some = record {
+  in_order = refl;
+  due = not_from_false (length t.global == 0)
+      (ne_eqb (length t.global) 0 (λ e. let k : length t.global ≡ 0 = e in absurd (omega arith)));
+  few = omega arith;
+}
 
 pub global_of : (t : SectionLines) → Fits (counts_of t) Terminate → 0 < length t.global
 global_of t h = some_of (length t.global) h.due

@@ -25,7 +25,7 @@ module _ (e : ℕ) where
   cut_first (b ∷ p) rest h =
       let k = and_parts (not (b == e)) (list_all (λ x. not (x == e)) p) h in
       cond-false (b == e) ([] ∷ pieces e (p ++ e ∷ rest)) (before_pieces b (pieces e (p ++ e ∷ rest))) (not-true (b == e) k.0)
-          ∙ ap (before_pieces b) (cut_first p rest k.1)
+      ∙ ap (before_pieces b) (cut_first p rest k.1)
 
   -- a last piece without an end
   pub cut_last : (p : List ℕ) → list_all (λ b. not (b == e)) p ≡ true → 0 < length p → pieces e p ≡ p ∷ []
@@ -50,7 +50,7 @@ module _ (e : ℕ) where
   cut_first_cut (b ∷ p) rest h =
       let k = and_parts (not (b == e)) (list_all (λ x. not (x == e)) p) h in
       cond-false (b == e) (made_cut [] (e == 10) (p ++ e ∷ rest) ∷ cuts e (p ++ e ∷ rest)) (before_cuts b (cuts e (p ++ e ∷ rest))) (not-true (b == e) k.0)
-          ∙ ap (before_cuts b) (cut_first_cut p rest k.1)
+      ∙ ap (before_cuts b) (cut_first_cut p rest k.1)
 
   cut_last_cut : (p : List ℕ) → list_all (λ b. not (b == e)) p ≡ true → 0 < length p → cuts e p ≡ made_cut p false [] ∷ []
   unfolding cuts
@@ -94,7 +94,7 @@ module _ (e : ℕ) where
             let end : y ≡ e = rest_ends xs y ys (ap (λ (m : ℕ). drop m xs) (sym n-is) ∙ sym rest-is ∙ h) in
             let one : length (y ∷ ys) - 1 ≡ length ys = omega arith in
             let back : after ≡ ys = is ∙ ap (λ (r : List ℕ). take (length r - 1) (drop 1 r)) h ∙ ap (λ (k : ℕ). take k ys) one
-                ∙ take_all (length ys) ys (omega arith) in
+            ∙ take_all (length ys) ys (omega arith) in
             ap (λ (b : ℕ). b ∷ ys) end ∙ ap (λ (t : List ℕ). e ∷ t) (sym back)
 
     pub first_of_more : 1 ≤ length rest → (after : List ℕ) → after ≡ take (length rest - 1) (drop 1 rest)
@@ -116,7 +116,7 @@ module _ (e : ℕ) where
     cut_of_more more after is =
         let w = with_more more after is in
         let fed : nat_lt (length piece) (length xs - length after) ≡ true = lt-ltb (length piece) (length xs - length after)
-            (omega (arith, ap length w, length-append piece (e ∷ after))) in
+        (omega (arith, ap length w, length-append piece (e ∷ after))) in
         ap (cuts e) w ∙ cut_first_cut piece after on_line
         ∙ ap (λ (f : Bool). made_cut piece f after ∷ cuts e after) (sym (and_true (e == 10) (nat_lt (length piece) (length xs - length after)) fed))
 
@@ -128,7 +128,7 @@ module _ (e : ℕ) where
         by_rest [] h m =
             let all : xs ≡ piece = whole ∙ ap (λ (r : List ℕ). piece ++ r) h ∙ append-nil piece in
             let unfed : nat_lt (length piece) (length xs - 0) ≡ false = false_from_ne_true (nat_lt (length piece) (length xs - 0))
-                (λ t. omega (arith, ap length all, ltb-true (length piece) (length xs - 0) t)) in
+            (λ t. omega (arith, ap length all, ltb-true (length piece) (length xs - 0) t)) in
             ap (cuts e) all ∙ cut_last_cut piece on_line (omega (arith, ap length all))
             ∙ ap (λ (f : Bool). made_cut piece f [] ∷ []) (sym (and_right (e == 10) (nat_lt (length piece) (length xs - 0)) unfed))
             ∙ ap (λ (cs : List Cut). first_cut e xs piece [] ∷ cs) (sym no_cuts)

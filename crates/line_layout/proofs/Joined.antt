@@ -48,7 +48,7 @@ joined_more t n (suc m) [] =
     ∙ sym (noted_some t n (suc m) (omega arith))
 joined_more t n (suc m) (x ∷ ns) =
     same_tally (t.times + (length (replicate m n ++ x ∷ ns) + 1)) (t.times + suc m + (length ns + 1)) (line_of t n)
-        (line_of (tally_at (t.times + suc m) (line_of t n)) x) (omega (arith, length-more m n (x ∷ ns)))
+    (line_of (tally_at (t.times + suc m) (line_of t n)) x) (omega (arith, length-more m n (x ∷ ns)))
     (sym (cond-false (t.times + suc m == 0) x (line_of t n) (nonzero (t.times + suc m) (omega arith))))
     ∙ ap (λ (u : Tally). joined u (x ∷ ns)) (sym (noted_some t n (suc m) (omega arith)))
 

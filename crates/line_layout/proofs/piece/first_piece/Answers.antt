@@ -9,7 +9,7 @@ split_at-requires c = omega (arith, c.piece_len.ensures, prefix_len-le-length (Î
 pub returns-in-empty : goal.returns-in-empty
 returns-in-empty c =
     let h = first_of_last c.args.end c.args.bytes.now _ _ _ c.requires c.piece_len.ensures c.split_at.ensures.front c.split_at.ensures.back
-        c.in-empty.len_below in
+    c.in-empty.len_below in
     record {
       pieces = h.0;
       shorter = h.1;
@@ -19,7 +19,7 @@ returns-in-empty c =
 pub returns-in-len1-up : goal.returns-in-len1-up
 returns-in-len1-up c =
     let h = first_of_more c.args.end c.args.bytes.now _ _ _ c.requires c.piece_len.ensures c.split_at.ensures.front c.split_at.ensures.back
-        c.in-len1-up.len_at_least _ refl in
+    c.in-len1-up.len_at_least _ refl in
     record {
       pieces = h.0;
       shorter = h.1;

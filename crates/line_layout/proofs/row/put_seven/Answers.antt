@@ -12,4 +12,4 @@ pub returns : goal.returns
 returns c =
     subst (λ (x : List ℕ). OnOk c.put.result (c.put.new.self ≡ c.args.out.now ++ x))
     (right_written c.write_digits.new.buf _ (decimal c.args.n) c.write_digits.result 7 refl c.write_digits.ensures.start c.write_digits.ensures.written
-        c.write_digits.ensures.before) c.put.ensures.ok
+    c.write_digits.ensures.before) c.put.ensures.ok

@@ -29,13 +29,13 @@ returns-in-None c =
     let piece = c.first_piece.result.0.now in
     let after = c.first_piece.result.1.now in
     let happened = c.happens.ensures ∙ ap (λ (j : Judged). happens k counts j piece c.has_feed-feed.result) c.judge-judged.ensures
-        ∙ ap (happens k counts (judge counts piece) piece) c.has_feed-feed.ensures in
+    ∙ ap (happens k counts (judge counts piece) piece) c.has_feed-feed.ensures in
     let new = c.noted-found.ensures.is ∙ ap (noted c.pieces.found c.pieces.number) (c.once.ensures.is ∙ ap once happened) in
     let stops = sym (c.lines_after.ensures.is ∙ ap (lines_after counts) c.judge-judged.ensures) ∙ c.in-None.is in
     c.noted.ensures.is
     ∙ ap (noted c.noted-found.result (c.pieces.number + 1)) (c.dropped.ensures.is ∙ ap (λ (j : Judged). dropped k j after) c.judge-judged.ensures)
     ∙ goes_no_further k c.end_byte-ending.result c.pieces.number counts c.pieces.found c.pieces.left.now piece after
-        (tally_of (changed_lines k c.args.bytes.now))
+    (tally_of (changed_lines k c.args.bytes.now))
     c.first_piece.ensures.cuts c.pieces.invariant.same c.noted-found.result new stops
 
 pub pieces-preserved : goal.pieces-preserved
@@ -45,7 +45,7 @@ pieces-preserved c =
     let piece = c.first_piece.result.0.now in
     let after = c.first_piece.result.1.now in
     let happened = c.happens.ensures ∙ ap (λ (j : Judged). happens k counts j piece c.has_feed-feed.result) c.judge-judged.ensures
-        ∙ ap (happens k counts (judge counts piece) piece) c.has_feed-feed.ensures in
+    ∙ ap (happens k counts (judge counts piece) piece) c.has_feed-feed.ensures in
     let new = c.noted-found.ensures.is ∙ ap (noted c.pieces.found c.pieces.number) (c.once.ensures.is ∙ ap once happened) in
     let goes = sym (c.lines_after.ensures.is ∙ ap (lines_after counts) c.judge-judged.ensures) ∙ c.in-Some.is in
     let shorter = c.first_piece.ensures.shorter in
@@ -71,9 +71,9 @@ returns c =
     let k = c.args.change in
     let total = tally_of (changed_lines k c.args.bytes.now) in
     let none : c.pieces.left.now ≡ [] = nil c.pieces.left.now (let e = eqb-true (length c.pieces.left.now) 0 (sym c.is_empty.ensures
-        ∙ c.pieces-test.false) in omega (arith, e)) in
+    ∙ c.pieces-test.false) in omega (arith, e)) in
     let same = subst (λ (l : List ℕ). joined c.pieces.found (changed_from k (cuts c.end_byte-ending.result l) c.pieces.number c.pieces.counts) ≡ total) none
-        c.pieces.invariant.same in
+    c.pieces.invariant.same in
     c.noted-2.ensures.is
     ∙ ap (noted c.pieces.found c.pieces.number) (c.once-2.ensures.is ∙ ap once c.is_of_counts.ensures)
     ∙ ends_so k c.end_byte-ending.result c.pieces.number c.pieces.counts c.pieces.found total same

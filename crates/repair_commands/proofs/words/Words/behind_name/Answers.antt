@@ -10,6 +10,6 @@ returns c =
     let same : into_iter_len c.args.args ≡ length (into_iter_items c.args.args) = search rules in
     let ran = (c.in_ok-words.ensures {u = tt}).ran in
     let all = YieldsList-from_skip 1 (YieldsList-from_vec (into_iter_items c.args.args) (ap into_iter_items c.skip.ensures.source)
-        (ap into_iter_len c.skip.ensures.source ∙ same)) c.skip.ensures.count in
+    (ap into_iter_len c.skip.ensures.source ∙ same)) c.skip.ensures.count in
     let items = sym (map-id ran.0) ∙ items_from_drains ran.0 ran.1 all in
     ap (map string_bytes) (ran.2.0 ∙ items) ∙ sym (drop-map string_bytes 1 (into_iter_items c.args.args))
