@@ -1,5 +1,5 @@
 /** The checks of the picture's geometry: each gives names and whether they hold. */
-import { curveOf, edgePoints, pointsAlong } from "../../companion/picture_js/curves.js";
+import { curveOf, edgePoints, evenFit, pointsAlong } from "../../companion/picture_js/curves.js";
 import { areaOf, meshOf } from "../../companion/picture_js/mesh.js";
 import { Picture } from "../../companion/picture_js/picture.js";
 import { IgesFile } from "../../companion/picture_js/records.js";
@@ -99,16 +99,16 @@ function deviationOf(curve, points) {
 export function* curves() {
   for (const [name, records, start, end, holds] of CURVES) {
     const curve = curveOf(new IgesFile(fileOf(records)), 1);
-    const points = edgePoints(curve, start, end, 0.003);
+    const points = edgePoints(curve, start, end, evenFit(0.003));
     const isThere = points[0] === start && points.at(-1) === end;
     yield [`picture: ${name}`, isThere && points.every(holds)];
     yield [`picture: ${name} is near its chords`,
-      deviationOf(curve, pointsAlong(curve, 0.003)) <= 0.0031];
+      deviationOf(curve, pointsAlong(curve, evenFit(0.003))) <= 0.0031];
   }
   for (const [name, records] of UNDRAWN) {
     let isRefused = false;
     try {
-      edgePoints(curveOf(new IgesFile(fileOf(records)), 1), [0, 0, 0], [3, 0, 0], 0.01);
+      edgePoints(curveOf(new IgesFile(fileOf(records)), 1), [0, 0, 0], [3, 0, 0], evenFit(0.01));
     } catch {
       isRefused = true;
     }
@@ -286,11 +286,23 @@ export function* areas({ file }) {
     ["cube", 1, [6]], ["cylinder", 1, [4 * Math.PI]], ["ball", 1, [4 * Math.PI]],
       ["point", 1, [4 * Math.PI]],
     ["14_box_void_sphere", 3, [2400, 100 * Math.PI]], ["05_sphere", 1, [196 * Math.PI]],
+    ["torus", 1, [400 * Math.PI ** 2]],
+    ["box_under_a_parametric_spline_surface", 1, [70 + lidArea()]],
   ];
   for (const [name, number, wanted] of known) {
     const found = areasOf(file(name), number);
     yield [`picture: the area of ${name}: ${found}`, found.every((it, k) => isNear(it, wanted[k]))];
   }
+}
+
+/** The area of z = p(x) + p(y) / 2 for x and y from 0 to 4 (tests/spline_files.py says of p). */
+function lidArea() {
+  const count = 400, slope = x =>
+    (x < 2 ? x * (1.5 - 0.75 * x) : (x - 2) * (0.75 * (x - 2) - 1.5));
+  const places = Array.from({ length: count }, (_, k) => slope((4 * (k + 0.5)) / count) ** 2);
+  const sum = places.reduce((sum, a) =>
+    sum + places.reduce((part, b) => part + Math.sqrt(1 + a + b / 4), 0), 0);
+  return sum * (4 / count) ** 2;
 }
 
 /** The circle of radius 1 round (5, 0, 0) in the XZ plane, from (6, 0, 0) on, as a B-spline. */
