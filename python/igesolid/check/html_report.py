@@ -156,18 +156,22 @@ def reason_of(report: Report, drawn: Dict[Tuple[str, int], Drawn]) -> str:
 def links_of(report: Report, drawn: Dict[Tuple[str, int], Drawn]) -> str:
     numbers = [it.number for it in report.failing] or [0]
     found = [(number, drawn[report.file, number].page) for number in numbers if (report.file, number) in drawn]
-    return ", ".join(f'<a href="{PAGES}/{html.escape(page)}">{f"solid {number}" if number else "lines"}</a>' for number, page in found)
+    return ", ".join(f'<a href="{PAGES}/{page}">{f"solid {number}" if number else "lines"}</a>' for number, page in found)
+
+
+def escaped(text: str) -> str:
+    return html.escape(printable(text), quote=False)
 
 
 def row_of(report: Report, drawn: Dict[Tuple[str, int], Drawn]) -> str:
     closed = len(report.solids) - len(report.failing)
     kind = "closed" if report.word == "closed" else "fails"
     cells = [
-        f"<td>{html.escape(printable(report.file))}",
-        f'<td class="{kind}">{html.escape(report.word)}',
+        f"<td>{escaped(report.file)}",
+        f'<td class="{kind}">{report.word}',
         f"<td class=count>{len(report.solids)}",
         f"<td class=count>{closed}",
-        f"<td>{html.escape(printable(reason_of(report, drawn)))}",
+        f"<td>{escaped(reason_of(report, drawn))}",
         f"<td>{links_of(report, drawn)}",
     ]
     return f"<tr>{''.join(cells)}\n"
@@ -217,5 +221,5 @@ def index_of(reports: Iterable[Report], drawn: Dict[Tuple[str, int], Drawn], tol
     heads = "".join(f"<th scope=col><button>{it}</button>" for it in COLUMNS)
     rows = "".join(row_of(it, drawn) for it in reports)
     table = f"<table>\n<thead><tr>{heads}\n<tbody>\n{rows}</table>\n"
-    text = f"{HEAD}<style>{STYLE}</style>\n<h1>igesolid check</h1>\n<p>{html.escape(told)}</p>\n{table}<script>{SCRIPT}</script>\n"
+    text = f"{HEAD}<style>{STYLE}</style>\n<h1>igesolid check</h1>\n<p>{escaped(told)}</p>\n{table}<script>{SCRIPT}</script>\n"
     return MARK + text.encode("utf-8", "replace")
