@@ -46,6 +46,9 @@ def rows(parts):
     of_bad, of_solid = ((folder / found[name][4][0][0]).read_bytes() for name in ("parts/no/bad.igs", "parts/no/tetrahedra.iges"))
     page = parts.copy.run(parts.launcher, "page", "parts/no/tetrahedra.iges", "1", cwd=parts.folder)[1]
     yield "check --html: a page of a solid", parts_of(of_solid) == parts_of(page) and of_solid.split(b"@")[0][:200] == page[:200]
+    parts.check(parts.copy.top / "examples" / "no" / "fail_pair.igs", "--html", "pair")
+    reason = next(iter(index_in(parts.folder / "pair")[1].values()))[3]
+    yield "check --html: edges that aren't paired", reason == "solid 1: fail PAIR 7 1: 1 edge used by one face alone"
     yield "check --html: a page of a bad file", parts_of(of_bad)[0] == b"bad.igs\0" and parts_of(of_bad)[1].startswith(b"bad file line 2 length\n")
 
 

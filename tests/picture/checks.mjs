@@ -5,6 +5,9 @@ import { Picture } from "../../companion/picture_js/picture.js";
 import { IgesFile } from "../../companion/picture_js/records.js";
 import { sceneOf } from "../../companion/picture_js/scene.js";
 import { Solid } from "../../companion/picture_js/solid.js";
+import { normalAt } from "../../companion/picture_js/spline_surfaces.js";
+import { surfaceOf } from "../../companion/picture_js/surfaces.js";
+import { cross, lengthOf, minus } from "../../companion/picture_js/vectors.js";
 import { answerOf, NotUnderstood } from "../../companion/picture_js/where_text.js";
 import { faceFile, fileOf } from "./iges.mjs";
 
@@ -266,6 +269,28 @@ export function areasOf(bytes, number) {
     return sum + (trimmed ? areaOf(meshOf(trimmed.surface, trimmed.region, picture.tolerance / 4))
       : NaN);
   }, 0));
+}
+
+/** Each point of an offset surface is as far from its base as is told, along the normal there. */
+export function* offsets({ file }) {
+  const source = new IgesFile(file("thick_sheet_with_an_offset_surface"));
+  const picture = new Picture(new Solid(source, 1));
+  const face = [...picture.faces.values()].find(it => picture.surfaceOf(it).kind === 140);
+  const values = source.values(face.surface).map(Number), base = surfaceOf(source, values[4]);
+  const { at, ranges: [us, vs] } = picture.surfaceOf(face);
+  let most = 0;
+  for (let i = 0; i <= 20; i++) {
+    for (let j = 0; j <= 20; j++) {
+      const u = us[0] + ((us[1] - us[0]) * i) / 20, v = vs[0] + ((vs[1] - vs[0]) * j) / 20;
+      const way = minus(at(u, v), base.at(u, v)), normal = normalAt(base, u, v);
+      most = Math.max(most, Math.abs(lengthOf(way) - Math.abs(values[3])),
+        lengthOf(cross(way, normal)));
+    }
+  }
+  yield ["picture: an offset surface is beside its base", Math.abs(values[3]) === 2 && most < 1e-6];
+  // What Open CASCADE finds for the same solid.
+  const [area] = areasOf(file("thick_sheet_with_an_offset_surface"), 1);
+  yield [`picture: the area of a thick sheet: ${area}`, isNear(area, THICK_SHEET)];
 }
 
 const isNear = (found, wanted) => Math.abs(found - wanted) < 0.004 * wanted;

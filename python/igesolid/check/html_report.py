@@ -6,7 +6,7 @@ import html
 import os
 import pathlib
 import re
-from typing import Any, Dict, Iterable, List, NamedTuple, Optional, Tuple
+from typing import Dict, Iterable, List, NamedTuple, Optional, Set, Tuple
 
 from ..content import Content, content_of_path
 from ..engine import TOP, Engine
@@ -35,6 +35,9 @@ MEANINGS = {
 }
 # Of `where`: a hint, or the verdict on a bad file, and the sentence below it.
 SENTENCE = re.compile(r"(?m)^(?:hint|bad file) .*\n((?:  .*\n?)+)")
+# How many edges of a shell aren't paired, and in which way.
+UNPAIRED = re.compile(r"(?m)^rule PAIR .* once (\d+) same-way (\d+) many (\d+)$")
+WAYS = "used by one face alone", "used twice in the same direction", "used more than twice"
 
 
 class NoReport(Exception):
@@ -42,10 +45,10 @@ class NoReport(Exception):
 
 
 class Drawn(NamedTuple):
-    """What the index has of a solid, or of a bad file: the name of its page, and the first sentence that `where` tells of it."""
+    """What the index has of a solid, or of a bad file: the name of its page, and what `where` tells of it, in a few words."""
 
     page: str
-    sentence: str
+    words: str
 
 
 class HtmlReport:
@@ -55,6 +58,7 @@ class HtmlReport:
         self.folder, self.engine = folder, engine
         self.drawn: Dict[Tuple[str, int], Drawn] = {}
         self.fault: Optional[str] = None
+        self.template = b""
 
     def start(self) -> None:
         """Makes the folder before the work, and what is needed of the template."""
@@ -69,9 +73,8 @@ class HtmlReport:
             raise NoReport(f"{self.folder}: no report can be written there: {fault.strerror}") from fault
 
     def draw(self, report: Report, content: Optional[Content] = None) -> None:
-        """Writes the pages of a file: of each failing solid, or of a bad file; those of an earlier run of it go."""
-        numbers = [it.number for it in report.failing] if report.fault is None else [0] * is_bad(report)
-        wanted = {number: page_name(report.file, number) for number in numbers}
+        """Writes the pages of a file: of each failing solid, or of a bad file; others of an earlier run go."""
+        wanted = {number: page_name(report.file, number) for number in pages_of(report)}
         try:
             self._remove_others(report.file, set(wanted.values()))
             if wanted:
@@ -89,9 +92,9 @@ class HtmlReport:
             text = self.engine.ask("where", content, str(number or 1), "all").text
             words = name + b"\0" + (b"%d" % number if number else b"")
             self._write(self.folder / PAGES / page, filled(self.template, WORDS=words, WHERE=text, FILE=packed))
-            self.drawn[report.file, number] = Drawn(page, sentence_in(text.decode("utf-8", "replace")))
+            self.drawn[report.file, number] = Drawn(page, words_in(text.decode("utf-8", "replace")))
 
-    def _remove_others(self, file: str, pages: Any) -> None:
+    def _remove_others(self, file: str, pages: Set[str]) -> None:
         for path in (self.folder / PAGES).glob(f"*-{key_of(file)}.html"):
             if path.name not in pages:
                 path.unlink()
@@ -111,8 +114,10 @@ class HtmlReport:
             out.write(data)
 
 
-def is_bad(report: Report) -> bool:
-    return report.fault is not None and report.fault.status == BadFile.status
+def pages_of(report: Report) -> List[int]:
+    """The solids of a file that have a page; 0 stands for a bad file."""
+    is_bad = report.fault is not None and report.fault.status == BadFile.status
+    return [0] if is_bad else [it.number for it in report.failing]
 
 
 def key_of(file: str) -> str:
@@ -131,11 +136,14 @@ def filled(template: bytes, **parts: bytes) -> bytes:
     return template
 
 
-def sentence_in(text: str) -> str:
-    """The first sentence of the first hint, or of what is said of a bad file."""
+def words_in(text: str) -> str:
+    """The first sentence of the first hint, or of what is said of a bad file; or how edges aren't paired."""
     found = SENTENCE.search(text)
-    words = " ".join(found[1].split()) if found else ""
-    return re.split(r"(?<=[.:]) ", words)[0].rstrip(":")
+    if found:
+        return re.split(r"(?<=[.:]) ", " ".join(found[1].split()))[0].rstrip(":")
+    unpaired = UNPAIRED.search(text)
+    counts = zip(unpaired.groups(), WAYS) if unpaired else ()
+    return ", ".join(f"{count} {'edge' if count == '1' else 'edges'} {way}" for count, way in counts if count != "0")
 
 
 def reason_of(report: Report, drawn: Dict[Tuple[str, int], Drawn]) -> str:
@@ -144,18 +152,17 @@ def reason_of(report: Report, drawn: Dict[Tuple[str, int], Drawn]) -> str:
     if fault is not None:
         told = drawn.get((report.file, 0))
         cause = f"line {fault.line} {fault.reason}" if fault.line else fault.reason
-        return f"{cause}: {told.sentence}" if told and told.sentence else cause
+        return f"{cause}: {told.words}" if told and told.words else cause
     if not report.failing:
         return "" if report.solids else "no solid (entity 186)"
     first = report.failing[0]
     told = drawn.get((report.file, first.number))
-    words = told.sentence if told and told.sentence else MEANINGS.get(first.verdict.rule or "", "")
+    words = told.words if told and told.words else MEANINGS.get(first.verdict.rule or "", "")
     return f"solid {first.number}: {first.verdict}: {words}"
 
 
 def links_of(report: Report, drawn: Dict[Tuple[str, int], Drawn]) -> str:
-    numbers = [it.number for it in report.failing] or [0]
-    found = [(number, drawn[report.file, number].page) for number in numbers if (report.file, number) in drawn]
+    found = [(number, drawn[report.file, number].page) for number in pages_of(report) if (report.file, number) in drawn]
     return ", ".join(f'<a href="{PAGES}/{page}">{f"solid {number}" if number else "lines"}</a>' for number, page in found)
 
 
