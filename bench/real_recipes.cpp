@@ -37,11 +37,14 @@
 #include <GC_MakeArcOfCircle.hxx>
 #include <GeomAPI_Interpolate.hxx>
 #include <GeomAPI_PointsToBSpline.hxx>
+#include <GeomAPI_PointsToBSplineSurface.hxx>
 #include <Geom_BSplineCurve.hxx>
+#include <Geom_BSplineSurface.hxx>
 #include <Geom_CylindricalSurface.hxx>
 #include <Geom_TrimmedCurve.hxx>
 #include <Geom2d_Line.hxx>
 #include <TColgp_Array1OfPnt.hxx>
+#include <TColgp_Array2OfPnt.hxx>
 #include <TColgp_HArray1OfPnt.hxx>
 #include <TopExp.hxx>
 #include <TopExp_Explorer.hxx>
@@ -335,6 +338,8 @@ TopoDS_Shape nut(double radius, double height) {
   return fuse(drilled, {thread(radius, -0.8, 2, height / 2 - 2)});
 }
 
+TopoDS_Shape threaded_rod(double radius, double length) { return fuse(cylinder(axes(0, 0, 0), radius, length), {thread(radius, 0.8, 2, length / 2 - 2)}); }
+
 TopoDS_Wire rectangle(double x, double y, double a, double b) {
   return polygon({gp_Pnt(x, y, 0), gp_Pnt(x + a, y, 0), gp_Pnt(x + a, y + b, 0), gp_Pnt(x, y + b, 0)});
 }
@@ -441,6 +446,16 @@ TopoDS_Shape cam() {
   BRepBuilderAPI_MakeWire wire(spline({gp_Pnt(0, 0, 0), gp_Pnt(12, 2, 0), gp_Pnt(20, 10, 0), gp_Pnt(14, 22, 0), gp_Pnt(0, 20, 0)}),
                                BRepBuilderAPI_MakeEdge(gp_Pnt(0, 20, 0), ORIGIN));
   return extruded(filled(wire.Wire()), 5);
+}
+
+// A bent sheet of some thickness: its other side is an offset surface.
+TopoDS_Shape thick_sheet() {
+  TColgp_Array2OfPnt points(1, 6, 1, 6);
+  for (int i = 0; i < 6; i++)
+    for (int j = 0; j < 6; j++) points.SetValue(i + 1, j + 1, gp_Pnt(6 * i, 6 * j, 3 * sin(i * 0.9) * cos(j * 0.8)));
+  BRepOffsetAPI_MakeThickSolid thick;
+  thick.MakeThickSolidBySimple(BRepBuilderAPI_MakeFace(GeomAPI_PointsToBSplineSurface(points).Surface(), 1e-6).Face(), 2);
+  return thick.Shape();
 }
 
 TopoDS_Wire square(double side, double z, double angle) {
@@ -558,6 +573,7 @@ std::vector<Recipe> dressed() {
       {"chamfer_two_edges", CLOSED, [] { return chamfered(cube(20), 3, 2); }},
       {"draft", CLOSED, drafted},
       {"hollow_box", CLOSED, [] { return without_last_wall(cube(20), 2); }},
+      {"thick_sheet", CLOSED, thick_sheet},
       {"hollow_cylinder", CLOSED, [] { return without_last_wall(cylinder(axes(0, 0, 0), 8, 20), 1); }},
       {"bottle", CLOSED, bottle},
   };
@@ -571,12 +587,14 @@ std::vector<Recipe> combinations() {
       {"box_with_crossed_holes", CLOSED, crossed_holes},
       {"plate_with_square_holes", CLOSED, [] { return plate(12, 8, false); }},
       {"plate_with_round_holes", CLOSED, [] { return plate(14, 8, true); }},
+      {"plate_with_400_holes", CLOSED, [] { return plate(20, 8, true); }},
       {"tube", CLOSED, [] { return cut(cylinder(axes(0, 0, 0), 10, 50), {cylinder(axes(0, 0, -1), 8, 60)}); }},
       {"tubes_crossed", CLOSED, [] { return fuse(cylinder(axes(0, 0, -20), 6, 40), {cylinder(axes(-20, 0, 0, X), 4, 40)}); }},
       {"lens", CLOSED, [] { return common(ball(0, 0, 0, 10), ball(0, 0, 12, 10)); }},
       {"ball_with_hole", CLOSED, [] { return cut(ball(0, 0, 0, 10), {cylinder(axes(0, 0, -20), 4, 40)}); }},
       {"rounded_cross", CLOSED, [] { return common(ball(0, 0, 0, 13), box(-10, -10, -10, 20, 20, 20)); }},
       {"bolt", CLOSED, [] { return bolt(5, 12); }},
+      {"thread", CLOSED, [] { return threaded_rod(5, 16); }},
       {"nut", CLOSED, [] { return nut(5.5, 9); }},
       {"flange", CLOSED, flange},
       {"washer", CLOSED, [] { return cut(cylinder(axes(0, 0, 0), 10, 1), {cylinder(axes(0, 0, -1), 5, 3)}); }},
@@ -672,6 +690,25 @@ Parts coloured_faces() {
   return {{filleted(cube(20), 3, 100), "cushion", 0.9, 0.9, 0, 5}, {hollow, "hollow", 0, 0.5, 0, 1}};
 }
 
+// A bent lead of a package, on its right side.
+TopoDS_Shape lead(double y) {
+  Points side = {gp_Pnt(1.9, 0.8, 0), gp_Pnt(2.4, 0.8, 0), gp_Pnt(2.6, 0.1, 0), gp_Pnt(3, 0.1, 0), gp_Pnt(3, 0, 0), gp_Pnt(2.5, 0, 0), gp_Pnt(2.3, 0.7, 0), gp_Pnt(1.9, 0.7, 0)};
+  return moved(moved(prism(side, 0.4), rotation(X, M_PI / 2)), translation(0, y, 0));
+}
+
+// A package with eight leads, as those of electronic parts are: a body with a mark at its first lead, and the leads, each a solid.
+Parts chip() {
+  TopoDS_Shape body = cut(chamfered(box(-1.95, -2.45, 0.2, 3.9, 4.9, 1.4), 0.2, 100), {cylinder(axes(-1.2, 1.7, 1.5), 0.3, 1)});
+  Parts parts = {{body, "SOIC-8 body", 0.1, 0.1, 0.1}};
+  for (int i = 0; i < 4; i++) {
+    TopoDS_Shape right = lead(1.27 * i - 1.7);
+    gp_Trsf turn = rotation(Z, M_PI);
+    parts.push_back({right, "pin " + std::to_string(i + 5), 0.8, 0.8, 0.85});
+    parts.push_back({moved(right, turn), "pin " + std::to_string(i + 1), 0.8, 0.8, 0.85});
+  }
+  return parts;
+}
+
 std::vector<Recipe> with_colours_and_names() {
   return {
       {"named_box", CLOSED, nullptr, [] { return Parts{{cube(10), "housing", 0.8, 0.1, 0.1}}; }},
@@ -679,6 +716,7 @@ std::vector<Recipe> with_colours_and_names() {
       {"named_flange", CLOSED, nullptr, [] { return Parts{{flange(), "flange DN 20", 0.5, 0.5, 0.55, 3}}; }},
       {"named_long", CLOSED, nullptr, [] { return Parts{{cube(4), std::string(150, 'n'), 0.1, 0.7, 0.7}}; }},
       {"named_coloured_faces", CLOSED, nullptr, coloured_faces},
+      {"named_chip", CLOSED, nullptr, chip},
       {"named_open", "PAIR", nullptr, [] { return Parts{{without_faces(cube(10), 1), "lidless", 0.3, 0.3, 0.3}}; }},
   };
 }

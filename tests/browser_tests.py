@@ -2,11 +2,17 @@
 where they are due, and clicks, keys and fingers that lead to faults and move the view. The lines are drawn by WebGL, or on a canvas."""
 import math
 import re
+import shutil
+import subprocess
+import sys
 
 import chromium
+import gallery
 from page_file import page_of
 from picture_tests import RECORDED, example, recorded
+from programs import TOP
 from sample_file import text_of
+from spawned import SECONDS
 
 SIDE, HOLES = 160, 20_000
 MOST_CALLS, MOST_POINTS, MOST_VERTICES = 200_000, 10_000, 2_000_000
@@ -223,6 +229,88 @@ def of_outlines(browser, folder):
         yield f"browser: what draws is {how}", browser.run("view.painter.isWebgl") is (at == "")
 
 
+# Files with the numbers of their solids, and the areas of all faces by the sizes that they were made with. The plate's holes, of
+# radius 2, are drawn within a thousandth of its size, 0.16.
+AREAS = (
+    ("examples/cube.igs", 1, 6),
+    ("examples/cylinder.igs", 1, 4 * math.pi),
+    ("examples/occt/05_sphere.igs", 1, 4 * math.pi * 7**2),
+    ("tests/inputs/torus.igs", 1, 4 * math.pi**2 * 20 * 5),
+    ("examples/gallery/hollow_ball.igs.gz", 3, 4 * math.pi * (10**2 + 9**2)),
+    ("examples/gallery/tube.igs.gz", 3, math.tau * (10 + 8) * 50 + math.tau * (10**2 - 8**2)),
+    ("examples/gallery/plate_400_holes.igs.gz", 1, 2 * 160**2 + 4 * 160 * 2 + 400 * (math.tau * 2 * 2 - math.tau * 2**2)),
+    ("tests/inputs/box_under_a_parametric_spline_surface.igs", 1, 88.709740),
+)
+# How much isn't drawn as it is.
+NONE_LEFT = "view.picture.faceReasons.size + view.picture.chords.size + view.leftOut"
+AREA = """(() => {
+    const { picture } = view;
+    return [...picture.faces.values()].reduce((sum, it) => sum + $mesh.areaOf(picture.mesh(it, Infinity, false, picture.tolerance / 4)), 0);
+})()"""
+# The lists, indexes and coordinates of all vertices as they are drawn.
+DRAWN = """(() => {
+    const { points, middle, solid } = view.picture;
+    return points.map((it, k) => [...solid.vertices[k], ...it.map((value, axis) => value + middle[axis])]);
+})()"""
+VERTEX_TOLD = re.compile(r"(?:vertex|start|end|ends|starts|at|touches) (\d+) (\d+) (\S+) (\S+) (\S+)")
+
+
+def are_drawn(text, drawn):
+    """Whether each vertex that a text names is drawn at its coordinates."""
+    found = {(it[0], it[1]): it[2:] for it in drawn}
+    told = [(int(list_), int(index), [float(it) for it in at]) for list_, index, *at in VERTEX_TOLD.findall(text)]
+    return all(math.dist(found[list_, index], at) < 1e-7 for list_, index, at in told)
+
+
+def of_surfaces(browser, folder, where):
+    """The solids of the gallery: vertices where the text tells, faults and inner lines at their pixels; and areas of faces."""
+    for _, name, file, number, _ in gallery.rows():
+        data = gallery.content(file)
+        text = gallery.told(where, data, number, folder / "solid.igs")
+        open_page(browser, written(folder, name, int(number), text, data))
+        browser.run("(() => { while (!view.isWhole) view.workOn(1000, Infinity); view.draw(); })()")
+        yield f"browser: {name}: vertices where the text tells", are_drawn(text, browser.run(DRAWN)) and is_quiet(browser)
+        yield f"browser: {name}: each fault at its pixels", browser.run(FAULTS_SEEN)
+        yield f"browser: {name}: no face is left out", browser.run(NONE_LEFT) == 0
+        yield f"browser: {name}: lines inside of curved faces", browser.run(FACES_SEEN)
+    for file, number, wanted in AREAS:
+        data = gallery.content(file)
+        open_page(browser, written(folder, "area", number, f"closed {number}\nunits 2 MM\nshells 1 failing 0\n", data))
+        found = browser.run(AREA)
+        yield f"browser: {file}: the area {found:.3f} for {wanted:.3f}", abs(found - wanted) < (0.02 if "holes" in file else 0.004) * wanted
+    for name in ("box_under_a_parametric_spline_surface", "thick_sheet_with_an_offset_surface"):
+        open_page(browser, written(folder, name, 1, "closed 1\nunits 2 MM\nshells 1 failing 0\n", gallery.content(f"tests/inputs/{name}.igs")))
+        browser.run("view.showAll(null, true)")
+        yield f"browser: {name}: lines inside of curved faces", browser.run(FACES_SEEN) and browser.run(NONE_LEFT) == 0 and is_quiet(browser)
+
+
+def of_index(browser, folder, programs):
+    """The report of `igesolid check --html`, opened as a file: its rows are sorted, and its links lead to pages."""
+    parts = folder / "parts"
+    parts.mkdir()
+    for name in ("cube", "77_pinched_edge", "two_solids", "bad_length", "fail_pair"):
+        shutil.copy(example(name), parts)
+    command = [sys.executable, "-B", TOP / "companion" / "check", "--program", programs[0], "--where-program", programs[1], "--html", folder / "report", parts]
+    subprocess.run(command, stdout=subprocess.DEVNULL, timeout=SECONDS)
+    browser.open(folder / "report" / "index.html")
+    column = "[...document.querySelectorAll('tbody tr')].map(it => it.cells[%d].textContent)"
+    press = "document.querySelectorAll('th button')[%d].click()"
+    names = browser.run(column % 0)
+    yield "browser: an index", len(names) == 5 and names == sorted(names) and is_quiet(browser)
+    browser.run(press % 1)
+    yield "browser: an index by its verdicts", browser.run(column % 1) == ["bad file", "closed", "closed", "not closed", "not closed"]
+    browser.run(press % 2)
+    browser.run(press % 2)
+    yield "browser: an index by its solids, the most first", browser.run(column % 2) == ["2", "1", "1", "1", "0"]
+    yield "browser: what it is sorted by", browser.run("document.querySelectorAll('th')[2].getAttribute('aria-sort')") == "descending"
+    for target in browser.run("[...document.querySelectorAll('td a')].map(it => it.getAttribute('href'))"):
+        open_page(browser, folder / "report" / target)
+        shown = browser.run("document.getElementById('verdict').textContent")
+        yield f"browser: {target.split('-')[0]} of an index: {shown}", is_quiet(browser) and shown.split()[0] in ("fail", "bad")
+        is_drawn = browser.run("view === null ? document.getElementById('excerpt').innerText.length > 20 : view.faults.length > 0")
+        yield f"browser: {target.split('-')[0]} of an index is drawn", is_drawn
+
+
 def flank():
     """A flank of a thread: two turns of a helix between two radii, as a ruled surface."""
     helix = lambda radius: [(radius * math.cos(math.tau * k / 120), radius * math.sin(math.tau * k / 120), k / 120) for k in range(241)]
@@ -243,6 +331,58 @@ def flank():
         (118, 1, [13, 17, 0, 0]),
     ]
     return text_of(records)
+
+
+# What a wheel over the outline of the void, a sphere of radius 5 round the origin, brings nearer; and what is drawn of it then.
+OUTLINE_AT = """(() => {
+    const at = view.camera.project([5 * view.camera.turn[0], 5 * view.camera.turn[1], 5 * view.camera.turn[2]]);
+    const own = view.over.getBoundingClientRect();
+    return [own.x + at[0], own.y + at[1]];
+})()"""
+OUTLINE_SEEN = """(() => {
+    const { camera } = view, lines = view.refining.ofThisView || view.silhouettes(), middle = camera.project([0, 0, 0]), radius = 5 * camera.scale;
+    let farthest = 0, seen = 0;
+    for (let k = 0; k < lines.count; k++) for (let p = lines.from[k]; p + 1 < lines.from[k + 1]; p++) {
+        const ends = [p, p + 1].map(it => camera.project([...lines.points.subarray(3 * it, 3 * it + 3)]));
+        const between = [0, .25, .5, .75, 1].map(part => ends[0].map((it, axis) => it + (ends[1][axis] - it) * part));
+        const own = between.filter(([u, v]) => u > 0 && v > 0 && u < camera.width && v < camera.height);
+        seen += own.length;
+        for (const [u, v] of own) farthest = Math.max(farthest, Math.abs(Math.hypot(u - middle[0], v - middle[1]) - radius));
+    }
+    return [seen, farthest / Math.min(camera.width, camera.height), view.painter.vertexCount];
+})()"""
+REST = "new Promise(done => setTimeout(() => requestAnimationFrame(() => done(null)), 400))"
+
+
+def of_zoom(browser, folder):
+    """Nearer, an outline has more vertices, each near to the sphere; afterwards as many as before."""
+    for at in ("", "#canvas"):
+        how = "a canvas" if at else "WebGL"
+        open_page(browser, written(folder, "void", 3, "closed 3\nunits 2 MM\nshells 2 failing 0\n", example("14_box_void_sphere").read_bytes()), at)
+        browser.run(REST)
+        before, vertices = browser.run("view.camera.scale"), browser.run("view.painter.vertexCount")
+        for nearer in (20, 400):
+            while browser.run("view.camera.scale") < nearer * before:
+                x, y = browser.run(OUTLINE_AT)
+                browser.mouse("mouseWheel", x, y, deltaX=0, deltaY=-900)
+                x, y = browser.run(OUTLINE_AT)
+                browser.run(f"view.move(it => it.moveBy(it.width / 2 - {x} + view.over.getBoundingClientRect().x, it.height / 2 - {y}))")
+            browser.run(REST)
+            seen, farthest, count = browser.run(OUTLINE_SEEN)
+            yield f"browser: {nearer} times as near, by {how}: {count} vertices for {vertices}", seen > 0 and farthest <= 0.001 and vertices < count < 3 * vertices
+            yield f"browser: {nearer} times as near, by {how}: the outline at its pixels", browser.run(ARC_SEEN)
+        browser.key("f")
+        browser.run(REST)
+        yield f"browser: from afar again, by {how}", browser.run("view.painter.vertexCount") == vertices and is_quiet(browser)
+
+
+# Ink at those places of the outline that are in view.
+ARC_SEEN = """(() => {
+    const image = pixels(), { camera } = view, middle = camera.project([0, 0, 0]), radius = 5 * camera.scale;
+    const places = Array.from({ length: 20001 }, (_, k) => (k - 10000) / 10000 * 400 / radius).map(it => [middle[0] + radius * Math.cos(it), middle[1] + radius * Math.sin(it)]);
+    const seen = places.filter(([u, v]) => u > 4 && v > 4 && u < camera.width - 4 && v < camera.height - 4);
+    return seen.length > 100 && seen.every(it => inkAt(image, ...it, isInk));
+})()"""
 
 
 def of_markup(browser, folder):
@@ -337,13 +477,16 @@ def of_large_solids(browser, folder):
             yield f"browser: {name}, {how or 'WebGL'}: {held} vertices are held when all faces are there", browser.run("view.isWhole") and held <= MOST_VERTICES
 
 
-def checks(folder, skipped):
+def checks(folder, programs, skipped):
     if chromium.found() is None:
         skipped("pages in a browser: Chromium isn't installed")
         return
     browser = chromium.Browser()
     try:
-        for run in (of_recorded, of_pinched_edge, of_fingers, of_media, of_outlines, of_markup, of_large_solids):
+        for run in (of_recorded, of_pinched_edge, of_fingers, of_media, of_outlines, of_zoom, of_markup):
             yield from run(browser, folder)
+        yield from of_surfaces(browser, folder, programs.where)
+        yield from of_index(browser, folder, programs)
+        yield from of_large_solids(browser, folder)
     finally:
         browser.close()

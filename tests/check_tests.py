@@ -15,6 +15,7 @@ import time
 
 import clone
 import dask_cluster
+import html_tests
 import slurm_cluster
 from spawned import SECONDS
 
@@ -325,6 +326,21 @@ def interrupts(parts):
         yield f"{name}: a word", "Traceback" not in said and said.endswith("igesolid: interrupted: 1 of 2 files are judged\r\n")
     yield from interrupted_programs(parts, pids)
     yield from early_interrupts(parts)
+    yield from interrupted_report(parts)
+
+
+def interrupted_report(parts):
+    """The report of an interrupted run has what is done."""
+    process, master = started(parts, "parts/no/tetrahedra.iges", "fifo.igs", "--jobs", "2", "--html", "report")
+    read_until(master, b"1 of 2 files")
+    process.terminate()
+    process.communicate(timeout=SECONDS)
+    read_until(master, None)
+    os.close(master)
+    text, found = html_tests.index_in(parts.folder / "report")
+    is_there = [(parts.folder / "report" / target).is_file() for target, _ in found.get("parts/no/tetrahedra.iges", [[]])[-1]]
+    yield "check --html: what is done when it is interrupted", list(found) == ["parts/no/tetrahedra.iges"] and is_there == [True]
+    yield "check --html: a word of it", "1 files aren't judged: the run was interrupted" in text
 
 
 def interrupted_programs(parts, pids):
@@ -458,6 +474,9 @@ def on_cluster(parts, cluster):
     here = parts.json("parts")
     yield "check: --dask", parts.json("parts", "--dask", cluster.address) == here
     yield "check: --dask by the scheduler's file", parts.json("parts", "--dask", cluster.file) == here
+    parts.check("parts", "--dask", cluster.address, "--html", "report")
+    pages = sorted(it.name.split("-")[0] for it in (parts.folder / "report" / "pages").iterdir())
+    yield "check: --dask --html", pages == ["bad", "tetrahedra"] and len(html_tests.index_in(parts.folder / "report")[1]) == len(FILES)
     told = parts.json("parts", "--dask", cluster.address, "--certificates", "--table", "dask.csv")
     yield "check: --dask --certificates --table", told["files"] == parts.all_wanted(has_certificates=True)
     found = {name: sum_of(text) for name, text in parts.certificates().items()}
@@ -653,6 +672,7 @@ def checks(copy, skipped):
     for part in (texts, forms, statuses, tables, certificates, interrupts, progress, launched, package):
         parts.fill()
         yield from part(parts)
+    yield from html_tests.checks(parts)
     parts.fill()
     yield from recipes(parts, skipped)
     parts.fill()

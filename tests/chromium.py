@@ -119,9 +119,9 @@ class Browser:
         for kind in ("mousePressed", "mouseReleased"):
             self.mouse(kind, x, y, button="left", clickCount=1)
 
-    def picture(self):
-        """The bytes of a PNG picture of the page."""
-        return base64.b64decode(self.call("Page.captureScreenshot", format="png")["data"])
+    def picture(self, **how):
+        """The bytes of a picture of the page, as PNG unless another format is asked for."""
+        return base64.b64decode(self.call("Page.captureScreenshot", **{"format": "png", **how})["data"])
 
     def close(self):
         try:

@@ -13,6 +13,7 @@ import extract_tests
 import faults
 import fresh
 import fuzz
+import gallery
 import hostile
 import largest_tests
 import launcher
@@ -67,6 +68,7 @@ def of_both(checks):
 def of_pages(context):
     yield from pages.checks(context.new_folder(), TOP, *context.programs[:3], FORMS)
     yield from no_examples.checks(TOP, context.programs.igesolid)
+    yield from gallery.checks(context.new_folder(), context.programs.where)
     for module in (quoted, theorem, trusted, layers):
         yield from module.checks(TOP)
 
@@ -89,7 +91,7 @@ PARTS = (
     Part("repair-more", "2,000 more cases, and files of the greatest size", of_repair(repair.more_checks), LARGE),
     Part("pictures", "marks", of_both(picture_tests.checks)),
     Part("picture", "the geometry of pages, under node", lambda context: node_tests.checks(context.skipped)),
-    Part("browser", "pages in headless Chromium", lambda context: browser_tests.checks(context.new_folder(), context.skipped), LARGE),
+    Part("browser", "pages in headless Chromium", lambda context: browser_tests.checks(context.new_folder(), context.programs, context.skipped), LARGE),
     Part("pages", "README and docs: what they say of the programs, the sources and the examples", of_pages),
     Part("launcher", "the launcher and dist/, in a copy of the repository", lambda context: launcher.checks(context.clone(), FORMS, context.skipped)),
     Part("packages", "the installer and the Debian package, likewise", lambda context: packages.checks(context.clone(), context.skipped), LARGE),

@@ -35,6 +35,11 @@ export class Camera {
     this.turn = straightened(VIEWS.iso);
   }
 
+  /** What tells one view from another. */
+  get key() {
+    return [...this.turn, ...this.centre, this.scale, this.width, this.height].join();
+  }
+
   /** Where a point is seen, in pixels from the left upper corner. */
   project(p) {
     const q = apply(this.turn, p.map((it, k) => it - this.centre[k]));

@@ -200,35 +200,47 @@ export function curveOf(file, number, depth = 0, budget = { parts: MOST_PARTS })
   return curve;
 }
 
+/**
+ * How near chords must be to a curve: nowhere farther than `coarse`, and where it is seen than
+ * `tolerance`. @typedef {{tolerance: number, coarse: number, halvings: number,
+ * isSeen: function(number[][], number): boolean}} Fit
+ */
+
+/** The same tolerance everywhere. @returns {Fit} */
+export const evenFit = tolerance =>
+  ({ tolerance, coarse: tolerance, halvings: MOST_HALVINGS, isSeen: () => true });
+
 /** Points of a span, found by halving it until its chords are near enough to the curve. */
-function addSpan(curve, low, high, tolerance, points, halvings) {
+function addSpan(curve, low, high, fit, points, halvings) {
   const start = curve.at(low), end = curve.at(high), middle = (low + high) / 2;
   const inner = [0.25, 0.5, 0.75].map(part => curve.at(low + (high - low) * part));
-  const isNear = inner.every(it => fromChord(it, start, end) <= tolerance);
+  const far = inner.reduce((most, it) => Math.max(most, fromChord(it, start, end)), 0);
+  const isNear = far <= fit.tolerance
+    || (far <= fit.coarse && !fit.isSeen([start, ...inner, end], far));
   if (isNear || halvings === 0 || points.length >= MOST_POINTS) {
     points.push(end);
     return;
   }
-  addSpan(curve, low, middle, tolerance, points, halvings - 1);
-  addSpan(curve, middle, high, tolerance, points, halvings - 1);
+  addSpan(curve, low, middle, fit, points, halvings - 1);
+  addSpan(curve, middle, high, fit, points, halvings - 1);
 }
 
-/** Points along a curve that is nowhere farther from their chords than a tolerance. */
-export function pointsAlong(curve, tolerance) {
+/** Points along a curve that is nowhere farther from their chords than a fit asks for. */
+export function pointsAlong(curve, fit) {
   const { breaks } = curve, points = [curve.at(breaks[0])];
   const step = Math.ceil(breaks.length / MOST_POINTS);
   for (let k = 0; k + 1 < breaks.length; k += step) {
     const high = breaks[Math.min(k + step, breaks.length - 1)];
     if (curve.isStraight) points.push(curve.at(high));
-    else addSpan(curve, breaks[k], high, tolerance, points, MOST_HALVINGS);
+    else addSpan(curve, breaks[k], high, fit, points, fit.halvings);
   }
   if (!points.every(isFinitePoint)) throw wrong(curve.kind);
   return points;
 }
 
 /** The points of an edge's curve from its start to its end vertex. */
-export function edgePoints(curve, start, end, tolerance) {
-  const points = pointsAlong(curve, tolerance), first = points[0], last = points[points.length - 1];
+export function edgePoints(curve, start, end, fit) {
+  const points = pointsAlong(curve, fit), first = points[0], last = points[points.length - 1];
   const far = points.reduce((most, it) => Math.max(most, distance(first, it)), 0);
   const size = Math.max(distance(start, end), far, 1e-12);
   const isNear = (one, other) => distance(one, other) <= NEARNESS * size;

@@ -1,14 +1,18 @@
 /**
  * Triangles of a face, near enough to its surface: each trapezoid of its region is cut into a grid.
  */
+import { even } from "./curves.js";
 import { normalAt } from "./spline_surfaces.js";
 import { trapezoidsOf } from "./trapezoids.js";
 import { boxOf, crossings } from "./trimming.js";
-import { cross, distance, fromChord, lengthOf, minus, plus, scaled } from "./vectors.js";
+import { cross, distance, lengthOf, minus, plus, scaled } from "./vectors.js";
 
 const MOST_CUTS = 96, SAMPLES = 6;
 
-/** @typedef {{points: number[][], normals: number[][], triangles: number[]}} Mesh */
+/**
+ * @typedef {{points: number[][], parameters: number[][], normals: number[][],
+ * triangles: number[]}} Mesh
+ */
 
 const cuts = new WeakMap();
 
@@ -111,35 +115,22 @@ export function insideOf(surface, region) {
   return best;
 }
 
-/** Points of a line of one value of a parameter, within a tolerance of the surface. */
-function isoline(surface, axis, value, [first, last], tolerance) {
+/** A line of one value of a parameter, as a curve of the other one. */
+function isoline(surface, axis, value, [first, last]) {
   const at = it => (axis === 0 ? surface.at(value, it) : surface.at(it, value));
-  const found = [at(first)];
-  const add = (low, high, halvings) => {
-    const start = at(low), end = at(high), middle = (low + high) / 2;
-    const isNear = [0.3, 0.5, 0.8]
-      .every(k => fromChord(at(low + (high - low) * k), start, end) <= tolerance);
-    if (halvings === 0 || (isNear && halvings < 7)) {
-      found.push(end);
-      return;
-    }
-    add(low, middle, halvings - 1);
-    add(middle, high, halvings - 1);
-  };
   const isRound = surface.periods[1 - axis] && last - first > surface.periods[1 - axis] / 4;
-  add(first, last, isRound ? 8 : 6);
-  return found;
+  return { at, breaks: even(first, last, isRound ? 4 : 1), kind: surface.kind };
 }
 
 /** Lines inside of a curved face, evenly between its ends, so many of each parameter. */
-export function isolinesOf(surface, region, tolerance, count) {
+export function isolinesOf(surface, region, count) {
   const box = boxOf(region), lines = [];
   for (const axis of [0, 1]) {
     for (let k = 1; k <= count; k++) {
       // Not quite evenly, so that none runs through a corner.
       const value = box[axis][0] + ((box[axis][1] - box[axis][0]) * (k + 0.003)) / (count + 1);
       for (const span of crossings(region, axis, value)) {
-        if (span[1] - span[0] > 1e-9) lines.push(isoline(surface, axis, value, span, tolerance));
+        if (span[1] - span[0] > 1e-9) lines.push(isoline(surface, axis, value, span));
       }
     }
   }

@@ -92,7 +92,8 @@ async function start() {
   const bytes = await bytesIn("file", true), decoder = new TextDecoder();
   const text = decoder.decode(await bytesIn("where", false));
   const [name, number] = decoder.decode(await bytesIn("words", false)).split("\0");
-  const scene = sceneOf(`${name}, solid ${Number(number)}`, Number(number), text, bytes);
+  const title = number ? `${name}, solid ${Number(number)}` : name;
+  const scene = sceneOf(title, Number(number), text, bytes);
   const faults = scene.rules.flatMap(it => it.faults);
   let view = null;
   const choose = fault => {

@@ -3,7 +3,7 @@
  * what is asked for. Coordinates are those of the file less the middle of the solid, so that no
  * digit is lost where a solid lies far from the origin.
  */
-import { curveOf, edgePoints } from "./curves.js";
+import { curveOf, edgePoints, evenFit, pointsAlong } from "./curves.js";
 import { insideOf, isolinesOf, meshOf, normalsOf } from "./mesh.js";
 import { real, Unreadable } from "./records.js";
 import { surfaceOf } from "./surfaces.js";
@@ -79,7 +79,7 @@ export class Picture {
     this.size = this.sizeFrom(box);
     this.tolerance = DEVIATION * this.size;
     this.left = MOST_EDGE_POINTS;
-    this.edges = solid.edges.map((_, edge) => this.edgeFrom(edge, this.tolerance));
+    this.edges = solid.edges.map((_, edge) => this.edgeFrom(edge));
     this.box = new Box();
     this.points.forEach(it => it && this.box.add(it));
     for (const edge of this.edges) edge.forEach(it => this.box.add(it));
@@ -118,22 +118,40 @@ export class Picture {
     reasons.set(known, (reasons.get(known) || 0) + 1);
   }
 
-  /** The points of an edge from its start to its end; none where an end has no place. */
-  edgeFrom(edge, tolerance) {
+  /** The points of the curve of an edge whose ends have places; Unreadable for some curves. */
+  curvePoints(edge, fit) {
     const { curve, start, end } = this.solid.edges[edge];
     const ends = [this.points[start], this.points[end]];
+    const told = ends.map(it => plus(it, this.middle)), isSeen = this.seenBy(fit);
+    const points = edgePoints(curveOf(this.solid.file, curve), ...told, { ...fit, isSeen });
+    return [ends[0], ...points.slice(1, -1).map(it => minus(it, this.middle)), ends[1]];
+  }
+
+  /** What is seen, asked of points whose coordinates are the file's. */
+  seenBy(fit) {
+    return (points, far) => fit.isSeen(points.map(it => minus(it, this.middle)), far);
+  }
+
+  /** The points of an edge from its start to its end; of a curve that isn't drawn, its chord. */
+  edgeFrom(edge) {
+    const { start, end } = this.solid.edges[edge], ends = [this.points[start], this.points[end]];
     if (!ends[0] || !ends[1]) return [];
     try {
       if (this.left < 0) throw new Unreadable("a curve beyond the most points of a page");
-      const told = ends.map(it => plus(it, this.middle));
-      const inner = edgePoints(curveOf(this.solid.file, curve), ...told, tolerance).slice(1, -1);
-      this.left -= inner.length + 2;
-      return [ends[0], ...inner.map(it => minus(it, this.middle)), ends[1]];
+      const points = this.curvePoints(edge, evenFit(this.tolerance));
+      this.left -= points.length;
+      return points;
     } catch (fault) {
-      if (!this.chords.has(edge)) this.note(this.reasons, fault);
+      this.note(this.reasons, fault);
       this.chords.add(edge);
       return ends;
     }
+  }
+
+  /** The points of an edge, more where it is seen. */
+  fineEdge(edge, fit) {
+    const points = this.edges[edge];
+    return this.chords.has(edge) || points.length < 2 ? points : this.curvePoints(edge, fit);
   }
 
   /** Whether a loop of a face doesn't join. */
@@ -196,12 +214,27 @@ export class Picture {
     return face.fill;
   }
 
-  /** Lines inside of a curved face. */
-  isolines(face, count) {
+  /** Lines inside of a curved face, as curves. */
+  isolineCurves(face, count) {
     const trimmed = this.trimmed(face);
     if (!trimmed) return [];
-    const lines = isolinesOf(trimmed.surface, trimmed.region, this.tolerance, count);
-    return lines.map(line => line.map(it => minus(it, this.middle)));
+    return isolinesOf(trimmed.surface, trimmed.region, count)
+      .map(line => ({ ...line, at: t => minus(line.at(t), this.middle) }));
+  }
+
+  /** The points of a line inside of a face; none where it leads nowhere. */
+  isolinePoints(line, fit = evenFit(this.tolerance)) {
+    try {
+      return pointsAlong(line, fit);
+    } catch (fault) {
+      this.note(this.faceReasons, fault);
+      return [];
+    }
+  }
+
+  isolines(face, count) {
+    return this.isolineCurves(face, count).map(it => this.isolinePoints(it))
+      .filter(it => it.length);
   }
 
   /**

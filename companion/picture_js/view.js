@@ -3,9 +3,11 @@ import { Camera, looking, straightened } from "./camera.js";
 import { CanvasLines } from "./canvas_lines.js";
 import { colourOf, colours } from "./colours.js";
 import { Labels } from "./labels.js";
-import { CurvedFace, Lines } from "./lines.js";
+import { Lines } from "./lines.js";
 import { Overlay } from "./overlay.js";
 import { commonest } from "./picture.js";
+import { Refining } from "./refining.js";
+import { CurvedFace } from "./silhouettes.js";
 import { normalAt } from "./spline_surfaces.js";
 import { WebglLines } from "./webgl_lines.js";
 import { distance, dot, plus } from "./vectors.js";
@@ -14,7 +16,7 @@ const MOST_LABELS = 60, MOST_HEADS = 16, MOST_DOTS = 5000, MOST_FITTED = 50000;
 /** Vertices in buffers: those of isolines, of triangles of curved faces, and of silhouettes. */
 const MOST_ISOLINE_POINTS = 300000, MOST_MESH_POINTS = 600000, MOST_SILHOUETTE_POINTS = 200000;
 /** So many curved faces are worked out at once; of more the others follow, a few in each slice. */
-const AT_ONCE = 400, SLICE = 25, BETWEEN = 2000, FEW_CURVED = 3000, MOST_REFINED = 2000;
+const AT_ONCE = 400, SLICE = 25, BETWEEN = 2000, FEW_CURVED = 3000;
 const GROUP_WORDS = { LINK: "fan", REACH: "part", APART: "shell" };
 
 const shortHead = ({ head, rule }) => head.split(" ").slice(0, rule === "REACH" ? 2 : 3).join(" ");
@@ -26,12 +28,13 @@ export class View {
     Object.assign(this,
       { scene, picture, faults, hooks, chosen: null, flight: null, isPart: false });
     Object.assign(this,
-      { unfilled: [], labels: [], fine: new Map(), curved: [], isolines: [], later: 0 });
+      { unfilled: [], labels: [], curved: [], curves: [], isolines: [], later: 0 });
     Object.assign(this,
       { isWhole: false, shownAt: 0, onlyFaults: false, withLabels: true, frames: 0 });
     this.over = canvases.over;
     this.pen = this.over.getContext("2d");
     this.camera = new Camera(picture.size);
+    this.refining = new Refining(picture, this.camera);
     this.overlay = new Overlay(this.pen, this);
     const { lines } = canvases, onLost = () => this.paintOnCanvas();
     this.painter = (lines && WebglLines.on(lines, onLost)) || new CanvasLines(this.pen);
@@ -39,6 +42,7 @@ export class View {
     this.atEdges = new Set(picture.solid.edges.flatMap(it => [it.start, it.end]));
     this.lone = picture.points.map((_, vertex) => vertex).filter(it => !this.atEdges.has(it));
     this.setEdges();
+    this.setIsolines();
     this.work = this.curvedWork();
     this.workOn(Infinity, AT_ONCE);
   }
@@ -47,13 +51,13 @@ export class View {
   paintOnCanvas() {
     this.painter = new CanvasLines(this.pen);
     this.setEdges();
-    this.painter.setLines("isolines", new Lines(this.isolines));
+    this.setIsolines();
     this.draw();
   }
 
   /** The points of an edge, finer where the view is near it. */
   pointsOf(edge) {
-    return this.fine.get(edge) || this.picture.edges[edge];
+    return this.refining.edges.get(edge) || this.picture.edges[edge];
   }
 
   setEdges() {
@@ -62,21 +66,30 @@ export class View {
     painter.setLines("edges", this.edgeLines, edge => isRed(edge) || picture.chords.has(edge));
   }
 
+  setIsolines() {
+    const { isolines } = this.refining;
+    this.isolineLines = new Lines(this.isolines.map((it, k) => isolines.get(k) || it));
+    this.painter.setLines("isolines", this.isolineLines);
+  }
+
   // ---- Curved faces, a few at a time: their isolines, and triangles for silhouettes. ----
 
   *curvedWork() {
     const { picture } = this, all = [...picture.faces.values()].filter(it => picture.isCurved(it));
     let isolinePoints = 0, meshPoints = 0, left = 0;
     for (const face of all) {
-      for (const line of picture.isolines(face, all.length > FEW_CURVED ? 1 : 2)) {
+      for (const curve of picture.isolineCurves(face, all.length > FEW_CURVED ? 1 : 2)) {
+        const line = picture.isolinePoints(curve);
         isolinePoints += line.length;
-        if (isolinePoints < MOST_ISOLINE_POINTS) this.isolines.push(line);
+        if (!line.length || isolinePoints >= MOST_ISOLINE_POINTS) continue;
+        this.curves.push(curve);
+        this.isolines.push(line);
       }
       const room = Math.min(20000, MOST_MESH_POINTS - meshPoints);
       const mesh = room > 100 ? picture.mesh(face, room, true) : null;
       if (mesh && !mesh.isCut && mesh.triangles.length) {
         mesh.points.forEach(it => picture.box.add(it));
-        this.curved.push(new CurvedFace(mesh));
+        this.curved.push(new CurvedFace(mesh, picture.surfaceOf(face), picture.middle));
         meshPoints += mesh.points.length;
       } else left++;
       yield;
@@ -92,7 +105,8 @@ export class View {
       if (this.work.next().done) this.isWhole = true;
     }
     const isDue = this.isWhole || performance.now() > this.shownAt + BETWEEN;
-    if (isDue) this.painter.setLines("isolines", new Lines(this.isolines));
+    if (isDue) this.setIsolines();
+    if (isDue) this.refining.forget();
     if (this.isWhole) this.hooks.told(this.facesNote());
     clearTimeout(this.working);
     if (!this.isWhole) this.working = setTimeout(() => this.workOn(SLICE, Infinity), 0);
@@ -108,27 +122,23 @@ export class View {
     return `Some faces are drawn by their edges alone, without outline and inner lines${reasons}.`;
   }
 
-  /** The line between what faces the eye and what doesn't, of all curved faces. */
+  /** The silhouettes of all curved faces. */
   silhouettes() {
     const towards = this.camera.turn.slice(6, 9), lines = [];
     for (const face of this.curved) {
       if (2 * lines.length > MOST_SILHOUETTE_POINTS) break;
-      face.silhouette(towards, (one, other) => lines.push([one, other]));
+      face.eachCrossed(towards, (places, facing) => lines.push(face.ends(places, facing)));
     }
     return new Lines(lines);
   }
 
-  /** Points of edges that are near enough to their curves for the present scale. */
+  /** Draws finer what the present view is near to; whether anything changed. */
   refine() {
-    const tolerance = 0.3 / this.camera.scale, { picture } = this;
-    if (tolerance > picture.tolerance / 2 || tolerance > (this.refined || Infinity) / 2)
-      return false;
-    const seen = picture.edges.map((_, edge) => edge)
-      .filter(edge => picture.edges[edge].length > 2 && this.overlay.isInView(edge));
-    if (!seen.length || seen.length > MOST_REFINED) return false;
-    this.refined = tolerance;
-    for (const edge of seen) this.fine.set(edge, picture.edgeFrom(edge, tolerance));
+    const { refining, edgeLines, isolineLines, curves, curved } = this;
+    const drawn = { edges: edgeLines, isolines: isolineLines, curves, faces: curved };
+    if (!refining.refine(drawn)) return false;
     this.setEdges();
+    this.setIsolines();
     return true;
   }
 
@@ -254,7 +264,8 @@ export class View {
     painter.begin(camera, this.density);
     overlay.begin();
     const strength = this.onlyFaults ? 0.12 : chosen ? 0.55 : 1;
-    if (this.curved.length) painter.setLines("silhouettes", this.silhouettes());
+    if (this.curved.length)
+      painter.setLines("silhouettes", this.refining.ofThisView || this.silhouettes());
     const drawn = [
       painter.draw("isolines", inner, far, 0.6 * strength),
         painter.draw("silhouettes", near, far, strength),

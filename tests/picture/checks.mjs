@@ -1,10 +1,13 @@
 /** The checks of the picture's geometry: each gives names and whether they hold. */
-import { curveOf, edgePoints, pointsAlong } from "../../companion/picture_js/curves.js";
+import { curveOf, edgePoints, evenFit, pointsAlong } from "../../companion/picture_js/curves.js";
 import { areaOf, meshOf } from "../../companion/picture_js/mesh.js";
 import { Picture } from "../../companion/picture_js/picture.js";
 import { IgesFile } from "../../companion/picture_js/records.js";
 import { sceneOf } from "../../companion/picture_js/scene.js";
 import { Solid } from "../../companion/picture_js/solid.js";
+import { normalAt } from "../../companion/picture_js/spline_surfaces.js";
+import { surfaceOf } from "../../companion/picture_js/surfaces.js";
+import { cross, lengthOf, minus } from "../../companion/picture_js/vectors.js";
 import { answerOf, NotUnderstood } from "../../companion/picture_js/where_text.js";
 import { faceFile, fileOf } from "./iges.mjs";
 
@@ -99,16 +102,16 @@ function deviationOf(curve, points) {
 export function* curves() {
   for (const [name, records, start, end, holds] of CURVES) {
     const curve = curveOf(new IgesFile(fileOf(records)), 1);
-    const points = edgePoints(curve, start, end, 0.003);
+    const points = edgePoints(curve, start, end, evenFit(0.003));
     const isThere = points[0] === start && points.at(-1) === end;
     yield [`picture: ${name}`, isThere && points.every(holds)];
     yield [`picture: ${name} is near its chords`,
-      deviationOf(curve, pointsAlong(curve, 0.003)) <= 0.0031];
+      deviationOf(curve, pointsAlong(curve, evenFit(0.003))) <= 0.0031];
   }
   for (const [name, records] of UNDRAWN) {
     let isRefused = false;
     try {
-      edgePoints(curveOf(new IgesFile(fileOf(records)), 1), [0, 0, 0], [3, 0, 0], 0.01);
+      edgePoints(curveOf(new IgesFile(fileOf(records)), 1), [0, 0, 0], [3, 0, 0], evenFit(0.01));
     } catch {
       isRefused = true;
     }
@@ -268,6 +271,28 @@ export function areasOf(bytes, number) {
   }, 0));
 }
 
+/** Each point of an offset surface is as far from its base as is told, along the normal there. */
+export function* offsets({ file }) {
+  const source = new IgesFile(file("thick_sheet_with_an_offset_surface"));
+  const picture = new Picture(new Solid(source, 1));
+  const face = [...picture.faces.values()].find(it => picture.surfaceOf(it).kind === 140);
+  const values = source.values(face.surface).map(Number), base = surfaceOf(source, values[4]);
+  const { at, ranges: [us, vs] } = picture.surfaceOf(face);
+  let most = 0;
+  for (let i = 0; i <= 20; i++) {
+    for (let j = 0; j <= 20; j++) {
+      const u = us[0] + ((us[1] - us[0]) * i) / 20, v = vs[0] + ((vs[1] - vs[0]) * j) / 20;
+      const way = minus(at(u, v), base.at(u, v)), normal = normalAt(base, u, v);
+      most = Math.max(most, Math.abs(lengthOf(way) - Math.abs(values[3])),
+        lengthOf(cross(way, normal)));
+    }
+  }
+  yield ["picture: an offset surface is beside its base", Math.abs(values[3]) === 2 && most < 1e-6];
+  // What Open CASCADE finds for the same solid.
+  const [area] = areasOf(file("thick_sheet_with_an_offset_surface"), 1);
+  yield [`picture: the area of a thick sheet: ${area}`, isNear(area, THICK_SHEET)];
+}
+
 const isNear = (found, wanted) => Math.abs(found - wanted) < 0.004 * wanted;
 
 export function* areas({ file }) {
@@ -286,11 +311,23 @@ export function* areas({ file }) {
     ["cube", 1, [6]], ["cylinder", 1, [4 * Math.PI]], ["ball", 1, [4 * Math.PI]],
       ["point", 1, [4 * Math.PI]],
     ["14_box_void_sphere", 3, [2400, 100 * Math.PI]], ["05_sphere", 1, [196 * Math.PI]],
+    ["torus", 1, [400 * Math.PI ** 2]],
+    ["box_under_a_parametric_spline_surface", 1, [70 + lidArea()]],
   ];
   for (const [name, number, wanted] of known) {
     const found = areasOf(file(name), number);
     yield [`picture: the area of ${name}: ${found}`, found.every((it, k) => isNear(it, wanted[k]))];
   }
+}
+
+/** The area of z = p(x) + p(y) / 2 for x and y from 0 to 4 (tests/spline_files.py says of p). */
+function lidArea() {
+  const count = 400, slope = x =>
+    (x < 2 ? x * (1.5 - 0.75 * x) : (x - 2) * (0.75 * (x - 2) - 1.5));
+  const places = Array.from({ length: count }, (_, k) => slope((4 * (k + 0.5)) / count) ** 2);
+  const sum = places.reduce((sum, a) =>
+    sum + places.reduce((part, b) => part + Math.sqrt(1 + a + b / 4), 0), 0);
+  return sum * (4 / count) ** 2;
 }
 
 /** The circle of radius 1 round (5, 0, 0) in the XZ plane, from (6, 0, 0) on, as a B-spline. */

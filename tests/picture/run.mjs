@@ -4,7 +4,8 @@
  * is changed at random. Prints a line for each check: its name, a tab, and whether it holds.
  */
 import { readdirSync, readFileSync } from "node:fs";
-import { areas, curves, faults, randomGeometry, vertices } from "./checks.mjs";
+import { areas, curves, faults, offsets, randomGeometry, vertices } from "./checks.mjs";
+import { refinement } from "./refinement.mjs";
 
 const top = new URL("../../", import.meta.url);
 
@@ -17,7 +18,8 @@ function examples(folder = new URL("examples/", top), found = new Map()) {
   return found;
 }
 
-const known = examples(), recorded = new URL("tests/recorded/", top);
+const known = examples(new URL("examples/", top), examples(new URL("tests/inputs/", top)));
+const recorded = new URL("tests/recorded/", top);
 const context = {
   file: name => new Uint8Array(readFileSync(known.get(name))),
   texts: readdirSync(recorded).filter(it => it.endsWith(".txt")).sort().map(it => {
@@ -25,6 +27,6 @@ const context = {
     return { name, number: Number(number), text: readFileSync(new URL(it, recorded), "utf8") };
   }),
 };
-for (const checks of [curves, areas, vertices, faults, randomGeometry]) {
+for (const checks of [curves, areas, offsets, vertices, refinement, faults, randomGeometry]) {
   for (const [name, holds] of checks(context)) console.log(`${name}\t${holds ? "yes" : "no"}`);
 }

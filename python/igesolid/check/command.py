@@ -10,6 +10,7 @@ from ..engine import Program, launcher
 from ..errors import Error, NoMemory
 from .cluster import Cluster
 from .events import Event, Events, Interrupted, Progress, gather, signals_into
+from .html_report import HtmlReport, NoReport
 from .judging import Judge
 from .local import Threads
 from .names import Meant
@@ -37,6 +38,7 @@ def parser() -> argparse.ArgumentParser:
     form.add_argument("--json", action="store_true", help="print JSON")
     form.add_argument("--csv", action="store_true", help="print comma-separated values")
     found.add_argument("--table", type=pathlib.Path, metavar="FILE", help="remember results in this table, and judge only what it doesn't have")
+    found.add_argument("--html", type=pathlib.Path, metavar="FOLDER", help="write a report there: index.html, and a page of each failing solid")
     found.add_argument("--certificates", action="store_true", help="write the certificate of each closed solid N of part.igs as part.igs.N.cert")
     found.add_argument("--jobs", type=_positive, metavar="N", default=len(os.sched_getaffinity(0)), help="judge N files at once; default: one a processor")
     found.add_argument("--dask", metavar="SCHEDULER", help="let a Dask cluster judge the files: the scheduler's address, or its scheduler file")
@@ -77,7 +79,8 @@ class Run:
         self.given = given
         self.table = Table(given.table) if given.table else None
         self.engine = Program(given.program, given.where_program)
-        self.judge = Judge(self.engine, self.table, given.certificates)
+        self.pages = HtmlReport(given.html, self.engine) if given.html else None
+        self.judge = Judge(self.engine, self.table, given.certificates, self.pages)
         self.meant = Meant(given.words, given.files_from)
         self.done: Dict[str, Report] = {it.file: it for it in self.meant.unread}
         self.progress = Progress(len(self.meant.files))
@@ -112,9 +115,12 @@ class Run:
 
     def _add(self, name: str, report: Report) -> None:
         self.done[name] = report
+        if self.pages and self.given.dask and not report.is_remembered:
+            self.pages.draw(report)
         self.progress.add(report)
         if len(self.done) % FILES_BETWEEN_TABLES == 0:
             self._save()
+            self._save_index()
 
     def _save(self) -> None:
         """Writes the table, if there is one; a fault of it doesn't end the run."""
@@ -125,6 +131,10 @@ class Run:
         except OSError as fault:
             self.fault = fault
 
+    def _save_index(self, is_interrupted: bool = False) -> None:
+        if self.pages:
+            self.pages.write_index(self.reports, len(self._names()) - len(self.done), is_interrupted)
+
     def run(self) -> Optional[int]:
         """Judges all; the number of the signal that interrupted it, if one did."""
         events: "Events[Event]" = queue.SimpleQueue()
@@ -133,15 +143,19 @@ class Run:
             if self.fault:
                 # Before the work rather than after it.
                 raise NoTable(f"{self.given.table} can't be written: {self.fault.strerror}")
+            if self.pages:
+                self.pages.start()
             self.progress.show()
+            number = None
             try:
                 self.judge_all(events)
-                return None
             except Interrupted as fault:
-                return fault.number
+                number = fault.number
             finally:
                 self.progress.clear()
                 self._save()
+                self._save_index(number is not None)
+            return number
 
     def text(self, status: int, is_interrupted: bool) -> str:
         reports = self.reports
@@ -182,6 +196,9 @@ def perform(given: argparse.Namespace) -> int:
     if run.fault:
         say(f"{given.table} can't be written: {run.fault.strerror}")
         status = max(status, NOT_WRITTEN)
+    if run.pages and run.pages.fault and signal_number is None:
+        say(f"{given.html}: the report isn't whole: {run.pages.fault}")
+        status = max(status, NOT_WRITTEN)
     if signal_number is not None:
         say(f"interrupted: {len(run.reports):,} of {len(run.meant.files):,} files are judged")
         status = 128 + signal_number
@@ -198,7 +215,7 @@ def main(words: Optional[List[str]] = None) -> int:
     except Failed as fault:
         say(fault.says)
         return fault.status
-    except NoTable as fault:
+    except (NoTable, NoReport) as fault:
         say(str(fault))
         return USAGE
     except Error as fault:

@@ -9,16 +9,18 @@ from ..content import Content, content_of_file, content_of_path
 from ..engine import Engine
 from ..errors import Error, NotRead, TooLarge
 from ..files import File, Solid
+from .html_report import HtmlReport
 from .report import NOT_WRITTEN, STANDARD_INPUT, Fault, Report, SolidReport, fault_of
 from .table import Key, Table
 from .writing import write_whole
 
 
 class Judge:
-    """Reports on files. With certificates, that of each closed solid N of part.igs is written beside it, as part.igs.N.cert."""
+    """Reports on files. With certificates, that of each closed solid N of part.igs is written beside it, as part.igs.N.cert; with
+    pages, that of each failing solid."""
 
-    def __init__(self, engine: Engine, table: Optional[Table], has_certificates: bool):
-        self.engine, self.table, self.has_certificates = engine, table, has_certificates
+    def __init__(self, engine: Engine, table: Optional[Table], has_certificates: bool, pages: Optional[HtmlReport] = None):
+        self.engine, self.table, self.has_certificates, self.pages = engine, table, has_certificates, pages
         self.program = engine.identity()
 
     def report(self, name: str) -> Report:
@@ -26,14 +28,16 @@ class Judge:
             content = _content(name)
         except (Error, MemoryError) as fault:
             return Report(name, fault=fault_of(fault))
-        return self._remembered(name, content) or self._judged(name, content)
+        return self._drawn(self._remembered(name, content) or self._judged(name, content), content)
 
     def remembered(self, name: str) -> Optional[Report]:
         """The report in the table; None if the file must be judged, which is told by its size alone if no file in the table has it."""
         try:
             if self.table is None or os.stat(name).st_size not in self.table.sizes:
                 return None
-            return self._remembered(name, _content(name))
+            content = _content(name)
+            found = self._remembered(name, content)
+            return found and self._drawn(found, content)
         except (Error, MemoryError, OSError):
             return None
 
@@ -42,6 +46,11 @@ class Judge:
         if found is None or (self.has_certificates and not _has_certificates(name, found)):
             return None
         return found._replace(file=name, is_remembered=True)
+
+    def _drawn(self, report: Report, content: Content) -> Report:
+        if self.pages:
+            self.pages.draw(report, content)
+        return report
 
     def _judged(self, name: str, content: Content) -> Report:
         report = Report(name, content.size, content.sha256, self.program)
