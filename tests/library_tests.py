@@ -13,6 +13,18 @@ WORDS = "-std=c11 -D_POSIX_C_SOURCE=200809L -O1 -g -Wall -Wextra -Werror".split(
 WRAPPED = "-Wl,--wrap=malloc,--wrap=realloc,--wrap=free"
 VALGRIND = "valgrind", "--quiet", "--leak-check=full", "--show-leak-kinds=all", "--errors-for-leak-kinds=all", "--error-exitcode=99"
 HELGRIND = "valgrind", "--quiet", "--tool=helgrind", "--error-exitcode=99"
+# What stands around an example of a page.
+AROUND = """#include "igesolid.h"
+#include <stdio.h>
+int main(int count, char **given) {
+    static uint8_t bytes[1 << 20], *file = bytes;
+    FILE *in = fopen(given[count - 1], "rb");
+    size_t length = fread(bytes, 1, sizeof bytes, in);
+    (void)file;
+%s
+    return (int)status;
+}
+"""
 EXPORTED = {"igesolid_run", "igesolid_where", "igesolid_free"}
 
 
@@ -59,6 +71,20 @@ def of_c(folder, archive, shared, skipped):
     if shutil.which("g++"):
         done = run("g++", "-std=c++11", "-Wall", "-Wextra", "-Werror", "-fsyntax-only", "-x", "c++", HEADER / "igesolid.h")
         yield f"library: the header in C++{done.stderr}", done.returncode == 0
+
+
+def of_pages(folder, archive, program, where):
+    """The examples in C of the pages, each on a file: they compile, and print what the program prints."""
+    file = EXAMPLES / "occt" / "16_three_solids.igs"
+    for page, words in (("README.md", (where, file, "3")), ("docs/LIBRARY.md", (program, "certify", file, "all"))):
+        code = re.search(r"(?s)```c\n(.*?)```", (TOP / page).read_text())[1]
+        source, made = folder / "page.c", folder / "page"
+        source.write_text(AROUND % code)
+        done = run("gcc", "-std=c11", "-Wall", "-Wextra", "-Werror", "-I", HEADER, source, archive, "-o", made)
+        yield f"{page}: its C{done.stderr}", done.returncode == 0
+        wanted = run(*words)
+        told = run(made, file)
+        yield f"{page}: its C, run", (told.returncode, told.stdout) == (wanted.returncode, wanted.stdout)
 
 
 def of_main(folder, archive, program, where):
@@ -154,4 +180,5 @@ def checks(context):
     folder = context.new_folder()
     yield from of_names(archive, shared)
     yield from of_c(folder, archive, shared, context.skipped)
+    yield from of_pages(folder, archive, program, where)
     yield from of_main(folder, archive, program, where)
