@@ -11,6 +11,11 @@ find_why() {
         why='no program has been built here from these sources'
         return
     fi
+    case $(uname -m) in
+    aarch64 | arm64) machine=aarch64 ;;
+    *) machine=x86_64 ;;
+    esac
+    mean "$name"
     recall sources "$here/dist/BUILT"
     if [ ! -f "$shipped" ]; then
         why="$shipped is missing (git restores it: git checkout dist)"

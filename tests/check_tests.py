@@ -1,5 +1,7 @@
 """Many files: `igesolid check`, the Python package under it, and the recipes of docs/MANY.md as they are printed there."""
 import ast
+import base64
+import concurrent.futures
 import csv
 import hashlib
 import io
@@ -12,11 +14,14 @@ import signal
 import subprocess
 import sys
 import time
+import zipfile
 
 import clone
 import dask_cluster
 import html_tests
 import slurm_cluster
+from libraries import shipped
+from programs import TOP
 from spawned import SECONDS
 
 FILES = {
@@ -563,30 +568,60 @@ def imported(top):
         sys.dont_write_bytecode = caches
 
 
-def package(parts):
-    """The Python package says what the program says."""
+def package(parts, skipped):
+    """The Python package says what the program says, over the programs and over the shared library."""
     igesolid = imported(parts.copy.top)
     engine = igesolid.Program(program=str(parts.copy.program), where=str(parts.copy.where))
+    yield from answers(parts, igesolid, engine, "package")
+    library = shipped("libigesolid-x86_64-linux.so")
+    if library is None:
+        skipped("the Python package over the shared library: dist/ holds none of these sources")
+    else:
+        yield from answers(parts, igesolid, igesolid.Library(str(library)), "package over the library")
+        yield from calls(parts, igesolid, igesolid.Library(str(library)))
+        yield from errors(parts, igesolid, igesolid.Library(str(library)), "package over the library")
+    data = (parts.parts / "cube.igs").read_bytes()
+    yield "package: bytes", all(igesolid.read(kind(data), engine).is_closed for kind in (bytes, bytearray, memoryview))
+    yield from errors(parts, igesolid, engine, "package")
+
+
+def calls(parts, igesolid, engine):
+    """Calls from threads, and a library that isn't there."""
+    paths = sorted((parts.copy.top / "examples").glob("*.igs"))
+    with concurrent.futures.ThreadPoolExecutor(8) as threads:
+        told = list(threads.map(lambda path: repr(igesolid.read(path, engine)), paths * 4))
+    yield "package over the library: threads", told == [repr(igesolid.read(path, engine)) for path in paths] * 4
+    yield "package over the library: none", isinstance(outcome(lambda: igesolid.Library("/none.so")), igesolid.NoProgram)
+    yield "package over the library: which", engine.identity() == sum_of(pathlib.Path(engine.path).read_bytes())
+
+
+def objects(where):
+    """Whether the parts of a text of `where` are its lines."""
+    heads = [line for line in where.split("\n") if line and not line.startswith(" ")]
+    told = [it.text for rule in where.rules for it in (rule, *rule.items)]
+    facts = [fact.text for rule in where.rules for it in rule.items for fact in it.facts]
+    return where.verdict.text == heads[0] and set(told) <= set(heads) and all(f"\n  {fact}\n" in f"{where}\n" for fact in facts)
+
+
+def answers(parts, igesolid, engine, about):
     for name in sorted(FILES):
         path = parts.parts / name
         file = outcome(lambda: igesolid.read(path, engine))
         if isinstance(file, igesolid.Error):
-            yield f"package: {name}", f"{file}\n".encode() == parts.run("solids", path)[1] and (file.status, file.line, file.reason) == (3, 2, "length")
+            yield f"{about}: {name}", f"{file}\n".encode() == parts.run("solids", path)[1] and (file.status, file.line, file.reason) == (3, 2, "length")
             continue
-        answers = parts.answers(path)
-        yield f"package: {name}", [it.number for it in file.solids] == [number for number, _, _ in answers]
-        yield f"package: {name}, closed", file.is_closed == (len(answers) > 0 and all(status == 0 for _, status, _ in answers))
-        yield f"package: {name}, its bytes", (file.size, file.sha256) == (path.stat().st_size, sum_of(path.read_bytes()))
-        for solid, (number, status, text) in zip(file.solids, answers):
-            yield f"package: {name} {number}", solid.verdict.is_closed == (status == 0) and solid.certificate == (text if status == 0 else None)
-            yield f"package: {name} {number}, the verdict", status == 0 or f"{solid.verdict}\n".encode() == text
+        wanted = parts.answers(path)
+        yield f"{about}: {name}", [it.number for it in file.solids] == [number for number, _, _ in wanted]
+        yield f"{about}: {name}, closed", file.is_closed == (len(wanted) > 0 and all(status == 0 for _, status, _ in wanted))
+        yield f"{about}: {name}, its bytes", (file.size, file.sha256) == (path.stat().st_size, sum_of(path.read_bytes()))
+        for solid, (number, status, text) in zip(file.solids, wanted):
+            yield f"{about}: {name} {number}", solid.verdict.is_closed == (status == 0) and solid.certificate == (text if status == 0 else None)
+            yield f"{about}: {name} {number}, the verdict", status == 0 or f"{solid.verdict}\n".encode() == text
             for command in ("extract", "compact"):
-                yield f"package: {name} {number}, {command}", getattr(solid, command)() == parts.run(command, path, str(number))[1]
+                yield f"{about}: {name} {number}, {command}", getattr(solid, command)() == parts.run(command, path, str(number))[1]
             told = [subprocess.run([parts.copy.where, path, str(number), *more], stdout=subprocess.PIPE).stdout.decode() for more in ((), ("all",))]
-            yield f"package: {name} {number}, where", [solid.where, solid.where_all] == told
-    data = (parts.parts / "cube.igs").read_bytes()
-    yield "package: bytes", all(igesolid.read(kind(data), engine).is_closed for kind in (bytes, bytearray, memoryview))
-    yield from errors(parts, igesolid, engine)
+            yield f"{about}: {name} {number}, where", [solid.where, solid.where_all] == told
+            yield f"{about}: {name} {number}, where as an object", objects(solid.where_all) and solid.where.is_closed == (status == 0)
 
 
 def outcome(call):
@@ -597,7 +632,7 @@ def outcome(call):
         return fault
 
 
-def errors(parts, igesolid, engine):
+def errors(parts, igesolid, engine, about):
     unlisted, records = (igesolid.read(parts.copy.top / "examples" / "no" / name, engine).solids[0] for name in ("extract_unlisted.igs", "fail_index.igs"))
     script = parts.folder / "ending"
     clone.Clone.write(script, ENDING)
@@ -617,9 +652,9 @@ def errors(parts, igesolid, engine):
         ("a wrong record", records.compact, igesolid.WrongRecord, 1, str(records.verdict)),
     ):
         fault = outcome(call)
-        yield f"package: {name}, {kind.__name__}", isinstance(fault, kind) and (fault.status, str(fault)) == (status, text)
+        yield f"{about}: {name}, {kind.__name__}", isinstance(fault, kind) and (fault.status, str(fault)) == (status, text)
     answer = subprocess.run([parts.copy.program, "extract", parts.copy.top / "examples" / "no" / "extract_unlisted.igs", str(unlisted.number)], stdout=subprocess.PIPE)
-    yield "package: no extract, the answer", f"{outcome(unlisted.extract)}\n".encode() == answer.stdout
+    yield f"{about}: no extract, the answer", f"{outcome(unlisted.extract)}\n".encode() == answer.stdout
 
 
 def clone_script(parts, text):
@@ -643,6 +678,40 @@ def installed_package(parts, prefix):
     yield "package: of Python 3.8", all(ast.parse(it.read_text(), feature_version=(3, 8)) for it in sources)
     names = sorted(str(it.relative_to(parts.copy.top)) for it in (parts.copy.top / "python").rglob("*") if it.is_file())
     yield "package: all of it is installed", all((prefix / "lib" / "igesolid" / name).is_file() for name in names) and "python/igesolid/py.typed" in names
+
+
+def wheel(parts, skipped):
+    """The wheel, made twice of the repository, has the package and the library, and reads a file by it."""
+    library = shipped("libigesolid-x86_64-linux.so")
+    if library is None:
+        skipped("the wheel: dist/ holds no library of these sources")
+        return
+    run = lambda *words, **how: subprocess.run(list(map(str, words)), capture_output=True, text=True, timeout=SECONDS, **how)
+    made = []
+    for name in "one", "other":
+        (parts.folder / name).mkdir()
+        done = run(sys.executable, TOP / "packaging" / "wheel", parts.folder / name)
+        yield f"wheel: it is made{done.stderr}", (done.returncode, done.stderr) == (0, "")
+        made.append(pathlib.Path(done.stdout.strip()))
+    yield "wheel: the same bytes again", made[0].read_bytes() == made[1].read_bytes() and made[0].name == made[1].name
+    place = parts.folder / "unpacked"
+    with zipfile.ZipFile(made[0]) as files:
+        files.extractall(place)
+    lines = [line.split(",") for line in next(place.glob("*.dist-info/RECORD")).read_text().splitlines()]
+    sums = [base64.urlsafe_b64encode(hashlib.sha256((place / name).read_bytes()).digest()).rstrip(b"=").decode() for name, _, _ in lines[:-1]]
+    yield "wheel: its record", sums == [it.removeprefix("sha256=") for _, it, _ in lines[:-1]] and len(lines) == len([it for it in place.rglob("*") if it.is_file()])
+    words = "import igesolid; print(type(igesolid.default_engine()).__name__, igesolid.read('parts/cube.igs'))"
+    told = "Library <file of 8829 bytes: [<solid 1: closed>]>\n"
+    done = run("python3", "-B", "-c", words, cwd=parts.folder, env={**os.environ, "PYTHONPATH": str(place), "PATH": clone.PLAIN_PATH})
+    yield f"wheel: it reads{done.stderr}", (done.returncode, done.stdout) == (0, told)
+    if run(sys.executable, "-m", "pip", "--version").returncode != 0:
+        skipped("the wheel, installed: pip isn't installed")
+        return
+    target = parts.folder / "by pip"
+    done = run(sys.executable, "-m", "pip", "install", "--quiet", "--no-index", "--no-deps", "--disable-pip-version-check", "--root-user-action=ignore", "--target", target, made[0])
+    yield f"wheel: pip installs it{done.stderr}", done.returncode == 0
+    done = run(sys.executable, "-B", "-c", words, cwd=parts.folder, env={**os.environ, "PYTHONPATH": str(target)})
+    yield f"wheel: what pip installed reads{done.stderr}", (done.returncode, done.stdout) == (0, told)
 
 
 def image(parts, skipped):
@@ -669,10 +738,13 @@ def installed(copy):
 
 def checks(copy, skipped):
     parts, prefix = installed(copy)
-    for part in (texts, forms, statuses, tables, certificates, interrupts, progress, launched, package):
+    for part in (texts, forms, statuses, tables, certificates, interrupts, progress, launched):
         parts.fill()
         yield from part(parts)
     yield from html_tests.checks(parts)
+    for part in (package, wheel):
+        parts.fill()
+        yield from part(parts, skipped)
     parts.fill()
     yield from recipes(parts, skipped)
     parts.fill()

@@ -78,6 +78,8 @@ class Clone:
         status, _, error = self.run("dist/make", kit=True)
         if status != 0:
             raise RuntimeError(error)
+        # What dist/make asked of the kit is no build.
+        self.calls()
         self.unbuild()
 
     def ship_script(self, text):

@@ -116,9 +116,11 @@ def tests(commands):
 
 
 def shipped(copy):
-    """dist/ holds each program, and the usage line of igesolid is that of the table."""
+    """dist/ holds each program, for aarch64 each or none, and the usage line of igesolid is that of the table."""
     names = [line.split()[1] for line in (copy.top / "dist" / "SHA256SUMS").read_text().splitlines()]
-    yield "dist/SHA256SUMS: its programs", sorted(names) == sorted(f"{name}-x86_64-linux" for name in programs())
+    for machine in "x86_64", "aarch64":
+        found = sorted(name for name in names if name.endswith(f"-{machine}-linux"))
+        yield f"dist/SHA256SUMS: its programs for {machine}", found == sorted(f"{name}-{machine}-linux" for name in programs()) or (machine == "aarch64" and not found)
     yield "commands.tsv: the usage line", copy.run(copy.program)[:2] == (2, usage().encode())
 
 

@@ -57,6 +57,21 @@ def first_runs(copy, skipped):
     yield "launcher: a changed source without the kit", status == 125 and "holds no program built from these sources, and rt" in error
 
 
+def machines(copy):
+    """Where dist/ holds a program that starts for another machine only, that one runs; where none starts, it is said."""
+    one, other, sums = copy.top / "dist" / "igesolid-x86_64-linux", copy.top / "dist" / "igesolid-aarch64-linux", copy.top / "dist" / "SHA256SUMS"
+    whole, lines = one.read_bytes(), sums.read_text()
+    copy.write(one, "#!/bin/sh\nexit 126\n")
+    copy.write(other, "#!/bin/sh\n[ $# -gt 0 ] || { echo 'usage: igesolid ..'; exit 2; }\necho other\n")
+    sums.write_text("".join(f"{hashlib.sha256(path.read_bytes()).hexdigest()}  {path.name}\n" for path in (one, other)))
+    yield "launcher: the program of another machine", copy.run("./igesolid", "solids", "examples/cube.igs") == (0, b"other\n", "")
+    other.write_text("#!/bin/sh\n")
+    yield "launcher: changed since", copy.run("./igesolid", "solids", "examples/cube.igs")[0] == 125
+    other.unlink()
+    one.write_bytes(whole)
+    sums.write_text(lines)
+
+
 def parts_of(page):
     """What stands in a page: the file's name and the number, the text of where, and the file."""
     found = [base64.b64decode(re.search(rb'(?s)id="%s">(.*?)</script>' % name, page)[1]) for name in (b"words", b"where", b"file")]
@@ -548,6 +563,7 @@ def further_program(copy):
 
 def checks(copy, forms, skipped):
     yield from further_program(copy)
+    yield from machines(copy)
     yield from surprises(copy)
     yield from pictures(copy)
     yield from layouts(copy)

@@ -5,18 +5,19 @@ Each crate has one row in docs/ARCHITECTURE.md, below the heading that it has in
 says it must not know. crates.txt lists each crate below what it depends on, and nothing that the crate doesn't name. No chain of
 crates is longer than `CHAIN` crates, and no crate has more than `LINES` lines or `FUNCTIONS` functions, contracts included; tests,
 and the programs, which are `main` alone, aren't counted. None of the crates `CHECKS`, which say yes to certificates and to
-orientations, depends on one of `MAKES`, which make them.
+orientations, depends on one of `MAKES`, which make them. A library for C stands on crates as a program does.
 """
 import functools
 import pathlib
 import re
 import sys
 
-CRATE = re.compile(r"(?m)^(\w+): (.*)$")
+CRATE = re.compile(r"(?m)^(\w+)(?: staticlib)?: (.*)$")
 ROW = re.compile(r"(?m)^\| `(\w+)` \| .*\|(.*)\|$")
 # A heading of crates.txt and of the tree, with what is below it.
-HEADED = re.compile(r"(?m)^# ([a-z]+: .*)\n((?:\w+:.*\n)+)")
+HEADED = re.compile(r"(?m)^# ([a-z]+: .*)\n((?:\w+(?: staticlib)?:.*\n)+)")
 DRAWN = re.compile(r"(?m)^### ([a-z]+: .*)\n((?:(?!#).*\n)+)")
+STATIC = re.compile(r"(?m)^(\w+) staticlib:")
 NAMED = re.compile(r"\bRattle\.(\w+)|(?<![\w:.])(\w+)::")
 FUNCTION = re.compile(r"(?m)^ *(?:pub(?:\(\w+\))? )?(?:const )?fn \w+")
 CHAIN, LINES, FUNCTIONS = 8, 1500, 100
@@ -94,9 +95,10 @@ def limits_checks(top, crates, tests):
     for name in crates:
         if name in tests or (top / "crates" / name / "src" / "main.rt").exists():
             continue
+        is_for_c = name in STATIC.findall((top / "crates.txt").read_text())
         code, _ = sources(top, name)
         length, most = chain_length(crates, name), LONGER.get(name, CHAIN)
-        yield f"crates.txt: the chain to {name} has {length} crates; {most} at most", length <= most
+        yield f"crates.txt: the chain to {name} has {length} crates; {most} at most", length <= most or is_for_c
         lines, functions = len(code.splitlines()), len(FUNCTION.findall(code))
         fits = lines <= LINES and functions <= FUNCTIONS
         yield f"crates/{name}: {lines} lines and {functions} functions; {LINES} and {FUNCTIONS} at most", fits or name in LARGER

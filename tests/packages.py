@@ -1,11 +1,14 @@
 """The installer and the Debian package, each into a folder of its own."""
 import os
 import re
+import shlex
 import shutil
 import subprocess
 
 import clone
 import command_table
+from libraries import shipped
+from programs import DIST
 
 INSTALLED = (
     "bin/igesolid", "lib/igesolid/BUILT", "lib/igesolid/commands.tsv", "lib/igesolid/launcher/causes.sh", "share/man/man1/igesolid.1",
@@ -70,6 +73,58 @@ def installs(copy):
     stage = copy.folder / "stage"
     yield "install: DESTDIR", copy.run("./install", "/usr", DESTDIR=stage)[0] == 0 and certifies(copy, stage / "usr")
     shutil.rmtree(stage)
+
+
+LIBRARY = "lib/libigesolid.a", "lib/libigesolid.so.1", "lib/libigesolid.so", "include/igesolid.h", "lib/pkgconfig/igesolid.pc", "share/igesolid/igesolid-web.html"
+CALLER = """#include <igesolid.h>
+int main(void) {
+    igesolid_text text = IGESOLID_NO_TEXT;
+    return (int)igesolid_run((const uint8_t *)"solids", 6, text.bytes, 0, text.bytes, 0, &text);
+}
+"""
+
+
+def libraries(copy, skipped):
+    """The library for C: where it is installed, what pkg-config says of it, and its packages."""
+    if None in (shipped("libigesolid-x86_64-linux.a"), shipped("libigesolid-x86_64-linux.so"), shipped("igesolid.wasm")):
+        skipped("the library for C, installed: dist/ holds none of these sources")
+        return
+    # dist/ as it is, where the copy has what the kit that is played made.
+    shutil.rmtree(copy.top / "dist")
+    shutil.copytree(DIST, copy.top / "dist")
+    prefix = copy.folder / "prefix-for-c"
+    status, text, error = copy.run("./install", prefix)
+    found = files_in(prefix)
+    yield "install: with the library", (status, error) == (0, "") and b"library" not in text.split(b"\n", 1)[1]
+    for name in LIBRARY:
+        yield f"install: {name}", name in found
+    program, source = copy.folder / "caller", copy.folder / "caller.c"
+    source.write_text(CALLER)
+    if shutil.which("gcc") is None or shutil.which("pkg-config") is None:
+        skipped("the library by pkg-config: gcc or pkg-config isn't installed")
+    else:
+        where = {"PKG_CONFIG_PATH": prefix / "lib" / "pkgconfig"}
+        words = shlex.split(copy.run("pkg-config", "--cflags", "--libs", "igesolid", **where)[1].decode())
+        yield "install: by pkg-config", copy.run("gcc", "-Wall", "-Wextra", "-Werror", source, *words, "-o", program)[0] == 0
+        yield "install: it runs", copy.run(program, LD_LIBRARY_PATH=prefix / "lib")[0] == 2
+    yield "uninstall: with the library", copy.run("./install", "--uninstall", prefix)[0] == 0 and files_in(prefix) == []
+    if shutil.which("dpkg-deb") is None:
+        skipped("the Debian packages of the library: dpkg-deb isn't installed")
+        return
+    made = [copy.run("packaging/deb-library", copy.folder, SOURCE_DATE_EPOCH=1_700_000_000) for _ in range(2)]
+    yield "package: of the library", [it[0] for it in made] == [0, 0] and made[0][1].decode().count("\n") == 2
+    if made[0][0] != 0:
+        return
+    root = copy.folder / "library root"
+    for package in made[0][1].decode().split("\n")[:-1]:
+        yield f"package: {os.path.basename(package)}", copy.run("dpkg-deb", "--extract", package, root)[0] == 0
+    at = "usr/lib/x86_64-linux-gnu"
+    wanted = *(f"{at}/{name}" for name in ("libigesolid.a", "libigesolid.so", "libigesolid.so.1", "pkgconfig/igesolid.pc")), "usr/include/igesolid.h"
+    yield "package: what the library's have", set(wanted) <= set(files_in(root))
+    main = copy.run("packaging/deb", copy.folder, SOURCE_DATE_EPOCH=1_700_000_000)[1].decode().strip()
+    yield "package: the library is in no other", b"libigesolid" not in copy.run("dpkg-deb", "--contents", main)[1]
+    shutil.rmtree(root)
+    copy.ship(copy.program)
 
 
 def packages(copy, skipped):
@@ -202,5 +257,6 @@ def pages(copy, skipped):
 
 def checks(copy, skipped):
     yield from installs(copy)
+    yield from libraries(copy, skipped)
     yield from packages(copy, skipped)
     yield from pages(copy, skipped)

@@ -2,6 +2,7 @@
 import os
 
 import argument_tests
+import arm_tests
 import arrival_tests
 import browser_tests
 import certificate_tests
@@ -18,6 +19,7 @@ import hostile
 import largest_tests
 import launcher
 import layers
+import library_tests
 import limits
 import no_examples
 import node_tests
@@ -35,6 +37,7 @@ import running_tests
 import sample_tests
 import theorem
 import trusted
+import web_tests
 import where
 from part import BY_NAME, LARGE, Part
 from programs import FORMS, TOP
@@ -97,6 +100,9 @@ PARTS = (
     Part("packages", "the installer and the Debian package, likewise", lambda context: packages.checks(context.clone(), context.skipped), LARGE),
     Part("completion", "completion in bash, zsh and fish, likewise", lambda context: packages.completions(context.clone(), context.skipped)),
     Part("check", "igesolid check, the Python package and the recipes of docs/MANY.md, likewise", lambda context: check_tests.checks(context.clone(), context.skipped)),
+    Part("library", "the library for C: programs that use it, threads, a heap with a cap, and each example", library_tests.checks),
+    Part("arm", "the programs and the library for aarch64 under qemu-user, and a processor below the kit's baseline", arm_tests.checks, LARGE),
+    Part("web", "the page for browsers in headless Chromium", web_tests.checks, LARGE),
     Part("clusters", "the recipe for Slurm and check --dask, on clusters of this machine", lambda context: check_tests.clusters(context.clone(), context.skipped), LARGE),
     Part("testing", "tests/run itself, its choice of the programs, and that .ci/run has every part", lambda context: running_tests.checks(context, PARTS)),
     Part("fresh", "README's first commands in a fresh clone, without the kit", fresh.checks, BY_NAME),

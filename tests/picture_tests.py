@@ -7,8 +7,8 @@ import sys
 
 TOP = pathlib.Path(__file__).resolve().parent.parent
 RECORDED = TOP / "tests" / "recorded"
-sys.path.insert(0, str(TOP / "companion"))
-from pictures import answers, iges, overlay, solids  # noqa: E402
+sys.path[:0] = [str(TOP / "companion"), str(TOP / "python")]
+from pictures import iges, overlay, solids  # noqa: E402
 from sample_file import text_of  # noqa: E402
 from spawned import SECONDS  # noqa: E402
 from surfaces import surface_text  # noqa: E402
@@ -33,10 +33,21 @@ def recorded():
         yield name, int(number), path.read_text(), iges.lines_of(example(name).read_bytes())
 
 
+def parts_of(text):
+    """A text of where, read into its parts. The package is imported in this part's process alone, for another imports that of a copy."""
+    from igesolid.where import Where
+
+    read = Where(text)
+    read.parts
+    return read
+
+
 def is_understood(text):
+    from igesolid.where import NotUnderstood
+
     try:
-        answers.answer_of(text)
-    except answers.NotUnderstood:
+        parts_of(text)
+    except NotUnderstood:
         return False
     return True
 
@@ -44,8 +55,8 @@ def is_understood(text):
 def grammar():
     """Each line of the texts has a shape, and no longer has it with a word more or a letter changed."""
     for name, number, text, _ in recorded():
-        answer = answers.answer_of(text)
-        yield f"pictures: {name} {number} is understood", answer.is_closed() or len(answer.rules) > 0 or answer.is_bad_file()
+        answer = parts_of(text)
+        yield f"pictures: {name} {number} is understood", answer.is_closed or len(answer.rules) > 0 or answer.is_bad_file
         listed = sum(len(rule.items) + rule.more for rule in answer.rules if rule.name in ("JOIN", "PAIR", "LINK", "APART"))
         wanted = sum(rule.number("faults") for rule in answer.rules if rule.name in ("JOIN", "PAIR", "LINK", "APART"))
         yield f"pictures: {name} {number} has its faults", listed == wanted
@@ -99,7 +110,7 @@ def random_geometry():
     """Whatever geometry holds, there are marks."""
     rng, held, count = random.Random(126), 0, 0
     for name, number, text, lines in recorded():
-        answer, data = answers.answer_of(text), example(name).read_bytes()
+        answer, data = parts_of(text), example(name).read_bytes()
         if not answer.shells:
             continue
         for _ in range(40):
@@ -138,11 +149,11 @@ def commands(folder, where):
 def marks(program):
     """Marks are a file that the program reads; they hold what the text tells, at its levels and in its colours."""
     for name, number, text, lines in recorded():
-        answer = answers.answer_of(text)
+        answer = parts_of(text)
         told, _ = overlay.marks_of(f"{name}.igs", number, answer, lines)
         done = subprocess.run([program, "solids", "/dev/stdin"], input=told, capture_output=True)
-        yield f"marks of {name} are read", (done.returncode, done.stdout) == ((3, b"bad file line 1 missing\n") if answer.is_bad_file() else (0, b""))
-        if not answer.is_bad_file():
+        yield f"marks of {name} are read", (done.returncode, done.stdout) == ((3, b"bad file line 1 missing\n") if answer.is_bad_file else (0, b""))
+        if not answer.is_bad_file:
             own, source = iges.File(iges.lines_of(told)), iges.File(lines)
             yield f"marks of {name}: the same global section", [line[:72] for line in own.globals] == [line[:72] for line in source.globals]
     for name, number, wanted in (
@@ -151,7 +162,7 @@ def marks(program):
         ("fail_join", 1, {(100, 901, 2): 2, (116, 901, 2): 2}),
         ("cube", 1, {}),
     ):
-        answer = answers.answer_of((RECORDED / f"{name}.{number}.txt").read_text())
+        answer = parts_of((RECORDED / f"{name}.{number}.txt").read_text())
         told, _ = overlay.marks_of(name, number, answer, iges.lines_of(example(name).read_bytes()))
         entries = told.splitlines()
         counts = {}
@@ -181,7 +192,7 @@ def near():
     """Of the edges near a fault so many are marked, and it is said."""
     records = (RECORDED / "76_pinched_vertex.3.txt").read_text(), iges.lines_of(example("76_pinched_vertex").read_bytes())
     most, overlay.MOST_NEAR = overlay.MOST_NEAR, 5
-    text, says = overlay.marks_of("a", 3, answers.answer_of(records[0]), records[1])
+    text, says = overlay.marks_of("a", 3, parts_of(records[0]), records[1])
     overlay.MOST_NEAR = most
     marked = [line for line in text.splitlines() if b"    NEAR" in line]
     yield "marks: so many edges near a fault", len(marked) == 5 and says == "a: of the other edges of the faces there the first 5 are marked" and b"the first 5 other edges" in text
@@ -222,7 +233,7 @@ def of_program(folder, program, where):
         lines = iges.lines_of(path.read_bytes())
         for number in (1, 3):
             status, text = told_by(where, path, number)
-            answer = answers.answer_of(text)
+            answer = parts_of(text)
             marked = overlay.marks_of("", number, answer, lines)[0]
             solid = solids.solid_of(iges.File(lines), number) if answer.shells else None
             counts = all(solid.shells[it.number("shell") - 1].counts() == tuple(map(it.number, ("faces", "edges", "vertices"))) for it in answer.failing)

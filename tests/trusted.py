@@ -20,7 +20,7 @@ ROW = re.compile(r"(?m)^\| \[\w+\]\(\.\./(\S+)\) \| (.*) \| (.*) \|$")
 TABLE = "| File | What it says | For |\n|---|---|---|\n"
 PRIVATE = "-- Private: "
 HOLDER = re.compile(r"(?:impl|(?:pub )?(?:trait|struct|enum))\b")
-FUNCTION = re.compile(r"( *)(pub |pub\(crate\) )?(?:const )?fn (\w+)")
+FUNCTION = re.compile(r"( *)(pub |pub\(crate\) )?(?:const |extern \"C\" )?fn (\w+)")
 
 
 def imports(sources, source):
@@ -130,7 +130,7 @@ def private(sources):
     roots = set()
     for path, source in sources.items():
         if path.endswith(".rt") and not path.startswith("crates/small_solids/"):
-            names = exported(sources, path.split("/")[1]) | set(re.findall(r"(?m)^pub fn (\w+)", source) if path.endswith("/lib.rt") else ())
+            names = exported(sources, path.split("/")[1]) | set(re.findall(r"(?m)^pub (?:extern \"C\" )?fn (\w+)", source) if path.endswith("/lib.rt") else ())
             lines = [line for line in public_lines(source, names) if not USE.match(line)]
             roots |= cited(sources, path, "\n".join(lines))
     return definitions(sources) - reached(sources, roots)

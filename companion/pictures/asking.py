@@ -3,13 +3,16 @@ import argparse
 import os
 import pathlib
 import signal
-import subprocess
 import sys
 
-from .answers import NotUnderstood, answer_of
 from .iges import Unreadable, lines_of
 
-TOP = pathlib.Path(__file__).resolve().parent.parent.parent
+sys.path.insert(0, str(pathlib.Path(__file__).resolve().parent.parent.parent / "python"))
+from igesolid.content import content_of_path  # noqa: E402
+from igesolid.engine import Program  # noqa: E402
+from igesolid.errors import Error  # noqa: E402
+from igesolid.where import NotUnderstood, Where  # noqa: E402
+
 ANSWERED = 0, 1, 3
 USAGE, READ_FAILED, WRITE_FAILED, MEMORY_FAILED, NOT_UNDERSTOOD = 2, 4, 5, 6, 125
 
@@ -24,18 +27,16 @@ class Ending(Exception):
 
 def asked(program, file, number):
     """The status and the answer of `igesolid-where` with all faults, and the lines of the file."""
-    command = [program] if program else [TOP / "igesolid", "where"]
-    done = subprocess.run([*command, file, number, "all"], stdin=subprocess.DEVNULL, stdout=subprocess.PIPE)
-    if done.returncode == USAGE:
+    content = content_of_path(file)
+    status, text = Program(where=program, is_apart=False).ask("where", content, number, "all")
+    if status == USAGE:
         raise Ending(USAGE, "igesolid-where doesn't take these words: N is a directory number of 1 to 7 digits, and FILE a name in UTF-8")
-    if done.returncode not in ANSWERED:
-        raise Ending(done.returncode if done.returncode > 0 else NOT_UNDERSTOOD)
-    try:
-        answer = answer_of(done.stdout.decode("utf-8", "replace"))
-    except NotUnderstood as fault:
-        raise Ending(NOT_UNDERSTOOD, str(fault)) from None
-    with open(file, "rb") as opened:
-        return done.returncode, answer, lines_of(opened.read())
+    if status not in ANSWERED:
+        raise Ending(status)
+    answer = Where(text.decode("utf-8", "replace"))
+    # It is read here, where a text of another shape is told.
+    answer.parts
+    return status, answer, lines_of(content.bytes())
 
 
 def run(name, description, write):
@@ -54,6 +55,11 @@ def run(name, description, write):
             print(f"igesolid: {says}", file=sys.stderr)
         print_all(text)
         return status
+    except NotUnderstood as fault:
+        print(f"igesolid: {given.file}: {fault}", file=sys.stderr)
+        return NOT_UNDERSTOOD
+    except Error as fault:
+        return fault.status
     except Ending as end:
         if end.says:
             print(f"igesolid: {given.file}: {end.says}", file=sys.stderr)

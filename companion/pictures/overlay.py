@@ -151,7 +151,7 @@ def edges_of(face):
 
 def marks_of(title, number, answer, lines):
     """The bytes of the overlay of a solid, and what to say of it."""
-    if answer.is_bad_file():
+    if answer.is_bad_file:
         return b"", f"{title}: {answer.verdict.text}, so nothing is marked"
     file = File(lines)
     overlay, left = Overlay(file), 0
@@ -168,7 +168,7 @@ def marks_of(title, number, answer, lines):
 
 
 def told(title, answer, left, is_cut):
-    if answer.is_closed():
+    if answer.is_closed:
         return f"{title}: the solid is closed, so nothing is marked"
     if answer.shells is None:
         return f"{title}: {answer.verdict.text}: a record is wrong, so nothing is marked"

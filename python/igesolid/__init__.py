@@ -10,9 +10,11 @@ docs/LIBRARY.md of the repository describes the classes and the errors. Needs Py
 """
 from .engine import Answer, Engine, Program
 from .errors import BadFile, Error, NoExtract, NoMemory, NoProgram, NotRead, TooLarge, WrongRecord
-from .files import File, Solid, Verdict, read
+from .files import File, Solid, Verdict, default_engine, read
+from .library import Library
+from .where import NotUnderstood, Where
 
 __all__ = [
-    "Answer", "BadFile", "Engine", "Error", "File", "NoExtract", "NoMemory", "NoProgram", "NotRead", "Program", "Solid", "TooLarge", "Verdict",
-    "WrongRecord", "read",
+    "Answer", "BadFile", "Engine", "Error", "File", "Library", "NoExtract", "NoMemory", "NoProgram", "NotRead", "NotUnderstood", "Program",
+    "Solid", "TooLarge", "Verdict", "Where", "WrongRecord", "default_engine", "read",
 ]  # fmt: skip

@@ -1,6 +1,9 @@
 """The bytes of a file, read once, so that what is hashed is what is judged, also if the file changes or can't be read twice."""
+import contextlib
+import ctypes
 import errno
 import hashlib
+import mmap
 import os
 import tempfile
 from typing import BinaryIO, Iterator, Union
@@ -9,6 +12,7 @@ from .errors import NoMemory, NotRead
 
 FILE_LIMIT = 164_000_000
 PIECE = 1 << 20
+_NOTHING = ctypes.c_char()
 
 
 def _memory_file() -> int:
@@ -48,6 +52,23 @@ class Content:
     @property
     def path(self) -> str:
         return f"/dev/fd/{self.descriptor}"
+
+    def bytes(self) -> "bytes":
+        return b"".join(os.pread(self.descriptor, PIECE, start) for start in range(0, self.size, PIECE))
+
+    @contextlib.contextmanager
+    def address(self) -> Iterator[int]:
+        """Where the bytes lie in this process's memory, as long as the context lasts: they are mapped, and not copied."""
+        if self.size == 0:
+            yield ctypes.addressof(_NOTHING)
+            return
+        with mmap.mmap(self.descriptor, self.size, access=mmap.ACCESS_COPY) as mapped:
+            first = ctypes.c_char.from_buffer(mapped)
+            try:
+                yield ctypes.addressof(first)
+            finally:
+                # A memory that something refers to can't be given back.
+                del first
 
     def __del__(self) -> None:
         if self.descriptor >= 0:

@@ -35,9 +35,12 @@ class Engine:
 
 
 class Program(Engine):
-    """Runs `igesolid`, and `igesolid-where` for the command `where`: the programs given, or those beside this package."""
+    """Runs `igesolid`, and `igesolid-where` for the command `where`: the programs given, or those beside this package.
 
-    def __init__(self, program: Optional[str] = None, where: Optional[str] = None):
+    They run apart, in a session of their own, where an interrupt from the terminal, which is for the caller to handle, doesn't reach them."""
+
+    def __init__(self, program: Optional[str] = None, where: Optional[str] = None, is_apart: bool = True):
+        self._is_apart = is_apart
         self._paths: Dict[str, Optional[str]] = {"igesolid": program, "igesolid-where": where}
         self._lock = threading.RLock()
         self._running: Set["subprocess.Popen[bytes]"] = set()
@@ -85,9 +88,8 @@ class Program(Engine):
             if self._is_stopped:
                 raise NoProgram("stopped")
             try:
-                # In a session of its own it isn't reached by an interrupt from the terminal, which is for the caller to handle.
                 process = subprocess.Popen(
-                    command, stdin=subprocess.DEVNULL, stdout=subprocess.PIPE, pass_fds=(descriptor,), env=ENVIRONMENT, start_new_session=True
+                    command, stdin=subprocess.DEVNULL, stdout=subprocess.PIPE, pass_fds=(descriptor,), env=ENVIRONMENT, start_new_session=self._is_apart
                 )
             except OSError as fault:
                 raise NoProgram(f"{command[0]}: {fault.strerror}") from fault

@@ -6,10 +6,12 @@ from typing import List, NamedTuple, Optional, Tuple, Union
 from .content import Content, content_of_bytes, content_of_path
 from .engine import Engine, Program
 from .errors import NoProgram, error_of
+from .library import Library
+from .where import Where
 
 VERDICT = re.compile(r"solid (\d+) (?:closed|fail ([A-Z]+) (\d+) (\d+))")
 DONE, NO = 0, 1
-_default_engine = Program()
+_default_engines: List[Engine] = []
 
 
 class Verdict(NamedTuple):
@@ -39,12 +41,12 @@ class Solid:
         return self._file.text_of("certify", self.number) if self.verdict.is_closed else None
 
     @property
-    def where(self) -> str:
+    def where(self) -> Where:
         """Where the solid fails, as `igesolid where FILE N` prints it: of each list 20 members at most (docs/WHERE.md)."""
         return self._file.where(str(self.number))
 
     @property
-    def where_all(self) -> str:
+    def where_all(self) -> Where:
         """The same with all members, as `igesolid where FILE N all` prints it."""
         return self._file.where(str(self.number), "all")
 
@@ -90,11 +92,11 @@ class File:
             raise error_of(status, text)
         return text
 
-    def where(self, *words: str) -> str:
+    def where(self, *words: str) -> Where:
         status, text = self._engine.ask("where", self._content, *words)
         if status not in (DONE, NO):
             raise error_of(status, text)
-        return text.decode("utf-8", "replace")
+        return Where(text.decode("utf-8", "replace"))
 
     def __repr__(self) -> str:
         return f"<file of {self.size} bytes: {self.solids}>"
@@ -109,8 +111,18 @@ def _verdicts(text: bytes) -> List[Tuple[int, Verdict]]:
     return [(int(it[1]), Verdict(it[2], int(it[3]), int(it[4])) if it[2] else Verdict()) for it in found if it]
 
 
+def default_engine() -> Engine:
+    """The shared library, where it is beside this package, else the programs."""
+    if not _default_engines:
+        try:
+            _default_engines.append(Library())
+        except NoProgram:
+            _default_engines.append(Program())
+    return _default_engines[0]
+
+
 def read(source: Union[str, bytes, bytearray, memoryview, "os.PathLike[str]"], engine: Optional[Engine] = None) -> File:
     """Reads and judges a file, given by its path or as its bytes. Raises an `igesolid.Error` if there is no verdict."""
     is_path = isinstance(source, (str, os.PathLike))
     content = content_of_path(source) if is_path else content_of_bytes(source)  # type: ignore[arg-type]
-    return File(content, engine or _default_engine)
+    return File(content, engine or default_engine())

@@ -1,6 +1,9 @@
-"""The text of `igesolid-where FILE N`: its lines are read into rules, items and facts, and a line of another shape is refused."""
+"""The text of `where FILE N`: its lines are read into rules, items and facts (docs/WHERE.md), and a line of another shape is refused."""
 import re
 from dataclasses import dataclass, field
+from typing import Dict, Iterable, Iterator, List, Optional, Tuple
+
+from .errors import NoProgram
 
 N, T, WORD = "(?:0|[1-9][0-9]*)", "[a-z0-9-]+", r"\S+"
 RECORD_RULES, SHELL_RULES = ("ENTRY", "TYPE", "RECORD", "ONCE", "INDEX", "GEOMETRY"), ("JOIN", "PAIR", "REACH", "LINK", "APART")
@@ -8,7 +11,7 @@ FORMS_DUE = "solid form 0|shell form 1|(?:face|loop|edge-list|vertex-list) form 
 VALUES_DUE = "geometry|pointer|index|flag|type|count|coordinate|count-or-pointer"
 
 
-def named(**parts):
+def named(**parts: str) -> str:
     """Parts of a line, each a word and what follows it, under its name."""
     return " ".join(f"{word} (?P<{word.replace('-', '_')}>{shape})" for word, shape in parts.items())
 
@@ -50,10 +53,11 @@ FACTS = {
 class Shape:
     """A shape of lines. A name may stand in several of its alternatives: there the second and later ones get a number."""
 
-    def __init__(self, shape):
-        self.names, seen = {}, {}
+    def __init__(self, shape: str):
+        self.names: Dict[str, str] = {}
+        seen: Dict[str, int] = {}
 
-        def numbered(match):
+        def numbered(match: "re.Match[str]") -> str:
             name = match[1]
             seen[name] = seen.get(name, 0) + 1
             own = f"{name}_{seen[name]}"
@@ -62,7 +66,7 @@ class Shape:
 
         self.match = re.compile(re.sub(r"\(\?P<(\w+)>", numbered, shape)).fullmatch
 
-    def told(self, text):
+    def told(self, text: str) -> Optional[Dict[str, str]]:
         """What a line of this shape says, by name; None for another line."""
         match = self.match(text)
         return match and {self.names[own]: value for own, value in match.groupdict().items() if value is not None}
@@ -73,7 +77,7 @@ FACT_SHAPES = {word: Shape(shape) for word, shape in FACTS.items()}
 SENTENCES, ITEMS = ("bad", "hint", "rule"), ("item", "gap", "edge", "part", "vertex")
 
 
-class NotUnderstood(Exception):
+class NotUnderstood(NoProgram):
     """A line of the text that has none of the shapes."""
 
 
@@ -82,12 +86,12 @@ class Line:
     """A line and what it says, by name."""
 
     text: str
-    told: dict
+    told: Dict[str, str]
 
-    def number(self, name):
+    def number(self, name: str) -> int:
         return int(self.told[name])
 
-    def key(self):
+    def key(self) -> Tuple[int, int]:
         """The list and the index of an edge or a vertex."""
         return int(self.told["list"]), int(self.told["index"])
 
@@ -97,7 +101,7 @@ class Paragraph(Line):
     """A head line with its facts; a sentence where it has one."""
 
     word: str = ""
-    facts: list = field(default_factory=list)
+    facts: List[Line] = field(default_factory=list)
     sentence: str = ""
 
 
@@ -105,90 +109,137 @@ class Paragraph(Line):
 class Rule(Paragraph):
     """A rule that fails, of a shell or of a record, with its items."""
 
-    items: list = field(default_factory=list)
+    items: List[Paragraph] = field(default_factory=list)
     more: int = 0
 
     @property
-    def name(self):
+    def name(self) -> str:
         return self.told.get("rule") or self.told["record_rule"]
 
     @property
-    def shell(self):
+    def shell(self) -> Optional[int]:
         return int(self.told["shell"]) if "shell" in self.told else None
 
 
 @dataclass
-class Answer:
-    """The text of an answer, its first line, and its parts in their order."""
+class Parts:
+    """The first line of the text, and its other parts in their order."""
 
-    text: str
     verdict: Paragraph
-    units: Line = None
-    shells: Line = None
-    failing: list = field(default_factory=list)
-    hints: list = field(default_factory=list)
-    rules: list = field(default_factory=list)
-    entities: dict = field(default_factory=dict)
+    units: Optional[Paragraph] = None
+    shells: Optional[Paragraph] = None
+    failing: List[Paragraph] = field(default_factory=list)
+    hints: List[Paragraph] = field(default_factory=list)
+    rules: List[Rule] = field(default_factory=list)
+    entities: Dict[int, Paragraph] = field(default_factory=dict)
 
-    def is_closed(self):
-        return self.verdict.word == "closed"
 
-    def is_bad_file(self):
-        return self.verdict.word == "bad"
+class Where(str):
+    """The text of `where`, and what it tells: `rules`, each with its items and their facts; the shells that fail; hints; entities.
 
-    def facts_of(self, entity):
+    It is read when the first of these is asked for, and a text of another shape raises `NotUnderstood` then."""
+
+    _parts: Optional[Parts] = None
+
+    @property
+    def parts(self) -> Parts:
+        if self._parts is None:
+            self._parts = _parts_of(self)
+        return self._parts
+
+    @property
+    def verdict(self) -> Paragraph:
+        """The first line."""
+        return self.parts.verdict
+
+    @property
+    def shells(self) -> Optional[Paragraph]:
+        """The line on all shells; None where a record is wrong."""
+        return self.parts.shells
+
+    @property
+    def rules(self) -> List[Rule]:
+        return self.parts.rules
+
+    @property
+    def failing(self) -> List[Paragraph]:
+        return self.parts.failing
+
+    @property
+    def hints(self) -> List[Paragraph]:
+        return self.parts.hints
+
+    @property
+    def entities(self) -> Dict[int, Paragraph]:
+        return self.parts.entities
+
+    @property
+    def is_closed(self) -> bool:
+        return self.parts.verdict.word == "closed"
+
+    @property
+    def is_bad_file(self) -> bool:
+        return self.parts.verdict.word == "bad"
+
+    def facts_of(self, entity: int) -> List[str]:
         """What the text says of an entity: level, colour, label, names."""
         found = self.entities.get(entity)
         return [fact.text for fact in found.facts] if found else []
 
 
-def told_by(shapes, word, text):
+def _told_by(shapes: Dict[str, Shape], word: str, text: str) -> Dict[str, str]:
     told = shapes[word].told(text) if word in shapes else None
     if told is None:
         raise NotUnderstood(f"a line of the text of igesolid-where isn't understood: {text}")
     return told
 
 
-def paragraphs(lines):
+def _paragraphs(lines: Iterable[str]) -> Iterator[Paragraph]:
     """Each head line with the facts or the sentence after it."""
-    last = None
+    last: Optional[Paragraph] = None
     for line in lines:
         if line.startswith("  ") and last is not None:
             text = line[2:]
             if last.word in SENTENCES:
                 last.sentence += f" {text}" if last.sentence else text
             else:
-                last.facts.append(Line(text, told_by(FACT_SHAPES, last.word, text)))
+                last.facts.append(Line(text, _told_by(FACT_SHAPES, last.word, text)))
         elif line:
             if last is not None:
                 yield last
             word = line.split(" ", 1)[0]
-            last = (Rule if word == "rule" else Paragraph)(line, told_by(HEAD_SHAPES, word, line), word)
+            last = (Rule if word == "rule" else Paragraph)(line, _told_by(HEAD_SHAPES, word, line), word)
     if last is not None:
         yield last
 
 
-def answer_of(text):
-    """The text read into its parts; NotUnderstood for a line of another shape."""
-    found = list(paragraphs(text.split("\n")))
+def _put(parts: Parts, it: Paragraph) -> None:
+    """Puts a paragraph to the others of its kind."""
+    if it.word == "units":
+        parts.units = it
+    elif it.word == "shells":
+        parts.shells = it
+    elif it.word == "shell":
+        parts.failing.append(it)
+    elif it.word == "hint":
+        parts.hints.append(it)
+    elif isinstance(it, Rule):
+        parts.rules.append(it)
+    elif it.word in ITEMS and parts.rules:
+        parts.rules[-1].items.append(it)
+    elif it.word == "more" and parts.rules:
+        parts.rules[-1].more = it.number("more")
+    elif it.word == "entity":
+        parts.entities[it.number("entity")] = it
+
+
+def _parts_of(text: str) -> Parts:
+    found = list(_paragraphs(text.split("\n")))
     if not found or found[0].word not in ("closed", "fail", "bad"):
         raise NotUnderstood("the text of igesolid-where begins with no verdict")
-    answer = Answer(text, found[0])
+    parts = Parts(found[0])
     for it in found[1:]:
-        if it.word in ("units", "shells"):
-            setattr(answer, it.word, it)
-        elif it.word == "shell":
-            answer.failing.append(it)
-        elif it.word == "hint":
-            answer.hints.append(it)
-        elif it.word == "rule":
-            answer.rules.append(it)
-        elif it.word in ITEMS and answer.rules:
-            answer.rules[-1].items.append(it)
-        elif it.word == "more" and answer.rules:
-            answer.rules[-1].more = it.number("more")
-        elif it.word == "entity":
-            answer.entities[it.number("entity")] = it
-    if answer.verdict.word == "fail" and not all(rule.items for rule in answer.rules or [Rule("", {})]):
+        _put(parts, it)
+    if parts.verdict.word == "fail" and not (parts.rules and all(rule.items for rule in parts.rules)):
         raise NotUnderstood("the text of igesolid-where has a rule without items, or none")
-    return answer
+    return parts
