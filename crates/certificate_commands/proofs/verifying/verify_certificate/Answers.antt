@@ -46,10 +46,12 @@ pub returns-in_err-room-clause-whole : goal.returns-in_err-room-clause-whole
 returns-in_err-room-clause-whole g c = IfOk-from_err c.from_residual.result _ c.from_residual.ensures.0
 
 pub returns-in_err-room-clause-count : goal.returns-in_err-room-clause-count
-returns-in_err-room-clause-count g c = (ran_out_first _ _ _ c.from_residual.result c.from_residual.ensures.1).count
+returns-in_err-room-clause-count g c =
+    (ran_out_first CERT_LIMIT (g.C.Source.left c.args.cert.now) (g.C.Source.faults c.args.cert.now) c.from_residual.result c.from_residual.ensures.1).count
 
 pub returns-in_err-room-clause-taken : goal.returns-in_err-room-clause-taken
-returns-in_err-room-clause-taken g c = (ran_out_first _ _ _ c.from_residual.result c.from_residual.ensures.1).taken
+returns-in_err-room-clause-taken g c =
+    (ran_out_first CERT_LIMIT (g.C.Source.left c.args.cert.now) (g.C.Source.faults c.args.cert.now) c.from_residual.result c.from_residual.ensures.1).taken
 
 pub returns-in_err-opening_in-clause-found : goal.returns-in_err-opening_in-clause-found
 returns-in_err-opening_in-clause-found g c = IfOk-from_err c.from_residual-in_err-opening_in.result _ c.from_residual-in_err-opening_in.ensures.0
