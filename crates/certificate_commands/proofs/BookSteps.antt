@@ -1,11 +1,10 @@
 -- How the reading of a book goes on from part to part.
-use Rattle.std.proofs.Common.{◌≡◌, ◌∙◌, ℕ, ◌+◌, ◌-◌, ◌≤◌, ◌<◌, List, [], ◌∷◌, ◌++◌, flat_map, take, drop, length, Option, Result, Ok, Err, sym, ap, subst}
+use Rattle.std.proofs.Common.{◌≡◌, ◌∙◌, ℕ, ◌+◌, ◌-◌, ◌≤◌, ◌<◌, List, [], ◌∷◌, ◌++◌, flat_map, take, drop, length, Option, sym, ap, subst}
 use Rattle.std.proofs.Common.{arith, append_assoc}
 use Rattle.std.proofs.lemmas.List.{length-append, length-take, length-drop, take_rest, take-append-drop}
-use Rattle.std.specs.Io.KnownBytes.{Consumes, IsAtEnd}
+use Rattle.std.specs.Io.KnownBytes.{Consumes}
 use Rattle.iges_io.specs.Reading.{TakesAtMost, Told}
-use Rattle.iges_io.specs.declared.reading.TheConstants.{PIECE}
-use Rattle.iges_io.proofs.Streams.{consumes_none, consumes_more, told_all}
+use Rattle.iges_io.proofs.Streams.{consumes_more, told_all}
 use Rattle.iges_params.specs.Contents.{Contents}
 use Rattle.solid_data.specs.SolidData.{SolidData}
 use Rattle.cert_lines.specs.Line.{cut_lines}
@@ -21,16 +20,15 @@ use Rattle.command_replies.specs.declared.answer.Answer.{Answer}
 use Rattle.command_replies.specs.declared.answer.Answer.TheVariants.{Done, No, TooLarge}
 use Rattle.certificate_commands.specs.declared.books.NextSolid.{NextSolid}
 use Rattle.certificate_commands.specs.declared.books.Begun.{Begun}
-use Rattle.command_replies.specs.declared.reply.Stop.{Stop}
 use Rattle.command_replies.specs.declared.reply.Reply.{Reply}
-use Rattle.command_replies.specs.Texts.{accepted_line, accepted_lines, illegal_line, solid_fail_text}
+use Rattle.command_replies.specs.Texts.{accepted_lines, illegal_line, solid_fail_text}
 use Rattle.command_replies.specs.Due.{Exactly, Owed, OfText}
 use Rattle.certificate_commands.specs.Due.{OfCertificate, OfUpgrade, OfVerify, upgraded_for}
-use Rattle.certificate_commands.specs.Judging.{HasTooMany, IsChecked, IsDecided, ReadsOn, TellsFalse}
-use Rattle.command_replies.specs.Replies.{CountAfterCall, IsReply, TakesWithin}
-use Rattle.certificate_commands.specs.Books.{BeginsPart, GoesOn, HasBegun, IsNextBegun, IsPartLast, IsPlace, held, passed}
+use Rattle.certificate_commands.specs.Judging.{HasTooMany, IsChecked, IsDecided, TellsFalse}
+use Rattle.command_replies.specs.Replies.{IsReply}
+use Rattle.certificate_commands.specs.Books.{BeginsPart, GoesOn, HasBegun, IsNextBegun, IsPartLast, IsPlace, held}
 use Rattle.certificate_commands.proofs.BookReads.{between_long}
-use Rattle.certificate_commands.proofs.Judged.{OfYes, accepted_more, too_large_owed}
+use Rattle.certificate_commands.proofs.Judged.{OfYes, too_large_owed}
 use Rattle.certificate_commands.proofs.BookParts.{book_begins, book_kept, opened_front, part_goes_on, lines_more, some_more, fails_owed, illegal_owed}
 use Rattle.certificate_commands.proofs.BookParts.{last_owed}
 

@@ -12,7 +12,7 @@ use Rattle.command_replies.specs.declared.reply.Stop.{Stop}
 use Rattle.command_replies.specs.Texts.{accepted_line, accepted_lines}
 use Rattle.certificate_commands.specs.Judging.{ReadsOn}
 use Rattle.command_replies.specs.Replies.{CountAfterCall, TakesWithin}
-use Rattle.certificate_commands.specs.Books.{GoesOn, HasBegun, passed}
+use Rattle.certificate_commands.specs.Books.{GoesOn, HasBegun}
 use Rattle.certificate_commands.proofs.Judged.{accepted_more}
 
 pub nearer : (limit came held p : ℕ) → p < came - held → came ≤ limit → limit - (came - held) < limit - p

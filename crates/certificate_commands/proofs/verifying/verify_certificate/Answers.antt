@@ -3,7 +3,7 @@ use Rattle.iges_io.specs.declared.reading.TheConstants.{PIECE}
 use Rattle.topo_certificate.specs.declared.TheConstants.{CERT_LIMIT}
 use Rattle.certificate_commands.proofs.Judged.{OfYes, too_large_owed, early_owed, bad_opening_decides, opened_place}
 use Rattle.std.proofs.lemmas.Result.{IfOk-from_err}
-use Rattle.certificate_commands.proofs.Readings.{ended_whole, large_whole, ran_out, ran_out_first, reads_behind, stopped_so}
+use Rattle.certificate_commands.proofs.Readings.{ended_whole, large_whole, ran_out_first, reads_behind, stopped_so}
 use Rattle.certificate_commands.proofs.verifying.verify_certificate.Goals as goal
 
 pub returns-in-TooLarge-clause-found : goal.returns-in-TooLarge-clause-found
