@@ -1,12 +1,10 @@
 -- How the reading of a book goes on from part to part.
-use Rattle.std.proofs.Common.{◌≡◌, ◌∙◌, ℕ, ◌+◌, ◌-◌, ◌≤◌, ◌<◌, List, [], ◌∷◌, ◌++◌, flat_map, take, drop, length, Option, Result, Ok, Err, sym, ap, subst}
+use Rattle.std.proofs.Common.{◌≡◌, ◌∙◌, ℕ, ◌+◌, ◌-◌, ◌≤◌, ◌<◌, List, [], ◌∷◌, ◌++◌, flat_map, take, drop, length, Option, sym, ap, subst}
 use Rattle.std.proofs.Common.{arith, append_assoc}
-use Rattle.std.specs.Result.{IsErrAnd}
 use Rattle.std.proofs.lemmas.List.{length-append, length-take, length-drop, take_rest, take-append-drop}
-use Rattle.std.specs.Io.KnownBytes.{Consumes, IsAtEnd}
+use Rattle.std.specs.Io.KnownBytes.{Consumes}
 use Rattle.iges_io.specs.Reading.{TakesAtMost, Told}
-use Rattle.iges_io.specs.declared.reading.TheConstants.{PIECE}
-use Rattle.iges_io.proofs.Streams.{consumes_none, consumes_more, told_all}
+use Rattle.iges_io.proofs.Streams.{consumes_more, told_all}
 use Rattle.iges_params.specs.Contents.{Contents}
 use Rattle.solid_data.specs.SolidData.{SolidData}
 use Rattle.cert_lines.specs.Line.{cut_lines}
@@ -22,18 +20,15 @@ use Rattle.command_replies.specs.declared.answer.Answer.{Answer}
 use Rattle.command_replies.specs.declared.answer.Answer.TheVariants.{Done, No, TooLarge}
 use Rattle.certificate_commands.specs.declared.books.NextSolid.{NextSolid}
 use Rattle.certificate_commands.specs.declared.books.Begun.{Begun}
-use Rattle.command_replies.specs.declared.reply.Stop.{Stop}
-use Rattle.command_replies.specs.declared.reply.Stop.TheVariants.{OutOfMemory}
 use Rattle.command_replies.specs.declared.reply.Reply.{Reply}
-use Rattle.command_replies.specs.Texts.{accepted_line, accepted_lines, illegal_line, solid_fail_text}
+use Rattle.command_replies.specs.Texts.{accepted_lines, illegal_line, solid_fail_text}
 use Rattle.command_replies.specs.Due.{Exactly, Owed, OfText}
 use Rattle.certificate_commands.specs.Due.{OfCertificate, OfUpgrade, OfVerify, upgraded_for}
 use Rattle.certificate_commands.specs.Judging.{HasTooMany, IsChecked, IsDecided, TellsFalse}
-use Rattle.command_replies.specs.Outcome.{ReadsCertificate}
-use Rattle.command_replies.specs.Replies.{CountAfterCall, CountAfterStop, IsReply, TakesWithin}
+use Rattle.command_replies.specs.Replies.{IsReply}
 use Rattle.certificate_commands.specs.Books.{BeginsPart, GoesOn, HasBegun, IsNextBegun, IsPartLast, IsPlace, held}
 use Rattle.certificate_commands.proofs.BookReads.{between_long}
-use Rattle.certificate_commands.proofs.Judged.{OfYes, accepted_more, too_large_owed}
+use Rattle.certificate_commands.proofs.Judged.{OfYes, too_large_owed}
 use Rattle.certificate_commands.proofs.BookParts.{book_begins, book_kept, opened_front, part_goes_on, lines_more, some_more, fails_owed, illegal_owed}
 use Rattle.certificate_commands.proofs.BookParts.{last_owed}
 
@@ -214,83 +209,3 @@ next_goes_on before after buffer now b next s old new place fed m =
 pub last_takes : (before after : Option (List ℕ)) (came : ℕ) (there : List ℕ) (old new : FedKept) → IsPartLast before after came there old new
     → TakesAtMost (CERT_LIMIT - came) before after
 last_takes before after came there old new m = let few = m.few in (m.bytes, m.taken, (let n : length m.bytes ≤ CERT_LIMIT - came = omega (arith, few) in n))
-
--- a reply that judges was given at the end
-pub no_at_end : (after : Option (List ℕ)) (reply : Reply) → IsAtEnd after → reply.answer ≡ No → ReadsCertificate after reply.answer
-no_at_end after reply e no_ = subst (ReadsCertificate after) (sym no_) e
-
-pub large_any : (after : Option (List ℕ)) (reply : Reply) → reply.answer ≡ TooLarge → ReadsCertificate after reply.answer
-large_any after reply large = subst (ReadsCertificate after) (sym large) tt
-
--- ---- the parts one after another
-
--- the next part has begun and the last one has its line
-pub told_more : (f : Contents) (entry left after : Option (List ℕ)) (there buffer now : List ℕ) (first b next : Begun) (out new : List ℕ)
-    → ((before : Option (List ℕ)) → HasBegun f [] before entry there first → (ns : List ℕ) × HasBegun f ns before left buffer b × (out ≡ accepted_lines ns))
-    → ((ns : List ℕ) (before : Option (List ℕ)) → HasBegun f ns before left buffer b → HasBegun f (ns ++ b.no.0 ∷ []) before after now next)
-    → new ≡ out ++ accepted_line b.no.0
-    → (before : Option (List ℕ)) → HasBegun f [] before entry there first → (ns : List ℕ) × HasBegun f ns before after now next × (new ≡ accepted_lines ns)
-told_more f entry left after there buffer now first b next out new told goes put before h =
-    let at = told before h in
-    (at.0 ++ b.no.0 ∷ [], goes at.0 before at.1, put ∙ ap (λ (t : List ℕ). t ++ accepted_line b.no.0) at.2 ∙ sym (accepted_more at.0 b.no.0))
-
--- so many bytes were taken since the first part began
-abbrev pub TakenSince : (entry left : Option (List ℕ)) (came now : ℕ) → Type 0
-TakenSince entry left came now = (bytes : List ℕ) × Consumes entry left bytes × (now ≡ came + length bytes)
-
-pub taken_none : (left : Option (List ℕ)) (came : ℕ) → TakenSince left left came came
-taken_none left came = ([], consumes_none left, omega arith)
-
-pub taken_more : (entry left after : Option (List ℕ)) (came : ℕ) (now : List ℕ) (b next : Begun) → TakenSince entry left came b.came
-    → GoesOn left after now b next → TakenSince entry after came next.came
-taken_more entry left after came now b next t m =
-    let long = m.came in
-    let before = t.2 in (
-      t.0 ++ m.bytes,
-      consumes_more entry left after t.0 m.bytes t.1 m.taken,
-      (let n : next.came ≡ came + length (t.0 ++ m.bytes) = omega (arith, long, before, length-append t.0 m.bytes) in n),
-    )
-
-pub taken_within : {T : Type 0} (entry left after : Option (List ℕ)) (came now : ℕ) (result : Result T Stop) → TakenSince entry left came now
-    → now ≤ CERT_LIMIT → TakesWithin (CERT_LIMIT - now) left after result → TakesWithin (CERT_LIMIT - came) entry after result
-taken_within entry left after came now (Ok x) t few h =
-    let long = t.2 in
-    let k = h.2 in (
-      t.0 ++ h.0,
-      consumes_more entry left after t.0 h.0 t.1 h.1,
-      (let n : length (t.0 ++ h.0) ≤ (CERT_LIMIT - came) + PIECE = omega (arith, long, few, k, length-append t.0 h.0) in n),
-    )
-taken_within entry left after came now (Err stop) t few h =
-    let long = t.2 in
-    let k = h.2 in (
-      t.0 ++ h.0,
-      consumes_more entry left after t.0 h.0 t.1 h.1,
-      (let n : length (t.0 ++ h.0) ≤ CERT_LIMIT - came = omega (arith, long, few, k, length-append t.0 h.0) in n),
-    )
-
-pub taken_few : {T : Type 0} (entry left after : Option (List ℕ)) (came now : ℕ) (result : Result T Stop) → TakenSince entry left came now → now ≤ CERT_LIMIT
-    → TakesAtMost (CERT_LIMIT - now) left after → TakesWithin (CERT_LIMIT - came) entry after result
-taken_few {T} entry left after came now (Ok x) t few h = taken_within {T = T} entry left after came now (Ok x) t few
-    (h.0, h.1, (let k = h.2 in let n : length h.0 ≤ (CERT_LIMIT - now) + PIECE = omega (arith, k) in n))
-taken_few {T} entry left after came now (Err stop) t few h = taken_within {T = T} entry left after came now (Err stop) t few h
-
-pub taken_next : {T : Type 0} (entry left after : Option (List ℕ)) (came : ℕ) (buffer : List ℕ) (b next : Begun) (result : Result T Stop)
-    → TakenSince entry left came b.came → GoesOn left after buffer b next → TakesWithin (CERT_LIMIT - came) entry after result
-taken_next {T} entry left after came buffer b next result t m =
-    let s = taken_more entry left after came buffer b next t m in
-    taken_few {T = T} entry after after came next.came result s m.place.few ([], consumes_none after, omega arith)
-
-pub takes_on : (entry left after : Option (List ℕ)) (came now : ℕ) → TakenSince entry left came now → now ≤ CERT_LIMIT
-    → TakesAtMost ((CERT_LIMIT - now) + PIECE) left after → TakesAtMost ((CERT_LIMIT - came) + PIECE) entry after
-takes_on entry left after came now t few h =
-    let long = t.2 in
-    let k = h.2 in (
-      t.0 ++ h.0,
-      consumes_more entry left after t.0 h.0 t.1 h.1,
-      (let n : length (t.0 ++ h.0) ≤ (CERT_LIMIT - came) + PIECE = omega (arith, long, few, k, length-append t.0 h.0) in n),
-    )
-
--- Memory ran out, and no read failed.
-pub count_stands : {T : Type 0} (before now : ℕ) (r : Result T Stop) → IsErrAnd r (λ stop. stop ≡ OutOfMemory) → now ≡ before → CountAfterCall before now r
-count_stands before now (Ok x) is same = absurd is
-count_stands before now (Err stop) is same = subst (CountAfterStop before now) (sym is) same

@@ -26,7 +26,8 @@ use Rattle.command_replies.proofs.Owing.{owed_so}
 use Rattle.certificate_commands.specs.Due.{OfCertificate, certificate_too_large, opening_bad, OfVerify}
 use Rattle.command_replies.specs.Replies.{IsReply}
 use Rattle.certificate_commands.specs.Books.{HasBegun}
-use Rattle.certificate_commands.specs.Judging.{IsChecked, IsOfOne, TellsFalse, HasChecked, IsDecided, IsRestFed, IsRestRead, HasTooMany, HasOpened, EndsEarly}
+use Rattle.certificate_commands.specs.Judging.{AreInBuffer, IsChecked, IsOfOne, TellsFalse, HasChecked, IsDecided, IsRestFed, IsRestRead, HasTooMany, HasOpened}
+use Rattle.certificate_commands.specs.Judging.{EndsEarly}
 use Rattle.certificate_commands.proofs.BookParts.{book_begins}
 use Rattle.certificate_commands.proofs.BookReads.{between_long}
 use Rattle.certificate_commands.proofs.VerifyAnswers.{bad_owed, false_owed, legal_owed}
@@ -232,11 +233,17 @@ opened_begun f a b buffer o begun h three is =
       begins = book_begins f h.front o.no.0 (subst (λ (v : Version). (more : List ℕ) → Opens (h.front ++ more) v o.no.0 (cut_lines more)) three h.opens);
     })
 
--- the bytes behind line 2 have come
-pub opened_holds : (a b : Option (List ℕ)) (buffer : List ℕ) (o : Opened) → HasOpened a b buffer o → o.to - o.from ≤ o.came
-opened_holds a b buffer o h =
+-- the places behind line 2 are in the buffer
+pub opened_place : (a b : Option (List ℕ)) (buffer : List ℕ) (o : Opened) → HasOpened a b buffer o → AreInBuffer buffer o
+opened_place a b buffer o h =
     let long = h.long in
     let ordered = h.ordered in
     let within = h.within in
     let rest = ap (λ (l : List ℕ). length l) h.behind ∙ between_long buffer o.from o.to ordered within in
-    omega (arith, long, rest, length-append h.front h.rest)
+    record {
+      few = h.few;
+      ordered = ordered;
+      within = within;
+      holds =
+          (let n : o.to - o.from ≤ o.came = omega (arith, long, rest, length-append h.front h.rest) in n);
+    }

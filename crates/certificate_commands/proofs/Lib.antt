@@ -4,6 +4,8 @@ mod BookSteps
 mod CutText
 mod FirstLines
 pub mod Judged
+mod PartsRead
+mod Readings
 mod VerifyAnswers
 pub mod One
 pub mod SomeDue

@@ -1,5 +1,5 @@
 -- Private: what is known of a certificate while it comes.
-use Rattle.std.specs.Prelude.{◌≡◌, ℕ, ◌+◌, ◌-◌, ◌<◌, ◌≤◌, List, ◌++◌, length, take, drop, Option, ⊤}
+use Rattle.std.specs.Prelude.{◌≡◌, ℕ, ◌+◌, ◌-◌, ◌<◌, ◌≤◌, List, ◌++◌, length, take, drop, Option, Result, ⊤}
 use Rattle.std.specs.Io.KnownBytes.{Consumes, IsAtEnd}
 use Rattle.iges_params.specs.Contents.{Contents}
 use Rattle.solid_data.specs.SolidData.{SolidData}
@@ -15,6 +15,8 @@ use Rattle.topo_certificate.specs.declared.TheConstants.{CERT_LIMIT}
 use Rattle.topo_certificate.specs.Feeding.{FedKept, IsFed}
 use Rattle.cert_accept.specs.Checked.{checked}
 use Rattle.command_replies.specs.declared.reply.Reply.{Reply}
+use Rattle.command_replies.specs.declared.reply.Stop.{Stop}
+use Rattle.command_replies.specs.Replies.{CountAfterCall, TakesWithin}
 use Rattle.certificate_commands.specs.declared.opening.Opened.{Opened}
 use Rattle.certificate_commands.specs.declared.opening.OpeningEnd.{OpeningEnd}
 use Rattle.certificate_commands.specs.declared.opening.OpeningEnd.TheVariants as opening
@@ -112,3 +114,15 @@ GoesOn opening.TooLarge = ⊥
 GoesOn (opening.Ended bad) = ⊥
 GoesOn (opening.Bad bad came) = Unit {0}
 GoesOn (opening.Both o) = Unit {0}
+
+-- The places are in the buffer, and no more bytes than the limit have come.
+pub record AreInBuffer (buffer : List ℕ) (o : Opened) : Type 0 where
+  pub few : o.came ≤ CERT_LIMIT
+  pub ordered : o.from ≤ o.to
+  pub within : o.to ≤ length buffer
+  pub holds : o.to - o.from ≤ o.came
+
+-- What a call that reads a certificate, of which so many bytes may still come, does to its source: how many faults it counts, and how much it takes off.
+pub record ReadsOn {T : Type 0} (limit : ℕ) (before after : Option (List ℕ)) (old new : ℕ) (result : Result T Stop) : Type 0 where
+  pub count : CountAfterCall old new result
+  pub taken : TakesWithin limit before after result

@@ -2,9 +2,9 @@
 
 ghost use Rattle.certificate_commands.specs.Books.{EndsInside, HasBegun, HasNext, IsInPart, IsPartEnd, IsPartJudged, IsPlace, Leaves, held};
 ghost use Rattle.certificate_commands.specs.Due.{OfVerify};
-ghost use Rattle.certificate_commands.specs.Judging.{IsChecked};
+ghost use Rattle.certificate_commands.specs.Judging.{IsChecked, ReadsOn};
 ghost use Rattle.command_replies.specs.Outcome.{ReadsCertificate};
-ghost use Rattle.command_replies.specs.Replies.{CountAfterCall, IsReply, TakesWithin};
+ghost use Rattle.command_replies.specs.Replies.{IsReply};
 ghost use Rattle.iges_params.specs.Contents.{Contents};
 ghost use Rattle.solid_data.specs.SolidData.{SolidData};
 ghost use Rattle.std.specs.Prelude.{◌≡◌, ◌-◌, ◌≤◌, ◌++◌, [], List, ℕ, Option, MatchOption, length, take, IfOk, IfSome};
@@ -101,9 +101,8 @@ fn read_part<C: Source>(
     requires part { IsInPart checker.old }
     ensures found { IfOk result (IsPartEnd (C.left cert.old) (C.left cert.new) begun.came
         (held piece.old begun) piece.new checker.old checker.new) }
-    ensures count { CountAfterCall (C.faults cert.old) (C.faults cert.new) result }
-    ensures taken { TakesWithin (CERT_LIMIT - begun.came) (C.left cert.old)
-        (C.left cert.new) result }
+    ensures reads { ReadsOn (CERT_LIMIT - begun.came) (C.left cert.old) (C.left cert.new)
+        (C.faults cert.old) (C.faults cert.new) result }
     ensures more { IfOk result (λ end. EndsInside end → C.can_read cert.new) }
 {
     let mut from = begun.from;
@@ -149,9 +148,8 @@ fn part_outcome<C: Source>(
         → IsChecked f begun.no.0 s → IsFedPart Two s begun.line [] checker.old
         → IfOk result (IsPartJudged f ns begun.no.0 before (C.left cert.new) piece.new) }
     ensures leaves { IfOk result (Leaves (C.left cert.old) (C.left cert.new) piece.new begun) }
-    ensures count { CountAfterCall (C.faults cert.old) (C.faults cert.new) result }
-    ensures taken { TakesWithin (CERT_LIMIT - begun.came) (C.left cert.old)
-        (C.left cert.new) result }
+    ensures reads { ReadsOn (CERT_LIMIT - begun.came) (C.left cert.old) (C.left cert.new)
+        (C.faults cert.old) (C.faults cert.new) result }
     ensures more { IfOk result (λ judged. HasNext judged → C.can_read cert.new) }
 {
     match read_part(cert, piece, checker, begun)? {
@@ -180,9 +178,8 @@ fn judge_part_lines<C: Source>(
         → IsChecked f begun.no.0 solid.now
         → IfOk result (IsPartJudged f ns begun.no.0 before (C.left cert.new) piece.new) }
     ensures leaves { IfOk result (Leaves (C.left cert.old) (C.left cert.new) piece.new begun) }
-    ensures count { CountAfterCall (C.faults cert.old) (C.faults cert.new) result }
-    ensures taken { TakesWithin (CERT_LIMIT - begun.came) (C.left cert.old)
-        (C.left cert.new) result }
+    ensures reads { ReadsOn (CERT_LIMIT - begun.came) (C.left cert.old) (C.left cert.new)
+        (C.faults cert.old) (C.faults cert.new) result }
     ensures more { IfOk result (λ judged. HasNext judged → C.can_read cert.new) }
 {
     let mut checker = Checker::part(alloc, solid, begun.line)?;
@@ -205,9 +202,8 @@ fn judge_part<C: Source>(
         → HasBegun walker.old ns before (C.left cert.old) piece.old begun
         → IfOk result (IsPartJudged walker.old ns begun.no.0 before (C.left cert.new) piece.new) }
     ensures leaves { IfOk result (Leaves (C.left cert.old) (C.left cert.new) piece.new begun) }
-    ensures count { CountAfterCall (C.faults cert.old) (C.faults cert.new) result }
-    ensures taken { TakesWithin (CERT_LIMIT - begun.came) (C.left cert.old)
-        (C.left cert.new) result }
+    ensures reads { ReadsOn (CERT_LIMIT - begun.came) (C.left cert.old) (C.left cert.new)
+        (C.faults cert.old) (C.faults cert.new) result }
     ensures more { IfOk result (λ judged. HasNext judged → C.can_read cert.new) }
 {
     let solid = match part_solid(alloc, walker, begun.no)? {
@@ -218,6 +214,44 @@ fn judge_part<C: Source>(
         }
     };
     judge_part_lines(alloc, &solid, cert, piece, begun)
+}
+
+// The reply for a book whose first part has begun, by a walker of the file.
+fn parts_reply<C: Source>(
+    alloc: Global,
+    walker: &mut Walker<'_>,
+    cert: &mut C,
+    piece: &mut [u8],
+    begun: Begun,
+) -> Result<Reply, Stop>
+    requires ready { C.can_read cert.old }
+    requires room { length piece.old ≡ PIECE }
+    requires place { IsPlace piece.old begun }
+    ensures found { (before : Option (List ℕ))
+        → HasBegun walker.old [] before (C.left cert.old) piece.old begun
+        → IfOk result (IsReply (λ certificate. OfVerify certificate walker.old) before) }
+    ensures whole { IfOk result (λ reply. ReadsCertificate (C.left cert.new) reply.answer) }
+    ensures reads { ReadsOn (CERT_LIMIT - begun.came) (C.left cert.old) (C.left cert.new)
+        (C.faults cert.old) (C.faults cert.new) result }
+{
+    let mut out = Out::new(alloc);
+    let mut begun = begun;
+    'parts: loop {
+        match judge_part(alloc, walker, cert, piece, begun)? {
+            PartJudged::Next(next) => {
+                put_accepted(&mut out, begun.no)?;
+                begun = next;
+            }
+            PartJudged::Last => {
+                put_accepted(&mut out, begun.no)?;
+                return Ok(Reply {
+                    answer: Answer::Done,
+                    text: out.into_bytes(),
+                });
+            }
+            PartJudged::Decided(reply) => return Ok(reply),
+        }
+    }
 }
 
 /// The reply for a book whose first part has begun. It is judged while it comes, one solid at a time, and is read to its
@@ -236,27 +270,9 @@ pub fn book_reply<C: Source>(
         → HasBegun file [] before (C.left cert.old) piece.old begun
         → IfOk result (IsReply (λ certificate. OfVerify certificate file) before) }
     ensures whole { IfOk result (λ reply. ReadsCertificate (C.left cert.new) reply.answer) }
-    ensures count { CountAfterCall (C.faults cert.old) (C.faults cert.new) result }
-    ensures taken { TakesWithin (CERT_LIMIT - begun.came) (C.left cert.old)
-        (C.left cert.new) result }
+    ensures reads { ReadsOn (CERT_LIMIT - begun.came) (C.left cert.old) (C.left cert.new)
+        (C.faults cert.old) (C.faults cert.new) result }
 {
     let mut walker = Walker::new(alloc, &file);
-    let mut out = Out::new(alloc);
-    let mut begun = begun;
-    'parts: loop {
-        match judge_part(alloc, &mut walker, cert, piece, begun)? {
-            PartJudged::Next(next) => {
-                put_accepted(&mut out, begun.no)?;
-                begun = next;
-            }
-            PartJudged::Last => {
-                put_accepted(&mut out, begun.no)?;
-                return Ok(Reply {
-                    answer: Answer::Done,
-                    text: out.into_bytes(),
-                });
-            }
-            PartJudged::Decided(reply) => return Ok(reply),
-        }
-    }
+    parts_reply(alloc, &mut walker, cert, piece, begun)
 }

@@ -2,9 +2,9 @@
 
 ghost use Rattle.iges_params.specs.Contents.{Contents};
 ghost use Rattle.certificate_commands.specs.Due.{OfVerify};
-ghost use Rattle.certificate_commands.specs.Judging.{HasTooMany, IsDecided, IsRestRead};
+ghost use Rattle.certificate_commands.specs.Judging.{HasTooMany, IsDecided, IsRestRead, ReadsOn};
 ghost use Rattle.command_replies.specs.Outcome.{ReadsCertificate};
-ghost use Rattle.command_replies.specs.Replies.{CountAfterCall, IsReply, TakesWithin};
+ghost use Rattle.command_replies.specs.Replies.{IsReply};
 ghost use Rattle.std.specs.Bool.{MatchBool};
 ghost use Rattle.std.specs.Io.KnownBytes.{Consumes};
 ghost use Rattle.std.specs.Prelude.{◌≡◌, ◌-◌, ◌≤◌, List, ℕ, Option, length, IfOk};
@@ -22,8 +22,8 @@ fn read_rest<C: Source>(cert: &mut C, piece: &mut [u8], came: u64) -> Result<boo
     ensures found { IfOk result (λ within. MatchBool within
         (IsRestRead (C.left cert.old) (C.left cert.new) came)
         (HasTooMany (C.left cert.old) (C.left cert.new) came)) }
-    ensures count { CountAfterCall (C.faults cert.old) (C.faults cert.new) result }
-    ensures taken { TakesWithin (CERT_LIMIT - came) (C.left cert.old) (C.left cert.new) result }
+    ensures reads { ReadsOn (CERT_LIMIT - came) (C.left cert.old) (C.left cert.new)
+        (C.faults cert.old) (C.faults cert.new) result }
 {
     let mut came = came;
     'reads: loop {
@@ -55,8 +55,8 @@ pub fn decided_reply<C: Source>(
         → IsDecided f text reply → IfOk result (IsReply
         (λ certificate. OfVerify certificate f) before) }
     ensures whole { IfOk result (λ reply. ReadsCertificate (C.left cert.new) reply.answer) }
-    ensures count { CountAfterCall (C.faults cert.old) (C.faults cert.new) result }
-    ensures taken { TakesWithin (CERT_LIMIT - came) (C.left cert.old) (C.left cert.new) result }
+    ensures reads { ReadsOn (CERT_LIMIT - came) (C.left cert.old) (C.left cert.new)
+        (C.faults cert.old) (C.faults cert.new) result }
 {
     if !read_rest(cert, piece, came)? {
         return Ok(too_large(alloc));

@@ -1,8 +1,7 @@
 ghost use Rattle.cert_lines.specs.declared.version.Version.TheVariants.{Three};
 ghost use Rattle.iges_params.specs.Contents.{Contents};
 ghost use Rattle.certificate_commands.specs.Due.{OfVerify};
-ghost use Rattle.certificate_commands.specs.Judging.{HasChecked, HasTooMany, IsOfOne, IsRestFed};
-ghost use Rattle.command_replies.specs.Replies.{CountAfterCall, TakesWithin};
+ghost use Rattle.certificate_commands.specs.Judging.{HasChecked, HasTooMany, IsOfOne, IsRestFed, ReadsOn};
 ghost use Rattle.std.specs.Bool.{MatchBool};
 ghost use Rattle.std.specs.Prelude.{◌≡◌, ◌-◌, ◌≤◌, List, ℕ, length, IfOk};
 
@@ -36,8 +35,8 @@ pub fn feed_rest<C: Source>(
     ensures found { IfOk result (λ within. MatchBool within
         (IsRestFed (C.left cert.old) (C.left cert.new) came checker.old checker.new)
         (HasTooMany (C.left cert.old) (C.left cert.new) came)) }
-    ensures count { CountAfterCall (C.faults cert.old) (C.faults cert.new) result }
-    ensures taken { TakesWithin (CERT_LIMIT - came) (C.left cert.old) (C.left cert.new) result }
+    ensures reads { ReadsOn (CERT_LIMIT - came) (C.left cert.old) (C.left cert.new)
+        (C.faults cert.old) (C.faults cert.new) result }
 {
     let mut came = came;
     'reads: loop {

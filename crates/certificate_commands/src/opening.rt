@@ -1,5 +1,4 @@
-ghost use Rattle.certificate_commands.specs.Judging.{EndsEarly, GoesOn, IsOpeningEnd};
-ghost use Rattle.command_replies.specs.Replies.{CountAfterCall, TakesWithin};
+ghost use Rattle.certificate_commands.specs.Judging.{EndsEarly, GoesOn, IsOpeningEnd, ReadsOn};
 ghost use Rattle.std.specs.Prelude.{◌≡◌, List, ℕ, length, IfOk};
 ghost use Rattle.cert_lines.specs.Opening.{IsBadOpening};
 ghost use Rattle.topo_certificate.specs.OpeningFed.{IsOpening, IsWaiting};
@@ -53,8 +52,8 @@ pub fn opening_in<C: Source>(cert: &mut C, piece: &mut [u8]) -> Result<OpeningEn
     requires ready { C.can_read cert.old }
     requires room { length piece.old ≡ PIECE }
     ensures found { IfOk result (IsOpeningEnd (C.left cert.old) (C.left cert.new) piece.new) }
-    ensures count { CountAfterCall (C.faults cert.old) (C.faults cert.new) result }
-    ensures taken { TakesWithin CERT_LIMIT (C.left cert.old) (C.left cert.new) result }
+    ensures reads { ReadsOn CERT_LIMIT (C.left cert.old) (C.left cert.new)
+        (C.faults cert.old) (C.faults cert.new) result }
     ensures more { IfOk result (λ end. GoesOn end → C.can_read cert.new) }
 {
     let mut opening = Opening::new();

@@ -1,10 +1,10 @@
 ghost use Rattle.certificate_commands.specs.Due.{OfVerify};
-ghost use Rattle.certificate_commands.specs.Judging.{HasOpened, IsChecked, IsOfOne};
+ghost use Rattle.certificate_commands.specs.Judging.{AreInBuffer, HasOpened, IsChecked, IsOfOne, ReadsOn};
 ghost use Rattle.command_replies.specs.Outcome.{ReadsCertificate};
 ghost use Rattle.command_replies.specs.Replies.{CountAfterCall, IsReply, TakesWithin};
 ghost use Rattle.iges_params.specs.Contents.{Contents};
 ghost use Rattle.solid_data.specs.SolidData.{SolidData};
-ghost use Rattle.std.specs.Prelude.{◌≡◌, ◌-◌, ◌≤◌, [], List, ℕ, Option, length, IfOk};
+ghost use Rattle.std.specs.Prelude.{◌≡◌, ◌-◌, [], List, ℕ, Option, length, IfOk};
 ghost use Rattle.topo_certificate.specs.Feeding.{IsFed};
 
 use crate::books::{Begun, book_reply};
@@ -30,18 +30,15 @@ fn lines_reply<C: Source>(
 ) -> Result<Reply, Stop>
     requires ready { C.can_read cert.old }
     requires room { length piece.old ≡ PIECE }
-    requires few { opened.came ≤ CERT_LIMIT }
-    requires ordered { opened.from ≤ opened.to }
-    requires within { opened.to ≤ length piece.old }
+    requires place { AreInBuffer piece.old opened }
     requires one { IsOfOne opened.version }
     ensures found { (f : Contents) (s : SolidData) (before : Option (List ℕ))
         → HasOpened before (C.left cert.old) piece.old opened → IsChecked f opened.no.0 s
         → IsFed opened.version s 3 [] checker.old → IfOk result (IsReply
         (λ certificate. OfVerify certificate f) before) }
     ensures whole { IfOk result (λ reply. ReadsCertificate (C.left cert.new) reply.answer) }
-    ensures count { CountAfterCall (C.faults cert.old) (C.faults cert.new) result }
-    ensures taken { TakesWithin (CERT_LIMIT - opened.came) (C.left cert.old)
-        (C.left cert.new) result }
+    ensures reads { ReadsOn (CERT_LIMIT - opened.came) (C.left cert.old) (C.left cert.new)
+        (C.faults cert.old) (C.faults cert.new) result }
 {
     // A fault is kept, and reported at the end: the certificate may still be too large.
     let _fault = checker.feed(&piece[opened.from..opened.to]);
@@ -61,17 +58,14 @@ fn verify_lines<C: Source>(
 ) -> Result<Reply, Stop>
     requires ready { C.can_read cert.old }
     requires room { length piece.old ≡ PIECE }
-    requires few { opened.came ≤ CERT_LIMIT }
-    requires ordered { opened.from ≤ opened.to }
-    requires within { opened.to ≤ length piece.old }
+    requires place { AreInBuffer piece.old opened }
     requires one { IsOfOne opened.version }
     ensures found { (f : Contents) (before : Option (List ℕ))
         → HasOpened before (C.left cert.old) piece.old opened → IsChecked f opened.no.0 solid.now
         → IfOk result (IsReply (λ certificate. OfVerify certificate f) before) }
     ensures whole { IfOk result (λ reply. ReadsCertificate (C.left cert.new) reply.answer) }
-    ensures count { CountAfterCall (C.faults cert.old) (C.faults cert.new) result }
-    ensures taken { TakesWithin (CERT_LIMIT - opened.came) (C.left cert.old)
-        (C.left cert.new) result }
+    ensures reads { ReadsOn (CERT_LIMIT - opened.came) (C.left cert.old) (C.left cert.new)
+        (C.faults cert.old) (C.faults cert.new) result }
 {
     let mut checker = Checker::new(alloc, solid, opened.version)?;
     lines_reply(alloc, &mut checker, cert, piece, opened)
@@ -87,16 +81,13 @@ fn verify_alone<C: Source>(
 ) -> Result<Reply, Stop>
     requires ready { C.can_read cert.old }
     requires room { length piece.old ≡ PIECE }
-    requires few { opened.came ≤ CERT_LIMIT }
-    requires ordered { opened.from ≤ opened.to }
-    requires within { opened.to ≤ length piece.old }
+    requires place { AreInBuffer piece.old opened }
     requires one { IsOfOne opened.version }
     ensures found { (before : Option (List ℕ)) → HasOpened before (C.left cert.old) piece.old opened
         → IfOk result (IsReply (λ certificate. OfVerify certificate file) before) }
     ensures whole { IfOk result (λ reply. ReadsCertificate (C.left cert.new) reply.answer) }
-    ensures count { CountAfterCall (C.faults cert.old) (C.faults cert.new) result }
-    ensures taken { TakesWithin (CERT_LIMIT - opened.came) (C.left cert.old)
-        (C.left cert.new) result }
+    ensures reads { ReadsOn (CERT_LIMIT - opened.came) (C.left cert.old) (C.left cert.new)
+        (C.faults cert.old) (C.faults cert.new) result }
 {
     let solid = match named_solid(alloc, file, opened.no)? {
         Ok(solid) => solid,
@@ -115,16 +106,12 @@ fn verify_opened<C: Source>(
 ) -> Result<Reply, Stop>
     requires ready { C.can_read cert.old }
     requires room { length piece.old ≡ PIECE }
-    requires few { opened.came ≤ CERT_LIMIT }
-    requires ordered { opened.from ≤ opened.to }
-    requires within { opened.to ≤ length piece.old }
-    requires holds { opened.to - opened.from ≤ opened.came }
+    requires place { AreInBuffer piece.old opened }
     ensures found { (before : Option (List ℕ)) → HasOpened before (C.left cert.old) piece.old opened
         → IfOk result (IsReply (λ certificate. OfVerify certificate file) before) }
     ensures whole { IfOk result (λ reply. ReadsCertificate (C.left cert.new) reply.answer) }
-    ensures count { CountAfterCall (C.faults cert.old) (C.faults cert.new) result }
-    ensures taken { TakesWithin (CERT_LIMIT - opened.came) (C.left cert.old)
-        (C.left cert.new) result }
+    ensures reads { ReadsOn (CERT_LIMIT - opened.came) (C.left cert.old) (C.left cert.new)
+        (C.faults cert.old) (C.faults cert.new) result }
 {
     if is_of_one(opened.version) {
         return verify_alone(alloc, file, cert, piece, opened);

@@ -53,8 +53,12 @@ pieces-init g c = record {
   ready = c.requires.ready;
 }
 
-pub returns-in-TooLarge-clause-taken : goal.returns-in-TooLarge-clause-taken
-returns-in-TooLarge-clause-taken g c =
+pub returns-in-TooLarge-clause-reads : goal.returns-in-TooLarge-clause-reads
+returns-in-TooLarge-clause-reads g c =
     let read = rw c.in-TooLarge.is at (c.in-Ok.ensures {u = tt}).read in
-    reads_past _ _ _ c.args.begun.came c.pieces.came _ _ c.next_piece.new.buffer _ _ c.pieces.invariant.reads c.pieces.invariant.few read.0 read.1 read.3
-    (let h : length c.next_piece.new.buffer ≡ PIECE = omega arith in h)
+    record {
+      count = (c.in-Ok.ensures {u = tt}).cause ∙ c.pieces.invariant.count;
+      taken =
+          reads_past _ _ _ c.args.begun.came c.pieces.came _ _ c.next_piece.new.buffer _ _ c.pieces.invariant.reads c.pieces.invariant.few read.0 read.1 read.3
+          (let h : length c.next_piece.new.buffer ≡ PIECE = omega arith in h);
+    }

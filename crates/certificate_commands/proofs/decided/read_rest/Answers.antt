@@ -32,10 +32,14 @@ reads-preserved g c =
 pub reads-init : goal.reads-init
 reads-init g c = record { within = c.requires.few; read = read_none _ c.args.came; count = refl; room = c.requires.room; ready = c.requires.ready }
 
-pub returns-in-TooLarge-clause-taken : goal.returns-in-TooLarge-clause-taken
-returns-in-TooLarge-clause-taken g c =
+pub returns-in-TooLarge-clause-reads : goal.returns-in-TooLarge-clause-reads
+returns-in-TooLarge-clause-reads g c =
     let read = rw c.in-TooLarge.is at (c.in-Ok.ensures {u = tt}).read in
     let s = c.reads.invariant.read in
     let room : length c.next_piece.new.buffer ≡ PIECE = omega arith in
-    rest_past _ _ _ s.bytes read.0 c.args.came c.reads.came (length c.next_piece.new.buffer) CERT_LIMIT s.taken s.long read.1 c.reads.invariant.within read.3
-    room
+    record {
+      count = (c.in-Ok.ensures {u = tt}).cause ∙ c.reads.invariant.count;
+      taken =
+          rest_past _ _ _ s.bytes read.0 c.args.came c.reads.came (length c.next_piece.new.buffer) CERT_LIMIT s.taken s.long read.1 c.reads.invariant.within
+          read.3 room;
+    }

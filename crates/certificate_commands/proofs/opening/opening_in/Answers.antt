@@ -44,21 +44,33 @@ reads-preserved g c =
       ready = more tt;
     }
 
-pub returns-in-TooLarge-clause-taken : goal.returns-in-TooLarge-clause-taken
-returns-in-TooLarge-clause-taken g c =
+pub returns-in-TooLarge-clause-reads : goal.returns-in-TooLarge-clause-reads
+returns-in-TooLarge-clause-reads g c =
     let read = rw c.in-TooLarge.is at (c.in-Ok.ensures {u = tt}).read in
     let s = c.reads.invariant.opened in
     let room : length c.next_piece.new.buffer ≡ PIECE = omega arith in
-    takes_past _ _ _ s.bytes read.0 c.reads.came (length c.next_piece.new.buffer) CERT_LIMIT s.taken s.long read.1 c.reads.invariant.within read.3 room
+    record {
+      count = (c.in-Ok.ensures {u = tt}).cause ∙ c.reads.invariant.count;
+      taken =
+          takes_past _ _ _ s.bytes read.0 c.reads.came (length c.next_piece.new.buffer) CERT_LIMIT s.taken s.long read.1 c.reads.invariant.within read.3 room;
+    }
 
-pub returns-in-Ok-Solid-clause-taken : goal.returns-in-Ok-Solid-clause-taken
-returns-in-Ok-Solid-clause-taken g c =
+pub returns-in-Ok-Solid-clause-reads : goal.returns-in-Ok-Solid-clause-reads
+returns-in-Ok-Solid-clause-reads g c =
     let read = rw c.in-Bytes.is at (c.in-Ok.ensures {u = tt}).read in
     let s = c.reads.invariant.opened in
-    takes_piece _ _ _ s.bytes c.next_piece.new.buffer c.reads.came c.in-Bytes.count (CERT_LIMIT + PIECE) s.taken s.long read.0 (omega (arith, read.3))
+    record {
+      count = (c.in-Ok.ensures {u = tt}).cause ∙ c.reads.invariant.count;
+      taken = takes_piece _ _ _ s.bytes c.next_piece.new.buffer c.reads.came
+          c.in-Bytes.count (CERT_LIMIT + PIECE) s.taken s.long read.0 (omega (arith, read.3));
+    }
 
-pub returns-in-Err-clause-taken : goal.returns-in-Err-clause-taken
-returns-in-Err-clause-taken g c =
+pub returns-in-Err-clause-reads : goal.returns-in-Err-clause-reads
+returns-in-Err-clause-reads g c =
     let read = rw c.in-Bytes.is at (c.in-Ok.ensures {u = tt}).read in
     let s = c.reads.invariant.opened in
-    takes_piece _ _ _ s.bytes c.next_piece.new.buffer c.reads.came c.in-Bytes.count (CERT_LIMIT + PIECE) s.taken s.long read.0 (omega (arith, read.3))
+    record {
+      count = (c.in-Ok.ensures {u = tt}).cause ∙ c.reads.invariant.count;
+      taken = takes_piece _ _ _ s.bytes c.next_piece.new.buffer c.reads.came
+          c.in-Bytes.count (CERT_LIMIT + PIECE) s.taken s.long read.0 (omega (arith, read.3));
+    }

@@ -8,3 +8,9 @@ pub returns-in-Err : goal.returns-in-Err
 returns-in-Err c =
     let wrong : IsBadOpening c.args.certificate.now c.in-Err.bad = search rules in
     reply_owed (OfUpgrade c.args.certificate.now c.args.file) _ _ c.illegal.result (opening_bad c.requires c.in-Err.bad wrong) c.illegal.ensures
+
+pub returns-then-is_of_one : goal.returns-then-is_of_one
+returns-then-is_of_one c = c.upgrade_alone.ensures
+
+pub returns : goal.returns
+returns c = c.upgrade_book.ensures
