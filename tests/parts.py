@@ -32,6 +32,7 @@ import picture_tests
 import protections
 import quoted
 import real_solids
+import repair
 import rows
 import running_tests
 import sample_tests
@@ -66,6 +67,11 @@ def of_rights(checks):
 def of_both(checks):
     """Checks of both programs."""
     return lambda context: checks(context.new_folder(), *context.programs[:2])
+
+
+def of_repair(checks):
+    """Checks of what is made, and of what igesolid says of it."""
+    return lambda context: checks(context.new_folder(), context.programs.igesolid, context.programs.repair)
 
 
 def of_pages(context):
