@@ -1,8 +1,8 @@
 //! Edges and vertices by number.
 
-ghost use Rattle.std.specs.Prelude.{◌≡◌, ◌∷◌, ◌++◌, [], not, IfSome, IfOk, OnOk, is_some, if◌then◌else◌};
+ghost use Rattle.std.specs.Prelude.{◌≡◌, ◌∷◌, ◌++◌, [], not, nat_eq, IfSome, IfOk, OnOk, OnErr, is_some, if◌then◌else◌};
 ghost use Rattle.std.specs.List.{list_any};
-ghost use Rattle.indexmap.specs.IndexMap.{values};
+ghost use Rattle.indexmap.specs.IndexMap.{values, insert_entry};
 ghost use Rattle.indexmap.specs.IndexSet.{insert_key};
 ghost use Rattle.solid_data.specs.Ring.{place_of};
 ghost use Rattle.solid_data.specs.SolidData.{same_edge, same_vertex};
@@ -38,6 +38,20 @@ impl Model for Numbering {
     ghost view = { λ n. record { keys = record { edges = values n.edge_keys; vertices = values n.vertex_keys }; edges = n.edges } };
 
     ghost invariant = { λ n. AreKeyed (edge_slot n.edge_slots) n.edge_keys.entries × AreKeyed (vertex_slot n.vertex_slots) n.vertex_keys.entries };
+}
+
+// Puts a key at a number. Room is made fourfold, since each time that it is made the table is filled anew.
+fn put<K: Drop>(map: &mut IndexMap<u32, K>, number: u32, key: K) -> Result<(), NoMemory>
+    ensures entries { OnOk result (map.new.entries
+        ≡ insert_entry nat_eq map.old.entries number key) }
+    ensures err { OnErr result (map.new.entries ≡ map.old.entries) }
+{
+    let len = map.len();
+    if len == map.capacity() {
+        map.reserve(len.saturating_mul(3))?;
+    }
+    map.insert(number, key)?;
+    Ok(())
 }
 
 impl Numbering {
@@ -83,7 +97,7 @@ impl Numbering {
         }
         let number = end_position(self.vertex_keys.len())?;
         self.vertex_slots.set(key.list, key.index, number)?;
-        self.vertex_keys.insert(number, key)?;
+        put(&mut self.vertex_keys, number, key)?;
         Ok(VertexId(number))
     }
 
@@ -118,7 +132,7 @@ impl Numbering {
         }
         let number = end_position(self.edge_keys.len())?;
         self.edge_slots.set(key.list, key.index, number)?;
-        self.edge_keys.insert(number, key)?;
+        put(&mut self.edge_keys, number, key)?;
         Ok((EdgeId(number), true))
     }
 
@@ -149,7 +163,7 @@ impl Numbering {
     pub fn vertices(&self, alloc: Global) -> Result<Vertices, NoMemory>
         ensures { IfOk result (λ vertices. vertices ≡ self.now.keys.vertices) }
     {
-        let mut vertices = Vertices::new(alloc);
+        let mut vertices = Vertices::with_room(alloc, self.vertex_keys.len())?;
         'keys: for key in self.vertex_keys.values() {
             vertices.push(*key)?;
         }

@@ -89,7 +89,7 @@ impl<'a> WalkState<'a> {
         ensures holds { OnOk result (AllHold (loops_in_face self.old no listed.now.loops)) }
         ensures fault { IfErr result (IsFault (loops_in_face self.old no listed.now.loops)) }
     {
-        let mut loops = Loops::new(alloc);
+        let mut loops = Loops::with_room(alloc, listed.len())?;
         'loops: for i in 0..listed.len() {
             let number = listed.item(i).unwrap();
             let item = i as u32 + 1;
@@ -153,7 +153,7 @@ impl<'a> WalkState<'a> {
         ensures holds { OnOk result (AllHold (faces_in_shell self.old no listed.now)) }
         ensures fault { IfErr result (IsFault (faces_in_shell self.old no listed.now)) }
     {
-        let mut faces = Faces::new(alloc);
+        let mut faces = Faces::with_room(alloc, listed.len())?;
         'faces: for i in 0..listed.len() {
             let (number, flag) = listed.item(i).unwrap();
             let item = i as u32 + 1;

@@ -63,7 +63,7 @@ pub(crate) fn edge_pairs(alloc: Global, paired: &Paired<'_>) -> Result<EdgePairs
     let rows = paired.rows();
     let span = rows.edge_span();
     let along = rows_along(alloc, rows, span)?;
-    let mut pairs = EdgePairs::new(alloc);
+    let mut pairs = EdgePairs::with_room(alloc, rows.edge_count())?;
     'edges: for i in 0..rows.edge_count() {
         pairs.push(pair_of(paired, span, along.as_slice(), i))?;
     }

@@ -17,9 +17,9 @@ invariant_of-self c = (
   c.self.invariant.1,
 )
 
-pub invariant_of-self-in_err-insert : goal.invariant_of-self-in_err-insert
-invariant_of-self-in_err-insert c = (
-  rw c.in_err-insert.ensures.err (keyed_still same_edge edge_sound edge_itself
+pub invariant_of-self-in_err-put : goal.invariant_of-self-in_err-put
+invariant_of-self-in_err-put c = (
+  rw c.in_err-put.ensures.err (keyed_still same_edge edge_sound edge_itself
       (edge_slot c.self.inside.edge_slots) c.self.inside.edge_keys.entries c.self.invariant.0 c.args.key
       (sym (c.in_default.ensures.found ∙ ap (λ (n : Numbered). list_any (same_edge c.args.key) n.keys.edges) (sym c.self.view_is)))
       (edge_slot c.set.new.self) (λ x differs. c.in_ok-set.ensures.others x.«list».0 x.index (λ h. differs (edge_key_is x c.args.key h.0 h.1)))),
@@ -31,17 +31,17 @@ invariant_of-self-2 c = (
   keyed_more same_edge edge_sound edge_itself (edge_slot c.self.inside.edge_slots) c.self.inside.edge_keys.entries c.self.invariant.0 c.args.key
       (sym (c.in_default.ensures.found ∙ ap (λ (n : Numbered). list_any (same_edge c.args.key) n.keys.edges) (sym c.self.view_is)))
       (edge_slot c.set.new.self) (λ x differs. c.in_ok-set.ensures.others x.«list».0 x.index (λ h. differs (edge_key_is x c.args.key h.0 h.1)))
-      c.in_ok-number.number (c.in_ok-number.ensures ∙ c.len.ensures.len) c.in_ok-set.ensures.set c.insert.new.self.entries c.in_ok-insert.ensures.entries,
+      c.in_ok-number.number (c.in_ok-number.ensures ∙ c.len.ensures.len) c.in_ok-set.ensures.set c.put.new.map.entries c.in_ok-put.ensures.entries,
   c.self.invariant.1,
 )
 
 pub returns-clause-keys : goal.returns-clause-keys
 returns-clause-keys c =
-    let edges : values_of c.insert.new.self.entries ≡ insert_key same_edge (values_of c.self.inside.edge_keys.entries) c.args.key =
+    let edges : values_of c.put.new.map.entries ≡ insert_key same_edge (values_of c.self.inside.edge_keys.entries) c.args.key =
     keys_more same_edge edge_sound edge_itself (edge_slot c.self.inside.edge_slots) c.self.inside.edge_keys.entries c.self.invariant.0 c.args.key
     (sym (c.in_default.ensures.found ∙ ap (λ (n : Numbered). list_any (same_edge c.args.key) n.keys.edges) (sym c.self.view_is)))
     (edge_slot c.set.new.self) (λ x differs. c.in_ok-set.ensures.others x.«list».0 x.index (λ h. differs (edge_key_is x c.args.key h.0 h.1)))
-    c.in_ok-number.number (c.in_ok-number.ensures ∙ c.len.ensures.len) c.in_ok-set.ensures.set c.insert.new.self.entries c.in_ok-insert.ensures.entries in
+    c.in_ok-number.number (c.in_ok-number.ensures ∙ c.len.ensures.len) c.in_ok-set.ensures.set c.put.new.map.entries c.in_ok-put.ensures.entries in
     λ j. record {
       keys = record {
         edges = (edges ∙ ap (λ (n : Numbered). insert_key same_edge n.keys.edges c.args.key) c.self.view_is) j;
@@ -53,13 +53,13 @@ returns-clause-keys c =
 
 pub returns-clause-id : goal.returns-clause-id
 returns-clause-id c =
-    place_put same_edge edge_sound edge_itself (edge_slot c.set.new.self) c.insert.new.self.entries
+    place_put same_edge edge_sound edge_itself (edge_slot c.set.new.self) c.put.new.map.entries
     (keyed_more same_edge edge_sound edge_itself (edge_slot c.self.inside.edge_slots) c.self.inside.edge_keys.entries c.self.invariant.0 c.args.key
     (sym (c.in_default.ensures.found ∙ ap (λ (n : Numbered). list_any (same_edge c.args.key) n.keys.edges) (sym c.self.view_is)))
     (edge_slot c.set.new.self) (λ x differs. c.in_ok-set.ensures.others x.«list».0 x.index (λ h. differs (edge_key_is x c.args.key h.0 h.1)))
-    c.in_ok-number.number (c.in_ok-number.ensures ∙ c.len.ensures.len) c.in_ok-set.ensures.set c.insert.new.self.entries c.in_ok-insert.ensures.entries)
+    c.in_ok-number.number (c.in_ok-number.ensures ∙ c.len.ensures.len) c.in_ok-set.ensures.set c.put.new.map.entries c.in_ok-put.ensures.entries)
     (values_of c.self.inside.edge_keys.entries) c.args.key c.in_ok-number.number c.in_ok-set.ensures.set
     (keys_more same_edge edge_sound edge_itself (edge_slot c.self.inside.edge_slots) c.self.inside.edge_keys.entries c.self.invariant.0 c.args.key
     (sym (c.in_default.ensures.found ∙ ap (λ (n : Numbered). list_any (same_edge c.args.key) n.keys.edges) (sym c.self.view_is)))
     (edge_slot c.set.new.self) (λ x differs. c.in_ok-set.ensures.others x.«list».0 x.index (λ h. differs (edge_key_is x c.args.key h.0 h.1)))
-    c.in_ok-number.number (c.in_ok-number.ensures ∙ c.len.ensures.len) c.in_ok-set.ensures.set c.insert.new.self.entries c.in_ok-insert.ensures.entries)
+    c.in_ok-number.number (c.in_ok-number.ensures ∙ c.len.ensures.len) c.in_ok-set.ensures.set c.put.new.map.entries c.in_ok-put.ensures.entries)

@@ -17,10 +17,10 @@ invariant_of-self c = (
       (vertex_slot c.set.new.self) (λ x differs. c.set.ensures.others x.«list».0 x.index (λ h. differs (vertex_key_is x c.args.key h.0 h.1))),
 )
 
-pub invariant_of-self-in_err-insert : goal.invariant_of-self-in_err-insert
-invariant_of-self-in_err-insert c = (
+pub invariant_of-self-in_err-put : goal.invariant_of-self-in_err-put
+invariant_of-self-in_err-put c = (
   c.self.invariant.0,
-  rw c.in_err-insert.ensures.err (keyed_still same_vertex vertex_sound vertex_itself
+  rw c.in_err-put.ensures.err (keyed_still same_vertex vertex_sound vertex_itself
       (vertex_slot c.self.inside.vertex_slots) c.self.inside.vertex_keys.entries c.self.invariant.1 c.args.key
       (sym (c.in_default.ensures.found ∙ ap (λ (n : Numbered). list_any (same_vertex c.args.key) n.keys.vertices) (sym c.self.view_is)))
       (vertex_slot c.set.new.self) (λ x differs. c.in_ok-set.ensures.others x.«list».0 x.index (λ h. differs (vertex_key_is x c.args.key h.0 h.1)))),
@@ -32,17 +32,17 @@ invariant_of-self-2 c = (
   keyed_more same_vertex vertex_sound vertex_itself (vertex_slot c.self.inside.vertex_slots) c.self.inside.vertex_keys.entries c.self.invariant.1 c.args.key
       (sym (c.in_default.ensures.found ∙ ap (λ (n : Numbered). list_any (same_vertex c.args.key) n.keys.vertices) (sym c.self.view_is)))
       (vertex_slot c.set.new.self) (λ x differs. c.in_ok-set.ensures.others x.«list».0 x.index (λ h. differs (vertex_key_is x c.args.key h.0 h.1)))
-      c.in_ok-number.number (c.in_ok-number.ensures ∙ c.len.ensures.len) c.in_ok-set.ensures.set c.insert.new.self.entries c.in_ok-insert.ensures.entries,
+      c.in_ok-number.number (c.in_ok-number.ensures ∙ c.len.ensures.len) c.in_ok-set.ensures.set c.put.new.map.entries c.in_ok-put.ensures.entries,
 )
 
 pub returns-clause-keys : goal.returns-clause-keys
 returns-clause-keys c =
-    let vertices : values_of c.insert.new.self.entries ≡ insert_key same_vertex (values_of c.self.inside.vertex_keys.entries) c.args.key =
+    let vertices : values_of c.put.new.map.entries ≡ insert_key same_vertex (values_of c.self.inside.vertex_keys.entries) c.args.key =
     keys_more same_vertex vertex_sound vertex_itself (vertex_slot c.self.inside.vertex_slots) c.self.inside.vertex_keys.entries c.self.invariant.1
     c.args.key
     (sym (c.in_default.ensures.found ∙ ap (λ (n : Numbered). list_any (same_vertex c.args.key) n.keys.vertices) (sym c.self.view_is)))
     (vertex_slot c.set.new.self) (λ x differs. c.in_ok-set.ensures.others x.«list».0 x.index (λ h. differs (vertex_key_is x c.args.key h.0 h.1)))
-    c.in_ok-number.number (c.in_ok-number.ensures ∙ c.len.ensures.len) c.in_ok-set.ensures.set c.insert.new.self.entries c.in_ok-insert.ensures.entries in
+    c.in_ok-number.number (c.in_ok-number.ensures ∙ c.len.ensures.len) c.in_ok-set.ensures.set c.put.new.map.entries c.in_ok-put.ensures.entries in
     λ j. record {
       keys = record {
         edges = (c.self.view_is j).keys.edges;
@@ -54,15 +54,15 @@ returns-clause-keys c =
 
 pub returns-clause-id : goal.returns-clause-id
 returns-clause-id c =
-    place_put same_vertex vertex_sound vertex_itself (vertex_slot c.set.new.self) c.insert.new.self.entries
+    place_put same_vertex vertex_sound vertex_itself (vertex_slot c.set.new.self) c.put.new.map.entries
     (keyed_more same_vertex vertex_sound vertex_itself (vertex_slot c.self.inside.vertex_slots) c.self.inside.vertex_keys.entries c.self.invariant.1
     c.args.key
     (sym (c.in_default.ensures.found ∙ ap (λ (n : Numbered). list_any (same_vertex c.args.key) n.keys.vertices) (sym c.self.view_is)))
     (vertex_slot c.set.new.self) (λ x differs. c.in_ok-set.ensures.others x.«list».0 x.index (λ h. differs (vertex_key_is x c.args.key h.0 h.1)))
-    c.in_ok-number.number (c.in_ok-number.ensures ∙ c.len.ensures.len) c.in_ok-set.ensures.set c.insert.new.self.entries c.in_ok-insert.ensures.entries)
+    c.in_ok-number.number (c.in_ok-number.ensures ∙ c.len.ensures.len) c.in_ok-set.ensures.set c.put.new.map.entries c.in_ok-put.ensures.entries)
     (values_of c.self.inside.vertex_keys.entries) c.args.key c.in_ok-number.number c.in_ok-set.ensures.set
     (keys_more same_vertex vertex_sound vertex_itself (vertex_slot c.self.inside.vertex_slots) c.self.inside.vertex_keys.entries c.self.invariant.1
     c.args.key
     (sym (c.in_default.ensures.found ∙ ap (λ (n : Numbered). list_any (same_vertex c.args.key) n.keys.vertices) (sym c.self.view_is)))
     (vertex_slot c.set.new.self) (λ x differs. c.in_ok-set.ensures.others x.«list».0 x.index (λ h. differs (vertex_key_is x c.args.key h.0 h.1)))
-    c.in_ok-number.number (c.in_ok-number.ensures ∙ c.len.ensures.len) c.in_ok-set.ensures.set c.insert.new.self.entries c.in_ok-insert.ensures.entries)
+    c.in_ok-number.number (c.in_ok-number.ensures ∙ c.len.ensures.len) c.in_ok-set.ensures.set c.put.new.map.entries c.in_ok-put.ensures.entries)

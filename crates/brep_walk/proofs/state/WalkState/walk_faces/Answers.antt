@@ -49,9 +49,9 @@ returns-in_err-made-clause-fault c =
     let x = c.unwrap-number.result in
     let at : slice_get all c.faces.i ≡ Some x = sym c.item.ensures ∙ c.unwrap-number.ensures in
     let is : to_z w64 (of_z w64 x.0) ≡ x.0 = search rules in
-    handed (after_each (face_places f (pos c.args.no.0) used) [] all) c.from_residual.result _
+    handed (after_each (face_places f (pos c.args.no.0) used) [] all) c.from_residual-in_err-made.result _
     (fault_at (face_places f (pos c.args.no.0) used) all c.faces.i x (after_each (face_places f (pos c.args.no.0) used) [] all) _ at i.remains
     (face_failed f (pos c.args.no.0) used (take c.faces.i all) x c.in_err-made.field-0.0
     (item_fails f c.faces.self.lists i.stands.file (pos c.args.no.0) c.faces.self.faces (used ++ numbers (take c.faces.i all)) all c.faces.i x _ at is i.named
     face_at c.in_err-made.field-0.0 c.in_err-made.ensures.fault)))
-    c.from_residual.ensures.1
+    c.from_residual-in_err-made.ensures.1

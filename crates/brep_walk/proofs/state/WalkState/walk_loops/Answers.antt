@@ -43,9 +43,9 @@ returns-in_err-made-clause-fault c =
     let z = c.unwrap-number.result in
     let at : slice_get all c.loops.i ≡ Some z = sym c.item.ensures ∙ c.unwrap-number.ensures in
     let is : to_z w64 (of_z w64 z) ≡ z = search rules in
-    handed (after_each (loop_places f (pos c.args.no.0) c.args.self.now.loops) [] all) c.from_residual.result _
+    handed (after_each (loop_places f (pos c.args.no.0) c.args.self.now.loops) [] all) c.from_residual-in_err-made.result _
     (fault_at (loop_places f (pos c.args.no.0) c.args.self.now.loops) all c.loops.i z
     (after_each (loop_places f (pos c.args.no.0) c.args.self.now.loops) [] all) _ at i.remains
     (loop_fails f c.loops.self.lists i.stands.file (pos c.args.no.0) c.args.self.now.loops c.loops.self.loops all c.loops.i z _ at is i.named
     c.in_err-made.field-0.0 c.in_err-made.ensures.fault))
-    c.from_residual.ensures.1
+    c.from_residual-in_err-made.ensures.1
