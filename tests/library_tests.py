@@ -13,6 +13,8 @@ WORDS = "-std=c11 -D_POSIX_C_SOURCE=200809L -O1 -g -Wall -Wextra -Werror".split(
 WRAPPED = "-Wl,--wrap=malloc,--wrap=realloc,--wrap=free"
 VALGRIND = "valgrind", "--quiet", "--leak-check=full", "--show-leak-kinds=all", "--errors-for-leak-kinds=all", "--error-exitcode=99"
 HELGRIND = "valgrind", "--quiet", "--tool=helgrind", "--error-exitcode=99"
+# A symbol of a section that can be written, and has bytes there.
+VARIABLE = re.compile(r" (?:\.(?:data|bss|tdata|tbss)(?!\.rel\.ro)\S*|\*COM\*)\t0*[1-9a-f]")
 # What stands around an example of a page.
 AROUND = """#include "igesolid.h"
 #include <stdio.h>
@@ -125,7 +127,7 @@ def of_names(archive, shared):
     yield "library: it needs the C library alone", re.findall(r"Shared library: \[(.*?)\]", told_by) in (["libc.so.6"], [])
     names = run("nm", "--dynamic", "--defined-only", shared).stdout
     yield "library: what it exports", {line.split()[-1].split("@")[0] for line in names.splitlines() if " T " in line} == EXPORTED
-    written = [line for line in run("nm", archive).stdout.splitlines() if re.search(r" [bBdDC] ", line)]
+    written = [line for line in run("objdump", "--syms", archive).stdout.splitlines() if VARIABLE.search(line)]
     yield f"library: no variable: {written[:3]}", written == []
 
 

@@ -187,6 +187,18 @@ def of_phone(browser, page):
     browser.call("Emulation.clearDeviceMetricsOverride")
 
 
+def of_sizes(browser, page, folder):
+    """A file of as many bytes as there may be, and one of a byte more."""
+    open_page(browser, page)
+    for size, sentence in ((164_000_000, "It isn't an IGES file of the fixed form."), (164_000_001, "It has more than 164,000,000 bytes.")):
+        path = folder / "large.igs"
+        with path.open("wb") as file:
+            file.truncate(size)
+        choose(browser, path)
+        yield f"web: {size} bytes", browser.run(f"{FIRST}.querySelector('p.bad').textContent") == sentence
+        browser.run(f"[...{FIRST}.querySelectorAll('button')].find(it => it.textContent === 'Remove').click()")
+
+
 def of_others(browser, page):
     """Browsers that lack something get a sentence."""
     for name, script in (("WebAssembly", "delete window.WebAssembly"), ("workers", "window.Worker = class { constructor() { throw new Error('none') } }"), ("a module", "WebAssembly.compile = () => Promise.reject(new Error('refused'))")):
@@ -216,6 +228,7 @@ def checks(context):
         yield from of_buttons(browser, program, where, context.new_folder())
         yield from of_network(browser, page)
         yield from of_phone(browser, page)
+        yield from of_sizes(browser, page, context.new_folder())
         yield from of_others(browser, page)
     finally:
         browser.close()
