@@ -239,6 +239,7 @@ AREAS = (
     ("examples/gallery/hollow_ball.igs.gz", 3, 4 * math.pi * (10**2 + 9**2)),
     ("examples/gallery/tube.igs.gz", 3, math.tau * (10 + 8) * 50 + math.tau * (10**2 - 8**2)),
     ("examples/gallery/plate_400_holes.igs.gz", 1, 2 * 160**2 + 4 * 160 * 2 + 400 * (math.tau * 2 * 2 - math.tau * 2**2)),
+    ("tests/inputs/thick_sheet_with_an_offset_surface.igs", 1, 2117.692822),
     ("tests/inputs/box_under_a_parametric_spline_surface.igs", 1, 88.709740),
 )
 # How much isn't drawn as it is.
