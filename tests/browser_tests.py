@@ -476,6 +476,9 @@ def of_large_solids(browser, folder):
                 pass
             held = browser.run("view.painter.vertexCount + (view.meshPoints || 0)")
             yield f"browser: {name}, {how or 'WebGL'}: {held} vertices are held when all faces are there", browser.run("view.isWhole") and held <= MOST_VERTICES
+            browser.run("view.choose(view.faults[0], true, true); view.move(it => it.zoomBy(5)); view.refine(); view.draw()")
+            nearer = browser.run("view.painter.vertexCount + (view.meshPoints || 0)")
+            yield f"browser: {name}, {how or 'WebGL'}: {nearer} vertices are held when it is near", 0 < nearer <= MOST_VERTICES and is_quiet(browser)
 
 
 def checks(folder, programs, skipped):

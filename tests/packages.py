@@ -16,7 +16,8 @@ INSTALLED = (
 )  # fmt: skip
 PAGES = (
     *(f"docs/{name}.md" for name in ("THEOREM", "PROOFS", "COMMANDS", "FORMAT", "CERTIFICATE")),
-    "README.md", "docs/GALLERY.md", "docs/images/page.png", "docs/images/bolt.webp", "examples/gallery/bolt.igs.gz", "examples/cube.igs", "examples/README.md", "examples/no/README.md", "examples/no/fail_pair.igs", "examples/occt/05_sphere.igs",
+    "README.md", "docs/GALLERY.md", "docs/images/page.png", "docs/images/bolt.webp", "examples/gallery/bolt.igs.gz",
+    "examples/cube.igs", "examples/README.md", "examples/no/README.md", "examples/no/fail_pair.igs", "examples/occt/05_sphere.igs",
 )  # fmt: skip
 
 
