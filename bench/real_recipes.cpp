@@ -692,7 +692,8 @@ Parts coloured_faces() {
 
 // A bent lead of a package, on its right side.
 TopoDS_Shape lead(double y) {
-  Points side = {gp_Pnt(1.9, 0.8, 0), gp_Pnt(2.4, 0.8, 0), gp_Pnt(2.6, 0.1, 0), gp_Pnt(3, 0.1, 0), gp_Pnt(3, 0, 0), gp_Pnt(2.5, 0, 0), gp_Pnt(2.3, 0.7, 0), gp_Pnt(1.9, 0.7, 0)};
+  Points side = {gp_Pnt(1.9, 0.8, 0), gp_Pnt(2.4, 0.8, 0), gp_Pnt(2.6, 0.1, 0), gp_Pnt(3, 0.1, 0),
+                 gp_Pnt(3, 0, 0),     gp_Pnt(2.5, 0, 0),   gp_Pnt(2.3, 0.7, 0), gp_Pnt(1.9, 0.7, 0)};
   return moved(moved(prism(side, 0.4), rotation(X, M_PI / 2)), translation(0, y, 0));
 }
 

@@ -239,6 +239,7 @@ AREAS = (
     ("examples/gallery/hollow_ball.igs.gz", 3, 4 * math.pi * (10**2 + 9**2)),
     ("examples/gallery/tube.igs.gz", 3, math.tau * (10 + 8) * 50 + math.tau * (10**2 - 8**2)),
     ("examples/gallery/plate_400_holes.igs.gz", 1, 2 * 160**2 + 4 * 160 * 2 + 400 * (math.tau * 2 * 2 - math.tau * 2**2)),
+    ("tests/inputs/thick_sheet_with_an_offset_surface.igs", 1, 2117.692822),
     ("tests/inputs/box_under_a_parametric_spline_surface.igs", 1, 88.709740),
 )
 # How much isn't drawn as it is.
@@ -475,6 +476,9 @@ def of_large_solids(browser, folder):
                 pass
             held = browser.run("view.painter.vertexCount + (view.meshPoints || 0)")
             yield f"browser: {name}, {how or 'WebGL'}: {held} vertices are held when all faces are there", browser.run("view.isWhole") and held <= MOST_VERTICES
+            browser.run("view.choose(view.faults[0], true, true); view.move(it => it.zoomBy(5)); view.refine(); view.draw()")
+            nearer = browser.run("view.painter.vertexCount + (view.meshPoints || 0)")
+            yield f"browser: {name}, {how or 'WebGL'}: {nearer} vertices are held when it is near", 0 < nearer <= MOST_VERTICES and is_quiet(browser)
 
 
 def checks(folder, programs, skipped):

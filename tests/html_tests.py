@@ -75,7 +75,8 @@ def in_the_way(parts):
     """What can't be written is said: before the work with status 2, in it with status 5."""
     (parts.folder / "file").touch()
     status, text, error = parts.check("parts", "--html", "file")
-    yield "check --html: a file in the way", (status, text, error) == (2, b"", "igesolid: file: no report can be written there: Not a directory\n")
+    said = "igesolid: file: no report can be written there: Not a directory\n"
+    yield "check --html: a file in the way", (status, text, error) == (2, b"", said)
     (parts.folder / "other").mkdir()
     (parts.folder / "other" / "index.html").write_text("mine")
     status, text, error = parts.check("parts", "--html", "other")
@@ -86,7 +87,8 @@ def in_the_way(parts):
     page.unlink()
     page.mkdir()
     status, text, error = parts.check("parts/no/tetrahedra.iges", "--html", "report")
-    yield "check --html: a page that can't be written", status == 5 and error == "igesolid: report: the report isn't whole: parts/no/tetrahedra.iges: Is a directory\n"
+    said = "igesolid: report: the report isn't whole: parts/no/tetrahedra.iges: Is a directory\n"
+    yield "check --html: a page that can't be written", (status, error) == (5, said)
     yield "check --html: the verdict stands", text == parts.check("parts/no/tetrahedra.iges")[1]
 
 

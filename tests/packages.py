@@ -15,11 +15,12 @@ INSTALLED = (
     "share/bash-completion/completions/igesolid", "share/zsh/site-functions/_igesolid", "share/fish/vendor_completions.d/igesolid.fish",
     *(f"lib/igesolid/{name}" for name in command_table.programs()),
     *(f"lib/igesolid/companion/{row.words.split()[0]}" for row in command_table.of_kind("python")),
-    "lib/igesolid/companion/page.html", "lib/igesolid/companion/pictures/iges.py",
+    "lib/igesolid/companion/page.html", "lib/igesolid/companion/pictures/iges.py", "lib/igesolid/python/igesolid/check/html_report.py",
 )  # fmt: skip
 PAGES = (
     *(f"docs/{name}.md" for name in ("THEOREM", "PROOFS", "COMMANDS", "FORMAT", "CERTIFICATE")),
-    "README.md", "docs/images/page.png", "examples/cube.igs", "examples/README.md", "examples/no/README.md", "examples/no/fail_pair.igs", "examples/occt/05_sphere.igs",
+    "README.md", "docs/GALLERY.md", "docs/images/page.png", "docs/images/bolt.webp", "examples/gallery/bolt.igs.gz",
+    "examples/cube.igs", "examples/README.md", "examples/no/README.md", "examples/no/fail_pair.igs", "examples/occt/05_sphere.igs",
 )  # fmt: skip
 
 

@@ -16,9 +16,15 @@ const MOST_CUTS = 96, SAMPLES = 6;
 
 const cuts = new WeakMap();
 
-/** The trapezoids of a region, found once. */
+/**
+ * The trapezoids of a region, found once; but those without height, which rounding leaves along its
+ * rim: on a curved rim their triangles would add area.
+ */
 function cutOf(region) {
-  if (!cuts.has(region)) cuts.set(region, trapezoidsOf(region));
+  if (!cuts.has(region)) {
+    const [low, high] = boxOf(region)[1], least = 1e-6 * (high - low);
+    cuts.set(region, trapezoidsOf(region).filter(it => it.high - it.low > least));
+  }
   return cuts.get(region);
 }
 

@@ -6,7 +6,7 @@ const MOST_STEPS = 60, EXACT = 1e-13, BEYOND = 1.5;
 
 const between = ([a, b], [c, d], part) => [a + (c - a) * part, b + (d - b) * part];
 
-/** Where a function is 0 from `low` to `high`, at which it has other signs (the Illinois method). */
+/** Where a function is 0 between two places at which it has other signs (the Illinois method). */
 function rootOf(of, low, atLow, high, atHigh) {
   let [a, fa, b, fb] = [low, atLow, high, atHigh];
   for (let k = 0; k < MOST_STEPS && Math.abs(b - a) > EXACT && fb !== fa; k++) {

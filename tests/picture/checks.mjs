@@ -271,6 +271,9 @@ export function areasOf(bytes, number) {
   }, 0));
 }
 
+/** The area that Open CASCADE finds of the thick sheet. */
+const THICK_SHEET = 2117.692822;
+
 /** Each point of an offset surface is as far from its base as is told, along the normal there. */
 export function* offsets({ file }) {
   const source = new IgesFile(file("thick_sheet_with_an_offset_surface"));
@@ -288,7 +291,6 @@ export function* offsets({ file }) {
     }
   }
   yield ["picture: an offset surface is beside its base", Math.abs(values[3]) === 2 && most < 1e-6];
-  // What Open CASCADE finds for the same solid.
   const [area] = areasOf(file("thick_sheet_with_an_offset_surface"), 1);
   yield [`picture: the area of a thick sheet: ${area}`, isNear(area, THICK_SHEET)];
 }

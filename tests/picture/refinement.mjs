@@ -1,4 +1,4 @@
-/** What is drawn finer where the view is near: counts of vertices before and after, and positions. */
+/** What is drawn finer where the view is near: counts of vertices, and their positions. */
 import { Camera } from "../../companion/picture_js/camera.js";
 import { Lines } from "../../companion/picture_js/lines.js";
 import { Picture } from "../../companion/picture_js/picture.js";
@@ -130,11 +130,12 @@ function* ofCylinder(file) {
     const areOnIt = fine.every(([x, y, z]) => Math.hypot(x, y) < 1 + 1e-9 && z > -1e-9
       && z < 1 + 1e-9 && (Math.abs(Math.hypot(x, y) - 1) < 1e-9));
     const told = `${lines.pointCount} vertices for ${before}`;
-    yield [`picture: the rim of a cylinder, ${zoom} times as near: ${told}`, isFine && areOnIt
-      && (zoom < 30 || lines.pointCount > before) && areDrawn(camera, due, placesOf(camera, lines))];
+    const isMore = lines.pointCount > (zoom < 30 ? before - 1 : before);
+    yield [`picture: the rim of a cylinder, ${zoom} times as near: ${told}`,
+      isFine && areOnIt && isMore && areDrawn(camera, due, placesOf(camera, lines))];
     const outline = placesOf(camera, refining.silhouettes).flat();
     const across = Math.hypot(towards[0], towards[1]);
-    // Where the outline meets the rim, the normal is across the line of sight.
+    // There the outline meets the rim: the normal is across the line of sight.
     const tangent = [-towards[1] / across - middle[0], towards[0] / across - middle[1]];
     camera.centre = [...tangent, 1 - middle[2]];
     refining.refine(drawn);

@@ -190,7 +190,9 @@ STYLE = """
 body { font: 14px/1.4 system-ui, "DejaVu Sans", Arial, sans-serif; margin: 20px; }
 h1 { font-size: 20px; }
 table { border-collapse: collapse; }
-th, td { text-align: left; vertical-align: top; padding: 4px 10px; border-bottom: 1px solid var(--line); overflow-wrap: anywhere; }
+th, td { text-align: left; vertical-align: top; padding: 4px 10px; border-bottom: 1px solid var(--line); }
+th { white-space: nowrap; }
+td:nth-child(1), td:nth-child(5) { overflow-wrap: anywhere; min-width: 12em; }
 th button { font: inherit; font-weight: 600; border: 0; padding: 0; background: none; color: inherit; cursor: pointer; }
 th[aria-sort=ascending] button::after { content: " \\25b2"; }
 th[aria-sort=descending] button::after { content: " \\25bc"; }
