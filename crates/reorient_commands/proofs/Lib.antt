@@ -1,0 +1,4 @@
+mod ExtractionDecided
+mod WrittenFiles
+pub mod FlagsDecided
+pub mod NeverDone
