@@ -1,3 +1,4 @@
+pub mod ShortWords
 pub mod GivenWords
 pub mod SameBytes
 pub mod OwedRows

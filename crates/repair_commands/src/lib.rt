@@ -8,7 +8,7 @@ mod replies;
 mod report;
 mod words;
 
-pub use asked::Asked;
+pub use asked::{Asked, LineCommand};
 pub use command::run_repair;
 pub use law::{in_layout_is_told, one_answer, some_answer};
 pub use words::Words;
