@@ -118,6 +118,9 @@ some_reorient n f limits = by_answer (flags_or_none n f) (extracted_or_refused f
     by_answer (inl (x, flags)) (inr (entity, why, refused)) = (answer.NoExtract, no_extract_line entity why, not_reoriented x flags entity why refused)
     by_answer (inl (x, flags)) (inl (g, found)) =
         let new : Contents = reflagged g (new_number found.kept n) x in
-        let owed = some_written (reflagged g (new_number found.kept n) x) in
-        (owed.0, owed.1, reoriented (reflagged g (new_number found.kept n) x) (record { flags = x; fit = flags; «between» = g; extracted = found; is = refl })
-            owed.2)
+        let owed = some_written (reflagged g (new_number found.kept n) x) in (
+          owed.0,
+          owed.1,
+          reoriented (reflagged g (new_number found.kept n) x) (record { flags = x; fit = flags; «between» = g; extracted = found; is = refl })
+              owed.2,
+        )

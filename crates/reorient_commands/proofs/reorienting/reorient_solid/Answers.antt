@@ -16,7 +16,7 @@ returns-in-Err-Refused c =
     let fault : IsRefused c.args.file c.args.no c.in-Err-Refused.entity.0 c.in-Err-Refused.reason = search rules in
     let flags : HasFlags c.args.file c.args.no c.in-Some.flags = rw c.in-Some.is at c.in_ok-flags.ensures.found in
     reply_owed (OfReorient c.args.no c.args.file) _ _ c.refused.result
-        (not_reoriented c.in-Some.flags flags c.in-Err-Refused.entity.0 c.in-Err-Refused.reason fault) c.refused.ensures
+    (not_reoriented c.in-Some.flags flags c.in-Err-Refused.entity.0 c.in-Err-Refused.reason fault) c.refused.ensures
 
 pub returns : goal.returns
 returns c =
