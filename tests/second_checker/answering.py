@@ -9,6 +9,7 @@ from .extraction import NoExtract, extracted
 from .lines import BadLine
 from .opening import open_accepted, open_certificate
 from .orientation import orientation, orientation_accepted
+from .reorienting import reorient
 from .reading import BadFile, File
 from .shells import Rows
 from .walking import Fail, walked
@@ -59,6 +60,7 @@ NUMBERED = {
     "open": lambda file, number: (DONE, open_certificate(file, number)),
     "orient": orientation,
     "compact": lambda file, number: written(compacted(file, number)),
+    "reorient": lambda file, number: reorient(file, number, written),
 }
 CHECKING = {
     "verify": verify,

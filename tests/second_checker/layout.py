@@ -8,7 +8,7 @@ TERMINATE = 4
 MOST_LINES = 9_999_999
 MOST_BYTES = 164_000_000
 KINDS = "mark", "blank", "end", "letter", "past", "number", "ahead", "counts", "after"
-USAGE = b"usage: igesolid-repair relayout FILE | layout FILE\n"
+USAGE = b"usage: igesolid-repair relayout FILE | layout FILE | reorient FILE N\n"
 
 
 class BadLayout(Exception):

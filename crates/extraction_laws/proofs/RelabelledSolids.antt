@@ -199,7 +199,7 @@ module _ (N : Names) (s t : SolidData) (h : IsRelabelled N s t) where
   shell_edges_same : (a b : Shell) → IsRelabelledShell N a b → shell_edges a ≡ shell_edges b
   shell_edges_same a b k = ap (λ us. flat_map edge_used us) (uses_same N a b k)
 
-  shell_rows_same : (a b : Shell) → IsRelabelledShell N a b → shell_rows s a ≡ shell_rows t b
+  pub shell_rows_same : (a b : Shell) → IsRelabelledShell N a b → shell_rows s a ≡ shell_rows t b
   unfolding shell_rows
   shell_rows_same a b k = λ i. record {
     rows = zip_same (IsRelabelledPlaced N) (loop_rows s) (loop_rows t) (placed_loops a) (placed_loops b) (placed N a b k) rows_same i;

@@ -1,3 +1,8 @@
+mod ExtractionDecided
+mod WrittenFiles
+pub mod FlagsDecided
+pub mod NeverDone
+pub mod ShortWords
 pub mod GivenWords
 pub mod SameBytes
 pub mod OwedRows

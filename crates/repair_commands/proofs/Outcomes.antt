@@ -7,11 +7,19 @@ use Rattle.iges_io.specs.Faults.{Rose}
 use Rattle.command_replies.specs.declared.reply.Reply.{Reply}
 use Rattle.command_replies.specs.declared.answer.Answer.{Answer}
 use Rattle.command_replies.specs.declared.answer.Answer.TheVariants.{Done, No, Usage, BadFile, ReadFault, WriteFault, NoMemory, NoExtract, TooLarge}
-use Rattle.command_replies.specs.Due.{Exactly}
-use Rattle.command_replies.specs.Replies.{AreWithin, IsReply, IsTooLarge}
+use Rattle.command_replies.specs.Due as shared
+use Rattle.command_replies.specs.Due.{Exactly, OfNoFile}
+use Rattle.iges_params.specs.Contents.{Contents}
+use Rattle.orient_commands.specs.Due.{OfOrient, IsAnswerOf}
+use Rattle.orient_commands.specs.Due as orient
+use Rattle.repair_commands.specs.SolidDue.{OfReorient, OfWritten}
+use Rattle.repair_commands.specs.SolidDue as reorient
+use Rattle.command_replies.specs.Replies.{IsFileTold, IsReply}
+use Rattle.repair_commands.specs.declared.asked.LineCommand.{LineCommand}
 use Rattle.repair_commands.specs.declared.asked.Asked.{Asked}
+use Rattle.repair_commands.specs.declared.asked.Asked.TheVariants as asked
 use Rattle.repair_commands.specs.Asked.{asked_of, usage_line}
-use Rattle.repair_commands.specs.Due.{DueOf, OfLayout, OfNoLayout, bad_layout, file_too_large, in_layout, not_in_layout, relayout, text_too_large}
+use Rattle.repair_commands.specs.Due.{DueOf, OfLines, OfLayout, OfNoLayout, bad_layout, file_too_large, in_layout, not_in_layout, relayout, text_too_large}
 use Rattle.repair_commands.specs.Outcome.{Finishes, IsComplete, IsOwed, Outcome}
 
 some_told : (left : Option (List ℕ)) → (bytes : List ℕ) × Told left bytes
@@ -19,13 +27,21 @@ some_told None = ([], tt)
 some_told (Some bytes) = (bytes, refl)
 
 -- what is owed of the bytes that were told
-pub bytes_owed : (q : Asked) (file : Option (List ℕ)) (bytes text : List ℕ) (reply : Reply) → Told file bytes → text ≡ bytes
-    → DueOf q text reply.answer reply.text → IsReply (DueOf q) file reply
+pub bytes_owed : (q : LineCommand) (file : Option (List ℕ)) (bytes text : List ℕ) (reply : Reply) → Told file bytes → text ≡ bytes
+    → OfLines q text reply.answer reply.text → IsReply (OfLines q) file reply
 bytes_owed q file bytes text reply told same owed = record {
   bytes = bytes;
   told = told;
-  owed = subst (λ (b : List ℕ). DueOf q b reply.answer reply.text) same owed;
+  owed = subst (λ (b : List ℕ). OfLines q b reply.answer reply.text) same owed;
 }
+
+-- what is owed of the file that was told
+pub file_owed : (n : ℕ) (left : Option (List ℕ)) (f : Contents) (reply : Reply) → IsFileTold left f → OfReorient n f reply.answer reply.text
+    → IsReply (DueOf (asked.Reorient n)) left reply
+file_owed n left f reply told owed = record { bytes = told.bytes; told = told.told; owed = inr (told.few, f, told.is, owed) }
+
+pub no_file_owed : (n : ℕ) (left : Option (List ℕ)) (reply : Reply) → IsReply OfNoFile left reply → IsReply (DueOf (asked.Reorient n)) left reply
+no_file_owed n left reply none = record { bytes = none.bytes; told = none.told; owed = inl none.owed }
 
 -- a reply to what the words ask for
 pub asked_owed : (words : List (List ℕ)) (file : Option (List ℕ)) (reply : Reply) (q : Asked) → asked_of words ≡ Some q → IsReply (DueOf q) file reply
@@ -60,14 +76,41 @@ no_layout_judgement bytes a t (file_too_large p) = tt
 no_layout_judgement bytes a t (bad_layout few fault is) = tt
 no_layout_judgement bytes a t (text_too_large few text is more) = tt
 
-layout_judgement : (bytes text : List ℕ) (q : Asked) (a : Answer) (t : List ℕ) → OfLayout bytes text q a t → IsJudgement a
+layout_judgement : (bytes text : List ℕ) (q : LineCommand) (a : Answer) (t : List ℕ) → OfLayout bytes text q a t → IsJudgement a
 layout_judgement bytes text q a t relayout = tt
 layout_judgement bytes text q a t (in_layout same) = tt
 layout_judgement bytes text q a t (not_in_layout other) = tt
 
+lines_judgement : (q : LineCommand) (bytes : List ℕ) (a : Answer) (t : List ℕ) → OfLines q bytes a t → IsJudgement a
+lines_judgement q bytes a t (inl p) = no_layout_judgement bytes a t p
+lines_judgement q bytes a t (inr p) = layout_judgement bytes p.0 q a t p.2
+
+no_file_judgement : (bytes : List ℕ) (a : Answer) (t : List ℕ) → OfNoFile bytes a t → IsJudgement a
+no_file_judgement bytes a t (shared.file_too_large p) = tt
+no_file_judgement bytes a t (shared.bad_file few fault p) = tt
+
+orient_judgement : (lines : List (List ℕ)) (a : Answer) → IsAnswerOf lines a → IsJudgement a
+orient_judgement lines a (inl p) = subst IsJudgement (sym p.1) tt
+orient_judgement lines a (inr p) = subst IsJudgement (sym p.1) tt
+
+unoriented_judgement : (n : ℕ) (f : Contents) (a : Answer) (t : List ℕ) → OfOrient n f a t → IsJudgement a
+unoriented_judgement n f a t (orient.misplaced x first) = tt
+unoriented_judgement n f a t (orient.unready all x first) = tt
+unoriented_judgement n f a t (orient.oriented all ready is) = orient_judgement is.lines a is.answer
+
+written_judgement : (f : Contents) (a : Answer) (t : List ℕ) → OfWritten f a t → IsJudgement a
+written_judgement f a t (reorient.too_large text is many) = tt
+written_judgement f a t (reorient.written text is few) = tt
+
+reorient_judgement : (n : ℕ) (f : Contents) (a : Answer) (t : List ℕ) → OfReorient n f a t → IsJudgement a
+reorient_judgement n f a t (reorient.unoriented none owed) = unoriented_judgement n f a t owed
+reorient_judgement n f a t (reorient.not_reoriented x flags entity why refused) = tt
+reorient_judgement n f a t (reorient.reoriented new is owed) = written_judgement new a t owed
+
 due_judgement : (q : Asked) (bytes : List ℕ) (a : Answer) (t : List ℕ) → DueOf q bytes a t → IsJudgement a
-due_judgement q bytes a t (inl p) = no_layout_judgement bytes a t p
-due_judgement q bytes a t (inr p) = layout_judgement bytes p.0 q a t p.2
+due_judgement (asked.Lines c) bytes a t due = lines_judgement c bytes a t due
+due_judgement (asked.Reorient n) bytes a t (inl p) = no_file_judgement bytes a t p
+due_judgement (asked.Reorient n) bytes a t (inr p) = reorient_judgement n p.1 a t p.3
 
 -- the answers that words may owe
 abbrev IsJudged : Option Asked → Answer → Type 0

@@ -1,23 +1,37 @@
 -- What the words of a command line ask for.
-use Rattle.std.specs.Prelude.{ℕ, List, [], ◌∷◌, Option, Some, None, bytes_eq, codes, if◌then◌else◌}
+use Rattle.std.specs.Prelude.{ℕ, Bool, ◌&&◌, nat_le, List, [], ◌∷◌, length, Option, Some, None, bytes_eq, codes, option_map, if◌then◌else◌}
+use Rattle.std.specs.Str.Parse.{digits_value}
+use Rattle.iges_base.specs.Word.{are_digits}
+use Rattle.repair_commands.specs.declared.asked.LineCommand.{LineCommand}
+use Rattle.repair_commands.specs.declared.asked.LineCommand.TheVariants.{Relayout, Layout}
 use Rattle.repair_commands.specs.declared.asked.Asked.{Asked}
 use Rattle.repair_commands.specs.declared.asked.Asked.TheVariants as asked
 
-abbrev pub command_named : List ℕ → Option Asked
-command_named word = if bytes_eq word (codes "relayout") then Some asked.Relayout else (if bytes_eq word (codes "layout") then Some asked.Layout else None)
+-- one to seven digits that aren't all 0
+abbrev pub is_number : List ℕ → Bool
+is_number word = are_digits word && nat_le (length word) 7 && nat_le 1 (digits_value 10 word)
 
--- relayout FILE or layout FILE
+abbrev pub command_named : List ℕ → Option LineCommand
+command_named word = if bytes_eq word (codes "relayout") then Some Relayout else (if bytes_eq word (codes "layout") then Some Layout else None)
+
+abbrev pub one_asked : List ℕ → Option Asked
+one_asked number = if is_number number then Some (asked.Reorient (digits_value 10 number)) else None
+
+abbrev pub numbered_asked : List ℕ → List ℕ → Option Asked
+numbered_asked command number = if bytes_eq command (codes "reorient") then one_asked number else None
+
+-- relayout FILE, layout FILE or reorient FILE N
 abbrev pub asked_of : List (List ℕ) → Option Asked
 asked_of [] = None
 asked_of (command ∷ []) = None
-asked_of (command ∷ file ∷ []) = command_named command
-asked_of (command ∷ file ∷ word ∷ words) = None
+asked_of (command ∷ file ∷ []) = option_map asked.Lines (command_named command)
+asked_of (command ∷ file ∷ number ∷ []) = numbered_asked command number
+asked_of (command ∷ file ∷ number ∷ word ∷ words) = None
 
 abbrev pub second : List (List ℕ) → Option (List ℕ)
 second [] = None
 second (command ∷ []) = None
-second (command ∷ file ∷ []) = Some file
-second (command ∷ file ∷ word ∷ words) = None
+second (command ∷ file ∷ words) = Some file
 
 abbrev pub where_asked : Option Asked → Option (List ℕ) → Option (List ℕ)
 where_asked None file = None
@@ -28,4 +42,4 @@ abbrev pub file_named : List (List ℕ) → Option (List ℕ)
 file_named words = where_asked (asked_of words) (second words)
 
 abbrev pub usage_line : List ℕ
-usage_line = codes "usage: igesolid-repair relayout FILE | layout FILE\n"
+usage_line = codes "usage: igesolid-repair relayout FILE | layout FILE | reorient FILE N\n"

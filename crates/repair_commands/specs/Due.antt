@@ -5,7 +5,10 @@ use Rattle.line_layout.specs.declared.fault.LayoutFault.{LayoutFault}
 use Rattle.line_layout.specs.Relaid.{relaid}
 use Rattle.command_replies.specs.declared.answer.Answer.{Answer}
 use Rattle.command_replies.specs.declared.answer.Answer.TheVariants as answer
-use Rattle.command_replies.specs.Due.{Owed, Exactly}
+use Rattle.command_replies.specs.Due.{Owed, Exactly, OfFile}
+use Rattle.repair_commands.specs.SolidDue.{OfReorient}
+use Rattle.repair_commands.specs.declared.asked.LineCommand.{LineCommand}
+use Rattle.repair_commands.specs.declared.asked.LineCommand.TheVariants as «line»
 use Rattle.repair_commands.specs.declared.asked.Asked.{Asked}
 use Rattle.repair_commands.specs.declared.asked.Asked.TheVariants as asked
 use Rattle.repair_commands.specs.Asked.{asked_of, usage_line}
@@ -27,17 +30,22 @@ pub data OfNoLayout (bytes : List ℕ) : Answer → List ℕ → Type 0 where
   text_too_large : length bytes ≤ FILE_LIMIT → (text : List ℕ) → relaid bytes ≡ Ok text → FILE_LIMIT < length text → OfNoLayout bytes answer.TooLarge []
 
 -- what is owed of bytes of which it is made
-pub data OfLayout (bytes text : List ℕ) : Asked → Answer → List ℕ → Type 0 where
+pub data OfLayout (bytes text : List ℕ) : LineCommand → Answer → List ℕ → Type 0 where
   -- the file
-  relayout : OfLayout bytes text asked.Relayout answer.Done text
+  relayout : OfLayout bytes text «line».Relayout answer.Done text
   -- it is the bytes themselves
-  in_layout : bytes ≡ text → OfLayout bytes text asked.Layout answer.Done in_layout_line
+  in_layout : bytes ≡ text → OfLayout bytes text «line».Layout answer.Done in_layout_line
   -- it isn't, and what is changed
-  not_in_layout : bytes ≢ text → OfLayout bytes text asked.Layout answer.No (changes_text bytes)
+  not_in_layout : bytes ≢ text → OfLayout bytes text «line».Layout answer.No (changes_text bytes)
+
+-- what is owed of the lines of bytes
+abbrev pub OfLines : LineCommand → List ℕ → Owed
+OfLines c bytes a t = OfNoLayout bytes a t ⊎ ((text : List ℕ) × IsLaid bytes text × OfLayout bytes text c a t)
 
 -- what is owed of a file's bytes
 abbrev pub DueOf : Asked → List ℕ → Owed
-DueOf q bytes a t = OfNoLayout bytes a t ⊎ ((text : List ℕ) × IsLaid bytes text × OfLayout bytes text q a t)
+DueOf (asked.Lines c) bytes = OfLines c bytes
+DueOf (asked.Reorient n) bytes = OfFile bytes (OfReorient n)
 
 -- what is owed for these words and the file's bytes
 abbrev pub Due : List (List ℕ) → List ℕ → Owed

@@ -1,15 +1,28 @@
 -- What the definitions say of answers and texts.
-use Rattle.std.specs.Prelude.{◌≡◌, ◌≤◌, ◌↔◌, ℕ, List, Ok, length}
+use Rattle.std.specs.Prelude.{◌≡◌, ◌≤◌, ◌↔◌, ◌⊎◌, ℕ, List, Ok, Option, Some, None, length}
+use Rattle.std.specs.List.{AllZip}
 use Rattle.iges_base.specs.declared.TheConstants.{FILE_LIMIT}
 use Rattle.line_layout.specs.Relaid.{relaid}
 use Rattle.command_replies.specs.declared.answer.Answer.{Answer}
 use Rattle.command_replies.specs.declared.answer.Answer.TheVariants.{Done}
-use Rattle.repair_commands.specs.declared.asked.Asked.TheVariants.{Layout}
-use Rattle.repair_commands.specs.Due.{Due, DueOf}
+use Rattle.cert_lines.specs.Line.{cut_lines}
+use Rattle.orient_commands.specs.Laws.{AreSameOrRings}
+use Rattle.repair_commands.specs.declared.asked.LineCommand.TheVariants.{Layout}
+use Rattle.repair_commands.specs.declared.asked.Asked.{Asked}
+use Rattle.repair_commands.specs.declared.asked.Asked.TheVariants as asked
+use Rattle.repair_commands.specs.Asked.{asked_of}
+use Rattle.repair_commands.specs.Due.{Due, OfLines}
+
+-- one text, but for which rings an orientation names
+abbrev pub AreOneText : Option Asked → List ℕ → List ℕ → Type 0
+AreOneText None t u = t ≡ u
+AreOneText (Some (asked.Lines c)) t u = t ≡ u
+AreOneText (Some (asked.Reorient n)) t u = (t ≡ u) ⊎ AllZip AreSameOrRings (cut_lines t) (cut_lines u)
 
 -- Two that are owed have one answer and one text.
 abbrev pub OneAnswerIsOwed : Type 0
-OneAnswerIsOwed = (words : List (List ℕ)) (bytes : List ℕ) (a b : Answer) (t u : List ℕ) → Due words bytes a t → Due words bytes b u → (a ≡ b) × (t ≡ u)
+OneAnswerIsOwed = (words : List (List ℕ)) (bytes : List ℕ) (a b : Answer) (t u : List ℕ) → Due words bytes a t → Due words bytes b u
+    → (a ≡ b) × AreOneText (asked_of words) t u
 
 -- Some answer is owed, and a text.
 abbrev pub SomeAnswerIsOwed : Type 0
@@ -17,4 +30,4 @@ SomeAnswerIsOwed = (words : List (List ℕ)) (bytes : List ℕ) → (a : Answer)
 
 -- Of the layout of a file within the limit, yes is answered exactly where the file that is made is the bytes themselves.
 abbrev pub InLayoutIsTold : Type 0
-InLayoutIsTold = (bytes : List ℕ) (a : Answer) (t : List ℕ) → length bytes ≤ FILE_LIMIT → DueOf Layout bytes a t → (a ≡ Done) ↔ (relaid bytes ≡ Ok bytes)
+InLayoutIsTold = (bytes : List ℕ) (a : Answer) (t : List ℕ) → length bytes ≤ FILE_LIMIT → OfLines Layout bytes a t → (a ≡ Done) ↔ (relaid bytes ≡ Ok bytes)

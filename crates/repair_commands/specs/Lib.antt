@@ -1,5 +1,8 @@
 pub mod Asked
 pub mod Texts
+pub mod SolidTexts
+pub mod SolidDue
 pub mod Due
 pub mod Outcome
+pub mod SolidLaws
 pub mod Laws

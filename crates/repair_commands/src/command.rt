@@ -5,18 +5,47 @@ ghost use Rattle.iges_io.specs.Faults.{Rose};
 ghost use Rattle.iges_io.specs.Reading.{TakesAtMost};
 ghost use Rattle.std.specs.Prelude.{◌≡◌, ◌+◌, ◌<◌, ◌⊎◌, IfOk, IsErrOf, IsNone, IsSome};
 ghost use Rattle.repair_commands.specs.Asked.{asked_of};
-ghost use Rattle.repair_commands.specs.Due.{DueOf};
+ghost use Rattle.repair_commands.specs.Due.{DueOf, OfLines};
 ghost use Rattle.repair_commands.specs.Outcome.{Finishes, IsComplete, IsOwed, Outcome};
 
-use crate::asked::Asked;
+use crate::asked::{Asked, LineCommand};
+use crate::reorienting::reorient_solid;
 use crate::replies::{bytes_reply, usage_reply};
 use crate::words::Words;
-use command_replies::{Answer, Reply, Stop, bytes_in};
+use command_replies::{Answer, Reply, Stop, bytes_in, file_in};
 use iges_base::FILE_LIMIT;
 use iges_io::{PIECE, Sink, Source, write_all};
 use std::alloc::Global;
 
-// The reply to what is asked of the bytes of a source.
+// The reply to a command on the lines of a source.
+fn lines_reply<F: Source>(alloc: Global, command: LineCommand, file: &mut F) -> Result<Reply, Stop>
+    requires { F.can_read file.old }
+    ensures found { IfOk result (IsReply (OfLines command) (F.left file.old)) }
+    ensures whole { IfOk result (λ reply. ReadsWhole (F.left file.new) reply.answer) }
+    ensures count { CountAfterCall (F.faults file.old) (F.faults file.new) result }
+    ensures taken { TakesWithin FILE_LIMIT (F.left file.old) (F.left file.new) result }
+{
+    match bytes_in(alloc, file, FILE_LIMIT)? {
+        Ok(bytes) => Ok(bytes_reply(alloc, command, bytes.as_slice())?),
+        Err(reply) => Ok(reply),
+    }
+}
+
+// The reply where the solid of this number is to be reoriented.
+fn solid_reply<F: Source>(alloc: Global, no: u32, file: &mut F) -> Result<Reply, Stop>
+    requires { F.can_read file.old }
+    ensures found { IfOk result (IsReply (DueOf (Asked.Reorient no)) (F.left file.old)) }
+    ensures whole { IfOk result (λ reply. ReadsWhole (F.left file.new) reply.answer) }
+    ensures count { CountAfterCall (F.faults file.old) (F.faults file.new) result }
+    ensures taken { TakesWithin FILE_LIMIT (F.left file.old) (F.left file.new) result }
+{
+    match file_in(alloc, file)? {
+        Ok(file) => Ok(reorient_solid(alloc, file, no)?),
+        Err(reply) => Ok(reply),
+    }
+}
+
+// The reply to what is asked of a source.
 fn source_reply<F: Source>(alloc: Global, asked: Asked, file: &mut F) -> Result<Reply, Stop>
     requires { F.can_read file.old }
     ensures found { IfOk result (IsReply (DueOf asked) (F.left file.old)) }
@@ -24,9 +53,9 @@ fn source_reply<F: Source>(alloc: Global, asked: Asked, file: &mut F) -> Result<
     ensures count { CountAfterCall (F.faults file.old) (F.faults file.new) result }
     ensures taken { TakesWithin FILE_LIMIT (F.left file.old) (F.left file.new) result }
 {
-    match bytes_in(alloc, file, FILE_LIMIT)? {
-        Ok(bytes) => Ok(bytes_reply(alloc, asked, bytes.as_slice())?),
-        Err(reply) => Ok(reply),
+    match asked {
+        Asked::Lines(command) => lines_reply(alloc, command, file),
+        Asked::Reorient(no) => solid_reply(alloc, no, file),
     }
 }
 

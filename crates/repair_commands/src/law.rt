@@ -1,4 +1,5 @@
 ghost use Rattle.repair_commands.specs.Laws.{InLayoutIsTold, OneAnswerIsOwed, SomeAnswerIsOwed};
+ghost use Rattle.repair_commands.specs.SolidLaws.{OneReorientAnswer, SomeReorientAnswer, UnorientedIsNo};
 
 /// For given words and bytes at most one answer is owed, and one text with it.
 pub fn one_answer()
@@ -13,4 +14,16 @@ pub fn some_answer()
 /// Of a layout yes is answered exactly where nothing is changed.
 pub fn in_layout_is_told()
     ensures { InLayoutIsTold }
+{}
+
+/// One answer is owed of reorienting a solid, and one text but for which rings it names; in a file within its limits some
+/// answer is owed (own).
+pub fn one_reorient_answer()
+    ensures one { OneReorientAnswer }
+    ensures some { SomeReorientAnswer }
+{}
+
+/// Of a solid that has no flags no is answered: what `orient` owes of it is never an orientation without a ring (own).
+pub fn unoriented_is_no()
+    ensures { UnorientedIsNo }
 {}

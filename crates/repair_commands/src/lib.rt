@@ -3,12 +3,14 @@
 
 mod asked;
 mod command;
+mod extracting;
 mod law;
+mod reorienting;
 mod replies;
 mod report;
 mod words;
 
-pub use asked::Asked;
+pub use asked::{Asked, LineCommand};
 pub use command::run_repair;
-pub use law::{in_layout_is_told, one_answer, some_answer};
+pub use law::{in_layout_is_told, one_answer, one_reorient_answer, some_answer, unoriented_is_no};
 pub use words::Words;

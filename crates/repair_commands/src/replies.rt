@@ -1,19 +1,19 @@
-//! The replies to what is asked of a file.
+//! The replies to what is asked of the lines of a file.
 
 ghost use Rattle.iges_base.specs.declared.TheConstants.{FILE_LIMIT};
 ghost use Rattle.repair_commands.specs.Asked.{usage_line};
-ghost use Rattle.repair_commands.specs.Due.{DueOf, IsLaid, OfLayout, OfNoLayout};
+ghost use Rattle.repair_commands.specs.Due.{OfLines, IsLaid, OfLayout, OfNoLayout};
 ghost use Rattle.repair_commands.specs.Texts.{bad_layout_line, changes_text, in_layout_line};
 ghost use Rattle.std.specs.Prelude.{◌≡◌, ◌≤◌, IfOk, MatchResult, length};
 
-use crate::asked::Asked;
+use crate::asked::LineCommand;
 use crate::report::{put_bad_layout, put_changes};
 use command_replies::{Answer, Reply, too_large};
 use iges_base::{Bytes, FILE_LIMIT, NoMemory, Out};
 use line_layout::{LayoutFault, RelaidFault, relaid};
 use std::alloc::Global;
 
-const USAGE: &[u8] = b"usage: igesolid-repair relayout FILE | layout FILE\n";
+const USAGE: &[u8] = b"usage: igesolid-repair relayout FILE | layout FILE | reorient FILE N\n";
 
 const IN_LAYOUT: &[u8] = b"in layout\n";
 
@@ -83,7 +83,7 @@ fn not_in_layout(alloc: Global, bytes: &[u8]) -> Result<Reply, NoMemory>
 // The reply on the bytes of a file, of which this one is made.
 fn layout_reply(alloc: Global, bytes: &[u8], text: &[u8]) -> Result<Reply, NoMemory>
     requires { length bytes.now ≤ FILE_LIMIT }
-    ensures { IfOk result (λ reply. OfLayout bytes.now text.now Asked.Layout
+    ensures { IfOk result (λ reply. OfLayout bytes.now text.now LineCommand.Layout
         reply.answer reply.text) }
 {
     if bytes == text {
@@ -92,26 +92,31 @@ fn layout_reply(alloc: Global, bytes: &[u8], text: &[u8]) -> Result<Reply, NoMem
     not_in_layout(alloc, bytes)
 }
 
-fn laid_reply(alloc: Global, asked: Asked, bytes: &[u8], text: Bytes) -> Result<Reply, NoMemory>
+fn laid_reply(
+    alloc: Global,
+    command: LineCommand,
+    bytes: &[u8],
+    text: Bytes,
+) -> Result<Reply, NoMemory>
     requires { length bytes.now ≤ FILE_LIMIT }
-    ensures { IfOk result (λ reply. OfLayout bytes.now text asked reply.answer reply.text) }
+    ensures { IfOk result (λ reply. OfLayout bytes.now text command reply.answer reply.text) }
 {
-    match asked {
-        Asked::Relayout => Ok(Reply {
+    match command {
+        LineCommand::Relayout => Ok(Reply {
             answer: Answer::Done,
             text,
         }),
-        Asked::Layout => layout_reply(alloc, bytes, text.as_slice()),
+        LineCommand::Layout => layout_reply(alloc, bytes, text.as_slice()),
     }
 }
 
-/// The reply to what is asked of the bytes of a file.
-pub fn bytes_reply(alloc: Global, asked: Asked, bytes: &[u8]) -> Result<Reply, NoMemory>
+/// The reply to a command on the lines of bytes.
+pub fn bytes_reply(alloc: Global, command: LineCommand, bytes: &[u8]) -> Result<Reply, NoMemory>
     requires { length bytes.now ≤ FILE_LIMIT }
-    ensures { IfOk result (λ reply. DueOf asked bytes.now reply.answer reply.text) }
+    ensures { IfOk result (λ reply. OfLines command bytes.now reply.answer reply.text) }
 {
     match laid(alloc, bytes)? {
-        Ok(text) => laid_reply(alloc, asked, bytes, text),
+        Ok(text) => laid_reply(alloc, command, bytes, text),
         Err(reply) => Ok(reply),
     }
 }

@@ -1,0 +1,4 @@
+pub mod Choice
+pub mod Suiting
+pub mod Turned
+pub mod Laws

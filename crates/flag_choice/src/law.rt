@@ -1,0 +1,21 @@
+//! What is chosen, of which lists.
+
+ghost use Rattle.flag_choice.specs.Laws.{OneChoice, OwnAreChosen, SuitedIsSewn, SuitOrients, TwoListsOrient};
+
+/// Under the flags that suit a shell the two uses of each edge run in opposite directions, and under no other list but
+/// its reverse; they are the faces' own flags, where the uses do so under those (own).
+pub fn two_lists_orient()
+    ensures orient { SuitOrients }
+    ensures two { TwoListsOrient }
+    ensures own { OwnAreChosen }
+{}
+
+/// A solid has one choice of flags (own).
+pub fn one_choice()
+    ensures { OneChoice }
+{}
+
+/// With flags that suit a shell in place of its faces' PAIR and REACH hold of it (own).
+pub fn suited_is_sewn()
+    ensures { SuitedIsSewn }
+{}

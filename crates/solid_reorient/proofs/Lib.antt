@@ -1,0 +1,13 @@
+pub mod Putting
+pub mod FlagsFound
+pub mod Noting
+pub mod Entries
+pub mod Emptied
+pub mod Kept
+pub mod ShellValues
+pub mod StillHold
+pub mod ReflaggedSolid
+pub mod OneFile
+pub mod ShellAgain
+pub mod RecordAgain
+pub mod FileAgain

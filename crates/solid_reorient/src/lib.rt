@@ -1,0 +1,14 @@
+//! The file of one solid, with face flags under which each of its edges is used in opposite directions.
+#![tactic(auto)]
+
+mod flag_values;
+mod law;
+mod reflagging;
+mod reorienting;
+mod table;
+
+pub use law::{
+    one_reorientation, reflagged_is_extracted, reflagged_is_made, reflagged_solid_is_turned,
+};
+pub use reflagging::reflagged;
+pub use reorienting::{into_reorient, solid_flags};
