@@ -22,7 +22,7 @@ use Rattle.edge_uses.specs.declared.row.Row.{Row}
 use Rattle.edge_uses.specs.RowRelations.{row_count, IsPaired, AreMates, OnFace}
 use Rattle.edge_uses.specs.Around.{AreNeighbours}
 use Rattle.shell_rules.specs.Closed.{IsClosedShell}
-use Rattle.shell_rules.specs.Closed as closed
+use Rattle.edge_uses.specs.Around as around
 use Rattle.edge_uses.specs.ShellRows.{ShellRows, row_of, loop_rows, shell_rows, rows_of}
 use Rattle.edge_uses.proofs.Counting.{counted, counts_of_edge, found_row}
 use Rattle.orient_certificate.specs.Partners.{HasTwoRows, AllHaveTwoRows, Adjoin, IsReached, AllReached}
@@ -188,7 +188,7 @@ module _ (c d : ShellRows) (alike : AllZip Alike c.rows d.rows) (differ : Partne
       } in
       (r, m, mates, face_alike a r on_a, face_alike b m on_b)
 
-  reached_face : (face : ℕ) → IsReached c face → closed.IsReached d face
+  reached_face : (face : ℕ) → IsReached c face → around.IsReached d face
   reached_face face (n, steps) = (n, steps_map (Adjoin c) (AreNeighbours d) neighbours n 0 face steps)
 
 -- A shell with flags that fit.
@@ -239,10 +239,10 @@ module _ (s : SolidData) (all : List (List Bool)) (k : ℕ) (h : Shell) (flags :
       (AllByRecursion-weaker (HasTwoRows old) (IsPaired new) old.edges (λ e two. paired_edge new new_differ e (two_rows_alike old new e rows_alike two))
       old_two)
 
-  new_reached : AllByRecursion (closed.IsReached new) (numbers_from 0 (length turned.faces))
+  new_reached : AllByRecursion (around.IsReached new) (numbers_from 0 (length turned.faces))
   new_reached =
-      subst (λ n. AllByRecursion (closed.IsReached new) (numbers_from 0 n)) (faces_in s h ∙ sym (length-with flags h.faces long))
-      (AllByRecursion-weaker (IsReached old) (closed.IsReached new) (numbers_from 0 old.face_count)
+      subst (λ n. AllByRecursion (around.IsReached new) (numbers_from 0 n)) (faces_in s h ∙ sym (length-with flags h.faces long))
+      (AllByRecursion-weaker (IsReached old) (around.IsReached new) (numbers_from 0 old.face_count)
       (λ face reached. reached_face old new rows_alike new_differ face reached) old_reached)
 
   turned_closed : JoinsAndLinks (solid_with all s) k turned → IsClosedShell (solid_with all s) k turned
