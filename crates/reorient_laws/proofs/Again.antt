@@ -38,7 +38,7 @@ module _ (f : Contents) (n : ℕ) (new : Contents) (r : IsReoriented f n new) (w
   suits =
       let writable : IsWritable new = reoriented_writable f new n w r in
       let numbered : IsNumberedSolid (solid_of new m) = found.solid_is_numbered new m (places_new f n new r)
-          (has_few_parts new m writable.made.limits (places_new f n new r)) in
+      (has_few_parts new m writable.made.limits (places_new f n new r)) in
       sewn_suits (solid_of new m) numbered (λ k h at. record { paired = paired f n new r k h at; reached = reached f n new r k h at })
 
   has : HasFlags new m (own_flags (solid_of new m))
@@ -50,7 +50,7 @@ counted : (g : Contents) (m : ℕ) (flags : List (List Bool)) → AreListsFor fl
 unfolding solid_of
 counted g m flags z =
     zip_unmapped (λ (y : List Bool) (h : Shell). length y ≡ length h.faces) (λ (y : List Bool) (i : ℤ × Bool). length y ≡ length (faces g i.0))
-        (shell_by g (keys_of g (pos m))) flags (shells g (pos m))
+    (shell_by g (keys_of g (pos m))) flags (shells g (pos m))
     (λ y i e. e ∙ length-map (faces g i.0) (face_by g (keys_of g (pos m)))) z
 
 -- the new file is what is extracted of it
@@ -59,7 +59,7 @@ still_extracted f n new r =
     let g : Contents = r.«between» in
     subst (λ (c : Contents). IsExtracted c (number_in f n new r n) c) (sym r.is)
     (extracted_still r.«between» (number_in f n new r n) r.flags (extracted_again f r.«between» n r.extracted)
-        (counted r.«between» (number_in f n new r n) r.flags (lists f n new r)))
+    (counted r.«between» (number_in f n new r n) r.flags (lists f n new r)))
 
 pub reoriented_again : ReorientedAgain
 reoriented_again f n new r w =
@@ -75,6 +75,6 @@ reoriented_again f n new r w =
       },
       λ again q.
           own_flags_stay new (number_in f n new r n) again q
-              (one_flags (solid_of new (number_in f n new r n)) q.flags (own_flags (solid_of new (number_in f n new r n))) q.fit.suit (suits f n new r w))
+          (one_flags (solid_of new (number_in f n new r n)) q.flags (own_flags (solid_of new (number_in f n new r n))) q.fit.suit (suits f n new r w))
           ∙ IsExtracted-unique new (number_in f n new r n) q.«between» new q.extracted e,
     )

@@ -84,14 +84,14 @@ module _ (s : SolidData) (k : ℕ) (h : Shell) (numbered : IsNumberedSolid s) (a
       → v ≡ not w
   ways r m a b ra rb same apart true true va wb =
       absurd (apart (one_place (λ (x : Row). (x.edge.0 == a.edge.0) && x.along) d.rows
-          (sym (count_by-total (λ (x : Row). (x.edge.0 == a.edge.0) && x.along) d.rows) ∙ (paired_at r a ra).0) r m a b ra rb
+      (sym (count_by-total (λ (x : Row). (x.edge.0 == a.edge.0) && x.along) d.rows) ∙ (paired_at r a ra).0) r m a b ra rb
       (and_from (a.edge.0 == a.edge.0) a.along (eq-eqb a.edge.0 a.edge.0 refl) va)
       (and_from (b.edge.0 == a.edge.0) b.along (eq-eqb b.edge.0 a.edge.0 (sym (ap (λ (i : EdgeId). i.0) same))) wb)))
   ways r m a b ra rb same apart true false va wb = refl
   ways r m a b ra rb same apart false true va wb = refl
   ways r m a b ra rb same apart false false va wb =
       absurd (apart (one_place (λ (x : Row). (x.edge.0 == a.edge.0) && not x.along) d.rows
-          (sym (count_by-total (λ (x : Row). (x.edge.0 == a.edge.0) && not x.along) d.rows) ∙ (paired_at r a ra).1) r m a b ra rb
+      (sym (count_by-total (λ (x : Row). (x.edge.0 == a.edge.0) && not x.along) d.rows) ∙ (paired_at r a ra).1) r m a b ra rb
       (and_from (a.edge.0 == a.edge.0) (not a.along) (eq-eqb a.edge.0 a.edge.0 refl) (not_from_false a.along va))
       (and_from (b.edge.0 == a.edge.0) (not b.along) (eq-eqb b.edge.0 a.edge.0 (sym (ap (λ (i : EdgeId). i.0) same))) (not_from_false b.along wb))))
 
@@ -149,12 +149,15 @@ closed_at : (s : SolidData) (k : ℕ) (h : Shell) → IsClosedSolid s → slice_
 closed_at s k h c at =
     let none : 0 + k ≡ k = omega arith in
     all_at (λ (x : ℕ × Shell). IsClosedShell s x.0 x.1) (enumerate_from 0 s.shells) k (k, h) c (get_enumerated 0 s.shells k
-        ∙ (ap (option_map (λ (x : Shell). (0 + k, x))) at ∙ ap (λ j. Some (j, h)) none))
+    ∙ (ap (option_map (λ (x : Shell). (0 + k, x))) at ∙ ap (λ j. Some (j, h)) none))
 
 -- its own flags suit a solid whose shells are sewn
 pub sewn_suits : (s : SolidData) → IsNumberedSolid s → ((k : ℕ) (h : Shell) → slice_get s.shells k ≡ Some h → IsSewn s h) → AllSuit s (own_flags s)
-sewn_suits s numbered c = record { each = length-map s.shells flags_of; suit = λ k x at. by_shell k x (slice_get s.shells k) refl
-    (sym (slice_get-map flags_of s.shells k) ∙ at) }
+sewn_suits s numbered c = record {
+  each = length-map s.shells flags_of;
+  suit = λ k x at. by_shell k x (slice_get s.shells k) refl
+      (sym (slice_get-map flags_of s.shells k) ∙ at);
+}
   where
     by_shell : (k : ℕ) (x : List Bool) (o : Option Shell) → slice_get s.shells k ≡ o → option_map flags_of o ≡ Some x → FlagsSuit s k x
     by_shell k x None at e = absurd (none-some x e)

@@ -100,7 +100,7 @@ module _ (f : Contents) (n : ℕ) (new : Contents) (r : IsReoriented f n new) wh
       let here : AllByRecursion (IsPaired (shell_rows t (shell_with p.0 p.1))) (let d = shell_rows t (shell_with p.0 p.1) in d.edges) =
       new_paired s r.flags k p.1 p.0 p.3 suit in
       let there : AllByRecursion (IsPaired (shell_rows t b.0)) (let d = shell_rows t b.0 in d.edges) = subst
-          (λ (x : Shell). AllByRecursion (IsPaired (shell_rows t x)) (let d = shell_rows t x in d.edges)) p.4 here in
+      (λ (x : Shell). AllByRecursion (IsPaired (shell_rows t x)) (let d = shell_rows t x in d.edges)) p.4 here in
       subst (λ (d : ShellRows). AllByRecursion (IsPaired d) d.edges) (shell_rows_same (kept_names r.extracted.kept) t u rel b.0 h b.2) there
 
   pub reached : (k : ℕ) (h : Shell) → slice_get u.shells k ≡ Some h → AllByRecursion (IsReached (shell_rows u h)) (numbers_from 0 (length h.faces))
@@ -112,11 +112,11 @@ module _ (f : Contents) (n : ℕ) (new : Contents) (r : IsReoriented f n new) wh
       let here : AllByRecursion (IsReached (shell_rows t (shell_with p.0 p.1))) (numbers_from 0 (let x = shell_with p.0 p.1 in length x.faces)) =
       new_reached s r.flags k p.1 p.0 p.3 suit in
       let there : AllByRecursion (IsReached (shell_rows t b.0)) (numbers_from 0 (length b.0.faces)) = subst
-          (λ (x : Shell). AllByRecursion (IsReached (shell_rows t x)) (numbers_from 0 (length x.faces))) p.4 here in
+      (λ (x : Shell). AllByRecursion (IsReached (shell_rows t x)) (numbers_from 0 (length x.faces))) p.4 here in
       subst (λ (m : ℕ). AllByRecursion (IsReached (shell_rows u h)) (numbers_from 0 m))
-          (zip_length (IsRelabelledFace (kept_names r.extracted.kept)) b.0.faces h.faces b.2.faces)
+      (zip_length (IsRelabelledFace (kept_names r.extracted.kept)) b.0.faces h.faces b.2.faces)
       (subst (λ (d : ShellRows). AllByRecursion (IsReached d) (numbers_from 0 (length b.0.faces)))
-          (shell_rows_same (kept_names r.extracted.kept) t u rel b.0 h b.2) there)
+      (shell_rows_same (kept_names r.extracted.kept) t u rel b.0 h b.2) there)
 
   pub exactly : IsClosedSolid t ↔ IsClosed new (number_in f n new r n)
   exactly =

@@ -59,7 +59,7 @@ named_odd : (g : Contents) (k : ℕ) (r : Record) → slice_get g.entries k ≡ 
 named_odd g k r at kind =
     cond-true ((2 * k + 1) % 2 == 1) (unless_unused kind_of (slice_get g.entries ((2 * k + 1) / 2))) None (eq-eqb ((2 * k + 1) % 2) 1 (odd_is k))
     ∙ (ap (λ (i : ℕ). unless_unused kind_of (slice_get g.entries i)) (place_is k)
-        ∙ (ap (unless_unused kind_of) at ∙ cond-false (int_eq r.0.kind (pos 0)) None (Some r) kind))
+    ∙ (ap (unless_unused kind_of) at ∙ cond-false (int_eq r.0.kind (pos 0)) None (Some r) kind))
 
 entries_stay : (fs : List (List Bool)) (zs : List ℤ) (k : ℕ) (rs : List Record)
     → ((j : ℕ) (r : Record) → slice_get rs j ≡ Some r → reflagged_values (flags_for fs zs (2 * (k + j) + 1)) r ≡ r.1)
@@ -68,10 +68,10 @@ entries_stay fs zs k [] each = refl
 entries_stay fs zs k (r ∷ rs) each =
     let none : k + 0 ≡ k = omega arith in
     ap (λ (vs : List Value). let q : Record = (r.0, vs) in q ∷ map (reflagged_record fs zs) (enumerate_from (k + 1) rs))
-        (subst (λ j. reflagged_values (flags_for fs zs (2 * j + 1)) r ≡ r.1) none (each 0 r refl))
+    (subst (λ j. reflagged_values (flags_for fs zs (2 * j + 1)) r ≡ r.1) none (each 0 r refl))
     ∙ ap (λ (qs : List Record). r ∷ qs) (entries_stay fs zs (k + 1) rs
-        (λ j q at. subst (λ i. reflagged_values (flags_for fs zs (2 * i + 1)) q ≡ q.1) (let next : k + suc j ≡ k + 1 + j = omega arith in next)
-        (each (suc j) q at)))
+    (λ j q at. subst (λ i. reflagged_values (flags_for fs zs (2 * i + 1)) q ≡ q.1) (let next : k + suc j ≡ k + 1 + j = omega arith in next)
+    (each (suc j) q at)))
 
 module _ (g : Contents) where
   -- the flags leave the entry that the number names as it is
@@ -102,8 +102,8 @@ module _ (g : Contents) where
   file_stays n fs own =
       let entries : map (reflagged_record fs (numbers (shells g (pos n)))) (enumerate_from 0 g.entries) ≡ g.entries =
       entries_stay fs (numbers (shells g (pos n))) 0 g.entries
-          (λ j r at. let none : 0 + j ≡ j = omega arith in subst (λ i. reflagged_values (flags_for fs (numbers (shells g (pos n))) (2 * i + 1)) r ≡ r.1)
-          (sym none) (entry_stays fs (numbers (shells g (pos n))) own j r at)) in
+      (λ j r at. let none : 0 + j ≡ j = omega arith in subst (λ i. reflagged_values (flags_for fs (numbers (shells g (pos n))) (2 * i + 1)) r ≡ r.1)
+      (sym none) (entry_stays fs (numbers (shells g (pos n))) own j r at)) in
       λ i. record { start = g.start; global = g.global; entries = entries i }
 
   -- the flags that a shell's record has
@@ -111,7 +111,7 @@ module _ (g : Contents) where
   shell_own z x a e r at =
       let same : a.entry ≡ r = same_Some a.entry r (sym a.at ∙ at) in
       let typed : int_eq r.0.kind (type_number shell) ≡ true = (Decides-int_eq r.0.kind (type_number shell)).1 (sym (ap (λ (q : Record). q.0.kind) same)
-          ∙ a.typed) in
+      ∙ a.typed) in
       let told_as : faces g z ≡ items_of shell r.1 = ap (λ (o : Option Record). items_of shell (record_values o)) at in
       shell_changes x r typed
       ∙ (ap (λ (bs : List Bool). values_with bs r.1) (e ∙ ap second told_as) ∙ record_own r.1 (subst (λ (q : Record). IsRecordOf shell q.1) same a.is))
@@ -123,8 +123,10 @@ module _ (g : Contents) where
   shells_own : (keys : Keys) (items : List (ℤ × Bool)) → AllByRecursion (λ (i : ℤ × Bool). At g shell i.0) items
       → AllZip IsOwn (map (λ (h : Shell). map (λ (f : FaceUse). f.flag) h.faces) (map (shell_by g keys) items)) (numbers items)
   shells_own keys [] all = tt
-  shells_own keys (i ∷ items) all = (shell_own i.0 (map (λ (f : FaceUse). f.flag) (map (face_by g keys) (faces g i.0))) all.0 (faces_flags keys (faces g i.0)),
-      shells_own keys items all.1)
+  shells_own keys (i ∷ items) all = (
+    shell_own i.0 (map (λ (f : FaceUse). f.flag) (map (face_by g keys) (faces g i.0))) all.0 (faces_flags keys (faces g i.0)),
+    shells_own keys items all.1,
+  )
 
 -- ---- other names
 
@@ -162,8 +164,8 @@ own_flags_stay f n new r own =
     let rel : IsRelabelled (kept_names r.extracted.kept) (solid_of f n) (solid_of r.«between» (new_number r.extracted.kept n)) = told f n new r in
     let flags : r.flags ≡ own_flags (solid_of r.«between» (new_number r.extracted.kept n)) =
     own ∙ flags_same (kept_names r.extracted.kept) (let s = solid_of f n in s.shells)
-        (let s = solid_of r.«between» (new_number r.extracted.kept n) in s.shells) rel.shells in
+    (let s = solid_of r.«between» (new_number r.extracted.kept n) in s.shells) rel.shells in
     r.is
     ∙ (ap (reflagged r.«between» (new_number r.extracted.kept n)) flags
     ∙ file_stays r.«between» (new_number r.extracted.kept n) (own_flags (solid_of r.«between» (new_number r.extracted.kept n)))
-        (own_in r.«between» (new_number r.extracted.kept n) (places_between f n new r)))
+    (own_in r.«between» (new_number r.extracted.kept n) (places_between f n new r)))

@@ -32,8 +32,11 @@ zip_from : {A B : Type 0} (Q : A → B → Type 0) (xs : List A) (ys : List B) �
 zip_from Q [] [] e each = tt
 zip_from Q [] (y ∷ ys) e each = absurd (omega (arith, e))
 zip_from Q (x ∷ xs) [] e each = absurd (omega (arith, e))
-zip_from Q (x ∷ xs) (y ∷ ys) e each = (each 0 x y refl refl, zip_from Q xs ys (let less : length xs ≡ length ys = omega (arith, e) in less)
-    (λ k a b p q. each (suc k) a b p q))
+zip_from Q (x ∷ xs) (y ∷ ys) e each = (
+  each 0 x y refl refl,
+  zip_from Q xs ys (let less : length xs ≡ length ys = omega (arith, e) in less)
+      (λ k a b p q. each (suc k) a b p q),
+)
 
 abbrev IsListFor : List Bool → Shell → Type 0
 IsListFor x h = length x ≡ length h.faces
@@ -72,8 +75,10 @@ module _ (N : Names) where
   shells_renamed (x ∷ flags) [] [] z = tt
   shells_renamed (x ∷ flags) [] (k ∷ ks) z = absurd z
   shells_renamed (x ∷ flags) (h ∷ hs) [] z = absurd z
-  shells_renamed (x ∷ flags) (h ∷ hs) (k ∷ ks) z = (record { entity = z.0.entity; flag = z.0.flag; faces = faces_renamed x h.faces k.faces z.0.faces },
-      shells_renamed flags hs ks z.1)
+  shells_renamed (x ∷ flags) (h ∷ hs) (k ∷ ks) z = (
+    record { entity = z.0.entity; flag = z.0.flag; faces = faces_renamed x h.faces k.faces z.0.faces },
+    shells_renamed flags hs ks z.1,
+  )
 
   pub solid_renamed : (flags : List (List Bool)) (s t : SolidData) → IsRelabelled N s t → IsRelabelled N (turned flags s) (turned flags t)
   solid_renamed flags s t k = record { entity = k.entity; shells = shells_renamed flags s.shells t.shells k.shells; edges = k.edges; vertices = k.vertices }

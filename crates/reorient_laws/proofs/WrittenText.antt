@@ -36,7 +36,7 @@ pairs_held (b ∷ bs) (p ∷ v ∷ vs) h =
     let parts = and_parts (is_value p) (list_all is_value (v ∷ vs)) h in
     let rest = and_parts (is_value v) (list_all is_value vs) parts.1 in
     and_from (is_value p) (list_all is_value (flag_value b ∷ pairs_with bs vs)) parts.0
-        (and_from (is_value (flag_value b)) (list_all is_value (pairs_with bs vs)) (flag_held b) (pairs_held bs vs rest.1))
+    (and_from (is_value (flag_value b)) (list_all is_value (pairs_with bs vs)) (flag_held b) (pairs_held bs vs rest.1))
 
 values_held : (bs : List Bool) (vs : List Value) → list_all is_value vs ≡ true → list_all is_value (values_with bs vs) ≡ true
 values_held bs [] h = h

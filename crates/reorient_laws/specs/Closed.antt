@@ -25,7 +25,7 @@ number_in f n new r m = new_number r.extracted.kept m
 abbrev pub SolidIsReoriented : Type 0
 SolidIsReoriented = (f : Contents) (n : ℕ) (new : Contents) (r : IsReoriented f n new)
     → AllHold (places new (number_in f n new r n))
-        × IsRelabelled (kept_names r.extracted.kept) (turned r.flags (solid_of f n)) (solid_of new (number_in f n new r n))
+    × IsRelabelled (kept_names r.extracted.kept) (turned r.flags (solid_of f n)) (solid_of new (number_in f n new r n))
 
 -- PAIR holds there: each edge of each shell is used once along it and once against it.
 abbrev pub ReorientedIsPaired : Type 0
@@ -42,4 +42,4 @@ ClosedWithFlags = (f : Contents) (n : ℕ) (new : Contents) (r : IsReoriented f 
 abbrev pub ReorientedIsClosed : Type 0
 ReorientedIsClosed = (f : Contents) (n : ℕ) (new : Contents) (r : IsReoriented f n new)
     → AllByRecursion (λ (h : ℕ × Shell). JoinsAndLinks (turned r.flags (solid_of f n)) h.0 h.1)
-        (enumerate_from 0 (let s = turned r.flags (solid_of f n) in s.shells)) → IsClosed new (number_in f n new r n)
+    (enumerate_from 0 (let s = turned r.flags (solid_of f n) in s.shells)) → IsClosed new (number_in f n new r n)
