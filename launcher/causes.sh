@@ -123,6 +123,7 @@ say_too_large() {
     case $form in
     'extract FILE N') is_text="the extracted text would have more than 164,000,000 bytes" ;;
     'compact FILE N') is_text="the compact text would have more than 164,000,000 bytes" ;;
+    'reorient FILE N') is_text="the reoriented text would have more than 164,000,000 bytes" ;;
     'relayout FILE' | 'layout FILE') is_text="the file in the layout of the fixed form would have more than 164,000,000 bytes" ;;
     'upgrade FILE CERT') is_text="the upgraded text would have more than 536,870,912 bytes" ;;
     'certify FILE all') is_text="its solids together have more than 6,000,000 loop uses" ;;

@@ -35,7 +35,7 @@ MOST_EDITS = 120
 LAUNCHED = """#!/bin/sh
 [ "$1" != check ] || {{ shift; exec python3 -B '{top}/companion/check' --program '{program}' --where-program '{where}' "$@"; }}
 [ "$1" != where ] || {{ shift; exec '{where}' "$@"; }}
-case $1 in relayout | layout) exec '{repair}' "$@" ;; esac
+case $1 in relayout | layout | reorient) exec '{repair}' "$@" ;; esac
 for word; do
     shift
     [ "$word" != - ] || word=/dev/stdin

@@ -1,11 +1,11 @@
 -- Of the two lists that fit a shell, each the reverse of the other, one is chosen.
-use Rattle.std.specs.Prelude.{◌≡◌, ◌⊎◌, ℕ, suc, Bool, true, false, not, List, [], ◌∷◌, length, Some, slice_get}
+use Rattle.std.specs.Prelude.{◌≡◌, ◌⊎◌, ℕ, suc, Bool, true, false, List, [], ◌∷◌, length, Some, slice_get}
 use Rattle.std.proofs.Common.{refl, sym, ◌∙◌, ap, subst, inl, inr, arith}
 use Rattle.solid_data.specs.SolidData.{SolidData}
 use Rattle.orient_certificate.specs.Flags.{face_flags, FlagsFit}
 use Rattle.orient_certificate.proofs.Lawful.{one_fit}
 use Rattle.flag_choice.specs.Choice.{reversed, chosen}
-use Rattle.flag_choice.specs.Suiting.{FlagsOrient, FlagsSuit, AllSuit}
+use Rattle.flag_choice.specs.Suiting.{FlagsOrient, FlagsSuit}
 use Rattle.flag_choice.specs.Laws.{SuitOrients, TwoListsOrient, OwnAreChosen, OneChoice}
 use Rattle.flag_choice.proofs.ChosenLists.{length-reversed, twice_reversed, chosen_either, chosen_own}
 use Rattle.flag_choice.proofs.Reversing.{reversed_differ}

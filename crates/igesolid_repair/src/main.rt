@@ -1,4 +1,4 @@
-//! `igesolid-repair`: an IGES file in the layout of the fixed form, and what is changed to make it.
+//! `igesolid-repair`: an IGES file in the layout of the fixed form, what is changed to make it, and a solid with face flags that fit.
 #![tactic(auto)]
 
 ghost use Rattle.command_replies.specs.Answer.{code_of};

@@ -1,13 +1,11 @@
 -- A solid that is closed has its own flags.
-use Rattle.std.specs.Prelude.{◌≡◌, ◌≢◌, ℕ, zero, suc, ◌+◌, ◌==◌, ◌&&◌, Bool, true, false, not, List, [], ◌∷◌, length, map, slice_get, Option, Some, None}
-use Rattle.std.specs.Prelude.{option_map, count_by, Contains}
+use Rattle.std.specs.Prelude.{◌≡◌, ◌≢◌, ℕ, ◌+◌, ◌==◌, ◌&&◌, Bool, true, false, not, List, [], ◌∷◌, length, map, slice_get, Option, Some, None}
+use Rattle.std.specs.Prelude.{option_map, Contains}
 use Rattle.std.specs.List.{AllByRecursion, enumerate_from}
 use Rattle.std.proofs.Common.{refl, sym, ◌∙◌, ap, subst, arith}
 use Rattle.std.proofs.lemmas.Bool.{eq-eqb, and_from, not_from_false}
 use Rattle.std.proofs.lemmas.List.{length-map}
 use Rattle.std.proofs.lemmas.Option.{none-some, same_Some, slice_get-map}
-use Rattle.iges_params.specs.Contents.{Contents}
-use Rattle.iges_params.specs.Limits.{FitsLimits}
 use Rattle.brep_walk.specs.SolidOf.{solid_of}
 use Rattle.brep_walk.proofs.Few.{has_few_parts}
 use Rattle.brep_walk.proofs.Found as found
@@ -20,22 +18,20 @@ use Rattle.solid_data.specs.declared.solid.Shell.{Shell}
 use Rattle.solid_data.proofs.Members.{All-at, Has-from_Contains, has_get, count_by-total}
 use Rattle.solid_data.proofs.ObligationLemmas.{AllByRecursion-weaker}
 use Rattle.edge_uses.specs.declared.row.Row.{Row}
-use Rattle.edge_uses.specs.RowRelations.{IsPaired, AreMates}
+use Rattle.edge_uses.specs.RowRelations.{IsPaired}
 use Rattle.edge_uses.specs.Around.{AreNeighbours}
 use Rattle.shell_rules.specs.Closed.{IsClosedShell, IsClosedSolid}
 use Rattle.edge_uses.specs.Around as around
 use Rattle.edge_uses.specs.ShellRows.{ShellRows, shell_rows, rows_of, AreRows}
 use Rattle.edge_uses.proofs.Counting.{counts_of_edge, one_place}
 use Rattle.edge_uses.proofs.Whole.{are_rows}
-use Rattle.orient_certificate.specs.Partners.{HasTwoRows, AllHaveTwoRows, ArePartners, Adjoin, IsReached, AllReached}
+use Rattle.orient_certificate.specs.Partners.{HasTwoRows, AllHaveTwoRows, Adjoin, IsReached, AllReached}
 use Rattle.orient_certificate.specs.Flags.{face_flags, faces_with, shell_with, PartnersDiffer}
 use Rattle.orient_certificate.proofs.Crossed.{steps_map}
-use Rattle.solid_verdict.specs.Closed.{IsClosed}
 use Rattle.solid_extract.proofs.Copies.{all_at}
 use Rattle.flag_choice.specs.Choice.{chosen}
 use Rattle.flag_choice.specs.Suiting.{FlagsSuit, AllSuit}
 use Rattle.flag_choice.proofs.ChosenLists.{chosen_own}
-use Rattle.solid_reorient.specs.Reoriented.{IsReoriented}
 use Rattle.solid_reorient.proofs.Entries.{get_enumerated}
 use Rattle.flag_choice.proofs.Two.{one_flags}
 use Rattle.reorient_laws.specs.Stays.{own_flags, ClosedStays}

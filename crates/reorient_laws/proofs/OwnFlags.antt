@@ -1,5 +1,5 @@
 -- Where the flags that are found are the solid's own, nothing changes.
-use Rattle.std.specs.Prelude.{◌≡◌, ℕ, zero, suc, ◌+◌, ◌*◌, ◌/◌, ◌%◌, ◌==◌, Bool, true, false, ℤ, pos, List, [], ◌∷◌, map, flat_map, Option, Some, None}
+use Rattle.std.specs.Prelude.{◌≡◌, ℕ, suc, ◌+◌, ◌*◌, ◌/◌, ◌%◌, ◌==◌, Bool, true, false, ℤ, pos, List, [], ◌∷◌, map, flat_map, Option, Some, None}
 use Rattle.std.specs.Prelude.{slice_get, if◌then◌else◌}
 use Rattle.std.specs.List.{AllByRecursion, AllZip, enumerate_from}
 use Rattle.std.specs.Ordering.{int_eq}
@@ -18,7 +18,6 @@ use Rattle.brep_walk.specs.Places.{shells, faces, numbers, places}
 use Rattle.brep_walk.specs.SolidOf.{face_by, shell_by, keys_of, solid_of}
 use Rattle.brep_numbering.specs.Keys.{Keys}
 use Rattle.solid_data.specs.Obligations.{AllHold}
-use Rattle.solid_data.specs.SolidData.{SolidData}
 use Rattle.solid_data.specs.declared.solid.FaceUse.{FaceUse}
 use Rattle.solid_data.specs.declared.solid.Shell.{Shell}
 use Rattle.entry_references.specs.Refs.{Record}
@@ -26,8 +25,7 @@ use Rattle.entry_references.proofs.Marks.{place_is, odd_is}
 use Rattle.solid_extract.specs.Extracted.{new_number}
 use Rattle.extraction_laws.specs.Kept.{kept_names}
 use Rattle.extraction_laws.specs.Relabelled.{Names, IsRelabelledFace, IsRelabelledShell, IsRelabelled}
-use Rattle.solid_reorient.specs.Reflagged.{flag_value, pairs_with, values_with, flags_for, reflagged_values, reflagged_record, reflagged}
-use Rattle.solid_reorient.specs.Reoriented.{IsReoriented}
+use Rattle.solid_reorient.specs.Reflagged.{pairs_with, values_with, flags_for, reflagged_values, reflagged_record, reflagged}
 use Rattle.solid_reorient.proofs.Entries.{other_stays, shell_changes, none_changes}
 use Rattle.solid_reorient.proofs.StillHold.{At, SameShell, SameSolid, solid_holds}
 use Rattle.reorient_laws.specs.Stays.{own_flags, OwnFlagsStay}

@@ -1,6 +1,6 @@
 -- The solid of a reoriented file is that of its file with the flags that were found, renamed.
-use Rattle.std.specs.Prelude.{◌≡◌, ℕ, suc, ◌<◌, Bool, List, [], ◌∷◌, length, map, Option, Some, slice_get}
-use Rattle.std.specs.List.{AllByRecursion, AllZip}
+use Rattle.std.specs.Prelude.{◌≡◌, ℕ, suc, Bool, List, [], ◌∷◌, length, Option, Some, slice_get}
+use Rattle.std.specs.List.{AllZip}
 use Rattle.std.proofs.Common.{refl, sym, ◌∙◌, ap, subst, arith}
 use Rattle.std.proofs.lemmas.List.{length-map}
 use Rattle.iges_params.specs.Contents.{Contents}
@@ -10,7 +10,7 @@ use Rattle.solid_data.specs.declared.solid.FaceUse.{FaceUse}
 use Rattle.solid_data.specs.declared.solid.Shell.{Shell}
 use Rattle.brep_walk.specs.Places.{places}
 use Rattle.brep_walk.specs.SolidOf.{solid_of}
-use Rattle.orient_certificate.specs.Flags.{face_flags, faces_with, shell_with}
+use Rattle.orient_certificate.specs.Flags.{face_flags, faces_with}
 use Rattle.solid_extract.specs.Extracted.{new_number}
 use Rattle.solid_extract.proofs.Copies.{zip_length}
 use Rattle.extraction_laws.specs.Kept.{kept_names}
@@ -18,12 +18,11 @@ use Rattle.extraction_laws.specs.Relabelled.{Names, IsRelabelledFace, IsRelabell
 use Rattle.extraction_laws.proofs.ExtractedSolid.{places_kept, solid_told}
 use Rattle.flag_choice.specs.Suiting.{FlagsOrient, AllSuit}
 use Rattle.flag_choice.proofs.Two.{suit_orients}
-use Rattle.solid_reorient.specs.Reflagged.{reflagged}
 use Rattle.solid_reorient.specs.Reoriented.{IsReoriented}
 use Rattle.flag_choice.specs.Turned.{turned_shells, turned, AreListsFor}
 use Rattle.solid_reorient.proofs.StillHold.{still_hold}
 use Rattle.solid_reorient.proofs.ReflaggedSolid.{solid_turned}
-use Rattle.reorient_laws.specs.Closed.{number_in, SolidIsReoriented}
+use Rattle.reorient_laws.specs.Closed.{SolidIsReoriented}
 
 -- ---- lists
 

@@ -1,5 +1,5 @@
 -- The text that is written of a reoriented solid reads back.
-use Rattle.std.specs.Prelude.{◌≡◌, ℕ, ◌+◌, ◌*◌, Bool, true, false, ℤ, pos, List, [], ◌∷◌, map, if◌then◌else◌, IsTrue}
+use Rattle.std.specs.Prelude.{◌≡◌, ℕ, ◌+◌, ◌*◌, Bool, true, false, ℤ, pos, List, [], ◌∷◌, map, if◌then◌else◌}
 use Rattle.std.specs.List.{AllByRecursion, enumerate_from, list_all}
 use Rattle.std.specs.Ordering.{int_eq}
 use Rattle.std.proofs.Common.{refl, sym, ◌∙◌, subst, inl, inr}
@@ -20,7 +20,6 @@ use Rattle.entry_references.specs.Refs.{Record}
 use Rattle.solid_extract.specs.Extracted.{new_number}
 use Rattle.extraction_laws.proofs.WrittenText.{extracted_is_writable}
 use Rattle.solid_reorient.specs.Reflagged.{flag_value, pairs_with, values_with, flags_for, reflagged_values, reflagged_record, reflagged}
-use Rattle.solid_reorient.specs.Reoriented.{IsReoriented}
 use Rattle.solid_reorient.proofs.Kept.{made_with}
 use Rattle.reorient_laws.specs.Written.{ReorientedIsWritable, WrittenIsReoriented}
 

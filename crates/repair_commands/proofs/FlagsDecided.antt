@@ -1,7 +1,7 @@
 -- Of reorienting a solid one answer is owed, and one text but for which rings it names.
-use Rattle.std.specs.Prelude.{◌≡◌, ◌⊎◌, ℕ, zero, suc, ◌+◌, ◌<◌, ◌≤◌, Bool, List, [], ◌∷◌, ◌++◌, length, Some, slice_get}
-use Rattle.std.specs.List.{AllByRecursion, AllZip}
-use Rattle.std.proofs.Common.{refl, sym, ap, subst, ◌∙◌, arith, inl, inr, ⊎_elim}
+use Rattle.std.specs.Prelude.{◌≡◌, ◌⊎◌, ℕ, zero, suc, ◌≤◌, Bool, List, [], ◌∷◌, ◌++◌, length, Some, slice_get}
+use Rattle.std.specs.List.{AllZip}
+use Rattle.std.proofs.Common.{refl, subst, arith, inl, inr}
 use Rattle.std.proofs.lemmas.List.{length-append}
 use Rattle.std.proofs.lemmas.Option.{none-some}
 use Rattle.iges_params.specs.Contents.{Contents}
@@ -24,7 +24,6 @@ use Rattle.orient_certificate.specs.OddRing.{OddRing}
 use Rattle.orient_certificate.specs.Laws.{ExactlyOne}
 use Rattle.orient_certificate.specs.Partners.{HasTwoRows, AllHaveTwoRows, IsReached, AllReached}
 use Rattle.orient_certificate.proofs.Lawful.{flags_or, refuses}
-use Rattle.orient_commands.specs.Due.{OfOrient}
 use Rattle.orient_commands.proofs.OneOwed.{orienting_one}
 use Rattle.orient_commands.proofs.OrientDecided.{two_decided, reached_decided}
 use Rattle.orient_commands.proofs.SomeOwed.{orienting_due}
@@ -32,7 +31,6 @@ use Rattle.flag_choice.specs.Choice.{chosen}
 use Rattle.flag_choice.specs.Suiting.{FlagsSuit, AllSuit}
 use Rattle.solid_reorient.specs.Fitting.{HasFlags}
 use Rattle.solid_reorient.specs.Reflagged.{reflagged}
-use Rattle.solid_reorient.specs.Reoriented.{IsReoriented}
 use Rattle.solid_reorient.proofs.OneFile.{one_file}
 use Rattle.flag_choice.proofs.Suiting.{more_suit, none_suit}
 use Rattle.command_replies.specs.declared.answer.Answer.{Answer}

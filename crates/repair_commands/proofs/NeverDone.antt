@@ -1,10 +1,9 @@
 -- A solid that has no flags isn't oriented.
-use Rattle.std.specs.Prelude.{◌≡◌, ◌⊎◌, ℕ, zero, suc, ◌+◌, ◌<◌, Bool, List, [], ◌∷◌, length, Some, slice_get, option_map}
-use Rattle.std.specs.List.{AllByRecursion, enumerate_from}
+use Rattle.std.specs.Prelude.{◌≡◌, ℕ, zero, suc, ◌+◌, ◌<◌, Bool, List, [], ◌∷◌, length, Some, slice_get, option_map}
+use Rattle.std.specs.List.{enumerate_from}
 use Rattle.std.proofs.Common.{refl, sym, ◌∙◌, ap, subst, inl, inr, arith}
 use Rattle.std.proofs.lemmas.Option.{none-some, same_Some}
 use Rattle.iges_base.proofs.Lists.{some_at}
-use Rattle.iges_params.specs.Contents.{Contents}
 use Rattle.solid_data.specs.SolidData.{SolidData}
 use Rattle.brep_walk.specs.SolidOf.{solid_of}
 use Rattle.solid_extract.proofs.Copies.{all_at}
@@ -15,12 +14,10 @@ use Rattle.orient_certificate.specs.declared.line.OrientLine.TheVariants.{Head, 
 use Rattle.orient_certificate.proofs.Lawful as lawful
 use Rattle.flag_choice.specs.Choice.{chosen}
 use Rattle.flag_choice.specs.Suiting.{FlagsSuit, AllSuit}
-use Rattle.command_replies.specs.declared.answer.Answer.{Answer}
-use Rattle.command_replies.specs.declared.answer.Answer.TheVariants.{Done, No}
-use Rattle.orient_commands.specs.Due.{IsRingLine, HasRing, IsAnswerOf, IsOriented, OfOrient, misplaced, unready, oriented}
+use Rattle.command_replies.specs.declared.answer.Answer.TheVariants.{No}
+use Rattle.orient_commands.specs.Due.{IsRingLine, HasRing, IsAnswerOf, misplaced, unready, oriented}
 use Rattle.orient_commands.specs.Shells.{IsReady, OfAllShells}
 use Rattle.orient_commands.specs.Text.{Fits, FitsAs, AreWhole}
-use Rattle.solid_reorient.specs.Fitting.{HasFlags}
 use Rattle.solid_reorient.proofs.Entries.{get_enumerated}
 use Rattle.repair_commands.specs.SolidLaws.{UnorientedIsNo}
 

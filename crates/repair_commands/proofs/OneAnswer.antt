@@ -1,7 +1,7 @@
 -- One answer and one text are owed, but for rings.
 use Rattle.std.specs.List.{AllZip}
-use Rattle.std.specs.Prelude.{◌⊎◌, ◌≢◌, ℕ, ◌<◌, List, [], length, Result, MatchOption, Option, Some, None, bytes_eq}
-use Rattle.std.proofs.Common.{◌≡◌, ◌≤◌, Bool, true, false, inl, inr, Ok, Err, refl, sym, ap, ◌∙◌, subst, arith}
+use Rattle.std.specs.Prelude.{◌⊎◌, ℕ, ◌<◌, List, [], length, MatchOption, Option, Some, None, bytes_eq}
+use Rattle.std.proofs.Common.{◌≡◌, ◌≤◌, inl, inr, Ok, Err, refl, sym, ap, ◌∙◌, subst, arith}
 use Rattle.std.proofs.lemmas.Bool.{cases_Bool, cases_lt}
 use Rattle.iges_base.proofs.Answers.{clash, done, err_is, failed, ok_is}
 use Rattle.iges_base.specs.declared.TheConstants.{FILE_LIMIT}
@@ -24,7 +24,7 @@ use Rattle.repair_commands.specs.declared.asked.LineCommand.TheVariants as «lin
 use Rattle.repair_commands.specs.declared.asked.Asked.{Asked}
 use Rattle.repair_commands.specs.declared.asked.Asked.TheVariants as asked
 use Rattle.repair_commands.specs.Asked.{asked_of, usage_line}
-use Rattle.repair_commands.specs.Due.{Due, DueOf, OfLines, IsLaid, OfLayout, OfNoLayout, bad_layout, file_too_large, in_layout, not_in_layout, relayout}
+use Rattle.repair_commands.specs.Due.{DueOf, OfLines, IsLaid, OfLayout, OfNoLayout, bad_layout, file_too_large, in_layout, not_in_layout, relayout}
 use Rattle.repair_commands.specs.Due.{text_too_large}
 use Rattle.repair_commands.specs.Laws.{AreOneText, InLayoutIsTold, OneAnswerIsOwed, SomeAnswerIsOwed}
 use Rattle.repair_commands.specs.Texts.{bad_layout_line, changes_text, in_layout_line}

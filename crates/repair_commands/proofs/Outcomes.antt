@@ -1,5 +1,5 @@
 -- From a reply to the outcome of a run.
-use Rattle.std.proofs.Common.{◌≡◌, inl, inr, ℕ, List, [], refl, sym, subst, ◌∙◌, Option, Some, None, Bool, true, false}
+use Rattle.std.proofs.Common.{◌≡◌, inl, inr, ℕ, List, [], refl, sym, subst, ◌∙◌, Option, Some, None}
 use Rattle.std.specs.Prelude.{MatchOption, IsSome}
 use Rattle.std.specs.Io.KnownBytes.{Appends}
 use Rattle.iges_io.specs.Reading.{Told}

@@ -1,15 +1,15 @@
 -- With other flags, an extracted file is still what is extracted of it.
-use Rattle.std.specs.Prelude.{◌≡◌, ◌↔◌, ℕ, zero, suc, ◌+◌, ◌*◌, ◌/◌, ◌%◌, ◌<◌, ◌≤◌, Bool, true, false, ℤ, pos, List, [], ◌∷◌, ◌++◌, length, map, Option, Some}
+use Rattle.std.specs.Prelude.{◌≡◌, ℕ, zero, suc, ◌+◌, ◌*◌, ◌/◌, ◌<◌, ◌≤◌, Bool, true, false, ℤ, pos, List, [], ◌∷◌, length, map, Option, Some}
 use Rattle.std.specs.Prelude.{None, Result, Ok, IsTrue, Contains, slice_get, option_map, if◌then◌else◌}
 use Rattle.std.specs.List.{AllByRecursion, AllZip, enumerate_from}
 use Rattle.std.specs.List.Sorted.{IsStrictlyIncreasing}
 use Rattle.std.specs.Ordering.{int_eq}
-use Rattle.std.proofs.Common.{refl, sym, ◌∙◌, ap, subst, arith, inl, inr}
+use Rattle.std.proofs.Common.{refl, sym, ◌∙◌, ap, arith, inl, inr}
 use Rattle.std.proofs.Math.Nat.{div-add-mod}
 use Rattle.std.proofs.lemmas.Bool.Decides.{Decides-int_eq}
 use Rattle.std.proofs.lemmas.List.{length-map}
 use Rattle.std.proofs.lemmas.List.Elements.{All-from_recursion, recursion_from_All}
-use Rattle.std.proofs.lemmas.Option.{none-some, same_Some, slice_get_within}
+use Rattle.std.proofs.lemmas.Option.{none-some, same_Some}
 use Rattle.iges_params.specs.Contents.{Contents}
 use Rattle.iges_params.specs.Named.{named, record_values}
 use Rattle.iges_params.specs.Solids.{is_solid_entry, is_solid}
@@ -17,7 +17,6 @@ use Rattle.brep_lists.specs.Record.{type_number, items_of}
 use Rattle.brep_lists.specs.declared.entity_kind.EntityKind.TheVariants.{Shell as shell}
 use Rattle.brep_walk.specs.Places.{shells, faces, numbers}
 use Rattle.entry_references.specs.declared.fault.ExtractReason.{ExtractReason}
-use Rattle.entry_references.specs.References.{RefersTo}
 use Rattle.entry_references.specs.Refs.{Record, entry_fault, refs}
 use Rattle.entry_references.proofs.NamedRecords.{named_within}
 use Rattle.entry_references.proofs.RisingLists.{In, below, tail_rises, contains_at, in_from}

@@ -1,13 +1,12 @@
 -- A file that can be made can be made with other flags.
 use Rattle.std.specs.Prelude.{◌≡◌, ℕ, ◌+◌, ◌*◌, ◌≤◌, Bool, ℤ, pos, List, [], ◌∷◌, length, map}
 use Rattle.std.specs.List.{AllByRecursion, enumerate_from}
-use Rattle.std.specs.Ordering.{int_eq}
 use Rattle.std.proofs.Common.{refl, ◌∙◌, ap, arith}
 use Rattle.std.proofs.lemmas.List.{length-map}
 use Rattle.std.proofs.lemmas.List.FromFn.{length-enumerate_from}
 use Rattle.iges_fields.specs.declared.value.Value.{Value}
-use Rattle.iges_params.specs.Contents.{Contents, value_count}
-use Rattle.iges_params.specs.Made.{IsMade, IsMadeEntry}
+use Rattle.iges_params.specs.Contents.{value_count}
+use Rattle.iges_params.specs.Made.{IsMadeEntry}
 use Rattle.entry_references.specs.Refs.{Record}
 use Rattle.brep_walk.specs.Places.{shells, numbers}
 use Rattle.solid_reorient.specs.Reflagged.{flags_for, reflagged_record, reflagged}

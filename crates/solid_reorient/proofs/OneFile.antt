@@ -1,13 +1,12 @@
 -- A solid is reoriented in one way.
-use Rattle.std.specs.Prelude.{◌≡◌, ℕ, zero, suc, ◌<◌, Bool, List, [], ◌∷◌, length, Some, slice_get}
-use Rattle.std.proofs.Common.{refl, sym, ◌∙◌, ap, arith}
+use Rattle.std.specs.Prelude.{◌≡◌, ℕ, List}
+use Rattle.std.proofs.Common.{sym, ◌∙◌, ap}
 use Rattle.iges_params.specs.Contents.{Contents}
 use Rattle.brep_walk.specs.SolidOf.{solid_of}
 use Rattle.entry_references.proofs.RisingLists.{In, in_at, contains_at, same_increasing}
 use Rattle.solid_extract.specs.Extracted.{Reaches, new_number, IsExtracted}
 use Rattle.solid_extract.proofs.One.{IsExtracted-unique}
 use Rattle.solid_reorient.specs.Reflagged.{reflagged}
-use Rattle.solid_reorient.specs.Reoriented.{IsReoriented}
 use Rattle.solid_reorient.specs.Once.{OneReoriented, NoOtherFlags}
 use Rattle.flag_choice.proofs.Two.{one_flags}
 

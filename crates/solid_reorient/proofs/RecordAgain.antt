@@ -1,9 +1,9 @@
 -- What an entry of an extracted file refers to, and what it becomes, with other flags.
-use Rattle.std.specs.Prelude.{◌≡◌, ℕ, suc, ◌+◌, ◌*◌, ◌≤◌, ◌==◌, ◌&&◌, nat_le, Bool, true, false, neg_ℤ, int_lt, ℤ, pos, List, [], ◌∷◌, ◌++◌, length, map, take}
+use Rattle.std.specs.Prelude.{◌≡◌, ℕ, ◌+◌, ◌*◌, ◌≤◌, ◌==◌, ◌&&◌, nat_le, Bool, true, false, neg_ℤ, int_lt, ℤ, pos, List, [], ◌∷◌, ◌++◌, length, map, take}
 use Rattle.std.specs.Prelude.{drop, filter, filter_map, Option, Some, None, Result, Ok, Err, is_some, if◌then◌else◌, option_map}
 use Rattle.std.specs.List.{enumerate_from, list_all}
 use Rattle.std.specs.Ordering.{int_eq}
-use Rattle.std.proofs.Common.{refl, sym, ◌∙◌, ap, subst, arith}
+use Rattle.std.proofs.Common.{refl, sym, ◌∙◌, ap, arith}
 use Rattle.std.proofs.lemmas.Bool.Decides.{Decides-int_eq}
 use Rattle.std.proofs.lemmas.List.{length-map, length-take-le}
 use Rattle.std.proofs.lemmas.List.FromFn.{length-enumerate_from}
@@ -13,17 +13,16 @@ use Rattle.iges_fields.specs.declared.value.Value.TheVariants as value
 use Rattle.iges_params.specs.Contents.{Contents}
 use Rattle.iges_params.specs.Named.{named}
 use Rattle.brep_lists.specs.Record.{type_number, kind_of_type, items_of, IsRecordOf}
-use Rattle.brep_lists.specs.declared.entity_kind.EntityKind.{EntityKind}
 use Rattle.brep_lists.specs.declared.entity_kind.EntityKind.TheVariants.{Shell as shell}
-use Rattle.brep_lists.specs.OwnValues.{own_count, pointer_places}
+use Rattle.brep_lists.specs.OwnValues.{own_count}
 use Rattle.brep_lists.proofs.Decided.{decided}
 use Rattle.entry_references.specs.declared.fault.ExtractReason.{ExtractReason}
 use Rattle.entry_references.specs.declared.fault.ExtractReason.TheVariants.{Unlisted, Layout, Dangling}
 use Rattle.entry_references.specs.Layout.{Own, layout_of, own_in, value_at, count_of, is_pointer}
-use Rattle.entry_references.specs.Refs.{Record, Group, group_at, is_left_out, second_group, are_groups, own_of, own_of_kind, is_listed, has_layout, names_entry}
+use Rattle.entry_references.specs.Refs.{Record, Group, group_at, is_left_out, are_groups, own_of, own_of_kind, is_listed, has_layout, names_entry}
 use Rattle.entry_references.specs.Refs.{number_of, is_name, names_of, pointers_of, entry_fault, refs}
 use Rattle.solid_data.specs.Obligations.{entry_number}
-use Rattle.solid_extract.specs.Extracted.{renamed, new_value, new_entry, new_values, new_record}
+use Rattle.solid_extract.specs.Extracted.{renamed, new_value, new_values, new_record}
 use Rattle.solid_extract.proofs.AgainValues.{olds}
 use Rattle.solid_extract.proofs.KeptItems.{faultless_is_record}
 use Rattle.solid_reorient.specs.Reflagged.{values_with, flags_for, reflagged_values, reflagged}

@@ -12,7 +12,6 @@ use Rattle.solid_data.specs.Obligations.{entry_number, AllHold, after_each}
 use Rattle.solid_data.specs.SolidData.{SolidData, same_edge, same_vertex}
 use Rattle.solid_data.specs.declared.solid.Edge.{Edge}
 use Rattle.solid_data.specs.declared.solid.EdgeKey.{EdgeKey}
-use Rattle.solid_data.specs.declared.solid.VertexKey.{VertexKey}
 use Rattle.solid_data.specs.declared.solid.Loop.{Loop}
 use Rattle.solid_data.specs.declared.solid.FaceUse.{FaceUse}
 use Rattle.solid_data.specs.declared.solid.Shell.{Shell}
@@ -30,7 +29,7 @@ use Rattle.solid_reorient.specs.Turned.{ReflaggedSolid}
 use Rattle.solid_reorient.proofs.Entries.{shells_of}
 use Rattle.solid_reorient.proofs.FlagsFound.{not_equal, first_is, first_not}
 use Rattle.solid_reorient.proofs.ShellValues.{faces_flagged}
-use Rattle.solid_reorient.proofs.StillHold.{flat_same, numbers_all, d, new_flags, Same, told_same, SameUse, SameTuple, SameLoop, SameFace, SameShell}
+use Rattle.solid_reorient.proofs.StillHold.{flat_same, numbers_all, d, Same, told_same, SameUse, SameTuple, SameLoop, SameFace, SameShell}
 use Rattle.solid_reorient.proofs.StillHold.{same_numbers, faces_known, SameSolid, solid_holds}
 
 -- ---- lists

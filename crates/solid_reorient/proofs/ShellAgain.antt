@@ -1,13 +1,13 @@
 -- The values of a shell that is extracted, with other flags.
-use Rattle.std.specs.Prelude.{◌≡◌, ℕ, zero, suc, ◌+◌, ◌-◌, ◌*◌, ◌≤◌, Bool, true, false, ℤ, pos, List, [], ◌∷◌, ◌++◌, length, map, flat_map, filter_map, take}
-use Rattle.std.specs.Prelude.{drop, Option, Some, None, if◌then◌else◌, slice_index_or}
-use Rattle.std.specs.List.{AllByRecursion, enumerate_from, cons_option}
+use Rattle.std.specs.Prelude.{◌≡◌, ℕ, zero, suc, ◌+◌, ◌-◌, ◌*◌, ◌≤◌, Bool, true, false, ℤ, List, [], ◌∷◌, ◌++◌, length, flat_map, filter_map, take}
+use Rattle.std.specs.Prelude.{drop, Option, Some, None, slice_index_or}
+use Rattle.std.specs.List.{enumerate_from, cons_option}
 use Rattle.std.proofs.Common.{refl, sym, ◌∙◌, ap, subst, arith, inl, inr}
 use Rattle.std.proofs.lemmas.Bool.{cond-true}
 use Rattle.iges_fields.specs.declared.value.Value.{Value}
 use Rattle.iges_fields.specs.declared.value.Value.TheVariants as value
 use Rattle.brep_lists.specs.DueValues.{MeetsAll}
-use Rattle.brep_lists.specs.OwnValues.{due_in, own_count, if_pointer, pointer_places, is_record_of}
+use Rattle.brep_lists.specs.OwnValues.{own_count, if_pointer, pointer_places, is_record_of}
 use Rattle.brep_lists.specs.Record.{pair_due, due, items_of, IsRecordOf}
 use Rattle.brep_lists.specs.declared.entity_kind.EntityKind.TheVariants.{Shell as shell}
 use Rattle.brep_lists.proofs.Decided.{decided}

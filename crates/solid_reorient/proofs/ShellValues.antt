@@ -1,9 +1,8 @@
 -- The items of a shell's record with other flags.
-use Rattle.std.specs.Prelude.{◌≡◌, ℕ, suc, ◌<◌, Bool, ℤ, pos, List, [], ◌∷◌, length, map, flat_map}
-use Rattle.std.proofs.Common.{refl, sym, ◌∙◌, ap, subst}
+use Rattle.std.specs.Prelude.{◌≡◌, suc, Bool, ℤ, List, [], ◌∷◌, length, flat_map}
+use Rattle.std.proofs.Common.{refl, sym, ap, subst}
 use Rattle.iges_fields.specs.declared.value.Value.{Value}
-use Rattle.iges_fields.specs.declared.value.Value.TheVariants.{Int}
-use Rattle.brep_lists.specs.DueValues.{at_least_one, IsFiller, Meets, MeetsAll}
+use Rattle.brep_lists.specs.DueValues.{at_least_one, Meets, MeetsAll}
 use Rattle.brep_lists.specs.Record.{pair_due, items_of, Fits, IsRecordOf}
 use Rattle.brep_lists.specs.declared.entity_kind.EntityKind.TheVariants.{Shell as shell}
 use Rattle.brep_lists.proofs.OnlyRead.{only_read}

@@ -1,5 +1,5 @@
 -- Places that hold still hold with other flags.
-use Rattle.std.specs.Prelude.{◌≡◌, ℕ, ◌+◌, ◌-◌, slice_get, Bool, true, false, ℤ, pos, negsuc, List, [], ◌∷◌, ◌++◌, length, map, flat_map, All, Option, Some}
+use Rattle.std.specs.Prelude.{◌≡◌, ℕ, ◌+◌, ◌-◌, slice_get, Bool, true, false, ℤ, pos, negsuc, List, [], ◌∷◌, ◌++◌, length, flat_map, All, Option, Some}
 use Rattle.std.specs.Prelude.{None, IsSome, IsSomeAnd, option_map, ⊤}
 use Rattle.std.specs.List.{AllByRecursion}
 use Rattle.std.specs.Ordering.{int_eq}
@@ -18,7 +18,7 @@ use Rattle.solid_data.specs.Obligations.{Obligation, obligation, entry_number, A
 use Rattle.solid_data.specs.declared.verdict.Rule.TheVariants.{BadGeometry}
 use Rattle.solid_data.proofs.Members.{all_append}
 use Rattle.solid_data.proofs.ObligationLemmas.{AllHold-append, AllHold-append_left, AllHold-append_right, AllByRecursion-weaker}
-use Rattle.brep_walk.specs.Places.{told, shells, faces, loops, tuples, numbers, edge_at, Names, NamesKind, HasRecordOf, NamesGeometry, record_places}
+use Rattle.brep_walk.specs.Places.{told, shells, faces, loops, tuples, numbers, edge_at, Names, NamesKind, HasRecordOf, NamesGeometry}
 use Rattle.brep_walk.specs.Places.{item_places, edge_places, used_places, tuple_at, tuple_places, loop_at, loop_places, face_at, face_places, shell_at}
 use Rattle.brep_walk.specs.Places.{shell_places, places}
 use Rattle.solid_reorient.specs.Reflagged.{values_with, flags_for, reflagged_values, reflagged}

@@ -1,9 +1,7 @@
 -- What reflagging keeps.
-use Rattle.std.specs.Prelude.{◌≡◌, ℕ, Bool, List}
+use Rattle.std.specs.Prelude.{ℕ, Bool, List}
 use Rattle.iges_params.specs.Contents.{Contents}
 use Rattle.iges_params.specs.Made.{IsMade}
-use Rattle.solid_data.specs.Obligations.{AllHold}
-use Rattle.brep_walk.specs.Places.{places}
 use Rattle.solid_reorient.specs.Reflagged.{reflagged}
 
 -- A file that can be made can be made with other flags.

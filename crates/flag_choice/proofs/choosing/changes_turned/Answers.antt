@@ -1,7 +1,6 @@
-use Rattle.std.proofs.Common.{◌≡◌, ◌+◌, ◌∙◌, Bool, map, length, sym, arith}
+use Rattle.std.proofs.Common.{◌∙◌, map, sym, arith}
 use Rattle.std.proofs.lemmas.List.{length-map}
 use Rattle.solid_data.specs.declared.solid.FaceUse.{FaceUse}
-use Rattle.flag_choice.specs.Choice.{changes, reversed}
 use Rattle.flag_choice.proofs.ChosenLists.{all_change}
 use Rattle.flag_choice.proofs.choosing.changes_turned.Goals as goal
 

@@ -1,5 +1,5 @@
 use Rattle.std.proofs.lemmas.List.{length-append}
-use Rattle.std.proofs.Common.{◌≡◌, ◌∙◌, ◌<◌, ◌++◌, ◌∷◌, ℕ, Bool, List, [], ap, length, arith}
+use Rattle.std.proofs.Common.{◌<◌, ◌∷◌, [], ap, length, arith}
 use Rattle.flag_choice.specs.Suiting.{FlagsSuit}
 use Rattle.flag_choice.proofs.FewShells.{few_shells}
 use Rattle.flag_choice.proofs.Suiting.{more_suit, none_suit}

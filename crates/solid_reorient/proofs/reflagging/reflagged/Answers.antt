@@ -1,8 +1,7 @@
 use Rattle.std.specs.Prelude.{option_copied, slice_get, pos}
-use Rattle.std.proofs.Common.{◌≡◌, ◌∙◌, Some, ◌+◌, ◌*◌, ◌≤◌, ◌<◌, get_or, sym, ap, refl, length, arith}
+use Rattle.std.proofs.Common.{◌≡◌, ◌∙◌, Some, ◌+◌, ◌*◌, ◌≤◌, get_or, sym, ap, refl, arith}
 use Rattle.solid_reorient.specs.Steps.{list_numbered}
 use Rattle.iges_params.specs.Contents.{Contents, value_count}
-use Rattle.entry_references.specs.Refs.{Record}
 use Rattle.brep_walk.specs.Places.{numbers, shells}
 use Rattle.solid_reorient.proofs.Emptied.{none_emptied, taken_at, next_emptied, room, next_entries, all_reflagged, unused_none, values_told}
 use Rattle.solid_reorient.proofs.Noting.{any_default}
