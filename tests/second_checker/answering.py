@@ -110,8 +110,8 @@ def answer(words, text=b"", certificate_text=b""):
 
 
 def is_owed(words, text, got, wanted):
-    """Whether a status and a text are what a command owes, where `answer` gives `wanted`: of `orient` another ring may be named."""
-    if got == wanted or words[0] != "orient" or got[0] != wanted[0]:
+    """Whether a status and a text are what a command owes, where `answer` gives `wanted`: of `orient` and `reorient` another ring may be named."""
+    if got == wanted or words[0] not in ("orient", "reorient") or got[0] != wanted[0]:
         return got == wanted
     without_rings = [re.sub(rb"(?m)^(O \d+) .*$", rb"\1", told) for told in (got[1], wanted[1])]
     return without_rings[0] == without_rings[1] and answer(["orient-verify", *words[1:]], text, got[1])[0] == DONE
