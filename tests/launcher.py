@@ -107,7 +107,7 @@ def pictures(copy):
 
 
 def layouts(copy):
-    """`relayout` and `layout` run the program that makes a file's layout anew."""
+    """`relayout`, `layout` and `reorient` run the program that mends files."""
     cube = (copy.top / "examples" / "cube.igs").read_bytes()
     (copy.top / "harmed.igs").write_bytes(b"\xef\xbb\xbf" + cube)
     yield "launcher: relayout", copy.run("./igesolid", "relayout", "harmed.igs") == (0, cube, "")
@@ -118,6 +118,9 @@ def layouts(copy):
         told = copy.run("./igesolid", command, "none.igs")
         yield f"launcher: {command} of no file", told == (4, b"", "igesolid: none.igs: can't be opened: No such file or directory\n")
     (copy.top / "harmed.igs").unlink()
+    told = copy.run("./igesolid", "reorient", "examples/turned.igs", "1")
+    yield "launcher: reorient", (told[0], told[2]) == (0, "") and b"514,6,9,1,15,1,21,1,27,1," in told[1]
+    yield "launcher: reorient without flags", copy.run("./igesolid", "reorient", "examples/no/one_sided.igs", "1") == (1, b"ORIENT 1\nO 1 1\nEND\n", "")
 
 
 def helps(copy):
