@@ -36,7 +36,8 @@ answered_where ws f t a r =
     subst (λ (x : List ℕ). of_where.Due ws x a t) (sym r.owed.told)
     (subst (λ (x : List ℕ). of_where.Due ws r.owed.bytes a x) (sym r.appended) r.owed.due)
 
-pub settled_where : (ws : List (List ℕ)) (f t : List ℕ) (a : Answer) → IsSettled a → where_outcome.Outcome ws (Some f) (Some []) (Some t) a → of_where.Due ws f a t
+pub settled_where : (ws : List (List ℕ)) (f t : List ℕ) (a : Answer) → IsSettled a
+    → where_outcome.Outcome ws (Some f) (Some []) (Some t) a → of_where.Due ws f a t
 settled_where ws f t Done is r = answered_where ws f t Done r
 settled_where ws f t No is r = answered_where ws f t No r
 settled_where ws f t Usage is r = answered_where ws f t Usage r
@@ -62,14 +63,18 @@ told ws given f kept c before t a file certificate empty r =
     (subst (λ (x : List ℕ). Outcome ws (Some given) (Some kept) (Some x) (Some t) a) empty r))
 
 -- what is replied is due
-pub replied : (words f k : List ℕ) (ws : List (List ℕ)) (a : Answer) (t : Text) → AreWords words ws → Outcome ws (Some f) (Some k) (Some []) (Some t.text) a
-    → (r : Result Replied OutOfMemory) → IfOk r (λ x. IsSettled a × (x.status ≡ code_of a) × (x.text ≡ t)) → IfOk r (λ x. IsDue words f k x.status x.text.text)
+pub replied : (words f k : List ℕ) (ws : List (List ℕ)) (a : Answer) (t : Text) → AreWords words ws
+    → Outcome ws (Some f) (Some k) (Some []) (Some t.text) a
+    → (r : Result Replied OutOfMemory) → IfOk r (λ x. IsSettled a × (x.status ≡ code_of a) × (x.text ≡ t))
+    → IfOk r (λ x. IsDue words f k x.status x.text.text)
 replied words f k ws a t are out (Ok x) is =
     (ws, are, a, is.1, subst (λ (u : Text). Due ws f k a u.text) (sym is.2) (settled ws f k t.text a is.0 out))
 replied words f k ws a t are out (Err e) is = tt
 
-pub replied_where : (words f : List ℕ) (ws : List (List ℕ)) (a : Answer) (t : Text) → AreWords words ws → where_outcome.Outcome ws (Some f) (Some []) (Some t.text) a
-    → (r : Result Replied OutOfMemory) → IfOk r (λ x. IsSettled a × (x.status ≡ code_of a) × (x.text ≡ t)) → IfOk r (λ x. IsDueOfWhere words f x.status x.text.text)
+pub replied_where : (words f : List ℕ) (ws : List (List ℕ)) (a : Answer) (t : Text) → AreWords words ws
+    → where_outcome.Outcome ws (Some f) (Some []) (Some t.text) a
+    → (r : Result Replied OutOfMemory) → IfOk r (λ x. IsSettled a × (x.status ≡ code_of a) × (x.text ≡ t))
+    → IfOk r (λ x. IsDueOfWhere words f x.status x.text.text)
 replied_where words f ws a t are out (Ok x) is =
     (ws, are, a, is.1, subst (λ (u : Text). of_where.Due ws f a u.text) (sym is.2) (settled_where ws f t.text a is.0 out))
 replied_where words f ws a t are out (Err e) is = tt
