@@ -3,7 +3,8 @@ import pathlib
 import shutil
 
 from library_tests import alike, run
-from libraries import EXAMPLES, HEADER, TOP, shipped
+from libraries import EXAMPLES, HEADER, TOP, examples, shipped
+from programs import DIST
 from spawned import Runner
 
 SYSROOT = pathlib.Path("/usr/aarch64-linux-gnu")
@@ -22,7 +23,7 @@ def emulated(folder, emulator, program):
 
 
 def on_aarch64(context):
-    made = {call: shipped(f"{name}-aarch64-linux") for call, name in (("run", "igesolid"), ("where", "igesolid-where"))}
+    made = {call: shipped(f"{name}-aarch64-linux") for call, name in (("run", "igesolid"), ("where", "igesolid-where"), ("repair", "igesolid-repair"))}
     if None in made.values():
         context.skipped("the programs for aarch64: dist/ holds none of these sources")
         return
@@ -32,6 +33,11 @@ def on_aarch64(context):
         return
     folder = context.new_folder()
     yield from alike("arm", {call: emulated(folder, emulator, path) for call, path in made.items()}, {call: Runner(path) for call, path in zip(("run", "where"), context.programs)})
+    native, its = Runner(DIST / "igesolid-repair-x86_64-linux"), emulated(folder, emulator, made["repair"])
+    for example in examples():
+        for command in "layout", "relayout":
+            yield f"arm: {command} of {example.name}", its.run([command, str(example)])[:2] == native.run([command, str(example)])[:2]
+    yield "arm: repair, no words", its.run([])[:2] == native.run([])[:2]
     archive, gcc = shipped("libigesolid-aarch64-linux.a"), shutil.which("aarch64-linux-gnu-gcc")
     if archive is None or gcc is None:
         context.skipped("the library for aarch64: Debian's package gcc-aarch64-linux-gnu isn't installed")

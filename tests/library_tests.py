@@ -27,7 +27,7 @@ int main(int count, char **given) {
     return (int)status;
 }
 """
-EXPORTED = {"igesolid_run", "igesolid_where", "igesolid_free"}
+EXPORTED = {"igesolid_run", "igesolid_where", "igesolid_repair", "igesolid_free"}
 
 
 def run(*words, **how):

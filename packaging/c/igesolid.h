@@ -47,6 +47,9 @@ uint32_t igesolid_run(const uint8_t *words, size_t words_length, const uint8_t *
 /* The same for `igesolid where`, without that word: "-", "-\n3" or "-\n3\nall". */
 uint32_t igesolid_where(const uint8_t *words, size_t words_length, const uint8_t *file, size_t file_length, igesolid_text *text);
 
+/* The same for the commands of `igesolid-repair`: "relayout\n-" or "layout\n-". */
+uint32_t igesolid_repair(const uint8_t *words, size_t words_length, const uint8_t *file, size_t file_length, igesolid_text *text);
+
 /* Frees a text that a call gave, and leaves IGESOLID_NO_TEXT there; of that it does nothing. A copy of the struct dangles then. */
 void igesolid_free(igesolid_text *text);
 

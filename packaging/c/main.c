@@ -1,4 +1,4 @@
-/* A program over the static library, for a machine for which the kit has no C library: -DCALL=run or -DCALL=where chooses it. It reads
+/* A program over the static library, for a machine for which the kit has no C library: -DCALL=run, where or repair chooses it. It reads
  * the files that the words name, as the proved program does, and writes the text. It isn't proved, only tested. */
 #include "igesolid.h"
 #include <errno.h>

@@ -177,6 +177,13 @@ function fill(file, box, text) {
   box.append(made("table", {}, head, made("tbody", {}, ...rows.flatMap(it => it.elements))));
 }
 
+/** Saves the file in the layout of the fixed form, or says why there is none. */
+async function mend(file, box) {
+  const got = await asked({ file: file.key, words: ["relayout", "-"] });
+  if (got.status === 0) save(`${file.stem}.mended.igs`, got.text);
+  else box.append(made("pre", { className: "bad", textContent: reason(got) }));
+}
+
 /** Reads and judges a file, and shows it above the others. */
 async function judge(given) {
   const file = { name: given.name, stem: given.name.replace(/\.[^.]*$/, ""), key: `${++last} ${given.name}` };
@@ -197,6 +204,7 @@ async function judge(given) {
   } else {
     box.append(made("p", { className: "note bad", textContent: got.fault ?? REFUSED[got.status] ?? "" }));
     box.append(made("pre", { textContent: got.text ? shown(got.text) : "" }));
+    if (got.status === 3) box.append(made("p", { className: "note" }, button("Mend", box, "mending the layout of the lines", () => mend(file, box))));
   }
   box.dataset.done = isJudged ? "yes" : "no";
 }

@@ -54,6 +54,7 @@ function ask(call, words, slices) {
 /** What a command answers: its words are the program's, with - in the place of the file's name. */
 function answer(words, file, certificate) {
   if (words[0] === "where") return ask("igesolid_where", words.slice(1), [file]);
+  if (words[0] === "relayout" || words[0] === "layout") return ask("igesolid_repair", words, [file]);
   return ask("igesolid_run", words, [file, certificate]);
 }
 

@@ -34,12 +34,12 @@ class Library(Engine):
         self.path = found
         try:
             self._library = ctypes.CDLL(found)
-            run, where, free = (getattr(self._library, f"igesolid_{name}") for name in ("run", "where", "free"))
+            run, where, repair, free = (getattr(self._library, f"igesolid_{name}") for name in ("run", "where", "repair", "free"))
         except (OSError, AttributeError) as fault:
             raise NoProgram(f"{found}: {fault}") from fault
         text = ctypes.POINTER(_Text)
-        run.argtypes, where.argtypes, free.argtypes = [*_PIECE * 3, text], [*_PIECE * 2, text], [text]
-        run.restype = where.restype = ctypes.c_uint32
+        run.argtypes, where.argtypes, repair.argtypes, free.argtypes = [*_PIECE * 3, text], [*_PIECE * 2, text], [*_PIECE * 2, text], [text]
+        run.restype = where.restype = repair.restype = ctypes.c_uint32
         free.restype = None
 
     def ask(self, command: str, content: Content, *words: str) -> Answer:

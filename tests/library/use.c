@@ -65,6 +65,12 @@ int main(int count, char **given) {
     igesolid_free(&certificate);
     igesolid_free(&text);
 
+    told("repair", igesolid_repair((const uint8_t *)"layout\n-", 8, two.bytes, two.length, &text) == IGESOLID_DONE && text.length > 0);
+    igesolid_free(&text);
+    told("relayout", igesolid_repair((const uint8_t *)"relayout\n-", 10, two.bytes, two.length, &text) == IGESOLID_DONE
+        && text.length == two.length && memcmp(text.bytes, two.bytes, two.length) == 0);
+    igesolid_free(&text);
+
     Bytes large = {calloc(164000001, 1), 164000001};
     if (!large.bytes) return 6;
     told("too large", run("solids\n-", large, none, &text) == IGESOLID_TOO_LARGE && text.length == 0 && text.bytes != NULL);

@@ -5,11 +5,13 @@ use Rattle.command_replies.specs.declared.answer.Answer.{Answer}
 use Rattle.command_replies.specs.declared.answer.Answer.TheVariants.{Done, No, Usage, BadFile, ReadFault, WriteFault, NoMemory, NoExtract, TooLarge}
 use Rattle.iges_solid_cmd.specs.Due.{Due}
 use Rattle.iges_solid_cmd.specs.Outcome.{Answers, Outcome}
+use Rattle.repair_commands.specs.Due as of_repair
+use Rattle.repair_commands.specs.Outcome as repair_outcome
 use Rattle.where_command.specs.Due as of_where
 use Rattle.where_command.specs.Outcome as where_outcome
 use Rattle.iges_base.specs.declared.no_memory.NoMemory.{NoMemory as OutOfMemory}
 use Rattle.command_replies.specs.Answer.{code_of}
-use Rattle.igesolid_c.specs.Replies.{IsDue, IsDueOfWhere, IsNone, IsSettled}
+use Rattle.igesolid_c.specs.Replies.{IsDue, IsDueOfRepair, IsDueOfWhere, IsNone, IsSettled}
 use Rattle.igesolid_c.specs.Text.{Text}
 use Rattle.igesolid_c.specs.Words.{AreWords}
 use Rattle.igesolid_c.specs.declared.replying.Replied.{Replied}
@@ -48,12 +50,35 @@ settled_where ws f t ReadFault is r = absurd is
 settled_where ws f t WriteFault is r = absurd is
 settled_where ws f t NoMemory is r = absurd is
 
+answered_repair : (ws : List (List ℕ)) (f t : List ℕ) (a : Answer) → repair_outcome.Answers ws (Some f) (Some []) (Some t) a → of_repair.Due ws f a t
+answered_repair ws f t a r =
+    subst (λ (x : List ℕ). of_repair.Due ws x a t) (sym r.owed.told)
+    (subst (λ (x : List ℕ). of_repair.Due ws r.owed.bytes a x) (sym r.appended) r.owed.due)
+
+pub settled_repair : (ws : List (List ℕ)) (f t : List ℕ) (a : Answer) → IsSettled a
+    → repair_outcome.Outcome ws (Some f) (Some []) (Some t) a → of_repair.Due ws f a t
+settled_repair ws f t Done is r = answered_repair ws f t Done r
+settled_repair ws f t No is r = answered_repair ws f t No r
+settled_repair ws f t Usage is r = answered_repair ws f t Usage r
+settled_repair ws f t BadFile is r = answered_repair ws f t BadFile r
+settled_repair ws f t NoExtract is r = answered_repair ws f t NoExtract r
+settled_repair ws f t TooLarge is r = answered_repair ws f t TooLarge r
+settled_repair ws f t ReadFault is r = absurd is
+settled_repair ws f t WriteFault is r = absurd is
+settled_repair ws f t NoMemory is r = absurd is
+
 -- the same outcome, of what the source and the sink are known to be
 pub told_where : (ws : List (List ℕ)) (given f before t : List ℕ) (a : Answer) → given ≡ f → before ≡ []
     → where_outcome.Outcome ws (Some given) (Some before) (Some t) a → where_outcome.Outcome ws (Some f) (Some []) (Some t) a
 told_where ws given f before t a file empty r =
     subst (λ (x : List ℕ). where_outcome.Outcome ws (Some x) (Some []) (Some t) a) file
     (subst (λ (x : List ℕ). where_outcome.Outcome ws (Some given) (Some x) (Some t) a) empty r)
+
+pub told_repair : (ws : List (List ℕ)) (given f before t : List ℕ) (a : Answer) → given ≡ f → before ≡ []
+    → repair_outcome.Outcome ws (Some given) (Some before) (Some t) a → repair_outcome.Outcome ws (Some f) (Some []) (Some t) a
+told_repair ws given f before t a file empty r =
+    subst (λ (x : List ℕ). repair_outcome.Outcome ws (Some x) (Some []) (Some t) a) file
+    (subst (λ (x : List ℕ). repair_outcome.Outcome ws (Some given) (Some x) (Some t) a) empty r)
 
 pub told : (ws : List (List ℕ)) (given f kept c before t : List ℕ) (a : Answer) → given ≡ f → kept ≡ c → before ≡ []
     → Outcome ws (Some given) (Some kept) (Some before) (Some t) a → Outcome ws (Some f) (Some c) (Some []) (Some t) a
@@ -78,6 +103,14 @@ pub replied_where : (words f : List ℕ) (ws : List (List ℕ)) (a : Answer) (t 
 replied_where words f ws a t are out (Ok x) is =
     (ws, are, a, is.1, subst (λ (u : Text). of_where.Due ws f a u.text) (sym is.2) (settled_where ws f t.text a is.0 out))
 replied_where words f ws a t are out (Err e) is = tt
+
+pub replied_repair : (words f : List ℕ) (ws : List (List ℕ)) (a : Answer) (t : Text) → AreWords words ws
+    → repair_outcome.Outcome ws (Some f) (Some []) (Some t.text) a
+    → (r : Result Replied OutOfMemory) → IfOk r (λ x. IsSettled a × (x.status ≡ code_of a) × (x.text ≡ t))
+    → IfOk r (λ x. IsDueOfRepair words f x.status x.text.text)
+replied_repair words f ws a t are out (Ok x) is =
+    (ws, are, a, is.1, subst (λ (u : Text). of_repair.Due ws f a u.text) (sym is.2) (settled_repair ws f t.text a is.0 out))
+replied_repair words f ws a t are out (Err e) is = tt
 
 -- what is handed over is due where there is a reply, and else there is none
 pub handed : (P : ℕ → List ℕ → Type 0) (r : Result Replied OutOfMemory) (status : ℕ) (text : List ℕ)

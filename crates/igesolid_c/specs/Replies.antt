@@ -4,6 +4,7 @@ use Rattle.command_replies.specs.Answer.{code_of}
 use Rattle.command_replies.specs.declared.answer.Answer.{Answer}
 use Rattle.command_replies.specs.declared.answer.Answer.TheVariants.{ReadFault, WriteFault, NoMemory}
 use Rattle.iges_solid_cmd.specs.Due.{Due}
+use Rattle.repair_commands.specs.Due as of_repair
 use Rattle.where_command.specs.Due as of_where
 use Rattle.igesolid_c.specs.Words.{AreWords}
 
@@ -16,6 +17,11 @@ IsDue words file certificate status text =
 abbrev pub IsDueOfWhere : List ℕ → List ℕ → ℕ → List ℕ → Type 0
 IsDueOfWhere words file status text =
     (ws : List (List ℕ)) × AreWords words ws × (answer : Answer) × (status ≡ code_of answer) × of_where.Due ws file answer text
+
+-- the same for words of igesolid-repair
+abbrev pub IsDueOfRepair : List ℕ → List ℕ → ℕ → List ℕ → Type 0
+IsDueOfRepair words file status text =
+    (ws : List (List ℕ)) × AreWords words ws × (answer : Answer) × (status ≡ code_of answer) × of_repair.Due ws file answer text
 
 -- the status says that memory ran out, and there is no text
 abbrev pub IsNone : ℕ → List ℕ → Type 0

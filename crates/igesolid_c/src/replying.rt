@@ -1,7 +1,7 @@
 //! What is due, and how the caller gets it.
 
 ghost use Rattle.command_replies.specs.Answer.{code_of};
-ghost use Rattle.igesolid_c.specs.Replies.{IsDue, IsDueOfWhere, IsNone, IsSettled};
+ghost use Rattle.igesolid_c.specs.Replies.{IsDue, IsDueOfRepair, IsDueOfWhere, IsNone, IsSettled};
 ghost use Rattle.std.specs.Prelude.{◌≡◌, IfOk, MatchResult};
 
 use crate::source::ByteSource;
@@ -10,6 +10,7 @@ use crate::words::words_in;
 use command_replies::Answer;
 use iges_base::NoMemory;
 use iges_solid_cmd::{Words, run};
+use repair_commands::{Words as RepairWords, run_repair};
 use std::alloc::Global;
 use where_command::{Words as WhereWords, run_where};
 
@@ -69,6 +70,17 @@ pub fn where_reply(alloc: Global, words: &[u8], file: &[u8]) -> Result<Replied, 
     let mut file = ByteSource::new(file);
     let mut text = TextSink::new(alloc);
     let answer = run_where(alloc, &words, &mut file, &mut text);
+    finished(answer, text)
+}
+
+/// What is due for words of `igesolid-repair`. It errs only where memory runs out.
+pub fn repair_reply(alloc: Global, words: &[u8], file: &[u8]) -> Result<Replied, NoMemory>
+    ensures { IfOk result (λ r. IsDueOfRepair words.now file.now r.status r.text.text) }
+{
+    let words: RepairWords = words_in(alloc, words)?;
+    let mut file = ByteSource::new(file);
+    let mut text = TextSink::new(alloc);
+    let answer = run_repair(alloc, &words, &mut file, &mut text);
     finished(answer, text)
 }
 

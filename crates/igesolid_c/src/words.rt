@@ -6,6 +6,7 @@ ghost use Rattle.std.specs.Prelude.{◌≡◌, ◌==◌, ◌∷◌, ◌++◌, []
 
 use iges_base::NoMemory;
 use iges_solid_cmd::Words;
+use repair_commands::Words as RepairWords;
 use std::alloc::{AllocError, Global};
 use where_command::Words as WhereWords;
 
@@ -40,6 +41,18 @@ impl WordList for WhereWords {
 
     fn none(alloc: Global) -> WhereWords {
         WhereWords::new(alloc)
+    }
+
+    fn add(&mut self, word: &str) -> Result<(), NoMemory> {
+        self.push(word)
+    }
+}
+
+impl WordList for RepairWords {
+    ghost words = { λ w. w };
+
+    fn none(alloc: Global) -> RepairWords {
+        RepairWords::new(alloc)
     }
 
     fn add(&mut self, word: &str) -> Result<(), NoMemory> {
