@@ -40,7 +40,7 @@ typedef struct {
  * `*text` held before: give IGESOLID_NO_TEXT, or what igesolid_free left.
  *
  * No pointer may be null, also with a length of 0. The bytes may not change during the call, and may be freed after it: no text
- * points into them. Words that aren't UTF-8 count as no words. It never ends the process, and fails by its status alone. */
+ * points into them. An empty text is one empty word; a text that isn't UTF-8 is none. It never ends the process, and fails by its status alone. */
 uint32_t igesolid_run(const uint8_t *words, size_t words_length, const uint8_t *file, size_t file_length,
                       const uint8_t *certificate, size_t certificate_length, igesolid_text *text);
 
