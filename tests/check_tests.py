@@ -568,14 +568,14 @@ def imported(top):
         sys.dont_write_bytecode = caches
 
 
-def package(parts, skipped):
+def package(parts):
     """The Python package says what the program says, over the programs and over the shared library."""
     igesolid = imported(parts.copy.top)
     engine = igesolid.Program(program=str(parts.copy.program), where=str(parts.copy.where))
     yield from answers(parts, igesolid, engine, "package")
     library = shipped("libigesolid-x86_64-linux.so")
     if library is None:
-        skipped("the Python package over the shared library: dist/ holds none of these sources")
+        parts.skipped("the Python package over the shared library: dist/ holds none of these sources")
     else:
         yield from answers(parts, igesolid, igesolid.Library(str(library)), "package over the library")
         yield from calls(parts, igesolid, igesolid.Library(str(library)))
@@ -738,18 +738,18 @@ def installed(copy):
 
 def checks(copy, skipped):
     parts, prefix = installed(copy)
-    for part in (texts, forms, statuses, tables, certificates, interrupts, progress, launched):
+    parts.skipped = skipped
+    for part in (texts, forms, statuses, tables, certificates, interrupts, progress, launched, package):
         parts.fill()
         yield from part(parts)
     yield from html_tests.checks(parts)
-    for part in (package, wheel):
-        parts.fill()
-        yield from part(parts, skipped)
     parts.fill()
     yield from recipes(parts, skipped)
     parts.fill()
     yield from installed_package(parts, prefix)
     yield from image(parts, skipped)
+    parts.fill()
+    yield from wheel(parts, skipped)
 
 
 def clusters(copy, skipped):

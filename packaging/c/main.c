@@ -51,9 +51,10 @@ static Bytes read_file(const char *path, size_t limit) {
     return all;
 }
 
-/* The words, with a line feed between each two. Of a file's name only its place counts; no listed word holds a line feed. */
+/* The words, with a line feed between each two; where there are none, a byte that isn't UTF-8, which says so. Of a file's name only its
+ * place counts; no listed word holds a line feed. */
 static char *joined(int count, char **given, int file, int certificate) {
-    size_t length = 1;
+    size_t length = 2;
     for (int k = 0; k < count; k++) length += strlen(given[k]) + 1;
     char *words = malloc(length), *to = words;
     if (!words) return NULL;
@@ -62,6 +63,7 @@ static char *joined(int count, char **given, int file, int certificate) {
         if (k > 0) *to++ = '\n';
         for (; *word; word++) *to++ = *word == '\n' ? ' ' : *word;
     }
+    if (count == 0) *to++ = (char)0xff;
     *to = 0;
     return words;
 }

@@ -114,8 +114,9 @@ class Row {
     const [, number, verdict, rule, entity, place] = words;
     Object.assign(this, { file, box, number, isClosed: verdict === "closed" });
     this.out = made("pre", { hidden: true });
-    const said = this.isClosed ? made("td", { className: "good", textContent: "closed" }) : made("td", { className: "bad" }, made("span", { textContent: `fails ${rule}` }),
-      made("small", { textContent: `${MEANING[rule] ?? ""}: entity ${entity}, place ${place}` }));
+    const said = this.isClosed ? made("td", { className: "good", textContent: "closed" })
+      : made("td", { className: "bad" }, made("span", { textContent: `fails ${rule}` }),
+        made("small", { textContent: `${MEANING[rule] ?? ""}: entity ${entity}, place ${place}` }));
     const about = made("td", {}, ...facts.map(it => made("small", { textContent: it })));
     this.elements = [made("tr", { className: "solid" }, made("td", { textContent: number }), said, about, this.actions()),
       made("tr", {}, made("td", { colSpan: 4, className: "told" }, this.out))];
@@ -201,7 +202,8 @@ async function judge(given) {
     note.textContent = `${time(got.took)}, ${size(got.memory)} of memory`;
     fill(file, box, shown(got.text));
   } else {
-    box.append(made("p", { className: "note bad", textContent: got.fault ?? REFUSED[got.status] ?? "" }), made("pre", { textContent: got.text ? shown(got.text) : "" }));
+    box.append(made("p", { className: "note bad", textContent: got.fault ?? REFUSED[got.status] ?? "" }));
+    box.append(made("pre", { textContent: got.text ? shown(got.text) : "" }));
     if (got.status === 3) box.append(made("p", { className: "note" }, button("Mend", box, "mending the layout of the lines", () => mend(file, box))));
   }
   box.dataset.done = isJudged ? "yes" : "no";
@@ -219,6 +221,7 @@ function takeFiles() {
 takeFiles();
 ready = begin();
 ready.catch(fault => {
-  element("says").textContent = `This browser can't run the checker: ${fault.message}. Chrome, Edge and Firefox of 2023 or later, and Safari 16.4 or later can.`;
+  const others = "Chrome, Edge and Firefox of 2023 or later, and Safari 16.4 or later can.";
+  element("says").textContent = `This browser can't run the checker: ${fault.message}. ${others}`;
   element("says").className = "bad";
 });
