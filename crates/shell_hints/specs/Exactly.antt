@@ -1,0 +1,12 @@
+-- What the answer of a hint says.
+use Rattle.std.specs.Prelude.{◌≡◌, ◌↔◌, ◌⊎◌, ℕ, zero, suc, List, [], ◌∷◌, Option, Some}
+
+-- It is Some of exactly the data of which the condition holds: so there are no two such, and it is None where there are none.
+abbrev pub IsExactly : {A : Type 0} → (A → Type 0) → Option A → Type 0
+IsExactly {A} Holds answer = (x : A) → (answer ≡ Some x) ↔ Holds x
+
+-- P holds of exactly n of these
+abbrev pub HoldsOf : {A : Type 0} → (A → Type 0) → ℕ → List A → Type 0
+HoldsOf P n [] = n ≡ 0
+HoldsOf P zero (x ∷ xs) = (¬ P x) × HoldsOf P zero xs
+HoldsOf P (suc n) (x ∷ xs) = (P x × HoldsOf P n xs) ⊎ ((¬ P x) × HoldsOf P (suc n) xs)

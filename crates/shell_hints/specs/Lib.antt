@@ -1,0 +1,3 @@
+pub mod Exactly
+pub mod Counted
+pub mod Tests
