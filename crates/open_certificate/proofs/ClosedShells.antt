@@ -1,11 +1,10 @@
 -- A closed shell is sound as an open one.
-use Rattle.std.specs.Prelude.{◌≡◌, ℕ, Some, slice_get}
+use Rattle.std.specs.Prelude.{ℕ}
 use Rattle.std.proofs.Common.{arith, inl, inr}
 use Rattle.solid_data.specs.SolidData.{SolidData}
 use Rattle.solid_data.specs.declared.solid.Shell.{Shell}
 use Rattle.solid_data.proofs.Members.{All-at, has_get}
 use Rattle.solid_data.proofs.ObligationLemmas.{AllByRecursion-weaker}
-use Rattle.edge_uses.specs.declared.row.Row.{Row}
 use Rattle.edge_uses.specs.ShellRows.{ShellRows, shell_rows}
 use Rattle.edge_uses.specs.RowRelations.{IsPaired}
 use Rattle.shell_rules.specs.Closed.{IsLinked, IsClosedShell}

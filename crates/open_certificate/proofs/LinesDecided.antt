@@ -20,8 +20,8 @@ use Rattle.cert_lines.specs.declared.fault.Illegal.TheVariants.{Misspelt, Unfit,
 use Rattle.topo_certificate.specs.Stand.{Stand, row_named, row_start, start_count, IsAbove, IsMate, FollowsAsNamed, TurnsTo, FitsEdge, FitsCorner, FitsPoint}
 use Rattle.topo_certificate.specs.Stand.{FitsReach}
 use Rattle.topo_certificate.proofs.Decided.{line_decided as closed_line_decided}
-use Rattle.open_certificate.specs.Line.{OpenLine, head, shell, edge, lone, cycle, path, point, reach, border, end, spelling, numbers_of, HasRows, HasSpelling}
-use Rattle.open_certificate.specs.Line.{IsSpelled, IsMisspelt}
+use Rattle.open_certificate.specs.Line.{OpenLine, head, shell, edge, lone, cycle, path, point, reach, border, end, spelling, numbers_of, HasRows}
+use Rattle.open_certificate.specs.Line.{IsSpelled}
 use Rattle.open_certificate.specs.Stand.{OpenStand, shell_of, shared, stand_from_latest, FitsShell, ListsAll, FitsLone, IsChain, last_of, FitsPath, GoesOnTo}
 use Rattle.open_certificate.specs.Stand.{FitsBorder, CornerDue, ReachDue, BorderDue, IsDone, FitsOpen, FitsLine}
 use Rattle.open_certificate.specs.Legal.{IsLegalAfter, IsFirstBadAfter, IsOpenLegal, IsOpenFirstBad}
