@@ -1,5 +1,5 @@
 -- Where paths and borders begin, also where the vertices lie far apart.
-use Rattle.std.specs.Prelude.{◌≡◌, ◌<◌, ◌≤◌, ◌+◌, ◌-◌, ◌⊎◌, ℕ, Contains, Option, Some, None, MatchOption, length, replicate, slice_get, slice_set, get_or}
+use Rattle.std.specs.Prelude.{◌≡◌, ◌≤◌, ◌+◌, ◌-◌, ◌⊎◌, ℕ, Contains, Option, Some, None, MatchOption, length, replicate, slice_get, slice_set, get_or}
 use Rattle.std.proofs.Common.{refl, sym, ◌∙◌, ap, subst}
 use Rattle.solid_data.proofs.Members.{All-at, has_get}
 use Rattle.edge_uses.specs.Cells.{Celled, cell_of, with_cell}
