@@ -2,10 +2,10 @@
 use Rattle.std.specs.Prelude.{ℕ, List}
 use Rattle.cert_lines.specs.Line.{CertLine, IsMisspelt, first_limit}
 use Rattle.cert_lines.specs.Opening.{IsOther}
-use Rattle.cert_lines.specs.declared.fault.Misfit.{Misfit}
-use Rattle.cert_lines.specs.declared.fault.Illegal.{Illegal}
-use Rattle.cert_lines.specs.declared.fault.Illegal.TheVariants.{Misspelt as MisspeltLine, Unfit as UnfitLine}
-use Rattle.cert_lines.specs.declared.fault.Misfit.TheVariants.{Misspelt, Unfit}
+use Rattle.cert_text.specs.declared.fault.Misfit.{Misfit}
+use Rattle.cert_text.specs.declared.fault.Illegal.{Illegal}
+use Rattle.cert_text.specs.declared.fault.Illegal.TheVariants.{Misspelt as MisspeltLine, Unfit as UnfitLine}
+use Rattle.cert_text.specs.declared.fault.Misfit.TheVariants.{Misspelt, Unfit}
 
 -- The bytes spell no line, or they are too long or spell another line than this.
 abbrev pub IsMisfit : (CertLine → Type 0) → List ℕ → Misfit → Type 0

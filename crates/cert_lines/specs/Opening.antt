@@ -2,8 +2,8 @@
 use Rattle.std.specs.Prelude.{◌≡◌, ℕ, ◌⊎◌, List, [], ◌∷◌}
 use Rattle.cert_lines.specs.Line.{CertLine, head, solid, cut_lines, IsLine, IsLong, IsMisspelt, first_limit}
 use Rattle.cert_lines.specs.declared.version.Version.{Version}
-use Rattle.cert_lines.specs.declared.fault.Illegal.{Illegal}
-use Rattle.cert_lines.specs.declared.fault.Illegal.TheVariants.{Misspelt, Unfit, Missing}
+use Rattle.cert_text.specs.declared.fault.Illegal.{Illegal}
+use Rattle.cert_text.specs.declared.fault.Illegal.TheVariants.{Misspelt, Unfit, Missing}
 
 -- The certificate begins with the head of this version, and these are the lines after it.
 pub record IsHeaded (certificate : List ℕ) (v : Version) (rest : List (List ℕ)) : Type 0 where

@@ -14,7 +14,8 @@ use Rattle.shell_rules.specs.Closed.{IsClosedSolid}
 use Rattle.shell_rules.specs.ShellObligations.{solid_obligations}
 use Rattle.shell_rules.proofs.ClosedLemmas.{closed_is_all_hold}
 use Rattle.edge_uses.proofs.Whole.{vertices_known}
-use Rattle.cert_lines.specs.Line.{head, solid, spaced, spelling}
+use Rattle.cert_text.specs.Text.{spaced}
+use Rattle.cert_lines.specs.Line.{head, solid, spelling}
 use Rattle.cert_lines.specs.Written.{certificate_lines, text_of}
 use Rattle.cert_lines.specs.declared.parts.Certificate.{Certificate}
 use Rattle.cert_lines.specs.declared.version.Version.TheVariants.{Two}

@@ -17,7 +17,8 @@ use Rattle.edge_uses.specs.RowRelations.{AreMates, StartsAt}
 use Rattle.edge_uses.specs.Mates.{RunsOn}
 use Rattle.vertex_link.specs.Cycles.{IsCycle}
 use Rattle.shell_reach.specs.Reaching.{ReachFrom, ReachesOne, row_numbers}
-use Rattle.cert_lines.specs.Line.{CertLine, tally, shell, edge, corner, point, reach, end, spelling, IsShort, HasSpelling}
+use Rattle.cert_text.specs.Text.{IsShort}
+use Rattle.cert_lines.specs.Line.{CertLine, tally, shell, edge, corner, point, reach, end, spelling, HasSpelling}
 use Rattle.cert_lines.specs.declared.counts.ShellCounts.{ShellCounts}
 use Rattle.cert_lines.specs.declared.counts.Tally.{Tally}
 use Rattle.cert_lines.specs.declared.version.Version.{Version}

@@ -15,7 +15,7 @@ use Rattle.edge_uses.proofs.Whole.{rising}
 use Rattle.brep_walk.specs.SolidOf.{solid_of}
 use Rattle.cert_lines.specs.Line.{CertLine, head, solid, end, words, spelling, cut_lines, IsSpelled, IsLine, line_limit}
 use Rattle.cert_lines.specs.Opening.{Opens, IsHeaded}
-use Rattle.cert_lines.specs.declared.fault.Illegal.{Illegal}
+use Rattle.cert_text.specs.declared.fault.Illegal.{Illegal}
 use Rattle.cert_lines.specs.declared.version.Version.TheVariants.{One, Two, Three}
 use Rattle.cert_lines.proofs.CutLines.{cut_spelled}
 use Rattle.topo_certificate.specs.declared.TheConstants.{CERT_LIMIT}

@@ -5,7 +5,7 @@ use Rattle.solid_data.specs.Obligations.{AllHold, FirstFalse}
 use Rattle.solid_data.specs.declared.verdict.Failing.{Failing}
 use Rattle.brep_walk.specs.SolidOf.{solid_of}
 use Rattle.cert_lines.specs.Opening.{Opens, IsBadOpening, IsHeaded}
-use Rattle.cert_lines.specs.declared.fault.Illegal.{Illegal}
+use Rattle.cert_text.specs.declared.fault.Illegal.{Illegal}
 use Rattle.cert_lines.specs.declared.version.Version.{Version}
 use Rattle.cert_lines.specs.declared.version.Version.TheVariants.{One, Two, Three}
 use Rattle.topo_certificate.specs.declared.TheConstants.{CERT_LIMIT}

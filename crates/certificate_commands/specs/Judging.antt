@@ -10,7 +10,7 @@ use Rattle.cert_lines.specs.Line.{cut_lines}
 use Rattle.cert_lines.specs.Opening.{Opens, IsBadOpening}
 use Rattle.cert_lines.specs.declared.version.Version.{Version}
 use Rattle.cert_lines.specs.declared.version.Version.TheVariants.{One, Two, Three}
-use Rattle.cert_lines.specs.declared.fault.Illegal.{Illegal}
+use Rattle.cert_text.specs.declared.fault.Illegal.{Illegal}
 use Rattle.topo_certificate.specs.declared.TheConstants.{CERT_LIMIT}
 use Rattle.topo_certificate.specs.Feeding.{FedKept, IsFed}
 use Rattle.solid_check.specs.Checked.{checked}

@@ -13,7 +13,7 @@ use Rattle.brep_walk.specs.Places.{places}
 use Rattle.brep_walk.specs.SolidOf.{solid_of}
 use Rattle.iges_params.specs.Contents.{Contents}
 use Rattle.cert_lines.specs.Opening.{Opens, IsBadOpening}
-use Rattle.cert_lines.specs.declared.fault.Illegal.{Illegal}
+use Rattle.cert_text.specs.declared.fault.Illegal.{Illegal}
 use Rattle.cert_lines.proofs.Openings.{one_opening, opens_or_bad}
 use Rattle.topo_certificate.specs.Legal.{IsFirstBad}
 use Rattle.topo_certificate.proofs.LegalLemmas.{legal_has_no_bad_lem}

@@ -14,9 +14,10 @@ use Rattle.solid_data.proofs.Decisions.{decided_contains, decided_list}
 use Rattle.edge_uses.specs.declared.row.Row.{Row}
 use Rattle.edge_uses.specs.ShellRows.{ShellRows}
 use Rattle.edge_uses.specs.RowRelations.{point_count}
-use Rattle.cert_lines.specs.Line.{spaced, IsShort, edge as edge_line, corner as corner_line, point as point_line, reach as reach_line}
-use Rattle.cert_lines.specs.declared.fault.Illegal.{Illegal}
-use Rattle.cert_lines.specs.declared.fault.Illegal.TheVariants.{Misspelt, Unfit, Missing}
+use Rattle.cert_text.specs.Text.{spaced, IsShort}
+use Rattle.cert_lines.specs.Line.{edge as edge_line, corner as corner_line, point as point_line, reach as reach_line}
+use Rattle.cert_text.specs.declared.fault.Illegal.{Illegal}
+use Rattle.cert_text.specs.declared.fault.Illegal.TheVariants.{Misspelt, Unfit, Missing}
 use Rattle.topo_certificate.specs.Stand.{Stand, row_named, row_start, start_count, IsAbove, IsMate, FollowsAsNamed, TurnsTo, FitsEdge, FitsCorner, FitsPoint}
 use Rattle.topo_certificate.specs.Stand.{FitsReach}
 use Rattle.topo_certificate.proofs.Decided.{line_decided as closed_line_decided}

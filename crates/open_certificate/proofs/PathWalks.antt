@@ -3,7 +3,7 @@ use Rattle.std.specs.Prelude.{◌≡◌, ℕ, ◌+◌, List, ◌∷◌, length}
 use Rattle.std.proofs.Common.{refl, sym, ◌∙◌, ap, subst, arith}
 use Rattle.edge_uses.specs.ShellRows.{ShellRows}
 use Rattle.topo_certificate.specs.Stand.{TurnsTo}
-use Rattle.cert_lines.specs.Numbers.{Begins, AreNumbers}
+use Rattle.cert_text.specs.Text.{Begins, AreNumbers}
 use Rattle.topo_certificate.proofs.Rings.{next_left, none_left}
 use Rattle.open_certificate.specs.Stand.{IsChain, last_of}
 

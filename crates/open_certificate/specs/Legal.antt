@@ -1,8 +1,8 @@
 -- Which lines after the head make a certificate of an open shell legal, and which is the first bad one.
 use Rattle.std.specs.Prelude.{◌≡◌, ℕ, ◌⊎◌, true, false, List, [], ◌∷◌}
 use Rattle.solid_data.specs.SolidData.{SolidData}
-use Rattle.cert_lines.specs.declared.fault.Illegal.{Illegal}
-use Rattle.cert_lines.specs.declared.fault.Illegal.TheVariants.{Misspelt, Unfit, Missing}
+use Rattle.cert_text.specs.declared.fault.Illegal.{Illegal}
+use Rattle.cert_text.specs.declared.fault.Illegal.TheVariants.{Misspelt, Unfit, Missing}
 use Rattle.open_certificate.specs.Line.{OpenLine, IsSpelled, IsMisspelt}
 use Rattle.open_certificate.specs.Stand.{stand_from_latest, FitsLine}
 

@@ -10,4 +10,4 @@ pub mod Kept
 pub mod Walks
 pub mod Accepted
 pub mod Laws
-pub use Rattle.cert_lines.specs.Numbers
+pub use Rattle.cert_text.specs.Text

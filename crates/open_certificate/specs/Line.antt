@@ -1,7 +1,7 @@
 -- The lines of an open shell's certificate, and how they are spelled.
 use Rattle.std.specs.Prelude.{◌≡◌, ℕ, ◌<◌, List, [], ◌∷◌, ◌++◌, length, codes, ⊤}
 use Rattle.std.specs.List.{AllByRecursion}
-use Rattle.cert_lines.specs.Line.{IsShort, spaced}
+use Rattle.cert_text.specs.Text.{IsShort, spaced}
 
 -- Rows, faces and loops are numbered from 1 in a line.
 pub data OpenLine : Type 0 where

@@ -1,7 +1,7 @@
 -- The first line of an open shell's certificate, and the shell that its second names.
 use Rattle.std.specs.Prelude.{◌≡◌, ℕ, List}
-use Rattle.cert_lines.specs.declared.fault.Misfit.{Misfit}
-use Rattle.cert_lines.specs.declared.fault.Misfit.TheVariants.{Misspelt, Unfit}
+use Rattle.cert_text.specs.declared.fault.Misfit.{Misfit}
+use Rattle.cert_text.specs.declared.fault.Misfit.TheVariants.{Misspelt, Unfit}
 use Rattle.open_certificate.specs.Line.{OpenLine, head, shell, IsSpelled, IsMisspelt}
 
 abbrev pub IsHead : OpenLine → Type 0

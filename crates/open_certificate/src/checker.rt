@@ -57,7 +57,7 @@ impl<'a> OpenChecker<'a> {
     ghost use Rattle.open_certificate.specs.Stand.{stand_from_latest, FitsLine};
     ghost use Rattle.open_certificate.specs.Legal.{IsBadLine};
     ghost use Rattle.open_certificate.specs.Kept.{IsAt, TakesLine};
-    ghost use Rattle.cert_lines.specs.declared.fault.Illegal.TheVariants.{Missing as IsMissing};
+    ghost use Rattle.cert_text.specs.declared.fault.Illegal.TheVariants.{Missing as IsMissing};
 
     /// A checker of which the next line is line 2. The solid has one shell, whose entity is the solid's own, and whose
     /// loops join: without that the lines that are taken don't show that the shell is sound. It takes all the memory that a

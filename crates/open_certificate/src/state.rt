@@ -89,7 +89,7 @@ fn first_reached(alloc: Global, faces: usize) -> Result<Vec<bool>, NoMemory>
 impl OpenState {
     ghost use Rattle.std.specs.Prelude.{◌≡◌, ◌↔◌, ℕ, ◌+◌, ◌<◌, ◌^◌, [], List, IsTrue, IfOk, true, false, length};
     ghost use Rattle.solid_data.specs.SolidData.{SolidData};
-    ghost use Rattle.cert_lines.specs.Numbers.{AreNumbers};
+    ghost use Rattle.cert_text.specs.Text.{AreNumbers};
     ghost use Rattle.topo_certificate.specs.Kept.{InFileOrder};
     ghost use Rattle.open_certificate.specs.Line.{OpenLine, HasSpelling, shell, edge, lone, cycle, path, point, reach, border};
     ghost use Rattle.open_certificate.specs.Stand.{OpenStand, stand_from_latest, shell_of, IsDone};

@@ -4,7 +4,7 @@ use Rattle.std.proofs.Common.{inl, inr}
 use Rattle.iges_params.specs.Contents.{Contents}
 use Rattle.brep_walk.specs.OpenPlaces.{open_places, shell_solid_of}
 use Rattle.brep_walk.proofs.Decided.{open_places_decided}
-use Rattle.cert_lines.specs.declared.fault.Illegal.{Illegal}
+use Rattle.cert_text.specs.declared.fault.Illegal.{Illegal}
 use Rattle.command_replies.specs.declared.answer.Answer.TheVariants.{Done, No, TooLarge}
 use Rattle.command_replies.specs.Texts.{accepted_line, fail_line, illegal_line}
 use Rattle.command_replies.proofs.SomeDue.{IsSome, longer}

@@ -2,7 +2,7 @@
 use Rattle.std.specs.Prelude.{ℕ, ◌<◌, ◌≤◌, List, [], length}
 use Rattle.iges_params.specs.Contents.{Contents}
 use Rattle.brep_walk.specs.OpenPlaces.{shell_solid_of}
-use Rattle.cert_lines.specs.declared.fault.Illegal.{Illegal}
+use Rattle.cert_text.specs.declared.fault.Illegal.{Illegal}
 use Rattle.command_replies.specs.Texts.{accepted_line, fail_line, fail_text, illegal_line}
 use Rattle.command_replies.specs.declared.answer.Answer.{Answer}
 use Rattle.command_replies.specs.declared.answer.Answer.TheVariants.{Done, No, TooLarge}

@@ -2,9 +2,9 @@
 use Rattle.std.specs.Prelude.{◌≡◌, ◌⊎◌, ℕ, List, [], ◌∷◌}
 use Rattle.cert_lines.specs.Line.{cut_lines}
 use Rattle.cert_lines.specs.Misfits.{illegal_at}
-use Rattle.cert_lines.specs.declared.fault.Illegal.{Illegal}
-use Rattle.cert_lines.specs.declared.fault.Illegal.TheVariants.{Missing}
-use Rattle.cert_lines.specs.declared.fault.Misfit.{Misfit}
+use Rattle.cert_text.specs.declared.fault.Illegal.{Illegal}
+use Rattle.cert_text.specs.declared.fault.Illegal.TheVariants.{Missing}
+use Rattle.cert_text.specs.declared.fault.Misfit.{Misfit}
 use Rattle.open_certificate.specs.Line.{OpenLine, head, IsSpelled}
 use Rattle.open_certificate.specs.Opening.{IsHead, IsShell, NamesShell, IsOf, IsMisfit}
 

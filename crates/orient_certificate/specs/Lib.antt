@@ -9,4 +9,4 @@ pub mod Graph
 pub mod Laws
 pub mod Checked
 pub mod Line
-pub mod Numbers
+pub mod Spells

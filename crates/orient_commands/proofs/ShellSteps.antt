@@ -24,7 +24,7 @@ use Rattle.brep_walk.specs.SolidOf.{solid_of}
 use Rattle.topo_certificate.proofs.UseSizes.{few_shells}
 use Rattle.orient_certificate.specs.Checked.{ShellOf}
 use Rattle.orient_certificate.specs.Flags.{FlagsFit, face_flags, rows_at}
-use Rattle.orient_certificate.specs.Line.{IsShort}
+use Rattle.cert_text.specs.Text.{IsShort}
 use Rattle.orient_certificate.specs.OddRing.{OddRing, GoesOn, row_numbers}
 use Rattle.orient_certificate.specs.Outcome.{IsFault}
 use Rattle.orient_certificate.specs.declared.fault.OrientFailing.{OrientFailing}

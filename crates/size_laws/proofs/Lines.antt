@@ -13,7 +13,8 @@ use Rattle.solid_data.specs.declared.solid.LoopUse.TheVariants.{EdgeUse, VertexU
 use Rattle.solid_data.specs.declared.solid.Shell.{Shell}
 use Rattle.edge_uses.specs.declared.row.Row.{Row}
 use Rattle.edge_uses.specs.ShellRows.{ShellRows, row_of, loop_rows, point_of, shell_rows, rows_of}
-use Rattle.cert_lines.specs.Line.{CertLine, head, solid, shell, edge, corner, point, reach, tally, end, spaced, spelling, HasSpelling, put_before, cut_lines}
+use Rattle.cert_text.specs.Text.{spaced}
+use Rattle.cert_lines.specs.Line.{CertLine, head, solid, shell, edge, corner, point, reach, tally, end, spelling, HasSpelling, put_before, cut_lines}
 use Rattle.cert_lines.specs.declared.counts.ShellCounts.{ShellCounts}
 use Rattle.cert_lines.specs.declared.counts.Tally.{Tally}
 use Rattle.cert_lines.specs.declared.version.Version.{Version}

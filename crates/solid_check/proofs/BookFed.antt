@@ -8,7 +8,7 @@ use Rattle.brep_walk.specs.SolidOf.{solid_of}
 use Rattle.solid_data.specs.Obligations.{AllHold}
 use Rattle.cert_lines.specs.Line.{CertLine, end, spelling, IsLine, line_limit}
 use Rattle.cert_lines.specs.declared.version.Version.TheVariants.{Two}
-use Rattle.cert_lines.specs.declared.fault.Illegal.{Illegal}
+use Rattle.cert_text.specs.declared.fault.Illegal.{Illegal}
 use Rattle.topo_certificate.specs.Legal.{IsLegal, IsPartBad}
 use Rattle.topo_certificate.specs.Feeding.{FedKept}
 use Rattle.topo_certificate.specs.PartEnds.{EndsPart}

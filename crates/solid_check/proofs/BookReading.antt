@@ -15,7 +15,7 @@ use Rattle.edge_uses.proofs.Whole.{rising}
 use Rattle.cert_lines.specs.Line.{CertLine, head, solid, end, spelling, IsSpelled, IsLine, first_limit}
 use Rattle.cert_lines.specs.Opening.{Opens, IsHeaded, IsHead, IsWrong, IsSecondWrong, IsFirstWrong, IsBadOpening}
 use Rattle.cert_lines.specs.declared.version.Version.TheVariants.{Two, Three}
-use Rattle.cert_lines.specs.declared.fault.Illegal.{Illegal}
+use Rattle.cert_text.specs.declared.fault.Illegal.{Illegal}
 use Rattle.cert_lines.proofs.Decided.{openings_are_decided}
 use Rattle.cert_lines.proofs.Openings.{one_bad_opening, opens_or_bad}
 use Rattle.cert_lines.proofs.Spelling.{line_one}

@@ -36,7 +36,8 @@ use Rattle.solid_data.specs.Numbering.{HasFewParts}
 use Rattle.solid_check.specs.Laws.{ClosedIsAccepted}
 use Rattle.solid_check.proofs.Ready.{enum_get, point_is, closed_at, closed_joins, apart_all, closed_is_ready}
 use Rattle.brep_walk.proofs.KnownVertices.{vertices_known}
-use Rattle.cert_lines.specs.Line.{CertLine, head, solid, spaced, spelling, version_number, first_limit, IsLine}
+use Rattle.cert_text.specs.Text.{spaced}
+use Rattle.cert_lines.specs.Line.{CertLine, head, solid, spelling, version_number, first_limit, IsLine}
 
 -- Sizes.
 

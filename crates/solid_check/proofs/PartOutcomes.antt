@@ -3,10 +3,11 @@ use Rattle.std.specs.Prelude.{◌≡◌, ℕ, zero, suc, ◌+◌, ◌<◌, ◌�
 use Rattle.std.proofs.Common.{refl, sym, ◌∙◌, ap, subst, arith, inl, inr, ⊎_elim, length-append}
 use Rattle.solid_data.specs.SolidData.{SolidData}
 use Rattle.solid_data.proofs.Decisions.{Decided}
-use Rattle.cert_lines.specs.Line.{CertLine, solid, end, spaced, spelling, IsSpelled, IsLine, IsLong, IsMisspelt, line_limit}
+use Rattle.cert_text.specs.Text.{spaced}
+use Rattle.cert_lines.specs.Line.{CertLine, solid, end, spelling, IsSpelled, IsLine, IsLong, IsMisspelt, line_limit}
 use Rattle.cert_lines.specs.declared.version.Version.{Version}
-use Rattle.cert_lines.specs.declared.fault.Illegal.{Illegal}
-use Rattle.cert_lines.specs.declared.fault.Illegal.TheVariants.{Misspelt, Unfit, Missing}
+use Rattle.cert_text.specs.declared.fault.Illegal.{Illegal}
+use Rattle.cert_text.specs.declared.fault.Illegal.TheVariants.{Misspelt, Unfit, Missing}
 use Rattle.cert_lines.proofs.Decided.{lines_are_decided}
 use Rattle.cert_lines.proofs.Spelling.{line_one}
 use Rattle.topo_certificate.specs.Stand.{Stand, stand_from_latest, FitsLine}

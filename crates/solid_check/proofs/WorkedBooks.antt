@@ -7,8 +7,8 @@ use Rattle.solid_data.specs.SolidData.{SolidData}
 use Rattle.cert_lines.specs.Line.{CertLine, solid, end, spelling, IsSpelled}
 use Rattle.cert_lines.specs.declared.version.Version.{Version}
 use Rattle.cert_lines.specs.declared.version.Version.TheVariants.{Two}
-use Rattle.cert_lines.specs.declared.fault.Illegal.{Illegal}
-use Rattle.cert_lines.specs.declared.fault.Illegal.TheVariants.{Unfit, Missing}
+use Rattle.cert_text.specs.declared.fault.Illegal.{Illegal}
+use Rattle.cert_text.specs.declared.fault.Illegal.TheVariants.{Unfit, Missing}
 use Rattle.cert_lines.proofs.Spelling.{line_one}
 use Rattle.topo_certificate.specs.Stand.{Stand, stand_from_latest, FitsLine}
 use Rattle.topo_certificate.specs.Legal.{FitsPart}

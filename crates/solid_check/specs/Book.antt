@@ -9,7 +9,7 @@ use Rattle.solid_data.specs.declared.verdict.Failing.{Failing}
 use Rattle.cert_lines.specs.Line.{solid, IsSpelled}
 use Rattle.cert_lines.specs.Opening.{IsSecondWrong}
 use Rattle.cert_lines.specs.declared.version.Version.TheVariants.{Two}
-use Rattle.cert_lines.specs.declared.fault.Illegal.{Illegal}
+use Rattle.cert_text.specs.declared.fault.Illegal.{Illegal}
 use Rattle.topo_certificate.specs.Legal.{IsPartBad}
 use Rattle.solid_check.specs.Accepted.{Part, part_lines, solids_named, IsGoodPart}
 use Rattle.solid_check.specs.Checked.{checked}

@@ -15,7 +15,8 @@ use Rattle.edge_uses.specs.RowRelations.{AreMates, Turns, StartsAt, OnFace, IsPa
 use Rattle.shell_rules.specs.Closed.{AreNeighbours, IsReached, IsLinked, IsPoint}
 use Rattle.solid_data.proofs.Members.{Has, NoRepeat, no_longer, Has-from_Contains, Contains-from_Has, All-from, total, count_by-total, Rises, rises_none}
 use Rattle.edge_uses.proofs.Counting.{found_row}
-use Rattle.cert_lines.specs.Line.{CertLine, edge, corner, point, reach, tally, IsShort}
+use Rattle.cert_text.specs.Text.{IsShort}
+use Rattle.cert_lines.specs.Line.{CertLine, edge, corner, point, reach, tally}
 use Rattle.cert_lines.specs.declared.counts.Tally.{Tally}
 use Rattle.cert_lines.specs.declared.version.Version.{Version}
 use Rattle.topo_certificate.specs.Kept.{all_due}

@@ -13,8 +13,8 @@ use Rattle.cert_lines.specs.Said.{IsRowLine, Means, IsJudged}
 use Rattle.cert_lines.specs.declared.words.Judged.{Judged}
 use Rattle.cert_lines.specs.declared.words.Judged.TheVariants.{Misspelt, Long}
 use Rattle.cert_lines.specs.declared.words.Words.{Words}
-use Rattle.cert_lines.specs.declared.fault.Illegal.{Illegal}
-use Rattle.cert_lines.specs.declared.fault.Illegal.TheVariants.{Unfit}
+use Rattle.cert_text.specs.declared.fault.Illegal.{Illegal}
+use Rattle.cert_text.specs.declared.fault.Illegal.TheVariants.{Unfit}
 use Rattle.topo_certificate.specs.Legal.{IsBadLine, BeginsNext, FitsPart}
 use Rattle.cert_lines.specs.declared.version.Version.{Version}
 use Rattle.topo_certificate.specs.Kept.{KeptShell, IsFresh, AreCounts, HoldsMates, HoldsFaces, all_due, lines_due}

@@ -11,7 +11,7 @@ use Rattle.edge_uses.specs.declared.row.Row.{Row}
 use Rattle.edge_uses.specs.ShellRows.{ShellRows}
 use Rattle.edge_uses.specs.RowRelations.{point_count}
 use Rattle.cert_lines.specs.Line.{corner, point}
-use Rattle.cert_lines.specs.Numbers.{Begins, AreNumbers}
+use Rattle.cert_text.specs.Text.{Begins, AreNumbers}
 use Rattle.topo_certificate.specs.Stand.{Stand, FitsCorner, FitsPoint, IsAbove, row_named, row_start, vertex_of, point_named, start_count}
 use Rattle.topo_certificate.specs.Kept.{corner_size, is_alone}
 use Rattle.topo_certificate.specs.Places.{IsNamedAt}

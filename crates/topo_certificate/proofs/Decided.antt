@@ -5,8 +5,8 @@ use Rattle.solid_data.specs.SolidData.{SolidData}
 use Rattle.solid_data.proofs.Decisions.{Decided, decided_alike, decided_below, decided_bool, decided_both, decided_either}
 use Rattle.cert_lines.specs.Line.{CertLine, solid, end, IsLine, IsLong, IsMisspelt, line_limit}
 use Rattle.cert_lines.specs.declared.version.Version.{Version}
-use Rattle.cert_lines.specs.declared.fault.Illegal.{Illegal}
-use Rattle.cert_lines.specs.declared.fault.Illegal.TheVariants.{Misspelt, Unfit, Missing}
+use Rattle.cert_text.specs.declared.fault.Illegal.{Illegal}
+use Rattle.cert_text.specs.declared.fault.Illegal.TheVariants.{Misspelt, Unfit, Missing}
 use Rattle.cert_lines.proofs.Decided.{lines_are_decided}
 use Rattle.topo_certificate.specs.Stand.{Stand, FitsLine, stand_from_latest}
 use Rattle.topo_certificate.specs.Legal.{IsLegal, IsFirstBad, BeginsNext, FitsPart}

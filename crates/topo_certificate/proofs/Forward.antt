@@ -12,7 +12,7 @@ use Rattle.topo_certificate.specs.Stand.{Stand, stand_from_latest, stand_after, 
 use Rattle.topo_certificate.specs.Legal.{AreFitting, IsLegal, IsBadNext, HasFirstBad}
 use Rattle.topo_certificate.specs.After.{IsLegalAfter, IsFirstBadAfter}
 use Rattle.topo_certificate.proofs.Facts.{AllFit}
-use Rattle.cert_lines.specs.declared.fault.Illegal.{Illegal}
+use Rattle.cert_text.specs.declared.fault.Illegal.{Illegal}
 use Rattle.topo_certificate.proofs.LineKinds.{end_line, first_true}
 
 -- the latest first: a line more, and then others

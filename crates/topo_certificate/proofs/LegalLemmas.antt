@@ -7,7 +7,7 @@ use Rattle.cert_lines.specs.declared.version.Version.{Version}
 use Rattle.topo_certificate.specs.Stand.{Stand, stand_from_latest, FitsLine}
 use Rattle.topo_certificate.specs.Legal.{IsLegal, IsUnfit, IsBadLine, IsFirstBad, FitsPart, IsPartBad}
 use Rattle.topo_certificate.specs.After.{IsLegalAfter, IsFirstBadAfter}
-use Rattle.cert_lines.specs.declared.fault.Illegal.{Illegal}
+use Rattle.cert_text.specs.declared.fault.Illegal.{Illegal}
 use Rattle.cert_lines.proofs.Spelling.{line_one}
 use Rattle.topo_certificate.proofs.Forward.{legal_behind, bad_behind}
 

@@ -3,10 +3,9 @@ use Rattle.std.specs.Prelude.{◌≡◌, ℕ, ◌+◌, ◌<◌, List, [], ◌∷
 use Rattle.std.proofs.Common.{refl, sym, ◌∙◌, ap, subst, arith, length-append}
 use Rattle.edge_uses.specs.ShellRows.{ShellRows}
 use Rattle.topo_certificate.specs.Stand.{TurnsTo}
-use Rattle.cert_lines.specs.Numbers.{Begins, AreNumbers, IsSpaced}
+use Rattle.cert_text.specs.Text.{Begins, AreNumbers, IsSpaced, spaced}
 use Rattle.topo_certificate.specs.Ring.{IsRing, IsCornerText}
-use Rattle.cert_lines.specs.Line.{spaced}
-use Rattle.cert_lines.proofs.Digits.{begins_tail, begins_cons, numbers_begin, none_spaced}
+use Rattle.cert_text.proofs.Digits.{begins_tail, begins_cons, numbers_begin, none_spaced}
 
 -- The numbers that are left make the ring whole exactly where all make it.
 pub record Walked (d : ShellRows) (pairs : List (ℕ × ℕ)) (first last : ℕ) (rest : List ℕ) (all : List ℕ) (count : ℕ) : Type 0 where

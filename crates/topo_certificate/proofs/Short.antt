@@ -13,7 +13,8 @@ use Rattle.solid_data.proofs.Members.{Has}
 use Rattle.topo_certificate.specs.Stand.{tallies}
 use Rattle.cert_lines.specs.declared.version.Version.{Version}
 use Rattle.cert_lines.specs.declared.version.Version.TheVariants.{One, Two, Three}
-use Rattle.cert_lines.specs.Line.{CertLine, shell, edge, corner, point, reach, tally, end, spaced, spelling, IsShort, IsLine, line_limit}
+use Rattle.cert_text.specs.Text.{spaced, IsShort}
+use Rattle.cert_lines.specs.Line.{CertLine, shell, edge, corner, point, reach, tally, end, spelling, IsLine, line_limit}
 use Rattle.cert_lines.specs.declared.counts.ShellCounts.{ShellCounts}
 use Rattle.cert_lines.specs.declared.counts.Tally.{Tally}
 

@@ -13,7 +13,7 @@ pub mod Uses
 pub mod Tallied
 pub use Rattle.cert_lines.specs.Line
 pub use Rattle.cert_lines.specs.Opening
-pub use Rattle.cert_lines.specs.Numbers
+pub use Rattle.cert_text.specs.Text
 pub use Rattle.cert_lines.specs.Said
 pub use Rattle.cert_lines.specs.Misfits
 pub use Rattle.cert_lines.specs.Written

@@ -6,7 +6,7 @@ use Rattle.cert_lines.specs.Line.{CertLine}
 use Rattle.topo_certificate.specs.Stand.{Stand, stand_from_latest, rows_of_shell, loops_of_shell, NoneDue, FitsOpen}
 use Rattle.topo_certificate.specs.Kept.{KeptShell, HoldsMates, HoldsFaces, IsFresh}
 use Rattle.cert_lines.specs.declared.version.Version.{Version}
-use Rattle.cert_lines.specs.declared.fault.Illegal.{Illegal}
+use Rattle.cert_text.specs.declared.fault.Illegal.{Illegal}
 
 -- what is kept of the shell at hand is its stand
 pub record MatchesShell (s : SolidData) (at : Stand) (k : KeptShell) : Type 0 where

@@ -2,7 +2,7 @@
 use Rattle.std.specs.Prelude.{ℕ, ◌<◌, List, [], ◌∷◌, ◌++◌, length}
 use Rattle.std.specs.List.{AllByRecursion, AllZip}
 use Rattle.edge_uses.specs.ShellRows.{ShellRows}
-use Rattle.cert_lines.specs.Numbers.{AreNumbers}
+use Rattle.cert_text.specs.Text.{AreNumbers}
 use Rattle.topo_certificate.specs.Stand.{Stand, TurnsTo, FitsCorner}
 
 -- From r on each row turns to the next, and the last to the first; all after r are greater than the first.

@@ -9,7 +9,7 @@ ghost use Rattle.topo_certificate.specs.Feeding.{StandsAfter, IsFed, IsFedPart};
 ghost use Rattle.topo_certificate.specs.PartEnds.{IsEndedBy, IsPartStep};
 ghost use Rattle.cert_lines.specs.declared.version.Version.{Version};
 ghost use Rattle.cert_lines.specs.declared.version.Version.TheVariants.{Two};
-ghost use Rattle.cert_lines.specs.declared.fault.Illegal.TheVariants.{Missing};
+ghost use Rattle.cert_text.specs.declared.fault.Illegal.TheVariants.{Missing};
 ghost use Rattle.topo_certificate.specs.Stand.{stand_after, FitsLine};
 ghost use Rattle.topo_certificate.specs.Legal.{IsLegal, IsFirstBad, IsPartBad, IsBadLine};
 ghost use Rattle.topo_certificate.specs.Matching.{IsOfSame};

@@ -4,7 +4,7 @@ ghost use Rattle.std.specs.Prelude.{◌≡◌, ℕ, ◌<◌, List, IfSome, Match
 ghost use Rattle.solid_data.specs.declared.solid.LoopAt.{LoopAt as LoopPlace};
 ghost use Rattle.edge_uses.specs.declared.row.Row.{Row as AnyRow};
 ghost use Rattle.cert_lines.specs.Line.{corner, point};
-ghost use Rattle.cert_lines.specs.Numbers.{AreNumbers};
+ghost use Rattle.cert_text.specs.Text.{AreNumbers};
 ghost use Rattle.topo_certificate.specs.Stand.{Stand, vertex_of, FitsPoint};
 ghost use Rattle.topo_certificate.specs.Kept.{HoldsMates, InFileOrder, corner_size, is_alone};
 ghost use Rattle.topo_certificate.specs.Ring.{FitsCornerLine, IsCornerText};
@@ -12,7 +12,7 @@ ghost use Rattle.topo_certificate.specs.Ring.{FitsCornerLine, IsCornerText};
 use crate::fitting::{is_above, named_row};
 use crate::points::point_place;
 use crate::ring::ring_len;
-use cert_lines::next_number;
+use cert_text::next_number;
 use edge_uses::{Rows, point_at};
 use solid_data::VertexId;
 

@@ -148,7 +148,7 @@ impl<'a> LineChecker<'a> {
     ghost use Rattle.topo_certificate.specs.Part.{IsPartLine};
     ghost use Rattle.topo_certificate.specs.Matching.{IsAt, IsOfSame};
     ghost use Rattle.topo_certificate.specs.Room.{dues_of, TakesLine};
-    ghost use Rattle.cert_lines.specs.declared.fault.Illegal.TheVariants.{Missing as IsMissing};
+    ghost use Rattle.cert_text.specs.declared.fault.Illegal.TheVariants.{Missing as IsMissing};
 
     /// A checker whose first line has this number. It takes all the memory that a check needs.
     pub(crate) fn from_line(

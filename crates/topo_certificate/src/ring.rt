@@ -2,12 +2,12 @@
 
 ghost use Rattle.std.specs.Prelude.{◌≡◌, ◌↔◌, ℕ, ◌<◌, List, ◌∷◌, IsTrue, IfSome, length, MatchOption};
 ghost use Rattle.topo_certificate.specs.Stand.{TurnsTo};
-ghost use Rattle.cert_lines.specs.Numbers.{AreNumbers, IsSpaced};
+ghost use Rattle.cert_text.specs.Text.{AreNumbers, IsSpaced};
 ghost use Rattle.topo_certificate.specs.Kept.{HoldsMates};
 ghost use Rattle.topo_certificate.specs.Ring.{IsRing};
 
 use crate::fitting::turn_of;
-use cert_lines::next_number;
+use cert_text::next_number;
 use edge_uses::Rows;
 
 /// Whether a row turns to another, both from 1.

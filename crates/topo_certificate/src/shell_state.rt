@@ -66,7 +66,7 @@ fn first_reached(alloc: Global, faces: usize) -> Result<Vec<bool>, NoMemory>
 impl ShellState {
     ghost use Rattle.std.specs.Prelude.{◌≡◌, ◌↔◌, ℕ, ◌+◌, ◌<◌, ◌^◌, List, IsTrue, IfOk, false, length};
     ghost use Rattle.cert_lines.specs.Line.{CertLine, HasSpelling, edge, corner, point, reach, tally};
-    ghost use Rattle.cert_lines.specs.Numbers.{AreNumbers};
+    ghost use Rattle.cert_text.specs.Text.{AreNumbers};
     ghost use Rattle.cert_lines.specs.Said.{Means, IsRowLine};
     ghost use Rattle.topo_certificate.specs.Kept.{KeptShell, IsFresh, InFileOrder, AreCounts, IsTally, lines_due};
     ghost use Rattle.topo_certificate.specs.Ring.{IsCornerText};

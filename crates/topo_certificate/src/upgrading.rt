@@ -6,7 +6,8 @@ ghost use Rattle.topo_certificate.specs.Upgraded.{starts_with, tally_of_shell, t
 ghost use Rattle.topo_certificate.specs.Upgrades.{IsUpgradeFault};
 
 use crate::uses::loop_count;
-use cert_lines::{Version, after_word, first_line, head_text, put_head_line, put_tally_line};
+use cert_lines::{Version, first_line, head_text, put_head_line, put_tally_line};
+use cert_text::after_word;
 use edge_uses::rows;
 use iges_base::{Bytes, NoMemory, Out};
 use solid_data::{Shell, ShellAt, Solid};

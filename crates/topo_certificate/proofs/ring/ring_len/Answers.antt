@@ -1,6 +1,6 @@
 use Rattle.std.proofs.Common.{rules, arith, sym, [], ◌∙◌, ◌≡◌, true, false}
 use Rattle.topo_certificate.proofs.Rings.{walked_none, walked_step, walked_stop, walked_whole, walked_broken, walked_more, begins_shorter}
-use Rattle.cert_lines.proofs.Digits.{begins_more, empty_spaced}
+use Rattle.cert_text.proofs.Digits.{begins_more, empty_spaced}
 use Rattle.topo_certificate.proofs.ring.ring_len.Goals as goal
 
 pub turns-init : goal.turns-init

@@ -1,6 +1,6 @@
 use Rattle.std.proofs.Common.{ℕ, ◌+◌, ◌≤◌, List, length}
 use Rattle.std.specs.Prelude.{◌↔◌}
-use Rattle.cert_lines.specs.Numbers.{AreNumbers, IsSpaced}
+use Rattle.cert_text.specs.Text.{AreNumbers, IsSpaced}
 use Rattle.topo_certificate.specs.Kept.{HoldsMates}
 use Rattle.topo_certificate.proofs.Rings.{Walked}
 use Rattle.topo_certificate.proofs.ring.ring_len.Given as goal
