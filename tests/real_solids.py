@@ -55,6 +55,8 @@ def right(folder, programs):
     for name, count in ("extract", solids), ("compact", solids), ("relayout", files):
         yield f"real solids: {name}", f"\n{name}: {count} of {count} files are read back without a difference\n" in text
         yield f"real solids: {name} is kept", len(list(kept.glob(f"*.{name}.igs"))) == count
+    reoriented = re.search(r"(?m)^reorient: (\d+) of \1 files are read back without a difference$", text)
+    yield "real solids: reorient", reoriented is not None and 0 < int(reoriented[1]) <= solids
     yield "real solids: the table", len((kept / "table.csv").read_text().splitlines()) == solids + 1
     for name, answer in DIFFERING.items():
         yield f"real solids: {name}", re.search(rf"(?m)^{name} \d+: {answer}.*; Open CASCADE: ", text) is not None
