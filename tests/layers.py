@@ -21,14 +21,13 @@ STATIC = re.compile(r"(?m)^(\w+) staticlib:")
 NAMED = re.compile(r"\bRattle\.(\w+)|(?<![\w:.])(\w+)::")
 FUNCTION = re.compile(r"(?m)^ *(?:pub(?:\(\w+\))? )?(?:const )?fn \w+")
 CHAIN, LINES, FUNCTIONS = 8, 1500, 100
-# The longer chains: open_certificate stands on topo_certificate, whose functions on the rows of a line it uses; where's text goes through
-# record_paths and where_records, which say in which face a record fails; the laws of reoriented
-# files stand on those of extracted ones, and nothing on them. See docs/DECISIONS.md.
+# The longer chains: where's text goes through record_paths and where_records, which say in which face a record fails; the laws of
+# reoriented files stand on those of extracted ones, and nothing on them. See docs/DECISIONS.md.
 LONGER = {"where_command": 9, "reorient_laws": 9}
-# Still larger than the limits, and to be parted: the checker of lines, and all faults of a shell.
-LARGER = {"topo_certificate", "solid_faults"}
+# Still larger than the limits, and to be parted: all faults of a shell.
+LARGER = {"solid_faults"}
 # What says yes to certificates and orientations, and what makes them or parts of them.
-CHECKS = "topo_certificate", "cert_accept", "open_certificate", "orient_certificate"
+CHECKS = "cert_state", "topo_certificate", "cert_accept", "open_certificate", "orient_certificate"
 MAKES = {"vertex_link", "shell_reach", "cert_maker", "open_shells", "face_orient"}
 
 

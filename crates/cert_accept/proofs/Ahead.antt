@@ -10,11 +10,11 @@ use Rattle.edge_uses.specs.ShellRows.{ShellRows}
 use Rattle.edge_uses.specs.RowRelations.{IsPaired}
 use Rattle.cert_lines.specs.Line.{CertLine, shell, end}
 use Rattle.cert_lines.specs.declared.version.Version.{Version}
-use Rattle.topo_certificate.specs.Stand.{Stand, stand_from_latest, NoneDue, edge_of, vertex_of, is_shell, is_edge, is_corner_or_point, number_of, since_shell}
-use Rattle.topo_certificate.specs.Stand.{rows_of_shell, current_rows, row_named, row_start, point_named, FitsLine, is_last}
-use Rattle.topo_certificate.specs.declared.due.Due.{Due}
+use Rattle.cert_state.specs.Stand.{Stand, stand_from_latest, NoneDue, edge_of, vertex_of, is_shell, is_edge, is_corner_or_point, number_of, since_shell}
+use Rattle.cert_state.specs.Stand.{rows_of_shell, current_rows, row_named, row_start, point_named, FitsLine, is_last}
+use Rattle.cert_state.specs.declared.due.Due.{Due}
 use Rattle.topo_certificate.specs.After.{IsLegalAfter}
-use Rattle.topo_certificate.proofs.Segment.{falls_none}
+use Rattle.cert_state.proofs.Segment.{falls_none}
 use Rattle.topo_certificate.proofs.Facts.{AllFit, Facts, Good, facts_paired}
 use Rattle.topo_certificate.proofs.LineKinds.{facts_of, number_same, shell_line, end_line}
 use Rattle.cert_accept.proofs.Nexts.{Leads, leads_none, leads_less}

@@ -8,13 +8,13 @@ use Rattle.brep_walk.specs.SolidOf.{solid_of}
 use Rattle.solid_data.specs.Obligations.{AllHold}
 use Rattle.cert_lines.specs.Line.{CertLine, end, spelling, IsLine, line_limit}
 use Rattle.cert_lines.specs.declared.version.Version.TheVariants.{Two}
-use Rattle.cert_lines.specs.declared.fault.Illegal.{Illegal}
+use Rattle.cert_text.specs.declared.fault.Illegal.{Illegal}
 use Rattle.topo_certificate.specs.Legal.{IsLegal, IsPartBad}
 use Rattle.topo_certificate.specs.Feeding.{FedKept}
 use Rattle.topo_certificate.specs.PartEnds.{EndsPart}
 use Rattle.topo_certificate.proofs.Forward.{fitting_more}
 use Rattle.cert_accept.specs.Accepted.{Part, part_lines, solids_named}
-use Rattle.cert_accept.specs.Checked.{checked}
+use Rattle.cert_accept.specs.Accepted.{checked}
 use Rattle.cert_accept.specs.Book.{illegal, IsBookBad}
 use Rattle.cert_accept.proofs.PartOutcomes.{end_is_line}
 use Rattle.cert_accept.proofs.BookReading.{Reaches, IsBookOf, made_part, lines_more, part_number, part_refused, part_ends, next_reached, solid_entity}

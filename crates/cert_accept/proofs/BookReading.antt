@@ -15,14 +15,14 @@ use Rattle.edge_uses.proofs.Whole.{rising}
 use Rattle.cert_lines.specs.Line.{CertLine, head, solid, end, spelling, IsSpelled, IsLine, first_limit}
 use Rattle.cert_lines.specs.Opening.{Opens, IsHeaded, IsHead, IsWrong, IsSecondWrong, IsFirstWrong, IsBadOpening}
 use Rattle.cert_lines.specs.declared.version.Version.TheVariants.{Two, Three}
-use Rattle.cert_lines.specs.declared.fault.Illegal.{Illegal}
+use Rattle.cert_text.specs.declared.fault.Illegal.{Illegal}
 use Rattle.cert_lines.proofs.Decided.{openings_are_decided}
 use Rattle.cert_lines.proofs.Openings.{one_bad_opening, opens_or_bad}
 use Rattle.cert_lines.proofs.Spelling.{line_one}
 use Rattle.topo_certificate.specs.Legal.{IsLegal}
 use Rattle.topo_certificate.proofs.LegalLemmas.{one_bad_in_part}
 use Rattle.cert_accept.specs.Accepted.{Part, part_lines, solids_named, Certify, IsGoodPart, IsAcceptedBook}
-use Rattle.cert_accept.specs.Checked.{checked}
+use Rattle.cert_accept.specs.Accepted.{checked}
 use Rattle.cert_accept.specs.Book.{BookRefusal, fails, illegal, IsPartFault, IsRestBad, IsBookBad}
 use Rattle.cert_accept.specs.BookLaws.{OneRefusal, NoneBadWhereAccepted, AcceptedOrBad, OneReading}
 use Rattle.cert_accept.proofs.CheckedParts.{certified_checked, checked_certified}

@@ -20,7 +20,7 @@ use Rattle.edge_uses.proofs.JoinLemmas.{joined_from_hold, hold_from_joined}
 use Rattle.cert_lines.specs.declared.version.Version.{Version}
 use Rattle.topo_certificate.specs.Legal.{IsLegal}
 use Rattle.cert_accept.specs.Accepted.{AllJoin, AllApart, Certify}
-use Rattle.cert_accept.specs.Checked.{checked, AcceptedIsChecked}
+use Rattle.cert_accept.specs.Accepted.{checked, AcceptedIsChecked}
 use Rattle.shell_rules.specs.Faults.{IsCheckFault}
 use Rattle.shell_rules.specs.declared.fault.CheckFault.{CheckFault}
 use Rattle.shell_rules.specs.declared.fault.CheckFault.TheVariants.{Fails, NoMemory}

@@ -24,14 +24,14 @@ use Rattle.edge_uses.proofs.RowFacts.{loops_below, edges_rise, vertices_rise, ed
 use Rattle.edge_uses.proofs.Adding.{rows_shorter}
 use Rattle.edge_uses.proofs.Few.{part_shorter}
 use Rattle.topo_certificate.proofs.Build.{found_point}
-use Rattle.topo_certificate.proofs.Short.{IsSmall, length-spaced}
-use Rattle.topo_certificate.specs.Stand.{loops_of}
-use Rattle.topo_certificate.proofs.UseSizes.{loops_placed}
+use Rattle.cert_state.proofs.Short.{IsSmall, length-spaced}
+use Rattle.cert_state.specs.Stand.{loops_of}
+use Rattle.cert_state.proofs.UseSizes.{loops_placed}
 use Rattle.cert_lines.specs.declared.version.Version.{Version}
 use Rattle.cert_lines.specs.declared.version.Version.TheVariants.{Two}
 use Rattle.cert_lines.proofs.LineKinds.{version_short}
 use Rattle.topo_certificate.proofs.Complete.{closed_has_legal}
-use Rattle.topo_certificate.proofs.PointOrder.{faces_of_rows}
+use Rattle.cert_state.proofs.PointOrder.{faces_of_rows}
 use Rattle.brep_walk.specs.SolidOf.{solid_of}
 use Rattle.solid_data.specs.Numbering.{HasFewParts}
 use Rattle.solid_data.specs.Obligations.{AllHold}
@@ -41,7 +41,8 @@ use Rattle.cert_accept.specs.Accepted.{IsAccepted}
 use Rattle.shell_rules.proofs.Placed.{enum_get}
 use Rattle.cert_accept.proofs.Ready.{point_is, closed_at, closed_joins, apart_all, closed_is_ready}
 use Rattle.brep_walk.proofs.KnownVertices.{vertices_known}
-use Rattle.cert_lines.specs.Line.{CertLine, head, solid, spaced, spelling, version_number, first_limit, IsLine}
+use Rattle.cert_text.specs.Text.{spaced}
+use Rattle.cert_lines.specs.Line.{CertLine, head, solid, spelling, version_number, first_limit, IsLine}
 
 -- Sizes.
 

@@ -7,7 +7,7 @@ use Rattle.brep_walk.proofs.Decided.{places_decided}
 use Rattle.solid_data.proofs.ObligationsDecided.{AreDecided, decided-append}
 use Rattle.shell_rules.specs.ShellObligations.{checked_obligations}
 use Rattle.shell_rules.proofs.Decided.{checked_decided}
-use Rattle.cert_accept.specs.Checked.{checked}
+use Rattle.cert_accept.specs.Accepted.{checked}
 
 pub checks_decided : (f : Contents) (n : ℕ) → AreDecided (checked f n)
 unfolding checked

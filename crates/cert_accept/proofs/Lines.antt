@@ -13,18 +13,19 @@ use Rattle.solid_data.specs.declared.solid.LoopUse.TheVariants.{EdgeUse, VertexU
 use Rattle.solid_data.specs.declared.solid.Shell.{Shell}
 use Rattle.edge_uses.specs.declared.row.Row.{Row}
 use Rattle.edge_uses.specs.ShellRows.{ShellRows, row_of, loop_rows, point_of, shell_rows, rows_of}
-use Rattle.cert_lines.specs.Line.{CertLine, head, solid, shell, edge, corner, point, reach, tally, end, spaced, spelling, HasSpelling, put_before, cut_lines}
+use Rattle.cert_text.specs.Text.{spaced}
+use Rattle.cert_lines.specs.Line.{CertLine, head, solid, shell, edge, corner, point, reach, tally, end, spelling, HasSpelling, put_before, cut_lines}
 use Rattle.cert_lines.specs.declared.counts.ShellCounts.{ShellCounts}
 use Rattle.cert_lines.specs.declared.counts.Tally.{Tally}
 use Rattle.cert_lines.specs.declared.version.Version.{Version}
 use Rattle.cert_lines.specs.declared.version.Version.TheVariants.{One, Two, Three}
-use Rattle.topo_certificate.specs.Stand.{Stand, NoneDue, stand_from_latest, tallies, row_edge, rows_of_shell, IsAbove, FitsShell, FitsEdge, FitsCorner}
-use Rattle.topo_certificate.specs.Stand.{FitsPoint, FitsReach, FitsLine}
+use Rattle.cert_state.specs.Stand.{Stand, NoneDue, stand_from_latest, tallies, row_edge, rows_of_shell, IsAbove, FitsShell, FitsEdge, FitsCorner}
+use Rattle.cert_state.specs.Stand.{FitsPoint, FitsReach, FitsLine}
 use Rattle.topo_certificate.specs.Legal.{IsLegal}
 use Rattle.topo_certificate.specs.After.{IsLegalAfter}
-use Rattle.topo_certificate.proofs.Short.{length-spaced}
+use Rattle.cert_state.proofs.Short.{length-spaced}
 use Rattle.topo_certificate.proofs.Forward.{legal_behind}
-use Rattle.topo_certificate.proofs.Standing.{edge_stand, corner_stand, point_stand, reach_stand, tally_stand, shell_stand, end_stand, first_stand}
+use Rattle.cert_state.proofs.Standing.{edge_stand, corner_stand, point_stand, reach_stand, tally_stand, shell_stand, end_stand, first_stand}
 
 -- ---- the bytes of a line
 

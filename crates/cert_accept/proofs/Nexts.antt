@@ -3,8 +3,8 @@ use Rattle.std.specs.Prelude.{◌≡◌, ℕ, ◌<◌, ◌≤◌, ◌⊎◌, Lis
 use Rattle.std.specs.List.{cons_option}
 use Rattle.std.proofs.Common.{refl, sym, subst, arith, inl, inr, append_assoc}
 use Rattle.solid_data.proofs.Members.{Has, All-at, has_append, has_right}
-use Rattle.topo_certificate.specs.Stand.{IsAbove, first_of}
-use Rattle.topo_certificate.proofs.Segment.{Falls}
+use Rattle.cert_state.specs.Stand.{IsAbove, first_of}
+use Rattle.cert_state.proofs.Segment.{Falls}
 
 -- e is the least of these above the last
 pub record IsNext (all : List ℕ) (last : Option ℕ) (e : ℕ) : Type 0 where

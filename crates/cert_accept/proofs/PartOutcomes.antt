@@ -3,19 +3,20 @@ use Rattle.std.specs.Prelude.{◌≡◌, ℕ, zero, suc, ◌+◌, ◌<◌, ◌�
 use Rattle.std.proofs.Common.{refl, sym, ◌∙◌, ap, subst, arith, inl, inr, ⊎_elim, length-append}
 use Rattle.solid_data.specs.SolidData.{SolidData}
 use Rattle.solid_data.proofs.Decisions.{Decided}
-use Rattle.cert_lines.specs.Line.{CertLine, solid, end, spaced, spelling, IsSpelled, IsLine, IsLong, IsMisspelt, line_limit}
+use Rattle.cert_text.specs.Text.{spaced}
+use Rattle.cert_lines.specs.Line.{CertLine, solid, end, spelling, IsSpelled, IsLine, IsLong, IsMisspelt, line_limit}
 use Rattle.cert_lines.specs.declared.version.Version.{Version}
-use Rattle.cert_lines.specs.declared.fault.Illegal.{Illegal}
-use Rattle.cert_lines.specs.declared.fault.Illegal.TheVariants.{Misspelt, Unfit, Missing}
+use Rattle.cert_text.specs.declared.fault.Illegal.{Illegal}
+use Rattle.cert_text.specs.declared.fault.Illegal.TheVariants.{Misspelt, Unfit, Missing}
 use Rattle.cert_lines.proofs.Decided.{lines_are_decided}
 use Rattle.cert_lines.proofs.Spelling.{line_one}
-use Rattle.topo_certificate.specs.Stand.{Stand, stand_from_latest, FitsLine}
+use Rattle.cert_state.specs.Stand.{Stand, stand_from_latest, FitsLine}
 use Rattle.topo_certificate.specs.Legal.{IsLegal, IsPartBad, BeginsNext, FitsPart}
 use Rattle.topo_certificate.specs.After.{IsLegalAfter, IsFirstBadAfter}
 use Rattle.topo_certificate.proofs.Decided.{part_decided}
 use Rattle.topo_certificate.proofs.Forward.{legal_behind, legal_forward, bad_behind, bad_forward}
 use Rattle.topo_certificate.proofs.LegalLemmas.{bad_good}
-use Rattle.topo_certificate.proofs.Short.{length-spaced}
+use Rattle.cert_state.proofs.Short.{length-spaced}
 
 -- Behind lines before, the latest first, so many of these lines fit, and the next one names solid m and begins the next part.
 abbrev pub BeginsAt : Version → SolidData → List CertLine → List (List ℕ) → ℕ → ℕ → Type 0

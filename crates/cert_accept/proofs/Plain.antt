@@ -6,9 +6,9 @@ use Rattle.solid_data.specs.SolidData.{SolidData}
 use Rattle.edge_uses.specs.ShellRows.{ShellRows}
 use Rattle.cert_lines.specs.Line.{CertLine, reach}
 use Rattle.cert_lines.specs.declared.version.Version.{Version}
-use Rattle.topo_certificate.specs.Stand.{Stand, stand_from_latest, asked, mates_of, edge_of, vertex_of, first_of, is_shell, is_edge, is_corner_or_point}
-use Rattle.topo_certificate.specs.Stand.{is_reach, is_tally, is_last, number_of, since_shell, rows_of_shell, current_rows}
-use Rattle.topo_certificate.specs.declared.due.Due.{Due}
+use Rattle.cert_state.specs.Stand.{Stand, stand_from_latest, asked, mates_of, edge_of, vertex_of, first_of, is_shell, is_edge, is_corner_or_point}
+use Rattle.cert_state.specs.Stand.{is_reach, is_tally, is_last, number_of, since_shell, rows_of_shell, current_rows}
+use Rattle.cert_state.specs.declared.due.Due.{Due}
 use Rattle.topo_certificate.proofs.LineKinds.{plain, plain_or_reach, plainly, shell_line}
 
 -- Lines that are plainly the same are the same, or both are reach lines.

@@ -21,14 +21,14 @@ use Rattle.shell_rules.specs.Closed.{IsClosedShell, IsClosedSolid}
 use Rattle.solid_data.proofs.Members.{all_append, from_flat_map, has_map, Has, All-at, has_get}
 use Rattle.solid_data.proofs.Occurring.{numbers_have}
 use Rattle.edge_uses.proofs.FollowRows.{each_is_followed}
-use Rattle.topo_certificate.specs.Stand.{rows_of_shell, loops_of, loops_of_shell}
+use Rattle.cert_state.specs.Stand.{rows_of_shell, loops_of, loops_of_shell}
 use Rattle.edge_uses.proofs.RowFacts.{edges_rise, vertices_rise}
 use Rattle.edge_uses.proofs.Turn.{PairedRows, are_turning}
-use Rattle.topo_certificate.proofs.Segment.{AreGoodRows, row_has}
+use Rattle.cert_state.proofs.Segment.{AreGoodRows, row_has}
 use Rattle.topo_certificate.proofs.Build.{PointsDiffer}
-use Rattle.topo_certificate.proofs.Short.{IsSmall}
+use Rattle.cert_state.proofs.Short.{IsSmall}
 use Rattle.topo_certificate.proofs.Complete.{AreReady}
-use Rattle.topo_certificate.proofs.PointOrder.{faces_of_rows}
+use Rattle.cert_state.proofs.PointOrder.{faces_of_rows}
 use Rattle.shell_rules.proofs.Placed.{enum_get}
 use Rattle.cert_accept.specs.Accepted.{AllJoin}
 use Rattle.cert_accept.proofs.Sound.{AllKnown, good_rows}

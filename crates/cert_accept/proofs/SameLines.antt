@@ -8,10 +8,10 @@ use Rattle.edge_uses.specs.declared.row.Row.{Row}
 use Rattle.edge_uses.specs.ShellRows.{ShellRows}
 use Rattle.cert_lines.specs.Line.{CertLine, head, solid, shell, edge, corner, point, reach, tally, end, spelling, IsSpelled}
 use Rattle.cert_lines.specs.declared.version.Version.{Version}
-use Rattle.topo_certificate.specs.Stand.{Stand, stand_from_latest, FitsLine, edge_of, vertex_of, is_shell, number_of, since_shell, rows_of_shell, current_rows}
-use Rattle.topo_certificate.specs.Stand.{row_edge}
+use Rattle.cert_state.specs.Stand.{Stand, stand_from_latest, FitsLine, edge_of, vertex_of, is_shell, number_of, since_shell, rows_of_shell, current_rows}
+use Rattle.cert_state.specs.Stand.{row_edge}
 use Rattle.topo_certificate.specs.After.{IsLegalAfter}
-use Rattle.topo_certificate.proofs.Segment.{named_has, paired_rows, start_known, point_known}
+use Rattle.cert_state.proofs.Segment.{named_has, paired_rows, start_known, point_known}
 use Rattle.topo_certificate.proofs.Facts.{AllFit, Good}
 use Rattle.topo_certificate.proofs.LineKinds.{facts_of, plain}
 use Rattle.cert_accept.specs.Laws.{AlikeButReach}

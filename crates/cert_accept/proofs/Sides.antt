@@ -19,9 +19,9 @@ use Rattle.edge_uses.proofs.RowNumbers.{starting, length-starting}
 use Rattle.cert_lines.specs.Line.{shell, edge, corner, point, tally}
 use Rattle.cert_lines.specs.declared.counts.ShellCounts.{ShellCounts}
 use Rattle.cert_lines.specs.declared.counts.Tally.{Tally}
-use Rattle.topo_certificate.specs.Stand.{Stand, TurnsTo, FitsShell, FitsTally, row_named, row_start, point_named, start_count, rows_of_shell, loops_of_shell}
-use Rattle.topo_certificate.proofs.Corner.{MatesHold, StartsNamed, corner_starts, turns_one, starts_listed, above_least}
-use Rattle.topo_certificate.proofs.Segment.{AreGoodRows}
+use Rattle.cert_state.specs.Stand.{Stand, TurnsTo, FitsShell, FitsTally, row_named, row_start, point_named, start_count, rows_of_shell, loops_of_shell}
+use Rattle.cert_state.proofs.Corner.{MatesHold, StartsNamed, corner_starts, turns_one, starts_listed, above_least}
+use Rattle.cert_state.proofs.Segment.{AreGoodRows}
 use Rattle.cert_accept.proofs.Nexts.{IsNext, next_one}
 
 -- the two rows of the least edge above the last

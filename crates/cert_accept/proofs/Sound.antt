@@ -14,15 +14,15 @@ use Rattle.edge_uses.specs.Around.{IsReached, IsLinked}
 use Rattle.shell_rules.specs.Closed.{IsClosedShell, IsClosedSolid}
 use Rattle.edge_uses.proofs.RowLemmas.{ends_meet}
 use Rattle.solid_data.proofs.Members.{Has, All-at, All-from, has_flat_map, has_get}
-use Rattle.topo_certificate.specs.Stand.{rows_of_shell}
+use Rattle.cert_state.specs.Stand.{rows_of_shell}
 use Rattle.topo_certificate.specs.Legal.{IsLegal}
 use Rattle.edge_uses.proofs.RowShape.{ends_exchanged}
 use Rattle.solid_data.proofs.Occurring.{VerticesKnown, number_below}
 use Rattle.edge_uses.proofs.RowFacts.{edges_known, starts_known, points_known, faces_known}
-use Rattle.topo_certificate.proofs.Segment.{AreGoodRows}
+use Rattle.cert_state.proofs.Segment.{AreGoodRows}
 use Rattle.topo_certificate.proofs.Shells.{AreProper, legal_is_proper}
 use Rattle.topo_certificate.proofs.Forward.{legal_behind}
-use Rattle.topo_certificate.proofs.PointOrder.{faces_of_rows}
+use Rattle.cert_state.proofs.PointOrder.{faces_of_rows}
 use Rattle.cert_lines.specs.declared.version.Version.{Version}
 use Rattle.iges_params.specs.Contents.{Contents}
 use Rattle.brep_walk.specs.SolidOf.{solid_of}

@@ -15,7 +15,7 @@ use Rattle.cert_lines.specs.declared.version.Version.TheVariants.{One, Two, Thre
 use Rattle.cert_lines.proofs.CutLines.{cut_spelled}
 use Rattle.topo_certificate.specs.Legal.{IsLegal}
 use Rattle.topo_certificate.specs.Upgraded.{starts_with, tally_of_shell, with_tallies, joined, upgraded}
-use Rattle.topo_certificate.proofs.Short.{readable_tally}
+use Rattle.cert_state.proofs.Short.{readable_tally}
 use Rattle.topo_certificate.proofs.Upgrades.{TalliesRead, upgrade_legal}
 use Rattle.topo_certificate.proofs.UpgradedText.{kept_other, upgraded_one}
 use Rattle.cert_accept.specs.Accepted.{Certify, IsAcceptedAlone, IsAcceptedBook}

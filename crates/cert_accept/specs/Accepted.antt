@@ -1,20 +1,21 @@
--- Which certificates are accepted for a file, and which solids they name.
-use Rattle.std.specs.Prelude.{◌≡◌, ℕ, ◌<◌, List, [], ◌∷◌, ◌++◌, length, map, flat_map}
-use Rattle.std.specs.List.{AllByRecursion, enumerate_from}
-use Rattle.std.specs.List.Sorted.{IsStrictlyIncreasing}
+-- Which certificates are accepted for a file, which solids they name, and what is checked before the lines of a certificate.
+use Rattle.std.specs.Prelude.{ℕ, List, ◌++◌, ◌↔◌, ◌≡◌, ◌<◌, [], ◌∷◌, length, map, flat_map}
 use Rattle.iges_params.specs.Contents.{Contents}
 use Rattle.brep_walk.specs.Places.{places}
 use Rattle.brep_walk.specs.SolidOf.{solid_of}
+use Rattle.solid_data.specs.Obligations.{Obligation, AllHold}
+use Rattle.shell_rules.specs.ShellObligations.{checked_obligations}
+use Rattle.cert_lines.specs.Opening.{Opens, IsHeaded}
+use Rattle.topo_certificate.specs.Legal.{IsLegal}
+use Rattle.cert_lines.specs.declared.version.Version.{Version}
+use Rattle.std.specs.List.{AllByRecursion, enumerate_from}
+use Rattle.std.specs.List.Sorted.{IsStrictlyIncreasing}
 use Rattle.solid_data.specs.SolidData.{SolidData, PlacedLoop, placed_loops}
-use Rattle.solid_data.specs.Obligations.{AllHold}
 use Rattle.solid_data.specs.declared.solid.Shell.{Shell}
 use Rattle.edge_uses.specs.ShellRows.{shell_rows}
 use Rattle.edge_uses.specs.Before.{IsApart}
 use Rattle.edge_uses.specs.Joins.{IsJoined}
 use Rattle.cert_lines.specs.Line.{solid, end, spelling, IsSpelled}
-use Rattle.cert_lines.specs.Opening.{Opens, IsHeaded}
-use Rattle.topo_certificate.specs.Legal.{IsLegal}
-use Rattle.cert_lines.specs.declared.version.Version.{Version}
 use Rattle.cert_lines.specs.declared.version.Version.TheVariants.{One, Two, Three}
 
 -- each loop of the solid joins
@@ -67,3 +68,12 @@ abbrev pub IsAccepted : Contents → List ℕ → Version → List ℕ → Type 
 IsAccepted f certificate One ns = (n : ℕ) × (ns ≡ n ∷ []) × IsAcceptedAlone One f n certificate
 IsAccepted f certificate Two ns = (n : ℕ) × (ns ≡ n ∷ []) × IsAcceptedAlone Two f n certificate
 IsAccepted f certificate Three ns = (parts : List Part) × (ns ≡ solids_named parts) × IsAcceptedBook f certificate parts
+
+-- the places of solid n, and then shell by shell that its loops join and its vertices are apart
+unfoldable pub checked : Contents → ℕ → List Obligation
+checked f n = places f n ++ checked_obligations (solid_of f n)
+
+-- A certificate of one solid is accepted exactly where it opens so, all that is checked holds, and its further lines are legal.
+abbrev pub AcceptedIsChecked : Type 0
+AcceptedIsChecked = (v : Version) (f : Contents) (n : ℕ) (certificate : List ℕ)
+    → IsAcceptedAlone v f n certificate ↔ ((rest : List (List ℕ)) × Opens certificate v n rest × AllHold (checked f n) × IsLegal v (solid_of f n) rest)

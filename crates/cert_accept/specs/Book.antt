@@ -9,10 +9,10 @@ use Rattle.solid_data.specs.declared.verdict.Failing.{Failing}
 use Rattle.cert_lines.specs.Line.{solid, IsSpelled}
 use Rattle.cert_lines.specs.Opening.{IsSecondWrong}
 use Rattle.cert_lines.specs.declared.version.Version.TheVariants.{Two}
-use Rattle.cert_lines.specs.declared.fault.Illegal.{Illegal}
+use Rattle.cert_text.specs.declared.fault.Illegal.{Illegal}
 use Rattle.topo_certificate.specs.Legal.{IsPartBad}
 use Rattle.cert_accept.specs.Accepted.{Part, part_lines, solids_named, IsGoodPart}
-use Rattle.cert_accept.specs.Checked.{checked}
+use Rattle.cert_accept.specs.Accepted.{checked}
 
 -- an obligation of a solid that is false, or a line
 pub data BookRefusal : Type 0 where

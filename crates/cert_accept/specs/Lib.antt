@@ -1,6 +1,5 @@
 pub mod Accepted
 pub mod Laws
-pub mod Checked
 pub mod Book
 pub mod BookLaws
 pub mod Small

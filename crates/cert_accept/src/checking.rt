@@ -3,7 +3,7 @@
 ghost use Rattle.std.specs.Prelude.{◌≡◌, IfOk, IfErr, OnOk};
 ghost use Rattle.brep_walk.specs.SolidOf.{solid_of};
 ghost use Rattle.solid_data.specs.Obligations.{AllHold};
-ghost use Rattle.cert_accept.specs.Checked.{checked};
+ghost use Rattle.cert_accept.specs.Accepted.{checked};
 ghost use Rattle.shell_rules.specs.Faults.{IsCheckFault};
 
 use brep_walk::{WalkFault, walk};

@@ -1,7 +1,7 @@
 //! What holds of accepted certificates by their definition.
 
 ghost use Rattle.cert_accept.specs.BookLaws.{OneRefusal, NoneBadWhereAccepted, AcceptedOrBad, OneReading};
-ghost use Rattle.cert_accept.specs.Checked.{AcceptedIsChecked};
+ghost use Rattle.cert_accept.specs.Accepted.{AcceptedIsChecked};
 ghost use Rattle.cert_accept.specs.Laws.{UpgradedIsAccepted, AcceptedDifferInReach};
 ghost use Rattle.cert_accept.specs.Small.{AcceptedIsSmall, UpgradedIsSmall};
 

@@ -5,12 +5,13 @@ use Rattle.std.proofs.Common.{refl, sym, ◌∙◌, ap, subst, arith, inl, inr, 
 use Rattle.std.proofs.lemmas.Slice.Eq.{bytes_eq-Decides}
 use Rattle.solid_data.proofs.Decisions.{Decided, decided_alike, decided_by, decided_same, decided_below, decided_within, decided_both, decided_bounded}
 use Rattle.solid_data.proofs.Decisions.{decided_list}
-use Rattle.cert_lines.specs.Line.{CertLine, head, solid, end, words, spaced, spelling, IsShort, IsSpelled, EndsWithLf, IsLine, IsLong, IsMisspelt, cut_lines}
+use Rattle.cert_text.specs.Text.{spaced, IsShort}
+use Rattle.cert_lines.specs.Line.{CertLine, head, solid, end, words, spelling, IsSpelled, EndsWithLf, IsLine, IsLong, IsMisspelt, cut_lines}
 use Rattle.cert_lines.specs.Line.{first_limit}
 use Rattle.cert_lines.specs.Opening.{Opens, IsHead, IsSolid, IsWrong, IsSecondWrong, IsFirstWrong, IsBadOpening}
 use Rattle.cert_lines.specs.declared.version.Version.{Version}
-use Rattle.cert_lines.specs.declared.fault.Illegal.{Illegal}
-use Rattle.cert_lines.specs.declared.fault.Illegal.TheVariants.{Misspelt, Unfit, Missing}
+use Rattle.cert_text.specs.declared.fault.Illegal.{Illegal}
+use Rattle.cert_text.specs.declared.fault.Illegal.TheVariants.{Misspelt, Unfit, Missing}
 use Rattle.cert_lines.proofs.LineKinds.{kind_of, numbers_in, prefix_of, line_from, rebuilt, spelling_parts, numbers_short, has_spelling_decided, kind_below}
 use Rattle.cert_lines.proofs.LineKinds.{head_decided, solid_decided}
 

@@ -1,9 +1,7 @@
-pub mod Spacing
 pub mod LineKinds
 pub mod Spelling
 pub mod Heads
 pub mod Openings
-pub mod Digits
 pub mod Texts
 pub mod Cuts
 pub mod CutLines

@@ -1,14 +1,16 @@
 -- What holds of each kind of line.
 use Rattle.std.specs.Prelude.{◌≡◌, ℕ, ◌+◌, ◌<◌, ◌==◌, ◌^◌, List, [], ◌∷◌, ◌++◌, codes, if◌then◌else◌, ◌≢◌, length}
 use Rattle.std.specs.List.{AllByRecursion}
-use Rattle.std.proofs.Common.{refl, arith, get_or, inl, inr}
-use Rattle.cert_lines.specs.Line.{CertLine, head, solid, shell, edge, corner, point, reach, tally, end, version_number, spaced, spelling, IsShort, HasSpelling}
+use Rattle.std.proofs.Common.{refl, sym, ◌∙◌, ap, arith, get_or, inl, inr}
+use Rattle.cert_text.specs.Text.{spaced, IsShort}
+use Rattle.cert_lines.specs.Line.{CertLine, head, solid, shell, edge, corner, point, reach, tally, end, version_number, spelling, HasSpelling}
 use Rattle.cert_lines.specs.Line.{words}
 use Rattle.cert_lines.specs.declared.version.Version.{Version}
 use Rattle.cert_lines.specs.declared.version.Version.TheVariants.{One, Two, Three}
 use Rattle.solid_data.proofs.Decisions.{Decided, decided_below, decided_both, decided_all}
 use Rattle.cert_lines.specs.Opening.{IsHead, IsSolid}
-use Rattle.cert_lines.proofs.Spacing.{spaced_no_break}
+use Rattle.cert_text.proofs.Spacing.{rest_of, spaced_no_break}
+use Rattle.cert_lines.specs.Said.{Spells}
 
 pub version_short : (v : Version) → IsShort (version_number v)
 version_short One = omega arith
@@ -197,3 +199,9 @@ solid_decided (point face l) = inr (λ (n, e). cc)
 solid_decided (reach r) = inr (λ (n, e). cc)
 solid_decided (tally t) = inr (λ (n, e). cc)
 solid_decided end = inr (λ (n, e). cc)
+
+pub corner_some : (text rest rs : List ℕ) → text ≡ 67 ∷ rest → length rest ≡ 0 → Spells text (corner rs) → ⊥
+corner_some text rest [] e none h = omega (arith, h.0.1)
+corner_some text rest (r ∷ rs) e none h =
+    let same : rest ≡ spaced (r ∷ rs) = ap rest_of (sym e ∙ h.1) in
+    omega (arith, none, ap length same)

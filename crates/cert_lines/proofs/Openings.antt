@@ -5,7 +5,7 @@ use Rattle.cert_lines.specs.Line.{CertLine, head, solid, cut_lines, IsLine, IsMi
 use Rattle.cert_lines.specs.Opening.{Opens, IsHead, IsSolid, IsOther, IsWrong, IsSecondWrong, IsFirstWrong, IsBadOpening}
 use Rattle.cert_lines.specs.declared.version.Version.{Version}
 use Rattle.cert_lines.specs.declared.version.Version.TheVariants.{One}
-use Rattle.cert_lines.specs.declared.fault.Illegal.{Illegal}
+use Rattle.cert_text.specs.declared.fault.Illegal.{Illegal}
 use Rattle.cert_lines.proofs.Spelling.{line_one}
 
 other_good : (Wanted : CertLine → Type 0) (bytes : List ℕ) (l : CertLine) → IsLine first_limit bytes l → Wanted l → IsOther Wanted bytes → ⊥

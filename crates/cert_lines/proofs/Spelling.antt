@@ -1,8 +1,9 @@
 -- Bytes spell one line at most.
 use Rattle.std.specs.Prelude.{◌≡◌, ℕ, ◌+◌, List, [], ◌∷◌, ◌++◌}
 use Rattle.std.proofs.Common.{sym, ◌∙◌, ap}
-use Rattle.cert_lines.specs.Line.{CertLine, spaced, spelling, IsSpelled}
-use Rattle.cert_lines.proofs.Spacing.{spaced_one, same_front}
+use Rattle.cert_text.specs.Text.{spaced}
+use Rattle.cert_lines.specs.Line.{CertLine, spelling, IsSpelled}
+use Rattle.cert_text.proofs.Spacing.{spaced_one, same_front}
 use Rattle.cert_lines.proofs.LineKinds.{kind_of, numbers_in, prefix_of, line_from, rebuilt, spelling_parts, numbers_short, kind_by, kind_read}
 
 -- Bytes spell one line at most.

@@ -1,7 +1,5 @@
 pub mod Line
 pub mod Opening
-pub mod Numbers
 pub mod Said
-pub mod Misfits
 pub mod Written
 pub mod Cutting

@@ -1,9 +1,11 @@
 -- The first two lines of a certificate: the head with its version, and the solid that it names.
-use Rattle.std.specs.Prelude.{◌≡◌, ℕ, ◌⊎◌, List, [], ◌∷◌}
-use Rattle.cert_lines.specs.Line.{CertLine, head, solid, cut_lines, IsLine, IsLong, IsMisspelt, first_limit}
+use Rattle.std.specs.Prelude.{ℕ, List, ◌≡◌, ◌⊎◌, [], ◌∷◌}
+use Rattle.cert_lines.specs.Line.{CertLine, IsMisspelt, first_limit, head, solid, cut_lines, IsLine, IsLong}
+use Rattle.cert_text.specs.declared.fault.Misfit.{Misfit}
+use Rattle.cert_text.specs.declared.fault.Illegal.{Illegal}
+use Rattle.cert_text.specs.declared.fault.Illegal.TheVariants.{Misspelt as MisspeltLine, Unfit as UnfitLine, Missing}
+use Rattle.cert_text.specs.declared.fault.Misfit.TheVariants.{Misspelt, Unfit}
 use Rattle.cert_lines.specs.declared.version.Version.{Version}
-use Rattle.cert_lines.specs.declared.fault.Illegal.{Illegal}
-use Rattle.cert_lines.specs.declared.fault.Illegal.TheVariants.{Misspelt, Unfit, Missing}
 
 -- The certificate begins with the head of this version, and these are the lines after it.
 pub record IsHeaded (certificate : List ℕ) (v : Version) (rest : List (List ℕ)) : Type 0 where
@@ -31,7 +33,7 @@ IsOther Wanted bytes = IsLong first_limit bytes ⊎ ((line : CertLine) × IsLine
 
 -- what is wrong with the line of this number
 abbrev pub IsWrong : (CertLine → Type 0) → ℕ → List ℕ → Illegal → Type 0
-IsWrong Wanted number bytes bad = (IsMisspelt first_limit bytes × (bad ≡ Misspelt number)) ⊎ (IsOther Wanted bytes × (bad ≡ Unfit number))
+IsWrong Wanted number bytes bad = (IsMisspelt first_limit bytes × (bad ≡ MisspeltLine number)) ⊎ (IsOther Wanted bytes × (bad ≡ UnfitLine number))
 
 abbrev pub IsSecondWrong : List (List ℕ) → Illegal → Type 0
 IsSecondWrong [] bad = bad ≡ Missing 2
@@ -44,3 +46,13 @@ IsFirstWrong (first ∷ lines) bad = IsWrong IsHead 1 first bad ⊎ ((v : Versio
 -- the first of the two that is missing, misspelt or unfit
 abbrev pub IsBadOpening : List ℕ → Illegal → Type 0
 IsBadOpening certificate bad = IsFirstWrong (cut_lines certificate) bad
+
+-- The bytes spell no line, or they are too long or spell another line than this.
+abbrev pub IsMisfit : (CertLine → Type 0) → List ℕ → Misfit → Type 0
+IsMisfit Wanted bytes Misspelt = IsMisspelt first_limit bytes
+IsMisfit Wanted bytes Unfit = IsOther Wanted bytes
+
+-- what is wrong with the line of this number
+abbrev pub illegal_at : Misfit → ℕ → Illegal
+illegal_at Misspelt number = MisspeltLine number
+illegal_at Unfit number = UnfitLine number

@@ -1,6 +1,7 @@
 -- What the code says of a line, in the words of lines.
 use Rattle.std.specs.Prelude.{◌≡◌, ℕ, List, ⊤}
-use Rattle.cert_lines.specs.Line.{CertLine, head, solid, shell, edge, corner, point, reach, tally, end, spaced, IsLine, IsLong, IsMisspelt}
+use Rattle.cert_text.specs.Text.{spaced}
+use Rattle.cert_lines.specs.Line.{CertLine, head, solid, shell, edge, corner, point, reach, tally, end, HasSpelling, words, IsLine, IsLong, IsMisspelt}
 use Rattle.cert_lines.specs.declared.words.Words.{Words}
 use Rattle.cert_lines.specs.declared.words.Words.TheVariants.{Head, Solid, Shell, Edge, Corner, Point, Reach, Tally as TallyLine, End}
 use Rattle.cert_lines.specs.declared.words.Judged.{Judged}
@@ -32,3 +33,7 @@ abbrev pub IsJudged : ℕ → List ℕ → Judged → Type 0
 IsJudged limit bytes (Spelled w) = (line : CertLine) × Means w line × IsLine limit bytes line
 IsJudged limit bytes Misspelt = IsMisspelt limit bytes
 IsJudged limit bytes Long = IsLong limit bytes
+
+-- the text is the words of the line
+abbrev pub Spells : List ℕ → CertLine → Type 0
+Spells text line = HasSpelling line × (text ≡ words line)

@@ -4,7 +4,7 @@ ghost use Rattle.std.specs.Prelude.{ℕ, List, ◌≡◌, ◌⊎◌};
 ghost use Rattle.cert_lines.specs.Line.{CertLine, IsSpelled, IsLine, IsLong, IsMisspelt};
 ghost use Rattle.cert_lines.specs.Opening.{Opens, IsBadOpening};
 ghost use Rattle.cert_lines.specs.declared.version.Version.{Version as Edition};
-ghost use Rattle.cert_lines.specs.declared.fault.Illegal.{Illegal as Fault};
+ghost use Rattle.cert_text.specs.declared.fault.Illegal.{Illegal as Fault};
 
 /// Bytes spell at most one line.
 pub fn one_line()

@@ -3,25 +3,22 @@
 
 mod counts;
 mod cutting;
-mod fault;
 mod law;
-mod number;
 mod opening;
 mod parts;
 mod version;
 mod words;
 mod writing;
 
+pub use cert_text::{Illegal, Misfit};
 pub use counts::{ShellCounts, Tally};
 pub use cutting::{first_ended, first_line};
-pub use fault::{Illegal, Misfit};
 pub use law::{lines_are_decided, one_line, one_opening};
-pub use number::{are_numbers, next_number, one_number, two_numbers};
 pub use opening::{head_line, read_opening, solid_line};
 pub use parts::{Certificate, Certificates, EdgePairs, ReachRows, ShellPart, ShellParts};
 pub use solid_data::{Corner as CornerLine, Corners};
 pub use version::{Version, head_text};
-pub use words::{Judged, Words, after_word, judge};
+pub use words::{Judged, Words, judge};
 pub use writing::{
-    from_one, put_head_line, put_line, put_rows, put_tally_line, write_book, write_certificate,
+    from_one, put_head_line, put_rows, put_tally_line, write_book, write_certificate,
 };

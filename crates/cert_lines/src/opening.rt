@@ -3,12 +3,12 @@
 ghost use Rattle.std.specs.Prelude.{◌≡◌, MatchResult};
 ghost use Rattle.cert_lines.specs.Line.{head, solid, cut_lines, IsLine, first_limit};
 ghost use Rattle.cert_lines.specs.Opening.{IsHead, IsSolid, Opens, IsBadOpening};
-ghost use Rattle.cert_lines.specs.Misfits.{IsMisfit, illegal_at};
+ghost use Rattle.cert_lines.specs.Opening.{IsMisfit, illegal_at};
 
 use crate::cutting::first_line;
-use crate::fault::{Illegal, Misfit};
 use crate::version::Version;
 use crate::words::{Judged, Words, judge};
+use cert_text::{Illegal, Misfit};
 use iges_base::EntryNo;
 
 /// The most bytes that line 1 or 2 may have.

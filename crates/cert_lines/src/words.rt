@@ -1,16 +1,16 @@
 //! One line of a certificate, read from its bytes.
 
 ghost use Rattle.std.specs.Prelude.{◌≡◌, ◌≢◌, ℕ, List, [], ◌∷◌, ◌++◌, ◌≤◌, ◌↔◌, IsTrue, IfSome, IfNone, codes, length, MatchOption};
-ghost use Rattle.cert_lines.specs.Line.{CertLine, head, solid, shell, edge, corner, point, reach, tally, end, EndsWithLf, IsSpelled, spaced};
-ghost use Rattle.cert_lines.specs.Numbers.{AreNumbers, IsSpaced, Spells};
-ghost use Rattle.cert_lines.specs.Said.{Means, IsRowLine, IsJudged};
+ghost use Rattle.cert_text.specs.Text.{spaced, AreNumbers, IsSpaced};
+ghost use Rattle.cert_lines.specs.Line.{CertLine, head, solid, shell, edge, corner, point, reach, tally, end, EndsWithLf, IsSpelled};
+ghost use Rattle.cert_lines.specs.Said.{Spells, Means, IsRowLine, IsJudged};
 ghost use Rattle.cert_lines.specs.declared.counts.ShellCounts.{ShellCounts as Counts};
 ghost use Rattle.cert_lines.specs.declared.counts.Tally.{Tally as Tallied};
 ghost use Rattle.cert_lines.specs.declared.version.Version.{Version as Edition};
 
 use crate::counts::{ShellCounts, Tally};
-use crate::number::{are_numbers, next_number, one_number, two_numbers};
 use crate::version::{Version, head_text};
+use cert_text::{after_word, are_numbers, is_word, next_number, one_number, two_numbers};
 
 /// What a line says. Rows, faces and loops count from 1 here, as in the text.
 #[derive(Clone, Copy)]
@@ -44,14 +44,6 @@ fn after_letter(text: &[u8], letter: u8) -> Option<&[u8]>
         Some((first, rest)) if *first == letter => Some(rest),
         _ => None,
     }
-}
-
-/// What follows a word at the start of a text; None where the text doesn't begin with it.
-pub fn after_word<'a>(text: &'a [u8], word: &[u8]) -> Option<&'a [u8]>
-    ensures { MatchOption result ((rest : List ℕ) → text.now ≢ word.now ++ rest)
-        (λ rest. text.now ≡ word.now ++ rest.now) }
-{
-    text.strip_prefix(word)
 }
 
 fn shell_numbers(text: &[u8]) -> Option<(u32, ShellCounts)>
@@ -189,13 +181,6 @@ fn corner_words(text: &[u8]) -> Option<&[u8]>
         return None;
     }
     if are_numbers(rest) { Some(rest) } else { None }
-}
-
-/// Whether a text is this word.
-fn is_word(text: &[u8], word: &[u8]) -> bool
-    ensures { IsTrue result ↔ (text.now ≡ word.now) }
-{
-    text == word
 }
 
 /// The line that a text without its LF spells.

@@ -2,11 +2,13 @@
 
 ghost use Rattle.std.specs.Prelude.{◌≡◌, ℕ, ◌+◌, ◌<◌, ◌^◌, ◌++◌, ◌∷◌, [], length, map, flat_map, IfOk};
 ghost use Rattle.std.specs.List.{AllByRecursion, enumerate_from};
-ghost use Rattle.cert_lines.specs.Line.{HasSpelling, head, tally, cut_lines, spaced, spelling};
+ghost use Rattle.cert_text.specs.Text.{spaced};
+ghost use Rattle.cert_lines.specs.Line.{HasSpelling, head, tally, cut_lines, spelling};
 ghost use Rattle.cert_lines.specs.Written.{row_number, edge_line, corner_line, reach_line, shell_line, tally_line, tally_of, tally_lines, shell_lines, solid_lines, certificate_lines, book_lines, text_of};
 
 use crate::parts::{Certificate, Certificates, ShellPart};
 use crate::version::{Version, head_text};
+use cert_text::put_line;
 use iges_base::{Bytes, NoMemory, Out, put_number};
 use solid_data::{Corner, RowId};
 use std::alloc::Global;
@@ -18,15 +20,6 @@ pub fn from_one(number: u32) -> u64
     u64::from(number) + 1
 }
 
-fn put_numbers(out: &mut Out, numbers: &[u64]) -> Result<(), NoMemory>
-    ensures { IfOk result (λ _. out.new ≡ out.old ++ spaced numbers.now) }
-{
-    'numbers: for i in 0..numbers.len() {
-        put_number(out, numbers[i])?;
-    }
-    Ok(())
-}
-
 /// Appends the numbers of some rows, from 1, each after a space.
 pub fn put_rows(out: &mut Out, rows: &[RowId]) -> Result<(), NoMemory>
     ensures { IfOk result (λ _. out.new ≡ out.old ++ spaced (map row_number rows.now)) }
@@ -35,16 +28,6 @@ pub fn put_rows(out: &mut Out, rows: &[RowId]) -> Result<(), NoMemory>
         put_number(out, from_one(rows[i].0))?;
     }
     Ok(())
-}
-
-/// Appends a line: its word, its numbers, each after a space, and LF.
-pub fn put_line(out: &mut Out, word: &[u8], numbers: &[u64]) -> Result<(), NoMemory>
-    ensures { IfOk result (λ _. out.new ≡ out.old
-        ++ ((word.now ++ spaced numbers.now) ++ 10 ∷ [])) }
-{
-    out.put(word)?;
-    put_numbers(out, numbers)?;
-    out.put(b"\n")
 }
 
 fn put_edges(out: &mut Out, edges: &[(RowId, RowId)]) -> Result<(), NoMemory>

@@ -14,14 +14,15 @@ use Rattle.shell_rules.specs.Closed.{IsClosedSolid}
 use Rattle.shell_rules.specs.ShellObligations.{solid_obligations}
 use Rattle.shell_rules.proofs.ClosedLemmas.{closed_is_all_hold}
 use Rattle.edge_uses.proofs.Whole.{vertices_known}
-use Rattle.cert_lines.specs.Line.{head, solid, spaced, spelling}
+use Rattle.cert_text.specs.Text.{spaced}
+use Rattle.cert_lines.specs.Line.{head, solid, spelling}
 use Rattle.cert_lines.specs.Written.{certificate_lines, text_of}
 use Rattle.cert_lines.specs.declared.parts.Certificate.{Certificate}
 use Rattle.cert_lines.specs.declared.version.Version.TheVariants.{Two}
 use Rattle.topo_certificate.specs.Legal.{IsLegal}
-use Rattle.topo_certificate.proofs.Short.{length-spaced}
+use Rattle.cert_state.proofs.Short.{length-spaced}
 use Rattle.cert_accept.specs.Accepted.{IsAccepted}
-use Rattle.cert_maker.specs.Parts.{AreParts}
+use Rattle.cert_maker.specs.Certified.{AreParts}
 use Rattle.cert_maker.specs.Certified.{IsCertificate, further_lines}
 use Rattle.cert_accept.proofs.Ready.{closed_is_ready, closed_joins, apart_all}
 use Rattle.cert_accept.proofs.Complete.{shell_small, head_read}

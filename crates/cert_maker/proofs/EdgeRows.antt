@@ -19,7 +19,7 @@ use Rattle.edge_uses.specs.Ranges.{IsWithin, IsSpanOf}
 use Rattle.edge_uses.proofs.Tallies.{set_same, set_other}
 use Rattle.edge_uses.proofs.Cycle.{same_or_not}
 use Rattle.edge_uses.proofs.Turn.{row_of_edge_along}
-use Rattle.topo_certificate.proofs.Segment.{row_has}
+use Rattle.cert_state.proofs.Segment.{row_has}
 use Rattle.cert_maker.specs.Along.{RunAlong}
 
 -- A range that holds the edges that occur holds the edge of each row.

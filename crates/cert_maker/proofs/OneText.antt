@@ -17,7 +17,7 @@ use Rattle.edge_uses.proofs.Turn.{one_of_edge, pair_counts, paired_rows, turns_t
 use Rattle.vertex_link.specs.Cycles.{IsCycle, IsCycleOf}
 use Rattle.shell_reach.specs.Reaching.{row_numbers}
 use Rattle.shell_reach.proofs.OneOrder.{one_order}
-use Rattle.topo_certificate.specs.Stand.{loops_of}
+use Rattle.cert_state.specs.Stand.{loops_of}
 use Rattle.cert_lines.specs.Written.{certificate_lines, text_of}
 use Rattle.cert_lines.specs.declared.version.Version.{Version}
 use Rattle.cert_lines.specs.declared.version.Version.TheVariants.{Two}
@@ -27,9 +27,9 @@ use Rattle.solid_data.specs.declared.linked.Corner.TheVariants.{Cycle, Point}
 use Rattle.cert_lines.specs.declared.parts.ShellPart.{ShellPart}
 use Rattle.cert_accept.specs.Accepted.{IsAccepted}
 use Rattle.vertex_link.specs.Corners.{LiesAt}
-use Rattle.cert_maker.specs.Parts.{AreItsRows, IsPart}
+use Rattle.cert_maker.specs.Certified.{AreItsRows, IsPart}
 use Rattle.cert_maker.specs.Certified.{IsCertificate}
-use Rattle.cert_maker.specs.Laws.{CertificateTextIsAccepted, OneCertificateText}
+use Rattle.cert_maker.specs.Certified.{CertificateTextIsAccepted, OneCertificateText}
 use Rattle.cert_maker.proofs.Certifying.{certificate_accepted}
 
 row_is : (a b : RowId) → a.0 ≡ b.0 → a ≡ b

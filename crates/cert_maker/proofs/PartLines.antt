@@ -17,7 +17,8 @@ use Rattle.edge_uses.specs.RowRelations.{AreMates, StartsAt}
 use Rattle.edge_uses.specs.Mates.{RunsOn}
 use Rattle.vertex_link.specs.Cycles.{IsCycle}
 use Rattle.shell_reach.specs.Reaching.{ReachFrom, ReachesOne, row_numbers}
-use Rattle.cert_lines.specs.Line.{CertLine, tally, shell, edge, corner, point, reach, end, spelling, IsShort, HasSpelling}
+use Rattle.cert_text.specs.Text.{IsShort}
+use Rattle.cert_lines.specs.Line.{CertLine, tally, shell, edge, corner, point, reach, end, spelling, HasSpelling}
 use Rattle.cert_lines.specs.declared.counts.ShellCounts.{ShellCounts}
 use Rattle.cert_lines.specs.declared.counts.Tally.{Tally}
 use Rattle.cert_lines.specs.declared.version.Version.{Version}
@@ -25,19 +26,19 @@ use Rattle.cert_lines.specs.declared.version.Version.TheVariants.{One, Two, Thre
 use Rattle.topo_certificate.specs.Legal.{IsLegal}
 use Rattle.topo_certificate.specs.After.{IsLegalAfter}
 use Rattle.topo_certificate.proofs.Forward.{legal_forward}
-use Rattle.topo_certificate.specs.Stand.{tallies, loops_of, loops_of_shell, stand_from_latest, FitsLine, IsAbove, first_of, row_start, row_face, point_named}
-use Rattle.topo_certificate.specs.Stand.{rows_of_shell, start_count, IsMate, TurnsTo}
+use Rattle.cert_state.specs.Stand.{tallies, loops_of, loops_of_shell, stand_from_latest, FitsLine, IsAbove, first_of, row_start, row_face, point_named}
+use Rattle.cert_state.specs.Stand.{rows_of_shell, start_count, IsMate, TurnsTo}
 use Rattle.cert_lines.specs.Written.{tally_line, tally_lines, row_number, edge_line, corner_line, reach_line, shell_line, shell_lines}
 use Rattle.solid_data.specs.declared.linked.Corner.{Corner}
 use Rattle.solid_data.specs.declared.linked.Corner.TheVariants.{Cycle, Point}
 use Rattle.cert_lines.specs.declared.parts.ShellPart.{ShellPart}
-use Rattle.topo_certificate.proofs.Short.{IsSmall, IsReadable, readable_edge, readable_corner, readable_point, readable_reach, readable_tally, readable_end}
-use Rattle.topo_certificate.proofs.Short.{row_short, starts_few}
+use Rattle.cert_state.proofs.Short.{IsSmall, IsReadable, readable_edge, readable_corner, readable_point, readable_reach, readable_tally, readable_end}
+use Rattle.cert_state.proofs.Short.{row_short, starts_few}
 use Rattle.topo_certificate.proofs.Build.{Stage, add_edge, add_corner, add_point, add_reach, nothing_due, tally_fits, none_after_tally, MatedAt, mates_listed}
 use Rattle.topo_certificate.proofs.Build.{PointsDiffer, zip_suc, map-suc-append, above_suc, find_some, none_start}
 use Rattle.topo_certificate.proofs.Complete.{AreReady, Done, counts_of, tally_of, begin_shell, any_above, end_fits, ended}
 use Rattle.vertex_link.specs.Corners.{LiesAt}
-use Rattle.cert_maker.specs.Parts.{AreItsRows, IsPart, AreParts}
+use Rattle.cert_maker.specs.Certified.{AreItsRows, IsPart, AreParts}
 
 -- Behind the lines before, the latest first: each line is spelled and fits, and the last is END.
 abbrev pub GoesOn : Version → SolidData → List CertLine → List CertLine → Type 0

@@ -10,7 +10,7 @@ use Rattle.cert_lines.specs.Written.{book_lines, text_of}
 use Rattle.cert_lines.specs.declared.parts.Certificate.{Certificate}
 use Rattle.iges_params.specs.Solids.{solids_of}
 use Rattle.cert_maker.specs.Book.{uses_of, AllMade, IsCertificateOf}
-use Rattle.cert_maker.specs.Laws.{ClosedHasText}
+use Rattle.cert_maker.specs.Certified.{ClosedHasText}
 use Rattle.cert_maker.specs.BookLaws.{MadeHasBook}
 
 some_parts : ClosedHasText → (f : Contents) → FitsLimits f → (used : ℕ) (ns : List ℕ) → AllMade f used ns

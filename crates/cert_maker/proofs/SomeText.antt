@@ -37,13 +37,13 @@ use Rattle.solid_data.specs.declared.linked.Corner.{Corner}
 use Rattle.solid_data.specs.declared.linked.Corner.TheVariants.{Cycle, Point}
 use Rattle.cert_lines.specs.declared.parts.ShellPart.{ShellPart}
 use Rattle.cert_lines.specs.declared.version.Version.TheVariants.{Two}
-use Rattle.topo_certificate.specs.Stand.{loops_of}
+use Rattle.cert_state.specs.Stand.{loops_of}
 use Rattle.topo_certificate.proofs.Build.{found_point}
-use Rattle.topo_certificate.proofs.PointOrder.{faces_of_rows}
+use Rattle.cert_state.proofs.PointOrder.{faces_of_rows}
 use Rattle.cert_accept.proofs.Ready.{closed_at}
 use Rattle.vertex_link.specs.Corners.{LiesAt}
-use Rattle.cert_maker.specs.Parts.{AreItsRows, IsPart, AreParts}
-use Rattle.cert_maker.specs.Laws.{ClosedHasText}
+use Rattle.cert_maker.specs.Certified.{AreItsRows, IsPart, AreParts}
+use Rattle.cert_maker.specs.Certified.{ClosedHasText}
 use Rattle.cert_maker.proofs.Certifying.{certificate_made}
 
 -- Where each item has one that agrees with it, so has the list.

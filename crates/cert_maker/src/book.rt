@@ -20,7 +20,8 @@ use iges_fields::{EntryNo, NoMemory};
 use iges_params::File;
 use solid_data::{Failing, Solid};
 use std::alloc::Global;
-use topo_certificate::{Certificate, Certificates, use_count};
+use cert_state::use_count;
+use topo_certificate::{Certificate, Certificates};
 
 /// The most loop uses that the solids of a book may have together.
 const USE_LIMIT: u64 = 6_000_000;

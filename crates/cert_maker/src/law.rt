@@ -1,7 +1,7 @@
 //! What holds of closed solids and accepted certificates, and of the texts that are made.
 
 ghost use Rattle.cert_maker.specs.BookLaws.{BookTextIsAccepted, MadeHasBook, MadeOrUnmade, NoneUnmadeWhereMade, OneBookText, OneUnmade};
-ghost use Rattle.cert_maker.specs.Laws.{CertificateTextIsAccepted, ClosedHasText, OneCertificateText};
+ghost use Rattle.cert_maker.specs.Certified.{CertificateTextIsAccepted, ClosedHasText, OneCertificateText};
 ghost use Rattle.cert_maker.specs.Soundness.{AcceptedIsClosed, ClosedExactlyWhereAccepted};
 
 /// Soundness: whatever made a certificate, of any version, each solid that it names is closed where it is accepted.

@@ -12,8 +12,8 @@ ghost use Rattle.cert_lines.specs.Written.{certificate_lines, text_of};
 ghost use Rattle.cert_accept.specs.Accepted.{IsAccepted};
 ghost use Rattle.shell_rules.specs.Faults.{IsCheckFault, IsNoMemory, FailsSo};
 ghost use Rattle.cert_maker.specs.Certified.{IsCertificate};
-ghost use Rattle.cert_maker.specs.Laws.{IsCertificateText};
-ghost use Rattle.cert_maker.specs.Parts.{AreParts};
+ghost use Rattle.cert_maker.specs.Certified.{IsCertificateText};
+ghost use Rattle.cert_maker.specs.Certified.{AreParts};
 
 use crate::fault::MakeFault;
 use crate::shell_part::shell_part;

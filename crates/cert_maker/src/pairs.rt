@@ -5,7 +5,7 @@ ghost use Rattle.std.specs.List.{AllByRecursion, AllZip};
 ghost use Rattle.edge_uses.specs.Mates.{RunsOn};
 ghost use Rattle.edge_uses.specs.Ranges.{IsWithin};
 ghost use Rattle.edge_uses.specs.declared.row.Row.{Row as AnyRow};
-ghost use Rattle.cert_maker.specs.Parts.{AreItsRows};
+ghost use Rattle.cert_maker.specs.Certified.{AreItsRows};
 ghost use Rattle.cert_maker.specs.Along.{RunAlong};
 
 use edge_uses::{Paired, Row, Rows, Span, row_at};

@@ -9,8 +9,8 @@ ghost use Rattle.vertex_link.specs.Corners.{AreLinks};
 ghost use Rattle.shell_reach.specs.Reaching.{ReachesAll, row_numbers};
 ghost use Rattle.shell_reach.specs.BreadthFirst.{IsBreadthFirst};
 ghost use Rattle.shell_rules.specs.Faults.{IsCheckFault};
-ghost use Rattle.topo_certificate.specs.Stand.{loops_of};
-ghost use Rattle.cert_maker.specs.Parts.{IsPart};
+ghost use Rattle.cert_state.specs.Stand.{loops_of};
+ghost use Rattle.cert_maker.specs.Certified.{IsPart};
 
 use crate::fault::MakeFault;
 use crate::judging::{linked, mated, reached};
@@ -21,7 +21,8 @@ use shell_reach::ReachList;
 use shell_rules::{apart, join};
 use solid_data::{Shell, ShellAt, Solid};
 use std::alloc::Global;
-use topo_certificate::{ShellPart, loop_count};
+use cert_state::loop_count;
+use topo_certificate::ShellPart;
 use vertex_link::Links;
 
 /// The part of a shell whose faces are reached by these rows and whose vertices have these corners.

@@ -15,11 +15,11 @@ use Rattle.edge_uses.proofs.Whole.{rising}
 use Rattle.brep_walk.specs.SolidOf.{solid_of}
 use Rattle.cert_lines.specs.Line.{CertLine, head, solid, end, words, spelling, cut_lines, IsSpelled, IsLine, line_limit}
 use Rattle.cert_lines.specs.Opening.{Opens, IsHeaded}
-use Rattle.cert_lines.specs.declared.fault.Illegal.{Illegal}
+use Rattle.cert_text.specs.declared.fault.Illegal.{Illegal}
 use Rattle.cert_lines.specs.declared.version.Version.TheVariants.{One, Two, Three}
 use Rattle.cert_lines.proofs.CutLines.{cut_spelled}
 use Rattle.topo_certificate.specs.declared.TheConstants.{CERT_LIMIT}
-use Rattle.topo_certificate.specs.Stand.{stand_after, FitsLine}
+use Rattle.cert_state.specs.Stand.{stand_after, FitsLine}
 use Rattle.topo_certificate.specs.Legal.{AreFitting, IsLegal, IsPartBad}
 use Rattle.topo_certificate.specs.Feeding.{FedKept}
 use Rattle.topo_certificate.specs.PartEnds.{EndsPart}
@@ -28,7 +28,7 @@ use Rattle.topo_certificate.proofs.Forward.{fitting_more}
 use Rattle.topo_certificate.proofs.UpgradedText.{kept_other}
 use Rattle.cert_accept.specs.Accepted.{Part, part_lines, solids_named, IsGoodPart, IsAcceptedBook}
 use Rattle.cert_accept.specs.Book.{fails, illegal, IsBookBad}
-use Rattle.cert_accept.specs.Checked.{checked}
+use Rattle.cert_accept.specs.Accepted.{checked}
 use Rattle.command_replies.specs.declared.answer.Answer.{Answer}
 use Rattle.command_replies.specs.declared.answer.Answer.TheVariants.{No}
 use Rattle.command_replies.specs.Texts.{illegal_line, solid_fail_text}

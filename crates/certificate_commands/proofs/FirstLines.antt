@@ -5,7 +5,7 @@ use Rattle.std.proofs.Math.Seq.{take-add}
 use Rattle.std.specs.Io.KnownBytes.{Consumes, IsAtEnd}
 use Rattle.iges_io.proofs.Streams.{consumes_none, consumes_more}
 use Rattle.cert_lines.specs.Opening.{IsBadOpening}
-use Rattle.cert_lines.specs.declared.fault.Illegal.{Illegal}
+use Rattle.cert_text.specs.declared.fault.Illegal.{Illegal}
 use Rattle.topo_certificate.specs.declared.TheConstants.{CERT_LIMIT}
 use Rattle.topo_certificate.specs.declared.opening.Stage.{Stage}
 use Rattle.topo_certificate.specs.declared.opening.Stage.TheVariants as stage

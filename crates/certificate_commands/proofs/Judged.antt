@@ -10,7 +10,7 @@ use Rattle.brep_walk.specs.SolidOf.{solid_of}
 use Rattle.solid_data.specs.SolidData.{SolidData}
 use Rattle.cert_lines.specs.Line.{cut_lines}
 use Rattle.cert_lines.specs.Opening.{Opens, IsBadOpening}
-use Rattle.cert_lines.specs.declared.fault.Illegal.{Illegal}
+use Rattle.cert_text.specs.declared.fault.Illegal.{Illegal}
 use Rattle.cert_lines.specs.declared.version.Version.{Version}
 use Rattle.cert_lines.specs.declared.version.Version.TheVariants.{Three}
 use Rattle.topo_certificate.specs.declared.TheConstants.{CERT_LIMIT}

@@ -8,7 +8,7 @@ use Rattle.cert_lines.specs.declared.version.Version.TheVariants.{One, Two, Thre
 use Rattle.cert_lines.specs.Opening.{IsHeaded}
 use Rattle.cert_lines.proofs.Openings.{one_bad_opening, one_opening, opens_or_bad}
 use Rattle.topo_certificate.proofs.LegalLemmas.{legal_has_no_bad_lem, one_first_bad}
-use Rattle.cert_accept.specs.Checked.{checked}
+use Rattle.cert_accept.specs.Accepted.{checked}
 use Rattle.cert_accept.specs.Accepted.{Part, solids_named}
 use Rattle.cert_accept.specs.Book.{BookRefusal}
 use Rattle.cert_accept.specs.Book as book

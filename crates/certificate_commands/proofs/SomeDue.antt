@@ -7,14 +7,14 @@ use Rattle.solid_data.proofs.Decisions.{Decided, decided_within}
 use Rattle.solid_data.proofs.ObligationsDecided.{all_or_first_false}
 use Rattle.brep_walk.specs.SolidOf.{solid_of}
 use Rattle.cert_lines.specs.Opening.{Opens, IsBadOpening, IsHeaded}
-use Rattle.cert_lines.specs.declared.fault.Illegal.{Illegal}
+use Rattle.cert_text.specs.declared.fault.Illegal.{Illegal}
 use Rattle.cert_lines.specs.declared.version.Version.{Version}
 use Rattle.cert_lines.specs.declared.version.Version.TheVariants.{One, Two, Three}
 use Rattle.cert_lines.proofs.Decided.{openings_are_decided}
 use Rattle.topo_certificate.specs.declared.TheConstants.{CERT_LIMIT}
 use Rattle.topo_certificate.specs.Legal.{IsLegal, IsFirstBad}
 use Rattle.topo_certificate.proofs.Decided.{legal_or_first_bad}
-use Rattle.cert_accept.specs.Checked.{checked}
+use Rattle.cert_accept.specs.Accepted.{checked}
 use Rattle.cert_accept.specs.Accepted.{Part, solids_named, IsAcceptedBook}
 use Rattle.cert_accept.specs.Book.{BookRefusal, IsBookBad}
 use Rattle.cert_accept.specs.Book as book

@@ -5,7 +5,7 @@ use Rattle.solid_data.specs.Obligations.{AllHold, FirstFalse}
 use Rattle.solid_data.specs.declared.verdict.Failing.{Failing}
 use Rattle.brep_walk.specs.SolidOf.{solid_of}
 use Rattle.cert_lines.specs.Opening.{Opens, IsBadOpening, IsHeaded}
-use Rattle.cert_lines.specs.declared.fault.Illegal.{Illegal}
+use Rattle.cert_text.specs.declared.fault.Illegal.{Illegal}
 use Rattle.cert_lines.specs.declared.version.Version.{Version}
 use Rattle.cert_lines.specs.declared.version.Version.TheVariants.{One, Two, Three}
 use Rattle.topo_certificate.specs.declared.TheConstants.{CERT_LIMIT}
@@ -14,7 +14,7 @@ use Rattle.topo_certificate.specs.Upgraded.{upgraded}
 use Rattle.cert_accept.specs.Accepted.{IsAcceptedBook, Part, solids_named}
 use Rattle.cert_accept.specs.Book.{IsBookBad}
 use Rattle.cert_accept.specs.Book as book
-use Rattle.cert_accept.specs.Checked.{checked}
+use Rattle.cert_accept.specs.Accepted.{checked}
 use Rattle.command_replies.specs.declared.answer.Answer.{Answer}
 use Rattle.command_replies.specs.declared.answer.Answer.TheVariants as answer
 use Rattle.command_replies.specs.Texts.{accepted_lines, fail_line, illegal_line, solid_fail_text}

@@ -1,7 +1,7 @@
 ghost use Rattle.brep_walk.specs.SolidOf.{solid_of};
 ghost use Rattle.certificate_commands.specs.Judging.{IsChecked, TellsFalse};
 ghost use Rattle.command_replies.specs.Texts.{fail_line, solid_fail_text};
-ghost use Rattle.cert_accept.specs.Checked.{checked};
+ghost use Rattle.cert_accept.specs.Accepted.{checked};
 ghost use Rattle.shell_rules.specs.Faults.{IsCheckFault};
 ghost use Rattle.solid_data.specs.Obligations.{AllHold};
 ghost use Rattle.std.specs.Prelude.{◌≡◌, IfErr, IfOk, MatchResult, OnOk};

@@ -1,4 +1,4 @@
-ghost use Rattle.open_certificate.specs.Accepted.{IsOpenShell};
+ghost use Rattle.open_certificate.specs.Legal.{IsOpenShell};
 
 use crate::comparing::same;
 use crate::open_solids::{ball, lid};

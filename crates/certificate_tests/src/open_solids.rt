@@ -1,7 +1,7 @@
 //! Solids that are numbered as their one shell is, so that the checker of open shells takes them.
 
 ghost use Rattle.std.specs.Prelude.{IfOk};
-ghost use Rattle.open_certificate.specs.Accepted.{IsOpenShell};
+ghost use Rattle.open_certificate.specs.Legal.{IsOpenShell};
 
 use iges_base::{EntryNo, ItemList, NoMemory};
 use small_solids::{edge_to, one, one_use, shell_of, use_of, vertex};

@@ -4,8 +4,8 @@ use Rattle.iges_lines.specs.declared.fault.LineFault.{LineFault}
 use Rattle.iges_lines.specs.Reasons.{reason_word}
 use Rattle.solid_data.specs.RuleNames.{rule_name}
 use Rattle.solid_data.specs.declared.verdict.Failing.{Failing}
-use Rattle.cert_lines.specs.declared.fault.Illegal.{Illegal}
-use Rattle.cert_lines.specs.declared.fault.Illegal.TheVariants.{Misspelt, Unfit, Missing}
+use Rattle.cert_text.specs.declared.fault.Illegal.{Illegal}
+use Rattle.cert_text.specs.declared.fault.Illegal.TheVariants.{Misspelt, Unfit, Missing}
 
 abbrev pub bad_file_line : LineFault → List ℕ
 bad_file_line fault = codes "bad file line " ++ decimal fault.line ++ codes " " ++ reason_word fault.reason ++ codes "\n"

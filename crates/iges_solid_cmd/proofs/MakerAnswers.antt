@@ -9,7 +9,7 @@ use Rattle.brep_walk.specs.Places.{places}
 use Rattle.brep_walk.specs.SolidOf.{solid_of}
 use Rattle.iges_params.specs.Contents.{Contents}
 use Rattle.solid_verdict.specs.Closed.{obligations}
-use Rattle.cert_maker.specs.Laws.{IsCertificateText}
+use Rattle.cert_maker.specs.Certified.{IsCertificateText}
 use Rattle.command_replies.specs.declared.answer.Answer.TheVariants.{Done, No}
 use Rattle.command_replies.specs.Texts.{fail_line}
 use Rattle.iges_solid_cmd.specs.Due.{OfCertify, fails, certified}

@@ -13,14 +13,14 @@ use Rattle.brep_walk.specs.Places.{places}
 use Rattle.brep_walk.specs.SolidOf.{solid_of}
 use Rattle.iges_params.specs.Contents.{Contents}
 use Rattle.cert_lines.specs.Opening.{Opens, IsBadOpening}
-use Rattle.cert_lines.specs.declared.fault.Illegal.{Illegal}
+use Rattle.cert_text.specs.declared.fault.Illegal.{Illegal}
 use Rattle.cert_lines.proofs.Openings.{one_opening, opens_or_bad}
 use Rattle.topo_certificate.specs.Legal.{IsFirstBad}
 use Rattle.topo_certificate.proofs.LegalLemmas.{legal_has_no_bad_lem}
 use Rattle.cert_lines.specs.declared.version.Version.{Version}
 use Rattle.cert_lines.specs.declared.version.Version.TheVariants.{Two}
 use Rattle.cert_accept.specs.Accepted.{IsAccepted}
-use Rattle.cert_maker.specs.Laws.{IsCertificateText}
+use Rattle.cert_maker.specs.Certified.{IsCertificateText}
 use Rattle.cert_maker.proofs.OneText.{text_accepted}
 use Rattle.iges_write.specs.Text.{IsText}
 use Rattle.sample_solids.specs.Laws.{IsClosedMesh, faces_in}

@@ -1,5 +1,5 @@
 ghost use Rattle.brep_walk.specs.SolidOf.{solid_of};
-ghost use Rattle.cert_maker.specs.Laws.{IsCertificateText};
+ghost use Rattle.cert_maker.specs.Certified.{IsCertificateText};
 ghost use Rattle.iges_base.specs.declared.TheConstants.{FILE_LIMIT};
 ghost use Rattle.iges_solid_cmd.specs.Due.{OfSample};
 ghost use Rattle.iges_solid_cmd.specs.Forms.{IsSize};

@@ -2,9 +2,9 @@
 use Rattle.std.specs.Prelude.{◌≡◌, ℕ, ◌+◌, ◌<◌, List, ◌∷◌, length, Contains}
 use Rattle.std.proofs.Common.{sym, ap, subst, arith}
 use Rattle.edge_uses.specs.ShellRows.{ShellRows}
-use Rattle.cert_lines.specs.Numbers.{Begins, AreNumbers}
-use Rattle.topo_certificate.specs.Stand.{IsAbove}
-use Rattle.topo_certificate.proofs.Rings.{next_left, none_left}
+use Rattle.cert_text.specs.Text.{Begins, AreNumbers}
+use Rattle.cert_state.specs.Stand.{IsAbove}
+use Rattle.cert_state.proofs.Rings.{next_left, none_left}
 use Rattle.open_certificate.specs.Stand.{OpenStand, GoesOnTo, FitsBorder}
 use Rattle.open_certificate.specs.Walks.{IsBorderRing, FitsBorderLine}
 

@@ -16,8 +16,8 @@ use Rattle.edge_uses.specs.declared.row.Row.{Row}
 use Rattle.edge_uses.specs.ShellRows.{ShellRows}
 use Rattle.edge_uses.specs.RowRelations.{Turns, StartsAt}
 use Rattle.edge_uses.proofs.Counting.{mark, mark-same, mark-other, marks-one}
-use Rattle.topo_certificate.specs.Stand.{row_named, first_of, IsAbove}
-use Rattle.topo_certificate.proofs.Segment.{AreGoodRows, Falls, falls_more, named_has}
+use Rattle.cert_state.specs.Stand.{row_named, first_of, IsAbove}
+use Rattle.cert_state.proofs.Segment.{AreGoodRows, Falls, falls_more, named_has}
 use Rattle.open_certificate.specs.Sound.{IsBorder, IsBorderCycle, IsBorderCycleOf, IsFanned, GoesOn, row_total}
 use Rattle.open_certificate.specs.Line.{OpenLine, head, shell, edge, lone, cycle, path, point, reach, border, end, IsSpelled}
 use Rattle.open_certificate.specs.Stand.{stand_from_latest, shell_of, GoesOnTo, FitsLine, lone_in, mates_in, edge_in, is_edge, number_of, border_in}

@@ -5,7 +5,7 @@ use Rattle.open_certificate.specs.Line.{OpenLine, head, shell, edge, lone, cycle
 use Rattle.open_certificate.specs.Said.{IsRowLine}
 use Rattle.solid_data.specs.SolidData.{SolidData}
 use Rattle.solid_data.specs.declared.solid.Shell.{Shell}
-use Rattle.open_certificate.specs.Accepted.{IsOpenShell}
+use Rattle.open_certificate.specs.Legal.{IsOpenShell}
 use Rattle.open_certificate.specs.Stand.{stand_from_latest, IsDone}
 use Rattle.open_certificate.specs.Kept.{KeptOpen, MatchesLines, Takes, KeptChecker, IsAt, TakesLine}
 

@@ -8,9 +8,9 @@ use Rattle.edge_uses.specs.declared.row.Row.{Row}
 use Rattle.edge_uses.specs.ShellRows.{ShellRows}
 use Rattle.edge_uses.specs.Around.{IsReached}
 use Rattle.solid_data.proofs.Members.{Has, covers}
-use Rattle.topo_certificate.specs.Stand.{IsAbove, first_of, row_named, row_start, point_named}
-use Rattle.topo_certificate.proofs.Segment.{AreGoodRows, Falls, falls_none, falls_more, ReachFacts, reach_step, faces_reached, start_known, point_known}
-use Rattle.topo_certificate.proofs.Segment.{point_from_line}
+use Rattle.cert_state.specs.Stand.{IsAbove, first_of, row_named, row_start, point_named}
+use Rattle.cert_state.proofs.Segment.{AreGoodRows, Falls, falls_none, falls_more, ReachFacts, reach_step, faces_reached, start_known, point_known}
+use Rattle.cert_state.proofs.Segment.{point_from_line}
 use Rattle.open_certificate.specs.Sound.{IsOnce, IsFanned}
 use Rattle.open_certificate.specs.Line.{OpenLine, head, shell, edge, lone, cycle, path, point, reach, border, end}
 use Rattle.open_certificate.specs.Legal.{IsLegalAfter}

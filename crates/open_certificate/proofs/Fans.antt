@@ -14,9 +14,9 @@ use Rattle.edge_uses.proofs.RowShape.{EndsExchanged}
 use Rattle.edge_uses.proofs.Turn.{not-not, one_of_edge}
 use Rattle.edge_uses.proofs.RowNumbers.{starting, length-starting}
 use Rattle.edge_uses.proofs.Counting.{counted, counts_of_edge}
-use Rattle.topo_certificate.specs.Stand.{Stand, row_named, row_start, FollowsAsNamed, TurnsTo, FitsCorner}
-use Rattle.topo_certificate.proofs.Corner.{AreNamedMates, MatesHold, mates_named, chain_unnamed, StartsNamed, start_of_row, turn_start_by, turns_row}
-use Rattle.topo_certificate.proofs.Corner.{corner_starts, follows_one, starts_listed, above_least}
+use Rattle.cert_state.specs.Stand.{Stand, row_named, row_start, FollowsAsNamed, TurnsTo, FitsCorner}
+use Rattle.cert_state.proofs.Corner.{AreNamedMates, MatesHold, mates_named, chain_unnamed, StartsNamed, start_of_row, turn_start_by, turns_row}
+use Rattle.cert_state.proofs.Corner.{corner_starts, follows_one, starts_listed, above_least}
 use Rattle.open_certificate.specs.Sound.{IsOnce, IsFan, row_total}
 use Rattle.open_certificate.specs.Stand.{OpenStand, IsChain, last_of, FitsPath}
 use Rattle.open_certificate.proofs.Once.{OnceRows, way_one, total_uses}

@@ -2,7 +2,7 @@
 use Rattle.std.specs.Prelude.{◌≡◌, ℕ, true, false, List, [], ◌∷◌}
 use Rattle.std.proofs.Common.{sym, ◌∙◌, subst, inl, inr, ⊎_elim}
 use Rattle.solid_data.specs.SolidData.{SolidData}
-use Rattle.cert_lines.specs.declared.fault.Illegal.{Illegal}
+use Rattle.cert_text.specs.declared.fault.Illegal.{Illegal}
 use Rattle.open_certificate.specs.Line.{OpenLine, IsSpelled}
 use Rattle.open_certificate.specs.Stand.{stand_from_latest, FitsLine}
 use Rattle.open_certificate.specs.Legal.{IsLegalAfter, IsBadLine, IsFirstBadAfter, IsOpenLegal, IsOpenFirstBad}

@@ -14,12 +14,13 @@ use Rattle.solid_data.proofs.Decisions.{decided_contains, decided_list}
 use Rattle.edge_uses.specs.declared.row.Row.{Row}
 use Rattle.edge_uses.specs.ShellRows.{ShellRows}
 use Rattle.edge_uses.specs.RowRelations.{point_count}
-use Rattle.cert_lines.specs.Line.{spaced, IsShort, edge as edge_line, corner as corner_line, point as point_line, reach as reach_line}
-use Rattle.cert_lines.specs.declared.fault.Illegal.{Illegal}
-use Rattle.cert_lines.specs.declared.fault.Illegal.TheVariants.{Misspelt, Unfit, Missing}
-use Rattle.topo_certificate.specs.Stand.{Stand, row_named, row_start, start_count, IsAbove, IsMate, FollowsAsNamed, TurnsTo, FitsEdge, FitsCorner, FitsPoint}
-use Rattle.topo_certificate.specs.Stand.{FitsReach}
-use Rattle.topo_certificate.proofs.Decided.{line_decided as closed_line_decided}
+use Rattle.cert_text.specs.Text.{spaced, IsShort}
+use Rattle.cert_lines.specs.Line.{edge as edge_line, corner as corner_line, point as point_line, reach as reach_line}
+use Rattle.cert_text.specs.declared.fault.Illegal.{Illegal}
+use Rattle.cert_text.specs.declared.fault.Illegal.TheVariants.{Misspelt, Unfit, Missing}
+use Rattle.cert_state.specs.Stand.{Stand, row_named, row_start, start_count, IsAbove, IsMate, FollowsAsNamed, TurnsTo, FitsEdge, FitsCorner, FitsPoint}
+use Rattle.cert_state.specs.Stand.{FitsReach}
+use Rattle.cert_state.proofs.FitsDecided.{line_decided as closed_line_decided}
 use Rattle.open_certificate.specs.Line.{OpenLine, head, shell, edge, lone, cycle, path, point, reach, border, end, spelling, numbers_of, HasRows, HasSpelling}
 use Rattle.open_certificate.specs.Line.{IsSpelled, IsMisspelt}
 use Rattle.open_certificate.specs.Stand.{OpenStand, shell_of, shared, stand_from_latest, FitsShell, ListsAll, FitsLone, IsChain, last_of, FitsPath, GoesOnTo}

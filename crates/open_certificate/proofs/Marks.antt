@@ -6,7 +6,7 @@ use Rattle.std.proofs.lemmas.Bool.Decides.{eqb_tells}
 use Rattle.std.proofs.lemmas.Option.{same_Some}
 use Rattle.std.proofs.lemmas.List.{length-replicate}
 use Rattle.solid_data.proofs.Members.{Has, Has-from_Contains, Contains-from_Has}
-use Rattle.topo_certificate.proofs.Arrays.{get_set_same, get_set_other}
+use Rattle.cert_state.proofs.Arrays.{get_set_same, get_set_other}
 use Rattle.open_certificate.specs.Kept.{IsMarked, HoldsRows}
 
 -- one row more is marked

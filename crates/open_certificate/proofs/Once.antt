@@ -10,9 +10,9 @@ use Rattle.edge_uses.specs.declared.row.Row.{Row}
 use Rattle.edge_uses.specs.ShellRows.{ShellRows}
 use Rattle.edge_uses.specs.RowRelations.{row_count}
 use Rattle.edge_uses.proofs.Counting.{uses_of_edge, uses-most, counts_of_edge, one_place}
-use Rattle.topo_certificate.specs.Stand.{Stand, FitsEdge, IsAbove, first_of, row_named, row_edge}
-use Rattle.topo_certificate.proofs.Corner.{AreNamedMates, MatesHold}
-use Rattle.topo_certificate.proofs.Segment.{AreGoodRows, Falls, falls_none, falls_more, named_has, row_has, counted_named, mates_of_line}
+use Rattle.cert_state.specs.Stand.{Stand, FitsEdge, IsAbove, first_of, row_named, row_edge}
+use Rattle.cert_state.proofs.Corner.{AreNamedMates, MatesHold}
+use Rattle.cert_state.proofs.Segment.{AreGoodRows, Falls, falls_none, falls_more, named_has, row_has, counted_named, mates_of_line}
 use Rattle.open_certificate.specs.Sound.{IsOnce, IsBorder, row_total}
 use Rattle.open_certificate.specs.Stand.{OpenStand, FitsLone}
 

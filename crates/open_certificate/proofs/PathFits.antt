@@ -5,11 +5,11 @@ use Rattle.std.proofs.lemmas.Option.{same_Some}
 use Rattle.edge_uses.specs.declared.row.Row.{Row}
 use Rattle.edge_uses.specs.ShellRows.{ShellRows}
 use Rattle.edge_uses.specs.RowRelations.{point_count}
-use Rattle.cert_lines.specs.Numbers.{Begins, AreNumbers}
-use Rattle.topo_certificate.specs.Stand.{IsAbove, TurnsTo, row_named, row_start, start_count}
-use Rattle.topo_certificate.specs.Kept.{corner_size}
-use Rattle.topo_certificate.proofs.Rings.{next_left}
-use Rattle.topo_certificate.proofs.CornerFits.{size_tells, size_of}
+use Rattle.cert_text.specs.Text.{Begins, AreNumbers}
+use Rattle.cert_state.specs.Stand.{IsAbove, TurnsTo, row_named, row_start, start_count}
+use Rattle.cert_state.specs.Kept.{corner_size}
+use Rattle.cert_state.proofs.Rings.{next_left}
+use Rattle.cert_state.proofs.CornerFits.{size_tells, size_of}
 use Rattle.open_certificate.specs.Line.{path}
 use Rattle.open_certificate.specs.Stand.{OpenStand, FitsPath, IsChain, last_of, vertex_in}
 use Rattle.open_certificate.specs.Walks.{FitsPathLine}

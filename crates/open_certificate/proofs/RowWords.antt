@@ -1,9 +1,8 @@
 -- The numbers behind a word.
 use Rattle.std.specs.Prelude.{◌≡◌, ℕ, List, [], ◌∷◌, ◌++◌, length}
 use Rattle.std.proofs.Common.{sym, ◌∙◌, ap, arith}
-use Rattle.cert_lines.specs.Line.{spaced}
-use Rattle.cert_lines.specs.Numbers.{IsSpaced}
-use Rattle.cert_lines.proofs.Spacing.{same_front}
+use Rattle.cert_text.specs.Text.{spaced, IsSpaced}
+use Rattle.cert_text.proofs.Spacing.{same_front}
 use Rattle.open_certificate.specs.Said.{HasRowsAfter}
 
 rest_is : (text word rest rs : List ℕ) → text ≡ word ++ rest → HasRowsAfter text word rs → rest ≡ spaced rs

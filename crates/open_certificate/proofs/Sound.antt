@@ -16,13 +16,13 @@ use Rattle.edge_uses.proofs.RowLemmas.{ends_meet}
 use Rattle.edge_uses.proofs.RowShape.{ends_exchanged}
 use Rattle.edge_uses.proofs.RowFacts.{edges_known, starts_known, points_known, faces_known}
 use Rattle.edge_uses.proofs.Whole.{vertices_known}
-use Rattle.topo_certificate.proofs.PointOrder.{faces_of_rows}
-use Rattle.topo_certificate.proofs.Segment.{AreGoodRows}
+use Rattle.cert_state.proofs.PointOrder.{faces_of_rows}
+use Rattle.cert_state.proofs.Segment.{AreGoodRows}
 use Rattle.open_certificate.specs.Sound.{IsOnce, IsFanned, IsSoundShell}
 use Rattle.open_certificate.specs.Stand.{shell_of}
 use Rattle.open_certificate.specs.Legal.{IsOpenLegal}
 use Rattle.open_certificate.specs.Obligations.{AllHold, open_shell_obligations, open_obligations, of_shells}
-use Rattle.open_certificate.specs.Accepted.{AllJoin}
+use Rattle.open_certificate.specs.Legal.{AllJoin}
 use Rattle.open_certificate.specs.Laws.{AcceptedIsSound}
 use Rattle.open_certificate.proofs.Facts.{AreProper, legal_is_proper}
 use Rattle.open_certificate.proofs.OpenLists.{hold_append, hold_left, hold_from_sound, sound_from_hold}

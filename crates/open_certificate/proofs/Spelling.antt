@@ -2,10 +2,11 @@
 use Rattle.std.specs.Prelude.{◌≡◌, ◌≢◌, ℕ, ◌==◌, List, [], ◌∷◌, ◌++◌, map, flat_map, codes, if◌then◌else◌}
 use Rattle.std.specs.List.{AllByRecursion}
 use Rattle.std.proofs.Common.{refl, sym, ◌∙◌, ap, arith, append_assoc, get_or}
-use Rattle.cert_lines.specs.Line.{spaced, cut_lines}
-use Rattle.cert_lines.proofs.Spacing.{spaced_one, same_front}
+use Rattle.cert_text.specs.Text.{spaced}
+use Rattle.cert_lines.specs.Line.{cut_lines}
+use Rattle.cert_text.proofs.Spacing.{spaced_one, same_front}
 use Rattle.cert_lines.proofs.CutLines.{cut_piece}
-use Rattle.cert_lines.proofs.Spacing.{spaced_no_break}
+use Rattle.cert_text.proofs.Spacing.{spaced_no_break}
 use Rattle.open_certificate.specs.Line.{OpenLine, head, shell, edge, lone, cycle, path, point, reach, border, end, words, spelling, numbers_of, HasSpelling}
 use Rattle.open_certificate.specs.Line.{IsSpelled}
 

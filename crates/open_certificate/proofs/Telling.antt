@@ -11,14 +11,14 @@ use Rattle.solid_data.specs.SolidData.{SolidData}
 use Rattle.edge_uses.specs.declared.row.Row.{Row}
 use Rattle.edge_uses.specs.ShellRows.{ShellRows}
 use Rattle.cert_lines.specs.Line.{edge as pair_edge, corner as pair_corner, point as pair_point, reach as pair_reach}
-use Rattle.topo_certificate.specs.Stand.{Stand, row_named, first_of, IsAbove, FitsEdge, FitsPoint, FitsReach}
-use Rattle.topo_certificate.specs.Stand.{edge_of, vertex_of, face_of}
-use Rattle.topo_certificate.specs.Kept.{HoldsMates, HoldsFaces}
-use Rattle.topo_certificate.specs.Ring.{FitsCornerLine}
-use Rattle.topo_certificate.proofs.Arrays.{CanMate, MateCases, with_mates, mate_cases, mates_more, faces_more}
-use Rattle.topo_certificate.proofs.CornerFits.{named_below}
-use Rattle.topo_certificate.proofs.Standing.{due_of, stand_of}
-use Rattle.topo_certificate.proofs.Telling.{not_passed}
+use Rattle.cert_state.specs.Stand.{Stand, row_named, first_of, IsAbove, FitsEdge, FitsPoint, FitsReach}
+use Rattle.cert_state.specs.Stand.{edge_of, vertex_of, face_of}
+use Rattle.cert_state.specs.Kept.{HoldsMates, HoldsFaces}
+use Rattle.cert_state.specs.Ring.{FitsCornerLine}
+use Rattle.cert_state.proofs.Arrays.{CanMate, MateCases, with_mates, mate_cases, mates_more, faces_more}
+use Rattle.cert_state.proofs.CornerFits.{named_below}
+use Rattle.cert_state.proofs.Standing.{due_of, stand_of}
+use Rattle.cert_state.proofs.Telling.{not_passed}
 use Rattle.open_certificate.specs.Line.{OpenLine, shell, edge, lone, cycle, path, point, reach, border}
 use Rattle.open_certificate.specs.Stand.{OpenStand, stand_from_latest, shell_of, shared, edge_in, vertex_in, face_in, border_in, border_rows, FitsShell}
 use Rattle.open_certificate.specs.Stand.{FitsLone}

@@ -6,9 +6,9 @@ use Rattle.solid_data.specs.SolidData.{SolidData}
 use Rattle.solid_data.specs.declared.solid.LoopAt.{LoopAt}
 use Rattle.edge_uses.specs.declared.row.Row.{Row}
 use Rattle.edge_uses.specs.ShellRows.{ShellRows}
-use Rattle.cert_lines.specs.declared.fault.Illegal.{Illegal}
-use Rattle.topo_certificate.specs.Stand.{row_named}
-use Rattle.topo_certificate.specs.Kept.{mate_in, HoldsMates, HoldsFaces, InFileOrder, corner_size, is_alone}
+use Rattle.cert_text.specs.declared.fault.Illegal.{Illegal}
+use Rattle.cert_state.specs.Stand.{row_named}
+use Rattle.cert_state.specs.Kept.{mate_in, HoldsMates, HoldsFaces, InFileOrder, corner_size, is_alone}
 use Rattle.open_certificate.specs.Line.{OpenLine}
 use Rattle.open_certificate.specs.Stand.{stand_from_latest, shell_of, FitsOpen, FitsLine}
 

@@ -11,7 +11,7 @@ use Rattle.open_certificate.specs.Line.{OpenLine, border, IsSpelled}
 use Rattle.open_certificate.specs.Stand.{shell_of}
 use Rattle.open_certificate.specs.Legal.{IsOpenLegal}
 use Rattle.open_certificate.specs.Obligations.{open_obligations, AllHold}
-use Rattle.open_certificate.specs.Accepted.{IsOpenShell, IsOpenAccepted, AllJoin}
+use Rattle.open_certificate.specs.Legal.{IsOpenShell, IsOpenAccepted, AllJoin}
 
 -- What has an accepted certificate is sound.
 abbrev pub AcceptedIsSound : Type 0

@@ -1,9 +1,13 @@
--- Which lines after the head make a certificate of an open shell legal, and which is the first bad one.
-use Rattle.std.specs.Prelude.{◌≡◌, ℕ, ◌⊎◌, true, false, List, [], ◌∷◌}
-use Rattle.solid_data.specs.SolidData.{SolidData}
-use Rattle.cert_lines.specs.declared.fault.Illegal.{Illegal}
-use Rattle.cert_lines.specs.declared.fault.Illegal.TheVariants.{Misspelt, Unfit, Missing}
-use Rattle.open_certificate.specs.Line.{OpenLine, IsSpelled, IsMisspelt}
+-- Which lines after the head make a certificate of an open shell legal, which is the first bad one, and which certificates are accepted.
+use Rattle.std.specs.Prelude.{◌≡◌, ℕ, List, [], ◌∷◌, flat_map, ◌⊎◌, true, false}
+use Rattle.std.specs.List.{AllByRecursion}
+use Rattle.solid_data.specs.SolidData.{SolidData, PlacedLoop, placed_loops}
+use Rattle.solid_data.specs.declared.solid.Shell.{Shell}
+use Rattle.edge_uses.specs.Joins.{IsJoined}
+use Rattle.cert_lines.specs.Line.{cut_lines}
+use Rattle.open_certificate.specs.Line.{head, IsSpelled, OpenLine, IsMisspelt}
+use Rattle.cert_text.specs.declared.fault.Illegal.{Illegal}
+use Rattle.cert_text.specs.declared.fault.Illegal.TheVariants.{Misspelt, Unfit, Missing}
 use Rattle.open_certificate.specs.Stand.{stand_from_latest, FitsLine}
 
 -- After the lines before, the latest first: each line is spelled and fits the stand of those before it, and the last is END.
@@ -33,3 +37,23 @@ IsFirstBadAfter s before (bytes ∷ rest) bad =
 
 unfoldable pub IsOpenFirstBad : SolidData → List (List ℕ) → Illegal → Type 0
 IsOpenFirstBad s lines bad = IsFirstBadAfter s [] lines bad
+
+-- The solid has one shell, whose entity is the solid's own.
+pub record IsOpenShell (s : SolidData) : Type 0 where
+  pub shell : Shell
+  pub alone : s.shells ≡ shell ∷ []
+  pub named : shell.entity ≡ s.entity
+
+-- each loop of the solid joins
+abbrev pub AllJoin : SolidData → Type 0
+AllJoin s = AllByRecursion (λ (p : PlacedLoop). IsJoined s p.loop) (flat_map placed_loops s.shells)
+
+-- The certificate is accepted for the solid that is one open shell: its first line is the head, each loop joins, and the lines after the head, the first of
+-- which names the shell, are legal.
+pub record IsOpenAccepted (s : SolidData) (certificate : List ℕ) : Type 0 where
+  pub first : List ℕ
+  pub rest : List (List ℕ)
+  pub cut : cut_lines certificate ≡ first ∷ rest
+  pub is_head : IsSpelled first head
+  pub joined : AllJoin s
+  pub legal : IsOpenLegal s rest

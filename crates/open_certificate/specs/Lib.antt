@@ -3,11 +3,9 @@ pub mod Obligations
 pub mod Line
 pub mod Stand
 pub mod Legal
-pub mod Opening
 pub mod Said
 pub mod Written
 pub mod Kept
 pub mod Walks
-pub mod Accepted
 pub mod Laws
-pub use Rattle.cert_lines.specs.Numbers
+pub use Rattle.cert_text.specs.Text

@@ -1,7 +1,9 @@
--- The lines of an open shell's certificate, and how they are spelled.
-use Rattle.std.specs.Prelude.{◌≡◌, ℕ, ◌<◌, List, [], ◌∷◌, ◌++◌, length, codes, ⊤}
+-- The lines of an open shell's certificate, how they are spelled, and what is wrong with its first two.
+use Rattle.std.specs.Prelude.{◌≡◌, ℕ, List, ◌<◌, [], ◌∷◌, ◌++◌, length, codes, ⊤}
+use Rattle.cert_text.specs.declared.fault.Misfit.{Misfit}
+use Rattle.cert_text.specs.declared.fault.Misfit.TheVariants.{Misspelt, Unfit}
 use Rattle.std.specs.List.{AllByRecursion}
-use Rattle.cert_lines.specs.Line.{IsShort, spaced}
+use Rattle.cert_text.specs.Text.{IsShort, spaced}
 
 -- Rows, faces and loops are numbered from 1 in a line.
 pub data OpenLine : Type 0 where
@@ -69,3 +71,22 @@ IsSpelled bytes line = HasSpelling line × (bytes ≡ spelling line)
 -- The bytes spell no line, as a rest without LF never does. No line is too long to be read.
 abbrev pub IsMisspelt : List ℕ → Type 0
 IsMisspelt bytes = (line : OpenLine) → ¬ IsSpelled bytes line
+
+abbrev pub IsHead : OpenLine → Type 0
+IsHead line = line ≡ head
+
+-- a SHELL line of this number
+abbrev pub NamesShell : ℕ → OpenLine → Type 0
+NamesShell n line = (rows edges corners faces borders : ℕ) × (line ≡ shell n rows edges corners faces borders)
+
+abbrev pub IsShell : OpenLine → Type 0
+IsShell line = (n : ℕ) × NamesShell n line
+
+-- The bytes spell a line of this kind.
+abbrev pub IsOf : (OpenLine → Type 0) → List ℕ → Type 0
+IsOf Wanted bytes = (line : OpenLine) × IsSpelled bytes line × Wanted line
+
+-- The bytes spell no line, or one of another kind.
+abbrev pub IsMisfit : (OpenLine → Type 0) → List ℕ → Misfit → Type 0
+IsMisfit Wanted bytes Misspelt = IsMisspelt bytes
+IsMisfit Wanted bytes Unfit = IsOf (λ line. ¬ Wanted line) bytes

@@ -1,7 +1,7 @@
 -- Private: what the code says of a line, in the words of lines.
 use Rattle.std.specs.Prelude.{◌≡◌, ℕ, ◌<◌, ◌++◌, List, length, ⊤}
 use Rattle.std.specs.List.{AllByRecursion}
-use Rattle.cert_lines.specs.Line.{spaced, IsShort}
+use Rattle.cert_text.specs.Text.{spaced, IsShort}
 use Rattle.open_certificate.specs.Line.{OpenLine, head, shell, edge, lone, cycle, path, point, reach, border, end, HasSpelling, words}
 use Rattle.open_certificate.specs.declared.words.OpenWords.{OpenWords}
 use Rattle.open_certificate.specs.declared.words.OpenWords.TheVariants.{Head, Shell, Edge, Lone, Cycle, Path, Point, Reach, Border, End}

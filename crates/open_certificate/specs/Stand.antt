@@ -7,8 +7,8 @@ use Rattle.solid_data.specs.SolidData.{SolidData}
 use Rattle.edge_uses.specs.declared.row.Row.{Row}
 use Rattle.edge_uses.specs.ShellRows.{ShellRows}
 use Rattle.edge_uses.specs.RowRelations.{point_count}
-use Rattle.topo_certificate.specs.Stand.{Stand, rows_of_shell, row_named, row_edge, row_start, row_face, point_named, first_of, start_count, IsAbove, TurnsTo}
-use Rattle.topo_certificate.specs.Stand.{FitsEdge, FitsCorner, FitsPoint, FitsReach}
+use Rattle.cert_state.specs.Stand.{Stand, rows_of_shell, row_named, row_edge, row_start, row_face, point_named, first_of, start_count, IsAbove, TurnsTo}
+use Rattle.cert_state.specs.Stand.{FitsEdge, FitsCorner, FitsPoint, FitsReach}
 use Rattle.solid_data.specs.declared.solid.LoopAt.{LoopAt}
 use Rattle.open_certificate.specs.Line.{OpenLine, head, shell, edge, lone, cycle, path, point, reach, border, end}
 

@@ -33,7 +33,7 @@ impl<'a> Model for OpenChecker<'a> {
 }
 
 ghost use Rattle.std.specs.Prelude.{◌≡◌, [], IfOk, false};
-ghost use Rattle.open_certificate.specs.Accepted.{IsOpenShell};
+ghost use Rattle.open_certificate.specs.Legal.{IsOpenShell};
 ghost use Rattle.open_certificate.specs.Kept.{MatchesLines, dues};
 
 /// The shell of the solid, of which no line was read.
@@ -51,13 +51,13 @@ fn state_of(alloc: Global, solid: &Solid) -> Result<OpenState, NoMemory>
 impl<'a> OpenChecker<'a> {
     ghost use Rattle.std.specs.Prelude.{◌≡◌, ◌↔◌, ◌+◌, ◌<◌, ◌^◌, List, [], ◌∷◌, IsTrue, IfOk, IfSome, MatchResult, Err, Some, true, false};
     ghost use Rattle.edge_uses.specs.ShellRows.{EndsMeet};
-    ghost use Rattle.open_certificate.specs.Accepted.{IsOpenShell, AllJoin};
+    ghost use Rattle.open_certificate.specs.Legal.{IsOpenShell, AllJoin};
     ghost use Rattle.open_certificate.specs.Line.{OpenLine, HasSpelling, IsSpelled, shell, end};
     ghost use Rattle.open_certificate.specs.Said.{Means, IsRowLine};
     ghost use Rattle.open_certificate.specs.Stand.{stand_from_latest, FitsLine};
     ghost use Rattle.open_certificate.specs.Legal.{IsBadLine};
     ghost use Rattle.open_certificate.specs.Kept.{IsAt, TakesLine};
-    ghost use Rattle.cert_lines.specs.declared.fault.Illegal.TheVariants.{Missing as IsMissing};
+    ghost use Rattle.cert_text.specs.declared.fault.Illegal.TheVariants.{Missing as IsMissing};
 
     /// A checker of which the next line is line 2. The solid has one shell, whose entity is the solid's own, and whose
     /// loops join: without that the lines that are taken don't show that the shell is sound. It takes all the memory that a

@@ -2,19 +2,19 @@
 
 ghost use Rattle.std.specs.Prelude.{◌≡◌, ◌↔◌, ℕ, ◌+◌, ◌-◌, ◌<◌, ◌^◌, ◌∷◌, List, IsTrue, MatchOption, Some, length, map};
 ghost use Rattle.edge_uses.specs.declared.row.Row.{Row as AnyRow};
-ghost use Rattle.cert_lines.specs.Numbers.{AreNumbers};
-ghost use Rattle.topo_certificate.specs.Stand.{TurnsTo};
-ghost use Rattle.topo_certificate.specs.Kept.{HoldsMates, corner_size};
+ghost use Rattle.cert_text.specs.Text.{AreNumbers};
+ghost use Rattle.cert_state.specs.Stand.{TurnsTo};
+ghost use Rattle.cert_state.specs.Kept.{HoldsMates, corner_size};
 ghost use Rattle.open_certificate.specs.Line.{lone as lone_line, path as path_line, border as border_line};
 ghost use Rattle.open_certificate.specs.Stand.{OpenStand, edge_in, vertex_in, border_in, GoesOnTo, IsChain, last_of, FitsLone};
 ghost use Rattle.open_certificate.specs.Kept.{IsMarked, HoldsRows, AreCounts};
 ghost use Rattle.open_certificate.specs.Walks.{FitsPathLine, FitsBorderLine, IsBorderRing};
 
 use crate::words::OpenCounts;
-use cert_lines::next_number;
+use cert_text::next_number;
 use edge_uses::Rows;
 use solid_data::{EdgeId, VertexId};
-use topo_certificate::{is_above, named_row, turns_to};
+use cert_state::{is_above, named_row, turns_to};
 
 /// Whether these are the counts of the shell.
 pub(crate) fn fits_counts(rows: &Rows, words: &OpenCounts) -> bool

@@ -2,7 +2,7 @@
 
 ghost use Rattle.std.specs.Prelude.{ℕ, List, ◌≡◌, ◌⊎◌};
 ghost use Rattle.solid_data.specs.SolidData.{SolidData};
-ghost use Rattle.cert_lines.specs.declared.fault.Illegal.{Illegal as Fault};
+ghost use Rattle.cert_text.specs.declared.fault.Illegal.{Illegal as Fault};
 ghost use Rattle.open_certificate.specs.Line.{OpenLine, IsSpelled};
 ghost use Rattle.open_certificate.specs.Legal.{IsOpenLegal, IsOpenFirstBad};
 ghost use Rattle.open_certificate.specs.Obligations.{open_obligations, AllHold, FirstFalse};

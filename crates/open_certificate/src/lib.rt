@@ -21,6 +21,7 @@ pub use law::{
 };
 pub use opening::{open_head, shell_number};
 pub use parts::{Borders, OpenCertificate, OpenCorner, OpenCorners, OpenEdge, OpenEdges};
-pub use topo_certificate::{Illegal, Misfit, ReachRows};
+pub use cert_lines::ReachRows;
+pub use cert_text::{Illegal, Misfit};
 pub use verdict::{OpenFailing, OpenRule};
 pub use writing::write_open;

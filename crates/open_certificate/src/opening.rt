@@ -2,7 +2,7 @@
 
 ghost use Rattle.std.specs.Prelude.{MatchResult};
 ghost use Rattle.open_certificate.specs.Line.{head, IsSpelled};
-ghost use Rattle.open_certificate.specs.Opening.{IsHead, IsShell, NamesShell, IsOf, IsMisfit};
+ghost use Rattle.open_certificate.specs.Line.{IsHead, IsShell, NamesShell, IsOf, IsMisfit};
 
 use crate::words::{OpenWords, read_line};
 use cert_lines::Misfit;

@@ -2,7 +2,7 @@
 
 use iges_base::{EntryNo, ItemList};
 use solid_data::{LoopAt, RowId, RowList};
-use topo_certificate::ReachRows;
+use cert_lines::ReachRows;
 
 /// The rows of an edge.
 #[derive(Clone, Copy, Debug, PartialEq, Eq)]

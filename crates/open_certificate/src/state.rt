@@ -6,7 +6,7 @@ use edge_uses::Rows;
 use iges_base::{EntryNo, NoMemory};
 use std::alloc::Global;
 use std::marker::Model;
-use topo_certificate::{fitting_corner, fitting_edge, fitting_face, fitting_point, sizes_of};
+use cert_state::{fitting_corner, fitting_edge, fitting_face, fitting_point, sizes_of};
 
 /// What is kept of the shell: its rows, what its lines are compared with, and what the lines so far said. Places in the
 /// lists count from 0; rows that are in them count from 1, as in the lines.
@@ -59,7 +59,7 @@ impl Model for OpenState {
 }
 
 ghost use Rattle.std.specs.Prelude.{◌≡◌, ◌<◌, IfOk, length, replicate, ◌∷◌, [], false};
-ghost use Rattle.topo_certificate.specs.Kept.{HoldsFaces};
+ghost use Rattle.cert_state.specs.Kept.{HoldsFaces};
 
 // One number for each row: its mate, from 1, or 0 while no line has named one.
 fn no_mates(alloc: Global, rows: usize) -> Result<Vec<u32>, NoMemory>
@@ -89,8 +89,8 @@ fn first_reached(alloc: Global, faces: usize) -> Result<Vec<bool>, NoMemory>
 impl OpenState {
     ghost use Rattle.std.specs.Prelude.{◌≡◌, ◌↔◌, ℕ, ◌+◌, ◌<◌, ◌^◌, [], List, IsTrue, IfOk, true, false, length};
     ghost use Rattle.solid_data.specs.SolidData.{SolidData};
-    ghost use Rattle.cert_lines.specs.Numbers.{AreNumbers};
-    ghost use Rattle.topo_certificate.specs.Kept.{InFileOrder};
+    ghost use Rattle.cert_text.specs.Text.{AreNumbers};
+    ghost use Rattle.cert_state.specs.Kept.{InFileOrder};
     ghost use Rattle.open_certificate.specs.Line.{OpenLine, HasSpelling, shell, edge, lone, cycle, path, point, reach, border};
     ghost use Rattle.open_certificate.specs.Stand.{OpenStand, stand_from_latest, shell_of, IsDone};
     ghost use Rattle.open_certificate.specs.Said.{Means, IsRowLine};

@@ -1,12 +1,11 @@
 //! One line of a certificate, read from its bytes.
 
 ghost use Rattle.std.specs.Prelude.{◌≡◌, ◌≢◌, ℕ, List, [], ◌∷◌, ◌++◌, ◌≤◌, ◌↔◌, IsTrue, codes, length, MatchOption};
-ghost use Rattle.cert_lines.specs.Line.{spaced};
-ghost use Rattle.cert_lines.specs.Numbers.{AreNumbers, IsSpaced};
+ghost use Rattle.cert_text.specs.Text.{spaced, AreNumbers, IsSpaced};
 ghost use Rattle.open_certificate.specs.Line.{OpenLine, head, shell, edge, lone, cycle, path, point, reach, border, end, IsSpelled};
 ghost use Rattle.open_certificate.specs.Said.{Means, IsRowLine, Spells, HasRowsAfter};
 
-use cert_lines::{after_word, are_numbers, next_number, one_number, two_numbers};
+use cert_text::{after_word, are_numbers, is_word, next_number, one_number, two_numbers};
 
 /// What a line says. Rows, faces and loops count from 1 here, as in the text.
 #[derive(Clone, Copy)]
@@ -161,13 +160,6 @@ fn border_words(text: &[u8]) -> Option<&[u8]>
         (λ rest. (rs : List ℕ) × (rest.now ≡ spaced rs) × Spells text.now (border rs)) }
 {
     row_words(text, b"B")
-}
-
-/// Whether a text is this word.
-fn is_word(text: &[u8], word: &[u8]) -> bool
-    ensures { IsTrue result ↔ (text.now ≡ word.now) }
-{
-    text == word
 }
 
 /// The line that a text without its LF spells.

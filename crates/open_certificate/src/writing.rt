@@ -8,7 +8,8 @@ ghost use Rattle.open_certificate.specs.Written.{edge_line, corner_line, reach_l
 ghost use Rattle.open_certificate.specs.declared.parts.OpenCorner.TheVariants.{Cycle, Path};
 
 use crate::parts::{OpenCertificate, OpenCorner, OpenEdge};
-use cert_lines::{from_one, put_line, put_rows};
+use cert_lines::{from_one, put_rows};
+use cert_text::put_line;
 use iges_base::{Bytes, NoMemory, Out};
 use solid_data::{RowId, RowList};
 use std::alloc::Global;

@@ -6,15 +6,15 @@ use Rattle.brep_walk.specs.OpenPlaces.{open_places, shell_solid_of}
 use Rattle.brep_walk.proofs.ShellSolids.{shell_is_numbered}
 use Rattle.solid_data.specs.Obligations.{AllHold}
 use Rattle.solid_data.specs.SolidData.{SolidData}
-use Rattle.open_certificate.specs.Accepted.{IsOpenAccepted}
+use Rattle.open_certificate.specs.Legal.{IsOpenAccepted}
 use Rattle.open_certificate.specs.Legal.{IsOpenLegal}
 use Rattle.open_certificate.specs.Line.{OpenLine, head, shell, edge, lone, cycle, path, point, reach, border, end}
-use Rattle.open_certificate.specs.Opening.{NamesShell, IsOf}
+use Rattle.open_certificate.specs.Line.{NamesShell, IsOf}
 use Rattle.open_certificate.specs.Stand.{stand_from_latest, FitsOpen}
 use Rattle.open_certificate.proofs.Borders as of_solids
 use Rattle.open_shells.proofs.Complete.{sound_exactly as sound_exactly_of_solids}
 use Rattle.open_certificate.proofs.Sound.{accepted_is_sound}
-use Rattle.open_commands.specs.Accepted.{IsOpenAcceptedFor}
+use Rattle.open_commands.specs.Verdict.{IsOpenAcceptedFor}
 use Rattle.open_commands.specs.Laws.{SoundExactlyWhereAccepted, BordersAreCycles, AcceptedIsChecked}
 use Rattle.open_commands.proofs.Joining.{checked_parts, parts_checked}
 use Rattle.open_commands.proofs.Shells.{open_shell, entity_is}

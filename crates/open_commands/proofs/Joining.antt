@@ -15,9 +15,9 @@ use Rattle.solid_data.proofs.ObligationLemmas.{AllHold-of_each, of_each-AllHold,
 use Rattle.solid_data.proofs.ObligationsDecided.{AreDecided, decided-append, decided-of_each}
 use Rattle.edge_uses.specs.Joins.{IsJoined, loop_obligations, join_obligations}
 use Rattle.edge_uses.proofs.JoinLemmas.{joined_from_hold, hold_from_joined}
-use Rattle.open_certificate.specs.Accepted.{AllJoin}
+use Rattle.open_certificate.specs.Legal.{AllJoin}
 use Rattle.open_certificate.proofs.RulesDecided.{join_decided}
-use Rattle.open_commands.specs.Checked.{joins, open_checked}
+use Rattle.open_commands.specs.Verdict.{joins, open_checked}
 
 abbrev Joins : SolidData → PlacedLoop → Type 0
 Joins s p = IsJoined s p.loop

@@ -3,8 +3,8 @@ use Rattle.std.specs.Prelude.{◌≡◌, ℕ, true, false, List, [], ◌∷◌, 
 use Rattle.std.proofs.Common.{refl, sym, ◌∙◌, subst, inl, inr}
 use Rattle.solid_data.specs.SolidData.{SolidData}
 use Rattle.cert_lines.specs.Line.{cut_lines}
-use Rattle.cert_lines.specs.declared.fault.Illegal.{Illegal}
-use Rattle.cert_lines.specs.declared.fault.Illegal.TheVariants.{Missing}
+use Rattle.cert_text.specs.declared.fault.Illegal.{Illegal}
+use Rattle.cert_text.specs.declared.fault.Illegal.TheVariants.{Missing}
 use Rattle.open_certificate.specs.Kept.{KeptChecker, IsAt}
 use Rattle.open_certificate.specs.Line.{OpenLine, IsSpelled}
 use Rattle.open_certificate.specs.Stand.{stand_from_latest, FitsLine}

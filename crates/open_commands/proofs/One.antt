@@ -9,7 +9,7 @@ use Rattle.command_replies.proofs.One.{IsOne}
 use Rattle.open_certificate.specs.Obligations.{open_obligations}
 use Rattle.open_certificate.proofs.Legality.{legal_has_no_bad, one_first_bad, no_first_false, one_first_false_of}
 use Rattle.solid_data.proofs.ObligationLemmas.{FirstFalse-one, FirstFalse-not_all}
-use Rattle.open_commands.specs.Checked.{open_checked}
+use Rattle.open_commands.specs.Verdict.{open_checked}
 use Rattle.open_commands.specs.Due.{OfShellLines, open_fail_line, open_misplaced, open_unsound, open_certified, place_fails, line_bad, lines_accepted}
 use Rattle.open_commands.specs.Due.{certificate_too_large, opening_bad, opened}
 use Rattle.open_commands.specs.Laws.{OneOpenAnswer, OneVerifyAnswer}

@@ -3,13 +3,13 @@ use Rattle.std.specs.Prelude.{◌≡◌, ◌⊎◌, ℕ, List, [], ◌∷◌}
 use Rattle.std.proofs.Common.{refl, sym, ◌∙◌, ap, subst, inl, inr}
 use Rattle.solid_data.proofs.Decisions.{Decided}
 use Rattle.cert_lines.specs.Line.{cut_lines}
-use Rattle.cert_lines.specs.Misfits.{illegal_at}
-use Rattle.cert_lines.specs.declared.fault.Illegal.{Illegal}
-use Rattle.cert_lines.specs.declared.fault.Illegal.TheVariants.{Missing}
-use Rattle.cert_lines.specs.declared.fault.Misfit.{Misfit}
-use Rattle.cert_lines.specs.declared.fault.Misfit.TheVariants.{Misspelt, Unfit}
+use Rattle.cert_lines.specs.Opening.{illegal_at}
+use Rattle.cert_text.specs.declared.fault.Illegal.{Illegal}
+use Rattle.cert_text.specs.declared.fault.Illegal.TheVariants.{Missing}
+use Rattle.cert_text.specs.declared.fault.Misfit.{Misfit}
+use Rattle.cert_text.specs.declared.fault.Misfit.TheVariants.{Misspelt, Unfit}
 use Rattle.open_certificate.specs.Line.{OpenLine, head, shell, edge, lone, cycle, path, point, reach, border, end, IsSpelled}
-use Rattle.open_certificate.specs.Opening.{IsHead, IsShell, NamesShell, IsOf, IsMisfit}
+use Rattle.open_certificate.specs.Line.{IsHead, IsShell, NamesShell, IsOf, IsMisfit}
 use Rattle.open_certificate.proofs.Spelling.{line_one}
 use Rattle.open_certificate.proofs.LinesDecided.{some_line_decided}
 use Rattle.open_commands.specs.Opening.{OpensShell, IsWrong, IsSecondWrong, IsFirstWrong, IsBadOpening}

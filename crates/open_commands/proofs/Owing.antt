@@ -4,7 +4,7 @@ use Rattle.std.proofs.Common.{subst}
 use Rattle.iges_params.specs.Contents.{Contents}
 use Rattle.brep_walk.specs.OpenPlaces.{open_places, shell_solid_of}
 use Rattle.command_replies.specs.declared.answer.Answer.TheVariants.{Done}
-use Rattle.open_certificate.specs.Accepted.{IsOpenAccepted}
+use Rattle.open_certificate.specs.Legal.{IsOpenAccepted}
 use Rattle.open_certificate.specs.Obligations.{open_obligations, AllHold as AllRulesHold}
 use Rattle.solid_data.specs.Obligations.{AllHold}
 use Rattle.solid_data.specs.SolidData.{SolidData}

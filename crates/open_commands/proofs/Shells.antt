@@ -7,7 +7,7 @@ use Rattle.brep_walk.specs.OpenPlaces.{shell_solid_of}
 use Rattle.brep_walk.specs.SolidOf.{shell_by, keys_in, solid_listing}
 use Rattle.solid_data.specs.SolidData.{SolidData}
 use Rattle.solid_data.specs.declared.solid.Shell.{Shell}
-use Rattle.open_certificate.specs.Accepted.{IsOpenShell}
+use Rattle.open_certificate.specs.Legal.{IsOpenShell}
 
 pub open_shell : (f : Contents) (n : ℕ) → IsOpenShell (shell_solid_of f n)
 unfolding solid_listing

@@ -4,7 +4,7 @@ use Rattle.std.proofs.Common.{inl, inr}
 use Rattle.iges_params.specs.Contents.{Contents}
 use Rattle.brep_walk.specs.OpenPlaces.{open_places, shell_solid_of}
 use Rattle.brep_walk.proofs.Decided.{open_places_decided}
-use Rattle.cert_lines.specs.declared.fault.Illegal.{Illegal}
+use Rattle.cert_text.specs.declared.fault.Illegal.{Illegal}
 use Rattle.command_replies.specs.declared.answer.Answer.TheVariants.{Done, No, TooLarge}
 use Rattle.command_replies.specs.Texts.{accepted_line, fail_line, illegal_line}
 use Rattle.command_replies.proofs.SomeDue.{IsSome, longer}
@@ -18,7 +18,7 @@ use Rattle.solid_data.specs.declared.verdict.Failing.{Failing}
 use Rattle.solid_data.proofs.Decisions.{Decided, decided_within}
 use Rattle.solid_data.proofs.ObligationsDecided.{all_or_first_false}
 use Rattle.topo_certificate.specs.declared.TheConstants.{CERT_LIMIT}
-use Rattle.open_commands.specs.Checked.{open_checked}
+use Rattle.open_commands.specs.Verdict.{open_checked}
 use Rattle.open_commands.specs.Due.{OfOpen, OfShellLines, OfOpenVerify, open_fail_line, open_misplaced, open_unsound, open_certified, place_fails, line_bad}
 use Rattle.open_commands.specs.Due.{lines_accepted, certificate_too_large, opening_bad, opened}
 use Rattle.open_commands.specs.Laws.{SomeOpenAnswer, SomeVerifyAnswer}

@@ -2,7 +2,7 @@
 use Rattle.std.specs.Prelude.{ℕ, ◌<◌, ◌≤◌, List, [], length}
 use Rattle.iges_params.specs.Contents.{Contents}
 use Rattle.brep_walk.specs.OpenPlaces.{shell_solid_of}
-use Rattle.cert_lines.specs.declared.fault.Illegal.{Illegal}
+use Rattle.cert_text.specs.declared.fault.Illegal.{Illegal}
 use Rattle.command_replies.specs.Texts.{accepted_line, fail_line, fail_text, illegal_line}
 use Rattle.command_replies.specs.declared.answer.Answer.{Answer}
 use Rattle.command_replies.specs.declared.answer.Answer.TheVariants.{Done, No, TooLarge}
@@ -12,8 +12,8 @@ use Rattle.open_certificate.specs.declared.verdict.OpenFailing.{OpenFailing}
 use Rattle.solid_data.specs.Obligations.{AllHold, FirstFalse}
 use Rattle.solid_data.specs.declared.verdict.Failing.{Failing}
 use Rattle.topo_certificate.specs.declared.TheConstants.{CERT_LIMIT}
-use Rattle.open_commands.specs.Accepted.{IsOpenAcceptedFor}
-use Rattle.open_commands.specs.Checked.{open_checked}
+use Rattle.open_commands.specs.Verdict.{IsOpenAcceptedFor}
+use Rattle.open_commands.specs.Verdict.{open_checked}
 use Rattle.open_commands.specs.Opening.{OpensShell, IsBadOpening}
 use Rattle.open_commands.specs.Verdict.{IsOpenVerdict, sound, misplaced, unsound}
 

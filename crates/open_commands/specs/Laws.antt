@@ -14,8 +14,8 @@ use Rattle.open_certificate.specs.Sound.{IsBorder}
 use Rattle.open_certificate.specs.Stand.{shell_of}
 use Rattle.solid_verdict.specs.Closed.{IsClosed}
 use Rattle.solid_data.specs.Obligations.{AllHold}
-use Rattle.open_commands.specs.Accepted.{IsOpenAcceptedFor}
-use Rattle.open_commands.specs.Checked.{open_checked}
+use Rattle.open_commands.specs.Verdict.{IsOpenAcceptedFor}
+use Rattle.open_commands.specs.Verdict.{open_checked}
 use Rattle.open_commands.specs.Due.{OfOpen, OfOpenVerify}
 use Rattle.open_commands.specs.Opening.{OpensShell}
 use Rattle.open_commands.specs.Verdict.{IsOpenVerdict, sound}

@@ -1,12 +1,12 @@
 -- The first two lines of an open shell's certificate: the head, and the line that names the shell.
 use Rattle.std.specs.Prelude.{◌≡◌, ◌⊎◌, ℕ, List, [], ◌∷◌}
 use Rattle.cert_lines.specs.Line.{cut_lines}
-use Rattle.cert_lines.specs.Misfits.{illegal_at}
-use Rattle.cert_lines.specs.declared.fault.Illegal.{Illegal}
-use Rattle.cert_lines.specs.declared.fault.Illegal.TheVariants.{Missing}
-use Rattle.cert_lines.specs.declared.fault.Misfit.{Misfit}
+use Rattle.cert_lines.specs.Opening.{illegal_at}
+use Rattle.cert_text.specs.declared.fault.Illegal.{Illegal}
+use Rattle.cert_text.specs.declared.fault.Illegal.TheVariants.{Missing}
+use Rattle.cert_text.specs.declared.fault.Misfit.{Misfit}
 use Rattle.open_certificate.specs.Line.{OpenLine, head, IsSpelled}
-use Rattle.open_certificate.specs.Opening.{IsHead, IsShell, NamesShell, IsOf, IsMisfit}
+use Rattle.open_certificate.specs.Line.{IsHead, IsShell, NamesShell, IsOf, IsMisfit}
 
 -- The certificate begins with the head, and these are the lines after it, of which the first is a SHELL line of number n.
 pub record OpensShell (certificate : List ℕ) (n : ℕ) (lines : List (List ℕ)) : Type 0 where

@@ -2,7 +2,7 @@
 
 ghost use Rattle.std.specs.Prelude.{◌≡◌, IfErr, IfOk, OnOk};
 ghost use Rattle.brep_walk.specs.OpenPlaces.{shell_solid_of};
-ghost use Rattle.open_commands.specs.Checked.{open_checked};
+ghost use Rattle.open_commands.specs.Verdict.{open_checked};
 ghost use Rattle.shell_rules.specs.Faults.{IsCheckFault};
 ghost use Rattle.solid_data.specs.Obligations.{AllHold};
 

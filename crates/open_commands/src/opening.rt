@@ -2,7 +2,7 @@
 
 ghost use Rattle.std.specs.Prelude.{◌≡◌, MatchResult};
 ghost use Rattle.cert_lines.specs.Line.{cut_lines};
-ghost use Rattle.cert_lines.specs.Misfits.{illegal_at};
+ghost use Rattle.cert_lines.specs.Opening.{illegal_at};
 ghost use Rattle.open_commands.specs.Opening.{OpensShell, IsBadOpening};
 
 use cert_lines::first_line;

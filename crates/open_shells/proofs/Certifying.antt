@@ -17,8 +17,8 @@ use Rattle.edge_uses.specs.ShellRows.{ShellRows, shell_rows}
 use Rattle.edge_uses.specs.RowRelations.{AreMates}
 use Rattle.edge_uses.proofs.Counting.{uses-all}
 use Rattle.edge_uses.proofs.RowFacts.{edges_rise, vertices_rise}
-use Rattle.topo_certificate.specs.Stand.{IsMate}
-use Rattle.topo_certificate.proofs.Segment.{AreGoodRows}
+use Rattle.cert_state.specs.Stand.{IsMate}
+use Rattle.cert_state.proofs.Segment.{AreGoodRows}
 use Rattle.topo_certificate.proofs.Build.{PointsDiffer}
 use Rattle.topo_certificate.proofs.Complete.{any_above}
 use Rattle.open_certificate.specs.Sound.{IsBorder, IsBorderCycleOf, IsSoundShell}
@@ -26,7 +26,7 @@ use Rattle.open_certificate.specs.Line.{OpenLine, head, shell, end, spelling, Ha
 use Rattle.open_certificate.specs.Stand.{shell_of}
 use Rattle.open_certificate.specs.Legal.{IsOpenLegal}
 use Rattle.open_certificate.specs.Obligations.{OpenObligation, AllHold, FirstFalse, open_obligations}
-use Rattle.open_certificate.specs.Accepted.{IsOpenAccepted}
+use Rattle.open_certificate.specs.Legal.{IsOpenAccepted}
 use Rattle.open_shells.specs.Certified.{IsOpenCertificate, IsOpenFault, IsNoMemory, FailsSo}
 use Rattle.open_shells.specs.Listed.{AreListedParts}
 use Rattle.open_shells.specs.Mating.{AreOnce}

@@ -11,11 +11,11 @@ use Rattle.edge_uses.specs.ShellRows.{ShellRows, shell_rows}
 use Rattle.edge_uses.specs.Around.{IsReached}
 use Rattle.edge_uses.proofs.RowLemmas.{ends_meet}
 use Rattle.edge_uses.proofs.Whole.{are_rows}
-use Rattle.topo_certificate.proofs.PointOrder.{faces_of_rows}
+use Rattle.cert_state.proofs.PointOrder.{faces_of_rows}
 use Rattle.open_certificate.specs.Sound.{IsSoundShell}
 use Rattle.open_certificate.specs.Stand.{shell_of}
 use Rattle.open_certificate.specs.Obligations.{AllHold, open_obligations}
-use Rattle.open_certificate.specs.Accepted.{IsOpenAccepted}
+use Rattle.open_certificate.specs.Legal.{IsOpenAccepted}
 use Rattle.open_shells.specs.Listed.{AreListedParts}
 use Rattle.open_certificate.specs.Laws.{SoundExactlyWhereAccepted}
 use Rattle.open_shells.specs.Mating.{AreOnce}

@@ -24,7 +24,7 @@ use Rattle.edge_uses.proofs.Adding.{rows_shorter}
 use Rattle.edge_uses.proofs.Few.{part_shorter}
 use Rattle.edge_uses.proofs.Counting.{uses_of_edge, uses-all, counts_of_edge}
 use Rattle.topo_certificate.proofs.Build.{found_point, PointsDiffer}
-use Rattle.topo_certificate.proofs.PointOrder.{faces_of_rows}
+use Rattle.cert_state.proofs.PointOrder.{faces_of_rows}
 use Rattle.open_certificate.specs.Sound.{IsOnce, IsFanned, IsSoundShell}
 use Rattle.open_certificate.proofs.Once.{total_uses}
 

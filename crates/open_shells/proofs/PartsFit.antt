@@ -11,7 +11,7 @@ use Rattle.solid_data.proofs.Members.{Has, Has-from_Contains, Contains-from_Has}
 use Rattle.edge_uses.specs.declared.row.Row.{Row}
 use Rattle.edge_uses.specs.RowRelations.{point_count}
 use Rattle.cert_lines.specs.Written.{row_number}
-use Rattle.topo_certificate.specs.Stand.{IsAbove, first_of, row_named, row_edge, row_start, row_face, point_named, start_count, IsMate, TurnsTo}
+use Rattle.cert_state.specs.Stand.{IsAbove, first_of, row_named, row_edge, row_start, row_face, point_named, start_count, IsMate, TurnsTo}
 use Rattle.open_certificate.specs.Line.{OpenLine, shell, edge, lone, cycle, path, point, reach, border, end, spelling, HasSpelling}
 use Rattle.open_certificate.specs.Stand.{stand_from_latest, shell_of, is_shell, is_edge, is_corner, is_reach, is_border, is_last, number_of, asked, mates_in}
 use Rattle.open_certificate.specs.Stand.{lone_in, edge_in, vertex_in, face_in, border_in, border_rows, FitsLine, IsChain, last_of, GoesOnTo}

@@ -9,7 +9,7 @@ use Rattle.edge_uses.specs.Ranges.{IsWithin, IsSpanOf}
 use Rattle.edge_uses.specs.ShellRows.{ShellRows}
 use Rattle.edge_uses.specs.RowRelations.{StartsAt, Turns, point_count}
 use Rattle.edge_uses.specs.Around.{IsPoint}
-use Rattle.topo_certificate.specs.Stand.{start_count}
+use Rattle.cert_state.specs.Stand.{start_count}
 use Rattle.open_certificate.specs.Sound.{IsBorder, IsFanned}
 use Rattle.open_certificate.specs.Stand.{IsChain, last_of}
 use Rattle.open_shells.specs.Reaching.{row_numbers}

@@ -3,7 +3,7 @@
 ghost use Rattle.std.specs.Prelude.{◌≡◌, Some, IfOk, IfErr, OnOk, slice_get, length};
 ghost use Rattle.solid_data.specs.Numbering.{IsNumberedSolid};
 ghost use Rattle.edge_uses.specs.ShellRows.{shell_rows};
-ghost use Rattle.open_certificate.specs.Accepted.{IsOpenShell, IsOpenAccepted};
+ghost use Rattle.open_certificate.specs.Legal.{IsOpenShell, IsOpenAccepted};
 ghost use Rattle.open_shells.specs.Certified.{IsOpenCertificate, IsOpenFault, IsNoMemory, FailsSo};
 ghost use Rattle.open_shells.specs.Listed.{AreListedParts};
 ghost use Rattle.open_shells.specs.Mating.{AreOnce};

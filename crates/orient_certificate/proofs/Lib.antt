@@ -5,8 +5,6 @@ pub mod Bare
 pub mod Crossed
 pub mod Lawful
 pub mod Answered
-pub mod Apart
-pub mod Digits
 pub mod Lines
 pub mod Worked
 pub mod Tallying

@@ -6,10 +6,11 @@ use Rattle.std.proofs.Common.{refl, sym, ◌∙◌, ap, subst, arith, append_ass
 use Rattle.orient_certificate.specs.declared.line.OrientLine.{OrientLine}
 use Rattle.orient_certificate.specs.declared.line.OrientLine.TheVariants.{Head, Flags, Ring, End}
 use Rattle.orient_certificate.specs.declared.line.OrientLineFault.{OrientLineFault}
-use Rattle.orient_certificate.specs.Line.{IsShort, HasSpelling, IsSpelled, IsLineFault, flag_number, spaced, spelling}
-use Rattle.orient_certificate.specs.Numbers.{AreNumbers, Begins, Spells}
-use Rattle.orient_certificate.proofs.Apart.{rest_of, spaced_one}
-use Rattle.orient_certificate.proofs.Digits.{begins_cons, begins_tail}
+use Rattle.cert_text.specs.Text.{IsShort, spaced, AreNumbers, Begins}
+use Rattle.orient_certificate.specs.Line.{HasSpelling, IsSpelled, IsLineFault, flag_number, spelling}
+use Rattle.orient_certificate.specs.Spells.{Spells}
+use Rattle.cert_text.proofs.Spacing.{rest_of, spaced_one}
+use Rattle.cert_text.proofs.Digits.{begins_cons, begins_tail, numbers_begin}
 
 -- A line is its kind and its numbers.
 abbrev kind_of : OrientLine → ℕ
@@ -101,11 +102,11 @@ numbers_one text ns ms a b = spaced_one ns ms a.short b.short (ap (λ t. t ++ 10
 
 -- what stands behind a letter
 pub listed_told : {A : Type 0} (text letter rest : List ℕ) (o : Option A) (number : A → ℕ) (after : A → List ℕ) → text ≡ letter ++ rest
-    → MatchOption o ((n : ℕ) (ns : List ℕ) → ¬ AreNumbers rest (n ∷ ns)) (λ p. Begins rest (number p) (after p))
+    → MatchOption o ((n : ℕ) (others : List ℕ) → ¬ Begins rest n others) (λ p. Begins rest (number p) (after p))
     → MatchOption o ((k : ℕ) (ns front : List ℕ) → text ≡ letter ++ front → ¬ AreNumbers front (k ∷ ns))
     (λ p. (front : List ℕ) × (text ≡ letter ++ front) × Begins front (number p) (after p))
 listed_told text letter rest None number after e h =
-    λ k ns front is a. h k ns (subst (λ t. AreNumbers t (k ∷ ns)) (same_front letter front rest (sym is ∙ e)) a)
+    λ k ns front is a. h k (spaced ns) (numbers_begin rest ns k (subst (λ t. AreNumbers t (k ∷ ns)) (same_front letter front rest (sym is ∙ e)) a))
 listed_told text letter rest (Some p) number after e h = (rest, e, h)
 
 pub more_numbers : (text rest after list new ns : List ℕ) (n : ℕ) → Begins rest n after → new ≡ list ++ n ∷ []

@@ -1,4 +1,3 @@
-pub mod RuleNames
 pub mod Partners
 pub mod Flags
 pub mod OddRing
@@ -9,4 +8,4 @@ pub mod Graph
 pub mod Laws
 pub mod Checked
 pub mod Line
-pub mod Numbers
+pub mod Spells

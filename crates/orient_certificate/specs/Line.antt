@@ -1,14 +1,11 @@
 -- The lines of an orientation's text, and how they are spelled.
-use Rattle.std.specs.Prelude.{◌≡◌, ℕ, ◌<◌, ◌^◌, Bool, true, false, List, [], ◌∷◌, ◌++◌, length, map, flat_map, codes, decimal, ⊤}
+use Rattle.std.specs.Prelude.{◌≡◌, ℕ, ◌<◌, Bool, true, false, List, [], ◌∷◌, ◌++◌, length, map, codes, ⊤}
 use Rattle.std.specs.List.{AllByRecursion}
+use Rattle.cert_text.specs.Text.{IsShort, spaced}
 use Rattle.orient_certificate.specs.declared.line.OrientLine.{OrientLine}
 use Rattle.orient_certificate.specs.declared.line.OrientLine.TheVariants.{Head, Flags, Ring, End}
 use Rattle.orient_certificate.specs.declared.line.OrientLineFault.{OrientLineFault}
 use Rattle.orient_certificate.specs.declared.line.OrientLineFault.TheVariants.{Misspelt, NoMemory}
-
--- each number after a space, in plain decimal
-abbrev pub spaced : List ℕ → List ℕ
-spaced ns = flat_map (λ n. 32 ∷ decimal n) ns
 
 abbrev pub flag_number : Bool → ℕ
 flag_number true = 1
@@ -23,9 +20,6 @@ words End = codes "END"
 -- the bytes of a line, with the LF at its end
 abbrev pub spelling : OrientLine → List ℕ
 spelling line = words line ++ 10 ∷ []
-
-abbrev pub IsShort : ℕ → Type 0
-IsShort n = n < 10 ^ 9
 
 -- each number has at most 9 digits, and there is a flag or a row
 abbrev pub HasSpelling : OrientLine → Type 0

@@ -1,5 +1,7 @@
--- What is answered of a shell.
-use Rattle.std.specs.Prelude.{◌≡◌, ℕ, ◌⊎◌, ⊤, Some, slice_get, Result, Ok, Err}
+-- What is answered of a shell, and the printed names of the rules.
+use Rattle.std.specs.Prelude.{ℕ, List, codes, ◌≡◌, ◌⊎◌, ⊤, Some, slice_get, Result, Ok, Err}
+use Rattle.orient_certificate.specs.declared.fault.OrientRule.{OrientRule}
+use Rattle.orient_certificate.specs.declared.fault.OrientRule.TheVariants.{Count, Reach}
 use Rattle.solid_data.specs.Obligations.{FirstNot}
 use Rattle.solid_data.specs.Ring.{numbers_from}
 use Rattle.solid_data.specs.SolidData.{SolidData, edge_name}
@@ -11,7 +13,6 @@ use Rattle.orient_certificate.specs.OddRing.{OddRing, row_numbers}
 use Rattle.orient_certificate.specs.declared.fault.OrientFailing.{OrientFailing}
 use Rattle.orient_certificate.specs.declared.fault.OrientFault.{OrientFault}
 use Rattle.orient_certificate.specs.declared.fault.OrientFault.TheVariants.{Fails, NoMemory}
-use Rattle.orient_certificate.specs.declared.fault.OrientRule.TheVariants.{Count, Reach}
 use Rattle.orient_certificate.specs.declared.lists.Orientation.{Orientation}
 use Rattle.orient_certificate.specs.declared.lists.Orientation.TheVariants.{Flags, Ring}
 
@@ -54,3 +55,7 @@ abbrev pub FailsSo : {A : Type 0} → OrientFailing → Result A OrientFault →
 FailsSo x (Ok made) = ⊥
 FailsSo x (Err (Fails y)) = y ≡ x
 FailsSo x (Err NoMemory) = ⊤
+
+abbrev pub rule_name : OrientRule → List ℕ
+rule_name Count = codes "COUNT"
+rule_name Reach = codes "REACH"

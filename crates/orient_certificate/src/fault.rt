@@ -13,7 +13,7 @@ pub enum OrientRule {
 
 impl OrientRule {
     ghost use Rattle.std.specs.Prelude.{◌≡◌};
-    ghost use Rattle.orient_certificate.specs.RuleNames.{rule_name};
+    ghost use Rattle.orient_certificate.specs.Outcome.{rule_name};
 
     /// The word that is printed for the rule.
     pub fn name(self) -> &'static str

@@ -14,7 +14,6 @@ mod law;
 mod line;
 mod lists;
 mod naming;
-mod number;
 mod reading;
 mod tally;
 mod writing;

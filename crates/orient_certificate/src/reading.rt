@@ -1,30 +1,16 @@
 //! A line, read from its bytes.
 
-ghost use Rattle.std.specs.Prelude.{◌≡◌, ◌≢◌, ◌<◌, ◌↔◌, ℕ, Bool, List, [], ◌∷◌, ◌++◌, IsTrue, IfOk, IfErr, MatchOption, length, map};
+ghost use Rattle.std.specs.Prelude.{◌≡◌, ◌≢◌, ℕ, Bool, List, ◌∷◌, ◌++◌, IfOk, IfErr, MatchOption, length, map};
 ghost use Rattle.orient_certificate.specs.declared.line.OrientLine.{OrientLine as AnyLine};
 ghost use Rattle.orient_certificate.specs.Line.{IsSpelled, IsLineFault, flag_number};
-ghost use Rattle.orient_certificate.specs.Numbers.{AreNumbers, Begins, IsSpaced, Spells, IsTextFault};
+ghost use Rattle.cert_text.specs.Text.{AreNumbers, Begins, IsSpaced};
+ghost use Rattle.orient_certificate.specs.Spells.{Spells, IsTextFault};
 
 use crate::line::{OrientLine, OrientLineFault};
 use crate::lists::{FlagList, NumberList};
-use crate::number::{next_number, one_number};
+use cert_text::{after_word, is_word, next_number, one_number};
 use iges_base::{EntryNo, NoMemory};
 use std::alloc::Global;
-
-/// What follows a word at the start of a text.
-fn after_word<'a>(text: &'a [u8], word: &[u8]) -> Option<&'a [u8]>
-    ensures { MatchOption result ((rest : List ℕ) → text.now ≢ word.now ++ rest)
-        (λ rest. text.now ≡ word.now ++ rest.now) }
-{
-    text.strip_prefix(word)
-}
-
-/// Whether a text is this word.
-fn is_word(text: &[u8], word: &[u8]) -> bool
-    ensures { IsTrue result ↔ (text.now ≡ word.now) }
-{
-    text == word
-}
 
 /// The numbers that a text is, each after a space.
 fn numbers_of(alloc: Global, text: &[u8]) -> Result<Option<NumberList>, NoMemory>

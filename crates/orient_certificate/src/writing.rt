@@ -1,7 +1,8 @@
 //! The text of a line.
 
 ghost use Rattle.std.specs.Prelude.{◌≡◌, ◌++◌, ◌∷◌, [], map, IfOk};
-ghost use Rattle.orient_certificate.specs.Line.{HasSpelling, IsSpelled, flag_number, spaced, spelling};
+ghost use Rattle.cert_text.specs.Text.{spaced};
+ghost use Rattle.orient_certificate.specs.Line.{HasSpelling, IsSpelled, flag_number, spelling};
 
 use crate::line::OrientLine;
 use iges_base::{Bytes, NoMemory, Out, put_number};

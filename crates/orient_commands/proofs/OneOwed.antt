@@ -9,7 +9,7 @@ use Rattle.solid_data.proofs.ObligationLemmas.{FirstFalse-not_all, FirstFalse-on
 use Rattle.brep_walk.specs.Places.{places}
 use Rattle.brep_walk.specs.SolidOf.{solid_of}
 use Rattle.cert_lines.specs.Line.{cut_lines}
-use Rattle.cert_lines.specs.declared.fault.Illegal.{Illegal}
+use Rattle.cert_text.specs.declared.fault.Illegal.{Illegal}
 use Rattle.orient_certificate.specs.Flags.{FlagsFit}
 use Rattle.orient_certificate.specs.Line.{IsSpelled, spelling}
 use Rattle.orient_certificate.specs.OddRing.{OddRing}

@@ -17,7 +17,8 @@ use Rattle.shell_rules.proofs.Decided.{edge_id_decided}
 use Rattle.orient_certificate.specs.Partners.{HasTwoRows, ArePartners, Adjoin, IsReached}
 use Rattle.orient_certificate.specs.Flags.{FlagsFit, PartnersDiffer, face_flags, rows_at, rows_with}
 use Rattle.orient_certificate.specs.OddRing.{OddRing, GoesOn, RunsAlike, OddlyMany, bare_rows}
-use Rattle.orient_certificate.specs.Line.{IsShort, HasSpelling, IsSpelled, flag_number, spaced, spelling}
+use Rattle.cert_text.specs.Text.{IsShort, spaced}
+use Rattle.orient_certificate.specs.Line.{HasSpelling, IsSpelled, flag_number, spelling}
 use Rattle.orient_certificate.specs.declared.line.OrientLine.{OrientLine}
 use Rattle.orient_certificate.specs.declared.line.OrientLine.TheVariants.{Head, Flags, Ring, End}
 use Rattle.orient_certificate.proofs.Lines.{flags_short, line_one}

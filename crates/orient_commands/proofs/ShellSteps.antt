@@ -21,10 +21,10 @@ use Rattle.edge_uses.specs.ShellRows.{shell_rows, rows_of}
 use Rattle.edge_uses.proofs.Made.{rows_whole}
 use Rattle.brep_walk.specs.Places.{places}
 use Rattle.brep_walk.specs.SolidOf.{solid_of}
-use Rattle.topo_certificate.proofs.UseSizes.{few_shells}
+use Rattle.cert_state.proofs.UseSizes.{few_shells}
 use Rattle.orient_certificate.specs.Checked.{ShellOf}
 use Rattle.orient_certificate.specs.Flags.{FlagsFit, face_flags, rows_at}
-use Rattle.orient_certificate.specs.Line.{IsShort}
+use Rattle.cert_text.specs.Text.{IsShort}
 use Rattle.orient_certificate.specs.OddRing.{OddRing, GoesOn, row_numbers}
 use Rattle.orient_certificate.specs.Outcome.{IsFault}
 use Rattle.orient_certificate.specs.declared.fault.OrientFailing.{OrientFailing}

@@ -18,12 +18,13 @@ use Rattle.brep_walk.proofs.Decided.{places_decided}
 use Rattle.brep_walk.proofs.Few.{has_few_parts}
 use Rattle.brep_walk.proofs.Found.{solid_is_numbered}
 use Rattle.cert_lines.specs.Line.{cut_lines}
-use Rattle.cert_lines.specs.declared.fault.Illegal.{Illegal}
-use Rattle.cert_lines.specs.declared.fault.Illegal.TheVariants.{Misspelt, Unfit, Missing}
+use Rattle.cert_text.specs.declared.fault.Illegal.{Illegal}
+use Rattle.cert_text.specs.declared.fault.Illegal.TheVariants.{Misspelt, Unfit, Missing}
 use Rattle.topo_certificate.specs.declared.TheConstants.{CERT_LIMIT}
 use Rattle.orient_certificate.specs.Flags.{FlagsFit, rows_at}
 use Rattle.orient_certificate.specs.Laws.{ExactlyOne}
-use Rattle.orient_certificate.specs.Line.{IsShort, IsSpelled, spelling}
+use Rattle.cert_text.specs.Text.{IsShort}
+use Rattle.orient_certificate.specs.Line.{IsSpelled, spelling}
 use Rattle.orient_certificate.specs.OddRing.{OddRing}
 use Rattle.orient_certificate.specs.Outcome.{CountFails, ReachFails, IsFirstFailing}
 use Rattle.orient_certificate.specs.Partners.{HasTwoRows, IsReached, AllReached}

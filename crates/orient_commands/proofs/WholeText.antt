@@ -8,7 +8,7 @@ use Rattle.iges_base.specs.declared.entry_no.EntryNo.{EntryNo}
 use Rattle.solid_data.specs.SolidData.{SolidData}
 use Rattle.cert_lines.specs.Line.{cut_lines}
 use Rattle.cert_lines.proofs.CutLines.{cut_piece}
-use Rattle.cert_lines.proofs.Spacing.{spaced_no_break}
+use Rattle.cert_text.proofs.Spacing.{spaced_no_break}
 use Rattle.orient_certificate.specs.Line.{HasSpelling, flag_number, words, spelling}
 use Rattle.orient_certificate.specs.declared.line.OrientLine.{OrientLine}
 use Rattle.orient_certificate.specs.declared.line.OrientLine.TheVariants.{Head, Flags, Ring, End}

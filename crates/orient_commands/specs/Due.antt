@@ -6,10 +6,10 @@ use Rattle.solid_data.specs.SolidData.{SolidData}
 use Rattle.solid_data.specs.declared.verdict.Failing.{Failing}
 use Rattle.brep_walk.specs.Places.{places}
 use Rattle.brep_walk.specs.SolidOf.{solid_of}
-use Rattle.cert_lines.specs.declared.fault.Illegal.{Illegal}
+use Rattle.cert_text.specs.declared.fault.Illegal.{Illegal}
 use Rattle.topo_certificate.specs.declared.TheConstants.{CERT_LIMIT}
 use Rattle.orient_certificate.specs.Line.{IsSpelled}
-use Rattle.orient_certificate.specs.RuleNames.{rule_name}
+use Rattle.orient_certificate.specs.Outcome.{rule_name}
 use Rattle.orient_certificate.specs.declared.fault.OrientFailing.{OrientFailing}
 use Rattle.orient_certificate.specs.declared.line.OrientLine.TheVariants.{Ring}
 use Rattle.command_replies.specs.declared.answer.Answer.{Answer}

@@ -4,7 +4,7 @@ use Rattle.std.specs.List.{AllByRecursion, enumerate_from}
 use Rattle.std.specs.Bool.{MatchBool}
 use Rattle.solid_data.specs.SolidData.{SolidData}
 use Rattle.cert_lines.specs.Line.{cut_lines}
-use Rattle.cert_lines.specs.declared.fault.Illegal.{Illegal}
+use Rattle.cert_text.specs.declared.fault.Illegal.{Illegal}
 use Rattle.orient_certificate.specs.Line.{IsSpelled}
 use Rattle.orient_certificate.specs.declared.line.OrientLine.TheVariants.{Head}
 use Rattle.command_replies.specs.Due.{Exactly}

@@ -4,8 +4,8 @@ use Rattle.std.specs.List.{AllByRecursion, enumerate_from}
 use Rattle.solid_data.specs.Obligations.{FirstNot}
 use Rattle.solid_data.specs.SolidData.{SolidData}
 use Rattle.cert_lines.specs.Line.{cut_lines}
-use Rattle.cert_lines.specs.declared.fault.Illegal.{Illegal}
-use Rattle.cert_lines.specs.declared.fault.Illegal.TheVariants.{Misspelt, Unfit, Missing}
+use Rattle.cert_text.specs.declared.fault.Illegal.{Illegal}
+use Rattle.cert_text.specs.declared.fault.Illegal.TheVariants.{Misspelt, Unfit, Missing}
 use Rattle.orient_certificate.specs.Flags.{FlagsFit}
 use Rattle.orient_certificate.specs.OddRing.{OddRing}
 use Rattle.orient_certificate.specs.Line.{IsSpelled}

@@ -2,8 +2,8 @@
 
 ghost use Rattle.std.specs.Prelude.{◌≡◌, IfOk, IfErr};
 ghost use Rattle.cert_lines.specs.Line.{cut_lines};
-ghost use Rattle.cert_lines.specs.declared.fault.Illegal.{Illegal as AnyIllegal};
-ghost use Rattle.cert_lines.specs.declared.fault.Illegal.TheVariants.{Misspelt};
+ghost use Rattle.cert_text.specs.declared.fault.Illegal.{Illegal as AnyIllegal};
+ghost use Rattle.cert_text.specs.declared.fault.Illegal.TheVariants.{Misspelt};
 ghost use Rattle.orient_certificate.specs.Line.{IsSpelled};
 ghost use Rattle.orient_certificate.specs.declared.line.OrientLine.{OrientLine as AnyLine};
 ghost use Rattle.orient_commands.specs.Reading.{IsTextFault};

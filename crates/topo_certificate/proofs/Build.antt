@@ -15,20 +15,21 @@ use Rattle.edge_uses.specs.RowRelations.{AreMates, Turns, StartsAt, OnFace, IsPa
 use Rattle.edge_uses.specs.Around.{AreNeighbours, IsReached, IsLinked, IsPoint}
 use Rattle.solid_data.proofs.Members.{Has, NoRepeat, no_longer, Has-from_Contains, Contains-from_Has, All-from, total, count_by-total, Rises, rises_none}
 use Rattle.edge_uses.proofs.Counting.{found_row}
-use Rattle.cert_lines.specs.Line.{CertLine, edge, corner, point, reach, tally, IsShort}
+use Rattle.cert_text.specs.Text.{IsShort}
+use Rattle.cert_lines.specs.Line.{CertLine, edge, corner, point, reach, tally}
 use Rattle.cert_lines.specs.declared.counts.Tally.{Tally}
 use Rattle.cert_lines.specs.declared.version.Version.{Version}
-use Rattle.topo_certificate.specs.Kept.{all_due}
-use Rattle.topo_certificate.specs.Stand.{Stand, stand_from_latest, tallies, is_tally, FitsTally, FitsEdge, FitsCorner, FitsPoint, FitsReach, FitsLine, NoneDue}
-use Rattle.topo_certificate.specs.Stand.{IsAbove, first_of, row_named, row_edge, row_start, row_face, point_named, mates_of, edge_of, vertex_of, face_of}
-use Rattle.topo_certificate.specs.Stand.{is_shell, is_edge, is_corner_or_point, is_reach, is_last, number_of, since_shell, asked, rows_of_shell, start_count}
-use Rattle.topo_certificate.specs.Stand.{IsMate, TurnsTo}
-use Rattle.topo_certificate.specs.declared.due.Due.{Due}
+use Rattle.cert_state.specs.Kept.{all_due}
+use Rattle.cert_state.specs.Stand.{Stand, stand_from_latest, tallies, is_tally, FitsTally, FitsEdge, FitsCorner, FitsPoint, FitsReach, FitsLine, NoneDue}
+use Rattle.cert_state.specs.Stand.{IsAbove, first_of, row_named, row_edge, row_start, row_face, point_named, mates_of, edge_of, vertex_of, face_of}
+use Rattle.cert_state.specs.Stand.{is_shell, is_edge, is_corner_or_point, is_reach, is_last, number_of, since_shell, asked, rows_of_shell, start_count}
+use Rattle.cert_state.specs.Stand.{IsMate, TurnsTo}
+use Rattle.cert_state.specs.declared.due.Due.{Due}
 use Rattle.solid_data.proofs.Occurring.{numbers_rise, number_below, length-numbers}
-use Rattle.topo_certificate.proofs.Segment.{AreGoodRows, row_has}
+use Rattle.cert_state.proofs.Segment.{AreGoodRows, row_has}
 use Rattle.topo_certificate.proofs.Facts.{AllFit}
-use Rattle.topo_certificate.proofs.Short.{IsSmall, IsReadable, readable_edge, readable_corner, readable_point, readable_reach, row_short, starts_few}
-use Rattle.topo_certificate.proofs.Corner.{starts_listed}
+use Rattle.cert_state.proofs.Short.{IsSmall, IsReadable, readable_edge, readable_corner, readable_point, readable_reach, row_short, starts_few}
+use Rattle.cert_state.proofs.Corner.{starts_listed}
 use Rattle.edge_uses.proofs.Cycle.{same_or_not, zip_from_trail, IsCycle, AreTurning}
 use Rattle.edge_uses.proofs.CornerCycle.{cycle_of_corner}
 use Rattle.edge_uses.proofs.Turn.{edge_id, one_of_edge, row_of_edge_along, row_of_edge_against}

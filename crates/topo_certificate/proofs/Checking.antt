@@ -7,23 +7,24 @@ use Rattle.solid_data.specs.SolidData.{SolidData}
 use Rattle.edge_uses.specs.ShellRows.{ShellRows}
 use Rattle.cert_lines.specs.Line.{CertLine, head, solid, shell, reach, tally, end, IsLine, IsSpelled, IsLong, line_limit}
 use Rattle.cert_lines.specs.declared.counts.ShellCounts.{ShellCounts}
-use Rattle.topo_certificate.specs.Stand.{Stand, stand_from_latest, rows_of_shell, loops_of_shell, NoneDue, FitsLine, is_shell, is_last}
+use Rattle.cert_state.specs.Stand.{Stand, stand_from_latest, rows_of_shell, loops_of_shell, NoneDue, FitsLine, is_shell, is_last}
 use Rattle.cert_lines.proofs.Spelling.{line_one}
 use Rattle.cert_lines.specs.Said.{IsRowLine, Means, IsJudged}
 use Rattle.cert_lines.specs.declared.words.Judged.{Judged}
 use Rattle.cert_lines.specs.declared.words.Judged.TheVariants.{Misspelt, Long}
 use Rattle.cert_lines.specs.declared.words.Words.{Words}
-use Rattle.cert_lines.specs.declared.fault.Illegal.{Illegal}
-use Rattle.cert_lines.specs.declared.fault.Illegal.TheVariants.{Unfit}
+use Rattle.cert_text.specs.declared.fault.Illegal.{Illegal}
+use Rattle.cert_text.specs.declared.fault.Illegal.TheVariants.{Unfit}
 use Rattle.topo_certificate.specs.Legal.{IsBadLine, BeginsNext, FitsPart}
 use Rattle.cert_lines.specs.declared.version.Version.{Version}
-use Rattle.topo_certificate.specs.Kept.{KeptShell, IsFresh, AreCounts, HoldsMates, HoldsFaces, all_due, lines_due}
-use Rattle.topo_certificate.specs.Matching.{MatchesShell, MatchesCurrent, Takes, AreWaiting, Kept, IsAt}
+use Rattle.cert_state.specs.Kept.{KeptShell, IsFresh, AreCounts, HoldsMates, HoldsFaces, all_due, lines_due}
+use Rattle.cert_state.specs.Matching.{MatchesShell, Takes}
+use Rattle.topo_certificate.specs.Matching.{MatchesCurrent, AreWaiting, Kept, IsAt}
 use Rattle.topo_certificate.specs.Room.{dues_of, HasRoom, TakesLine}
-use Rattle.topo_certificate.proofs.UseSizes.{few_shells}
+use Rattle.cert_state.proofs.UseSizes.{few_shells}
 use Rattle.solid_data.specs.Numbering.{IsNumberedSolid}
 use Rattle.topo_certificate.proofs.Facts.{asked_is}
-use Rattle.topo_certificate.proofs.Standing.{stand_of, shell_stand, end_stand, first_stand}
+use Rattle.cert_state.proofs.Standing.{stand_of, shell_stand, end_stand, first_stand}
 use Rattle.std.specs.List.{list_any}
 use Rattle.topo_certificate.proofs.LineKinds.{no_row_line, row_kind, number_same}
 

@@ -14,15 +14,15 @@ use Rattle.topo_certificate.specs.Legal.{IsLegal}
 use Rattle.topo_certificate.specs.After.{IsLegalAfter}
 use Rattle.cert_lines.specs.declared.version.Version.{Version}
 use Rattle.cert_lines.specs.declared.version.Version.TheVariants.{One, Two, Three}
-use Rattle.topo_certificate.specs.Stand.{stand_from_latest, loops_of_shell, tallies, NoneDue, IsAbove, first_of, is_shell, is_last, number_of, rows_of_shell}
-use Rattle.topo_certificate.specs.Stand.{IsMate}
+use Rattle.cert_state.specs.Stand.{stand_from_latest, loops_of_shell, tallies, NoneDue, IsAbove, first_of, is_shell, is_last, number_of, rows_of_shell}
+use Rattle.cert_state.specs.Stand.{IsMate}
 use Rattle.solid_data.proofs.Members.{Rises, rises_none}
-use Rattle.topo_certificate.proofs.Segment.{AreGoodRows}
+use Rattle.cert_state.proofs.Segment.{AreGoodRows}
 use Rattle.topo_certificate.proofs.Forward.{legal_forward}
 use Rattle.topo_certificate.proofs.Facts.{AllFit}
 use Rattle.topo_certificate.proofs.Shells.{AreProper}
 use Rattle.edge_uses.proofs.Cycle.{AreTurning}
-use Rattle.topo_certificate.proofs.Short.{IsSmall, IsReadable, readable_shell, readable_tally, readable_end}
+use Rattle.cert_state.proofs.Short.{IsSmall, IsReadable, readable_shell, readable_tally, readable_end}
 use Rattle.topo_certificate.proofs.Build.{Stage, nothing_due, tally_fits, none_after_tally, PointsDiffer, EdgesBuilt, CornersBuilt, ReachBuilt, build_edges}
 use Rattle.topo_certificate.proofs.Build.{build_corners, build_reach, mates_listed}
 

@@ -5,19 +5,16 @@ use Rattle.solid_data.specs.SolidData.{SolidData}
 use Rattle.solid_data.proofs.Decisions.{Decided, decided_alike, decided_below, decided_bool, decided_both, decided_either}
 use Rattle.cert_lines.specs.Line.{CertLine, solid, end, IsLine, IsLong, IsMisspelt, line_limit}
 use Rattle.cert_lines.specs.declared.version.Version.{Version}
-use Rattle.cert_lines.specs.declared.fault.Illegal.{Illegal}
-use Rattle.cert_lines.specs.declared.fault.Illegal.TheVariants.{Misspelt, Unfit, Missing}
+use Rattle.cert_text.specs.declared.fault.Illegal.{Illegal}
+use Rattle.cert_text.specs.declared.fault.Illegal.TheVariants.{Misspelt, Unfit, Missing}
 use Rattle.cert_lines.proofs.Decided.{lines_are_decided}
-use Rattle.topo_certificate.specs.Stand.{Stand, FitsLine, stand_from_latest}
+use Rattle.cert_state.specs.Stand.{Stand, FitsLine, stand_from_latest}
 use Rattle.topo_certificate.specs.Legal.{IsLegal, IsFirstBad, BeginsNext, FitsPart}
 use Rattle.topo_certificate.specs.After.{IsLegalAfter, IsFirstBadAfter}
 use Rattle.topo_certificate.proofs.Forward.{legal_forward, bad_forward}
 use Rattle.cert_lines.specs.Opening.{IsSolid}
 use Rattle.cert_lines.proofs.LineKinds.{solid_decided}
-use Rattle.topo_certificate.proofs.LineKinds.{open_decided}
-
-pub line_decided : (s : SolidData) (at : Stand) (l : CertLine) → Decided (FitsLine s at l)
-line_decided s at l = decided_both (decided_bool at.ended false) (open_decided s at l)
+use Rattle.cert_state.proofs.FitsDecided.{line_decided}
 
 next_decided : (s : SolidData) (at : Stand) (l : CertLine) → Decided ((n : ℕ) × (l ≡ solid n) × BeginsNext s at n)
 next_decided s at l = by_solid (solid_decided l)

@@ -8,14 +8,14 @@ use Rattle.solid_data.proofs.Members.{Has}
 use Rattle.cert_lines.specs.Line.{CertLine, shell, edge, corner, point, reach}
 use Rattle.cert_lines.specs.declared.counts.ShellCounts.{ShellCounts}
 use Rattle.cert_lines.specs.declared.version.Version.{Version}
-use Rattle.topo_certificate.specs.Stand.{stand_from_latest, tallies, FitsLine, FitsOpen, FitsShell, FitsEdge, FitsCorner, FitsPoint, FitsReach, mates_of}
-use Rattle.topo_certificate.specs.Stand.{edge_of, vertex_of, face_of, is_shell, is_edge, is_corner_or_point, is_reach, number_of, since_shell, asked}
-use Rattle.topo_certificate.specs.Stand.{rows_of_shell, current_rows}
-use Rattle.topo_certificate.specs.declared.due.Due.{Due}
-use Rattle.topo_certificate.specs.Kept.{all_due}
-use Rattle.topo_certificate.proofs.Standing.{due_of}
-use Rattle.topo_certificate.proofs.Segment.{AreGoodRows, EdgeFacts, CornerFacts, ReachFacts, edge_step, corner_step, point_step, reach_step, edges_paired}
-use Rattle.topo_certificate.proofs.Segment.{paired_rows}
+use Rattle.cert_state.specs.Stand.{stand_from_latest, tallies, FitsLine, FitsOpen, FitsShell, FitsEdge, FitsCorner, FitsPoint, FitsReach, mates_of}
+use Rattle.cert_state.specs.Stand.{edge_of, vertex_of, face_of, is_shell, is_edge, is_corner_or_point, is_reach, number_of, since_shell, asked}
+use Rattle.cert_state.specs.Stand.{rows_of_shell, current_rows}
+use Rattle.cert_state.specs.declared.due.Due.{Due}
+use Rattle.cert_state.specs.Kept.{all_due}
+use Rattle.cert_state.proofs.Standing.{due_of}
+use Rattle.cert_state.proofs.Segment.{AreGoodRows, EdgeFacts, CornerFacts, ReachFacts, edge_step, corner_step, point_step, reach_step, edges_paired}
+use Rattle.cert_state.proofs.Segment.{paired_rows}
 
 -- each line fits the stand behind those before it
 abbrev pub AllFit : Version → SolidData → List CertLine → Type 0

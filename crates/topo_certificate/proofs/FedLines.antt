@@ -9,10 +9,10 @@ use Rattle.iges_base.proofs.Ended.{begun_none, begun_more, begun_end}
 use Rattle.iges_base.proofs.InLines.{both_in_line}
 use Rattle.solid_data.specs.SolidData.{SolidData}
 use Rattle.cert_lines.specs.Line.{CertLine, solid as solid_line, cut_lines, IsLine, IsLong, IsMisspelt, line_limit}
-use Rattle.cert_lines.specs.declared.fault.Illegal.{Illegal}
-use Rattle.cert_lines.specs.declared.fault.Illegal.TheVariants.{Misspelt, Missing}
+use Rattle.cert_text.specs.declared.fault.Illegal.{Illegal}
+use Rattle.cert_text.specs.declared.fault.Illegal.TheVariants.{Misspelt, Missing}
 use Rattle.cert_lines.proofs.Ends.{cut_begun, last_cut, misspelt_rest, kept_line, kept_is_line, kept_is_long, kept_is_misspelt}
-use Rattle.topo_certificate.specs.Stand.{Stand, stand_from_latest, stand_after, FitsLine}
+use Rattle.cert_state.specs.Stand.{Stand, stand_from_latest, stand_after, FitsLine}
 use Rattle.cert_lines.specs.declared.version.Version.{Version}
 use Rattle.topo_certificate.specs.Legal.{AreFitting, IsLegal, HasFirstBad, IsUnfit, IsBadLine, FitsPart, BeginsNext}
 use Rattle.topo_certificate.specs.Matching.{Kept, IsAt, IsOfSame}

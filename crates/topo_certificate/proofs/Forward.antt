@@ -8,11 +8,11 @@ use Rattle.std.proofs.lemmas.Option.{same_Some}
 use Rattle.solid_data.specs.SolidData.{SolidData}
 use Rattle.cert_lines.specs.Line.{CertLine, end, IsLine, line_limit}
 use Rattle.cert_lines.specs.declared.version.Version.{Version}
-use Rattle.topo_certificate.specs.Stand.{Stand, stand_from_latest, stand_after, FitsLine, is_last}
+use Rattle.cert_state.specs.Stand.{Stand, stand_from_latest, stand_after, FitsLine, is_last}
 use Rattle.topo_certificate.specs.Legal.{AreFitting, IsLegal, IsBadNext, HasFirstBad}
 use Rattle.topo_certificate.specs.After.{IsLegalAfter, IsFirstBadAfter}
 use Rattle.topo_certificate.proofs.Facts.{AllFit}
-use Rattle.cert_lines.specs.declared.fault.Illegal.{Illegal}
+use Rattle.cert_text.specs.declared.fault.Illegal.{Illegal}
 use Rattle.topo_certificate.proofs.LineKinds.{end_line, first_true}
 
 -- the latest first: a line more, and then others

@@ -5,16 +5,14 @@ use Rattle.solid_data.specs.SolidData.{SolidData}
 use Rattle.cert_lines.specs.Line.{CertLine, head, solid, shell, edge, corner, point, reach, tally, end, spelling}
 use Rattle.cert_lines.specs.declared.counts.ShellCounts.{ShellCounts}
 use Rattle.cert_lines.specs.declared.version.Version.{Version}
-use Rattle.topo_certificate.specs.Stand.{FitsOpen, FitsEdge, FitsCorner, FitsPoint, FitsReach, NoneDue, is_shell, number_of, asked, rows_of_shell, current_rows}
-use Rattle.topo_certificate.specs.Stand.{Stand, is_last, is_tally}
+use Rattle.cert_state.specs.Stand.{FitsOpen, FitsEdge, FitsCorner, FitsPoint, FitsReach, NoneDue, is_shell, number_of, asked, rows_of_shell, current_rows}
+use Rattle.cert_state.specs.Stand.{Stand, is_last, is_tally}
 use Rattle.solid_data.proofs.Decisions.{Decided, decided_same, decided_below, decided_both}
 use Rattle.cert_lines.specs.declared.counts.Tally.{Tally}
 use Rattle.topo_certificate.specs.Upgraded.{with_tallies}
 use Rattle.cert_lines.specs.Said.{IsRowLine}
 use Rattle.topo_certificate.proofs.Facts.{Good, AllFit, Facts, facts_begin, facts_edge, facts_corner, facts_point, facts_reach}
-use Rattle.topo_certificate.proofs.FitsDecided.{none_due_decided, corner_due_decided, reach_due_decided, tally_due_decided, shell_decided, tally_decided}
-use Rattle.topo_certificate.proofs.FitsDecided.{edge_decided, corner_decided, point_decided, reach_decided}
-use Rattle.topo_certificate.proofs.SameStand.{SameStand, fits_edge, fits_corner, fits_point, fits_reach, corner_due, reach_due}
+use Rattle.cert_state.proofs.SameStand.{SameStand, fits_edge, fits_corner, fits_point, fits_reach, corner_due, reach_due}
 
 -- the first of two tests holds where one does and the second doesn't
 pub first_true : (a b : Bool) → b ≡ false → (a || b) ≡ true → a ≡ true
@@ -98,18 +96,6 @@ asked_none v (point face l) h = refl
 asked_none v (reach r) h = refl
 asked_none v (tally t) h = refl
 asked_none v end h = refl
-
-pub open_decided : (s : SolidData) (at : Stand) (l : CertLine) → Decided (FitsOpen s at l)
-open_decided s at (head v) = inr (λ h. h)
-open_decided s at (solid n) = inr (λ h. h)
-open_decided s at (shell k counts) = decided_both (none_due_decided at.due) (shell_decided s at k counts)
-open_decided s at (edge a b) = decided_both (decided_below 0 at.due.edges) (edge_decided (rows_of_shell s at.shell) at a b)
-open_decided s at (corner []) = inr (λ h. h)
-open_decided s at (corner (r ∷ rs)) = decided_both (corner_due_decided at.due) (corner_decided (rows_of_shell s at.shell) at r rs)
-open_decided s at (point face l) = decided_both (corner_due_decided at.due) (point_decided (rows_of_shell s at.shell) at face l)
-open_decided s at (reach r) = decided_both (reach_due_decided at.due) (reach_decided (rows_of_shell s at.shell) at r)
-open_decided s at (tally t) = decided_both (tally_due_decided at.due) (tally_decided s at.shell t)
-open_decided s at end = decided_both (none_due_decided at.due) (decided_same at.shell (length s.shells))
 
 pub facts_of : (version : Version) (s : SolidData) → Good s → (lines : List CertLine) (k : ℕ) → number_of is_shell lines ≡ suc k → AllFit version s lines
     → Facts version s lines (current_rows s lines)

@@ -8,14 +8,14 @@ use Rattle.iges_base.specs.InLine.{is_in_line}
 use Rattle.iges_base.proofs.InLines.{both_in_line}
 use Rattle.cert_lines.specs.Line.{CertLine, head, solid, cut_lines, first_limit}
 use Rattle.cert_lines.specs.Cutting.{EndsFirst}
-use Rattle.cert_lines.specs.Misfits.{IsMisfit, illegal_at}
+use Rattle.cert_lines.specs.Opening.{IsMisfit, illegal_at}
 use Rattle.cert_lines.specs.Opening.{Opens, IsHead, IsSolid, IsOther, IsWrong, IsFirstWrong, IsBadOpening}
 use Rattle.cert_lines.specs.declared.version.Version.{Version}
-use Rattle.cert_lines.specs.declared.fault.Illegal.{Illegal}
-use Rattle.cert_lines.specs.declared.fault.Illegal.TheVariants.{Missing, Misspelt}
-use Rattle.cert_lines.specs.declared.fault.Misfit.{Misfit}
+use Rattle.cert_text.specs.declared.fault.Illegal.{Illegal}
+use Rattle.cert_text.specs.declared.fault.Illegal.TheVariants.{Missing, Misspelt}
+use Rattle.cert_text.specs.declared.fault.Misfit.{Misfit}
 use Rattle.iges_base.specs.declared.entry_no.EntryNo.{EntryNo}
-use Rattle.cert_lines.specs.declared.fault.Misfit.TheVariants as misfit
+use Rattle.cert_text.specs.declared.fault.Misfit.TheVariants as misfit
 use Rattle.cert_lines.proofs.Ends.{cut_begun, last_cut, misspelt_rest}
 use Rattle.topo_certificate.specs.declared.opening.Stage.{Stage}
 use Rattle.topo_certificate.specs.declared.opening.Stage.TheVariants as stage

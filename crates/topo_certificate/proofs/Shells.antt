@@ -9,11 +9,11 @@ use Rattle.edge_uses.specs.Around.{IsReached, IsLinked}
 use Rattle.solid_data.proofs.Members.{Has}
 use Rattle.cert_lines.specs.Line.{CertLine, shell, reach, end}
 use Rattle.cert_lines.specs.declared.version.Version.{Version}
-use Rattle.topo_certificate.specs.Stand.{stand_from_latest, FitsLine, NoneDue, vertex_of, face_of, is_shell, is_corner_or_point, is_reach, number_of}
-use Rattle.topo_certificate.specs.Stand.{since_shell, rows_of_shell, current_rows, is_last}
-use Rattle.topo_certificate.specs.declared.due.Due.{Due}
+use Rattle.cert_state.specs.Stand.{stand_from_latest, FitsLine, NoneDue, vertex_of, face_of, is_shell, is_corner_or_point, is_reach, number_of}
+use Rattle.cert_state.specs.Stand.{since_shell, rows_of_shell, current_rows, is_last}
+use Rattle.cert_state.specs.declared.due.Due.{Due}
 use Rattle.topo_certificate.specs.After.{IsLegalAfter}
-use Rattle.topo_certificate.proofs.Segment.{vertices_linked, faces_reached}
+use Rattle.cert_state.proofs.Segment.{vertices_linked, faces_reached}
 use Rattle.std.specs.List.{list_any}
 use Rattle.topo_certificate.proofs.Facts.{AllFit, Facts, Good, facts_paired}
 use Rattle.topo_certificate.proofs.LineKinds.{facts_of, number_more, number_same, shell_line, end_line, first_true}

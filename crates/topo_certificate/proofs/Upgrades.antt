@@ -11,16 +11,16 @@ use Rattle.cert_lines.specs.Line.{CertLine, shell, reach, tally, end, spelling, 
 use Rattle.cert_lines.specs.declared.counts.ShellCounts.{ShellCounts}
 use Rattle.cert_lines.specs.declared.counts.Tally.{Tally}
 use Rattle.cert_lines.specs.declared.version.Version.TheVariants.{One, Two}
-use Rattle.topo_certificate.specs.Stand.{Stand, first_of, edge_of, vertex_of, face_of, mates_of, stand_from_latest, is_shell, is_last, is_tally, is_edge}
-use Rattle.topo_certificate.specs.Stand.{is_corner_or_point, is_reach, number_of, since_shell, asked, loops_of, rows_of_shell, FitsLine, FitsTally, FitsShell}
-use Rattle.topo_certificate.specs.Stand.{NoneDue}
+use Rattle.cert_state.specs.Stand.{Stand, first_of, edge_of, vertex_of, face_of, mates_of, stand_from_latest, is_shell, is_last, is_tally, is_edge}
+use Rattle.cert_state.specs.Stand.{is_corner_or_point, is_reach, number_of, since_shell, asked, loops_of, rows_of_shell, FitsLine, FitsTally, FitsShell}
+use Rattle.cert_state.specs.Stand.{NoneDue}
 use Rattle.topo_certificate.specs.Legal.{IsLegal}
 use Rattle.topo_certificate.specs.After.{IsLegalAfter}
 use Rattle.topo_certificate.specs.Upgraded.{tally_of_shell, tally_lines_of, tally_before, with_tallies}
 use Rattle.topo_certificate.proofs.Forward.{legal_forward, legal_behind}
-use Rattle.topo_certificate.proofs.Short.{IsReadable}
-use Rattle.topo_certificate.specs.declared.due.Due.{Due}
-use Rattle.topo_certificate.proofs.SameStand.{SameStand}
+use Rattle.cert_state.proofs.Short.{IsReadable}
+use Rattle.cert_state.specs.declared.due.Due.{Due}
+use Rattle.cert_state.proofs.SameStand.{SameStand}
 use Rattle.topo_certificate.proofs.LineKinds.{asked_none, end_line, fits_too, kept_there, number_more, number_same, shell_line, tally_line}
 
 -- the latest first: what a stand is read off is the same, with TALLY lines of shells before the one at hand and without

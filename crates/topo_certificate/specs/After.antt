@@ -2,11 +2,11 @@
 use Rattle.std.specs.Prelude.{◌≡◌, ℕ, ◌+◌, ◌⊎◌, true, false, List, [], ◌∷◌, length}
 use Rattle.solid_data.specs.SolidData.{SolidData}
 use Rattle.cert_lines.specs.Line.{CertLine, IsLine, line_limit}
-use Rattle.topo_certificate.specs.Stand.{Stand, stand_from_latest, FitsLine}
+use Rattle.cert_state.specs.Stand.{Stand, stand_from_latest, FitsLine}
 use Rattle.topo_certificate.specs.Legal.{IsBadLine}
 use Rattle.cert_lines.specs.declared.version.Version.{Version}
-use Rattle.cert_lines.specs.declared.fault.Illegal.{Illegal}
-use Rattle.cert_lines.specs.declared.fault.Illegal.TheVariants.{Missing}
+use Rattle.cert_text.specs.declared.fault.Illegal.{Illegal}
+use Rattle.cert_text.specs.declared.fault.Illegal.TheVariants.{Missing}
 
 abbrev pub IsLegalAfter : Version → SolidData → List CertLine → List (List ℕ) → Type 0
 IsLegalAfter v s before [] = (stand_from_latest v s before).ended ≡ true

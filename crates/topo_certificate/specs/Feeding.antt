@@ -5,8 +5,8 @@ use Rattle.iges_base.specs.InLine.{is_in_line}
 use Rattle.solid_data.specs.SolidData.{SolidData}
 use Rattle.cert_lines.specs.Line.{CertLine, line_limit}
 use Rattle.cert_lines.specs.declared.version.Version.{Version}
-use Rattle.cert_lines.specs.declared.fault.Illegal.{Illegal}
-use Rattle.topo_certificate.specs.Stand.{Stand, FitsLine}
+use Rattle.cert_text.specs.declared.fault.Illegal.{Illegal}
+use Rattle.cert_state.specs.Stand.{Stand, FitsLine}
 use Rattle.topo_certificate.specs.Legal.{AreFitting, HasFirstBad, FitsPart}
 use Rattle.topo_certificate.specs.Matching.{Kept, IsAt}
 

@@ -3,10 +3,10 @@ use Rattle.std.specs.Prelude.{◌≡◌, ℕ, ◌+◌, ◌<◌, ◌⊎◌, false
 use Rattle.std.specs.List.{AllZip}
 use Rattle.solid_data.specs.SolidData.{SolidData}
 use Rattle.cert_lines.specs.Line.{CertLine, solid, end, IsLine, IsLong, IsMisspelt, line_limit}
-use Rattle.topo_certificate.specs.Stand.{Stand, stand_after, FitsLine}
+use Rattle.cert_state.specs.Stand.{Stand, stand_after, FitsLine}
 use Rattle.cert_lines.specs.declared.version.Version.{Version}
-use Rattle.cert_lines.specs.declared.fault.Illegal.{Illegal}
-use Rattle.cert_lines.specs.declared.fault.Illegal.TheVariants.{Misspelt, Unfit, Missing}
+use Rattle.cert_text.specs.declared.fault.Illegal.{Illegal}
+use Rattle.cert_text.specs.declared.fault.Illegal.TheVariants.{Misspelt, Unfit, Missing}
 
 -- The lines are spelled as these, one by one, and each fits the stand after those before it.
 pub record AreFitting (v : Version) (s : SolidData) (lines : List (List ℕ)) (read : List CertLine) : Type 0 where

@@ -1,30 +1,12 @@
 -- When what a checker keeps is where the lines so far lead.
-use Rattle.std.specs.Prelude.{◌≡◌, ℕ, ◌+◌, ◌-◌, ◌<◌, Bool, List, ◌∷◌, length, Option, Some, None, slice_get}
-use Rattle.std.specs.Bool.{MatchBool}
+use Rattle.std.specs.Prelude.{◌≡◌, ℕ, ◌+◌, ◌-◌, Bool, List, length, Option, Some, None, slice_get}
 use Rattle.solid_data.specs.SolidData.{SolidData}
 use Rattle.cert_lines.specs.Line.{CertLine}
-use Rattle.topo_certificate.specs.Stand.{Stand, stand_from_latest, rows_of_shell, loops_of_shell, NoneDue, FitsOpen}
-use Rattle.topo_certificate.specs.Kept.{KeptShell, HoldsMates, HoldsFaces, IsFresh}
 use Rattle.cert_lines.specs.declared.version.Version.{Version}
-use Rattle.cert_lines.specs.declared.fault.Illegal.{Illegal}
-
--- what is kept of the shell at hand is its stand
-pub record MatchesShell (s : SolidData) (at : Stand) (k : KeptShell) : Type 0 where
-  pub begun : 0 < at.shell
-  pub rows : k.rows ≡ rows_of_shell s at.shell
-  pub loops : k.loops ≡ loops_of_shell s at.shell
-  pub due : k.due ≡ at.due
-  pub last_edge : k.last_edge ≡ at.last_edge
-  pub last_vertex : k.last_vertex ≡ at.last_vertex
-  pub mates : HoldsMates k.mates at.mates
-  pub reached : HoldsFaces k.reached at.reached
-
--- After any lines with whose stand what is kept agrees, the line is taken exactly where it fits, and then what is kept agrees with the stand after the line.
-abbrev pub Takes : KeptShell → KeptShell → CertLine → Bool → Type 0
-Takes old new line taken =
-    (v : Version) (s : SolidData) (lines : List CertLine) → MatchesShell s (stand_from_latest v s lines) old →
-    MatchBool taken (FitsOpen s (stand_from_latest v s lines) line × MatchesShell s (stand_from_latest v s (line ∷ lines)) new)
-    (¬ FitsOpen s (stand_from_latest v s lines) line)
+use Rattle.cert_text.specs.declared.fault.Illegal.{Illegal}
+use Rattle.cert_state.specs.Stand.{Stand, stand_from_latest, rows_of_shell, loops_of_shell, NoneDue}
+use Rattle.cert_state.specs.Kept.{KeptShell, IsFresh}
+use Rattle.cert_state.specs.Matching.{MatchesShell}
 
 -- The shells that are not begun, the next one last.
 pub record AreWaiting (v : Version) (s : SolidData) (shell : ℕ) (waiting : List KeptShell) : Type 0 where

@@ -3,7 +3,7 @@ use Rattle.std.specs.Prelude.{◌≡◌, ℕ, ◌≤◌, List, ◌++◌, length,
 use Rattle.iges_base.specs.Ended.{ended}
 use Rattle.iges_base.specs.InLine.{is_in_line}
 use Rattle.cert_lines.specs.declared.version.Version.{Version}
-use Rattle.cert_lines.specs.declared.fault.Illegal.{Illegal}
+use Rattle.cert_text.specs.declared.fault.Illegal.{Illegal}
 use Rattle.cert_lines.specs.Line.{head, solid, cut_lines, IsLine, first_limit}
 use Rattle.cert_lines.specs.Opening.{Opens, IsBadOpening, IsHead, IsSolid, IsWrong}
 use Rattle.topo_certificate.specs.declared.opening.Stage.{Stage}

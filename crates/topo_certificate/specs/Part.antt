@@ -1,7 +1,7 @@
 -- Private: what a checker says of a line of a part of a book.
 use Rattle.std.specs.Prelude.{◌≡◌, ℕ, ◌+◌, List, ◌∷◌, length}
 use Rattle.cert_lines.specs.Line.{CertLine, solid, IsLine, line_limit}
-use Rattle.topo_certificate.specs.Stand.{stand_from_latest, FitsLine}
+use Rattle.cert_state.specs.Stand.{stand_from_latest, FitsLine}
 use Rattle.topo_certificate.specs.Legal.{BeginsNext}
 use Rattle.topo_certificate.specs.Matching.{Kept, IsAt}
 use Rattle.topo_certificate.specs.declared.line_checker.PartLine.{PartLine}

@@ -3,7 +3,7 @@ use Rattle.std.specs.Prelude.{◌≡◌, ℕ, ◌+◌, ◌≤◌, List, [], ◌�
 use Rattle.solid_data.specs.SolidData.{SolidData}
 use Rattle.cert_lines.specs.Line.{CertLine, solid as solid_line, cut_lines, IsLine, line_limit}
 use Rattle.cert_lines.specs.declared.version.Version.{Version}
-use Rattle.topo_certificate.specs.Stand.{stand_after}
+use Rattle.cert_state.specs.Stand.{stand_after}
 use Rattle.topo_certificate.specs.Legal.{AreFitting, BeginsNext}
 use Rattle.topo_certificate.specs.Feeding.{FedKept, StandsAfter, IsFedPart}
 use Rattle.topo_certificate.specs.declared.line_checker.PartLine.{PartLine}

@@ -2,8 +2,8 @@
 use Rattle.std.specs.Prelude.{◌≡◌, ℕ, ◌+◌, ◌*◌, ◌<◌, ◌≤◌, ◌^◌, Bool, false, List, ◌∷◌, length, Option, Some, None}
 use Rattle.std.specs.Bool.{MatchBool}
 use Rattle.cert_lines.specs.Line.{CertLine, line_limit}
-use Rattle.topo_certificate.specs.Stand.{stand_from_latest, FitsLine}
-use Rattle.topo_certificate.specs.Kept.{KeptShell, lines_due}
+use Rattle.cert_state.specs.Stand.{stand_from_latest, FitsLine}
+use Rattle.cert_state.specs.Kept.{KeptShell, lines_due}
 use Rattle.topo_certificate.specs.Matching.{Kept, IsAt}
 use Rattle.solid_data.specs.declared.TheConstants.{PART_LIMIT}
 

@@ -7,7 +7,7 @@ use Rattle.edge_uses.specs.ShellRows.{shell_rows}
 use Rattle.cert_lines.specs.Line.{head, tally, words, spelling, cut_lines}
 use Rattle.cert_lines.specs.declared.counts.Tally.{Tally}
 use Rattle.cert_lines.specs.declared.version.Version.TheVariants.{One, Two}
-use Rattle.topo_certificate.specs.Stand.{loops_of}
+use Rattle.cert_state.specs.Stand.{loops_of}
 
 -- the bytes begin with the word
 abbrev pub starts_with : List ℕ → List ℕ → Bool

@@ -9,13 +9,13 @@ ghost use Rattle.topo_certificate.specs.Feeding.{StandsAfter, IsFed, IsFedPart};
 ghost use Rattle.topo_certificate.specs.PartEnds.{IsEndedBy, IsPartStep};
 ghost use Rattle.cert_lines.specs.declared.version.Version.{Version};
 ghost use Rattle.cert_lines.specs.declared.version.Version.TheVariants.{Two};
-ghost use Rattle.cert_lines.specs.declared.fault.Illegal.TheVariants.{Missing};
-ghost use Rattle.topo_certificate.specs.Stand.{stand_after, FitsLine};
+ghost use Rattle.cert_text.specs.declared.fault.Illegal.TheVariants.{Missing};
+ghost use Rattle.cert_state.specs.Stand.{stand_after, FitsLine};
 ghost use Rattle.topo_certificate.specs.Legal.{IsLegal, IsFirstBad, IsPartBad, IsBadLine};
 ghost use Rattle.topo_certificate.specs.Matching.{IsOfSame};
 
 use crate::line_checker::{LineChecker, PartLine};
-use crate::uses::limit_of;
+use cert_state::limit_of;
 use cert_lines::{Illegal, Version, first_ended};
 use iges_base::{EntryNo, NoMemory};
 use solid_data::Solid;

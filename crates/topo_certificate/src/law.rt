@@ -4,7 +4,7 @@ ghost use Rattle.std.specs.Prelude.{ℕ, List, ◌≡◌, ◌⊎◌};
 ghost use Rattle.solid_data.specs.SolidData.{SolidData};
 ghost use Rattle.topo_certificate.specs.Legal.{IsLegal, IsFirstBad, IsPartBad};
 ghost use Rattle.cert_lines.specs.declared.version.Version.{Version as Edition};
-ghost use Rattle.cert_lines.specs.declared.fault.Illegal.{Illegal as Fault};
+ghost use Rattle.cert_text.specs.declared.fault.Illegal.{Illegal as Fault};
 
 /// Whatever the lines are, either they are legal or one of them is the first bad one; that is one line alone, and legal lines
 /// have none.

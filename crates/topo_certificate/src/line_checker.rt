@@ -1,7 +1,7 @@
 //! A checker of lines that are given whole.
 
-use crate::shell_state::ShellState;
-use crate::uses::{limit_of, loop_count};
+use cert_state::ShellState;
+use cert_state::{limit_of, loop_count};
 use cert_lines::{Illegal, Judged, ShellCounts, Version, Words, judge};
 use edge_uses::rows;
 use iges_base::{EntryNo, NoMemory};
@@ -49,8 +49,8 @@ ghost use Rattle.std.specs.Prelude.{◌≡◌, ℕ, ◌+◌, ◌<◌, ◌^◌, �
 ghost use Rattle.std.specs.Prelude.{◌≢◌, List, [], ◌∷◌, ◌++◌};
 ghost use Rattle.cert_lines.specs.Line.{CertLine, IsLine, solid as solid_named};
 ghost use Rattle.cert_lines.specs.Said.{Means};
-ghost use Rattle.topo_certificate.specs.Stand.{rows_of_shell, loops_of_shell};
-ghost use Rattle.topo_certificate.specs.Kept.{IsFresh};
+ghost use Rattle.cert_state.specs.Stand.{rows_of_shell, loops_of_shell};
+ghost use Rattle.cert_state.specs.Kept.{IsFresh};
 ghost use Rattle.topo_certificate.specs.Matching.{AreWaiting};
 
 // The directory number on a SOLID line; None for any other line.
@@ -143,12 +143,12 @@ impl<'a> LineChecker<'a> {
     ghost use Rattle.std.specs.Bool.{MatchBool};
     ghost use Rattle.cert_lines.specs.Line.{CertLine, HasSpelling, IsLine, line_limit, solid, shell, end};
     ghost use Rattle.cert_lines.specs.Said.{Means, IsRowLine};
-    ghost use Rattle.topo_certificate.specs.Stand.{stand_from_latest, FitsLine};
+    ghost use Rattle.cert_state.specs.Stand.{stand_from_latest, FitsLine};
     ghost use Rattle.topo_certificate.specs.Legal.{IsBadLine, BeginsNext, FitsPart};
     ghost use Rattle.topo_certificate.specs.Part.{IsPartLine};
     ghost use Rattle.topo_certificate.specs.Matching.{IsAt, IsOfSame};
     ghost use Rattle.topo_certificate.specs.Room.{dues_of, TakesLine};
-    ghost use Rattle.cert_lines.specs.declared.fault.Illegal.TheVariants.{Missing as IsMissing};
+    ghost use Rattle.cert_text.specs.declared.fault.Illegal.TheVariants.{Missing as IsMissing};
 
     /// A checker whose first line has this number. It takes all the memory that a check needs.
     pub(crate) fn from_line(

@@ -4,10 +4,10 @@ ghost use Rattle.std.specs.Prelude.{◌≡◌, ◌≤◌, ◌<◌, ◌++◌, ◌
 ghost use Rattle.iges_base.specs.Ended.{ended};
 ghost use Rattle.iges_base.specs.InLine.{is_in_line};
 ghost use Rattle.cert_lines.specs.Line.{first_limit};
-ghost use Rattle.cert_lines.specs.Misfits.{illegal_at};
+ghost use Rattle.cert_lines.specs.Opening.{illegal_at};
 ghost use Rattle.cert_lines.specs.Opening.{Opens, IsBadOpening};
 ghost use Rattle.cert_lines.specs.declared.version.Version.{Version as Edition};
-ghost use Rattle.cert_lines.specs.declared.fault.Illegal.TheVariants.{Missing, Misspelt};
+ghost use Rattle.cert_text.specs.declared.fault.Illegal.TheVariants.{Missing, Misspelt};
 ghost use Rattle.topo_certificate.specs.OpeningFed.{HasCome, IsOpening, IsStep, IsWaiting, StageAfter, Stays, StaysAtEnd};
 
 use crate::line_start::LineStart;

@@ -1,5 +1,5 @@
 use Rattle.std.proofs.Common.{rules}
-use Rattle.cert_lines.proofs.Digits.{corner_some}
+use Rattle.cert_lines.proofs.LineKinds.{corner_some}
 use Rattle.cert_lines.proofs.words.corner_words.Goals as goal
 
 pub returns-then-is_empty : goal.returns-then-is_empty

@@ -1,5 +1,5 @@
 use Rattle.std.proofs.Common.{◌≡◌, drop, ◌++◌, map}
-use Rattle.cert_lines.specs.Line.{spaced}
+use Rattle.cert_text.specs.Text.{spaced}
 use Rattle.cert_lines.specs.Written.{row_number}
 use Rattle.cert_lines.proofs.writing.put_rows.Given as goal
 

@@ -1,11 +1,11 @@
 use Rattle.std.proofs.Common.{◌<◌, arith, length, Some}
-use Rattle.topo_certificate.specs.Stand.{loops_of}
+use Rattle.cert_state.specs.Stand.{loops_of}
 use Rattle.std.proofs.lemmas.Result.{err_from_is_err_and}
 use Rattle.solid_data.specs.declared.solid.Shell.{Shell}
 use Rattle.edge_uses.specs.ShellRows.{shell_rows}
 use Rattle.shell_rules.specs.ShellObligations.{shell_obligations, solid_obligations}
 use Rattle.cert_lines.specs.declared.parts.ShellPart.{ShellPart}
-use Rattle.cert_maker.specs.Parts.{IsPart}
+use Rattle.cert_maker.specs.Certified.{IsPart}
 use Rattle.shell_rules.proofs.Few.{few_parts}
 use Rattle.shell_rules.proofs.Shells.{from_first, one_shell, shell_fails}
 use Rattle.cert_maker.proofs.Zipping.{agree_first, agree_more, agree_done}

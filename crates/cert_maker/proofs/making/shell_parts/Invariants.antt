@@ -1,11 +1,11 @@
 use Rattle.std.proofs.Common.{Some}
-use Rattle.topo_certificate.specs.Stand.{loops_of}
+use Rattle.cert_state.specs.Stand.{loops_of}
 use Rattle.solid_data.specs.declared.solid.Shell.{Shell}
 use Rattle.edge_uses.specs.Before.{AreBelow}
 use Rattle.edge_uses.specs.ShellRows.{shell_rows}
 use Rattle.shell_rules.specs.ShellObligations.{shell_obligations, solid_obligations}
 use Rattle.cert_lines.specs.declared.parts.ShellPart.{ShellPart}
-use Rattle.cert_maker.specs.Parts.{IsPart}
+use Rattle.cert_maker.specs.Certified.{IsPart}
 use Rattle.shell_rules.proofs.Shells.{RemainFrom}
 use Rattle.cert_maker.proofs.Zipping.{AgreeUpTo}
 use Rattle.cert_maker.proofs.making.shell_parts.Given as goal

@@ -1,7 +1,7 @@
 use Rattle.std.proofs.Common.{arith, ap, length}
 use Rattle.solid_data.proofs.Members.{get_some}
 use Rattle.edge_uses.specs.ShellRows.{ShellRows}
-use Rattle.cert_maker.specs.Parts.{AreItsRows}
+use Rattle.cert_maker.specs.Certified.{AreItsRows}
 use Rattle.cert_maker.proofs.Zipping.{agree_more, agree_done}
 use Rattle.cert_maker.proofs.pairs.edge_pairs.Goals as goal
 

@@ -1,4 +1,4 @@
-use Rattle.cert_maker.specs.Parts.{AreItsRows}
+use Rattle.cert_maker.specs.Certified.{AreItsRows}
 use Rattle.cert_maker.proofs.Zipping.{AgreeUpTo}
 use Rattle.cert_maker.proofs.pairs.edge_pairs.Given as goal
 

@@ -1,5 +1,5 @@
 use Rattle.std.proofs.Common.{arith}
-use Rattle.topo_certificate.proofs.UseSizes.{loops_within}
+use Rattle.cert_state.proofs.UseSizes.{loops_within}
 use Rattle.cert_maker.proofs.shell_part.loops_in.Goals as goal
 
 pub loop_count-requires : goal.loop_count-requires

@@ -1,14 +1,14 @@
 use Rattle.std.proofs.Common.{sym, ◌∙◌, ap, subst, refl, arith, length}
 use Rattle.std.proofs.lemmas.Result.{err_from_is_err_and}
 use Rattle.std.proofs.lemmas.Option.{slice_get_within}
-use Rattle.topo_certificate.proofs.PointOrder.{faces_of_rows, can_check}
+use Rattle.cert_state.proofs.PointOrder.{faces_of_rows, can_check}
 use Rattle.solid_data.specs.Obligations.{AllHold}
 use Rattle.edge_uses.specs.ShellRows.{ShellRows, shell_rows}
 use Rattle.shell_rules.specs.ShellObligations.{pair_obligations, apart_obligations}
 use Rattle.shell_rules.specs.Faults.{IsCheckFault}
 use Rattle.std.specs.Prelude.{Some}
-use Rattle.topo_certificate.specs.Stand.{loops_of}
-use Rattle.cert_maker.specs.Parts.{IsPart}
+use Rattle.cert_state.specs.Stand.{loops_of}
+use Rattle.cert_maker.specs.Certified.{IsPart}
 use Rattle.shell_rules.specs.declared.fault.CheckFault.TheVariants.{Fails}
 use Rattle.shell_rules.proofs.OneShell.{joined_not, paired_not, reached_not, linked_not, apart_not, all_hold, same_rows}
 use Rattle.cert_maker.proofs.shell_part.shell_part.Goals as goal

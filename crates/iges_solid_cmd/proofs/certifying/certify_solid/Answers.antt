@@ -2,7 +2,7 @@ use Rattle.std.proofs.Common.{rules, sym, subst}
 use Rattle.solid_data.specs.Obligations.{FirstFalse}
 use Rattle.shell_rules.specs.ShellObligations.{solid_obligations}
 use Rattle.brep_walk.specs.Places.{places}
-use Rattle.cert_maker.specs.Laws.{IsCertificateText}
+use Rattle.cert_maker.specs.Certified.{IsCertificateText}
 use Rattle.command_replies.proofs.Replying.{reply_owed}
 use Rattle.iges_solid_cmd.specs.Due.{OfCertify}
 use Rattle.iges_solid_cmd.proofs.MakerAnswers.{certified_owed, misplaced_owed, unclosed_owed}

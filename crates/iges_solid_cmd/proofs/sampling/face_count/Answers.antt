@@ -1,5 +1,5 @@
 use Rattle.std.proofs.Common.{arith}
-use Rattle.topo_certificate.proofs.UseSizes.{few_shells}
+use Rattle.cert_state.proofs.UseSizes.{few_shells}
 use Rattle.iges_solid_cmd.proofs.sampling.face_count.Goals as goal
 
 pub overflow_cast-k-end : goal.overflow_cast-k-end

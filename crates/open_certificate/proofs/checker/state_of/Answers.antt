@@ -1,4 +1,4 @@
-use Rattle.topo_certificate.proofs.PointOrder.{can_check}
+use Rattle.cert_state.proofs.PointOrder.{can_check}
 use Rattle.open_certificate.proofs.Checking.{one_shell}
 use Rattle.open_certificate.proofs.checker.state_of.Goals as goal
 

@@ -1,5 +1,5 @@
 use Rattle.std.proofs.Common.{arith, sym, ◌∙◌, ◌≡◌, true, false}
-use Rattle.topo_certificate.proofs.Rings.{begins_shorter}
+use Rattle.cert_state.proofs.Rings.{begins_shorter}
 use Rattle.open_certificate.proofs.BorderWalks.{walked_none, walked_step, walked_stop, walked_whole, walked_broken}
 use Rattle.open_certificate.proofs.fitting.border_len.Goals as goal
 

@@ -1,10 +1,10 @@
 use Rattle.std.proofs.Common.{sym, ap, subst, ◌∙◌, ◌≡◌, true, false, length}
-use Rattle.topo_certificate.specs.Stand.{IsAbove}
+use Rattle.cert_state.specs.Stand.{IsAbove}
 use Rattle.open_certificate.specs.Line.{border}
 use Rattle.open_certificate.specs.Stand.{border_in}
 use Rattle.open_certificate.specs.Walks.{FitsBorderLine}
 use Rattle.open_certificate.proofs.BorderWalks.{border_of, border_ring, border_fits}
-use Rattle.topo_certificate.proofs.Rings.{none_left}
+use Rattle.cert_state.proofs.Rings.{none_left}
 use Rattle.open_certificate.proofs.fitting.fitting_border.Goals as goal
 
 -- no row is listed

@@ -1,7 +1,7 @@
 use Rattle.std.proofs.Common.{rules, sym, subst, ◌∙◌, ◌≡◌, true, false}
-use Rattle.topo_certificate.proofs.CornerFits.{size_there, size_below}
+use Rattle.cert_state.proofs.CornerFits.{size_there, size_below}
 use Rattle.open_certificate.proofs.PathFits.{path_of, path_no_row, path_low, path_fits, path_other_size}
-use Rattle.topo_certificate.proofs.Rings.{none_left}
+use Rattle.cert_state.proofs.Rings.{none_left}
 use Rattle.open_certificate.specs.Walks.{FitsPathLine}
 use Rattle.open_certificate.proofs.fitting.fitting_path.Goals as goal
 

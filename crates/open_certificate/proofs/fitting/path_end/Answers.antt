@@ -1,5 +1,5 @@
 use Rattle.std.proofs.Common.{arith, sym, ◌∙◌, ◌≡◌, true, false}
-use Rattle.topo_certificate.proofs.Rings.{begins_shorter}
+use Rattle.cert_state.proofs.Rings.{begins_shorter}
 use Rattle.open_certificate.proofs.PathWalks.{walked_none, walked_step, walked_stop, walked_whole}
 use Rattle.open_certificate.proofs.fitting.path_end.Goals as goal
 

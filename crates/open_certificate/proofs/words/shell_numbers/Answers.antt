@@ -1,5 +1,5 @@
 use Rattle.std.proofs.Common.{rules, [], ◌∷◌}
-use Rattle.cert_lines.proofs.Digits.{begins_tail, numbers_begin}
+use Rattle.cert_text.proofs.Digits.{begins_tail, numbers_begin}
 use Rattle.open_certificate.proofs.words.shell_numbers.Goals as goal
 
 pub returns-in_default : goal.returns-in_default

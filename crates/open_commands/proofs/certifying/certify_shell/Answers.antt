@@ -2,7 +2,7 @@ use Rattle.std.proofs.Common.{rules, sym, subst}
 use Rattle.command_replies.specs.Texts.{fail_line}
 use Rattle.command_replies.specs.declared.answer.Answer.TheVariants.{No}
 use Rattle.command_replies.proofs.Replying.{reply_owed}
-use Rattle.open_certificate.specs.Accepted.{IsOpenAccepted}
+use Rattle.open_certificate.specs.Legal.{IsOpenAccepted}
 use Rattle.open_commands.specs.Due.{OfOpen, open_fail_line, open_misplaced, open_unsound}
 use Rattle.open_commands.specs.Verdict.{IsOpenVerdict, misplaced, unsound}
 use Rattle.open_commands.proofs.Shells.{is_open}

@@ -6,7 +6,7 @@ use Rattle.command_replies.specs.declared.answer.Answer.TheVariants.{Done, No}
 use Rattle.command_replies.proofs.Replying.{reply_owed}
 use Rattle.open_certificate.specs.Legal.{IsOpenLegal, IsOpenFirstBad}
 use Rattle.solid_data.specs.Obligations.{FirstFalse}
-use Rattle.open_commands.specs.Checked.{open_checked}
+use Rattle.open_commands.specs.Verdict.{open_checked}
 use Rattle.open_commands.specs.Due.{OfShellLines, place_fails, line_bad, lines_accepted}
 use Rattle.open_commands.proofs.Shells.{is_open}
 use Rattle.open_commands.proofs.verifying.lines_reply.Goals as goal

@@ -2,7 +2,7 @@ use Rattle.std.proofs.Common.{sym, ◌∙◌, ap, subst, refl}
 use Rattle.std.specs.Prelude.{map}
 use Rattle.std.proofs.lemmas.Result.{err_from_is_err_and}
 use Rattle.std.proofs.lemmas.Option.{slice_get_within}
-use Rattle.topo_certificate.proofs.PointOrder.{faces_of_rows}
+use Rattle.cert_state.proofs.PointOrder.{faces_of_rows}
 use Rattle.edge_uses.specs.ShellRows.{ShellRows, rows_of, shell_rows}
 use Rattle.open_certificate.specs.Obligations.{AllHold, edge_obligation}
 use Rattle.open_shells.proofs.OpenRules.{joined_not, once_not, reached_not, fanned_not, all_hold}

@@ -1,7 +1,7 @@
 use Rattle.std.proofs.Common.{rules, refl, ◌≡◌, ◌∷◌, ◌∙◌, map}
 use Rattle.edge_uses.proofs.Steps.{none_of}
-use Rattle.orient_certificate.specs.Line.{flag_number, spaced}
-use Rattle.orient_certificate.specs.Numbers.{AreNumbers}
+use Rattle.cert_text.specs.Text.{spaced, AreNumbers}
+use Rattle.orient_certificate.specs.Line.{flag_number}
 use Rattle.orient_certificate.proofs.Lines.{flags_short, flags_behind, some_flags, numbers_one}
 use Rattle.orient_certificate.proofs.reading.flag_words.Goals as goal
 

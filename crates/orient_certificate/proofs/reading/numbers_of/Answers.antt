@@ -1,7 +1,7 @@
 use Rattle.std.proofs.Common.{rules, subst, ◌≡◌, [], length}
 use Rattle.std.proofs.lemmas.List.{append-nil}
-use Rattle.orient_certificate.specs.Numbers.{AreNumbers}
-use Rattle.orient_certificate.proofs.Digits.{none_spaced, begins_more, empty_spaced}
+use Rattle.cert_text.specs.Text.{AreNumbers}
+use Rattle.cert_text.proofs.Digits.{none_spaced, begins_more, empty_spaced}
 use Rattle.orient_certificate.proofs.Lines.{more_numbers}
 use Rattle.orient_certificate.proofs.reading.numbers_of.Goals as goal
 

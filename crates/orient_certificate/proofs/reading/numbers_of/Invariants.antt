@@ -1,5 +1,5 @@
 use Rattle.std.proofs.Common.{ℕ, List, length, ◌++◌}
-use Rattle.orient_certificate.specs.Numbers.{AreNumbers, IsSpaced}
+use Rattle.cert_text.specs.Text.{AreNumbers, IsSpaced}
 use Rattle.orient_certificate.proofs.reading.numbers_of.Given as goal
 
 abbrev pub invariant-numbers : goal.invariant-numbers

@@ -1,7 +1,6 @@
 use Rattle.std.proofs.Common.{rules, refl, ◌∷◌}
 use Rattle.edge_uses.proofs.Steps.{none_of}
-use Rattle.orient_certificate.specs.Line.{spaced}
-use Rattle.orient_certificate.specs.Numbers.{AreNumbers}
+use Rattle.cert_text.specs.Text.{spaced, AreNumbers}
 use Rattle.orient_certificate.proofs.Lines.{rings_behind, some_rows}
 use Rattle.orient_certificate.proofs.reading.ring_words.Goals as goal
 

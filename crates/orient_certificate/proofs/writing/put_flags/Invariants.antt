@@ -1,5 +1,6 @@
 use Rattle.std.proofs.Common.{◌≡◌, drop, ◌++◌, map}
-use Rattle.orient_certificate.specs.Line.{spaced, flag_number}
+use Rattle.cert_text.specs.Text.{spaced}
+use Rattle.orient_certificate.specs.Line.{flag_number}
 use Rattle.orient_certificate.proofs.writing.put_flags.Given as goal
 
 abbrev pub invariant-flags : goal.invariant-flags

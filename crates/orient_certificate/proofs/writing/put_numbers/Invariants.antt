@@ -1,5 +1,5 @@
 use Rattle.std.proofs.Common.{◌≡◌, drop, ◌++◌}
-use Rattle.orient_certificate.specs.Line.{spaced}
+use Rattle.cert_text.specs.Text.{spaced}
 use Rattle.orient_certificate.proofs.writing.put_numbers.Given as goal
 
 abbrev pub invariant-numbers : goal.invariant-numbers

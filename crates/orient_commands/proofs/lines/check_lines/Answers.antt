@@ -1,5 +1,5 @@
 use Rattle.std.proofs.Common.{◌<◌, arith, length}
-use Rattle.topo_certificate.proofs.UseSizes.{few_shells}
+use Rattle.cert_state.proofs.UseSizes.{few_shells}
 use Rattle.orient_commands.proofs.lines.check_lines.Goals as goal
 
 pub overflow_cast-k : goal.overflow_cast-k

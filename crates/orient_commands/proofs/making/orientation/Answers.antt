@@ -1,5 +1,5 @@
 use Rattle.std.proofs.Common.{rules, ◌<◌, arith, length}
-use Rattle.topo_certificate.proofs.UseSizes.{few_shells}
+use Rattle.cert_state.proofs.UseSizes.{few_shells}
 use Rattle.orient_commands.proofs.WholeText.{begun_first, oriented}
 use Rattle.orient_commands.proofs.making.orientation.Goals as goal
 

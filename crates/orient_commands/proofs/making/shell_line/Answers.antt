@@ -1,6 +1,6 @@
 use Rattle.std.proofs.Common.{◌<◌, arith, length}
 use Rattle.orient_certificate.specs.OddRing.{row_numbers}
-use Rattle.topo_certificate.proofs.UseSizes.{few_shells}
+use Rattle.cert_state.proofs.UseSizes.{few_shells}
 use Rattle.orient_commands.proofs.ShellSteps.{ring_low, ring_spelled, flags_spelled}
 use Rattle.orient_commands.proofs.making.shell_line.Goals as goal
 

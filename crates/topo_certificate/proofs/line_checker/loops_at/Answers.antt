@@ -1,6 +1,6 @@
 use Rattle.std.proofs.Common.{arith, ap, sym, ◌∙◌, ◌≡◌, option_copied}
 use Rattle.std.specs.Prelude.{Some, slice_get}
-use Rattle.topo_certificate.proofs.UseSizes.{loops_within, loops_there}
+use Rattle.cert_state.proofs.UseSizes.{loops_within, loops_there}
 use Rattle.topo_certificate.proofs.line_checker.loops_at.Goals as goal
 
 pub loop_count-requires : goal.loop_count-requires

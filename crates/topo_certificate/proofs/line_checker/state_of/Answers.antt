@@ -1,4 +1,4 @@
-use Rattle.topo_certificate.proofs.PointOrder.{can_check}
+use Rattle.cert_state.proofs.PointOrder.{can_check}
 use Rattle.topo_certificate.proofs.line_checker.state_of.Goals as goal
 
 pub of-requires-clause-order : goal.of-requires-clause-order

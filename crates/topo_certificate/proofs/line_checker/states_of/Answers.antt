@@ -1,5 +1,5 @@
 use Rattle.std.proofs.Common.{arith, ap, ◌-◌}
-use Rattle.topo_certificate.proofs.UseSizes.{few_shells}
+use Rattle.cert_state.proofs.UseSizes.{few_shells}
 use Rattle.topo_certificate.proofs.Checking.{waits_none, waits_more, waits_all}
 use Rattle.topo_certificate.proofs.line_checker.states_of.Goals as goal
 

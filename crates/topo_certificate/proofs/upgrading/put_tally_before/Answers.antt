@@ -1,5 +1,5 @@
 use Rattle.std.proofs.Common.{arith}
-use Rattle.topo_certificate.proofs.UseSizes.{few_shells}
+use Rattle.cert_state.proofs.UseSizes.{few_shells}
 use Rattle.topo_certificate.proofs.upgrading.put_tally_before.Goals as goal
 
 pub overflow_cast-at : goal.overflow_cast-at

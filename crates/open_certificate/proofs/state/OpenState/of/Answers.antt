@@ -1,6 +1,6 @@
 use Rattle.std.proofs.Common.{arith, refl, ap, ◌∙◌}
 use Rattle.iges_base.specs.declared.entry_no.EntryNo.{EntryNo}
-use Rattle.topo_certificate.proofs.Arrays.{no_mates, none_in_zeros, zeros, length_zeros}
+use Rattle.cert_state.proofs.Arrays.{no_mates, none_in_zeros, zeros, length_zeros}
 use Rattle.open_certificate.proofs.Marks.{no_rows_marked, marks_long}
 use Rattle.open_certificate.proofs.Telling.{fresh_tells}
 use Rattle.open_certificate.proofs.state.OpenState.of.Goals as goal

@@ -1,6 +1,6 @@
 use Rattle.std.proofs.Common.{arith, subst, refl, sym, ◌-◌, true, false}
 use Rattle.open_certificate.specs.Line.{path}
-use Rattle.topo_certificate.specs.Kept.{HoldsMates}
+use Rattle.cert_state.specs.Kept.{HoldsMates}
 use Rattle.open_certificate.specs.Kept.{Takes, HoldsRows}
 use Rattle.open_certificate.specs.contracts.state.OpenState.{the_view}
 use Rattle.open_certificate.proofs.Telling.{with_vertex, vertex_kept, path_takes, path_unfit}

@@ -1,6 +1,6 @@
 use Rattle.std.proofs.Common.{arith, subst, refl, sym, ◌-◌, true, false}
 use Rattle.open_certificate.specs.Line.{reach}
-use Rattle.topo_certificate.specs.Kept.{HoldsMates, HoldsFaces}
+use Rattle.cert_state.specs.Kept.{HoldsMates, HoldsFaces}
 use Rattle.open_certificate.specs.Kept.{Takes}
 use Rattle.open_certificate.specs.contracts.state.OpenState.{the_view}
 use Rattle.open_certificate.proofs.Telling.{with_face, face_kept, reach_takes, reach_unfit}

@@ -2,7 +2,7 @@ use Rattle.std.proofs.Common.{rules, sym, ap, ◌∙◌, arith, Ok, Err, length,
 use Rattle.std.proofs.lemmas.Bool.{eqb-true}
 use Rattle.topo_certificate.specs.Feeding.{FedKept}
 use Rattle.topo_certificate.specs.Matching.{Kept}
-use Rattle.topo_certificate.specs.Stand.{FitsLine}
+use Rattle.cert_state.specs.Stand.{FitsLine}
 use Rattle.topo_certificate.proofs.FedLines.{whole_line, joined_line, nil}
 use Rattle.topo_certificate.proofs.checker.Checker.end_line.Goals as goal
 

@@ -1,6 +1,6 @@
 use Rattle.std.proofs.Common.{arith, refl, ap, ◌+◌, length}
 use Rattle.std.proofs.lemmas.Result.{err_from_is_err_and}
-use Rattle.topo_certificate.specs.Stand.{stand_from_latest}
+use Rattle.cert_state.specs.Stand.{stand_from_latest}
 use Rattle.topo_certificate.specs.Matching.{Kept}
 use Rattle.topo_certificate.proofs.Checking.{bad_in_part}
 use Rattle.topo_certificate.proofs.line_checker.LineChecker.line_of_part.Goals as goal

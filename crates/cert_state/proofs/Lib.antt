@@ -1,0 +1,14 @@
+pub mod Corner
+pub mod Segment
+pub mod Short
+pub mod Holding
+pub mod VertexTallies
+pub mod UseSizes
+pub mod Rings
+pub mod PointOrder
+pub mod Standing
+pub mod Arrays
+pub mod CornerFits
+pub mod FitsDecided
+pub mod SameStand
+pub mod Telling

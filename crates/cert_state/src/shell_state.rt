@@ -1,0 +1,222 @@
+//! How far the lines of a shell have come.
+
+use crate::corners::{fitting_point, read_corner};
+use crate::due::Due;
+use crate::fitting::{fits_counts, fits_tally, fitting_edge, fitting_face};
+use crate::tallies::sizes_of;
+use cert_lines::{ShellCounts, Tally, Version, Words};
+use edge_uses::Rows;
+use iges_base::NoMemory;
+use std::alloc::Global;
+use std::marker::Model;
+
+/// What is kept of a shell: its rows, what its lines are compared with, and what the lines so far said. Places in the
+/// lists count from 0; rows that are in them count from 1, as in the lines.
+#[derive(Drop)]
+pub struct ShellState {
+    rows: Rows,
+    /// How many loops the shell has.
+    loops: u64,
+    /// For each row how many rows a corner line has that starts with it; 0 where none fits.
+    sizes: Vec<u32>,
+    /// For each loop without an edge, in file order, whether it is all that lies at its vertex.
+    alone: Vec<bool>,
+    /// For each row its mate, from 1; 0 for none, as long as no edge line has named the row.
+    mates: Vec<u32>,
+    /// For each face whether it is reached.
+    reached: Vec<bool>,
+    due: Due,
+    /// The edge of the last edge line, from 0; None before the first.
+    last_edge: Option<u32>,
+    /// The vertex of the last corner or point line, from 0; None before the first.
+    last_vertex: Option<u32>,
+}
+
+impl Model for ShellState {
+    ghost use Rattle.cert_state.specs.Kept.{KeptShell, IsKept};
+
+    ghost Value = { KeptShell };
+
+    ghost view = { λ k. record { rows = k.rows; loops = k.loops; sizes = k.sizes.items; alone = k.alone.items; mates = k.mates.items; reached = k.reached.items; due = k.due; last_edge = k.last_edge; last_vertex = k.last_vertex } };
+
+    ghost invariant = { λ k. IsKept (record { rows = k.rows; loops = k.loops; sizes = k.sizes.items; alone = k.alone.items; mates = k.mates.items; reached = k.reached.items; due = k.due; last_edge = k.last_edge; last_vertex = k.last_vertex }) };
+}
+
+ghost use Rattle.std.specs.Prelude.{◌≡◌, ◌<◌, IfOk, length, replicate, ◌∷◌, []};
+ghost use Rattle.cert_state.specs.Kept.{HoldsFaces};
+
+// One number for each row: its mate, from 1, or 0 while no line has named one.
+fn no_mates(alloc: Global, rows: usize) -> Result<Vec<u32>, NoMemory>
+    ensures { IfOk result (λ mates. mates.items ≡ replicate rows 0) }
+{
+    Ok(vec![in alloc; 0u32; rows]?)
+}
+
+// One mark for each face; the first face counts as reached without a line.
+fn first_reached(alloc: Global, faces: usize) -> Result<Vec<bool>, NoMemory>
+    requires { 0 < faces }
+    ensures len { IfOk result (λ reached. length reached.items ≡ faces) }
+    ensures first { IfOk result (λ reached. HoldsFaces reached.items (0 ∷ [])) }
+{
+    let mut reached = vec![in alloc; false; faces]?;
+    reached[0] = true;
+    Ok(reached)
+}
+
+impl ShellState {
+    ghost use Rattle.std.specs.Prelude.{◌≡◌, ◌↔◌, ℕ, ◌+◌, ◌<◌, ◌^◌, List, IsTrue, IfOk, false, length};
+    ghost use Rattle.cert_lines.specs.Line.{CertLine, HasSpelling, edge, corner, point, reach, tally};
+    ghost use Rattle.cert_text.specs.Text.{AreNumbers};
+    ghost use Rattle.cert_lines.specs.Said.{Means, IsRowLine};
+    ghost use Rattle.cert_state.specs.Kept.{KeptShell, IsFresh, InFileOrder, AreCounts, IsTally, lines_due};
+    ghost use Rattle.cert_state.specs.Ring.{IsCornerText};
+    ghost use Rattle.cert_state.specs.Matching.{Takes};
+
+    /// A shell of which no line was read.
+    pub fn of(
+        alloc: Global,
+        version: Version,
+        rows: Rows,
+        loops: u64,
+    ) -> Result<ShellState, NoMemory>
+        requires order { InFileOrder rows.points }
+        requires some { 0 < rows.face_count }
+        requires few_edges { length rows.edges < 2 ^ 30 }
+        requires few_vertices { length rows.vertices < 2 ^ 30 }
+        ensures { IfOk result (λ k. IsFresh version rows loops k) }
+    {
+        let sizes = sizes_of(alloc, &rows)?;
+        let mates = no_mates(alloc, rows.len())?;
+        let reached = first_reached(alloc, rows.face_count())?;
+        let due = Due::of_shell(version, &rows);
+        Ok(ShellState {
+            rows,
+            loops,
+            sizes: sizes.rows,
+            alone: sizes.alone,
+            mates,
+            reached,
+            due,
+            last_edge: None,
+            last_vertex: None,
+        })
+    }
+
+    /// Whether these are the shell's counts.
+    pub fn has_counts(&self, counts: &ShellCounts) -> bool
+        ensures { IsTrue result ↔ AreCounts self.now.rows counts.now }
+    {
+        fits_counts(&self.rows, counts)
+    }
+
+    /// Whether no line of the shell is due.
+    pub fn is_done(&self) -> bool
+        ensures { IsTrue result ↔ (lines_due self.now.due ≡ 0) }
+    {
+        self.due.is_none()
+    }
+
+    // Takes an E line of two rows, from 1, where it fits; else the state stays as it was.
+    fn take_edge(&mut self, along: u32, against: u32) -> bool
+        ensures line { Takes self.old self.new (edge along against) result }
+        ensures due { IsTrue result → lines_due self.new.due + 1 ≡ lines_due self.old.due }
+        ensures refused { result ≡ false → self.new ≡ self.old }
+    {
+        if !self.due.has_edge() {
+            return false;
+        }
+        let Some(edge) = fitting_edge(&self.rows, self.last_edge, along, against) else {
+            return false;
+        };
+        self.mates[along as usize - 1] = against;
+        self.mates[against as usize - 1] = along;
+        self.due.edges -= 1;
+        self.last_edge = Some(edge.0);
+        true
+    }
+
+    /// Takes the corner line of this text, exactly where it fits.
+    pub fn take_corner(&mut self, text: &[u8]) -> bool
+        ensures numbers { IsTrue result → IsCornerText text.now }
+        ensures line { (rs : List ℕ) → AreNumbers text.now rs
+            → Takes self.old self.new (corner rs) result }
+        ensures due { IsTrue result → lines_due self.new.due + 1 ≡ lines_due self.old.due }
+        ensures refused { result ≡ false → self.new ≡ self.old }
+    {
+        if !self.due.has_corner() {
+            return false;
+        }
+        let Some(vertex) = read_corner(&self.rows, &self.sizes, &self.mates, self.last_vertex, text)
+        else {
+            return false;
+        };
+        self.due.corners -= 1;
+        self.last_vertex = Some(vertex.0);
+        true
+    }
+
+    // Takes an I line of a face and a loop of it, both from 1, where it fits; else the state stays as it was.
+    fn take_point(&mut self, face: u32, place: u32) -> bool
+        ensures line { Takes self.old self.new (point face place) result }
+        ensures due { IsTrue result → lines_due self.new.due + 1 ≡ lines_due self.old.due }
+        ensures refused { result ≡ false → self.new ≡ self.old }
+    {
+        if !self.due.has_corner() {
+            return false;
+        }
+        let Some(vertex) = fitting_point(&self.rows, &self.alone, self.last_vertex, face, place)
+        else {
+            return false;
+        };
+        self.due.corners -= 1;
+        self.last_vertex = Some(vertex.0);
+        true
+    }
+
+    // Takes an R line of a row, from 1, where it fits; else the state stays as it was.
+    fn take_reach(&mut self, row: u32) -> bool
+        ensures line { Takes self.old self.new (reach row) result }
+        ensures due { IsTrue result → lines_due self.new.due + 1 ≡ lines_due self.old.due }
+        ensures refused { result ≡ false → self.new ≡ self.old }
+    {
+        if !self.due.has_reach() {
+            return false;
+        }
+        let Some(face) = fitting_face(&self.rows, &self.mates, &self.reached, row) else {
+            return false;
+        };
+        self.reached[face.0 as usize] = true;
+        self.due.reach -= 1;
+        true
+    }
+
+    // Takes a TALLY line where it is due and its counts are the shell's; else the state stays as it was.
+    fn take_tally(&mut self, counts: &Tally) -> bool
+        ensures line { Takes self.old self.new (tally counts.now) result }
+        ensures due { IsTrue result → lines_due self.new.due + 1 ≡ lines_due self.old.due }
+        ensures refused { result ≡ false → self.new ≡ self.old }
+    {
+        if !self.due.has_tally() || !fits_tally(&self.rows, self.loops, counts) {
+            return false;
+        }
+        self.due.tally -= 1;
+        true
+    }
+
+    /// Takes an edge, corner, point, reach or TALLY line, exactly where it fits.
+    pub fn take(&mut self, words: Words<'_>) -> bool
+        ensures line { (line : CertLine) → Means words.entry line → HasSpelling line
+            → IsRowLine line → Takes self.old self.new line result }
+        ensures due { IsTrue result → lines_due self.new.due + 1 ≡ lines_due self.old.due }
+        ensures refused { result ≡ false → self.new ≡ self.old }
+    {
+        match words {
+            Words::Edge(along, against) => self.take_edge(along, against),
+            Words::Corner(numbers) => self.take_corner(numbers),
+            Words::Point(face, place) => self.take_point(face, place),
+            Words::Reach(row) => self.take_reach(row),
+            Words::Tally(counts) => self.take_tally(&counts),
+            Words::Head(_) | Words::Solid(_) | Words::Shell(..) | Words::End => false,
+        }
+    }
+}

@@ -1,7 +1,0 @@
-use Rattle.std.specs.Prelude.{ℕ}
-use Rattle.solid_data.specs.declared.solid.LoopAt.{LoopAt}
-use Rattle.topo_certificate.proofs.VertexTallies.{CountsBefore, lies_of}
-use Rattle.topo_certificate.proofs.tallies.points_of.Given as goal
-
-abbrev pub invariant-points : goal.invariant-points
-invariant-points l = CountsBefore (LoopAt × ℕ) lies_of l.fn.rows.points l.i l.fn.rows l.points

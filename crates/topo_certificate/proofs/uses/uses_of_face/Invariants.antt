@@ -1,6 +1,0 @@
-use Rattle.std.proofs.Common.{◌≡◌, ◌+◌, drop}
-use Rattle.topo_certificate.specs.Uses.{loops_size}
-use Rattle.topo_certificate.proofs.uses.uses_of_face.Given as goal
-
-abbrev pub invariant-loops : goal.invariant-loops
-invariant-loops l = l.count + loops_size (drop l.i l.loops) ≡ loops_size l.face.loops
