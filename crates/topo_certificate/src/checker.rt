@@ -15,8 +15,8 @@ ghost use Rattle.topo_certificate.specs.Legal.{IsLegal, IsFirstBad, IsPartBad, I
 ghost use Rattle.topo_certificate.specs.Matching.{IsOfSame};
 
 use crate::line_checker::{LineChecker, PartLine};
-use cert_state::limit_of;
 use cert_lines::{Illegal, Version, first_ended};
+use cert_state::limit_of;
 use iges_base::{EntryNo, NoMemory};
 use solid_data::Solid;
 use std::alloc::Global;

@@ -1,8 +1,7 @@
 //! A checker of lines that are given whole.
 
-use cert_state::ShellState;
-use cert_state::{limit_of, loop_count};
 use cert_lines::{Illegal, Judged, ShellCounts, Version, Words, judge};
+use cert_state::{ShellState, limit_of, loop_count};
 use edge_uses::rows;
 use iges_base::{EntryNo, NoMemory};
 use solid_data::{ShellAt, Solid};

@@ -5,8 +5,8 @@ ghost use Rattle.cert_lines.specs.Line.{tally, spelling, cut_lines};
 ghost use Rattle.topo_certificate.specs.Upgraded.{starts_with, tally_of_shell, tally_before, with_tallies, joined, upgraded};
 ghost use Rattle.topo_certificate.specs.Upgrades.{IsUpgradeFault};
 
-use cert_state::loop_count;
 use cert_lines::{Version, first_line, head_text, put_head_line, put_tally_line};
+use cert_state::loop_count;
 use cert_text::after_word;
 use edge_uses::rows;
 use iges_base::{Bytes, NoMemory, Out};
