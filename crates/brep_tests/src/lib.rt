@@ -2,15 +2,11 @@
 #![tactic(auto)]
 
 #[cfg(test)]
-mod closing;
-#[cfg(test)]
 mod comparing;
 #[cfg(test)]
 mod edges;
 #[cfg(test)]
 mod links;
-#[cfg(test)]
-mod orientation;
 #[cfg(test)]
 mod reach;
 #[cfg(test)]

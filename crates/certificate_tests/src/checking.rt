@@ -2,11 +2,11 @@ ghost use Rattle.std.specs.Prelude.{◌≤◌, length};
 
 use crate::comparing::same;
 use iges_base::{Bytes, EntryNo, NoMemory};
-use small_solids::{pole_ball, seamed_ball};
+use small_solids::pole_ball;
 use solid_data::Solid;
 use std::alloc::Global;
 use std::test::Fail;
-use topo_certificate::{Checker, Illegal, PartStep, UpgradeFault, Version, check, upgrade};
+use topo_certificate::{Checker, Illegal, PartStep, UpgradeFault, Version, upgrade};
 
 // The checker of a certificate of version 1, and that of a part from line 7 on. Of these calls, as of those below, no
 // clause goes further.
@@ -35,21 +35,6 @@ fn said_at_end(checker: &mut Checker<'_>) -> Result<(), Illegal> {
     checker.finish()
 }
 
-// What a checker of version 2 says of the whole lines of the ball with a seam.
-fn of_seam(alloc: Global, text: &[u8]) -> Result<Result<(), Illegal>, NoMemory> {
-    let solid = seamed_ball(alloc)?;
-    let mut checker = Checker::new(alloc, &solid, Version::Two)?;
-    Ok(check(&mut checker, text))
-}
-
-#[test]
-fn a_ball_with_a_seam_is_checked(rt: HostRuntime) -> Result<(), Fail> {
-    let lines = b"SHELL 1 2 1 2 1\nE 1 2\nC 1\nC 2\nTALLY 2 1 1 1\nEND\n";
-    let told = of_seam(rt.alloc(), lines)?;
-    same(&rt, &told, &Ok(()));
-    Ok(())
-}
-
 // What a checker says of a text that comes in two pieces, of which the first has so many bytes.
 fn of_two_pieces(alloc: Global, text: &[u8], cut: usize) -> Result<Result<(), Illegal>, NoMemory>
     requires { cut ≤ length text.now }
@@ -67,18 +52,6 @@ fn a_text_may_be_cut_anywhere(rt: HostRuntime) -> Result<(), Fail> {
     'cuts: for cut in 0..text.len() {
         same(&rt, &of_two_pieces(rt.alloc(), text, cut)?, &Ok(()));
     }
-    Ok(())
-}
-
-#[test]
-fn a_part_is_judged_line_by_line(rt: HostRuntime) -> Result<(), Fail> {
-    let solid = pole_ball(rt.alloc())?;
-    let mut part = part_of(rt.alloc(), &solid)?;
-    same(&rt, &said(&mut part, b"SHELL 1 0 0 1 1\n"), &Ok(()));
-    same(&rt, &said(&mut part, b"I 1 1\n"), &Ok(()));
-    same(&rt, &said(&mut part, b"TALLY 1 0 1 1\n"), &Ok(()));
-    let missing = Err(Illegal::Missing { line: 10 });
-    same(&rt, &said_at_end(&mut part), &missing);
     Ok(())
 }
 

@@ -25,16 +25,6 @@ fn a_refused_opening_stays_so(rt: HostRuntime) {
     same(&rt, &fault_of(&mut opening, b"IGESCERT 2\nSOLID 5\n"), &bad);
 }
 
-#[test]
-fn an_opening_that_ended_early_stays_refused(rt: HostRuntime) {
-    let mut opening = Opening::new();
-    let bad = Some(Illegal::Missing { line: 2 });
-    same(&rt, &fault_of(&mut opening, b"IGESCERT 2\n"), &None);
-    same(&rt, &fault_at_end(&mut opening), &bad);
-    same(&rt, &fault_of(&mut opening, b"SOLID 5\n"), &bad);
-    same(&rt, &fault_at_end(&mut opening), &bad);
-}
-
 // The solid that the opening names once this piece has come, and how many bytes of the piece it took; no clause goes further.
 fn solid_of(opening: &mut Opening, piece: &[u8]) -> Option<(u32, usize)> {
     match opening.feed(piece) {

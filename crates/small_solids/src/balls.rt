@@ -18,28 +18,6 @@ pub fn seamed_ball(alloc: Global) -> Result<Solid, NoMemory>
     Ok(Solid::new(EntryNo(13), shells, edges, vertices))
 }
 
-/// A face, whose loop runs along its one edge twice.
-pub fn twice_along(alloc: Global) -> Result<Solid, NoMemory>
-    ensures { IfOk result (λ s. length s.shells ≡ 1) }
-{
-    let uses = two_uses(alloc, use_of(true), use_of(true))?;
-    let shells = shell_of(alloc, uses)?;
-    let edges = one(alloc, edge_to(1))?;
-    let vertices = two(alloc, vertex(1), vertex(2))?;
-    Ok(Solid::new(EntryNo(13), shells, edges, vertices))
-}
-
-/// A sheet, whose loop runs along one edge and doesn't return.
-pub fn open_sheet(alloc: Global) -> Result<Solid, NoMemory>
-    ensures { IfOk result (λ s. length s.shells ≡ 1) }
-{
-    let uses = one_use(alloc, use_of(true))?;
-    let shells = shell_of(alloc, uses)?;
-    let edges = one(alloc, edge_to(1))?;
-    let vertices = two(alloc, vertex(1), vertex(2))?;
-    Ok(Solid::new(EntryNo(13), shells, edges, vertices))
-}
-
 /// A ball, whose loop is a pole.
 pub fn pole_ball(alloc: Global) -> Result<Solid, NoMemory>
     ensures { IfOk result (λ s. length s.shells ≡ 1) }

@@ -20,7 +20,7 @@ pub fn one<T: Drop>(alloc: Global, item: T) -> Result<ItemList<T>, NoMemory>
 }
 
 /// The list of two items.
-pub fn two<T: Drop>(alloc: Global, first: T, second: T) -> Result<ItemList<T>, NoMemory>
+pub(crate) fn two<T: Drop>(alloc: Global, first: T, second: T) -> Result<ItemList<T>, NoMemory>
     ensures { IfOk result (λ list. list ≡ first ∷ second ∷ []) }
 {
     let mut list = one(alloc, first)?;
@@ -38,7 +38,7 @@ pub fn one_use(alloc: Global, item: LoopUse) -> Result<Uses, NoMemory>
 }
 
 /// The list of two uses.
-pub fn two_uses(alloc: Global, first: LoopUse, second: LoopUse) -> Result<Uses, NoMemory>
+pub(crate) fn two_uses(alloc: Global, first: LoopUse, second: LoopUse) -> Result<Uses, NoMemory>
     ensures { IfOk result (λ uses. uses ≡ first ∷ second ∷ []) }
 {
     let mut uses = one_use(alloc, first)?;
@@ -46,8 +46,8 @@ pub fn two_uses(alloc: Global, first: LoopUse, second: LoopUse) -> Result<Uses, 
     Ok(uses)
 }
 
-/// A face with one loop.
-pub fn face(alloc: Global, number: u32, flag: bool, uses: Uses) -> Result<FaceUse, NoMemory>
+// A face with one loop.
+fn face(alloc: Global, number: u32, flag: bool, uses: Uses) -> Result<FaceUse, NoMemory>
     ensures { IfOk result
         (λ face. face
         ≡ record { entity = record { 0 = number }; flag = flag; loops = record { entity = record { 0 = 7 }; uses = uses } ∷ [] }) }
@@ -79,27 +79,6 @@ pub fn shell_of(alloc: Global, uses: Uses) -> Result<Shells, NoMemory>
     )
 }
 
-/// One shell with two faces.
-pub fn shell_of_two(alloc: Global, first: FaceUse, second: FaceUse) -> Result<Shells, NoMemory>
-    ensures { IfOk result
-        (λ shells. shells ≡ record {
-          entity = record { 0 = 11 };
-          flag = true;
-          faces = first ∷ second
-              ∷ [];
-        } ∷ []) }
-{
-    let faces = two(alloc, first, second)?;
-    one(
-        alloc,
-        Shell {
-            entity: EntryNo(11),
-            flag: true,
-            faces,
-        },
-    )
-}
-
 /// The vertex of an index of the list 3.
 pub fn vertex(index: u32) -> VertexKey
     ensures { result ≡ vertex_key index }
@@ -111,7 +90,7 @@ pub fn vertex(index: u32) -> VertexKey
 }
 
 /// A use of the solid's first edge.
-pub fn use_of(along: bool) -> LoopUse
+pub(crate) fn use_of(along: bool) -> LoopUse
     ensures { result ≡ EdgeUse (record { 0 = 0 }) along }
 {
     LoopUse::EdgeUse {
@@ -121,7 +100,7 @@ pub fn use_of(along: bool) -> LoopUse
 }
 
 /// The edge from a solid's first vertex to another one, or back to the first.
-pub fn edge_to(to: u32) -> Edge
+pub(crate) fn edge_to(to: u32) -> Edge
     ensures { result
         ≡ record { key = record { «list» = record { 0 = 5 }; index = 1 }; from = record { 0 = 0 }; to = record { 0 = to } } }
 {
