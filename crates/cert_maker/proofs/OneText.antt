@@ -14,8 +14,8 @@ use Rattle.edge_uses.specs.ShellRows.{ShellRows, shell_rows}
 use Rattle.edge_uses.specs.RowRelations.{IsPaired, Turns, point_count}
 use Rattle.edge_uses.specs.Mates.{ArePaired, RunsOn}
 use Rattle.edge_uses.proofs.Turn.{one_of_edge, pair_counts, paired_rows, turns_to_one}
-use Rattle.vertex_link.specs.Cycles.{IsCycle, IsCycleOf}
-use Rattle.shell_reach.specs.Reaching.{row_numbers}
+use Rattle.vertex_link.specs.Corners.{IsCycle, IsCycleOf, LiesAt}
+use Rattle.shell_flood.specs.Reaching.{row_numbers}
 use Rattle.shell_reach.proofs.OneOrder.{one_order}
 use Rattle.topo_certificate.specs.Stand.{loops_of}
 use Rattle.cert_lines.specs.Written.{certificate_lines, text_of}
@@ -26,7 +26,6 @@ use Rattle.solid_data.specs.declared.linked.Corner.{Corner}
 use Rattle.solid_data.specs.declared.linked.Corner.TheVariants.{Cycle, Point}
 use Rattle.cert_lines.specs.declared.parts.ShellPart.{ShellPart}
 use Rattle.cert_accept.specs.Accepted.{IsAccepted}
-use Rattle.vertex_link.specs.Corners.{LiesAt}
 use Rattle.cert_maker.specs.Parts.{AreItsRows, IsPart}
 use Rattle.cert_maker.specs.Certified.{IsCertificate}
 use Rattle.cert_maker.specs.Laws.{CertificateTextIsAccepted, OneCertificateText}

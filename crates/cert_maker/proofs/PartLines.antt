@@ -15,8 +15,8 @@ use Rattle.solid_data.proofs.Members.{Has, Has-from_Contains, Contains-from_Has,
 use Rattle.edge_uses.specs.ShellRows.{ShellRows, rows_of}
 use Rattle.edge_uses.specs.RowRelations.{AreMates, StartsAt}
 use Rattle.edge_uses.specs.Mates.{RunsOn}
-use Rattle.vertex_link.specs.Cycles.{IsCycle}
-use Rattle.shell_reach.specs.Reaching.{ReachFrom, ReachesOne, row_numbers}
+use Rattle.vertex_link.specs.Corners.{IsCycle, LiesAt}
+use Rattle.shell_flood.specs.Reaching.{ReachFrom, ReachesOne, row_numbers}
 use Rattle.cert_lines.specs.Line.{CertLine, tally, shell, edge, corner, point, reach, end, spelling, IsShort, HasSpelling}
 use Rattle.cert_lines.specs.declared.counts.ShellCounts.{ShellCounts}
 use Rattle.cert_lines.specs.declared.counts.Tally.{Tally}
@@ -36,7 +36,6 @@ use Rattle.topo_certificate.proofs.Short.{row_short, starts_few}
 use Rattle.topo_certificate.proofs.Build.{Stage, add_edge, add_corner, add_point, add_reach, nothing_due, tally_fits, none_after_tally, MatedAt, mates_listed}
 use Rattle.topo_certificate.proofs.Build.{PointsDiffer, zip_suc, map-suc-append, above_suc, find_some, none_start}
 use Rattle.topo_certificate.proofs.Complete.{AreReady, Done, counts_of, tally_of, begin_shell, any_above, end_fits, ended}
-use Rattle.vertex_link.specs.Corners.{LiesAt}
 use Rattle.cert_maker.specs.Parts.{AreItsRows, IsPart, AreParts}
 
 -- Behind the lines before, the latest first: each line is spelled and fits, and the last is END.
