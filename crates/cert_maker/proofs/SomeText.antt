@@ -27,9 +27,8 @@ use Rattle.edge_uses.proofs.RowLemmas.{ends_meet}
 use Rattle.edge_uses.proofs.RowNumbers.{starting, length-starting, starting_has, starting_none, starting_is}
 use Rattle.edge_uses.proofs.Turn.{row_of_edge_along, row_of_edge_against, turning}
 use Rattle.edge_uses.proofs.Whole.{are_rows}
-use Rattle.vertex_link.specs.Cycles.{IsCycle, IsCycleOf}
-use Rattle.shell_reach.specs.Reaching.{row_numbers, ReachesAll}
-use Rattle.shell_reach.specs.BreadthFirst.{IsBreadthFirst}
+use Rattle.vertex_link.specs.Corners.{IsCycle, IsCycleOf, LiesAt}
+use Rattle.shell_flood.specs.Reaching.{row_numbers, ReachesAll, IsBreadthFirst}
 use Rattle.shell_reach.proofs.SomeOrder.{some_order}
 use Rattle.cert_lines.specs.Written.{certificate_lines, text_of}
 use Rattle.cert_lines.specs.declared.parts.Certificate.{Certificate}

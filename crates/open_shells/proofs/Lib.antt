@@ -1,5 +1,4 @@
 pub mod OnceMates
-pub mod Floods
 pub mod FanWalks
 pub mod HeadRows
 pub mod Placed

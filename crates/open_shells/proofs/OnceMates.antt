@@ -20,7 +20,9 @@ use Rattle.edge_uses.proofs.Counting.{counts_of_edge}
 use Rattle.edge_uses.proofs.FirstOf.{LeftIn}
 use Rattle.edge_uses.proofs.Turn.{edge_id, row_of_edge_along, row_of_edge_against}
 use Rattle.open_certificate.specs.Sound.{IsOnce, IsBorder, row_total}
+use Rattle.shell_flood.specs.OneMate.{HaveOneMate}
 use Rattle.open_shells.specs.Mating.{IsMateOf, AreOnce}
+use Rattle.open_certificate.proofs.Fans.{one_mate_of}
 use Rattle.open_certificate.proofs.Once.{OnceRows, total_uses}
 
 -- What is shown of those left is shown of all, one more.
@@ -110,6 +112,9 @@ pub row_once : (d : ShellRows) → AreOnce d → OnceRows d
 row_once d whole n a at =
     let has : Contains d.edges a.edge.0 = All-at (λ (r : Row). Contains d.edges r.edge.0) d.rows whole.rows.edges_hold a (has_get d.rows n a at) in
     All-at (IsOnce d) d.edges whole.once a.edge.0 (Has-from_Contains d.edges a.edge.0 has)
+
+pub once_one : (d : ShellRows) → AreOnce d → HaveOneMate d
+once_one d whole = record { rows = whole.rows; one = one_mate_of d (row_once d whole) }
 
 pub mate_pushed : (d : ShellRows) (i : ℕ) (old new : List (Option RowId)) (mate : Option RowId) → length old ≡ i → IsMateOf d i mate → new ≡ old ++ mate ∷ []
     → ((r : ℕ) (o : Option RowId) → slice_get old r ≡ Some o → IsMateOf d r o) → (r : ℕ) (o : Option RowId) → slice_get new r ≡ Some o → IsMateOf d r o

@@ -1,9 +1,6 @@
 pub mod Certified
 pub mod Mating
 pub mod EdgeFaults
-pub mod ReachFaults
-pub mod Reaching
-pub mod Flood
 pub mod FanParts
 pub mod BorderParts
 pub mod Listed

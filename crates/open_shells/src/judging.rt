@@ -9,16 +9,16 @@ ghost use Rattle.open_certificate.specs.Sound.{IsFanned};
 ghost use Rattle.open_certificate.specs.Obligations.{AllHold, FirstFalse, as_open, edge_obligation, fan_obligation};
 ghost use Rattle.open_shells.specs.Mating.{AreRowsOf};
 ghost use Rattle.open_shells.specs.FanParts.{LiesAt};
-ghost use Rattle.open_shells.specs.Reaching.{ReachesAll, row_numbers};
+ghost use Rattle.shell_flood.specs.Reaching.{ReachesAll, row_numbers};
 ghost use Rattle.open_shells.specs.Certified.{IsOpenFault};
 
 use crate::fanning::{FanFault, fans};
 use crate::fault::OpenFault;
 use crate::mated::{EdgeFault, Mated, with_mates};
 use crate::naming::{not_fanned, not_once, unjoined, unreached};
-use crate::reaching::{ReachFault, reach};
 use edge_uses::{Rows, first_unjoined};
 use open_certificate::{OpenCorners, OpenEdges, OpenFailing, OpenRule};
+use shell_flood::{ReachFault, reach_faces};
 use solid_data::{RowList, Shell, ShellAt, Solid};
 use std::alloc::Global;
 
@@ -67,7 +67,7 @@ pub(crate) fn reached(alloc: Global, shell: &Shell, mated: &Mated<'_>) -> Result
     ensures fails { IfErr result (IsOpenFault
         (map (as_open OpenRule.Reach) (reach_obligations shell.now mated.now))) }
 {
-    match reach(alloc, mated) {
+    match reach_faces(alloc, mated) {
         Ok(rows) => Ok(rows),
         Err(ReachFault::Unreached(face)) => Err(OpenFault::Fails(unreached(shell, face))),
         Err(ReachFault::NoMemory) => Err(OpenFault::NoMemory),

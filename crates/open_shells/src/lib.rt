@@ -8,7 +8,6 @@
 mod bordering;
 mod fanning;
 mod fault;
-mod flood;
 mod heads;
 mod judging;
 mod law;
@@ -16,7 +15,6 @@ mod making;
 mod mated;
 mod mating;
 mod naming;
-mod reaching;
 
 pub use fault::OpenFault;
 pub use law::sound_exactly_where_accepted;

@@ -4,6 +4,7 @@ use crate::mating::{first_not_once, open_edges, open_mates};
 use edge_uses::{Rows, tally_of};
 use iges_base::NoMemory;
 use open_certificate::OpenEdges;
+use shell_flood::Mates;
 use solid_data::{EdgeId, RowId};
 use std::alloc::Global;
 use std::marker::Model;
@@ -86,6 +87,21 @@ impl<'a> Mated<'a> {
     {
         match self.mate(r) {
             Some(mate) => Some(self.rows.follows(RowId(mate)).unwrap().0),
+            None => None,
+        }
+    }
+}
+
+impl<'a> Mates for Mated<'a> {
+    ghost shell = { λ m. m };
+
+    fn table(&self) -> &Rows {
+        self.rows()
+    }
+
+    fn mate_of(&self, r: RowId) -> Option<RowId> {
+        match self.mate(r.0) {
+            Some(mate) => Some(RowId(mate)),
             None => None,
         }
     }

@@ -14,13 +14,12 @@ use Rattle.edge_uses.specs.RowRelations.{AreMates, OnFace}
 use Rattle.edge_uses.specs.Around.{IsReached}
 use Rattle.edge_uses.specs.Mates.{ArePaired, HaveMates}
 use Rattle.edge_uses.proofs.Turn.{has_mate, paired_rows}
-use Rattle.shell_reach.specs.Reaching.{ReachesAll}
-use Rattle.shell_reach.specs.BreadthFirst.{face_of, across, on_new_faces, IsBreadthFirst}
+use Rattle.shell_flood.specs.Reaching.{ReachesAll, face_of, across, on_new_faces, IsBreadthFirst}
 use Rattle.shell_reach.specs.Laws.{SomeReachOrder}
-use Rattle.shell_reach.specs.Flood.{IsFlood, IsDone, Grows, HasCrossed, across_all, across_place}
-use Rattle.shell_reach.proofs.Crossings.{face_is, on_its_face, some_mates, crosses_old, crosses_new, across_past, across_there, place_more}
-use Rattle.shell_reach.proofs.Floods.{grows_none, grows_more, still_has, crossed_before, crossed_now, flood_more, flood_first, order_few, each_done, place_done}
-use Rattle.shell_reach.proofs.Floods.{place_is, flood_reaches}
+use Rattle.shell_flood.specs.Flood.{IsFlood, IsDone, Grows, HasCrossed, across_all, across_place}
+use Rattle.shell_flood.proofs.Crossings.{face_is, on_its_face, some_mates, crosses_old, crosses_new, across_past, across_there, place_more}
+use Rattle.shell_flood.proofs.Floods.{paired_one, grows_none, grows_more, still_has, crossed_before, crossed_now, flood_more, flood_first, order_few, each_done, place_done}
+use Rattle.shell_flood.proofs.Floods.{place_is, flood_reaches}
 
 -- these rows were crossed, and the faces that are listed are reached
 record Flooded (d : ShellRows) (crossed order : List ℕ) : Type 0 where
@@ -56,7 +55,7 @@ cross_row d mates have crossed order face r known on s = by_mark (get_or s.marks
         kept = crosses_old d s.marks order s.rows r pair.0 other s.flood pair.1 there e mates crossed
             have s.kept;
       },
-      crossed_before d s.marks order s.rows r pair.0 other have.whole s.flood pair.1 there e,
+      crossed_before d s.marks order s.rows r pair.0 other (paired_one d have.whole) s.flood pair.1 there e,
     )
     by_mark false e = (
       order ++ other ∷ [],
@@ -64,11 +63,11 @@ cross_row d mates have crossed order face r known on s = by_mark (get_or s.marks
       record {
         marks = slice_set s.marks other true;
         rows = s.rows ++ pair.0 ∷ [];
-        flood = flood_more d s.marks order s.rows face r pair.0 other have.whole s.flood known on pair.1 there e;
+        flood = flood_more d s.marks order s.rows face r pair.0 other (paired_one d have.whole) s.flood known on pair.1 there e;
         kept = crosses_new d s.marks order (order ++ other ∷ []) s.rows (s.rows ++ pair.0 ∷ []) r pair.0 other s.flood pair.1 there e refl refl mates crossed
             have s.kept;
       },
-      crossed_now d order r pair.0 other have.whole pair.1 there,
+      crossed_now d order r pair.0 other (paired_one d have.whole) pair.1 there,
     )
 
 -- and so are these of one face

@@ -4,11 +4,9 @@
 //! face is a neighbour of another where a row of the one has its mate on the other.
 #![tactic(auto)]
 
-mod fault;
-mod flood;
 mod law;
 mod reaching;
 
-pub use fault::ReachFault;
 pub use law::{one_reach_order, some_reach_order};
 pub use reaching::{ReachList, reach};
+pub use shell_flood::ReachFault;

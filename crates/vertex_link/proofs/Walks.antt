@@ -8,7 +8,7 @@ use Rattle.std.proofs.lemmas.Option.{same_Some}
 use Rattle.solid_data.specs.Obligations.{FirstNot}
 use Rattle.edge_uses.proofs.FirstOf.{LeftIn}
 use Rattle.solid_data.specs.declared.linked.Corner.{Corner}
-use Rattle.vertex_link.specs.Corners.{LiesAt, AreLinks}
+use Rattle.vertex_link.specs.Corners.{LiesAt, AreLinks, IsCycle, IsCycleOf}
 use Rattle.edge_uses.specs.declared.row.Row.{Row}
 use Rattle.edge_uses.specs.ShellRows.{ShellRows}
 use Rattle.edge_uses.specs.RowRelations.{StartsAt, Turns, point_count}
@@ -23,7 +23,6 @@ use Rattle.edge_uses.proofs.Turn.{turning}
 use Rattle.edge_uses.proofs.RowNumbers.{starting, length-starting, starting_has, starting_none, starting_is}
 use Rattle.shell_tables.specs.declared.starting.Starts.{Starts}
 use Rattle.shell_tables.specs.declared.starting.Points.{Points}
-use Rattle.vertex_link.specs.Cycles.{IsCycle, IsCycleOf}
 use Rattle.shell_tables.specs.Starting.{AreStarts, ArePoints}
 
 abbrev rows_at : ShellRows → ℕ → List ℕ

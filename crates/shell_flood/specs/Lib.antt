@@ -1,0 +1,4 @@
+pub mod Reaching
+pub mod Faults
+pub mod OneMate
+pub mod Flood
