@@ -18,4 +18,4 @@ def checks(context):
     lines = [line for done in runs for line in done.stdout.splitlines()]
     for line in lines:
         yield f"costs: {line}", line.startswith("ok: ")
-    yield f"costs: the shapes are there: {runs[0].stderr}{runs[1].stderr}", len(lines) >= 28 and not any(done.returncode for done in runs)
+    yield f"costs: the shapes are there: {runs[0].stderr}{runs[1].stderr}", len(lines) >= 36 and not any(done.returncode for done in runs)
