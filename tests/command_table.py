@@ -108,11 +108,12 @@ def helps(copy):
 
 
 def tests(commands):
-    """The table of the tests of hostile inputs has each command of the program igesolid."""
-    for form in forms():
+    """The table of the tests of hostile inputs has each command of igesolid and of igesolid-repair."""
+    listed = forms() + forms("igesolid-repair")
+    for form in listed:
         yield f"tests/commands.py: {form}", form in commands
     for form in commands:
-        yield f"commands.tsv: {form}", form in forms()
+        yield f"commands.tsv: {form}", form in listed
 
 
 def shipped(copy):

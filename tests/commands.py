@@ -1,4 +1,4 @@
-"""The commands of the program, as a table, and small inputs for each: what the tables of hostile inputs go through.
+"""The commands of `igesolid` and `igesolid-repair`, as a table, and small inputs for each: what the tables of hostile inputs go through.
 
 A further command is a further line of COMMANDS, and where it takes a new kind of certificate, of KINDS.
 """
@@ -33,7 +33,12 @@ COMMANDS = (
     Command("orient FILE N"),
     Command("orient-verify FILE CERT", ("orientation",)),
     Command("compact FILE N"),
+    Command("relayout FILE"),
+    Command("layout FILE"),
+    Command("reorient FILE N"),
 )
+# The commands that take the lines of a file as they are, and have words of their own for what is wrong there.
+OF_LINES = "relayout", "layout"
 # The form that writes a certificate of a kind, and what is made of its text.
 KINDS = {
     "version 1": ("certify FILE N", as_version_1),

@@ -1,7 +1,8 @@
 """Files and certificates that are cut at each byte or changed in one place, for every command."""
 import pathlib
 
-from commands import SMALL, TOP, Runs, Small
+from commands import OF_LINES, SMALL, TOP, Runs, Small
+from second_checker import layout
 
 CUBE = Small("cube", 1, 3, 8)
 LINE = 81
@@ -43,6 +44,13 @@ def with_cuts(path, is_wanted=lambda length: True):
     path.write_bytes(text)
 
 
+def of_cut(command, text, whole, full):
+    """The status and text that a command owes for a cut file; `full` are those for the whole one."""
+    if command in OF_LINES:
+        return layout.answer(command, text)
+    return of_cut_file(len(text), whole) or full
+
+
 def cut_files(is_wanted):
     """The table of the cube's file cut to these lengths, for `solids`, and of the point's, for each other command that reads one."""
 
@@ -55,7 +63,7 @@ def cut_files(is_wanted):
                     continue
                 full = runner.run(run.words)
                 for text, whole in with_cuts(run.file, is_wanted):
-                    wanted = of_cut_file(len(text), whole) or full[:2]
+                    wanted = of_cut(run.words[0], text, whole, full[:2])
                     yield f"{run.name}, the file cut to {len(text)} bytes", runner.run(run.words) == (*wanted, b"")
 
     return table
@@ -96,7 +104,7 @@ def failing(command, run, of_solid, of_shell, refused):
     word = run.words[0]
     if word in ("extract", "compact") and refused:
         return 7, b"no extract %s\n" % refused.encode()
-    if word in ("solids", "extract", "sample") or rule is None:
+    if word in ("solids", "extract", "sample", *OF_LINES) or rule is None:
         return (NO, b"line 2 unfit\n") if run.certificate else (0, None)
     part = b"solid 1\n" if run.kind == "version 3" or run.words[-1] == "all" else b""
     return NO, part + b"fail %s\n" % rule.encode()

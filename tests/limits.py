@@ -103,6 +103,8 @@ def open_files(runner, folder, forms):
 
 def file_limit(runner, folder, forms):
     """A file of the most bytes and one of a byte more: good, with empty lines behind its last line, or a space; and bad."""
+    if "solids FILE" not in forms:
+        return
     shell, path = Runner("/bin/sh"), Runs(runner, folder, forms).file(SMALL[0])
     count = FILE_LIMIT - path.stat().st_size
     good = f'{{ cat "{path}"; head -c %d /dev/zero | tr "\\0" "%s"; }} | exec "$0" solids /dev/stdin'

@@ -39,6 +39,10 @@ class Context:
         """igesolid, run on files."""
         return Runner(self.programs.igesolid)
 
+    def repair_runner(self):
+        """igesolid-repair, likewise."""
+        return Runner(self.programs.repair)
+
     def program(self):
         """igesolid, run on texts."""
         return Program(self.programs.igesolid, self.new_folder())

@@ -41,7 +41,7 @@ import trusted
 import web_tests
 import where
 from part import BY_NAME, LARGE, Part
-from programs import FORMS, TOP
+from programs import FORMS, REPAIR_FORMS, TOP
 
 
 def of_program(*functions):
@@ -54,14 +54,24 @@ def of_shells(module):
     return lambda context: module.checks(context.program(), examples.named())
 
 
+def both(context):
+    """igesolid and igesolid-repair, each with the forms of its commands."""
+    yield context.runner(), FORMS
+    yield context.repair_runner(), REPAIR_FORMS
+
+
 def of_tables(*tables):
-    """Checks of every command on inputs that a table makes."""
-    return lambda context: (check for table in tables for check in table(context.runner(), context.new_folder(), FORMS))
+    """Checks of every command of both programs on inputs that a table makes."""
+    return lambda context: (
+        check for table in tables for runner, forms in both(context) for check in table(runner, context.new_folder(), forms)
+    )
 
 
 def of_rights(checks):
     """The same, where a command or a right may be missing."""
-    return lambda context: checks(context.runner(), context.new_folder, FORMS, context.skipped)
+    return lambda context: (
+        check for runner, forms in both(context) for check in checks(runner, context.new_folder, forms, context.skipped)
+    )
 
 
 def of_both(checks):

@@ -15,6 +15,7 @@ from spawned import Runner
 TOP = pathlib.Path(__file__).resolve().parent.parent
 DIST = TOP / "dist"
 FORMS = command_table.forms()
+REPAIR_FORMS = command_table.forms("igesolid-repair")
 USAGE = command_table.usage()
 NONE_FITS = (
     "no programs of these sources: those built here are missing or older than a source, and dist/ holds those of other sources; build"

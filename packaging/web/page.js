@@ -112,7 +112,7 @@ function showPicture(parts) {
 class Row {
   constructor(file, box, words, facts) {
     const [, number, verdict, rule, entity, place] = words;
-    Object.assign(this, { file, box, number, isClosed: verdict === "closed" });
+    Object.assign(this, { file, box, number, isClosed: verdict === "closed", isUnpaired: rule === "PAIR" });
     this.out = made("pre", { hidden: true });
     const said = this.isClosed ? made("td", { className: "good", textContent: "closed" })
       : made("td", { className: "bad" }, made("span", { textContent: `fails ${rule}` }),
@@ -129,6 +129,7 @@ class Row {
     add("Picture", () => this.draw());
     if (this.isClosed) add("Certificate", () => this.download("certify", "cert"));
     add("Extract", () => this.download("extract", "igs"));
+    if (this.isUnpaired) add("Reorient", () => this.download("reorient", "reoriented.igs"));
     return cell;
   }
 
@@ -184,6 +185,12 @@ async function mend(file, box) {
   else box.append(made("pre", { className: "bad", textContent: reason(got) }));
 }
 
+/** Says what the layout of the fixed form changes in the file, or why there is none. */
+async function tellLayout(file, box) {
+  const got = await asked({ file: file.key, words: ["layout", "-"] });
+  box.append(made("pre", { textContent: !got.fault && got.status <= 1 ? shown(got.text) : reason(got) }));
+}
+
 /** Reads and judges a file, and shows it above the others. */
 async function judge(given) {
   const file = { name: given.name, stem: given.name.replace(/\.[^.]*$/, ""), key: `${++last} ${given.name}` };
@@ -204,7 +211,10 @@ async function judge(given) {
   } else {
     box.append(made("p", { className: "note bad", textContent: got.fault ?? REFUSED[got.status] ?? "" }));
     box.append(made("pre", { textContent: got.text ? shown(got.text) : "" }));
-    if (got.status === 3) box.append(made("p", { className: "note" }, button("Mend", box, "mending the layout of the lines", () => mend(file, box))));
+    if (got.status === 3) {
+      box.append(made("p", { className: "note" }, button("Mend", box, "mending the layout of the lines", () => mend(file, box)),
+        button("Layout", box, "comparing the layout of the lines", () => tellLayout(file, box))));
+    }
   }
   box.dataset.done = isJudged ? "yes" : "no";
 }

@@ -51,10 +51,12 @@ function ask(call, words, slices) {
   }
 }
 
+const OF_REPAIR = ["relayout", "layout", "reorient"];
+
 /** What a command answers: its words are the program's, with - in the place of the file's name. */
 function answer(words, file, certificate) {
   if (words[0] === "where") return ask("igesolid_where", words.slice(1), [file]);
-  if (words[0] === "relayout" || words[0] === "layout") return ask("igesolid_repair", words, [file]);
+  if (OF_REPAIR.includes(words[0])) return ask("igesolid_repair", words, [file]);
   return ask("igesolid_run", words, [file, certificate]);
 }
 

@@ -1,4 +1,4 @@
--- A solid with flags that suit it in place of its faces' is paired and reached.
+-- A solid with other flags in place of its faces' is paired and reached.
 use Rattle.std.specs.Prelude.{◌≡◌, ℕ, suc, ◌+◌, ◌≤◌, ◌==◌, ◌&&◌, Bool, true, false, not, List, [], ◌∷◌, ◌++◌, length, map, flat_map, filter_map, slice_get}
 use Rattle.std.specs.Prelude.{Option, Some, option_map, count_by}
 use Rattle.std.specs.List.{AllByRecursion, AllZip, enumerate_from, cons_option}
@@ -24,7 +24,7 @@ use Rattle.edge_uses.specs.Around as around
 use Rattle.edge_uses.specs.ShellRows.{ShellRows, row_of, loop_rows, shell_rows, rows_of}
 use Rattle.edge_uses.proofs.Counting.{counted, counts_of_edge, found_row}
 use Rattle.orient_certificate.specs.Partners.{HasTwoRows, AllHaveTwoRows, Adjoin, IsReached, AllReached}
-use Rattle.orient_certificate.specs.Flags.{PartnersDiffer, face_flags, faces_with, shell_with}
+use Rattle.orient_certificate.specs.Flags.{PartnersDiffer, face_flags, faces_with, rows_at, shell_with}
 use Rattle.orient_certificate.specs.OddRing.{bare_shell}
 use Rattle.orient_certificate.proofs.Bare.{Told, Alike, walks, told_rows, bare_with, zip_get, partners_alike, two_rows_alike}
 use Rattle.orient_certificate.proofs.Crossed.{steps_map}
@@ -190,9 +190,9 @@ module _ (c d : ShellRows) (alike : AllZip Alike c.rows d.rows) (differ : Partne
   reached_face : (face : ℕ) → IsReached c face → around.IsReached d face
   reached_face face (n, steps) = (n, steps_map (Adjoin c) (AreNeighbours d) neighbours n 0 face steps)
 
--- A shell with flags that suit it, in a solid with such flags.
+-- A shell with flags under which the two uses of each edge run in opposite directions, in a solid with such flags.
 module _ (s : SolidData) (all : List (List Bool)) (k : ℕ) (h : Shell) (flags : List Bool) (at : slice_get s.shells k ≡ Some h)
-    (suit : FlagsSuit s k flags) where
+    (two : AllHaveTwoRows (rows_at s k)) (reached : AllReached (rows_at s k)) (orients : FlagsOrient s k flags) where
   abbrev with_flags : Shell
   with_flags = shell_with flags h
 
@@ -201,9 +201,6 @@ module _ (s : SolidData) (all : List (List Bool)) (k : ℕ) (h : Shell) (flags :
 
   abbrev new : ShellRows
   new = shell_rows (turned all s) with_flags
-
-  orients : FlagsOrient s k flags
-  orients = suit_orients s k flags suit
 
   long : length flags ≡ length h.faces
   long = orients.each ∙ ap (λ (o : Option Shell). length (face_flags o)) at ∙ length-map h.faces (λ (f : FaceUse). f.flag)
@@ -230,10 +227,10 @@ module _ (s : SolidData) (all : List (List Bool)) (k : ℕ) (h : Shell) (flags :
       (subst (λ (rs : List Row). slice_get rs r ≡ Some a) e at_r) (subst (λ (rs : List Row). slice_get rs m ≡ Some b) e at_m)
 
   old_two : AllHaveTwoRows old
-  old_two = subst (λ (o : Option Shell). AllHaveTwoRows (rows_of s o)) at suit.counted
+  old_two = subst (λ (o : Option Shell). AllHaveTwoRows (rows_of s o)) at two
 
   old_reached : AllReached old
-  old_reached = subst (λ (o : Option Shell). AllReached (rows_of s o)) at suit.reached
+  old_reached = subst (λ (o : Option Shell). AllReached (rows_of s o)) at reached
 
   pub new_paired : AllByRecursion (IsPaired new) new.edges
   new_paired =
@@ -248,4 +245,6 @@ module _ (s : SolidData) (all : List (List Bool)) (k : ℕ) (h : Shell) (flags :
       (λ face reached. reached_face old new rows_alike new_differ face reached) old_reached)
 
 pub suited_sewn : SuitedIsSewn
-suited_sewn s all k h flags at suit = (new_paired s all k h flags at suit, new_reached s all k h flags at suit)
+suited_sewn s all k h flags at suit =
+    let orients = suit_orients s k flags suit in
+    (new_paired s all k h flags at suit.counted suit.reached orients, new_reached s all k h flags at suit.counted suit.reached orients)

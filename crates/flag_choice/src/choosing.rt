@@ -92,7 +92,7 @@ fn chosen(alloc: Global, faces: &[FaceUse], kept: FlagList) -> Result<FlagList, 
 }
 
 /// Of a list that fits a shell, in which the first face keeps its flag, and the reverse of this list the one that is
-/// chosen (own).
+/// chosen.
 pub(crate) fn chosen_for(
     alloc: Global,
     solid: &Solid,

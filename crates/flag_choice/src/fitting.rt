@@ -10,7 +10,7 @@ use orient_certificate::{FlagList, OrientFault, Orientation};
 use solid_data::{ShellAt, Solid};
 use std::alloc::Global;
 
-/// Flags for the faces of each shell of a solid, in the order of the solid's record (own).
+/// Flags for the faces of each shell of a solid, in the order of the solid's record.
 pub type FlagLists = ItemList<FlagList>;
 
 // Flags that suit a shell; None where no flags do.
@@ -31,7 +31,7 @@ fn shell_flags(alloc: Global, solid: &Solid, at: ShellAt) -> Result<Option<FlagL
 }
 
 /// Flags for each shell under which each edge is used in opposite directions, of the two lists that fit the one that is
-/// chosen; None where some shell has none (own).
+/// chosen; None where some shell has none.
 pub fn fitting_flags(alloc: Global, solid: &Solid) -> Result<Option<FlagLists>, NoMemory>
     ensures found { IfOk result (λ o. IfSome o (AllSuit solid.now)) }
     ensures none { IfOk result

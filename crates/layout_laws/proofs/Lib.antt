@@ -4,7 +4,9 @@ pub mod Parts
 pub mod Rows
 pub mod Steps
 pub mod PieceBytes
+pub mod RowUnchanged
 pub mod Making
 pub mod Reading
 pub mod GoodFile
 pub mod SameLines
+pub mod Unchanged

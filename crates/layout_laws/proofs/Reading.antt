@@ -12,6 +12,8 @@ use Rattle.iges_lines.specs.declared.fault.LineFault.{LineFault}
 use Rattle.iges_base.proofs.Answers.{clash}
 use Rattle.iges_lines.proofs.Exact.{IsSectioned-read_sections, IsLineFault-read_sections}
 use Rattle.iges_write.proofs.Columns.{IsLine, lines-text}
+use Rattle.line_layout.specs.declared.change.Change.{Change}
+use Rattle.line_layout.specs.Changes.{changed_from, changed_lines, cuts}
 use Rattle.line_layout.specs.Counts.{no_lines}
 use Rattle.line_layout.specs.Relaid.{pieces, end_byte, laid, relaid}
 use Rattle.line_layout.proofs.Looping.{none_few}
@@ -69,17 +71,28 @@ module _ (bytes out : List ℕ) (e : relaid bytes ≡ Ok out) where
   pub passes_lines : (fault : LineFault) → ¬ IsLineFault out fault
   passes_lines fault h = clash fault made_all.sections (sym (IsLineFault-read_sections out fault h) ∙ IsSectioned-read_sections out made_all.sections sectioned)
 
+  has_end : (ls : Lines) (last : List ℕ) → end_byte (flat_map ended (ls ++ last ∷ [])) ≡ 10
+  has_end [] last = text_has_end last []
+  has_end (l ∷ ls) last = text_has_end l (ls ++ last ∷ [])
+
   rows_again : (rows : Lines) (last : List ℕ) → out ≡ flat_map ended (rows ++ last ∷ []) → list_all is_in_line (rows ++ last ∷ []) ≡ true
       → pieces_of out ≡ rows ++ last ∷ []
   rows_again rows last is h =
-      ap (λ (b : ℕ). pieces b out) (ap end_byte is ∙ has_end rows) ∙ ap (pieces 10) is ∙ pieces_text (rows ++ last ∷ []) h
-    where
-      has_end : (ls : Lines) → end_byte (flat_map ended (ls ++ last ∷ [])) ≡ 10
-      has_end [] = text_has_end last []
-      has_end (l ∷ ls) = text_has_end l (ls ++ last ∷ [])
+      ap (λ (b : ℕ). pieces b out) (ap end_byte is ∙ has_end rows last) ∙ ap (pieces 10) is ∙ pieces_text (rows ++ last ∷ []) h
 
   pub same_again : relaid out ≡ Ok out
   unfolding relaid
   same_again =
       let m = made_all in
       ap (λ (ps : Lines). laid ps 1 no_lines) (rows_again m.rows m.last m.text_is (in_line_all (m.rows ++ m.last ∷ []) m.are_lines)) ∙ m.again 1
+
+  none_changed : (k : Change) → changed_lines k out ≡ []
+  unfolding changed_lines
+  none_changed k =
+      let m = made_all in
+      ap (λ (b : ℕ). changed_from k (cuts b out) 1 no_lines) (ap end_byte m.text_is ∙ has_end m.rows m.last)
+      ∙ ap (λ (text : List ℕ). changed_from k (cuts 10 text) 1 no_lines) m.text_is
+      ∙ m.unchanged k 1
+
+pub stays_unchanged : (bytes out : List ℕ) → relaid bytes ≡ Ok out → out ≡ bytes → (k : Change) → changed_lines k bytes ≡ []
+stays_unchanged bytes out e is k = ap (changed_lines k) (sym is) ∙ none_changed bytes out e k

@@ -3,4 +3,7 @@
 
 mod law;
 
-pub use law::{good_file_stays, made_file_is_read, made_file_stays, shifted_line_is_refused};
+pub use law::{
+    good_file_stays, made_file_is_read, made_file_stays, shifted_line_is_refused,
+    unchanged_file_stays,
+};

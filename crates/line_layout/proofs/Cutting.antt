@@ -1,16 +1,16 @@
 -- The first piece of some bytes.
-use Rattle.std.proofs.Common.{◌≡◌, inl, inr, ℕ, ◌-◌, ◌<◌, ◌≤◌, Bool, true, false, not, List, [], ◌∷◌, ◌++◌, length, get_or, take, drop, refl, sym, ap, ◌∙◌}
+use Rattle.std.proofs.Common.{◌≡◌, inl, inr, ℕ, zero, suc, ◌-◌, ◌<◌, ◌≤◌, Bool, true, false, not, List, [], ◌∷◌, ◌++◌, length, get_or, take, drop, refl, sym, ap, ◌∙◌}
 use Rattle.std.proofs.Common.{arith, length-append}
 use Rattle.std.specs.Prelude.{◌==◌, ◌&&◌, nat_lt}
-use Rattle.std.specs.List.{list_all, prefix_len}
+use Rattle.std.specs.List.{list_all, list_any, prefix_len}
 use Rattle.std.proofs.lemmas.Bool.{cases_Bool, cond-true, cond-false, and_parts, not-true, not_from_true, not_from_false, eq-eqb, eqb-true, lt-ltb, and_right}
-use Rattle.std.proofs.lemmas.Bool.{false_from_ne_true, ltb-true}
+use Rattle.std.proofs.lemmas.Bool.{false_from_ne_true, ltb-true, or_parts}
 use Rattle.std.proofs.lemmas.List.{append-nil, take_all, take-append-drop}
 use Rattle.iges_base.proofs.Lists.{prefix_len-pass, prefix_len-stop, list_all-take_while}
 use Rattle.line_layout.specs.Changes.{Cut, before_cuts, cuts, first_cut, has_feed}
 use Rattle.line_layout.specs.Relaid.{before_pieces, pieces}
 
-abbrev made_cut : List ℕ → Bool → List ℕ → Cut
+abbrev pub made_cut : List ℕ → Bool → List ℕ → Cut
 made_cut piece feed after = record { piece = piece; feed = feed; after = after }
 
 and_true : (b t : Bool) → t ≡ true → (b && t) ≡ b
@@ -44,7 +44,7 @@ module _ (e : ℕ) where
   no_pieces = refl
 
   -- the same with the bytes after it
-  cut_first_cut : (p rest : List ℕ) → list_all (λ b. not (b == e)) p ≡ true → cuts e (p ++ e ∷ rest) ≡ made_cut p (e == 10) rest ∷ cuts e rest
+  pub cut_first_cut : (p rest : List ℕ) → list_all (λ b. not (b == e)) p ≡ true → cuts e (p ++ e ∷ rest) ≡ made_cut p (e == 10) rest ∷ cuts e rest
   unfolding cuts
   cut_first_cut [] rest h = cond-true (e == e) (made_cut [] (e == 10) rest ∷ cuts e rest) (before_cuts e (cuts e rest)) (eq-eqb e e refl)
   cut_first_cut (b ∷ p) rest h =
@@ -52,7 +52,7 @@ module _ (e : ℕ) where
       cond-false (b == e) (made_cut [] (e == 10) (p ++ e ∷ rest) ∷ cuts e (p ++ e ∷ rest)) (before_cuts b (cuts e (p ++ e ∷ rest))) (not-true (b == e) k.0)
       ∙ ap (before_cuts b) (cut_first_cut p rest k.1)
 
-  cut_last_cut : (p : List ℕ) → list_all (λ b. not (b == e)) p ≡ true → 0 < length p → cuts e p ≡ made_cut p false [] ∷ []
+  pub cut_last_cut : (p : List ℕ) → list_all (λ b. not (b == e)) p ≡ true → 0 < length p → cuts e p ≡ made_cut p false [] ∷ []
   unfolding cuts
   cut_last_cut [] h some = absurd (omega arith)
   cut_last_cut (b ∷ p) h some =
@@ -63,7 +63,7 @@ module _ (e : ℕ) where
       by_rest [] last = refl
       by_rest (x ∷ r) last = ap (before_cuts b) (last (omega arith))
 
-  no_cuts : cuts e [] ≡ []
+  pub no_cuts : cuts e [] ≡ []
   unfolding cuts
   no_cuts = refl
 
@@ -76,6 +76,19 @@ module _ (e : ℕ) where
             sym (ap (λ (l : List ℕ). get_or l 0 0) s) ∙ eqb-true x e t
         | inr f ↦ rest_ends xs y ys (sym (ap (λ (n : ℕ). drop n (x ∷ xs)) (prefix_len-pass (λ b. not (b == e)) x xs (not_from_false _ f))) ∙ h)
       ]
+
+  -- the first end byte stands behind so many bytes
+  first_end : (xs : List ℕ) (n : ℕ) → n < length xs → get_or xs n 0 ≡ e → list_any (λ b. b == e) (take n xs) ≡ false → n ≡ prefix_len (λ b. not (b == e)) xs
+  first_end [] n h at none = absurd (omega arith)
+  first_end (x ∷ xs) zero h at none = sym (prefix_len-stop (λ b. not (b == e)) x xs (not_from_true (x == e) (eq-eqb x e at)))
+  first_end (x ∷ xs) (suc n) h at none =
+      let parts = or_parts (x == e) (list_any (λ b. b == e) (take n xs)) none in
+      ap suc (first_end xs n (omega arith) at parts.1) ∙ sym (prefix_len-pass (λ b. not (b == e)) x xs (not_from_false (x == e) parts.0))
+
+  pub ends_here : (xs : List ℕ) (n : ℕ) (r : Bool) → n < length xs → get_or xs n 0 ≡ e → r ≡ list_any (λ b. b == e) (take n xs) → not r ≡ true
+      → n ≡ prefix_len (λ b. not (b == e)) xs
+  ends_here xs n true h at is t = absurd cc
+  ends_here xs n false h at is t = first_end xs n h at (sym is)
 
   module _ (xs : List ℕ) (n : ℕ) (piece rest : List ℕ) (some : 0 < length xs) (n-is : n ≡ prefix_len (λ b. not (b == e)) xs) (piece-is : piece ≡ take n xs)
       (rest-is : rest ≡ drop n xs) where

@@ -1,4 +1,4 @@
-/// What may be changed to make a file (own).
+/// What may be changed to make a file.
 #[derive(Clone, Copy, Debug, PartialEq, Eq)]
 pub enum Change {
     /// A byte order mark or a form feed before a line is dropped.
@@ -21,7 +21,7 @@ pub enum Change {
     After,
 }
 
-/// How often something is changed, and the first line of the file where it is; 0 where there is none (own).
+/// How often something is changed, and the first line of the file where it is; 0 where there is none.
 #[derive(Clone, Copy, Debug, PartialEq, Eq)]
 pub struct Tally {
     pub times: u64,

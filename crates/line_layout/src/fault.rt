@@ -1,6 +1,6 @@
 use iges_base::NoMemory;
 
-/// Why the content of a line can't be told apart for certain (own).
+/// Why the content of a line can't be told apart for certain.
 #[derive(Clone, Copy, Debug, PartialEq, Eq)]
 pub enum LayoutReason {
     /// The line begins with the mark of UTF-16.
@@ -25,14 +25,14 @@ pub enum LayoutReason {
     Many,
 }
 
-/// A line, counted from 1, and what is wrong there (own).
+/// A line, counted from 1, and what is wrong there.
 #[derive(Clone, Copy, Debug, PartialEq, Eq)]
 pub struct LayoutFault {
     pub line: u64,
     pub reason: LayoutReason,
 }
 
-/// Why no file was made (own).
+/// Why no file was made.
 #[derive(Clone, Copy, Debug, PartialEq, Eq)]
 pub enum RelaidFault {
     /// The first line that fails, and why.

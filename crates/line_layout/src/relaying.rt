@@ -75,7 +75,7 @@ fn end(out: Out, counts: LineCounts, number: u64) -> Result<Bytes, RelaidFault>
 /// The file in the layout of the fixed form: lines of 80 columns that end in LF, each with the letter of its section in
 /// column 73 and its number in columns 74 to 80, and a terminate line with the counts (IGES 5.3, 2.2.4). The columns 1 to
 /// 72 of the other lines are those of the file. Where a line's content can't be told apart for certain, the first such
-/// line, and why (own).
+/// line, and why.
 pub fn relaid(alloc: Global, bytes: &[u8]) -> Result<Bytes, RelaidFault>
     requires { length bytes.now ≤ FILE_LIMIT }
     ensures { Gives result (relaid bytes.now) }

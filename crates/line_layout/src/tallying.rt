@@ -32,7 +32,7 @@ fn once(happens: bool) -> u64
 }
 
 /// How often `relaid` changes this, where it makes a file, and the first line of the file where it does. Of a blank line
-/// after the terminate line, and of all that follows it, it counts the bytes alone (own).
+/// after the terminate line, and of all that follows it, it counts the bytes alone.
 pub fn tally(bytes: &[u8], change: Change) -> Tally
     requires { length bytes.now ≤ FILE_LIMIT }
     ensures { result ≡ tally_of (changed_lines change bytes.now) }

@@ -9,6 +9,7 @@ use Rattle.solid_data.specs.declared.solid.Shell.{Shell}
 use Rattle.shell_rules.specs.Closed.{IsClosedSolid}
 use Rattle.brep_walk.specs.Places.{places}
 use Rattle.brep_walk.specs.SolidOf.{solid_of}
+use Rattle.flag_choice.specs.Turned.{turned}
 use Rattle.cert_lines.specs.Line.{cut_lines}
 use Rattle.topo_certificate.specs.declared.TheConstants.{CERT_LIMIT}
 use Rattle.command_replies.specs.declared.answer.Answer.{Answer}
@@ -17,7 +18,7 @@ use Rattle.command_replies.specs.Due.{Owed}
 use Rattle.command_replies.specs.Texts.{accepted_line}
 use Rattle.orient_commands.specs.Due.{IsRingLine, OfOrient, OfOrientVerify}
 use Rattle.orient_commands.specs.Shells.{IsReady, OfAllShells}
-use Rattle.orient_commands.specs.Turned.{solid_with, AllFlagsFit, JoinsAndLinks}
+use Rattle.orient_commands.specs.Turned.{AllFlagsFit, JoinsAndLinks}
 
 -- some answer and text are owed
 abbrev pub IsSome : Owed → Type 0
@@ -52,5 +53,5 @@ SomeVerifying = (text : List ℕ) (f : Contents) → IsSome (OfOrientVerify text
 -- Where COUNT and REACH hold, flags fit, and the solid with these flags keeps JOIN, LINK and APART, it is closed.
 abbrev pub FittingFlagsClose : Type 0
 FittingFlagsClose = (s : SolidData) (flags : List (List Bool)) → OfAllShells IsReady s → AllFlagsFit s flags
-    → AllByRecursion (λ (h : ℕ × Shell). JoinsAndLinks (solid_with flags s) h.0 h.1) (enumerate_from 0 (solid_with flags s).shells)
-    → IsClosedSolid (solid_with flags s)
+    → AllByRecursion (λ (h : ℕ × Shell). JoinsAndLinks (turned flags s) h.0 h.1) (enumerate_from 0 (turned flags s).shells)
+    → IsClosedSolid (turned flags s)

@@ -1,5 +1,5 @@
--- A solid with other flags for the faces of its shells.
-use Rattle.std.specs.Prelude.{◌≡◌, ℕ, Bool, List, [], ◌∷◌, length, Some, slice_get}
+-- Lists of flags that fit, and what other flags for the faces don't change.
+use Rattle.std.specs.Prelude.{◌≡◌, ℕ, Bool, List, length, Some, slice_get}
 use Rattle.std.specs.List.{AllByRecursion}
 use Rattle.solid_data.specs.SolidData.{SolidData, PlacedLoop, placed_loops}
 use Rattle.solid_data.specs.declared.solid.Shell.{Shell}
@@ -7,17 +7,7 @@ use Rattle.edge_uses.specs.Before.{IsApart}
 use Rattle.edge_uses.specs.Joins.{IsJoined}
 use Rattle.edge_uses.specs.Around.{IsLinked}
 use Rattle.edge_uses.specs.ShellRows.{shell_rows}
-use Rattle.orient_certificate.specs.Flags.{FlagsFit, shell_with}
-
--- shells with these flags in place of their faces', one list for each
-abbrev pub shells_with : List (List Bool) → List Shell → List Shell
-shells_with [] shells = []
-shells_with (flags ∷ rest) [] = []
-shells_with (flags ∷ rest) (h ∷ shells) = shell_with flags h ∷ shells_with rest shells
-
--- the solid with these flags in place of its faces'
-abbrev pub solid_with : List (List Bool) → SolidData → SolidData
-solid_with flags s = record { entity = s.entity; shells = shells_with flags s.shells; edges = s.edges; vertices = s.vertices }
+use Rattle.orient_certificate.specs.Flags.{FlagsFit}
 
 -- There is a list for each shell, and it fits.
 pub record AllFlagsFit (s : SolidData) (flags : List (List Bool)) : Type 0 where

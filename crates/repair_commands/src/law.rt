@@ -17,13 +17,13 @@ pub fn in_layout_is_told()
 {}
 
 /// One answer is owed of reorienting a solid, and one text but for which rings it names; in a file within its limits some
-/// answer is owed (own).
+/// answer is owed.
 pub fn one_reorient_answer()
     ensures one { OneReorientAnswer }
     ensures some { SomeReorientAnswer }
 {}
 
-/// Of a solid that has no flags no is answered: what `orient` owes of it is never an orientation without a ring (own).
+/// Of a solid that has no flags no is answered: what `orient` owes of it is never an orientation without a ring.
 pub fn unoriented_is_no()
     ensures { UnorientedIsNo }
 {}

@@ -47,7 +47,7 @@ fn entry_values(entry: &Entry, mut values: Values, flags: &[FlagList], number: u
     values
 }
 
-/// The file in which the shells of a solid have these flags for their faces (own). The values of all other records are
+/// The file in which the shells of a solid have these flags for their faces. The values of all other records are
 /// moved.
 pub fn reflagged(
     alloc: Global,

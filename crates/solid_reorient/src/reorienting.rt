@@ -14,7 +14,7 @@ use solid_extract::{ExtractFault, into_extract_numbered};
 use std::alloc::Global;
 
 /// Flags for the shells of a solid of a file; None where an obligation on the records' places doesn't hold, or some shell
-/// has no flags (own).
+/// has no flags.
 pub fn solid_flags(alloc: Global, file: &File, no: EntryNo) -> Result<Option<FlagLists>, NoMemory>
     ensures found { IfOk result (λ o. IfSome o (HasFlags file.now no.0)) }
     ensures none { IfOk result
@@ -27,8 +27,7 @@ pub fn solid_flags(alloc: Global, file: &File, no: EntryNo) -> Result<Option<Fla
     }
 }
 
-/// The file of a solid as `extract` gives it, with these flags for the faces of its shells, or the refusal of `extract`
-/// (own).
+/// The file of a solid as `extract` gives it, with these flags for the faces of its shells, or the refusal of `extract`.
 pub fn into_reorient(
     alloc: Global,
     file: File,

@@ -32,7 +32,7 @@ fn note(table: &mut Vec<usize>, number: i64, list: usize)
 }
 
 /// The list for the entry at each of so many places, where these are the shells that the lists are for: lists count from
-/// 1, and 0 stands where there is none (own).
+/// 1, and 0 stands where there is none.
 pub(crate) fn table_of(alloc: Global, count: usize, shells: &[i64]) -> Result<Vec<usize>, NoMemory>
     requires { count ≤ ENTRY_LIMIT }
     ensures long { IfOk result (λ table. length table.items ≡ count) }
@@ -48,7 +48,7 @@ pub(crate) fn table_of(alloc: Global, count: usize, shells: &[i64]) -> Result<Ve
     Ok(table)
 }
 
-/// The list of this number, from 1, if there is one (own).
+/// The list of this number, from 1, if there is one.
 pub(crate) fn list_numbered(flags: &[FlagList], number: usize) -> Option<&FlagList>
     ensures { MatchOption result (list_numbered flags.now number ≡ [])
         (λ x. list_numbered flags.now number ≡ x.now) }

@@ -1,6 +1,6 @@
 use Rattle.std.proofs.Common.{length, ◌+◌, ◌-◌, ◌≡◌, ◌≤◌, ◌==◌, drop, not}
 use Rattle.std.specs.List.{prefix_len}
-use Rattle.line_layout.proofs.piece.piece_len.Given as goal
+use Rattle.line_layout.proofs.piece.scanned_len.Given as goal
 
 abbrev pub invariant-bytes : goal.invariant-bytes
 invariant-bytes l = record {
