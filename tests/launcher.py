@@ -380,7 +380,7 @@ def wrong_words(copy):
         ("certfy a.igs 1", "certfy isn't a command; the nearest is certify: igesolid certify FILE N, or igesolid certify FILE all\n"),
         ("extrct a.igs 1", "extrct isn't a command; the nearest is extract: igesolid extract FILE N\n"),
         ("verfy a.igs b", "verfy isn't a command; the nearest is verify: igesolid verify FILE CERT\n"),
-        ("wehre a.igs", "wehre isn't a command; the nearest is where: igesolid where FILE, or igesolid where FILE N, or igesolid where FILE N all\n"),
+        ("wehre a.igs", "wehre isn't a command; the nearest is where: igesolid where FILE, or igesolid where FILE N, or igesolid where FILE N all, or igesolid where --json FILE ..\n"),
         ("--hepl", "--hepl isn't a command; the nearest is --help: igesolid --help\n"),
         ("something", "something isn't a command; igesolid --help lists the commands\n"),
         ("examples/cube.igs", "examples/cube.igs is a file, and a command comes before it, as in: igesolid certify examples/cube.igs all\n"),
