@@ -316,6 +316,30 @@ def comparisons(copy, skipped):
     copy.unbuild()
 
 
+# Whether the libraries below the one for C are those that the gate left.
+ARE_LEFT = "import sys; sys.dont_write_bytecode = True; sys.path.insert(0, 'packaging'); import kit; print(kit.Crates().are_left('igesolid_c'))"
+
+
+def left_libraries(copy):
+    """packaging/kit.py takes the libraries that the gate left, where all of them stand and none is older than a source below it."""
+    are_left = lambda: copy.run("python3", "-c", ARE_LEFT)[:2] == (0, b"True\n")
+    yield "packaging/kit.py: no library", not are_left()
+    libraries = [path.parent / "out" / "rlib" / f"{path.parent.name}.rlib" for path in (copy.top / "crates").glob("*/src")]
+    for library in libraries:
+        library.mkdir(parents=True)
+        (library / "format").touch()
+    yield "packaging/kit.py: all libraries", are_left()
+    low = copy.top / "crates" / "iges_base"
+    os.utime(next(low.rglob("*.antt")))
+    yield "packaging/kit.py: a source is newer", not are_left()
+    for library in libraries:
+        os.utime(library)
+    (low / "out" / "rlib" / "iges_base.rlib" / "format").unlink()
+    yield "packaging/kit.py: a library is missing", not are_left()
+    for library in libraries:
+        shutil.rmtree(library.parent.parent)
+
+
 def run_in(copy, script, **more):
     """The status, standard output and standard error of a script of the shell, whose words say what its commands read and write."""
     done = subprocess.run(["bash", "-c", script], cwd=copy.top, capture_output=True, env=copy.environment(**more), timeout=clone.SECONDS)
@@ -582,4 +606,5 @@ def checks(copy, forms, skipped):
     yield from builds(copy)
     yield from stopped(copy)
     yield from messages(copy)
+    yield from left_libraries(copy)
     yield from comparisons(copy, skipped)

@@ -114,7 +114,7 @@ def _answer(program: Optional[str], file: str, words: List[str]) -> int:
 def main(words: List[str]) -> int:
     # An interrupt ends it without a word, as it ends the program.
     signal.signal(signal.SIGINT, signal.SIG_DFL)
-    program = words[1] if words[:1] == ["--program"] else None
+    program = words[1] if words[:1] == ["--program"] and len(words) > 1 else None
     given = words[2:] if program else words
     try:
         if given[:1] != ["--json"] or len(given) < 2:
