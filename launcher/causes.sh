@@ -28,16 +28,12 @@ is_number() {
     esac
 }
 
-# Sets the form that the words have, by the table, and the file and the certificate among them.
+# Sets the form of their kind that the words have, by the table, and the file and the certificate among them.
 find_form() {
     while IFS=$tab read -r row _ form _; do
-        case $row in
-        command | python | shell)
-            if fits "$form" "$@"; then
-                return 0
-            fi
-            ;;
-        esac
+        if [ "$row" = "$kind" ] && fits "$form" "$@"; then
+            return 0
+        fi
     done <"$table"
     form=
     file=

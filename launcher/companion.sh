@@ -11,6 +11,11 @@ perform_in_python() {
         more copies
         on_readable run_script "$@"
         ;;
+    *' FILE ..')
+        more input
+        [ "${2-}" != - ] || is_open_input || return 4
+        run_on_words "$@"
+        ;;
     *) run_on_words "$@" ;;
     esac
 }

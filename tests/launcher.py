@@ -316,6 +316,30 @@ def comparisons(copy, skipped):
     copy.unbuild()
 
 
+# Whether the libraries below the one for C are those that the gate left.
+ARE_LEFT = "import sys; sys.dont_write_bytecode = True; sys.path.insert(0, 'packaging'); import kit; print(kit.Crates().are_left('igesolid_c'))"
+
+
+def left_libraries(copy):
+    """packaging/kit.py takes the libraries that the gate left, where all of them stand and none is older than a source below it."""
+    are_left = lambda: copy.run("python3", "-c", ARE_LEFT)[:2] == (0, b"True\n")
+    yield "packaging/kit.py: no library", not are_left()
+    libraries = [path.parent / "out" / "rlib" / f"{path.parent.name}.rlib" for path in (copy.top / "crates").glob("*/src")]
+    for library in libraries:
+        library.mkdir(parents=True)
+        (library / "format").touch()
+    yield "packaging/kit.py: all libraries", are_left()
+    low = copy.top / "crates" / "iges_base"
+    os.utime(next(low.rglob("*.antt")))
+    yield "packaging/kit.py: a source is newer", not are_left()
+    for library in libraries:
+        os.utime(library)
+    (low / "out" / "rlib" / "iges_base.rlib" / "format").unlink()
+    yield "packaging/kit.py: a library is missing", not are_left()
+    for library in libraries:
+        shutil.rmtree(library.parent.parent)
+
+
 def run_in(copy, script, **more):
     """The status, standard output and standard error of a script of the shell, whose words say what its commands read and write."""
     done = subprocess.run(["bash", "-c", script], cwd=copy.top, capture_output=True, env=copy.environment(**more), timeout=clone.SECONDS)
@@ -380,7 +404,7 @@ def wrong_words(copy):
         ("certfy a.igs 1", "certfy isn't a command; the nearest is certify: igesolid certify FILE N, or igesolid certify FILE all\n"),
         ("extrct a.igs 1", "extrct isn't a command; the nearest is extract: igesolid extract FILE N\n"),
         ("verfy a.igs b", "verfy isn't a command; the nearest is verify: igesolid verify FILE CERT\n"),
-        ("wehre a.igs", "wehre isn't a command; the nearest is where: igesolid where FILE, or igesolid where FILE N, or igesolid where FILE N all\n"),
+        ("wehre a.igs", "wehre isn't a command; the nearest is where: igesolid where FILE, or igesolid where FILE N, or igesolid where FILE N all, or igesolid where --json FILE ..\n"),
         ("--hepl", "--hepl isn't a command; the nearest is --help: igesolid --help\n"),
         ("something", "something isn't a command; igesolid --help lists the commands\n"),
         ("examples/cube.igs", "examples/cube.igs is a file, and a command comes before it, as in: igesolid certify examples/cube.igs all\n"),
@@ -582,4 +606,5 @@ def checks(copy, forms, skipped):
     yield from builds(copy)
     yield from stopped(copy)
     yield from messages(copy)
+    yield from left_libraries(copy)
     yield from comparisons(copy, skipped)

@@ -5,7 +5,8 @@ Each crate has one row in docs/ARCHITECTURE.md, below the heading that it has in
 says it must not know. crates.txt lists each crate below what it depends on, and nothing that the crate doesn't name. No chain of
 crates is longer than `CHAIN` crates, and no crate has more than `LINES` lines or `FUNCTIONS` functions, contracts included; tests,
 and the programs, which are `main` alone, aren't counted. None of the crates `CHECKS`, which say yes to certificates and to
-orientations, depends on one of `MAKES`, which make them. A library for C stands on crates as a program does.
+orientations, depends on one of `MAKES`, which make them. A library for C stands on crates as a program does. In each way of
+docs/ARCHITECTURE.md through the crates, each stands on one before it, and on none after it.
 """
 import functools
 import pathlib
@@ -20,6 +21,9 @@ DRAWN = re.compile(r"(?m)^### ([a-z]+: .*)\n((?:(?!#).*\n)+)")
 STATIC = re.compile(r"(?m)^(\w+) staticlib:")
 NAMED = re.compile(r"\bRattle\.(\w+)|(?<![\w:.])(\w+)::")
 FUNCTION = re.compile(r"(?m)^ *(?:pub(?:\(\w+\))? )?(?:const )?fn \w+")
+# A way through the crates: its head, and the list.
+WAY = re.compile(r"(?m)^- (An? [^:`]*, to `[^`]*`): (`.*)$")
+WAYS = "A byte of a record, to `fail PAIR`", "An E line of a certificate, to `accepted`"
 CHAIN, LINES, FUNCTIONS = 8, 1500, 100
 # The longer chains: where's text goes through record_paths and where_records, which say in which face a record fails; the laws of
 # reoriented files stand on those of extracted ones, and nothing on them. See docs/DECISIONS.md.
@@ -105,6 +109,18 @@ def limits_checks(top, crates, tests):
         yield f"tests/layers.py: {name} is no longer larger than the limits", not (fits and name in LARGER)
 
 
+def way_checks(crates, page):
+    ways = WAY.findall(page)
+    yield f"docs/ARCHITECTURE.md: the ways are {' and '.join(WAYS)}", tuple(head for head, _ in ways) == WAYS
+    for head, text in ways:
+        names = re.findall(r"`(\w+)`", text)
+        for at, name in enumerate(names):
+            before, after = names[:at], names[at + 1 :]
+            yield f"docs/ARCHITECTURE.md: {head}: {name} is a crate", name in crates
+            yield f"docs/ARCHITECTURE.md: {head}: {name} stands on one before it", at == 0 or set(before) & set(crates.get(name, ())) != set()
+            yield f"docs/ARCHITECTURE.md: {head}: {name} stands on none after it, and comes once", not (below(crates, name) | {name}) & set(after)
+
+
 def checks(top):
     text = (top / "crates.txt").read_text()
     crates = {name: needs.split() for name, needs in CRATE.findall(text)}
@@ -114,6 +130,7 @@ def checks(top):
     yield from tree_checks(text, page)
     yield from needs_checks(top, crates)
     yield from checker_checks(crates)
+    yield from way_checks(crates, page)
     yield from limits_checks(top, crates, tests)
 
 

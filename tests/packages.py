@@ -196,6 +196,9 @@ COMPLETED = (
     (("verify", "examples/two_solids.i"), {"examples/two_solids.igs"}),
     (("certify", "examples/two_solids.igs", ""), {"1", "11", "all"}),
     (("where", "examples/two_solids.igs", "1", ""), {"all"}),
+    (("where", "--"), {"--json"}),
+    (("where", "--json", "examples/two_solids.i"), {"examples/two_solids.igs"}),
+    (("where", "--json", "examples/two_solids.igs", ""), {"1", "11"}),
     (("--vers",), {"--version"}),
 )
 BY_BASH = """. "$1"; shift

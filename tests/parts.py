@@ -40,6 +40,7 @@ import theorem
 import trusted
 import web_tests
 import where
+import where_json_tests
 from part import BY_NAME, LARGE, Part
 from programs import FORMS, REPAIR_FORMS, TOP
 
@@ -106,6 +107,7 @@ PARTS = (
     Part("uses", "solids of the most loop uses", of_program(largest_tests.uses)),
     Part("where", "igesolid-where, beside the second checker", of_both(where.checks)),
     Part("where-more", "200 more cases", of_both(where.more_checks), LARGE),
+    Part("where-json", "where --json: its text again, its schema, and the command in a copy of the repository", where_json_tests.checks),
     Part("repair", "igesolid-repair: harmed files, and files changed at random, beside the second checker", of_repair(repair.checks)),
     Part("repair-more", "2,000 more cases, and files of the greatest size", of_repair(repair.more_checks), LARGE),
     Part("pictures", "marks", of_both(picture_tests.checks)),

@@ -23,10 +23,10 @@ class Marked:
     def gap(self, fact):
         if "face" in fact.told:
             self.faces.append((fact.number("face"), 0))
-        elif "vertex" in fact.told:
+        elif fact.word in ("ends", "starts"):
             self.vertices.append(self.solid.vertex_numbers[fact.key()])
         elif "curve" in fact.told:
-            edge, group = self.solid.edge_numbers[fact.key()], int(fact.told["which"] == "next")
+            edge, group = self.solid.edge_numbers[fact.key()], int(fact.word == "next")
             self.edges.append(edge)
             self.arrows.append([edge, fact.number("flag"), group])
             return group
@@ -38,12 +38,12 @@ class Marked:
         face = fact.number("face")
         group = self.group_of_face.setdefault(face, len(self.group_of_face))
         self.faces.append((face, group))
-        self.arrows.append([self.edges[0], int(fact.told["way"] == "along"), group])
+        self.arrows.append([self.edges[0], int(fact.word == "along"), group])
         return group
 
     def part(self, fact):
         group = self.item.number("part") - 1
-        if "touches" in fact.told:
+        if fact.word == "touches":
             self.vertices.append(self.solid.vertex_numbers[fact.key()])
         if "face" not in fact.told:
             return -1
@@ -51,7 +51,7 @@ class Marked:
         return group
 
     def fan(self, fact):
-        group = fact.number("fan") - 1 if "fan" in fact.told else self.item.number("fans") if "point" in fact.told else -1
+        group = fact.number("fan") - 1 if "fan" in fact.told else self.item.number("fans") if fact.word == "point" else -1
         if "fan" in fact.told:
             self.spokes.append([self.solid.edge_numbers[fact.key()], group])
         if "face" in fact.told:

@@ -1,92 +1,22 @@
 """The text of `where FILE N`: its lines are read into rules, items and facts (docs/WHERE.md), and a line of another shape is refused."""
-import re
 from dataclasses import dataclass, field
 from typing import Dict, Iterable, Iterator, List, Optional, Tuple
 
-from .errors import NoProgram
-
-N, T, WORD = "(?:0|[1-9][0-9]*)", "[a-z0-9-]+", r"\S+"
-RECORD_RULES, SHELL_RULES = ("ENTRY", "TYPE", "RECORD", "ONCE", "INDEX", "GEOMETRY"), ("JOIN", "PAIR", "REACH", "LINK", "APART")
-FORMS_DUE = "solid form 0|shell form 1|(?:face|loop|edge-list|vertex-list) form 0 1"
-VALUES_DUE = "geometry|pointer|index|flag|type|count|coordinate|count-or-pointer"
-
-
-def named(**parts: str) -> str:
-    """Parts of a line, each a word and what follows it, under its name."""
-    return " ".join(f"{word} (?P<{word.replace('-', '_')}>{shape})" for word, shape in parts.items())
-
-
-EDGE, CURVE, FACE = f"edge (?P<list>{N}) (?P<index>{N})", f"curve (?P<curve>{N}) (?P<type>{T})", f"face (?P<face>{N}) (?P<type>{T})"
-VERTEX = rf"(?P<list>{N}) (?P<index>{N}) (?P<at>\S+ \S+ \S+)"
-USE = f"{FACE} {named(loop=N, tuple=N)}"
-# The head lines by their first word, and the facts that may follow each.
-HEADS = {
-    "closed": f"closed (?P<solid>{N})",
-    "fail": f"fail (?P<rule>{'|'.join(RECORD_RULES + SHELL_RULES)}) (?P<entity>-?{N}) (?P<place>{N})",
-    "bad": f"bad file line (?P<line>{N}) (?P<reason>[a-z-]+)",
-    "units": f"units (?P<flag>{WORD}) (?P<unit>.*)",
-    "shells": named(shells=N, failing=N),
-    "shell": named(shell=N, entity=N, flag="[01]", faces=N, edges=N, vertices=N, JOIN=N, PAIR=N, REACH=N, LINK=f"{N}|-", APART=N),
-    "hint": f"hint (?P<hint>face-flags) {named(faces=N)}|hint (?P<list>solids)(?P<solids>(?: {N})+)|hint (?P<none>no-solid)",
-    "rule": f"rule (?P<record_rule>{'|'.join(RECORD_RULES)}) faults 1|rule (?P<rule>JOIN|PAIR|REACH|LINK|APART) {named(shell=N, faults=N)}"
-    f"(?: once {N} same-way {N} many {N}| parts {N})?",
-    "item": f"item (?P<entity>-?{N}) (?P<place>{N})",
-    "gap": f"gap (?P<loop>{N}) (?P<tuple>{N})",
-    "edge": f"{EDGE} {named(along=N, against=N)}",
-    "part": named(part=N, faces=N, edges=N, vertices=N, unpaired=N, touching=N),
-    "vertex": f"vertex {VERTEX}(?: {named(fans=N, points=N)})?",
-    "more": named(more=N),
-    "entities": named(entities=N),
-    "entity": f"entity (?P<entity>{N}) (?P<type>{T})(?: surface (?P<surface>{N}) {T})?",
-}
-FACTS = {
-    "item": rf"value (?P<value>{N}) found (?P<found>.*)|due (?:{FORMS_DUE}|{VALUES_DUE})|why (?:zero|negative|even|beyond|null)|entry {N} {T} form -?{N}"
-    f"|values {N}|first {N} item {N}|list {N} {T} items {N}|in (?:solid {N}|(?:shell|face|loop) {N} item {N})",
-    "gap": f"{FACE}|(?P<which>this|next) tuple (?P<tuple>{N}) (?:{EDGE} flag (?P<flag>[01]) {CURVE}|vertex {N} {N})|(?:ends|starts) (?P<vertex>{VERTEX})",
-    "edge": f"{CURVE}|(?:start|end) (?P<vertex>{VERTEX})|(?P<way>along|against) {USE} flags [01] [01] [01]|more {N}",
-    "part": f"(?:at|(?P<touches>touches)) (?P<vertex>{VERTEX})|{FACE}|more {N}",
-    "vertex": f"fan (?P<fan>{N}) {USE} {EDGE} to {N} {N} {WORD} {WORD} {WORD}|(?P<point>point) {FACE} loop {N}|in shell (?P<shell>{N}) {FACE}|more {N}",
-    "entity": f"level -?{N}|colour -?{N}.*|matrix -?{N}|label .*|subscript -?{N}|name .*",
-}
-
-
-class Shape:
-    """A shape of lines. A name may stand in several of its alternatives: there the second and later ones get a number."""
-
-    def __init__(self, shape: str):
-        self.names: Dict[str, str] = {}
-        seen: Dict[str, int] = {}
-
-        def numbered(match: "re.Match[str]") -> str:
-            name = match[1]
-            seen[name] = seen.get(name, 0) + 1
-            own = f"{name}_{seen[name]}"
-            self.names[own] = name
-            return f"(?P<{own}>"
-
-        self.match = re.compile(re.sub(r"\(\?P<(\w+)>", numbered, shape)).fullmatch
-
-    def told(self, text: str) -> Optional[Dict[str, str]]:
-        """What a line of this shape says, by name; None for another line."""
-        match = self.match(text)
-        return match and {self.names[own]: value for own, value in match.groupdict().items() if value is not None}
-
-
-HEAD_SHAPES = {word: Shape(shape) for word, shape in HEADS.items()}
-FACT_SHAPES = {word: Shape(shape) for word, shape in FACTS.items()}
-SENTENCES, ITEMS = ("bad", "hint", "rule"), ("item", "gap", "edge", "part", "vertex")
-
-
-class NotUnderstood(NoProgram):
-    """A line of the text that has none of the shapes."""
+from .where_lines import FACTS, HEADS, ITEMS, SENTENCES, NotUnderstood, Shape, read_line
 
 
 @dataclass
 class Line:
-    """A line and what it says, by name."""
+    """A line, its shape, and what it says, by name."""
 
     text: str
+    shape: Shape
     told: Dict[str, str]
+
+    @property
+    def word(self) -> str:
+        """The first word."""
+        return self.text.split(" ", 1)[0]
 
     def number(self, name: str) -> int:
         return int(self.told[name])
@@ -100,7 +30,6 @@ class Line:
 class Paragraph(Line):
     """A head line with its facts; a sentence where it has one."""
 
-    word: str = ""
     facts: List[Line] = field(default_factory=list)
     sentence: str = ""
 
@@ -114,7 +43,7 @@ class Rule(Paragraph):
 
     @property
     def name(self) -> str:
-        return self.told.get("rule") or self.told["record_rule"]
+        return self.told["rule"]
 
     @property
     def shell(self) -> Optional[int]:
@@ -187,14 +116,7 @@ class Where(str):
         return [fact.text for fact in found.facts] if found else []
 
 
-def _told_by(shapes: Dict[str, Shape], word: str, text: str) -> Dict[str, str]:
-    told = shapes[word].told(text) if word in shapes else None
-    if told is None:
-        raise NotUnderstood(f"a line of the text of igesolid-where isn't understood: {text}")
-    return told
-
-
-def _paragraphs(lines: Iterable[str]) -> Iterator[Paragraph]:
+def paragraphs(lines: Iterable[str]) -> Iterator[Paragraph]:
     """Each head line with the facts or the sentence after it."""
     last: Optional[Paragraph] = None
     for line in lines:
@@ -203,12 +125,12 @@ def _paragraphs(lines: Iterable[str]) -> Iterator[Paragraph]:
             if last.word in SENTENCES:
                 last.sentence += f" {text}" if last.sentence else text
             else:
-                last.facts.append(Line(text, _told_by(FACT_SHAPES, last.word, text)))
+                last.facts.append(Line(text, *read_line(FACTS, last.word, text)))
         elif line:
             if last is not None:
                 yield last
             word = line.split(" ", 1)[0]
-            last = (Rule if word == "rule" else Paragraph)(line, _told_by(HEAD_SHAPES, word, line), word)
+            last = (Rule if word == "rule" else Paragraph)(line, *read_line(HEADS, word, line))
     if last is not None:
         yield last
 
@@ -225,16 +147,16 @@ def _put(parts: Parts, it: Paragraph) -> None:
         parts.hints.append(it)
     elif isinstance(it, Rule):
         parts.rules.append(it)
-    elif it.word in ITEMS and parts.rules:
-        parts.rules[-1].items.append(it)
     elif it.word == "more" and parts.rules:
         parts.rules[-1].more = it.number("more")
+    elif it.word in ITEMS and parts.rules:
+        parts.rules[-1].items.append(it)
     elif it.word == "entity":
         parts.entities[it.number("entity")] = it
 
 
 def _parts_of(text: str) -> Parts:
-    found = list(_paragraphs(text.split("\n")))
+    found = list(paragraphs(text.split("\n")))
     if not found or found[0].word not in ("closed", "fail", "bad"):
         raise NotUnderstood("the text of igesolid-where begins with no verdict")
     parts = Parts(found[0])

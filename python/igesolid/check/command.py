@@ -8,14 +8,15 @@ from typing import Dict, List, Optional, Union
 
 from ..engine import Program, launcher
 from ..errors import Error, NoMemory
+from ..saying import NOT_WRITTEN, Failed, print_all, say
 from .cluster import Cluster
 from .events import Event, Events, Interrupted, Progress, gather, signals_into
 from .html_report import HtmlReport, NoReport
 from .judging import Judge
 from .local import Threads
 from .names import Meant
-from .output import csv_of, json_of, printable, text_of, text_of_one
-from .report import NOT_CLOSED, NOT_WRITTEN, STANDARD_INPUT, Report
+from .output import csv_of, json_of, text_of, text_of_one
+from .report import NOT_CLOSED, STANDARD_INPUT, Report
 from .table import NoTable, Table
 
 DESCRIPTION = """Judges whether all solids of IGES files are closed. Of a folder it takes the files in it and below it
@@ -65,11 +66,6 @@ def arguments(words: Optional[List[str]]) -> argparse.Namespace:
     if given.worker_program and not given.dask:
         it.error("--worker-program is for --dask")
     return given
-
-
-def say(text: str) -> None:
-    if sys.stderr is not None:
-        print(f"igesolid: {printable(text)}", file=sys.stderr)
 
 
 class Run:
@@ -169,24 +165,6 @@ class Run:
 
 def status_of(reports: List[Report]) -> int:
     return max((report.status for report in reports), default=NOT_CLOSED)
-
-
-def print_all(text: str) -> None:
-    try:
-        sys.stdout.buffer.write(text.encode("utf-8", "surrogateescape"))
-        sys.stdout.buffer.flush()
-    except (OSError, AttributeError):
-        # What is left in the buffer can't be written when Python ends.
-        os.dup2(os.open(os.devnull, os.O_WRONLY), 1)
-        raise Failed(NOT_WRITTEN, "standard output failed, so the answer is cut short or missing") from None
-
-
-class Failed(Exception):
-    """The status to end with, and what to say."""
-
-    def __init__(self, status: int, says: str):
-        super().__init__(status, says)
-        self.status, self.says = status, says
 
 
 def perform(given: argparse.Namespace) -> int:

@@ -9,8 +9,9 @@ from ..content import Content, content_of_file, content_of_path
 from ..engine import Engine
 from ..errors import Error, NotRead, TooLarge
 from ..files import File, Solid
+from ..saying import NOT_WRITTEN
 from .html_report import HtmlReport
-from .report import NOT_WRITTEN, STANDARD_INPUT, Fault, Report, SolidReport, fault_of
+from .report import STANDARD_INPUT, Fault, Report, SolidReport, fault_of
 from .table import Key, Table
 from .writing import write_whole
 

@@ -6,15 +6,11 @@ import shlex
 from typing import List
 
 from ..errors import BadFile
+from ..saying import printable
 from .report import NOT_CLOSED, STANDARD_INPUT, Report, SolidReport, dict_of
 from .table import write_rows
 
 SCHEMA = 1
-
-
-def printable(text: str) -> str:
-    """A name without what would change a terminal's lines."""
-    return "".join("?" if ord(letter) < 32 or ord(letter) == 127 else letter for letter in text)
 
 
 def _count(number: int, noun: str) -> str:

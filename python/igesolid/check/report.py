@@ -3,8 +3,9 @@ from typing import Any, Dict, Iterable, List, NamedTuple, Optional, Tuple
 
 from ..errors import BadFile, Error, NoMemory, NotRead, TooLarge
 from ..files import Verdict
+from ..saying import NOT_WRITTEN
 
-CLOSED, NOT_CLOSED, NOT_WRITTEN = 0, 1, 5
+CLOSED, NOT_CLOSED = 0, 1
 WORDS = {BadFile.status: "bad file", NotRead.status: "not read", NOT_WRITTEN: "not written", NoMemory.status: "no memory", TooLarge.status: "too large"}
 STATUSES = {word: status for status, word in WORDS.items()}
 NOT_JUDGED = "not judged"

@@ -1,0 +1,167 @@
+"""The lines of the text of `where`: one table of their shapes, by which they are read and written.
+
+It is the table of docs/WHERE.md, section 8. A further edition of the text is further lines here, and their values in `KINDS`."""
+import re
+from typing import Dict, List, NamedTuple, Optional, Tuple, Union
+
+from .errors import NoProgram
+
+# A head line begins in the first column. The facts that may follow it, and other heads of the same first word, are below the last of these.
+TABLE = """
+closed <solid>
+fail <rule> <entity> <place>
+bad file line <line> <reason>
+solids <solids> failing <failing>
+units <unit_flag> <unit>
+shells <shells> failing <failing>
+shell <shell> entity <entity> flag <flag> faces <faces> edges <edges> vertices <vertices> JOIN <JOIN> PAIR <PAIR> REACH <REACH> LINK <LINK> APART <APART>
+hint face-flags faces <faces>
+hint solids <numbers>
+hint no-solid
+rule <rule> shell <shell> faults <faults> once <once> same-way <same_way> many <many>
+rule <rule> shell <shell> faults <faults> parts <parts>
+rule <rule> shell <shell> faults <faults>
+rule <rule> faults <faults>
+gap <loop> <tuple>
+  face <F>
+  this tuple <tuple> edge <list> <index> flag <flag> curve <curve> <curve_type>
+  this tuple <tuple> vertex <list> <index>
+  ends <V>
+  next tuple <tuple> edge <list> <index> flag <flag> curve <curve> <curve_type>
+  next tuple <tuple> vertex <list> <index>
+  starts <V>
+edge <list> <index> along <along> against <against>
+  curve <curve> <curve_type>
+  start <V>
+  end <V>
+  along face <F> loop <loop> tuple <tuple> flags <tuple_flag> <face_flag> <shell_flag>
+  against face <F> loop <loop> tuple <tuple> flags <tuple_flag> <face_flag> <shell_flag>
+  more <more>
+part <part> faces <faces> edges <edges> vertices <vertices> unpaired <unpaired> touching <touching>
+  at <V>
+  touches <V>
+  face <F>
+  more <more>
+vertex <V>
+vertex <V> fans <fans> points <points>
+  fan <fan> face <F> loop <loop> tuple <tuple> edge <list> <index> to <to_list> <to_index> <x> <y> <z>
+  point face <F> loop <loop>
+  in shell <shell> face <F>
+  more <more>
+item <entity> <place>
+  value <value> found <found>
+  due <due>
+  why <why>
+  entry <entry> <type> form <form>
+  values <values>
+  first <entity> item <item>
+  list <list> <type> items <items>
+  in solid <entity>
+  in shell <entity> item <item>
+  in face <entity> item <item>
+  in loop <entity> item <item>
+more <more>
+entities <entities>
+solid <solid> closed
+solid <solid> fail <rule> <entity> <place>
+entity <entity> <type>
+entity <entity> <type> surface <surface> <surface_type>
+  level <level>
+  colour <colour> <red> <green> <blue> <name>
+  colour <colour> <red> <green> <blue>
+  colour <colour> <word>
+  colour <colour>
+  matrix <matrix>
+  label <label>
+  subscript <subscript>
+  name <name>
+"""
+SHORT = {"<V>": "<list> <index> <x> <y> <z>", "<F>": "<face> <surface_type>"}
+# Heads whose facts are a sentence, for people; heads that are items of the rule before them; heads with the same facts.
+SENTENCES, ITEMS, ALIKE = ("bad", "hint", "rule"), ("gap", "edge", "part", "vertex", "item", "more"), {"solid": "entity"}
+
+RECORD_RULES, SHELL_RULES = ("ENTRY", "TYPE", "RECORD", "ONCE", "INDEX", "GEOMETRY"), ("JOIN", "PAIR", "REACH", "LINK", "APART")
+FORMS_DUE = "solid form 0|shell form 1|(?:face|loop|edge-list|vertex-list) form 0 1"
+VALUES_DUE = "geometry|pointer|index|flag|type|count|coordinate|count-or-pointer"
+N = "(?:0|[1-9][0-9]*)"
+
+
+class Kind(NamedTuple):
+    """What a value may be, and what it is in JSON: `integer`, `null`, `array` of integers, `string`."""
+
+    shape: str
+    json: Tuple[str, ...] = ("string",)
+
+
+NUMBER, SIGNED, BIT, COUNT = Kind(N, ("integer",)), Kind(f"-?{N}", ("integer",)), Kind("[01]", ("integer",)), Kind(f"{N}|-", ("integer", "null"))
+NUMBERS, WORD, SPELLED, TEXT = Kind(f"{N}(?: {N})*", ("array",)), Kind("[a-z0-9-]+"), Kind("[^ ]+"), Kind(".*")
+# The values that aren't numbers of 0 or above.
+KINDS = {
+    **dict.fromkeys(("level", "colour", "matrix", "subscript", "form"), SIGNED),
+    **dict.fromkeys(("flag", "tuple_flag", "face_flag", "shell_flag"), BIT),
+    **dict.fromkeys(("type", "surface_type", "curve_type", "reason", "word"), WORD),
+    **dict.fromkeys(("x", "y", "z", "red", "green", "blue", "unit_flag"), SPELLED),
+    **dict.fromkeys(("unit", "found", "label", "name"), TEXT),
+    "rule": Kind("|".join(RECORD_RULES + SHELL_RULES)),
+    "due": Kind(f"{FORMS_DUE}|{VALUES_DUE}"),
+    "why": Kind("zero|negative|even|beyond|null"),
+    "numbers": NUMBERS,
+    "LINK": COUNT,
+}
+Value = Union[int, str, List[int], None]
+
+
+class NotUnderstood(NoProgram):
+    """A line of the text that has none of the shapes."""
+
+
+class Shape:
+    """A shape of lines: fixed words, and values in `<>` by their names."""
+
+    def __init__(self, line: str):
+        for short, whole in SHORT.items():
+            line = line.replace(short, whole)
+        self.parts = line.split(" ")
+        self.names = [part[1:-1] for part in self.parts if part.startswith("<")]
+        self.words = " ".join(part for part in self.parts if not part.startswith("<"))
+        patterns = [f"({kind_of(part[1:-1]).shape})" if part.startswith("<") else re.escape(part) for part in self.parts]
+        self.match = re.compile(" ".join(patterns)).fullmatch
+
+    def told(self, line: str) -> Optional[Dict[str, str]]:
+        """What a line of this shape says, by name; None for another line."""
+        match = self.match(line)
+        return match and dict(zip(self.names, match.groups()))
+
+    def line(self, told: Dict[str, str]) -> str:
+        return " ".join(told[part[1:-1]] if part.startswith("<") else part for part in self.parts)
+
+
+def kind_of(name: str) -> Kind:
+    return KINDS.get(name, NUMBER)
+
+
+def _shapes() -> Tuple[Dict[str, List[Shape]], Dict[str, List[Shape]]]:
+    heads: Dict[str, List[Shape]] = {}
+    facts: Dict[str, List[Shape]] = {}
+    word = ""
+    for line in TABLE.strip().split("\n"):
+        if line.startswith("  "):
+            facts.setdefault(word, []).append(Shape(line[2:]))
+        else:
+            word = line.split(" ")[0]
+            heads.setdefault(word, []).append(Shape(line))
+    facts.update((word, facts[other]) for word, other in ALIKE.items())
+    return heads, facts
+
+
+# The shapes of head lines by their first word, and those of the facts that may follow these.
+HEADS, FACTS = _shapes()
+
+
+def read_line(shapes: Dict[str, List[Shape]], word: str, line: str) -> Tuple[Shape, Dict[str, str]]:
+    """The shape of a line, by the first word of its head line, and what it says."""
+    for shape in shapes.get(word, ()):
+        told = shape.told(line)
+        if told is not None:
+            return shape, told
+    raise NotUnderstood(f"a line of the text of igesolid-where isn't understood: {line}")

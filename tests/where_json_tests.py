@@ -1,0 +1,185 @@
+#!/usr/bin/env python3
+"""`where --json`: the text made JSON is the text again, byte for byte, on the examples and on files of the tests of `where`; the table of
+shapes, docs/WHERE.md and docs/where.schema.json say the same; and the launcher's command.
+
+  tests/where_json_tests.py --mend   writes docs/where.schema.json anew, by the table of python/igesolid/where_lines.py"""
+import itertools
+import json
+import pathlib
+import re
+import sys
+
+import clone
+import where
+from spawned import Runner
+
+TOP = pathlib.Path(__file__).resolve().parent.parent
+SCHEMA = TOP / "docs" / "where.schema.json"
+RANDOM_CASES, SEED = 300, 2
+# One text in so many is compared with the schema, which takes long.
+STEP = 8
+NUMBER = {"type": "integer", "minimum": 0}
+
+
+def package():
+    """The package, imported in this part's process alone, for another imports that of a copy."""
+    sys.path.insert(0, str(TOP / "python"))
+    from igesolid import where_json, where_lines
+
+    return where_json, where_lines
+
+
+def of_value(lines, name):
+    kind = lines.kind_of(name)
+    if kind == lines.NUMBER:
+        return NUMBER
+    if kind == lines.NUMBERS:
+        return {"type": "array", "items": NUMBER}
+    if kind == lines.BIT:
+        return {"enum": [0, 1]}
+    return {"type": list(kind.json) if len(kind.json) > 1 else kind.json[0]}
+
+
+def of_shape(lines, shape, more, required=()):
+    values = {name: of_value(lines, name) for name in shape.names}
+    needed = ["is", *shape.names, *required]
+    return {"type": "object", "properties": {"is": {"const": shape.words}, **values, **more}, "required": needed, "additionalProperties": False}
+
+
+def list_of(name):
+    return {"type": "array", "items": {"$ref": f"#/$defs/{name}"}}
+
+
+def schema(where_json, lines):
+    """The schema of what `where --json` prints: of head lines by their first word, and of the facts of each."""
+    definitions = {}
+    for word, shapes in lines.FACTS.items():
+        definitions[f"fact of {word}"] = {"anyOf": [of_shape(lines, shape, {}) for shape in shapes]}
+    for word, shapes in lines.HEADS.items():
+        more = {"facts": list_of(f"fact of {word}")} if word in lines.FACTS else {}
+        is_said = word in lines.SENTENCES
+        if is_said:
+            more["sentence"] = {"type": "string"}
+        if word == "rule":
+            more["items"] = list_of("item of a rule")
+        definitions[word] = {"anyOf": [of_shape(lines, shape, more, ["sentence"] * is_said) for shape in shapes]}
+    named = lambda words: {"anyOf": [{"$ref": f"#/$defs/{word}"} for word in words]}
+    definitions["item of a rule"] = named(lines.ITEMS)
+    definitions["head line"] = named(word for word in lines.HEADS if word not in lines.ITEMS)
+    whole = {"schema": {"const": where_json.SCHEMA}, "lines": list_of("head line")}
+    about = {"$schema": "https://json-schema.org/draft/2020-12/schema", "title": "What igesolid where --json prints"}
+    return {**about, "type": "object", "properties": whole, "required": ["schema", "lines"], "additionalProperties": False, "$defs": definitions}
+
+
+def written(told):
+    return json.dumps(told, indent=1) + "\n"
+
+
+def on_page():
+    """The facts of each head line, and `a sentence`, as the table of docs/WHERE.md has them."""
+    page = (TOP / "docs" / "WHERE.md").read_text()
+    table = re.search(r"\| Head line \| .* \|\n\|[-|]+\n((?:\|.*\n)+)", page)[1]
+    for row in table.splitlines():
+        heads, facts = row[2:-2].split(" | ")
+        for head in re.findall(r"`(.*?)`", heads):
+            yield head, re.findall(r"`(.*?)`", facts), facts == "a sentence"
+
+
+def in_table(lines):
+    """The same by the table of the package."""
+    facts, heads = {}, []
+    for line in lines.TABLE.strip().split("\n"):
+        if line.startswith("  "):
+            facts.setdefault(heads[-1].split()[0], []).append(line[2:])
+        else:
+            heads.append(line)
+    for head in heads:
+        word = head.split()[0]
+        yield head, facts.get(lines.ALIKE.get(word, word), []), word in lines.SENTENCES
+
+
+def tables(where_json, lines):
+    yield "docs/WHERE.md: the shapes of lines are those of python/igesolid/where_lines.py", sorted(on_page()) == sorted(in_table(lines))
+    wanted = written(schema(where_json, lines))
+    yield "docs/where.schema.json: tests/where_json_tests.py --mend writes it anew", SCHEMA.exists() and SCHEMA.read_text() == wanted
+
+
+def validator(skipped):
+    """What tells whether an object is of the schema, by Debian's python3-jsonschema."""
+    for folder in ("", "/usr/lib/python3/dist-packages"):
+        sys.path += [folder] if folder else []
+        try:
+            import jsonschema
+
+            return jsonschema.Draft202012Validator(json.loads(SCHEMA.read_text())).is_valid
+        except (ImportError, AttributeError):
+            continue
+    skipped("JSON of where by its schema: python3-jsonschema isn't installed")
+    return None
+
+
+def texts(folder, program):
+    """The texts of `where` on the examples and on files made and changed at random, by name."""
+    runner, file = Runner(program), folder / "where.igs"
+    for name, data in itertools.chain(where.files(), where.random_files(range(RANDOM_CASES), SEED)):
+        file.write_bytes(data)
+        for words in ([], *([str(number), *more] for number in where.numbers_of(data) for more in ([], ["all"]))):
+            yield f"{name}: where {' '.join(['FILE', *words])}", runner.run([str(file), *words])[1].decode("utf-8", "surrogateescape")
+
+
+def round_trips(folder, program, where_json, is_valid):
+    for place, (name, text) in enumerate(texts(folder, program)):
+        told = json.loads(where_json.json_of(text))
+        yield f"{name}: JSON turned back is the text", where_json.text_of(told) == text
+        if is_valid and place % STEP == 0:
+            yield f"{name}: JSON is of the schema", is_valid(told)
+
+
+def refused(where_json, lines):
+    """Texts with a line of no shape, or laid out otherwise."""
+    good = (TOP / "tests" / "recorded" / "fail_pair.1.txt").read_text()
+    changed = good + "more\n", good.replace("\n\n", "\n", 1), good.replace("once\n  against", "once against"), good[:-1], good.replace("once 1", "once one")
+    for text in changed:
+        try:
+            where_json.json_of(text)
+            is_refused = False
+        except lines.NotUnderstood:
+            is_refused = True
+        yield f"where --json: refused: {text!r}", is_refused and text != good
+
+
+def launched(copy):
+    """The command in a clone: its answers, its statuses, and standard input."""
+    cube, pair = "examples/cube.igs", "examples/no/fail_pair.igs"
+    for words, status in ((pair, "1", "all"), 1), ((pair,), 1), ((cube, "1"), 0), (("examples/no/bad_length.igs", "1"), 3):
+        told = copy.run("./igesolid", "where", "--json", *words)
+        yield f"where --json {' '.join(words)}", (told[0], told[2]) == (status, "") and json.loads(told[1])["schema"] == 1
+    plain = copy.run("./igesolid", "where", "--json", cube, "1")
+    piped = copy.run("sh", "-c", f"cat {cube} | ./igesolid where --json - 1")
+    yield "where --json of standard input", piped == plain
+    yield "where --json of closed standard input", copy.run("sh", "-c", "./igesolid where --json - <&-") == (4, b"", "igesolid: standard input: is closed\n")
+    yield "where --json of no file", copy.run("./igesolid", "where", "--json", "none.igs") == (4, b"", "igesolid: none.igs: can't be opened: No such file or directory\n")
+    for words in ([], [cube, "x"], [cube, "1", "each"]):
+        told = copy.run("./igesolid", "where", "--json", *words)
+        yield f"where --json {' '.join(words)}: usage", told[:2] == (2, b"") and told[2].count("igesolid where --json FILE [N [all]]") == 1
+    full = copy.run("sh", "-c", f"./igesolid where --json {cube} >/dev/full")
+    yield "where --json on a full device", full[0] == 5 and full[2].count("\n") == 1 and "standard output failed" in full[2]
+    script = copy.folder / "odd"
+    clone.Clone.write(script, "#!/bin/sh\necho closed one\n")
+    told = copy.run("companion/where", "--program", script, "--json", cube)
+    yield "where --json of another text", told[:2] == (125, b"") and "isn't understood: closed one" in told[2]
+    yield "where --json: no caches are left", not any((copy.top / "python").rglob("__pycache__"))
+
+
+def checks(context):
+    where_json, lines = package()
+    yield from tables(where_json, lines)
+    yield from refused(where_json, lines)
+    yield from round_trips(context.new_folder(), context.programs.where, where_json, validator(context.skipped))
+    yield from launched(context.clone())
+
+
+if __name__ == "__main__":
+    if sys.argv[1:] != ["--mend"]:
+        sys.exit(__doc__)
+    SCHEMA.write_text(written(schema(*package())))
