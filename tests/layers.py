@@ -29,7 +29,7 @@ LONGER = {"where_command": 9, "reorient_laws": 9}
 LARGER = {"topo_certificate", "solid_faults"}
 # What says yes to certificates and orientations, and what makes them or parts of them.
 CHECKS = "topo_certificate", "cert_accept", "open_certificate", "orient_certificate"
-MAKES = {"vertex_link", "shell_reach", "cert_maker", "open_shells", "face_orient"}
+MAKES = {"vertex_link", "shell_flood", "shell_reach", "cert_maker", "open_shells", "face_orient"}
 
 
 def below(crates, crate):
