@@ -32,7 +32,7 @@ LONGER = {"where_command": 9, "reorient_laws": 9}
 LARGER = {"solid_faults"}
 # What says yes to certificates and orientations, and what makes them or parts of them.
 CHECKS = "cert_state", "topo_certificate", "cert_accept", "open_certificate", "orient_certificate"
-MAKES = {"vertex_link", "shell_reach", "cert_maker", "open_shells", "face_orient"}
+MAKES = {"vertex_link", "shell_flood", "shell_reach", "cert_maker", "open_shells", "face_orient"}
 
 
 def below(crates, crate):

@@ -9,44 +9,44 @@ use Rattle.solid_data.proofs.Members.{Has, All-at}
 use Rattle.solid_data.proofs.Occurring.{number_within}
 use Rattle.edge_uses.proofs.Steps.{default_apart}
 use Rattle.orient_certificate.specs.declared.crossing.Crossing.{Crossing}
-use Rattle.face_orient.specs.declared.flood.Place.{Place}
+use Rattle.face_orient.specs.declared.flag_walk.WalkedFace.{WalkedFace}
 use Rattle.orient_certificate.specs.Crossings.{flipped, Climb, Meets, IsGraph, IsOddWalk, no_step, partner_of}
-use Rattle.face_orient.specs.Flood.{IsFlood, IsDone, IsOrigin, IsChild, place_of, unreached}
+use Rattle.face_orient.specs.FlagWalk.{IsFlagWalk, IsDone, IsOrigin, IsChild, walked_of, unreached}
 use Rattle.orient_certificate.specs.Graph.{Suit}
 use Rattle.face_orient.specs.Paths.{EndAlike, LeadUpTo}
 use Rattle.face_orient.specs.Steady.{IsSteady}
 use Rattle.orient_certificate.proofs.Walks.{climb_push, odd_walk}
-use Rattle.face_orient.proofs.Floods.{listed_low, all_listed}
+use Rattle.face_orient.proofs.FlagWalks.{listed_low, all_listed}
 
-pub known_place : (n : ℕ) (cs : List Crossing) (first : Bool) (places : List Place) (order : List ℕ) (f : ℕ) (p : Place) → IsFlood n cs first places order
-    → Has order f → p ≡ get_or places f p → p ≡ place_of places f
-known_place n cs first places order f p flood m e =
-    e ∙ default_apart places f p unreached (omega (arith, listed_low n cs first places order f flood m, flood.size))
+pub known_place : (n : ℕ) (cs : List Crossing) (first : Bool) (places : List WalkedFace) (order : List ℕ) (f : ℕ) (p : WalkedFace) → IsFlagWalk n cs first places order
+    → Has order f → p ≡ get_or places f p → p ≡ walked_of places f
+known_place n cs first places order f p walk m e =
+    e ∙ default_apart places f p unreached (omega (arith, listed_low n cs first places order f walk m, walk.size))
 
-pub child_of : (n : ℕ) (cs : List Crossing) (first : Bool) (places : List Place) (order : List ℕ) (f : ℕ) → IsFlood n cs first places order → Has order f
-    → 0 < (place_of places f).depth → IsChild cs places f
-child_of n cs first places order f flood m deep = ⊎_elim (λ (o : IsOrigin first places f). absurd (omega (arith, deep, o.depth)))
-    (λ (o : IsChild cs places f). o) (flood.known f m)
+pub child_of : (n : ℕ) (cs : List Crossing) (first : Bool) (places : List WalkedFace) (order : List ℕ) (f : ℕ) → IsFlagWalk n cs first places order → Has order f
+    → 0 < (walked_of places f).depth → IsChild cs places f
+child_of n cs first places order f walk m deep = ⊎_elim (λ (o : IsOrigin first places f). absurd (omega (arith, deep, o.depth)))
+    (λ (o : IsChild cs places f). o) (walk.known f m)
 
 -- the face before, and the climb to it
-pub climb_up : (n : ℕ) (cs : List Crossing) (first : Bool) (places : List Place) (order : List ℕ) (f b : ℕ) (t : Bool) (path new : List ℕ) (p : Place)
-    → IsFlood n cs first places order → (child : IsChild cs places f) → p ≡ place_of places f → new ≡ path ++ p.up ∷ []
-    → Climb cs b t path f (place_of places f).flag → Has order (get_or cs p.up no_step).from × Climb cs b t new (get_or cs p.up no_step).from
-    (place_of places (get_or cs p.up no_step).from).flag
-climb_up n cs first places order f b t path new p flood child same e climbed =
-    let at : slice_get cs p.up ≡ Some child.step = ap (λ (x : Place). slice_get cs x.up) same ∙ child.at in
+pub climb_up : (n : ℕ) (cs : List Crossing) (first : Bool) (places : List WalkedFace) (order : List ℕ) (f b : ℕ) (t : Bool) (path new : List ℕ) (p : WalkedFace)
+    → IsFlagWalk n cs first places order → (child : IsChild cs places f) → p ≡ walked_of places f → new ≡ path ++ p.up ∷ []
+    → Climb cs b t path f (walked_of places f).flag → Has order (get_or cs p.up no_step).from × Climb cs b t new (get_or cs p.up no_step).from
+    (walked_of places (get_or cs p.up no_step).from).flag
+climb_up n cs first places order f b t path new p walk child same e climbed =
+    let at : slice_get cs p.up ≡ Some child.step = ap (λ (x : WalkedFace). slice_get cs x.up) same ∙ child.at in
     let step : get_or cs p.up no_step ≡ child.step = get_or_from_slice_get cs p.up child.step no_step at in
-    let on : Climb cs b t (path ++ p.up ∷ []) child.step.from (place_of places child.step.from).flag =
-    climb_push cs path b t f (place_of places f).flag p.up child.step (place_of places child.step.from).flag climbed at child.to child.flag in
-    subst (λ (x : Crossing). Has order x.from × Climb cs b t new x.from (place_of places x.from).flag) (sym step)
-    (flood.listed child.step.from child.parent, subst (λ rs. Climb cs b t rs child.step.from (place_of places child.step.from).flag) (sym e) on)
+    let on : Climb cs b t (path ++ p.up ∷ []) child.step.from (walked_of places child.step.from).flag =
+    climb_push cs path b t f (walked_of places f).flag p.up child.step (walked_of places child.step.from).flag climbed at child.to child.flag in
+    subst (λ (x : Crossing). Has order x.from × Climb cs b t new x.from (walked_of places x.from).flag) (sym step)
+    (walk.listed child.step.from child.parent, subst (λ rs. Climb cs b t rs child.step.from (walked_of places child.step.from).flag) (sym e) on)
 
 -- at the end of a climb lies the first face
-pub climb_done : (n : ℕ) (cs : List Crossing) (first : Bool) (places : List Place) (order : List ℕ) (f b : ℕ) (t : Bool) (path : List ℕ)
-    → IsFlood n cs first places order → Has order f → (place_of places f).depth ≡ 0 → Climb cs b t path f (place_of places f).flag → Climb cs b t path 0 first
-climb_done n cs first places order f b t path flood m flat climbed =
+pub climb_done : (n : ℕ) (cs : List Crossing) (first : Bool) (places : List WalkedFace) (order : List ℕ) (f b : ℕ) (t : Bool) (path : List ℕ)
+    → IsFlagWalk n cs first places order → Has order f → (walked_of places f).depth ≡ 0 → Climb cs b t path f (walked_of places f).flag → Climb cs b t path 0 first
+climb_done n cs first places order f b t path walk m flat climbed =
     ⊎_elim (λ (o : IsOrigin first places f). subst (λ g. Climb cs b t path g first) o.is_first (subst (Climb cs b t path f) o.flag climbed))
-    (λ (o : IsChild cs places f). absurd (omega (arith, flat, o.deeper))) (flood.known f m)
+    (λ (o : IsChild cs places f). absurd (omega (arith, flat, o.deeper))) (walk.known f m)
 
 -- the last row of a climb
 pub climb_pop : (cs : List Crossing) (path : List ℕ) (r b : ℕ) (t : Bool) (a : ℕ) (s : Bool) → Climb cs b t (path ++ r ∷ []) a s
@@ -93,18 +93,18 @@ pub ring_made : (n : ℕ) (cs : List Crossing) → IsGraph n cs → (r : ℕ) (c
 ring_made n cs graph r c p q down up at l ne rows e = subst (IsOddWalk cs) (sym e) (odd_walk n cs graph r c p q down up l.face l.flag at l.from_a l.from_b ne)
 
 -- all faces are listed, where all are reached
-pub all_known : (n : ℕ) (cs : List Crossing) (first : Bool) (places : List Place) (order : List ℕ) → IsFlood n cs first places order
+pub all_known : (n : ℕ) (cs : List Crossing) (first : Bool) (places : List WalkedFace) (order : List ℕ) → IsFlagWalk n cs first places order
     → ((g : ℕ) → Has order g → IsDone cs order g) → AllByRecursion (LeadsTo (Meets cs) 0) (numbers_from 0 n) → (f : ℕ) → f < n → Has order f
-all_known n cs first places order flood done all f lt =
+all_known n cs first places order walk done all f lt =
     let chain = All-at (LeadsTo (Meets cs) 0) (numbers_from 0 n) all f (number_within 0 n f (omega arith) (omega (arith, lt))) in
-    all_listed cs order done chain.0 0 f flood.begun chain.1
+    all_listed cs order done chain.0 0 f walk.begun chain.1
 
-flag_at : (places : List Place) (f : ℕ) → get_or (map (λ (p : Place). p.flag) places) f false ≡ (place_of places f).flag
+flag_at : (places : List WalkedFace) (f : ℕ) → get_or (map (λ (p : WalkedFace). p.flag) places) f false ≡ (walked_of places f).flag
 flag_at [] f = refl
 flag_at (p ∷ ps) zero = refl
 flag_at (p ∷ ps) (suc f) = flag_at ps f
 
-length-flags : (places : List Place) → length (map (λ (p : Place). p.flag) places) ≡ length places
+length-flags : (places : List WalkedFace) → length (map (λ (p : WalkedFace). p.flag) places) ≡ length places
 length-flags [] = refl
 length-flags (p ∷ ps) = ap suc (length-flags ps)
 
@@ -113,11 +113,11 @@ first_flag [] h = absurd (omega (arith, h))
 first_flag (b ∷ bs) h = refl
 
 -- the flags of steady places suit
-pub flags_suit : (n : ℕ) (cs : List Crossing) (first : Bool) (places : List Place) (order : List ℕ) (flags : List Bool) → IsFlood n cs first places order
-    → ((r : ℕ) (c : Crossing) → slice_get cs r ≡ Some c → IsSteady places c) → flags ≡ map (λ (p : Place). p.flag) places → Suit cs n first flags
-flags_suit n cs first places order flags flood steady e = subst (Suit cs n first) (sym e) (record {
-  each = length-flags places ∙ flood.size;
-  own = first_flag (map (λ (p : Place). p.flag) places)
-      (omega (arith, length-flags places, flood.size, listed_low n cs first places order 0 flood flood.begun)) ∙ ap Some (flag_at places 0 ∙ flood.origin.flag);
+pub flags_suit : (n : ℕ) (cs : List Crossing) (first : Bool) (places : List WalkedFace) (order : List ℕ) (flags : List Bool) → IsFlagWalk n cs first places order
+    → ((r : ℕ) (c : Crossing) → slice_get cs r ≡ Some c → IsSteady places c) → flags ≡ map (λ (p : WalkedFace). p.flag) places → Suit cs n first flags
+flags_suit n cs first places order flags walk steady e = subst (Suit cs n first) (sym e) (record {
+  each = length-flags places ∙ walk.size;
+  own = first_flag (map (λ (p : WalkedFace). p.flag) places)
+      (omega (arith, length-flags places, walk.size, listed_low n cs first places order 0 walk walk.begun)) ∙ ap Some (flag_at places 0 ∙ walk.origin.flag);
   agree = λ r c at. flag_at places c.to ∙ (steady r c at ∙ ap (flipped c.flips) (sym (flag_at places c.from)));
 })

@@ -1,3 +1,3 @@
 pub mod HeadLists
-pub mod Floods
+pub mod FlagWalks
 pub mod Climbs

@@ -1,4 +1,4 @@
 pub mod Heads
-pub mod Flood
+pub mod FlagWalk
 pub mod Paths
 pub mod Steady

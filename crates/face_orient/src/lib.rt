@@ -6,7 +6,7 @@
 #![tactic(auto)]
 
 mod finding;
-mod flood;
+mod flag_walk;
 mod heads;
 mod naming;
 mod orienting;

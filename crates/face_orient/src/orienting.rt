@@ -7,7 +7,7 @@ ghost use Rattle.orient_certificate.specs.Flags.{rows_at, FlagsFit};
 ghost use Rattle.orient_certificate.specs.Outcome.{IsOrientation, IsFirstFailing, IsFault, IsNoMemory, FailsSo};
 
 use crate::finding::{first_unreached, found};
-use crate::flood::Flood;
+use crate::flag_walk::FlagWalk;
 use crate::naming::unreached;
 use orient_certificate::{OrientFault, Orientation, graph_of};
 use solid_data::{ShellAt, Solid};
@@ -23,12 +23,12 @@ fn oriented(alloc: Global, solid: &Solid, shell: ShellAt) -> Result<Orientation,
 {
     let graph = graph_of(alloc, solid, shell)?;
     let crossings = graph.crossings.as_slice();
-    let flood = Flood::of(alloc, crossings, graph.faces, graph.first)?;
-    if let Some(face) = first_unreached(&flood, crossings, graph.faces, graph.first) {
+    let walk = FlagWalk::of(alloc, crossings, graph.faces, graph.first)?;
+    if let Some(face) = first_unreached(&walk, crossings, graph.faces, graph.first) {
         let shell = solid.shell(shell).unwrap();
         return Err(OrientFault::Fails(unreached(shell, face)));
     }
-    Ok(found(alloc, crossings, &flood, graph.faces, graph.first)?)
+    Ok(found(alloc, crossings, &walk, graph.faces, graph.first)?)
 }
 
 /// Flags for the faces of a shell, the first face's its own, under which the two rows of each edge run in opposite

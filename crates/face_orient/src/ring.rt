@@ -5,11 +5,11 @@ ghost use Rattle.std.specs.List.{AllByRecursion};
 ghost use Rattle.solid_data.proofs.Members.{Has};
 ghost use Rattle.orient_certificate.specs.OddRing.{row_numbers};
 ghost use Rattle.orient_certificate.specs.Crossings.{IsGraph, Climb, IsOddWalk, partner_of, flipped};
-ghost use Rattle.face_orient.specs.Flood.{IsFlood, place_of};
+ghost use Rattle.face_orient.specs.FlagWalk.{IsFlagWalk, walked_of};
 ghost use Rattle.orient_certificate.specs.declared.crossing.Crossing.{Crossing as AnyCrossing};
 ghost use Rattle.face_orient.specs.Paths.{EndAlike, LeadUpTo};
 
-use crate::flood::Flood;
+use crate::flag_walk::FlagWalk;
 use iges_base::NoMemory;
 use orient_certificate::Crossing;
 use solid_data::{RowId, RowList};
@@ -19,20 +19,20 @@ use std::alloc::Global;
 fn climb(
     alloc: Global,
     crossings: &[Crossing],
-    flood: &Flood,
+    walk: &FlagWalk,
     faces: usize,
     first: bool,
     face: u32,
 ) -> Result<Vec<u32>, NoMemory>
-    requires flood { IsFlood faces crossings.now first flood.now.places.items flood.now.order.items }
-    requires known { Has flood.now.order.items face }
+    requires walk { IsFlagWalk faces crossings.now first walk.now.places.items walk.now.order.items }
+    requires known { Has walk.now.order.items face }
     ensures { IfOk result (λ path. Climb crossings.now face
-        (place_of flood.now.places.items face).flag path.items 0 first) }
+        (walked_of walk.now.places.items face).flag path.items 0 first) }
 {
     let mut path = Vec::new(alloc);
     let mut at = face;
-    'up: while flood.places[at as usize].depth > 0 {
-        let up = flood.places[at as usize].up;
+    'up: while walk.places[at as usize].depth > 0 {
+        let up = walk.places[at as usize].up;
         path.push(up)?;
         at = crossings[up as usize].from;
     }
@@ -107,23 +107,23 @@ fn joined(
 pub(crate) fn ring_of(
     alloc: Global,
     crossings: &[Crossing],
-    flood: &Flood,
+    walk: &FlagWalk,
     faces: usize,
     first: bool,
     r: u32,
 ) -> Result<RowList, NoMemory>
     requires graph { IsGraph faces crossings.now }
-    requires flood { IsFlood faces crossings.now first flood.now.places.items flood.now.order.items }
-    requires all { (f : ℕ) → f < faces → Has flood.now.order.items f }
+    requires walk { IsFlagWalk faces crossings.now first walk.now.places.items walk.now.order.items }
+    requires all { (f : ℕ) → f < faces → Has walk.now.order.items f }
     requires row { r < length crossings.now }
     requires odd { (c : AnyCrossing) → slice_get crossings.now r ≡ Some c
-        → (place_of flood.now.places.items c.to).flag ≢ flipped c.flips
-        (place_of flood.now.places.items c.from).flag }
+        → (walked_of walk.now.places.items c.to).flag ≢ flipped c.flips
+        (walked_of walk.now.places.items c.from).flag }
     ensures { IfOk result (λ rows. IsOddWalk crossings.now (row_numbers rows)) }
 {
     let step = crossings[r as usize];
-    let mut down = climb(alloc, crossings, flood, faces, first, step.from)?;
-    let mut up = climb(alloc, crossings, flood, faces, first, step.to)?;
+    let mut down = climb(alloc, crossings, walk, faces, first, step.from)?;
+    let mut up = climb(alloc, crossings, walk, faces, first, step.to)?;
     drop_common(&mut down, &mut up);
     joined(alloc, crossings, down.as_slice(), r, up.as_slice())
 }

@@ -136,14 +136,14 @@ fn renaming_of(alloc: Global, file: &File, no: EntryNo) -> Result<Renaming, Extr
             reason: ExtractReason::NotSolid,
         });
     }
-    let flood = reach(alloc, file, no)?;
-    if let Some(refusal) = flood.refusal {
+    let found = reach(alloc, file, no)?;
+    if let Some(refusal) = found.refusal {
         return Err(ExtractFault::Refused {
             entity: refusal.entity,
             reason: refusal.reason,
         });
     }
-    let kept = flood.reached.rising(alloc)?;
+    let kept = found.reached.rising(alloc)?;
     let renaming = Renaming::new(alloc, kept, file.entry_count())?;
     Ok(renaming)
 }

@@ -12,7 +12,7 @@ use std::alloc::Global;
 
 /// The entries that a chain of references reaches, and the least of them that has a fault.
 #[derive(Drop)]
-pub struct Flood {
+pub struct ReachedEntries {
     pub reached: EntrySet,
     pub refusal: Option<Refusal>,
 }
@@ -71,11 +71,11 @@ fn least_of(
 }
 
 /// What is reached from an entry. A faulty entity refers to nothing.
-pub fn reach(alloc: Global, file: &File, no: EntryNo) -> Result<Flood, NoMemory>
+pub fn reach(alloc: Global, file: &File, no: EntryNo) -> Result<ReachedEntries, NoMemory>
     requires { IsSome (named file.now (pos no.0)) }
     ensures flooded { IfOk result
-        (λ flood. IsFlooded file.now no.0 flood.reached.numbers flood.refusal) }
-    ensures size { IfOk result (λ flood. flood.reached.size ≡ length file.now.entries) }
+        (λ found. IsFlooded file.now no.0 found.reached.numbers found.refusal) }
+    ensures size { IfOk result (λ found. found.reached.size ≡ length file.now.entries) }
 {
     let mut reached = EntrySet::new(alloc, file.entry_count())?;
     reached.add(no)?;
@@ -86,5 +86,5 @@ pub fn reach(alloc: Global, file: &File, no: EntryNo) -> Result<Flood, NoMemory>
         refusal = least_of(refusal, entity, fault);
         next += 1;
     }
-    Ok(Flood { reached, refusal })
+    Ok(ReachedEntries { reached, refusal })
 }

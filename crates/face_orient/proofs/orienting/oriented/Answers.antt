@@ -32,8 +32,8 @@ returns-in-Some-clause-fault c =
 
 pub found-requires-clause-all : goal.found-requires-clause-all
 found-requires-clause-all c =
-    all_known c.in_ok-graph.graph.faces c.as_slice-crossings.result.now c.in_ok-graph.graph.first c.in_ok-flood.flood.places.items
-    c.in_ok-flood.flood.order.items c.in_ok-flood.ensures.flood c.in_ok-flood.ensures.done
+    all_known c.in_ok-graph.graph.faces c.as_slice-crossings.result.now c.in_ok-graph.graph.first c.in_ok-walk.walk.places.items
+    c.in_ok-walk.walk.order.items c.in_ok-walk.ensures.walk c.in_ok-walk.ensures.done
     (none_of c.first_unreached.result _ _ c.in_default.not-Some c.first_unreached.ensures)
 
 pub returns-clause-found : goal.returns-clause-found

@@ -8,7 +8,7 @@ ghost use Rattle.solid_data.specs.Ring.{numbers_from};
 ghost use Rattle.solid_data.specs.Obligations.{FirstNot};
 ghost use Rattle.orient_certificate.specs.Crossings.{IsGraph, Meets, Walk, flipped};
 ghost use Rattle.face_orient.specs.Heads.{AreHeads};
-ghost use Rattle.face_orient.specs.Flood.{IsFlood, IsDone, Grows, place_of};
+ghost use Rattle.face_orient.specs.FlagWalk.{IsFlagWalk, IsDone, Grows, walked_of};
 ghost use Rattle.solid_data.specs.declared.TheConstants.{PART_LIMIT};
 
 use crate::heads::{Heads, heads_of};
@@ -18,7 +18,7 @@ use std::alloc::Global;
 
 /// Whether a face is reached, and then the flag that it must have, how many steps lead to it, and the last of these.
 #[derive(Clone, Copy)]
-pub struct Place {
+pub struct WalkedFace {
     /// Whether steps lead here from the first face.
     pub reached: bool,
     /// The shell's flag for the face, as it follows from that of the first face; false where the face isn't reached.
@@ -29,25 +29,25 @@ pub struct Place {
     pub up: u32,
 }
 
-const UNREACHED: Place = Place {
+const UNREACHED: WalkedFace = WalkedFace {
     reached: false,
     flag: false,
     depth: 0,
     up: 0,
 };
 
-/// A place for each face, and the faces reached in their order.
+/// What is known of each face, and the faces reached in their order.
 #[derive(Drop)]
-pub struct Flood {
+pub struct FlagWalk {
     /// One for each face of the shell, by its number from 0.
-    pub places: Vec<Place>,
+    pub places: Vec<WalkedFace>,
     /// The reached faces, from 0, in the order in which they were reached; the first face is the first.
     pub order: Vec<u32>,
 }
 
-impl Flood {
+impl FlagWalk {
     // Counts a face as reached.
-    fn add(&mut self, face: u32, place: Place) -> Result<(), NoMemory>
+    fn add(&mut self, face: u32, place: WalkedFace) -> Result<(), NoMemory>
         requires { face < length self.old.places.items }
         ensures places { IfOk result (λ _. self.new.places.items
             ≡ slice_set self.old.places.items face place) }
@@ -72,9 +72,9 @@ impl Flood {
         requires row { r < length crossings.now }
         requires known { (c : Crossing) → slice_get crossings.now r ≡ Some c
             → Has self.old.order.items c.from }
-        requires flood { IsFlood faces crossings.now first self.old.places.items self.old.order.items }
-        ensures flood { IfOk result
-            (λ _. IsFlood faces crossings.now first self.new.places.items self.new.order.items) }
+        requires walk { IsFlagWalk faces crossings.now first self.old.places.items self.old.order.items }
+        ensures walk { IfOk result
+            (λ _. IsFlagWalk faces crossings.now first self.new.places.items self.new.order.items) }
         ensures grows { IfOk result (λ _. Grows self.old.order.items self.new.order.items) }
         ensures there { IfOk result (λ _. (c : Crossing) → slice_get crossings.now r ≡ Some c
             → Has self.new.order.items c.to) }
@@ -84,7 +84,7 @@ impl Flood {
             return Ok(());
         }
         let here = self.places[step.from as usize];
-        let there = Place {
+        let there = WalkedFace {
             reached: true,
             flag: flip(step.flips, here.flag),
             depth: here.depth + 1,
@@ -107,9 +107,9 @@ impl Flood {
         requires table { AreHeads faces crossings.now heads.now.first.items heads.now.next.items }
         requires known { Has self.old.order.items face }
         requires low { face < faces }
-        requires flood { IsFlood faces crossings.now first self.old.places.items self.old.order.items }
-        ensures flood { IfOk result
-            (λ _. IsFlood faces crossings.now first self.new.places.items self.new.order.items) }
+        requires walk { IsFlagWalk faces crossings.now first self.old.places.items self.old.order.items }
+        ensures walk { IfOk result
+            (λ _. IsFlagWalk faces crossings.now first self.new.places.items self.new.order.items) }
         ensures grows { IfOk result (λ _. Grows self.old.order.items self.new.order.items) }
         ensures done { IfOk result (λ _. IsDone crossings.now self.new.order.items face) }
     {
@@ -133,9 +133,9 @@ impl Flood {
         requires graph { IsGraph faces crossings.now }
         requires few { faces < PART_LIMIT }
         requires table { AreHeads faces crossings.now heads.now.first.items heads.now.next.items }
-        requires flood { IsFlood faces crossings.now first self.old.places.items self.old.order.items }
-        ensures flood { IfOk result
-            (λ _. IsFlood faces crossings.now first self.new.places.items self.new.order.items) }
+        requires walk { IsFlagWalk faces crossings.now first self.old.places.items self.old.order.items }
+        ensures walk { IfOk result
+            (λ _. IsFlagWalk faces crossings.now first self.new.places.items self.new.order.items) }
         ensures grows { IfOk result (λ _. Grows self.old.order.items self.new.order.items) }
         ensures same { IfOk result (λ _. length self.old.order.items ≤ q
             → self.new.order.items ≡ self.old.order.items) }
@@ -155,13 +155,13 @@ impl Flood {
         crossings: &[Crossing],
         faces: usize,
         first: bool,
-    ) -> Result<Flood, NoMemory>
+    ) -> Result<FlagWalk, NoMemory>
         requires { 0 < faces }
         ensures { IfOk result
-            (λ flood. IsFlood faces crossings.now first flood.places.items flood.order.items) }
+            (λ walk. IsFlagWalk faces crossings.now first walk.places.items walk.order.items) }
     {
         let mut places = vec![in alloc; UNREACHED; faces]?;
-        places[0] = Place {
+        places[0] = WalkedFace {
             reached: true,
             flag: first,
             depth: 0,
@@ -169,7 +169,7 @@ impl Flood {
         };
         let mut order = Vec::new(alloc);
         order.push(0)?;
-        Ok(Flood { places, order })
+        Ok(FlagWalk { places, order })
     }
 
     /// All faces that steps reach from the first one, which has this flag.
@@ -178,21 +178,21 @@ impl Flood {
         crossings: &[Crossing],
         faces: usize,
         first: bool,
-    ) -> Result<Flood, NoMemory>
+    ) -> Result<FlagWalk, NoMemory>
         requires graph { IsGraph faces crossings.now }
         requires some { 0 < faces }
         requires few { faces < PART_LIMIT }
         requires few_steps { length crossings.now < PART_LIMIT }
-        ensures flood { IfOk result
-            (λ flood. IsFlood faces crossings.now first flood.places.items flood.order.items) }
-        ensures done { IfOk result (λ flood. (f : ℕ) → Has flood.order.items f
-            → IsDone crossings.now flood.order.items f) }
+        ensures walk { IfOk result
+            (λ walk. IsFlagWalk faces crossings.now first walk.places.items walk.order.items) }
+        ensures done { IfOk result (λ walk. (f : ℕ) → Has walk.order.items f
+            → IsDone crossings.now walk.order.items f) }
     {
         let heads = heads_of(alloc, crossings, faces)?;
-        let mut flood = Flood::start(alloc, crossings, faces, first)?;
+        let mut walk = FlagWalk::start(alloc, crossings, faces, first)?;
         'places: for q in 0..faces {
-            flood.leave_next(crossings, faces, first, &heads, q)?;
+            walk.leave_next(crossings, faces, first, &heads, q)?;
         }
-        Ok(flood)
+        Ok(walk)
     }
 }

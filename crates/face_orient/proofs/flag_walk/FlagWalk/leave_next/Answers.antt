@@ -1,9 +1,9 @@
 use Rattle.std.proofs.Common.{◌≡◌, ◌<◌, ◌∙◌, sym, ap, subst, arith, Some, slice_get, length}
 use Rattle.std.proofs.lemmas.Option.{slice_get-get_or}
 use Rattle.solid_data.proofs.Members.{has_get}
-use Rattle.face_orient.specs.Flood.{IsDone}
-use Rattle.face_orient.proofs.Floods.{listed_low, ok_two, place_is}
-use Rattle.face_orient.proofs.flood.Flood.leave_next.Goals as goal
+use Rattle.face_orient.specs.FlagWalk.{IsDone}
+use Rattle.face_orient.proofs.FlagWalks.{listed_low, ok_two, place_is}
+use Rattle.face_orient.proofs.flag_walk.FlagWalk.leave_next.Goals as goal
 
 pub leave-requires-clause-known : goal.leave-requires-clause-known
 leave-requires-clause-known c =
@@ -14,7 +14,7 @@ leave-requires-clause-known c =
 pub leave-requires-clause-low : goal.leave-requires-clause-low
 leave-requires-clause-low c =
     let low : c.args.q < length c.args.self.now.order.items = omega (arith, c.len.ensures) in
-    listed_low c.args.faces c.args.crossings.now c.args.first c.args.self.now.places.items c.args.self.now.order.items c.index-face.result.now c.requires.flood
+    listed_low c.args.faces c.args.crossings.now c.args.first c.args.self.now.places.items c.args.self.now.order.items c.index-face.result.now c.requires.walk
     (has_get c.args.self.now.order.items c.args.q c.index-face.result.now
     (slice_get-get_or c.args.self.now.order.items c.args.q c.index-face.result.now low ∙ ap Some (sym c.index-face.ensures)))
 

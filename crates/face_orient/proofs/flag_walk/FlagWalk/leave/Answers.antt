@@ -3,12 +3,12 @@ use Rattle.solid_data.proofs.Members.{Has}
 use Rattle.face_orient.specs.Heads.{IsHead}
 use Rattle.face_orient.proofs.HeadLists.{one_face}
 use Rattle.std.proofs.Common.{refl}
-use Rattle.face_orient.proofs.Floods.{left_none, left_more, left_all, first_head, next_head, grows_none, grows_more, still_has}
-use Rattle.face_orient.proofs.flood.Flood.leave.Goals as goal
+use Rattle.face_orient.proofs.FlagWalks.{left_none, left_more, left_all, first_head, next_head, grows_none, grows_more, still_has}
+use Rattle.face_orient.proofs.flag_walk.FlagWalk.leave.Goals as goal
 
 pub steps-init : goal.steps-init
 steps-init c = record {
-  flood = c.requires.flood;
+  walk = c.requires.walk;
   grows = grows_none c.args.self.now.order.items;
   left = left_none c.args.crossings.now c.args.face c.index-r.result.now c.args.self.now.order.items
       (first_head c.args.faces c.args.crossings.now c.args.face c.index-r.result.now c.args.heads.now.first.items c.args.heads.now.next.items c.requires.table
@@ -37,7 +37,7 @@ steps-preserved c =
     next_head c.args.faces c.args.crossings.now c.args.face c.steps.r c.index-r-in-steps.result.now c.args.heads.now.first.items
     c.args.heads.now.next.items c.requires.table (c.steps.invariant.left.here low) c.index-r-in-steps.ensures in
     record {
-      flood = c.in_ok-cross.ensures.flood;
+      walk = c.in_ok-cross.ensures.walk;
       grows = grows_more c.args.self.now.order.items c.steps.self.order.items c.cross.new.self.order.items c.steps.invariant.grows c.in_ok-cross.ensures.grows;
       left = left_more c.args.crossings.now c.args.face c.steps.r c.index-r-in-steps.result.now c.steps.self.order.items c.cross.new.self.order.items
           c.steps.invariant.left head c.in_ok-cross.ensures.grows c.in_ok-cross.ensures.there;

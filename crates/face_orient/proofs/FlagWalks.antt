@@ -17,10 +17,10 @@ use Rattle.edge_uses.proofs.FirstOf.{LeftIn, left_in_less, left_in_fails, left_i
 use Rattle.edge_uses.proofs.Steps.{default_apart}
 use Rattle.edge_uses.proofs.Tallies.{set_same, set_other}
 use Rattle.orient_certificate.specs.declared.crossing.Crossing.{Crossing}
-use Rattle.face_orient.specs.declared.flood.Place.{Place}
+use Rattle.face_orient.specs.declared.flag_walk.WalkedFace.{WalkedFace}
 use Rattle.orient_certificate.specs.Crossings.{flipped, IsGraph, Meets}
 use Rattle.face_orient.specs.Heads.{Leaves, IsHead, AreHeads}
-use Rattle.face_orient.specs.Flood.{IsFlood, IsDone, IsOrigin, IsChild, Grows, place_of, unreached}
+use Rattle.face_orient.specs.FlagWalk.{IsFlagWalk, IsDone, IsOrigin, IsChild, Grows, walked_of, unreached}
 
 none_last : (xs : List ℕ) (y : ℕ) → NoRepeat xs → (Has xs y → ⊥) → NoRepeat (xs ++ y ∷ [])
 none_last [] y none new = ((λ h. h), tt)
@@ -35,98 +35,98 @@ grows_more xs ys zs (a, e) (b, k) = (a ++ b, k ∙ (ap (λ ws. ws ++ b) e ∙ ap
 pub still_has : (xs ys : List ℕ) (x : ℕ) → Grows xs ys → Has xs x → Has ys x
 still_has xs ys x (a, e) h = subst (λ ws. Has ws x) (sym e) (has_left xs a x h)
 
-pub reached_low : (places : List Place) (f : ℕ) → (place_of places f).reached ≡ true → f < length places
+pub reached_low : (places : List WalkedFace) (f : ℕ) → (walked_of places f).reached ≡ true → f < length places
 reached_low [] f h = let e : false ≡ true = h in absurd (cc)
 reached_low (p ∷ ps) zero h = omega arith
 reached_low (p ∷ ps) (suc f) h = omega (arith, reached_low ps f h)
 
-pub listed_low : (n : ℕ) (cs : List Crossing) (first : Bool) (places : List Place) (order : List ℕ) (f : ℕ) → IsFlood n cs first places order → Has order f
+pub listed_low : (n : ℕ) (cs : List Crossing) (first : Bool) (places : List WalkedFace) (order : List ℕ) (f : ℕ) → IsFlagWalk n cs first places order → Has order f
     → f < n
 listed_low n cs first places order f h m = omega (arith, reached_low places f (h.marked f m), h.size)
 
 -- the other face is new
-pub flood_more : (n : ℕ) (cs : List Crossing) (first : Bool) (places : List Place) (order : List ℕ) (r : ℕ) (c : Crossing) (p : Place) → IsGraph n cs
-    → IsFlood n cs first places order → slice_get cs r ≡ Some c → Has order c.from
-    → (place_of places c.to).reached ≡ false → p.reached ≡ true → p.flag ≡ flipped c.flips (place_of places c.from).flag
-    → p.depth ≡ (place_of places c.from).depth + 1 → p.up ≡ r
-    → IsFlood n cs first (slice_set places c.to p) (order ++ c.to ∷ [])
-flood_more n cs first places order r c p graph flood at known unmarked is_reached is_flag is_depth is_up = record {
-  size = length-set places c.to p ∙ flood.size;
+pub walk_more : (n : ℕ) (cs : List Crossing) (first : Bool) (places : List WalkedFace) (order : List ℕ) (r : ℕ) (c : Crossing) (p : WalkedFace) → IsGraph n cs
+    → IsFlagWalk n cs first places order → slice_get cs r ≡ Some c → Has order c.from
+    → (walked_of places c.to).reached ≡ false → p.reached ≡ true → p.flag ≡ flipped c.flips (walked_of places c.from).flag
+    → p.depth ≡ (walked_of places c.from).depth + 1 → p.up ≡ r
+    → IsFlagWalk n cs first (slice_set places c.to p) (order ++ c.to ∷ [])
+walk_more n cs first places order r c p graph walk at known unmarked is_reached is_flag is_depth is_up = record {
+  size = length-set places c.to p ∙ walk.size;
   listed = λ f h. listed f (eqb_tells c.to f) h;
-  marked = λ f h. ⊎_elim (λ a. ap (λ (x : Place). x.reached) (keeps f a) ∙ flood.marked f a)
-      (λ e. subst (λ k. (place_of (slice_set places c.to p) k).reached ≡ true) e (ap (λ (x : Place). x.reached) here ∙ is_reached)) (has_last order c.to f h);
-  begun = has_left order (c.to ∷ []) 0 flood.begun;
-  origin = origin 0 flood.begun flood.origin;
-  known = λ f h. ⊎_elim (λ a. old f a (flood.known f a))
+  marked = λ f h. ⊎_elim (λ a. ap (λ (x : WalkedFace). x.reached) (keeps f a) ∙ walk.marked f a)
+      (λ e. subst (λ k. (walked_of (slice_set places c.to p) k).reached ≡ true) e (ap (λ (x : WalkedFace). x.reached) here ∙ is_reached)) (has_last order c.to f h);
+  begun = has_left order (c.to ∷ []) 0 walk.begun;
+  origin = origin 0 walk.begun walk.origin;
+  known = λ f h. ⊎_elim (λ a. old f a (walk.known f a))
       (λ e. subst (λ k. IsOrigin first (slice_set places c.to p) k ⊎ IsChild cs (slice_set places c.to p) k) e (inr this)) (has_last order c.to f h);
   shallow = λ f h. ⊎_elim
-      (λ a. omega (arith, ap (λ (x : Place). x.depth) (keeps f a), flood.shallow f a, length-append order (c.to ∷ [])))
-      (λ e. subst (λ k. (place_of (slice_set places c.to p) k).depth < length (order ++ c.to ∷ [])) e
-      (omega (arith, ap (λ (x : Place). x.depth) here, is_depth, flood.shallow c.from known, length-append order (c.to ∷ []))))
+      (λ a. omega (arith, ap (λ (x : WalkedFace). x.depth) (keeps f a), walk.shallow f a, length-append order (c.to ∷ [])))
+      (λ e. subst (λ k. (walked_of (slice_set places c.to p) k).depth < length (order ++ c.to ∷ [])) e
+      (omega (arith, ap (λ (x : WalkedFace). x.depth) here, is_depth, walk.shallow c.from known, length-append order (c.to ∷ []))))
       (has_last order c.to f h);
-  apart = none_last order c.to flood.apart new;
+  apart = none_last order c.to walk.apart new;
 }
   where
     low : c.to < length places
-    low = omega (arith, graph.to_low r c at, flood.size)
+    low = omega (arith, graph.to_low r c at, walk.size)
 
     new : Has order c.to → ⊥
-    new h = let e : true ≡ false = sym (flood.marked c.to h) ∙ unmarked in absurd (cc)
+    new h = let e : true ≡ false = sym (walk.marked c.to h) ∙ unmarked in absurd (cc)
 
-    here : place_of (slice_set places c.to p) c.to ≡ p
+    here : walked_of (slice_set places c.to p) c.to ≡ p
     here = set_same places c.to p unreached low
 
-    keeps : (f : ℕ) → Has order f → place_of (slice_set places c.to p) f ≡ place_of places f
+    keeps : (f : ℕ) → Has order f → walked_of (slice_set places c.to p) f ≡ walked_of places f
     keeps f h = set_other places c.to f p unreached (λ e. new (subst (Has order) (sym e) h))
 
-    listed : (f : ℕ) → (((c.to == f) ≡ true) × (c.to ≡ f)) ⊎ (((c.to == f) ≡ false) × (c.to ≢ f)) → (place_of (slice_set places c.to p) f).reached ≡ true
+    listed : (f : ℕ) → (((c.to == f) ≡ true) × (c.to ≡ f)) ⊎ (((c.to == f) ≡ false) × (c.to ≢ f)) → (walked_of (slice_set places c.to p) f).reached ≡ true
         → Has (order ++ c.to ∷ []) f
     listed f (inl y) h = has_right order (c.to ∷ []) f (inl y.1)
-    listed f (inr m) h = has_left order (c.to ∷ []) f (flood.listed f (ap (λ (x : Place). x.reached) (sym (set_other places c.to f p unreached m.1)) ∙ h))
+    listed f (inr m) h = has_left order (c.to ∷ []) f (walk.listed f (ap (λ (x : WalkedFace). x.reached) (sym (set_other places c.to f p unreached m.1)) ∙ h))
 
     origin : (f : ℕ) → Has order f → IsOrigin first places f → IsOrigin first (slice_set places c.to p) f
     origin f a o = record {
       is_first = o.is_first;
-      depth = ap (λ (x : Place). x.depth) (keeps f a) ∙ o.depth;
-      flag = ap (λ (x : Place). x.flag) (keeps f a) ∙ o.flag;
+      depth = ap (λ (x : WalkedFace). x.depth) (keeps f a) ∙ o.depth;
+      flag = ap (λ (x : WalkedFace). x.flag) (keeps f a) ∙ o.flag;
     }
 
     old : (f : ℕ) → Has order f → IsOrigin first places f ⊎ IsChild cs places f → IsOrigin first (slice_set places c.to p) f
         ⊎ IsChild cs (slice_set places c.to p) f
     old f a (inl o) = inl (origin f a o)
     old f a (inr o) =
-        let above : place_of (slice_set places c.to p) o.step.from ≡ place_of places o.step.from = keeps o.step.from (flood.listed o.step.from o.parent) in
+        let above : walked_of (slice_set places c.to p) o.step.from ≡ walked_of places o.step.from = keeps o.step.from (walk.listed o.step.from o.parent) in
         inr (record {
           step = o.step;
-          at = ap (λ (x : Place). slice_get cs x.up) (keeps f a) ∙ o.at;
+          at = ap (λ (x : WalkedFace). slice_get cs x.up) (keeps f a) ∙ o.at;
           to = o.to;
-          parent = ap (λ (x : Place). x.reached) above ∙ o.parent;
-          deeper = omega (arith, ap (λ (x : Place). x.depth) (keeps f a), ap (λ (x : Place). x.depth) above, o.deeper);
-          flag = ap (λ (x : Place). x.flag) (keeps f a) ∙ (o.flag ∙ ap (λ (x : Place). flipped o.step.flips x.flag) (sym above));
+          parent = ap (λ (x : WalkedFace). x.reached) above ∙ o.parent;
+          deeper = omega (arith, ap (λ (x : WalkedFace). x.depth) (keeps f a), ap (λ (x : WalkedFace). x.depth) above, o.deeper);
+          flag = ap (λ (x : WalkedFace). x.flag) (keeps f a) ∙ (o.flag ∙ ap (λ (x : WalkedFace). flipped o.step.flips x.flag) (sym above));
         })
 
     this : IsChild cs (slice_set places c.to p) c.to
     this =
-        let above : place_of (slice_set places c.to p) c.from ≡ place_of places c.from = keeps c.from known in
+        let above : walked_of (slice_set places c.to p) c.from ≡ walked_of places c.from = keeps c.from known in
         record {
           step = c;
-          at = ap (λ (x : Place). slice_get cs x.up) here ∙ (ap (slice_get cs) is_up ∙ at);
+          at = ap (λ (x : WalkedFace). slice_get cs x.up) here ∙ (ap (slice_get cs) is_up ∙ at);
           to = refl;
-          parent = ap (λ (x : Place). x.reached) above ∙ flood.marked c.from known;
-          deeper = omega (arith, ap (λ (x : Place). x.depth) here, is_depth, ap (λ (x : Place). x.depth) above);
-          flag = ap (λ (x : Place). x.flag) here ∙ (is_flag ∙ ap (λ (x : Place). flipped c.flips x.flag) (sym above));
+          parent = ap (λ (x : WalkedFace). x.reached) above ∙ walk.marked c.from known;
+          deeper = omega (arith, ap (λ (x : WalkedFace). x.depth) here, is_depth, ap (λ (x : WalkedFace). x.depth) above);
+          flag = ap (λ (x : WalkedFace). x.flag) here ∙ (is_flag ∙ ap (λ (x : WalkedFace). flipped c.flips x.flag) (sym above));
         }
 
 in_numbers : (n f : ℕ) → f < n → Has (numbers_from 0 n) f
 in_numbers n f lt = number_within 0 n f (omega arith) (omega (arith, lt))
 
-pub order_few : (n : ℕ) (cs : List Crossing) (first : Bool) (places : List Place) (order : List ℕ) → IsFlood n cs first places order → length order ≤ n
+pub order_few : (n : ℕ) (cs : List Crossing) (first : Bool) (places : List WalkedFace) (order : List ℕ) → IsFlagWalk n cs first places order → length order ≤ n
 order_few n cs first places order h =
     omega (arith, no_longer order (numbers_from 0 n) h.apart (λ f m. in_numbers n f (listed_low n cs first places order f h m)), length-numbers 0 n)
 
 -- the depth of a face that is reached
-pub depth_low : (n : ℕ) (cs : List Crossing) (first : Bool) (places : List Place) (order : List ℕ) (f : ℕ) → IsFlood n cs first places order → Has order f
-    → (place_of places f).depth < n
+pub depth_low : (n : ℕ) (cs : List Crossing) (first : Bool) (places : List WalkedFace) (order : List ℕ) (f : ℕ) → IsFlagWalk n cs first places order → Has order f
+    → (walked_of places f).depth < n
 depth_low n cs first places order f h m = omega (arith, h.shallow f m, order_few n cs first places order h)
 
 -- Leaving a face: of its steps all below this one are crossed.
@@ -169,9 +169,9 @@ pub ok_two : {T E : Type 0} (r : Result T E) (P Q S : T → Type 0) → ((x : T)
 ok_two (Ok x) P Q S f p q = f x p q
 ok_two (Err e) P Q S f p q = p
 
-pub flood_as : (n : ℕ) (cs : List Crossing) (first : Bool) (places ps : List Place) (order os : List ℕ) → IsFlood n cs first places order → ps ≡ places
-    → os ≡ order → IsFlood n cs first ps os
-flood_as n cs first places ps order os h a b = subst (λ x. IsFlood n cs first ps x) (sym b) (subst (λ x. IsFlood n cs first x order) (sym a) h)
+pub walk_as : (n : ℕ) (cs : List Crossing) (first : Bool) (places ps : List WalkedFace) (order os : List ℕ) → IsFlagWalk n cs first places order → ps ≡ places
+    → os ≡ order → IsFlagWalk n cs first ps os
+walk_as n cs first places ps order os h a b = subst (λ x. IsFlagWalk n cs first ps x) (sym b) (subst (λ x. IsFlagWalk n cs first x order) (sym a) h)
 
 pub first_head : (n : ℕ) (cs : List Crossing) (face a : ℕ) (first next : List ℕ) → AreHeads n cs first next → face < n → a ≡ get_or first face a
     → IsHead cs face 0 a
@@ -183,34 +183,34 @@ next_head n cs face r a first next t on e =
     subst (IsHead cs face (r + 1)) (sym (e ∙ default_apart next r a 0 (omega (arith, slice_get_within cs r on.0 on.1, t.steps)))) (t.nexts r face on)
 
 -- the first face
-pub flood_first : (n : ℕ) (cs : List Crossing) (first : Bool) (places : List Place) (p : Place) → length places ≡ n → 0 < n
-    → ((f : ℕ) → (place_of places f).reached ≡ false) → p.reached ≡ true → p.flag ≡ first → p.depth ≡ 0 → IsFlood n cs first (slice_set places 0 p) (0 ∷ [])
-flood_first n cs first places p long some clear is_reached is_flag is_depth = record {
+pub walk_first : (n : ℕ) (cs : List Crossing) (first : Bool) (places : List WalkedFace) (p : WalkedFace) → length places ≡ n → 0 < n
+    → ((f : ℕ) → (walked_of places f).reached ≡ false) → p.reached ≡ true → p.flag ≡ first → p.depth ≡ 0 → IsFlagWalk n cs first (slice_set places 0 p) (0 ∷ [])
+walk_first n cs first places p long some clear is_reached is_flag is_depth = record {
   size = length-set places 0 p ∙ long;
   listed = λ f h. listed f (eqb_tells 0 f) h;
-  marked = λ f h. ⊎_elim (λ e. subst (λ k. (place_of (slice_set places 0 p) k).reached ≡ true) e (ap (λ (x : Place). x.reached) here ∙ is_reached))
+  marked = λ f h. ⊎_elim (λ e. subst (λ k. (walked_of (slice_set places 0 p) k).reached ≡ true) e (ap (λ (x : WalkedFace). x.reached) here ∙ is_reached))
       (λ x. absurd x) h;
   begun = inl refl;
   origin = origin;
   known = λ f h. ⊎_elim (λ e. inl (subst (IsOrigin first (slice_set places 0 p)) e origin)) (λ x. absurd x) h;
-  shallow = λ f h. ⊎_elim (λ e. subst (λ k. (place_of (slice_set places 0 p) k).depth < 1) e (omega (arith, ap (λ (x : Place). x.depth) here, is_depth)))
+  shallow = λ f h. ⊎_elim (λ e. subst (λ k. (walked_of (slice_set places 0 p) k).depth < 1) e (omega (arith, ap (λ (x : WalkedFace). x.depth) here, is_depth)))
       (λ x. absurd x) h;
   apart = ((λ h. h), tt);
 }
   where
-    here : place_of (slice_set places 0 p) 0 ≡ p
+    here : walked_of (slice_set places 0 p) 0 ≡ p
     here = set_same places 0 p unreached (omega (arith, long, some))
 
     origin : IsOrigin first (slice_set places 0 p) 0
     origin = record {
       is_first = refl;
-      depth = ap (λ (x : Place). x.depth) here ∙ is_depth;
-      flag = ap (λ (x : Place). x.flag) here ∙ is_flag;
+      depth = ap (λ (x : WalkedFace). x.depth) here ∙ is_depth;
+      flag = ap (λ (x : WalkedFace). x.flag) here ∙ is_flag;
     }
 
-    listed : (f : ℕ) → (((0 == f) ≡ true) × (0 ≡ f)) ⊎ (((0 == f) ≡ false) × (0 ≢ f)) → (place_of (slice_set places 0 p) f).reached ≡ true → Has (0 ∷ []) f
+    listed : (f : ℕ) → (((0 == f) ≡ true) × (0 ≡ f)) ⊎ (((0 == f) ≡ false) × (0 ≢ f)) → (walked_of (slice_set places 0 p) f).reached ≡ true → Has (0 ∷ []) f
     listed f (inl y) h = inl y.1
-    listed f (inr m) h = let e : true ≡ false = sym h ∙ (ap (λ (x : Place). x.reached) (set_other places 0 f p unreached m.1) ∙ clear f) in absurd (cc)
+    listed f (inr m) h = let e : true ≡ false = sym h ∙ (ap (λ (x : WalkedFace). x.reached) (set_other places 0 f p unreached m.1) ∙ clear f) in absurd (cc)
 
 -- all faces that are reached are listed, once each is done
 pub all_listed : (cs : List Crossing) (order : List ℕ) → ((f : ℕ) → Has order f → IsDone cs order f) → (m a b : ℕ) → Has order a → Steps (Meets cs) m a b
@@ -224,7 +224,7 @@ has_at (y ∷ ys) x (inl e) = (zero, omega arith, ap Some e)
 has_at (y ∷ ys) x (inr h) = let k = has_at ys x h in (suc k.0, omega (arith, k.1), k.2)
 
 -- all places are done, so all faces are
-pub each_done : (n : ℕ) (cs : List Crossing) (first : Bool) (places : List Place) (order : List ℕ) (q : ℕ) → IsFlood n cs first places order → n ≤ q
+pub each_done : (n : ℕ) (cs : List Crossing) (first : Bool) (places : List WalkedFace) (order : List ℕ) (q : ℕ) → IsFlagWalk n cs first places order → n ≤ q
     → ((j f : ℕ) → j < q → slice_get order j ≡ Some f → IsDone cs order f) → (f : ℕ) → Has order f → IsDone cs order f
 each_done n cs first places order q h past done f m = let k = has_at order f m in done k.0 f (omega (arith, k.1, past, order_few n cs first places order h)) k.2
 
@@ -274,21 +274,21 @@ face_missed P n i lt l ne =
 pub faces_done : (P : ℕ → Type 0) (n i : ℕ) → n ≤ i → LeftIn P (drop i (numbers_from 0 n)) (numbers_from 0 n) → AllByRecursion P (numbers_from 0 n)
 faces_done P n i past l = left_in_done P (numbers_from 0 n) (numbers_from 0 n) i (omega (arith, past, length-numbers 0 n)) l
 
-pub unmarked_not : (n : ℕ) (cs : List Crossing) (first : Bool) (places : List Place) (order : List ℕ) (f : ℕ) → IsFlood n cs first places order
-    → ((g : ℕ) → Has order g → IsDone cs order g) → (place_of places f).reached ≡ false → LeadsTo (Meets cs) 0 f → ⊥
+pub unmarked_not : (n : ℕ) (cs : List Crossing) (first : Bool) (places : List WalkedFace) (order : List ℕ) (f : ℕ) → IsFlagWalk n cs first places order
+    → ((g : ℕ) → Has order g → IsDone cs order g) → (walked_of places f).reached ≡ false → LeadsTo (Meets cs) 0 f → ⊥
 unmarked_not n cs first places order f h done no_mark chain =
     let e : true ≡ false = sym (h.marked f (all_listed cs order done chain.0 0 f h.begun chain.1)) ∙ no_mark in absurd (cc)
 
 -- a face that is listed is reached, by its depth
-pub listed_reached : (n : ℕ) (cs : List Crossing) (first : Bool) (places : List Place) (order : List ℕ) → IsFlood n cs first places order → (d f : ℕ)
-    → (place_of places f).depth ≡ d → Has order f → LeadsTo (Meets cs) 0 f
+pub listed_reached : (n : ℕ) (cs : List Crossing) (first : Bool) (places : List WalkedFace) (order : List ℕ) → IsFlagWalk n cs first places order → (d f : ℕ)
+    → (walked_of places f).depth ≡ d → Has order f → LeadsTo (Meets cs) 0 f
 listed_reached n cs first places order h zero f deep m = ⊎_elim (λ (o : IsOrigin first places f). subst (LeadsTo (Meets cs) 0) (sym o.is_first) (zero, refl))
     (λ (o : IsChild cs places f). absurd (omega (arith, deep, o.deeper))) (h.known f m)
 listed_reached n cs first places order h (suc d) f deep m =
     ⊎_elim (λ (o : IsOrigin first places f). subst (LeadsTo (Meets cs) 0) (sym o.is_first) (zero, refl))
     (λ (o : IsChild cs places f). leads_last (Meets cs) 0 o.step.from f
     (listed_reached n cs first places order h d o.step.from (omega (arith, deep, o.deeper)) (h.listed o.step.from o.parent))
-    ((place_of places f).up, o.step, o.at, refl, o.to))
+    ((walked_of places f).up, o.step, o.at, refl, o.to))
     (h.known f m)
 
 pub crossed_now : (old new : List ℕ) (c k : Crossing) → new ≡ old ++ c.to ∷ [] → c ≡ k → Has new k.to
